@@ -1,0 +1,54 @@
+-- How sectors are laid out in a run: sizes, and the digest that ends each sector.
+use Rattle.sha2.specs.Sha256.{sha256}
+use Rattle.sl_sector.specs.Spelling.{decoded, spelling}
+use Rattle.sl_sector.specs.declared.sector.Bad.{Bad}
+use Rattle.sl_sector.specs.declared.sector.Rec.{Rec}
+use Rattle.std.specs.Int.{is_in_range}
+use Rattle.std.specs.List.{list_any}
+use Rattle.std.specs.Prelude.{Bool, IsTrue, List, Result, [], ℕ, ◌&&◌, ◌==◌, ◌∷◌}
+
+-- Bytes of a sector, bytes of an area, and the number of hosts of the run.
+pub record Sizes : Type 0 where
+  pub sector : ℕ
+  pub area : ℕ
+  pub hosts : ℕ
+
+-- All that decides which bytes spell which record, and where a record stands. The digest is given, so that examples may take a
+-- cheap one; the program's is SHA-256.
+pub record Layout : Type 0 where
+  pub sector : ℕ
+  pub area : ℕ
+  pub hosts : ℕ
+  pub digest : List ℕ → List ℕ
+
+-- The layout of these sizes with this digest.
+abbrev pub layout_with : (List ℕ → List ℕ) → Sizes → Layout
+layout_with digest s = record { sector = s.sector; area = s.area; hosts = s.hosts; digest = digest }
+
+-- The digest of the program.
+abbrev pub program_digest : List ℕ → List ℕ
+program_digest bytes = sha256 bytes
+
+-- The layout of the program.
+abbrev pub layout_of : Sizes → Layout
+layout_of s = layout_with program_digest s
+
+-- The areas that there may be: bytes of a sector, bytes of an area, most hosts.
+abbrev pub geometries : List (ℕ × ℕ × ℕ)
+geometries = (512, 1048576, 2000) ∷ []
+
+-- Whether a run may have these sizes.
+abbrev pub is_geometry : Sizes → Bool
+is_geometry s = list_any (λ row. row.0 == s.sector && row.1 == s.area && is_in_range 1 row.2 s.hosts) geometries
+
+-- A run may have these sizes.
+abbrev pub IsGeometry : Sizes → Type 0
+IsGeometry s = IsTrue (is_geometry s)
+
+-- The sector that spells the record.
+abbrev pub sector_with : Layout → Rec → List ℕ
+sector_with g r = spelling g.digest g.sector r
+
+-- The record that a sector's bytes spell, or the first test that fails.
+abbrev pub record_in : Layout → List ℕ → Result Rec Bad
+record_in g bs = decoded g.digest bs

@@ -1,0 +1,14 @@
+pub mod Acquiring
+pub mod Asking
+pub mod LawfulRuns
+pub mod Refused
+pub mod RefusedByLaw
+pub mod Refusing
+pub mod SafeRuns
+pub mod Settled
+pub mod Sharing
+pub mod TakingOver
+pub mod WithSha
+pub mod RecordBytes
+pub mod Spans
+pub mod ReadCommands

@@ -1,0 +1,54 @@
+-- Bytes of a fresh leader, and what a changed byte is refused for.
+use Rattle.std.specs.Fmt.{digits}
+use Rattle.std.specs.Prelude.{Err, Ok, [], codes, false, refl, replicate, slice_index, slice_set, take, ◌-◌, ◌∷◌, ◌≡◌}
+use Rattle.sha2.specs.Sha256.{compress, digest_bytes, first_words, hash_after, rounds, schedule, sha256}
+use Rattle.sl_area.specs.Layouts.{Layout, layout_of, record_in, sector_with}
+use Rattle.sl_area.specs.Places.{fresh_leader}
+use Rattle.sl_sector.specs.RecordTexts.{record_text}
+use Rattle.sl_sector.specs.Spelling.{block_rules, checked_part, decoded, delta_rules, field_bytes, fields_of, leader_rules, magic, request_rules, spelling, u64_bytes, value_rules}
+use Rattle.sl_sector.specs.declared.sector.Bad.TheVariants.{BadCheck, BadField, BadKind, BadMagic, BadPad}
+use Rattle.sl_sector.specs.declared.sector.Rec.{Rec}
+use Rattle.sl_sector.specs.declared.sector.Rec.TheVariants.{BlockIs, LeaderIs}
+use Rattle.sl_text.specs.Names.{padded_text}
+
+abbrev two_hosts : Layout
+two_hosts = layout_of (record { sector = 512; area = 1048576; hosts = 2 })
+
+abbrev leader : Rec
+leader = LeaderIs (fresh_leader two_hosts (codes "ls") (codes "r"))
+
+pub front : take 16 (sector_with two_hosts leader) ≡ (0x53 ∷ 0x4c ∷ 0x4b ∷ 0x31 ∷ 0 ∷ 0 ∷ 0 ∷ 2 ∷ 0 ∷ 0 ∷ 0 ∷ 0 ∷ 0 ∷ 0 ∷ 0 ∷ 2 ∷ [])
+unfolding digits padded_text magic field_bytes checked_part spelling delta_rules leader_rules block_rules request_rules value_rules fields_of decoded sha256 digest_bytes hash_after compress rounds schedule first_words
+front = refl
+
+pub again : record_in two_hosts (sector_with two_hosts leader) ≡ Ok leader
+unfolding digits padded_text magic field_bytes checked_part spelling delta_rules leader_rules block_rules request_rules value_rules fields_of decoded sha256 digest_bytes hash_after compress rounds schedule first_words
+again = refl
+
+pub padding : record_in two_hosts (slice_set (sector_with two_hosts leader) 200 1) ≡ Err (BadPad 200)
+unfolding digits padded_text magic field_bytes checked_part spelling delta_rules leader_rules block_rules request_rules value_rules fields_of decoded sha256 digest_bytes hash_after compress rounds schedule first_words
+padding = refl
+
+pub check : record_in two_hosts (slice_set (sector_with two_hosts leader) 511 (255 - slice_index (sector_with two_hosts leader) 511)) ≡ Err BadCheck
+unfolding digits padded_text magic field_bytes checked_part spelling delta_rules leader_rules block_rules request_rules value_rules fields_of decoded sha256 digest_bytes hash_after compress rounds schedule first_words
+check = refl
+
+pub zeros : record_in two_hosts (replicate 512 0) ≡ Err BadMagic
+unfolding decoded magic
+zeros = refl
+
+pub kind_nine : record_in two_hosts (slice_set (sector_with two_hosts leader) 7 9) ≡ Err BadKind
+unfolding digits padded_text magic field_bytes checked_part spelling delta_rules leader_rules block_rules request_rules value_rules fields_of decoded sha256 digest_bytes hash_after compress rounds schedule first_words
+kind_nine = refl
+
+pub state_two : record_in two_hosts (slice_set (sector_with two_hosts leader) 11 2) ≡ Err (BadField 8)
+unfolding digits padded_text magic field_bytes checked_part spelling delta_rules leader_rules block_rules request_rules value_rules fields_of decoded sha256 digest_bytes hash_after compress rounds schedule first_words
+state_two = refl
+
+pub stamp : u64_bytes 1701 ≡ (0 ∷ 0 ∷ 0 ∷ 0 ∷ 0 ∷ 0 ∷ 6 ∷ 0xa5 ∷ [])
+stamp = refl
+
+pub block_text : record_text (BlockIs (record { host = 1; shared = false; lver = 1; mbal = 1; bal = 1; inp_gen = 1; mode_gen = 0; inp = 1 }))
+    ≡ codes "block 1 lver 1 mbal 1 bal 1 inp 1 1 mode 0 0"
+unfolding digits
+block_text = refl

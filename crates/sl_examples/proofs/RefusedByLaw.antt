@@ -1,0 +1,122 @@
+-- The same of the laws themselves, on literal traces: no lawful trace has these entries.
+use Rattle.std.proofs.Common.{ap, arith}
+use Rattle.std.specs.Fmt.{digits}
+use Rattle.std.specs.Option.{option_map_or}
+use Rattle.std.specs.Prelude.{Bool, List, None, Option, Some, [], codes, false, length, refl, true, ℕ, ◌++◌, ◌∷◌, ◌≡◌}
+use Rattle.sl_due.specs.DueJoining.{after_deciding_read, after_first_read, after_verify_read, after_watch_read}
+use Rattle.sl_due.specs.DueLease.{after_area_for_job, begin_with}
+use Rattle.sl_due.specs.DueRequests.{after_ask_read}
+use Rattle.sl_examples.specs.Cheap.{cheap_digest}
+use Rattle.sl_examples.specs.Making.{block, leader, quiet_entry, reads, with_calls, with_moves, writes}
+use Rattle.sl_law.specs.LawfulArea.{LawfulArea, open_block_work}
+use Rattle.sl_law.specs.LawfulDelta.{LawfulDelta, LawfulRenewal}
+use Rattle.sl_law.specs.LawfulRecovery.{LawfulRecovery, MayPart}
+use Rattle.sl_law.specs.Saying.{at_call}
+use Rattle.sl_sector.specs.Bitmaps.{no_bits}
+use Rattle.sl_area.specs.Layouts.{layout_with}
+use Rattle.sl_area.specs.Places.{no_request}
+use Rattle.sl_sector.specs.Spelling.{block_rules, checked_part, decoded, delta_rules, field_bytes, fields_of, leader_rules, magic, request_rules, spelling, value_rules}
+use Rattle.sl_sector.specs.declared.sector.DeltaRec.{DeltaRec}
+use Rattle.sl_sector.specs.declared.sector.DeltaState.TheVariants.{Live}
+use Rattle.sl_sector.specs.declared.sector.Rec.TheVariants.{DeltaIs, RequestIs}
+use Rattle.sl_report.specs.Generator.{candidates}
+use Rattle.sl_report.specs.Reports.{count_event}
+use Rattle.sl_report.specs.ScheduleLines.{event_forms, header_forms, header_of, header_tests}
+use Rattle.sl_run.specs.Events.{event_tests, first_change, pass_tests}
+use Rattle.sl_run.specs.Worlds.{initial_record, machine_of_header}
+use Rattle.sl_text.specs.Names.{padded_text}
+use Rattle.sl_trace.specs.Ballots.{instance_of, phase1_block, phase2_block}
+use Rattle.sl_trace.specs.Commands.{forms}
+use Rattle.sl_trace.specs.EffectTexts.{reply_words}
+use Rattle.sl_trace.specs.Sessions.{Session}
+use Rattle.sl_trace.specs.Traces.{Setting, Submitted, submitted_in}
+use Rattle.sl_trace.specs.declared.effects.Call.{Call}
+use Rattle.sl_trace.specs.declared.effects.Entry.{Entry}
+use Rattle.sl_trace.specs.declared.effects.LeaseStep.TheVariants.{Phase1Write, ReadArea}
+use Rattle.sl_trace.specs.declared.effects.Move.TheVariants.{Unregister}
+use Rattle.sl_trace.specs.declared.effects.Purpose.TheVariants.{Lease, Renewal}
+use Rattle.sl_trace.specs.declared.effects.Work.TheVariants.{ForJob, Settling}
+use Rattle.sl_trace.specs.declared.input.Answer.TheVariants.{Read}
+use Rattle.sl_trace.specs.declared.input.Input.TheVariants.{Line, Answer as Told, Wake}
+use mathlib.Core.Logic.{inl, inr}
+
+abbrev st : Setting
+st =
+    record {
+      timing = record { io = 100; fire = 600; land = 100; rho = 0 };
+      grace = 300;
+      layout = layout_with cheap_digest (record { sector = 512; area = 1048576; hosts = 2 });
+      machine = 1;
+      name = codes "a";
+      first = record { call = 1; job = 1 };
+      given = record { lockspace = codes "ls"; id = 1; path = codes "/d"; offset = 0; renewed = 0 } ∷ [];
+    }
+
+abbrev session_a : Session
+session_a =
+    record { number = 0; job = None; began = 0; lockspace = codes "ls"; id = 1; path = codes "/d"; offset = 0; renewed = 0 }
+
+-- the area as it was at first
+abbrev fresh_area : List ℕ
+fresh_area =
+    spelling st.layout (leader false 0 0 0 (codes "ls")) ++ spelling st.layout (RequestIs no_request)
+    ++ spelling st.layout (block 1 false 0 0 0 0 0) ++ spelling st.layout (block 2 false 0 0 0 0 0)
+
+abbrev asked : Entry
+asked = with_calls (reads 1 (Lease (ForJob 1) ReadArea) 1048576 4 ∷ []) (quiet_entry 0 (Line (codes "acquire -r ls:r:/d:1048576 -p 7")))
+
+abbrev begun : Entry
+begun = with_calls (writes 2 (Lease (ForJob 1) Phase1Write) 1049600 (block 1 false 1 1 0 0 0) ∷ []) (quiet_entry 0 (Told 1 (Read fresh_area)))
+
+-- ---- a second block write while the first is unanswered
+
+abbrev second_call : Call
+second_call = writes 3 (Lease Settling Phase1Write) 1049600 (block 1 false 1 3 0 0 0)
+
+abbrev second : Entry
+second = with_calls (second_call ∷ []) (quiet_entry 100 Wake)
+
+pub not_alone : LawfulArea st (begun ∷ asked ∷ []) second → ⊥
+unfolding digits padded_text magic field_bytes checked_part spelling delta_rules leader_rules block_rules request_rules value_rules fields_of decoded forms reply_words phase1_block phase2_block instance_of after_first_read after_watch_read after_deciding_read after_verify_read begin_with after_area_for_job after_ask_read initial_record machine_of_header pass_tests event_tests first_change header_forms header_of header_tests event_forms count_event candidates
+not_alone h =
+    let none_open : open_block_work st (at_call (begun ∷ asked ∷ []) second second_call) session_a (record { path = codes "/d"; base = 1048576 }) ≡ [] =
+    h.alone second_call session_a (0, omega arith, refl) refl refl in
+    let wrong : ◌≡◌ {A = ℕ} 1 0 = ap length none_open in
+    omega (arith, wrong)
+
+-- ---- a removal of an idle session's connection
+
+abbrev removing : Entry
+removing = with_moves (Unregister (codes "ls") ∷ []) (quiet_entry 0 Wake)
+
+-- neither recovery nor a free's answer stands behind the end
+no_reason : MayPart st [] removing session_a → ⊥
+unfolding digits padded_text magic field_bytes checked_part spelling delta_rules leader_rules block_rules request_rules value_rules fields_of decoded forms reply_words phase1_block phase2_block instance_of after_first_read after_watch_read after_deciding_read after_verify_read begin_with after_area_for_job after_ask_read initial_record machine_of_header pass_tests event_tests first_change header_forms header_of header_tests event_forms count_event candidates
+no_reason (inl r) = let wrong : ◌≡◌ {A = Bool} false true = r.0 in absurd cc
+no_reason (inr r) = let wrong : ◌≡◌ {A = Option Submitted} None (Some r.0) = r.1 in absurd cc
+
+pub not_parted : LawfulRecovery st [] removing → ⊥
+unfolding digits padded_text magic field_bytes checked_part spelling delta_rules leader_rules block_rules request_rules value_rules fields_of decoded forms reply_words phase1_block phase2_block instance_of after_first_read after_watch_read after_deciding_read after_verify_read begin_with after_area_for_job after_ask_read initial_record machine_of_header pass_tests event_tests first_change header_forms header_of header_tests event_forms count_event candidates
+not_parted h = no_reason (h.parts_well session_a (0, omega arith, refl) refl refl)
+
+-- ---- a renewal with an old seq
+
+abbrev stale : DeltaRec
+stale = record { state = Live; id = 1; generation = 1; seq = 1; stamp = 200; lockspace = codes "ls"; host = Some (codes "a"); bitmap = no_bits }
+
+abbrev stale_call : Call
+stale_call = writes 1 Renewal 0 (DeltaIs stale)
+
+abbrev renewing_entry : Entry
+renewing_entry = with_calls (stale_call ∷ []) (quiet_entry 200 Wake)
+
+abbrev seq_of : Option DeltaRec → ℕ
+seq_of o = option_map_or (λ d. d.seq) o 0
+
+pub not_rising : LawfulDelta st [] renewing_entry → ⊥
+unfolding digits padded_text magic field_bytes checked_part spelling delta_rules leader_rules block_rules request_rules value_rules fields_of decoded forms reply_words phase1_block phase2_block instance_of after_first_read after_watch_read after_deciding_read after_verify_read begin_with after_area_for_job after_ask_read initial_record machine_of_header pass_tests event_tests first_change header_forms header_of header_tests event_forms count_event candidates
+not_rising h =
+    let lawful : LawfulRenewal st (at_call [] renewing_entry stale_call) session_a (submitted_in [] renewing_entry stale_call) =
+    h.calls stale_call session_a (0, omega arith, refl) refl in
+    let wrong : ◌≡◌ {A = ℕ} 1 2 = ap seq_of lawful.written in
+    omega (arith, wrong)

@@ -1,0 +1,130 @@
+-- What safety says of a world, as tests that compute.
+use Rattle.sl_area.specs.Layouts.{record_in}
+use Rattle.sl_examples.specs.Cheap.{cheap_digest}
+use Rattle.sl_examples.specs.LawTests.{broken_in_world}
+use Rattle.sl_report.specs.Replay.{allowed, due_run}
+use Rattle.sl_report.specs.Schedules.{EventLine, Header_read, Header_refused, event_lines_of, numbered_lines, read_header}
+use Rattle.sl_run.specs.Conflicts.{has_conflict, world_holdings}
+use Rattle.sl_run.specs.Events.{happens}
+use Rattle.sl_run.specs.Runs.{Happening, world_after}
+use Rattle.sl_run.specs.Safety.{Found, SessionId, ballots_of, block_there, found_generation, is_course_of, is_over, same_lockspace, session_of_world, setting_in, trace_of}
+use Rattle.sl_run.specs.Worlds.{Course, Machine, World, content, first_reset_after, is_open, is_write_course, world_with}
+use Rattle.sl_run.specs.declared.event.Event.{Event}
+use Rattle.sl_run.specs.declared.header.Header.{Header}
+use Rattle.sl_sector.specs.Spelling.{delta_in}
+use Rattle.sl_sector.specs.declared.sector.Owner.{Owner}
+use Rattle.sl_text.specs.Forms.{as_bytes}
+use Rattle.sl_trace.specs.Ballots.{same_owner}
+use Rattle.sl_trace.specs.Connections.{connection_named}
+use Rattle.sl_trace.specs.Joinings.{own_offset}
+use Rattle.sl_trace.specs.Leases.{Spot, holdings_on}
+use Rattle.sl_trace.specs.Sessions.{joined_after, sessions}
+use Rattle.sl_trace.specs.Traces.{is_shared}
+use Rattle.sl_trace.specs.Watching.{counts_over}
+use Rattle.sl_words.specs.Words.{some_is}
+use Rattle.std.specs.List.{enumerate_from, list_all, list_any}
+use Rattle.std.specs.Option.{option_map_or}
+use Rattle.std.specs.Prelude.{Bool, Err, List, None, Ok, Some, bytes_eq, false, filter, filter_map, flat_map, is_some, map, nat_le, not, option_map, true, [], ℕ, ◌&&◌, ◌+◌, ◌==◌, ◌||◌, ◌∷◌}
+
+-- The sessions of a machine.
+abbrev pub ids_of_machine : ℕ × Machine → List SessionId
+ids_of_machine p =
+    flat_map (λ q. map (λ s. record { machine = p.0; daemon = q.0; number = s.number }) (sessions q.1.setting q.1.trace)) (enumerate_from 0 p.1.daemons)
+
+-- All sessions of a world.
+abbrev pub ids : World → List (SessionId × Found)
+ids w = filter_map (λ i. option_map (λ f. (i, f)) (session_of_world w i)) (flat_map ids_of_machine (enumerate_from 1 w.machines))
+
+-- Whether two are one.
+abbrev pub same_id : SessionId → SessionId → Bool
+same_id a b = a.machine == b.machine && a.daemon == b.daemon && a.number == b.number
+
+-- Whether it has joined.
+abbrev pub has_joined : SessionId × Found → Bool
+has_joined p = is_some (joined_after (trace_of p.1) p.1.session)
+
+-- A write in flight is covered.
+abbrev pub flight_test : World → ℕ × Machine → Course → Bool
+flight_test w p c =
+    not (is_write_course c && is_open p.1 c)
+    || list_any (λ q. q.0.machine == p.0 && is_course_of q.0 c && is_some (connection_named p.1.connections q.1.session.lockspace)) (ids w)
+    || some_is (λ r. nat_le w.moment (r.moment + w.header.timing.land)) (first_reset_after p.1 c.made.step)
+
+-- One joined session of an id that isn't over.
+abbrev pub one_for_id_test : World → Bool
+one_for_id_test w =
+    let all : List (SessionId × Found) = filter (λ p. has_joined p && not (is_over p.0 p.1)) (ids w) in
+    list_all (λ p. list_all (λ q. same_id p.0 q.0 || not (same_lockspace p.1 q.1 && p.1.session.id == q.1.session.id)) all) all
+
+-- Its sector holds its record, or torn bytes.
+abbrev pub own_sector_test : World → SessionId × Found → Bool
+own_sector_test w p =
+    elim (has_joined p && not (is_over p.0 p.1)) [
+      | false ↦ true
+      | true ↦ option_map_or (λ d. d.generation == found_generation p.1 && some_is (bytes_eq p.1.daemon.setting.name) d.host)
+          (delta_in (record_in w.layout (content w p.1.session.path (own_offset (setting_in p.1) p.1.session)))) true
+    ]
+
+-- Whoever counts as over is over.
+abbrev pub evidence_test : World → Bool
+evidence_test w =
+    list_all (λ p. list_all (λ q.
+    elim (same_lockspace p.1 q.1 && has_joined q && not (same_id p.0 q.0)) [
+      | false ↦ true
+      | true ↦ not (counts_over (setting_in p.1) (trace_of p.1) p.1.session q.1.session.id (found_generation q.1)) || is_over q.0 q.1
+    ]) (ids w)) (ids w)
+
+-- The areas of a header's resources.
+abbrev pub header_spots : Header → List Spot
+header_spots h = map (λ r. record { path = r.path; base = r.offset }) h.resources
+
+-- All ballots of an instance that end, end with one.
+abbrev pub agreement_test : World → Spot → Bool
+agreement_test w at =
+    let all : List (ℕ × Owner) = flat_map (λ p. ballots_of p.1 at) (ids w) in
+    list_all (λ a. list_all (λ b. not (a.0 == b.0) || same_owner a.1 b.1) all) all
+
+-- A shared holder's block has its mode, or is torn.
+abbrev pub mode_stands_test : World → Spot → SessionId × Found → Bool
+mode_stands_test w at p =
+    elim (is_over p.0 p.1) [
+      | true ↦ true
+      | false ↦ list_all (λ g. not (is_shared g.mode)
+          || option_map_or (λ b. b.shared && b.mode_gen == found_generation p.1) (block_there w at p.1.session.id) true) (holdings_on (trace_of p.1) p.1.session at)
+    ]
+
+-- All of it.
+abbrev pub world_test : World → Bool
+world_test w =
+    list_all (λ p. list_all (flight_test w p) p.1.calls) (enumerate_from 1 w.machines) && one_for_id_test w && list_all (own_sector_test w) (ids w)
+    && evidence_test w && list_all (agreement_test w) (header_spots w.header)
+    && list_all (λ at. list_all (mode_stands_test w at) (ids w)) (header_spots w.header) && not (has_conflict (world_holdings w))
+
+-- After each event.
+abbrev pub fronts_test : World → List Happening → Bool
+fronts_test w [] = world_test w
+fronts_test w (x ∷ xs) = world_test w && fronts_test (happens w x.0 x.1) xs
+
+-- The events of lines that are read.
+abbrev pub read_events : List EventLine → List Event
+read_events ls = filter_map (λ l. elim l.1 [ Ok e ↦ Some e | Err r ↦ None ]) ls
+
+-- A source's world after its events, with what its traces break.
+abbrev pub broken_in_source : List (List ℕ) → List (ℕ × List ℕ)
+broken_in_source ls =
+    elim (read_header [] 1 (numbered_lines (as_bytes ls))) [
+      | Header_refused n r ↦ (0, []) ∷ []
+      | Header_read h rest ↦
+          let w : World = world_with cheap_digest h in
+          broken_in_world (world_after w (due_run w (allowed w (read_events (event_lines_of h rest)))))
+    ]
+
+-- Whether a source's world passes after each event.
+abbrev pub source_test : List (List ℕ) → Bool
+source_test ls =
+    elim (read_header [] 1 (numbered_lines (as_bytes ls))) [
+      | Header_refused n r ↦ false
+      | Header_read h rest ↦
+          let w : World = world_with cheap_digest h in
+          fronts_test w (due_run w (allowed w (read_events (event_lines_of h rest))))
+    ]

@@ -1,0 +1,278 @@
+-- The cause of each refusal: what stands in the trace where it is given.
+use Rattle.sl_area.specs.Layouts.{record_in, sector_with}
+use Rattle.sl_area.specs.Places.{area_blocks, leader_of, read_at}
+use Rattle.sl_sector.specs.Spelling.{delta_in, request_in, value_in}
+use Rattle.sl_sector.specs.declared.sector.Block.{Block}
+use Rattle.sl_sector.specs.declared.sector.DeltaRec.{DeltaRec}
+use Rattle.sl_sector.specs.declared.sector.Leader.{Leader}
+use Rattle.sl_sector.specs.declared.sector.Owner.{Owner}
+use Rattle.sl_sector.specs.declared.sector.Rec.TheVariants.{DeltaIs}
+use Rattle.sl_time.specs.Times.{join_max}
+use Rattle.sl_trace.specs.Ballots.{Begin, Block_ahead, Block_rival, Block_torn, Held_already, Instance, Stop, in_instance, next_mbal, stop_of, value_of}
+use Rattle.sl_trace.specs.Counts.{busy_process, check_request, child_count, holder_count, may_act, most_children, most_holders, most_lockspaces, most_resources, next_value_seq, pending_call, resource_count}
+use Rattle.sl_trace.specs.EffectTexts.{is_ok_reply}
+use Rattle.sl_trace.specs.Jobs.{is_job_of_process, job_of_start, lockspace_named, process_named, resource_named, wants_shared}
+use Rattle.sl_trace.specs.Joinings.{claim_of, first_bytes, id_lost, pair_of_bytes}
+use Rattle.sl_trace.specs.Leases.{Spot, blocks_given, exclusive_on, holdings_on, instance_for, is_at_step, is_leader_of, lease_calls, own_block, shared_elsewhere, spot_of, spot_of_call}
+use Rattle.sl_trace.specs.Sessions.{Session, generation_of, is_active, is_join_call, is_joined, is_session_arg, join_call, last_renewal, last_seq, present_sessions, session_named, session_of_job}
+use Rattle.sl_trace.specs.Traces.{EachEntry, Job, Setting, Submitted, Trace, answer_in, before_call, gave, is_of_job, is_shared, job_numbered, no_effects, outstanding, reply_to, waiting_call}
+use Rattle.sl_trace.specs.Watching.{counts_over}
+use Rattle.sl_trace.specs.declared.command.Command.TheVariants.{Ask, HostStatus, InqLockspace, RemLockspace, SetLvb}
+use Rattle.sl_trace.specs.declared.command.Command.{Command}
+use Rattle.sl_trace.specs.declared.command.LockspaceArg.{LockspaceArg}
+use Rattle.sl_trace.specs.declared.command.ResourceArg.{ResourceArg}
+use Rattle.sl_trace.specs.declared.effects.Entry.{Entry}
+use Rattle.sl_trace.specs.declared.effects.Grant.{Grant}
+use Rattle.sl_trace.specs.declared.effects.JobReply.{JobReply}
+use Rattle.sl_trace.specs.declared.effects.JoinStep.TheVariants.{ClaimWrite, DecidingRead, FirstRead, VerifyRead, WatchRead}
+use Rattle.sl_trace.specs.declared.effects.JoinStep.{JoinStep}
+use Rattle.sl_trace.specs.declared.effects.LeaseStep.TheVariants.{Phase1Read, Phase2Read, ReadArea}
+use Rattle.sl_trace.specs.declared.effects.Purpose.TheVariants.{AskRead, ValueRead}
+use Rattle.sl_trace.specs.declared.input.Answer.TheVariants.{Failed, Read}
+use Rattle.sl_trace.specs.declared.input.Answer.{Answer}
+use Rattle.sl_trace.specs.declared.input.Input.TheVariants.{Exit, Spawned, Wake}
+use Rattle.sl_trace.specs.declared.reply.Limited.TheVariants.{Children, Gen as GenLimit, Holders, Lockspaces, Lver as LverLimit, Mbal as MbalLimit, Resources, Seq as SeqLimit}
+use Rattle.sl_trace.specs.declared.reply.Limited.{Limited}
+use Rattle.sl_trace.specs.declared.reply.Reply.TheVariants.{Ahead, BadCommand as Misread, Busy, Held as HeldBy, IdHeld, IdLate, IdLost, IoFault, IoTimeout, Joined, Joining as StillJoining, Limit as LimitReached, NoProcess, NoSession, NotHeld, Pending, Recovering, RequestOld, Rival, Shared as SharedBy, SpawnFault, TornBlock, TornDelta, TornLeader, ValueTorn, WrongArea, WrongDelta}
+use Rattle.sl_trace.specs.declared.reply.Reply.{Reply}
+use Rattle.sl_words.specs.Bounds.{record_numbers}
+use Rattle.sl_words.specs.Words.{present}
+use Rattle.std.specs.Prelude.{Contains, Err, IsFalse, IsSomeAnd, IsTrue, List, None, Ok, Option, Some, bytes_eq, false, is_none, length, map, option_and_then, option_map, position, ℕ, ◌&&◌, ◌+◌, ◌<◌, ◌==◌, ◌∷◌, ◌≡◌, ◌≢◌, ◌≤◌, ◌⊎◌}
+
+-- The trace after the entry that gives the reply, and the answer that the entry brought, if any.
+pub record Answering : Type 0 where
+  pub setting : Setting
+  pub past : Trace
+  pub entry : Entry
+  pub job : Job
+
+-- The trace with the entry.
+abbrev pub after_entry : Answering → Trace
+after_entry x = x.entry ∷ x.past
+
+-- What the trace is before the command or the answer has had an effect.
+abbrev pub before_entry : Answering → Trace
+before_entry x = record { reading = x.entry.reading; input = Wake; effects = no_effects } ∷ x.past
+
+-- The entry answers this call of the job.
+pub record AnswersCall (x : Answering) (c : Submitted) (answer : Answer) : Type 0 where
+  pub unanswered : Contains (outstanding x.past) c
+  pub of_job : IsTrue (is_of_job x.job.number c)
+  pub answered : answer_in x.entry.input ≡ Some (c.call.number, answer)
+
+-- The entry answers a read of the job, of which this holds.
+abbrev pub AnswersRead : Answering → (Submitted → List ℕ → Type 0) → Type 0
+AnswersRead x P = (c : Submitted) × (bytes : List ℕ) × AnswersCall x c (Read bytes) × P c bytes
+
+-- What is said of the job's command.
+abbrev pub job_command : Answering → (Command → Type 0) → Type 0
+job_command x P = elim x.job.command [ Ok c ↦ P c | Err e ↦ ⊥ ]
+
+-- The entry brings the command itself.
+abbrev pub IsAtCommand : Answering → Type 0
+IsAtCommand x = (x.job.at ≡ length x.past)
+
+-- The session that has the lockspace which the job's command names.
+abbrev pub the_session : Answering → Option Session
+the_session x = elim x.job.command [ Ok c ↦ option_and_then (session_named x.setting (before_entry x)) (lockspace_named c) | Err e ↦ None ]
+
+-- What is said of that session.
+abbrev pub WithSession : Answering → (Session → Type 0) → Type 0
+WithSession x P = IsSomeAnd (the_session x) P
+
+-- The lockspace that a command names by all its parts.
+abbrev pub lockspace_arg : Command → Option LockspaceArg
+lockspace_arg (RemLockspace a) = Some a
+lockspace_arg (InqLockspace a) = Some a
+lockspace_arg (HostStatus a) = Some a
+lockspace_arg c = None
+
+-- None of that name, or one with another id, path or offset.
+abbrev pub IsNoSession : Answering → Type 0
+IsNoSession x =
+    (the_session x ≡ None) ⊎ WithSession x (λ s. job_command x (λ c. IsSomeAnd (lockspace_arg c) (λ a. IsFalse (is_session_arg s a))))
+
+-- What is said of the resource that the job's command names.
+abbrev pub WithSpot : Answering → (ResourceArg → Spot → Type 0) → Type 0
+WithSpot x P = job_command x (λ c. IsSomeAnd (resource_named c) (λ r. P r (spot_of r)))
+
+-- ---- a joining's
+
+-- The entry answers a read of the joining at this step, of which this holds.
+abbrev pub JoinRead : Answering → JoinStep → (Session → List ℕ → Type 0) → Type 0
+JoinRead x step P =
+    (s : Session) × (session_of_job x.setting x.past x.job.number ≡ Some s) × AnswersRead x (λ c bytes. IsTrue (is_join_call step c.call.purpose) × P s bytes)
+
+-- A further read differs from the first.
+abbrev pub IsIdHeld : Answering → ℕ → ℕ → Option (ℕ × ℕ) → Type 0
+IsIdHeld x generation seq later =
+    JoinRead x WatchRead (λ s bytes. (first : List ℕ) × (first_bytes x.past s ≡ Some first) × (first ≢ bytes)
+    × (pair_of_bytes x.setting.layout first ≡ Some (generation, seq)) × (pair_of_bytes x.setting.layout bytes ≡ later))
+    ⊎ JoinRead x DecidingRead (λ s bytes. (first : List ℕ) × (first_bytes x.past s ≡ Some first) × (first ≢ bytes)
+    × (pair_of_bytes x.setting.layout first ≡ Some (generation, seq)) × (pair_of_bytes x.setting.layout bytes ≡ later))
+
+-- The verify read isn't the own claim.
+abbrev pub IsIdLost : Answering → Reply → Type 0
+IsIdLost x r =
+    JoinRead x VerifyRead (λ s bytes. (claim : DeltaRec) × (claim_of x.past s ≡ Some claim) × (bytes ≢ sector_with x.setting.layout (DeltaIs claim))
+    × (r ≡ id_lost x.setting claim bytes))
+
+-- More than `join_max` has passed since the claim's submission.
+abbrev pub IsIdLate : Answering → ℕ → ℕ → Type 0
+IsIdLate x claimed now =
+    (s : Session) × (session_of_job x.setting x.past x.job.number ≡ Some s) × (c : Submitted) × (join_call x.past s ClaimWrite ≡ Some c)
+    × (c.reading ≡ claimed) × (x.entry.reading ≡ now) × (claimed + join_max x.setting.timing < now)
+
+-- ---- a lease's
+
+-- The leader that was read is torn.
+abbrev pub IsTornLeaderRead : Answering → Type 0
+IsTornLeaderRead x = AnswersRead x (λ c bytes. (IsTrue (is_at_step ReadArea c) ⊎ (c.call.purpose ≡ AskRead x.job.number)) × (leader_of x.setting.layout bytes ≡ None))
+
+-- The blocks that the entry's read gave.
+abbrev pub ReadsBlocks : Answering → (Session → Submitted → List (Option Block) → Block → Type 0) → Type 0
+ReadsBlocks x P =
+    WithSession x (λ s. AnswersRead x (λ c bytes. (blocks : List (Option Block)) × (blocks_given x.setting (after_entry x) c ≡ Some blocks)
+    × (own : Block) × (own_block x.setting (after_entry x) s (before_call (c.call.number + 1) (lease_calls x.setting (after_entry x) s (spot_of_call x.setting.layout c))) ≡ Some own)
+    × P s c blocks own))
+
+-- At the read of the area the least torn block; at a later read the least of another host.
+abbrev pub IsTornBlockRead : Answering → ℕ → Type 0
+IsTornBlockRead x host =
+    AnswersRead x (λ c bytes. IsTrue (is_at_step ReadArea c) × (option_map (λ k. k + 1) (position is_none (area_blocks x.setting.layout bytes)) ≡ Some host))
+    ⊎ ReadsBlocks x (λ s c blocks own. stop_of own blocks ≡ Some (Block_torn host))
+
+-- The read of phase 2 ended the job's ballot with this session.
+abbrev pub EndsWith : Answering → Session → Submitted → List (Option Block) → Block → ℕ → Owner → Type 0
+EndsWith x s c blocks own lver o = IsTrue (is_at_step Phase2Read c) × (stop_of own blocks ≡ None) × (own.lver ≡ lver) × (value_of own ≡ o)
+
+-- What the read of the area makes the job begin, or who holds the resource.
+abbrev pub ShowsInstance : Answering → Session → Submitted → List (Option Block) → Block → Instance → Type 0
+ShowsInstance x s c blocks own i =
+    IsTrue (is_at_step ReadArea c) × (bytes : List ℕ) × (l : Leader) × (gave (after_entry x) c ≡ Some bytes) × (leader_of x.setting.layout bytes ≡ Some l)
+    × (instance_for x.setting (after_entry x) s (lease_calls x.setting (after_entry x) s (spot_of_call x.setting.layout c)) l own blocks ≡ i)
+
+-- The resource is held by another that isn't counted as over, or the job's ballot ended with such.
+abbrev pub IsHeldRead : Answering → ℕ → Owner → Type 0
+IsHeldRead x lver o = ReadsBlocks x (λ s c blocks own.
+    ShowsInstance x s c blocks own (Held_already lver o)
+    ⊎ (EndsWith x s c blocks own lver o × IsFalse (counts_over x.setting (after_entry x) s o.id o.generation)))
+
+-- The instance that the read makes the job begin.
+abbrev pub BeginsAt : Answering → Session → Submitted → List (Option Block) → Block → ℕ → Type 0
+BeginsAt x s c blocks own n =
+    ShowsInstance x s c blocks own (Begin n)
+    ⊎ ((o : Owner) × (m : ℕ) × EndsWith x s c blocks own m o × (m + 1 ≡ n) × IsTrue (counts_over x.setting (after_entry x) s o.id o.generation))
+
+-- A block of phase 1's read has a shared mode that isn't over.
+abbrev pub IsSharedRead : Answering → Owner → Type 0
+IsSharedRead x o = ReadsBlocks x (λ s c blocks own.
+    IsTrue (is_at_step Phase1Read c) × (b : Block) × (shared_elsewhere x.setting (after_entry x) s blocks ≡ Some b) × (b.host ≡ o.id) × (b.mode_gen ≡ o.generation))
+
+-- The blocks that were read stop the ballot.
+abbrev pub IsStopRead : Answering → Stop → Type 0
+IsStopRead x stop = ReadsBlocks x (λ s c blocks own. stop_of own blocks ≡ Some stop)
+
+-- ---- limits
+
+-- The number of phase 1 that the session would write in an instance: above all that it knows of it.
+abbrev pub next_number : Setting → Session → ℕ → Block → List Block → ℕ
+next_number st s n own read = next_mbal st.layout.hosts s.id (map (λ b. b.mbal) (in_instance n (own ∷ read)))
+
+-- The count, or the number to be written, would pass its limit.
+abbrev pub IsLimit : Answering → Limited → Type 0
+IsLimit x Lockspaces = IsAtCommand x × (most_lockspaces ≤ length (present_sessions x.setting (before_entry x)))
+IsLimit x Resources = IsAtCommand x × (most_resources ≤ resource_count x.setting (before_entry x))
+IsLimit x Holders = IsAtCommand x × (most_holders ≤ holder_count x.setting (before_entry x))
+IsLimit x Children = IsAtCommand x × (most_children ≤ child_count x.setting (before_entry x))
+IsLimit x GenLimit =
+    JoinRead x DecidingRead (λ s bytes. (d : DeltaRec) × (delta_in (record_in x.setting.layout bytes) ≡ Some d) × (record_numbers ≤ d.generation + 1))
+IsLimit x SeqLimit =
+    JoinRead x DecidingRead (λ s bytes. (d : DeltaRec) × (delta_in (record_in x.setting.layout bytes) ≡ Some d) × (record_numbers ≤ d.seq + 1))
+    ⊎ JoinRead x VerifyRead (λ s bytes. (d : DeltaRec) × (claim_of x.past s ≡ Some d) × (record_numbers ≤ d.seq + 1))
+    ⊎ (IsAtCommand x × WithSession x (λ s. (a : LockspaceArg) × job_command x (λ c. c ≡ RemLockspace a) × (record_numbers ≤ last_seq (before_entry x) s + 1)))
+    ⊎ (IsAtCommand x × WithSession x (λ s. WithSpot x (λ r at. IsSomeAnd (exclusive_on (before_entry x) s at) (λ g.
+    record_numbers ≤ next_value_seq x.setting (before_entry x) s at g.lver))))
+IsLimit x LverLimit = ReadsBlocks x (λ s c blocks own. (n : ℕ) × BeginsAt x s c blocks own n × (record_numbers ≤ n))
+IsLimit x MbalLimit = ReadsBlocks x (λ s c blocks own. (n : ℕ) × BeginsAt x s c blocks own n × (record_numbers ≤ next_number x.setting s n own (present blocks)))
+
+-- ---- requests
+
+-- The request isn't above the held lver, or below the record's; or the record is torn.
+abbrev pub IsOldRequest : Answering → ℕ → Option ℕ → Type 0
+IsOldRequest x held stored = job_command x (λ c. (r : ResourceArg) × (asked : ℕ) × (force : ℕ) × (c ≡ Ask r asked force)
+    × AnswersRead x (λ d bytes. (l : Leader) × (leader_of x.setting.layout bytes ≡ Some l) × (l.lver ≡ held)
+    × (option_map (λ q. q.lver) (request_in (read_at x.setting.layout bytes 1)) ≡ stored)
+    × elim stored [ None ↦ asked ≢ 0 | Some n ↦ IsFalse (check_request held n asked force) ]))
+
+-- ---- names that differ
+
+-- The leader that was read has other names or another number of hosts.
+abbrev pub IsWrongArea : Answering → List ℕ → List ℕ → ℕ → Type 0
+IsWrongArea x lockspace resource hosts = WithSpot x (λ r at.
+    AnswersRead x (λ c bytes. (l : Leader) × (leader_of x.setting.layout bytes ≡ Some l) × (l.lockspace ≡ lockspace) × (l.resource ≡ resource) × (l.num_hosts ≡ hosts)
+    × IsFalse (is_leader_of x.setting.layout r.lockspace r.name l)))
+
+-- The delta record that was read has another lockspace or id.
+abbrev pub IsWrongDelta : Answering → List ℕ → ℕ → Type 0
+IsWrongDelta x lockspace id =
+    JoinRead x FirstRead (λ s bytes. (d : DeltaRec) × (delta_in (record_in x.setting.layout bytes) ≡ Some d) × (d.lockspace ≡ lockspace) × (d.id ≡ id)
+    × IsFalse (bytes_eq lockspace s.lockspace && id == s.id))
+
+-- ---- the relation
+
+-- The process of the job has exited.
+abbrev pub IsExited : Answering → ℕ → Type 0
+IsExited x p = (x.entry.input ≡ Exit p) × IsTrue (is_job_of_process x.past p x.job)
+
+-- The cause of each reply; an ok needs none here, for what is due says when it comes.
+abbrev pub CausedBy : Answering → Reply → Type 0
+CausedBy x NoSession = IsAtCommand x × IsNoSession x
+CausedBy x StillJoining = IsAtCommand x × WithSession x (λ s. IsFalse (is_joined (before_entry x) s))
+CausedBy x (Recovering t) =
+    WithSession x (λ s. IsTrue (is_joined x.past s) × IsFalse (is_active x.setting (after_entry x) s) × (last_renewal x.setting (before_entry x) s ≡ t))
+CausedBy x (IdHeld generation seq later) = IsIdHeld x generation seq later
+CausedBy x (IdLost generation name found) = IsIdLost x (IdLost generation name found)
+CausedBy x (IdLate claimed now) = IsIdLate x claimed now
+CausedBy x TornDelta = JoinRead x FirstRead (λ s bytes. delta_in (record_in x.setting.layout bytes) ≡ None)
+CausedBy x TornLeader = IsTornLeaderRead x
+CausedBy x (TornBlock host) = IsTornBlockRead x host
+CausedBy x (HeldBy lver owner) = IsHeldRead x lver owner
+CausedBy x (SharedBy owner) = IsSharedRead x owner
+CausedBy x (Rival host mbal) = IsStopRead x (Block_rival host mbal)
+CausedBy x (Ahead host lver) = IsStopRead x (Block_ahead host lver)
+CausedBy x (IoTimeout call from to) =
+    (c : Submitted) × (waiting_call x.past x.job.number ≡ Some c) × (c.call.number ≡ call) × (c.reading ≡ from) × (x.entry.reading ≡ to) × (from + x.setting.timing.io ≤ to)
+CausedBy x (IoFault call) = (c : Submitted) × AnswersCall x c Failed × (c.call.number ≡ call)
+CausedBy x (Pending call) =
+    IsAtCommand x × WithSpot x (λ r at. pending_call x.setting (before_entry x) at ≡ Some call)
+CausedBy x (Busy process) =
+    IsAtCommand x × job_command x (λ c. WithSpot x (λ r at. busy_process (before_entry x) at (process_named c) (wants_shared c) ≡ Some process))
+CausedBy x NotHeld = IsAtCommand x × WithSession x (λ s. job_command x (λ c. WithSpot x (λ r at.
+    (g : Grant) → Contains (holdings_on (before_entry x) s at) g → process_named c ≡ Some g.process →
+    (p : ℕ) × (bytes : List ℕ) × (c ≡ SetLvb r p bytes) × IsTrue (is_shared g.mode))))
+CausedBy x SpawnFault = (p : ℕ) × (x.entry.input ≡ Spawned p false) × (job_of_start x.past p ≡ Some x.job.number)
+CausedBy x ValueTorn = AnswersRead x (λ c bytes. (c.call.purpose ≡ ValueRead x.job.number) × (value_in (record_in x.setting.layout bytes) ≡ None))
+CausedBy x (Misread column) = IsAtCommand x × (x.job.command ≡ Err column)
+CausedBy x (LimitReached which) = IsLimit x which
+CausedBy x (RequestOld held stored) = IsOldRequest x held stored
+CausedBy x (WrongArea lockspace resource hosts) = IsWrongArea x lockspace resource hosts
+CausedBy x (WrongDelta lockspace id) = IsWrongDelta x lockspace id
+CausedBy x (NoProcess p) =
+    IsExited x p ⊎ (IsAtCommand x × IsFalse (may_act (before_entry x) p) × job_command x (λ c. process_named c ≡ Some p))
+CausedBy x (Joined generation) =
+    IsAtCommand x × WithSession x (λ s. IsTrue (is_active x.setting (before_entry x) s) × (generation_of (before_entry x) s ≡ generation))
+CausedBy x r = IsTrue (is_ok_reply r)
+
+-- Each reply of an entry is that of a running job, one for a job, and has its cause.
+pub record AnswersWell (st : Setting) (past : Trace) (e : Entry) : Type 0 where
+  -- nobody is answered who didn't ask, nobody twice, and nobody without cause
+  pub running : (a : JobReply) → Contains e.effects.replies a →
+      (j : Job) × (job_numbered st (e ∷ past) a.job ≡ Some j) × (reply_to past a.job ≡ None)
+      × CausedBy (record { setting = st; past = past; entry = e; job = j }) a.reply
+  -- two replies in one step would be two answers
+  pub once : (a b : JobReply) → Contains e.effects.replies a → Contains e.effects.replies b → a.job ≡ b.job → a ≡ b
+
+-- Each reply has its cause.
+abbrev pub IsCaused : Setting → Trace → Type 0
+IsCaused st es = EachEntry (AnswersWell st) es

@@ -1,0 +1,55 @@
+-- All that is asked of a daemon's trace.
+use Rattle.sl_area.specs.Layouts.{IsGeometry, Sizes, layout_with}
+use Rattle.sl_area.specs.Places.{is_base}
+use Rattle.sl_law.specs.LawfulArea.{LawfulArea}
+use Rattle.sl_law.specs.LawfulBlock.{LawfulBlock}
+use Rattle.sl_law.specs.LawfulCalls.{LawfulCalls}
+use Rattle.sl_law.specs.LawfulDelta.{LawfulDelta}
+use Rattle.sl_law.specs.LawfulGrant.{LawfulGrant}
+use Rattle.sl_law.specs.LawfulLeader.{LawfulLeader}
+use Rattle.sl_law.specs.LawfulModes.{LawfulModes}
+use Rattle.sl_law.specs.LawfulRecovery.{LawfulRecovery}
+use Rattle.sl_law.specs.LawfulValue.{LawfulValue}
+use Rattle.sl_law.specs.LawfulWatchdog.{LawfulWatchdog}
+use Rattle.sl_sector.specs.Spelling.{IsDigest}
+use Rattle.sl_text.specs.Names.{is_name}
+use Rattle.sl_time.specs.Times.{IsTiming}
+use Rattle.sl_trace.specs.Counts.{most_lockspaces}
+use Rattle.sl_trace.specs.Traces.{EachEntry, IsTrace, Setting, Trace}
+use Rattle.sl_trace.specs.declared.input.Given.{Given}
+use Rattle.sl_words.specs.Bounds.{moments}
+use Rattle.std.specs.List.{AllByRecursion}
+use Rattle.std.specs.Prelude.{AllPairs, IsFalse, IsTrue, bytes_eq, length, ◌<◌, ◌^◌, ◌≡◌, ◌≤◌}
+
+-- A lawful trace. Safety rests on these alone; none of them names what a host does, only what it may.
+pub record Lawful (st : Setting) (es : Trace) : Type 0 where
+  pub is_trace : IsTrace st es
+  pub calls : EachEntry (LawfulCalls st) es
+  pub delta : EachEntry (LawfulDelta st) es
+  pub area : EachEntry (LawfulArea st) es
+  pub block : EachEntry (LawfulBlock st) es
+  pub leader : EachEntry (LawfulLeader st) es
+  pub modes : EachEntry (LawfulModes st) es
+  pub watchdog : EachEntry (LawfulWatchdog st) es
+  pub granting : EachEntry (LawfulGrant st) es
+  pub recovery : EachEntry (LawfulRecovery st) es
+  pub values : EachEntry (LawfulValue st) es
+
+-- A session that a daemon may begin with.
+pub record IsGiven (st : Setting) (g : Given) : Type 0 where
+  pub id : (1 ≤ g.id) × (g.id ≤ st.layout.hosts)
+  pub base : IsTrue (is_base st.layout g.offset)
+  pub renewed : g.renewed < moments
+  pub lockspace : IsTrue (is_name g.lockspace)
+
+-- What a daemon may be made of.
+pub record IsSetting (st : Setting) : Type 0 where
+  pub timing : IsTiming st.timing
+  pub grace : st.grace ≤ 600000
+  pub layout : (g : Sizes) × IsGeometry g × (st.layout ≡ layout_with st.layout.digest g)
+  pub digest : IsDigest st.layout.digest
+  pub name : IsTrue (is_name st.name)
+  pub numbers : (1 ≤ st.first.call) × (st.first.call ≤ 2 ^ 62) × (1 ≤ st.first.job) × (st.first.job ≤ 2 ^ 62)
+  pub few : length st.given ≤ most_lockspaces
+  pub each : AllByRecursion (IsGiven st) st.given
+  pub different : AllPairs (λ a b. IsFalse (bytes_eq a.lockspace b.lockspace)) st.given

@@ -1,0 +1,36 @@
+-- When a process may be granted a resource.
+use Rattle.sl_sector.specs.declared.sector.Leader.{Leader}
+use Rattle.sl_trace.specs.Leases.{Spot, freed, leader_written, lease_calls, spot_of_grant}
+use Rattle.sl_trace.specs.Sessions.{Session, is_active, session_numbered}
+use Rattle.sl_trace.specs.Traces.{Setting, Submitted, Trace, holdings, is_answered_ok, is_shared, same_place}
+use Rattle.sl_trace.specs.declared.effects.Entry.{Entry}
+use Rattle.sl_trace.specs.declared.effects.Grant.{Grant}
+use Rattle.sl_trace.specs.declared.effects.Mode.TheVariants.{Exclusive}
+use Rattle.std.specs.Prelude.{Contains, IsSome, IsTrue, Some, true, ℕ, ◌&&◌, ◌<◌, ◌∷◌, ◌≡◌}
+
+-- The session's write of this leader as held was answered ok.
+pub record HasTaken (st : Setting) (es : Trace) (s : Session) (at : Spot) (n : ℕ) : Type 0 where
+  pub call : Submitted
+  pub leader : Leader
+  pub of_lease : Contains (lease_calls st es s at) call
+  pub written : (leader_written call ≡ Some leader) × (leader.held ≡ true) × (leader.lver ≡ n)
+  pub answered : IsTrue (is_answered_ok es call)
+
+-- A grant to a process under a session.
+pub record LawfulGrantTo (st : Setting) (es : Trace) (s : Session) (g : Grant) : Type 0 where
+  -- a session in recovery or leaving may be over before the holder knows
+  pub active : IsTrue (is_active st es s)
+  pub lockspace : g.lockspace ≡ s.lockspace
+  -- two processes of one machine conflict as those of two do; what ended in this step doesn't count
+  pub alone : (h : Grant) → Contains (holdings es) h → IsTrue (same_place h.path h.offset g.path g.offset) →
+      (h.process ≡ g.process → ⊥) → IsTrue (is_shared h.mode && is_shared g.mode)
+  -- others must find the leader held
+  pub taken : g.mode ≡ Exclusive → HasTaken st es s (spot_of_grant g) g.lver
+  -- whoever saw the free may have begun the next
+  pub not_freed : g.mode ≡ Exclusive → freed (lease_calls st es s (spot_of_grant g)) < g.lver
+
+-- Lawful grant.
+pub record LawfulGrant (st : Setting) (past : Trace) (e : Entry) : Type 0 where
+  -- a grant of no session would be under no other law
+  pub owned : (g : Grant) → Contains e.effects.grants g → IsSome (session_numbered st (e ∷ past) g.session)
+  pub each : (g : Grant) (s : Session) → Contains e.effects.grants g → session_numbered st (e ∷ past) g.session ≡ Some s → LawfulGrantTo st (e ∷ past) s g

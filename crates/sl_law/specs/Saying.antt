@@ -1,0 +1,37 @@
+-- How laws are said: of each entry of a trace with those before it, and of each call with what stood when it was submitted.
+use Rattle.sl_trace.specs.Sessions.{Session, session_numbered, sessions}
+use Rattle.sl_trace.specs.Traces.{Setting, Submitted, Trace, submitted_in}
+use Rattle.sl_trace.specs.declared.effects.Call.{Call}
+use Rattle.sl_trace.specs.declared.effects.Effects.{Effects}
+use Rattle.sl_trace.specs.declared.effects.Entry.{Entry}
+use Rattle.sl_trace.specs.declared.effects.Move.{Move}
+use Rattle.std.specs.Prelude.{Contains, List, Some, drop, filter, nat_lt, [], ◌∷◌, ◌≡◌}
+
+-- The entry with only those of its calls that come before this one; its other effects stand before all its calls.
+abbrev pub cut_before : Call → Entry → Entry
+cut_before c e =
+    let fx : Effects = e.effects in
+    record e { effects = record fx { calls = filter (λ d. nat_lt d.number c.number) fx.calls } }
+
+-- The trace as it stood when a call of the entry after it was submitted.
+abbrev pub at_call : Trace → Entry → Call → Trace
+at_call past e c = cut_before c e ∷ past
+
+-- What is said of each call of an entry: of the trace as it stood, the call's session, and the call.
+abbrev pub EachCall : Setting → (Trace → Session → Submitted → Type 0) → Trace → Entry → Type 0
+EachCall st P past e =
+    (c : Call) (s : Session) → Contains e.effects.calls c → session_numbered st (e ∷ past) c.session ≡ Some s →
+    P (at_call past e c) s (submitted_in past e c)
+
+-- What is said of each session after an entry.
+abbrev pub EachSession : Setting → (Session → Type 0) → Trace → Type 0
+EachSession st P es = (s : Session) → Contains (sessions st es) s → P s
+
+-- The trace without its newest entry.
+abbrev pub older : Trace → Trace
+older es = drop 1 es
+
+-- The moves of the newest entry.
+abbrev pub newest_moves : Trace → List Move
+newest_moves [] = []
+newest_moves (e ∷ es) = e.effects.moves

@@ -1,0 +1,88 @@
+-- What is written for an event, and the counts of the last line.
+use Rattle.sl_run.specs.Conflicts.{Holding, conflicts, has_conflict, world_holdings}
+use Rattle.sl_run.specs.Events.{happens, machine_of}
+use Rattle.sl_run.specs.Runs.{Happening}
+use Rattle.sl_run.specs.Worlds.{World, machine_at, reading_now}
+use Rattle.sl_run.specs.declared.event.Event.TheVariants.{Test}
+use Rattle.sl_run.specs.declared.event.Event.{Event}
+use Rattle.sl_text.specs.Forms.{spaced}
+use Rattle.sl_trace.specs.Connections.{test_holds}
+use Rattle.sl_trace.specs.EffectTexts.{effect_lines, is_ok_reply, machine_line}
+use Rattle.sl_trace.specs.Traces.{grants, held_after, is_ended_by}
+use Rattle.sl_trace.specs.declared.effects.Effects.{Effects}
+use Rattle.sl_trace.specs.declared.effects.Grant.{Grant}
+use Rattle.std.specs.Option.{option_map_or}
+use Rattle.std.specs.Prelude.{Bool, List, None, Some, codes, count_by, decimal, false, filter, flat_map, if◌then◌else◌, length, map, not, sum_by, true, [], ℕ, ◌++◌, ◌+◌, ◌==◌, ◌∷◌}
+
+-- The words of a test.
+abbrev pub test_words : Bool → List (List ℕ)
+test_words true = codes "test" ∷ codes "ok" ∷ []
+test_words false = codes "test" ∷ codes "failed" ∷ []
+
+-- The line of a test.
+abbrev pub test_lines : World → Event → List (List ℕ)
+test_lines w e =
+    elim e [
+      | Test m ↦ elim (machine_at w m) [ None ↦ [] | Some a ↦ machine_line m (test_words (test_holds a.connections (reading_now a))) ∷ [] ]
+      | _ ↦ []
+    ]
+
+-- The lines of an event in the world before it, with the effects of its steps.
+abbrev pub event_lines : World → Event → List Effects → List (List ℕ)
+event_lines w e fxs = flat_map (effect_lines (machine_of e)) fxs ++ test_lines w e
+
+-- What the last line counts.
+pub record Counts : Type 0 where
+  pub events : ℕ
+  pub calls : ℕ
+  pub grants : ℕ
+  pub refusals : ℕ
+  pub conflicts : ℕ
+
+-- All counts at 0.
+abbrev pub no_counts : Counts
+no_counts = record { events = 0; calls = 0; grants = 0; refusals = 0; conflicts = 0 }
+
+-- The grants of an event after which two processes hold one resource, not both shared.
+abbrev pub held_by_others : World → ℕ → List Holding
+held_by_others w m = filter (λ h. not (h.machine == m)) (world_holdings w)
+
+-- How many of these grants leave a conflict, given in turn.
+abbrev pub conflicts_after : List Holding → ℕ → List Grant → List Grant → ℕ
+conflicts_after others m held [] = 0
+conflicts_after others m held (g ∷ gs) =
+    (if has_conflict (others ++ map (λ k. record { machine = m; held = k }) (held ++ g ∷ [])) then 1 else 0) + conflicts_after others m (held ++ g ∷ []) gs
+
+-- The conflicts of a machine's steps, one after another, with what it held before them.
+abbrev pub conflicts_of : List Holding → ℕ → List Grant → List Effects → ℕ
+conflicts_of others m held [] = 0
+conflicts_of others m held (fx ∷ fxs) =
+    conflicts_after others m (filter (λ g. not (is_ended_by fx.ends g)) held) fx.grants + conflicts_of others m (held_after fx held) fxs
+
+-- The counts with those of an event in the world before it.
+unfoldable pub count_event : World → Event → List Effects → Counts → Counts
+count_event w e fxs k =
+    let m : ℕ = machine_of e in
+    record {
+      events = k.events + 1;
+      calls = k.calls + sum_by (λ fx. length fx.calls) fxs;
+      grants = k.grants + sum_by (λ fx. length fx.grants) fxs;
+      refusals = k.refusals + sum_by (λ fx. count_by (λ a. not (is_ok_reply a.reply)) fx.replies) fxs;
+      conflicts = k.conflicts + conflicts_of (held_by_others w m) m (option_map_or (λ a. a.holdings) (machine_at w m) []) fxs;
+    }
+
+-- The last line of a whole report.
+abbrev pub end_line : Counts → List ℕ
+end_line k =
+    spaced (codes "end" ∷ codes "events" ∷ decimal k.events ∷ codes "calls" ∷ decimal k.calls ∷ codes "grants" ∷ decimal k.grants
+    ∷ codes "refusals" ∷ decimal k.refusals ∷ codes "conflicts" ∷ decimal k.conflicts ∷ [])
+
+-- The lines of the run and its counts.
+abbrev pub run_lines : World → List Happening → List (List ℕ)
+run_lines w [] = []
+run_lines w (x ∷ xs) = event_lines w x.0 x.1 ++ run_lines (happens w x.0 x.1) xs
+
+-- The counts of a run.
+abbrev pub run_counts : World → Counts → List Happening → Counts
+run_counts w k [] = k
+run_counts w k (x ∷ xs) = run_counts (happens w x.0 x.1) (count_event w x.0 x.1 k) xs

@@ -1,0 +1,181 @@
+-- A source as a schedule: its header, its events up to the first line that is refused, and that refusal.
+use Rattle.sl_area.specs.Layouts.{program_digest}
+use Rattle.sl_due.specs.DueFirst.{is_past}
+use Rattle.sl_report.specs.Replay.{effects_of}
+use Rattle.sl_report.specs.Reports.{Counts, count_event, end_line, event_lines, no_counts, run_counts, run_lines}
+use Rattle.sl_report.specs.ScheduleLines.{BeginLine, HeaderLine, event_in, header_line_in, header_of, header_refusal, is_skipped, refusal_line}
+use Rattle.sl_run.specs.Events.{happens, may_happen, refusal_of}
+use Rattle.sl_run.specs.Runs.{Happening}
+use Rattle.sl_run.specs.Worlds.{World, first_that, mebibyte, world_of, world_with}
+use Rattle.sl_run.specs.declared.event.Event.{Event}
+use Rattle.sl_run.specs.declared.event.Refusal.TheVariants.{LimitBytes, Syntax}
+use Rattle.sl_run.specs.declared.event.Refusal.{Refusal}
+use Rattle.sl_run.specs.declared.header.Header.{Header}
+use Rattle.sl_text.specs.Forms.{lines_of}
+use Rattle.sl_trace.specs.declared.effects.Effects.{Effects}
+use Rattle.sl_words.specs.Words.{some_is}
+use Rattle.std.specs.Prelude.{Bool, Err, IsTrue, List, None, Ok, Option, Result, Some, false, filter_map, length, min, nat_le, nat_lt, true, [], ℕ, ◌&&◌, ◌++◌, ◌+◌, ◌∷◌, ◌≡◌}
+
+-- A line with its number and the number of bytes before it; it is past the limit where it holds the byte after the last one.
+pub record NumberedLine : Type 0 where
+  pub number : ℕ
+  pub start : ℕ
+  pub text : List ℕ
+  pub is_past : Bool
+
+-- The most bytes of a schedule.
+abbrev pub greatest_source : ℕ
+greatest_source = 1000000000
+
+-- The most bytes of a line.
+abbrev pub longest_line : ℕ
+longest_line = 4096
+
+-- The lines with their numbers, from these on.
+abbrev pub numbered_from : ℕ → ℕ → ℕ → List (List ℕ) → List NumberedLine
+numbered_from total start number [] = []
+numbered_from total start number (l ∷ ls) =
+    record { number = number; start = start; text = l; is_past = nat_lt greatest_source (min total (start + length l + 1)) }
+    ∷ numbered_from total (start + length l + 1) (number + 1) ls
+
+-- The lines of a source.
+abbrev pub numbered_lines : List ℕ → List NumberedLine
+numbered_lines source = numbered_from (length source) 0 1 (lines_of source)
+
+-- ---- the header
+
+-- A header with the lines after it, or the line that is refused.
+pub data HeaderReading : Type 0 where
+  Header_refused : (number : ℕ) (why : Refusal) → HeaderReading
+  Header_read : (header : Header) (rest : List NumberedLine) → HeaderReading
+
+-- The bytes of a sector where no line says otherwise.
+abbrev pub default_sector : ℕ
+default_sector = 512
+
+-- The bytes of an area where no line says otherwise.
+abbrev pub default_area : ℕ
+default_area = mebibyte
+
+-- Whether the line ends the header.
+abbrev pub is_begin : HeaderLine → Bool
+is_begin BeginLine = true
+is_begin l = false
+
+-- What a line is refused for before it is read: it is too long, or past the limit; the byte that comes first decides.
+abbrev pub line_refusal : NumberedLine → Option Refusal
+line_refusal l =
+    first_that ((nat_lt longest_line (length l.text) && nat_le (l.start + longest_line + 1) greatest_source, Syntax) ∷ (l.is_past, LimitBytes) ∷ [])
+
+-- Why the line is refused.
+abbrev pub header_line_refusal : List HeaderLine → Option HeaderLine → Option Refusal
+header_line_refusal ls None = Some Syntax
+header_line_refusal ls (Some l) = header_refusal default_sector default_area ls l
+
+-- The lines with one more.
+abbrev pub with_line : List HeaderLine → Option HeaderLine → List HeaderLine
+with_line ls None = ls
+with_line ls (Some l) = ls ++ l ∷ []
+
+-- The header that the lines begin with.
+abbrev pub read_header : List HeaderLine → ℕ → List NumberedLine → HeaderReading
+read_header ls next [] = Header_refused next Syntax
+read_header ls next (l ∷ rest) =
+    elim (line_refusal l) [
+      | Some r ↦ Header_refused l.number r
+      | None ↦ elim (is_skipped l.text) [
+        | true ↦ read_header ls (l.number + 1) rest
+        | false ↦
+            let read : Option HeaderLine = header_line_in default_area l.text in
+            elim (header_line_refusal ls read) [
+              | Some r ↦ Header_refused l.number r
+              | None ↦ elim (some_is is_begin read) [
+                | true ↦ Header_read (header_of default_sector default_area ls) rest
+                | false ↦ read_header (with_line ls read) (l.number + 1) rest
+              ]
+            ]
+      ]
+    ]
+
+-- ---- the events
+
+-- A line's number, and its event or why it can't be read.
+abbrev pub EventLine : Type 0
+EventLine = ℕ × Result Event Refusal
+
+-- The event, or `syntax`.
+abbrev pub event_or_syntax : Option Event → Result Event Refusal
+event_or_syntax None = Err Syntax
+event_or_syntax (Some e) = Ok e
+
+-- The event of a line; empty lines and comments have none.
+abbrev pub event_line : Header → NumberedLine → Option EventLine
+event_line h l =
+    elim (line_refusal l) [
+      | Some r ↦ Some (l.number, Err r)
+      | None ↦ elim (is_skipped l.text) [ true ↦ None | false ↦ Some (l.number, event_or_syntax (event_in h.machines h.geometry.sector l.text)) ]
+    ]
+
+-- The events of the lines.
+abbrev pub event_lines_of : Header → List NumberedLine → List EventLine
+event_lines_of h ls = filter_map (event_line h) ls
+
+-- These happenings are the events of the lines up to the first that is refused.
+pub data Ending : Type 0 where
+  At_end : Ending
+  At_line : (number : ℕ) (why : Refusal) → Ending
+
+-- These happenings are the events of the lines up to the ending.
+abbrev pub Follows : World → List EventLine → List Happening → Ending → Type 0
+Follows w [] [] At_end = Unit {0}
+Follows w [] (x ∷ xs) s = ⊥
+Follows w [] [] (At_line number why) = ⊥
+Follows w ((n, Err r) ∷ ls) [] (At_line number why) = (number ≡ n) × (why ≡ r)
+Follows w ((n, Ok e) ∷ ls) [] (At_line number why) = (number ≡ n) × (refusal_of w e ≡ Some why)
+Follows w (l ∷ ls) [] At_end = ⊥
+Follows w ((n, Err r) ∷ ls) (x ∷ xs) s = ⊥
+Follows w ((n, Ok e) ∷ ls) (x ∷ xs) s = (e ≡ x.0) × IsTrue (may_happen w e) × Follows (happens w x.0 x.1) ls xs s
+
+-- ---- the report of a run that stops there
+
+-- The last line of a report.
+abbrev pub last_lines : Counts → Ending → List (List ℕ)
+last_lines k At_end = end_line k ∷ []
+last_lines k (At_line number why) = refusal_line number why ∷ []
+
+-- The report of a run with its ending.
+abbrev pub report_of : Header → List Happening → Ending → List (List ℕ)
+report_of h xs s = run_lines (world_of h) xs ++ last_lines (run_counts (world_of h) no_counts xs) s
+
+-- The status of an ending.
+abbrev pub status_of : Ending → ℕ
+status_of At_end = 0
+status_of (At_line number why) = 1
+
+-- ---- the plain program: it computes the report, each daemon doing what is due
+
+-- From a world and counts on.
+abbrev pub replay_from : World → Counts → List EventLine → List (List ℕ)
+replay_from w k [] = end_line k ∷ []
+replay_from w k (l ∷ ls) =
+    elim l.1 [
+      | Err r ↦ refusal_line l.0 r ∷ []
+      | Ok e ↦ elim (refusal_of w e) [
+        | Some r ↦ refusal_line l.0 r ∷ []
+        | None ↦
+            let fxs : List Effects = effects_of w e in
+            event_lines w e fxs ++ replay_from (happens w e fxs) (count_event w e fxs k) ls
+      ]
+    ]
+
+-- The report of a source, with this digest.
+abbrev pub replay_with : (List ℕ → List ℕ) → List ℕ → List (List ℕ)
+replay_with digest source =
+    elim (read_header [] 1 (numbered_lines source)) [
+      | Header_refused number why ↦ refusal_line number why ∷ []
+      | Header_read h rest ↦ replay_from (world_with digest h) no_counts (event_lines_of h rest)
+    ]
+
+-- The report of a source.
+abbrev pub replay_lines : List ℕ → List (List ℕ)
+replay_lines source = replay_with program_digest source

@@ -1,0 +1,218 @@
+-- What holds after every event of a run whose traces are lawful.
+use Rattle.sl_area.specs.Layouts.{record_in}
+use Rattle.sl_area.specs.Places.{block_offset}
+use Rattle.sl_law.specs.Lawful.{Lawful}
+use Rattle.sl_run.specs.Conflicts.{IsExclusive}
+use Rattle.sl_run.specs.Headers.{IsHeader}
+use Rattle.sl_run.specs.Runs.{AfterEachFront, EachDaemon, Happening, IsRun, world_after}
+use Rattle.sl_run.specs.Worlds.{Course, Daemon, Machine, World, content, first_reset_after, is_landed, is_open, is_write_course, machine_at, world_with}
+use Rattle.sl_run.specs.declared.header.Header.{Header}
+use Rattle.sl_sector.specs.Spelling.{IsDigest, block_in, delta_in}
+use Rattle.sl_sector.specs.declared.sector.Block.{Block}
+use Rattle.sl_sector.specs.declared.sector.DeltaRec.{DeltaRec}
+use Rattle.sl_sector.specs.declared.sector.Owner.{Owner}
+use Rattle.sl_trace.specs.Connections.{connection_named}
+use Rattle.sl_trace.specs.Joinings.{own_offset}
+use Rattle.sl_trace.specs.Leases.{Spot, block_written, ended_ballots, holdings_on, is_at_step, lease_calls}
+use Rattle.sl_trace.specs.Sessions.{Session, ended_after, free_write, generation_of, is_joined, joined_after, me, session_numbered, shows_other}
+use Rattle.sl_trace.specs.Traces.{Setting, Trace, is_shared, same_place}
+use Rattle.sl_trace.specs.Watching.{counts_over, evidence}
+use Rattle.sl_trace.specs.declared.effects.Entry.{Entry}
+use Rattle.sl_trace.specs.declared.effects.Grant.{Grant}
+use Rattle.sl_trace.specs.declared.effects.LeaseStep.TheVariants.{Phase1Write}
+use Rattle.sl_words.specs.Words.{some_is}
+use Rattle.std.specs.List.{list_any}
+use Rattle.std.specs.Prelude.{Bool, Contains, IsFalse, IsSome, IsSomeAnd, IsTrue, List, Option, Some, is_some, nat_lt, not, option_and_then, option_map, slice_get, true, ℕ, ◌&&◌, ◌++◌, ◌+◌, ◌<◌, ◌==◌, ◌||◌, ◌∷◌, ◌≡◌, ◌≤◌, ◌⊎◌}
+
+-- ---- runs
+
+-- The world of a header with this digest, after these.
+abbrev pub world_at : (List ℕ → List ℕ) → Header → List Happening → World
+world_at digest h xs = world_after (world_with digest h) xs
+
+-- A run whose daemons all have lawful traces. Nothing is asked of the digest but its length.
+pub record LawfulRun (digest : List ℕ → List ℕ) (h : Header) (xs : List Happening) : Type 0 where
+  pub header : IsHeader h
+  pub digest_is : IsDigest digest
+  pub is_run : IsRun (world_with digest h) xs
+  pub lawful : EachDaemon Lawful (world_at digest h xs)
+
+-- ---- the sessions of a world
+
+-- A session by its machine, the place of its daemon among the machine's, and its own among the daemon's.
+pub record SessionId : Type 0 where
+  pub machine : ℕ
+  pub daemon : ℕ
+  pub number : ℕ
+
+-- A session with all that it stands in.
+pub record Found : Type 0 where
+  pub machine : Machine
+  pub daemon : Daemon
+  pub session : Session
+
+-- The session that is meant.
+abbrev pub session_of_world : World → SessionId → Option Found
+session_of_world w i =
+    option_and_then (λ a. option_and_then (λ d. option_map (λ s. record { machine = a; daemon = d; session = s })
+    (session_numbered d.setting d.trace i.number)) (slice_get a.daemons i.daemon)) (machine_at w i.machine)
+
+-- This session is meant.
+abbrev pub IsSession : World → SessionId → Found → Type 0
+IsSession w i f = session_of_world w i ≡ Some f
+
+-- Its trace.
+abbrev pub trace_of : Found → Trace
+trace_of f = f.daemon.trace
+
+-- What its daemon is made of.
+abbrev pub setting_in : Found → Setting
+setting_in f = f.daemon.setting
+
+-- Its generation.
+abbrev pub found_generation : Found → ℕ
+found_generation f = generation_of f.daemon.trace f.session
+
+-- It has joined.
+abbrev pub HasJoined : Found → Type 0
+HasJoined f = IsSome (joined_after f.daemon.trace f.session)
+
+-- The same lockspace: one area.
+abbrev pub same_lockspace : Found → Found → Bool
+same_lockspace f g = same_place f.session.path f.session.offset g.session.path g.session.offset
+
+-- The same id of the same lockspace.
+abbrev pub SameId : Found → Found → Type 0
+SameId f g = IsTrue (same_lockspace f g) × (f.session.id ≡ g.session.id)
+
+-- ---- when a session is over
+
+-- Whether the call is the session's.
+abbrev pub is_course_of : SessionId → Course → Bool
+is_course_of i c = c.daemon == i.daemon && c.call.session == i.number
+
+-- Whether a write of the session is in flight.
+abbrev pub has_write_in_flight : SessionId → Machine → Bool
+has_write_in_flight i a = list_any (λ c. is_course_of i c && is_write_course c && is_open a c) a.calls
+
+-- Whether its machine was reset since its daemon began.
+abbrev pub was_reset : Found → Bool
+was_reset f = is_some (first_reset_after f.machine f.daemon.begun.step)
+
+-- Whether the write of its free has landed whole.
+abbrev pub free_landed : SessionId → Found → Bool
+free_landed i f =
+    some_is (λ c. list_any (λ d. is_course_of i d && d.call.number == c.call.number && is_landed d.fate) f.machine.calls) (free_write (trace_of f) f.session)
+
+-- Over: its free has landed, or it has ended or its machine was reset, with no write of it in flight.
+abbrev pub is_over : SessionId → Found → Bool
+is_over i f = free_landed i f || (is_some (ended_after (trace_of f) f.session) || was_reset f) && not (has_write_in_flight i f.machine)
+
+-- ---- over clocks, devices, flights and delta sectors
+
+-- A write in flight belongs to a session whose connection is registered, or to a machine that was reset at most land ago.
+abbrev pub FlightsCovered : World → Type 0
+FlightsCovered w =
+    (m : ℕ) (a : Machine) (c : Course) → machine_at w m ≡ Some a → Contains a.calls c → IsTrue (is_write_course c && is_open a c) →
+    ((i : SessionId) × (f : Found) × IsSession w i f × (i.machine ≡ m) × IsTrue (is_course_of i c)
+    × IsSome (connection_named a.connections f.session.lockspace))
+    ⊎ IsSomeAnd (first_reset_after a c.made.step) (λ r. w.moment ≤ r.moment + w.header.timing.land)
+
+-- A session of the world has evidence against generation h of its lockspace's id j.
+abbrev pub HasEvidence : World → SessionId → Found → ℕ → ℕ → Type 0
+HasEvidence w i f j h = IsSession w i f × IsTrue (counts_over (setting_in f) (trace_of f) f.session j h)
+
+-- Each joined session that somebody has evidence against is over, and stays so, and none joins later.
+abbrev pub EvidenceIsTrue : (List ℕ → List ℕ) → Header → List Happening → Type 0
+EvidenceIsTrue digest h xs = AfterEachFront xs (λ now.
+    (i k : SessionId) (f g : Found) (j n : ℕ) → HasEvidence (world_at digest h now) i f j n → IsSession (world_at digest h xs) k g → HasJoined g →
+    IsTrue (same_lockspace f g) → g.session.id ≡ j → found_generation g ≡ n → IsTrue (is_over k g))
+
+-- For each id at most one joined session is not over.
+abbrev pub OneForEachId : World → Type 0
+OneForEachId w =
+    (i k : SessionId) (f g : Found) → IsSession w i f → IsSession w k g → HasJoined f → HasJoined g → SameId f g →
+    IsFalse (is_over i f) → IsFalse (is_over k g) → i ≡ k
+
+-- Generations of joined sessions rise: one that joins later has a greater one.
+abbrev pub GenerationsRise : (List ℕ → List ℕ) → Header → List Happening → Type 0
+GenerationsRise digest h xs = AfterEachFront xs (λ now.
+    (i k : SessionId) (f g : Found) → IsSession (world_at digest h now) i f → HasJoined f → IsSession (world_at digest h xs) k g → HasJoined g → SameId f g →
+    ((before : Found) → IsSession (world_at digest h now) k before → HasJoined before → ⊥) → found_generation f < found_generation g)
+
+-- A joined session's sector is overwritten by nobody else until it is over: it holds a record of its own, or torn bytes.
+abbrev pub OwnSectorStands : World → Type 0
+OwnSectorStands w =
+    (i : SessionId) (f : Found) (d : DeltaRec) → IsSession w i f → HasJoined f → IsFalse (is_over i f) →
+    delta_in (record_in w.layout (content w f.session.path (own_offset (setting_in f) f.session))) ≡ Some d →
+    (d.generation ≡ found_generation f) × (d.host ≡ Some f.daemon.setting.name)
+
+-- So no joined session reads a foreign record in its own sector.
+abbrev pub ReadsNoOther : World → Type 0
+ReadsNoOther w =
+    (i : SessionId) (f : Found) (past : Trace) (e : Entry) (later : Trace) → IsSession w i f → trace_of f ≡ later ++ e ∷ past →
+    IsTrue (is_joined past f.session) → IsFalse (shows_other (setting_in f) past f.session e.input)
+
+-- What is kept over clocks, devices, flights and delta sectors, without ballots or modes.
+pub record DeltaInvariant (digest : List ℕ → List ℕ) (h : Header) (xs : List Happening) : Type 0 where
+  pub covered : FlightsCovered (world_at digest h xs)
+  pub evidence : EvidenceIsTrue digest h xs
+  pub one : OneForEachId (world_at digest h xs)
+  pub rise : GenerationsRise digest h xs
+  pub own : OwnSectorStands (world_at digest h xs)
+  pub no_other : ReadsNoOther (world_at digest h xs)
+
+-- ---- over blocks and leaders
+
+-- The ballots of a session that ended on an area.
+abbrev pub ballots_of : Found → Spot → List (ℕ × Owner)
+ballots_of f at = ended_ballots (setting_in f) (trace_of f) (lease_calls (setting_in f) (trace_of f) f.session at)
+
+-- All ballots of a resource's instance that end, end with one session.
+abbrev pub Agreement : World → Type 0
+Agreement w =
+    (i k : SessionId) (f g : Found) (at : Spot) (n : ℕ) (u v : Owner) → IsSession w i f → IsSession w k g →
+    Contains (ballots_of f at) (n, u) → Contains (ballots_of g at) (n, v) → u ≡ v
+
+-- So at most one session ends a ballot of it with itself.
+abbrev pub OneWinner : World → Type 0
+OneWinner w =
+    (i k : SessionId) (f g : Found) (at : Spot) (n : ℕ) → IsSession w i f → IsSession w k g →
+    Contains (ballots_of f at) (n, me (trace_of f) f.session) → Contains (ballots_of g at) (n, me (trace_of g) g.session) → i ≡ k
+
+-- The session has begun an instance above n there.
+abbrev pub begins_above : Found → Spot → ℕ → Bool
+begins_above g at n =
+    list_any (λ c. is_at_step Phase1Write c && some_is (λ b. nat_lt n b.lver) (block_written c)) (lease_calls (setting_in g) (trace_of g) g.session at)
+
+-- What a host's block spells now.
+abbrev pub block_there : World → Spot → ℕ → Option Block
+block_there w at host = block_in host (record_in w.layout (content w at.path (block_offset w.layout at.base host)))
+
+-- A shared mode that is not over stands in its host's block once a later instance has begun; or the block is torn, which stops others.
+abbrev pub SharedModeStands : World → Type 0
+SharedModeStands w =
+    (i k : SessionId) (f g : Found) (at : Spot) (held : Grant) (b : Block) → IsSession w i f → IsSession w k g → IsFalse (is_over i f) →
+    Contains (holdings_on (trace_of f) f.session at) held → IsTrue (is_shared held.mode) → IsTrue (begins_above g at held.lver) →
+    block_there w at f.session.id ≡ Some b → (b.shared ≡ true) × (b.mode_gen ≡ found_generation f)
+
+-- What is kept over blocks and leaders; it uses the first invariant by its sentences alone.
+pub record LeaseInvariant (w : World) : Type 0 where
+  pub agreement : Agreement w
+  pub winner : OneWinner w
+  pub mode : SharedModeStands w
+
+-- ---- the theorem
+
+-- No two holdings conflict, after every event.
+abbrev pub SafeRun : (List ℕ → List ℕ) → Header → List Happening → Type 0
+SafeRun digest h xs = AfterEachFront xs (λ now. IsExclusive (world_at digest h now))
+
+-- Safety, to be proved.
+abbrev pub Safety : Type 0
+Safety = (digest : List ℕ → List ℕ) (h : Header) (xs : List Happening) → LawfulRun digest h xs → SafeRun digest h xs
+
+-- The two invariants, to be proved.
+abbrev pub Invariants : Type 0
+Invariants = (digest : List ℕ → List ℕ) (h : Header) (xs : List Happening) → LawfulRun digest h xs →
+    AfterEachFront xs (λ now. DeltaInvariant digest h now × LeaseInvariant (world_at digest h now))

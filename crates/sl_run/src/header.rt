@@ -1,0 +1,52 @@
+//! The world at moment 0, as a header gives it.
+
+use sl_area::Geometry;
+use sl_text::{FilePath, Name, Seq};
+use sl_time::Timing;
+
+/// A disk of zeros.
+#[derive(Clone, Copy)]
+pub struct Disk {
+    pub path: FilePath,
+    pub mebibytes: u64,
+}
+
+/// An initialised lockspace.
+#[derive(Clone, Copy)]
+pub struct LockspaceLine {
+    pub name: Name,
+    pub path: FilePath,
+    pub offset: u64,
+}
+
+/// An initialised resource.
+#[derive(Clone, Copy)]
+pub struct ResourceLine {
+    pub lockspace: Name,
+    pub name: Name,
+    pub path: FilePath,
+    pub offset: u64,
+}
+
+/// A session that is joined at moment 0.
+#[derive(Clone, Copy)]
+pub struct SessionLine {
+    pub machine: u32,
+    pub lockspace: Name,
+    pub id: u32,
+    pub name: Name,
+}
+
+/// The world at moment 0.
+#[derive(Drop)]
+pub struct Header {
+    pub timing: Timing,
+    pub grace: u64,
+    pub machines: u32,
+    pub geometry: Geometry,
+    pub clocks: Seq<(u32, u64)>,
+    pub disks: Seq<Disk>,
+    pub lockspaces: Seq<LockspaceLine>,
+    pub resources: Seq<ResourceLine>,
+    pub sessions: Seq<SessionLine>,
+}

@@ -1,0 +1,3 @@
+pub mod Bitmaps
+pub mod Spelling
+pub mod RecordTexts

@@ -1,0 +1,6 @@
+//! Records of a sector: their rules, their spelling and their texts.
+#![tactic(auto)]
+
+pub mod sector;
+
+pub use sector::{Bad, Block, DeltaRec, DeltaState, Leader, Owner, Rec, Request, ValueRec};

@@ -1,0 +1,80 @@
+-- Who holds what in a daemon, and what is counted against limits.
+use Rattle.sl_trace.specs.Jobs.{is_asking_lease, is_command_that, is_granted_job, is_program}
+use Rattle.sl_trace.specs.Leases.{Spot, is_on, lease_spots, open_on, same_spot, value_written}
+use Rattle.sl_trace.specs.Sessions.{Session, calls_of, is_joined, sessions}
+use Rattle.sl_trace.specs.Traces.{Setting, Trace, holdings, is_child, is_shared, running_jobs, same_place, starts}
+use Rattle.sl_trace.specs.declared.command.Command.{Command}
+use Rattle.sl_trace.specs.declared.effects.Grant.{Grant}
+use Rattle.sl_trace.specs.declared.reply.Limited.TheVariants.{Children, Holders, Resources}
+use Rattle.sl_trace.specs.declared.reply.Limited.{Limited}
+use Rattle.sl_words.specs.Words.{choose, greatest, least}
+use Rattle.std.specs.List.{list_any}
+use Rattle.std.specs.Option.{option_or}
+use Rattle.std.specs.Prelude.{Bool, List, Option, count_by, filter, filter_map, length, map, nat_le, nat_lt, not, option_and_then, sum_by, ℕ, ◌&&◌, ◌+◌, ◌==◌, ◌||◌}
+
+-- The daemon's holdings on the area, of whatever session.
+abbrev pub held_here : Trace → Spot → List Grant
+held_here es at = filter (λ g. same_place g.path g.offset at.path at.base) (holdings es)
+
+-- The process that stands in the way: the asking one where it holds the resource, else the least whose holding conflicts.
+abbrev pub busy_process : Trace → Spot → Option ℕ → Bool → Option ℕ
+busy_process es at asking shared =
+    let here : List Grant = held_here es at in
+    option_or (option_and_then (λ p. choose (list_any (λ g. g.process == p) here) p) asking)
+    (least (map (λ g. g.process) (filter (λ g. not (shared && is_shared g.mode)) here)))
+
+-- The least unanswered call of the daemon on the area.
+abbrev pub pending_call : Setting → Trace → Spot → Option ℕ
+pending_call st es at = least (map (λ c. c.call.number) (open_on st es at))
+
+-- The running jobs of these commands that have no grant yet.
+abbrev pub ungranted : Setting → Trace → (Command → Bool) → ℕ
+ungranted st es p = count_by (λ j. is_command_that p j && not (is_granted_job es j.number)) (running_jobs st es)
+
+-- Holdings, and running jobs that may become such.
+abbrev pub holder_count : Setting → Trace → ℕ
+holder_count st es = length (holdings es) + ungranted st es is_asking_lease
+
+-- Child numbers given, and running jobs that may need one.
+abbrev pub child_count : Setting → Trace → ℕ
+child_count st es = length (starts es) + ungranted st es is_program
+
+-- Leases of the daemon's joined sessions, by session and place.
+abbrev pub resource_count : Setting → Trace → ℕ
+resource_count st es = sum_by (λ s. length (lease_spots st es s)) (filter (is_joined es) (sessions st es))
+
+-- The most lockspaces, resources, holders and children.
+abbrev pub most_lockspaces : ℕ
+most_lockspaces = 8
+
+-- Resources of a machine.
+abbrev pub most_resources : ℕ
+most_resources = 256
+
+-- Holdings of a machine, with the jobs that may become such.
+abbrev pub most_holders : ℕ
+most_holders = 1024
+
+-- Child numbers of a daemon.
+abbrev pub most_children : ℕ
+most_children = 1000000
+
+-- The first count that one more lease would pass.
+abbrev pub limit_met : Setting → Trace → Session → Spot → Bool → Option Limited
+limit_met st es s at program =
+    option_or (choose (not (list_any (same_spot at) (lease_spots st es s)) && nat_le most_resources (resource_count st es)) Resources)
+    (option_or (choose (nat_le most_holders (holder_count st es)) Holders)
+    (choose (program && nat_le most_children (child_count st es)) Children))
+
+-- One above the seq of the last value that the session submitted there under that lver.
+abbrev pub next_value_seq : Setting → Trace → Session → Spot → ℕ → ℕ
+next_value_seq st es s at lver =
+    1 + greatest (map (λ v. v.seq) (filter (λ v. v.lver == lver) (filter_map value_written (filter (λ c. is_on st.layout at c.call) (calls_of es s)))))
+
+-- Whether a request of this lver and force is taken: above the held lver and not below the record's, or it clears.
+abbrev pub check_request : ℕ → ℕ → ℕ → ℕ → Bool
+check_request held stored asked force = asked == 0 && force == 0 || nat_lt held asked && nat_le stored asked
+
+-- Whether a process of this number may act: the host's own children act only while they run.
+abbrev pub may_act : Trace → ℕ → Bool
+may_act es process = nat_le process 1000000 || is_child es process

@@ -1,0 +1,101 @@
+-- What jobs are about: the lockspace, the process and the resource that their commands name.
+use Rattle.sl_trace.specs.Sessions.{Session}
+use Rattle.sl_trace.specs.Traces.{Job, Setting, Trace, job_numbered, running_jobs, starts}
+use Rattle.sl_trace.specs.declared.command.Command.TheVariants.{Acquire, AddLockspace, Ask, GetLvb, HostStatus, InqLockspace, Release, RemLockspace, RunProgram, SetLvb, Status}
+use Rattle.sl_trace.specs.declared.command.Command.{Command}
+use Rattle.sl_trace.specs.declared.command.ResourceArg.{ResourceArg}
+use Rattle.sl_words.specs.Words.{some_is}
+use Rattle.std.specs.Prelude.{Bool, Err, List, None, Ok, Option, Some, bytes_eq, false, filter, find, is_some, option_and_then, option_map, true, ℕ, ◌==◌, ◌||◌}
+
+-- The lockspace that a command names.
+abbrev pub lockspace_named : Command → Option (List ℕ)
+lockspace_named (AddLockspace a) = Some a.name
+lockspace_named (RemLockspace a) = Some a.name
+lockspace_named (InqLockspace a) = Some a.name
+lockspace_named (HostStatus a) = Some a.name
+lockspace_named (Acquire r shared p) = Some r.lockspace
+lockspace_named (Release r p) = Some r.lockspace
+lockspace_named (RunProgram r shared path) = Some r.lockspace
+lockspace_named (Ask r lver force) = Some r.lockspace
+lockspace_named (GetLvb r p) = Some r.lockspace
+lockspace_named (SetLvb r p bytes) = Some r.lockspace
+lockspace_named Status = None
+
+-- The process for which a command is given.
+abbrev pub process_named : Command → Option ℕ
+process_named (Acquire r shared p) = Some p
+process_named (Release r p) = Some p
+process_named (GetLvb r p) = Some p
+process_named (SetLvb r p bytes) = Some p
+process_named c = None
+
+-- The resource that a command is about.
+abbrev pub resource_named : Command → Option ResourceArg
+resource_named (Acquire r shared p) = Some r
+resource_named (Release r p) = Some r
+resource_named (RunProgram r shared path) = Some r
+resource_named (Ask r lver force) = Some r
+resource_named (GetLvb r p) = Some r
+resource_named (SetLvb r p bytes) = Some r
+resource_named c = None
+
+-- Whether it asks for the shared mode.
+abbrev pub wants_shared : Command → Bool
+wants_shared (Acquire r shared p) = shared
+wants_shared (RunProgram r shared path) = shared
+wants_shared c = false
+
+-- Whether it gives a resource up.
+abbrev pub is_release : Command → Bool
+is_release (Release r p) = true
+is_release c = false
+
+-- Whether it asks for a resource.
+abbrev pub is_asking_lease : Command → Bool
+is_asking_lease (Acquire r shared p) = true
+is_asking_lease (RunProgram r shared path) = true
+is_asking_lease c = false
+
+-- Whether it starts a program.
+abbrev pub is_program : Command → Bool
+is_program (RunProgram r shared path) = true
+is_program c = false
+
+-- What a job's command says, if its text says one.
+abbrev pub command_of : Job → Option Command
+command_of j = elim j.command [ Ok c ↦ Some c | Err e ↦ None ]
+
+-- Whether the job's command passes.
+abbrev pub is_command_that : (Command → Bool) → Job → Bool
+is_command_that p j = some_is p (command_of j)
+
+-- The command of the job with this number.
+abbrev pub command_numbered : Setting → Trace → ℕ → Option Command
+command_numbered st es job = option_and_then command_of (job_numbered st es job)
+
+-- The resource of the job with this number.
+abbrev pub job_resource : Setting → Trace → ℕ → Option ResourceArg
+job_resource st es job = option_and_then resource_named (command_numbered st es job)
+
+-- The running jobs that name the session's lockspace, by their numbers.
+abbrev pub jobs_of_session : Setting → Trace → Session → List Job
+jobs_of_session st es s = filter (is_command_that (λ c. some_is (λ n. bytes_eq n s.lockspace) (lockspace_named c))) (running_jobs st es)
+
+-- ---- children
+
+-- The child of a job.
+abbrev pub child_of_job : Trace → ℕ → Option ℕ
+child_of_job es job = option_map (λ p. p.1.process) (find (λ p. some_is (λ k. k == job) p.1.job) (starts es))
+
+-- The job of a child's start.
+abbrev pub job_of_start : Trace → ℕ → Option ℕ
+job_of_start es process = option_and_then (λ q. q.1.job) (find (λ q. q.1.process == process) (starts es))
+
+-- Whether the job has its grant, and waits for its child.
+abbrev pub is_granted_job : Trace → ℕ → Bool
+is_granted_job es job = is_some (child_of_job es job)
+
+-- Whether the job is for this process, or waits for this child.
+abbrev pub is_job_of_process : Trace → ℕ → Job → Bool
+is_job_of_process es process j =
+    is_command_that (λ c. some_is (λ q. q == process) (process_named c)) j || some_is (λ q. q == process) (child_of_job es j.number)

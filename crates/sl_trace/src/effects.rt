@@ -1,0 +1,159 @@
+//! What a host does in a step: the entries of its trace.
+
+use crate::input::Input;
+use crate::reply::Reply;
+use sl_sector::Rec;
+use sl_text::{FilePath, Name, Seq};
+
+/// How a resource is held.
+#[derive(Clone, Copy)]
+pub enum Mode {
+    Exclusive,
+    Shared,
+}
+
+/// What a process is sent.
+#[derive(Clone, Copy)]
+pub enum Signal {
+    Term,
+    Kill,
+}
+
+/// The steps of a joining.
+#[derive(Clone, Copy)]
+pub enum JoinStep {
+    FirstRead,
+    WatchRead,
+    DecidingRead,
+    ClaimWrite,
+    VerifyRead,
+    FirstRenewal,
+}
+
+/// The steps of work on a resource's lease.
+#[derive(Clone, Copy)]
+pub enum LeaseStep {
+    ReadArea,
+    Phase1Write,
+    Phase1Read,
+    Phase2Write,
+    Phase2Read,
+    TakeLeader,
+    SetMode,
+    FreeLeader,
+    ClearMode,
+}
+
+/// On whose account work on a lease is done.
+#[derive(Clone, Copy)]
+pub enum Work {
+    ForJob(u64),
+    Settling,
+}
+
+/// What a sector call is for. A number is that of the job which made it.
+#[derive(Clone, Copy)]
+pub enum Purpose {
+    Joining(u64, JoinStep),
+    Renewal,
+    Survey,
+    Leaving(u64),
+    Lease(Work, LeaseStep),
+    AskRead(u64),
+    AskWrite(u64),
+    SeeRequest,
+    ValueWrite(u64),
+    ValueRead(u64),
+}
+
+/// Whole sectors to read, or a record to write.
+#[derive(Clone, Copy)]
+pub enum Op {
+    ReadSectors(u32),
+    WriteRecord(Rec),
+}
+
+/// A sector call: whole sectors from an offset on, of the session with this place among the daemon's sessions.
+#[derive(Clone, Copy)]
+pub struct Call {
+    pub number: u64,
+    pub session: u64,
+    pub purpose: Purpose,
+    pub path: FilePath,
+    pub offset: u64,
+    pub op: Op,
+}
+
+/// A process begins to hold a resource, for the session with this place; a persistent holding outlives its process.
+#[derive(Clone, Copy)]
+pub struct Grant {
+    pub process: u32,
+    pub session: u64,
+    pub lockspace: Name,
+    pub resource: Name,
+    pub path: FilePath,
+    pub offset: u64,
+    pub mode: Mode,
+    pub lver: u64,
+    pub persistent: bool,
+}
+
+/// A process no longer holds a resource.
+#[derive(Clone, Copy)]
+pub struct End {
+    pub process: u32,
+    pub lockspace: Name,
+    pub resource: Name,
+    pub path: FilePath,
+    pub offset: u64,
+}
+
+/// A signal with its process.
+#[derive(Clone, Copy)]
+pub struct Sent {
+    pub process: u32,
+    pub signal: Signal,
+}
+
+/// What is done to wdmd's connections.
+#[derive(Clone, Copy)]
+pub enum Move {
+    Register(Name, u64),
+    Renew(Name, u64),
+    Unregister(Name),
+}
+
+/// A child program to start, and the job that it is for.
+#[derive(Clone, Copy)]
+pub struct Start {
+    pub process: u32,
+    pub program: FilePath,
+    pub job: Option<u64>,
+}
+
+/// A reply with its job.
+#[derive(Drop)]
+pub struct JobReply {
+    pub job: u64,
+    pub reply: Reply,
+}
+
+/// All that one step does, by classes in the order in which they are told.
+#[derive(Drop)]
+pub struct Effects {
+    pub ends: Seq<End>,
+    pub signals: Seq<Sent>,
+    pub moves: Seq<Move>,
+    pub grants: Seq<Grant>,
+    pub starts: Seq<Start>,
+    pub replies: Seq<JobReply>,
+    pub calls: Seq<Call>,
+}
+
+/// One step of a daemon.
+#[derive(Drop)]
+pub struct Entry {
+    pub reading: u64,
+    pub input: Input,
+    pub effects: Effects,
+}

@@ -1,0 +1,5 @@
+pub mod Words
+pub mod Orders
+pub mod Results
+pub mod Causes
+pub mod Bounds
