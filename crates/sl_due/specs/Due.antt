@@ -1,10 +1,10 @@
 -- What a step does: the effects that the trace so far, the reading and the input make due.
 use Rattle.sl_due.specs.DueFirst.{begin_recoveries, kills, time_outs}
 use Rattle.sl_due.specs.DueInputs.{take_input}
-use Rattle.sl_due.specs.DueWake.{finish, is_wake, last_join_call, on_wake}
+use Rattle.sl_due.specs.DueWake.{finish, is_wake, on_wake}
 use Rattle.sl_due.specs.Steps.{Step, begin_step, when}
-use Rattle.sl_trace.specs.Sessions.{leaving_job, session_of_job, sessions}
-use Rattle.sl_trace.specs.Traces.{EachEntry, IsTrace, Job, Setting, Trace, answer_to, is_done, running_jobs, spawn_answer, starts, waiting_call}
+use Rattle.sl_sessions.specs.Sessions.{calls_of, leaving_job, session_of_job, sessions}
+use Rattle.sl_trace.specs.Traces.{EachEntry, IsTrace, Job, Setting, Submitted, Trace, children, is_answered_ok, running_jobs, waiting_call}
 use Rattle.sl_trace.specs.declared.effects.Effects.{Effects}
 use Rattle.sl_trace.specs.declared.effects.Entry.{Entry}
 use Rattle.sl_trace.specs.declared.effects.JoinStep.TheVariants.{ClaimWrite, DecidingRead, FirstRead, FirstRenewal, VerifyRead, WatchRead}
@@ -13,13 +13,19 @@ use Rattle.sl_trace.specs.declared.effects.Purpose.{Purpose}
 use Rattle.sl_trace.specs.declared.input.Input.{Input}
 use Rattle.sl_words.specs.Words.{some_is}
 use Rattle.std.specs.List.{AllByRecursion, list_any}
-use Rattle.std.specs.Prelude.{Bool, IsTrue, false, is_none, is_some, true, ℕ, ◌&&◌, ◌==◌, ◌||◌, ◌≡◌}
+use Rattle.std.specs.Prelude.{Bool, IsTrue, List, false, is_none, is_some, true, [], ℕ, ◌&&◌, ◌==◌, ◌||◌, ◌∷◌, ◌≡◌}
 
--- A step: what comes before the input, the input, on a wake what is due by time, and what comes last.
+-- What a step does before its input.
+abbrev pub before_input : Step → Step
+before_input x = time_outs (kills (begin_recoveries x))
+
+-- What comes after the input: on a wake what is due by time, and what comes last.
+abbrev pub after_input : Input → Step → Step
+after_input i x = finish (when (is_wake i) on_wake x)
+
+-- A step: what comes before the input, the input, and what comes after it.
 abbrev pub due_step : Setting → Trace → ℕ → Input → Step
-due_step st past reading i =
-    let begun : Step = take_input i (time_outs (kills (begin_recoveries (begin_step st past reading)))) in
-    finish (when (is_wake i) on_wake begun)
+due_step st past reading i = after_input i (take_input i (before_input (begin_step st past reading)))
 
 -- The effects that are due.
 abbrev pub due : Setting → Trace → ℕ → Input → Effects
@@ -43,14 +49,18 @@ is_waiting_step p =
       | _ ↦ false
     ]
 
+-- Whether a joining's newest call was answered ok, and a wake is waited for.
+abbrev pub is_waiting_call : List Submitted → Bool
+is_waiting_call [] = false
+is_waiting_call (m ∷ ms) = is_waiting_step m.call.purpose && is_answered_ok m
+
 -- Whether the job is a joining that waits for a moment.
 abbrev pub is_waiting_joining : Setting → Trace → Job → Bool
-is_waiting_joining st es j =
-    some_is (λ s. some_is (λ c. is_waiting_step c.call.purpose && is_done (answer_to es c.call.number)) (last_join_call es s)) (session_of_job st es j.number)
+is_waiting_joining st es j = some_is (λ s. is_waiting_call (calls_of es s)) (session_of_job st es j.number)
 
 -- Whether a start of the job is unanswered.
 abbrev pub has_open_start : Trace → Job → Bool
-has_open_start es j = list_any (λ p. some_is (λ k. k == j.number) p.1.job && is_none (spawn_answer es p.1.process)) (starts es)
+has_open_start es j = list_any (λ k. some_is (λ n. n == j.number) k.job && is_none k.answer) (children es)
 
 -- Whether the job is a leaving.
 abbrev pub is_leaving_job : Setting → Trace → Job → Bool

@@ -1,53 +1,76 @@
--- What a command makes due: its refusals in order, then its reply or its first call.
+-- What a command makes due: it is decided as data on the trace before its line, its refusals in order; then the decision is carried out.
 use Rattle.sl_area.specs.Places.{delta_offset, value_offset}
 use Rattle.sl_due.specs.DueFirst.{stop_session}
-use Rattle.sl_due.specs.DueLease.{grant_for, read_area, with_block, write_block, write_leader}
-use Rattle.sl_due.specs.Steps.{Step, add_call_at, add_call_of, add_end, add_reply, seen, when}
+use Rattle.sl_due.specs.DueLease.{carry_lease, grant_for, read_area}
+use Rattle.sl_due.specs.Steps.{Step, add_call_at, add_call_of, add_end, add_reply, seen, with_input}
+use Rattle.sl_leases.specs.Counts.{busy_process, limit_met, may_act, most_lockspaces, next_value_seq, pending_call}
+use Rattle.sl_leases.specs.LeaseWork.{lease_place, release_next}
+use Rattle.sl_leases.specs.Leases.{holdings_on, known, shared_on, spot_of}
 use Rattle.sl_sector.specs.declared.sector.Rec.TheVariants.{ValueIs}
-use Rattle.sl_trace.specs.Ballots.{moded_block}
+use Rattle.sl_sector.specs.declared.sector.ValueRec.{ValueRec}
+use Rattle.sl_sessions.specs.Sessions.{Session, generation_of, is_active, is_joined, is_session_arg, last_renewal, last_seq, present_sessions, session_named, sessions}
+use Rattle.sl_sessions.specs.Watching.{states_seen}
 use Rattle.sl_trace.specs.Commands.{command_in}
-use Rattle.sl_trace.specs.Counts.{busy_process, limit_met, may_act, most_lockspaces, next_value_seq, pending_call}
-use Rattle.sl_trace.specs.Jobs.{is_program, wants_shared}
-use Rattle.sl_trace.specs.Leases.{Spot, holdings_on, spot_of}
-use Rattle.sl_trace.specs.Sessions.{Session, generation_of, is_active, is_joined, is_session_arg, last_renewal, last_seq, present_sessions, session_named, sessions}
-use Rattle.sl_trace.specs.Traces.{Setting, Trace, end_of, is_shared, next_job}
-use Rattle.sl_trace.specs.Watching.{states_seen}
+use Rattle.sl_trace.specs.Traces.{Setting, Trace, end_of, is_shared, next_job, spot_of_grant}
 use Rattle.sl_trace.specs.declared.command.Command.TheVariants.{Acquire, AddLockspace, Ask, GetLvb, HostStatus, InqLockspace, Release, RemLockspace, RunProgram, SetLvb, Status}
 use Rattle.sl_trace.specs.declared.command.Command.{Command}
 use Rattle.sl_trace.specs.declared.command.LockspaceArg.{LockspaceArg}
 use Rattle.sl_trace.specs.declared.command.ResourceArg.{ResourceArg}
 use Rattle.sl_trace.specs.declared.effects.Grant.{Grant}
 use Rattle.sl_trace.specs.declared.effects.JoinStep.TheVariants.{FirstRead}
-use Rattle.sl_trace.specs.declared.effects.LeaseStep.TheVariants.{ClearMode, FreeLeader}
-use Rattle.sl_trace.specs.declared.effects.Mode.TheVariants.{Exclusive, Shared}
+use Rattle.sl_trace.specs.declared.effects.LeaseStep.TheVariants.{ReadArea}
+use Rattle.sl_trace.specs.declared.effects.Mode.TheVariants.{Shared}
 use Rattle.sl_trace.specs.declared.effects.Op.TheVariants.{ReadSectors, WriteRecord}
 use Rattle.sl_trace.specs.declared.effects.Purpose.TheVariants.{AskRead, Joining, ValueRead, ValueWrite}
+use Rattle.sl_trace.specs.declared.effects.Spot.{Spot}
 use Rattle.sl_trace.specs.declared.effects.Work.TheVariants.{ForJob}
+use Rattle.sl_trace.specs.declared.input.Input.TheVariants.{Line}
 use Rattle.sl_trace.specs.declared.reply.Limited.TheVariants.{Lockspaces, Seq as SeqLimit}
 use Rattle.sl_trace.specs.declared.reply.Reply.TheVariants.{BadCommand as Misread, Busy, Done, Generation, Hosts, Joined, Joining as StillJoining, Limit as LimitReached, NoProcess, NoSession, NotHeld, Pending, Recovering, Sessions}
 use Rattle.sl_trace.specs.declared.reply.Reply.{Reply}
 use Rattle.sl_trace.specs.declared.reply.SessionOf.{SessionOf}
 use Rattle.sl_words.specs.Bounds.{is_number}
+use Rattle.sl_words.specs.Results.{◌>>=◌}
 use Rattle.sl_words.specs.Words.{choose}
-use Rattle.std.specs.Option.{option_or}
-use Rattle.std.specs.Prelude.{Bool, Err, List, None, Ok, Option, Some, false, filter, find, if◌then◌else◌, is_none, is_some, length, map, nat_le, not, option_and_then, option_map, true, [], ℕ, ◌&&◌, ◌+◌, ◌==◌, ◌∷◌}
+use Rattle.std.specs.Option.{option_map_or, option_or}
+use Rattle.std.specs.Prelude.{Bool, Err, List, None, Ok, Option, Result, Some, false, filter, find, if◌then◌else◌, is_none, length, map, nat_le, not, option_and_then, option_map, true, [], ℕ, ◌&&◌, ◌+◌, ◌==◌, ◌∷◌}
 
--- What a command does where nothing refuses it.
-abbrev pub Refusals : Type 0
-Refusals = List (Option Reply)
+-- What a command comes to.
+pub data Act : Type 0 where
+  -- it is answered at once
+  Replies : Reply → Act
+  -- a session of this number begins with the read of its id's sector
+  Joins : ℕ → LockspaceArg → Act
+  -- the session is left
+  Leaves : Session → Act
+  -- work on the lease begins with a read of the area
+  Reads_area : Session → ResourceArg → Act
+  -- granted at once beside a shared holding, under its instance
+  Shares : Session → ℕ → Act
+  -- the holding ends
+  Gives_up : Session → Grant → Act
+  -- a request begins with a read of leader and request
+  Asks : Session → ResourceArg → Act
+  -- the value is written
+  Sets_value : Session → Spot → ValueRec → Act
+  -- the value is read
+  Gets_value : Session → Spot → Act
 
--- The first refusal that holds.
-abbrev pub first_refusal : Refusals → Option Reply
-first_refusal rs = option_and_then (λ r. r) (find is_some rs)
+-- ---- refusals
 
--- The reply, where something refuses.
-abbrev pub unless_refused : ℕ → Refusals → (Step → Step) → Step → Step
-unless_refused j rs f x = elim (first_refusal rs) [ Some r ↦ add_reply j r x | None ↦ f x ]
+-- The first refusal that holds, else what the command comes to.
+abbrev pub unless_refused : List (Option Reply) → Act → Act
+unless_refused [] act = act
+unless_refused (r ∷ rs) act = elim r [ Some why ↦ Replies why | None ↦ unless_refused rs act ]
 
--- What the session's state refuses: none, still joining, in recovery or leaving.
-abbrev pub session_refusal : Setting → Trace → Option Session → Option Reply
-session_refusal st es None = Some NoSession
-session_refusal st es (Some s) =
+-- Where there is a session.
+abbrev pub with_session : Option Session → (Session → Act) → Act
+with_session None f = Replies NoSession
+with_session (Some s) f = f s
+
+-- What the session's state refuses: still joining, in recovery or leaving.
+abbrev pub session_refusal : Setting → Trace → Session → Option Reply
+session_refusal st es s =
     if not (is_joined es s) then Some StillJoining
     else choose (not (is_active st es s)) (Recovering (last_renewal st es s))
 
@@ -71,137 +94,132 @@ pending_refusal st es at = option_map (λ n. Pending n) (pending_call st es at)
 abbrev pub limit_refusal : Setting → Trace → Session → Spot → Bool → Option Reply
 limit_refusal st es s at program = option_map (λ l. LimitReached l) (limit_met st es s at program)
 
--- Begins the lease's work, or grants at once where the session has a shared holding.
-abbrev pub acquire_now : Session → Spot → ℕ → Command → Step → Step
-acquire_now s at j c x =
-    elim (find (λ g. is_shared g.mode) (holdings_on (seen x) s at)) [
-      | Some g ↦ elim (wants_shared c) [ true ↦ grant_for s j c Shared g.lver x | false ↦ x ]
-      | None ↦ read_area s at (ForJob j) x
-    ]
+-- ---- commands on a resource
 
--- Where there is a session.
-abbrev pub with_session : Option Session → (Session → Step → Step) → Step → Step
-with_session None f x = x
-with_session (Some s) f x = f s x
+-- Work on the lease begins, or the grant is given at once where the session has a shared holding.
+abbrev pub acquiring : Trace → Session → ResourceArg → Bool → Act
+acquiring es s r shared =
+    elim shared [ false ↦ Reads_area s r | true ↦ elim (shared_on es s (spot_of r)) [ None ↦ Reads_area s r | Some g ↦ Shares s g.lver ] ]
 
--- An acquire or a command: its refusals in order, then its work.
-abbrev pub on_acquire : ℕ → ResourceArg → Option ℕ → Bool → Command → Trace → Step → Step
-on_acquire j r asking shared c es x =
-    let at : Spot = spot_of r in
-    with_session (session_named x.setting es r.lockspace) (λ s.
-    unless_refused j (session_refusal x.setting es (Some s)
+-- An acquire of a process, or a command's, whose process comes later.
+abbrev pub decide_acquire : Setting → Trace → ResourceArg → Option ℕ → Bool → Bool → Act
+decide_acquire st es r asking shared program =
+    with_session (session_named st es r.lockspace) (λ s.
+    unless_refused (session_refusal st es s
     ∷ option_and_then (process_refusal es) asking
-    ∷ busy_refusal es at asking shared
-    ∷ pending_refusal x.setting es at
-    ∷ limit_refusal x.setting es s at (is_program c) ∷ []) (acquire_now s at j c))
-    (when (is_none (session_named x.setting es r.lockspace)) (add_reply j NoSession) x)
+    ∷ busy_refusal es (spot_of r) asking shared
+    ∷ pending_refusal st es (spot_of r)
+    ∷ limit_refusal st es s (spot_of r) program ∷ []) (acquiring es s r shared))
 
--- Ends the holding. The last under an exclusive lease frees the leader, the last under a shared one clears the mode.
-abbrev pub release_now : Session → Spot → ℕ → Grant → Step → Step
-release_now s at j g x =
-    let y : Step = add_end (end_of g) x in
-    elim (holdings_on (seen y) s at) [
-      | g' ∷ gs ↦ add_reply j Done y
-      | [] ↦ elim g.mode [
-        | Exclusive ↦ write_leader s at (ForJob j) FreeLeader false g.lver y
-        | Shared ↦ with_block s at (λ own. write_block s at (ForJob j) ClearMode (moded_block own false 0)) y
-      ]
-    ]
+-- The process's holding of the resource, in a mode that serves.
+abbrev pub holding_of : Trace → Session → Spot → ℕ → (Grant → Bool) → Option Grant
+holding_of es s at p serves = find (λ g. g.process == p && serves g) (holdings_on es s at)
 
 -- A command of a process that holds the resource, in a mode that serves.
-abbrev pub for_holder : ℕ → ResourceArg → ℕ → (Grant → Bool) → Trace → (Session → Grant → Step → Step) → Step → Step
-for_holder j r p serves es f x =
-    let at : Spot = spot_of r in
-    elim (session_named x.setting es r.lockspace) [
-      | None ↦ add_reply j NoSession x
-      | Some s ↦
-          let held : Option Grant = find (λ g. g.process == p && serves g) (holdings_on es s at) in
-          unless_refused j (session_refusal x.setting es (Some s)
-          ∷ process_refusal es p
-          ∷ choose (is_none held) NotHeld
-          ∷ pending_refusal x.setting es at ∷ []) (λ y. elim held [ None ↦ y | Some g ↦ f s g y ]) x
-    ]
+abbrev pub decide_holder : Setting → Trace → ResourceArg → ℕ → (Grant → Bool) → (Session → Grant → Act) → Act
+decide_holder st es r p serves f =
+    with_session (session_named st es r.lockspace) (λ s.
+    unless_refused (session_refusal st es s
+    ∷ process_refusal es p
+    ∷ choose (is_none (holding_of es s (spot_of r) p serves)) NotHeld
+    ∷ pending_refusal st es (spot_of r) ∷ []) (option_map_or (f s) (holding_of es s (spot_of r) p serves) (Replies NotHeld)))
 
--- The value is written, with the next seq.
-abbrev pub set_value : ℕ → List ℕ → Spot → Session → Grant → Step → Step
-set_value j bytes at s g x =
-    let seq : ℕ = next_value_seq x.setting (seen x) s at g.lver in
+-- The value is written with the next seq, unless that would pass its limit.
+abbrev pub setting_value : Session → Spot → Grant → ℕ → List ℕ → Act
+setting_value s at g seq bytes =
     elim (is_number seq) [
-      | false ↦ add_reply j (LimitReached SeqLimit) x
-      | true ↦ add_call_at s at.path (ValueWrite j) (value_offset x.setting.layout at.base)
-          (WriteRecord (ValueIs (record { host = s.id; lver = g.lver; seq = seq; bytes = bytes }))) x
+      | false ↦ Replies (LimitReached SeqLimit)
+      | true ↦ Sets_value s at (record { host = s.id; lver = g.lver; seq = seq; bytes = bytes })
     ]
 
--- The value is read.
-abbrev pub get_value : ℕ → Spot → Session → Grant → Step → Step
-get_value j at s g x = add_call_at s at.path (ValueRead j) (value_offset x.setting.layout at.base) (ReadSectors 1) x
+-- A request.
+abbrev pub decide_ask : Setting → Trace → ResourceArg → Act
+decide_ask st es r =
+    with_session (session_named st es r.lockspace) (λ s.
+    unless_refused (session_refusal st es s ∷ pending_refusal st es (spot_of r) ∷ []) (Asks s r))
 
--- A request begins with a read of leader and request.
-abbrev pub ask_now : ℕ → ResourceArg → Trace → Step → Step
-ask_now j r es x =
-    elim (session_named x.setting es r.lockspace) [
-      | None ↦ add_reply j NoSession x
-      | Some s ↦ unless_refused j (session_refusal x.setting es (Some s) ∷ pending_refusal x.setting es (spot_of r) ∷ [])
-          (add_call_at s r.path (AskRead j) r.offset (ReadSectors 2)) x
-    ]
+-- ---- commands on a lockspace
 
 -- What an `add_lockspace` is refused for by the session of that name.
 abbrev pub joined_refusal : Setting → Trace → Option Session → Option Reply
 joined_refusal st es None = None
-joined_refusal st es (Some s) = option_or (session_refusal st es (Some s)) (Some (Joined (generation_of es s)))
-
--- The session begins with the read of its id's sector.
-abbrev pub begin_joining : ℕ → LockspaceArg → Trace → Step → Step
-begin_joining j a es x =
-    add_call_of (length (sessions x.setting es)) a.path (Joining j FirstRead) (delta_offset x.setting.layout a.offset a.id) (ReadSectors 1) x
+joined_refusal st es (Some s) = option_or (session_refusal st es s) (Some (Joined (generation_of es s)))
 
 -- An `add_lockspace`.
-abbrev pub on_add : ℕ → LockspaceArg → Trace → Step → Step
-on_add j a es x =
-    unless_refused j (joined_refusal x.setting es (session_named x.setting es a.name)
-    ∷ choose (nat_le most_lockspaces (length (present_sessions x.setting es))) (LimitReached Lockspaces) ∷ []) (begin_joining j a es) x
+abbrev pub decide_add : Setting → Trace → LockspaceArg → Act
+decide_add st es a =
+    unless_refused (joined_refusal st es (session_named st es a.name)
+    ∷ choose (nat_le most_lockspaces (length (present_sessions st es))) (LimitReached Lockspaces) ∷ []) (Joins (length (sessions st es)) a)
 
--- Seq numbers are left for the free.
+-- No seq is left for the free.
 abbrev pub leave_refusal : Trace → Session → Option Reply
 leave_refusal es s = choose (not (is_number (last_seq es s + 1))) (LimitReached SeqLimit)
 
--- A `rem_lockspace`: the leaving begins.
-abbrev pub on_leave : ℕ → LockspaceArg → Trace → Step → Step
-on_leave j a es x =
-    elim (matching_session x.setting es a) [
-      | None ↦ add_reply j NoSession x
-      | Some s ↦ unless_refused j (session_refusal x.setting es (Some s) ∷ leave_refusal es s ∷ []) (stop_session s (Some j)) x
-    ]
+-- A `rem_lockspace`.
+abbrev pub decide_leave : Setting → Trace → LockspaceArg → Act
+decide_leave st es a =
+    with_session (matching_session st es a) (λ s. unless_refused (session_refusal st es s ∷ leave_refusal es s ∷ []) (Leaves s))
 
 -- A command that only tells of a session.
-abbrev pub on_report : ℕ → LockspaceArg → Trace → (Session → Reply) → Step → Step
-on_report j a es answer x =
-    elim (matching_session x.setting es a) [
-      | None ↦ add_reply j NoSession x
-      | Some s ↦ unless_refused j (session_refusal x.setting es (Some s) ∷ []) (add_reply j (answer s)) x
-    ]
+abbrev pub decide_report : Setting → Trace → LockspaceArg → (Session → Reply) → Act
+decide_report st es a answer =
+    with_session (matching_session st es a) (λ s. unless_refused (session_refusal st es s ∷ []) (Replies (answer s)))
 
 -- The joined sessions, by lockspace name.
 abbrev pub session_words : Setting → Trace → List SessionOf
 session_words st es =
     map (λ s. record { lockspace = s.lockspace; id = s.id; generation = generation_of es s }) (filter (is_joined es) (present_sessions st es))
 
--- Es is the trace before the command is looked at.
-abbrev pub on_command : ℕ → Command → Trace → Step → Step
-on_command j (AddLockspace a) es x = on_add j a es x
-on_command j (RemLockspace a) es x = on_leave j a es x
-on_command j (InqLockspace a) es x = on_report j a es (λ s. Generation (generation_of es s)) x
-on_command j (HostStatus a) es x = on_report j a es (λ s. Hosts (states_seen x.setting es s x.reading)) x
-on_command j (Acquire r shared p) es x = on_acquire j r (Some p) shared (Acquire r shared p) es x
-on_command j (RunProgram r shared path) es x = on_acquire j r None shared (RunProgram r shared path) es x
-on_command j (Release r p) es x = for_holder j r p (λ g. true) es (λ s g. release_now s (spot_of r) j g) x
-on_command j (Ask r lver how) es x = ask_now j r es x
-on_command j (GetLvb r p) es x = for_holder j r p (λ g. true) es (get_value j (spot_of r)) x
-on_command j (SetLvb r p bytes) es x = for_holder j r p (λ g. not (is_shared g.mode)) es (set_value j bytes (spot_of r)) x
-on_command j Status es x = add_reply j (Sessions (session_words x.setting es)) x
+-- ---- all commands
 
--- A command line.
-abbrev pub on_line : List ℕ → Trace → Step → Step
-on_line text es x =
-    let j : ℕ = next_job x.setting es in
-    elim (command_in x.setting.layout text) [ Err column ↦ add_reply j (Misread column) x | Ok c ↦ on_command j c es x ]
+-- What a command comes to at this reading, on the trace before its line.
+unfoldable pub decided : Setting → Trace → ℕ → Command → Act
+decided st es now (AddLockspace a) = decide_add st es a
+decided st es now (RemLockspace a) = decide_leave st es a
+decided st es now (InqLockspace a) = decide_report st es a (λ s. Generation (generation_of es s))
+decided st es now (HostStatus a) = decide_report st es a (λ s. Hosts (states_seen st es s now))
+decided st es now (Acquire r shared p) = decide_acquire st es r (Some p) shared false
+decided st es now (RunProgram r shared path) = decide_acquire st es r None shared true
+decided st es now (Release r p) = decide_holder st es r p (λ g. true) (λ s g. Gives_up s g)
+decided st es now (Ask r lver how) = decide_ask st es r
+decided st es now (GetLvb r p) = decide_holder st es r p (λ g. true) (λ s g. Gets_value s (spot_of r))
+decided st es now (SetLvb r p bytes) =
+    decide_holder st es r p (λ g. not (is_shared g.mode)) (λ s g. setting_value s (spot_of r) g (next_value_seq st es s (spot_of r) g.lver) bytes)
+decided st es now Status = Replies (Sessions (session_words st es))
+
+-- ---- carried out
+
+-- After a holding has ended: where it was the last under its lease the area is written, and the reply follows that write.
+abbrev pub after_end : Session → Spot → ℕ → Grant → Step → Step
+after_end s at j g x =
+    elim (holdings_on (seen x) s at) [
+      | h ∷ hs ↦ add_reply j Done x
+      | [] ↦ carry_lease s at (ForJob j) (release_next (lease_place x.setting s) (known x.setting (seen x) s at) g.mode g.lver) x
+    ]
+
+-- What the command of the job came to is done.
+unfoldable pub carry_act : ℕ → Command → Act → Step → Step
+carry_act j c (Replies r) x = add_reply j r x
+carry_act j c (Joins number a) x =
+    add_call_of number a.path (Joining j FirstRead) (delta_offset x.setting.layout a.offset a.id) (ReadSectors 1) x
+carry_act j c (Leaves s) x = stop_session s (Some j) x
+carry_act j c (Reads_area s r) x = read_area s (spot_of r) (ForJob j) (ReadArea r.name) x
+carry_act j c (Shares s lver) x = grant_for s j c Shared lver x
+carry_act j c (Gives_up s g) x = after_end s (spot_of_grant g) j g (add_end (end_of g) x)
+carry_act j c (Asks s r) x = add_call_at s r.path (AskRead j) r.offset (ReadSectors 2) x
+carry_act j c (Sets_value s at v) x =
+    add_call_at s at.path (ValueWrite j) (value_offset x.setting.layout at.base) (WriteRecord (ValueIs v)) x
+carry_act j c (Gets_value s at) x = add_call_at s at.path (ValueRead j) (value_offset x.setting.layout at.base) (ReadSectors 1) x
+
+-- The command, or the column where its text fails, once the step has its line.
+abbrev pub carry_line : ℕ → Result (Command × Act) ℕ → Step → Step
+carry_line j (Ok p) x = carry_act j p.0 p.1 x
+carry_line j (Err column) x = add_reply j (Misread column) x
+
+-- What a text comes to.
+abbrev pub decided_text : Setting → Trace → ℕ → List ℕ → Result (Command × Act) ℕ
+decided_text st es now text = command_in st.layout text >>= (λ c. Ok (c, decided st es now c))
+
+-- A command line: decided before it is seen, then carried out.
+abbrev pub on_line : List ℕ → Step → Step
+on_line text x = carry_line (next_job x.setting (seen x)) (decided_text x.setting (seen x) x.reading text) (with_input (Line text) x)

@@ -1,66 +1,66 @@
 -- What a step does before its input: recovery that is due, kills whose grace has passed, calls that took too long.
 use Rattle.sl_due.specs.Steps.{Step, add_move, add_reply, add_signal, for_each, seen, when, with_some}
-use Rattle.sl_time.specs.Times.{fail}
+use Rattle.sl_leases.specs.Jobs.{jobs_of_session}
+use Rattle.sl_sessions.specs.Sessions.{Begun, Session, has_open_write, holders_of, is_joined, last_renewal, leaving_of, present_sessions, recovery_of, refused_after, session_of_job}
 use Rattle.sl_trace.specs.Connections.{is_registered}
-use Rattle.sl_trace.specs.Jobs.{jobs_of_session}
-use Rattle.sl_trace.specs.Sessions.{Session, has_open_write, holders_of, is_joined, last_renewal, leaving_job, present_sessions, recovery_entry, refused_after, session_of_job}
-use Rattle.sl_trace.specs.Traces.{Job, Setting, Trace, reading_at, running_jobs, waiting_call}
+use Rattle.sl_trace.specs.Traces.{Job, Setting, Submitted, Trace, newest_reading, running_jobs, waiting_call}
 use Rattle.sl_trace.specs.declared.effects.Move.TheVariants.{Unregister}
 use Rattle.sl_trace.specs.declared.effects.Signal.TheVariants.{Kill, Term}
+use Rattle.sl_trace.specs.declared.effects.Signal.{Signal}
 use Rattle.sl_trace.specs.declared.reply.Reply.TheVariants.{IoTimeout, Recovering}
 use Rattle.sl_trace.specs.declared.reply.Reply.{Reply}
 use Rattle.sl_words.specs.Words.{some_is}
-use Rattle.std.specs.Prelude.{Bool, List, None, Option, Some, false, filter, if◌then◌else◌, is_none, is_some, length, nat_le, not, option_map, [], ℕ, ◌&&◌, ◌+◌, ◌==◌, ◌||◌, ◌∷◌}
+use Rattle.std.specs.Prelude.{Bool, List, None, Option, false, filter, is_some, length, nat_le, nat_lt, not, [], ℕ, ◌&&◌, ◌+◌, ◌==◌, ◌||◌, ◌∷◌}
 
--- Each holder is signalled term, by number, and each running job of the session but `kept` is refused, by number.
-abbrev pub stop_session : Session → Option ℕ → Step → Step
-stop_session s kept x =
+-- Each holder is signalled term, by number.
+abbrev pub signal_holders : Signal → Session → Step → Step
+signal_holders signal s x = for_each (holders_of (seen x) s) (λ p. add_signal p signal) x
+
+-- Each running job of the session but `kept` is refused, by number.
+abbrev pub refuse_jobs : Session → Option ℕ → Step → Step
+refuse_jobs s kept x =
     for_each (filter (λ j. not (some_is (λ k. k == j.number) kept)) (jobs_of_session x.setting (seen x) s))
-    (λ j. add_reply j.number (Recovering (last_renewal x.setting (seen x) s)))
-    (for_each (holders_of (seen x) s) (λ p. add_signal p Term) x)
+    (λ j. add_reply j.number (Recovering (last_renewal x.setting (seen x) s))) x
 
--- Recovery of a session begins where fail has passed since its last renewal.
+-- A session is stopped: its holders are signalled, its jobs refused.
+abbrev pub stop_session : Session → Option ℕ → Step → Step
+stop_session s kept x = refuse_jobs s kept (signal_holders Term s x)
+
+-- Whether a recovery or a leaving began in the newest entry.
+abbrev pub begins_now : Trace → Option Begun → Bool
+begins_now es begun = some_is (λ b. b.at + 1 == length es) begun
+
+-- A session is stopped whose recovery begins in this step; at the head of a step that is by time alone.
 abbrev pub begin_recovery : Session → Step → Step
-begin_recovery s x =
-    when (is_joined x.past s && is_none (recovery_entry x.setting x.past s) && nat_le (last_renewal x.setting x.past s + fail x.setting.timing) x.reading)
-    (stop_session s None) x
+begin_recovery s x = when (begins_now (seen x) (recovery_of x.setting (seen x) s)) (stop_session s None) x
 
 -- Of all sessions, by lockspace name.
 abbrev pub begin_recoveries : Step → Step
-begin_recoveries x = for_each (present_sessions x.setting x.past) begin_recovery x
+begin_recoveries x = for_each (present_sessions x.setting (seen x)) begin_recovery x
 
--- The start of recovery: the first entry at which its kills may come, and its reading. One that begins by time does so at the
--- head of its step, so with a grace of 0 its kills come in that step; one that begins in the input leaves them to the next.
-abbrev pub recovery_start : Setting → Trace → Session → Option (ℕ × ℕ)
-recovery_start st es s =
-    option_map (λ i. ((if nat_le (last_renewal st es s + fail st.timing) (reading_at es i) then i else i + 1), reading_at es i)) (recovery_entry st es s)
+-- Whether the newest entry is the first, from the start's on, whose reading is at least this. (Readings never fall.)
+abbrev pub is_first_at : ℕ → ℕ → Trace → Bool
+is_first_at from reading [] = false
+is_first_at from reading (e ∷ es) =
+    nat_le from (length es) && nat_le reading e.reading && not (nat_lt from (length es) && nat_le reading (newest_reading es))
 
--- The start of a leaving, likewise.
-abbrev pub leaving_start : Setting → Trace → Session → Option (ℕ × ℕ)
-leaving_start st es s = option_map (λ j. (j.at + 1, j.reading)) (leaving_job st es s)
+-- Whether the kills of a recovery or a leaving are due in the newest entry: at the first whose reading is grace above its start's.
+abbrev pub is_kill_due : ℕ → Trace → Option Begun → Bool
+is_kill_due grace es begun = some_is (λ b. is_first_at b.kills_from (b.reading + grace) es) begun
 
--- Whether an entry before the newest, from this one on, has a reading of at least this.
-abbrev pub is_past : ℕ → ℕ → Trace → Bool
-is_past from reading [] = false
-is_past from reading (e ∷ es) = nat_le from (length es) && nat_le reading e.reading || is_past from reading es
+-- Whether the session's holders are to be killed: a leaving and a recovery that began in it each have a list of kills; a process that
+-- is due in both is signalled once.
+abbrev pub kills_holders : Setting → Trace → Session → Bool
+kills_holders st es s =
+    is_joined es s && (is_kill_due st.grace es (recovery_of st es s) || is_kill_due st.grace es (leaving_of st es s))
 
--- Whether the newest entry is the first, from the start's on, whose reading is grace above the start's.
-abbrev pub is_kill_due : ℕ → Trace → Option (ℕ × ℕ) → Bool
-is_kill_due grace [] start = false
-is_kill_due grace (e ∷ es) None = false
-is_kill_due grace (e ∷ es) (Some p) =
-    nat_le p.0 (length es) && nat_le (p.1 + grace) e.reading && not (is_past p.0 (p.1 + grace) es)
-
--- A leaving and a recovery that began in it each have a list of kills; each holder still there is signalled.
+-- Each holder still there is signalled.
 abbrev pub kill_holders : Session → Step → Step
-kill_holders s x =
-    when (is_joined (seen x) s && (is_kill_due x.setting.grace (seen x) (recovery_start x.setting (seen x) s)
-    || is_kill_due x.setting.grace (seen x) (leaving_start x.setting (seen x) s)))
-    (for_each (holders_of (seen x) s) (λ p. add_signal p Kill)) x
+kill_holders s x = when (kills_holders x.setting (seen x) s) (signal_holders Kill s) x
 
 -- Of all sessions, by lockspace name.
 abbrev pub kills : Step → Step
-kills x = for_each (present_sessions x.setting x.past) kill_holders x
+kills x = for_each (present_sessions x.setting (seen x)) kill_holders x
 
 -- A connection that stands is removed.
 abbrev pub remove_connection : List ℕ → Step → Step
@@ -72,13 +72,17 @@ remove_of_refused s x = when (is_some (refused_after (seen x) s) && not (has_ope
 
 -- A job is refused, and with it a joining.
 abbrev pub refuse : ℕ → Reply → Step → Step
-refuse job r x = with_some (session_of_job x.setting x.past job) remove_of_refused (add_reply job r x)
+refuse job r x = with_some (session_of_job x.setting (seen x) job) remove_of_refused (add_reply job r x)
 
--- A job whose call is unanswered since io or longer is refused; the call stays outstanding.
+-- Whether a call has been unanswered for `io` or longer.
+abbrev pub is_overdue : Setting → ℕ → Submitted → Bool
+is_overdue st now m = nat_le (m.reading + st.timing.io) now
+
+-- A job whose call is overdue is refused; the call stays outstanding.
 abbrev pub time_out : Job → Step → Step
 time_out j x =
-    with_some (waiting_call (seen x) j.number) (λ c.
-    when (nat_le (c.reading + x.setting.timing.io) x.reading) (refuse j.number (IoTimeout c.call.number c.reading x.reading))) x
+    with_some (waiting_call (seen x) j.number) (λ m.
+    when (is_overdue x.setting x.reading m) (refuse j.number (IoTimeout m.call.number m.reading x.reading))) x
 
 -- Of all jobs, by number.
 abbrev pub time_outs : Step → Step

@@ -2,12 +2,13 @@
 use Rattle.sl_due.specs.DueAnswers.{after_answer}
 use Rattle.sl_due.specs.DueCommands.{on_line}
 use Rattle.sl_due.specs.Steps.{Step, add_end, add_reply, for_each, seen, when, with_input}
-use Rattle.sl_trace.specs.Jobs.{is_job_of_process, job_of_start}
+use Rattle.sl_leases.specs.Jobs.{is_job_of_process, job_of_start}
 use Rattle.sl_trace.specs.Traces.{Trace, end_of, holdings, is_running, running_jobs}
 use Rattle.sl_trace.specs.declared.input.Input.TheVariants.{Answer as Told, Exit, Line, Spawned, Wake}
 use Rattle.sl_trace.specs.declared.input.Input.{Input}
 use Rattle.sl_trace.specs.declared.reply.Reply.TheVariants.{NoProcess, SpawnFault, Started}
 use Rattle.sl_trace.specs.declared.reply.Reply.{Reply}
+use Rattle.std.specs.Option.{option_map_or}
 use Rattle.std.specs.Prelude.{Bool, None, Option, Some, false, filter, find, true, ℕ, ◌==◌}
 
 -- ---- exits and starts
@@ -16,14 +17,17 @@ use Rattle.std.specs.Prelude.{Bool, None, Option, Some, false, filter, find, tru
 abbrev pub end_holdings : ℕ → Step → Step
 end_holdings p x = for_each (filter (λ g. g.process == p) (holdings (seen x))) (λ g. add_end (end_of g)) x
 
--- A process has exited: its holdings end, its running jobs are refused.
+-- The running jobs of the process, and those that wait for it, are refused.
+abbrev pub refuse_jobs_of : ℕ → Step → Step
+refuse_jobs_of p x = for_each (filter (is_job_of_process (seen x) p) (running_jobs x.setting (seen x))) (λ j. add_reply j.number (NoProcess p)) x
+
+-- A process has exited: its holdings end, its jobs are refused.
 abbrev pub on_exit : ℕ → Step → Step
-on_exit p x =
-    for_each (filter (is_job_of_process (seen x) p) (running_jobs x.setting (seen x))) (λ j. add_reply j.number (NoProcess p)) (end_holdings p x)
+on_exit p x = refuse_jobs_of p (end_holdings p x)
 
 -- The reply to a command whose child was started.
 abbrev pub started_reply : Trace → ℕ → Reply
-started_reply es p = elim (find (λ g. g.process == p) (holdings es)) [ None ↦ Started 0 p | Some g ↦ Started g.lver p ]
+started_reply es p = Started (option_map_or (λ g. g.lver) (find (λ g. g.process == p) (holdings es)) 0) p
 
 -- The reply, where the job still runs.
 abbrev pub when_running : Option ℕ → Reply → Step → Step
@@ -37,9 +41,9 @@ on_spawned p false x = when_running (job_of_start (seen x) p) SpawnFault (end_ho
 
 -- ---- the input
 
--- What the input makes due.
+-- What the input makes due; a wake is looked at afterwards.
 abbrev pub take_input : Input → Step → Step
-take_input (Line text) x = on_line text (seen x) (with_input (Line text) x)
+take_input (Line text) x = on_line text x
 take_input (Told call answer) x = after_answer call answer (with_input (Told call answer) x)
 take_input (Exit p) x = on_exit p (with_input (Exit p) x)
 take_input (Spawned p ok) x = on_spawned p ok (with_input (Spawned p ok) x)

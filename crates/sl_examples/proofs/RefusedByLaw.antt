@@ -1,34 +1,35 @@
 -- The same of the laws themselves, on literal traces: no lawful trace has these entries.
-use Rattle.std.proofs.Common.{ap, arith}
-use Rattle.std.specs.Fmt.{digits}
-use Rattle.std.specs.Option.{option_map_or}
-use Rattle.std.specs.Prelude.{Bool, List, None, Option, Some, [], codes, false, length, refl, true, ℕ, ◌++◌, ◌∷◌, ◌≡◌}
-use Rattle.sl_due.specs.DueJoining.{after_deciding_read, after_first_read, after_verify_read, after_watch_read}
-use Rattle.sl_due.specs.DueLease.{after_area_for_job, begin_with}
-use Rattle.sl_due.specs.DueRequests.{after_ask_read}
+use Rattle.sl_area.specs.Layouts.{layout_with}
+use Rattle.sl_area.specs.Places.{no_request}
+use Rattle.sl_due.specs.DueAnswers.{after_answer_of}
+use Rattle.sl_due.specs.DueCommands.{carry_act, decided}
+use Rattle.sl_due.specs.DueDelta.{carry_delta}
+use Rattle.sl_due.specs.DueLease.{carry_lease}
+use Rattle.sl_due.specs.DueRequests.{ask_refusal}
 use Rattle.sl_examples.specs.Cheap.{cheap_digest}
 use Rattle.sl_examples.specs.Making.{block, leader, quiet_entry, reads, with_calls, with_moves, writes}
 use Rattle.sl_law.specs.LawfulArea.{LawfulArea, open_block_work}
 use Rattle.sl_law.specs.LawfulDelta.{LawfulDelta, LawfulRenewal}
 use Rattle.sl_law.specs.LawfulRecovery.{LawfulRecovery, MayPart}
 use Rattle.sl_law.specs.Saying.{at_call}
-use Rattle.sl_sector.specs.Bitmaps.{no_bits}
-use Rattle.sl_area.specs.Layouts.{layout_with}
-use Rattle.sl_area.specs.Places.{no_request}
-use Rattle.sl_sector.specs.Spelling.{block_rules, checked_part, decoded, delta_rules, field_bytes, fields_of, leader_rules, magic, request_rules, spelling, value_rules}
-use Rattle.sl_sector.specs.declared.sector.DeltaRec.{DeltaRec}
-use Rattle.sl_sector.specs.declared.sector.DeltaState.TheVariants.{Live}
-use Rattle.sl_sector.specs.declared.sector.Rec.TheVariants.{DeltaIs, RequestIs}
+use Rattle.sl_leases.specs.Ballots.{instance_of, phase1_block, phase2_block, stop_of}
+use Rattle.sl_leases.specs.LeaseWork.{area_next, begin_next, lease_next, settle_next}
+use Rattle.sl_leases.specs.Leases.{known}
 use Rattle.sl_report.specs.Generator.{candidates}
 use Rattle.sl_report.specs.Reports.{count_event}
 use Rattle.sl_report.specs.ScheduleLines.{event_forms, header_forms, header_of, header_tests}
 use Rattle.sl_run.specs.Events.{event_tests, first_change, pass_tests}
 use Rattle.sl_run.specs.Worlds.{initial_record, machine_of_header}
+use Rattle.sl_sector.specs.Bitmaps.{no_bits}
+use Rattle.sl_sector.specs.Spelling.{block_rules, checked_part, decoded, delta_rules, field_bytes, fields_of, leader_rules, magic, request_rules, spelling, value_rules}
+use Rattle.sl_sector.specs.declared.sector.DeltaRec.{DeltaRec}
+use Rattle.sl_sector.specs.declared.sector.DeltaState.TheVariants.{Live}
+use Rattle.sl_sector.specs.declared.sector.Rec.TheVariants.{DeltaIs, RequestIs}
+use Rattle.sl_sessions.specs.Deltas.{next_after_deciding, next_after_first, next_after_verify, next_after_watch, next_in_joining, next_on_wake, next_renewal}
+use Rattle.sl_sessions.specs.Sessions.{Session}
 use Rattle.sl_text.specs.Names.{padded_text}
-use Rattle.sl_trace.specs.Ballots.{instance_of, phase1_block, phase2_block}
 use Rattle.sl_trace.specs.Commands.{forms}
 use Rattle.sl_trace.specs.EffectTexts.{reply_words}
-use Rattle.sl_trace.specs.Sessions.{Session}
 use Rattle.sl_trace.specs.Traces.{Setting, Submitted, submitted_in}
 use Rattle.sl_trace.specs.declared.effects.Call.{Call}
 use Rattle.sl_trace.specs.declared.effects.Entry.{Entry}
@@ -37,7 +38,11 @@ use Rattle.sl_trace.specs.declared.effects.Move.TheVariants.{Unregister}
 use Rattle.sl_trace.specs.declared.effects.Purpose.TheVariants.{Lease, Renewal}
 use Rattle.sl_trace.specs.declared.effects.Work.TheVariants.{ForJob, Settling}
 use Rattle.sl_trace.specs.declared.input.Answer.TheVariants.{Read}
-use Rattle.sl_trace.specs.declared.input.Input.TheVariants.{Line, Answer as Told, Wake}
+use Rattle.sl_trace.specs.declared.input.Input.TheVariants.{Answer as Told, Line, Wake}
+use Rattle.std.proofs.Common.{ap, arith}
+use Rattle.std.specs.Fmt.{digits}
+use Rattle.std.specs.Option.{option_map_or}
+use Rattle.std.specs.Prelude.{Bool, List, None, Option, Some, codes, false, length, refl, true, [], ℕ, ◌++◌, ◌∷◌, ◌≡◌}
 use mathlib.Core.Logic.{inl, inr}
 
 abbrev st : Setting
@@ -77,7 +82,7 @@ abbrev second : Entry
 second = with_calls (second_call ∷ []) (quiet_entry 100 Wake)
 
 pub not_alone : LawfulArea st (begun ∷ asked ∷ []) second → ⊥
-unfolding digits padded_text magic field_bytes checked_part spelling delta_rules leader_rules block_rules request_rules value_rules fields_of decoded forms reply_words phase1_block phase2_block instance_of after_first_read after_watch_read after_deciding_read after_verify_read begin_with after_area_for_job after_ask_read initial_record machine_of_header pass_tests event_tests first_change header_forms header_of header_tests event_forms count_event candidates
+unfolding after_answer_of area_next ask_refusal begin_next block_rules candidates carry_act carry_delta carry_lease checked_part count_event decided decoded delta_rules digits event_forms event_tests field_bytes fields_of first_change forms header_forms header_of header_tests initial_record instance_of known leader_rules lease_next machine_of_header magic next_after_deciding next_after_first next_after_verify next_after_watch next_in_joining next_on_wake next_renewal padded_text pass_tests phase1_block phase2_block reply_words request_rules settle_next spelling stop_of value_rules
 not_alone h =
     let none_open : open_block_work st (at_call (begun ∷ asked ∷ []) second second_call) session_a (record { path = codes "/d"; base = 1048576 }) ≡ [] =
     h.alone second_call session_a (0, omega arith, refl) refl refl in
@@ -91,12 +96,12 @@ removing = with_moves (Unregister (codes "ls") ∷ []) (quiet_entry 0 Wake)
 
 -- neither recovery nor a free's answer stands behind the end
 no_reason : MayPart st [] removing session_a → ⊥
-unfolding digits padded_text magic field_bytes checked_part spelling delta_rules leader_rules block_rules request_rules value_rules fields_of decoded forms reply_words phase1_block phase2_block instance_of after_first_read after_watch_read after_deciding_read after_verify_read begin_with after_area_for_job after_ask_read initial_record machine_of_header pass_tests event_tests first_change header_forms header_of header_tests event_forms count_event candidates
+unfolding after_answer_of area_next ask_refusal begin_next block_rules candidates carry_act carry_delta carry_lease checked_part count_event decided decoded delta_rules digits event_forms event_tests field_bytes fields_of first_change forms header_forms header_of header_tests initial_record instance_of known leader_rules lease_next machine_of_header magic next_after_deciding next_after_first next_after_verify next_after_watch next_in_joining next_on_wake next_renewal padded_text pass_tests phase1_block phase2_block reply_words request_rules settle_next spelling stop_of value_rules
 no_reason (inl r) = let wrong : ◌≡◌ {A = Bool} false true = r.0 in absurd cc
 no_reason (inr r) = let wrong : ◌≡◌ {A = Option Submitted} None (Some r.0) = r.1 in absurd cc
 
 pub not_parted : LawfulRecovery st [] removing → ⊥
-unfolding digits padded_text magic field_bytes checked_part spelling delta_rules leader_rules block_rules request_rules value_rules fields_of decoded forms reply_words phase1_block phase2_block instance_of after_first_read after_watch_read after_deciding_read after_verify_read begin_with after_area_for_job after_ask_read initial_record machine_of_header pass_tests event_tests first_change header_forms header_of header_tests event_forms count_event candidates
+unfolding after_answer_of area_next ask_refusal begin_next block_rules candidates carry_act carry_delta carry_lease checked_part count_event decided decoded delta_rules digits event_forms event_tests field_bytes fields_of first_change forms header_forms header_of header_tests initial_record instance_of known leader_rules lease_next machine_of_header magic next_after_deciding next_after_first next_after_verify next_after_watch next_in_joining next_on_wake next_renewal padded_text pass_tests phase1_block phase2_block reply_words request_rules settle_next spelling stop_of value_rules
 not_parted h = no_reason (h.parts_well session_a (0, omega arith, refl) refl refl)
 
 -- ---- a renewal with an old seq
@@ -114,7 +119,7 @@ abbrev seq_of : Option DeltaRec → ℕ
 seq_of o = option_map_or (λ d. d.seq) o 0
 
 pub not_rising : LawfulDelta st [] renewing_entry → ⊥
-unfolding digits padded_text magic field_bytes checked_part spelling delta_rules leader_rules block_rules request_rules value_rules fields_of decoded forms reply_words phase1_block phase2_block instance_of after_first_read after_watch_read after_deciding_read after_verify_read begin_with after_area_for_job after_ask_read initial_record machine_of_header pass_tests event_tests first_change header_forms header_of header_tests event_forms count_event candidates
+unfolding after_answer_of area_next ask_refusal begin_next block_rules candidates carry_act carry_delta carry_lease checked_part count_event decided decoded delta_rules digits event_forms event_tests field_bytes fields_of first_change forms header_forms header_of header_tests initial_record instance_of known leader_rules lease_next machine_of_header magic next_after_deciding next_after_first next_after_verify next_after_watch next_in_joining next_on_wake next_renewal padded_text pass_tests phase1_block phase2_block reply_words request_rules settle_next spelling stop_of value_rules
 not_rising h =
     let lawful : LawfulRenewal st (at_call [] renewing_entry stale_call) session_a (submitted_in [] renewing_entry stale_call) =
     h.calls stale_call session_a (0, omega arith, refl) refl in

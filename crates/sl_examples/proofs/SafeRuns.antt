@@ -1,20 +1,25 @@
 -- What safety says holds after each event of worked runs.
-use Rattle.std.specs.Fmt.{digits}
-use Rattle.std.specs.Prelude.{List, [], codes, refl, true, ℕ, ◌++◌, ◌∷◌, ◌≡◌}
-use Rattle.sl_due.specs.DueJoining.{after_deciding_read, after_first_read, after_verify_read, after_watch_read}
-use Rattle.sl_due.specs.DueLease.{after_area_for_job, begin_with}
-use Rattle.sl_due.specs.DueRequests.{after_ask_read}
+use Rattle.sl_due.specs.DueAnswers.{after_answer_of}
+use Rattle.sl_due.specs.DueCommands.{carry_act, decided}
+use Rattle.sl_due.specs.DueDelta.{carry_delta}
+use Rattle.sl_due.specs.DueLease.{carry_lease}
+use Rattle.sl_due.specs.DueRequests.{ask_refusal}
 use Rattle.sl_examples.specs.WorldTests.{source_test}
-use Rattle.sl_sector.specs.Spelling.{block_rules, checked_part, decoded, delta_rules, field_bytes, fields_of, leader_rules, magic, request_rules, spelling, value_rules}
+use Rattle.sl_leases.specs.Ballots.{instance_of, phase1_block, phase2_block, stop_of}
+use Rattle.sl_leases.specs.LeaseWork.{area_next, begin_next, lease_next, settle_next}
+use Rattle.sl_leases.specs.Leases.{known}
 use Rattle.sl_report.specs.Generator.{candidates}
 use Rattle.sl_report.specs.Reports.{count_event}
 use Rattle.sl_report.specs.ScheduleLines.{event_forms, header_forms, header_of, header_tests}
 use Rattle.sl_run.specs.Events.{event_tests, first_change, pass_tests}
 use Rattle.sl_run.specs.Worlds.{initial_record, machine_of_header}
+use Rattle.sl_sector.specs.Spelling.{block_rules, checked_part, decoded, delta_rules, field_bytes, fields_of, leader_rules, magic, request_rules, spelling, value_rules}
+use Rattle.sl_sessions.specs.Deltas.{next_after_deciding, next_after_first, next_after_verify, next_after_watch, next_in_joining, next_on_wake, next_renewal}
 use Rattle.sl_text.specs.Names.{padded_text}
-use Rattle.sl_trace.specs.Ballots.{instance_of, phase1_block, phase2_block}
 use Rattle.sl_trace.specs.Commands.{forms}
 use Rattle.sl_trace.specs.EffectTexts.{reply_words}
+use Rattle.std.specs.Fmt.{digits}
+use Rattle.std.specs.Prelude.{List, codes, refl, true, [], ℕ, ◌++◌, ◌∷◌, ◌≡◌}
 
 abbrev h1 : List (List ℕ)
 h1 = codes "sanlock 1" ∷ codes "time 100 600 100 0 300" ∷ codes "hosts 1" ∷ codes "ids 2" ∷ codes "disk /d 4" ∷ codes "lockspace ls /d 0" ∷ codes "resource ls r /d 1048576" ∷ codes "session 1 ls 1 a" ∷ codes "begin" ∷ []
@@ -26,41 +31,41 @@ abbrev h3 : List (List ℕ)
 h3 = codes "sanlock 1" ∷ codes "time 100 600 100 0 300" ∷ codes "hosts 2" ∷ codes "ids 2" ∷ codes "disk /d 4" ∷ codes "lockspace ls /d 0" ∷ codes "resource ls r /d 1048576" ∷ codes "begin" ∷ []
 
 pub acquire_and_release : source_test (h1 ++ codes "command 1 acquire -r ls:r:/d:1048576 -p 7" ∷ codes "sample 1 1 4" ∷ codes "answer 1 1 ok" ∷ codes "land 1 2" ∷ codes "answer 1 2 ok" ∷ codes "sample 1 3 2" ∷ codes "answer 1 3 ok" ∷ codes "land 1 4" ∷ codes "answer 1 4 ok" ∷ codes "sample 1 5 2" ∷ codes "answer 1 5 ok" ∷ codes "land 1 6" ∷ codes "answer 1 6 ok" ∷ codes "command 1 release -r ls:r:/d:1048576 -p 7" ∷ codes "land 1 7" ∷ codes "answer 1 7 ok" ∷ []) ≡ true
-unfolding digits padded_text magic field_bytes checked_part spelling delta_rules leader_rules block_rules request_rules value_rules fields_of decoded forms reply_words phase1_block phase2_block instance_of after_first_read after_watch_read after_deciding_read after_verify_read begin_with after_area_for_job after_ask_read initial_record machine_of_header pass_tests event_tests first_change header_forms header_of header_tests event_forms count_event candidates
+unfolding after_answer_of area_next ask_refusal begin_next block_rules candidates carry_act carry_delta carry_lease checked_part count_event decided decoded delta_rules digits event_forms event_tests field_bytes fields_of first_change forms header_forms header_of header_tests initial_record instance_of known leader_rules lease_next machine_of_header magic next_after_deciding next_after_first next_after_verify next_after_watch next_in_joining next_on_wake next_renewal padded_text pass_tests phase1_block phase2_block reply_words request_rules settle_next spelling stop_of value_rules
 acquire_and_release = refl
 
 pub settled_win : source_test (h2 ++ codes "command 1 acquire -r ls:r:/d:1048576 -p 7" ∷ codes "do 1 1" ∷ codes "do 1 2" ∷ codes "do 1 3" ∷ codes "do 1 4" ∷ codes "do 1 5" ∷ codes "land 1 6" ∷ codes "answer 1 6 failed" ∷ codes "wake 1" ∷ codes "do 1 7" ∷ codes "do 1 8" ∷ codes "command 2 acquire -r ls:r:/d:1048576 -p 9" ∷ codes "do 2 1" ∷ []) ≡ true
-unfolding digits padded_text magic field_bytes checked_part spelling delta_rules leader_rules block_rules request_rules value_rules fields_of decoded forms reply_words phase1_block phase2_block instance_of after_first_read after_watch_read after_deciding_read after_verify_read begin_with after_area_for_job after_ask_read initial_record machine_of_header pass_tests event_tests first_change header_forms header_of header_tests event_forms count_event candidates
+unfolding after_answer_of area_next ask_refusal begin_next block_rules candidates carry_act carry_delta carry_lease checked_part count_event decided decoded delta_rules digits event_forms event_tests field_bytes fields_of first_change forms header_forms header_of header_tests initial_record instance_of known leader_rules lease_next machine_of_header magic next_after_deciding next_after_first next_after_verify next_after_watch next_in_joining next_on_wake next_renewal padded_text pass_tests phase1_block phase2_block reply_words request_rules settle_next spelling stop_of value_rules
 settled_win = refl
 
 pub two_claims : source_test (h3 ++ codes "start 1 a" ∷ codes "start 2 b" ∷ codes "command 1 add_lockspace -s ls:1:/d:0" ∷ codes "command 2 add_lockspace -s ls:1:/d:0" ∷ codes "do 1 1" ∷ codes "do 2 1" ∷ codes "do 1 2" ∷ codes "do 2 2" ∷ codes "do 1 3" ∷ codes "do 2 3" ∷ codes "pass 600" ∷ codes "test 1" ∷ codes "test 2" ∷ codes "pass 600" ∷ codes "test 1" ∷ codes "test 2" ∷ codes "pass 301" ∷ codes "wake 1" ∷ codes "wake 2" ∷ codes "do 1 4" ∷ codes "do 2 4" ∷ codes "do 2 5" ∷ []) ≡ true
-unfolding digits padded_text magic field_bytes checked_part spelling delta_rules leader_rules block_rules request_rules value_rules fields_of decoded forms reply_words phase1_block phase2_block instance_of after_first_read after_watch_read after_deciding_read after_verify_read begin_with after_area_for_job after_ask_read initial_record machine_of_header pass_tests event_tests first_change header_forms header_of header_tests event_forms count_event candidates
+unfolding after_answer_of area_next ask_refusal begin_next block_rules candidates carry_act carry_delta carry_lease checked_part count_event decided decoded delta_rules digits event_forms event_tests field_bytes fields_of first_change forms header_forms header_of header_tests initial_record instance_of known leader_rules lease_next machine_of_header magic next_after_deciding next_after_first next_after_verify next_after_watch next_in_joining next_on_wake next_renewal padded_text pass_tests phase1_block phase2_block reply_words request_rules settle_next spelling stop_of value_rules
 two_claims = refl
 
 pub owner_reset_then_taken_over : source_test (h2 ++ codes "command 2 acquire -r ls:r:/d:1048576 -p 9" ∷ codes "do 2 1" ∷ codes "do 2 2" ∷ codes "do 2 3" ∷ codes "do 2 4" ∷ codes "do 2 5" ∷ codes "do 2 6" ∷ codes "reset 2" ∷ codes "pass 200" ∷ codes "test 1" ∷ codes "wake 1" ∷ codes "do 1 1" ∷ codes "do 1 2" ∷ codes "pass 600" ∷ codes "test 1" ∷ codes "wake 1" ∷ codes "do 1 3" ∷ codes "do 1 4" ∷ codes "command 1 acquire -r ls:r:/d:1048576 -p 7" ∷ codes "do 1 5" ∷ codes "pass 600" ∷ codes "test 1" ∷ codes "wake 1" ∷ codes "do 1 6" ∷ codes "do 1 7" ∷ codes "pass 301" ∷ codes "wake 1" ∷ codes "do 1 8" ∷ codes "do 1 9" ∷ codes "command 1 acquire -r ls:r:/d:1048576 -p 7" ∷ codes "do 1 10" ∷ codes "do 1 11" ∷ codes "do 1 12" ∷ codes "do 1 13" ∷ codes "do 1 14" ∷ codes "do 1 15" ∷ []) ≡ true
-unfolding digits padded_text magic field_bytes checked_part spelling delta_rules leader_rules block_rules request_rules value_rules fields_of decoded forms reply_words phase1_block phase2_block instance_of after_first_read after_watch_read after_deciding_read after_verify_read begin_with after_area_for_job after_ask_read initial_record machine_of_header pass_tests event_tests first_change header_forms header_of header_tests event_forms count_event candidates
+unfolding after_answer_of area_next ask_refusal begin_next block_rules candidates carry_act carry_delta carry_lease checked_part count_event decided decoded delta_rules digits event_forms event_tests field_bytes fields_of first_change forms header_forms header_of header_tests initial_record instance_of known leader_rules lease_next machine_of_header magic next_after_deciding next_after_first next_after_verify next_after_watch next_in_joining next_on_wake next_renewal padded_text pass_tests phase1_block phase2_block reply_words request_rules settle_next spelling stop_of value_rules
 owner_reset_then_taken_over = refl
 
 pub rival : source_test (h2 ++ codes "command 1 acquire -r ls:r:/d:1048576 -p 7" ∷ codes "command 2 acquire -r ls:r:/d:1048576 -p 9" ∷ codes "sample 1 1 4" ∷ codes "sample 2 1 4" ∷ codes "answer 1 1 ok" ∷ codes "answer 2 1 ok" ∷ codes "land 1 2" ∷ codes "land 2 2" ∷ codes "answer 1 2 ok" ∷ codes "sample 1 3 2" ∷ codes "answer 1 3 ok" ∷ []) ≡ true
-unfolding digits padded_text magic field_bytes checked_part spelling delta_rules leader_rules block_rules request_rules value_rules fields_of decoded forms reply_words phase1_block phase2_block instance_of after_first_read after_watch_read after_deciding_read after_verify_read begin_with after_area_for_job after_ask_read initial_record machine_of_header pass_tests event_tests first_change header_forms header_of header_tests event_forms count_event candidates
+unfolding after_answer_of area_next ask_refusal begin_next block_rules candidates carry_act carry_delta carry_lease checked_part count_event decided decoded delta_rules digits event_forms event_tests field_bytes fields_of first_change forms header_forms header_of header_tests initial_record instance_of known leader_rules lease_next machine_of_header magic next_after_deciding next_after_first next_after_verify next_after_watch next_in_joining next_on_wake next_renewal padded_text pass_tests phase1_block phase2_block reply_words request_rules settle_next spelling stop_of value_rules
 rival = refl
 
 pub torn_phase2 : source_test (h2 ++ codes "command 1 acquire -r ls:r:/d:1048576 -p 7" ∷ codes "do 1 1" ∷ codes "do 1 2" ∷ codes "do 1 3" ∷ codes "reset 1" ∷ codes "tear 1 4 480" ∷ codes "command 2 acquire -r ls:r:/d:1048576 -p 9" ∷ codes "do 2 1" ∷ []) ≡ true
-unfolding digits padded_text magic field_bytes checked_part spelling delta_rules leader_rules block_rules request_rules value_rules fields_of decoded forms reply_words phase1_block phase2_block instance_of after_first_read after_watch_read after_deciding_read after_verify_read begin_with after_area_for_job after_ask_read initial_record machine_of_header pass_tests event_tests first_change header_forms header_of header_tests event_forms count_event candidates
+unfolding after_answer_of area_next ask_refusal begin_next block_rules candidates carry_act carry_delta carry_lease checked_part count_event decided decoded delta_rules digits event_forms event_tests field_bytes fields_of first_change forms header_forms header_of header_tests initial_record instance_of known leader_rules lease_next machine_of_header magic next_after_deciding next_after_first next_after_verify next_after_watch next_in_joining next_on_wake next_renewal padded_text pass_tests phase1_block phase2_block reply_words request_rules settle_next spelling stop_of value_rules
 torn_phase2 = refl
 
 pub shared : source_test (h2 ++ codes "command 1 acquire -r ls:r:/d:1048576:SH -p 7" ∷ codes "do 1 1" ∷ codes "do 1 2" ∷ codes "do 1 3" ∷ codes "do 1 4" ∷ codes "do 1 5" ∷ codes "do 1 6" ∷ codes "do 1 7" ∷ codes "do 1 8" ∷ codes "command 2 acquire -r ls:r:/d:1048576 -p 9" ∷ codes "do 2 1" ∷ codes "do 2 2" ∷ codes "do 2 3" ∷ codes "command 1 release -r ls:r:/d:1048576 -p 7" ∷ codes "do 1 9" ∷ codes "command 2 acquire -r ls:r:/d:1048576 -p 9" ∷ codes "do 2 4" ∷ codes "do 2 5" ∷ codes "do 2 6" ∷ codes "do 2 7" ∷ codes "do 2 8" ∷ codes "do 2 9" ∷ []) ≡ true
-unfolding digits padded_text magic field_bytes checked_part spelling delta_rules leader_rules block_rules request_rules value_rules fields_of decoded forms reply_words phase1_block phase2_block instance_of after_first_read after_watch_read after_deciding_read after_verify_read begin_with after_area_for_job after_ask_read initial_record machine_of_header pass_tests event_tests first_change header_forms header_of header_tests event_forms count_event candidates
+unfolding after_answer_of area_next ask_refusal begin_next block_rules candidates carry_act carry_delta carry_lease checked_part count_event decided decoded delta_rules digits event_forms event_tests field_bytes fields_of first_change forms header_forms header_of header_tests initial_record instance_of known leader_rules lease_next machine_of_header magic next_after_deciding next_after_first next_after_verify next_after_watch next_in_joining next_on_wake next_renewal padded_text pass_tests phase1_block phase2_block reply_words request_rules settle_next spelling stop_of value_rules
 shared = refl
 
 pub recovery : source_test (h1 ++ codes "command 1 acquire -r ls:r:/d:1048576 -p 7" ∷ codes "do 1 1" ∷ codes "do 1 2" ∷ codes "do 1 3" ∷ codes "do 1 4" ∷ codes "do 1 5" ∷ codes "do 1 6" ∷ codes "pass 500" ∷ codes "test 1" ∷ codes "pass 300" ∷ codes "wake 1" ∷ codes "pass 300" ∷ codes "wake 1" ∷ codes "exit 1 7" ∷ codes "test 1" ∷ []) ≡ true
-unfolding digits padded_text magic field_bytes checked_part spelling delta_rules leader_rules block_rules request_rules value_rules fields_of decoded forms reply_words phase1_block phase2_block instance_of after_first_read after_watch_read after_deciding_read after_verify_read begin_with after_area_for_job after_ask_read initial_record machine_of_header pass_tests event_tests first_change header_forms header_of header_tests event_forms count_event candidates
+unfolding after_answer_of area_next ask_refusal begin_next block_rules candidates carry_act carry_delta carry_lease checked_part count_event decided decoded delta_rules digits event_forms event_tests field_bytes fields_of first_change forms header_forms header_of header_tests initial_record instance_of known leader_rules lease_next machine_of_header magic next_after_deciding next_after_first next_after_verify next_after_watch next_in_joining next_on_wake next_renewal padded_text pass_tests phase1_block phase2_block reply_words request_rules settle_next spelling stop_of value_rules
 recovery = refl
 
 pub request : source_test (h2 ++ codes "command 1 acquire -r ls:r:/d:1048576 -p 7" ∷ codes "do 1 1" ∷ codes "do 1 2" ∷ codes "do 1 3" ∷ codes "do 1 4" ∷ codes "do 1 5" ∷ codes "do 1 6" ∷ codes "command 2 request -r ls:r:/d:1048576:2 -f 1" ∷ codes "do 2 1" ∷ codes "do 2 2" ∷ codes "pass 200" ∷ codes "wake 2" ∷ codes "do 2 3" ∷ codes "wake 1" ∷ codes "do 1 7" ∷ codes "do 1 8" ∷ codes "do 1 9" ∷ codes "exit 1 7" ∷ codes "wake 1" ∷ codes "do 1 10" ∷ []) ≡ true
-unfolding digits padded_text magic field_bytes checked_part spelling delta_rules leader_rules block_rules request_rules value_rules fields_of decoded forms reply_words phase1_block phase2_block instance_of after_first_read after_watch_read after_deciding_read after_verify_read begin_with after_area_for_job after_ask_read initial_record machine_of_header pass_tests event_tests first_change header_forms header_of header_tests event_forms count_event candidates
+unfolding after_answer_of area_next ask_refusal begin_next block_rules candidates carry_act carry_delta carry_lease checked_part count_event decided decoded delta_rules digits event_forms event_tests field_bytes fields_of first_change forms header_forms header_of header_tests initial_record instance_of known leader_rules lease_next machine_of_header magic next_after_deciding next_after_first next_after_verify next_after_watch next_in_joining next_on_wake next_renewal padded_text pass_tests phase1_block phase2_block reply_words request_rules settle_next spelling stop_of value_rules
 request = refl
 
 pub late_landing : source_test (h1 ++ codes "command 1 acquire -r ls:r:/d:1048576 -p 7" ∷ codes "do 1 1" ∷ codes "reset 1" ∷ codes "pass 100" ∷ codes "land 1 2" ∷ []) ≡ true
-unfolding digits padded_text magic field_bytes checked_part spelling delta_rules leader_rules block_rules request_rules value_rules fields_of decoded forms reply_words phase1_block phase2_block instance_of after_first_read after_watch_read after_deciding_read after_verify_read begin_with after_area_for_job after_ask_read initial_record machine_of_header pass_tests event_tests first_change header_forms header_of header_tests event_forms count_event candidates
+unfolding after_answer_of area_next ask_refusal begin_next block_rules candidates carry_act carry_delta carry_lease checked_part count_event decided decoded delta_rules digits event_forms event_tests field_bytes fields_of first_change forms header_forms header_of header_tests initial_record instance_of known leader_rules lease_next machine_of_header magic next_after_deciding next_after_first next_after_verify next_after_watch next_in_joining next_on_wake next_renewal padded_text pass_tests phase1_block phase2_block reply_words request_rules settle_next spelling stop_of value_rules
 late_landing = refl

@@ -1,20 +1,33 @@
 -- Spans of sightings.
-use Rattle.std.specs.Fmt.{digits}
-use Rattle.std.specs.Prelude.{None, Some, [], codes, refl, replicate, sum, ℕ, ◌++◌, ◌∷◌, ◌≡◌}
 use Rattle.sl_area.specs.Layouts.{Layout, sector_with}
+use Rattle.sl_due.specs.DueAnswers.{after_answer_of}
+use Rattle.sl_due.specs.DueCommands.{carry_act, decided}
+use Rattle.sl_due.specs.DueDelta.{carry_delta}
+use Rattle.sl_due.specs.DueLease.{carry_lease}
+use Rattle.sl_due.specs.DueRequests.{ask_refusal}
+use Rattle.sl_leases.specs.Ballots.{instance_of, phase1_block, phase2_block, stop_of}
+use Rattle.sl_leases.specs.LeaseWork.{area_next, begin_next, lease_next, settle_next}
+use Rattle.sl_leases.specs.Leases.{known}
+use Rattle.sl_report.specs.Generator.{candidates}
+use Rattle.sl_report.specs.Reports.{count_event}
+use Rattle.sl_report.specs.ScheduleLines.{event_forms, header_forms, header_of, header_tests}
+use Rattle.sl_run.specs.Events.{event_tests, first_change, pass_tests}
+use Rattle.sl_run.specs.Worlds.{initial_record, machine_of_header}
 use Rattle.sl_sector.specs.Spelling.{block_rules, checked_part, decoded, delta_rules, field_bytes, fields_of, leader_rules, magic, request_rules, spelling, u32_bytes, value_rules}
 use Rattle.sl_sector.specs.declared.sector.DeltaRec.{DeltaRec}
 use Rattle.sl_sector.specs.declared.sector.DeltaState.{DeltaState}
 use Rattle.sl_sector.specs.declared.sector.DeltaState.TheVariants.{Claimed, Live}
 use Rattle.sl_sector.specs.declared.sector.Rec.TheVariants.{DeltaIs}
-use Rattle.sl_time.specs.Times.{TimingNumbers}
+use Rattle.sl_sessions.specs.Deltas.{next_after_deciding, next_after_first, next_after_verify, next_after_watch, next_in_joining, next_on_wake, next_renewal}
+use Rattle.sl_sessions.specs.Watching.{Sighting, evidence, host_state}
 use Rattle.sl_text.specs.Names.{padded_text}
-use Rattle.sl_trace.specs.Ballots.{instance_of, phase1_block, phase2_block}
+use Rattle.sl_time.specs.Times.{TimingNumbers}
 use Rattle.sl_trace.specs.Commands.{forms}
 use Rattle.sl_trace.specs.EffectTexts.{reply_words}
-use Rattle.sl_trace.specs.Watching.{Sighting, evidence, host_state}
 use Rattle.sl_trace.specs.declared.reply.Evidence.TheVariants.{Newer, Silent}
 use Rattle.sl_trace.specs.declared.reply.HostState.TheVariants.{Alive, Failing, Unknown}
+use Rattle.std.specs.Fmt.{digits}
+use Rattle.std.specs.Prelude.{None, Some, codes, refl, replicate, sum, [], ℕ, ◌++◌, ◌∷◌, ◌≡◌}
 
 abbrev tm : TimingNumbers
 tm = record { io = 100; fire = 600; land = 100; rho = 0 }
@@ -29,22 +42,22 @@ abbrev look : ℕ → ℕ → DeltaRec → Sighting
 look before after d = record { before = before; after = after; bytes = sector_with g (DeltaIs d) }
 
 pub too_short : evidence tm g 2 1 (look 0 10 (live_record Live 1) ∷ look 1510 1512 (live_record Live 1) ∷ []) ≡ None
-unfolding digits padded_text magic field_bytes checked_part spelling delta_rules leader_rules block_rules request_rules value_rules fields_of decoded forms reply_words phase1_block phase2_block instance_of
+unfolding after_answer_of area_next ask_refusal begin_next block_rules candidates carry_act carry_delta carry_lease checked_part count_event decided decoded delta_rules digits event_forms event_tests field_bytes fields_of first_change forms header_forms header_of header_tests initial_record instance_of known leader_rules lease_next machine_of_header magic next_after_deciding next_after_first next_after_verify next_after_watch next_in_joining next_on_wake next_renewal padded_text pass_tests phase1_block phase2_block reply_words request_rules settle_next spelling stop_of value_rules
 too_short = refl
 
 pub silent : evidence tm g 2 1 (look 0 10 (live_record Live 1) ∷ look 1510 1512 (live_record Live 1) ∷ look 1511 1513 (live_record Live 1) ∷ []) ≡ Some (Silent 10 1511)
-unfolding digits padded_text magic field_bytes checked_part spelling delta_rules leader_rules block_rules request_rules value_rules fields_of decoded forms reply_words phase1_block phase2_block instance_of
+unfolding after_answer_of area_next ask_refusal begin_next block_rules candidates carry_act carry_delta carry_lease checked_part count_event decided decoded delta_rules digits event_forms event_tests field_bytes fields_of first_change forms header_forms header_of header_tests initial_record instance_of known leader_rules lease_next machine_of_header magic next_after_deciding next_after_first next_after_verify next_after_watch next_in_joining next_on_wake next_renewal padded_text pass_tests phase1_block phase2_block reply_words request_rules settle_next spelling stop_of value_rules
 silent = refl
 
 pub claimed : evidence tm g 2 1 (look 0 10 (live_record Claimed 1) ∷ look 1511 1513 (live_record Claimed 1) ∷ []) ≡ None
-unfolding digits padded_text magic field_bytes checked_part spelling delta_rules leader_rules block_rules request_rules value_rules fields_of decoded forms reply_words phase1_block phase2_block instance_of
+unfolding after_answer_of area_next ask_refusal begin_next block_rules candidates carry_act carry_delta carry_lease checked_part count_event decided decoded delta_rules digits event_forms event_tests field_bytes fields_of first_change forms header_forms header_of header_tests initial_record instance_of known leader_rules lease_next machine_of_header magic next_after_deciding next_after_first next_after_verify next_after_watch next_in_joining next_on_wake next_renewal padded_text pass_tests phase1_block phase2_block reply_words request_rules settle_next spelling stop_of value_rules
 claimed = refl
 
 pub newer : evidence tm g 2 0 (look 0 10 (live_record Live 1) ∷ []) ≡ Some (Newer 1)
-unfolding digits padded_text magic field_bytes checked_part spelling delta_rules leader_rules block_rules request_rules value_rules fields_of decoded forms reply_words phase1_block phase2_block instance_of
+unfolding after_answer_of area_next ask_refusal begin_next block_rules candidates carry_act carry_delta carry_lease checked_part count_event decided decoded delta_rules digits event_forms event_tests field_bytes fields_of first_change forms header_forms header_of header_tests initial_record instance_of known leader_rules lease_next machine_of_header magic next_after_deciding next_after_first next_after_verify next_after_watch next_in_joining next_on_wake next_renewal padded_text pass_tests phase1_block phase2_block reply_words request_rules settle_next spelling stop_of value_rules
 newer = refl
 
 pub alive : (host_state tm g 1 [] 1600 ∷ host_state tm g 2 (look 0 10 (live_record Live 1) ∷ look 1500 1505 (live_record Live 2) ∷ []) 1600
     ∷ host_state tm g 2 (look 0 10 (live_record Live 1) ∷ look 1500 1505 (live_record Live 2) ∷ []) 2305 ∷ []) ≡ (Unknown ∷ Alive ∷ Failing ∷ [])
-unfolding digits padded_text magic field_bytes checked_part spelling delta_rules leader_rules block_rules request_rules value_rules fields_of decoded forms reply_words phase1_block phase2_block instance_of
+unfolding after_answer_of area_next ask_refusal begin_next block_rules candidates carry_act carry_delta carry_lease checked_part count_event decided decoded delta_rules digits event_forms event_tests field_bytes fields_of first_change forms header_forms header_of header_tests initial_record instance_of known leader_rules lease_next machine_of_header magic next_after_deciding next_after_first next_after_verify next_after_watch next_in_joining next_on_wake next_renewal padded_text pass_tests phase1_block phase2_block reply_words request_rules settle_next spelling stop_of value_rules
 alive = refl

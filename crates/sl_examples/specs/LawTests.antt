@@ -10,6 +10,10 @@ use Rattle.sl_law.specs.LawfulRecovery.{is_leaving_write, was_killed}
 use Rattle.sl_law.specs.LawfulValue.{held_since, writes_since}
 use Rattle.sl_law.specs.LawfulWatchdog.{acts_until, is_covered}
 use Rattle.sl_law.specs.Saying.{at_call, newest_moves, older}
+use Rattle.sl_leases.specs.Ballots.{ballot_blocks, moded_block, owner_of, phase1_block, phase2_block, same_owner, stop_of}
+use Rattle.sl_leases.specs.Counts.{next_value_seq}
+use Rattle.sl_leases.specs.Jobs.{jobs_of_session}
+use Rattle.sl_leases.specs.Leases.{Leader_freed, Mode_set, Phase1_read, Phase1_write, Phase2_read, Phase2_write, block_of_host, block_written, blocks_given, ended_ballot, ended_ballots, exclusive_on, freed, has_shared_on, holdings_on, is_area_read, is_at, is_block_read, is_free_write, is_leader_of, last_blocks, leader_written, lease_calls, lease_step, own_block, spot_of_call, value_written}
 use Rattle.sl_run.specs.Runs.{daemons_of}
 use Rattle.sl_run.specs.Worlds.{World}
 use Rattle.sl_sector.specs.Bitmaps.{no_bits}
@@ -21,31 +25,28 @@ use Rattle.sl_sector.specs.declared.sector.Leader.{Leader}
 use Rattle.sl_sector.specs.declared.sector.Rec.TheVariants.{BlockIs, DeltaIs}
 use Rattle.sl_sector.specs.declared.sector.Rec.{Rec}
 use Rattle.sl_sector.specs.declared.sector.ValueRec.{ValueRec}
+use Rattle.sl_sessions.specs.Deltas.{claim_of, delta_of_session, delta_record, first_answered, first_bytes}
+use Rattle.sl_sessions.specs.Sessions.{Begun, Claiming, Deciding, Freeing, Looking, Parted, Renewing_first, Session, Stage, Standing, Turned_away, Verifying, Waiting, calls_of, delta_written, free_write, generation_of, has_open_delta, has_open_write, holders_of, holdings_of, is_active, is_delta_purpose, is_join_call, is_joined, is_leaving, is_present, is_recovering, is_survey_purpose, join_call, last_seq, leaving_job, leaving_of, me, open_calls_of, recovery_of, session_named, session_numbered, sessions, stage_of}
+use Rattle.sl_sessions.specs.Watching.{counted_over, is_free_state}
 use Rattle.sl_time.specs.Times.{dead, fail, join_max, take_over}
-use Rattle.sl_trace.specs.Ballots.{ballot_blocks, moded_block, phase1_block, phase2_block, same_owner, stop_of}
 use Rattle.sl_trace.specs.Connections.{connection_named, connections, is_registered, registers, registers_with, unregisters}
-use Rattle.sl_trace.specs.Counts.{next_value_seq}
-use Rattle.sl_trace.specs.Jobs.{jobs_of_session}
-use Rattle.sl_trace.specs.Joinings.{claim_of, delta_record, first_bytes, is_free_state}
-use Rattle.sl_trace.specs.Leases.{Spot, block_of_host, block_written, blocks_given, ended_ballot, ended_ballots, exclusive_on, freed, has_shared_on, holdings_on, is_at_step, is_block_read, is_free_write, is_leader_of, last_blocks, leader_written, lease_calls, lease_step, own_block, spot_of_call, spot_of_grant, value_written}
-use Rattle.sl_trace.specs.Sessions.{Claiming, Deciding, Freeing, Looking, Parted, Renewing_first, Session, Stage, Standing, Turned_away, Verifying, Waiting, calls_of, delta_written, free_write, generation_of, has_open_delta, has_open_write, holders_of, holdings_of, is_active, is_delta_purpose, is_join_call, is_joined, is_leaving, is_present, is_recovering, is_survey_purpose, join_call, last_seq, leaving_job, me, open_calls_of, recovery_entry, session_named, session_numbered, sessions, stage_of}
-use Rattle.sl_trace.specs.Traces.{Setting, Submitted, Trace, answer_by, answer_in, answer_to, gave, holdings, is_answered_ok, is_ok_answer, is_shared, is_write, reading_at, record_of, same_place, submitted, submitted_in}
-use Rattle.sl_trace.specs.Watching.{counted_over}
+use Rattle.sl_trace.specs.Traces.{Setting, Submitted, Trace, gave, holdings, is_answered_ok, is_ok_answer, is_shared, is_write, new_call, newest_reading, record_of, same_place, spot_of_grant, submitted}
 use Rattle.sl_trace.specs.declared.effects.Entry.{Entry}
 use Rattle.sl_trace.specs.declared.effects.Grant.{Grant}
 use Rattle.sl_trace.specs.declared.effects.JoinStep.TheVariants.{ClaimWrite, DecidingRead, FirstRead, FirstRenewal, VerifyRead, WatchRead}
 use Rattle.sl_trace.specs.declared.effects.JoinStep.{JoinStep}
-use Rattle.sl_trace.specs.declared.effects.LeaseStep.TheVariants.{ClearMode, FreeLeader, Phase1Read, Phase1Write, Phase2Read, Phase2Write, ReadArea, SetMode}
+use Rattle.sl_trace.specs.declared.effects.LeaseStep.TheVariants.{ClearMode, Phase1Read, Phase1Write, Phase2Read, Phase2Write, ReadArea, ReadBeforeFree, SetMode}
 use Rattle.sl_trace.specs.declared.effects.Op.TheVariants.{ReadSectors, WriteRecord}
 use Rattle.sl_trace.specs.declared.effects.Purpose.TheVariants.{Joining, Leaving, Renewal, Survey, ValueRead}
 use Rattle.sl_trace.specs.declared.effects.Purpose.{Purpose}
 use Rattle.sl_trace.specs.declared.effects.Signal.TheVariants.{Kill, Term}
+use Rattle.sl_trace.specs.declared.effects.Spot.{Spot}
 use Rattle.sl_trace.specs.declared.reply.Reply.TheVariants.{Value}
 use Rattle.sl_trace.specs.declared.reply.Reply.{Reply}
-use Rattle.sl_words.specs.Words.{choose, find_last, present, same_truth, some_is}
+use Rattle.sl_words.specs.Words.{choose, present, same_truth, some_is}
 use Rattle.std.specs.List.{list_all, list_any, range_with_len}
 use Rattle.std.specs.Option.{option_map_or}
-use Rattle.std.specs.Prelude.{Bool, List, None, Option, Some, bytes_eq, false, filter, flat_map, is_none, is_ok, is_some, length, nat_le, nat_lt, not, option_to_list, true, [], ℕ, ◌&&◌, ◌++◌, ◌+◌, ◌-◌, ◌==◌, ◌||◌, ◌∷◌}
+use Rattle.std.specs.Prelude.{Bool, List, None, Option, Some, bytes_eq, false, filter, find, flat_map, is_none, is_ok, is_some, length, nat_le, nat_lt, not, option_to_list, true, [], ℕ, ◌&&◌, ◌++◌, ◌+◌, ◌==◌, ◌||◌, ◌∷◌}
 
 -- ---- saying
 
@@ -57,7 +58,7 @@ each_entry p (e ∷ es) = p es e && each_entry p es
 -- Of each call with what stood when it was submitted; a call of no session fails.
 abbrev pub each_call : Setting → (Trace → Session → Submitted → Bool) → Trace → Entry → Bool
 each_call st p past e =
-    list_all (λ c. some_is (λ s. p (at_call past e c) s (submitted_in past e c)) (session_numbered st (e ∷ past) c.session)) e.effects.calls
+    list_all (λ c. some_is (λ s. p (at_call past e c) s (new_call (length past) e.reading c)) (session_numbered st (e ∷ past) c.session)) e.effects.calls
 
 -- Where it applies.
 abbrev pub implies : Bool → Bool → Bool
@@ -97,14 +98,14 @@ calls_test st past e =
 
 -- Whether the last read of this step gave these bytes.
 abbrev pub gave_test : Trace → Session → JoinStep → List ℕ → Bool
-gave_test es s step bytes = list_any (λ r. is_join_call step r.call.purpose && some_is (bytes_eq bytes) (gave es r)) (calls_of es s)
+gave_test es s step bytes = list_any (λ r. is_join_call step r.call.purpose && some_is (bytes_eq bytes) (gave r)) (calls_of es s)
 
 -- Whether the watch is over for these bytes.
 abbrev pub watch_test : Setting → Trace → Session → List ℕ → DeltaRec → Bool
 watch_test st es s bytes found =
     is_free_state found.state
-    || list_any (λ r. is_join_call WatchRead r.call.purpose && some_is (bytes_eq bytes) (gave es r)
-    && some_is (λ f. some_is (λ a. nat_le (a.reading + take_over st.timing) r.reading) (answer_to es f.call.number)) (join_call es s FirstRead)) (calls_of es s)
+    || list_any (λ r. is_join_call WatchRead r.call.purpose && some_is (bytes_eq bytes) (gave r)
+    && some_is (λ a. nat_le (a + take_over st.timing) r.reading) (first_answered (calls_of es s))) (calls_of es s)
 
 -- Whether the newest entry registers the session.
 abbrev pub registers_test : Setting → Trace → Session → Submitted → Bool
@@ -115,27 +116,27 @@ abbrev pub deciding_test : Setting → Trace → Session → Submitted → Bool
 deciding_test st es s c =
     is_at_stage es s Looking && registers_test st es s c
     && some_is (λ bytes. some_is (λ found. bytes_eq found.lockspace s.lockspace && found.id == s.id && watch_test st es s bytes found) (delta_in (record_in st.layout bytes))
-    && list_all (λ r. implies (is_join_call WatchRead r.call.purpose) (option_map_or (bytes_eq bytes) (gave es r) true)) (calls_of es s)) (first_bytes es s)
+    && list_all (λ r. implies (is_join_call WatchRead r.call.purpose) (option_map_or (bytes_eq bytes) (gave r) true)) (calls_of es s)) (first_bytes (calls_of es s))
 
 -- The claim.
 abbrev pub claim_test : Setting → Trace → Session → Submitted → Bool
 claim_test st es s c =
     is_at_stage es s Deciding
     && some_is (λ bytes. gave_test es s DecidingRead bytes
-    && some_is (λ d. writes_this st c (DeltaIs (delta_record st s Claimed (d.generation + 1) (d.seq + 1) c.reading no_bits))) (delta_in (record_in st.layout bytes))) (first_bytes es s)
+    && some_is (λ d. writes_this st c (DeltaIs (delta_record (delta_of_session st s) Claimed (d.generation + 1) (d.seq + 1) c.reading no_bits))) (delta_in (record_in st.layout bytes))) (first_bytes (calls_of es s))
 
 -- The verify read.
 abbrev pub verify_test : Setting → Trace → Session → Submitted → Bool
 verify_test st es s c =
     is_at_stage es s Waiting && not (is_registered st (older es) s.lockspace) && registers_test st es s c
-    && some_is (λ k. some_is (λ a. nat_le (a.reading + dead st.timing) c.reading) (answer_to es k.call.number) && nat_le c.reading (k.reading + join_max st.timing)) (join_call es s ClaimWrite)
+    && some_is (λ k. some_is (λ a. nat_le (a.reading + dead st.timing) c.reading) k.answer && nat_le c.reading (k.reading + join_max st.timing)) (join_call (calls_of es s) ClaimWrite)
 
 -- The first renewal.
 abbrev pub first_renewal_test : Setting → Trace → Session → Submitted → Bool
 first_renewal_test st es s c =
     is_at_stage es s Verifying
     && some_is (λ d. gave_test es s VerifyRead (sector_with st.layout (DeltaIs d))
-    && writes_this st c (DeltaIs (delta_record st s Live d.generation (d.seq + 1) c.reading no_bits))) (claim_of es s)
+    && writes_this st c (DeltaIs (delta_record (delta_of_session st s) Live d.generation (d.seq + 1) c.reading no_bits))) (claim_of (calls_of es s))
 
 -- The bitmap of a delta record that is written.
 abbrev pub bitmap_written : Submitted → List ℕ
@@ -144,14 +145,14 @@ bitmap_written c = option_map_or (λ d. d.bitmap) (delta_written c) []
 -- A renewal.
 abbrev pub renewal_test : Setting → Trace → Session → Submitted → Bool
 renewal_test st es s c =
-    is_at_stage es s Standing && is_none (recovery_entry st es s)
-    && writes_this st c (DeltaIs (delta_record st s Live (generation_of es s) (last_seq es s + 1) c.reading (bitmap_written c)))
+    is_at_stage es s Standing && is_none (recovery_of st es s)
+    && writes_this st c (DeltaIs (delta_record (delta_of_session st s) Live (generation_of es s) (last_seq es s + 1) c.reading (bitmap_written c)))
 
 -- The free.
 abbrev pub free_test : Setting → Trace → Session → Submitted → Bool
 free_test st es s c =
-    is_at_stage es s Standing && is_leaving st es s && is_none (recovery_entry st es s) && length (holdings_of es s) == 0 && length (open_calls_of es s) == 0
-    && writes_this st c (DeltaIs (delta_record st s Free (generation_of es s) (last_seq es s + 1) c.reading no_bits))
+    is_at_stage es s Standing && is_leaving st es s && is_none (recovery_of st es s) && length (holdings_of es s) == 0 && length (open_calls_of es s) == 0
+    && writes_this st c (DeltaIs (delta_record (delta_of_session st s) Free (generation_of es s) (last_seq es s + 1) c.reading no_bits))
 
 -- A read of all ids.
 abbrev pub survey_test : Setting → Trace → Session → Submitted → Bool
@@ -205,7 +206,8 @@ lease_read_test st c =
       | Some p ↦ elim c.call.op [
         | WriteRecord r ↦ not (is_block_read c)
         | ReadSectors n ↦ elim p.1 [
-          | ReadArea ↦ c.call.offset == at.base && n == st.layout.hosts + 2
+          | ReadArea name ↦ c.call.offset == at.base && n == st.layout.hosts + 2
+          | ReadBeforeFree ↦ c.call.offset == at.base && n == st.layout.hosts + 2
           | Phase1Read ↦ c.call.offset == block_offset st.layout at.base 1 && n == st.layout.hosts
           | Phase2Read ↦ c.call.offset == block_offset st.layout at.base 1 && n == st.layout.hosts
           | _ ↦ false
@@ -231,7 +233,7 @@ area_test st past e =
 -- Whether this read of the area justifies instance n.
 abbrev pub read_reason : Setting → Trace → Session → Spot → ℕ → Submitted → Bool
 read_reason st es s at n r =
-    elim (gave es r) [
+    elim (gave r) [
       | None ↦ false
       | Some bytes ↦ elim (leader_of st.layout bytes) [
         | None ↦ false
@@ -239,7 +241,7 @@ read_reason st es s at n r =
             bytes_eq l.lockspace s.lockspace && l.num_hosts == st.layout.hosts && list_all is_some (area_blocks st.layout bytes)
             && (nat_lt l.lver n && list_any (λ b. b.lver == n) (present (area_blocks st.layout bytes))
             || l.lver + 1 == n && (not l.held || counted_over st es s l.owner l.generation)
-            || l.lver == n && l.held && same_owner (record { id = l.owner; generation = l.generation }) (me es s)
+            || l.lver == n && l.held && same_owner (owner_of l) (me es s)
             || nat_lt l.lver n && list_any (λ w. list_any (λ k. k.lver + 1 == n && not k.held) (option_to_list (leader_written w))) (lease_calls st es s at))
       ]
     ]
@@ -248,9 +250,9 @@ read_reason st es s at n r =
 abbrev pub reason_test : Setting → Trace → Session → Spot → ℕ → Bool
 reason_test st es s at n =
     let cs : List Submitted = lease_calls st es s at in
-    list_any (read_reason st es s at n) (filter (is_at_step ReadArea) cs)
-    || some_is (λ b. b.lver == n && nat_lt 0 n) (own_block st es s cs)
-    || list_any (λ p. p.0 + 1 == n && counted_over st es s p.1.id p.1.generation) (ended_ballots st es cs)
+    list_any (read_reason st es s at n) (filter is_area_read cs)
+    || some_is (λ b. b.lver == n && nat_lt 0 n) (own_block st.layout s.id cs)
+    || list_any (λ p. p.0 + 1 == n && counted_over st es s p.1.id p.1.generation) (ended_ballots st.layout cs)
 
 -- Phase 1.
 abbrev pub phase1_test : Setting → Trace → Session → Spot → Submitted → Block → Bool
@@ -258,33 +260,33 @@ phase1_test st es s at c b =
     let cs : List Submitted = lease_calls st es s at in
     reason_test st es s at b.lver && nat_lt (freed cs) b.lver
     && some_is (λ own. nat_le own.lver b.lver
-    && same_record st (BlockIs b) (BlockIs (phase1_block (me es s) st.layout.hosts b.lver b.shared b.mode_gen own (present (last_blocks st es cs))))) (own_block st es s cs)
+    && same_record st (BlockIs b) (BlockIs (phase1_block (me es s) st.layout.hosts b.lver b.shared b.mode_gen own (present (last_blocks st.layout cs))))) (own_block st.layout s.id cs)
 
 -- Whether the write was answered ok by the time of the read's submission.
-abbrev pub after_test_of : Trace → Submitted → Submitted → Bool
-after_test_of es write read = some_is (λ a. is_ok_answer a.answer && nat_le a.at read.at) (answer_to es write.call.number)
+abbrev pub after_test_of : Submitted → Submitted → Bool
+after_test_of write read = some_is (λ a. is_ok_answer a.answer && nat_le a.at read.at) write.answer
 
 -- The last call that wrote a block.
 abbrev pub last_block_write : List Submitted → Option Submitted
-last_block_write cs = find_last (λ d. is_some (block_written d)) cs
+last_block_write cs = find (λ d. is_some (block_written d)) cs
 
 -- Phase 2 by this read.
 abbrev pub phase2_by : Setting → Trace → Session → Block → Block → Submitted → Submitted → Bool
 phase2_by st es s b own write read =
-    after_test_of es write read
+    after_test_of write read
     && some_is (λ blocks. is_none (stop_of own blocks)
-    && same_record st (BlockIs b) (BlockIs (moded_block (phase2_block (me es s) own (ballot_blocks own blocks)) b.shared b.mode_gen))) (blocks_given st es read)
+    && same_record st (BlockIs b) (BlockIs (moded_block (phase2_block (me es s) own (ballot_blocks own blocks)) b.shared b.mode_gen))) (blocks_given st.layout read)
 
 -- Phase 2.
 abbrev pub phase2_test : Setting → Trace → Session → Spot → Submitted → Block → Bool
 phase2_test st es s at c b =
     let cs : List Submitted = lease_calls st es s at in
-    some_is (λ w. is_at_step Phase1Write w && some_is (λ own. list_any (phase2_by st es s b own w) (filter (is_at_step Phase1Read) cs)) (block_written w)) (last_block_write cs)
+    some_is (λ w. is_at Phase1_write w && some_is (λ own. list_any (phase2_by st es s b own w) (filter (is_at Phase1_read) cs)) (block_written w)) (last_block_write cs)
 
 -- A write of the mode.
 abbrev pub mode_write_test : Setting → Trace → Session → Spot → Block → Bool
 mode_write_test st es s at b =
-    some_is (λ own. nat_lt 0 own.lver && same_record st (BlockIs b) (BlockIs (moded_block own b.shared b.mode_gen))) (own_block st es s (lease_calls st es s at))
+    some_is (λ own. nat_lt 0 own.lver && same_record st (BlockIs b) (BlockIs (moded_block own b.shared b.mode_gen))) (own_block st.layout s.id (lease_calls st es s at))
 
 -- A block that is written.
 abbrev pub block_write_test : Setting → Trace → Session → Submitted → Block → Bool
@@ -304,24 +306,24 @@ block_write_test st es s c b =
 -- A read of phase 2.
 abbrev pub phase2_read_test : Setting → Trace → Session → Submitted → Bool
 phase2_read_test st es s c =
-    some_is (λ w. is_at_step Phase2Write w && after_test_of es w c) (last_block_write (lease_calls st es s (spot_of_call st.layout c)))
+    some_is (λ w. is_at Phase2_write w && after_test_of w c) (last_block_write (lease_calls st es s (spot_of_call st.layout c)))
 
 -- The law of block writing.
 abbrev pub block_test : Setting → Trace → Entry → Bool
 block_test st past e =
     each_call st (λ es s c. option_map_or (block_write_test st es s c) (block_written c) true
-    && implies (is_at_step Phase2Read c) (phase2_read_test st es s c)) past e
+    && implies (is_at Phase2_read c) (phase2_read_test st es s c)) past e
 
 -- ---- leaders
 
 -- Whether the session won the instance.
 abbrev pub has_won : Setting → Trace → Session → Spot → ℕ → Bool
-has_won st es s at n = list_any (λ p. p.0 == n && same_owner p.1 (me es s)) (ended_ballots st es (lease_calls st es s at))
+has_won st es s at n = list_any (λ p. p.0 == n && same_owner p.1 (me es s)) (ended_ballots st.layout (lease_calls st es s at))
 
 -- A leader that is written.
 abbrev pub leader_write_test : Setting → Trace → Session → Spot → Leader → Bool
 leader_write_test st es s at l =
-    same_owner (record { id = l.owner; generation = l.generation }) (me es s) && bytes_eq l.lockspace s.lockspace && l.num_hosts == st.layout.hosts
+    same_owner (owner_of l) (me es s) && bytes_eq l.lockspace s.lockspace && l.num_hosts == st.layout.hosts
     && list_any (is_leader_of st.layout s.lockspace l.resource) (leaders_read st es s at) && has_won st es s at l.lver
     && elim l.held [
       | true ↦ nat_lt (freed (lease_calls st es s at)) l.lver
@@ -343,14 +345,18 @@ abbrev pub all_shared_test : Setting → Trace → Session → Spot → Submitte
 all_shared_test st es s at mode =
     list_all (λ d. implies (nat_le mode.call.number d.call.number) (option_map_or (λ b. b.shared && b.mode_gen == generation_of es s) (block_written d) true)) (lease_calls st es s at)
 
+-- The calls of a list, the newest first, that came before this one.
+abbrev pub before_call : Submitted → List Submitted → List Submitted
+before_call c cs = filter (λ d. nat_lt d.call.number c.call.number) cs
+
 -- Whether this free and this mode justify a shared grant.
 abbrev pub shared_by_test : Setting → Trace → Session → Spot → ℕ → Submitted → Submitted → Submitted → Bool
 shared_by_test st es s at n read mode free =
-    some_is (λ p. p.0 == n && same_owner p.1 (me es s)) (ended_ballot st es (lease_calls st es s at) read)
-    && some_is (λ a. nat_le a.at mode.at) (answer_to es read.call.number)
+    some_is (λ p. p.0 == n && same_owner p.1 (me es s)) (ended_ballot st.layout read (before_call read (lease_calls st es s at)))
+    && some_is (λ a. nat_le a.at mode.at) read.answer
     && some_is (λ b. b.shared && b.mode_gen == generation_of es s && b.lver == n) (block_written mode)
-    && some_is (λ a. is_ok_answer a.answer && nat_le a.at free.at) (answer_to es mode.call.number)
-    && is_free_write n free && is_answered_ok es free
+    && some_is (λ a. is_ok_answer a.answer && nat_le a.at free.at) mode.answer
+    && is_free_write n free && is_answered_ok free
     && list_all (λ d. implies (is_free_write n d) (nat_le free.call.number d.call.number)) (lease_calls st es s at)
     && all_shared_test st es s at mode && not (shared_since read.at es s at)
 
@@ -359,7 +365,7 @@ abbrev pub shared_grant_test : Setting → Trace → Trace → Session → Spot 
 shared_grant_test st past es s at n =
     let cs : List Submitted = lease_calls st es s at in
     has_shared_on past s at
-    || list_any (λ read. list_any (λ mode. list_any (shared_by_test st es s at n read mode) (filter (is_at_step FreeLeader) cs)) (filter (is_at_step SetMode) cs)) (filter (is_at_step Phase2Read) cs)
+    || list_any (λ read. list_any (λ mode. list_any (shared_by_test st es s at n read mode) (filter (is_at Leader_freed) cs)) (filter (is_at Mode_set) cs)) (filter (is_at Phase2_read) cs)
 
 -- Whether no shared mode of another stood in these blocks.
 abbrev pub none_shared_test : Setting → Trace → Session → List (Option Block) → Bool
@@ -371,13 +377,13 @@ none_shared_test st es s blocks =
 abbrev pub exclusive_by_test : Setting → Trace → Session → Spot → ℕ → Submitted → Submitted → Bool
 exclusive_by_test st es s at n write read =
     some_is (λ own. own.lver == n && list_all (λ d. implies (nat_le write.call.number d.call.number) (option_map_or (λ b. b.mbal == own.mbal) (block_written d) true)) (lease_calls st es s at)) (block_written write)
-    && after_test_of es write read && some_is (none_shared_test st es s) (blocks_given st es read)
+    && after_test_of write read && some_is (none_shared_test st es s) (blocks_given st.layout read)
 
 -- An exclusive grant.
 abbrev pub exclusive_grant_test : Setting → Trace → Session → Spot → ℕ → Bool
 exclusive_grant_test st es s at n =
     let cs : List Submitted = lease_calls st es s at in
-    has_won st es s at n && list_any (λ w. list_any (exclusive_by_test st es s at n w) (filter is_block_read cs)) (filter (is_at_step Phase1Write) cs)
+    has_won st es s at n && list_any (λ w. list_any (exclusive_by_test st es s at n w) (filter is_block_read cs)) (filter (is_at Phase1_write) cs)
 
 -- By the mode of the grant.
 abbrev pub mode_grant_test : Setting → Trace → Trace → Session → Grant → Bool
@@ -390,7 +396,7 @@ mode_grant_test st past es s g =
 -- The mode of a block.
 abbrev pub mode_test : Setting → Trace → Session → Submitted → Block → Bool
 mode_test st es s c b =
-    same_truth b.shared (has_shared_on es s (spot_of_call st.layout c) || is_at_step SetMode c) && implies b.shared (b.mode_gen == generation_of es s)
+    same_truth b.shared (has_shared_on es s (spot_of_call st.layout c) || is_at Mode_set c) && implies b.shared (b.mode_gen == generation_of es s)
 
 -- The law of modes.
 abbrev pub modes_test : Setting → Trace → Entry → Bool
@@ -400,7 +406,7 @@ modes_test st past e =
 
 -- Whether the session took the leader.
 abbrev pub taken_test : Setting → Trace → Session → Spot → ℕ → Bool
-taken_test st es s at n = list_any (λ c. some_is (λ l. l.held && l.lver == n) (leader_written c) && is_answered_ok es c) (lease_calls st es s at)
+taken_test st es s at n = list_any (λ c. some_is (λ l. l.held && l.lver == n) (leader_written c) && is_answered_ok c) (lease_calls st es s at)
 
 -- A grant.
 abbrev pub grant_to_test : Setting → Trace → Session → Grant → Bool
@@ -436,22 +442,23 @@ stops_test st past e s kept =
     && list_all (λ j. some_is (λ k. k == j.number) kept || list_any (λ a. a.job == j.number) e.effects.replies) (jobs_of_session st past s)
 
 -- The kills after a start.
-abbrev pub kills_test : Setting → Trace → Session → ℕ → Bool
-kills_test st es s i =
-    implies (nat_lt (i + 1) (length es) && nat_le (reading_at es i + st.grace) (reading_at es (length es - 1)))
-    (list_all (λ p. was_killed i p es) (holders_of es s))
+abbrev pub kills_test : Setting → Trace → Session → Begun → Bool
+kills_test st es s b =
+    implies (nat_lt (b.at + 1) (length es) && nat_le (b.reading + st.grace) (newest_reading es))
+    (list_all (λ p. was_killed b.at p es) (holders_of es s))
 
 -- How a session may end.
 abbrev pub may_part_test : Setting → Trace → Entry → Session → Bool
 may_part_test st past e s =
-    is_some (recovery_entry st (e ∷ past) s) && length (holdings_of (e ∷ past) s) == 0 && not (has_open_write (e ∷ past) s)
-    || some_is (λ c. is_some (answer_by c.call.number past e)) (free_write past s)
+    is_some (recovery_of st (e ∷ past) s) && length (holdings_of (e ∷ past) s) == 0 && not (has_open_write (e ∷ past) s)
+    || some_is (λ c. some_is (λ a. a.at == length past) c.answer) (free_write (calls_of (e ∷ past) s))
 
 -- The law of recovery and leaving, of one session.
 abbrev pub recovery_of_test : Setting → Trace → Entry → Session → Bool
 recovery_of_test st past e s =
-    option_map_or (λ i. implies (i == length past) (stops_test st past e s None) && kills_test st (e ∷ past) s i) (recovery_entry st (e ∷ past) s) true
-    && option_map_or (λ j. implies (j.at == length past) (stops_test st past e s (Some j.number)) && kills_test st (e ∷ past) s j.at) (leaving_job st (e ∷ past) s) true
+    option_map_or (λ b. implies (b.at == length past) (stops_test st past e s None) && kills_test st (e ∷ past) s b) (recovery_of st (e ∷ past) s) true
+    && option_map_or (λ j. implies (j.at == length past) (stops_test st past e s (Some j.number))) (leaving_job st (e ∷ past) s) true
+    && option_map_or (kills_test st (e ∷ past) s) (leaving_of st (e ∷ past) s) true
     && implies (is_joined past s) (same_truth (not (is_joined (e ∷ past) s)) (may_part_test st past e s))
 
 -- The law of recovery and leaving.
@@ -485,9 +492,9 @@ is_value_reply r = false
 abbrev pub value_reply_test : Setting → Trace → Entry → ℕ → Bool
 value_reply_test st past e job =
     list_any (λ c. elim c.call.purpose [ ValueRead j ↦ j == job | _ ↦ false ]
-    && some_is (λ a. a.0 == c.call.number) (answer_in e.input)
+    && some_is (λ a. a.at == length past) c.answer
     && some_is (λ s. is_active st (e ∷ past) s && held_since c.at (e ∷ past) s (spot_of_call st.layout c) && not (writes_since st c.at (e ∷ past) s (spot_of_call st.layout c)))
-    (session_numbered st past c.call.session)) (submitted past)
+    (session_numbered st past c.call.session)) (submitted (e ∷ past))
 
 -- The law of values.
 abbrev pub value_test : Setting → Trace → Entry → Bool

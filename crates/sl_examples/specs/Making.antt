@@ -6,11 +6,11 @@ use Rattle.sl_examples.specs.WorldTests.{read_events}
 use Rattle.sl_report.specs.Replay.{allowed, due_run}
 use Rattle.sl_report.specs.Schedules.{Header_read, Header_refused, event_lines_of, numbered_lines, read_header}
 use Rattle.sl_run.specs.Runs.{world_after}
-use Rattle.sl_run.specs.Worlds.{Daemon, World, machine_at, world_with}
+use Rattle.sl_run.specs.Worlds.{Daemon, World, daemon_numbered, machine_at, world_with}
 use Rattle.sl_sector.specs.declared.sector.Rec.TheVariants.{BlockIs, LeaderIs}
 use Rattle.sl_sector.specs.declared.sector.Rec.{Rec}
 use Rattle.sl_text.specs.Forms.{as_bytes}
-use Rattle.sl_trace.specs.Traces.{Setting, Trace, grants, no_effects}
+use Rattle.sl_trace.specs.Traces.{Setting, Trace, no_effects}
 use Rattle.sl_trace.specs.declared.effects.Call.{Call}
 use Rattle.sl_trace.specs.declared.effects.Effects.{Effects}
 use Rattle.sl_trace.specs.declared.effects.Entry.{Entry}
@@ -20,7 +20,6 @@ use Rattle.sl_trace.specs.declared.effects.Move.{Move}
 use Rattle.sl_trace.specs.declared.effects.Op.TheVariants.{ReadSectors, WriteRecord}
 use Rattle.sl_trace.specs.declared.effects.Purpose.{Purpose}
 use Rattle.sl_trace.specs.declared.input.Input.{Input}
-use Rattle.sl_words.specs.Words.{first_of_list}
 use Rattle.std.specs.Option.{option_map_or}
 use Rattle.std.specs.Prelude.{Bool, List, None, Option, codes, false, if◌then◌else◌, option_and_then, [], ℕ, ◌∷◌}
 
@@ -31,7 +30,7 @@ daemon_after ls m =
       | Header_refused n r ↦ None
       | Header_read h rest ↦
           let w : World = world_with cheap_digest h in
-          option_and_then (λ a. first_of_list a.daemons)
+          option_and_then (λ a. daemon_numbered a 0)
           (machine_at (world_after w (due_run w (allowed w (read_events (event_lines_of h rest))))) m)
     ]
 

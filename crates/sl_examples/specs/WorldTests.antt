@@ -2,26 +2,27 @@
 use Rattle.sl_area.specs.Layouts.{record_in}
 use Rattle.sl_examples.specs.Cheap.{cheap_digest}
 use Rattle.sl_examples.specs.LawTests.{broken_in_world}
+use Rattle.sl_leases.specs.Ballots.{same_owner}
+use Rattle.sl_leases.specs.Leases.{holdings_on}
 use Rattle.sl_report.specs.Replay.{allowed, due_run}
 use Rattle.sl_report.specs.Schedules.{EventLine, Header_read, Header_refused, event_lines_of, numbered_lines, read_header}
 use Rattle.sl_run.specs.Conflicts.{has_conflict, world_holdings}
 use Rattle.sl_run.specs.Events.{happens}
 use Rattle.sl_run.specs.Runs.{Happening, world_after}
 use Rattle.sl_run.specs.Safety.{Found, SessionId, ballots_of, block_there, found_generation, is_course_of, is_over, same_lockspace, session_of_world, setting_in, trace_of}
-use Rattle.sl_run.specs.Worlds.{Course, Machine, World, content, first_reset_after, is_open, is_write_course, world_with}
+use Rattle.sl_run.specs.Worlds.{Course, Machine, World, content, daemons_on, is_open, is_write_course, resets_after, world_with}
 use Rattle.sl_run.specs.declared.event.Event.{Event}
 use Rattle.sl_run.specs.declared.header.Header.{Header}
 use Rattle.sl_sector.specs.Spelling.{delta_in}
 use Rattle.sl_sector.specs.declared.sector.Owner.{Owner}
+use Rattle.sl_sessions.specs.Deltas.{own_offset}
+use Rattle.sl_sessions.specs.Sessions.{joined_after, sessions}
+use Rattle.sl_sessions.specs.Watching.{counts_over}
 use Rattle.sl_text.specs.Forms.{as_bytes}
-use Rattle.sl_trace.specs.Ballots.{same_owner}
 use Rattle.sl_trace.specs.Connections.{connection_named}
-use Rattle.sl_trace.specs.Joinings.{own_offset}
-use Rattle.sl_trace.specs.Leases.{Spot, holdings_on}
-use Rattle.sl_trace.specs.Sessions.{joined_after, sessions}
 use Rattle.sl_trace.specs.Traces.{is_shared}
-use Rattle.sl_trace.specs.Watching.{counts_over}
-use Rattle.sl_words.specs.Words.{some_is}
+use Rattle.sl_trace.specs.declared.effects.Spot.{Spot}
+use Rattle.sl_words.specs.Words.{is_empty, some_is}
 use Rattle.std.specs.List.{enumerate_from, list_all, list_any}
 use Rattle.std.specs.Option.{option_map_or}
 use Rattle.std.specs.Prelude.{Bool, Err, List, None, Ok, Some, bytes_eq, false, filter, filter_map, flat_map, is_some, map, nat_le, not, option_map, true, [], ℕ, ◌&&◌, ◌+◌, ◌==◌, ◌||◌, ◌∷◌}
@@ -29,7 +30,7 @@ use Rattle.std.specs.Prelude.{Bool, Err, List, None, Ok, Some, bytes_eq, false, 
 -- The sessions of a machine.
 abbrev pub ids_of_machine : ℕ × Machine → List SessionId
 ids_of_machine p =
-    flat_map (λ q. map (λ s. record { machine = p.0; daemon = q.0; number = s.number }) (sessions q.1.setting q.1.trace)) (enumerate_from 0 p.1.daemons)
+    flat_map (λ d. map (λ s. record { machine = p.0; daemon = d.number; number = s.number }) (sessions d.setting d.trace)) (daemons_on p.1)
 
 -- All sessions of a world.
 abbrev pub ids : World → List (SessionId × Found)
@@ -48,7 +49,8 @@ abbrev pub flight_test : World → ℕ × Machine → Course → Bool
 flight_test w p c =
     not (is_write_course c && is_open p.1 c)
     || list_any (λ q. q.0.machine == p.0 && is_course_of q.0 c && is_some (connection_named p.1.connections q.1.session.lockspace)) (ids w)
-    || some_is (λ r. nat_le w.moment (r.moment + w.header.timing.land)) (first_reset_after p.1 c.made.step)
+    || not (is_empty (resets_after p.1 c.made.step))
+    && list_all (λ r. nat_le w.moment (r.moment + w.header.timing.land)) (resets_after p.1 c.made.step)
 
 -- One joined session of an id that isn't over.
 abbrev pub one_for_id_test : World → Bool

@@ -1,22 +1,27 @@
 -- The cause of each refusal: what stands in the trace where it is given.
 use Rattle.sl_area.specs.Layouts.{record_in, sector_with}
 use Rattle.sl_area.specs.Places.{area_blocks, leader_of, read_at}
+use Rattle.sl_law.specs.Saying.{IsAnsweredAt}
+use Rattle.sl_leases.specs.Ballots.{in_instance, next_mbal, stop_of, value_of}
+use Rattle.sl_leases.specs.Counts.{busy_process, check_request, child_count, holder_count, may_act, most_children, most_holders, most_lockspaces, most_resources, next_value_seq, pending_call, resource_count}
+use Rattle.sl_leases.specs.Jobs.{is_job_of_process, job_of_start, lockspace_named, process_named, resource_named, wants_shared}
+use Rattle.sl_leases.specs.Leases.{Area_read, Known, Phase1_read, Phase2_read, blocks_given, exclusive_on, holdings_on, instance_for, is_at, is_leader_of, known, lease_calls, own_block, shared_elsewhere, spot_of, spot_of_call}
+use Rattle.sl_leases.specs.declared.lease.Instance.TheVariants.{Begins, HeldAlready}
+use Rattle.sl_leases.specs.declared.lease.Instance.{Instance}
+use Rattle.sl_leases.specs.declared.lease.Stop.TheVariants.{BlockAhead, BlockRival, BlockTorn}
+use Rattle.sl_leases.specs.declared.lease.Stop.{Stop}
 use Rattle.sl_sector.specs.Spelling.{delta_in, request_in, value_in}
 use Rattle.sl_sector.specs.declared.sector.Block.{Block}
 use Rattle.sl_sector.specs.declared.sector.DeltaRec.{DeltaRec}
 use Rattle.sl_sector.specs.declared.sector.Leader.{Leader}
 use Rattle.sl_sector.specs.declared.sector.Owner.{Owner}
 use Rattle.sl_sector.specs.declared.sector.Rec.TheVariants.{DeltaIs}
+use Rattle.sl_sessions.specs.Deltas.{claim_of, delta_of_session, first_bytes, id_lost, pair_of_bytes}
+use Rattle.sl_sessions.specs.Sessions.{Session, calls_of, generation_of, is_active, is_join_call, is_joined, is_session_arg, join_call, last_renewal, last_seq, present_sessions, session_named, session_of_job}
+use Rattle.sl_sessions.specs.Watching.{counts_over}
 use Rattle.sl_time.specs.Times.{join_max}
-use Rattle.sl_trace.specs.Ballots.{Begin, Block_ahead, Block_rival, Block_torn, Held_already, Instance, Stop, in_instance, next_mbal, stop_of, value_of}
-use Rattle.sl_trace.specs.Counts.{busy_process, check_request, child_count, holder_count, may_act, most_children, most_holders, most_lockspaces, most_resources, next_value_seq, pending_call, resource_count}
 use Rattle.sl_trace.specs.EffectTexts.{is_ok_reply}
-use Rattle.sl_trace.specs.Jobs.{is_job_of_process, job_of_start, lockspace_named, process_named, resource_named, wants_shared}
-use Rattle.sl_trace.specs.Joinings.{claim_of, first_bytes, id_lost, pair_of_bytes}
-use Rattle.sl_trace.specs.Leases.{Spot, blocks_given, exclusive_on, holdings_on, instance_for, is_at_step, is_leader_of, lease_calls, own_block, shared_elsewhere, spot_of, spot_of_call}
-use Rattle.sl_trace.specs.Sessions.{Session, generation_of, is_active, is_join_call, is_joined, is_session_arg, join_call, last_renewal, last_seq, present_sessions, session_named, session_of_job}
-use Rattle.sl_trace.specs.Traces.{EachEntry, Job, Setting, Submitted, Trace, answer_in, before_call, gave, is_of_job, is_shared, job_numbered, no_effects, outstanding, reply_to, waiting_call}
-use Rattle.sl_trace.specs.Watching.{counts_over}
+use Rattle.sl_trace.specs.Traces.{EachEntry, Job, Setting, Submitted, Trace, gave, is_of_job, is_shared, job_numbered, no_effects, reply_to, submitted, waiting_call}
 use Rattle.sl_trace.specs.declared.command.Command.TheVariants.{Ask, HostStatus, InqLockspace, RemLockspace, SetLvb}
 use Rattle.sl_trace.specs.declared.command.Command.{Command}
 use Rattle.sl_trace.specs.declared.command.LockspaceArg.{LockspaceArg}
@@ -26,8 +31,8 @@ use Rattle.sl_trace.specs.declared.effects.Grant.{Grant}
 use Rattle.sl_trace.specs.declared.effects.JobReply.{JobReply}
 use Rattle.sl_trace.specs.declared.effects.JoinStep.TheVariants.{ClaimWrite, DecidingRead, FirstRead, VerifyRead, WatchRead}
 use Rattle.sl_trace.specs.declared.effects.JoinStep.{JoinStep}
-use Rattle.sl_trace.specs.declared.effects.LeaseStep.TheVariants.{Phase1Read, Phase2Read, ReadArea}
 use Rattle.sl_trace.specs.declared.effects.Purpose.TheVariants.{AskRead, ValueRead}
+use Rattle.sl_trace.specs.declared.effects.Spot.{Spot}
 use Rattle.sl_trace.specs.declared.input.Answer.TheVariants.{Failed, Read}
 use Rattle.sl_trace.specs.declared.input.Answer.{Answer}
 use Rattle.sl_trace.specs.declared.input.Input.TheVariants.{Exit, Spawned, Wake}
@@ -37,7 +42,7 @@ use Rattle.sl_trace.specs.declared.reply.Reply.TheVariants.{Ahead, BadCommand as
 use Rattle.sl_trace.specs.declared.reply.Reply.{Reply}
 use Rattle.sl_words.specs.Bounds.{record_numbers}
 use Rattle.sl_words.specs.Words.{present}
-use Rattle.std.specs.Prelude.{Contains, Err, IsFalse, IsSomeAnd, IsTrue, List, None, Ok, Option, Some, bytes_eq, false, is_none, length, map, option_and_then, option_map, position, ℕ, ◌&&◌, ◌+◌, ◌<◌, ◌==◌, ◌∷◌, ◌≡◌, ◌≢◌, ◌≤◌, ◌⊎◌}
+use Rattle.std.specs.Prelude.{Contains, Err, IsFalse, IsSomeAnd, IsTrue, List, None, Ok, Option, Some, bytes_eq, false, is_none, length, map, option_and_then, option_map, position, ℕ, ◌&&◌, ◌++◌, ◌+◌, ◌<◌, ◌==◌, ◌∷◌, ◌≡◌, ◌≢◌, ◌≤◌, ◌⊎◌}
 
 -- The trace after the entry that gives the reply, and the answer that the entry brought, if any.
 pub record Answering : Type 0 where
@@ -56,9 +61,9 @@ before_entry x = record { reading = x.entry.reading; input = Wake; effects = no_
 
 -- The entry answers this call of the job.
 pub record AnswersCall (x : Answering) (c : Submitted) (answer : Answer) : Type 0 where
-  pub unanswered : Contains (outstanding x.past) c
+  pub submitted_before : Contains (submitted (after_entry x)) c
   pub of_job : IsTrue (is_of_job x.job.number c)
-  pub answered : answer_in x.entry.input ≡ Some (c.call.number, answer)
+  pub answered : IsAnsweredAt (length x.past) c answer
 
 -- The entry answers a read of the job, of which this holds.
 abbrev pub AnswersRead : Answering → (Submitted → List ℕ → Type 0) → Type 0
@@ -106,68 +111,72 @@ JoinRead x step P =
 -- A further read differs from the first.
 abbrev pub IsIdHeld : Answering → ℕ → ℕ → Option (ℕ × ℕ) → Type 0
 IsIdHeld x generation seq later =
-    JoinRead x WatchRead (λ s bytes. (first : List ℕ) × (first_bytes x.past s ≡ Some first) × (first ≢ bytes)
+    JoinRead x WatchRead (λ s bytes. (first : List ℕ) × (first_bytes (calls_of x.past s) ≡ Some first) × (first ≢ bytes)
     × (pair_of_bytes x.setting.layout first ≡ Some (generation, seq)) × (pair_of_bytes x.setting.layout bytes ≡ later))
-    ⊎ JoinRead x DecidingRead (λ s bytes. (first : List ℕ) × (first_bytes x.past s ≡ Some first) × (first ≢ bytes)
+    ⊎ JoinRead x DecidingRead (λ s bytes. (first : List ℕ) × (first_bytes (calls_of x.past s) ≡ Some first) × (first ≢ bytes)
     × (pair_of_bytes x.setting.layout first ≡ Some (generation, seq)) × (pair_of_bytes x.setting.layout bytes ≡ later))
 
 -- The verify read isn't the own claim.
 abbrev pub IsIdLost : Answering → Reply → Type 0
 IsIdLost x r =
-    JoinRead x VerifyRead (λ s bytes. (claim : DeltaRec) × (claim_of x.past s ≡ Some claim) × (bytes ≢ sector_with x.setting.layout (DeltaIs claim))
-    × (r ≡ id_lost x.setting claim bytes))
+    JoinRead x VerifyRead (λ s bytes. (claim : DeltaRec) × (claim_of (calls_of x.past s) ≡ Some claim) × (bytes ≢ sector_with x.setting.layout (DeltaIs claim))
+    × (r ≡ id_lost (delta_of_session x.setting s) claim bytes))
 
 -- More than `join_max` has passed since the claim's submission.
 abbrev pub IsIdLate : Answering → ℕ → ℕ → Type 0
 IsIdLate x claimed now =
-    (s : Session) × (session_of_job x.setting x.past x.job.number ≡ Some s) × (c : Submitted) × (join_call x.past s ClaimWrite ≡ Some c)
+    (s : Session) × (session_of_job x.setting x.past x.job.number ≡ Some s) × (c : Submitted) × (join_call (calls_of x.past s) ClaimWrite ≡ Some c)
     × (c.reading ≡ claimed) × (x.entry.reading ≡ now) × (claimed + join_max x.setting.timing < now)
 
 -- ---- a lease's
 
 -- The leader that was read is torn.
 abbrev pub IsTornLeaderRead : Answering → Type 0
-IsTornLeaderRead x = AnswersRead x (λ c bytes. (IsTrue (is_at_step ReadArea c) ⊎ (c.call.purpose ≡ AskRead x.job.number)) × (leader_of x.setting.layout bytes ≡ None))
+IsTornLeaderRead x = AnswersRead x (λ c bytes. (IsTrue (is_at Area_read c) ⊎ (c.call.purpose ≡ AskRead x.job.number)) × (leader_of x.setting.layout bytes ≡ None))
 
--- The blocks that the entry's read gave.
+-- What is known of the lease whose read the entry answers.
+abbrev pub known_here : Answering → Session → Submitted → Known
+known_here x s c = known x.setting (after_entry x) s (spot_of_call x.setting.layout c)
+
+-- The blocks that the entry's read gave, with the own block of then.
 abbrev pub ReadsBlocks : Answering → (Session → Submitted → List (Option Block) → Block → Type 0) → Type 0
 ReadsBlocks x P =
-    WithSession x (λ s. AnswersRead x (λ c bytes. (blocks : List (Option Block)) × (blocks_given x.setting (after_entry x) c ≡ Some blocks)
-    × (own : Block) × (own_block x.setting (after_entry x) s (before_call (c.call.number + 1) (lease_calls x.setting (after_entry x) s (spot_of_call x.setting.layout c))) ≡ Some own)
-    × P s c blocks own))
+    WithSession x (λ s. AnswersRead x (λ c bytes. (blocks : List (Option Block)) × (own : Block) × (later before : List Submitted)
+    × (blocks_given x.setting.layout c ≡ Some blocks) × (lease_calls x.setting (after_entry x) s (spot_of_call x.setting.layout c) ≡ later ++ c ∷ before)
+    × (own_block x.setting.layout s.id (c ∷ before) ≡ Some own) × P s c blocks own))
 
 -- At the read of the area the least torn block; at a later read the least of another host.
 abbrev pub IsTornBlockRead : Answering → ℕ → Type 0
 IsTornBlockRead x host =
-    AnswersRead x (λ c bytes. IsTrue (is_at_step ReadArea c) × (option_map (λ k. k + 1) (position is_none (area_blocks x.setting.layout bytes)) ≡ Some host))
-    ⊎ ReadsBlocks x (λ s c blocks own. stop_of own blocks ≡ Some (Block_torn host))
+    AnswersRead x (λ c bytes. IsTrue (is_at Area_read c) × (option_map (λ k. k + 1) (position is_none (area_blocks x.setting.layout bytes)) ≡ Some host))
+    ⊎ ReadsBlocks x (λ s c blocks own. stop_of own blocks ≡ Some (BlockTorn host))
 
 -- The read of phase 2 ended the job's ballot with this session.
 abbrev pub EndsWith : Answering → Session → Submitted → List (Option Block) → Block → ℕ → Owner → Type 0
-EndsWith x s c blocks own lver o = IsTrue (is_at_step Phase2Read c) × (stop_of own blocks ≡ None) × (own.lver ≡ lver) × (value_of own ≡ o)
+EndsWith x s c blocks own lver o = IsTrue (is_at Phase2_read c) × (stop_of own blocks ≡ None) × (own.lver ≡ lver) × (value_of own ≡ o)
 
 -- What the read of the area makes the job begin, or who holds the resource.
 abbrev pub ShowsInstance : Answering → Session → Submitted → List (Option Block) → Block → Instance → Type 0
 ShowsInstance x s c blocks own i =
-    IsTrue (is_at_step ReadArea c) × (bytes : List ℕ) × (l : Leader) × (gave (after_entry x) c ≡ Some bytes) × (leader_of x.setting.layout bytes ≡ Some l)
-    × (instance_for x.setting (after_entry x) s (lease_calls x.setting (after_entry x) s (spot_of_call x.setting.layout c)) l own blocks ≡ i)
+    IsTrue (is_at Area_read c) × (bytes : List ℕ) × (l : Leader) × (gave c ≡ Some bytes) × (leader_of x.setting.layout bytes ≡ Some l)
+    × (instance_for (known_here x s c) l own blocks ≡ i)
 
 -- The resource is held by another that isn't counted as over, or the job's ballot ended with such.
 abbrev pub IsHeldRead : Answering → ℕ → Owner → Type 0
 IsHeldRead x lver o = ReadsBlocks x (λ s c blocks own.
-    ShowsInstance x s c blocks own (Held_already lver o)
+    ShowsInstance x s c blocks own (HeldAlready lver o)
     ⊎ (EndsWith x s c blocks own lver o × IsFalse (counts_over x.setting (after_entry x) s o.id o.generation)))
 
 -- The instance that the read makes the job begin.
 abbrev pub BeginsAt : Answering → Session → Submitted → List (Option Block) → Block → ℕ → Type 0
 BeginsAt x s c blocks own n =
-    ShowsInstance x s c blocks own (Begin n)
+    ShowsInstance x s c blocks own (Begins n)
     ⊎ ((o : Owner) × (m : ℕ) × EndsWith x s c blocks own m o × (m + 1 ≡ n) × IsTrue (counts_over x.setting (after_entry x) s o.id o.generation))
 
 -- A block of phase 1's read has a shared mode that isn't over.
 abbrev pub IsSharedRead : Answering → Owner → Type 0
 IsSharedRead x o = ReadsBlocks x (λ s c blocks own.
-    IsTrue (is_at_step Phase1Read c) × (b : Block) × (shared_elsewhere x.setting (after_entry x) s blocks ≡ Some b) × (b.host ≡ o.id) × (b.mode_gen ≡ o.generation))
+    IsTrue (is_at Phase1_read c) × (b : Block) × (shared_elsewhere (known_here x s c) blocks ≡ Some b) × (b.host ≡ o.id) × (b.mode_gen ≡ o.generation))
 
 -- The blocks that were read stop the ballot.
 abbrev pub IsStopRead : Answering → Stop → Type 0
@@ -189,7 +198,7 @@ IsLimit x GenLimit =
     JoinRead x DecidingRead (λ s bytes. (d : DeltaRec) × (delta_in (record_in x.setting.layout bytes) ≡ Some d) × (record_numbers ≤ d.generation + 1))
 IsLimit x SeqLimit =
     JoinRead x DecidingRead (λ s bytes. (d : DeltaRec) × (delta_in (record_in x.setting.layout bytes) ≡ Some d) × (record_numbers ≤ d.seq + 1))
-    ⊎ JoinRead x VerifyRead (λ s bytes. (d : DeltaRec) × (claim_of x.past s ≡ Some d) × (record_numbers ≤ d.seq + 1))
+    ⊎ JoinRead x VerifyRead (λ s bytes. (d : DeltaRec) × (claim_of (calls_of x.past s) ≡ Some d) × (record_numbers ≤ d.seq + 1))
     ⊎ (IsAtCommand x × WithSession x (λ s. (a : LockspaceArg) × job_command x (λ c. c ≡ RemLockspace a) × (record_numbers ≤ last_seq (before_entry x) s + 1)))
     ⊎ (IsAtCommand x × WithSession x (λ s. WithSpot x (λ r at. IsSomeAnd (exclusive_on (before_entry x) s at) (λ g.
     record_numbers ≤ next_value_seq x.setting (before_entry x) s at g.lver))))
@@ -239,8 +248,8 @@ CausedBy x TornLeader = IsTornLeaderRead x
 CausedBy x (TornBlock host) = IsTornBlockRead x host
 CausedBy x (HeldBy lver owner) = IsHeldRead x lver owner
 CausedBy x (SharedBy owner) = IsSharedRead x owner
-CausedBy x (Rival host mbal) = IsStopRead x (Block_rival host mbal)
-CausedBy x (Ahead host lver) = IsStopRead x (Block_ahead host lver)
+CausedBy x (Rival host mbal) = IsStopRead x (BlockRival host mbal)
+CausedBy x (Ahead host lver) = IsStopRead x (BlockAhead host lver)
 CausedBy x (IoTimeout call from to) =
     (c : Submitted) × (waiting_call x.past x.job.number ≡ Some c) × (c.call.number ≡ call) × (c.reading ≡ from) × (x.entry.reading ≡ to) × (from + x.setting.timing.io ≤ to)
 CausedBy x (IoFault call) = (c : Submitted) × AnswersCall x c Failed × (c.call.number ≡ call)

@@ -1,18 +1,19 @@
 -- When and where a session may write on a resource's area, and read its blocks.
 use Rattle.sl_area.specs.Places.{block_offset, leader_of, leader_offset, request_offset, value_offset}
 use Rattle.sl_law.specs.Saying.{EachCall}
+use Rattle.sl_leases.specs.Leases.{is_block_read, is_leader_of, is_on, lease_step, spot_of_call}
 use Rattle.sl_sector.specs.declared.sector.Leader.{Leader}
 use Rattle.sl_sector.specs.declared.sector.Rec.TheVariants.{BlockIs, DeltaIs, LeaderIs, RequestIs, ValueIs}
 use Rattle.sl_sector.specs.declared.sector.Rec.{Rec}
-use Rattle.sl_trace.specs.Leases.{Spot, is_block_read, is_leader_of, is_on, lease_step, spot_of_call}
-use Rattle.sl_trace.specs.Sessions.{Session, calls_of, delta_of_record, is_active, open_calls_of}
+use Rattle.sl_sessions.specs.Sessions.{Session, calls_of, delta_of_record, is_active, open_calls_of}
 use Rattle.sl_trace.specs.Traces.{Setting, Submitted, Trace, gave, is_write, record_of}
 use Rattle.sl_trace.specs.declared.effects.Entry.{Entry}
-use Rattle.sl_trace.specs.declared.effects.LeaseStep.TheVariants.{Phase1Read, Phase2Read, ReadArea}
+use Rattle.sl_trace.specs.declared.effects.LeaseStep.TheVariants.{Phase1Read, Phase2Read, ReadArea, ReadBeforeFree}
 use Rattle.sl_trace.specs.declared.effects.LeaseStep.{LeaseStep}
 use Rattle.sl_trace.specs.declared.effects.Op.TheVariants.{ReadSectors}
 use Rattle.sl_trace.specs.declared.effects.Purpose.TheVariants.{AskRead, AskWrite, Lease, ValueRead, ValueWrite}
 use Rattle.sl_trace.specs.declared.effects.Purpose.{Purpose}
+use Rattle.sl_trace.specs.declared.effects.Spot.{Spot}
 use Rattle.std.specs.Prelude.{Bool, Contains, IsFalse, IsTrue, List, None, Option, Some, false, filter, filter_map, is_some, option_and_then, true, [], ℕ, ◌&&◌, ◌+◌, ◌||◌, ◌≡◌}
 
 -- Whether a call is work on an area for which the session must be in its best state: all but reads of requests.
@@ -38,14 +39,15 @@ record_offset st s at (ValueIs v) = Some (value_offset st.layout at.base)
 
 -- Whether a call reads an area's leader.
 abbrev pub is_leader_read : Purpose → Bool
-is_leader_read (Lease work ReadArea) = true
+is_leader_read (Lease work (ReadArea name)) = true
+is_leader_read (Lease work ReadBeforeFree) = true
 is_leader_read (AskRead j) = true
 is_leader_read p = false
 
 -- The leaders that the session has read on the area.
 abbrev pub leaders_read : Setting → Trace → Session → Spot → List Leader
 leaders_read st es s at =
-    filter_map (λ c. option_and_then (leader_of st.layout) (gave es c)) (filter (λ c. is_leader_read c.call.purpose && is_on st.layout at c.call) (calls_of es s))
+    filter_map (λ c. option_and_then (leader_of st.layout) (gave c)) (filter (λ c. is_leader_read c.call.purpose && is_on st.layout at c.call) (calls_of es s))
 
 -- The session has read there a leader of its lockspace, this resource and the run's hosts.
 abbrev pub HasVerified : Setting → Trace → Session → Spot → List ℕ → Type 0
@@ -67,11 +69,20 @@ open_block_work st es s at = filter (λ c. is_block_work c && is_on st.layout at
 abbrev pub is_delta_record : Rec → Bool
 is_delta_record r = is_some (delta_of_record r)
 
--- Whether a lease's reads are at their places: the whole area, or all blocks.
+-- A read of the whole area: leader, request and all blocks.
+abbrev pub IsAreaRead : Setting → Spot → Submitted → Type 0
+IsAreaRead st at c = (c.call.offset ≡ at.base) × (c.call.op ≡ ReadSectors (st.layout.hosts + 2))
+
+-- A read of all blocks.
+abbrev pub IsBlockRead : Setting → Spot → Submitted → Type 0
+IsBlockRead st at c = (c.call.offset ≡ block_offset st.layout at.base 1) × (c.call.op ≡ ReadSectors st.layout.hosts)
+
+-- Whether a lease's reads are at their places.
 abbrev pub IsLeaseRead : Setting → Spot → Submitted → LeaseStep → Type 0
-IsLeaseRead st at c ReadArea = (c.call.offset ≡ at.base) × (c.call.op ≡ ReadSectors (st.layout.hosts + 2))
-IsLeaseRead st at c Phase1Read = (c.call.offset ≡ block_offset st.layout at.base 1) × (c.call.op ≡ ReadSectors st.layout.hosts)
-IsLeaseRead st at c Phase2Read = (c.call.offset ≡ block_offset st.layout at.base 1) × (c.call.op ≡ ReadSectors st.layout.hosts)
+IsLeaseRead st at c (ReadArea name) = IsAreaRead st at c
+IsLeaseRead st at c ReadBeforeFree = IsAreaRead st at c
+IsLeaseRead st at c Phase1Read = IsBlockRead st at c
+IsLeaseRead st at c Phase2Read = IsBlockRead st at c
 IsLeaseRead st at c step = IsTrue (is_write c.call.op)
 
 -- A call for a lease reads at its step's place, or writes.

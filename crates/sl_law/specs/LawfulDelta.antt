@@ -6,11 +6,11 @@ use Rattle.sl_sector.specs.Spelling.{delta_in}
 use Rattle.sl_sector.specs.declared.sector.DeltaRec.{DeltaRec}
 use Rattle.sl_sector.specs.declared.sector.DeltaState.TheVariants.{Claimed, Free, Live}
 use Rattle.sl_sector.specs.declared.sector.Rec.TheVariants.{DeltaIs}
+use Rattle.sl_sessions.specs.Deltas.{claim_of, delta_of_session, delta_record, own_offset}
+use Rattle.sl_sessions.specs.Sessions.{Deciding, Looking, Session, Standing, Verifying, Waiting, calls_of, delta_written, generation_of, has_open_delta, holdings_of, is_delta_purpose, is_join_call, is_leaving, is_survey_purpose, join_call, last_seq, open_calls_of, recovery_of, session_named, stage_of}
 use Rattle.sl_time.specs.Times.{dead, fail, join_max, take_over}
 use Rattle.sl_trace.specs.Connections.{is_registered, registers_with}
-use Rattle.sl_trace.specs.Joinings.{claim_of, delta_record, own_offset}
-use Rattle.sl_trace.specs.Sessions.{Deciding, Looking, Session, Standing, Verifying, Waiting, calls_of, delta_written, generation_of, has_open_delta, holdings_of, is_delta_purpose, is_join_call, is_leaving, is_survey_purpose, join_call, last_seq, open_calls_of, recovery_entry, session_named, stage_of}
-use Rattle.sl_trace.specs.Traces.{Answered, Setting, Submitted, Trace, answer_to, gave, is_ok_answer, same_place}
+use Rattle.sl_trace.specs.Traces.{Answered, Setting, Submitted, Trace, gave, is_ok_answer, same_place}
 use Rattle.sl_trace.specs.declared.effects.Entry.{Entry}
 use Rattle.sl_trace.specs.declared.effects.JoinStep.TheVariants.{ClaimWrite, DecidingRead, FirstRead, FirstRenewal, VerifyRead, WatchRead}
 use Rattle.sl_trace.specs.declared.effects.JoinStep.{JoinStep}
@@ -22,7 +22,7 @@ use Rattle.std.specs.Prelude.{Bool, Contains, IsTrue, List, None, Some, false, n
 
 -- A read of the joining that gave these bytes.
 abbrev pub Gave : Trace → Session → JoinStep → List ℕ → Submitted → Type 0
-Gave es s step bytes r = Contains (calls_of es s) r × IsTrue (is_join_call step r.call.purpose) × (gave es r ≡ Some bytes)
+Gave es s step bytes r = Contains (calls_of es s) r × IsTrue (is_join_call step r.call.purpose) × (gave r ≡ Some bytes)
 
 -- The newest entry registers the session's connection, until fail after it.
 abbrev pub IsRegistering : Setting → Trace → Session → Submitted → Type 0
@@ -42,7 +42,7 @@ pub record LawfulWatch (st : Setting) (es : Trace) (s : Session) (c : Submitted)
 abbrev pub WatchOver : Setting → Trace → Session → List ℕ → Submitted → DeltaRec → Type 0
 WatchOver st es s bytes first found =
     (found.state ≡ Free)
-    ⊎ ((r : Submitted) × (a : Answered) × (answer_to es first.call.number ≡ Some a) × Gave es s WatchRead bytes r
+    ⊎ ((r : Submitted) × (a : Answered) × (first.answer ≡ Some a) × Gave es s WatchRead bytes r
     × (a.reading + take_over st.timing ≤ r.reading))
 
 -- The deciding read.
@@ -75,7 +75,7 @@ pub record LawfulClaim (st : Setting) (es : Trace) (s : Session) (c : Submitted)
   pub decided : Gave es s DecidingRead bytes read
   pub spelled : delta_in (record_in st.layout bytes) ≡ Some found
   -- an equal generation would name two sessions
-  pub written : delta_written c ≡ Some (delta_record st s Claimed (found.generation + 1) (found.seq + 1) c.reading no_bits)
+  pub written : delta_written c ≡ Some (delta_record (delta_of_session st s) Claimed (found.generation + 1) (found.seq + 1) c.reading no_bits)
 
 -- The verify read.
 pub record LawfulVerify (st : Setting) (es : Trace) (s : Session) (c : Submitted) : Type 0 where
@@ -83,8 +83,8 @@ pub record LawfulVerify (st : Setting) (es : Trace) (s : Session) (c : Submitted
   pub waiting : stage_of es s ≡ Waiting
   pub claim : Submitted
   pub answer : Answered
-  pub claimed : join_call es s ClaimWrite ≡ Some claim
-  pub answered : (answer_to es claim.call.number ≡ Some answer) × IsTrue (is_ok_answer answer.answer)
+  pub claimed : join_call (calls_of es s) ClaimWrite ≡ Some claim
+  pub answered : (claim.answer ≡ Some answer) × IsTrue (is_ok_answer answer.answer)
   -- in between nobody's connection stands for it
   pub unregistered : is_registered st (older es) s.lockspace ≡ false
   -- another's claim on the same record could still land
@@ -99,32 +99,32 @@ pub record LawfulFirstRenewal (st : Setting) (es : Trace) (s : Session) (c : Sub
   pub verifying : stage_of es s ≡ Verifying
   pub claim : DeltaRec
   pub read : Submitted
-  pub claimed : claim_of es s ≡ Some claim
+  pub claimed : claim_of (calls_of es s) ≡ Some claim
   -- another's claim may have landed over it
   pub verified : Gave es s VerifyRead (sector_with st.layout (DeltaIs claim)) read
-  pub written : delta_written c ≡ Some (delta_record st s Live claim.generation (claim.seq + 1) c.reading no_bits)
+  pub written : delta_written c ≡ Some (delta_record (delta_of_session st s) Live claim.generation (claim.seq + 1) c.reading no_bits)
 
 -- A renewal.
 pub record LawfulRenewal (st : Setting) (es : Trace) (s : Session) (c : Submitted) : Type 0 where
   -- only a joined session, before its free
   pub standing : stage_of es s ≡ Standing
   -- in recovery no sector is written
-  pub well : recovery_entry st es s ≡ None
+  pub well : recovery_of st es s ≡ None
   pub bitmap : List ℕ
   -- two equal records would look like silence
-  pub written : delta_written c ≡ Some (delta_record st s Live (generation_of es s) (last_seq es s + 1) c.reading bitmap)
+  pub written : delta_written c ≡ Some (delta_record (delta_of_session st s) Live (generation_of es s) (last_seq es s + 1) c.reading bitmap)
 
 -- The free.
 pub record LawfulFree (st : Setting) (es : Trace) (s : Session) (c : Submitted) : Type 0 where
   -- written once: it stands for the session's end
   pub standing : stage_of es s ≡ Standing
   pub leaving : IsTrue (is_leaving st es s)
-  pub well : recovery_entry st es s ≡ None
+  pub well : recovery_of st es s ≡ None
   -- whoever sees the free takes its resources
   pub no_holding : holdings_of es s ≡ []
   -- a write in flight would land after the end
   pub no_call : open_calls_of es s ≡ []
-  pub written : delta_written c ≡ Some (delta_record st s Free (generation_of es s) (last_seq es s + 1) c.reading no_bits)
+  pub written : delta_written c ≡ Some (delta_record (delta_of_session st s) Free (generation_of es s) (last_seq es s + 1) c.reading no_bits)
 
 -- A read of all delta sectors, which feeds the evidence.
 pub record LawfulSurvey (st : Setting) (es : Trace) (s : Session) (c : Submitted) : Type 0 where

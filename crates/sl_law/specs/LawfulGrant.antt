@@ -1,11 +1,12 @@
 -- When a process may be granted a resource.
+use Rattle.sl_leases.specs.Leases.{freed, leader_written, lease_calls}
 use Rattle.sl_sector.specs.declared.sector.Leader.{Leader}
-use Rattle.sl_trace.specs.Leases.{Spot, freed, leader_written, lease_calls, spot_of_grant}
-use Rattle.sl_trace.specs.Sessions.{Session, is_active, session_numbered}
-use Rattle.sl_trace.specs.Traces.{Setting, Submitted, Trace, holdings, is_answered_ok, is_shared, same_place}
+use Rattle.sl_sessions.specs.Sessions.{Session, is_active, session_numbered}
+use Rattle.sl_trace.specs.Traces.{Setting, Submitted, Trace, holdings, is_answered_ok, is_shared, same_place, spot_of_grant}
 use Rattle.sl_trace.specs.declared.effects.Entry.{Entry}
 use Rattle.sl_trace.specs.declared.effects.Grant.{Grant}
 use Rattle.sl_trace.specs.declared.effects.Mode.TheVariants.{Exclusive}
+use Rattle.sl_trace.specs.declared.effects.Spot.{Spot}
 use Rattle.std.specs.Prelude.{Contains, IsSome, IsTrue, Some, true, ℕ, ◌&&◌, ◌<◌, ◌∷◌, ◌≡◌}
 
 -- The session's write of this leader as held was answered ok.
@@ -14,7 +15,7 @@ pub record HasTaken (st : Setting) (es : Trace) (s : Session) (at : Spot) (n : �
   pub leader : Leader
   pub of_lease : Contains (lease_calls st es s at) call
   pub written : (leader_written call ≡ Some leader) × (leader.held ≡ true) × (leader.lver ≡ n)
-  pub answered : IsTrue (is_answered_ok es call)
+  pub answered : IsTrue (is_answered_ok call)
 
 -- A grant to a process under a session.
 pub record LawfulGrantTo (st : Setting) (es : Trace) (s : Session) (g : Grant) : Type 0 where

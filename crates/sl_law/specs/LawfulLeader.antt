@@ -1,18 +1,19 @@
 -- How a session may write the leader of a resource.
 use Rattle.sl_law.specs.LawfulArea.{HasVerified}
 use Rattle.sl_law.specs.Saying.{EachCall}
+use Rattle.sl_leases.specs.Ballots.{owner_of, same_owner}
+use Rattle.sl_leases.specs.Leases.{ended_ballots, freed, holdings_on, is_on, leader_written, lease_calls, spot_of_call}
 use Rattle.sl_sector.specs.declared.sector.Leader.{Leader}
-use Rattle.sl_trace.specs.Ballots.{same_owner}
-use Rattle.sl_trace.specs.Leases.{Spot, ended_ballots, freed, holdings_on, is_on, leader_written, lease_calls, spot_of_call}
-use Rattle.sl_trace.specs.Sessions.{Session, me, open_calls_of}
+use Rattle.sl_sessions.specs.Sessions.{Session, me, open_calls_of}
 use Rattle.sl_trace.specs.Traces.{Setting, Submitted, Trace, is_shared, is_write}
 use Rattle.sl_trace.specs.declared.effects.Entry.{Entry}
+use Rattle.sl_trace.specs.declared.effects.Spot.{Spot}
 use Rattle.std.specs.List.{list_any}
 use Rattle.std.specs.Prelude.{Bool, Contains, IsTrue, List, MatchBool, Some, false, filter, not, [], ℕ, ◌&&◌, ◌<◌, ◌==◌, ◌≡◌}
 
 -- A ballot of n that ended with the session.
 abbrev pub HasWon : Setting → Trace → Session → Spot → ℕ → Type 0
-HasWon st es s at n = Contains (ended_ballots st es (lease_calls st es s at)) (n, me es s)
+HasWon st es s at n = Contains (ended_ballots st.layout (lease_calls st es s at)) (n, me es s)
 
 -- The session holds the resource exclusive under n.
 abbrev pub holds_under : Trace → Session → Spot → ℕ → Bool
@@ -40,7 +41,7 @@ pub record LawfulFreeLeader (st : Setting) (es : Trace) (s : Session) (at : Spot
 -- A leader that is written names the session, its lockspace, the resource that it has verified, and the run's hosts.
 pub record LawfulLeaderWrite (st : Setting) (es : Trace) (s : Session) (at : Spot) (l : Leader) : Type 0 where
   -- a leader in another's name would free or take what is the other's
-  pub own : IsTrue (same_owner (record { id = l.owner; generation = l.generation }) (me es s))
+  pub own : IsTrue (same_owner (owner_of l) (me es s))
   -- other names would bar the area for ever
   pub names : (l.lockspace ≡ s.lockspace) × (l.num_hosts ≡ st.layout.hosts) × HasVerified st es s at l.resource
   pub ballot : MatchBool l.held (LawfulTake st es s at l) (LawfulFreeLeader st es s at l)

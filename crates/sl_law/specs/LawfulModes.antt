@@ -2,17 +2,17 @@
 use Rattle.sl_law.specs.LawfulBlock.{ReadAfter}
 use Rattle.sl_law.specs.LawfulLeader.{HasWon}
 use Rattle.sl_law.specs.Saying.{EachCall}
+use Rattle.sl_leases.specs.Leases.{Mode_set, Phase1_write, block_of_host, block_written, blocks_given, ended_ballot, freed, has_shared_on, is_at, is_block_read, is_free_write, lease_calls, spot_of_call}
 use Rattle.sl_sector.specs.declared.sector.Block.{Block}
-use Rattle.sl_trace.specs.Leases.{Spot, block_of_host, block_written, blocks_given, ended_ballot, freed, has_shared_on, is_at_step, is_block_read, is_free_write, lease_calls, spot_of_call, spot_of_grant}
-use Rattle.sl_trace.specs.Sessions.{Session, generation_of, me, session_numbered}
-use Rattle.sl_trace.specs.Traces.{Answered, Setting, Submitted, Trace, answer_to, grants, is_shared}
-use Rattle.sl_trace.specs.Watching.{counted_over}
+use Rattle.sl_sessions.specs.Sessions.{Session, generation_of, me, session_numbered}
+use Rattle.sl_sessions.specs.Watching.{counted_over}
+use Rattle.sl_trace.specs.Traces.{Answered, Setting, Submitted, Trace, is_shared, spot_of_grant}
 use Rattle.sl_trace.specs.declared.effects.Entry.{Entry}
 use Rattle.sl_trace.specs.declared.effects.Grant.{Grant}
-use Rattle.sl_trace.specs.declared.effects.LeaseStep.TheVariants.{Phase1Write, Phase2Read, SetMode}
+use Rattle.sl_trace.specs.declared.effects.Spot.{Spot}
 use Rattle.sl_trace.specs.declared.input.Answer.TheVariants.{Written}
 use Rattle.sl_words.specs.Words.{present}
-use Rattle.std.specs.Prelude.{Bool, Contains, IsSome, IsTrue, List, MatchBool, Option, Some, false, length, nat_le, true, [], ℕ, ◌&&◌, ◌||◌, ◌↔◌, ◌∷◌, ◌≡◌, ◌≤◌, ◌⊎◌}
+use Rattle.std.specs.Prelude.{Bool, Contains, IsSome, IsTrue, List, MatchBool, Option, Some, false, length, nat_le, true, [], ℕ, ◌&&◌, ◌++◌, ◌||◌, ◌↔◌, ◌∷◌, ◌≡◌, ◌≤◌, ◌⊎◌}
 
 -- Whether the session held the resource shared after each of the entries from number `since` up to the newest but one.
 abbrev pub shared_since : ℕ → Trace → Session → Spot → Bool
@@ -20,8 +20,8 @@ shared_since since [] s at = false
 shared_since since (e ∷ es) s at = nat_le since (length es) && has_shared_on es s at || shared_since since es s at
 
 -- Answered ok so far.
-abbrev pub IsDone : Trace → Submitted → Answered → Type 0
-IsDone es c a = (answer_to es c.call.number ≡ Some a) × (a.answer ≡ Written)
+abbrev pub IsDone : Submitted → Answered → Type 0
+IsDone c a = (c.answer ≡ Some a) × (a.answer ≡ Written)
 
 -- The blocks that the session wrote there from this call on all have its shared mode.
 abbrev pub AllShared : Setting → Trace → Session → Spot → Submitted → Type 0
@@ -41,13 +41,17 @@ pub record SharedByBallot (st : Setting) (es : Trace) (s : Session) (at : Spot) 
   pub read_answer : Answered
   pub mode_answer : Answered
   pub free_answer : Answered
-  pub of_lease : Contains (lease_calls st es s at) read × Contains (lease_calls st es s at) mode × Contains (lease_calls st es s at) free
+  pub of_lease : Contains (lease_calls st es s at) mode × Contains (lease_calls st es s at) free
+  -- the calls of the lease after and before that read
+  pub after : List Submitted
+  pub before : List Submitted
+  pub split : lease_calls st es s at ≡ after ++ read ∷ before
   -- the instance is the session's
-  pub won : (since ≤ read.at) × IsTrue (is_at_step Phase2Read read) × (ended_ballot st es (lease_calls st es s at) read ≡ Some (n, me es s))
+  pub won : (since ≤ read.at) × (ended_ballot st.layout read before ≡ Some (n, me es s))
   -- others must see the mode before they may go past the instance
-  pub moded : (answer_to es read.call.number ≡ Some read_answer) × (read_answer.at ≤ mode.at) × (block_written mode ≡ Some block)
-      × (block.shared ≡ true) × (block.mode_gen ≡ generation_of es s) × (block.lver ≡ n) × IsDone es mode mode_answer
-  pub freed : (mode_answer.at ≤ free.at) × IsTrue (is_free_write n free) × IsDone es free free_answer
+  pub moded : (read.answer ≡ Some read_answer) × (read_answer.at ≤ mode.at) × (block_written mode ≡ Some block)
+      × (block.shared ≡ true) × (block.mode_gen ≡ generation_of es s) × (block.lver ≡ n) × IsDone mode mode_answer
+  pub freed : (mode_answer.at ≤ free.at) × IsTrue (is_free_write n free) × IsDone free free_answer
   -- a free before the mode would let another pass without seeing it
   pub first : (d : Submitted) → Contains (lease_calls st es s at) d → IsTrue (is_free_write n d) → free.call.number ≤ d.call.number
   -- a block without the mode in between would hide it again
@@ -72,13 +76,13 @@ pub record LawfulExclusiveGrant (st : Setting) (es : Trace) (s : Session) (at : 
   pub own : Block
   pub read : Submitted
   pub blocks : List (Option Block)
-  pub wrote : Contains (lease_calls st es s at) write × IsTrue (is_at_step Phase1Write write) × (block_written write ≡ Some own) × (own.lver ≡ n)
+  pub wrote : Contains (lease_calls st es s at) write × IsTrue (is_at Phase1_write write) × (block_written write ≡ Some own) × (own.lver ≡ n)
   pub of_lease : Contains (lease_calls st es s at) read × IsTrue (is_block_read read)
   -- blocks read before could lack a mode that was set since
-  pub ordered : ReadAfter es write read
+  pub ordered : ReadAfter write read
   -- it belongs to the ballot that ended: no greater number was written since
   pub same_ballot : (d : Submitted) (b : Block) → Contains (lease_calls st es s at) d → block_written d ≡ Some b → write.call.number ≤ d.call.number → b.mbal ≡ own.mbal
-  pub given : blocks_given st es read ≡ Some blocks
+  pub given : blocks_given st.layout read ≡ Some blocks
   -- a shared holder elsewhere would conflict
   pub none_shared : NoneShared st es s blocks
 
@@ -90,7 +94,7 @@ LawfulModeGrant st past es s g =
 -- The mode of a block that is written.
 pub record LawfulMode (st : Setting) (es : Trace) (s : Session) (c : Submitted) (b : Block) : Type 0 where
   -- a holder's mode must stay to be seen; a mode without a holder bars others
-  pub exact : (b.shared ≡ true) ↔ IsTrue (has_shared_on es s (spot_of_call st.layout c) || is_at_step SetMode c)
+  pub exact : (b.shared ≡ true) ↔ IsTrue (has_shared_on es s (spot_of_call st.layout c) || is_at Mode_set c)
   -- another generation could be counted as over
   pub own : b.shared ≡ true → b.mode_gen ≡ generation_of es s
 

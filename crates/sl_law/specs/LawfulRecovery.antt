@@ -1,16 +1,17 @@
 -- What recovery and leaving do to a session's holders and jobs, and how they end it.
-use Rattle.sl_law.specs.Saying.{EachCall, EachSession}
-use Rattle.sl_trace.specs.Jobs.{jobs_of_session}
-use Rattle.sl_trace.specs.Sessions.{Session, free_write, has_open_write, holders_of, holdings_of, is_joined, is_leaving, is_recovering, leaves, leaving_job, recovery_entry}
-use Rattle.sl_trace.specs.Traces.{Job, Setting, Submitted, Trace, answer_by, is_write, reading_at}
+use Rattle.sl_law.specs.Saying.{EachCall, EachSession, IsAnsweredAt}
+use Rattle.sl_leases.specs.Jobs.{jobs_of_session}
+use Rattle.sl_sessions.specs.Sessions.{Begun, Session, calls_of, free_write, has_open_write, holders_of, holdings_of, is_joined, is_leaving, is_recovering, leaves, leaving_job, leaving_of, recovers, recovery_of}
+use Rattle.sl_trace.specs.Traces.{Job, Setting, Submitted, Trace, is_write, newest_reading}
 use Rattle.sl_trace.specs.declared.effects.Entry.{Entry}
 use Rattle.sl_trace.specs.declared.effects.Purpose.TheVariants.{Leaving, Renewal}
 use Rattle.sl_trace.specs.declared.effects.Purpose.{Purpose}
 use Rattle.sl_trace.specs.declared.effects.Signal.TheVariants.{Kill, Term}
 use Rattle.sl_trace.specs.declared.effects.Signal.{Signal}
+use Rattle.sl_trace.specs.declared.input.Answer.{Answer}
 use Rattle.sl_trace.specs.declared.reply.Reply.{Reply}
 use Rattle.std.specs.List.{list_any}
-use Rattle.std.specs.Prelude.{Bool, Contains, IsSome, IsTrue, None, Option, Some, false, is_some, length, nat_le, true, [], ℕ, ◌&&◌, ◌+◌, ◌-◌, ◌<◌, ◌==◌, ◌||◌, ◌∷◌, ◌≡◌, ◌≤◌, ◌⊎◌}
+use Rattle.std.specs.Prelude.{Bool, Contains, IsTrue, None, Option, Some, false, is_some, length, nat_le, true, [], ℕ, ◌&&◌, ◌+◌, ◌<◌, ◌==◌, ◌||◌, ◌∷◌, ◌≡◌, ◌≤◌, ◌⊎◌}
 
 -- The signal goes to the process in this entry.
 abbrev pub IsSent : Entry → ℕ → Signal → Type 0
@@ -31,15 +32,15 @@ was_killed i process (e ∷ es) =
     nat_le i (length es) && list_any (λ s. s.process == process && elim s.signal [ Kill ↦ true | Term ↦ false ]) e.effects.signals || was_killed i process es
 
 -- From grace after a start in an entry before the newest on, each that still holds has been signalled kill.
-abbrev pub KillsAfter : Setting → Trace → Session → ℕ → Type 0
-KillsAfter st es s i =
-    i + 1 < length es → reading_at es i + st.grace ≤ reading_at es (length es - 1) → (p : ℕ) → Contains (holders_of es s) p → IsTrue (was_killed i p es)
+abbrev pub KillsAfter : Setting → Trace → Session → ℕ → ℕ → Type 0
+KillsAfter st es s i reading =
+    i + 1 < length es → reading + st.grace ≤ newest_reading es → (p : ℕ) → Contains (holders_of es s) p → IsTrue (was_killed i p es)
 
 -- How a joined session may end: in recovery with nothing held and no write unanswered, or at its free's answer.
 abbrev pub MayPart : Setting → Trace → Entry → Session → Type 0
 MayPart st past e s =
-    (IsTrue (is_some (recovery_entry st (e ∷ past) s)) × (holdings_of (e ∷ past) s ≡ []) × (has_open_write (e ∷ past) s ≡ false))
-    ⊎ ((c : Submitted) × (free_write past s ≡ Some c) × IsSome (answer_by c.call.number past e))
+    (IsTrue (is_some (recovery_of st (e ∷ past) s)) × (holdings_of (e ∷ past) s ≡ []) × (has_open_write (e ∷ past) s ≡ false))
+    ⊎ ((c : Submitted) × (answer : Answer) × (free_write (calls_of (e ∷ past) s) ≡ Some c) × IsAnsweredAt (length past) c answer)
 
 -- Whether a write may be made in a leaving: a renewal or the free.
 abbrev pub is_leaving_write : Purpose → Bool
@@ -49,10 +50,10 @@ is_leaving_write p = false
 
 -- Lawful recovery and leaving. (That nothing is granted is the law of grants.).
 pub record LawfulRecovery (st : Setting) (past : Trace) (e : Entry) : Type 0 where
-  pub recovers : EachSession st (λ s. recovery_entry st (e ∷ past) s ≡ Some (length past) → StopsSession st past e s None) past
+  pub recovers : EachSession st (λ s. (b : Begun) → recovery_of st (e ∷ past) s ≡ Some b → b.at ≡ length past → StopsSession st past e s None) past
   pub leaves : EachSession st (λ s. (j : Job) → leaving_job st (e ∷ past) s ≡ Some j → j.at ≡ length past → StopsSession st past e s (Some j.number)) past
-  pub recovery_kills : EachSession st (λ s. (i : ℕ) → recovery_entry st (e ∷ past) s ≡ Some i → KillsAfter st (e ∷ past) s i) past
-  pub leaving_kills : EachSession st (λ s. (j : Job) → leaving_job st (e ∷ past) s ≡ Some j → KillsAfter st (e ∷ past) s j.at) past
+  pub recovery_kills : EachSession st (λ s. (b : Begun) → recovery_of st (e ∷ past) s ≡ Some b → KillsAfter st (e ∷ past) s b.at b.reading) past
+  pub leaving_kills : EachSession st (λ s. (b : Begun) → leaving_of st (e ∷ past) s ≡ Some b → KillsAfter st (e ∷ past) s b.at b.reading) past
   -- a session in recovery may be over already
   pub quiet : EachCall st (λ es s c. IsTrue (is_recovering st es s) → is_write c.call.op ≡ false) past e
   pub few : EachCall st (λ es s c. IsTrue (is_leaving st es s) → is_write c.call.op ≡ true → IsTrue (is_leaving_write c.call.purpose)) past e

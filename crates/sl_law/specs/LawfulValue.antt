@@ -2,18 +2,19 @@
 use Rattle.sl_area.specs.Layouts.{record_in}
 use Rattle.sl_area.specs.Places.{value_offset}
 use Rattle.sl_law.specs.LawfulLeader.{open_writes_on}
-use Rattle.sl_law.specs.Saying.{EachCall}
+use Rattle.sl_law.specs.Saying.{EachCall, IsAnsweredAt}
+use Rattle.sl_leases.specs.Counts.{next_value_seq}
+use Rattle.sl_leases.specs.Leases.{exclusive_on, holdings_on, is_on, spot_of_call, value_written}
 use Rattle.sl_sector.specs.Spelling.{value_in}
 use Rattle.sl_sector.specs.declared.sector.ValueRec.{ValueRec}
-use Rattle.sl_trace.specs.Counts.{next_value_seq}
-use Rattle.sl_trace.specs.Leases.{Spot, exclusive_on, holdings_on, is_on, spot_of_call, value_written}
-use Rattle.sl_trace.specs.Sessions.{Session, calls_of, is_active}
-use Rattle.sl_trace.specs.Traces.{Setting, Submitted, Trace, answer_in, is_write}
+use Rattle.sl_sessions.specs.Sessions.{Session, calls_of, is_active}
+use Rattle.sl_trace.specs.Traces.{Setting, Submitted, Trace, is_write}
 use Rattle.sl_trace.specs.declared.effects.Entry.{Entry}
 use Rattle.sl_trace.specs.declared.effects.Grant.{Grant}
 use Rattle.sl_trace.specs.declared.effects.JobReply.{JobReply}
 use Rattle.sl_trace.specs.declared.effects.Op.TheVariants.{ReadSectors}
 use Rattle.sl_trace.specs.declared.effects.Purpose.TheVariants.{ValueRead}
+use Rattle.sl_trace.specs.declared.effects.Spot.{Spot}
 use Rattle.sl_trace.specs.declared.input.Answer.TheVariants.{Read}
 use Rattle.sl_trace.specs.declared.reply.Reply.TheVariants.{Value}
 use Rattle.std.specs.List.{list_any}
@@ -52,9 +53,9 @@ pub record LawfulValueReply (st : Setting) (past : Trace) (e : Entry) (job lver 
   pub call : Submitted
   pub sector : List ℕ
   pub value : ValueRec
-  pub of_session : Contains (calls_of past session) call × (call.call.purpose ≡ ValueRead job)
+  pub of_session : Contains (calls_of (e ∷ past) session) call × (call.call.purpose ≡ ValueRead job)
   -- what is told is what was read
-  pub told : (answer_in e.input ≡ Some (call.call.number, Read sector)) × (value_in (record_in st.layout sector) ≡ Some value)
+  pub told : IsAnsweredAt (length past) call (Read sector) × (value_in (record_in st.layout sector) ≡ Some value)
       × (value.lver ≡ lver) × (value.seq ≡ seq) × (value.bytes ≡ bytes)
   -- a session in recovery or leaving may be over, and another may have written
   pub active : IsTrue (is_active st (e ∷ past) session)

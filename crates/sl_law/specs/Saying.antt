@@ -1,11 +1,12 @@
 -- How laws are said: of each entry of a trace with those before it, and of each call with what stood when it was submitted.
-use Rattle.sl_trace.specs.Sessions.{Session, session_numbered, sessions}
-use Rattle.sl_trace.specs.Traces.{Setting, Submitted, Trace, submitted_in}
+use Rattle.sl_sessions.specs.Sessions.{Session, session_numbered, sessions}
+use Rattle.sl_trace.specs.Traces.{Answered, Setting, Submitted, Trace, new_call}
 use Rattle.sl_trace.specs.declared.effects.Call.{Call}
 use Rattle.sl_trace.specs.declared.effects.Effects.{Effects}
 use Rattle.sl_trace.specs.declared.effects.Entry.{Entry}
 use Rattle.sl_trace.specs.declared.effects.Move.{Move}
-use Rattle.std.specs.Prelude.{Contains, List, Some, drop, filter, nat_lt, [], ◌∷◌, ◌≡◌}
+use Rattle.sl_trace.specs.declared.input.Answer.{Answer}
+use Rattle.std.specs.Prelude.{Contains, List, Some, drop, filter, length, nat_lt, [], ℕ, ◌∷◌, ◌≡◌}
 
 -- The entry with only those of its calls that come before this one; its other effects stand before all its calls.
 abbrev pub cut_before : Call → Entry → Entry
@@ -21,7 +22,11 @@ at_call past e c = cut_before c e ∷ past
 abbrev pub EachCall : Setting → (Trace → Session → Submitted → Type 0) → Trace → Entry → Type 0
 EachCall st P past e =
     (c : Call) (s : Session) → Contains e.effects.calls c → session_numbered st (e ∷ past) c.session ≡ Some s →
-    P (at_call past e c) s (submitted_in past e c)
+    P (at_call past e c) s (new_call (length past) e.reading c)
+
+-- The entry after so many others brings this answer to the call.
+abbrev pub IsAnsweredAt : ℕ → Submitted → Answer → Type 0
+IsAnsweredAt at m answer = (a : Answered) × (m.answer ≡ Some a) × (a.at ≡ at) × (a.answer ≡ answer)
 
 -- What is said of each session after an entry.
 abbrev pub EachSession : Setting → (Session → Type 0) → Trace → Type 0

@@ -9,10 +9,10 @@ use Rattle.sl_run.specs.declared.event.Event.TheVariants.{AnswerCall, Crash, Do,
 use Rattle.sl_run.specs.declared.event.Event.{Event}
 use Rattle.sl_run.specs.declared.header.Header.{Header}
 use Rattle.sl_run.specs.declared.header.ResourceLine.{ResourceLine}
+use Rattle.sl_sessions.specs.Sessions.{sessions}
 use Rattle.sl_text.specs.Forms.{coloned, spaced}
 use Rattle.sl_trace.specs.Commands.{moded_word}
 use Rattle.sl_trace.specs.Connections.{test_holds}
-use Rattle.sl_trace.specs.Sessions.{sessions}
 use Rattle.sl_trace.specs.declared.effects.Effects.{Effects}
 use Rattle.sl_words.specs.Words.{first_of_list, least, some_is}
 use Rattle.std.specs.List.{enumerate_from, range_with_len}

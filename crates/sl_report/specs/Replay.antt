@@ -2,7 +2,7 @@
 use Rattle.sl_due.specs.Due.{due}
 use Rattle.sl_run.specs.Events.{happens, input_of, machine_of, refusal_of}
 use Rattle.sl_run.specs.Runs.{Happening, own_effects_of}
-use Rattle.sl_run.specs.Worlds.{Machine, World, daemon_now, machine_at, reading_now}
+use Rattle.sl_run.specs.Worlds.{Machine, World, machine_at, reading_now}
 use Rattle.sl_run.specs.declared.event.Event.{Event}
 use Rattle.sl_trace.specs.Traces.{no_effects}
 use Rattle.sl_trace.specs.declared.effects.Effects.{Effects}
@@ -12,7 +12,7 @@ use Rattle.std.specs.Prelude.{List, None, Some, [], ◌∷◌}
 
 -- What is due of the daemon of a machine at an input.
 abbrev pub due_at : Machine → Input → Effects
-due_at a i = option_map_or (λ d. due d.setting d.trace (reading_now a) i) (daemon_now a) no_effects
+due_at a i = option_map_or (λ d. due d.setting d.trace (reading_now a) i) a.daemon no_effects
 
 -- The effects of an event's steps, each daemon doing what is due.
 abbrev pub effects_of : World → Event → List Effects

@@ -8,7 +8,7 @@ use Rattle.sl_run.specs.declared.event.Event.{Event}
 use Rattle.sl_text.specs.Forms.{spaced}
 use Rattle.sl_trace.specs.Connections.{test_holds}
 use Rattle.sl_trace.specs.EffectTexts.{effect_lines, is_ok_reply, machine_line}
-use Rattle.sl_trace.specs.Traces.{grants, held_after, is_ended_by}
+use Rattle.sl_trace.specs.Traces.{held_after, is_ended_by}
 use Rattle.sl_trace.specs.declared.effects.Effects.{Effects}
 use Rattle.sl_trace.specs.declared.effects.Grant.{Grant}
 use Rattle.std.specs.Option.{option_map_or}

@@ -9,12 +9,12 @@ use Rattle.sl_run.specs.declared.header.Header.{Header}
 use Rattle.sl_run.specs.declared.header.LockspaceLine.{LockspaceLine}
 use Rattle.sl_run.specs.declared.header.ResourceLine.{ResourceLine}
 use Rattle.sl_run.specs.declared.header.SessionLine.{SessionLine}
+use Rattle.sl_sessions.specs.Sessions.{sessions}
 use Rattle.sl_text.specs.Forms.{Form, exactly, made_by, spaced, word_at, words_of}
 use Rattle.sl_text.specs.Names.{is_name, is_path}
 use Rattle.sl_text.specs.Numbers.{capped_long, capped_short, hex_bytes, is_hex_word, is_number_text, is_number_that, number_of}
 use Rattle.sl_time.specs.Times.{TimingNumbers}
 use Rattle.sl_trace.specs.Commands.{is_process_word}
-use Rattle.sl_trace.specs.Sessions.{sessions}
 use Rattle.sl_words.specs.Words.{choose, first_of_list}
 use Rattle.std.specs.Int.{is_in_range}
 use Rattle.std.specs.List.{list_all, list_any, range_with_len}

@@ -1,6 +1,5 @@
 -- A source as a schedule: its header, its events up to the first line that is refused, and that refusal.
 use Rattle.sl_area.specs.Layouts.{program_digest}
-use Rattle.sl_due.specs.DueFirst.{is_past}
 use Rattle.sl_report.specs.Replay.{effects_of}
 use Rattle.sl_report.specs.Reports.{Counts, count_event, end_line, event_lines, no_counts, run_counts, run_lines}
 use Rattle.sl_report.specs.ScheduleLines.{BeginLine, HeaderLine, event_in, header_line_in, header_of, header_refusal, is_skipped, refusal_line}

@@ -1,6 +1,6 @@
 -- What may happen, and what it changes.
 use Rattle.sl_area.specs.Layouts.{record_in, sector_with}
-use Rattle.sl_run.specs.Worlds.{Course, Daemon, Dropped, Fate, In_flight, Landed, Machine, Sampling, Stamp, Torn, World, change_machine, content, daemon_now, first_reset_after, first_that, flight_of, is_in_flight, is_landed, is_of_running, is_torn_fate, is_write_course, landed_at, machine_at, may_land, mebibyte, names_of, new_daemon, next_numbers, reading_now, sector_size, setting_of, stamp_now}
+use Rattle.sl_run.specs.Worlds.{Course, Daemon, Dropped, Fate, In_flight, Landed, Machine, Sampling, Stamp, Torn, World, change_machine, content, daemons_on, first_that, flight_of, is_in_flight, is_landed, is_of_running, is_torn_fate, is_write_course, landed_at, machine_at, may_land, mebibyte, names_of, new_daemon, next_numbers, reading_now, resets_after, sector_size, setting_of, stamp_now}
 use Rattle.sl_run.specs.declared.event.Event.TheVariants.{AnswerCall, Crash, Do, DropWrite, ExitOf, GiveCommand, Land, Pass, Reset, Restart, Sample, SpawnedOf, StartDaemon, Tear, Test, WakeUp}
 use Rattle.sl_run.specs.declared.event.Event.{Event}
 use Rattle.sl_run.specs.declared.event.Refusal.TheVariants.{LimitMoment, MissingCall, MissingDaemon, MissingDown, MissingFlight, MissingLanding, MissingMachine, MissingPlace, MissingReset, MissingSample, MissingSpawn, MissingUp, PremiseDrift, PremiseLanding, PremiseName, PremiseTorn, PremiseWatchdog}
@@ -8,7 +8,7 @@ use Rattle.sl_run.specs.declared.event.Refusal.{Refusal}
 use Rattle.sl_run.specs.declared.header.Header.{Header}
 use Rattle.sl_time.specs.Times.{reading_of}
 use Rattle.sl_trace.specs.Connections.{after_move, connections, test_holds}
-use Rattle.sl_trace.specs.Traces.{answer_in, end_of, held_after, holdings, is_ok_answer, is_started, no_effects, record_of, spawn_answer}
+use Rattle.sl_trace.specs.Traces.{end_of, held_after, holdings, is_ok_answer, is_starting, no_effects, record_of}
 use Rattle.sl_trace.specs.declared.effects.Call.{Call}
 use Rattle.sl_trace.specs.declared.effects.Effects.{Effects}
 use Rattle.sl_trace.specs.declared.effects.Entry.{Entry}
@@ -22,7 +22,7 @@ use Rattle.sl_words.specs.Bounds.{moments}
 use Rattle.sl_words.specs.Words.{choose, some_is}
 use Rattle.std.specs.List.{enumerate_from, list_any, range_with_len}
 use Rattle.std.specs.Option.{option_map_or}
-use Rattle.std.specs.Prelude.{Bool, List, None, Option, Some, bytes_eq, drop, false, filter, flat_map, fold, if◌then◌else◌, is_none, is_ok, length, map, nat_le, nat_lt, not, option_and_then, option_map, slice_index, take, true, [], ℕ, ◌&&◌, ◌*◌, ◌++◌, ◌+◌, ◌-◌, ◌/◌, ◌==◌, ◌||◌, ◌∷◌}
+use Rattle.std.specs.Prelude.{Bool, List, None, Option, Some, bytes_eq, drop, false, filter, flat_map, fold, if◌then◌else◌, is_none, is_ok, is_some, length, map, nat_le, nat_lt, not, option_and_then, option_map, slice_index, take, true, [], ℕ, ◌&&◌, ◌*◌, ◌++◌, ◌+◌, ◌-◌, ◌/◌, ◌==◌, ◌||◌, ◌∷◌}
 
 -- ---- what an event needs
 
@@ -68,10 +68,10 @@ clock_after w d growths m = elim (machine_at w m) [ None ↦ 0 | Some a ↦ a.cl
 abbrev pub drifts : ℕ → ℕ → ℕ → Bool
 drifts rho d growth = nat_le ((1000 - rho) * d) growth && nat_le growth ((1000 + rho) * d)
 
--- Whether a write of before the machine's reset could still land above the bound: the first reset after its submission counts.
+-- Whether a write of before a reset of the machine could still land above the bound.
 abbrev pub is_late_landing : ℕ → ℕ → Machine → Course → Bool
 is_late_landing land moment a c =
-    elim (may_land c) [ false ↦ false | true ↦ some_is (λ r. nat_lt (r.moment + land) moment) (first_reset_after a c.made.step) ]
+    elim (may_land c) [ false ↦ false | true ↦ list_any (λ r. nat_lt (r.moment + land) moment) (resets_after a c.made.step) ]
 
 -- Why time may not pass so, in order.
 unfoldable pub pass_tests : World → ℕ → Option (List ℕ) → List (Bool × Refusal)
@@ -89,7 +89,7 @@ on_machine w m f = elim (machine_at w m) [ None ↦ (true, MissingMachine) ∷ [
 
 -- A daemon must run.
 abbrev pub needs_daemon : Machine → Bool × Refusal
-needs_daemon a = (not a.running, MissingDaemon)
+needs_daemon a = (is_none a.daemon, MissingDaemon)
 
 -- The call must be in flight and of the right kind.
 abbrev pub on_flight : Machine → ℕ → (Course → Bool) → (Course → List (Bool × Refusal)) → List (Bool × Refusal)
@@ -105,7 +105,7 @@ is_read_course c = not (is_write_course c)
 
 -- Whether the running daemon has a start of this child unanswered.
 abbrev pub has_start : Machine → ℕ → Bool
-has_start a p = some_is (λ d. is_started d.trace p && is_none (spawn_answer d.trace p)) (daemon_now a)
+has_start a p = some_is (λ d. is_starting d.trace p) a.daemon
 
 -- The refusals that apply to the event, in order.
 unfoldable pub event_tests : World → Event → List (Bool × Refusal)
@@ -164,7 +164,7 @@ ok_input f = elim f.call.op [ ReadSectors n ↦ Told f.call.number (Read f.sampl
 
 -- Where a daemon runs.
 abbrev pub if_running : Machine → Input → Option Input
-if_running a i = choose a.running i
+if_running a i = choose (is_some a.daemon) i
 
 -- The input that an event gives the daemon of its machine.
 abbrev pub input_at : World → Event → Machine → Option Input
@@ -218,24 +218,22 @@ abbrev pub new_course : Stamp → ℕ → Call → Course
 new_course now daemon c =
     record { call = c; daemon = daemon; made = now; sampled = []; samples = []; fate = In_flight; answered = None; done = false }
 
+-- The number of the daemon that runs.
+abbrev pub daemon_number : Machine → ℕ
+daemon_number a = option_map_or (λ d. d.number) a.daemon 0
+
 -- The effects of a step, or of the machine itself, on the machine.
 abbrev pub after_effects : Stamp → Effects → Machine → Machine
 after_effects now fx a =
     record a {
       connections = fold after_move a.connections fx.moves;
-      calls = a.calls ++ map (new_course now (length a.daemons - 1)) fx.calls;
+      calls = fold (λ cs c. new_course now (daemon_number a) c ∷ cs) a.calls fx.calls;
       holdings = held_after fx a.holdings;
     }
 
 -- The daemon with one more entry.
 abbrev pub with_entry : Entry → Stamp → Daemon → Daemon
 with_entry e now d = record d { trace = e ∷ d.trace; stamps = now ∷ d.stamps }
-
--- The last of a list, changed.
-abbrev pub change_last : {A : Type 0} → (A → A) → List A → List A
-change_last f [] = []
-change_last f (x ∷ []) = f x ∷ []
-change_last f (x ∷ y ∷ ys) = x ∷ change_last f (y ∷ ys)
 
 -- The calls of the machine, those that pass changed.
 abbrev pub change_calls : (Course → Bool) → (Course → Course) → Machine → Machine
@@ -248,13 +246,13 @@ change_call number f a = change_calls (λ c. c.call.number == number) f a
 -- The call that the input answers is closed.
 abbrev pub close_answered : Stamp → Input → Machine → Machine
 close_answered now i a =
-    elim (answer_in i) [ None ↦ a | Some p ↦ change_call p.0 (λ c. record c { answered = Some now; done = is_ok_answer p.1 }) a ]
+    elim i [ Told number answer ↦ change_call number (λ c. record c { answered = Some now; done = is_ok_answer answer }) a | _ ↦ a ]
 
 -- The running daemon takes one step.
 abbrev pub after_step : Stamp → Input → Effects → Machine → Machine
 after_step now i fx a =
     let b : Machine = after_effects now fx (close_answered now i a) in
-    record b { daemons = change_last (with_entry (record { reading = reading_now a; input = i; effects = fx }) now) b.daemons }
+    record b { daemon = option_map (with_entry (record { reading = reading_now a; input = i; effects = fx }) now) b.daemon }
 
 -- The call with this fate.
 abbrev pub fated : Fate → Course → Course
@@ -268,7 +266,7 @@ write_bytes w c = option_map_or (sector_with w.layout) (record_of c.op) []
 abbrev pub add_landing : ℕ → Call → Bool → List ℕ → World → World
 add_landing m c whole bytes w =
     record w {
-      landings = w.landings ++ record {
+      landings = record {
         path = c.path;
         offset = c.offset;
         bytes = bytes;
@@ -276,7 +274,7 @@ add_landing m c whole bytes w =
         writer = Some (m, c.number);
         step = w.step;
         moment = w.moment;
-      } ∷ [];
+      } ∷ w.landings;
     }
 
 -- The call in flight of machine m.
@@ -332,23 +330,22 @@ after_test w a = record a { kept = (if test_holds a.connections (reading_now a) 
 abbrev pub after_start : World → ℕ → List ℕ → Machine → Machine
 after_start w m name a =
     record a {
-      daemons = a.daemons ++ new_daemon (setting_of w.layout w.header m name (next_numbers a) []) (stamp_now w a) ∷ [];
-      running = true;
+      daemon = Some (new_daemon (length (daemons_on a)) (setting_of w.layout w.header m name (next_numbers a) []) (stamp_now w a));
       used = true;
     }
 
 -- The daemon ends.
 abbrev pub after_crash : Machine → Machine
-after_crash a = record a { running = false }
+after_crash a = record a { daemon = None; ended = daemons_on a }
 
 -- The machine goes down.
 abbrev pub after_reset : World → Machine → Machine
 after_reset w a =
-    record a { up = false; connections = []; running = false; holdings = []; resets = a.resets ++ stamp_now w a ∷ [] }
+    record a { up = false; connections = []; daemon = None; ended = daemons_on a; holdings = []; resets = stamp_now w a ∷ a.resets }
 
 -- The machine comes up; the last keepalive rests on now.
 abbrev pub after_restart : World → Machine → Machine
-after_restart w a = record a { up = true; kept = stamp_now w a; running = false; used = false }
+after_restart w a = record a { up = true; kept = stamp_now w a; used = false }
 
 -- What the event does before a daemon, if any, takes its steps.
 unfoldable pub first_change : Event → World → World

@@ -1,30 +1,30 @@
 -- An acquire that nothing stands in the way of: it is granted.
 use Rattle.sl_area.specs.Layouts.{record_in}
 use Rattle.sl_area.specs.Places.{leader_offset, request_offset}
+use Rattle.sl_leases.specs.Counts.{held_here, limit_met, may_act}
+use Rattle.sl_leases.specs.Leases.{is_leader_of, is_on, known, open_on, owed, spot_of}
 use Rattle.sl_run.specs.Events.{happens, machine_of}
 use Rattle.sl_run.specs.Runs.{Happening, world_after}
 use Rattle.sl_run.specs.Safety.{block_there}
-use Rattle.sl_run.specs.Worlds.{Course, Daemon, Machine, World, content, daemon_now, is_open, is_write_course, machine_at, reading_now}
+use Rattle.sl_run.specs.Worlds.{Course, Daemon, Machine, World, content, is_open, is_write_course, machine_at, reading_now}
 use Rattle.sl_run.specs.declared.event.Event.TheVariants.{Crash, ExitOf, GiveCommand, Reset}
 use Rattle.sl_sector.specs.Spelling.{leader_in, request_in}
 use Rattle.sl_sector.specs.declared.sector.Block.{Block}
 use Rattle.sl_sector.specs.declared.sector.Leader.{Leader}
 use Rattle.sl_sector.specs.declared.sector.Request.{Request}
+use Rattle.sl_sessions.specs.Sessions.{Session, is_active, session_named, session_numbered}
+use Rattle.sl_sessions.specs.Watching.{counts_over}
 use Rattle.sl_trace.specs.Commands.{command_in}
-use Rattle.sl_trace.specs.Counts.{held_here, limit_met, may_act}
-use Rattle.sl_trace.specs.Leases.{Spot, is_leader_of, is_on, lease_calls, open_on, owed, spot_of}
-use Rattle.sl_trace.specs.Sessions.{Session, is_active, session_named, session_numbered}
-use Rattle.sl_trace.specs.Traces.{Answered, Submitted, Trace, answer_to, is_of_job, is_ok_answer, is_write, next_job, no_effects, reply_to, submitted, waiting_call}
-use Rattle.sl_trace.specs.Watching.{counts_over}
+use Rattle.sl_trace.specs.Traces.{Answered, Submitted, Trace, is_of_job, is_ok_answer, is_write, next_job, no_effects, reply_to, submitted, waiting_call}
 use Rattle.sl_trace.specs.declared.command.Command.TheVariants.{Acquire}
 use Rattle.sl_trace.specs.declared.command.ResourceArg.{ResourceArg}
 use Rattle.sl_trace.specs.declared.effects.Call.{Call}
 use Rattle.sl_trace.specs.declared.effects.Effects.{Effects}
+use Rattle.sl_trace.specs.declared.effects.Spot.{Spot}
 use Rattle.sl_trace.specs.declared.input.Input.TheVariants.{Wake}
 use Rattle.sl_trace.specs.declared.reply.Reply.TheVariants.{Granted}
 use Rattle.sl_trace.specs.declared.reply.Reply.{Reply}
 use Rattle.sl_words.specs.Bounds.{record_numbers}
-use Rattle.sl_words.specs.Words.{last_of}
 use Rattle.std.specs.Prelude.{Bool, Contains, IsSome, IsTrue, List, None, Ok, Option, Some, false, filter, length, true, [], ℕ, ◌&&◌, ◌++◌, ◌+◌, ◌<◌, ◌∷◌, ◌≡◌, ◌≤◌}
 
 -- The trace when a command comes at this reading.
@@ -45,14 +45,14 @@ pub record QuietStart (w : World) (m : ℕ) (text : List ℕ) (r : ResourceArg) 
   pub daemon : Daemon
   pub session : Session
   pub leader : Leader
-  pub runs : (machine_at w m ≡ Some machine) × (daemon_now machine ≡ Some daemon)
+  pub runs : (machine_at w m ≡ Some machine) × (machine.daemon ≡ Some daemon)
   pub line : command_in w.layout text ≡ Ok (Acquire r shared p)
   pub process : IsTrue (may_act daemon.trace p)
   pub named : session_named daemon.setting (before_command daemon (reading_now machine)) r.lockspace ≡ Some session
   -- joined, and recovery isn't due at this reading
   pub active : IsTrue (is_active daemon.setting (before_command daemon (reading_now machine)) session)
   pub no_holding : held_here daemon.trace (spot_of r) ≡ []
-  pub settled : owed daemon.setting daemon.trace session (spot_of r) (lease_calls daemon.setting daemon.trace session (spot_of r)) ≡ None
+  pub settled : owed (known daemon.setting daemon.trace session (spot_of r)) ≡ None
   pub no_call : open_on daemon.setting daemon.trace (spot_of r) ≡ []
   pub no_limit : limit_met daemon.setting daemon.trace session (spot_of r) false ≡ None
   pub leader_spells : leader_there w (spot_of r) ≡ Some leader
@@ -74,19 +74,19 @@ AnsweredInTime io now c (Some b) = IsTrue (is_ok_answer b.answer) × (b.reading 
 pub record QuietStep (w : World) (x : Happening) (v : World) (m job : ℕ) (r : ResourceArg) (shared : Bool) (p number : ℕ) : Type 0 where
   -- each other host's shared mode is over
   pub modes : shared ≡ false → (host : ℕ) (b : Block) (a : Machine) (d : Daemon) (s : Session) → (host ≡ s.id → ⊥) →
-      machine_at w m ≡ Some a → daemon_now a ≡ Some d → session_numbered d.setting d.trace number ≡ Some s →
+      machine_at w m ≡ Some a → a.daemon ≡ Some d → session_numbered d.setting d.trace number ≡ Some s →
       block_there w (spot_of r) host ≡ Some b → b.shared ≡ true → IsTrue (counts_over d.setting d.trace s host b.mode_gen)
   -- no other daemon submits a write on the area
   pub calm : (fx : Effects) (c : Call) → Contains x.1 fx → Contains fx.calls c → (machine_of x.0 ≡ m → ⊥) → IsTrue (is_write c.op) →
       IsTrue (is_on w.layout (spot_of r) c) → ⊥
   -- the session stays neither in recovery nor leaving
-  pub active : (a : Machine) (d : Daemon) (s : Session) → machine_at v m ≡ Some a → last_of a.daemons ≡ Some d →
+  pub active : (a : Machine) (d : Daemon) (s : Session) → machine_at v m ≡ Some a → a.daemon ≡ Some d →
       session_numbered d.setting d.trace number ≡ Some s → IsTrue (is_active d.setting d.trace s)
   -- the process does not exit, and the daemon runs on
   pub stays : (x.0 ≡ ExitOf m p → ⊥) × (x.0 ≡ Crash m → ⊥) × (x.0 ≡ Reset m → ⊥)
   -- each call of the job is answered ok less than io after its submission
-  pub answers : (a : Machine) (d : Daemon) (c : Submitted) → machine_at v m ≡ Some a → last_of a.daemons ≡ Some d →
-      Contains (submitted d.trace) c → IsTrue (is_of_job job c) → AnsweredInTime w.header.timing.io (reading_now a) c (answer_to d.trace c.call.number)
+  pub answers : (a : Machine) (d : Daemon) (c : Submitted) → machine_at v m ≡ Some a → a.daemon ≡ Some d →
+      Contains (submitted d.trace) c → IsTrue (is_of_job job c) → AnsweredInTime w.header.timing.io (reading_now a) c c.answer
 
 -- The calls that a job has made.
 abbrev pub job_calls : Trace → ℕ → List Submitted
@@ -117,5 +117,5 @@ QuietIsGranted start xs =
     (before during : List Happening) (m p : ℕ) (text : List ℕ) (r : ResourceArg) (shared : Bool) (fxs : List Effects)
     (q : QuietStart (world_after start before) m text r shared p) → xs ≡ before ++ (GiveCommand m text, fxs) ∷ during →
     StaysQuiet (world_after start before) ((GiveCommand m text, fxs) ∷ during) m (next_job q.daemon.setting q.daemon.trace) r shared p q.session.number →
-    (a : Machine) (d : Daemon) → machine_at (world_after start xs) m ≡ Some a → daemon_now a ≡ Some d →
+    (a : Machine) (d : Daemon) → machine_at (world_after start xs) m ≡ Some a → a.daemon ≡ Some d →
     IsGrantedQuietly d (next_job q.daemon.setting q.daemon.trace) (q.leader.lver + 1) shared

@@ -1,6 +1,6 @@
 -- Runs: events, each with its effects, from the header's world on.
 use Rattle.sl_run.specs.Events.{happens, input_of, machine_of, may_happen, next_input, own_effects}
-use Rattle.sl_run.specs.Worlds.{Daemon, World, machine_at}
+use Rattle.sl_run.specs.Worlds.{Daemon, World, daemons_on, machine_at}
 use Rattle.sl_run.specs.declared.event.Event.{Event}
 use Rattle.sl_trace.specs.Traces.{Setting, Trace, no_effects}
 use Rattle.sl_trace.specs.declared.effects.Effects.{Effects}
@@ -39,7 +39,7 @@ IsRun w xs = RunsFrom w xs
 
 -- Every daemon that ever ran in it.
 abbrev pub daemons_of : World → List Daemon
-daemons_of w = flat_map (λ a. a.daemons) w.machines
+daemons_of w = flat_map daemons_on w.machines
 
 -- What is said of each of them.
 abbrev pub EachDaemon : (Setting → Trace → Type 0) → World → Type 0

@@ -2,27 +2,27 @@
 use Rattle.sl_area.specs.Layouts.{record_in}
 use Rattle.sl_area.specs.Places.{block_offset}
 use Rattle.sl_law.specs.Lawful.{Lawful}
+use Rattle.sl_leases.specs.Leases.{Phase1_write, block_written, ended_ballots, holdings_on, is_at, lease_calls}
 use Rattle.sl_run.specs.Conflicts.{IsExclusive}
 use Rattle.sl_run.specs.Headers.{IsHeader}
 use Rattle.sl_run.specs.Runs.{AfterEachFront, EachDaemon, Happening, IsRun, world_after}
-use Rattle.sl_run.specs.Worlds.{Course, Daemon, Machine, World, content, first_reset_after, is_landed, is_open, is_write_course, machine_at, world_with}
+use Rattle.sl_run.specs.Worlds.{Course, Daemon, Machine, Stamp, World, content, daemon_numbered, is_landed, is_open, is_write_course, machine_at, resets_after, world_with}
 use Rattle.sl_run.specs.declared.header.Header.{Header}
 use Rattle.sl_sector.specs.Spelling.{IsDigest, block_in, delta_in}
 use Rattle.sl_sector.specs.declared.sector.Block.{Block}
 use Rattle.sl_sector.specs.declared.sector.DeltaRec.{DeltaRec}
 use Rattle.sl_sector.specs.declared.sector.Owner.{Owner}
+use Rattle.sl_sessions.specs.Deltas.{own_offset}
+use Rattle.sl_sessions.specs.Sessions.{Session, calls_of, ended_after, free_write, generation_of, is_joined, joined_after, me, session_numbered, shows_other}
+use Rattle.sl_sessions.specs.Watching.{counts_over, evidence}
 use Rattle.sl_trace.specs.Connections.{connection_named}
-use Rattle.sl_trace.specs.Joinings.{own_offset}
-use Rattle.sl_trace.specs.Leases.{Spot, block_written, ended_ballots, holdings_on, is_at_step, lease_calls}
-use Rattle.sl_trace.specs.Sessions.{Session, ended_after, free_write, generation_of, is_joined, joined_after, me, session_numbered, shows_other}
 use Rattle.sl_trace.specs.Traces.{Setting, Trace, is_shared, same_place}
-use Rattle.sl_trace.specs.Watching.{counts_over, evidence}
 use Rattle.sl_trace.specs.declared.effects.Entry.{Entry}
 use Rattle.sl_trace.specs.declared.effects.Grant.{Grant}
-use Rattle.sl_trace.specs.declared.effects.LeaseStep.TheVariants.{Phase1Write}
-use Rattle.sl_words.specs.Words.{some_is}
+use Rattle.sl_trace.specs.declared.effects.Spot.{Spot}
+use Rattle.sl_words.specs.Words.{is_empty, some_is}
 use Rattle.std.specs.List.{list_any}
-use Rattle.std.specs.Prelude.{Bool, Contains, IsFalse, IsSome, IsSomeAnd, IsTrue, List, Option, Some, is_some, nat_lt, not, option_and_then, option_map, slice_get, true, ℕ, ◌&&◌, ◌++◌, ◌+◌, ◌<◌, ◌==◌, ◌||◌, ◌∷◌, ◌≡◌, ◌≤◌, ◌⊎◌}
+use Rattle.std.specs.Prelude.{Bool, Contains, IsFalse, IsSome, IsTrue, List, Option, Some, is_some, nat_lt, not, option_and_then, option_map, true, ℕ, ◌&&◌, ◌++◌, ◌+◌, ◌<◌, ◌==◌, ◌||◌, ◌∷◌, ◌≡◌, ◌≤◌, ◌⊎◌}
 
 -- ---- runs
 
@@ -55,7 +55,7 @@ pub record Found : Type 0 where
 abbrev pub session_of_world : World → SessionId → Option Found
 session_of_world w i =
     option_and_then (λ a. option_and_then (λ d. option_map (λ s. record { machine = a; daemon = d; session = s })
-    (session_numbered d.setting d.trace i.number)) (slice_get a.daemons i.daemon)) (machine_at w i.machine)
+    (session_numbered d.setting d.trace i.number)) (daemon_numbered a i.daemon)) (machine_at w i.machine)
 
 -- This session is meant.
 abbrev pub IsSession : World → SessionId → Found → Type 0
@@ -97,12 +97,12 @@ has_write_in_flight i a = list_any (λ c. is_course_of i c && is_write_course c 
 
 -- Whether its machine was reset since its daemon began.
 abbrev pub was_reset : Found → Bool
-was_reset f = is_some (first_reset_after f.machine f.daemon.begun.step)
+was_reset f = not (is_empty (resets_after f.machine f.daemon.begun.step))
 
 -- Whether the write of its free has landed whole.
 abbrev pub free_landed : SessionId → Found → Bool
 free_landed i f =
-    some_is (λ c. list_any (λ d. is_course_of i d && d.call.number == c.call.number && is_landed d.fate) f.machine.calls) (free_write (trace_of f) f.session)
+    some_is (λ c. list_any (λ d. is_course_of i d && d.call.number == c.call.number && is_landed d.fate) f.machine.calls) (free_write (calls_of (trace_of f) f.session))
 
 -- Over: its free has landed, or it has ended or its machine was reset, with no write of it in flight.
 abbrev pub is_over : SessionId → Found → Bool
@@ -110,13 +110,18 @@ is_over i f = free_landed i f || (is_some (ended_after (trace_of f) f.session) |
 
 -- ---- over clocks, devices, flights and delta sectors
 
+-- The machine was reset after this step, and each such reset is at most land ago.
+pub record WasResetLately (w : World) (a : Machine) (step : ℕ) : Type 0 where
+  pub reset : IsFalse (is_empty (resets_after a step))
+  pub lately : (r : Stamp) → Contains (resets_after a step) r → w.moment ≤ r.moment + w.header.timing.land
+
 -- A write in flight belongs to a session whose connection is registered, or to a machine that was reset at most land ago.
 abbrev pub FlightsCovered : World → Type 0
 FlightsCovered w =
     (m : ℕ) (a : Machine) (c : Course) → machine_at w m ≡ Some a → Contains a.calls c → IsTrue (is_write_course c && is_open a c) →
     ((i : SessionId) × (f : Found) × IsSession w i f × (i.machine ≡ m) × IsTrue (is_course_of i c)
     × IsSome (connection_named a.connections f.session.lockspace))
-    ⊎ IsSomeAnd (first_reset_after a c.made.step) (λ r. w.moment ≤ r.moment + w.header.timing.land)
+    ⊎ WasResetLately w a c.made.step
 
 -- A session of the world has evidence against generation h of its lockspace's id j.
 abbrev pub HasEvidence : World → SessionId → Found → ℕ → ℕ → Type 0
@@ -166,7 +171,7 @@ pub record DeltaInvariant (digest : List ℕ → List ℕ) (h : Header) (xs : Li
 
 -- The ballots of a session that ended on an area.
 abbrev pub ballots_of : Found → Spot → List (ℕ × Owner)
-ballots_of f at = ended_ballots (setting_in f) (trace_of f) (lease_calls (setting_in f) (trace_of f) f.session at)
+ballots_of f at = ended_ballots (setting_in f).layout (lease_calls (setting_in f) (trace_of f) f.session at)
 
 -- All ballots of a resource's instance that end, end with one session.
 abbrev pub Agreement : World → Type 0
@@ -183,7 +188,7 @@ OneWinner w =
 -- The session has begun an instance above n there.
 abbrev pub begins_above : Found → Spot → ℕ → Bool
 begins_above g at n =
-    list_any (λ c. is_at_step Phase1Write c && some_is (λ b. nat_lt n b.lver) (block_written c)) (lease_calls (setting_in g) (trace_of g) g.session at)
+    list_any (λ c. is_at Phase1_write c && some_is (λ b. nat_lt n b.lver) (block_written c)) (lease_calls (setting_in g) (trace_of g) g.session at)
 
 -- What a host's block spells now.
 abbrev pub block_there : World → Spot → ℕ → Option Block

@@ -3,16 +3,16 @@ use Rattle.sl_area.specs.Layouts.{record_in}
 use Rattle.sl_area.specs.Places.{value_offset}
 use Rattle.sl_run.specs.Runs.{Happening}
 use Rattle.sl_run.specs.Safety.{LawfulRun, world_at}
-use Rattle.sl_run.specs.Worlds.{Course, Daemon, Machine, World, initial_bytes, machine_at}
+use Rattle.sl_run.specs.Worlds.{Course, Daemon, Machine, World, daemon_numbered, initial_bytes, machine_at}
 use Rattle.sl_run.specs.declared.header.Header.{Header}
 use Rattle.sl_sector.specs.Spelling.{value_in}
 use Rattle.sl_sector.specs.declared.sector.Rec.TheVariants.{ValueIs}
 use Rattle.sl_sector.specs.declared.sector.ValueRec.{ValueRec}
-use Rattle.sl_trace.specs.Leases.{Spot}
 use Rattle.sl_trace.specs.Traces.{record_of, reply_to, same_place}
 use Rattle.sl_trace.specs.declared.effects.Purpose.TheVariants.{ValueRead}
+use Rattle.sl_trace.specs.declared.effects.Spot.{Spot}
 use Rattle.sl_trace.specs.declared.reply.Reply.TheVariants.{Value}
-use Rattle.std.specs.Prelude.{Contains, IsSomeAnd, IsTrue, List, Some, slice_get, true, ℕ, ◌<◌, ◌≡◌, ◌≤◌, ◌⊎◌}
+use Rattle.std.specs.Prelude.{Contains, IsSomeAnd, IsTrue, List, Some, true, ℕ, ◌<◌, ◌≡◌, ◌≤◌, ◌⊎◌}
 
 -- A write of this value on the resource, in the course of a machine's calls.
 pub record IsSet (w : World) (at : Spot) (c : Course) (v : ValueRec) : Type 0 where
@@ -36,7 +36,7 @@ MayRead w at step v =
 -- A reader's call, and what it is given.
 pub record IsGivenValue (w : World) (at : Spot) (c : Course) (step : ℕ) (v : ValueRec) : Type 0 where
   pub daemon : (m : ℕ) × (a : Machine) × (d : Daemon) × (job : ℕ) × (i : ℕ) × (machine_at w m ≡ Some a) × Contains a.calls c
-      × (slice_get a.daemons c.daemon ≡ Some d) × (c.call.purpose ≡ ValueRead job)
+      × (daemon_numbered a c.daemon ≡ Some d) × (c.call.purpose ≡ ValueRead job)
       × (reply_to d.trace job ≡ Some (record { at = i; reply = Value v.lver v.seq v.bytes }))
   pub place : IsTrue (same_place c.call.path c.call.offset at.path (value_offset w.layout at.base))
   pub answered : IsSomeAnd c.answered (λ a. a.step ≡ step)

@@ -18,10 +18,10 @@ use Rattle.sl_trace.specs.declared.effects.Call.{Call}
 use Rattle.sl_trace.specs.declared.effects.Grant.{Grant}
 use Rattle.sl_trace.specs.declared.input.Given.{Given}
 use Rattle.sl_trace.specs.declared.input.Numbers.{Numbers}
-use Rattle.sl_words.specs.Words.{choose, last_of}
-use Rattle.std.specs.List.{list_any, range_with_len}
+use Rattle.sl_words.specs.Words.{choose, first_of_list, some_is}
+use Rattle.std.specs.List.{range_with_len}
 use Rattle.std.specs.Option.{option_map_or}
-use Rattle.std.specs.Prelude.{Bool, List, None, Option, Some, bytes_eq, false, filter, filter_map, find, flat_map, if◌then◌else◌, is_none, length, map, nat_lt, option_map, replicate, slice_get, slice_set, true, [], ℕ, ◌&&◌, ◌*◌, ◌+◌, ◌-◌, ◌/◌, ◌==◌, ◌||◌, ◌∷◌}
+use Rattle.std.specs.Prelude.{Bool, List, None, Option, Some, bytes_eq, false, filter, filter_map, find, flat_map, if◌then◌else◌, is_none, is_some, map, nat_lt, option_map, replicate, slice_get, slice_set, true, [], ℕ, ◌&&◌, ◌*◌, ◌++◌, ◌+◌, ◌-◌, ◌/◌, ◌==◌, ◌||◌, ◌∷◌}
 
 -- When something happened: the number of the step, the moment, and the clock of the machine, in thousandths of a millisecond. Of two
 -- things the one with the lesser step came first; all that happens between two entries of the run has a step of its own.
@@ -61,8 +61,9 @@ pub record Course : Type 0 where
   -- answered ok
   pub done : Bool
 
--- A daemon with its trace, and when each entry came, the newest first.
+-- A daemon with its place among the machine's, its trace, and when each entry came, the newest first.
 pub record Daemon : Type 0 where
+  pub number : ℕ
   pub setting : Setting
   pub begun : Stamp
   pub trace : Trace
@@ -76,17 +77,17 @@ pub record Machine : Type 0 where
   -- on what the last keepalive rests
   pub kept : Stamp
   pub connections : List Connection
-  -- each that ever began here, in order
-  pub daemons : List Daemon
-  -- the last of them runs
-  pub running : Bool
+  -- the one that runs
+  pub daemon : Option Daemon
+  -- those that have ended, the newest first
+  pub ended : List Daemon
   -- one ran since the last restart
   pub used : Bool
-  -- all that were ever submitted here, in order
+  -- all that were ever submitted here, the newest first
   pub calls : List Course
   -- in the order of their grants
   pub holdings : List Grant
-  -- in order
+  -- the newest first
   pub resets : List Stamp
 
 -- What a write left at a place.
@@ -110,7 +111,7 @@ pub record World : Type 0 where
   pub moment : ℕ
   -- machine m is the m-th
   pub machines : List Machine
-  -- of all places, in order
+  -- of all places, the newest first
   pub landings : List Landing
 
 -- The unit of a disk's size.
@@ -168,7 +169,7 @@ initial_record g h path offset =
 abbrev pub initial_bytes : Layout → Header → List ℕ → ℕ → List ℕ
 initial_bytes g h path offset = elim (initial_record g h path offset) [ None ↦ replicate g.sector 0 | Some r ↦ sector_with g r ]
 
--- What landed at a place since moment 0, in order.
+-- What landed at a place since moment 0, the newest first.
 abbrev pub landed_at : World → List ℕ → ℕ → List Landing
 landed_at w path offset = filter (λ l. same_place l.path l.offset path offset) w.landings
 
@@ -185,13 +186,17 @@ first_landing w path offset =
       moment = 0;
     }
 
--- All that ever stood at a place, in order.
+-- All that ever stood at a place, the newest first.
 abbrev pub history_of : World → List ℕ → ℕ → List Landing
-history_of w path offset = first_landing w path offset ∷ landed_at w path offset
+history_of w path offset = landed_at w path offset ++ first_landing w path offset ∷ []
 
--- A place holds the last of its history.
+-- What landed at a place last, if anything did.
+abbrev pub last_landing : World → List ℕ → ℕ → Option Landing
+last_landing w path offset = find (λ l. same_place l.path l.offset path offset) w.landings
+
+-- A place holds the newest of its history.
 abbrev pub content : World → List ℕ → ℕ → List ℕ
-content w path offset = elim (last_of (landed_at w path offset)) [ Some l ↦ l.bytes | None ↦ initial_bytes w.layout w.header path offset ]
+content w path offset = elim (last_landing w path offset) [ Some l ↦ l.bytes | None ↦ initial_bytes w.layout w.header path offset ]
 
 -- ---- machines
 
@@ -211,18 +216,26 @@ reading_now a = reading_of a.clock
 abbrev pub stamp_now : World → Machine → Stamp
 stamp_now w a = record { step = w.step; moment = w.moment; clock = a.clock }
 
--- The daemon that runs.
-abbrev pub daemon_now : Machine → Option Daemon
-daemon_now a = elim a.running [ false ↦ None | true ↦ last_of a.daemons ]
+-- Each daemon that ever began on a machine, the newest first.
+abbrev pub daemons_on : Machine → List Daemon
+daemons_on a = elim a.daemon [ None ↦ a.ended | Some d ↦ d ∷ a.ended ]
+
+-- The daemon with this place among the machine's.
+abbrev pub daemon_numbered : Machine → ℕ → Option Daemon
+daemon_numbered a number = find (λ d. d.number == number) (daemons_on a)
 
 -- All names that daemons had.
 abbrev pub names_of : World → List (List ℕ)
-names_of w = flat_map (λ a. map (λ d. d.setting.name) a.daemons) w.machines
+names_of w = flat_map (λ a. map (λ d. d.setting.name) (daemons_on a)) w.machines
+
+-- The numbers of a machine's first daemon.
+abbrev pub first_numbers : Numbers
+first_numbers = record { call = 1; job = 1 }
 
 -- The numbers of the next call and the next job of the machine.
 abbrev pub next_numbers : Machine → Numbers
 next_numbers a =
-    elim (last_of a.daemons) [ None ↦ record { call = 1; job = 1 } | Some d ↦ record { call = next_call d.setting d.trace; job = next_job d.setting d.trace } ]
+    elim (first_of_list (daemons_on a)) [ None ↦ first_numbers | Some d ↦ record { call = next_call d.setting d.trace; job = next_job d.setting d.trace } ]
 
 -- ---- calls
 
@@ -247,7 +260,7 @@ is_write_course c = is_write c.call.op
 
 -- Whether the call is the running daemon's.
 abbrev pub is_of_running : Machine → Course → Bool
-is_of_running a c = a.running && c.daemon + 1 == length a.daemons
+is_of_running a c = some_is (λ d. d.number == c.daemon) a.daemon
 
 -- Whether a write may still take effect.
 abbrev pub may_land : Course → Bool
@@ -265,9 +278,9 @@ flights a = filter (is_open a) a.calls
 abbrev pub flight_of : Machine → ℕ → Option Course
 flight_of a number = find (λ c. c.call.number == number && is_open a c) a.calls
 
--- The first reset after this step.
-abbrev pub first_reset_after : Machine → ℕ → Option Stamp
-first_reset_after a step = find (λ r. nat_lt step r.step) a.resets
+-- The resets after this step, the newest first.
+abbrev pub resets_after : Machine → ℕ → List Stamp
+resets_after a step = filter (λ r. nat_lt step r.step) a.resets
 
 -- ---- the header's world
 
@@ -290,34 +303,26 @@ setting_of g h m name first given =
     record { timing = h.timing; grace = h.grace; layout = g; machine = m; name = name; first = first; given = given }
 
 -- A daemon without entries.
-abbrev pub new_daemon : Setting → Stamp → Daemon
-new_daemon st begun = record { setting = st; begun = begun; trace = []; stamps = [] }
-
--- The numbers of a machine's first daemon.
-abbrev pub first_numbers : Numbers
-first_numbers = record { call = 1; job = 1 }
+abbrev pub new_daemon : ℕ → Setting → Stamp → Daemon
+new_daemon number st begun = record { number = number; setting = st; begun = begun; trace = []; stamps = [] }
 
 -- The daemon that a machine has at moment 0: that of its session lines.
-abbrev pub first_daemons : Layout → Header → ℕ → List Given → List Daemon
-first_daemons g h m given =
-    elim (find (λ s. s.machine == m) h.sessions) [
-      | None ↦ []
-      | Some s ↦ new_daemon (setting_of g h m s.name first_numbers given) (first_stamp h m) ∷ []
-    ]
+abbrev pub first_daemon : Layout → Header → ℕ → List Given → Option Daemon
+first_daemon g h m given =
+    option_map (λ s. new_daemon 0 (setting_of g h m s.name first_numbers given) (first_stamp h m)) (find (λ s. s.machine == m) h.sessions)
 
 -- Machine m at moment 0.
 unfoldable pub machine_of_header : Layout → Header → ℕ → Machine
 machine_of_header g h m =
     let given : List Given = filter_map (given_of h m) h.sessions in
-    let has : Bool = list_any (λ s. s.machine == m) h.sessions in
     record {
       up = true;
       clock = 1000 * clock_reading h m;
       kept = first_stamp h m;
       connections = map (given_connection h.timing) given;
-      daemons = first_daemons g h m given;
-      running = has;
-      used = has;
+      daemon = first_daemon g h m given;
+      ended = [];
+      used = is_some (first_daemon g h m given);
       calls = [];
       holdings = [];
       resets = [];

@@ -16,6 +16,7 @@ use Rattle.sl_trace.specs.declared.effects.Op.TheVariants.{ReadSectors, WriteRec
 use Rattle.sl_trace.specs.declared.effects.Op.{Op}
 use Rattle.sl_trace.specs.declared.effects.Purpose.TheVariants.{AskRead, AskWrite, Joining, Lease, Leaving, Renewal, SeeRequest, Survey, ValueRead, ValueWrite}
 use Rattle.sl_trace.specs.declared.effects.Purpose.{Purpose}
+use Rattle.sl_trace.specs.declared.effects.Spot.{Spot}
 use Rattle.sl_trace.specs.declared.effects.Start.{Start}
 use Rattle.sl_trace.specs.declared.effects.Work.TheVariants.{ForJob, Settling}
 use Rattle.sl_trace.specs.declared.effects.Work.{Work}
@@ -25,12 +26,13 @@ use Rattle.sl_trace.specs.declared.input.Given.{Given}
 use Rattle.sl_trace.specs.declared.input.Input.TheVariants.{Answer as Told, Exit, Line, Spawned}
 use Rattle.sl_trace.specs.declared.input.Input.{Input}
 use Rattle.sl_trace.specs.declared.input.Numbers.{Numbers}
+use Rattle.sl_trace.specs.declared.reply.Reply.TheVariants.{IoTimeout, Recovering}
 use Rattle.sl_trace.specs.declared.reply.Reply.{Reply}
 use Rattle.sl_words.specs.Bounds.{moments}
-use Rattle.sl_words.specs.Words.{choose, greatest, some_is}
+use Rattle.sl_words.specs.Words.{greatest, some_is}
 use Rattle.std.specs.List.{list_any, range_with_len}
-use Rattle.std.specs.Option.{option_map_or}
-use Rattle.std.specs.Prelude.{Bool, IsTrue, List, None, Option, Result, Some, bytes_eq, drop, false, filter, find, is_none, length, map, nat_lt, not, option_and_then, option_map, slice_get, true, [], ℕ, ◌&&◌, ◌*◌, ◌++◌, ◌+◌, ◌-◌, ◌<◌, ◌==◌, ◌||◌, ◌∷◌, ◌≡◌, ◌≤◌}
+use Rattle.std.specs.Option.{option_map_or, option_or}
+use Rattle.std.specs.Prelude.{Bool, IsTrue, List, None, Option, Result, Some, bytes_eq, drop, false, filter, find, fold, is_none, length, map, nat_lt, not, option_and_then, option_map, slice_get, true, [], ℕ, ◌&&◌, ◌*◌, ◌++◌, ◌+◌, ◌-◌, ◌<◌, ◌==◌, ◌∷◌, ◌≡◌, ◌≤◌}
 
 -- What a daemon is made of.
 pub record Setting : Type 0 where
@@ -58,97 +60,14 @@ entry_at es i = elim (nat_lt i (length es)) [ false ↦ None | true ↦ slice_ge
 abbrev pub reading_at : Trace → ℕ → ℕ
 reading_at es i = option_map_or (λ e. e.reading) (entry_at es i) 0
 
+-- The newest entry's reading, and 0 where there is none.
+abbrev pub newest_reading : Trace → ℕ
+newest_reading [] = 0
+newest_reading (e ∷ es) = e.reading
+
 -- A step that does nothing.
 abbrev pub no_effects : Effects
 no_effects = record { ends = []; signals = []; moves = []; grants = []; starts = []; replies = []; calls = [] }
-
--- ---- calls and their answers
-
--- A call, with the place and the reading of the entry that submitted it.
-pub record Submitted : Type 0 where
-  pub at : ℕ
-  pub reading : ℕ
-  pub call : Call
-
--- An answer, with the place and the reading of the entry that brought it.
-pub record Answered : Type 0 where
-  pub at : ℕ
-  pub reading : ℕ
-  pub answer : Answer
-
--- A call submitted in the entry that follows these.
-abbrev pub submitted_in : Trace → Entry → Call → Submitted
-submitted_in es e c = record { at = length es; reading = e.reading; call = c }
-
--- All calls, the oldest first.
-abbrev pub submitted : Trace → List Submitted
-submitted [] = []
-submitted (e ∷ es) = submitted es ++ map (submitted_in es e) e.effects.calls
-
--- The call that an input answers, and how.
-abbrev pub answer_in : Input → Option (ℕ × Answer)
-answer_in (Told call answer) = Some (call, answer)
-answer_in i = None
-
--- The answer to this call that the entry after these brings, if it does.
-abbrev pub answer_by : ℕ → Trace → Entry → Option Answered
-answer_by number es e =
-    option_and_then (λ a. choose (a.0 == number) (record { at = length es; reading = e.reading; answer = a.1 })) (answer_in e.input)
-
--- The answer to a call.
-abbrev pub answer_to : Trace → ℕ → Option Answered
-answer_to [] number = None
-answer_to (e ∷ es) number = elim (answer_to es number) [ Some a ↦ Some a | None ↦ answer_by number es e ]
-
--- The calls without an answer, the oldest first.
-abbrev pub outstanding : Trace → List Submitted
-outstanding es = filter (λ s. is_none (answer_to es s.call.number)) (submitted es)
-
--- The call with this number.
-abbrev pub call_numbered : Trace → ℕ → Option Submitted
-call_numbered es number = find (λ c. c.call.number == number) (submitted es)
-
--- Whether it writes.
-abbrev pub is_write : Op → Bool
-is_write (ReadSectors n) = false
-is_write (WriteRecord r) = true
-
--- The record that a call writes.
-abbrev pub record_of : Op → Option Rec
-record_of (ReadSectors n) = None
-record_of (WriteRecord r) = Some r
-
--- Whether it did what the call asked.
-abbrev pub is_ok_answer : Answer → Bool
-is_ok_answer (Read bytes) = true
-is_ok_answer Written = true
-is_ok_answer Failed = false
-
--- Whether it was answered ok.
-abbrev pub is_done : Option Answered → Bool
-is_done a = some_is (λ b. is_ok_answer b.answer) a
-
--- The bytes that a read gave.
-abbrev pub bytes_given : Answer → Option (List ℕ)
-bytes_given (Read bytes) = Some bytes
-bytes_given Written = None
-bytes_given Failed = None
-
--- What the call has read so far.
-abbrev pub gave : Trace → Submitted → Option (List ℕ)
-gave es c = option_and_then (λ a. bytes_given a.answer) (answer_to es c.call.number)
-
--- Whether the call was answered ok so far.
-abbrev pub is_answered_ok : Trace → Submitted → Bool
-is_answered_ok es c = is_done (answer_to es c.call.number)
-
--- The calls of a list up to this number, without it.
-abbrev pub before_call : ℕ → List Submitted → List Submitted
-before_call number cs = filter (λ c. nat_lt c.call.number number) cs
-
--- The calls of a list that came later.
-abbrev pub after_call : ℕ → List Submitted → List Submitted
-after_call number cs = filter (λ c. nat_lt number c.call.number) cs
 
 -- ---- jobs and their replies
 
@@ -177,7 +96,7 @@ job_in st es number e =
       | Some text ↦ record { number = number; at = length es; reading = e.reading; command = command_in st.layout text } ∷ []
     ]
 
--- All jobs: the k-th command line has the k-th number.
+-- All jobs, by their numbers: the k-th command line has the k-th number.
 abbrev pub jobs : Setting → Trace → List Job
 jobs st [] = []
 jobs st (e ∷ es) = let js : List Job = jobs st es in js ++ job_in st es (st.first.job + length js) e
@@ -207,10 +126,6 @@ job_numbered st es number = find (λ j. j.number == number) (jobs st es)
 abbrev pub next_job : Setting → Trace → ℕ
 next_job st es = st.first.job + length (jobs st es)
 
--- The number of the next call.
-abbrev pub next_call : Setting → Trace → ℕ
-next_call st es = st.first.call + length (submitted es)
-
 -- The job on whose account work is done, if any.
 abbrev pub work_job : Work → Option ℕ
 work_job (ForJob j) = Some j
@@ -229,9 +144,110 @@ job_of SeeRequest = None
 job_of (ValueWrite j) = Some j
 job_of (ValueRead j) = Some j
 
+-- Whether a reply stops a job before the input of its step is looked at. All other replies come at the input or after it.
+abbrev pub is_stopping : Reply → Bool
+is_stopping (IoTimeout call from to) = true
+is_stopping (Recovering t) = true
+is_stopping r = false
+
+-- Whether the entry stops this job before its input.
+abbrev pub is_stopped_in : Entry → ℕ → Bool
+is_stopped_in e job = list_any (λ a. a.job == job && is_stopping a.reply) e.effects.replies
+
+-- ---- calls and their answers
+
+-- An answer, with the place and the reading of the entry that brought it, and whether it was heeded: whether its work still went on.
+pub record Answered : Type 0 where
+  pub at : ℕ
+  pub reading : ℕ
+  pub answer : Answer
+  -- a job that was refused before concludes nothing by it
+  pub heeded : Bool
+
+-- A call, with the place and the reading of the entry that submitted it, and its answer, if it has one.
+pub record Submitted : Type 0 where
+  pub at : ℕ
+  pub reading : ℕ
+  pub call : Call
+  pub answer : Option Answered
+
+-- A call that is submitted in the entry after `at` others.
+abbrev pub new_call : ℕ → ℕ → Call → Submitted
+new_call at reading c = record { at = at; reading = reading; call = c; answer = None }
+
+-- Whether work on this job's account goes on in the entry after these, until its input is looked at.
+abbrev pub is_going_on : Trace → Entry → Option ℕ → Bool
+is_going_on es e None = true
+is_going_on es e (Some job) = is_running es job && not (is_stopped_in e job)
+
+-- The answer that the entry after these brings to a call.
+abbrev pub answer_of : Trace → Entry → Answer → Call → Answered
+answer_of es e a c = record { at = length es; reading = e.reading; answer = a; heeded = is_going_on es e (job_of c.purpose) }
+
+-- The call with this answer, if it is the one that is answered and has none.
+abbrev pub answered_in : Trace → Entry → ℕ → Answer → Submitted → Submitted
+answered_in es e number a m =
+    elim (m.call.number == number) [ false ↦ m | true ↦ record m { answer = option_or m.answer (Some (answer_of es e a m.call)) } ]
+
+-- The calls, with the answer that the entry after these brings.
+abbrev pub mark : Trace → Entry → Input → List Submitted → List Submitted
+mark es e (Told number a) ms = map (answered_in es e number a) ms
+mark es e i ms = ms
+
+-- All calls with their answers, the newest first.
+abbrev pub submitted : Trace → List Submitted
+submitted [] = []
+submitted (e ∷ es) = fold (λ ms c. new_call (length es) e.reading c ∷ ms) (mark es e e.input (submitted es)) e.effects.calls
+
+-- The calls without an answer, the newest first.
+abbrev pub outstanding : Trace → List Submitted
+outstanding es = filter (λ m. is_none m.answer) (submitted es)
+
+-- The call with this number.
+abbrev pub call_numbered : Trace → ℕ → Option Submitted
+call_numbered es number = find (λ m. m.call.number == number) (submitted es)
+
+-- The number of the next call.
+abbrev pub next_call : Setting → Trace → ℕ
+next_call st es = st.first.call + length (submitted es)
+
+-- Whether it writes.
+abbrev pub is_write : Op → Bool
+is_write (ReadSectors n) = false
+is_write (WriteRecord r) = true
+
+-- The record that a call writes.
+abbrev pub record_of : Op → Option Rec
+record_of (ReadSectors n) = None
+record_of (WriteRecord r) = Some r
+
+-- Whether it did what the call asked.
+abbrev pub is_ok_answer : Answer → Bool
+is_ok_answer (Read bytes) = true
+is_ok_answer Written = true
+is_ok_answer Failed = false
+
+-- Whether the call was answered ok.
+abbrev pub is_answered_ok : Submitted → Bool
+is_answered_ok m = some_is (λ a. is_ok_answer a.answer) m.answer
+
+-- Whether it was answered while its work went on.
+abbrev pub is_heeded : Submitted → Bool
+is_heeded m = some_is (λ a. a.heeded) m.answer
+
+-- The bytes that a read gave.
+abbrev pub bytes_given : Answer → Option (List ℕ)
+bytes_given (Read bytes) = Some bytes
+bytes_given Written = None
+bytes_given Failed = None
+
+-- The bytes that the call read, once it is answered.
+abbrev pub gave : Submitted → Option (List ℕ)
+gave m = option_and_then (λ a. bytes_given a.answer) m.answer
+
 -- Whether the call belongs to the job.
 abbrev pub is_of_job : ℕ → Submitted → Bool
-is_of_job job s = some_is (λ j. j == job) (job_of s.call.purpose)
+is_of_job job m = some_is (λ j. j == job) (job_of m.call.purpose)
 
 -- A job's call without an answer: there is at most one.
 abbrev pub waiting_call : Trace → ℕ → Option Submitted
@@ -243,15 +259,18 @@ waiting_call es job = find (is_of_job job) (outstanding es)
 abbrev pub same_place : List ℕ → ℕ → List ℕ → ℕ → Bool
 same_place path offset path' offset' = offset == offset' && bytes_eq path path'
 
+-- Whether two areas are one.
+abbrev pub same_spot : Spot → Spot → Bool
+same_spot a b = same_place a.path a.base b.path b.base
+
+-- The area under a holding.
+abbrev pub spot_of_grant : Grant → Spot
+spot_of_grant g = record { path = g.path; base = g.offset }
+
 -- Whether the mode is the shared one.
 abbrev pub is_shared : Mode → Bool
 is_shared Exclusive = false
 is_shared Shared = true
-
--- All grants, each with the place of its entry, the oldest first.
-abbrev pub grants : Trace → List (ℕ × Grant)
-grants [] = []
-grants (e ∷ es) = grants es ++ map (λ g. (length es, g)) e.effects.grants
 
 -- Whether one of these ends is that of the grant: its process and its place.
 abbrev pub is_ended_by : List End → Grant → Bool
@@ -272,38 +291,39 @@ end_of g = record { process = g.process; lockspace = g.lockspace; resource = g.r
 
 -- ---- children
 
--- All starts, each with the place of its entry, the oldest first.
-abbrev pub starts : Trace → List (ℕ × Start)
-starts [] = []
-starts (e ∷ es) = starts es ++ map (λ s. (length es, s)) e.effects.starts
+-- A child that was to be started, for which job if any, how its start was answered, and whether it has exited since.
+pub record Child : Type 0 where
+  pub process : ℕ
+  pub job : Option ℕ
+  pub answer : Option Bool
+  pub exited : Bool
 
--- What an entry tells of this child's start.
-abbrev pub spawn_in : ℕ → Input → Option Bool
-spawn_in process (Spawned p ok) = choose (p == process) ok
-spawn_in process i = None
+-- A child before its start is answered.
+abbrev pub new_child : Start → Child
+new_child s = record { process = s.process; job = s.job; answer = None; exited = false }
 
--- Whether the input tells the end of this process.
-abbrev pub is_exit_of : ℕ → Input → Bool
-is_exit_of process (Exit p) = p == process
-is_exit_of process i = false
+-- A child after an input: its start's answer, or its exit.
+abbrev pub child_after : Input → Child → Child
+child_after (Spawned p ok) k = elim (p == k.process) [ false ↦ k | true ↦ record k { answer = option_or k.answer (Some ok) } ]
+child_after (Exit p) k = elim (p == k.process) [ false ↦ k | true ↦ record k { exited = true } ]
+child_after i k = k
 
--- Whether a child of this number was to be started.
-abbrev pub is_started : Trace → ℕ → Bool
-is_started es process = list_any (λ p. p.1.process == process) (starts es)
+-- All children, the oldest first.
+abbrev pub children : Trace → List Child
+children [] = []
+children (e ∷ es) = map (child_after e.input) (children es) ++ map new_child e.effects.starts
 
--- The answer to a start.
-abbrev pub spawn_answer : Trace → ℕ → Option Bool
-spawn_answer [] process = None
-spawn_answer (e ∷ es) process = elim (spawn_answer es process) [ Some ok ↦ Some ok | None ↦ spawn_in process e.input ]
+-- The child with this number.
+abbrev pub child_numbered : Trace → ℕ → Option Child
+child_numbered es process = find (λ k. k.process == process) (children es)
 
--- Whether the child has exited since it was to be started.
-abbrev pub has_exited : Trace → ℕ → Bool
-has_exited [] process = false
-has_exited (e ∷ es) process = has_exited es process || is_started es process && is_exit_of process e.input
+-- Whether a child of this number was to be started, and how is not yet told.
+abbrev pub is_starting : Trace → ℕ → Bool
+is_starting es process = some_is (λ k. is_none k.answer) (child_numbered es process)
 
 -- Whether it is a running child: its start was answered ok, and it hasn't exited.
 abbrev pub is_child : Trace → ℕ → Bool
-is_child es process = some_is (λ ok. ok) (spawn_answer es process) && not (has_exited es process)
+is_child es process = some_is (λ k. some_is (λ ok. ok) k.answer && not k.exited) (child_numbered es process)
 
 -- The number of a daemon's first child.
 abbrev pub first_child : ℕ
@@ -311,7 +331,7 @@ first_child = 1000001
 
 -- The number of the next child.
 abbrev pub next_child : Trace → ℕ
-next_child es = first_child + length (starts es)
+next_child es = first_child + length (children es)
 
 -- ---- what a trace is
 
@@ -325,8 +345,8 @@ is_answer_for st Failed op = true
 
 -- Whether the input may come after these entries: it answers what is outstanding.
 abbrev pub is_expected : Setting → Trace → Input → Bool
-is_expected st es (Told call answer) = list_any (λ s. s.call.number == call && is_answer_for st answer s.call.op) (outstanding es)
-is_expected st es (Spawned process ok) = is_started es process && is_none (spawn_answer es process)
+is_expected st es (Told call answer) = list_any (λ m. m.call.number == call && is_answer_for st answer m.call.op) (outstanding es)
+is_expected st es (Spawned process ok) = is_starting es process
 is_expected st es i = true
 
 -- What is said of each entry, with those before it.

@@ -30,10 +30,12 @@ pub enum JoinStep {
     FirstRenewal,
 }
 
-/// The steps of work on a resource's lease.
+/// The steps of work on a resource's lease. The read with which an acquire begins has the resource's name that its command gives;
+/// a settling reads the area before it writes a free that it owes.
 #[derive(Clone, Copy)]
 pub enum LeaseStep {
-    ReadArea,
+    ReadArea(Name),
+    ReadBeforeFree,
     Phase1Write,
     Phase1Read,
     Phase2Write,
@@ -82,6 +84,13 @@ pub struct Call {
     pub path: FilePath,
     pub offset: u64,
     pub op: Op,
+}
+
+/// A resource's area: a disk's path and the area's offset.
+#[derive(Clone, Copy)]
+pub struct Spot {
+    pub path: FilePath,
+    pub base: u64,
 }
 
 /// A process begins to hold a resource, for the session with this place; a persistent holding outlives its process.

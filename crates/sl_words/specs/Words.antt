@@ -1,6 +1,6 @@
 -- Short words on lists and options that std has no name for.
 use Rattle.std.specs.List.{last_or, list_all}
-use Rattle.std.specs.Prelude.{Bool, List, None, Option, Some, false, filter, filter_map, fold, max, min, not, slice_get, true, [], ℕ, ◌==◌, ◌∷◌}
+use Rattle.std.specs.Prelude.{Bool, List, None, Option, Some, false, filter_map, max, min, not, slice_get, true, [], ℕ, ◌==◌, ◌∷◌}
 
 -- The last element, if there is one.
 abbrev pub last_of : {A : Type 0} → List A → Option A
@@ -10,13 +10,10 @@ last_of xs = last_or None xs
 abbrev pub first_of_list : {A : Type 0} → List A → Option A
 first_of_list xs = slice_get xs 0
 
--- The last element that passes.
-abbrev pub find_last : {A : Type 0} → (A → Bool) → List A → Option A
-find_last p xs = last_of (filter p xs)
-
 -- The first that f gives.
 abbrev pub first_given : {A B : Type 0} → (A → Option B) → List A → Option B
-first_given f xs = first_of_list (filter_map f xs)
+first_given f [] = None
+first_given f (x ∷ xs) = elim (f x) [ Some b ↦ Some b | None ↦ first_given f xs ]
 
 -- The elements that are there.
 abbrev pub present : {A : Type 0} → List (Option A) → List A
@@ -24,12 +21,13 @@ present xs = filter_map (λ x. x) xs
 
 -- The greatest of the numbers, and 0 where there is none.
 abbrev pub greatest : List ℕ → ℕ
-greatest xs = fold max 0 xs
+greatest [] = 0
+greatest (x ∷ xs) = max x (greatest xs)
 
 -- The least of the numbers, if there is one.
 abbrev pub least : List ℕ → Option ℕ
 least [] = None
-least (x ∷ xs) = Some (fold min x xs)
+least (x ∷ xs) = elim (least xs) [ None ↦ Some x | Some y ↦ Some (min x y) ]
 
 -- Whether the value is there and passes.
 abbrev pub some_is : {A : Type 0} → (A → Bool) → Option A → Bool
@@ -49,3 +47,8 @@ same_truth false b = not b
 -- Whether every byte is zero.
 abbrev pub all_zero : List ℕ → Bool
 all_zero bs = list_all (λ b. b == 0) bs
+
+-- Whether a list has no element.
+abbrev pub is_empty : {A : Type 0} → List A → Bool
+is_empty [] = true
+is_empty (x ∷ xs) = false

@@ -1,9 +1,15 @@
 -- What jobs are about: the lockspace, the process and the resource that their commands name.
-use Rattle.sl_trace.specs.Sessions.{Session}
-use Rattle.sl_trace.specs.Traces.{Job, Setting, Trace, job_numbered, running_jobs, starts}
+use Rattle.sl_leases.specs.declared.lease.Aim.TheVariants.{Acquires, Releases, Settles}
+use Rattle.sl_leases.specs.declared.lease.Aim.{Aim}
+use Rattle.sl_sessions.specs.Sessions.{Session}
+use Rattle.sl_trace.specs.Traces.{Job, Setting, Trace, child_numbered, children, job_numbered, running_jobs}
 use Rattle.sl_trace.specs.declared.command.Command.TheVariants.{Acquire, AddLockspace, Ask, GetLvb, HostStatus, InqLockspace, Release, RemLockspace, RunProgram, SetLvb, Status}
 use Rattle.sl_trace.specs.declared.command.Command.{Command}
 use Rattle.sl_trace.specs.declared.command.ResourceArg.{ResourceArg}
+use Rattle.sl_trace.specs.declared.effects.Mode.TheVariants.{Exclusive, Shared}
+use Rattle.sl_trace.specs.declared.effects.Mode.{Mode}
+use Rattle.sl_trace.specs.declared.effects.Work.TheVariants.{ForJob, Settling}
+use Rattle.sl_trace.specs.declared.effects.Work.{Work}
 use Rattle.sl_words.specs.Words.{some_is}
 use Rattle.std.specs.Prelude.{Bool, Err, List, None, Ok, Option, Some, bytes_eq, false, filter, find, is_some, option_and_then, option_map, true, ℕ, ◌==◌, ◌||◌}
 
@@ -81,15 +87,31 @@ job_resource st es job = option_and_then resource_named (command_numbered st es 
 abbrev pub jobs_of_session : Setting → Trace → Session → List Job
 jobs_of_session st es s = filter (is_command_that (λ c. some_is (λ n. bytes_eq n s.lockspace) (lockspace_named c))) (running_jobs st es)
 
+-- The mode that it asks for.
+abbrev pub wanted_mode : Command → Mode
+wanted_mode c = elim (wants_shared c) [ true ↦ Shared | false ↦ Exclusive ]
+
+-- To what end a job with this command works on a lease.
+abbrev pub aim_of_command : Command → Option Aim
+aim_of_command (Acquire r shared p) = Some (Acquires (wanted_mode (Acquire r shared p)))
+aim_of_command (RunProgram r shared path) = Some (Acquires (wanted_mode (RunProgram r shared path)))
+aim_of_command (Release r p) = Some Releases
+aim_of_command c = None
+
+-- To what end a call works on a lease.
+abbrev pub aim_of : Setting → Trace → Work → Option Aim
+aim_of st es (ForJob j) = option_and_then aim_of_command (command_numbered st es j)
+aim_of st es Settling = Some Settles
+
 -- ---- children
 
 -- The child of a job.
 abbrev pub child_of_job : Trace → ℕ → Option ℕ
-child_of_job es job = option_map (λ p. p.1.process) (find (λ p. some_is (λ k. k == job) p.1.job) (starts es))
+child_of_job es job = option_map (λ k. k.process) (find (λ k. some_is (λ j. j == job) k.job) (children es))
 
 -- The job of a child's start.
 abbrev pub job_of_start : Trace → ℕ → Option ℕ
-job_of_start es process = option_and_then (λ q. q.1.job) (find (λ q. q.1.process == process) (starts es))
+job_of_start es process = option_and_then (λ k. k.job) (child_numbered es process)
 
 -- Whether the job has its grant, and waits for its child.
 abbrev pub is_granted_job : Trace → ℕ → Bool

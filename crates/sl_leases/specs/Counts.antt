@@ -1,10 +1,13 @@
 -- Who holds what in a daemon, and what is counted against limits.
-use Rattle.sl_trace.specs.Jobs.{is_asking_lease, is_command_that, is_granted_job, is_program}
-use Rattle.sl_trace.specs.Leases.{Spot, is_on, lease_spots, open_on, same_spot, value_written}
-use Rattle.sl_trace.specs.Sessions.{Session, calls_of, is_joined, sessions}
-use Rattle.sl_trace.specs.Traces.{Setting, Trace, holdings, is_child, is_shared, running_jobs, same_place, starts}
+use Rattle.sl_area.specs.Layouts.{Layout}
+use Rattle.sl_leases.specs.Jobs.{is_asking_lease, is_command_that, is_granted_job, is_program}
+use Rattle.sl_leases.specs.Leases.{is_on, lease_spots, open_on, value_written}
+use Rattle.sl_sector.specs.declared.sector.ValueRec.{ValueRec}
+use Rattle.sl_sessions.specs.Sessions.{Session, calls_of, is_joined, sessions}
+use Rattle.sl_trace.specs.Traces.{Setting, Submitted, Trace, children, holdings, is_child, is_shared, running_jobs, same_place, same_spot}
 use Rattle.sl_trace.specs.declared.command.Command.{Command}
 use Rattle.sl_trace.specs.declared.effects.Grant.{Grant}
+use Rattle.sl_trace.specs.declared.effects.Spot.{Spot}
 use Rattle.sl_trace.specs.declared.reply.Limited.TheVariants.{Children, Holders, Resources}
 use Rattle.sl_trace.specs.declared.reply.Limited.{Limited}
 use Rattle.sl_words.specs.Words.{choose, greatest, least}
@@ -25,7 +28,7 @@ busy_process es at asking shared =
 
 -- The least unanswered call of the daemon on the area.
 abbrev pub pending_call : Setting → Trace → Spot → Option ℕ
-pending_call st es at = least (map (λ c. c.call.number) (open_on st es at))
+pending_call st es at = least (map (λ m. m.call.number) (open_on st es at))
 
 -- The running jobs of these commands that have no grant yet.
 abbrev pub ungranted : Setting → Trace → (Command → Bool) → ℕ
@@ -37,7 +40,7 @@ holder_count st es = length (holdings es) + ungranted st es is_asking_lease
 
 -- Child numbers given, and running jobs that may need one.
 abbrev pub child_count : Setting → Trace → ℕ
-child_count st es = length (starts es) + ungranted st es is_program
+child_count st es = length (children es) + ungranted st es is_program
 
 -- Leases of the daemon's joined sessions, by session and place.
 abbrev pub resource_count : Setting → Trace → ℕ
@@ -66,10 +69,13 @@ limit_met st es s at program =
     (option_or (choose (nat_le most_holders (holder_count st es)) Holders)
     (choose (program && nat_le most_children (child_count st es)) Children))
 
--- One above the seq of the last value that the session submitted there under that lver.
+-- The values that were submitted on the area among a session's calls, the newest first.
+abbrev pub values_on : Layout → Spot → List Submitted → List ValueRec
+values_on g at ms = filter_map value_written (filter (λ m. is_on g at m.call) ms)
+
+-- One above the seq of the last value that the session submitted there under that lver, whatever came of it.
 abbrev pub next_value_seq : Setting → Trace → Session → Spot → ℕ → ℕ
-next_value_seq st es s at lver =
-    1 + greatest (map (λ v. v.seq) (filter (λ v. v.lver == lver) (filter_map value_written (filter (λ c. is_on st.layout at c.call) (calls_of es s)))))
+next_value_seq st es s at lver = 1 + greatest (map (λ v. v.seq) (filter (λ v. v.lver == lver) (values_on st.layout at (calls_of es s))))
 
 -- Whether a request of this lver and force is taken: above the held lver and not below the record's, or it clears.
 abbrev pub check_request : ℕ → ℕ → ℕ → ℕ → Bool

@@ -1,5 +1,5 @@
 -- The sessions of a trace: when each begins, joins, recovers, leaves and ends. A session is named by its place among the daemon's
--- sessions, those of the setting first; a session of a run also by its machine and daemon.
+-- sessions, those of the setting first; a session of a run also by its machine and daemon. Generations and names are never identity.
 use Rattle.sl_area.specs.Places.{delta_of}
 use Rattle.sl_sector.specs.declared.sector.DeltaRec.{DeltaRec}
 use Rattle.sl_sector.specs.declared.sector.Owner.{Owner}
@@ -8,7 +8,7 @@ use Rattle.sl_sector.specs.declared.sector.Rec.{Rec}
 use Rattle.sl_time.specs.Times.{fail}
 use Rattle.sl_trace.specs.Commands.{command_in}
 use Rattle.sl_trace.specs.Connections.{unregisters}
-use Rattle.sl_trace.specs.Traces.{Job, Setting, Submitted, Trace, call_numbered, holdings, is_answered_ok, is_write, line_in, next_job, outstanding, record_of, reply_to, same_place, submitted}
+use Rattle.sl_trace.specs.Traces.{Job, Setting, Submitted, Trace, call_numbered, holdings, is_answered_ok, is_write, line_in, next_job, record_of, reply_to, same_place, submitted}
 use Rattle.sl_trace.specs.declared.command.Command.TheVariants.{AddLockspace, RemLockspace}
 use Rattle.sl_trace.specs.declared.command.Command.{Command}
 use Rattle.sl_trace.specs.declared.command.LockspaceArg.{LockspaceArg}
@@ -25,10 +25,10 @@ use Rattle.sl_trace.specs.declared.input.Input.{Input}
 use Rattle.sl_trace.specs.declared.reply.Reply.TheVariants.{Generation}
 use Rattle.sl_trace.specs.declared.reply.Reply.{Reply}
 use Rattle.sl_words.specs.Orders.{in_order, is_text_before, rising}
-use Rattle.sl_words.specs.Words.{choose, find_last, greatest, last_of, some_is}
+use Rattle.sl_words.specs.Words.{choose, greatest, some_is}
 use Rattle.std.specs.List.{enumerate_from, list_any}
 use Rattle.std.specs.Option.{option_map_or}
-use Rattle.std.specs.Prelude.{Bool, List, None, Ok, Option, Result, Some, bytes_eq, false, filter, filter_map, find, is_none, is_some, length, map, nat_le, not, option_and_then, slice_get, true, unwrap_or, [], ℕ, ◌&&◌, ◌++◌, ◌+◌, ◌==◌, ◌||◌, ◌∷◌}
+use Rattle.std.specs.Prelude.{Bool, List, None, Ok, Option, Result, Some, bytes_eq, false, filter, filter_map, find, is_none, is_some, length, map, max, nat_le, not, option_and_then, option_map, slice_get, true, unwrap_or, [], ℕ, ◌&&◌, ◌++◌, ◌+◌, ◌==◌, ◌||◌, ◌∷◌}
 
 -- One joining, or one session that the setting gives.
 pub record Session : Type 0 where
@@ -54,7 +54,7 @@ same_join_step VerifyRead VerifyRead = true
 same_join_step FirstRenewal FirstRenewal = true
 same_join_step a b = false
 
--- Whether a call is for this step of a joining.
+-- Whether the call is at this step of a joining.
 abbrev pub is_join_call : JoinStep → Purpose → Bool
 is_join_call step (Joining j at) = same_join_step step at
 is_join_call step p = false
@@ -73,15 +73,17 @@ abbrev pub given_session : ℕ × Given → Session
 given_session p =
     record { number = p.0; job = None; began = 0; lockspace = p.1.lockspace; id = p.1.id; path = p.1.path; offset = p.1.offset; renewed = p.1.renewed }
 
+-- A session that the job with this number begins after so many entries.
+abbrev pub joining_session : ℕ → ℕ → ℕ → LockspaceArg → Session
+joining_session number job began a =
+    record { number = number; job = Some job; began = began; lockspace = a.name; id = a.id; path = a.path; offset = a.offset; renewed = 0 }
+
 -- The session of this number that the entry after these begins: its `add_lockspace` submits a first read.
 abbrev pub begun_in : Setting → Trace → ℕ → Entry → List Session
 begun_in st es number e =
     elim (list_any (λ c. is_join_call FirstRead c.purpose) e.effects.calls) [
       | false ↦ []
-      | true ↦ elim (added_by st e.input) [
-        | None ↦ []
-        | Some a ↦ record { number = number; job = Some (next_job st es); began = length es; lockspace = a.name; id = a.id; path = a.path; offset = a.offset; renewed = 0 } ∷ []
-      ]
+      | true ↦ elim (added_by st e.input) [ None ↦ [] | Some a ↦ joining_session number (next_job st es) (length es) a ∷ [] ]
     ]
 
 -- All sessions of a daemon, by their numbers.
@@ -97,23 +99,27 @@ session_numbered st es number = slice_get (sessions st es) number
 abbrev pub session_of_job : Setting → Trace → ℕ → Option Session
 session_of_job st es job = find (λ s. some_is (λ j. j == job) s.job) (sessions st es)
 
--- ---- its calls
+-- ---- its calls: what is asked of them is a function of the session's own list of calls, the newest first
 
 -- Whether the call is the session's.
 abbrev pub is_call_of : Session → Submitted → Bool
-is_call_of s c = c.call.session == s.number
+is_call_of s m = m.call.session == s.number
 
--- The session's calls, the oldest first.
+-- The session's calls, the newest first.
 abbrev pub calls_of : Trace → Session → List Submitted
 calls_of es s = filter (is_call_of s) (submitted es)
 
 -- Those without an answer.
+abbrev pub unanswered : List Submitted → List Submitted
+unanswered ms = filter (λ m. is_none m.answer) ms
+
+-- The session's calls without an answer.
 abbrev pub open_calls_of : Trace → Session → List Submitted
-open_calls_of es s = filter (is_call_of s) (outstanding es)
+open_calls_of es s = unanswered (calls_of es s)
 
 -- Whether a write of the session is unanswered.
 abbrev pub has_open_write : Trace → Session → Bool
-has_open_write es s = list_any (λ c. is_write c.call.op) (open_calls_of es s)
+has_open_write es s = list_any (λ m. is_write m.call.op) (open_calls_of es s)
 
 -- Whether a call is on a delta sector.
 abbrev pub is_delta_purpose : Purpose → Bool
@@ -125,11 +131,11 @@ is_delta_purpose p = false
 
 -- Whether a call on a delta sector is unanswered.
 abbrev pub has_open_delta : Trace → Session → Bool
-has_open_delta es s = list_any (λ c. is_delta_purpose c.call.purpose) (open_calls_of es s)
+has_open_delta es s = list_any (λ m. is_delta_purpose m.call.purpose) (open_calls_of es s)
 
--- The last call of this step of the session's joining.
-abbrev pub join_call : Trace → Session → JoinStep → Option Submitted
-join_call es s step = find_last (λ c. is_join_call step c.call.purpose) (calls_of es s)
+-- The newest call of this step of a joining.
+abbrev pub join_call : List Submitted → JoinStep → Option Submitted
+join_call ms step = find (λ m. is_join_call step m.call.purpose) ms
 
 -- A delta record that a call writes.
 abbrev pub delta_of_record : Rec → Option DeltaRec
@@ -138,23 +144,54 @@ delta_of_record r = None
 
 -- The delta record that a call writes, if it does.
 abbrev pub delta_written : Submitted → Option DeltaRec
-delta_written c = option_and_then delta_of_record (record_of c.call.op)
+delta_written m = option_and_then delta_of_record (record_of m.call.op)
 
--- The delta records that the session submitted, the oldest first.
-abbrev pub delta_writes : Trace → Session → List DeltaRec
-delta_writes es s = filter_map delta_written (calls_of es s)
+-- The delta records that were submitted, the newest first.
+abbrev pub delta_writes : List Submitted → List DeltaRec
+delta_writes ms = filter_map delta_written ms
 
--- Its generation: from its claim on; 1 for a session of the setting.
+-- The generation of a session with these calls: from its claim on; 1 for a session of the setting.
+abbrev pub generation_in : Session → List Submitted → ℕ
+generation_in s ms = elim s.job [ None ↦ 1 | Some j ↦ greatest (map (λ d. d.generation) (delta_writes ms)) ]
+
+-- The generation of a session.
 abbrev pub generation_of : Trace → Session → ℕ
-generation_of es s = elim s.job [ None ↦ 1 | Some j ↦ greatest (map (λ d. d.generation) (delta_writes es s)) ]
+generation_of es s = generation_in s (calls_of es s)
 
--- The seq of the last delta record that it submitted; 1 at first for a session of the setting.
+-- The seq of the last delta record that was submitted; 1 at first for a session of the setting.
+abbrev pub seq_in : Session → List Submitted → ℕ
+seq_in s ms = max (elim s.job [ None ↦ 1 | Some j ↦ 0 ]) (greatest (map (λ d. d.seq) (delta_writes ms)))
+
+-- The seq of the last delta record that the session submitted.
 abbrev pub last_seq : Trace → Session → ℕ
-last_seq es s = greatest ((elim s.job [ None ↦ 1 | Some j ↦ 0 ]) ∷ map (λ d. d.seq) (delta_writes es s))
+last_seq es s = seq_in s (calls_of es s)
 
 -- The session as ballots and leaders name it.
 abbrev pub me : Trace → Session → Owner
 me es s = record { id = s.id; generation = generation_of es s }
+
+-- Whether the call is a renewal, the first one too.
+abbrev pub is_renewal : Purpose → Bool
+is_renewal Renewal = true
+is_renewal (Joining j FirstRenewal) = true
+is_renewal p = false
+
+-- The submission reading of the last renewal, answered or not.
+abbrev pub renewal_in : Session → List Submitted → ℕ
+renewal_in s ms = option_map_or (λ m. m.reading) (find (λ m. is_renewal m.call.purpose) ms) s.renewed
+
+-- The submission reading of the session's last renewal, answered or not.
+abbrev pub last_renewal_submitted : Trace → Session → ℕ
+last_renewal_submitted es s = renewal_in s (calls_of es s)
+
+-- Whether the call is the write of a leaving's free record.
+abbrev pub is_free_purpose : Purpose → Bool
+is_free_purpose (Leaving j) = true
+is_free_purpose p = false
+
+-- The write of the free record.
+abbrev pub free_write : List Submitted → Option Submitted
+free_write ms = find (λ m. is_free_purpose m.call.purpose) ms
 
 -- ---- joining and its end
 
@@ -173,14 +210,14 @@ abbrev pub refused_after : Trace → Session → Option ℕ
 refused_after es s =
     elim s.job [ None ↦ None | Some j ↦ option_and_then (λ r. choose (not (is_join_done r.reply)) (r.at + 1)) (reply_to es j) ]
 
+-- Whether the entry after these removes the connection of a session that is joined.
+abbrev pub removed_in : Trace → Session → Entry → Option ℕ
+removed_in es s e = choose (is_some (joined_after es s) && list_any (unregisters s.lockspace) e.effects.moves) (length es + 1)
+
 -- After how many entries a joined session has ended: its connection was removed.
 abbrev pub removed_after : Trace → Session → Option ℕ
 removed_after [] s = None
-removed_after (e ∷ es) s =
-    elim (removed_after es s) [
-      | Some k ↦ Some k
-      | None ↦ choose (is_some (joined_after es s) && list_any (unregisters s.lockspace) e.effects.moves) (length es + 1)
-    ]
+removed_after (e ∷ es) s = elim (removed_after es s) [ Some k ↦ Some k | None ↦ removed_in es s e ]
 
 -- After how many entries the session has ended: it was removed, or its joining refused.
 abbrev pub ended_after : Trace → Session → Option ℕ
@@ -208,20 +245,6 @@ session_named st es name = find (λ s. bytes_eq s.lockspace name) (present_sessi
 
 -- ---- renewal and recovery
 
--- Whether the call is a renewal, the first one too.
-abbrev pub is_renewal : Purpose → Bool
-is_renewal Renewal = true
-is_renewal (Joining j FirstRenewal) = true
-is_renewal p = false
-
--- The session's renewals, the oldest first.
-abbrev pub renewals : Trace → Session → List Submitted
-renewals es s = filter (λ c. is_renewal c.call.purpose) (calls_of es s)
-
--- The submission reading of its last renewal, answered or not.
-abbrev pub last_renewal_submitted : Trace → Session → ℕ
-last_renewal_submitted es s = option_map_or (λ c. c.reading) (last_of (renewals es s)) s.renewed
-
 -- Whether the call is a read of all delta sectors.
 abbrev pub is_survey_purpose : Purpose → Bool
 is_survey_purpose Survey = true
@@ -235,42 +258,49 @@ shows_other_in st id generation bytes =
 -- The session's read of all delta sectors that the input answers, with its bytes.
 abbrev pub survey_in : Trace → Session → Input → Option (List ℕ)
 survey_in es s (Told call (Read bytes)) =
-    choose (some_is (λ c. is_call_of s c && is_survey_purpose c.call.purpose) (call_numbered es call)) bytes
+    choose (some_is (λ m. is_call_of s m && is_survey_purpose m.call.purpose) (call_numbered es call)) bytes
 survey_in es s i = None
 
 -- Whether the input brings such a read that shows another.
 abbrev pub shows_other : Setting → Trace → Session → Input → Bool
-shows_other st es s i =
-    elim (survey_in es s i) [ None ↦ false | Some bytes ↦ shows_other_in st s.id (generation_of es s) bytes ]
+shows_other st es s i = elim (survey_in es s i) [ None ↦ false | Some bytes ↦ shows_other_in st s.id (generation_of es s) bytes ]
 
 -- The submission reading of the renewal of the session that the input answers ok.
 abbrev pub renewed_by : Trace → Session → Input → Option ℕ
 renewed_by es s (Told call Written) =
-    option_and_then (λ c. choose (is_call_of s c && is_renewal c.call.purpose) c.reading) (call_numbered es call)
+    option_and_then (λ m. choose (is_call_of s m && is_renewal m.call.purpose) m.reading) (call_numbered es call)
 renewed_by es s i = None
 
--- How a session stands with its renewals: the submission reading of the last that was answered ok outside recovery, and the entry
--- at which recovery began, if it has.
+-- How a recovery or a leaving began: in which entry, at which reading, and from which entry on its kills may come.
+pub record Begun : Type 0 where
+  pub at : ℕ
+  pub reading : ℕ
+  -- a recovery that begins by time does so at the head of its step, so with a grace of 0 its kills come in that step; one that
+  -- begins in the input, and a leaving, leave them to the next
+  pub kills_from : ℕ
+
+-- How a session stands with its renewals: the submission reading of the last that was answered ok outside recovery, and how recovery
+-- began, if it has.
 pub record Renewing : Type 0 where
   pub last : ℕ
-  pub recovery : Option ℕ
+  pub recovery : Option Begun
 
--- Whether recovery begins in the entry after these: its reading is fail above the last renewal's, or it shows another in its place.
-abbrev pub begins_recovery : Setting → Trace → Session → ℕ → Entry → Bool
-begins_recovery st es s last e =
-    elim (is_joined es s) [
-      | false ↦ false
-      | true ↦ elim (nat_le (last + fail st.timing) e.reading) [ true ↦ true | false ↦ shows_other st es s e.input ]
-    ]
+-- Recovery begins in the entry after these.
+abbrev pub recovers : Trace → Entry → ℕ → Renewing → Renewing
+recovers es e kills_from r = record r { recovery = Some (record { at = length es; reading = e.reading; kills_from = kills_from }) }
 
--- The entry after these, from how the session stood before it.
+-- The entry after these, from how the session stood before it: recovery begins where its reading is fail above the last renewal's,
+-- or where it shows another in the session's place; else a renewal that it answers ok counts.
 abbrev pub renewing_after : Setting → Trace → Session → Renewing → Entry → Renewing
 renewing_after st es s r e =
     elim r.recovery [
-      | Some i ↦ r
-      | None ↦ elim (begins_recovery st es s r.last e) [
-        | true ↦ record { last = r.last; recovery = Some (length es) }
-        | false ↦ record { last = unwrap_or (renewed_by es s e.input) r.last; recovery = None }
+      | Some b ↦ r
+      | None ↦ elim (is_joined es s && nat_le (r.last + fail st.timing) e.reading) [
+        | true ↦ recovers es e (length es) r
+        | false ↦ elim (is_joined es s && shows_other st es s e.input) [
+          | true ↦ recovers es e (length es + 1) r
+          | false ↦ record r { last = unwrap_or (renewed_by es s e.input) r.last }
+        ]
       ]
     ]
 
@@ -283,13 +313,13 @@ renewing st (e ∷ es) s = renewing_after st es s (renewing st es s) e
 abbrev pub last_renewal : Setting → Trace → Session → ℕ
 last_renewal st es s = (renewing st es s).last
 
--- The entry at which recovery began, if it has.
-abbrev pub recovery_entry : Setting → Trace → Session → Option ℕ
-recovery_entry st es s = (renewing st es s).recovery
+-- How recovery began, if it has.
+abbrev pub recovery_of : Setting → Trace → Session → Option Begun
+recovery_of st es s = (renewing st es s).recovery
 
 -- Joined and in recovery.
 abbrev pub is_recovering : Setting → Trace → Session → Bool
-is_recovering st es s = is_joined es s && is_some (recovery_entry st es s)
+is_recovering st es s = is_joined es s && is_some (recovery_of st es s)
 
 -- ---- leaving
 
@@ -319,22 +349,17 @@ abbrev pub leaving_job : Setting → Trace → Session → Option Job
 leaving_job st [] s = None
 leaving_job st (e ∷ es) s = elim (leaving_job st es s) [ Some j ↦ Some j | None ↦ leaving_in st es s e ]
 
+-- How the leaving began, if it has.
+abbrev pub leaving_of : Setting → Trace → Session → Option Begun
+leaving_of st es s = option_map (λ j. record { at = j.at; reading = j.reading; kills_from = j.at + 1 }) (leaving_job st es s)
+
 -- Joined and leaving.
 abbrev pub is_leaving : Setting → Trace → Session → Bool
 is_leaving st es s = is_joined es s && is_some (leaving_job st es s)
 
--- Whether the call is the write of a leaving's free record.
-abbrev pub is_free_purpose : Purpose → Bool
-is_free_purpose (Leaving j) = true
-is_free_purpose p = false
-
--- The write of the session's free record.
-abbrev pub free_write : Trace → Session → Option Submitted
-free_write es s = find (λ c. is_free_purpose c.call.purpose) (calls_of es s)
-
 -- Joined, neither in recovery nor leaving.
 abbrev pub is_active : Setting → Trace → Session → Bool
-is_active st es s = is_joined es s && is_none (recovery_entry st es s) && is_none (leaving_job st es s)
+is_active st es s = is_joined es s && is_none (recovery_of st es s) && is_none (leaving_job st es s)
 
 -- ---- stages
 
@@ -361,20 +386,24 @@ pub data Stage : Type 0 where
   -- it was joined, and has ended
   Parted : Stage
 
--- The stage of a joining, by its last call.
-abbrev pub stage_of_call : Trace → Submitted → Stage
-stage_of_call es c =
-    elim c.call.purpose [
-      | Joining j step ↦ elim step [
-        | FirstRead ↦ Looking
-        | WatchRead ↦ Looking
-        | DecidingRead ↦ Deciding
-        | ClaimWrite ↦ elim (is_answered_ok es c) [ true ↦ Waiting | false ↦ Claiming ]
-        | VerifyRead ↦ Verifying
-        | FirstRenewal ↦ Renewing_first
-      ]
-      | _ ↦ Looking
-    ]
+-- The stage of a joining after this step, its call answered ok or not.
+abbrev pub stage_after : JoinStep → Bool → Stage
+stage_after FirstRead done = Looking
+stage_after WatchRead done = Looking
+stage_after DecidingRead done = Deciding
+stage_after ClaimWrite false = Claiming
+stage_after ClaimWrite true = Waiting
+stage_after VerifyRead done = Verifying
+stage_after FirstRenewal done = Renewing_first
+
+-- The stage of a joining, by its newest call.
+abbrev pub stage_of_call : Submitted → Stage
+stage_of_call m = elim m.call.purpose [ Joining j step ↦ stage_after step (is_answered_ok m) | _ ↦ Looking ]
+
+-- The stage of a joining with these calls.
+abbrev pub stage_in : List Submitted → Stage
+stage_in [] = Looking
+stage_in (m ∷ ms) = stage_of_call m
 
 -- The stage of a session after a trace.
 abbrev pub stage_of : Trace → Session → Stage
@@ -382,16 +411,13 @@ stage_of es s =
     elim (joined_after es s) [
       | Some k ↦ elim (removed_after es s) [
         | Some i ↦ Parted
-        | None ↦ elim (free_write es s) [ Some c ↦ Freeing | None ↦ Standing ]
+        | None ↦ elim (free_write (calls_of es s)) [ Some m ↦ Freeing | None ↦ Standing ]
       ]
-      | None ↦ elim (refused_after es s) [
-        | Some k ↦ Turned_away
-        | None ↦ elim (last_of (calls_of es s)) [ None ↦ Looking | Some c ↦ stage_of_call es c ]
-      ]
+      | None ↦ elim (refused_after es s) [ Some k ↦ Turned_away | None ↦ stage_in (calls_of es s) ]
     ]
 
 -- Whether a session has, in this stage, a connection to the watchdog daemon. (One whose joining was refused keeps its
--- connection while a write of it is unanswered.).
+-- connection while a write of it is unanswered.)
 abbrev pub is_covered_stage : Stage → Bool
 is_covered_stage Deciding = true
 is_covered_stage Claiming = true

@@ -1,0 +1,114 @@
+-- How a session does what its delta lease decided: joining, renewal, the look at all ids, leaving.
+use Rattle.sl_area.specs.Places.{delta_of, request_offset}
+use Rattle.sl_due.specs.DueFirst.{refuse, remove_connection, remove_of_refused, stop_session}
+use Rattle.sl_due.specs.Steps.{Step, add_call, add_call_at, add_move, add_reply, for_each, seen, when, with_some}
+use Rattle.sl_leases.specs.Leases.{is_spot_before}
+use Rattle.sl_sector.specs.Bitmaps.{is_bit_set}
+use Rattle.sl_sector.specs.declared.sector.DeltaRec.{DeltaRec}
+use Rattle.sl_sector.specs.declared.sector.Rec.TheVariants.{DeltaIs}
+use Rattle.sl_sessions.specs.Deltas.{delta_of_session, next_after_free, next_after_renewal, next_in_joining, own_offset}
+use Rattle.sl_sessions.specs.Sessions.{Begun, Session, calls_of, generation_of, holdings_of, is_joined, leaving_job, recovery_of}
+use Rattle.sl_sessions.specs.declared.delta.DeltaNext.TheVariants.{Disconnect, Join, KeepUp, Part, ReadOwn, RegisterAndRead, TurnAway, Wait, WriteClaim, WriteFirst, WriteFree, WriteRenewal}
+use Rattle.sl_sessions.specs.declared.delta.DeltaNext.{DeltaNext}
+use Rattle.sl_time.specs.Times.{fail}
+use Rattle.sl_trace.specs.Traces.{Job, Setting, Submitted, Trace, is_running, is_shared, spot_of_grant}
+use Rattle.sl_trace.specs.declared.effects.Grant.{Grant}
+use Rattle.sl_trace.specs.declared.effects.JoinStep.TheVariants.{ClaimWrite, FirstRenewal}
+use Rattle.sl_trace.specs.declared.effects.JoinStep.{JoinStep}
+use Rattle.sl_trace.specs.declared.effects.Move.TheVariants.{Register, Renew}
+use Rattle.sl_trace.specs.declared.effects.Op.TheVariants.{ReadSectors, WriteRecord}
+use Rattle.sl_trace.specs.declared.effects.Purpose.TheVariants.{Joining, Leaving, Renewal, SeeRequest, Survey}
+use Rattle.sl_trace.specs.declared.effects.Purpose.{Purpose}
+use Rattle.sl_trace.specs.declared.input.Answer.{Answer}
+use Rattle.sl_trace.specs.declared.reply.Reply.TheVariants.{Generation}
+use Rattle.sl_trace.specs.declared.reply.Reply.{Reply}
+use Rattle.sl_words.specs.Orders.{in_order}
+use Rattle.sl_words.specs.Words.{some_is}
+use Rattle.std.specs.List.{list_any, range_with_len}
+use Rattle.std.specs.Prelude.{Bool, List, None, Option, Some, false, filter, is_some, length, not, true, ℕ, ◌+◌, ◌==◌}
+
+-- The own sector is read.
+abbrev pub read_own_sector : Session → Purpose → Step → Step
+read_own_sector s purpose x = add_call s purpose (own_offset x.setting s) (ReadSectors 1) x
+
+-- The own sector is written.
+abbrev pub write_own_sector : Session → Purpose → DeltaRec → Step → Step
+write_own_sector s purpose d x = add_call s purpose (own_offset x.setting s) (WriteRecord (DeltaIs d)) x
+
+-- The session registers until `fail` from now on.
+abbrev pub register : Session → Step → Step
+register s x = add_move (Register s.lockspace (x.reading + fail x.setting.timing)) x
+
+-- All delta sectors are read.
+abbrev pub survey : Session → Step → Step
+survey s x = add_call s Survey s.offset (ReadSectors x.setting.layout.hosts) x
+
+-- The connection moves to `fail` after a renewal's submission.
+abbrev pub keep_up : Session → ℕ → Step → Step
+keep_up s renewed x = add_move (Renew s.lockspace (renewed + fail x.setting.timing)) x
+
+-- A leaving is over; its job is answered unless it was refused before.
+abbrev pub end_leaving : Session → Option Job → Reply → Step → Step
+end_leaving s None r x = x
+end_leaving s (Some j) r x = when (is_running (seen x) j.number) (add_reply j.number r) (remove_connection s.lockspace x)
+
+-- What the delta lease decided is done, for the job of the joining if there is one.
+unfoldable pub carry_delta : Session → Option ℕ → DeltaNext → Step → Step
+carry_delta s job Wait x = x
+carry_delta s job (TurnAway r) x = with_some job (λ j. refuse j r) x
+carry_delta s job (ReadOwn step) x = with_some job (λ j. read_own_sector s (Joining j step)) x
+carry_delta s job (RegisterAndRead step) x = with_some job (λ j y. read_own_sector s (Joining j step) (register s y)) x
+carry_delta s job (WriteClaim d) x = with_some job (λ j. write_own_sector s (Joining j ClaimWrite) d) x
+carry_delta s job Disconnect x = remove_connection s.lockspace x
+carry_delta s job (WriteFirst d) x = with_some job (λ j. write_own_sector s (Joining j FirstRenewal) d) x
+carry_delta s job (Join generation renewed) x =
+    with_some job (λ j y. survey s (add_reply j (Generation generation) (keep_up s renewed y))) x
+carry_delta s job (KeepUp renewed) x = survey s (keep_up s renewed x)
+carry_delta s job (WriteRenewal d) x = write_own_sector s Renewal d x
+carry_delta s job (WriteFree j d) x = write_own_sector s (Leaving j) d x
+carry_delta s job (Part r) x = end_leaving s (leaving_job x.setting (seen x) s) r x
+
+-- ---- answers of calls on delta sectors
+
+-- Of a joining; one that was refused before removes its connection, where no write is unanswered any more.
+abbrev pub after_join_answer : Session → ℕ → JoinStep → Submitted → Answer → Step → Step
+after_join_answer s job step m answer x =
+    elim (is_running (seen x) job) [
+      | false ↦ remove_of_refused s x
+      | true ↦ carry_delta s (Some job)
+          (next_in_joining (delta_of_session x.setting s) (generation_of (seen x) s) (calls_of (seen x) s) x.reading m step answer) x
+    ]
+
+-- Of a renewal.
+abbrev pub after_renewal : Session → Submitted → Answer → Step → Step
+after_renewal s m answer x = carry_delta s None (next_after_renewal (is_some (recovery_of x.setting (seen x) s)) m.reading answer) x
+
+-- Of a leaving's free.
+abbrev pub after_free : Session → Submitted → Answer → Step → Step
+after_free s m answer x = carry_delta s None (next_after_free m.call.number answer) x
+
+-- Whether some id's record has the session's bit.
+abbrev pub asks_me : Setting → Session → List ℕ → Bool
+asks_me st s bytes =
+    list_any (λ id. some_is (λ d. is_bit_set d.bitmap s.id) (delta_of st.layout bytes id)) (range_with_len 1 st.layout.hosts)
+
+-- The request sector under a holding is read.
+abbrev pub see_request : Session → Grant → Step → Step
+see_request s g x = add_call_at s g.path SeeRequest (request_offset x.setting.layout g.offset) (ReadSectors 1) x
+
+-- Those under exclusive holdings, by place, also in recovery and in a leaving.
+abbrev pub see_requests : Session → Step → Step
+see_requests s x =
+    for_each (in_order (λ a b. is_spot_before (spot_of_grant a) (spot_of_grant b)) (filter (λ g. not (is_shared g.mode)) (holdings_of (seen x) s)))
+    (see_request s) x
+
+-- Whether recovery begins by the read that the newest entry brings: it hadn't begun before, nor at the head of this step.
+abbrev pub begins_by_read : Trace → Option Begun → Bool
+begins_by_read es begun = some_is (λ b. b.kills_from == length es) begun
+
+-- A read of all ids may begin recovery, and may show that the session is asked. That of an ended session does nothing.
+abbrev pub after_survey : Session → List ℕ → Step → Step
+after_survey s bytes x =
+    when (is_joined (seen x) s) (λ y.
+    when (asks_me y.setting s bytes) (see_requests s)
+    (when (begins_by_read (seen y) (recovery_of y.setting (seen y) s)) (stop_session s None) y)) x

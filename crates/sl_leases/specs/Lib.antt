@@ -1,0 +1,5 @@
+pub mod Ballots
+pub mod Leases
+pub mod LeaseWork
+pub mod Jobs
+pub mod Counts

@@ -1,0 +1,61 @@
+//! What ballots come to, and what a lease does next.
+
+use sl_sector::{Block, Leader, Owner};
+use sl_trace::{LeaseStep, Mode, Reply};
+
+/// What a read of the blocks says of a ballot, the first that fits: a torn block of a host; a block of a later instance (host and
+/// lver); a greater number in the instance (host and mbal).
+#[derive(Clone, Copy)]
+pub enum Stop {
+    BlockTorn(u32),
+    BlockAhead(u32, u64),
+    BlockRival(u32, u64),
+}
+
+/// How a read of phase 2 ended its ballot: stopped, or with a value.
+#[derive(Clone, Copy)]
+pub enum BallotEnd {
+    Stopped(Stop),
+    EndedWith(Owner),
+}
+
+/// Which instance an acquire begins, or who holds the resource and under which instance.
+#[derive(Clone, Copy)]
+pub enum Instance {
+    Begins(u64),
+    HeldAlready(u64, Owner),
+}
+
+/// What a lease owes, the first that fits: an open ballot of this instance is run to its end; an own mode that is left over is
+/// cleared; the leader of this instance is written free.
+#[derive(Clone, Copy)]
+pub enum Owed {
+    BallotOwed(u64),
+    ModeOwed,
+    FreeOwed(u64),
+}
+
+/// To what end a lease is worked on: a job acquires it in a mode or gives it up, or what it owes is settled.
+#[derive(Clone, Copy)]
+pub enum Aim {
+    Acquires(Mode),
+    Releases,
+    Settles,
+}
+
+/// What a lease does next: at most one call, or one reply, or a grant.
+#[derive(Drop)]
+pub enum LeaseNext {
+    /// Nothing.
+    Rest,
+    /// The blocks of all hosts are read, or the whole area, by the step.
+    ReadFor(LeaseStep),
+    /// The own block is written.
+    WriteBlock(LeaseStep, Block),
+    /// The leader is written.
+    WriteLeader(LeaseStep, Leader),
+    /// The job is answered.
+    AnswerJob(Reply),
+    /// The job is granted the resource in this mode, under this instance.
+    GrantJob(Mode, u64),
+}

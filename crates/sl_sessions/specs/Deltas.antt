@@ -1,0 +1,252 @@
+-- The life of an id's sector: watch, register, deciding read, claim, unregister, wait, register, verify read, first renewal; then
+-- renewals; at last one free (Chockler and Malkhi, on one disk). What comes next is a decision on the session's own calls, the newest
+-- first, and on the answer of the newest; carrying it out is another matter.
+use Rattle.sl_area.specs.Layouts.{Layout, record_in, sector_with}
+use Rattle.sl_area.specs.Places.{delta_offset}
+use Rattle.sl_sector.specs.Bitmaps.{no_bits}
+use Rattle.sl_sector.specs.Spelling.{delta_in}
+use Rattle.sl_sector.specs.declared.sector.DeltaRec.{DeltaRec}
+use Rattle.sl_sector.specs.declared.sector.DeltaState.TheVariants.{Claimed, Free, Live}
+use Rattle.sl_sector.specs.declared.sector.DeltaState.{DeltaState}
+use Rattle.sl_sector.specs.declared.sector.Rec.TheVariants.{DeltaIs}
+use Rattle.sl_sessions.specs.Sessions.{Session, calls_of, delta_written, free_write, generation_of, has_open_delta, join_call, last_renewal_submitted, last_seq, leaving_job, recovery_of}
+use Rattle.sl_sessions.specs.Watching.{is_free_state}
+use Rattle.sl_sessions.specs.declared.delta.DeltaNext.TheVariants.{Disconnect, Join, KeepUp, Part, ReadOwn, RegisterAndRead, TurnAway, Wait, WriteClaim, WriteFirst, WriteFree, WriteRenewal}
+use Rattle.sl_sessions.specs.declared.delta.DeltaNext.{DeltaNext}
+use Rattle.sl_time.specs.Times.{TimingNumbers, dead, join_max, renew, take_over}
+use Rattle.sl_trace.specs.Traces.{Setting, Submitted, Trace, gave}
+use Rattle.sl_trace.specs.declared.effects.JoinStep.TheVariants.{ClaimWrite, DecidingRead, FirstRead, FirstRenewal, VerifyRead, WatchRead}
+use Rattle.sl_trace.specs.declared.effects.JoinStep.{JoinStep}
+use Rattle.sl_trace.specs.declared.effects.Purpose.TheVariants.{Joining}
+use Rattle.sl_trace.specs.declared.effects.Purpose.{Purpose}
+use Rattle.sl_trace.specs.declared.input.Answer.TheVariants.{Failed, Read, Written}
+use Rattle.sl_trace.specs.declared.input.Answer.{Answer}
+use Rattle.sl_trace.specs.declared.reply.Limited.TheVariants.{Gen as GenLimit, Seq as SeqLimit}
+use Rattle.sl_trace.specs.declared.reply.Reply.TheVariants.{Done, IdHeld, IdLate, IdLost, IoFault, Limit as LimitReached, TornDelta, WrongDelta}
+use Rattle.sl_trace.specs.declared.reply.Reply.{Reply}
+use Rattle.sl_words.specs.Bounds.{is_number}
+use Rattle.sl_words.specs.Words.{some_is}
+use Rattle.std.specs.Prelude.{Bool, List, None, Option, Some, bytes_eq, codes, false, is_some, nat_le, nat_lt, not, option_and_then, option_map, true, unwrap_or, [], ℕ, ◌&&◌, ◌+◌, ◌==◌, ◌∷◌}
+
+-- What a delta lease is made of.
+pub record DeltaLease : Type 0 where
+  pub timing : TimingNumbers
+  pub layout : Layout
+  -- the daemon's name
+  pub host : List ℕ
+  pub lockspace : List ℕ
+  pub id : ℕ
+
+-- The delta lease of a session.
+abbrev pub delta_of_session : Setting → Session → DeltaLease
+delta_of_session st s = record { timing = st.timing; layout = st.layout; host = st.name; lockspace = s.lockspace; id = s.id }
+
+-- Where the session's sector stands.
+abbrev pub own_offset : Setting → Session → ℕ
+own_offset st s = delta_offset st.layout s.offset s.id
+
+-- A delta record of the lease.
+abbrev pub delta_record : DeltaLease → DeltaState → ℕ → ℕ → ℕ → List ℕ → DeltaRec
+delta_record l state generation seq now bitmap =
+    record { state = state; id = l.id; generation = generation; seq = seq; stamp = now; lockspace = l.lockspace; host = Some l.host; bitmap = bitmap }
+
+-- What the first read of the joining gave.
+abbrev pub first_bytes : List Submitted → Option (List ℕ)
+first_bytes ms = option_and_then gave (join_call ms FirstRead)
+
+-- The reading of its answer.
+abbrev pub first_answered : List Submitted → Option ℕ
+first_answered ms = option_and_then (λ m. option_map (λ a. a.reading) m.answer) (join_call ms FirstRead)
+
+-- The claim that was submitted.
+abbrev pub claim_of : List Submitted → Option DeltaRec
+claim_of ms = option_and_then delta_written (join_call ms ClaimWrite)
+
+-- Generation and seq of the delta record that the bytes spell, whatever lockspace and id it has.
+abbrev pub pair_of_bytes : Layout → List ℕ → Option (ℕ × ℕ)
+pair_of_bytes g bytes = option_map (λ d. (d.generation, d.seq)) (delta_in (record_in g bytes))
+
+-- The refusal by two reads that differ.
+abbrev pub id_held : Layout → List ℕ → List ℕ → Reply
+id_held g first later = let p : ℕ × ℕ = unwrap_or (pair_of_bytes g first) (0, 0) in IdHeld p.0 p.1 (pair_of_bytes g later)
+
+-- The refusal by a read that isn't the own claim; an absent name is `-`.
+abbrev pub id_lost : DeltaLease → DeltaRec → List ℕ → Reply
+id_lost l claim bytes =
+    IdLost claim.generation l.host
+    (option_map (λ d. (d.generation, unwrap_or d.host (codes "-"))) (delta_in (record_in l.layout bytes)))
+
+-- ---- joining: what comes after an answer
+
+-- After the first read: a torn sector or another lockspace's refuses; a free record needs no watch.
+unfoldable pub next_after_first : DeltaLease → List ℕ → DeltaNext
+next_after_first l bytes =
+    elim (delta_in (record_in l.layout bytes)) [
+      | None ↦ TurnAway TornDelta
+      | Some d ↦ elim (bytes_eq d.lockspace l.lockspace && d.id == l.id) [
+        | false ↦ TurnAway (WrongDelta d.lockspace d.id)
+        | true ↦ elim (is_free_state d.state) [ true ↦ RegisterAndRead DecidingRead | false ↦ Wait ]
+      ]
+    ]
+
+-- After a further read, submitted at this reading: another record refuses; an equal one ends the watch once it was submitted
+-- `take_over` after the first one's answer.
+unfoldable pub next_after_watch : DeltaLease → List Submitted → ℕ → List ℕ → DeltaNext
+next_after_watch l ms read_at bytes =
+    let first : List ℕ = unwrap_or (first_bytes ms) [] in
+    elim (bytes_eq first bytes) [
+      | false ↦ TurnAway (id_held l.layout first bytes)
+      | true ↦ elim (some_is (λ a. nat_le (a + take_over l.timing) read_at) (first_answered ms)) [ true ↦ RegisterAndRead DecidingRead | false ↦ Wait ]
+    ]
+
+-- The claim on a watched record: one generation and one seq higher, unless a number would pass its limit.
+abbrev pub claim_on : DeltaLease → ℕ → DeltaRec → DeltaNext
+claim_on l now d =
+    elim (is_number (d.generation + 1)) [
+      | false ↦ TurnAway (LimitReached GenLimit)
+      | true ↦ elim (is_number (d.seq + 1)) [
+        | false ↦ TurnAway (LimitReached SeqLimit)
+        | true ↦ WriteClaim (delta_record l Claimed (d.generation + 1) (d.seq + 1) now no_bits)
+      ]
+    ]
+
+-- After the deciding read: it must equal the watched bytes.
+unfoldable pub next_after_deciding : DeltaLease → List Submitted → ℕ → List ℕ → DeltaNext
+next_after_deciding l ms now bytes =
+    let first : List ℕ = unwrap_or (first_bytes ms) [] in
+    elim (bytes_eq first bytes) [
+      | false ↦ TurnAway (id_held l.layout first bytes)
+      | true ↦ elim (delta_in (record_in l.layout bytes)) [ None ↦ Wait | Some d ↦ claim_on l now d ]
+    ]
+
+-- After the verify read: it must be the own claim.
+unfoldable pub next_after_verify : DeltaLease → List Submitted → ℕ → List ℕ → DeltaNext
+next_after_verify l ms now bytes =
+    elim (claim_of ms) [
+      | None ↦ Wait
+      | Some claim ↦ elim (bytes_eq bytes (sector_with l.layout (DeltaIs claim))) [
+        | false ↦ TurnAway (id_lost l claim bytes)
+        | true ↦ elim (is_number (claim.seq + 1)) [
+          | false ↦ TurnAway (LimitReached SeqLimit)
+          | true ↦ WriteFirst (delta_record l Live claim.generation (claim.seq + 1) now no_bits)
+        ]
+      ]
+    ]
+
+-- After a read of the joining, by its step; ms are the session's calls, m the one that is answered.
+abbrev pub next_after_join_read : DeltaLease → List Submitted → ℕ → Submitted → List ℕ → JoinStep → DeltaNext
+next_after_join_read l ms now m bytes FirstRead = next_after_first l bytes
+next_after_join_read l ms now m bytes WatchRead = next_after_watch l ms m.reading bytes
+next_after_join_read l ms now m bytes DecidingRead = next_after_deciding l ms now bytes
+next_after_join_read l ms now m bytes VerifyRead = next_after_verify l ms now bytes
+next_after_join_read l ms now m bytes ClaimWrite = Wait
+next_after_join_read l ms now m bytes FirstRenewal = Wait
+
+-- After a write of the joining, by its step; a generation is that of the session.
+abbrev pub next_after_join_write : ℕ → Submitted → JoinStep → DeltaNext
+next_after_join_write generation m ClaimWrite = Disconnect
+next_after_join_write generation m FirstRenewal = Join generation m.reading
+next_after_join_write generation m step = Wait
+
+-- After an answer of a joining that goes on.
+unfoldable pub next_in_joining : DeltaLease → ℕ → List Submitted → ℕ → Submitted → JoinStep → Answer → DeltaNext
+next_in_joining l generation ms now m step (Read bytes) = next_after_join_read l ms now m bytes step
+next_in_joining l generation ms now m step Written = next_after_join_write generation m step
+next_in_joining l generation ms now m step Failed = TurnAway (IoFault m.call.number)
+
+-- ---- joining: what comes by time
+
+-- After the claim's answer at this reading: the verify read once `dead` has passed, unless more than `join_max` has since the claim.
+abbrev pub next_after_claim : DeltaLease → ℕ → ℕ → ℕ → DeltaNext
+next_after_claim l now claimed answered =
+    elim (nat_le (answered + dead l.timing) now) [
+      | false ↦ Wait
+      | true ↦ elim (nat_lt (claimed + join_max l.timing) now) [ true ↦ TurnAway (IdLate claimed now) | false ↦ RegisterAndRead VerifyRead ]
+    ]
+
+-- After a read of a watch: it is read again once `renew` has passed.
+abbrev pub next_in_watch : DeltaLease → ℕ → ℕ → DeltaNext
+next_in_watch l now answered = elim (nat_le (answered + renew l.timing) now) [ true ↦ ReadOwn WatchRead | false ↦ Wait ]
+
+-- By the step of the newest call, submitted and answered at these readings.
+abbrev pub next_by_time : DeltaLease → ℕ → ℕ → ℕ → JoinStep → DeltaNext
+next_by_time l now made answered FirstRead = next_in_watch l now answered
+next_by_time l now made answered WatchRead = next_in_watch l now answered
+next_by_time l now made answered ClaimWrite = next_after_claim l now made answered
+next_by_time l now made answered step = Wait
+
+-- The step of a joining's call.
+abbrev pub join_step_of : Purpose → Option JoinStep
+join_step_of (Joining j step) = Some step
+join_step_of p = None
+
+-- What is due of a joining on a wake, by its newest call once that is answered.
+unfoldable pub next_on_wake : DeltaLease → ℕ → List Submitted → DeltaNext
+next_on_wake l now [] = Wait
+next_on_wake l now (m ∷ ms) =
+    elim m.answer [ None ↦ Wait | Some a ↦ elim (join_step_of m.call.purpose) [ None ↦ Wait | Some step ↦ next_by_time l now m.reading a.reading step ] ]
+
+-- ---- renewal and free
+
+-- What is known of a joined session where a renewal or its free may be due.
+pub record DeltaKnown : Type 0 where
+  pub generation : ℕ
+  -- of the last record submitted
+  pub seq : ℕ
+  -- the submission reading of the last renewal
+  pub renewed : ℕ
+  -- a call on a delta sector is unanswered
+  pub busy : Bool
+  -- recovery has begun
+  pub recovering : Bool
+  -- the job that leaves
+  pub leaving : Option ℕ
+  -- the free was submitted
+  pub freed : Bool
+
+-- In a leaving a seq is left for the free, which ends renewals.
+abbrev pub has_seq_left : DeltaKnown → Bool
+has_seq_left k = elim k.leaving [ None ↦ is_number (k.seq + 1) | Some j ↦ not k.freed && is_number (k.seq + 2) ]
+
+-- Whether a renewal is due: `renew` has passed since the last one's submission, no delta call is unanswered, and the session isn't in
+-- recovery.
+abbrev pub is_renewal_due : DeltaLease → ℕ → DeltaKnown → Bool
+is_renewal_due l now k = not k.recovering && nat_le (k.renewed + renew l.timing) now && not k.busy && has_seq_left k
+
+-- The renewal that is due on a wake of a joined session, with these bits.
+unfoldable pub next_renewal : DeltaLease → ℕ → DeltaKnown → List ℕ → DeltaNext
+next_renewal l now k bits =
+    elim (is_renewal_due l now k) [ false ↦ Wait | true ↦ WriteRenewal (delta_record l Live k.generation (k.seq + 1) now bits) ]
+
+-- After a renewal's answer: in recovery neither the connection moves nor are ids read.
+abbrev pub next_after_renewal : Bool → ℕ → Answer → DeltaNext
+next_after_renewal recovering made Written = elim recovering [ true ↦ Wait | false ↦ KeepUp made ]
+next_after_renewal recovering made (Read bytes) = Wait
+next_after_renewal recovering made Failed = Wait
+
+-- The free that a leaving writes once nothing is held and no call is unanswered.
+abbrev pub next_free : DeltaLease → ℕ → DeltaKnown → DeltaNext
+next_free l now k =
+    elim k.leaving [
+      | None ↦ Wait
+      | Some j ↦ elim k.freed [ true ↦ Wait | false ↦ WriteFree j (delta_record l Free k.generation (k.seq + 1) now no_bits) ]
+    ]
+
+-- After the free's answer, of either kind.
+abbrev pub next_after_free : ℕ → Answer → DeltaNext
+next_after_free call Written = Part Done
+next_after_free call Failed = Part (IoFault call)
+next_after_free call (Read bytes) = Wait
+
+-- What is known of a session.
+abbrev pub delta_known : Setting → Trace → Session → DeltaKnown
+delta_known st es s =
+    record {
+      generation = generation_of es s;
+      seq = last_seq es s;
+      renewed = last_renewal_submitted es s;
+      busy = has_open_delta es s;
+      recovering = is_some (recovery_of st es s);
+      leaving = option_map (λ j. j.number) (leaving_job st es s);
+      freed = is_some (free_write (calls_of es s));
+    }

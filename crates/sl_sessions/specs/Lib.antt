@@ -1,0 +1,3 @@
+pub mod Sessions
+pub mod Watching
+pub mod Deltas

@@ -1,0 +1,33 @@
+//! What a session does next on its id's sector.
+
+use sl_sector::DeltaRec;
+use sl_trace::{JoinStep, Reply};
+
+/// What a delta lease does next: at most one move of its connection, one call and one reply.
+#[derive(Drop)]
+pub enum DeltaNext {
+    /// Nothing.
+    Wait,
+    /// The joining is refused with this reply; its connection goes where no write is unanswered.
+    TurnAway(Reply),
+    /// The own sector is read.
+    ReadOwn(JoinStep),
+    /// The connection is registered until `fail` after now, and the own sector is read.
+    RegisterAndRead(JoinStep),
+    /// The claim is written.
+    WriteClaim(DeltaRec),
+    /// The claim is answered: the connection goes while the session waits.
+    Disconnect,
+    /// The first renewal is written.
+    WriteFirst(DeltaRec),
+    /// The session is joined under this generation by a renewal submitted at this reading: reply, connection, a read of all ids.
+    Join(u64, u64),
+    /// A renewal submitted at this reading was answered ok: the connection moves, and all ids are read.
+    KeepUp(u64),
+    /// A renewal is written.
+    WriteRenewal(DeltaRec),
+    /// The free record is written, for the job that leaves.
+    WriteFree(u64, DeltaRec),
+    /// The leaving is over with this reply: the connection goes, and the session ends.
+    Part(Reply),
+}
