@@ -16,7 +16,7 @@ use Rattle.sl_sector.specs.declared.sector.DeltaRec.{DeltaRec}
 use Rattle.sl_sector.specs.declared.sector.Leader.{Leader}
 use Rattle.sl_sector.specs.declared.sector.Owner.{Owner}
 use Rattle.sl_sector.specs.declared.sector.Rec.TheVariants.{DeltaIs}
-use Rattle.sl_sessions.specs.Deltas.{claim_of, delta_of_session, first_bytes, id_lost, pair_of_bytes}
+use Rattle.sl_sessions.specs.Deltas.{claim_of, delta_of_session, first_bytes, id_lost, version_in}
 use Rattle.sl_sessions.specs.Sessions.{Session, calls_of, generation_of, is_active, is_join_call, is_joined, is_session_arg, join_call, last_renewal, last_seq, present_sessions, session_named, session_of_job}
 use Rattle.sl_sessions.specs.Watching.{counts_over}
 use Rattle.sl_time.specs.Times.{join_max}
@@ -36,6 +36,7 @@ use Rattle.sl_trace.specs.declared.effects.Spot.{Spot}
 use Rattle.sl_trace.specs.declared.input.Answer.TheVariants.{Failed, Read}
 use Rattle.sl_trace.specs.declared.input.Answer.{Answer}
 use Rattle.sl_trace.specs.declared.input.Input.TheVariants.{Exit, Spawned, Wake}
+use Rattle.sl_trace.specs.declared.reply.DeltaVersion.{DeltaVersion}
 use Rattle.sl_trace.specs.declared.reply.Limited.TheVariants.{Children, Gen as GenLimit, Holders, Lockspaces, Lver as LverLimit, Mbal as MbalLimit, Resources, Seq as SeqLimit}
 use Rattle.sl_trace.specs.declared.reply.Limited.{Limited}
 use Rattle.sl_trace.specs.declared.reply.Reply.TheVariants.{Ahead, BadCommand as Misread, Busy, Held as HeldBy, IdHeld, IdLate, IdLost, IoFault, IoTimeout, Joined, Joining as StillJoining, Limit as LimitReached, NoProcess, NoSession, NotHeld, Pending, Recovering, RequestOld, Rival, Shared as SharedBy, SpawnFault, TornBlock, TornDelta, TornLeader, ValueTorn, WrongArea, WrongDelta}
@@ -109,12 +110,12 @@ JoinRead x step P =
     (s : Session) × (session_of_job x.setting x.past x.job.number ≡ Some s) × AnswersRead x (λ c bytes. IsTrue (is_join_call step c.call.purpose) × P s bytes)
 
 -- A further read differs from the first.
-abbrev pub IsIdHeld : Answering → ℕ → ℕ → Option (ℕ × ℕ) → Type 0
-IsIdHeld x generation seq later =
+abbrev pub IsIdHeld : Answering → DeltaVersion → Option DeltaVersion → Type 0
+IsIdHeld x version later =
     JoinRead x WatchRead (λ s bytes. (first : List ℕ) × (first_bytes (calls_of x.past s) ≡ Some first) × (first ≢ bytes)
-    × (pair_of_bytes x.setting.layout first ≡ Some (generation, seq)) × (pair_of_bytes x.setting.layout bytes ≡ later))
+    × (version_in x.setting.layout first ≡ Some version) × (version_in x.setting.layout bytes ≡ later))
     ⊎ JoinRead x DecidingRead (λ s bytes. (first : List ℕ) × (first_bytes (calls_of x.past s) ≡ Some first) × (first ≢ bytes)
-    × (pair_of_bytes x.setting.layout first ≡ Some (generation, seq)) × (pair_of_bytes x.setting.layout bytes ≡ later))
+    × (version_in x.setting.layout first ≡ Some version) × (version_in x.setting.layout bytes ≡ later))
 
 -- The verify read isn't the own claim.
 abbrev pub IsIdLost : Answering → Reply → Type 0
@@ -240,8 +241,8 @@ CausedBy x NoSession = IsAtCommand x × IsNoSession x
 CausedBy x StillJoining = IsAtCommand x × WithSession x (λ s. IsFalse (is_joined (before_entry x) s))
 CausedBy x (Recovering t) =
     WithSession x (λ s. IsTrue (is_joined x.past s) × IsFalse (is_active x.setting (after_entry x) s) × (last_renewal x.setting (before_entry x) s ≡ t))
-CausedBy x (IdHeld generation seq later) = IsIdHeld x generation seq later
-CausedBy x (IdLost generation name found) = IsIdLost x (IdLost generation name found)
+CausedBy x (IdHeld version later) = IsIdHeld x version later
+CausedBy x (IdLost own found) = IsIdLost x (IdLost own found)
 CausedBy x (IdLate claimed now) = IsIdLate x claimed now
 CausedBy x TornDelta = JoinRead x FirstRead (λ s bytes. delta_in (record_in x.setting.layout bytes) ≡ None)
 CausedBy x TornLeader = IsTornLeaderRead x

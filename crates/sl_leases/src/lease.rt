@@ -7,9 +7,9 @@ use sl_trace::{LeaseStep, Mode, Reply};
 /// lver); a greater number in the instance (host and mbal).
 #[derive(Clone, Copy)]
 pub enum Stop {
-    BlockTorn(u32),
-    BlockAhead(u32, u64),
-    BlockRival(u32, u64),
+    BlockTorn { host: u32 },
+    BlockAhead { host: u32, lver: u64 },
+    BlockRival { host: u32, mbal: u64 },
 }
 
 /// How a read of phase 2 ended its ballot: stopped, or with a value.
@@ -22,17 +22,17 @@ pub enum BallotEnd {
 /// Which instance an acquire begins, or who holds the resource and under which instance.
 #[derive(Clone, Copy)]
 pub enum Instance {
-    Begins(u64),
-    HeldAlready(u64, Owner),
+    Begins { instance: u64 },
+    HeldAlready { lver: u64, owner: Owner },
 }
 
 /// What a lease owes, the first that fits: an open ballot of this instance is run to its end; an own mode that is left over is
 /// cleared; the leader of this instance is written free.
 #[derive(Clone, Copy)]
 pub enum Owed {
-    BallotOwed(u64),
+    BallotOwed { instance: u64 },
     ModeOwed,
-    FreeOwed(u64),
+    FreeOwed { instance: u64 },
 }
 
 /// To what end a lease is worked on: a job acquires it in a mode or gives it up, or what it owes is settled.
@@ -51,11 +51,11 @@ pub enum LeaseNext {
     /// The blocks of all hosts are read, or the whole area, by the step.
     ReadFor(LeaseStep),
     /// The own block is written.
-    WriteBlock(LeaseStep, Block),
+    WriteBlock { step: LeaseStep, block: Block },
     /// The leader is written.
-    WriteLeader(LeaseStep, Leader),
+    WriteLeader { step: LeaseStep, leader: Leader },
     /// The job is answered.
     AnswerJob(Reply),
     /// The job is granted the resource in this mode, under this instance.
-    GrantJob(Mode, u64),
+    GrantJob { mode: Mode, lver: u64 },
 }

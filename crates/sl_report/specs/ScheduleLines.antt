@@ -5,6 +5,7 @@ use Rattle.sl_run.specs.declared.event.Event.{Event}
 use Rattle.sl_run.specs.declared.event.Refusal.TheVariants.{LimitBytes, LimitFire, LimitGrace, LimitIo, LimitLand, LimitMoment, LimitRho, MissingCall, MissingDaemon, MissingDisk, MissingDown, MissingFlight, MissingFree, MissingLanding, MissingLockspace, MissingMachine, MissingPlace, MissingReset, MissingSample, MissingSpawn, MissingUp, PremiseDrift, PremiseLanding, PremiseName, PremiseTorn, PremiseWatchdog, Syntax}
 use Rattle.sl_run.specs.declared.event.Refusal.{Refusal}
 use Rattle.sl_run.specs.declared.header.Disk.{Disk}
+use Rattle.sl_run.specs.declared.header.FirstReading.{FirstReading}
 use Rattle.sl_run.specs.declared.header.Header.{Header}
 use Rattle.sl_run.specs.declared.header.LockspaceLine.{LockspaceLine}
 use Rattle.sl_run.specs.declared.header.ResourceLine.{ResourceLine}
@@ -38,7 +39,7 @@ pub data HeaderLine : Type 0 where
   TimeLine : (io fire land rho grace : ℕ) → HeaderLine
   HostsLine : ℕ → HeaderLine
   IdsLine : ℕ → HeaderLine
-  ClockLine : (machine reading : ℕ) → HeaderLine
+  ClockLine : FirstReading → HeaderLine
   DiskLine : Disk → HeaderLine
   AreaLine : LockspaceLine → HeaderLine
   LeaseLine : ResourceLine → HeaderLine
@@ -57,7 +58,7 @@ header_forms area =
     ∷ record { words = exactly (codes "ids") ∷ is_number_that (is_in_range 1 2000) ∷ []; make = λ ws. IdsLine (number_of (word_at ws 1)) }
     ∷ record {
       words = exactly (codes "clock") ∷ is_positive_word ∷ is_number_that (λ n. nat_lt n (10 ^ 12)) ∷ [];
-      make = λ ws. ClockLine (capped_short (word_at ws 1)) (number_of (word_at ws 2));
+      make = λ ws. ClockLine (record { machine = capped_short (word_at ws 1); reading = number_of (word_at ws 2) });
     }
     ∷ record {
       words = exactly (codes "disk") ∷ is_path ∷ is_number_that (is_in_range 1 64) ∷ [];
@@ -88,7 +89,7 @@ rank VersionLine = 0
 rank (TimeLine io fire land rho grace) = 1
 rank (HostsLine m) = 2
 rank (IdsLine n) = 3
-rank (ClockLine m r) = 4
+rank (ClockLine c) = 4
 rank (DiskLine d) = 5
 rank (AreaLine l) = 6
 rank (LeaseLine r) = 7
@@ -133,8 +134,8 @@ ids_line (IdsLine n) = Some n
 ids_line l = None
 
 -- What a clock line gives.
-abbrev pub clock_line : HeaderLine → Option (ℕ × ℕ)
-clock_line (ClockLine m r) = Some (m, r)
+abbrev pub clock_line : HeaderLine → Option FirstReading
+clock_line (ClockLine c) = Some c
 clock_line l = None
 
 -- What a disk line gives.
@@ -203,7 +204,7 @@ header_tests h (TimeLine io fire land rho grace) =
     ∷ (nat_lt 100 rho, LimitRho) ∷ (nat_lt 600000 grace, LimitGrace) ∷ []
 header_tests h (HostsLine m) = []
 header_tests h (IdsLine n) = []
-header_tests h (ClockLine m r) = (nat_lt h.machines m, MissingMachine) ∷ (list_any (λ c. c.0 == m) h.clocks, MissingFree) ∷ []
+header_tests h (ClockLine c) = (nat_lt h.machines c.machine, MissingMachine) ∷ (list_any (λ d. d.machine == c.machine) h.clocks, MissingFree) ∷ []
 header_tests h (DiskLine d) = (list_any (λ e. bytes_eq e.path d.path) h.disks, MissingFree) ∷ []
 header_tests h (AreaLine l) =
     (not (is_on_disk h.disks h.geometry.area l.path l.offset), MissingDisk)

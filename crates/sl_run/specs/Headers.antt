@@ -2,6 +2,7 @@
 use Rattle.sl_area.specs.Layouts.{IsGeometry}
 use Rattle.sl_run.specs.Worlds.{mebibyte}
 use Rattle.sl_run.specs.declared.header.Disk.{Disk}
+use Rattle.sl_run.specs.declared.header.FirstReading.{FirstReading}
 use Rattle.sl_run.specs.declared.header.Header.{Header}
 use Rattle.sl_run.specs.declared.header.LockspaceLine.{LockspaceLine}
 use Rattle.sl_run.specs.declared.header.ResourceLine.{ResourceLine}
@@ -41,8 +42,8 @@ pub record IsHeader (h : Header) : Type 0 where
   pub grace : h.grace ≤ 600000
   pub machines : (1 ≤ h.machines) × (h.machines ≤ 16)
   pub geometry : IsGeometry h.geometry
-  pub clocks : (c : ℕ × ℕ) → Contains h.clocks c → (1 ≤ c.0) × (c.0 ≤ h.machines) × (c.1 < 10 ^ 12)
-  pub one_clock : AllPairs (λ a b. a.0 ≢ b.0) h.clocks
+  pub clocks : (c : FirstReading) → Contains h.clocks c → (1 ≤ c.machine) × (c.machine ≤ h.machines) × (c.reading < 10 ^ 12)
+  pub one_clock : AllPairs (λ a b. a.machine ≢ b.machine) h.clocks
   pub disks : (d : Disk) → Contains h.disks d → IsTrue (is_path d.path) × (1 ≤ d.mebibytes) × (d.mebibytes ≤ 64)
   pub one_disk : AllPairs (λ a b. a.path ≢ b.path) h.disks
   pub lockspaces : (l : LockspaceLine) → Contains h.lockspaces l → IsTrue (is_name l.name) × IsArea h l.path l.offset

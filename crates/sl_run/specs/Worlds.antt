@@ -130,7 +130,7 @@ sector_size w = w.layout.sector
 
 -- A machine's first reading.
 abbrev pub clock_reading : Header → ℕ → ℕ
-clock_reading h m = option_map_or (λ c. c.1) (find (λ c. c.0 == m) h.clocks) 0
+clock_reading h m = option_map_or (λ c. c.reading) (find (λ c. c.machine == m) h.clocks) 0
 
 -- The delta record that a session of the header has.
 abbrev pub member_delta : Header → SessionLine → DeltaRec

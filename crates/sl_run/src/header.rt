@@ -4,6 +4,13 @@ use sl_area::Geometry;
 use sl_text::{FilePath, Name, Seq};
 use sl_time::Timing;
 
+/// A machine's first reading.
+#[derive(Clone, Copy)]
+pub struct FirstReading {
+    pub machine: u32,
+    pub reading: u64,
+}
+
 /// A disk of zeros.
 #[derive(Clone, Copy)]
 pub struct Disk {
@@ -44,7 +51,7 @@ pub struct Header {
     pub grace: u64,
     pub machines: u32,
     pub geometry: Geometry,
-    pub clocks: Seq<(u32, u64)>,
+    pub clocks: Seq<FirstReading>,
     pub disks: Seq<Disk>,
     pub lockspaces: Seq<LockspaceLine>,
     pub resources: Seq<ResourceLine>,

@@ -21,6 +21,8 @@ use Rattle.sl_trace.specs.declared.effects.Purpose.TheVariants.{Joining}
 use Rattle.sl_trace.specs.declared.effects.Purpose.{Purpose}
 use Rattle.sl_trace.specs.declared.input.Answer.TheVariants.{Failed, Read, Written}
 use Rattle.sl_trace.specs.declared.input.Answer.{Answer}
+use Rattle.sl_trace.specs.declared.reply.DeltaOwner.{DeltaOwner}
+use Rattle.sl_trace.specs.declared.reply.DeltaVersion.{DeltaVersion}
 use Rattle.sl_trace.specs.declared.reply.Limited.TheVariants.{Gen as GenLimit, Seq as SeqLimit}
 use Rattle.sl_trace.specs.declared.reply.Reply.TheVariants.{Done, IdHeld, IdLate, IdLost, IoFault, Limit as LimitReached, TornDelta, WrongDelta}
 use Rattle.sl_trace.specs.declared.reply.Reply.{Reply}
@@ -62,19 +64,26 @@ first_answered ms = option_and_then (λ m. option_map (λ a. a.reading) m.answer
 abbrev pub claim_of : List Submitted → Option DeltaRec
 claim_of ms = option_and_then delta_written (join_call ms ClaimWrite)
 
--- Generation and seq of the delta record that the bytes spell, whatever lockspace and id it has.
-abbrev pub pair_of_bytes : Layout → List ℕ → Option (ℕ × ℕ)
-pair_of_bytes g bytes = option_map (λ d. (d.generation, d.seq)) (delta_in (record_in g bytes))
+-- Generation and seq of a delta record.
+abbrev pub version_of : DeltaRec → DeltaVersion
+version_of d = record { generation = d.generation; seq = d.seq }
+
+-- Those of the delta record that the bytes spell, whatever lockspace and id it has.
+abbrev pub version_in : Layout → List ℕ → Option DeltaVersion
+version_in g bytes = option_map version_of (delta_in (record_in g bytes))
+
+-- Generation and host name of a delta record; an absent name is `-`.
+abbrev pub host_of_delta : DeltaRec → DeltaOwner
+host_of_delta d = record { generation = d.generation; name = unwrap_or d.host (codes "-") }
 
 -- The refusal by two reads that differ.
 abbrev pub id_held : Layout → List ℕ → List ℕ → Reply
-id_held g first later = let p : ℕ × ℕ = unwrap_or (pair_of_bytes g first) (0, 0) in IdHeld p.0 p.1 (pair_of_bytes g later)
+id_held g first later = IdHeld (unwrap_or (version_in g first) (record { generation = 0; seq = 0 })) (version_in g later)
 
--- The refusal by a read that isn't the own claim; an absent name is `-`.
+-- The refusal by a read that isn't the own claim.
 abbrev pub id_lost : DeltaLease → DeltaRec → List ℕ → Reply
 id_lost l claim bytes =
-    IdLost claim.generation l.host
-    (option_map (λ d. (d.generation, unwrap_or d.host (codes "-"))) (delta_in (record_in l.layout bytes)))
+    IdLost (record { generation = claim.generation; name = l.host }) (option_map host_of_delta (delta_in (record_in l.layout bytes)))
 
 -- ---- joining: what comes after an answer
 

@@ -21,13 +21,13 @@ pub enum DeltaNext {
     /// The first renewal is written.
     WriteFirst(DeltaRec),
     /// The session is joined under this generation by a renewal submitted at this reading: reply, connection, a read of all ids.
-    Join(u64, u64),
+    Join { generation: u64, renewed: u64 },
     /// A renewal submitted at this reading was answered ok: the connection moves, and all ids are read.
-    KeepUp(u64),
+    KeepUp { renewed: u64 },
     /// A renewal is written.
     WriteRenewal(DeltaRec),
     /// The free record is written, for the job that leaves.
-    WriteFree(u64, DeltaRec),
+    WriteFree { job: u64, record: DeltaRec },
     /// The leaving is over with this reply: the connection goes, and the session ends.
     Part(Reply),
 }

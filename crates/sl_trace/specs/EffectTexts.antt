@@ -17,6 +17,8 @@ use Rattle.sl_trace.specs.declared.effects.Sent.{Sent}
 use Rattle.sl_trace.specs.declared.effects.Signal.TheVariants.{Kill, Term}
 use Rattle.sl_trace.specs.declared.effects.Signal.{Signal}
 use Rattle.sl_trace.specs.declared.effects.Start.{Start}
+use Rattle.sl_trace.specs.declared.reply.DeltaOwner.{DeltaOwner}
+use Rattle.sl_trace.specs.declared.reply.DeltaVersion.{DeltaVersion}
 use Rattle.sl_trace.specs.declared.reply.HostState.TheVariants.{Alive, Dead, Failing, Unknown, Vacant}
 use Rattle.sl_trace.specs.declared.reply.HostState.{HostState}
 use Rattle.sl_trace.specs.declared.reply.Limited.TheVariants.{Children, Gen as GenLimit, Holders, Lockspaces, Lver as LverLimit, Mbal as MbalLimit, Resources, Seq as SeqLimit}
@@ -56,15 +58,18 @@ limit_words SeqLimit = codes "seq" ∷ greatest_number ∷ []
 limit_words LverLimit = codes "lver" ∷ greatest_number ∷ []
 limit_words MbalLimit = codes "mbal" ∷ greatest_number ∷ []
 
--- Generation and seq, or `torn`.
-abbrev pub pair_words : Option (ℕ × ℕ) → List (List ℕ)
-pair_words None = codes "torn" ∷ []
-pair_words (Some p) = decimal p.0 ∷ decimal p.1 ∷ []
+-- Generation and seq.
+abbrev pub version_words : DeltaVersion → List (List ℕ)
+version_words v = decimal v.generation ∷ decimal v.seq ∷ []
 
--- Generation and name, or `torn`.
-abbrev pub name_words : Option (ℕ × List ℕ) → List (List ℕ)
-name_words None = codes "torn" ∷ []
-name_words (Some p) = decimal p.0 ∷ p.1 ∷ []
+-- Generation and name.
+abbrev pub owner_words : DeltaOwner → List (List ℕ)
+owner_words o = decimal o.generation ∷ o.name ∷ []
+
+-- What a later read spells, or `torn`.
+abbrev pub or_torn : {A : Type 0} → (A → List (List ℕ)) → Option A → List (List ℕ)
+or_torn words None = codes "torn" ∷ []
+or_torn words (Some a) = words a
 
 -- A number, or `torn`.
 abbrev pub number_word : Option ℕ → List ℕ
@@ -85,8 +90,8 @@ reply_words (Sessions sessions) =
 reply_words NoSession = codes "NoSession" ∷ []
 reply_words StillJoining = codes "Joining" ∷ []
 reply_words (Recovering t) = codes "Recovering" ∷ decimal t ∷ []
-reply_words (IdHeld generation seq later) = codes "IdHeld" ∷ decimal generation ∷ decimal seq ∷ pair_words later
-reply_words (IdLost generation name found) = codes "IdLost" ∷ decimal generation ∷ name ∷ name_words found
+reply_words (IdHeld first later) = codes "IdHeld" ∷ version_words first ++ or_torn version_words later
+reply_words (IdLost own found) = codes "IdLost" ∷ owner_words own ++ or_torn owner_words found
 reply_words (IdLate claimed now) = codes "IdLate" ∷ decimal claimed ∷ decimal now ∷ []
 reply_words TornDelta = codes "TornDelta" ∷ []
 reply_words TornLeader = codes "TornLeader" ∷ []

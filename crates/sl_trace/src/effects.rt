@@ -34,7 +34,7 @@ pub enum JoinStep {
 /// a settling reads the area before it writes a free that it owes.
 #[derive(Clone, Copy)]
 pub enum LeaseStep {
-    ReadArea(Name),
+    ReadArea { resource: Name },
     ReadBeforeFree,
     Phase1Write,
     Phase1Read,
@@ -49,30 +49,40 @@ pub enum LeaseStep {
 /// On whose account work on a lease is done.
 #[derive(Clone, Copy)]
 pub enum Work {
-    ForJob(u64),
+    ForJob { job: u64 },
     Settling,
 }
 
-/// What a sector call is for. A number is that of the job which made it.
+/// What a sector call is for; `job` is the number of the job which made it.
 #[derive(Clone, Copy)]
 pub enum Purpose {
-    Joining(u64, JoinStep),
+    /// A step of a joining.
+    Joining { job: u64, step: JoinStep },
+    /// A renewal's write.
     Renewal,
+    /// The read of all delta sectors that follows a renewal.
     Survey,
-    Leaving(u64),
-    Lease(Work, LeaseStep),
-    AskRead(u64),
-    AskWrite(u64),
+    /// The write of a leaving's free record.
+    Leaving { job: u64 },
+    /// Work on a resource's lease.
+    Lease { work: Work, step: LeaseStep },
+    /// A request's read of leader and request.
+    AskRead { job: u64 },
+    /// A request's write.
+    AskWrite { job: u64 },
+    /// A holder's look at a request.
     SeeRequest,
-    ValueWrite(u64),
-    ValueRead(u64),
+    /// The write of a value.
+    ValueWrite { job: u64 },
+    /// The read of a value.
+    ValueRead { job: u64 },
 }
 
 /// Whole sectors to read, or a record to write.
 #[derive(Clone, Copy)]
 pub enum Op {
-    ReadSectors(u32),
-    WriteRecord(Rec),
+    ReadSectors { sectors: u32 },
+    WriteRecord { record: Rec },
 }
 
 /// A sector call: whole sectors from an offset on, of the session with this place among the daemon's sessions.
@@ -127,9 +137,9 @@ pub struct Sent {
 /// What is done to wdmd's connections.
 #[derive(Clone, Copy)]
 pub enum Move {
-    Register(Name, u64),
-    Renew(Name, u64),
-    Unregister(Name),
+    Register { lockspace: Name, expiry: u64 },
+    Renew { lockspace: Name, expiry: u64 },
+    Unregister { lockspace: Name },
 }
 
 /// A child program to start, and the job that it is for.

@@ -41,43 +41,120 @@ pub enum Limited {
     Mbal,
 }
 
+/// Generation and seq of a delta record.
+#[derive(Clone, Copy)]
+pub struct DeltaVersion {
+    pub generation: u64,
+    pub seq: u64,
+}
+
+/// Generation and host name of a delta record; an absent name is `-`.
+#[derive(Clone, Copy)]
+pub struct DeltaOwner {
+    pub generation: u64,
+    pub name: Name,
+}
+
 /// The answer to a command. (Definitions call five variants `StillJoining`, `HeldBy`, `SharedBy`, `Misread`, `LimitReached`.)
 #[derive(Drop)]
 pub enum Reply {
     Done,
-    Generation(u64),
-    Granted(u64),
-    Started(u64, u32),
-    Value(u64, u64, Data),
+    Generation {
+        generation: u64,
+    },
+    Granted {
+        lver: u64,
+    },
+    Started {
+        lver: u64,
+        process: u32,
+    },
+    Value {
+        lver: u64,
+        seq: u64,
+        bytes: Data,
+    },
     Hosts(Seq<StateOf>),
     Sessions(Seq<SessionOf>),
     NoSession,
     Joining,
-    Recovering(u64),
-    IdHeld(u64, u64, Option<(u64, u64)>),
-    IdLost(u64, Name, Option<(u64, Name)>),
-    IdLate(u64, u64),
+    Recovering {
+        renewed: u64,
+    },
+    IdHeld {
+        first: DeltaVersion,
+        later: Option<DeltaVersion>,
+    },
+    IdLost {
+        own: DeltaOwner,
+        found: Option<DeltaOwner>,
+    },
+    IdLate {
+        claimed: u64,
+        now: u64,
+    },
     TornDelta,
     TornLeader,
-    TornBlock(u32),
-    Held(u64, Owner),
-    Shared(Owner),
-    Rival(u32, u64),
-    Ahead(u32, u64),
-    IoTimeout(u64, u64, u64),
-    IoFault(u64),
-    Pending(u64),
-    Busy(u32),
+    TornBlock {
+        host: u32,
+    },
+    Held {
+        lver: u64,
+        owner: Owner,
+    },
+    Shared {
+        owner: Owner,
+    },
+    Rival {
+        host: u32,
+        mbal: u64,
+    },
+    Ahead {
+        host: u32,
+        lver: u64,
+    },
+    IoTimeout {
+        call: u64,
+        from: u64,
+        to: u64,
+    },
+    IoFault {
+        call: u64,
+    },
+    Pending {
+        call: u64,
+    },
+    Busy {
+        process: u32,
+    },
     NotHeld,
     SpawnFault,
     ValueTorn,
-    BadCommand(u64),
-    Limit(Limited),
-    RequestOld(u64, Option<u64>),
-    WrongArea(Name, Name, u32),
-    WrongDelta(Name, u32),
-    NoProcess(u32),
-    Joined(u64),
+    BadCommand {
+        column: u64,
+    },
+    Limit {
+        which: Limited,
+    },
+    RequestOld {
+        held: u64,
+        stored: Option<u64>,
+    },
+    WrongArea {
+        lockspace: Name,
+        resource: Name,
+        hosts: u32,
+    },
+    WrongDelta {
+        lockspace: Name,
+        id: u32,
+    },
+    NoProcess {
+        process: u32,
+    },
+    Joined {
+        generation: u64,
+    },
 }
 
 /// Why a session counts as over: a newer generation was seen, its free was seen, or its record stood still.
