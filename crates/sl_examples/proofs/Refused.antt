@@ -7,10 +7,10 @@ use Rattle.sl_due.specs.DueDelta.{carry_delta}
 use Rattle.sl_due.specs.DueLease.{carry_lease}
 use Rattle.sl_due.specs.DueRequests.{ask_refusal}
 use Rattle.sl_examples.specs.Making.{block, broken_by, bytes_of, grant, leader, quiet_entry, reads, with_calls, with_grants, with_moves, writes}
+use Rattle.sl_examples.specs.Rows.{two_machines}
 use Rattle.sl_leases.specs.Ballots.{instance_of, phase1_block, phase2_block, stop_of}
 use Rattle.sl_leases.specs.LeaseWork.{area_next, begin_next, lease_next, settle_next}
 use Rattle.sl_leases.specs.Leases.{known}
-use Rattle.sl_report.specs.Generator.{candidates}
 use Rattle.sl_report.specs.Reports.{count_event}
 use Rattle.sl_report.specs.ScheduleLines.{event_forms, header_forms, header_of, header_tests}
 use Rattle.sl_run.specs.Events.{event_tests, first_change, pass_tests}
@@ -25,7 +25,7 @@ use Rattle.sl_trace.specs.Commands.{forms}
 use Rattle.sl_trace.specs.EffectTexts.{reply_words}
 use Rattle.sl_trace.specs.declared.effects.Entry.{Entry}
 use Rattle.sl_trace.specs.declared.effects.JoinStep.TheVariants.{DecidingRead}
-use Rattle.sl_trace.specs.declared.effects.LeaseStep.TheVariants.{FreeLeader, Phase1Write, Phase2Read, Phase2Write, ReadArea, SetMode}
+use Rattle.sl_trace.specs.declared.effects.LeaseStep.TheVariants.{FreeLeader, Phase1Write, Phase2Read, Phase2Write, ReadBeforeFree, SetMode}
 use Rattle.sl_trace.specs.declared.effects.Mode.TheVariants.{Shared}
 use Rattle.sl_trace.specs.declared.effects.Move.TheVariants.{Register, Renew, Unregister}
 use Rattle.sl_trace.specs.declared.effects.Purpose.TheVariants.{Joining, Lease, Renewal, Survey, ValueWrite}
@@ -34,10 +34,6 @@ use Rattle.sl_trace.specs.declared.input.Answer.TheVariants.{Failed, Read, Writt
 use Rattle.sl_trace.specs.declared.input.Input.TheVariants.{Answer as Told, Wake}
 use Rattle.std.specs.Fmt.{digits}
 use Rattle.std.specs.Prelude.{List, Some, codes, false, refl, replicate, true, [], ℕ, ◌++◌, ◌∷◌, ◌≡◌}
-
-abbrev two : List (List ℕ)
-two = codes "sanlock 1" ∷ codes "time 100 600 100 0 300" ∷ codes "hosts 2" ∷ codes "ids 2" ∷ codes "disk /d 4" ∷ codes "lockspace ls /d 0"
-    ∷ codes "resource ls r /d 1048576" ∷ codes "session 1 ls 1 a" ∷ codes "session 2 ls 2 b" ∷ codes "begin" ∷ []
 
 abbrev none : List (List ℕ)
 none = codes "sanlock 1" ∷ codes "time 100 600 100 0 300" ∷ codes "hosts 1" ∷ codes "ids 2" ∷ codes "disk /d 4" ∷ codes "lockspace ls /d 0"
@@ -50,8 +46,8 @@ acquire = codes "command 1 acquire -r ls:r:/d:1048576 -p 7"
 abbrev second_write : Daemon → List Entry
 second_write d = with_calls (writes 3 (Lease Settling Phase1Write) 1049600 (block 1 false 1 3 0 0 0) ∷ []) (quiet_entry 100 Wake) ∷ []
 
-pub overlapping_writes : broken_by (two ++ acquire ∷ codes "do 1 1" ∷ codes "pass 100" ∷ codes "wake 1" ∷ []) 1 second_write ≡ ((3 ∷ []) ∷ [])
-unfolding after_answer_of area_next ask_refusal begin_next block_rules candidates carry_act carry_delta carry_lease checked_part count_event decided decoded delta_rules digits event_forms event_tests field_bytes fields_of first_change forms header_forms header_of header_tests initial_record instance_of known leader_rules lease_next machine_of_header magic next_after_deciding next_after_first next_after_verify next_after_watch next_in_joining next_on_wake next_renewal padded_text pass_tests phase1_block phase2_block reply_words request_rules settle_next spelling stop_of value_rules
+pub overlapping_writes : broken_by (two_machines ++ acquire ∷ codes "do 1 1" ∷ codes "pass 100" ∷ codes "wake 1" ∷ []) 1 second_write ≡ ((3 ∷ []) ∷ [])
+unfolding after_answer_of area_next ask_refusal begin_next block_rules carry_act carry_delta carry_lease checked_part count_event decided decoded delta_rules digits event_forms event_tests field_bytes fields_of first_change forms header_forms header_of header_tests initial_record instance_of known leader_rules lease_next machine_of_header magic next_after_deciding next_after_first next_after_verify next_after_watch next_in_joining next_on_wake next_renewal padded_text pass_tests phase1_block phase2_block reply_words request_rules settle_next spelling stop_of value_rules
 overlapping_writes = refl
 
 -- a shared grant whose leader was freed before the mode was set as well: another could have passed in between
@@ -64,9 +60,9 @@ early_free d =
     ∷ with_grants (grant 7 Shared 1 ∷ []) (quiet_entry 0 (Told 8 Written)) ∷ []
 
 pub freed_before_mode :
-    broken_by (two ++ codes "command 1 acquire -r ls:r:/d:1048576:SH -p 7" ∷ codes "do 1 1" ∷ codes "do 1 2" ∷ codes "do 1 3" ∷ codes "do 1 4" ∷ []) 1 early_free
+    broken_by (two_machines ++ codes "command 1 acquire -r ls:r:/d:1048576:SH -p 7" ∷ codes "do 1 1" ∷ codes "do 1 2" ∷ codes "do 1 3" ∷ codes "do 1 4" ∷ []) 1 early_free
     ≡ ([] ∷ [] ∷ [] ∷ (6 ∷ []) ∷ [])
-unfolding after_answer_of area_next ask_refusal begin_next block_rules candidates carry_act carry_delta carry_lease checked_part count_event decided decoded delta_rules digits event_forms event_tests field_bytes fields_of first_change forms header_forms header_of header_tests initial_record instance_of known leader_rules lease_next machine_of_header magic next_after_deciding next_after_first next_after_verify next_after_watch next_in_joining next_on_wake next_renewal padded_text pass_tests phase1_block phase2_block reply_words request_rules settle_next spelling stop_of value_rules
+unfolding after_answer_of area_next ask_refusal begin_next block_rules carry_act carry_delta carry_lease checked_part count_event decided decoded delta_rules digits event_forms event_tests field_bytes fields_of first_change forms header_forms header_of header_tests initial_record instance_of known leader_rules lease_next machine_of_header magic next_after_deciding next_after_first next_after_verify next_after_watch next_in_joining next_on_wake next_renewal padded_text pass_tests phase1_block phase2_block reply_words request_rules settle_next spelling stop_of value_rules
 freed_before_mode = refl
 
 -- the same with the free after the mode alone is lawful: the laws can be met
@@ -78,9 +74,9 @@ in_order_free d =
     ∷ with_grants (grant 7 Shared 1 ∷ []) (quiet_entry 0 (Told 7 Written)) ∷ []
 
 pub freed_after_mode :
-    broken_by (two ++ codes "command 1 acquire -r ls:r:/d:1048576:SH -p 7" ∷ codes "do 1 1" ∷ codes "do 1 2" ∷ codes "do 1 3" ∷ codes "do 1 4" ∷ []) 1 in_order_free
+    broken_by (two_machines ++ codes "command 1 acquire -r ls:r:/d:1048576:SH -p 7" ∷ codes "do 1 1" ∷ codes "do 1 2" ∷ codes "do 1 3" ∷ codes "do 1 4" ∷ []) 1 in_order_free
     ≡ ([] ∷ [] ∷ [] ∷ [])
-unfolding after_answer_of area_next ask_refusal begin_next block_rules candidates carry_act carry_delta carry_lease checked_part count_event decided decoded delta_rules digits event_forms event_tests field_bytes fields_of first_change forms header_forms header_of header_tests initial_record instance_of known leader_rules lease_next machine_of_header magic next_after_deciding next_after_first next_after_verify next_after_watch next_in_joining next_on_wake next_renewal padded_text pass_tests phase1_block phase2_block reply_words request_rules settle_next spelling stop_of value_rules
+unfolding after_answer_of area_next ask_refusal begin_next block_rules carry_act carry_delta carry_lease checked_part count_event decided decoded delta_rules digits event_forms event_tests field_bytes fields_of first_change forms header_forms header_of header_tests initial_record instance_of known leader_rules lease_next machine_of_header magic next_after_deciding next_after_first next_after_verify next_after_watch next_in_joining next_on_wake next_renewal padded_text pass_tests phase1_block phase2_block reply_words request_rules settle_next spelling stop_of value_rules
 freed_after_mode = refl
 
 -- by an old read of the leader an instance below the own block begins: the own vote would be forgotten
@@ -88,10 +84,10 @@ abbrev older_instance : Daemon → List Entry
 older_instance d = with_calls (writes 13 (Lease Settling Phase1Write) 1049600 (block 1 false 1 1 0 0 0) ∷ []) (quiet_entry 0 (Told 12 Failed)) ∷ []
 
 pub below_own_block :
-    broken_by (two ++ acquire ∷ codes "do 1 1" ∷ codes "do 1 2" ∷ codes "do 1 3" ∷ codes "do 1 4" ∷ codes "do 1 5" ∷ codes "do 1 6"
+    broken_by (two_machines ++ acquire ∷ codes "do 1 1" ∷ codes "do 1 2" ∷ codes "do 1 3" ∷ codes "do 1 4" ∷ codes "do 1 5" ∷ codes "do 1 6"
     ∷ codes "command 1 release -r ls:r:/d:1048576 -p 7" ∷ codes "do 1 7" ∷ acquire ∷ codes "do 1 8" ∷ codes "do 1 9" ∷ codes "do 1 10" ∷ codes "do 1 11" ∷ []) 1 older_instance
     ≡ ((4 ∷ []) ∷ [])
-unfolding after_answer_of area_next ask_refusal begin_next block_rules candidates carry_act carry_delta carry_lease checked_part count_event decided decoded delta_rules digits event_forms event_tests field_bytes fields_of first_change forms header_forms header_of header_tests initial_record instance_of known leader_rules lease_next machine_of_header magic next_after_deciding next_after_first next_after_verify next_after_watch next_in_joining next_on_wake next_renewal padded_text pass_tests phase1_block phase2_block reply_words request_rules settle_next spelling stop_of value_rules
+unfolding after_answer_of area_next ask_refusal begin_next block_rules carry_act carry_delta carry_lease checked_part count_event decided decoded delta_rules digits event_forms event_tests field_bytes fields_of first_change forms header_forms header_of header_tests initial_record instance_of known leader_rules lease_next machine_of_header magic next_after_deciding next_after_first next_after_verify next_after_watch next_in_joining next_on_wake next_renewal padded_text pass_tests phase1_block phase2_block reply_words request_rules settle_next spelling stop_of value_rules
 below_own_block = refl
 
 -- an instance that the session has freed begins again
@@ -99,10 +95,10 @@ abbrev freed_instance : Daemon → List Entry
 freed_instance d = with_calls (writes 8 (Lease Settling Phase1Write) 1049600 (block 1 false 1 3 1 1 1) ∷ []) (quiet_entry 0 Wake) ∷ []
 
 pub freed_again :
-    broken_by (two ++ acquire ∷ codes "do 1 1" ∷ codes "do 1 2" ∷ codes "do 1 3" ∷ codes "do 1 4" ∷ codes "do 1 5" ∷ codes "do 1 6"
+    broken_by (two_machines ++ acquire ∷ codes "do 1 1" ∷ codes "do 1 2" ∷ codes "do 1 3" ∷ codes "do 1 4" ∷ codes "do 1 5" ∷ codes "do 1 6"
     ∷ codes "command 1 release -r ls:r:/d:1048576 -p 7" ∷ codes "do 1 7" ∷ []) 1 freed_instance
     ≡ ((4 ∷ []) ∷ [])
-unfolding after_answer_of area_next ask_refusal begin_next block_rules candidates carry_act carry_delta carry_lease checked_part count_event decided decoded delta_rules digits event_forms event_tests field_bytes fields_of first_change forms header_forms header_of header_tests initial_record instance_of known leader_rules lease_next machine_of_header magic next_after_deciding next_after_first next_after_verify next_after_watch next_in_joining next_on_wake next_renewal padded_text pass_tests phase1_block phase2_block reply_words request_rules settle_next spelling stop_of value_rules
+unfolding after_answer_of area_next ask_refusal begin_next block_rules carry_act carry_delta carry_lease checked_part count_event decided decoded delta_rules digits event_forms event_tests field_bytes fields_of first_change forms header_forms header_of header_tests initial_record instance_of known leader_rules lease_next machine_of_header magic next_after_deciding next_after_first next_after_verify next_after_watch next_in_joining next_on_wake next_renewal padded_text pass_tests phase1_block phase2_block reply_words request_rules settle_next spelling stop_of value_rules
 freed_again = refl
 
 -- a torn block of another host is passed over: it may be a vote, or a shared holder's
@@ -111,8 +107,8 @@ past_torn d =
     with_calls (writes 4 (Lease (ForJob 1) Phase2Write) 1049600 (block 1 false 1 1 1 1 1) ∷ [])
     (quiet_entry 0 (Told 3 (Read (bytes_of d (block 1 false 1 1 0 0 0) ++ replicate 512 0)))) ∷ []
 
-pub torn_block : broken_by (two ++ acquire ∷ codes "do 1 1" ∷ codes "do 1 2" ∷ []) 1 past_torn ≡ ((4 ∷ []) ∷ [])
-unfolding after_answer_of area_next ask_refusal begin_next block_rules candidates carry_act carry_delta carry_lease checked_part count_event decided decoded delta_rules digits event_forms event_tests field_bytes fields_of first_change forms header_forms header_of header_tests initial_record instance_of known leader_rules lease_next machine_of_header magic next_after_deciding next_after_first next_after_verify next_after_watch next_in_joining next_on_wake next_renewal padded_text pass_tests phase1_block phase2_block reply_words request_rules settle_next spelling stop_of value_rules
+pub torn_block : broken_by (two_machines ++ acquire ∷ codes "do 1 1" ∷ codes "do 1 2" ∷ []) 1 past_torn ≡ ((4 ∷ []) ∷ [])
+unfolding after_answer_of area_next ask_refusal begin_next block_rules carry_act carry_delta carry_lease checked_part count_event decided decoded delta_rules digits event_forms event_tests field_bytes fields_of first_change forms header_forms header_of header_tests initial_record instance_of known leader_rules lease_next machine_of_header magic next_after_deciding next_after_first next_after_verify next_after_watch next_in_joining next_on_wake next_renewal padded_text pass_tests phase1_block phase2_block reply_words request_rules settle_next spelling stop_of value_rules
 torn_block = refl
 
 -- a leader of another lockspace, in which id and generation name another session
@@ -122,16 +118,16 @@ other_lockspace d =
     (quiet_entry 0 (Told 1 (Read (bytes_of d (leader true 1 1 1 (codes "lb")) ++ bytes_of d (RequestIs no_request)
     ++ bytes_of d (block 1 false 1 1 1 1 1) ++ bytes_of d (block 2 false 0 0 0 0 0))))) ∷ []
 
-pub of_another : broken_by (two ++ acquire ∷ []) 1 other_lockspace ≡ ((3 ∷ 4 ∷ []) ∷ [])
-unfolding after_answer_of area_next ask_refusal begin_next block_rules candidates carry_act carry_delta carry_lease checked_part count_event decided decoded delta_rules digits event_forms event_tests field_bytes fields_of first_change forms header_forms header_of header_tests initial_record instance_of known leader_rules lease_next machine_of_header magic next_after_deciding next_after_first next_after_verify next_after_watch next_in_joining next_on_wake next_renewal padded_text pass_tests phase1_block phase2_block reply_words request_rules settle_next spelling stop_of value_rules
+pub of_another : broken_by (two_machines ++ acquire ∷ []) 1 other_lockspace ≡ ((3 ∷ 4 ∷ []) ∷ [])
+unfolding after_answer_of area_next ask_refusal begin_next block_rules carry_act carry_delta carry_lease checked_part count_event decided decoded delta_rules digits event_forms event_tests field_bytes fields_of first_change forms header_forms header_of header_tests initial_record instance_of known leader_rules lease_next machine_of_header magic next_after_deciding next_after_first next_after_verify next_after_watch next_in_joining next_on_wake next_renewal padded_text pass_tests phase1_block phase2_block reply_words request_rules settle_next spelling stop_of value_rules
 of_another = refl
 
 -- a session that has claimed its id, and isn't joined, works on an area
 abbrev before_joining : Daemon → List Entry
-before_joining d = with_calls (reads 4 (Lease Settling ReadArea) 1048576 4 ∷ []) (quiet_entry 0 Wake) ∷ []
+before_joining d = with_calls (reads 4 (Lease Settling ReadBeforeFree) 1048576 4 ∷ []) (quiet_entry 0 Wake) ∷ []
 
 pub not_joined : broken_by (none ++ codes "do 1 1" ∷ codes "do 1 2" ∷ codes "do 1 3" ∷ []) 1 before_joining ≡ ((3 ∷ []) ∷ [])
-unfolding after_answer_of area_next ask_refusal begin_next block_rules candidates carry_act carry_delta carry_lease checked_part count_event decided decoded delta_rules digits event_forms event_tests field_bytes fields_of first_change forms header_forms header_of header_tests initial_record instance_of known leader_rules lease_next machine_of_header magic next_after_deciding next_after_first next_after_verify next_after_watch next_in_joining next_on_wake next_renewal padded_text pass_tests phase1_block phase2_block reply_words request_rules settle_next spelling stop_of value_rules
+unfolding after_answer_of area_next ask_refusal begin_next block_rules carry_act carry_delta carry_lease checked_part count_event decided decoded delta_rules digits event_forms event_tests field_bytes fields_of first_change forms header_forms header_of header_tests initial_record instance_of known leader_rules lease_next machine_of_header magic next_after_deciding next_after_first next_after_verify next_after_watch next_in_joining next_on_wake next_renewal padded_text pass_tests phase1_block phase2_block reply_words request_rules settle_next spelling stop_of value_rules
 not_joined = refl
 
 -- a renewal with an old seq: it would look like silence
@@ -149,13 +145,13 @@ same_renewal d =
     })) ∷ [])
     (quiet_entry 200 Wake) ∷ []
 
-pub equal_renewal : broken_by (two ++ codes "pass 200" ∷ []) 1 same_renewal ≡ ((2 ∷ []) ∷ [])
-unfolding after_answer_of area_next ask_refusal begin_next block_rules candidates carry_act carry_delta carry_lease checked_part count_event decided decoded delta_rules digits event_forms event_tests field_bytes fields_of first_change forms header_forms header_of header_tests initial_record instance_of known leader_rules lease_next machine_of_header magic next_after_deciding next_after_first next_after_verify next_after_watch next_in_joining next_on_wake next_renewal padded_text pass_tests phase1_block phase2_block reply_words request_rules settle_next spelling stop_of value_rules
+pub equal_renewal : broken_by (two_machines ++ codes "pass 200" ∷ []) 1 same_renewal ≡ ((2 ∷ []) ∷ [])
+unfolding after_answer_of area_next ask_refusal begin_next block_rules carry_act carry_delta carry_lease checked_part count_event decided decoded delta_rules digits event_forms event_tests field_bytes fields_of first_change forms header_forms header_of header_tests initial_record instance_of known leader_rules lease_next machine_of_header magic next_after_deciding next_after_first next_after_verify next_after_watch next_in_joining next_on_wake next_renewal padded_text pass_tests phase1_block phase2_block reply_words request_rules settle_next spelling stop_of value_rules
 equal_renewal = refl
 
 -- with the next seq it is lawful
-abbrev next_renewal : Daemon → List Entry
-next_renewal d =
+abbrev higher_renewal : Daemon → List Entry
+higher_renewal d =
     with_calls (writes 1 Renewal 0 (DeltaIs (record {
       state = Live;
       id = 1;
@@ -168,8 +164,8 @@ next_renewal d =
     })) ∷ [])
     (quiet_entry 200 Wake) ∷ []
 
-pub rising_renewal : broken_by (two ++ codes "pass 200" ∷ []) 1 next_renewal ≡ ([] ∷ [])
-unfolding after_answer_of area_next ask_refusal begin_next block_rules candidates carry_act carry_delta carry_lease checked_part count_event decided decoded delta_rules digits event_forms event_tests field_bytes fields_of first_change forms header_forms header_of header_tests initial_record instance_of known leader_rules lease_next machine_of_header magic next_after_deciding next_after_first next_after_verify next_after_watch next_in_joining next_on_wake next_renewal padded_text pass_tests phase1_block phase2_block reply_words request_rules settle_next spelling stop_of value_rules
+pub rising_renewal : broken_by (two_machines ++ codes "pass 200" ∷ []) 1 higher_renewal ≡ ([] ∷ [])
+unfolding after_answer_of area_next ask_refusal begin_next block_rules carry_act carry_delta carry_lease checked_part count_event decided decoded delta_rules digits event_forms event_tests field_bytes fields_of first_change forms header_forms header_of header_tests initial_record instance_of known leader_rules lease_next machine_of_header magic next_after_deciding next_after_first next_after_verify next_after_watch next_in_joining next_on_wake next_renewal padded_text pass_tests phase1_block phase2_block reply_words request_rules settle_next spelling stop_of value_rules
 rising_renewal = refl
 
 -- a write of the mode that changes the vote
@@ -177,17 +173,17 @@ abbrev mode_and_vote : Daemon → List Entry
 mode_and_vote d = with_calls (writes 7 (Lease (ForJob 1) SetMode) 1049600 (block 1 true 1 3 0 0 0) ∷ []) (quiet_entry 0 (Told 6 Written)) ∷ []
 
 pub vote_undone :
-    broken_by (two ++ codes "command 1 acquire -r ls:r:/d:1048576:SH -p 7" ∷ codes "do 1 1" ∷ codes "do 1 2" ∷ codes "do 1 3" ∷ codes "do 1 4" ∷ codes "do 1 5" ∷ []) 1 mode_and_vote
+    broken_by (two_machines ++ codes "command 1 acquire -r ls:r:/d:1048576:SH -p 7" ∷ codes "do 1 1" ∷ codes "do 1 2" ∷ codes "do 1 3" ∷ codes "do 1 4" ∷ codes "do 1 5" ∷ []) 1 mode_and_vote
     ≡ ((4 ∷ []) ∷ [])
-unfolding after_answer_of area_next ask_refusal begin_next block_rules candidates carry_act carry_delta carry_lease checked_part count_event decided decoded delta_rules digits event_forms event_tests field_bytes fields_of first_change forms header_forms header_of header_tests initial_record instance_of known leader_rules lease_next machine_of_header magic next_after_deciding next_after_first next_after_verify next_after_watch next_in_joining next_on_wake next_renewal padded_text pass_tests phase1_block phase2_block reply_words request_rules settle_next spelling stop_of value_rules
+unfolding after_answer_of area_next ask_refusal begin_next block_rules carry_act carry_delta carry_lease checked_part count_event decided decoded delta_rules digits event_forms event_tests field_bytes fields_of first_change forms header_forms header_of header_tests initial_record instance_of known leader_rules lease_next machine_of_header magic next_after_deciding next_after_first next_after_verify next_after_watch next_in_joining next_on_wake next_renewal padded_text pass_tests phase1_block phase2_block reply_words request_rules settle_next spelling stop_of value_rules
 vote_undone = refl
 
 -- an idle session's connection is removed: nothing would bound it any more
 abbrev idle_removal : Daemon → List Entry
 idle_removal d = with_moves (Unregister (codes "ls") ∷ []) (quiet_entry 0 Wake) ∷ []
 
-pub connection_removed : broken_by two 1 idle_removal ≡ ((9 ∷ []) ∷ [])
-unfolding after_answer_of area_next ask_refusal begin_next block_rules candidates carry_act carry_delta carry_lease checked_part count_event decided decoded delta_rules digits event_forms event_tests field_bytes fields_of first_change forms header_forms header_of header_tests initial_record instance_of known leader_rules lease_next machine_of_header magic next_after_deciding next_after_first next_after_verify next_after_watch next_in_joining next_on_wake next_renewal padded_text pass_tests phase1_block phase2_block reply_words request_rules settle_next spelling stop_of value_rules
+pub connection_removed : broken_by two_machines 1 idle_removal ≡ ((9 ∷ []) ∷ [])
+unfolding after_answer_of area_next ask_refusal begin_next block_rules carry_act carry_delta carry_lease checked_part count_event decided decoded delta_rules digits event_forms event_tests field_bytes fields_of first_change forms header_forms header_of header_tests initial_record instance_of known leader_rules lease_next machine_of_header magic next_after_deciding next_after_first next_after_verify next_after_watch next_in_joining next_on_wake next_renewal padded_text pass_tests phase1_block phase2_block reply_words request_rules settle_next spelling stop_of value_rules
 connection_removed = refl
 
 -- a later expiry than fail after the renewal's submission
@@ -195,8 +191,8 @@ abbrev late_expiry : Daemon → List Entry
 late_expiry d =
     with_calls (reads 2 Survey 0 2 ∷ []) (with_moves (Renew (codes "ls") 1090 ∷ []) (quiet_entry 290 (Told 1 Written))) ∷ []
 
-pub expiry_too_late : broken_by (two ++ codes "pass 200" ∷ codes "wake 1" ∷ codes "pass 90" ∷ []) 1 late_expiry ≡ ((7 ∷ []) ∷ [])
-unfolding after_answer_of area_next ask_refusal begin_next block_rules candidates carry_act carry_delta carry_lease checked_part count_event decided decoded delta_rules digits event_forms event_tests field_bytes fields_of first_change forms header_forms header_of header_tests initial_record instance_of known leader_rules lease_next machine_of_header magic next_after_deciding next_after_first next_after_verify next_after_watch next_in_joining next_on_wake next_renewal padded_text pass_tests phase1_block phase2_block reply_words request_rules settle_next spelling stop_of value_rules
+pub expiry_too_late : broken_by (two_machines ++ codes "pass 200" ∷ codes "wake 1" ∷ codes "pass 90" ∷ []) 1 late_expiry ≡ ((7 ∷ []) ∷ [])
+unfolding after_answer_of area_next ask_refusal begin_next block_rules carry_act carry_delta carry_lease checked_part count_event decided decoded delta_rules digits event_forms event_tests field_bytes fields_of first_change forms header_forms header_of header_tests initial_record instance_of known leader_rules lease_next machine_of_header magic next_after_deciding next_after_first next_after_verify next_after_watch next_in_joining next_on_wake next_renewal padded_text pass_tests phase1_block phase2_block reply_words request_rules settle_next spelling stop_of value_rules
 expiry_too_late = refl
 
 -- the deciding read in an entry that doesn't register
@@ -205,23 +201,23 @@ unregistered_read d =
     with_calls (reads 2 (Joining 1 DecidingRead) 0 1 ∷ []) (quiet_entry 0 (Told 1 (Read (bytes_of d (DeltaIs (fresh_delta (codes "ls") 1)))))) ∷ []
 
 pub deciding_unregistered : broken_by none 1 unregistered_read ≡ ((2 ∷ 7 ∷ []) ∷ [])
-unfolding after_answer_of area_next ask_refusal begin_next block_rules candidates carry_act carry_delta carry_lease checked_part count_event decided decoded delta_rules digits event_forms event_tests field_bytes fields_of first_change forms header_forms header_of header_tests initial_record instance_of known leader_rules lease_next machine_of_header magic next_after_deciding next_after_first next_after_verify next_after_watch next_in_joining next_on_wake next_renewal padded_text pass_tests phase1_block phase2_block reply_words request_rules settle_next spelling stop_of value_rules
+unfolding after_answer_of area_next ask_refusal begin_next block_rules carry_act carry_delta carry_lease checked_part count_event decided decoded delta_rules digits event_forms event_tests field_bytes fields_of first_change forms header_forms header_of header_tests initial_record instance_of known leader_rules lease_next machine_of_header magic next_after_deciding next_after_first next_after_verify next_after_watch next_in_joining next_on_wake next_renewal padded_text pass_tests phase1_block phase2_block reply_words request_rules settle_next spelling stop_of value_rules
 deciding_unregistered = refl
 
 -- a call after the free
 abbrev after_the_free : Daemon → List Entry
 after_the_free d = with_calls (reads 2 Survey 0 2 ∷ []) (quiet_entry 0 Wake) ∷ []
 
-pub call_after_free : broken_by (two ++ codes "command 1 rem_lockspace -s ls:1:/d:0" ∷ []) 1 after_the_free ≡ ((1 ∷ 2 ∷ []) ∷ [])
-unfolding after_answer_of area_next ask_refusal begin_next block_rules candidates carry_act carry_delta carry_lease checked_part count_event decided decoded delta_rules digits event_forms event_tests field_bytes fields_of first_change forms header_forms header_of header_tests initial_record instance_of known leader_rules lease_next machine_of_header magic next_after_deciding next_after_first next_after_verify next_after_watch next_in_joining next_on_wake next_renewal padded_text pass_tests phase1_block phase2_block reply_words request_rules settle_next spelling stop_of value_rules
+pub call_after_free : broken_by (two_machines ++ codes "command 1 rem_lockspace -s ls:1:/d:0" ∷ []) 1 after_the_free ≡ ((1 ∷ 2 ∷ []) ∷ [])
+unfolding after_answer_of area_next ask_refusal begin_next block_rules carry_act carry_delta carry_lease checked_part count_event decided decoded delta_rules digits event_forms event_tests field_bytes fields_of first_change forms header_forms header_of header_tests initial_record instance_of known leader_rules lease_next machine_of_header magic next_after_deciding next_after_first next_after_verify next_after_watch next_in_joining next_on_wake next_renewal padded_text pass_tests phase1_block phase2_block reply_words request_rules settle_next spelling stop_of value_rules
 call_after_free = refl
 
 -- a value written without an exclusive holding
 abbrev value_unheld : Daemon → List Entry
 value_unheld d = with_calls (writes 3 (ValueWrite 1) 2096640 (ValueIs (record { host = 1; lver = 1; seq = 1; bytes = 97 ∷ [] })) ∷ []) (quiet_entry 0 Wake) ∷ []
 
-pub value_without_holding : broken_by (two ++ acquire ∷ codes "do 1 1" ∷ codes "answer 1 2 failed" ∷ []) 1 value_unheld ≡ ((10 ∷ []) ∷ [])
-unfolding after_answer_of area_next ask_refusal begin_next block_rules candidates carry_act carry_delta carry_lease checked_part count_event decided decoded delta_rules digits event_forms event_tests field_bytes fields_of first_change forms header_forms header_of header_tests initial_record instance_of known leader_rules lease_next machine_of_header magic next_after_deciding next_after_first next_after_verify next_after_watch next_in_joining next_on_wake next_renewal padded_text pass_tests phase1_block phase2_block reply_words request_rules settle_next spelling stop_of value_rules
+pub value_without_holding : broken_by (two_machines ++ acquire ∷ codes "do 1 1" ∷ codes "answer 1 2 failed" ∷ []) 1 value_unheld ≡ ((10 ∷ []) ∷ [])
+unfolding after_answer_of area_next ask_refusal begin_next block_rules carry_act carry_delta carry_lease checked_part count_event decided decoded delta_rules digits event_forms event_tests field_bytes fields_of first_change forms header_forms header_of header_tests initial_record instance_of known leader_rules lease_next machine_of_header magic next_after_deciding next_after_first next_after_verify next_after_watch next_in_joining next_on_wake next_renewal padded_text pass_tests phase1_block phase2_block reply_words request_rules settle_next spelling stop_of value_rules
 value_without_holding = refl
 
 -- a joining makes its connection anew while it verifies: its claim could act longer than a watcher waits
@@ -232,13 +228,13 @@ pub connection_anew :
     broken_by (none ++ codes "do 1 1" ∷ codes "do 1 2" ∷ codes "do 1 3" ∷ codes "pass 600" ∷ codes "test 1" ∷ codes "pass 600" ∷ codes "test 1" ∷ codes "pass 301"
     ∷ codes "wake 1" ∷ codes "test 1" ∷ codes "pass 200" ∷ []) 1 registered_anew
     ≡ ((7 ∷ []) ∷ [])
-unfolding after_answer_of area_next ask_refusal begin_next block_rules candidates carry_act carry_delta carry_lease checked_part count_event decided decoded delta_rules digits event_forms event_tests field_bytes fields_of first_change forms header_forms header_of header_tests initial_record instance_of known leader_rules lease_next machine_of_header magic next_after_deciding next_after_first next_after_verify next_after_watch next_in_joining next_on_wake next_renewal padded_text pass_tests phase1_block phase2_block reply_words request_rules settle_next spelling stop_of value_rules
+unfolding after_answer_of area_next ask_refusal begin_next block_rules carry_act carry_delta carry_lease checked_part count_event decided decoded delta_rules digits event_forms event_tests field_bytes fields_of first_change forms header_forms header_of header_tests initial_record instance_of known leader_rules lease_next machine_of_header magic next_after_deciding next_after_first next_after_verify next_after_watch next_in_joining next_on_wake next_renewal padded_text pass_tests phase1_block phase2_block reply_words request_rules settle_next spelling stop_of value_rules
 connection_anew = refl
 
 -- the read of phase 2 is submitted before its write is answered: a rival may not have seen the block
 abbrev early_read : Daemon → List Entry
 early_read d = with_calls (reads 5 (Lease (ForJob 1) Phase2Read) 1049600 2 ∷ []) (quiet_entry 0 Wake) ∷ []
 
-pub read_before_answer : broken_by (two ++ acquire ∷ codes "do 1 1" ∷ codes "do 1 2" ∷ codes "do 1 3" ∷ []) 1 early_read ≡ ((3 ∷ 4 ∷ []) ∷ [])
-unfolding after_answer_of area_next ask_refusal begin_next block_rules candidates carry_act carry_delta carry_lease checked_part count_event decided decoded delta_rules digits event_forms event_tests field_bytes fields_of first_change forms header_forms header_of header_tests initial_record instance_of known leader_rules lease_next machine_of_header magic next_after_deciding next_after_first next_after_verify next_after_watch next_in_joining next_on_wake next_renewal padded_text pass_tests phase1_block phase2_block reply_words request_rules settle_next spelling stop_of value_rules
+pub read_before_answer : broken_by (two_machines ++ acquire ∷ codes "do 1 1" ∷ codes "do 1 2" ∷ codes "do 1 3" ∷ []) 1 early_read ≡ ((3 ∷ 4 ∷ []) ∷ [])
+unfolding after_answer_of area_next ask_refusal begin_next block_rules carry_act carry_delta carry_lease checked_part count_event decided decoded delta_rules digits event_forms event_tests field_bytes fields_of first_change forms header_forms header_of header_tests initial_record instance_of known leader_rules lease_next machine_of_header magic next_after_deciding next_after_first next_after_verify next_after_watch next_in_joining next_on_wake next_renewal padded_text pass_tests phase1_block phase2_block reply_words request_rules settle_next spelling stop_of value_rules
 read_before_answer = refl

@@ -1,5 +1,5 @@
 -- The same of the laws themselves, on literal traces: no lawful trace has these entries.
-use Rattle.sl_area.specs.Layouts.{layout_with}
+use Rattle.sl_area.specs.Layouts.{layout_with, sector_with}
 use Rattle.sl_area.specs.Places.{no_request}
 use Rattle.sl_due.specs.DueAnswers.{after_answer_of}
 use Rattle.sl_due.specs.DueCommands.{carry_act, decided}
@@ -15,7 +15,6 @@ use Rattle.sl_law.specs.Saying.{at_call}
 use Rattle.sl_leases.specs.Ballots.{instance_of, phase1_block, phase2_block, stop_of}
 use Rattle.sl_leases.specs.LeaseWork.{area_next, begin_next, lease_next, settle_next}
 use Rattle.sl_leases.specs.Leases.{known}
-use Rattle.sl_report.specs.Generator.{candidates}
 use Rattle.sl_report.specs.Reports.{count_event}
 use Rattle.sl_report.specs.ScheduleLines.{event_forms, header_forms, header_of, header_tests}
 use Rattle.sl_run.specs.Events.{event_tests, first_change, pass_tests}
@@ -30,7 +29,7 @@ use Rattle.sl_sessions.specs.Sessions.{Session}
 use Rattle.sl_text.specs.Names.{padded_text}
 use Rattle.sl_trace.specs.Commands.{forms}
 use Rattle.sl_trace.specs.EffectTexts.{reply_words}
-use Rattle.sl_trace.specs.Traces.{Setting, Submitted, submitted_in}
+use Rattle.sl_trace.specs.Traces.{Setting, Submitted, new_call}
 use Rattle.sl_trace.specs.declared.effects.Call.{Call}
 use Rattle.sl_trace.specs.declared.effects.Entry.{Entry}
 use Rattle.sl_trace.specs.declared.effects.LeaseStep.TheVariants.{Phase1Write, ReadArea}
@@ -64,11 +63,11 @@ session_a =
 -- the area as it was at first
 abbrev fresh_area : List ℕ
 fresh_area =
-    spelling st.layout (leader false 0 0 0 (codes "ls")) ++ spelling st.layout (RequestIs no_request)
-    ++ spelling st.layout (block 1 false 0 0 0 0 0) ++ spelling st.layout (block 2 false 0 0 0 0 0)
+    sector_with st.layout (leader false 0 0 0 (codes "ls")) ++ sector_with st.layout (RequestIs no_request)
+    ++ sector_with st.layout (block 1 false 0 0 0 0 0) ++ sector_with st.layout (block 2 false 0 0 0 0 0)
 
 abbrev asked : Entry
-asked = with_calls (reads 1 (Lease (ForJob 1) ReadArea) 1048576 4 ∷ []) (quiet_entry 0 (Line (codes "acquire -r ls:r:/d:1048576 -p 7")))
+asked = with_calls (reads 1 (Lease (ForJob 1) (ReadArea (codes "r"))) 1048576 4 ∷ []) (quiet_entry 0 (Line (codes "acquire -r ls:r:/d:1048576 -p 7")))
 
 abbrev begun : Entry
 begun = with_calls (writes 2 (Lease (ForJob 1) Phase1Write) 1049600 (block 1 false 1 1 0 0 0) ∷ []) (quiet_entry 0 (Told 1 (Read fresh_area)))
@@ -82,7 +81,7 @@ abbrev second : Entry
 second = with_calls (second_call ∷ []) (quiet_entry 100 Wake)
 
 pub not_alone : LawfulArea st (begun ∷ asked ∷ []) second → ⊥
-unfolding after_answer_of area_next ask_refusal begin_next block_rules candidates carry_act carry_delta carry_lease checked_part count_event decided decoded delta_rules digits event_forms event_tests field_bytes fields_of first_change forms header_forms header_of header_tests initial_record instance_of known leader_rules lease_next machine_of_header magic next_after_deciding next_after_first next_after_verify next_after_watch next_in_joining next_on_wake next_renewal padded_text pass_tests phase1_block phase2_block reply_words request_rules settle_next spelling stop_of value_rules
+unfolding after_answer_of area_next ask_refusal begin_next block_rules carry_act carry_delta carry_lease checked_part count_event decided decoded delta_rules digits event_forms event_tests field_bytes fields_of first_change forms header_forms header_of header_tests initial_record instance_of known leader_rules lease_next machine_of_header magic next_after_deciding next_after_first next_after_verify next_after_watch next_in_joining next_on_wake next_renewal padded_text pass_tests phase1_block phase2_block reply_words request_rules settle_next spelling stop_of value_rules
 not_alone h =
     let none_open : open_block_work st (at_call (begun ∷ asked ∷ []) second second_call) session_a (record { path = codes "/d"; base = 1048576 }) ≡ [] =
     h.alone second_call session_a (0, omega arith, refl) refl refl in
@@ -96,12 +95,12 @@ removing = with_moves (Unregister (codes "ls") ∷ []) (quiet_entry 0 Wake)
 
 -- neither recovery nor a free's answer stands behind the end
 no_reason : MayPart st [] removing session_a → ⊥
-unfolding after_answer_of area_next ask_refusal begin_next block_rules candidates carry_act carry_delta carry_lease checked_part count_event decided decoded delta_rules digits event_forms event_tests field_bytes fields_of first_change forms header_forms header_of header_tests initial_record instance_of known leader_rules lease_next machine_of_header magic next_after_deciding next_after_first next_after_verify next_after_watch next_in_joining next_on_wake next_renewal padded_text pass_tests phase1_block phase2_block reply_words request_rules settle_next spelling stop_of value_rules
+unfolding after_answer_of area_next ask_refusal begin_next block_rules carry_act carry_delta carry_lease checked_part count_event decided decoded delta_rules digits event_forms event_tests field_bytes fields_of first_change forms header_forms header_of header_tests initial_record instance_of known leader_rules lease_next machine_of_header magic next_after_deciding next_after_first next_after_verify next_after_watch next_in_joining next_on_wake next_renewal padded_text pass_tests phase1_block phase2_block reply_words request_rules settle_next spelling stop_of value_rules
 no_reason (inl r) = let wrong : ◌≡◌ {A = Bool} false true = r.0 in absurd cc
-no_reason (inr r) = let wrong : ◌≡◌ {A = Option Submitted} None (Some r.0) = r.1 in absurd cc
+no_reason (inr r) = let wrong : ◌≡◌ {A = Option Submitted} None (Some r.0) = r.2 in absurd cc
 
 pub not_parted : LawfulRecovery st [] removing → ⊥
-unfolding after_answer_of area_next ask_refusal begin_next block_rules candidates carry_act carry_delta carry_lease checked_part count_event decided decoded delta_rules digits event_forms event_tests field_bytes fields_of first_change forms header_forms header_of header_tests initial_record instance_of known leader_rules lease_next machine_of_header magic next_after_deciding next_after_first next_after_verify next_after_watch next_in_joining next_on_wake next_renewal padded_text pass_tests phase1_block phase2_block reply_words request_rules settle_next spelling stop_of value_rules
+unfolding after_answer_of area_next ask_refusal begin_next block_rules carry_act carry_delta carry_lease checked_part count_event decided decoded delta_rules digits event_forms event_tests field_bytes fields_of first_change forms header_forms header_of header_tests initial_record instance_of known leader_rules lease_next machine_of_header magic next_after_deciding next_after_first next_after_verify next_after_watch next_in_joining next_on_wake next_renewal padded_text pass_tests phase1_block phase2_block reply_words request_rules settle_next spelling stop_of value_rules
 not_parted h = no_reason (h.parts_well session_a (0, omega arith, refl) refl refl)
 
 -- ---- a renewal with an old seq
@@ -119,9 +118,9 @@ abbrev seq_of : Option DeltaRec → ℕ
 seq_of o = option_map_or (λ d. d.seq) o 0
 
 pub not_rising : LawfulDelta st [] renewing_entry → ⊥
-unfolding after_answer_of area_next ask_refusal begin_next block_rules candidates carry_act carry_delta carry_lease checked_part count_event decided decoded delta_rules digits event_forms event_tests field_bytes fields_of first_change forms header_forms header_of header_tests initial_record instance_of known leader_rules lease_next machine_of_header magic next_after_deciding next_after_first next_after_verify next_after_watch next_in_joining next_on_wake next_renewal padded_text pass_tests phase1_block phase2_block reply_words request_rules settle_next spelling stop_of value_rules
+unfolding after_answer_of area_next ask_refusal begin_next block_rules carry_act carry_delta carry_lease checked_part count_event decided decoded delta_rules digits event_forms event_tests field_bytes fields_of first_change forms header_forms header_of header_tests initial_record instance_of known leader_rules lease_next machine_of_header magic next_after_deciding next_after_first next_after_verify next_after_watch next_in_joining next_on_wake next_renewal padded_text pass_tests phase1_block phase2_block reply_words request_rules settle_next spelling stop_of value_rules
 not_rising h =
-    let lawful : LawfulRenewal st (at_call [] renewing_entry stale_call) session_a (submitted_in [] renewing_entry stale_call) =
+    let lawful : LawfulRenewal st (at_call [] renewing_entry stale_call) session_a (new_call 0 200 stale_call) =
     h.calls stale_call session_a (0, omega arith, refl) refl in
     let wrong : ◌≡◌ {A = ℕ} 1 2 = ap seq_of lawful.written in
     omega (arith, wrong)

@@ -1,14 +1,15 @@
--- Short schedules with the program's own digest, SHA-256.
+-- Worked schedules with the program's own digest.
 use Rattle.sha2.specs.Sha256.{compress, digest_bytes, first_words, hash_after, rounds, schedule, sha256}
 use Rattle.sl_due.specs.DueAnswers.{after_answer_of}
 use Rattle.sl_due.specs.DueCommands.{carry_act, decided}
 use Rattle.sl_due.specs.DueDelta.{carry_delta}
 use Rattle.sl_due.specs.DueLease.{carry_lease}
 use Rattle.sl_due.specs.DueRequests.{ask_refusal}
+use Rattle.sl_examples.specs.Rows.{failing, settled_win}
+use Rattle.sl_examples.specs.WorldTests.{replays_with_sha}
 use Rattle.sl_leases.specs.Ballots.{instance_of, phase1_block, phase2_block, stop_of}
 use Rattle.sl_leases.specs.LeaseWork.{area_next, begin_next, lease_next, settle_next}
 use Rattle.sl_leases.specs.Leases.{known}
-use Rattle.sl_report.specs.Generator.{candidates}
 use Rattle.sl_report.specs.Reports.{count_event}
 use Rattle.sl_report.specs.ScheduleLines.{event_forms, header_forms, header_of, header_tests}
 use Rattle.sl_report.specs.Schedules.{replay_lines}
@@ -16,35 +17,16 @@ use Rattle.sl_run.specs.Events.{event_tests, first_change, pass_tests}
 use Rattle.sl_run.specs.Worlds.{initial_record, machine_of_header}
 use Rattle.sl_sector.specs.Spelling.{block_rules, checked_part, decoded, delta_rules, field_bytes, fields_of, leader_rules, magic, request_rules, spelling, value_rules}
 use Rattle.sl_sessions.specs.Deltas.{next_after_deciding, next_after_first, next_after_verify, next_after_watch, next_in_joining, next_on_wake, next_renewal}
-use Rattle.sl_text.specs.Forms.{as_bytes}
 use Rattle.sl_text.specs.Names.{padded_text}
 use Rattle.sl_trace.specs.Commands.{forms}
 use Rattle.sl_trace.specs.EffectTexts.{reply_words}
 use Rattle.std.specs.Fmt.{digits}
-use Rattle.std.specs.Prelude.{List, codes, refl, [], ℕ, ◌++◌, ◌∷◌, ◌≡◌}
+use Rattle.std.specs.Prelude.{codes, refl, [], ◌∷◌, ◌≡◌}
 
-abbrev h1 : List (List ℕ)
-h1 = codes "sanlock 1" ∷ codes "time 100 600 100 0 300" ∷ codes "hosts 1" ∷ codes "ids 2" ∷ codes "disk /d 4" ∷ codes "lockspace ls /d 0" ∷ codes "resource ls r /d 1048576" ∷ codes "session 1 ls 1 a" ∷ codes "begin" ∷ []
+pub settling : failing replays_with_sha (settled_win ∷ []) ≡ []
+unfolding after_answer_of area_next ask_refusal begin_next block_rules carry_act carry_delta carry_lease checked_part count_event decided decoded delta_rules digits event_forms event_tests field_bytes fields_of first_change forms header_forms header_of header_tests initial_record instance_of known leader_rules lease_next machine_of_header magic next_after_deciding next_after_first next_after_verify next_after_watch next_in_joining next_on_wake next_renewal padded_text pass_tests phase1_block phase2_block reply_words request_rules settle_next spelling stop_of value_rules sha256 digest_bytes hash_after compress rounds schedule first_words
+settling = refl
 
-abbrev h2 : List (List ℕ)
-h2 = codes "sanlock 1" ∷ codes "time 100 600 100 0 300" ∷ codes "hosts 2" ∷ codes "ids 2" ∷ codes "disk /d 4" ∷ codes "lockspace ls /d 0" ∷ codes "resource ls r /d 1048576" ∷ codes "session 1 ls 1 a" ∷ codes "session 2 ls 2 b" ∷ codes "begin" ∷ []
-
-pub empty_source : replay_lines (as_bytes ([])) ≡ (codes "line 1 syntax" ∷ [])
-unfolding after_answer_of area_next ask_refusal begin_next block_rules candidates carry_act carry_delta carry_lease checked_part count_event decided decoded delta_rules digits event_forms event_tests field_bytes fields_of first_change forms header_forms header_of header_tests initial_record instance_of known leader_rules lease_next machine_of_header magic next_after_deciding next_after_first next_after_verify next_after_watch next_in_joining next_on_wake next_renewal padded_text pass_tests phase1_block phase2_block reply_words request_rules settle_next spelling stop_of value_rules sha256 digest_bytes hash_after compress rounds schedule first_words
+pub empty_source : replay_lines [] ≡ (codes "line 1 syntax" ∷ [])
+unfolding after_answer_of area_next ask_refusal begin_next block_rules carry_act carry_delta carry_lease checked_part count_event decided decoded delta_rules digits event_forms event_tests field_bytes fields_of first_change forms header_forms header_of header_tests initial_record instance_of known leader_rules lease_next machine_of_header magic next_after_deciding next_after_first next_after_verify next_after_watch next_in_joining next_on_wake next_renewal padded_text pass_tests phase1_block phase2_block reply_words request_rules settle_next spelling stop_of value_rules sha256 digest_bytes hash_after compress rounds schedule first_words
 empty_source = refl
-
-pub header_alone : replay_lines (as_bytes h1) ≡ (codes "end events 0 calls 0 grants 0 refusals 0 conflicts 0" ∷ [])
-unfolding after_answer_of area_next ask_refusal begin_next block_rules candidates carry_act carry_delta carry_lease checked_part count_event decided decoded delta_rules digits event_forms event_tests field_bytes fields_of first_change forms header_forms header_of header_tests initial_record instance_of known leader_rules lease_next machine_of_header magic next_after_deciding next_after_first next_after_verify next_after_watch next_in_joining next_on_wake next_renewal padded_text pass_tests phase1_block phase2_block reply_words request_rules settle_next spelling stop_of value_rules sha256 digest_bytes hash_after compress rounds schedule first_words
-header_alone = refl
-
-pub drift : replay_lines (as_bytes (h1 ++ codes "pass 1 1001" ∷ [])) ≡ (codes "line 10 premise drift" ∷ [])
-unfolding after_answer_of area_next ask_refusal begin_next block_rules candidates carry_act carry_delta carry_lease checked_part count_event decided decoded delta_rules digits event_forms event_tests field_bytes fields_of first_change forms header_forms header_of header_tests initial_record instance_of known leader_rules lease_next machine_of_header magic next_after_deciding next_after_first next_after_verify next_after_watch next_in_joining next_on_wake next_renewal padded_text pass_tests phase1_block phase2_block reply_words request_rules settle_next spelling stop_of value_rules sha256 digest_bytes hash_after compress rounds schedule first_words
-drift = refl
-
-pub pending : replay_lines (as_bytes (h1 ++ codes "command 1 acquire -r ls:r:/d:1048576 -p 7" ∷ codes "command 1 acquire -r ls:r:/d:1048576 -p 8" ∷ [])) ≡ (codes "1 call 1 read /d 1048576 4" ∷ codes "1 reply 2 Pending 1" ∷ codes "end events 2 calls 1 grants 0 refusals 1 conflicts 0" ∷ [])
-unfolding after_answer_of area_next ask_refusal begin_next block_rules candidates carry_act carry_delta carry_lease checked_part count_event decided decoded delta_rules digits event_forms event_tests field_bytes fields_of first_change forms header_forms header_of header_tests initial_record instance_of known leader_rules lease_next machine_of_header magic next_after_deciding next_after_first next_after_verify next_after_watch next_in_joining next_on_wake next_renewal padded_text pass_tests phase1_block phase2_block reply_words request_rules settle_next spelling stop_of value_rules sha256 digest_bytes hash_after compress rounds schedule first_words
-pending = refl
-
-pub real_settled_win : replay_lines (as_bytes (h2 ++ codes "command 1 acquire -r ls:r:/d:1048576 -p 7" ∷ codes "do 1 1" ∷ codes "do 1 2" ∷ codes "do 1 3" ∷ codes "do 1 4" ∷ codes "do 1 5" ∷ codes "land 1 6" ∷ codes "answer 1 6 failed" ∷ codes "wake 1" ∷ codes "do 1 7" ∷ codes "do 1 8" ∷ codes "command 2 acquire -r ls:r:/d:1048576 -p 9" ∷ codes "do 2 1" ∷ [])) ≡ (codes "1 call 1 read /d 1048576 4" ∷ codes "1 call 2 write /d 1049600 block 1 lver 1 mbal 1 bal 0 inp 0 0 mode 0 0" ∷ codes "1 call 3 read /d 1049600 2" ∷ codes "1 call 4 write /d 1049600 block 1 lver 1 mbal 1 bal 1 inp 1 1 mode 0 0" ∷ codes "1 call 5 read /d 1049600 2" ∷ codes "1 call 6 write /d 1048576 leader lver 1 owner 1 gen 1 held" ∷ codes "1 reply 1 IoFault 6" ∷ codes "1 call 7 read /d 1048576 4" ∷ codes "1 call 8 write /d 1048576 leader lver 1 owner 1 gen 1 free" ∷ codes "2 call 1 read /d 1048576 4" ∷ codes "2 call 2 write /d 1050112 block 2 lver 2 mbal 2 bal 0 inp 0 0 mode 0 0" ∷ codes "end events 13 calls 10 grants 0 refusals 1 conflicts 0" ∷ [])
-unfolding after_answer_of area_next ask_refusal begin_next block_rules candidates carry_act carry_delta carry_lease checked_part count_event decided decoded delta_rules digits event_forms event_tests field_bytes fields_of first_change forms header_forms header_of header_tests initial_record instance_of known leader_rules lease_next machine_of_header magic next_after_deciding next_after_first next_after_verify next_after_watch next_in_joining next_on_wake next_renewal padded_text pass_tests phase1_block phase2_block reply_words request_rules settle_next spelling stop_of value_rules sha256 digest_bytes hash_after compress rounds schedule first_words
-real_settled_win = refl

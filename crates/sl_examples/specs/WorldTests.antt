@@ -1,11 +1,13 @@
 -- What safety says of a world, as tests that compute.
 use Rattle.sl_area.specs.Layouts.{record_in}
-use Rattle.sl_examples.specs.Cheap.{cheap_digest}
+use Rattle.sl_examples.specs.Cheap.{cheap_digest, replay_cheap}
 use Rattle.sl_examples.specs.LawTests.{broken_in_world}
+use Rattle.sl_examples.specs.RefusedLines.{LastLine}
+use Rattle.sl_examples.specs.Rows.{Row, same_lines}
 use Rattle.sl_leases.specs.Ballots.{same_owner}
 use Rattle.sl_leases.specs.Leases.{holdings_on}
 use Rattle.sl_report.specs.Replay.{allowed, due_run}
-use Rattle.sl_report.specs.Schedules.{EventLine, Header_read, Header_refused, event_lines_of, numbered_lines, read_header}
+use Rattle.sl_report.specs.Schedules.{EventLine, Header_read, Header_refused, event_lines_of, numbered_lines, read_header, replay_lines}
 use Rattle.sl_run.specs.Conflicts.{has_conflict, world_holdings}
 use Rattle.sl_run.specs.Events.{happens}
 use Rattle.sl_run.specs.Runs.{Happening, world_after}
@@ -22,7 +24,7 @@ use Rattle.sl_text.specs.Forms.{as_bytes}
 use Rattle.sl_trace.specs.Connections.{connection_named}
 use Rattle.sl_trace.specs.Traces.{is_shared}
 use Rattle.sl_trace.specs.declared.effects.Spot.{Spot}
-use Rattle.sl_words.specs.Words.{is_empty, some_is}
+use Rattle.sl_words.specs.Words.{is_empty, last_of, some_is}
 use Rattle.std.specs.List.{enumerate_from, list_all, list_any}
 use Rattle.std.specs.Option.{option_map_or}
 use Rattle.std.specs.Prelude.{Bool, Err, List, None, Ok, Some, bytes_eq, false, filter, filter_map, flat_map, is_some, map, nat_le, not, option_map, true, [], ℕ, ◌&&◌, ◌+◌, ◌==◌, ◌||◌, ◌∷◌}
@@ -130,3 +132,23 @@ source_test ls =
           let w : World = world_with cheap_digest h in
           fronts_test w (due_run w (allowed w (read_events (event_lines_of h rest))))
     ]
+
+-- Whether the report of a row's schedule is the row's, with the cheap digest.
+abbrev pub replays : Row → Bool
+replays r = same_lines (replay_cheap r.source) r.report
+
+-- Whether each daemon's trace in a row's run keeps each law.
+abbrev pub keeps_laws : Row → Bool
+keeps_laws r = is_empty (broken_in_source r.source)
+
+-- Whether a row's run is safe after each event.
+abbrev pub stays_safe : Row → Bool
+stays_safe r = source_test r.source
+
+-- Whether the report of a row's schedule is the row's, with the program's digest.
+abbrev pub replays_with_sha : Row → Bool
+replays_with_sha r = same_lines (replay_lines (as_bytes r.source)) r.report
+
+-- Whether the report of a schedule ends with its line, with the cheap digest.
+abbrev pub has_last_line : LastLine → Bool
+has_last_line r = some_is (bytes_eq r.line) (last_of (replay_cheap r.source))
