@@ -10,7 +10,6 @@ use Rattle.sl_sector.specs.declared.sector.Rec.TheVariants.{ValueIs}
 use Rattle.sl_sector.specs.declared.sector.ValueRec.{ValueRec}
 use Rattle.sl_sessions.specs.Sessions.{Session, generation_of, is_active, is_joined, is_session_arg, last_renewal, last_seq, present_sessions, session_named, sessions}
 use Rattle.sl_sessions.specs.Watching.{states_seen}
-use Rattle.sl_trace.specs.Commands.{command_in}
 use Rattle.sl_trace.specs.Traces.{Setting, Trace, end_of, is_shared, next_job, spot_of_grant}
 use Rattle.sl_trace.specs.declared.command.Command.TheVariants.{Acquire, AddLockspace, Ask, GetLvb, HostStatus, InqLockspace, Release, RemLockspace, RunProgram, SetLvb, Status}
 use Rattle.sl_trace.specs.declared.command.Command.{Command}
@@ -218,7 +217,7 @@ carry_line j (Err column) x = add_reply j (Misread column) x
 
 -- What a text comes to.
 abbrev pub decided_text : Setting → Trace → ℕ → List ℕ → Result (Command × Act) ℕ
-decided_text st es now text = command_in st.layout text >>= (λ c. Ok (c, decided st es now c))
+decided_text st es now text = st.read text >>= (λ c. Ok (c, decided st es now c))
 
 -- A command line: decided before it is seen, then carried out.
 abbrev pub on_line : List ℕ → Step → Step

@@ -24,22 +24,22 @@ use Rattle.std.specs.Prelude.{Err, Ok, codes, false, refl, ◌≡◌}
 abbrev g : Layout
 g = record { sector = 512; area = 1048576; hosts = 2; digest = (λ bs. bs) }
 
-pub acquire : command_in g (codes "acquire -r ls:r:/d:1048576 -p 7") ≡ Ok (Acquire (record { lockspace = codes "ls"; name = codes "r"; path = codes "/d"; offset = 1048576 }) false 7)
+pub acquire : command_in (forms g) (codes "acquire -r ls:r:/d:1048576 -p 7") ≡ Ok (Acquire (record { lockspace = codes "ls"; name = codes "r"; path = codes "/d"; offset = 1048576 }) false 7)
 unfolding after_answer_of area_next ask_refusal begin_next block_rules carry_act carry_delta carry_lease checked_part count_event decided decoded delta_rules digits event_forms event_tests field_bytes fields_of first_change forms header_forms header_of header_tests initial_record instance_of known leader_rules lease_next machine_of_header magic next_after_deciding next_after_first next_after_verify next_after_watch next_in_joining next_on_wake next_renewal padded_text pass_tests phase1_block phase2_block reply_words request_rules settle_next spelling stop_of value_rules
 acquire = refl
 
-pub ask : command_in g (codes "request -r ls:r:/d:1048576:2 -f 1") ≡ Ok (Ask (record { lockspace = codes "ls"; name = codes "r"; path = codes "/d"; offset = 1048576 }) 2 1)
+pub ask : command_in (forms g) (codes "request -r ls:r:/d:1048576:2 -f 1") ≡ Ok (Ask (record { lockspace = codes "ls"; name = codes "r"; path = codes "/d"; offset = 1048576 }) 2 1)
 unfolding after_answer_of area_next ask_refusal begin_next block_rules carry_act carry_delta carry_lease checked_part count_event decided decoded delta_rules digits event_forms event_tests field_bytes fields_of first_change forms header_forms header_of header_tests initial_record instance_of known leader_rules lease_next machine_of_header magic next_after_deciding next_after_first next_after_verify next_after_watch next_in_joining next_on_wake next_renewal padded_text pass_tests phase1_block phase2_block reply_words request_rules settle_next spelling stop_of value_rules
 ask = refl
 
-pub offset : command_in g (codes "acquire -r ls:r:/d:5 -p 7") ≡ Err 12
+pub offset : command_in (forms g) (codes "acquire -r ls:r:/d:5 -p 7") ≡ Err 12
 unfolding after_answer_of area_next ask_refusal begin_next block_rules carry_act carry_delta carry_lease checked_part count_event decided decoded delta_rules digits event_forms event_tests field_bytes fields_of first_change forms header_forms header_of header_tests initial_record instance_of known leader_rules lease_next machine_of_header magic next_after_deciding next_after_first next_after_verify next_after_watch next_in_joining next_on_wake next_renewal padded_text pass_tests phase1_block phase2_block reply_words request_rules settle_next spelling stop_of value_rules
 offset = refl
 
-pub missing : command_in g (codes "acquire") ≡ Err 8
+pub missing : command_in (forms g) (codes "acquire") ≡ Err 8
 unfolding after_answer_of area_next ask_refusal begin_next block_rules carry_act carry_delta carry_lease checked_part count_event decided decoded delta_rules digits event_forms event_tests field_bytes fields_of first_change forms header_forms header_of header_tests initial_record instance_of known leader_rules lease_next machine_of_header magic next_after_deciding next_after_first next_after_verify next_after_watch next_in_joining next_on_wake next_renewal padded_text pass_tests phase1_block phase2_block reply_words request_rules settle_next spelling stop_of value_rules
 missing = refl
 
-pub force : command_in g (codes "request -r ls:r:/d:1048576:0 -f 1") ≡ Err 33
+pub force : command_in (forms g) (codes "request -r ls:r:/d:1048576:0 -f 1") ≡ Err 33
 unfolding after_answer_of area_next ask_refusal begin_next block_rules carry_act carry_delta carry_lease checked_part count_event decided decoded delta_rules digits event_forms event_tests field_bytes fields_of first_change forms header_forms header_of header_tests initial_record instance_of known leader_rules lease_next machine_of_header magic next_after_deciding next_after_first next_after_verify next_after_watch next_in_joining next_on_wake next_renewal padded_text pass_tests phase1_block phase2_block reply_words request_rules settle_next spelling stop_of value_rules
 force = refl

@@ -27,7 +27,7 @@ use Rattle.sl_sector.specs.declared.sector.Rec.TheVariants.{DeltaIs, RequestIs}
 use Rattle.sl_sessions.specs.Deltas.{next_after_deciding, next_after_first, next_after_verify, next_after_watch, next_in_joining, next_on_wake, next_renewal}
 use Rattle.sl_sessions.specs.Sessions.{Session}
 use Rattle.sl_text.specs.Names.{padded_text}
-use Rattle.sl_trace.specs.Commands.{forms}
+use Rattle.sl_trace.specs.Commands.{command_in, forms}
 use Rattle.sl_trace.specs.EffectTexts.{reply_words}
 use Rattle.sl_trace.specs.Traces.{Setting, Submitted, new_call}
 use Rattle.sl_trace.specs.declared.effects.Call.{Call}
@@ -54,6 +54,7 @@ st =
       name = codes "a";
       first = record { call = 1; job = 1 };
       given = record { lockspace = codes "ls"; id = 1; path = codes "/d"; offset = 0; renewed = 0 } ∷ [];
+      read = command_in (forms (layout_with cheap_digest (record { sector = 512; area = 1048576; hosts = 2 })));
     }
 
 abbrev session_a : Session

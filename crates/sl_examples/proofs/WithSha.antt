@@ -10,6 +10,7 @@ use Rattle.sl_examples.specs.WorldTests.{replays_with_sha}
 use Rattle.sl_leases.specs.Ballots.{instance_of, phase1_block, phase2_block, stop_of}
 use Rattle.sl_leases.specs.LeaseWork.{area_next, begin_next, lease_next, settle_next}
 use Rattle.sl_leases.specs.Leases.{known}
+use Rattle.sl_report.specs.Languages.{whole_language}
 use Rattle.sl_report.specs.Reports.{count_event}
 use Rattle.sl_report.specs.ScheduleLines.{event_forms, header_forms, header_of, header_tests}
 use Rattle.sl_report.specs.Schedules.{replay_lines}
@@ -27,6 +28,6 @@ pub settling : failing replays_with_sha (settled_win ∷ []) ≡ []
 unfolding after_answer_of area_next ask_refusal begin_next block_rules carry_act carry_delta carry_lease checked_part count_event decided decoded delta_rules digits event_forms event_tests field_bytes fields_of first_change forms header_forms header_of header_tests initial_record instance_of known leader_rules lease_next machine_of_header magic next_after_deciding next_after_first next_after_verify next_after_watch next_in_joining next_on_wake next_renewal padded_text pass_tests phase1_block phase2_block reply_words request_rules settle_next spelling stop_of value_rules sha256 digest_bytes hash_after compress rounds schedule first_words
 settling = refl
 
-pub empty_source : replay_lines [] ≡ (codes "line 1 syntax" ∷ [])
+pub empty_source : replay_lines whole_language [] ≡ (codes "line 1 syntax" ∷ [])
 unfolding after_answer_of area_next ask_refusal begin_next block_rules carry_act carry_delta carry_lease checked_part count_event decided decoded delta_rules digits event_forms event_tests field_bytes fields_of first_change forms header_forms header_of header_tests initial_record instance_of known leader_rules lease_next machine_of_header magic next_after_deciding next_after_first next_after_verify next_after_watch next_in_joining next_on_wake next_renewal padded_text pass_tests phase1_block phase2_block reply_words request_rules settle_next spelling stop_of value_rules sha256 digest_bytes hash_after compress rounds schedule first_words
 empty_source = refl

@@ -1,6 +1,6 @@
 -- Traces made by hand: the trace that a run gives a daemon, and one entry more.
 use Rattle.sl_area.specs.Layouts.{sector_with}
-use Rattle.sl_examples.specs.Cheap.{cheap_digest}
+use Rattle.sl_examples.specs.Cheap.{cheap_language, cheap_program}
 use Rattle.sl_examples.specs.LawTests.{broken_laws}
 use Rattle.sl_examples.specs.WorldTests.{read_events}
 use Rattle.sl_report.specs.Replay.{allowed, due_run}
@@ -26,12 +26,12 @@ use Rattle.std.specs.Prelude.{Bool, List, None, Option, codes, false, if◌then�
 -- The first daemon of machine m after a source's events, each daemon doing what is due.
 abbrev pub daemon_after : List (List ℕ) → ℕ → Option Daemon
 daemon_after ls m =
-    elim (read_header [] 1 (numbered_lines (as_bytes ls))) [
+    elim (read_header cheap_language [] 1 (numbered_lines (as_bytes ls))) [
       | Header_refused n r ↦ None
       | Header_read h rest ↦
-          let w : World = world_with cheap_digest h in
+          let w : World = world_with cheap_program h in
           option_and_then (λ a. daemon_numbered a 0)
-          (machine_at (world_after w (due_run w (allowed w (read_events (event_lines_of h rest))))) m)
+          (machine_at (world_after w (due_run w (allowed w (read_events (event_lines_of cheap_language h rest))))) m)
     ]
 
 -- An entry without effects.

@@ -1,11 +1,12 @@
 -- What safety says of a world, as tests that compute.
 use Rattle.sl_area.specs.Layouts.{record_in}
-use Rattle.sl_examples.specs.Cheap.{cheap_digest, replay_cheap}
+use Rattle.sl_examples.specs.Cheap.{cheap_language, cheap_program, replay_cheap}
 use Rattle.sl_examples.specs.LawTests.{broken_in_world}
 use Rattle.sl_examples.specs.RefusedLines.{LastLine}
 use Rattle.sl_examples.specs.Rows.{Row, same_lines}
 use Rattle.sl_leases.specs.Ballots.{same_owner}
 use Rattle.sl_leases.specs.Leases.{holdings_on}
+use Rattle.sl_report.specs.Languages.{whole_language}
 use Rattle.sl_report.specs.Replay.{allowed, due_run}
 use Rattle.sl_report.specs.Schedules.{EventLine, Header_read, Header_refused, event_lines_of, numbered_lines, read_header, replay_lines}
 use Rattle.sl_run.specs.Conflicts.{has_conflict, world_holdings}
@@ -116,21 +117,21 @@ read_events ls = filter_map (λ l. elim l.1 [ Ok e ↦ Some e | Err r ↦ None ]
 -- A source's world after its events, with what its traces break.
 abbrev pub broken_in_source : List (List ℕ) → List (ℕ × List ℕ)
 broken_in_source ls =
-    elim (read_header [] 1 (numbered_lines (as_bytes ls))) [
+    elim (read_header cheap_language [] 1 (numbered_lines (as_bytes ls))) [
       | Header_refused n r ↦ (0, []) ∷ []
       | Header_read h rest ↦
-          let w : World = world_with cheap_digest h in
-          broken_in_world (world_after w (due_run w (allowed w (read_events (event_lines_of h rest)))))
+          let w : World = world_with cheap_program h in
+          broken_in_world (world_after w (due_run w (allowed w (read_events (event_lines_of cheap_language h rest)))))
     ]
 
 -- Whether a source's world passes after each event.
 abbrev pub source_test : List (List ℕ) → Bool
 source_test ls =
-    elim (read_header [] 1 (numbered_lines (as_bytes ls))) [
+    elim (read_header cheap_language [] 1 (numbered_lines (as_bytes ls))) [
       | Header_refused n r ↦ false
       | Header_read h rest ↦
-          let w : World = world_with cheap_digest h in
-          fronts_test w (due_run w (allowed w (read_events (event_lines_of h rest))))
+          let w : World = world_with cheap_program h in
+          fronts_test w (due_run w (allowed w (read_events (event_lines_of cheap_language h rest))))
     ]
 
 -- Whether the report of a row's schedule is the row's, with the cheap digest.
@@ -147,7 +148,7 @@ stays_safe r = source_test r.source
 
 -- Whether the report of a row's schedule is the row's, with the program's digest.
 abbrev pub replays_with_sha : Row → Bool
-replays_with_sha r = same_lines (replay_lines (as_bytes r.source)) r.report
+replays_with_sha r = same_lines (replay_lines whole_language (as_bytes r.source)) r.report
 
 -- Whether the report of a schedule ends with its line, with the cheap digest.
 abbrev pub has_last_line : LastLine → Bool

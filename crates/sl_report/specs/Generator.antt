@@ -4,7 +4,7 @@ use Rattle.sl_report.specs.Reports.{end_line, no_counts, run_counts}
 use Rattle.sl_report.specs.Schedules.{default_area, default_sector}
 use Rattle.sl_run.specs.Events.{happens, may_happen}
 use Rattle.sl_run.specs.Runs.{Happening}
-use Rattle.sl_run.specs.Worlds.{Machine, World, flights, is_of_running, machine_at, mebibyte, reading_now, world_with}
+use Rattle.sl_run.specs.Worlds.{Machine, Program, World, flights, is_of_running, machine_at, mebibyte, reading_now, world_with}
 use Rattle.sl_run.specs.declared.event.Event.TheVariants.{AnswerCall, Crash, Do, DropWrite, ExitOf, GiveCommand, Pass, Reset, Restart, StartDaemon, Test, WakeUp}
 use Rattle.sl_run.specs.declared.event.Event.{Event}
 use Rattle.sl_run.specs.declared.header.Header.{Header}
@@ -138,8 +138,8 @@ IsGenerated number hosts w x (e ∷ es) =
 abbrev pub gen_line : ℕ → ℕ → ℕ → List ℕ
 gen_line seed hosts events = spaced (codes "gen" ∷ decimal seed ∷ decimal hosts ∷ decimal events ∷ [])
 
--- The plain program of `gen`, with this digest.
-abbrev pub gen_with : (List ℕ → List ℕ) → ℕ → ℕ → ℕ → List (List ℕ)
-gen_with digest seed hosts events =
-    let w : World = world_with digest (gen_header hosts) in
+-- What `gen` prints, each daemon doing what is due.
+abbrev pub gen_lines : Program → ℕ → ℕ → ℕ → List (List ℕ)
+gen_lines p seed hosts events =
+    let w : World = world_with p (gen_header hosts) in
     gen_line seed hosts events ∷ end_line (run_counts w no_counts (gen_run events 1 hosts w seed)) ∷ []

@@ -1,9 +1,9 @@
 -- What the program promises of the bytes that it reads and writes.
-use Rattle.sl_area.specs.Layouts.{program_digest}
 use Rattle.sl_due.specs.Due.{IsHostTrace}
 use Rattle.sl_law.specs.Caused.{IsCaused}
 use Rattle.sl_law.specs.Lawful.{Lawful}
 use Rattle.sl_report.specs.Generator.{IsGenerated, gen_header, gen_line}
+use Rattle.sl_report.specs.Languages.{Language}
 use Rattle.sl_report.specs.Reports.{end_line, no_counts, run_counts}
 use Rattle.sl_report.specs.ScheduleLines.{refusal_line}
 use Rattle.sl_report.specs.Schedules.{Ending, Follows, Header_read, Header_refused, NumberedLine, event_lines_of, numbered_lines, read_header, replay_lines, report_of, status_of}
@@ -11,7 +11,7 @@ use Rattle.sl_run.specs.Quiet.{QuietIsGranted}
 use Rattle.sl_run.specs.Runs.{EachDaemon, Happening, IsRun}
 use Rattle.sl_run.specs.Safety.{SafeRun, world_at}
 use Rattle.sl_run.specs.Values.{ValuesAreLast}
-use Rattle.sl_run.specs.Worlds.{world_of}
+use Rattle.sl_run.specs.Worlds.{Program, world_with}
 use Rattle.sl_run.specs.declared.event.Refusal.{Refusal}
 use Rattle.sl_run.specs.declared.header.Header.{Header}
 use Rattle.sl_text.specs.Forms.{as_bytes}
@@ -20,53 +20,53 @@ use Rattle.std.specs.Prelude.{Bool, IsTrue, List, MatchBool, length, nat_le, [],
 
 -- A run as it should be: each daemon does what is due, so its trace is lawful and each refusal has its cause;
 -- at no moment do two running holders conflict; values read are the last ones; a quiet acquire is granted.
-pub record GoodRun (h : Header) (xs : List Happening) : Type 0 where
-  pub is_run : IsRun (world_of h) xs
-  pub is_due : EachDaemon IsHostTrace (world_at program_digest h xs)
-  pub lawful : EachDaemon Lawful (world_at program_digest h xs)
-  pub caused : EachDaemon IsCaused (world_at program_digest h xs)
-  pub safe : SafeRun program_digest h xs
-  pub no_conflict : (run_counts (world_of h) no_counts xs).conflicts ≡ 0
-  pub values : ValuesAreLast (world_at program_digest h xs)
-  pub quiet : QuietIsGranted (world_of h) xs
+pub record GoodRun (p : Program) (h : Header) (xs : List Happening) : Type 0 where
+  pub is_run : IsRun (world_with p h) xs
+  pub is_due : EachDaemon IsHostTrace (world_at p h xs)
+  pub lawful : EachDaemon Lawful (world_at p h xs)
+  pub caused : EachDaemon IsCaused (world_at p h xs)
+  pub safe : SafeRun p h xs
+  pub no_conflict : (run_counts (world_with p h) no_counts xs).conflicts ≡ 0
+  pub values : ValuesAreLast (world_at p h xs)
+  pub quiet : QuietIsGranted (world_with p h) xs
 
 -- The whole report of a source, with the status that goes with it.
-pub data ReplayOf (source : List ℕ) : List ℕ → ℕ → Type 0 where
-  In_header : {written : List ℕ} → (number : ℕ) (why : Refusal) → read_header [] 1 (numbered_lines source) ≡ Header_refused number why →
-      written ≡ as_bytes (refusal_line number why ∷ []) → ReplayOf source written 1
+pub data ReplayOf (lang : Language) (source : List ℕ) : List ℕ → ℕ → Type 0 where
+  In_header : {written : List ℕ} → (number : ℕ) (why : Refusal) → read_header lang [] 1 (numbered_lines source) ≡ Header_refused number why →
+      written ≡ as_bytes (refusal_line number (lang.told why) ∷ []) → ReplayOf lang source written 1
   In_events : {written : List ℕ} {status : ℕ} → (h : Header) (rest : List NumberedLine) (xs : List Happening) (end : Ending) →
-      read_header [] 1 (numbered_lines source) ≡ Header_read h rest → Follows (world_of h) (event_lines_of h rest) xs end → GoodRun h xs →
-      written ≡ as_bytes (report_of h xs end) → status ≡ status_of end → ReplayOf source written status
+      read_header lang [] 1 (numbered_lines source) ≡ Header_read h rest → Follows (world_with lang.program h) (event_lines_of lang h rest) xs end →
+      GoodRun lang.program h xs → written ≡ as_bytes (report_of lang h xs end) → status ≡ status_of end → ReplayOf lang source written status
 
 -- Status 0 or 1 tells that the source was read to its end and the report is whole; 3, 4 and 5 that it is a front of one.
 abbrev pub IsFrontOf : List ℕ → List ℕ → Type 0
 IsFrontOf xs ys = (rest : List ℕ) × (ys ≡ xs ++ rest)
 
 -- A report of what the source would have given, of which this much was written.
-abbrev pub ReplayCutShort : List ℕ → List ℕ → Type 0
-ReplayCutShort read written =
-    (source report : List ℕ) (status : ℕ) → IsFrontOf read source → ReplayOf source report status → IsFrontOf written report
+abbrev pub ReplayCutShort : Language → List ℕ → List ℕ → Type 0
+ReplayCutShort lang read written =
+    (source report : List ℕ) (status : ℕ) → IsFrontOf read source → ReplayOf lang source report status → IsFrontOf written report
 
 -- Whether the status tells that all was read and written.
 abbrev pub is_whole_status : ℕ → Bool
 is_whole_status status = nat_le status 1
 
 -- What `replay` owes for the bytes that it read, the bytes that it wrote and its status.
-abbrev pub ReplayHeadline : List ℕ → List ℕ → ℕ → Type 0
-ReplayHeadline read written status =
-    MatchBool (is_whole_status status) (ReplayOf read written status) (IsTrue (is_in_range 3 5 status) × ReplayCutShort read written)
+abbrev pub ReplayHeadline : Language → List ℕ → List ℕ → ℕ → Type 0
+ReplayHeadline lang read written status =
+    MatchBool (is_whole_status status) (ReplayOf lang read written status) (IsTrue (is_in_range 3 5 status) × ReplayCutShort lang read written)
 
 -- `gen`: the run of the seed's schedule, of which the last line is printed.
-pub record GenOf (seed hosts events : ℕ) (written : List ℕ) : Type 0 where
+pub record GenOf (p : Program) (seed hosts events : ℕ) (written : List ℕ) : Type 0 where
   pub run : List Happening
-  pub events_are : IsGenerated 1 hosts (world_of (gen_header hosts)) seed run × (length run ≡ events)
-  pub good : GoodRun (gen_header hosts) run
-  pub printed : written ≡ as_bytes (gen_line seed hosts events ∷ end_line (run_counts (world_of (gen_header hosts)) no_counts run) ∷ [])
+  pub events_are : IsGenerated 1 hosts (world_with p (gen_header hosts)) seed run × (length run ≡ events)
+  pub good : GoodRun p (gen_header hosts) run
+  pub printed : written ≡ as_bytes (gen_line seed hosts events ∷ end_line (run_counts (world_with p (gen_header hosts)) no_counts run) ∷ [])
 
 -- The plain program computes the report.
-abbrev pub PlainReplay : Type 0
-PlainReplay = (source : List ℕ) → (status : ℕ) × ReplayOf source (as_bytes (replay_lines source)) status
+abbrev pub PlainReplay : Language → Type 0
+PlainReplay lang = (source : List ℕ) → (status : ℕ) × ReplayOf lang source (as_bytes (replay_lines lang source)) status
 
 -- What is written is the plain program's report: so the report is one, and the program computes it.
-abbrev pub Headline : Type 0
-Headline = (source : List ℕ) (status : ℕ) (written : List ℕ) → ReplayOf source written status → written ≡ as_bytes (replay_lines source)
+abbrev pub Headline : Language → Type 0
+Headline lang = (source : List ℕ) (status : ℕ) (written : List ℕ) → ReplayOf lang source written status → written ≡ as_bytes (replay_lines lang source)

@@ -1,6 +1,6 @@
 -- The lines of a schedule: header lines and events.
-use Rattle.sl_run.specs.Worlds.{first_that, mebibyte}
-use Rattle.sl_run.specs.declared.event.Event.TheVariants.{AnswerCall, Crash, Do, DropWrite, ExitOf, GiveCommand, Land, Pass, Reset, Restart, Sample, SpawnedOf, StartDaemon, Tear, Test, WakeUp}
+use Rattle.sl_run.specs.Worlds.{mebibyte}
+use Rattle.sl_run.specs.declared.event.Event.TheVariants.{AnswerCall, Crash, Do, DropWrite, ExitOf, Land, Pass, Reset, Restart, Sample, SpawnedOf, StartDaemon, Tear, Test, WakeUp}
 use Rattle.sl_run.specs.declared.event.Event.{Event}
 use Rattle.sl_run.specs.declared.event.Refusal.TheVariants.{LimitBytes, LimitFire, LimitGrace, LimitIo, LimitLand, LimitMoment, LimitRho, MissingCall, MissingDaemon, MissingDisk, MissingDown, MissingFlight, MissingFree, MissingLanding, MissingLockspace, MissingMachine, MissingPlace, MissingReset, MissingSample, MissingSpawn, MissingUp, PremiseDrift, PremiseLanding, PremiseName, PremiseTorn, PremiseWatchdog, Syntax}
 use Rattle.sl_run.specs.declared.event.Refusal.{Refusal}
@@ -11,21 +11,15 @@ use Rattle.sl_run.specs.declared.header.LockspaceLine.{LockspaceLine}
 use Rattle.sl_run.specs.declared.header.ResourceLine.{ResourceLine}
 use Rattle.sl_run.specs.declared.header.SessionLine.{SessionLine}
 use Rattle.sl_sessions.specs.Sessions.{sessions}
-use Rattle.sl_text.specs.Forms.{Form, exactly, made_by, spaced, word_at, words_of}
+use Rattle.sl_text.specs.Forms.{Form, exactly, spaced, word_at}
 use Rattle.sl_text.specs.Names.{is_name, is_path}
 use Rattle.sl_text.specs.Numbers.{capped_long, capped_short, hex_bytes, is_hex_word, is_number_text, is_number_that, number_of}
 use Rattle.sl_time.specs.Times.{TimingNumbers}
 use Rattle.sl_trace.specs.Commands.{is_process_word}
 use Rattle.sl_words.specs.Words.{choose, first_of_list}
 use Rattle.std.specs.Int.{is_in_range}
-use Rattle.std.specs.List.{list_all, list_any, range_with_len}
-use Rattle.std.specs.Option.{option_or}
-use Rattle.std.specs.Prelude.{Bool, List, None, Option, Some, bytes_eq, codes, count_by, decimal, drop, filter_map, if◌then◌else◌, length, map, nat_le, nat_lt, not, replicate, true, unwrap_or, [], ℕ, ◌%◌, ◌&&◌, ◌*◌, ◌+◌, ◌==◌, ◌^◌, ◌||◌, ◌∷◌}
-
--- An empty line or a comment.
-abbrev pub is_skipped : List ℕ → Bool
-is_skipped [] = true
-is_skipped (c ∷ cs) = c == 35
+use Rattle.std.specs.List.{list_any}
+use Rattle.std.specs.Prelude.{Bool, List, None, Option, Some, bytes_eq, codes, count_by, decimal, drop, filter_map, length, map, nat_le, nat_lt, not, replicate, true, unwrap_or, [], ℕ, ◌%◌, ◌&&◌, ◌*◌, ◌+◌, ◌==◌, ◌^◌, ◌||◌, ◌∷◌}
 
 -- A number above 0.
 abbrev pub is_positive_word : List ℕ → Bool
@@ -79,10 +73,6 @@ header_forms area =
     ∷ record { words = exactly (codes "begin") ∷ []; make = λ ws. BeginLine }
     ∷ []
 
--- The header line that a line spells, if it does.
-abbrev pub header_line_in : ℕ → List ℕ → Option HeaderLine
-header_line_in area line = made_by (header_forms area) (words_of line)
-
 -- Where the line stands in the header's order.
 abbrev pub rank : HeaderLine → ℕ
 rank VersionLine = 0
@@ -96,25 +86,9 @@ rank (LeaseLine r) = 7
 rank (MemberLine s) = 8
 rank BeginLine = 9
 
--- How many lines of a rank there must be, and may be.
-abbrev pub least_lines : ℕ → ℕ
-least_lines k = if k == 4 || k == 7 || k == 8 then 0 else 1
-
 -- How many lines of a rank there are.
 abbrev pub count_of_rank : List HeaderLine → ℕ → ℕ
 count_of_rank ls k = count_by (λ l. rank l == k) ls
-
--- Whether one more line of the rank may come.
-abbrev pub is_room_for : List HeaderLine → ℕ → Bool
-is_room_for ls k =
-    if k == 4 || k == 8 then true
-    else (if k == 5 || k == 6 then nat_lt (count_of_rank ls k) 8
-    else (if k == 7 then nat_lt (count_of_rank ls k) 256 else count_of_rank ls k == 0))
-
--- Each line that must stand before this rank does, and none of a later rank.
-abbrev pub is_in_order : List HeaderLine → ℕ → Bool
-is_in_order ls k =
-    list_all (λ l. nat_le (rank l) k) ls && list_all (λ j. nat_le (least_lines j) (count_of_rank ls j)) (range_with_len 0 k) && is_room_for ls k
 
 -- ---- what earlier lines said
 
@@ -225,10 +199,6 @@ header_tests h (MemberLine s) =
     ∷ (list_any (λ o. not (o.machine == s.machine) && bytes_eq o.name s.name) h.sessions, PremiseName) ∷ []
 header_tests h BeginLine = []
 
--- The first refusal that fits.
-abbrev pub header_refusal : ℕ → ℕ → List HeaderLine → HeaderLine → Option Refusal
-header_refusal sector area ls l = first_that ((not (is_in_order ls (rank l)), Syntax) ∷ header_tests (header_of sector area ls) l)
-
 -- ---- events
 
 -- `ok` or `failed`.
@@ -296,18 +266,6 @@ is_event sector e = true
 abbrev pub checked_event : ℕ → Option Event → Option Event
 checked_event sector None = None
 checked_event sector (Some e) = choose (is_event sector e) e
-
--- `command M TEXT`: the rest of the line is the text.
-abbrev pub command_event : List (List ℕ) → Option Event
-command_event (verb ∷ machine ∷ w ∷ ws) =
-    choose (exactly (codes "command") verb && is_positive_word machine) (GiveCommand (capped_short machine) (spaced (w ∷ ws)))
-command_event ws = None
-
--- The event that a line spells, if it does.
-abbrev pub event_in : ℕ → ℕ → List ℕ → Option Event
-event_in machines sector line =
-    let ws : List (List ℕ) = words_of line in
-    option_or (command_event ws) (checked_event sector (made_by (event_forms machines sector) ws))
 
 -- ---- a source as a whole
 

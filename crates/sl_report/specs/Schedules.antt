@@ -1,11 +1,12 @@
 -- A source as a schedule: its header, its events up to the first line that is refused, and that refusal.
-use Rattle.sl_area.specs.Layouts.{program_digest}
+use Rattle.sl_report.specs.Languages.{Language}
+use Rattle.sl_report.specs.ReadingLines.{event_in, header_line_in, header_refusal}
 use Rattle.sl_report.specs.Replay.{effects_of}
 use Rattle.sl_report.specs.Reports.{Counts, count_event, end_line, event_lines, no_counts, run_counts, run_lines}
-use Rattle.sl_report.specs.ScheduleLines.{BeginLine, HeaderLine, event_in, header_line_in, header_of, header_refusal, is_skipped, refusal_line}
+use Rattle.sl_report.specs.ScheduleLines.{BeginLine, HeaderLine, header_of, refusal_line}
 use Rattle.sl_run.specs.Events.{happens, may_happen, refusal_of}
 use Rattle.sl_run.specs.Runs.{Happening}
-use Rattle.sl_run.specs.Worlds.{World, first_that, mebibyte, world_of, world_with}
+use Rattle.sl_run.specs.Worlds.{World, first_that, mebibyte, world_with}
 use Rattle.sl_run.specs.declared.event.Event.{Event}
 use Rattle.sl_run.specs.declared.event.Refusal.TheVariants.{LimitBytes, Syntax}
 use Rattle.sl_run.specs.declared.event.Refusal.{Refusal}
@@ -67,9 +68,9 @@ line_refusal l =
     first_that ((nat_lt longest_line (length l.text) && nat_le (l.start + longest_line + 1) greatest_source, Syntax) ∷ (l.is_past, LimitBytes) ∷ [])
 
 -- Why the line is refused.
-abbrev pub header_line_refusal : List HeaderLine → Option HeaderLine → Option Refusal
-header_line_refusal ls None = Some Syntax
-header_line_refusal ls (Some l) = header_refusal default_sector default_area ls l
+abbrev pub header_line_refusal : Language → List HeaderLine → Option HeaderLine → Option Refusal
+header_line_refusal lang ls None = Some Syntax
+header_line_refusal lang ls (Some l) = header_refusal lang default_sector default_area ls l
 
 -- The lines with one more.
 abbrev pub with_line : List HeaderLine → Option HeaderLine → List HeaderLine
@@ -77,20 +78,20 @@ with_line ls None = ls
 with_line ls (Some l) = ls ++ l ∷ []
 
 -- The header that the lines begin with.
-abbrev pub read_header : List HeaderLine → ℕ → List NumberedLine → HeaderReading
-read_header ls next [] = Header_refused next Syntax
-read_header ls next (l ∷ rest) =
+abbrev pub read_header : Language → List HeaderLine → ℕ → List NumberedLine → HeaderReading
+read_header lang ls next [] = Header_refused next Syntax
+read_header lang ls next (l ∷ rest) =
     elim (line_refusal l) [
       | Some r ↦ Header_refused l.number r
-      | None ↦ elim (is_skipped l.text) [
-        | true ↦ read_header ls (l.number + 1) rest
+      | None ↦ elim (lang.skips l.text) [
+        | true ↦ read_header lang ls (l.number + 1) rest
         | false ↦
-            let read : Option HeaderLine = header_line_in default_area l.text in
-            elim (header_line_refusal ls read) [
+            let read : Option HeaderLine = header_line_in lang default_area l.text in
+            elim (header_line_refusal lang ls read) [
               | Some r ↦ Header_refused l.number r
               | None ↦ elim (some_is is_begin read) [
                 | true ↦ Header_read (header_of default_sector default_area ls) rest
-                | false ↦ read_header (with_line ls read) (l.number + 1) rest
+                | false ↦ read_header lang (with_line ls read) (l.number + 1) rest
               ]
             ]
       ]
@@ -108,16 +109,16 @@ event_or_syntax None = Err Syntax
 event_or_syntax (Some e) = Ok e
 
 -- The event of a line; empty lines and comments have none.
-abbrev pub event_line : Header → NumberedLine → Option EventLine
-event_line h l =
+abbrev pub event_line : Language → Header → NumberedLine → Option EventLine
+event_line lang h l =
     elim (line_refusal l) [
       | Some r ↦ Some (l.number, Err r)
-      | None ↦ elim (is_skipped l.text) [ true ↦ None | false ↦ Some (l.number, event_or_syntax (event_in h.machines h.geometry.sector l.text)) ]
+      | None ↦ elim (lang.skips l.text) [ true ↦ None | false ↦ Some (l.number, event_or_syntax (event_in lang h.machines h.geometry.sector l.text)) ]
     ]
 
 -- The events of the lines.
-abbrev pub event_lines_of : Header → List NumberedLine → List EventLine
-event_lines_of h ls = filter_map (event_line h) ls
+abbrev pub event_lines_of : Language → Header → List NumberedLine → List EventLine
+event_lines_of lang h ls = filter_map (event_line lang h) ls
 
 -- These happenings are the events of the lines up to the first that is refused.
 pub data Ending : Type 0 where
@@ -138,13 +139,14 @@ Follows w ((n, Ok e) ∷ ls) (x ∷ xs) s = (e ≡ x.0) × IsTrue (may_happen w 
 -- ---- the report of a run that stops there
 
 -- The last line of a report.
-abbrev pub last_lines : Counts → Ending → List (List ℕ)
-last_lines k At_end = end_line k ∷ []
-last_lines k (At_line number why) = refusal_line number why ∷ []
+abbrev pub last_lines : Language → Counts → Ending → List (List ℕ)
+last_lines lang k At_end = end_line k ∷ []
+last_lines lang k (At_line number why) = refusal_line number (lang.told why) ∷ []
 
 -- The report of a run with its ending.
-abbrev pub report_of : Header → List Happening → Ending → List (List ℕ)
-report_of h xs s = run_lines (world_of h) xs ++ last_lines (run_counts (world_of h) no_counts xs) s
+abbrev pub report_of : Language → Header → List Happening → Ending → List (List ℕ)
+report_of lang h xs s =
+    run_lines (world_with lang.program h) xs ++ last_lines lang (run_counts (world_with lang.program h) no_counts xs) s
 
 -- The status of an ending.
 abbrev pub status_of : Ending → ℕ
@@ -154,27 +156,23 @@ status_of (At_line number why) = 1
 -- ---- the plain program: it computes the report, each daemon doing what is due
 
 -- From a world and counts on.
-abbrev pub replay_from : World → Counts → List EventLine → List (List ℕ)
-replay_from w k [] = end_line k ∷ []
-replay_from w k (l ∷ ls) =
+abbrev pub replay_from : Language → World → Counts → List EventLine → List (List ℕ)
+replay_from lang w k [] = end_line k ∷ []
+replay_from lang w k (l ∷ ls) =
     elim l.1 [
-      | Err r ↦ refusal_line l.0 r ∷ []
+      | Err r ↦ refusal_line l.0 (lang.told r) ∷ []
       | Ok e ↦ elim (refusal_of w e) [
-        | Some r ↦ refusal_line l.0 r ∷ []
+        | Some r ↦ refusal_line l.0 (lang.told r) ∷ []
         | None ↦
             let fxs : List Effects = effects_of w e in
-            event_lines w e fxs ++ replay_from (happens w e fxs) (count_event w e fxs k) ls
+            event_lines w e fxs ++ replay_from lang (happens w e fxs) (count_event w e fxs k) ls
       ]
     ]
 
--- The report of a source, with this digest.
-abbrev pub replay_with : (List ℕ → List ℕ) → List ℕ → List (List ℕ)
-replay_with digest source =
-    elim (read_header [] 1 (numbered_lines source)) [
-      | Header_refused number why ↦ refusal_line number why ∷ []
-      | Header_read h rest ↦ replay_from (world_with digest h) no_counts (event_lines_of h rest)
-    ]
-
 -- The report of a source.
-abbrev pub replay_lines : List ℕ → List (List ℕ)
-replay_lines source = replay_with program_digest source
+abbrev pub replay_lines : Language → List ℕ → List (List ℕ)
+replay_lines lang source =
+    elim (read_header lang [] 1 (numbered_lines source)) [
+      | Header_refused number why ↦ refusal_line number (lang.told why) ∷ []
+      | Header_read h rest ↦ replay_from lang (world_with lang.program h) no_counts (event_lines_of lang h rest)
+    ]

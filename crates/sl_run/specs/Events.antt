@@ -330,7 +330,7 @@ after_test w a = record a { kept = (if test_holds a.connections (reading_now a) 
 abbrev pub after_start : World → ℕ → List ℕ → Machine → Machine
 after_start w m name a =
     record a {
-      daemon = Some (new_daemon (length (daemons_on a)) (setting_of w.layout w.header m name (next_numbers a) []) (stamp_now w a));
+      daemon = Some (new_daemon (length (daemons_on a)) (setting_of w.program w.layout w.header m name (next_numbers a) []) (stamp_now w a));
       used = true;
     }
 

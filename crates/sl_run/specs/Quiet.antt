@@ -14,7 +14,6 @@ use Rattle.sl_sector.specs.declared.sector.Leader.{Leader}
 use Rattle.sl_sector.specs.declared.sector.Request.{Request}
 use Rattle.sl_sessions.specs.Sessions.{Session, is_active, session_named, session_numbered}
 use Rattle.sl_sessions.specs.Watching.{counts_over}
-use Rattle.sl_trace.specs.Commands.{command_in}
 use Rattle.sl_trace.specs.Traces.{Answered, Submitted, Trace, is_of_job, is_ok_answer, is_write, next_job, no_effects, reply_to, submitted, waiting_call}
 use Rattle.sl_trace.specs.declared.command.Command.TheVariants.{Acquire}
 use Rattle.sl_trace.specs.declared.command.ResourceArg.{ResourceArg}
@@ -46,7 +45,7 @@ pub record QuietStart (w : World) (m : ℕ) (text : List ℕ) (r : ResourceArg) 
   pub session : Session
   pub leader : Leader
   pub runs : (machine_at w m ≡ Some machine) × (machine.daemon ≡ Some daemon)
-  pub line : command_in w.layout text ≡ Ok (Acquire r shared p)
+  pub line : daemon.setting.read text ≡ Ok (Acquire r shared p)
   pub process : IsTrue (may_act daemon.trace p)
   pub named : session_named daemon.setting (before_command daemon (reading_now machine)) r.lockspace ≡ Some session
   -- joined, and recovery isn't due at this reading

@@ -6,7 +6,7 @@ use Rattle.sl_leases.specs.Leases.{Phase1_write, block_written, ended_ballots, h
 use Rattle.sl_run.specs.Conflicts.{IsExclusive}
 use Rattle.sl_run.specs.Headers.{IsHeader}
 use Rattle.sl_run.specs.Runs.{AfterEachFront, EachDaemon, Happening, IsRun, world_after}
-use Rattle.sl_run.specs.Worlds.{Course, Daemon, Machine, Stamp, World, content, daemon_numbered, is_landed, is_open, is_write_course, machine_at, resets_after, world_with}
+use Rattle.sl_run.specs.Worlds.{Course, Daemon, Machine, Program, Stamp, World, content, daemon_numbered, is_landed, is_open, is_write_course, machine_at, resets_after, world_with}
 use Rattle.sl_run.specs.declared.header.Header.{Header}
 use Rattle.sl_sector.specs.Spelling.{IsDigest, block_in, delta_in}
 use Rattle.sl_sector.specs.declared.sector.Block.{Block}
@@ -26,16 +26,16 @@ use Rattle.std.specs.Prelude.{Bool, Contains, IsFalse, IsSome, IsTrue, List, Opt
 
 -- ---- runs
 
--- The world of a header with this digest, after these.
-abbrev pub world_at : (List ℕ → List ℕ) → Header → List Happening → World
-world_at digest h xs = world_after (world_with digest h) xs
+-- The world of a header with this program, after these.
+abbrev pub world_at : Program → Header → List Happening → World
+world_at program h xs = world_after (world_with program h) xs
 
--- A run whose daemons all have lawful traces. Nothing is asked of the digest but its length.
-pub record LawfulRun (digest : List ℕ → List ℕ) (h : Header) (xs : List Happening) : Type 0 where
+-- A run whose daemons all have lawful traces. Nothing is asked of the program but that its digest has 32 bytes.
+pub record LawfulRun (program : Program) (h : Header) (xs : List Happening) : Type 0 where
   pub header : IsHeader h
-  pub digest_is : IsDigest digest
-  pub is_run : IsRun (world_with digest h) xs
-  pub lawful : EachDaemon Lawful (world_at digest h xs)
+  pub digest : IsDigest program.digest
+  pub is_run : IsRun (world_with program h) xs
+  pub lawful : EachDaemon Lawful (world_at program h xs)
 
 -- ---- the sessions of a world
 
@@ -128,9 +128,9 @@ abbrev pub HasEvidence : World → SessionId → Found → ℕ → ℕ → Type 
 HasEvidence w i f j h = IsSession w i f × IsTrue (counts_over (setting_in f) (trace_of f) f.session j h)
 
 -- Each joined session that somebody has evidence against is over, and stays so, and none joins later.
-abbrev pub EvidenceIsTrue : (List ℕ → List ℕ) → Header → List Happening → Type 0
-EvidenceIsTrue digest h xs = AfterEachFront xs (λ now.
-    (i k : SessionId) (f g : Found) (j n : ℕ) → HasEvidence (world_at digest h now) i f j n → IsSession (world_at digest h xs) k g → HasJoined g →
+abbrev pub EvidenceIsTrue : Program → Header → List Happening → Type 0
+EvidenceIsTrue program h xs = AfterEachFront xs (λ now.
+    (i k : SessionId) (f g : Found) (j n : ℕ) → HasEvidence (world_at program h now) i f j n → IsSession (world_at program h xs) k g → HasJoined g →
     IsTrue (same_lockspace f g) → g.session.id ≡ j → found_generation g ≡ n → IsTrue (is_over k g))
 
 -- For each id at most one joined session is not over.
@@ -140,10 +140,10 @@ OneForEachId w =
     IsFalse (is_over i f) → IsFalse (is_over k g) → i ≡ k
 
 -- Generations of joined sessions rise: one that joins later has a greater one.
-abbrev pub GenerationsRise : (List ℕ → List ℕ) → Header → List Happening → Type 0
-GenerationsRise digest h xs = AfterEachFront xs (λ now.
-    (i k : SessionId) (f g : Found) → IsSession (world_at digest h now) i f → HasJoined f → IsSession (world_at digest h xs) k g → HasJoined g → SameId f g →
-    ((before : Found) → IsSession (world_at digest h now) k before → HasJoined before → ⊥) → found_generation f < found_generation g)
+abbrev pub GenerationsRise : Program → Header → List Happening → Type 0
+GenerationsRise program h xs = AfterEachFront xs (λ now.
+    (i k : SessionId) (f g : Found) → IsSession (world_at program h now) i f → HasJoined f → IsSession (world_at program h xs) k g → HasJoined g → SameId f g →
+    ((before : Found) → IsSession (world_at program h now) k before → HasJoined before → ⊥) → found_generation f < found_generation g)
 
 -- A joined session's sector is overwritten by nobody else until it is over: it holds a record of its own, or torn bytes.
 abbrev pub OwnSectorStands : World → Type 0
@@ -159,13 +159,13 @@ ReadsNoOther w =
     IsTrue (is_joined past f.session) → IsFalse (shows_other (setting_in f) past f.session e.input)
 
 -- What is kept over clocks, devices, flights and delta sectors, without ballots or modes.
-pub record DeltaInvariant (digest : List ℕ → List ℕ) (h : Header) (xs : List Happening) : Type 0 where
-  pub covered : FlightsCovered (world_at digest h xs)
-  pub evidence : EvidenceIsTrue digest h xs
-  pub one : OneForEachId (world_at digest h xs)
-  pub rise : GenerationsRise digest h xs
-  pub own : OwnSectorStands (world_at digest h xs)
-  pub no_other : ReadsNoOther (world_at digest h xs)
+pub record DeltaInvariant (program : Program) (h : Header) (xs : List Happening) : Type 0 where
+  pub covered : FlightsCovered (world_at program h xs)
+  pub evidence : EvidenceIsTrue program h xs
+  pub one : OneForEachId (world_at program h xs)
+  pub rise : GenerationsRise program h xs
+  pub own : OwnSectorStands (world_at program h xs)
+  pub no_other : ReadsNoOther (world_at program h xs)
 
 -- ---- over blocks and leaders
 
@@ -210,14 +210,14 @@ pub record LeaseInvariant (w : World) : Type 0 where
 -- ---- the theorem
 
 -- No two holdings conflict, after every event.
-abbrev pub SafeRun : (List ℕ → List ℕ) → Header → List Happening → Type 0
-SafeRun digest h xs = AfterEachFront xs (λ now. IsExclusive (world_at digest h now))
+abbrev pub SafeRun : Program → Header → List Happening → Type 0
+SafeRun program h xs = AfterEachFront xs (λ now. IsExclusive (world_at program h now))
 
 -- Safety, to be proved.
 abbrev pub Safety : Type 0
-Safety = (digest : List ℕ → List ℕ) (h : Header) (xs : List Happening) → LawfulRun digest h xs → SafeRun digest h xs
+Safety = (program : Program) (h : Header) (xs : List Happening) → LawfulRun program h xs → SafeRun program h xs
 
 -- The two invariants, to be proved.
 abbrev pub Invariants : Type 0
-Invariants = (digest : List ℕ → List ℕ) (h : Header) (xs : List Happening) → LawfulRun digest h xs →
-    AfterEachFront xs (λ now. DeltaInvariant digest h now × LeaseInvariant (world_at digest h now))
+Invariants = (program : Program) (h : Header) (xs : List Happening) → LawfulRun program h xs →
+    AfterEachFront xs (λ now. DeltaInvariant program h now × LeaseInvariant (world_at program h now))

@@ -3,7 +3,7 @@ use Rattle.sl_area.specs.Layouts.{record_in}
 use Rattle.sl_area.specs.Places.{value_offset}
 use Rattle.sl_run.specs.Runs.{Happening}
 use Rattle.sl_run.specs.Safety.{LawfulRun, world_at}
-use Rattle.sl_run.specs.Worlds.{Course, Daemon, Machine, World, daemon_numbered, initial_bytes, machine_at}
+use Rattle.sl_run.specs.Worlds.{Course, Daemon, Machine, Program, World, daemon_numbered, initial_bytes, machine_at}
 use Rattle.sl_run.specs.declared.header.Header.{Header}
 use Rattle.sl_sector.specs.Spelling.{value_in}
 use Rattle.sl_sector.specs.declared.sector.Rec.TheVariants.{ValueIs}
@@ -49,4 +49,4 @@ ValuesAreLast w =
 
 -- To be proved.
 abbrev pub ValueTheorem : Type 0
-ValueTheorem = (digest : List ℕ → List ℕ) (h : Header) (xs : List Happening) → LawfulRun digest h xs → ValuesAreLast (world_at digest h xs)
+ValueTheorem = (program : Program) (h : Header) (xs : List Happening) → LawfulRun program h xs → ValuesAreLast (world_at program h xs)

@@ -11,9 +11,12 @@ use Rattle.sl_sector.specs.declared.sector.DeltaRec.{DeltaRec}
 use Rattle.sl_sector.specs.declared.sector.DeltaState.TheVariants.{Live}
 use Rattle.sl_sector.specs.declared.sector.Rec.TheVariants.{BlockIs, DeltaIs, LeaderIs, RequestIs, ValueIs}
 use Rattle.sl_sector.specs.declared.sector.Rec.{Rec}
+use Rattle.sl_text.specs.Forms.{Form}
 use Rattle.sl_time.specs.Times.{reading_of}
+use Rattle.sl_trace.specs.Commands.{command_in, forms}
 use Rattle.sl_trace.specs.Connections.{Connection, connections, given_connection}
 use Rattle.sl_trace.specs.Traces.{Setting, Trace, holdings, is_write, next_call, next_job, same_place}
+use Rattle.sl_trace.specs.declared.command.Command.{Command}
 use Rattle.sl_trace.specs.declared.effects.Call.{Call}
 use Rattle.sl_trace.specs.declared.effects.Grant.{Grant}
 use Rattle.sl_trace.specs.declared.input.Given.{Given}
@@ -102,8 +105,18 @@ pub record Landing : Type 0 where
   pub step : ℕ
   pub moment : ℕ
 
+-- What a program brings to a world: the digest of its sectors, and the forms of the commands that its daemons read.
+pub record Program : Type 0 where
+  pub digest : List ℕ → List ℕ
+  pub commands : Layout → List (Form Command)
+
+-- The whole program: SHA-256 and all commands.
+abbrev pub whole_program : Program
+whole_program = record { digest = program_digest; commands = forms }
+
 -- The world.
 pub record World : Type 0 where
+  pub program : Program
   pub header : Header
   pub layout : Layout
   -- how many steps have been made
@@ -298,42 +311,46 @@ given_of h m s =
     ]
 
 -- What a daemon is made of.
-abbrev pub setting_of : Layout → Header → ℕ → List ℕ → Numbers → List Given → Setting
-setting_of g h m name first given =
-    record { timing = h.timing; grace = h.grace; layout = g; machine = m; name = name; first = first; given = given }
+abbrev pub setting_of : Program → Layout → Header → ℕ → List ℕ → Numbers → List Given → Setting
+setting_of p g h m name first given =
+    record { timing = h.timing; grace = h.grace; layout = g; machine = m; name = name; first = first; given = given; read = command_in (p.commands g) }
 
 -- A daemon without entries.
 abbrev pub new_daemon : ℕ → Setting → Stamp → Daemon
 new_daemon number st begun = record { number = number; setting = st; begun = begun; trace = []; stamps = [] }
 
 -- The daemon that a machine has at moment 0: that of its session lines.
-abbrev pub first_daemon : Layout → Header → ℕ → List Given → Option Daemon
-first_daemon g h m given =
-    option_map (λ s. new_daemon 0 (setting_of g h m s.name first_numbers given) (first_stamp h m)) (find (λ s. s.machine == m) h.sessions)
+abbrev pub first_daemon : Program → Layout → Header → ℕ → List Given → Option Daemon
+first_daemon p g h m given =
+    option_map (λ s. new_daemon 0 (setting_of p g h m s.name first_numbers given) (first_stamp h m)) (find (λ s. s.machine == m) h.sessions)
 
 -- Machine m at moment 0.
-unfoldable pub machine_of_header : Layout → Header → ℕ → Machine
-machine_of_header g h m =
+unfoldable pub machine_of_header : Program → Layout → Header → ℕ → Machine
+machine_of_header p g h m =
     let given : List Given = filter_map (given_of h m) h.sessions in
     record {
       up = true;
       clock = 1000 * clock_reading h m;
       kept = first_stamp h m;
       connections = map (given_connection h.timing) given;
-      daemon = first_daemon g h m given;
+      daemon = first_daemon p g h m given;
       ended = [];
-      used = is_some (first_daemon g h m given);
+      used = is_some (first_daemon p g h m given);
       calls = [];
       holdings = [];
       resets = [];
     }
 
--- The world at moment 0, with this digest.
-abbrev pub world_with : (List ℕ → List ℕ) → Header → World
-world_with digest h =
-    let g : Layout = layout_with digest h.geometry in
-    record { header = h; layout = g; step = 1; moment = 0; machines = map (machine_of_header g h) (range_with_len 1 h.machines); landings = [] }
-
--- The world at moment 0.
-abbrev pub world_of : Header → World
-world_of h = world_with program_digest h
+-- The world at moment 0, with this program.
+abbrev pub world_with : Program → Header → World
+world_with p h =
+    let g : Layout = layout_with p.digest h.geometry in
+    record {
+      program = p;
+      header = h;
+      layout = g;
+      step = 1;
+      moment = 0;
+      machines = map (machine_of_header p g h) (range_with_len 1 h.machines);
+      landings = [];
+    }

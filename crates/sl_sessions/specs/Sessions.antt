@@ -6,7 +6,6 @@ use Rattle.sl_sector.specs.declared.sector.Owner.{Owner}
 use Rattle.sl_sector.specs.declared.sector.Rec.TheVariants.{DeltaIs}
 use Rattle.sl_sector.specs.declared.sector.Rec.{Rec}
 use Rattle.sl_time.specs.Times.{fail}
-use Rattle.sl_trace.specs.Commands.{command_in}
 use Rattle.sl_trace.specs.Connections.{unregisters}
 use Rattle.sl_trace.specs.Traces.{Job, Setting, Submitted, Trace, call_numbered, holdings, is_answered_ok, is_write, line_in, next_job, record_of, reply_to, same_place, submitted}
 use Rattle.sl_trace.specs.declared.command.Command.TheVariants.{AddLockspace, RemLockspace}
@@ -66,7 +65,7 @@ added c = None
 
 -- The lockspace that a line joins.
 abbrev pub added_by : Setting → Input → Option LockspaceArg
-added_by st i = option_and_then (λ text. added (command_in st.layout text)) (line_in i)
+added_by st i = option_and_then (λ text. added (st.read text)) (line_in i)
 
 -- A session that the setting gives.
 abbrev pub given_session : ℕ × Given → Session
@@ -337,10 +336,10 @@ abbrev pub leaving_in : Setting → Trace → Session → Entry → Option Job
 leaving_in st es s e =
     elim (line_in e.input) [
       | None ↦ None
-      | Some text ↦ elim (leaves s (command_in st.layout text)) [
+      | Some text ↦ elim (leaves s (st.read text)) [
         | false ↦ None
         | true ↦ choose (is_joined es s && not (list_any (λ a. a.job == next_job st es) e.effects.replies))
-            (record { number = next_job st es; at = length es; reading = e.reading; command = command_in st.layout text })
+            (record { number = next_job st es; at = length es; reading = e.reading; command = st.read text })
       ]
     ]
 

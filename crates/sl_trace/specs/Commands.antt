@@ -64,7 +64,7 @@ lockspace_form g verb make =
       make = λ ws. make (lockspace_of_word (word_at ws 2));
     }
 
--- The forms. A further command is a further line.
+-- The forms of all commands. A further command is a further line.
 unfoldable pub forms : Layout → List (Form Command)
 forms g =
     lockspace_form g (codes "add_lockspace") (λ a. AddLockspace a)
@@ -118,8 +118,8 @@ command_or None column = Err column
 command_or (Some c) column = Ok c
 
 -- What a command's text says, or the column of the first word that doesn't fit.
-abbrev pub command_in : Layout → List ℕ → Result Command ℕ
-command_in g text = let ws : List (List ℕ) = words_of text in command_or (made_by (forms g) ws) (bad_column (forms g) ws)
+abbrev pub command_in : List (Form Command) → List ℕ → Result Command ℕ
+command_in fs text = command_or (made_by fs (words_of text)) (bad_column fs (words_of text))
 
 -- ---- the other direction: a command's one text
 
@@ -152,8 +152,8 @@ command_words Status = codes "status" ∷ []
 
 -- The text and the command belong together.
 abbrev pub SpellsCommand : Layout → List ℕ → Command → Type 0
-SpellsCommand g text c = (text ≡ spaced (command_words c)) × (command_in g (spaced (command_words c)) ≡ Ok c)
+SpellsCommand g text c = (text ≡ spaced (command_words c)) × (command_in (forms g) (spaced (command_words c)) ≡ Ok c)
 
 -- What a reader of commands owes.
 abbrev pub ReadsCommands : Layout → Type 0
-ReadsCommands g = (text : List ℕ) (c : Command) → (command_in g text ≡ Ok c) ↔ SpellsCommand g text c
+ReadsCommands g = (text : List ℕ) (c : Command) → (command_in (forms g) text ≡ Ok c) ↔ SpellsCommand g text c

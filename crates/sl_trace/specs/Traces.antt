@@ -3,7 +3,6 @@
 use Rattle.sl_area.specs.Layouts.{Layout}
 use Rattle.sl_sector.specs.declared.sector.Rec.{Rec}
 use Rattle.sl_time.specs.Times.{TimingNumbers}
-use Rattle.sl_trace.specs.Commands.{command_in}
 use Rattle.sl_trace.specs.declared.command.Command.{Command}
 use Rattle.sl_trace.specs.declared.effects.Call.{Call}
 use Rattle.sl_trace.specs.declared.effects.Effects.{Effects}
@@ -43,6 +42,8 @@ pub record Setting : Type 0 where
   pub name : List ℕ
   pub first : Numbers
   pub given : List Given
+  -- what a command line says, or the column of its first word that doesn't fit
+  pub read : List ℕ → Result Command ℕ
 
 -- The newest entry stands first.
 abbrev pub Trace : Type 0
@@ -93,7 +94,7 @@ abbrev pub job_in : Setting → Trace → ℕ → Entry → List Job
 job_in st es number e =
     elim (line_in e.input) [
       | None ↦ []
-      | Some text ↦ record { number = number; at = length es; reading = e.reading; command = command_in st.layout text } ∷ []
+      | Some text ↦ record { number = number; at = length es; reading = e.reading; command = st.read text } ∷ []
     ]
 
 -- All jobs, by their numbers: the k-th command line has the k-th number.

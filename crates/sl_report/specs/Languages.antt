@@ -1,0 +1,58 @@
+-- What of the schedules' language a program reads. The whole language is the promise; a program that reads less of it says so by a
+-- value of this type, and all that is said of schedules and reports is said of whatever language it reads.
+use Rattle.sl_report.specs.ScheduleLines.{HeaderLine, event_forms, header_forms}
+use Rattle.sl_run.specs.Worlds.{Program, whole_program}
+use Rattle.sl_run.specs.declared.event.Event.{Event}
+use Rattle.sl_run.specs.declared.event.Refusal.{Refusal}
+use Rattle.sl_text.specs.Forms.{Form}
+use Rattle.sl_words.specs.Words.{least}
+use Rattle.std.specs.Prelude.{Bool, List, None, Option, Some, if◌then◌else◌, true, [], ℕ, ◌==◌, ◌||◌, ◌∷◌}
+
+-- A language of schedules.
+pub record Language : Type 0 where
+  -- digest and commands
+  pub program : Program
+  -- lines that say nothing
+  pub skips : List ℕ → Bool
+  -- the forms of header lines, by an area's size
+  pub headers : ℕ → List (Form HeaderLine)
+  -- how many lines of a rank the header must have, and may have at most, if there is a most
+  pub least : ℕ → ℕ
+  pub most : ℕ → Option ℕ
+  -- the forms of events but `command`, by the number of machines and a sector's size
+  pub events : ℕ → ℕ → List (Form Event)
+  -- how a refusal is told
+  pub told : Refusal → Refusal
+
+-- An empty line or a comment.
+abbrev pub is_skipped : List ℕ → Bool
+is_skipped [] = true
+is_skipped (c ∷ cs) = c == 35
+
+-- Clocks, resources and sessions may be left out.
+abbrev pub least_lines : ℕ → ℕ
+least_lines k = if k == 4 || k == 7 || k == 8 then 0 else 1
+
+-- Any number of clocks and sessions, 8 disks and lockspaces, 256 resources, one of the others.
+abbrev pub most_lines : ℕ → Option ℕ
+most_lines k =
+    if k == 4 || k == 8 then None
+    else (if k == 5 || k == 6 then Some 8
+    else (if k == 7 then Some 256 else Some 1))
+
+-- The whole language, of this program.
+abbrev pub language_of : Program → Language
+language_of p =
+    record {
+      program = p;
+      skips = is_skipped;
+      headers = header_forms;
+      least = least_lines;
+      most = most_lines;
+      events = event_forms;
+      told = (λ r. r);
+    }
+
+-- The whole language.
+abbrev pub whole_language : Language
+whole_language = language_of whole_program

@@ -1,0 +1,44 @@
+-- How a line of a schedule is read, in a language.
+use Rattle.sl_report.specs.Languages.{Language}
+use Rattle.sl_report.specs.ScheduleLines.{HeaderLine, checked_event, count_of_rank, header_of, header_tests, is_positive_word, rank}
+use Rattle.sl_run.specs.Worlds.{first_that}
+use Rattle.sl_run.specs.declared.event.Event.TheVariants.{GiveCommand}
+use Rattle.sl_run.specs.declared.event.Event.{Event}
+use Rattle.sl_run.specs.declared.event.Refusal.TheVariants.{Syntax}
+use Rattle.sl_run.specs.declared.event.Refusal.{Refusal}
+use Rattle.sl_text.specs.Forms.{exactly, made_by, spaced, words_of}
+use Rattle.sl_text.specs.Numbers.{capped_short}
+use Rattle.sl_words.specs.Words.{choose}
+use Rattle.std.specs.List.{list_all, range_with_len}
+use Rattle.std.specs.Option.{option_or}
+use Rattle.std.specs.Prelude.{Bool, List, None, Option, Some, codes, nat_le, nat_lt, not, true, ℕ, ◌&&◌, ◌∷◌}
+
+-- The header line that a line spells, if it does.
+abbrev pub header_line_in : Language → ℕ → List ℕ → Option HeaderLine
+header_line_in lang area line = made_by (lang.headers area) (words_of line)
+
+-- Whether one more line of the rank may come.
+abbrev pub is_room_for : Language → List HeaderLine → ℕ → Bool
+is_room_for lang ls k = elim (lang.most k) [ None ↦ true | Some n ↦ nat_lt (count_of_rank ls k) n ]
+
+-- Each line that must stand before this rank does, and none of a later rank.
+abbrev pub is_in_order : Language → List HeaderLine → ℕ → Bool
+is_in_order lang ls k =
+    list_all (λ l. nat_le (rank l) k) ls && list_all (λ j. nat_le (lang.least j) (count_of_rank ls j)) (range_with_len 0 k)
+    && is_room_for lang ls k
+
+-- The first refusal that fits a header line after these.
+abbrev pub header_refusal : Language → ℕ → ℕ → List HeaderLine → HeaderLine → Option Refusal
+header_refusal lang sector area ls l =
+    first_that ((not (is_in_order lang ls (rank l)), Syntax) ∷ header_tests (header_of sector area ls) l)
+
+-- `command M TEXT`: the rest of the line is the text.
+abbrev pub command_event : List (List ℕ) → Option Event
+command_event (verb ∷ machine ∷ w ∷ ws) =
+    choose (exactly (codes "command") verb && is_positive_word machine) (GiveCommand (capped_short machine) (spaced (w ∷ ws)))
+command_event ws = None
+
+-- The event that a line spells, if it does.
+abbrev pub event_in : Language → ℕ → ℕ → List ℕ → Option Event
+event_in lang machines sector line =
+    option_or (command_event (words_of line)) (checked_event sector (made_by (lang.events machines sector) (words_of line)))
