@@ -3,3 +3,4 @@ pub mod Leases
 pub mod LeaseWork
 pub mod Jobs
 pub mod Counts
+pub mod BallotLaws

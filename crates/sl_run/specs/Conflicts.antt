@@ -3,12 +3,16 @@ use Rattle.sl_run.specs.Worlds.{World}
 use Rattle.sl_trace.specs.Traces.{is_shared, same_place}
 use Rattle.sl_trace.specs.declared.effects.Grant.{Grant}
 use Rattle.std.specs.List.{enumerate_from, list_any}
-use Rattle.std.specs.Prelude.{Bool, IsFalse, List, flat_map, map, not, ℕ, ◌&&◌, ◌==◌}
+use Rattle.std.specs.Prelude.{Bool, IsFalse, List, flat_map, map, not, [], ℕ, ◌&&◌, ◌==◌}
 
 -- A holding with its machine.
 pub record Holding : Type 0 where
   pub machine : ℕ
   pub held : Grant
+
+-- No holding at all.
+abbrev pub no_holdings : List Holding
+no_holdings = []
 
 -- All holdings of the world.
 abbrev pub world_holdings : World → List Holding

@@ -1,1 +1,1 @@
-pub mod TraceLaws
+pub mod EvidenceFacts

@@ -1,3 +1,4 @@
 pub mod Sessions
 pub mod Watching
 pub mod Deltas
+pub mod EvidenceLaws

@@ -3,5 +3,6 @@
 #![tactic(auto)]
 
 pub mod delta;
+pub mod laws;
 
 pub use delta::DeltaNext;

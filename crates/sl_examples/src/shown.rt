@@ -1,0 +1,23 @@
+//! What the worked schedules show.
+
+ghost use Rattle.sl_examples.specs.Shown.{SchedulesReplay, TracesKeepLaws, RunsStaySafe, LinesAreRefused};
+
+/// Each worked schedule gives its report, each daemon doing what is due.
+pub fn schedules_replay()
+    ensures { SchedulesReplay }
+{}
+
+/// The traces of these runs keep each law, so none of the laws is empty. (Tests that mirror the laws field by field.)
+pub fn traces_keep_laws()
+    ensures { TracesKeepLaws }
+{}
+
+/// These runs are safe after each event: tests of what safety says of a world.
+pub fn runs_stay_safe()
+    ensures { RunsStaySafe }
+{}
+
+/// Lines are refused, each by its own text.
+pub fn lines_are_refused()
+    ensures { LinesAreRefused }
+{}

@@ -1,0 +1,35 @@
+-- Fronts of lawful traces.
+use Rattle.sl_law.specs.Caused.{AnswersWell, IsCaused}
+use Rattle.sl_law.specs.Lawful.{Lawful}
+use Rattle.sl_law.specs.LawfulArea.{LawfulArea}
+use Rattle.sl_law.specs.LawfulBlock.{LawfulBlock}
+use Rattle.sl_law.specs.LawfulCalls.{LawfulCalls}
+use Rattle.sl_law.specs.LawfulDelta.{LawfulDelta}
+use Rattle.sl_law.specs.LawfulGrant.{LawfulGrant}
+use Rattle.sl_law.specs.LawfulLeader.{LawfulLeader}
+use Rattle.sl_law.specs.LawfulModes.{LawfulModes}
+use Rattle.sl_law.specs.LawfulRecovery.{LawfulRecovery}
+use Rattle.sl_law.specs.LawfulValue.{LawfulValue}
+use Rattle.sl_law.specs.LawfulWatchdog.{LawfulWatchdog}
+use Rattle.sl_trace.proofs.TraceFacts.{each_entry-front}
+use Rattle.sl_trace.specs.Traces.{FollowsTrace, Setting, Trace}
+use Rattle.std.specs.Prelude.{◌++◌}
+
+pub lawful-front : (st : Setting) (later es : Trace) → Lawful st (later ++ es) → Lawful st es
+lawful-front st later es h =
+    record {
+      is_trace = each_entry-front (FollowsTrace st) later es h.is_trace;
+      calls = each_entry-front (LawfulCalls st) later es h.calls;
+      delta = each_entry-front (LawfulDelta st) later es h.delta;
+      area = each_entry-front (LawfulArea st) later es h.area;
+      block = each_entry-front (LawfulBlock st) later es h.block;
+      leader = each_entry-front (LawfulLeader st) later es h.leader;
+      modes = each_entry-front (LawfulModes st) later es h.modes;
+      watchdog = each_entry-front (LawfulWatchdog st) later es h.watchdog;
+      granting = each_entry-front (LawfulGrant st) later es h.granting;
+      recovery = each_entry-front (LawfulRecovery st) later es h.recovery;
+      values = each_entry-front (LawfulValue st) later es h.values;
+    }
+
+pub caused-front : (st : Setting) (later es : Trace) → IsCaused st (later ++ es) → IsCaused st es
+caused-front st later es h = each_entry-front (AnswersWell st) later es h

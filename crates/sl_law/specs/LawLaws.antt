@@ -1,0 +1,13 @@
+-- Laws are said of each entry with its past, so what is lawful has been lawful all along.
+use Rattle.sl_law.specs.Caused.{IsCaused}
+use Rattle.sl_law.specs.Lawful.{Lawful}
+use Rattle.sl_trace.specs.Traces.{Setting, Trace}
+use Rattle.std.specs.Prelude.{◌++◌}
+
+-- Each front of a lawful trace is lawful.
+abbrev pub FrontsAreLawful : Type 0
+FrontsAreLawful = (st : Setting) (later es : Trace) → Lawful st (later ++ es) → Lawful st es
+
+-- Each front of a trace whose replies have their causes is one.
+abbrev pub FrontsAreCaused : Type 0
+FrontsAreCaused = (st : Setting) (later es : Trace) → IsCaused st (later ++ es) → IsCaused st es

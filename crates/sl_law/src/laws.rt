@@ -1,0 +1,13 @@
+//! What is lawful has been lawful all along.
+
+ghost use Rattle.sl_law.specs.LawLaws.{FrontsAreLawful, FrontsAreCaused};
+
+/// Each front of a lawful trace is lawful.
+pub fn fronts_are_lawful()
+    ensures { FrontsAreLawful }
+{}
+
+/// Each front of a trace whose replies have their causes is one.
+pub fn fronts_are_caused()
+    ensures { FrontsAreCaused }
+{}
