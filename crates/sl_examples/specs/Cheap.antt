@@ -1,4 +1,5 @@
 -- A cheap digest, with which long examples compute. It is for examples alone: sums collide.
+use Rattle.sl_area.specs.Layouts.{layout_of}
 use Rattle.sl_report.specs.Languages.{Language, language_of}
 use Rattle.sl_report.specs.Schedules.{replay_lines}
 use Rattle.sl_run.specs.Worlds.{Program}
@@ -13,7 +14,7 @@ cheap_digest bs = u32_bytes (sum bs) ++ replicate 28 0
 
 -- The whole program, but for its digest.
 abbrev pub cheap_program : Program
-cheap_program = record { digest = cheap_digest; commands = forms }
+cheap_program = record { digest = cheap_digest; commands = (λ h. forms (layout_of h.geometry)) }
 
 -- The whole language, of that program.
 abbrev pub cheap_language : Language

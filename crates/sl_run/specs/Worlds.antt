@@ -1,6 +1,6 @@
 -- The world: the moment, the machines, and for each place what landed there, in order. Beside what an executed world needs it keeps
 -- the history that a proof asks for: when each thing happened, and all calls, landings and resets of the past.
-use Rattle.sl_area.specs.Layouts.{Layout, layout_with, program_digest, sector_with}
+use Rattle.sl_area.specs.Layouts.{Layout, layout_of, layout_with, program_digest, sector_with}
 use Rattle.sl_area.specs.Places.{fresh_block, fresh_delta, fresh_leader, in_area, no_request, no_value}
 use Rattle.sl_run.specs.declared.event.Refusal.{Refusal}
 use Rattle.sl_run.specs.declared.header.Header.{Header}
@@ -105,14 +105,14 @@ pub record Landing : Type 0 where
   pub step : ℕ
   pub moment : ℕ
 
--- What a program brings to a world: the digest of its sectors, and the forms of the commands that its daemons read.
+-- What a program brings to a world: the digest of its sectors, and the forms of the commands that its daemons read under a header.
 pub record Program : Type 0 where
   pub digest : List ℕ → List ℕ
-  pub commands : Layout → List (Form Command)
+  pub commands : Header → List (Form Command)
 
 -- The whole program: SHA-256 and all commands.
 abbrev pub whole_program : Program
-whole_program = record { digest = program_digest; commands = forms }
+whole_program = record { digest = program_digest; commands = (λ h. forms (layout_of h.geometry)) }
 
 -- The world.
 pub record World : Type 0 where
@@ -313,7 +313,7 @@ given_of h m s =
 -- What a daemon is made of.
 abbrev pub setting_of : Program → Layout → Header → ℕ → List ℕ → Numbers → List Given → Setting
 setting_of p g h m name first given =
-    record { timing = h.timing; grace = h.grace; layout = g; machine = m; name = name; first = first; given = given; read = command_in (p.commands g) }
+    record { timing = h.timing; grace = h.grace; layout = g; machine = m; name = name; first = first; given = given; read = command_in (p.commands h) }
 
 -- A daemon without entries.
 abbrev pub new_daemon : ℕ → Setting → Stamp → Daemon
