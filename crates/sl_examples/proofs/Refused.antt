@@ -6,7 +6,9 @@ use Rattle.sl_due.specs.DueCommands.{carry_act, decided}
 use Rattle.sl_due.specs.DueDelta.{carry_delta}
 use Rattle.sl_due.specs.DueLease.{carry_lease}
 use Rattle.sl_due.specs.DueRequests.{ask_refusal}
-use Rattle.sl_examples.specs.Making.{block, broken_by, bytes_of, grant, leader, quiet_entry, reads, with_calls, with_grants, with_moves, writes}
+use Rattle.sl_examples.proofs.ReadCommands.{offset}
+use Rattle.sl_examples.proofs.RecordBytes.{stamp}
+use Rattle.sl_examples.specs.Making.{block, broken_by, bytes_of, grant, leader, quiet_entry, reads, with_calls, with_grants, with_moves, with_replies, writes}
 use Rattle.sl_examples.specs.Rows.{two_machines}
 use Rattle.sl_leases.specs.Ballots.{instance_of, phase1_block, phase2_block, stop_of}
 use Rattle.sl_leases.specs.LeaseWork.{area_next, begin_next, lease_next, settle_next}
@@ -24,14 +26,16 @@ use Rattle.sl_text.specs.Names.{padded_text}
 use Rattle.sl_trace.specs.Commands.{forms}
 use Rattle.sl_trace.specs.EffectTexts.{reply_words}
 use Rattle.sl_trace.specs.declared.effects.Entry.{Entry}
-use Rattle.sl_trace.specs.declared.effects.JoinStep.TheVariants.{DecidingRead}
+use Rattle.sl_trace.specs.declared.effects.Grant.{Grant}
+use Rattle.sl_trace.specs.declared.effects.JoinStep.TheVariants.{DecidingRead, WatchRead}
 use Rattle.sl_trace.specs.declared.effects.LeaseStep.TheVariants.{FreeLeader, Phase1Write, Phase2Read, Phase2Write, ReadBeforeFree, SetMode}
-use Rattle.sl_trace.specs.declared.effects.Mode.TheVariants.{Shared}
+use Rattle.sl_trace.specs.declared.effects.Mode.TheVariants.{Exclusive, Shared}
 use Rattle.sl_trace.specs.declared.effects.Move.TheVariants.{Register, Renew, Unregister}
-use Rattle.sl_trace.specs.declared.effects.Purpose.TheVariants.{Joining, Lease, Renewal, Survey, ValueWrite}
+use Rattle.sl_trace.specs.declared.effects.Purpose.TheVariants.{AskWrite, Joining, Lease, Renewal, Survey, ValueWrite}
 use Rattle.sl_trace.specs.declared.effects.Work.TheVariants.{ForJob, Settling}
 use Rattle.sl_trace.specs.declared.input.Answer.TheVariants.{Failed, Read, Written}
 use Rattle.sl_trace.specs.declared.input.Input.TheVariants.{Answer as Told, Wake}
+use Rattle.sl_trace.specs.declared.reply.Reply.TheVariants.{Generation}
 use Rattle.std.specs.Fmt.{digits}
 use Rattle.std.specs.Prelude.{List, Some, codes, false, refl, replicate, true, [], ℕ, ◌++◌, ◌∷◌, ◌≡◌}
 
@@ -238,3 +242,41 @@ early_read d = with_calls (reads 5 (Lease (ForJob 1) Phase2Read) 1049600 2 ∷ [
 pub read_before_answer : broken_by (two_machines ++ acquire ∷ codes "do 1 1" ∷ codes "do 1 2" ∷ codes "do 1 3" ∷ []) 1 early_read ≡ ((3 ∷ 4 ∷ []) ∷ [])
 unfolding after_answer_of area_next ask_refusal begin_next block_rules carry_act carry_delta carry_lease checked_part count_event decided decoded delta_rules digits event_forms event_tests field_bytes fields_of first_change forms header_forms header_of header_tests initial_record instance_of known leader_rules lease_next machine_of_header magic next_after_deciding next_after_first next_after_verify next_after_watch next_in_joining next_on_wake next_renewal padded_text pass_tests phase1_block phase2_block reply_words request_rules settle_next spelling stop_of value_rules
 read_before_answer = refl
+
+-- a joining that is answered ok at its claim's answer: two could join with one generation
+abbrev early_joining : Daemon → List Entry
+early_joining d = with_replies (record { job = 1; reply = Generation 1 } ∷ []) (quiet_entry 0 (Told 3 Written)) ∷ []
+
+pub joined_by_claim : broken_by (none ++ codes "do 1 1" ∷ codes "do 1 2" ∷ []) 1 early_joining ≡ ((2 ∷ []) ∷ [])
+unfolding after_answer_of area_next ask_refusal begin_next block_rules carry_act carry_delta carry_lease checked_part count_event decided decoded delta_rules digits event_forms event_tests field_bytes fields_of first_change forms header_forms header_of header_tests initial_record instance_of known leader_rules lease_next machine_of_header magic next_after_deciding next_after_first next_after_verify next_after_watch next_in_joining next_on_wake next_renewal padded_text pass_tests phase1_block phase2_block reply_words request_rules settle_next spelling stop_of value_rules
+joined_by_claim = refl
+
+-- a write in the place of a joining's read: a free in another's name
+abbrev written_watch : Daemon → List Entry
+written_watch d = with_calls (writes 2 (Joining 1 WatchRead) 0 (DeltaIs (fresh_delta (codes "ls") 1)) ∷ []) (quiet_entry 0 (Told 1 Failed)) ∷ []
+
+pub watch_that_writes : broken_by none 1 written_watch ≡ ((2 ∷ []) ∷ [])
+unfolding after_answer_of area_next ask_refusal begin_next block_rules carry_act carry_delta carry_lease checked_part count_event decided decoded delta_rules digits event_forms event_tests field_bytes fields_of first_change forms header_forms header_of header_tests initial_record instance_of known leader_rules lease_next machine_of_header magic next_after_deciding next_after_first next_after_verify next_after_watch next_in_joining next_on_wake next_renewal padded_text pass_tests phase1_block phase2_block reply_words request_rules settle_next spelling stop_of value_rules
+watch_that_writes = refl
+
+-- a free of the leader that is no work on the lease: the lease would not know that it freed
+abbrev hidden_free : Daemon → List Entry
+hidden_free d =
+    with_calls (writes 6 (AskWrite 1) 1048576 (leader false 1 1 1 (codes "ls")) ∷ [])
+    (quiet_entry 0 (Told 5 (Read (bytes_of d (block 1 false 1 1 1 1 1) ++ bytes_of d (block 2 false 0 0 0 0 0))))) ∷ []
+
+pub free_by_asking :
+    broken_by (two_machines ++ acquire ∷ codes "do 1 1" ∷ codes "do 1 2" ∷ codes "do 1 3" ∷ codes "do 1 4" ∷ []) 1 hidden_free ≡ ((5 ∷ []) ∷ [])
+unfolding after_answer_of area_next ask_refusal begin_next block_rules carry_act carry_delta carry_lease checked_part count_event decided decoded delta_rules digits event_forms event_tests field_bytes fields_of first_change forms header_forms header_of header_tests initial_record instance_of known leader_rules lease_next machine_of_header magic next_after_deciding next_after_first next_after_verify next_after_watch next_in_joining next_on_wake next_renewal padded_text pass_tests phase1_block phase2_block reply_words request_rules settle_next spelling stop_of value_rules
+free_by_asking = refl
+
+-- a grant at an offset that is no area's: the calls of two areas would count as one lease's
+abbrev shifted_grant : Daemon → List Entry
+shifted_grant d =
+    let g : Grant = grant 7 Exclusive 1 in with_grants (record g { offset = 1049088 } ∷ []) (quiet_entry 0 (Told 6 Written)) ∷ []
+
+pub grant_off_its_area :
+    broken_by (two_machines ++ acquire ∷ codes "do 1 1" ∷ codes "do 1 2" ∷ codes "do 1 3" ∷ codes "do 1 4" ∷ codes "do 1 5" ∷ []) 1 shifted_grant
+    ≡ ((8 ∷ []) ∷ [])
+unfolding after_answer_of area_next ask_refusal begin_next block_rules carry_act carry_delta carry_lease checked_part count_event decided decoded delta_rules digits event_forms event_tests field_bytes fields_of first_change forms header_forms header_of header_tests initial_record instance_of known leader_rules lease_next machine_of_header magic next_after_deciding next_after_first next_after_verify next_after_watch next_in_joining next_on_wake next_renewal padded_text pass_tests phase1_block phase2_block reply_words request_rules settle_next spelling stop_of value_rules
+grant_off_its_area = refl

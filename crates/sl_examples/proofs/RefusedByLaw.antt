@@ -6,12 +6,14 @@ use Rattle.sl_due.specs.DueCommands.{carry_act, decided}
 use Rattle.sl_due.specs.DueDelta.{carry_delta}
 use Rattle.sl_due.specs.DueLease.{carry_lease}
 use Rattle.sl_due.specs.DueRequests.{ask_refusal}
+use Rattle.sl_examples.proofs.ReadCommands.{offset}
+use Rattle.sl_examples.proofs.RecordBytes.{stamp}
 use Rattle.sl_examples.specs.Cheap.{cheap_digest}
 use Rattle.sl_examples.specs.Making.{block, leader, quiet_entry, reads, with_calls, with_moves, writes}
 use Rattle.sl_law.specs.LawfulArea.{LawfulArea, open_block_work}
 use Rattle.sl_law.specs.LawfulDelta.{LawfulDelta, LawfulRenewal}
 use Rattle.sl_law.specs.LawfulRecovery.{LawfulRecovery, MayPart}
-use Rattle.sl_law.specs.Saying.{at_call}
+use Rattle.sl_law.specs.Saying.{cut_at}
 use Rattle.sl_leases.specs.Ballots.{instance_of, phase1_block, phase2_block, stop_of}
 use Rattle.sl_leases.specs.LeaseWork.{area_next, begin_next, lease_next, settle_next}
 use Rattle.sl_leases.specs.Leases.{known}
@@ -84,8 +86,8 @@ second = with_calls (second_call ∷ []) (quiet_entry 100 Wake)
 pub not_alone : LawfulArea st (begun ∷ asked ∷ []) second → ⊥
 unfolding after_answer_of area_next ask_refusal begin_next block_rules carry_act carry_delta carry_lease checked_part count_event decided decoded delta_rules digits event_forms event_tests field_bytes fields_of first_change forms header_forms header_of header_tests initial_record instance_of known leader_rules lease_next machine_of_header magic next_after_deciding next_after_first next_after_verify next_after_watch next_in_joining next_on_wake next_renewal padded_text pass_tests phase1_block phase2_block reply_words request_rules settle_next spelling stop_of value_rules
 not_alone h =
-    let none_open : open_block_work st (at_call (begun ∷ asked ∷ []) second second_call) session_a (record { path = codes "/d"; base = 1048576 }) ≡ [] =
-    h.alone second_call session_a (0, omega arith, refl) refl refl in
+    let none_open : open_block_work st (cut_at 0 second ∷ begun ∷ asked ∷ []) session_a (record { path = codes "/d"; base = 1048576 }) ≡ [] =
+    h.alone 0 second_call session_a refl refl refl in
     let wrong : ◌≡◌ {A = ℕ} 1 0 = ap length none_open in
     omega (arith, wrong)
 
@@ -121,7 +123,7 @@ seq_of o = option_map_or (λ d. d.seq) o 0
 pub not_rising : LawfulDelta st [] renewing_entry → ⊥
 unfolding after_answer_of area_next ask_refusal begin_next block_rules carry_act carry_delta carry_lease checked_part count_event decided decoded delta_rules digits event_forms event_tests field_bytes fields_of first_change forms header_forms header_of header_tests initial_record instance_of known leader_rules lease_next machine_of_header magic next_after_deciding next_after_first next_after_verify next_after_watch next_in_joining next_on_wake next_renewal padded_text pass_tests phase1_block phase2_block reply_words request_rules settle_next spelling stop_of value_rules
 not_rising h =
-    let lawful : LawfulRenewal st (at_call [] renewing_entry stale_call) session_a (new_call 0 200 stale_call) =
-    h.calls stale_call session_a (0, omega arith, refl) refl in
+    let lawful : LawfulRenewal st (cut_at 0 renewing_entry ∷ []) session_a (new_call 0 200 stale_call) =
+    h.calls 0 stale_call session_a refl refl in
     let wrong : ◌≡◌ {A = ℕ} 1 2 = ap seq_of lawful.written in
     omega (arith, wrong)

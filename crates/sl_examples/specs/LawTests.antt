@@ -1,6 +1,6 @@
 -- The laws once more, as tests that compute, for trying them on runs and on literal traces. Each test mirrors one field of a law.
 use Rattle.sl_area.specs.Layouts.{record_in, sector_with}
-use Rattle.sl_area.specs.Places.{area_blocks, block_offset, leader_of, value_offset}
+use Rattle.sl_area.specs.Places.{area_blocks, block_offset, is_base, leader_of, value_offset}
 use Rattle.sl_law.specs.LawfulArea.{is_area_work, is_block_work, is_delta_record, leaders_read, open_block_work, record_offset}
 use Rattle.sl_law.specs.LawfulCalls.{may_submit}
 use Rattle.sl_law.specs.LawfulDelta.{is_on_own_sector}
@@ -9,11 +9,11 @@ use Rattle.sl_law.specs.LawfulModes.{shared_since}
 use Rattle.sl_law.specs.LawfulRecovery.{is_leaving_write, was_killed}
 use Rattle.sl_law.specs.LawfulValue.{held_since, writes_since}
 use Rattle.sl_law.specs.LawfulWatchdog.{acts_until, is_covered}
-use Rattle.sl_law.specs.Saying.{at_call, newest_moves, older}
+use Rattle.sl_law.specs.Saying.{cut_at, newest_moves, older}
 use Rattle.sl_leases.specs.Ballots.{ballot_blocks, moded_block, owner_of, phase1_block, phase2_block, same_owner, stop_of}
 use Rattle.sl_leases.specs.Counts.{next_value_seq}
 use Rattle.sl_leases.specs.Jobs.{jobs_of_session}
-use Rattle.sl_leases.specs.Leases.{Leader_freed, Mode_set, Phase1_read, Phase1_write, Phase2_read, Phase2_write, block_of_host, block_written, blocks_given, ended_ballot, ended_ballots, exclusive_on, freed, has_shared_on, holdings_on, is_area_read, is_at, is_block_read, is_free_write, is_leader_of, last_blocks, leader_written, lease_calls, lease_step, own_block, spot_of_call, value_written}
+use Rattle.sl_leases.specs.Leases.{Leader_freed, Leader_taken, Mode_set, Phase1_read, Phase1_write, Phase2_read, Phase2_write, block_of_host, block_written, blocks_given, ended_ballot, ended_ballots, exclusive_on, freed, has_shared_on, holdings_on, is_area_read, is_at, is_block_read, is_free_write, is_leader_of, last_blocks, leader_written, lease_calls, lease_step, own_block, spot_of_call, value_written}
 use Rattle.sl_run.specs.Runs.{daemons_of}
 use Rattle.sl_run.specs.Worlds.{World}
 use Rattle.sl_sector.specs.Bitmaps.{no_bits}
@@ -26,10 +26,11 @@ use Rattle.sl_sector.specs.declared.sector.Rec.TheVariants.{BlockIs, DeltaIs}
 use Rattle.sl_sector.specs.declared.sector.Rec.{Rec}
 use Rattle.sl_sector.specs.declared.sector.ValueRec.{ValueRec}
 use Rattle.sl_sessions.specs.Deltas.{claim_of, delta_of_session, delta_record, first_answered, first_bytes}
-use Rattle.sl_sessions.specs.Sessions.{Begun, Claiming, Deciding, Freeing, Looking, Parted, Renewing_first, Session, Stage, Standing, Turned_away, Verifying, Waiting, calls_of, delta_written, free_write, generation_of, has_open_delta, has_open_write, holders_of, holdings_of, is_active, is_delta_purpose, is_join_call, is_joined, is_leaving, is_present, is_recovering, is_survey_purpose, join_call, last_seq, leaving_job, leaving_of, me, open_calls_of, recovery_of, session_named, session_numbered, sessions, stage_of}
+use Rattle.sl_sessions.specs.Sessions.{Begun, Claiming, Deciding, Freeing, Looking, Parted, Renewing_first, Session, Stage, Standing, Turned_away, Verifying, Waiting, calls_of, delta_written, free_write, generation_of, has_open_delta, has_open_write, holders_of, holdings_of, is_active, is_delta_purpose, is_join_call, is_joined, is_leaving, is_present, is_recovering, is_survey_purpose, join_call, joined_after, last_seq, leaving_job, leaving_of, me, open_calls_of, recovery_of, session_named, session_numbered, sessions, stage_of}
 use Rattle.sl_sessions.specs.Watching.{counted_over, is_free_state}
 use Rattle.sl_time.specs.Times.{dead, fail, join_max, take_over}
 use Rattle.sl_trace.specs.Connections.{connection_named, connections, is_registered, registers, registers_with, unregisters}
+use Rattle.sl_trace.specs.EffectTexts.{is_ok_reply}
 use Rattle.sl_trace.specs.Traces.{Setting, Submitted, Trace, gave, holdings, is_answered_ok, is_ok_answer, is_shared, is_write, new_call, newest_reading, record_of, same_place, spot_of_grant, submitted}
 use Rattle.sl_trace.specs.declared.effects.Entry.{Entry}
 use Rattle.sl_trace.specs.declared.effects.Grant.{Grant}
@@ -37,14 +38,14 @@ use Rattle.sl_trace.specs.declared.effects.JoinStep.TheVariants.{ClaimWrite, Dec
 use Rattle.sl_trace.specs.declared.effects.JoinStep.{JoinStep}
 use Rattle.sl_trace.specs.declared.effects.LeaseStep.TheVariants.{ClearMode, Phase1Read, Phase1Write, Phase2Read, Phase2Write, ReadArea, ReadBeforeFree, SetMode}
 use Rattle.sl_trace.specs.declared.effects.Op.TheVariants.{ReadSectors, WriteRecord}
-use Rattle.sl_trace.specs.declared.effects.Purpose.TheVariants.{Joining, Leaving, Renewal, Survey, ValueRead}
+use Rattle.sl_trace.specs.declared.effects.Purpose.TheVariants.{AskRead, Joining, Leaving, Renewal, Survey, ValueRead}
 use Rattle.sl_trace.specs.declared.effects.Purpose.{Purpose}
 use Rattle.sl_trace.specs.declared.effects.Signal.TheVariants.{Kill, Term}
 use Rattle.sl_trace.specs.declared.effects.Spot.{Spot}
 use Rattle.sl_trace.specs.declared.reply.Reply.TheVariants.{Value}
 use Rattle.sl_trace.specs.declared.reply.Reply.{Reply}
 use Rattle.sl_words.specs.Words.{choose, present, same_truth, some_is}
-use Rattle.std.specs.List.{list_all, list_any, range_with_len}
+use Rattle.std.specs.List.{enumerate_from, list_all, list_any, range_with_len}
 use Rattle.std.specs.Option.{option_map_or}
 use Rattle.std.specs.Prelude.{Bool, List, None, Option, Some, bytes_eq, false, filter, find, flat_map, is_none, is_ok, is_some, length, nat_le, nat_lt, not, option_to_list, true, [], ℕ, ◌&&◌, ◌++◌, ◌+◌, ◌==◌, ◌||◌, ◌∷◌}
 
@@ -58,7 +59,8 @@ each_entry p (e ∷ es) = p es e && each_entry p es
 -- Of each call with what stood when it was submitted; a call of no session fails.
 abbrev pub each_call : Setting → (Trace → Session → Submitted → Bool) → Trace → Entry → Bool
 each_call st p past e =
-    list_all (λ c. some_is (λ s. p (at_call past e c) s (new_call (length past) e.reading c)) (session_numbered st (e ∷ past) c.session)) e.effects.calls
+    list_all (λ q. some_is (λ s. p (cut_at q.0 e ∷ past) s (new_call (length past) e.reading q.1)) (session_numbered st (e ∷ past) q.1.session))
+    (enumerate_from 0 e.effects.calls)
 
 -- Where it applies.
 abbrev pub implies : Bool → Bool → Bool
@@ -160,16 +162,20 @@ survey_test st es s c =
     is_at_stage es s Standing && same_place c.call.path c.call.offset s.path s.offset
     && elim c.call.op [ ReadSectors n ↦ n == st.layout.hosts | WriteRecord r ↦ false ]
 
+-- Whether the call reads one sector.
+abbrev pub reads_one : Submitted → Bool
+reads_one c = elim c.call.op [ ReadSectors n ↦ n == 1 | WriteRecord r ↦ false ]
+
 -- By what the call is for.
 abbrev pub delta_call_test : Setting → Trace → Session → Submitted → Bool
 delta_call_test st es s c =
     elim c.call.purpose [
       | Joining j step ↦ elim step [
-        | FirstRead ↦ is_none (session_named st es s.lockspace)
-        | WatchRead ↦ is_at_stage es s Looking
-        | DecidingRead ↦ deciding_test st es s c
+        | FirstRead ↦ reads_one c && is_none (session_named st es s.lockspace)
+        | WatchRead ↦ reads_one c && is_at_stage es s Looking
+        | DecidingRead ↦ reads_one c && deciding_test st es s c
         | ClaimWrite ↦ claim_test st es s c
-        | VerifyRead ↦ verify_test st es s c
+        | VerifyRead ↦ reads_one c && verify_test st es s c
         | FirstRenewal ↦ first_renewal_test st es s c
       ]
       | Renewal ↦ renewal_test st es s c
@@ -178,9 +184,19 @@ delta_call_test st es s c =
       | _ ↦ is_none (delta_written c)
     ]
 
+-- Whether a session that has joined did so by its first renewal's answer.
+abbrev pub join_test : Trace → Session → Bool
+join_test es s =
+    elim s.job [
+      | None ↦ true
+      | Some j ↦ option_map_or (λ k. some_is (λ m. some_is (λ a. is_ok_answer a.answer && a.at + 1 == k) m.answer) (join_call (calls_of es s) FirstRenewal))
+          (joined_after es s) true
+    ]
+
 -- The law of delta writing.
 abbrev pub delta_test : Setting → Trace → Entry → Bool
 delta_test st past e =
+    list_all (join_test (e ∷ past)) (sessions st (e ∷ past)) &&
     each_call st (λ es s c. delta_call_test st es s c
     && implies (is_delta_purpose c.call.purpose && not (is_survey_purpose c.call.purpose)) (is_on_own_sector st s c)
     && implies (is_delta_purpose c.call.purpose) (not (has_open_delta es s))) past e
@@ -202,7 +218,10 @@ abbrev pub lease_read_test : Setting → Submitted → Bool
 lease_read_test st c =
     let at : Spot = spot_of_call st.layout c in
     elim (lease_step c.call.purpose) [
-      | None ↦ true
+      | None ↦ elim c.call.purpose [
+        | AskRead j ↦ c.call.offset == at.base && elim c.call.op [ ReadSectors n ↦ n == 2 | WriteRecord r ↦ false ]
+        | _ ↦ true
+      ]
       | Some p ↦ elim c.call.op [
         | WriteRecord r ↦ not (is_block_read c)
         | ReadSectors n ↦ elim p.1 [
@@ -321,18 +340,18 @@ abbrev pub has_won : Setting → Trace → Session → Spot → ℕ → Bool
 has_won st es s at n = list_any (λ p. p.0 == n && same_owner p.1 (me es s)) (ended_ballots st.layout (lease_calls st es s at))
 
 -- A leader that is written.
-abbrev pub leader_write_test : Setting → Trace → Session → Spot → Leader → Bool
-leader_write_test st es s at l =
+abbrev pub leader_write_test : Setting → Trace → Session → Spot → Submitted → Leader → Bool
+leader_write_test st es s at c l =
     same_owner (owner_of l) (me es s) && bytes_eq l.lockspace s.lockspace && l.num_hosts == st.layout.hosts
     && list_any (is_leader_of st.layout s.lockspace l.resource) (leaders_read st es s at) && has_won st es s at l.lver
     && elim l.held [
-      | true ↦ nat_lt (freed (lease_calls st es s at)) l.lver
-      | false ↦ not (holds_under es s at l.lver) && length (open_writes_on st es s at) == 0
+      | true ↦ is_at Leader_taken c && nat_lt (freed (lease_calls st es s at)) l.lver
+      | false ↦ is_at Leader_freed c && not (holds_under es s at l.lver) && length (open_writes_on st es s at) == 0
     ]
 
 -- The law of leader writing.
 abbrev pub leader_test : Setting → Trace → Entry → Bool
-leader_test st past e = each_call st (λ es s c. option_map_or (leader_write_test st es s (spot_of_call st.layout c)) (leader_written c) true) past e
+leader_test st past e = each_call st (λ es s c. option_map_or (leader_write_test st es s (spot_of_call st.layout c) c) (leader_written c) true) past e
 
 -- ---- grants and modes
 
@@ -364,7 +383,7 @@ shared_by_test st es s at n read mode free =
 abbrev pub shared_grant_test : Setting → Trace → Trace → Session → Spot → ℕ → Bool
 shared_grant_test st past es s at n =
     let cs : List Submitted = lease_calls st es s at in
-    has_shared_on past s at
+    list_any (λ h. is_shared h.mode && h.lver == n) (holdings_on past s at)
     || list_any (λ read. list_any (λ mode. list_any (shared_by_test st es s at n read mode) (filter (is_at Leader_freed) cs)) (filter (is_at Mode_set) cs)) (filter (is_at Phase2_read) cs)
 
 -- Whether no shared mode of another stood in these blocks.
@@ -411,7 +430,7 @@ taken_test st es s at n = list_any (λ c. some_is (λ l. l.held && l.lver == n) 
 -- A grant.
 abbrev pub grant_to_test : Setting → Trace → Session → Grant → Bool
 grant_to_test st es s g =
-    is_active st es s && bytes_eq g.lockspace s.lockspace
+    is_active st es s && bytes_eq g.lockspace s.lockspace && is_base st.layout g.offset
     && list_all (λ h. not (same_place h.path h.offset g.path g.offset) || h.process == g.process || is_shared h.mode && is_shared g.mode) (holdings es)
     && (is_shared g.mode || taken_test st es s (spot_of_grant g) g.lver && nat_lt (freed (lease_calls st es s (spot_of_grant g))) g.lver)
 
@@ -439,7 +458,7 @@ sends_term e p = list_any (λ s. s.process == p && elim s.signal [ Term ↦ true
 abbrev pub stops_test : Setting → Trace → Entry → Session → Option ℕ → Bool
 stops_test st past e s kept =
     list_all (sends_term e) (holders_of past s)
-    && list_all (λ j. some_is (λ k. k == j.number) kept || list_any (λ a. a.job == j.number) e.effects.replies) (jobs_of_session st past s)
+    && list_all (λ j. some_is (λ k. k == j.number) kept || list_any (λ a. a.job == j.number && not (is_ok_reply a.reply)) e.effects.replies) (jobs_of_session st past s)
 
 -- The kills after a start.
 abbrev pub kills_test : Setting → Trace → Session → Begun → Bool

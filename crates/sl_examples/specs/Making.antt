@@ -15,6 +15,7 @@ use Rattle.sl_trace.specs.declared.effects.Call.{Call}
 use Rattle.sl_trace.specs.declared.effects.Effects.{Effects}
 use Rattle.sl_trace.specs.declared.effects.Entry.{Entry}
 use Rattle.sl_trace.specs.declared.effects.Grant.{Grant}
+use Rattle.sl_trace.specs.declared.effects.JobReply.{JobReply}
 use Rattle.sl_trace.specs.declared.effects.Mode.{Mode}
 use Rattle.sl_trace.specs.declared.effects.Move.{Move}
 use Rattle.sl_trace.specs.declared.effects.Op.TheVariants.{ReadSectors, WriteRecord}
@@ -45,6 +46,10 @@ with_calls cs e = let fx : Effects = e.effects in record e { effects = record fx
 -- The entry with these moves.
 abbrev pub with_moves : List Move → Entry → Entry
 with_moves ms e = let fx : Effects = e.effects in record e { effects = record fx { moves = ms } }
+
+-- The entry with these replies.
+abbrev pub with_replies : List JobReply → Entry → Entry
+with_replies rs e = let fx : Effects = e.effects in record e { effects = record fx { replies = rs } }
 
 -- The entry with these grants.
 abbrev pub with_grants : List Grant → Entry → Entry

@@ -3,9 +3,9 @@ use Rattle.sl_area.specs.Layouts.{record_in, sector_with}
 use Rattle.sl_area.specs.Places.{area_blocks, leader_of, read_at}
 use Rattle.sl_law.specs.Saying.{IsAnsweredAt}
 use Rattle.sl_leases.specs.Ballots.{in_instance, next_mbal, stop_of, value_of}
-use Rattle.sl_leases.specs.Counts.{busy_process, check_request, child_count, holder_count, may_act, most_children, most_holders, most_lockspaces, most_resources, next_value_seq, pending_call, resource_count}
-use Rattle.sl_leases.specs.Jobs.{is_job_of_process, job_of_start, lockspace_named, process_named, resource_named, wants_shared}
-use Rattle.sl_leases.specs.Leases.{Area_read, Known, Phase1_read, Phase2_read, blocks_given, exclusive_on, holdings_on, instance_for, is_at, is_leader_of, known, lease_calls, own_block, shared_elsewhere, spot_of, spot_of_call}
+use Rattle.sl_leases.specs.Counts.{busy_process, check_request, limit_met, may_act, most_lockspaces, next_value_seq, pending_call}
+use Rattle.sl_leases.specs.Jobs.{is_asking_lease, is_job_of_process, is_program, job_of_start, lockspace_named, process_named, resource_named, wants_shared}
+use Rattle.sl_leases.specs.Leases.{Area_read, Known, Phase1_read, Phase2_read, blocks_given, exclusive_on, holdings_on, instance_for, is_at, is_leader_of, is_phase_read, known, lease_calls, own_block, shared_elsewhere, spot_of, spot_of_call}
 use Rattle.sl_leases.specs.declared.lease.Instance.TheVariants.{Begins, HeldAlready}
 use Rattle.sl_leases.specs.declared.lease.Instance.{Instance}
 use Rattle.sl_leases.specs.declared.lease.Stop.TheVariants.{BlockAhead, BlockRival, BlockTorn}
@@ -21,11 +21,12 @@ use Rattle.sl_sessions.specs.Sessions.{Session, calls_of, generation_of, is_acti
 use Rattle.sl_sessions.specs.Watching.{counts_over}
 use Rattle.sl_time.specs.Times.{join_max}
 use Rattle.sl_trace.specs.EffectTexts.{is_ok_reply}
-use Rattle.sl_trace.specs.Traces.{EachEntry, Job, Setting, Submitted, Trace, gave, is_of_job, is_shared, job_numbered, no_effects, reply_to, submitted, waiting_call}
-use Rattle.sl_trace.specs.declared.command.Command.TheVariants.{Ask, HostStatus, InqLockspace, RemLockspace, SetLvb}
+use Rattle.sl_trace.specs.Traces.{EachEntry, Job, Setting, Submitted, Trace, gave, is_of_job, is_shared, is_stopping, job_numbered, no_effects, reply_to, submitted, waiting_call}
+use Rattle.sl_trace.specs.declared.command.Command.TheVariants.{AddLockspace, Ask, GetLvb, HostStatus, InqLockspace, Release, RemLockspace, SetLvb}
 use Rattle.sl_trace.specs.declared.command.Command.{Command}
 use Rattle.sl_trace.specs.declared.command.LockspaceArg.{LockspaceArg}
 use Rattle.sl_trace.specs.declared.command.ResourceArg.{ResourceArg}
+use Rattle.sl_trace.specs.declared.effects.Effects.{Effects}
 use Rattle.sl_trace.specs.declared.effects.Entry.{Entry}
 use Rattle.sl_trace.specs.declared.effects.Grant.{Grant}
 use Rattle.sl_trace.specs.declared.effects.JobReply.{JobReply}
@@ -43,9 +44,9 @@ use Rattle.sl_trace.specs.declared.reply.Reply.TheVariants.{Ahead, BadCommand as
 use Rattle.sl_trace.specs.declared.reply.Reply.{Reply}
 use Rattle.sl_words.specs.Bounds.{record_numbers}
 use Rattle.sl_words.specs.Words.{present}
-use Rattle.std.specs.Prelude.{Contains, Err, IsFalse, IsSomeAnd, IsTrue, List, None, Ok, Option, Some, bytes_eq, false, is_none, length, map, option_and_then, option_map, position, ℕ, ◌&&◌, ◌++◌, ◌+◌, ◌<◌, ◌==◌, ◌∷◌, ◌≡◌, ◌≢◌, ◌≤◌, ◌⊎◌}
+use Rattle.std.specs.Prelude.{AllPairs, Bool, Contains, Err, IsFalse, IsSome, IsSomeAnd, IsTrue, List, None, Ok, Option, Some, bytes_eq, false, filter, is_none, length, map, option_and_then, option_map, position, true, ℕ, ◌&&◌, ◌++◌, ◌+◌, ◌<◌, ◌==◌, ◌∷◌, ◌≡◌, ◌≢◌, ◌≤◌, ◌⊎◌}
 
--- The trace after the entry that gives the reply, and the answer that the entry brought, if any.
+-- Where a reply is given: the trace before its entry, the entry, the job.
 pub record Answering : Type 0 where
   pub setting : Setting
   pub past : Trace
@@ -56,9 +57,15 @@ pub record Answering : Type 0 where
 abbrev pub after_entry : Answering → Trace
 after_entry x = x.entry ∷ x.past
 
--- What the trace is before the command or the answer has had an effect.
+-- What the trace is where the entry's input is looked at: the jobs that the step has stopped before it are stopped.
 abbrev pub before_entry : Answering → Trace
-before_entry x = record { reading = x.entry.reading; input = Wake; effects = no_effects } ∷ x.past
+before_entry x =
+    let fx : Effects = x.entry.effects in
+    record {
+      reading = x.entry.reading;
+      input = Wake;
+      effects = record no_effects { replies = filter (λ a. is_stopping a.reply) fx.replies };
+    } ∷ x.past
 
 -- The entry answers this call of the job.
 pub record AnswersCall (x : Answering) (c : Submitted) (answer : Answer) : Type 0 where
@@ -93,10 +100,23 @@ lockspace_arg (InqLockspace a) = Some a
 lockspace_arg (HostStatus a) = Some a
 lockspace_arg c = None
 
+-- Whether a command joins a lockspace.
+abbrev pub is_joining_command : Command → Bool
+is_joining_command (AddLockspace a) = true
+is_joining_command c = false
+
+-- Whether a command is one of a process that holds a resource.
+abbrev pub is_holders_command : Command → Bool
+is_holders_command (Release r p) = true
+is_holders_command (GetLvb r p) = true
+is_holders_command (SetLvb r p bytes) = true
+is_holders_command c = false
+
 -- None of that name, or one with another id, path or offset.
 abbrev pub IsNoSession : Answering → Type 0
 IsNoSession x =
-    (the_session x ≡ None) ⊎ WithSession x (λ s. job_command x (λ c. IsSomeAnd (lockspace_arg c) (λ a. IsFalse (is_session_arg s a))))
+    job_command x (λ c. IsFalse (is_joining_command c) × IsSome (lockspace_named c)
+    × ((the_session x ≡ None) ⊎ WithSession x (λ s. IsSomeAnd (lockspace_arg c) (λ a. IsFalse (is_session_arg s a)))))
 
 -- What is said of the resource that the job's command names.
 abbrev pub WithSpot : Answering → (ResourceArg → Spot → Type 0) → Type 0
@@ -146,11 +166,15 @@ ReadsBlocks x P =
     × (blocks_given x.setting.layout c ≡ Some blocks) × (lease_calls x.setting (after_entry x) s (spot_of_call x.setting.layout c) ≡ later ++ c ∷ before)
     × (own_block x.setting.layout s.id (c ∷ before) ≡ Some own) × P s c blocks own))
 
+-- The blocks that a phase of the ballot read stop it.
+abbrev pub IsStopRead : Answering → Stop → Type 0
+IsStopRead x stop = ReadsBlocks x (λ s c blocks own. IsTrue (is_phase_read c) × (stop_of own blocks ≡ Some stop))
+
 -- At the read of the area the least torn block; at a later read the least of another host.
 abbrev pub IsTornBlockRead : Answering → ℕ → Type 0
 IsTornBlockRead x host =
     AnswersRead x (λ c bytes. IsTrue (is_at Area_read c) × (option_map (λ k. k + 1) (position is_none (area_blocks x.setting.layout bytes)) ≡ Some host))
-    ⊎ ReadsBlocks x (λ s c blocks own. stop_of own blocks ≡ Some (BlockTorn host))
+    ⊎ IsStopRead x (BlockTorn host)
 
 -- The read of phase 2 ended the job's ballot with this session.
 abbrev pub EndsWith : Answering → Session → Submitted → List (Option Block) → Block → ℕ → Owner → Type 0
@@ -177,11 +201,8 @@ BeginsAt x s c blocks own n =
 -- A block of phase 1's read has a shared mode that isn't over.
 abbrev pub IsSharedRead : Answering → Owner → Type 0
 IsSharedRead x o = ReadsBlocks x (λ s c blocks own.
-    IsTrue (is_at Phase1_read c) × (b : Block) × (shared_elsewhere (known_here x s c) blocks ≡ Some b) × (b.host ≡ o.id) × (b.mode_gen ≡ o.generation))
-
--- The blocks that were read stop the ballot.
-abbrev pub IsStopRead : Answering → Stop → Type 0
-IsStopRead x stop = ReadsBlocks x (λ s c blocks own. stop_of own blocks ≡ Some stop)
+    IsTrue (is_at Phase1_read c) × job_command x (λ a. wants_shared a ≡ false) × (stop_of own blocks ≡ None) × (b : Block)
+    × (shared_elsewhere (known_here x s c) blocks ≡ Some b) × (b.host ≡ o.id) × (b.mode_gen ≡ o.generation))
 
 -- ---- limits
 
@@ -189,20 +210,27 @@ IsStopRead x stop = ReadsBlocks x (λ s c blocks own. stop_of own blocks ≡ Som
 abbrev pub next_number : Setting → Session → ℕ → Block → List Block → ℕ
 next_number st s n own read = next_mbal st.layout.hosts s.id (map (λ b. b.mbal) (in_instance n (own ∷ read)))
 
+-- One more lease, holder or child would pass its limit, the first that fits.
+abbrev pub MeetsLimit : Answering → Limited → Type 0
+MeetsLimit x which =
+    IsAtCommand x × WithSession x (λ s. job_command x (λ c. IsTrue (is_asking_lease c) × WithSpot x (λ r at.
+    limit_met x.setting (before_entry x) s at (is_program c) ≡ Some which)))
+
 -- The count, or the number to be written, would pass its limit.
 abbrev pub IsLimit : Answering → Limited → Type 0
-IsLimit x Lockspaces = IsAtCommand x × (most_lockspaces ≤ length (present_sessions x.setting (before_entry x)))
-IsLimit x Resources = IsAtCommand x × (most_resources ≤ resource_count x.setting (before_entry x))
-IsLimit x Holders = IsAtCommand x × (most_holders ≤ holder_count x.setting (before_entry x))
-IsLimit x Children = IsAtCommand x × (most_children ≤ child_count x.setting (before_entry x))
+IsLimit x Lockspaces =
+    IsAtCommand x × job_command x (λ c. IsTrue (is_joining_command c)) × (most_lockspaces ≤ length (present_sessions x.setting (before_entry x)))
+IsLimit x Resources = MeetsLimit x Resources
+IsLimit x Holders = MeetsLimit x Holders
+IsLimit x Children = MeetsLimit x Children
 IsLimit x GenLimit =
     JoinRead x DecidingRead (λ s bytes. (d : DeltaRec) × (delta_in (record_in x.setting.layout bytes) ≡ Some d) × (record_numbers ≤ d.generation + 1))
 IsLimit x SeqLimit =
     JoinRead x DecidingRead (λ s bytes. (d : DeltaRec) × (delta_in (record_in x.setting.layout bytes) ≡ Some d) × (record_numbers ≤ d.seq + 1))
     ⊎ JoinRead x VerifyRead (λ s bytes. (d : DeltaRec) × (claim_of (calls_of x.past s) ≡ Some d) × (record_numbers ≤ d.seq + 1))
     ⊎ (IsAtCommand x × WithSession x (λ s. (a : LockspaceArg) × job_command x (λ c. c ≡ RemLockspace a) × (record_numbers ≤ last_seq (before_entry x) s + 1)))
-    ⊎ (IsAtCommand x × WithSession x (λ s. WithSpot x (λ r at. IsSomeAnd (exclusive_on (before_entry x) s at) (λ g.
-    record_numbers ≤ next_value_seq x.setting (before_entry x) s at g.lver))))
+    ⊎ (IsAtCommand x × WithSession x (λ s. WithSpot x (λ r at. (p : ℕ) × (bytes : List ℕ) × job_command x (λ c. c ≡ SetLvb r p bytes)
+    × IsSomeAnd (exclusive_on (before_entry x) s at) (λ g. record_numbers ≤ next_value_seq x.setting (before_entry x) s at g.lver))))
 IsLimit x LverLimit = ReadsBlocks x (λ s c blocks own. (n : ℕ) × BeginsAt x s c blocks own n × (record_numbers ≤ n))
 IsLimit x MbalLimit = ReadsBlocks x (λ s c blocks own. (n : ℕ) × BeginsAt x s c blocks own n × (record_numbers ≤ next_number x.setting s n own (present blocks)))
 
@@ -257,8 +285,8 @@ CausedBy x (IoFault call) = (c : Submitted) × AnswersCall x c Failed × (c.call
 CausedBy x (Pending call) =
     IsAtCommand x × WithSpot x (λ r at. pending_call x.setting (before_entry x) at ≡ Some call)
 CausedBy x (Busy process) =
-    IsAtCommand x × job_command x (λ c. WithSpot x (λ r at. busy_process (before_entry x) at (process_named c) (wants_shared c) ≡ Some process))
-CausedBy x NotHeld = IsAtCommand x × WithSession x (λ s. job_command x (λ c. WithSpot x (λ r at.
+    IsAtCommand x × job_command x (λ c. IsTrue (is_asking_lease c) × WithSpot x (λ r at. busy_process (before_entry x) at (process_named c) (wants_shared c) ≡ Some process))
+CausedBy x NotHeld = IsAtCommand x × WithSession x (λ s. job_command x (λ c. IsTrue (is_holders_command c) × WithSpot x (λ r at.
     (g : Grant) → Contains (holdings_on (before_entry x) s at) g → process_named c ≡ Some g.process →
     (p : ℕ) × (bytes : List ℕ) × (c ≡ SetLvb r p bytes) × IsTrue (is_shared g.mode))))
 CausedBy x SpawnFault = (p : ℕ) × (x.entry.input ≡ Spawned p false) × (job_of_start x.past p ≡ Some x.job.number)
@@ -271,7 +299,8 @@ CausedBy x (WrongDelta lockspace id) = IsWrongDelta x lockspace id
 CausedBy x (NoProcess p) =
     IsExited x p ⊎ (IsAtCommand x × IsFalse (may_act (before_entry x) p) × job_command x (λ c. process_named c ≡ Some p))
 CausedBy x (Joined generation) =
-    IsAtCommand x × WithSession x (λ s. IsTrue (is_active x.setting (before_entry x) s) × (generation_of (before_entry x) s ≡ generation))
+    IsAtCommand x × job_command x (λ c. IsTrue (is_joining_command c))
+    × WithSession x (λ s. IsTrue (is_active x.setting (before_entry x) s) × (generation_of (before_entry x) s ≡ generation))
 CausedBy x r = IsTrue (is_ok_reply r)
 
 -- Each reply of an entry is that of a running job, one for a job, and has its cause.
@@ -281,7 +310,7 @@ pub record AnswersWell (st : Setting) (past : Trace) (e : Entry) : Type 0 where
       (j : Job) × (job_numbered st (e ∷ past) a.job ≡ Some j) × (reply_to past a.job ≡ None)
       × CausedBy (record { setting = st; past = past; entry = e; job = j }) a.reply
   -- two replies in one step would be two answers
-  pub once : (a b : JobReply) → Contains e.effects.replies a → Contains e.effects.replies b → a.job ≡ b.job → a ≡ b
+  pub once : AllPairs (λ a b. a.job ≢ b.job) e.effects.replies
 
 -- Each reply has its cause.
 abbrev pub IsCaused : Setting → Trace → Type 0

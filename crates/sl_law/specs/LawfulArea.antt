@@ -1,7 +1,7 @@
 -- When and where a session may write on a resource's area, and read its blocks.
 use Rattle.sl_area.specs.Places.{block_offset, leader_of, leader_offset, request_offset, value_offset}
 use Rattle.sl_law.specs.Saying.{EachCall}
-use Rattle.sl_leases.specs.Leases.{is_block_read, is_leader_of, is_on, lease_step, spot_of_call}
+use Rattle.sl_leases.specs.Leases.{is_block_read, is_leader_of, is_on, spot_of_call}
 use Rattle.sl_sector.specs.declared.sector.Leader.{Leader}
 use Rattle.sl_sector.specs.declared.sector.Rec.TheVariants.{BlockIs, DeltaIs, LeaderIs, RequestIs, ValueIs}
 use Rattle.sl_sector.specs.declared.sector.Rec.{Rec}
@@ -85,9 +85,15 @@ IsLeaseRead st at c Phase1Read = IsBlockRead st at c
 IsLeaseRead st at c Phase2Read = IsBlockRead st at c
 IsLeaseRead st at c step = IsTrue (is_write c.call.op)
 
--- A call for a lease reads at its step's place, or writes.
+-- A read at its place, by what it is for.
+abbrev pub IsRightRead : Setting → Spot → Submitted → Purpose → Type 0
+IsRightRead st at c (Lease work step) = IsLeaseRead st at c step
+IsRightRead st at c (AskRead j) = (c.call.offset ≡ at.base) × (c.call.op ≡ ReadSectors 2)
+IsRightRead st at c p = Unit {0}
+
+-- A call on an area that is to read reads at its place; another of a lease writes.
 abbrev pub LawfulLeaseRead : Setting → Submitted → Type 0
-LawfulLeaseRead st c = elim (lease_step c.call.purpose) [ None ↦ Unit {0} | Some p ↦ IsLeaseRead st (spot_of_call st.layout c) c p.1 ]
+LawfulLeaseRead st c = IsRightRead st (spot_of_call st.layout c) c c.call.purpose
 
 -- Lawful work on areas.
 pub record LawfulArea (st : Setting) (past : Trace) (e : Entry) : Type 0 where

@@ -1,24 +1,25 @@
 -- How a session may read and write its id's sector: watch, decide, claim, wait, verify, renew, free.
 use Rattle.sl_area.specs.Layouts.{record_in, sector_with}
-use Rattle.sl_law.specs.Saying.{EachCall, newest_moves, older}
+use Rattle.sl_law.specs.Saying.{EachCall, EachSession, newest_moves, older}
 use Rattle.sl_sector.specs.Bitmaps.{no_bits}
 use Rattle.sl_sector.specs.Spelling.{delta_in}
 use Rattle.sl_sector.specs.declared.sector.DeltaRec.{DeltaRec}
 use Rattle.sl_sector.specs.declared.sector.DeltaState.TheVariants.{Claimed, Free, Live}
 use Rattle.sl_sector.specs.declared.sector.Rec.TheVariants.{DeltaIs}
 use Rattle.sl_sessions.specs.Deltas.{claim_of, delta_of_session, delta_record, own_offset}
-use Rattle.sl_sessions.specs.Sessions.{Deciding, Looking, Session, Standing, Verifying, Waiting, calls_of, delta_written, generation_of, has_open_delta, holdings_of, is_delta_purpose, is_join_call, is_leaving, is_survey_purpose, join_call, last_seq, open_calls_of, recovery_of, session_named, stage_of}
+use Rattle.sl_sessions.specs.Sessions.{Deciding, Looking, Session, Standing, Verifying, Waiting, calls_of, delta_written, generation_of, has_open_delta, holdings_of, is_delta_purpose, is_join_call, is_leaving, is_survey_purpose, join_call, joined_after, last_seq, open_calls_of, recovery_of, session_named, stage_of}
 use Rattle.sl_time.specs.Times.{dead, fail, join_max, take_over}
 use Rattle.sl_trace.specs.Connections.{is_registered, registers_with}
 use Rattle.sl_trace.specs.Traces.{Answered, Setting, Submitted, Trace, gave, is_ok_answer, same_place}
 use Rattle.sl_trace.specs.declared.effects.Entry.{Entry}
 use Rattle.sl_trace.specs.declared.effects.JoinStep.TheVariants.{ClaimWrite, DecidingRead, FirstRead, FirstRenewal, VerifyRead, WatchRead}
 use Rattle.sl_trace.specs.declared.effects.JoinStep.{JoinStep}
-use Rattle.sl_trace.specs.declared.effects.Op.TheVariants.{ReadSectors, WriteRecord}
+use Rattle.sl_trace.specs.declared.effects.Op.TheVariants.{ReadSectors}
 use Rattle.sl_trace.specs.declared.effects.Purpose.TheVariants.{Joining, Leaving, Renewal, Survey}
 use Rattle.sl_trace.specs.declared.effects.Purpose.{Purpose}
+use Rattle.sl_trace.specs.declared.input.Answer.TheVariants.{Written}
 use Rattle.std.specs.List.{list_any}
-use Rattle.std.specs.Prelude.{Bool, Contains, IsTrue, List, None, Some, false, not, true, [], ℕ, ◌&&◌, ◌+◌, ◌==◌, ◌≡◌, ◌≤◌, ◌⊎◌}
+use Rattle.std.specs.Prelude.{Bool, Contains, IsTrue, List, None, Some, false, not, [], ℕ, ◌&&◌, ◌+◌, ◌∷◌, ◌≡◌, ◌≤◌, ◌⊎◌}
 
 -- A read of the joining that gave these bytes.
 abbrev pub Gave : Trace → Session → JoinStep → List ℕ → Submitted → Type 0
@@ -30,11 +31,14 @@ IsRegistering st es s c = IsTrue (list_any (registers_with s.lockspace (c.readin
 
 -- The first read of a joining.
 pub record LawfulLook (st : Setting) (es : Trace) (s : Session) (c : Submitted) : Type 0 where
+  -- a write in the place of a read would be under no law
+  pub reads : c.call.op ≡ ReadSectors 1
   -- two sessions of one daemon in one lockspace would share a name, and could take each other's record for their own
   pub apart : session_named st es s.lockspace ≡ None
 
 -- A further read of the watched sector.
 pub record LawfulWatch (st : Setting) (es : Trace) (s : Session) (c : Submitted) : Type 0 where
+  pub reads : c.call.op ≡ ReadSectors 1
   -- once the deciding read is out nothing is watched any more
   pub looking : stage_of es s ≡ Looking
 
@@ -47,6 +51,7 @@ WatchOver st es s bytes first found =
 
 -- The deciding read.
 pub record LawfulDeciding (st : Setting) (es : Trace) (s : Session) (c : Submitted) : Type 0 where
+  pub reads : c.call.op ≡ ReadSectors 1
   -- it comes once, after the watch
   pub looking : stage_of es s ≡ Looking
   pub bytes : List ℕ
@@ -79,6 +84,7 @@ pub record LawfulClaim (st : Setting) (es : Trace) (s : Session) (c : Submitted)
 
 -- The verify read.
 pub record LawfulVerify (st : Setting) (es : Trace) (s : Session) (c : Submitted) : Type 0 where
+  pub reads : c.call.op ≡ ReadSectors 1
   -- it comes once, after the claim was answered ok
   pub waiting : stage_of es s ≡ Waiting
   pub claim : Submitted
@@ -150,16 +156,23 @@ LawfulDeltaCall st es s c Survey = LawfulSurvey st es s c
 LawfulDeltaCall st es s c (Leaving j) = LawfulFree st es s c
 LawfulDeltaCall st es s c p = delta_written c ≡ None
 
--- Whether a read of the joining, or a write, is on the session's own sector alone.
+-- Whether a call is at the session's own sector.
 abbrev pub is_on_own_sector : Setting → Session → Submitted → Bool
-is_on_own_sector st s c =
-    same_place c.call.path c.call.offset s.path (own_offset st s)
-    && elim c.call.op [ ReadSectors n ↦ n == 1 | WriteRecord r ↦ true ]
+is_on_own_sector st s c = same_place c.call.path c.call.offset s.path (own_offset st s)
+
+-- A session joins, after so many entries, by the answer ok of its first renewal.
+pub record LawfulJoin (es : Trace) (s : Session) (k : ℕ) : Type 0 where
+  pub renewal : Submitted
+  pub answer : Answered
+  pub first : join_call (calls_of es s) FirstRenewal ≡ Some renewal
+  pub done : (renewal.answer ≡ Some answer) × (answer.answer ≡ Written) × (answer.at + 1 ≡ k)
 
 -- Lawful delta writing.
 pub record LawfulDelta (st : Setting) (past : Trace) (e : Entry) : Type 0 where
   pub calls : EachCall st (λ es s c. LawfulDeltaCall st es s c c.call.purpose) past e
   -- a record at another place is another id's
   pub placed : EachCall st (λ es s c. IsTrue (is_delta_purpose c.call.purpose && not (is_survey_purpose c.call.purpose)) → IsTrue (is_on_own_sector st s c)) past e
+  -- one that joined by its claim alone, or by any earlier reply, could share its generation with another
+  pub joins : EachSession st (λ s. (j k : ℕ) → s.job ≡ Some j → joined_after (e ∷ past) s ≡ Some k → LawfulJoin (e ∷ past) s k) (e ∷ past)
   -- two writes of one sector could land in the other order
   pub alone : EachCall st (λ es s c. IsTrue (is_delta_purpose c.call.purpose) → has_open_delta es s ≡ false) past e

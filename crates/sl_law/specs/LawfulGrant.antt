@@ -1,4 +1,5 @@
 -- When a process may be granted a resource.
+use Rattle.sl_area.specs.Places.{is_base}
 use Rattle.sl_leases.specs.Leases.{freed, leader_written, lease_calls}
 use Rattle.sl_sector.specs.declared.sector.Leader.{Leader}
 use Rattle.sl_sessions.specs.Sessions.{Session, is_active, session_numbered}
@@ -22,6 +23,8 @@ pub record LawfulGrantTo (st : Setting) (es : Trace) (s : Session) (g : Grant) :
   -- a session in recovery or leaving may be over before the holder knows
   pub active : IsTrue (is_active st es s)
   pub lockspace : g.lockspace ≡ s.lockspace
+  -- from another offset on the calls of two areas would count as one lease's
+  pub placed : IsTrue (is_base st.layout g.offset)
   -- two processes of one machine conflict as those of two do; what ended in this step doesn't count
   pub alone : (h : Grant) → Contains (holdings es) h → IsTrue (same_place h.path h.offset g.path g.offset) →
       (h.process ≡ g.process → ⊥) → IsTrue (is_shared h.mode && is_shared g.mode)

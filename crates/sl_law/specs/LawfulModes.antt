@@ -2,7 +2,7 @@
 use Rattle.sl_law.specs.LawfulBlock.{ReadAfter}
 use Rattle.sl_law.specs.LawfulLeader.{HasWon}
 use Rattle.sl_law.specs.Saying.{EachCall}
-use Rattle.sl_leases.specs.Leases.{Mode_set, Phase1_write, block_of_host, block_written, blocks_given, ended_ballot, freed, has_shared_on, is_at, is_block_read, is_free_write, lease_calls, spot_of_call}
+use Rattle.sl_leases.specs.Leases.{Mode_set, Phase1_write, block_of_host, block_written, blocks_given, ended_ballot, freed, has_shared_on, holdings_on, is_at, is_block_read, is_free_write, lease_calls, spot_of_call}
 use Rattle.sl_sector.specs.declared.sector.Block.{Block}
 use Rattle.sl_sessions.specs.Sessions.{Session, generation_of, me, session_numbered}
 use Rattle.sl_sessions.specs.Watching.{counted_over}
@@ -14,7 +14,7 @@ use Rattle.sl_trace.specs.declared.input.Answer.TheVariants.{Written}
 use Rattle.sl_words.specs.Words.{present}
 use Rattle.std.specs.Prelude.{Bool, Contains, IsSome, IsTrue, List, MatchBool, Option, Some, false, length, nat_le, true, [], ℕ, ◌&&◌, ◌++◌, ◌||◌, ◌↔◌, ◌∷◌, ◌≡◌, ◌≤◌, ◌⊎◌}
 
--- Whether the session held the resource shared after each of the entries from number `since` up to the newest but one.
+-- Whether the session held the resource shared before some entry from number `since` on.
 abbrev pub shared_since : ℕ → Trace → Session → Spot → Bool
 shared_since since [] s at = false
 shared_since since (e ∷ es) s at = nat_le since (length es) && has_shared_on es s at || shared_since since es s at
@@ -57,9 +57,13 @@ pub record SharedByBallot (st : Setting) (es : Trace) (s : Session) (at : Spot) 
   -- a block without the mode in between would hide it again
   pub kept : AllShared st es s at mode
 
--- A shared grant: beside a shared holding that the session had before the step, or by a ballot.
+-- The session holds the resource shared under this instance.
+abbrev pub HoldsSharedUnder : Trace → Session → Spot → ℕ → Type 0
+HoldsSharedUnder es s at n = (h : Grant) × Contains (holdings_on es s at) h × IsTrue (is_shared h.mode) × (h.lver ≡ n)
+
+-- A shared grant: beside a shared holding that the session had before the step, under its instance, or by a ballot.
 abbrev pub LawfulSharedGrant : Setting → Trace → Trace → Session → Spot → ℕ → Type 0
-LawfulSharedGrant st past es s at n = (has_shared_on past s at ≡ true) ⊎ SharedByBallot st es s at n
+LawfulSharedGrant st past es s at n = HoldsSharedUnder past s at n ⊎ SharedByBallot st es s at n
 
 -- Each other host's shared mode in these blocks was counted as over, at whatever entry so far; no block of another host is torn.
 pub record NoneShared (st : Setting) (es : Trace) (s : Session) (blocks : List (Option Block)) : Type 0 where

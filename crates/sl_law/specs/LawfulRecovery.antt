@@ -2,6 +2,7 @@
 use Rattle.sl_law.specs.Saying.{EachCall, EachSession, IsAnsweredAt}
 use Rattle.sl_leases.specs.Jobs.{jobs_of_session}
 use Rattle.sl_sessions.specs.Sessions.{Begun, Session, calls_of, free_write, has_open_write, holders_of, holdings_of, is_joined, is_leaving, is_recovering, leaves, leaving_job, leaving_of, recovers, recovery_of}
+use Rattle.sl_trace.specs.EffectTexts.{is_ok_reply}
 use Rattle.sl_trace.specs.Traces.{Job, Setting, Submitted, Trace, is_write, newest_reading}
 use Rattle.sl_trace.specs.declared.effects.Entry.{Entry}
 use Rattle.sl_trace.specs.declared.effects.Purpose.TheVariants.{Leaving, Renewal}
@@ -11,7 +12,7 @@ use Rattle.sl_trace.specs.declared.effects.Signal.{Signal}
 use Rattle.sl_trace.specs.declared.input.Answer.{Answer}
 use Rattle.sl_trace.specs.declared.reply.Reply.{Reply}
 use Rattle.std.specs.List.{list_any}
-use Rattle.std.specs.Prelude.{Bool, Contains, IsTrue, None, Option, Some, false, is_some, length, nat_le, true, [], ℕ, ◌&&◌, ◌+◌, ◌<◌, ◌==◌, ◌||◌, ◌∷◌, ◌≡◌, ◌≤◌, ◌⊎◌}
+use Rattle.std.specs.Prelude.{Bool, Contains, IsFalse, IsTrue, None, Option, Some, false, is_some, length, nat_le, true, [], ℕ, ◌&&◌, ◌+◌, ◌<◌, ◌==◌, ◌||◌, ◌∷◌, ◌≡◌, ◌≤◌, ◌⊎◌}
 
 -- The signal goes to the process in this entry.
 abbrev pub IsSent : Entry → ℕ → Signal → Type 0
@@ -23,7 +24,7 @@ pub record StopsSession (st : Setting) (past : Trace) (e : Entry) (s : Session) 
   pub term : (p : ℕ) → Contains (holders_of past s) p → IsSent e p Term
   -- a job that went on could write or be granted
   pub refused : (j : Job) → Contains (jobs_of_session st past s) j → (Some j.number ≡ kept → ⊥) →
-      (r : Reply) × Contains e.effects.replies (record { job = j.number; reply = r })
+      (r : Reply) × Contains e.effects.replies (record { job = j.number; reply = r }) × IsFalse (is_ok_reply r)
 
 -- The process was signalled kill in an entry from number i on.
 abbrev pub was_killed : ℕ → ℕ → Trace → Bool

@@ -4,10 +4,10 @@ use Rattle.sl_area.specs.Places.{value_offset}
 use Rattle.sl_law.specs.LawfulLeader.{open_writes_on}
 use Rattle.sl_law.specs.Saying.{EachCall, IsAnsweredAt}
 use Rattle.sl_leases.specs.Counts.{next_value_seq}
-use Rattle.sl_leases.specs.Leases.{exclusive_on, holdings_on, is_on, spot_of_call, value_written}
+use Rattle.sl_leases.specs.Leases.{exclusive_on, holdings_on, is_on, known, spot_of_call, value_written}
 use Rattle.sl_sector.specs.Spelling.{value_in}
 use Rattle.sl_sector.specs.declared.sector.ValueRec.{ValueRec}
-use Rattle.sl_sessions.specs.Sessions.{Session, calls_of, is_active}
+use Rattle.sl_sessions.specs.Sessions.{Session, calls_of, is_active, session_numbered}
 use Rattle.sl_trace.specs.Traces.{Setting, Submitted, Trace, is_write}
 use Rattle.sl_trace.specs.declared.effects.Entry.{Entry}
 use Rattle.sl_trace.specs.declared.effects.Grant.{Grant}
@@ -54,6 +54,8 @@ pub record LawfulValueReply (st : Setting) (past : Trace) (e : Entry) (job lver 
   pub sector : List ℕ
   pub value : ValueRec
   pub of_session : Contains (calls_of (e ∷ past) session) call × (call.call.purpose ≡ ValueRead job)
+  -- any other record with its number would be joined, active or not, at will
+  pub known : session_numbered st (e ∷ past) call.call.session ≡ Some session
   -- what is told is what was read
   pub told : IsAnsweredAt (length past) call (Read sector) × (value_in (record_in st.layout sector) ≡ Some value)
       × (value.lver ≡ lver) × (value.seq ≡ seq) × (value.bytes ≡ bytes)

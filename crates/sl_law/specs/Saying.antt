@@ -6,23 +6,17 @@ use Rattle.sl_trace.specs.declared.effects.Effects.{Effects}
 use Rattle.sl_trace.specs.declared.effects.Entry.{Entry}
 use Rattle.sl_trace.specs.declared.effects.Move.{Move}
 use Rattle.sl_trace.specs.declared.input.Answer.{Answer}
-use Rattle.std.specs.Prelude.{Contains, List, Some, drop, filter, length, nat_lt, [], ℕ, ◌∷◌, ◌≡◌}
+use Rattle.std.specs.Prelude.{Contains, List, Some, drop, length, slice_get, take, [], ℕ, ◌∷◌, ◌≡◌}
 
--- The entry with only those of its calls that come before this one; its other effects stand before all its calls.
-abbrev pub cut_before : Call → Entry → Entry
-cut_before c e =
-    let fx : Effects = e.effects in
-    record e { effects = record fx { calls = filter (λ d. nat_lt d.number c.number) fx.calls } }
-
--- The trace as it stood when a call of the entry after it was submitted.
-abbrev pub at_call : Trace → Entry → Call → Trace
-at_call past e c = cut_before c e ∷ past
+-- The entry with only its first k calls; its other effects stand before all its calls.
+abbrev pub cut_at : ℕ → Entry → Entry
+cut_at k e = let fx : Effects = e.effects in record e { effects = record fx { calls = take k fx.calls } }
 
 -- What is said of each call of an entry: of the trace as it stood, the call's session, and the call.
 abbrev pub EachCall : Setting → (Trace → Session → Submitted → Type 0) → Trace → Entry → Type 0
 EachCall st P past e =
-    (c : Call) (s : Session) → Contains e.effects.calls c → session_numbered st (e ∷ past) c.session ≡ Some s →
-    P (at_call past e c) s (new_call (length past) e.reading c)
+    (k : ℕ) (c : Call) (s : Session) → slice_get e.effects.calls k ≡ Some c → session_numbered st (e ∷ past) c.session ≡ Some s →
+    P (cut_at k e ∷ past) s (new_call (length past) e.reading c)
 
 -- The entry after so many others brings this answer to the call.
 abbrev pub IsAnsweredAt : ℕ → Submitted → Answer → Type 0

@@ -76,7 +76,8 @@ is_starving w m = some_is (λ a. a.up && nat_le (a.kept.moment + 550) w.moment) 
 -- The word of resource k.
 abbrev pub gen_resource_word : ℕ → Bool → List ℕ
 gen_resource_word k shared =
-    moded_word (record { lockspace = codes "ls"; name = codes "r" ++ decimal k; path = gen_path; offset = k * mebibyte }) shared
+    let r : ResourceLine = gen_resource k in
+    moded_word (record { lockspace = r.lockspace; name = r.name; path = r.path; offset = r.offset }) shared
 
 -- The candidates that name a call, where there is one.
 abbrev pub with_call : Option ℕ → (ℕ → Event) → List Event

@@ -1,14 +1,15 @@
 -- What the program promises of the bytes that it reads and writes.
-use Rattle.sl_due.specs.Due.{IsHostTrace}
+use Rattle.sl_due.specs.Due.{IsHostTrace, NoIdleJob}
 use Rattle.sl_law.specs.Caused.{IsCaused}
 use Rattle.sl_law.specs.Lawful.{Lawful}
-use Rattle.sl_report.specs.Generator.{IsGenerated, gen_header, gen_line}
+use Rattle.sl_report.specs.Generator.{IsGenerated, gen_header, gen_line, gen_lines}
 use Rattle.sl_report.specs.Languages.{Language}
 use Rattle.sl_report.specs.Reports.{end_line, no_counts, run_counts}
 use Rattle.sl_report.specs.ScheduleLines.{refusal_line}
 use Rattle.sl_report.specs.Schedules.{Ending, Follows, Header_read, Header_refused, NumberedLine, event_lines_of, numbered_lines, read_header, replay_lines, report_of, status_of}
+use Rattle.sl_run.specs.Headers.{IsHeader}
 use Rattle.sl_run.specs.Quiet.{QuietIsGranted}
-use Rattle.sl_run.specs.Runs.{EachDaemon, Happening, IsRun}
+use Rattle.sl_run.specs.Runs.{AfterEachFront, EachDaemon, Happening, IsRun}
 use Rattle.sl_run.specs.Safety.{SafeRun, world_at}
 use Rattle.sl_run.specs.Values.{ValuesAreLast}
 use Rattle.sl_run.specs.Worlds.{Program, world_with}
@@ -16,7 +17,7 @@ use Rattle.sl_run.specs.declared.event.Refusal.{Refusal}
 use Rattle.sl_run.specs.declared.header.Header.{Header}
 use Rattle.sl_text.specs.Forms.{as_bytes}
 use Rattle.std.specs.Int.{is_in_range}
-use Rattle.std.specs.Prelude.{Bool, IsTrue, List, MatchBool, length, nat_le, [], ℕ, ◌++◌, ◌∷◌, ◌≡◌}
+use Rattle.std.specs.Prelude.{Bool, IsTrue, List, MatchBool, length, nat_le, [], ℕ, ◌++◌, ◌==◌, ◌↔◌, ◌∷◌, ◌≡◌, ◌≤◌}
 
 -- A run as it should be: each daemon does what is due, so its trace is lawful and each refusal has its cause;
 -- at no moment do two running holders conflict; values read are the last ones; a quiet acquire is granted.
@@ -25,6 +26,8 @@ pub record GoodRun (p : Program) (h : Header) (xs : List Happening) : Type 0 whe
   pub is_due : EachDaemon IsHostTrace (world_at p h xs)
   pub lawful : EachDaemon Lawful (world_at p h xs)
   pub caused : EachDaemon IsCaused (world_at p h xs)
+  -- no job is ever left idle
+  pub busy : AfterEachFront xs (λ now. EachDaemon NoIdleJob (world_at p h now))
   pub safe : SafeRun p h xs
   pub no_conflict : (run_counts (world_with p h) no_counts xs).conflicts ≡ 0
   pub values : ValuesAreLast (world_at p h xs)
@@ -38,23 +41,30 @@ pub data ReplayOf (lang : Language) (source : List ℕ) : List ℕ → ℕ → T
       read_header lang [] 1 (numbered_lines source) ≡ Header_read h rest → Follows (world_with lang.program h) (event_lines_of lang h rest) xs end →
       GoodRun lang.program h xs → written ≡ as_bytes (report_of lang h xs end) → status ≡ status_of end → ReplayOf lang source written status
 
--- Status 0 or 1 tells that the source was read to its end and the report is whole; 3, 4 and 5 that it is a front of one.
+-- The one text begins the other.
 abbrev pub IsFrontOf : List ℕ → List ℕ → Type 0
 IsFrontOf xs ys = (rest : List ℕ) × (ys ≡ xs ++ rest)
 
--- A report of what the source would have given, of which this much was written.
-abbrev pub ReplayCutShort : Language → List ℕ → List ℕ → Type 0
-ReplayCutShort lang read written =
-    (source report : List ℕ) (status : ℕ) → IsFrontOf read source → ReplayOf lang source report status → IsFrontOf written report
+-- Which sources there may have been: the bytes read, where the source ended with them, else each that begins so.
+abbrev pub MayHaveBeen : Bool → List ℕ → List ℕ → Type 0
+MayHaveBeen ended read source = MatchBool ended (source ≡ read) (IsFrontOf read source)
 
 -- Whether the status tells that all was read and written.
 abbrev pub is_whole_status : ℕ → Bool
 is_whole_status status = nat_le status 1
 
--- What `replay` owes for the bytes that it read, the bytes that it wrote and its status.
-abbrev pub ReplayHeadline : Language → List ℕ → List ℕ → ℕ → Type 0
-ReplayHeadline lang read written status =
-    MatchBool (is_whole_status status) (ReplayOf lang read written status) (IsTrue (is_in_range 3 5 status) × ReplayCutShort lang read written)
+-- What `replay` owes for the bytes that it read, whether the source ended with them, the bytes that it wrote, and its status: with 0 or 1
+-- the whole report, whatever the rest of the source; with 3, 4 and 5 a front of it.
+abbrev pub ReplayHeadline : Language → Bool → List ℕ → List ℕ → ℕ → Type 0
+ReplayHeadline lang ended read written status =
+    MatchBool (is_whole_status status) ((source : List ℕ) → MayHaveBeen ended read source → ReplayOf lang source written status)
+    (IsTrue (is_in_range 3 5 status)
+    × ((source report : List ℕ) (s : ℕ) → MayHaveBeen ended read source → ReplayOf lang source report s → IsFrontOf written report))
+
+-- A header that is read is one that a world may begin with.
+abbrev pub HeadersAreGood : Language → Type 0
+HeadersAreGood lang =
+    (source : List ℕ) (h : Header) (rest : List NumberedLine) → read_header lang [] 1 (numbered_lines source) ≡ Header_read h rest → IsHeader h
 
 -- `gen`: the run of the seed's schedule, of which the last line is printed.
 pub record GenOf (p : Program) (seed hosts events : ℕ) (written : List ℕ) : Type 0 where
@@ -62,6 +72,18 @@ pub record GenOf (p : Program) (seed hosts events : ℕ) (written : List ℕ) : 
   pub events_are : IsGenerated 1 hosts (world_with p (gen_header hosts)) seed run × (length run ≡ events)
   pub good : GoodRun p (gen_header hosts) run
   pub printed : written ≡ as_bytes (gen_line seed hosts events ∷ end_line (run_counts (world_with p (gen_header hosts)) no_counts run) ∷ [])
+
+-- What `gen` owes for the bytes that it wrote and its status.
+abbrev pub GenHeadline : Program → ℕ → ℕ → ℕ → List ℕ → ℕ → Type 0
+GenHeadline p seed hosts events written status =
+    MatchBool (status == 0) (GenOf p seed hosts events written)
+    (IsTrue (is_in_range 4 5 status) × ((report : List ℕ) → GenOf p seed hosts events report → IsFrontOf written report))
+
+-- What is written is the plain program's text: so `gen` has one output, and the program computes it.
+abbrev pub PlainGen : Program → Type 0
+PlainGen p =
+    (seed hosts events : ℕ) → IsTrue (is_in_range 1 16 hosts) → events ≤ 1000000 → (written : List ℕ) →
+    GenOf p seed hosts events written ↔ (written ≡ as_bytes (gen_lines p seed hosts events))
 
 -- The plain program computes the report.
 abbrev pub PlainReplay : Language → Type 0

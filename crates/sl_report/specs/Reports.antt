@@ -43,7 +43,7 @@ pub record Counts : Type 0 where
 abbrev pub no_counts : Counts
 no_counts = record { events = 0; calls = 0; grants = 0; refusals = 0; conflicts = 0 }
 
--- The grants of an event after which two processes hold one resource, not both shared.
+-- The holdings of the other machines.
 abbrev pub held_by_others : World → ℕ → List Holding
 held_by_others w m = filter (λ h. not (h.machine == m)) (world_holdings w)
 

@@ -269,10 +269,6 @@ checked_event sector (Some e) = choose (is_event sector e) e
 
 -- ---- a source as a whole
 
--- A line of at most 4096 bytes.
-abbrev pub is_short : List ℕ → Bool
-is_short line = nat_le (length line) 4096
-
 -- A refusal's words.
 abbrev pub refusal_words : Refusal → List (List ℕ)
 refusal_words Syntax = codes "syntax" ∷ []

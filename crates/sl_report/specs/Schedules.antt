@@ -120,7 +120,7 @@ event_line lang h l =
 abbrev pub event_lines_of : Language → Header → List NumberedLine → List EventLine
 event_lines_of lang h ls = filter_map (event_line lang h) ls
 
--- These happenings are the events of the lines up to the first that is refused.
+-- How a schedule ends: at its end, or at a line that is refused.
 pub data Ending : Type 0 where
   At_end : Ending
   At_line : (number : ℕ) (why : Refusal) → Ending

@@ -3,7 +3,7 @@ use Rattle.sl_area.specs.Layouts.{record_in, sector_with}
 use Rattle.sl_run.specs.Worlds.{Course, Daemon, Dropped, Fate, In_flight, Landed, Machine, Sampling, Stamp, Torn, World, change_machine, content, daemons_on, first_that, flight_of, is_in_flight, is_landed, is_of_running, is_torn_fate, is_write_course, landed_at, machine_at, may_land, mebibyte, names_of, new_daemon, next_numbers, reading_now, resets_after, sector_size, setting_of, stamp_now}
 use Rattle.sl_run.specs.declared.event.Event.TheVariants.{AnswerCall, Crash, Do, DropWrite, ExitOf, GiveCommand, Land, Pass, Reset, Restart, Sample, SpawnedOf, StartDaemon, Tear, Test, WakeUp}
 use Rattle.sl_run.specs.declared.event.Event.{Event}
-use Rattle.sl_run.specs.declared.event.Refusal.TheVariants.{LimitMoment, MissingCall, MissingDaemon, MissingDown, MissingFlight, MissingLanding, MissingMachine, MissingPlace, MissingReset, MissingSample, MissingSpawn, MissingUp, PremiseDrift, PremiseLanding, PremiseName, PremiseTorn, PremiseWatchdog}
+use Rattle.sl_run.specs.declared.event.Refusal.TheVariants.{LimitMoment, MissingCall, MissingDaemon, MissingDown, MissingFlight, MissingLanding, MissingMachine, MissingPlace, MissingReset, MissingSample, MissingSpawn, MissingUp, PremiseDrift, PremiseLanding, PremiseName, PremiseTorn, PremiseWatchdog, Syntax}
 use Rattle.sl_run.specs.declared.event.Refusal.{Refusal}
 use Rattle.sl_run.specs.declared.header.Header.{Header}
 use Rattle.sl_time.specs.Times.{reading_of}
@@ -20,9 +20,10 @@ use Rattle.sl_trace.specs.declared.input.Input.TheVariants.{Answer as Told, Exit
 use Rattle.sl_trace.specs.declared.input.Input.{Input}
 use Rattle.sl_words.specs.Bounds.{moments}
 use Rattle.sl_words.specs.Words.{choose, some_is}
+use Rattle.std.specs.Int.{is_in_range}
 use Rattle.std.specs.List.{enumerate_from, list_any, range_with_len}
 use Rattle.std.specs.Option.{option_map_or}
-use Rattle.std.specs.Prelude.{Bool, List, None, Option, Some, bytes_eq, drop, false, filter, flat_map, fold, if◌then◌else◌, is_none, is_ok, is_some, length, map, nat_le, nat_lt, not, option_and_then, option_map, slice_index, take, true, [], ℕ, ◌&&◌, ◌*◌, ◌++◌, ◌+◌, ◌-◌, ◌/◌, ◌==◌, ◌||◌, ◌∷◌}
+use Rattle.std.specs.Prelude.{Bool, List, None, Option, Some, bytes_eq, drop, false, filter, flat_map, fold, if◌then◌else◌, is_none, is_ok, is_some, length, map, nat_le, nat_lt, not, option_and_then, option_map, slice_index, take, true, [], ℕ, ◌&&◌, ◌*◌, ◌++◌, ◌+◌, ◌-◌, ◌==◌, ◌||◌, ◌∷◌}
 
 -- ---- what an event needs
 
@@ -40,8 +41,8 @@ abbrev pub is_placed : World → Call → Bool
 is_placed w c = is_disk_sector w c.path (c.offset + (sectors_of c.op - 1) * sector_size w)
 
 -- How many sectors a read hasn't sampled.
-abbrev pub sectors_left : World → Course → ℕ
-sectors_left w f = sectors_of f.call.op - length f.sampled / sector_size w
+abbrev pub sectors_left : Course → ℕ
+sectors_left f = sectors_of f.call.op - length f.samples
 
 -- What a write leaves: its first bytes, then the given ones, then what was there.
 abbrev pub torn_bytes : World → Call → ℕ → List ℕ → List ℕ
@@ -114,7 +115,7 @@ event_tests w (WakeUp m) = on_machine w m (λ a. needs_daemon a ∷ [])
 event_tests w (GiveCommand m text) = on_machine w m (λ a. needs_daemon a ∷ [])
 event_tests w (Sample m c k) =
     on_machine w m (λ a. needs_daemon a ∷ on_flight a c is_read_course (λ f.
-    (not (is_placed w f.call), MissingPlace) ∷ (nat_lt (sectors_left w f) k, MissingSample) ∷ []))
+    (not (is_placed w f.call), MissingPlace) ∷ (nat_lt (sectors_left f) k, MissingSample) ∷ []))
 event_tests w (Land m c) =
     on_machine w m (λ a. on_flight a c is_write_course (λ f.
     (not (is_placed w f.call), MissingPlace) ∷ (not (is_in_flight f.fate), MissingFlight) ∷ []))
@@ -124,7 +125,7 @@ event_tests w (Tear m c k bytes) =
     ∷ (spells_something w (torn_bytes w f.call k bytes), PremiseTorn) ∷ []))
 event_tests w (AnswerCall m c ok) =
     on_machine w m (λ a. needs_daemon a ∷ on_flight a c (is_of_running a) (λ f.
-    (ok && is_read_course f && nat_lt 0 (sectors_left w f), MissingSample) ∷ (ok && is_write_course f && not (is_landed f.fate), MissingLanding) ∷ []))
+    (ok && is_read_course f && nat_lt 0 (sectors_left f), MissingSample) ∷ (ok && is_write_course f && not (is_landed f.fate), MissingLanding) ∷ []))
 event_tests w (Do m c) =
     on_machine w m (λ a. needs_daemon a ∷ on_flight a c (is_of_running a) (λ f.
     (not (is_placed w f.call), MissingPlace) ∷ (is_torn_fate f.fate, MissingLanding) ∷ []))
@@ -139,9 +140,19 @@ event_tests w (Crash m) = on_machine w m (λ a. needs_daemon a ∷ [])
 event_tests w (Reset m) = on_machine w m (λ a. (not a.up, MissingUp) ∷ [])
 event_tests w (Restart m) = on_machine w m (λ a. (a.up, MissingDown) ∷ [])
 
+-- Whether the event is one that a line may spell: as many clocks as machines, at least one sector, no more bytes than a sector has, a
+-- process number in its range.
+abbrev pub is_shaped : World → Event → Bool
+is_shaped w (Pass d (Some growths)) = length growths == w.header.machines
+is_shaped w (Sample m c k) = nat_lt 0 k
+is_shaped w (Tear m c k bytes) = nat_le (k + length bytes) (sector_size w)
+is_shaped w (ExitOf m p) = is_in_range 1 2000000 p
+is_shaped w (SpawnedOf m p ok) = is_in_range 1 2000000 p
+is_shaped w e = true
+
 -- The first refusal that fits.
 abbrev pub refusal_of : World → Event → Option Refusal
-refusal_of w e = first_that (event_tests w e)
+refusal_of w e = first_that ((not (is_shaped w e), Syntax) ∷ event_tests w e)
 
 -- The event may happen where none fits.
 abbrev pub may_happen : World → Event → Bool
@@ -152,11 +163,11 @@ may_happen w e = is_none (refusal_of w e)
 -- What the read has once it has sampled so many sectors more.
 abbrev pub rest_sampled : World → Course → ℕ → List ℕ
 rest_sampled w f k =
-    f.sampled ++ flat_map (λ i. content w f.call.path (f.call.offset + i * sector_size w)) (range_with_len (length f.sampled / sector_size w) k)
+    f.sampled ++ flat_map (λ i. content w f.call.path (f.call.offset + i * sector_size w)) (range_with_len (length f.samples) k)
 
 -- The answer ok, once all is sampled or landed.
 abbrev pub done_input : World → Course → Input
-done_input w f = elim f.call.op [ ReadSectors n ↦ Told f.call.number (Read (rest_sampled w f (sectors_left w f))) | WriteRecord r ↦ Told f.call.number Written ]
+done_input w f = elim f.call.op [ ReadSectors n ↦ Told f.call.number (Read (rest_sampled w f (sectors_left f))) | WriteRecord r ↦ Told f.call.number Written ]
 
 -- The answer ok of a call as it stands.
 abbrev pub ok_input : Course → Input
@@ -213,7 +224,7 @@ own_effects w e a = no_effects
 
 -- ---- what changes
 
--- A call that a step of the machine's last daemon submits.
+-- A call that a step of the running daemon submits.
 abbrev pub new_course : Stamp → ℕ → Call → Course
 new_course now daemon c =
     record { call = c; daemon = daemon; made = now; sampled = []; samples = []; fate = In_flight; answered = None; done = false }
@@ -291,7 +302,7 @@ abbrev pub land_torn : ℕ → ℕ → ℕ → List ℕ → World → World
 land_torn m c k bytes w =
     option_map_or (λ f. change_machine m (change_call c (fated Torn)) (add_landing m f.call false (torn_bytes w f.call k bytes) w)) (flight_at w m c) w
 
--- The next sectors of a read are sampled.
+-- The sample of the call's sector k, now.
 abbrev pub sample_at : World → Call → ℕ → Sampling
 sample_at w c k = record { step = w.step; moment = w.moment; index = length (landed_at w c.path (c.offset + k * sector_size w)) }
 
@@ -309,7 +320,7 @@ complete m c w =
     elim (flight_at w m c) [
       | None ↦ w
       | Some f ↦ elim (is_write_course f) [
-        | false ↦ change_machine m (change_call c (sampled_more w (sectors_left w f))) w
+        | false ↦ change_machine m (change_call c (sampled_more w (sectors_left f))) w
         | true ↦ elim (is_in_flight f.fate) [ true ↦ land_whole m c w | false ↦ w ]
       ]
     ]

@@ -1,6 +1,7 @@
 -- An acquire that nothing stands in the way of: it is granted.
 use Rattle.sl_area.specs.Layouts.{record_in}
 use Rattle.sl_area.specs.Places.{leader_offset, request_offset}
+use Rattle.sl_leases.specs.Ballots.{in_instance, next_mbal}
 use Rattle.sl_leases.specs.Counts.{held_here, limit_met, may_act}
 use Rattle.sl_leases.specs.Leases.{is_leader_of, is_on, known, open_on, owed, spot_of}
 use Rattle.sl_run.specs.Events.{happens, machine_of}
@@ -14,17 +15,20 @@ use Rattle.sl_sector.specs.declared.sector.Leader.{Leader}
 use Rattle.sl_sector.specs.declared.sector.Request.{Request}
 use Rattle.sl_sessions.specs.Sessions.{Session, is_active, session_named, session_numbered}
 use Rattle.sl_sessions.specs.Watching.{counts_over}
-use Rattle.sl_trace.specs.Traces.{Answered, Submitted, Trace, is_of_job, is_ok_answer, is_write, next_job, no_effects, reply_to, submitted, waiting_call}
+use Rattle.sl_trace.specs.Traces.{Answered, Submitted, Trace, entry_at, is_of_job, is_ok_answer, is_shared, is_write, next_job, no_effects, reply_to, same_place, submitted, waiting_call}
 use Rattle.sl_trace.specs.declared.command.Command.TheVariants.{Acquire}
 use Rattle.sl_trace.specs.declared.command.ResourceArg.{ResourceArg}
 use Rattle.sl_trace.specs.declared.effects.Call.{Call}
 use Rattle.sl_trace.specs.declared.effects.Effects.{Effects}
+use Rattle.sl_trace.specs.declared.effects.Entry.{Entry}
+use Rattle.sl_trace.specs.declared.effects.Grant.{Grant}
 use Rattle.sl_trace.specs.declared.effects.Spot.{Spot}
 use Rattle.sl_trace.specs.declared.input.Input.TheVariants.{Wake}
 use Rattle.sl_trace.specs.declared.reply.Reply.TheVariants.{Granted}
 use Rattle.sl_trace.specs.declared.reply.Reply.{Reply}
 use Rattle.sl_words.specs.Bounds.{record_numbers}
-use Rattle.std.specs.Prelude.{Bool, Contains, IsSome, IsTrue, List, None, Ok, Option, Some, false, filter, length, true, [], ℕ, ◌&&◌, ◌++◌, ◌+◌, ◌<◌, ◌∷◌, ◌≡◌, ◌≤◌}
+use Rattle.sl_words.specs.Words.{first_of_list}
+use Rattle.std.specs.Prelude.{Bool, Contains, IsSome, IsSomeAnd, IsTrue, List, None, Ok, Option, Some, false, filter, length, map, option_to_list, true, [], ℕ, ◌&&◌, ◌++◌, ◌+◌, ◌<◌, ◌∷◌, ◌≡◌, ◌≤◌}
 
 -- The trace when a command comes at this reading.
 abbrev pub before_command : Daemon → ℕ → Trace
@@ -58,6 +62,9 @@ pub record QuietStart (w : World) (m : ℕ) (text : List ℕ) (r : ResourceArg) 
   pub names : IsTrue (is_leader_of w.layout r.lockspace r.name leader)
   pub free : leader.held ≡ false
   pub numbers : leader.lver + 1 < record_numbers
+  -- the number of phase 1 passes no limit
+  pub ballot : next_mbal w.layout.hosts session.id
+      (map (λ b. b.mbal) (in_instance (leader.lver + 1) (option_to_list (known daemon.setting daemon.trace session (spot_of r)).own))) < record_numbers
   pub request : IsSome (request_there w (spot_of r))
   pub blocks : (host : ℕ) → 1 ≤ host → host ≤ w.layout.hosts → (b : Block) × (block_there w (spot_of r) host ≡ Some b) × (b.lver ≤ leader.lver)
   -- no other write on the area is in flight
@@ -96,12 +103,22 @@ abbrev pub calls_needed : Bool → ℕ
 calls_needed true = 8
 calls_needed false = 6
 
+-- Entry i answers the last of so many calls of the job, and grants the process the resource in this mode under this instance.
+pub record GrantsQuietly (d : Daemon) (job i lver : ℕ) (r : ResourceArg) (shared : Bool) (p : ℕ) : Type 0 where
+  pub last : Submitted
+  pub calls : (length (job_calls d.trace job) ≡ calls_needed shared) × (first_of_list (job_calls d.trace job) ≡ Some last)
+  pub answered : IsSomeAnd last.answer (λ a. a.at ≡ i)
+  pub entry : Entry
+  pub grant : Grant
+  pub granted : (entry_at d.trace i ≡ Some entry) × Contains entry.effects.grants grant
+  pub right : (grant.process ≡ p) × (is_shared grant.mode ≡ shared) × (grant.lver ≡ lver) × IsTrue (same_place grant.path grant.offset r.path r.offset)
+
 -- What a quiet acquire has after an event: it makes no other call, and where it has a reply, it is granted with the next lver
 -- in the step of the answer to its last call.
-pub record IsGrantedQuietly (d : Daemon) (job lver : ℕ) (shared : Bool) : Type 0 where
+pub record IsGrantedQuietly (d : Daemon) (job lver : ℕ) (r : ResourceArg) (shared : Bool) (p : ℕ) : Type 0 where
   pub calls : length (job_calls d.trace job) ≤ calls_needed shared
   pub reply : (i : ℕ) (answer : Reply) → reply_to d.trace job ≡ Some (record { at = i; reply = answer }) →
-      (answer ≡ Granted lver) × (length (job_calls d.trace job) ≡ calls_needed shared)
+      (answer ≡ Granted lver) × GrantsQuietly d job i lver r shared p
   pub unless_waiting : reply_to d.trace job ≡ None → IsSome (waiting_call d.trace job)
 
 -- Each event from there on is quiet.
@@ -110,11 +127,11 @@ StaysQuiet w [] m job r shared p number = Unit {0}
 StaysQuiet w (x ∷ xs) m job r shared p number =
     QuietStep w x (happens w x.0 x.1) m job r shared p number × StaysQuiet (happens w x.0 x.1) xs m job r shared p number
 
--- An acquire that begins quietly and stays so is granted, or waits for an answer.
+-- An acquire that begins quietly and stays so for a while is by then granted, or waits for an answer, whatever comes later.
 abbrev pub QuietIsGranted : World → List Happening → Type 0
 QuietIsGranted start xs =
-    (before during : List Happening) (m p : ℕ) (text : List ℕ) (r : ResourceArg) (shared : Bool) (fxs : List Effects)
-    (q : QuietStart (world_after start before) m text r shared p) → xs ≡ before ++ (GiveCommand m text, fxs) ∷ during →
+    (before during rest : List Happening) (m p : ℕ) (text : List ℕ) (r : ResourceArg) (shared : Bool) (fxs : List Effects)
+    (q : QuietStart (world_after start before) m text r shared p) → xs ≡ before ++ (GiveCommand m text, fxs) ∷ during ++ rest →
     StaysQuiet (world_after start before) ((GiveCommand m text, fxs) ∷ during) m (next_job q.daemon.setting q.daemon.trace) r shared p q.session.number →
-    (a : Machine) (d : Daemon) → machine_at (world_after start xs) m ≡ Some a → a.daemon ≡ Some d →
-    IsGrantedQuietly d (next_job q.daemon.setting q.daemon.trace) (q.leader.lver + 1) shared
+    (a : Machine) (d : Daemon) → machine_at (world_after start (before ++ (GiveCommand m text, fxs) ∷ during)) m ≡ Some a → a.daemon ≡ Some d →
+    IsGrantedQuietly d (next_job q.daemon.setting q.daemon.trace) (q.leader.lver + 1) r shared p

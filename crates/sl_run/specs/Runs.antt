@@ -28,14 +28,10 @@ HasSteps w e fxs =
       | None ↦ fxs ≡ own_effects_of w e ∷ []
     ]
 
--- Each event may happen, with its steps.
-abbrev pub RunsFrom : World → List Happening → Type 0
-RunsFrom w [] = Unit {0}
-RunsFrom w (x ∷ xs) = IsTrue (may_happen w x.0) × HasSteps w x.0 x.1 × RunsFrom (happens w x.0 x.1) xs
-
--- A run from this world.
+-- A run from this world: each event may happen, with its steps.
 abbrev pub IsRun : World → List Happening → Type 0
-IsRun w xs = RunsFrom w xs
+IsRun w [] = Unit {0}
+IsRun w (x ∷ xs) = IsTrue (may_happen w x.0) × HasSteps w x.0 x.1 × IsRun (happens w x.0 x.1) xs
 
 -- Every daemon that ever ran in it.
 abbrev pub daemons_of : World → List Daemon

@@ -1,6 +1,6 @@
 -- What holds after every event of a run whose traces are lawful.
 use Rattle.sl_area.specs.Layouts.{record_in}
-use Rattle.sl_area.specs.Places.{block_offset}
+use Rattle.sl_area.specs.Places.{block_offset, is_base}
 use Rattle.sl_law.specs.Lawful.{Lawful}
 use Rattle.sl_leases.specs.Leases.{Phase1_write, block_written, ended_ballots, holdings_on, is_at, lease_calls}
 use Rattle.sl_run.specs.Conflicts.{IsExclusive}
@@ -176,13 +176,13 @@ ballots_of f at = ended_ballots (setting_in f).layout (lease_calls (setting_in f
 -- All ballots of a resource's instance that end, end with one session.
 abbrev pub Agreement : World → Type 0
 Agreement w =
-    (i k : SessionId) (f g : Found) (at : Spot) (n : ℕ) (u v : Owner) → IsSession w i f → IsSession w k g →
+    (i k : SessionId) (f g : Found) (at : Spot) (n : ℕ) (u v : Owner) → IsTrue (is_base w.layout at.base) → IsSession w i f → IsSession w k g →
     Contains (ballots_of f at) (n, u) → Contains (ballots_of g at) (n, v) → u ≡ v
 
 -- So at most one session ends a ballot of it with itself.
 abbrev pub OneWinner : World → Type 0
 OneWinner w =
-    (i k : SessionId) (f g : Found) (at : Spot) (n : ℕ) → IsSession w i f → IsSession w k g →
+    (i k : SessionId) (f g : Found) (at : Spot) (n : ℕ) → IsTrue (is_base w.layout at.base) → IsSession w i f → IsSession w k g →
     Contains (ballots_of f at) (n, me (trace_of f) f.session) → Contains (ballots_of g at) (n, me (trace_of g) g.session) → i ≡ k
 
 -- The session has begun an instance above n there.
@@ -194,18 +194,31 @@ begins_above g at n =
 abbrev pub block_there : World → Spot → ℕ → Option Block
 block_there w at host = block_in host (record_in w.layout (content w at.path (block_offset w.layout at.base host)))
 
--- A shared mode that is not over stands in its host's block once a later instance has begun; or the block is torn, which stops others.
+-- The session's shared mode stands in its host's block, or the block is torn, which stops others.
+abbrev pub ShowsMode : World → Found → Spot → Type 0
+ShowsMode w f at = (b : Block) → block_there w at f.session.id ≡ Some b → (b.shared ≡ true) × (b.mode_gen ≡ found_generation f)
+
+-- A session that is not over holds the resource shared.
+abbrev pub HoldsShared : World → SessionId → Found → Spot → Grant → Type 0
+HoldsShared w i f at held =
+    IsSession w i f × IsFalse (is_over i f) × Contains (holdings_on (trace_of f) f.session at) held × IsTrue (is_shared held.mode)
+
+-- The mode of a shared holder that is not over stands in its host's block.
 abbrev pub SharedModeStands : World → Type 0
-SharedModeStands w =
-    (i k : SessionId) (f g : Found) (at : Spot) (held : Grant) (b : Block) → IsSession w i f → IsSession w k g → IsFalse (is_over i f) →
-    Contains (holdings_on (trace_of f) f.session at) held → IsTrue (is_shared held.mode) → IsTrue (begins_above g at held.lver) →
-    block_there w at f.session.id ≡ Some b → (b.shared ≡ true) × (b.mode_gen ≡ found_generation f)
+SharedModeStands w = (i : SessionId) (f : Found) (at : Spot) (held : Grant) → HoldsShared w i f at held → ShowsMode w f at
+
+-- It stood there at each moment at which an instance above its own had begun, also before it was granted.
+abbrev pub SharedModeStood : Program → Header → List Happening → Type 0
+SharedModeStood program h xs = AfterEachFront xs (λ now.
+    (i k : SessionId) (f g : Found) (at : Spot) (held : Grant) → HoldsShared (world_at program h xs) i f at held →
+    IsSession (world_at program h now) k g → IsTrue (begins_above g at held.lver) → ShowsMode (world_at program h now) f at)
 
 -- What is kept over blocks and leaders; it uses the first invariant by its sentences alone.
-pub record LeaseInvariant (w : World) : Type 0 where
-  pub agreement : Agreement w
-  pub winner : OneWinner w
-  pub mode : SharedModeStands w
+pub record LeaseInvariant (program : Program) (h : Header) (xs : List Happening) : Type 0 where
+  pub agreement : Agreement (world_at program h xs)
+  pub winner : OneWinner (world_at program h xs)
+  pub mode : SharedModeStands (world_at program h xs)
+  pub mode_before : SharedModeStood program h xs
 
 -- ---- the theorem
 
@@ -220,4 +233,4 @@ Safety = (program : Program) (h : Header) (xs : List Happening) → LawfulRun pr
 -- The two invariants, to be proved.
 abbrev pub Invariants : Type 0
 Invariants = (program : Program) (h : Header) (xs : List Happening) → LawfulRun program h xs →
-    AfterEachFront xs (λ now. DeltaInvariant program h now × LeaseInvariant (world_at program h now))
+    AfterEachFront xs (λ now. DeltaInvariant program h now × LeaseInvariant program h now)

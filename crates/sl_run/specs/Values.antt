@@ -8,7 +8,7 @@ use Rattle.sl_run.specs.declared.header.Header.{Header}
 use Rattle.sl_sector.specs.Spelling.{value_in}
 use Rattle.sl_sector.specs.declared.sector.Rec.TheVariants.{ValueIs}
 use Rattle.sl_sector.specs.declared.sector.ValueRec.{ValueRec}
-use Rattle.sl_trace.specs.Traces.{record_of, reply_to, same_place}
+use Rattle.sl_trace.specs.Traces.{call_numbered, record_of, reply_to, same_place}
 use Rattle.sl_trace.specs.declared.effects.Purpose.TheVariants.{ValueRead}
 use Rattle.sl_trace.specs.declared.effects.Spot.{Spot}
 use Rattle.sl_trace.specs.declared.reply.Reply.TheVariants.{Value}
@@ -38,6 +38,8 @@ pub record IsGivenValue (w : World) (at : Spot) (c : Course) (step : ℕ) (v : V
   pub daemon : (m : ℕ) × (a : Machine) × (d : Daemon) × (job : ℕ) × (i : ℕ) × (machine_at w m ≡ Some a) × Contains a.calls c
       × (daemon_numbered a c.daemon ≡ Some d) × (c.call.purpose ≡ ValueRead job)
       × (reply_to d.trace job ≡ Some (record { at = i; reply = Value v.lver v.seq v.bytes }))
+      -- the reply came in the step of this call's answer
+      × IsSomeAnd (call_numbered d.trace c.call.number) (λ m. IsSomeAnd m.answer (λ b. b.at ≡ i))
   pub place : IsTrue (same_place c.call.path c.call.offset at.path (value_offset w.layout at.base))
   pub answered : IsSomeAnd c.answered (λ a. a.step ≡ step)
 
