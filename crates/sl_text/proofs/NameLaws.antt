@@ -2,7 +2,8 @@
 use Rattle.sl_text.specs.Names.{IsHeld, is_name, is_name_byte, is_path, padded_text}
 use Rattle.sl_words.proofs.OrderLaws.{is_text_before-from_lt}
 use Rattle.sl_words.proofs.WordLaws.{and_true}
-use Rattle.std.proofs.Common.{Bool, List, [], arith, eqb, length, refl, take, true, ℕ, ◌++◌, ◌-◌, ◌<◌, ◌||◌, ◌≡◌, ◌∷◌}
+use Rattle.std.proofs.Common.{Bool, List, [], arith, eqb, length, refl, take, true, ℕ, ◌++◌, ◌-◌, ◌<◌, ◌&&◌, leb, ◌||◌, ◌≡◌, ◌∷◌}
+use Rattle.std.proofs.lemmas.Bool.{eqb-true}
 use Rattle.std.proofs.lemmas.Bool.Decides.{nat_tests}
 use Rattle.std.proofs.lemmas.Str.Ascii.{IsAscii-cons, IsAscii-nil}
 use Rattle.std.proofs.lemmas.Str.{IsUtf8-from_ascii}
@@ -50,8 +51,10 @@ name_is_text n h = IsUtf8-from_ascii n (all_ascii is_name_byte name_byte_small n
 pub path_is_text : (p : List ℕ) → is_path p ≡ true → IsUtf8 p
 path_is_text [] h = absurd cc
 path_is_text (c ∷ cs) h =
-    let parts = and_true _ _ h in
-    IsUtf8-from_ascii (c ∷ cs) (IsAscii-cons c cs (grind (arith, nat_tests)) (all_ascii (λ b. is_name_byte b || eqb b 47) path_byte_small cs parts.1))
+    let parts = and_true (eqb c 47 && leb (length cs) 63) _ h in
+    let first = and_true (eqb c 47) _ parts.0 in
+    let slash : c < 128 = omega (arith, eqb-true c 47 first.0) in
+    IsUtf8-from_ascii (c ∷ cs) (IsAscii-cons c cs slash (all_ascii (λ b. is_name_byte b || eqb b 47) path_byte_small cs parts.1))
 
 -- What `as_str` uses.
 pub ruleset ascii = (name_is_text, path_is_text)

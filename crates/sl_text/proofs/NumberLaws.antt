@@ -1,16 +1,20 @@
 -- Numbers and the digits that write them.
-use Rattle.sl_text.specs.Numbers.{number_of}
+use Rattle.sl_text.specs.Numbers.{is_number_text, number_of}
 use Rattle.sl_words.specs.Words.{choose}
-use Rattle.std.proofs.Common.{List, None, Some, ap, arith, get_or, inl, inr, length, lit≤, ltb, refl, sym, take, true, ℕ, ◌%◌, ◌*◌, ◌+◌, ◌/◌, ◌<◌, ◌≡◌, ◌≤◌, ◌∙◌}
+use Rattle.sl_words.proofs.WordLaws.{and_true}
+use Rattle.std.proofs.lemmas.Fmt.{decimal-digits_value, decimal_digit, decimal_nonempty, digits_decimal, digits_value-decimal, first_decimal}
+use Rattle.std.proofs.lemmas.Bool.Decides.{nat_tests}
+use Rattle.std.proofs.Common.{rules, eqb, lit<, suc, zero, ◌||◌, [], ◌∷◌, ◌^◌, List, None, Some, ap, arith, get_or, inl, inr, length, lit≤, ltb, refl, sym, take, true, ℕ, ◌%◌, ◌*◌, ◌+◌, ◌/◌, ◌<◌, ◌≡◌, ◌≤◌, ◌∙◌}
 use Rattle.std.proofs.Math.Nat.{div-add-mod, mul-add-mod_self_left}
 use Rattle.std.proofs.lemmas.Bool.{cases_lt, le-ltb, lt-ltb}
 use Rattle.std.proofs.lemmas.List.{take_all}
 use Rattle.std.proofs.lemmas.Option.{none-some}
 use Rattle.std.proofs.lemmas.Int.Digits.{digits_value_more}
 use Rattle.std.proofs.lemmas.List.Recursion.{and_at}
-use Rattle.std.proofs.lemmas.Str.Parse.{digits_value-take-le}
+use Rattle.std.proofs.lemmas.Str.Parse.{IsNumeralModel, digits_value-take-le, numerals_by_value}
 use Rattle.std.specs.Char.{digit_value, is_ascii_digit}
 use Rattle.std.specs.List.{list_all}
+use Rattle.std.specs.Prelude.{decimal, not}
 
 -- One more digit.
 pub number_of_more : (ds : List ℕ) (i : ℕ) → i < length ds → number_of (take (i + 1) ds) ≡ number_of (take i ds) * 10 + digit_value (get_or ds i 0)
@@ -55,3 +59,37 @@ remainder_more n d step =
 
 -- What a divider of digits uses.
 pub ruleset dividing = (number_of_more, remainder_more)
+
+-- The digits of a number's text, in std's words.
+own : IsNumeralModel (λ ds. list_all is_ascii_digit ds ≡ true) number_of
+own = numerals_by_value _ (search rules)
+
+-- A written number is read as itself.
+pub number_of-decimal : (n : ℕ) → n < 2 ^ 64 → number_of (decimal n) ≡ n
+number_of-decimal n h = digits_value-decimal own n h
+
+-- A text of digits is a number's where it isn't empty, and begins with a zero only if that is all of it.
+is_number_text_when : (ds : List ℕ) → 0 < length ds → list_all is_ascii_digit ds ≡ true → (get_or ds 0 0 ≡ 48 → length ds ≡ 1) → is_number_text ds ≡ true
+is_number_text_when [] some all leading = absurd (omega arith)
+is_number_text_when (d ∷ ds) some all leading = grind (arith, nat_tests)
+
+-- Only the number 0 begins with a zero.
+zero_alone : (n : ℕ) → n < 2 ^ 64 → get_or (decimal n) 0 0 ≡ 48 → length (decimal n) ≡ 1
+zero_alone zero h e = ap length (decimal_digit 0 (lit< tt))
+zero_alone (suc n) h e = absurd (omega (arith, first_decimal (suc n) (omega arith) h))
+
+-- What is written is a number's text.
+pub is_number_text-decimal : (n : ℕ) → n < 2 ^ 64 → is_number_text (decimal n) ≡ true
+is_number_text-decimal n h =
+    is_number_text_when (decimal n) (decimal_nonempty n h) (digits_decimal own n h) (zero_alone n h)
+
+-- No digit stands behind a leading zero.
+no_zero_behind : (d : ℕ) (ds : List ℕ) → (not (eqb d 48) || eqb (length ds) 0) ≡ true → d ≡ 48 → length (d ∷ ds) ≡ 1
+no_zero_behind d ds h leading = grind (arith, nat_tests)
+
+-- A number has one text.
+pub decimal-number_of : (w : List ℕ) → is_number_text w ≡ true → number_of w < 2 ^ 64 → decimal (number_of w) ≡ w
+decimal-number_of [] h fits = absurd cc
+decimal-number_of (d ∷ ds) h fits =
+    let parts = and_true _ _ h in
+    decimal-digits_value own (d ∷ ds) parts.0 (omega arith) (no_zero_behind d ds parts.1) fits
