@@ -1,0 +1,75 @@
+-- The pieces of a text between its separators: cutting off the first, and joining them again.
+use Rattle.sl_text.specs.Forms.{is_free_of, pieces}
+use Rattle.sl_text.specs.Walks.{column_behind, column_past, length_left, pieces_behind, with_behind}
+use Rattle.std.proofs.Common.{Bool, IsTrue, List, None, Option, Some, [], ap, arith, cond, drop, eqb, false, get_or, length, length-append, length-take, ltb, not, refl, sym, take, true, ℕ, ◌+◌, ◌++◌, ◌<◌, ◌≡◌, ◌≤◌, ◌∙◌, ◌∷◌}
+use Rattle.std.proofs.lemmas.Bool.{eqb-true, ltb-false, ltb-true, not-true, not_from_false}
+use Rattle.std.proofs.lemmas.List.Quantifiers.{position-Some}
+use Rattle.std.proofs.lemmas.List.Recursion.{and_from_places}
+use Rattle.std.proofs.lemmas.List.Splits.{slice_split_first, slice_split_none}
+use Rattle.std.proofs.lemmas.List.Sums.{prefix_len_passes}
+use Rattle.std.proofs.lemmas.List.{drop_more, get_or-take, take-append-drop}
+use Rattle.std.proofs.lemmas.Option.{cond_some}
+use Rattle.std.specs.List.{onto_first, position, position_or_len, slice_split}
+
+-- A choice that is nothing was not taken.
+cond_none : {A : Type 0} (b : Bool) (x : A) → cond b (Some x) None ≡ None → b ≡ false
+cond_none true x h = absurd cc
+cond_none false x h = refl
+
+-- Where no byte is the separator, none is before the end.
+free_from_none : (c : ℕ) (bs : List ℕ) → position (λ b. eqb b c) bs ≡ None → (k : ℕ) (d : ℕ) → k < length bs → not (eqb (get_or bs k d) c) ≡ true
+free_from_none c bs h k d inside =
+    let end : length bs ≤ position_or_len (λ b. eqb b c) bs = ltb-false _ _ (cond_none _ _ h) in
+    prefix_len_passes (λ b. not (eqb b c)) bs k d (omega arith)
+
+-- The first piece ends at the first separator.
+pub pieces_at : (c : ℕ) (bs : List ℕ) (at : ℕ) → position (λ b. eqb b c) bs ≡ Some at → pieces c bs ≡ take at bs ∷ pieces c (drop (at + 1) bs)
+pieces_at c bs at h =
+    let found = cond_some (ltb (position_or_len (λ b. eqb b c) bs) (length bs)) (position_or_len (λ b. eqb b c) bs) at h in
+    rw (← found.1) (slice_split_first (λ b. eqb b c) bs 0 (ltb-true _ _ found.0))
+
+-- A text without a separator is one piece.
+pub pieces_alone : (c : ℕ) (bs : List ℕ) → position (λ b. eqb b c) bs ≡ None → pieces c bs ≡ bs ∷ []
+pieces_alone c bs h = slice_split_none (λ b. eqb b c) bs (λ k d inside. not-true _ (free_from_none c bs h k d inside))
+
+-- Such a text is free of the separator.
+pub free_alone : (c : ℕ) (bs : List ℕ) → position (λ b. eqb b c) bs ≡ None → IsTrue (is_free_of c bs)
+free_alone c bs h = and_from_places (is_free_of c) (λ b. not (eqb b c)) refl (λ _ _. refl) bs 0 (λ k inside. free_from_none c bs h k 0 inside)
+
+-- The text is the first piece, the separator and what stands behind.
+pub text_at : (c : ℕ) (bs : List ℕ) (at : ℕ) → position (λ b. eqb b c) bs ≡ Some at → bs ≡ take at bs ++ c ∷ drop (at + 1) bs
+text_at c bs at h =
+    let found = position-Some (λ b. eqb b c) bs at 0 h in
+    sym (take-append-drop at bs) ∙ ap (λ t. take at bs ++ t) (drop_more bs at 0 found.0 ∙ ap (λ b. b ∷ drop (at + 1) bs) (eqb-true _ _ found.1))
+
+-- The first piece is free of the separator.
+pub free_at : (c : ℕ) (bs : List ℕ) (at : ℕ) → position (λ b. eqb b c) bs ≡ Some at → IsTrue (is_free_of c (take at bs))
+free_at c bs at h =
+    let found = position-Some (λ b. eqb b c) bs at 0 h in
+    and_from_places (is_free_of c) (λ b. not (eqb b c)) refl (λ _ _. refl) (take at bs) 0 (λ k inside.
+        let before : k < at = omega (arith, length-take at bs) in
+        rw (get_or-take at bs k 0 before) (not_from_false _ (found.2 k before)))
+
+-- What cutting off the first piece uses.
+pub ruleset cutting = (pieces_at, pieces_alone, text_at, free_at, free_alone)
+
+-- There is always a first piece.
+first_piece : (c : ℕ) (bs : List ℕ) → (w : List ℕ) × (ws : List (List ℕ)) × (pieces c bs ≡ w ∷ ws)
+first_piece c [] = ([], [], refl)
+first_piece c (b ∷ bs) = elim (eqb b c) as (λ t. (w : List ℕ) × (ws : List (List ℕ)) × (cond t ([] ∷ pieces c bs) (onto_first b (pieces c bs)) ≡ w ∷ ws)) [
+  | true ↦ ([], pieces c bs, refl)
+  | false ↦ let rest = first_piece c bs in (b ∷ rest.0, rest.1, ap (onto_first b) rest.2)
+]
+
+-- The column behind the first piece.
+pub column_behind-cons : (column c : ℕ) (w : List ℕ) (rest : Option (List ℕ)) → column_behind column (w ∷ pieces_behind c rest) ≡ column_past column w rest
+column_behind-cons column c w None = refl
+column_behind-cons column c w (Some bs) = let first = first_piece c bs in ap (λ ws. column_behind column (w ∷ ws)) first.2
+
+-- How long a word is with what stands behind it.
+pub length-with_behind : (column c : ℕ) (w : List ℕ) (rest : Option (List ℕ)) → column + length (with_behind c w rest) ≡ column_past column w rest + length_left rest
+length-with_behind column c w None = omega arith
+length-with_behind column c w (Some bs) = omega (arith, length-append w (c ∷ bs))
+
+-- What going on to the next piece uses.
+pub ruleset going_on = (column_behind-cons, length-with_behind)

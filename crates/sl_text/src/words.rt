@@ -1,0 +1,90 @@
+//! The words of a line, read one by one from the left, and the parts of a word, which colons keep apart.
+
+ghost use Rattle.std.specs.Prelude.{option_copied, IsTrue, ◌==◌, ◌≡◌, ◌∷◌, ◌<◌, ◌^◌};
+ghost use Rattle.std.specs.List.{position};
+ghost use Rattle.sl_text.specs.Forms as forms;
+ghost use Rattle.sl_text.specs.Walks.{column_past, past_word, pieces_behind, unread, with_behind};
+ghost use Rattle.sl_words.specs.Words.{first_of_list};
+
+use std::marker::Model;
+
+/// Where the first separator stands.
+fn position_of(separator: u8, text: &[u8]) -> Option<usize>
+    ensures { result ≡ position (λ b. b == separator) text.now }
+{
+    text.iter().position(|byte| *byte == separator)
+}
+
+/// The text up to the first separator, and what stands behind it; nothing where there is no separator.
+#[tactic(auto, using(crate::proofs::PieceLaws::cutting))]
+pub fn split_piece(separator: u8, text: &[u8]) -> (&[u8], Option<&[u8]>)
+    ensures exact { forms.pieces separator text.now ≡ result.0.now ∷ pieces_behind separator (option_copied result.1) }
+    ensures found { text.now ≡ with_behind separator result.0.now (option_copied result.1) }
+    ensures free { IsTrue (forms.is_free_of separator result.0.now) }
+{
+    match position_of(separator, text) {
+        Some(at) => (&text[..at], Some(text.split_at(at + 1).1)),
+        None => (text, None),
+    }
+}
+
+/// The column behind a word and its separator, if it has one.
+fn column_past(column: usize, word: &[u8], rest: Option<&[u8]>) -> usize
+    requires { column_past column word.now (option_copied rest) < 2 ^ 64 }
+    ensures { result ≡ column_past column word.now (option_copied rest.entry) }
+{
+    match rest {
+        Some(_) => column + word.len() + 1,
+        None => column + word.len(),
+    }
+}
+
+/// The pieces of a text that separators keep apart, read one by one from the left. Contracts see what is left of them,
+/// with the column of the next one.
+#[derive(Drop)]
+pub struct Pieces<'a, const SEPARATOR: u8> {
+    rest: Option<&'a [u8]>,
+    column: usize,
+}
+
+impl<'a, const SEPARATOR: u8> Model for Pieces<'a, SEPARATOR> {
+    ghost use Rattle.std.specs.Prelude.{option_copied, ◌+◌, ◌<◌, ◌^◌};
+    ghost use Rattle.sl_text.specs.Walks.{length_left, pieces_behind, Unread};
+
+    ghost Value = { Unread };
+
+    ghost view = { λ r. record { column = r.column; words = pieces_behind SEPARATOR (option_copied r.rest) } };
+
+    ghost invariant = { λ r. r.column + length_left (option_copied r.rest) < 2 ^ 64 };
+}
+
+impl<'a, const SEPARATOR: u8> Pieces<'a, SEPARATOR> {
+    /// All pieces of the text.
+    pub fn new(text: &'a [u8]) -> Pieces<'a, SEPARATOR>
+        ensures { result ≡ unread SEPARATOR text.now }
+    {
+        Pieces {
+            rest: Some(text),
+            column: 1,
+        }
+    }
+
+    /// The column, from 1, of the next piece; one past the end where none is left.
+    pub fn column(&self) -> usize
+        ensures { result ≡ self.now.column }
+    {
+        self.column
+    }
+
+    /// The next piece, if one is left.
+    #[tactic(auto, using(crate::proofs::PieceLaws::going_on))]
+    pub fn next_word(&mut self) -> Option<&'a [u8]>
+        ensures word { option_copied result ≡ first_of_list self.old.words }
+        ensures left { self.new ≡ past_word self.old }
+    {
+        let (word, rest) = split_piece(SEPARATOR, self.rest?);
+        self.column = column_past(self.column, word, rest);
+        self.rest = rest;
+        Some(word)
+    }
+}
