@@ -1,8 +1,9 @@
 -- Words read one by one from the left, and forms that are followed meanwhile.
-use Rattle.sl_text.specs.Forms.{Form, pieces}
-use Rattle.sl_words.specs.Words.{first_of_list}
-use Rattle.std.specs.Option.{ok_or}
-use Rattle.std.specs.Prelude.{Bool, Err, List, None, Ok, Option, Result, Some, drop, if◌then◌else◌, length, [], ℕ, ◌+◌, ◌++◌, ◌∷◌}
+use Rattle.sl_text.specs.Forms.{Form, made_by, pieces}
+use Rattle.sl_words.specs.Results.{ensure}
+use Rattle.sl_words.specs.Words.{choose, first_of_list}
+use Rattle.std.specs.Option.{ok_or, option_and_then}
+use Rattle.std.specs.Prelude.{Bool, Err, List, None, Ok, Option, Result, Some, drop, if◌then◌else◌, length, [], ℕ, ◌+◌, ◌++◌, ◌==◌, ◌∷◌}
 
 -- The pieces of what stands behind a separator, and none where there is no separator.
 abbrev pub pieces_behind : ℕ → Option (List ℕ) → List (List ℕ)
@@ -42,3 +43,38 @@ past_word u = record { column = column_behind u.column u.words; words = drop 1 u
 -- What a reader at the front of a text has before it.
 abbrev pub unread : ℕ → List ℕ → Unread
 unread c text = record { column = 1; words = pieces c text }
+
+-- What the next word stands for, if it passes; else its column.
+abbrev pub next_as : {A : Type 0} → (List ℕ → Bool) → (List ℕ → A) → Unread → Result A ℕ
+next_as passes make u = ok_or (option_and_then (λ w. choose (passes w) (make w)) (first_of_list u.words)) u.column
+
+-- Behind the word where it passed, and before it else.
+abbrev pub left_after : {A : Type 0} → Result A ℕ → Unread → Unread
+left_after (Ok a) u = past_word u
+left_after (Err column) u = u
+
+-- Nothing where no word is left; else the column of the next one.
+abbrev pub at_end : Unread → Result (Unit {0}) ℕ
+at_end u = ensure (length u.words == 0) u.column
+
+-- ---- forms, followed word by word
+
+-- The form that a form goes on as, behind a first word that its first test passes.
+abbrev pub form_behind : {A : Type 0} → List ℕ → List (List ℕ → Bool) → (List (List ℕ) → A) → List (Form A)
+form_behind w [] make = []
+form_behind w (p ∷ ps) make = if p w then record { words = ps; make = λ ws. make (w ∷ ws) } ∷ [] else []
+
+-- The forms that go on behind a first word.
+abbrev pub forms_behind : {A : Type 0} → List ℕ → List (Form A) → List (Form A)
+forms_behind w [] = []
+forms_behind w (f ∷ fs) = form_behind w f.words f.make ++ forms_behind w fs
+
+-- What the words make, read from the left; else the column of the first word behind which no form goes on.
+abbrev pub read_from : {A : Type 0} → List (Form A) → ℕ → List (List ℕ) → Result A ℕ
+read_from fs column [] = ok_or (made_by fs []) column
+read_from fs column (w ∷ ws) =
+    elim (forms_behind w fs) [ [] ↦ Err column | g ∷ gs ↦ read_from (g ∷ gs) (column_behind column (w ∷ ws)) ws ]
+
+-- The form whose value is made into another.
+abbrev pub form_with : {A B : Type 0} → (A → B) → Form A → Form B
+form_with f form = record { words = form.words; make = λ ws. f (form.make ws) }

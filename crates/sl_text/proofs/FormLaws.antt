@@ -1,0 +1,176 @@
+-- A list of forms, followed word by word from the left, makes what the whole words make, and fails at the same column.
+use Rattle.sl_text.specs.Forms.{Form, bad_column, column_of, fits_whole, fitting, made_by, spaced}
+use Rattle.sl_text.specs.Walks.{column_behind, form_behind, forms_behind, read_from}
+use Rattle.sl_words.proofs.ListLaws.{greatest-cons}
+use Rattle.sl_words.specs.Words.{greatest}
+use Rattle.std.proofs.Common.{add_comm, Bool, List, None, Option, Some, [], ap, arith, cond, eqb, false, inl, inr, length, length-append, map, max, refl, suc, sym, take, true, zero, ℕ, ◌+◌, ◌++◌, ◌&&◌, ◌≡◌, ◌∙◌, ◌∷◌, ◌≤◌}
+use Rattle.std.proofs.lemmas.Bool.Decides.{nat_tests}
+use Rattle.std.proofs.lemmas.List.Sums.{sum_by-cons}
+use Rattle.std.specs.List.{find, sum_by}
+use Rattle.std.specs.Option.{ok_or, option_map}
+use Rattle.std.specs.Prelude.{Err, Ok, Result, if◌then◌else◌, ◌==◌}
+
+-- The tests of a form that is one word longer.
+both_longer : (tests fit words : ℕ) → (eqb (suc tests) (suc words) && eqb (1 + fit) (suc words)) ≡ (eqb tests words && eqb fit words)
+both_longer tests fit words = grind (arith, nat_tests)
+
+none_fit : (tests words : ℕ) → (eqb (suc tests) (suc words) && eqb 0 (suc words)) ≡ false
+none_fit tests words = grind (arith, nat_tests)
+
+none_left : (words : ℕ) → (eqb 0 (suc words) && eqb 0 (suc words)) ≡ false
+none_left words = grind (arith, nat_tests)
+
+-- A form takes the words where its first test takes the first word and its rest the rest.
+fits_whole-cons : (p : List ℕ → Bool) (ps : List (List ℕ → Bool)) (w : List ℕ) (ws : List (List ℕ)) → fits_whole (p ∷ ps) (w ∷ ws) ≡ cond (p w) (fits_whole ps ws) false
+fits_whole-cons p ps w ws = elim (p w) as (λ t. (eqb (length (p ∷ ps)) (length (w ∷ ws)) && eqb (cond t (1 + fitting ps ws) 0) (length (w ∷ ws))) ≡ cond t (fits_whole ps ws) false) [
+  | true ↦ both_longer (length ps) (fitting ps ws) (length ws)
+  | false ↦ none_fit (length ps) (length ws)
+]
+
+-- Either the form behind the first word takes the rest, or a later form does.
+here : {A : Type 0} (w : List ℕ) (ws : List (List ℕ)) (ps : List (List ℕ → Bool)) (make : List (List ℕ) → A) (fs gs : List (Form A)) (form : Form A) → form.make ≡ make → made_by fs (w ∷ ws) ≡ made_by gs ws
+    → option_map (λ (f : Form A). f.make (w ∷ ws)) (cond (fits_whole ps ws) (Some form) (find (λ f. fits_whole f.words (w ∷ ws)) fs))
+        ≡ made_by (record { words = ps; make = λ vs. make (w ∷ vs) } ∷ gs) ws
+here {A} w ws ps make fs gs form same e = elim (fits_whole ps ws) as (λ t. option_map (λ (f : Form A). f.make (w ∷ ws)) (cond t (Some form) (find (λ f. fits_whole f.words (w ∷ ws)) fs))
+    ≡ option_map (λ (f : Form A). f.make ws) (cond t (Some (record { words = ps; make = λ vs. make (w ∷ vs) })) (find (λ f. fits_whole f.words ws) gs))) [
+  | true ↦ ap (λ (m : List (List ℕ) → A). Some (m (w ∷ ws))) same
+  | false ↦ e
+]
+
+-- The words make what they make behind the first word.
+made_more : {A : Type 0} (w : List ℕ) (ws : List (List ℕ)) (ps : List (List ℕ → Bool)) (make : List (List ℕ) → A) (fs gs : List (Form A))
+    → made_by fs (w ∷ ws) ≡ made_by gs ws → made_by (record { words = ps; make = make } ∷ fs) (w ∷ ws) ≡ made_by (form_behind w ps make ++ gs) ws
+made_more {A} w ws [] make fs gs e =
+    let form : Form A = record { words = []; make = make } in
+    ap (λ t. option_map (λ (f : Form A). f.make (w ∷ ws)) (cond t (Some form) (find (λ f. fits_whole f.words (w ∷ ws)) fs))) (none_left (length ws)) ∙ e
+made_more {A} w ws (p ∷ ps) make fs gs e =
+    let form : Form A = record { words = p ∷ ps; make = make } in
+    ap (λ t. option_map (λ (f : Form A). f.make (w ∷ ws)) (cond t (Some form) (find (λ f. fits_whole f.words (w ∷ ws)) fs))) (fits_whole-cons p ps w ws)
+    ∙ elim (p w) as (λ t. option_map (λ (f : Form A). f.make (w ∷ ws)) (cond (cond t (fits_whole ps ws) false) (Some form) (find (λ f. fits_whole f.words (w ∷ ws)) fs))
+        ≡ made_by ((if t then record { words = ps; make = λ vs. make (w ∷ vs) } ∷ [] else []) ++ gs) ws) [
+      | true ↦ here w ws ps make fs gs form refl e
+      | false ↦ e
+    ]
+
+pub made_by-cons : {A : Type 0} (w : List ℕ) (ws : List (List ℕ)) (fs : List (Form A)) → made_by fs (w ∷ ws) ≡ made_by (forms_behind w fs) ws
+made_by-cons w ws [] = refl
+made_by-cons w ws (f ∷ fs) = made_more w ws f.words f.make fs (forms_behind w fs) (made_by-cons w ws fs)
+
+-- How many words fit the form that fits the most.
+abbrev reached : {A : Type 0} → List (Form A) → List (List ℕ) → ℕ
+reached fs ws = greatest (map (λ f. fitting f.words ws) fs)
+
+-- The same, where these forms go on behind the first word.
+abbrev reached_behind : {A : Type 0} → List (Form A) → List (List ℕ) → ℕ
+reached_behind [] ws = 0
+reached_behind (g ∷ gs) ws = 1 + reached (g ∷ gs) ws
+
+-- One more form.
+reached-cons : {A : Type 0} (f : Form A) (fs : List (Form A)) (ws : List (List ℕ)) → reached (f ∷ fs) ws ≡ max (fitting f.words ws) (reached fs ws)
+reached-cons f fs ws = greatest-cons (fitting f.words ws) (map (λ f. fitting f.words ws) fs)
+
+-- A form that goes on beside those that do.
+reached_beside : {A : Type 0} (g : Form A) (gs : List (Form A)) (ws : List (List ℕ)) → max (1 + fitting g.words ws) (reached_behind gs ws) ≡ 1 + reached (g ∷ gs) ws
+reached_beside g [] ws = omega (arith, reached-cons g [] ws)
+reached_beside g (h ∷ hs) ws = omega (arith, reached-cons g (h ∷ hs) ws)
+
+reached_more : {A : Type 0} (w : List ℕ) (ws : List (List ℕ)) (ps : List (List ℕ → Bool)) (make : List (List ℕ) → A) (gs : List (Form A))
+    → max (fitting ps (w ∷ ws)) (reached_behind gs ws) ≡ reached_behind (form_behind w ps make ++ gs) ws
+reached_more w ws [] make gs = omega arith
+reached_more w ws (p ∷ ps) make gs = elim (p w) as (λ t. max (cond t (1 + fitting ps ws) 0) (reached_behind gs ws)
+    ≡ reached_behind ((if t then record { words = ps; make = λ vs. make (w ∷ vs) } ∷ [] else []) ++ gs) ws) [
+  | true ↦ reached_beside (record { words = ps; make = λ vs. make (w ∷ vs) }) gs ws
+  | false ↦ omega arith
+]
+
+-- The form that fits the most goes on longest behind the first word.
+pub reached-words : {A : Type 0} (w : List ℕ) (ws : List (List ℕ)) (fs : List (Form A)) → reached fs (w ∷ ws) ≡ reached_behind (forms_behind w fs) ws
+reached-words w ws [] = refl
+reached-words w ws (f ∷ fs) = reached-cons f fs (w ∷ ws) ∙ ap (λ n. max (fitting f.words (w ∷ ws)) n) (reached-words w ws fs) ∙ reached_more w ws f.words f.make (forms_behind w fs)
+
+-- ---- columns
+
+-- The column of word k, where the first word's is this one.
+abbrev column_from : ℕ → List (List ℕ) → ℕ → ℕ
+column_from column ws k = if k == length ws then column + length (spaced ws) else column + sum_by (λ w. length w + 1) (take k ws)
+
+-- The first word's column.
+column_from-first : (column : ℕ) (w : List ℕ) (ws : List (List ℕ)) → column_from column (w ∷ ws) 0 ≡ column
+column_from-first column w ws = grind (arith, nat_tests)
+
+-- One more word in front.
+same_place : (k words : ℕ) → eqb (1 + k) (suc words) ≡ eqb k words
+same_place k words = grind (arith, nat_tests)
+
+-- A word with its space, and those behind it.
+sum_in_front : (w : List ℕ) (ws : List (List ℕ)) (k : ℕ) → sum_by (λ w. length w + 1) (take (1 + k) (w ∷ ws)) ≡ length w + 1 + sum_by (λ w. length w + 1) (take k ws)
+sum_in_front w ws k =
+    let longer : 1 + k ≡ suc k = omega arith in
+    ap (λ n. sum_by (λ w. length w + 1) (take n (w ∷ ws))) longer ∙ sum_by-cons (λ w. length w + 1) w (take k ws)
+
+-- A later word's column is that among the words behind the first.
+column_from-behind : (column : ℕ) (w : List ℕ) (ws : List (List ℕ)) (k : ℕ) → k ≤ length ws → column_from column (w ∷ ws) (1 + k) ≡ column_from (column_behind column (w ∷ ws)) ws k
+column_from-behind column w [] zero h = omega arith
+column_from-behind column w [] (suc k) h = absurd (omega arith)
+column_from-behind column w (x ∷ ws) k h =
+    rw (same_place k (length (x ∷ ws)))
+    (elim (eqb k (length (x ∷ ws))) as (λ t. cond t (column + length (spaced (w ∷ x ∷ ws))) (column + sum_by (λ w. length w + 1) (take (1 + k) (w ∷ x ∷ ws)))
+        ≡ cond t (column + length w + 1 + length (spaced (x ∷ ws))) (column + length w + 1 + sum_by (λ w. length w + 1) (take k (x ∷ ws)))) [
+      | true ↦ omega (arith, length-append w (32 ∷ spaced (x ∷ ws)))
+      | false ↦ omega (arith, sum_in_front w (x ∷ ws) k)
+    ])
+
+-- No form fits more words than there are.
+fitting-le : (ps : List (List ℕ → Bool)) (ws : List (List ℕ)) → fitting ps ws ≤ length ws
+fitting-le [] ws = omega arith
+fitting-le (p ∷ ps) [] = omega arith
+fitting-le (p ∷ ps) (w ∷ ws) = elim (p w) as (λ t. cond t (1 + fitting ps ws) 0 ≤ length (w ∷ ws)) [ true ↦ omega (arith, fitting-le ps ws) | false ↦ omega arith ]
+
+reached-le : {A : Type 0} (fs : List (Form A)) (ws : List (List ℕ)) → reached fs ws ≤ length ws
+reached-le [] ws = omega arith
+reached-le (f ∷ fs) ws = omega (arith, reached-cons f fs ws, fitting-le f.words ws, reached-le fs ws)
+
+-- ---- the whole
+
+-- What the words make, or the column of the first that no form takes.
+abbrev made_or_column : {A : Type 0} → List (Form A) → ℕ → List (List ℕ) → Result A ℕ
+made_or_column fs column ws = ok_or (made_by fs ws) (column_from column ws (reached fs ws))
+
+-- Where no word is left, the column is the one that was reached.
+column_from-none : (column k : ℕ) → k ≤ 0 → column_from column [] k ≡ column
+column_from-none column zero h = omega arith
+column_from-none column (suc k) h = absurd (omega arith)
+
+-- The forms behind the first word fail where the forms do.
+made_behind : {A : Type 0} (fs gs : List (Form A)) (column : ℕ) (w : List ℕ) (ws : List (List ℕ))
+    → made_by fs (w ∷ ws) ≡ made_by gs ws → reached fs (w ∷ ws) ≡ reached_behind gs ws
+    → made_or_column fs column (w ∷ ws) ≡ ok_or (made_by gs ws) (column_from column (w ∷ ws) (reached_behind gs ws))
+made_behind fs gs column w ws made far =
+    ap (λ o. ok_or o (column_from column (w ∷ ws) (reached fs (w ∷ ws)))) made
+    ∙ ap (λ k. ok_or (made_by gs ws) (column_from column (w ∷ ws) k)) far
+
+-- One word on.
+read_more : {A : Type 0} (gs : List (Form A)) (column : ℕ) (w : List ℕ) (ws : List (List ℕ))
+    → ((hs : List (Form A)) (c : ℕ) → read_from hs c ws ≡ made_or_column hs c ws)
+    → elim gs as (λ _. Result A ℕ) [ [] ↦ Err column | g ∷ hs ↦ read_from (g ∷ hs) (column_behind column (w ∷ ws)) ws ]
+        ≡ ok_or (made_by gs ws) (column_from column (w ∷ ws) (reached_behind gs ws))
+read_more [] column w ws rest = ap Err (sym (column_from-first column w ws))
+read_more (g ∷ hs) column w ws rest =
+    rest (g ∷ hs) (column_behind column (w ∷ ws))
+    ∙ ap (ok_or (made_by (g ∷ hs) ws)) (sym (column_from-behind column w ws (reached (g ∷ hs) ws) (reached-le (g ∷ hs) ws)))
+
+-- Followed from the left, the forms make what the words make, and fail where they fail.
+read_from-made : {A : Type 0} (fs : List (Form A)) (column : ℕ) (ws : List (List ℕ)) → read_from fs column ws ≡ made_or_column fs column ws
+read_from-made fs column [] = ap (ok_or (made_by fs [])) (sym (column_from-none column (reached fs []) (reached-le fs [])))
+read_from-made fs column (w ∷ ws) =
+    read_more (forms_behind w fs) column w ws (λ hs c. read_from-made hs c ws)
+    ∙ sym (made_behind fs (forms_behind w fs) column w ws (made_by-cons w ws fs) (reached-words w ws fs))
+
+-- From the front of a line on, columns are counted from 1.
+column_from-start : (ws : List (List ℕ)) (k : ℕ) → column_from 1 ws k ≡ column_of ws k
+column_from-start ws k = ap (λ n. cond (eqb k (length ws)) n (1 + sum_by (λ w. length w + 1) (take k ws))) (add_comm 1 (length (spaced ws)))
+
+-- A line's words make what the forms make of them, read from the left, and else the column is that of the first word that
+-- no form takes.
+pub read_from-is : {A : Type 0} (fs : List (Form A)) (ws : List (List ℕ)) → read_from fs 1 ws ≡ ok_or (made_by fs ws) (bad_column fs ws)
+read_from-is fs ws = read_from-made fs 1 ws ∙ ap (ok_or (made_by fs ws)) (column_from-start ws (reached fs ws))
