@@ -1,15 +1,16 @@
 -- The pieces of a text between its separators: cutting off the first, and joining them again.
 use Rattle.sl_text.specs.Forms.{is_free_of, pieces}
 use Rattle.sl_text.specs.Walks.{column_behind, column_past, length_left, pieces_behind, with_behind}
+use Rattle.sl_words.proofs.WordLaws.{and_true}
 use Rattle.std.proofs.Common.{Bool, IsTrue, List, None, Option, Some, [], ap, arith, cond, drop, eqb, false, get_or, length, length-append, length-take, ltb, not, refl, sym, take, true, ℕ, ◌+◌, ◌++◌, ◌<◌, ◌≡◌, ◌≤◌, ◌∙◌, ◌∷◌}
-use Rattle.std.proofs.lemmas.Bool.{eqb-true, ltb-false, ltb-true, not-true, not_from_false}
+use Rattle.std.proofs.lemmas.Bool.{eq-eqb, eqb-true, ltb-false, ltb-true, not-true, not_from_false}
 use Rattle.std.proofs.lemmas.List.Quantifiers.{position-Some}
 use Rattle.std.proofs.lemmas.List.Recursion.{and_from_places}
-use Rattle.std.proofs.lemmas.List.Splits.{slice_split_first, slice_split_none}
+use Rattle.std.proofs.lemmas.List.Splits.{join_with_byte-slice_split, slice_split-cons_no, slice_split-cons_yes, slice_split_first, slice_split_none}
 use Rattle.std.proofs.lemmas.List.Sums.{prefix_len_passes}
 use Rattle.std.proofs.lemmas.List.{drop_more, get_or-take, take-append-drop}
 use Rattle.std.proofs.lemmas.Option.{cond_some}
-use Rattle.std.specs.List.{onto_first, position, position_or_len, slice_split}
+use Rattle.std.specs.List.{join_with_byte, list_all, onto_first, position, position_or_len, slice_split}
 
 -- A choice that is nothing was not taken.
 cond_none : {A : Type 0} (b : Bool) (x : A) → cond b (Some x) None ≡ None → b ≡ false
@@ -73,3 +74,44 @@ length-with_behind column c w (Some bs) = omega (arith, length-append w (c ∷ b
 
 -- What going on to the next piece uses.
 pub ruleset going_on = (column_behind-cons, length-with_behind)
+
+-- The pieces of a text, joined again, are the text.
+pub join_with_byte-pieces : (c : ℕ) (bs : List ℕ) → join_with_byte c (pieces c bs) ≡ bs
+join_with_byte-pieces c bs = join_with_byte-slice_split c bs
+
+-- What joining the pieces that are left uses.
+pub ruleset joining = (join_with_byte-pieces)
+
+-- A front that is free of the separator is the first piece, whole or up to the separator.
+pieces-free : (c : ℕ) (w : List ℕ) → is_free_of c w ≡ true → pieces c w ≡ w ∷ []
+pieces-free c [] h = refl
+pieces-free c (b ∷ w) h =
+    let parts = and_true (not (eqb b c)) (is_free_of c w) h in
+    slice_split-cons_no (λ b. eqb b c) b w (not-true _ parts.0) ∙ ap (onto_first b) (pieces-free c w parts.1)
+
+pieces-front : (c : ℕ) (w bs : List ℕ) → is_free_of c w ≡ true → pieces c (w ++ c ∷ bs) ≡ w ∷ pieces c bs
+pieces-front c [] bs h = slice_split-cons_yes (λ b. eqb b c) c bs (eq-eqb c c refl)
+pieces-front c (b ∷ w) bs h =
+    let parts = and_true (not (eqb b c)) (is_free_of c w) h in
+    slice_split-cons_no (λ b. eqb b c) b (w ++ c ∷ bs) (not-true _ parts.0) ∙ ap (onto_first b) (pieces-front c w bs parts.1)
+
+-- Pieces that are free of the separator, joined, are cut into themselves.
+pub pieces-join_with_byte : (c : ℕ) (ws : List (List ℕ)) → list_all (is_free_of c) ws ≡ true → 0 < length ws → pieces c (join_with_byte c ws) ≡ ws
+pieces-join_with_byte c [] free some = absurd (omega arith)
+pieces-join_with_byte c (w ∷ []) free some = pieces-free c w (and_true (is_free_of c w) true free).0
+pieces-join_with_byte c (w ∷ x ∷ ws) free some =
+    let parts = and_true (is_free_of c w) (list_all (is_free_of c) (x ∷ ws)) free in
+    pieces-front c w (join_with_byte c (x ∷ ws)) parts.0 ∙ ap (λ vs. w ∷ vs) (pieces-join_with_byte c (x ∷ ws) parts.1 (omega arith))
+
+-- Each piece is free of the separator.
+free_onto : (c b : ℕ) (ws : List (List ℕ)) → eqb b c ≡ false → list_all (is_free_of c) ws ≡ true → list_all (is_free_of c) (onto_first b ws) ≡ true
+free_onto c b [] other free = rw other refl
+free_onto c b (w ∷ ws) other free = rw other free
+
+free_with : (c b : ℕ) (bs : List ℕ) (t : Bool) → eqb b c ≡ t → list_all (is_free_of c) (pieces c bs) ≡ true → list_all (is_free_of c) (cond t ([] ∷ pieces c bs) (onto_first b (pieces c bs))) ≡ true
+free_with c b bs true e free = free
+free_with c b bs false e free = free_onto c b (pieces c bs) e free
+
+pub pieces_free : (c : ℕ) (bs : List ℕ) → list_all (is_free_of c) (pieces c bs) ≡ true
+pieces_free c [] = refl
+pieces_free c (b ∷ bs) = free_with c b bs (eqb b c) refl (pieces_free c bs)

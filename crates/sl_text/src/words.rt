@@ -1,11 +1,13 @@
 //! The words of a line, read one by one from the left, and the parts of a word, which colons keep apart.
 
 ghost use Rattle.std.specs.Prelude.{option_copied, IsTrue, ◌==◌, ◌≡◌, ◌∷◌, ◌<◌, ◌^◌};
-ghost use Rattle.std.specs.List.{position};
+ghost use Rattle.std.specs.List.{join_with_byte, position};
 ghost use Rattle.sl_text.specs.Forms as forms;
-ghost use Rattle.sl_text.specs.Walks.{column_past, past_word, pieces_behind, unread, with_behind};
+ghost use Rattle.sl_text.specs.Walks.{column_past, left_after, next_as, past_word, pieces_behind, unread, with_behind};
 ghost use Rattle.sl_words.specs.Words.{first_of_list};
+ghost use Rattle.sl_text.specs.Names.{is_name};
 
+use crate::short::Name;
 use std::marker::Model;
 
 /// Where the first separator stands.
@@ -86,5 +88,50 @@ impl<'a, const SEPARATOR: u8> Pieces<'a, SEPARATOR> {
         self.column = column_past(self.column, word, rest);
         self.rest = rest;
         Some(word)
+    }
+
+    /// The next piece, which stays the next.
+    pub fn peek(&self) -> Option<&'a [u8]>
+        ensures { option_copied result ≡ first_of_list self.now.words }
+    {
+        let (word, _) = split_piece(SEPARATOR, self.rest?);
+        Some(word)
+    }
+
+    /// What is left of the text.
+    #[tactic(auto, using(crate::proofs::PieceLaws::joining))]
+    pub fn rest(&self) -> &'a [u8]
+        ensures { result.now ≡ join_with_byte SEPARATOR self.now.words }
+    {
+        match self.rest {
+            Some(text) => text,
+            None => &[],
+        }
+    }
+
+    /// Passes the next piece, if it is this text; else gives its column.
+    pub fn expect(&mut self, text: &[u8]) -> Result<(), usize>
+        ensures exact { result ≡ next_as (forms.exactly text.now) (λ _. tt) self.old }
+        ensures left { self.new ≡ left_after result self.old }
+    {
+        let column = self.column();
+        let word = self.peek().ok_or(column)?;
+        if word != text {
+            return Err(column);
+        }
+        let _ = self.next_word();
+        Ok(())
+    }
+
+    /// Reads the next piece as a name, and else gives its column.
+    pub fn name(&mut self) -> Result<Name, usize>
+        ensures exact { result ≡ next_as is_name (λ w. w) self.old }
+        ensures left { self.new ≡ left_after result self.old }
+    {
+        let column = self.column();
+        let word = self.peek().ok_or(column)?;
+        let name = Name::new(word).ok_or(column)?;
+        let _ = self.next_word();
+        Ok(name)
     }
 }
