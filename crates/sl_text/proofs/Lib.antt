@@ -2,3 +2,4 @@ pub mod NameLaws
 pub mod NumberLaws
 pub mod PieceLaws
 pub mod FormLaws
+pub mod HexLaws
