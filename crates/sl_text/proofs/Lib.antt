@@ -3,3 +3,4 @@ pub mod NumberLaws
 pub mod PieceLaws
 pub mod FormLaws
 pub mod HexLaws
+pub mod LineLaws

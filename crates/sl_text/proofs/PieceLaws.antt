@@ -1,6 +1,6 @@
 -- The pieces of a text between its separators: cutting off the first, and joining them again.
 use Rattle.sl_text.specs.Forms.{is_free_of, pieces}
-use Rattle.sl_text.specs.Walks.{column_behind, column_past, length_left, pieces_behind, with_behind}
+use Rattle.sl_text.specs.Walks.{column_behind, column_past, pieces_behind, text_left, with_behind}
 use Rattle.sl_words.proofs.WordLaws.{and_true}
 use Rattle.std.proofs.Common.{Bool, IsTrue, List, None, Option, Some, [], ap, arith, cond, drop, eqb, false, get_or, length, length-append, length-take, ltb, not, refl, sym, take, true, ℕ, ◌+◌, ◌++◌, ◌<◌, ◌≡◌, ◌≤◌, ◌∙◌, ◌∷◌}
 use Rattle.std.proofs.lemmas.Bool.{eq-eqb, eqb-true, ltb-false, ltb-true, not-true, not_from_false}
@@ -55,7 +55,7 @@ free_at c bs at h =
 pub ruleset cutting = (pieces_at, pieces_alone, text_at, free_at, free_alone)
 
 -- There is always a first piece.
-first_piece : (c : ℕ) (bs : List ℕ) → (w : List ℕ) × (ws : List (List ℕ)) × (pieces c bs ≡ w ∷ ws)
+pub first_piece : (c : ℕ) (bs : List ℕ) → (w : List ℕ) × (ws : List (List ℕ)) × (pieces c bs ≡ w ∷ ws)
 first_piece c [] = ([], [], refl)
 first_piece c (b ∷ bs) = elim (eqb b c) as (λ t. (w : List ℕ) × (ws : List (List ℕ)) × (cond t ([] ∷ pieces c bs) (onto_first b (pieces c bs)) ≡ w ∷ ws)) [
   | true ↦ ([], pieces c bs, refl)
@@ -68,7 +68,7 @@ column_behind-cons column c w None = refl
 column_behind-cons column c w (Some bs) = let first = first_piece c bs in ap (λ ws. column_behind column (w ∷ ws)) first.2
 
 -- How long a word is with what stands behind it.
-pub length-with_behind : (column c : ℕ) (w : List ℕ) (rest : Option (List ℕ)) → column + length (with_behind c w rest) ≡ column_past column w rest + length_left rest
+pub length-with_behind : (column c : ℕ) (w : List ℕ) (rest : Option (List ℕ)) → column + length (with_behind c w rest) ≡ column_past column w rest + length (text_left rest)
 length-with_behind column c w None = omega arith
 length-with_behind column c w (Some bs) = omega (arith, length-append w (c ∷ bs))
 
@@ -89,7 +89,7 @@ pieces-free c (b ∷ w) h =
     let parts = and_true (not (eqb b c)) (is_free_of c w) h in
     slice_split-cons_no (λ b. eqb b c) b w (not-true _ parts.0) ∙ ap (onto_first b) (pieces-free c w parts.1)
 
-pieces-front : (c : ℕ) (w bs : List ℕ) → is_free_of c w ≡ true → pieces c (w ++ c ∷ bs) ≡ w ∷ pieces c bs
+pub pieces-front : (c : ℕ) (w bs : List ℕ) → is_free_of c w ≡ true → pieces c (w ++ c ∷ bs) ≡ w ∷ pieces c bs
 pieces-front c [] bs h = slice_split-cons_yes (λ b. eqb b c) c bs (eq-eqb c c refl)
 pieces-front c (b ∷ w) bs h =
     let parts = and_true (not (eqb b c)) (is_free_of c w) h in

@@ -15,10 +15,10 @@ abbrev pub with_behind : ℕ → List ℕ → Option (List ℕ) → List ℕ
 with_behind c w None = w
 with_behind c w (Some bs) = w ++ c ∷ bs
 
--- How many bytes are left.
-abbrev pub length_left : Option (List ℕ) → ℕ
-length_left None = 0
-length_left (Some bs) = length bs
+-- The text behind a separator, and none where there is no separator.
+abbrev pub text_left : Option (List ℕ) → List ℕ
+text_left None = []
+text_left (Some bs) = bs
 
 -- The column behind a word and its separator, if it has one.
 abbrev pub column_past : ℕ → List ℕ → Option (List ℕ) → ℕ

@@ -50,14 +50,14 @@ pub struct Pieces<'a, const SEPARATOR: u8> {
 }
 
 impl<'a, const SEPARATOR: u8> Model for Pieces<'a, SEPARATOR> {
-    ghost use Rattle.std.specs.Prelude.{option_copied, ◌+◌, ◌<◌, ◌^◌};
-    ghost use Rattle.sl_text.specs.Walks.{length_left, pieces_behind, Unread};
+    ghost use Rattle.std.specs.Prelude.{length, option_copied, ◌+◌, ◌<◌, ◌^◌};
+    ghost use Rattle.sl_text.specs.Walks.{text_left, pieces_behind, Unread};
 
     ghost Value = { Unread };
 
     ghost view = { λ r. record { column = r.column; words = pieces_behind SEPARATOR (option_copied r.rest) } };
 
-    ghost invariant = { λ r. r.column + length_left (option_copied r.rest) < 2 ^ 64 };
+    ghost invariant = { λ r. r.column + length (text_left (option_copied r.rest)) < 2 ^ 64 };
 }
 
 impl<'a, const SEPARATOR: u8> Pieces<'a, SEPARATOR> {
