@@ -62,6 +62,9 @@ first_piece c (b ∷ bs) = elim (eqb b c) as (λ t. (w : List ℕ) × (ws : List
   | false ↦ let rest = first_piece c bs in (b ∷ rest.0, rest.1, ap (onto_first b) rest.2)
 ]
 
+pub some_piece : (c : ℕ) (bs : List ℕ) → 0 < length (pieces c bs)
+some_piece c bs = let first = first_piece c bs in omega (arith, ap length first.2)
+
 -- The column behind the first piece.
 pub column_behind-cons : (column c : ℕ) (w : List ℕ) (rest : Option (List ℕ)) → column_behind column (w ∷ pieces_behind c rest) ≡ column_past column w rest
 column_behind-cons column c w None = refl

@@ -1,13 +1,18 @@
 //! The words of a line, read one by one from the left, and the parts of a word, which colons keep apart.
 
-ghost use Rattle.std.specs.Prelude.{option_copied, IsTrue, ◌==◌, ◌≡◌, ◌∷◌, ◌<◌, ◌^◌};
+ghost use Rattle.std.specs.Prelude.{nat_lt, option_copied, IsTrue, ◌==◌, ◌≡◌, ◌∷◌, ◌<◌, ◌^◌};
+ghost use Rattle.std.specs.Int.{is_in_range};
+ghost use Rattle.std.specs.Option.{ok_or};
 ghost use Rattle.std.specs.List.{join_with_byte, position};
 ghost use Rattle.sl_text.specs.Forms as forms;
-ghost use Rattle.sl_text.specs.Walks.{column_past, left_after, next_as, past_word, pieces_behind, unread, with_behind};
+ghost use Rattle.sl_text.specs.Numbers as numbers;
+ghost use Rattle.sl_text.specs.Walks.{at_end, column_past, left_after, next_as, past_word, pieces_behind, unread, with_behind};
 ghost use Rattle.sl_words.specs.Words.{first_of_list};
-ghost use Rattle.sl_text.specs.Names.{is_name};
+ghost use Rattle.sl_text.specs.Names.{is_name, is_path};
 
-use crate::short::Name;
+use crate::hex::read_hex;
+use crate::number::{read_number, read_number_within, read_short_number};
+use crate::short::{Data, FilePath, Name};
 use std::marker::Model;
 
 /// Where the first separator stands.
@@ -109,29 +114,88 @@ impl<'a, const SEPARATOR: u8> Pieces<'a, SEPARATOR> {
         }
     }
 
+    /// Passes the next piece, if something was read of it; else gives its column.
+    pub fn accept<T>(&mut self, read: Option<T>) -> Result<T, usize>
+        ensures exact { result ≡ ok_or read self.old.column }
+        ensures left { self.new ≡ left_after result self.old }
+    {
+        let value = read.ok_or(self.column())?;
+        let _ = self.next_word();
+        Ok(value)
+    }
+
     /// Passes the next piece, if it is this text; else gives its column.
     pub fn expect(&mut self, text: &[u8]) -> Result<(), usize>
         ensures exact { result ≡ next_as (forms.exactly text.now) (λ _. tt) self.old }
         ensures left { self.new ≡ left_after result self.old }
     {
-        let column = self.column();
-        let word = self.peek().ok_or(column)?;
-        if word != text {
-            return Err(column);
-        }
-        let _ = self.next_word();
-        Ok(())
+        self.accept(self.peek().filter(|word| *word == text).map(|_| ()))
     }
 
-    /// Reads the next piece as a name, and else gives its column.
+    /// Reads the next piece as a name; else gives its column.
     pub fn name(&mut self) -> Result<Name, usize>
         ensures exact { result ≡ next_as is_name (λ w. w) self.old }
         ensures left { self.new ≡ left_after result self.old }
     {
-        let column = self.column();
-        let word = self.peek().ok_or(column)?;
-        let name = Name::new(word).ok_or(column)?;
-        let _ = self.next_word();
-        Ok(name)
+        self.accept(self.peek().and_then(Name::new))
+    }
+
+    /// Reads the next piece as a path; else gives its column.
+    pub fn path(&mut self) -> Result<FilePath, usize>
+        ensures exact { result ≡ next_as is_path (λ w. w) self.old }
+        ensures left { self.new ≡ left_after result self.old }
+    {
+        self.accept(self.peek().and_then(FilePath::new))
+    }
+
+    /// Reads the next piece as a number, capped at 2^64 - 1; else gives its column.
+    pub fn number(&mut self) -> Result<u64, usize>
+        ensures exact { result ≡ next_as numbers.is_number_text numbers.capped_long self.old }
+        ensures left { self.new ≡ left_after result self.old }
+    {
+        self.accept(self.peek().and_then(read_number))
+    }
+
+    /// Reads the next piece as a number above 0, capped at 2^64 - 1; else gives its column.
+    pub fn positive_number(&mut self) -> Result<u64, usize>
+        ensures exact { result ≡ next_as (numbers.is_number_that (λ n. nat_lt 0 n)) numbers.capped_long self.old }
+        ensures left { self.new ≡ left_after result self.old }
+    {
+        self.accept(self.peek().and_then(read_number).filter(|number| 0 < *number))
+    }
+
+    /// Reads the next piece as a number above 0, capped at 2^32 - 1; else gives its column.
+    pub fn positive_short_number(&mut self) -> Result<u32, usize>
+        ensures exact { result ≡ next_as (numbers.is_number_that (λ n. nat_lt 0 n)) numbers.capped_short self.old }
+        ensures left { self.new ≡ left_after result self.old }
+    {
+        self.accept(self.peek().and_then(read_short_number).filter(|number| 0 < *number))
+    }
+
+    /// Reads the next piece as a number from `low` to `high`; else gives its column.
+    pub fn number_within(&mut self, low: u64, high: u64) -> Result<u64, usize>
+        ensures exact { result ≡ next_as (numbers.is_number_that (is_in_range low high)) numbers.number_of self.old }
+        ensures left { self.new ≡ left_after result self.old }
+    {
+        self.accept(self.peek().and_then(|word| read_number_within(word, low, high)))
+    }
+
+    /// Reads the next piece as the hex digits of 1 to 256 bytes; else gives its column.
+    pub fn hex(&mut self) -> Result<Data, usize>
+        ensures exact { result ≡ next_as (numbers.is_hex_word 2 512) numbers.hex_bytes self.old }
+        ensures left { self.new ≡ left_after result self.old }
+    {
+        self.accept(self.peek().and_then(read_hex))
+    }
+
+    /// That no piece is left; else gives the column of the next one.
+    #[tactic(auto, using(crate::proofs::PieceLaws::some_piece))]
+    pub fn finish(&self) -> Result<(), usize>
+        ensures { result ≡ at_end self.now }
+    {
+        match self.rest {
+            None => Ok(()),
+            Some(_) => Err(self.column),
+        }
     }
 }
