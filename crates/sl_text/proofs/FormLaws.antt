@@ -1,9 +1,11 @@
 -- A list of forms, followed word by word from the left, makes what the whole words make, and fails at the same column.
 use Rattle.sl_text.specs.Forms.{Form, bad_column, column_of, fits_whole, fitting, made_by, spaced}
-use Rattle.sl_text.specs.Walks.{column_behind, form_behind, forms_behind, read_from}
+use Rattle.sl_text.specs.Walks.{at_end, column_behind, form_behind, form_with, forms_behind, going_on, made_at_end, made_without, next_as, past_word, read_by, read_from, Unread}
+use Rattle.sl_words.specs.Results.{ensure, ◌>>=◌}
 use Rattle.sl_words.proofs.ListLaws.{greatest-cons}
-use Rattle.sl_words.specs.Words.{greatest}
-use Rattle.std.proofs.Common.{add_comm, Bool, List, None, Option, Some, [], ap, arith, cond, eqb, false, inl, inr, length, length-append, map, max, refl, suc, sym, take, true, zero, ℕ, ◌+◌, ◌++◌, ◌&&◌, ◌≡◌, ◌∙◌, ◌∷◌, ◌≤◌}
+use Rattle.sl_words.specs.Words.{choose, greatest}
+use Rattle.std.proofs.Common.{add_comm, Bool, List, None, Option, Some, [], ap, arith, cond, drop, eqb, false, inl, inr, length, length-append, map, max, refl, suc, sym, take, true, zero, ℕ, ◌+◌, ◌++◌, ◌&&◌, ◌≡◌, ◌∙◌, ◌∷◌, ◌≤◌}
+use Rattle.std.proofs.lemmas.Bool.{and_left, ne_eqb}
 use Rattle.std.proofs.lemmas.Bool.Decides.{nat_tests}
 use Rattle.std.proofs.lemmas.List.Sums.{sum_by-cons}
 use Rattle.std.specs.List.{find, sum_by}
@@ -55,6 +57,21 @@ made_more {A} w ws (p ∷ ps) make fs gs e =
 pub made_by-cons : {A : Type 0} (w : List ℕ) (ws : List (List ℕ)) (fs : List (Form A)) → made_by fs (w ∷ ws) ≡ made_by (forms_behind w fs) ws
 made_by-cons w ws [] = refl
 made_by-cons w ws (f ∷ fs) = made_more w ws f.words f.make fs (forms_behind w fs) (made_by-cons w ws fs)
+
+not_empty : (words : ℕ) → eqb (suc words) 0 ≡ false
+not_empty words = ne_eqb (suc words) 0 (λ h. omega arith)
+
+-- No words make what the first form makes that has no test.
+made_first : {A : Type 0} (ps : List (List ℕ → Bool)) (make : List (List ℕ) → A) (fs : List (Form A)) (later : Option A)
+    → made_by fs [] ≡ later → made_by (record { words = ps; make = make } ∷ fs) [] ≡ made_without ps make later
+made_first [] make fs later e = refl
+made_first {A} (p ∷ ps) make fs later e =
+    let form : Form A = record { words = p ∷ ps; make = make } in
+    ap (λ t. option_map (λ (f : Form A). f.make []) (cond t (Some form) (find (λ f. fits_whole f.words []) fs))) (and_left _ (eqb 0 0) (not_empty (length ps))) ∙ e
+
+made_by-none : {A : Type 0} (fs : List (Form A)) → made_by fs [] ≡ made_at_end fs
+made_by-none [] = refl
+made_by-none (f ∷ fs) = made_first f.words f.make fs (made_at_end fs) (made_by-none fs)
 
 -- How many words fit the form that fits the most.
 abbrev reached : {A : Type 0} → List (Form A) → List (List ℕ) → ℕ
@@ -152,7 +169,7 @@ made_behind fs gs column w ws made far =
 -- One word on.
 read_more : {A : Type 0} (gs : List (Form A)) (column : ℕ) (w : List ℕ) (ws : List (List ℕ))
     → ((hs : List (Form A)) (c : ℕ) → read_from hs c ws ≡ made_or_column hs c ws)
-    → elim gs as (λ _. Result A ℕ) [ [] ↦ Err column | g ∷ hs ↦ read_from (g ∷ hs) (column_behind column (w ∷ ws)) ws ]
+    → going_on gs column (λ hs. read_from hs (column_behind column (w ∷ ws)) ws)
         ≡ ok_or (made_by gs ws) (column_from column (w ∷ ws) (reached_behind gs ws))
 read_more [] column w ws rest = ap Err (sym (column_from-first column w ws))
 read_more (g ∷ hs) column w ws rest =
@@ -161,7 +178,8 @@ read_more (g ∷ hs) column w ws rest =
 
 -- Followed from the left, the forms make what the words make, and fail where they fail.
 read_from-made : {A : Type 0} (fs : List (Form A)) (column : ℕ) (ws : List (List ℕ)) → read_from fs column ws ≡ made_or_column fs column ws
-read_from-made fs column [] = ap (ok_or (made_by fs [])) (sym (column_from-none column (reached fs []) (reached-le fs [])))
+read_from-made fs column [] =
+    ap (λ o. ok_or o column) (sym (made_by-none fs)) ∙ ap (ok_or (made_by fs [])) (sym (column_from-none column (reached fs []) (reached-le fs [])))
 read_from-made fs column (w ∷ ws) =
     read_more (forms_behind w fs) column w ws (λ hs c. read_from-made hs c ws)
     ∙ sym (made_behind fs (forms_behind w fs) column w ws (made_by-cons w ws fs) (reached-words w ws fs))
@@ -174,3 +192,77 @@ column_from-start ws k = ap (λ n. cond (eqb k (length ws)) n (1 + sum_by (λ w.
 -- no form takes.
 pub read_from-is : {A : Type 0} (fs : List (Form A)) (ws : List (List ℕ)) → read_from fs 1 ws ≡ ok_or (made_by fs ws) (bad_column fs ws)
 read_from-is fs ws = read_from-made fs 1 ws ∙ ap (ok_or (made_by fs ws)) (column_from-start ws (reached fs ws))
+
+-- ---- forms, one step at a time
+
+-- One form, at a first word.
+word_taken : {A : Type 0} (p : List ℕ → Bool) (ps : List (List ℕ → Bool)) (make : List (List ℕ) → A) (column : ℕ) (words : List (List ℕ))
+    → read_from (record { words = p ∷ ps; make = make } ∷ []) column words
+        ≡ (next_as p (λ w. w) (record { column = column; words = words })
+            >>= λ w. read_from (record { words = ps; make = λ ws. make (w ∷ ws) } ∷ []) (column_behind column words) (drop 1 words))
+word_taken p ps make column [] = refl
+word_taken {A} p ps make column (w ∷ ws) =
+    elim (p w) as (λ t. going_on {A = A} ((if t then record { words = ps; make = λ vs. make (w ∷ vs) } ∷ [] else []) ++ []) column (λ gs. read_from gs (column_behind column (w ∷ ws)) ws) ≡ (ok_or (choose t w) column >>= λ v. read_from (record { words = ps; make = λ vs. make (v ∷ vs) } ∷ []) (column_behind column (w ∷ ws)) ws)) [
+      | true ↦ refl
+      | false ↦ refl
+    ]
+
+-- One form reads the word that its first test takes, and goes on.
+pub read_by-word : {A : Type 0} (p : List ℕ → Bool) (ps : List (List ℕ → Bool)) (make : List (List ℕ) → A) (u : Unread)
+    → read_by (record { words = p ∷ ps; make = make } ∷ []) u
+        ≡ (next_as p (λ w. w) u >>= λ w. read_by (record { words = ps; make = λ ws. make (w ∷ ws) } ∷ []) (past_word u))
+read_by-word p ps make u = word_taken p ps make u.column u.words
+
+-- At a form's end no word may be left.
+none_taken : {A : Type 0} (make : List (List ℕ) → A) (column : ℕ) (words : List (List ℕ))
+    → read_from (record { words = []; make = make } ∷ []) column words ≡ (ensure (length words == 0) column >>= λ _. Ok (make []))
+none_taken make column [] = refl
+none_taken {A} make column (w ∷ ws) = ap (λ t. ensure t column >>= λ _. Ok (make [])) (sym (not_empty (length ws)))
+
+pub read_by-end : {A : Type 0} (make : List (List ℕ) → A) (u : Unread) → read_by (record { words = []; make = make } ∷ []) u ≡ (at_end u >>= λ _. Ok (make []))
+read_by-end make u = none_taken make u.column u.words
+
+-- ---- a value that is made of the value that forms make
+
+made_without-map : {A B : Type 0} (f : A → B) (ps : List (List ℕ → Bool)) (make : List (List ℕ) → A) (later : Option A) (rest : Option B)
+    → rest ≡ option_map f later → made_without ps (λ ws. f (make ws)) rest ≡ option_map f (made_without ps make later)
+made_without-map f [] make later rest e = refl
+made_without-map f (p ∷ ps) make later rest e = e
+
+made_at_end-map : {A B : Type 0} (f : A → B) (fs : List (Form A)) → made_at_end (map (form_with f) fs) ≡ option_map f (made_at_end fs)
+made_at_end-map f [] = refl
+made_at_end-map f (g ∷ gs) = made_without-map f g.words g.make (made_at_end gs) (made_at_end (map (form_with f) gs)) (made_at_end-map f gs)
+
+-- One form, with others behind it.
+behind_map : {A B : Type 0} (f : A → B) (w : List ℕ) (ps : List (List ℕ → Bool)) (make : List (List ℕ) → A) (gs : List (Form A))
+    → form_behind w ps (λ ws. f (make ws)) ++ map (form_with f) gs ≡ map (form_with f) (form_behind w ps make ++ gs)
+behind_map f w [] make gs = refl
+behind_map {A} {B} f w (p ∷ ps) make gs =
+    elim (p w) as (λ t. (if t then record { words = ps; make = λ ws. f (make (w ∷ ws)) } ∷ [] else []) ++ map (form_with f) gs
+        ≡ map (form_with f) ((if t then record { words = ps; make = λ ws. make (w ∷ ws) } ∷ [] else []) ++ gs)) [ true ↦ refl | false ↦ refl ]
+
+forms_behind-map : {A B : Type 0} (f : A → B) (w : List ℕ) (fs : List (Form A)) → forms_behind w (map (form_with f) fs) ≡ map (form_with f) (forms_behind w fs)
+forms_behind-map f w [] = refl
+forms_behind-map f w (g ∷ gs) =
+    ap (λ hs. form_behind w g.words (λ ws. f (g.make ws)) ++ hs) (forms_behind-map f w gs) ∙ behind_map f w g.words g.make (forms_behind w gs)
+
+-- One word on.
+read_map_more : {A B : Type 0} (f : A → B) (gs : List (Form A)) (column behind : ℕ) (ws : List (List ℕ))
+    → ((hs : List (Form A)) (c : ℕ) → read_from (map (form_with f) hs) c ws ≡ (read_from hs c ws >>= λ a. Ok (f a)))
+    → going_on (map (form_with f) gs) column (λ hs. read_from hs behind ws) ≡ (going_on gs column (λ hs. read_from hs behind ws) >>= λ a. Ok (f a))
+read_map_more f [] column behind ws rest = refl
+read_map_more f (g ∷ gs) column behind ws rest = rest (g ∷ gs) behind
+
+ok_or-map : {A B : Type 0} (f : A → B) (o : Option A) (column : ℕ) → ok_or (option_map f o) column ≡ (ok_or o column >>= λ a. Ok (f a))
+ok_or-map f None column = refl
+ok_or-map f (Some a) column = refl
+
+read_from-map : {A B : Type 0} (f : A → B) (fs : List (Form A)) (column : ℕ) (ws : List (List ℕ)) → read_from (map (form_with f) fs) column ws ≡ (read_from fs column ws >>= λ a. Ok (f a))
+read_from-map f fs column [] = ap (λ o. ok_or o column) (made_at_end-map f fs) ∙ ok_or-map f (made_at_end fs) column
+read_from-map {A} {B} f fs column (w ∷ ws) =
+    ap (λ (gs : List (Form B)). going_on gs column (λ hs. read_from hs (column_behind column (w ∷ ws)) ws)) (forms_behind-map f w fs)
+    ∙ read_map_more f (forms_behind w fs) column (column_behind column (w ∷ ws)) ws (λ hs c. read_from-map f hs c ws)
+
+-- Forms whose values are made into others read as the forms do.
+pub read_by-map : {A B : Type 0} (f : A → B) (fs : List (Form A)) (u : Unread) → read_by (map (form_with f) fs) u ≡ (read_by fs u >>= λ a. Ok (f a))
+read_by-map f fs u = read_from-map f fs u.column u.words

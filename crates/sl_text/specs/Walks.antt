@@ -1,5 +1,5 @@
 -- Words read one by one from the left, and forms that are followed meanwhile.
-use Rattle.sl_text.specs.Forms.{Form, made_by, pieces}
+use Rattle.sl_text.specs.Forms.{Form, pieces}
 use Rattle.sl_words.specs.Results.{ensure}
 use Rattle.sl_words.specs.Words.{choose, first_of_list}
 use Rattle.std.specs.Option.{ok_or, option_and_then}
@@ -69,11 +69,29 @@ abbrev pub forms_behind : {A : Type 0} → List ℕ → List (Form A) → List (
 forms_behind w [] = []
 forms_behind w (f ∷ fs) = form_behind w f.words f.make ++ forms_behind w fs
 
+-- What a form makes that has no test left.
+abbrev pub made_without : {A : Type 0} → List (List ℕ → Bool) → (List (List ℕ) → A) → Option A → Option A
+made_without [] make later = Some (make [])
+made_without (p ∷ ps) make later = later
+
+-- What the first form makes that has no test left.
+abbrev pub made_at_end : {A : Type 0} → List (Form A) → Option A
+made_at_end [] = None
+made_at_end (f ∷ fs) = made_without f.words f.make (made_at_end fs)
+
+-- What comes of the forms that go on, or this column where none does.
+abbrev pub going_on : {A : Type 0} → List (Form A) → ℕ → (List (Form A) → Result A ℕ) → Result A ℕ
+going_on [] column next = Err column
+going_on (g ∷ gs) column next = next (g ∷ gs)
+
 -- What the words make, read from the left; else the column of the first word behind which no form goes on.
 abbrev pub read_from : {A : Type 0} → List (Form A) → ℕ → List (List ℕ) → Result A ℕ
-read_from fs column [] = ok_or (made_by fs []) column
-read_from fs column (w ∷ ws) =
-    elim (forms_behind w fs) [ [] ↦ Err column | g ∷ gs ↦ read_from (g ∷ gs) (column_behind column (w ∷ ws)) ws ]
+read_from fs column [] = ok_or (made_at_end fs) column
+read_from fs column (w ∷ ws) = going_on (forms_behind w fs) column (λ gs. read_from gs (column_behind column (w ∷ ws)) ws)
+
+-- The same for what a reader has before it.
+abbrev pub read_by : {A : Type 0} → List (Form A) → Unread → Result A ℕ
+read_by fs u = read_from fs u.column u.words
 
 -- The form whose value is made into another.
 abbrev pub form_with : {A B : Type 0} → (A → B) → Form A → Form B
