@@ -4,3 +4,4 @@ pub mod PieceLaws
 pub mod FormLaws
 pub mod HexLaws
 pub mod LineLaws
+pub mod PartLaws

@@ -1,9 +1,9 @@
 -- Words read one by one from the left, and forms that are followed meanwhile.
-use Rattle.sl_text.specs.Forms.{Form, pieces}
-use Rattle.sl_words.specs.Results.{ensure}
+use Rattle.sl_text.specs.Forms.{Form, pieces, word_at}
+use Rattle.sl_words.specs.Results.{ensure, ◌>>=◌}
 use Rattle.sl_words.specs.Words.{choose, first_of_list}
 use Rattle.std.specs.Option.{ok_or, option_and_then}
-use Rattle.std.specs.Prelude.{Bool, Err, List, None, Ok, Option, Result, Some, drop, if◌then◌else◌, length, [], ℕ, ◌+◌, ◌++◌, ◌==◌, ◌∷◌}
+use Rattle.std.specs.Prelude.{Bool, Err, List, None, Ok, Option, Result, Some, drop, if◌then◌else◌, length, [], ℕ, ◌&&◌, ◌+◌, ◌++◌, ◌==◌, ◌∷◌}
 
 -- The pieces of what stands behind a separator, and none where there is no separator.
 abbrev pub pieces_behind : ℕ → Option (List ℕ) → List (List ℕ)
@@ -96,3 +96,43 @@ read_by fs u = read_from fs u.column u.words
 -- The form whose value is made into another.
 abbrev pub form_with : {A B : Type 0} → (A → B) → Form A → Form B
 form_with f form = record { words = form.words; make = λ ws. f (form.make ws) }
+
+-- ---- words of several parts
+
+-- What a part may be, and what it stands for.
+pub record Part (A : Type 0) : Type 0 where
+  pub passes : List ℕ → Bool
+  pub value : List ℕ → A
+
+-- The next word, as this part.
+abbrev pub next_part : {A : Type 0} → Part A → Unread → Result A ℕ
+next_part p u = next_as p.passes p.value u
+
+-- Four parts and no more, read one by one.
+abbrev pub four_read : {A B C D E : Type 0} → Part A → Part B → Part C → Part D → (A → B → C → D → E) → Unread → Result E ℕ
+four_read p q r s make u = do
+  a ← next_part p u
+  b ← next_part q (past_word u)
+  c ← next_part r (past_word (past_word u))
+  d ← next_part s (past_word (past_word (past_word u)))
+  done ← at_end (past_word (past_word (past_word (past_word u))))
+  Ok (make a b c d)
+
+-- Five parts and no more, read one by one.
+abbrev pub five_read : {A B C D E F : Type 0} → Part A → Part B → Part C → Part D → Part E → (A → B → C → D → E → F) → Unread → Result F ℕ
+five_read p q r s t make u = do
+  a ← next_part p u
+  b ← next_part q (past_word u)
+  c ← next_part r (past_word (past_word u))
+  d ← next_part s (past_word (past_word (past_word u)))
+  e ← next_part t (past_word (past_word (past_word (past_word u))))
+  done ← at_end (past_word (past_word (past_word (past_word (past_word u)))))
+  Ok (make a b c d e)
+
+-- Whether the words are these parts and no more.
+abbrev pub are_four : {A B C D : Type 0} → Part A → Part B → Part C → Part D → List (List ℕ) → Bool
+are_four p q r s ws = length ws == 4 && p.passes (word_at ws 0) && q.passes (word_at ws 1) && r.passes (word_at ws 2) && s.passes (word_at ws 3)
+
+abbrev pub are_five : {A B C D E : Type 0} → Part A → Part B → Part C → Part D → Part E → List (List ℕ) → Bool
+are_five p q r s t ws =
+    length ws == 5 && p.passes (word_at ws 0) && q.passes (word_at ws 1) && r.passes (word_at ws 2) && s.passes (word_at ws 3) && t.passes (word_at ws 4)
