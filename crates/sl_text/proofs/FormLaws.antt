@@ -1,9 +1,9 @@
 -- A list of forms, followed word by word from the left, makes what the whole words make, and fails at the same column.
 use Rattle.sl_text.specs.Forms.{Form, bad_column, column_of, fits_whole, fitting, made_by, spaced}
-use Rattle.sl_text.specs.Walks.{at_end, column_behind, form_behind, form_with, forms_behind, going_on, made_at_end, made_without, next_as, past_word, read_by, read_from, Unread}
+use Rattle.sl_text.specs.Walks.{at_end, column_behind, form_behind, form_with, forms_behind, going_on, made_at_end, made_without, next_as, past_word, read_by, read_each, read_from, Unread}
 use Rattle.sl_words.specs.Results.{ensure, ◌>>=◌}
 use Rattle.sl_words.proofs.ListLaws.{greatest-cons}
-use Rattle.sl_words.specs.Words.{choose, greatest}
+use Rattle.sl_words.specs.Words.{greatest}
 use Rattle.std.proofs.Common.{add_comm, Bool, List, None, Option, Some, [], ap, arith, cond, drop, eqb, false, inl, inr, length, length-append, map, max, refl, suc, sym, take, true, zero, ℕ, ◌+◌, ◌++◌, ◌&&◌, ◌≡◌, ◌∙◌, ◌∷◌, ◌≤◌}
 use Rattle.std.proofs.lemmas.Bool.{and_left, ne_eqb}
 use Rattle.std.proofs.lemmas.Bool.Decides.{nat_tests}
@@ -202,7 +202,7 @@ word_taken : {A : Type 0} (p : List ℕ → Bool) (ps : List (List ℕ → Bool)
             >>= λ w. read_from (record { words = ps; make = λ ws. make (w ∷ ws) } ∷ []) (column_behind column words) (drop 1 words))
 word_taken p ps make column [] = refl
 word_taken {A} p ps make column (w ∷ ws) =
-    elim (p w) as (λ t. going_on {A = A} ((if t then record { words = ps; make = λ vs. make (w ∷ vs) } ∷ [] else []) ++ []) column (λ gs. read_from gs (column_behind column (w ∷ ws)) ws) ≡ (ok_or (choose t w) column >>= λ v. read_from (record { words = ps; make = λ vs. make (v ∷ vs) } ∷ []) (column_behind column (w ∷ ws)) ws)) [
+    elim (p w) as (λ t. going_on {A = A} ((if t then record { words = ps; make = λ vs. make (w ∷ vs) } ∷ [] else []) ++ []) column (λ gs. read_from gs (column_behind column (w ∷ ws)) ws) ≡ ((if t then Ok w else Err column) >>= λ v. read_from (record { words = ps; make = λ vs. make (v ∷ vs) } ∷ []) (column_behind column (w ∷ ws)) ws)) [
       | true ↦ refl
       | false ↦ refl
     ]
@@ -221,6 +221,12 @@ none_taken {A} make column (w ∷ ws) = ap (λ t. ensure t column >>= λ _. Ok (
 
 pub read_by-end : {A : Type 0} (make : List (List ℕ) → A) (u : Unread) → read_by (record { words = []; make = make } ∷ []) u ≡ (at_end u >>= λ _. Ok (make []))
 read_by-end make u = none_taken make u.column u.words
+
+-- One form is read word by word.
+pub read_by-one : {A : Type 0} (ps : List (List ℕ → Bool)) (make : List (List ℕ) → A) (u : Unread) → read_by (record { words = ps; make = make } ∷ []) u ≡ read_each ps make u
+read_by-one [] make u = read_by-end make u
+read_by-one (p ∷ ps) make u =
+    read_by-word p ps make u ∙ ap (λ next. next_as p (λ w. w) u >>= next) (λ i w. read_by-one ps (λ ws. make (w ∷ ws)) (past_word u) i)
 
 -- ---- a value that is made of the value that forms make
 

@@ -2,26 +2,15 @@
 use Rattle.sl_text.specs.Forms.{word_at}
 use Rattle.sl_text.specs.Walks.{Part, Unread, are_five, are_four, at_end, five_read, four_read, next_as, next_part, past_word}
 use Rattle.sl_words.specs.Results.{ensure, ◌>>=◌}
-use Rattle.sl_words.specs.Words.{choose}
-use Rattle.std.proofs.Common.{Bool, List, None, Option, [], ap, arith, eqb, false, length, refl, suc, sym, true, ℕ, ◌&&◌, ◌<◌, ◌≡◌, ◌∙◌, ◌∷◌}
+use Rattle.sl_words.specs.Words.{choose, first_of_list}
+use Rattle.std.proofs.Common.{Bool, List, None, Option, Some, [], ap, arith, eqb, false, length, refl, suc, sym, true, ℕ, ◌&&◌, ◌<◌, ◌≡◌, ◌∙◌, ◌∷◌}
 use Rattle.std.proofs.lemmas.Bool.{ne_eqb}
 use Rattle.std.specs.Option.{ok_or}
-use Rattle.std.specs.Prelude.{Ok, Result}
+use Rattle.std.specs.Prelude.{Err, Ok, Result, if◌then◌else◌}
 use Rattle.std.specs.Result.{result_ok}
 
--- The last step: all are read, and this test holds of the last.
-last_test : {A E : Type 0} (t : Bool) (a : A) (i : ℕ) (make : A → E) → result_ok (ok_or (choose t a) i >>= λ x. Ok (make x)) ≡ choose t (make a)
-last_test true a i make = refl
-last_test false a i make = refl
-
--- A step that must hold too.
-one_test : {A E : Type 0} (before t : Bool) (a : A) (i : ℕ) (next : A → Result E ℕ) (made : E) → result_ok (next a) ≡ choose before made
-    → result_ok (ok_or (choose t a) i >>= next) ≡ choose (t && before) made
-one_test before true a i next made h = h
-one_test before false a i next made h = refl
-
 -- A step behind which nothing is read.
-none_behind : {A E : Type 0} (t : Bool) (x : A) (i : ℕ) (next : A → Result E ℕ) → ((y : A) → result_ok (next y) ≡ None) → result_ok (ok_or (choose t x) i >>= next) ≡ None
+none_behind : {A E : Type 0} (t : Bool) (x : A) (i : ℕ) (next : A → Result E ℕ) → ((y : A) → result_ok (next y) ≡ None) → result_ok ((if t then Ok x else Err i) >>= next) ≡ None
 none_behind true x i next h = h x
 none_behind false x i next h = refl
 
@@ -35,7 +24,7 @@ too_many parts most rest made more e = ap (λ t. choose (rest t) made) (ne_eqb p
 
 -- Four tests, one after another, and five.
 four_tests : {A B C D E : Type 0} (ta tb tc td : Bool) (a : A) (b : B) (c : C) (d : D) (i j k l : ℕ) (make : A → B → C → D → E)
-    → result_ok (ok_or (choose ta a) i >>= λ x. ok_or (choose tb b) j >>= λ y. ok_or (choose tc c) k >>= λ z. ok_or (choose td d) l >>= λ w. Ok (make x y z w))
+    → result_ok ((if ta then Ok a else Err i) >>= λ x. (if tb then Ok b else Err j) >>= λ y. (if tc then Ok c else Err k) >>= λ z. (if td then Ok d else Err l) >>= λ w. Ok (make x y z w))
         ≡ choose (ta && tb && tc && td) (make a b c d)
 four_tests true true true true a b c d i j k l make = refl
 four_tests true true true false a b c d i j k l make = refl
@@ -44,7 +33,7 @@ four_tests true false tc td a b c d i j k l make = refl
 four_tests false tb tc td a b c d i j k l make = refl
 
 five_tests : {A B C D E F : Type 0} (ta tb tc td te : Bool) (a : A) (b : B) (c : C) (d : D) (e : E) (i j k l m : ℕ) (make : A → B → C → D → E → F)
-    → result_ok (ok_or (choose ta a) i >>= λ x. ok_or (choose tb b) j >>= λ y. ok_or (choose tc c) k >>= λ z. ok_or (choose td d) l >>= λ w. ok_or (choose te e) m >>= λ v. Ok (make x y z w v))
+    → result_ok ((if ta then Ok a else Err i) >>= λ x. (if tb then Ok b else Err j) >>= λ y. (if tc then Ok c else Err k) >>= λ z. (if td then Ok d else Err l) >>= λ w. (if te then Ok e else Err m) >>= λ v. Ok (make x y z w v))
         ≡ choose (ta && tb && tc && td && te) (make a b c d e)
 five_tests true tb tc td te a b c d e i j k l m make = four_tests tb tc td te b c d e j k l m (make a)
 five_tests false tb tc td te a b c d e i j k l m make = refl
@@ -94,3 +83,12 @@ pub five_read-is : {A B C D E F : Type 0} (p : Part A) (q : Part B) (r : Part C)
         ≡ choose (are_five p q r s t u.words)
             (make (p.value (word_at u.words 0)) (q.value (word_at u.words 1)) (r.value (word_at u.words 2)) (s.value (word_at u.words 3)) (t.value (word_at u.words 4)))
 five_read-is p q r s t make u = five_parts p q r s t make u.column u.words
+
+-- What was read of the next word is what it stands for, if it passes.
+pub accepted : {A : Type 0} (passes : List ℕ → Bool) (value : List ℕ → A) (column : ℕ) (ws : List (List ℕ)) (w : List ℕ) (read : Option A)
+    → first_of_list ws ≡ Some w → read ≡ choose (passes w) (value w) → ok_or read column ≡ next_as passes value (record { column = column; words = ws })
+accepted passes value column [] w read first of_word = absurd cc
+accepted passes value column (x ∷ ws) w read first of_word =
+    let same : w ≡ x = cc in
+    ap (λ o. ok_or o column) of_word ∙ ap (λ v. ok_or (choose (passes v) (value v)) column) same
+    ∙ elim (passes x) as (λ t. ok_or (choose t (value x)) column ≡ (if t then Ok (value x) else Err column)) [ true ↦ refl | false ↦ refl ]

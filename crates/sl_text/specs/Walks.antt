@@ -1,8 +1,8 @@
 -- Words read one by one from the left, and forms that are followed meanwhile.
 use Rattle.sl_text.specs.Forms.{Form, pieces, word_at}
 use Rattle.sl_words.specs.Results.{ensure, ◌>>=◌}
-use Rattle.sl_words.specs.Words.{choose, first_of_list}
-use Rattle.std.specs.Option.{ok_or, option_and_then}
+use Rattle.sl_words.specs.Words.{first_of_list, some_is}
+use Rattle.std.specs.Option.{ok_or}
 use Rattle.std.specs.Prelude.{Bool, Err, List, None, Ok, Option, Result, Some, drop, if◌then◌else◌, length, [], ℕ, ◌&&◌, ◌+◌, ◌++◌, ◌==◌, ◌∷◌}
 
 -- The pieces of what stands behind a separator, and none where there is no separator.
@@ -44,9 +44,13 @@ past_word u = record { column = column_behind u.column u.words; words = drop 1 u
 abbrev pub unread : ℕ → List ℕ → Unread
 unread c text = record { column = 1; words = pieces c text }
 
+-- Whether a word is left, and passes.
+abbrev pub next_passes : (List ℕ → Bool) → Unread → Bool
+next_passes passes u = some_is passes (first_of_list u.words)
+
 -- What the next word stands for, if it passes; else its column.
 abbrev pub next_as : {A : Type 0} → (List ℕ → Bool) → (List ℕ → A) → Unread → Result A ℕ
-next_as passes make u = ok_or (option_and_then (λ w. choose (passes w) (make w)) (first_of_list u.words)) u.column
+next_as passes value u = if next_passes passes u then Ok (value (word_at u.words 0)) else Err u.column
 
 -- Behind the word where it passed, and before it else.
 abbrev pub left_after : {A : Type 0} → Result A ℕ → Unread → Unread
@@ -92,6 +96,11 @@ read_from fs column (w ∷ ws) = going_on (forms_behind w fs) column (λ gs. rea
 -- The same for what a reader has before it.
 abbrev pub read_by : {A : Type 0} → List (Form A) → Unread → Result A ℕ
 read_by fs u = read_from fs u.column u.words
+
+-- The words that are left, one by one against these tests, and no more of them.
+abbrev pub read_each : {A : Type 0} → List (List ℕ → Bool) → (List (List ℕ) → A) → Unread → Result A ℕ
+read_each [] make u = at_end u >>= λ _. Ok (make [])
+read_each (p ∷ ps) make u = next_as p (λ w. w) u >>= λ w. read_each ps (λ ws. make (w ∷ ws)) (past_word u)
 
 -- The form whose value is made into another.
 abbrev pub form_with : {A B : Type 0} → (A → B) → Form A → Form B

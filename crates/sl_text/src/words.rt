@@ -185,7 +185,8 @@ impl<'a, const SEPARATOR: u8> Pieces<'a, SEPARATOR> {
         ensures exact { result ≡ next_as (numbers.is_hex_word 2 512) numbers.hex_bytes self.old }
         ensures left { self.new ≡ left_after result self.old }
     {
-        self.accept(self.peek().and_then(read_hex))
+        let word = self.peek().ok_or(self.column())?;
+        self.accept(read_hex(word))
     }
 
     /// That no piece is left; else gives the column of the next one.
