@@ -1,12 +1,13 @@
 -- A list of forms, followed word by word from the left, makes what the whole words make, and fails at the same column.
-use Rattle.sl_text.specs.Forms.{Form, bad_column, column_of, fits_whole, fitting, made_by, spaced}
-use Rattle.sl_text.specs.Walks.{at_end, column_behind, form_behind, form_with, forms_behind, going_on, made_at_end, made_without, next_as, past_word, read_by, read_each, read_from, Unread}
+use Rattle.sl_text.specs.Forms.{Form, bad_column, exactly, column_of, fits_whole, fitting, made_by, spaced}
+use Rattle.sl_text.specs.Walks.{FailsFirst, NoneFits, at_end, column_behind, form_behind, form_with, forms_behind, going_on, made_at_end, made_without, next_as, next_passes, past_word, read_by, read_each, read_from, Unread}
 use Rattle.sl_words.specs.Results.{ensure, ◌>>=◌}
 use Rattle.sl_words.proofs.ListLaws.{greatest-cons}
-use Rattle.sl_words.specs.Words.{greatest}
+use Rattle.sl_words.specs.Words.{first_of_list, greatest, some_is}
 use Rattle.std.proofs.Common.{add_comm, Bool, List, None, Option, Some, [], ap, arith, cond, drop, eqb, false, inl, inr, length, length-append, map, max, refl, suc, sym, take, true, zero, ℕ, ◌+◌, ◌++◌, ◌&&◌, ◌≡◌, ◌∙◌, ◌∷◌, ◌≤◌}
 use Rattle.std.proofs.lemmas.Bool.{and_left, ne_eqb}
 use Rattle.std.proofs.lemmas.Bool.Decides.{nat_tests}
+use Rattle.std.proofs.lemmas.Slice.Eq.{bytes_eq-Decides}
 use Rattle.std.proofs.lemmas.List.Sums.{sum_by-cons}
 use Rattle.std.specs.List.{find, sum_by}
 use Rattle.std.specs.Option.{ok_or, option_map}
@@ -272,3 +273,70 @@ read_from-map {A} {B} f fs column (w ∷ ws) =
 -- Forms whose values are made into others read as the forms do.
 pub read_by-map : {A B : Type 0} (f : A → B) (fs : List (Form A)) (u : Unread) → read_by (map (form_with f) fs) u ≡ (read_by fs u >>= λ a. Ok (f a))
 read_by-map f fs u = read_from-map f fs u.column u.words
+
+-- The same for one form, read word by word.
+pub read_each-map : {A B : Type 0} (f : A → B) (ps : List (List ℕ → Bool)) (make : List (List ℕ) → A) (u : Unread)
+    → read_each ps (λ ws. f (make ws)) u ≡ (read_each ps make u >>= λ a. Ok (f a))
+read_each-map {A} f ps make u =
+    sym (read_by-one ps (λ ws. f (make ws)) u) ∙ read_by-map f (record { words = ps; make = make } ∷ []) u ∙ ap (λ r. r >>= λ a. Ok (f a)) (read_by-one ps make u)
+
+-- ---- the first word decides which forms go on
+
+words_from : {A : Type 0} (fs : List (Form A)) (column : ℕ) (ws : List (List ℕ)) (w : List ℕ) → first_of_list ws ≡ Some w
+    → read_from fs column ws ≡ going_on (forms_behind w fs) column (λ gs. read_from gs (column_behind column ws) (drop 1 ws))
+words_from fs column [] w h = absurd cc
+words_from fs column (x ∷ ws) w h =
+    let same : x ≡ w = cc in ap (λ v. going_on (forms_behind v fs) column (λ gs. read_from gs (column_behind column (x ∷ ws)) ws)) same
+
+-- Behind this first word these forms go on.
+pub read_by-first : {A : Type 0} (fs gs : List (Form A)) (u : Unread) (w : List ℕ) → first_of_list u.words ≡ Some w → forms_behind w fs ≡ gs
+    → read_by fs u ≡ going_on gs u.column (λ hs. read_by hs (past_word u))
+read_by-first fs gs u w first behind =
+    words_from fs u.column u.words w first ∙ ap (λ hs. going_on hs u.column (λ ks. read_by ks (past_word u))) behind
+
+-- Behind this first word one form goes on.
+pub read_by-first_one : {A : Type 0} (fs : List (Form A)) (ps : List (List ℕ → Bool)) (make : List (List ℕ) → A) (u : Unread) (w : List ℕ)
+    → first_of_list u.words ≡ Some w → forms_behind w fs ≡ record { words = ps; make = make } ∷ [] → read_by fs u ≡ read_each ps make (past_word u)
+read_by-first_one fs ps make u w first behind = read_by-first fs _ u w first behind ∙ read_by-one ps make (past_word u)
+
+-- The next word is this text.
+verb_is : (v : List ℕ) (ws : List (List ℕ)) → some_is (exactly v) (first_of_list ws) ≡ true → first_of_list ws ≡ Some v
+verb_is v [] h = absurd cc
+verb_is v (w ∷ ws) h = ap (λ x. Some x) (sym ((bytes_eq-Decides v w).0 h))
+
+-- Where the next word is this verb, and one form goes on behind it, the words behind it are read against that form.
+pub read_by-verb : {A : Type 0} (fs : List (Form A)) (ps : List (List ℕ → Bool)) (make : List (List ℕ) → A) (u : Unread) (v : List ℕ)
+    → next_passes (exactly v) u ≡ true → forms_behind v fs ≡ record { words = ps; make = make } ∷ [] → read_by fs u ≡ read_each ps make (past_word u)
+read_by-verb fs ps make u v next behind = read_by-first_one fs ps make u v (verb_is v u.words next) behind
+
+-- The same where more than one form goes on.
+pub read_by-verbs : {A : Type 0} (fs gs : List (Form A)) (u : Unread) (v : List ℕ)
+    → next_passes (exactly v) u ≡ true → forms_behind v fs ≡ gs → read_by fs u ≡ going_on gs u.column (λ hs. read_by hs (past_word u))
+read_by-verbs fs gs u v next behind = read_by-first fs gs u v (verb_is v u.words next) behind
+
+-- Where no form takes the next word, no form goes on.
+first_fails : {A : Type 0} (column : ℕ) (w : List ℕ) (ws : List (List ℕ)) (ps : List (List ℕ → Bool)) (make : List (List ℕ) → A)
+    → FailsFirst (record { column = column; words = w ∷ ws }) ps → form_behind w ps make ≡ []
+first_fails column w ws [] make h = absurd h
+first_fails column w ws (p ∷ ps) make h = ap (λ t. if t then record { words = ps; make = λ vs. make (w ∷ vs) } ∷ [] else []) h
+
+at_end_fails : {A : Type 0} (column : ℕ) (ps : List (List ℕ → Bool)) (make : List (List ℕ) → A) (later : Option A)
+    → FailsFirst (record { column = column; words = [] }) ps → later ≡ None → made_without ps make later ≡ None
+at_end_fails column [] make later h e = absurd h
+at_end_fails column (p ∷ ps) make later h e = e
+
+none_behind : {A : Type 0} (column : ℕ) (w : List ℕ) (ws : List (List ℕ)) (fs : List (Form A)) → NoneFits (record { column = column; words = w ∷ ws }) fs → forms_behind w fs ≡ []
+none_behind column w ws [] h = refl
+none_behind column w ws (f ∷ fs) h = ap (λ gs. form_behind w f.words f.make ++ gs) (none_behind column w ws fs h.1) ∙ ap (λ gs. gs ++ []) (first_fails column w ws f.words f.make h.0)
+
+none_made : {A : Type 0} (column : ℕ) (fs : List (Form A)) → NoneFits (record { column = column; words = [] }) fs → made_at_end fs ≡ None
+none_made column [] h = refl
+none_made column (f ∷ fs) h = at_end_fails column f.words f.make (made_at_end fs) h.0 (none_made column fs h.1)
+
+none_from : {A : Type 0} (fs : List (Form A)) (column : ℕ) (ws : List (List ℕ)) → NoneFits (record { column = column; words = ws }) fs → read_from fs column ws ≡ Err column
+none_from fs column [] h = ap (λ o. ok_or o column) (none_made column fs h)
+none_from fs column (w ∷ ws) h = ap (λ gs. going_on gs column (λ hs. read_from hs (column_behind column (w ∷ ws)) ws)) (none_behind column w ws fs h)
+
+-- Then the next word's column is the answer.
+pub read_by-other : {A : Type 0} (fs : List (Form A)) (u : Unread) → NoneFits u fs → read_by fs u ≡ Err u.column
+read_by-other fs u h = none_from fs u.column u.words h

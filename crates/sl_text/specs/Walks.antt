@@ -3,7 +3,7 @@ use Rattle.sl_text.specs.Forms.{Form, pieces, word_at}
 use Rattle.sl_words.specs.Results.{ensure, ◌>>=◌}
 use Rattle.sl_words.specs.Words.{first_of_list, some_is}
 use Rattle.std.specs.Option.{ok_or}
-use Rattle.std.specs.Prelude.{Bool, Err, List, None, Ok, Option, Result, Some, drop, if◌then◌else◌, length, [], ℕ, ◌&&◌, ◌+◌, ◌++◌, ◌==◌, ◌∷◌}
+use Rattle.std.specs.Prelude.{Bool, Err, List, None, Ok, Option, Result, Some, drop, false, if◌then◌else◌, length, [], ℕ, ◌&&◌, ◌+◌, ◌++◌, ◌==◌, ◌∷◌, ◌≡◌}
 
 -- The pieces of what stands behind a separator, and none where there is no separator.
 abbrev pub pieces_behind : ℕ → Option (List ℕ) → List (List ℕ)
@@ -101,6 +101,16 @@ read_by fs u = read_from fs u.column u.words
 abbrev pub read_each : {A : Type 0} → List (List ℕ → Bool) → (List (List ℕ) → A) → Unread → Result A ℕ
 read_each [] make u = at_end u >>= λ _. Ok (make [])
 read_each (p ∷ ps) make u = next_as p (λ w. w) u >>= λ w. read_each ps (λ ws. make (w ∷ ws)) (past_word u)
+
+-- A form that begins with a test which the next word fails, or which finds no word.
+abbrev pub FailsFirst : Unread → List (List ℕ → Bool) → Type 0
+FailsFirst u [] = ⊥
+FailsFirst u (p ∷ ps) = next_passes p u ≡ false
+
+-- Each form is such a one.
+abbrev pub NoneFits : {A : Type 0} → Unread → List (Form A) → Type 0
+NoneFits u [] = Unit {0}
+NoneFits u (f ∷ fs) = FailsFirst u f.words × NoneFits u fs
 
 -- The form whose value is made into another.
 abbrev pub form_with : {A B : Type 0} → (A → B) → Form A → Form B

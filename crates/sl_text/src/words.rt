@@ -1,12 +1,12 @@
 //! The words of a line, read one by one from the left, and the parts of a word, which colons keep apart.
 
-ghost use Rattle.std.specs.Prelude.{nat_lt, option_copied, IsTrue, ◌==◌, ◌≡◌, ◌∷◌, ◌<◌, ◌^◌};
+ghost use Rattle.std.specs.Prelude.{if◌then◌else◌, nat_lt, option_copied, IsTrue, ◌==◌, ◌≡◌, ◌∷◌, ◌<◌, ◌^◌};
 ghost use Rattle.std.specs.Int.{is_in_range};
 ghost use Rattle.std.specs.Option.{ok_or};
 ghost use Rattle.std.specs.List.{join_with_byte, position};
 ghost use Rattle.sl_text.specs.Forms as forms;
 ghost use Rattle.sl_text.specs.Numbers as numbers;
-ghost use Rattle.sl_text.specs.Walks.{at_end, column_past, left_after, next_as, past_word, pieces_behind, unread, with_behind};
+ghost use Rattle.sl_text.specs.Walks.{at_end, column_past, left_after, next_as, next_passes, past_word, pieces_behind, unread, with_behind};
 ghost use Rattle.sl_words.specs.Words.{first_of_list};
 ghost use Rattle.sl_text.specs.Names.{is_name, is_path};
 
@@ -124,12 +124,28 @@ impl<'a, const SEPARATOR: u8> Pieces<'a, SEPARATOR> {
         Ok(value)
     }
 
+    /// Passes the next piece if it is this text, and says whether it was.
+    pub fn skip(&mut self, text: &[u8]) -> bool
+        ensures exact { result ≡ next_passes (forms.exactly text.now) self.old }
+        ensures left { self.new ≡ (if result then past_word self.old else self.old) }
+    {
+        let found = self.peek() == Some(text);
+        if found {
+            let _ = self.next_word();
+        }
+        found
+    }
+
     /// Passes the next piece, if it is this text; else gives its column.
     pub fn expect(&mut self, text: &[u8]) -> Result<(), usize>
         ensures exact { result ≡ next_as (forms.exactly text.now) (λ _. tt) self.old }
         ensures left { self.new ≡ left_after result self.old }
     {
-        self.accept(self.peek().filter(|word| *word == text).map(|_| ()))
+        if self.skip(text) {
+            Ok(())
+        } else {
+            Err(self.column())
+        }
     }
 
     /// Reads the next piece as a name; else gives its column.
