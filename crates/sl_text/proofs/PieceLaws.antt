@@ -2,15 +2,15 @@
 use Rattle.sl_text.specs.Forms.{is_free_of, pieces}
 use Rattle.sl_text.specs.Walks.{column_behind, column_past, pieces_behind, text_left, with_behind}
 use Rattle.sl_words.proofs.WordLaws.{and_true}
-use Rattle.std.proofs.Common.{Bool, IsTrue, List, None, Option, Some, [], ap, arith, cond, drop, eqb, false, get_or, length, length-append, length-take, ltb, not, refl, sym, take, true, ℕ, ◌+◌, ◌++◌, ◌<◌, ◌≡◌, ◌≤◌, ◌∙◌, ◌∷◌}
+use Rattle.std.proofs.Common.{Bool, IsTrue, List, None, Option, Some, [], ap, arith, cond, drop, eqb, false, get_or, length, length-append, length-take, ltb, map, not, refl, sym, take, true, ℕ, ◌+◌, ◌++◌, ◌<◌, ◌≡◌, ◌≤◌, ◌∙◌, ◌∷◌}
 use Rattle.std.proofs.lemmas.Bool.{eq-eqb, eqb-true, ltb-false, ltb-true, not-true, not_from_false}
 use Rattle.std.proofs.lemmas.List.Quantifiers.{position-Some}
 use Rattle.std.proofs.lemmas.List.Recursion.{and_from_places}
 use Rattle.std.proofs.lemmas.List.Splits.{join_with_byte-slice_split, slice_split-cons_no, slice_split-cons_yes, slice_split_first, slice_split_none}
 use Rattle.std.proofs.lemmas.List.Sums.{prefix_len_passes}
-use Rattle.std.proofs.lemmas.List.{drop_more, get_or-take, take-append-drop}
+use Rattle.std.proofs.lemmas.List.{append-nil, drop_more, get_or-take, take-append-drop}
 use Rattle.std.proofs.lemmas.Option.{cond_some}
-use Rattle.std.specs.List.{join_with_byte, list_all, onto_first, position, position_or_len, slice_split}
+use Rattle.std.specs.List.{flat_map, join_with_byte, list_all, onto_first, position, position_or_len, slice_split}
 
 -- A choice that is nothing was not taken.
 cond_none : {A : Type 0} (b : Bool) (x : A) → cond b (Some x) None ≡ None → b ≡ false
@@ -118,3 +118,11 @@ free_with c b bs false e free = free_onto c b (pieces c bs) e free
 pub pieces_free : (c : ℕ) (bs : List ℕ) → list_all (is_free_of c) (pieces c bs) ≡ true
 pieces_free c [] = refl
 pieces_free c (b ∷ bs) = free_with c b bs (eqb b c) refl (pieces_free c bs)
+
+-- Words that are joined: the first, and each other with a separator before it.
+pub join_with_byte-words : {A : Type 0} (c : ℕ) (text : A → List ℕ) (w : A) (ws : List A) → join_with_byte c (map text (w ∷ ws)) ≡ text w ++ flat_map (λ v. c ∷ text v) ws
+join_with_byte-words c text w [] = sym (append-nil (text w))
+join_with_byte-words c text w (v ∷ vs) = ap (λ bs. text w ++ c ∷ bs) (join_with_byte-words c text v vs)
+
+pub join_with_byte-split : {A : Type 0} (c : ℕ) (text : A → List ℕ) (ws : List A) (w : A) (vs : List A) → ws ≡ w ∷ vs → join_with_byte c (map text ws) ≡ text w ++ flat_map (λ v. c ∷ text v) vs
+join_with_byte-split c text ws w vs e = ap (λ us. join_with_byte c (map text us)) e ∙ join_with_byte-words c text w vs
