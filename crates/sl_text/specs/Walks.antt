@@ -3,7 +3,7 @@ use Rattle.sl_text.specs.Forms.{Form, pieces, word_at}
 use Rattle.sl_words.specs.Results.{ensure, ◌>>=◌}
 use Rattle.sl_words.specs.Words.{first_of_list, some_is}
 use Rattle.std.specs.Option.{ok_or}
-use Rattle.std.specs.Prelude.{Bool, Err, List, None, Ok, Option, Result, Some, drop, false, if◌then◌else◌, length, [], ℕ, ◌&&◌, ◌+◌, ◌++◌, ◌==◌, ◌∷◌, ◌≡◌}
+use Rattle.std.specs.Prelude.{Bool, Err, IsTrue, List, None, Ok, Option, Result, Some, drop, false, if◌then◌else◌, length, [], ℕ, ◌&&◌, ◌+◌, ◌++◌, ◌==◌, ◌∷◌, ◌≡◌}
 
 -- The pieces of what stands behind a separator, and none where there is no separator.
 abbrev pub pieces_behind : ℕ → Option (List ℕ) → List (List ℕ)
@@ -155,3 +155,7 @@ are_four p q r s ws = length ws == 4 && p.passes (word_at ws 0) && q.passes (wor
 abbrev pub are_five : {A B C D E : Type 0} → Part A → Part B → Part C → Part D → Part E → List (List ℕ) → Bool
 are_five p q r s t ws =
     length ws == 5 && p.passes (word_at ws 0) && q.passes (word_at ws 1) && r.passes (word_at ws 2) && s.passes (word_at ws 3) && t.passes (word_at ws 4)
+
+-- The value stands for a word that passes, and that was the next one.
+abbrev pub Passed : {A : Type 0} → (List ℕ → Bool) → (List ℕ → A) → Unread → Unread → A → Type 0
+Passed passes value old new a = (word : List ℕ) × (old.words ≡ word ∷ new.words) × IsTrue (passes word) × (a ≡ value word)

@@ -6,7 +6,7 @@
 ghost use Rattle.std.specs.Char.{digit_value, is_ascii_digit};
 ghost use Rattle.std.specs.Int.{is_in_range};
 ghost use Rattle.std.specs.List.{list_all};
-ghost use Rattle.std.specs.Prelude.{true, decimal, min, nat_lt, IsTrue, IfSome, IfNone, OnOk, OnErr, ◌≡◌, ◌^◌, ◌+◌, ◌*◌, ◌-◌, ◌<◌, ◌++◌, ◌&&◌, ◌==◌, ◌%◌, ◌≤◌};
+ghost use Rattle.std.specs.Prelude.{true, decimal, length, vec_capacity, vec_len, min, nat_lt, IsTrue, IfSome, IfNone, OnOk, OnErr, ◌≡◌, ◌^◌, ◌+◌, ◌*◌, ◌-◌, ◌<◌, ◌++◌, ◌&&◌, ◌==◌, ◌%◌, ◌≤◌};
 ghost use Rattle.sl_words.specs.Words.{choose};
 ghost use Rattle.sl_text.specs.Numbers as numbers;
 
@@ -74,6 +74,7 @@ pub fn read_number(word: &[u8]) -> Option<u64>
 /// The number that a word writes, or 2^32 - 1 where the number is above it; None where the word is no number.
 pub fn read_short_number(word: &[u8]) -> Option<u32>
     ensures exact { result ≡ choose (numbers.is_number_text word.now) (numbers.capped_short word.now) }
+    ensures found { IfSome result (λ n. IsTrue (numbers.is_number_text word.now) × (n ≡ min (numbers.number_of word.now) (2 ^ 32 - 1))) }
 {
     let number = read_number(word)?;
     Some(u32::try_from(number).unwrap_or(u32::MAX))
@@ -126,6 +127,7 @@ pub fn is_multiple(word: &[u8], step: u64) -> bool
 pub fn push_number(out: &mut Vec<u8>, number: u64) -> Result<(), AllocError>
     ensures ok { OnOk result (out.new.items ≡ out.old.items ++ decimal number) }
     ensures err { OnErr result (out.new.items ≡ out.old.items) }
+    ensures full { OnErr result (vec_capacity out.old < vec_len out.old + length (decimal number)) }
 {
     let mut digits = Buffer::new();
     out.extend_from_slice(digits.format(number).as_bytes())

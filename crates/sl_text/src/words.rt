@@ -1,12 +1,12 @@
 //! The words of a line, read one by one from the left, and the parts of a word, which colons keep apart.
 
-ghost use Rattle.std.specs.Prelude.{if◌then◌else◌, nat_lt, option_copied, IsTrue, ◌==◌, ◌≡◌, ◌∷◌, ◌<◌, ◌^◌};
+ghost use Rattle.std.specs.Prelude.{if◌then◌else◌, nat_lt, option_copied, IfOk, IsTrue, ◌==◌, ◌≡◌, ◌∷◌, ◌<◌, ◌^◌};
 ghost use Rattle.std.specs.Int.{is_in_range};
 ghost use Rattle.std.specs.Option.{ok_or};
 ghost use Rattle.std.specs.List.{join_with_byte, position};
 ghost use Rattle.sl_text.specs.Forms as forms;
 ghost use Rattle.sl_text.specs.Numbers as numbers;
-ghost use Rattle.sl_text.specs.Walks.{at_end, column_past, left_after, next_as, next_passes, past_word, pieces_behind, unread, with_behind};
+ghost use Rattle.sl_text.specs.Walks.{at_end, column_past, left_after, next_as, next_passes, past_word, pieces_behind, unread, with_behind, Passed};
 ghost use Rattle.sl_words.specs.Words.{first_of_list};
 ghost use Rattle.sl_text.specs.Names.{is_name, is_path};
 
@@ -65,6 +65,12 @@ impl<'a, const SEPARATOR: u8> Model for Pieces<'a, SEPARATOR> {
     ghost invariant = { λ r. r.column + length (text_left (option_copied r.rest)) < 2 ^ 64 };
 }
 
+/// The words of a line, which single spaces keep apart; between two spaces stands an empty word.
+pub type Words<'a> = Pieces<'a, b' '>;
+
+/// The parts of a word, which colons keep apart.
+pub type Parts<'a> = Pieces<'a, b':'>;
+
 impl<'a, const SEPARATOR: u8> Pieces<'a, SEPARATOR> {
     /// All pieces of the text.
     pub fn new(text: &'a [u8]) -> Pieces<'a, SEPARATOR>
@@ -85,7 +91,7 @@ impl<'a, const SEPARATOR: u8> Pieces<'a, SEPARATOR> {
 
     /// The next piece, if one is left.
     #[tactic(auto, using(crate::proofs::PieceLaws::going_on))]
-    pub fn next_word(&mut self) -> Option<&'a [u8]>
+    pub fn next_piece(&mut self) -> Option<&'a [u8]>
         ensures word { option_copied result ≡ first_of_list self.old.words }
         ensures left { self.new ≡ past_word self.old }
     {
@@ -120,7 +126,7 @@ impl<'a, const SEPARATOR: u8> Pieces<'a, SEPARATOR> {
         ensures left { self.new ≡ left_after result self.old }
     {
         let value = read.ok_or(self.column())?;
-        let _ = self.next_word();
+        let _ = self.next_piece();
         Ok(value)
     }
 
@@ -131,7 +137,7 @@ impl<'a, const SEPARATOR: u8> Pieces<'a, SEPARATOR> {
     {
         let found = self.peek() == Some(text);
         if found {
-            let _ = self.next_word();
+            let _ = self.next_piece();
         }
         found
     }
@@ -140,6 +146,7 @@ impl<'a, const SEPARATOR: u8> Pieces<'a, SEPARATOR> {
     pub fn expect(&mut self, text: &[u8]) -> Result<(), usize>
         ensures exact { result ≡ next_as (forms.exactly text.now) (λ _. tt) self.old }
         ensures left { self.new ≡ left_after result self.old }
+        ensures found { IfOk result (Passed (forms.exactly text.now) (λ _. tt) self.old self.new) }
     {
         if self.skip(text) {
             Ok(())
@@ -152,6 +159,7 @@ impl<'a, const SEPARATOR: u8> Pieces<'a, SEPARATOR> {
     pub fn name(&mut self) -> Result<Name, usize>
         ensures exact { result ≡ next_as is_name (λ w. w) self.old }
         ensures left { self.new ≡ left_after result self.old }
+        ensures found { IfOk result (Passed is_name (λ w. w) self.old self.new) }
     {
         self.accept(self.peek().and_then(Name::new))
     }
@@ -160,6 +168,7 @@ impl<'a, const SEPARATOR: u8> Pieces<'a, SEPARATOR> {
     pub fn path(&mut self) -> Result<FilePath, usize>
         ensures exact { result ≡ next_as is_path (λ w. w) self.old }
         ensures left { self.new ≡ left_after result self.old }
+        ensures found { IfOk result (Passed is_path (λ w. w) self.old self.new) }
     {
         self.accept(self.peek().and_then(FilePath::new))
     }
@@ -168,6 +177,7 @@ impl<'a, const SEPARATOR: u8> Pieces<'a, SEPARATOR> {
     pub fn number(&mut self) -> Result<u64, usize>
         ensures exact { result ≡ next_as numbers.is_number_text numbers.capped_long self.old }
         ensures left { self.new ≡ left_after result self.old }
+        ensures found { IfOk result (Passed numbers.is_number_text numbers.capped_long self.old self.new) }
     {
         self.accept(self.peek().and_then(read_number))
     }
@@ -176,6 +186,7 @@ impl<'a, const SEPARATOR: u8> Pieces<'a, SEPARATOR> {
     pub fn positive_number(&mut self) -> Result<u64, usize>
         ensures exact { result ≡ next_as (numbers.is_number_that (λ n. nat_lt 0 n)) numbers.capped_long self.old }
         ensures left { self.new ≡ left_after result self.old }
+        ensures found { IfOk result (Passed (numbers.is_number_that (λ n. nat_lt 0 n)) numbers.capped_long self.old self.new) }
     {
         self.accept(self.peek().and_then(read_number).filter(|number| 0 < *number))
     }
@@ -184,6 +195,7 @@ impl<'a, const SEPARATOR: u8> Pieces<'a, SEPARATOR> {
     pub fn positive_short_number(&mut self) -> Result<u32, usize>
         ensures exact { result ≡ next_as (numbers.is_number_that (λ n. nat_lt 0 n)) numbers.capped_short self.old }
         ensures left { self.new ≡ left_after result self.old }
+        ensures found { IfOk result (Passed (numbers.is_number_that (λ n. nat_lt 0 n)) numbers.capped_short self.old self.new) }
     {
         self.accept(self.peek().and_then(read_short_number).filter(|number| 0 < *number))
     }
@@ -192,6 +204,7 @@ impl<'a, const SEPARATOR: u8> Pieces<'a, SEPARATOR> {
     pub fn number_within(&mut self, low: u64, high: u64) -> Result<u64, usize>
         ensures exact { result ≡ next_as (numbers.is_number_that (is_in_range low high)) numbers.number_of self.old }
         ensures left { self.new ≡ left_after result self.old }
+        ensures found { IfOk result (Passed (numbers.is_number_that (is_in_range low high)) numbers.number_of self.old self.new) }
     {
         self.accept(self.peek().and_then(|word| read_number_within(word, low, high)))
     }
@@ -200,6 +213,7 @@ impl<'a, const SEPARATOR: u8> Pieces<'a, SEPARATOR> {
     pub fn hex(&mut self) -> Result<Data, usize>
         ensures exact { result ≡ next_as (numbers.is_hex_word 2 512) numbers.hex_bytes self.old }
         ensures left { self.new ≡ left_after result self.old }
+        ensures found { IfOk result (Passed (numbers.is_hex_word 2 512) numbers.hex_bytes self.old self.new) }
     {
         let word = self.peek().ok_or(self.column())?;
         self.accept(read_hex(word))
