@@ -1,6 +1,6 @@
 -- A list of forms, followed word by word from the left, makes what the whole words make, and fails at the same column.
-use Rattle.sl_text.specs.Forms.{Form, bad_column, exactly, column_of, fits_whole, fitting, made_by, spaced}
-use Rattle.sl_text.specs.Walks.{FailsFirst, NoneFits, at_end, column_behind, form_behind, form_with, forms_behind, going_on, made_at_end, made_without, next_as, next_passes, past_word, read_by, read_each, read_from, Unread}
+use Rattle.sl_text.specs.Forms.{Form, bad_column, exactly, column_of, fits_whole, fitting, made_by, spaced, words_of}
+use Rattle.sl_text.specs.Walks.{FailsFirst, NoneFits, at_end, column_behind, form_behind, form_with, forms_behind, going_on, made_at_end, made_without, next_as, next_passes, past_word, past_words, read_by, read_each, read_from, unread, Unread}
 use Rattle.sl_words.specs.Results.{ensure, ◌>>=◌}
 use Rattle.sl_words.proofs.ListLaws.{greatest-cons}
 use Rattle.sl_words.specs.Words.{first_of_list, greatest, some_is}
@@ -116,6 +116,11 @@ column_from column ws k = if k == length ws then column + length (spaced ws) els
 column_from-first : (column : ℕ) (w : List ℕ) (ws : List (List ℕ)) → column_from column (w ∷ ws) 0 ≡ column
 column_from-first column w ws = grind (arith, nat_tests)
 
+-- Where no word is left, the column is the one that was reached.
+column_from-none : (column k : ℕ) → k ≤ 0 → column_from column [] k ≡ column
+column_from-none column zero h = omega arith
+column_from-none column (suc k) h = absurd (omega arith)
+
 -- One more word in front.
 same_place : (k words : ℕ) → eqb (1 + k) (suc words) ≡ eqb k words
 same_place k words = grind (arith, nat_tests)
@@ -148,16 +153,22 @@ reached-le : {A : Type 0} (fs : List (Form A)) (ws : List (List ℕ)) → reache
 reached-le [] ws = omega arith
 reached-le (f ∷ fs) ws = omega (arith, reached-cons f fs ws, fitting-le f.words ws, reached-le fs ws)
 
+-- Word by word a reader comes to each word's column, and in the end to one past the end.
+past_words_from : (k column : ℕ) (ws : List (List ℕ)) → k ≤ length ws
+    → past_words k (record { column = column; words = ws }) ≡ record { column = column_from column ws k; words = drop k ws }
+past_words_from zero column [] h = ap (λ c. record { column = c; words = [] }) (sym (column_from-none column 0 h))
+past_words_from zero column (w ∷ ws) h = ap (λ c. record { column = c; words = w ∷ ws }) (sym (column_from-first column w ws))
+past_words_from (suc k) column [] h = absurd (omega arith)
+past_words_from (suc k) column (w ∷ ws) h =
+    let next : 1 + k ≡ suc k = omega arith in
+    past_words_from k (column_behind column (w ∷ ws)) ws (omega arith)
+    ∙ ap (λ c. record { column = c; words = drop k ws }) (sym (column_from-behind column w ws k (omega arith)) ∙ ap (column_from column (w ∷ ws)) next)
+
 -- ---- the whole
 
 -- What the words make, or the column of the first that no form takes.
 abbrev made_or_column : {A : Type 0} → List (Form A) → ℕ → List (List ℕ) → Result A ℕ
 made_or_column fs column ws = ok_or (made_by fs ws) (column_from column ws (reached fs ws))
-
--- Where no word is left, the column is the one that was reached.
-column_from-none : (column k : ℕ) → k ≤ 0 → column_from column [] k ≡ column
-column_from-none column zero h = omega arith
-column_from-none column (suc k) h = absurd (omega arith)
 
 -- The forms behind the first word fail where the forms do.
 made_behind : {A : Type 0} (fs gs : List (Form A)) (column : ℕ) (w : List ℕ) (ws : List (List ℕ))
@@ -188,6 +199,12 @@ read_from-made fs column (w ∷ ws) =
 -- From the front of a line on, columns are counted from 1.
 column_from-start : (ws : List (List ℕ)) (k : ℕ) → column_from 1 ws k ≡ column_of ws k
 column_from-start ws k = ap (λ n. cond (eqb k (length ws)) n (1 + sum_by (λ w. length w + 1) (take k ws))) (add_comm 1 (length (spaced ws)))
+
+-- The column of the word that a reader has come to.
+pub past_words-is : (k : ℕ) (line : List ℕ) → k ≤ length (words_of line)
+    → past_words k (unread 32 line) ≡ record { column = column_of (words_of line) k; words = drop k (words_of line) }
+past_words-is k line h =
+    past_words_from k 1 (words_of line) h ∙ ap (λ c. record { column = c; words = drop k (words_of line) }) (column_from-start (words_of line) k)
 
 -- A line's words make what the forms make of them, read from the left, and else the column is that of the first word that
 -- no form takes.

@@ -5,3 +5,4 @@ pub mod FormLaws
 pub mod HexLaws
 pub mod LineLaws
 pub mod PartLaws
+pub mod FreeLaws

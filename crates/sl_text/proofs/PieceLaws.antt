@@ -3,7 +3,7 @@ use Rattle.sl_text.specs.Forms.{is_free_of, pieces}
 use Rattle.sl_text.specs.Walks.{column_behind, column_past, pieces_behind, text_left, with_behind}
 use Rattle.sl_words.proofs.WordLaws.{and_true}
 use Rattle.std.proofs.Common.{Bool, IsTrue, List, None, Option, Some, [], ap, arith, cond, drop, eqb, false, get_or, length, length-append, length-take, ltb, map, not, refl, sym, take, true, ℕ, ◌+◌, ◌++◌, ◌<◌, ◌≡◌, ◌≤◌, ◌∙◌, ◌∷◌}
-use Rattle.std.proofs.lemmas.Bool.{eq-eqb, eqb-true, ltb-false, ltb-true, not-true, not_from_false}
+use Rattle.std.proofs.lemmas.Bool.{and_from, both_ways, eq-eqb, eqb-true, ltb-false, ltb-true, ne_eqb, not-true, not_from_false}
 use Rattle.std.proofs.lemmas.List.Quantifiers.{position-Some}
 use Rattle.std.proofs.lemmas.List.Recursion.{and_from_places}
 use Rattle.std.proofs.lemmas.List.Splits.{join_with_byte-slice_split, slice_split-cons_no, slice_split-cons_yes, slice_split_first, slice_split_none}
@@ -126,3 +126,13 @@ join_with_byte-words c text w (v ∷ vs) = ap (λ bs. text w ++ c ∷ bs) (join_
 
 pub join_with_byte-split : {A : Type 0} (c : ℕ) (text : A → List ℕ) (ws : List A) (w : A) (vs : List A) → ws ≡ w ∷ vs → join_with_byte c (map text ws) ≡ text w ++ flat_map (λ v. c ∷ text v) vs
 join_with_byte-split c text ws w vs e = ap (λ us. join_with_byte c (map text us)) e ∙ join_with_byte-words c text w vs
+
+-- A byte that fails a test stands in no text whose bytes all pass it.
+not_here : (p : ℕ → Bool) (c b : ℕ) → p c ≡ false → p b ≡ true → not (eqb b c) ≡ true
+not_here p c b fails passes = not_from_false _ (ne_eqb b c (λ same. both_ways (p c) fails (ap p (sym same) ∙ passes)))
+
+pub free_of_failing : (p : ℕ → Bool) (c : ℕ) (bs : List ℕ) → p c ≡ false → list_all p bs ≡ true → is_free_of c bs ≡ true
+free_of_failing p c [] fails all = refl
+free_of_failing p c (b ∷ bs) fails all =
+    let parts = and_true (p b) (list_all p bs) all in
+    and_from _ _ (not_here p c b fails parts.0) (free_of_failing p c bs fails parts.1)

@@ -3,7 +3,7 @@ use Rattle.sl_text.specs.Forms.{Form, pieces, word_at}
 use Rattle.sl_words.specs.Results.{ensure, ◌>>=◌}
 use Rattle.sl_words.specs.Words.{first_of_list, some_is}
 use Rattle.std.specs.Option.{ok_or}
-use Rattle.std.specs.Prelude.{Bool, Err, IsTrue, List, None, Ok, Option, Result, Some, drop, false, if◌then◌else◌, length, [], ℕ, ◌&&◌, ◌+◌, ◌++◌, ◌==◌, ◌∷◌, ◌≡◌}
+use Rattle.std.specs.Prelude.{Bool, Err, IsTrue, List, None, Ok, Option, Result, Some, drop, false, suc, zero, if◌then◌else◌, length, [], ℕ, ◌&&◌, ◌+◌, ◌++◌, ◌==◌, ◌∷◌, ◌≡◌}
 
 -- The pieces of what stands behind a separator, and none where there is no separator.
 abbrev pub pieces_behind : ℕ → Option (List ℕ) → List (List ℕ)
@@ -39,6 +39,11 @@ column_behind column (w ∷ x ∷ ws) = column + length w + 1
 -- The same with one word less.
 abbrev pub past_word : Unread → Unread
 past_word u = record { column = column_behind u.column u.words; words = drop 1 u.words }
+
+-- The same with this many words less.
+abbrev pub past_words : ℕ → Unread → Unread
+past_words zero u = u
+past_words (suc k) u = past_words k (past_word u)
 
 -- What a reader at the front of a text has before it.
 abbrev pub unread : ℕ → List ℕ → Unread
