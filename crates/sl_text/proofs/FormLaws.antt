@@ -357,3 +357,9 @@ none_from fs column (w ∷ ws) h = ap (λ gs. going_on gs column (λ hs. read_fr
 -- Then the next word's column is the answer.
 pub read_by-other : {A : Type 0} (fs : List (Form A)) (u : Unread) → NoneFits u fs → read_by fs u ≡ Err u.column
 read_by-other fs u h = none_from fs u.column u.words h
+
+-- What a whole line makes.
+pub ruleset whole_lines = (read_from-is)
+
+-- Where a reader stands.
+pub ruleset places_of_readers = (past_words-is)

@@ -154,3 +154,6 @@ hex_text_read low high w bytes h read = sym (ap hex_text read ∙ hex_text-hex_b
 
 -- What readers of hex words use.
 pub ruleset hex_words = (hex_word_size, length-hex_bytes)
+
+-- Bytes and their hex words.
+pub ruleset texts = (is_hex_word-hex_text, hex_bytes-hex_text, hex_text-hex_bytes)

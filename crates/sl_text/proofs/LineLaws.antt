@@ -36,3 +36,6 @@ lines_of-as_bytes (l ∷ ls) free =
 
 -- What splitting off a line uses.
 pub ruleset splitting = (lines_of-first)
+
+-- Writing lines and reading them.
+pub ruleset written_lines = (lines_of-as_bytes)

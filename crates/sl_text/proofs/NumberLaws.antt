@@ -93,3 +93,6 @@ decimal-number_of [] h fits = absurd cc
 decimal-number_of (d ∷ ds) h fits =
     let parts = and_true _ _ h in
     decimal-digits_value own (d ∷ ds) parts.0 (omega arith) (no_zero_behind d ds parts.1) fits
+
+-- Numbers and their texts.
+pub ruleset texts = (is_number_text-decimal, number_of-decimal, decimal-number_of)

@@ -136,3 +136,6 @@ free_of_failing p c [] fails all = refl
 free_of_failing p c (b ∷ bs) fails all =
     let parts = and_true (p b) (list_all p bs) all in
     and_from _ _ (not_here p c b fails parts.0) (free_of_failing p c bs fails parts.1)
+
+-- Cutting and joining.
+pub ruleset cuts_and_joins = (join_with_byte-pieces, pieces-join_with_byte, pieces_free)
