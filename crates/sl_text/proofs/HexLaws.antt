@@ -1,11 +1,11 @@
 -- Bytes and the hex digits that write them.
 use Rattle.sl_text.specs.Numbers.{hex_bytes, hex_text, is_hex_digit, is_hex_word, IsBytes}
+use Rattle.sl_words.proofs.ListLaws.{list_all_place}
 use Rattle.sl_words.proofs.WordLaws.{and_true}
 use Rattle.std.proofs.Common.{eqb, lit<, ◌&&◌, List, [], ap, arith, get_or, length, length-append, refl, set, suc, sym, take, true, zero, ℕ, ◌%◌, ◌*◌, ◌+◌, ◌++◌, ◌/◌, ◌<◌, ◌≡◌, ◌≤◌, ◌∙◌, ◌∷◌}
 use Rattle.std.proofs.lemmas.Bool.{and_from, eq-eqb, eqb-true, le-leb, leb-true}
 use Rattle.std.proofs.lemmas.Bool.Decides.{nat_tests}
 use Rattle.std.proofs.lemmas.List.Concat.{flat_map-append}
-use Rattle.std.proofs.lemmas.List.Recursion.{and_at}
 use Rattle.std.proofs.lemmas.List.{take_all, take_more, take_more_set}
 use Rattle.std.proofs.lemmas.Str.{digit_value-digit_char}
 use Rattle.std.specs.Int.{is_in_range}
@@ -42,7 +42,7 @@ get_or-hex_bytes (a ∷ b ∷ cs) (suc k) h =
 
 -- Each byte of such a word is a digit.
 pub hex_digit_at : (w : List ℕ) (i : ℕ) → list_all is_hex_digit w ≡ true → i < length w → is_hex_digit (get_or w i 0) ≡ true
-hex_digit_at w i all h = and_at (list_all is_hex_digit) is_hex_digit refl (λ _ _. refl) w i 0 h all
+hex_digit_at w i all h = list_all_place is_hex_digit w i 0 all h
 
 -- One more byte of those that the digits write.
 pub one_byte_more : (w out : List ℕ) (i a b : ℕ) → i < length out → length w ≡ 2 * length out → take i out ≡ take i (hex_bytes w)

@@ -1,6 +1,8 @@
 -- Numbers and the digits that write them.
 use Rattle.sl_text.specs.Numbers.{is_number_text, number_of}
 use Rattle.sl_words.specs.Words.{choose}
+use Rattle.sl_words.proofs.ListLaws.{list_all_place}
+use Rattle.sl_words.proofs.OptionLaws.{choose_at_false, choose_at_true}
 use Rattle.sl_words.proofs.WordLaws.{and_true}
 use Rattle.std.proofs.lemmas.Fmt.{decimal-digits_value, decimal_digit, decimal_nonempty, digits_decimal, digits_value-decimal, first_decimal}
 use Rattle.std.proofs.lemmas.Bool.Decides.{nat_tests}
@@ -10,7 +12,6 @@ use Rattle.std.proofs.lemmas.Bool.{cases_lt, le-ltb, lt-ltb}
 use Rattle.std.proofs.lemmas.List.{take_all}
 use Rattle.std.proofs.lemmas.Option.{none-some}
 use Rattle.std.proofs.lemmas.Int.Digits.{digits_value_more}
-use Rattle.std.proofs.lemmas.List.Recursion.{and_at}
 use Rattle.std.proofs.lemmas.Str.Parse.{IsNumeralModel, digits_value-take-le, numerals_by_value}
 use Rattle.std.specs.Char.{digit_value, is_ascii_digit}
 use Rattle.std.specs.List.{list_all}
@@ -26,30 +27,22 @@ number_of-take-le ds i = digits_value-take-le 10 ds i (lit≤ tt)
 
 -- Each byte of a number's text is a digit.
 pub digit_at : (ds : List ℕ) (i : ℕ) → list_all is_ascii_digit ds ≡ true → i < length ds → is_ascii_digit (get_or ds i 0) ≡ true
-digit_at ds i all h = and_at (list_all is_ascii_digit) is_ascii_digit refl (λ _ _. refl) ds i 0 h all
+digit_at ds i all h = list_all_place is_ascii_digit ds i 0 all h
 
 -- What a reader of digits uses.
 pub ruleset reading = (number_of_more, number_of-take-le, digit_at)
-
--- A number that is not below the bound is not chosen.
-choose_over : (n top : ℕ) → top ≤ n → choose (ltb n top) n ≡ None
-choose_over n top h = rw (le-ltb n top h) refl
-
--- One that is, is.
-choose_within : (n top : ℕ) → n < top → choose (ltb n top) n ≡ Some n
-choose_within n top h = rw (lt-ltb n top h) refl
 
 -- Where the digits so far with one more are past the bound, the whole number is.
 pub value_over : (ds : List ℕ) (i v d top : ℕ) → i < length ds → v ≡ number_of (take i ds) → d ≡ digit_value (get_or ds i 0)
     → choose (ltb (v * 10 + d) top) (v * 10 + d) ≡ None → choose (ltb (number_of ds) top) (number_of ds) ≡ None
 value_over ds i v d top inside so_far digit over =
-    let past : top ≤ v * 10 + d = elim (cases_lt (v * 10 + d) top) [ inl h ↦ absurd (none-some _ (sym over ∙ choose_within _ _ h)) | inr h ↦ h ] in
-    choose_over _ _ (omega (arith, number_of_more ds i inside, number_of-take-le ds (i + 1)))
+    let past : top ≤ v * 10 + d = elim (cases_lt (v * 10 + d) top) [ inl h ↦ absurd (none-some _ (sym over ∙ choose_at_true _ _ (lt-ltb _ _ h))) | inr h ↦ h ] in
+    choose_at_false _ _ (le-ltb _ _ (omega (arith, number_of_more ds i inside, number_of-take-le ds (i + 1))))
 
 -- The digits so far are all of them.
 pub value_whole : (ds : List ℕ) (i v top : ℕ) → length ds ≤ i → v ≡ number_of (take i ds) → v < top → Some v ≡ choose (ltb (number_of ds) top) (number_of ds)
 value_whole ds i v top end so_far fits =
-    let e : number_of ds ≡ v = sym (so_far ∙ ap number_of (take_all i ds end)) in rw e (sym (choose_within v top fits))
+    let e : number_of ds ≡ v = sym (so_far ∙ ap number_of (take_all i ds end)) in rw e (sym (choose_at_true (ltb v top) v (lt-ltb v top fits)))
 
 -- One more digit behind what is left of a division.
 pub remainder_more : (n d step : ℕ) → (n % step * 10 + d) % step ≡ (n * 10 + d) % step

@@ -1,21 +1,17 @@
 -- The pieces of a text between its separators: cutting off the first, and joining them again.
 use Rattle.sl_text.specs.Forms.{is_free_of, pieces}
 use Rattle.sl_text.specs.Walks.{column_behind, column_past, pieces_behind, text_left, with_behind}
+use Rattle.sl_words.proofs.ListLaws.{list_all_from_places}
+use Rattle.sl_words.proofs.OptionLaws.{cond_none}
 use Rattle.sl_words.proofs.WordLaws.{and_true}
 use Rattle.std.proofs.Common.{Bool, IsTrue, List, None, Option, Some, [], ap, arith, cond, drop, eqb, false, get_or, length, length-append, length-take, ltb, map, not, refl, sym, take, true, ℕ, ◌+◌, ◌++◌, ◌<◌, ◌≡◌, ◌≤◌, ◌∙◌, ◌∷◌}
 use Rattle.std.proofs.lemmas.Bool.{and_from, both_ways, eq-eqb, eqb-true, ltb-false, ltb-true, ne_eqb, not-true, not_from_false}
 use Rattle.std.proofs.lemmas.List.Quantifiers.{position-Some}
-use Rattle.std.proofs.lemmas.List.Recursion.{and_from_places}
 use Rattle.std.proofs.lemmas.List.Splits.{join_with_byte-slice_split, slice_split-cons_no, slice_split-cons_yes, slice_split_first, slice_split_none}
 use Rattle.std.proofs.lemmas.List.Sums.{prefix_len_passes}
 use Rattle.std.proofs.lemmas.List.{append-nil, drop_more, get_or-take, take-append-drop}
 use Rattle.std.proofs.lemmas.Option.{cond_some}
 use Rattle.std.specs.List.{flat_map, join_with_byte, list_all, onto_first, position, position_or_len, slice_split}
-
--- A choice that is nothing was not taken.
-cond_none : {A : Type 0} (b : Bool) (x : A) → cond b (Some x) None ≡ None → b ≡ false
-cond_none true x h = absurd cc
-cond_none false x h = refl
 
 -- Where no byte is the separator, none is before the end.
 free_from_none : (c : ℕ) (bs : List ℕ) → position (λ b. eqb b c) bs ≡ None → (k : ℕ) (d : ℕ) → k < length bs → not (eqb (get_or bs k d) c) ≡ true
@@ -35,7 +31,7 @@ pieces_alone c bs h = slice_split_none (λ b. eqb b c) bs (λ k d inside. not-tr
 
 -- Such a text is free of the separator.
 pub free_alone : (c : ℕ) (bs : List ℕ) → position (λ b. eqb b c) bs ≡ None → IsTrue (is_free_of c bs)
-free_alone c bs h = and_from_places (is_free_of c) (λ b. not (eqb b c)) refl (λ _ _. refl) bs 0 (λ k inside. free_from_none c bs h k 0 inside)
+free_alone c bs h = list_all_from_places (λ b. not (eqb b c)) bs 0 (λ k inside. free_from_none c bs h k 0 inside)
 
 -- The text is the first piece, the separator and what stands behind.
 pub text_at : (c : ℕ) (bs : List ℕ) (at : ℕ) → position (λ b. eqb b c) bs ≡ Some at → bs ≡ take at bs ++ c ∷ drop (at + 1) bs
@@ -47,7 +43,7 @@ text_at c bs at h =
 pub free_at : (c : ℕ) (bs : List ℕ) (at : ℕ) → position (λ b. eqb b c) bs ≡ Some at → IsTrue (is_free_of c (take at bs))
 free_at c bs at h =
     let found = position-Some (λ b. eqb b c) bs at 0 h in
-    and_from_places (is_free_of c) (λ b. not (eqb b c)) refl (λ _ _. refl) (take at bs) 0 (λ k inside.
+    list_all_from_places (λ b. not (eqb b c)) (take at bs) 0 (λ k inside.
         let before : k < at = omega (arith, length-take at bs) in
         rw (get_or-take at bs k 0 before) (not_from_false _ (found.2 k before)))
 
