@@ -4,7 +4,7 @@ use Rattle.sl_text.specs.Walks.{FailsFirst, NoneFits, at_end, column_behind, for
 use Rattle.sl_words.specs.Results.{ensure, ◌>>=◌}
 use Rattle.sl_words.proofs.ListLaws.{greatest-cons}
 use Rattle.sl_words.specs.Words.{first_of_list, greatest, some_is}
-use Rattle.std.proofs.Common.{add_comm, Bool, List, None, Option, Some, [], ap, arith, cond, drop, eqb, false, inl, inr, length, length-append, map, max, refl, suc, sym, take, true, zero, ℕ, ◌+◌, ◌++◌, ◌&&◌, ◌≡◌, ◌∙◌, ◌∷◌, ◌≤◌}
+use Rattle.std.proofs.Common.{add_comm, Bool, List, None, Option, Some, [], ap, arith, cond, drop, eqb, false, length, length-append, map, max, refl, suc, sym, take, true, zero, ℕ, ◌+◌, ◌++◌, ◌&&◌, ◌≡◌, ◌∙◌, ◌∷◌, ◌≤◌}
 use Rattle.std.proofs.lemmas.Bool.{and_left, ne_eqb}
 use Rattle.std.proofs.lemmas.Bool.Decides.{nat_tests}
 use Rattle.std.proofs.lemmas.Slice.Eq.{bytes_eq-Decides}
@@ -33,12 +33,12 @@ fits_whole-cons p ps w ws = elim (p w) as (λ t. (eqb (length (p ∷ ps)) (lengt
 -- Either the form behind the first word takes the rest, or a later form does.
 here : {A : Type 0} (w : List ℕ) (ws : List (List ℕ)) (ps : List (List ℕ → Bool)) (make : List (List ℕ) → A) (fs gs : List (Form A)) (form : Form A) → form.make ≡ make → made_by fs (w ∷ ws) ≡ made_by gs ws
     → option_map (λ (f : Form A). f.make (w ∷ ws)) (cond (fits_whole ps ws) (Some form) (find (λ f. fits_whole f.words (w ∷ ws)) fs))
-        ≡ made_by (record { words = ps; make = λ vs. make (w ∷ vs) } ∷ gs) ws
+    ≡ made_by (record { words = ps; make = λ vs. make (w ∷ vs) } ∷ gs) ws
 here {A} w ws ps make fs gs form same e = elim (fits_whole ps ws) as (λ t. option_map (λ (f : Form A). f.make (w ∷ ws)) (cond t (Some form) (find (λ f. fits_whole f.words (w ∷ ws)) fs))
     ≡ option_map (λ (f : Form A). f.make ws) (cond t (Some (record { words = ps; make = λ vs. make (w ∷ vs) })) (find (λ f. fits_whole f.words ws) gs))) [
-  | true ↦ ap (λ (m : List (List ℕ) → A). Some (m (w ∷ ws))) same
-  | false ↦ e
-]
+      | true ↦ ap (λ (m : List (List ℕ) → A). Some (m (w ∷ ws))) same
+      | false ↦ e
+    ]
 
 -- The words make what they make behind the first word.
 made_more : {A : Type 0} (w : List ℕ) (ws : List (List ℕ)) (ps : List (List ℕ → Bool)) (make : List (List ℕ) → A) (fs gs : List (Form A))
@@ -50,7 +50,7 @@ made_more {A} w ws (p ∷ ps) make fs gs e =
     let form : Form A = record { words = p ∷ ps; make = make } in
     ap (λ t. option_map (λ (f : Form A). f.make (w ∷ ws)) (cond t (Some form) (find (λ f. fits_whole f.words (w ∷ ws)) fs))) (fits_whole-cons p ps w ws)
     ∙ elim (p w) as (λ t. option_map (λ (f : Form A). f.make (w ∷ ws)) (cond (cond t (fits_whole ps ws) false) (Some form) (find (λ f. fits_whole f.words (w ∷ ws)) fs))
-        ≡ made_by ((if t then record { words = ps; make = λ vs. make (w ∷ vs) } ∷ [] else []) ++ gs) ws) [
+    ≡ made_by ((if t then record { words = ps; make = λ vs. make (w ∷ vs) } ∷ [] else []) ++ gs) ws) [
       | true ↦ here w ws ps make fs gs form refl e
       | false ↦ e
     ]
@@ -97,9 +97,9 @@ reached_more : {A : Type 0} (w : List ℕ) (ws : List (List ℕ)) (ps : List (Li
 reached_more w ws [] make gs = omega arith
 reached_more w ws (p ∷ ps) make gs = elim (p w) as (λ t. max (cond t (1 + fitting ps ws) 0) (reached_behind gs ws)
     ≡ reached_behind ((if t then record { words = ps; make = λ vs. make (w ∷ vs) } ∷ [] else []) ++ gs) ws) [
-  | true ↦ reached_beside (record { words = ps; make = λ vs. make (w ∷ vs) }) gs ws
-  | false ↦ omega arith
-]
+      | true ↦ reached_beside (record { words = ps; make = λ vs. make (w ∷ vs) }) gs ws
+      | false ↦ omega arith
+    ]
 
 -- The form that fits the most goes on longest behind the first word.
 pub reached-words : {A : Type 0} (w : List ℕ) (ws : List (List ℕ)) (fs : List (Form A)) → reached fs (w ∷ ws) ≡ reached_behind (forms_behind w fs) ws
@@ -138,7 +138,7 @@ column_from-behind column w [] (suc k) h = absurd (omega arith)
 column_from-behind column w (x ∷ ws) k h =
     rw (same_place k (length (x ∷ ws)))
     (elim (eqb k (length (x ∷ ws))) as (λ t. cond t (column + length (spaced (w ∷ x ∷ ws))) (column + sum_by (λ w. length w + 1) (take (1 + k) (w ∷ x ∷ ws)))
-        ≡ cond t (column + length w + 1 + length (spaced (x ∷ ws))) (column + length w + 1 + sum_by (λ w. length w + 1) (take k (x ∷ ws)))) [
+    ≡ cond t (column + length w + 1 + length (spaced (x ∷ ws))) (column + length w + 1 + sum_by (λ w. length w + 1) (take k (x ∷ ws)))) [
       | true ↦ omega (arith, length-append w (32 ∷ spaced (x ∷ ws)))
       | false ↦ omega (arith, sum_in_front w (x ∷ ws) k)
     ])
@@ -182,7 +182,7 @@ made_behind fs gs column w ws made far =
 read_more : {A : Type 0} (gs : List (Form A)) (column : ℕ) (w : List ℕ) (ws : List (List ℕ))
     → ((hs : List (Form A)) (c : ℕ) → read_from hs c ws ≡ made_or_column hs c ws)
     → going_on gs column (λ hs. read_from hs (column_behind column (w ∷ ws)) ws)
-        ≡ ok_or (made_by gs ws) (column_from column (w ∷ ws) (reached_behind gs ws))
+    ≡ ok_or (made_by gs ws) (column_from column (w ∷ ws) (reached_behind gs ws))
 read_more [] column w ws rest = ap Err (sym (column_from-first column w ws))
 read_more (g ∷ hs) column w ws rest =
     rest (g ∷ hs) (column_behind column (w ∷ ws))
@@ -216,8 +216,8 @@ read_from-is fs ws = read_from-made fs 1 ws ∙ ap (ok_or (made_by fs ws)) (colu
 -- One form, at a first word.
 word_taken : {A : Type 0} (p : List ℕ → Bool) (ps : List (List ℕ → Bool)) (make : List (List ℕ) → A) (column : ℕ) (words : List (List ℕ))
     → read_from (record { words = p ∷ ps; make = make } ∷ []) column words
-        ≡ (next_as p (λ w. w) (record { column = column; words = words })
-            >>= λ w. read_from (record { words = ps; make = λ ws. make (w ∷ ws) } ∷ []) (column_behind column words) (drop 1 words))
+    ≡ (next_as p (λ w. w) (record { column = column; words = words })
+    >>= λ w. read_from (record { words = ps; make = λ ws. make (w ∷ ws) } ∷ []) (column_behind column words) (drop 1 words))
 word_taken p ps make column [] = refl
 word_taken {A} p ps make column (w ∷ ws) =
     elim (p w) as (λ t. going_on {A = A} ((if t then record { words = ps; make = λ vs. make (w ∷ vs) } ∷ [] else []) ++ []) column (λ gs. read_from gs (column_behind column (w ∷ ws)) ws) ≡ ((if t then Ok w else Err column) >>= λ v. read_from (record { words = ps; make = λ vs. make (v ∷ vs) } ∷ []) (column_behind column (w ∷ ws)) ws)) [
@@ -228,7 +228,7 @@ word_taken {A} p ps make column (w ∷ ws) =
 -- One form reads the word that its first test takes, and goes on.
 pub read_by-word : {A : Type 0} (p : List ℕ → Bool) (ps : List (List ℕ → Bool)) (make : List (List ℕ) → A) (u : Unread)
     → read_by (record { words = p ∷ ps; make = make } ∷ []) u
-        ≡ (next_as p (λ w. w) u >>= λ w. read_by (record { words = ps; make = λ ws. make (w ∷ ws) } ∷ []) (past_word u))
+    ≡ (next_as p (λ w. w) u >>= λ w. read_by (record { words = ps; make = λ ws. make (w ∷ ws) } ∷ []) (past_word u))
 read_by-word p ps make u = word_taken p ps make u.column u.words
 
 -- At a form's end no word may be left.
@@ -263,7 +263,7 @@ behind_map : {A B : Type 0} (f : A → B) (w : List ℕ) (ps : List (List ℕ �
 behind_map f w [] make gs = refl
 behind_map {A} {B} f w (p ∷ ps) make gs =
     elim (p w) as (λ t. (if t then record { words = ps; make = λ ws. f (make (w ∷ ws)) } ∷ [] else []) ++ map (form_with f) gs
-        ≡ map (form_with f) ((if t then record { words = ps; make = λ ws. make (w ∷ ws) } ∷ [] else []) ++ gs)) [ true ↦ refl | false ↦ refl ]
+    ≡ map (form_with f) ((if t then record { words = ps; make = λ ws. make (w ∷ ws) } ∷ [] else []) ++ gs)) [ true ↦ refl | false ↦ refl ]
 
 forms_behind-map : {A B : Type 0} (f : A → B) (w : List ℕ) (fs : List (Form A)) → forms_behind w (map (form_with f) fs) ≡ map (form_with f) (forms_behind w fs)
 forms_behind-map f w [] = refl

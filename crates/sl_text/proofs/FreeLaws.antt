@@ -6,7 +6,7 @@ use Rattle.sl_text.specs.Forms.{is_free_of}
 use Rattle.sl_text.specs.Names.{is_name, is_name_byte, is_path}
 use Rattle.sl_text.specs.Numbers.{is_hex_digit, is_hex_word, is_number_text}
 use Rattle.sl_words.proofs.WordLaws.{and_true}
-use Rattle.std.proofs.Common.{Bool, List, [], eqb, false, length, leb, refl, true, ℕ, ◌&&◌, ◌<◌, ◌^◌, ◌||◌, ◌≡◌, ◌∷◌}
+use Rattle.std.proofs.Common.{List, [], eqb, false, length, leb, true, ℕ, ◌&&◌, ◌<◌, ◌^◌, ◌||◌, ◌≡◌, ◌∷◌}
 use Rattle.std.proofs.lemmas.Bool.{and_from, or_right}
 use Rattle.std.specs.Char.{is_ascii_digit}
 use Rattle.std.specs.List.{list_all}

@@ -2,7 +2,7 @@
 use Rattle.sl_text.specs.Numbers.{hex_bytes, hex_text, is_hex_digit, is_hex_word, IsBytes}
 use Rattle.sl_words.proofs.ListLaws.{list_all_place}
 use Rattle.sl_words.proofs.WordLaws.{and_true}
-use Rattle.std.proofs.Common.{eqb, lit<, ◌&&◌, List, [], ap, arith, get_or, length, length-append, refl, set, suc, sym, take, true, zero, ℕ, ◌%◌, ◌*◌, ◌+◌, ◌++◌, ◌/◌, ◌<◌, ◌≡◌, ◌≤◌, ◌∙◌, ◌∷◌}
+use Rattle.std.proofs.Common.{eqb, lit<, ◌&&◌, List, [], ap, arith, get_or, length, refl, set, suc, sym, take, true, zero, ℕ, ◌%◌, ◌*◌, ◌+◌, ◌++◌, ◌/◌, ◌<◌, ◌≡◌, ◌≤◌, ◌∙◌, ◌∷◌}
 use Rattle.std.proofs.lemmas.Bool.{and_from, eq-eqb, eqb-true, le-leb, leb-true}
 use Rattle.std.proofs.lemmas.Bool.Decides.{nat_tests}
 use Rattle.std.proofs.lemmas.List.Concat.{flat_map-append}

@@ -3,7 +3,7 @@ use Rattle.sl_text.proofs.PieceLaws.{first_piece, pieces-front}
 use Rattle.sl_text.specs.Forms.{as_bytes, is_free_of, lines_of, pieces, without_empty_last}
 use Rattle.sl_text.specs.Walks.{pieces_behind, text_left, with_behind}
 use Rattle.sl_words.proofs.WordLaws.{and_true}
-use Rattle.std.proofs.Common.{IsTrue, List, None, Option, Some, [], ap, arith, length, refl, sym, true, ℕ, ◌+◌, ◌++◌, ◌<◌, ◌≡◌, ◌∙◌, ◌∷◌}
+use Rattle.std.proofs.Common.{List, None, Option, Some, [], ap, arith, length, refl, sym, true, ℕ, ◌<◌, ◌≡◌, ◌∙◌, ◌∷◌}
 use Rattle.std.proofs.lemmas.List.{append_assoc}
 use Rattle.std.specs.List.{list_all}
 

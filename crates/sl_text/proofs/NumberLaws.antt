@@ -6,7 +6,7 @@ use Rattle.sl_words.proofs.OptionLaws.{choose_at_false, choose_at_true}
 use Rattle.sl_words.proofs.WordLaws.{and_true}
 use Rattle.std.proofs.lemmas.Fmt.{decimal-digits_value, decimal_digit, decimal_nonempty, digits_decimal, digits_value-decimal, first_decimal}
 use Rattle.std.proofs.lemmas.Bool.Decides.{nat_tests}
-use Rattle.std.proofs.Common.{rules, eqb, lit<, suc, zero, ◌||◌, [], ◌∷◌, ◌^◌, List, None, Some, ap, arith, get_or, inl, inr, length, lit≤, ltb, refl, sym, take, true, ℕ, ◌%◌, ◌*◌, ◌+◌, ◌/◌, ◌<◌, ◌≡◌, ◌≤◌, ◌∙◌}
+use Rattle.std.proofs.Common.{rules, eqb, lit<, suc, zero, ◌||◌, [], ◌∷◌, ◌^◌, List, None, Some, ap, arith, get_or, inl, inr, length, lit≤, ltb, sym, take, true, ℕ, ◌%◌, ◌*◌, ◌+◌, ◌/◌, ◌<◌, ◌≡◌, ◌≤◌, ◌∙◌}
 use Rattle.std.proofs.Math.Nat.{div-add-mod, mul-add-mod_self_left}
 use Rattle.std.proofs.lemmas.Bool.{cases_lt, le-ltb, lt-ltb}
 use Rattle.std.proofs.lemmas.List.{take_all}

@@ -11,7 +11,7 @@ use Rattle.std.proofs.lemmas.List.Splits.{join_with_byte-slice_split, slice_spli
 use Rattle.std.proofs.lemmas.List.Sums.{prefix_len_passes}
 use Rattle.std.proofs.lemmas.List.{append-nil, drop_more, get_or-take, take-append-drop}
 use Rattle.std.proofs.lemmas.Option.{cond_some}
-use Rattle.std.specs.List.{flat_map, join_with_byte, list_all, onto_first, position, position_or_len, slice_split}
+use Rattle.std.specs.List.{flat_map, join_with_byte, list_all, onto_first, position, position_or_len}
 
 -- Where no byte is the separator, none is before the end.
 free_from_none : (c : ℕ) (bs : List ℕ) → position (λ b. eqb b c) bs ≡ None → (k : ℕ) (d : ℕ) → k < length bs → not (eqb (get_or bs k d) c) ≡ true
@@ -44,8 +44,8 @@ pub free_at : (c : ℕ) (bs : List ℕ) (at : ℕ) → position (λ b. eqb b c) 
 free_at c bs at h =
     let found = position-Some (λ b. eqb b c) bs at 0 h in
     list_all_from_places (λ b. not (eqb b c)) (take at bs) 0 (λ k inside.
-        let before : k < at = omega (arith, length-take at bs) in
-        rw (get_or-take at bs k 0 before) (not_from_false _ (found.2 k before)))
+    let before : k < at = omega (arith, length-take at bs) in
+    rw (get_or-take at bs k 0 before) (not_from_false _ (found.2 k before)))
 
 -- What cutting off the first piece uses.
 pub ruleset cutting = (pieces_at, pieces_alone, text_at, free_at, free_alone)

@@ -188,7 +188,11 @@ impl<'a, const SEPARATOR: u8> Pieces<'a, SEPARATOR> {
         ensures left { self.new ≡ left_after result self.old }
         ensures found { IfOk result (Passed (numbers.is_number_that (λ n. nat_lt 0 n)) numbers.capped_long self.old self.new) }
     {
-        self.accept(self.peek().and_then(read_number).filter(|number| 0 < *number))
+        self.accept(
+            self.peek()
+                .and_then(read_number)
+                .filter(|number| 0 < *number),
+        )
     }
 
     /// Reads the next piece as a number above 0, capped at 2^32 - 1; else gives its column.
@@ -197,7 +201,11 @@ impl<'a, const SEPARATOR: u8> Pieces<'a, SEPARATOR> {
         ensures left { self.new ≡ left_after result self.old }
         ensures found { IfOk result (Passed (numbers.is_number_that (λ n. nat_lt 0 n)) numbers.capped_short self.old self.new) }
     {
-        self.accept(self.peek().and_then(read_short_number).filter(|number| 0 < *number))
+        self.accept(
+            self.peek()
+                .and_then(read_short_number)
+                .filter(|number| 0 < *number),
+        )
     }
 
     /// Reads the next piece as a number from `low` to `high`; else gives its column.
@@ -206,7 +214,10 @@ impl<'a, const SEPARATOR: u8> Pieces<'a, SEPARATOR> {
         ensures left { self.new ≡ left_after result self.old }
         ensures found { IfOk result (Passed (numbers.is_number_that (is_in_range low high)) numbers.number_of self.old self.new) }
     {
-        self.accept(self.peek().and_then(|word| read_number_within(word, low, high)))
+        self.accept(
+            self.peek()
+                .and_then(|word| read_number_within(word, low, high)),
+        )
     }
 
     /// Reads the next piece as the hex digits of 1 to 256 bytes; else gives its column.

@@ -2,7 +2,7 @@
 use Rattle.sl_words.specs.Words.{choose, some_is}
 use Rattle.std.proofs.Common.{Bool, None, Option, Some, ap, cond, false, refl, true, ◌≡◌, ◌∙◌}
 use Rattle.std.specs.Option.{ok_or}
-use Rattle.std.specs.Prelude.{Ok, Result, option_map}
+use Rattle.std.specs.Prelude.{option_map}
 use Rattle.std.specs.Result.{result_ok}
 
 -- The test holds, or fails.

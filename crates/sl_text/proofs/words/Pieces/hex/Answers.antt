@@ -7,7 +7,7 @@ pub returns-clause-exact : goal.returns-clause-exact
 returns-clause-exact g c =
     c.accept.ensures.exact
     ∙ accepted (is_hex_word 2 512) hex_bytes c.args.self.now.column c.args.self.now.words c.in_ok-word.word.now c.read_hex.result
-        (grind (arith, c.peek.ensures, c.ok_or.ensures.value, c.in_ok-word.was)) c.read_hex.ensures.exact
+    (grind (arith, c.peek.ensures, c.ok_or.ensures.value, c.in_ok-word.was)) c.read_hex.ensures.exact
 
 pub returns-clause-found : goal.returns-clause-found
 returns-clause-found g c =
