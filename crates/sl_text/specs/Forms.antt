@@ -1,11 +1,15 @@
 -- Words of a line, and forms that a line may have.
 use Rattle.sl_words.specs.Words.{greatest}
-use Rattle.std.specs.List.{join_with_byte, slice_split}
-use Rattle.std.specs.Prelude.{Bool, List, Option, bytes_eq, find, flat_map, if◌then◌else◌, length, map, option_map, slice_index_or, sum_by, take, [], ℕ, ◌&&◌, ◌++◌, ◌+◌, ◌==◌, ◌∷◌}
+use Rattle.std.specs.List.{join_with_byte, list_all, slice_split}
+use Rattle.std.specs.Prelude.{Bool, List, Option, bytes_eq, find, flat_map, if◌then◌else◌, length, map, not, option_map, slice_index_or, sum_by, take, [], ℕ, ◌&&◌, ◌++◌, ◌+◌, ◌==◌, ◌∷◌}
 
 -- The pieces between the places where a byte stands: one more than it stands.
 abbrev pub pieces : ℕ → List ℕ → List (List ℕ)
 pieces c bs = slice_split (λ b. b == c) bs
+
+-- No byte of the text is this one.
+abbrev pub is_free_of : ℕ → List ℕ → Bool
+is_free_of c bs = list_all (λ b. not (b == c)) bs
 
 -- The words of a line, cut at each single space.
 abbrev pub words_of : List ℕ → List (List ℕ)

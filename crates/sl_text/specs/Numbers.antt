@@ -2,7 +2,7 @@
 use Rattle.std.specs.Char.{digit_char, digit_value, is_ascii_digit}
 use Rattle.std.specs.Int.{is_in_range}
 use Rattle.std.specs.List.{list_all}
-use Rattle.std.specs.Prelude.{Bool, List, false, flat_map, length, min, not, [], ℕ, ◌%◌, ◌&&◌, ◌*◌, ◌+◌, ◌-◌, ◌/◌, ◌==◌, ◌^◌, ◌||◌, ◌∷◌}
+use Rattle.std.specs.Prelude.{Bool, List, false, flat_map, length, min, not, slice_index, [], ℕ, ◌%◌, ◌&&◌, ◌*◌, ◌+◌, ◌-◌, ◌/◌, ◌<◌, ◌==◌, ◌^◌, ◌||◌, ◌∷◌}
 use Rattle.std.specs.Str.Parse.{digits_value}
 
 -- Decimal digits without a leading zero.
@@ -47,3 +47,7 @@ abbrev pub hex_bytes : List ℕ → List ℕ
 hex_bytes [] = []
 hex_bytes (a ∷ []) = []
 hex_bytes (a ∷ b ∷ cs) = (16 * digit_value a + digit_value b) ∷ hex_bytes cs
+
+-- Each element is a byte.
+abbrev pub IsBytes : List ℕ → Type 0
+IsBytes bs = (i : ℕ) → slice_index bs i < 256

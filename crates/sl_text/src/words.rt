@@ -1,0 +1,243 @@
+//! The words of a line, read one by one from the left, and the parts of a word, which colons keep apart.
+
+ghost use Rattle.std.specs.Prelude.{if◌then◌else◌, nat_lt, option_copied, IfOk, IsTrue, ◌==◌, ◌≡◌, ◌∷◌, ◌<◌, ◌^◌};
+ghost use Rattle.std.specs.Int.{is_in_range};
+ghost use Rattle.std.specs.Option.{ok_or};
+ghost use Rattle.std.specs.List.{join_with_byte, position};
+ghost use Rattle.sl_text.specs.Forms as forms;
+ghost use Rattle.sl_text.specs.Numbers as numbers;
+ghost use Rattle.sl_text.specs.Walks.{at_end, column_past, left_after, next_as, next_passes, past_word, pieces_behind, unread, with_behind, Passed};
+ghost use Rattle.sl_words.specs.Words.{first_of_list};
+ghost use Rattle.sl_text.specs.Names.{is_name, is_path};
+
+use crate::hex::read_hex;
+use crate::number::{read_number, read_number_within, read_short_number};
+use crate::short::{Data, FilePath, Name};
+use std::marker::Model;
+
+/// Where the first separator stands.
+fn position_of(separator: u8, text: &[u8]) -> Option<usize>
+    ensures { result ≡ position (λ b. b == separator) text.now }
+{
+    text.iter().position(|byte| *byte == separator)
+}
+
+/// The text up to the first separator, and what stands behind it; nothing where there is no separator.
+#[tactic(auto, using(crate::proofs::PieceLaws::cutting))]
+pub fn split_piece(separator: u8, text: &[u8]) -> (&[u8], Option<&[u8]>)
+    ensures exact { forms.pieces separator text.now ≡ result.0.now ∷ pieces_behind separator (option_copied result.1) }
+    ensures found { text.now ≡ with_behind separator result.0.now (option_copied result.1) }
+    ensures free { IsTrue (forms.is_free_of separator result.0.now) }
+{
+    match position_of(separator, text) {
+        Some(at) => (&text[..at], Some(text.split_at(at + 1).1)),
+        None => (text, None),
+    }
+}
+
+/// The column behind a word and its separator, if it has one.
+fn column_past(column: usize, word: &[u8], rest: Option<&[u8]>) -> usize
+    requires { column_past column word.now (option_copied rest) < 2 ^ 64 }
+    ensures { result ≡ column_past column word.now (option_copied rest.entry) }
+{
+    match rest {
+        Some(_) => column + word.len() + 1,
+        None => column + word.len(),
+    }
+}
+
+/// The pieces of a text that separators keep apart, read one by one from the left. Contracts see what is left of them,
+/// with the column of the next one.
+#[derive(Drop)]
+pub struct Pieces<'a, const SEPARATOR: u8> {
+    rest: Option<&'a [u8]>,
+    column: usize,
+}
+
+impl<'a, const SEPARATOR: u8> Model for Pieces<'a, SEPARATOR> {
+    ghost use Rattle.std.specs.Prelude.{length, option_copied, ◌+◌, ◌<◌, ◌^◌};
+    ghost use Rattle.sl_text.specs.Walks.{text_left, pieces_behind, Unread};
+
+    ghost Value = { Unread };
+
+    ghost view = { λ r. record { column = r.column; words = pieces_behind SEPARATOR (option_copied r.rest) } };
+
+    ghost invariant = { λ r. r.column + length (text_left (option_copied r.rest)) < 2 ^ 64 };
+}
+
+/// The words of a line, which single spaces keep apart; between two spaces stands an empty word.
+pub type Words<'a> = Pieces<'a, b' '>;
+
+/// The parts of a word, which colons keep apart.
+pub type Parts<'a> = Pieces<'a, b':'>;
+
+impl<'a, const SEPARATOR: u8> Pieces<'a, SEPARATOR> {
+    /// All pieces of the text.
+    pub fn new(text: &'a [u8]) -> Pieces<'a, SEPARATOR>
+        ensures { result ≡ unread SEPARATOR text.now }
+    {
+        Pieces {
+            rest: Some(text),
+            column: 1,
+        }
+    }
+
+    /// The column, from 1, of the next piece; one past the end where none is left.
+    pub fn column(&self) -> usize
+        ensures { result ≡ self.now.column }
+    {
+        self.column
+    }
+
+    /// The next piece, if one is left.
+    #[tactic(auto, using(crate::proofs::PieceLaws::going_on))]
+    pub fn next_piece(&mut self) -> Option<&'a [u8]>
+        ensures word { option_copied result ≡ first_of_list self.old.words }
+        ensures left { self.new ≡ past_word self.old }
+    {
+        let (word, rest) = split_piece(SEPARATOR, self.rest?);
+        self.column = column_past(self.column, word, rest);
+        self.rest = rest;
+        Some(word)
+    }
+
+    /// The next piece, which stays the next.
+    pub fn peek(&self) -> Option<&'a [u8]>
+        ensures { option_copied result ≡ first_of_list self.now.words }
+    {
+        let (word, _) = split_piece(SEPARATOR, self.rest?);
+        Some(word)
+    }
+
+    /// What is left of the text.
+    #[tactic(auto, using(crate::proofs::PieceLaws::joining))]
+    pub fn rest(&self) -> &'a [u8]
+        ensures { result.now ≡ join_with_byte SEPARATOR self.now.words }
+    {
+        match self.rest {
+            Some(text) => text,
+            None => &[],
+        }
+    }
+
+    /// Passes the next piece, if something was read of it; else gives its column.
+    pub fn accept<T>(&mut self, read: Option<T>) -> Result<T, usize>
+        ensures exact { result ≡ ok_or read self.old.column }
+        ensures left { self.new ≡ left_after result self.old }
+    {
+        let value = read.ok_or(self.column())?;
+        let _ = self.next_piece();
+        Ok(value)
+    }
+
+    /// Passes the next piece if it is this text, and says whether it was.
+    pub fn skip(&mut self, text: &[u8]) -> bool
+        ensures exact { result ≡ next_passes (forms.exactly text.now) self.old }
+        ensures left { self.new ≡ (if result then past_word self.old else self.old) }
+    {
+        let found = self.peek() == Some(text);
+        if found {
+            let _ = self.next_piece();
+        }
+        found
+    }
+
+    /// Passes the next piece, if it is this text; else gives its column.
+    pub fn expect(&mut self, text: &[u8]) -> Result<(), usize>
+        ensures exact { result ≡ next_as (forms.exactly text.now) (λ _. tt) self.old }
+        ensures left { self.new ≡ left_after result self.old }
+        ensures found { IfOk result (Passed (forms.exactly text.now) (λ _. tt) self.old self.new) }
+    {
+        if self.skip(text) {
+            Ok(())
+        } else {
+            Err(self.column())
+        }
+    }
+
+    /// Reads the next piece as a name; else gives its column.
+    pub fn name(&mut self) -> Result<Name, usize>
+        ensures exact { result ≡ next_as is_name (λ w. w) self.old }
+        ensures left { self.new ≡ left_after result self.old }
+        ensures found { IfOk result (Passed is_name (λ w. w) self.old self.new) }
+    {
+        self.accept(self.peek().and_then(Name::new))
+    }
+
+    /// Reads the next piece as a path; else gives its column.
+    pub fn path(&mut self) -> Result<FilePath, usize>
+        ensures exact { result ≡ next_as is_path (λ w. w) self.old }
+        ensures left { self.new ≡ left_after result self.old }
+        ensures found { IfOk result (Passed is_path (λ w. w) self.old self.new) }
+    {
+        self.accept(self.peek().and_then(FilePath::new))
+    }
+
+    /// Reads the next piece as a number, capped at 2^64 - 1; else gives its column.
+    pub fn number(&mut self) -> Result<u64, usize>
+        ensures exact { result ≡ next_as numbers.is_number_text numbers.capped_long self.old }
+        ensures left { self.new ≡ left_after result self.old }
+        ensures found { IfOk result (Passed numbers.is_number_text numbers.capped_long self.old self.new) }
+    {
+        self.accept(self.peek().and_then(read_number))
+    }
+
+    /// Reads the next piece as a number above 0, capped at 2^64 - 1; else gives its column.
+    pub fn positive_number(&mut self) -> Result<u64, usize>
+        ensures exact { result ≡ next_as (numbers.is_number_that (λ n. nat_lt 0 n)) numbers.capped_long self.old }
+        ensures left { self.new ≡ left_after result self.old }
+        ensures found { IfOk result (Passed (numbers.is_number_that (λ n. nat_lt 0 n)) numbers.capped_long self.old self.new) }
+    {
+        self.accept(
+            self.peek()
+                .and_then(read_number)
+                .filter(|number| 0 < *number),
+        )
+    }
+
+    /// Reads the next piece as a number above 0, capped at 2^32 - 1; else gives its column.
+    pub fn positive_short_number(&mut self) -> Result<u32, usize>
+        ensures exact { result ≡ next_as (numbers.is_number_that (λ n. nat_lt 0 n)) numbers.capped_short self.old }
+        ensures left { self.new ≡ left_after result self.old }
+        ensures found { IfOk result (Passed (numbers.is_number_that (λ n. nat_lt 0 n)) numbers.capped_short self.old self.new) }
+    {
+        self.accept(
+            self.peek()
+                .and_then(read_short_number)
+                .filter(|number| 0 < *number),
+        )
+    }
+
+    /// Reads the next piece as a number from `low` to `high`; else gives its column.
+    pub fn number_within(&mut self, low: u64, high: u64) -> Result<u64, usize>
+        ensures exact { result ≡ next_as (numbers.is_number_that (is_in_range low high)) numbers.number_of self.old }
+        ensures left { self.new ≡ left_after result self.old }
+        ensures found { IfOk result (Passed (numbers.is_number_that (is_in_range low high)) numbers.number_of self.old self.new) }
+    {
+        self.accept(
+            self.peek()
+                .and_then(|word| read_number_within(word, low, high)),
+        )
+    }
+
+    /// Reads the next piece as the hex digits of 1 to 256 bytes; else gives its column.
+    pub fn hex(&mut self) -> Result<Data, usize>
+        ensures exact { result ≡ next_as (numbers.is_hex_word 2 512) numbers.hex_bytes self.old }
+        ensures left { self.new ≡ left_after result self.old }
+        ensures found { IfOk result (Passed (numbers.is_hex_word 2 512) numbers.hex_bytes self.old self.new) }
+    {
+        let word = self.peek().ok_or(self.column())?;
+        self.accept(read_hex(word))
+    }
+
+    /// That no piece is left; else gives the column of the next one.
+    #[tactic(auto, using(crate::proofs::PieceLaws::some_piece))]
+    pub fn finish(&self) -> Result<(), usize>
+        ensures { result ≡ at_end self.now }
+    {
+        match self.rest {
+            None => Ok(()),
+            Some(_) => Err(self.column),
+        }
+    }
+}
