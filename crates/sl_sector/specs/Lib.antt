@@ -1,3 +1,5 @@
 pub mod Bitmaps
+pub mod Fields
+pub mod Records
 pub mod Spelling
 pub mod RecordTexts

@@ -1,0 +1,4 @@
+pub mod ByteLaws
+pub mod FieldLaws
+pub mod RuleLaws
+pub mod LeaderLaws

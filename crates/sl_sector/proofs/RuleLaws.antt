@@ -1,0 +1,81 @@
+-- Laws of the rules: what it means that all hold, and each test as a fact.
+use Rattle.sl_sector.specs.Fields.{flag}
+use Rattle.sl_sector.specs.Spelling.{under_rules}
+use Rattle.sl_sector.specs.declared.sector.Bad.TheVariants.{BadField}
+use Rattle.sl_sector.specs.declared.sector.Bad.{Bad}
+use Rattle.sl_words.proofs.WordLaws.{and_true, bind_ok, or_true}
+use Rattle.sl_words.specs.Bounds.{is_number, record_numbers}
+use Rattle.sl_words.specs.Results.{ensure, ◌>>=◌}
+use Rattle.sl_words.specs.Words.{choose, same_truth}
+use Rattle.std.proofs.Common.{Bool, Err, List, Ok, Result, [], arith, eqb, false, inl, inr, leb, ltb, refl, true, ℕ, ◌&&◌, ◌+◌, ◌<◌, ◌≡◌, ◌≤◌, ◌∷◌, ◌||◌, ◌^◌}
+use Rattle.std.proofs.lemmas.Bool.{and_from, both_ways, cases_Bool, eq-eqb, eqb-false, eqb-true, le-leb, leb-true, lt-ltb, ltb-true}
+use Rattle.std.proofs.lemmas.Bool.Decides.{nat_tests}
+use Rattle.std.specs.Int.{is_in_range}
+use Rattle.std.specs.Option.{ok_or}
+use Rattle.std.specs.Prelude.{not, ◌↔◌}
+
+-- Each rule holds.
+abbrev pub Hold : List (ℕ × Bool) → Type 0
+Hold [] = Unit {0}
+Hold (rule ∷ rules) = (rule.1 ≡ true) × Hold rules
+
+-- One rule and those after it.
+ensured : {A : Type 0} (ok : Bool) (e : Bad) (next : Result A Bad) (b : A) → (ensure ok e >>= λ _. next) ≡ Ok b → (ok ≡ true) × (next ≡ Ok b)
+ensured true e next b h = (refl, h)
+ensured false e next b h = absurd cc
+
+pub rules_hold : {A : Type 0} (rules : List (ℕ × Bool)) (a b : A) → under_rules rules a ≡ Ok b → Hold rules × (a ≡ b)
+rules_hold [] a b h = (tt, cc)
+rules_hold (rule ∷ rules) a b h =
+    let p = ensured rule.1 (BadField rule.0) (under_rules rules a) b h in
+    let q = rules_hold rules a b p.1 in
+    ((p.0, q.0), q.1)
+
+pub under_held_rules : {A : Type 0} (rules : List (ℕ × Bool)) (a : A) → Hold rules → under_rules rules a ≡ Ok a
+under_held_rules [] a h = refl
+under_held_rules (rule ∷ rules) a h = rw (h.0, under_held_rules rules a h.1) refl
+
+-- One rule, as a choice.
+pub chosen_under : {A : Type 0} (at : ℕ) (ok : Bool) (a : A) → ok_or (choose ok a) (BadField at) ≡ under_rules ((at, ok) ∷ []) a
+chosen_under at true a = refl
+chosen_under at false a = refl
+
+-- ---- each test as a fact
+
+pub in_range : (low high n : ℕ) → is_in_range low high n ≡ true → (low ≤ n) × (n ≤ high)
+in_range low high n h = grind (arith, nat_tests)
+
+pub number : (n : ℕ) → is_number n ≡ true → n < record_numbers
+number n h = ltb-true n record_numbers h
+
+pub unless_zero : (n : ℕ) (ok : Bool) → (not (eqb n 0) || ok) ≡ true → n ≡ 0 → ok ≡ true
+unless_zero n ok h e = grind (arith, nat_tests)
+
+pub both_zero : (m n : ℕ) → same_truth (eqb m 0) (eqb n 0) ≡ true → (m ≡ 0 ↔ n ≡ 0)
+both_zero m n h = grind (arith, nat_tests)
+
+pub in_range_test : (low high n : ℕ) → low ≤ n → n ≤ high → is_in_range low high n ≡ true
+in_range_test low high n a b = grind (arith, nat_tests)
+
+pub unless_zero_test : (n : ℕ) (ok : Bool) → (n ≡ 0 → ok ≡ true) → (not (eqb n 0) || ok) ≡ true
+unless_zero_test n ok h = grind (arith, nat_tests)
+
+pub both_zero_test : (m n : ℕ) → (m ≡ 0 ↔ n ≡ 0) → same_truth (eqb m 0) (eqb n 0) ≡ true
+both_zero_test m n h = grind (arith, nat_tests)
+
+-- ---- a truth as a number
+
+pub flag_of_code : (code : ℕ) → code ≤ 1 → flag (eqb code 1) ≡ code
+flag_of_code code h =
+    elim (cases_Bool (eqb code 1)) [
+      | inl e ↦ rw (e, eqb-true code 1 e) refl
+      | inr e ↦ rw e (omega (arith, eqb-false code 1 e))
+    ]
+
+pub flag_below : (b : Bool) → flag b ≤ 1
+flag_below true = omega arith
+flag_below false = omega arith
+
+pub code_of_flag : (b : Bool) → eqb (flag b) 1 ≡ b
+code_of_flag true = refl
+code_of_flag false = refl
