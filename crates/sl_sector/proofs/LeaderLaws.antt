@@ -1,7 +1,7 @@
 -- The leader: what is read of it is spelled so, and what is spelled so is read.
 use Rattle.sl_sector.proofs.ByteLaws.{IsBytes}
 use Rattle.sl_sector.proofs.FieldLaws.{Begins, length-magic, length-name_bytes, length-u32_bytes, length-u64_bytes,  name_before, take-name, take-u32, take-u64, u32_before, u64_before}
-use Rattle.sl_sector.proofs.RuleLaws.{Hold, flag_below, under_held_rules, both_zero, both_zero_test, in_range, in_range_test, number, unless_zero, unless_zero_test, flag_of_code, code_of_flag}
+use Rattle.sl_sector.proofs.RuleLaws.{Hold, fits_32, fits_64, flag_below, flag_fits, flag_is_zero, flag_zero, under_held_rules, both_zero, both_zero_test, in_range, in_range_test, number, unless_zero, unless_zero_test, flag_of_code, code_of_flag}
 use Rattle.sl_sector.specs.Fields.{flag, is_name_field, name_at, name_bytes, u32_at, u32_bytes, u64_at, u64_bytes}
 use Rattle.sl_sector.specs.Records.{IsLeader}
 use Rattle.sl_sector.specs.Spelling.{field_bytes, fields_of, leader_of, leader_rules, magic, under_rules}
@@ -27,7 +27,7 @@ leader_fits bs (state, (hosts, (lver, (generation, (owner, (lockspace, (resource
       lockspace = (and_true _ _ lockspace).1;
       resource = (and_true _ _ resource).1;
       same = (both_zero (u64_at bs 16) (u64_at bs 24) generation_parts.1, both_zero (u64_at bs 16) (u32_at bs 32) owner_parts.1);
-      unused = (λ e. rw (eqb-true (u32_at bs 8) 0 (unless_zero (u64_at bs 16) (eqb (u32_at bs 8) 0) lver_parts.1 e)) refl);
+      unused = (λ e. flag_zero _ (eqb-true _ _ (unless_zero _ _ lver_parts.1 e)));
     }
 
 -- What the fields give is spelled by the bytes.
@@ -53,24 +53,19 @@ pub leader_again : (bs : List ℕ) (l : Leader) → IsLeader l → Begins bs (fi
     → (take 4 bs ≡ magic) × (fields_of (u32_at bs 4) bs ≡ Ok (LeaderIs l))
 unfolding leader_rules field_bytes
 leader_again bs l is begins =
-    let owner_fits : l.owner < 2 ^ 32 = omega (arith, is.owner, is.hosts.1) in
-    let generation_fits : l.generation < 2 ^ 64 = omega (arith, is.generation) in
-    let lver_fits : l.lver < 2 ^ 64 = omega (arith, is.lver) in
-    let hosts_fit : l.num_hosts < 2 ^ 32 = omega (arith, is.hosts.1) in
-    let state_fits : flag l.held < 2 ^ 32 = omega (arith, flag_below l.held) in
-    let kind_fits : 2 < 2 ^ 32 = omega arith in
+    let owner_below : l.owner ≤ 2000 = omega (arith, is.owner, is.hosts.1) in
     let resource = name_before bs _ 84 l.resource is.resource begins in
     let lockspace = name_before bs _ 36 l.lockspace is.lockspace resource.0 in
-    let owner = u32_before bs _ 32 l.owner owner_fits lockspace.0 in
-    let generation = u64_before bs _ 24 l.generation generation_fits owner.0 in
-    let lver = u64_before bs _ 16 l.lver lver_fits generation.0 in
-    let hosts = u32_before bs _ 12 l.num_hosts hosts_fit lver.0 in
-    let state = u32_before bs _ 8 (flag l.held) state_fits hosts.0 in
-    let kind = u32_before bs _ 4 2 kind_fits state.0 in
+    let owner = u32_before bs _ 32 l.owner (fits_32 _ owner_below) lockspace.0 in
+    let generation = u64_before bs _ 24 l.generation (fits_64 _ is.generation) owner.0 in
+    let lver = u64_before bs _ 16 l.lver (fits_64 _ is.lver) generation.0 in
+    let hosts = u32_before bs _ 12 l.num_hosts (fits_32 _ is.hosts.1) lver.0 in
+    let state = u32_before bs _ 8 (flag l.held) (flag_fits l.held) hosts.0 in
+    let kind = u32_before bs _ 4 2 (fits_32 2 (omega arith)) state.0 in
     let holds : Hold (leader_rules bs) = (
       rw state.1 (le-leb (flag l.held) 1 (flag_below l.held)),
       (rw hosts.1 (in_range_test 1 2000 l.num_hosts is.hosts.0 is.hosts.1),
-      (rw (lver.1, state.1) (and_from _ _ (lt-ltb l.lver record_numbers is.lver) (unless_zero_test l.lver (eqb (flag l.held) 0) (λ e. rw (is.unused e) refl))),
+      (rw (lver.1, state.1) (and_from _ _ (lt-ltb l.lver record_numbers is.lver) (unless_zero_test l.lver (eqb (flag l.held) 0) (λ e. flag_is_zero _ (is.unused e)))),
       (rw (lver.1, generation.1) (and_from _ _ (lt-ltb l.generation record_numbers is.generation) (both_zero_test l.lver l.generation is.same.0)),
       (rw (lver.1, owner.1, hosts.1) (and_from _ _ (le-leb l.owner l.num_hosts is.owner) (both_zero_test l.lver l.owner is.same.1)),
       (lockspace.1, (resource.1, tt))))))) in

@@ -2,3 +2,4 @@ pub mod ByteLaws
 pub mod FieldLaws
 pub mod RuleLaws
 pub mod LeaderLaws
+pub mod BlockLaws

@@ -63,6 +63,14 @@ unless_zero_test n ok h = grind (arith, nat_tests)
 pub both_zero_test : (m n : ℕ) → (m ≡ 0 ↔ n ≡ 0) → same_truth (eqb m 0) (eqb n 0) ≡ true
 both_zero_test m n h = grind (arith, nat_tests)
 
+-- ---- numbers that a field has room for
+
+pub fits_32 : (n : ℕ) → n ≤ 2000 → n < 2 ^ 32
+fits_32 n h = omega arith
+
+pub fits_64 : (n : ℕ) → n < record_numbers → n < 2 ^ 64
+fits_64 n h = omega arith
+
 -- ---- a truth as a number
 
 pub flag_of_code : (code : ℕ) → code ≤ 1 → flag (eqb code 1) ≡ code
@@ -72,6 +80,10 @@ flag_of_code code h =
       | inr e ↦ rw e (omega (arith, eqb-false code 1 e))
     ]
 
+pub flag_fits : (b : Bool) → flag b < 2 ^ 32
+flag_fits true = omega arith
+flag_fits false = omega arith
+
 pub flag_below : (b : Bool) → flag b ≤ 1
 flag_below true = omega arith
 flag_below false = omega arith
@@ -79,3 +91,17 @@ flag_below false = omega arith
 pub code_of_flag : (b : Bool) → eqb (flag b) 1 ≡ b
 code_of_flag true = refl
 code_of_flag false = refl
+
+pub flag_zero : (code : ℕ) → code ≡ 0 → eqb code 1 ≡ false
+flag_zero code e = rw e refl
+
+-- Both are as zero: the truth, and the number that goes with it.
+pub false_with_zero : (code n : ℕ) → code ≤ 1 → same_truth (eqb code 0) (eqb n 0) ≡ true → (eqb code 1 ≡ false ↔ n ≡ 0)
+false_with_zero code n le h = grind (arith, nat_tests)
+
+pub false_with_zero_test : (b : Bool) (n : ℕ) → (b ≡ false ↔ n ≡ 0) → same_truth (eqb (flag b) 0) (eqb n 0) ≡ true
+false_with_zero_test true n h = grind (arith, nat_tests)
+false_with_zero_test false n h = grind (arith, nat_tests)
+
+pub flag_is_zero : (b : Bool) → b ≡ false → eqb (flag b) 0 ≡ true
+flag_is_zero b e = rw e refl
