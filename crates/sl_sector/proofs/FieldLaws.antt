@@ -19,7 +19,7 @@ use Rattle.std.specs.Prelude.{IsTrue, not}
 -- ---- from the front on: the bytes so far, and one field more
 
 -- How long a part of a list is.
-length_part : (bs : List ℕ) (at n : ℕ) → at + n ≤ length bs → length (take n (drop at bs)) ≡ n
+pub length_part : (bs : List ℕ) (at n : ℕ) → at + n ≤ length bs → length (take n (drop at bs)) ≡ n
 length_part bs at n h = omega (arith, length-take n (drop at bs), length-drop at bs)
 
 pub take-u32 : (bs : List ℕ) (at : ℕ) → IsBytes bs → at + 4 ≤ length bs → take (at + 4) bs ≡ take at bs ++ u32_bytes (u32_at bs at)

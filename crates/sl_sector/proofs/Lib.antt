@@ -3,3 +3,5 @@ pub mod FieldLaws
 pub mod RuleLaws
 pub mod LeaderLaws
 pub mod BlockLaws
+pub mod RequestLaws
+pub mod ValueLaws

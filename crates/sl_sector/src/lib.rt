@@ -5,6 +5,8 @@ mod block;
 mod fields;
 mod frame;
 mod leader;
+mod request;
 pub mod sector;
+mod value;
 
 pub use sector::{Bad, Block, DeltaRec, DeltaState, Leader, Owner, Rec, Request, ValueRec};
