@@ -4,7 +4,7 @@ use Rattle.sl_sector.proofs.FieldLaws.{Begins, length-magic, length-u32_bytes, l
 use Rattle.sl_sector.proofs.RuleLaws.{Hold, both_zero, both_zero_test, code_of_flag, false_with_zero, false_with_zero_test, fits_32, fits_64, flag_below, flag_fits, flag_is_zero, flag_of_code, flag_zero, in_range, in_range_test, number, under_held_rules, unless_zero, unless_zero_test}
 use Rattle.sl_sector.specs.Fields.{flag, u32_at, u32_bytes, u64_at, u64_bytes}
 use Rattle.sl_sector.specs.Records.{IsBlock}
-use Rattle.sl_sector.specs.Spelling.{block_of, block_rules, field_bytes, fields_of, magic, under_rules}
+use Rattle.sl_sector.specs.Spelling.{as_record, block_of, block_rules, field_bytes, fields_of, magic, under_rules}
 use Rattle.sl_sector.specs.declared.sector.Block.{Block}
 use Rattle.sl_sector.specs.declared.sector.Rec.TheVariants.{BlockIs}
 use Rattle.sl_words.proofs.WordLaws.{and_true}
@@ -47,7 +47,7 @@ pub length-block : (b : Block) → length (field_bytes (BlockIs b)) ≡ 60
 unfolding field_bytes
 length-block b = simp (length-append, length-u32_bytes, length-u64_bytes, length-magic)
 
-of_kind : (bs : List ℕ) → fields_of 3 bs ≡ under_rules (block_rules bs) (BlockIs (block_of bs))
+of_kind : (bs : List ℕ) → fields_of 3 bs ≡ as_record BlockIs (under_rules (block_rules bs) (block_of bs))
 unfolding fields_of
 of_kind bs = refl
 
@@ -77,4 +77,4 @@ block_again bs b is begins =
       (rw (bal.1, inp.1) (and_from _ _ (le-leb b.inp 2000 is.inp) (both_zero_test b.bal b.inp is.value.1)), tt)))))))) in
     let read : block_of bs ≡ b =
         rw (host.1, mode.1, lver.1, mbal.1, bal.1, inp_gen.1, mode_gen.1, inp.1, code_of_flag b.shared) refl in
-    (kind.0.front, ap (λ (k : ℕ). fields_of k bs) kind.1 ∙ of_kind bs ∙ under_held_rules (block_rules bs) (BlockIs (block_of bs)) holds ∙ ap (λ (x : Block). Ok (BlockIs x)) read)
+    (kind.0.front, ap (λ (k : ℕ). fields_of k bs) kind.1 ∙ of_kind bs ∙ ap (as_record BlockIs) (under_held_rules (block_rules bs) (block_of bs) holds ∙ ap (λ (x : Block). Ok x) read))

@@ -170,7 +170,10 @@ take-no_name bs at h ok =
     let zeros : name_field bs at ≡ replicate 48 0 = zeros_from_test (name_field bs at) ok ∙ ap (λ (n : ℕ). replicate n 0) (length_part bs at 48 h) in
     take-add at 48 bs ∙ ap (λ (x : List ℕ). take at bs ++ x) zeros
 
+pub length-no_name : length (name_bytes []) ≡ 48
+length-no_name = length-padded_text 48 [] (omega arith)
+
 pub no_name_before : (bs text : List ℕ) (at : ℕ) → Begins bs (text ++ name_bytes []) (at + 48) → Begins bs text at × (is_absent_name bs at ≡ true)
 no_name_before bs text at b =
-    let p = Begins-before bs text (name_bytes []) at 48 (length-padded_text 48 [] (omega arith)) b in
+    let p = Begins-before bs text (name_bytes []) at 48 length-no_name b in
     (p.0, rw p.1 (zeros_behind_name []))

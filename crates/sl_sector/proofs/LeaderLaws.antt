@@ -4,7 +4,7 @@ use Rattle.sl_sector.proofs.FieldLaws.{Begins, length-magic, length-name_bytes, 
 use Rattle.sl_sector.proofs.RuleLaws.{Hold, fits_32, fits_64, flag_below, flag_fits, flag_is_zero, flag_zero, under_held_rules, both_zero, both_zero_test, in_range, in_range_test, number, unless_zero, unless_zero_test, flag_of_code, code_of_flag}
 use Rattle.sl_sector.specs.Fields.{flag, is_name_field, name_at, name_bytes, u32_at, u32_bytes, u64_at, u64_bytes}
 use Rattle.sl_sector.specs.Records.{IsLeader}
-use Rattle.sl_sector.specs.Spelling.{field_bytes, fields_of, leader_of, leader_rules, magic, under_rules}
+use Rattle.sl_sector.specs.Spelling.{as_record, field_bytes, fields_of, leader_of, leader_rules, magic, under_rules}
 use Rattle.sl_sector.specs.declared.sector.Leader.{Leader}
 use Rattle.sl_sector.specs.declared.sector.Rec.TheVariants.{LeaderIs}
 use Rattle.sl_words.proofs.WordLaws.{and_true}
@@ -44,7 +44,7 @@ pub length-leader : (l : Leader) → IsLeader l → length (field_bytes (LeaderI
 unfolding field_bytes
 length-leader l is = simp (length-append, length-u32_bytes, length-u64_bytes, length-magic, length-name_bytes l.lockspace is.lockspace, length-name_bytes l.resource is.resource)
 
-of_kind : (bs : List ℕ) → fields_of 2 bs ≡ under_rules (leader_rules bs) (LeaderIs (leader_of bs))
+of_kind : (bs : List ℕ) → fields_of 2 bs ≡ as_record LeaderIs (under_rules (leader_rules bs) (leader_of bs))
 unfolding fields_of
 of_kind bs = refl
 
@@ -71,4 +71,4 @@ leader_again bs l is begins =
       (lockspace.1, (resource.1, tt))))))) in
     let read : leader_of bs ≡ l =
         rw (state.1, hosts.1, lver.1, generation.1, owner.1, lockspace.2, resource.2, code_of_flag l.held) refl in
-    (kind.0.front, ap (λ (k : ℕ). fields_of k bs) kind.1 ∙ of_kind bs ∙ under_held_rules (leader_rules bs) (LeaderIs (leader_of bs)) holds ∙ ap (λ (x : Leader). Ok (LeaderIs x)) read)
+    (kind.0.front, ap (λ (k : ℕ). fields_of k bs) kind.1 ∙ of_kind bs ∙ ap (as_record LeaderIs) (under_held_rules (leader_rules bs) (leader_of bs) holds ∙ ap (λ (x : Leader). Ok x) read))

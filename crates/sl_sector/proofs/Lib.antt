@@ -5,3 +5,4 @@ pub mod LeaderLaws
 pub mod BlockLaws
 pub mod RequestLaws
 pub mod ValueLaws
+pub mod DeltaLaws

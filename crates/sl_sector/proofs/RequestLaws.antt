@@ -4,7 +4,7 @@ use Rattle.sl_sector.proofs.FieldLaws.{Begins, length-magic, length-u32_bytes, l
 use Rattle.sl_sector.proofs.RuleLaws.{Hold, both_zero, both_zero_test, fits_32, fits_64, number, under_held_rules}
 use Rattle.sl_sector.specs.Fields.{u32_at, u32_bytes, u64_at, u64_bytes}
 use Rattle.sl_sector.specs.Records.{IsRequest}
-use Rattle.sl_sector.specs.Spelling.{field_bytes, fields_of, magic, request_of, request_rules, under_rules}
+use Rattle.sl_sector.specs.Spelling.{as_record, field_bytes, fields_of, magic, request_of, request_rules, under_rules}
 use Rattle.sl_sector.specs.declared.sector.Rec.TheVariants.{RequestIs}
 use Rattle.sl_sector.specs.declared.sector.Request.{Request}
 use Rattle.sl_words.proofs.WordLaws.{and_true}
@@ -37,7 +37,7 @@ pub length-request : (r : Request) → length (field_bytes (RequestIs r)) ≡ 24
 unfolding field_bytes
 length-request r = simp (length-append, length-u32_bytes, length-u64_bytes, length-magic)
 
-of_kind : (bs : List ℕ) → fields_of 4 bs ≡ under_rules (request_rules bs) (RequestIs (request_of bs))
+of_kind : (bs : List ℕ) → fields_of 4 bs ≡ as_record RequestIs (under_rules (request_rules bs) (request_of bs))
 unfolding fields_of
 of_kind bs = refl
 
@@ -56,4 +56,4 @@ request_again bs r is begins =
       (rw host.1 (le-leb r.host 2000 is.host),
       (rw (lver.1, force.1) (and_from _ _ (lt-ltb r.lver record_numbers is.lver) (both_zero_test r.force r.lver is.same)), tt))) in
     let read : request_of bs ≡ r = rw (force.1, host.1, lver.1) refl in
-    (kind.0.front, ap (λ (k : ℕ). fields_of k bs) kind.1 ∙ of_kind bs ∙ under_held_rules (request_rules bs) (RequestIs (request_of bs)) holds ∙ ap (λ (x : Request). Ok (RequestIs x)) read)
+    (kind.0.front, ap (λ (k : ℕ). fields_of k bs) kind.1 ∙ of_kind bs ∙ ap (as_record RequestIs) (under_held_rules (request_rules bs) (request_of bs) holds ∙ ap (λ (x : Request). Ok x) read))

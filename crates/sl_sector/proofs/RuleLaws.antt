@@ -71,6 +71,9 @@ fits_32 n h = omega arith
 pub fits_64 : (n : ℕ) → n < record_numbers → n < 2 ^ 64
 fits_64 n h = omega arith
 
+pub positive : (n : ℕ) → (n ≡ 0 → ⊥) → 0 < n
+positive n h = grind arith
+
 -- ---- a truth as a number
 
 pub flag_of_code : (code : ℕ) → code ≤ 1 → flag (eqb code 1) ≡ code

@@ -4,7 +4,7 @@ use Rattle.sl_sector.proofs.FieldLaws.{Begins, Begins-before, length-magic, leng
 use Rattle.sl_sector.proofs.RuleLaws.{Hold, fits_32, fits_64, number, under_held_rules}
 use Rattle.sl_sector.specs.Fields.{u32_at, u32_bytes, u64_at, u64_bytes}
 use Rattle.sl_sector.specs.Records.{IsValue}
-use Rattle.sl_sector.specs.Spelling.{field_bytes, fields_of, magic, under_rules, value_of, value_rules}
+use Rattle.sl_sector.specs.Spelling.{as_record, field_bytes, fields_of, magic, under_rules, value_of, value_rules}
 use Rattle.sl_sector.specs.declared.sector.Rec.TheVariants.{ValueIs}
 use Rattle.sl_sector.specs.declared.sector.ValueRec.{ValueRec}
 use Rattle.sl_words.specs.Bounds.{record_numbers}
@@ -44,7 +44,7 @@ pub length-value : (v : ValueRec) → length (field_bytes (ValueIs v)) ≡ 32 + 
 unfolding field_bytes
 length-value v = simp (length-append, length-u32_bytes, length-u64_bytes, length-magic)
 
-of_kind : (bs : List ℕ) → fields_of 5 bs ≡ under_rules (value_rules bs) (ValueIs (value_of bs))
+of_kind : (bs : List ℕ) → fields_of 5 bs ≡ as_record ValueIs (under_rules (value_rules bs) (value_of bs))
 unfolding fields_of
 of_kind bs = refl
 
@@ -66,4 +66,4 @@ value_again bs v is begins =
       (rw lver.1 (lt-ltb v.lver record_numbers is.lver),
       (rw seq.1 (lt-ltb v.seq record_numbers is.seq), tt)))) in
     let read : value_of bs ≡ v = rw (len.1, host.1, lver.1, seq.1, bytes.1) refl in
-    (kind.0.front, ap (λ (k : ℕ). fields_of k bs) kind.1 ∙ of_kind bs ∙ under_held_rules (value_rules bs) (ValueIs (value_of bs)) holds ∙ ap (λ (x : ValueRec). Ok (ValueIs x)) read)
+    (kind.0.front, ap (λ (k : ℕ). fields_of k bs) kind.1 ∙ of_kind bs ∙ ap (as_record ValueIs) (under_held_rules (value_rules bs) (value_of bs) holds ∙ ap (λ (x : ValueRec). Ok x) read))

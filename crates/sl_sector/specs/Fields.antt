@@ -1,12 +1,14 @@
 -- Fields of a sector: the bytes of a number and of a name, and what stands at an offset. Numbers are big-endian and unsigned; a
 -- name has 48 bytes, its characters and then zeros.
+use Rattle.sl_sector.specs.declared.sector.Bad.TheVariants.{BadField}
+use Rattle.sl_sector.specs.declared.sector.Bad.{Bad}
 use Rattle.sl_sector.specs.declared.sector.DeltaState.TheVariants.{Claimed, Free, Live}
 use Rattle.sl_sector.specs.declared.sector.DeltaState.{DeltaState}
 use Rattle.sl_text.specs.Names.{is_name, padded_text}
 use Rattle.sl_words.specs.Words.{all_zero}
 use Rattle.std.specs.Int.{from_be_bytes, to_be_bytes, w32, w64}
 use Rattle.std.specs.List.{prefix_len}
-use Rattle.std.specs.Prelude.{Bool, List, drop, false, if◌then◌else◌, not, take, true, ℕ, ◌&&◌, ◌==◌}
+use Rattle.std.specs.Prelude.{Bool, List, MatchResult, Result, drop, false, if◌then◌else◌, not, take, true, ℕ, ◌&&◌, ◌==◌, ◌≡◌}
 
 -- A number in four bytes.
 unfoldable pub u32_bytes : ℕ → List ℕ
@@ -48,6 +50,11 @@ is_name_field bs at = all_zero (drop (name_len bs at) (name_field bs at)) && is_
 abbrev pub is_absent_name : List ℕ → ℕ → Bool
 is_absent_name bs at = all_zero (name_field bs at)
 
+-- Whether they are as the host's name must be: absent in a record that was never claimed, else a name.
+abbrev pub is_host_field : Bool → List ℕ → ℕ → Bool
+is_host_field true bs at = is_absent_name bs at
+is_host_field false bs at = is_name_field bs at
+
 -- A truth as a number.
 abbrev pub flag : Bool → ℕ
 flag true = 1
@@ -62,3 +69,7 @@ delta_code Live = 2
 -- The state that the number names.
 abbrev pub delta_state : ℕ → DeltaState
 delta_state code = if code == 0 then Free else (if code == 1 then Claimed else Live)
+
+-- The answer of a reader of the field at this offset: the value, where its rule holds, else the refusal of the field.
+abbrev pub ReadsField : {A : Type 0} → ℕ → Bool → A → Result A Bad → Type 0
+ReadsField at holds value result = MatchResult result (λ found. (holds ≡ true) × (found ≡ value)) (λ bad. (holds ≡ false) × (bad ≡ BadField at))

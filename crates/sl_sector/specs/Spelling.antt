@@ -16,7 +16,7 @@ use Rattle.sl_words.specs.Words.{all_zero, choose, same_truth}
 use Rattle.std.specs.Int.{is_in_range}
 use Rattle.std.specs.List.{list_all}
 use Rattle.std.specs.Prelude.{Bool, Err, IsTrue, List, None, Ok, Option, Result, Some, bytes_eq, drop, false, if◌then◌else◌, length, nat_le, nat_lt, not, position, take, true, unwrap_or, [], ℕ, ◌&&◌, ◌++◌, ◌+◌, ◌-◌, ◌==◌, ◌||◌, ◌↔◌, ◌∷◌, ◌≡◌, ◌≤◌}
-pub use Rattle.sl_sector.specs.Fields.{delta_code, delta_state, flag, is_absent_name, is_name_field, name_at, name_bytes, name_field, u32_at, u32_bytes, u64_at, u64_bytes}
+pub use Rattle.sl_sector.specs.Fields.{delta_code, delta_state, flag, is_absent_name, is_host_field, is_name_field, name_at, name_bytes, name_field, u32_at, u32_bytes, u64_at, u64_bytes}
 pub use Rattle.sl_sector.specs.Records.{AreBytes, Fits, IsBlock, IsDelta, IsLeader, IsRecord, IsRequest, IsValue}
 
 -- ---- the bytes of a record
@@ -86,7 +86,7 @@ delta_rules bs =
     ∷ (24, is_number (u64_at bs 24) && (not unused || u64_at bs 24 == 0))
     ∷ (32, nat_lt (u64_at bs 32) moments && (not unused || u64_at bs 32 == 0))
     ∷ (40, is_name_field bs 40)
-    ∷ (88, elim unused [ true ↦ is_absent_name bs 88 | false ↦ is_name_field bs 88 ])
+    ∷ (88, is_host_field unused bs 88)
     ∷ (136, not unused || all_zero (take 250 (drop 136 bs))) ∷ []
 
 -- The rules of a leader's fields.
@@ -180,14 +180,19 @@ abbrev pub under_rules : {A : Type 0} → List (ℕ × Bool) → A → Result A 
 under_rules [] a = Ok a
 under_rules (rule ∷ rules) a = ensure rule.1 (BadField rule.0) >>= λ _. under_rules rules a
 
+-- The same, as one of the five.
+abbrev pub as_record : {A : Type 0} → (A → Rec) → Result A Bad → Result Rec Bad
+as_record wrap (Ok a) = Ok (wrap a)
+as_record wrap (Err bad) = Err bad
+
 -- The record of this kind, or its first field whose rule fails.
 unfoldable pub fields_of : ℕ → List ℕ → Result Rec Bad
 fields_of kind bs =
-    elim (kind == 1) [ true ↦ under_rules (delta_rules bs) (DeltaIs (delta_of bs)) | false ↦
-    elim (kind == 2) [ true ↦ under_rules (leader_rules bs) (LeaderIs (leader_of bs)) | false ↦
-    elim (kind == 3) [ true ↦ under_rules (block_rules bs) (BlockIs (block_of bs)) | false ↦
-    elim (kind == 4) [ true ↦ under_rules (request_rules bs) (RequestIs (request_of bs)) | false ↦
-    elim (kind == 5) [ true ↦ under_rules (value_rules bs) (ValueIs (value_of bs)) | false ↦ Err BadKind ] ] ] ] ]
+    elim (kind == 1) [ true ↦ as_record DeltaIs (under_rules (delta_rules bs) (delta_of bs)) | false ↦
+    elim (kind == 2) [ true ↦ as_record LeaderIs (under_rules (leader_rules bs) (leader_of bs)) | false ↦
+    elim (kind == 3) [ true ↦ as_record BlockIs (under_rules (block_rules bs) (block_of bs)) | false ↦
+    elim (kind == 4) [ true ↦ as_record RequestIs (under_rules (request_rules bs) (request_of bs)) | false ↦
+    elim (kind == 5) [ true ↦ as_record ValueIs (under_rules (value_rules bs) (value_of bs)) | false ↦ Err BadKind ] ] ] ] ]
 
 -- Nothing where each byte from this offset on is zero, else the first that isn't.
 abbrev pub padding_from : ℕ → List ℕ → Result (Unit {0}) Bad

@@ -7,11 +7,9 @@ ghost use Rattle.std.specs.Int.{is_in_range};
 ghost use Rattle.std.specs.List.{prefix_len};
 ghost use Rattle.std.specs.Prelude.{length, replicate, take, ◌&&◌, ◌||◌, ◌++◌, ◌+◌, ◌≡◌, ◌≤◌, ◌∷◌, ◌==◌, not, []};
 ghost use Rattle.sl_words.specs.Bounds as bounds;
-ghost use Rattle.sl_words.specs.Results.{ensure};
 ghost use Rattle.sl_words.specs.Words.{all_zero, choose, same_truth};
 ghost use Rattle.sl_sector.specs.Fields as spec;
-ghost use Rattle.sl_sector.specs.Spelling.{under_rules};
-ghost use Rattle.sl_sector.specs.declared.sector.Bad.TheVariants.{BadField};
+ghost use Rattle.sl_sector.specs.Fields.{ReadsField};
 
 use byteorder::{BigEndian, ByteOrder};
 use sl_text::Name;
@@ -94,21 +92,21 @@ fn name_in(bytes: &[u8], at: usize) -> Option<Name>
 #[tactic(auto, using(crate::proofs::RuleLaws::chosen_under))]
 pub(crate) fn name_at(bytes: &[u8], at: u32) -> Result<Name, Bad>
     requires { at + 48 ≤ length bytes.now }
-    ensures { result ≡ under_rules ((at, spec.is_name_field bytes.now at) ∷ []) (spec.name_at bytes.now at) }
+    ensures { ReadsField at (spec.is_name_field bytes.now at) (spec.name_at bytes.now at) result }
 {
     name_in(bytes, at as usize).ok_or(Bad::BadField(at))
 }
 
 /// Nothing where the rule of the field at this offset holds, else `BadField` of it.
 pub(crate) fn rule(at: u32, holds: bool) -> Result<(), Bad>
-    ensures { result ≡ ensure holds (BadField at) }
+    ensures { ReadsField at holds tt result }
 {
     if holds { Ok(()) } else { Err(Bad::BadField(at)) }
 }
 
 /// Nothing where the two rules of the field at this offset hold, its own and that with fields before it, else `BadField` of it.
 pub(crate) fn rules(at: u32, own: bool, with_others: bool) -> Result<(), Bad>
-    ensures { result ≡ ensure (own && with_others) (BadField at) }
+    ensures { ReadsField at (own && with_others) tt result }
 {
     if own { rule(at, with_others) } else { rule(at, false) }
 }

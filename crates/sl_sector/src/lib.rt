@@ -2,6 +2,8 @@
 #![tactic(auto)]
 
 mod block;
+mod decode;
+mod delta;
 mod fields;
 mod frame;
 mod leader;

@@ -1,7 +1,7 @@
 //! The value's bytes: a resource's value, and who wrote it.
 
 ghost use Rattle.sha2.specs.Sha256.{sha256};
-ghost use Rattle.std.specs.Prelude.{drop, length, take, ◌+◌, ◌≡◌, ◌≤◌};
+ghost use Rattle.std.specs.Prelude.{IfOk, drop, length, take, ◌+◌, ◌≡◌, ◌≤◌};
 ghost use Rattle.sl_sector.specs.Records.{IsValue};
 ghost use Rattle.sl_sector.specs.Spelling.{IsSectorSize, field_bytes, spelling, under_rules, value_of, value_rules};
 ghost use Rattle.sl_sector.specs.declared.sector.Rec.TheVariants.{ValueIs};
@@ -54,7 +54,8 @@ impl ValueRec {
 fn data_at(sector: &[u8], len: u32) -> Data
     requires size { 512 ≤ length sector.now }
     requires few { len ≤ 256 }
-    ensures { result ≡ take len (drop 32 sector.now) }
+    ensures exact { result ≡ take len (drop 32 sector.now) }
+    ensures few { length result ≡ len }
 {
     let (_, rest) = sector.split_at(VALUE_START);
     let (bytes, _) = rest.split_at(len as usize);
@@ -68,7 +69,8 @@ fn data_at(sector: &[u8], len: u32) -> Data
 #[tactic(auto, unfolding(crate::specs::Spelling::value_rules))]
 pub(crate) fn value_at(sector: &[u8]) -> Result<ValueRec, Bad>
     requires { 512 ≤ length sector.now }
-    ensures { result ≡ under_rules (value_rules sector.now) (value_of sector.now) }
+    ensures exact { result ≡ under_rules (value_rules sector.now) (value_of sector.now) }
+    ensures few { IfOk result (λ v. length v.bytes ≤ 256) }
 {
     let len = u32_at(sector, 8);
     let host = u32_at(sector, 12);
