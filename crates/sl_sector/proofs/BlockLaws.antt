@@ -38,9 +38,20 @@ pub block_text : (bs : List ℕ) → IsBytes bs → 512 ≤ length bs → take 4
     → take 60 bs ≡ field_bytes (BlockIs (block_of bs))
 unfolding block_rules field_bytes
 block_text bs fits long begins kind (_, (mode, _)) =
-    rw (take-u32 bs 56 fits (omega arith), take-u64 bs 48 fits (omega arith), take-u64 bs 40 fits (omega arith), take-u64 bs 32 fits (omega arith),
-    take-u64 bs 24 fits (omega arith), take-u64 bs 16 fits (omega arith), take-u32 bs 12 fits (omega arith),
-    take-u32 bs 8 fits (omega arith), take-u32 bs 4 fits (omega arith), begins, kind, flag_of_code (u32_at bs 12) (leb-true (u32_at bs 12) 1 mode)) refl
+    rw (
+      take-u32 bs 56 fits (omega arith),
+      take-u64 bs 48 fits (omega arith),
+      take-u64 bs 40 fits (omega arith),
+      take-u64 bs 32 fits (omega arith),
+      take-u64 bs 24 fits (omega arith),
+      take-u64 bs 16 fits (omega arith),
+      take-u32 bs 12 fits (omega arith),
+      take-u32 bs 8 fits (omega arith),
+      take-u32 bs 4 fits (omega arith),
+      begins,
+      kind,
+      flag_of_code (u32_at bs 12) (leb-true (u32_at bs 12) 1 mode),
+    ) refl
 
 -- How long the text is.
 pub length-block : (b : Block) → length (field_bytes (BlockIs b)) ≡ 60
@@ -68,13 +79,26 @@ block_again bs b is begins =
     let kind = u32_before bs _ 4 3 (fits_32 3 (omega arith)) host.0 in
     let holds : Hold (block_rules bs) = (
       rw host.1 (in_range_test 1 2000 b.host is.host.0 is.host.1),
-      (rw mode.1 (le-leb (flag b.shared) 1 (flag_below b.shared)),
-      (rw (lver.1, mode.1) (and_from _ _ (lt-ltb b.lver record_numbers is.lver) (unless_zero_test b.lver _ (λ e. flag_is_zero _ (is.unused e).1))),
-      (rw (lver.1, mbal.1) (and_from _ _ (lt-ltb b.mbal record_numbers is.mbal) (unless_zero_test b.lver _ (λ e. eq-eqb _ _ (is.unused e).0))),
-      (rw (bal.1, mbal.1) (le-leb b.bal b.mbal is.bal),
-      (rw (bal.1, inp_gen.1) (and_from _ _ (lt-ltb b.inp_gen record_numbers is.generations.0) (both_zero_test b.bal b.inp_gen is.value.0)),
-      (rw (mode.1, mode_gen.1) (and_from _ _ (lt-ltb b.mode_gen record_numbers is.generations.1) (false_with_zero_test b.shared b.mode_gen is.mode)),
-      (rw (bal.1, inp.1) (and_from _ _ (le-leb b.inp 2000 is.inp) (both_zero_test b.bal b.inp is.value.1)), tt)))))))) in
+      (
+        rw mode.1 (le-leb (flag b.shared) 1 (flag_below b.shared)),
+        (
+          rw (lver.1, mode.1) (and_from _ _ (lt-ltb b.lver record_numbers is.lver) (unless_zero_test b.lver _ (λ e. flag_is_zero _ (is.unused e).1))),
+          (
+            rw (lver.1, mbal.1) (and_from _ _ (lt-ltb b.mbal record_numbers is.mbal) (unless_zero_test b.lver _ (λ e. eq-eqb _ _ (is.unused e).0))),
+            (
+              rw (bal.1, mbal.1) (le-leb b.bal b.mbal is.bal),
+              (
+                rw (bal.1, inp_gen.1) (and_from _ _ (lt-ltb b.inp_gen record_numbers is.generations.0) (both_zero_test b.bal b.inp_gen is.value.0)),
+                (
+                  rw (mode.1, mode_gen.1) (and_from _ _ (lt-ltb b.mode_gen record_numbers is.generations.1) (false_with_zero_test b.shared b.mode_gen is.mode)),
+                  (rw (bal.1, inp.1) (and_from _ _ (le-leb b.inp 2000 is.inp) (both_zero_test b.bal b.inp is.value.1)), tt),
+                ),
+              ),
+            ),
+          ),
+        ),
+      ),
+    ) in
     let read : block_of bs ≡ b =
-        rw (host.1, mode.1, lver.1, mbal.1, bal.1, inp_gen.1, mode_gen.1, inp.1, code_of_flag b.shared) refl in
+    rw (host.1, mode.1, lver.1, mbal.1, bal.1, inp_gen.1, mode_gen.1, inp.1, code_of_flag b.shared) refl in
     (kind.0.front, ap (λ (k : ℕ). fields_of k bs) kind.1 ∙ of_kind bs ∙ ap (as_record BlockIs) (under_held_rules (block_rules bs) (block_of bs) holds ∙ ap (λ (x : Block). Ok x) read))

@@ -75,7 +75,7 @@ delta_fits bs fits long (state, (id, (generation, (seq, (stamp, (lockspace, (hos
         eqb-true _ _ (unless_zero _ _ seq_parts.1 e),
         eqb-true _ _ (unless_zero _ _ stamp_parts.1 e),
         host_absent (eqb (u64_at bs 16) 0) (name_at bs 88) (eq-eqb _ _ e),
-        zeros_from_test _ (unless_zero _ _ bitmap e) ∙ ap (λ (n : ℕ). replicate n 0) (bitmap_long bs long)
+        zeros_from_test _ (unless_zero _ _ bitmap e) ∙ ap (λ (n : ℕ). replicate n 0) (bitmap_long bs long),
       ));
       used = (λ lt. host_named (eqb (u64_at bs 16) 0) bs 88 host (ne_eqb _ _ (λ e. absurd (omega (arith, e, lt)))));
     }
@@ -91,9 +91,20 @@ pub delta_text : (bs : List ℕ) → IsBytes bs → 512 ≤ length bs → take 4
     → take 386 bs ≡ field_bytes (DeltaIs (delta_of bs))
 unfolding delta_rules field_bytes
 delta_text bs fits long begins kind (state, (_, (_, (_, (_, (lockspace, (host, _))))))) =
-    rw (take-add 136 250 bs, take-host (eqb (u64_at bs 16) 0) bs 88 (omega arith) host, take-name bs 40 (omega arith) lockspace,
-    take-u64 bs 32 fits (omega arith), take-u64 bs 24 fits (omega arith), take-u64 bs 16 fits (omega arith), take-u32 bs 12 fits (omega arith),
-    take-u32 bs 8 fits (omega arith), take-u32 bs 4 fits (omega arith), begins, kind, code_of_state (u32_at bs 8) (leb-true (u32_at bs 8) 2 state)) refl
+    rw (
+      take-add 136 250 bs,
+      take-host (eqb (u64_at bs 16) 0) bs 88 (omega arith) host,
+      take-name bs 40 (omega arith) lockspace,
+      take-u64 bs 32 fits (omega arith),
+      take-u64 bs 24 fits (omega arith),
+      take-u64 bs 16 fits (omega arith),
+      take-u32 bs 12 fits (omega arith),
+      take-u32 bs 8 fits (omega arith),
+      take-u32 bs 4 fits (omega arith),
+      begins,
+      kind,
+      code_of_state (u32_at bs 8) (leb-true (u32_at bs 8) 2 state),
+    ) refl
 
 -- ---- what is spelled
 
@@ -149,13 +160,26 @@ delta_again bs d is begins =
     let kind = u32_before bs _ 4 1 (fits_32 1 (omega arith)) state.0 in
     let holds : Hold (delta_rules bs) = (
       rw state.1 (le-leb (delta_code d.state) 2 (code_below d.state)),
-      (rw id.1 (in_range_test 1 2000 d.id is.id.0 is.id.1),
-      (rw (generation.1, state.1) (and_from _ _ (lt-ltb d.generation record_numbers is.generation) (unless_zero_test d.generation _ (λ e. eq-eqb _ _ (ap delta_code (unused e).0)))),
-      (rw (generation.1, seq.1) (and_from _ _ (lt-ltb d.seq record_numbers is.seq) (unless_zero_test d.generation _ (λ e. eq-eqb _ _ (unused e).1))),
-      (rw (generation.1, stamp.1) (and_from _ _ (lt-ltb d.stamp moments is.stamp) (unless_zero_test d.generation _ (λ e. eq-eqb _ _ (unused e).2))),
-      (lockspace.1,
-      (rw generation.1 host.1,
-      (rw (generation.1, bitmap.1) (unless_zero_test d.generation _ (λ e. ap all_zero (unused e).4)), tt)))))))) in
+      (
+        rw id.1 (in_range_test 1 2000 d.id is.id.0 is.id.1),
+        (
+          rw (generation.1, state.1) (and_from _ _ (lt-ltb d.generation record_numbers is.generation) (unless_zero_test d.generation _ (λ e. eq-eqb _ _ (ap delta_code (unused e).0)))),
+          (
+            rw (generation.1, seq.1) (and_from _ _ (lt-ltb d.seq record_numbers is.seq) (unless_zero_test d.generation _ (λ e. eq-eqb _ _ (unused e).1))),
+            (
+              rw (generation.1, stamp.1) (and_from _ _ (lt-ltb d.stamp moments is.stamp) (unless_zero_test d.generation _ (λ e. eq-eqb _ _ (unused e).2))),
+              (
+                lockspace.1,
+                (
+                  rw generation.1 host.1,
+                  (rw (generation.1, bitmap.1) (unless_zero_test d.generation _ (λ e. ap all_zero (unused e).4)), tt),
+                ),
+              ),
+            ),
+          ),
+        ),
+      ),
+    ) in
     let read : delta_of bs ≡ d =
-        rw (state.1, id.1, generation.1, seq.1, stamp.1, lockspace.2, host.2, bitmap.1, state_of_code d.state) refl in
+    rw (state.1, id.1, generation.1, seq.1, stamp.1, lockspace.2, host.2, bitmap.1, state_of_code d.state) refl in
     (kind.0.front, ap (λ (k : ℕ). fields_of k bs) kind.1 ∙ of_kind bs ∙ ap (as_record DeltaIs) (under_held_rules (delta_rules bs) (delta_of bs) holds ∙ ap (λ (x : DeltaRec). Ok x) read))

@@ -67,10 +67,11 @@ Begins-before bs text part at n len b =
     let long : length text ≡ at = omega (arith, length-append text part, b.long) in
     let whole : take at bs ++ take n (drop at bs) ≡ text ++ part = sym (take-add at n bs) ∙ b.front in
     let front : take at bs ≡ text =
-        sym (take-take at (at + n) bs (omega arith)) ∙ ap (take at) b.front ∙ take_at text part at long in
-    let enough : length (take at bs) ≡ at = ap length front ∙ long in
-    (record { long = long; front = front },
-    sym (drop_at (take at bs) (take n (drop at bs)) at enough) ∙ ap (drop at) whole ∙ drop_at text part at long)
+    sym (take-take at (at + n) bs (omega arith)) ∙ ap (take at) b.front ∙ take_at text part at long in
+    let enough : length (take at bs) ≡ at = ap length front ∙ long in (
+      record { long = long; front = front },
+      sym (drop_at (take at bs) (take n (drop at bs)) at enough) ∙ ap (drop at) whole ∙ drop_at text part at long,
+    )
 
 pub length-magic : length magic ≡ 4
 unfolding magic

@@ -1,6 +1,6 @@
 -- The leader: what is read of it is spelled so, and what is spelled so is read.
 use Rattle.sl_sector.proofs.ByteLaws.{IsBytes}
-use Rattle.sl_sector.proofs.FieldLaws.{Begins, length-magic, length-name_bytes, length-u32_bytes, length-u64_bytes,  name_before, take-name, take-u32, take-u64, u32_before, u64_before}
+use Rattle.sl_sector.proofs.FieldLaws.{Begins, length-magic, length-name_bytes, length-u32_bytes, length-u64_bytes, name_before, take-name, take-u32, take-u64, u32_before, u64_before}
 use Rattle.sl_sector.proofs.RuleLaws.{Hold, fits_32, fits_64, flag_below, flag_fits, flag_is_zero, flag_zero, under_held_rules, both_zero, both_zero_test, in_range, in_range_test, number, unless_zero, unless_zero_test, flag_of_code, code_of_flag}
 use Rattle.sl_sector.specs.Fields.{flag, is_name_field, name_at, name_bytes, u32_at, u32_bytes, u64_at, u64_bytes}
 use Rattle.sl_sector.specs.Records.{IsLeader}
@@ -13,7 +13,7 @@ use Rattle.std.proofs.Common.{Bool, List, Ok, ap, arith, eqb, false, leb, length
 use Rattle.std.proofs.lemmas.Bool.{and_from, eqb-true, le-leb, leb-true, lt-ltb}
 
 -- The rules of the fields are those of the record.
-leader_fits : (bs : List ℕ) → Hold (leader_rules bs) → IsLeader (leader_of bs)
+pub leader_fits : (bs : List ℕ) → Hold (leader_rules bs) → IsLeader (leader_of bs)
 unfolding leader_rules
 leader_fits bs (state, (hosts, (lver, (generation, (owner, (lockspace, (resource, _))))))) =
     let lver_parts = and_true _ _ lver in
@@ -31,13 +31,23 @@ leader_fits bs (state, (hosts, (lver, (generation, (owner, (lockspace, (resource
     }
 
 -- What the fields give is spelled by the bytes.
-leader_text : (bs : List ℕ) → IsBytes bs → 512 ≤ length bs → take 4 bs ≡ magic → u32_at bs 4 ≡ 2 → Hold (leader_rules bs)
+pub leader_text : (bs : List ℕ) → IsBytes bs → 512 ≤ length bs → take 4 bs ≡ magic → u32_at bs 4 ≡ 2 → Hold (leader_rules bs)
     → take 132 bs ≡ field_bytes (LeaderIs (leader_of bs))
 unfolding leader_rules field_bytes
 leader_text bs fits long begins kind (state, (hosts, (lver, (generation, (owner, (lockspace, (resource, _))))))) =
-    rw (take-name bs 84 (omega arith) resource, take-name bs 36 (omega arith) lockspace, take-u32 bs 32 fits (omega arith),
-    take-u64 bs 24 fits (omega arith), take-u64 bs 16 fits (omega arith), take-u32 bs 12 fits (omega arith),
-    take-u32 bs 8 fits (omega arith), take-u32 bs 4 fits (omega arith), begins, kind, flag_of_code (u32_at bs 8) (leb-true (u32_at bs 8) 1 state)) refl
+    rw (
+      take-name bs 84 (omega arith) resource,
+      take-name bs 36 (omega arith) lockspace,
+      take-u32 bs 32 fits (omega arith),
+      take-u64 bs 24 fits (omega arith),
+      take-u64 bs 16 fits (omega arith),
+      take-u32 bs 12 fits (omega arith),
+      take-u32 bs 8 fits (omega arith),
+      take-u32 bs 4 fits (omega arith),
+      begins,
+      kind,
+      flag_of_code (u32_at bs 8) (leb-true (u32_at bs 8) 1 state),
+    ) refl
 
 -- How long the text is.
 pub length-leader : (l : Leader) → IsLeader l → length (field_bytes (LeaderIs l)) ≡ 132
@@ -64,11 +74,20 @@ leader_again bs l is begins =
     let kind = u32_before bs _ 4 2 (fits_32 2 (omega arith)) state.0 in
     let holds : Hold (leader_rules bs) = (
       rw state.1 (le-leb (flag l.held) 1 (flag_below l.held)),
-      (rw hosts.1 (in_range_test 1 2000 l.num_hosts is.hosts.0 is.hosts.1),
-      (rw (lver.1, state.1) (and_from _ _ (lt-ltb l.lver record_numbers is.lver) (unless_zero_test l.lver (eqb (flag l.held) 0) (λ e. flag_is_zero _ (is.unused e)))),
-      (rw (lver.1, generation.1) (and_from _ _ (lt-ltb l.generation record_numbers is.generation) (both_zero_test l.lver l.generation is.same.0)),
-      (rw (lver.1, owner.1, hosts.1) (and_from _ _ (le-leb l.owner l.num_hosts is.owner) (both_zero_test l.lver l.owner is.same.1)),
-      (lockspace.1, (resource.1, tt))))))) in
+      (
+        rw hosts.1 (in_range_test 1 2000 l.num_hosts is.hosts.0 is.hosts.1),
+        (
+          rw (lver.1, state.1) (and_from _ _ (lt-ltb l.lver record_numbers is.lver) (unless_zero_test l.lver (eqb (flag l.held) 0) (λ e. flag_is_zero _ (is.unused e)))),
+          (
+            rw (lver.1, generation.1) (and_from _ _ (lt-ltb l.generation record_numbers is.generation) (both_zero_test l.lver l.generation is.same.0)),
+            (
+              rw (lver.1, owner.1, hosts.1) (and_from _ _ (le-leb l.owner l.num_hosts is.owner) (both_zero_test l.lver l.owner is.same.1)),
+              (lockspace.1, (resource.1, tt)),
+            ),
+          ),
+        ),
+      ),
+    ) in
     let read : leader_of bs ≡ l =
-        rw (state.1, hosts.1, lver.1, generation.1, owner.1, lockspace.2, resource.2, code_of_flag l.held) refl in
+    rw (state.1, hosts.1, lver.1, generation.1, owner.1, lockspace.2, resource.2, code_of_flag l.held) refl in
     (kind.0.front, ap (λ (k : ℕ). fields_of k bs) kind.1 ∙ of_kind bs ∙ ap (as_record LeaderIs) (under_held_rules (leader_rules bs) (leader_of bs) holds ∙ ap (λ (x : Leader). Ok x) read))

@@ -6,3 +6,4 @@ pub mod BlockLaws
 pub mod RequestLaws
 pub mod ValueLaws
 pub mod DeltaLaws
+pub mod SpellingLaws

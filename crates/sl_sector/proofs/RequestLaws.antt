@@ -29,8 +29,14 @@ pub request_text : (bs : List ℕ) → IsBytes bs → 512 ≤ length bs → take
     → take 24 bs ≡ field_bytes (RequestIs (request_of bs))
 unfolding field_bytes
 request_text bs fits long begins kind =
-    rw (take-u64 bs 16 fits (omega arith), take-u32 bs 12 fits (omega arith), take-u32 bs 8 fits (omega arith), take-u32 bs 4 fits (omega arith),
-    begins, kind) refl
+    rw (
+      take-u64 bs 16 fits (omega arith),
+      take-u32 bs 12 fits (omega arith),
+      take-u32 bs 8 fits (omega arith),
+      take-u32 bs 4 fits (omega arith),
+      begins,
+      kind,
+    ) refl
 
 -- How long the text is.
 pub length-request : (r : Request) → length (field_bytes (RequestIs r)) ≡ 24
@@ -53,7 +59,10 @@ request_again bs r is begins =
     let kind = u32_before bs _ 4 4 (fits_32 4 (omega arith)) force.0 in
     let holds : Hold (request_rules bs) = (
       rw force.1 (le-leb r.force 2 is.force),
-      (rw host.1 (le-leb r.host 2000 is.host),
-      (rw (lver.1, force.1) (and_from _ _ (lt-ltb r.lver record_numbers is.lver) (both_zero_test r.force r.lver is.same)), tt))) in
+      (
+        rw host.1 (le-leb r.host 2000 is.host),
+        (rw (lver.1, force.1) (and_from _ _ (lt-ltb r.lver record_numbers is.lver) (both_zero_test r.force r.lver is.same)), tt),
+      ),
+    ) in
     let read : request_of bs ≡ r = rw (force.1, host.1, lver.1) refl in
     (kind.0.front, ap (λ (k : ℕ). fields_of k bs) kind.1 ∙ of_kind bs ∙ ap (as_record RequestIs) (under_held_rules (request_rules bs) (request_of bs) holds ∙ ap (λ (x : Request). Ok x) read))

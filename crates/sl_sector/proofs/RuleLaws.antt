@@ -20,7 +20,7 @@ Hold [] = Unit {0}
 Hold (rule ∷ rules) = (rule.1 ≡ true) × Hold rules
 
 -- One rule and those after it.
-ensured : {A : Type 0} (ok : Bool) (e : Bad) (next : Result A Bad) (b : A) → (ensure ok e >>= λ _. next) ≡ Ok b → (ok ≡ true) × (next ≡ Ok b)
+pub ensured : {A : Type 0} (ok : Bool) (e : Bad) (next : Result A Bad) (b : A) → (ensure ok e >>= λ _. next) ≡ Ok b → (ok ≡ true) × (next ≡ Ok b)
 ensured true e next b h = (refl, h)
 ensured false e next b h = absurd cc
 

@@ -36,8 +36,17 @@ pub value_text : (bs : List ℕ) → IsBytes bs → 512 ≤ length bs → take 4
     → take (32 + u32_at bs 8) bs ≡ field_bytes (ValueIs (value_of bs))
 unfolding field_bytes
 value_text bs fits long begins kind holds =
-    rw (take-add 32 (u32_at bs 8) bs, take-u64 bs 24 fits (omega arith), take-u64 bs 16 fits (omega arith), take-u32 bs 12 fits (omega arith),
-    take-u32 bs 8 fits (omega arith), take-u32 bs 4 fits (omega arith), begins, kind, length-value_bytes bs long holds) refl
+    rw (
+      take-add 32 (u32_at bs 8) bs,
+      take-u64 bs 24 fits (omega arith),
+      take-u64 bs 16 fits (omega arith),
+      take-u32 bs 12 fits (omega arith),
+      take-u32 bs 8 fits (omega arith),
+      take-u32 bs 4 fits (omega arith),
+      begins,
+      kind,
+      length-value_bytes bs long holds,
+    ) refl
 
 -- How long the text is.
 pub length-value : (v : ValueRec) → length (field_bytes (ValueIs v)) ≡ 32 + length v.bytes
@@ -62,8 +71,13 @@ value_again bs v is begins =
     let kind = u32_before bs _ 4 5 (fits_32 5 (omega arith)) len.0 in
     let holds : Hold (value_rules bs) = (
       rw len.1 (le-leb (length v.bytes) 256 is.bytes.0),
-      (rw host.1 (le-leb v.host 2000 is.host),
-      (rw lver.1 (lt-ltb v.lver record_numbers is.lver),
-      (rw seq.1 (lt-ltb v.seq record_numbers is.seq), tt)))) in
+      (
+        rw host.1 (le-leb v.host 2000 is.host),
+        (
+          rw lver.1 (lt-ltb v.lver record_numbers is.lver),
+          (rw seq.1 (lt-ltb v.seq record_numbers is.seq), tt),
+        ),
+      ),
+    ) in
     let read : value_of bs ≡ v = rw (len.1, host.1, lver.1, seq.1, bytes.1) refl in
     (kind.0.front, ap (λ (k : ℕ). fields_of k bs) kind.1 ∙ of_kind bs ∙ ap (as_record ValueIs) (under_held_rules (value_rules bs) (value_of bs) holds ∙ ap (λ (x : ValueRec). Ok x) read))

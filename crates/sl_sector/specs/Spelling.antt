@@ -188,11 +188,23 @@ as_record wrap (Err bad) = Err bad
 -- The record of this kind, or its first field whose rule fails.
 unfoldable pub fields_of : ℕ → List ℕ → Result Rec Bad
 fields_of kind bs =
-    elim (kind == 1) [ true ↦ as_record DeltaIs (under_rules (delta_rules bs) (delta_of bs)) | false ↦
-    elim (kind == 2) [ true ↦ as_record LeaderIs (under_rules (leader_rules bs) (leader_of bs)) | false ↦
-    elim (kind == 3) [ true ↦ as_record BlockIs (under_rules (block_rules bs) (block_of bs)) | false ↦
-    elim (kind == 4) [ true ↦ as_record RequestIs (under_rules (request_rules bs) (request_of bs)) | false ↦
-    elim (kind == 5) [ true ↦ as_record ValueIs (under_rules (value_rules bs) (value_of bs)) | false ↦ Err BadKind ] ] ] ] ]
+    elim (kind == 1) [
+      | true ↦ as_record DeltaIs (under_rules (delta_rules bs) (delta_of bs))
+      | false ↦
+          elim (kind == 2) [
+            | true ↦ as_record LeaderIs (under_rules (leader_rules bs) (leader_of bs))
+            | false ↦
+                elim (kind == 3) [
+                  | true ↦ as_record BlockIs (under_rules (block_rules bs) (block_of bs))
+                  | false ↦
+                      elim (kind == 4) [
+                        | true ↦ as_record RequestIs (under_rules (request_rules bs) (request_of bs))
+                        | false ↦
+                            elim (kind == 5) [ true ↦ as_record ValueIs (under_rules (value_rules bs) (value_of bs)) | false ↦ Err BadKind ]
+                      ]
+                ]
+          ]
+    ]
 
 -- Nothing where each byte from this offset on is zero, else the first that isn't.
 abbrev pub padding_from : ℕ → List ℕ → Result (Unit {0}) Bad

@@ -6,7 +6,9 @@ ghost use Rattle.sl_sector.specs.Records.{IsBlock};
 ghost use Rattle.sl_sector.specs.Spelling.{IsSectorSize, block_of, block_rules, field_bytes, spelling, under_rules};
 ghost use Rattle.sl_sector.specs.declared.sector.Rec.TheVariants.{BlockIs};
 
-use crate::fields::{agree, implies, is_host, is_number, put_u32, put_u64, rule, rules, u32_at, u64_at, MOST_HOSTS};
+use crate::fields::{
+    MOST_HOSTS, agree, implies, is_host, is_number, put_u32, put_u64, rule, rules, u32_at, u64_at,
+};
 use crate::frame::{begin, finish};
 use crate::sector::{Bad, Block};
 

@@ -10,16 +10,15 @@ ghost use Rattle.sl_sector.specs.Spelling as spelling;
 ghost use Rattle.sl_sector.specs.Spelling.{IsSectorSize, Spells, decoded, magic};
 ghost use Rattle.sl_sector.specs.declared.sector.Rec.{Rec};
 
-use sha2::{Digest, Sha256};
-
-use crate::block::{block_at, BLOCK_END, BLOCK_KIND};
-use crate::delta::{delta_at, DELTA_END, DELTA_KIND};
+use crate::block::{BLOCK_END, BLOCK_KIND, block_at};
+use crate::delta::{DELTA_END, DELTA_KIND, delta_at};
 use crate::fields::u32_at;
 use crate::frame::{CHECK_SIZE, MAGIC};
-use crate::leader::{leader_at, LEADER_END, LEADER_KIND};
-use crate::request::{request_at, REQUEST_END, REQUEST_KIND};
+use crate::leader::{LEADER_END, LEADER_KIND, leader_at};
+use crate::request::{REQUEST_END, REQUEST_KIND, request_at};
 use crate::sector::{Bad, Rec};
-use crate::value::{value_at, VALUE_KIND, VALUE_START};
+use crate::value::{VALUE_KIND, VALUE_START, value_at};
+use sha2::{Digest, Sha256};
 
 /// Whether the sector begins with the magic.
 #[tactic(auto, unfolding(crate::specs::Spelling::magic))]

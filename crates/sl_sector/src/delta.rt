@@ -9,14 +9,13 @@ ghost use Rattle.sl_sector.specs.Records.{IsDelta};
 ghost use Rattle.sl_sector.specs.Spelling.{IsSectorSize, delta_of, delta_rules, field_bytes, spelling, under_rules};
 ghost use Rattle.sl_sector.specs.declared.sector.Rec.TheVariants.{DeltaIs};
 
-use sl_text::Name;
-
 use crate::fields::{
-    are_zeros, implies, is_host, is_number, name_at, name_field, put, put_name, put_u32, put_u64, put_zeros,
-    rule, rules, u32_at, u64_at, NAME_SIZE,
+    NAME_SIZE, are_zeros, implies, is_host, is_number, name_at, name_field, put, put_name, put_u32,
+    put_u64, put_zeros, rule, rules, u32_at, u64_at,
 };
 use crate::frame::{begin, finish};
 use crate::sector::{Bad, DeltaRec, DeltaState};
+use sl_text::Name;
 
 /// The record's number.
 pub(crate) const DELTA_KIND: u32 = 1;
@@ -29,6 +28,7 @@ const MOMENTS: u64 = 1_000_000_000_000_000;
 
 /// Where the bitmap begins, and its bytes.
 const BITMAP_START: usize = 136;
+
 const BITMAP_SIZE: usize = 250;
 
 /// The number of the state.

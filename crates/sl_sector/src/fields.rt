@@ -11,10 +11,9 @@ ghost use Rattle.sl_words.specs.Words.{all_zero, choose, same_truth};
 ghost use Rattle.sl_sector.specs.Fields as spec;
 ghost use Rattle.sl_sector.specs.Fields.{ReadsField};
 
+use crate::sector::Bad;
 use byteorder::{BigEndian, ByteOrder};
 use sl_text::Name;
-
-use crate::sector::Bad;
 
 /// The most hosts of any run.
 pub(crate) const MOST_HOSTS: u32 = 2000;
@@ -101,14 +100,22 @@ pub(crate) fn name_at(bytes: &[u8], at: u32) -> Result<Name, Bad>
 pub(crate) fn rule(at: u32, holds: bool) -> Result<(), Bad>
     ensures { ReadsField at holds tt result }
 {
-    if holds { Ok(()) } else { Err(Bad::BadField(at)) }
+    if holds {
+        Ok(())
+    } else {
+        Err(Bad::BadField(at))
+    }
 }
 
 /// Nothing where the two rules of the field at this offset hold, its own and that with fields before it, else `BadField` of it.
 pub(crate) fn rules(at: u32, own: bool, with_others: bool) -> Result<(), Bad>
     ensures { ReadsField at (own && with_others) tt result }
 {
-    if own { rule(at, with_others) } else { rule(at, false) }
+    if own {
+        rule(at, with_others)
+    } else {
+        rule(at, false)
+    }
 }
 
 /// Whether the second holds where the first does.

@@ -6,9 +6,8 @@ ghost use Rattle.sl_sector.specs.Fields.{u32_bytes};
 ghost use Rattle.sl_sector.specs.Spelling.{magic};
 ghost use Rattle.sl_text.specs.Names.{padded_text};
 
-use sha2::{Digest, Sha256};
-
 use crate::fields::{put, put_u32, put_zeros};
+use sha2::{Digest, Sha256};
 
 /// The four bytes with which each sector begins.
 pub(crate) const MAGIC: [u8; 4] = *b"SLK1";

@@ -6,7 +6,10 @@ ghost use Rattle.sl_sector.specs.Records.{IsLeader};
 ghost use Rattle.sl_sector.specs.Spelling.{IsSectorSize, field_bytes, leader_of, leader_rules, spelling, under_rules};
 ghost use Rattle.sl_sector.specs.declared.sector.Rec.TheVariants.{LeaderIs};
 
-use crate::fields::{agree, implies, is_host, is_number, name_at, put_name, put_u32, put_u64, rule, rules, u32_at, u64_at};
+use crate::fields::{
+    agree, implies, is_host, is_number, name_at, put_name, put_u32, put_u64, rule, rules, u32_at,
+    u64_at,
+};
 use crate::frame::{begin, finish};
 use crate::sector::{Bad, Leader};
 

@@ -6,7 +6,7 @@ ghost use Rattle.sl_sector.specs.Records.{IsRequest};
 ghost use Rattle.sl_sector.specs.Spelling.{IsSectorSize, field_bytes, request_of, request_rules, spelling, under_rules};
 ghost use Rattle.sl_sector.specs.declared.sector.Rec.TheVariants.{RequestIs};
 
-use crate::fields::{agree, is_number, put_u32, put_u64, rule, rules, u32_at, u64_at, MOST_HOSTS};
+use crate::fields::{MOST_HOSTS, agree, is_number, put_u32, put_u64, rule, rules, u32_at, u64_at};
 use crate::frame::{begin, finish};
 use crate::sector::{Bad, Request};
 

@@ -6,11 +6,10 @@ ghost use Rattle.sl_sector.specs.Records.{IsValue};
 ghost use Rattle.sl_sector.specs.Spelling.{IsSectorSize, field_bytes, spelling, under_rules, value_of, value_rules};
 ghost use Rattle.sl_sector.specs.declared.sector.Rec.TheVariants.{ValueIs};
 
-use sl_text::Data;
-
-use crate::fields::{is_number, put, put_u32, put_u64, rule, u32_at, u64_at, MOST_HOSTS};
+use crate::fields::{MOST_HOSTS, is_number, put, put_u32, put_u64, rule, u32_at, u64_at};
 use crate::frame::{begin, finish};
 use crate::sector::{Bad, ValueRec};
+use sl_text::Data;
 
 /// The record's number.
 pub(crate) const VALUE_KIND: u32 = 5;
