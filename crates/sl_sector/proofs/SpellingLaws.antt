@@ -19,8 +19,8 @@ use Rattle.sl_words.proofs.WordLaws.{bind_ok}
 use Rattle.sl_words.specs.Results.{ensure, ◌>>=◌}
 use Rattle.std.proofs.Common.{Bool, Err, List, None, Ok, Option, Result, Some, ap, arith, cond, drop, eqb, false, inl, inr, length, ltb, refl, subst, sym, take, true, ℕ, ◌++◌, ◌+◌, ◌-◌, ◌<◌, ◌≡◌, ◌≤◌, ◌∙◌, ◌⊎◌}
 use Rattle.std.proofs.Math.ListN.{replicate}
-use Rattle.std.proofs.lemmas.Bool.{cases_Bool, cases_lt, eqb-true, le-ltb, lt-ltb}
-use Rattle.std.proofs.lemmas.List.{drop-replicate, drop_at, length-append, length-drop, length-replicate, length-take, length-take-le, take-append-drop, take-take, take_at}
+use Rattle.std.proofs.lemmas.Bool.{cases_Bool, cases_lt, cond-false, eqb-true, le-ltb, lt-ltb}
+use Rattle.std.proofs.lemmas.List.{append_assoc, drop-replicate, drop_at, length-append, length-drop, length-replicate, length-take, length-take-le, take-append-drop, take-take, take_at}
 use Rattle.std.proofs.lemmas.Slice.Eq.{bytes_eq-Decides}
 use Rattle.std.specs.List.{position, prefix_len}
 use Rattle.std.specs.Prelude.{bytes_eq, not}
@@ -132,6 +132,10 @@ no_position m n h =
       | inr le ↦ le
     ]
 
+nothing_there : (at : ℕ) (found : Option ℕ) → found ≡ None → elim found as (λ _. Result (Unit {0}) Bad) [ None ↦ Ok tt | Some k ↦ Err (BadPad (at + k)) ] ≡ Ok tt
+nothing_there at None h = refl
+nothing_there at (Some k) h = absurd cc
+
 -- No byte that isn't zero: only zeros.
 padding_zeros : (at : ℕ) (bs : List ℕ) → padding_from at bs ≡ Ok tt → drop at bs ≡ replicate (length bs - at) 0
 padding_zeros at bs h =
@@ -177,3 +181,83 @@ spelled digest bs r fits size h =
         padded_from_parts (field_bytes r) (body_of bs) (fields_end r) text_long text zeros ∙ ap (λ (n : ℕ). padded_text n (field_bytes r)) long in
     (f.rules,
     sym (take-append-drop (length bs - 32) bs) ∙ ap (λ (x : List ℕ). body_of bs ++ x) p.check ∙ ap (λ (x : List ℕ). x ++ digest x) body)
+
+-- ---- what is spelled is read
+
+-- The fields end where the text does.
+pub length-field_bytes : (r : Rec) → IsRecord r → length (field_bytes r) ≡ fields_end r
+length-field_bytes (DeltaIs d) is = length-delta d is
+length-field_bytes (LeaderIs l) is = length-leader l is
+length-field_bytes (BlockIs b) is = length-block b
+length-field_bytes (RequestIs q) is = length-request q
+length-field_bytes (ValueIs v) is = length-value v
+
+pub fields_end_short : (r : Rec) → IsRecord r → fields_end r ≤ 386
+fields_end_short (DeltaIs d) is = omega arith
+fields_end_short (LeaderIs l) is = omega arith
+fields_end_short (BlockIs b) is = omega arith
+fields_end_short (RequestIs q) is = omega arith
+fields_end_short (ValueIs v) is = omega (arith, is.bytes.0)
+
+fields_again : (bs : List ℕ) (r : Rec) → IsRecord r → Begins bs (field_bytes r) (fields_end r) → (take 4 bs ≡ magic) × (fields_of (u32_at bs 4) bs ≡ Ok r)
+fields_again bs (DeltaIs d) is begins = delta_again bs d is begins
+fields_again bs (LeaderIs l) is begins = leader_again bs l is begins
+fields_again bs (BlockIs b) is begins = block_again bs b is begins
+fields_again bs (RequestIs q) is begins = request_again bs q is begins
+fields_again bs (ValueIs v) is begins = value_again bs v is begins
+
+-- All but the check is as long as it should be.
+pub length-checked_part : (size : ℕ) (r : Rec) → 512 ≤ size → IsRecord r → length (checked_part size r) ≡ size - 32
+unfolding checked_part
+length-checked_part size r long is =
+    let whole = length-field_bytes r is in
+    let short = fields_end_short r is in
+    length-padded_text (size - 32) (field_bytes r) (omega (arith, whole, short, long))
+
+-- A spelling has the size that was asked for.
+pub length-spelling : (digest : List ℕ → List ℕ) → IsDigest digest → (size : ℕ) (r : Rec) → IsSectorSize size → IsRecord r → length (spelling digest size r) ≡ size
+unfolding spelling
+length-spelling digest d size r fits is =
+    let front = length-checked_part size r fits.0 is in
+    let back = d.long (checked_part size r) in
+    omega (arith, length-append (checked_part size r) (digest (checked_part size r)), front, back, fits.0)
+
+-- The text stands in front of the zeros, and of the check.
+front_of_spelling : (digest : List ℕ → List ℕ) (size : ℕ) (r : Rec) → IsRecord r → take (fields_end r) (spelling digest size r) ≡ field_bytes r
+unfolding spelling checked_part padded_text
+front_of_spelling digest size r is =
+    let zeros = replicate (size - 32 - length (field_bytes r)) 0 in
+    ap (take (fields_end r)) (append_assoc (field_bytes r) zeros (digest (field_bytes r ++ zeros)))
+    ∙ take_at (field_bytes r) (zeros ++ digest (field_bytes r ++ zeros)) (fields_end r) (length-field_bytes r is)
+
+padding_of_zeros : (at n : ℕ) (bs : List ℕ) → drop at bs ≡ replicate n 0 → padding_from at bs ≡ Ok tt
+padding_of_zeros at n bs zeros =
+    let len : ltb (prefix_len (λ b. not (not (eqb b 0))) (replicate n 0)) (length (replicate n 0)) ≡ false =
+        le-ltb _ _ (omega (arith, prefix_of_zeros n, length-replicate {A = ℕ} n 0)) in
+    let none : position (λ b. not (eqb b 0)) (drop at bs) ≡ None = ap (position (λ b. not (eqb b 0))) zeros ∙ cond-false _ _ _ len in
+    nothing_there at _ none
+
+padding_of_checked : (size : ℕ) (r : Rec) → IsRecord r → padding_from (fields_end r) (checked_part size r) ≡ Ok tt
+unfolding checked_part padded_text
+padding_of_checked size r is =
+    padding_of_zeros (fields_end r) (size - 32 - length (field_bytes r)) _ (drop_at (field_bytes r) (replicate (size - 32 - length (field_bytes r)) 0) (fields_end r) (length-field_bytes r is))
+
+-- The two parts of a spelling.
+spelling_parts : (digest : List ℕ → List ℕ) → IsDigest digest → (size : ℕ) (r : Rec) → IsSectorSize size → IsRecord r
+    → (body_of (spelling digest size r) ≡ checked_part size r) × (check_of (spelling digest size r) ≡ digest (checked_part size r))
+unfolding spelling
+spelling_parts digest d size r fits is =
+    let whole : length (checked_part size r ++ digest (checked_part size r)) - 32 ≡ length (checked_part size r) =
+        omega (arith, length-append (checked_part size r) (digest (checked_part size r)), d.long (checked_part size r)) in
+    (take_at (checked_part size r) (digest (checked_part size r)) _ (sym whole), drop_at (checked_part size r) (digest (checked_part size r)) _ (sym whole))
+
+-- A spelling is read as the record that it spells.
+pub read_again : (digest : List ℕ → List ℕ) → IsDigest digest → (size : ℕ) (r : Rec) → IsSectorSize size → IsRecord r → decoded digest (spelling digest size r) ≡ Ok r
+unfolding decoded
+read_again digest d size r fits is =
+    let bs = spelling digest size r in
+    let long = length-spelling digest d size r fits is in
+    let begins : Begins bs (field_bytes r) (fields_end r) = record { long = length-field_bytes r is; front = front_of_spelling digest size r is } in
+    let fields = fields_again bs r is begins in
+    let parts = spelling_parts digest d size r fits is in
+    rw (parts.0, parts.1, (bytes_eq-Decides (take 4 bs) magic).1 fields.0, fields.1, padding_of_checked size r is, (bytes_eq-Decides (digest (checked_part size r)) (digest (checked_part size r))).1 refl) refl
