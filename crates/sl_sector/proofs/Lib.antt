@@ -7,3 +7,5 @@ pub mod RequestLaws
 pub mod ValueLaws
 pub mod DeltaLaws
 pub mod SpellingLaws
+pub mod WrittenBytes
+pub mod PublicLaws

@@ -87,3 +87,38 @@ fn has_check(body: &[u8], check: &[u8]) -> bool
 {
     check == Sha256::digest(body).as_slice()
 }
+
+/// The five tests, in their order.
+#[tactic(auto, unfolding(crate::specs::Spelling::decoded))]
+fn tested(sector: &[u8]) -> Result<Rec, Bad>
+    requires { IsSectorSize (length sector.now) }
+    ensures { result ≡ decoded sha256 sector.now }
+{
+    let (body, check) = sector.split_at(sector.len() - CHECK_SIZE);
+    if !has_magic(sector) {
+        return Err(Bad::BadMagic);
+    }
+    let record = fields_at(sector)?;
+    padding_from(fields_end(&record), body)?;
+    if !has_check(body, check) {
+        return Err(Bad::BadCheck);
+    }
+    Ok(record)
+}
+
+/// The record that the sector's bytes spell, or the first test that fails. A sector has 512 to 4096 bytes. It takes no memory.
+///
+/// # Errors
+/// In this order: `BadMagic`, `BadKind`, `BadField` with the offset of the first field that breaks a rule of its own or with fields
+/// before it, `BadPad` with the offset of the first byte that is in no field and isn't zero, `BadCheck`.
+pub fn decode(sector: &[u8]) -> Result<Rec, Bad>
+    requires { IsSectorSize (length sector.now) }
+    // which record, or which refusal
+    ensures exact { result ≡ decoded sha256 sector.now }
+    // what is read is spelled so
+    ensures found { IfOk result (λ r. Spells sha256 sector.now r) }
+    // what is spelled so is read
+    ensures only { (r : Rec) → Spells sha256 sector.now r → result ≡ Ok r }
+{
+    tested(sector)
+}

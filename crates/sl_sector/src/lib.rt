@@ -4,8 +4,10 @@
 mod block;
 mod decode;
 mod delta;
+mod encode;
 mod fields;
 mod frame;
+pub mod laws;
 mod leader;
 mod request;
 pub mod sector;
