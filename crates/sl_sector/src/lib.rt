@@ -11,6 +11,7 @@ pub mod laws;
 mod leader;
 mod request;
 pub mod sector;
+mod texts;
 mod value;
 
 pub use sector::{Bad, Block, DeltaRec, DeltaState, Leader, Owner, Rec, Request, ValueRec};
