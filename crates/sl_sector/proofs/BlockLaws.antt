@@ -67,6 +67,7 @@ pub block_again : (bs : List ℕ) (b : Block) → IsBlock b → Begins bs (field
     → (take 4 bs ≡ magic) × (fields_of (u32_at bs 4) bs ≡ Ok (BlockIs b))
 unfolding block_rules field_bytes
 block_again bs b is begins =
+    let kind_fits : 3 < 2 ^ 32 = omega arith in
     let bal_below : b.bal < record_numbers = omega (arith, is.bal, is.mbal) in
     let inp = u32_before bs _ 56 b.inp (fits_32 _ is.inp) begins in
     let mode_gen = u64_before bs _ 48 b.mode_gen (fits_64 _ is.generations.1) inp.0 in
@@ -76,7 +77,7 @@ block_again bs b is begins =
     let lver = u64_before bs _ 16 b.lver (fits_64 _ is.lver) mbal.0 in
     let mode = u32_before bs _ 12 (flag b.shared) (flag_fits b.shared) lver.0 in
     let host = u32_before bs _ 8 b.host (fits_32 _ is.host.1) mode.0 in
-    let kind = u32_before bs _ 4 3 (fits_32 3 (omega arith)) host.0 in
+    let kind = u32_before bs _ 4 3 kind_fits host.0 in
     let holds : Hold (block_rules bs) = (
       rw host.1 (in_range_test 1 2000 b.host is.host.0 is.host.1),
       (

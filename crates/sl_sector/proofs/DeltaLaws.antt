@@ -146,6 +146,7 @@ pub delta_again : (bs : List ℕ) (d : DeltaRec) → IsDelta d → Begins bs (fi
     → (take 4 bs ≡ magic) × (fields_of (u32_at bs 4) bs ≡ Ok (DeltaIs d))
 unfolding delta_rules field_bytes
 delta_again bs d is begins =
+    let kind_fits : 1 < 2 ^ 32 = omega arith in
     let stamp_fits : d.stamp < 2 ^ 64 = omega (arith, is.stamp) in
     let code_fits : delta_code d.state ≤ 2000 = omega (arith, code_below d.state) in
     let unused = λ (e : d.generation ≡ 0). is.unused e in
@@ -157,7 +158,7 @@ delta_again bs d is begins =
     let generation = u64_before bs _ 16 d.generation (fits_64 _ is.generation) seq.0 in
     let id = u32_before bs _ 12 d.id (fits_32 _ is.id.1) generation.0 in
     let state = u32_before bs _ 8 (delta_code d.state) (fits_32 _ code_fits) id.0 in
-    let kind = u32_before bs _ 4 1 (fits_32 1 (omega arith)) state.0 in
+    let kind = u32_before bs _ 4 1 kind_fits state.0 in
     let holds : Hold (delta_rules bs) = (
       rw state.1 (le-leb (delta_code d.state) 2 (code_below d.state)),
       (

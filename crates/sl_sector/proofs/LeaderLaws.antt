@@ -63,6 +63,7 @@ pub leader_again : (bs : List ℕ) (l : Leader) → IsLeader l → Begins bs (fi
     → (take 4 bs ≡ magic) × (fields_of (u32_at bs 4) bs ≡ Ok (LeaderIs l))
 unfolding leader_rules field_bytes
 leader_again bs l is begins =
+    let kind_fits : 2 < 2 ^ 32 = omega arith in
     let owner_below : l.owner ≤ 2000 = omega (arith, is.owner, is.hosts.1) in
     let resource = name_before bs _ 84 l.resource is.resource begins in
     let lockspace = name_before bs _ 36 l.lockspace is.lockspace resource.0 in
@@ -71,7 +72,7 @@ leader_again bs l is begins =
     let lver = u64_before bs _ 16 l.lver (fits_64 _ is.lver) generation.0 in
     let hosts = u32_before bs _ 12 l.num_hosts (fits_32 _ is.hosts.1) lver.0 in
     let state = u32_before bs _ 8 (flag l.held) (flag_fits l.held) hosts.0 in
-    let kind = u32_before bs _ 4 2 (fits_32 2 (omega arith)) state.0 in
+    let kind = u32_before bs _ 4 2 kind_fits state.0 in
     let holds : Hold (leader_rules bs) = (
       rw state.1 (le-leb (flag l.held) 1 (flag_below l.held)),
       (

@@ -9,3 +9,4 @@ pub mod DeltaLaws
 pub mod SpellingLaws
 pub mod WrittenBytes
 pub mod PublicLaws
+pub mod BitLaws

@@ -9,7 +9,7 @@ use Rattle.sl_sector.specs.declared.sector.Rec.TheVariants.{RequestIs}
 use Rattle.sl_sector.specs.declared.sector.Request.{Request}
 use Rattle.sl_words.proofs.WordLaws.{and_true}
 use Rattle.sl_words.specs.Bounds.{record_numbers}
-use Rattle.std.proofs.Common.{List, Ok, ap, arith, length, length-append, refl, take, true, ℕ, ◌++◌, ◌+◌, ◌≡◌, ◌≤◌, ◌∙◌}
+use Rattle.std.proofs.Common.{List, Ok, ap, arith, length, length-append, refl, take, true, ℕ, ◌++◌, ◌+◌, ◌<◌, ◌^◌, ◌≡◌, ◌≤◌, ◌∙◌}
 use Rattle.std.proofs.lemmas.Bool.{and_from, le-leb, leb-true, lt-ltb}
 
 -- The rules of the fields are those of the record.
@@ -52,11 +52,12 @@ pub request_again : (bs : List ℕ) (r : Request) → IsRequest r → Begins bs 
     → (take 4 bs ≡ magic) × (fields_of (u32_at bs 4) bs ≡ Ok (RequestIs r))
 unfolding request_rules field_bytes
 request_again bs r is begins =
+    let kind_fits : 4 < 2 ^ 32 = omega arith in
     let force_below : r.force ≤ 2000 = omega (arith, is.force) in
     let lver = u64_before bs _ 16 r.lver (fits_64 _ is.lver) begins in
     let host = u32_before bs _ 12 r.host (fits_32 _ is.host) lver.0 in
     let force = u32_before bs _ 8 r.force (fits_32 _ force_below) host.0 in
-    let kind = u32_before bs _ 4 4 (fits_32 4 (omega arith)) force.0 in
+    let kind = u32_before bs _ 4 4 kind_fits force.0 in
     let holds : Hold (request_rules bs) = (
       rw force.1 (le-leb r.force 2 is.force),
       (

@@ -8,7 +8,7 @@ use Rattle.sl_sector.specs.Spelling.{as_record, field_bytes, fields_of, magic, u
 use Rattle.sl_sector.specs.declared.sector.Rec.TheVariants.{ValueIs}
 use Rattle.sl_sector.specs.declared.sector.ValueRec.{ValueRec}
 use Rattle.sl_words.specs.Bounds.{record_numbers}
-use Rattle.std.proofs.Common.{List, Ok, ap, arith, drop, length, length-append, refl, take, true, ℕ, ◌++◌, ◌+◌, ◌≡◌, ◌≤◌, ◌∙◌}
+use Rattle.std.proofs.Common.{List, Ok, ap, arith, drop, length, length-append, refl, take, true, ℕ, ◌++◌, ◌+◌, ◌<◌, ◌^◌, ◌≡◌, ◌≤◌, ◌∙◌}
 use Rattle.std.proofs.Math.Seq.{take-add}
 use Rattle.std.proofs.lemmas.Bool.{le-leb, leb-true, lt-ltb}
 
@@ -62,13 +62,14 @@ pub value_again : (bs : List ℕ) (v : ValueRec) → IsValue v → Begins bs (fi
     → (take 4 bs ≡ magic) × (fields_of (u32_at bs 4) bs ≡ Ok (ValueIs v))
 unfolding value_rules field_bytes
 value_again bs v is begins =
+    let kind_fits : 5 < 2 ^ 32 = omega arith in
     let len_below : length v.bytes ≤ 2000 = omega (arith, is.bytes.0) in
     let bytes = Begins-before bs _ v.bytes 32 (length v.bytes) refl begins in
     let seq = u64_before bs _ 24 v.seq (fits_64 _ is.seq) bytes.0 in
     let lver = u64_before bs _ 16 v.lver (fits_64 _ is.lver) seq.0 in
     let host = u32_before bs _ 12 v.host (fits_32 _ is.host) lver.0 in
     let len = u32_before bs _ 8 (length v.bytes) (fits_32 _ len_below) host.0 in
-    let kind = u32_before bs _ 4 5 (fits_32 5 (omega arith)) len.0 in
+    let kind = u32_before bs _ 4 5 kind_fits len.0 in
     let holds : Hold (value_rules bs) = (
       rw len.1 (le-leb (length v.bytes) 256 is.bytes.0),
       (

@@ -1,6 +1,7 @@
 //! Records of a sector: their rules, their spelling and their texts.
 #![tactic(auto)]
 
+mod bits;
 mod block;
 mod decode;
 mod delta;
