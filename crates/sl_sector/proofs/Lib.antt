@@ -10,3 +10,4 @@ pub mod SpellingLaws
 pub mod WrittenBytes
 pub mod PublicLaws
 pub mod BitLaws
+pub mod TextLaws
