@@ -2,7 +2,7 @@
 use Rattle.sha2.specs.Sha256.{sha256}
 use Rattle.sl_sector.proofs.PublicLaws.{is_spelled, spelled_again}
 use Rattle.sl_sector.proofs.WrittenBytes.{sha256_is_digest}
-use Rattle.sl_sector.proofs.decode.decode.Goals as goal
+use Rattle.sl_sector.proofs.decoding.decode.Goals as goal
 use Rattle.std.proofs.Common.{arith, ◌∙◌}
 
 pub returns-clause-found : goal.returns-clause-found

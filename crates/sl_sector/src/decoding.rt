@@ -49,7 +49,7 @@ fn fields_at(sector: &[u8]) -> Result<Rec, Bad>
 
 /// Where the record's fields end.
 fn fields_end(record: &Rec) -> usize
-    ensures { result ≡ spelling.fields_end record.now }
+    ensures { result ≡ spelling.fields_end «record».now }
 {
     match record {
         Rec::DeltaIs(_) => DELTA_END,
