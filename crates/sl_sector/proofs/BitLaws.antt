@@ -1,6 +1,6 @@
 -- The bits of a byte and of a bitmap, one more at a time.
 use Rattle.sl_sector.specs.Bitmaps.{bits_of, bits_of_byte}
-use Rattle.std.proofs.Common.{Bool, List, [], ap, arith, cond, drop, eqb, false, get_or, length, refl, suc, sym, take, true, zero, zero-add, ℕ, ◌%◌, ◌*◌, ◌++◌, ◌+◌, ◌/◌, ◌<◌, ◌^◌, ◌≡◌, ◌≤◌, ◌∙◌, ◌∷◌}
+use Rattle.std.proofs.Common.{Bool, List, [], ap, arith, cond, eqb, false, get_or, length, refl, suc, sym, take, true, zero, zero-add, ℕ, ◌%◌, ◌*◌, ◌++◌, ◌+◌, ◌/◌, ◌<◌, ◌^◌, ◌≡◌, ◌≤◌, ◌∙◌, ◌∷◌}
 use Rattle.std.proofs.lemmas.Bool.{ne_eqb}
 use Rattle.std.proofs.lemmas.List.{append-nil, append_assoc, map-append, take_all, take_more}
 use Rattle.std.proofs.lemmas.List.Elements.{filter-append}
@@ -29,7 +29,7 @@ bits_below-more i b j =
     let test = λ (k : ℕ). eqb ((b / 2 ^ k) % 2) 1 in
     let named = λ (k : ℕ). 8 * i + k + 1 in
     let one : range_with_len 0 (j + 1) ≡ range_with_len 0 j ++ j ∷ [] =
-        ap (range_with_len 0) next ∙ range-more 0 j ∙ ap (λ (k : ℕ). range_with_len 0 j ++ k ∷ []) last in
+    ap (range_with_len 0) next ∙ range-more 0 j ∙ ap (λ (k : ℕ). range_with_len 0 j ++ k ∷ []) last in
     ap (λ (ks : List ℕ). map named (filter test ks)) one
     ∙ ap (map named) (filter-append test (range_with_len 0 j) (j ∷ []))
     ∙ map-append named (filter test (range_with_len 0 j)) (cond (test j) (j ∷ []) [])
@@ -39,9 +39,9 @@ bits_below-more i b j =
 pub all_bits : (i b : ℕ) → (b ≡ 0 → ⊥) → bits_below i b 8 ≡ bits_of_byte i b
 all_bits i b h = sym (chosen (eqb b 0) (bits_below i b 8) (ne_eqb b 0 h))
   where
-  chosen : (t : Bool) (bits : List ℕ) → t ≡ false → elim t as (λ _. List ℕ) [ true ↦ [] | false ↦ bits ] ≡ bits
-  chosen true bits e = absurd cc
-  chosen false bits e = refl
+    chosen : (t : Bool) (bits : List ℕ) → t ≡ false → elim t as (λ _. List ℕ) [ true ↦ [] | false ↦ bits ] ≡ bits
+    chosen true bits e = absurd cc
+    chosen false bits e = refl
 
 pub no_bits : (i b : ℕ) → b ≡ 0 → bits_of_byte i b ≡ []
 no_bits i b e = rw e refl

@@ -1,8 +1,8 @@
 -- The delta record: what is read of it is spelled so, and what is spelled so is read.
-use Rattle.sl_sector.proofs.ByteLaws.{IsBytes, IsBytes-drop, IsBytes-take, all_zero-replicate, test_from_bytes, zeros_from_test}
+use Rattle.sl_sector.proofs.ByteLaws.{IsBytes, IsBytes-drop, IsBytes-take, test_from_bytes, zeros_from_test}
 use Rattle.sl_sector.proofs.FieldLaws.{Begins, Begins-before, length-magic, length-name_bytes, length-no_name, length-u32_bytes, length-u64_bytes, length_part, name_before, no_name_before, take-name, take-no_name, take-u32, take-u64, u32_before, u64_before}
 use Rattle.sl_sector.proofs.RuleLaws.{Hold, fits_32, fits_64, in_range, in_range_test, number, positive, under_held_rules, unless_zero, unless_zero_test}
-use Rattle.sl_sector.specs.Fields.{delta_code, delta_state, is_host_field, name_at, name_bytes, u32_at, u32_bytes, u64_at, u64_bytes}
+use Rattle.sl_sector.specs.Fields.{delta_code, delta_state, is_host_field, name_at, name_bytes, u32_at, u64_at}
 use Rattle.sl_sector.specs.Records.{IsDelta}
 use Rattle.sl_sector.specs.Spelling.{as_record, delta_of, delta_rules, field_bytes, fields_of, magic, under_rules}
 use Rattle.sl_sector.specs.declared.sector.DeltaRec.{DeltaRec}
@@ -13,7 +13,7 @@ use Rattle.sl_text.specs.Names.{is_name}
 use Rattle.sl_words.proofs.WordLaws.{and_true}
 use Rattle.sl_words.specs.Bounds.{moments, record_numbers}
 use Rattle.sl_words.specs.Words.{all_zero, choose}
-use Rattle.std.proofs.Common.{Bool, List, None, Ok, Option, Some, [], ap, arith, drop, eqb, false, inl, inr, leb, length, length-append, refl, sym, take, true, ℕ, ◌++◌, ◌+◌, ◌<◌, ◌^◌, ◌≡◌, ◌≤◌, ◌∙◌}
+use Rattle.std.proofs.Common.{Bool, List, None, Ok, Option, Some, [], ap, arith, drop, eqb, false, inl, inr, length, length-append, refl, take, true, ℕ, ◌++◌, ◌+◌, ◌<◌, ◌^◌, ◌≡◌, ◌≤◌, ◌∙◌}
 use Rattle.std.proofs.Math.ListN.{replicate}
 use Rattle.std.proofs.Math.Seq.{take-add}
 use Rattle.std.proofs.lemmas.Bool.{and_from, cases_Bool, eq-eqb, eqb-false, eqb-true, le-leb, leb-true, lt-ltb, ltb-true, ne_eqb}

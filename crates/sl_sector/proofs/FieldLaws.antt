@@ -5,16 +5,16 @@ use Rattle.sl_sector.specs.Spelling.{magic}
 use Rattle.sl_text.specs.Names.{is_name, is_name_byte, padded_text}
 use Rattle.sl_words.proofs.WordLaws.{and_true}
 use Rattle.sl_words.specs.Words.{all_zero}
-use Rattle.std.proofs.Common.{Bool, List, [], ap, arith, cond, drop, eqb, false, get_or, inl, inr, length, refl, suc, sym, take, true, zero, ℕ, ◌&&◌, ◌++◌, ◌+◌, ◌-◌, ◌<◌, ◌^◌, ◌≡◌, ◌≤◌, ◌∙◌, ◌∷◌, ◌||◌, leb}
+use Rattle.std.proofs.Common.{List, [], ap, arith, drop, eqb, inl, inr, length, refl, suc, sym, take, true, zero, ℕ, ◌++◌, ◌+◌, ◌-◌, ◌<◌, ◌^◌, ◌≡◌, ◌≤◌, ◌∙◌, ◌∷◌, leb}
 use Rattle.std.proofs.Math.ListN.{replicate}
 use Rattle.std.proofs.Math.Seq.{take-add}
 use Rattle.std.proofs.lemmas.Bool.{and_from, both_ways, cases_Bool, eq-eqb, eqb-true, leb-true}
-use Rattle.std.proofs.lemmas.List.{append-nil, drop_at, length-append, length-drop, length-replicate, length-take, take-append-drop, take-append-le, take-take, take_at}
+use Rattle.std.proofs.lemmas.List.{drop_at, length-append, length-drop, length-take, take-append-drop, take-take, take_at}
 use Rattle.std.proofs.lemmas.List.Folds.{length-prefix_len, prefix_len-append}
 use Rattle.std.proofs.lemmas.Nat.{be_bytes_4, be_bytes_8, from_be_bytes-to_be_bytes_4, from_be_bytes-to_be_bytes_8}
-use Rattle.std.specs.Int.{from_be_bytes, is_in_range, to_be_bytes, w32, w64}
+use Rattle.std.specs.Int.{from_be_bytes, is_in_range, w32, w64}
 use Rattle.std.specs.List.{list_all, prefix_len}
-use Rattle.std.specs.Prelude.{IsTrue, not}
+use Rattle.std.specs.Prelude.{not}
 
 -- ---- from the front on: the bytes so far, and one field more
 

@@ -2,14 +2,14 @@
 use Rattle.sl_sector.proofs.ByteLaws.{IsBytes}
 use Rattle.sl_sector.proofs.FieldLaws.{Begins, length-magic, length-name_bytes, length-u32_bytes, length-u64_bytes, name_before, take-name, take-u32, take-u64, u32_before, u64_before}
 use Rattle.sl_sector.proofs.RuleLaws.{Hold, fits_32, fits_64, flag_below, flag_fits, flag_is_zero, flag_zero, under_held_rules, both_zero, both_zero_test, in_range, in_range_test, number, unless_zero, unless_zero_test, flag_of_code, code_of_flag}
-use Rattle.sl_sector.specs.Fields.{flag, is_name_field, name_at, name_bytes, u32_at, u32_bytes, u64_at, u64_bytes}
+use Rattle.sl_sector.specs.Fields.{flag, u32_at, u64_at}
 use Rattle.sl_sector.specs.Records.{IsLeader}
 use Rattle.sl_sector.specs.Spelling.{as_record, field_bytes, fields_of, leader_of, leader_rules, magic, under_rules}
 use Rattle.sl_sector.specs.declared.sector.Leader.{Leader}
 use Rattle.sl_sector.specs.declared.sector.Rec.TheVariants.{LeaderIs}
 use Rattle.sl_words.proofs.WordLaws.{and_true}
 use Rattle.sl_words.specs.Bounds.{record_numbers}
-use Rattle.std.proofs.Common.{Bool, List, Ok, ap, arith, eqb, false, leb, length, length-append, refl, sym, take, true, ℕ, ◌++◌, ◌+◌, ◌<◌, ◌^◌, ◌≡◌, ◌≤◌, ◌∙◌}
+use Rattle.std.proofs.Common.{List, Ok, ap, arith, eqb, length, length-append, refl, take, ℕ, ◌<◌, ◌^◌, ◌≡◌, ◌≤◌, ◌∙◌}
 use Rattle.std.proofs.lemmas.Bool.{and_from, eqb-true, le-leb, leb-true, lt-ltb}
 
 -- The rules of the fields are those of the record.

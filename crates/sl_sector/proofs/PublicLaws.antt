@@ -1,13 +1,12 @@
 -- The public laws, from those on reading and writing.
 use Rattle.sl_sector.proofs.ByteLaws.{IsBytes, bytes_from_test}
 use Rattle.sl_sector.proofs.SpellingLaws.{length-spelling, read_again, spelled}
-use Rattle.sl_sector.proofs.WrittenBytes.{sha256_is_digest, spelling_is_bytes}
+use Rattle.sl_sector.proofs.WrittenBytes.{spelling_is_bytes}
 use Rattle.sl_sector.specs.Laws.{EachIsSpelled, OneRecord, ReadingIsExact, SpelledIsRead}
-use Rattle.sl_sector.specs.Records.{AreBytes, IsRecord}
-use Rattle.sl_sector.specs.Spelling.{IsDigest, IsSectorSize, ReadsExactly, Spells, decoded, spelling}
+use Rattle.sl_sector.specs.Spelling.{IsDigest, IsSectorSize, Spells, decoded, spelling}
 use Rattle.sl_sector.specs.declared.sector.Bad.{Bad}
 use Rattle.sl_sector.specs.declared.sector.Rec.{Rec}
-use Rattle.std.proofs.Common.{Err, List, Ok, Result, ap, length, refl, sym, ℕ, ◌≡◌, ◌∙◌}
+use Rattle.std.proofs.Common.{Err, List, Ok, Result, ap, length, sym, ℕ, ◌≡◌, ◌∙◌}
 use Rattle.std.specs.Prelude.{IfOk}
 
 -- What the bytes spell is read from them.

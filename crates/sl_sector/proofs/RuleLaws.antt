@@ -3,12 +3,11 @@ use Rattle.sl_sector.specs.Fields.{flag}
 use Rattle.sl_sector.specs.Spelling.{under_rules}
 use Rattle.sl_sector.specs.declared.sector.Bad.TheVariants.{BadField}
 use Rattle.sl_sector.specs.declared.sector.Bad.{Bad}
-use Rattle.sl_words.proofs.WordLaws.{and_true, bind_ok, or_true}
 use Rattle.sl_words.specs.Bounds.{is_number, record_numbers}
 use Rattle.sl_words.specs.Results.{ensure, ◌>>=◌}
 use Rattle.sl_words.specs.Words.{choose, same_truth}
-use Rattle.std.proofs.Common.{Bool, Err, List, Ok, Result, [], arith, eqb, false, inl, inr, leb, ltb, refl, true, ℕ, ◌&&◌, ◌+◌, ◌<◌, ◌≡◌, ◌≤◌, ◌∷◌, ◌||◌, ◌^◌}
-use Rattle.std.proofs.lemmas.Bool.{and_from, both_ways, cases_Bool, eq-eqb, eqb-false, eqb-true, le-leb, leb-true, lt-ltb, ltb-true}
+use Rattle.std.proofs.Common.{Bool, List, Ok, Result, [], arith, eqb, false, inl, inr, refl, true, ℕ, ◌<◌, ◌≡◌, ◌≤◌, ◌∷◌, ◌||◌, ◌^◌}
+use Rattle.std.proofs.lemmas.Bool.{cases_Bool, eqb-false, eqb-true, ltb-true}
 use Rattle.std.proofs.lemmas.Bool.Decides.{nat_tests}
 use Rattle.std.specs.Int.{is_in_range}
 use Rattle.std.specs.Option.{ok_or}

@@ -1,6 +1,6 @@
 -- Reading gives a record exactly where the bytes spell it, for any digest of 32 bytes.
 use Rattle.sl_sector.proofs.BlockLaws.{block_again, block_fits, block_text, length-block}
-use Rattle.sl_sector.proofs.ByteLaws.{IsBytes, bytes_from_test, length-padded_text, padded_from_parts, prefix_of_zeros, zeros_from_prefix}
+use Rattle.sl_sector.proofs.ByteLaws.{IsBytes, length-padded_text, padded_from_parts, prefix_of_zeros, zeros_from_prefix}
 use Rattle.sl_sector.proofs.DeltaLaws.{delta_again, delta_fits, delta_text, length-delta}
 use Rattle.sl_sector.proofs.FieldLaws.{Begins}
 use Rattle.sl_sector.proofs.LeaderLaws.{leader_again, leader_fits, leader_text, length-leader}
@@ -8,19 +8,19 @@ use Rattle.sl_sector.proofs.RequestLaws.{length-request, request_again, request_
 use Rattle.sl_sector.proofs.RuleLaws.{Hold, ensured, rules_hold}
 use Rattle.sl_sector.proofs.ValueLaws.{length-value, length-value_bytes, value_again, value_fits, value_text}
 use Rattle.sl_sector.specs.Fields.{u32_at}
-use Rattle.sl_sector.specs.Records.{AreBytes, IsRecord}
-use Rattle.sl_sector.specs.Spelling.{IsDigest, IsSectorSize, ReadsExactly, Spells, as_record, block_of, block_rules, body_of, check_of, checked_part, decoded, delta_of, delta_rules, field_bytes, fields_end, fields_of, leader_of, leader_rules, magic, padding_from, request_of, request_rules, spelling, under_rules, value_of, value_rules}
-use Rattle.sl_sector.specs.declared.sector.Bad.TheVariants.{BadCheck, BadKind, BadMagic, BadPad}
+use Rattle.sl_sector.specs.Records.{IsRecord}
+use Rattle.sl_sector.specs.Spelling.{IsDigest, IsSectorSize, Spells, as_record, block_of, block_rules, body_of, check_of, checked_part, decoded, delta_of, delta_rules, field_bytes, fields_end, fields_of, leader_of, leader_rules, magic, padding_from, request_of, request_rules, spelling, under_rules, value_of, value_rules}
+use Rattle.sl_sector.specs.declared.sector.Bad.TheVariants.{BadCheck, BadMagic, BadPad}
 use Rattle.sl_sector.specs.declared.sector.Bad.{Bad}
 use Rattle.sl_sector.specs.declared.sector.Rec.TheVariants.{BlockIs, DeltaIs, LeaderIs, RequestIs, ValueIs}
 use Rattle.sl_sector.specs.declared.sector.Rec.{Rec}
 use Rattle.sl_text.specs.Names.{padded_text}
 use Rattle.sl_words.proofs.WordLaws.{bind_ok}
 use Rattle.sl_words.specs.Results.{ensure, ◌>>=◌}
-use Rattle.std.proofs.Common.{Bool, Err, List, None, Ok, Option, Result, Some, ap, arith, cond, drop, eqb, false, inl, inr, length, ltb, refl, subst, sym, take, true, ℕ, ◌++◌, ◌+◌, ◌-◌, ◌<◌, ◌≡◌, ◌≤◌, ◌∙◌, ◌⊎◌}
+use Rattle.std.proofs.Common.{Bool, Err, List, None, Ok, Option, Result, Some, ap, arith, cond, drop, eqb, false, inl, inr, length, ltb, refl, subst, sym, take, ℕ, ◌++◌, ◌+◌, ◌-◌, ◌≡◌, ◌≤◌, ◌∙◌}
 use Rattle.std.proofs.Math.ListN.{replicate}
 use Rattle.std.proofs.lemmas.Bool.{cases_Bool, cases_lt, cond-false, eqb-true, le-ltb, lt-ltb}
-use Rattle.std.proofs.lemmas.List.{append_assoc, drop-replicate, drop_at, length-append, length-drop, length-replicate, length-take, length-take-le, take-append-drop, take-take, take_at}
+use Rattle.std.proofs.lemmas.List.{append_assoc, drop_at, length-append, length-drop, length-replicate, length-take, length-take-le, take-append-drop, take-take, take_at}
 use Rattle.std.proofs.lemmas.Slice.Eq.{bytes_eq-Decides}
 use Rattle.std.specs.List.{position, prefix_len}
 use Rattle.std.specs.Prelude.{bytes_eq, not}
@@ -178,9 +178,10 @@ spelled digest bs r fits size h =
     let text_long : length (field_bytes r) ≡ fields_end r = ap length (sym text) ∙ length-take-le (fields_end r) (body_of bs) (omega (arith, long, inside)) in
     let zeros = padding_zeros (fields_end r) (body_of bs) p.padding in
     let body : body_of bs ≡ padded_text (length bs - 32) (field_bytes r) =
-        padded_from_parts (field_bytes r) (body_of bs) (fields_end r) text_long text zeros ∙ ap (λ (n : ℕ). padded_text n (field_bytes r)) long in
-    (f.rules,
-    sym (take-append-drop (length bs - 32) bs) ∙ ap (λ (x : List ℕ). body_of bs ++ x) p.check ∙ ap (λ (x : List ℕ). x ++ digest x) body)
+    padded_from_parts (field_bytes r) (body_of bs) (fields_end r) text_long text zeros ∙ ap (λ (n : ℕ). padded_text n (field_bytes r)) long in (
+      f.rules,
+      sym (take-append-drop (length bs - 32) bs) ∙ ap (λ (x : List ℕ). body_of bs ++ x) p.check ∙ ap (λ (x : List ℕ). x ++ digest x) body,
+    )
 
 -- ---- what is spelled is read
 
@@ -233,7 +234,7 @@ front_of_spelling digest size r is =
 padding_of_zeros : (at n : ℕ) (bs : List ℕ) → drop at bs ≡ replicate n 0 → padding_from at bs ≡ Ok tt
 padding_of_zeros at n bs zeros =
     let len : ltb (prefix_len (λ b. not (not (eqb b 0))) (replicate n 0)) (length (replicate n 0)) ≡ false =
-        le-ltb _ _ (omega (arith, prefix_of_zeros n, length-replicate {A = ℕ} n 0)) in
+    le-ltb _ _ (omega (arith, prefix_of_zeros n, length-replicate {A = ℕ} n 0)) in
     let none : position (λ b. not (eqb b 0)) (drop at bs) ≡ None = ap (position (λ b. not (eqb b 0))) zeros ∙ cond-false _ _ _ len in
     nothing_there at _ none
 
@@ -248,7 +249,7 @@ spelling_parts : (digest : List ℕ → List ℕ) → IsDigest digest → (size 
 unfolding spelling
 spelling_parts digest d size r fits is =
     let whole : length (checked_part size r ++ digest (checked_part size r)) - 32 ≡ length (checked_part size r) =
-        omega (arith, length-append (checked_part size r) (digest (checked_part size r)), d.long (checked_part size r)) in
+    omega (arith, length-append (checked_part size r) (digest (checked_part size r)), d.long (checked_part size r)) in
     (take_at (checked_part size r) (digest (checked_part size r)) _ (sym whole), drop_at (checked_part size r) (digest (checked_part size r)) _ (sym whole))
 
 -- A spelling is read as the record that it spells.

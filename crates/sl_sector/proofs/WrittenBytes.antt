@@ -11,7 +11,7 @@ use Rattle.sl_sector.specs.declared.sector.Rec.TheVariants.{BlockIs, DeltaIs, Le
 use Rattle.sl_sector.specs.declared.sector.Rec.{Rec}
 use Rattle.sl_text.specs.Names.{is_name, is_name_byte, padded_text}
 use Rattle.sl_words.proofs.WordLaws.{and_true}
-use Rattle.std.proofs.Common.{Bool, List, None, Option, Some, [], ap, arith, eqb, false, length, ltb, refl, suc, true, zero, ℕ, ◌&&◌, ◌++◌, ◌-◌, ◌<◌, ◌≡◌, ◌∙◌, ◌∷◌}
+use Rattle.std.proofs.Common.{Bool, List, None, Option, Some, [], arith, eqb, false, length, ltb, refl, suc, true, zero, ℕ, ◌&&◌, ◌++◌, ◌-◌, ◌<◌, ◌≡◌, ◌∷◌}
 use Rattle.std.proofs.Math.ListN.{replicate}
 use Rattle.std.proofs.Math.Nat.{mod-lt}
 use Rattle.std.proofs.lemmas.Bool.{lt-ltb}
@@ -28,9 +28,9 @@ are_bytes-append : (xs ys : List ℕ) → are_bytes (xs ++ ys) ≡ (are_bytes xs
 are_bytes-append [] ys = refl
 are_bytes-append (x ∷ xs) ys = step (ltb x 256) (are_bytes xs) (are_bytes ys) (are_bytes (xs ++ ys)) (are_bytes-append xs ys)
   where
-  step : (a b c d : Bool) → d ≡ (b && c) → (a && d) ≡ ((a && b) && c)
-  step true b c d h = h
-  step false b c d h = refl
+    step : (a b c d : Bool) → d ≡ (b && c) → (a && d) ≡ ((a && b) && c)
+    step true b c d h = h
+    step false b c d h = refl
 
 byte_at_below : (k n : ℕ) → byte_at k n < 256
 byte_at_below zero n = mod-lt n (omega arith)

@@ -15,7 +15,7 @@ use Rattle.sl_words.specs.Results.{ensure, ◌>>=◌}
 use Rattle.sl_words.specs.Words.{all_zero, choose, same_truth}
 use Rattle.std.specs.Int.{is_in_range}
 use Rattle.std.specs.List.{list_all}
-use Rattle.std.specs.Prelude.{Bool, Err, IsTrue, List, None, Ok, Option, Result, Some, bytes_eq, drop, false, if◌then◌else◌, length, nat_le, nat_lt, not, position, take, true, unwrap_or, [], ℕ, ◌&&◌, ◌++◌, ◌+◌, ◌-◌, ◌==◌, ◌||◌, ◌↔◌, ◌∷◌, ◌≡◌, ◌≤◌}
+use Rattle.std.specs.Prelude.{Bool, Err, IsTrue, List, None, Ok, Option, Result, Some, bytes_eq, drop, false, length, nat_le, nat_lt, not, position, take, true, unwrap_or, [], ℕ, ◌&&◌, ◌++◌, ◌+◌, ◌-◌, ◌==◌, ◌||◌, ◌↔◌, ◌∷◌, ◌≡◌, ◌≤◌}
 pub use Rattle.sl_sector.specs.Fields.{delta_code, delta_state, flag, is_absent_name, is_host_field, is_name_field, name_at, name_bytes, name_field}
 unfoldable pub use Rattle.sl_sector.specs.Fields.{u32_at, u32_bytes, u64_at, u64_bytes}
 pub use Rattle.sl_sector.specs.Records.{AreBytes, Fits, IsBlock, IsDelta, IsLeader, IsRecord, IsRequest, IsValue}

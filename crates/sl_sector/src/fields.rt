@@ -88,7 +88,6 @@ fn name_in(bytes: &[u8], at: usize) -> Option<Name>
 }
 
 /// The name at this offset, or `BadField` of it.
-#[tactic(auto, using(crate::proofs::RuleLaws::chosen_under))]
 pub(crate) fn name_at(bytes: &[u8], at: u32) -> Result<Name, Bad>
     requires { at + 48 ≤ length bytes.now }
     ensures { ReadsField at (spec.is_name_field bytes.now at) (spec.name_at bytes.now at) result }
@@ -111,11 +110,7 @@ pub(crate) fn rule(at: u32, holds: bool) -> Result<(), Bad>
 pub(crate) fn rules(at: u32, own: bool, with_others: bool) -> Result<(), Bad>
     ensures { ReadsField at (own && with_others) tt result }
 {
-    if own {
-        rule(at, with_others)
-    } else {
-        rule(at, false)
-    }
+    rule(at, own && with_others)
 }
 
 /// Whether the second holds where the first does.
@@ -129,7 +124,7 @@ pub(crate) fn implies(first: bool, second: bool) -> bool
 pub(crate) fn agree(first: bool, second: bool) -> bool
     ensures { result ≡ same_truth first second }
 {
-    if first { second } else { !second }
+    first == second
 }
 
 /// Whether the number is a host's: 1 to 2000.
@@ -147,7 +142,6 @@ pub(crate) fn is_number(number: u64) -> bool
 }
 
 /// Writes a field behind the first `at` bytes.
-#[tactic(auto)]
 pub(crate) fn put(buffer: &mut [u8], at: usize, field: &[u8])
     requires { at + length field.now ≤ length buffer.old }
     ensures { take (at + length field.now) buffer.new ≡ take at buffer.old ++ field.now }

@@ -11,31 +11,26 @@ ghost use Rattle.sl_sector.specs.Spelling.{IsDigest};
 #[tactic(auto, using(crate::proofs::PublicLaws::one_record))]
 pub fn one_record()
     ensures { laws.OneRecord }
-{
-}
+{}
 
 /// A record that meets its rules has a spelling of each size from 512 to 4096 bytes.
 pub fn each_is_spelled()
     ensures { laws.EachIsSpelled }
-{
-}
+{}
 
 /// What spells a record is read as that record.
 #[tactic(auto, using(crate::proofs::PublicLaws::spelled_is_read))]
 pub fn spelled_is_read()
     ensures { laws.SpelledIsRead }
-{
-}
+{}
 
 /// Reading gives a record exactly where the bytes spell it.
 pub fn reading_is_exact()
     ensures { laws.ReadingIsExact }
-{
-}
+{}
 
 /// SHA-256 is such a digest: 32 bytes, of every text.
 #[tactic(auto, using(crate::proofs::WrittenBytes::sha256_is_digest))]
 pub fn sha256_is_digest()
     ensures { IsDigest sha256 }
-{
-}
+{}

@@ -6,7 +6,6 @@ ghost use Rattle.sl_sector.specs.Records.{IsDelta, IsLeader};
 ghost use Rattle.sl_text.specs.Names.{is_name};
 
 use super::*;
-
 use sl_text::Name;
 use std::alloc::{AllocError, Global};
 use std::test::Fail;
@@ -105,7 +104,10 @@ fn printed(alloc: Global, sector: &[u8; 512]) -> Result<Vec<u8>, AllocError> {
 #[test]
 fn vectors(rt: HostRuntime) -> Result<(), Fail> {
     let sectors: [([u8; 512], &[u8]); 6] = [
-        (delta(), b"delta 3 gen 4 live host-a seq 5 stamp 1701 bits 1,3,2000"),
+        (
+            delta(),
+            b"delta 3 gen 4 live host-a seq 5 stamp 1701 bits 1,3,2000",
+        ),
         (leader(), b"leader lver 7 owner 2 gen 3 held"),
         (fresh(), b"leader lver 0 owner 0 gen 0 free"),
         (block(), b"block 2 lver 9 mbal 12 bal 11 inp 1 4 mode 1 6"),
@@ -200,6 +202,9 @@ fn fresh_records(rt: HostRuntime) -> Result<(), Fail> {
     if let Some(delta) = delta_in(decode(&large)) {
         push_record_text(&mut line, &Rec::DeltaIs(delta))?;
     }
-    assert_eq!(rt; line.as_slice(), b"delta 2000 gen 0 free - seq 0 stamp 0".as_slice());
+    assert_eq!(rt;
+        line.as_slice(),
+        b"delta 2000 gen 0 free - seq 0 stamp 0".as_slice()
+    );
     Ok(())
 }

@@ -6,12 +6,10 @@ ghost use Rattle.sl_sector.specs.RecordTexts as texts;
 ghost use Rattle.sl_text.specs.Forms.{spaced};
 ghost use Rattle.sl_sector.specs.declared.sector.Rec.TheVariants.{BlockIs, DeltaIs, LeaderIs, RequestIs, ValueIs};
 
-use std::alloc::{AllocError, Global};
-
-use sl_text::Name;
-
 use crate::bits::bits_of;
 use crate::sector::{Bad, Block, DeltaRec, DeltaState, Leader, Rec, Request, ValueRec};
+use sl_text::Name;
+use std::alloc::{AllocError, Global};
 
 /// A leader's state.
 fn held_word(held: bool) -> &'static str
@@ -25,14 +23,20 @@ fn leader_text(alloc: Global, leader: &Leader) -> Result<String, AllocError>
     ensures { IfOk result (λ text. string_bytes text ≡ texts.record_text (LeaderIs leader.now)) }
 {
     let state = held_word(leader.held);
-    format!(in alloc; "leader lver {} owner {} gen {} {state}", leader.lver, leader.owner, leader.generation)
+    format!(in alloc;
+        "leader lver {} owner {} gen {} {state}",
+        leader.lver, leader.owner, leader.generation
+    )
 }
 
 /// The text of a request.
 fn request_text(alloc: Global, request: &Request) -> Result<String, AllocError>
     ensures { IfOk result (λ text. string_bytes text ≡ texts.record_text (RequestIs request.now)) }
 {
-    format!(in alloc; "request lver {} force {} host {}", request.lver, request.force, request.host)
+    format!(in alloc;
+        "request lver {} force {} host {}",
+        request.lver, request.force, request.host
+    )
 }
 
 /// The text of a value.
@@ -55,7 +59,10 @@ fn block_text(alloc: Global, block: &Block) -> Result<String, AllocError>
     ensures { IfOk result (λ text. string_bytes text ≡ texts.record_text (BlockIs block.now)) }
 {
     let mode = flag(block.shared);
-    format!(in alloc; "block {} lver {} mbal {} bal {} inp {} {} mode {mode} {}", block.host, block.lver, block.mbal, block.bal, block.inp, block.inp_gen, block.mode_gen)
+    format!(in alloc;
+        "block {} lver {} mbal {} bal {} inp {} {} mode {mode} {}",
+        block.host, block.lver, block.mbal, block.bal, block.inp, block.inp_gen, block.mode_gen
+    )
 }
 
 /// A delta record's state.
