@@ -1,13 +1,16 @@
 -- What is printed of a record.
 use Rattle.sl_sector.specs.Bitmaps.{bits_of}
 use Rattle.sl_sector.specs.Spelling.{flag}
+use Rattle.sl_sector.specs.declared.sector.Bad.TheVariants.{BadCheck, BadField, BadKind, BadMagic, BadPad}
+use Rattle.sl_sector.specs.declared.sector.Bad.{Bad}
+use Rattle.sl_sector.specs.declared.sector.DeltaRec.{DeltaRec}
 use Rattle.sl_sector.specs.declared.sector.DeltaState.TheVariants.{Claimed, Free, Live}
 use Rattle.sl_sector.specs.declared.sector.DeltaState.{DeltaState}
 use Rattle.sl_sector.specs.declared.sector.Rec.TheVariants.{BlockIs, DeltaIs, LeaderIs, RequestIs, ValueIs}
 use Rattle.sl_sector.specs.declared.sector.Rec.{Rec}
 use Rattle.sl_text.specs.Forms.{spaced}
 use Rattle.std.specs.List.{join_with_byte}
-use Rattle.std.specs.Prelude.{Bool, List, codes, decimal, false, length, map, true, unwrap_or, [], ℕ, ◌∷◌}
+use Rattle.std.specs.Prelude.{Bool, List, codes, decimal, false, length, map, true, unwrap_or, [], ℕ, ◌++◌, ◌∷◌}
 
 -- A delta record's state.
 abbrev pub delta_word : DeltaState → List ℕ
@@ -30,11 +33,17 @@ abbrev pub held_word : Bool → List ℕ
 held_word true = codes "held"
 held_word false = codes "free"
 
+-- The words of a delta record before the host's name.
+abbrev pub delta_front : DeltaRec → List (List ℕ)
+delta_front d = codes "delta" ∷ decimal d.id ∷ codes "gen" ∷ decimal d.generation ∷ delta_word d.state ∷ []
+
+-- The words behind it, but for the bits.
+abbrev pub delta_back : DeltaRec → List (List ℕ)
+delta_back d = codes "seq" ∷ decimal d.seq ∷ codes "stamp" ∷ decimal d.stamp ∷ []
+
 -- The words of a record.
 abbrev pub record_words : Rec → List (List ℕ)
-record_words (DeltaIs d) =
-    codes "delta" ∷ decimal d.id ∷ codes "gen" ∷ decimal d.generation ∷ delta_word d.state ∷ dash_for_none (unwrap_or d.host [])
-    ∷ codes "seq" ∷ decimal d.seq ∷ codes "stamp" ∷ decimal d.stamp ∷ bits_words (bits_of d.bitmap)
+record_words (DeltaIs d) = delta_front d ++ dash_for_none (unwrap_or d.host []) ∷ (delta_back d ++ bits_words (bits_of d.bitmap))
 record_words (LeaderIs l) =
     codes "leader" ∷ codes "lver" ∷ decimal l.lver ∷ codes "owner" ∷ decimal l.owner ∷ codes "gen" ∷ decimal l.generation
     ∷ held_word l.held ∷ []
@@ -49,3 +58,15 @@ record_words (ValueIs v) =
 -- The text of a record.
 abbrev pub record_text : Rec → List ℕ
 record_text r = spaced (record_words r)
+
+-- The words of a refusal: its name, and the offset where there is one.
+abbrev pub bad_words : Bad → List (List ℕ)
+bad_words BadMagic = codes "BadMagic" ∷ []
+bad_words BadKind = codes "BadKind" ∷ []
+bad_words (BadField at) = codes "BadField" ∷ decimal at ∷ []
+bad_words (BadPad at) = codes "BadPad" ∷ decimal at ∷ []
+bad_words BadCheck = codes "BadCheck" ∷ []
+
+-- The text of a refusal.
+abbrev pub bad_text : Bad → List ℕ
+bad_text b = spaced (bad_words b)

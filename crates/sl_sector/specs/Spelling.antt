@@ -1,100 +1,81 @@
--- Which bytes spell which record: numbers are big-endian, and the last 32 bytes are the digest of the rest.
+-- Which bytes spell which record. A sector begins with the magic and the record's number, then come the fields, then zeros, and the
+-- last 32 bytes are the digest of all the others. Bytes that spell no record are torn.
 use Rattle.sl_sector.specs.declared.sector.Bad.TheVariants.{BadCheck, BadField, BadKind, BadMagic, BadPad}
 use Rattle.sl_sector.specs.declared.sector.Bad.{Bad}
 use Rattle.sl_sector.specs.declared.sector.Block.{Block}
 use Rattle.sl_sector.specs.declared.sector.DeltaRec.{DeltaRec}
-use Rattle.sl_sector.specs.declared.sector.DeltaState.TheVariants.{Claimed, Free, Live}
-use Rattle.sl_sector.specs.declared.sector.DeltaState.{DeltaState}
 use Rattle.sl_sector.specs.declared.sector.Leader.{Leader}
 use Rattle.sl_sector.specs.declared.sector.Rec.TheVariants.{BlockIs, DeltaIs, LeaderIs, RequestIs, ValueIs}
 use Rattle.sl_sector.specs.declared.sector.Rec.{Rec}
 use Rattle.sl_sector.specs.declared.sector.Request.{Request}
 use Rattle.sl_sector.specs.declared.sector.ValueRec.{ValueRec}
-use Rattle.sl_text.specs.Names.{is_name, padded_text}
-use Rattle.sl_words.specs.Bounds.{is_number, moments, most_hosts, record_numbers}
+use Rattle.sl_text.specs.Names.{padded_text}
+use Rattle.sl_words.specs.Bounds.{is_number, moments}
+use Rattle.sl_words.specs.Results.{ensure, ◌>>=◌}
 use Rattle.sl_words.specs.Words.{all_zero, choose, same_truth}
-use Rattle.std.specs.Int.{from_be_bytes, is_in_range, to_be_bytes, w32, w64}
+use Rattle.std.specs.Int.{is_in_range}
 use Rattle.std.specs.List.{list_all}
-use Rattle.std.specs.Prelude.{Bool, Err, IsSomeAnd, IsTrue, List, None, Ok, Option, Result, Some, bytes_eq, drop, false, find, if◌then◌else◌, length, nat_le, nat_lt, not, option_map, position, replicate, take, take_while, true, unwrap_or, [], ℕ, ◌&&◌, ◌++◌, ◌+◌, ◌-◌, ◌<◌, ◌==◌, ◌||◌, ◌↔◌, ◌∷◌, ◌≡◌, ◌≤◌}
+use Rattle.std.specs.Prelude.{Bool, Err, IsTrue, List, None, Ok, Option, Result, Some, bytes_eq, drop, false, length, nat_le, nat_lt, not, position, take, true, unwrap_or, [], ℕ, ◌&&◌, ◌++◌, ◌+◌, ◌-◌, ◌==◌, ◌||◌, ◌↔◌, ◌∷◌, ◌≡◌, ◌≤◌}
+pub use Rattle.sl_sector.specs.Fields.{delta_code, delta_state, flag, is_absent_name, is_host_field, is_name_field, name_at, name_bytes, name_field}
+unfoldable pub use Rattle.sl_sector.specs.Fields.{u32_at, u32_bytes, u64_at, u64_bytes}
+pub use Rattle.sl_sector.specs.Records.{AreBytes, Fits, IsBlock, IsDelta, IsLeader, IsRecord, IsRequest, IsValue}
+
+-- ---- the bytes of a record
 
 -- The four bytes with which each sector begins.
 unfoldable pub magic : List ℕ
 magic = 0x53 ∷ 0x4c ∷ 0x4b ∷ 0x31 ∷ []
 
--- A number in four bytes.
-abbrev pub u32_bytes : ℕ → List ℕ
-u32_bytes n = to_be_bytes w32 n
-
--- A number in eight bytes.
-abbrev pub u64_bytes : ℕ → List ℕ
-u64_bytes n = to_be_bytes w64 n
-
--- A name and zeros, 48 bytes.
-abbrev pub name_bytes : List ℕ → List ℕ
-name_bytes n = padded_text 48 n
-
--- The number of a delta record's state.
-abbrev pub delta_code : DeltaState → ℕ
-delta_code Free = 0
-delta_code Claimed = 1
-delta_code Live = 2
-
--- A truth as a number.
-abbrev pub flag : Bool → ℕ
-flag true = 1
-flag false = 0
-
--- The number of a record's kind.
-abbrev pub kind_of : Rec → ℕ
-kind_of (DeltaIs d) = 1
-kind_of (LeaderIs l) = 2
-kind_of (BlockIs b) = 3
-kind_of (RequestIs r) = 4
-kind_of (ValueIs v) = 5
-
--- The fields, from byte 8 on.
+-- The magic, the record's number, and its fields.
 unfoldable pub field_bytes : Rec → List ℕ
 field_bytes (DeltaIs d) =
-    u32_bytes (delta_code d.state) ++ u32_bytes d.id ++ u64_bytes d.generation ++ u64_bytes d.seq ++ u64_bytes d.stamp
-    ++ name_bytes d.lockspace ++ name_bytes (unwrap_or d.host []) ++ d.bitmap
+    magic ++ u32_bytes 1 ++ u32_bytes (delta_code d.state) ++ u32_bytes d.id ++ u64_bytes d.generation ++ u64_bytes d.seq
+    ++ u64_bytes d.stamp ++ name_bytes d.lockspace ++ name_bytes (unwrap_or d.host []) ++ d.bitmap
 field_bytes (LeaderIs l) =
-    u32_bytes (flag l.held) ++ u32_bytes l.num_hosts ++ u64_bytes l.lver ++ u64_bytes l.generation ++ u32_bytes l.owner
-    ++ name_bytes l.lockspace ++ name_bytes l.resource
+    magic ++ u32_bytes 2 ++ u32_bytes (flag l.held) ++ u32_bytes l.num_hosts ++ u64_bytes l.lver ++ u64_bytes l.generation
+    ++ u32_bytes l.owner ++ name_bytes l.lockspace ++ name_bytes l.resource
 field_bytes (BlockIs b) =
-    u32_bytes b.host ++ u32_bytes (flag b.shared) ++ u64_bytes b.lver ++ u64_bytes b.mbal ++ u64_bytes b.bal
-    ++ u64_bytes b.inp_gen ++ u64_bytes b.mode_gen ++ u32_bytes b.inp
-field_bytes (RequestIs r) = u32_bytes r.force ++ u32_bytes r.host ++ u64_bytes r.lver
-field_bytes (ValueIs v) = u32_bytes (length v.bytes) ++ u32_bytes v.host ++ u64_bytes v.lver ++ u64_bytes v.seq ++ v.bytes
+    magic ++ u32_bytes 3 ++ u32_bytes b.host ++ u32_bytes (flag b.shared) ++ u64_bytes b.lver ++ u64_bytes b.mbal
+    ++ u64_bytes b.bal ++ u64_bytes b.inp_gen ++ u64_bytes b.mode_gen ++ u32_bytes b.inp
+field_bytes (RequestIs r) = magic ++ u32_bytes 4 ++ u32_bytes r.force ++ u32_bytes r.host ++ u64_bytes r.lver
+field_bytes (ValueIs v) =
+    magic ++ u32_bytes 5 ++ u32_bytes (length v.bytes) ++ u32_bytes v.host ++ u64_bytes v.lver ++ u64_bytes v.seq ++ v.bytes
 
--- All but the check: magic, kind, fields, and zeros up to 32 bytes before the end.
+-- Where the fields end.
+abbrev pub fields_end : Rec → ℕ
+fields_end (DeltaIs d) = 386
+fields_end (LeaderIs l) = 132
+fields_end (BlockIs b) = 60
+fields_end (RequestIs r) = 24
+fields_end (ValueIs v) = 32 + length v.bytes
+
+-- All but the check: the fields, and zeros up to 32 bytes before the end.
 unfoldable pub checked_part : ℕ → Rec → List ℕ
-checked_part sector r = padded_text (sector - 32) (magic ++ u32_bytes (kind_of r) ++ field_bytes r)
+checked_part size r = padded_text (size - 32) (field_bytes r)
 
 -- The sector of this size that spells a record, with this digest at its end.
 unfoldable pub spelling : (List ℕ → List ℕ) → ℕ → Rec → List ℕ
 spelling digest size r = checked_part size r ++ digest (checked_part size r)
 
--- ---- the rules of the fields, over a sector's bytes: each by its offset, in rising order
+-- These bytes spell this record.
+abbrev pub Spells : (List ℕ → List ℕ) → List ℕ → Rec → Type 0
+Spells digest bs r = IsRecord r × (bs ≡ spelling digest (length bs) r)
 
--- The number in the four bytes at this offset.
-abbrev pub u32_at : List ℕ → ℕ → ℕ
-u32_at bs at = from_be_bytes w32 (take 4 (drop at bs))
+-- Bytes that spell nothing.
+abbrev pub IsTorn : (List ℕ → List ℕ) → List ℕ → Type 0
+IsTorn digest bs = (r : Rec) → Spells digest bs r → ⊥
 
--- The number in the eight bytes at this offset.
-abbrev pub u64_at : List ℕ → ℕ → ℕ
-u64_at bs at = from_be_bytes w64 (take 8 (drop at bs))
+-- What is asked of a digest: 32 bytes. Safety asks nothing more of it.
+pub record IsDigest (digest : List ℕ → List ℕ) : Type 0 where
+  pub long : (bytes : List ℕ) → length (digest bytes) ≡ 32
+  pub bytes : (text : List ℕ) → IsTrue (list_all (λ b. nat_lt b 256) (digest text))
 
--- The 48 bytes at this offset.
-abbrev pub name_field : List ℕ → ℕ → List ℕ
-name_field bs at = take 48 (drop at bs)
+-- How many bytes a sector may have.
+abbrev pub IsSectorSize : ℕ → Type 0
+IsSectorSize n = (512 ≤ n) × (n ≤ 4096)
 
--- The characters before the first zero.
-abbrev pub name_at : List ℕ → ℕ → List ℕ
-name_at bs at = take_while (λ b. not (b == 0)) (name_field bs at)
-
--- Whether the 48 bytes are a name and zeros.
-abbrev pub is_name_field : List ℕ → ℕ → Bool
-is_name_field bs at = is_name (name_at bs at) && bytes_eq (name_field bs at) (name_bytes (name_at bs at))
+-- ---- the rules of the fields, over a sector's bytes: each with the offset of its field, in rising order. A rule speaks of its own
+-- field, and of fields before it.
 
 -- The rules of a delta record's fields.
 unfoldable pub delta_rules : List ℕ → List (ℕ × Bool)
@@ -106,7 +87,7 @@ delta_rules bs =
     ∷ (24, is_number (u64_at bs 24) && (not unused || u64_at bs 24 == 0))
     ∷ (32, nat_lt (u64_at bs 32) moments && (not unused || u64_at bs 32 == 0))
     ∷ (40, is_name_field bs 40)
-    ∷ (88, if unused then all_zero (name_field bs 88) else is_name_field bs 88)
+    ∷ (88, is_host_field unused bs 88)
     ∷ (136, not unused || all_zero (take 250 (drop 136 bs))) ∷ []
 
 -- The rules of a leader's fields.
@@ -150,27 +131,85 @@ value_rules bs =
     ∷ (16, is_number (u64_at bs 16))
     ∷ (24, is_number (u64_at bs 24)) ∷ []
 
--- The rules of the kind that the bytes name.
-abbrev pub rules : List ℕ → List (ℕ × Bool)
-rules bs =
-    if u32_at bs 4 == 1 then delta_rules bs
-    else (if u32_at bs 4 == 2 then leader_rules bs
-    else (if u32_at bs 4 == 3 then block_rules bs
-    else (if u32_at bs 4 == 4 then request_rules bs
-    else value_rules bs)))
+-- ---- the records that a sector's fields give, where no rule fails
 
--- Where the fields end.
-abbrev pub fields_end : List ℕ → ℕ
-fields_end bs =
-    if u32_at bs 4 == 1 then 386
-    else (if u32_at bs 4 == 2 then 132
-    else (if u32_at bs 4 == 3 then 60
-    else (if u32_at bs 4 == 4 then 24
-    else 32 + u32_at bs 8)))
+abbrev pub delta_of : List ℕ → DeltaRec
+delta_of bs = record {
+  state = delta_state (u32_at bs 8);
+  id = u32_at bs 12;
+  generation = u64_at bs 16;
+  seq = u64_at bs 24;
+  stamp = u64_at bs 32;
+  lockspace = name_at bs 40;
+  host = choose (not (u64_at bs 16 == 0)) (name_at bs 88);
+  bitmap = take 250 (drop 136 bs);
+}
 
--- The first rule that fails.
-abbrev pub broken_field : List ℕ → Option ℕ
-broken_field bs = option_map (λ rule. rule.0) (find (λ rule. not rule.1) (rules bs))
+abbrev pub leader_of : List ℕ → Leader
+leader_of bs = record {
+  held = u32_at bs 8 == 1;
+  num_hosts = u32_at bs 12;
+  lver = u64_at bs 16;
+  generation = u64_at bs 24;
+  owner = u32_at bs 32;
+  lockspace = name_at bs 36;
+  resource = name_at bs 84;
+}
+
+abbrev pub block_of : List ℕ → Block
+block_of bs = record {
+  host = u32_at bs 8;
+  shared = u32_at bs 12 == 1;
+  lver = u64_at bs 16;
+  mbal = u64_at bs 24;
+  bal = u64_at bs 32;
+  inp_gen = u64_at bs 40;
+  mode_gen = u64_at bs 48;
+  inp = u32_at bs 56;
+}
+
+abbrev pub request_of : List ℕ → Request
+request_of bs = record { force = u32_at bs 8; host = u32_at bs 12; lver = u64_at bs 16 }
+
+abbrev pub value_of : List ℕ → ValueRec
+value_of bs = record { host = u32_at bs 12; lver = u64_at bs 16; seq = u64_at bs 24; bytes = take (u32_at bs 8) (drop 32 bs) }
+
+-- ---- reading a sector: the first test that fails, or the record
+
+-- The value where each rule holds, else the first field whose rule fails.
+abbrev pub under_rules : {A : Type 0} → List (ℕ × Bool) → A → Result A Bad
+under_rules [] a = Ok a
+under_rules (rule ∷ rules) a = ensure rule.1 (BadField rule.0) >>= λ _. under_rules rules a
+
+-- The same, as one of the five.
+abbrev pub as_record : {A : Type 0} → (A → Rec) → Result A Bad → Result Rec Bad
+as_record wrap (Ok a) = Ok (wrap a)
+as_record wrap (Err bad) = Err bad
+
+-- The record of this kind, or its first field whose rule fails.
+unfoldable pub fields_of : ℕ → List ℕ → Result Rec Bad
+fields_of kind bs =
+    elim (kind == 1) [
+      | true ↦ as_record DeltaIs (under_rules (delta_rules bs) (delta_of bs))
+      | false ↦
+          elim (kind == 2) [
+            | true ↦ as_record LeaderIs (under_rules (leader_rules bs) (leader_of bs))
+            | false ↦
+                elim (kind == 3) [
+                  | true ↦ as_record BlockIs (under_rules (block_rules bs) (block_of bs))
+                  | false ↦
+                      elim (kind == 4) [
+                        | true ↦ as_record RequestIs (under_rules (request_rules bs) (request_of bs))
+                        | false ↦
+                            elim (kind == 5) [ true ↦ as_record ValueIs (under_rules (value_rules bs) (value_of bs)) | false ↦ Err BadKind ]
+                      ]
+                ]
+          ]
+    ]
+
+-- Nothing where each byte from this offset on is zero, else the first that isn't.
+abbrev pub padding_from : ℕ → List ℕ → Result (Unit {0}) Bad
+padding_from at bs = elim (position (λ b. not (b == 0)) (drop at bs)) [ None ↦ Ok tt | Some k ↦ Err (BadPad (at + k)) ]
 
 -- All of a sector but its last 32 bytes, and these.
 abbrev pub body_of : List ℕ → List ℕ
@@ -180,162 +219,16 @@ body_of bs = take (length bs - 32) bs
 abbrev pub check_of : List ℕ → List ℕ
 check_of bs = drop (length bs - 32) bs
 
--- The first byte in no field that isn't zero.
-abbrev pub broken_padding : List ℕ → Option ℕ
-broken_padding bs = option_map (λ k. fields_end bs + k) (position (λ b. not (b == 0)) (drop (fields_end bs) (body_of bs)))
-
--- ---- the record that a sector's fields give, whatever the rest
-
--- The state that the number names.
-abbrev pub delta_state : ℕ → DeltaState
-delta_state code = if code == 0 then Free else (if code == 1 then Claimed else Live)
-
--- The name, or none where it is empty.
-abbrev pub absent_or : List ℕ → Option (List ℕ)
-absent_or [] = None
-absent_or (c ∷ cs) = Some (c ∷ cs)
-
--- The record that the fields give; it is meant only where no rule fails.
-unfoldable pub fields_of : List ℕ → Rec
-fields_of bs =
-    if u32_at bs 4 == 1 then DeltaIs (record {
-      state = delta_state (u32_at bs 8);
-      id = u32_at bs 12;
-      generation = u64_at bs 16;
-      seq = u64_at bs 24;
-      stamp = u64_at bs 32;
-      lockspace = name_at bs 40;
-      host = absent_or (name_at bs 88);
-      bitmap = take 250 (drop 136 bs);
-    })
-    else (if u32_at bs 4 == 2 then LeaderIs (record {
-      held = u32_at bs 8 == 1;
-      num_hosts = u32_at bs 12;
-      lver = u64_at bs 16;
-      generation = u64_at bs 24;
-      owner = u32_at bs 32;
-      lockspace = name_at bs 36;
-      resource = name_at bs 84;
-    })
-    else (if u32_at bs 4 == 3 then BlockIs (record {
-      host = u32_at bs 8;
-      shared = u32_at bs 12 == 1;
-      lver = u64_at bs 16;
-      mbal = u64_at bs 24;
-      bal = u64_at bs 32;
-      inp_gen = u64_at bs 40;
-      mode_gen = u64_at bs 48;
-      inp = u32_at bs 56;
-    })
-    else (if u32_at bs 4 == 4 then RequestIs (record { force = u32_at bs 8; host = u32_at bs 12; lver = u64_at bs 16 })
-    else ValueIs (record { host = u32_at bs 12; lver = u64_at bs 16; seq = u64_at bs 24; bytes = take (u32_at bs 8) (drop 32 bs) }))))
-
--- ---- reading a sector: the first test that fails, or the record
-
 -- The record that the bytes spell, or the first test that fails: magic, kind, fields, padding, check.
 unfoldable pub decoded : (List ℕ → List ℕ) → List ℕ → Result Rec Bad
-decoded digest bs =
-    elim (bytes_eq (take 4 bs) magic) [
-      | false ↦ Err BadMagic
-      | true ↦ elim (is_in_range 1 5 (u32_at bs 4)) [
-        | false ↦ Err BadKind
-        | true ↦ elim (broken_field bs) [
-          | Some at ↦ Err (BadField at)
-          | None ↦ elim (broken_padding bs) [
-            | Some at ↦ Err (BadPad at)
-            | None ↦ elim (bytes_eq (check_of bs) (digest (body_of bs))) [
-              | false ↦ Err BadCheck
-              | true ↦ Ok (fields_of bs)
-            ]
-          ]
-        ]
-      ]
-    ]
+decoded digest bs = do
+  _ ← ensure (bytes_eq (take 4 bs) magic) BadMagic
+  r ← fields_of (u32_at bs 4) bs
+  _ ← padding_from (fields_end r) (body_of bs)
+  _ ← ensure (bytes_eq (check_of bs) (digest (body_of bs))) BadCheck
+  Ok r
 
--- ---- the rules of a record, field by field
-
--- A number that the field may carry.
-abbrev pub Fits : ℕ → Type 0
-Fits n = n < record_numbers
-
--- Bytes, one for each of so many.
-abbrev pub AreBytes : ℕ → List ℕ → Type 0
-AreBytes n bs = (length bs ≡ n) × IsTrue (list_all (λ b. nat_lt b 256) bs)
-
--- An id's record. A record that was never claimed has generation 0 and nothing else.
-pub record IsDelta (d : DeltaRec) : Type 0 where
-  pub id : (1 ≤ d.id) × (d.id ≤ most_hosts)
-  pub generation : Fits d.generation
-  pub seq : Fits d.seq
-  pub stamp : d.stamp < moments
-  pub lockspace : IsTrue (is_name d.lockspace)
-  pub bitmap : AreBytes 250 d.bitmap
-  pub unused : d.generation ≡ 0 → (d.state ≡ Free) × (d.seq ≡ 0) × (d.stamp ≡ 0) × (d.host ≡ None) × (d.bitmap ≡ replicate 250 0)
-  pub used : 0 < d.generation → IsSomeAnd d.host (λ n. IsTrue (is_name n))
-
--- A resource's leader. One that was never held has lver, owner and generation 0 and is free.
-pub record IsLeader (l : Leader) : Type 0 where
-  pub hosts : (1 ≤ l.num_hosts) × (l.num_hosts ≤ most_hosts)
-  pub lver : Fits l.lver
-  pub generation : Fits l.generation
-  pub owner : l.owner ≤ l.num_hosts
-  pub lockspace : IsTrue (is_name l.lockspace)
-  pub resource : IsTrue (is_name l.resource)
-  pub same : (l.lver ≡ 0 ↔ l.generation ≡ 0) × (l.lver ≡ 0 ↔ l.owner ≡ 0)
-  pub unused : l.lver ≡ 0 → l.held ≡ false
-
--- A host's block.
-pub record IsBlock (b : Block) : Type 0 where
-  pub host : (1 ≤ b.host) × (b.host ≤ most_hosts)
-  pub lver : Fits b.lver
-  pub mbal : Fits b.mbal
-  pub bal : b.bal ≤ b.mbal
-  pub generations : Fits b.inp_gen × Fits b.mode_gen
-  pub inp : b.inp ≤ most_hosts
-  pub value : (b.bal ≡ 0 ↔ b.inp_gen ≡ 0) × (b.bal ≡ 0 ↔ b.inp ≡ 0)
-  pub mode : b.shared ≡ false ↔ b.mode_gen ≡ 0
-  pub unused : b.lver ≡ 0 → (b.mbal ≡ 0) × (b.shared ≡ false)
-
--- A request; the cleared one has force and lver 0.
-pub record IsRequest (r : Request) : Type 0 where
-  pub force : r.force ≤ 2
-  pub host : r.host ≤ most_hosts
-  pub lver : Fits r.lver
-  pub same : r.force ≡ 0 ↔ r.lver ≡ 0
-
--- A value.
-pub record IsValue (v : ValueRec) : Type 0 where
-  pub host : v.host ≤ most_hosts
-  pub lver : Fits v.lver
-  pub seq : Fits v.seq
-  pub bytes : (length v.bytes ≤ 256) × IsTrue (list_all (λ b. nat_lt b 256) v.bytes)
-
--- What has a spelling.
-abbrev pub IsRecord : Rec → Type 0
-IsRecord (DeltaIs d) = IsDelta d
-IsRecord (LeaderIs l) = IsLeader l
-IsRecord (BlockIs b) = IsBlock b
-IsRecord (RequestIs r) = IsRequest r
-IsRecord (ValueIs v) = IsValue v
-
--- These bytes spell this record.
-abbrev pub Spells : (List ℕ → List ℕ) → List ℕ → Rec → Type 0
-Spells digest bs r = IsRecord r × (bs ≡ spelling digest (length bs) r)
-
--- Bytes that spell nothing.
-abbrev pub IsTorn : (List ℕ → List ℕ) → List ℕ → Type 0
-IsTorn digest bs = (r : Rec) → Spells digest bs r → ⊥
-
--- What is asked of a digest: 32 bytes. Safety asks nothing more of it.
-pub record IsDigest (digest : List ℕ → List ℕ) : Type 0 where
-  pub long : (bytes : List ℕ) → length (digest bytes) ≡ 32
-  pub bytes : (text : List ℕ) → IsTrue (list_all (λ b. nat_lt b 256) (digest text))
-
--- How many bytes a sector may have.
-abbrev pub IsSectorSize : ℕ → Type 0
-IsSectorSize n = (512 ≤ n) × (n ≤ 4096)
-
--- What reading owes: a record exactly where the bytes spell it. To be proved once, of any digest of 32 bytes.
+-- What reading owes: a record exactly where the bytes spell it.
 abbrev pub ReadsExactly : (List ℕ → List ℕ) → Type 0
 ReadsExactly digest = (n : ℕ) (bs : List ℕ) (r : Rec) → IsSectorSize n → AreBytes n bs → (decoded digest bs ≡ Ok r) ↔ Spells digest bs r
 

@@ -1,6 +1,32 @@
-//! Records of a sector: their rules, their spelling and their texts.
+//! The sectors of a shared disk: five records, their rules, their bytes and their texts.
+//!
+//! `Rec::encode_into` writes the one spelling of a record over a sector, and `decode` gives the record that a sector's bytes spell, or
+//! the first test that fails. Both are proved against one definition, the spelling: bytes spell at most one record, each record is
+//! spelled, and reading gives a record exactly where the bytes spell it. A reader that took other bytes for a record would let a torn
+//! write count as somebody's vote or claim.
 #![tactic(auto)]
 
+mod bits;
+mod block;
+mod decoding;
+mod delta;
+mod encoding;
+mod fields;
+mod frame;
+pub mod laws;
+mod leader;
+pub mod places;
+mod request;
 pub mod sector;
+mod texts;
+mod value;
 
-pub use sector::{Bad, Block, DeltaRec, DeltaState, Leader, Owner, Rec, Request, ValueRec};
+pub use decoding::decode;
+pub use places::{block_in, delta_in, leader_in, request_in, value_in};
+pub use sector::{
+    Bad, Block, DeltaRec, DeltaState, Gen, HostId, Leader, Owner, Rec, Request, ValueRec,
+};
+pub use texts::{push_bad_text, push_record_text};
+
+#[cfg(test)]
+mod tests;

@@ -1,0 +1,13 @@
+pub mod ByteLaws
+pub mod FieldLaws
+pub mod RuleLaws
+pub mod LeaderLaws
+pub mod BlockLaws
+pub mod RequestLaws
+pub mod ValueLaws
+pub mod DeltaLaws
+pub mod SpellingLaws
+pub mod WrittenBytes
+pub mod PublicLaws
+pub mod BitLaws
+pub mod TextLaws

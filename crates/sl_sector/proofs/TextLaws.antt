@@ -1,0 +1,52 @@
+-- Words with a byte between them.
+use Rattle.sl_sector.specs.Bitmaps.{bits_of}
+use Rattle.sl_sector.specs.RecordTexts.{bits_words, dash_for_none, delta_back, delta_front, delta_word, record_text}
+use Rattle.sl_sector.specs.declared.sector.DeltaRec.{DeltaRec}
+use Rattle.sl_sector.specs.declared.sector.Rec.TheVariants.{DeltaIs}
+use Rattle.sl_text.specs.Forms.{spaced}
+use Rattle.std.proofs.Common.{List, [], ap, codes, sym, ℕ, ◌++◌, ◌≡◌, ◌∙◌, ◌∷◌}
+use Rattle.std.proofs.lemmas.List.{append-nil, append_assoc}
+use Rattle.std.proofs.lemmas.Grind.{flat_map-append}
+use Rattle.std.specs.List.{flat_map, join_with_byte}
+use Rattle.std.specs.Prelude.{decimal, map, unwrap_or}
+
+-- The first word, and each further one behind the byte.
+pub join_with_byte-cons : (c : ℕ) (w : List ℕ) (ws : List (List ℕ)) → join_with_byte c (w ∷ ws) ≡ w ++ flat_map (λ v. c ∷ v) ws
+join_with_byte-cons c w [] = sym (append-nil w)
+join_with_byte-cons c w (v ∷ vs) = ap (λ (x : List ℕ). w ++ c ∷ x) (join_with_byte-cons c v vs)
+
+-- Numbers with a comma between them.
+pub listed : (k : ℕ) (ks : List ℕ) → join_with_byte 44 (map decimal (k ∷ ks)) ≡ decimal k ++ flat_map (λ n. 44 ∷ decimal n) ks
+listed k [] = sym (append-nil (decimal k))
+listed k (n ∷ ns) = ap (λ (x : List ℕ). decimal k ++ 44 ∷ x) (listed n ns)
+
+-- Bits behind a space, of which there are some.
+bits_behind : (k : ℕ) (ks : List ℕ) → flat_map (λ w. 32 ∷ w) (bits_words (k ∷ ks)) ≡ codes " bits " ++ (decimal k ++ flat_map (λ n. 44 ∷ decimal n) ks)
+bits_behind k ks = ap (λ (x : List ℕ). codes " bits " ++ x) (append-nil (join_with_byte 44 (map decimal (k ∷ ks))) ∙ listed k ks)
+
+-- One text after another: the word, the first bit, the others.
+pub pushed_bits : (bits rest : List ℕ) (first : ℕ) (old a b new : List ℕ) → bits ≡ first ∷ rest → a ≡ old ++ codes " bits " → b ≡ a ++ decimal first
+    → new ≡ b ++ flat_map (λ n. 44 ∷ decimal n) rest → new ≡ old ++ flat_map (λ w. 32 ∷ w) (bits_words bits)
+pushed_bits bits rest first old a b new is word one others =
+    let behind = flat_map (λ n. 44 ∷ decimal n) rest in
+    others ∙ rw (one, word, is)
+    (append_assoc (old ++ codes " bits ") (decimal first) behind ∙ append_assoc old (codes " bits ") (decimal first ++ behind)
+    ∙ ap (λ (x : List ℕ). old ++ x) (sym (bits_behind first rest)))
+
+-- Words before and behind one word, and further ones.
+spaced_around : (w : List ℕ) (ws : List (List ℕ)) (host : List ℕ) (v : List ℕ) (vs bits : List (List ℕ)) (front back a b line : List ℕ)
+    → front ≡ spaced (w ∷ ws) → back ≡ spaced (v ∷ vs) → a ≡ front ++ 32 ∷ host → b ≡ a ++ 32 ∷ back → line ≡ b ++ flat_map (λ u. 32 ∷ u) bits
+    → line ≡ spaced ((w ∷ ws) ++ host ∷ ((v ∷ vs) ++ bits))
+spaced_around w ws host v vs bits front back a b line is_front is_back one two three =
+    let behind = λ (u : List ℕ). 32 ∷ u in
+    three ∙ rw (two, one, is_front, is_back)
+    (simp (append_assoc, join_with_byte-cons, flat_map-append behind ws (host ∷ ((v ∷ vs) ++ bits)), flat_map-append behind vs bits))
+
+-- A delta record's line, one part after another.
+pub delta_line : (d : DeltaRec) (front host back bits a b line : List ℕ) → front ≡ spaced (delta_front d) → host ≡ dash_for_none (unwrap_or d.host [])
+    → back ≡ spaced (delta_back d) → bits ≡ bits_of d.bitmap → a ≡ front ++ 32 ∷ host → b ≡ a ++ 32 ∷ back
+    → line ≡ b ++ flat_map (λ u. 32 ∷ u) (bits_words bits) → line ≡ record_text (DeltaIs d)
+delta_line d front host back bits a b line is_front is_host is_back is_bits one two three =
+    rw (← is_host, ← is_bits)
+    (spaced_around (codes "delta") (decimal d.id ∷ codes "gen" ∷ decimal d.generation ∷ delta_word d.state ∷ []) host (codes "seq")
+    (decimal d.seq ∷ codes "stamp" ∷ decimal d.stamp ∷ []) (bits_words bits) front back a b line is_front is_back one two three)

@@ -1,0 +1,80 @@
+//! The leader's bytes: who holds a resource, or held it last.
+
+ghost use Rattle.sha2.specs.Sha256.{sha256};
+ghost use Rattle.std.specs.Prelude.{length, take, ◌+◌, ◌≡◌, ◌≤◌};
+ghost use Rattle.sl_sector.specs.Records.{IsLeader};
+ghost use Rattle.sl_sector.specs.Spelling.{IsSectorSize, field_bytes, leader_of, leader_rules, spelling, under_rules};
+ghost use Rattle.sl_sector.specs.declared.sector.Rec.TheVariants.{LeaderIs};
+
+use crate::fields::{
+    agree, implies, is_host, is_number, name_at, put_name, put_u32, put_u64, rule, rules, u32_at,
+    u64_at,
+};
+use crate::frame::{begin, finish};
+use crate::sector::{Bad, Leader};
+
+/// The record's number.
+pub(crate) const LEADER_KIND: u32 = 2;
+
+/// Where the fields end.
+pub(crate) const LEADER_END: usize = 132;
+
+impl Leader {
+    /// Writes the sector that spells this leader over the whole buffer, of 512 to 4096 bytes.
+    #[tactic(auto, unfolding(crate::specs::Spelling::spelling, crate::specs::Spelling::checked_part))]
+    pub fn encode_into(&self, buffer: &mut [u8])
+        requires size { IsSectorSize (length buffer.old) }
+        requires rules { IsLeader self.now }
+        ensures { buffer.new ≡ spelling sha256 (length buffer.new) (LeaderIs self.now) }
+    {
+        self.put_fields(buffer);
+        finish(buffer, LEADER_END);
+    }
+
+    /// Writes the magic, the number and the fields.
+    #[tactic(auto, unfolding(crate::specs::Spelling::field_bytes))]
+    fn put_fields(&self, buffer: &mut [u8])
+        requires size { 512 ≤ length buffer.old }
+        requires rules { IsLeader self.now }
+        ensures { take 132 buffer.new ≡ field_bytes (LeaderIs self.now) }
+    {
+        begin(buffer, LEADER_KIND);
+        put_u32(buffer, 8, u32::from(self.held));
+        put_u32(buffer, 12, self.num_hosts);
+        put_u64(buffer, 16, self.lver);
+        put_u64(buffer, 24, self.generation);
+        put_u32(buffer, 32, self.owner);
+        put_name(buffer, 36, self.lockspace.as_slice());
+        put_name(buffer, 84, self.resource.as_slice());
+    }
+}
+
+/// The leader that the fields give, or the first field that breaks a rule.
+#[tactic(auto, unfolding(crate::specs::Spelling::leader_rules))]
+pub(crate) fn leader_at(sector: &[u8]) -> Result<Leader, Bad>
+    requires { 512 ≤ length sector.now }
+    ensures { result ≡ under_rules (leader_rules sector.now) (leader_of sector.now) }
+{
+    let state = u32_at(sector, 8);
+    let num_hosts = u32_at(sector, 12);
+    let lver = u64_at(sector, 16);
+    let generation = u64_at(sector, 24);
+    let owner = u32_at(sector, 32);
+    let unused = lver == 0;
+    rule(8, state <= 1)?;
+    rule(12, is_host(num_hosts))?;
+    rules(16, is_number(lver), implies(unused, state == 0))?;
+    rules(24, is_number(generation), agree(unused, generation == 0))?;
+    rules(32, owner <= num_hosts, agree(unused, owner == 0))?;
+    let lockspace = name_at(sector, 36)?;
+    let resource = name_at(sector, 84)?;
+    Ok(Leader {
+        held: state == 1,
+        num_hosts,
+        lver,
+        generation,
+        owner,
+        lockspace,
+        resource,
+    })
+}
