@@ -1,5 +1,4 @@
 -- The times of a run, in whole milliseconds.
-use Rattle.sl_words.specs.Words.{least}
 use Rattle.std.specs.Prelude.{min, ℕ, ◌%◌, ◌*◌, ◌+◌, ◌-◌, ◌/◌, ◌≤◌}
 
 -- The four numbers that all times are made of: milliseconds, and `rho` per mille of drift.
@@ -12,6 +11,10 @@ pub record TimingNumbers : Type 0 where
   pub land : ℕ
   -- by how much a clock may be fast or slow
   pub rho : ℕ
+
+-- The four numbers, in the order in which they are given.
+abbrev pub numbers : ℕ → ℕ → ℕ → ℕ → TimingNumbers
+numbers io fire land rho = record { io = io; fire = fire; land = land; rho = rho }
 
 -- A quotient rounded up.
 abbrev pub ceil : ℕ → ℕ → ℕ

@@ -1,0 +1,14 @@
+-- The bytes so far are those that the source gave.
+use Rattle.std.proofs.Common.{vec_len, ◌+◌, ◌-◌, ◌≤◌}
+use Rattle.std.specs.Io.KnownBytes.{Consumes}
+use Rattle.sl_io.proofs.reading.read_all.Given as goal
+
+abbrev pub invariant-loop-buffer : goal.invariant-loop-buffer
+invariant-loop-buffer g l = record {
+  consumed : Consumes (g.S.Source.left l.fn.source) (g.S.Source.left l.source) l.bytes.items;
+  within : vec_len l.bytes ≤ l.limit + 1;
+  later : g.S.Source.faults l.fn.source ≤ g.S.Source.faults l.source;
+}
+
+abbrev pub decreases-loop-buffer : goal.decreases-loop-buffer
+decreases-loop-buffer g l = l.limit + 1 - vec_len l.bytes
