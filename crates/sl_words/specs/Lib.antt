@@ -3,3 +3,4 @@ pub mod Orders
 pub mod Results
 pub mod Causes
 pub mod Bounds
+pub mod Tables
