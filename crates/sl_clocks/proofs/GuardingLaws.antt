@@ -8,7 +8,7 @@ use Rattle.sl_time.specs.Times.{IsTiming, TimingNumbers}
 use Rattle.sl_words.proofs.CaseLaws.{false_is_true, not_both, true_is_false, true_or_false}
 use Rattle.std.proofs.Common.{List, arith, false, inl, inr, refl, subst, sym, true, [], ◌+◌, ◌∷◌, ◌≡◌, ◌≤◌, ◌⊎◌}
 
--- how a session whose machine was reset stood when it was
+-- How a session whose machine was reset stood when it was.
 record BeforeReset (t : TimingNumbers) (w : Guarded) : Type 0 where
   kept : Point
   stood : IsConnected t w.renewed kept w.reset_at

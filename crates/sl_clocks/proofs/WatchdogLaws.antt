@@ -134,7 +134,7 @@ small = record { io = 1; fire = 0; land = 0; rho = 0 }
 is_small : IsTiming small
 is_small = record { io = (omega arith, omega arith); fire = omega arith; land = omega arith; rho = omega arith }
 
--- a point of a clock that is exact
+-- A point of a clock that is exact.
 abbrev exact : ℕ → Point
 exact n = record { moment = n; clock = 1000 * n }
 

@@ -24,9 +24,17 @@ pub true_is_false : true ≡ false → ⊥
 true_is_false e = absurd cc
 
 -- What is there is one value.
-pub one_value : {A : Type 0} → (o : Option A) → (a b : A) → o ≡ Some a → o ≡ Some b → a ≡ b
-one_value o a b p q = cc
+pub one_value : {A : Type 0} → (a b : A) → (o : Option A) → o ≡ Some a → o ≡ Some b → a ≡ b
+one_value a b o p q = cc
 
--- .. and doesn't lack.
-pub no_value : {A : Type 0} → (o : Option A) → (a : A) → o ≡ Some a → o ≡ None → ⊥
-no_value o a p q = absurd cc
+-- .. and is there.
+pub no_value : {A : Type 0} → (a : A) → (o : Option A) → o ≡ Some a → o ≡ None → ⊥
+no_value a o p q = absurd cc
+
+-- What is said to be one value, is.
+pub some_value : {A : Type 0} → (a b : A) → Some a ≡ Some b → a ≡ b
+some_value a b e = cc
+
+-- What is absent is no value.
+pub none_some : {A : Type 0} → (a : A) → None ≡ Some a → ⊥
+none_some a e = absurd cc
