@@ -21,5 +21,6 @@ pub record Precedes (rho : ℕ) (p q : Point) : Type 0 where
 -- machine comes to are related, however often its clock changes its speed.
 pub record ClocksDrift : Type 0 where
   pub same : (rho : ℕ) (p : Point) → Precedes rho p p
-  pub pass : (rho d growth : ℕ) (p : Point) → Drifts rho d growth → Precedes rho p (record { moment = p.moment + d; clock = p.clock + growth })
+  pub pass : (rho d growth : ℕ) (p : Point) → Drifts rho d growth
+      → Precedes rho p (record { moment = p.moment + d; clock = p.clock + growth })
   pub both : (rho : ℕ) (p q r : Point) → Precedes rho p q → Precedes rho q r → Precedes rho p r

@@ -14,7 +14,8 @@ VerifyWaits = (t : TimingNumbers) (answered submitted : Point) (landed sampled :
 -- it, is sampled more than `hold` and `gone` after the first one was.
 abbrev pub WatchWaits : Type 0
 WatchWaits = (t : TimingNumbers) (answered last : Point) (first deciding : ℕ) → Precedes t.rho answered last
-    → reading answered + take_over t ≤ reading last → first ≤ answered.moment → last.moment ≤ deciding → first + (hold t + gone t) < deciding
+    → reading answered + take_over t ≤ reading last → first ≤ answered.moment → last.moment ≤ deciding
+    → first + (hold t + gone t) < deciding
 
 -- A silence spans at least `dead`, from the answer of its first sighting to the submission of its last: the last was sampled more than
 -- `gone` after the first, and so after the landing that both show.

@@ -1,7 +1,7 @@
 //! Clocks that drift, a session under its machine's watchdog, and what the waits of a joining and of a watch give.
 //!
-//! There is no code here: each function is a law, which its clause states and the check proves. They need no world. A session stands here as a few
-//! points of one machine's clock: the world has to supply those, and the order in which they come.
+//! There is no code here, and no world: each function is a law, which its clause states and the check proves. A session stands here as
+//! a few points of one machine's clock; the world has to supply those, and the order in which they come.
 //!
 //! - **Drift.** Each two points of a clock are related by `Precedes`: so few readings take little time, and many take much.
 //! - **Watchdog.** While a session can act, its last keepalive found its connection unexpired. So it acts for less than `gone` after the

@@ -26,9 +26,11 @@ OverIsFinal = (r : Terms) (w v : State) → AreLongEnough r → Reached r w → 
 -- what a session knows of its own id.
 pub data Evidence (r : Terms) (w : State) (generation : ℕ) : Type 0 where
   -- a read shows a greater generation
-  Newer : (last : ℕ) (content : Content) → IsLast w last → shown w last ≡ Some content → generation < content.generation → Evidence r w generation
+  Newer : (last : ℕ) (content : Content) → IsLast w last → shown w last ≡ Some content → generation < content.generation
+      → Evidence r w generation
   -- a read shows the generation free
-  Freed : (last : ℕ) (content : Content) → IsLast w last → shown w last ≡ Some content → content.kind ≡ Free → content.generation ≡ generation
+  Freed : (last : ℕ) (content : Content) → IsLast w last → shown w last ≡ Some content → content.kind ≡ Free
+      → content.generation ≡ generation
       → Evidence r w generation
   -- a read shows a live record of the generation, and a read long enough before showed the same
   Silent : (u : State) (first last : ℕ) (content : Content) → Reached r u → Later r u w → IsLast u first → shown u first ≡ Some content

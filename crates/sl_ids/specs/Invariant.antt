@@ -14,7 +14,8 @@ pub record LandingsInOrder (now count : ℕ) (land : ℕ → Landing) : Type 0 w
   pub some : 0 < count
   pub past : (k : ℕ) → k < count → (land k).moment ≤ now
   pub rising : (k l : ℕ) → k ≤ l → l < count → (land k).moment ≤ (land l).moment
-  pub generations : (k l : ℕ) → k < l → l < count → (x y : Content) → (land k).shown ≡ Some x → (land l).shown ≡ Some y → x.generation ≤ y.generation
+  pub generations : (k l : ℕ) → k < l → l < count → (x y : Content) → (land k).shown ≡ Some x → (land l).shown ≡ Some y
+      → x.generation ≤ y.generation
   pub distinct : (k l : ℕ) → k < l → l < count → (x : Content) → (land k).shown ≡ Some x → (land l).shown ≡ Some x → ⊥
   -- nobody wrote the record at first, if it is free and was never held
   pub nobody : (k : ℕ) → k < count → (land k).writer ≡ None

@@ -46,12 +46,14 @@ pub record IsFresh (r : Terms) (w : State) (k : ℕ) (x : Content) : Type 0 wher
   pub any : w.now + 1 < moment w k + (r.hold + r.gone)
 
 abbrev pub SectorIsFresh : Type 0
-SectorIsFresh = (r : Terms) (w : State) → Invariant r w → IsBounded r w → (s : SessionId) → (w.session s).verified ≡ true → (w.session s).over ≡ false
+SectorIsFresh = (r : Terms) (w : State) → Invariant r w → IsBounded r w → (s : SessionId) → (w.session s).verified ≡ true
+    → (w.session s).over ≡ false
     → (k : ℕ) (x : Content) → IsLast w k → shown w k ≡ Some x → IsFresh r w k x
 
 -- Of two verified sessions one is over.
 abbrev pub OneActs : Type 0
-OneActs = (r : Terms) (w : State) → Invariant r w → (s t : SessionId) → (s ≡ t → ⊥) → (w.session s).verified ≡ true → (w.session t).verified ≡ true
+OneActs = (r : Terms) (w : State) → Invariant r w → (s t : SessionId) → (s ≡ t → ⊥) → (w.session s).verified ≡ true
+    → (w.session t).verified ≡ true
     → ((w.session s).over ≡ true) ⊎ ((w.session t).over ≡ true)
 
 -- The one that claimed first is over, and has the smaller generation.

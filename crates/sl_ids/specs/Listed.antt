@@ -13,6 +13,7 @@ state_of now landings sessions =
 -- One more landing at the end of the list is a landing; the same list is the same landings.
 pub record ListsLand : Type 0 where
   pub lands : (now later : ℕ) (s : SessionId) (spelled : Option Content) (landings : List Landing) (before after : SessionId → Session)
-      → Lands (state_of now landings before) (state_of later (landings ++ record { moment = now; writer = Some s; shown = spelled } ∷ []) after) s spelled
+      → Lands (state_of now landings before)
+      (state_of later (landings ++ record { moment = now; writer = Some s; shown = spelled } ∷ []) after) s spelled
   pub same : (now later : ℕ) (landings : List Landing) (before after : SessionId → Session)
       → SameLandings (state_of now landings before) (state_of later landings after)

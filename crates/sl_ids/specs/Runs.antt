@@ -34,7 +34,8 @@ pub record HasHolder (w : State) (holder : SessionId) (content : Content) : Type
 
 -- What the record at first may be: free and never held, or that of a session that has joined.
 pub data StartsWith (w : State) (content : Content) : Type 0 where
-  Starts_free : content.kind ≡ Free → content.generation ≡ 0 → (w.landing 0).writer ≡ None → ((j : SessionId) → IsNew (w.session j)) → StartsWith w content
+  Starts_free : content.kind ≡ Free → content.generation ≡ 0 → (w.landing 0).writer ≡ None → ((j : SessionId) → IsNew (w.session j))
+      → StartsWith w content
   Starts_held : (holder : SessionId) → HasHolder w holder content → StartsWith w content
 
 -- The start of a run: one whole record stands in the sector.

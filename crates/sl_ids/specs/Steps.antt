@@ -36,7 +36,8 @@ pub record Pass (w v : State) : Type 0 where
 -- Why an id whose sector shows this may be claimed: it is free; or the first read of the watch showed it too, long enough ago.
 pub data IsWatched (r : Terms) (w : State) (content : Content) : Type 0 where
   Was_free : content.kind ≡ Free → IsWatched r w content
-  Was_unchanged : (first sampled : ℕ) → first < w.count → shown w first ≡ Some content → moment w first ≤ sampled → sampled + r.watch < w.now
+  Was_unchanged : (first sampled : ℕ) → first < w.count → shown w first ≡ Some content → moment w first ≤ sampled
+      → sampled + r.watch < w.now
       → IsWatched r w content
 
 abbrev pub after_deciding : ℕ → List ℕ → ℕ → ℕ → Session → Session

@@ -14,8 +14,8 @@ pub record Terms : Type 0 where
   -- a live record is silent when it was seen more than this ago
   pub silence : ℕ
 
--- The waits are long enough for what a session may do meanwhile. (They may be one or two shorter than one would think, since each of the
--- bounds is strict. One less than this, and it fails: see `Examples`.)
+-- The waits are long enough for what a session may do meanwhile. (Each bound is strict on both sides, which spares one or two
+-- milliseconds. One less than this, and it fails: `Examples` has a run for each of the three.)
 pub record AreLongEnough (r : Terms) : Type 0 where
   pub some : 0 < r.hold
   -- the writer of a claim may verify it until `hold` after, and act for `gone` from then on

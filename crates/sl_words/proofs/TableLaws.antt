@@ -1,7 +1,9 @@
 -- Functions that are changed at one key, and functions that a list of rows gives.
 use Rattle.std.proofs.Common.{Bool, List, cond, false, refl, subst, sym, true, [], ℕ, ◌==◌, ◌||◌, ◌∷◌, ◌≡◌}
 use Rattle.std.proofs.lemmas.Bool.{eqb-true}
+use Rattle.sl_words.proofs.WordLaws.{and_true}
 use Rattle.sl_words.specs.Tables.{Row, has_row}
+use Rattle.std.specs.List.{list_all}
 
 -- The function with another value at one key, by a test that tells whether two keys are one.
 abbrev pub put : {K X : Type 0} → (K → K → Bool) → (K → X) → K → X → K → X
@@ -28,4 +30,14 @@ each_row P (r ∷ rs) all e h =
     elim (e == r.step) as (λ t. (e == r.step) ≡ t → (t || has_row rs e) ≡ true → P e) [
       | true ↦ λ t is. subst P (sym (eqb-true e r.step t)) all.0
       | false ↦ λ t is. each_row P rs all.1 e is
+    ] refl h
+
+-- A test that each row's number passes is passed wherever there is a row; on rows that are written out it computes.
+pub each_tested : {A : Type 0} → (p : ℕ → Bool) → (rs : List (Row A)) → list_all (λ r. p r.step) rs ≡ true → (e : ℕ) → has_row rs e ≡ true → p e ≡ true
+each_tested p [] all e h = absurd cc
+each_tested p (r ∷ rs) all e h =
+    let both = and_true (p r.step) (list_all (λ q. p q.step) rs) all in
+    elim (e == r.step) as (λ t. (e == r.step) ≡ t → (t || has_row rs e) ≡ true → p e ≡ true) [
+      | true ↦ λ t is. subst (λ (n : ℕ). p n ≡ true) (sym (eqb-true e r.step t)) both.0
+      | false ↦ λ t is. each_tested p rs both.1 e is
     ] refl h
