@@ -21,14 +21,16 @@ pub record Grants : Type 0 where
   pub shares : ℕ → ℕ → Bool
 
 -- The holder won the instance and did not free it before; and it looked at the blocks, and saw no mark of another host but of sessions
--- known to be over by the grant. A torn block may hide a mark.
+-- known to be over by the grant.
 pub record ExclusiveGranted (h : History) (x : Grants) (g : ℕ) : Type 0 where
   pub ballot : BallotEnded h (x.holder g) (x.instance g) (x.holder g) g
   pub reads : h.reads (x.look g) ≡ true
   pub answer : h.answer (x.look g) ≤ g
+  -- a torn block may hide a mark
   pub whole : (k : ℕ) → (k ≡ (x.holder g).id → ⊥) → h.shows (x.look g) k ≡ true
   pub alone : (k : ℕ) → (k ≡ (x.holder g).id → ⊥) → (h.block (h.shown (x.look g) k)).shared ≡ true
       → (t : ℕ) × (t ≤ g) × (h.evidence (x.holder g) (record { id = k; generation = (h.block (h.shown (x.look g) k)).mode_gen }) t ≡ true)
+  -- whoever saw the free may have begun the next instance
   pub unfreed : LeaderSubmitted h (x.instance g) (x.holder g) false g → ⊥
 
 -- The session won the instance, and its mark was answered ok; from the mark on, as long as it holds shared, its blocks are marks.
@@ -38,6 +40,7 @@ pub record SharedGranted (h : History) (x : Grants) (g : ℕ) : Type 0 where
   pub writer : h.writer (x.mark g) ≡ x.sharer g
   pub ack : ℕ
   pub acked : h.ok (x.mark g) ≡ Some ack
+  -- a block without the mark would hide the holding
   pub mode : (t e : ℕ) → x.shares g t ≡ true → x.mark g ≤ e → e ≤ t → h.writes e ≡ true → h.writer e ≡ x.sharer g
       → ((h.block e).shared ≡ true) × ((h.block e).mode_gen ≡ (x.sharer g).generation)
 

@@ -27,29 +27,32 @@ pub record Leader : Type 0 where
   pub owner : Owner
   pub held : Bool
 
--- All that happened.
+-- All that happened on the resource's area.
 pub record History : Type 0 where
-  -- a block was submitted at this step: by whom, what it says, and the step of the own block that it was made from
+  -- the entry of this step submits a block: its session, what it says, and the step of the session's own block, of which it was made
   pub writes : ℕ → Bool
   pub writer : ℕ → Owner
   pub block : ℕ → Block
   pub base : ℕ → ℕ
-  -- the step at which the write of this step was answered ok, if it was
+  -- the step of the entry that takes the answer ok to this write, if one does
   pub ok : ℕ → Option ℕ
-  -- a read of all blocks was submitted at this step, and was answered: by whom, and the step of the answer
+  -- the entry of this step submits a read of all blocks, for a session of the resource's lockspace, which is answered ok: the session,
+  -- and the step of the entry that takes the answer
   pub reads : ℕ → Bool
   pub reader : ℕ → Owner
   pub answer : ℕ → ℕ
-  -- it shows a whole block of this host, and not a torn one; and the step at which the block was submitted. (A number that is no
-  -- host's is shown the block of step 0.)
+  -- what the read shows of this host is a block, and was not torn when it was sampled; and the step at which that block was submitted.
+  -- (The reader's own block, where it is torn, may count as the one that the session last submitted. A number that is no host's is shown
+  -- the block of step 0.)
   pub shows : ℕ → ℕ → Bool
   pub shown : ℕ → ℕ → ℕ
-  -- a leader was submitted at this step, and what it says
+  -- the entry of this step submits a leader, and what it says
   pub leads : ℕ → Bool
   pub leader : ℕ → Leader
-  -- the step at which a session joined; whether it is over after a step; whether a session has evidence against another after a step
+  -- of the lockspace's sessions: the step at which this one joined, if it did; whether it is over after a step; and whether one of them
+  -- has had evidence against another by a step
   pub joined : Owner → Option ℕ
   pub over : Owner → ℕ → Bool
   pub evidence : Owner → Owner → ℕ → Bool
-  -- the host whose ballots have this number
+  -- the host whose ballots have this number: the one that has its remainder
   pub host_of : ℕ → ℕ

@@ -9,9 +9,11 @@ pub record SessionsInOrder (h : History) : Type 0 where
   -- a session writes blocks, and submits reads that count, from when it joined
   pub writers : (e : ℕ) → h.writes e ≡ true → (j : ℕ) × (h.joined (h.writer e) ≡ Some j) × (j ≤ e)
   pub readers : (r : ℕ) → h.reads r ≡ true → (j : ℕ) × (h.joined (h.reader r) ≡ Some j) × (j ≤ r)
-  -- one session of an id joins at a step
+  -- one session of an id joins at a step: an entry takes one answer
   pub once : (s u : Owner) (j : ℕ) → h.joined s ≡ Some j → h.joined u ≡ Some j → s.id ≡ u.id → s ≡ u
+  -- over is final
   pub final : (s : Owner) (t u : ℕ) → h.over s t ≡ true → t ≤ u → h.over s u ≡ true
+  -- a session that is over has ended, has written its free, or was reset: so it submits nothing
   pub silent : (s : Owner) (t e : ℕ) → h.over s t ≡ true → h.writes e ≡ true → h.writer e ≡ s → e < t
   -- that an over session has no write in flight means that none of its writes is answered any more, either
   pub settled : (s : Owner) (t e a : ℕ) → h.over s t ≡ true → h.writes e ≡ true → h.writer e ≡ s → h.ok e ≡ Some a → a ≤ t

@@ -10,15 +10,18 @@ use Rattle.std.specs.Prelude.{Bool, List, false, true, [], ℕ, ◌+◌, ◌<◌
 
 -- What this argument sees of a world: one session and its machine.
 pub record Guarded : Type 0 where
-  -- the machine's clock now, and at the test on which its last keepalive rests
+  -- the moment, and the machine's clock
   pub now : Point
+  -- those of the test on which the machine's last keepalive rests, or of its last start
   pub kept : Point
-  -- the point from which the expiry of the session's connection counts, and whether the connection stands
+  -- those of the entry that last registered the session's connection, and once it has joined, of the entry that submitted the last
+  -- renewal which was answered ok outside recovery
   pub renewed : Point
+  -- the watchdog daemon has the connection of the session's lockspace, which the session registered
   pub connected : Bool
-  -- a write of the session is in flight: unanswered, and after its daemon's end not landed, torn or dropped either
+  -- a write among the session's calls is in flight: unanswered, and after its daemon's end not landed, torn or dropped either
   pub in_flight : Bool
-  -- the machine was reset since the session began, and when
+  -- the machine was reset since the session's daemon began, and the moment of the first reset
   pub was_reset : Bool
   pub reset_at : ℕ
 
@@ -36,20 +39,23 @@ pub record MayRenew (t : TimingNumbers) (w : Guarded) (next : Point) : Type 0 wh
   pub past : Precedes t.rho next w.now
   pub order : Precedes t.rho w.kept next ⊎ Precedes t.rho next w.kept
 
--- What may happen.
+-- What may happen: in the world an event, or a part of one entry of the session's daemon. What concerns none of these fields is no step.
 pub data Step (t : TimingNumbers) (w v : Guarded) : Type 0 where
+  -- time passes
   Passes : (next : Point) → MayPass t w next → v ≡ record w { now = next } → Step t w v
   -- a test that finds no connection expired is a keepalive; so is a start of the machine, which has no connection then
   Keeps : (w.connected ≡ true → reading w.now < reading w.renewed + fail t) → v ≡ record w { kept = w.now } → Step t w v
+  -- an entry registers the connection, with an expiry of `fail` after its reading
   Registers : w.was_reset ≡ false → v ≡ record w { renewed = w.now; connected = true } → Step t w v
+  -- an entry takes the answer ok of a renewal, and moves the expiry on
   Renews : (next : Point) → MayRenew t w next → v ≡ record w { renewed = next } → Step t w v
-  -- the connection is removed only with no write in flight
+  -- an entry removes the connection, which it does only with no write of the session unanswered
   Unregisters : w.in_flight ≡ false → v ≡ record w { connected = false } → Step t w v
-  -- a write is submitted only while the connection stands
+  -- an entry submits a write, which it does only while the connection stands
   Submits : w.was_reset ≡ false → w.connected ≡ true → v ≡ record w { in_flight = true } → Step t w v
   -- the last write in flight is answered, or after its daemon's end has landed, was torn or was dropped
   Settles : v ≡ record w { in_flight = false } → Step t w v
-  -- the machine's connections are gone, its writes are not
+  -- the machine is reset: its connections are gone, its writes are not
   Resets : w.was_reset ≡ false → v ≡ record w { connected = false; was_reset = true; reset_at = w.now.moment } → Step t w v
 
 -- These states follow one another, and the last is v.

@@ -2,7 +2,8 @@
 use Rattle.sl_time.specs.Times.{Drifts, reading_of}
 use Rattle.std.specs.Prelude.{ℕ, ◌+◌, ◌-◌, ◌≤◌}
 
--- A moment of real time, and what the clock of a machine says then, in thousandths of a millisecond.
+-- A moment of real time, in milliseconds, and what the clock of a machine says then, in thousandths. In the world it is the stamp of an
+-- entry, of a test or of now, without its step.
 pub record Point : Type 0 where
   pub moment : ℕ
   pub clock : ℕ
@@ -11,7 +12,8 @@ pub record Point : Type 0 where
 abbrev pub reading : Point → ℕ
 reading p = reading_of p.clock
 
--- Two points of one machine, the first not the later one. Between them its clock is neither too slow nor too fast.
+-- Two points of one machine, the first not the later one by the steps of the run. Between them its clock is neither too slow nor too
+-- fast. (A machine's clock runs on while it is down.)
 pub record Precedes (rho : ℕ) (p q : Point) : Type 0 where
   pub later : p.moment ≤ q.moment
   pub forward : p.clock ≤ q.clock

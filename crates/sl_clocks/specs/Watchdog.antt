@@ -13,7 +13,8 @@ pub record FoundUnexpired (t : TimingNumbers) (renewed kept : Point) : Type 0 wh
   pub order : Precedes t.rho kept renewed ⊎ Precedes t.rho renewed kept
   pub unexpired : reading kept < reading renewed + fail t
 
--- At this moment the session's connection stands and its machine is up: the device has not fired yet.
+-- At this moment the session's connection stands and its machine is up: the device has not fired yet. (That a connection stands is a
+-- matter of the session's trace; that the machine would be reset else is a promise of the device.)
 pub record IsConnected (t : TimingNumbers) (renewed kept : Point) (now : ℕ) : Type 0 where
   pub found : FoundUnexpired t renewed kept
   pub fires : now ≤ kept.moment + t.fire

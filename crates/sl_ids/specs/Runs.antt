@@ -5,9 +5,11 @@ use Rattle.sl_ids.specs.Terms.{Terms}
 use Rattle.std.specs.Prelude.{List, None, Some, false, true, [], ◌+◌, ◌<◌, ◌∷◌, ◌≡◌, ◌≤◌}
 
 -- What the watchdogs promise at each moment: whoever may still act has registered, or was renewed, less than `gone` ago. This is all
--- that the argument knows of watchdogs.
+-- that the argument knows of watchdogs, and of what keeps a session from being over.
 pub record IsBounded (r : Terms) (w : State) : Type 0 where
+  -- while a claim may still land, its session is connected, or the claim is in flight
   pub pending : (s : SessionId) → (w.session s).pending ≡ true → w.now < (w.session s).registered + r.gone
+  -- so is a verified session that is not over: connected, or with a write in flight
   pub acting : (s : SessionId) → (w.session s).verified ≡ true → (w.session s).over ≡ false → w.now < (w.session s).renewed + r.gone
 
 -- ---- the start

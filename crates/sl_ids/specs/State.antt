@@ -1,10 +1,12 @@
 -- One id of one lockspace, as far as its safety goes: what landed in its delta sector, and where each session of the id stands.
 --
 -- The landings of a sector are numbered from 0, for what stood there at first. Nothing is said of the disk but this list: a read shows
--- the newest landing at the moment at which it is sampled, and a torn write leaves a landing that spells nothing.
+-- the newest landing at the moment at which it is sampled, and a torn write leaves a landing that spells nothing. Nothing is said of
+-- calls, entries and connections but the flags of a session: which of them rise, and when, is what `Steps` asks of the world.
 use Rattle.std.specs.Prelude.{Bool, List, Option, false, ℕ, ◌+◌, ◌≡◌}
 
--- A session by its machine, the place of its daemon among the machine's, and its own among the daemon's.
+-- A session by its machine, the place of its daemon among the machine's, and its own among the daemon's. It is the name that a run has
+-- for it: so no sessions need be numbered.
 pub record SessionId : Type 0 where
   pub machine : ℕ
   pub daemon : ℕ
@@ -37,7 +39,7 @@ pub record Session : Type 0 where
   pub begun : Bool
   -- it has sampled its deciding read
   pub decided : Bool
-  -- .. and its claim may still land
+  -- .. and its claim may still land: its joining is not refused, its daemon runs and the claim isn't submitted; or the claim is in flight
   pub pending : Bool
   -- its claim has landed whole
   pub landed : Bool
@@ -45,7 +47,7 @@ pub record Session : Type 0 where
   pub verified : Bool
   -- its first renewal was answered ok, or it was joined at first
   pub joined : Bool
-  -- its free has landed; or it has ended or its machine was reset, and no write of it is in flight
+  -- its free has landed; or its joining was refused, it has ended or its machine was reset, and no write of it is in flight
   pub over : Bool
   -- the landing that its deciding read showed, and the landing of its claim; 0 and 0 where it was joined at first
   pub base : ℕ
@@ -61,11 +63,14 @@ pub record Session : Type 0 where
   -- and once it has joined the submission of its last renewal that was answered ok
   pub renewed : ℕ
 
--- The id: `count` landings, and a session for each name; most of them have done nothing.
+-- The id.
 pub record State : Type 0 where
+  -- the moment
   pub now : ℕ
+  -- how many landings there are, and each of them: the history of one place of one disk
   pub count : ℕ
   pub landing : ℕ → Landing
+  -- each session of the id; any other name's is one that has done nothing
   pub session : SessionId → Session
 
 -- What the landing k spells, and when it came.

@@ -25,7 +25,7 @@ pub record ChangesOnly (w v : State) (s : SessionId) (next : Session) : Type 0 w
 
 -- ---- time
 
--- Time passes.
+-- Time passes. (What else the world does to no session and no landing of the id is no step.)
 pub record Pass (w v : State) : Type 0 where
   pub later : w.now ≤ v.now
   pub same : SameLandings w v
@@ -46,8 +46,11 @@ after_deciding last name generation registered s =
 
 -- The session s samples its deciding read, which shows what it watched: from now on its claim may land.
 pub record Decide (r : Terms) (w v : State) (s : SessionId) : Type 0 where
+  -- a session has one deciding read
   pub first : (w.session s).begun ≡ false
+  -- its joining was not refused
   pub not_over : (w.session s).over ≡ false
+  -- the read shows the newest landing, which spells a record
   pub last : ℕ
   pub is_last : IsLast w last
   pub content : Content
@@ -81,9 +84,10 @@ pub record TearClaim (w v : State) (s : SessionId) : Type 0 where
 abbrev pub after_claim : ℕ → ℕ → Session → Session
 after_claim index seq s = record s { pending = false; landed = true; claim = index; seq = seq }
 
--- The claim of s lands whole, with its daemon's name and its generation.
+-- The claim of s lands whole, with its daemon's name and its generation, which is one above that of its base.
 pub record LandClaim (w v : State) (s : SessionId) : Type 0 where
   pub pending : (w.session s).pending ≡ true
+  -- whatever it is
   pub seq : ℕ
   pub lands : Lands w v s (Some (record { host = Some (w.session s).name; generation = (w.session s).generation; seq = seq; kind = Claimed }))
   pub changes : ChangesOnly w v s (after_claim w.count seq (w.session s))
@@ -93,8 +97,10 @@ after_verifying registered s = record s { verified = true; renewed = registered 
 
 -- The session s samples its verify read, and it shows what its claim spells.
 pub record Verify (r : Terms) (w v : State) (s : SessionId) : Type 0 where
+  -- the claim was answered ok, so it has landed whole
   pub landed : (w.session s).landed ≡ true
   pub not_over : (w.session s).over ≡ false
+  -- the read shows the newest landing, and it spells what the claim does
   pub last : ℕ
   pub is_last : IsLast w last
   pub content : Content
@@ -165,7 +171,8 @@ pub record Renew (w v : State) (s : SessionId) : Type 0 where
 abbrev pub after_end : Session → Session
 after_end s = record s { over = true; pending = false }
 
--- The session s is over: it has ended, or its machine was reset, and no write of it is in flight.
+-- The session s is over: its joining was refused, it has ended, or its machine was reset, and no write of it is in flight. Nothing is
+-- asked here: that a session is not over while it may act is what the bounds mean.
 pub record End (w v : State) (s : SessionId) : Type 0 where
   pub same : SameLandings w v
   pub changes : ChangesOnly w v s (after_end (w.session s))
