@@ -1,6 +1,6 @@
 -- Names, paths and data: what an array holds of a text, what bytes they may have, and their order.
 use Rattle.sl_text.specs.Names.{IsHeld, is_name, is_name_byte, is_path, padded_text}
-use Rattle.sl_words.proofs.OrderLaws.{is_text_before-from_lt}
+use Rattle.sl_words.proofs.TextOrderLaws.{is_text_before-from_lt}
 use Rattle.sl_words.proofs.WordLaws.{and_true}
 use Rattle.std.proofs.Common.{Bool, List, [], arith, eqb, length, refl, take, true, ℕ, ◌-◌, ◌<◌, ◌&&◌, leb, ◌||◌, ◌≡◌, ◌∷◌}
 use Rattle.std.proofs.lemmas.Bool.{eqb-true}

@@ -4,3 +4,4 @@ pub mod Results
 pub mod Causes
 pub mod Bounds
 pub mod Laws
+pub mod Tables

@@ -1,4 +1,4 @@
-use Rattle.sl_words.proofs.OrderFacts.{greatest_is_most}
+use Rattle.sl_words.proofs.GreatestLaws.{greatest_is_most}
 use Rattle.sl_words.proofs.laws.greatest_is_most.Goals as goal
 
 pub returns : goal.returns

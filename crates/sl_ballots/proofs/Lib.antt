@@ -1,0 +1,4 @@
+pub mod BlockLaws
+pub mod AgreementLaws
+pub mod InstanceLaws
+pub mod HoldingLaws

@@ -1,0 +1,11 @@
+pub mod Rows
+pub mod GrantedHistory
+pub mod TakenOverHistory
+pub mod OverlapHistory
+pub mod TornHistory
+pub mod LowerHistory
+pub mod ZeroHistory
+pub mod TwoAliveHistory
+pub mod FalseEvidenceHistory
+pub mod FreedFirstHistory
+pub mod EarlyLookHistory

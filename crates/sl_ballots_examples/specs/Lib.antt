@@ -1,0 +1,12 @@
+pub mod Made
+pub mod Broken
+pub mod Granted
+pub mod TakenOver
+pub mod Overlap
+pub mod Torn
+pub mod Lower
+pub mod Zero
+pub mod TwoAlive
+pub mod FalseEvidence
+pub mod FreedFirst
+pub mod EarlyLook

@@ -1,0 +1,3 @@
+pub mod ClockLaws
+pub mod WatchdogLaws
+pub mod GuardingLaws

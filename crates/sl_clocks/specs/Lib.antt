@@ -1,0 +1,5 @@
+pub mod Points
+pub mod Readings
+pub mod Watchdog
+pub mod Waits
+pub mod Guarded

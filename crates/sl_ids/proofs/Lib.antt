@@ -1,0 +1,9 @@
+pub mod StateLaws
+pub mod QuietSteps
+pub mod ReadSteps
+pub mod ClaimLandings
+pub mod OwnLandings
+pub mod WholeRuns
+pub mod InterfaceLaws
+pub mod DerivedLaws
+pub mod ExampleRuns

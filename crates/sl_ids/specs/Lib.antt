@@ -1,0 +1,10 @@
+pub mod State
+pub mod Terms
+pub mod Steps
+pub mod Runs
+pub mod Interface
+pub mod Invariant
+pub mod InvariantLaws
+pub mod Guards
+pub mod Listed
+pub mod Examples
