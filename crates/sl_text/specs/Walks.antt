@@ -1,4 +1,5 @@
--- Words read one by one from the left, and forms that are followed meanwhile.
+-- Words read one by one from the left, and forms that are followed meanwhile: a form goes on behind a word that its first test
+-- takes, and the first form that goes on to the end makes the value.
 use Rattle.sl_text.specs.Forms.{Form, pieces, word_at}
 use Rattle.sl_words.specs.Results.{ensure, ◌>>=◌}
 use Rattle.sl_words.specs.Words.{first_of_list, some_is}

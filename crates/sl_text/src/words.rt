@@ -1,4 +1,14 @@
 //! The words of a line, read one by one from the left, and the parts of a word, which colons keep apart.
+//!
+//! A line is cut at each single space, so between two spaces stands an empty word, and whoever refuses a line names the
+//! column of the first word that does not fit, or one past the end where a word is missing. So a reader keeps what is left
+//! of the line and the column of the next word, and nothing of what it has passed. A method that reads a word passes it
+//! where it fits; where it does not, or where no word is left, the method gives the column, and the reader stays as it was.
+//!
+//! A line's forms are lists of tests, one for each word. A function that calls these methods one after another with `?`
+//! reads one form (`read_each`); one that chooses by `skip` reads the forms that begin with these words (`read_by`). Read
+//! from the left so, forms make what they make of the whole line, and fail at the same column
+//! (`laws::forms_are_followed_from_the_left`).
 
 ghost use Rattle.std.specs.Prelude.{if◌then◌else◌, nat_lt, option_copied, IfOk, IsTrue, ◌==◌, ◌≡◌, ◌∷◌, ◌<◌, ◌^◌};
 ghost use Rattle.std.specs.Int.{is_in_range};
@@ -47,7 +57,8 @@ fn column_past(column: usize, word: &[u8], rest: Option<&[u8]>) -> usize
 }
 
 /// The pieces of a text that separators keep apart, read one by one from the left. Contracts see what is left of them,
-/// with the column of the next one.
+/// with the column of the next one. The column and the bytes that are left stay below 2^64 together, so that no column
+/// wraps.
 #[derive(Drop)]
 pub struct Pieces<'a, const SEPARATOR: u8> {
     rest: Option<&'a [u8]>,
@@ -109,7 +120,7 @@ impl<'a, const SEPARATOR: u8> Pieces<'a, SEPARATOR> {
         Some(word)
     }
 
-    /// What is left of the text.
+    /// What is left of the text, separators included.
     #[tactic(auto, using(crate::proofs::PieceLaws::joining))]
     pub fn rest(&self) -> &'a [u8]
         ensures { result.now ≡ join_with_byte SEPARATOR self.now.words }
@@ -120,7 +131,8 @@ impl<'a, const SEPARATOR: u8> Pieces<'a, SEPARATOR> {
         }
     }
 
-    /// Passes the next piece, if something was read of it; else gives its column.
+    /// Passes the next piece, if something was read of it; else gives its column. With this a caller reads words of its
+    /// own: `words.accept(words.peek().and_then(read))`.
     pub fn accept<T>(&mut self, read: Option<T>) -> Result<T, usize>
         ensures exact { result ≡ ok_or read self.old.column }
         ensures left { self.new ≡ left_after result self.old }
