@@ -1,9 +1,10 @@
 //! Reading a source to its end.
-ghost use Rattle.std.specs.Io.KnownBytes.{Consumes};
-ghost use Rattle.std.specs.Prelude.{IfOk, List, OnErr, length, vec_capacity, vec_len, ℕ, ◌++◌, ◌+◌, ◌≡◌, ◌≤◌};
+ghost use Rattle.std.specs.Io.KnownBytes.{Consumes, IsAtEnd};
+ghost use Rattle.std.specs.Prelude.{IfOk, IsTrue, List, OnErr, false, length, vec_capacity, vec_len, ℕ, ◌++◌, ◌+◌, ◌≡◌, ◌≤◌};
 ghost use Rattle.sl_io.specs.Reading.{IsReading};
-ghost use Rattle.sl_words.specs.Causes.{Rose};
+ghost use Rattle.sl_words.specs.Causes.{HasCause, Rose};
 
+use crate::faults::Failed;
 use crate::source::Source;
 use std::alloc::{AllocError, Global};
 use thiserror::Error;
@@ -76,4 +77,21 @@ pub fn read_all<S: Source>(
         }
     }
     Ok(ReadAll::Longer(bytes))
+}
+
+/// Fills the buffer from the source; false where the source ended before, and after a fault nothing is known of the buffer.
+pub fn fill<S: Source>(source: &mut S, buffer: &mut [u8]) -> Result<bool, Failed>
+    ensures full { IfOk result (λ full. IsTrue full → Consumes (S.left source.old) (S.left source.new) buffer.new) }
+    ensures ended { IfOk result (λ full. full ≡ false → IsAtEnd (S.left source.new)) }
+    ensures cause { HasCause (S.faults source.old) (S.faults source.new) result }
+{
+    let mut at = 0;
+    while at < buffer.len() {
+        let n = source.read(&mut buffer[at..])?;
+        if n == 0 {
+            return Ok(false);
+        }
+        at += n;
+    }
+    Ok(true)
 }

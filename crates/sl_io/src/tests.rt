@@ -2,7 +2,7 @@
 //! writer that misbehave.
 
 use crate::{
-    MemSink, MemSource, ReadAll, ReadAllError, ReadSource, Sink, Source, WriteSink, read_all,
+    MemSink, MemSource, ReadAll, ReadAllError, ReadSource, Sink, Source, WriteSink, fill, read_all,
     write_all,
 };
 use std::fs::File;
@@ -35,6 +35,21 @@ fn reads_one_byte_past_the_limit(rt: HostRuntime) -> Result<(), Fail> {
         ReadAll::Longer(read) => assert_eq!(rt; read.as_slice(), b"leas".as_slice()),
     }
     assert_eq!(rt; source.left(), b"e".as_slice());
+    Ok(())
+}
+
+#[test]
+fn fills_a_buffer(rt: HostRuntime) -> Result<(), Fail> {
+    let alloc = rt.alloc();
+    let bytes = b"lease".to_vec(alloc)?;
+    let mut source = MemSource::new(bytes, vec![in alloc; 1]?, vec![in alloc; 5]?);
+    let mut buffer = [0; 4];
+    assert!(rt; fill(&mut source, &mut buffer)?);
+    assert_eq!(rt; &buffer, b"leas");
+    assert!(rt; fill(&mut source, &mut buffer).is_err());
+    assert_eq!(rt; source.faults(), 1);
+    assert!(rt; !fill(&mut source, &mut buffer)?);
+    assert_eq!(rt; source.left().len(), 0);
     Ok(())
 }
 
