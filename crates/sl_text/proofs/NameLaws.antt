@@ -1,6 +1,6 @@
 -- What an array holds of a text.
 use Rattle.sl_text.specs.Names.{IsHeld, padded_text}
-use Rattle.std.proofs.Common.{Bool, List, length, refl, take, true, ℕ, ◌++◌, ◌-◌, ◌≡◌}
+use Rattle.std.proofs.Common.{Bool, List, length, refl, take, true, ℕ, ◌-◌, ◌≡◌}
 use Rattle.std.proofs.lemmas.List.{take_at}
 use Rattle.std.specs.Prelude.{replicate}
 
