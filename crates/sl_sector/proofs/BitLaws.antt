@@ -9,6 +9,7 @@ use Rattle.std.proofs.lemmas.Grind.{flat_map-append}
 use Rattle.std.specs.List.{enumerate_from, filter, flat_map, range_with_len}
 use Rattle.std.specs.Prelude.{map}
 
+-- A range, one number longer.
 range-more : (a n : ℕ) → range_with_len a (suc n) ≡ range_with_len a n ++ (a + n) ∷ []
 range-more a zero = ap (λ (k : ℕ). k ∷ []) (omega arith)
 range-more a (suc n) = ap (λ (xs : List ℕ). a ∷ xs) (range-more (a + 1) n ∙ ap (λ (k : ℕ). range_with_len (a + 1) n ++ k ∷ []) (omega arith))
@@ -17,6 +18,7 @@ range-more a (suc n) = ap (λ (xs : List ℕ). a ∷ xs) (range-more (a + 1) n �
 abbrev pub bits_below : ℕ → ℕ → ℕ → List ℕ
 bits_below i b j = map (λ k. 8 * i + k + 1) (filter (λ k. eqb ((b / 2 ^ k) % 2) 1) (range_with_len 0 j))
 
+-- The name of one bit, where it is set.
 one_bit : (i : ℕ) (set : Bool) (j : ℕ) → map (λ k. 8 * i + k + 1) (cond set (j ∷ []) []) ≡ cond set ((8 * i + j + 1) ∷ []) []
 one_bit i true j = refl
 one_bit i false j = refl
@@ -43,6 +45,7 @@ all_bits i b h = sym (chosen (eqb b 0) (bits_below i b 8) (ne_eqb b 0 h))
     chosen true bits e = absurd cc
     chosen false bits e = refl
 
+-- A byte without bits.
 pub no_bits : (i b : ℕ) → b ≡ 0 → bits_of_byte i b ≡ []
 no_bits i b e = rw e refl
 
@@ -72,6 +75,7 @@ more_bytes bitmap now new i b lt is before after =
     let one : take (i + 1) pairs ≡ take i pairs ++ (i, b) ∷ [] = take_more pairs i (0, 0) long ∙ rw last refl in
     after ∙ rw before (sym (ap (flat_map each) one ∙ flat_map-append each (take i pairs) ((i, b) ∷ []) ∙ ap (λ (bits : List ℕ). bits_of_front bitmap i ++ bits) (append-nil (bits_of_byte i b))))
 
+-- All bytes of a bitmap.
 pub whole_bitmap : (bitmap : List ℕ) (n : ℕ) → length bitmap ≤ n → bits_of_front bitmap n ≡ bits_of bitmap
 whole_bitmap bitmap n h =
     ap (flat_map (λ p. bits_of_byte p.0 p.1)) (take_all n (enumerate_from 0 bitmap) (rw (length-enumerate_from 0 bitmap) h))

@@ -58,6 +58,7 @@ pub length-block : (b : Block) → length (field_bytes (BlockIs b)) ≡ 60
 unfolding field_bytes
 length-block b = simp (length-append, length-u32_bytes, length-u64_bytes, length-magic)
 
+-- Number 3 is the block.
 of_kind : (bs : List ℕ) → fields_of 3 bs ≡ as_record BlockIs (under_rules (block_rules bs) (block_of bs))
 unfolding fields_of
 of_kind bs = refl

@@ -22,6 +22,7 @@ use Rattle.std.specs.Prelude.{IsSomeAnd, IsTrue, not, unwrap_or}
 
 -- ---- the state and its number
 
+-- The number of a number's state.
 code_of_state : (code : ℕ) → code ≤ 2 → delta_code (delta_state code) ≡ code
 code_of_state code le =
     elim (cases_Bool (eqb code 0)) [
@@ -32,11 +33,13 @@ code_of_state code le =
       ]
     ]
 
+-- The state of a state's number.
 state_of_code : (s : DeltaState) → delta_state (delta_code s) ≡ s
 state_of_code Free = refl
 state_of_code Claimed = refl
 state_of_code Live = refl
 
+-- There are three states.
 code_below : (s : DeltaState) → delta_code s ≤ 2
 code_below Free = omega arith
 code_below Claimed = omega arith
@@ -49,10 +52,12 @@ host_named : (unused : Bool) (bs : List ℕ) (at : ℕ) → is_host_field unused
 host_named true bs at h e = absurd cc
 host_named false bs at h e = (and_true _ _ h).1
 
+-- No name, where the record was never claimed.
 host_absent : (unused : Bool) (name : List ℕ) → unused ≡ true → choose (not unused) name ≡ None
 host_absent true name e = refl
 host_absent false name e = absurd cc
 
+-- The bitmap has 250 bytes.
 bitmap_long : (bs : List ℕ) → 512 ≤ length bs → length (take 250 (drop 136 bs)) ≡ 250
 bitmap_long bs long = length_part bs 136 250 (omega arith)
 
@@ -113,17 +118,20 @@ pub record HostFits (unused : Bool) (host : Option (List ℕ)) : Type 0 where
   pub absent : unused ≡ true → host ≡ None
   pub there : unused ≡ false → IsSomeAnd host (λ n. IsTrue (is_name n))
 
+-- The host's name of a record that meets its rules.
 pub host_fits : (d : DeltaRec) → IsDelta d → HostFits (eqb d.generation 0) d.host
 host_fits d is = record {
   absent = (λ e. (is.unused (eqb-true _ _ e)).3);
   there = (λ e. is.used (positive d.generation (eqb-false _ _ e)));
 }
 
+-- Its field has 48 bytes, whether there is a name or none.
 pub length-host : (unused : Bool) (host : Option (List ℕ)) → HostFits unused host → length (name_bytes (unwrap_or host [])) ≡ 48
 length-host unused None fits = length-no_name
 length-host true (Some n) fits = absurd (let e = fits.absent refl in cc)
 length-host false (Some n) fits = length-name_bytes n (fits.there refl)
 
+-- The host's name and what is before it.
 host_before : (bs text : List ℕ) (unused : Bool) (host : Option (List ℕ)) (at : ℕ) → HostFits unused host → Begins bs (text ++ name_bytes (unwrap_or host [])) (at + 48)
     → Begins bs text at × (is_host_field unused bs at ≡ true) × (choose (not unused) (name_at bs at) ≡ host)
 host_before bs text true None at fits b = let p = no_name_before bs text at b in (p.0, p.1, refl)
@@ -137,6 +145,7 @@ unfolding field_bytes
 length-delta d is =
     simp (length-append, length-u32_bytes, length-u64_bytes, length-magic, length-name_bytes d.lockspace is.lockspace, length-host (eqb d.generation 0) d.host (host_fits d is), is.bitmap.0)
 
+-- Number 1 is the delta record.
 of_kind : (bs : List ℕ) → fields_of 1 bs ≡ as_record DeltaIs (under_rules (delta_rules bs) (delta_of bs))
 unfolding fields_of
 of_kind bs = refl

@@ -54,6 +54,7 @@ pub length-leader : (l : Leader) → IsLeader l → length (field_bytes (LeaderI
 unfolding field_bytes
 length-leader l is = simp (length-append, length-u32_bytes, length-u64_bytes, length-magic, length-name_bytes l.lockspace is.lockspace, length-name_bytes l.resource is.resource)
 
+-- Number 2 is the leader.
 of_kind : (bs : List ℕ) → fields_of 2 bs ≡ as_record LeaderIs (under_rules (leader_rules bs) (leader_of bs))
 unfolding fields_of
 of_kind bs = refl

@@ -43,6 +43,7 @@ pub length-request : (r : Request) → length (field_bytes (RequestIs r)) ≡ 24
 unfolding field_bytes
 length-request r = simp (length-append, length-u32_bytes, length-u64_bytes, length-magic)
 
+-- Number 4 is the request.
 of_kind : (bs : List ℕ) → fields_of 4 bs ≡ as_record RequestIs (under_rules (request_rules bs) (request_of bs))
 unfolding fields_of
 of_kind bs = refl

@@ -27,6 +27,7 @@ use Rattle.std.specs.Prelude.{bytes_eq, not}
 
 -- ---- what is read is spelled so
 
+-- What came out of one kind.
 wrapped : {A : Type 0} (wrap : A → Rec) (read : Result A Bad) (r : Rec) → as_record wrap read ≡ Ok r → (a : A) × (read ≡ Ok a) × (wrap a ≡ r)
 wrapped wrap (Ok a) r h = (a, refl, cc)
 wrapped wrap (Err e) r h = absurd cc
@@ -44,6 +45,7 @@ record Found (bs : List ℕ) (r : Rec) : Type 0 where
   text : take (fields_end r) bs ≡ field_bytes r
   short : fields_end r ≤ 386
 
+-- Of the delta record.
 delta_found : (bs : List ℕ) → IsBytes bs → 512 ≤ length bs → take 4 bs ≡ magic → u32_at bs 4 ≡ 1 → Hold (delta_rules bs) → Found bs (DeltaIs (delta_of bs))
 delta_found bs fits long begins kind holds = record {
   rules = delta_fits bs fits long holds;
@@ -51,6 +53,7 @@ delta_found bs fits long begins kind holds = record {
   short = omega arith;
 }
 
+-- Of the leader.
 leader_found : (bs : List ℕ) → IsBytes bs → 512 ≤ length bs → take 4 bs ≡ magic → u32_at bs 4 ≡ 2 → Hold (leader_rules bs) → Found bs (LeaderIs (leader_of bs))
 leader_found bs fits long begins kind holds = record {
   rules = leader_fits bs holds;
@@ -58,6 +61,7 @@ leader_found bs fits long begins kind holds = record {
   short = omega arith;
 }
 
+-- Of the block.
 block_found : (bs : List ℕ) → IsBytes bs → 512 ≤ length bs → take 4 bs ≡ magic → u32_at bs 4 ≡ 3 → Hold (block_rules bs) → Found bs (BlockIs (block_of bs))
 block_found bs fits long begins kind holds = record {
   rules = block_fits bs holds;
@@ -65,6 +69,7 @@ block_found bs fits long begins kind holds = record {
   short = omega arith;
 }
 
+-- Of the request.
 request_found : (bs : List ℕ) → IsBytes bs → 512 ≤ length bs → take 4 bs ≡ magic → u32_at bs 4 ≡ 4 → Hold (request_rules bs) → Found bs (RequestIs (request_of bs))
 request_found bs fits long begins kind holds = record {
   rules = request_fits bs holds;
@@ -72,6 +77,7 @@ request_found bs fits long begins kind holds = record {
   short = omega arith;
 }
 
+-- Of the value, whose fields end behind its bytes.
 value_found : (bs : List ℕ) → IsBytes bs → 512 ≤ length bs → take 4 bs ≡ magic → u32_at bs 4 ≡ 5 → Hold (value_rules bs) → Found bs (ValueIs (value_of bs))
 value_found bs fits long begins kind holds =
     let rules = value_fits bs fits long holds in
@@ -81,6 +87,7 @@ value_found bs fits long begins kind holds =
       short = omega (arith, rules.bytes.0);
     }
 
+-- Of whichever kind the bytes name.
 fields_found : (bs : List ℕ) (k : ℕ) (r : Rec) → IsBytes bs → 512 ≤ length bs → take 4 bs ≡ magic → u32_at bs 4 ≡ k → fields_of k bs ≡ Ok r → Found bs r
 unfolding fields_of
 fields_found bs k r fits long begins kind h =
@@ -121,10 +128,12 @@ fields_found bs k r fits long begins kind h =
           ]
     ]
 
+-- Padding that passed: no place was found.
 nothing_found : (at : ℕ) (found : Option ℕ) → elim found as (λ _. Result (Unit {0}) Bad) [ None ↦ Ok tt | Some k ↦ Err (BadPad (at + k)) ] ≡ Ok tt → found ≡ None
 nothing_found at None h = refl
 nothing_found at (Some k) h = absurd cc
 
+-- Then none is within the list.
 no_position : (m n : ℕ) → cond (ltb m n) (Some m) None ≡ None → n ≤ m
 no_position m n h =
     elim (cases_lt m n) [
@@ -132,6 +141,7 @@ no_position m n h =
       | inr le ↦ le
     ]
 
+-- No place, no refusal.
 nothing_there : (at : ℕ) (found : Option ℕ) → found ≡ None → elim found as (λ _. Result (Unit {0}) Bad) [ None ↦ Ok tt | Some k ↦ Err (BadPad (at + k)) ] ≡ Ok tt
 nothing_there at None h = refl
 nothing_there at (Some k) h = absurd cc
@@ -151,6 +161,7 @@ record Passed (digest : List ℕ → List ℕ) (bs : List ℕ) (r : Rec) : Type 
   padding : padding_from (fields_end r) (body_of bs) ≡ Ok tt
   check : check_of bs ≡ digest (body_of bs)
 
+-- Reading passed each test.
 passed : (digest : List ℕ → List ℕ) (bs : List ℕ) (r : Rec) → decoded digest bs ≡ Ok r → Passed digest bs r
 unfolding decoded
 passed digest bs r h =
@@ -193,6 +204,7 @@ length-field_bytes (BlockIs b) is = length-block b
 length-field_bytes (RequestIs q) is = length-request q
 length-field_bytes (ValueIs v) is = length-value v
 
+-- No text is longer than a delta record.
 pub fields_end_short : (r : Rec) → IsRecord r → fields_end r ≤ 386
 fields_end_short (DeltaIs d) is = omega arith
 fields_end_short (LeaderIs l) is = omega arith
@@ -200,6 +212,7 @@ fields_end_short (BlockIs b) is = omega arith
 fields_end_short (RequestIs q) is = omega arith
 fields_end_short (ValueIs v) is = omega (arith, is.bytes.0)
 
+-- A record's text is read as that record, whichever kind it is.
 fields_again : (bs : List ℕ) (r : Rec) → IsRecord r → Begins bs (field_bytes r) (fields_end r) → (take 4 bs ≡ magic) × (fields_of (u32_at bs 4) bs ≡ Ok r)
 fields_again bs (DeltaIs d) is begins = delta_again bs d is begins
 fields_again bs (LeaderIs l) is begins = leader_again bs l is begins
@@ -231,6 +244,7 @@ front_of_spelling digest size r is =
     ap (take (fields_end r)) (append_assoc (field_bytes r) zeros (digest (field_bytes r ++ zeros)))
     ∙ take_at (field_bytes r) (zeros ++ digest (field_bytes r ++ zeros)) (fields_end r) (length-field_bytes r is)
 
+-- Zeros are no refusal.
 padding_of_zeros : (at n : ℕ) (bs : List ℕ) → drop at bs ≡ replicate n 0 → padding_from at bs ≡ Ok tt
 padding_of_zeros at n bs zeros =
     let len : ltb (prefix_len (λ b. not (not (eqb b 0))) (replicate n 0)) (length (replicate n 0)) ≡ false =
@@ -238,6 +252,7 @@ padding_of_zeros at n bs zeros =
     let none : position (λ b. not (eqb b 0)) (drop at bs) ≡ None = ap (position (λ b. not (eqb b 0))) zeros ∙ cond-false _ _ _ len in
     nothing_there at _ none
 
+-- Nor are those behind the fields.
 padding_of_checked : (size : ℕ) (r : Rec) → IsRecord r → padding_from (fields_end r) (checked_part size r) ≡ Ok tt
 unfolding checked_part padded_text
 padding_of_checked size r is =

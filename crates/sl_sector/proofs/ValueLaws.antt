@@ -53,6 +53,7 @@ pub length-value : (v : ValueRec) → length (field_bytes (ValueIs v)) ≡ 32 + 
 unfolding field_bytes
 length-value v = simp (length-append, length-u32_bytes, length-u64_bytes, length-magic)
 
+-- Number 5 is the value.
 of_kind : (bs : List ℕ) → fields_of 5 bs ≡ as_record ValueIs (under_rules (value_rules bs) (value_of bs))
 unfolding fields_of
 of_kind bs = refl

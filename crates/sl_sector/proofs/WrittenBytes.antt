@@ -24,6 +24,7 @@ use Rattle.std.specs.Prelude.{slice_index, unwrap_or}
 abbrev are_bytes : List ℕ → Bool
 are_bytes bs = list_all (λ b. ltb b 256) bs
 
+-- One after another.
 are_bytes-append : (xs ys : List ℕ) → are_bytes (xs ++ ys) ≡ (are_bytes xs && are_bytes ys)
 are_bytes-append [] ys = refl
 are_bytes-append (x ∷ xs) ys = step (ltb x 256) (are_bytes xs) (are_bytes ys) (are_bytes (xs ++ ys)) (are_bytes-append xs ys)
@@ -32,51 +33,63 @@ are_bytes-append (x ∷ xs) ys = step (ltb x 256) (are_bytes xs) (are_bytes ys) 
     step true b c d h = h
     step false b c d h = refl
 
+-- A byte of a number.
 byte_at_below : (k n : ℕ) → byte_at k n < 256
 byte_at_below zero n = mod-lt n (omega arith)
 byte_at_below (suc k) n = mod-lt _ (omega arith)
 
+-- The bytes of a number.
 are_bytes-high_first : (k n : ℕ) → are_bytes (bytes_high_first k n) ≡ true
 are_bytes-high_first zero n = refl
 are_bytes-high_first (suc k) n = rw (lt-ltb (byte_at k n) 256 (byte_at_below k n)) (are_bytes-high_first k n)
 
+-- Zeros.
 are_bytes-zeros : (n : ℕ) → are_bytes (replicate n 0) ≡ true
 are_bytes-zeros zero = refl
 are_bytes-zeros (suc n) = are_bytes-zeros n
 
+-- A short number.
 are_bytes-u32_bytes : (n : ℕ) → are_bytes (u32_bytes n) ≡ true
 unfolding u32_bytes
 are_bytes-u32_bytes n = are_bytes-high_first 4 n
 
+-- A long number.
 are_bytes-u64_bytes : (n : ℕ) → are_bytes (u64_bytes n) ≡ true
 unfolding u64_bytes
 are_bytes-u64_bytes n = are_bytes-high_first 8 n
 
+-- The magic.
 are_bytes-magic : are_bytes magic ≡ true
 unfolding magic
 are_bytes-magic = refl
 
+-- A name's character.
 name_byte_below : (b : ℕ) → is_name_byte b ≡ true → ltb b 256 ≡ true
 name_byte_below b h = grind (arith, nat_tests)
 
+-- A name's characters.
 are_bytes-text : (name : List ℕ) → list_all is_name_byte name ≡ true → are_bytes name ≡ true
 are_bytes-text [] h = refl
 are_bytes-text (b ∷ bs) h =
     let p = and_true (is_name_byte b) (list_all is_name_byte bs) h in
     rw (name_byte_below b p.0) (are_bytes-text bs p.1)
 
+-- A text and zeros.
 are_bytes-padded_text : (size : ℕ) (text : List ℕ) → are_bytes text ≡ true → are_bytes (padded_text size text) ≡ true
 unfolding padded_text
 are_bytes-padded_text size text h = rw (are_bytes-append text (replicate (size - length text) 0), h) (are_bytes-zeros (size - length text))
 
+-- A name and zeros.
 are_bytes-name_bytes : (name : List ℕ) → is_name name ≡ true → are_bytes (name_bytes name) ≡ true
 are_bytes-name_bytes name h = are_bytes-padded_text 48 name (are_bytes-text name (named name h).each)
 
+-- The host's name, or none.
 are_bytes-host : (unused : Bool) (host : Option (List ℕ)) → HostFits unused host → are_bytes (name_bytes (unwrap_or host [])) ≡ true
 are_bytes-host unused None fits = are_bytes-padded_text 48 [] refl
 are_bytes-host true (Some n) fits = absurd (let e = fits.absent refl in cc)
 are_bytes-host false (Some n) fits = are_bytes-name_bytes n (fits.there refl)
 
+-- A record's text.
 are_bytes-field_bytes : (r : Rec) → IsRecord r → are_bytes (field_bytes r) ≡ true
 unfolding field_bytes
 are_bytes-field_bytes (DeltaIs d) is =
@@ -97,12 +110,14 @@ spelling_is_bytes digest d size r fits is =
 
 -- ---- SHA-256
 
+-- The words of a hash value.
 are_bytes-digest_bytes : (h : List ℕ) (n : ℕ) → are_bytes (digest_bytes h n) ≡ true
 unfolding digest_bytes
 are_bytes-digest_bytes h zero = refl
 are_bytes-digest_bytes h (suc n) =
     rw (are_bytes-append (digest_bytes h n) (to_be_bytes w32 (slice_index h n)), are_bytes-digest_bytes h n) (are_bytes-high_first 4 (slice_index h n))
 
+-- It has 32 bytes, of every text.
 pub sha256_is_digest : IsDigest sha256
 unfolding sha256
 sha256_is_digest = record { long = length-sha256; bytes = (λ text. are_bytes-digest_bytes _ 8) }

@@ -131,8 +131,9 @@ value_rules bs =
     ∷ (16, is_number (u64_at bs 16))
     ∷ (24, is_number (u64_at bs 24)) ∷ []
 
--- ---- the records that a sector's fields give, where no rule fails
+-- ---- the records that a sector's fields give; each is meant only where no rule fails
 
+-- The delta record. A record that was never claimed names no host.
 abbrev pub delta_of : List ℕ → DeltaRec
 delta_of bs = record {
   state = delta_state (u32_at bs 8);
@@ -145,6 +146,7 @@ delta_of bs = record {
   bitmap = take 250 (drop 136 bs);
 }
 
+-- The leader.
 abbrev pub leader_of : List ℕ → Leader
 leader_of bs = record {
   held = u32_at bs 8 == 1;
@@ -156,6 +158,7 @@ leader_of bs = record {
   resource = name_at bs 84;
 }
 
+-- The block.
 abbrev pub block_of : List ℕ → Block
 block_of bs = record {
   host = u32_at bs 8;
@@ -168,9 +171,11 @@ block_of bs = record {
   inp = u32_at bs 56;
 }
 
+-- The request.
 abbrev pub request_of : List ℕ → Request
 request_of bs = record { force = u32_at bs 8; host = u32_at bs 12; lver = u64_at bs 16 }
 
+-- The value: as many bytes as its length says.
 abbrev pub value_of : List ℕ → ValueRec
 value_of bs = record { host = u32_at bs 12; lver = u64_at bs 16; seq = u64_at bs 24; bytes = take (u32_at bs 8) (drop 32 bs) }
 
@@ -181,7 +186,7 @@ abbrev pub under_rules : {A : Type 0} → List (ℕ × Bool) → A → Result A 
 under_rules [] a = Ok a
 under_rules (rule ∷ rules) a = ensure rule.1 (BadField rule.0) >>= λ _. under_rules rules a
 
--- The same, as one of the five.
+-- What was read of one kind, as one of the five.
 abbrev pub as_record : {A : Type 0} → (A → Rec) → Result A Bad → Result Rec Bad
 as_record wrap (Ok a) = Ok (wrap a)
 as_record wrap (Err bad) = Err bad

@@ -4,10 +4,10 @@
 //! it, and the digest is only computed where all else is right.
 
 ghost use Rattle.sha2.specs.Sha256.{sha256};
-ghost use Rattle.std.specs.Prelude.{IfOk, IfSome, Ok, bytes_eq, length, not, position, take, ◌==◌, ◌+◌, ◌-◌, ◌<◌, ◌^◌, ◌≡◌, ◌≤◌};
+ghost use Rattle.std.specs.Prelude.{IfOk, IfSome, Ok, OnErr, bytes_eq, length, not, position, take, ◌==◌, ◌+◌, ◌-◌, ◌<◌, ◌^◌, ◌≡◌, ◌≤◌};
 ghost use Rattle.sl_sector.specs.Fields as spec;
 ghost use Rattle.sl_sector.specs.Spelling as spelling;
-ghost use Rattle.sl_sector.specs.Spelling.{IsSectorSize, Spells, decoded, magic};
+ghost use Rattle.sl_sector.specs.Spelling.{IsSectorSize, IsTorn, Spells, decoded, magic};
 ghost use Rattle.sl_sector.specs.declared.sector.Rec.{Rec};
 
 use crate::block::{BLOCK_END, BLOCK_KIND, block_at};
@@ -119,6 +119,8 @@ pub fn decode(sector: &[u8]) -> Result<Rec, Bad>
     ensures found { IfOk result (λ r. Spells sha256 sector.now r) }
     // what is spelled so is read
     ensures only { (r : Rec) → Spells sha256 sector.now r → result ≡ Ok r }
+    // what is refused spells nothing
+    ensures torn { OnErr result (IsTorn sha256 sector.now) }
 {
     tested(sector)
 }
