@@ -27,8 +27,8 @@ some_hold t s = go (hold t) (join_max_short t p p s (clocks_drift.same t.rho p) 
 pub watchdogs : WatchdogsBound
 watchdogs = record {
   bounds = λ t w s a. record {
-    pending = λ n p. subst (λ (x : ℕ). w.now < x + gone t) (sym (a.registered_at n)) (acting t (a.registered n) w.now s (a.pending n p));
-    acting = λ n p q. subst (λ (x : ℕ). w.now < x + gone t) (sym (a.renewed_at n)) (acting t (a.renewed n) w.now s (a.acting n p q));
+    pending = λ n p. (let o = a.pending n p in subst (λ (x : ℕ). w.now < x + gone t) o.1 (acting t o.0 w.now s o.2));
+    acting = λ n p q. (let o = a.acting n p q in subst (λ (x : ℕ). w.now < x + gone t) o.1 (acting t o.0 w.now s o.2));
   };
   long = λ t s. enough (hold t) (gone t) (some_hold t s);
 }

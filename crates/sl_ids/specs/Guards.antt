@@ -8,18 +8,17 @@ use Rattle.sl_ids.specs.Terms.{AreLongEnough, Terms}
 use Rattle.sl_time.specs.Times.{IsTiming, TimingNumbers, dead, gone, hold, join_max, take_over}
 use Rattle.std.specs.Prelude.{Some, false, true, ℕ, ◌+◌, ◌<◌, ◌≡◌, ◌≤◌}
 
+-- The terms of a timing.
 abbrev pub terms_of : TimingNumbers → Terms
 terms_of t = record { gone = gone t; hold = hold t; watch = hold t + gone t; wait = gone t; silence = gone t }
 
--- The points whose moments a state keeps, and the watchdog's word for each session that a bound speaks of: what `guarded_is_bounded`
--- gives of each.
+-- The watchdog's word for each session that a bound speaks of, which is what `guarded_is_bounded` gives of one that is connected or has a
+-- write in flight: it may act, by the point whose moment the state keeps.
 pub record AreGuarded (t : TimingNumbers) (w : State) : Type 0 where
-  pub registered : SessionId → Point
-  pub renewed : SessionId → Point
-  pub registered_at : (s : SessionId) → (w.session s).registered ≡ (registered s).moment
-  pub renewed_at : (s : SessionId) → (w.session s).renewed ≡ (renewed s).moment
-  pub pending : (s : SessionId) → (w.session s).pending ≡ true → MayAct t (registered s) w.now
-  pub acting : (s : SessionId) → (w.session s).verified ≡ true → (w.session s).over ≡ false → MayAct t (renewed s) w.now
+  pub pending : (s : SessionId) → (w.session s).pending ≡ true
+      → (registered : Point) × (registered.moment ≡ (w.session s).registered) × MayAct t registered w.now
+  pub acting : (s : SessionId) → (w.session s).verified ≡ true → (w.session s).over ≡ false
+      → (renewed : Point) × (renewed.moment ≡ (w.session s).renewed) × MayAct t renewed w.now
 
 -- The watchdogs bound an id, and the waits by the formulas are long enough.
 pub record WatchdogsBound : Type 0 where
