@@ -13,6 +13,10 @@ pub record Sizes : Type 0 where
   pub area : ℕ
   pub hosts : ℕ
 
+-- The sizes, in the order in which they are given.
+abbrev pub sizes : ℕ → ℕ → ℕ → Sizes
+sizes sector area hosts = record { sector = sector; area = area; hosts = hosts }
+
 -- All that decides which bytes spell which record, and where a record stands. The digest is given, so that examples may take a
 -- cheap one; the program's is SHA-256.
 pub record Layout : Type 0 where

@@ -1,9 +1,15 @@
-//! Sizes of a run.
+//! Sizes of a run, and where its records stand.
+ghost use Rattle.std.specs.Prelude.{IfOk, IfSome, IsOk, IsSome, IsTrue, ◌%◌, ◌*◌, ◌+◌, ◌<◌, ◌^◌, ◌≡◌, ◌≤◌, ◌↔◌};
+ghost use Rattle.sl_area.specs.Layouts.{IsGeometry, is_geometry, layout_of, sizes};
+ghost use Rattle.sl_area.specs.Places.{block_offset, delta_offset, is_base, leader_offset, request_offset, value_offset};
+ghost use Rattle.sl_area.specs.Roles.{place_at};
 
+use crate::place::Place;
 use std::marker::Model;
+use thiserror::Error;
 
 /// Bytes of a sector, bytes of an area, and the number of hosts of the run.
-#[derive(Clone, Copy)]
+#[derive(Clone, Copy, Debug, PartialEq, Eq)]
 pub struct Geometry {
     sector: u32,
     area: u64,
@@ -23,4 +29,134 @@ impl Model for Geometry {
     ghost inverse = { λ s. record { sector = s.sector; area = s.area; hosts = s.hosts } };
 
     ghost inverse_ok = { λ g is. refl };
+}
+
+/// There is no area of these sizes for so many hosts.
+#[derive(Clone, Copy, Debug, PartialEq, Eq, Error)]
+#[error("no area has these sizes for so many hosts")]
+pub struct BadGeometry;
+
+/// The areas that there may be: bytes of a sector, bytes of an area, most hosts.
+const GEOMETRIES: [(u32, u64, u32); 1] = [(512, 1_048_576, 2000)];
+
+/// Whether a run may have these sizes.
+fn is_geometry(sector: u32, area: u64, hosts: u32) -> bool
+    ensures { result ≡ is_geometry (sizes sector area hosts) }
+{
+    GEOMETRIES.iter().any(|row| row.0 == sector && row.1 == area && 1 <= hosts && hosts <= row.2)
+}
+
+impl Geometry {
+    /// The sizes of a run: bytes of a sector and of an area, which must be a row of the table, and the number of hosts, 1 to that row's
+    /// number.
+    pub fn new(sector: u32, area: u64, hosts: u32) -> Result<Geometry, BadGeometry>
+        ensures ok { IsOk result ↔ IsGeometry (sizes sector area hosts) }
+        ensures value { IfOk result (λ g. g ≡ sizes sector area hosts) }
+    {
+        if is_geometry(sector, area, hosts) {
+            Ok(Geometry {
+                sector,
+                area,
+                hosts,
+            })
+        } else {
+            Err(BadGeometry)
+        }
+    }
+
+    /// Bytes of a sector.
+    pub fn sector(&self) -> u32
+        ensures exact { result ≡ self.now.sector }
+        ensures geometry { IsGeometry self.now }
+    {
+        self.sector
+    }
+
+    /// Bytes of an area.
+    pub fn area(&self) -> u64
+        ensures exact { result ≡ self.now.area }
+        ensures geometry { IsGeometry self.now }
+    {
+        self.area
+    }
+
+    /// The number of hosts of the run.
+    pub fn hosts(&self) -> u32
+        ensures exact { result ≡ self.now.hosts }
+        ensures geometry { IsGeometry self.now }
+    {
+        self.hosts
+    }
+
+    /// Whether an area may begin at the offset: at a multiple of the area's size, below 10^12.
+    pub fn is_base(&self, offset: u64) -> bool
+        ensures { result ≡ is_base (layout_of self.now) offset }
+    {
+        offset % self.area == 0 && offset < 1_000_000_000_000
+    }
+
+    /// The sector that begins at the offset, if one does: the offset is a multiple of the sector's size, and below 2^63.
+    pub fn place(&self, offset: u64) -> Option<Place>
+        ensures some { IsSome result ↔ ((offset % self.now.sector ≡ 0) × (offset < 2 ^ 63)) }
+        ensures value { IfSome result (λ p. p ≡ place_at self.now offset) }
+    {
+        if offset % u64::from(self.sector) == 0 && offset < 1 << 63 {
+            Some(Place::new(offset, self.sector))
+        } else {
+            None
+        }
+    }
+
+    /// Where the delta sector of an id stands, in the lockspace's area at this base.
+    pub fn delta_place(&self, base: u64, id: u32) -> Place
+        requires base { IsTrue (is_base (layout_of self.now) base) }
+        requires id { (1 ≤ id) × (id ≤ self.now.hosts) }
+        ensures { result ≡ place_at self.now (delta_offset (layout_of self.now) base id) }
+    {
+        self.nth(base, u64::from(id) - 1)
+    }
+
+    /// Where the leader stands, in the resource's area at this base.
+    pub fn leader_place(&self, base: u64) -> Place
+        requires { IsTrue (is_base (layout_of self.now) base) }
+        ensures { result ≡ place_at self.now (leader_offset base) }
+    {
+        self.nth(base, 0)
+    }
+
+    /// Where the request stands, in the resource's area at this base.
+    pub fn request_place(&self, base: u64) -> Place
+        requires { IsTrue (is_base (layout_of self.now) base) }
+        ensures { result ≡ place_at self.now (request_offset (layout_of self.now) base) }
+    {
+        self.nth(base, 1)
+    }
+
+    /// Where a host's block stands, in the resource's area at this base.
+    pub fn block_place(&self, base: u64, id: u32) -> Place
+        requires base { IsTrue (is_base (layout_of self.now) base) }
+        requires id { (1 ≤ id) × (id ≤ self.now.hosts) }
+        ensures { result ≡ place_at self.now (block_offset (layout_of self.now) base id) }
+    {
+        self.nth(base, u64::from(id) + 1)
+    }
+
+    /// Where the value stands, in the resource's area at this base: in its last sector.
+    pub fn value_place(&self, base: u64) -> Place
+        requires { IsTrue (is_base (layout_of self.now) base) }
+        ensures { result ≡ place_at self.now (value_offset (layout_of self.now) base) }
+    {
+        let sector = self.sector;
+        Place::new(base + self.area - u64::from(sector), sector)
+    }
+
+    /// The sector with this number, from 0 on, of the area at this base.
+    fn nth(&self, base: u64, number: u64) -> Place
+        requires base { IsTrue (is_base (layout_of self.now) base) }
+        requires number { number ≤ self.now.hosts + 1 }
+        ensures { result ≡ place_at self.now (base + self.now.sector * number) }
+    {
+        let sector = self.sector;
+        Place::new(base + u64::from(sector) * number, sector)
+    }
 }
