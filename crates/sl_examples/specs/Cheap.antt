@@ -3,7 +3,7 @@ use Rattle.sl_area.specs.Layouts.{layout_of}
 use Rattle.sl_report.specs.Languages.{Language, language_of}
 use Rattle.sl_report.specs.Schedules.{replay_lines}
 use Rattle.sl_run.specs.Worlds.{Program}
-use Rattle.sl_sector.specs.Spelling.{u32_bytes}
+use Rattle.sl_sector.specs.Fields.{u32_bytes}
 use Rattle.sl_text.specs.Forms.{as_bytes}
 use Rattle.sl_trace.specs.Commands.{forms}
 use Rattle.std.specs.Prelude.{List, replicate, sum, ℕ, ◌++◌}

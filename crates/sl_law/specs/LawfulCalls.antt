@@ -1,6 +1,6 @@
 -- Whose a call is, and what it may write at all.
 use Rattle.sl_law.specs.Saying.{EachCall}
-use Rattle.sl_sector.specs.Spelling.{IsRecord}
+use Rattle.sl_sector.specs.Records.{IsRecord}
 use Rattle.sl_sector.specs.declared.sector.Rec.{Rec}
 use Rattle.sl_sessions.specs.Sessions.{Freeing, Parted, Stage, Turned_away, session_numbered, stage_of}
 use Rattle.sl_trace.specs.Traces.{Setting, Trace, record_of}
