@@ -3,6 +3,7 @@ use Rattle.sl_due.specs.DueAnswers.{after_answer}
 use Rattle.sl_due.specs.DueCommands.{on_line}
 use Rattle.sl_due.specs.Steps.{Step, add_end, add_reply, for_each, seen, when, with_input}
 use Rattle.sl_leases.specs.Jobs.{is_job_of_process, job_of_start}
+use Rattle.sl_sessions.specs.Sessions.{is_present}
 use Rattle.sl_trace.specs.Traces.{Trace, end_of, holdings, is_running, running_jobs}
 use Rattle.sl_trace.specs.declared.input.Input.TheVariants.{Answer as Told, Exit, Line, Spawned, Wake}
 use Rattle.sl_trace.specs.declared.input.Input.{Input}
@@ -44,7 +45,7 @@ on_spawned p false x = when_running (job_of_start (seen x) p) SpawnFault (end_ho
 -- What the input makes due; a wake is looked at afterwards.
 abbrev pub take_input : Input → Step → Step
 take_input (Line text) x = on_line text x
-take_input (Told call answer) x = after_answer call answer (with_input (Told call answer) x)
+take_input (Told call answer) x = after_answer (is_present (seen x)) call answer (with_input (Told call answer) x)
 take_input (Exit p) x = on_exit p (with_input (Exit p) x)
 take_input (Spawned p ok) x = on_spawned p ok (with_input (Spawned p ok) x)
 take_input Wake x = x

@@ -9,53 +9,51 @@ use Rattle.sl_sector.specs.Spelling.{request_in, value_in}
 use Rattle.sl_sector.specs.declared.sector.Rec.TheVariants.{RequestIs}
 use Rattle.sl_sessions.specs.Sessions.{Session}
 use Rattle.sl_time.specs.Times.{fail}
-use Rattle.sl_trace.specs.Traces.{Setting, Submitted, gave, is_ok_answer}
+use Rattle.sl_trace.specs.Traces.{Setting, Submitted, is_ok_answer}
 use Rattle.sl_trace.specs.declared.command.Command.TheVariants.{Ask}
 use Rattle.sl_trace.specs.declared.command.Command.{Command}
 use Rattle.sl_trace.specs.declared.command.ResourceArg.{ResourceArg}
 use Rattle.sl_trace.specs.declared.effects.Grant.{Grant}
 use Rattle.sl_trace.specs.declared.effects.Op.TheVariants.{WriteRecord}
-use Rattle.sl_trace.specs.declared.effects.Purpose.TheVariants.{AskRead, AskWrite}
+use Rattle.sl_trace.specs.declared.effects.Purpose.TheVariants.{AskWrite}
+use Rattle.sl_trace.specs.declared.effects.Purpose.{Purpose}
 use Rattle.sl_trace.specs.declared.effects.Signal.TheVariants.{Kill, Term}
 use Rattle.sl_trace.specs.declared.effects.Signal.{Signal}
 use Rattle.sl_trace.specs.declared.reply.Reply.TheVariants.{RequestOld, TornLeader, Value, ValueTorn, WrongArea}
 use Rattle.sl_trace.specs.declared.reply.Reply.{Reply}
 use Rattle.sl_words.specs.Words.{choose, some_is}
-use Rattle.std.specs.Prelude.{Bool, List, None, Option, Some, false, filter_map, find, if◌then◌else◌, nat_lt, not, option_and_then, true, ℕ, ◌&&◌, ◌+◌, ◌==◌}
+use Rattle.std.specs.List.{list_any, range_with_len}
+use Rattle.std.specs.Prelude.{Bool, List, None, Option, Some, false, filter, if◌then◌else◌, nat_lt, not, option_and_then, true, ℕ, ◌&&◌, ◌+◌, ◌==◌}
 
 -- ---- requests that set bits: those answered ok less than fail ago, where the leader that they read was held
-
--- Whether the call is the read of leader and request by this job.
-abbrev pub is_ask_read : ℕ → Submitted → Bool
-is_ask_read job m = elim m.call.purpose [ AskRead j ↦ j == job | _ ↦ false ]
-
--- The owner of the held leader that the job's request read.
-abbrev pub owner_asked : Layout → List Submitted → ℕ → Option ℕ
-owner_asked g ms job =
-    option_and_then (λ r. option_and_then (λ l. choose l.held l.owner) (option_and_then (leader_of g) (gave r))) (find (is_ask_read job) ms)
 
 -- Whether the write was answered ok less than `fail` ago.
 abbrev pub is_fresh : Setting → ℕ → Submitted → Bool
 is_fresh st now m = some_is (λ a. is_ok_answer a.answer && nat_lt now (a.reading + fail st.timing)) m.answer
 
--- The owner that this write of a request asks, while its bit is due.
-abbrev pub asked_owner : Setting → List Submitted → ℕ → Submitted → Option ℕ
-asked_owner st ms now m =
-    elim m.call.purpose [
-      | AskWrite job ↦ elim (is_fresh st now m) [ false ↦ None | true ↦ owner_asked st.layout ms job ]
-      | _ ↦ None
-    ]
+-- The owner that this write of a request asks, if it is one.
+abbrev pub owner_asked : Purpose → Option ℕ
+owner_asked (AskWrite j owner) = owner
+owner_asked p = None
+
+-- Whether a request to this owner was answered ok less than `fail` ago.
+abbrev pub is_asked : Setting → List Submitted → ℕ → ℕ → Bool
+is_asked st ms now owner = list_any (λ m. some_is (λ o. o == owner) (owner_asked m.call.purpose) && is_fresh st now m) ms
 
 -- The bits that a renewal of a session with these calls has now.
 abbrev pub bits_due : Setting → List Submitted → ℕ → List ℕ
-bits_due st ms now = bitmap_of (filter_map (asked_owner st ms now) ms)
+bits_due st ms now = bitmap_of (filter (is_asked st ms now) (range_with_len 1 st.layout.hosts))
 
 -- ---- requests and values
 
--- The request is written; the cleared one names no host.
-abbrev pub write_request : Session → ℕ → ResourceArg → ℕ → ℕ → Step → Step
-write_request s j r asked force x =
-    add_call_at s r.path (AskWrite j) (request_offset x.setting.layout r.offset)
+-- The owner of the leader that was read, where it is held.
+abbrev pub owner_read : Layout → List ℕ → Option ℕ
+owner_read g bytes = option_and_then (λ l. choose l.held l.owner) (leader_of g bytes)
+
+-- The request is written, to this owner; the cleared one names no host.
+abbrev pub write_request : Session → ℕ → Option ℕ → ResourceArg → ℕ → ℕ → Step → Step
+write_request s j owner r asked force x =
+    add_call_at s r.path (AskWrite j owner) (request_offset x.setting.layout r.offset)
     (WriteRecord (RequestIs (record { force = force; host = (if asked == 0 then 0 else s.id); lver = asked }))) x
 
 -- What a request is refused for by the read of leader and request, if it is: a torn leader, other names, a held lver or a record that
@@ -76,7 +74,7 @@ ask_refusal g lockspace r asked force bytes =
 -- After the read of leader and request: the request is written, or refused.
 abbrev pub after_ask_read : Session → ℕ → List ℕ → Command → Step → Step
 after_ask_read s j bytes (Ask r asked force) x =
-    elim (ask_refusal x.setting.layout s.lockspace r asked force bytes) [ Some why ↦ add_reply j why x | None ↦ write_request s j r asked force x ]
+    elim (ask_refusal x.setting.layout s.lockspace r asked force bytes) [ Some why ↦ add_reply j why x | None ↦ write_request s j (owner_read x.setting.layout bytes) r asked force x ]
 after_ask_read s j bytes c x = x
 
 -- A request above the held lver reaches the holder.

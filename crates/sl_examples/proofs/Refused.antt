@@ -37,7 +37,7 @@ use Rattle.sl_trace.specs.declared.input.Answer.TheVariants.{Failed, Read, Writt
 use Rattle.sl_trace.specs.declared.input.Input.TheVariants.{Answer as Told, Wake}
 use Rattle.sl_trace.specs.declared.reply.Reply.TheVariants.{Generation}
 use Rattle.std.specs.Fmt.{digits}
-use Rattle.std.specs.Prelude.{List, Some, codes, false, refl, replicate, true, [], ℕ, ◌++◌, ◌∷◌, ◌≡◌}
+use Rattle.std.specs.Prelude.{None, List, Some, codes, false, refl, replicate, true, [], ℕ, ◌++◌, ◌∷◌, ◌≡◌}
 
 abbrev none : List (List ℕ)
 none = codes "sanlock 1" ∷ codes "time 100 600 100 0 300" ∷ codes "hosts 1" ∷ codes "ids 2" ∷ codes "disk /d 4" ∷ codes "lockspace ls /d 0"
@@ -262,7 +262,7 @@ watch_that_writes = refl
 -- a free of the leader that is no work on the lease: the lease would not know that it freed
 abbrev hidden_free : Daemon → List Entry
 hidden_free d =
-    with_calls (writes 6 (AskWrite 1) 1048576 (leader false 1 1 1 (codes "ls")) ∷ [])
+    with_calls (writes 6 (AskWrite 1 None) 1048576 (leader false 1 1 1 (codes "ls")) ∷ [])
     (quiet_entry 0 (Told 5 (Read (bytes_of d (block 1 false 1 1 1 1 1) ++ bytes_of d (block 2 false 0 0 0 0 0))))) ∷ []
 
 pub free_by_asking :

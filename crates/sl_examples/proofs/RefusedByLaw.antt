@@ -61,7 +61,7 @@ st =
 
 abbrev session_a : Session
 session_a =
-    record { number = 0; job = None; began = 0; lockspace = codes "ls"; id = 1; path = codes "/d"; offset = 0; renewed = 0 }
+    record { number = 0; job = None; lockspace = codes "ls"; id = 1; path = codes "/d"; offset = 0; renewed = 0 }
 
 -- the area as it was at first
 abbrev fresh_area : List ℕ

@@ -20,7 +20,7 @@ use Rattle.std.specs.Prelude.{Bool, Contains, IsFalse, IsTrue, List, None, Optio
 abbrev pub is_area_work : Purpose → Bool
 is_area_work (Lease work step) = true
 is_area_work (AskRead j) = true
-is_area_work (AskWrite j) = true
+is_area_work (AskWrite j owner) = true
 is_area_work (ValueWrite j) = true
 is_area_work (ValueRead j) = true
 is_area_work p = false

@@ -120,11 +120,6 @@ phase2_block self own blocks = proposing own (value_to_write self own.lver block
 abbrev pub moded_block : Block → Bool → ℕ → Block
 moded_block own shared mode_gen = record own { shared = shared; mode_gen = mode_gen }
 
--- A ballot that nothing stops ends with its block's value.
-abbrev pub ballot_end : Block → Option Stop → BallotEnd
-ballot_end own None = EndedWith (value_of own)
-ballot_end own (Some stop) = Stopped stop
-
 -- ---- which instance an acquire begins
 
 -- L: a free that this session submitted stands for the leader.

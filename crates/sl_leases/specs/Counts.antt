@@ -10,10 +10,10 @@ use Rattle.sl_trace.specs.declared.effects.Grant.{Grant}
 use Rattle.sl_trace.specs.declared.effects.Spot.{Spot}
 use Rattle.sl_trace.specs.declared.reply.Limited.TheVariants.{Children, Holders, Resources}
 use Rattle.sl_trace.specs.declared.reply.Limited.{Limited}
-use Rattle.sl_words.specs.Words.{choose, greatest, least}
+use Rattle.sl_words.specs.Words.{choose, least}
 use Rattle.std.specs.List.{list_any}
-use Rattle.std.specs.Option.{option_or}
-use Rattle.std.specs.Prelude.{Bool, List, Option, count_by, filter, filter_map, length, map, nat_le, nat_lt, not, option_and_then, sum_by, ℕ, ◌&&◌, ◌+◌, ◌==◌, ◌||◌}
+use Rattle.std.specs.Option.{option_map_or, option_or}
+use Rattle.std.specs.Prelude.{Bool, List, Option, count_by, filter, filter_map, find, length, map, nat_le, nat_lt, not, option_and_then, sum_by, ℕ, ◌&&◌, ◌+◌, ◌==◌, ◌||◌}
 
 -- The daemon's holdings on the area, of whatever session.
 abbrev pub held_here : Trace → Spot → List Grant
@@ -75,7 +75,7 @@ values_on g at ms = filter_map value_written (filter (λ m. is_on g at m.call) m
 
 -- One above the seq of the last value that the session submitted there under that lver, whatever came of it.
 abbrev pub next_value_seq : Setting → Trace → Session → Spot → ℕ → ℕ
-next_value_seq st es s at lver = 1 + greatest (map (λ v. v.seq) (filter (λ v. v.lver == lver) (values_on st.layout at (calls_of es s))))
+next_value_seq st es s at lver = option_map_or (λ v. v.seq) (find (λ v. v.lver == lver) (values_on st.layout at (calls_of es s))) 0 + 1
 
 -- Whether a request of this lver and force is taken: above the held lver and not below the record's, or it clears.
 abbrev pub check_request : ℕ → ℕ → ℕ → ℕ → Bool

@@ -51,11 +51,6 @@ wants_shared (Acquire r shared p) = shared
 wants_shared (RunProgram r shared path) = shared
 wants_shared c = false
 
--- Whether it gives a resource up.
-abbrev pub is_release : Command → Bool
-is_release (Release r p) = true
-is_release c = false
-
 -- Whether it asks for a resource.
 abbrev pub is_asking_lease : Command → Bool
 is_asking_lease (Acquire r shared p) = true
@@ -78,10 +73,6 @@ is_command_that p j = some_is p (command_of j)
 -- The command of the job with this number.
 abbrev pub command_numbered : Setting → Trace → ℕ → Option Command
 command_numbered st es job = option_and_then command_of (job_numbered st es job)
-
--- The resource of the job with this number.
-abbrev pub job_resource : Setting → Trace → ℕ → Option ResourceArg
-job_resource st es job = option_and_then resource_named (command_numbered st es job)
 
 -- The running jobs that name the session's lockspace, by their numbers.
 abbrev pub jobs_of_session : Setting → Trace → Session → List Job

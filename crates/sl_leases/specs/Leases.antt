@@ -25,7 +25,7 @@ use Rattle.sl_trace.specs.declared.effects.Purpose.TheVariants.{Lease}
 use Rattle.sl_trace.specs.declared.effects.Purpose.{Purpose}
 use Rattle.sl_trace.specs.declared.effects.Spot.{Spot}
 use Rattle.sl_trace.specs.declared.effects.Work.{Work}
-use Rattle.sl_words.specs.Orders.{in_order, is_text_before, once_each}
+use Rattle.sl_words.specs.Orders.{is_text_before, put_in}
 use Rattle.sl_words.specs.Words.{choose, greatest, present, some_is}
 use Rattle.std.specs.List.{list_any}
 use Rattle.std.specs.Option.{option_map_or}
@@ -68,9 +68,18 @@ is_lease_call m = is_some (lease_step m.call.purpose)
 abbrev pub lease_calls : Setting → Trace → Session → Spot → List Submitted
 lease_calls st es s at = filter (λ m. is_lease_call m && is_on st.layout at m.call) (calls_of es s)
 
+-- These areas, which stand by place, with one more, if it isn't among them.
+abbrev pub with_spot : Spot → List Spot → List Spot
+with_spot at spots = if list_any (same_spot at) spots then spots else put_in is_spot_before at spots
+
+-- The areas of a session's calls that work on leases, by place.
+abbrev pub spots_in : Layout → List Submitted → List Spot
+spots_in g [] = []
+spots_in g (m ∷ ms) = elim (is_lease_call m) [ false ↦ spots_in g ms | true ↦ with_spot (spot_of_call g m) (spots_in g ms) ]
+
 -- The areas on which the session has leases, by place.
 abbrev pub lease_spots : Setting → Trace → Session → List Spot
-lease_spots st es s = in_order is_spot_before (once_each same_spot (map (spot_of_call st.layout) (filter is_lease_call (calls_of es s))))
+lease_spots st es s = spots_in st.layout (calls_of es s)
 
 -- The kind of a step, without the name that it may carry.
 pub data StepKind : Type 0 where

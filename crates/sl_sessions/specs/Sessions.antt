@@ -24,18 +24,16 @@ use Rattle.sl_trace.specs.declared.input.Input.{Input}
 use Rattle.sl_trace.specs.declared.reply.Reply.TheVariants.{Generation}
 use Rattle.sl_trace.specs.declared.reply.Reply.{Reply}
 use Rattle.sl_words.specs.Orders.{in_order, is_text_before, rising}
-use Rattle.sl_words.specs.Words.{choose, greatest, some_is}
+use Rattle.sl_words.specs.Words.{choose, some_is}
 use Rattle.std.specs.List.{enumerate_from, list_any}
 use Rattle.std.specs.Option.{option_map_or}
-use Rattle.std.specs.Prelude.{Bool, List, None, Ok, Option, Result, Some, bytes_eq, false, filter, filter_map, find, is_none, is_some, length, map, max, nat_le, not, option_and_then, option_map, slice_get, true, unwrap_or, [], ℕ, ◌&&◌, ◌++◌, ◌+◌, ◌==◌, ◌||◌, ◌∷◌}
+use Rattle.std.specs.Prelude.{Bool, List, None, Ok, Option, Result, Some, bytes_eq, false, filter, find, is_none, is_some, length, map, nat_le, not, option_and_then, option_map, slice_get, true, unwrap_or, [], ℕ, ◌&&◌, ◌++◌, ◌+◌, ◌==◌, ◌||◌, ◌∷◌}
 
 -- One joining, or one session that the setting gives.
 pub record Session : Type 0 where
   pub number : ℕ
   -- its joining's job, or none
   pub job : Option ℕ
-  -- the number of entries before it
-  pub began : ℕ
   pub lockspace : List ℕ
   pub id : ℕ
   pub path : List ℕ
@@ -70,19 +68,19 @@ added_by st i = option_and_then (λ text. added (st.read text)) (line_in i)
 -- A session that the setting gives.
 abbrev pub given_session : ℕ × Given → Session
 given_session p =
-    record { number = p.0; job = None; began = 0; lockspace = p.1.lockspace; id = p.1.id; path = p.1.path; offset = p.1.offset; renewed = p.1.renewed }
+    record { number = p.0; job = None; lockspace = p.1.lockspace; id = p.1.id; path = p.1.path; offset = p.1.offset; renewed = p.1.renewed }
 
--- A session that the job with this number begins after so many entries.
-abbrev pub joining_session : ℕ → ℕ → ℕ → LockspaceArg → Session
-joining_session number job began a =
-    record { number = number; job = Some job; began = began; lockspace = a.name; id = a.id; path = a.path; offset = a.offset; renewed = 0 }
+-- A session that the job with this number begins.
+abbrev pub joining_session : ℕ → ℕ → LockspaceArg → Session
+joining_session number job a =
+    record { number = number; job = Some job; lockspace = a.name; id = a.id; path = a.path; offset = a.offset; renewed = 0 }
 
 -- The session of this number that the entry after these begins: its `add_lockspace` submits a first read.
 abbrev pub begun_in : Setting → Trace → ℕ → Entry → List Session
 begun_in st es number e =
     elim (list_any (λ c. is_join_call FirstRead c.purpose) e.effects.calls) [
       | false ↦ []
-      | true ↦ elim (added_by st e.input) [ None ↦ [] | Some a ↦ joining_session number (next_job st es) (length es) a ∷ [] ]
+      | true ↦ elim (added_by st e.input) [ None ↦ [] | Some a ↦ joining_session number (next_job st es) a ∷ [] ]
     ]
 
 -- All sessions of a daemon, by their numbers.
@@ -145,13 +143,18 @@ delta_of_record r = None
 abbrev pub delta_written : Submitted → Option DeltaRec
 delta_written m = option_and_then delta_of_record (record_of m.call.op)
 
--- The delta records that were submitted, the newest first.
-abbrev pub delta_writes : List Submitted → List DeltaRec
-delta_writes ms = filter_map delta_written ms
+-- The delta record that was submitted last.
+abbrev pub last_delta : List Submitted → Option DeltaRec
+last_delta [] = None
+last_delta (m ∷ ms) = elim (delta_written m) [ Some d ↦ Some d | None ↦ last_delta ms ]
+
+-- Generation and seq before any is submitted: 1 for a session of the setting.
+abbrev pub given_number : Session → ℕ
+given_number s = elim s.job [ None ↦ 1 | Some j ↦ 0 ]
 
 -- The generation of a session with these calls: from its claim on; 1 for a session of the setting.
 abbrev pub generation_in : Session → List Submitted → ℕ
-generation_in s ms = elim s.job [ None ↦ 1 | Some j ↦ greatest (map (λ d. d.generation) (delta_writes ms)) ]
+generation_in s ms = option_map_or (λ d. d.generation) (last_delta ms) (given_number s)
 
 -- The generation of a session.
 abbrev pub generation_of : Trace → Session → ℕ
@@ -159,7 +162,7 @@ generation_of es s = generation_in s (calls_of es s)
 
 -- The seq of the last delta record that was submitted; 1 at first for a session of the setting.
 abbrev pub seq_in : Session → List Submitted → ℕ
-seq_in s ms = max (elim s.job [ None ↦ 1 | Some j ↦ 0 ]) (greatest (map (λ d. d.seq) (delta_writes ms)))
+seq_in s ms = option_map_or (λ d. d.seq) (last_delta ms) (given_number s)
 
 -- The seq of the last delta record that the session submitted.
 abbrev pub last_seq : Trace → Session → ℕ
@@ -225,10 +228,6 @@ ended_after es s = elim (joined_after es s) [ Some k ↦ removed_after es s | No
 -- Joined and not ended.
 abbrev pub is_joined : Trace → Session → Bool
 is_joined es s = is_some (joined_after es s) && is_none (removed_after es s)
-
--- Still joining.
-abbrev pub is_joining : Trace → Session → Bool
-is_joining es s = is_none (joined_after es s) && is_none (refused_after es s)
 
 -- Whether its lockspace is in use: it hasn't ended, or its joining was refused and a write is unanswered.
 abbrev pub is_present : Trace → Session → Bool

@@ -57,10 +57,6 @@ front k es = drop (length es - k) es
 abbrev pub entry_at : Trace → ℕ → Option Entry
 entry_at es i = elim (nat_lt i (length es)) [ false ↦ None | true ↦ slice_get es (length es - 1 - i) ]
 
--- The reading of entry i, and 0 where there is none.
-abbrev pub reading_at : Trace → ℕ → ℕ
-reading_at es i = option_map_or (λ e. e.reading) (entry_at es i) 0
-
 -- The newest entry's reading, and 0 where there is none.
 abbrev pub newest_reading : Trace → ℕ
 newest_reading [] = 0
@@ -140,7 +136,7 @@ job_of Survey = None
 job_of (Leaving j) = Some j
 job_of (Lease work step) = work_job work
 job_of (AskRead j) = Some j
-job_of (AskWrite j) = Some j
+job_of (AskWrite j owner) = Some j
 job_of SeeRequest = None
 job_of (ValueWrite j) = Some j
 job_of (ValueRead j) = Some j

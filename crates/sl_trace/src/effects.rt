@@ -68,8 +68,8 @@ pub enum Purpose {
     Lease { work: Work, step: LeaseStep },
     /// A request's read of leader and request.
     AskRead { job: u64 },
-    /// A request's write.
-    AskWrite { job: u64 },
+    /// A request's write; the owner of the held leader that was read, if there was one.
+    AskWrite { job: u64, owner: Option<u32> },
     /// A holder's look at a request.
     SeeRequest,
     /// The write of a value.
