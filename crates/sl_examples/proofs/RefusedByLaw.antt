@@ -22,6 +22,7 @@ use Rattle.sl_report.specs.ScheduleLines.{event_forms, header_forms, header_of, 
 use Rattle.sl_run.specs.Events.{event_tests, first_change, pass_tests}
 use Rattle.sl_run.specs.Worlds.{initial_record, machine_of_header}
 use Rattle.sl_sector.specs.Bitmaps.{no_bits}
+use Rattle.sl_sector.specs.Fields.{u32_at, u32_bytes, u64_at, u64_bytes}
 use Rattle.sl_sector.specs.Spelling.{block_rules, checked_part, decoded, delta_rules, field_bytes, fields_of, leader_rules, magic, request_rules, spelling, value_rules}
 use Rattle.sl_sector.specs.declared.sector.DeltaRec.{DeltaRec}
 use Rattle.sl_sector.specs.declared.sector.DeltaState.TheVariants.{Live}
@@ -84,7 +85,7 @@ abbrev second : Entry
 second = with_calls (second_call ∷ []) (quiet_entry 100 Wake)
 
 pub not_alone : LawfulArea st (begun ∷ asked ∷ []) second → ⊥
-unfolding after_answer_of area_next ask_refusal begin_next block_rules carry_act carry_delta carry_lease checked_part count_event decided decoded delta_rules digits event_forms event_tests field_bytes fields_of first_change forms header_forms header_of header_tests initial_record instance_of known leader_rules lease_next machine_of_header magic next_after_deciding next_after_first next_after_verify next_after_watch next_in_joining next_on_wake next_renewal padded_text pass_tests phase1_block phase2_block reply_words request_rules settle_next spelling stop_of value_rules
+unfolding after_answer_of area_next ask_refusal begin_next block_rules carry_act carry_delta carry_lease checked_part count_event decided decoded delta_rules digits event_forms event_tests field_bytes fields_of first_change forms header_forms header_of header_tests initial_record instance_of known leader_rules lease_next machine_of_header magic next_after_deciding next_after_first next_after_verify next_after_watch next_in_joining next_on_wake next_renewal padded_text pass_tests phase1_block phase2_block reply_words request_rules settle_next spelling stop_of u32_at u32_bytes u64_at u64_bytes value_rules
 not_alone h =
     let none_open : open_block_work st (cut_at 0 second ∷ begun ∷ asked ∷ []) session_a (record { path = codes "/d"; base = 1048576 }) ≡ [] =
     h.alone 0 second_call session_a refl refl refl in
@@ -98,12 +99,12 @@ removing = with_moves (Unregister (codes "ls") ∷ []) (quiet_entry 0 Wake)
 
 -- neither recovery nor a free's answer stands behind the end
 no_reason : MayPart st [] removing session_a → ⊥
-unfolding after_answer_of area_next ask_refusal begin_next block_rules carry_act carry_delta carry_lease checked_part count_event decided decoded delta_rules digits event_forms event_tests field_bytes fields_of first_change forms header_forms header_of header_tests initial_record instance_of known leader_rules lease_next machine_of_header magic next_after_deciding next_after_first next_after_verify next_after_watch next_in_joining next_on_wake next_renewal padded_text pass_tests phase1_block phase2_block reply_words request_rules settle_next spelling stop_of value_rules
+unfolding after_answer_of area_next ask_refusal begin_next block_rules carry_act carry_delta carry_lease checked_part count_event decided decoded delta_rules digits event_forms event_tests field_bytes fields_of first_change forms header_forms header_of header_tests initial_record instance_of known leader_rules lease_next machine_of_header magic next_after_deciding next_after_first next_after_verify next_after_watch next_in_joining next_on_wake next_renewal padded_text pass_tests phase1_block phase2_block reply_words request_rules settle_next spelling stop_of u32_at u32_bytes u64_at u64_bytes value_rules
 no_reason (inl r) = let wrong : ◌≡◌ {A = Bool} false true = r.0 in absurd cc
 no_reason (inr r) = let wrong : ◌≡◌ {A = Option Submitted} None (Some r.0) = r.2 in absurd cc
 
 pub not_parted : LawfulRecovery st [] removing → ⊥
-unfolding after_answer_of area_next ask_refusal begin_next block_rules carry_act carry_delta carry_lease checked_part count_event decided decoded delta_rules digits event_forms event_tests field_bytes fields_of first_change forms header_forms header_of header_tests initial_record instance_of known leader_rules lease_next machine_of_header magic next_after_deciding next_after_first next_after_verify next_after_watch next_in_joining next_on_wake next_renewal padded_text pass_tests phase1_block phase2_block reply_words request_rules settle_next spelling stop_of value_rules
+unfolding after_answer_of area_next ask_refusal begin_next block_rules carry_act carry_delta carry_lease checked_part count_event decided decoded delta_rules digits event_forms event_tests field_bytes fields_of first_change forms header_forms header_of header_tests initial_record instance_of known leader_rules lease_next machine_of_header magic next_after_deciding next_after_first next_after_verify next_after_watch next_in_joining next_on_wake next_renewal padded_text pass_tests phase1_block phase2_block reply_words request_rules settle_next spelling stop_of u32_at u32_bytes u64_at u64_bytes value_rules
 not_parted h = no_reason (h.parts_well session_a (0, omega arith, refl) refl refl)
 
 -- ---- a renewal with an old seq
@@ -121,7 +122,7 @@ abbrev seq_of : Option DeltaRec → ℕ
 seq_of o = option_map_or (λ d. d.seq) o 0
 
 pub not_rising : LawfulDelta st [] renewing_entry → ⊥
-unfolding after_answer_of area_next ask_refusal begin_next block_rules carry_act carry_delta carry_lease checked_part count_event decided decoded delta_rules digits event_forms event_tests field_bytes fields_of first_change forms header_forms header_of header_tests initial_record instance_of known leader_rules lease_next machine_of_header magic next_after_deciding next_after_first next_after_verify next_after_watch next_in_joining next_on_wake next_renewal padded_text pass_tests phase1_block phase2_block reply_words request_rules settle_next spelling stop_of value_rules
+unfolding after_answer_of area_next ask_refusal begin_next block_rules carry_act carry_delta carry_lease checked_part count_event decided decoded delta_rules digits event_forms event_tests field_bytes fields_of first_change forms header_forms header_of header_tests initial_record instance_of known leader_rules lease_next machine_of_header magic next_after_deciding next_after_first next_after_verify next_after_watch next_in_joining next_on_wake next_renewal padded_text pass_tests phase1_block phase2_block reply_words request_rules settle_next spelling stop_of u32_at u32_bytes u64_at u64_bytes value_rules
 not_rising h =
     let lawful : LawfulRenewal st (cut_at 0 renewing_entry ∷ []) session_a (new_call 0 200 stale_call) =
     h.calls 0 stale_call session_a refl refl in

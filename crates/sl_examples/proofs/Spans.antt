@@ -13,7 +13,7 @@ use Rattle.sl_report.specs.Reports.{count_event}
 use Rattle.sl_report.specs.ScheduleLines.{event_forms, header_forms, header_of, header_tests}
 use Rattle.sl_run.specs.Events.{event_tests, first_change, pass_tests}
 use Rattle.sl_run.specs.Worlds.{initial_record, machine_of_header}
-use Rattle.sl_sector.specs.Fields.{u32_bytes}
+use Rattle.sl_sector.specs.Fields.{u32_at, u32_bytes, u64_at, u64_bytes}
 use Rattle.sl_sector.specs.Spelling.{block_rules, checked_part, decoded, delta_rules, field_bytes, fields_of, leader_rules, magic, request_rules, spelling, value_rules}
 use Rattle.sl_sector.specs.declared.sector.DeltaRec.{DeltaRec}
 use Rattle.sl_sector.specs.declared.sector.DeltaState.TheVariants.{Claimed, Live}
@@ -44,23 +44,23 @@ look before after d = record { before = before; after = after; bytes = sector_wi
 
 -- A live record that stood still for less than dead, counted from the first answer to the last submission.
 pub too_short : evidence tm g 2 1 (look 1510 1512 (live_record Live 1) ∷ look 0 10 (live_record Live 1) ∷ []) ≡ None
-unfolding after_answer_of area_next ask_refusal begin_next block_rules carry_act carry_delta carry_lease checked_part count_event decided decoded delta_rules digits event_forms event_tests field_bytes fields_of first_change forms header_forms header_of header_tests initial_record instance_of known leader_rules lease_next machine_of_header magic next_after_deciding next_after_first next_after_verify next_after_watch next_in_joining next_on_wake next_renewal padded_text pass_tests phase1_block phase2_block reply_words request_rules settle_next spelling stop_of value_rules
+unfolding after_answer_of area_next ask_refusal begin_next block_rules carry_act carry_delta carry_lease checked_part count_event decided decoded delta_rules digits event_forms event_tests field_bytes fields_of first_change forms header_forms header_of header_tests initial_record instance_of known leader_rules lease_next machine_of_header magic next_after_deciding next_after_first next_after_verify next_after_watch next_in_joining next_on_wake next_renewal padded_text pass_tests phase1_block phase2_block reply_words request_rules settle_next spelling stop_of u32_at u32_bytes u64_at u64_bytes value_rules
 too_short = refl
 
 -- .. and for dead.
 pub silent : evidence tm g 2 1 (look 1511 1513 (live_record Live 1) ∷ look 1510 1512 (live_record Live 1) ∷ look 0 10 (live_record Live 1) ∷ [])
     ≡ Some (Silent 10 1511)
-unfolding after_answer_of area_next ask_refusal begin_next block_rules carry_act carry_delta carry_lease checked_part count_event decided decoded delta_rules digits event_forms event_tests field_bytes fields_of first_change forms header_forms header_of header_tests initial_record instance_of known leader_rules lease_next machine_of_header magic next_after_deciding next_after_first next_after_verify next_after_watch next_in_joining next_on_wake next_renewal padded_text pass_tests phase1_block phase2_block reply_words request_rules settle_next spelling stop_of value_rules
+unfolding after_answer_of area_next ask_refusal begin_next block_rules carry_act carry_delta carry_lease checked_part count_event decided decoded delta_rules digits event_forms event_tests field_bytes fields_of first_change forms header_forms header_of header_tests initial_record instance_of known leader_rules lease_next machine_of_header magic next_after_deciding next_after_first next_after_verify next_after_watch next_in_joining next_on_wake next_renewal padded_text pass_tests phase1_block phase2_block reply_words request_rules settle_next spelling stop_of u32_at u32_bytes u64_at u64_bytes value_rules
 silent = refl
 
 -- A claim's silence is no evidence.
 pub claimed : evidence tm g 2 1 (look 1511 1513 (live_record Claimed 1) ∷ look 0 10 (live_record Claimed 1) ∷ []) ≡ None
-unfolding after_answer_of area_next ask_refusal begin_next block_rules carry_act carry_delta carry_lease checked_part count_event decided decoded delta_rules digits event_forms event_tests field_bytes fields_of first_change forms header_forms header_of header_tests initial_record instance_of known leader_rules lease_next machine_of_header magic next_after_deciding next_after_first next_after_verify next_after_watch next_in_joining next_on_wake next_renewal padded_text pass_tests phase1_block phase2_block reply_words request_rules settle_next spelling stop_of value_rules
+unfolding after_answer_of area_next ask_refusal begin_next block_rules carry_act carry_delta carry_lease checked_part count_event decided decoded delta_rules digits event_forms event_tests field_bytes fields_of first_change forms header_forms header_of header_tests initial_record instance_of known leader_rules lease_next machine_of_header magic next_after_deciding next_after_first next_after_verify next_after_watch next_in_joining next_on_wake next_renewal padded_text pass_tests phase1_block phase2_block reply_words request_rules settle_next spelling stop_of u32_at u32_bytes u64_at u64_bytes value_rules
 claimed = refl
 
 -- An older generation.
 pub newer : evidence tm g 2 0 (look 0 10 (live_record Live 1) ∷ []) ≡ Some (Newer 1)
-unfolding after_answer_of area_next ask_refusal begin_next block_rules carry_act carry_delta carry_lease checked_part count_event decided decoded delta_rules digits event_forms event_tests field_bytes fields_of first_change forms header_forms header_of header_tests initial_record instance_of known leader_rules lease_next machine_of_header magic next_after_deciding next_after_first next_after_verify next_after_watch next_in_joining next_on_wake next_renewal padded_text pass_tests phase1_block phase2_block reply_words request_rules settle_next spelling stop_of value_rules
+unfolding after_answer_of area_next ask_refusal begin_next block_rules carry_act carry_delta carry_lease checked_part count_event decided decoded delta_rules digits event_forms event_tests field_bytes fields_of first_change forms header_forms header_of header_tests initial_record instance_of known leader_rules lease_next machine_of_header magic next_after_deciding next_after_first next_after_verify next_after_watch next_in_joining next_on_wake next_renewal padded_text pass_tests phase1_block phase2_block reply_words request_rules settle_next spelling stop_of u32_at u32_bytes u64_at u64_bytes value_rules
 newer = refl
 
 -- A renewal begins a run anew.
@@ -73,16 +73,16 @@ stood = look 3006 3011 (live_record Live 2) ∷ look 3000 3010 (live_record Live
 
 -- A run counts from its own first answer.
 pub short_of_dead : evidence tm g 2 1 (look 3000 3010 (live_record Live 2) ∷ renewed) ≡ None
-unfolding after_answer_of area_next ask_refusal begin_next block_rules carry_act carry_delta carry_lease checked_part count_event decided decoded delta_rules digits event_forms event_tests field_bytes fields_of first_change forms header_forms header_of header_tests initial_record instance_of known leader_rules lease_next machine_of_header magic next_after_deciding next_after_first next_after_verify next_after_watch next_in_joining next_on_wake next_renewal padded_text pass_tests phase1_block phase2_block reply_words request_rules settle_next spelling stop_of value_rules
+unfolding after_answer_of area_next ask_refusal begin_next block_rules carry_act carry_delta carry_lease checked_part count_event decided decoded delta_rules digits event_forms event_tests field_bytes fields_of first_change forms header_forms header_of header_tests initial_record instance_of known leader_rules lease_next machine_of_header magic next_after_deciding next_after_first next_after_verify next_after_watch next_in_joining next_on_wake next_renewal padded_text pass_tests phase1_block phase2_block reply_words request_rules settle_next spelling stop_of u32_at u32_bytes u64_at u64_bytes value_rules
 short_of_dead = refl
 
 -- Long enough.
 pub long_enough : evidence tm g 2 1 stood ≡ Some (Silent 1505 3006)
-unfolding after_answer_of area_next ask_refusal begin_next block_rules carry_act carry_delta carry_lease checked_part count_event decided decoded delta_rules digits event_forms event_tests field_bytes fields_of first_change forms header_forms header_of header_tests initial_record instance_of known leader_rules lease_next machine_of_header magic next_after_deciding next_after_first next_after_verify next_after_watch next_in_joining next_on_wake next_renewal padded_text pass_tests phase1_block phase2_block reply_words request_rules settle_next spelling stop_of value_rules
+unfolding after_answer_of area_next ask_refusal begin_next block_rules carry_act carry_delta carry_lease checked_part count_event decided decoded delta_rules digits event_forms event_tests field_bytes fields_of first_change forms header_forms header_of header_tests initial_record instance_of known leader_rules lease_next machine_of_header magic next_after_deciding next_after_first next_after_verify next_after_watch next_in_joining next_on_wake next_renewal padded_text pass_tests phase1_block phase2_block reply_words request_rules settle_next spelling stop_of u32_at u32_bytes u64_at u64_bytes value_rules
 long_enough = refl
 
 -- What ids look like: never seen, renewed, renewed long ago, silent.
 pub states : (host_state tm g 1 [] 1600 ∷ host_state tm g 2 renewed 1600 ∷ host_state tm g 2 renewed 2305 ∷ host_state tm g 2 stood 3020 ∷ [])
     ≡ (Unknown ∷ Alive ∷ Failing ∷ Dead ∷ [])
-unfolding after_answer_of area_next ask_refusal begin_next block_rules carry_act carry_delta carry_lease checked_part count_event decided decoded delta_rules digits event_forms event_tests field_bytes fields_of first_change forms header_forms header_of header_tests initial_record instance_of known leader_rules lease_next machine_of_header magic next_after_deciding next_after_first next_after_verify next_after_watch next_in_joining next_on_wake next_renewal padded_text pass_tests phase1_block phase2_block reply_words request_rules settle_next spelling stop_of value_rules
+unfolding after_answer_of area_next ask_refusal begin_next block_rules carry_act carry_delta carry_lease checked_part count_event decided decoded delta_rules digits event_forms event_tests field_bytes fields_of first_change forms header_forms header_of header_tests initial_record instance_of known leader_rules lease_next machine_of_header magic next_after_deciding next_after_first next_after_verify next_after_watch next_in_joining next_on_wake next_renewal padded_text pass_tests phase1_block phase2_block reply_words request_rules settle_next spelling stop_of u32_at u32_bytes u64_at u64_bytes value_rules
 states = refl
