@@ -63,6 +63,7 @@ unfolding after_answer_of area_next ask_refusal begin_next block_rules carry_act
 state_two = refl
 
 pub stamp : u64_bytes 1701 ≡ (0 ∷ 0 ∷ 0 ∷ 0 ∷ 0 ∷ 0 ∷ 6 ∷ 0xa5 ∷ [])
+unfolding u64_bytes
 stamp = refl
 
 pub block_text : record_text (BlockIs (record { host = 1; shared = false; lver = 1; mbal = 1; bal = 1; inp_gen = 1; mode_gen = 0; inp = 1 }))
