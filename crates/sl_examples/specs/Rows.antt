@@ -127,6 +127,23 @@ two_claims =
           codes "2 reply 1 ok 1" ∷ codes "2 call 6 read /d 0 2" ∷ codes "end events 22 calls 10 grants 0 refusals 1 conflicts 0" ∷ [];
     }
 
+-- A read's answer comes when its session is gone and the next one has its lockspace: that one's connection stands.
+abbrev pub answer_after_its_session : Row
+answer_after_its_session =
+    record {
+      name = codes "answer after its session";
+      source =
+          codes "sanlock 1" ∷ codes "time 100 6000 100 0 300" ∷ codes "hosts 1" ∷ codes "ids 2" ∷ codes "disk /d 4" ∷
+          codes "lockspace ls /d 0" ∷ codes "resource ls r /d 1048576" ∷ codes "begin" ∷ codes "start 1 a" ∷
+          codes "command 1 add_lockspace -s ls:1:/d:0" ∷ codes "pass 100" ∷ codes "wake 1" ∷ codes "command 1 add_lockspace -s ls:1:/d:0" ∷
+          codes "do 1 2" ∷ codes "do 1 3" ∷ codes "answer 1 1 failed" ∷ codes "pass 800" ∷ codes "test 1" ∷ [];
+      report =
+          codes "1 call 1 read /d 0 1" ∷ codes "1 reply 1 IoTimeout 1 0 100" ∷ codes "1 call 2 read /d 0 1" ∷
+          codes "1 wdmd register ls 900" ∷ codes "1 call 3 read /d 0 1" ∷
+          codes "1 call 4 write /d 0 delta 1 gen 1 claim a seq 1 stamp 100" ∷ codes "1 test failed" ∷
+          codes "end events 10 calls 4 grants 0 refusals 1 conflicts 0" ∷ [];
+    }
+
 -- An owner is reset; another watches its silence and takes its resource over under the next instance.
 abbrev pub owner_reset_then_taken_over : Row
 owner_reset_then_taken_over =

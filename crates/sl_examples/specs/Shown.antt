@@ -1,7 +1,7 @@
 -- What the worked schedules show.
 use Rattle.sl_due.specs.DueCommands.{acquiring}
 use Rattle.sl_examples.specs.RefusedLines.{refused_events, refused_headers, tears}
-use Rattle.sl_examples.specs.Rows.{acquire_and_release, crash_with_holder, failing, late_landing, leaving, owner_reset_then_taken_over, recovery, recovery_with_write, refusals, request, rival, settled_win, shared, torn_phase2, torn_value, two_claims}
+use Rattle.sl_examples.specs.Rows.{acquire_and_release, answer_after_its_session, crash_with_holder, failing, late_landing, leaving, owner_reset_then_taken_over, recovery, recovery_with_write, refusals, request, rival, settled_win, shared, torn_phase2, torn_value, two_claims}
 use Rattle.sl_examples.specs.WorldTests.{has_last_line, keeps_laws, replays, stays_safe}
 use Rattle.std.specs.List.{list_all}
 use Rattle.std.specs.Prelude.{true, [], ◌∷◌, ◌≡◌}
@@ -9,7 +9,7 @@ use Rattle.std.specs.Prelude.{true, [], ◌∷◌, ◌≡◌}
 -- Each worked schedule gives its report, each daemon doing what is due.
 pub record SchedulesReplay : Type 0 where
   pub acquiring : failing replays (acquire_and_release ∷ settled_win ∷ rival ∷ torn_phase2 ∷ refusals ∷ []) ≡ []
-  pub joining : failing replays (two_claims ∷ []) ≡ []
+  pub joining : failing replays (two_claims ∷ answer_after_its_session ∷ []) ≡ []
   pub taking_over : failing replays (owner_reset_then_taken_over ∷ []) ≡ []
   pub resets : failing replays (crash_with_holder ∷ late_landing ∷ []) ≡ []
   pub sharing : failing replays (shared ∷ []) ≡ []
