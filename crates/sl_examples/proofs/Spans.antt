@@ -26,7 +26,7 @@ use Rattle.sl_time.specs.Times.{TimingNumbers}
 use Rattle.sl_trace.specs.Commands.{forms}
 use Rattle.sl_trace.specs.EffectTexts.{reply_words}
 use Rattle.sl_trace.specs.declared.reply.Evidence.TheVariants.{Newer, Silent}
-use Rattle.sl_trace.specs.declared.reply.HostState.TheVariants.{Alive, Dead, Failing, Unknown}
+use Rattle.sl_trace.specs.declared.reply.HostState.TheVariants.{Dead, Failing, Live as LooksLive, Unknown}
 use Rattle.std.specs.Fmt.{digits}
 use Rattle.std.specs.Prelude.{List, None, Some, codes, refl, replicate, sum, [], ℕ, ◌++◌, ◌∷◌, ◌≡◌}
 
@@ -83,6 +83,6 @@ long_enough = refl
 
 -- What ids look like: never seen, renewed, renewed long ago, silent.
 pub states : (host_state tm g 1 [] 1600 ∷ host_state tm g 2 renewed 1600 ∷ host_state tm g 2 renewed 2305 ∷ host_state tm g 2 stood 3020 ∷ [])
-    ≡ (Unknown ∷ Alive ∷ Failing ∷ Dead ∷ [])
+    ≡ (Unknown ∷ LooksLive ∷ Failing ∷ Dead ∷ [])
 unfolding after_answer_of area_next ask_refusal begin_next block_rules carry_act carry_delta carry_lease checked_part count_event decided decoded delta_rules digits event_forms event_tests field_bytes fields_of first_change forms header_forms header_of header_tests initial_record instance_of known leader_rules lease_next machine_of_header magic next_after_deciding next_after_first next_after_verify next_after_watch next_in_joining next_on_wake next_renewal padded_text pass_tests phase1_block phase2_block reply_words request_rules settle_next spelling stop_of u32_at u32_bytes u64_at u64_bytes value_rules
 states = refl

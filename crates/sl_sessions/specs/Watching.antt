@@ -11,11 +11,12 @@ use Rattle.sl_time.specs.Times.{TimingNumbers, dead, fail}
 use Rattle.sl_trace.specs.Traces.{Setting, Submitted, Trace, bytes_given}
 use Rattle.sl_trace.specs.declared.reply.Evidence.TheVariants.{Freed, Newer, Silent}
 use Rattle.sl_trace.specs.declared.reply.Evidence.{Evidence}
-use Rattle.sl_trace.specs.declared.reply.HostState.TheVariants.{Alive, Dead, Failing, Unknown, Vacant}
+use Rattle.sl_trace.specs.declared.reply.HostState.TheVariants.{Dead, Failing, Free as LooksFree, Live as LooksLive, Unknown}
 use Rattle.sl_trace.specs.declared.reply.HostState.{HostState}
 use Rattle.sl_trace.specs.declared.reply.StateOf.{StateOf}
 use Rattle.sl_words.specs.Words.{choose, greatest}
 use Rattle.std.specs.List.{list_any, range_with_len}
+use Rattle.std.specs.Option.{option_map_or}
 use Rattle.std.specs.Prelude.{Bool, List, None, Option, Some, bytes_eq, false, filter_map, if◌then◌else◌, is_some, map, nat_le, nat_lt, option_and_then, option_map, true, [], ℕ, ◌&&◌, ◌-◌, ◌==◌, ◌∷◌}
 
 -- One look at an id's sector: readings before and after, and the bytes.
@@ -64,6 +65,10 @@ current_run g id (s ∷ ss) = option_map (λ d. run_with (current_run g id ss) s
 abbrev pub span : Run → ℕ
 span r = r.latest - r.since
 
+-- How long the id is known to have stood still: the span of its run, and 0 where there is none.
+abbrev pub unchanged : Layout → ℕ → List Sighting → ℕ
+unchanged g id ss = option_map_or span (current_run g id ss) 0
+
 -- The records of the id that were seen.
 abbrev pub seen_records : Layout → ℕ → List Sighting → List DeltaRec
 seen_records g id ss = filter_map (sighted g id) ss
@@ -106,14 +111,14 @@ evidence_of tm h records run =
 abbrev pub evidence : TimingNumbers → Layout → ℕ → ℕ → List Sighting → Option Evidence
 evidence tm g id h ss = evidence_of tm h (seen_records g id ss) (current_run g id ss)
 
--- What a run looks like at a reading: free; dead where it stood still for `dead`; failing where it is `fail` old; alive where a change
+-- What a run looks like at a reading: free; dead where it stood still for `dead`; failing where it is `fail` old; live where a change
 -- was seen before it.
 abbrev pub state_of_run : TimingNumbers → Run → ℕ → HostState
 state_of_run tm r now =
-    if is_free_state r.spelled.state then Vacant
+    if is_free_state r.spelled.state then LooksFree
     else (if nat_le (dead tm) (span r) then Dead
     else (if nat_le (fail tm) (now - r.since) then Failing
-    else (if r.changed then Alive else Unknown)))
+    else (if r.changed then LooksLive else Unknown)))
 
 -- What an id looks like at a reading.
 abbrev pub host_state : TimingNumbers → Layout → ℕ → List Sighting → ℕ → HostState

@@ -19,7 +19,7 @@ use Rattle.sl_trace.specs.declared.effects.Signal.{Signal}
 use Rattle.sl_trace.specs.declared.effects.Start.{Start}
 use Rattle.sl_trace.specs.declared.reply.DeltaOwner.{DeltaOwner}
 use Rattle.sl_trace.specs.declared.reply.DeltaVersion.{DeltaVersion}
-use Rattle.sl_trace.specs.declared.reply.HostState.TheVariants.{Alive, Dead, Failing, Unknown, Vacant}
+use Rattle.sl_trace.specs.declared.reply.HostState.TheVariants.{Dead, Failing, Free as LooksFree, Live as LooksLive, Unknown}
 use Rattle.sl_trace.specs.declared.reply.HostState.{HostState}
 use Rattle.sl_trace.specs.declared.reply.Limited.TheVariants.{Children, Gen as GenLimit, Holders, Lockspaces, Lver as LverLimit, Mbal as MbalLimit, Resources, Seq as SeqLimit}
 use Rattle.sl_trace.specs.declared.reply.Limited.{Limited}
@@ -33,15 +33,15 @@ use Rattle.std.specs.Prelude.{Bool, List, None, Option, Some, codes, decimal, fa
 -- The word of a host's state.
 abbrev pub state_word : HostState → List ℕ
 state_word Unknown = codes "UNKN"
-state_word Vacant = codes "FREE"
+state_word LooksFree = codes "FREE"
 state_word Dead = codes "DEAD"
 state_word Failing = codes "FAIL"
-state_word Alive = codes "LIVE"
+state_word LooksLive = codes "LIVE"
 
 -- Whether the id is free; such an id isn't told.
-abbrev pub is_vacant : HostState → Bool
-is_vacant Vacant = true
-is_vacant s = false
+abbrev pub is_free_host : HostState → Bool
+is_free_host LooksFree = true
+is_free_host s = false
 
 -- The greatest number that a record may carry.
 abbrev pub greatest_number : List ℕ
@@ -84,7 +84,7 @@ reply_words (Granted lver) = codes "ok" ∷ decimal lver ∷ []
 reply_words (Started lver process) = codes "ok" ∷ decimal lver ∷ decimal process ∷ []
 reply_words (Value lver seq bytes) = codes "ok" ∷ decimal lver ∷ decimal seq ∷ dash_for_none (hex_text bytes) ∷ []
 reply_words (Hosts states) =
-    codes "ok" ∷ map (λ s. coloned (decimal s.id ∷ state_word s.state ∷ [])) (filter (λ s. not (is_vacant s.state)) states)
+    codes "ok" ∷ map (λ s. coloned (decimal s.id ∷ state_word s.state ∷ [])) (filter (λ s. not (is_free_host s.state)) states)
 reply_words (Sessions sessions) =
     codes "ok" ∷ map (λ s. coloned (s.lockspace ∷ decimal s.id ∷ decimal s.generation ∷ [])) sessions
 reply_words NoSession = codes "NoSession" ∷ []

@@ -7,10 +7,10 @@ use sl_text::{Data, Name, Seq};
 #[derive(Clone, Copy)]
 pub enum HostState {
     Unknown,
-    Vacant,
+    Free,
     Dead,
     Failing,
-    Alive,
+    Live,
 }
 
 /// An id with what it looks like.
