@@ -16,19 +16,19 @@ use Rattle.std.specs.List.{AllByRecursion, list_any}
 use Rattle.std.specs.Prelude.{Bool, IsTrue, List, false, is_none, is_some, true, [], ℕ, ◌&&◌, ◌==◌, ◌||◌, ◌∷◌, ◌≡◌}
 
 -- What a step does before its input.
-abbrev pub before_input : Step → Step
+unfoldable pub before_input : Step → Step
 before_input x = time_outs (kills (begin_recoveries x))
 
 -- What comes after the input: on a wake what is due by time, and what comes last.
-abbrev pub after_input : Input → Step → Step
+unfoldable pub after_input : Input → Step → Step
 after_input i x = finish (when (is_wake i) on_wake x)
 
 -- A step: what comes before the input, the input, and what comes after it.
-abbrev pub due_step : Setting → Trace → ℕ → Input → Step
+unfoldable pub due_step : Setting → Trace → ℕ → Input → Step
 due_step st past reading i = after_input i (take_input i (before_input (begin_step st past reading)))
 
 -- The effects that are due.
-abbrev pub due : Setting → Trace → ℕ → Input → Effects
+unfoldable pub due : Setting → Trace → ℕ → Input → Effects
 due st past reading i = (due_step st past reading i).effects
 
 -- Each entry has the effects that are due.

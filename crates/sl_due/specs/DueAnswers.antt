@@ -1,11 +1,11 @@
 -- What an answer makes due, by what its call was for.
 use Rattle.sl_due.specs.DueDelta.{after_free, after_join_answer, after_renewal, after_survey}
 use Rattle.sl_due.specs.DueLease.{after_lease_answer, with_command}
-use Rattle.sl_due.specs.DueRequests.{after_ask_read, after_see_request, after_value_read}
+use Rattle.sl_due.specs.DueRequests.{after_request_read, after_see_request, after_value_read}
 use Rattle.sl_due.specs.Steps.{Step, add_reply, seen, when, with_some}
 use Rattle.sl_sessions.specs.Sessions.{Session, session_numbered}
-use Rattle.sl_trace.specs.Traces.{Submitted, call_numbered, is_running}
-use Rattle.sl_trace.specs.declared.effects.Purpose.TheVariants.{AskRead, AskWrite, Joining, Lease, Leaving, Renewal, SeeRequest, Survey, ValueRead, ValueWrite}
+use Rattle.sl_trace.specs.Traces.{Submitted, bytes_given, call_numbered, is_running}
+use Rattle.sl_trace.specs.declared.effects.Purpose.TheVariants.{RequestRead, RequestWrite, Joining, Lease, Leaving, Renewal, SeeRequest, Survey, ValueRead, ValueWrite}
 use Rattle.sl_trace.specs.declared.effects.Purpose.{Purpose}
 use Rattle.sl_trace.specs.declared.input.Answer.TheVariants.{Failed, Read, Written}
 use Rattle.sl_trace.specs.declared.input.Answer.{Answer}
@@ -22,26 +22,24 @@ for_job j m answer on_bytes on_done x =
 
 -- What a read gave, whatever its account.
 abbrev pub on_bytes_read : Answer → (List ℕ → Step → Step) → Step → Step
-on_bytes_read (Read bytes) f x = f bytes x
-on_bytes_read Written f x = x
-on_bytes_read Failed f x = x
+on_bytes_read answer f x = with_some (bytes_given answer) f x
 
 -- By what the call was for.
 unfoldable pub after_answer_of : Session → Submitted → Purpose → Answer → Step → Step
 after_answer_of s m (Joining j step) answer x = after_join_answer s j step m answer x
 after_answer_of s m Renewal answer x = after_renewal s m answer x
 after_answer_of s m Survey answer x = on_bytes_read answer (after_survey s) x
-after_answer_of s m (Leaving j) answer x = after_free s m answer x
+after_answer_of s m (Leaving j) answer x = after_free s j m answer x
 after_answer_of s m (Lease work step) answer x = after_lease_answer s work step m answer x
-after_answer_of s m (AskRead j) answer x = for_job j m answer (λ bytes. with_command j (after_ask_read s j bytes)) (λ y. y) x
-after_answer_of s m (AskWrite j owner) answer x = for_job j m answer (λ bytes y. y) (add_reply j Done) x
+after_answer_of s m (RequestRead j) answer x = for_job j m answer (λ bytes. with_command j (after_request_read s j bytes)) (λ y. y) x
+after_answer_of s m (RequestWrite j owner) answer x = for_job j m answer (λ bytes y. y) (add_reply j Done) x
 after_answer_of s m SeeRequest answer x = on_bytes_read answer (after_see_request s m) x
 after_answer_of s m (ValueWrite j) answer x = for_job j m answer (λ bytes y. y) (add_reply j Done) x
 after_answer_of s m (ValueRead j) answer x = for_job j m answer (λ bytes. after_value_read j bytes) (λ y. y) x
 
 -- The answer of the call with this number, by the sessions that were there before it: that of a call of a session which is gone has
 -- no effect, and another session may have its lockspace by now.
-abbrev pub after_answer : (Session → Bool) → ℕ → Answer → Step → Step
+unfoldable pub after_answer : (Session → Bool) → ℕ → Answer → Step → Step
 after_answer was_present number answer x =
     with_some (call_numbered (seen x) number) (λ m.
     with_some (session_numbered x.setting (seen x) m.call.session) (λ s. when (was_present s) (after_answer_of s m m.call.purpose answer))) x

@@ -1,17 +1,18 @@
 -- What a command makes due: it is decided as data on the trace before its line, its refusals in order; then the decision is carried out.
 use Rattle.sl_area.specs.Places.{delta_offset, value_offset}
-use Rattle.sl_due.specs.DueFirst.{stop_session}
+use Rattle.sl_due.specs.DueFirst.{signal_and_refuse}
 use Rattle.sl_due.specs.DueLease.{carry_lease, grant_for, read_area}
 use Rattle.sl_due.specs.Steps.{Step, add_call_at, add_call_of, add_end, add_reply, seen, with_input}
-use Rattle.sl_leases.specs.Counts.{busy_process, limit_met, may_act, most_lockspaces, next_value_seq, pending_call}
+use Rattle.sl_leases.specs.Counts.{busy_process, limit_met, may_act, next_value_seq, pending_call}
 use Rattle.sl_leases.specs.LeaseWork.{lease_place, release_next}
 use Rattle.sl_leases.specs.Leases.{holdings_on, known, shared_on, spot_of}
 use Rattle.sl_sector.specs.declared.sector.Rec.TheVariants.{ValueIs}
 use Rattle.sl_sector.specs.declared.sector.ValueRec.{ValueRec}
 use Rattle.sl_sessions.specs.Sessions.{Session, generation_of, is_active, is_joined, is_session_arg, last_renewal, last_seq, present_sessions, session_named, sessions}
 use Rattle.sl_sessions.specs.Watching.{states_seen}
+use Rattle.sl_trace.specs.Limits.{most_lockspaces}
 use Rattle.sl_trace.specs.Traces.{Setting, Trace, end_of, is_shared, next_job, spot_of_grant}
-use Rattle.sl_trace.specs.declared.command.Command.TheVariants.{Acquire, AddLockspace, Ask, GetLvb, HostStatus, InqLockspace, Release, RemLockspace, RunProgram, SetLvb, Status}
+use Rattle.sl_trace.specs.declared.command.Command.TheVariants.{Acquire, AddLockspace, GetLvb, HostStatus, InqLockspace, Release, RemLockspace, Request, RunProgram, SetLvb, Status}
 use Rattle.sl_trace.specs.declared.command.Command.{Command}
 use Rattle.sl_trace.specs.declared.command.LockspaceArg.{LockspaceArg}
 use Rattle.sl_trace.specs.declared.command.ResourceArg.{ResourceArg}
@@ -20,7 +21,7 @@ use Rattle.sl_trace.specs.declared.effects.JoinStep.TheVariants.{FirstRead}
 use Rattle.sl_trace.specs.declared.effects.LeaseStep.TheVariants.{ReadArea}
 use Rattle.sl_trace.specs.declared.effects.Mode.TheVariants.{Shared}
 use Rattle.sl_trace.specs.declared.effects.Op.TheVariants.{ReadSectors, WriteRecord}
-use Rattle.sl_trace.specs.declared.effects.Purpose.TheVariants.{AskRead, Joining, ValueRead, ValueWrite}
+use Rattle.sl_trace.specs.declared.effects.Purpose.TheVariants.{RequestRead, Joining, ValueRead, ValueWrite}
 use Rattle.sl_trace.specs.declared.effects.Spot.{Spot}
 use Rattle.sl_trace.specs.declared.effects.Work.TheVariants.{ForJob}
 use Rattle.sl_trace.specs.declared.input.Input.TheVariants.{Line}
@@ -35,35 +36,35 @@ use Rattle.std.specs.Option.{option_map_or, option_or}
 use Rattle.std.specs.Prelude.{Bool, Err, List, None, Ok, Option, Result, Some, false, filter, find, if◌then◌else◌, is_none, length, map, nat_le, not, option_and_then, option_map, true, [], ℕ, ◌&&◌, ◌+◌, ◌==◌, ◌∷◌}
 
 -- What a command comes to.
-pub data Act : Type 0 where
+pub data Decision : Type 0 where
   -- it is answered at once
-  Replies : Reply → Act
+  Replies : Reply → Decision
   -- a session of this number begins with the read of its id's sector
-  Joins : ℕ → LockspaceArg → Act
+  Joins : ℕ → LockspaceArg → Decision
   -- the session is left
-  Leaves : Session → Act
+  Leaves : Session → Decision
   -- work on the lease begins with a read of the area
-  Reads_area : Session → ResourceArg → Act
+  Reads_area : Session → ResourceArg → Decision
   -- granted at once beside a shared holding, under its instance
-  Shares : Session → ℕ → Act
+  Shares : Session → ℕ → Decision
   -- the holding ends
-  Gives_up : Session → Grant → Act
+  Gives_up : Session → Grant → Decision
   -- a request begins with a read of leader and request
-  Asks : Session → ResourceArg → Act
+  Requests : Session → ResourceArg → Decision
   -- the value is written
-  Sets_value : Session → Spot → ValueRec → Act
+  Sets_value : Session → Spot → ValueRec → Decision
   -- the value is read
-  Gets_value : Session → Spot → Act
+  Gets_value : Session → Spot → Decision
 
 -- ---- refusals
 
 -- The first refusal that holds, else what the command comes to.
-abbrev pub unless_refused : List (Option Reply) → Act → Act
-unless_refused [] act = act
-unless_refused (r ∷ rs) act = elim r [ Some why ↦ Replies why | None ↦ unless_refused rs act ]
+abbrev pub unless_refused : List (Option Reply) → Decision → Decision
+unless_refused [] decision = decision
+unless_refused (r ∷ rs) decision = elim r [ Some why ↦ Replies why | None ↦ unless_refused rs decision ]
 
 -- Where there is a session.
-abbrev pub with_session : Option Session → (Session → Act) → Act
+abbrev pub with_session : Option Session → (Session → Decision) → Decision
 with_session None f = Replies NoSession
 with_session (Some s) f = f s
 
@@ -96,12 +97,12 @@ limit_refusal st es s at program = option_map (λ l. LimitReached l) (limit_met 
 -- ---- commands on a resource
 
 -- Work on the lease begins, or the grant is given at once where the session has a shared holding.
-abbrev pub acquiring : Trace → Session → ResourceArg → Bool → Act
+abbrev pub acquiring : Trace → Session → ResourceArg → Bool → Decision
 acquiring es s r shared =
     elim shared [ false ↦ Reads_area s r | true ↦ elim (shared_on es s (spot_of r)) [ None ↦ Reads_area s r | Some g ↦ Shares s g.lver ] ]
 
 -- An acquire of a process, or a command's, whose process comes later.
-abbrev pub decide_acquire : Setting → Trace → ResourceArg → Option ℕ → Bool → Bool → Act
+abbrev pub decide_acquire : Setting → Trace → ResourceArg → Option ℕ → Bool → Bool → Decision
 decide_acquire st es r asking shared program =
     with_session (session_named st es r.lockspace) (λ s.
     unless_refused (session_refusal st es s
@@ -115,7 +116,7 @@ abbrev pub holding_of : Trace → Session → Spot → ℕ → (Grant → Bool) 
 holding_of es s at p serves = find (λ g. g.process == p && serves g) (holdings_on es s at)
 
 -- A command of a process that holds the resource, in a mode that serves.
-abbrev pub decide_holder : Setting → Trace → ResourceArg → ℕ → (Grant → Bool) → (Session → Grant → Act) → Act
+abbrev pub decide_holder : Setting → Trace → ResourceArg → ℕ → (Grant → Bool) → (Session → Grant → Decision) → Decision
 decide_holder st es r p serves f =
     with_session (session_named st es r.lockspace) (λ s.
     unless_refused (session_refusal st es s
@@ -124,7 +125,7 @@ decide_holder st es r p serves f =
     ∷ pending_refusal st es (spot_of r) ∷ []) (option_map_or (f s) (holding_of es s (spot_of r) p serves) (Replies NotHeld)))
 
 -- The value is written with the next seq, unless that would pass its limit.
-abbrev pub setting_value : Session → Spot → Grant → ℕ → List ℕ → Act
+abbrev pub setting_value : Session → Spot → Grant → ℕ → List ℕ → Decision
 setting_value s at g seq bytes =
     elim (is_number seq) [
       | false ↦ Replies (LimitReached SeqLimit)
@@ -132,10 +133,10 @@ setting_value s at g seq bytes =
     ]
 
 -- A request.
-abbrev pub decide_ask : Setting → Trace → ResourceArg → Act
-decide_ask st es r =
+abbrev pub decide_request : Setting → Trace → ResourceArg → Decision
+decide_request st es r =
     with_session (session_named st es r.lockspace) (λ s.
-    unless_refused (session_refusal st es s ∷ pending_refusal st es (spot_of r) ∷ []) (Asks s r))
+    unless_refused (session_refusal st es s ∷ pending_refusal st es (spot_of r) ∷ []) (Requests s r))
 
 -- ---- commands on a lockspace
 
@@ -145,7 +146,7 @@ joined_refusal st es None = None
 joined_refusal st es (Some s) = option_or (session_refusal st es s) (Some (Joined (generation_of es s)))
 
 -- An `add_lockspace`.
-abbrev pub decide_add : Setting → Trace → LockspaceArg → Act
+abbrev pub decide_add : Setting → Trace → LockspaceArg → Decision
 decide_add st es a =
     unless_refused (joined_refusal st es (session_named st es a.name)
     ∷ choose (nat_le most_lockspaces (length (present_sessions st es))) (LimitReached Lockspaces) ∷ []) (Joins (length (sessions st es)) a)
@@ -155,12 +156,12 @@ abbrev pub leave_refusal : Trace → Session → Option Reply
 leave_refusal es s = choose (not (is_number (last_seq es s + 1))) (LimitReached SeqLimit)
 
 -- A `rem_lockspace`.
-abbrev pub decide_leave : Setting → Trace → LockspaceArg → Act
+abbrev pub decide_leave : Setting → Trace → LockspaceArg → Decision
 decide_leave st es a =
     with_session (matching_session st es a) (λ s. unless_refused (session_refusal st es s ∷ leave_refusal es s ∷ []) (Leaves s))
 
 -- A command that only tells of a session.
-abbrev pub decide_report : Setting → Trace → LockspaceArg → (Session → Reply) → Act
+abbrev pub decide_report : Setting → Trace → LockspaceArg → (Session → Reply) → Decision
 decide_report st es a answer =
     with_session (matching_session st es a) (λ s. unless_refused (session_refusal st es s ∷ []) (Replies (answer s)))
 
@@ -172,7 +173,7 @@ session_words st es =
 -- ---- all commands
 
 -- What a command comes to at this reading, on the trace before its line.
-unfoldable pub decided : Setting → Trace → ℕ → Command → Act
+unfoldable pub decided : Setting → Trace → ℕ → Command → Decision
 decided st es now (AddLockspace a) = decide_add st es a
 decided st es now (RemLockspace a) = decide_leave st es a
 decided st es now (InqLockspace a) = decide_report st es a (λ s. Generation (generation_of es s))
@@ -180,7 +181,7 @@ decided st es now (HostStatus a) = decide_report st es a (λ s. Hosts (states_se
 decided st es now (Acquire r shared p) = decide_acquire st es r (Some p) shared false
 decided st es now (RunProgram r shared path) = decide_acquire st es r None shared true
 decided st es now (Release r p) = decide_holder st es r p (λ g. true) (λ s g. Gives_up s g)
-decided st es now (Ask r lver how) = decide_ask st es r
+decided st es now (Request r lver how) = decide_request st es r
 decided st es now (GetLvb r p) = decide_holder st es r p (λ g. true) (λ s g. Gets_value s (spot_of r))
 decided st es now (SetLvb r p bytes) =
     decide_holder st es r p (λ g. not (is_shared g.mode)) (λ s g. setting_value s (spot_of r) g (next_value_seq st es s (spot_of r) g.lver) bytes)
@@ -189,36 +190,50 @@ decided st es now Status = Replies (Sessions (session_words st es))
 -- ---- carried out
 
 -- After a holding has ended: where it was the last under its lease the area is written, and the reply follows that write.
-abbrev pub after_end : Session → Spot → ℕ → Grant → Step → Step
+unfoldable pub after_end : Session → Spot → ℕ → Grant → Step → Step
 after_end s at j g x =
     elim (holdings_on (seen x) s at) [
       | h ∷ hs ↦ add_reply j Done x
       | [] ↦ carry_lease s at (ForJob j) (release_next (lease_place x.setting s) (known x.setting (seen x) s at) g.mode g.lver) x
     ]
 
--- What the command of the job came to is done.
-unfoldable pub carry_act : ℕ → Command → Act → Step → Step
-carry_act j c (Replies r) x = add_reply j r x
-carry_act j c (Joins number a) x =
+-- What the command of the job came to is done, where that is more than a reply.
+unfoldable pub carry_decision : ℕ → Command → Decision → Step → Step
+carry_decision j c (Replies r) x = x
+carry_decision j c (Joins number a) x =
     add_call_of number a.path (Joining j FirstRead) (delta_offset x.setting.layout a.offset a.id) (ReadSectors 1) x
-carry_act j c (Leaves s) x = stop_session s (Some j) x
-carry_act j c (Reads_area s r) x = read_area s (spot_of r) (ForJob j) (ReadArea r.name) x
-carry_act j c (Shares s lver) x = grant_for s j c Shared lver x
-carry_act j c (Gives_up s g) x = after_end s (spot_of_grant g) j g (add_end (end_of g) x)
-carry_act j c (Asks s r) x = add_call_at s r.path (AskRead j) r.offset (ReadSectors 2) x
-carry_act j c (Sets_value s at v) x =
+carry_decision j c (Leaves s) x = signal_and_refuse s (Some j) x
+carry_decision j c (Reads_area s r) x = read_area s (spot_of r) (ForJob j) (ReadArea r.name) x
+carry_decision j c (Shares s lver) x = grant_for s j c Shared lver x
+carry_decision j c (Gives_up s g) x = after_end s (spot_of_grant g) j g (add_end (end_of g) x)
+carry_decision j c (Requests s r) x = add_call_at s r.path (RequestRead j) r.offset (ReadSectors 2) x
+carry_decision j c (Sets_value s at v) x =
     add_call_at s at.path (ValueWrite j) (value_offset x.setting.layout at.base) (WriteRecord (ValueIs v)) x
-carry_act j c (Gets_value s at) x = add_call_at s at.path (ValueRead j) (value_offset x.setting.layout at.base) (ReadSectors 1) x
+carry_decision j c (Gets_value s at) x = add_call_at s at.path (ValueRead j) (value_offset x.setting.layout at.base) (ReadSectors 1) x
 
--- The command, or the column where its text fails, once the step has its line.
-abbrev pub carry_line : ℕ → Result (Command × Act) ℕ → Step → Step
-carry_line j (Ok p) x = carry_act j p.0 p.1 x
-carry_line j (Err column) x = add_reply j (Misread column) x
+-- The reply of a command that is answered at once.
+abbrev pub reply_at_once : Decision → Option Reply
+reply_at_once (Replies r) = Some r
+reply_at_once decision = None
+
+-- The line and its reply are seen together: a `rem_lockspace` that is refused begins no leaving.
+abbrev pub answer_line : List ℕ → ℕ → Reply → Step → Step
+answer_line text j r x = add_reply j r (with_input (Line text) x)
+
+-- A command that was decided.
+abbrev pub carry_command : List ℕ → ℕ → Command → Decision → Step → Step
+carry_command text j c decision x =
+    elim (reply_at_once decision) [ Some r ↦ answer_line text j r x | None ↦ carry_decision j c decision (with_input (Line text) x) ]
+
+-- The command, or the column where its text fails.
+abbrev pub carry_line : List ℕ → ℕ → Result (Command × Decision) ℕ → Step → Step
+carry_line text j (Ok p) x = carry_command text j p.0 p.1 x
+carry_line text j (Err column) x = answer_line text j (Misread column) x
 
 -- What a text comes to.
-abbrev pub decided_text : Setting → Trace → ℕ → List ℕ → Result (Command × Act) ℕ
+abbrev pub decided_text : Setting → Trace → ℕ → List ℕ → Result (Command × Decision) ℕ
 decided_text st es now text = st.read text >>= (λ c. Ok (c, decided st es now c))
 
 -- A command line: decided before it is seen, then carried out.
-abbrev pub on_line : List ℕ → Step → Step
-on_line text x = carry_line (next_job x.setting (seen x)) (decided_text x.setting (seen x) x.reading text) (with_input (Line text) x)
+unfoldable pub on_line : List ℕ → Step → Step
+on_line text x = carry_line text (next_job x.setting (seen x)) (decided_text x.setting (seen x) x.reading text) x

@@ -3,7 +3,7 @@ use Rattle.sl_due.specs.Steps.{Step, add_move, add_reply, add_signal, for_each, 
 use Rattle.sl_leases.specs.Jobs.{jobs_of_session}
 use Rattle.sl_sessions.specs.Sessions.{Begun, Session, has_open_write, holders_of, is_joined, last_renewal, leaving_of, present_sessions, recovery_of, refused_after, session_of_job}
 use Rattle.sl_trace.specs.Connections.{is_registered}
-use Rattle.sl_trace.specs.Traces.{Job, Setting, Submitted, Trace, newest_reading, running_jobs, waiting_call}
+use Rattle.sl_trace.specs.Traces.{Job, Setting, Submitted, Trace, last_reading, running_jobs, waiting_call}
 use Rattle.sl_trace.specs.declared.effects.Move.TheVariants.{Unregister}
 use Rattle.sl_trace.specs.declared.effects.Signal.TheVariants.{Kill, Term}
 use Rattle.sl_trace.specs.declared.effects.Signal.{Signal}
@@ -12,7 +12,7 @@ use Rattle.sl_trace.specs.declared.reply.Reply.{Reply}
 use Rattle.sl_words.specs.Words.{some_is}
 use Rattle.std.specs.Prelude.{Bool, List, None, Option, false, filter, is_some, length, nat_le, nat_lt, not, [], ℕ, ◌&&◌, ◌+◌, ◌==◌, ◌||◌, ◌∷◌}
 
--- Each holder is signalled term, by number.
+-- Each holder is sent this signal, by number.
 abbrev pub signal_holders : Signal → Session → Step → Step
 signal_holders signal s x = for_each (holders_of (seen x) s) (λ p. add_signal p signal) x
 
@@ -22,44 +22,44 @@ refuse_jobs s kept x =
     for_each (filter (λ j. not (some_is (λ k. k == j.number) kept)) (jobs_of_session x.setting (seen x) s))
     (λ j. add_reply j.number (Recovering (last_renewal x.setting (seen x) s))) x
 
--- A session is stopped: its holders are signalled, its jobs refused.
-abbrev pub stop_session : Session → Option ℕ → Step → Step
-stop_session s kept x = refuse_jobs s kept (signal_holders Term s x)
+-- A recovery or a leaving begins: the session's holders are sent term, its running jobs refused but one that is kept.
+unfoldable pub signal_and_refuse : Session → Option ℕ → Step → Step
+signal_and_refuse s kept x = refuse_jobs s kept (signal_holders Term s x)
 
 -- Whether a recovery or a leaving began in the newest entry.
 abbrev pub begins_now : Trace → Option Begun → Bool
 begins_now es begun = some_is (λ b. b.at + 1 == length es) begun
 
--- A session is stopped whose recovery begins in this step; at the head of a step that is by time alone.
-abbrev pub begin_recovery : Session → Step → Step
-begin_recovery s x = when (begins_now (seen x) (recovery_of x.setting (seen x) s)) (stop_session s None) x
+-- Of a session whose recovery begins in this step; at the head of a step that is by time alone.
+unfoldable pub begin_recovery : Session → Step → Step
+begin_recovery s x = when (begins_now (seen x) (recovery_of x.setting (seen x) s)) (signal_and_refuse s None) x
 
 -- Of all sessions, by lockspace name.
-abbrev pub begin_recoveries : Step → Step
+unfoldable pub begin_recoveries : Step → Step
 begin_recoveries x = for_each (present_sessions x.setting (seen x)) begin_recovery x
 
 -- Whether the newest entry is the first, from the start's on, whose reading is at least this. (Readings never fall.)
-abbrev pub is_first_at : ℕ → ℕ → Trace → Bool
-is_first_at from reading [] = false
-is_first_at from reading (e ∷ es) =
-    nat_le from (length es) && nat_le reading e.reading && not (nat_lt from (length es) && nat_le reading (newest_reading es))
+abbrev pub is_first_at : Setting → ℕ → ℕ → Trace → Bool
+is_first_at st from reading [] = false
+is_first_at st from reading (e ∷ es) =
+    nat_le from (length es) && nat_le reading e.reading && not (nat_lt from (length es) && nat_le reading (last_reading st es))
 
 -- Whether the kills of a recovery or a leaving are due in the newest entry: at the first whose reading is grace above its start's.
-abbrev pub is_kill_due : ℕ → Trace → Option Begun → Bool
-is_kill_due grace es begun = some_is (λ b. is_first_at b.kills_from (b.reading + grace) es) begun
+abbrev pub is_kill_due : Setting → Trace → Option Begun → Bool
+is_kill_due st es begun = some_is (λ b. is_first_at st b.kills_from (b.reading + st.grace) es) begun
 
 -- Whether the session's holders are to be killed: a leaving and a recovery that began in it each have a list of kills; a process that
 -- is due in both is signalled once.
 abbrev pub kills_holders : Setting → Trace → Session → Bool
 kills_holders st es s =
-    is_joined es s && (is_kill_due st.grace es (recovery_of st es s) || is_kill_due st.grace es (leaving_of st es s))
+    is_joined es s && (is_kill_due st es (recovery_of st es s) || is_kill_due st es (leaving_of st es s))
 
 -- Each holder still there is signalled.
-abbrev pub kill_holders : Session → Step → Step
+unfoldable pub kill_holders : Session → Step → Step
 kill_holders s x = when (kills_holders x.setting (seen x) s) (signal_holders Kill s) x
 
 -- Of all sessions, by lockspace name.
-abbrev pub kills : Step → Step
+unfoldable pub kills : Step → Step
 kills x = for_each (present_sessions x.setting (seen x)) kill_holders x
 
 -- A connection that stands is removed.
@@ -71,7 +71,7 @@ abbrev pub remove_of_refused : Session → Step → Step
 remove_of_refused s x = when (is_some (refused_after (seen x) s) && not (has_open_write (seen x) s)) (remove_connection s.lockspace) x
 
 -- A job is refused, and with it a joining.
-abbrev pub refuse : ℕ → Reply → Step → Step
+unfoldable pub refuse : ℕ → Reply → Step → Step
 refuse job r x = with_some (session_of_job x.setting (seen x) job) remove_of_refused (add_reply job r x)
 
 -- Whether a call has been unanswered for `io` or longer.
@@ -79,11 +79,11 @@ abbrev pub is_overdue : Setting → ℕ → Submitted → Bool
 is_overdue st now m = nat_le (m.reading + st.timing.io) now
 
 -- A job whose call is overdue is refused; the call stays outstanding.
-abbrev pub time_out : Job → Step → Step
+unfoldable pub time_out : Job → Step → Step
 time_out j x =
     with_some (waiting_call (seen x) j.number) (λ m.
     when (is_overdue x.setting x.reading m) (refuse j.number (IoTimeout m.call.number m.reading x.reading))) x
 
 -- Of all jobs, by number.
-abbrev pub time_outs : Step → Step
+unfoldable pub time_outs : Step → Step
 time_outs x = for_each (running_jobs x.setting (seen x)) time_out x

@@ -23,7 +23,7 @@ abbrev pub refuse_jobs_of : ℕ → Step → Step
 refuse_jobs_of p x = for_each (filter (is_job_of_process (seen x) p) (running_jobs x.setting (seen x))) (λ j. add_reply j.number (NoProcess p)) x
 
 -- A process has exited: its holdings end, its jobs are refused.
-abbrev pub on_exit : ℕ → Step → Step
+unfoldable pub on_exit : ℕ → Step → Step
 on_exit p x = refuse_jobs_of p (end_holdings p x)
 
 -- The reply to a command whose child was started.
@@ -36,14 +36,14 @@ when_running None r x = x
 when_running (Some j) r x = when (is_running (seen x) j) (add_reply j r) x
 
 -- A child was started, or not.
-abbrev pub on_spawned : ℕ → Bool → Step → Step
+unfoldable pub on_spawned : ℕ → Bool → Step → Step
 on_spawned p true x = when_running (job_of_start (seen x) p) (started_reply (seen x) p) x
 on_spawned p false x = when_running (job_of_start (seen x) p) SpawnFault (end_holdings p x)
 
 -- ---- the input
 
 -- What the input makes due; a wake is looked at afterwards.
-abbrev pub take_input : Input → Step → Step
+unfoldable pub take_input : Input → Step → Step
 take_input (Line text) x = on_line text x
 take_input (Told call answer) x = after_answer (is_present (seen x)) call answer (with_input (Told call answer) x)
 take_input (Exit p) x = on_exit p (with_input (Exit p) x)

@@ -5,7 +5,7 @@ use Rattle.sl_leases.specs.Jobs.{aim_of, command_numbered}
 use Rattle.sl_leases.specs.LeaseWork.{lease_next, lease_place, settle_next}
 use Rattle.sl_leases.specs.Leases.{known, lver_written, spot_of_call}
 use Rattle.sl_leases.specs.declared.lease.Aim.{Aim}
-use Rattle.sl_leases.specs.declared.lease.LeaseNext.TheVariants.{AnswerJob, GrantJob, ReadFor, Rest, WriteBlock, WriteLeader}
+use Rattle.sl_leases.specs.declared.lease.LeaseNext.TheVariants.{AnswerJob, GrantJob, ReadFor, Nothing, WriteBlock, WriteLeader}
 use Rattle.sl_leases.specs.declared.lease.LeaseNext.{LeaseNext}
 use Rattle.sl_sector.specs.declared.sector.Block.{Block}
 use Rattle.sl_sector.specs.declared.sector.Leader.{Leader}
@@ -93,7 +93,7 @@ for_work work f x = with_some (work_job work) f x
 
 -- What the lease decided is done.
 unfoldable pub carry_lease : Session → Spot → Work → LeaseNext → Step → Step
-carry_lease s at work Rest x = x
+carry_lease s at work Nothing x = x
 carry_lease s at work (ReadFor step) x = read_for s at work step x
 carry_lease s at work (WriteBlock step b) x = write_block s at work step b x
 carry_lease s at work (WriteLeader step l) x = write_leader s at work step l x
@@ -111,7 +111,7 @@ next_of_lease st es s at aim m step answer =
     lease_next (lease_place st s) (known st es s at) aim m.call.number (lver_written m) step answer
 
 -- The answer of a call on a lease, where its work goes on.
-abbrev pub after_lease_answer : Session → Work → LeaseStep → Submitted → Answer → Step → Step
+unfoldable pub after_lease_answer : Session → Work → LeaseStep → Submitted → Answer → Step → Step
 after_lease_answer s work step m answer x =
     elim (goes_on x.setting (seen x) s work) [
       | false ↦ x
@@ -121,5 +121,5 @@ after_lease_answer s work step m answer x =
     ]
 
 -- A settling does what is owed first.
-abbrev pub settle : Session → Spot → Step → Step
+unfoldable pub settle : Session → Spot → Step → Step
 settle s at x = carry_lease s at Settling (settle_next (lease_place x.setting s) (known x.setting (seen x) s at)) x

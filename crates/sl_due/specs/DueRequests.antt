@@ -10,12 +10,12 @@ use Rattle.sl_sector.specs.declared.sector.Rec.TheVariants.{RequestIs}
 use Rattle.sl_sessions.specs.Sessions.{Session}
 use Rattle.sl_time.specs.Times.{fail}
 use Rattle.sl_trace.specs.Traces.{Setting, Submitted, is_ok_answer}
-use Rattle.sl_trace.specs.declared.command.Command.TheVariants.{Ask}
+use Rattle.sl_trace.specs.declared.command.Command.TheVariants.{Request}
 use Rattle.sl_trace.specs.declared.command.Command.{Command}
 use Rattle.sl_trace.specs.declared.command.ResourceArg.{ResourceArg}
 use Rattle.sl_trace.specs.declared.effects.Grant.{Grant}
 use Rattle.sl_trace.specs.declared.effects.Op.TheVariants.{WriteRecord}
-use Rattle.sl_trace.specs.declared.effects.Purpose.TheVariants.{AskWrite}
+use Rattle.sl_trace.specs.declared.effects.Purpose.TheVariants.{RequestWrite}
 use Rattle.sl_trace.specs.declared.effects.Purpose.{Purpose}
 use Rattle.sl_trace.specs.declared.effects.Signal.TheVariants.{Kill, Term}
 use Rattle.sl_trace.specs.declared.effects.Signal.{Signal}
@@ -33,7 +33,7 @@ is_fresh st now m = some_is (λ a. is_ok_answer a.answer && nat_lt now (a.readin
 
 -- The owner that this write of a request asks, if it is one.
 abbrev pub owner_asked : Purpose → Option ℕ
-owner_asked (AskWrite j owner) = owner
+owner_asked (RequestWrite j owner) = owner
 owner_asked p = None
 
 -- Whether a request to this owner was answered ok less than `fail` ago.
@@ -53,13 +53,13 @@ owner_read g bytes = option_and_then (λ l. choose l.held l.owner) (leader_of g 
 -- The request is written, to this owner; the cleared one names no host.
 abbrev pub write_request : Session → ℕ → Option ℕ → ResourceArg → ℕ → ℕ → Step → Step
 write_request s j owner r asked force x =
-    add_call_at s r.path (AskWrite j owner) (request_offset x.setting.layout r.offset)
+    add_call_at s r.path (RequestWrite j owner) (request_offset x.setting.layout r.offset)
     (WriteRecord (RequestIs (record { force = force; host = (if asked == 0 then 0 else s.id); lver = asked }))) x
 
 -- What a request is refused for by the read of leader and request, if it is: a torn leader, other names, a held lver or a record that
 -- is not below it. Clearing overwrites a torn record.
-unfoldable pub ask_refusal : Layout → List ℕ → ResourceArg → ℕ → ℕ → List ℕ → Option Reply
-ask_refusal g lockspace r asked force bytes =
+unfoldable pub request_refusal : Layout → List ℕ → ResourceArg → ℕ → ℕ → List ℕ → Option Reply
+request_refusal g lockspace r asked force bytes =
     elim (leader_of g bytes) [
       | None ↦ Some TornLeader
       | Some l ↦ elim (is_leader_of g lockspace r.name l) [
@@ -72,12 +72,12 @@ ask_refusal g lockspace r asked force bytes =
     ]
 
 -- After the read of leader and request: the request is written, or refused.
-abbrev pub after_ask_read : Session → ℕ → List ℕ → Command → Step → Step
-after_ask_read s j bytes (Ask r asked force) x =
-    elim (ask_refusal x.setting.layout s.lockspace r asked force bytes) [ Some why ↦ add_reply j why x | None ↦ write_request s j (owner_read x.setting.layout bytes) r asked force x ]
-after_ask_read s j bytes c x = x
+unfoldable pub after_request_read : Session → ℕ → List ℕ → Command → Step → Step
+after_request_read s j bytes (Request r asked force) x =
+    elim (request_refusal x.setting.layout s.lockspace r asked force bytes) [ Some why ↦ add_reply j why x | None ↦ write_request s j (owner_read x.setting.layout bytes) r asked force x ]
+after_request_read s j bytes c x = x
 
--- A request above the held lver reaches the holder.
+-- The signal of a request's force.
 abbrev pub signal_of_force : ℕ → Signal
 signal_of_force force = if force == 1 then Kill else Term
 
@@ -87,7 +87,7 @@ signal_of_request g bytes held =
     option_and_then (λ q. choose (nat_lt held.lver q.lver) (signal_of_force q.force)) (request_in (record_in g bytes))
 
 -- After the read of a request under an exclusive holding: its holder is signalled where it asks for more.
-abbrev pub after_see_request : Session → Submitted → List ℕ → Step → Step
+unfoldable pub after_see_request : Session → Submitted → List ℕ → Step → Step
 after_see_request s m bytes x =
     with_some (exclusive_on (seen x) s (spot_of_call x.setting.layout m)) (λ g.
     with_some (signal_of_request x.setting.layout bytes g) (add_signal g.process)) x
@@ -97,5 +97,5 @@ abbrev pub value_reply : Layout → List ℕ → Reply
 value_reply g bytes = elim (value_in (record_in g bytes)) [ None ↦ ValueTorn | Some v ↦ Value v.lver v.seq v.bytes ]
 
 -- After the read of a value.
-abbrev pub after_value_read : ℕ → List ℕ → Step → Step
+unfoldable pub after_value_read : ℕ → List ℕ → Step → Step
 after_value_read j bytes x = add_reply j (value_reply x.setting.layout bytes) x

@@ -1,5 +1,5 @@
 -- What a wake makes due, and what comes last in each step.
-use Rattle.sl_due.specs.DueDelta.{carry_delta}
+use Rattle.sl_due.specs.DueDelta.{carry_delta, for_joining}
 use Rattle.sl_due.specs.DueFirst.{remove_connection}
 use Rattle.sl_due.specs.DueLease.{settle}
 use Rattle.sl_due.specs.DueRequests.{bits_due}
@@ -12,32 +12,29 @@ use Rattle.sl_trace.specs.declared.effects.Spot.{Spot}
 use Rattle.sl_trace.specs.declared.input.Input.TheVariants.{Wake}
 use Rattle.sl_trace.specs.declared.input.Input.{Input}
 use Rattle.sl_words.specs.Words.{is_empty}
-use Rattle.std.specs.Prelude.{Bool, None, Some, false, is_some, not, true, ◌&&◌}
+use Rattle.std.specs.Prelude.{Bool, false, is_some, not, true, ◌&&◌}
 
 -- ---- on a wake
 
 -- A joining goes on where its time has come.
-abbrev pub join_on_wake : Session → Step → Step
+unfoldable pub join_on_wake : Session → Step → Step
 join_on_wake s x =
-    elim s.job [
-      | None ↦ x
-      | Some j ↦ when (is_running (seen x) j)
-          (carry_delta s (Some j) (next_on_wake (delta_of_session x.setting s) x.reading (calls_of (seen x) s))) x
-    ]
+    for_joining s (λ j y.
+    when (is_running (seen y) j) (carry_delta s (next_on_wake (delta_of_session y.setting s) y.reading (calls_of (seen y) s))) y) x
 
 -- A renewal is due once `renew` has passed since the last one's submission.
-abbrev pub renew_on_wake : Session → Step → Step
+unfoldable pub renew_on_wake : Session → Step → Step
 renew_on_wake s x =
     when (is_joined (seen x) s) (λ y.
-    carry_delta s None
+    carry_delta s
     (next_renewal (delta_of_session y.setting s) y.reading (delta_known y.setting (seen y) s) (bits_due y.setting (calls_of (seen y) s) y.reading)) y) x
 
 -- Settling begins where no call on the area is unanswered.
-abbrev pub settle_on_wake : Session → Spot → Step → Step
+unfoldable pub settle_on_wake : Session → Spot → Step → Step
 settle_on_wake s at x = when (is_empty (open_on x.setting (seen x) at)) (settle s at) x
 
 -- The session's leases are settled, by place.
-abbrev pub settlings : Session → Step → Step
+unfoldable pub settlings : Session → Step → Step
 settlings s x = when (is_active x.setting (seen x) s) (for_each (lease_spots x.setting (seen x) s) (settle_on_wake s)) x
 
 -- A pass over all sessions, by lockspace name.
@@ -45,7 +42,7 @@ abbrev pub for_sessions : (Session → Step → Step) → Step → Step
 for_sessions f x = for_each (present_sessions x.setting (seen x)) f x
 
 -- Three passes: joinings, renewals, settlings.
-abbrev pub on_wake : Step → Step
+unfoldable pub on_wake : Step → Step
 on_wake x = for_sessions settlings (for_sessions renew_on_wake (for_sessions join_on_wake x))
 
 -- Whether it is a wake.
@@ -58,18 +55,18 @@ is_wake i = elim i [ Wake ↦ true | _ ↦ false ]
 abbrev pub free_if_done : Session → Step → Step
 free_if_done s x =
     when (is_empty (holdings_of (seen x) s) && is_empty (open_calls_of (seen x) s)) (λ y.
-    carry_delta s None (next_free (delta_of_session y.setting s) y.reading (delta_known y.setting (seen y) s)) y) x
+    carry_delta s (next_free (delta_of_session y.setting s) y.reading (delta_known y.setting (seen y) s)) y) x
 
 -- The connection is removed once nothing is held and no write is unanswered.
-abbrev pub part_if_done : Session → Step → Step
-part_if_done s x = when (is_empty (holdings_of (seen x) s) && not (has_open_write (seen x) s)) (remove_connection s.lockspace) x
+abbrev pub end_if_done : Session → Step → Step
+end_if_done s x = when (is_empty (holdings_of (seen x) s) && not (has_open_write (seen x) s)) (remove_connection s.lockspace) x
 
 -- In recovery the session ends once nothing is held and no write is unanswered; a leaving writes its free once nothing is left.
-abbrev pub finish_session : Session → Step → Step
+unfoldable pub finish_session : Session → Step → Step
 finish_session s x =
     when (is_joined (seen x) s) (λ y.
-    elim (is_some (recovery_of y.setting (seen y) s)) [ true ↦ part_if_done s y | false ↦ free_if_done s y ]) x
+    elim (is_some (recovery_of y.setting (seen y) s)) [ true ↦ end_if_done s y | false ↦ free_if_done s y ]) x
 
 -- Of all sessions, by lockspace name.
-abbrev pub finish : Step → Step
+unfoldable pub finish : Step → Step
 finish x = for_sessions finish_session x

@@ -1,13 +1,15 @@
 -- The same of the laws themselves, on literal traces: no lawful trace has these entries.
 use Rattle.sl_area.specs.Layouts.{layout_with, sector_with}
 use Rattle.sl_area.specs.Places.{no_request}
-use Rattle.sl_due.specs.DueAnswers.{after_answer_of}
-use Rattle.sl_due.specs.DueCommands.{carry_act, decided}
-use Rattle.sl_due.specs.DueDelta.{carry_delta}
-use Rattle.sl_due.specs.DueLease.{carry_lease}
-use Rattle.sl_due.specs.DueRequests.{ask_refusal}
-use Rattle.sl_examples.proofs.ReadCommands.{offset}
-use Rattle.sl_examples.proofs.RecordBytes.{stamp}
+use Rattle.sl_due.specs.Due.{after_input, before_input, due, due_step}
+use Rattle.sl_due.specs.DueAnswers.{after_answer, after_answer_of}
+use Rattle.sl_due.specs.DueCommands.{after_end, carry_decision, decided, on_line}
+use Rattle.sl_due.specs.DueDelta.{after_free, after_join_answer, after_renewal, after_survey, carry_delta, see_requests}
+use Rattle.sl_due.specs.DueFirst.{begin_recoveries, begin_recovery, kill_holders, kills, refuse, signal_and_refuse, time_out, time_outs}
+use Rattle.sl_due.specs.DueInputs.{on_exit, on_spawned, take_input}
+use Rattle.sl_due.specs.DueLease.{after_lease_answer, carry_lease, settle}
+use Rattle.sl_due.specs.DueRequests.{after_request_read, after_see_request, after_value_read, request_refusal}
+use Rattle.sl_due.specs.DueWake.{finish, finish_session, join_on_wake, on_wake, renew_on_wake, settle_on_wake, settlings}
 use Rattle.sl_examples.specs.Cheap.{cheap_digest}
 use Rattle.sl_examples.specs.Making.{block, leader, quiet_entry, reads, with_calls, with_moves, writes}
 use Rattle.sl_law.specs.LawfulArea.{LawfulArea, open_block_work}
@@ -85,7 +87,7 @@ abbrev second : Entry
 second = with_calls (second_call ∷ []) (quiet_entry 100 Wake)
 
 pub not_alone : LawfulArea st (begun ∷ asked ∷ []) second → ⊥
-unfolding after_answer_of area_next ask_refusal begin_next block_rules carry_act carry_delta carry_lease checked_part count_event decided decoded delta_rules digits event_forms event_tests field_bytes fields_of first_change forms header_forms header_of header_tests initial_record instance_of known leader_rules lease_next machine_of_header magic next_after_deciding next_after_first next_after_verify next_after_watch next_in_joining next_on_wake next_renewal padded_text pass_tests phase1_block phase2_block reply_words request_rules settle_next spelling stop_of u32_at u32_bytes u64_at u64_bytes value_rules
+unfolding after_answer after_answer_of after_end after_free after_input after_join_answer after_lease_answer after_renewal after_request_read after_see_request after_survey after_value_read area_next before_input begin_next begin_recoveries begin_recovery block_rules carry_decision carry_delta carry_lease checked_part count_event decided decoded delta_rules digits due due_step event_forms event_tests field_bytes fields_of finish finish_session first_change forms header_forms header_of header_tests initial_record instance_of join_on_wake kill_holders kills known leader_rules lease_next machine_of_header magic next_after_deciding next_after_first next_after_verify next_after_watch next_in_joining next_on_wake next_renewal on_exit on_line on_spawned on_wake padded_text pass_tests phase1_block phase2_block refuse renew_on_wake reply_words request_refusal request_rules see_requests settle settle_next settle_on_wake settlings signal_and_refuse spelling stop_of take_input time_out time_outs u32_at u32_bytes u64_at u64_bytes value_rules
 not_alone h =
     let none_open : open_block_work st (cut_at 0 second ∷ begun ∷ asked ∷ []) session_a (record { path = codes "/d"; base = 1048576 }) ≡ [] =
     h.alone 0 second_call session_a refl refl refl in
@@ -99,12 +101,12 @@ removing = with_moves (Unregister (codes "ls") ∷ []) (quiet_entry 0 Wake)
 
 -- neither recovery nor a free's answer stands behind the end
 no_reason : MayPart st [] removing session_a → ⊥
-unfolding after_answer_of area_next ask_refusal begin_next block_rules carry_act carry_delta carry_lease checked_part count_event decided decoded delta_rules digits event_forms event_tests field_bytes fields_of first_change forms header_forms header_of header_tests initial_record instance_of known leader_rules lease_next machine_of_header magic next_after_deciding next_after_first next_after_verify next_after_watch next_in_joining next_on_wake next_renewal padded_text pass_tests phase1_block phase2_block reply_words request_rules settle_next spelling stop_of u32_at u32_bytes u64_at u64_bytes value_rules
+unfolding after_answer after_answer_of after_end after_free after_input after_join_answer after_lease_answer after_renewal after_request_read after_see_request after_survey after_value_read area_next before_input begin_next begin_recoveries begin_recovery block_rules carry_decision carry_delta carry_lease checked_part count_event decided decoded delta_rules digits due due_step event_forms event_tests field_bytes fields_of finish finish_session first_change forms header_forms header_of header_tests initial_record instance_of join_on_wake kill_holders kills known leader_rules lease_next machine_of_header magic next_after_deciding next_after_first next_after_verify next_after_watch next_in_joining next_on_wake next_renewal on_exit on_line on_spawned on_wake padded_text pass_tests phase1_block phase2_block refuse renew_on_wake reply_words request_refusal request_rules see_requests settle settle_next settle_on_wake settlings signal_and_refuse spelling stop_of take_input time_out time_outs u32_at u32_bytes u64_at u64_bytes value_rules
 no_reason (inl r) = let wrong : ◌≡◌ {A = Bool} false true = r.0 in absurd cc
 no_reason (inr r) = let wrong : ◌≡◌ {A = Option Submitted} None (Some r.0) = r.2 in absurd cc
 
 pub not_parted : LawfulRecovery st [] removing → ⊥
-unfolding after_answer_of area_next ask_refusal begin_next block_rules carry_act carry_delta carry_lease checked_part count_event decided decoded delta_rules digits event_forms event_tests field_bytes fields_of first_change forms header_forms header_of header_tests initial_record instance_of known leader_rules lease_next machine_of_header magic next_after_deciding next_after_first next_after_verify next_after_watch next_in_joining next_on_wake next_renewal padded_text pass_tests phase1_block phase2_block reply_words request_rules settle_next spelling stop_of u32_at u32_bytes u64_at u64_bytes value_rules
+unfolding after_answer after_answer_of after_end after_free after_input after_join_answer after_lease_answer after_renewal after_request_read after_see_request after_survey after_value_read area_next before_input begin_next begin_recoveries begin_recovery block_rules carry_decision carry_delta carry_lease checked_part count_event decided decoded delta_rules digits due due_step event_forms event_tests field_bytes fields_of finish finish_session first_change forms header_forms header_of header_tests initial_record instance_of join_on_wake kill_holders kills known leader_rules lease_next machine_of_header magic next_after_deciding next_after_first next_after_verify next_after_watch next_in_joining next_on_wake next_renewal on_exit on_line on_spawned on_wake padded_text pass_tests phase1_block phase2_block refuse renew_on_wake reply_words request_refusal request_rules see_requests settle settle_next settle_on_wake settlings signal_and_refuse spelling stop_of take_input time_out time_outs u32_at u32_bytes u64_at u64_bytes value_rules
 not_parted h = no_reason (h.parts_well session_a (0, omega arith, refl) refl refl)
 
 -- ---- a renewal with an old seq
@@ -122,7 +124,7 @@ abbrev seq_of : Option DeltaRec → ℕ
 seq_of o = option_map_or (λ d. d.seq) o 0
 
 pub not_rising : LawfulDelta st [] renewing_entry → ⊥
-unfolding after_answer_of area_next ask_refusal begin_next block_rules carry_act carry_delta carry_lease checked_part count_event decided decoded delta_rules digits event_forms event_tests field_bytes fields_of first_change forms header_forms header_of header_tests initial_record instance_of known leader_rules lease_next machine_of_header magic next_after_deciding next_after_first next_after_verify next_after_watch next_in_joining next_on_wake next_renewal padded_text pass_tests phase1_block phase2_block reply_words request_rules settle_next spelling stop_of u32_at u32_bytes u64_at u64_bytes value_rules
+unfolding after_answer after_answer_of after_end after_free after_input after_join_answer after_lease_answer after_renewal after_request_read after_see_request after_survey after_value_read area_next before_input begin_next begin_recoveries begin_recovery block_rules carry_decision carry_delta carry_lease checked_part count_event decided decoded delta_rules digits due due_step event_forms event_tests field_bytes fields_of finish finish_session first_change forms header_forms header_of header_tests initial_record instance_of join_on_wake kill_holders kills known leader_rules lease_next machine_of_header magic next_after_deciding next_after_first next_after_verify next_after_watch next_in_joining next_on_wake next_renewal on_exit on_line on_spawned on_wake padded_text pass_tests phase1_block phase2_block refuse renew_on_wake reply_words request_refusal request_rules see_requests settle settle_next settle_on_wake settlings signal_and_refuse spelling stop_of take_input time_out time_outs u32_at u32_bytes u64_at u64_bytes value_rules
 not_rising h =
     let lawful : LawfulRenewal st (cut_at 0 renewing_entry ∷ []) session_a (new_call 0 200 stale_call) =
     h.calls 0 stale_call session_a refl refl in

@@ -26,19 +26,21 @@ use Rattle.sl_sector.specs.declared.sector.Rec.TheVariants.{BlockIs, DeltaIs}
 use Rattle.sl_sector.specs.declared.sector.Rec.{Rec}
 use Rattle.sl_sector.specs.declared.sector.ValueRec.{ValueRec}
 use Rattle.sl_sessions.specs.Deltas.{claim_of, delta_of_session, delta_record, first_answered, first_bytes}
-use Rattle.sl_sessions.specs.Sessions.{Begun, Claiming, Deciding, Freeing, Looking, Parted, Renewing_first, Session, Stage, Standing, Turned_away, Verifying, Waiting, calls_of, delta_written, free_write, generation_of, has_open_delta, has_open_write, holders_of, holdings_of, is_active, is_delta_purpose, is_join_call, is_joined, is_leaving, is_present, is_recovering, is_survey_purpose, join_call, joined_after, last_seq, leaving_job, leaving_of, me, open_calls_of, recovery_of, session_named, session_numbered, sessions, stage_of}
+use Rattle.sl_sessions.specs.Sessions.{Begun, Session, calls_of, delta_written, free_write, generation_of, has_open_delta, has_open_write, holders_of, holdings_of, is_active, is_delta_purpose, is_join_call, is_joined, is_leaving, is_present, is_recovering, is_survey_purpose, join_call, joined_after, last_seq, leaving_job, leaving_of, me, open_calls_of, recovery_of, session_named, session_numbered, sessions, stage_of}
 use Rattle.sl_sessions.specs.Watching.{counted_over, is_free_state}
+use Rattle.sl_sessions.specs.declared.stage.Stage.TheVariants.{Claiming, Deciding, Ended, FirstRenewing, Freeing, Looking, Refused, Standing, Verifying, Waiting}
+use Rattle.sl_sessions.specs.declared.stage.Stage.{Stage}
 use Rattle.sl_time.specs.Times.{dead, fail, join_max, take_over}
 use Rattle.sl_trace.specs.Connections.{connection_named, connections, is_registered, registers, registers_with, unregisters}
 use Rattle.sl_trace.specs.EffectTexts.{is_ok_reply}
-use Rattle.sl_trace.specs.Traces.{Setting, Submitted, Trace, gave, holdings, is_answered_ok, is_ok_answer, is_shared, is_write, new_call, newest_reading, record_of, same_place, spot_of_grant, submitted}
+use Rattle.sl_trace.specs.Traces.{Setting, Submitted, Trace, gave, holdings, is_answered_ok, is_ok_answer, is_shared, is_write, new_call, last_reading, record_of, same_place, spot_of_grant, submitted}
 use Rattle.sl_trace.specs.declared.effects.Entry.{Entry}
 use Rattle.sl_trace.specs.declared.effects.Grant.{Grant}
 use Rattle.sl_trace.specs.declared.effects.JoinStep.TheVariants.{ClaimWrite, DecidingRead, FirstRead, FirstRenewal, VerifyRead, WatchRead}
 use Rattle.sl_trace.specs.declared.effects.JoinStep.{JoinStep}
 use Rattle.sl_trace.specs.declared.effects.LeaseStep.TheVariants.{ClearMode, Phase1Read, Phase1Write, Phase2Read, Phase2Write, ReadArea, ReadBeforeFree, SetMode}
 use Rattle.sl_trace.specs.declared.effects.Op.TheVariants.{ReadSectors, WriteRecord}
-use Rattle.sl_trace.specs.declared.effects.Purpose.TheVariants.{AskRead, Joining, Leaving, Renewal, Survey, ValueRead}
+use Rattle.sl_trace.specs.declared.effects.Purpose.TheVariants.{RequestRead, Joining, Leaving, Renewal, Survey, ValueRead}
 use Rattle.sl_trace.specs.declared.effects.Purpose.{Purpose}
 use Rattle.sl_trace.specs.declared.effects.Signal.TheVariants.{Kill, Term}
 use Rattle.sl_trace.specs.declared.effects.Spot.{Spot}
@@ -73,11 +75,11 @@ stage_number Deciding = 1
 stage_number Claiming = 2
 stage_number Waiting = 3
 stage_number Verifying = 4
-stage_number Renewing_first = 5
+stage_number FirstRenewing = 5
 stage_number Standing = 6
 stage_number Freeing = 7
-stage_number Turned_away = 8
-stage_number Parted = 9
+stage_number Refused = 8
+stage_number Ended = 9
 
 -- Whether the session is at this stage.
 abbrev pub is_at_stage : Trace → Session → Stage → Bool
@@ -219,7 +221,7 @@ lease_read_test st c =
     let at : Spot = spot_of_call st.layout c in
     elim (lease_step c.call.purpose) [
       | None ↦ elim c.call.purpose [
-        | AskRead j ↦ c.call.offset == at.base && elim c.call.op [ ReadSectors n ↦ n == 2 | WriteRecord r ↦ false ]
+        | RequestRead j ↦ c.call.offset == at.base && elim c.call.op [ ReadSectors n ↦ n == 2 | WriteRecord r ↦ false ]
         | _ ↦ true
       ]
       | Some p ↦ elim c.call.op [
@@ -463,7 +465,7 @@ stops_test st past e s kept =
 -- The kills after a start.
 abbrev pub kills_test : Setting → Trace → Session → Begun → Bool
 kills_test st es s b =
-    implies (nat_lt (b.at + 1) (length es) && nat_le (b.reading + st.grace) (newest_reading es))
+    implies (nat_lt (b.at + 1) (length es) && nat_le (b.reading + st.grace) (last_reading st es))
     (list_all (λ p. was_killed b.at p es) (holders_of es s))
 
 -- How a session may end.

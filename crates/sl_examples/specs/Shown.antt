@@ -1,5 +1,4 @@
 -- What the worked schedules show.
-use Rattle.sl_due.specs.DueCommands.{acquiring}
 use Rattle.sl_examples.specs.RefusedLines.{refused_events, refused_headers, tears}
 use Rattle.sl_examples.specs.Rows.{acquire_and_release, answer_after_its_session, crash_with_holder, failing, late_landing, leaving, owner_reset_then_taken_over, recovery, recovery_with_write, refusals, request, rival, settled_win, shared, torn_phase2, torn_value, two_claims}
 use Rattle.sl_examples.specs.WorldTests.{has_last_line, keeps_laws, replays, stays_safe}

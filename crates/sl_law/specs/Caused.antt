@@ -3,9 +3,9 @@ use Rattle.sl_area.specs.Layouts.{record_in, sector_with}
 use Rattle.sl_area.specs.Places.{area_blocks, leader_of, read_at}
 use Rattle.sl_law.specs.Saying.{IsAnsweredAt}
 use Rattle.sl_leases.specs.Ballots.{in_instance, next_mbal, stop_of, value_of}
-use Rattle.sl_leases.specs.Counts.{busy_process, check_request, limit_met, may_act, most_lockspaces, next_value_seq, pending_call}
+use Rattle.sl_leases.specs.Counts.{busy_process, check_request, limit_met, may_act, next_value_seq, pending_call}
 use Rattle.sl_leases.specs.Jobs.{is_asking_lease, is_job_of_process, is_program, job_of_start, lockspace_named, process_named, resource_named, wants_shared}
-use Rattle.sl_leases.specs.Leases.{Area_read, Known, Phase1_read, Phase2_read, blocks_given, exclusive_on, holdings_on, instance_for, is_at, is_leader_of, is_phase_read, known, lease_calls, own_block, shared_elsewhere, spot_of, spot_of_call}
+use Rattle.sl_leases.specs.Leases.{Area_read, LeaseKnown, Phase1_read, Phase2_read, blocks_given, exclusive_on, holdings_on, instance_for, is_at, is_leader_of, is_phase_read, known, lease_calls, own_block, shared_elsewhere, spot_of, spot_of_call}
 use Rattle.sl_leases.specs.declared.lease.Instance.TheVariants.{Begins, HeldAlready}
 use Rattle.sl_leases.specs.declared.lease.Instance.{Instance}
 use Rattle.sl_leases.specs.declared.lease.Stop.TheVariants.{BlockAhead, BlockRival, BlockTorn}
@@ -21,8 +21,9 @@ use Rattle.sl_sessions.specs.Sessions.{Session, calls_of, generation_of, is_acti
 use Rattle.sl_sessions.specs.Watching.{counts_over}
 use Rattle.sl_time.specs.Times.{join_max}
 use Rattle.sl_trace.specs.EffectTexts.{is_ok_reply}
-use Rattle.sl_trace.specs.Traces.{EachEntry, Job, Setting, Submitted, Trace, gave, is_of_job, is_shared, is_stopping, job_numbered, no_effects, reply_to, submitted, waiting_call}
-use Rattle.sl_trace.specs.declared.command.Command.TheVariants.{AddLockspace, Ask, GetLvb, HostStatus, InqLockspace, Release, RemLockspace, SetLvb}
+use Rattle.sl_trace.specs.Limits.{most_lockspaces}
+use Rattle.sl_trace.specs.Traces.{EachEntry, Job, Setting, Submitted, Trace, gave, is_of_job, is_shared, is_before_input, job_numbered, no_effects, reply_to, submitted, waiting_call}
+use Rattle.sl_trace.specs.declared.command.Command.TheVariants.{AddLockspace, GetLvb, HostStatus, InqLockspace, Release, RemLockspace, Request, SetLvb}
 use Rattle.sl_trace.specs.declared.command.Command.{Command}
 use Rattle.sl_trace.specs.declared.command.LockspaceArg.{LockspaceArg}
 use Rattle.sl_trace.specs.declared.command.ResourceArg.{ResourceArg}
@@ -32,7 +33,7 @@ use Rattle.sl_trace.specs.declared.effects.Grant.{Grant}
 use Rattle.sl_trace.specs.declared.effects.JobReply.{JobReply}
 use Rattle.sl_trace.specs.declared.effects.JoinStep.TheVariants.{ClaimWrite, DecidingRead, FirstRead, VerifyRead, WatchRead}
 use Rattle.sl_trace.specs.declared.effects.JoinStep.{JoinStep}
-use Rattle.sl_trace.specs.declared.effects.Purpose.TheVariants.{AskRead, ValueRead}
+use Rattle.sl_trace.specs.declared.effects.Purpose.TheVariants.{RequestRead, ValueRead}
 use Rattle.sl_trace.specs.declared.effects.Spot.{Spot}
 use Rattle.sl_trace.specs.declared.input.Answer.TheVariants.{Failed, Read}
 use Rattle.sl_trace.specs.declared.input.Answer.{Answer}
@@ -64,7 +65,7 @@ before_entry x =
     record {
       reading = x.entry.reading;
       input = Wake;
-      effects = record no_effects { replies = filter (λ a. is_stopping a.reply) fx.replies };
+      effects = record no_effects { replies = filter (λ a. is_before_input a.reply) fx.replies };
     } ∷ x.past
 
 -- The entry answers this call of the job.
@@ -153,10 +154,10 @@ IsIdLate x claimed now =
 
 -- The leader that was read is torn.
 abbrev pub IsTornLeaderRead : Answering → Type 0
-IsTornLeaderRead x = AnswersRead x (λ c bytes. (IsTrue (is_at Area_read c) ⊎ (c.call.purpose ≡ AskRead x.job.number)) × (leader_of x.setting.layout bytes ≡ None))
+IsTornLeaderRead x = AnswersRead x (λ c bytes. (IsTrue (is_at Area_read c) ⊎ (c.call.purpose ≡ RequestRead x.job.number)) × (leader_of x.setting.layout bytes ≡ None))
 
 -- What is known of the lease whose read the entry answers.
-abbrev pub known_here : Answering → Session → Submitted → Known
+abbrev pub known_here : Answering → Session → Submitted → LeaseKnown
 known_here x s c = known x.setting (after_entry x) s (spot_of_call x.setting.layout c)
 
 -- The blocks that the entry's read gave, with the own block of then.
@@ -238,7 +239,7 @@ IsLimit x MbalLimit = ReadsBlocks x (λ s c blocks own. (n : ℕ) × BeginsAt x 
 
 -- The request isn't above the held lver, or below the record's; or the record is torn.
 abbrev pub IsOldRequest : Answering → ℕ → Option ℕ → Type 0
-IsOldRequest x held stored = job_command x (λ c. (r : ResourceArg) × (asked : ℕ) × (force : ℕ) × (c ≡ Ask r asked force)
+IsOldRequest x held stored = job_command x (λ c. (r : ResourceArg) × (asked : ℕ) × (force : ℕ) × (c ≡ Request r asked force)
     × AnswersRead x (λ d bytes. (l : Leader) × (leader_of x.setting.layout bytes ≡ Some l) × (l.lver ≡ held)
     × (option_map (λ q. q.lver) (request_in (read_at x.setting.layout bytes 1)) ≡ stored)
     × elim stored [ None ↦ asked ≢ 0 | Some n ↦ IsFalse (check_request held n asked force) ]))

@@ -11,10 +11,10 @@ use Rattle.sl_law.specs.LawfulModes.{LawfulModes}
 use Rattle.sl_law.specs.LawfulRecovery.{LawfulRecovery}
 use Rattle.sl_law.specs.LawfulValue.{LawfulValue}
 use Rattle.sl_law.specs.LawfulWatchdog.{LawfulWatchdog}
-use Rattle.sl_leases.specs.Counts.{most_lockspaces}
 use Rattle.sl_sector.specs.Spelling.{IsDigest}
 use Rattle.sl_text.specs.Names.{is_name}
 use Rattle.sl_time.specs.Times.{IsTiming}
+use Rattle.sl_trace.specs.Limits.{most_lockspaces}
 use Rattle.sl_trace.specs.Traces.{EachEntry, IsTrace, Setting, Trace}
 use Rattle.sl_trace.specs.declared.input.Given.{Given}
 use Rattle.sl_words.specs.Bounds.{moments}

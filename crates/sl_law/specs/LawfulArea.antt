@@ -11,7 +11,7 @@ use Rattle.sl_trace.specs.declared.effects.Entry.{Entry}
 use Rattle.sl_trace.specs.declared.effects.LeaseStep.TheVariants.{Phase1Read, Phase2Read, ReadArea, ReadBeforeFree}
 use Rattle.sl_trace.specs.declared.effects.LeaseStep.{LeaseStep}
 use Rattle.sl_trace.specs.declared.effects.Op.TheVariants.{ReadSectors}
-use Rattle.sl_trace.specs.declared.effects.Purpose.TheVariants.{AskRead, AskWrite, Lease, ValueRead, ValueWrite}
+use Rattle.sl_trace.specs.declared.effects.Purpose.TheVariants.{RequestRead, RequestWrite, Lease, ValueRead, ValueWrite}
 use Rattle.sl_trace.specs.declared.effects.Purpose.{Purpose}
 use Rattle.sl_trace.specs.declared.effects.Spot.{Spot}
 use Rattle.std.specs.Prelude.{Bool, Contains, IsFalse, IsTrue, List, None, Option, Some, false, filter, filter_map, is_some, option_and_then, true, [], ℕ, ◌&&◌, ◌+◌, ◌||◌, ◌≡◌}
@@ -19,8 +19,8 @@ use Rattle.std.specs.Prelude.{Bool, Contains, IsFalse, IsTrue, List, None, Optio
 -- Whether a call is work on an area for which the session must be in its best state: all but reads of requests.
 abbrev pub is_area_work : Purpose → Bool
 is_area_work (Lease work step) = true
-is_area_work (AskRead j) = true
-is_area_work (AskWrite j owner) = true
+is_area_work (RequestRead j) = true
+is_area_work (RequestWrite j owner) = true
 is_area_work (ValueWrite j) = true
 is_area_work (ValueRead j) = true
 is_area_work p = false
@@ -41,7 +41,7 @@ record_offset st s at (ValueIs v) = Some (value_offset st.layout at.base)
 abbrev pub is_leader_read : Purpose → Bool
 is_leader_read (Lease work (ReadArea name)) = true
 is_leader_read (Lease work ReadBeforeFree) = true
-is_leader_read (AskRead j) = true
+is_leader_read (RequestRead j) = true
 is_leader_read p = false
 
 -- The leaders that the session has read on the area.
@@ -88,7 +88,7 @@ IsLeaseRead st at c step = IsTrue (is_write c.call.op)
 -- A read at its place, by what it is for.
 abbrev pub IsRightRead : Setting → Spot → Submitted → Purpose → Type 0
 IsRightRead st at c (Lease work step) = IsLeaseRead st at c step
-IsRightRead st at c (AskRead j) = (c.call.offset ≡ at.base) × (c.call.op ≡ ReadSectors 2)
+IsRightRead st at c (RequestRead j) = (c.call.offset ≡ at.base) × (c.call.op ≡ ReadSectors 2)
 IsRightRead st at c p = Unit {0}
 
 -- A call on an area that is to read reads at its place; another of a lease writes.

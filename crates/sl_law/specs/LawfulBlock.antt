@@ -2,7 +2,7 @@
 use Rattle.sl_area.specs.Places.{area_blocks, leader_of}
 use Rattle.sl_law.specs.Saying.{EachCall}
 use Rattle.sl_leases.specs.Ballots.{ballot_blocks, moded_block, owner_of, phase1_block, phase2_block, same_owner, stop_of}
-use Rattle.sl_leases.specs.Leases.{Phase1_read, Phase1_write, Phase2_read, Phase2_write, block_written, blocks_given, ended_ballots, freed, is_area_read, is_at, is_free_write, is_leader_of, known, last_blocks, lease_calls, lease_step, own_block, spot_of_call}
+use Rattle.sl_leases.specs.Leases.{Phase1_read, Phase1_write, Phase2_read, Phase2_write, block_written, blocks_given, ended_ballots, freed, is_area_read, is_at, is_free_write, is_leader_of, last_blocks, lease_calls, lease_step, own_block, spot_of_call}
 use Rattle.sl_sector.specs.declared.sector.Block.{Block}
 use Rattle.sl_sector.specs.declared.sector.Leader.{Leader}
 use Rattle.sl_sector.specs.declared.sector.Owner.{Owner}

@@ -2,7 +2,9 @@
 use Rattle.sl_law.specs.Saying.{EachCall}
 use Rattle.sl_sector.specs.Records.{IsRecord}
 use Rattle.sl_sector.specs.declared.sector.Rec.{Rec}
-use Rattle.sl_sessions.specs.Sessions.{Freeing, Parted, Stage, Turned_away, session_numbered, stage_of}
+use Rattle.sl_sessions.specs.Sessions.{session_numbered, stage_of}
+use Rattle.sl_sessions.specs.declared.stage.Stage.TheVariants.{Ended, Freeing, Refused}
+use Rattle.sl_sessions.specs.declared.stage.Stage.{Stage}
 use Rattle.sl_trace.specs.Traces.{Setting, Trace, record_of}
 use Rattle.sl_trace.specs.declared.effects.Call.{Call}
 use Rattle.sl_trace.specs.declared.effects.Entry.{Entry}
@@ -11,8 +13,8 @@ use Rattle.std.specs.Prelude.{Bool, Contains, IsSome, IsTrue, Some, false, true,
 -- Whether a session may still submit calls.
 abbrev pub may_submit : Stage → Bool
 may_submit Freeing = false
-may_submit Turned_away = false
-may_submit Parted = false
+may_submit Refused = false
+may_submit Ended = false
 may_submit stage = true
 
 -- What every call keeps to.

@@ -2,7 +2,7 @@
 use Rattle.sl_law.specs.LawfulBlock.{ReadAfter}
 use Rattle.sl_law.specs.LawfulLeader.{HasWon}
 use Rattle.sl_law.specs.Saying.{EachCall}
-use Rattle.sl_leases.specs.Leases.{Mode_set, Phase1_write, block_of_host, block_written, blocks_given, ended_ballot, freed, has_shared_on, holdings_on, is_at, is_block_read, is_free_write, lease_calls, spot_of_call}
+use Rattle.sl_leases.specs.Leases.{Mode_set, Phase1_write, block_of_host, block_written, blocks_given, ended_ballot, has_shared_on, holdings_on, is_at, is_block_read, is_free_write, lease_calls, spot_of_call}
 use Rattle.sl_sector.specs.declared.sector.Block.{Block}
 use Rattle.sl_sessions.specs.Sessions.{Session, generation_of, me, session_numbered}
 use Rattle.sl_sessions.specs.Watching.{counted_over}

@@ -1,9 +1,9 @@
 -- What recovery and leaving do to a session's holders and jobs, and how they end it.
 use Rattle.sl_law.specs.Saying.{EachCall, EachSession, IsAnsweredAt}
 use Rattle.sl_leases.specs.Jobs.{jobs_of_session}
-use Rattle.sl_sessions.specs.Sessions.{Begun, Session, calls_of, free_write, has_open_write, holders_of, holdings_of, is_joined, is_leaving, is_recovering, leaves, leaving_job, leaving_of, recovers, recovery_of}
+use Rattle.sl_sessions.specs.Sessions.{Begun, Session, calls_of, free_write, has_open_write, holders_of, holdings_of, is_joined, is_leaving, is_recovering, leaving_job, leaving_of, recovery_of}
 use Rattle.sl_trace.specs.EffectTexts.{is_ok_reply}
-use Rattle.sl_trace.specs.Traces.{Job, Setting, Submitted, Trace, is_write, newest_reading}
+use Rattle.sl_trace.specs.Traces.{Job, Setting, Submitted, Trace, is_write, last_reading}
 use Rattle.sl_trace.specs.declared.effects.Entry.{Entry}
 use Rattle.sl_trace.specs.declared.effects.Purpose.TheVariants.{Leaving, Renewal}
 use Rattle.sl_trace.specs.declared.effects.Purpose.{Purpose}
@@ -35,7 +35,7 @@ was_killed i process (e ∷ es) =
 -- From grace after a start in an entry before the newest on, each that still holds has been signalled kill.
 abbrev pub KillsAfter : Setting → Trace → Session → ℕ → ℕ → Type 0
 KillsAfter st es s i reading =
-    i + 1 < length es → reading + st.grace ≤ newest_reading es → (p : ℕ) → Contains (holders_of es s) p → IsTrue (was_killed i p es)
+    i + 1 < length es → reading + st.grace ≤ last_reading st es → (p : ℕ) → Contains (holders_of es s) p → IsTrue (was_killed i p es)
 
 -- How a joined session may end: in recovery with nothing held and no write unanswered, or at its free's answer.
 abbrev pub MayPart : Setting → Trace → Entry → Session → Type 0

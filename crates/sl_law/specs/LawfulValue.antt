@@ -4,7 +4,7 @@ use Rattle.sl_area.specs.Places.{value_offset}
 use Rattle.sl_law.specs.LawfulLeader.{open_writes_on}
 use Rattle.sl_law.specs.Saying.{EachCall, IsAnsweredAt}
 use Rattle.sl_leases.specs.Counts.{next_value_seq}
-use Rattle.sl_leases.specs.Leases.{exclusive_on, holdings_on, is_on, known, spot_of_call, value_written}
+use Rattle.sl_leases.specs.Leases.{exclusive_on, holdings_on, is_on, spot_of_call, value_written}
 use Rattle.sl_sector.specs.Spelling.{value_in}
 use Rattle.sl_sector.specs.declared.sector.ValueRec.{ValueRec}
 use Rattle.sl_sessions.specs.Sessions.{Session, calls_of, is_active, session_numbered}

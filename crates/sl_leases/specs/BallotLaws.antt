@@ -1,6 +1,5 @@
 -- Numbers of ballots: the least k*N + id above all that are known.
 use Rattle.sl_leases.specs.Ballots.{number_above}
-use Rattle.sl_words.specs.Words.{least}
 use Rattle.std.specs.Prelude.{ℕ, ◌*◌, ◌+◌, ◌<◌, ◌≡◌, ◌≤◌}
 
 -- The number of a host among N is above what it was made from, leaves the host's remainder, and none of the host's own lies between.

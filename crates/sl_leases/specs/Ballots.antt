@@ -1,6 +1,4 @@
 -- Ballots over blocks alone: numbers, values, what stops one, and which instance begins (Gafni and Lamport, one disk).
-use Rattle.sl_leases.specs.declared.lease.BallotEnd.TheVariants.{EndedWith, Stopped}
-use Rattle.sl_leases.specs.declared.lease.BallotEnd.{BallotEnd}
 use Rattle.sl_leases.specs.declared.lease.Instance.TheVariants.{Begins, HeldAlready}
 use Rattle.sl_leases.specs.declared.lease.Instance.{Instance}
 use Rattle.sl_leases.specs.declared.lease.Stop.TheVariants.{BlockAhead, BlockRival, BlockTorn}

@@ -4,6 +4,7 @@ use Rattle.sl_leases.specs.Jobs.{is_asking_lease, is_command_that, is_granted_jo
 use Rattle.sl_leases.specs.Leases.{is_on, lease_spots, open_on, value_written}
 use Rattle.sl_sector.specs.declared.sector.ValueRec.{ValueRec}
 use Rattle.sl_sessions.specs.Sessions.{Session, calls_of, is_joined, sessions}
+use Rattle.sl_trace.specs.Limits.{most_children, most_holders, most_processes, most_resources}
 use Rattle.sl_trace.specs.Traces.{Setting, Submitted, Trace, children, holdings, is_child, is_shared, running_jobs, same_place, same_spot}
 use Rattle.sl_trace.specs.declared.command.Command.{Command}
 use Rattle.sl_trace.specs.declared.effects.Grant.{Grant}
@@ -19,12 +20,15 @@ use Rattle.std.specs.Prelude.{Bool, List, Option, count_by, filter, filter_map, 
 abbrev pub held_here : Trace → Spot → List Grant
 held_here es at = filter (λ g. same_place g.path g.offset at.path at.base) (holdings es)
 
--- The process that stands in the way: the asking one where it holds the resource, else the least whose holding conflicts.
-abbrev pub busy_process : Trace → Spot → Option ℕ → Bool → Option ℕ
-busy_process es at asking shared =
-    let here : List Grant = held_here es at in
+-- Of these holdings, the process that stands in the way: the asking one where it has one, else the least whose holding conflicts.
+abbrev pub busy_among : List Grant → Option ℕ → Bool → Option ℕ
+busy_among here asking shared =
     option_or (option_and_then (λ p. choose (list_any (λ g. g.process == p) here) p) asking)
     (least (map (λ g. g.process) (filter (λ g. not (shared && is_shared g.mode)) here)))
+
+-- The process that stands in the way on the area.
+abbrev pub busy_process : Trace → Spot → Option ℕ → Bool → Option ℕ
+busy_process es at asking shared = busy_among (held_here es at) asking shared
 
 -- The least unanswered call of the daemon on the area.
 abbrev pub pending_call : Setting → Trace → Spot → Option ℕ
@@ -46,23 +50,7 @@ child_count st es = length (children es) + ungranted st es is_program
 abbrev pub resource_count : Setting → Trace → ℕ
 resource_count st es = sum_by (λ s. length (lease_spots st es s)) (filter (is_joined es) (sessions st es))
 
--- The most lockspaces, resources, holders and children.
-abbrev pub most_lockspaces : ℕ
-most_lockspaces = 8
-
--- Resources of a machine.
-abbrev pub most_resources : ℕ
-most_resources = 256
-
--- Holdings of a machine, with the jobs that may become such.
-abbrev pub most_holders : ℕ
-most_holders = 1024
-
--- Child numbers of a daemon.
-abbrev pub most_children : ℕ
-most_children = 1000000
-
--- The first count that one more lease would pass.
+-- The first count that one more holder, or child, would pass.
 abbrev pub limit_met : Setting → Trace → Session → Spot → Bool → Option Limited
 limit_met st es s at program =
     option_or (choose (not (list_any (same_spot at) (lease_spots st es s)) && nat_le most_resources (resource_count st es)) Resources)
@@ -83,4 +71,4 @@ check_request held stored asked force = asked == 0 && force == 0 || nat_lt held 
 
 -- Whether a process of this number may act: the host's own children act only while they run.
 abbrev pub may_act : Trace → ℕ → Bool
-may_act es process = nat_le process 1000000 || is_child es process
+may_act es process = nat_le process most_processes || is_child es process

@@ -3,7 +3,7 @@ use Rattle.sl_leases.specs.declared.lease.Aim.TheVariants.{Acquires, Releases, S
 use Rattle.sl_leases.specs.declared.lease.Aim.{Aim}
 use Rattle.sl_sessions.specs.Sessions.{Session}
 use Rattle.sl_trace.specs.Traces.{Job, Setting, Trace, child_numbered, children, job_numbered, running_jobs}
-use Rattle.sl_trace.specs.declared.command.Command.TheVariants.{Acquire, AddLockspace, Ask, GetLvb, HostStatus, InqLockspace, Release, RemLockspace, RunProgram, SetLvb, Status}
+use Rattle.sl_trace.specs.declared.command.Command.TheVariants.{Acquire, AddLockspace, GetLvb, HostStatus, InqLockspace, Release, RemLockspace, Request, RunProgram, SetLvb, Status}
 use Rattle.sl_trace.specs.declared.command.Command.{Command}
 use Rattle.sl_trace.specs.declared.command.ResourceArg.{ResourceArg}
 use Rattle.sl_trace.specs.declared.effects.Mode.TheVariants.{Exclusive, Shared}
@@ -22,7 +22,7 @@ lockspace_named (HostStatus a) = Some a.name
 lockspace_named (Acquire r shared p) = Some r.lockspace
 lockspace_named (Release r p) = Some r.lockspace
 lockspace_named (RunProgram r shared path) = Some r.lockspace
-lockspace_named (Ask r lver force) = Some r.lockspace
+lockspace_named (Request r lver force) = Some r.lockspace
 lockspace_named (GetLvb r p) = Some r.lockspace
 lockspace_named (SetLvb r p bytes) = Some r.lockspace
 lockspace_named Status = None
@@ -40,7 +40,7 @@ abbrev pub resource_named : Command → Option ResourceArg
 resource_named (Acquire r shared p) = Some r
 resource_named (Release r p) = Some r
 resource_named (RunProgram r shared path) = Some r
-resource_named (Ask r lver force) = Some r
+resource_named (Request r lver force) = Some r
 resource_named (GetLvb r p) = Some r
 resource_named (SetLvb r p bytes) = Some r
 resource_named c = None

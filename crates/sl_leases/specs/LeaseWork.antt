@@ -3,12 +3,12 @@
 use Rattle.sl_area.specs.Layouts.{Layout}
 use Rattle.sl_area.specs.Places.{area_blocks, blocks_in, leader_of}
 use Rattle.sl_leases.specs.Ballots.{ballot_blocks, is_ahead, moded_block, phase1_block, phase2_block, same_owner, stop_of, value_of}
-use Rattle.sl_leases.specs.Leases.{Known, instance_for, is_leader_of, mode_gen_of, owed, owed_free, own_known, shared_elsewhere}
+use Rattle.sl_leases.specs.Leases.{LeaseKnown, instance_for, is_leader_of, mode_gen_of, owed, owed_free, own_known, shared_elsewhere}
 use Rattle.sl_leases.specs.declared.lease.Aim.TheVariants.{Acquires, Releases, Settles}
 use Rattle.sl_leases.specs.declared.lease.Aim.{Aim}
 use Rattle.sl_leases.specs.declared.lease.Instance.TheVariants.{Begins, HeldAlready}
 use Rattle.sl_leases.specs.declared.lease.Instance.{Instance}
-use Rattle.sl_leases.specs.declared.lease.LeaseNext.TheVariants.{AnswerJob, GrantJob, ReadFor, Rest, WriteBlock, WriteLeader}
+use Rattle.sl_leases.specs.declared.lease.LeaseNext.TheVariants.{AnswerJob, GrantJob, ReadFor, Nothing, WriteBlock, WriteLeader}
 use Rattle.sl_leases.specs.declared.lease.LeaseNext.{LeaseNext}
 use Rattle.sl_leases.specs.declared.lease.Owed.TheVariants.{BallotOwed, FreeOwed, ModeOwed}
 use Rattle.sl_leases.specs.declared.lease.Owed.{Owed}
@@ -46,7 +46,7 @@ lease_place st s = record { layout = st.layout; lockspace = s.lockspace }
 abbrev pub refuses : Aim → Reply → LeaseNext
 refuses (Acquires mode) r = AnswerJob r
 refuses Releases r = AnswerJob r
-refuses Settles r = Rest
+refuses Settles r = Nothing
 
 -- Whether another's shared mode stands in the way: of an exclusive acquire alone.
 abbrev pub looks_for_shared : Aim → Bool
@@ -56,7 +56,7 @@ looks_for_shared Releases = false
 looks_for_shared Settles = false
 
 -- The leader that the lease writes, with the names that it has verified.
-abbrev pub leader_for : LeasePlace → Known → Bool → ℕ → Leader
+abbrev pub leader_for : LeasePlace → LeaseKnown → Bool → ℕ → Leader
 leader_for p k held n =
     record { held = held; num_hosts = p.layout.hosts; lver = n; generation = k.self.generation; owner = k.self.id; lockspace = p.lockspace; resource = k.name }
 
@@ -71,22 +71,22 @@ phase1_next aim b =
     ]
 
 -- A ballot in n begins: its number is above all that the session knows of the instance.
-unfoldable pub begin_next : LeasePlace → Known → Aim → ℕ → LeaseNext
+unfoldable pub begin_next : LeasePlace → LeaseKnown → Aim → ℕ → LeaseNext
 begin_next p k aim n =
     elim (own_known k) [
-      | None ↦ Rest
+      | None ↦ Nothing
       | Some own ↦ phase1_next aim (phase1_block k.self p.layout.hosts n k.shared (mode_gen_of k) own (present k.read))
     ]
 
 -- What a settling does next.
-abbrev pub settle_owed : LeasePlace → Known → Option Owed → LeaseNext
-settle_owed p k None = Rest
+abbrev pub settle_owed : LeasePlace → LeaseKnown → Option Owed → LeaseNext
+settle_owed p k None = Nothing
 settle_owed p k (Some (BallotOwed n)) = begin_next p k Settles n
-settle_owed p k (Some ModeOwed) = option_map_or (λ own. WriteBlock ClearMode (moded_block own false 0)) k.own Rest
+settle_owed p k (Some ModeOwed) = option_map_or (λ own. WriteBlock ClearMode (moded_block own false 0)) k.own Nothing
 settle_owed p k (Some (FreeOwed n)) = ReadFor ReadBeforeFree
 
 -- A settling does what is owed first.
-unfoldable pub settle_next : LeasePlace → Known → LeaseNext
+unfoldable pub settle_next : LeasePlace → LeaseKnown → LeaseNext
 settle_next p k = settle_owed p k (owed k)
 
 -- The refusal by what a read of the blocks shows.
@@ -97,18 +97,18 @@ stop_reply (BlockRival host mbal) = Rival host mbal
 
 -- After a stop: a job is refused; a block above the instance concludes the ballot, so a settling goes on; after any other it waits
 -- for a wake.
-abbrev pub stopped_next : LeasePlace → Known → Aim → Stop → LeaseNext
+abbrev pub stopped_next : LeasePlace → LeaseKnown → Aim → Stop → LeaseNext
 stopped_next p k (Acquires mode) stop = AnswerJob (stop_reply stop)
 stopped_next p k Releases stop = AnswerJob (stop_reply stop)
-stopped_next p k Settles stop = elim (is_ahead stop) [ true ↦ settle_next p k | false ↦ Rest ]
+stopped_next p k Settles stop = elim (is_ahead stop) [ true ↦ settle_next p k | false ↦ Nothing ]
 
 -- The block of phase 2, with the mode that the session has now.
-abbrev pub phase2_next : Known → Block → List (Option Block) → LeaseNext
+abbrev pub phase2_next : LeaseKnown → Block → List (Option Block) → LeaseNext
 phase2_next k own read = WriteBlock Phase2Write (moded_block (phase2_block k.self own (ballot_blocks own read)) k.shared (mode_gen_of k))
 
 -- After the read of phase 1, where nothing stops the ballot.
-abbrev pub clear_next : Known → Aim → Block → List (Option Block) → LeaseNext
-clear_next k aim own read =
+abbrev pub unstopped_next : LeaseKnown → Aim → Block → List (Option Block) → LeaseNext
+unstopped_next k aim own read =
     elim (looks_for_shared aim) [
       | false ↦ phase2_next k own read
       | true ↦ elim (shared_elsewhere k read) [
@@ -118,51 +118,51 @@ clear_next k aim own read =
     ]
 
 -- After the read of phase 1.
-abbrev pub after_phase1 : LeasePlace → Known → Aim → Block → List (Option Block) → Option Stop → LeaseNext
-after_phase1 p k aim own read None = clear_next k aim own read
+abbrev pub after_phase1 : LeasePlace → LeaseKnown → Aim → Block → List (Option Block) → Option Stop → LeaseNext
+after_phase1 p k aim own read None = unstopped_next k aim own read
 after_phase1 p k aim own read (Some stop) = stopped_next p k aim stop
 
 -- A won ballot takes the leader; a settling writes it free.
-abbrev pub won_next : LeasePlace → Known → Aim → ℕ → LeaseNext
+abbrev pub won_next : LeasePlace → LeaseKnown → Aim → ℕ → LeaseNext
 won_next p k (Acquires mode) n = WriteLeader TakeLeader (leader_for p k true n)
-won_next p k Releases n = Rest
+won_next p k Releases n = Nothing
 won_next p k Settles n = WriteLeader FreeLeader (leader_for p k false n)
 
 -- A ballot that ended with another: the next instance where that one is over, else a refusal; a settling goes on.
-abbrev pub lost_next : LeasePlace → Known → Aim → ℕ → Owner → LeaseNext
+abbrev pub lost_next : LeasePlace → LeaseKnown → Aim → ℕ → Owner → LeaseNext
 lost_next p k (Acquires mode) n o =
     elim (k.over o.id o.generation) [ true ↦ begin_next p k (Acquires mode) (n + 1) | false ↦ AnswerJob (HeldBy n o) ]
-lost_next p k Releases n o = Rest
+lost_next p k Releases n o = Nothing
 lost_next p k Settles n o = settle_next p k
 
 -- A ballot of this block ended with its value.
-abbrev pub ended_next : LeasePlace → Known → Aim → Block → LeaseNext
+abbrev pub ended_next : LeasePlace → LeaseKnown → Aim → Block → LeaseNext
 ended_next p k aim own =
     elim (same_owner (value_of own) k.self) [ true ↦ won_next p k aim own.lver | false ↦ lost_next p k aim own.lver (value_of own) ]
 
 -- After the read of phase 2.
-abbrev pub after_phase2 : LeasePlace → Known → Aim → Block → Option Stop → LeaseNext
+abbrev pub after_phase2 : LeasePlace → LeaseKnown → Aim → Block → Option Stop → LeaseNext
 after_phase2 p k aim own None = ended_next p k aim own
 after_phase2 p k aim own (Some stop) = stopped_next p k aim stop
 
 -- ---- the read of the area
 
 -- The ballot begins, or the holder is named.
-abbrev pub begin_or_refuse : LeasePlace → Known → Aim → Instance → LeaseNext
+abbrev pub begin_or_refuse : LeasePlace → LeaseKnown → Aim → Instance → LeaseNext
 begin_or_refuse p k aim (Begins n) = begin_next p k aim n
 begin_or_refuse p k aim (HeldAlready lver owner) = AnswerJob (HeldBy lver owner)
 
 -- Where all spells and the names are right.
-abbrev pub whole_area_next : LeasePlace → Known → Aim → Leader → List (Option Block) → LeaseNext
-whole_area_next p k aim l read = option_map_or (λ own. begin_or_refuse p k aim (instance_for k l own read)) (own_known k) Rest
+abbrev pub whole_area_next : LeasePlace → LeaseKnown → Aim → Leader → List (Option Block) → LeaseNext
+whole_area_next p k aim l read = option_map_or (λ own. begin_or_refuse p k aim (instance_for k l own read)) (own_known k) Nothing
 
 -- Where the names are right: a torn block, the own one too, refuses.
-abbrev pub named_area_next : LeasePlace → Known → Aim → Leader → List (Option Block) → LeaseNext
+abbrev pub named_area_next : LeasePlace → LeaseKnown → Aim → Leader → List (Option Block) → LeaseNext
 named_area_next p k aim l read =
     elim (position is_none read) [ Some i ↦ AnswerJob (TornBlock (i + 1)) | None ↦ whole_area_next p k aim l read ]
 
 -- After the read of the area for a job that names this resource: a torn leader, other names, a torn block refuse in this order.
-unfoldable pub area_next : LeasePlace → Known → Aim → List ℕ → List ℕ → LeaseNext
+unfoldable pub area_next : LeasePlace → LeaseKnown → Aim → List ℕ → List ℕ → LeaseNext
 area_next p k aim name bytes =
     elim (leader_of p.layout bytes) [
       | None ↦ AnswerJob TornLeader
@@ -175,45 +175,45 @@ area_next p k aim name bytes =
 -- ---- by the answer of the newest call
 
 -- After a read that gave these bytes, by its step.
-abbrev pub after_read : LeasePlace → Known → Aim → List ℕ → LeaseStep → LeaseNext
+abbrev pub after_read : LeasePlace → LeaseKnown → Aim → List ℕ → LeaseStep → LeaseNext
 after_read p k aim bytes (ReadArea name) = area_next p k aim name bytes
-after_read p k aim bytes ReadBeforeFree = option_map_or (λ n. WriteLeader FreeLeader (leader_for p k false n)) (owed_free k) Rest
+after_read p k aim bytes ReadBeforeFree = option_map_or (λ n. WriteLeader FreeLeader (leader_for p k false n)) (owed_free k) Nothing
 after_read p k aim bytes Phase1Read =
-    option_map_or (λ own. after_phase1 p k aim own (blocks_in p.layout bytes) (stop_of own (blocks_in p.layout bytes))) k.own Rest
-after_read p k aim bytes Phase2Read = option_map_or (λ own. after_phase2 p k aim own (stop_of own (blocks_in p.layout bytes))) k.own Rest
-after_read p k aim bytes step = Rest
+    option_map_or (λ own. after_phase1 p k aim own (blocks_in p.layout bytes) (stop_of own (blocks_in p.layout bytes))) k.own Nothing
+after_read p k aim bytes Phase2Read = option_map_or (λ own. after_phase2 p k aim own (stop_of own (blocks_in p.layout bytes))) k.own Nothing
+after_read p k aim bytes step = Nothing
 
 -- The leader of n is taken: exclusive is granted; shared goes on with the own block's mode.
-abbrev pub after_take : Known → Aim → ℕ → LeaseNext
+abbrev pub after_take : LeaseKnown → Aim → ℕ → LeaseNext
 after_take k (Acquires Exclusive) n = GrantJob Exclusive n
-after_take k (Acquires Shared) n = option_map_or (λ own. WriteBlock SetMode (moded_block own true k.self.generation)) k.own Rest
-after_take k Releases n = Rest
-after_take k Settles n = Rest
+after_take k (Acquires Shared) n = option_map_or (λ own. WriteBlock SetMode (moded_block own true k.self.generation)) k.own Nothing
+after_take k Releases n = Nothing
+after_take k Settles n = Nothing
 
 -- The leader of n is freed: a shared acquire is granted, a release is done, a settling goes on.
-abbrev pub after_freeing : LeasePlace → Known → Aim → ℕ → LeaseNext
+abbrev pub after_freeing : LeasePlace → LeaseKnown → Aim → ℕ → LeaseNext
 after_freeing p k (Acquires mode) n = GrantJob Shared n
 after_freeing p k Releases n = AnswerJob Done
 after_freeing p k Settles n = settle_next p k
 
 -- The mode is cleared: a release is done, a settling goes on.
-abbrev pub after_clearing : LeasePlace → Known → Aim → LeaseNext
-after_clearing p k (Acquires mode) = Rest
+abbrev pub after_clearing : LeasePlace → LeaseKnown → Aim → LeaseNext
+after_clearing p k (Acquires mode) = Nothing
 after_clearing p k Releases = AnswerJob Done
 after_clearing p k Settles = settle_next p k
 
 -- After a write of instance n that is done, by its step.
-abbrev pub after_write : LeasePlace → Known → Aim → ℕ → LeaseStep → LeaseNext
+abbrev pub after_write : LeasePlace → LeaseKnown → Aim → ℕ → LeaseStep → LeaseNext
 after_write p k aim n Phase1Write = ReadFor Phase1Read
 after_write p k aim n Phase2Write = ReadFor Phase2Read
 after_write p k aim n TakeLeader = after_take k aim n
 after_write p k aim n SetMode = WriteLeader FreeLeader (leader_for p k false n)
 after_write p k aim n FreeLeader = after_freeing p k aim n
 after_write p k aim n ClearMode = after_clearing p k aim
-after_write p k aim n step = Rest
+after_write p k aim n step = Nothing
 
 -- What comes next after the answer of a call with this number, which wrote instance n, if any.
-unfoldable pub lease_next : LeasePlace → Known → Aim → ℕ → ℕ → LeaseStep → Answer → LeaseNext
+unfoldable pub lease_next : LeasePlace → LeaseKnown → Aim → ℕ → ℕ → LeaseStep → Answer → LeaseNext
 lease_next p k aim call n step (Read bytes) = after_read p k aim bytes step
 lease_next p k aim call n step Written = after_write p k aim n step
 lease_next p k aim call n step Failed = refuses aim (IoFault call)
@@ -221,6 +221,6 @@ lease_next p k aim call n step Failed = refuses aim (IoFault call)
 -- ---- giving up
 
 -- The last holding under the lease has ended by a release: an exclusive lease frees the leader, a shared one clears its mode.
-abbrev pub release_next : LeasePlace → Known → Mode → ℕ → LeaseNext
+abbrev pub release_next : LeasePlace → LeaseKnown → Mode → ℕ → LeaseNext
 release_next p k Exclusive lver = WriteLeader FreeLeader (leader_for p k false lver)
-release_next p k Shared lver = option_map_or (λ own. WriteBlock ClearMode (moded_block own false 0)) k.own Rest
+release_next p k Shared lver = option_map_or (λ own. WriteBlock ClearMode (moded_block own false 0)) k.own Nothing

@@ -355,7 +355,7 @@ free_left g self (m ∷ ms) =
 -- ---- what is known of a lease
 
 -- All that is asked of a lease.
-pub record Known : Type 0 where
+pub record LeaseKnown : Type 0 where
   -- the session as ballots name it
   pub self : Owner
   -- the block that it last submitted
@@ -379,7 +379,7 @@ pub record Known : Type 0 where
   pub over : ℕ → ℕ → Bool
 
 -- What is known of a lease by its calls, the owner's name and lockspace, its holdings, and whom it counts as over.
-abbrev pub known_of : Layout → List ℕ → Owner → Bool → Option ℕ → (ℕ → ℕ → Bool) → List Submitted → Known
+abbrev pub known_of : Layout → List ℕ → Owner → Bool → Option ℕ → (ℕ → ℕ → Bool) → List Submitted → LeaseKnown
 known_of g lockspace self shared exclusive over ms =
     record {
       self = self;
@@ -395,26 +395,27 @@ known_of g lockspace self shared exclusive over ms =
       over = over;
     }
 
--- What is known of the session's lease on this area.
-unfoldable pub known : Setting → Trace → Session → Spot → Known
+-- What is known of the session's lease on this area. It is asked only while the session is neither in recovery nor leaving: from then on
+-- its leases do nothing more.
+unfoldable pub known : Setting → Trace → Session → Spot → LeaseKnown
 known st es s at =
     known_of st.layout s.lockspace (me es s) (has_shared_on es s at) (option_map (λ g. g.lver) (exclusive_on es s at)) (counts_over st es s)
     (lease_calls st es s at)
 
 -- The own block: the one last submitted, else the one last read.
-abbrev pub own_known : Known → Option Block
+abbrev pub own_known : LeaseKnown → Option Block
 own_known k = own_or_read k.self.id k.own k.read
 
 -- The mode generation of a block: the session's own where it has the shared mode, else 0.
-abbrev pub mode_gen_of : Known → ℕ
+abbrev pub mode_gen_of : LeaseKnown → ℕ
 mode_gen_of k = if k.shared then k.self.generation else 0
 
 -- The free that is owed: of the instance won last, unless it is held under it.
-abbrev pub owed_free : Known → Option ℕ
+abbrev pub owed_free : LeaseKnown → Option ℕ
 owed_free k = option_and_then (λ n. choose (not (some_is (λ e. e == n) k.exclusive)) n) k.won
 
 -- What settling has to do first: an open ballot is run to its end; a mode left over is cleared; an owed free is written.
-abbrev pub owed : Known → Option Owed
+abbrev pub owed : LeaseKnown → Option Owed
 owed k =
     elim k.ballot [
       | Some n ↦ Some (BallotOwed n)
@@ -422,16 +423,16 @@ owed k =
     ]
 
 -- Whether the block shows another host's shared mode that isn't counted as over.
-abbrev pub is_shared_by_other : Known → Block → Bool
+abbrev pub is_shared_by_other : LeaseKnown → Block → Bool
 is_shared_by_other k b =
     elim (b.host == k.self.id) [ true ↦ false | false ↦ elim b.shared [ false ↦ false | true ↦ not (k.over b.host b.mode_gen) ] ]
 
 -- The least host's block that does.
-abbrev pub shared_elsewhere : Known → List (Option Block) → Option Block
+abbrev pub shared_elsewhere : LeaseKnown → List (Option Block) → Option Block
 shared_elsewhere k read = find (is_shared_by_other k) (present read)
 
 -- Whether the leader's owner counts as over.
-abbrev pub is_over_owner : Known → Leader → Bool
+abbrev pub is_over_owner : LeaseKnown → Leader → Bool
 is_over_owner k l = elim l.held [ false ↦ false | true ↦ k.over l.owner l.generation ]
 
 -- The greatest lver of the own block and of the other blocks read.
@@ -439,5 +440,5 @@ abbrev pub top_lver : Block → List (Option Block) → ℕ
 top_lver own read = greatest (own.lver ∷ map (λ b. b.lver) (filter (λ b. not (b.host == own.host)) (present read)))
 
 -- The instance that an acquire begins after its read of the area, or who holds it.
-abbrev pub instance_for : Known → Leader → Block → List (Option Block) → Instance
+abbrev pub instance_for : LeaseKnown → Leader → Block → List (Option Block) → Instance
 instance_for k l own read = instance_of (is_over_owner k l) k.self l k.freed (top_lver own read)

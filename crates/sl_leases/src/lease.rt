@@ -12,13 +12,6 @@ pub enum Stop {
     BlockRival { host: u32, mbal: u64 },
 }
 
-/// How a read of phase 2 ended its ballot: stopped, or with a value.
-#[derive(Clone, Copy)]
-pub enum BallotEnd {
-    Stopped(Stop),
-    EndedWith(Owner),
-}
-
 /// Which instance an acquire begins, or who holds the resource and under which instance.
 #[derive(Clone, Copy)]
 pub enum Instance {
@@ -47,7 +40,7 @@ pub enum Aim {
 #[derive(Drop)]
 pub enum LeaseNext {
     /// Nothing.
-    Rest,
+    Nothing,
     /// The blocks of all hosts are read, or the whole area, by the step.
     ReadFor(LeaseStep),
     /// The own block is written.

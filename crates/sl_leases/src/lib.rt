@@ -4,4 +4,4 @@
 pub mod laws;
 pub mod lease;
 
-pub use lease::{Aim, BallotEnd, Instance, LeaseNext, Owed, Stop};
+pub use lease::{Aim, Instance, LeaseNext, Owed, Stop};

@@ -7,8 +7,8 @@ use Rattle.sl_run.specs.declared.event.Refusal.TheVariants.{LimitMoment, Missing
 use Rattle.sl_run.specs.declared.event.Refusal.{Refusal}
 use Rattle.sl_run.specs.declared.header.Header.{Header}
 use Rattle.sl_time.specs.Times.{reading_of}
-use Rattle.sl_trace.specs.Connections.{after_move, connections, test_holds}
-use Rattle.sl_trace.specs.Traces.{end_of, held_after, holdings, is_ok_answer, is_starting, no_effects, record_of}
+use Rattle.sl_trace.specs.Connections.{after_move, test_holds}
+use Rattle.sl_trace.specs.Traces.{end_of, held_after, is_ok_answer, is_starting, no_effects, record_of}
 use Rattle.sl_trace.specs.declared.effects.Call.{Call}
 use Rattle.sl_trace.specs.declared.effects.Effects.{Effects}
 use Rattle.sl_trace.specs.declared.effects.Entry.{Entry}

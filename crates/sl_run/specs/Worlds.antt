@@ -14,8 +14,8 @@ use Rattle.sl_sector.specs.declared.sector.Rec.{Rec}
 use Rattle.sl_text.specs.Forms.{Form}
 use Rattle.sl_time.specs.Times.{reading_of}
 use Rattle.sl_trace.specs.Commands.{command_in, forms}
-use Rattle.sl_trace.specs.Connections.{Connection, connections, given_connection}
-use Rattle.sl_trace.specs.Traces.{Setting, Trace, holdings, is_write, next_call, next_job, same_place}
+use Rattle.sl_trace.specs.Connections.{Connection, given_connection}
+use Rattle.sl_trace.specs.Traces.{Setting, Trace, is_write, next_call, next_job, same_place}
 use Rattle.sl_trace.specs.declared.command.Command.{Command}
 use Rattle.sl_trace.specs.declared.effects.Call.{Call}
 use Rattle.sl_trace.specs.declared.effects.Grant.{Grant}

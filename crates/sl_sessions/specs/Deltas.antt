@@ -11,7 +11,7 @@ use Rattle.sl_sector.specs.declared.sector.DeltaState.{DeltaState}
 use Rattle.sl_sector.specs.declared.sector.Rec.TheVariants.{DeltaIs}
 use Rattle.sl_sessions.specs.Sessions.{Session, calls_of, delta_written, free_write, generation_of, has_open_delta, join_call, last_renewal_submitted, last_seq, leaving_job, recovery_of}
 use Rattle.sl_sessions.specs.Watching.{is_free_state}
-use Rattle.sl_sessions.specs.declared.delta.DeltaNext.TheVariants.{Disconnect, Join, KeepUp, Part, ReadOwn, RegisterAndRead, TurnAway, Wait, WriteClaim, WriteFirst, WriteFree, WriteRenewal}
+use Rattle.sl_sessions.specs.declared.delta.DeltaNext.TheVariants.{Disconnect, Join, EndLeaving, MoveConnection, ReadOwn, RegisterAndRead, RefuseJoin, Nothing, WriteClaim, WriteFirst, WriteFree, WriteRenewal}
 use Rattle.sl_sessions.specs.declared.delta.DeltaNext.{DeltaNext}
 use Rattle.sl_time.specs.Times.{TimingNumbers, dead, join_max, renew, take_over}
 use Rattle.sl_trace.specs.Traces.{Setting, Submitted, Trace, gave}
@@ -28,7 +28,7 @@ use Rattle.sl_trace.specs.declared.reply.Reply.TheVariants.{Done, IdHeld, IdLate
 use Rattle.sl_trace.specs.declared.reply.Reply.{Reply}
 use Rattle.sl_words.specs.Bounds.{is_number}
 use Rattle.sl_words.specs.Words.{some_is}
-use Rattle.std.specs.Prelude.{Bool, List, None, Option, Some, bytes_eq, codes, false, is_some, nat_le, nat_lt, not, option_and_then, option_map, true, unwrap_or, [], ℕ, ◌&&◌, ◌+◌, ◌==◌, ◌∷◌}
+use Rattle.std.specs.Prelude.{Bool, List, None, Option, Some, [], bytes_eq, codes, false, is_some, nat_le, nat_lt, not, option_and_then, option_map, true, unwrap_or, ℕ, ◌&&◌, ◌+◌, ◌==◌, ◌∷◌}
 
 -- What a delta lease is made of.
 pub record DeltaLease : Type 0 where
@@ -91,30 +91,38 @@ id_lost l claim bytes =
 unfoldable pub next_after_first : DeltaLease → List ℕ → DeltaNext
 next_after_first l bytes =
     elim (delta_in (record_in l.layout bytes)) [
-      | None ↦ TurnAway TornDelta
+      | None ↦ RefuseJoin TornDelta
       | Some d ↦ elim (bytes_eq d.lockspace l.lockspace && d.id == l.id) [
-        | false ↦ TurnAway (WrongDelta d.lockspace d.id)
-        | true ↦ elim (is_free_state d.state) [ true ↦ RegisterAndRead DecidingRead | false ↦ Wait ]
+        | false ↦ RefuseJoin (WrongDelta d.lockspace d.id)
+        | true ↦ elim (is_free_state d.state) [ true ↦ RegisterAndRead DecidingRead | false ↦ Nothing ]
       ]
     ]
 
--- After a further read, submitted at this reading: another record refuses; an equal one ends the watch once it was submitted
--- `take_over` after the first one's answer.
+-- What the joining watches: what its first read gave.
+abbrev pub watched : List Submitted → List ℕ
+watched ms = unwrap_or (first_bytes ms) []
+
+-- Where a further read equals the watched bytes it goes on; another record refuses.
+abbrev pub where_watched : DeltaLease → List ℕ → List ℕ → DeltaNext → DeltaNext
+where_watched l first bytes next = elim (bytes_eq first bytes) [ false ↦ RefuseJoin (id_held l.layout first bytes) | true ↦ next ]
+
+-- Whether a read submitted at this reading was submitted `take_over` after the first one's answer.
+abbrev pub is_watched_out : TimingNumbers → List Submitted → ℕ → Bool
+is_watched_out tm ms read_at = some_is (λ a. nat_le (a + take_over tm) read_at) (first_answered ms)
+
+-- After a further read, submitted at this reading: an equal one ends the watch once it was submitted `take_over` after the first
+-- one's answer.
 unfoldable pub next_after_watch : DeltaLease → List Submitted → ℕ → List ℕ → DeltaNext
 next_after_watch l ms read_at bytes =
-    let first : List ℕ = unwrap_or (first_bytes ms) [] in
-    elim (bytes_eq first bytes) [
-      | false ↦ TurnAway (id_held l.layout first bytes)
-      | true ↦ elim (some_is (λ a. nat_le (a + take_over l.timing) read_at) (first_answered ms)) [ true ↦ RegisterAndRead DecidingRead | false ↦ Wait ]
-    ]
+    where_watched l (watched ms) bytes (elim (is_watched_out l.timing ms read_at) [ true ↦ RegisterAndRead DecidingRead | false ↦ Nothing ])
 
 -- The claim on a watched record: one generation and one seq higher, unless a number would pass its limit.
 abbrev pub claim_on : DeltaLease → ℕ → DeltaRec → DeltaNext
 claim_on l now d =
     elim (is_number (d.generation + 1)) [
-      | false ↦ TurnAway (LimitReached GenLimit)
+      | false ↦ RefuseJoin (LimitReached GenLimit)
       | true ↦ elim (is_number (d.seq + 1)) [
-        | false ↦ TurnAway (LimitReached SeqLimit)
+        | false ↦ RefuseJoin (LimitReached SeqLimit)
         | true ↦ WriteClaim (delta_record l Claimed (d.generation + 1) (d.seq + 1) now no_bits)
       ]
     ]
@@ -122,21 +130,17 @@ claim_on l now d =
 -- After the deciding read: it must equal the watched bytes.
 unfoldable pub next_after_deciding : DeltaLease → List Submitted → ℕ → List ℕ → DeltaNext
 next_after_deciding l ms now bytes =
-    let first : List ℕ = unwrap_or (first_bytes ms) [] in
-    elim (bytes_eq first bytes) [
-      | false ↦ TurnAway (id_held l.layout first bytes)
-      | true ↦ elim (delta_in (record_in l.layout bytes)) [ None ↦ Wait | Some d ↦ claim_on l now d ]
-    ]
+    where_watched l (watched ms) bytes (elim (delta_in (record_in l.layout bytes)) [ None ↦ Nothing | Some d ↦ claim_on l now d ])
 
 -- After the verify read: it must be the own claim.
 unfoldable pub next_after_verify : DeltaLease → List Submitted → ℕ → List ℕ → DeltaNext
 next_after_verify l ms now bytes =
     elim (claim_of ms) [
-      | None ↦ Wait
+      | None ↦ Nothing
       | Some claim ↦ elim (bytes_eq bytes (sector_with l.layout (DeltaIs claim))) [
-        | false ↦ TurnAway (id_lost l claim bytes)
+        | false ↦ RefuseJoin (id_lost l claim bytes)
         | true ↦ elim (is_number (claim.seq + 1)) [
-          | false ↦ TurnAway (LimitReached SeqLimit)
+          | false ↦ RefuseJoin (LimitReached SeqLimit)
           | true ↦ WriteFirst (delta_record l Live claim.generation (claim.seq + 1) now no_bits)
         ]
       ]
@@ -148,20 +152,20 @@ next_after_join_read l ms now m bytes FirstRead = next_after_first l bytes
 next_after_join_read l ms now m bytes WatchRead = next_after_watch l ms m.reading bytes
 next_after_join_read l ms now m bytes DecidingRead = next_after_deciding l ms now bytes
 next_after_join_read l ms now m bytes VerifyRead = next_after_verify l ms now bytes
-next_after_join_read l ms now m bytes ClaimWrite = Wait
-next_after_join_read l ms now m bytes FirstRenewal = Wait
+next_after_join_read l ms now m bytes ClaimWrite = Nothing
+next_after_join_read l ms now m bytes FirstRenewal = Nothing
 
 -- After a write of the joining, by its step; a generation is that of the session.
 abbrev pub next_after_join_write : ℕ → Submitted → JoinStep → DeltaNext
 next_after_join_write generation m ClaimWrite = Disconnect
 next_after_join_write generation m FirstRenewal = Join generation m.reading
-next_after_join_write generation m step = Wait
+next_after_join_write generation m step = Nothing
 
 -- After an answer of a joining that goes on.
 unfoldable pub next_in_joining : DeltaLease → ℕ → List Submitted → ℕ → Submitted → JoinStep → Answer → DeltaNext
 next_in_joining l generation ms now m step (Read bytes) = next_after_join_read l ms now m bytes step
 next_in_joining l generation ms now m step Written = next_after_join_write generation m step
-next_in_joining l generation ms now m step Failed = TurnAway (IoFault m.call.number)
+next_in_joining l generation ms now m step Failed = RefuseJoin (IoFault m.call.number)
 
 -- ---- joining: what comes by time
 
@@ -169,20 +173,20 @@ next_in_joining l generation ms now m step Failed = TurnAway (IoFault m.call.num
 abbrev pub next_after_claim : DeltaLease → ℕ → ℕ → ℕ → DeltaNext
 next_after_claim l now claimed answered =
     elim (nat_le (answered + dead l.timing) now) [
-      | false ↦ Wait
-      | true ↦ elim (nat_lt (claimed + join_max l.timing) now) [ true ↦ TurnAway (IdLate claimed now) | false ↦ RegisterAndRead VerifyRead ]
+      | false ↦ Nothing
+      | true ↦ elim (nat_lt (claimed + join_max l.timing) now) [ true ↦ RefuseJoin (IdLate claimed now) | false ↦ RegisterAndRead VerifyRead ]
     ]
 
 -- After a read of a watch: it is read again once `renew` has passed.
 abbrev pub next_in_watch : DeltaLease → ℕ → ℕ → DeltaNext
-next_in_watch l now answered = elim (nat_le (answered + renew l.timing) now) [ true ↦ ReadOwn WatchRead | false ↦ Wait ]
+next_in_watch l now answered = elim (nat_le (answered + renew l.timing) now) [ true ↦ ReadOwn WatchRead | false ↦ Nothing ]
 
 -- By the step of the newest call, submitted and answered at these readings.
 abbrev pub next_by_time : DeltaLease → ℕ → ℕ → ℕ → JoinStep → DeltaNext
 next_by_time l now made answered FirstRead = next_in_watch l now answered
 next_by_time l now made answered WatchRead = next_in_watch l now answered
 next_by_time l now made answered ClaimWrite = next_after_claim l now made answered
-next_by_time l now made answered step = Wait
+next_by_time l now made answered step = Nothing
 
 -- The step of a joining's call.
 abbrev pub join_step_of : Purpose → Option JoinStep
@@ -191,9 +195,9 @@ join_step_of p = None
 
 -- What is due of a joining on a wake, by its newest call once that is answered.
 unfoldable pub next_on_wake : DeltaLease → ℕ → List Submitted → DeltaNext
-next_on_wake l now [] = Wait
+next_on_wake l now [] = Nothing
 next_on_wake l now (m ∷ ms) =
-    elim m.answer [ None ↦ Wait | Some a ↦ elim (join_step_of m.call.purpose) [ None ↦ Wait | Some step ↦ next_by_time l now m.reading a.reading step ] ]
+    elim m.answer [ None ↦ Nothing | Some a ↦ elim (join_step_of m.call.purpose) [ None ↦ Nothing | Some step ↦ next_by_time l now m.reading a.reading step ] ]
 
 -- ---- renewal and free
 
@@ -225,27 +229,27 @@ is_renewal_due l now k = not k.recovering && nat_le (k.renewed + renew l.timing)
 -- The renewal that is due on a wake of a joined session, with these bits.
 unfoldable pub next_renewal : DeltaLease → ℕ → DeltaKnown → List ℕ → DeltaNext
 next_renewal l now k bits =
-    elim (is_renewal_due l now k) [ false ↦ Wait | true ↦ WriteRenewal (delta_record l Live k.generation (k.seq + 1) now bits) ]
+    elim (is_renewal_due l now k) [ false ↦ Nothing | true ↦ WriteRenewal (delta_record l Live k.generation (k.seq + 1) now bits) ]
 
 -- After a renewal's answer: in recovery neither the connection moves nor are ids read.
 abbrev pub next_after_renewal : Bool → ℕ → Answer → DeltaNext
-next_after_renewal recovering made Written = elim recovering [ true ↦ Wait | false ↦ KeepUp made ]
-next_after_renewal recovering made (Read bytes) = Wait
-next_after_renewal recovering made Failed = Wait
+next_after_renewal recovering made Written = elim recovering [ true ↦ Nothing | false ↦ MoveConnection made ]
+next_after_renewal recovering made (Read bytes) = Nothing
+next_after_renewal recovering made Failed = Nothing
 
 -- The free that a leaving writes once nothing is held and no call is unanswered.
 abbrev pub next_free : DeltaLease → ℕ → DeltaKnown → DeltaNext
 next_free l now k =
     elim k.leaving [
-      | None ↦ Wait
-      | Some j ↦ elim k.freed [ true ↦ Wait | false ↦ WriteFree j (delta_record l Free k.generation (k.seq + 1) now no_bits) ]
+      | None ↦ Nothing
+      | Some j ↦ elim k.freed [ true ↦ Nothing | false ↦ WriteFree j (delta_record l Free k.generation (k.seq + 1) now no_bits) ]
     ]
 
--- After the free's answer, of either kind.
-abbrev pub next_after_free : ℕ → Answer → DeltaNext
-next_after_free call Written = Part Done
-next_after_free call Failed = Part (IoFault call)
-next_after_free call (Read bytes) = Wait
+-- After the free's answer, of either kind, for the job that leaves.
+abbrev pub next_after_free : ℕ → ℕ → Answer → DeltaNext
+next_after_free job call Written = EndLeaving job Done
+next_after_free job call Failed = EndLeaving job (IoFault call)
+next_after_free job call (Read bytes) = Nothing
 
 -- What is known of a session.
 abbrev pub delta_known : Setting → Trace → Session → DeltaKnown

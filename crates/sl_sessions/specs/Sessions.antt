@@ -5,9 +5,11 @@ use Rattle.sl_sector.specs.declared.sector.DeltaRec.{DeltaRec}
 use Rattle.sl_sector.specs.declared.sector.Owner.{Owner}
 use Rattle.sl_sector.specs.declared.sector.Rec.TheVariants.{DeltaIs}
 use Rattle.sl_sector.specs.declared.sector.Rec.{Rec}
+use Rattle.sl_sessions.specs.declared.stage.Stage.TheVariants.{Claiming, Deciding, Ended, FirstRenewing, Freeing, Looking, Refused, Standing, Verifying, Waiting}
+use Rattle.sl_sessions.specs.declared.stage.Stage.{Stage}
 use Rattle.sl_time.specs.Times.{fail}
 use Rattle.sl_trace.specs.Connections.{unregisters}
-use Rattle.sl_trace.specs.Traces.{Job, Setting, Submitted, Trace, call_numbered, holdings, is_answered_ok, is_write, line_in, next_job, record_of, reply_to, same_place, submitted}
+use Rattle.sl_trace.specs.Traces.{Job, Setting, Submitted, Trace, call_numbered, holdings, is_answered_ok, is_write, line_in, next_job, record_of, reply_to, same_place, submitted, unanswered}
 use Rattle.sl_trace.specs.declared.command.Command.TheVariants.{AddLockspace, RemLockspace}
 use Rattle.sl_trace.specs.declared.command.Command.{Command}
 use Rattle.sl_trace.specs.declared.command.LockspaceArg.{LockspaceArg}
@@ -83,10 +85,14 @@ begun_in st es number e =
       | true ↦ elim (added_by st e.input) [ None ↦ [] | Some a ↦ joining_session number (next_job st es) a ∷ [] ]
     ]
 
+-- These sessions with that which the entry after those before it begins, if it does.
+abbrev pub with_begun : Setting → Trace → List Session → Entry → List Session
+with_begun st es ss e = ss ++ begun_in st es (length ss) e
+
 -- All sessions of a daemon, by their numbers.
 abbrev pub sessions : Setting → Trace → List Session
 sessions st [] = map given_session (enumerate_from 0 st.given)
-sessions st (e ∷ es) = let before : List Session = sessions st es in before ++ begun_in st es (length before) e
+sessions st (e ∷ es) = with_begun st es (sessions st es) e
 
 -- The session with this number.
 abbrev pub session_numbered : Setting → Trace → ℕ → Option Session
@@ -105,10 +111,6 @@ is_call_of s m = m.call.session == s.number
 -- The session's calls, the newest first.
 abbrev pub calls_of : Trace → Session → List Submitted
 calls_of es s = filter (is_call_of s) (submitted es)
-
--- Those without an answer.
-abbrev pub unanswered : List Submitted → List Submitted
-unanswered ms = filter (λ m. is_none m.answer) ms
 
 -- The session's calls without an answer.
 abbrev pub open_calls_of : Trace → Session → List Submitted
@@ -361,29 +363,6 @@ is_active st es s = is_joined es s && is_none (recovery_of st es s) && is_none (
 
 -- ---- stages
 
--- Where a session stands.
-pub data Stage : Type 0 where
-  -- it reads its id's sector and watches it
-  Looking : Stage
-  -- the deciding read was submitted
-  Deciding : Stage
-  -- the claim was submitted and isn't answered ok
-  Claiming : Stage
-  -- the claim was answered ok
-  Waiting : Stage
-  -- the verify read was submitted
-  Verifying : Stage
-  -- the first renewal was submitted
-  Renewing_first : Stage
-  -- joined
-  Standing : Stage
-  -- its free was submitted
-  Freeing : Stage
-  -- its joining was refused
-  Turned_away : Stage
-  -- it was joined, and has ended
-  Parted : Stage
-
 -- The stage of a joining after this step, its call answered ok or not.
 abbrev pub stage_after : JoinStep → Bool → Stage
 stage_after FirstRead done = Looking
@@ -392,7 +371,7 @@ stage_after DecidingRead done = Deciding
 stage_after ClaimWrite false = Claiming
 stage_after ClaimWrite true = Waiting
 stage_after VerifyRead done = Verifying
-stage_after FirstRenewal done = Renewing_first
+stage_after FirstRenewal done = FirstRenewing
 
 -- The stage of a joining, by its newest call.
 abbrev pub stage_of_call : Submitted → Stage
@@ -408,10 +387,10 @@ abbrev pub stage_of : Trace → Session → Stage
 stage_of es s =
     elim (joined_after es s) [
       | Some k ↦ elim (removed_after es s) [
-        | Some i ↦ Parted
+        | Some i ↦ Ended
         | None ↦ elim (free_write (calls_of es s)) [ Some m ↦ Freeing | None ↦ Standing ]
       ]
-      | None ↦ elim (refused_after es s) [ Some k ↦ Turned_away | None ↦ stage_in (calls_of es s) ]
+      | None ↦ elim (refused_after es s) [ Some k ↦ Refused | None ↦ stage_in (calls_of es s) ]
     ]
 
 -- Whether a session has, in this stage, a connection to the watchdog daemon. (One whose joining was refused keeps its
@@ -420,7 +399,7 @@ abbrev pub is_covered_stage : Stage → Bool
 is_covered_stage Deciding = true
 is_covered_stage Claiming = true
 is_covered_stage Verifying = true
-is_covered_stage Renewing_first = true
+is_covered_stage FirstRenewing = true
 is_covered_stage Standing = true
 is_covered_stage Freeing = true
 is_covered_stage stage = false

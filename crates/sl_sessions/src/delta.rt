@@ -7,9 +7,9 @@ use sl_trace::{JoinStep, Reply};
 #[derive(Drop)]
 pub enum DeltaNext {
     /// Nothing.
-    Wait,
+    Nothing,
     /// The joining is refused with this reply; its connection goes where no write is unanswered.
-    TurnAway(Reply),
+    RefuseJoin(Reply),
     /// The own sector is read.
     ReadOwn(JoinStep),
     /// The connection is registered until `fail` after now, and the own sector is read.
@@ -23,11 +23,11 @@ pub enum DeltaNext {
     /// The session is joined under this generation by a renewal submitted at this reading: reply, connection, a read of all ids.
     Join { generation: u64, renewed: u64 },
     /// A renewal submitted at this reading was answered ok: the connection moves, and all ids are read.
-    KeepUp { renewed: u64 },
+    MoveConnection { renewed: u64 },
     /// A renewal is written.
     WriteRenewal(DeltaRec),
     /// The free record is written, for the job that leaves.
     WriteFree { job: u64, record: DeltaRec },
-    /// The leaving is over with this reply: the connection goes, and the session ends.
-    Part(Reply),
+    /// The leaving is over: its job gets this reply, the connection goes, and the session ends.
+    EndLeaving { job: u64, reply: Reply },
 }

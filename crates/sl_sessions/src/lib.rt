@@ -4,5 +4,7 @@
 
 pub mod delta;
 pub mod laws;
+pub mod stage;
 
 pub use delta::DeltaNext;
+pub use stage::Stage;

@@ -4,13 +4,15 @@ use Rattle.sl_area.specs.Places.{is_base}
 use Rattle.sl_text.specs.Forms.{Form, bad_column, coloned, exactly, made_by, pieces, spaced, word_at, words_of}
 use Rattle.sl_text.specs.Names.{is_name, is_path}
 use Rattle.sl_text.specs.Numbers.{hex_bytes, hex_text, is_hex_word, is_number_that, number_of}
-use Rattle.sl_trace.specs.declared.command.Command.TheVariants.{Acquire, AddLockspace, Ask, GetLvb, HostStatus, InqLockspace, Release, RemLockspace, RunProgram, SetLvb, Status}
+use Rattle.sl_trace.specs.Limits.{most_children, most_processes}
+use Rattle.sl_trace.specs.declared.command.Command.TheVariants.{Acquire, AddLockspace, GetLvb, HostStatus, InqLockspace, Release, RemLockspace, Request, RunProgram, SetLvb, Status}
 use Rattle.sl_trace.specs.declared.command.Command.{Command}
 use Rattle.sl_trace.specs.declared.command.LockspaceArg.{LockspaceArg}
 use Rattle.sl_trace.specs.declared.command.ResourceArg.{ResourceArg}
 use Rattle.sl_words.specs.Bounds.{record_numbers}
 use Rattle.std.specs.Int.{is_in_range}
-use Rattle.std.specs.Prelude.{Bool, Err, List, None, Ok, Option, Result, Some, bytes_eq, codes, decimal, false, length, true, [], ℕ, ◌&&◌, ◌++◌, ◌-◌, ◌==◌, ◌↔◌, ◌∷◌, ◌≡◌}
+use Rattle.std.specs.List.{list_all}
+use Rattle.std.specs.Prelude.{Bool, Err, IsTrue, List, None, Ok, Option, Result, Some, [], bytes_eq, codes, decimal, false, length, nat_lt, true, ℕ, ◌&&◌, ◌++◌, ◌+◌, ◌-◌, ◌<◌, ◌==◌, ◌↔◌, ◌∷◌, ◌≡◌, ◌≤◌}
 
 -- ---- words that stand for lockspaces, resources and values
 
@@ -54,7 +56,7 @@ asked_of_word w = number_of (word_at (pieces 58 w) 4)
 
 -- A process number.
 abbrev pub is_process_word : List ℕ → Bool
-is_process_word w = is_number_that (is_in_range 1 2000000) w
+is_process_word w = is_number_that (is_in_range 1 (most_processes + most_children)) w
 
 -- A verb, `-s` and a lockspace.
 abbrev pub lockspace_form : Layout → List ℕ → (LockspaceArg → Command) → Form Command
@@ -93,12 +95,12 @@ forms g =
     }
     ∷ record {
       words = exactly (codes "request") ∷ exactly (codes "-r") ∷ is_asked_word (λ n. n == 0) g ∷ exactly (codes "-f") ∷ exactly (codes "0") ∷ [];
-      make = λ ws. Ask (resource_of_word (word_at ws 2)) 0 0;
+      make = λ ws. Request (resource_of_word (word_at ws 2)) 0 0;
     }
     ∷ record {
       words = exactly (codes "request") ∷ exactly (codes "-r") ∷ is_asked_word (λ n. is_in_range 1 (record_numbers - 1) n) g ∷ exactly (codes "-f")
           ∷ is_number_that (is_in_range 1 2) ∷ [];
-      make = λ ws. Ask (resource_of_word (word_at ws 2)) (asked_of_word (word_at ws 2)) (number_of (word_at ws 4));
+      make = λ ws. Request (resource_of_word (word_at ws 2)) (asked_of_word (word_at ws 2)) (number_of (word_at ws 4));
     }
     ∷ record {
       words = exactly (codes "get_lvb") ∷ exactly (codes "-r") ∷ is_resource_word g ∷ exactly (codes "-p") ∷ is_process_word ∷ [];
@@ -145,14 +147,61 @@ command_words (HostStatus a) = codes "host_status" ∷ codes "-s" ∷ lockspace_
 command_words (Acquire r shared p) = codes "acquire" ∷ codes "-r" ∷ moded_word r shared ∷ codes "-p" ∷ decimal p ∷ []
 command_words (Release r p) = codes "release" ∷ codes "-r" ∷ moded_word r false ∷ codes "-p" ∷ decimal p ∷ []
 command_words (RunProgram r shared path) = codes "command" ∷ codes "-r" ∷ moded_word r shared ∷ codes "-c" ∷ path ∷ []
-command_words (Ask r lver force) = codes "request" ∷ codes "-r" ∷ coloned (resource_parts r ++ decimal lver ∷ []) ∷ codes "-f" ∷ decimal force ∷ []
+command_words (Request r lver force) = codes "request" ∷ codes "-r" ∷ coloned (resource_parts r ++ decimal lver ∷ []) ∷ codes "-f" ∷ decimal force ∷ []
 command_words (GetLvb r p) = codes "get_lvb" ∷ codes "-r" ∷ moded_word r false ∷ codes "-p" ∷ decimal p ∷ []
 command_words (SetLvb r p bytes) = codes "set_lvb" ∷ codes "-r" ∷ moded_word r false ∷ codes "-p" ∷ decimal p ∷ codes "-d" ∷ hex_text bytes ∷ []
 command_words Status = codes "status" ∷ []
 
--- The text and the command belong together.
+-- ---- what a command may name
+
+-- A lockspace that a command may name.
+pub record IsLockspaceArg (g : Layout) (a : LockspaceArg) : Type 0 where
+  pub name : IsTrue (is_name a.name)
+  -- of the run's hosts
+  pub host : IsTrue (is_in_range 1 g.hosts a.id)
+  pub disk : IsTrue (is_path a.path)
+  -- areas stand at multiples of their size, so two of them never overlap
+  pub base : IsTrue (is_base g a.offset)
+
+-- A resource that a command may name.
+pub record IsResourceArg (g : Layout) (r : ResourceArg) : Type 0 where
+  pub space : IsTrue (is_name r.lockspace)
+  pub named : IsTrue (is_name r.name)
+  pub disk : IsTrue (is_path r.path)
+  pub base : IsTrue (is_base g r.offset)
+
+-- A process that a command may name: one of the machine's, or a child of the daemon.
+abbrev pub IsProcess : ℕ → Type 0
+IsProcess p = IsTrue (is_in_range 1 (most_processes + most_children) p)
+
+-- A request asks for an lver by force 1 or 2, or it clears by lver 0 and force 0.
+pub record IsRequestArg (lver force : ℕ) : Type 0 where
+  pub below : lver < record_numbers
+  pub forces : force ≤ 2
+  pub clears : (force ≡ 0) ↔ (lver ≡ 0)
+
+-- 1 to 256 bytes.
+pub record IsValueArg (bytes : List ℕ) : Type 0 where
+  pub long : IsTrue (is_in_range 1 256 (length bytes))
+  pub each : IsTrue (list_all (λ b. nat_lt b 256) bytes)
+
+-- What a command may name.
+abbrev pub IsCommand : Layout → Command → Type 0
+IsCommand g (AddLockspace a) = IsLockspaceArg g a
+IsCommand g (RemLockspace a) = IsLockspaceArg g a
+IsCommand g (InqLockspace a) = IsLockspaceArg g a
+IsCommand g (HostStatus a) = IsLockspaceArg g a
+IsCommand g (Acquire r shared p) = IsResourceArg g r × IsProcess p
+IsCommand g (Release r p) = IsResourceArg g r × IsProcess p
+IsCommand g (RunProgram r shared path) = IsResourceArg g r × IsTrue (is_path path)
+IsCommand g (Request r lver force) = IsResourceArg g r × IsRequestArg lver force
+IsCommand g (GetLvb r p) = IsResourceArg g r × IsProcess p
+IsCommand g (SetLvb r p bytes) = IsResourceArg g r × IsProcess p × IsValueArg bytes
+IsCommand g Status = Unit {0}
+
+-- The text is the command's: it may name what it does, and its words stand with one space between them.
 abbrev pub SpellsCommand : Layout → List ℕ → Command → Type 0
-SpellsCommand g text c = (text ≡ spaced (command_words c)) × (command_in (forms g) (spaced (command_words c)) ≡ Ok c)
+SpellsCommand g text c = IsCommand g c × (text ≡ spaced (command_words c))
 
 -- What a reader of commands owes.
 abbrev pub ReadsCommands : Layout → Type 0

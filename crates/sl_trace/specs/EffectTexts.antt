@@ -2,6 +2,7 @@
 use Rattle.sl_sector.specs.RecordTexts.{dash_for_none, record_words}
 use Rattle.sl_text.specs.Forms.{coloned, spaced}
 use Rattle.sl_text.specs.Numbers.{hex_text}
+use Rattle.sl_trace.specs.Limits.{most_children, most_holders, most_lockspaces, most_resources}
 use Rattle.sl_trace.specs.declared.effects.Call.{Call}
 use Rattle.sl_trace.specs.declared.effects.Effects.{Effects}
 use Rattle.sl_trace.specs.declared.effects.End.{End}
@@ -49,10 +50,10 @@ greatest_number = decimal (record_numbers - 1)
 
 -- What was counted, and its limit.
 abbrev pub limit_words : Limited → List (List ℕ)
-limit_words Lockspaces = codes "lockspaces" ∷ decimal 8 ∷ []
-limit_words Resources = codes "resources" ∷ decimal 256 ∷ []
-limit_words Holders = codes "holders" ∷ decimal 1024 ∷ []
-limit_words Children = codes "children" ∷ decimal 1000000 ∷ []
+limit_words Lockspaces = codes "lockspaces" ∷ decimal most_lockspaces ∷ []
+limit_words Resources = codes "resources" ∷ decimal most_resources ∷ []
+limit_words Holders = codes "holders" ∷ decimal most_holders ∷ []
+limit_words Children = codes "children" ∷ decimal most_children ∷ []
 limit_words GenLimit = codes "gen" ∷ greatest_number ∷ []
 limit_words SeqLimit = codes "seq" ∷ greatest_number ∷ []
 limit_words LverLimit = codes "lver" ∷ greatest_number ∷ []

@@ -3,6 +3,7 @@
 use Rattle.sl_area.specs.Layouts.{Layout}
 use Rattle.sl_sector.specs.declared.sector.Rec.{Rec}
 use Rattle.sl_time.specs.Times.{TimingNumbers}
+use Rattle.sl_trace.specs.Limits.{most_processes}
 use Rattle.sl_trace.specs.declared.command.Command.{Command}
 use Rattle.sl_trace.specs.declared.effects.Call.{Call}
 use Rattle.sl_trace.specs.declared.effects.Effects.{Effects}
@@ -13,7 +14,7 @@ use Rattle.sl_trace.specs.declared.effects.Mode.TheVariants.{Exclusive, Shared}
 use Rattle.sl_trace.specs.declared.effects.Mode.{Mode}
 use Rattle.sl_trace.specs.declared.effects.Op.TheVariants.{ReadSectors, WriteRecord}
 use Rattle.sl_trace.specs.declared.effects.Op.{Op}
-use Rattle.sl_trace.specs.declared.effects.Purpose.TheVariants.{AskRead, AskWrite, Joining, Lease, Leaving, Renewal, SeeRequest, Survey, ValueRead, ValueWrite}
+use Rattle.sl_trace.specs.declared.effects.Purpose.TheVariants.{RequestRead, RequestWrite, Joining, Lease, Leaving, Renewal, SeeRequest, Survey, ValueRead, ValueWrite}
 use Rattle.sl_trace.specs.declared.effects.Purpose.{Purpose}
 use Rattle.sl_trace.specs.declared.effects.Spot.{Spot}
 use Rattle.sl_trace.specs.declared.effects.Start.{Start}
@@ -30,7 +31,7 @@ use Rattle.sl_trace.specs.declared.reply.Reply.{Reply}
 use Rattle.sl_words.specs.Bounds.{moments}
 use Rattle.sl_words.specs.Words.{greatest, some_is}
 use Rattle.std.specs.List.{list_any, range_with_len}
-use Rattle.std.specs.Option.{option_map_or, option_or}
+use Rattle.std.specs.Option.{option_or}
 use Rattle.std.specs.Prelude.{Bool, IsTrue, List, None, Option, Result, Some, bytes_eq, drop, false, filter, find, fold, is_none, length, map, nat_lt, not, option_and_then, option_map, slice_get, true, [], ℕ, ◌&&◌, ◌*◌, ◌++◌, ◌+◌, ◌-◌, ◌<◌, ◌==◌, ◌∷◌, ◌≡◌, ◌≤◌}
 
 -- What a daemon is made of.
@@ -56,11 +57,6 @@ front k es = drop (length es - k) es
 -- Entry i, counted from 0 for the oldest.
 abbrev pub entry_at : Trace → ℕ → Option Entry
 entry_at es i = elim (nat_lt i (length es)) [ false ↦ None | true ↦ slice_get es (length es - 1 - i) ]
-
--- The newest entry's reading, and 0 where there is none.
-abbrev pub newest_reading : Trace → ℕ
-newest_reading [] = 0
-newest_reading (e ∷ es) = e.reading
 
 -- A step that does nothing.
 abbrev pub no_effects : Effects
@@ -93,10 +89,14 @@ job_in st es number e =
       | Some text ↦ record { number = number; at = length es; reading = e.reading; command = st.read text } ∷ []
     ]
 
+-- These jobs with that of the entry after those before it, if it has a command line: it has the next number.
+abbrev pub with_job : Setting → Trace → List Job → Entry → List Job
+with_job st es js e = js ++ job_in st es (st.first.job + length js) e
+
 -- All jobs, by their numbers: the k-th command line has the k-th number.
 abbrev pub jobs : Setting → Trace → List Job
 jobs st [] = []
-jobs st (e ∷ es) = let js : List Job = jobs st es in js ++ job_in st es (st.first.job + length js) e
+jobs st (e ∷ es) = with_job st es (jobs st es) e
 
 -- The reply to this job in the entry after these.
 abbrev pub reply_in : ℕ → Trace → Entry → Option Replied
@@ -135,21 +135,22 @@ job_of Renewal = None
 job_of Survey = None
 job_of (Leaving j) = Some j
 job_of (Lease work step) = work_job work
-job_of (AskRead j) = Some j
-job_of (AskWrite j owner) = Some j
+job_of (RequestRead j) = Some j
+job_of (RequestWrite j owner) = Some j
 job_of SeeRequest = None
 job_of (ValueWrite j) = Some j
 job_of (ValueRead j) = Some j
 
--- Whether a reply stops a job before the input of its step is looked at. All other replies come at the input or after it.
-abbrev pub is_stopping : Reply → Bool
-is_stopping (IoTimeout call from to) = true
-is_stopping (Recovering t) = true
-is_stopping r = false
+-- Whether a reply ends a job before the input of its step is looked at. All other replies come at the input or after it. (Where a
+-- recovery or a leaving begins in the input, that input answers no call of a job.)
+abbrev pub is_before_input : Reply → Bool
+is_before_input (IoTimeout call from to) = true
+is_before_input (Recovering t) = true
+is_before_input r = false
 
--- Whether the entry stops this job before its input.
-abbrev pub is_stopped_in : Entry → ℕ → Bool
-is_stopped_in e job = list_any (λ a. a.job == job && is_stopping a.reply) e.effects.replies
+-- Whether the entry refuses this job before its input.
+abbrev pub is_refused_before_input : Entry → ℕ → Bool
+is_refused_before_input e job = list_any (λ a. a.job == job && is_before_input a.reply) e.effects.replies
 
 -- ---- calls and their answers
 
@@ -175,7 +176,7 @@ new_call at reading c = record { at = at; reading = reading; call = c; answer = 
 -- Whether work on this job's account goes on in the entry after these, until its input is looked at.
 abbrev pub is_going_on : Trace → Entry → Option ℕ → Bool
 is_going_on es e None = true
-is_going_on es e (Some job) = is_running es job && not (is_stopped_in e job)
+is_going_on es e (Some job) = is_running es job && not (is_refused_before_input e job)
 
 -- The answer that the entry after these brings to a call.
 abbrev pub answer_of : Trace → Entry → Answer → Call → Answered
@@ -196,9 +197,13 @@ abbrev pub submitted : Trace → List Submitted
 submitted [] = []
 submitted (e ∷ es) = fold (λ ms c. new_call (length es) e.reading c ∷ ms) (mark es e e.input (submitted es)) e.effects.calls
 
+-- Those of these calls that have no answer.
+abbrev pub unanswered : List Submitted → List Submitted
+unanswered ms = filter (λ m. is_none m.answer) ms
+
 -- The calls without an answer, the newest first.
 abbrev pub outstanding : Trace → List Submitted
-outstanding es = filter (λ m. is_none m.answer) (submitted es)
+outstanding es = unanswered (submitted es)
 
 -- The call with this number.
 abbrev pub call_numbered : Trace → ℕ → Option Submitted
@@ -252,7 +257,7 @@ waiting_call es job = find (is_of_job job) (outstanding es)
 
 -- ---- holdings
 
--- One place on one disk.
+-- Whether two places are one.
 abbrev pub same_place : List ℕ → ℕ → List ℕ → ℕ → Bool
 same_place path offset path' offset' = offset == offset' && bytes_eq path path'
 
@@ -324,7 +329,7 @@ is_child es process = some_is (λ k. some_is (λ ok. ok) k.answer && not k.exite
 
 -- The number of a daemon's first child.
 abbrev pub first_child : ℕ
-first_child = 1000001
+first_child = most_processes + 1
 
 -- The number of the next child.
 abbrev pub next_child : Trace → ℕ

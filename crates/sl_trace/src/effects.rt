@@ -67,9 +67,9 @@ pub enum Purpose {
     /// Work on a resource's lease.
     Lease { work: Work, step: LeaseStep },
     /// A request's read of leader and request.
-    AskRead { job: u64 },
+    RequestRead { job: u64 },
     /// A request's write; the owner of the held leader that was read, if there was one.
-    AskWrite { job: u64, owner: Option<u32> },
+    RequestWrite { job: u64, owner: Option<u32> },
     /// A holder's look at a request.
     SeeRequest,
     /// The write of a value.
