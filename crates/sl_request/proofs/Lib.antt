@@ -1,0 +1,2 @@
+pub mod ByteFacts
+pub mod BitmapFacts
