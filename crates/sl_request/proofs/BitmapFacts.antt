@@ -6,15 +6,15 @@ use Rattle.sl_sector.specs.Bitmaps.{clear_bit, is_bit_set, no_bits, set_bit}
 use Rattle.sl_sector.specs.Records.{AreBytes}
 use Rattle.sl_words.proofs.WordLaws.{and_true}
 use Rattle.sl_words.specs.Bounds.{most_hosts}
-use Rattle.std.proofs.Common.{Bool, List, [], ap, arith, bit_and, bit_or, cond, eqb, false, get_or, inl, inr, length, leb, ltb, not, refl, subst, sym, true, zero, suc, ℕ, ◌%◌, ◌*◌, ◌+◌, ◌-◌, ◌/◌, ◌<◌, ◌^◌, ◌≡◌, ◌≤◌, ◌∙◌, ◌∷◌, ◌||◌}
+use Rattle.std.proofs.Common.{Bool, List, [], ap, arith, bit_and, bit_or, cond, eqb, false, get_or, inl, inr, length, ltb, not, refl, subst, sym, true, zero, suc, ℕ, ◌%◌, ◌*◌, ◌+◌, ◌-◌, ◌/◌, ◌<◌, ◌^◌, ◌≡◌, ◌≤◌, ◌∙◌, ◌∷◌, ◌||◌}
 use Rattle.std.proofs.lemmas.Bool.Decides.{nat_tests}
 use Rattle.std.proofs.lemmas.Bool.{cases_eq, cases_lt, eq-eqb, lt-ltb, ne_eqb}
-use Rattle.std.proofs.lemmas.List.{ext_get_or, get_or-replicate, get_or-set_other, get_or-set_same, get_or_past, length-replicate, length-set, set-get_or}
+use Rattle.std.proofs.lemmas.List.{ext_get_or, get_or-replicate, get_or-set_other, get_or-set_same, get_or_past, length-set, set-get_or}
 use Rattle.std.proofs.lemmas.Nat.Bits.{bit_at-lt, bit_at-zero, same_from_bits_below}
 use Rattle.std.proofs.lemmas.Nat.{pow_below}
 use Rattle.std.specs.Int.{bit_at, is_in_range}
 use Rattle.std.specs.List.{fold, list_all, list_any}
-use Rattle.std.specs.Prelude.{IsTrue, replicate, set, ◌≢◌}
+use Rattle.std.specs.Prelude.{set, ◌≢◌}
 
 -- ---- one byte is written
 
@@ -61,11 +61,12 @@ changes b k v bit bytes host small is same = record {
   where
     inside : byte_of k < length b
     inside = rw bytes.0 (omega (arith, host.0, host.1))
+
     other : (j : ℕ) → 1 ≤ j → j ≢ k → is_bit_set (set b (byte_of k) v) j ≡ is_bit_set b j
     other j low apart = elim (cases_eq (byte_of j) (byte_of k)) [
       | inl here ↦
-        let beside : place_in j ≢ place_in k = λ e. apart (omega (arith, host.0, here, e)) in
-        rw (here, get_or-set_same b (byte_of k) v 0 inside) (ap (λ (c : ℕ). eqb c 1) (same (place_in j) beside))
+          let beside : place_in j ≢ place_in k = λ e. apart (omega (arith, host.0, here, e)) in
+          rw (here, get_or-set_same b (byte_of k) v 0 inside) (ap (λ (c : ℕ). eqb c 1) (same (place_in j) beside))
       | inr there ↦ rw (get_or-set_other b (byte_of k) (byte_of j) v 0 there) refl
     ]
 
@@ -129,8 +130,8 @@ listed (k ∷ ks) b bytes all =
         → (is_bit_set (set_bit b k) j || r) ≡ (is_bit_set b j || (eqb k j || r))
     step j low one r = elim (cases_eq j k) [
       | inl here ↦
-        let set_here : is_bit_set (set_bit b k) j ≡ true = ap (is_bit_set (set_bit b k)) here ∙ one.changed in
-        bit_here _ (is_bit_set b j) (eqb k j) r set_here (eq-eqb k j (sym here))
+          let set_here : is_bit_set (set_bit b k) j ≡ true = ap (is_bit_set (set_bit b k)) here ∙ one.changed in
+          bit_here _ (is_bit_set b j) (eqb k j) r set_here (eq-eqb k j (sym here))
       | inr there ↦ bit_there _ (is_bit_set b j) (eqb k j) r (one.others j low there) (ne_eqb k j (λ e. there (sym e)))
     ]
 
@@ -158,6 +159,7 @@ bits_are_all a b ha hb same = ext_get_or 0 a b (ha.0 ∙ sym hb.0) (λ i inside.
         let at : byte_of k ≡ i = omega arith in
         let in_it : place_in k ≡ p = omega arith in
         same_bit (get_or a i 0) (get_or b i 0) p (rw (at, in_it) at (same k host))
+
     byte : (i : ℕ) → i < length a → get_or a i 0 ≡ get_or b i 0
     byte i inside = same_from_bits_below 8 (get_or a i 0) (get_or b i 0) (bytes_from_test a ha.1 i) (bytes_from_test b hb.1 i) (λ p low. bit i p (rw ha.0 at inside) low)
 
@@ -170,6 +172,7 @@ after_set b old k i m same bytes host at mask = (is, subst P (sym is) (rw (← s
   where
     P : List ℕ → Type 0
     P new = ChangesBit k true old new
+
     is : set b i (bit_or (get_or b i 0) m) ≡ set_bit old k
     is = rw (at, mask, with_bit-or (get_or b (byte_of k) 0) (place_in k), ← same) (sym (set_bit-is b k))
 
@@ -180,8 +183,10 @@ after_clear b old k i m same bytes host at mask = (is, subst P (sym is) (rw (←
   where
     P : List ℕ → Type 0
     P new = ChangesBit k false old new
+
     small : get_or b (byte_of k) 0 < 256
     small = bytes_from_test b bytes.1 (byte_of k)
+
     is : set b i (bit_and (get_or b i 0) (255 - m)) ≡ clear_bit old k
     is = rw (at, mask, without_bit-and (get_or b (byte_of k) 0) (place_in k) small (place_small (place_in k) (omega arith)), ← same) (sym (clear_bit-is b k))
 

@@ -1,11 +1,11 @@
 -- One bit of a byte: what adding it and taking it away makes of the byte, and of its other bits.
-use Rattle.std.proofs.Common.{Bool, ap, arith, bit_and, bit_or, cond, eqb, false, inl, inr, not, refl, sym, true, ℕ, ◌%◌, ◌*◌, ◌+◌, ◌-◌, ◌/◌, ◌<◌, ◌^◌, ◌≡◌, ◌≤◌, ◌∙◌}
+use Rattle.std.proofs.Common.{arith, bit_and, bit_or, cond, eqb, inl, inr, not, refl, ℕ, ◌%◌, ◌+◌, ◌-◌, ◌<◌, ◌^◌, ◌≡◌, ◌∙◌}
 use Rattle.std.proofs.lemmas.Bool.{cases_lt, ne_eqb}
 use Rattle.std.proofs.lemmas.Nat.Bits.{and_pow, bit_at-lt, bit_at-pow_other, bit_at-pow_same, bit_at_or, bit_at_xor}
-use Rattle.std.proofs.lemmas.Nat.{and-not, and_comm, and_le_l, or_of_8, pow_pos}
+use Rattle.std.proofs.lemmas.Nat.{and-not, and_comm, or_of_8, pow_pos}
 use Rattle.std.specs.Int.Bits.{bit_xor, or_add_and, xor_add_and}
 use Rattle.std.specs.Int.{bit_at}
-use Rattle.std.specs.Prelude.{max, ◌≢◌, ◌⊎◌}
+use Rattle.std.specs.Prelude.{◌≢◌, ◌⊎◌}
 
 -- The number with bit p set.
 abbrev pub with_bit : ℕ → ℕ → ℕ

@@ -1,2 +1,3 @@
 pub mod ByteFacts
 pub mod BitmapFacts
+pub mod OrderFacts

@@ -1,10 +1,10 @@
 -- What the bits of a bitmap keep when one of them changes.
-use Rattle.sl_sector.specs.Bitmaps.{bitmap_of, clear_bit, is_bit_set, no_bits, set_bit}
+use Rattle.sl_sector.specs.Bitmaps.{bitmap_of, bits_of, clear_bit, is_bit_set, no_bits, set_bit}
 use Rattle.sl_sector.specs.Records.{AreBytes}
 use Rattle.sl_words.specs.Bounds.{most_hosts}
 use Rattle.std.specs.Int.{is_in_range}
-use Rattle.std.specs.List.{list_all, list_any}
-use Rattle.std.specs.Prelude.{Bool, IsTrue, List, false, true, ℕ, ◌==◌, ◌≡◌, ◌≢◌, ◌≤◌}
+use Rattle.std.specs.List.{list_all, list_any, range_with_len}
+use Rattle.std.specs.Prelude.{Bool, IsTrue, List, false, filter, length, true, ℕ, ◌==◌, ◌≡◌, ◌≢◌, ◌≤◌}
 
 -- A host, by its number.
 abbrev pub IsHost : ℕ → Type 0
@@ -41,3 +41,7 @@ ListedAreSet =
 abbrev pub BitsAreAll : Type 0
 BitsAreAll =
     (a b : List ℕ) → AreBytes 250 a → AreBytes 250 b → ((k : ℕ) → IsHost k → is_bit_set a k ≡ is_bit_set b k) → a ≡ b
+
+-- The bits of a bitmap, as they are printed, are those of all hosts in rising order whose bit is set.
+abbrev pub BitsInOrder : Type 0
+BitsInOrder = (b : List ℕ) → length b ≡ 250 → bits_of b ≡ filter (is_bit_set b) (range_with_len 1 most_hosts)

@@ -28,3 +28,8 @@ pub fn listed_are_set()
 pub fn bits_are_all()
     ensures { laws.BitsAreAll }
 {}
+
+/// The bits that are printed of a bitmap are those that are set, in rising order.
+pub fn bits_in_order()
+    ensures { laws.BitsInOrder }
+{}

@@ -5,12 +5,24 @@ use crate::{Act, Bitmap, RequestOld, check_request};
 #[test]
 fn worked_requests(rt: HostRuntime) {
     let old = |held, stored| Err(RequestOld { held, stored });
-    assert_eq!(rt; check_request(5, 0, 5, 1), old(5, 0), "no more than is held");
+    assert_eq!(rt;
+        check_request(5, 0, 5, 1),
+        old(5, 0),
+        "no more than is held"
+    );
     assert_eq!(rt; check_request(5, 0, 6, 1), Ok(Act::Set));
     assert_eq!(rt; check_request(5, 7, 6, 1), old(5, 7), "less than is stored");
-    assert_eq!(rt; check_request(5, 7, 7, 1), Ok(Act::Set), "as much as is stored");
+    assert_eq!(rt;
+        check_request(5, 7, 7, 1),
+        Ok(Act::Set),
+        "as much as is stored"
+    );
     assert_eq!(rt; check_request(5, 7, 0, 0), Ok(Act::Clear));
-    assert_eq!(rt; check_request(0, 0, 0, 2), old(0, 0), "nothing is asked for");
+    assert_eq!(rt;
+        check_request(0, 0, 0, 2),
+        old(0, 0),
+        "nothing is asked for"
+    );
     assert_eq!(rt; check_request(u64::MAX, 0, u64::MAX, 1), old(u64::MAX, 0));
     assert_eq!(rt; check_request(0, u64::MAX, u64::MAX, 2), Ok(Act::Set));
 }
