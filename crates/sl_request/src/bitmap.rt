@@ -1,4 +1,7 @@
 //! The bits of a delta record: one for each host, from 1 on, the lowest of a byte first.
+//!
+//! What is kept is the bytes as the record has them: 250, each below 256. Else a record with them would break its rules, and two
+//! bitmaps with the same hosts' bits could be different bytes.
 
 ghost use Rattle.std.specs.Prelude.{false, length, true, ◌-◌, ◌/◌, ◌≡◌, ◌≤◌};
 ghost use Rattle.sl_request.specs.BitmapLaws.{ChangesBit, IsHost};
@@ -8,7 +11,7 @@ ghost use Rattle.sl_sector.specs.Records.{AreBytes};
 use sl_sector::HostId;
 use std::marker::Model;
 
-/// The bytes of a bitmap, and the most hosts that it has bits for.
+/// The bytes of a bitmap, with eight hosts' bits in each.
 const BITMAP_SIZE: usize = 250;
 
 /// A bit for each host, from 1 to 2000.
@@ -48,7 +51,7 @@ fn mask_of(host: HostId) -> u8
     1 << ((host - 1) % 8)
 }
 
-/// An array of bytes has so many, each below 256.
+/// Bytes are below 256, as the rules of records ask of a list of numbers.
 fn are_bytes(bytes: &[u8])
     ensures { AreBytes (length bytes.now) bytes.now }
 {

@@ -1,8 +1,9 @@
 //! Whether a request is taken.
 //!
-//! A request asks for an instance (`lver`) of a resource with a force: the holder of every instance below is to give it up. So it must
-//! ask for more than is held, as in sanlock(8), and for no less than the request that already stands. The cleared record has lver and force 0; to write it
-//! asks nothing of anybody, so it is always taken.
+//! A request asks, with a force, that the holder of a resource give it up for a later instance (`lver`), as in sanlock(8). So it must
+//! ask for more than is held, else it would end a holder that was granted what was asked for; and for no less than the request that
+//! stands, else it would take that one back. The cleared record has lver and force 0: writing it asks nothing of anybody, so it is
+//! always taken.
 
 ghost use Rattle.std.specs.Prelude.{IfErr, IsErr, IsOk, IsTrue, ◌<◌, ◌≡◌, ◌≤◌, ◌⊎◌, ◌↔◌};
 ghost use Rattle.sl_request.specs.Requests as requests;
@@ -28,10 +29,10 @@ pub struct RequestOld {
     pub stored: u64,
 }
 
-/// What a request for the instance `asked` with this force does, where the leader has the instance `held` and the request that stands
-/// asks for `stored`. Force 0 comes with `asked` 0 alone, and clears.
+/// What a request for the instance `asked` does, where the leader has the instance `held` and the request that stands asks for
+/// `stored`. A request with force 0 asks for nothing and clears; any other sets what it asks for.
 ///
-/// `RequestOld`, with both numbers, where it neither clears nor asks for more than is held and for no less than is stored.
+/// `RequestOld`, with both numbers, where it does not clear, and asks for no more than is held or for less than is stored.
 pub fn check_request(held: u64, stored: u64, asked: u64, force: u32) -> Result<Act, RequestOld>
     requires { force ≡ 0 → asked ≡ 0 }
     ensures exact { result ≡ requests.check_of held stored asked force }

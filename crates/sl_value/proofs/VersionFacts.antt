@@ -5,7 +5,7 @@ use Rattle.sl_sector.specs.declared.sector.ValueRec.{ValueRec}
 use Rattle.sl_value.specs.Laws.{NewestIsEnough, are_below, last_seq_among}
 use Rattle.sl_words.proofs.WordLaws.{and_true}
 use Rattle.sl_words.specs.Bounds.{most_hosts}
-use Rattle.std.proofs.Common.{Bool, List, [], ap, arith, eqb, get_or, inl, inr, leb, length, refl, subst, sym, true, ℕ, ◌+◌, ◌<◌, ◌≡◌, ◌≤◌, ◌∙◌, ◌∷◌}
+use Rattle.std.proofs.Common.{List, [], ap, arith, get_or, inl, inr, leb, length, refl, sym, true, ℕ, ◌+◌, ◌<◌, ◌≡◌, ◌≤◌, ◌∷◌}
 use Rattle.std.proofs.lemmas.Bool.Decides.{nat_tests}
 use Rattle.std.proofs.lemmas.Bool.{cases_eq, eq-eqb, ne_eqb}
 

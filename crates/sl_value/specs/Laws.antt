@@ -2,7 +2,6 @@
 use Rattle.sl_sector.specs.declared.sector.ValueRec.{ValueRec}
 use Rattle.sl_value.specs.Versions.{next_seq, version_of}
 use Rattle.sl_words.specs.Words.{first_of_list}
-use Rattle.std.specs.List.{list_all}
 use Rattle.std.specs.Option.{option_map_or}
 use Rattle.std.specs.Prelude.{Bool, IsTrue, List, find, nat_le, option_map, true, [], ℕ, ◌&&◌, ◌+◌, ◌==◌, ◌∷◌, ◌≡◌}
 
