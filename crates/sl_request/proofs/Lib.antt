@@ -1,0 +1,3 @@
+pub mod ByteFacts
+pub mod BitmapFacts
+pub mod OrderFacts
