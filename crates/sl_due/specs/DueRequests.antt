@@ -2,8 +2,8 @@
 use Rattle.sl_area.specs.Layouts.{Layout, record_in}
 use Rattle.sl_area.specs.Places.{leader_of, read_at, request_offset}
 use Rattle.sl_due.specs.Steps.{Step, add_call_at, add_reply, add_signal, seen, with_some}
-use Rattle.sl_leases.specs.Counts.{check_request}
 use Rattle.sl_leases.specs.Leases.{exclusive_on, is_leader_of, spot_of_call}
+use Rattle.sl_request.specs.Requests.{check_request}
 use Rattle.sl_sector.specs.Bitmaps.{bitmap_of}
 use Rattle.sl_sector.specs.Spelling.{request_in, value_in}
 use Rattle.sl_sector.specs.declared.sector.Rec.TheVariants.{RequestIs}

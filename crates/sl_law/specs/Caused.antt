@@ -3,13 +3,14 @@ use Rattle.sl_area.specs.Layouts.{record_in, sector_with}
 use Rattle.sl_area.specs.Places.{area_blocks, leader_of, read_at}
 use Rattle.sl_law.specs.Saying.{IsAnsweredAt}
 use Rattle.sl_leases.specs.Ballots.{in_instance, next_mbal, stop_of, value_of}
-use Rattle.sl_leases.specs.Counts.{busy_process, check_request, limit_met, may_act, next_value_seq, pending_call}
+use Rattle.sl_leases.specs.Counts.{busy_process, limit_met, may_act, next_value_seq, pending_call}
 use Rattle.sl_leases.specs.Jobs.{is_asking_lease, is_job_of_process, is_program, job_of_start, lockspace_named, process_named, resource_named, wants_shared}
 use Rattle.sl_leases.specs.Leases.{Area_read, LeaseKnown, Phase1_read, Phase2_read, blocks_given, exclusive_on, holdings_on, instance_for, is_at, is_leader_of, is_phase_read, known, lease_calls, own_block, shared_elsewhere, spot_of, spot_of_call}
 use Rattle.sl_leases.specs.declared.lease.Instance.TheVariants.{Begins, HeldAlready}
 use Rattle.sl_leases.specs.declared.lease.Instance.{Instance}
 use Rattle.sl_leases.specs.declared.lease.Stop.TheVariants.{BlockAhead, BlockRival, BlockTorn}
 use Rattle.sl_leases.specs.declared.lease.Stop.{Stop}
+use Rattle.sl_request.specs.Requests.{check_request}
 use Rattle.sl_sector.specs.Spelling.{delta_in, request_in, value_in}
 use Rattle.sl_sector.specs.declared.sector.Block.{Block}
 use Rattle.sl_sector.specs.declared.sector.DeltaRec.{DeltaRec}

@@ -65,10 +65,6 @@ values_on g at ms = filter_map value_written (filter (λ m. is_on g at m.call) m
 abbrev pub next_value_seq : Setting → Trace → Session → Spot → ℕ → ℕ
 next_value_seq st es s at lver = option_map_or (λ v. v.seq) (find (λ v. v.lver == lver) (values_on st.layout at (calls_of es s))) 0 + 1
 
--- Whether a request of this lver and force is taken: above the held lver and not below the record's, or it clears.
-abbrev pub check_request : ℕ → ℕ → ℕ → ℕ → Bool
-check_request held stored asked force = asked == 0 && force == 0 || nat_lt held asked && nat_le stored asked
-
 -- Whether a process of this number may act: the host's own children act only while they run.
 abbrev pub may_act : Trace → ℕ → Bool
 may_act es process = nat_le process most_processes || is_child es process
