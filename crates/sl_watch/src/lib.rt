@@ -1,0 +1,9 @@
+//! What a session has seen of other ids' sectors, and what that shows.
+#![tactic(auto)]
+
+mod look;
+mod run;
+mod summary;
+pub mod watch;
+
+pub use watch::Watch;
