@@ -1,1 +1,3 @@
+mod ReasonLaws
+mod SightingLaws
 mod SummaryLaws

@@ -1,8 +1,9 @@
 //! A watch.
-ghost use Rattle.std.specs.Prelude.{[], OnErr, OnOk, length, ◌∷◌, ◌≡◌, ◌≤◌};
+ghost use Rattle.std.specs.Prelude.{IfSome, IsSome, OnErr, OnOk, length, [], ◌∷◌, ◌≡◌, ◌≤◌, ◌⊎◌, ◌↔◌};
 ghost use Rattle.sl_area.specs.Layouts.{IsGeometry, layout_of};
 ghost use Rattle.sl_sector.specs.Spelling.{IsSectorSize};
 ghost use Rattle.sl_sessions.specs.Watching.{evidence, host_state, unchanged};
+ghost use Rattle.sl_watch.specs.Reasons.{IsFirstReason, SawFree, SawNewer, StoodStill};
 ghost use Rattle.sl_watch.specs.Seen.{seen_at, sightings_of};
 ghost use Rattle.sl_watch.specs.Summaries.{summary_of};
 
@@ -26,7 +27,8 @@ pub struct Watch {
 
 impl Model for Watch {
     ghost use Rattle.std.proofs.Common.{reverse};
-    ghost use Rattle.sl_watch.specs.Seen.{Watched};
+    ghost use Rattle.sl_watch.specs.Reasons.{IsFirstReason, SawFree, SawNewer, StoodStill};
+ghost use Rattle.sl_watch.specs.Seen.{Watched};
 
     ghost Value = { Watched };
 
@@ -83,6 +85,8 @@ impl Watch {
     pub fn over(&self, id: HostId, generation: Gen) -> Option<Evidence>
         requires { (1 ≤ id) × (id ≤ self.now.sizes.hosts) }
         ensures exact { result ≡ evidence self.now.timing (layout_of self.now.sizes) id generation (sightings_of id self.now.seen) }
+        ensures some { IsSome result ↔ (SawNewer self.now id generation ⊎ SawFree self.now id generation ⊎ StoodStill self.now id generation) }
+        ensures first { IfSome result (IsFirstReason self.now id generation) }
     {
         self.summary(id).evidence(self.timing, generation)
     }
