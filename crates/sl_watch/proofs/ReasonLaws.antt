@@ -12,7 +12,7 @@ use Rattle.sl_watch.specs.Seen.{Watched, sightings_of}
 use Rattle.sl_words.proofs.CaseLaws.{false_is_true}
 use Rattle.sl_words.proofs.WordLaws.{or_true}
 use Rattle.sl_words.specs.Words.{choose}
-use Rattle.std.proofs.Common.{arith, inl, inr, subst, sym, ◌∙◌}
+use Rattle.std.proofs.Common.{arith, inl, inr, subst, sym}
 use Rattle.std.proofs.Math.Nat.{max-eq_left, max-eq_right}
 use Rattle.std.proofs.lemmas.Bool.Decides.{Decides-and, Decides-eqb, Decides-like, Decides-ltb}
 use Rattle.std.proofs.lemmas.Bool.{cases_lt, le-leb, leb-true, or_left, or_right}
@@ -20,7 +20,7 @@ use Rattle.std.proofs.lemmas.List.Elements.{All-cons, All-nil, All-weaker}
 use Rattle.std.specs.Bool.{Decides}
 use Rattle.std.specs.List.{All, Any}
 use Rattle.std.specs.Option.{IfSome, IsSomeAnd}
-use Rattle.std.specs.Prelude.{Bool, IsSome, List, None, Option, Some, false, length, max, nat_le, nat_lt, refl, slice_index_or, suc, true, zero, ℕ, [], ◌&&◌, ◌+◌, ◌<◌, ◌==◌, ◌∷◌, ◌≡◌, ◌≤◌, ◌⊎◌, ◌↔◌}
+use Rattle.std.specs.Prelude.{Bool, IsSome, List, None, Option, Some, false, max, nat_le, nat_lt, refl, suc, true, zero, ℕ, [], ◌&&◌, ◌<◌, ◌==◌, ◌∷◌, ◌≡◌, ◌≤◌, ◌⊎◌, ◌↔◌}
 
 -- ---- lists
 
@@ -55,7 +55,7 @@ none_is_above : (ds : List DeltaRec) → All (λ d. d.generation ≤ newest_of d
 none_is_above [] = All-nil _
 none_is_above (d ∷ ds) =
     All-cons (λ e. e.generation ≤ newest_of (d ∷ ds)) d ds (omega arith)
-      (All-weaker (λ e. e.generation ≤ newest_of ds) (λ e. e.generation ≤ newest_of (d ∷ ds)) (λ e le. omega arith) ds (none_is_above ds))
+    (All-weaker (λ e. e.generation ≤ newest_of ds) (λ e. e.generation ≤ newest_of (d ∷ ds)) (λ e le. omega arith) ds (none_is_above ds))
 
 -- ---- the tests
 
@@ -99,6 +99,7 @@ free_among_decides h ds = (seen h ds, found h ds) where
     | inl here ↦ any_here (IsFreeOf h) d ds ((free_of_decides h d).0 here)
     | inr later ↦ any_later (IsFreeOf h) d ds (seen h ds later)
   ]
+
   found : (h : ℕ) (ds : List DeltaRec) → Any (IsFreeOf h) ds → is_free_among h ds ≡ true
   found h [] any = absurd (any_none _ any)
   found h (d ∷ ds) any = elim (any_split (IsFreeOf h) d ds any) [
@@ -111,8 +112,8 @@ still_decides : (tm : TimingNumbers) (h : ℕ) (r : Run) → Decides (is_silent 
 still_decides tm h r =
     let long : Decides (nat_le (dead tm) (span r)) (dead tm ≤ span r) = (leb-true (dead tm) (span r), le-leb (dead tm) (span r)) in
     let tests : Decides (is_silent tm h r) ((dead tm ≤ span r) × (r.spelled.state ≡ Live) × (r.spelled.generation ≡ h)) =
-      Decides-like _ (λ p. (p.0.0, p.0.1, p.1)) (λ p. ((p.0, p.1), p.2))
-        (Decides-and _ _ (Decides-and _ _ long (live_decides r.spelled.state)) (Decides-eqb r.spelled.generation h)) in
+    Decides-like _ (λ p. (p.0.0, p.0.1, p.1)) (λ p. ((p.0, p.1), p.2))
+    (Decides-and _ _ (Decides-and _ _ long (live_decides r.spelled.state)) (Decides-eqb r.spelled.generation h)) in
     Decides-like _ (λ p. (p.1, p.2, p.0)) (λ p. (p.2, p.0, p.1)) tests
 
 -- Silence is named exactly where a run stood still.
@@ -143,11 +144,13 @@ pub some_reason : (n h : ℕ) (newer free : Bool) (silent : Option Evidence) (A 
     → IsSome (first_of_three n h newer free silent) ↔ (A ⊎ B ⊎ C)
 some_reason n h true free silent A B C a b c = ((λ _. inl (a.0 refl)), (λ _. refl))
 some_reason n h false true silent A B C a b c = ((λ _. inr (inl (b.0 refl))), (λ _. refl))
-some_reason n h false false silent A B C a b c =
-    ((λ is. inr (inr (c.0 is))), (λ reasons. elim reasons [
-      | inl newer ↦ absurd (false_is_true (a.1 newer))
-      | inr others ↦ elim others [ inl free ↦ absurd (false_is_true (b.1 free)) | inr still ↦ c.1 still ]
-    ]))
+some_reason n h false false silent A B C a b c = (
+  (λ is. inr (inr (c.0 is))),
+  (λ reasons. elim reasons [
+    | inl newer ↦ absurd (false_is_true (a.1 newer))
+    | inr others ↦ elim others [ inl free ↦ absurd (false_is_true (b.1 free)) | inr still ↦ c.1 still ]
+  ]),
+)
 
 -- The reason that is named is the first.
 pub named_reason : (n h : ℕ) (newer free : Bool) (silent : Option Evidence) (A B : Type 0) (Q : Evidence → Type 0) → Decides newer A → Decides free B
@@ -166,8 +169,8 @@ pub evidence_if : (w : Watched) (id h : ℕ)
     → IsSome (evidence w.timing (layout_of w.sizes) id h (sightings_of id w.seen)) ↔ (SawNewer w id h ⊎ SawFree w id h ⊎ StoodStill w id h)
 evidence_if w id h =
     some_reason (newest_of (records_of w id)) h (nat_lt h (newest_of (records_of w id))) (is_free_among h (records_of w id)) (silence w.timing h (run_of w id))
-      (SawNewer w id h) (SawFree w id h) (StoodStill w id h)
-      (newer_decides h (records_of w id)) (free_among_decides h (records_of w id)) (silence_if w.timing h (run_of w id))
+    (SawNewer w id h) (SawFree w id h) (StoodStill w id h)
+    (newer_decides h (records_of w id)) (free_among_decides h (records_of w id)) (silence_if w.timing h (run_of w id))
 
 -- .. and names the first.
 pub evidence_names : (w : Watched) (id h : ℕ)
@@ -176,13 +179,13 @@ evidence_names w id h =
     let ds : List DeltaRec = records_of w id in
     let run : Option Run = run_of w id in
     named_reason (newest_of ds) h (nat_lt h (newest_of ds)) (is_free_among h ds) (silence w.timing h run) (SawNewer w id h) (SawFree w id h) (IsFirstReason w id h)
-      (newer_decides h ds) (free_among_decides h ds)
-      (λ newer. (some_is_newer h ds newer, (greatest_is_one h ds (some_is_newer h ds newer), none_is_above ds)))
-      (λ free none. (refl, free, none))
-      (λ no_free no_newer. silence_says w.timing h run (IsFirstReason w id h) (λ r is still.
-        (still_named w.timing h run r is still, no_free, no_newer))) where
-  still_named : (tm : TimingNumbers) (h : ℕ) (run : Option Run) (r : Run) → run ≡ Some r → IsStill tm h r
-    → IsSomeAnd run (λ s. (r.since ≡ s.since) × (r.latest ≡ s.latest) × IsStill tm h s)
-  still_named tm h run r is still =
-      let P : Option Run → Type 0 = λ o. IsSomeAnd o (λ s. (r.since ≡ s.since) × (r.latest ≡ s.latest) × IsStill tm h s) in
-      subst P (sym is) (refl, refl, still)
+    (newer_decides h ds) (free_among_decides h ds)
+    (λ newer. (some_is_newer h ds newer, (greatest_is_one h ds (some_is_newer h ds newer), none_is_above ds)))
+    (λ free none. (refl, free, none))
+    (λ no_free no_newer. silence_says w.timing h run (IsFirstReason w id h) (λ r is still.
+    (still_named w.timing h run r is still, no_free, no_newer))) where
+      still_named : (tm : TimingNumbers) (h : ℕ) (run : Option Run) (r : Run) → run ≡ Some r → IsStill tm h r
+          → IsSomeAnd run (λ s. (r.since ≡ s.since) × (r.latest ≡ s.latest) × IsStill tm h s)
+      still_named tm h run r is still =
+          let P : Option Run → Type 0 = λ o. IsSomeAnd o (λ s. (r.since ≡ s.since) × (r.latest ≡ s.latest) × IsStill tm h s) in
+          subst P (sym is) (refl, refl, still)

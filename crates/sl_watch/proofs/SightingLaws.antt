@@ -1,33 +1,29 @@
 -- What sightings show, and what they don't.
-use Rattle.sl_area.specs.Layouts.{Layout, layout_of, program_digest}
+use Rattle.sl_area.specs.Layouts.{Layout, program_digest}
 use Rattle.sl_sector.proofs.PublicLaws.{reading_is_exact}
 use Rattle.sl_sector.proofs.WrittenBytes.{sha256_is_digest}
-use Rattle.sl_sector.specs.Records.{AreBytes}
-use Rattle.sl_sector.specs.Spelling.{IsSectorSize, Spells, decoded, delta_in}
+use Rattle.sl_sector.specs.Spelling.{Spells, decoded, delta_in}
 use Rattle.sl_sector.specs.declared.sector.Bad.{Bad}
 use Rattle.sl_sector.specs.declared.sector.DeltaRec.{DeltaRec}
 use Rattle.sl_sector.specs.declared.sector.DeltaState.TheVariants.{Claimed, Free, Live}
 use Rattle.sl_sector.specs.declared.sector.DeltaState.{DeltaState}
 use Rattle.sl_sector.specs.declared.sector.Rec.TheVariants.{BlockIs, DeltaIs, LeaderIs, RequestIs, ValueIs}
 use Rattle.sl_sector.specs.declared.sector.Rec.{Rec}
-use Rattle.sl_sessions.specs.Watching.{Run, Sighting, current_run, evidence, has_seen, host_state, is_free_among, new_run, newest_of, run_with, seen_records, sighted, silence, span, state_of_run, unchanged}
+use Rattle.sl_sessions.specs.Watching.{Run, Sighting, current_run, evidence, has_seen, new_run, newest_of, run_with, seen_records, sighted, silence}
 use Rattle.sl_time.specs.Times.{TimingNumbers}
 use Rattle.sl_trace.specs.declared.reply.Evidence.TheVariants.{Freed, Newer, Silent}
 use Rattle.sl_trace.specs.declared.reply.Evidence.{Evidence}
-use Rattle.sl_trace.specs.declared.reply.HostState.TheVariants.{Unknown}
-use Rattle.sl_trace.specs.declared.reply.HostState.{HostState}
 use Rattle.sl_watch.proofs.ReasonLaws.{IsFreeOf, any_here, any_later, free_among_decides, named_reason, newer_decides, silence_if, silence_says, some_reason}
-use Rattle.sl_watch.proofs.SummaryLaws.{sightings_elsewhere}
-use Rattle.sl_watch.specs.Laws.{ClaimsAreNoEvidence, OthersSayNothing, SightedIsSpelled, TornEndsRuns}
+use Rattle.sl_watch.specs.Laws.{ClaimsAreNoEvidence, SightedIsSpelled}
 use Rattle.sl_watch.specs.Reasons.{IsStill}
-use Rattle.sl_words.proofs.CaseLaws.{no_value, some_value}
+use Rattle.sl_words.proofs.CaseLaws.{some_value}
 use Rattle.sl_words.proofs.WordLaws.{choose_some}
 use Rattle.sl_words.specs.Words.{choose}
 use Rattle.std.proofs.Common.{ap, arith, eq-eqb, inl, inr, subst, sym, ◌∙◌}
 use Rattle.std.proofs.lemmas.Bool.{eqb-true}
 use Rattle.std.specs.List.{All, Any, cons_option}
-use Rattle.std.specs.Option.{IfSome, IsSomeAnd, option_map_or}
-use Rattle.std.specs.Prelude.{Bool, Err, IsSome, List, None, Ok, Option, Result, Some, bytes_eq, false, length, option_and_then, option_map, refl, true, ℕ, [], ◌<◌, ◌==◌, ◌∷◌, ◌≡◌, ◌≤◌, ◌⊎◌, ◌↔◌}
+use Rattle.std.specs.Option.{IfSome, IsSomeAnd}
+use Rattle.std.specs.Prelude.{Bool, Err, IsSome, List, None, Ok, Option, Result, Some, bytes_eq, false, option_and_then, option_map, refl, true, ℕ, [], ◌<◌, ◌==◌, ◌∷◌, ◌≡◌, ◌≤◌, ◌⊎◌, ◌↔◌}
 
 -- ---- a claim
 
@@ -43,9 +39,9 @@ silence_is_still tm g id h ss from to is =
     let ds : List DeltaRec = seen_records g id ss in
     let run : Option Run = current_run g id ss in
     let says : IfSome (evidence tm g id h ss) (StillIfSilent tm h run) =
-      named_reason (newest_of ds) h _ _ (silence tm h run) _ _ (StillIfSilent tm h run) (newer_decides h ds) (free_among_decides h ds)
-        (λ _. tt) (λ _ _. tt)
-        (λ _ _. silence_says tm h run (StillIfSilent tm h run) (λ r e still. let P : Option Run → Type 0 = λ o. IsSomeAnd o (IsStill tm h) in subst P (sym e) still)) in
+    named_reason (newest_of ds) h _ _ (silence tm h run) _ _ (StillIfSilent tm h run) (newer_decides h ds) (free_among_decides h ds)
+    (λ _. tt) (λ _ _. tt)
+    (λ _ _. silence_says tm h run (StillIfSilent tm h run) (λ r e still. let P : Option Run → Type 0 = λ o. IsSomeAnd o (IsStill tm h) in subst P (sym e) still)) in
     let Q : Option Evidence → Type 0 = λ o. IfSome o (StillIfSilent tm h run) in
     subst Q is says
 
@@ -118,14 +114,14 @@ none_of_claims tm g id h ss claims reasons = elim reasons [
 pub claims_are_no_evidence : ClaimsAreNoEvidence
 claims_are_no_evidence = record {
   alone = (λ tm g id h ss claims.
-    let ds : List DeltaRec = seen_records g id ss in
-    not_some (evidence tm g id h ss)
+      let ds : List DeltaRec = seen_records g id ss in
+      not_some (evidence tm g id h ss)
       (λ is. none_of_claims tm g id h ss claims
-        ((some_reason (newest_of ds) h _ _ (silence tm h (current_run g id ss)) _ _ _ (newer_decides h ds) (free_among_decides h ds) (silence_if tm h (current_run g id ss))).0 is)));
+      ((some_reason (newest_of ds) h _ _ (silence tm h (current_run g id ss)) _ _ _ (newer_decides h ds) (free_among_decides h ds) (silence_if tm h (current_run g id ss))).0 is)));
   standing = (λ tm g id h ss r from to is claimed silent.
-    let P : Option Run → Type 0 = λ o. IsSomeAnd o (IsStill tm h) in
-    let still : IsStill tm h r = subst P is (silence_is_still tm g id h ss from to silent) in
-    claimed_is_not_live r.spelled.state claimed still.0);
+      let P : Option Run → Type 0 = λ o. IsSomeAnd o (IsStill tm h) in
+      let still : IsStill tm h r = subst P is (silence_is_still tm g id h ss from to silent) in
+      claimed_is_not_live r.spelled.state claimed still.0);
 }
 
 -- ---- bytes
@@ -149,6 +145,7 @@ for_read id d own = ap (λ b. choose b d) (eq-eqb d.id id own)
 pub sighted_is_spelled : SightedIsSpelled
 sighted_is_spelled sizes n id s d size bytes =
     let exact : (decoded program_digest s.bytes ≡ Ok (DeltaIs d)) ↔ Spells program_digest s.bytes (DeltaIs d) =
-      reading_is_exact program_digest sha256_is_digest n s.bytes (DeltaIs d) size bytes in
-    ((λ is. let found : (decoded program_digest s.bytes ≡ Ok (DeltaIs d)) × (d.id ≡ id) = read_for id (decoded program_digest s.bytes) d is in (exact.0 found.0, found.1)),
-      (λ spells. ap (λ r. option_and_then (λ e. choose (e.id == id) e) (delta_in r)) (exact.1 spells.0) ∙ for_read id d spells.1))
+    reading_is_exact program_digest sha256_is_digest n s.bytes (DeltaIs d) size bytes in (
+      (λ is. let found : (decoded program_digest s.bytes ≡ Ok (DeltaIs d)) × (d.id ≡ id) = read_for id (decoded program_digest s.bytes) d is in (exact.0 found.0, found.1)),
+      (λ spells. ap (λ r. option_and_then (λ e. choose (e.id == id) e) (delta_in r)) (exact.1 spells.0) ∙ for_read id d spells.1),
+    )

@@ -5,7 +5,7 @@ use Rattle.sl_sessions.specs.Watching.{Run, Sighting, current_run, evidence, evi
 use Rattle.sl_time.specs.Times.{TimingNumbers}
 use Rattle.sl_trace.specs.declared.reply.Evidence.TheVariants.{Freed, Newer}
 use Rattle.sl_trace.specs.declared.reply.Evidence.{Evidence}
-use Rattle.sl_watch.specs.Seen.{Seen, sighting_at, sightings_of, spelled_for}
+use Rattle.sl_watch.specs.Seen.{Seen, sightings_of, spelled_for}
 use Rattle.sl_watch.specs.Summaries.{Summary, evidence_by, freed_with, summary_of, summary_with}
 use Rattle.sl_words.proofs.CaseLaws.{is_false}
 use Rattle.sl_words.specs.Words.{choose}
@@ -15,7 +15,7 @@ use Rattle.std.proofs.lemmas.Bool.Decides.{Decides-eqb, nat_tests}
 use Rattle.std.proofs.lemmas.Bool.{cases_lt}
 use Rattle.std.proofs.lemmas.List.{reverse-append, take_more}
 use Rattle.std.specs.List.{cons_option}
-use Rattle.std.specs.Prelude.{Bool, List, None, Option, Some, false, option_map, if◌then◌else◌, length, max, nat_lt, refl, true, ℕ, [], ◌&&◌, ◌+◌, ◌<◌, ◌==◌, ◌||◌, ◌∷◌, ◌≡◌, ◌≤◌}
+use Rattle.std.specs.Prelude.{Bool, List, None, Option, Some, false, option_map, if◌then◌else◌, length, nat_lt, refl, true, ℕ, [], ◌&&◌, ◌+◌, ◌<◌, ◌==◌, ◌||◌, ◌∷◌, ◌≡◌, ◌≤◌}
 
 -- No generation above the greatest was seen free.
 free_is_seen : (h : ℕ) (ds : List DeltaRec) → newest_of ds < h → is_free_among h ds ≡ false
@@ -41,19 +41,19 @@ free_more d ds =
     elim (cases_lt n d.generation) [
       | inl above ↦
           subst P (sym (max-eq_left (omega arith)))
-            (freed_above n d.generation (is_free_state d.state) (is_free_among n ds) (is_free_among d.generation ds) above (free_is_seen d.generation ds above))
+          (freed_above n d.generation (is_free_state d.state) (is_free_among n ds) (is_free_among d.generation ds) above (free_is_seen d.generation ds above))
       | inr below ↦ subst P (sym (max-eq_right below)) (freed_below n d.generation (is_free_state d.state) (is_free_among n ds) below)
     ]
 
 -- The summary with one more sighting, by what that spells.
 summary_more_by : (ds : List DeltaRec) (seen : Bool) (run : Option Run) (s : Sighting) (o : Option DeltaRec)
     → summary_with (record { newest = newest_of ds; freed = is_free_among (newest_of ds) ds; any = seen; run = run }) s o
-        ≡ record {
-          newest = newest_of (cons_option o ds);
-          freed = is_free_among (newest_of (cons_option o ds)) (cons_option o ds);
-          any = true;
-          run = option_map (λ d. run_with run s d seen) o;
-        }
+    ≡ record {
+      newest = newest_of (cons_option o ds);
+      freed = is_free_among (newest_of (cons_option o ds)) (cons_option o ds);
+      any = true;
+      run = option_map (λ d. run_with run s d seen) o;
+    }
 summary_more_by ds seen run s None = refl
 summary_more_by ds seen run s (Some d) =
     let summary : Bool → Summary = λ freed. record { newest = newest_of (d ∷ ds); freed = freed; any = true; run = Some (run_with run s d seen) } in
@@ -99,7 +99,7 @@ pub summary_stays : (sizes : Sizes) (id : ℕ) (xs : List Seen) (i : ℕ) (x : S
     → m ≡ summary_of (layout_of sizes) id (sightings_front id xs (i + 1))
 summary_stays sizes id xs i x m inside is so_far other =
     so_far ∙ sym (ap (λ seen. summary_of (layout_of sizes) id (sightings_of id seen)) (looks_more xs i x inside is)
-      ∙ ap (summary_of (layout_of sizes) id) (sightings_elsewhere id x (reverse (take i xs)) other))
+    ∙ ap (summary_of (layout_of sizes) id) (sightings_elsewhere id x (reverse (take i xs)) other))
 
 -- The greatest generation was seen free, or this one, whichever is asked, where none is above it.
 free_at_last : (h : ℕ) (ds : List DeltaRec) → newest_of ds ≤ h → (newest_of ds == h && is_free_among (newest_of ds) ds) ≡ is_free_among h ds

@@ -1,5 +1,5 @@
 -- What a watch stands for: the times and sizes of its run, and the list of all that it saw.
-use Rattle.sl_area.specs.Layouts.{Layout, Sizes, layout_of, program_digest}
+use Rattle.sl_area.specs.Layouts.{Sizes, program_digest}
 use Rattle.sl_sector.specs.Spelling.{decoded, delta_in}
 use Rattle.sl_sector.specs.declared.sector.DeltaRec.{DeltaRec}
 use Rattle.sl_sessions.specs.Watching.{Sighting}

@@ -1,12 +1,12 @@
 //! What sightings show, and what they don't.
 ghost use Rattle.sl_watch.specs.Laws as laws;
 
-/// A claim's silence is no evidence, because its writer may still join.
+/// A claim that stands still is no evidence against its writer, however long it stands: he may still join.
 pub fn claims_are_no_evidence()
     ensures { laws.ClaimsAreNoEvidence }
 {}
 
-/// A sighting that spells no record of the id ends every run.
+/// A sighting that spells no delta record of the id ends every run, and the next one begins anew.
 pub fn torn_ends_runs()
     ensures { laws.TornEndsRuns }
 {}

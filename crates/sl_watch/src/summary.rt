@@ -1,7 +1,10 @@
-//! What the sightings of an id come to.
+//! What the sightings of an id come to: enough for every question about it, and changed by one step for each sighting.
+//!
+//! Of the records that were seen, it has the greatest generation and whether that one was seen free. Of a smaller generation no more is
+//! asked, since a newer one was seen; of a greater one nothing was seen.
 ghost use Rattle.std.specs.Option.{option_map_or};
 ghost use Rattle.std.specs.Prelude.{◌≡◌};
-ghost use Rattle.sl_sessions.specs.Watching.{is_free_state, silence, span};
+ghost use Rattle.sl_sessions.specs.Watching.{span};
 ghost use Rattle.sl_watch.specs.Seen.{spelled_for};
 ghost use Rattle.sl_watch.specs.Summaries.{blank, evidence_by, freed_with, state_by, summary_with};
 
@@ -12,7 +15,7 @@ use sl_time::Timing;
 use sl_trace::{Evidence, HostState};
 use std::marker::Model;
 
-/// What the sightings of an id come to.
+/// The greatest generation that was seen (0 where none was) and whether it was seen free, whether there was any sighting, and the run.
 #[derive(Drop)]
 pub struct Summary<'a> {
     newest: Gen,
@@ -81,7 +84,7 @@ impl<'a> Summary<'a> {
         }
     }
 
-    /// Why the generation counts as over.
+    /// Why this generation counts as over, the first reason that holds.
     pub fn evidence(&self, timing: Timing, generation: Gen) -> Option<Evidence>
         ensures { result ≡ evidence_by timing generation self.now }
     {
@@ -99,7 +102,7 @@ impl<'a> Summary<'a> {
         }
     }
 
-    /// How long the id has stood still.
+    /// How long the id is known to have stood still, in milliseconds.
     pub fn unchanged(&self) -> u64
         ensures { result ≡ option_map_or span self.now.run 0 }
     {
@@ -109,7 +112,7 @@ impl<'a> Summary<'a> {
         }
     }
 
-    /// What the id looks like.
+    /// What the id looks like at a reading.
     pub fn state(&self, timing: Timing, now: u64) -> HostState
         ensures { result ≡ state_by timing self.now.run now }
     {

@@ -13,7 +13,7 @@ returns c =
     let h : ℕ = c.args.generation in
     let g : Layout = layout_of w.sizes in
     let exact : c.evidence.result ≡ evidence w.timing g id h (sightings_of id w.seen) =
-      evidence_read w.timing _ g id h (sightings_of id w.seen) _ _ (ap (λ v. v.timing) c.self.view_is) c.summary.ensures c.evidence.ensures in
+    evidence_read w.timing _ g id h (sightings_of id w.seen) _ _ (ap (λ v. v.timing) c.self.view_is) c.summary.ensures c.evidence.ensures in
     record {
       exact = exact;
       some = rw exact (evidence_if w id h);

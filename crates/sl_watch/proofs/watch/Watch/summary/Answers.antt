@@ -9,9 +9,9 @@ loop-look-preserved c =
       | then-id w ↦
           w.summary-is ∙ w.with-summary.ensures
           ∙ summary_goes_on c.args.self.now.sizes c.args.id c.deref-look-items.result.now c.loop-look.look-index c.look-item.result c.loop-look.summary c.loop-look-test.true c.look-item.is
-            c.loop-look.invariant (sym c.id.ensures ∙ w.if-id.true)
+          c.loop-look.invariant (sym c.id.ensures ∙ w.if-id.true)
       | else-id w ↦
           w.summary-is
           ∙ summary_stays c.args.self.now.sizes c.args.id c.deref-look-items.result.now c.loop-look.look-index c.look-item.result c.loop-look.summary c.loop-look-test.true c.look-item.is
-            c.loop-look.invariant (λ e. w.if-id.false (c.id.ensures ∙ e))
+          c.loop-look.invariant (λ e. w.if-id.false (c.id.ensures ∙ e))
     ]
