@@ -1,3 +1,3 @@
 mod ReasonLaws
 mod SightingLaws
-mod SummaryLaws
+pub mod SummaryLaws

@@ -6,13 +6,12 @@ use Rattle.sl_time.specs.Times.{TimingNumbers}
 use Rattle.sl_trace.specs.declared.reply.Evidence.TheVariants.{Freed, Newer}
 use Rattle.sl_trace.specs.declared.reply.Evidence.{Evidence}
 use Rattle.sl_watch.specs.Seen.{Seen, sightings_of, spelled_for}
-use Rattle.sl_watch.specs.Summaries.{Summary, evidence_by, freed_with, summary_of, summary_with}
-use Rattle.sl_words.proofs.CaseLaws.{is_false}
+use Rattle.sl_watch.specs.Summaries.{Summary, evidence_by, freed_with, summary_of, summary_seeing, summary_with}
 use Rattle.sl_words.specs.Words.{choose}
 use Rattle.std.proofs.Common.{ap, arith, eq-eqb, lt-ltb, get_or, inl, inr, reverse, subst, sym, take, ◌∙◌}
 use Rattle.std.proofs.Math.Nat.{max-eq_left, max-eq_right}
-use Rattle.std.proofs.lemmas.Bool.Decides.{Decides-eqb, nat_tests}
-use Rattle.std.proofs.lemmas.Bool.{cases_lt}
+use Rattle.std.proofs.lemmas.Bool.Decides.{nat_tests}
+use Rattle.std.proofs.lemmas.Bool.{cases_lt, eqb-true}
 use Rattle.std.proofs.lemmas.List.{reverse-append, take_more}
 use Rattle.std.specs.List.{cons_option}
 use Rattle.std.specs.Prelude.{Bool, List, None, Option, Some, false, option_map, if◌then◌else◌, length, nat_lt, refl, true, ℕ, [], ◌&&◌, ◌+◌, ◌<◌, ◌==◌, ◌||◌, ◌∷◌, ◌≡◌, ◌≤◌}
@@ -64,42 +63,34 @@ pub summary_more : (g : Layout) (id : ℕ) (ss : List Sighting) (s : Sighting)
     → summary_with (summary_of g id ss) s (sighted g id s) ≡ summary_of g id (s ∷ ss)
 summary_more g id ss s = summary_more_by (seen_records g id ss) (has_seen ss) (current_run g id ss) s (sighted g id s)
 
--- A look at the id is one more sighting of it.
-pub sightings_here : (id : ℕ) (x : Seen) (seen : List Seen) → x.id ≡ id → sightings_of id (x ∷ seen) ≡ x.sighting ∷ sightings_of id seen
-sightings_here id x seen is = ap (λ b. cons_option (choose b x.sighting) (sightings_of id seen)) (eq-eqb x.id id is)
+-- The summary after a look, by whether it was at the id.
+sees_by : (sizes : Sizes) (id : ℕ) (x : Seen) (ss : List Sighting) (here : Bool) → (here ≡ true → x.id ≡ id)
+    → elim here [ true ↦ summary_with (summary_of (layout_of sizes) id ss) x.sighting (spelled_for x.id x.sighting.bytes) | false ↦ summary_of (layout_of sizes) id ss ]
+    ≡ summary_of (layout_of sizes) id (cons_option (choose here x.sighting) ss)
+sees_by sizes id x ss true is =
+    ap (λ k. summary_with (summary_of (layout_of sizes) id ss) x.sighting (spelled_for k x.sighting.bytes)) (is refl)
+    ∙ summary_more (layout_of sizes) id ss x.sighting
+sees_by sizes id x ss false is = refl
 
--- A look at another id is none.
-pub sightings_elsewhere : (id : ℕ) (x : Seen) (seen : List Seen) → (x.id ≡ id → ⊥) → sightings_of id (x ∷ seen) ≡ sightings_of id seen
-sightings_elsewhere id x seen other = ap (λ b. cons_option (choose b x.sighting) (sightings_of id seen)) (is_false (x.id == id) (λ e. other ((Decides-eqb x.id id).0 e)))
+-- The summary after a look is that of the looks with this one.
+summary_sees : (sizes : Sizes) (id : ℕ) (x : Seen) (seen : List Seen)
+    → summary_seeing id (summary_of (layout_of sizes) id (sightings_of id seen)) x ≡ summary_of (layout_of sizes) id (sightings_of id (x ∷ seen))
+summary_sees sizes id x seen = sees_by sizes id x (sightings_of id seen) (x.id == id) (eqb-true x.id id)
 
 -- The looks before the next index, newest first.
 looks_more : (xs : List Seen) (i : ℕ) (x : Seen) → i < length xs → x ≡ get_or xs i x → reverse (take (i + 1) xs) ≡ x ∷ reverse (take i xs)
 looks_more xs i x inside is = ap reverse (take_more xs i x inside) ∙ reverse-append (take i xs) (get_or xs i x ∷ []) ∙ ap (λ y. y ∷ reverse (take i xs)) (sym is)
 
--- The sightings of the id before an index, newest first.
-abbrev pub sightings_front : ℕ → List Seen → ℕ → List Sighting
-sightings_front id xs i = sightings_of id (reverse (take i xs))
+-- The summary before an index.
+abbrev pub summary_front : Sizes → ℕ → List Seen → ℕ → Summary
+summary_front sizes id xs i = summary_of (layout_of sizes) id (sightings_of id (reverse (take i xs)))
 
--- The summary before the next index, where the look is at the id.
+-- .. goes on with the look there.
 pub summary_goes_on : (sizes : Sizes) (id : ℕ) (xs : List Seen) (i : ℕ) (x : Seen) (m : Summary) → i < length xs → x ≡ get_or xs i x
-    → m ≡ summary_of (layout_of sizes) id (sightings_front id xs i) → x.id ≡ id
-    → summary_with m x.sighting (spelled_for x.id x.sighting.bytes) ≡ summary_of (layout_of sizes) id (sightings_front id xs (i + 1))
-summary_goes_on sizes id xs i x m inside is so_far here =
-    let g : Layout = layout_of sizes in
-    let ss : List Sighting = sightings_front id xs i in
-    let front : sightings_front id xs (i + 1) ≡ x.sighting ∷ ss = ap (sightings_of id) (looks_more xs i x inside is) ∙ sightings_here id x (reverse (take i xs)) here in
-    ap (λ n. summary_with n x.sighting (spelled_for x.id x.sighting.bytes)) so_far
-    ∙ ap (λ k. summary_with (summary_of g id ss) x.sighting (spelled_for k x.sighting.bytes)) here
-    ∙ summary_more g id ss x.sighting
-    ∙ sym (ap (summary_of g id) front)
-
--- .. and where it isn't.
-pub summary_stays : (sizes : Sizes) (id : ℕ) (xs : List Seen) (i : ℕ) (x : Seen) (m : Summary) → i < length xs → x ≡ get_or xs i x
-    → m ≡ summary_of (layout_of sizes) id (sightings_front id xs i) → (x.id ≡ id → ⊥)
-    → m ≡ summary_of (layout_of sizes) id (sightings_front id xs (i + 1))
-summary_stays sizes id xs i x m inside is so_far other =
-    so_far ∙ sym (ap (λ seen. summary_of (layout_of sizes) id (sightings_of id seen)) (looks_more xs i x inside is)
-    ∙ ap (summary_of (layout_of sizes) id) (sightings_elsewhere id x (reverse (take i xs)) other))
+    → m ≡ summary_front sizes id xs i → summary_seeing id m x ≡ summary_front sizes id xs (i + 1)
+summary_goes_on sizes id xs i x m inside is so_far =
+    ap (λ n. summary_seeing id n x) so_far ∙ summary_sees sizes id x (reverse (take i xs))
+    ∙ sym (ap (λ seen. summary_of (layout_of sizes) id (sightings_of id seen)) (looks_more xs i x inside is))
 
 -- The greatest generation was seen free, or this one, whichever is asked, where none is above it.
 free_at_last : (h : ℕ) (ds : List DeltaRec) → newest_of ds ≤ h → (newest_of ds == h && is_free_among (newest_of ds) ds) ≡ is_free_among h ds

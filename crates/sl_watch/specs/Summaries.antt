@@ -7,6 +7,7 @@ use Rattle.sl_trace.specs.declared.reply.Evidence.TheVariants.{Freed, Newer}
 use Rattle.sl_trace.specs.declared.reply.Evidence.{Evidence}
 use Rattle.sl_trace.specs.declared.reply.HostState.TheVariants.{Unknown}
 use Rattle.sl_trace.specs.declared.reply.HostState.{HostState}
+use Rattle.sl_watch.specs.Seen.{Seen, spelled_for}
 use Rattle.std.specs.Prelude.{Bool, List, None, Option, Some, false, if◌then◌else◌, max, nat_lt, true, ℕ, ◌&&◌, ◌==◌, ◌||◌}
 
 pub record Summary : Type 0 where
@@ -37,6 +38,10 @@ summary_with m s (Some d) = record {
   any = true;
   run = Some (run_with m.run s d m.any);
 }
+
+-- The summary after a look, which is a sighting of the id where it was at its sector.
+abbrev pub summary_seeing : ℕ → Summary → Seen → Summary
+summary_seeing id m s = elim (s.id == id) [ true ↦ summary_with m s.sighting (spelled_for s.id s.sighting.bytes) | false ↦ m ]
 
 -- The summary of these sightings of the id.
 abbrev pub summary_of : Layout → ℕ → List Sighting → Summary

@@ -6,11 +6,11 @@ ghost use Rattle.std.specs.Option.{option_map_or};
 ghost use Rattle.std.specs.Prelude.{◌≡◌};
 ghost use Rattle.sl_sessions.specs.Watching.{span};
 ghost use Rattle.sl_watch.specs.Seen.{spelled_for};
-ghost use Rattle.sl_watch.specs.Summaries.{blank, evidence_by, freed_with, state_by, summary_with};
+ghost use Rattle.sl_watch.specs.Summaries.{blank, evidence_by, freed_with, state_by, summary_seeing, summary_with};
 
 use crate::look::Look;
 use crate::run::{CurrentRun, is_free};
-use sl_sector::{DeltaRec, Gen};
+use sl_sector::{DeltaRec, Gen, HostId};
 use sl_time::Timing;
 use sl_trace::{Evidence, HostState};
 use std::marker::Model;
@@ -58,8 +58,19 @@ impl<'a> Summary<'a> {
         }
     }
 
+    /// The summary after a look, which is a sighting of the id where it was at its sector.
+    pub fn seeing(self, id: HostId, look: &'a Look) -> Summary<'a>
+        ensures { result ≡ summary_seeing id self.entry look.now }
+    {
+        if look.id() == id {
+            self.with(look)
+        } else {
+            self
+        }
+    }
+
     /// The summary with one more sighting.
-    pub fn with(self, look: &'a Look) -> Summary<'a>
+    fn with(self, look: &'a Look) -> Summary<'a>
         ensures { result ≡ summary_with self.entry look.now.sighting (spelled_for look.now.id look.now.sighting.bytes) }
     {
         let Summary {

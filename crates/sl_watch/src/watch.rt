@@ -116,14 +116,13 @@ impl Watch {
     }
 
     /// What the sightings of an id come to.
+    #[tactic(auto, using(crate::proofs::SummaryLaws::summary_goes_on))]
     fn summary(&self, id: HostId) -> Summary<'_>
         ensures { result ≡ summary_of (layout_of self.now.sizes) id (sightings_of id self.now.seen) }
     {
         let mut summary = Summary::blank();
         for look in &self.looks {
-            if look.id() == id {
-                summary = summary.with(look);
-            }
+            summary = summary.seeing(id, look);
         }
         summary
     }
