@@ -10,6 +10,7 @@ use Rattle.sl_trace.specs.declared.reply.HostState.{HostState}
 use Rattle.sl_watch.specs.Seen.{Seen, spelled_for}
 use Rattle.std.specs.Prelude.{Bool, List, None, Option, Some, false, if◌then◌else◌, max, nat_lt, true, ℕ, ◌&&◌, ◌==◌, ◌||◌}
 
+-- What is kept of them.
 pub record Summary : Type 0 where
   -- the greatest generation among the id's records
   pub newest : ℕ
