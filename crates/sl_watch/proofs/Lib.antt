@@ -1,0 +1,3 @@
+mod ReasonLaws
+mod SightingLaws
+pub mod SummaryLaws

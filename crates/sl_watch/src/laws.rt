@@ -1,0 +1,22 @@
+//! What sightings show, and what they don't.
+ghost use Rattle.sl_watch.specs.Laws as laws;
+
+/// A claim that stands still is no evidence against its writer, however long it stands: he may still join.
+pub fn claims_are_no_evidence()
+    ensures { laws.ClaimsAreNoEvidence }
+{}
+
+/// A sighting that spells no delta record of the id ends every run, and the next one begins anew.
+pub fn torn_ends_runs()
+    ensures { laws.TornEndsRuns }
+{}
+
+/// A sighting counts exactly where its bytes spell a delta record of the id.
+pub fn sighted_is_spelled()
+    ensures { laws.SightedIsSpelled }
+{}
+
+/// What was seen of one id says nothing of another.
+pub fn others_say_nothing()
+    ensures { laws.OthersSayNothing }
+{}

@@ -1,0 +1,20 @@
+//! What a session has seen of other ids' sectors, and what that shows.
+//!
+//! After each renewal a session reads the delta sectors of all ids. By what it saw it counts others as over, and without such evidence
+//! it takes nothing that another host had. `watch` keeps what was seen and answers three questions about an id; `laws` says what
+//! sightings don't show.
+//!
+//! Within, `look` is one look at a sector, `run` the longest end of an id's sightings in which nothing changed, and `summary` what all
+//! sightings of an id come to.
+#![tactic(auto)]
+
+pub mod laws;
+mod look;
+mod run;
+mod summary;
+pub mod watch;
+
+pub use watch::Watch;
+
+#[cfg(test)]
+mod tests;
