@@ -1,0 +1,4 @@
+pub mod KeptLaws
+pub mod Lists
+pub mod GivenLaws
+pub mod PromiseLaws

@@ -1,0 +1,5 @@
+use Rattle.sl_escalate.proofs.PromiseLaws.{all_told}
+use Rattle.sl_escalate.proofs.laws.all_told.Goals as goal
+
+pub returns : goal.returns
+returns c = all_told

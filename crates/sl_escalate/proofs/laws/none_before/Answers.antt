@@ -1,0 +1,5 @@
+use Rattle.sl_escalate.proofs.PromiseLaws.{none_before}
+use Rattle.sl_escalate.proofs.laws.none_before.Goals as goal
+
+pub returns : goal.returns
+returns c = none_before

@@ -1,0 +1,4 @@
+pub mod Calls
+pub mod Due
+pub mod Stands
+pub mod Promises

@@ -1,0 +1,11 @@
+-- How connections are kept: names with their expiry, in the order of a map.
+use Rattle.sl_trace.specs.Connections.{Connection}
+use Rattle.std.specs.Prelude.{List, map, ℕ}
+
+-- The connection that an entry of the map stands for.
+abbrev pub connection_of : List ℕ × ℕ → Connection
+connection_of e = record { name = e.0; expiry = e.1 }
+
+-- The connections, in the order of the map.
+abbrev pub connections_of : List (List ℕ × ℕ) → List Connection
+connections_of es = map connection_of es
