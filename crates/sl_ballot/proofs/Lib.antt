@@ -1,3 +1,4 @@
 pub mod NumberLaws
+pub mod NumberRules
 pub mod ReadLaws
 pub mod ReadRules

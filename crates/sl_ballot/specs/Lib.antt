@@ -1,3 +1,5 @@
-pub mod Numbers
+pub mod Limits
 pub mod Reads
 pub mod Stops
+pub mod Phases
+pub mod Machine

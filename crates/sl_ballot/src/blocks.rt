@@ -1,5 +1,5 @@
 //! Blocks that are whole.
-ghost use Rattle.sl_leases.specs.Ballots.{block_ahead, block_rival, greater_bal, in_instance, same_owner, stop_among, value_of, value_to_write};
+ghost use Rattle.sl_leases.specs.Ballots.{block_ahead, block_rival, greater_bal, in_instance, same_owner, same_owner, stop_among, value_of, value_to_write};
 ghost use Rattle.sl_ballot.specs.Stops.{stop_by};
 ghost use Rattle.std.specs.Option.{option_map_or};
 ghost use Rattle.std.specs.Prelude.{None, fold, ◌≡◌, ◌==◌, nat_lt, ◌&&◌};
@@ -22,14 +22,14 @@ pub(crate) fn is_rival(own: &Block, block: &Block) -> bool
 }
 
 /// The first block of a later instance.
-fn block_ahead(own: &Block, blocks: &[Block]) -> Option<Block>
+pub(crate) fn block_ahead(own: &Block, blocks: &[Block]) -> Option<Block>
     ensures { result ≡ block_ahead own.now blocks.now }
 {
     blocks.iter().copied().find(|block| is_ahead(own, block))
 }
 
 /// The first block with a greater number in the instance.
-fn block_rival(own: &Block, blocks: &[Block]) -> Option<Block>
+pub(crate) fn block_rival(own: &Block, blocks: &[Block]) -> Option<Block>
     ensures { result ≡ block_rival own.now blocks.now }
 {
     blocks.iter().copied().find(|block| is_rival(own, block))
@@ -97,4 +97,11 @@ pub fn value_to_write(me: Owner, n: u64, blocks: &[Block]) -> Owner
     ensures { result ≡ value_to_write me n blocks.now }
 {
     value_or(me, best_in(n, blocks))
+}
+
+/// Whether two owners are one.
+pub fn same_owner(a: Owner, b: Owner) -> bool
+    ensures { result ≡ same_owner a b }
+{
+    a.id == b.id && a.generation == b.generation
 }

@@ -1,7 +1,7 @@
 //! Numbers of ballots.
-ghost use Rattle.sl_ballot.specs.Numbers.{within_limit};
+ghost use Rattle.sl_ballot.specs.Limits.{limited_number};
+ghost use Rattle.sl_ballot.specs.Phases.{top_of};
 ghost use Rattle.sl_leases.specs.Ballots.{next_mbal, number_above};
-ghost use Rattle.sl_words.specs.Words.{greatest};
 ghost use Rattle.std.specs.Prelude.{◌+◌, ◌<◌, ◌^◌, ◌≡◌, ◌≤◌};
 
 use thiserror::Error;
@@ -12,8 +12,8 @@ use thiserror::Error;
 pub struct Limit;
 
 /// The number, if a block may carry it.
-fn within_limit(number: u128) -> Result<u64, Limit>
-    ensures { result ≡ within_limit number }
+pub(crate) fn within_limit(number: u128) -> Result<u64, Limit>
+    ensures { result ≡ limited_number number }
 {
     if number < 1 << 63 {
         Ok(number as u64)
@@ -23,7 +23,7 @@ fn within_limit(number: u128) -> Result<u64, Limit>
 }
 
 /// The least number of a host's own, k*N + id, above another.
-fn number_above(hosts: u32, id: u32, top: u64) -> u128
+pub(crate) fn number_above(hosts: u32, id: u32, top: u64) -> u128
     requires { 1 ≤ hosts }
     ensures { result ≡ number_above hosts id top }
 {
@@ -36,16 +36,17 @@ fn number_above(hosts: u32, id: u32, top: u64) -> u128
 }
 
 /// The greatest of the numbers, and 0 where there is none.
-fn greatest(numbers: &[u64]) -> u64
-    ensures { result ≡ greatest numbers.now }
+fn top_of(numbers: &[u64]) -> u64
+    ensures { result ≡ top_of numbers.now }
 {
     numbers.iter().copied().fold(0, |top, number| top.max(number))
 }
 
 /// The least number of a host's own, k*N + id, above all that were seen, if it is below 2^63.
+#[tactic(auto, using(crate::proofs::NumberRules::above))]
 pub fn next_mbal(hosts: u32, id: u32, seen: &[u64]) -> Result<u64, Limit>
     requires { 1 ≤ hosts }
-    ensures { result ≡ within_limit (next_mbal hosts id seen.now) }
+    ensures { result ≡ limited_number (next_mbal hosts id seen.now) }
 {
-    within_limit(number_above(hosts, id, greatest(seen)))
+    within_limit(number_above(hosts, id, top_of(seen)))
 }

@@ -83,7 +83,7 @@ pub fn stop_of(own: &Block, read: &[Option<Block>]) -> Option<Stop>
 
 /// The value of the greatest bal in n, or the session itself.
 #[tactic(auto, using(crate::proofs::ReadRules::by_place))]
-pub fn value_to_write_by(me: Owner, n: u64, own: &Block, read: &[Option<Block>]) -> Owner
+pub fn value_after_read(me: Owner, n: u64, own: &Block, read: &[Option<Block>]) -> Owner
     ensures { result ≡ value_to_write me n (ballot_blocks own.now read.now) }
 {
     value_or(me, best_in(n, own, read))
