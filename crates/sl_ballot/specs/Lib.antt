@@ -3,3 +3,4 @@ pub mod Reads
 pub mod Stops
 pub mod Phases
 pub mod Machine
+pub mod Runs

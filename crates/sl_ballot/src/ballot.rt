@@ -1,5 +1,6 @@
 //! A ballot.
 ghost use Rattle.sl_ballot.specs.Machine.{after_step, begun, ends_with, is_reading, phase1_step, phase2_step, phase_written, step_of, unless_stopped};
+ghost use Rattle.sl_ballot.specs.Runs.{ballot_run};
 ghost use Rattle.sl_leases.specs.Ballots.{phase1_block};
 ghost use Rattle.std.specs.Prelude.{IsTrue, ◌<◌, ◌^◌, ◌≡◌, ◌≤◌};
 
@@ -139,4 +140,21 @@ impl Ballot {
         }
         step
     }
+}
+
+/// The whole
+pub fn ballot_run(me: Owner, num_hosts: u32, n: u64, own: Block, seen: &[Block], first: &[Block], second: &[Block]) -> Result<BallotStep, Limit>
+    requires id { (1 ≤ me.id) × (me.id ≤ num_hosts) }
+    requires hosts { num_hosts ≤ 2000 }
+    requires instance { (1 ≤ n) × (n < 2 ^ 63) × (own.lver ≤ n) }
+    ensures { result ≡ ballot_run me num_hosts n own seen.now first.now second.now }
+{
+    let mut ballot = Ballot::begin(me, num_hosts, n, own, seen)?;
+    ballot.wrote();
+    let step = ballot.read(first);
+    if let BallotStep::Go(_) = step {
+        ballot.wrote();
+        return Ok(ballot.read(second));
+    }
+    Ok(step)
 }
