@@ -4,3 +4,4 @@ pub mod Stops
 pub mod Phases
 pub mod Machine
 pub mod Runs
+pub mod Laws

@@ -4,6 +4,7 @@
 pub mod ballot;
 pub mod blocks;
 pub mod instance;
+pub mod laws;
 pub mod number;
 pub mod phases;
 pub mod reads;
