@@ -31,23 +31,28 @@ find-none p (y ∷ ys) e =
 
 -- A block that is neither ahead nor a rival lets the ballot pass.
 passes : (own b : Block) → nat_lt own.lver b.lver ≡ false → (b.lver == own.lver && nat_lt own.mbal b.mbal) ≡ false → Passes own b
-passes own b a r = record { no_later = ltb-false own.lver b.lver a; no_greater = (λ e.
-    elim (and_cases (b.lver == own.lver) (nat_lt own.mbal b.mbal) r) [
-      | inl other ↦ absurd (eqb-false b.lver own.lver other e)
-      | inr below ↦ ltb-false own.mbal b.mbal below
-    ]) }
+passes own b a r = record {
+  no_later = ltb-false own.lver b.lver a;
+  no_greater = (λ e.
+      elim (and_cases (b.lver == own.lver) (nat_lt own.mbal b.mbal) r) [
+        | inl other ↦ absurd (eqb-false b.lver own.lver other e)
+        | inr below ↦ ltb-false own.mbal b.mbal below
+      ]);
+}
 
 -- The step by the two blocks that are looked for.
 by-found : (own : Block) (blocks : List Block) (next : BallotStep) (a r : Option Block) → block_ahead own blocks ≡ a → block_rival own blocks ≡ r
-  → (let step : BallotStep = elim a [ Some b ↦ Ahead b.host b.lver | None ↦ elim r [ Some b ↦ Rival b.host b.mbal | None ↦ next ] ] in
-     IsStoppedBy own blocks step ⊎ (All (Passes own) blocks × (step ≡ next)))
+    → (let step : BallotStep = elim a [ Some b ↦ Ahead b.host b.lver | None ↦ elim r [ Some b ↦ Rival b.host b.mbal | None ↦ next ] ] in
+    IsStoppedBy own blocks step ⊎ (All (Passes own) blocks × (step ≡ next)))
 by-found own blocks next (Some b) r is_a is_r =
     let found = find-some (λ b. nat_lt own.lver b.lver) blocks b is_a in inl (inl (b, found.0, ltb-true own.lver b.lver found.1, refl))
 by-found own blocks next None (Some b) is_a is_r =
     let found = find-some (λ b. b.lver == own.lver && nat_lt own.mbal b.mbal) blocks b is_r in
     let both = and_true (b.lver == own.lver) (nat_lt own.mbal b.mbal) found.1 in
-    inl (inr (All-weaker (λ b. nat_lt own.lver b.lver ≡ false) (λ b. b.lver ≤ own.lver) (λ b f. ltb-false own.lver b.lver f) blocks (find-none (λ b. nat_lt own.lver b.lver) blocks is_a),
-              (b, found.0, eqb-true b.lver own.lver both.0, ltb-true own.mbal b.mbal both.1, refl)))
+    inl (inr (
+      All-weaker (λ b. nat_lt own.lver b.lver ≡ false) (λ b. b.lver ≤ own.lver) (λ b f. ltb-false own.lver b.lver f) blocks (find-none (λ b. nat_lt own.lver b.lver) blocks is_a),
+      (b, found.0, eqb-true b.lver own.lver both.0, ltb-true own.mbal b.mbal both.1, refl),
+    ))
 by-found own blocks next None None is_a is_r =
     let later = find-none (λ b. nat_lt own.lver b.lver) blocks is_a in
     let greater = find-none (λ b. b.lver == own.lver && nat_lt own.mbal b.mbal) blocks is_r in
@@ -55,5 +60,5 @@ by-found own blocks next None None is_a is_r =
 
 -- What the read comes to.
 pub stopped_or_on : (own : Block) (blocks : List Block) (next : BallotStep)
-  → IsStoppedBy own blocks (unless_stopped own blocks next) ⊎ (All (Passes own) blocks × (unless_stopped own blocks next ≡ next))
+    → IsStoppedBy own blocks (unless_stopped own blocks next) ⊎ (All (Passes own) blocks × (unless_stopped own blocks next ≡ next))
 stopped_or_on own blocks next = by-found own blocks next (block_ahead own blocks) (block_rival own blocks) refl refl

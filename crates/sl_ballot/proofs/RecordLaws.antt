@@ -43,8 +43,8 @@ value-fits self n blocks me all =
 
 -- Phase 1.
 first-block : (self : Owner) (hosts n : ℕ) (shared : Bool) (mode_gen : ℕ) (own : Block) (seen : List Block)
-  → 1 ≤ self.id → self.id ≤ hosts → hosts ≤ most_hosts → 1 ≤ n → Fits n → IsMode shared mode_gen → IsBlock own
-  → Fits (phase1_block self hosts n shared mode_gen own seen).mbal → IsBlock (phase1_block self hosts n shared mode_gen own seen)
+    → 1 ≤ self.id → self.id ≤ hosts → hosts ≤ most_hosts → 1 ≤ n → Fits n → IsMode shared mode_gen → IsBlock own
+    → Fits (phase1_block self hosts n shared mode_gen own seen).mbal → IsBlock (phase1_block self hosts n shared mode_gen own seen)
 unfolding phase1_block
 first-block self hosts n shared mode_gen own seen one le most pos fits mode h limit =
     let mbal : ℕ = (phase1_block self hosts n shared mode_gen own seen).mbal in
@@ -64,7 +64,7 @@ first-block self hosts n shared mode_gen own seen one le most pos fits mode h li
 
 -- Phase 2.
 second-block : (self : Owner) (own : Block) (blocks : List Block) → IsOwner self → IsBlock own → 1 ≤ own.lver → 1 ≤ own.mbal → All IsBlock blocks
-  → IsBlock (phase2_block self own blocks)
+    → IsBlock (phase2_block self own blocks)
 unfolding phase2_block
 second-block self own blocks me h instance number all =
     let value : IsOwner (value_to_write self own.lver blocks) = value-fits self own.lver blocks me all in

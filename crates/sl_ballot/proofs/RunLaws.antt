@@ -16,7 +16,7 @@ use Rattle.std.proofs.lemmas.Bool.{ltb-false, ltb-true}
 use Rattle.std.proofs.lemmas.List.Elements.{All-weaker}
 
 -- Nothing is given exactly where the number is past the limit.
-limit-by : {A : Type 0} (m : ℕ) (x : A) (t : Bool) → nat_lt m record_numbers ≡ t → (limited t x ≡ Err (record { })) ↔ (record_numbers ≤ m)
+limit-by : {A : Type 0} (m : ℕ) (x : A) (t : Bool) → nat_lt m record_numbers ≡ t → (limited t x ≡ Err (record {})) ↔ (record_numbers ≤ m)
 limit-by m x true is = ((λ e. absurd cc), (λ le. absurd (let lt : m < record_numbers = ltb-true m record_numbers is in omega arith)))
 limit-by m x false is = ((λ e. ltb-false m record_numbers is), (λ le. refl))
 
@@ -41,14 +41,16 @@ value-second self own first = refl
 
 -- From the second read on.
 second-ends : (self : Owner) (own : Block) (first second : List Block) (step : BallotStep) → phase2_step self (phase2_block self own first) second ≡ step
-  → IsStoppedBy own second step ⊎ (All (Passes own) second × IsEndWith self (value_to_write self own.lver first) step)
+    → IsStoppedBy own second step ⊎ (All (Passes own) second × IsEndWith self (value_to_write self own.lver first) step)
 second-ends self own first second step e =
     let block : Block = phase2_block self own first in
     elim (stopped_or_on block second (ends_with self (value_of block))) [
       | inl h ↦ inl (stopped-second self own first second step (subst (IsStoppedBy block second) e h))
-      | inr h ↦ inr (All-weaker (Passes block) (Passes own) (passes-second self own first) second h.0,
-                     (let P : Owner → Type 0 = λ v. IsEndWith self v step in
-                      subst P (value-second self own first) (subst (IsEndWith self (value_of block)) (sym h.1 ∙ e) (end_with self (value_of block)))))
+      | inr h ↦ inr (
+        All-weaker (Passes block) (Passes own) (passes-second self own first) second h.0,
+        (let P : Owner → Type 0 = λ v. IsEndWith self v step in
+            subst P (value-second self own first) (subst (IsEndWith self (value_of block)) (sym h.1 ∙ e) (end_with self (value_of block)))),
+      )
     ]
 
 -- From the first on.
@@ -62,9 +64,9 @@ run-ends self own first second step e =
 pub runs_end : RunsEnd
 runs_end = record {
   limit = (λ self hosts n own seen first second.
-    let block : Block = phase1_block self hosts n own.shared own.mode_gen own seen in
-    limit-by block.mbal (run_from self block first second) (is_number block.mbal) refl);
+      let block : Block = phase1_block self hosts n own.shared own.mode_gen own seen in
+      limit-by block.mbal (run_from self block first second) (is_number block.mbal) refl);
   ends = (λ self hosts n own seen first second step e.
-    let block : Block = phase1_block self hosts n own.shared own.mode_gen own seen in
-    run-ends self block first second step (given-by (is_number block.mbal) (run_from self block first second) step e));
+      let block : Block = phase1_block self hosts n own.shared own.mode_gen own seen in
+      run-ends self block first second step (given-by (is_number block.mbal) (run_from self block first second) step e));
 }

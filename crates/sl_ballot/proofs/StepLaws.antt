@@ -67,7 +67,7 @@ second-go self own blocks b e =
     ]
 
 go-in : (phase : Phase) (self : Owner) (own : Block) (blocks : List Block) (b : Block) → step_in phase self own blocks ≡ Go b
-  → (phase ≡ Phase1Read) × (b ≡ phase2_block self own blocks)
+    → (phase ≡ Phase1Read) × (b ≡ phase2_block self own blocks)
 go-in Phase1Write self own blocks b e = absurd (second-go self own blocks b e)
 go-in Phase1Read self own blocks b e = (refl, first-go self own blocks b e)
 go-in Phase2Write self own blocks b e = absurd (second-go self own blocks b e)
@@ -94,7 +94,7 @@ second-won self own blocks e =
     ]
 
 won-in : (phase : Phase) (self : Owner) (own : Block) (blocks : List Block) → is_reading phase ≡ true → step_in phase self own blocks ≡ Won
-  → (phase ≡ Phase2Read) × (value_of own ≡ self)
+    → (phase ≡ Phase2Read) × (value_of own ≡ self)
 won-in Phase1Write self own blocks reading e = absurd cc
 won-in Phase1Read self own blocks reading e = absurd (first-won self own blocks e)
 won-in Phase2Write self own blocks reading e = absurd cc
@@ -121,7 +121,7 @@ second-lost self own blocks v e =
     ]
 
 lost-in : (phase : Phase) (self : Owner) (own : Block) (blocks : List Block) (v : Owner) → is_reading phase ≡ true → step_in phase self own blocks ≡ Lost v
-  → (phase ≡ Phase2Read) × (v ≡ value_of own) × (value_of own ≡ self → ⊥)
+    → (phase ≡ Phase2Read) × (v ≡ value_of own) × (value_of own ≡ self → ⊥)
 lost-in Phase1Write self own blocks v reading e = absurd cc
 lost-in Phase1Read self own blocks v reading e = absurd (first-lost self own blocks v e)
 lost-in Phase2Write self own blocks v reading e = absurd cc

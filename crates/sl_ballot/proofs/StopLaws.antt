@@ -74,7 +74,7 @@ no-bal None b none = ap (λ n. choose (nat_lt 0 n) b) none
 no-bal (Some a) b none = ap (λ n. cond (nat_lt a.bal n) (Some b) (Some a)) none ∙ ap (λ t. cond t (Some b) (Some a)) (not-below-zero a.bal)
 
 fold-without : (n : ℕ) (b : Block) (before after : List Block) (from : Option Block) → b.bal ≡ 0
-  → fold greater_bal from (in_instance n (before ++ b ∷ after)) ≡ fold greater_bal from (in_instance n (before ++ after))
+    → fold greater_bal from (in_instance n (before ++ b ∷ after)) ≡ fold greater_bal from (in_instance n (before ++ after))
 fold-without n b [] after from none =
     elim (b.lver == n) as (λ t. fold greater_bal from (cond t (b ∷ in_instance n after) (in_instance n after)) ≡ fold greater_bal from (in_instance n after)) [
       | true ↦ ap (λ f. fold greater_bal f (in_instance n after)) (no-bal from b none)

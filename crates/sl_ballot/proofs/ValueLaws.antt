@@ -111,10 +111,10 @@ pub values_are_kept : ValuesAreKept
 unfolding phase1_block
 values_are_kept = record {
   kept = (λ self hosts n shared mode_gen own seen here.
-    let is : (own.lver == n) ≡ true = eq-eqb own.lver n here in
-    (chosen-true (own.lver == n) own.bal 0 is, ap (λ t. value (cond t own.inp 0) (cond t own.inp_gen 0)) is));
+      let is : (own.lver == n) ≡ true = eq-eqb own.lver n here in
+      (chosen-true (own.lver == n) own.bal 0 is, ap (λ t. value (cond t own.inp 0) (cond t own.inp_gen 0)) is));
   dropped = (λ self hosts n shared mode_gen own seen other.
-    let is : (own.lver == n) ≡ false = ne_eqb own.lver n other in
-    (chosen-false (own.lver == n) own.bal 0 is, ap (λ t. value (cond t own.inp 0) (cond t own.inp_gen 0)) is));
+      let is : (own.lver == n) ≡ false = ne_eqb own.lver n other in
+      (chosen-false (own.lver == n) own.bal 0 is, ap (λ t. value (cond t own.inp 0) (cond t own.inp_gen 0)) is));
   best = (λ self n blocks. value-is self n blocks (fold greater_bal None (in_instance n blocks)) (folded n blocks None));
 }

@@ -44,11 +44,11 @@ pub record IsBestIn (n : ℕ) (blocks : List Block) (best : Block) : Type 0 wher
 -- itself where no block has a bal.
 pub record ValuesAreKept : Type 0 where
   pub kept : (self : Owner) (hosts n : ℕ) (shared : Bool) (mode_gen : ℕ) (own : Block) (seen : List Block) → own.lver ≡ n
-    → ((phase1_block self hosts n shared mode_gen own seen).bal ≡ own.bal) × (value_of (phase1_block self hosts n shared mode_gen own seen) ≡ value_of own)
+      → ((phase1_block self hosts n shared mode_gen own seen).bal ≡ own.bal) × (value_of (phase1_block self hosts n shared mode_gen own seen) ≡ value_of own)
   pub dropped : (self : Owner) (hosts n : ℕ) (shared : Bool) (mode_gen : ℕ) (own : Block) (seen : List Block) → (own.lver ≡ n → ⊥)
-    → ((phase1_block self hosts n shared mode_gen own seen).bal ≡ 0) × (value_of (phase1_block self hosts n shared mode_gen own seen) ≡ record { id = 0; generation = 0 })
+      → ((phase1_block self hosts n shared mode_gen own seen).bal ≡ 0) × (value_of (phase1_block self hosts n shared mode_gen own seen) ≡ record { id = 0; generation = 0 })
   pub best : (self : Owner) (n : ℕ) (blocks : List Block)
-    → (All (λ b. b.lver ≡ n → b.bal ≡ 0) blocks × (value_to_write self n blocks ≡ self))
+      → (All (λ b. b.lver ≡ n → b.bal ≡ 0) blocks × (value_to_write self n blocks ≡ self))
       ⊎ ((b : Block) × IsBestIn n blocks b × (value_to_write self n blocks ≡ value_of b))
 
 -- ---- stops
@@ -93,7 +93,7 @@ pub record StepsFollowPhases : Type 0 where
   pub go : (s : BallotState) (blocks : List Block) (b : Block) → step_of s blocks ≡ Go b → (s.phase ≡ Phase1Read) × (b ≡ phase2_block s.self s.block blocks)
   pub won : (s : BallotState) (blocks : List Block) → is_reading s.phase ≡ true → step_of s blocks ≡ Won → (s.phase ≡ Phase2Read) × (value_of s.block ≡ s.self)
   pub lost : (s : BallotState) (blocks : List Block) (v : Owner) → is_reading s.phase ≡ true → step_of s blocks ≡ Lost v
-    → (s.phase ≡ Phase2Read) × (v ≡ value_of s.block) × (value_of s.block ≡ s.self → ⊥)
+      → (s.phase ≡ Phase2Read) × (v ≡ value_of s.block) × (value_of s.block ≡ s.self → ⊥)
 
 -- ---- whole ballots
 
@@ -107,10 +107,10 @@ IsRunEnd self own first second step =
 -- A ballot has no number exactly where it would be 2^63 or more; else it comes to one of these ends.
 pub record RunsEnd : Type 0 where
   pub limit : (self : Owner) (hosts n : ℕ) (own : Block) (seen first second : List Block)
-    → (ballot_run self hosts n own seen first second ≡ Err (record { })) ↔ (record_numbers ≤ (phase1_block self hosts n own.shared own.mode_gen own seen).mbal)
+      → (ballot_run self hosts n own seen first second ≡ Err (record {})) ↔ (record_numbers ≤ (phase1_block self hosts n own.shared own.mode_gen own seen).mbal)
   pub ends : (self : Owner) (hosts n : ℕ) (own : Block) (seen first second : List Block) (step : BallotStep)
-    → ballot_run self hosts n own seen first second ≡ Ok step
-    → IsRunEnd self (phase1_block self hosts n own.shared own.mode_gen own seen) first second step
+      → ballot_run self hosts n own seen first second ≡ Ok step
+      → IsRunEnd self (phase1_block self hosts n own.shared own.mode_gen own seen) first second step
 
 -- ---- records
 
@@ -125,8 +125,8 @@ IsMode shared mode_gen = (shared ≡ false ↔ mode_gen ≡ 0) × Fits mode_gen
 -- From blocks that keep their rules the phases make blocks that keep them.
 pub record BlocksAreRecords : Type 0 where
   pub phase1 : (self : Owner) (hosts n : ℕ) (shared : Bool) (mode_gen : ℕ) (own : Block) (seen : List Block)
-    → 1 ≤ self.id → self.id ≤ hosts → hosts ≤ most_hosts → 1 ≤ n → Fits n → IsMode shared mode_gen → IsBlock own
-    → Fits (phase1_block self hosts n shared mode_gen own seen).mbal → IsBlock (phase1_block self hosts n shared mode_gen own seen)
+      → 1 ≤ self.id → self.id ≤ hosts → hosts ≤ most_hosts → 1 ≤ n → Fits n → IsMode shared mode_gen → IsBlock own
+      → Fits (phase1_block self hosts n shared mode_gen own seen).mbal → IsBlock (phase1_block self hosts n shared mode_gen own seen)
   pub phase2 : (self : Owner) (own : Block) (blocks : List Block) → IsOwner self → IsBlock own → 1 ≤ own.lver → 1 ≤ own.mbal → All IsBlock blocks
-    → IsBlock (phase2_block self own blocks)
+      → IsBlock (phase2_block self own blocks)
   pub moded : (own : Block) (shared : Bool) (mode_gen : ℕ) → IsBlock own → 1 ≤ own.lver → IsMode shared mode_gen → IsBlock (moded_block own shared mode_gen)

@@ -7,7 +7,7 @@ use Rattle.std.specs.Prelude.{Bool, Err, Ok, Result, false, true, ℕ}
 -- The value, where it has a number that a block may carry.
 abbrev pub limited : {A : Type 0} → Bool → A → Result A Limit
 limited true a = Ok a
-limited false a = Err (record { })
+limited false a = Err (record {})
 
 -- The number, if it is below 2^63.
 abbrev pub limited_number : ℕ → Result ℕ Limit

@@ -1,6 +1,9 @@
-//! What a read of all blocks gives: a host's block, or none where it is torn.
+//! What a read of all hosts' blocks tells a ballot: host 1's block first, and none where it is torn.
+//!
+//! A torn block may hide a greater number or an accepted value, so it stops the ballot. The own block is the exception: its host alone
+//! writes it, so whatever a read shows of it, what was submitted last is what it will be, and it is taken as that.
 ghost use Rattle.sl_ballot.specs.Reads.{is_torn_at, known_blocks};
-ghost use Rattle.sl_leases.specs.Ballots.{ballot_blocks, block_ahead, block_rival, greater_bal, in_instance, known_block, stop_among, stop_of, torn_host, value_to_write, with_own};
+ghost use Rattle.sl_leases.specs.Ballots.{ballot_blocks, block_ahead, block_rival, greater_bal, in_instance, known_block, stop_of, torn_host, value_to_write, with_own};
 ghost use Rattle.std.specs.List.{enumerate_from};
 ghost use Rattle.std.specs.Prelude.{IfSome, None, fold, length, position, ◌+◌, ◌<◌, ◌^◌, ◌≡◌};
 
@@ -24,9 +27,7 @@ fn torn_place(own: &Block, read: &[Option<Block>]) -> Option<usize>
     ensures place { result ≡ position (is_torn_at own.now) (enumerate_from 0 read.now) }
     ensures within { IfSome result (λ i. i < length read.now) }
 {
-    read.iter()
-        .enumerate()
-        .position(|(before, seen)| known_block(own, *seen, before + 1).is_none())
+    read.iter().enumerate().position(|(before, seen)| known_block(own, *seen, before + 1).is_none())
 }
 
 /// The least host whose block is torn.
@@ -58,7 +59,7 @@ fn block_rival(own: &Block, read: &[Option<Block>]) -> Option<Block>
         .find(|block| is_rival(own, block))
 }
 
-/// The block of the greatest bal in the instance.
+/// The block of the greatest bal in an instance; none where no block has one there.
 fn best_in(n: u64, own: &Block, read: &[Option<Block>]) -> Option<Block>
     ensures { result ≡ fold greater_bal None (in_instance n (known_blocks own.now read.now)) }
 {
@@ -69,7 +70,8 @@ fn best_in(n: u64, own: &Block, read: &[Option<Block>]) -> Option<Block>
         .fold(None, greater_bal)
 }
 
-/// What stops the ballot of this own block.
+/// What stops the ballot of this own block in a read of the blocks of hosts 1, 2 ..: the least host whose block is torn, but for the own
+/// one; else the least in a later instance; else the least with a greater number in its own.
 #[tactic(auto, using(crate::proofs::ReadRules::by_place), unfolding(sl_leases::specs::Ballots::stop_of))]
 pub fn stop_of(own: &Block, read: &[Option<Block>]) -> Option<Stop>
     requires { length read.now < 2 ^ 32 }
@@ -81,7 +83,8 @@ pub fn stop_of(own: &Block, read: &[Option<Block>]) -> Option<Stop>
     }
 }
 
-/// The value of the greatest bal in n, or the session itself.
+/// The value that a session's ballot in instance `n` has to write, by a read of the blocks of hosts 1, 2 .., the own one as submitted
+/// where it is torn: that of the greatest bal there, of two that tie the least host's; the session itself where no block has a bal.
 #[tactic(auto, using(crate::proofs::ReadRules::by_place))]
 pub fn value_after_read(me: Owner, n: u64, own: &Block, read: &[Option<Block>]) -> Owner
     ensures { result ≡ value_to_write me n (ballot_blocks own.now read.now) }
