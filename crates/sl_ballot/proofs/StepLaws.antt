@@ -11,7 +11,7 @@ use Rattle.sl_sector.specs.declared.sector.Block.{Block}
 use Rattle.sl_sector.specs.declared.sector.Owner.{Owner}
 use Rattle.sl_words.proofs.CaseLaws.{true_is_false}
 use Rattle.sl_words.proofs.WordLaws.{and_true}
-use Rattle.std.proofs.Common.{Bool, List, ap, ap₂, false, inl, inr, refl, true, ◌&&◌, ◌==◌, ◌∙◌, sym, ◌≡◌, ◌⊎◌, ℕ}
+use Rattle.std.proofs.Common.{Bool, List, ap, ap₂, false, inl, inr, refl, true, ◌==◌, ◌∙◌, sym, ◌≡◌, ℕ}
 use Rattle.std.proofs.lemmas.Bool.{and_from, eq-eqb, eqb-true}
 
 -- Owners that pass as one, are one ..

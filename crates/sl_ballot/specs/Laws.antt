@@ -1,17 +1,16 @@
 -- What the rules of a ballot come to, in words that don't follow its steps.
-use Rattle.sl_ballot.specs.Limits.{limited}
 use Rattle.sl_ballot.specs.Machine.{BallotState, is_reading, step_of, unless_stopped}
 use Rattle.sl_ballot.specs.Runs.{ballot_run}
 use Rattle.sl_ballot.specs.declared.ballot.BallotStep.TheVariants.{Ahead, Go, Lost, Rival, Won}
 use Rattle.sl_ballot.specs.declared.ballot.BallotStep.{BallotStep}
 use Rattle.sl_ballot.specs.declared.ballot.Phase.TheVariants.{Phase1Read, Phase2Read}
-use Rattle.sl_leases.specs.Ballots.{moded_block, phase1_block, phase2_block, same_owner, stop_among, value_of, value_to_write}
+use Rattle.sl_leases.specs.Ballots.{moded_block, phase1_block, phase2_block, stop_among, value_of, value_to_write}
 use Rattle.sl_leases.specs.declared.lease.Stop.TheVariants.{BlockAhead, BlockRival, BlockTorn}
 use Rattle.sl_sector.specs.Records.{Fits, IsBlock}
 use Rattle.sl_sector.specs.declared.sector.Block.{Block}
 use Rattle.sl_sector.specs.declared.sector.Owner.{Owner}
 use Rattle.sl_words.specs.Bounds.{most_hosts, record_numbers}
-use Rattle.std.specs.Prelude.{All, Any, Bool, Contains, Err, List, None, Ok, Some, false, true, ℕ, ◌*◌, ◌++◌, ◌+◌, ◌<◌, ◌∷◌, ◌≡◌, ◌≤◌, ◌⊎◌, ◌↔◌}
+use Rattle.std.specs.Prelude.{All, Bool, Contains, Err, List, None, Ok, Some, false, true, ℕ, ◌*◌, ◌++◌, ◌+◌, ◌<◌, ◌∷◌, ◌≡◌, ◌≤◌, ◌⊎◌, ◌↔◌}
 
 -- ---- numbers
 
