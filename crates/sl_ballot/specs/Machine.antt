@@ -61,7 +61,7 @@ phase1_step self own blocks = unless_stopped own blocks (Go (phase2_block self o
 abbrev pub phase2_step : Owner → Block → List Block → BallotStep
 phase2_step self own blocks = unless_stopped own blocks (ends_with self (value_of own))
 
--- After the read of this phase.
+-- After the read of phase 1, or else of phase 2.
 abbrev pub step_in : Phase → Owner → Block → List Block → BallotStep
 step_in Phase1Read self own blocks = phase1_step self own blocks
 step_in phase self own blocks = phase2_step self own blocks
