@@ -1,0 +1,5 @@
+pub mod CalmLaws
+pub mod CalmRenewal
+pub mod Growth
+pub mod Entries
+pub mod Standing

@@ -1,0 +1,10 @@
+//! A host of the first path.
+#![tactic(auto)]
+ghost use Rattle.std.specs.Prelude.{◌≡◌};
+
+/// Nothing.
+pub fn nothing(x: u64) -> u64
+    ensures { result ≡ x }
+{
+    x
+}
