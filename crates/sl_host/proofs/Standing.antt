@@ -13,6 +13,10 @@ use Rattle.sl_trace.specs.declared.effects.Effects.{Effects}
 use Rattle.sl_trace.specs.declared.effects.End.{End}
 use Rattle.sl_trace.specs.declared.effects.Entry.{Entry}
 use Rattle.sl_trace.specs.declared.effects.Grant.{Grant}
+use Rattle.sl_trace.specs.declared.effects.LeaseStep.{LeaseStep}
+use Rattle.sl_trace.specs.declared.effects.Purpose.TheVariants.{Lease}
+use Rattle.sl_trace.specs.declared.effects.Purpose.{Purpose}
+use Rattle.sl_trace.specs.declared.effects.Work.TheVariants.{ForJob}
 use Rattle.sl_trace.specs.declared.input.Answer.{Answer}
 use Rattle.sl_trace.specs.declared.input.Given.{Given}
 use Rattle.sl_trace.specs.declared.input.Input.TheVariants.{Answer as Told, Exit, Line, Spawned, Wake}
@@ -53,20 +57,21 @@ found_more f p [] ys b h = absurd (none_some b h)
 found_more f p (x ∷ xs) ys b h = found_more_at f p x xs ys b (p x) refl h (found_more f p xs ys b)
 
 -- What is true of the work stays so with more jobs.
-doing_later : (st : Setting) (r : ResourceArg) (es : Trace) (e : Entry) (js : List Job) (d : Doing) → jobs st (e ∷ es) ≡ jobs st es ++ js
-    → IsDoing st r es d → IsDoing st r (e ∷ es) d
-doing_later st r es e js d more h =
+doing_later : (st : Setting) (g : Given) (es : Trace) (e : Entry) (js : List Job) (d : Doing) → jobs st (e ∷ es) ≡ jobs st es ++ js
+    → IsDoing st g es d → IsDoing st g (e ∷ es) d
+doing_later st g es e js d more h =
     record {
+      made = h.made;
       unanswered = h.unanswered;
-      of_job = h.of_job;
+      for_job = h.for_job;
       commanded = ap (λ is. option_and_then command_of (find (λ j. j.number == d.job.number) is)) more
           ∙ found_more command_of (λ (j : Job). j.number == d.job.number) (jobs st es) js d.command h.commanded;
     }
 
-work_later : (st : Setting) (r : ResourceArg) (es : Trace) (e : Entry) (js : List Job) (w : Option Doing) → jobs st (e ∷ es) ≡ jobs st es ++ js
-    → IsWork st r es w → IsWork st r (e ∷ es) w
-work_later st r es e js None more h = tt
-work_later st r es e js (Some d) more h = doing_later st r es e js d more h
+work_later : (st : Setting) (g : Given) (es : Trace) (e : Entry) (js : List Job) (w : Option Doing) → jobs st (e ∷ es) ≡ jobs st es ++ js
+    → IsWork st g es w → IsWork st g (e ∷ es) w
+work_later st g es e js None more h = tt
+work_later st g es e js (Some d) more h = doing_later st g es e js d more h
 
 -- ---- numbers
 
@@ -100,7 +105,7 @@ line_answered st g r k es h text why =
       mine = h.mine;
       held = held_stays (holdings es) (one_reply k.next_job why) [] ∙ h.held;
       childless = ap (λ ks. map (child_after (Line text)) ks ++ []) h.childless;
-      work = work_later st r es e (j ∷ []) k.work refl h.work;
+      work = work_later st g es e (j ∷ []) k.work refl h.work;
     }
 
 -- ---- a step that does nothing
@@ -122,7 +127,7 @@ quiet_stands st g r k es h =
       mine = h.mine;
       held = held_stays (holdings es) [] [] ∙ h.held;
       childless = ap (λ ks. map (child_after Wake) ks ++ []) h.childless;
-      work = work_later st r es e [] k.work refl h.work;
+      work = work_later st g es e [] k.work refl h.work;
     }
 
 -- ---- a line whose job goes to work
@@ -137,16 +142,16 @@ other_number : (n next : ℕ) → nat_lt n next ≡ true → (n == next) ≡ fal
 other_number n next h = grind (arith, tests)
 
 pub line_begun : (st : Setting) (g : Given) (r : ResourceArg) (k : Kept) (es : Trace) → Stands st g r k es → k.work ≡ None → (text : List ℕ) (command : Command)
-    → st.read text ≡ Ok command → (ends : List End) (c : Call) → IsNextCall st r k.next_call k.next_job c
-    → Stands st g r (record { next_call = k.next_call + 1; next_job = k.next_job + 1; work = Some (next_doing st g es text command c); answered = k.answered;
+    → st.read text ≡ Ok command → (ends : List End) (step : LeaseStep) (c : Call) → IsNextCall st r k.next_call k.next_job step c
+    → Stands st g r (record { next_call = k.next_call + 1; next_job = k.next_job + 1; work = Some (next_doing st g es text command step c); answered = k.answered;
         held = held_after (first_effects ends [] [] (c ∷ [])) k.held })
         (first_entry g (Line text) (first_effects ends [] [] (c ∷ [])) ∷ es)
-line_begun st g r k es h idle text command reads ends c is =
+line_begun st g r k es h idle text command reads ends step c is =
     let e : Entry = first_entry g (Line text) (first_effects ends [] [] (c ∷ [])) in
     let j : Job = record { number = next_job st es; at = length es; reading = g.renewed; command = st.read text } in
     let more : next_job st (e ∷ es) ≡ next_job st es + 1 = (let l = length_more (jobs st es) j in omega (arith, l)) in
     record {
-      calm = (record { still = refl; unmoved = refl; leases = rw is.of_lease refl }, h.calm);
+      calm = (record { still = refl; unmoved = refl; leases = ap (λ (p : Purpose). is_some (lease_step p) && true) is.for_job }, h.calm);
       calls = ap (λ ms. new_call (length es) g.renewed c ∷ ms) (h.calls ∙ ap (λ w. open_kept w ++ k.answered) idle);
       call_number = (let was = h.call_number in omega (arith, was));
       job_number = more ∙ ap (λ n. n + 1) h.job_number;
@@ -159,8 +164,9 @@ line_begun st g r k es h idle text command reads ends c is =
       held = ap (λ (gs : List Grant). held_after (first_effects ends [] [] (c ∷ [])) gs) h.held;
       childless = ap (λ ks. map (child_after (Line text)) ks ++ []) h.childless;
       work = record {
+        made = refl;
         unanswered = refl;
-        of_job = is.of_job ∙ ap (λ n. Some n) (sym h.job_number);
+        for_job = is.for_job ∙ ap (λ n. Lease (ForJob n) step) (sym h.job_number);
         commanded = ap (λ o. option_and_then command_of o) (found_last (λ (i : Job). i.number == next_job st es) (λ i. nat_lt i.number (next_job st es)) (jobs st es) j h.old
                 (λ i lt. other_number i.number (next_job st es) lt) (same_number (next_job st es)))
             ∙ ap (λ (c : Result Command ℕ). command_of (record { number = next_job st es; at = length es; reading = g.renewed; command = c })) reads;
@@ -243,27 +249,27 @@ worked_before st es d n old was le =
     apart d.job.number (next_job st es) n (and_true (nat_lt d.job.number (next_job st es)) true all).0 le
 
 -- The calls once the work's is answered, in an entry that refuses no job before its input.
-pub told_calls : (st : Setting) (g : Given) (r : ResourceArg) (k : Kept) (es : Trace) → Stands st g r k es → (d : Doing) → k.work ≡ Some d → (doing : IsDoing st r es d)
+pub told_calls : (st : Setting) (g : Given) (r : ResourceArg) (k : Kept) (es : Trace) → Stands st g r k es → (d : Doing) → k.work ≡ Some d → (doing : IsDoing st g es d)
     → (a : Answer) (fx : Effects) → is_refused_before_input (first_entry g (Told d.call.call.number a) fx) d.job.number ≡ false
     → map (answered_in es (first_entry g (Told d.call.call.number a) fx) d.call.call.number a) (submitted es) ≡ heeded_call es g a d.call ∷ k.answered
 told_calls st g r k es h d busy doing a fx on =
     let e : Entry = first_entry g (Told d.call.call.number a) fx in
     ap (λ ms. map (answered_in es e d.call.call.number a) ms) (h.calls ∙ ap (λ w. open_kept w ++ k.answered) busy)
     ∙ ap (λ ms. answered_in es e d.call.call.number a d.call ∷ ms) (answered_stays es e d.call.call.number a k.answered h.answered)
-    ∙ ap (λ m. m ∷ k.answered) (told_call es e g a d (runs st g r k es h d busy) doing.unanswered doing.of_job on refl)
+    ∙ ap (λ m. m ∷ k.answered) (told_call es e g a d (runs st g r k es h d busy) doing.unanswered (ap (λ p. job_of p) doing.for_job) on refl)
 
-pub told_more : (st : Setting) (g : Given) (r : ResourceArg) (k : Kept) (es : Trace) → Stands st g r k es → (d : Doing) → k.work ≡ Some d → (doing : IsDoing st r es d)
-    → (a : Answer) (c : Call) → IsNextCall st r k.next_call d.job.number c
-    → Stands st g r (record k { next_call = k.next_call + 1; work = Some (record d { call = new_call (length es) g.renewed c }); answered = heeded_call es g a d.call ∷ k.answered })
+pub told_more : (st : Setting) (g : Given) (r : ResourceArg) (k : Kept) (es : Trace) → Stands st g r k es → (d : Doing) → k.work ≡ Some d → (doing : IsDoing st g es d)
+    → (a : Answer) (step : LeaseStep) (c : Call) → IsNextCall st r k.next_call d.job.number step c
+    → Stands st g r (record k { next_call = k.next_call + 1; work = Some (record d { step = step; call = new_call (length es) g.renewed c }); answered = heeded_call es g a d.call ∷ k.answered })
         (first_entry g (Told d.call.call.number a) (first_effects [] [] [] (c ∷ [])) ∷ es)
-told_more st g r k es h d busy doing a c is =
+told_more st g r k es h d busy doing a step c is =
     let e : Entry = first_entry g (Told d.call.call.number a) (first_effects [] [] [] (c ∷ [])) in
     let same : jobs st (e ∷ es) ≡ jobs st es = append_none (jobs st es) in
     let next : next_job st (e ∷ es) ≡ next_job st es = ap (λ (js : List Job). st.first.job + length js) same in
     let calls : submitted (e ∷ es) ≡ new_call (length es) g.renewed c ∷ heeded_call es g a d.call ∷ k.answered
         = ap (λ ms. new_call (length es) g.renewed c ∷ ms) (told_calls st g r k es h d busy doing a (first_effects [] [] [] (c ∷ [])) refl) in
     record {
-      calm = (record { still = refl; unmoved = refl; leases = rw is.of_lease refl }, h.calm);
+      calm = (record { still = refl; unmoved = refl; leases = ap (λ (p : Purpose). is_some (lease_step p) && true) is.for_job }, h.calm);
       calls = calls;
       call_number = told_count st es (e ∷ es) k d (new_call (length es) g.renewed c ∷ heeded_call es g a d.call ∷ k.answered) calls (omega arith) (h.calls ∙ ap (λ w. open_kept w ++ k.answered) busy) h.call_number;
       job_number = next ∙ h.job_number;
@@ -275,13 +281,14 @@ told_more st g r k es h d busy doing a c is =
       held = held_stays (holdings es) [] (c ∷ []) ∙ h.held;
       childless = ap (λ ks. map (child_after (Told d.call.call.number a)) ks ++ []) h.childless;
       work = record {
+        made = refl;
         unanswered = refl;
-        of_job = is.of_job;
+        for_job = is.for_job;
         commanded = ap (λ is. option_and_then command_of (find (λ j. j.number == d.job.number) is)) same ∙ doing.commanded;
       };
     }
 
-pub told_done : (st : Setting) (g : Given) (r : ResourceArg) (k : Kept) (es : Trace) → Stands st g r k es → (d : Doing) → k.work ≡ Some d → (doing : IsDoing st r es d)
+pub told_done : (st : Setting) (g : Given) (r : ResourceArg) (k : Kept) (es : Trace) → Stands st g r k es → (d : Doing) → k.work ≡ Some d → (doing : IsDoing st g es d)
     → (a : Answer) (grants : List Grant) (why : Reply) → is_before_input why ≡ false
     → Stands st g r (record k { work = None; answered = heeded_call es g a d.call ∷ k.answered; held = k.held ++ grants })
         (first_entry g (Told d.call.call.number a) (first_effects [] grants (one_reply d.job.number why) []) ∷ es)

@@ -2,7 +2,7 @@
 use Rattle.sl_area.specs.Places.{is_base}
 use Rattle.sl_leases.specs.Jobs.{command_numbered}
 use Rattle.sl_leases.specs.Leases.{is_on, lease_step, spot_of}
-use Rattle.sl_sessions.specs.Sessions.{Session, given_session}
+use Rattle.sl_sessions.specs.Sessions.{Session, delta_written, given_session}
 use Rattle.sl_trace.specs.Limits.{most_processes}
 use Rattle.sl_trace.specs.Traces.{EachEntry, Job, Setting, Submitted, Trace, children, holdings, job_of, jobs, new_call, next_call, next_job, reply_to, running_jobs, submitted}
 use Rattle.sl_trace.specs.declared.command.Command.TheVariants.{Acquire, Release}
@@ -14,13 +14,16 @@ use Rattle.sl_trace.specs.declared.effects.End.{End}
 use Rattle.sl_trace.specs.declared.effects.Entry.{Entry}
 use Rattle.sl_trace.specs.declared.effects.Grant.{Grant}
 use Rattle.sl_trace.specs.declared.effects.JobReply.{JobReply}
+use Rattle.sl_trace.specs.declared.effects.LeaseStep.{LeaseStep}
+use Rattle.sl_trace.specs.declared.effects.Purpose.TheVariants.{Lease}
+use Rattle.sl_trace.specs.declared.effects.Work.TheVariants.{ForJob}
 use Rattle.sl_trace.specs.declared.input.Answer.{Answer}
 use Rattle.sl_trace.specs.declared.input.Given.{Given}
 use Rattle.sl_trace.specs.declared.input.Input.{Input}
 use Rattle.sl_trace.specs.declared.reply.Reply.{Reply}
 use Rattle.std.specs.Int.{is_in_range}
 use Rattle.std.specs.List.{list_all}
-use Rattle.std.specs.Prelude.{Bool, Err, IsTrue, List, None, Ok, Option, Result, Some, [], false, is_some, length, nat_lt, true, ℕ, ◌&&◌, ◌++◌, ◌<◌, ◌==◌, ◌∷◌, ◌≡◌, ◌≤◌, ◌⊎◌}
+use Rattle.std.specs.Prelude.{is_none, Bool, Err, IsTrue, List, None, Ok, Option, Result, Some, [], false, is_some, length, nat_lt, true, ℕ, ◌&&◌, ◌++◌, ◌<◌, ◌==◌, ◌∷◌, ◌≡◌, ◌≤◌, ◌⊎◌}
 
 -- What a text may say: an exclusive acquire or a release of this resource, for a process that is no child.
 abbrev pub IsFirstCommand : ResourceArg → Result Command ℕ → Type 0
@@ -50,10 +53,12 @@ pub record IsCalmEntry (g : Given) (e : Entry) : Type 0 where
 abbrev pub IsCalm : Given → Trace → Type 0
 IsCalm g es = EachEntry (λ past e. IsCalmEntry g e) es
 
--- A job at work: its number, its line's reading and entry are in `job`; its command; its call that is not answered.
+-- A job at work: its number, its line's reading and entry are in `job`; its command; the step that it is at; its call that is not
+-- answered.
 pub record Doing : Type 0 where
   pub job : Job
   pub command : Command
+  pub step : LeaseStep
   pub call : Submitted
 
 -- What a host of the first path keeps of its trace.
@@ -85,18 +90,19 @@ has_answer m = is_some m.answer
 
 -- Whether the call is the session's, on the resource's area.
 abbrev pub is_first_call : Setting → ResourceArg → Submitted → Bool
-is_first_call st r m = m.call.session == 0 && is_on st.layout (spot_of r) m.call
+is_first_call st r m = m.call.session == 0 && is_on st.layout (spot_of r) m.call && is_none (delta_written m)
 
 -- What is true of the work.
-pub record IsDoing (st : Setting) (r : ResourceArg) (es : Trace) (d : Doing) : Type 0 where
+pub record IsDoing (st : Setting) (g : Given) (es : Trace) (d : Doing) : Type 0 where
+  pub made : d.call.reading ≡ g.renewed
   pub unanswered : d.call.answer ≡ None
-  pub of_job : job_of d.call.call.purpose ≡ Some d.job.number
+  pub for_job : d.call.call.purpose ≡ Lease (ForJob d.job.number) d.step
   pub commanded : command_numbered st es d.job.number ≡ Some d.command
 
 -- What is true of the work, if there is any.
-abbrev pub IsWork : Setting → ResourceArg → Trace → Option Doing → Type 0
-IsWork st r es None = Unit {0}
-IsWork st r es (Some d) = IsDoing st r es d
+abbrev pub IsWork : Setting → Given → Trace → Option Doing → Type 0
+IsWork st g es None = Unit {0}
+IsWork st g es (Some d) = IsDoing st g es d
 
 -- A host that keeps these stands for the trace.
 pub record Stands (st : Setting) (g : Given) (r : ResourceArg) (k : Kept) (es : Trace) : Type 0 where
@@ -111,7 +117,7 @@ pub record Stands (st : Setting) (g : Given) (r : ResourceArg) (k : Kept) (es : 
   pub mine : list_all (is_first_call st r) (submitted es) ≡ true
   pub held : holdings es ≡ k.held
   pub childless : children es ≡ []
-  pub work : IsWork st r es k.work
+  pub work : IsWork st g es k.work
 
 -- What a step of such a host does: ends, grants, replies and calls.
 abbrev pub first_effects : List End → List Grant → List JobReply → List Call → Effects
@@ -131,17 +137,17 @@ abbrev pub heeded_call : Trace → Given → Answer → Submitted → Submitted
 heeded_call es g a m = record m { answer = Some (record { at = length es; reading = g.renewed; answer = a; heeded = true }) }
 
 -- The job of the next line, with this command.
-abbrev pub next_doing : Setting → Given → Trace → List ℕ → Command → Call → Doing
-next_doing st g es text command c =
+abbrev pub next_doing : Setting → Given → Trace → List ℕ → Command → LeaseStep → Call → Doing
+next_doing st g es text command step c =
     record {
       job = record { number = next_job st es; at = length es; reading = g.renewed; command = st.read text };
       command = command;
+      step = step;
       call = new_call (length es) g.renewed c;
     }
 
 -- A call that the host may make next: of its session, on the resource's area, for work on the lease, on account of this job.
-pub record IsNextCall (st : Setting) (r : ResourceArg) (number job : ℕ) (c : Call) : Type 0 where
+pub record IsNextCall (st : Setting) (r : ResourceArg) (number job : ℕ) (step : LeaseStep) (c : Call) : Type 0 where
   pub numbered : c.number ≡ number
-  pub placed : (c.session == 0 && is_on st.layout (spot_of r) c) ≡ true
-  pub of_lease : is_some (lease_step c.purpose) ≡ true
-  pub of_job : job_of c.purpose ≡ Some job
+  pub placed : is_first_call st r (new_call 0 0 c) ≡ true
+  pub for_job : c.purpose ≡ Lease (ForJob job) step
