@@ -3,3 +3,4 @@ pub mod CalmRenewal
 pub mod Growth
 pub mod Entries
 pub mod Standing
+pub mod Stillness
