@@ -4,3 +4,6 @@ pub mod Growth
 pub mod Entries
 pub mod Standing
 pub mod Stillness
+pub mod Decisions
+pub mod Spots
+pub mod Decided

@@ -1,0 +1,35 @@
+-- What a host of the first path does: it is idle, it holds the resource, or it works for a job.
+use Rattle.sl_due.specs.DueLease.{grant_of}
+use Rattle.sl_host.specs.FirstPath.{Doing, Kept, first_session}
+use Rattle.sl_trace.specs.declared.command.ResourceArg.{ResourceArg}
+use Rattle.sl_trace.specs.Traces.{Submitted}
+use Rattle.sl_trace.specs.declared.effects.Grant.{Grant}
+use Rattle.sl_trace.specs.declared.effects.Mode.TheVariants.{Exclusive}
+use Rattle.sl_trace.specs.declared.input.Given.{Given}
+use Rattle.std.specs.Prelude.{List, None, Option, Some, [], ℕ, ◌∷◌}
+
+-- Where the host stands.
+pub data Phase : Type 0 where
+  Idle : Phase
+  Holds : (process lver : ℕ) → Phase
+  Works : Doing → Phase
+
+-- The job at work.
+abbrev pub work_in : Phase → Option Doing
+work_in Idle = None
+work_in (Holds p lver) = None
+work_in (Works d) = Some d
+
+-- A holding of the resource.
+abbrev pub first_grant : Given → ResourceArg → ℕ → ℕ → Grant
+first_grant g r p lver = grant_of (first_session g) r p Exclusive lver
+
+-- What is held.
+abbrev pub held_in : Given → ResourceArg → Phase → List Grant
+held_in g r Idle = []
+held_in g r (Holds p lver) = first_grant g r p lver ∷ []
+held_in g r (Works d) = []
+
+-- What such a host keeps.
+abbrev pub kept_in : Given → ResourceArg → ℕ → ℕ → Phase → List Submitted → Kept
+kept_in g r call job phase answered = record { next_call = call; next_job = job; work = work_in phase; answered = answered; held = held_in g r phase }
