@@ -88,7 +88,7 @@ and_false : (b : Bool) → (b && false) ≡ false
 and_false true = refl
 and_false false = refl
 
-survey_none : (p : Purpose) → is_some (lease_step p) ≡ true → is_survey_purpose p ≡ false
+pub survey_none : (p : Purpose) → is_some (lease_step p) ≡ true → is_survey_purpose p ≡ false
 survey_none (Lease work step) h = refl
 survey_none (Joining j step) h = refl
 survey_none Renewal h = refl

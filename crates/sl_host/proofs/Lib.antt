@@ -7,3 +7,4 @@ pub mod Stillness
 pub mod Decisions
 pub mod Spots
 pub mod Decided
+pub mod Knowledge

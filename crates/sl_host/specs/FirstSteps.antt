@@ -1,12 +1,14 @@
 -- What a host of the first path does: it is idle, it holds the resource, or it works for a job.
 use Rattle.sl_due.specs.DueLease.{grant_of}
 use Rattle.sl_host.specs.FirstPath.{Doing, Kept, first_session}
+use Rattle.sl_leases.specs.Leases.{LeaseKnown, known_of}
+use Rattle.sl_sector.specs.declared.sector.Owner.{Owner}
 use Rattle.sl_trace.specs.declared.command.ResourceArg.{ResourceArg}
-use Rattle.sl_trace.specs.Traces.{Submitted}
+use Rattle.sl_trace.specs.Traces.{Setting, Submitted}
 use Rattle.sl_trace.specs.declared.effects.Grant.{Grant}
 use Rattle.sl_trace.specs.declared.effects.Mode.TheVariants.{Exclusive}
 use Rattle.sl_trace.specs.declared.input.Given.{Given}
-use Rattle.std.specs.Prelude.{List, None, Option, Some, [], ℕ, ◌∷◌}
+use Rattle.std.specs.Prelude.{Bool, List, None, Option, Some, [], false, nat_lt, true, ℕ, ◌&&◌, ◌==◌, ◌∷◌}
 
 -- Where the host stands.
 pub data Phase : Type 0 where
@@ -33,3 +35,15 @@ held_in g r (Works d) = []
 -- What such a host keeps.
 abbrev pub kept_in : Given → ResourceArg → ℕ → ℕ → Phase → List Submitted → Kept
 kept_in g r call job phase answered = record { next_call = call; next_job = job; work = work_in phase; answered = answered; held = held_in g r phase }
+
+-- The session as ballots name it.
+abbrev pub first_self : Given → Owner
+first_self g = record { id = g.id; generation = 1 }
+
+-- Whom the session counts as over: only the generation of its own id before it.
+abbrev pub first_over : Given → ℕ → ℕ → Bool
+first_over g id generation = id == g.id && nat_lt generation 1 && true
+
+-- What is known of the lease by its calls, while nothing is held.
+abbrev pub first_known : Setting → Given → List Submitted → LeaseKnown
+first_known st g ms = known_of st.layout g.lockspace (first_self g) false None (first_over g) ms
