@@ -8,3 +8,4 @@ pub mod Decisions
 pub mod Spots
 pub mod Decided
 pub mod Knowledge
+pub mod Lines

@@ -1,14 +1,22 @@
 -- What a host of the first path does: it is idle, it holds the resource, or it works for a job.
+use Rattle.sl_area.specs.Places.{leader_offset}
 use Rattle.sl_due.specs.DueLease.{grant_of}
 use Rattle.sl_host.specs.FirstPath.{Doing, Kept, first_session}
+use Rattle.sl_leases.specs.LeaseWork.{leader_for}
 use Rattle.sl_leases.specs.Leases.{LeaseKnown, known_of}
 use Rattle.sl_sector.specs.declared.sector.Owner.{Owner}
+use Rattle.sl_sector.specs.declared.sector.Rec.TheVariants.{LeaderIs}
 use Rattle.sl_trace.specs.declared.command.ResourceArg.{ResourceArg}
 use Rattle.sl_trace.specs.Traces.{Setting, Submitted}
+use Rattle.sl_trace.specs.declared.effects.Call.{Call}
 use Rattle.sl_trace.specs.declared.effects.Grant.{Grant}
+use Rattle.sl_trace.specs.declared.effects.LeaseStep.TheVariants.{FreeLeader, ReadArea}
 use Rattle.sl_trace.specs.declared.effects.Mode.TheVariants.{Exclusive}
+use Rattle.sl_trace.specs.declared.effects.Op.TheVariants.{ReadSectors, WriteRecord}
+use Rattle.sl_trace.specs.declared.effects.Purpose.TheVariants.{Lease}
+use Rattle.sl_trace.specs.declared.effects.Work.TheVariants.{ForJob}
 use Rattle.sl_trace.specs.declared.input.Given.{Given}
-use Rattle.std.specs.Prelude.{Bool, List, None, Option, Some, [], false, nat_lt, true, ℕ, ◌&&◌, ◌==◌, ◌∷◌}
+use Rattle.std.specs.Prelude.{Bool, List, None, Option, Some, [], false, nat_lt, true, ℕ, ◌&&◌, ◌+◌, ◌==◌, ◌∷◌}
 
 -- Where the host stands.
 pub data Phase : Type 0 where
@@ -47,3 +55,27 @@ first_over g id generation = id == g.id && nat_lt generation 1 && true
 -- What is known of the lease by its calls, while nothing is held.
 abbrev pub first_known : Setting → Given → List Submitted → LeaseKnown
 first_known st g ms = known_of st.layout g.lockspace (first_self g) false None (first_over g) ms
+
+-- The read with which an acquire begins.
+abbrev pub first_read : Setting → ResourceArg → ℕ → ℕ → Call
+first_read st r number job =
+    record {
+      number = number;
+      session = 0;
+      purpose = Lease (ForJob job) (ReadArea r.name);
+      path = r.path;
+      offset = r.offset;
+      op = ReadSectors (st.layout.hosts + 2);
+    }
+
+-- The write with which a release frees the leader.
+abbrev pub last_write : Setting → Given → ResourceArg → ℕ → ℕ → ℕ → List Submitted → Call
+last_write st g r number job lver ms =
+    record {
+      number = number;
+      session = 0;
+      purpose = Lease (ForJob job) FreeLeader;
+      path = r.path;
+      offset = leader_offset r.offset;
+      op = WriteRecord (LeaderIs (leader_for (record { layout = st.layout; lockspace = g.lockspace }) (first_known st g ms) false lver));
+    }
