@@ -73,7 +73,7 @@ pub other_reply : (es : Trace) (e : Entry) (n job : ℕ) (why : Reply) → e.eff
 other_reply es e n job why one other before =
     rw before (ap (λ rs. option_map (λ (a : JobReply). record { at = length es; reply = a.reply }) (find (λ a. a.job == n) rs)) one ∙ (rw other refl))
 
-runs_on : (es : Trace) (e : Entry) (n : ℕ) → e.effects.replies ≡ [] → is_running (e ∷ es) n ≡ is_running es n
+pub runs_on : (es : Trace) (e : Entry) (n : ℕ) → e.effects.replies ≡ [] → is_running (e ∷ es) n ≡ is_running es n
 runs_on es e n none = is_running_more es e n ∙ ap (λ rs. is_running es n && is_none (find (λ a. a.job == n) rs)) none ∙ true_right (is_running es n)
 
 runs_beside : (es : Trace) (e : Entry) (n job : ℕ) (why : Reply) → e.effects.replies ≡ one_reply job why → (job == n) ≡ false

@@ -9,3 +9,4 @@ pub mod Spots
 pub mod Decided
 pub mod Knowledge
 pub mod Lines
+pub mod Answering

@@ -40,7 +40,7 @@ filter_all [] = refl
 filter_all (x ∷ xs) = ap (λ ys. x ∷ ys) (filter_all xs)
 
 -- Nothing ends and nothing is granted.
-held_stays : (held : List Grant) (replies : _) (calls : _) → held_after (first_effects [] [] replies calls) held ≡ held
+pub held_stays : (held : List Grant) (replies : _) (calls : _) → held_after (first_effects [] [] replies calls) held ≡ held
 held_stays held replies calls = append_none (filter (λ q. true) held) ∙ filter_all held
 
 -- ---- the commands of jobs
@@ -226,7 +226,7 @@ told_same st es after k d ms now one was number =
     let b : length (submitted es) ≡ length (d.call ∷ k.answered) = ap (λ (xs : List Submitted). length xs) was in
     omega (arith, a, b, one, number)
 
-mine_told : (st : Setting) (r : ResourceArg) (es : Trace) (k : Kept) (d : Doing) (g : Given) (a : Answer) → submitted es ≡ d.call ∷ k.answered
+pub mine_told : (st : Setting) (r : ResourceArg) (es : Trace) (k : Kept) (d : Doing) (g : Given) (a : Answer) → submitted es ≡ d.call ∷ k.answered
     → list_all (is_first_call st r) (submitted es) ≡ true → list_all (is_first_call st r) (heeded_call es g a d.call ∷ k.answered) ≡ true
 mine_told st r es k d g a was h = sym (ap (λ ms. list_all (is_first_call st r) ms) was) ∙ h
 

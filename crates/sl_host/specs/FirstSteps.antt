@@ -1,20 +1,26 @@
 -- What a host of the first path does: it is idle, it holds the resource, or it works for a job.
-use Rattle.sl_area.specs.Places.{leader_offset}
+use Rattle.sl_area.specs.Places.{block_offset, leader_offset}
 use Rattle.sl_due.specs.DueLease.{grant_of}
-use Rattle.sl_host.specs.FirstPath.{Doing, Kept, first_session}
-use Rattle.sl_leases.specs.LeaseWork.{leader_for}
-use Rattle.sl_leases.specs.Leases.{LeaseKnown, known_of}
+use Rattle.sl_host.specs.FirstPath.{Doing, Kept, first_session, heeded_call}
+use Rattle.sl_leases.specs.LeaseWork.{leader_for, lease_next}
+use Rattle.sl_leases.specs.Leases.{LeaseKnown, known_of, lver_written}
+use Rattle.sl_leases.specs.declared.lease.Aim.{Aim}
+use Rattle.sl_leases.specs.declared.lease.LeaseNext.{LeaseNext}
+use Rattle.sl_sector.specs.declared.sector.Block.{Block}
+use Rattle.sl_sector.specs.declared.sector.Leader.{Leader}
 use Rattle.sl_sector.specs.declared.sector.Owner.{Owner}
-use Rattle.sl_sector.specs.declared.sector.Rec.TheVariants.{LeaderIs}
+use Rattle.sl_sector.specs.declared.sector.Rec.TheVariants.{BlockIs, LeaderIs}
 use Rattle.sl_trace.specs.declared.command.ResourceArg.{ResourceArg}
-use Rattle.sl_trace.specs.Traces.{Setting, Submitted}
+use Rattle.sl_trace.specs.Traces.{Setting, Submitted, Trace}
 use Rattle.sl_trace.specs.declared.effects.Call.{Call}
 use Rattle.sl_trace.specs.declared.effects.Grant.{Grant}
 use Rattle.sl_trace.specs.declared.effects.LeaseStep.TheVariants.{FreeLeader, ReadArea}
+use Rattle.sl_trace.specs.declared.effects.LeaseStep.{LeaseStep}
 use Rattle.sl_trace.specs.declared.effects.Mode.TheVariants.{Exclusive}
 use Rattle.sl_trace.specs.declared.effects.Op.TheVariants.{ReadSectors, WriteRecord}
 use Rattle.sl_trace.specs.declared.effects.Purpose.TheVariants.{Lease}
 use Rattle.sl_trace.specs.declared.effects.Work.TheVariants.{ForJob}
+use Rattle.sl_trace.specs.declared.input.Answer.{Answer}
 use Rattle.sl_trace.specs.declared.input.Given.{Given}
 use Rattle.std.specs.Prelude.{Bool, List, None, Option, Some, [], false, nat_lt, true, ℕ, ◌&&◌, ◌+◌, ◌==◌, ◌∷◌}
 
@@ -79,3 +85,38 @@ last_write st g r number job lver ms =
       offset = leader_offset r.offset;
       op = WriteRecord (LeaderIs (leader_for (record { layout = st.layout; lockspace = g.lockspace }) (first_known st g ms) false lver));
     }
+
+-- What comes next for the lease after the answer of the work's call.
+abbrev pub first_next : Setting → Given → Trace → Doing → List Submitted → Aim → Answer → LeaseNext
+first_next st g es d answered aim a =
+    lease_next (record { layout = st.layout; lockspace = g.lockspace }) (first_known st g (heeded_call es g a d.call ∷ answered)) aim d.call.call.number
+    (lver_written d.call) d.step a
+
+-- A read of all hosts' blocks.
+abbrev pub blocks_read : Setting → ResourceArg → ℕ → ℕ → LeaseStep → Call
+blocks_read st r number job step =
+    record {
+      number = number;
+      session = 0;
+      purpose = Lease (ForJob job) step;
+      path = r.path;
+      offset = block_offset st.layout r.offset 1;
+      op = ReadSectors st.layout.hosts;
+    }
+
+-- A write of the own block.
+abbrev pub own_write : Setting → Given → ResourceArg → ℕ → ℕ → LeaseStep → Block → Call
+own_write st g r number job step b =
+    record {
+      number = number;
+      session = 0;
+      purpose = Lease (ForJob job) step;
+      path = r.path;
+      offset = block_offset st.layout r.offset g.id;
+      op = WriteRecord (BlockIs b);
+    }
+
+-- A write of the leader.
+abbrev pub leader_write : ResourceArg → ℕ → ℕ → LeaseStep → Leader → Call
+leader_write r number job step l =
+    record { number = number; session = 0; purpose = Lease (ForJob job) step; path = r.path; offset = leader_offset r.offset; op = WriteRecord (LeaderIs l) }
