@@ -2,29 +2,33 @@
 use Rattle.sl_due.specs.Due.{after_input, before_input, due, due_step}
 use Rattle.sl_due.specs.DueAnswers.{after_answer, after_answer_of}
 use Rattle.sl_due.specs.DueInputs.{take_input}
-use Rattle.sl_due.specs.DueLease.{after_lease_answer, carry_lease, next_of_lease}
+use Rattle.sl_due.specs.DueLease.{after_lease_answer, carry_lease, grant_for, next_of_lease}
 use Rattle.sl_due.specs.DueWake.{finish}
 use Rattle.sl_due.specs.Steps.{Step, begin_step, seen, when, with_some}
 use Rattle.sl_host.proofs.CalmLaws.{append_none, is_present_first, sessions_first}
 use Rattle.sl_host.proofs.Entries.{runs_on}
 use Rattle.sl_host.proofs.Knowledge.{known_first}
 use Rattle.sl_host.proofs.Spots.{is_even, spot_first}
-use Rattle.sl_host.proofs.Standing.{held_stays, mine_told, quiet_stands, runs, told_calls}
+use Rattle.sl_host.proofs.Standing.{held_stays, mine_told, quiet_stands, runs, told_calls, told_same}
 use Rattle.sl_host.proofs.Stillness.{nothing_after, nothing_before}
 use Rattle.sl_host.specs.FirstPath.{Doing, IsCalm, IsDoing, IsFirst, Kept, Stands, calls_kept, first_effects, first_entry, first_session, heeded_call, is_first_call, one_reply, open_kept}
-use Rattle.sl_host.specs.FirstSteps.{blocks_read, first_grant, first_known, first_next, leader_write, own_write}
+use Rattle.sl_host.specs.FirstSteps.{Further, Reads_phase1, Reads_phase2, Writes_block, Writes_leader, blocks_read, first_grant, first_known, first_next, further_call, leader_write, next_of, own_write, step_of}
 use Rattle.sl_leases.specs.Jobs.{aim_of, aim_of_command, command_numbered, command_of}
 use Rattle.sl_leases.specs.LeaseWork.{lease_next, lease_place}
-use Rattle.sl_leases.specs.Leases.{LeaseKnown, is_on, known, lver_written, spot_of, spot_of_call}
+use Rattle.sl_leases.specs.Leases.{LeaseKnown, is_on, known, lease_step, lver_written, spot_of, spot_of_call}
+use Rattle.sl_leases.specs.declared.lease.Aim.TheVariants.{Acquires}
 use Rattle.sl_leases.specs.declared.lease.Aim.{Aim}
+use Rattle.sl_leases.specs.declared.lease.LeaseNext.TheVariants.{AnswerJob, GrantJob}
 use Rattle.sl_leases.specs.declared.lease.LeaseNext.{LeaseNext}
 use Rattle.sl_sessions.specs.Sessions.{Session, delta_written, is_present, session_numbered}
-use Rattle.sl_trace.specs.Traces.{Job, Setting, Submitted, Trace, answered_in, call_numbered, holdings, is_running, jobs, no_effects, submitted}
+use Rattle.sl_trace.specs.Traces.{Job, Setting, Submitted, Trace, answered_in, call_numbered, holdings, is_running, jobs, next_call, no_effects, submitted}
+use Rattle.sl_trace.specs.declared.command.Command.TheVariants.{Acquire}
 use Rattle.sl_trace.specs.declared.command.Command.{Command}
 use Rattle.sl_trace.specs.declared.command.ResourceArg.{ResourceArg}
 use Rattle.sl_trace.specs.declared.effects.Effects.{Effects}
 use Rattle.sl_trace.specs.declared.effects.Entry.{Entry}
 use Rattle.sl_trace.specs.declared.effects.Grant.{Grant}
+use Rattle.sl_trace.specs.declared.effects.Mode.TheVariants.{Exclusive}
 use Rattle.sl_trace.specs.declared.effects.Purpose.TheVariants.{Lease}
 use Rattle.sl_trace.specs.declared.effects.Purpose.{Purpose}
 use Rattle.sl_trace.specs.declared.effects.Spot.{Spot}
@@ -32,11 +36,12 @@ use Rattle.sl_trace.specs.declared.effects.Work.TheVariants.{ForJob}
 use Rattle.sl_trace.specs.declared.input.Answer.{Answer}
 use Rattle.sl_trace.specs.declared.input.Given.{Given}
 use Rattle.sl_trace.specs.declared.input.Input.TheVariants.{Answer as Told, Wake}
+use Rattle.sl_trace.specs.declared.reply.Reply.TheVariants.{Granted}
 use Rattle.sl_trace.specs.declared.reply.Reply.{Reply}
 use Rattle.sl_words.proofs.WordLaws.{and_true}
 use Rattle.std.proofs.Common.{ap, arith, refl, subst, sym, tests, ◌∙◌}
 use Rattle.std.specs.List.{list_all}
-use Rattle.std.specs.Prelude.{Bool, List, None, Option, Some, false, find, if◌then◌else◌, is_none, option_and_then, slice_get, true, [], ℕ, ◌&&◌, ◌++◌, ◌==◌, ◌∷◌, ◌≡◌}
+use Rattle.std.specs.Prelude.{Bool, List, None, Option, Some, [], false, find, if◌then◌else◌, is_none, is_some, option_and_then, slice_get, true, ℕ, ◌&&◌, ◌++◌, ◌==◌, ◌∷◌, ◌≡◌}
 
 same_number : (n : ℕ) → (n == n) ≡ true
 same_number n = grind (arith, tests)
@@ -120,3 +125,59 @@ answer_due st g r k es f h d busy free doing a aim is fx carried calm =
     (ap (λ x. finish (take_input (Told d.call.call.number a) x)) (nothing_before st g r k es f h)
     ∙ ap (λ x. finish x) (answer_carried st g r k es f h d busy free doing a aim is ∙ carried)
     ∙ nothing_after g r (told_step st g es d a fx) f calm)
+
+-- ---- carrying out what comes next
+
+-- The number of the next call, once the answer is seen.
+number_seen : (st : Setting) (g : Given) (r : ResourceArg) (k : Kept) (es : Trace) → Stands st g r k es → (d : Doing) → k.work ≡ Some d → IsDoing st g es d → (a : Answer)
+    → next_call st (seen (told_step st g es d a no_effects)) ≡ k.next_call
+number_seen st g r k es h d busy doing a =
+    told_same st es (seen (told_step st g es d a no_effects)) k d (heeded_call es g a d.call ∷ k.answered) (seen_calls st g r k es h d busy doing a) refl
+    (h.calls ∙ ap (λ w. open_kept w ++ k.answered) busy) h.call_number
+
+-- The step with one further call.
+carried_call : (st : Setting) (g : Given) (r : ResourceArg) (es : Trace) (d : Doing) (a : Answer) (next : Further)
+    → carry_lease (first_session g) (spot_of r) (ForJob d.job.number) (next_of next) (told_step st g es d a no_effects)
+        ≡ told_step st g es d a (first_effects [] [] [] (further_call st g r (next_call st (seen (told_step st g es d a no_effects))) d.job.number next ∷ []))
+unfolding carry_lease
+carried_call st g r es d a Reads_phase1 = refl
+carried_call st g r es d a Reads_phase2 = refl
+carried_call st g r es d a (Writes_block step b) = refl
+carried_call st g r es d a (Writes_leader step l) = refl
+
+further_lease : (st : Setting) (g : Given) (r : ResourceArg) (number job : ℕ) (next : Further) → (further_call st g r number job next).purpose ≡ Lease (ForJob job) (step_of next)
+further_lease st g r number job Reads_phase1 = refl
+further_lease st g r number job Reads_phase2 = refl
+further_lease st g r number job (Writes_block step b) = refl
+further_lease st g r number job (Writes_leader step l) = refl
+
+pub further_due : (st : Setting) (g : Given) (r : ResourceArg) (k : Kept) (es : Trace) → IsFirst st g r → Stands st g r k es → (d : Doing) → k.work ≡ Some d → k.held ≡ [] → IsDoing st g es d
+    → (a : Answer) (aim : Aim) → aim_of_command d.command ≡ Some aim → (next : Further) → first_next st g es d k.answered aim a ≡ next_of next
+    → due st es g.renewed (Told d.call.call.number a) ≡ first_effects [] [] [] (further_call st g r k.next_call d.job.number next ∷ [])
+further_due st g r k es f h d busy free doing a aim is next comes =
+    answer_due st g r k es f h d busy free doing a aim is (first_effects [] [] [] (further_call st g r k.next_call d.job.number next ∷ []))
+    (ap (λ nx. carry_lease (first_session g) (spot_of r) (ForJob d.job.number) nx (told_step st g es d a no_effects)) comes
+    ∙ carried_call st g r es d a next
+    ∙ ap (λ n. told_step st g es d a (first_effects [] [] [] (further_call st g r n d.job.number next ∷ []))) (number_seen st g r k es h d busy doing a))
+    (record { still = refl; unmoved = refl; leases = ap (λ (p : Purpose). is_some (lease_step p) && true) (further_lease st g r k.next_call d.job.number next) }, h.calm)
+
+pub reply_due : (st : Setting) (g : Given) (r : ResourceArg) (k : Kept) (es : Trace) → IsFirst st g r → Stands st g r k es → (d : Doing) → k.work ≡ Some d → k.held ≡ [] → IsDoing st g es d
+    → (a : Answer) (aim : Aim) → aim_of_command d.command ≡ Some aim → (why : Reply) → first_next st g es d k.answered aim a ≡ AnswerJob why
+    → due st es g.renewed (Told d.call.call.number a) ≡ first_effects [] [] (one_reply d.job.number why) []
+unfolding carry_lease
+reply_due st g r k es f h d busy free doing a aim is why comes =
+    answer_due st g r k es f h d busy free doing a aim is (first_effects [] [] (one_reply d.job.number why) [])
+    (ap (λ nx. carry_lease (first_session g) (spot_of r) (ForJob d.job.number) nx (told_step st g es d a no_effects)) comes)
+    (record { still = refl; unmoved = refl; leases = refl }, h.calm)
+
+pub grant_due : (st : Setting) (g : Given) (r : ResourceArg) (k : Kept) (es : Trace) → IsFirst st g r → Stands st g r k es → (d : Doing) → k.work ≡ Some d → k.held ≡ [] → IsDoing st g es d
+    → (a : Answer) (p lver : ℕ) → d.command ≡ Acquire r false p → first_next st g es d k.answered (Acquires Exclusive) a ≡ GrantJob Exclusive lver
+    → due st es g.renewed (Told d.call.call.number a) ≡ first_effects [] (first_grant g r p lver ∷ []) (one_reply d.job.number (Granted lver)) []
+unfolding carry_lease
+grant_due st g r k es f h d busy free doing a p lver is comes =
+    let y : Step = told_step st g es d a no_effects in
+    answer_due st g r k es f h d busy free doing a (Acquires Exclusive) (ap (λ c. aim_of_command c) is) (first_effects [] (first_grant g r p lver ∷ []) (one_reply d.job.number (Granted lver)) [])
+    (ap (λ nx. carry_lease (first_session g) (spot_of r) (ForJob d.job.number) nx y) comes
+    ∙ ap (λ js. with_some (option_and_then command_of (find (λ j. j.number == d.job.number) js)) (λ c. grant_for (first_session g) d.job.number c Exclusive lver) y) (append_none (jobs st es))
+    ∙ ap (λ o. with_some o (λ c. grant_for (first_session g) d.job.number c Exclusive lver) y) (doing.commanded ∙ ap (λ c. Some c) is))
+    (record { still = refl; unmoved = refl; leases = refl }, h.calm)

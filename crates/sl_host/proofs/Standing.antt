@@ -219,7 +219,7 @@ told_count st es after k d ms now one was number =
     let b : length (submitted es) ≡ length (d.call ∷ k.answered) = ap (λ (xs : List Submitted). length xs) was in
     omega (arith, a, b, one, number)
 
-told_same : (st : Setting) (es after : Trace) (k : Kept) (d : Doing) (ms : List Submitted) → submitted after ≡ ms → length ms ≡ length (d.call ∷ k.answered)
+pub told_same : (st : Setting) (es after : Trace) (k : Kept) (d : Doing) (ms : List Submitted) → submitted after ≡ ms → length ms ≡ length (d.call ∷ k.answered)
     → submitted es ≡ d.call ∷ k.answered → next_call st es ≡ k.next_call → next_call st after ≡ k.next_call
 told_same st es after k d ms now one was number =
     let a : length (submitted after) ≡ length ms = ap (λ (xs : List Submitted). length xs) now in

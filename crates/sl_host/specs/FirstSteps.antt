@@ -5,6 +5,7 @@ use Rattle.sl_host.specs.FirstPath.{Doing, Kept, first_session, heeded_call}
 use Rattle.sl_leases.specs.LeaseWork.{leader_for, lease_next}
 use Rattle.sl_leases.specs.Leases.{LeaseKnown, known_of, lver_written}
 use Rattle.sl_leases.specs.declared.lease.Aim.{Aim}
+use Rattle.sl_leases.specs.declared.lease.LeaseNext.TheVariants.{ReadFor, WriteBlock, WriteLeader}
 use Rattle.sl_leases.specs.declared.lease.LeaseNext.{LeaseNext}
 use Rattle.sl_sector.specs.declared.sector.Block.{Block}
 use Rattle.sl_sector.specs.declared.sector.Leader.{Leader}
@@ -14,7 +15,7 @@ use Rattle.sl_trace.specs.declared.command.ResourceArg.{ResourceArg}
 use Rattle.sl_trace.specs.Traces.{Setting, Submitted, Trace}
 use Rattle.sl_trace.specs.declared.effects.Call.{Call}
 use Rattle.sl_trace.specs.declared.effects.Grant.{Grant}
-use Rattle.sl_trace.specs.declared.effects.LeaseStep.TheVariants.{FreeLeader, ReadArea}
+use Rattle.sl_trace.specs.declared.effects.LeaseStep.TheVariants.{FreeLeader, Phase1Read, Phase2Read, ReadArea}
 use Rattle.sl_trace.specs.declared.effects.LeaseStep.{LeaseStep}
 use Rattle.sl_trace.specs.declared.effects.Mode.TheVariants.{Exclusive}
 use Rattle.sl_trace.specs.declared.effects.Op.TheVariants.{ReadSectors, WriteRecord}
@@ -120,3 +121,31 @@ own_write st g r number job step b =
 abbrev pub leader_write : ResourceArg → ℕ → ℕ → LeaseStep → Leader → Call
 leader_write r number job step l =
     record { number = number; session = 0; purpose = Lease (ForJob job) step; path = r.path; offset = leader_offset r.offset; op = WriteRecord (LeaderIs l) }
+
+-- The call that comes next for a lease.
+pub data Further : Type 0 where
+  Reads_phase1 : Further
+  Reads_phase2 : Further
+  Writes_block : LeaseStep → Block → Further
+  Writes_leader : LeaseStep → Leader → Further
+
+-- As the lease decides it.
+abbrev pub next_of : Further → LeaseNext
+next_of Reads_phase1 = ReadFor Phase1Read
+next_of Reads_phase2 = ReadFor Phase2Read
+next_of (Writes_block step b) = WriteBlock step b
+next_of (Writes_leader step l) = WriteLeader step l
+
+-- Its step.
+abbrev pub step_of : Further → LeaseStep
+step_of Reads_phase1 = Phase1Read
+step_of Reads_phase2 = Phase2Read
+step_of (Writes_block step b) = step
+step_of (Writes_leader step l) = step
+
+-- The call itself.
+abbrev pub further_call : Setting → Given → ResourceArg → ℕ → ℕ → Further → Call
+further_call st g r number job Reads_phase1 = blocks_read st r number job Phase1Read
+further_call st g r number job Reads_phase2 = blocks_read st r number job Phase2Read
+further_call st g r number job (Writes_block step b) = own_write st g r number job step b
+further_call st g r number job (Writes_leader step l) = leader_write r number job step l
