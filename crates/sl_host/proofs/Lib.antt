@@ -10,3 +10,4 @@ pub mod Decided
 pub mod Knowledge
 pub mod Lines
 pub mod Answering
+pub mod Liveness

@@ -3,27 +3,31 @@ use Rattle.sl_area.specs.Places.{block_offset, leader_offset}
 use Rattle.sl_due.specs.DueLease.{grant_of}
 use Rattle.sl_host.specs.FirstPath.{Doing, Kept, first_session, heeded_call}
 use Rattle.sl_leases.specs.LeaseWork.{leader_for, lease_next}
-use Rattle.sl_leases.specs.Leases.{LeaseKnown, known_of, lver_written}
+use Rattle.sl_leases.specs.Leases.{LeaseKnown, block_submitted, known_of, lver_written}
 use Rattle.sl_leases.specs.declared.lease.Aim.{Aim}
-use Rattle.sl_leases.specs.declared.lease.LeaseNext.TheVariants.{ReadFor, WriteBlock, WriteLeader}
+use Rattle.sl_leases.specs.declared.lease.LeaseNext.TheVariants.{AnswerJob, GrantJob, ReadFor, WriteBlock, WriteLeader}
 use Rattle.sl_leases.specs.declared.lease.LeaseNext.{LeaseNext}
 use Rattle.sl_sector.specs.declared.sector.Block.{Block}
 use Rattle.sl_sector.specs.declared.sector.Leader.{Leader}
 use Rattle.sl_sector.specs.declared.sector.Owner.{Owner}
 use Rattle.sl_sector.specs.declared.sector.Rec.TheVariants.{BlockIs, LeaderIs}
+use Rattle.sl_trace.specs.declared.command.Command.TheVariants.{Acquire, Release}
+use Rattle.sl_trace.specs.declared.command.Command.{Command}
 use Rattle.sl_trace.specs.declared.command.ResourceArg.{ResourceArg}
-use Rattle.sl_trace.specs.Traces.{Setting, Submitted, Trace}
+use Rattle.sl_trace.specs.Traces.{Setting, Submitted, Trace, is_before_input}
 use Rattle.sl_trace.specs.declared.effects.Call.{Call}
 use Rattle.sl_trace.specs.declared.effects.Grant.{Grant}
-use Rattle.sl_trace.specs.declared.effects.LeaseStep.TheVariants.{FreeLeader, Phase1Read, Phase2Read, ReadArea}
+use Rattle.sl_trace.specs.declared.effects.LeaseStep.TheVariants.{FreeLeader, Phase1Read, Phase1Write, Phase2Read, Phase2Write, ReadArea, TakeLeader}
 use Rattle.sl_trace.specs.declared.effects.LeaseStep.{LeaseStep}
 use Rattle.sl_trace.specs.declared.effects.Mode.TheVariants.{Exclusive}
 use Rattle.sl_trace.specs.declared.effects.Op.TheVariants.{ReadSectors, WriteRecord}
+use Rattle.sl_trace.specs.declared.effects.Op.{Op}
 use Rattle.sl_trace.specs.declared.effects.Purpose.TheVariants.{Lease}
 use Rattle.sl_trace.specs.declared.effects.Work.TheVariants.{ForJob}
 use Rattle.sl_trace.specs.declared.input.Answer.{Answer}
 use Rattle.sl_trace.specs.declared.input.Given.{Given}
-use Rattle.std.specs.Prelude.{Bool, List, None, Option, Some, [], false, nat_lt, true, ℕ, ◌&&◌, ◌+◌, ◌==◌, ◌∷◌}
+use Rattle.sl_trace.specs.declared.reply.Reply.{Reply}
+use Rattle.std.specs.Prelude.{Bool, List, None, Option, Some, [], false, nat_lt, true, ℕ, ◌&&◌, ◌+◌, ◌==◌, ◌∷◌, ◌≡◌}
 
 -- Where the host stands.
 pub data Phase : Type 0 where
@@ -149,3 +153,24 @@ further_call st g r number job Reads_phase1 = blocks_read st r number job Phase1
 further_call st g r number job Reads_phase2 = blocks_read st r number job Phase2Read
 further_call st g r number job (Writes_block step b) = own_write st g r number job step b
 further_call st g r number job (Writes_leader step l) = leader_write r number job step l
+
+-- At which step a job may be, and for what: an acquire reads the area, writes and reads in the two phases and takes the leader; a release
+-- frees the leader. From phase 1's write on the own block is known.
+pub data Course (st : Setting) (r : ResourceArg) (answered : List Submitted) : Command → LeaseStep → Op → Type 0 where
+  Reading_area : (p : ℕ) → Course st r answered (Acquire r false p) (ReadArea r.name) (ReadSectors (st.layout.hosts + 2))
+  Writing_phase1 : (p : ℕ) (b : Block) → Course st r answered (Acquire r false p) Phase1Write (WriteRecord (BlockIs b))
+  Reading_phase1 : (p : ℕ) (b : Block) → block_submitted answered ≡ Some b → Course st r answered (Acquire r false p) Phase1Read (ReadSectors st.layout.hosts)
+  Writing_phase2 : (p : ℕ) (b : Block) → Course st r answered (Acquire r false p) Phase2Write (WriteRecord (BlockIs b))
+  Reading_phase2 : (p : ℕ) (b : Block) → block_submitted answered ≡ Some b → Course st r answered (Acquire r false p) Phase2Read (ReadSectors st.layout.hosts)
+  Taking : (p : ℕ) (l : Leader) → Course st r answered (Acquire r false p) TakeLeader (WriteRecord (LeaderIs l))
+  Freeing : (p : ℕ) (l : Leader) → Course st r answered (Release r p) FreeLeader (WriteRecord (LeaderIs l))
+
+-- What an answer may lead to: a call that goes on with the job, a reply, or the grant.
+pub data Live (r : ResourceArg) : Command → LeaseNext → Type 0 where
+  Goes_on_phase1 : (p : ℕ) → Live r (Acquire r false p) (ReadFor Phase1Read)
+  Goes_on_phase2 : (p : ℕ) → Live r (Acquire r false p) (ReadFor Phase2Read)
+  Begins_phase1 : (p : ℕ) (b : Block) → Live r (Acquire r false p) (WriteBlock Phase1Write b)
+  Begins_phase2 : (p : ℕ) (b : Block) → Live r (Acquire r false p) (WriteBlock Phase2Write b)
+  Takes : (p : ℕ) (l : Leader) → Live r (Acquire r false p) (WriteLeader TakeLeader l)
+  Grants : (p lver : ℕ) → Live r (Acquire r false p) (GrantJob Exclusive lver)
+  Replies_late : (c : Command) (why : Reply) → is_before_input why ≡ false → Live r c (AnswerJob why)
