@@ -11,3 +11,4 @@ pub mod Knowledge
 pub mod Lines
 pub mod Answering
 pub mod Liveness
+pub mod Courses
