@@ -77,7 +77,7 @@ own_by : (id : ℕ) (own : Option Block) (read : List (Option Block)) → ((b : 
 own_by id None read there = there
 own_by id (Some b) read there = (b, refl)
 
-host_in : (hosts id : ℕ) → IsTrue (is_in_range 1 hosts id) → (1 ≤ id) × (id ≤ hosts)
+pub host_in : (hosts id : ℕ) → IsTrue (is_in_range 1 hosts id) → (1 ≤ id) × (id ≤ hosts)
 host_in hosts id h = (grind (arith, tests), grind (arith, tests))
 
 -- ---- what is known after an answer

@@ -12,3 +12,4 @@ pub mod Lines
 pub mod Answering
 pub mod Liveness
 pub mod Courses
+pub mod FirstLaws

@@ -1,7 +1,7 @@
 -- What a host of the first path does: it is idle, it holds the resource, or it works for a job.
 use Rattle.sl_area.specs.Places.{block_offset, leader_offset}
 use Rattle.sl_due.specs.DueLease.{grant_of}
-use Rattle.sl_host.specs.FirstPath.{Doing, Kept, first_session, heeded_call}
+use Rattle.sl_host.specs.FirstPath.{Doing, Kept, Stands, first_session, heeded_call}
 use Rattle.sl_leases.specs.LeaseWork.{leader_for, lease_next}
 use Rattle.sl_leases.specs.Leases.{LeaseKnown, block_submitted, known_of, lver_written}
 use Rattle.sl_leases.specs.declared.lease.Aim.{Aim}
@@ -14,7 +14,7 @@ use Rattle.sl_sector.specs.declared.sector.Rec.TheVariants.{BlockIs, LeaderIs}
 use Rattle.sl_trace.specs.declared.command.Command.TheVariants.{Acquire, Release}
 use Rattle.sl_trace.specs.declared.command.Command.{Command}
 use Rattle.sl_trace.specs.declared.command.ResourceArg.{ResourceArg}
-use Rattle.sl_trace.specs.Traces.{Setting, Submitted, Trace, is_before_input}
+use Rattle.sl_trace.specs.Traces.{Setting, Submitted, Trace, is_before_input, new_call}
 use Rattle.sl_trace.specs.declared.effects.Call.{Call}
 use Rattle.sl_trace.specs.declared.effects.Grant.{Grant}
 use Rattle.sl_trace.specs.declared.effects.LeaseStep.TheVariants.{FreeLeader, Phase1Read, Phase1Write, Phase2Read, Phase2Write, ReadArea, TakeLeader}
@@ -27,7 +27,7 @@ use Rattle.sl_trace.specs.declared.effects.Work.TheVariants.{ForJob}
 use Rattle.sl_trace.specs.declared.input.Answer.{Answer}
 use Rattle.sl_trace.specs.declared.input.Given.{Given}
 use Rattle.sl_trace.specs.declared.reply.Reply.{Reply}
-use Rattle.std.specs.Prelude.{Bool, List, None, Option, Some, [], false, nat_lt, true, ℕ, ◌&&◌, ◌+◌, ◌==◌, ◌∷◌, ◌≡◌}
+use Rattle.std.specs.Prelude.{Bool, List, None, Option, Some, [], false, length, nat_lt, true, ℕ, ◌&&◌, ◌+◌, ◌==◌, ◌∷◌, ◌≡◌}
 
 -- Where the host stands.
 pub data Phase : Type 0 where
@@ -174,3 +174,19 @@ pub data Live (r : ResourceArg) : Command → LeaseNext → Type 0 where
   Takes : (p : ℕ) (l : Leader) → Live r (Acquire r false p) (WriteLeader TakeLeader l)
   Grants : (p lver : ℕ) → Live r (Acquire r false p) (GrantJob Exclusive lver)
   Replies_late : (c : Command) (why : Reply) → is_before_input why ≡ false → Live r c (AnswerJob why)
+
+-- What is true of the step at which the host is.
+abbrev pub OnCourse : Setting → ResourceArg → List Submitted → Phase → Type 0
+OnCourse st r answered Idle = Unit {0}
+OnCourse st r answered (Holds p lver) = Unit {0}
+OnCourse st r answered (Works d) = Course st r answered d.command d.step d.call.call.op
+
+-- A host with these numbers, at this phase, stands for the trace.
+pub record FirstStands (st : Setting) (g : Given) (r : ResourceArg) (call job : ℕ) (phase : Phase) (answered : List Submitted) (es : Trace) : Type 0 where
+  pub stands : Stands st g r (kept_in g r call job phase answered) es
+  pub course : OnCourse st r answered phase
+
+-- The work once a further call of it was made.
+abbrev pub further_doing : Setting → Given → ResourceArg → ℕ → Trace → Doing → Further → Doing
+further_doing st g r number es d next =
+    record d { step = step_of next; call = new_call (length es) g.renewed (further_call st g r number d.job.number next) }

@@ -1,0 +1,54 @@
+-- A host of the first path: what each input makes due, and that it stands for the trace with its entry.
+use Rattle.sl_area.specs.Places.{block_offset, in_area, leader_offset}
+use Rattle.sl_due.specs.Due.{due}
+use Rattle.sl_host.proofs.Answering.{further_due, grant_due, reply_due}
+use Rattle.sl_host.proofs.Courses.{host_in}
+use Rattle.sl_host.proofs.Standing.{told_done, told_more}
+use Rattle.sl_host.specs.FirstPath.{Doing, IsDoing, IsFirst, IsNextCall, Kept, Stands, first_effects, first_entry, heeded_call, is_first_call, one_reply}
+use Rattle.sl_host.specs.FirstSteps.{Course, FirstStands, Further, Holds, Idle, OnCourse, Phase, Reads_phase1, Reads_phase2, Works, Writes_block, Writes_leader, first_grant, first_next, further_call, further_doing, kept_in, next_of, step_of}
+use Rattle.sl_leases.specs.Jobs.{aim_of_command}
+use Rattle.sl_leases.specs.Leases.{is_on, spot_of}
+use Rattle.sl_leases.specs.declared.lease.Aim.{Aim}
+use Rattle.sl_leases.specs.declared.lease.LeaseNext.TheVariants.{AnswerJob}
+use Rattle.sl_leases.specs.declared.lease.LeaseNext.{LeaseNext}
+use Rattle.sl_trace.specs.Traces.{Setting, Submitted, Trace, is_before_input, new_call}
+use Rattle.sl_trace.specs.declared.command.ResourceArg.{ResourceArg}
+use Rattle.sl_trace.specs.declared.input.Answer.{Answer}
+use Rattle.sl_trace.specs.declared.input.Given.{Given}
+use Rattle.sl_trace.specs.declared.input.Input.TheVariants.{Answer as Told, Line}
+use Rattle.sl_trace.specs.declared.reply.Reply.{Reply}
+use Rattle.std.proofs.Common.{ap, arith, refl, subst, sym, tests, ◌∙◌}
+use Rattle.std.proofs.Math.Nat.{mul-le-mul_left}
+use Rattle.std.proofs.lemmas.Slice.Eq.{bytes_eq-Decides}
+use Rattle.std.specs.Prelude.{Bool, List, Some, bytes_eq, false, nat_le, nat_lt, true, ℕ, ◌&&◌, ◌*◌, ◌+◌, ◌<◌, ◌==◌, ◌∷◌, ◌≡◌, ◌≤◌}
+
+-- ---- where calls stand
+
+within_area : (base at area : ℕ) → base ≤ at → at < base + area → (nat_le base at && nat_lt at (base + area)) ≡ true
+within_area base at area low high = grind (arith, tests)
+
+block_within : (sector hosts id area base : ℕ) → 1 ≤ sector → id ≤ hosts → sector * (hosts + 2) ≤ area → base + sector * (id + 1) < base + area
+block_within sector hosts id area base some le room =
+    let most : sector * (id + 2) ≤ sector * (hosts + 2) = mul-le-mul_left sector (omega (arith, le)) in
+    omega (arith, some, most, room)
+
+leader_within : (sector hosts area base : ℕ) → 1 ≤ sector → sector * (hosts + 2) ≤ area → base < base + area
+leader_within sector hosts area base some room =
+    let most : sector * 1 ≤ sector * (hosts + 2) = mul-le-mul_left sector (omega arith) in
+    omega (arith, some, most, room)
+
+on_area : (st : Setting) (r : ResourceArg) (at : ℕ) → r.offset ≤ at → at < r.offset + st.layout.area → (bytes_eq r.path r.path && in_area st.layout r.offset at) ≡ true
+on_area st r at low high = rw ((bytes_eq-Decides r.path r.path).1 refl) (within_area r.offset at st.layout.area low high)
+
+one_host : (st : Setting) (g : Given) (r : ResourceArg) → IsFirst st g r → 1 ≤ st.layout.hosts
+one_host st g r f = let h = host_in st.layout.hosts g.id f.host in omega (arith, h)
+
+further_placed : (st : Setting) (g : Given) (r : ResourceArg) → IsFirst st g r → (number job : ℕ) (next : Further) → is_first_call st r (new_call 0 0 (further_call st g r number job next)) ≡ true
+further_placed st g r f number job Reads_phase1 =
+    rw (on_area st r (block_offset st.layout r.offset 1) (omega arith) (block_within st.layout.sector st.layout.hosts 1 st.layout.area r.offset f.sector (one_host st g r f) f.roomy)) refl
+further_placed st g r f number job Reads_phase2 =
+    rw (on_area st r (block_offset st.layout r.offset 1) (omega arith) (block_within st.layout.sector st.layout.hosts 1 st.layout.area r.offset f.sector (one_host st g r f) f.roomy)) refl
+further_placed st g r f number job (Writes_block step b) =
+    rw (on_area st r (block_offset st.layout r.offset g.id) (omega arith) (block_within st.layout.sector st.layout.hosts g.id st.layout.area r.offset f.sector (host_in st.layout.hosts g.id f.host).1 f.roomy)) refl
+further_placed st g r f number job (Writes_leader step l) =
+    rw (on_area st r (leader_offset r.offset) (omega arith) (leader_within st.layout.sector st.layout.hosts st.layout.area r.offset f.sector f.roomy)) refl
