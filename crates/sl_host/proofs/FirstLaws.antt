@@ -2,17 +2,21 @@
 use Rattle.sl_area.specs.Places.{block_offset, in_area, leader_offset}
 use Rattle.sl_due.specs.Due.{due}
 use Rattle.sl_host.proofs.Answering.{further_due, grant_due, reply_due}
-use Rattle.sl_host.proofs.Courses.{host_in}
+use Rattle.sl_host.proofs.Courses.{aim_for, course_live, host_in}
 use Rattle.sl_host.proofs.Standing.{told_done, told_more}
 use Rattle.sl_host.specs.FirstPath.{Doing, IsDoing, IsFirst, IsNextCall, Kept, Stands, first_effects, first_entry, heeded_call, is_first_call, one_reply}
-use Rattle.sl_host.specs.FirstSteps.{Course, FirstStands, Further, Holds, Idle, OnCourse, Phase, Reads_phase1, Reads_phase2, Works, Writes_block, Writes_leader, first_grant, first_next, further_call, further_doing, kept_in, next_of, step_of}
+use Rattle.sl_host.specs.FirstSteps.{Course, FirstStands, Freeing, Further, Holds, Idle, OnCourse, Phase, Reading_area, Reading_phase1, Reading_phase2, Reads_phase1, Reads_phase2, Taking, ToldFirst, Works, Writes_block, Writes_leader, Writing_phase1, Writing_phase2, first_grant, first_next, further_call, kept_in, next_of, step_of, told_effects, told_number, told_phase}
 use Rattle.sl_leases.specs.Jobs.{aim_of_command}
 use Rattle.sl_leases.specs.Leases.{is_on, spot_of}
 use Rattle.sl_leases.specs.declared.lease.Aim.{Aim}
 use Rattle.sl_leases.specs.declared.lease.LeaseNext.TheVariants.{AnswerJob}
 use Rattle.sl_leases.specs.declared.lease.LeaseNext.{LeaseNext}
 use Rattle.sl_trace.specs.Traces.{Setting, Submitted, Trace, is_before_input, new_call}
+use Rattle.sl_trace.specs.declared.command.Command.{Command}
 use Rattle.sl_trace.specs.declared.command.ResourceArg.{ResourceArg}
+use Rattle.sl_trace.specs.declared.effects.LeaseStep.TheVariants.{Phase1Read, Phase2Read}
+use Rattle.sl_trace.specs.declared.effects.LeaseStep.{LeaseStep}
+use Rattle.sl_trace.specs.declared.effects.Op.{Op}
 use Rattle.sl_trace.specs.declared.input.Answer.{Answer}
 use Rattle.sl_trace.specs.declared.input.Given.{Given}
 use Rattle.sl_trace.specs.declared.input.Input.TheVariants.{Answer as Told, Line}
@@ -52,3 +56,57 @@ further_placed st g r f number job (Writes_block step b) =
     rw (on_area st r (block_offset st.layout r.offset g.id) (omega arith) (block_within st.layout.sector st.layout.hosts g.id st.layout.area r.offset f.sector (host_in st.layout.hosts g.id f.host).1 f.roomy)) refl
 further_placed st g r f number job (Writes_leader step l) =
     rw (on_area st r (leader_offset r.offset) (omega arith) (leader_within st.layout.sector st.layout.hosts st.layout.area r.offset f.sector f.roomy)) refl
+
+-- ---- answers
+
+-- A command of the first path has an aim.
+aim_there : (st : Setting) (r : ResourceArg) (answered : List Submitted) (command : Command) (step : LeaseStep) (op : Op) → Course st r answered command step op → aim_of_command command ≡ Some (aim_for command)
+aim_there st r answered command step op (Reading_area p) = refl
+aim_there st r answered command step op (Writing_phase1 p b) = refl
+aim_there st r answered command step op (Reading_phase1 p b own) = refl
+aim_there st r answered command step op (Writing_phase2 p b) = refl
+aim_there st r answered command step op (Reading_phase2 p b own) = refl
+aim_there st r answered command step op (Taking p l) = refl
+aim_there st r answered command step op (Freeing p l) = refl
+
+-- The call goes on with the work.
+told_further : (st : Setting) (g : Given) (r : ResourceArg) → IsFirst st g r → (call job : ℕ) (d : Doing) (answered : List Submitted) (es : Trace) → FirstStands st g r call job (Works d) answered es
+    → (a : Answer) (f : Further) → first_next st g es d answered (aim_for d.command) a ≡ next_of f
+    → Course st r (heeded_call es g a d.call ∷ answered) d.command (step_of f) (further_call st g r call d.job.number f).op
+    → ToldFirst st g r call job d answered es a (next_of f)
+told_further st g r f call job d answered es h a Reads_phase1 comes course =
+    record {
+      due_is = further_due st g r (kept_in g r call job (Works d) answered) es f h.stands d refl refl h.stands.work a (aim_for d.command) (aim_there st r answered d.command d.step d.call.call.op h.course) Reads_phase1 comes;
+      stands = record {
+        stands = told_more st g r (kept_in g r call job (Works d) answered) es h.stands d refl h.stands.work a Phase1Read (further_call st g r call d.job.number Reads_phase1)
+            (record { numbered = refl; placed = further_placed st g r f call d.job.number Reads_phase1; for_job = refl });
+        course = course;
+      };
+    }
+told_further st g r f call job d answered es h a Reads_phase2 comes course =
+    record {
+      due_is = further_due st g r (kept_in g r call job (Works d) answered) es f h.stands d refl refl h.stands.work a (aim_for d.command) (aim_there st r answered d.command d.step d.call.call.op h.course) Reads_phase2 comes;
+      stands = record {
+        stands = told_more st g r (kept_in g r call job (Works d) answered) es h.stands d refl h.stands.work a Phase2Read (further_call st g r call d.job.number Reads_phase2)
+            (record { numbered = refl; placed = further_placed st g r f call d.job.number Reads_phase2; for_job = refl });
+        course = course;
+      };
+    }
+told_further st g r f call job d answered es h a (Writes_block step b) comes course =
+    record {
+      due_is = further_due st g r (kept_in g r call job (Works d) answered) es f h.stands d refl refl h.stands.work a (aim_for d.command) (aim_there st r answered d.command d.step d.call.call.op h.course) (Writes_block step b) comes;
+      stands = record {
+        stands = told_more st g r (kept_in g r call job (Works d) answered) es h.stands d refl h.stands.work a step (further_call st g r call d.job.number (Writes_block step b))
+            (record { numbered = refl; placed = further_placed st g r f call d.job.number (Writes_block step b); for_job = refl });
+        course = course;
+      };
+    }
+told_further st g r f call job d answered es h a (Writes_leader step l) comes course =
+    record {
+      due_is = further_due st g r (kept_in g r call job (Works d) answered) es f h.stands d refl refl h.stands.work a (aim_for d.command) (aim_there st r answered d.command d.step d.call.call.op h.course) (Writes_leader step l) comes;
+      stands = record {
+        stands = told_more st g r (kept_in g r call job (Works d) answered) es h.stands d refl h.stands.work a step (further_call st g r call d.job.number (Writes_leader step l))
+            (record { numbered = refl; placed = further_placed st g r f call d.job.number (Writes_leader step l); for_job = refl });
+        course = course;
+      };
+    }

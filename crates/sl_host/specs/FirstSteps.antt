@@ -1,11 +1,13 @@
 -- What a host of the first path does: it is idle, it holds the resource, or it works for a job.
 use Rattle.sl_area.specs.Places.{block_offset, leader_offset}
+use Rattle.sl_due.specs.Due.{due}
 use Rattle.sl_due.specs.DueLease.{grant_of}
-use Rattle.sl_host.specs.FirstPath.{Doing, Kept, Stands, first_session, heeded_call}
+use Rattle.sl_host.specs.FirstPath.{Doing, Kept, Stands, first_effects, first_entry, first_session, heeded_call, one_reply}
+use Rattle.sl_leases.specs.Jobs.{process_named}
 use Rattle.sl_leases.specs.LeaseWork.{leader_for, lease_next}
 use Rattle.sl_leases.specs.Leases.{LeaseKnown, block_submitted, known_of, lver_written}
 use Rattle.sl_leases.specs.declared.lease.Aim.{Aim}
-use Rattle.sl_leases.specs.declared.lease.LeaseNext.TheVariants.{AnswerJob, GrantJob, ReadFor, WriteBlock, WriteLeader}
+use Rattle.sl_leases.specs.declared.lease.LeaseNext.TheVariants.{AnswerJob, GrantJob, Nothing, ReadFor, WriteBlock, WriteLeader}
 use Rattle.sl_leases.specs.declared.lease.LeaseNext.{LeaseNext}
 use Rattle.sl_sector.specs.declared.sector.Block.{Block}
 use Rattle.sl_sector.specs.declared.sector.Leader.{Leader}
@@ -14,8 +16,9 @@ use Rattle.sl_sector.specs.declared.sector.Rec.TheVariants.{BlockIs, LeaderIs}
 use Rattle.sl_trace.specs.declared.command.Command.TheVariants.{Acquire, Release}
 use Rattle.sl_trace.specs.declared.command.Command.{Command}
 use Rattle.sl_trace.specs.declared.command.ResourceArg.{ResourceArg}
-use Rattle.sl_trace.specs.Traces.{Setting, Submitted, Trace, is_before_input, new_call}
+use Rattle.sl_trace.specs.Traces.{Setting, Submitted, Trace, is_before_input, new_call, no_effects}
 use Rattle.sl_trace.specs.declared.effects.Call.{Call}
+use Rattle.sl_trace.specs.declared.effects.Effects.{Effects}
 use Rattle.sl_trace.specs.declared.effects.Grant.{Grant}
 use Rattle.sl_trace.specs.declared.effects.LeaseStep.TheVariants.{FreeLeader, Phase1Read, Phase1Write, Phase2Read, Phase2Write, ReadArea, TakeLeader}
 use Rattle.sl_trace.specs.declared.effects.LeaseStep.{LeaseStep}
@@ -26,8 +29,10 @@ use Rattle.sl_trace.specs.declared.effects.Purpose.TheVariants.{Lease}
 use Rattle.sl_trace.specs.declared.effects.Work.TheVariants.{ForJob}
 use Rattle.sl_trace.specs.declared.input.Answer.{Answer}
 use Rattle.sl_trace.specs.declared.input.Given.{Given}
+use Rattle.sl_trace.specs.declared.input.Input.TheVariants.{Answer as Told}
+use Rattle.sl_trace.specs.declared.reply.Reply.TheVariants.{Granted}
 use Rattle.sl_trace.specs.declared.reply.Reply.{Reply}
-use Rattle.std.specs.Prelude.{Bool, List, None, Option, Some, [], false, length, nat_lt, true, ℕ, ◌&&◌, ◌+◌, ◌==◌, ◌∷◌, ◌≡◌}
+use Rattle.std.specs.Prelude.{Bool, List, None, Option, Some, [], false, length, nat_lt, true, unwrap_or, ℕ, ◌&&◌, ◌+◌, ◌==◌, ◌∷◌, ◌≡◌}
 
 -- Where the host stands.
 pub data Phase : Type 0 where
@@ -186,7 +191,44 @@ pub record FirstStands (st : Setting) (g : Given) (r : ResourceArg) (call job : 
   pub stands : Stands st g r (kept_in g r call job phase answered) es
   pub course : OnCourse st r answered phase
 
--- The work once a further call of it was made.
-abbrev pub further_doing : Setting → Given → ResourceArg → ℕ → Trace → Doing → Further → Doing
-further_doing st g r number es d next =
-    record d { step = step_of next; call = new_call (length es) g.renewed (further_call st g r number d.job.number next) }
+-- The process that a command is for.
+abbrev pub process_of : Command → ℕ
+process_of c = unwrap_or (process_named c) 0
+
+-- What the host does once the work's call is answered, by what comes next for the lease.
+abbrev pub told_effects : Setting → Given → ResourceArg → ℕ → Doing → LeaseNext → Effects
+told_effects st g r number d Nothing = no_effects
+told_effects st g r number d (ReadFor step) = first_effects [] [] [] (blocks_read st r number d.job.number step ∷ [])
+told_effects st g r number d (WriteBlock step b) = first_effects [] [] [] (own_write st g r number d.job.number step b ∷ [])
+told_effects st g r number d (WriteLeader step l) = first_effects [] [] [] (leader_write r number d.job.number step l ∷ [])
+told_effects st g r number d (AnswerJob why) = first_effects [] [] (one_reply d.job.number why) []
+told_effects st g r number d (GrantJob mode lver) =
+    first_effects [] (first_grant g r (process_of d.command) lver ∷ []) (one_reply d.job.number (Granted lver)) []
+
+-- The work goes on with this call.
+abbrev pub goes_on_with : Given → Trace → Doing → LeaseStep → Call → Phase
+goes_on_with g es d step c = Works (record d { step = step; call = new_call (length es) g.renewed c })
+
+-- Where the host stands then.
+abbrev pub told_phase : Setting → Given → ResourceArg → ℕ → Trace → Doing → LeaseNext → Phase
+told_phase st g r number es d Nothing = Idle
+told_phase st g r number es d (ReadFor step) = goes_on_with g es d step (blocks_read st r number d.job.number step)
+told_phase st g r number es d (WriteBlock step b) = goes_on_with g es d step (own_write st g r number d.job.number step b)
+told_phase st g r number es d (WriteLeader step l) = goes_on_with g es d step (leader_write r number d.job.number step l)
+told_phase st g r number es d (AnswerJob why) = Idle
+told_phase st g r number es d (GrantJob mode lver) = Holds (process_of d.command) lver
+
+-- The number of its next call then.
+abbrev pub told_number : ℕ → LeaseNext → ℕ
+told_number number Nothing = number
+told_number number (ReadFor step) = number + 1
+told_number number (WriteBlock step b) = number + 1
+told_number number (WriteLeader step l) = number + 1
+told_number number (AnswerJob why) = number
+told_number number (GrantJob mode lver) = number
+
+-- What an answer to the work's call makes due, and that the host stands for the trace with that entry.
+pub record ToldFirst (st : Setting) (g : Given) (r : ResourceArg) (call job : ℕ) (d : Doing) (answered : List Submitted) (es : Trace) (a : Answer) (next : LeaseNext) : Type 0 where
+  pub due_is : due st es g.renewed (Told d.call.call.number a) ≡ told_effects st g r call d next
+  pub stands : FirstStands st g r (told_number call next) job (told_phase st g r call es d next) (heeded_call es g a d.call ∷ answered)
+      (first_entry g (Told d.call.call.number a) (told_effects st g r call d next) ∷ es)
