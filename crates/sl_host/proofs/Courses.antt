@@ -13,6 +13,7 @@ use Rattle.sl_leases.specs.declared.lease.Aim.{Aim}
 use Rattle.sl_leases.specs.declared.lease.LeaseNext.TheVariants.{Nothing}
 use Rattle.sl_leases.specs.declared.lease.LeaseNext.{LeaseNext}
 use Rattle.sl_sector.specs.declared.sector.Block.{Block}
+use Rattle.sl_sector.specs.declared.sector.Rec.TheVariants.{BlockIs}
 use Rattle.sl_trace.specs.Traces.{Setting, Submitted, Trace, is_answer_for, record_of}
 use Rattle.sl_trace.specs.declared.command.Command.TheVariants.{Acquire, Release}
 use Rattle.sl_trace.specs.declared.command.Command.{Command}
@@ -126,46 +127,52 @@ own_after_phase : (st : Setting) (g : Given) (es : Trace) (a : Answer) (m : Subm
     → m.call.op ≡ ReadSectors n → block_submitted answered ≡ Some b → block_submitted (heeded_call es g a m ∷ answered) ≡ Some b
 own_after_phase st g es a m answered n b op own = same_own es g a m answered n op ∙ own
 
+-- After a block's write the own block is that.
+own_written : (es : Trace) (g : Given) (m : Submitted) (answered : List Submitted) (b : Block) → m.call.op ≡ WriteRecord (BlockIs b)
+    → block_submitted (heeded_call es g Written m ∷ answered) ≡ Some b
+own_written es g m answered b is =
+    ap (λ (o : Op). elim (option_and_then block_of_record (record_of o)) as (λ x. Option Block) [ Some c ↦ Some c | None ↦ block_submitted answered ]) is
+
 -- ---- each answer leads on
 
 abbrev first_place : Setting → Given → LeasePlace
 first_place st g = record { layout = st.layout; lockspace = g.lockspace }
 
-phase1_given : (r : ResourceArg) (p : ℕ) (place : LeasePlace) (k : LeaseKnown) (bytes : List ℕ) (o : Option Block) (b : Block) → o ≡ Some b
-    → Live r (Acquire r false p) (option_map_or (λ own. after_phase1 place k (Acquires Exclusive) own (blocks_in place.layout bytes) (stop_of own (blocks_in place.layout bytes))) o Nothing)
-phase1_given r p place k bytes o b is =
-    subst (λ (q : Option Block). Live r (Acquire r false p) (option_map_or (λ own. after_phase1 place k (Acquires Exclusive) own (blocks_in place.layout bytes) (stop_of own (blocks_in place.layout bytes))) q Nothing)) (sym is)
-    (phase1_read_live r p place k b (blocks_in place.layout bytes) (stop_of b (blocks_in place.layout bytes)))
+phase1_given : (r : ResourceArg) (ms : List Submitted) (p : ℕ) (place : LeasePlace) (k : LeaseKnown) (bytes : List ℕ) (o : Option Block) (b : Block) → o ≡ Some b
+    → Live r ms (Acquire r false p) (option_map_or (λ own. after_phase1 place k (Acquires Exclusive) own (blocks_in place.layout bytes) (stop_of own (blocks_in place.layout bytes))) o Nothing)
+phase1_given r ms p place k bytes o b is =
+    subst (λ (q : Option Block). Live r ms (Acquire r false p) (option_map_or (λ own. after_phase1 place k (Acquires Exclusive) own (blocks_in place.layout bytes) (stop_of own (blocks_in place.layout bytes))) q Nothing)) (sym is)
+    (phase1_read_live r ms p place k b (blocks_in place.layout bytes) (stop_of b (blocks_in place.layout bytes)))
 
-phase2_given : (r : ResourceArg) (p : ℕ) (place : LeasePlace) (k : LeaseKnown) (bytes : List ℕ) (o : Option Block) (b : Block) → own_known k ≡ Some b → o ≡ Some b
-    → Live r (Acquire r false p) (option_map_or (λ own. after_phase2 place k (Acquires Exclusive) own (stop_of own (blocks_in place.layout bytes))) o Nothing)
-phase2_given r p place k bytes o b known is =
-    subst (λ (q : Option Block). Live r (Acquire r false p) (option_map_or (λ own. after_phase2 place k (Acquires Exclusive) own (stop_of own (blocks_in place.layout bytes))) q Nothing)) (sym is)
-    (phase2_read_live r p place k b known (stop_of b (blocks_in place.layout bytes)))
+phase2_given : (r : ResourceArg) (ms : List Submitted) (p : ℕ) (place : LeasePlace) (k : LeaseKnown) (bytes : List ℕ) (o : Option Block) (b : Block) → own_known k ≡ Some b → o ≡ Some b
+    → Live r ms (Acquire r false p) (option_map_or (λ own. after_phase2 place k (Acquires Exclusive) own (stop_of own (blocks_in place.layout bytes))) o Nothing)
+phase2_given r ms p place k bytes o b known is =
+    subst (λ (q : Option Block). Live r ms (Acquire r false p) (option_map_or (λ own. after_phase2 place k (Acquires Exclusive) own (stop_of own (blocks_in place.layout bytes))) q Nothing)) (sym is)
+    (phase2_read_live r ms p place k b known (stop_of b (blocks_in place.layout bytes)))
 
 pub course_live : (st : Setting) (g : Given) (r : ResourceArg) → IsFirst st g r → (es : Trace) (answered : List Submitted) (m : Submitted) (j call lver : ℕ) (command : Command) (step : LeaseStep) (op : Op)
     → Course st r answered command step op → m.call.op ≡ op → m.call.purpose ≡ Lease (ForJob j) step → (a : Answer) → is_answer_for st a op ≡ true
-    → Live r command (lease_next (first_place st g) (first_known st g (heeded_call es g a m ∷ answered)) (aim_for command) call lver step a)
+    → Live r (heeded_call es g a m ∷ answered) command (lease_next (first_place st g) (first_known st g (heeded_call es g a m ∷ answered)) (aim_for command) call lver step a)
 unfolding lease_next
 course_live st g r f es answered m j call lver command step op (Reading_area p) is for (Read bytes) fits =
-    area_live r p (first_place st g) (first_known st g (heeded_call es g (Read bytes) m ∷ answered)) r.name bytes
+    area_live r (heeded_call es g (Read bytes) m ∷ answered) p (first_place st g) (first_known st g (heeded_call es g (Read bytes) m ∷ answered)) r.name bytes
     (λ whole. own_after_area st g r f es bytes m answered j (st.layout.hosts + 2) r.name is for whole)
 course_live st g r f es answered m j call lver command step op (Reading_area p) is for Written fits = absurd (false_is_true fits)
 course_live st g r f es answered m j call lver command step op (Reading_area p) is for Failed fits = Replies_late (Acquire r false p) (IoFault call) refl
 course_live st g r f es answered m j call lver command step op (Writing_phase1 p b) is for (Read bytes) fits = absurd (false_is_true fits)
-course_live st g r f es answered m j call lver command step op (Writing_phase1 p b) is for Written fits = Goes_on_phase1 p
+course_live st g r f es answered m j call lver command step op (Writing_phase1 p b) is for Written fits = Goes_on_phase1 p b (own_written es g m answered b is)
 course_live st g r f es answered m j call lver command step op (Writing_phase1 p b) is for Failed fits = Replies_late (Acquire r false p) (IoFault call) refl
 course_live st g r f es answered m j call lver command step op (Reading_phase1 p b own) is for (Read bytes) fits =
-    phase1_given r p (first_place st g) (first_known st g (heeded_call es g (Read bytes) m ∷ answered)) bytes (block_submitted (heeded_call es g (Read bytes) m ∷ answered)) b
+    phase1_given r (heeded_call es g (Read bytes) m ∷ answered) p (first_place st g) (first_known st g (heeded_call es g (Read bytes) m ∷ answered)) bytes (block_submitted (heeded_call es g (Read bytes) m ∷ answered)) b
     (own_after_phase st g es (Read bytes) m answered st.layout.hosts b is own)
 course_live st g r f es answered m j call lver command step op (Reading_phase1 p b own) is for Written fits = absurd (false_is_true fits)
 course_live st g r f es answered m j call lver command step op (Reading_phase1 p b own) is for Failed fits = Replies_late (Acquire r false p) (IoFault call) refl
 course_live st g r f es answered m j call lver command step op (Writing_phase2 p b) is for (Read bytes) fits = absurd (false_is_true fits)
-course_live st g r f es answered m j call lver command step op (Writing_phase2 p b) is for Written fits = Goes_on_phase2 p
+course_live st g r f es answered m j call lver command step op (Writing_phase2 p b) is for Written fits = Goes_on_phase2 p b (own_written es g m answered b is)
 course_live st g r f es answered m j call lver command step op (Writing_phase2 p b) is for Failed fits = Replies_late (Acquire r false p) (IoFault call) refl
 course_live st g r f es answered m j call lver command step op (Reading_phase2 p b own) is for (Read bytes) fits =
     let known = own_after_phase st g es (Read bytes) m answered st.layout.hosts b is own in
-    phase2_given r p (first_place st g) (first_known st g (heeded_call es g (Read bytes) m ∷ answered)) bytes (block_submitted (heeded_call es g (Read bytes) m ∷ answered)) b
+    phase2_given r (heeded_call es g (Read bytes) m ∷ answered) p (first_place st g) (first_known st g (heeded_call es g (Read bytes) m ∷ answered)) bytes (block_submitted (heeded_call es g (Read bytes) m ∷ answered)) b
     (ap (λ o. own_or_read g.id o (last_blocks st.layout (heeded_call es g (Read bytes) m ∷ answered))) known) known
 course_live st g r f es answered m j call lver command step op (Reading_phase2 p b own) is for Written fits = absurd (false_is_true fits)
 course_live st g r f es answered m j call lver command step op (Reading_phase2 p b own) is for Failed fits = Replies_late (Acquire r false p) (IoFault call) refl

@@ -5,26 +5,31 @@ use Rattle.sl_host.proofs.Answering.{further_due, grant_due, reply_due}
 use Rattle.sl_host.proofs.Courses.{aim_for, course_live, host_in}
 use Rattle.sl_host.proofs.Standing.{told_done, told_more}
 use Rattle.sl_host.specs.FirstPath.{Doing, IsDoing, IsFirst, IsNextCall, Kept, Stands, first_effects, first_entry, heeded_call, is_first_call, one_reply}
-use Rattle.sl_host.specs.FirstSteps.{Course, FirstStands, Freeing, Further, Holds, Idle, OnCourse, Phase, Reading_area, Reading_phase1, Reading_phase2, Reads_phase1, Reads_phase2, Taking, ToldFirst, Works, Writes_block, Writes_leader, Writing_phase1, Writing_phase2, first_grant, first_next, further_call, kept_in, next_of, step_of, told_effects, told_number, told_phase}
+use Rattle.sl_host.specs.FirstSteps.{Begins_phase1, Begins_phase2, Course, FirstStands, Freeing, Further, Goes_on_phase1, Goes_on_phase2, Grants, Holds, Idle, Live, OnCourse, Phase, Reading_area, Reading_phase1, Reading_phase2, Reads_phase1, Reads_phase2, Replies_late, Takes, Taking, ToldFirst, Works, Writes_block, Writes_leader, Writing_phase1, Writing_phase2, first_grant, first_next, further_call, kept_in, next_of, process_of, step_of, told_effects, told_number, told_phase}
 use Rattle.sl_leases.specs.Jobs.{aim_of_command}
-use Rattle.sl_leases.specs.Leases.{is_on, spot_of}
+use Rattle.sl_leases.specs.Leases.{is_on, lver_written, spot_of}
 use Rattle.sl_leases.specs.declared.lease.Aim.{Aim}
-use Rattle.sl_leases.specs.declared.lease.LeaseNext.TheVariants.{AnswerJob}
+use Rattle.sl_leases.specs.declared.lease.LeaseNext.TheVariants.{AnswerJob, GrantJob}
 use Rattle.sl_leases.specs.declared.lease.LeaseNext.{LeaseNext}
-use Rattle.sl_trace.specs.Traces.{Setting, Submitted, Trace, is_before_input, new_call}
+use Rattle.sl_sector.specs.declared.sector.Rec.TheVariants.{BlockIs, LeaderIs}
+use Rattle.sl_trace.specs.Traces.{Setting, Submitted, Trace, is_answer_for, is_before_input, new_call}
+use Rattle.sl_trace.specs.declared.command.Command.TheVariants.{Acquire}
 use Rattle.sl_trace.specs.declared.command.Command.{Command}
 use Rattle.sl_trace.specs.declared.command.ResourceArg.{ResourceArg}
-use Rattle.sl_trace.specs.declared.effects.LeaseStep.TheVariants.{Phase1Read, Phase2Read}
+use Rattle.sl_trace.specs.declared.effects.LeaseStep.TheVariants.{Phase1Read, Phase1Write, Phase2Read, Phase2Write, TakeLeader}
 use Rattle.sl_trace.specs.declared.effects.LeaseStep.{LeaseStep}
+use Rattle.sl_trace.specs.declared.effects.Mode.TheVariants.{Exclusive}
+use Rattle.sl_trace.specs.declared.effects.Op.TheVariants.{ReadSectors, WriteRecord}
 use Rattle.sl_trace.specs.declared.effects.Op.{Op}
 use Rattle.sl_trace.specs.declared.input.Answer.{Answer}
 use Rattle.sl_trace.specs.declared.input.Given.{Given}
 use Rattle.sl_trace.specs.declared.input.Input.TheVariants.{Answer as Told, Line}
+use Rattle.sl_trace.specs.declared.reply.Reply.TheVariants.{Granted}
 use Rattle.sl_trace.specs.declared.reply.Reply.{Reply}
 use Rattle.std.proofs.Common.{ap, arith, refl, subst, sym, tests, ◌∙◌}
 use Rattle.std.proofs.Math.Nat.{mul-le-mul_left}
 use Rattle.std.proofs.lemmas.Slice.Eq.{bytes_eq-Decides}
-use Rattle.std.specs.Prelude.{Bool, List, Some, bytes_eq, false, nat_le, nat_lt, true, ℕ, ◌&&◌, ◌*◌, ◌+◌, ◌<◌, ◌==◌, ◌∷◌, ◌≡◌, ◌≤◌}
+use Rattle.std.specs.Prelude.{Bool, List, Some, [], bytes_eq, false, nat_le, nat_lt, true, ℕ, ◌&&◌, ◌*◌, ◌+◌, ◌<◌, ◌==◌, ◌∷◌, ◌≡◌, ◌≤◌}
 
 -- ---- where calls stand
 
@@ -110,3 +115,54 @@ told_further st g r f call job d answered es h a (Writes_leader step l) comes co
         course = course;
       };
     }
+
+-- The job is answered.
+told_reply : (st : Setting) (g : Given) (r : ResourceArg) → IsFirst st g r → (call job : ℕ) (d : Doing) (answered : List Submitted) (es : Trace) → FirstStands st g r call job (Works d) answered es
+    → (a : Answer) (why : Reply) → first_next st g es d answered (aim_for d.command) a ≡ AnswerJob why → is_before_input why ≡ false
+    → ToldFirst st g r call job d answered es a (AnswerJob why)
+told_reply st g r f call job d answered es h a why comes late =
+    record {
+      due_is = reply_due st g r (kept_in g r call job (Works d) answered) es f h.stands d refl refl h.stands.work a (aim_for d.command) (aim_there st r answered d.command d.step d.call.call.op h.course) why comes;
+      stands = record { stands = told_done st g r (kept_in g r call job (Works d) answered) es h.stands d refl h.stands.work a [] why late; course = tt };
+    }
+
+-- The resource is granted.
+told_grant : (st : Setting) (g : Given) (r : ResourceArg) → IsFirst st g r → (call job : ℕ) (d : Doing) (answered : List Submitted) (es : Trace) → FirstStands st g r call job (Works d) answered es
+    → (a : Answer) (p lver : ℕ) → d.command ≡ Acquire r false p → first_next st g es d answered (aim_for d.command) a ≡ GrantJob Exclusive lver
+    → ToldFirst st g r call job d answered es a (GrantJob Exclusive lver)
+told_grant st g r f call job d answered es h a p lver is comes =
+    record {
+      due_is = grant_due st g r (kept_in g r call job (Works d) answered) es f h.stands d refl refl h.stands.work a p lver is (ap (λ c. first_next st g es d answered (aim_for c) a) (sym is) ∙ comes)
+          ∙ ap (λ c. first_effects [] (first_grant g r (process_of c) lver ∷ []) (one_reply d.job.number (Granted lver)) []) (sym is);
+      stands = record { stands = told_done st g r (kept_in g r call job (Works d) answered) es h.stands d refl h.stands.work a (first_grant g r (process_of d.command) lver ∷ []) (Granted lver) refl; course = tt };
+    }
+
+-- By what may come next.
+told_by : (st : Setting) (g : Given) (r : ResourceArg) → IsFirst st g r → (call job : ℕ) (d : Doing) (answered : List Submitted) (es : Trace) → FirstStands st g r call job (Works d) answered es
+    → (a : Answer) (command : Command) (next : LeaseNext) → d.command ≡ command → first_next st g es d answered (aim_for d.command) a ≡ next
+    → Live r (heeded_call es g a d.call ∷ answered) command next → ToldFirst st g r call job d answered es a next
+told_by st g r f call job d answered es h a command next is comes (Goes_on_phase1 p b own) =
+    told_further st g r f call job d answered es h a Reads_phase1 comes
+    (subst (λ c. Course st r (heeded_call es g a d.call ∷ answered) c Phase1Read (ReadSectors st.layout.hosts)) (sym is) (Reading_phase1 p b own))
+told_by st g r f call job d answered es h a command next is comes (Goes_on_phase2 p b own) =
+    told_further st g r f call job d answered es h a Reads_phase2 comes
+    (subst (λ c. Course st r (heeded_call es g a d.call ∷ answered) c Phase2Read (ReadSectors st.layout.hosts)) (sym is) (Reading_phase2 p b own))
+told_by st g r f call job d answered es h a command next is comes (Begins_phase1 p b) =
+    told_further st g r f call job d answered es h a (Writes_block Phase1Write b) comes
+    (subst (λ c. Course st r (heeded_call es g a d.call ∷ answered) c Phase1Write (WriteRecord (BlockIs b))) (sym is) (Writing_phase1 p b))
+told_by st g r f call job d answered es h a command next is comes (Begins_phase2 p b) =
+    told_further st g r f call job d answered es h a (Writes_block Phase2Write b) comes
+    (subst (λ c. Course st r (heeded_call es g a d.call ∷ answered) c Phase2Write (WriteRecord (BlockIs b))) (sym is) (Writing_phase2 p b))
+told_by st g r f call job d answered es h a command next is comes (Takes p l) =
+    told_further st g r f call job d answered es h a (Writes_leader TakeLeader l) comes
+    (subst (λ c. Course st r (heeded_call es g a d.call ∷ answered) c TakeLeader (WriteRecord (LeaderIs l))) (sym is) (Taking p l))
+told_by st g r f call job d answered es h a command next is comes (Grants p lver) = told_grant st g r f call job d answered es h a p lver is comes
+told_by st g r f call job d answered es h a command next is comes (Replies_late c why late) = told_reply st g r f call job d answered es h a why comes late
+
+-- Any answer that fits the work's call.
+pub told_first : (st : Setting) (g : Given) (r : ResourceArg) → IsFirst st g r → (call job : ℕ) (d : Doing) (answered : List Submitted) (es : Trace) → FirstStands st g r call job (Works d) answered es
+    → (a : Answer) → is_answer_for st a d.call.call.op ≡ true
+    → ToldFirst st g r call job d answered es a (first_next st g es d answered (aim_for d.command) a)
+told_first st g r f call job d answered es h a fits =
+    told_by st g r f call job d answered es h a d.command (first_next st g es d answered (aim_for d.command) a) refl refl
+    (course_live st g r f es answered d.call d.job.number d.call.call.number (lver_written d.call) d.command d.step d.call.call.op h.course refl h.stands.work.for_job a fits)

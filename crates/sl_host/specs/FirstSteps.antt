@@ -170,15 +170,15 @@ pub data Course (st : Setting) (r : ResourceArg) (answered : List Submitted) : C
   Taking : (p : ℕ) (l : Leader) → Course st r answered (Acquire r false p) TakeLeader (WriteRecord (LeaderIs l))
   Freeing : (p : ℕ) (l : Leader) → Course st r answered (Release r p) FreeLeader (WriteRecord (LeaderIs l))
 
--- What an answer may lead to: a call that goes on with the job, a reply, or the grant.
-pub data Live (r : ResourceArg) : Command → LeaseNext → Type 0 where
-  Goes_on_phase1 : (p : ℕ) → Live r (Acquire r false p) (ReadFor Phase1Read)
-  Goes_on_phase2 : (p : ℕ) → Live r (Acquire r false p) (ReadFor Phase2Read)
-  Begins_phase1 : (p : ℕ) (b : Block) → Live r (Acquire r false p) (WriteBlock Phase1Write b)
-  Begins_phase2 : (p : ℕ) (b : Block) → Live r (Acquire r false p) (WriteBlock Phase2Write b)
-  Takes : (p : ℕ) (l : Leader) → Live r (Acquire r false p) (WriteLeader TakeLeader l)
-  Grants : (p lver : ℕ) → Live r (Acquire r false p) (GrantJob Exclusive lver)
-  Replies_late : (c : Command) (why : Reply) → is_before_input why ≡ false → Live r c (AnswerJob why)
+-- What an answer may lead to, after these calls: a call that goes on with the job, a reply, or the grant.
+pub data Live (r : ResourceArg) (ms : List Submitted) : Command → LeaseNext → Type 0 where
+  Goes_on_phase1 : (p : ℕ) (b : Block) → block_submitted ms ≡ Some b → Live r ms (Acquire r false p) (ReadFor Phase1Read)
+  Goes_on_phase2 : (p : ℕ) (b : Block) → block_submitted ms ≡ Some b → Live r ms (Acquire r false p) (ReadFor Phase2Read)
+  Begins_phase1 : (p : ℕ) (b : Block) → Live r ms (Acquire r false p) (WriteBlock Phase1Write b)
+  Begins_phase2 : (p : ℕ) (b : Block) → Live r ms (Acquire r false p) (WriteBlock Phase2Write b)
+  Takes : (p : ℕ) (l : Leader) → Live r ms (Acquire r false p) (WriteLeader TakeLeader l)
+  Grants : (p lver : ℕ) → Live r ms (Acquire r false p) (GrantJob Exclusive lver)
+  Replies_late : (c : Command) (why : Reply) → is_before_input why ≡ false → Live r ms c (AnswerJob why)
 
 -- What is true of the step at which the host is.
 abbrev pub OnCourse : Setting → ResourceArg → List Submitted → Phase → Type 0
