@@ -41,12 +41,12 @@ block_within sector hosts id area base some le room =
     let most : sector * (id + 2) ≤ sector * (hosts + 2) = mul-le-mul_left sector (omega (arith, le)) in
     omega (arith, some, most, room)
 
-leader_within : (sector hosts area base : ℕ) → 1 ≤ sector → sector * (hosts + 2) ≤ area → base < base + area
+pub leader_within : (sector hosts area base : ℕ) → 1 ≤ sector → sector * (hosts + 2) ≤ area → base < base + area
 leader_within sector hosts area base some room =
     let most : sector * 1 ≤ sector * (hosts + 2) = mul-le-mul_left sector (omega arith) in
     omega (arith, some, most, room)
 
-on_area : (st : Setting) (r : ResourceArg) (at : ℕ) → r.offset ≤ at → at < r.offset + st.layout.area → (bytes_eq r.path r.path && in_area st.layout r.offset at) ≡ true
+pub on_area : (st : Setting) (r : ResourceArg) (at : ℕ) → r.offset ≤ at → at < r.offset + st.layout.area → (bytes_eq r.path r.path && in_area st.layout r.offset at) ≡ true
 on_area st r at low high = rw ((bytes_eq-Decides r.path r.path).1 refl) (within_area r.offset at st.layout.area low high)
 
 one_host : (st : Setting) (g : Given) (r : ResourceArg) → IsFirst st g r → 1 ≤ st.layout.hosts

@@ -13,3 +13,4 @@ pub mod Answering
 pub mod Liveness
 pub mod Courses
 pub mod FirstLaws
+pub mod LineLaws

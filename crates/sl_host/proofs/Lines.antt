@@ -94,7 +94,7 @@ same_number : (n : ℕ) → (n == n) ≡ true
 same_number n = grind (arith, tests)
 
 -- The holding after its end.
-ended : (g : Given) (r : ResourceArg) (q lver : ℕ) → held_after (first_effects (end_of (first_grant g r q lver) ∷ []) [] [] []) (first_grant g r q lver ∷ []) ≡ []
+pub ended : (g : Given) (r : ResourceArg) (q lver : ℕ) → held_after (first_effects (end_of (first_grant g r q lver) ∷ []) [] [] []) (first_grant g r q lver ∷ []) ≡ []
 ended g r q lver = rw (same_number q, here r) refl
 
 pub release_due : (st : Setting) (g : Given) (r : ResourceArg) (k : Kept) (es : Trace) → IsFirst st g r → Stands st g r k es → k.work ≡ None → (q lver : ℕ) → k.held ≡ first_grant g r q lver ∷ []

@@ -2,7 +2,7 @@
 use Rattle.sl_area.specs.Places.{block_offset, leader_offset}
 use Rattle.sl_due.specs.Due.{due}
 use Rattle.sl_due.specs.DueLease.{grant_of}
-use Rattle.sl_host.specs.FirstPath.{Doing, Kept, Stands, first_effects, first_entry, first_session, heeded_call, one_reply}
+use Rattle.sl_host.specs.FirstPath.{Doing, Kept, Stands, first_effects, first_entry, first_session, heeded_call, next_doing, one_reply}
 use Rattle.sl_leases.specs.Jobs.{process_named}
 use Rattle.sl_leases.specs.LeaseWork.{leader_for, lease_next}
 use Rattle.sl_leases.specs.Leases.{LeaseKnown, block_submitted, known_of, lver_written}
@@ -16,9 +16,10 @@ use Rattle.sl_sector.specs.declared.sector.Rec.TheVariants.{BlockIs, LeaderIs}
 use Rattle.sl_trace.specs.declared.command.Command.TheVariants.{Acquire, Release}
 use Rattle.sl_trace.specs.declared.command.Command.{Command}
 use Rattle.sl_trace.specs.declared.command.ResourceArg.{ResourceArg}
-use Rattle.sl_trace.specs.Traces.{Setting, Submitted, Trace, is_before_input, new_call, no_effects}
+use Rattle.sl_trace.specs.Traces.{Setting, Submitted, Trace, end_of, is_before_input, new_call, no_effects}
 use Rattle.sl_trace.specs.declared.effects.Call.{Call}
 use Rattle.sl_trace.specs.declared.effects.Effects.{Effects}
+use Rattle.sl_trace.specs.declared.effects.End.{End}
 use Rattle.sl_trace.specs.declared.effects.Grant.{Grant}
 use Rattle.sl_trace.specs.declared.effects.LeaseStep.TheVariants.{FreeLeader, Phase1Read, Phase1Write, Phase2Read, Phase2Write, ReadArea, TakeLeader}
 use Rattle.sl_trace.specs.declared.effects.LeaseStep.{LeaseStep}
@@ -29,8 +30,8 @@ use Rattle.sl_trace.specs.declared.effects.Purpose.TheVariants.{Lease}
 use Rattle.sl_trace.specs.declared.effects.Work.TheVariants.{ForJob}
 use Rattle.sl_trace.specs.declared.input.Answer.{Answer}
 use Rattle.sl_trace.specs.declared.input.Given.{Given}
-use Rattle.sl_trace.specs.declared.input.Input.TheVariants.{Answer as Told}
-use Rattle.sl_trace.specs.declared.reply.Reply.TheVariants.{Granted}
+use Rattle.sl_trace.specs.declared.input.Input.TheVariants.{Answer as Told, Line}
+use Rattle.sl_trace.specs.declared.reply.Reply.TheVariants.{Busy, Granted, NotHeld, Pending}
 use Rattle.sl_trace.specs.declared.reply.Reply.{Reply}
 use Rattle.std.specs.Prelude.{Bool, List, None, Option, Some, [], false, length, nat_lt, true, unwrap_or, ℕ, ◌&&◌, ◌+◌, ◌==◌, ◌∷◌, ◌≡◌}
 
@@ -232,3 +233,43 @@ pub record ToldFirst (st : Setting) (g : Given) (r : ResourceArg) (call job : �
   pub due_is : due st es g.renewed (Told d.call.call.number a) ≡ told_effects st g r call d next
   pub stands : FirstStands st g r (told_number call next) job (told_phase st g r call es d next) (heeded_call es g a d.call ∷ answered)
       (first_entry g (Told d.call.call.number a) (told_effects st g r call d next) ∷ es)
+
+-- What a line makes the host do: what comes out, whether a job is at work then, and whether a call was made.
+pub record LineStep : Type 0 where
+  pub effects : Effects
+  pub phase : Phase
+  pub number : ℕ
+
+-- The line is answered at once.
+abbrev pub answers : ℕ → ℕ → Phase → Reply → LineStep
+answers call job phase why = record { effects = first_effects [] [] (one_reply job why) []; phase = phase; number = call }
+
+-- Its job goes to work with this call.
+abbrev pub begins : Setting → Given → Trace → List ℕ → ℕ → Command → LeaseStep → List End → Call → LineStep
+begins st g es text call command step ends c =
+    record { effects = first_effects ends [] [] (c ∷ []); phase = Works (next_doing st g es text command step c); number = call + 1 }
+
+-- An acquire.
+abbrev pub acquire_line : Setting → Given → ResourceArg → ℕ → ℕ → Trace → List ℕ → ℕ → Phase → LineStep
+acquire_line st g r call job es text p Idle = begins st g es text call (Acquire r false p) (ReadArea r.name) [] (first_read st r call job)
+acquire_line st g r call job es text p (Holds q lver) = answers call job (Holds q lver) (Busy q)
+acquire_line st g r call job es text p (Works d) = answers call job (Works d) (Pending d.call.call.number)
+
+-- A release by a process, where another or the same holds the resource.
+abbrev pub release_by : Setting → Given → ResourceArg → ℕ → ℕ → List Submitted → Trace → List ℕ → ℕ → ℕ → ℕ → Bool → LineStep
+release_by st g r call job answered es text p q lver same =
+    elim same [
+      | false ↦ answers call job (Holds q lver) NotHeld
+      | true ↦ begins st g es text call (Release r p) FreeLeader (end_of (first_grant g r q lver) ∷ []) (last_write st g r call job lver answered)
+    ]
+
+-- A release.
+abbrev pub release_line : Setting → Given → ResourceArg → ℕ → ℕ → List Submitted → Trace → List ℕ → ℕ → Phase → LineStep
+release_line st g r call job answered es text p Idle = answers call job Idle NotHeld
+release_line st g r call job answered es text p (Holds q lver) = release_by st g r call job answered es text p q lver (q == p)
+release_line st g r call job answered es text p (Works d) = answers call job (Works d) NotHeld
+
+-- What a line makes due, and that the host stands for the trace with that entry.
+pub record LineFirst (st : Setting) (g : Given) (r : ResourceArg) (job : ℕ) (answered : List Submitted) (es : Trace) (text : List ℕ) (x : LineStep) : Type 0 where
+  pub due_is : due st es g.renewed (Line text) ≡ x.effects
+  pub stands : FirstStands st g r x.number (job + 1) x.phase answered (first_entry g (Line text) x.effects ∷ es)
