@@ -1,8 +1,8 @@
 -- A host stands for its trace after one more entry.
-use Rattle.sl_host.proofs.CalmLaws.{append_none}
-use Rattle.sl_host.proofs.Entries.{false_right, list_all-append, lt_more, not_next, old_more, other_reply, running_answered, running_begun, running_ended, running_stays, same_number, unanswered_more}
-use Rattle.sl_host.proofs.Growth.{answered_stays, none_unanswered}
-use Rattle.sl_host.specs.FirstPath.{Doing, IsCalm, IsCalmEntry, IsDoing, IsFirst, IsNextCall, IsWork, Kept, Stands, calls_kept, first_effects, first_entry, has_answer, heeded_call, is_first_call, jobs_kept, next_doing, one_reply, open_kept}
+use Rattle.sl_first.proofs.CalmLaws.{append_none}
+use Rattle.sl_first.proofs.Entries.{false_right, list_all-append, lt_more, not_next, old_more, other_reply, running_answered, running_begun, running_ended, running_stays, same_number, unanswered_more}
+use Rattle.sl_first.proofs.Growth.{answered_stays, none_unanswered}
+use Rattle.sl_first.specs.FirstPath.{Doing, IsCalm, IsCalmEntry, IsDoing, IsFirst, IsNextCall, IsWork, Kept, Stands, calls_kept, first_effects, first_entry, has_answer, heeded_call, is_first_call, jobs_kept, next_doing, one_reply, open_kept}
 use Rattle.sl_leases.specs.Jobs.{command_numbered, command_of}
 use Rattle.sl_leases.specs.Leases.{lease_step}
 use Rattle.sl_trace.specs.Traces.{Answered, Child, Job, Setting, Submitted, Trace, answer_of, answered_in, child_after, children, held_after, holdings, is_before_input, is_ended_by, is_going_on, is_refused_before_input, is_running, job_in, job_numbered, job_of, jobs, new_call, next_call, next_job, no_effects, outstanding, reply_to, running_jobs, submitted, unanswered}

@@ -1,6 +1,6 @@
 -- How the questions to a trace change by one more entry.
-use Rattle.sl_host.proofs.CalmLaws.{append_none}
-use Rattle.sl_host.specs.FirstPath.{has_answer}
+use Rattle.sl_first.proofs.CalmLaws.{append_none}
+use Rattle.sl_first.specs.FirstPath.{has_answer}
 use Rattle.sl_trace.specs.Traces.{Answered, Job, Replied, Setting, Submitted, Trace, answer_of, answered_in, is_running, job_in, jobs, line_in, mark, reply_in, reply_to, running_jobs, unanswered}
 use Rattle.sl_trace.specs.declared.effects.Effects.{Effects}
 use Rattle.sl_trace.specs.declared.effects.Entry.{Entry}

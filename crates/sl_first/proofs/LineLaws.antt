@@ -1,13 +1,13 @@
 -- Each line of the first path: what it makes due, and that the host stands for the trace with its entry.
 use Rattle.sl_due.specs.Due.{due}
 use Rattle.sl_due.specs.DueCommands.{Replies, decided}
-use Rattle.sl_host.proofs.Decided.{acquire_held, acquire_pending, release_free, release_other}
-use Rattle.sl_host.proofs.Decisions.{here}
-use Rattle.sl_host.proofs.FirstLaws.{leader_within, on_area}
-use Rattle.sl_host.proofs.Lines.{acquire_due, ended, misread, release_due, replied}
-use Rattle.sl_host.proofs.Standing.{line_answered, line_begun, quiet_stands}
-use Rattle.sl_host.specs.FirstPath.{Doing, IsDoing, IsFirst, IsNextCall, Kept, Stands, first_effects, first_entry, is_first_call, next_doing, one_reply}
-use Rattle.sl_host.specs.FirstSteps.{FirstStands, Freeing, Holds, Idle, LineFirst, LineStep, Phase, Reading_area, Works, acquire_line, answers, first_grant, first_read, kept_in, last_write, release_by, release_line}
+use Rattle.sl_first.proofs.Decided.{acquire_held, acquire_pending, release_free, release_other}
+use Rattle.sl_first.proofs.Decisions.{here}
+use Rattle.sl_first.proofs.FirstLaws.{leader_within, on_area}
+use Rattle.sl_first.proofs.Lines.{acquire_due, ended, misread, release_due, replied}
+use Rattle.sl_first.proofs.Standing.{line_answered, line_begun, quiet_stands}
+use Rattle.sl_first.specs.FirstPath.{Doing, IsDoing, IsFirst, IsNextCall, Kept, Stands, first_effects, first_entry, is_first_call, next_doing, one_reply}
+use Rattle.sl_first.specs.FirstSteps.{FirstStands, Freeing, Holds, Idle, LineFirst, LineStep, Phase, Reading_area, Works, acquire_line, answers, first_grant, first_read, kept_in, last_write, release_by, release_line}
 use Rattle.sl_trace.specs.Limits.{most_processes}
 use Rattle.sl_trace.specs.Traces.{Setting, Submitted, Trace, end_of, new_call, no_effects}
 use Rattle.sl_trace.specs.declared.command.Command.TheVariants.{Acquire, Release}
@@ -78,7 +78,7 @@ release_same st g r f call job q lver answered es h text p small reads true is =
       stands = record {
         stands = subst (λ gs. Stands st g r (record { next_call = call + 1; next_job = job + 1; work = Some (next_doing st g es text (Release r p) FreeLeader (last_write st g r call job lver answered)); answered = answered; held = gs })
             (first_entry g (Line text) (first_effects (end_of (first_grant g r q lver) ∷ []) [] [] (last_write st g r call job lver answered ∷ [])) ∷ es)) (ended g r q lver) began;
-        course = Freeing p _;
+        course = Freeing p _ h.course;
       };
     }
 

@@ -1,9 +1,9 @@
 -- What the session knows of its lease, where each of its calls is for the lease and it holds nothing.
 use Rattle.sl_area.specs.Layouts.{Layout}
-use Rattle.sl_host.proofs.CalmRenewal.{leases_first, survey_none as no_survey}
-use Rattle.sl_host.proofs.Decided.{calls_first, nothing_on}
-use Rattle.sl_host.specs.FirstPath.{IsCalm, first_session, is_first_call}
-use Rattle.sl_host.specs.FirstSteps.{first_known, first_over, first_self}
+use Rattle.sl_first.proofs.CalmRenewal.{leases_first, survey_none as no_survey}
+use Rattle.sl_first.proofs.Decided.{calls_first, nothing_on}
+use Rattle.sl_first.specs.FirstPath.{IsCalm, first_session, is_first_call}
+use Rattle.sl_first.specs.FirstSteps.{first_known, first_over, first_self}
 use Rattle.sl_leases.specs.Leases.{LeaseKnown, exclusive_on, has_shared_on, is_lease_call, is_on, known, known_of, lease_calls, lease_step, spot_of}
 use Rattle.sl_sector.specs.declared.sector.DeltaRec.{DeltaRec}
 use Rattle.sl_sector.specs.declared.sector.Owner.{Owner}

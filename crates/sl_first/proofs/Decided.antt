@@ -1,11 +1,11 @@
 -- What the commands of the first path come to.
 use Rattle.sl_due.specs.DueCommands.{Decision, Gives_up, Reads_area, Replies, acquiring, busy_refusal, decided, holding_of, limit_refusal, pending_refusal, process_refusal, session_refusal, unless_refused, with_session}
-use Rattle.sl_host.proofs.CalmLaws.{is_joined_first, sessions_first}
-use Rattle.sl_host.proofs.CalmRenewal.{leases_first}
-use Rattle.sl_host.proofs.Decisions.{busy_holder, call_pending, here, may_ask, nobody_busy, not_refused, nothing_pending, session_here}
-use Rattle.sl_host.proofs.Spots.{is_even, same_self, spots_first}
-use Rattle.sl_host.specs.FirstPath.{Doing, IsDoing, IsFirst, Kept, Stands, first_session, is_first_call, jobs_kept, open_kept}
-use Rattle.sl_host.specs.FirstSteps.{first_grant}
+use Rattle.sl_first.proofs.CalmLaws.{is_joined_first, sessions_first}
+use Rattle.sl_first.proofs.CalmRenewal.{leases_first}
+use Rattle.sl_first.proofs.Decisions.{busy_holder, call_pending, here, may_ask, nobody_busy, not_refused, nothing_pending, session_here}
+use Rattle.sl_first.proofs.Spots.{is_even, same_self, spots_first}
+use Rattle.sl_first.specs.FirstPath.{Doing, IsDoing, IsFirst, Kept, Stands, first_session, is_first_call, jobs_kept, open_kept}
+use Rattle.sl_first.specs.FirstSteps.{first_grant}
 use Rattle.sl_leases.specs.Counts.{holder_count, limit_met, resource_count, ungranted}
 use Rattle.sl_leases.specs.Jobs.{is_asking_lease, is_command_that, is_granted_job}
 use Rattle.sl_leases.specs.Leases.{holdings_on, is_on, lease_spots, spot_of, spots_in}

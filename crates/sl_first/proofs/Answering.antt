@@ -5,14 +5,14 @@ use Rattle.sl_due.specs.DueInputs.{take_input}
 use Rattle.sl_due.specs.DueLease.{after_lease_answer, carry_lease, grant_for, next_of_lease}
 use Rattle.sl_due.specs.DueWake.{finish}
 use Rattle.sl_due.specs.Steps.{Step, begin_step, seen, when, with_some}
-use Rattle.sl_host.proofs.CalmLaws.{append_none, is_present_first, sessions_first}
-use Rattle.sl_host.proofs.Entries.{runs_on}
-use Rattle.sl_host.proofs.Knowledge.{known_first}
-use Rattle.sl_host.proofs.Spots.{is_even, spot_first}
-use Rattle.sl_host.proofs.Standing.{held_stays, mine_told, quiet_stands, runs, told_calls, told_same}
-use Rattle.sl_host.proofs.Stillness.{nothing_after, nothing_before}
-use Rattle.sl_host.specs.FirstPath.{Doing, IsCalm, IsDoing, IsFirst, Kept, Stands, calls_kept, first_effects, first_entry, first_session, heeded_call, is_first_call, one_reply, open_kept}
-use Rattle.sl_host.specs.FirstSteps.{Further, Reads_phase1, Reads_phase2, Writes_block, Writes_leader, blocks_read, first_grant, first_known, first_next, further_call, leader_write, next_of, own_write, step_of}
+use Rattle.sl_first.proofs.CalmLaws.{append_none, is_present_first, sessions_first}
+use Rattle.sl_first.proofs.Entries.{runs_on}
+use Rattle.sl_first.proofs.Knowledge.{known_first}
+use Rattle.sl_first.proofs.Spots.{is_even, spot_first}
+use Rattle.sl_first.proofs.Standing.{held_stays, mine_told, quiet_stands, runs, told_calls, told_same}
+use Rattle.sl_first.proofs.Stillness.{nothing_after, nothing_before}
+use Rattle.sl_first.specs.FirstPath.{Doing, IsCalm, IsDoing, IsFirst, Kept, Stands, calls_kept, first_effects, first_entry, first_session, heeded_call, is_first_call, one_reply, open_kept}
+use Rattle.sl_first.specs.FirstSteps.{Further, Reads_phase1, Reads_phase2, Writes_block, Writes_leader, blocks_read, first_grant, first_known, first_next, further_call, leader_write, next_of, own_write, step_of}
 use Rattle.sl_leases.specs.Jobs.{aim_of, aim_of_command, command_numbered, command_of}
 use Rattle.sl_leases.specs.LeaseWork.{lease_next, lease_place}
 use Rattle.sl_leases.specs.Leases.{LeaseKnown, is_on, known, lease_step, lver_written, spot_of, spot_of_call}

@@ -1,6 +1,6 @@
 -- All calls of the session are on one area.
 use Rattle.sl_area.specs.Places.{in_area}
-use Rattle.sl_host.specs.FirstPath.{is_first_call}
+use Rattle.sl_first.specs.FirstPath.{is_first_call}
 use Rattle.sl_leases.specs.Leases.{is_lease_call, is_on, spot_of, spot_of_call, spots_in, with_spot}
 use Rattle.sl_sessions.specs.Sessions.{delta_written}
 use Rattle.sl_trace.specs.Traces.{Setting, Submitted, same_place, same_spot}

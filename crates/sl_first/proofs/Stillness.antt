@@ -4,11 +4,11 @@ use Rattle.sl_due.specs.DueDelta.{carry_delta}
 use Rattle.sl_due.specs.DueFirst.{begin_recoveries, begin_recovery, begins_now, is_kill_due, is_overdue, kill_holders, kills, kills_holders, refuse, signal_and_refuse, signal_holders, time_out, time_outs}
 use Rattle.sl_due.specs.DueWake.{finish, finish_session, free_if_done, end_if_done, is_wake}
 use Rattle.sl_due.specs.Steps.{Step, begin_step, for_each, seen, when, with_some}
-use Rattle.sl_host.proofs.CalmLaws.{is_joined_first, present_first}
-use Rattle.sl_host.proofs.CalmRenewal.{leaving_none, recovery_none}
-use Rattle.sl_host.proofs.Growth.{none_unanswered}
-use Rattle.sl_host.proofs.Standing.{quiet_stands}
-use Rattle.sl_host.specs.FirstPath.{Doing, IsCalm, IsDoing, IsFirst, IsWork, Kept, Stands, first_entry, first_session, has_answer, jobs_kept, open_kept}
+use Rattle.sl_first.proofs.CalmLaws.{is_joined_first, present_first}
+use Rattle.sl_first.proofs.CalmRenewal.{leaving_none, recovery_none}
+use Rattle.sl_first.proofs.Growth.{none_unanswered}
+use Rattle.sl_first.proofs.Standing.{quiet_stands}
+use Rattle.sl_first.specs.FirstPath.{Doing, IsCalm, IsDoing, IsFirst, IsWork, Kept, Stands, first_entry, first_session, has_answer, jobs_kept, open_kept}
 use Rattle.sl_sessions.specs.Deltas.{DeltaKnown, DeltaLease, delta_known, delta_of_session, next_free}
 use Rattle.sl_sessions.specs.Sessions.{Begun, Session, holdings_of, is_joined, leaving_job, leaving_of, open_calls_of, recovery_of}
 use Rattle.sl_sessions.specs.declared.delta.DeltaNext.TheVariants.{Nothing}

@@ -1,24 +1,25 @@
 -- Each answer of a job's call leads on: to a call, a reply or the grant.
 use Rattle.sl_area.specs.Layouts.{Layout}
-use Rattle.sl_area.specs.Places.{area_blocks, blocks_in}
-use Rattle.sl_host.proofs.Liveness.{area_live, phase1_read_live, phase2_read_live}
-use Rattle.sl_host.specs.FirstPath.{IsFirst, heeded_call}
-use Rattle.sl_host.specs.FirstSteps.{Course, Freeing, Goes_on_phase1, Goes_on_phase2, Grants, Live, Reading_area, Reading_phase1, Reading_phase2, Replies_late, Taking, Writing_phase1, Writing_phase2, first_known}
+use Rattle.sl_area.specs.Places.{area_blocks, blocks_in, leader_of}
+use Rattle.sl_first.proofs.Liveness.{area_live, phase1_read_live, phase2_read_live}
+use Rattle.sl_first.specs.FirstPath.{IsFirst, heeded_call}
+use Rattle.sl_first.specs.FirstSteps.{Course, Freeing, Goes_on_phase1, Goes_on_phase2, Grants, IsNamed, Live, Reading_area, Reading_phase1, Reading_phase2, Replies_late, Taking, Writing_phase1, Writing_phase2, first_known}
 use Rattle.sl_leases.specs.Ballots.{stop_of}
 use Rattle.sl_leases.specs.Jobs.{aim_of_command}
 use Rattle.sl_leases.specs.LeaseWork.{LeasePlace, after_phase1, after_phase2, lease_next}
-use Rattle.sl_leases.specs.Leases.{Area_read, LeaseKnown, Phase1_read, Phase2_read, Read_before_free, StepKind, kind_of_step, lease_step, same_kind, block_of_host, block_of_record, block_submitted, block_written, blocks_given, is_area_read, is_phase_read, last_blocks, own_known, own_or_read}
+use Rattle.sl_leases.specs.Leases.{Area_read, LeaseKnown, Phase1_read, Phase2_read, Read_before_free, StepKind, block_of_host, block_of_record, block_submitted, block_written, blocks_given, is_area_read, is_leader_of, is_phase_read, kind_of_step, last_blocks, lease_step, name_sought, own_known, own_or_read, same_kind, verified_name}
 use Rattle.sl_leases.specs.declared.lease.Aim.TheVariants.{Acquires, Releases}
 use Rattle.sl_leases.specs.declared.lease.Aim.{Aim}
 use Rattle.sl_leases.specs.declared.lease.LeaseNext.TheVariants.{Nothing}
 use Rattle.sl_leases.specs.declared.lease.LeaseNext.{LeaseNext}
 use Rattle.sl_sector.specs.declared.sector.Block.{Block}
+use Rattle.sl_sector.specs.declared.sector.Leader.{Leader}
 use Rattle.sl_sector.specs.declared.sector.Rec.TheVariants.{BlockIs}
-use Rattle.sl_trace.specs.Traces.{Setting, Submitted, Trace, is_answer_for, record_of}
+use Rattle.sl_trace.specs.Traces.{Setting, Submitted, Trace, gave, is_answer_for, record_of}
 use Rattle.sl_trace.specs.declared.command.Command.TheVariants.{Acquire, Release}
 use Rattle.sl_trace.specs.declared.command.Command.{Command}
 use Rattle.sl_trace.specs.declared.command.ResourceArg.{ResourceArg}
-use Rattle.sl_trace.specs.declared.effects.LeaseStep.TheVariants.{Phase1Read, Phase2Read, ReadArea}
+use Rattle.sl_trace.specs.declared.effects.LeaseStep.TheVariants.{Phase1Read, Phase1Write, Phase2Read, Phase2Write, ReadArea, TakeLeader}
 use Rattle.sl_trace.specs.declared.effects.LeaseStep.{LeaseStep}
 use Rattle.sl_trace.specs.declared.effects.Mode.TheVariants.{Exclusive}
 use Rattle.sl_trace.specs.declared.effects.Op.TheVariants.{ReadSectors, WriteRecord}
@@ -32,7 +33,7 @@ use Rattle.sl_trace.specs.declared.input.Given.{Given}
 use Rattle.sl_trace.specs.declared.reply.Reply.TheVariants.{Done, IoFault}
 use Rattle.sl_words.proofs.CaseLaws.{false_is_true}
 use Rattle.sl_words.proofs.WordLaws.{and_true}
-use Rattle.sl_words.specs.Words.{some_is}
+use Rattle.sl_words.specs.Words.{choose, some_is}
 use Rattle.std.proofs.Common.{ap, arith, refl, subst, sym, tests, ◌∙◌}
 use Rattle.sl_words.proofs.OptionLaws.{cond_none}
 use Rattle.std.proofs.lemmas.Option.{unwrap_or-slice_get}
@@ -138,47 +139,67 @@ own_written es g m answered b is =
 abbrev first_place : Setting → Given → LeasePlace
 first_place st g = record { layout = st.layout; lockspace = g.lockspace }
 
-phase1_given : (r : ResourceArg) (ms : List Submitted) (p : ℕ) (place : LeasePlace) (k : LeaseKnown) (bytes : List ℕ) (o : Option Block) (b : Block) → o ≡ Some b
-    → Live r ms (Acquire r false p) (option_map_or (λ own. after_phase1 place k (Acquires Exclusive) own (blocks_in place.layout bytes) (stop_of own (blocks_in place.layout bytes))) o Nothing)
-phase1_given r ms p place k bytes o b is =
-    subst (λ (q : Option Block). Live r ms (Acquire r false p) (option_map_or (λ own. after_phase1 place k (Acquires Exclusive) own (blocks_in place.layout bytes) (stop_of own (blocks_in place.layout bytes))) q Nothing)) (sym is)
-    (phase1_read_live r ms p place k b (blocks_in place.layout bytes) (stop_of b (blocks_in place.layout bytes)))
+phase1_given : (r : ResourceArg) (ms : List Submitted) (N : Type 0) (nm : N) (p : ℕ) (place : LeasePlace) (k : LeaseKnown) (bytes : List ℕ) (o : Option Block) (b : Block) → o ≡ Some b
+    → Live r ms N (Acquire r false p) (option_map_or (λ own. after_phase1 place k (Acquires Exclusive) own (blocks_in place.layout bytes) (stop_of own (blocks_in place.layout bytes))) o Nothing)
+phase1_given r ms N nm p place k bytes o b is =
+    subst (λ (q : Option Block). Live r ms N (Acquire r false p) (option_map_or (λ own. after_phase1 place k (Acquires Exclusive) own (blocks_in place.layout bytes) (stop_of own (blocks_in place.layout bytes))) q Nothing)) (sym is)
+    (phase1_read_live r ms N nm p place k b (blocks_in place.layout bytes) (stop_of b (blocks_in place.layout bytes)))
 
-phase2_given : (r : ResourceArg) (ms : List Submitted) (p : ℕ) (place : LeasePlace) (k : LeaseKnown) (bytes : List ℕ) (o : Option Block) (b : Block) → own_known k ≡ Some b → o ≡ Some b
-    → Live r ms (Acquire r false p) (option_map_or (λ own. after_phase2 place k (Acquires Exclusive) own (stop_of own (blocks_in place.layout bytes))) o Nothing)
-phase2_given r ms p place k bytes o b known is =
-    subst (λ (q : Option Block). Live r ms (Acquire r false p) (option_map_or (λ own. after_phase2 place k (Acquires Exclusive) own (stop_of own (blocks_in place.layout bytes))) q Nothing)) (sym is)
-    (phase2_read_live r ms p place k b known (stop_of b (blocks_in place.layout bytes)))
+phase2_given : (r : ResourceArg) (ms : List Submitted) (N : Type 0) (nm : N) (p : ℕ) (place : LeasePlace) (k : LeaseKnown) (bytes : List ℕ) (o : Option Block) (b : Block) → own_known k ≡ Some b → o ≡ Some b
+    → Live r ms N (Acquire r false p) (option_map_or (λ own. after_phase2 place k (Acquires Exclusive) own (stop_of own (blocks_in place.layout bytes))) o Nothing)
+phase2_given r ms N nm p place k bytes o b known is =
+    subst (λ (q : Option Block). Live r ms N (Acquire r false p) (option_map_or (λ own. after_phase2 place k (Acquires Exclusive) own (stop_of own (blocks_in place.layout bytes))) q Nothing)) (sym is)
+    (phase2_read_live r ms N nm p place k b known (stop_of b (blocks_in place.layout bytes)))
+
+-- A call that reads no area leaves the verified name.
+still_named : (st : Setting) (g : Given) (r : ResourceArg) (es : Trace) (a : Answer) (m : Submitted) (answered : List Submitted) (j : ℕ) (step : LeaseStep) → m.call.purpose ≡ Lease (ForJob j) step
+    → name_sought (Lease (ForJob j) step) ≡ None → IsNamed st g r answered → IsNamed st g r (heeded_call es g a m ∷ answered)
+still_named st g r es a m answered j step for none named =
+    ap (λ (o : Option (List ℕ)). elim (elim o as (λ x. Option (List ℕ)) [ None ↦ None | Some name ↦ elim (option_and_then (leader_of st.layout) (gave (heeded_call es g a m))) as (λ x. Option (List ℕ)) [
+        None ↦ None | Some l ↦ choose (is_leader_of st.layout g.lockspace name l) name ] ]) as (λ x. List ℕ) [ Some name ↦ name | None ↦ verified_name st.layout g.lockspace answered ])
+        (ap (λ p. name_sought p) for ∙ none)
+    ∙ named
+
+-- A read of the area that finds the name verifies it.
+now_named : (st : Setting) (g : Given) (r : ResourceArg) (es : Trace) (bytes : List ℕ) (m : Submitted) (answered : List Submitted) (j : ℕ) → m.call.purpose ≡ Lease (ForJob j) (ReadArea r.name)
+    → (l : Leader) → leader_of st.layout bytes ≡ Some l → is_leader_of st.layout g.lockspace r.name l ≡ true → IsNamed st g r (heeded_call es g (Read bytes) m ∷ answered)
+now_named st g r es bytes m answered j for l there right =
+    ap (λ (p : Purpose). elim (elim (name_sought p) as (λ x. Option (List ℕ)) [ None ↦ None | Some name ↦ elim (leader_of st.layout bytes) as (λ x. Option (List ℕ)) [
+        None ↦ None | Some l ↦ choose (is_leader_of st.layout g.lockspace name l) name ] ]) as (λ x. List ℕ) [ Some name ↦ name | None ↦ verified_name st.layout g.lockspace answered ]) for
+    ∙ ap (λ (o : Option Leader). elim (elim o as (λ x. Option (List ℕ)) [ None ↦ None | Some l ↦ choose (is_leader_of st.layout g.lockspace r.name l) r.name ]) as (λ x. List ℕ)
+        [ Some name ↦ name | None ↦ verified_name st.layout g.lockspace answered ]) there
+    ∙ ap (λ b. elim (choose b r.name) as (λ x. List ℕ) [ Some name ↦ name | None ↦ verified_name st.layout g.lockspace answered ]) right
 
 pub course_live : (st : Setting) (g : Given) (r : ResourceArg) → IsFirst st g r → (es : Trace) (answered : List Submitted) (m : Submitted) (j call lver : ℕ) (command : Command) (step : LeaseStep) (op : Op)
-    → Course st r answered command step op → m.call.op ≡ op → m.call.purpose ≡ Lease (ForJob j) step → (a : Answer) → is_answer_for st a op ≡ true
-    → Live r (heeded_call es g a m ∷ answered) command (lease_next (first_place st g) (first_known st g (heeded_call es g a m ∷ answered)) (aim_for command) call lver step a)
+    → Course st g r answered command step op → m.call.op ≡ op → m.call.purpose ≡ Lease (ForJob j) step → (a : Answer) → is_answer_for st a op ≡ true
+    → Live r (heeded_call es g a m ∷ answered) (IsNamed st g r (heeded_call es g a m ∷ answered)) command
+        (lease_next (first_place st g) (first_known st g (heeded_call es g a m ∷ answered)) (aim_for command) call lver step a)
 unfolding lease_next
-course_live st g r f es answered m j call lver command step op (Reading_area p) is for (Read bytes) fits =
-    area_live r (heeded_call es g (Read bytes) m ∷ answered) p (first_place st g) (first_known st g (heeded_call es g (Read bytes) m ∷ answered)) r.name bytes
+course_live st g r f es answered m j call lver command step op (Reading_area p) is for (Read bytes) fits = 
+    area_live r (heeded_call es g (Read bytes) m ∷ answered) (IsNamed st g r (heeded_call es g (Read bytes) m ∷ answered)) p (first_place st g) (first_known st g (heeded_call es g (Read bytes) m ∷ answered)) r.name bytes (now_named st g r es bytes m answered j for)
     (λ whole. own_after_area st g r f es bytes m answered j (st.layout.hosts + 2) r.name is for whole)
 course_live st g r f es answered m j call lver command step op (Reading_area p) is for Written fits = absurd (false_is_true fits)
 course_live st g r f es answered m j call lver command step op (Reading_area p) is for Failed fits = Replies_late (Acquire r false p) (IoFault call) refl
-course_live st g r f es answered m j call lver command step op (Writing_phase1 p b) is for (Read bytes) fits = absurd (false_is_true fits)
-course_live st g r f es answered m j call lver command step op (Writing_phase1 p b) is for Written fits = Goes_on_phase1 p b (own_written es g m answered b is)
-course_live st g r f es answered m j call lver command step op (Writing_phase1 p b) is for Failed fits = Replies_late (Acquire r false p) (IoFault call) refl
-course_live st g r f es answered m j call lver command step op (Reading_phase1 p b own) is for (Read bytes) fits =
-    phase1_given r (heeded_call es g (Read bytes) m ∷ answered) p (first_place st g) (first_known st g (heeded_call es g (Read bytes) m ∷ answered)) bytes (block_submitted (heeded_call es g (Read bytes) m ∷ answered)) b
+course_live st g r f es answered m j call lver command step op (Writing_phase1 p b named) is for (Read bytes) fits = absurd (false_is_true fits)
+course_live st g r f es answered m j call lver command step op (Writing_phase1 p b named) is for Written fits = Goes_on_phase1 p b (still_named st g r es Written m answered j Phase1Write for refl named) (own_written es g m answered b is)
+course_live st g r f es answered m j call lver command step op (Writing_phase1 p b named) is for Failed fits = Replies_late (Acquire r false p) (IoFault call) refl
+course_live st g r f es answered m j call lver command step op (Reading_phase1 p b named own) is for (Read bytes) fits = 
+    phase1_given r (heeded_call es g (Read bytes) m ∷ answered) (IsNamed st g r (heeded_call es g (Read bytes) m ∷ answered)) (still_named st g r es (Read bytes) m answered j Phase1Read for refl named) p (first_place st g) (first_known st g (heeded_call es g (Read bytes) m ∷ answered)) bytes (block_submitted (heeded_call es g (Read bytes) m ∷ answered)) b
     (own_after_phase st g es (Read bytes) m answered st.layout.hosts b is own)
-course_live st g r f es answered m j call lver command step op (Reading_phase1 p b own) is for Written fits = absurd (false_is_true fits)
-course_live st g r f es answered m j call lver command step op (Reading_phase1 p b own) is for Failed fits = Replies_late (Acquire r false p) (IoFault call) refl
-course_live st g r f es answered m j call lver command step op (Writing_phase2 p b) is for (Read bytes) fits = absurd (false_is_true fits)
-course_live st g r f es answered m j call lver command step op (Writing_phase2 p b) is for Written fits = Goes_on_phase2 p b (own_written es g m answered b is)
-course_live st g r f es answered m j call lver command step op (Writing_phase2 p b) is for Failed fits = Replies_late (Acquire r false p) (IoFault call) refl
-course_live st g r f es answered m j call lver command step op (Reading_phase2 p b own) is for (Read bytes) fits =
+course_live st g r f es answered m j call lver command step op (Reading_phase1 p b named own) is for Written fits = absurd (false_is_true fits)
+course_live st g r f es answered m j call lver command step op (Reading_phase1 p b named own) is for Failed fits = Replies_late (Acquire r false p) (IoFault call) refl
+course_live st g r f es answered m j call lver command step op (Writing_phase2 p b named) is for (Read bytes) fits = absurd (false_is_true fits)
+course_live st g r f es answered m j call lver command step op (Writing_phase2 p b named) is for Written fits = Goes_on_phase2 p b (still_named st g r es Written m answered j Phase2Write for refl named) (own_written es g m answered b is)
+course_live st g r f es answered m j call lver command step op (Writing_phase2 p b named) is for Failed fits = Replies_late (Acquire r false p) (IoFault call) refl
+course_live st g r f es answered m j call lver command step op (Reading_phase2 p b named own) is for (Read bytes) fits = 
     let known = own_after_phase st g es (Read bytes) m answered st.layout.hosts b is own in
-    phase2_given r (heeded_call es g (Read bytes) m ∷ answered) p (first_place st g) (first_known st g (heeded_call es g (Read bytes) m ∷ answered)) bytes (block_submitted (heeded_call es g (Read bytes) m ∷ answered)) b
+    phase2_given r (heeded_call es g (Read bytes) m ∷ answered) (IsNamed st g r (heeded_call es g (Read bytes) m ∷ answered)) (still_named st g r es (Read bytes) m answered j Phase2Read for refl named) p (first_place st g) (first_known st g (heeded_call es g (Read bytes) m ∷ answered)) bytes (block_submitted (heeded_call es g (Read bytes) m ∷ answered)) b
     (ap (λ o. own_or_read g.id o (last_blocks st.layout (heeded_call es g (Read bytes) m ∷ answered))) known) known
-course_live st g r f es answered m j call lver command step op (Reading_phase2 p b own) is for Written fits = absurd (false_is_true fits)
-course_live st g r f es answered m j call lver command step op (Reading_phase2 p b own) is for Failed fits = Replies_late (Acquire r false p) (IoFault call) refl
-course_live st g r f es answered m j call lver command step op (Taking p l) is for (Read bytes) fits = absurd (false_is_true fits)
-course_live st g r f es answered m j call lver command step op (Taking p l) is for Written fits = Grants p lver
-course_live st g r f es answered m j call lver command step op (Taking p l) is for Failed fits = Replies_late (Acquire r false p) (IoFault call) refl
-course_live st g r f es answered m j call lver command step op (Freeing p l) is for (Read bytes) fits = absurd (false_is_true fits)
-course_live st g r f es answered m j call lver command step op (Freeing p l) is for Written fits = Replies_late (Release r p) Done refl
-course_live st g r f es answered m j call lver command step op (Freeing p l) is for Failed fits = Replies_late (Release r p) (IoFault call) refl
+course_live st g r f es answered m j call lver command step op (Reading_phase2 p b named own) is for Written fits = absurd (false_is_true fits)
+course_live st g r f es answered m j call lver command step op (Reading_phase2 p b named own) is for Failed fits = Replies_late (Acquire r false p) (IoFault call) refl
+course_live st g r f es answered m j call lver command step op (Taking p l named) is for (Read bytes) fits = absurd (false_is_true fits)
+course_live st g r f es answered m j call lver command step op (Taking p l named) is for Written fits = Grants p lver (still_named st g r es Written m answered j TakeLeader for refl named)
+course_live st g r f es answered m j call lver command step op (Taking p l named) is for Failed fits = Replies_late (Acquire r false p) (IoFault call) refl
+course_live st g r f es answered m j call lver command step op (Freeing p l named) is for (Read bytes) fits = absurd (false_is_true fits)
+course_live st g r f es answered m j call lver command step op (Freeing p l named) is for Written fits = Replies_late (Release r p) Done refl
+course_live st g r f es answered m j call lver command step op (Freeing p l named) is for Failed fits = Replies_late (Release r p) (IoFault call) refl

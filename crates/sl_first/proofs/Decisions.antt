@@ -1,10 +1,10 @@
 -- What commands come to, by where the host stands.
 use Rattle.sl_due.specs.DueCommands.{Decision, Gives_up, Reads_area, Replies, acquiring, busy_refusal, decided, holding_of, limit_refusal, pending_refusal, process_refusal, session_refusal, unless_refused, with_session}
-use Rattle.sl_host.proofs.CalmLaws.{is_joined_first, present_first}
-use Rattle.sl_host.proofs.CalmRenewal.{leases_first, leaving_none, recovery_none}
-use Rattle.sl_host.proofs.Stillness.{open_first}
-use Rattle.sl_host.specs.FirstPath.{Doing, IsDoing, IsFirst, IsWork, Kept, Stands, first_session, is_first_call, open_kept}
-use Rattle.sl_host.specs.FirstSteps.{Holds, Idle, Phase, Works, first_grant, held_in, kept_in, work_in}
+use Rattle.sl_first.proofs.CalmLaws.{is_joined_first, present_first}
+use Rattle.sl_first.proofs.CalmRenewal.{leases_first, leaving_none, recovery_none}
+use Rattle.sl_first.proofs.Stillness.{open_first}
+use Rattle.sl_first.specs.FirstPath.{Doing, IsDoing, IsFirst, IsWork, Kept, Stands, first_session, is_first_call, open_kept}
+use Rattle.sl_first.specs.FirstSteps.{Holds, Idle, Phase, Works, first_grant, held_in, kept_in, work_in}
 use Rattle.sl_leases.specs.Counts.{busy_among, busy_process, held_here, may_act, pending_call}
 use Rattle.sl_leases.specs.Leases.{is_on, open_on, spot_of}
 use Rattle.sl_sessions.specs.Sessions.{Begun, Session, is_active, is_joined, delta_written, last_renewal, leaving_job, recovery_of, session_named}

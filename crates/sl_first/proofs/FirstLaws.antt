@@ -1,11 +1,11 @@
 -- A host of the first path: what each input makes due, and that it stands for the trace with its entry.
 use Rattle.sl_area.specs.Places.{block_offset, in_area, leader_offset}
 use Rattle.sl_due.specs.Due.{due}
-use Rattle.sl_host.proofs.Answering.{further_due, grant_due, reply_due}
-use Rattle.sl_host.proofs.Courses.{aim_for, course_live, host_in}
-use Rattle.sl_host.proofs.Standing.{told_done, told_more}
-use Rattle.sl_host.specs.FirstPath.{Doing, IsDoing, IsFirst, IsNextCall, Kept, Stands, first_effects, first_entry, heeded_call, is_first_call, one_reply}
-use Rattle.sl_host.specs.FirstSteps.{Begins_phase1, Begins_phase2, Course, FirstStands, Freeing, Further, Goes_on_phase1, Goes_on_phase2, Grants, Holds, Idle, Live, OnCourse, Phase, Reading_area, Reading_phase1, Reading_phase2, Reads_phase1, Reads_phase2, Replies_late, Takes, Taking, ToldFirst, Works, Writes_block, Writes_leader, Writing_phase1, Writing_phase2, first_grant, first_next, further_call, kept_in, next_of, process_of, step_of, told_effects, told_number, told_phase}
+use Rattle.sl_first.proofs.Answering.{further_due, grant_due, reply_due}
+use Rattle.sl_first.proofs.Courses.{aim_for, course_live, host_in}
+use Rattle.sl_first.proofs.Standing.{told_done, told_more}
+use Rattle.sl_first.specs.FirstPath.{Doing, IsDoing, IsFirst, IsNextCall, Kept, Stands, first_effects, first_entry, heeded_call, is_first_call, one_reply}
+use Rattle.sl_first.specs.FirstSteps.{Begins_phase1, Begins_phase2, Course, FirstStands, Freeing, Further, Goes_on_phase1, Goes_on_phase2, Grants, Holds, Idle, IsNamed, Live, OnCourse, Phase, Reading_area, Reading_phase1, Reading_phase2, Reads_phase1, Reads_phase2, Replies_late, Takes, Taking, ToldFirst, Works, Writes_block, Writes_leader, Writing_phase1, Writing_phase2, first_grant, first_next, further_call, kept_in, next_of, process_of, step_of, told_effects, told_number, told_phase}
 use Rattle.sl_leases.specs.Jobs.{aim_of_command}
 use Rattle.sl_leases.specs.Leases.{is_on, lver_written, spot_of}
 use Rattle.sl_leases.specs.declared.lease.Aim.{Aim}
@@ -65,23 +65,23 @@ further_placed st g r f number job (Writes_leader step l) =
 -- ---- answers
 
 -- A command of the first path has an aim.
-aim_there : (st : Setting) (r : ResourceArg) (answered : List Submitted) (command : Command) (step : LeaseStep) (op : Op) → Course st r answered command step op → aim_of_command command ≡ Some (aim_for command)
-aim_there st r answered command step op (Reading_area p) = refl
-aim_there st r answered command step op (Writing_phase1 p b) = refl
-aim_there st r answered command step op (Reading_phase1 p b own) = refl
-aim_there st r answered command step op (Writing_phase2 p b) = refl
-aim_there st r answered command step op (Reading_phase2 p b own) = refl
-aim_there st r answered command step op (Taking p l) = refl
-aim_there st r answered command step op (Freeing p l) = refl
+aim_there : (st : Setting) (g : Given) (r : ResourceArg) (answered : List Submitted) (command : Command) (step : LeaseStep) (op : Op) → Course st g r answered command step op → aim_of_command command ≡ Some (aim_for command)
+aim_there st g r answered command step op (Reading_area p) = refl
+aim_there st g r answered command step op (Writing_phase1 p b named) = refl
+aim_there st g r answered command step op (Reading_phase1 p b named own) = refl
+aim_there st g r answered command step op (Writing_phase2 p b named) = refl
+aim_there st g r answered command step op (Reading_phase2 p b named own) = refl
+aim_there st g r answered command step op (Taking p l named) = refl
+aim_there st g r answered command step op (Freeing p l named) = refl
 
 -- The call goes on with the work.
 told_further : (st : Setting) (g : Given) (r : ResourceArg) → IsFirst st g r → (call job : ℕ) (d : Doing) (answered : List Submitted) (es : Trace) → FirstStands st g r call job (Works d) answered es
     → (a : Answer) (f : Further) → first_next st g es d answered (aim_for d.command) a ≡ next_of f
-    → Course st r (heeded_call es g a d.call ∷ answered) d.command (step_of f) (further_call st g r call d.job.number f).op
+    → Course st g r (heeded_call es g a d.call ∷ answered) d.command (step_of f) (further_call st g r call d.job.number f).op
     → ToldFirst st g r call job d answered es a (next_of f)
 told_further st g r f call job d answered es h a Reads_phase1 comes course =
     record {
-      due_is = further_due st g r (kept_in g r call job (Works d) answered) es f h.stands d refl refl h.stands.work a (aim_for d.command) (aim_there st r answered d.command d.step d.call.call.op h.course) Reads_phase1 comes;
+      due_is = further_due st g r (kept_in g r call job (Works d) answered) es f h.stands d refl refl h.stands.work a (aim_for d.command) (aim_there st g r answered d.command d.step d.call.call.op h.course) Reads_phase1 comes;
       stands = record {
         stands = told_more st g r (kept_in g r call job (Works d) answered) es h.stands d refl h.stands.work a Phase1Read (further_call st g r call d.job.number Reads_phase1)
             (record { numbered = refl; placed = further_placed st g r f call d.job.number Reads_phase1; for_job = refl });
@@ -90,7 +90,7 @@ told_further st g r f call job d answered es h a Reads_phase1 comes course =
     }
 told_further st g r f call job d answered es h a Reads_phase2 comes course =
     record {
-      due_is = further_due st g r (kept_in g r call job (Works d) answered) es f h.stands d refl refl h.stands.work a (aim_for d.command) (aim_there st r answered d.command d.step d.call.call.op h.course) Reads_phase2 comes;
+      due_is = further_due st g r (kept_in g r call job (Works d) answered) es f h.stands d refl refl h.stands.work a (aim_for d.command) (aim_there st g r answered d.command d.step d.call.call.op h.course) Reads_phase2 comes;
       stands = record {
         stands = told_more st g r (kept_in g r call job (Works d) answered) es h.stands d refl h.stands.work a Phase2Read (further_call st g r call d.job.number Reads_phase2)
             (record { numbered = refl; placed = further_placed st g r f call d.job.number Reads_phase2; for_job = refl });
@@ -99,7 +99,7 @@ told_further st g r f call job d answered es h a Reads_phase2 comes course =
     }
 told_further st g r f call job d answered es h a (Writes_block step b) comes course =
     record {
-      due_is = further_due st g r (kept_in g r call job (Works d) answered) es f h.stands d refl refl h.stands.work a (aim_for d.command) (aim_there st r answered d.command d.step d.call.call.op h.course) (Writes_block step b) comes;
+      due_is = further_due st g r (kept_in g r call job (Works d) answered) es f h.stands d refl refl h.stands.work a (aim_for d.command) (aim_there st g r answered d.command d.step d.call.call.op h.course) (Writes_block step b) comes;
       stands = record {
         stands = told_more st g r (kept_in g r call job (Works d) answered) es h.stands d refl h.stands.work a step (further_call st g r call d.job.number (Writes_block step b))
             (record { numbered = refl; placed = further_placed st g r f call d.job.number (Writes_block step b); for_job = refl });
@@ -108,7 +108,7 @@ told_further st g r f call job d answered es h a (Writes_block step b) comes cou
     }
 told_further st g r f call job d answered es h a (Writes_leader step l) comes course =
     record {
-      due_is = further_due st g r (kept_in g r call job (Works d) answered) es f h.stands d refl refl h.stands.work a (aim_for d.command) (aim_there st r answered d.command d.step d.call.call.op h.course) (Writes_leader step l) comes;
+      due_is = further_due st g r (kept_in g r call job (Works d) answered) es f h.stands d refl refl h.stands.work a (aim_for d.command) (aim_there st g r answered d.command d.step d.call.call.op h.course) (Writes_leader step l) comes;
       stands = record {
         stands = told_more st g r (kept_in g r call job (Works d) answered) es h.stands d refl h.stands.work a step (further_call st g r call d.job.number (Writes_leader step l))
             (record { numbered = refl; placed = further_placed st g r f call d.job.number (Writes_leader step l); for_job = refl });
@@ -122,41 +122,41 @@ told_reply : (st : Setting) (g : Given) (r : ResourceArg) → IsFirst st g r →
     → ToldFirst st g r call job d answered es a (AnswerJob why)
 told_reply st g r f call job d answered es h a why comes late =
     record {
-      due_is = reply_due st g r (kept_in g r call job (Works d) answered) es f h.stands d refl refl h.stands.work a (aim_for d.command) (aim_there st r answered d.command d.step d.call.call.op h.course) why comes;
+      due_is = reply_due st g r (kept_in g r call job (Works d) answered) es f h.stands d refl refl h.stands.work a (aim_for d.command) (aim_there st g r answered d.command d.step d.call.call.op h.course) why comes;
       stands = record { stands = told_done st g r (kept_in g r call job (Works d) answered) es h.stands d refl h.stands.work a [] why late; course = tt };
     }
 
 -- The resource is granted.
 told_grant : (st : Setting) (g : Given) (r : ResourceArg) → IsFirst st g r → (call job : ℕ) (d : Doing) (answered : List Submitted) (es : Trace) → FirstStands st g r call job (Works d) answered es
     → (a : Answer) (p lver : ℕ) → d.command ≡ Acquire r false p → first_next st g es d answered (aim_for d.command) a ≡ GrantJob Exclusive lver
-    → ToldFirst st g r call job d answered es a (GrantJob Exclusive lver)
-told_grant st g r f call job d answered es h a p lver is comes =
+    → IsNamed st g r (heeded_call es g a d.call ∷ answered) → ToldFirst st g r call job d answered es a (GrantJob Exclusive lver)
+told_grant st g r f call job d answered es h a p lver is comes named =
     record {
       due_is = grant_due st g r (kept_in g r call job (Works d) answered) es f h.stands d refl refl h.stands.work a p lver is (ap (λ c. first_next st g es d answered (aim_for c) a) (sym is) ∙ comes)
           ∙ ap (λ c. first_effects [] (first_grant g r (process_of c) lver ∷ []) (one_reply d.job.number (Granted lver)) []) (sym is);
-      stands = record { stands = told_done st g r (kept_in g r call job (Works d) answered) es h.stands d refl h.stands.work a (first_grant g r (process_of d.command) lver ∷ []) (Granted lver) refl; course = tt };
+      stands = record { stands = told_done st g r (kept_in g r call job (Works d) answered) es h.stands d refl h.stands.work a (first_grant g r (process_of d.command) lver ∷ []) (Granted lver) refl; course = named };
     }
 
 -- By what may come next.
 told_by : (st : Setting) (g : Given) (r : ResourceArg) → IsFirst st g r → (call job : ℕ) (d : Doing) (answered : List Submitted) (es : Trace) → FirstStands st g r call job (Works d) answered es
     → (a : Answer) (command : Command) (next : LeaseNext) → d.command ≡ command → first_next st g es d answered (aim_for d.command) a ≡ next
-    → Live r (heeded_call es g a d.call ∷ answered) command next → ToldFirst st g r call job d answered es a next
-told_by st g r f call job d answered es h a command next is comes (Goes_on_phase1 p b own) =
+    → Live r (heeded_call es g a d.call ∷ answered) (IsNamed st g r (heeded_call es g a d.call ∷ answered)) command next → ToldFirst st g r call job d answered es a next
+told_by st g r f call job d answered es h a command next is comes (Goes_on_phase1 p b named own) =
     told_further st g r f call job d answered es h a Reads_phase1 comes
-    (subst (λ c. Course st r (heeded_call es g a d.call ∷ answered) c Phase1Read (ReadSectors st.layout.hosts)) (sym is) (Reading_phase1 p b own))
-told_by st g r f call job d answered es h a command next is comes (Goes_on_phase2 p b own) =
+    (subst (λ c. Course st g r (heeded_call es g a d.call ∷ answered) c Phase1Read (ReadSectors st.layout.hosts)) (sym is) (Reading_phase1 p b named own))
+told_by st g r f call job d answered es h a command next is comes (Goes_on_phase2 p b named own) =
     told_further st g r f call job d answered es h a Reads_phase2 comes
-    (subst (λ c. Course st r (heeded_call es g a d.call ∷ answered) c Phase2Read (ReadSectors st.layout.hosts)) (sym is) (Reading_phase2 p b own))
-told_by st g r f call job d answered es h a command next is comes (Begins_phase1 p b) =
+    (subst (λ c. Course st g r (heeded_call es g a d.call ∷ answered) c Phase2Read (ReadSectors st.layout.hosts)) (sym is) (Reading_phase2 p b named own))
+told_by st g r f call job d answered es h a command next is comes (Begins_phase1 p b named) =
     told_further st g r f call job d answered es h a (Writes_block Phase1Write b) comes
-    (subst (λ c. Course st r (heeded_call es g a d.call ∷ answered) c Phase1Write (WriteRecord (BlockIs b))) (sym is) (Writing_phase1 p b))
-told_by st g r f call job d answered es h a command next is comes (Begins_phase2 p b) =
+    (subst (λ c. Course st g r (heeded_call es g a d.call ∷ answered) c Phase1Write (WriteRecord (BlockIs b))) (sym is) (Writing_phase1 p b named))
+told_by st g r f call job d answered es h a command next is comes (Begins_phase2 p b named) =
     told_further st g r f call job d answered es h a (Writes_block Phase2Write b) comes
-    (subst (λ c. Course st r (heeded_call es g a d.call ∷ answered) c Phase2Write (WriteRecord (BlockIs b))) (sym is) (Writing_phase2 p b))
-told_by st g r f call job d answered es h a command next is comes (Takes p l) =
+    (subst (λ c. Course st g r (heeded_call es g a d.call ∷ answered) c Phase2Write (WriteRecord (BlockIs b))) (sym is) (Writing_phase2 p b named))
+told_by st g r f call job d answered es h a command next is comes (Takes p l named) =
     told_further st g r f call job d answered es h a (Writes_leader TakeLeader l) comes
-    (subst (λ c. Course st r (heeded_call es g a d.call ∷ answered) c TakeLeader (WriteRecord (LeaderIs l))) (sym is) (Taking p l))
-told_by st g r f call job d answered es h a command next is comes (Grants p lver) = told_grant st g r f call job d answered es h a p lver is comes
+    (subst (λ c. Course st g r (heeded_call es g a d.call ∷ answered) c TakeLeader (WriteRecord (LeaderIs l))) (sym is) (Taking p l named))
+told_by st g r f call job d answered es h a command next is comes (Grants p lver named) = told_grant st g r f call job d answered es h a p lver is comes named
 told_by st g r f call job d answered es h a command next is comes (Replies_late c why late) = told_reply st g r f call job d answered es h a why comes late
 
 -- Any answer that fits the work's call.

@@ -1,6 +1,6 @@
 -- In a calm trace no recovery and no leaving begins.
-use Rattle.sl_host.proofs.CalmLaws.{is_joined_first}
-use Rattle.sl_host.specs.FirstPath.{IsCalm, IsFirst, IsFirstCommand, first_session}
+use Rattle.sl_first.proofs.CalmLaws.{is_joined_first}
+use Rattle.sl_first.specs.FirstPath.{IsCalm, IsFirst, IsFirstCommand, first_session}
 use Rattle.sl_leases.specs.Leases.{is_lease_call, lease_step}
 use Rattle.sl_sessions.specs.Sessions.{Renewing, Session, is_call_of, is_joined, is_renewal, is_survey_purpose, leaves, leaving_in, leaving_job, recovery_of, renewed_by, renewing, renewing_after, shows_other, shows_other_in, generation_of, recovers}
 use Rattle.sl_time.specs.Times.{fail}

@@ -1,5 +1,5 @@
 -- What a calm trace tells of its session.
-use Rattle.sl_host.specs.FirstPath.{IsCalm, IsCalmEntry, IsFirst, IsFirstCommand, first_session}
+use Rattle.sl_first.specs.FirstPath.{IsCalm, IsCalmEntry, IsFirst, IsFirstCommand, first_session}
 use Rattle.sl_sessions.specs.Sessions.{Session, added, added_by, begun_in, ended_after, given_session, is_join_call, is_joined, is_present, joining_session, present_sessions, removed_after, removed_in, sessions, with_begun}
 use Rattle.sl_trace.specs.Connections.{unregisters}
 use Rattle.sl_trace.specs.Traces.{Setting, Trace, next_job}

@@ -1,7 +1,7 @@
 -- What a host keeps, after one more entry.
-use Rattle.sl_host.proofs.CalmLaws.{append_none}
-use Rattle.sl_host.proofs.Growth.{answered_stays, filter-append, filter_agrees, filter_both, is_running_more, none_unanswered}
-use Rattle.sl_host.specs.FirstPath.{Doing, IsCalm, IsCalmEntry, IsDoing, IsFirst, IsWork, Kept, Stands, calls_kept, first_effects, first_entry, has_answer, heeded_call, is_first_call, jobs_kept, one_reply, open_kept}
+use Rattle.sl_first.proofs.CalmLaws.{append_none}
+use Rattle.sl_first.proofs.Growth.{answered_stays, filter-append, filter_agrees, filter_both, is_running_more, none_unanswered}
+use Rattle.sl_first.specs.FirstPath.{Doing, IsCalm, IsCalmEntry, IsDoing, IsFirst, IsWork, Kept, Stands, calls_kept, first_effects, first_entry, has_answer, heeded_call, is_first_call, jobs_kept, one_reply, open_kept}
 use Rattle.sl_leases.specs.Jobs.{command_numbered, command_of}
 use Rattle.sl_leases.specs.Leases.{lease_step}
 use Rattle.sl_trace.specs.Traces.{Job, Setting, Submitted, Trace, children, holdings, is_running, job_in, job_numbered, jobs, new_call, next_call, next_job, no_effects, reply_in, reply_to, running_jobs, submitted}

@@ -5,13 +5,13 @@ use Rattle.sl_due.specs.DueInputs.{take_input}
 use Rattle.sl_due.specs.DueLease.{carry_lease}
 use Rattle.sl_due.specs.DueWake.{finish}
 use Rattle.sl_due.specs.Steps.{Step, add_end, add_reply, begin_step, seen, with_input}
-use Rattle.sl_host.proofs.Decided.{acquire_held, acquire_idle, acquire_pending, held_on, nothing_on, release_free, release_held, release_other}
-use Rattle.sl_host.proofs.Decisions.{here}
-use Rattle.sl_host.proofs.Knowledge.{known_first}
-use Rattle.sl_host.proofs.Standing.{quiet_stands}
-use Rattle.sl_host.proofs.Stillness.{nothing_after, nothing_before}
-use Rattle.sl_host.specs.FirstPath.{Doing, IsCalm, IsDoing, IsFirst, Kept, Stands, calls_kept, first_effects, first_entry, first_session, one_reply, open_kept}
-use Rattle.sl_host.specs.FirstSteps.{first_grant, first_known, first_read, last_write}
+use Rattle.sl_first.proofs.Decided.{acquire_held, acquire_idle, acquire_pending, held_on, nothing_on, release_free, release_held, release_other}
+use Rattle.sl_first.proofs.Decisions.{here}
+use Rattle.sl_first.proofs.Knowledge.{known_first}
+use Rattle.sl_first.proofs.Standing.{quiet_stands}
+use Rattle.sl_first.proofs.Stillness.{nothing_after, nothing_before}
+use Rattle.sl_first.specs.FirstPath.{Doing, IsCalm, IsDoing, IsFirst, Kept, Stands, calls_kept, first_effects, first_entry, first_session, one_reply, open_kept}
+use Rattle.sl_first.specs.FirstSteps.{first_grant, first_known, first_read, last_write}
 use Rattle.sl_leases.specs.LeaseWork.{lease_place, release_next}
 use Rattle.sl_leases.specs.Leases.{LeaseKnown, holdings_on, known, spot_of}
 use Rattle.sl_sessions.specs.Sessions.{Session}

@@ -2,10 +2,10 @@
 use Rattle.sl_area.specs.Places.{block_offset, leader_offset}
 use Rattle.sl_due.specs.Due.{due}
 use Rattle.sl_due.specs.DueLease.{grant_of}
-use Rattle.sl_host.specs.FirstPath.{Doing, Kept, Stands, first_effects, first_entry, first_session, heeded_call, next_doing, one_reply}
+use Rattle.sl_first.specs.FirstPath.{Doing, Kept, Stands, first_effects, first_entry, first_session, heeded_call, next_doing, one_reply}
 use Rattle.sl_leases.specs.Jobs.{process_named}
 use Rattle.sl_leases.specs.LeaseWork.{leader_for, lease_next}
-use Rattle.sl_leases.specs.Leases.{LeaseKnown, block_submitted, known_of, lver_written}
+use Rattle.sl_leases.specs.Leases.{LeaseKnown, block_submitted, known_of, lver_written, verified_name}
 use Rattle.sl_leases.specs.declared.lease.Aim.{Aim}
 use Rattle.sl_leases.specs.declared.lease.LeaseNext.TheVariants.{AnswerJob, GrantJob, Nothing, ReadFor, WriteBlock, WriteLeader}
 use Rattle.sl_leases.specs.declared.lease.LeaseNext.{LeaseNext}
@@ -160,37 +160,44 @@ further_call st g r number job Reads_phase2 = blocks_read st r number job Phase2
 further_call st g r number job (Writes_block step b) = own_write st g r number job step b
 further_call st g r number job (Writes_leader step l) = leader_write r number job step l
 
--- At which step a job may be, and for what: an acquire reads the area, writes and reads in the two phases and takes the leader; a release
--- frees the leader. From phase 1's write on the own block is known.
-pub data Course (st : Setting) (r : ResourceArg) (answered : List Submitted) : Command → LeaseStep → Op → Type 0 where
-  Reading_area : (p : ℕ) → Course st r answered (Acquire r false p) (ReadArea r.name) (ReadSectors (st.layout.hosts + 2))
-  Writing_phase1 : (p : ℕ) (b : Block) → Course st r answered (Acquire r false p) Phase1Write (WriteRecord (BlockIs b))
-  Reading_phase1 : (p : ℕ) (b : Block) → block_submitted answered ≡ Some b → Course st r answered (Acquire r false p) Phase1Read (ReadSectors st.layout.hosts)
-  Writing_phase2 : (p : ℕ) (b : Block) → Course st r answered (Acquire r false p) Phase2Write (WriteRecord (BlockIs b))
-  Reading_phase2 : (p : ℕ) (b : Block) → block_submitted answered ≡ Some b → Course st r answered (Acquire r false p) Phase2Read (ReadSectors st.layout.hosts)
-  Taking : (p : ℕ) (l : Leader) → Course st r answered (Acquire r false p) TakeLeader (WriteRecord (LeaderIs l))
-  Freeing : (p : ℕ) (l : Leader) → Course st r answered (Release r p) FreeLeader (WriteRecord (LeaderIs l))
+-- The name that the lease has verified is the resource's.
+abbrev pub IsNamed : Setting → Given → ResourceArg → List Submitted → Type 0
+IsNamed st g r ms = verified_name st.layout g.lockspace ms ≡ r.name
 
--- What an answer may lead to, after these calls: a call that goes on with the job, a reply, or the grant.
-pub data Live (r : ResourceArg) (ms : List Submitted) : Command → LeaseNext → Type 0 where
-  Goes_on_phase1 : (p : ℕ) (b : Block) → block_submitted ms ≡ Some b → Live r ms (Acquire r false p) (ReadFor Phase1Read)
-  Goes_on_phase2 : (p : ℕ) (b : Block) → block_submitted ms ≡ Some b → Live r ms (Acquire r false p) (ReadFor Phase2Read)
-  Begins_phase1 : (p : ℕ) (b : Block) → Live r ms (Acquire r false p) (WriteBlock Phase1Write b)
-  Begins_phase2 : (p : ℕ) (b : Block) → Live r ms (Acquire r false p) (WriteBlock Phase2Write b)
-  Takes : (p : ℕ) (l : Leader) → Live r ms (Acquire r false p) (WriteLeader TakeLeader l)
-  Grants : (p lver : ℕ) → Live r ms (Acquire r false p) (GrantJob Exclusive lver)
-  Replies_late : (c : Command) (why : Reply) → is_before_input why ≡ false → Live r ms c (AnswerJob why)
+-- At which step a job may be, and for what: an acquire reads the area, writes and reads in the two phases and takes the leader; a release
+-- frees the leader. After the read of the area the name is verified; from phase 1's write on the own block is known.
+pub data Course (st : Setting) (g : Given) (r : ResourceArg) (answered : List Submitted) : Command → LeaseStep → Op → Type 0 where
+  Reading_area : (p : ℕ) → Course st g r answered (Acquire r false p) (ReadArea r.name) (ReadSectors (st.layout.hosts + 2))
+  Writing_phase1 : (p : ℕ) (b : Block) → IsNamed st g r answered → Course st g r answered (Acquire r false p) Phase1Write (WriteRecord (BlockIs b))
+  Reading_phase1 : (p : ℕ) (b : Block) → IsNamed st g r answered → block_submitted answered ≡ Some b →
+      Course st g r answered (Acquire r false p) Phase1Read (ReadSectors st.layout.hosts)
+  Writing_phase2 : (p : ℕ) (b : Block) → IsNamed st g r answered → Course st g r answered (Acquire r false p) Phase2Write (WriteRecord (BlockIs b))
+  Reading_phase2 : (p : ℕ) (b : Block) → IsNamed st g r answered → block_submitted answered ≡ Some b →
+      Course st g r answered (Acquire r false p) Phase2Read (ReadSectors st.layout.hosts)
+  Taking : (p : ℕ) (l : Leader) → IsNamed st g r answered → Course st g r answered (Acquire r false p) TakeLeader (WriteRecord (LeaderIs l))
+  Freeing : (p : ℕ) (l : Leader) → IsNamed st g r answered → Course st g r answered (Release r p) FreeLeader (WriteRecord (LeaderIs l))
+
+-- What an answer may lead to, after these calls: a call that goes on with the job, a reply, or the grant; but for a reply the name is
+-- verified.
+pub data Live (r : ResourceArg) (ms : List Submitted) (named : Type 0) : Command → LeaseNext → Type 0 where
+  Goes_on_phase1 : (p : ℕ) (b : Block) → named → block_submitted ms ≡ Some b → Live r ms named (Acquire r false p) (ReadFor Phase1Read)
+  Goes_on_phase2 : (p : ℕ) (b : Block) → named → block_submitted ms ≡ Some b → Live r ms named (Acquire r false p) (ReadFor Phase2Read)
+  Begins_phase1 : (p : ℕ) (b : Block) → named → Live r ms named (Acquire r false p) (WriteBlock Phase1Write b)
+  Begins_phase2 : (p : ℕ) (b : Block) → named → Live r ms named (Acquire r false p) (WriteBlock Phase2Write b)
+  Takes : (p : ℕ) (l : Leader) → named → Live r ms named (Acquire r false p) (WriteLeader TakeLeader l)
+  Grants : (p lver : ℕ) → named → Live r ms named (Acquire r false p) (GrantJob Exclusive lver)
+  Replies_late : (c : Command) (why : Reply) → is_before_input why ≡ false → Live r ms named c (AnswerJob why)
 
 -- What is true of the step at which the host is.
-abbrev pub OnCourse : Setting → ResourceArg → List Submitted → Phase → Type 0
-OnCourse st r answered Idle = Unit {0}
-OnCourse st r answered (Holds p lver) = Unit {0}
-OnCourse st r answered (Works d) = Course st r answered d.command d.step d.call.call.op
+abbrev pub OnCourse : Setting → Given → ResourceArg → List Submitted → Phase → Type 0
+OnCourse st g r answered Idle = Unit {0}
+OnCourse st g r answered (Holds p lver) = IsNamed st g r answered
+OnCourse st g r answered (Works d) = Course st g r answered d.command d.step d.call.call.op
 
 -- A host with these numbers, at this phase, stands for the trace.
 pub record FirstStands (st : Setting) (g : Given) (r : ResourceArg) (call job : ℕ) (phase : Phase) (answered : List Submitted) (es : Trace) : Type 0 where
   pub stands : Stands st g r (kept_in g r call job phase answered) es
-  pub course : OnCourse st r answered phase
+  pub course : OnCourse st g r answered phase
 
 -- The process that a command is for.
 abbrev pub process_of : Command → ℕ
