@@ -1,5 +1,5 @@
 -- What an answer makes due, exactly.
-use Rattle.sl_due.specs.Due.{after_input, before_input, due, due_step}
+use Rattle.sl_due.specs.Due.{after_input, due, due_step}
 use Rattle.sl_due.specs.DueAnswers.{after_answer, after_answer_of}
 use Rattle.sl_due.specs.DueInputs.{take_input}
 use Rattle.sl_due.specs.DueLease.{after_lease_answer, carry_lease, grant_for, next_of_lease}
@@ -11,37 +11,32 @@ use Rattle.sl_first.proofs.Knowledge.{known_first}
 use Rattle.sl_first.proofs.Spots.{is_even, spot_first}
 use Rattle.sl_first.proofs.Standing.{held_stays, mine_told, quiet_stands, runs, told_calls, told_same}
 use Rattle.sl_first.proofs.Stillness.{nothing_after, nothing_before}
-use Rattle.sl_first.specs.FirstPath.{Doing, IsCalm, IsDoing, IsFirst, Kept, Stands, calls_kept, first_effects, first_entry, first_session, heeded_call, is_first_call, one_reply, open_kept}
-use Rattle.sl_first.specs.FirstSteps.{Further, Reads_phase1, Reads_phase2, Writes_block, Writes_leader, blocks_read, first_grant, first_known, first_next, further_call, leader_write, next_of, own_write, step_of}
-use Rattle.sl_leases.specs.Jobs.{aim_of, aim_of_command, command_numbered, command_of}
+use Rattle.sl_first.specs.FirstPath.{Doing, IsCalm, IsDoing, IsFirst, Kept, Stands, first_effects, first_entry, first_session, heeded_call, is_first_call, one_reply, open_kept}
+use Rattle.sl_first.specs.FirstSteps.{Further, Reads_phase1, Reads_phase2, Writes_block, Writes_leader, first_grant, first_next, further_call, next_of, step_of}
+use Rattle.sl_leases.specs.Jobs.{aim_of, aim_of_command, command_of}
 use Rattle.sl_leases.specs.LeaseWork.{lease_next, lease_place}
-use Rattle.sl_leases.specs.Leases.{LeaseKnown, is_on, known, lease_step, lver_written, spot_of, spot_of_call}
+use Rattle.sl_leases.specs.Leases.{is_on, lease_step, lver_written, spot_of, spot_of_call}
 use Rattle.sl_leases.specs.declared.lease.Aim.TheVariants.{Acquires}
 use Rattle.sl_leases.specs.declared.lease.Aim.{Aim}
 use Rattle.sl_leases.specs.declared.lease.LeaseNext.TheVariants.{AnswerJob, GrantJob}
-use Rattle.sl_leases.specs.declared.lease.LeaseNext.{LeaseNext}
 use Rattle.sl_sessions.specs.Sessions.{Session, delta_written, is_present, session_numbered}
-use Rattle.sl_trace.specs.Traces.{Job, Setting, Submitted, Trace, answered_in, call_numbered, holdings, is_running, jobs, next_call, no_effects, submitted}
+use Rattle.sl_trace.specs.Traces.{Setting, Submitted, Trace, holdings, jobs, next_call, no_effects, submitted}
 use Rattle.sl_trace.specs.declared.command.Command.TheVariants.{Acquire}
-use Rattle.sl_trace.specs.declared.command.Command.{Command}
 use Rattle.sl_trace.specs.declared.command.ResourceArg.{ResourceArg}
 use Rattle.sl_trace.specs.declared.effects.Effects.{Effects}
-use Rattle.sl_trace.specs.declared.effects.Entry.{Entry}
-use Rattle.sl_trace.specs.declared.effects.Grant.{Grant}
 use Rattle.sl_trace.specs.declared.effects.Mode.TheVariants.{Exclusive}
 use Rattle.sl_trace.specs.declared.effects.Purpose.TheVariants.{Lease}
 use Rattle.sl_trace.specs.declared.effects.Purpose.{Purpose}
-use Rattle.sl_trace.specs.declared.effects.Spot.{Spot}
 use Rattle.sl_trace.specs.declared.effects.Work.TheVariants.{ForJob}
 use Rattle.sl_trace.specs.declared.input.Answer.{Answer}
 use Rattle.sl_trace.specs.declared.input.Given.{Given}
-use Rattle.sl_trace.specs.declared.input.Input.TheVariants.{Answer as Told, Wake}
+use Rattle.sl_trace.specs.declared.input.Input.TheVariants.{Answer as Told}
 use Rattle.sl_trace.specs.declared.reply.Reply.TheVariants.{Granted}
 use Rattle.sl_trace.specs.declared.reply.Reply.{Reply}
 use Rattle.sl_words.proofs.WordLaws.{and_true}
-use Rattle.std.proofs.Common.{ap, arith, refl, subst, sym, tests, ◌∙◌}
+use Rattle.std.proofs.Common.{ap, arith, refl, sym, tests, ◌∙◌}
 use Rattle.std.specs.List.{list_all}
-use Rattle.std.specs.Prelude.{Bool, List, None, Option, Some, [], false, find, if◌then◌else◌, is_none, is_some, option_and_then, slice_get, true, ℕ, ◌&&◌, ◌++◌, ◌==◌, ◌∷◌, ◌≡◌}
+use Rattle.std.specs.Prelude.{Bool, Some, [], false, find, if◌then◌else◌, is_none, is_some, option_and_then, slice_get, true, ℕ, ◌&&◌, ◌++◌, ◌==◌, ◌∷◌, ◌≡◌}
 
 same_number : (n : ℕ) → (n == n) ≡ true
 same_number n = grind (arith, tests)
@@ -71,7 +66,7 @@ next_asked st g r k es f h d busy free doing a aim =
     let t : Trace = seen (told_step st g es d a no_effects) in
     let calls : submitted t ≡ heeded_call es g a d.call ∷ k.answered = seen_calls st g r k es h d busy doing a in
     let mine : list_all (is_first_call st r) (submitted t) ≡ true = ap (λ ms. list_all (is_first_call st r) ms) calls
-            ∙ mine_told st r es k d g a (h.calls ∙ ap (λ w. open_kept w ++ k.answered) busy) h.mine in
+    ∙ mine_told st r es k d g a (h.calls ∙ ap (λ w. open_kept w ++ k.answered) busy) h.mine in
     ap (λ K. lease_next (lease_place st (first_session g)) K aim d.call.call.number (lver_written d.call) d.step a)
     (known_first st g r t (record { still = refl; unmoved = refl; leases = refl }, h.calm) mine (held_stays (holdings es) [] [] ∙ h.held ∙ free) (heeded_call es g a d.call ∷ k.answered) calls)
 
@@ -86,7 +81,7 @@ aim_asked st g es d doing a aim is =
 answer_carried : (st : Setting) (g : Given) (r : ResourceArg) (k : Kept) (es : Trace) → IsFirst st g r → Stands st g r k es → (d : Doing) → k.work ≡ Some d → k.held ≡ [] → IsDoing st g es d
     → (a : Answer) (aim : Aim) → aim_of_command d.command ≡ Some aim
     → after_answer (is_present (seen (begin_step st es g.renewed))) d.call.call.number a (told_step st g es d a no_effects)
-        ≡ carry_lease (first_session g) (spot_of r) (ForJob d.job.number) (first_next st g es d k.answered aim a) (told_step st g es d a no_effects)
+    ≡ carry_lease (first_session g) (spot_of r) (ForJob d.job.number) (first_next st g es d k.answered aim a) (told_step st g es d a no_effects)
 unfolding after_answer after_answer_of after_lease_answer
 answer_carried st g r k es f h d busy free doing a aim is =
     let s : Session = first_session g in
@@ -98,18 +93,21 @@ answer_carried st g r k es f h d busy free doing a aim is =
     let j : ℕ = d.job.number in
     let mine = call_mine st g r k es h d busy in
     let session : d.call.call.session ≡ 0 = number_zero d.call.call.session
-            (and_true (d.call.call.session == 0) (is_on st.layout (spot_of r) d.call.call) (and_true (d.call.call.session == 0 && is_on st.layout (spot_of r) d.call.call) (is_none (delta_written d.call)) mine).0).0 in
+    (and_true (d.call.call.session == 0) (is_on st.layout (spot_of r) d.call.call) (and_true (d.call.call.session == 0 && is_on st.layout (spot_of r) d.call.call) (is_none (delta_written d.call)) mine).0).0 in
     ap (λ ms. with_some (find (λ c. c.call.number == n) ms) (λ c. with_some (session_numbered st (seen y) c.call.session) (λ s. when (P s) (after_answer_of s c c.call.purpose a))) y) (seen_calls st g r k es h d busy doing a)
     ∙ ap (λ b. with_some (if b then Some m else find (λ c. c.call.number == n) k.answered) (λ c. with_some (session_numbered st (seen y) c.call.session) (λ s. when (P s) (after_answer_of s c c.call.purpose a))) y) (same_number n)
     ∙ ap (λ i. with_some (session_numbered st (seen y) i) (λ s. when (P s) (after_answer_of s m d.call.call.purpose a)) y) session
     ∙ ap (λ ss. with_some (slice_get ss 0) (λ s. when (P s) (after_answer_of s m d.call.call.purpose a)) y) (sessions_first st g r f (seen y))
     ∙ ap (λ b. when b (after_answer_of s m d.call.call.purpose a) y) (is_present_first g (seen (begin_step st es g.renewed)) q.calm)
     ∙ ap (λ p. after_answer_of s m p a y) doing.for_job
-    ∙ ap (λ b. elim b as (λ z. Step) [ false ↦ y | true ↦ with_some (aim_of st (seen y) (ForJob j)) (λ aim y.
-          carry_lease s (spot_of_call y.setting.layout m) (ForJob j) (next_of_lease y.setting (seen y) s (spot_of_call y.setting.layout m) aim m d.step a) y) y ])
-        (runs_on es (first_entry g (Told n a) no_effects) j refl ∙ runs st g r k es h d busy)
+    ∙ ap (λ b. elim b as (λ z. Step) [
+      | false ↦ y
+      | true ↦ with_some (aim_of st (seen y) (ForJob j)) (λ aim y.
+          carry_lease s (spot_of_call y.setting.layout m) (ForJob j) (next_of_lease y.setting (seen y) s (spot_of_call y.setting.layout m) aim m d.step a) y) y
+    ])
+    (runs_on es (first_entry g (Told n a) no_effects) j refl ∙ runs st g r k es h d busy)
     ∙ ap (λ o. with_some o (λ aim y. carry_lease s (spot_of_call y.setting.layout m) (ForJob j) (next_of_lease y.setting (seen y) s (spot_of_call y.setting.layout m) aim m d.step a) y) y)
-        (aim_asked st g es d doing a aim is)
+    (aim_asked st g es d doing a aim is)
     ∙ ap (λ at. carry_lease s at (ForJob j) (next_of_lease st (seen y) s at aim m d.step a) y) (spot_first st r d.call (is_even r.offset st.layout.area _ f.base) mine)
     ∙ ap (λ next. carry_lease s (spot_of r) (ForJob j) next y) (next_asked st g r k es f h d busy free doing a aim)
 
@@ -138,7 +136,7 @@ number_seen st g r k es h d busy doing a =
 -- The step with one further call.
 carried_call : (st : Setting) (g : Given) (r : ResourceArg) (es : Trace) (d : Doing) (a : Answer) (next : Further)
     → carry_lease (first_session g) (spot_of r) (ForJob d.job.number) (next_of next) (told_step st g es d a no_effects)
-        ≡ told_step st g es d a (first_effects [] [] [] (further_call st g r (next_call st (seen (told_step st g es d a no_effects))) d.job.number next ∷ []))
+    ≡ told_step st g es d a (first_effects [] [] [] (further_call st g r (next_call st (seen (told_step st g es d a no_effects))) d.job.number next ∷ []))
 unfolding carry_lease
 carried_call st g r es d a Reads_phase1 = refl
 carried_call st g r es d a Reads_phase2 = refl

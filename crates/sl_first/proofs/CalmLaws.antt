@@ -1,6 +1,6 @@
 -- What a calm trace tells of its session.
-use Rattle.sl_first.specs.FirstPath.{IsCalm, IsCalmEntry, IsFirst, IsFirstCommand, first_session}
-use Rattle.sl_sessions.specs.Sessions.{Session, added, added_by, begun_in, ended_after, given_session, is_join_call, is_joined, is_present, joining_session, present_sessions, removed_after, removed_in, sessions, with_begun}
+use Rattle.sl_first.specs.FirstPath.{IsCalm, IsFirst, IsFirstCommand, first_session}
+use Rattle.sl_sessions.specs.Sessions.{Session, added, added_by, begun_in, given_session, is_join_call, is_joined, is_present, joining_session, present_sessions, removed_after, removed_in, sessions, with_begun}
 use Rattle.sl_trace.specs.Connections.{unregisters}
 use Rattle.sl_trace.specs.Traces.{Setting, Trace, next_job}
 use Rattle.sl_trace.specs.declared.command.Command.{Command}
@@ -15,7 +15,7 @@ use Rattle.std.proofs.Common.{ap, inl, inr, refl, ◌∙◌}
 use Rattle.sl_words.specs.Orders.{in_order, is_text_before}
 use Rattle.sl_words.specs.Words.{choose}
 use Rattle.std.specs.List.{enumerate_from, list_any}
-use Rattle.std.specs.Prelude.{Bool, Err, List, None, Ok, Option, Result, Some, false, filter, is_none, length, map, true, ◌||◌, ◌&&◌, ◌+◌, [], ℕ, ◌++◌, ◌∷◌, ◌≡◌}
+use Rattle.std.specs.Prelude.{Bool, Err, List, None, Ok, Option, Result, Some, false, filter, length, map, true, ◌+◌, [], ℕ, ◌++◌, ◌∷◌, ◌≡◌}
 
 -- No text adds a lockspace.
 added_none : (r : ResourceArg) (c : Result Command ℕ) → IsFirstCommand r c → added c ≡ None

@@ -1,11 +1,9 @@
 -- In a calm trace no recovery and no leaving begins.
-use Rattle.sl_first.proofs.CalmLaws.{is_joined_first}
 use Rattle.sl_first.specs.FirstPath.{IsCalm, IsFirst, IsFirstCommand, first_session}
 use Rattle.sl_leases.specs.Leases.{is_lease_call, lease_step}
 use Rattle.sl_sessions.specs.Sessions.{Renewing, Session, is_call_of, is_joined, is_renewal, is_survey_purpose, leaves, leaving_in, leaving_job, recovery_of, renewed_by, renewing, renewing_after, shows_other, shows_other_in, generation_of, recovers}
 use Rattle.sl_time.specs.Times.{fail}
 use Rattle.sl_trace.specs.Traces.{Setting, Submitted, Trace, answered_in, call_numbered, mark, new_call, submitted}
-use Rattle.sl_trace.specs.declared.command.Command.TheVariants.{Acquire, Release}
 use Rattle.sl_trace.specs.declared.command.Command.{Command}
 use Rattle.sl_trace.specs.declared.command.ResourceArg.{ResourceArg}
 use Rattle.sl_trace.specs.declared.effects.Call.{Call}
@@ -20,9 +18,9 @@ use Rattle.sl_trace.specs.declared.input.Input.{Input}
 use Rattle.sl_words.proofs.CaseLaws.{false_is_true}
 use Rattle.sl_words.proofs.WordLaws.{and_true}
 use Rattle.sl_words.specs.Words.{choose, some_is}
-use Rattle.std.proofs.Common.{ap, arith, inl, inr, refl, sym, tests, ◌∙◌}
+use Rattle.std.proofs.Common.{ap, arith, inl, inr, refl, tests, ◌∙◌}
 use Rattle.std.specs.List.{list_all}
-use Rattle.std.specs.Prelude.{Bool, Err, List, None, Ok, Option, Result, Some, false, filter, find, fold, is_some, length, map, nat_le, option_and_then, true, unwrap_or, [], ℕ, ◌&&◌, ◌*◌, ◌+◌, ◌<◌, ◌==◌, ◌∷◌, ◌≡◌}
+use Rattle.std.specs.Prelude.{Bool, Err, List, None, Ok, Option, Result, Some, false, find, fold, is_some, length, map, nat_le, option_and_then, true, unwrap_or, [], ℕ, ◌&&◌, ◌*◌, ◌+◌, ◌<◌, ◌==◌, ◌∷◌, ◌≡◌}
 
 -- ---- no leaving
 
@@ -127,7 +125,7 @@ shows_none : (st : Setting) (g : Given) (es : Trace) → IsCalm g es → (s : Se
 shows_none st g es c s (Line text) = refl
 shows_none st g es c s (Told n (Read bytes)) =
     let none = found_none (λ m. m.call.number == n) (λ m. choose (is_call_of s m && is_survey_purpose m.call.purpose) m) (submitted es) (leases_first g es c)
-            (λ m l. chosen_none (is_call_of s m) (is_survey_purpose m.call.purpose) m (survey_none m.call.purpose l)) in
+    (λ m l. chosen_none (is_call_of s m) (is_survey_purpose m.call.purpose) m (survey_none m.call.purpose l)) in
     ap (λ b. elim (choose b bytes) as (λ x. Bool) [ None ↦ false | Some bs ↦ shows_other_in st s.id (generation_of es s) bs ])
     (some_is-as_value (λ m. is_call_of s m && is_survey_purpose m.call.purpose) (call_numbered es n) ∙ ap (λ (o : Option Submitted). is_some o) none)
 shows_none st g es c s (Told n Written) = refl

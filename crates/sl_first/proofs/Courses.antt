@@ -3,15 +3,12 @@ use Rattle.sl_area.specs.Layouts.{Layout}
 use Rattle.sl_area.specs.Places.{area_blocks, blocks_in, leader_of}
 use Rattle.sl_first.proofs.Liveness.{area_live, phase1_read_live, phase2_read_live}
 use Rattle.sl_first.specs.FirstPath.{IsFirst, heeded_call}
-use Rattle.sl_first.specs.FirstSteps.{Course, Freeing, Goes_on_phase1, Goes_on_phase2, Grants, IsNamed, Live, Reading_area, Reading_phase1, Reading_phase2, Replies_late, Taking, Writing_phase1, Writing_phase2, first_known}
+use Rattle.sl_first.specs.FirstSteps.{Course, Freeing, Goes_on_phase1, Goes_on_phase2, Grants, IsNamed, Live, Reading_area, Reading_phase1, Reading_phase2, Replies_late, Taking, Writing_phase1, Writing_phase2, first_aim, first_known}
 use Rattle.sl_leases.specs.Ballots.{stop_of}
-use Rattle.sl_leases.specs.Jobs.{aim_of_command}
 use Rattle.sl_leases.specs.LeaseWork.{LeasePlace, after_phase1, after_phase2, lease_next}
-use Rattle.sl_leases.specs.Leases.{Area_read, LeaseKnown, Phase1_read, Phase2_read, Read_before_free, StepKind, block_of_host, block_of_record, block_submitted, block_written, blocks_given, is_area_read, is_leader_of, is_phase_read, kind_of_step, last_blocks, lease_step, name_sought, own_known, own_or_read, same_kind, verified_name}
-use Rattle.sl_leases.specs.declared.lease.Aim.TheVariants.{Acquires, Releases}
-use Rattle.sl_leases.specs.declared.lease.Aim.{Aim}
+use Rattle.sl_leases.specs.Leases.{Area_read, LeaseKnown, Phase1_read, Phase2_read, Read_before_free, StepKind, block_of_host, block_of_record, block_submitted, block_written, blocks_given, is_leader_of, kind_of_step, last_blocks, lease_step, name_sought, own_known, own_or_read, same_kind, verified_name}
+use Rattle.sl_leases.specs.declared.lease.Aim.TheVariants.{Acquires}
 use Rattle.sl_leases.specs.declared.lease.LeaseNext.TheVariants.{Nothing}
-use Rattle.sl_leases.specs.declared.lease.LeaseNext.{LeaseNext}
 use Rattle.sl_sector.specs.declared.sector.Block.{Block}
 use Rattle.sl_sector.specs.declared.sector.Leader.{Leader}
 use Rattle.sl_sector.specs.declared.sector.Rec.TheVariants.{BlockIs}
@@ -32,16 +29,15 @@ use Rattle.sl_trace.specs.declared.input.Answer.{Answer}
 use Rattle.sl_trace.specs.declared.input.Given.{Given}
 use Rattle.sl_trace.specs.declared.reply.Reply.TheVariants.{Done, IoFault}
 use Rattle.sl_words.proofs.CaseLaws.{false_is_true}
-use Rattle.sl_words.proofs.WordLaws.{and_true}
 use Rattle.sl_words.specs.Words.{choose, some_is}
 use Rattle.std.proofs.Common.{ap, arith, refl, subst, sym, tests, ◌∙◌}
 use Rattle.sl_words.proofs.OptionLaws.{cond_none}
 use Rattle.std.proofs.lemmas.Option.{unwrap_or-slice_get}
 use Rattle.std.proofs.lemmas.List.FromFn.{length-map-range_with_len}
 use Rattle.std.specs.Int.{is_in_range}
-use Rattle.std.specs.List.{prefix_len, range_with_len}
+use Rattle.std.specs.List.{prefix_len}
 use Rattle.std.specs.Option.{option_map_or}
-use Rattle.std.specs.Prelude.{get_or, nat_lt, not, IsTrue, ◌≤◌, Bool, List, None, Option, Some, drop, false, is_none, length, map, option_and_then, position, slice_get, true, unwrap_or, ℕ, ◌*◌, ◌+◌, ◌-◌, ◌<◌, ◌∷◌, ◌≡◌, ◌||◌, [], if◌then◌else◌, option_map, suc, zero}
+use Rattle.std.specs.Prelude.{get_or, nat_lt, not, IsTrue, ◌≤◌, Bool, List, None, Option, Some, false, is_none, length, option_and_then, position, true, ℕ, ◌+◌, ◌-◌, ◌<◌, ◌∷◌, ◌≡◌, ◌||◌, [], if◌then◌else◌, suc, zero}
 
 -- ---- the own block after a read of the area
 
@@ -84,10 +80,6 @@ host_in hosts id h = (grind (arith, tests), grind (arith, tests))
 
 -- ---- what is known after an answer
 
--- The aim of a command.
-abbrev pub aim_for : Command → Aim
-aim_for c = unwrap_or (aim_of_command c) Releases
-
 -- A read writes no block.
 unwritten : (m : Submitted) (n : ℕ) → m.call.op ≡ ReadSectors n → block_written m ≡ None
 unwritten m n is = ap (λ o. option_and_then block_of_record (record_of o)) is
@@ -108,8 +100,8 @@ area_read : (l : Layout) (es : Trace) (g : Given) (bytes : List ℕ) (m : Submit
 area_read l es g bytes m answered j name is =
     let h : Submitted = heeded_call es g (Read bytes) m in
     let given : blocks_given l h ≡ Some (area_blocks l bytes) =
-        ap (λ (p : Purpose). elim (is_at_in Area_read p || is_at_in Read_before_free p) as (λ x. Option (List (Option Block)))
-            [ true ↦ Some (area_blocks l bytes) | false ↦ elim (is_at_in Phase1_read p || is_at_in Phase2_read p) as (λ x. Option (List (Option Block))) [ true ↦ Some (blocks_in l bytes) | false ↦ None ] ]) is in
+    ap (λ (p : Purpose). elim (is_at_in Area_read p || is_at_in Read_before_free p) as (λ x. Option (List (Option Block)))
+    [ true ↦ Some (area_blocks l bytes) | false ↦ elim (is_at_in Phase1_read p || is_at_in Phase2_read p) as (λ x. Option (List (Option Block))) [ true ↦ Some (blocks_in l bytes) | false ↦ None ] ]) is in
     ap (λ (o : Option (List (Option Block))). elim o as (λ x. List (Option Block)) [ Some bs ↦ bs | None ↦ last_blocks l answered ]) given
 
 -- The own block is known after a read of the area without a torn block.
@@ -119,9 +111,11 @@ own_after_area : (st : Setting) (g : Given) (r : ResourceArg) → IsFirst st g r
 own_after_area st g r f es bytes m answered j n name op for whole =
     let id = host_in st.layout.hosts g.id f.host in
     let long : length (area_blocks st.layout bytes) ≡ st.layout.hosts = length-map-range_with_len _ 1 st.layout.hosts in
-    let there = own_by g.id (block_submitted answered) (area_blocks st.layout bytes) (own_there (area_blocks st.layout bytes) g.id whole id.0 (subst (λ k. g.id ≤ k) (sym long) id.1)) in
-    (there.0, ap (λ o. own_or_read g.id o (last_blocks st.layout (heeded_call es g (Read bytes) m ∷ answered))) (same_own es g (Read bytes) m answered n op)
-        ∙ ap (λ bs. own_or_read g.id (block_submitted answered) bs) (area_read st.layout es g bytes m answered j name for) ∙ there.1)
+    let there = own_by g.id (block_submitted answered) (area_blocks st.layout bytes) (own_there (area_blocks st.layout bytes) g.id whole id.0 (subst (λ k. g.id ≤ k) (sym long) id.1)) in (
+      there.0,
+      ap (λ o. own_or_read g.id o (last_blocks st.layout (heeded_call es g (Read bytes) m ∷ answered))) (same_own es g (Read bytes) m answered n op)
+          ∙ ap (λ bs. own_or_read g.id (block_submitted answered) bs) (area_read st.layout es g bytes m answered j name for) ∙ there.1,
+    )
 
 -- The own block is known where one was submitted.
 own_after_phase : (st : Setting) (g : Given) (es : Trace) (a : Answer) (m : Submitted) (answered : List Submitted) (n : ℕ) (b : Block)
@@ -155,27 +149,37 @@ phase2_given r ms N nm p place k bytes o b known is =
 still_named : (st : Setting) (g : Given) (r : ResourceArg) (es : Trace) (a : Answer) (m : Submitted) (answered : List Submitted) (j : ℕ) (step : LeaseStep) → m.call.purpose ≡ Lease (ForJob j) step
     → name_sought (Lease (ForJob j) step) ≡ None → IsNamed st g r answered → IsNamed st g r (heeded_call es g a m ∷ answered)
 still_named st g r es a m answered j step for none named =
-    ap (λ (o : Option (List ℕ)). elim (elim o as (λ x. Option (List ℕ)) [ None ↦ None | Some name ↦ elim (option_and_then (leader_of st.layout) (gave (heeded_call es g a m))) as (λ x. Option (List ℕ)) [
-        None ↦ None | Some l ↦ choose (is_leader_of st.layout g.lockspace name l) name ] ]) as (λ x. List ℕ) [ Some name ↦ name | None ↦ verified_name st.layout g.lockspace answered ])
-        (ap (λ p. name_sought p) for ∙ none)
+    ap (λ (o : Option (List ℕ)). elim (elim o as (λ x. Option (List ℕ)) [
+      | None ↦ None
+      | Some name ↦ elim (option_and_then (leader_of st.layout) (gave (heeded_call es g a m))) as (λ x. Option (List ℕ)) [
+        | None ↦ None
+        | Some l ↦ choose (is_leader_of st.layout g.lockspace name l) name
+      ]
+    ]) as (λ x. List ℕ) [ Some name ↦ name | None ↦ verified_name st.layout g.lockspace answered ])
+    (ap (λ p. name_sought p) for ∙ none)
     ∙ named
 
 -- A read of the area that finds the name verifies it.
 now_named : (st : Setting) (g : Given) (r : ResourceArg) (es : Trace) (bytes : List ℕ) (m : Submitted) (answered : List Submitted) (j : ℕ) → m.call.purpose ≡ Lease (ForJob j) (ReadArea r.name)
     → (l : Leader) → leader_of st.layout bytes ≡ Some l → is_leader_of st.layout g.lockspace r.name l ≡ true → IsNamed st g r (heeded_call es g (Read bytes) m ∷ answered)
 now_named st g r es bytes m answered j for l there right =
-    ap (λ (p : Purpose). elim (elim (name_sought p) as (λ x. Option (List ℕ)) [ None ↦ None | Some name ↦ elim (leader_of st.layout bytes) as (λ x. Option (List ℕ)) [
-        None ↦ None | Some l ↦ choose (is_leader_of st.layout g.lockspace name l) name ] ]) as (λ x. List ℕ) [ Some name ↦ name | None ↦ verified_name st.layout g.lockspace answered ]) for
+    ap (λ (p : Purpose). elim (elim (name_sought p) as (λ x. Option (List ℕ)) [
+      | None ↦ None
+      | Some name ↦ elim (leader_of st.layout bytes) as (λ x. Option (List ℕ)) [
+        | None ↦ None
+        | Some l ↦ choose (is_leader_of st.layout g.lockspace name l) name
+      ]
+    ]) as (λ x. List ℕ) [ Some name ↦ name | None ↦ verified_name st.layout g.lockspace answered ]) for
     ∙ ap (λ (o : Option Leader). elim (elim o as (λ x. Option (List ℕ)) [ None ↦ None | Some l ↦ choose (is_leader_of st.layout g.lockspace r.name l) r.name ]) as (λ x. List ℕ)
-        [ Some name ↦ name | None ↦ verified_name st.layout g.lockspace answered ]) there
+    [ Some name ↦ name | None ↦ verified_name st.layout g.lockspace answered ]) there
     ∙ ap (λ b. elim (choose b r.name) as (λ x. List ℕ) [ Some name ↦ name | None ↦ verified_name st.layout g.lockspace answered ]) right
 
 pub course_live : (st : Setting) (g : Given) (r : ResourceArg) → IsFirst st g r → (es : Trace) (answered : List Submitted) (m : Submitted) (j call lver : ℕ) (command : Command) (step : LeaseStep) (op : Op)
     → Course st g r answered command step op → m.call.op ≡ op → m.call.purpose ≡ Lease (ForJob j) step → (a : Answer) → is_answer_for st a op ≡ true
     → Live r (heeded_call es g a m ∷ answered) (IsNamed st g r (heeded_call es g a m ∷ answered)) command
-        (lease_next (first_place st g) (first_known st g (heeded_call es g a m ∷ answered)) (aim_for command) call lver step a)
+    (lease_next (first_place st g) (first_known st g (heeded_call es g a m ∷ answered)) (first_aim command) call lver step a)
 unfolding lease_next
-course_live st g r f es answered m j call lver command step op (Reading_area p) is for (Read bytes) fits = 
+course_live st g r f es answered m j call lver command step op (Reading_area p) is for (Read bytes) fits =
     area_live r (heeded_call es g (Read bytes) m ∷ answered) (IsNamed st g r (heeded_call es g (Read bytes) m ∷ answered)) p (first_place st g) (first_known st g (heeded_call es g (Read bytes) m ∷ answered)) r.name bytes (now_named st g r es bytes m answered j for)
     (λ whole. own_after_area st g r f es bytes m answered j (st.layout.hosts + 2) r.name is for whole)
 course_live st g r f es answered m j call lver command step op (Reading_area p) is for Written fits = absurd (false_is_true fits)
@@ -183,7 +187,7 @@ course_live st g r f es answered m j call lver command step op (Reading_area p) 
 course_live st g r f es answered m j call lver command step op (Writing_phase1 p b named) is for (Read bytes) fits = absurd (false_is_true fits)
 course_live st g r f es answered m j call lver command step op (Writing_phase1 p b named) is for Written fits = Goes_on_phase1 p b (still_named st g r es Written m answered j Phase1Write for refl named) (own_written es g m answered b is)
 course_live st g r f es answered m j call lver command step op (Writing_phase1 p b named) is for Failed fits = Replies_late (Acquire r false p) (IoFault call) refl
-course_live st g r f es answered m j call lver command step op (Reading_phase1 p b named own) is for (Read bytes) fits = 
+course_live st g r f es answered m j call lver command step op (Reading_phase1 p b named own) is for (Read bytes) fits =
     phase1_given r (heeded_call es g (Read bytes) m ∷ answered) (IsNamed st g r (heeded_call es g (Read bytes) m ∷ answered)) (still_named st g r es (Read bytes) m answered j Phase1Read for refl named) p (first_place st g) (first_known st g (heeded_call es g (Read bytes) m ∷ answered)) bytes (block_submitted (heeded_call es g (Read bytes) m ∷ answered)) b
     (own_after_phase st g es (Read bytes) m answered st.layout.hosts b is own)
 course_live st g r f es answered m j call lver command step op (Reading_phase1 p b named own) is for Written fits = absurd (false_is_true fits)
@@ -191,7 +195,7 @@ course_live st g r f es answered m j call lver command step op (Reading_phase1 p
 course_live st g r f es answered m j call lver command step op (Writing_phase2 p b named) is for (Read bytes) fits = absurd (false_is_true fits)
 course_live st g r f es answered m j call lver command step op (Writing_phase2 p b named) is for Written fits = Goes_on_phase2 p b (still_named st g r es Written m answered j Phase2Write for refl named) (own_written es g m answered b is)
 course_live st g r f es answered m j call lver command step op (Writing_phase2 p b named) is for Failed fits = Replies_late (Acquire r false p) (IoFault call) refl
-course_live st g r f es answered m j call lver command step op (Reading_phase2 p b named own) is for (Read bytes) fits = 
+course_live st g r f es answered m j call lver command step op (Reading_phase2 p b named own) is for (Read bytes) fits =
     let known = own_after_phase st g es (Read bytes) m answered st.layout.hosts b is own in
     phase2_given r (heeded_call es g (Read bytes) m ∷ answered) (IsNamed st g r (heeded_call es g (Read bytes) m ∷ answered)) (still_named st g r es (Read bytes) m answered j Phase2Read for refl named) p (first_place st g) (first_known st g (heeded_call es g (Read bytes) m ∷ answered)) bytes (block_submitted (heeded_call es g (Read bytes) m ∷ answered)) b
     (ap (λ o. own_or_read g.id o (last_blocks st.layout (heeded_call es g (Read bytes) m ∷ answered))) known) known

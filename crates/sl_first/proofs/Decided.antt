@@ -4,29 +4,28 @@ use Rattle.sl_first.proofs.CalmLaws.{is_joined_first, sessions_first}
 use Rattle.sl_first.proofs.CalmRenewal.{leases_first}
 use Rattle.sl_first.proofs.Decisions.{busy_holder, call_pending, here, may_ask, nobody_busy, not_refused, nothing_pending, session_here}
 use Rattle.sl_first.proofs.Spots.{is_even, same_self, spots_first}
-use Rattle.sl_first.specs.FirstPath.{Doing, IsDoing, IsFirst, Kept, Stands, first_session, is_first_call, jobs_kept, open_kept}
+use Rattle.sl_first.specs.FirstPath.{Doing, IsDoing, IsFirst, Kept, Stands, first_session, is_first_call, jobs_kept}
 use Rattle.sl_first.specs.FirstSteps.{first_grant}
-use Rattle.sl_leases.specs.Counts.{holder_count, limit_met, resource_count, ungranted}
+use Rattle.sl_leases.specs.Counts.{holder_count, resource_count, ungranted}
 use Rattle.sl_leases.specs.Jobs.{is_asking_lease, is_command_that, is_granted_job}
 use Rattle.sl_leases.specs.Leases.{holdings_on, is_on, lease_spots, spot_of, spots_in}
-use Rattle.sl_sessions.specs.Sessions.{Session, calls_of, delta_written, is_call_of, is_joined, sessions}
+use Rattle.sl_sessions.specs.Sessions.{Session, calls_of, delta_written, is_call_of, is_joined}
 use Rattle.sl_trace.specs.Limits.{most_holders, most_processes, most_resources}
-use Rattle.sl_trace.specs.Traces.{Job, Setting, Submitted, Trace, holdings, running_jobs, same_place, same_spot, submitted}
+use Rattle.sl_trace.specs.Traces.{Setting, Trace, holdings, same_place, same_spot, submitted}
 use Rattle.sl_trace.specs.declared.command.Command.TheVariants.{Acquire, Release}
 use Rattle.sl_trace.specs.declared.command.ResourceArg.{ResourceArg}
 use Rattle.sl_trace.specs.declared.effects.Grant.{Grant}
 use Rattle.sl_trace.specs.declared.effects.Spot.{Spot}
 use Rattle.sl_trace.specs.declared.input.Given.{Given}
 use Rattle.sl_trace.specs.declared.reply.Limited.TheVariants.{Children, Holders, Resources}
-use Rattle.sl_trace.specs.declared.reply.Limited.{Limited}
 use Rattle.sl_trace.specs.declared.reply.Reply.TheVariants.{Busy, Limit as LimitReached, NotHeld, Pending}
 use Rattle.sl_trace.specs.declared.reply.Reply.{Reply}
 use Rattle.sl_words.proofs.WordLaws.{and_true}
 use Rattle.sl_words.specs.Words.{choose}
-use Rattle.std.proofs.Common.{ap, arith, inl, inr, refl, subst, sym, tests, ◌∙◌}
+use Rattle.std.proofs.Common.{ap, inl, inr, refl, subst, sym, ◌∙◌}
 use Rattle.std.specs.List.{list_all, list_any}
 use Rattle.std.specs.Option.{option_map_or, option_or}
-use Rattle.std.specs.Prelude.{Bool, List, None, Option, Some, count_by, false, filter, find, if◌then◌else◌, is_none, length, nat_le, not, option_map, sum_by, true, [], ℕ, ◌%◌, ◌&&◌, ◌++◌, ◌+◌, ◌<◌, ◌==◌, ◌∷◌, ◌≡◌, ◌≤◌, ◌||◌, ◌⊎◌}
+use Rattle.std.specs.Prelude.{Bool, List, None, Option, Some, count_by, false, filter, find, if◌then◌else◌, is_none, length, nat_le, not, option_map, sum_by, true, [], ℕ, ◌&&◌, ◌+◌, ◌==◌, ◌∷◌, ◌≡◌, ◌≤◌, ◌⊎◌}
 
 -- ---- the session's calls are all calls
 
@@ -68,10 +67,10 @@ pub no_limit : (st : Setting) (g : Given) (r : ResourceArg) (k : Kept) (t : Trac
 no_limit st g r k t f h idle free =
     let s : Session = first_session g in
     let spots : (lease_spots st t s ≡ []) ⊎ (lease_spots st t s ≡ spot_of r ∷ []) =
-        subst (λ ms. (spots_in st.layout ms ≡ []) ⊎ (spots_in st.layout ms ≡ spot_of r ∷ [])) (sym (calls_first st g r t h.mine))
-        (spots_first st r (submitted t) (is_even r.offset st.layout.area _ f.base) h.mine (leases_first g t h.calm)) in
+    subst (λ ms. (spots_in st.layout ms ≡ []) ⊎ (spots_in st.layout ms ≡ spot_of r ∷ [])) (sym (calls_first st g r t h.mine))
+    (spots_first st r (submitted t) (is_even r.offset st.layout.area _ f.base) h.mine (leases_first g t h.calm)) in
     let resources : (not (list_any (same_spot (spot_of r)) (lease_spots st t s)) && nat_le most_resources (resource_count st t)) ≡ false =
-        ap (λ n. not (list_any (same_spot (spot_of r)) (lease_spots st t s)) && nat_le most_resources n) (few_resources st g r k t f h) ∙ no_more_spots r (lease_spots st t s) spots in
+    ap (λ n. not (list_any (same_spot (spot_of r)) (lease_spots st t s)) && nat_le most_resources n) (few_resources st g r k t f h) ∙ no_more_spots r (lease_spots st t s) spots in
     ap (λ b. limit_by b (nat_le most_holders (holder_count st t)) false) resources
     ∙ ap (λ n. limit_by false (nat_le most_holders n) false) (few_holders st g r k t h idle free)
 
@@ -93,9 +92,9 @@ unfolding decided
 acquire_idle st g r k t f h idle free now p small =
     let s : Session = first_session g in
     ap (λ o. with_session o (λ s. unless_refused (session_refusal st t s ∷ process_refusal t p ∷ busy_refusal t (spot_of r) (Some p) false ∷ pending_refusal st t (spot_of r)
-        ∷ limit_refusal st t s (spot_of r) false ∷ []) (acquiring t s r false))) (session_here st g r k t f h)
+    ∷ limit_refusal st t s (spot_of r) false ∷ []) (acquiring t s r false))) (session_here st g r k t f h)
     ∙ all_pass (session_refusal st t s) (process_refusal t p) (busy_refusal t (spot_of r) (Some p) false) (pending_refusal st t (spot_of r)) (limit_refusal st t s (spot_of r) false)
-        (acquiring t s r false) (not_refused st g r k t f h) (may_ask t p small) (nobody_busy st g r k t h p free) (nothing_pending st g r k t h idle) (no_limit st g r k t f h idle free)
+    (acquiring t s r false) (not_refused st g r k t f h) (may_ask t p small) (nobody_busy st g r k t h p free) (nothing_pending st g r k t h idle) (no_limit st g r k t f h idle free)
 
 pub acquire_held : (st : Setting) (g : Given) (r : ResourceArg) (k : Kept) (t : Trace) → IsFirst st g r → Stands st g r k t → (q lver : ℕ) → k.held ≡ first_grant g r q lver ∷ [] → (now p : ℕ) → p ≤ most_processes
     → decided st t now (Acquire r false p) ≡ Replies (Busy q)
@@ -103,9 +102,9 @@ unfolding decided
 acquire_held st g r k t f h q lver is now p small =
     let s : Session = first_session g in
     ap (λ o. with_session o (λ s. unless_refused (session_refusal st t s ∷ process_refusal t p ∷ busy_refusal t (spot_of r) (Some p) false ∷ pending_refusal st t (spot_of r)
-        ∷ limit_refusal st t s (spot_of r) false ∷ []) (acquiring t s r false))) (session_here st g r k t f h)
+    ∷ limit_refusal st t s (spot_of r) false ∷ []) (acquiring t s r false))) (session_here st g r k t f h)
     ∙ third_refuses (session_refusal st t s) (process_refusal t p) (busy_refusal t (spot_of r) (Some p) false) (pending_refusal st t (spot_of r) ∷ limit_refusal st t s (spot_of r) false ∷ [])
-        (acquiring t s r false) (Busy q) (not_refused st g r k t f h) (may_ask t p small) (busy_holder st g r k t h q lver p is)
+    (acquiring t s r false) (Busy q) (not_refused st g r k t f h) (may_ask t p small) (busy_holder st g r k t h q lver p is)
 
 pub acquire_pending : (st : Setting) (g : Given) (r : ResourceArg) (k : Kept) (t : Trace) → IsFirst st g r → Stands st g r k t → (d : Doing) → k.work ≡ Some d → IsDoing st g t d → k.held ≡ [] → (now p : ℕ) → p ≤ most_processes
     → decided st t now (Acquire r false p) ≡ Replies (Pending d.call.call.number)
@@ -113,9 +112,9 @@ unfolding decided
 acquire_pending st g r k t f h d busy doing free now p small =
     let s : Session = first_session g in
     ap (λ o. with_session o (λ s. unless_refused (session_refusal st t s ∷ process_refusal t p ∷ busy_refusal t (spot_of r) (Some p) false ∷ pending_refusal st t (spot_of r)
-        ∷ limit_refusal st t s (spot_of r) false ∷ []) (acquiring t s r false))) (session_here st g r k t f h)
+    ∷ limit_refusal st t s (spot_of r) false ∷ []) (acquiring t s r false))) (session_here st g r k t f h)
     ∙ fourth_refuses (session_refusal st t s) (process_refusal t p) (busy_refusal t (spot_of r) (Some p) false) (pending_refusal st t (spot_of r)) (limit_refusal st t s (spot_of r) false ∷ [])
-        (acquiring t s r false) (Pending d.call.call.number) (not_refused st g r k t f h) (may_ask t p small) (nobody_busy st g r k t h p free) (call_pending st g r k t h d busy doing)
+    (acquiring t s r false) (Pending d.call.call.number) (not_refused st g r k t f h) (may_ask t p small) (nobody_busy st g r k t h p free) (call_pending st g r k t h d busy doing)
 
 four_pass : (a b d : Option Reply) (x : Decision) → a ≡ None → b ≡ None → d ≡ None → unless_refused (a ∷ b ∷ None ∷ d ∷ []) x ≡ x
 four_pass a b d x h i j = rw (h, i, j) refl
@@ -168,4 +167,4 @@ release_held st g r k t f h q lver is idle now p small same =
     release_by st g r k t f h now p (first_grant g r q lver ∷ []) (held_on g r t q lver (h.held ∙ is))
     ∙ ap (λ b. given_up st t r (first_session g) p (if b && true then Some (first_grant g r q lver) else None)) same
     ∙ four_pass (session_refusal st t (first_session g)) (process_refusal t p) (pending_refusal st t (spot_of r)) (Gives_up (first_session g) (first_grant g r q lver))
-        (not_refused st g r k t f h) (may_ask t p small) (nothing_pending st g r k t h idle)
+    (not_refused st g r k t f h) (may_ask t p small) (nothing_pending st g r k t h idle)

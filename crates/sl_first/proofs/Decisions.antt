@@ -1,28 +1,26 @@
 -- What commands come to, by where the host stands.
-use Rattle.sl_due.specs.DueCommands.{Decision, Gives_up, Reads_area, Replies, acquiring, busy_refusal, decided, holding_of, limit_refusal, pending_refusal, process_refusal, session_refusal, unless_refused, with_session}
+use Rattle.sl_due.specs.DueCommands.{busy_refusal, pending_refusal, process_refusal, session_refusal}
 use Rattle.sl_first.proofs.CalmLaws.{is_joined_first, present_first}
-use Rattle.sl_first.proofs.CalmRenewal.{leases_first, leaving_none, recovery_none}
+use Rattle.sl_first.proofs.CalmRenewal.{leaving_none, recovery_none}
 use Rattle.sl_first.proofs.Stillness.{open_first}
-use Rattle.sl_first.specs.FirstPath.{Doing, IsDoing, IsFirst, IsWork, Kept, Stands, first_session, is_first_call, open_kept}
-use Rattle.sl_first.specs.FirstSteps.{Holds, Idle, Phase, Works, first_grant, held_in, kept_in, work_in}
-use Rattle.sl_leases.specs.Counts.{busy_among, busy_process, held_here, may_act, pending_call}
-use Rattle.sl_leases.specs.Leases.{is_on, open_on, spot_of}
-use Rattle.sl_sessions.specs.Sessions.{Begun, Session, is_active, is_joined, delta_written, last_renewal, leaving_job, recovery_of, session_named}
+use Rattle.sl_first.specs.FirstPath.{Doing, IsDoing, IsFirst, Kept, Stands, first_session, is_first_call, open_kept}
+use Rattle.sl_first.specs.FirstSteps.{first_grant}
+use Rattle.sl_leases.specs.Counts.{busy_among}
+use Rattle.sl_leases.specs.Leases.{is_on, spot_of}
+use Rattle.sl_sessions.specs.Sessions.{Begun, Session, is_active, delta_written, last_renewal, leaving_job, recovery_of, session_named}
 use Rattle.sl_trace.specs.Limits.{most_processes}
-use Rattle.sl_trace.specs.Traces.{Job, Setting, Submitted, Trace, holdings, is_child, outstanding, same_place}
+use Rattle.sl_trace.specs.Traces.{Job, Setting, Submitted, Trace, is_child, same_place}
 use Rattle.sl_trace.specs.declared.command.ResourceArg.{ResourceArg}
-use Rattle.sl_trace.specs.declared.effects.Grant.{Grant}
-use Rattle.sl_trace.specs.declared.effects.Spot.{Spot}
 use Rattle.sl_trace.specs.declared.input.Given.{Given}
-use Rattle.sl_trace.specs.declared.reply.Reply.TheVariants.{Busy, Joining as StillJoining, NoProcess, NotHeld, Pending, Recovering}
+use Rattle.sl_trace.specs.declared.reply.Reply.TheVariants.{Busy, Joining as StillJoining, NoProcess, Pending, Recovering}
 use Rattle.sl_trace.specs.declared.reply.Reply.{Reply}
 use Rattle.sl_words.specs.Words.{choose, least}
 use Rattle.sl_words.proofs.WordLaws.{and_true}
-use Rattle.std.proofs.Common.{ap, arith, refl, subst, sym, tests, ◌∙◌}
+use Rattle.std.proofs.Common.{ap, arith, refl, sym, tests, ◌∙◌}
 use Rattle.std.proofs.lemmas.Slice.Eq.{bytes_eq-Decides}
 use Rattle.std.specs.List.{list_all}
 use Rattle.std.specs.Option.{option_or}
-use Rattle.std.specs.Prelude.{Bool, List, None, Option, Some, bytes_eq, false, filter, find, if◌then◌else◌, is_none, map, nat_le, not, option_map, true, [], ℕ, ◌&&◌, ◌++◌, ◌+◌, ◌<◌, ◌==◌, ◌∷◌, ◌≡◌, ◌≤◌, ◌||◌}
+use Rattle.std.specs.Prelude.{Bool, List, None, Option, Some, bytes_eq, false, filter, find, if◌then◌else◌, is_none, map, nat_le, not, option_map, true, [], ℕ, ◌&&◌, ◌++◌, ◌==◌, ◌∷◌, ◌≡◌, ◌≤◌, ◌||◌}
 
 -- ---- words
 

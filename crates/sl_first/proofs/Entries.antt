@@ -1,26 +1,17 @@
 -- What a host keeps, after one more entry.
 use Rattle.sl_first.proofs.CalmLaws.{append_none}
-use Rattle.sl_first.proofs.Growth.{answered_stays, filter-append, filter_agrees, filter_both, is_running_more, none_unanswered}
-use Rattle.sl_first.specs.FirstPath.{Doing, IsCalm, IsCalmEntry, IsDoing, IsFirst, IsWork, Kept, Stands, calls_kept, first_effects, first_entry, has_answer, heeded_call, is_first_call, jobs_kept, one_reply, open_kept}
-use Rattle.sl_leases.specs.Jobs.{command_numbered, command_of}
-use Rattle.sl_leases.specs.Leases.{lease_step}
-use Rattle.sl_trace.specs.Traces.{Job, Setting, Submitted, Trace, children, holdings, is_running, job_in, job_numbered, jobs, new_call, next_call, next_job, no_effects, reply_in, reply_to, running_jobs, submitted}
-use Rattle.sl_trace.specs.declared.command.Command.{Command}
-use Rattle.sl_trace.specs.declared.command.ResourceArg.{ResourceArg}
-use Rattle.sl_trace.specs.declared.effects.Call.{Call}
+use Rattle.sl_first.proofs.Growth.{filter-append, filter_agrees, filter_both, is_running_more}
+use Rattle.sl_first.specs.FirstPath.{one_reply}
+use Rattle.sl_trace.specs.Traces.{Job, Setting, Trace, is_running, jobs, no_effects, reply_to, running_jobs}
 use Rattle.sl_trace.specs.declared.effects.Entry.{Entry}
-use Rattle.sl_trace.specs.declared.effects.End.{End}
-use Rattle.sl_trace.specs.declared.effects.Grant.{Grant}
 use Rattle.sl_trace.specs.declared.effects.JobReply.{JobReply}
-use Rattle.sl_trace.specs.declared.input.Given.{Given}
-use Rattle.sl_trace.specs.declared.input.Input.TheVariants.{Answer as Told, Exit, Line, Spawned, Wake}
 use Rattle.sl_trace.specs.declared.input.Input.{Input}
 use Rattle.sl_trace.specs.declared.reply.Reply.{Reply}
 use Rattle.sl_words.proofs.WordLaws.{and_true}
 use Rattle.std.proofs.Math.Path.{fun_ext}
-use Rattle.std.proofs.Common.{ap, arith, refl, subst, sym, tests, ◌∙◌}
+use Rattle.std.proofs.Common.{ap, arith, refl, tests, ◌∙◌}
 use Rattle.std.specs.List.{list_all}
-use Rattle.std.specs.Prelude.{Bool, List, None, Ok, Option, Result, Some, false, filter, find, is_none, is_some, length, map, nat_lt, option_map, true, [], ℕ, ◌&&◌, ◌++◌, ◌+◌, ◌<◌, ◌==◌, ◌∷◌, ◌≡◌, ◌≤◌}
+use Rattle.std.specs.Prelude.{Bool, List, None, false, filter, find, is_none, length, nat_lt, option_map, true, [], ℕ, ◌&&◌, ◌++◌, ◌+◌, ◌==◌, ◌∷◌, ◌≡◌}
 
 -- ---- truths
 
@@ -103,7 +94,7 @@ running_answered st es e j why more one old =
     ∙ filter-append (λ (i : Job). is_running (e ∷ es) i.number) (jobs st es) (j ∷ [])
     ∙ rw (is_answered_now es e j.number why one) (append_none _)
     ∙ filter_agrees (λ (i : Job). nat_lt i.number j.number) (λ i. is_running (e ∷ es) i.number) (λ i. is_running es i.number) (jobs st es) old
-        (λ i lt. runs_beside es e i.number j.number why one (not_next i.number j.number lt))
+    (λ i lt. runs_beside es e i.number j.number why one (not_next i.number j.number lt))
 
 -- One comes and goes to work.
 pub running_begun : (st : Setting) (es : Trace) (e : Entry) (j : Job) → jobs st (e ∷ es) ≡ jobs st es ++ j ∷ [] → e.effects.replies ≡ []

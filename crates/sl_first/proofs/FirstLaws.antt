@@ -1,14 +1,12 @@
 -- A host of the first path: what each input makes due, and that it stands for the trace with its entry.
 use Rattle.sl_area.specs.Places.{block_offset, in_area, leader_offset}
-use Rattle.sl_due.specs.Due.{due}
 use Rattle.sl_first.proofs.Answering.{further_due, grant_due, reply_due}
-use Rattle.sl_first.proofs.Courses.{aim_for, course_live, host_in}
+use Rattle.sl_first.proofs.Courses.{course_live, host_in}
 use Rattle.sl_first.proofs.Standing.{told_done, told_more}
-use Rattle.sl_first.specs.FirstPath.{Doing, IsDoing, IsFirst, IsNextCall, Kept, Stands, first_effects, first_entry, heeded_call, is_first_call, one_reply}
-use Rattle.sl_first.specs.FirstSteps.{Begins_phase1, Begins_phase2, Course, FirstStands, Freeing, Further, Goes_on_phase1, Goes_on_phase2, Grants, Holds, Idle, IsNamed, Live, OnCourse, Phase, Reading_area, Reading_phase1, Reading_phase2, Reads_phase1, Reads_phase2, Replies_late, Takes, Taking, ToldFirst, Works, Writes_block, Writes_leader, Writing_phase1, Writing_phase2, first_grant, first_next, further_call, kept_in, next_of, process_of, step_of, told_effects, told_number, told_phase}
+use Rattle.sl_first.specs.FirstPath.{Doing, IsFirst, first_effects, heeded_call, is_first_call, one_reply}
+use Rattle.sl_first.specs.FirstSteps.{Begins_phase1, Begins_phase2, Course, FirstStands, Freeing, Further, Goes_on_phase1, Goes_on_phase2, Grants, IsNamed, Live, Reading_area, Reading_phase1, Reading_phase2, Reads_phase1, Reads_phase2, Replies_late, Takes, Taking, ToldFirst, Works, Writes_block, Writes_leader, Writing_phase1, Writing_phase2, first_aim, first_grant, first_next, further_call, kept_in, next_of, process_of, step_of}
 use Rattle.sl_leases.specs.Jobs.{aim_of_command}
-use Rattle.sl_leases.specs.Leases.{is_on, lver_written, spot_of}
-use Rattle.sl_leases.specs.declared.lease.Aim.{Aim}
+use Rattle.sl_leases.specs.Leases.{lver_written}
 use Rattle.sl_leases.specs.declared.lease.LeaseNext.TheVariants.{AnswerJob, GrantJob}
 use Rattle.sl_leases.specs.declared.lease.LeaseNext.{LeaseNext}
 use Rattle.sl_sector.specs.declared.sector.Rec.TheVariants.{BlockIs, LeaderIs}
@@ -23,13 +21,12 @@ use Rattle.sl_trace.specs.declared.effects.Op.TheVariants.{ReadSectors, WriteRec
 use Rattle.sl_trace.specs.declared.effects.Op.{Op}
 use Rattle.sl_trace.specs.declared.input.Answer.{Answer}
 use Rattle.sl_trace.specs.declared.input.Given.{Given}
-use Rattle.sl_trace.specs.declared.input.Input.TheVariants.{Answer as Told, Line}
 use Rattle.sl_trace.specs.declared.reply.Reply.TheVariants.{Granted}
 use Rattle.sl_trace.specs.declared.reply.Reply.{Reply}
 use Rattle.std.proofs.Common.{ap, arith, refl, subst, sym, tests, ◌∙◌}
 use Rattle.std.proofs.Math.Nat.{mul-le-mul_left}
 use Rattle.std.proofs.lemmas.Slice.Eq.{bytes_eq-Decides}
-use Rattle.std.specs.Prelude.{Bool, List, Some, [], bytes_eq, false, nat_le, nat_lt, true, ℕ, ◌&&◌, ◌*◌, ◌+◌, ◌<◌, ◌==◌, ◌∷◌, ◌≡◌, ◌≤◌}
+use Rattle.std.specs.Prelude.{List, Some, [], bytes_eq, false, nat_le, nat_lt, true, ℕ, ◌&&◌, ◌*◌, ◌+◌, ◌<◌, ◌∷◌, ◌≡◌, ◌≤◌}
 
 -- ---- where calls stand
 
@@ -65,7 +62,7 @@ further_placed st g r f number job (Writes_leader step l) =
 -- ---- answers
 
 -- A command of the first path has an aim.
-aim_there : (st : Setting) (g : Given) (r : ResourceArg) (answered : List Submitted) (command : Command) (step : LeaseStep) (op : Op) → Course st g r answered command step op → aim_of_command command ≡ Some (aim_for command)
+aim_there : (st : Setting) (g : Given) (r : ResourceArg) (answered : List Submitted) (command : Command) (step : LeaseStep) (op : Op) → Course st g r answered command step op → aim_of_command command ≡ Some (first_aim command)
 aim_there st g r answered command step op (Reading_area p) = refl
 aim_there st g r answered command step op (Writing_phase1 p b named) = refl
 aim_there st g r answered command step op (Reading_phase1 p b named own) = refl
@@ -76,12 +73,12 @@ aim_there st g r answered command step op (Freeing p l named) = refl
 
 -- The call goes on with the work.
 told_further : (st : Setting) (g : Given) (r : ResourceArg) → IsFirst st g r → (call job : ℕ) (d : Doing) (answered : List Submitted) (es : Trace) → FirstStands st g r call job (Works d) answered es
-    → (a : Answer) (f : Further) → first_next st g es d answered (aim_for d.command) a ≡ next_of f
+    → (a : Answer) (f : Further) → first_next st g es d answered (first_aim d.command) a ≡ next_of f
     → Course st g r (heeded_call es g a d.call ∷ answered) d.command (step_of f) (further_call st g r call d.job.number f).op
     → ToldFirst st g r call job d answered es a (next_of f)
 told_further st g r f call job d answered es h a Reads_phase1 comes course =
     record {
-      due_is = further_due st g r (kept_in g r call job (Works d) answered) es f h.stands d refl refl h.stands.work a (aim_for d.command) (aim_there st g r answered d.command d.step d.call.call.op h.course) Reads_phase1 comes;
+      due_is = further_due st g r (kept_in g r call job (Works d) answered) es f h.stands d refl refl h.stands.work a (first_aim d.command) (aim_there st g r answered d.command d.step d.call.call.op h.course) Reads_phase1 comes;
       stands = record {
         stands = told_more st g r (kept_in g r call job (Works d) answered) es h.stands d refl h.stands.work a Phase1Read (further_call st g r call d.job.number Reads_phase1)
             (record { numbered = refl; placed = further_placed st g r f call d.job.number Reads_phase1; for_job = refl });
@@ -90,7 +87,7 @@ told_further st g r f call job d answered es h a Reads_phase1 comes course =
     }
 told_further st g r f call job d answered es h a Reads_phase2 comes course =
     record {
-      due_is = further_due st g r (kept_in g r call job (Works d) answered) es f h.stands d refl refl h.stands.work a (aim_for d.command) (aim_there st g r answered d.command d.step d.call.call.op h.course) Reads_phase2 comes;
+      due_is = further_due st g r (kept_in g r call job (Works d) answered) es f h.stands d refl refl h.stands.work a (first_aim d.command) (aim_there st g r answered d.command d.step d.call.call.op h.course) Reads_phase2 comes;
       stands = record {
         stands = told_more st g r (kept_in g r call job (Works d) answered) es h.stands d refl h.stands.work a Phase2Read (further_call st g r call d.job.number Reads_phase2)
             (record { numbered = refl; placed = further_placed st g r f call d.job.number Reads_phase2; for_job = refl });
@@ -99,7 +96,7 @@ told_further st g r f call job d answered es h a Reads_phase2 comes course =
     }
 told_further st g r f call job d answered es h a (Writes_block step b) comes course =
     record {
-      due_is = further_due st g r (kept_in g r call job (Works d) answered) es f h.stands d refl refl h.stands.work a (aim_for d.command) (aim_there st g r answered d.command d.step d.call.call.op h.course) (Writes_block step b) comes;
+      due_is = further_due st g r (kept_in g r call job (Works d) answered) es f h.stands d refl refl h.stands.work a (first_aim d.command) (aim_there st g r answered d.command d.step d.call.call.op h.course) (Writes_block step b) comes;
       stands = record {
         stands = told_more st g r (kept_in g r call job (Works d) answered) es h.stands d refl h.stands.work a step (further_call st g r call d.job.number (Writes_block step b))
             (record { numbered = refl; placed = further_placed st g r f call d.job.number (Writes_block step b); for_job = refl });
@@ -108,7 +105,7 @@ told_further st g r f call job d answered es h a (Writes_block step b) comes cou
     }
 told_further st g r f call job d answered es h a (Writes_leader step l) comes course =
     record {
-      due_is = further_due st g r (kept_in g r call job (Works d) answered) es f h.stands d refl refl h.stands.work a (aim_for d.command) (aim_there st g r answered d.command d.step d.call.call.op h.course) (Writes_leader step l) comes;
+      due_is = further_due st g r (kept_in g r call job (Works d) answered) es f h.stands d refl refl h.stands.work a (first_aim d.command) (aim_there st g r answered d.command d.step d.call.call.op h.course) (Writes_leader step l) comes;
       stands = record {
         stands = told_more st g r (kept_in g r call job (Works d) answered) es h.stands d refl h.stands.work a step (further_call st g r call d.job.number (Writes_leader step l))
             (record { numbered = refl; placed = further_placed st g r f call d.job.number (Writes_leader step l); for_job = refl });
@@ -118,28 +115,28 @@ told_further st g r f call job d answered es h a (Writes_leader step l) comes co
 
 -- The job is answered.
 told_reply : (st : Setting) (g : Given) (r : ResourceArg) → IsFirst st g r → (call job : ℕ) (d : Doing) (answered : List Submitted) (es : Trace) → FirstStands st g r call job (Works d) answered es
-    → (a : Answer) (why : Reply) → first_next st g es d answered (aim_for d.command) a ≡ AnswerJob why → is_before_input why ≡ false
+    → (a : Answer) (why : Reply) → first_next st g es d answered (first_aim d.command) a ≡ AnswerJob why → is_before_input why ≡ false
     → ToldFirst st g r call job d answered es a (AnswerJob why)
 told_reply st g r f call job d answered es h a why comes late =
     record {
-      due_is = reply_due st g r (kept_in g r call job (Works d) answered) es f h.stands d refl refl h.stands.work a (aim_for d.command) (aim_there st g r answered d.command d.step d.call.call.op h.course) why comes;
+      due_is = reply_due st g r (kept_in g r call job (Works d) answered) es f h.stands d refl refl h.stands.work a (first_aim d.command) (aim_there st g r answered d.command d.step d.call.call.op h.course) why comes;
       stands = record { stands = told_done st g r (kept_in g r call job (Works d) answered) es h.stands d refl h.stands.work a [] why late; course = tt };
     }
 
 -- The resource is granted.
 told_grant : (st : Setting) (g : Given) (r : ResourceArg) → IsFirst st g r → (call job : ℕ) (d : Doing) (answered : List Submitted) (es : Trace) → FirstStands st g r call job (Works d) answered es
-    → (a : Answer) (p lver : ℕ) → d.command ≡ Acquire r false p → first_next st g es d answered (aim_for d.command) a ≡ GrantJob Exclusive lver
+    → (a : Answer) (p lver : ℕ) → d.command ≡ Acquire r false p → first_next st g es d answered (first_aim d.command) a ≡ GrantJob Exclusive lver
     → IsNamed st g r (heeded_call es g a d.call ∷ answered) → ToldFirst st g r call job d answered es a (GrantJob Exclusive lver)
 told_grant st g r f call job d answered es h a p lver is comes named =
     record {
-      due_is = grant_due st g r (kept_in g r call job (Works d) answered) es f h.stands d refl refl h.stands.work a p lver is (ap (λ c. first_next st g es d answered (aim_for c) a) (sym is) ∙ comes)
+      due_is = grant_due st g r (kept_in g r call job (Works d) answered) es f h.stands d refl refl h.stands.work a p lver is (ap (λ c. first_next st g es d answered (first_aim c) a) (sym is) ∙ comes)
           ∙ ap (λ c. first_effects [] (first_grant g r (process_of c) lver ∷ []) (one_reply d.job.number (Granted lver)) []) (sym is);
       stands = record { stands = told_done st g r (kept_in g r call job (Works d) answered) es h.stands d refl h.stands.work a (first_grant g r (process_of d.command) lver ∷ []) (Granted lver) refl; course = named };
     }
 
 -- By what may come next.
 told_by : (st : Setting) (g : Given) (r : ResourceArg) → IsFirst st g r → (call job : ℕ) (d : Doing) (answered : List Submitted) (es : Trace) → FirstStands st g r call job (Works d) answered es
-    → (a : Answer) (command : Command) (next : LeaseNext) → d.command ≡ command → first_next st g es d answered (aim_for d.command) a ≡ next
+    → (a : Answer) (command : Command) (next : LeaseNext) → d.command ≡ command → first_next st g es d answered (first_aim d.command) a ≡ next
     → Live r (heeded_call es g a d.call ∷ answered) (IsNamed st g r (heeded_call es g a d.call ∷ answered)) command next → ToldFirst st g r call job d answered es a next
 told_by st g r f call job d answered es h a command next is comes (Goes_on_phase1 p b named own) =
     told_further st g r f call job d answered es h a Reads_phase1 comes
@@ -162,7 +159,7 @@ told_by st g r f call job d answered es h a command next is comes (Replies_late 
 -- Any answer that fits the work's call.
 pub told_first : (st : Setting) (g : Given) (r : ResourceArg) → IsFirst st g r → (call job : ℕ) (d : Doing) (answered : List Submitted) (es : Trace) → FirstStands st g r call job (Works d) answered es
     → (a : Answer) → is_answer_for st a d.call.call.op ≡ true
-    → ToldFirst st g r call job d answered es a (first_next st g es d answered (aim_for d.command) a)
+    → ToldFirst st g r call job d answered es a (first_next st g es d answered (first_aim d.command) a)
 told_first st g r f call job d answered es h a fits =
-    told_by st g r f call job d answered es h a d.command (first_next st g es d answered (aim_for d.command) a) refl refl
+    told_by st g r f call job d answered es h a d.command (first_next st g es d answered (first_aim d.command) a) refl refl
     (course_live st g r f es answered d.call d.job.number d.call.call.number (lver_written d.call) d.command d.step d.call.call.op h.course refl h.stands.work.for_job a fits)

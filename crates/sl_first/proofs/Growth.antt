@@ -1,20 +1,16 @@
 -- How the questions to a trace change by one more entry.
-use Rattle.sl_first.proofs.CalmLaws.{append_none}
 use Rattle.sl_first.specs.FirstPath.{has_answer}
-use Rattle.sl_trace.specs.Traces.{Answered, Job, Replied, Setting, Submitted, Trace, answer_of, answered_in, is_running, job_in, jobs, line_in, mark, reply_in, reply_to, running_jobs, unanswered}
-use Rattle.sl_trace.specs.declared.effects.Effects.{Effects}
+use Rattle.sl_trace.specs.Traces.{Answered, Replied, Submitted, Trace, answer_of, answered_in, is_running, reply_in, reply_to, unanswered}
 use Rattle.sl_trace.specs.declared.effects.Entry.{Entry}
 use Rattle.sl_trace.specs.declared.effects.JobReply.{JobReply}
 use Rattle.sl_trace.specs.declared.input.Answer.{Answer}
-use Rattle.sl_trace.specs.declared.input.Input.TheVariants.{Answer as Told, Exit, Line, Spawned, Wake}
-use Rattle.sl_trace.specs.declared.input.Input.{Input}
 use Rattle.sl_trace.specs.declared.reply.Reply.{Reply}
 use Rattle.sl_words.proofs.CaseLaws.{false_is_true}
 use Rattle.sl_words.proofs.WordLaws.{and_true}
-use Rattle.std.proofs.Common.{ap, arith, refl, sym, tests, ◌∙◌}
+use Rattle.std.proofs.Common.{ap, refl, ◌∙◌}
 use Rattle.std.specs.List.{list_all}
 use Rattle.std.specs.Option.{option_or}
-use Rattle.std.specs.Prelude.{Bool, List, None, Option, Some, cond, false, filter, if◌then◌else◌, find, is_none, is_some, length, map, nat_lt, not, option_map, true, [], ℕ, ◌&&◌, ◌++◌, ◌+◌, ◌<◌, ◌==◌, ◌∷◌, ◌≡◌, ◌≤◌}
+use Rattle.std.specs.Prelude.{Bool, List, None, Option, Some, false, filter, if◌then◌else◌, find, is_none, is_some, length, map, option_map, true, [], ℕ, ◌&&◌, ◌++◌, ◌==◌, ◌∷◌, ◌≡◌}
 
 -- ---- filters
 

@@ -4,26 +4,23 @@ use Rattle.sl_first.proofs.CalmRenewal.{leases_first, survey_none as no_survey}
 use Rattle.sl_first.proofs.Decided.{calls_first, nothing_on}
 use Rattle.sl_first.specs.FirstPath.{IsCalm, first_session, is_first_call}
 use Rattle.sl_first.specs.FirstSteps.{first_known, first_over, first_self}
-use Rattle.sl_leases.specs.Leases.{LeaseKnown, exclusive_on, has_shared_on, is_lease_call, is_on, known, known_of, lease_calls, lease_step, spot_of}
+use Rattle.sl_leases.specs.Leases.{exclusive_on, has_shared_on, is_lease_call, is_on, known, known_of, lease_calls, spot_of}
 use Rattle.sl_sector.specs.declared.sector.DeltaRec.{DeltaRec}
-use Rattle.sl_sector.specs.declared.sector.Owner.{Owner}
-use Rattle.sl_sessions.specs.Sessions.{Session, calls_of, delta_written, generation_in, generation_of, is_survey_purpose, joined_after, last_delta, me}
-use Rattle.sl_sessions.specs.Watching.{counts_over, evidence, evidence_in, evidence_of, look_of, sightings}
+use Rattle.sl_sessions.specs.Sessions.{Session, delta_written, generation_in, generation_of, is_survey_purpose, last_delta}
+use Rattle.sl_sessions.specs.Watching.{counts_over, evidence, evidence_in, look_of, sightings}
 use Rattle.sl_time.specs.Times.{TimingNumbers}
 use Rattle.sl_trace.specs.Traces.{Setting, Submitted, Trace, holdings, is_shared, submitted}
 use Rattle.sl_trace.specs.declared.command.ResourceArg.{ResourceArg}
-use Rattle.sl_trace.specs.declared.effects.Grant.{Grant}
-use Rattle.sl_trace.specs.declared.effects.Purpose.{Purpose}
 use Rattle.sl_trace.specs.declared.input.Given.{Given}
-use Rattle.sl_trace.specs.declared.reply.Evidence.TheVariants.{Freed, Newer}
+use Rattle.sl_trace.specs.declared.reply.Evidence.TheVariants.{Newer}
 use Rattle.sl_trace.specs.declared.reply.Evidence.{Evidence}
 use Rattle.sl_words.proofs.CaseLaws.{false_is_true}
 use Rattle.sl_words.proofs.WordLaws.{and_true}
-use Rattle.std.proofs.Common.{ap, arith, refl, subst, sym, tests, ◌∙◌}
+use Rattle.std.proofs.Common.{ap, arith, refl, tests, ◌∙◌}
 use Rattle.std.proofs.Math.Path.{fun_ext}
 use Rattle.std.specs.List.{list_all}
 use Rattle.std.specs.Option.{option_map_or}
-use Rattle.std.specs.Prelude.{Bool, List, None, Option, Some, false, filter, filter_map, find, if◌then◌else◌, is_none, is_some, nat_lt, not, option_map, true, [], ℕ, ◌&&◌, ◌==◌, ◌∷◌, ◌≡◌}
+use Rattle.std.specs.Prelude.{Bool, List, None, Option, Some, false, filter, find, is_none, is_some, nat_lt, not, option_map, true, [], ℕ, ◌&&◌, ◌==◌, ◌∷◌, ◌≡◌}
 
 -- ---- no delta record was written
 
@@ -64,10 +61,10 @@ pub over_first : (st : Setting) (g : Given) (r : ResourceArg) (t : Trace) → Is
     → counts_over st t (first_session g) ≡ first_over g
 over_first st g r t c mine =
     fun_ext (λ (j : ℕ). fun_ext (λ (h : ℕ).
-        ap (λ (o : Option Evidence). elim (is_some o) as (λ x. Bool) [ true ↦ true | false ↦ j == g.id && nat_lt h (generation_of t (first_session g)) && true ])
-            (ap (λ ms. evidence_in st ms j h) (calls_first st g r t mine)
-            ∙ ap (λ ss. evidence st.timing st.layout j h ss) (no_looks st.layout j (submitted t) (leases_first g t c)) ∙ no_evidence st.timing st.layout j h)
-        ∙ ap (λ n. j == g.id && nat_lt h n && true) (generation_first st g r t mine)))
+    ap (λ (o : Option Evidence). elim (is_some o) as (λ x. Bool) [ true ↦ true | false ↦ j == g.id && nat_lt h (generation_of t (first_session g)) && true ])
+    (ap (λ ms. evidence_in st ms j h) (calls_first st g r t mine)
+    ∙ ap (λ ss. evidence st.timing st.layout j h ss) (no_looks st.layout j (submitted t) (leases_first g t c)) ∙ no_evidence st.timing st.layout j h)
+    ∙ ap (λ n. j == g.id && nat_lt h n && true) (generation_first st g r t mine)))
 
 -- ---- the lease's calls are all calls
 
@@ -83,7 +80,7 @@ pub lease_calls_first : (st : Setting) (g : Given) (r : ResourceArg) (t : Trace)
 lease_calls_first st g r t c mine =
     ap (λ ms. filter (λ m. is_lease_call m && is_on st.layout (spot_of r) m.call) ms) (calls_first st g r t mine)
     ∙ filter_two (is_first_call st r) is_lease_call (λ m. is_on st.layout (spot_of r) m.call) (submitted t) mine (leases_first g t c)
-        (λ m h. (and_true (m.call.session == 0) (is_on st.layout (spot_of r) m.call) (and_true (m.call.session == 0 && is_on st.layout (spot_of r) m.call) (is_none (delta_written m)) h).0).1)
+    (λ m h. (and_true (m.call.session == 0) (is_on st.layout (spot_of r) m.call) (and_true (m.call.session == 0 && is_on st.layout (spot_of r) m.call) (is_none (delta_written m)) h).0).1)
 
 pub known_first : (st : Setting) (g : Given) (r : ResourceArg) (t : Trace) → IsCalm g t → list_all (is_first_call st r) (submitted t) ≡ true → holdings t ≡ []
     → (ms : List Submitted) → submitted t ≡ ms → known st t (first_session g) (spot_of r) ≡ first_known st g ms
@@ -91,8 +88,8 @@ unfolding known
 known_first st g r t c mine free ms is =
     let s : Session = first_session g in
     ap (λ n. known_of st.layout g.lockspace (record { id = g.id; generation = n }) (has_shared_on t s (spot_of r)) (option_map (λ e. e.lver) (exclusive_on t s (spot_of r))) (counts_over st t s) (lease_calls st t s (spot_of r)))
-        (generation_first st g r t mine)
+    (generation_first st g r t mine)
     ∙ ap (λ gs. known_of st.layout g.lockspace (first_self g) (is_some (find (λ e. is_shared e.mode) gs)) (option_map (λ e. e.lver) (find (λ e. not (is_shared e.mode)) gs)) (counts_over st t s) (lease_calls st t s (spot_of r)))
-        (nothing_on g r t free)
+    (nothing_on g r t free)
     ∙ ap (λ o. known_of st.layout g.lockspace (first_self g) false None o (lease_calls st t s (spot_of r))) (over_first st g r t c mine)
     ∙ ap (λ xs. first_known st g xs) (lease_calls_first st g r t c mine ∙ is)

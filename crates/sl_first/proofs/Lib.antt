@@ -14,3 +14,4 @@ pub mod Liveness
 pub mod Courses
 pub mod FirstLaws
 pub mod LineLaws
+pub mod Beginning

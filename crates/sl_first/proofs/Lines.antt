@@ -1,22 +1,22 @@
 -- What a line makes due, exactly.
-use Rattle.sl_due.specs.Due.{after_input, before_input, due, due_step}
+use Rattle.sl_due.specs.Due.{after_input, due, due_step}
 use Rattle.sl_due.specs.DueCommands.{Decision, Gives_up, Reads_area, Replies, after_end, answer_line, carry_decision, carry_line, decided, decided_text, on_line}
 use Rattle.sl_due.specs.DueInputs.{take_input}
 use Rattle.sl_due.specs.DueLease.{carry_lease}
 use Rattle.sl_due.specs.DueWake.{finish}
-use Rattle.sl_due.specs.Steps.{Step, add_end, add_reply, begin_step, seen, with_input}
-use Rattle.sl_first.proofs.Decided.{acquire_held, acquire_idle, acquire_pending, held_on, nothing_on, release_free, release_held, release_other}
+use Rattle.sl_due.specs.Steps.{Step, add_reply, begin_step, seen}
+use Rattle.sl_first.proofs.Decided.{acquire_idle, nothing_on, release_held}
 use Rattle.sl_first.proofs.Decisions.{here}
 use Rattle.sl_first.proofs.Knowledge.{known_first}
 use Rattle.sl_first.proofs.Standing.{quiet_stands}
 use Rattle.sl_first.proofs.Stillness.{nothing_after, nothing_before}
-use Rattle.sl_first.specs.FirstPath.{Doing, IsCalm, IsDoing, IsFirst, Kept, Stands, calls_kept, first_effects, first_entry, first_session, one_reply, open_kept}
+use Rattle.sl_first.specs.FirstPath.{IsCalm, IsFirst, Kept, Stands, first_effects, first_entry, first_session, one_reply, open_kept}
 use Rattle.sl_first.specs.FirstSteps.{first_grant, first_known, first_read, last_write}
 use Rattle.sl_leases.specs.LeaseWork.{lease_place, release_next}
-use Rattle.sl_leases.specs.Leases.{LeaseKnown, holdings_on, known, spot_of}
+use Rattle.sl_leases.specs.Leases.{known, spot_of}
 use Rattle.sl_sessions.specs.Sessions.{Session}
 use Rattle.sl_trace.specs.Limits.{most_processes}
-use Rattle.sl_trace.specs.Traces.{Setting, Submitted, Trace, end_of, held_after, holdings, is_ended_by, next_call, next_job, no_effects, submitted}
+use Rattle.sl_trace.specs.Traces.{Setting, Trace, end_of, held_after, holdings, next_job, no_effects}
 use Rattle.sl_trace.specs.declared.command.Command.TheVariants.{Acquire, Release}
 use Rattle.sl_trace.specs.declared.command.Command.{Command}
 use Rattle.sl_trace.specs.declared.command.ResourceArg.{ResourceArg}
@@ -26,11 +26,11 @@ use Rattle.sl_trace.specs.declared.effects.Mode.TheVariants.{Exclusive}
 use Rattle.sl_trace.specs.declared.effects.Work.TheVariants.{ForJob}
 use Rattle.sl_trace.specs.declared.input.Given.{Given}
 use Rattle.sl_trace.specs.declared.input.Input.TheVariants.{Line, Wake}
-use Rattle.sl_trace.specs.declared.reply.Reply.TheVariants.{BadCommand as Misread, Busy, Done, NotHeld, Pending}
+use Rattle.sl_trace.specs.declared.reply.Reply.TheVariants.{BadCommand as Misread, Done}
 use Rattle.sl_trace.specs.declared.reply.Reply.{Reply}
 use Rattle.sl_words.specs.Results.{◌>>=◌}
-use Rattle.std.proofs.Common.{ap, arith, refl, subst, sym, tests, ◌∙◌}
-use Rattle.std.specs.Prelude.{◌++◌, Bool, Err, List, None, Ok, Result, false, filter, not, true, [], ℕ, ◌+◌, ◌==◌, ◌∷◌, ◌≡◌, ◌≤◌}
+use Rattle.std.proofs.Common.{ap, arith, refl, tests, ◌∙◌}
+use Rattle.std.specs.Prelude.{◌++◌, Err, List, None, Ok, Result, false, true, [], ℕ, ◌==◌, ◌∷◌, ◌≡◌, ◌≤◌}
 
 -- A line's step, where what the line comes to is this.
 line_due : (st : Setting) (g : Given) (r : ResourceArg) (k : Kept) (es : Trace) → IsFirst st g r → Stands st g r k es → (text : List ℕ) (fx : Effects)
@@ -83,7 +83,7 @@ acquire_due st g r k es f h idle free text p small reads =
     let q = quiet_stands st g r k es h in
     line_due st g r k es f h text (first_effects [] [] [] (first_read st r k.next_call k.next_job ∷ []))
     (ap (λ d. carry_line text (next_job st (seen x)) d x)
-        (bound st (seen x) g.renewed text (Acquire r false p) (Reads_area (first_session g) r) reads (acquire_idle st g r k (seen x) f q idle free g.renewed p small))
+    (bound st (seen x) g.renewed text (Acquire r false p) (Reads_area (first_session g) r) reads (acquire_idle st g r k (seen x) f q idle free g.renewed p small))
     ∙ ap (λ n. carry_line text n (Ok (Acquire r false p, Reads_area (first_session g) r)) x) q.job_number
     ∙ ap (λ n. record { setting = st; past = es; reading = g.renewed; input = Line text; effects = first_effects [] [] [] (first_read st r n k.next_job ∷ []) }) h.call_number)
     (record { still = refl; unmoved = refl; leases = refl }, h.calm)
@@ -100,7 +100,7 @@ ended g r q lver = rw (same_number q, here r) refl
 pub release_due : (st : Setting) (g : Given) (r : ResourceArg) (k : Kept) (es : Trace) → IsFirst st g r → Stands st g r k es → k.work ≡ None → (q lver : ℕ) → k.held ≡ first_grant g r q lver ∷ []
     → (text : List ℕ) (p : ℕ) → p ≤ most_processes → st.read text ≡ Ok (Release r p) → (q == p) ≡ true
     → due st es g.renewed (Line text)
-        ≡ first_effects (end_of (first_grant g r q lver) ∷ []) [] [] (last_write st g r k.next_call k.next_job lver k.answered ∷ [])
+    ≡ first_effects (end_of (first_grant g r q lver) ∷ []) [] [] (last_write st g r k.next_call k.next_job lver k.answered ∷ [])
 unfolding on_line carry_decision after_end carry_lease
 release_due st g r k es f h idle q lver is text p small reads same =
     let x : Step = begin_step st es g.renewed in
@@ -113,10 +113,10 @@ release_due st g r k es f h idle q lver is text p small reads same =
     let knows : known st (seen y) s (spot_of r) ≡ first_known st g k.answered = known_first st g r (seen y) calm h.mine free k.answered (h.calls ∙ ap (λ w. open_kept w ++ k.answered) idle) in
     line_due st g r k es f h text (first_effects (end_of i ∷ []) [] [] (last_write st g r k.next_call k.next_job lver k.answered ∷ []))
     (ap (λ d. carry_line text (next_job st (seen x)) d x)
-        (bound st (seen x) g.renewed text (Release r p) (Gives_up s i) reads (release_held st g r k (seen x) f w q lver is idle g.renewed p small same))
+    (bound st (seen x) g.renewed text (Release r p) (Gives_up s i) reads (release_held st g r k (seen x) f w q lver is idle g.renewed p small same))
     ∙ ap (λ n. after_end s (spot_of r) n i y) w.job_number
     ∙ ap (λ gs. elim gs as (λ z. Step) [ g ∷ gs ↦ add_reply k.next_job Done y | [] ↦ carry_lease s (spot_of r) (ForJob k.next_job) (release_next (lease_place st s) (known st (seen y) s (spot_of r)) Exclusive lver) y ])
-        (nothing_on g r (seen y) free)
+    (nothing_on g r (seen y) free)
     ∙ ap (λ K. carry_lease s (spot_of r) (ForJob k.next_job) (release_next (lease_place st s) K Exclusive lver) y) knows
     ∙ ap (λ n. record { setting = st; past = es; reading = g.renewed; input = Line text; effects = first_effects (end_of i ∷ []) [] [] (last_write st g r n k.next_job lver k.answered ∷ []) }) h.call_number)
     (record { still = refl; unmoved = refl; leases = refl }, h.calm)

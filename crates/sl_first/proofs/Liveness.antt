@@ -1,22 +1,21 @@
 -- What an answer of an acquire or a release may lead to.
-use Rattle.sl_area.specs.Layouts.{Layout}
-use Rattle.sl_area.specs.Places.{area_blocks, blocks_in, leader_of}
-use Rattle.sl_first.specs.FirstSteps.{Begins_phase1, Begins_phase2, Goes_on_phase1, Goes_on_phase2, Grants, Live, Replies_late, Takes}
-use Rattle.sl_leases.specs.Ballots.{phase1_block, same_owner, stop_of, value_of}
-use Rattle.sl_leases.specs.LeaseWork.{LeasePlace, after_phase1, after_phase2, area_next, begin_next, begin_or_refuse, ended_next, lease_next, leader_for, lost_next, named_area_next, phase1_next, phase2_next, stop_reply, stopped_next, unstopped_next, whole_area_next, won_next}
+use Rattle.sl_area.specs.Places.{area_blocks, leader_of}
+use Rattle.sl_first.specs.FirstSteps.{Begins_phase1, Begins_phase2, Live, Replies_late, Takes}
+use Rattle.sl_leases.specs.Ballots.{phase1_block, same_owner, value_of}
+use Rattle.sl_leases.specs.LeaseWork.{LeasePlace, after_phase1, after_phase2, area_next, begin_next, begin_or_refuse, leader_for, lost_next, named_area_next, phase1_next, phase2_next, stop_reply, whole_area_next, won_next}
 use Rattle.sl_leases.specs.Leases.{LeaseKnown, instance_for, is_leader_of, mode_gen_of, own_known, shared_elsewhere}
-use Rattle.sl_leases.specs.declared.lease.Aim.TheVariants.{Acquires, Releases}
+use Rattle.sl_leases.specs.declared.lease.Aim.TheVariants.{Acquires}
 use Rattle.sl_leases.specs.declared.lease.Aim.{Aim}
 use Rattle.sl_leases.specs.declared.lease.Instance.TheVariants.{Begins, HeldAlready}
 use Rattle.sl_leases.specs.declared.lease.Instance.{Instance}
-use Rattle.sl_leases.specs.declared.lease.LeaseNext.TheVariants.{AnswerJob, GrantJob, Nothing, ReadFor, WriteBlock, WriteLeader}
+use Rattle.sl_leases.specs.declared.lease.LeaseNext.TheVariants.{AnswerJob, Nothing, WriteBlock}
 use Rattle.sl_leases.specs.declared.lease.LeaseNext.{LeaseNext}
 use Rattle.sl_leases.specs.declared.lease.Stop.TheVariants.{BlockAhead, BlockRival, BlockTorn}
 use Rattle.sl_leases.specs.declared.lease.Stop.{Stop}
 use Rattle.sl_sector.specs.declared.sector.Block.{Block}
 use Rattle.sl_sector.specs.declared.sector.Leader.{Leader}
 use Rattle.sl_sector.specs.declared.sector.Owner.{Owner}
-use Rattle.sl_trace.specs.declared.command.Command.TheVariants.{Acquire, Release}
+use Rattle.sl_trace.specs.declared.command.Command.TheVariants.{Acquire}
 use Rattle.sl_trace.specs.declared.command.ResourceArg.{ResourceArg}
 use Rattle.sl_trace.specs.declared.effects.LeaseStep.TheVariants.{Phase1Write}
 use Rattle.sl_trace.specs.declared.effects.Mode.TheVariants.{Exclusive}
@@ -24,7 +23,7 @@ use Rattle.sl_trace.specs.declared.reply.Limited.TheVariants.{Lver as LverLimit,
 use Rattle.sl_trace.specs.declared.reply.Reply.TheVariants.{Held as HeldBy, Limit as LimitReached, Shared as SharedBy, TornBlock, TornLeader, WrongArea}
 use Rattle.sl_words.specs.Bounds.{is_number}
 use Rattle.sl_words.specs.Words.{present}
-use Rattle.std.proofs.Common.{ap, refl, subst, sym, ◌∙◌}
+use Rattle.std.proofs.Common.{refl, subst, sym}
 use Rattle.std.specs.Option.{option_map_or}
 use Rattle.sl_trace.specs.Traces.{Submitted, is_before_input}
 use Rattle.std.specs.Prelude.{Bool, List, None, Option, Some, false, is_none, position, true, ℕ, ◌+◌, ◌≡◌}
@@ -35,8 +34,10 @@ acquires = Acquires Exclusive
 -- ---- a ballot begins
 
 phase1_by : (r : ResourceArg) (ms : List Submitted) (N : Type 0) (nm : N) (p : ℕ) (b : Block) (c d : Bool)
-    → Live r ms N (Acquire r false p) (elim c as (λ x. LeaseNext) [ false ↦ AnswerJob (LimitReached LverLimit)
-        | true ↦ elim d as (λ x. LeaseNext) [ false ↦ AnswerJob (LimitReached MbalLimit) | true ↦ WriteBlock Phase1Write b ] ])
+    → Live r ms N (Acquire r false p) (elim c as (λ x. LeaseNext) [
+      | false ↦ AnswerJob (LimitReached LverLimit)
+      | true ↦ elim d as (λ x. LeaseNext) [ false ↦ AnswerJob (LimitReached MbalLimit) | true ↦ WriteBlock Phase1Write b ]
+    ])
 phase1_by r ms N nm p b false d = Replies_late (Acquire r false p) (LimitReached LverLimit) refl
 phase1_by r ms N nm p b true false = Replies_late (Acquire r false p) (LimitReached MbalLimit) refl
 phase1_by r ms N nm p b true true = Begins_phase1 p b nm
@@ -82,8 +83,13 @@ area_by r ms N p place k l read true derive known = named_by r ms N (derive refl
 leader_by : (r : ResourceArg) (ms : List Submitted) (N : Type 0) (p : ℕ) (place : LeasePlace) (k : LeaseKnown) (name : List ℕ) (read : List (Option Block)) (o : Option Leader)
     → ((l : Leader) → o ≡ Some l → is_leader_of place.layout place.lockspace name l ≡ true → N)
     → (position is_none read ≡ None → (own : Block) × (own_known k ≡ Some own))
-    → Live r ms N (Acquire r false p) (elim o as (λ x. LeaseNext) [ None ↦ AnswerJob TornLeader | Some l ↦ elim (is_leader_of place.layout place.lockspace name l) as (λ x. LeaseNext) [
-        false ↦ AnswerJob (WrongArea l.lockspace l.resource l.num_hosts) | true ↦ named_area_next place k acquires l read ] ])
+    → Live r ms N (Acquire r false p) (elim o as (λ x. LeaseNext) [
+      | None ↦ AnswerJob TornLeader
+      | Some l ↦ elim (is_leader_of place.layout place.lockspace name l) as (λ x. LeaseNext) [
+        | false ↦ AnswerJob (WrongArea l.lockspace l.resource l.num_hosts)
+        | true ↦ named_area_next place k acquires l read
+      ]
+    ])
 leader_by r ms N p place k name read None derive known = Replies_late (Acquire r false p) TornLeader refl
 leader_by r ms N p place k name read (Some l) derive known = area_by r ms N p place k l read (is_leader_of place.layout place.lockspace name l) (derive l refl) known
 

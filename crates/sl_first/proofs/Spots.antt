@@ -3,15 +3,14 @@ use Rattle.sl_area.specs.Places.{in_area}
 use Rattle.sl_first.specs.FirstPath.{is_first_call}
 use Rattle.sl_leases.specs.Leases.{is_lease_call, is_on, spot_of, spot_of_call, spots_in, with_spot}
 use Rattle.sl_sessions.specs.Sessions.{delta_written}
-use Rattle.sl_trace.specs.Traces.{Setting, Submitted, same_place, same_spot}
+use Rattle.sl_trace.specs.Traces.{Setting, Submitted, same_spot}
 use Rattle.sl_trace.specs.declared.command.ResourceArg.{ResourceArg}
 use Rattle.sl_trace.specs.declared.effects.Spot.{Spot}
-use Rattle.sl_words.proofs.CaseLaws.{false_is_true, true_or_false}
 use Rattle.sl_words.proofs.WordLaws.{and_true}
-use Rattle.std.proofs.Common.{ap, arith, inl, inr, refl, subst, sym, tests, ◌∙◌}
+use Rattle.std.proofs.Common.{ap, arith, inl, inr, refl, sym, tests, ◌∙◌}
 use Rattle.std.proofs.lemmas.Nat.{div-add-mod', mod-mul-add}
 use Rattle.std.proofs.lemmas.Slice.Eq.{bytes_eq-Decides}
-use Rattle.std.specs.List.{list_all, list_any}
+use Rattle.std.specs.List.{list_all}
 use Rattle.std.specs.Prelude.{Bool, List, bytes_eq, false, is_none, nat_le, nat_lt, true, [], ℕ, ◌%◌, ◌&&◌, ◌*◌, ◌+◌, ◌-◌, ◌/◌, ◌<◌, ◌==◌, ◌∷◌, ◌≡◌, ◌≤◌, ◌⊎◌}
 
 -- An area begins at the last multiple of its size.
@@ -35,7 +34,7 @@ is_even base w b h = let both = and_true (base % w == 0) b h in zero_is (base % 
 pub spot_first : (st : Setting) (r : ResourceArg) (m : Submitted) → r.offset % st.layout.area ≡ 0 → is_first_call st r m ≡ true → spot_of_call st.layout m ≡ spot_of r
 spot_first st r m even h =
     let on : is_on st.layout (spot_of r) m.call ≡ true = (and_true (m.call.session == 0) (is_on st.layout (spot_of r) m.call)
-            (and_true (m.call.session == 0 && is_on st.layout (spot_of r) m.call) (is_none (delta_written m)) h).0).1 in
+    (and_true (m.call.session == 0 && is_on st.layout (spot_of r) m.call) (is_none (delta_written m)) h).0).1 in
     let both = and_true (bytes_eq m.call.path r.path) (in_area st.layout r.offset m.call.offset) on in
     let within = is_within r.offset m.call.offset (r.offset + st.layout.area) both.1 in
     let path : m.call.path ≡ r.path = (bytes_eq-Decides m.call.path r.path).0 both.0 in
@@ -65,4 +64,4 @@ spots_first st r (m ∷ ms) even mine leases =
     let a = and_true (is_first_call st r m) (list_all (is_first_call st r) ms) mine in
     let b = and_true (is_lease_call m) (list_all is_lease_call ms) leases in
     inr (ap (λ t. elim t as (λ x. List Spot) [ false ↦ spots_in st.layout ms | true ↦ with_spot (spot_of_call st.layout m) (spots_in st.layout ms) ]) b.0
-        ∙ with_one r (spot_of_call st.layout m) (spots_in st.layout ms) (spot_first st r m even a.0) (spots_first st r ms even a.1 b.1))
+    ∙ with_one r (spot_of_call st.layout m) (spots_in st.layout ms) (spot_first st r m even a.0) (spots_first st r ms even a.1 b.1))

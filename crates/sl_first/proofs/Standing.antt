@@ -1,11 +1,11 @@
 -- A host stands for its trace after one more entry.
 use Rattle.sl_first.proofs.CalmLaws.{append_none}
-use Rattle.sl_first.proofs.Entries.{false_right, list_all-append, lt_more, not_next, old_more, other_reply, running_answered, running_begun, running_ended, running_stays, same_number, unanswered_more}
-use Rattle.sl_first.proofs.Growth.{answered_stays, none_unanswered}
-use Rattle.sl_first.specs.FirstPath.{Doing, IsCalm, IsCalmEntry, IsDoing, IsFirst, IsNextCall, IsWork, Kept, Stands, calls_kept, first_effects, first_entry, has_answer, heeded_call, is_first_call, jobs_kept, next_doing, one_reply, open_kept}
-use Rattle.sl_leases.specs.Jobs.{command_numbered, command_of}
+use Rattle.sl_first.proofs.Entries.{list_all-append, old_more, other_reply, running_answered, running_begun, running_ended, running_stays, same_number, unanswered_more}
+use Rattle.sl_first.proofs.Growth.{answered_stays}
+use Rattle.sl_first.specs.FirstPath.{Doing, IsDoing, IsNextCall, IsWork, Kept, Stands, first_effects, first_entry, heeded_call, is_first_call, jobs_kept, next_doing, one_reply, open_kept}
+use Rattle.sl_leases.specs.Jobs.{command_of}
 use Rattle.sl_leases.specs.Leases.{lease_step}
-use Rattle.sl_trace.specs.Traces.{Answered, Child, Job, Setting, Submitted, Trace, answer_of, answered_in, child_after, children, held_after, holdings, is_before_input, is_ended_by, is_going_on, is_refused_before_input, is_running, job_in, job_numbered, job_of, jobs, new_call, next_call, next_job, no_effects, outstanding, reply_to, running_jobs, submitted, unanswered}
+use Rattle.sl_trace.specs.Traces.{Job, Setting, Submitted, Trace, answer_of, answered_in, child_after, held_after, holdings, is_before_input, is_going_on, is_refused_before_input, is_running, job_of, jobs, new_call, next_call, next_job, no_effects, running_jobs, submitted}
 use Rattle.sl_trace.specs.declared.command.Command.{Command}
 use Rattle.sl_trace.specs.declared.command.ResourceArg.{ResourceArg}
 use Rattle.sl_trace.specs.declared.effects.Call.{Call}
@@ -19,15 +19,14 @@ use Rattle.sl_trace.specs.declared.effects.Purpose.{Purpose}
 use Rattle.sl_trace.specs.declared.effects.Work.TheVariants.{ForJob}
 use Rattle.sl_trace.specs.declared.input.Answer.{Answer}
 use Rattle.sl_trace.specs.declared.input.Given.{Given}
-use Rattle.sl_trace.specs.declared.input.Input.TheVariants.{Answer as Told, Exit, Line, Spawned, Wake}
-use Rattle.sl_trace.specs.declared.input.Input.{Input}
+use Rattle.sl_trace.specs.declared.input.Input.TheVariants.{Answer as Told, Line, Wake}
 use Rattle.sl_trace.specs.declared.reply.Reply.{Reply}
 use Rattle.sl_words.proofs.CaseLaws.{false_is_true, none_some}
 use Rattle.sl_words.proofs.WordLaws.{and_true}
 use Rattle.std.proofs.Common.{ap, arith, refl, subst, sym, tests, ◌∙◌}
-use Rattle.std.specs.List.{list_all, list_any}
+use Rattle.std.specs.List.{list_all}
 use Rattle.std.specs.Option.{option_or}
-use Rattle.std.specs.Prelude.{Bool, List, None, Ok, Option, Result, Some, false, filter, find, if◌then◌else◌, is_none, is_some, length, map, nat_lt, not, option_and_then, true, [], ℕ, ◌&&◌, ◌++◌, ◌+◌, ◌<◌, ◌==◌, ◌∷◌, ◌≡◌, ◌≤◌}
+use Rattle.std.specs.Prelude.{Bool, List, None, Ok, Option, Result, Some, false, filter, find, if◌then◌else◌, is_some, length, map, nat_lt, not, option_and_then, true, [], ℕ, ◌&&◌, ◌++◌, ◌+◌, ◌==◌, ◌∷◌, ◌≡◌, ◌≤◌}
 
 -- ---- lists
 
@@ -143,9 +142,14 @@ other_number n next h = grind (arith, tests)
 
 pub line_begun : (st : Setting) (g : Given) (r : ResourceArg) (k : Kept) (es : Trace) → Stands st g r k es → k.work ≡ None → (text : List ℕ) (command : Command)
     → st.read text ≡ Ok command → (ends : List End) (step : LeaseStep) (c : Call) → IsNextCall st r k.next_call k.next_job step c
-    → Stands st g r (record { next_call = k.next_call + 1; next_job = k.next_job + 1; work = Some (next_doing st g es text command step c); answered = k.answered;
-        held = held_after (first_effects ends [] [] (c ∷ [])) k.held })
-        (first_entry g (Line text) (first_effects ends [] [] (c ∷ [])) ∷ es)
+    → Stands st g r (record {
+      next_call = k.next_call + 1;
+      next_job = k.next_job + 1;
+      work = Some (next_doing st g es text command step c);
+      answered = k.answered;
+      held = held_after (first_effects ends [] [] (c ∷ [])) k.held;
+    })
+    (first_entry g (Line text) (first_effects ends [] [] (c ∷ [])) ∷ es)
 line_begun st g r k es h idle text command reads ends step c is =
     let e : Entry = first_entry g (Line text) (first_effects ends [] [] (c ∷ [])) in
     let j : Job = record { number = next_job st es; at = length es; reading = g.renewed; command = st.read text } in
@@ -168,7 +172,7 @@ line_begun st g r k es h idle text command reads ends step c is =
         unanswered = refl;
         for_job = is.for_job ∙ ap (λ n. Lease (ForJob n) step) (sym h.job_number);
         commanded = ap (λ o. option_and_then command_of o) (found_last (λ (i : Job). i.number == next_job st es) (λ i. nat_lt i.number (next_job st es)) (jobs st es) j h.old
-                (λ i lt. other_number i.number (next_job st es) lt) (same_number (next_job st es)))
+            (λ i lt. other_number i.number (next_job st es) lt) (same_number (next_job st es)))
             ∙ ap (λ (c : Result Command ℕ). command_of (record { number = next_job st es; at = length es; reading = g.renewed; command = c })) reads;
       };
     }
@@ -261,13 +265,13 @@ told_calls st g r k es h d busy doing a fx on =
 pub told_more : (st : Setting) (g : Given) (r : ResourceArg) (k : Kept) (es : Trace) → Stands st g r k es → (d : Doing) → k.work ≡ Some d → (doing : IsDoing st g es d)
     → (a : Answer) (step : LeaseStep) (c : Call) → IsNextCall st r k.next_call d.job.number step c
     → Stands st g r (record k { next_call = k.next_call + 1; work = Some (record d { step = step; call = new_call (length es) g.renewed c }); answered = heeded_call es g a d.call ∷ k.answered })
-        (first_entry g (Told d.call.call.number a) (first_effects [] [] [] (c ∷ [])) ∷ es)
+    (first_entry g (Told d.call.call.number a) (first_effects [] [] [] (c ∷ [])) ∷ es)
 told_more st g r k es h d busy doing a step c is =
     let e : Entry = first_entry g (Told d.call.call.number a) (first_effects [] [] [] (c ∷ [])) in
     let same : jobs st (e ∷ es) ≡ jobs st es = append_none (jobs st es) in
     let next : next_job st (e ∷ es) ≡ next_job st es = ap (λ (js : List Job). st.first.job + length js) same in
     let calls : submitted (e ∷ es) ≡ new_call (length es) g.renewed c ∷ heeded_call es g a d.call ∷ k.answered
-        = ap (λ ms. new_call (length es) g.renewed c ∷ ms) (told_calls st g r k es h d busy doing a (first_effects [] [] [] (c ∷ [])) refl) in
+    = ap (λ ms. new_call (length es) g.renewed c ∷ ms) (told_calls st g r k es h d busy doing a (first_effects [] [] [] (c ∷ [])) refl) in
     record {
       calm = (record { still = refl; unmoved = refl; leases = ap (λ (p : Purpose). is_some (lease_step p) && true) is.for_job }, h.calm);
       calls = calls;
@@ -291,13 +295,13 @@ told_more st g r k es h d busy doing a step c is =
 pub told_done : (st : Setting) (g : Given) (r : ResourceArg) (k : Kept) (es : Trace) → Stands st g r k es → (d : Doing) → k.work ≡ Some d → (doing : IsDoing st g es d)
     → (a : Answer) (grants : List Grant) (why : Reply) → is_before_input why ≡ false
     → Stands st g r (record k { work = None; answered = heeded_call es g a d.call ∷ k.answered; held = k.held ++ grants })
-        (first_entry g (Told d.call.call.number a) (first_effects [] grants (one_reply d.job.number why) []) ∷ es)
+    (first_entry g (Told d.call.call.number a) (first_effects [] grants (one_reply d.job.number why) []) ∷ es)
 told_done st g r k es h d busy doing a grants why late =
     let e : Entry = first_entry g (Told d.call.call.number a) (first_effects [] grants (one_reply d.job.number why) []) in
     let same : jobs st (e ∷ es) ≡ jobs st es = append_none (jobs st es) in
     let next : next_job st (e ∷ es) ≡ next_job st es = ap (λ (js : List Job). st.first.job + length js) same in
     let calls : submitted (e ∷ es) ≡ heeded_call es g a d.call ∷ k.answered
-        = told_calls st g r k es h d busy doing a (first_effects [] grants (one_reply d.job.number why) []) (rw (same_number d.job.number, late) refl) in
+    = told_calls st g r k es h d busy doing a (first_effects [] grants (one_reply d.job.number why) []) (rw (same_number d.job.number, late) refl) in
     record {
       calm = (record { still = refl; unmoved = refl; leases = refl }, h.calm);
       calls = calls;

@@ -1,35 +1,32 @@
 -- On a clock that stands still nothing is due before the input, and nothing after it.
-use Rattle.sl_due.specs.Due.{after_input, before_input}
+use Rattle.sl_due.specs.Due.{before_input}
 use Rattle.sl_due.specs.DueDelta.{carry_delta}
 use Rattle.sl_due.specs.DueFirst.{begin_recoveries, begin_recovery, begins_now, is_kill_due, is_overdue, kill_holders, kills, kills_holders, refuse, signal_and_refuse, signal_holders, time_out, time_outs}
-use Rattle.sl_due.specs.DueWake.{finish, finish_session, free_if_done, end_if_done, is_wake}
+use Rattle.sl_due.specs.DueWake.{finish, finish_session, free_if_done, end_if_done}
 use Rattle.sl_due.specs.Steps.{Step, begin_step, for_each, seen, when, with_some}
 use Rattle.sl_first.proofs.CalmLaws.{is_joined_first, present_first}
 use Rattle.sl_first.proofs.CalmRenewal.{leaving_none, recovery_none}
 use Rattle.sl_first.proofs.Growth.{none_unanswered}
 use Rattle.sl_first.proofs.Standing.{quiet_stands}
-use Rattle.sl_first.specs.FirstPath.{Doing, IsCalm, IsDoing, IsFirst, IsWork, Kept, Stands, first_entry, first_session, has_answer, jobs_kept, open_kept}
+use Rattle.sl_first.specs.FirstPath.{Doing, IsCalm, IsFirst, IsWork, Kept, Stands, first_session, jobs_kept, open_kept}
 use Rattle.sl_sessions.specs.Deltas.{DeltaKnown, DeltaLease, delta_known, delta_of_session, next_free}
-use Rattle.sl_sessions.specs.Sessions.{Begun, Session, holdings_of, is_joined, leaving_job, leaving_of, open_calls_of, recovery_of}
+use Rattle.sl_sessions.specs.Sessions.{Begun, Session, holdings_of, is_joined, leaving_of, open_calls_of, recovery_of}
 use Rattle.sl_sessions.specs.declared.delta.DeltaNext.TheVariants.{Nothing}
-use Rattle.sl_sessions.specs.declared.delta.DeltaNext.{DeltaNext}
-use Rattle.sl_trace.specs.Traces.{Job, Setting, Submitted, Trace, is_of_job, no_effects, outstanding, running_jobs, submitted, unanswered, waiting_call}
+use Rattle.sl_trace.specs.Traces.{Job, Setting, Submitted, Trace, is_of_job, outstanding, unanswered}
 use Rattle.sl_trace.specs.declared.command.ResourceArg.{ResourceArg}
 use Rattle.sl_trace.specs.declared.effects.Signal.TheVariants.{Kill}
-use Rattle.sl_trace.specs.declared.input.Answer.{Answer}
 use Rattle.sl_trace.specs.declared.reply.Reply.TheVariants.{IoTimeout}
 use Rattle.sl_trace.specs.declared.input.Given.{Given}
-use Rattle.sl_trace.specs.declared.input.Input.TheVariants.{Answer as Told, Line, Wake}
-use Rattle.sl_words.specs.Words.{is_empty, some_is}
-use Rattle.std.proofs.Common.{ap, arith, refl, subst, sym, tests, ◌∙◌}
-use Rattle.std.specs.Prelude.{Bool, List, None, Option, Some, false, find, if◌then◌else◌, is_none, is_some, nat_le, option_map, true, [], ℕ, ◌&&◌, ◌++◌, ◌+◌, ◌<◌, ◌∷◌, ◌≡◌, ◌||◌}
+use Rattle.sl_words.specs.Words.{is_empty}
+use Rattle.std.proofs.Common.{ap, arith, refl, sym, tests, ◌∙◌}
+use Rattle.std.specs.Prelude.{Bool, None, Option, Some, false, find, if◌then◌else◌, is_none, is_some, nat_le, option_map, true, [], ℕ, ◌&&◌, ◌++◌, ◌+◌, ◌<◌, ◌∷◌, ◌≡◌, ◌||◌}
 
 -- The calls without an answer, as the host keeps them.
 pub open_first : (st : Setting) (g : Given) (r : ResourceArg) (k : Kept) (es : Trace) → Stands st g r k es → (w : Option Doing) → k.work ≡ w → IsWork st g es w
     → outstanding es ≡ open_kept w
 open_first st g r k es h None is work = ap (λ ms. unanswered ms) (h.calls ∙ ap (λ w. open_kept w ++ k.answered) is) ∙ none_unanswered k.answered h.answered
 open_first st g r k es h (Some d) is work =
-    ap (λ ms. unanswered ms) (h.calls ∙ ap (λ w. open_kept w ++ k.answered) is) 
+    ap (λ ms. unanswered ms) (h.calls ∙ ap (λ w. open_kept w ++ k.answered) is)
     ∙ ap (λ o. if is_none o then d.call ∷ unanswered k.answered else unanswered k.answered) work.unanswered
     ∙ ap (λ ms. d.call ∷ ms) (none_unanswered k.answered h.answered)
 
@@ -49,7 +46,7 @@ no_kills_due : (st : Setting) (g : Given) (r : ResourceArg) → IsFirst st g r �
 no_kills_due st g r f t c =
     ap (λ o. is_joined t (first_session g) && (is_kill_due st t o || is_kill_due st t (leaving_of st t (first_session g)))) (recovery_none st g r f t c)
     ∙ ap (λ (o : Option Job). is_joined t (first_session g) && (false || is_kill_due st t (option_map (λ j. record { at = j.at; reading = j.reading; kills_from = j.at + 1 }) o)))
-        (leaving_none st g r f t (first_session g))
+    (leaving_none st g r f t (first_session g))
     ∙ no_and (is_joined t (first_session g))
 
 no_kills : (g : Given) (r : ResourceArg) (x : Step) → IsFirst x.setting g r → IsCalm g (seen x) → kills x ≡ x
@@ -76,7 +73,7 @@ unfolding time_out
 no_time_out g r x f d now made_open made =
     ap (λ ms. with_some (find (is_of_job d.job.number) ms) (λ m. when (is_overdue x.setting x.reading m) (refuse d.job.number (IoTimeout m.call.number m.reading x.reading))) x) made_open
     ∙ found_or_not (is_of_job d.job.number d.call) d.call (λ m. when (is_overdue x.setting x.reading m) (refuse d.job.number (IoTimeout m.call.number m.reading x.reading))) x
-        (ap (λ b. when b (refuse d.job.number (IoTimeout d.call.call.number d.call.reading x.reading)) x) (not_overdue d.call.reading x.reading x.setting.timing.io (made ∙ sym now) f.io))
+    (ap (λ b. when b (refuse d.job.number (IoTimeout d.call.call.number d.call.reading x.reading)) x) (not_overdue d.call.reading x.reading x.setting.timing.io (made ∙ sym now) f.io))
 
 no_time_outs : (g : Given) (r : ResourceArg) (x : Step) → IsFirst x.setting g r → (k : Kept) → x.reading ≡ g.renewed → Stands x.setting g r k (seen x)
     → (w : Option Doing) → k.work ≡ w → IsWork x.setting g (seen x) w → time_outs x ≡ x
@@ -109,7 +106,7 @@ nothing_left g r x f =
     when_same (is_empty (holdings_of (seen x) s) && is_empty (open_calls_of (seen x) s))
     (λ y. carry_delta s (next_free (delta_of_session y.setting s) y.reading (delta_known y.setting (seen y) s)) y) x
     (ap (λ n. carry_delta s n x) (next_free_none (delta_of_session x.setting s) x.reading (delta_known x.setting (seen x) s)
-        (ap (λ (o : Option Job). option_map (λ j. j.number) o) (leaving_none x.setting g r f (seen x) s))))
+    (ap (λ (o : Option Job). option_map (λ j. j.number) o) (leaving_none x.setting g r f (seen x) s))))
 
 -- Nothing comes last.
 pub nothing_after : (g : Given) (r : ResourceArg) (x : Step) → IsFirst x.setting g r → IsCalm g (seen x) → finish x ≡ x

@@ -4,7 +4,7 @@ use Rattle.sl_leases.specs.Jobs.{command_numbered}
 use Rattle.sl_leases.specs.Leases.{is_on, lease_step, spot_of}
 use Rattle.sl_sessions.specs.Sessions.{Session, delta_written, given_session}
 use Rattle.sl_trace.specs.Limits.{most_processes}
-use Rattle.sl_trace.specs.Traces.{EachEntry, Job, Setting, Submitted, Trace, children, holdings, job_of, jobs, new_call, next_call, next_job, reply_to, running_jobs, submitted}
+use Rattle.sl_trace.specs.Traces.{EachEntry, Job, Setting, Submitted, Trace, children, holdings, jobs, new_call, next_call, next_job, reply_to, running_jobs, submitted}
 use Rattle.sl_trace.specs.declared.command.Command.TheVariants.{Acquire, Release}
 use Rattle.sl_trace.specs.declared.command.Command.{Command}
 use Rattle.sl_trace.specs.declared.command.ResourceArg.{ResourceArg}

@@ -3,9 +3,10 @@ use Rattle.sl_area.specs.Places.{block_offset, leader_offset}
 use Rattle.sl_due.specs.Due.{due}
 use Rattle.sl_due.specs.DueLease.{grant_of}
 use Rattle.sl_first.specs.FirstPath.{Doing, Kept, Stands, first_effects, first_entry, first_session, heeded_call, next_doing, one_reply}
-use Rattle.sl_leases.specs.Jobs.{process_named}
+use Rattle.sl_leases.specs.Jobs.{aim_of_command, process_named}
 use Rattle.sl_leases.specs.LeaseWork.{leader_for, lease_next}
 use Rattle.sl_leases.specs.Leases.{LeaseKnown, block_submitted, known_of, lver_written, verified_name}
+use Rattle.sl_leases.specs.declared.lease.Aim.TheVariants.{Releases}
 use Rattle.sl_leases.specs.declared.lease.Aim.{Aim}
 use Rattle.sl_leases.specs.declared.lease.LeaseNext.TheVariants.{AnswerJob, GrantJob, Nothing, ReadFor, WriteBlock, WriteLeader}
 use Rattle.sl_leases.specs.declared.lease.LeaseNext.{LeaseNext}
@@ -163,6 +164,10 @@ further_call st g r number job (Writes_leader step l) = leader_write r number jo
 -- The name that the lease has verified is the resource's.
 abbrev pub IsNamed : Setting → Given → ResourceArg → List Submitted → Type 0
 IsNamed st g r ms = verified_name st.layout g.lockspace ms ≡ r.name
+
+-- To what end a command works on the lease.
+abbrev pub first_aim : Command → Aim
+first_aim c = unwrap_or (aim_of_command c) Releases
 
 -- At which step a job may be, and for what: an acquire reads the area, writes and reads in the two phases and takes the leader; a release
 -- frees the leader. After the read of the area the name is verified; from phase 1's write on the own block is known.
