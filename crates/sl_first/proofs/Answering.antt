@@ -5,8 +5,9 @@ use Rattle.sl_due.specs.DueInputs.{take_input}
 use Rattle.sl_due.specs.DueLease.{after_lease_answer, carry_lease, grant_for, next_of_lease}
 use Rattle.sl_due.specs.DueWake.{finish}
 use Rattle.sl_due.specs.Steps.{Step, begin_step, seen, when, with_some}
-use Rattle.sl_first.proofs.CalmLaws.{append_none, is_present_first, sessions_first}
+use Rattle.sl_first.proofs.CalmLaws.{is_present_first, sessions_first}
 use Rattle.sl_first.proofs.Entries.{runs_on}
+use Rattle.sl_first.proofs.Growth.{same_number}
 use Rattle.sl_first.proofs.Knowledge.{known_first}
 use Rattle.sl_first.proofs.Spots.{is_even, spot_first}
 use Rattle.sl_first.proofs.Standing.{held_stays, mine_told, quiet_stands, runs, told_calls, told_same}
@@ -35,11 +36,9 @@ use Rattle.sl_trace.specs.declared.reply.Reply.TheVariants.{Granted}
 use Rattle.sl_trace.specs.declared.reply.Reply.{Reply}
 use Rattle.sl_words.proofs.WordLaws.{and_true}
 use Rattle.std.proofs.Common.{ap, arith, refl, sym, tests, ◌∙◌}
+use Rattle.std.proofs.lemmas.List.{append-nil}
 use Rattle.std.specs.List.{list_all}
 use Rattle.std.specs.Prelude.{Bool, Some, [], false, find, if◌then◌else◌, is_none, is_some, option_and_then, slice_get, true, ℕ, ◌&&◌, ◌++◌, ◌==◌, ◌∷◌, ◌≡◌}
-
-same_number : (n : ℕ) → (n == n) ≡ true
-same_number n = grind (arith, tests)
 
 number_zero : (n : ℕ) → (n == 0) ≡ true → n ≡ 0
 number_zero n h = grind (arith, tests)
@@ -74,7 +73,7 @@ next_asked st g r k es f h d busy free doing a aim =
 aim_asked : (st : Setting) (g : Given) (es : Trace) (d : Doing) → IsDoing st g es d → (a : Answer) (aim : Aim) → aim_of_command d.command ≡ Some aim
     → aim_of st (seen (told_step st g es d a no_effects)) (ForJob d.job.number) ≡ Some aim
 aim_asked st g es d doing a aim is =
-    ap (λ js. option_and_then aim_of_command (option_and_then command_of (find (λ j. j.number == d.job.number) js))) (append_none (jobs st es))
+    ap (λ js. option_and_then aim_of_command (option_and_then command_of (find (λ j. j.number == d.job.number) js))) (append-nil (jobs st es))
     ∙ ap (λ o. option_and_then aim_of_command o) doing.commanded ∙ is
 
 -- The answer leads to what comes next for the lease.
@@ -176,6 +175,6 @@ grant_due st g r k es f h d busy free doing a p lver is comes =
     let y : Step = told_step st g es d a no_effects in
     answer_due st g r k es f h d busy free doing a (Acquires Exclusive) (ap (λ c. aim_of_command c) is) (first_effects [] (first_grant g r p lver ∷ []) (one_reply d.job.number (Granted lver)) [])
     (ap (λ nx. carry_lease (first_session g) (spot_of r) (ForJob d.job.number) nx y) comes
-    ∙ ap (λ js. with_some (option_and_then command_of (find (λ j. j.number == d.job.number) js)) (λ c. grant_for (first_session g) d.job.number c Exclusive lver) y) (append_none (jobs st es))
+    ∙ ap (λ js. with_some (option_and_then command_of (find (λ j. j.number == d.job.number) js)) (λ c. grant_for (first_session g) d.job.number c Exclusive lver) y) (append-nil (jobs st es))
     ∙ ap (λ o. with_some o (λ c. grant_for (first_session g) d.job.number c Exclusive lver) y) (doing.commanded ∙ ap (λ c. Some c) is))
     (record { still = refl; unmoved = refl; leases = refl }, h.calm)

@@ -42,10 +42,6 @@ begun_none st es n e h =
     let b : Bool = list_any (λ c. is_join_call FirstRead c.purpose) e.effects.calls in
     ap (λ o. begun_by b o n (next_job st es)) h ∙ begun_by_none b n (next_job st es)
 
-pub append_none : {A : Type 0} (xs : List A) → xs ++ [] ≡ xs
-append_none [] = refl
-append_none (x ∷ xs) = ap (λ ys. x ∷ ys) (append_none xs)
-
 pub sessions_first : (st : Setting) (g : Given) (r : ResourceArg) → IsFirst st g r → (es : Trace) → sessions st es ≡ first_session g ∷ []
 sessions_first st g r f [] = ap (λ gs. map given_session (enumerate_from 0 gs)) f.alone
 sessions_first st g r f (e ∷ es) =

@@ -19,6 +19,7 @@ use Rattle.sl_words.proofs.CaseLaws.{false_is_true}
 use Rattle.sl_words.proofs.WordLaws.{and_true}
 use Rattle.sl_words.specs.Words.{choose, some_is}
 use Rattle.std.proofs.Common.{ap, arith, inl, inr, refl, tests, ◌∙◌}
+use Rattle.std.proofs.Math.Bool.{and-false}
 use Rattle.std.specs.List.{list_all}
 use Rattle.std.specs.Prelude.{Bool, Err, List, None, Ok, Option, Result, Some, false, find, fold, is_some, length, map, nat_le, option_and_then, true, unwrap_or, [], ℕ, ◌&&◌, ◌*◌, ◌+◌, ◌<◌, ◌==◌, ◌∷◌, ◌≡◌}
 
@@ -82,10 +83,6 @@ found_none q f [] h none = refl
 found_none q f (m ∷ ms) h none =
     let both = and_true (is_lease_call m) (list_all is_lease_call ms) h in found_by q f m ms (q m) refl (none m both.0) (found_none q f ms both.1 none)
 
-and_false : (b : Bool) → (b && false) ≡ false
-and_false true = refl
-and_false false = refl
-
 pub survey_none : (p : Purpose) → is_some (lease_step p) ≡ true → is_survey_purpose p ≡ false
 survey_none (Lease work step) h = refl
 survey_none (Joining j step) h = refl
@@ -119,7 +116,7 @@ some_is-as_value p None = refl
 some_is-as_value p (Some a) = chosen (p a) a
 
 chosen_none : {A : Type 0} (b c : Bool) (a : A) → c ≡ false → choose (b && c) a ≡ None
-chosen_none b c a h = ap (λ d. choose (b && d) a) h ∙ ap (λ d. choose d a) (and_false b)
+chosen_none b c a h = ap (λ d. choose (b && d) a) h ∙ ap (λ d. choose d a) (and-false b)
 
 shows_none : (st : Setting) (g : Given) (es : Trace) → IsCalm g es → (s : Session) (i : Input) → shows_other st es s i ≡ false
 shows_none st g es c s (Line text) = refl
@@ -162,7 +159,7 @@ renewing_by es e q late other renewed =
     ]
 
 not_late : (joined : Bool) (now last io : ℕ) → 0 < io → now ≡ last → (joined && nat_le (last + 8 * io) now) ≡ false
-not_late joined now last io h same = ap (λ n. joined && nat_le (last + 8 * io) n) same ∙ ap (λ b. joined && b) (too_early last io h) ∙ and_false joined
+not_late joined now last io h same = ap (λ n. joined && nat_le (last + 8 * io) n) same ∙ ap (λ b. joined && b) (too_early last io h) ∙ and-false joined
 
 pub renewing_first : (st : Setting) (g : Given) (r : ResourceArg) → IsFirst st g r → (es : Trace) → IsCalm g es
     → renewing st es (first_session g) ≡ first_renewing g
@@ -171,7 +168,7 @@ renewing_first st g r f (e ∷ es) c =
     let s : Session = first_session g in
     let q : Renewing = first_renewing g in
     let late : (is_joined es s && nat_le (g.renewed + fail st.timing) e.reading) ≡ false = not_late (is_joined es s) e.reading g.renewed st.timing.io f.io c.0.still in
-    let other : (is_joined es s && shows_other st es s e.input) ≡ false = ap (λ b. is_joined es s && b) (shows_none st g es c.1 s e.input) ∙ and_false (is_joined es s) in
+    let other : (is_joined es s && shows_other st es s e.input) ≡ false = ap (λ b. is_joined es s && b) (shows_none st g es c.1 s e.input) ∙ and-false (is_joined es s) in
     ap (λ q. renewing_after st es s q e) (renewing_first st g r f es c.1)
     ∙ ap (λ b. renewing_by es e q b (is_joined es s && shows_other st es s e.input) (renewed_by es s e.input)) late
     ∙ ap (λ b. renewing_by es e q false b (renewed_by es s e.input)) other

@@ -2,6 +2,7 @@
 use Rattle.sl_due.specs.DueCommands.{busy_refusal, pending_refusal, process_refusal, session_refusal}
 use Rattle.sl_first.proofs.CalmLaws.{is_joined_first, present_first}
 use Rattle.sl_first.proofs.CalmRenewal.{leaving_none, recovery_none}
+use Rattle.sl_first.proofs.Growth.{same_number}
 use Rattle.sl_first.proofs.Stillness.{open_first}
 use Rattle.sl_first.specs.FirstPath.{Doing, IsDoing, IsFirst, Kept, Stands, first_session, is_first_call, open_kept}
 use Rattle.sl_first.specs.FirstSteps.{first_grant}
@@ -26,9 +27,6 @@ use Rattle.std.specs.Prelude.{Bool, List, None, Option, Some, bytes_eq, false, f
 
 pub same_text : (a b : List ℕ) → a ≡ b → bytes_eq a b ≡ true
 same_text a b h = (bytes_eq-Decides a b).1 h
-
-same_number : (n : ℕ) → (n == n) ≡ true
-same_number n = grind (arith, tests)
 
 pub here : (r : ResourceArg) → same_place r.path r.offset r.path r.offset ≡ true
 here r = rw (same_number r.offset) (same_text r.path r.path refl)

@@ -1,6 +1,5 @@
 -- What a host keeps, after one more entry.
-use Rattle.sl_first.proofs.CalmLaws.{append_none}
-use Rattle.sl_first.proofs.Growth.{filter-append, filter_agrees, filter_both, is_running_more}
+use Rattle.sl_first.proofs.Growth.{filter_agrees, filter_both, is_running_more, same_number}
 use Rattle.sl_first.specs.FirstPath.{one_reply}
 use Rattle.sl_trace.specs.Traces.{Job, Setting, Trace, is_running, jobs, no_effects, reply_to, running_jobs}
 use Rattle.sl_trace.specs.declared.effects.Entry.{Entry}
@@ -8,28 +7,20 @@ use Rattle.sl_trace.specs.declared.effects.JobReply.{JobReply}
 use Rattle.sl_trace.specs.declared.input.Input.{Input}
 use Rattle.sl_trace.specs.declared.reply.Reply.{Reply}
 use Rattle.sl_words.proofs.WordLaws.{and_true}
+use Rattle.std.proofs.Math.Bool.{and-false, and-true}
 use Rattle.std.proofs.Math.Path.{fun_ext}
 use Rattle.std.proofs.Common.{ap, arith, refl, tests, ◌∙◌}
+use Rattle.std.proofs.lemmas.List.Elements.{filter-append}
+use Rattle.std.proofs.lemmas.List.{append-nil}
 use Rattle.std.specs.List.{list_all}
 use Rattle.std.specs.Prelude.{Bool, List, None, false, filter, find, is_none, length, nat_lt, option_map, true, [], ℕ, ◌&&◌, ◌++◌, ◌+◌, ◌==◌, ◌∷◌, ◌≡◌}
 
 -- ---- truths
 
-pub same_number : (n : ℕ) → (n == n) ≡ true
-same_number n = grind (arith, tests)
-
-pub false_right : (b : Bool) → (b && false) ≡ false
-false_right true = refl
-false_right false = refl
-
 -- ---- an entry that does nothing
 
-true_right : (b : Bool) → (b && true) ≡ b
-true_right true = refl
-true_right false = refl
-
 quiet_running : (es : Trace) (now n : ℕ) (i : Input) → is_running (record { reading = now; input = i; effects = no_effects } ∷ es) n ≡ is_running es n
-quiet_running es now n i = is_running_more es (record { reading = now; input = i; effects = no_effects }) n ∙ true_right (is_running es n)
+quiet_running es now n i = is_running_more es (record { reading = now; input = i; effects = no_effects }) n ∙ and-true (is_running es n)
 
 -- ---- the numbers of jobs
 
@@ -65,17 +56,17 @@ other_reply es e n job why one other before =
     rw before (ap (λ rs. option_map (λ (a : JobReply). record { at = length es; reply = a.reply }) (find (λ a. a.job == n) rs)) one ∙ (rw other refl))
 
 pub runs_on : (es : Trace) (e : Entry) (n : ℕ) → e.effects.replies ≡ [] → is_running (e ∷ es) n ≡ is_running es n
-runs_on es e n none = is_running_more es e n ∙ ap (λ rs. is_running es n && is_none (find (λ a. a.job == n) rs)) none ∙ true_right (is_running es n)
+runs_on es e n none = is_running_more es e n ∙ ap (λ rs. is_running es n && is_none (find (λ a. a.job == n) rs)) none ∙ and-true (is_running es n)
 
 runs_beside : (es : Trace) (e : Entry) (n job : ℕ) (why : Reply) → e.effects.replies ≡ one_reply job why → (job == n) ≡ false
     → is_running (e ∷ es) n ≡ is_running es n
 runs_beside es e n job why one other =
-    is_running_more es e n ∙ ap (λ rs. is_running es n && is_none (find (λ a. a.job == n) rs)) one ∙ rw other (true_right (is_running es n))
+    is_running_more es e n ∙ ap (λ rs. is_running es n && is_none (find (λ a. a.job == n) rs)) one ∙ rw other (and-true (is_running es n))
 
 is_answered_now : (es : Trace) (e : Entry) (job : ℕ) (why : Reply) → e.effects.replies ≡ one_reply job why → is_running (e ∷ es) job ≡ false
 is_answered_now es e job why one =
     is_running_more es e job ∙ ap (λ rs. is_running es job && is_none (find (λ a. a.job == job) rs)) one
-    ∙ rw (same_number job) (false_right (is_running es job))
+    ∙ rw (same_number job) (and-false (is_running es job))
 
 -- ---- the running jobs
 
@@ -92,7 +83,7 @@ pub running_answered : (st : Setting) (es : Trace) (e : Entry) (j : Job) (why : 
 running_answered st es e j why more one old =
     ap (λ js. filter (λ i. is_running (e ∷ es) i.number) js) more
     ∙ filter-append (λ (i : Job). is_running (e ∷ es) i.number) (jobs st es) (j ∷ [])
-    ∙ rw (is_answered_now es e j.number why one) (append_none _)
+    ∙ rw (is_answered_now es e j.number why one) (append-nil _)
     ∙ filter_agrees (λ (i : Job). nat_lt i.number j.number) (λ i. is_running (e ∷ es) i.number) (λ i. is_running es i.number) (jobs st es) old
     (λ i lt. runs_beside es e i.number j.number why one (not_next i.number j.number lt))
 

@@ -7,10 +7,16 @@ use Rattle.sl_trace.specs.declared.input.Answer.{Answer}
 use Rattle.sl_trace.specs.declared.reply.Reply.{Reply}
 use Rattle.sl_words.proofs.CaseLaws.{false_is_true}
 use Rattle.sl_words.proofs.WordLaws.{and_true}
-use Rattle.std.proofs.Common.{ap, refl, ◌∙◌}
+use Rattle.std.proofs.Common.{ap, arith, refl, tests, ◌∙◌}
 use Rattle.std.specs.List.{list_all}
 use Rattle.std.specs.Option.{option_or}
-use Rattle.std.specs.Prelude.{Bool, List, None, Option, Some, false, filter, if◌then◌else◌, find, is_none, is_some, length, map, option_map, true, [], ℕ, ◌&&◌, ◌++◌, ◌==◌, ◌∷◌, ◌≡◌}
+use Rattle.std.specs.Prelude.{Bool, List, None, Option, Some, false, filter, if◌then◌else◌, find, is_none, is_some, length, map, option_map, true, [], ℕ, ◌&&◌, ◌==◌, ◌∷◌, ◌≡◌}
+
+-- ---- numbers
+
+-- A number is itself.
+pub same_number : (n : ℕ) → (n == n) ≡ true
+same_number n = grind (arith, tests)
 
 -- ---- filters
 
@@ -33,15 +39,6 @@ filter_both_at p r x xs false h rest = rw (h, rest) refl
 pub filter_both : {A : Type 0} (p r : A → Bool) (xs : List A) → filter (λ a. p a && r a) xs ≡ filter r (filter p xs)
 filter_both p r [] = refl
 filter_both p r (x ∷ xs) = filter_both_at p r x xs (p x) refl (filter_both p r xs)
-
-appended_at : {A : Type 0} (p : A → Bool) (x : A) (xs ys : List A) (b : Bool) → p x ≡ b → filter p (xs ++ ys) ≡ filter p xs ++ filter p ys
-    → filter p ((x ∷ xs) ++ ys) ≡ filter p (x ∷ xs) ++ filter p ys
-appended_at p x xs ys true h rest = rw (h, rest) refl
-appended_at p x xs ys false h rest = rw (h, rest) refl
-
-pub filter-append : {A : Type 0} (p : A → Bool) (xs ys : List A) → filter p (xs ++ ys) ≡ filter p xs ++ filter p ys
-filter-append p [] ys = refl
-filter-append p (x ∷ xs) ys = appended_at p x xs ys (p x) refl (filter-append p xs ys)
 
 -- ---- replies
 

@@ -1,12 +1,12 @@
 -- What the session knows of its lease, where each of its calls is for the lease and it holds nothing.
 use Rattle.sl_area.specs.Layouts.{Layout}
-use Rattle.sl_first.proofs.CalmRenewal.{leases_first, survey_none as no_survey}
+use Rattle.sl_first.proofs.CalmRenewal.{leases_first, survey_none}
 use Rattle.sl_first.proofs.Decided.{calls_first, nothing_on}
 use Rattle.sl_first.specs.FirstPath.{IsCalm, first_session, is_first_call}
 use Rattle.sl_first.specs.FirstSteps.{first_known, first_over, first_self}
 use Rattle.sl_leases.specs.Leases.{exclusive_on, has_shared_on, is_lease_call, is_on, known, known_of, lease_calls, spot_of}
 use Rattle.sl_sector.specs.declared.sector.DeltaRec.{DeltaRec}
-use Rattle.sl_sessions.specs.Sessions.{Session, delta_written, generation_in, generation_of, is_survey_purpose, last_delta}
+use Rattle.sl_sessions.specs.Sessions.{Session, delta_written, generation_in, generation_of, last_delta}
 use Rattle.sl_sessions.specs.Watching.{counts_over, evidence, evidence_in, look_of, sightings}
 use Rattle.sl_time.specs.Times.{TimingNumbers}
 use Rattle.sl_trace.specs.Traces.{Setting, Submitted, Trace, holdings, is_shared, submitted}
@@ -42,14 +42,11 @@ generation_first st g r t mine =
 
 -- ---- nothing was seen of other ids
 
-survey_none : (m : Submitted) → is_lease_call m ≡ true → is_survey_purpose m.call.purpose ≡ false
-survey_none m h = no_survey m.call.purpose h
-
 no_looks : (l : Layout) (j : ℕ) (ms : List Submitted) → list_all is_lease_call ms ≡ true → sightings l j ms ≡ []
 no_looks l j [] h = refl
 no_looks l j (m ∷ ms) h =
     let both = and_true (is_lease_call m) (list_all is_lease_call ms) h in
-    rw (look_of, survey_none m both.0) (no_looks l j ms both.1)
+    rw (look_of, survey_none m.call.purpose both.0) (no_looks l j ms both.1)
 
 not_below_zero : (h : ℕ) → nat_lt h 0 ≡ false
 not_below_zero h = grind (arith, tests)

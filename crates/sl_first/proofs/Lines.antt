@@ -7,6 +7,7 @@ use Rattle.sl_due.specs.DueWake.{finish}
 use Rattle.sl_due.specs.Steps.{Step, add_reply, begin_step, seen}
 use Rattle.sl_first.proofs.Decided.{acquire_idle, nothing_on, release_held}
 use Rattle.sl_first.proofs.Decisions.{here}
+use Rattle.sl_first.proofs.Growth.{same_number}
 use Rattle.sl_first.proofs.Knowledge.{known_first}
 use Rattle.sl_first.proofs.Standing.{quiet_stands}
 use Rattle.sl_first.proofs.Stillness.{nothing_after, nothing_before}
@@ -29,7 +30,7 @@ use Rattle.sl_trace.specs.declared.input.Input.TheVariants.{Line, Wake}
 use Rattle.sl_trace.specs.declared.reply.Reply.TheVariants.{BadCommand as Misread, Done}
 use Rattle.sl_trace.specs.declared.reply.Reply.{Reply}
 use Rattle.sl_words.specs.Results.{◌>>=◌}
-use Rattle.std.proofs.Common.{ap, arith, refl, tests, ◌∙◌}
+use Rattle.std.proofs.Common.{ap, refl, ◌∙◌}
 use Rattle.std.specs.Prelude.{◌++◌, Err, List, None, Ok, Result, false, true, [], ℕ, ◌==◌, ◌∷◌, ◌≡◌, ◌≤◌}
 
 -- A line's step, where what the line comes to is this.
@@ -89,9 +90,6 @@ acquire_due st g r k es f h idle free text p small reads =
     (record { still = refl; unmoved = refl; leases = refl }, h.calm)
 
 -- ---- a release ends the holding and frees the leader
-
-same_number : (n : ℕ) → (n == n) ≡ true
-same_number n = grind (arith, tests)
 
 -- The holding after its end.
 pub ended : (g : Given) (r : ResourceArg) (q lver : ℕ) → held_after (first_effects (end_of (first_grant g r q lver) ∷ []) [] [] []) (first_grant g r q lver ∷ []) ≡ []

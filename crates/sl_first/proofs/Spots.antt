@@ -1,5 +1,6 @@
 -- All calls of the session are on one area.
 use Rattle.sl_area.specs.Places.{in_area}
+use Rattle.sl_first.proofs.Growth.{same_number}
 use Rattle.sl_first.specs.FirstPath.{is_first_call}
 use Rattle.sl_leases.specs.Leases.{is_lease_call, is_on, spot_of, spot_of_call, spots_in, with_spot}
 use Rattle.sl_sessions.specs.Sessions.{delta_written}
@@ -44,9 +45,6 @@ spot_first st r m even h =
 -- One area, or none.
 abbrev IsOneSpot : Spot → List Spot → Type 0
 IsOneSpot at spots = (spots ≡ []) ⊎ (spots ≡ at ∷ [])
-
-same_number : (n : ℕ) → (n == n) ≡ true
-same_number n = grind (arith, tests)
 
 pub same_self : (r : ResourceArg) → same_spot (spot_of r) (spot_of r) ≡ true
 same_self r = rw (same_number r.offset) ((bytes_eq-Decides r.path r.path).1 refl)

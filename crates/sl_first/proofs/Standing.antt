@@ -1,7 +1,6 @@
 -- A host stands for its trace after one more entry.
-use Rattle.sl_first.proofs.CalmLaws.{append_none}
-use Rattle.sl_first.proofs.Entries.{list_all-append, old_more, other_reply, running_answered, running_begun, running_ended, running_stays, same_number, unanswered_more}
-use Rattle.sl_first.proofs.Growth.{answered_stays}
+use Rattle.sl_first.proofs.Entries.{list_all-append, old_more, other_reply, running_answered, running_begun, running_ended, running_stays, unanswered_more}
+use Rattle.sl_first.proofs.Growth.{answered_stays, same_number}
 use Rattle.sl_first.specs.FirstPath.{Doing, IsDoing, IsNextCall, IsWork, Kept, Stands, first_effects, first_entry, heeded_call, is_first_call, jobs_kept, next_doing, one_reply, open_kept}
 use Rattle.sl_leases.specs.Jobs.{command_of}
 use Rattle.sl_leases.specs.Leases.{lease_step}
@@ -24,6 +23,7 @@ use Rattle.sl_trace.specs.declared.reply.Reply.{Reply}
 use Rattle.sl_words.proofs.CaseLaws.{false_is_true, none_some}
 use Rattle.sl_words.proofs.WordLaws.{and_true}
 use Rattle.std.proofs.Common.{ap, arith, refl, subst, sym, tests, ◌∙◌}
+use Rattle.std.proofs.lemmas.List.{append-nil}
 use Rattle.std.specs.List.{list_all}
 use Rattle.std.specs.Option.{option_or}
 use Rattle.std.specs.Prelude.{Bool, List, None, Ok, Option, Result, Some, false, filter, find, if◌then◌else◌, is_some, length, map, nat_lt, not, option_and_then, true, [], ℕ, ◌&&◌, ◌++◌, ◌+◌, ◌==◌, ◌∷◌, ◌≡◌, ◌≤◌}
@@ -40,7 +40,7 @@ filter_all (x ∷ xs) = ap (λ ys. x ∷ ys) (filter_all xs)
 
 -- Nothing ends and nothing is granted.
 pub held_stays : (held : List Grant) (replies : _) (calls : _) → held_after (first_effects [] [] replies calls) held ≡ held
-held_stays held replies calls = append_none (filter (λ q. true) held) ∙ filter_all held
+held_stays held replies calls = append-nil (filter (λ q. true) held) ∙ filter_all held
 
 -- ---- the commands of jobs
 
@@ -112,7 +112,7 @@ line_answered st g r k es h text why =
 pub quiet_stands : (st : Setting) (g : Given) (r : ResourceArg) (k : Kept) (es : Trace) → Stands st g r k es → Stands st g r k (first_entry g Wake no_effects ∷ es)
 quiet_stands st g r k es h =
     let e : Entry = first_entry g Wake no_effects in
-    let same : jobs st (e ∷ es) ≡ jobs st es = append_none (jobs st es) in
+    let same : jobs st (e ∷ es) ≡ jobs st es = append-nil (jobs st es) in
     let next : next_job st (e ∷ es) ≡ next_job st es = ap (λ (js : List Job). st.first.job + length js) same in
     record {
       calm = (record { still = refl; unmoved = refl; leases = refl }, h.calm);
@@ -268,7 +268,7 @@ pub told_more : (st : Setting) (g : Given) (r : ResourceArg) (k : Kept) (es : Tr
     (first_entry g (Told d.call.call.number a) (first_effects [] [] [] (c ∷ [])) ∷ es)
 told_more st g r k es h d busy doing a step c is =
     let e : Entry = first_entry g (Told d.call.call.number a) (first_effects [] [] [] (c ∷ [])) in
-    let same : jobs st (e ∷ es) ≡ jobs st es = append_none (jobs st es) in
+    let same : jobs st (e ∷ es) ≡ jobs st es = append-nil (jobs st es) in
     let next : next_job st (e ∷ es) ≡ next_job st es = ap (λ (js : List Job). st.first.job + length js) same in
     let calls : submitted (e ∷ es) ≡ new_call (length es) g.renewed c ∷ heeded_call es g a d.call ∷ k.answered
     = ap (λ ms. new_call (length es) g.renewed c ∷ ms) (told_calls st g r k es h d busy doing a (first_effects [] [] [] (c ∷ [])) refl) in
@@ -298,7 +298,7 @@ pub told_done : (st : Setting) (g : Given) (r : ResourceArg) (k : Kept) (es : Tr
     (first_entry g (Told d.call.call.number a) (first_effects [] grants (one_reply d.job.number why) []) ∷ es)
 told_done st g r k es h d busy doing a grants why late =
     let e : Entry = first_entry g (Told d.call.call.number a) (first_effects [] grants (one_reply d.job.number why) []) in
-    let same : jobs st (e ∷ es) ≡ jobs st es = append_none (jobs st es) in
+    let same : jobs st (e ∷ es) ≡ jobs st es = append-nil (jobs st es) in
     let next : next_job st (e ∷ es) ≡ next_job st es = ap (λ (js : List Job). st.first.job + length js) same in
     let calls : submitted (e ∷ es) ≡ heeded_call es g a d.call ∷ k.answered
     = told_calls st g r k es h d busy doing a (first_effects [] grants (one_reply d.job.number why) []) (rw (same_number d.job.number, late) refl) in

@@ -19,6 +19,7 @@ use Rattle.sl_trace.specs.declared.reply.Reply.TheVariants.{IoTimeout}
 use Rattle.sl_trace.specs.declared.input.Given.{Given}
 use Rattle.sl_words.specs.Words.{is_empty}
 use Rattle.std.proofs.Common.{ap, arith, refl, sym, tests, ◌∙◌}
+use Rattle.std.proofs.Math.Bool.{and-false}
 use Rattle.std.specs.Prelude.{Bool, None, Option, Some, false, find, if◌then◌else◌, is_none, is_some, nat_le, option_map, true, [], ℕ, ◌&&◌, ◌++◌, ◌+◌, ◌<◌, ◌∷◌, ◌≡◌, ◌||◌}
 
 -- The calls without an answer, as the host keeps them.
@@ -32,10 +33,6 @@ open_first st g r k es h (Some d) is work =
 
 -- ---- before the input
 
-no_and : (b : Bool) → (b && false) ≡ false
-no_and true = refl
-no_and false = refl
-
 no_recovery : (g : Given) (r : ResourceArg) (x : Step) → IsFirst x.setting g r → IsCalm g (seen x) → begin_recoveries x ≡ x
 unfolding begin_recoveries begin_recovery
 no_recovery g r x f c =
@@ -47,7 +44,7 @@ no_kills_due st g r f t c =
     ap (λ o. is_joined t (first_session g) && (is_kill_due st t o || is_kill_due st t (leaving_of st t (first_session g)))) (recovery_none st g r f t c)
     ∙ ap (λ (o : Option Job). is_joined t (first_session g) && (false || is_kill_due st t (option_map (λ j. record { at = j.at; reading = j.reading; kills_from = j.at + 1 }) o)))
     (leaving_none st g r f t (first_session g))
-    ∙ no_and (is_joined t (first_session g))
+    ∙ and-false (is_joined t (first_session g))
 
 no_kills : (g : Given) (r : ResourceArg) (x : Step) → IsFirst x.setting g r → IsCalm g (seen x) → kills x ≡ x
 unfolding kills kill_holders
