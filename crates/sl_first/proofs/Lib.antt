@@ -1,0 +1,17 @@
+pub mod CalmLaws
+pub mod CalmRenewal
+pub mod Growth
+pub mod Entries
+pub mod Standing
+pub mod Stillness
+pub mod Decisions
+pub mod Spots
+pub mod Decided
+pub mod Knowledge
+pub mod Lines
+pub mod Answering
+pub mod Liveness
+pub mod Courses
+pub mod FirstLaws
+pub mod LineLaws
+pub mod Beginning
