@@ -15,3 +15,4 @@ pub mod Courses
 pub mod FirstLaws
 pub mod LineLaws
 pub mod Beginning
+pub mod FirstForms

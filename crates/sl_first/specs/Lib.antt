@@ -1,3 +1,4 @@
 pub mod FirstPath
+pub mod FirstWords
 pub mod FirstSteps
 pub mod Promises

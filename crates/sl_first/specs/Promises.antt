@@ -1,6 +1,8 @@
 -- What is proved of a daemon of the first path: whatever comes, what is due is told by where it stands, and so is where it stands then.
-use Rattle.sl_first.specs.FirstPath.{Doing, IsFirst}
+use Rattle.sl_first.specs.FirstPath.{Doing, IsFirst, IsFirstCommand}
 use Rattle.sl_first.specs.FirstSteps.{FirstStands, Idle, LineFirst, Phase, ToldFirst, Works, acquire_line, answers, first_aim, first_next, release_line}
+use Rattle.sl_first.specs.FirstWords.{first_forms}
+use Rattle.sl_trace.specs.Commands.{command_in}
 use Rattle.sl_trace.specs.Limits.{most_processes}
 use Rattle.sl_trace.specs.Traces.{Setting, Submitted, Trace, is_answer_for}
 use Rattle.sl_trace.specs.declared.command.Command.TheVariants.{Acquire, Release}
@@ -32,3 +34,7 @@ AnswersLeadOn =
     (st : Setting) (g : Given) (r : ResourceArg) → IsFirst st g r → (call job : ℕ) (d : Doing) (answered : List Submitted) (es : Trace) →
     FirstStands st g r call job (Works d) answered es → (a : Answer) → is_answer_for st a d.call.call.op ≡ true →
     ToldFirst st g r call job d answered es a (first_next st g es d answered (first_aim d.command) a)
+
+-- What the two forms read is a command of the first path.
+abbrev pub TextsAreFirst : Type 0
+TextsAreFirst = (r : ResourceArg) (text : List ℕ) → IsFirstCommand r (command_in (first_forms r) text)

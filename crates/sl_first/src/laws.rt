@@ -1,6 +1,6 @@
 //! What is due of a daemon of one session and one resource, by where it stands.
 
-ghost use Rattle.sl_first.specs.Promises.{AnswersLeadOn, DaemonsBegin, LinesAreAnswered};
+ghost use Rattle.sl_first.specs.Promises.{AnswersLeadOn, DaemonsBegin, LinesAreAnswered, TextsAreFirst};
 
 /// A daemon begins idle.
 pub fn daemons_begin()
@@ -15,4 +15,9 @@ pub fn lines_are_answered()
 /// An answer leads to the next call of the two phases, to the leader, to the grant or to a reply.
 pub fn answers_lead_on()
     ensures { AnswersLeadOn }
+{}
+
+/// A text that the two forms read is an acquire or a release of the one resource, for a process that is no child.
+pub fn texts_are_first()
+    ensures { TextsAreFirst }
 {}
