@@ -1,0 +1,23 @@
+-- What stands where a daemon of the first path makes a call.
+use Rattle.sl_first.specs.FirstPath.{IsCalm, IsFirst, has_answer, is_first_call}
+use Rattle.sl_trace.specs.Traces.{Setting, Submitted, Trace, holdings, submitted}
+use Rattle.sl_trace.specs.declared.command.ResourceArg.{ResourceArg}
+use Rattle.sl_trace.specs.declared.effects.LeaseStep.{LeaseStep}
+use Rattle.sl_trace.specs.declared.effects.Purpose.TheVariants.{Lease}
+use Rattle.sl_trace.specs.declared.effects.Work.TheVariants.{ForJob}
+use Rattle.sl_trace.specs.declared.input.Given.{Given}
+use Rattle.std.specs.List.{list_all}
+use Rattle.std.specs.Prelude.{true, [], ℕ, ◌≡◌}
+
+-- The trace at a call: nothing is held, and each call before is answered, the session's, on the resource's area.
+pub record AtCall (st : Setting) (g : Given) (r : ResourceArg) (t : Trace) : Type 0 where
+  pub first : IsFirst st g r
+  pub calm : IsCalm g t
+  pub mine : list_all (is_first_call st r) (submitted t) ≡ true
+  pub answered : list_all has_answer (submitted t) ≡ true
+  pub free : holdings t ≡ []
+
+-- The call: for the lease, of the session, on the area.
+pub record OneCall (st : Setting) (r : ResourceArg) (job : ℕ) (step : LeaseStep) (c : Submitted) : Type 0 where
+  pub placed : is_first_call st r c ≡ true
+  pub for_job : c.call.purpose ≡ Lease (ForJob job) step
