@@ -4,7 +4,7 @@ use Rattle.sl_first.proofs.Answering.{further_due, grant_due, reply_due}
 use Rattle.sl_first.proofs.Courses.{course_live, host_in}
 use Rattle.sl_first.proofs.Standing.{told_done, told_more}
 use Rattle.sl_first.specs.FirstPath.{Doing, IsFirst, first_effects, heeded_call, is_first_call, one_reply}
-use Rattle.sl_first.specs.FirstSteps.{Begins_phase1, Begins_phase2, Course, FirstStands, Freeing, Further, Goes_on_phase1, Goes_on_phase2, Grants, IsNamed, Live, Reading_area, Reading_phase1, Reading_phase2, Reads_phase1, Reads_phase2, Replies_late, Takes, Taking, ToldFirst, Works, Writes_block, Writes_leader, Writing_phase1, Writing_phase2, first_aim, first_grant, first_next, further_call, kept_in, next_of, process_of, step_of}
+use Rattle.sl_first.specs.FirstSteps.{Begins_phase1, Begins_phase2, Course, FirstStands, Freeing, Further, Goes_on_phase1, Goes_on_phase2, Grants, IsNamed, Live, Reading_area, Reading_phase1, Reading_phase2, Reads_phase1, Reads_phase2, Replies_late, Takes, Taking, ToldFirst, Works, Writes_block, Writes_leader, Writing_phase1, Writing_phase2, first_aim, first_grant, first_next, further_call, is_lease_reply, kept_in, next_of, process_of, step_of}
 use Rattle.sl_leases.specs.Jobs.{aim_of_command}
 use Rattle.sl_leases.specs.Leases.{lver_written}
 use Rattle.sl_leases.specs.declared.lease.LeaseNext.TheVariants.{AnswerJob, GrantJob}
@@ -21,8 +21,9 @@ use Rattle.sl_trace.specs.declared.effects.Op.TheVariants.{ReadSectors, WriteRec
 use Rattle.sl_trace.specs.declared.effects.Op.{Op}
 use Rattle.sl_trace.specs.declared.input.Answer.{Answer}
 use Rattle.sl_trace.specs.declared.input.Given.{Given}
-use Rattle.sl_trace.specs.declared.reply.Reply.TheVariants.{Granted}
+use Rattle.sl_trace.specs.declared.reply.Reply.TheVariants.{Ahead, BadCommand as Misread, Busy, Done, Generation, Granted, Held as HeldBy, Hosts, IdHeld, IdLate, IdLost, IoFault, IoTimeout, Joined, Joining as StillJoining, Limit as LimitReached, NoProcess, NoSession, NotHeld, Pending, Recovering, RequestOld, Rival, Sessions, Shared as SharedBy, SpawnFault, Started, TornBlock, TornDelta, TornLeader, Value, ValueTorn, WrongArea, WrongDelta}
 use Rattle.sl_trace.specs.declared.reply.Reply.{Reply}
+use Rattle.sl_words.proofs.CaseLaws.{false_is_true}
 use Rattle.std.proofs.Common.{ap, arith, refl, subst, sym, tests, ◌∙◌}
 use Rattle.std.proofs.Math.Nat.{mul-le-mul_left}
 use Rattle.std.proofs.lemmas.Slice.Eq.{bytes_eq-Decides}
@@ -113,14 +114,51 @@ told_further st g r f call job d answered es h a (Writes_leader step l) comes co
       };
     }
 
+-- Work on a lease ends by no reply that stops it before the input.
+lease_late : (why : Reply) → is_lease_reply why ≡ true → is_before_input why ≡ false
+lease_late Done q = refl
+lease_late (Generation g) q = absurd (false_is_true q)
+lease_late (Granted l) q = absurd (false_is_true q)
+lease_late (Started l p) q = absurd (false_is_true q)
+lease_late (Value l s b) q = absurd (false_is_true q)
+lease_late (Hosts x) q = absurd (false_is_true q)
+lease_late (Sessions x) q = absurd (false_is_true q)
+lease_late NoSession q = absurd (false_is_true q)
+lease_late StillJoining q = absurd (false_is_true q)
+lease_late (Recovering t) q = absurd (false_is_true q)
+lease_late (IdHeld a b) q = absurd (false_is_true q)
+lease_late (IdLost a b) q = absurd (false_is_true q)
+lease_late (IdLate a b) q = absurd (false_is_true q)
+lease_late TornDelta q = absurd (false_is_true q)
+lease_late TornLeader q = refl
+lease_late (TornBlock h) q = refl
+lease_late (HeldBy l o) q = refl
+lease_late (SharedBy o) q = refl
+lease_late (Rival h m) q = refl
+lease_late (Ahead h l) q = refl
+lease_late (IoTimeout c f t) q = absurd (false_is_true q)
+lease_late (IoFault c) q = refl
+lease_late (Pending c) q = absurd (false_is_true q)
+lease_late (Busy p) q = absurd (false_is_true q)
+lease_late NotHeld q = absurd (false_is_true q)
+lease_late SpawnFault q = absurd (false_is_true q)
+lease_late ValueTorn q = absurd (false_is_true q)
+lease_late (Misread c) q = absurd (false_is_true q)
+lease_late (LimitReached w) q = refl
+lease_late (RequestOld h s) q = absurd (false_is_true q)
+lease_late (WrongArea l r h) q = refl
+lease_late (WrongDelta l i) q = absurd (false_is_true q)
+lease_late (NoProcess p) q = absurd (false_is_true q)
+lease_late (Joined g) q = absurd (false_is_true q)
+
 -- The job is answered.
 told_reply : (st : Setting) (g : Given) (r : ResourceArg) → IsFirst st g r → (call job : ℕ) (d : Doing) (answered : List Submitted) (es : Trace) → FirstStands st g r call job (Works d) answered es
-    → (a : Answer) (why : Reply) → first_next st g es d answered (first_aim d.command) a ≡ AnswerJob why → is_before_input why ≡ false
+    → (a : Answer) (why : Reply) → first_next st g es d answered (first_aim d.command) a ≡ AnswerJob why → is_lease_reply why ≡ true
     → ToldFirst st g r call job d answered es a (AnswerJob why)
 told_reply st g r f call job d answered es h a why comes late =
     record {
       due_is = reply_due st g r (kept_in g r call job (Works d) answered) es f h.stands d refl refl h.stands.work a (first_aim d.command) (aim_there st g r answered d.command d.step d.call.call.op h.course) why comes;
-      stands = record { stands = told_done st g r (kept_in g r call job (Works d) answered) es h.stands d refl h.stands.work a [] why late; course = tt };
+      stands = record { stands = told_done st g r (kept_in g r call job (Works d) answered) es h.stands d refl h.stands.work a [] why (lease_late why late); course = tt };
     }
 
 -- The resource is granted.

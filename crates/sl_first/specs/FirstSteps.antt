@@ -32,7 +32,7 @@ use Rattle.sl_trace.specs.declared.effects.Work.TheVariants.{ForJob}
 use Rattle.sl_trace.specs.declared.input.Answer.{Answer}
 use Rattle.sl_trace.specs.declared.input.Given.{Given}
 use Rattle.sl_trace.specs.declared.input.Input.TheVariants.{Answer as Told, Line}
-use Rattle.sl_trace.specs.declared.reply.Reply.TheVariants.{Busy, Granted, NotHeld, Pending}
+use Rattle.sl_trace.specs.declared.reply.Reply.TheVariants.{Ahead, Busy, Done, Granted, Held as HeldBy, IoFault, Limit as LimitReached, NotHeld, Pending, Rival, Shared as SharedBy, TornBlock, TornLeader, WrongArea}
 use Rattle.sl_trace.specs.declared.reply.Reply.{Reply}
 use Rattle.std.specs.Prelude.{Bool, List, None, Option, Some, [], false, length, nat_lt, true, unwrap_or, ℕ, ◌&&◌, ◌+◌, ◌==◌, ◌∷◌, ◌≡◌}
 
@@ -182,6 +182,20 @@ pub data Course (st : Setting) (g : Given) (r : ResourceArg) (answered : List Su
   Taking : (p : ℕ) (l : Leader) → IsNamed st g r answered → Course st g r answered (Acquire r false p) TakeLeader (WriteRecord (LeaderIs l))
   Freeing : (p : ℕ) (l : Leader) → IsNamed st g r answered → Course st g r answered (Release r p) FreeLeader (WriteRecord (LeaderIs l))
 
+-- Whether a reply is one that work on a lease may end with.
+abbrev pub is_lease_reply : Reply → Bool
+is_lease_reply Done = true
+is_lease_reply TornLeader = true
+is_lease_reply (TornBlock host) = true
+is_lease_reply (HeldBy lver owner) = true
+is_lease_reply (SharedBy owner) = true
+is_lease_reply (Rival host mbal) = true
+is_lease_reply (Ahead host lver) = true
+is_lease_reply (IoFault call) = true
+is_lease_reply (LimitReached which) = true
+is_lease_reply (WrongArea lockspace resource hosts) = true
+is_lease_reply r = false
+
 -- What an answer may lead to, after these calls: a call that goes on with the job, a reply, or the grant; but for a reply the name is
 -- verified.
 pub data Live (r : ResourceArg) (ms : List Submitted) (named : Type 0) : Command → LeaseNext → Type 0 where
@@ -191,7 +205,7 @@ pub data Live (r : ResourceArg) (ms : List Submitted) (named : Type 0) : Command
   Begins_phase2 : (p : ℕ) (b : Block) → named → Live r ms named (Acquire r false p) (WriteBlock Phase2Write b)
   Takes : (p : ℕ) (l : Leader) → named → Live r ms named (Acquire r false p) (WriteLeader TakeLeader l)
   Grants : (p lver : ℕ) → named → Live r ms named (Acquire r false p) (GrantJob Exclusive lver)
-  Replies_late : (c : Command) (why : Reply) → is_before_input why ≡ false → Live r ms named c (AnswerJob why)
+  Replies_late : (c : Command) (why : Reply) → is_lease_reply why ≡ true → Live r ms named c (AnswerJob why)
 
 -- What is true of the step at which the host is.
 abbrev pub OnCourse : Setting → Given → ResourceArg → List Submitted → Phase → Type 0
