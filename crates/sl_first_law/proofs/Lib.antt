@@ -1,3 +1,5 @@
 pub mod Saying
 pub mod Calmness
 pub mod Deltas
+pub mod Values
+pub mod Areas

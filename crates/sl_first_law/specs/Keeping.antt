@@ -1,13 +1,16 @@
 -- What stands where a daemon of the first path makes a call.
 use Rattle.sl_first.specs.FirstPath.{IsCalm, IsFirst, has_answer, is_first_call}
+use Rattle.sl_leases.specs.Leases.{value_written}
 use Rattle.sl_trace.specs.Traces.{Setting, Submitted, Trace, holdings, submitted}
 use Rattle.sl_trace.specs.declared.command.ResourceArg.{ResourceArg}
 use Rattle.sl_trace.specs.declared.effects.LeaseStep.{LeaseStep}
 use Rattle.sl_trace.specs.declared.effects.Purpose.TheVariants.{Lease}
 use Rattle.sl_trace.specs.declared.effects.Work.TheVariants.{ForJob}
 use Rattle.sl_trace.specs.declared.input.Given.{Given}
+use Rattle.sl_trace.specs.declared.reply.Reply.TheVariants.{Value}
+use Rattle.sl_trace.specs.declared.reply.Reply.{Reply}
 use Rattle.std.specs.List.{list_all}
-use Rattle.std.specs.Prelude.{true, [], ℕ, ◌≡◌}
+use Rattle.std.specs.Prelude.{Bool, None, false, true, [], ℕ, ◌≡◌}
 
 -- The trace at a call: nothing is held, and each call before is answered, the session's, on the resource's area.
 pub record AtCall (st : Setting) (g : Given) (r : ResourceArg) (t : Trace) : Type 0 where
@@ -21,3 +24,9 @@ pub record AtCall (st : Setting) (g : Given) (r : ResourceArg) (t : Trace) : Typ
 pub record OneCall (st : Setting) (r : ResourceArg) (job : ℕ) (step : LeaseStep) (c : Submitted) : Type 0 where
   pub placed : is_first_call st r c ≡ true
   pub for_job : c.call.purpose ≡ Lease (ForJob job) step
+  pub valueless : value_written c ≡ None
+
+-- Whether the reply tells a value.
+abbrev pub is_value_reply : Reply → Bool
+is_value_reply (Value lver seq bytes) = true
+is_value_reply r = false
