@@ -25,7 +25,7 @@ use Rattle.sl_words.specs.Bounds.{is_number}
 use Rattle.sl_words.specs.Words.{present}
 use Rattle.std.proofs.Common.{refl, subst, sym}
 use Rattle.std.specs.Option.{option_map_or}
-use Rattle.sl_trace.specs.Traces.{Submitted, is_before_input}
+use Rattle.sl_trace.specs.Traces.{Submitted}
 use Rattle.std.specs.Prelude.{Bool, List, None, Option, Some, false, is_none, position, true, ℕ, ◌+◌, ◌≡◌}
 
 abbrev acquires : Aim

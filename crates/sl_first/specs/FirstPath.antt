@@ -22,6 +22,7 @@ use Rattle.sl_trace.specs.declared.input.Answer.{Answer}
 use Rattle.sl_trace.specs.declared.input.Given.{Given}
 use Rattle.sl_trace.specs.declared.input.Input.{Input}
 use Rattle.sl_trace.specs.declared.reply.Reply.{Reply}
+use Rattle.sl_words.specs.Bounds.{moments}
 use Rattle.std.specs.Int.{is_in_range}
 use Rattle.std.specs.List.{list_all}
 use Rattle.std.specs.Prelude.{is_none, ◌*◌, ◌+◌, Bool, Err, IsTrue, List, None, Ok, Option, Result, Some, [], false, is_some, length, nat_lt, true, ℕ, ◌&&◌, ◌++◌, ◌<◌, ◌==◌, ◌∷◌, ◌≡◌, ◌≤◌, ◌⊎◌}
@@ -39,6 +40,7 @@ pub record IsFirst (st : Setting) (g : Given) (r : ResourceArg) : Type 0 where
   pub host : IsTrue (is_in_range 1 st.layout.hosts g.id)
   pub base : IsTrue (is_base st.layout r.offset)
   pub io : 0 < st.timing.io
+  pub renewed : g.renewed < moments
   -- leader, request and blocks lie in the area
   pub sector : 1 ≤ st.layout.sector
   pub roomy : st.layout.sector * (st.layout.hosts + 2) ≤ st.layout.area

@@ -1,6 +1,6 @@
 -- What a host of the first path does: it is idle, it holds the resource, or it works for a job.
 use Rattle.sl_area.specs.Places.{block_offset, leader_offset}
-use Rattle.sl_due.specs.Due.{due}
+use Rattle.sl_due.specs.Due.{IsHostTrace, due}
 use Rattle.sl_due.specs.DueLease.{grant_of}
 use Rattle.sl_first.specs.FirstPath.{Doing, Kept, Stands, first_effects, first_entry, first_session, heeded_call, next_doing, one_reply}
 use Rattle.sl_leases.specs.Jobs.{aim_of_command, process_named}
@@ -17,7 +17,7 @@ use Rattle.sl_sector.specs.declared.sector.Rec.TheVariants.{BlockIs, LeaderIs}
 use Rattle.sl_trace.specs.declared.command.Command.TheVariants.{Acquire, Release}
 use Rattle.sl_trace.specs.declared.command.Command.{Command}
 use Rattle.sl_trace.specs.declared.command.ResourceArg.{ResourceArg}
-use Rattle.sl_trace.specs.Traces.{Setting, Submitted, Trace, end_of, is_before_input, new_call, no_effects}
+use Rattle.sl_trace.specs.Traces.{Setting, Submitted, Trace, end_of, new_call, no_effects}
 use Rattle.sl_trace.specs.declared.effects.Call.{Call}
 use Rattle.sl_trace.specs.declared.effects.Effects.{Effects}
 use Rattle.sl_trace.specs.declared.effects.End.{End}
@@ -217,6 +217,8 @@ OnCourse st g r answered (Works d) = Course st g r answered d.command d.step d.c
 pub record FirstStands (st : Setting) (g : Given) (r : ResourceArg) (call job : ℕ) (phase : Phase) (answered : List Submitted) (es : Trace) : Type 0 where
   pub stands : Stands st g r (kept_in g r call job phase answered) es
   pub course : OnCourse st g r answered phase
+  -- it has done what is due in each entry so far
+  pub due_so_far : IsHostTrace st es
 
 -- The process that a command is for.
 abbrev pub process_of : Command → ℕ
