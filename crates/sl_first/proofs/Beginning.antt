@@ -25,4 +25,5 @@ daemon_begins st g r f =
         work = tt;
       };
       course = tt;
+      due_so_far = (tt, tt);
     }

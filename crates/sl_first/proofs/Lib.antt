@@ -12,6 +12,7 @@ pub mod Lines
 pub mod Answering
 pub mod Liveness
 pub mod Courses
+pub mod Following
 pub mod FirstLaws
 pub mod LineLaws
 pub mod Beginning

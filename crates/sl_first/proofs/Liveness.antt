@@ -1,6 +1,6 @@
 -- What an answer of an acquire or a release may lead to.
 use Rattle.sl_area.specs.Places.{area_blocks, leader_of}
-use Rattle.sl_first.specs.FirstSteps.{Begins_phase1, Begins_phase2, Live, Replies_late, Takes}
+use Rattle.sl_first.specs.FirstSteps.{Begins_phase1, Begins_phase2, Live, Replies_late, Takes, is_lease_reply}
 use Rattle.sl_leases.specs.Ballots.{phase1_block, same_owner, value_of}
 use Rattle.sl_leases.specs.LeaseWork.{LeasePlace, after_phase1, after_phase2, area_next, begin_next, begin_or_refuse, leader_for, lost_next, named_area_next, phase1_next, phase2_next, stop_reply, whole_area_next, won_next}
 use Rattle.sl_leases.specs.Leases.{LeaseKnown, instance_for, is_leader_of, mode_gen_of, own_known, shared_elsewhere}
@@ -25,7 +25,7 @@ use Rattle.sl_words.specs.Bounds.{is_number}
 use Rattle.sl_words.specs.Words.{present}
 use Rattle.std.proofs.Common.{refl, subst, sym}
 use Rattle.std.specs.Option.{option_map_or}
-use Rattle.sl_trace.specs.Traces.{Submitted, is_before_input}
+use Rattle.sl_trace.specs.Traces.{Submitted}
 use Rattle.std.specs.Prelude.{Bool, List, None, Option, Some, false, is_none, position, true, ℕ, ◌+◌, ◌≡◌}
 
 abbrev acquires : Aim
@@ -102,7 +102,7 @@ area_live r ms N p place k name bytes derive known = leader_by r ms N p place k 
 
 -- ---- the reads of the two phases
 
-late_stop : (s : Stop) → is_before_input (stop_reply s) ≡ false
+late_stop : (s : Stop) → is_lease_reply (stop_reply s) ≡ true
 late_stop (BlockTorn h) = refl
 late_stop (BlockAhead h l) = refl
 late_stop (BlockRival h m) = refl

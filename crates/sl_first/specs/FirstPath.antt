@@ -3,6 +3,7 @@ use Rattle.sl_area.specs.Places.{is_base}
 use Rattle.sl_leases.specs.Jobs.{command_numbered}
 use Rattle.sl_leases.specs.Leases.{is_on, lease_step, spot_of}
 use Rattle.sl_sessions.specs.Sessions.{Session, delta_written, given_session}
+use Rattle.sl_text.specs.Names.{is_name}
 use Rattle.sl_trace.specs.Limits.{most_processes}
 use Rattle.sl_trace.specs.Traces.{EachEntry, Job, Setting, Submitted, Trace, children, holdings, jobs, new_call, next_call, next_job, reply_to, running_jobs, submitted}
 use Rattle.sl_trace.specs.declared.command.Command.TheVariants.{Acquire, Release}
@@ -21,6 +22,7 @@ use Rattle.sl_trace.specs.declared.input.Answer.{Answer}
 use Rattle.sl_trace.specs.declared.input.Given.{Given}
 use Rattle.sl_trace.specs.declared.input.Input.{Input}
 use Rattle.sl_trace.specs.declared.reply.Reply.{Reply}
+use Rattle.sl_words.specs.Bounds.{moments}
 use Rattle.std.specs.Int.{is_in_range}
 use Rattle.std.specs.List.{list_all}
 use Rattle.std.specs.Prelude.{is_none, ◌*◌, ◌+◌, Bool, Err, IsTrue, List, None, Ok, Option, Result, Some, [], false, is_some, length, nat_lt, true, ℕ, ◌&&◌, ◌++◌, ◌<◌, ◌==◌, ◌∷◌, ◌≡◌, ◌≤◌, ◌⊎◌}
@@ -34,9 +36,11 @@ IsFirstCommand r (Ok c) = (p : ℕ) × (p ≤ most_processes) × ((c ≡ Acquire
 pub record IsFirst (st : Setting) (g : Given) (r : ResourceArg) : Type 0 where
   pub alone : st.given ≡ g ∷ []
   pub space : r.lockspace ≡ g.lockspace
+  pub named : IsTrue (is_name r.name)
   pub host : IsTrue (is_in_range 1 st.layout.hosts g.id)
   pub base : IsTrue (is_base st.layout r.offset)
   pub io : 0 < st.timing.io
+  pub renewed : g.renewed < moments
   -- leader, request and blocks lie in the area
   pub sector : 1 ≤ st.layout.sector
   pub roomy : st.layout.sector * (st.layout.hosts + 2) ≤ st.layout.area

@@ -1,6 +1,6 @@
 -- What a host of the first path does: it is idle, it holds the resource, or it works for a job.
 use Rattle.sl_area.specs.Places.{block_offset, leader_offset}
-use Rattle.sl_due.specs.Due.{due}
+use Rattle.sl_due.specs.Due.{IsHostTrace, due}
 use Rattle.sl_due.specs.DueLease.{grant_of}
 use Rattle.sl_first.specs.FirstPath.{Doing, Kept, Stands, first_effects, first_entry, first_session, heeded_call, next_doing, one_reply}
 use Rattle.sl_leases.specs.Jobs.{aim_of_command, process_named}
@@ -17,7 +17,7 @@ use Rattle.sl_sector.specs.declared.sector.Rec.TheVariants.{BlockIs, LeaderIs}
 use Rattle.sl_trace.specs.declared.command.Command.TheVariants.{Acquire, Release}
 use Rattle.sl_trace.specs.declared.command.Command.{Command}
 use Rattle.sl_trace.specs.declared.command.ResourceArg.{ResourceArg}
-use Rattle.sl_trace.specs.Traces.{Setting, Submitted, Trace, end_of, is_before_input, new_call, no_effects}
+use Rattle.sl_trace.specs.Traces.{Setting, Submitted, Trace, end_of, new_call, no_effects}
 use Rattle.sl_trace.specs.declared.effects.Call.{Call}
 use Rattle.sl_trace.specs.declared.effects.Effects.{Effects}
 use Rattle.sl_trace.specs.declared.effects.End.{End}
@@ -32,7 +32,7 @@ use Rattle.sl_trace.specs.declared.effects.Work.TheVariants.{ForJob}
 use Rattle.sl_trace.specs.declared.input.Answer.{Answer}
 use Rattle.sl_trace.specs.declared.input.Given.{Given}
 use Rattle.sl_trace.specs.declared.input.Input.TheVariants.{Answer as Told, Line}
-use Rattle.sl_trace.specs.declared.reply.Reply.TheVariants.{Busy, Granted, NotHeld, Pending}
+use Rattle.sl_trace.specs.declared.reply.Reply.TheVariants.{Ahead, Busy, Done, Granted, Held as HeldBy, IoFault, Limit as LimitReached, NotHeld, Pending, Rival, Shared as SharedBy, TornBlock, TornLeader, WrongArea}
 use Rattle.sl_trace.specs.declared.reply.Reply.{Reply}
 use Rattle.std.specs.Prelude.{Bool, List, None, Option, Some, [], false, length, nat_lt, true, unwrap_or, ℕ, ◌&&◌, ◌+◌, ◌==◌, ◌∷◌, ◌≡◌}
 
@@ -182,6 +182,20 @@ pub data Course (st : Setting) (g : Given) (r : ResourceArg) (answered : List Su
   Taking : (p : ℕ) (l : Leader) → IsNamed st g r answered → Course st g r answered (Acquire r false p) TakeLeader (WriteRecord (LeaderIs l))
   Freeing : (p : ℕ) (l : Leader) → IsNamed st g r answered → Course st g r answered (Release r p) FreeLeader (WriteRecord (LeaderIs l))
 
+-- Whether a reply is one that work on a lease may end with.
+abbrev pub is_lease_reply : Reply → Bool
+is_lease_reply Done = true
+is_lease_reply TornLeader = true
+is_lease_reply (TornBlock host) = true
+is_lease_reply (HeldBy lver owner) = true
+is_lease_reply (SharedBy owner) = true
+is_lease_reply (Rival host mbal) = true
+is_lease_reply (Ahead host lver) = true
+is_lease_reply (IoFault call) = true
+is_lease_reply (LimitReached which) = true
+is_lease_reply (WrongArea lockspace resource hosts) = true
+is_lease_reply r = false
+
 -- What an answer may lead to, after these calls: a call that goes on with the job, a reply, or the grant; but for a reply the name is
 -- verified.
 pub data Live (r : ResourceArg) (ms : List Submitted) (named : Type 0) : Command → LeaseNext → Type 0 where
@@ -191,7 +205,7 @@ pub data Live (r : ResourceArg) (ms : List Submitted) (named : Type 0) : Command
   Begins_phase2 : (p : ℕ) (b : Block) → named → Live r ms named (Acquire r false p) (WriteBlock Phase2Write b)
   Takes : (p : ℕ) (l : Leader) → named → Live r ms named (Acquire r false p) (WriteLeader TakeLeader l)
   Grants : (p lver : ℕ) → named → Live r ms named (Acquire r false p) (GrantJob Exclusive lver)
-  Replies_late : (c : Command) (why : Reply) → is_before_input why ≡ false → Live r ms named c (AnswerJob why)
+  Replies_late : (c : Command) (why : Reply) → is_lease_reply why ≡ true → Live r ms named c (AnswerJob why)
 
 -- What is true of the step at which the host is.
 abbrev pub OnCourse : Setting → Given → ResourceArg → List Submitted → Phase → Type 0
@@ -203,6 +217,8 @@ OnCourse st g r answered (Works d) = Course st g r answered d.command d.step d.c
 pub record FirstStands (st : Setting) (g : Given) (r : ResourceArg) (call job : ℕ) (phase : Phase) (answered : List Submitted) (es : Trace) : Type 0 where
   pub stands : Stands st g r (kept_in g r call job phase answered) es
   pub course : OnCourse st g r answered phase
+  -- it has done what is due in each entry so far
+  pub due_so_far : IsHostTrace st es
 
 -- The process that a command is for.
 abbrev pub process_of : Command → ℕ

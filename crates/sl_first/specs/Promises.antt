@@ -1,4 +1,5 @@
 -- What is proved of a daemon of the first path: whatever comes, what is due is told by where it stands, and so is where it stands then.
+use Rattle.sl_due.specs.Due.{NoIdleJob}
 use Rattle.sl_first.specs.FirstPath.{Doing, IsFirst, IsFirstCommand}
 use Rattle.sl_first.specs.FirstSteps.{FirstStands, Idle, LineFirst, Phase, ToldFirst, Works, acquire_line, answers, first_aim, first_next, release_line}
 use Rattle.sl_first.specs.FirstWords.{first_forms}
@@ -38,3 +39,9 @@ AnswersLeadOn =
 -- What the two forms read is a command of the first path.
 abbrev pub TextsAreFirst : Type 0
 TextsAreFirst = (r : ResourceArg) (text : List ℕ) → IsFirstCommand r (command_in (first_forms r) text)
+
+-- No job of it is ever left idle.
+abbrev pub NobodyIsIdle : Type 0
+NobodyIsIdle =
+    (st : Setting) (g : Given) (r : ResourceArg) (call job : ℕ) (phase : Phase) (answered : List Submitted) (es : Trace) →
+    FirstStands st g r call job phase answered es → NoIdleJob st es

@@ -1,6 +1,6 @@
 //! What is due of a daemon of one session and one resource, by where it stands.
 
-ghost use Rattle.sl_first.specs.Promises.{AnswersLeadOn, DaemonsBegin, LinesAreAnswered, TextsAreFirst};
+ghost use Rattle.sl_first.specs.Promises.{AnswersLeadOn, DaemonsBegin, LinesAreAnswered, NobodyIsIdle, TextsAreFirst};
 
 /// A daemon begins idle.
 pub fn daemons_begin()
@@ -20,4 +20,9 @@ pub fn answers_lead_on()
 /// A text that the two forms read is an acquire or a release of the one resource, for a process that is no child.
 pub fn texts_are_first()
     ensures { TextsAreFirst }
+{}
+
+/// A job that isn't answered has a call on its way.
+pub fn nobody_is_idle()
+    ensures { NobodyIsIdle }
 {}
