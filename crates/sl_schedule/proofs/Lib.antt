@@ -1,3 +1,4 @@
 pub mod WritingLaws
 pub mod LineLaws
 pub mod ReadLaws
+pub mod EventLaws

@@ -1,9 +1,11 @@
 //! A schedule's bytes, as its header and its events, and the lines of a report that come from no host.
 #![tactic(auto)]
 
+mod events;
 pub mod lines;
 mod parts;
 pub mod writing;
 
+pub use events::next_event;
 pub use lines::{Line, Lines, line_refusal};
 pub use writing::{Counts, push_end_line, push_refusal_line, push_test_line};
