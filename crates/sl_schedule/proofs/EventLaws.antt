@@ -104,9 +104,9 @@ pass_behind : (machines sector : ℕ) → forms_behind (codes "pass") (early_for
 unfolding event_forms
 pass_behind machines sector = refl
 
-pub pass_made : (machines sector : ℕ) (line : List ℕ) → next_passes (exactly (codes "pass")) (unread 32 line) ≡ true
+pass_from_verb : (machines sector : ℕ) (line : List ℕ) → next_passes (exactly (codes "pass")) (unread 32 line) ≡ true
     → result_ok (pass_read machines (past_word (unread 32 line))) ≡ made_by (early_forms machines sector) (words_of line)
-pass_made machines sector line verb =
+pass_from_verb machines sector line verb =
     let u : Unread = past_word (unread 32 line) in
     let d : ℕ = capped_long (word_at u.words 0) in
     let next : ℕ → Result Event ℕ = λ d. ok_or (growths_in machines (past_word u).words) 0 >>= λ g. Ok (Pass d g) in
@@ -127,9 +127,9 @@ tear_behind : (machines sector : ℕ) → forms_behind (codes "tear") (early_for
 unfolding event_forms
 tear_behind machines sector = refl
 
-pub tear_made : (machines sector : ℕ) (line : List ℕ) → next_passes (exactly (codes "tear")) (unread 32 line) ≡ true
+tear_from_verb : (machines sector : ℕ) (line : List ℕ) → next_passes (exactly (codes "tear")) (unread 32 line) ≡ true
     → result_ok (tear_read sector (past_word (unread 32 line))) ≡ made_by (early_forms machines sector) (words_of line)
-tear_made machines sector line verb =
+tear_from_verb machines sector line verb =
     let u : Unread = past_word (unread 32 line) in
     let v : Unread = past_word u in
     let w : Unread = past_word v in
@@ -156,6 +156,19 @@ tear_made machines sector line verb =
     (λ ws. Tear m c ((kept_part sector).value (word_at ws 0)) (hex_bytes (word_at ws 1)))
     (last m c) w.column w.words
     (one_more_word hex hex_bytes [] (λ bytes. Tear m c k bytes) x.column x.words ∙ made_of_value (λ bytes. Tear m c k bytes) (bytes_in sector x.words)))))
+
+-- Where the first word is the verb.
+pub pass_made : (machines sector : ℕ) (line w : List ℕ) (u : Unread) → Some w ≡ first_of_list (words_of line) → u ≡ past_word (unread 32 line)
+    → exactly (codes "pass") w ≡ true → result_ok (pass_read machines u) ≡ made_by (early_forms machines sector) (words_of line)
+pass_made machines sector line w u first behind_it verb =
+    ap (λ u. result_ok (pass_read machines u)) behind_it
+    ∙ pass_from_verb machines sector line (ap (some_is (exactly (codes "pass"))) (sym first) ∙ verb)
+
+pub tear_made : (machines sector : ℕ) (line w : List ℕ) (u : Unread) → Some w ≡ first_of_list (words_of line) → u ≡ past_word (unread 32 line)
+    → exactly (codes "tear") w ≡ true → result_ok (tear_read sector u) ≡ made_by (early_forms machines sector) (words_of line)
+tear_made machines sector line w u first behind_it verb =
+    ap (λ u. result_ok (tear_read sector u)) behind_it
+    ∙ tear_from_verb machines sector line (ap (some_is (exactly (codes "tear"))) (sym first) ∙ verb)
 
 -- ---- the halves
 

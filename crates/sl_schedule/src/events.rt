@@ -15,7 +15,7 @@ ghost use Rattle.std.specs.Option.{option_or};
 ghost use Rattle.std.specs.Prelude.{codes, IfOk, ℕ, ◌∷◌, ◌≡◌};
 ghost use Rattle.std.specs.Result.{result_ok};
 
-use crate::parts::{next_kept, next_ok, next_process};
+use crate::parts::{is_verb, next_kept, next_ok, next_process};
 use sl_run::Event;
 use sl_text::hex::read_hex_bytes;
 use sl_text::number::read_number;
@@ -253,28 +253,31 @@ fn read_early(
     ensures { IfOk result (λ event. event ≡ made_by (forms.early_forms machines sector) (words_of line.now)) }
 {
     let mut words = Words::new(line);
-    if words.skip(b"pass") {
+    let Some(verb) = words.next_piece() else {
+        return Ok(None);
+    };
+    if is_verb(verb, b"pass") {
         return read_pass(alloc, machines, &mut words);
     }
-    if words.skip(b"wake") {
+    if is_verb(verb, b"wake") {
         return Ok(read_wake(&mut words).ok());
     }
-    if words.skip(b"sample") {
+    if is_verb(verb, b"sample") {
         return Ok(read_sample(&mut words).ok());
     }
-    if words.skip(b"land") {
+    if is_verb(verb, b"land") {
         return Ok(read_land(&mut words).ok());
     }
-    if words.skip(b"tear") {
+    if is_verb(verb, b"tear") {
         return read_tear(alloc, sector, &mut words);
     }
-    if words.skip(b"answer") {
+    if is_verb(verb, b"answer") {
         return Ok(read_answer(&mut words).ok());
     }
-    if words.skip(b"do") {
+    if is_verb(verb, b"do") {
         return Ok(read_do(&mut words).ok());
     }
-    if words.skip(b"drop") {
+    if is_verb(verb, b"drop") {
         return Ok(read_drop(&mut words).ok());
     }
     Ok(None)
@@ -285,25 +288,26 @@ fn read_late(line: &[u8]) -> Option<Event>
     ensures { (machines sector : ℕ) → result ≡ made_by (forms.late_forms machines sector) (words_of line.now) }
 {
     let mut words = Words::new(line);
-    if words.skip(b"test") {
+    let verb = words.next_piece()?;
+    if is_verb(verb, b"test") {
         return read_test(&mut words).ok();
     }
-    if words.skip(b"exit") {
+    if is_verb(verb, b"exit") {
         return read_exit(&mut words).ok();
     }
-    if words.skip(b"spawned") {
+    if is_verb(verb, b"spawned") {
         return read_spawned(&mut words).ok();
     }
-    if words.skip(b"start") {
+    if is_verb(verb, b"start") {
         return read_start(&mut words).ok();
     }
-    if words.skip(b"crash") {
+    if is_verb(verb, b"crash") {
         return read_crash(&mut words).ok();
     }
-    if words.skip(b"reset") {
+    if is_verb(verb, b"reset") {
         return read_reset(&mut words).ok();
     }
-    if words.skip(b"restart") {
+    if is_verb(verb, b"restart") {
         return read_restart(&mut words).ok();
     }
     None

@@ -3,7 +3,7 @@
 
 ghost use Rattle.sl_report.specs.ScheduleLines.{is_ok_word};
 ghost use Rattle.sl_schedule.specs.Reads as reads;
-ghost use Rattle.sl_text.specs.Names.{is_name};
+ghost use Rattle.sl_text.specs.Forms.{exactly};
 ghost use Rattle.sl_text.specs.Numbers.{capped_long, is_number_that};
 ghost use Rattle.sl_text.specs.Walks.{left_after, next_part};
 ghost use Rattle.sl_words.specs.Words.{choose};
@@ -14,6 +14,13 @@ use sl_text::words::Words;
 
 /// The greatest number of a process.
 const GREATEST_PROCESS: u64 = 2_000_000;
+
+/// Whether a line's first word is this verb.
+pub fn is_verb(word: &[u8], verb: &[u8]) -> bool
+    ensures { result ≡ exactly verb.now word.now }
+{
+    verb == word
+}
 
 /// Reads the number of a process.
 pub fn next_process(words: &mut Words) -> Result<u32, usize>
