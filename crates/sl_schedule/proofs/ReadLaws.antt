@@ -58,7 +58,7 @@ made_as_read fs line =
     sym (result_ok-ok_or (made_by fs (words_of line)) (bad_column fs (words_of line))) ∙ ap result_ok (sym (read_from-is fs (words_of line)))
 
 -- A line whose first word is this verb, with which one form goes on.
-made_behind_verb : {A : Type 0} (fs : List (Form A)) (ps : List (List ℕ → Bool)) (make : List (List ℕ) → A) (line v w : List ℕ) (u : Unread) (r : Result A ℕ)
+pub made_behind_verb : {A : Type 0} (fs : List (Form A)) (ps : List (List ℕ → Bool)) (make : List (List ℕ) → A) (line v w : List ℕ) (u : Unread) (r : Result A ℕ)
     → Some w ≡ first_of_list (words_of line) → u ≡ past_word (unread 32 line) → exactly v w ≡ true
     → forms_behind v fs ≡ record { words = ps; make = make } ∷ [] → r ≡ read_each ps make u → result_ok r ≡ made_by fs (words_of line)
 made_behind_verb fs ps make line v w u r first behind_it verb behind e =

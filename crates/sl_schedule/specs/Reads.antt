@@ -1,5 +1,6 @@
 -- Lines that are read word by word: the parts of events and of header lines, and readers of one, two or three of them.
 use Rattle.sl_report.specs.ScheduleLines.{is_ok_word, is_positive_word}
+use Rattle.sl_text.specs.Forms.{exactly}
 use Rattle.sl_text.specs.Names.{is_name, is_path}
 use Rattle.sl_text.specs.Numbers.{capped_long, capped_short, hex_bytes, is_hex_word, is_number_text, is_number_that, number_of}
 use Rattle.sl_text.specs.Walks.{Part, Unread, at_end, next_part, past_word}
@@ -8,7 +9,7 @@ use Rattle.sl_words.specs.Results.{◌>>=◌}
 use Rattle.sl_words.specs.Words.{choose}
 use Rattle.std.specs.Int.{is_in_range}
 use Rattle.std.specs.List.{list_all}
-use Rattle.std.specs.Prelude.{Bool, List, None, Ok, Option, Result, Some, bytes_eq, codes, length, map, nat_le, nat_lt, [], ℕ, ◌%◌, ◌&&◌, ◌*◌, ◌==◌, ◌∷◌}
+use Rattle.std.specs.Prelude.{Bool, List, None, Ok, Option, Result, Some, bytes_eq, codes, length, map, nat_le, nat_lt, [], ℕ, ◌%◌, ◌&&◌, ◌*◌, ◌==◌, ◌^◌, ◌∷◌}
 
 -- The number of a machine.
 abbrev pub machine_part : Part ℕ
@@ -41,6 +42,14 @@ path_part = record { passes = is_path; value = λ w. w }
 -- A process.
 abbrev pub process_part : Part ℕ
 process_part = record { passes = is_process_word; value = number_of }
+
+-- The first reading of a clock.
+abbrev pub reading_part : Part ℕ
+reading_part = record { passes = is_number_that (λ n. nat_lt n (10 ^ 12)); value = number_of }
+
+-- Just this text.
+abbrev pub text_part : List ℕ → Part (Unit {0})
+text_part text = record { passes = exactly text; value = λ w. tt }
 
 -- Whether something went well.
 abbrev pub ok_part : Part Bool

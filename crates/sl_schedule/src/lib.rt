@@ -2,6 +2,7 @@
 #![tactic(auto)]
 
 mod events;
+mod header_line;
 pub mod lines;
 mod parts;
 pub mod writing;

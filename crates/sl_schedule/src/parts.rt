@@ -15,6 +15,9 @@ use sl_text::words::Words;
 /// The greatest number of a process.
 const GREATEST_PROCESS: u64 = 2_000_000;
 
+/// The greatest first reading of a clock, in milliseconds.
+const GREATEST_READING: u64 = 999_999_999_999;
+
 /// Whether a line's first word is this verb.
 pub fn is_verb(word: &[u8], verb: &[u8]) -> bool
     ensures { result ≡ exactly verb.now word.now }
@@ -96,4 +99,19 @@ pub fn next_multiple(words: &mut Words, step: u64) -> Result<u64, usize>
     ensures left { words.new ≡ left_after result words.old }
 {
     words.accept(words.peek().and_then(|word| multiple_of(word, step)))
+}
+
+/// The reading of a clock that a word gives, if it is below 10^12.
+fn reading_of(word: &[u8]) -> Option<u64>
+    ensures { result ≡ choose (reads.reading_part.passes word.now) (reads.reading_part.value word.now) }
+{
+    read_number_within(word, 0, GREATEST_READING)
+}
+
+/// Reads the first reading of a clock.
+pub fn next_reading(words: &mut Words) -> Result<u64, usize>
+    ensures exact { result ≡ next_part reads.reading_part words.old }
+    ensures left { words.new ≡ left_after result words.old }
+{
+    words.accept(words.peek().and_then(reading_of))
 }
