@@ -3,3 +3,4 @@ pub mod LineLaws
 pub mod ReadLaws
 pub mod EventLaws
 pub mod HeaderReadLaws
+pub mod HeaderLaws

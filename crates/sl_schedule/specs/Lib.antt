@@ -3,3 +3,4 @@ pub mod Lines
 pub mod Reads
 pub mod EventReads
 pub mod HeaderReads
+pub mod Headers

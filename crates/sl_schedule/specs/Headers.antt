@@ -1,0 +1,130 @@
+-- A header, line by line: what is kept of the lines so far, which lists of lines that stands for, and what one more line does.
+use Rattle.sl_report.specs.Languages.{is_skipped, least_lines, most_lines, whole_language}
+use Rattle.sl_report.specs.ReadingLines.{header_line_in}
+use Rattle.sl_report.specs.ScheduleLines.{AreaLine, BeginLine, ClockLine, DiskLine, HeaderLine, HostsLine, IdsLine, LeaseLine, MemberLine, TimeLine, VersionLine, area_line, clock_line, count_of_rank, disk_line, header_of, header_tests, hosts_line, ids_line, lease_line, member_line, no_timing, rank, timing_line}
+use Rattle.sl_report.specs.Schedules.{default_area, default_sector, header_line_refusal, is_begin, with_line}
+use Rattle.sl_run.specs.Worlds.{first_that}
+use Rattle.sl_run.specs.declared.event.Refusal.TheVariants.{Syntax}
+use Rattle.sl_run.specs.declared.event.Refusal.{Refusal}
+use Rattle.sl_run.specs.declared.header.Disk.{Disk}
+use Rattle.sl_run.specs.declared.header.FirstReading.{FirstReading}
+use Rattle.sl_run.specs.declared.header.Header.{Header}
+use Rattle.sl_run.specs.declared.header.LockspaceLine.{LockspaceLine}
+use Rattle.sl_run.specs.declared.header.ResourceLine.{ResourceLine}
+use Rattle.sl_run.specs.declared.header.SessionLine.{SessionLine}
+use Rattle.sl_schedule.specs.declared.header_line.Times.{Times}
+use Rattle.sl_time.specs.Times.{IsTiming, TimingNumbers}
+use Rattle.sl_words.specs.Words.{some_is}
+use Rattle.std.specs.List.{list_all, range_with_len}
+use Rattle.std.specs.Option.{IfSome, option_to_list}
+use Rattle.std.specs.Prelude.{Bool, List, None, Option, Some, false, filter_map, if◌then◌else◌, is_some, length, nat_le, nat_lt, not, true, unwrap_or, [], ℕ, ◌&&◌, ◌++◌, ◌==◌, ◌∷◌, ◌≡◌, ◌≤◌}
+
+-- What is kept of the lines so far: the greatest rank, and what each kind of line said.
+pub record HeaderSoFar : Type 0 where
+  pub last : ℕ
+  pub version : Bool
+  pub times : Option (TimingNumbers × ℕ)
+  pub machines : Option ℕ
+  pub hosts : Option ℕ
+  pub clocks : List FirstReading
+  pub disks : List Disk
+  pub lockspaces : List LockspaceLine
+  pub resources : List ResourceLine
+  pub sessions : List SessionLine
+
+-- No line yet.
+abbrev pub no_lines : HeaderSoFar
+no_lines =
+    record {
+      last = 0;
+      version = false;
+      times = None;
+      machines = None;
+      hosts = None;
+      clocks = [];
+      disks = [];
+      lockspaces = [];
+      resources = [];
+      sessions = [];
+    }
+
+-- What a time line gives.
+abbrev pub times_seen : Times → TimingNumbers × ℕ
+times_seen t = (record { io = t.io; fire = t.fire; land = t.land; rho = t.rho }, t.grace)
+
+-- Times that a run may have, and a number of hosts.
+pub record ArePossible (times : Option (TimingNumbers × ℕ)) (hosts : Option ℕ) : Type 0 where
+  pub timing : IfSome times (λ t. IsTiming t.0)
+  pub number : IfSome hosts (λ n. (1 ≤ n) × (n ≤ 2000))
+
+-- What is kept stands for these lines.
+pub record Stands (r : HeaderSoFar) (ls : List HeaderLine) : Type 0 where
+  pub order : (k : ℕ) → list_all (λ l. nat_le (rank l) k) ls ≡ nat_le r.last k
+  pub versions : count_of_rank ls 0 ≡ (if r.version then 1 else 0)
+  pub timings : filter_map timing_line ls ≡ option_to_list r.times
+  pub numbers : filter_map hosts_line ls ≡ option_to_list r.machines
+  pub ids : filter_map ids_line ls ≡ option_to_list r.hosts
+  pub readings : filter_map clock_line ls ≡ r.clocks
+  pub paths : filter_map disk_line ls ≡ r.disks
+  pub areas : filter_map area_line ls ≡ r.lockspaces
+  pub leases : filter_map lease_line ls ≡ r.resources
+  pub members : filter_map member_line ls ≡ r.sessions
+  pub begins : count_of_rank ls 9 ≡ 0
+
+-- The header that the lines make.
+abbrev pub header_now : HeaderSoFar → Header
+header_now r =
+    record {
+      timing = (unwrap_or r.times (no_timing, 0)).0;
+      grace = (unwrap_or r.times (no_timing, 0)).1;
+      machines = unwrap_or r.machines 0;
+      geometry = record { sector = default_sector; area = default_area; hosts = unwrap_or r.hosts 0 };
+      clocks = r.clocks;
+      disks = r.disks;
+      lockspaces = r.lockspaces;
+      resources = r.resources;
+      sessions = r.sessions;
+    }
+
+-- How many lines of a rank there are.
+abbrev pub count_at : HeaderSoFar → ℕ → ℕ
+count_at r k =
+    if k == 0 then (if r.version then 1 else 0)
+    else (if k == 1 then length (option_to_list r.times)
+    else (if k == 2 then length (option_to_list r.machines)
+    else (if k == 3 then length (option_to_list r.hosts)
+    else (if k == 4 then length r.clocks
+    else (if k == 5 then length r.disks
+    else (if k == 6 then length r.lockspaces
+    else (if k == 7 then length r.resources
+    else (if k == 8 then length r.sessions else 0))))))))
+
+-- Whether there are as many lines of the rank as there must be.
+abbrev pub has_least : HeaderSoFar → ℕ → Bool
+has_least r k = nat_le (least_lines k) (count_at r k)
+
+-- Whether one more line of the rank may come.
+abbrev pub has_room : HeaderSoFar → ℕ → Bool
+has_room r k = elim (most_lines k) [ None ↦ true | Some n ↦ nat_lt (count_at r k) n ]
+
+-- Whether a line of the rank is in its place.
+abbrev pub is_in_place : HeaderSoFar → ℕ → Bool
+is_in_place r k = nat_le r.last k && list_all (has_least r) (range_with_len 0 k) && has_room r k
+
+-- Why a line is refused after these.
+abbrev pub refusal_now : HeaderSoFar → HeaderLine → Option Refusal
+refusal_now r l = first_that ((not (is_in_place r (rank l)), Syntax) ∷ header_tests (header_now r) l)
+
+-- What is kept after one more line.
+abbrev pub so_far_with : HeaderSoFar → HeaderLine → HeaderSoFar
+so_far_with r VersionLine = record r { last = 0; version = true }
+so_far_with r (TimeLine io fire land rho grace) =
+    record r { last = 1; times = Some (record { io = io; fire = fire; land = land; rho = rho }, grace) }
+so_far_with r (HostsLine m) = record r { last = 2; machines = Some m }
+so_far_with r (IdsLine n) = record r { last = 3; hosts = Some n }
+so_far_with r (ClockLine c) = record r { last = 4; clocks = r.clocks ++ c ∷ [] }
+so_far_with r (DiskLine d) = record r { last = 5; disks = r.disks ++ d ∷ [] }
+so_far_with r (AreaLine l) = record r { last = 6; lockspaces = r.lockspaces ++ l ∷ [] }
+so_far_with r (LeaseLine l) = record r { last = 7; resources = r.resources ++ l ∷ [] }
+so_far_with r (MemberLine s) = record r { last = 8; sessions = r.sessions ++ s ∷ [] }
+so_far_with r BeginLine = r
