@@ -1,15 +1,16 @@
 -- What is kept of a header's lines stands for them: their counts, their header, and one more line.
-use Rattle.sl_report.specs.Languages.{least_lines, most_lines, whole_language}
-use Rattle.sl_report.specs.ReadingLines.{header_refusal, is_in_order}
+use Rattle.sl_report.specs.Languages.{is_skipped, least_lines, most_lines, whole_language}
+use Rattle.sl_report.specs.ReadingLines.{header_line_in, header_refusal, is_in_order}
 use Rattle.sl_report.specs.ScheduleLines.{AreaLine, BeginLine, ClockLine, DiskLine, HeaderLine, HostsLine, IdsLine, LeaseLine, MemberLine, TimeLine, VersionLine, area_line, clock_line, count_of_rank, disk_line, header_of, header_tests, hosts_line, ids_line, lease_line, member_line, no_timing, rank, timing_line}
-use Rattle.sl_report.specs.Schedules.{default_area, default_sector}
+use Rattle.sl_report.specs.Schedules.{default_area, default_sector, header_line_refusal, is_begin, with_line}
 use Rattle.sl_run.specs.Worlds.{first_that}
 use Rattle.sl_run.specs.declared.event.Refusal.TheVariants.{Syntax}
-use Rattle.sl_run.specs.declared.header.Header.{Header}
-use Rattle.sl_schedule.specs.Headers.{HeaderSoFar, Stands, count_at, has_least, has_room, header_now, is_in_place, no_lines, refusal_now, so_far_with}
+use Rattle.sl_run.specs.declared.event.Refusal.{Refusal}
+use Rattle.sl_schedule.specs.declared.header.Added.TheVariants.{Begun, More, Refused}
+use Rattle.sl_schedule.specs.Headers.{HeaderSoFar, Stands, answer_after, answer_now, answer_to, count_at, has_least, has_room, header_now, is_in_place, kept_after, lines_after, no_lines, refusal_now, so_far_after, so_far_with}
 use Rattle.sl_words.proofs.WordLaws.{and_true}
-use Rattle.sl_words.specs.Words.{first_of_list}
-use Rattle.std.proofs.Common.{Bool, List, None, Option, Some, [], ap, arith, cond, eqb, false, length, not, refl, suc, sym, true, zero, ℕ, ◌+◌, ◌&&◌, ◌++◌, ◌<◌, ◌∙◌, ◌∷◌, ◌≡◌, ◌≤◌}
+use Rattle.sl_words.specs.Words.{first_of_list, some_is}
+use Rattle.std.proofs.Common.{Bool, List, None, Option, Some, [], ap, arith, cond, eqb, false, length, not, refl, subst, suc, sym, true, zero, ℕ, ◌+◌, ◌&&◌, ◌++◌, ◌<◌, ◌∙◌, ◌∷◌, ◌≡◌, ◌≤◌}
 use Rattle.std.proofs.lemmas.Bool.Decides.{nat_tests}
 use Rattle.std.proofs.lemmas.List.Elements.{filter_map-append}
 use Rattle.std.proofs.lemmas.List.Folds.{list_all-append}
@@ -17,7 +18,7 @@ use Rattle.std.proofs.lemmas.List.Recursion.{is_count_by}
 use Rattle.std.proofs.lemmas.List.Sums.{sum_by-append}
 use Rattle.std.proofs.lemmas.List.{append-nil}
 use Rattle.std.specs.List.{filter_map, list_all, range_with_len}
-use Rattle.std.specs.Option.{option_to_list}
+use Rattle.std.specs.Option.{IsSome, option_to_list}
 use Rattle.std.specs.Prelude.{count_by, if◌then◌else◌, nat_le, nat_lt, unwrap_or, ◌==◌}
 
 -- ---- how many lines of a rank there are
@@ -250,15 +251,11 @@ begins_with : (r : HeaderSoFar) (ls : List HeaderLine) (l : HeaderLine) → Stan
 begins_with r ls BeginLine h not_begin = absurd (not_begin refl)
 begins_with r ls l h not_begin = count_with 9 ls l ∙ same_count (count_of_rank ls 9) _ h.begins
 
-last_with : (r : HeaderSoFar) (l : HeaderLine) → (rank l ≡ 9 → ⊥) → (so_far_with r l).last ≡ rank l
-last_with r BeginLine not_begin = absurd (not_begin refl)
-last_with r l not_begin = refl
-
 pub stands_with : (r : HeaderSoFar) (ls : List HeaderLine) (l : HeaderLine) → Stands r ls → is_in_place r (rank l) ≡ true → (rank l ≡ 9 → ⊥)
     → Stands (so_far_with r l) (ls ++ l ∷ [])
 stands_with r ls l h place not_begin =
     record {
-      order = (λ k. order_with r ls l h (not_before r (rank l) place) k ∙ ap (λ n. nat_le n k) (sym (last_with r l not_begin)));
+      order = (λ k. order_with r ls l h (not_before r (rank l) place) k);
       versions = versions_with r ls l h place;
       timings = timings_with r ls l h place;
       numbers = numbers_with r ls l h place;
@@ -289,3 +286,98 @@ stands_at_first =
       members = refl;
       begins = refl;
     }
+
+-- ---- the answer to a line
+
+-- Where nothing refuses `begin`, times and a number of hosts were given.
+given : {A : Type 0} (o : Option A) → nat_le 1 (length (option_to_list o)) ≡ true → IsSome o
+given None h = absurd cc
+given (Some a) h = refl
+
+holds_from_none : (t : Bool) (why : Refusal) → first_that ((not t, why) ∷ []) ≡ None → t ≡ true
+holds_from_none true why h = refl
+holds_from_none false why h = absurd cc
+
+place_of_begin : (r : HeaderSoFar) → refusal_now r BeginLine ≡ None → is_in_place r 9 ≡ true
+unfolding header_tests
+place_of_begin r none = holds_from_none (is_in_place r 9) Syntax none
+
+pub given_at_begin : (r : HeaderSoFar) (l : HeaderLine) → refusal_now r l ≡ None → is_begin l ≡ true → IsSome r.times × IsSome r.hosts
+given_at_begin r BeginLine none begin =
+    let place : is_in_place r 9 ≡ true = place_of_begin r none in
+    let least : list_all (has_least r) (range_with_len 0 9) ≡ true =
+        (and_true (nat_le r.last 9) (list_all (has_least r) (range_with_len 0 9))
+        (and_true (nat_le r.last 9 && list_all (has_least r) (range_with_len 0 9)) (has_room r 9) place).0).1 in
+    let from_1 : list_all (has_least r) (range_with_len 1 8) ≡ true = (and_true (has_least r 0) (list_all (has_least r) (range_with_len 1 8)) least).1 in
+    let from_2 : list_all (has_least r) (range_with_len 2 7) ≡ true = (and_true (has_least r 1) (list_all (has_least r) (range_with_len 2 7)) from_1).1 in
+    let from_3 : list_all (has_least r) (range_with_len 3 6) ≡ true = (and_true (has_least r 2) (list_all (has_least r) (range_with_len 3 6)) from_2).1 in
+    (given r.times (and_true (has_least r 1) (list_all (has_least r) (range_with_len 2 7)) from_1).0,
+    given r.hosts (and_true (has_least r 3) (list_all (has_least r) (range_with_len 4 5)) from_3).0)
+given_at_begin r l none begin = absurd cc
+
+-- The answer to a line that was read is that of the definitions.
+answered : (r : HeaderSoFar) (ls : List HeaderLine) → Stands r ls → (read : Option HeaderLine)
+    → answer_to r read ≡ elim (header_line_refusal whole_language ls read) [
+      | Some why ↦ Refused why
+      | None ↦ elim (some_is is_begin read) [ true ↦ Begun (header_of default_sector default_area ls) | false ↦ More ]
+    ]
+answered r ls h None = refl
+answered r ls h (Some l) =
+    ap (λ o. elim o [ Some why ↦ Refused why | None ↦ elim (is_begin l) [ true ↦ Begun (header_now r) | false ↦ More ] ]) (sym (refusal_is r ls h l))
+    ∙ ap (λ g. elim (header_refusal whole_language default_sector default_area ls l) [
+      | Some why ↦ Refused why
+      | None ↦ elim (is_begin l) [ true ↦ Begun g | false ↦ More ]
+    ]) (sym (header_is r ls h))
+
+pub answer_is : (r : HeaderSoFar) (ls : List HeaderLine) (line : List ℕ) → Stands r ls → answer_now r line ≡ answer_after ls line
+answer_is r ls line h =
+    ap (λ a. elim (is_skipped line) [ true ↦ More | false ↦ a ]) (answered r ls h (header_line_in whole_language default_area line))
+
+-- What is kept stands for the lines then.
+not_nine : (l : HeaderLine) → is_begin l ≡ false → rank l ≡ 9 → ⊥
+not_nine BeginLine h e = absurd cc
+not_nine VersionLine h e = omega arith
+not_nine (TimeLine io fire land rho grace) h e = omega arith
+not_nine (HostsLine m) h e = omega arith
+not_nine (IdsLine n) h e = omega arith
+not_nine (ClockLine c) h e = omega arith
+not_nine (DiskLine d) h e = omega arith
+not_nine (AreaLine a) h e = omega arith
+not_nine (LeaseLine r) h e = omega arith
+not_nine (MemberLine s) h e = omega arith
+
+in_place : (t : Bool) (tests : List (Bool × Refusal)) → first_that ((not t, Syntax) ∷ tests) ≡ None → t ≡ true
+in_place true tests none = refl
+in_place false tests none = absurd cc
+
+stood_for : (r : HeaderSoFar) (ls : List HeaderLine) (l : HeaderLine) (why : Option Refusal) (begin : Bool) → Stands r ls → refusal_now r l ≡ why → is_begin l ≡ begin
+    → Stands (elim why [ Some w ↦ r | None ↦ elim begin [ true ↦ no_lines | false ↦ so_far_with r l ] ])
+    (elim why [ Some w ↦ ls | None ↦ elim begin [ true ↦ [] | false ↦ with_line ls (Some l) ] ])
+stood_for r ls l (Some w) begin h why is = h
+stood_for r ls l None true h why is = stands_at_first
+stood_for r ls l None false h why is = stands_with r ls l h (in_place (is_in_place r (rank l)) (header_tests (header_now r) l) why) (not_nine l is)
+
+stood_after : (r : HeaderSoFar) (ls : List HeaderLine) → Stands r ls → (read : Option HeaderLine)
+    → Stands (kept_after r read) (elim (header_line_refusal whole_language ls read) [
+      | Some why ↦ ls
+      | None ↦ elim (some_is is_begin read) [ true ↦ [] | false ↦ with_line ls read ]
+    ])
+stood_after r ls h None = h
+stood_after r ls h (Some l) =
+    let kept : HeaderSoFar = kept_after r (Some l) in
+    let P : Option Refusal → Type 0 = λ o. Stands kept (elim o [
+      | Some why ↦ ls
+      | None ↦ elim (is_begin l) [ true ↦ [] | false ↦ with_line ls (Some l) ]
+    ]) in
+    subst P (sym (refusal_is r ls h l)) (stood_for r ls l (refusal_now r l) (is_begin l) h refl refl)
+
+pub stands_after : (r : HeaderSoFar) (ls : List HeaderLine) (line : List ℕ) → Stands r ls → Stands (so_far_after r line) (lines_after ls line)
+stands_after r ls line h =
+    let read : Option HeaderLine = header_line_in whole_language default_area line in
+    elim (is_skipped line) as (λ t. Stands (elim t [ true ↦ r | false ↦ kept_after r read ]) (elim t [
+      | true ↦ ls
+      | false ↦ elim (header_line_refusal whole_language ls read) [
+        | Some why ↦ ls
+        | None ↦ elim (some_is is_begin read) [ true ↦ [] | false ↦ with_line ls read ]
+      ]
+    ])) [ true ↦ h | false ↦ stood_after r ls h read ]

@@ -12,6 +12,8 @@ use Rattle.sl_run.specs.declared.header.Header.{Header}
 use Rattle.sl_run.specs.declared.header.LockspaceLine.{LockspaceLine}
 use Rattle.sl_run.specs.declared.header.ResourceLine.{ResourceLine}
 use Rattle.sl_run.specs.declared.header.SessionLine.{SessionLine}
+use Rattle.sl_schedule.specs.declared.header.Added.TheVariants.{Begun, More, Refused}
+use Rattle.sl_schedule.specs.declared.header.Added.{Added}
 use Rattle.sl_schedule.specs.declared.header_line.Times.{Times}
 use Rattle.sl_time.specs.Times.{IsTiming, TimingNumbers}
 use Rattle.sl_words.specs.Words.{some_is}
@@ -115,16 +117,88 @@ is_in_place r k = nat_le r.last k && list_all (has_least r) (range_with_len 0 k)
 abbrev pub refusal_now : HeaderSoFar → HeaderLine → Option Refusal
 refusal_now r l = first_that ((not (is_in_place r (rank l)), Syntax) ∷ header_tests (header_now r) l)
 
+-- What the lines say, with one more; the line's place apart.
+abbrev pub values_with : HeaderSoFar → HeaderLine → HeaderSoFar
+values_with r VersionLine = record r { version = true }
+values_with r (TimeLine io fire land rho grace) = record r { times = Some (record { io = io; fire = fire; land = land; rho = rho }, grace) }
+values_with r (HostsLine m) = record r { machines = Some m }
+values_with r (IdsLine n) = record r { hosts = Some n }
+values_with r (ClockLine c) = record r { clocks = r.clocks ++ c ∷ [] }
+values_with r (DiskLine d) = record r { disks = r.disks ++ d ∷ [] }
+values_with r (AreaLine l) = record r { lockspaces = r.lockspaces ++ l ∷ [] }
+values_with r (LeaseLine l) = record r { resources = r.resources ++ l ∷ [] }
+values_with r (MemberLine s) = record r { sessions = r.sessions ++ s ∷ [] }
+values_with r BeginLine = r
+
 -- What is kept after one more line.
 abbrev pub so_far_with : HeaderSoFar → HeaderLine → HeaderSoFar
-so_far_with r VersionLine = record r { last = 0; version = true }
-so_far_with r (TimeLine io fire land rho grace) =
-    record r { last = 1; times = Some (record { io = io; fire = fire; land = land; rho = rho }, grace) }
-so_far_with r (HostsLine m) = record r { last = 2; machines = Some m }
-so_far_with r (IdsLine n) = record r { last = 3; hosts = Some n }
-so_far_with r (ClockLine c) = record r { last = 4; clocks = r.clocks ++ c ∷ [] }
-so_far_with r (DiskLine d) = record r { last = 5; disks = r.disks ++ d ∷ [] }
-so_far_with r (AreaLine l) = record r { last = 6; lockspaces = r.lockspaces ++ l ∷ [] }
-so_far_with r (LeaseLine l) = record r { last = 7; resources = r.resources ++ l ∷ [] }
-so_far_with r (MemberLine s) = record r { last = 8; sessions = r.sessions ++ s ∷ [] }
-so_far_with r BeginLine = r
+so_far_with r l = record (values_with r l) { last = rank l }
+
+-- A number of hosts that a run may have.
+abbrev pub IsHosts : ℕ → Type 0
+IsHosts n = (1 ≤ n) × (n ≤ 2000)
+
+-- Times and a number of hosts that a run may have, where the line gives them.
+abbrev pub IsPossible : HeaderLine → Type 0
+IsPossible (TimeLine io fire land rho grace) = IsTiming (record { io = io; fire = fire; land = land; rho = rho })
+IsPossible (IdsLine n) = IsHosts n
+IsPossible l = Unit {0}
+
+-- The number of hosts, where the line gives it.
+abbrev pub HasHosts : HeaderLine → Type 0
+HasHosts (IdsLine n) = IsHosts n
+HasHosts l = Unit {0}
+
+-- ---- one more line, whatever it is
+
+-- The answer to a line that was read.
+abbrev pub answer_to : HeaderSoFar → Option HeaderLine → Added
+answer_to r None = Refused Syntax
+answer_to r (Some l) =
+    elim (refusal_now r l) [
+      | Some why ↦ Refused why
+      | None ↦ elim (is_begin l) [ true ↦ Begun (header_now r) | false ↦ More ]
+    ]
+
+-- What is kept then: after `begin` another header may begin.
+abbrev pub kept_after : HeaderSoFar → Option HeaderLine → HeaderSoFar
+kept_after r None = r
+kept_after r (Some l) =
+    elim (refusal_now r l) [
+      | Some why ↦ r
+      | None ↦ elim (is_begin l) [ true ↦ no_lines | false ↦ so_far_with r l ]
+    ]
+
+-- The answer to a line.
+abbrev pub answer_now : HeaderSoFar → List ℕ → Added
+answer_now r line = elim (is_skipped line) [ true ↦ More | false ↦ answer_to r (header_line_in whole_language default_area line) ]
+
+-- What is kept then.
+abbrev pub so_far_after : HeaderSoFar → List ℕ → HeaderSoFar
+so_far_after r line = elim (is_skipped line) [ true ↦ r | false ↦ kept_after r (header_line_in whole_language default_area line) ]
+
+-- The answer to a line after these, by the definitions of headers.
+abbrev pub answer_after : List HeaderLine → List ℕ → Added
+answer_after ls line =
+    elim (is_skipped line) [
+      | true ↦ More
+      | false ↦
+          let read : Option HeaderLine = header_line_in whole_language default_area line in
+          elim (header_line_refusal whole_language ls read) [
+            | Some why ↦ Refused why
+            | None ↦ elim (some_is is_begin read) [ true ↦ Begun (header_of default_sector default_area ls) | false ↦ More ]
+          ]
+    ]
+
+-- The lines of the header then; none behind `begin`.
+abbrev pub lines_after : List HeaderLine → List ℕ → List HeaderLine
+lines_after ls line =
+    elim (is_skipped line) [
+      | true ↦ ls
+      | false ↦
+          let read : Option HeaderLine = header_line_in whole_language default_area line in
+          elim (header_line_refusal whole_language ls read) [
+            | Some why ↦ ls
+            | None ↦ elim (some_is is_begin read) [ true ↦ [] | false ↦ with_line ls read ]
+          ]
+    ]

@@ -2,11 +2,13 @@
 #![tactic(auto)]
 
 mod events;
+mod header;
 mod header_line;
 pub mod lines;
 mod parts;
 pub mod writing;
 
 pub use events::next_event;
+pub use header::{Added, HeaderReader};
 pub use lines::{Line, Lines, line_refusal};
 pub use writing::{Counts, push_end_line, push_refusal_line, push_test_line};
