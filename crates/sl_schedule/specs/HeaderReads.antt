@@ -2,7 +2,7 @@
 use Rattle.sl_report.specs.ScheduleLines as lines
 use Rattle.sl_schedule.specs.declared.header_line.HeaderLine.TheVariants.{Begin, Clock, Disk, Hosts, Lockspace, Machines, Resource, Session, Times, Version}
 use Rattle.sl_schedule.specs.declared.header_line.HeaderLine.{HeaderLine}
-use Rattle.std.specs.Prelude.{Err, Ok, Result, ℕ}
+use Rattle.std.specs.Prelude.{Err, Ok, Result, ℕ, ◌≤◌}
 
 -- The line that it stands for.
 abbrev pub header_seen : HeaderLine → lines.HeaderLine
@@ -21,3 +21,12 @@ header_seen Begin = lines.BeginLine
 abbrev pub result_seen : Result HeaderLine ℕ → Result lines.HeaderLine ℕ
 result_seen (Ok l) = Ok (header_seen l)
 result_seen (Err column) = Err column
+
+-- A number of hosts that a run may have.
+abbrev pub IsHosts : ℕ → Type 0
+IsHosts n = (1 ≤ n) × (n ≤ 2000)
+
+-- The number of hosts, where the line gives it.
+abbrev pub HasHosts : lines.HeaderLine → Type 0
+HasHosts (lines.IdsLine n) = IsHosts n
+HasHosts l = Unit {0}

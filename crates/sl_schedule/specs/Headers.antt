@@ -12,6 +12,7 @@ use Rattle.sl_run.specs.declared.header.Header.{Header}
 use Rattle.sl_run.specs.declared.header.LockspaceLine.{LockspaceLine}
 use Rattle.sl_run.specs.declared.header.ResourceLine.{ResourceLine}
 use Rattle.sl_run.specs.declared.header.SessionLine.{SessionLine}
+use Rattle.sl_schedule.specs.HeaderReads.{IsHosts}
 use Rattle.sl_schedule.specs.declared.header.Added.TheVariants.{Begun, More, Refused}
 use Rattle.sl_schedule.specs.declared.header.Added.{Added}
 use Rattle.sl_schedule.specs.declared.header_line.Times.{Times}
@@ -57,7 +58,7 @@ times_seen t = (record { io = t.io; fire = t.fire; land = t.land; rho = t.rho },
 -- Times that a run may have, and a number of hosts.
 pub record ArePossible (times : Option (TimingNumbers × ℕ)) (hosts : Option ℕ) : Type 0 where
   pub timing : IfSome times (λ t. IsTiming t.0)
-  pub number : IfSome hosts (λ n. (1 ≤ n) × (n ≤ 2000))
+  pub number : IfSome hosts IsHosts
 
 -- What is kept stands for these lines.
 pub record Stands (r : HeaderSoFar) (ls : List HeaderLine) : Type 0 where
@@ -134,20 +135,11 @@ values_with r BeginLine = r
 abbrev pub so_far_with : HeaderSoFar → HeaderLine → HeaderSoFar
 so_far_with r l = record (values_with r l) { last = rank l }
 
--- A number of hosts that a run may have.
-abbrev pub IsHosts : ℕ → Type 0
-IsHosts n = (1 ≤ n) × (n ≤ 2000)
-
 -- Times and a number of hosts that a run may have, where the line gives them.
 abbrev pub IsPossible : HeaderLine → Type 0
 IsPossible (TimeLine io fire land rho grace) = IsTiming (record { io = io; fire = fire; land = land; rho = rho })
 IsPossible (IdsLine n) = IsHosts n
 IsPossible l = Unit {0}
-
--- The number of hosts, where the line gives it.
-abbrev pub HasHosts : HeaderLine → Type 0
-HasHosts (IdsLine n) = IsHosts n
-HasHosts l = Unit {0}
 
 -- ---- one more line, whatever it is
 
@@ -202,3 +194,8 @@ lines_after ls line =
             | None ↦ elim (some_is is_begin read) [ true ↦ [] | false ↦ with_line ls read ]
           ]
     ]
+
+-- The line is refused.
+abbrev pub IsRefused : Added → Type 0
+IsRefused (Refused why) = Unit {0}
+IsRefused a = ⊥

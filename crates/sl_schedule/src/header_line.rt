@@ -4,11 +4,11 @@ ghost use Rattle.sl_report.specs.Languages.{whole_language};
 ghost use Rattle.sl_report.specs.ReadingLines.{header_line_in};
 ghost use Rattle.sl_report.specs.ScheduleLines as lines;
 ghost use Rattle.sl_report.specs.Schedules.{default_area};
-ghost use Rattle.sl_schedule.specs.HeaderReads.{header_seen, result_seen};
+ghost use Rattle.sl_schedule.specs.HeaderReads.{header_seen, result_seen, HasHosts};
 ghost use Rattle.sl_schedule.specs.Reads as reads;
 ghost use Rattle.sl_text.specs.Walks.{five_read, four_read, read_each};
 ghost use Rattle.std.specs.Option.{option_map};
-ghost use Rattle.std.specs.Prelude.{codes, [], ◌≡◌};
+ghost use Rattle.std.specs.Prelude.{codes, [], IfOk, IfSome, ◌≡◌};
 
 use crate::parts::{is_verb, next_multiple, next_reading, next_within};
 use sl_run::{Disk, FirstReading, LockspaceLine, ResourceLine, SessionLine};
@@ -44,7 +44,8 @@ pub enum HeaderLine {
 
 /// `sanlock 1`.
 fn read_version(words: &mut Words) -> Result<HeaderLine, usize>
-    ensures { result_seen result ≡ reads.one_read (reads.text_part (codes "1")) (λ _. lines.VersionLine) words.old }
+    ensures hosts { IfOk result (λ l. HasHosts (header_seen l)) }
+    ensures exact { result_seen result ≡ reads.one_read (reads.text_part (codes "1")) (λ _. lines.VersionLine) words.old }
 {
     words.expect(b"1")?;
     words.finish()?;
@@ -53,7 +54,8 @@ fn read_version(words: &mut Words) -> Result<HeaderLine, usize>
 
 /// `time IO FIRE LAND RHO GRACE`.
 fn read_times(words: &mut Words) -> Result<HeaderLine, usize>
-    ensures { result_seen result
+    ensures hosts { IfOk result (λ l. HasHosts (header_seen l)) }
+    ensures exact { result_seen result
         ≡ five_read reads.number_part reads.number_part reads.number_part reads.number_part reads.number_part lines.TimeLine words.old }
 {
     let io = words.number()?;
@@ -73,7 +75,8 @@ fn read_times(words: &mut Words) -> Result<HeaderLine, usize>
 
 /// `hosts M`: the number of machines.
 fn read_machines(words: &mut Words) -> Result<HeaderLine, usize>
-    ensures { result_seen result ≡ reads.one_read (reads.within_part 1 16) lines.HostsLine words.old }
+    ensures hosts { IfOk result (λ l. HasHosts (header_seen l)) }
+    ensures exact { result_seen result ≡ reads.one_read (reads.within_part 1 16) lines.HostsLine words.old }
 {
     let machines = next_within(words, 1, 16)?;
     words.finish()?;
@@ -82,7 +85,8 @@ fn read_machines(words: &mut Words) -> Result<HeaderLine, usize>
 
 /// `ids N`: the number of host ids.
 fn read_hosts(words: &mut Words) -> Result<HeaderLine, usize>
-    ensures { result_seen result ≡ reads.one_read (reads.within_part 1 2000) lines.IdsLine words.old }
+    ensures hosts { IfOk result (λ l. HasHosts (header_seen l)) }
+    ensures exact { result_seen result ≡ reads.one_read (reads.within_part 1 2000) lines.IdsLine words.old }
 {
     let hosts = next_within(words, 1, 2000)?;
     words.finish()?;
@@ -91,7 +95,8 @@ fn read_hosts(words: &mut Words) -> Result<HeaderLine, usize>
 
 /// `clock M READING`.
 fn read_clock(words: &mut Words) -> Result<HeaderLine, usize>
-    ensures { result_seen result
+    ensures hosts { IfOk result (λ l. HasHosts (header_seen l)) }
+    ensures exact { result_seen result
         ≡ reads.two_read reads.machine_part reads.reading_part (λ m r. lines.ClockLine (record { machine = m; reading = r })) words.old }
 {
     let machine = words.positive_short_number()?;
@@ -102,7 +107,8 @@ fn read_clock(words: &mut Words) -> Result<HeaderLine, usize>
 
 /// `disk PATH MEBIBYTES`.
 fn read_disk(words: &mut Words) -> Result<HeaderLine, usize>
-    ensures { result_seen result
+    ensures hosts { IfOk result (λ l. HasHosts (header_seen l)) }
+    ensures exact { result_seen result
         ≡ reads.two_read reads.path_part (reads.within_part 1 64) (λ p m. lines.DiskLine (record { path = p; mebibytes = m })) words.old }
 {
     let path = words.path()?;
@@ -113,7 +119,8 @@ fn read_disk(words: &mut Words) -> Result<HeaderLine, usize>
 
 /// `lockspace NAME PATH OFFSET`.
 fn read_lockspace(words: &mut Words) -> Result<HeaderLine, usize>
-    ensures { result_seen result
+    ensures hosts { IfOk result (λ l. HasHosts (header_seen l)) }
+    ensures exact { result_seen result
         ≡ reads.three_read reads.name_part reads.path_part (reads.multiple_part default_area)
         (λ n p o. lines.AreaLine (record { name = n; path = p; offset = o })) words.old }
 {
@@ -130,7 +137,8 @@ fn read_lockspace(words: &mut Words) -> Result<HeaderLine, usize>
 
 /// `resource LOCKSPACE NAME PATH OFFSET`.
 fn read_resource(words: &mut Words) -> Result<HeaderLine, usize>
-    ensures { result_seen result
+    ensures hosts { IfOk result (λ l. HasHosts (header_seen l)) }
+    ensures exact { result_seen result
         ≡ four_read reads.name_part reads.name_part reads.path_part (reads.multiple_part default_area)
         (λ l n p o. lines.LeaseLine (record { lockspace = l; name = n; path = p; offset = o })) words.old }
 {
@@ -149,7 +157,8 @@ fn read_resource(words: &mut Words) -> Result<HeaderLine, usize>
 
 /// `session M LOCKSPACE ID NAME`.
 fn read_session(words: &mut Words) -> Result<HeaderLine, usize>
-    ensures { result_seen result
+    ensures hosts { IfOk result (λ l. HasHosts (header_seen l)) }
+    ensures exact { result_seen result
         ≡ four_read reads.machine_part reads.name_part (reads.within_part 1 2000) reads.name_part
         (λ m l i n. lines.MemberLine (record { machine = m; lockspace = l; id = i; name = n })) words.old }
 {
@@ -168,15 +177,18 @@ fn read_session(words: &mut Words) -> Result<HeaderLine, usize>
 
 /// `begin`.
 fn read_begin(words: &mut Words) -> Result<HeaderLine, usize>
-    ensures { result_seen result ≡ read_each [] (λ _. lines.BeginLine) words.old }
+    ensures hosts { IfOk result (λ l. HasHosts (header_seen l)) }
+    ensures exact { result_seen result ≡ read_each [] (λ _. lines.BeginLine) words.old }
 {
     words.finish()?;
     Ok(HeaderLine::Begin)
 }
 
 /// The header line that a line spells, if it spells one.
+#[tactic(auto, using(crate::proofs::HeaderReadLaws::ok_is_some))]
 pub fn header_line(line: &[u8]) -> Option<HeaderLine>
-    ensures { option_map header_seen result ≡ header_line_in whole_language default_area line.now }
+    ensures hosts { IfSome result (λ l. HasHosts (header_seen l)) }
+    ensures exact { option_map header_seen result ≡ header_line_in whole_language default_area line.now }
 {
     let mut words = Words::new(line);
     let verb = words.next_piece()?;

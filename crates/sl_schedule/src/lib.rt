@@ -4,6 +4,7 @@
 mod events;
 mod header;
 mod header_line;
+mod header_tests;
 pub mod lines;
 mod parts;
 pub mod writing;

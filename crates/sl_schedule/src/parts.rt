@@ -7,7 +7,7 @@ ghost use Rattle.sl_text.specs.Forms.{exactly};
 ghost use Rattle.sl_text.specs.Numbers.{capped_long, is_number_that};
 ghost use Rattle.sl_text.specs.Walks.{left_after, next_part};
 ghost use Rattle.sl_words.specs.Words.{choose};
-ghost use Rattle.std.specs.Prelude.{bytes_eq, codes, nat_le, ◌%◌, ◌<◌, ◌==◌, ◌≡◌};
+ghost use Rattle.std.specs.Prelude.{bytes_eq, codes, nat_le, IfOk, ◌%◌, ◌<◌, ◌==◌, ◌≡◌, ◌≤◌};
 
 use sl_text::number::{is_multiple, read_number, read_number_within};
 use sl_text::words::Words;
@@ -38,6 +38,7 @@ pub fn next_process(words: &mut Words) -> Result<u32, usize>
 pub fn next_within(words: &mut Words, low: u32, high: u32) -> Result<u32, usize>
     ensures exact { result ≡ next_part (reads.within_part low high) words.old }
     ensures left { words.new ≡ left_after result words.old }
+    ensures within { IfOk result (λ n. (low ≤ n) × (n ≤ high)) }
 {
     let number = words.number_within(u64::from(low), u64::from(high))?;
     Ok(number as u32)
