@@ -4,3 +4,4 @@ pub mod ReadLaws
 pub mod EventLaws
 pub mod HeaderReadLaws
 pub mod HeaderLaws
+pub mod ScheduleLaws

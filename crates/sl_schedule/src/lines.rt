@@ -8,7 +8,7 @@ ghost use Rattle.sl_report.specs.Schedules as schedules;
 ghost use Rattle.sl_schedule.specs.Lines.{line_seen};
 ghost use Rattle.sl_words.specs.Words.{first_of_list};
 ghost use Rattle.std.specs.Option.{option_map};
-ghost use Rattle.std.specs.Prelude.{drop, length, min, nat_lt, List, ℕ, ◌+◌, ◌≡◌};
+ghost use Rattle.std.specs.Prelude.{drop, length, min, nat_lt, IfSome, List, ℕ, ◌+◌, ◌^◌, ◌≡◌, ◌≤◌};
 
 use sl_run::Refusal;
 use sl_text::line::split_line;
@@ -104,6 +104,7 @@ impl<'a> Lines<'a> {
     pub fn next_line(&mut self) -> Option<Line<'a>>
         ensures line { option_map line_seen result ≡ first_of_list self.old }
         ensures left { self.new ≡ drop 1 self.old }
+        ensures bound { IfSome result (λ line. line.number ≤ 2 ^ 63) }
     {
         let (text, rest) = split_line(self.rest)?;
         let end = self.start + text.len() as u64 + 1;
