@@ -207,7 +207,7 @@ pub command_made : (machines sector : ℕ) (line : List ℕ) → next_passes (ex
 command_made machines sector line verb =
     let fs : List (Form Event) = event_forms machines sector in
     let none : made_by fs (words_of line) ≡ None = made_as_read fs line
-        ∙ ap result_ok (read_by-verbs fs [] (unread 32 line) (codes "command") verb (none_behind_command machines sector)) in
+    ∙ ap result_ok (read_by-verbs fs [] (unread 32 line) (codes "command") verb (none_behind_command machines sector)) in
     ap command_event (sym (first_word (codes "command") (words_of line) verb)) ∙ or_none (command_event (words_of line))
     ∙ ap (λ o. option_or (command_event (words_of line)) (checked_event sector o)) (sym none)
 

@@ -129,7 +129,7 @@ same_on_range p q (suc n) a h =
 in_order : (r : HeaderSoFar) (ls : List HeaderLine) → Stands r ls → (k : ℕ) → k < 10 → is_in_order whole_language ls k ≡ is_in_place r k
 in_order r ls h k small =
     let least : list_all (λ j. nat_le (least_lines j) (count_of_rank ls j)) (range_with_len 0 k) ≡ list_all (has_least r) (range_with_len 0 k) =
-        same_on_range (λ j. nat_le (least_lines j) (count_of_rank ls j)) (has_least r) k 0 (λ j lt. ap (nat_le (least_lines j)) (counts r ls h j (omega arith))) in
+    same_on_range (λ j. nat_le (least_lines j) (count_of_rank ls j)) (has_least r) k 0 (λ j lt. ap (nat_le (least_lines j)) (counts r ls h j (omega arith))) in
     ap (λ t. t && list_all (λ j. nat_le (least_lines j) (count_of_rank ls j)) (range_with_len 0 k) && elim (most_lines k) [ None ↦ true | Some n ↦ nat_lt (count_of_rank ls k) n ]) (h.order k)
     ∙ ap (λ t. nat_le r.last k && t && elim (most_lines k) [ None ↦ true | Some n ↦ nat_lt (count_of_rank ls k) n ]) least
     ∙ ap (λ c. nat_le r.last k && list_all (has_least r) (range_with_len 0 k) && elim (most_lines k) [ None ↦ true | Some n ↦ nat_lt c n ]) (counts r ls h k small)
@@ -306,13 +306,14 @@ pub given_at_begin : (r : HeaderSoFar) (l : HeaderLine) → refusal_now r l ≡ 
 given_at_begin r BeginLine none begin =
     let place : is_in_place r 9 ≡ true = place_of_begin r none in
     let least : list_all (has_least r) (range_with_len 0 9) ≡ true =
-        (and_true (nat_le r.last 9) (list_all (has_least r) (range_with_len 0 9))
-        (and_true (nat_le r.last 9 && list_all (has_least r) (range_with_len 0 9)) (has_room r 9) place).0).1 in
+    (and_true (nat_le r.last 9) (list_all (has_least r) (range_with_len 0 9))
+    (and_true (nat_le r.last 9 && list_all (has_least r) (range_with_len 0 9)) (has_room r 9) place).0).1 in
     let from_1 : list_all (has_least r) (range_with_len 1 8) ≡ true = (and_true (has_least r 0) (list_all (has_least r) (range_with_len 1 8)) least).1 in
     let from_2 : list_all (has_least r) (range_with_len 2 7) ≡ true = (and_true (has_least r 1) (list_all (has_least r) (range_with_len 2 7)) from_1).1 in
-    let from_3 : list_all (has_least r) (range_with_len 3 6) ≡ true = (and_true (has_least r 2) (list_all (has_least r) (range_with_len 3 6)) from_2).1 in
-    (given r.times (and_true (has_least r 1) (list_all (has_least r) (range_with_len 2 7)) from_1).0,
-    given r.hosts (and_true (has_least r 3) (list_all (has_least r) (range_with_len 4 5)) from_3).0)
+    let from_3 : list_all (has_least r) (range_with_len 3 6) ≡ true = (and_true (has_least r 2) (list_all (has_least r) (range_with_len 3 6)) from_2).1 in (
+      given r.times (and_true (has_least r 1) (list_all (has_least r) (range_with_len 2 7)) from_1).0,
+      given r.hosts (and_true (has_least r 3) (list_all (has_least r) (range_with_len 4 5)) from_3).0,
+    )
 given_at_begin r l none begin = absurd cc
 
 -- The answer to a line that was read is that of the definitions.

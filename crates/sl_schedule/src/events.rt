@@ -101,11 +101,7 @@ fn read_land(words: &mut Words) -> Result<Event, usize>
 }
 
 /// Reads the bytes that a torn write leaves behind those of its own, if its line has them.
-fn read_bytes(
-    alloc: Global,
-    sector: u32,
-    words: &mut Words,
-) -> Result<Option<Bytes>, AllocError>
+fn read_bytes(alloc: Global, sector: u32, words: &mut Words) -> Result<Option<Bytes>, AllocError>
     ensures { IfOk result (λ bytes. bytes ≡ forms.bytes_in sector words.old.words) }
 {
     let Some(word) = words.next_piece() else {

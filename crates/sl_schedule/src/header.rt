@@ -67,8 +67,16 @@ impl Model for HeaderReader {
     ghost Value = { HeaderSoFar };
 
     ghost view = { λ r. record {
-        last = r.last; version = r.version; times = option_map times_seen r.times; machines = r.machines; hosts = r.hosts;
-        clocks = r.clocks.items; disks = r.disks.items; lockspaces = r.lockspaces.items; resources = r.resources.items; sessions = r.sessions.items
+      last = r.last;
+      version = r.version;
+      times = option_map times_seen r.times;
+      machines = r.machines;
+      hosts = r.hosts;
+      clocks = r.clocks.items;
+      disks = r.disks.items;
+      lockspaces = r.lockspaces.items;
+      resources = r.resources.items;
+      sessions = r.sessions.items;
     } };
 
     ghost invariant = { λ r. ArePossible (option_map times_seen r.times) r.hosts };

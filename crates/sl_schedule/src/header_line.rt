@@ -128,11 +128,7 @@ fn read_lockspace(words: &mut Words) -> Result<HeaderLine, usize>
     let path = words.path()?;
     let offset = next_multiple(words, AREA)?;
     words.finish()?;
-    Ok(HeaderLine::Lockspace(LockspaceLine {
-        name,
-        path,
-        offset,
-    }))
+    Ok(HeaderLine::Lockspace(LockspaceLine { name, path, offset }))
 }
 
 /// `resource LOCKSPACE NAME PATH OFFSET`.

@@ -4,7 +4,7 @@ ghost use Rattle.sl_report.specs.Languages.{whole_language};
 ghost use Rattle.sl_report.specs.Schedules as schedules;
 ghost use Rattle.sl_schedule.specs.Lines.{header_reading, line_seen};
 ghost use Rattle.std.specs.Option.{option_to_list};
-ghost use Rattle.std.specs.Prelude.{IfOk, [], ◌++◌, ◌≡◌};
+ghost use Rattle.std.specs.Prelude.{IfNone, IfOk, [], ◌++◌, ◌≡◌};
 
 use crate::events::next_event;
 use crate::header::{Added, HeaderReader, is_skipped};
@@ -40,8 +40,9 @@ pub fn next_event_line(
     header: &Header,
     lines: &mut Lines,
 ) -> Result<Option<EventLine>, AllocError>
-    ensures { IfOk result (λ event. schedules.event_lines_of whole_language header.now lines.old
+    ensures event { IfOk result (λ event. schedules.event_lines_of whole_language header.now lines.old
         ≡ option_to_list event ++ schedules.event_lines_of whole_language header.now lines.new) }
+    ensures ended { IfOk result (λ event. IfNone event (lines.new ≡ [])) }
 {
     while let Some(line) = lines.next_line() {
         let event = event_line(alloc, header, &line)?;

@@ -109,11 +109,7 @@ fn append_refusal(out: &mut Vec<u8>, number: u64, text: &[u8]) -> Result<(), All
 }
 
 /// Writes the line of a refusal of the line with this number. After an `Err`, which is want of memory, the text is as it was.
-pub fn push_refusal_line(
-    out: &mut Vec<u8>,
-    number: u64,
-    refusal: Refusal,
-) -> Result<(), AllocError>
+pub fn push_refusal_line(out: &mut Vec<u8>, number: u64, refusal: Refusal) -> Result<(), AllocError>
     ensures ok { OnOk result (out.new.items ≡ out.old.items ++ as_bytes (refusal_line number refusal ∷ [])) }
     ensures err { OnErr result (out.new.items ≡ out.old.items) }
 {
