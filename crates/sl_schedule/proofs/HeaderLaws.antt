@@ -10,7 +10,7 @@ use Rattle.sl_schedule.specs.declared.header.Added.TheVariants.{Begun, More, Ref
 use Rattle.sl_schedule.specs.Headers.{HeaderSoFar, Stands, answer_after, answer_now, answer_to, count_at, has_least, has_room, header_now, is_in_place, kept_after, lines_after, no_lines, refusal_now, so_far_after, so_far_with}
 use Rattle.sl_words.proofs.WordLaws.{and_true}
 use Rattle.sl_words.specs.Words.{first_of_list, some_is}
-use Rattle.std.proofs.Common.{Bool, List, None, Option, Some, [], ap, arith, cond, eqb, false, length, not, refl, subst, suc, sym, true, zero, ℕ, ◌+◌, ◌&&◌, ◌++◌, ◌<◌, ◌∙◌, ◌∷◌, ◌≡◌, ◌≤◌}
+use Rattle.std.proofs.Common.{Bool, List, None, Option, Some, [], ap, arith, cond, false, length, not, refl, subst, suc, sym, true, zero, ℕ, ◌+◌, ◌&&◌, ◌++◌, ◌<◌, ◌∙◌, ◌∷◌, ◌≡◌}
 use Rattle.std.proofs.lemmas.Bool.Decides.{nat_tests}
 use Rattle.std.proofs.lemmas.List.Elements.{filter_map-append}
 use Rattle.std.proofs.lemmas.List.Folds.{list_all-append}
@@ -19,7 +19,7 @@ use Rattle.std.proofs.lemmas.List.Sums.{sum_by-append}
 use Rattle.std.proofs.lemmas.List.{append-nil}
 use Rattle.std.specs.List.{filter_map, list_all, range_with_len}
 use Rattle.std.specs.Option.{IsSome, option_to_list}
-use Rattle.std.specs.Prelude.{count_by, if◌then◌else◌, nat_le, nat_lt, unwrap_or, ◌==◌}
+use Rattle.std.specs.Prelude.{if◌then◌else◌, nat_le, nat_lt, unwrap_or, ◌==◌}
 
 -- ---- how many lines of a rank there are
 

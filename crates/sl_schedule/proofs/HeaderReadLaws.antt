@@ -1,5 +1,4 @@
 -- A header line that was read, as the definitions see it.
-use Rattle.sl_report.specs.ScheduleLines as lines
 use Rattle.sl_schedule.specs.HeaderReads.{header_seen, result_seen}
 use Rattle.sl_schedule.specs.declared.header_line.HeaderLine.{HeaderLine}
 use Rattle.std.proofs.Common.{Err, Ok, Option, Result, refl, subst, sym, ℕ, ◌≡◌}

@@ -2,7 +2,7 @@
 use Rattle.sl_report.specs.Reports.{Counts, end_line}
 use Rattle.sl_schedule.specs.Writing.{count_text}
 use Rattle.sl_text.specs.Forms.{as_bytes, spaced}
-use Rattle.std.proofs.Common.{List, [], ap, codes, refl, sym, ℕ, ◌++◌, ◌∙◌, ◌∷◌, ◌≡◌}
+use Rattle.std.proofs.Common.{List, [], ap, codes, sym, ℕ, ◌++◌, ◌∙◌, ◌∷◌, ◌≡◌}
 use Rattle.std.proofs.lemmas.List.{append-nil, append_assoc}
 use Rattle.std.specs.Prelude.{decimal}
 

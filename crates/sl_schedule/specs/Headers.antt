@@ -20,7 +20,7 @@ use Rattle.sl_time.specs.Times.{IsTiming, TimingNumbers}
 use Rattle.sl_words.specs.Words.{some_is}
 use Rattle.std.specs.List.{list_all, range_with_len}
 use Rattle.std.specs.Option.{IfSome, option_to_list}
-use Rattle.std.specs.Prelude.{Bool, List, None, Option, Some, false, filter_map, if◌then◌else◌, is_some, length, nat_le, nat_lt, not, true, unwrap_or, [], ℕ, ◌&&◌, ◌++◌, ◌==◌, ◌∷◌, ◌≡◌, ◌≤◌}
+use Rattle.std.specs.Prelude.{Bool, List, None, Option, Some, false, filter_map, if◌then◌else◌, length, nat_le, nat_lt, not, true, unwrap_or, [], ℕ, ◌&&◌, ◌++◌, ◌==◌, ◌∷◌, ◌≡◌}
 
 -- What is kept of the lines so far: the greatest rank, and what each kind of line said.
 pub record HeaderSoFar : Type 0 where

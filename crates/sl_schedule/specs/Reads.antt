@@ -2,14 +2,12 @@
 use Rattle.sl_report.specs.ScheduleLines.{is_ok_word, is_positive_word}
 use Rattle.sl_text.specs.Forms.{exactly}
 use Rattle.sl_text.specs.Names.{is_name, is_path}
-use Rattle.sl_text.specs.Numbers.{capped_long, capped_short, hex_bytes, is_hex_word, is_number_text, is_number_that, number_of}
+use Rattle.sl_text.specs.Numbers.{capped_long, capped_short, is_number_text, is_number_that, number_of}
 use Rattle.sl_text.specs.Walks.{Part, Unread, at_end, next_part, past_word}
 use Rattle.sl_trace.specs.Commands.{is_process_word}
 use Rattle.sl_words.specs.Results.{◌>>=◌}
-use Rattle.sl_words.specs.Words.{choose}
 use Rattle.std.specs.Int.{is_in_range}
-use Rattle.std.specs.List.{list_all}
-use Rattle.std.specs.Prelude.{Bool, List, None, Ok, Option, Result, Some, bytes_eq, codes, length, map, nat_le, nat_lt, [], ℕ, ◌%◌, ◌&&◌, ◌*◌, ◌==◌, ◌^◌, ◌∷◌}
+use Rattle.std.specs.Prelude.{Bool, List, Ok, Result, bytes_eq, codes, nat_le, nat_lt, ℕ, ◌%◌, ◌==◌, ◌^◌}
 
 -- The number of a machine.
 abbrev pub machine_part : Part ℕ

@@ -1,14 +1,12 @@
 use Rattle.sl_report.specs.ScheduleLines.{event_forms}
-use Rattle.sl_run.specs.declared.event.Event.TheVariants.{AnswerCall, Crash, Do, DropWrite, ExitOf, Land, Pass, Reset, Restart, Sample, SpawnedOf, StartDaemon, Tear, Test, WakeUp}
-use Rattle.sl_schedule.proofs.EventLaws.{pass_made, tear_made}
+use Rattle.sl_run.specs.declared.event.Event.TheVariants.{Crash, ExitOf, Reset, Restart, SpawnedOf, StartDaemon, Test}
 use Rattle.sl_schedule.proofs.ReadLaws.{made_of_none, made_of_one, made_of_three, made_of_two, no_words}
 use Rattle.sl_schedule.proofs.events.read_late.Goals as goal
-use Rattle.sl_schedule.specs.EventReads.{early_forms, late_forms}
-use Rattle.sl_schedule.specs.Reads.{machine_part, name_part, number_part, ok_part, positive_part, process_part}
+use Rattle.sl_schedule.specs.EventReads.{late_forms}
+use Rattle.sl_schedule.specs.Reads.{machine_part, name_part, ok_part, process_part}
 use Rattle.sl_text.specs.Walks.{Unread, past_word}
 use Rattle.sl_words.specs.Words.{first_of_list}
 use Rattle.std.proofs.Common.{ap, codes, refl, sym, ◌∙◌}
-use Rattle.std.proofs.lemmas.Result.{IfOk-weaker}
 
 pub returns-in_err-verb : goal.returns-in_err-verb
 returns-in_err-verb c = absurd (no_words c.args.line.now (c.in_err-verb.ensures.word ∙ ap (λ (u : Unread). first_of_list u.words) c.new-words.ensures))
