@@ -99,6 +99,18 @@ impl<'a> Lines<'a> {
         }
     }
 
+    /// The same lines, to be passed apart from these.
+    pub fn copied(&self) -> Lines<'a>
+        ensures { result ≡ self.now }
+    {
+        Lines {
+            rest: self.rest,
+            total: self.total,
+            start: self.start,
+            number: self.number,
+        }
+    }
+
     /// The next line, if one is left.
     #[tactic(auto, using(crate::proofs::LineLaws::first_line_fits))]
     pub fn next_line(&mut self) -> Option<Line<'a>>

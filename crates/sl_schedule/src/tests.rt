@@ -202,17 +202,25 @@ fn header_text(alloc: Global, source: &[u8]) -> Result<String, AllocError> {
     }
 }
 
+/// A header up to its disk.
+const FIRST_LINES: &str = "sanlock 1\ntime 1 0 0 0 0\nhosts 2\nids 2\ndisk /d 2\n";
+
 #[test]
 fn headers(rt: HostRuntime) -> Result<(), Fail> {
+    let small = "sanlock 1\ntime 100 600 100 0 300\nhosts 1\nids 2\ndisk /d 4\n\
+        lockspace ls /d 0\nresource ls r /d 1048576\nsession 1 ls 1 a\nbegin\nwake 1";
+    let told = header_text(rt.alloc(), small.as_bytes())?;
+    assert_eq!(rt; told.as_str(), "100 300 1 2 1 1 10");
+    let other = "# no session\nsanlock 1\n\ntime 1 0 0 100 0\nhosts 2\nids 3\nclock 2 5\n\
+        disk /d 1\ndisk /e 1\nlockspace ls /d 0\nbegin";
+    let told = header_text(rt.alloc(), other.as_bytes())?;
+    assert_eq!(rt; told.as_str(), "1 0 2 3 2 0 0");
+    Ok(())
+}
+
+#[test]
+fn refused_headers(rt: HostRuntime) -> Result<(), Fail> {
     for (source, text) in [
-        (
-            "sanlock 1\ntime 100 600 100 0 300\nhosts 1\nids 2\ndisk /d 4\nlockspace ls /d 0\nresource ls r /d 1048576\nsession 1 ls 1 a\nbegin\nwake 1",
-            "100 300 1 2 1 1 10",
-        ),
-        (
-            "# small\nsanlock 1\n\ntime 1 0 0 100 0\nhosts 2\nids 3\nclock 2 5\ndisk /d 1\ndisk /e 1\nlockspace ls /d 0\nbegin",
-            "1 0 2 3 2 0 0",
-        ),
         ("", "line 1 syntax\n"),
         ("sanlock 1\n", "line 2 syntax\n"),
         ("sanlock 2\n", "line 1 syntax\n"),
@@ -223,37 +231,57 @@ fn headers(rt: HostRuntime) -> Result<(), Fail> {
         ("sanlock 1\ntime 1 0 600001 0 0\n", "line 2 limit land\n"),
         ("sanlock 1\ntime 1 0 0 101 0\n", "line 2 limit rho\n"),
         ("sanlock 1\ntime 1 0 0 0 600001\n", "line 2 limit grace\n"),
-        (
-            "sanlock 1\ntime 1 0 0 0 0\nhosts 1\nids 1\nclock 2 0\n",
-            "line 5 missing machine\n",
-        ),
-        (
-            "sanlock 1\ntime 1 0 0 0 0\nhosts 1\nids 1\ndisk /d 1\ndisk /d 2\n",
-            "line 6 missing free\n",
-        ),
-        (
-            "sanlock 1\ntime 1 0 0 0 0\nhosts 1\nids 1\ndisk /d 1\nlockspace ls /d 1048576\n",
-            "line 6 missing disk\n",
-        ),
-        (
-            "sanlock 1\ntime 1 0 0 0 0\nhosts 1\nids 1\ndisk /d 1\nsession 1 ls 1 a\n",
-            "line 6 syntax\n",
-        ),
-        (
-            "sanlock 1\ntime 1 0 0 0 0\nhosts 1\nids 1\ndisk /d 1\nlockspace ls /d 0\nsession 1 l2 1 a\n",
-            "line 7 missing lockspace\n",
-        ),
-        (
-            "sanlock 1\ntime 1 0 0 0 0\nhosts 2\nids 2\ndisk /d 1\nlockspace ls /d 0\nsession 1 ls 1 a\nsession 2 ls 2 a\n",
-            "line 8 premise name\n",
-        ),
-        (
-            "sanlock 1\ntime 1 0 0 0 0\nhosts 1\nids 1\ndisk /d 1\nlockspace ls /d 0\nwake 1\n",
-            "line 7 syntax\n",
-        ),
     ] {
         let told = header_text(rt.alloc(), source.as_bytes())?;
         assert_eq!(rt; told.as_str(), text, "at {source}");
+    }
+    Ok(())
+}
+
+#[test]
+fn refused_behind_disks(rt: HostRuntime) -> Result<(), Fail> {
+    for (lines, text) in [
+        ("clock 2 0\n", "line 6 syntax\n"),
+        ("disk /d 1\n", "line 6 missing free\n"),
+        ("begin\n", "line 6 syntax\n"),
+        ("session 1 ls 1 a\n", "line 6 syntax\n"),
+        ("lockspace ls /d 2097152\n", "line 6 missing disk\n"),
+        ("lockspace ls /e 0\n", "line 6 missing disk\n"),
+        ("lockspace ls /d 5\n", "line 6 syntax\n"),
+        (
+            "lockspace a /d 0\nlockspace b /d 0\n",
+            "line 7 missing free\n",
+        ),
+        (
+            "lockspace a /d 0\nresource b r /d 1048576\n",
+            "line 7 missing lockspace\n",
+        ),
+        (
+            "lockspace a /d 0\nresource a r /d 0\n",
+            "line 7 missing free\n",
+        ),
+        (
+            "lockspace a /d 0\nsession 1 b 1 n\n",
+            "line 7 missing lockspace\n",
+        ),
+        (
+            "lockspace a /d 0\nsession 3 a 1 n\n",
+            "line 7 missing machine\n",
+        ),
+        ("lockspace a /d 0\nsession 1 a 3 n\n", "line 7 syntax\n"),
+        (
+            "lockspace a /d 0\nsession 1 a 1 n\nsession 2 a 1 m\n",
+            "line 8 missing free\n",
+        ),
+        (
+            "lockspace a /d 0\nsession 1 a 1 n\nsession 2 a 2 n\n",
+            "line 8 premise name\n",
+        ),
+        ("lockspace a /d 0\nwake 1\n", "line 7 syntax\n"),
+    ] {
+        let source = format!(in rt.alloc(); "{FIRST_LINES}{lines}")?;
+        let told = header_text(rt.alloc(), source.as_bytes())?;
+        assert_eq!(rt; told.as_str(), text, "at {lines}");
     }
     Ok(())
 }

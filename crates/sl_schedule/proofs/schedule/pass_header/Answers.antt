@@ -1,5 +1,5 @@
 use Rattle.sl_schedule.proofs.ScheduleLaws.{told}
-use Rattle.sl_schedule.proofs.schedule.read_header.Goals as goal
+use Rattle.sl_schedule.proofs.schedule.pass_header.Goals as goal
 use Rattle.sl_schedule.specs.Lines.{line_seen}
 use Rattle.sl_schedule.specs.declared.header.Added.TheVariants.{Begun, Refused}
 use Rattle.std.proofs.Common.{sym, ◌∙◌}

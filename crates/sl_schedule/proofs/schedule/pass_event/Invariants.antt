@@ -1,6 +1,6 @@
 use Rattle.sl_report.specs.Languages.{whole_language}
 use Rattle.sl_report.specs.Schedules.{event_lines_of}
-use Rattle.sl_schedule.proofs.schedule.next_event_line.Given as goal
+use Rattle.sl_schedule.proofs.schedule.pass_event.Given as goal
 use Rattle.std.proofs.Common.{length, ◌≡◌}
 
 abbrev pub invariant-loop-line : goal.invariant-loop-line

@@ -1,7 +1,7 @@
 use Rattle.sl_report.specs.Languages.{whole_language}
 use Rattle.sl_report.specs.ScheduleLines.{HeaderLine}
 use Rattle.sl_report.specs.Schedules.{read_header}
-use Rattle.sl_schedule.proofs.schedule.read_header.Given as goal
+use Rattle.sl_schedule.proofs.schedule.pass_header.Given as goal
 use Rattle.sl_schedule.specs.Headers.{Stands}
 use Rattle.std.proofs.Common.{List, [], length, ◌≡◌}
 
