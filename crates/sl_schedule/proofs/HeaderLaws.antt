@@ -1,0 +1,384 @@
+-- What is kept of a header's lines stands for them: their counts, their header, and one more line.
+use Rattle.sl_report.specs.Languages.{is_skipped, least_lines, most_lines, whole_language}
+use Rattle.sl_report.specs.ReadingLines.{header_line_in, header_refusal, is_in_order}
+use Rattle.sl_report.specs.ScheduleLines.{AreaLine, BeginLine, ClockLine, DiskLine, HeaderLine, HostsLine, IdsLine, LeaseLine, MemberLine, TimeLine, VersionLine, area_line, clock_line, count_of_rank, disk_line, header_of, header_tests, hosts_line, ids_line, lease_line, member_line, no_timing, rank, timing_line}
+use Rattle.sl_report.specs.Schedules.{default_area, default_sector, header_line_refusal, is_begin, with_line}
+use Rattle.sl_run.specs.Worlds.{first_that}
+use Rattle.sl_run.specs.declared.event.Refusal.TheVariants.{Syntax}
+use Rattle.sl_run.specs.declared.event.Refusal.{Refusal}
+use Rattle.sl_schedule.specs.declared.header.Added.TheVariants.{Begun, More, Refused}
+use Rattle.sl_schedule.specs.Headers.{HeaderSoFar, Stands, answer_after, answer_now, answer_to, count_at, has_least, has_room, header_now, is_in_place, kept_after, lines_after, no_lines, refusal_now, so_far_after, so_far_with}
+use Rattle.sl_words.proofs.WordLaws.{and_true}
+use Rattle.sl_words.specs.Words.{first_of_list, some_is}
+use Rattle.std.proofs.Common.{Bool, List, None, Option, Some, [], ap, arith, cond, false, length, not, refl, subst, suc, sym, true, zero, ℕ, ◌+◌, ◌&&◌, ◌++◌, ◌<◌, ◌∙◌, ◌∷◌, ◌≡◌}
+use Rattle.std.proofs.lemmas.Bool.Decides.{nat_tests}
+use Rattle.std.proofs.lemmas.List.Elements.{filter_map-append}
+use Rattle.std.proofs.lemmas.List.Folds.{list_all-append}
+use Rattle.std.proofs.lemmas.List.Recursion.{is_count_by}
+use Rattle.std.proofs.lemmas.List.Sums.{sum_by-append}
+use Rattle.std.proofs.lemmas.List.{append-nil}
+use Rattle.std.specs.List.{filter_map, list_all, range_with_len}
+use Rattle.std.specs.Option.{IsSome, option_to_list}
+use Rattle.std.specs.Prelude.{if◌then◌else◌, nat_le, nat_lt, unwrap_or, ◌==◌}
+
+-- ---- how many lines of a rank there are
+
+-- Lines of a kind are those of its rank.
+longer : (n : ℕ) → suc n ≡ 1 + n
+longer n = omega arith
+
+timing_more : (l : HeaderLine) (ls : List HeaderLine)
+    → length (filter_map timing_line (l ∷ ls)) ≡ cond (rank l == 1) (1 + length (filter_map timing_line ls)) (length (filter_map timing_line ls))
+timing_more (TimeLine io fire land rho grace) ls = longer (length (filter_map timing_line ls))
+timing_more l ls = refl
+
+timing_count : (ls : List HeaderLine) → count_of_rank ls 1 ≡ length (filter_map timing_line ls)
+timing_count ls = sym (is_count_by (λ ls. length (filter_map timing_line ls)) (λ l. rank l == 1) refl timing_more ls)
+
+hosts_more : (l : HeaderLine) (ls : List HeaderLine)
+    → length (filter_map hosts_line (l ∷ ls)) ≡ cond (rank l == 2) (1 + length (filter_map hosts_line ls)) (length (filter_map hosts_line ls))
+hosts_more (HostsLine m) ls = longer (length (filter_map hosts_line ls))
+hosts_more l ls = refl
+
+hosts_count : (ls : List HeaderLine) → count_of_rank ls 2 ≡ length (filter_map hosts_line ls)
+hosts_count ls = sym (is_count_by (λ ls. length (filter_map hosts_line ls)) (λ l. rank l == 2) refl hosts_more ls)
+
+ids_more : (l : HeaderLine) (ls : List HeaderLine)
+    → length (filter_map ids_line (l ∷ ls)) ≡ cond (rank l == 3) (1 + length (filter_map ids_line ls)) (length (filter_map ids_line ls))
+ids_more (IdsLine n) ls = longer (length (filter_map ids_line ls))
+ids_more l ls = refl
+
+ids_count : (ls : List HeaderLine) → count_of_rank ls 3 ≡ length (filter_map ids_line ls)
+ids_count ls = sym (is_count_by (λ ls. length (filter_map ids_line ls)) (λ l. rank l == 3) refl ids_more ls)
+
+clock_more : (l : HeaderLine) (ls : List HeaderLine)
+    → length (filter_map clock_line (l ∷ ls)) ≡ cond (rank l == 4) (1 + length (filter_map clock_line ls)) (length (filter_map clock_line ls))
+clock_more (ClockLine c) ls = longer (length (filter_map clock_line ls))
+clock_more l ls = refl
+
+clock_count : (ls : List HeaderLine) → count_of_rank ls 4 ≡ length (filter_map clock_line ls)
+clock_count ls = sym (is_count_by (λ ls. length (filter_map clock_line ls)) (λ l. rank l == 4) refl clock_more ls)
+
+disk_more : (l : HeaderLine) (ls : List HeaderLine)
+    → length (filter_map disk_line (l ∷ ls)) ≡ cond (rank l == 5) (1 + length (filter_map disk_line ls)) (length (filter_map disk_line ls))
+disk_more (DiskLine d) ls = longer (length (filter_map disk_line ls))
+disk_more l ls = refl
+
+disk_count : (ls : List HeaderLine) → count_of_rank ls 5 ≡ length (filter_map disk_line ls)
+disk_count ls = sym (is_count_by (λ ls. length (filter_map disk_line ls)) (λ l. rank l == 5) refl disk_more ls)
+
+area_more : (l : HeaderLine) (ls : List HeaderLine)
+    → length (filter_map area_line (l ∷ ls)) ≡ cond (rank l == 6) (1 + length (filter_map area_line ls)) (length (filter_map area_line ls))
+area_more (AreaLine a) ls = longer (length (filter_map area_line ls))
+area_more l ls = refl
+
+area_count : (ls : List HeaderLine) → count_of_rank ls 6 ≡ length (filter_map area_line ls)
+area_count ls = sym (is_count_by (λ ls. length (filter_map area_line ls)) (λ l. rank l == 6) refl area_more ls)
+
+lease_more : (l : HeaderLine) (ls : List HeaderLine)
+    → length (filter_map lease_line (l ∷ ls)) ≡ cond (rank l == 7) (1 + length (filter_map lease_line ls)) (length (filter_map lease_line ls))
+lease_more (LeaseLine r) ls = longer (length (filter_map lease_line ls))
+lease_more l ls = refl
+
+lease_count : (ls : List HeaderLine) → count_of_rank ls 7 ≡ length (filter_map lease_line ls)
+lease_count ls = sym (is_count_by (λ ls. length (filter_map lease_line ls)) (λ l. rank l == 7) refl lease_more ls)
+
+member_more : (l : HeaderLine) (ls : List HeaderLine)
+    → length (filter_map member_line (l ∷ ls)) ≡ cond (rank l == 8) (1 + length (filter_map member_line ls)) (length (filter_map member_line ls))
+member_more (MemberLine s) ls = longer (length (filter_map member_line ls))
+member_more l ls = refl
+
+member_count : (ls : List HeaderLine) → count_of_rank ls 8 ≡ length (filter_map member_line ls)
+member_count ls = sym (is_count_by (λ ls. length (filter_map member_line ls)) (λ l. rank l == 8) refl member_more ls)
+
+-- The counts are those of what is kept.
+counts : (r : HeaderSoFar) (ls : List HeaderLine) → Stands r ls → (k : ℕ) → k < 10 → count_of_rank ls k ≡ count_at r k
+counts r ls h zero small = h.versions
+counts r ls h (suc zero) small = timing_count ls ∙ ap length h.timings
+counts r ls h (suc (suc zero)) small = hosts_count ls ∙ ap length h.numbers
+counts r ls h (suc (suc (suc zero))) small = ids_count ls ∙ ap length h.ids
+counts r ls h (suc (suc (suc (suc zero)))) small = clock_count ls ∙ ap length h.readings
+counts r ls h (suc (suc (suc (suc (suc zero))))) small = disk_count ls ∙ ap length h.paths
+counts r ls h (suc (suc (suc (suc (suc (suc zero)))))) small = area_count ls ∙ ap length h.areas
+counts r ls h (suc (suc (suc (suc (suc (suc (suc zero))))))) small = lease_count ls ∙ ap length h.leases
+counts r ls h (suc (suc (suc (suc (suc (suc (suc (suc zero)))))))) small = member_count ls ∙ ap length h.members
+counts r ls h (suc (suc (suc (suc (suc (suc (suc (suc (suc zero))))))))) small = h.begins
+counts r ls h (suc (suc (suc (suc (suc (suc (suc (suc (suc (suc k)))))))))) small = absurd (omega arith)
+
+-- ---- order
+
+rank_small : (l : HeaderLine) → rank l < 10
+rank_small VersionLine = omega arith
+rank_small (TimeLine io fire land rho grace) = omega arith
+rank_small (HostsLine m) = omega arith
+rank_small (IdsLine n) = omega arith
+rank_small (ClockLine c) = omega arith
+rank_small (DiskLine d) = omega arith
+rank_small (AreaLine a) = omega arith
+rank_small (LeaseLine r) = omega arith
+rank_small (MemberLine s) = omega arith
+rank_small BeginLine = omega arith
+
+-- Two tests that agree on a range.
+same_on_range : (p q : ℕ → Bool) (n a : ℕ) → ((j : ℕ) → j < a + n → p j ≡ q j) → list_all p (range_with_len a n) ≡ list_all q (range_with_len a n)
+same_on_range p q zero a h = refl
+same_on_range p q (suc n) a h =
+    ap (λ t. t && list_all p (range_with_len (a + 1) n)) (h a (omega arith))
+    ∙ ap (λ t. q a && t) (same_on_range p q n (a + 1) (λ j lt. h j (omega arith)))
+
+in_order : (r : HeaderSoFar) (ls : List HeaderLine) → Stands r ls → (k : ℕ) → k < 10 → is_in_order whole_language ls k ≡ is_in_place r k
+in_order r ls h k small =
+    let least : list_all (λ j. nat_le (least_lines j) (count_of_rank ls j)) (range_with_len 0 k) ≡ list_all (has_least r) (range_with_len 0 k) =
+    same_on_range (λ j. nat_le (least_lines j) (count_of_rank ls j)) (has_least r) k 0 (λ j lt. ap (nat_le (least_lines j)) (counts r ls h j (omega arith))) in
+    ap (λ t. t && list_all (λ j. nat_le (least_lines j) (count_of_rank ls j)) (range_with_len 0 k) && elim (most_lines k) [ None ↦ true | Some n ↦ nat_lt (count_of_rank ls k) n ]) (h.order k)
+    ∙ ap (λ t. nat_le r.last k && t && elim (most_lines k) [ None ↦ true | Some n ↦ nat_lt (count_of_rank ls k) n ]) least
+    ∙ ap (λ c. nat_le r.last k && list_all (has_least r) (range_with_len 0 k) && elim (most_lines k) [ None ↦ true | Some n ↦ nat_lt c n ]) (counts r ls h k small)
+
+-- ---- the header
+
+first_listed : {A : Type 0} (o : Option A) (d : A) → unwrap_or (first_of_list (option_to_list o)) d ≡ unwrap_or o d
+first_listed None d = refl
+first_listed (Some a) d = refl
+
+-- What the first line of a kind gives.
+first_is : {A : Type 0} (xs : List A) (o : Option A) (d : A) → xs ≡ option_to_list o → unwrap_or (first_of_list xs) d ≡ unwrap_or o d
+first_is xs o d e = ap (λ ys. unwrap_or (first_of_list ys) d) e ∙ first_listed o d
+
+pub header_is : (r : HeaderSoFar) (ls : List HeaderLine) → Stands r ls → header_of default_sector default_area ls ≡ header_now r
+unfolding header_of
+header_is r ls h =
+    let times : unwrap_or (first_of_list (filter_map timing_line ls)) (no_timing, 0) ≡ unwrap_or r.times (no_timing, 0) = first_is _ r.times (no_timing, 0) h.timings in
+    let machines : unwrap_or (first_of_list (filter_map hosts_line ls)) 0 ≡ unwrap_or r.machines 0 = first_is _ r.machines 0 h.numbers in
+    let hosts : unwrap_or (first_of_list (filter_map ids_line ls)) 0 ≡ unwrap_or r.hosts 0 = first_is _ r.hosts 0 h.ids in
+    rw (times, machines, hosts, h.readings, h.paths, h.areas, h.leases, h.members) refl
+
+-- ---- refusals
+
+pub refusal_is : (r : HeaderSoFar) (ls : List HeaderLine) → Stands r ls → (l : HeaderLine)
+    → header_refusal whole_language default_sector default_area ls l ≡ refusal_now r l
+refusal_is r ls h l =
+    ap (λ t. first_that ((not t, Syntax) ∷ header_tests (header_of default_sector default_area ls) l)) (in_order r ls h (rank l) (rank_small l))
+    ∙ ap (λ g. first_that ((not (is_in_place r (rank l)), Syntax) ∷ header_tests g l)) (header_is r ls h)
+
+-- ---- one more line
+
+not_later : (a b k : ℕ) → nat_le a b ≡ true → (nat_le a k && (nat_le b k && true)) ≡ nat_le b k
+not_later a b k le = grind (arith, nat_tests)
+
+no_more_kept : {A : Type 0} (pick : HeaderLine → Option A) (ls : List HeaderLine) (l : HeaderLine) (xs : List A)
+    → pick l ≡ None → filter_map pick ls ≡ xs → filter_map pick (ls ++ l ∷ []) ≡ xs
+no_more_kept pick ls l xs none e = filter_map-append pick ls (l ∷ []) ∙ rw none (append-nil (filter_map pick ls)) ∙ e
+
+one_more_kept : {A : Type 0} (pick : HeaderLine → Option A) (ls : List HeaderLine) (l : HeaderLine) (xs : List A) (x : A)
+    → pick l ≡ Some x → filter_map pick ls ≡ xs → filter_map pick (ls ++ l ∷ []) ≡ xs ++ x ∷ []
+one_more_kept pick ls l xs x some e = filter_map-append pick ls (l ∷ []) ∙ rw (some, e) refl
+
+first_kept : {A : Type 0} (pick : HeaderLine → Option A) (ls : List HeaderLine) (l : HeaderLine) (o : Option A) (x : A)
+    → pick l ≡ Some x → filter_map pick ls ≡ option_to_list o → nat_lt (length (option_to_list o)) 1 ≡ true → filter_map pick (ls ++ l ∷ []) ≡ option_to_list (Some x)
+first_kept pick ls l None x some e room = one_more_kept pick ls l [] x some e
+first_kept pick ls l (Some y) x some e room = absurd cc
+
+count_with : (k : ℕ) (ls : List HeaderLine) (l : HeaderLine) → count_of_rank (ls ++ l ∷ []) k ≡ count_of_rank ls k + cond (rank l == k) 1 0
+count_with k ls l = omega (arith, sum_by-append (λ (l : HeaderLine). cond (rank l == k) 1 0) ls (l ∷ []))
+
+order_with : (r : HeaderSoFar) (ls : List HeaderLine) (l : HeaderLine) → Stands r ls → nat_le r.last (rank l) ≡ true → (k : ℕ)
+    → list_all (λ m. nat_le (rank m) k) (ls ++ l ∷ []) ≡ nat_le (rank l) k
+order_with r ls l h le k =
+    list_all-append (λ (m : HeaderLine). nat_le (rank m) k) ls (l ∷ []) ∙ ap (λ t. t && (nat_le (rank l) k && true)) (h.order k) ∙ not_later r.last (rank l) k le
+
+-- The line's place.
+room_of : (r : HeaderSoFar) (k : ℕ) → is_in_place r k ≡ true → has_room r k ≡ true
+room_of r k place = (and_true (nat_le r.last k && list_all (has_least r) (range_with_len 0 k)) (has_room r k) place).1
+
+not_before : (r : HeaderSoFar) (k : ℕ) → is_in_place r k ≡ true → nat_le r.last k ≡ true
+not_before r k place =
+    (and_true (nat_le r.last k) (list_all (has_least r) (range_with_len 0 k))
+    (and_true (nat_le r.last k && list_all (has_least r) (range_with_len 0 k)) (has_room r k) place).0).0
+
+timings_with : (r : HeaderSoFar) (ls : List HeaderLine) (l : HeaderLine) → Stands r ls → is_in_place r (rank l) ≡ true
+    → filter_map timing_line (ls ++ l ∷ []) ≡ option_to_list (so_far_with r l).times
+timings_with r ls (TimeLine io fire land rho grace) h place = first_kept timing_line ls (TimeLine io fire land rho grace) r.times (record { io = io; fire = fire; land = land; rho = rho }, grace) refl h.timings (room_of r 1 place)
+timings_with r ls l h place = no_more_kept timing_line ls l (option_to_list r.times) refl h.timings
+
+numbers_with : (r : HeaderSoFar) (ls : List HeaderLine) (l : HeaderLine) → Stands r ls → is_in_place r (rank l) ≡ true
+    → filter_map hosts_line (ls ++ l ∷ []) ≡ option_to_list (so_far_with r l).machines
+numbers_with r ls (HostsLine m) h place = first_kept hosts_line ls (HostsLine m) r.machines m refl h.numbers (room_of r 2 place)
+numbers_with r ls l h place = no_more_kept hosts_line ls l (option_to_list r.machines) refl h.numbers
+
+ids_with : (r : HeaderSoFar) (ls : List HeaderLine) (l : HeaderLine) → Stands r ls → is_in_place r (rank l) ≡ true
+    → filter_map ids_line (ls ++ l ∷ []) ≡ option_to_list (so_far_with r l).hosts
+ids_with r ls (IdsLine n) h place = first_kept ids_line ls (IdsLine n) r.hosts n refl h.ids (room_of r 3 place)
+ids_with r ls l h place = no_more_kept ids_line ls l (option_to_list r.hosts) refl h.ids
+
+readings_with : (r : HeaderSoFar) (ls : List HeaderLine) (l : HeaderLine) → Stands r ls → is_in_place r (rank l) ≡ true
+    → filter_map clock_line (ls ++ l ∷ []) ≡ (so_far_with r l).clocks
+readings_with r ls (ClockLine c) h place = one_more_kept clock_line ls (ClockLine c) r.clocks c refl h.readings
+readings_with r ls l h place = no_more_kept clock_line ls l r.clocks refl h.readings
+
+paths_with : (r : HeaderSoFar) (ls : List HeaderLine) (l : HeaderLine) → Stands r ls → is_in_place r (rank l) ≡ true
+    → filter_map disk_line (ls ++ l ∷ []) ≡ (so_far_with r l).disks
+paths_with r ls (DiskLine d) h place = one_more_kept disk_line ls (DiskLine d) r.disks d refl h.paths
+paths_with r ls l h place = no_more_kept disk_line ls l r.disks refl h.paths
+
+areas_with : (r : HeaderSoFar) (ls : List HeaderLine) (l : HeaderLine) → Stands r ls → is_in_place r (rank l) ≡ true
+    → filter_map area_line (ls ++ l ∷ []) ≡ (so_far_with r l).lockspaces
+areas_with r ls (AreaLine a) h place = one_more_kept area_line ls (AreaLine a) r.lockspaces a refl h.areas
+areas_with r ls l h place = no_more_kept area_line ls l r.lockspaces refl h.areas
+
+leases_with : (r : HeaderSoFar) (ls : List HeaderLine) (l : HeaderLine) → Stands r ls → is_in_place r (rank l) ≡ true
+    → filter_map lease_line (ls ++ l ∷ []) ≡ (so_far_with r l).resources
+leases_with r ls (LeaseLine q) h place = one_more_kept lease_line ls (LeaseLine q) r.resources q refl h.leases
+leases_with r ls l h place = no_more_kept lease_line ls l r.resources refl h.leases
+
+members_with : (r : HeaderSoFar) (ls : List HeaderLine) (l : HeaderLine) → Stands r ls → is_in_place r (rank l) ≡ true
+    → filter_map member_line (ls ++ l ∷ []) ≡ (so_far_with r l).sessions
+members_with r ls (MemberLine s) h place = one_more_kept member_line ls (MemberLine s) r.sessions s refl h.members
+members_with r ls l h place = no_more_kept member_line ls l r.sessions refl h.members
+
+none_yet : (version : Bool) (n : ℕ) → nat_lt (if version then 1 else 0) 1 ≡ true → n ≡ (if version then 1 else 0) → n + 1 ≡ 1
+none_yet true n room e = absurd cc
+none_yet false n room e = omega arith
+
+same_count : (m n : ℕ) → m ≡ n → m + 0 ≡ n
+same_count m n e = omega arith
+
+versions_with : (r : HeaderSoFar) (ls : List HeaderLine) (l : HeaderLine) → Stands r ls → is_in_place r (rank l) ≡ true
+    → count_of_rank (ls ++ l ∷ []) 0 ≡ (if (so_far_with r l).version then 1 else 0)
+versions_with r ls VersionLine h place = count_with 0 ls VersionLine ∙ none_yet r.version (count_of_rank ls 0) (room_of r 0 place) h.versions
+versions_with r ls l h place = count_with 0 ls l ∙ same_count (count_of_rank ls 0) _ h.versions
+
+begins_with : (r : HeaderSoFar) (ls : List HeaderLine) (l : HeaderLine) → Stands r ls → (rank l ≡ 9 → ⊥) → count_of_rank (ls ++ l ∷ []) 9 ≡ 0
+begins_with r ls BeginLine h not_begin = absurd (not_begin refl)
+begins_with r ls l h not_begin = count_with 9 ls l ∙ same_count (count_of_rank ls 9) _ h.begins
+
+pub stands_with : (r : HeaderSoFar) (ls : List HeaderLine) (l : HeaderLine) → Stands r ls → is_in_place r (rank l) ≡ true → (rank l ≡ 9 → ⊥)
+    → Stands (so_far_with r l) (ls ++ l ∷ [])
+stands_with r ls l h place not_begin =
+    record {
+      order = (λ k. order_with r ls l h (not_before r (rank l) place) k);
+      versions = versions_with r ls l h place;
+      timings = timings_with r ls l h place;
+      numbers = numbers_with r ls l h place;
+      ids = ids_with r ls l h place;
+      readings = readings_with r ls l h place;
+      paths = paths_with r ls l h place;
+      areas = areas_with r ls l h place;
+      leases = leases_with r ls l h place;
+      members = members_with r ls l h place;
+      begins = begins_with r ls l h not_begin;
+    }
+
+none_is_least : (k : ℕ) → true ≡ nat_le 0 k
+none_is_least k = grind (arith, nat_tests)
+
+pub stands_at_first : Stands no_lines []
+stands_at_first =
+    record {
+      order = none_is_least;
+      versions = refl;
+      timings = refl;
+      numbers = refl;
+      ids = refl;
+      readings = refl;
+      paths = refl;
+      areas = refl;
+      leases = refl;
+      members = refl;
+      begins = refl;
+    }
+
+-- ---- the answer to a line
+
+-- Where nothing refuses `begin`, times and a number of hosts were given.
+given : {A : Type 0} (o : Option A) → nat_le 1 (length (option_to_list o)) ≡ true → IsSome o
+given None h = absurd cc
+given (Some a) h = refl
+
+holds_from_none : (t : Bool) (why : Refusal) → first_that ((not t, why) ∷ []) ≡ None → t ≡ true
+holds_from_none true why h = refl
+holds_from_none false why h = absurd cc
+
+place_of_begin : (r : HeaderSoFar) → refusal_now r BeginLine ≡ None → is_in_place r 9 ≡ true
+unfolding header_tests
+place_of_begin r none = holds_from_none (is_in_place r 9) Syntax none
+
+pub given_at_begin : (r : HeaderSoFar) (l : HeaderLine) → refusal_now r l ≡ None → is_begin l ≡ true → IsSome r.times × IsSome r.hosts
+given_at_begin r BeginLine none begin =
+    let place : is_in_place r 9 ≡ true = place_of_begin r none in
+    let least : list_all (has_least r) (range_with_len 0 9) ≡ true =
+    (and_true (nat_le r.last 9) (list_all (has_least r) (range_with_len 0 9))
+    (and_true (nat_le r.last 9 && list_all (has_least r) (range_with_len 0 9)) (has_room r 9) place).0).1 in
+    let from_1 : list_all (has_least r) (range_with_len 1 8) ≡ true = (and_true (has_least r 0) (list_all (has_least r) (range_with_len 1 8)) least).1 in
+    let from_2 : list_all (has_least r) (range_with_len 2 7) ≡ true = (and_true (has_least r 1) (list_all (has_least r) (range_with_len 2 7)) from_1).1 in
+    let from_3 : list_all (has_least r) (range_with_len 3 6) ≡ true = (and_true (has_least r 2) (list_all (has_least r) (range_with_len 3 6)) from_2).1 in (
+      given r.times (and_true (has_least r 1) (list_all (has_least r) (range_with_len 2 7)) from_1).0,
+      given r.hosts (and_true (has_least r 3) (list_all (has_least r) (range_with_len 4 5)) from_3).0,
+    )
+given_at_begin r l none begin = absurd cc
+
+-- The answer to a line that was read is that of the definitions.
+answered : (r : HeaderSoFar) (ls : List HeaderLine) → Stands r ls → (read : Option HeaderLine)
+    → answer_to r read ≡ elim (header_line_refusal whole_language ls read) [
+      | Some why ↦ Refused why
+      | None ↦ elim (some_is is_begin read) [ true ↦ Begun (header_of default_sector default_area ls) | false ↦ More ]
+    ]
+answered r ls h None = refl
+answered r ls h (Some l) =
+    ap (λ o. elim o [ Some why ↦ Refused why | None ↦ elim (is_begin l) [ true ↦ Begun (header_now r) | false ↦ More ] ]) (sym (refusal_is r ls h l))
+    ∙ ap (λ g. elim (header_refusal whole_language default_sector default_area ls l) [
+      | Some why ↦ Refused why
+      | None ↦ elim (is_begin l) [ true ↦ Begun g | false ↦ More ]
+    ]) (sym (header_is r ls h))
+
+pub answer_is : (r : HeaderSoFar) (ls : List HeaderLine) (line : List ℕ) → Stands r ls → answer_now r line ≡ answer_after ls line
+answer_is r ls line h =
+    ap (λ a. elim (is_skipped line) [ true ↦ More | false ↦ a ]) (answered r ls h (header_line_in whole_language default_area line))
+
+-- What is kept stands for the lines then.
+not_nine : (l : HeaderLine) → is_begin l ≡ false → rank l ≡ 9 → ⊥
+not_nine BeginLine h e = absurd cc
+not_nine VersionLine h e = omega arith
+not_nine (TimeLine io fire land rho grace) h e = omega arith
+not_nine (HostsLine m) h e = omega arith
+not_nine (IdsLine n) h e = omega arith
+not_nine (ClockLine c) h e = omega arith
+not_nine (DiskLine d) h e = omega arith
+not_nine (AreaLine a) h e = omega arith
+not_nine (LeaseLine r) h e = omega arith
+not_nine (MemberLine s) h e = omega arith
+
+in_place : (t : Bool) (tests : List (Bool × Refusal)) → first_that ((not t, Syntax) ∷ tests) ≡ None → t ≡ true
+in_place true tests none = refl
+in_place false tests none = absurd cc
+
+stood_for : (r : HeaderSoFar) (ls : List HeaderLine) (l : HeaderLine) (why : Option Refusal) (begin : Bool) → Stands r ls → refusal_now r l ≡ why → is_begin l ≡ begin
+    → Stands (elim why [ Some w ↦ r | None ↦ elim begin [ true ↦ no_lines | false ↦ so_far_with r l ] ])
+    (elim why [ Some w ↦ ls | None ↦ elim begin [ true ↦ [] | false ↦ with_line ls (Some l) ] ])
+stood_for r ls l (Some w) begin h why is = h
+stood_for r ls l None true h why is = stands_at_first
+stood_for r ls l None false h why is = stands_with r ls l h (in_place (is_in_place r (rank l)) (header_tests (header_now r) l) why) (not_nine l is)
+
+stood_after : (r : HeaderSoFar) (ls : List HeaderLine) → Stands r ls → (read : Option HeaderLine)
+    → Stands (kept_after r read) (elim (header_line_refusal whole_language ls read) [
+      | Some why ↦ ls
+      | None ↦ elim (some_is is_begin read) [ true ↦ [] | false ↦ with_line ls read ]
+    ])
+stood_after r ls h None = h
+stood_after r ls h (Some l) =
+    let kept : HeaderSoFar = kept_after r (Some l) in
+    let P : Option Refusal → Type 0 = λ o. Stands kept (elim o [
+      | Some why ↦ ls
+      | None ↦ elim (is_begin l) [ true ↦ [] | false ↦ with_line ls (Some l) ]
+    ]) in
+    subst P (sym (refusal_is r ls h l)) (stood_for r ls l (refusal_now r l) (is_begin l) h refl refl)
+
+pub stands_after : (r : HeaderSoFar) (ls : List HeaderLine) (line : List ℕ) → Stands r ls → Stands (so_far_after r line) (lines_after ls line)
+stands_after r ls line h =
+    let read : Option HeaderLine = header_line_in whole_language default_area line in
+    elim (is_skipped line) as (λ t. Stands (elim t [ true ↦ r | false ↦ kept_after r read ]) (elim t [
+      | true ↦ ls
+      | false ↦ elim (header_line_refusal whole_language ls read) [
+        | Some why ↦ ls
+        | None ↦ elim (some_is is_begin read) [ true ↦ [] | false ↦ with_line ls read ]
+      ]
+    ])) [ true ↦ h | false ↦ stood_after r ls h read ]

@@ -1,0 +1,7 @@
+pub mod WritingLaws
+pub mod LineLaws
+pub mod ReadLaws
+pub mod EventLaws
+pub mod HeaderReadLaws
+pub mod HeaderLaws
+pub mod ScheduleLaws

@@ -1,0 +1,45 @@
+-- The last line of a report is what is written count by count.
+use Rattle.sl_report.specs.Reports.{Counts, end_line}
+use Rattle.sl_schedule.specs.Writing.{count_text}
+use Rattle.sl_text.specs.Forms.{as_bytes, spaced}
+use Rattle.std.proofs.Common.{List, [], ap, codes, sym, ℕ, ◌++◌, ◌∙◌, ◌∷◌, ◌≡◌}
+use Rattle.std.proofs.lemmas.List.{append-nil, append_assoc}
+use Rattle.std.specs.Prelude.{decimal}
+
+-- Texts behind a text, one by one or all together.
+regrouped : (out e p q r s t z : List ℕ) → out ++ e ++ p ++ q ++ r ++ s ++ t ++ z ≡ out ++ (e ++ (p ++ (q ++ (r ++ (s ++ (t ++ z))))))
+regrouped out e p q r s t z =
+    append_assoc (out ++ e ++ p ++ q ++ r ++ s) t z ∙ append_assoc (out ++ e ++ p ++ q ++ r) s (t ++ z) ∙ append_assoc (out ++ e ++ p ++ q) r (s ++ (t ++ z))
+    ∙ append_assoc (out ++ e ++ p) q (r ++ (s ++ (t ++ z))) ∙ append_assoc (out ++ e) p (q ++ (r ++ (s ++ (t ++ z)))) ∙ append_assoc out e (p ++ (q ++ (r ++ (s ++ (t ++ z)))))
+
+-- A word and a count in front of other words.
+count_in_front : (w a rest z : List ℕ) → (32 ∷ (w ++ 32 ∷ (a ++ rest))) ++ z ≡ (32 ∷ w ++ 32 ∷ a) ++ (rest ++ z)
+count_in_front w a rest z =
+    append_assoc (32 ∷ w) (32 ∷ (a ++ rest)) z ∙ ap (λ t. (32 ∷ w) ++ 32 ∷ t) (append_assoc a rest z) ∙ sym (append_assoc (32 ∷ w) (32 ∷ a) (rest ++ z))
+
+-- Whatever the words and the counts' texts are.
+counts_spaced : (e u a v b w c x d y f : List ℕ)
+    → as_bytes (spaced (e ∷ u ∷ a ∷ v ∷ b ∷ w ∷ c ∷ x ∷ d ∷ y ∷ f ∷ []) ∷ [])
+    ≡ e ++ ((32 ∷ u ++ 32 ∷ a) ++ ((32 ∷ v ++ 32 ∷ b) ++ ((32 ∷ w ++ 32 ∷ c) ++ ((32 ∷ x ++ 32 ∷ d) ++ ((32 ∷ y ++ 32 ∷ f) ++ 10 ∷ [])))))
+counts_spaced e u a v b w c x d y f =
+    let fourth : List ℕ = 32 ∷ (y ++ 32 ∷ f) in
+    let third : List ℕ = 32 ∷ (x ++ 32 ∷ (d ++ fourth)) in
+    let second : List ℕ = 32 ∷ (w ++ 32 ∷ (c ++ third)) in
+    let first : List ℕ = 32 ∷ (v ++ 32 ∷ (b ++ second)) in
+    let others : List ℕ = 32 ∷ (u ++ 32 ∷ (a ++ first)) in
+    let feed : List ℕ = 10 ∷ [] in
+    append-nil ((e ++ others) ++ feed) ∙ append_assoc e others feed
+    ∙ ap (λ t. e ++ t) (count_in_front u a first feed
+    ∙ ap (λ t. (32 ∷ u ++ 32 ∷ a) ++ t) (count_in_front v b second feed
+    ∙ ap (λ t. (32 ∷ v ++ 32 ∷ b) ++ t) (count_in_front w c third feed
+    ∙ ap (λ t. (32 ∷ w ++ 32 ∷ c) ++ t) (count_in_front x d fourth feed))))
+
+pub end_line_counted : (out : List ℕ) (k : Counts)
+    → out ++ codes "end" ++ count_text (codes "events") k.events ++ count_text (codes "calls") k.calls ++ count_text (codes "grants") k.grants
+    ++ count_text (codes "refusals") k.refusals ++ count_text (codes "conflicts") k.conflicts ++ 10 ∷ []
+    ≡ out ++ as_bytes (end_line k ∷ [])
+end_line_counted out k =
+    regrouped out (codes "end") (count_text (codes "events") (k.events)) (count_text (codes "calls") k.calls) (count_text (codes "grants") k.grants)
+    (count_text (codes "refusals") k.refusals) (count_text (codes "conflicts") k.conflicts) (10 ∷ [])
+    ∙ ap (λ t. out ++ t) (sym (counts_spaced (codes "end") (codes "events") (decimal k.events) (codes "calls") (decimal k.calls) (codes "grants") (decimal k.grants)
+    (codes "refusals") (decimal k.refusals) (codes "conflicts") (decimal k.conflicts)))

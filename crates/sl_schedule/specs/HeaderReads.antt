@@ -1,0 +1,32 @@
+-- Header lines of the program, as the definitions see them.
+use Rattle.sl_report.specs.ScheduleLines as lines
+use Rattle.sl_schedule.specs.declared.header_line.HeaderLine.TheVariants.{Begin, Clock, Disk, Hosts, Lockspace, Machines, Resource, Session, Times, Version}
+use Rattle.sl_schedule.specs.declared.header_line.HeaderLine.{HeaderLine}
+use Rattle.std.specs.Prelude.{Err, Ok, Result, ℕ, ◌≤◌}
+
+-- The line that it stands for.
+abbrev pub header_seen : HeaderLine → lines.HeaderLine
+header_seen Version = lines.VersionLine
+header_seen (Times t) = lines.TimeLine t.io t.fire t.land t.rho t.grace
+header_seen (Machines m) = lines.HostsLine m
+header_seen (Hosts n) = lines.IdsLine n
+header_seen (Clock c) = lines.ClockLine c
+header_seen (Disk d) = lines.DiskLine d
+header_seen (Lockspace l) = lines.AreaLine l
+header_seen (Resource r) = lines.LeaseLine r
+header_seen (Session s) = lines.MemberLine s
+header_seen Begin = lines.BeginLine
+
+-- The same, where one was read.
+abbrev pub result_seen : Result HeaderLine ℕ → Result lines.HeaderLine ℕ
+result_seen (Ok l) = Ok (header_seen l)
+result_seen (Err column) = Err column
+
+-- A number of hosts that a run may have.
+abbrev pub IsHosts : ℕ → Type 0
+IsHosts n = (1 ≤ n) × (n ≤ 2000)
+
+-- The number of hosts, where the line gives it.
+abbrev pub HasHosts : lines.HeaderLine → Type 0
+HasHosts (lines.IdsLine n) = IsHosts n
+HasHosts l = Unit {0}

@@ -1,0 +1,201 @@
+-- A header, line by line: what is kept of the lines so far, which lists of lines that stands for, and what one more line does.
+use Rattle.sl_report.specs.Languages.{is_skipped, least_lines, most_lines, whole_language}
+use Rattle.sl_report.specs.ReadingLines.{header_line_in}
+use Rattle.sl_report.specs.ScheduleLines.{AreaLine, BeginLine, ClockLine, DiskLine, HeaderLine, HostsLine, IdsLine, LeaseLine, MemberLine, TimeLine, VersionLine, area_line, clock_line, count_of_rank, disk_line, header_of, header_tests, hosts_line, ids_line, lease_line, member_line, no_timing, rank, timing_line}
+use Rattle.sl_report.specs.Schedules.{default_area, default_sector, header_line_refusal, is_begin, with_line}
+use Rattle.sl_run.specs.Worlds.{first_that}
+use Rattle.sl_run.specs.declared.event.Refusal.TheVariants.{Syntax}
+use Rattle.sl_run.specs.declared.event.Refusal.{Refusal}
+use Rattle.sl_run.specs.declared.header.Disk.{Disk}
+use Rattle.sl_run.specs.declared.header.FirstReading.{FirstReading}
+use Rattle.sl_run.specs.declared.header.Header.{Header}
+use Rattle.sl_run.specs.declared.header.LockspaceLine.{LockspaceLine}
+use Rattle.sl_run.specs.declared.header.ResourceLine.{ResourceLine}
+use Rattle.sl_run.specs.declared.header.SessionLine.{SessionLine}
+use Rattle.sl_schedule.specs.HeaderReads.{IsHosts}
+use Rattle.sl_schedule.specs.declared.header.Added.TheVariants.{Begun, More, Refused}
+use Rattle.sl_schedule.specs.declared.header.Added.{Added}
+use Rattle.sl_schedule.specs.declared.header_line.Times.{Times}
+use Rattle.sl_time.specs.Times.{IsTiming, TimingNumbers}
+use Rattle.sl_words.specs.Words.{some_is}
+use Rattle.std.specs.List.{list_all, range_with_len}
+use Rattle.std.specs.Option.{IfSome, option_to_list}
+use Rattle.std.specs.Prelude.{Bool, List, None, Option, Some, false, filter_map, if◌then◌else◌, length, nat_le, nat_lt, not, true, unwrap_or, [], ℕ, ◌&&◌, ◌++◌, ◌==◌, ◌∷◌, ◌≡◌}
+
+-- What is kept of the lines so far: the greatest rank, and what each kind of line said.
+pub record HeaderSoFar : Type 0 where
+  pub last : ℕ
+  pub version : Bool
+  pub times : Option (TimingNumbers × ℕ)
+  pub machines : Option ℕ
+  pub hosts : Option ℕ
+  pub clocks : List FirstReading
+  pub disks : List Disk
+  pub lockspaces : List LockspaceLine
+  pub resources : List ResourceLine
+  pub sessions : List SessionLine
+
+-- No line yet.
+abbrev pub no_lines : HeaderSoFar
+no_lines =
+    record {
+      last = 0;
+      version = false;
+      times = None;
+      machines = None;
+      hosts = None;
+      clocks = [];
+      disks = [];
+      lockspaces = [];
+      resources = [];
+      sessions = [];
+    }
+
+-- What a time line gives.
+abbrev pub times_seen : Times → TimingNumbers × ℕ
+times_seen t = (record { io = t.io; fire = t.fire; land = t.land; rho = t.rho }, t.grace)
+
+-- Times that a run may have, and a number of hosts.
+pub record ArePossible (times : Option (TimingNumbers × ℕ)) (hosts : Option ℕ) : Type 0 where
+  pub timing : IfSome times (λ t. IsTiming t.0)
+  pub number : IfSome hosts IsHosts
+
+-- What is kept stands for these lines.
+pub record Stands (r : HeaderSoFar) (ls : List HeaderLine) : Type 0 where
+  pub order : (k : ℕ) → list_all (λ l. nat_le (rank l) k) ls ≡ nat_le r.last k
+  pub versions : count_of_rank ls 0 ≡ (if r.version then 1 else 0)
+  pub timings : filter_map timing_line ls ≡ option_to_list r.times
+  pub numbers : filter_map hosts_line ls ≡ option_to_list r.machines
+  pub ids : filter_map ids_line ls ≡ option_to_list r.hosts
+  pub readings : filter_map clock_line ls ≡ r.clocks
+  pub paths : filter_map disk_line ls ≡ r.disks
+  pub areas : filter_map area_line ls ≡ r.lockspaces
+  pub leases : filter_map lease_line ls ≡ r.resources
+  pub members : filter_map member_line ls ≡ r.sessions
+  pub begins : count_of_rank ls 9 ≡ 0
+
+-- The header that the lines make.
+abbrev pub header_now : HeaderSoFar → Header
+header_now r =
+    record {
+      timing = (unwrap_or r.times (no_timing, 0)).0;
+      grace = (unwrap_or r.times (no_timing, 0)).1;
+      machines = unwrap_or r.machines 0;
+      geometry = record { sector = default_sector; area = default_area; hosts = unwrap_or r.hosts 0 };
+      clocks = r.clocks;
+      disks = r.disks;
+      lockspaces = r.lockspaces;
+      resources = r.resources;
+      sessions = r.sessions;
+    }
+
+-- How many lines of a rank there are.
+abbrev pub count_at : HeaderSoFar → ℕ → ℕ
+count_at r k =
+    if k == 0 then (if r.version then 1 else 0)
+    else (if k == 1 then length (option_to_list r.times)
+    else (if k == 2 then length (option_to_list r.machines)
+    else (if k == 3 then length (option_to_list r.hosts)
+    else (if k == 4 then length r.clocks
+    else (if k == 5 then length r.disks
+    else (if k == 6 then length r.lockspaces
+    else (if k == 7 then length r.resources
+    else (if k == 8 then length r.sessions else 0))))))))
+
+-- Whether there are as many lines of the rank as there must be.
+abbrev pub has_least : HeaderSoFar → ℕ → Bool
+has_least r k = nat_le (least_lines k) (count_at r k)
+
+-- Whether one more line of the rank may come.
+abbrev pub has_room : HeaderSoFar → ℕ → Bool
+has_room r k = elim (most_lines k) [ None ↦ true | Some n ↦ nat_lt (count_at r k) n ]
+
+-- Whether a line of the rank is in its place.
+abbrev pub is_in_place : HeaderSoFar → ℕ → Bool
+is_in_place r k = nat_le r.last k && list_all (has_least r) (range_with_len 0 k) && has_room r k
+
+-- Why a line is refused after these.
+abbrev pub refusal_now : HeaderSoFar → HeaderLine → Option Refusal
+refusal_now r l = first_that ((not (is_in_place r (rank l)), Syntax) ∷ header_tests (header_now r) l)
+
+-- What the lines say, with one more; the line's place apart.
+abbrev pub values_with : HeaderSoFar → HeaderLine → HeaderSoFar
+values_with r VersionLine = record r { version = true }
+values_with r (TimeLine io fire land rho grace) = record r { times = Some (record { io = io; fire = fire; land = land; rho = rho }, grace) }
+values_with r (HostsLine m) = record r { machines = Some m }
+values_with r (IdsLine n) = record r { hosts = Some n }
+values_with r (ClockLine c) = record r { clocks = r.clocks ++ c ∷ [] }
+values_with r (DiskLine d) = record r { disks = r.disks ++ d ∷ [] }
+values_with r (AreaLine l) = record r { lockspaces = r.lockspaces ++ l ∷ [] }
+values_with r (LeaseLine l) = record r { resources = r.resources ++ l ∷ [] }
+values_with r (MemberLine s) = record r { sessions = r.sessions ++ s ∷ [] }
+values_with r BeginLine = r
+
+-- What is kept after one more line.
+abbrev pub so_far_with : HeaderSoFar → HeaderLine → HeaderSoFar
+so_far_with r l = record (values_with r l) { last = rank l }
+
+-- Times and a number of hosts that a run may have, where the line gives them.
+abbrev pub IsPossible : HeaderLine → Type 0
+IsPossible (TimeLine io fire land rho grace) = IsTiming (record { io = io; fire = fire; land = land; rho = rho })
+IsPossible (IdsLine n) = IsHosts n
+IsPossible l = Unit {0}
+
+-- ---- one more line, whatever it is
+
+-- The answer to a line that was read.
+abbrev pub answer_to : HeaderSoFar → Option HeaderLine → Added
+answer_to r None = Refused Syntax
+answer_to r (Some l) =
+    elim (refusal_now r l) [
+      | Some why ↦ Refused why
+      | None ↦ elim (is_begin l) [ true ↦ Begun (header_now r) | false ↦ More ]
+    ]
+
+-- What is kept then: after `begin` another header may begin.
+abbrev pub kept_after : HeaderSoFar → Option HeaderLine → HeaderSoFar
+kept_after r None = r
+kept_after r (Some l) =
+    elim (refusal_now r l) [
+      | Some why ↦ r
+      | None ↦ elim (is_begin l) [ true ↦ no_lines | false ↦ so_far_with r l ]
+    ]
+
+-- The answer to a line.
+abbrev pub answer_now : HeaderSoFar → List ℕ → Added
+answer_now r line = elim (is_skipped line) [ true ↦ More | false ↦ answer_to r (header_line_in whole_language default_area line) ]
+
+-- What is kept then.
+abbrev pub so_far_after : HeaderSoFar → List ℕ → HeaderSoFar
+so_far_after r line = elim (is_skipped line) [ true ↦ r | false ↦ kept_after r (header_line_in whole_language default_area line) ]
+
+-- The answer to a line after these, by the definitions of headers.
+abbrev pub answer_after : List HeaderLine → List ℕ → Added
+answer_after ls line =
+    elim (is_skipped line) [
+      | true ↦ More
+      | false ↦
+          let read : Option HeaderLine = header_line_in whole_language default_area line in
+          elim (header_line_refusal whole_language ls read) [
+            | Some why ↦ Refused why
+            | None ↦ elim (some_is is_begin read) [ true ↦ Begun (header_of default_sector default_area ls) | false ↦ More ]
+          ]
+    ]
+
+-- The lines of the header then; none behind `begin`.
+abbrev pub lines_after : List HeaderLine → List ℕ → List HeaderLine
+lines_after ls line =
+    elim (is_skipped line) [
+      | true ↦ ls
+      | false ↦
+          let read : Option HeaderLine = header_line_in whole_language default_area line in
+          elim (header_line_refusal whole_language ls read) [
+            | Some why ↦ ls
+            | None ↦ elim (some_is is_begin read) [ true ↦ [] | false ↦ with_line ls read ]
+          ]
+    ]
+
+-- The line is refused.
+abbrev pub IsRefused : Added → Type 0
+IsRefused (Refused why) = Unit {0}
+IsRefused a = ⊥

@@ -1,0 +1,6 @@
+pub mod Writing
+pub mod Lines
+pub mod Reads
+pub mod EventReads
+pub mod HeaderReads
+pub mod Headers

@@ -1,0 +1,382 @@
+//! The events of a schedule.
+//!
+//! A line's first word, its verb, decides how the rest is read; each verb has one form, but for a time that may have a growth for each
+//! machine, and a torn write that may have bytes. `command` is apart: the rest of its line is the command, whatever it says, since it is
+//! the daemon that answers a command which can't be read.
+
+ghost use Rattle.sl_report.specs.Languages.{whole_language};
+ghost use Rattle.sl_report.specs.ReadingLines.{command_event, event_in};
+ghost use Rattle.sl_report.specs.ScheduleLines as lines;
+ghost use Rattle.sl_schedule.specs.EventReads as forms;
+ghost use Rattle.sl_schedule.specs.Reads as reads;
+ghost use Rattle.sl_text.specs.Forms.{made_by, words_of};
+ghost use Rattle.sl_text.specs.Numbers.{capped_long, is_number_text};
+ghost use Rattle.std.specs.Option.{option_or};
+ghost use Rattle.std.specs.Prelude.{codes, IfOk, ℕ, ◌∷◌, ◌≡◌};
+ghost use Rattle.std.specs.Result.{result_ok};
+
+use crate::parts::{is_verb, next_kept, next_ok, next_process};
+use sl_run::Event;
+use sl_text::hex::read_hex_bytes;
+use sl_text::number::read_number;
+use sl_text::words::Words;
+use sl_text::{Bytes, Seq};
+use std::alloc::{AllocError, Global};
+
+/// Reads a number for each machine, and no more words.
+fn read_growths(
+    alloc: Global,
+    machines: u32,
+    words: &mut Words,
+) -> Result<Option<Seq<u64>>, AllocError>
+    ensures { IfOk result (λ growths. growths ≡ forms.each_word is_number_text capped_long machines words.old.words) }
+{
+    let mut growths = Vec::new(alloc);
+    while let Some(word) = words.next_piece() {
+        match read_number(word) {
+            Some(growth) => growths.push(growth)?,
+            None => return Ok(None),
+        }
+    }
+    if growths.len() != machines as usize {
+        return Ok(None);
+    }
+    Ok(Some(Seq::new(growths)))
+}
+
+/// `pass TIME`, and a growth for each machine where the clocks don't grow by the time itself.
+fn read_pass(alloc: Global, machines: u32, words: &mut Words) -> Result<Option<Event>, AllocError>
+    ensures { IfOk result (λ event. event ≡ result_ok (forms.pass_read machines words.old)) }
+{
+    let Ok(time) = words.number() else {
+        return Ok(None);
+    };
+    if words.finish().is_ok() {
+        return Ok(Some(Event::Pass {
+            time,
+            growths: None,
+        }));
+    }
+    let Some(growths) = read_growths(alloc, machines, words)? else {
+        return Ok(None);
+    };
+    Ok(Some(Event::Pass {
+        time,
+        growths: Some(growths),
+    }))
+}
+
+/// `wake M`.
+fn read_wake(words: &mut Words) -> Result<Event, usize>
+    ensures { result ≡ reads.one_read reads.machine_part (λ m. Event.WakeUp m) words.old }
+{
+    let machine = words.positive_short_number()?;
+    words.finish()?;
+    Ok(Event::WakeUp { machine })
+}
+
+/// `sample M CALL SECTORS`.
+fn read_sample(words: &mut Words) -> Result<Event, usize>
+    ensures { result ≡ reads.three_read reads.machine_part reads.number_part reads.positive_part (λ m c k. Event.Sample m c k) words.old }
+{
+    let machine = words.positive_short_number()?;
+    let call = words.number()?;
+    let sectors = words.positive_number()?;
+    words.finish()?;
+    Ok(Event::Sample {
+        machine,
+        call,
+        sectors,
+    })
+}
+
+/// `land M CALL`.
+fn read_land(words: &mut Words) -> Result<Event, usize>
+    ensures { result ≡ reads.two_read reads.machine_part reads.number_part (λ m c. Event.Land m c) words.old }
+{
+    let machine = words.positive_short_number()?;
+    let call = words.number()?;
+    words.finish()?;
+    Ok(Event::Land { machine, call })
+}
+
+/// Reads the bytes that a torn write leaves behind those of its own, if its line has them.
+fn read_bytes(alloc: Global, sector: u32, words: &mut Words) -> Result<Option<Bytes>, AllocError>
+    ensures { IfOk result (λ bytes. bytes ≡ forms.bytes_in sector words.old.words) }
+{
+    let Some(word) = words.next_piece() else {
+        return Ok(Some(Bytes::new(Vec::new(alloc))));
+    };
+    if words.finish().is_err() {
+        return Ok(None);
+    }
+    read_hex_bytes(alloc, word, 2, 2 * sector as usize)
+}
+
+/// `tear M CALL KEPT`, and bytes behind those that are kept.
+fn read_tear(alloc: Global, sector: u32, words: &mut Words) -> Result<Option<Event>, AllocError>
+    ensures { IfOk result (λ event. event ≡ result_ok (forms.tear_read sector words.old)) }
+{
+    let Ok(machine) = words.positive_short_number() else {
+        return Ok(None);
+    };
+    let Ok(call) = words.number() else {
+        return Ok(None);
+    };
+    let Ok(kept) = next_kept(words, sector) else {
+        return Ok(None);
+    };
+    let Some(bytes) = read_bytes(alloc, sector, words)? else {
+        return Ok(None);
+    };
+    Ok(Some(Event::Tear {
+        machine,
+        call,
+        kept,
+        bytes,
+    }))
+}
+
+/// `answer M CALL ok` or `answer M CALL failed`.
+fn read_answer(words: &mut Words) -> Result<Event, usize>
+    ensures { result ≡ reads.three_read reads.machine_part reads.number_part reads.ok_part (λ m c ok. Event.AnswerCall m c ok) words.old }
+{
+    let machine = words.positive_short_number()?;
+    let call = words.number()?;
+    let ok = next_ok(words)?;
+    words.finish()?;
+    Ok(Event::AnswerCall { machine, call, ok })
+}
+
+/// `do M CALL`.
+fn read_do(words: &mut Words) -> Result<Event, usize>
+    ensures { result ≡ reads.two_read reads.machine_part reads.number_part (λ m c. Event.Do m c) words.old }
+{
+    let machine = words.positive_short_number()?;
+    let call = words.number()?;
+    words.finish()?;
+    Ok(Event::Do { machine, call })
+}
+
+/// `drop M CALL`.
+fn read_drop(words: &mut Words) -> Result<Event, usize>
+    ensures { result ≡ reads.two_read reads.machine_part reads.number_part (λ m c. Event.DropWrite m c) words.old }
+{
+    let machine = words.positive_short_number()?;
+    let call = words.number()?;
+    words.finish()?;
+    Ok(Event::DropWrite { machine, call })
+}
+
+/// `test M`.
+fn read_test(words: &mut Words) -> Result<Event, usize>
+    ensures { result ≡ reads.one_read reads.machine_part (λ m. Event.Test m) words.old }
+{
+    let machine = words.positive_short_number()?;
+    words.finish()?;
+    Ok(Event::Test { machine })
+}
+
+/// `exit M PROCESS`.
+fn read_exit(words: &mut Words) -> Result<Event, usize>
+    ensures { result ≡ reads.two_read reads.machine_part reads.process_part (λ m p. Event.ExitOf m p) words.old }
+{
+    let machine = words.positive_short_number()?;
+    let process = next_process(words)?;
+    words.finish()?;
+    Ok(Event::ExitOf { machine, process })
+}
+
+/// `spawned M PROCESS ok` or `spawned M PROCESS failed`.
+fn read_spawned(words: &mut Words) -> Result<Event, usize>
+    ensures { result ≡ reads.three_read reads.machine_part reads.process_part reads.ok_part (λ m p ok. Event.SpawnedOf m p ok) words.old }
+{
+    let machine = words.positive_short_number()?;
+    let process = next_process(words)?;
+    let ok = next_ok(words)?;
+    words.finish()?;
+    Ok(Event::SpawnedOf {
+        machine,
+        process,
+        ok,
+    })
+}
+
+/// `start M NAME`.
+fn read_start(words: &mut Words) -> Result<Event, usize>
+    ensures { result ≡ reads.two_read reads.machine_part reads.name_part (λ m name. Event.StartDaemon m name) words.old }
+{
+    let machine = words.positive_short_number()?;
+    let name = words.name()?;
+    words.finish()?;
+    Ok(Event::StartDaemon { machine, name })
+}
+
+/// `crash M`.
+fn read_crash(words: &mut Words) -> Result<Event, usize>
+    ensures { result ≡ reads.one_read reads.machine_part (λ m. Event.Crash m) words.old }
+{
+    let machine = words.positive_short_number()?;
+    words.finish()?;
+    Ok(Event::Crash { machine })
+}
+
+/// `reset M`.
+fn read_reset(words: &mut Words) -> Result<Event, usize>
+    ensures { result ≡ reads.one_read reads.machine_part (λ m. Event.Reset m) words.old }
+{
+    let machine = words.positive_short_number()?;
+    words.finish()?;
+    Ok(Event::Reset { machine })
+}
+
+/// `restart M`.
+fn read_restart(words: &mut Words) -> Result<Event, usize>
+    ensures { result ≡ reads.one_read reads.machine_part (λ m. Event.Restart m) words.old }
+{
+    let machine = words.positive_short_number()?;
+    words.finish()?;
+    Ok(Event::Restart { machine })
+}
+
+/// The event of a line whose verb is one of `pass` to `drop`.
+fn read_early(
+    alloc: Global,
+    machines: u32,
+    sector: u32,
+    line: &[u8],
+) -> Result<Option<Event>, AllocError>
+    ensures { IfOk result (λ event. event ≡ made_by (forms.early_forms machines sector) (words_of line.now)) }
+{
+    let mut words = Words::new(line);
+    let Some(verb) = words.next_piece() else {
+        return Ok(None);
+    };
+    if is_verb(verb, b"pass") {
+        return read_pass(alloc, machines, &mut words);
+    }
+    if is_verb(verb, b"wake") {
+        return Ok(read_wake(&mut words).ok());
+    }
+    if is_verb(verb, b"sample") {
+        return Ok(read_sample(&mut words).ok());
+    }
+    if is_verb(verb, b"land") {
+        return Ok(read_land(&mut words).ok());
+    }
+    if is_verb(verb, b"tear") {
+        return read_tear(alloc, sector, &mut words);
+    }
+    if is_verb(verb, b"answer") {
+        return Ok(read_answer(&mut words).ok());
+    }
+    if is_verb(verb, b"do") {
+        return Ok(read_do(&mut words).ok());
+    }
+    if is_verb(verb, b"drop") {
+        return Ok(read_drop(&mut words).ok());
+    }
+    Ok(None)
+}
+
+/// The event of a line whose verb is one of `test` to `restart`.
+fn read_late(line: &[u8]) -> Option<Event>
+    ensures { (machines sector : ℕ) → result ≡ made_by (forms.late_forms machines sector) (words_of line.now) }
+{
+    let mut words = Words::new(line);
+    let verb = words.next_piece()?;
+    if is_verb(verb, b"test") {
+        return read_test(&mut words).ok();
+    }
+    if is_verb(verb, b"exit") {
+        return read_exit(&mut words).ok();
+    }
+    if is_verb(verb, b"spawned") {
+        return read_spawned(&mut words).ok();
+    }
+    if is_verb(verb, b"start") {
+        return read_start(&mut words).ok();
+    }
+    if is_verb(verb, b"crash") {
+        return read_crash(&mut words).ok();
+    }
+    if is_verb(verb, b"reset") {
+        return read_reset(&mut words).ok();
+    }
+    if is_verb(verb, b"restart") {
+        return read_restart(&mut words).ok();
+    }
+    None
+}
+
+/// The event of a line that is no command.
+#[tactic(auto, using(crate::proofs::EventLaws::made_by_halves))]
+fn read_form(
+    alloc: Global,
+    machines: u32,
+    sector: u32,
+    line: &[u8],
+) -> Result<Option<Event>, AllocError>
+    ensures { IfOk result (λ event. event ≡ made_by (lines.event_forms machines sector) (words_of line.now)) }
+{
+    match read_early(alloc, machines, sector, line)? {
+        Some(event) => Ok(Some(event)),
+        None => Ok(read_late(line)),
+    }
+}
+
+/// `command M`, and the command: the rest of the line, behind its space.
+fn read_command(alloc: Global, words: &mut Words) -> Result<Option<Event>, AllocError>
+    ensures { IfOk result (λ event. event ≡ command_event (codes "command" ∷ words.old.words)) }
+{
+    let Ok(machine) = words.positive_short_number() else {
+        return Ok(None);
+    };
+    if words.finish().is_ok() {
+        return Ok(None);
+    }
+    let text = Bytes::from_slice(alloc, words.rest())?;
+    Ok(Some(Event::GiveCommand { machine, text }))
+}
+
+/// Whether a torn write leaves no more bytes than a sector has.
+fn is_event(sector: u32, event: &Event) -> bool
+    ensures { result ≡ lines.is_event sector event.now }
+{
+    match event {
+        Event::Tear { kept, bytes, .. } => {
+            *kept <= sector && bytes.len() <= (sector - *kept) as usize
+        }
+        _ => true,
+    }
+}
+
+/// The event, if its numbers go together.
+fn checked_event(sector: u32, event: Option<Event>) -> Option<Event>
+    ensures { result ≡ lines.checked_event sector event }
+{
+    let event = event?;
+    if is_event(sector, &event) {
+        Some(event)
+    } else {
+        None
+    }
+}
+
+/// The event that a line spells, in a run of so many machines with sectors of so many bytes; None where it spells none. An `Err` is want
+/// of memory.
+pub fn next_event(
+    alloc: Global,
+    machines: u32,
+    sector: u32,
+    line: &[u8],
+) -> Result<Option<Event>, AllocError>
+    ensures { IfOk result (λ event. event ≡ event_in whole_language machines sector line.now) }
+{
+    let mut words = Words::new(line);
+    if words.skip(b"command") {
+        return read_command(alloc, &mut words);
+    }
+    let event = read_form(alloc, machines, sector, line)?;
+    Ok(checked_event(sector, event))
+}

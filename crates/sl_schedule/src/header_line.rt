@@ -1,0 +1,222 @@
+//! One line of a header, as it is spelled; whether it may stand where it does is not said here.
+
+ghost use Rattle.sl_report.specs.Languages.{whole_language};
+ghost use Rattle.sl_report.specs.ReadingLines.{header_line_in};
+ghost use Rattle.sl_report.specs.ScheduleLines as lines;
+ghost use Rattle.sl_report.specs.Schedules.{default_area};
+ghost use Rattle.sl_schedule.specs.HeaderReads.{header_seen, result_seen, HasHosts};
+ghost use Rattle.sl_schedule.specs.Reads as reads;
+ghost use Rattle.sl_text.specs.Walks.{five_read, four_read, read_each};
+ghost use Rattle.std.specs.Option.{option_map};
+ghost use Rattle.std.specs.Prelude.{codes, [], IfOk, IfSome, ◌≡◌};
+
+use crate::parts::{is_verb, next_multiple, next_reading, next_within};
+use sl_run::{Disk, FirstReading, LockspaceLine, ResourceLine, SessionLine};
+use sl_text::words::Words;
+
+/// The bytes of an area.
+pub const AREA: u64 = 1_048_576;
+
+/// The times of a run, in milliseconds, and the drift in per mille, whatever their limits are.
+#[derive(Clone, Copy)]
+pub struct Times {
+    pub io: u64,
+    pub fire: u64,
+    pub land: u64,
+    pub rho: u64,
+    pub grace: u64,
+}
+
+/// A line of a header.
+#[derive(Clone, Copy)]
+pub enum HeaderLine {
+    Version,
+    Times(Times),
+    Machines(u32),
+    Hosts(u32),
+    Clock(FirstReading),
+    Disk(Disk),
+    Lockspace(LockspaceLine),
+    Resource(ResourceLine),
+    Session(SessionLine),
+    Begin,
+}
+
+/// `sanlock 1`.
+fn read_version(words: &mut Words) -> Result<HeaderLine, usize>
+    ensures hosts { IfOk result (λ l. HasHosts (header_seen l)) }
+    ensures exact { result_seen result ≡ reads.one_read (reads.text_part (codes "1")) (λ _. lines.VersionLine) words.old }
+{
+    words.expect(b"1")?;
+    words.finish()?;
+    Ok(HeaderLine::Version)
+}
+
+/// `time IO FIRE LAND RHO GRACE`.
+fn read_times(words: &mut Words) -> Result<HeaderLine, usize>
+    ensures hosts { IfOk result (λ l. HasHosts (header_seen l)) }
+    ensures exact { result_seen result
+        ≡ five_read reads.number_part reads.number_part reads.number_part reads.number_part reads.number_part lines.TimeLine words.old }
+{
+    let io = words.number()?;
+    let fire = words.number()?;
+    let land = words.number()?;
+    let rho = words.number()?;
+    let grace = words.number()?;
+    words.finish()?;
+    Ok(HeaderLine::Times(Times {
+        io,
+        fire,
+        land,
+        rho,
+        grace,
+    }))
+}
+
+/// `hosts M`: the number of machines.
+fn read_machines(words: &mut Words) -> Result<HeaderLine, usize>
+    ensures hosts { IfOk result (λ l. HasHosts (header_seen l)) }
+    ensures exact { result_seen result ≡ reads.one_read (reads.within_part 1 16) lines.HostsLine words.old }
+{
+    let machines = next_within(words, 1, 16)?;
+    words.finish()?;
+    Ok(HeaderLine::Machines(machines))
+}
+
+/// `ids N`: the number of host ids.
+fn read_hosts(words: &mut Words) -> Result<HeaderLine, usize>
+    ensures hosts { IfOk result (λ l. HasHosts (header_seen l)) }
+    ensures exact { result_seen result ≡ reads.one_read (reads.within_part 1 2000) lines.IdsLine words.old }
+{
+    let hosts = next_within(words, 1, 2000)?;
+    words.finish()?;
+    Ok(HeaderLine::Hosts(hosts))
+}
+
+/// `clock M READING`.
+fn read_clock(words: &mut Words) -> Result<HeaderLine, usize>
+    ensures hosts { IfOk result (λ l. HasHosts (header_seen l)) }
+    ensures exact { result_seen result
+        ≡ reads.two_read reads.machine_part reads.reading_part (λ m r. lines.ClockLine (record { machine = m; reading = r })) words.old }
+{
+    let machine = words.positive_short_number()?;
+    let reading = next_reading(words)?;
+    words.finish()?;
+    Ok(HeaderLine::Clock(FirstReading { machine, reading }))
+}
+
+/// `disk PATH MEBIBYTES`.
+fn read_disk(words: &mut Words) -> Result<HeaderLine, usize>
+    ensures hosts { IfOk result (λ l. HasHosts (header_seen l)) }
+    ensures exact { result_seen result
+        ≡ reads.two_read reads.path_part (reads.within_part 1 64) (λ p m. lines.DiskLine (record { path = p; mebibytes = m })) words.old }
+{
+    let path = words.path()?;
+    let mebibytes = words.number_within(1, 64)?;
+    words.finish()?;
+    Ok(HeaderLine::Disk(Disk { path, mebibytes }))
+}
+
+/// `lockspace NAME PATH OFFSET`.
+fn read_lockspace(words: &mut Words) -> Result<HeaderLine, usize>
+    ensures hosts { IfOk result (λ l. HasHosts (header_seen l)) }
+    ensures exact { result_seen result
+        ≡ reads.three_read reads.name_part reads.path_part (reads.multiple_part default_area)
+        (λ n p o. lines.AreaLine (record { name = n; path = p; offset = o })) words.old }
+{
+    let name = words.name()?;
+    let path = words.path()?;
+    let offset = next_multiple(words, AREA)?;
+    words.finish()?;
+    Ok(HeaderLine::Lockspace(LockspaceLine { name, path, offset }))
+}
+
+/// `resource LOCKSPACE NAME PATH OFFSET`.
+fn read_resource(words: &mut Words) -> Result<HeaderLine, usize>
+    ensures hosts { IfOk result (λ l. HasHosts (header_seen l)) }
+    ensures exact { result_seen result
+        ≡ four_read reads.name_part reads.name_part reads.path_part (reads.multiple_part default_area)
+        (λ l n p o. lines.LeaseLine (record { lockspace = l; name = n; path = p; offset = o })) words.old }
+{
+    let lockspace = words.name()?;
+    let name = words.name()?;
+    let path = words.path()?;
+    let offset = next_multiple(words, AREA)?;
+    words.finish()?;
+    Ok(HeaderLine::Resource(ResourceLine {
+        lockspace,
+        name,
+        path,
+        offset,
+    }))
+}
+
+/// `session M LOCKSPACE ID NAME`.
+fn read_session(words: &mut Words) -> Result<HeaderLine, usize>
+    ensures hosts { IfOk result (λ l. HasHosts (header_seen l)) }
+    ensures exact { result_seen result
+        ≡ four_read reads.machine_part reads.name_part (reads.within_part 1 2000) reads.name_part
+        (λ m l i n. lines.MemberLine (record { machine = m; lockspace = l; id = i; name = n })) words.old }
+{
+    let machine = words.positive_short_number()?;
+    let lockspace = words.name()?;
+    let id = next_within(words, 1, 2000)?;
+    let name = words.name()?;
+    words.finish()?;
+    Ok(HeaderLine::Session(SessionLine {
+        machine,
+        lockspace,
+        id,
+        name,
+    }))
+}
+
+/// `begin`.
+fn read_begin(words: &mut Words) -> Result<HeaderLine, usize>
+    ensures hosts { IfOk result (λ l. HasHosts (header_seen l)) }
+    ensures exact { result_seen result ≡ read_each [] (λ _. lines.BeginLine) words.old }
+{
+    words.finish()?;
+    Ok(HeaderLine::Begin)
+}
+
+/// The header line that a line spells, if it spells one.
+#[tactic(auto, using(crate::proofs::HeaderReadLaws::ok_is_some))]
+pub fn header_line(line: &[u8]) -> Option<HeaderLine>
+    ensures hosts { IfSome result (λ l. HasHosts (header_seen l)) }
+    ensures exact { option_map header_seen result ≡ header_line_in whole_language default_area line.now }
+{
+    let mut words = Words::new(line);
+    let verb = words.next_piece()?;
+    if is_verb(verb, b"sanlock") {
+        return read_version(&mut words).ok();
+    }
+    if is_verb(verb, b"time") {
+        return read_times(&mut words).ok();
+    }
+    if is_verb(verb, b"hosts") {
+        return read_machines(&mut words).ok();
+    }
+    if is_verb(verb, b"ids") {
+        return read_hosts(&mut words).ok();
+    }
+    if is_verb(verb, b"clock") {
+        return read_clock(&mut words).ok();
+    }
+    if is_verb(verb, b"disk") {
+        return read_disk(&mut words).ok();
+    }
+    if is_verb(verb, b"lockspace") {
+        return read_lockspace(&mut words).ok();
+    }
+    if is_verb(verb, b"resource") {
+        return read_resource(&mut words).ok();
+    }
+    if is_verb(verb, b"session") {
+        return read_session(&mut words).ok();
+    }
+    if is_verb(verb, b"begin") {
+        return read_begin(&mut words).ok();
+    }
+    None
+}
