@@ -5,31 +5,27 @@ use Rattle.sl_first.proofs.CalmLaws.{is_joined_first}
 use Rattle.sl_first.proofs.CalmRenewal.{leaving_none, recovery_none}
 use Rattle.sl_first.proofs.Decided.{calls_first}
 use Rattle.sl_first.proofs.Growth.{none_unanswered}
-use Rattle.sl_first.proofs.Spots.{is_even, spot_first}
-use Rattle.sl_first.specs.FirstPath.{IsCalm, IsFirst, first_session, has_answer, is_first_call}
+use Rattle.sl_first.specs.FirstPath.{IsCalm, IsFirst, first_session, is_first_call}
 use Rattle.sl_first.specs.FirstSteps.{IsNamed}
-use Rattle.sl_first_law.specs.Keeping.{AtCall, OneCall}
-use Rattle.sl_law.specs.LawfulArea.{HasVerified, IsAreaRead, IsBlockRead, IsLeaseRead, LawfulAreaWrite, LawfulLeaseRead, is_area_work, is_block_work, is_leader_read, leaders_read, open_block_work}
-use Rattle.sl_leases.specs.Leases.{is_leader_of, is_on, name_sought, spot_of, spot_of_call, verified_by, verified_name}
+use Rattle.sl_first_law.specs.Keeping.{AtCall}
+use Rattle.sl_law.specs.LawfulArea.{HasVerified, is_block_work, is_leader_read, open_block_work}
+use Rattle.sl_leases.specs.Leases.{is_leader_of, is_on, name_sought, spot_of, verified_by, verified_name}
 use Rattle.sl_sector.specs.declared.sector.Leader.{Leader}
-use Rattle.sl_sessions.specs.Sessions.{Begun, Session, calls_of, delta_written, is_active, is_joined, leaving_job, open_calls_of, recovery_of}
+use Rattle.sl_sessions.specs.Sessions.{Begun, delta_written, is_active, leaving_job, open_calls_of, recovery_of}
 use Rattle.sl_trace.specs.Traces.{Job, Setting, Submitted, Trace, gave, submitted, unanswered}
 use Rattle.sl_trace.specs.declared.command.ResourceArg.{ResourceArg}
 use Rattle.sl_trace.specs.declared.effects.LeaseStep.TheVariants.{ClearMode, FreeLeader, Phase1Read, Phase1Write, Phase2Read, Phase2Write, ReadArea, ReadBeforeFree, SetMode, TakeLeader}
-use Rattle.sl_trace.specs.declared.effects.LeaseStep.{LeaseStep}
 use Rattle.sl_trace.specs.declared.effects.Purpose.TheVariants.{RequestRead, RequestWrite, Joining, Lease, Leaving, Renewal, SeeRequest, Survey, ValueRead, ValueWrite}
 use Rattle.sl_trace.specs.declared.effects.Purpose.{Purpose}
 use Rattle.sl_trace.specs.declared.effects.Spot.{Spot}
-use Rattle.sl_trace.specs.declared.effects.Work.TheVariants.{ForJob}
 use Rattle.sl_trace.specs.declared.input.Given.{Given}
 use Rattle.sl_words.proofs.CaseLaws.{false_is_true, none_some}
-use Rattle.sl_words.proofs.OptionLaws.{choose_none}
 use Rattle.sl_words.proofs.WordLaws.{and_true, choose_some}
 use Rattle.sl_words.specs.Words.{choose}
-use Rattle.std.proofs.Common.{ap, arith, refl, subst, sym, tests, ◌∙◌}
+use Rattle.std.proofs.Common.{ap, arith, refl, subst, sym, ◌∙◌}
 use Rattle.sl_text.specs.Names.{is_name}
 use Rattle.std.specs.List.{list_all}
-use Rattle.std.specs.Prelude.{Bool, Contains, IsTrue, List, None, Option, Some, false, filter, filter_map, if◌then◌else◌, is_none, length, option_and_then, slice_index_or, suc, true, zero, [], ℕ, ◌%◌, ◌&&◌, ◌+◌, ◌==◌, ◌<◌, ◌∷◌, ◌≡◌}
+use Rattle.std.specs.Prelude.{Bool, Contains, IsTrue, List, None, Option, Some, false, filter, filter_map, is_none, option_and_then, suc, true, zero, [], ℕ, ◌&&◌, ◌==◌, ◌∷◌, ◌≡◌}
 
 -- ---- the session is active
 
@@ -125,7 +121,7 @@ has_read_at st g r m ms None is mine named rest =
 has_read_at st g r m ms (Some n) is mine named rest =
     let v = verifies st.layout g.lockspace n m m.call.purpose (leader_given st.layout m) is in
     let on : is_on st.layout (spot_of r) m.call ≡ true = (and_true (m.call.session == 0) (is_on st.layout (spot_of r) m.call)
-            (and_true (m.call.session == 0 && is_on st.layout (spot_of r) m.call) (is_none (delta_written m)) mine).0).1 in
+    (and_true (m.call.session == 0 && is_on st.layout (spot_of r) m.call) (is_none (delta_written m)) mine).0).1 in
     (v.0, gives_leader st (spot_of r) m ms v.0 (ap (λ b. b && is_on st.layout (spot_of r) m.call) v.3 ∙ on) v.1, subst (λ k. is_leader_of st.layout g.lockspace k v.0 ≡ true) named v.2)
 
 has_read : (st : Setting) (g : Given) (r : ResourceArg) → IsTrue (is_name r.name) → (ms : List Submitted) → list_all (is_first_call st r) ms ≡ true → verified_name st.layout g.lockspace ms ≡ r.name

@@ -1,31 +1,27 @@
 -- A calm trace keeps the laws of watchdogs, of recovery and of delta sectors.
-use Rattle.sl_first.proofs.CalmLaws.{is_joined_first, removed_none, sessions_first}
+use Rattle.sl_first.proofs.CalmLaws.{is_joined_first, sessions_first}
 use Rattle.sl_first.proofs.CalmRenewal.{leases_first, leaving_none, recovery_none, renewing_first}
 use Rattle.sl_first.proofs.Decided.{calls_first}
 use Rattle.sl_first.proofs.Decisions.{same_text}
-use Rattle.sl_first.specs.FirstPath.{IsCalm, IsFirst, first_effects, first_entry, first_session, is_first_call}
-use Rattle.sl_first_law.proofs.Saying.{no_call, one_call}
+use Rattle.sl_first.specs.FirstPath.{IsCalm, IsFirst, first_session, is_first_call}
 use Rattle.sl_law.specs.LawfulRecovery.{LawfulRecovery, MayPart, StopsSession, KillsAfter, is_leaving_write}
-use Rattle.sl_law.specs.LawfulWatchdog.{CoveredBy, LawfulWatchdog, acts_until, is_covered}
+use Rattle.sl_law.specs.LawfulWatchdog.{CoveredBy, LawfulWatchdog, is_covered}
 use Rattle.sl_law.specs.Saying.{EachCall, EachSession}
 use Rattle.sl_leases.specs.Leases.{is_lease_call, lease_step}
-use Rattle.sl_sessions.specs.Sessions.{Begun, Renewing, Session, calls_of, free_write, is_free_purpose, is_joined, is_leaving, is_present, is_recovering, last_renewal, leaving_job, leaving_of, recovery_of, sessions}
-use Rattle.sl_time.specs.Times.{fail}
-use Rattle.sl_trace.specs.Connections.{Connection, after_move, connection_named, connections, given_connection, registers, unregisters}
+use Rattle.sl_sessions.specs.Sessions.{Begun, Renewing, Session, calls_of, free_write, is_free_purpose, is_joined, is_leaving, is_recovering, last_renewal, leaving_job, leaving_of, recovery_of}
+use Rattle.sl_trace.specs.Connections.{after_move, connection_named, connections, given_connection, registers, unregisters}
 use Rattle.sl_trace.specs.Traces.{Job, Setting, Submitted, Trace, is_write, submitted}
 use Rattle.sl_trace.specs.declared.command.ResourceArg.{ResourceArg}
-use Rattle.sl_trace.specs.declared.effects.Call.{Call}
 use Rattle.sl_trace.specs.declared.effects.Entry.{Entry}
-use Rattle.sl_trace.specs.declared.effects.Move.{Move}
 use Rattle.sl_trace.specs.declared.effects.Purpose.TheVariants.{RequestRead, RequestWrite, Joining, Lease, Leaving, Renewal, SeeRequest, Survey, ValueRead, ValueWrite}
 use Rattle.sl_trace.specs.declared.effects.Purpose.{Purpose}
 use Rattle.sl_trace.specs.declared.input.Given.{Given}
 use Rattle.sl_words.proofs.CaseLaws.{false_is_true, none_some}
 use Rattle.sl_words.proofs.WordLaws.{and_true}
-use Rattle.std.proofs.Common.{ap, arith, inl, inr, refl, subst, sym, tests, ◌∙◌}
+use Rattle.std.proofs.Common.{ap, arith, inl, inr, refl, subst, sym, ◌∙◌}
 use Rattle.std.proofs.Math.Bool.{and-false}
 use Rattle.std.specs.List.{list_all, list_any}
-use Rattle.std.specs.Prelude.{Bool, Contains, IsTrue, List, None, Option, Some, false, find, fold, if◌then◌else◌, is_some, length, map, option_map, slice_index_or, suc, true, zero, [], ℕ, ◌&&◌, ◌+◌, ◌<◌, ◌∷◌, ◌≡◌, ◌≤◌, ◌||◌}
+use Rattle.std.specs.Prelude.{Contains, IsTrue, List, None, Option, Some, false, fold, if◌then◌else◌, is_some, length, map, option_map, slice_index_or, suc, true, zero, [], ℕ, ◌&&◌, ◌+◌, ◌<◌, ◌∷◌, ◌≡◌, ◌||◌}
 
 -- ---- the one session
 

@@ -5,7 +5,7 @@ use Rattle.sl_first_law.specs.Keeping.{OneCall}
 use Rattle.sl_law.specs.LawfulDelta.{LawfulDelta, LawfulDeltaCall, LawfulJoin, is_on_own_sector}
 use Rattle.sl_law.specs.Saying.{EachCall}
 use Rattle.sl_leases.specs.Leases.{is_on, spot_of}
-use Rattle.sl_sessions.specs.Sessions.{Session, delta_written, has_open_delta, is_delta_purpose, is_survey_purpose, joined_after}
+use Rattle.sl_sessions.specs.Sessions.{delta_written, has_open_delta, is_delta_purpose, is_survey_purpose, joined_after}
 use Rattle.sl_trace.specs.Traces.{Setting, Submitted, Trace}
 use Rattle.sl_trace.specs.declared.command.ResourceArg.{ResourceArg}
 use Rattle.sl_trace.specs.declared.effects.Entry.{Entry}
@@ -14,8 +14,8 @@ use Rattle.sl_trace.specs.declared.effects.Purpose.{Purpose}
 use Rattle.sl_trace.specs.declared.input.Given.{Given}
 use Rattle.sl_words.proofs.CaseLaws.{false_is_true, none_some}
 use Rattle.sl_words.proofs.WordLaws.{and_true}
-use Rattle.std.proofs.Common.{ap, refl, subst, sym, ◌∙◌}
-use Rattle.std.specs.Prelude.{Bool, IsTrue, None, Option, Some, false, is_none, not, true, ℕ, ◌&&◌, ◌==◌, ◌∷◌, ◌≡◌}
+use Rattle.std.proofs.Common.{refl, subst, sym}
+use Rattle.std.specs.Prelude.{IsTrue, None, Option, Some, false, is_none, not, true, ℕ, ◌&&◌, ◌==◌, ◌∷◌, ◌≡◌}
 
 none_is : {A : Type 0} (o : Option A) → is_none o ≡ true → o ≡ None
 none_is None h = refl

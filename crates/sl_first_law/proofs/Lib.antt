@@ -3,3 +3,4 @@ pub mod Calmness
 pub mod Deltas
 pub mod Values
 pub mod Areas
+pub mod Keeps

@@ -2,7 +2,7 @@
 use Rattle.sl_first.proofs.CalmLaws.{sessions_first}
 use Rattle.sl_first.specs.FirstPath.{IsFirst, first_effects, first_entry, first_session}
 use Rattle.sl_law.specs.Saying.{EachCall, cut_at}
-use Rattle.sl_sessions.specs.Sessions.{Session, session_numbered, sessions}
+use Rattle.sl_sessions.specs.Sessions.{Session, session_numbered}
 use Rattle.sl_trace.specs.Traces.{Setting, Submitted, Trace, new_call}
 use Rattle.sl_trace.specs.declared.command.ResourceArg.{ResourceArg}
 use Rattle.sl_trace.specs.declared.effects.Call.{Call}
@@ -14,7 +14,7 @@ use Rattle.sl_trace.specs.declared.input.Given.{Given}
 use Rattle.sl_trace.specs.declared.input.Input.{Input}
 use Rattle.sl_words.proofs.CaseLaws.{none_some, some_value}
 use Rattle.std.proofs.lemmas.Option.{slice_get_past}
-use Rattle.std.proofs.Common.{ap, arith, refl, subst, sym, ◌∙◌}
+use Rattle.std.proofs.Common.{ap, arith, subst, sym, ◌∙◌}
 use Rattle.std.specs.Prelude.{List, None, Some, length, slice_get, suc, zero, [], ℕ, ◌∷◌, ◌≡◌}
 
 -- The session of the first path has the number 0.

@@ -1,35 +1,31 @@
 -- A call for the lease keeps the laws of values, and those of whose calls are.
 use Rattle.sl_first.proofs.CalmLaws.{removed_none}
-use Rattle.sl_first.specs.FirstPath.{IsCalm, IsFirst, first_effects, first_entry, first_session, is_first_call, one_reply}
+use Rattle.sl_first.specs.FirstPath.{IsCalm, IsFirst, first_session, is_first_call, one_reply}
 use Rattle.sl_first_law.proofs.Calmness.{no_free_first, only}
 use Rattle.sl_first_law.proofs.Saying.{session_zero}
 use Rattle.sl_first_law.specs.Keeping.{OneCall, is_value_reply}
-use Rattle.sl_law.specs.LawfulCalls.{LawfulCalls, may_submit}
-use Rattle.sl_law.specs.LawfulValue.{LawfulValue, LawfulValueRead, LawfulValueReply, LawfulValueWrite}
-use Rattle.sl_law.specs.Saying.{EachCall}
+use Rattle.sl_law.specs.LawfulCalls.{may_submit}
+use Rattle.sl_law.specs.LawfulValue.{LawfulValueRead, LawfulValueReply, LawfulValueWrite}
 use Rattle.sl_leases.specs.Leases.{spot_of_call, value_written}
-use Rattle.sl_sector.specs.Records.{IsRecord}
-use Rattle.sl_sector.specs.declared.sector.Rec.{Rec}
 use Rattle.sl_sector.specs.declared.sector.ValueRec.{ValueRec}
-use Rattle.sl_sessions.specs.Sessions.{Session, calls_of, free_write, removed_after, session_numbered, stage_of}
+use Rattle.sl_sessions.specs.Sessions.{Session, calls_of, free_write, session_numbered, stage_of}
 use Rattle.sl_sessions.specs.declared.stage.Stage.TheVariants.{Ended, Freeing, Standing}
 use Rattle.sl_sessions.specs.declared.stage.Stage.{Stage}
-use Rattle.sl_trace.specs.Traces.{Setting, Submitted, Trace, record_of, submitted}
+use Rattle.sl_trace.specs.Traces.{Setting, Submitted, Trace, submitted}
 use Rattle.sl_trace.specs.declared.command.ResourceArg.{ResourceArg}
 use Rattle.sl_trace.specs.declared.effects.Call.{Call}
 use Rattle.sl_trace.specs.declared.effects.Entry.{Entry}
 use Rattle.sl_trace.specs.declared.effects.JobReply.{JobReply}
 use Rattle.sl_trace.specs.declared.effects.LeaseStep.{LeaseStep}
-use Rattle.sl_trace.specs.declared.effects.Purpose.TheVariants.{Lease, ValueRead}
+use Rattle.sl_trace.specs.declared.effects.Purpose.TheVariants.{ValueRead}
 use Rattle.sl_trace.specs.declared.effects.Purpose.{Purpose}
-use Rattle.sl_trace.specs.declared.effects.Work.TheVariants.{ForJob}
 use Rattle.sl_trace.specs.declared.input.Given.{Given}
 use Rattle.sl_trace.specs.declared.reply.Reply.TheVariants.{Value}
 use Rattle.sl_trace.specs.declared.reply.Reply.{Reply}
 use Rattle.sl_words.proofs.CaseLaws.{false_is_true, none_some}
 use Rattle.std.proofs.Common.{ap, arith, refl, subst, sym, ◌∙◌}
 use Rattle.std.specs.List.{list_all}
-use Rattle.std.specs.Prelude.{Bool, Contains, IsSome, IsTrue, List, None, Option, Some, false, true, [], ℕ, ◌∷◌, ◌≡◌}
+use Rattle.std.specs.Prelude.{Bool, Contains, IsSome, IsTrue, List, None, Option, Some, false, true, [], ℕ, ◌≡◌}
 
 -- ---- values
 

@@ -1,11 +1,6 @@
-//! A daemon of the first path is lawful.
+//! A daemon of the first path keeps laws: so far those of its session, of its connection and of the place of its work.
+//!
+//! The laws of ballots, leaders and grants are not shown of it yet.
 #![tactic(auto)]
 
-ghost use Rattle.std.specs.Prelude.{◌≡◌};
-
-/// Nothing.
-pub fn nothing(x: u64) -> u64
-    ensures { result ≡ x }
-{
-    x
-}
+pub mod laws;
