@@ -1,7 +1,9 @@
 //! The text of a command, read; and the texts of replies, commands and effects, written.
 #![tactic(auto)]
 
+pub mod effects;
 pub mod replies;
 mod words;
 
+pub use effects::push_effect_lines;
 pub use replies::push_reply_text;
