@@ -4,6 +4,8 @@
 pub mod effects;
 pub mod replies;
 mod words;
+pub mod writing;
 
 pub use effects::push_effect_lines;
 pub use replies::push_reply_text;
+pub use writing::push_command_text;
