@@ -1,7 +1,9 @@
 //! The text of a command, read; and the texts of replies, commands and effects, written.
 #![tactic(auto)]
 
+mod arguments;
 pub mod effects;
+pub mod reading;
 pub mod replies;
 mod words;
 pub mod writing;

@@ -1,0 +1,90 @@
+//! The text of a command, read word by word.
+//!
+//! A command is a verb and its arguments, each behind a flag, in one order. The forms of all commands are a list of tests, one for each
+//! word; here they are followed from the left. Each function reads what stands behind a verb, and gives the column of the first word
+//! that no form takes there: one past the end where a word is missing.
+
+ghost use Rattle.std.specs.Prelude.{false, true, ◌==◌, ◌≡◌};
+ghost use Rattle.sl_area.specs.Layouts.{layout_of};
+ghost use Rattle.sl_command.specs.Verbs as verbs;
+ghost use Rattle.sl_text.specs.Walks.{read_by};
+ghost use Rattle.sl_trace.specs.Commands as commands;
+
+use crate::arguments;
+use sl_area::Geometry;
+use sl_text::words::Words;
+use sl_text::{Data, FilePath};
+use sl_trace::{BadCommand, Command, LockspaceArg};
+
+/// Reads `-s` and a lockspace.
+fn lockspace(words: &mut Words<'_>, geometry: &Geometry) -> Result<LockspaceArg, usize>
+    ensures { result ≡ verbs.lockspace_behind (layout_of geometry.now) words.old }
+{
+    words.expect(b"-s")?;
+    let lockspace = arguments::lockspace(words, geometry)?;
+    words.finish()?;
+    Ok(lockspace)
+}
+
+/// Reads `-p` and a process.
+fn process(words: &mut Words<'_>) -> Result<u32, usize>
+    ensures { result ≡ verbs.process_behind words.old }
+{
+    words.expect(b"-p")?;
+    let process = arguments::process(words)?;
+    words.finish()?;
+    Ok(process)
+}
+
+/// Reads `-c` and a program.
+fn program(words: &mut Words<'_>) -> Result<FilePath, usize>
+    ensures { result ≡ verbs.program_behind words.old }
+{
+    words.expect(b"-c")?;
+    let path = words.path()?;
+    words.finish()?;
+    Ok(path)
+}
+
+/// Reads `-p`, a process, `-d` and a value.
+fn value(words: &mut Words<'_>) -> Result<(u32, Data), usize>
+    ensures { result ≡ verbs.value_behind words.old }
+{
+    words.expect(b"-p")?;
+    let process = arguments::process(words)?;
+    words.expect(b"-d")?;
+    let bytes = words.hex()?;
+    words.finish()?;
+    Ok((process, bytes))
+}
+
+/// Reads `-f` and the force that clears a request.
+fn clearing(words: &mut Words<'_>) -> Result<u32, usize>
+    ensures { result ≡ verbs.force_with true words.old }
+{
+    words.expect(b"-f")?;
+    words.expect(b"0")?;
+    words.finish()?;
+    Ok(0)
+}
+
+/// Reads `-f` and a force that asks.
+fn asking(words: &mut Words<'_>) -> Result<u32, usize>
+    ensures { result ≡ verbs.force_with false words.old }
+{
+    words.expect(b"-f")?;
+    let force = arguments::force(words)?;
+    words.finish()?;
+    Ok(force)
+}
+
+/// Reads `-f` and the force that goes with an lver: 0 with 0, which clears a request; 1 or 2 with any other.
+fn force(words: &mut Words<'_>, lver: u64) -> Result<u32, usize>
+    ensures { result ≡ verbs.force_with (lver == 0) words.old }
+{
+    if lver == 0 {
+        clearing(words)
+    } else {
+        asking(words)
+    }
+}
