@@ -1,15 +1,16 @@
 -- What stands behind a command's verb, as it is read.
 use Rattle.sl_area.specs.Layouts.{Layout}
-use Rattle.sl_command.specs.Arguments.{is_asking_word, is_clearing_word, moded_of_word, request_of_word}
+use Rattle.sl_command.specs.Arguments.{is_moded_word, is_request_word, moded_of_word, request_of_word}
 use Rattle.sl_text.specs.Forms.{Form, exactly, word_at}
 use Rattle.sl_text.specs.Names.{is_path}
 use Rattle.sl_text.specs.Numbers.{hex_bytes, is_hex_word, is_number_that, number_of}
 use Rattle.sl_text.specs.Walks.{Unread, next_as, past_word, read_each}
 use Rattle.sl_trace.specs.Commands.{asked_of_word, command_in, forms, is_lockspace_word, is_process_word, is_resource_word, is_shared_word, lockspace_of_word, resource_of_word}
 use Rattle.sl_trace.specs.declared.command.BadCommand.{BadCommand}
-use Rattle.sl_trace.specs.declared.command.Command.TheVariants.{Acquire, Request, RunProgram}
+use Rattle.sl_trace.specs.declared.command.Command.TheVariants.{Acquire, Request, RunProgram, SetLvb}
 use Rattle.sl_trace.specs.declared.command.Command.{Command}
 use Rattle.sl_trace.specs.declared.command.LockspaceArg.{LockspaceArg}
+use Rattle.sl_trace.specs.declared.command.ResourceArg.{ResourceArg}
 use Rattle.sl_words.specs.Results.{◌>>=◌}
 use Rattle.std.specs.Int.{is_in_range}
 use Rattle.std.specs.Prelude.{Bool, Err, List, Ok, Result, codes, false, if◌then◌else◌, true, [], ℕ, ◌==◌, ◌∷◌}
@@ -55,43 +56,37 @@ abbrev pub force_with : Bool → Unread → Result ℕ ℕ
 force_with true u = read_each clearing_tests (λ _. 0) u
 force_with false u = read_each asking_tests (λ ws. number_of (word_at ws 1)) u
 
--- The forms behind `acquire`, behind `command` and behind `request`.
-abbrev pub acquire_forms : Layout → List (Form Command)
-acquire_forms g =
-    record {
-      words = exactly (codes "-r") ∷ is_resource_word g ∷ process_tests;
-      make = λ ws. Acquire (resource_of_word (word_at ws 1)) false (number_of (word_at ws 3));
-    }
-    ∷ record {
-      words = exactly (codes "-r") ∷ is_shared_word g ∷ process_tests;
-      make = λ ws. Acquire (resource_of_word (word_at ws 1)) true (number_of (word_at ws 3));
-    }
-    ∷ []
+-- A flag.
+abbrev pub flag_read : List ℕ → Unread → Result (Unit {0}) ℕ
+flag_read flag u = next_as (exactly flag) (λ _. tt) u
 
-abbrev pub program_forms : Layout → List (Form Command)
-program_forms g =
-    record {
-      words = exactly (codes "-r") ∷ is_resource_word g ∷ program_tests;
-      make = λ ws. RunProgram (resource_of_word (word_at ws 1)) false (word_at ws 3);
-    }
-    ∷ record {
-      words = exactly (codes "-r") ∷ is_shared_word g ∷ program_tests;
-      make = λ ws. RunProgram (resource_of_word (word_at ws 1)) true (word_at ws 3);
-    }
-    ∷ []
+-- `-r`, a resource's word, and what is read behind it.
+abbrev pub with_resource : {A B C : Type 0} → (List ℕ → Bool) → (List ℕ → A) → (A → Unread → Result B ℕ) → (A → B → C) → Unread → Result C ℕ
+with_resource passes value behind make u = do
+  flag ← flag_read (codes "-r") u
+  a ← next_as passes value (past_word u)
+  b ← behind a (past_word (past_word u))
+  Ok (make a b)
 
-abbrev pub request_forms : Layout → List (Form Command)
-request_forms g =
-    record { words = exactly (codes "-r") ∷ is_clearing_word g ∷ clearing_tests; make = λ ws. Request (resource_of_word (word_at ws 1)) 0 0 }
-    ∷ record {
-      words = exactly (codes "-r") ∷ is_asking_word g ∷ asking_tests;
-      make = λ ws. Request (resource_of_word (word_at ws 1)) (asked_of_word (word_at ws 1)) (number_of (word_at ws 3));
-    }
-    ∷ []
+-- Behind `release` and `get_lvb`: a resource and a process.
+abbrev pub for_process : Layout → (ResourceArg → ℕ → Command) → Unread → Result Command ℕ
+for_process g make u = with_resource (is_resource_word g) resource_of_word (λ r. process_behind) make u
 
--- The tests behind `release`, `get_lvb` and `set_lvb`.
-abbrev pub for_process_tests : Layout → List (List ℕ → Bool)
-for_process_tests g = exactly (codes "-r") ∷ is_resource_word g ∷ process_tests
+-- Behind `set_lvb`: a resource, a process and a value.
+abbrev pub value_read : Layout → Unread → Result Command ℕ
+value_read g u = with_resource (is_resource_word g) resource_of_word (λ r. value_behind) (λ r v. SetLvb r v.0 v.1) u
+
+-- Behind `acquire`: a resource in either mode, and a process.
+abbrev pub acquire_read : Layout → Unread → Result Command ℕ
+acquire_read g u = with_resource (is_moded_word g) (moded_of_word g) (λ m. process_behind) (λ m p. Acquire m.0 m.1 p) u
+
+-- Behind `command`: a resource in either mode, and a program.
+abbrev pub program_read : Layout → Unread → Result Command ℕ
+program_read g u = with_resource (is_moded_word g) (moded_of_word g) (λ m. program_behind) (λ m path. RunProgram m.0 m.1 path) u
+
+-- Behind `request`: a resource with an lver, and a force that goes with it.
+abbrev pub request_read : Layout → Unread → Result Command ℕ
+request_read g u = with_resource (is_request_word g) request_of_word (λ m. force_with (m.1 == 0)) (λ m force. Request m.0 m.1 force) u
 
 -- The answer of a parser: a command, or the column.
 abbrev pub answered : Result Command ℕ → Result Command BadCommand

@@ -9,6 +9,7 @@ ghost use Rattle.sl_area.specs.Layouts.{layout_of};
 ghost use Rattle.sl_command.specs.Verbs as verbs;
 ghost use Rattle.sl_text.specs.Walks.{read_by};
 ghost use Rattle.sl_trace.specs.Commands as commands;
+ghost use Rattle.sl_trace.specs.declared.command.Command.TheVariants.{GetLvb, Release};
 
 use crate::arguments;
 use sl_area::Geometry;
@@ -87,4 +88,80 @@ fn force(words: &mut Words<'_>, lver: u64) -> Result<u32, usize>
     } else {
         asking(words)
     }
+}
+
+/// Reads what stands behind `acquire`.
+fn acquire(words: &mut Words<'_>, geometry: &Geometry) -> Result<Command, usize>
+    ensures { result ≡ verbs.acquire_read (layout_of geometry.now) words.old }
+{
+    words.expect(b"-r")?;
+    let (resource, shared) = arguments::moded(words, geometry)?;
+    let process = process(words)?;
+    Ok(Command::Acquire {
+        resource,
+        shared,
+        process,
+    })
+}
+
+/// Reads what stands behind `release`.
+fn release(words: &mut Words<'_>, geometry: &Geometry) -> Result<Command, usize>
+    ensures { result ≡ verbs.for_process (layout_of geometry.now) (λ r p. Release r p) words.old }
+{
+    words.expect(b"-r")?;
+    let resource = arguments::resource(words, geometry)?;
+    let process = process(words)?;
+    Ok(Command::Release { resource, process })
+}
+
+/// Reads what stands behind `command`.
+fn run_program(words: &mut Words<'_>, geometry: &Geometry) -> Result<Command, usize>
+    ensures { result ≡ verbs.program_read (layout_of geometry.now) words.old }
+{
+    words.expect(b"-r")?;
+    let (resource, shared) = arguments::moded(words, geometry)?;
+    let program = program(words)?;
+    Ok(Command::RunProgram {
+        resource,
+        shared,
+        program,
+    })
+}
+
+/// Reads what stands behind `request`.
+fn request(words: &mut Words<'_>, geometry: &Geometry) -> Result<Command, usize>
+    ensures { result ≡ verbs.request_read (layout_of geometry.now) words.old }
+{
+    words.expect(b"-r")?;
+    let (resource, lver) = arguments::request(words, geometry)?;
+    let force = force(words, lver)?;
+    Ok(Command::Request {
+        resource,
+        lver,
+        force,
+    })
+}
+
+/// Reads what stands behind `get_lvb`.
+fn get_lvb(words: &mut Words<'_>, geometry: &Geometry) -> Result<Command, usize>
+    ensures { result ≡ verbs.for_process (layout_of geometry.now) (λ r p. GetLvb r p) words.old }
+{
+    words.expect(b"-r")?;
+    let resource = arguments::resource(words, geometry)?;
+    let process = process(words)?;
+    Ok(Command::GetLvb { resource, process })
+}
+
+/// Reads what stands behind `set_lvb`.
+fn set_lvb(words: &mut Words<'_>, geometry: &Geometry) -> Result<Command, usize>
+    ensures { result ≡ verbs.value_read (layout_of geometry.now) words.old }
+{
+    words.expect(b"-r")?;
+    let resource = arguments::resource(words, geometry)?;
+    let (process, value) = value(words)?;
+    Ok(Command::SetLvb {
+        resource,
+        process,
+        value,
+    })
 }
