@@ -165,3 +165,61 @@ fn set_lvb(words: &mut Words<'_>, geometry: &Geometry) -> Result<Command, usize>
         value,
     })
 }
+
+/// Reads the words of a command; else gives the column of the first word that no form takes.
+#[tactic(auto, using(crate::proofs::VerbLaws::verbs))]
+fn command(words: &mut Words<'_>, geometry: &Geometry) -> Result<Command, usize>
+    ensures { result ≡ read_by (commands.forms (layout_of geometry.now)) words.old }
+{
+    if words.skip(b"add_lockspace") {
+        return Ok(Command::AddLockspace(lockspace(words, geometry)?));
+    }
+    if words.skip(b"rem_lockspace") {
+        return Ok(Command::RemLockspace(lockspace(words, geometry)?));
+    }
+    if words.skip(b"inq_lockspace") {
+        return Ok(Command::InqLockspace(lockspace(words, geometry)?));
+    }
+    if words.skip(b"host_status") {
+        return Ok(Command::HostStatus(lockspace(words, geometry)?));
+    }
+    if words.skip(b"acquire") {
+        return acquire(words, geometry);
+    }
+    if words.skip(b"release") {
+        return release(words, geometry);
+    }
+    if words.skip(b"command") {
+        return run_program(words, geometry);
+    }
+    if words.skip(b"request") {
+        return request(words, geometry);
+    }
+    if words.skip(b"get_lvb") {
+        return get_lvb(words, geometry);
+    }
+    if words.skip(b"set_lvb") {
+        return set_lvb(words, geometry);
+    }
+    words.expect(b"status")?;
+    words.finish()?;
+    Ok(Command::Status)
+}
+
+/// The command that a text says. The ids and the offsets that it may name are those of the run: 1 to the number of hosts, and the
+/// bases of areas.
+///
+/// An `Err` has the column, counted in bytes from 1, of the first word that no form of a command takes behind the words before it; one
+/// past the text's end where a word is missing. Words are cut at each single space, so two spaces have an empty word between them, which
+/// no form takes; the empty text is one empty word, at column 1.
+#[tactic(auto, using(crate::proofs::VerbLaws::whole))]
+pub fn parse_command(text: &[u8], geometry: &Geometry) -> Result<Command, BadCommand>
+    ensures { result ≡ verbs.answered (commands.command_in (commands.forms (layout_of geometry.now)) text.now) }
+{
+    match command(&mut Words::new(text), geometry) {
+        Ok(command) => Ok(command),
+        Err(column) => Err(BadCommand {
+            column: column as u64,
+        }),
+    }
+}
