@@ -1,3 +1,4 @@
 pub mod ArgumentLaws
 pub mod LineLaws
+pub mod PartTexts
 pub mod VerbLaws
