@@ -1,4 +1,5 @@
 pub mod ArgumentLaws
+pub mod CommandTexts
 pub mod LineLaws
 pub mod PartTexts
 pub mod VerbLaws
