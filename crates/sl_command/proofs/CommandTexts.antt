@@ -132,17 +132,24 @@ asking_lver n h =
     let most : n ≤ 2 ^ 63 - 1 = leb-true n (2 ^ 63 - 1) parts.1 in
     let positive : 1 ≤ n = leb-true 1 n parts.0 in (positive, omega (arith, most))
 
+below_more : (n : ℕ) → n < 2 ^ 63 → n < 2 ^ 64
+below_more n h = omega arith
+
+not_zero : (n : ℕ) → 1 ≤ n → n ≡ 0 → ⊥
+not_zero n h z = omega arith
+
 asking_read : (g : Layout) (c e : List ℕ) → is_asked_word (λ n. is_in_range 1 (2 ^ 63 - 1) n) g c ≡ true → is_number_that (is_in_range 1 2) e ≡ true
     → IsCommand g (Request (resource_of_word c) (asked_of_word c) (number_of e))
     × (command_words (Request (resource_of_word c) (asked_of_word c) (number_of e)) ≡ codes "request" ∷ codes "-r" ∷ c ∷ codes "-f" ∷ e ∷ [])
 asking_read g c e hc he =
     let range : is_in_range 1 (2 ^ 63 - 1) (asked_of_word c) ≡ true = (and_true _ _ (and_true _ _ hc).1).1 in
     let lver = asking_lver (asked_of_word c) range in
-    let read = asked_read (λ n. is_in_range 1 (2 ^ 63 - 1) n) g c hc (omega (arith, lver.1)) in
+    let small : asked_of_word c < 2 ^ 64 = below_more (asked_of_word c) lver.1 in
+    let read = asked_read (λ n. is_in_range 1 (2 ^ 63 - 1) n) g c hc small in
     let force = number_read (is_in_range 1 2) e he (range_small 1 2 (number_of e) (lit< tt) (and_true _ _ he).1) in
     let low : 1 ≤ number_of e = leb-true 1 (number_of e) (and_true (leb 1 (number_of e)) (leb (number_of e) 2) force.0).0 in
     let high : number_of e ≤ 2 = leb-true (number_of e) 2 (and_true (leb 1 (number_of e)) (leb (number_of e) 2) force.0).1 in (
-      (read.0, record { below = lver.1; forces = high; clears = (λ z. absurd (omega (arith, z, low)), λ z. absurd (omega (arith, z, lver.0))) }),
+      (read.0, record { below = lver.1; forces = high; clears = (λ z. absurd (not_zero (number_of e) low z), λ z. absurd (not_zero (asked_of_word c) lver.0 z)) }),
       five_same _ _ _ _ _ _ _ _ _ _ refl refl read.2 refl force.1,
     )
 

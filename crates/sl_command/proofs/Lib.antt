@@ -1,5 +1,7 @@
+pub mod CommandLaws
 pub mod ArgumentLaws
 pub mod CommandTexts
 pub mod LineLaws
 pub mod PartTexts
 pub mod VerbLaws
+pub mod WrittenCommands

@@ -11,7 +11,7 @@ use Rattle.sl_trace.specs.Commands.{IsLockspaceArg, IsResourceArg, asked_of_word
 use Rattle.sl_trace.specs.declared.command.LockspaceArg.{LockspaceArg}
 use Rattle.sl_trace.specs.declared.command.ResourceArg.{ResourceArg}
 use Rattle.sl_words.proofs.WordLaws.{and_true}
-use Rattle.std.proofs.Common.{Bool, List, [], ap, arith, eqb, false, leb, length, lit<, ltb, refl, sym, true, ℕ, ◌&&◌, ◌++◌, ◌<◌, ◌^◌, ◌≡◌, ◌∙◌, ◌∷◌, ◌≤◌, ◌||◌}
+use Rattle.std.proofs.Common.{Bool, List, [], ap, arith, eqb, false, leb, length, lit<, ltb, refl, sym, true, ℕ, ◌%◌, ◌&&◌, ◌++◌, ◌<◌, ◌^◌, ◌≡◌, ◌∙◌, ◌∷◌, ◌≤◌, ◌||◌}
 use Rattle.std.proofs.lemmas.Bool.{and_from, eqb-true, leb-true, ltb-true, not_from_false}
 use Rattle.std.proofs.lemmas.List.Folds.{list_all-append}
 use Rattle.std.proofs.lemmas.Slice.Eq.{bytes_eq-Decides}
@@ -32,10 +32,10 @@ number_read p w h small = let parts = and_true _ _ h in (parts.1, decimal-number
 
 -- Bases, ids and such stay below 2^64.
 pub base_small : (g : Layout) (n : ℕ) → is_base g n ≡ true → n < 2 ^ 64
-base_small g n h = let below : n < 10 ^ 12 = ltb-true n (10 ^ 12) (and_true _ _ h).1 in omega (arith, below)
+base_small g n h = let below : n < 10 ^ 12 = ltb-true n (10 ^ 12) (and_true (eqb (n % g.area) 0) (ltb n (10 ^ 12)) h).1 in omega (arith, below)
 
 pub range_small : (low high n : ℕ) → high < 2 ^ 64 → is_in_range low high n ≡ true → n < 2 ^ 64
-range_small low high n small h = let most : n ≤ high = leb-true n high (and_true _ _ h).1 in omega (arith, most)
+range_small low high n small h = let most : n ≤ high = leb-true n high (and_true (leb low n) (leb n high) h).1 in omega (arith, most)
 
 -- ---- parts
 

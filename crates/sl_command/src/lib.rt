@@ -3,11 +3,13 @@
 
 mod arguments;
 pub mod effects;
+pub mod laws;
 pub mod reading;
 pub mod replies;
 mod words;
 pub mod writing;
 
 pub use effects::push_effect_lines;
+pub use reading::parse_command;
 pub use replies::push_reply_text;
 pub use writing::push_command_text;

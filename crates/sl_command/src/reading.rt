@@ -4,11 +4,12 @@
 //! word; here they are followed from the left. Each function reads what stands behind a verb, and gives the column of the first word
 //! that no form takes there: one past the end where a word is missing.
 
-ghost use Rattle.std.specs.Prelude.{false, true, ◌==◌, ◌≡◌};
+ghost use Rattle.std.specs.Prelude.{Ok, false, true, ◌==◌, ◌↔◌, ◌≡◌};
 ghost use Rattle.sl_area.specs.Layouts.{layout_of};
 ghost use Rattle.sl_command.specs.Verbs as verbs;
 ghost use Rattle.sl_text.specs.Walks.{read_by};
 ghost use Rattle.sl_trace.specs.Commands as commands;
+ghost use Rattle.sl_trace.specs.declared.command.Command.{Command};
 ghost use Rattle.sl_trace.specs.declared.command.Command.TheVariants.{GetLvb, Release};
 
 use crate::arguments;
@@ -206,14 +207,9 @@ fn command(words: &mut Words<'_>, geometry: &Geometry) -> Result<Command, usize>
     Ok(Command::Status)
 }
 
-/// The command that a text says. The ids and the offsets that it may name are those of the run: 1 to the number of hosts, and the
-/// bases of areas.
-///
-/// An `Err` has the column, counted in bytes from 1, of the first word that no form of a command takes behind the words before it; one
-/// past the text's end where a word is missing. Words are cut at each single space, so two spaces have an empty word between them, which
-/// no form takes; the empty text is one empty word, at column 1.
+/// The command that a text says; else the column of the first word that no form takes.
 #[tactic(auto, using(crate::proofs::VerbLaws::whole))]
-pub fn parse_command(text: &[u8], geometry: &Geometry) -> Result<Command, BadCommand>
+fn parsed(text: &[u8], geometry: &Geometry) -> Result<Command, BadCommand>
     ensures { result ≡ verbs.answered (commands.command_in (commands.forms (layout_of geometry.now)) text.now) }
 {
     match command(&mut Words::new(text), geometry) {
@@ -222,4 +218,20 @@ pub fn parse_command(text: &[u8], geometry: &Geometry) -> Result<Command, BadCom
             column: column as u64,
         }),
     }
+}
+
+/// The command that a text says. The ids and the offsets that it may name are those of the run: 1 to the number of hosts, and the
+/// bases of areas.
+///
+/// An `Err` has the column, counted in bytes from 1, of the first word that no form of a command takes behind the words before it; one
+/// past the text's end where a word is missing. Words are cut at each single space, so two spaces have an empty word between them, which
+/// no form takes; the empty text is one empty word, at column 1. It takes no memory.
+pub fn parse_command(text: &[u8], geometry: &Geometry) -> Result<Command, BadCommand>
+    ensures exact { result ≡ verbs.answered (commands.command_in (commands.forms (layout_of geometry.now)) text.now) }
+    // The answer is a command exactly where the text is that command's, and the command may name what it does.
+    ensures spelled { (c : Command) → (result ≡ Ok c) ↔ commands.SpellsCommand (layout_of geometry.now) text.now c }
+{
+    // A command has one text where there are fewer than 2^64 hosts; reading their number tells the proof that there are.
+    let _hosts = geometry.hosts();
+    parsed(text, geometry)
 }
