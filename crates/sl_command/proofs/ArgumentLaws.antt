@@ -6,12 +6,12 @@ use Rattle.sl_text.proofs.PartLaws.{five_read-is, four_read-is}
 use Rattle.sl_text.specs.Forms.{pieces, word_at}
 use Rattle.sl_text.specs.Names.{is_name, is_path}
 use Rattle.sl_text.specs.Numbers.{is_number_text, is_number_that, number_of}
-use Rattle.sl_text.specs.Walks.{Part, Unread, are_five, are_four, at_end, five_read, four_read, next_part, past_word, past_words, unread}
-use Rattle.sl_trace.specs.Commands.{asked_of_word, is_asked_word, is_lockspace_word, is_resource_front, is_resource_word, is_shared_word, lockspace_of_word, resource_of_word}
+use Rattle.sl_text.specs.Walks.{Part, Unread, at_end, next_part, past_word, past_words, unread}
+use Rattle.sl_trace.specs.Commands.{is_lockspace_word, is_resource_front, is_resource_word, is_shared_word, lockspace_of_word, resource_of_word}
 use Rattle.sl_trace.specs.declared.command.ResourceArg.{ResourceArg}
 use Rattle.sl_words.specs.Results.{◌>>=◌}
 use Rattle.sl_words.specs.Words.{choose}
-use Rattle.std.proofs.Common.{Bool, List, [], ap, arith, eqb, false, length, refl, sym, true, ℕ, ◌&&◌, ◌-◌, ◌^◌, ◌||◌, ◌≡◌, ◌∙◌, ◌∷◌}
+use Rattle.std.proofs.Common.{Bool, List, [], ap, arith, eqb, false, length, refl, true, ℕ, ◌&&◌, ◌-◌, ◌^◌, ◌||◌, ◌≡◌, ◌∙◌, ◌∷◌}
 use Rattle.std.proofs.lemmas.Bool.Decides.{nat_tests}
 use Rattle.std.specs.Int.{is_in_range}
 use Rattle.std.specs.Prelude.{Err, None, Ok, Option, Result, Some, bytes_eq, codes, not}

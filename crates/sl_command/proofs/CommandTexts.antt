@@ -6,21 +6,21 @@ use Rattle.sl_text.proofs.HexLaws.{IsBytes-hex_bytes, hex_text-hex_bytes, hex_wo
 use Rattle.sl_text.specs.Forms.{Form, coloned, exactly, fits_whole, fitting, made_by, word_at}
 use Rattle.sl_text.specs.Names.{is_path}
 use Rattle.sl_text.specs.Numbers.{IsBytes, hex_bytes, hex_text, is_hex_word, is_number_that, number_of}
-use Rattle.sl_trace.specs.Commands.{IsCommand, IsLockspaceArg, IsProcess, IsRequestArg, IsValueArg, asked_of_word, command_words, forms, is_asked_word, is_lockspace_word, is_process_word, is_resource_word, is_shared_word, lockspace_form, lockspace_of_word, lockspace_word, resource_of_word, resource_parts}
+use Rattle.sl_trace.specs.Commands.{IsCommand, IsLockspaceArg, IsProcess, IsValueArg, asked_of_word, command_words, forms, is_asked_word, is_lockspace_word, is_process_word, is_resource_word, is_shared_word, lockspace_form, lockspace_of_word, lockspace_word, resource_of_word, resource_parts}
 use Rattle.sl_trace.specs.declared.command.Command.TheVariants.{Acquire, AddLockspace, GetLvb, HostStatus, InqLockspace, Release, RemLockspace, Request, RunProgram, SetLvb, Status}
 use Rattle.sl_trace.specs.declared.command.Command.{Command}
 use Rattle.sl_trace.specs.declared.command.LockspaceArg.{LockspaceArg}
 use Rattle.sl_words.proofs.CaseLaws.{some_value}
 use Rattle.sl_words.proofs.WordLaws.{and_true}
-use Rattle.std.proofs.Common.{Bool, List, None, Option, Some, [], ap, arith, cond, eqb, false, leb, length, lit<, lit≤, ltb, refl, subst, suc, sym, true, zero, ℕ, ◌&&◌, ◌++◌, ◌+◌, ◌-◌, ◌*◌, ◌/◌, ◌<◌, ◌^◌, ◌≡◌, ◌∙◌, ◌∷◌, ◌≤◌}
+use Rattle.std.proofs.Common.{Bool, List, Some, [], ap, arith, cond, eqb, false, leb, length, lit<, lit≤, ltb, refl, subst, suc, sym, true, ℕ, ◌&&◌, ◌++◌, ◌+◌, ◌-◌, ◌*◌, ◌/◌, ◌<◌, ◌^◌, ◌≡◌, ◌∙◌, ◌∷◌, ◌≤◌}
 use Rattle.std.proofs.lemmas.Bool.Decides.{nat_tests}
-use Rattle.std.proofs.lemmas.Bool.{and_from, eqb-true, le-leb, leb-true, lt-ltb}
+use Rattle.std.proofs.lemmas.Bool.{and_from, leb-true, lt-ltb}
 use Rattle.std.proofs.lemmas.Fmt.{decimal_digit}
 use Rattle.std.proofs.lemmas.Slice.Eq.{bytes_eq-Decides}
 use Rattle.std.specs.Int.{is_in_range}
 use Rattle.std.specs.List.{find, list_all}
 use Rattle.std.specs.Option.{option_map}
-use Rattle.std.specs.Prelude.{IsTrue, codes, decimal, if◌then◌else◌, ◌==◌}
+use Rattle.std.specs.Prelude.{codes, decimal, if◌then◌else◌, ◌==◌}
 
 -- ---- words that fit a form
 

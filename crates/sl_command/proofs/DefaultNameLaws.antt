@@ -4,7 +4,7 @@ use Rattle.sl_text.specs.Names.{is_name, is_name_byte}
 use Rattle.sl_text.specs.Numbers.{hex_text}
 use Rattle.sl_words.proofs.ListLaws.{list_all-drop, list_all-take}
 use Rattle.sl_words.proofs.WordLaws.{and_true}
-use Rattle.std.proofs.Common.{Bool, List, [], arith, drop, length, ltb, refl, suc, take, true, zero, ℕ, ◌%◌, ◌&&◌, ◌++◌, ◌/◌, ◌<◌, ◌≡◌, ◌∙◌, ◌∷◌}
+use Rattle.std.proofs.Common.{Bool, List, [], arith, drop, ltb, refl, suc, take, true, zero, ℕ, ◌%◌, ◌++◌, ◌/◌, ◌<◌, ◌≡◌, ◌∙◌, ◌∷◌}
 use Rattle.std.proofs.lemmas.Bool.Decides.{nat_tests}
 use Rattle.std.proofs.lemmas.Bool.{and_from, lt-ltb, ltb-true}
 use Rattle.std.proofs.lemmas.List.Folds.{list_all-append}

@@ -4,8 +4,7 @@ use Rattle.sl_sector.proofs.TextLaws.{join_with_byte-cons}
 use Rattle.sl_sector.specs.RecordTexts.{dash_for_none}
 use Rattle.sl_text.specs.Forms.{as_bytes, spaced}
 use Rattle.sl_text.specs.Numbers.{hex_text}
-use Rattle.sl_trace.specs.EffectTexts.{answer_words, call_words, effect_lines, end_words, grant_words, machine_line, move_words, reply_text, reply_words, sent_words, start_words}
-use Rattle.sl_trace.specs.declared.effects.Effects.{Effects}
+use Rattle.sl_trace.specs.EffectTexts.{answer_words, machine_line, reply_text, reply_words}
 use Rattle.sl_trace.specs.declared.effects.JobReply.{JobReply}
 use Rattle.sl_trace.specs.declared.reply.Reply.TheVariants.{Ahead, BadCommand as Misread, Busy, Done, Generation, Granted, Held as HeldBy, Hosts, IdHeld, IdLate, IdLost, IoFault, IoTimeout, Joined, Joining as StillJoining, Limit as LimitReached, NoProcess, NoSession, NotHeld, Pending, Recovering, RequestOld, Rival, Sessions, Shared as SharedBy, SpawnFault, Started, TornBlock, TornDelta, TornLeader, Value, ValueTorn, WrongArea, WrongDelta}
 use Rattle.sl_trace.specs.declared.reply.Reply.{Reply}

@@ -11,7 +11,7 @@ use Rattle.sl_trace.specs.Commands.{IsLockspaceArg, IsResourceArg, asked_of_word
 use Rattle.sl_trace.specs.declared.command.LockspaceArg.{LockspaceArg}
 use Rattle.sl_trace.specs.declared.command.ResourceArg.{ResourceArg}
 use Rattle.sl_words.proofs.WordLaws.{and_true}
-use Rattle.std.proofs.Common.{Bool, List, [], ap, arith, eqb, false, leb, length, lit<, ltb, refl, sym, true, ℕ, ◌%◌, ◌&&◌, ◌++◌, ◌<◌, ◌^◌, ◌≡◌, ◌∙◌, ◌∷◌, ◌≤◌, ◌||◌}
+use Rattle.std.proofs.Common.{Bool, List, [], ap, arith, eqb, false, leb, length, ltb, refl, sym, true, ℕ, ◌%◌, ◌&&◌, ◌++◌, ◌<◌, ◌^◌, ◌≡◌, ◌∙◌, ◌∷◌, ◌≤◌, ◌||◌}
 use Rattle.std.proofs.lemmas.Bool.{and_from, eqb-true, leb-true, ltb-true, not_from_false}
 use Rattle.std.proofs.lemmas.List.Folds.{list_all-append}
 use Rattle.std.proofs.lemmas.Slice.Eq.{bytes_eq-Decides}

@@ -3,15 +3,15 @@ use Rattle.sl_area.specs.Layouts.{Layout}
 use Rattle.sl_command.proofs.PartTexts.{asked_written, lockspace_written, number_written, range_small, resource_written, shared_written}
 use Rattle.sl_command.proofs.VerbLaws.{acquire_verb, add_lockspace_verb, get_lvb_verb, host_status_verb, inq_lockspace_verb, not_exclusive, program_verb, read_whole, release_verb, rem_lockspace_verb, request_verb, set_lvb_verb, status_verb}
 use Rattle.sl_command.specs.Arguments.{beside, is_asking_word, is_clearing_word, is_moded_word, is_request_word, moded_of_word, request_of_word}
-use Rattle.sl_command.specs.Verbs.{acquire_read, asking_tests, clearing_tests, for_process, force_with, lockspace_behind, process_behind, process_tests, program_behind, program_tests, value_behind, value_tests, with_resource, with_value}
+use Rattle.sl_command.specs.Verbs.{asking_tests, clearing_tests, for_process, force_with, lockspace_behind, process_behind, process_tests, program_behind, program_tests, value_behind, value_tests, with_resource, with_value}
 use Rattle.sl_text.proofs.FreeLaws.{decimal_free, hex_free, path_free}
 use Rattle.sl_text.proofs.HexLaws.{hex_bytes-hex_text, is_hex_word-hex_text}
 use Rattle.sl_text.proofs.NumberLaws.{number_of-decimal}
 use Rattle.sl_text.proofs.PieceLaws.{pieces-join_with_byte}
 use Rattle.sl_text.specs.Forms.{coloned, exactly, is_free_of, spaced, word_at}
 use Rattle.sl_text.specs.Names.{is_path}
-use Rattle.sl_text.specs.Numbers.{IsBytes, hex_bytes, hex_text, is_hex_word, is_number_that, number_of}
-use Rattle.sl_text.specs.Walks.{Unread, column_behind, past_word, read_by, read_each, unread}
+use Rattle.sl_text.specs.Numbers.{IsBytes, hex_bytes, hex_text, is_hex_word, number_of}
+use Rattle.sl_text.specs.Walks.{Unread, column_behind, past_word, read_by, read_each}
 use Rattle.sl_trace.specs.Commands.{asked_of_word, IsCommand, IsLockspaceArg, IsProcess, IsRequestArg, IsResourceArg, IsValueArg, command_in, command_words, forms, is_lockspace_word, is_process_word, is_resource_word, is_shared_word, lockspace_of_word, lockspace_word, moded_word, resource_of_word, resource_parts}
 use Rattle.sl_trace.specs.declared.command.Command.TheVariants.{Acquire, AddLockspace, GetLvb, HostStatus, InqLockspace, Release, RemLockspace, Request, RunProgram, SetLvb, Status}
 use Rattle.sl_trace.specs.declared.command.Command.{Command}
@@ -19,12 +19,12 @@ use Rattle.sl_trace.specs.declared.command.LockspaceArg.{LockspaceArg}
 use Rattle.sl_trace.specs.declared.command.ResourceArg.{ResourceArg}
 use Rattle.sl_words.proofs.WordLaws.{and_true}
 use Rattle.sl_words.specs.Results.{◌>>=◌}
-use Rattle.std.proofs.Common.{Bool, List, [], ap, arith, eqb, false, leb, length, lit<, ltb, refl, subst, suc, sym, true, zero, ℕ, ◌&&◌, ◌++◌, ◌+◌, ◌-◌, ◌*◌, ◌<◌, ◌^◌, ◌||◌, ◌≡◌, ◌∙◌, ◌∷◌, ◌≤◌}
+use Rattle.std.proofs.Common.{Bool, List, [], ap, arith, false, leb, length, lit<, ltb, refl, subst, suc, sym, true, zero, ℕ, ◌++◌, ◌+◌, ◌-◌, ◌<◌, ◌^◌, ◌||◌, ◌≡◌, ◌∙◌, ◌∷◌, ◌≤◌}
 use Rattle.std.proofs.lemmas.Bool.{and_from, le-leb, leb-true, ltb-true, ne_eqb, or_right}
 use Rattle.std.proofs.lemmas.Fmt.{decimal_digit}
 use Rattle.std.specs.Int.{is_in_range}
 use Rattle.std.specs.List.{list_all}
-use Rattle.std.specs.Prelude.{Err, Ok, Result, codes, decimal, if◌then◌else◌, not, slice_index, ◌==◌}
+use Rattle.std.specs.Prelude.{Err, Ok, Result, codes, decimal, if◌then◌else◌, not, ◌==◌}
 
 -- ---- words that pass
 

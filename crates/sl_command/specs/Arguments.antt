@@ -4,14 +4,14 @@ use Rattle.sl_area.specs.Places.{is_base}
 use Rattle.sl_text.specs.Forms.{exactly}
 use Rattle.sl_text.specs.Names.{is_name, is_path}
 use Rattle.sl_text.specs.Numbers.{is_number_that, number_of}
-use Rattle.sl_text.specs.Walks.{Part, Unread, at_end, five_read, four_read, next_part, past_word, past_words}
+use Rattle.sl_text.specs.Walks.{Part, Unread, at_end, four_read, next_part, past_word, past_words}
 use Rattle.sl_trace.specs.Commands.{asked_of_word, is_asked_word, is_resource_word, is_shared_word, resource_of_word}
 use Rattle.sl_trace.specs.declared.command.LockspaceArg.{LockspaceArg}
 use Rattle.sl_trace.specs.declared.command.ResourceArg.{ResourceArg}
 use Rattle.sl_words.specs.Bounds.{record_numbers}
 use Rattle.sl_words.specs.Results.{◌>>=◌}
 use Rattle.std.specs.Int.{is_in_range}
-use Rattle.std.specs.Prelude.{Bool, List, Ok, Result, codes, not, [], ℕ, ◌-◌, ◌==◌, ◌||◌}
+use Rattle.std.specs.Prelude.{Bool, List, Ok, Result, codes, not, ℕ, ◌-◌, ◌==◌, ◌||◌}
 
 -- A name.
 abbrev pub name_part : Part (List ℕ)
