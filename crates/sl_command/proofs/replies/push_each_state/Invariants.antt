@@ -1,0 +1,7 @@
+use Rattle.sl_command.proofs.replies.push_each_state.Given as goal
+use Rattle.sl_command.specs.Lines.{behind, host_words}
+use Rattle.std.proofs.Common.{take, ◌++◌, ◌≡◌}
+
+-- the ids before this one have been added where they are not free
+abbrev pub invariant-loop-host : goal.invariant-loop-host
+invariant-loop-host l = l.out.items ≡ l.fn.out.items ++ behind (host_words (take l.host-index l.hosts))

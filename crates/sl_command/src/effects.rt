@@ -1,0 +1,260 @@
+//! The lines that a step of a daemon writes, with their line feeds: what it did, in the order of the classes of effects.
+
+ghost use Rattle.std.specs.Prelude.{OnErr, OnOk, codes, decimal, ◌++◌, ◌∷◌, ◌≡◌, []};
+ghost use Rattle.sl_command.specs.Lines.{class_text, line_text};
+ghost use Rattle.sl_sector.specs.RecordTexts.{record_words};
+ghost use Rattle.sl_text.specs.Forms.{as_bytes};
+ghost use Rattle.sl_trace.specs.EffectTexts as texts;
+
+use crate::replies;
+use crate::words::{push_text, push_word};
+use sl_sector::{Rec, push_record_text};
+use sl_text::Name;
+use sl_text::write::push_line;
+use sl_trace::{Call, Effects, End, Grant, JobReply, Mode, Move, Op, Sent, Signal, Start};
+use std::alloc::AllocError;
+
+/// Adds the line of an end.
+fn push_end(out: &mut Vec<u8>, machine: u32, end: &End) -> Result<(), AllocError>
+    ensures { OnOk result (out.new.items ≡ out.old.items ++ line_text machine (texts.end_words end.now)) }
+{
+    let line = format!(in *out.allocator();
+        "{machine} end {} {}:{}",
+        end.process, end.lockspace, end.resource
+    )?;
+    push_line(out, line.as_bytes())
+}
+
+/// Adds the lines of ends.
+fn push_ends(out: &mut Vec<u8>, machine: u32, ends: &[End]) -> Result<(), AllocError>
+    ensures { OnOk result (out.new.items ≡ out.old.items ++ class_text machine (λ e. texts.end_words e) ends.now) }
+{
+    for end in ends {
+        push_end(out, machine, end)?;
+    }
+    Ok(())
+}
+
+/// The word of a signal.
+fn signal_word(signal: Signal) -> &'static str
+    ensures { result.now ≡ texts.signal_word signal }
+{
+    match signal {
+        Signal::Term => "term",
+        Signal::Kill => "kill",
+    }
+}
+
+/// Adds the line of a signal.
+fn push_signal(out: &mut Vec<u8>, machine: u32, sent: &Sent) -> Result<(), AllocError>
+    ensures { OnOk result (out.new.items ≡ out.old.items ++ line_text machine (texts.sent_words sent.now)) }
+{
+    let signal = signal_word(sent.signal);
+    let line = format!(in *out.allocator(); "{machine} signal {} {signal}", sent.process)?;
+    push_line(out, line.as_bytes())
+}
+
+/// Adds the lines of signals.
+fn push_signals(out: &mut Vec<u8>, machine: u32, signals: &[Sent]) -> Result<(), AllocError>
+    ensures { OnOk result (out.new.items ≡ out.old.items ++ class_text machine (λ s. texts.sent_words s) signals.now) }
+{
+    for sent in signals {
+        push_signal(out, machine, sent)?;
+    }
+    Ok(())
+}
+
+/// Adds the line of a connection that begins or renews, with its expiry.
+fn push_expiry(
+    out: &mut Vec<u8>,
+    machine: u32,
+    verb: &str,
+    lockspace: &Name,
+    expiry: u64,
+) -> Result<(), AllocError>
+    ensures { OnOk result (out.new.items ≡ out.old.items ++ line_text machine (codes "wdmd" ∷ verb.now ∷ lockspace.now ∷ decimal expiry ∷ [])) }
+{
+    let line = format!(in *out.allocator(); "{machine} wdmd {verb} {lockspace} {expiry}")?;
+    push_line(out, line.as_bytes())
+}
+
+/// Adds the line of a connection that ends.
+fn push_unregister(out: &mut Vec<u8>, machine: u32, lockspace: &Name) -> Result<(), AllocError>
+    ensures { OnOk result (out.new.items ≡ out.old.items ++ line_text machine (codes "wdmd" ∷ codes "unregister" ∷ lockspace.now ∷ [])) }
+{
+    let line = format!(in *out.allocator(); "{machine} wdmd unregister {lockspace}")?;
+    push_line(out, line.as_bytes())
+}
+
+/// Adds the line of a connection's move.
+fn push_move(out: &mut Vec<u8>, machine: u32, step: &Move) -> Result<(), AllocError>
+    ensures { OnOk result (out.new.items ≡ out.old.items ++ line_text machine (texts.move_words step.now)) }
+{
+    match step {
+        Move::Register { lockspace, expiry } => {
+            push_expiry(out, machine, "register", lockspace, *expiry)
+        }
+        Move::Renew { lockspace, expiry } => push_expiry(out, machine, "renew", lockspace, *expiry),
+        Move::Unregister { lockspace } => push_unregister(out, machine, lockspace),
+    }
+}
+
+/// Adds the lines of connections' moves.
+fn push_moves(out: &mut Vec<u8>, machine: u32, moves: &[Move]) -> Result<(), AllocError>
+    ensures { OnOk result (out.new.items ≡ out.old.items ++ class_text machine (λ m. texts.move_words m) moves.now) }
+{
+    for step in moves {
+        push_move(out, machine, step)?;
+    }
+    Ok(())
+}
+
+/// The word of a mode.
+fn mode_word(mode: Mode) -> &'static str
+    ensures { result.now ≡ texts.mode_word mode }
+{
+    match mode {
+        Mode::Exclusive => "ex",
+        Mode::Shared => "sh",
+    }
+}
+
+/// Adds the line of a grant.
+fn push_grant(out: &mut Vec<u8>, machine: u32, grant: &Grant) -> Result<(), AllocError>
+    ensures { OnOk result (out.new.items ≡ out.old.items ++ line_text machine (texts.grant_words grant.now)) }
+{
+    let mode = mode_word(grant.mode);
+    let line = format!(in *out.allocator();
+        "{machine} grant {} {}:{} {mode} {}",
+        grant.process, grant.lockspace, grant.resource, grant.lver
+    )?;
+    push_line(out, line.as_bytes())
+}
+
+/// Adds the lines of grants.
+fn push_grants(out: &mut Vec<u8>, machine: u32, grants: &[Grant]) -> Result<(), AllocError>
+    ensures { OnOk result (out.new.items ≡ out.old.items ++ class_text machine (λ g. texts.grant_words g) grants.now) }
+{
+    for grant in grants {
+        push_grant(out, machine, grant)?;
+    }
+    Ok(())
+}
+
+/// Adds the line of a child's start.
+fn push_start(out: &mut Vec<u8>, machine: u32, start: &Start) -> Result<(), AllocError>
+    ensures { OnOk result (out.new.items ≡ out.old.items ++ line_text machine (texts.start_words start.now)) }
+{
+    let line = format!(in *out.allocator(); "{machine} start {} {}", start.process, start.program)?;
+    push_line(out, line.as_bytes())
+}
+
+/// Adds the lines of children's starts.
+fn push_starts(out: &mut Vec<u8>, machine: u32, starts: &[Start]) -> Result<(), AllocError>
+    ensures { OnOk result (out.new.items ≡ out.old.items ++ class_text machine (λ s. texts.start_words s) starts.now) }
+{
+    for start in starts {
+        push_start(out, machine, start)?;
+    }
+    Ok(())
+}
+
+/// Adds the line of a reply to a job.
+#[tactic(auto, using(crate::proofs::LineLaws::replies))]
+fn push_answer(out: &mut Vec<u8>, machine: u32, answer: &JobReply) -> Result<(), AllocError>
+    ensures { OnOk result (out.new.items ≡ out.old.items ++ line_text machine (texts.answer_words answer.now)) }
+{
+    let alloc = *out.allocator();
+    let front = format!(in alloc; "{machine} reply {}", answer.job)?;
+    let reply = replies::text_of(alloc, &answer.reply)?;
+    push_text(out, front.as_bytes())?;
+    push_word(out, &reply)?;
+    push_text(out, b"\n")?;
+    Ok(())
+}
+
+/// Adds the lines of replies to jobs.
+fn push_answers(out: &mut Vec<u8>, machine: u32, answers: &[JobReply]) -> Result<(), AllocError>
+    ensures { OnOk result (out.new.items ≡ out.old.items ++ class_text machine (λ a. texts.answer_words a) answers.now) }
+{
+    for answer in answers {
+        push_answer(out, machine, answer)?;
+    }
+    Ok(())
+}
+
+/// Adds the line of a read.
+fn push_read(out: &mut Vec<u8>, machine: u32, call: &Call, sectors: u32) -> Result<(), AllocError>
+    ensures { OnOk result (out.new.items ≡ out.old.items
+        ++ line_text machine (codes "call" ∷ decimal call.now.number ∷ codes "read" ∷ call.now.path ∷ decimal call.now.offset ∷ decimal sectors ∷ [])) }
+{
+    let line = format!(in *out.allocator();
+        "{machine} call {} read {} {} {sectors}",
+        call.number, call.path, call.offset
+    )?;
+    push_line(out, line.as_bytes())
+}
+
+/// Adds the line of a write.
+fn push_write(out: &mut Vec<u8>, machine: u32, call: &Call, written: &Rec) -> Result<(), AllocError>
+    ensures { OnOk result (out.new.items ≡ out.old.items
+        ++ line_text machine (codes "call" ∷ decimal call.now.number ∷ codes "write" ∷ call.now.path ∷ decimal call.now.offset ∷ record_words written.now)) }
+{
+    let line = format!(in *out.allocator();
+        "{machine} call {} write {} {}",
+        call.number, call.path, call.offset
+    )?;
+    push_text(out, line.as_bytes())?;
+    push_text(out, b" ")?;
+    push_record_text(out, written)?;
+    push_text(out, b"\n")?;
+    Ok(())
+}
+
+/// Adds the line of a call.
+fn push_call(out: &mut Vec<u8>, machine: u32, call: &Call) -> Result<(), AllocError>
+    ensures { OnOk result (out.new.items ≡ out.old.items ++ line_text machine (texts.call_words call.now)) }
+{
+    match call.op {
+        Op::ReadSectors { sectors } => push_read(out, machine, call, sectors),
+        Op::WriteRecord { record } => push_write(out, machine, call, &record),
+    }
+}
+
+/// Adds the lines of calls.
+fn push_calls(out: &mut Vec<u8>, machine: u32, calls: &[Call]) -> Result<(), AllocError>
+    ensures { OnOk result (out.new.items ≡ out.old.items ++ class_text machine (λ k. texts.call_words k) calls.now) }
+{
+    for call in calls {
+        push_call(out, machine, call)?;
+    }
+    Ok(())
+}
+
+/// Adds the lines of all classes.
+fn push_classes(out: &mut Vec<u8>, machine: u32, effects: &Effects) -> Result<(), AllocError>
+    ensures { OnOk result (out.new.items ≡ out.old.items ++ as_bytes (texts.effect_lines machine effects.now)) }
+{
+    push_ends(out, machine, effects.ends.as_slice())?;
+    push_signals(out, machine, effects.signals.as_slice())?;
+    push_moves(out, machine, effects.moves.as_slice())?;
+    push_grants(out, machine, effects.grants.as_slice())?;
+    push_starts(out, machine, effects.starts.as_slice())?;
+    push_answers(out, machine, effects.replies.as_slice())?;
+    push_calls(out, machine, effects.calls.as_slice())?;
+    Ok(())
+}
+
+/// Adds the lines of one step of a machine, each with its line feed. An `Err` is want of memory, and `out` stays as it was.
+pub fn push_effect_lines(
+    out: &mut Vec<u8>,
+    machine: u32,
+    effects: &Effects,
+) -> Result<(), AllocError>
+    ensures ok { OnOk result (out.new.items ≡ out.old.items ++ as_bytes (texts.effect_lines machine effects.now)) }
+    ensures err { OnErr result (out.new.items ≡ out.old.items) }
+{
+    let mut lines = Vec::new(*out.allocator());
+    push_classes(&mut lines, machine, effects)?;
+    out.extend_from_slice(&lines)
+}

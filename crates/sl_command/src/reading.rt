@@ -1,0 +1,237 @@
+//! The text of a command, read word by word.
+//!
+//! A command is a verb and its arguments, each behind a flag, in one order. The forms of all commands are a list of tests, one for each
+//! word; here they are followed from the left. Each function reads what stands behind a verb, and gives the column of the first word
+//! that no form takes there: one past the end where a word is missing.
+
+ghost use Rattle.std.specs.Prelude.{Ok, false, true, ◌==◌, ◌↔◌, ◌≡◌};
+ghost use Rattle.sl_area.specs.Layouts.{layout_of};
+ghost use Rattle.sl_command.specs.Verbs as verbs;
+ghost use Rattle.sl_text.specs.Walks.{read_by};
+ghost use Rattle.sl_trace.specs.Commands as commands;
+ghost use Rattle.sl_trace.specs.declared.command.Command.{Command};
+ghost use Rattle.sl_trace.specs.declared.command.Command.TheVariants.{GetLvb, Release};
+
+use crate::arguments;
+use sl_area::Geometry;
+use sl_text::words::Words;
+use sl_text::{Data, FilePath};
+use sl_trace::{BadCommand, Command, LockspaceArg};
+
+/// Reads `-s` and a lockspace.
+fn lockspace(words: &mut Words<'_>, geometry: &Geometry) -> Result<LockspaceArg, usize>
+    ensures { result ≡ verbs.lockspace_behind (layout_of geometry.now) words.old }
+{
+    words.expect(b"-s")?;
+    let lockspace = arguments::lockspace(words, geometry)?;
+    words.finish()?;
+    Ok(lockspace)
+}
+
+/// Reads `-p` and a process.
+fn process(words: &mut Words<'_>) -> Result<u32, usize>
+    ensures { result ≡ verbs.process_behind words.old }
+{
+    words.expect(b"-p")?;
+    let process = arguments::process(words)?;
+    words.finish()?;
+    Ok(process)
+}
+
+/// Reads `-c` and a program.
+fn program(words: &mut Words<'_>) -> Result<FilePath, usize>
+    ensures { result ≡ verbs.program_behind words.old }
+{
+    words.expect(b"-c")?;
+    let path = words.path()?;
+    words.finish()?;
+    Ok(path)
+}
+
+/// Reads `-p`, a process, `-d` and a value.
+fn value(words: &mut Words<'_>) -> Result<(u32, Data), usize>
+    ensures { result ≡ verbs.value_behind words.old }
+{
+    words.expect(b"-p")?;
+    let process = arguments::process(words)?;
+    words.expect(b"-d")?;
+    let bytes = words.hex()?;
+    words.finish()?;
+    Ok((process, bytes))
+}
+
+/// Reads `-f` and the force that clears a request.
+fn clearing(words: &mut Words<'_>) -> Result<u32, usize>
+    ensures { result ≡ verbs.force_with true words.old }
+{
+    words.expect(b"-f")?;
+    words.expect(b"0")?;
+    words.finish()?;
+    Ok(0)
+}
+
+/// Reads `-f` and a force that asks.
+fn asking(words: &mut Words<'_>) -> Result<u32, usize>
+    ensures { result ≡ verbs.force_with false words.old }
+{
+    words.expect(b"-f")?;
+    let force = arguments::force(words)?;
+    words.finish()?;
+    Ok(force)
+}
+
+/// Reads `-f` and the force that goes with an lver: 0 with 0, which clears a request; 1 or 2 with any other.
+fn force(words: &mut Words<'_>, lver: u64) -> Result<u32, usize>
+    ensures { result ≡ verbs.force_with (lver == 0) words.old }
+{
+    if lver == 0 {
+        clearing(words)
+    } else {
+        asking(words)
+    }
+}
+
+/// Reads what stands behind `acquire`.
+fn acquire(words: &mut Words<'_>, geometry: &Geometry) -> Result<Command, usize>
+    ensures { result ≡ verbs.acquire_read (layout_of geometry.now) words.old }
+{
+    words.expect(b"-r")?;
+    let (resource, shared) = arguments::moded(words, geometry)?;
+    let process = process(words)?;
+    Ok(Command::Acquire {
+        resource,
+        shared,
+        process,
+    })
+}
+
+/// Reads what stands behind `release`.
+fn release(words: &mut Words<'_>, geometry: &Geometry) -> Result<Command, usize>
+    ensures { result ≡ verbs.for_process (layout_of geometry.now) (λ r p. Release r p) words.old }
+{
+    words.expect(b"-r")?;
+    let resource = arguments::resource(words, geometry)?;
+    let process = process(words)?;
+    Ok(Command::Release { resource, process })
+}
+
+/// Reads what stands behind `command`.
+fn run_program(words: &mut Words<'_>, geometry: &Geometry) -> Result<Command, usize>
+    ensures { result ≡ verbs.program_read (layout_of geometry.now) words.old }
+{
+    words.expect(b"-r")?;
+    let (resource, shared) = arguments::moded(words, geometry)?;
+    let program = program(words)?;
+    Ok(Command::RunProgram {
+        resource,
+        shared,
+        program,
+    })
+}
+
+/// Reads what stands behind `request`.
+fn request(words: &mut Words<'_>, geometry: &Geometry) -> Result<Command, usize>
+    ensures { result ≡ verbs.request_read (layout_of geometry.now) words.old }
+{
+    words.expect(b"-r")?;
+    let (resource, lver) = arguments::request(words, geometry)?;
+    let force = force(words, lver)?;
+    Ok(Command::Request {
+        resource,
+        lver,
+        force,
+    })
+}
+
+/// Reads what stands behind `get_lvb`.
+fn get_lvb(words: &mut Words<'_>, geometry: &Geometry) -> Result<Command, usize>
+    ensures { result ≡ verbs.for_process (layout_of geometry.now) (λ r p. GetLvb r p) words.old }
+{
+    words.expect(b"-r")?;
+    let resource = arguments::resource(words, geometry)?;
+    let process = process(words)?;
+    Ok(Command::GetLvb { resource, process })
+}
+
+/// Reads what stands behind `set_lvb`.
+fn set_lvb(words: &mut Words<'_>, geometry: &Geometry) -> Result<Command, usize>
+    ensures { result ≡ verbs.value_read (layout_of geometry.now) words.old }
+{
+    words.expect(b"-r")?;
+    let resource = arguments::resource(words, geometry)?;
+    let (process, value) = value(words)?;
+    Ok(Command::SetLvb {
+        resource,
+        process,
+        value,
+    })
+}
+
+/// Reads the words of a command; else gives the column of the first word that no form takes.
+#[tactic(auto, using(crate::proofs::VerbLaws::verbs))]
+fn command(words: &mut Words<'_>, geometry: &Geometry) -> Result<Command, usize>
+    ensures { result ≡ read_by (commands.forms (layout_of geometry.now)) words.old }
+{
+    if words.skip(b"add_lockspace") {
+        return Ok(Command::AddLockspace(lockspace(words, geometry)?));
+    }
+    if words.skip(b"rem_lockspace") {
+        return Ok(Command::RemLockspace(lockspace(words, geometry)?));
+    }
+    if words.skip(b"inq_lockspace") {
+        return Ok(Command::InqLockspace(lockspace(words, geometry)?));
+    }
+    if words.skip(b"host_status") {
+        return Ok(Command::HostStatus(lockspace(words, geometry)?));
+    }
+    if words.skip(b"acquire") {
+        return acquire(words, geometry);
+    }
+    if words.skip(b"release") {
+        return release(words, geometry);
+    }
+    if words.skip(b"command") {
+        return run_program(words, geometry);
+    }
+    if words.skip(b"request") {
+        return request(words, geometry);
+    }
+    if words.skip(b"get_lvb") {
+        return get_lvb(words, geometry);
+    }
+    if words.skip(b"set_lvb") {
+        return set_lvb(words, geometry);
+    }
+    words.expect(b"status")?;
+    words.finish()?;
+    Ok(Command::Status)
+}
+
+/// The command that a text says; else the column of the first word that no form takes.
+#[tactic(auto, using(crate::proofs::VerbLaws::whole))]
+fn parsed(text: &[u8], geometry: &Geometry) -> Result<Command, BadCommand>
+    ensures { result ≡ verbs.answered (commands.command_in (commands.forms (layout_of geometry.now)) text.now) }
+{
+    match command(&mut Words::new(text), geometry) {
+        Ok(command) => Ok(command),
+        Err(column) => Err(BadCommand {
+            column: column as u64,
+        }),
+    }
+}
+
+/// The command that a text says. The ids and the offsets that it may name are those of the run: 1 to the number of hosts, and the
+/// bases of areas.
+///
+/// An `Err` has the column, counted in bytes from 1, of the first word that no form of a command takes behind the words before it; one
+/// past the text's end where a word is missing. Words are cut at each single space, so two spaces have an empty word between them, which
+/// no form takes; the empty text is one empty word, at column 1. It takes no memory.
+pub fn parse_command(text: &[u8], geometry: &Geometry) -> Result<Command, BadCommand>
+    ensures exact { result ≡ verbs.answered (commands.command_in (commands.forms (layout_of geometry.now)) text.now) }
+    // The answer is a command exactly where the text is that command's, and the command may name what it does.
+    ensures spelled { (c : Command) → (result ≡ Ok c) ↔ commands.SpellsCommand (layout_of geometry.now) text.now c }
+{
+    // A command has one text where there are fewer than 2^64 hosts; reading their number tells the proof that there are.
+    let _hosts = geometry.hosts();
+    parsed(text, geometry)
+}

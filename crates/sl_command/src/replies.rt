@@ -1,0 +1,298 @@
+//! What is printed of a reply.
+//!
+//! A reply is a word and what it tells, with one space between: numbers, names, states. What a later read should have told and
+//! could not is `torn`.
+
+ghost use Rattle.std.specs.Prelude.{IfOk, OnErr, OnOk, codes, map, string_bytes, ◌++◌, ◌∷◌, ◌≡◌, []};
+ghost use Rattle.std.specs.Prelude.{decimal};
+ghost use Rattle.sl_command.specs.Lines.{behind, counted, host_word, host_words, session_word};
+ghost use Rattle.sl_sector.specs.RecordTexts.{dash_for_none};
+ghost use Rattle.sl_text.specs.Forms.{spaced};
+ghost use Rattle.sl_text.specs.Numbers.{hex_text};
+ghost use Rattle.sl_trace.specs.EffectTexts as texts;
+
+use crate::words::{push_counted, push_word};
+use sl_text::hex::push_hex;
+use sl_text::{Data, Name};
+use sl_trace::{DeltaOwner, DeltaVersion, HostState, Limited, Reply, SessionOf, StateOf};
+use std::alloc::{AllocError, Global};
+
+/// Lockspaces of a machine, at most.
+const MOST_LOCKSPACES: u64 = 8;
+
+/// Resources of a machine, at most.
+const MOST_RESOURCES: u64 = 256;
+
+/// Holdings of a machine with the jobs that may become such, at most.
+const MOST_HOLDERS: u64 = 1024;
+
+/// Child numbers of a daemon, at most.
+const MOST_CHILDREN: u64 = 1_000_000;
+
+/// The greatest number that a record may carry.
+const GREATEST_NUMBER: u64 = (1 << 63) - 1;
+
+/// The word of a host's state.
+fn state_word(state: HostState) -> &'static str
+    ensures { result.now ≡ texts.state_word state }
+{
+    match state {
+        HostState::Unknown => "UNKN",
+        HostState::Free => "FREE",
+        HostState::Dead => "DEAD",
+        HostState::Failing => "FAIL",
+        HostState::Live => "LIVE",
+    }
+}
+
+/// Whether the id is free; such an id isn't told.
+fn is_free(state: HostState) -> bool
+    ensures { result ≡ texts.is_free_host state }
+{
+    matches!(state, HostState::Free)
+}
+
+/// Adds an id and what it looks like behind a space.
+fn push_state(out: &mut Vec<u8>, host: &StateOf) -> Result<(), AllocError>
+    ensures { OnOk result (out.new.items ≡ out.old.items ++ 32 ∷ host_word host.now) }
+{
+    let state = state_word(host.state);
+    let text = format!(in *out.allocator(); "{}:{state}", host.id)?;
+    push_word(out, text.as_bytes())
+}
+
+/// Adds the ids that are not free, each behind a space.
+fn push_each_state(out: &mut Vec<u8>, hosts: &[StateOf]) -> Result<(), AllocError>
+    ensures { OnOk result (out.new.items ≡ out.old.items ++ behind (host_words hosts.now)) }
+{
+    for host in hosts {
+        if !is_free(host.state) {
+            push_state(out, host)?;
+        }
+    }
+    Ok(())
+}
+
+/// Adds the ids that are not free.
+#[tactic(auto, using(crate::proofs::LineLaws::words))]
+fn push_states(out: &mut Vec<u8>, hosts: &[StateOf]) -> Result<(), AllocError>
+    ensures { OnOk result (out.new.items ≡ out.old.items ++ spaced (codes "ok" ∷ host_words hosts.now)) }
+{
+    out.extend_from_slice(b"ok")?;
+    push_each_state(out, hosts)?;
+    Ok(())
+}
+
+/// Adds the sessions, each behind a space.
+fn push_each_session(out: &mut Vec<u8>, sessions: &[SessionOf]) -> Result<(), AllocError>
+    ensures { OnOk result (out.new.items ≡ out.old.items ++ behind (map session_word sessions.now)) }
+{
+    for session in sessions {
+        push_session(out, session)?;
+    }
+    Ok(())
+}
+
+/// Adds the sessions.
+#[tactic(auto, using(crate::proofs::LineLaws::words))]
+fn push_sessions(out: &mut Vec<u8>, sessions: &[SessionOf]) -> Result<(), AllocError>
+    ensures { OnOk result (out.new.items ≡ out.old.items ++ spaced (codes "ok" ∷ map session_word sessions.now)) }
+{
+    out.extend_from_slice(b"ok")?;
+    push_each_session(out, sessions)?;
+    Ok(())
+}
+
+/// Adds a session behind a space.
+fn push_session(out: &mut Vec<u8>, session: &SessionOf) -> Result<(), AllocError>
+    ensures { OnOk result (out.new.items ≡ out.old.items ++ 32 ∷ session_word session.now) }
+{
+    let text = format!(in *out.allocator();
+        "{}:{}:{}",
+        session.lockspace, session.id, session.generation
+    )?;
+    push_word(out, text.as_bytes())
+}
+
+/// Adds the digits of a value's bytes, and a dash where there are none.
+#[tactic(auto, using(crate::proofs::LineLaws::digits))]
+fn push_digits(out: &mut Vec<u8>, bytes: &[u8]) -> Result<(), AllocError>
+    ensures { OnOk result (out.new.items ≡ out.old.items ++ dash_for_none (hex_text bytes.now)) }
+{
+    if bytes.is_empty() {
+        return out.extend_from_slice(b"-");
+    }
+    push_hex(out, bytes)?;
+    Ok(())
+}
+
+/// Adds the lver and the seq of a value, and its bytes.
+fn push_value(out: &mut Vec<u8>, lver: u64, seq: u64, bytes: &Data) -> Result<(), AllocError>
+    ensures { OnOk result (out.new.items ≡ out.old.items ++ spaced (codes "ok" ∷ decimal lver ∷ decimal seq ∷ dash_for_none (hex_text bytes.now) ∷ [])) }
+{
+    push_counted(out, "ok", &[lver, seq])?;
+    out.push(b' ')?;
+    push_digits(out, bytes.as_slice())
+}
+
+/// Adds what a delta sector was seen to spell, and what a later read of it spelled.
+fn push_versions(
+    out: &mut Vec<u8>,
+    first: DeltaVersion,
+    later: Option<DeltaVersion>,
+) -> Result<(), AllocError>
+    ensures { OnOk result (out.new.items ≡ out.old.items ++ spaced (codes "IdHeld" ∷ texts.version_words first ++ texts.or_torn texts.version_words later)) }
+{
+    let text = match later {
+        Some(later) => {
+            format!(in *out.allocator();
+                "IdHeld {} {} {} {}",
+                first.generation, first.seq, later.generation, later.seq
+            )?
+        }
+        None => format!(in *out.allocator(); "IdHeld {} {} torn", first.generation, first.seq)?,
+    };
+    out.extend_from_slice(text.as_bytes())
+}
+
+/// Adds the session that should own an id, and what was found in its place.
+fn push_owners(
+    out: &mut Vec<u8>,
+    own: DeltaOwner,
+    found: Option<DeltaOwner>,
+) -> Result<(), AllocError>
+    ensures { OnOk result (out.new.items ≡ out.old.items ++ spaced (codes "IdLost" ∷ texts.owner_words own ++ texts.or_torn texts.owner_words found)) }
+{
+    let text = match found {
+        Some(found) => {
+            format!(in *out.allocator();
+                "IdLost {} {} {} {}",
+                own.generation, own.name, found.generation, found.name
+            )?
+        }
+        None => format!(in *out.allocator(); "IdLost {} {} torn", own.generation, own.name)?,
+    };
+    out.extend_from_slice(text.as_bytes())
+}
+
+/// Adds the lver that a request held, and the one that is stored.
+fn push_stored(out: &mut Vec<u8>, held: u64, stored: Option<u64>) -> Result<(), AllocError>
+    ensures { OnOk result (out.new.items ≡ out.old.items ++ spaced (codes "RequestOld" ∷ decimal held ∷ texts.number_word stored ∷ [])) }
+{
+    let text = match stored {
+        Some(stored) => format!(in *out.allocator(); "RequestOld {held} {stored}")?,
+        None => format!(in *out.allocator(); "RequestOld {held} torn")?,
+    };
+    out.extend_from_slice(text.as_bytes())
+}
+
+/// Adds an area's lockspace and resource and its number of hosts.
+fn push_area(
+    out: &mut Vec<u8>,
+    lockspace: &Name,
+    resource: &Name,
+    hosts: u32,
+) -> Result<(), AllocError>
+    ensures { OnOk result (out.new.items ≡ out.old.items ++ spaced (codes "WrongArea" ∷ lockspace.now ∷ resource.now ∷ decimal hosts ∷ [])) }
+{
+    let text = format!(in *out.allocator(); "WrongArea {lockspace} {resource} {hosts}")?;
+    out.extend_from_slice(text.as_bytes())
+}
+
+/// Adds a delta sector's lockspace and id.
+fn push_delta(out: &mut Vec<u8>, lockspace: &Name, id: u32) -> Result<(), AllocError>
+    ensures { OnOk result (out.new.items ≡ out.old.items ++ spaced (codes "WrongArea" ∷ lockspace.now ∷ decimal id ∷ [])) }
+{
+    let text = format!(in *out.allocator(); "WrongArea {lockspace} {id}")?;
+    out.extend_from_slice(text.as_bytes())
+}
+
+/// Adds what was counted, and its limit.
+fn push_limit(out: &mut Vec<u8>, which: Limited) -> Result<(), AllocError>
+    ensures { OnOk result (out.new.items ≡ out.old.items ++ spaced (codes "Limit" ∷ texts.limit_words which)) }
+{
+    let (word, most) = match which {
+        Limited::Lockspaces => ("Limit lockspaces", MOST_LOCKSPACES),
+        Limited::Resources => ("Limit resources", MOST_RESOURCES),
+        Limited::Holders => ("Limit holders", MOST_HOLDERS),
+        Limited::Children => ("Limit children", MOST_CHILDREN),
+        Limited::Gen => ("Limit gen", GREATEST_NUMBER),
+        Limited::Seq => ("Limit seq", GREATEST_NUMBER),
+        Limited::Lver => ("Limit lver", GREATEST_NUMBER),
+        Limited::Mbal => ("Limit mbal", GREATEST_NUMBER),
+    };
+    push_counted(out, word, &[most])
+}
+
+/// Adds the text of a reply.
+#[tactic(auto, unfolding(sl_trace::specs::EffectTexts::reply_words))]
+fn push_reply(out: &mut Vec<u8>, reply: &Reply) -> Result<(), AllocError>
+    ensures { OnOk result (out.new.items ≡ out.old.items ++ texts.reply_text reply.now) }
+{
+    match reply {
+        Reply::Done => push_counted(out, "ok", &[]),
+        Reply::Generation { generation } => push_counted(out, "ok", &[*generation]),
+        Reply::Granted { lver } => push_counted(out, "ok", &[*lver]),
+        Reply::Started { lver, process } => push_counted(out, "ok", &[*lver, u64::from(*process)]),
+        Reply::Value { lver, seq, bytes } => { push_value(out, *lver, *seq, bytes) }
+        Reply::Hosts(states) => push_states(out, states.as_slice()),
+        Reply::Sessions(sessions) => push_sessions(out, sessions.as_slice()),
+        Reply::NoSession => push_counted(out, "NoSession", &[]),
+        Reply::Joining => push_counted(out, "Joining", &[]),
+        Reply::Recovering { renewed } => push_counted(out, "Recovering", &[*renewed]),
+        Reply::IdHeld { first, later } => push_versions(out, *first, *later),
+        Reply::IdLost { own, found } => push_owners(out, *own, *found),
+        Reply::IdLate { claimed, now } => push_counted(out, "IdLate", &[*claimed, *now]),
+        Reply::TornDelta => push_counted(out, "TornDelta", &[]),
+        Reply::TornLeader => push_counted(out, "TornLeader", &[]),
+        Reply::TornBlock { host } => push_counted(out, "TornBlock", &[u64::from(*host)]),
+        Reply::Held { lver, owner } => push_counted(
+            out,
+            "Held",
+            &[*lver, u64::from(owner.id), owner.generation],
+        ),
+        Reply::Shared { owner } => push_counted(
+            out,
+            "Shared",
+            &[u64::from(owner.id), owner.generation],
+        ),
+        Reply::Rival { host, mbal } => push_counted(out, "Rival", &[u64::from(*host), *mbal]),
+        Reply::Ahead { host, lver } => push_counted(out, "Ahead", &[u64::from(*host), *lver]),
+        Reply::IoTimeout { call, from, to } => push_counted(out, "IoTimeout", &[*call, *from, *to]),
+        Reply::IoFault { call } => push_counted(out, "IoFault", &[*call]),
+        Reply::Pending { call } => push_counted(out, "Pending", &[*call]),
+        Reply::Busy { process } => push_counted(out, "Busy", &[u64::from(*process)]),
+        Reply::NotHeld => push_counted(out, "NotHeld", &[]),
+        Reply::SpawnFault => push_counted(out, "SpawnFault", &[]),
+        Reply::ValueTorn => push_counted(out, "ValueTorn", &[]),
+        Reply::BadCommand { column } => push_counted(out, "BadCommand", &[*column]),
+        Reply::Limit { which } => push_limit(out, *which),
+        Reply::RequestOld { held, stored } => push_stored(out, *held, *stored),
+        Reply::WrongArea {
+            lockspace,
+            resource,
+            hosts,
+        } => push_area(out, lockspace, resource, *hosts),
+        Reply::WrongDelta { lockspace, id } => push_delta(out, lockspace, *id),
+        Reply::NoProcess { process } => push_counted(out, "NoProcess", &[u64::from(*process)]),
+        Reply::Joined { generation } => push_counted(out, "Joined", &[*generation]),
+    }
+}
+
+/// The text of a reply.
+pub(crate) fn text_of(alloc: Global, reply: &Reply) -> Result<Vec<u8>, AllocError>
+    ensures { IfOk result (λ text. text.items ≡ texts.reply_text reply.now) }
+{
+    let mut text = Vec::new(alloc);
+    push_reply(&mut text, reply)?;
+    Ok(text)
+}
+
+/// Adds the text of a reply, without a line feed. An `Err` is want of memory, and `out` stays as it was.
+pub fn push_reply_text(out: &mut Vec<u8>, reply: &Reply) -> Result<(), AllocError>
+    ensures ok { OnOk result (out.new.items ≡ out.old.items ++ texts.reply_text reply.now) }
+    ensures err { OnErr result (out.new.items ≡ out.old.items) }
+{
+    let text = text_of(*out.allocator(), reply)?;
+    out.extend_from_slice(&text)
+}
