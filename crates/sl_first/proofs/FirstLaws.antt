@@ -2,15 +2,17 @@
 use Rattle.sl_area.specs.Places.{block_offset, in_area, leader_offset}
 use Rattle.sl_due.specs.Due.{IsHostTrace, due}
 use Rattle.sl_first.proofs.Answering.{further_due, grant_due, reply_due}
-use Rattle.sl_first.proofs.Courses.{course_live, host_in}
+use Rattle.sl_first.proofs.Courses.{course_live, first_place, host_in}
 use Rattle.sl_first.proofs.Following.{AreNumbered, answer_expected, follows, goes_on, none_numbered, one_numbered}
 use Rattle.sl_first.proofs.Standing.{told_done, told_more}
 use Rattle.sl_first.specs.FirstPath.{Doing, IsFirst, first_effects, first_entry, heeded_call, is_first_call, one_reply}
-use Rattle.sl_first.specs.FirstSteps.{Begins_phase1, Begins_phase2, Course, FirstStands, Freeing, Further, Goes_on_phase1, Goes_on_phase2, Grants, IsNamed, Live, Reading_area, Reading_phase1, Reading_phase2, Reads_phase1, Reads_phase2, Replies_late, Takes, Taking, ToldFirst, Works, Writes_block, Writes_leader, Writing_phase1, Writing_phase2, first_aim, first_grant, first_next, further_call, is_lease_reply, kept_in, next_of, process_of, step_of}
+use Rattle.sl_first.specs.FirstSteps.{Begins_phase1, Begins_phase2, Course, FirstStands, Freeing, Further, Goes_on_phase1, Goes_on_phase2, Grants, IsNamed, Live, Reading_area, Reading_phase1, Reading_phase2, Reads_phase1, Reads_phase2, Replies_late, Takes, Taking, ToldFirst, Works, Writes_block, Writes_leader, Writing_phase1, Writing_phase2, first_aim, first_grant, first_known, first_next, further_call, is_lease_reply, kept_in, next_of, process_of, step_of}
 use Rattle.sl_leases.specs.Jobs.{aim_of_command}
 use Rattle.sl_leases.specs.Leases.{lver_written}
 use Rattle.sl_leases.specs.declared.lease.LeaseNext.TheVariants.{AnswerJob, GrantJob}
 use Rattle.sl_leases.specs.declared.lease.LeaseNext.{LeaseNext}
+use Rattle.sl_sector.specs.declared.sector.Block.{Block}
+use Rattle.sl_sector.specs.declared.sector.Leader.{Leader}
 use Rattle.sl_sector.specs.declared.sector.Rec.TheVariants.{BlockIs, LeaderIs}
 use Rattle.sl_trace.specs.Traces.{Setting, Submitted, Trace, is_answer_for, is_before_input, new_call}
 use Rattle.sl_trace.specs.declared.command.Command.TheVariants.{Acquire}
@@ -193,25 +195,40 @@ told_grant st g r f call job d answered es h a fits p lver is comes named =
       };
     }
 
+told_phase1 : (st : Setting) (g : Given) (r : ResourceArg) → IsFirst st g r → (call job : ℕ) (d : Doing) (answered : List Submitted) (es : Trace) → FirstStands st g r call job (Works d) answered es
+    → (a : Answer) → is_answer_for st a d.call.call.op ≡ true → (p : ℕ) (b : Block) → d.command ≡ Acquire r false p → first_next st g es d answered (first_aim d.command) a ≡ next_of (Writes_block Phase1Write b)
+    → IsNamed st g r (heeded_call es g a d.call ∷ answered) → ToldFirst st g r call job d answered es a (next_of (Writes_block Phase1Write b))
+told_phase1 st g r f call job d answered es h a fits p b is comes named =
+    told_further st g r f call job d answered es h a fits (Writes_block Phase1Write b) comes
+    (subst (λ c. Course st g r (heeded_call es g a d.call ∷ answered) c Phase1Write (WriteRecord (BlockIs b))) (sym is) (Writing_phase1 p b named))
+
+told_phase2 : (st : Setting) (g : Given) (r : ResourceArg) → IsFirst st g r → (call job : ℕ) (d : Doing) (answered : List Submitted) (es : Trace) → FirstStands st g r call job (Works d) answered es
+    → (a : Answer) → is_answer_for st a d.call.call.op ≡ true → (p : ℕ) (b : Block) → d.command ≡ Acquire r false p → first_next st g es d answered (first_aim d.command) a ≡ next_of (Writes_block Phase2Write b)
+    → IsNamed st g r (heeded_call es g a d.call ∷ answered) → ToldFirst st g r call job d answered es a (next_of (Writes_block Phase2Write b))
+told_phase2 st g r f call job d answered es h a fits p b is comes named =
+    told_further st g r f call job d answered es h a fits (Writes_block Phase2Write b) comes
+    (subst (λ c. Course st g r (heeded_call es g a d.call ∷ answered) c Phase2Write (WriteRecord (BlockIs b))) (sym is) (Writing_phase2 p b named))
+
+told_take : (st : Setting) (g : Given) (r : ResourceArg) → IsFirst st g r → (call job : ℕ) (d : Doing) (answered : List Submitted) (es : Trace) → FirstStands st g r call job (Works d) answered es
+    → (a : Answer) → is_answer_for st a d.call.call.op ≡ true → (p : ℕ) (l : Leader) → d.command ≡ Acquire r false p → first_next st g es d answered (first_aim d.command) a ≡ next_of (Writes_leader TakeLeader l)
+    → IsNamed st g r (heeded_call es g a d.call ∷ answered) → ToldFirst st g r call job d answered es a (next_of (Writes_leader TakeLeader l))
+told_take st g r f call job d answered es h a fits p l is comes named =
+    told_further st g r f call job d answered es h a fits (Writes_leader TakeLeader l) comes
+    (subst (λ c. Course st g r (heeded_call es g a d.call ∷ answered) c TakeLeader (WriteRecord (LeaderIs l))) (sym is) (Taking p l named))
+
 -- By what may come next.
 told_by : (st : Setting) (g : Given) (r : ResourceArg) → IsFirst st g r → (call job : ℕ) (d : Doing) (answered : List Submitted) (es : Trace) → FirstStands st g r call job (Works d) answered es
     → (a : Answer) → is_answer_for st a d.call.call.op ≡ true → (command : Command) (next : LeaseNext) → d.command ≡ command → first_next st g es d answered (first_aim d.command) a ≡ next
-    → Live r (heeded_call es g a d.call ∷ answered) (IsNamed st g r (heeded_call es g a d.call ∷ answered)) command next → ToldFirst st g r call job d answered es a next
+    → Live (first_place st g) (first_known st g (heeded_call es g a d.call ∷ answered)) (heeded_call es g a d.call ∷ answered) (IsNamed st g r (heeded_call es g a d.call ∷ answered)) r command next → ToldFirst st g r call job d answered es a next
 told_by st g r f call job d answered es h a fits command next is comes (Goes_on_phase1 p b named own) =
     told_further st g r f call job d answered es h a fits Reads_phase1 comes
     (subst (λ c. Course st g r (heeded_call es g a d.call ∷ answered) c Phase1Read (ReadSectors st.layout.hosts)) (sym is) (Reading_phase1 p b named own))
 told_by st g r f call job d answered es h a fits command next is comes (Goes_on_phase2 p b named own) =
     told_further st g r f call job d answered es h a fits Reads_phase2 comes
     (subst (λ c. Course st g r (heeded_call es g a d.call ∷ answered) c Phase2Read (ReadSectors st.layout.hosts)) (sym is) (Reading_phase2 p b named own))
-told_by st g r f call job d answered es h a fits command next is comes (Begins_phase1 p b named) =
-    told_further st g r f call job d answered es h a fits (Writes_block Phase1Write b) comes
-    (subst (λ c. Course st g r (heeded_call es g a d.call ∷ answered) c Phase1Write (WriteRecord (BlockIs b))) (sym is) (Writing_phase1 p b named))
-told_by st g r f call job d answered es h a fits command next is comes (Begins_phase2 p b named) =
-    told_further st g r f call job d answered es h a fits (Writes_block Phase2Write b) comes
-    (subst (λ c. Course st g r (heeded_call es g a d.call ∷ answered) c Phase2Write (WriteRecord (BlockIs b))) (sym is) (Writing_phase2 p b named))
-told_by st g r f call job d answered es h a fits command next is comes (Takes p l named) =
-    told_further st g r f call job d answered es h a fits (Writes_leader TakeLeader l) comes
-    (subst (λ c. Course st g r (heeded_call es g a d.call ∷ answered) c TakeLeader (WriteRecord (LeaderIs l))) (sym is) (Taking p l named))
+told_by st g r f call job d answered es h a fits command next is comes (Begins_phase1 p n own named known why) = told_phase1 st g r f call job d answered es h a fits p _ is comes named
+told_by st g r f call job d answered es h a fits command next is comes (Begins_phase2 p own read named known clear none) = told_phase2 st g r f call job d answered es h a fits p _ is comes named
+told_by st g r f call job d answered es h a fits command next is comes (Takes p own read named known clear won) = told_take st g r f call job d answered es h a fits p _ is comes named
 told_by st g r f call job d answered es h a fits command next is comes (Grants p lver named) = told_grant st g r f call job d answered es h a fits p lver is comes named
 told_by st g r f call job d answered es h a fits command next is comes (Replies_late c why late) = told_reply st g r f call job d answered es h a fits why comes late
 

@@ -1,8 +1,8 @@
 -- What an answer of an acquire or a release may lead to.
 use Rattle.sl_area.specs.Places.{area_blocks, leader_of}
-use Rattle.sl_first.specs.FirstSteps.{Begins_phase1, Begins_phase2, Live, Replies_late, Takes, is_lease_reply}
-use Rattle.sl_leases.specs.Ballots.{phase1_block, same_owner, value_of}
-use Rattle.sl_leases.specs.LeaseWork.{LeasePlace, after_phase1, after_phase2, area_next, begin_next, begin_or_refuse, leader_for, lost_next, named_area_next, phase1_next, phase2_next, stop_reply, whole_area_next, won_next}
+use Rattle.sl_first.specs.FirstSteps.{Area_shows, Begins_phase1, Begins_phase2, Live, Other_is_over, Replies_late, Takes, WhyBegins, is_lease_reply}
+use Rattle.sl_leases.specs.Ballots.{phase1_block, same_owner, stop_of, value_of}
+use Rattle.sl_leases.specs.LeaseWork.{LeasePlace, after_phase1, after_phase2, area_next, begin_next, begin_or_refuse, lost_next, named_area_next, phase1_next, phase2_next, stop_reply, whole_area_next, won_next}
 use Rattle.sl_leases.specs.Leases.{LeaseKnown, instance_for, is_leader_of, mode_gen_of, own_known, shared_elsewhere}
 use Rattle.sl_leases.specs.declared.lease.Aim.TheVariants.{Acquires}
 use Rattle.sl_leases.specs.declared.lease.Aim.{Aim}
@@ -14,7 +14,6 @@ use Rattle.sl_leases.specs.declared.lease.Stop.TheVariants.{BlockAhead, BlockRiv
 use Rattle.sl_leases.specs.declared.lease.Stop.{Stop}
 use Rattle.sl_sector.specs.declared.sector.Block.{Block}
 use Rattle.sl_sector.specs.declared.sector.Leader.{Leader}
-use Rattle.sl_sector.specs.declared.sector.Owner.{Owner}
 use Rattle.sl_trace.specs.declared.command.Command.TheVariants.{Acquire}
 use Rattle.sl_trace.specs.declared.command.ResourceArg.{ResourceArg}
 use Rattle.sl_trace.specs.declared.effects.LeaseStep.TheVariants.{Phase1Write}
@@ -33,72 +32,74 @@ acquires = Acquires Exclusive
 
 -- ---- a ballot begins
 
-phase1_by : (r : ResourceArg) (ms : List Submitted) (N : Type 0) (nm : N) (p : ℕ) (b : Block) (c d : Bool)
-    → Live r ms N (Acquire r false p) (elim c as (λ x. LeaseNext) [
+phase1_by : (place : LeasePlace) (k : LeaseKnown) (ms : List Submitted) (N : Type 0) (nm : N) (r : ResourceArg) (p : ℕ) (n : ℕ) (own : Block) → own_known k ≡ Some own → WhyBegins place k own n → (c d : Bool)
+    → Live place k ms N r (Acquire r false p) (elim c as (λ x. LeaseNext) [
       | false ↦ AnswerJob (LimitReached LverLimit)
-      | true ↦ elim d as (λ x. LeaseNext) [ false ↦ AnswerJob (LimitReached MbalLimit) | true ↦ WriteBlock Phase1Write b ]
+      | true ↦ elim d as (λ x. LeaseNext) [ false ↦ AnswerJob (LimitReached MbalLimit) | true ↦ WriteBlock Phase1Write (phase1_block k.self place.layout.hosts n k.shared (mode_gen_of k) own (present k.read)) ]
     ])
-phase1_by r ms N nm p b false d = Replies_late (Acquire r false p) (LimitReached LverLimit) refl
-phase1_by r ms N nm p b true false = Replies_late (Acquire r false p) (LimitReached MbalLimit) refl
-phase1_by r ms N nm p b true true = Begins_phase1 p b nm
+phase1_by place k ms N nm r p n own known why false d = Replies_late (Acquire r false p) (LimitReached LverLimit) refl
+phase1_by place k ms N nm r p n own known why true false = Replies_late (Acquire r false p) (LimitReached MbalLimit) refl
+phase1_by place k ms N nm r p n own known why true true = Begins_phase1 p n own nm known why
 
-begin_by : (r : ResourceArg) (ms : List Submitted) (N : Type 0) (nm : N) (p : ℕ) (o : Option Block) (own : Block) (f : Block → Block) → o ≡ Some own
-    → Live r ms N (Acquire r false p) (elim o as (λ x. LeaseNext) [ None ↦ Nothing | Some b ↦ phase1_next acquires (f b) ])
-begin_by r ms N nm p o own f is =
-    subst (λ (q : Option Block). Live r ms N (Acquire r false p) (elim q as (λ x. LeaseNext) [ None ↦ Nothing | Some b ↦ phase1_next acquires (f b) ])) (sym is)
-    (phase1_by r ms N nm p (f own) (is_number (f own).lver) (is_number (f own).mbal))
+begin_by : (place : LeasePlace) (k : LeaseKnown) (ms : List Submitted) (N : Type 0) (nm : N) (r : ResourceArg) (p : ℕ) (n : ℕ) (o : Option Block) (own : Block) → own_known k ≡ Some own → WhyBegins place k own n → o ≡ Some own
+    → Live place k ms N r (Acquire r false p) (elim o as (λ x. LeaseNext) [ None ↦ Nothing | Some own ↦ phase1_next acquires (phase1_block k.self place.layout.hosts n k.shared (mode_gen_of k) own (present k.read)) ])
+begin_by place k ms N nm r p n o own known why is =
+    subst (λ (q : Option Block). Live place k ms N r (Acquire r false p) (elim q as (λ x. LeaseNext) [ None ↦ Nothing | Some own ↦ phase1_next acquires (phase1_block k.self place.layout.hosts n k.shared (mode_gen_of k) own (present k.read)) ])) (sym is)
+    (phase1_by place k ms N nm r p n own known why (is_number (phase1_block k.self place.layout.hosts n k.shared (mode_gen_of k) own (present k.read)).lver) (is_number (phase1_block k.self place.layout.hosts n k.shared (mode_gen_of k) own (present k.read)).mbal))
 
 -- Where the own block is known, a ballot begins or a number is at its limit.
-begin_live : (r : ResourceArg) (ms : List Submitted) (N : Type 0) (nm : N) (p : ℕ) (place : LeasePlace) (k : LeaseKnown) (n : ℕ) (own : Block) → own_known k ≡ Some own
-    → Live r ms N (Acquire r false p) (begin_next place k acquires n)
+begin_live : (place : LeasePlace) (k : LeaseKnown) (ms : List Submitted) (N : Type 0) (nm : N) (r : ResourceArg) (p : ℕ) (n : ℕ) (own : Block) → own_known k ≡ Some own → WhyBegins place k own n → Live place k ms N r (Acquire r false p) (begin_next place k acquires n)
 unfolding begin_next
-begin_live r ms N nm p place k n own is =
-    begin_by r ms N nm p (own_known k) own (λ b. phase1_block k.self place.layout.hosts n k.shared (mode_gen_of k) b (present k.read)) is
+begin_live place k ms N nm r p n own known why = begin_by place k ms N nm r p n (own_known k) own known why known
 
 -- ---- the read of the area
 
-instance_live : (r : ResourceArg) (ms : List Submitted) (N : Type 0) (nm : N) (p : ℕ) (place : LeasePlace) (k : LeaseKnown) (own : Block) → own_known k ≡ Some own → (i : Instance)
-    → Live r ms N (Acquire r false p) (begin_or_refuse place k acquires i)
-instance_live r ms N nm p place k own is (Begins n) = begin_live r ms N nm p place k n own is
-instance_live r ms N nm p place k own is (HeldAlready lver owner) = Replies_late (Acquire r false p) (HeldBy lver owner) refl
+instance_live : (place : LeasePlace) (k : LeaseKnown) (ms : List Submitted) (N : Type 0) (nm : N) (r : ResourceArg) (p : ℕ) (own : Block) → own_known k ≡ Some own → (i : Instance) → ((n : ℕ) → i ≡ Begins n → WhyBegins place k own n)
+    → Live place k ms N r (Acquire r false p) (begin_or_refuse place k acquires i)
+instance_live place k ms N nm r p own known (Begins n) why = begin_live place k ms N nm r p n own known (why n refl)
+instance_live place k ms N nm r p own known (HeldAlready lver owner) why = Replies_late (Acquire r false p) (HeldBy lver owner) refl
 
-whole_by : (r : ResourceArg) (ms : List Submitted) (N : Type 0) (nm : N) (p : ℕ) (place : LeasePlace) (k : LeaseKnown) (l : Leader) (read : List (Option Block)) (o : Option Block) (own : Block) → own_known k ≡ Some own → o ≡ Some own
-    → Live r ms N (Acquire r false p) (option_map_or (λ b. begin_or_refuse place k acquires (instance_for k l b read)) o Nothing)
-whole_by r ms N nm p place k l read o own known is =
-    subst (λ (q : Option Block). Live r ms N (Acquire r false p) (option_map_or (λ b. begin_or_refuse place k acquires (instance_for k l b read)) q Nothing)) (sym is)
-    (instance_live r ms N nm p place k own known (instance_for k l own read))
+whole_by : (place : LeasePlace) (k : LeaseKnown) (ms : List Submitted) (N : Type 0) (nm : N) (r : ResourceArg) (p : ℕ) (l : Leader) (read : List (Option Block)) (o : Option Block) (own : Block) → own_known k ≡ Some own → o ≡ Some own
+    → ((n : ℕ) → instance_for k l own read ≡ Begins n → WhyBegins place k own n)
+    → Live place k ms N r (Acquire r false p) (option_map_or (λ b. begin_or_refuse place k acquires (instance_for k l b read)) o Nothing)
+whole_by place k ms N nm r p l read o own known is why =
+    subst (λ (q : Option Block). Live place k ms N r (Acquire r false p) (option_map_or (λ b. begin_or_refuse place k acquires (instance_for k l b read)) q Nothing)) (sym is)
+    (instance_live place k ms N nm r p own known (instance_for k l own read) why)
 
-named_by : (r : ResourceArg) (ms : List Submitted) (N : Type 0) (nm : N) (p : ℕ) (place : LeasePlace) (k : LeaseKnown) (l : Leader) (read : List (Option Block)) (torn : Option ℕ)
-    → (torn ≡ None → (own : Block) × (own_known k ≡ Some own))
-    → Live r ms N (Acquire r false p) (elim torn as (λ x. LeaseNext) [ Some i ↦ AnswerJob (TornBlock (i + 1)) | None ↦ whole_area_next place k acquires l read ])
-named_by r ms N nm p place k l read (Some i) known = Replies_late (Acquire r false p) (TornBlock (i + 1)) refl
-named_by r ms N nm p place k l read None known = let o = known refl in whole_by r ms N nm p place k l read (own_known k) o.0 o.1 o.1
+named_by : (place : LeasePlace) (k : LeaseKnown) (ms : List Submitted) (N : Type 0) (nm : N) (r : ResourceArg) (p : ℕ) (l : Leader) (read : List (Option Block)) (torn : Option ℕ) → (torn ≡ None → (own : Block) × (own_known k ≡ Some own))
+    → (torn ≡ None → (own : Block) (n : ℕ) → instance_for k l own read ≡ Begins n → WhyBegins place k own n)
+    → Live place k ms N r (Acquire r false p) (elim torn as (λ x. LeaseNext) [ Some i ↦ AnswerJob (TornBlock (i + 1)) | None ↦ whole_area_next place k acquires l read ])
+named_by place k ms N nm r p l read (Some i) known why = Replies_late (Acquire r false p) (TornBlock (i + 1)) refl
+named_by place k ms N nm r p l read None known why = let o = known refl in whole_by place k ms N nm r p l read (own_known k) o.0 o.1 o.1 (why refl o.0)
 
-area_by : (r : ResourceArg) (ms : List Submitted) (N : Type 0) (p : ℕ) (place : LeasePlace) (k : LeaseKnown) (l : Leader) (read : List (Option Block)) (named : Bool) → (named ≡ true → N)
+area_by : (place : LeasePlace) (k : LeaseKnown) (ms : List Submitted) (N : Type 0) (r : ResourceArg) (p : ℕ) (l : Leader) (read : List (Option Block)) (named : Bool) → (named ≡ true → N)
     → (position is_none read ≡ None → (own : Block) × (own_known k ≡ Some own))
-    → Live r ms N (Acquire r false p) (elim named as (λ x. LeaseNext) [ false ↦ AnswerJob (WrongArea l.lockspace l.resource l.num_hosts) | true ↦ named_area_next place k acquires l read ])
-area_by r ms N p place k l read false derive known = Replies_late (Acquire r false p) (WrongArea l.lockspace l.resource l.num_hosts) refl
-area_by r ms N p place k l read true derive known = named_by r ms N (derive refl) p place k l read (position is_none read) known
+    → (named ≡ true → position is_none read ≡ None → (own : Block) (n : ℕ) → instance_for k l own read ≡ Begins n → WhyBegins place k own n)
+    → Live place k ms N r (Acquire r false p) (elim named as (λ x. LeaseNext) [ false ↦ AnswerJob (WrongArea l.lockspace l.resource l.num_hosts) | true ↦ named_area_next place k acquires l read ])
+area_by place k ms N r p l read false derive known why = Replies_late (Acquire r false p) (WrongArea l.lockspace l.resource l.num_hosts) refl
+area_by place k ms N r p l read true derive known why = named_by place k ms N (derive refl) r p l read (position is_none read) known (why refl)
 
-leader_by : (r : ResourceArg) (ms : List Submitted) (N : Type 0) (p : ℕ) (place : LeasePlace) (k : LeaseKnown) (name : List ℕ) (read : List (Option Block)) (o : Option Leader)
-    → ((l : Leader) → o ≡ Some l → is_leader_of place.layout place.lockspace name l ≡ true → N)
-    → (position is_none read ≡ None → (own : Block) × (own_known k ≡ Some own))
-    → Live r ms N (Acquire r false p) (elim o as (λ x. LeaseNext) [
+leader_by : (place : LeasePlace) (k : LeaseKnown) (ms : List Submitted) (N : Type 0) (r : ResourceArg) (p : ℕ) (name bytes : List ℕ) (o : Option Leader) → leader_of place.layout bytes ≡ o
+    → ((l : Leader) → leader_of place.layout bytes ≡ Some l → is_leader_of place.layout place.lockspace name l ≡ true → N)
+    → (position is_none (area_blocks place.layout bytes) ≡ None → (own : Block) × (own_known k ≡ Some own))
+    → Live place k ms N r (Acquire r false p) (elim o as (λ x. LeaseNext) [
       | None ↦ AnswerJob TornLeader
       | Some l ↦ elim (is_leader_of place.layout place.lockspace name l) as (λ x. LeaseNext) [
         | false ↦ AnswerJob (WrongArea l.lockspace l.resource l.num_hosts)
-        | true ↦ named_area_next place k acquires l read
+        | true ↦ named_area_next place k acquires l (area_blocks place.layout bytes)
       ]
     ])
-leader_by r ms N p place k name read None derive known = Replies_late (Acquire r false p) TornLeader refl
-leader_by r ms N p place k name read (Some l) derive known = area_by r ms N p place k l read (is_leader_of place.layout place.lockspace name l) (derive l refl) known
+leader_by place k ms N r p name bytes None is derive known = Replies_late (Acquire r false p) TornLeader refl
+leader_by place k ms N r p name bytes (Some l) is derive known =
+    area_by place k ms N r p l (area_blocks place.layout bytes) (is_leader_of place.layout place.lockspace name l) (derive l is) known
+    (λ right whole own n begins. Area_shows n name bytes l is right whole begins)
 
-pub area_live : (r : ResourceArg) (ms : List Submitted) (N : Type 0) (p : ℕ) (place : LeasePlace) (k : LeaseKnown) (name bytes : List ℕ)
+pub area_live : (place : LeasePlace) (k : LeaseKnown) (ms : List Submitted) (N : Type 0) (r : ResourceArg) (p : ℕ) (name bytes : List ℕ)
     → ((l : Leader) → leader_of place.layout bytes ≡ Some l → is_leader_of place.layout place.lockspace name l ≡ true → N)
     → (position is_none (area_blocks place.layout bytes) ≡ None → (own : Block) × (own_known k ≡ Some own))
-    → Live r ms N (Acquire r false p) (area_next place k acquires name bytes)
+    → Live place k ms N r (Acquire r false p) (area_next place k acquires name bytes)
 unfolding area_next
-area_live r ms N p place k name bytes derive known = leader_by r ms N p place k name (area_blocks place.layout bytes) (leader_of place.layout bytes) derive known
+area_live place k ms N r p name bytes derive known = leader_by place k ms N r p name bytes (leader_of place.layout bytes) refl derive known
 
 -- ---- the reads of the two phases
 
@@ -107,27 +108,28 @@ late_stop (BlockTorn h) = refl
 late_stop (BlockAhead h l) = refl
 late_stop (BlockRival h m) = refl
 
-unstopped_by : (r : ResourceArg) (ms : List Submitted) (N : Type 0) (nm : N) (p : ℕ) (k : LeaseKnown) (own : Block) (read : List (Option Block)) (o : Option Block)
-    → Live r ms N (Acquire r false p) (elim o as (λ x. LeaseNext) [ Some b ↦ AnswerJob (SharedBy (record { id = b.host; generation = b.mode_gen })) | None ↦ phase2_next k own read ])
-unstopped_by r ms N nm p k own read None = Begins_phase2 p _ nm
-unstopped_by r ms N nm p k own read (Some b) = Replies_late (Acquire r false p) (SharedBy (record { id = b.host; generation = b.mode_gen })) refl
+unstopped_by : (place : LeasePlace) (k : LeaseKnown) (ms : List Submitted) (N : Type 0) (nm : N) (r : ResourceArg) (p : ℕ) (own : Block) (read : List (Option Block)) → k.own ≡ Some own → stop_of own read ≡ None → (o : Option Block) → shared_elsewhere k read ≡ o
+    → Live place k ms N r (Acquire r false p) (elim o as (λ x. LeaseNext) [ Some b ↦ AnswerJob (SharedBy (record { id = b.host; generation = b.mode_gen })) | None ↦ phase2_next k own read ])
+unstopped_by place k ms N nm r p own read known clear None none = Begins_phase2 p own read nm known clear none
+unstopped_by place k ms N nm r p own read known clear (Some b) some = Replies_late (Acquire r false p) (SharedBy (record { id = b.host; generation = b.mode_gen })) refl
 
-pub phase1_read_live : (r : ResourceArg) (ms : List Submitted) (N : Type 0) (nm : N) (p : ℕ) (place : LeasePlace) (k : LeaseKnown) (own : Block) (read : List (Option Block)) (s : Option Stop)
-    → Live r ms N (Acquire r false p) (after_phase1 place k acquires own read s)
-phase1_read_live r ms N nm p place k own read None = unstopped_by r ms N nm p k own read (shared_elsewhere k read)
-phase1_read_live r ms N nm p place k own read (Some s) = Replies_late (Acquire r false p) (stop_reply s) (late_stop s)
+pub phase1_read_live : (place : LeasePlace) (k : LeaseKnown) (ms : List Submitted) (N : Type 0) (nm : N) (r : ResourceArg) (p : ℕ) (own : Block) (read : List (Option Block)) → k.own ≡ Some own → (s : Option Stop) → stop_of own read ≡ s
+    → Live place k ms N r (Acquire r false p) (after_phase1 place k acquires own read s)
+phase1_read_live place k ms N nm r p own read known None clear = unstopped_by place k ms N nm r p own read known clear (shared_elsewhere k read) refl
+phase1_read_live place k ms N nm r p own read known (Some s) stopped = Replies_late (Acquire r false p) (stop_reply s) (late_stop s)
 
-lost_by : (r : ResourceArg) (ms : List Submitted) (N : Type 0) (nm : N) (p : ℕ) (place : LeasePlace) (k : LeaseKnown) (own : Block) → own_known k ≡ Some own → (n : ℕ) (o : Owner) (over : Bool)
-    → Live r ms N (Acquire r false p) (elim over as (λ x. LeaseNext) [ true ↦ begin_next place k acquires (n + 1) | false ↦ AnswerJob (HeldBy n o) ])
-lost_by r ms N nm p place k own known n o true = begin_live r ms N nm p place k (n + 1) own known
-lost_by r ms N nm p place k own known n o false = Replies_late (Acquire r false p) (HeldBy n o) refl
+lost_by : (place : LeasePlace) (k : LeaseKnown) (ms : List Submitted) (N : Type 0) (nm : N) (r : ResourceArg) (p : ℕ) (own : Block) (read : List (Option Block)) → own_known k ≡ Some own → stop_of own read ≡ None → same_owner (value_of own) k.self ≡ false
+    → (over : Bool) → k.over own.inp own.inp_gen ≡ over
+    → Live place k ms N r (Acquire r false p) (elim over as (λ x. LeaseNext) [ true ↦ begin_next place k acquires (own.lver + 1) | false ↦ AnswerJob (HeldBy own.lver (value_of own)) ])
+lost_by place k ms N nm r p own read known clear other true over = begin_live place k ms N nm r p (own.lver + 1) own known (Other_is_over read clear other over)
+lost_by place k ms N nm r p own read known clear other false over = Replies_late (Acquire r false p) (HeldBy own.lver (value_of own)) refl
 
-ended_by : (r : ResourceArg) (ms : List Submitted) (N : Type 0) (nm : N) (p : ℕ) (place : LeasePlace) (k : LeaseKnown) (own : Block) → own_known k ≡ Some own → (won : Bool) (n : ℕ) (o : Owner)
-    → Live r ms N (Acquire r false p) (elim won as (λ x. LeaseNext) [ true ↦ won_next place k acquires n | false ↦ lost_next place k acquires n o ])
-ended_by r ms N nm p place k own known true n o = Takes p (leader_for place k true n) nm
-ended_by r ms N nm p place k own known false n o = lost_by r ms N nm p place k own known n o (k.over o.id o.generation)
+ended_by : (place : LeasePlace) (k : LeaseKnown) (ms : List Submitted) (N : Type 0) (nm : N) (r : ResourceArg) (p : ℕ) (own : Block) (read : List (Option Block)) → k.own ≡ Some own → own_known k ≡ Some own → stop_of own read ≡ None → (won : Bool) → same_owner (value_of own) k.self ≡ won
+    → Live place k ms N r (Acquire r false p) (elim won as (λ x. LeaseNext) [ true ↦ won_next place k acquires own.lver | false ↦ lost_next place k acquires own.lver (value_of own) ])
+ended_by place k ms N nm r p own read submitted known clear true won = Takes p own read nm submitted clear won
+ended_by place k ms N nm r p own read submitted known clear false won = lost_by place k ms N nm r p own read known clear won (k.over own.inp own.inp_gen) refl
 
-pub phase2_read_live : (r : ResourceArg) (ms : List Submitted) (N : Type 0) (nm : N) (p : ℕ) (place : LeasePlace) (k : LeaseKnown) (own : Block) → own_known k ≡ Some own → (s : Option Stop)
-    → Live r ms N (Acquire r false p) (after_phase2 place k acquires own s)
-phase2_read_live r ms N nm p place k own known None = ended_by r ms N nm p place k own known (same_owner (value_of own) k.self) own.lver (value_of own)
-phase2_read_live r ms N nm p place k own known (Some s) = Replies_late (Acquire r false p) (stop_reply s) (late_stop s)
+pub phase2_read_live : (place : LeasePlace) (k : LeaseKnown) (ms : List Submitted) (N : Type 0) (nm : N) (r : ResourceArg) (p : ℕ) (own : Block) (read : List (Option Block)) → k.own ≡ Some own → own_known k ≡ Some own → (s : Option Stop) → stop_of own read ≡ s
+    → Live place k ms N r (Acquire r false p) (after_phase2 place k acquires own s)
+phase2_read_live place k ms N nm r p own read submitted known None clear = ended_by place k ms N nm r p own read submitted known clear (same_owner (value_of own) k.self) refl
+phase2_read_live place k ms N nm r p own read submitted known (Some s) stopped = Replies_late (Acquire r false p) (stop_reply s) (late_stop s)

@@ -1,13 +1,15 @@
 -- What a host of the first path does: it is idle, it holds the resource, or it works for a job.
-use Rattle.sl_area.specs.Places.{block_offset, leader_offset}
+use Rattle.sl_area.specs.Places.{area_blocks, block_offset, leader_of, leader_offset}
 use Rattle.sl_due.specs.Due.{IsHostTrace, due}
 use Rattle.sl_due.specs.DueLease.{grant_of}
 use Rattle.sl_first.specs.FirstPath.{Doing, Kept, Stands, first_effects, first_entry, first_session, heeded_call, next_doing, one_reply}
+use Rattle.sl_leases.specs.Ballots.{ballot_blocks, moded_block, phase1_block, phase2_block, same_owner, stop_of, value_of}
 use Rattle.sl_leases.specs.Jobs.{aim_of_command, process_named}
-use Rattle.sl_leases.specs.LeaseWork.{leader_for, lease_next}
-use Rattle.sl_leases.specs.Leases.{LeaseKnown, block_submitted, known_of, lver_written, verified_name}
+use Rattle.sl_leases.specs.LeaseWork.{LeasePlace, leader_for, lease_next}
+use Rattle.sl_leases.specs.Leases.{LeaseKnown, block_submitted, instance_for, is_leader_of, known_of, lver_written, mode_gen_of, own_known, shared_elsewhere, verified_name}
 use Rattle.sl_leases.specs.declared.lease.Aim.TheVariants.{Releases}
 use Rattle.sl_leases.specs.declared.lease.Aim.{Aim}
+use Rattle.sl_leases.specs.declared.lease.Instance.TheVariants.{Begins}
 use Rattle.sl_leases.specs.declared.lease.LeaseNext.TheVariants.{AnswerJob, GrantJob, Nothing, ReadFor, WriteBlock, WriteLeader}
 use Rattle.sl_leases.specs.declared.lease.LeaseNext.{LeaseNext}
 use Rattle.sl_sector.specs.declared.sector.Block.{Block}
@@ -34,7 +36,8 @@ use Rattle.sl_trace.specs.declared.input.Given.{Given}
 use Rattle.sl_trace.specs.declared.input.Input.TheVariants.{Answer as Told, Line}
 use Rattle.sl_trace.specs.declared.reply.Reply.TheVariants.{Ahead, Busy, Done, Granted, Held as HeldBy, IoFault, Limit as LimitReached, NotHeld, Pending, Rival, Shared as SharedBy, TornBlock, TornLeader, WrongArea}
 use Rattle.sl_trace.specs.declared.reply.Reply.{Reply}
-use Rattle.std.specs.Prelude.{Bool, List, None, Option, Some, [], false, length, nat_lt, true, unwrap_or, ℕ, ◌&&◌, ◌+◌, ◌==◌, ◌∷◌, ◌≡◌}
+use Rattle.sl_words.specs.Words.{present}
+use Rattle.std.specs.Prelude.{Bool, List, None, Option, Some, [], false, is_none, length, nat_lt, position, true, unwrap_or, ℕ, ◌&&◌, ◌+◌, ◌==◌, ◌∷◌, ◌≡◌}
 
 -- Where the host stands.
 pub data Phase : Type 0 where
@@ -196,16 +199,28 @@ is_lease_reply (LimitReached which) = true
 is_lease_reply (WrongArea lockspace resource hosts) = true
 is_lease_reply r = false
 
--- What an answer may lead to, after these calls: a call that goes on with the job, a reply, or the grant; but for a reply the name is
--- verified.
-pub data Live (r : ResourceArg) (ms : List Submitted) (named : Type 0) : Command → LeaseNext → Type 0 where
-  Goes_on_phase1 : (p : ℕ) (b : Block) → named → block_submitted ms ≡ Some b → Live r ms named (Acquire r false p) (ReadFor Phase1Read)
-  Goes_on_phase2 : (p : ℕ) (b : Block) → named → block_submitted ms ≡ Some b → Live r ms named (Acquire r false p) (ReadFor Phase2Read)
-  Begins_phase1 : (p : ℕ) (b : Block) → named → Live r ms named (Acquire r false p) (WriteBlock Phase1Write b)
-  Begins_phase2 : (p : ℕ) (b : Block) → named → Live r ms named (Acquire r false p) (WriteBlock Phase2Write b)
-  Takes : (p : ℕ) (l : Leader) → named → Live r ms named (Acquire r false p) (WriteLeader TakeLeader l)
-  Grants : (p lver : ℕ) → named → Live r ms named (Acquire r false p) (GrantJob Exclusive lver)
-  Replies_late : (c : Command) (why : Reply) → is_lease_reply why ≡ true → Live r ms named c (AnswerJob why)
+-- Why an acquire begins a ballot in this instance: a read of the area without a torn block, under the right names, shows it; or its own
+-- ballot of the instance before ended with another that is over.
+pub data WhyBegins (place : LeasePlace) (k : LeaseKnown) (own : Block) : ℕ → Type 0 where
+  Area_shows : (n : ℕ) (name bytes : List ℕ) (l : Leader) → leader_of place.layout bytes ≡ Some l →
+      is_leader_of place.layout place.lockspace name l ≡ true → position is_none (area_blocks place.layout bytes) ≡ None →
+      instance_for k l own (area_blocks place.layout bytes) ≡ Begins n → WhyBegins place k own n
+  Other_is_over : (read : List (Option Block)) → stop_of own read ≡ None → same_owner (value_of own) k.self ≡ false →
+      k.over own.inp own.inp_gen ≡ true → WhyBegins place k own (own.lver + 1)
+
+-- What an answer may lead to, by what is known after these calls: a call that goes on with the job, a reply, or the grant. But for a reply
+-- the name is verified.
+pub data Live (place : LeasePlace) (k : LeaseKnown) (ms : List Submitted) (named : Type 0) (r : ResourceArg) : Command → LeaseNext → Type 0 where
+  Goes_on_phase1 : (p : ℕ) (b : Block) → named → block_submitted ms ≡ Some b → Live place k ms named r (Acquire r false p) (ReadFor Phase1Read)
+  Goes_on_phase2 : (p : ℕ) (b : Block) → named → block_submitted ms ≡ Some b → Live place k ms named r (Acquire r false p) (ReadFor Phase2Read)
+  Begins_phase1 : (p n : ℕ) (own : Block) → named → own_known k ≡ Some own → WhyBegins place k own n →
+      Live place k ms named r (Acquire r false p) (WriteBlock Phase1Write (phase1_block k.self place.layout.hosts n k.shared (mode_gen_of k) own (present k.read)))
+  Begins_phase2 : (p : ℕ) (own : Block) (read : List (Option Block)) → named → k.own ≡ Some own → stop_of own read ≡ None → shared_elsewhere k read ≡ None →
+      Live place k ms named r (Acquire r false p) (WriteBlock Phase2Write (moded_block (phase2_block k.self own (ballot_blocks own read)) k.shared (mode_gen_of k)))
+  Takes : (p : ℕ) (own : Block) (read : List (Option Block)) → named → k.own ≡ Some own → stop_of own read ≡ None → same_owner (value_of own) k.self ≡ true →
+      Live place k ms named r (Acquire r false p) (WriteLeader TakeLeader (leader_for place k true own.lver))
+  Grants : (p lver : ℕ) → named → Live place k ms named r (Acquire r false p) (GrantJob Exclusive lver)
+  Replies_late : (c : Command) (why : Reply) → is_lease_reply why ≡ true → Live place k ms named r c (AnswerJob why)
 
 -- What is true of the step at which the host is.
 abbrev pub OnCourse : Setting → Given → ResourceArg → List Submitted → Phase → Type 0
