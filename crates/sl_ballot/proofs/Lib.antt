@@ -1,0 +1,11 @@
+pub mod NumberLaws
+pub mod NumberRules
+pub mod Passing
+pub mod ReadLaws
+pub mod RiseLaws
+pub mod ReadRules
+pub mod ValueLaws
+pub mod StopLaws
+pub mod StepLaws
+pub mod RunLaws
+pub mod RecordLaws
