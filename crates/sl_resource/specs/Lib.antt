@@ -1,0 +1,5 @@
+pub mod Bounds
+pub mod Calls
+pub mod Reads
+pub mod Stands
+pub mod Updates

@@ -1,0 +1,105 @@
+//! A session's work on one resource's lease.
+ghost use Rattle.sl_resource.specs.Calls.{IsBlockWrite, IsLeaderWrite, IsReading};
+ghost use Rattle.sl_resource.specs.Stands.{IsOneLease, LeaseStands, MayCall, new_state};
+ghost use Rattle.sl_resource.specs.Updates.{after_block, after_leader, after_reading};
+ghost use Rattle.sl_sector.specs.Records.{Fits};
+ghost use Rattle.sl_trace.specs.Traces.{Submitted};
+ghost use Rattle.std.specs.Prelude.{List, None, Some, max, [], ◌<◌, ◌^◌, ◌∷◌, ◌≡◌};
+
+use crate::deed::Deed;
+use crate::updates::{ballot_over, freed_over, is_phase2_write, shown_over};
+use sl_area::Geometry;
+use sl_sector::{Block, Leader, Owner};
+use sl_text::Name;
+use sl_trace::LeaseStep;
+use std::alloc::Global;
+use std::marker::Model;
+
+/// A session's work on one resource's lease.
+#[derive(Drop)]
+pub struct Lease {
+    geometry: Geometry,
+    lockspace: Name,
+    me: Owner,
+    own: Option<Block>,
+    read: Vec<Option<Block>>,
+    name: Option<Name>,
+    freed: u64,
+    ballot: Option<u64>,
+    shown: bool,
+    won: Option<u64>,
+    waiting: Option<Deed>,
+}
+
+impl Model for Lease {
+    ghost use Rattle.sl_resource.specs.Stands.{LeaseState};
+    ghost use Rattle.sl_resource.specs.Bounds.{IsWithinBounds};
+
+    ghost Value = { LeaseState };
+
+    ghost view = { λ l. record {
+        sizes = l.geometry; lockspace = l.lockspace; self = l.me; own = l.own; read = l.read.items; name = l.name;
+        freed = l.freed; ballot = l.ballot; shown = l.shown; won = l.won; waiting = l.waiting } };
+
+    ghost invariant = { λ l. IsWithinBounds l.geometry l.own l.read.items l.freed };
+}
+
+impl Lease {
+    /// The lease of a session on a resource's area, before its first call.
+    pub fn new(alloc: Global, geometry: Geometry, lockspace: Name, me: Owner) -> Lease
+        ensures state { result ≡ new_state geometry lockspace me }
+        ensures stands { LeaseStands result [] }
+    {
+        Lease {
+            geometry,
+            lockspace,
+            me,
+            own: None,
+            read: Vec::new(alloc),
+            name: None,
+            freed: 0,
+            ballot: None,
+            shown: false,
+            won: None,
+            waiting: None,
+        }
+    }
+
+    /// A read for this step is submitted.
+    pub fn reads(&mut self, step: LeaseStep)
+        ensures state { self.new ≡ after_reading step self.old }
+        ensures stands { (m : Submitted) (ms : List Submitted) → LeaseStands self.old ms → MayCall self.old step → m.answer ≡ None
+            → IsReading self.old.sizes step m → LeaseStands self.new (m ∷ ms) }
+    {
+        self.waiting = Some(Deed::Reads(step));
+    }
+
+    /// A write of this block is submitted, at a step that writes the own block.
+    pub fn writes_block(&mut self, step: LeaseStep, block: Block)
+        requires { Fits block.lver }
+        ensures state { self.new ≡ after_block step block self.old }
+        ensures stands { (m : Submitted) (ms : List Submitted) → LeaseStands self.old ms → MayCall self.old step → m.answer ≡ None
+            → IsBlockWrite step block m → LeaseStands self.new (m ∷ ms) }
+    {
+        let shared = block.shared;
+        self.ballot = ballot_over(is_phase2_write(&step), block.lver, self.ballot);
+        self.shown = shown_over(shared, self.shown);
+        self.waiting = Some(Deed::WritesBlock { step, shared });
+        self.own = Some(block);
+    }
+
+    /// A write of this leader is submitted, at a step that writes the leader.
+    pub fn writes_leader(&mut self, step: LeaseStep, leader: &Leader)
+        requires { Fits leader.now.lver }
+        ensures state { self.new ≡ after_leader step leader.now self.old }
+        ensures stands { (m : Submitted) (ms : List Submitted) → LeaseStands self.old ms → MayCall self.old step → m.answer ≡ None
+            → IsLeaderWrite step leader.now m → LeaseStands self.new (m ∷ ms) }
+    {
+        self.freed = freed_over(leader, self.freed);
+        self.waiting = Some(Deed::WritesLeader {
+            step,
+            held: leader.held,
+            lver: leader.lver,
+        });
+    }
+}

@@ -1,0 +1,12 @@
+//! A session's work on one resource's lease.
+#![tactic(auto)]
+
+mod deed;
+mod evidence;
+mod lease;
+mod reads;
+mod updates;
+
+pub use deed::Deed;
+pub use evidence::{Evidence, Held};
+pub use lease::Lease;
