@@ -1,3 +1,2 @@
 pub mod ReadLaws
 pub mod ReadRules
-pub mod CallLaws
