@@ -103,14 +103,20 @@ IsDeed z (Reads step) m = IsReading z step m
 IsDeed z (WritesBlock step shared) m = (b : Block) × (b.shared ≡ shared) × IsBlockWrite step b m
 IsDeed z (WritesLeader step held lver) m = (l : Leader) × (l.held ≡ held) × (l.lver ≡ lver) × IsLeaderWrite step l m
 
--- Whether a deed may be answered so: a read by as many bytes as it asks.
+-- Whether a write may be answered so.
+abbrev pub is_of_write : Answer → Bool
+is_of_write (Read bytes) = false
+is_of_write Written = true
+is_of_write Failed = true
+
+-- Whether a read for this step may be answered so: by as many bytes as it asks.
+abbrev pub is_of_read : Sizes → LeaseStep → Answer → Bool
+is_of_read z step (Read bytes) = length bytes == sectors_for z step * z.sector
+is_of_read z step Written = false
+is_of_read z step Failed = true
+
+-- Whether a deed may be answered so.
 abbrev pub is_answer_to : Sizes → Deed → Answer → Bool
-is_answer_to z (Reads step) (Read bytes) = length bytes == sectors_for z step * z.sector
-is_answer_to z (Reads step) Written = false
-is_answer_to z (Reads step) Failed = true
-is_answer_to z (WritesBlock step shared) (Read bytes) = false
-is_answer_to z (WritesBlock step shared) Written = true
-is_answer_to z (WritesBlock step shared) Failed = true
-is_answer_to z (WritesLeader step held lver) (Read bytes) = false
-is_answer_to z (WritesLeader step held lver) Written = true
-is_answer_to z (WritesLeader step held lver) Failed = true
+is_answer_to z (Reads step) a = is_of_read z step a
+is_answer_to z (WritesBlock step shared) a = is_of_write a
+is_answer_to z (WritesLeader step held lver) a = is_of_write a

@@ -2,7 +2,7 @@
 use Rattle.sl_area.specs.Layouts.{Layout}
 use Rattle.sl_area.specs.Places.{area_blocks, blocks_in, leader_of}
 use Rattle.sl_leases.specs.Ballots.{is_ahead, same_owner, stop_of, value_of}
-use Rattle.sl_leases.specs.Leases.{is_leader_of, shows_settled}
+use Rattle.sl_leases.specs.Leases.{is_free_of, is_leader_of}
 use Rattle.sl_leases.specs.declared.lease.Stop.{Stop}
 use Rattle.sl_resource.specs.Calls.{is_answer_to}
 use Rattle.sl_resource.specs.Stands.{LeaseState, layout_in}
@@ -16,8 +16,9 @@ use Rattle.sl_sector.specs.declared.sector.Block.{Block}
 use Rattle.sl_sector.specs.declared.sector.Leader.{Leader}
 use Rattle.sl_trace.specs.declared.effects.LeaseStep.TheVariants.{ClearMode, FreeLeader, Phase1Read, Phase1Write, Phase2Read, Phase2Write, ReadArea, ReadBeforeFree, SetMode, TakeLeader}
 use Rattle.sl_trace.specs.declared.effects.LeaseStep.{LeaseStep}
-use Rattle.sl_words.specs.Words.{choose}
-use Rattle.std.specs.Prelude.{Bool, List, None, Option, Some, false, if◌then◌else◌, max, not, option_and_then, option_map, true, ℕ, ◌&&◌, ◌==◌}
+use Rattle.sl_words.specs.Words.{choose, present, some_is}
+use Rattle.std.specs.List.{list_any}
+use Rattle.std.specs.Prelude.{Bool, List, None, Option, Some, false, if◌then◌else◌, max, nat_lt, not, option_and_then, option_map, true, ℕ, ◌&&◌, ◌==◌, ◌||◌}
 
 -- ---- one more call
 
@@ -70,9 +71,13 @@ abbrev pub name_read : Layout → List ℕ → List ℕ → Option Leader → Op
 name_read g lockspace name None before = before
 name_read g lockspace name (Some l) before = elim (is_leader_of g lockspace name l) [ true ↦ Some name | false ↦ before ]
 
--- The free that is left after a look at the area.
-abbrev pub won_looked : Layout → Owner → List ℕ → Option ℕ → Option ℕ
-won_looked g self bytes before = option_and_then (λ n. choose (not (shows_settled g self n bytes)) n) before
+-- Whether leader and blocks show that the free of n isn't needed.
+abbrev pub is_settled_by : Owner → ℕ → Option Leader → List (Option Block) → Bool
+is_settled_by self n leader blocks = some_is (λ l. nat_lt n l.lver || is_free_of n self l) leader || list_any (λ b. nat_lt n b.lver) (present blocks)
+
+-- The free that is left after a look at leader and blocks.
+abbrev pub won_looked : Owner → Option Leader → List (Option Block) → Option ℕ → Option ℕ
+won_looked self leader blocks before = option_and_then (λ n. choose (not (is_settled_by self n leader blocks)) n) before
 
 -- What stops the ballot of the own block, if there is one.
 abbrev pub own_stop : Option Block → List (Option Block) → Option (Option Stop)
@@ -105,7 +110,7 @@ after_bytes (ReadArea name) bytes heeded s = record s {
       read = area_blocks (layout_in s) bytes;
       name = name_read (layout_in s) s.lockspace name (leader_of (layout_in s) bytes) s.name;
     }
-after_bytes ReadBeforeFree bytes heeded s = record s { read = area_blocks (layout_in s) bytes; won = won_looked (layout_in s) s.self bytes s.won }
+after_bytes ReadBeforeFree bytes heeded s = record s { read = area_blocks (layout_in s) bytes; won = won_looked s.self (leader_of (layout_in s) bytes) (area_blocks (layout_in s) bytes) s.won }
 after_bytes Phase1Read bytes heeded s = record s {
       read = blocks_in (layout_in s) bytes;
       ballot = ballot_read heeded false (own_stop s.own (blocks_in (layout_in s) bytes)) s.ballot;

@@ -18,17 +18,17 @@ use std::marker::Model;
 /// A session's work on one resource's lease.
 #[derive(Drop)]
 pub struct Lease {
-    geometry: Geometry,
-    lockspace: Name,
-    me: Owner,
-    own: Option<Block>,
-    read: Vec<Option<Block>>,
-    name: Option<Name>,
-    freed: u64,
-    ballot: Option<u64>,
-    shown: bool,
-    won: Option<u64>,
-    waiting: Option<Deed>,
+    pub(crate) geometry: Geometry,
+    pub(crate) lockspace: Name,
+    pub(crate) me: Owner,
+    pub(crate) own: Option<Block>,
+    pub(crate) read: Vec<Option<Block>>,
+    pub(crate) name: Option<Name>,
+    pub(crate) freed: u64,
+    pub(crate) ballot: Option<u64>,
+    pub(crate) shown: bool,
+    pub(crate) won: Option<u64>,
+    pub(crate) waiting: Option<Deed>,
 }
 
 impl Model for Lease {

@@ -1,6 +1,7 @@
 //! A session's work on one resource's lease.
 #![tactic(auto)]
 
+mod answers;
 mod deed;
 mod evidence;
 mod lease;

@@ -2,7 +2,7 @@
 ghost use Rattle.sl_area.specs.Layouts.{layout_of};
 ghost use Rattle.sl_leases.specs.Ballots.{is_ahead};
 ghost use Rattle.sl_leases.specs.Leases.{is_free_of, is_leader_of};
-ghost use Rattle.sl_resource.specs.Updates.{ballot_over, ballot_read, freed_over, is_concluded, is_phase2_write, own_stop, shown_done, shown_over, won_done, won_in_end, won_read};
+ghost use Rattle.sl_resource.specs.Updates.{ballot_over, ballot_read, freed_over, is_concluded, is_phase2_write, is_settled_by, own_stop, shown_done, shown_over, won_done, won_in_end, won_looked, won_read};
 ghost use Rattle.sl_trace.specs.Traces.{is_ok_answer};
 ghost use Rattle.sl_words.specs.Words.{present, some_is};
 ghost use Rattle.std.specs.List.{list_any};
@@ -90,15 +90,27 @@ fn is_any_above(n: u64, blocks: &[Option<Block>]) -> bool
 }
 
 /// Whether leader and blocks show that the free of instance `n` isn't needed.
-pub(crate) fn is_settled(
+fn is_settled(
     me: Owner,
     n: u64,
     leader: &Option<Leader>,
     blocks: &[Option<Block>],
 ) -> bool
-    ensures { result ≡ (some_is (λ l. nat_lt n l.lver || is_free_of n me l) leader.now || list_any (λ b. nat_lt n b.lver) (present blocks.now)) }
+    ensures { result ≡ is_settled_by me n leader.now blocks.now }
 {
     read_leader_settles(me, n, leader) || is_any_above(n, blocks)
+}
+
+/// The free that is left after a look at leader and blocks.
+pub(crate) fn won_looked(
+    me: Owner,
+    leader: &Option<Leader>,
+    blocks: &[Option<Block>],
+    before: Option<u64>,
+) -> Option<u64>
+    ensures { result ≡ won_looked me leader.now blocks.now before }
+{
+    before.filter(|n| !is_settled(me, *n, leader, blocks))
 }
 
 /// What stops the ballot of the own block, if there is one.
