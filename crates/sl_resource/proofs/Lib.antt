@@ -1,2 +1,4 @@
 pub mod ReadLaws
 pub mod ReadRules
+pub mod CallParts
+pub mod AnswerLaws

@@ -6,9 +6,10 @@ use Rattle.sl_resource.specs.Calls.{IsDeed}
 use Rattle.sl_resource.specs.declared.deed.Deed.{Deed}
 use Rattle.sl_sector.specs.declared.sector.Block.{Block}
 use Rattle.sl_sector.specs.declared.sector.Owner.{Owner}
-use Rattle.sl_trace.specs.Traces.{Submitted}
+use Rattle.sl_trace.specs.Traces.{Answered, Setting, Submitted, is_answer_for}
 use Rattle.sl_trace.specs.declared.effects.LeaseStep.TheVariants.{ClearMode, FreeLeader, Phase1Read, Phase1Write, Phase2Read, Phase2Write, ReadArea, ReadBeforeFree, SetMode, TakeLeader}
 use Rattle.sl_trace.specs.declared.effects.LeaseStep.{LeaseStep}
+use Rattle.sl_trace.specs.declared.input.Answer.{Answer}
 use Rattle.std.specs.Prelude.{Bool, IsTrue, List, None, Option, Some, false, is_some, not, true, unwrap_or, [], ℕ, ◌||◌, ◌∷◌, ◌≡◌}
 
 -- What is kept of a lease.
@@ -101,3 +102,12 @@ pub record LeaseStands (s : LeaseState) (ms : List Submitted) : Type 0 where
   pub won : s.won ≡ free_left (layout_in s) s.self ms
   pub waiting : IsWaiting s.sizes s.waiting ms
   pub named : IsTrue (is_begun ms) → IsTrue (is_some s.name)
+
+-- An answer, heeded or not, to a call that has none, by as many bytes as it asks.
+pub record IsTold (s : LeaseState) (answer : Answer) (heeded : Bool) (m : Submitted) (a : Answered) : Type 0 where
+  pub open_call : m.answer ≡ None
+  pub told : a.answer ≡ answer
+  pub heed : a.heeded ≡ heeded
+  pub setting : Setting
+  pub layout : setting.layout ≡ layout_in s
+  pub fits : IsTrue (is_answer_for setting answer m.call.op)

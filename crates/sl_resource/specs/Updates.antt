@@ -133,7 +133,7 @@ shown_done shared ok before = elim (ok && not shared) [ true ↦ false | false �
 
 -- The free that is left after the answer of a leader of this instance, held or free.
 abbrev pub won_done : Bool → ℕ → Bool → Option ℕ → Option ℕ
-won_done held lver ok before = option_and_then (λ n. choose (not (lver == n && not held && ok)) n) before
+won_done held lver ok before = option_and_then (λ n. choose (not ((lver == n && not held) && ok)) n) before
 
 -- The answer of what waits for it.
 abbrev pub after_answer : Deed → Answer → Bool → LeaseState → LeaseState
@@ -147,7 +147,11 @@ after_answer (WritesLeader step held lver) a heeded s = record s { won = won_don
 abbrev pub at_rest : LeaseState → LeaseState
 at_rest s = record s { waiting = None }
 
--- The answer, where it is one to what waits.
+-- The answer of this deed, where it is one to it.
+abbrev pub answered_by : Option Deed → Answer → Bool → LeaseState → LeaseState
+answered_by None a heeded s = s
+answered_by (Some d) a heeded s = elim (is_answer_to s.sizes d a) [ false ↦ s | true ↦ at_rest (after_answer d a heeded s) ]
+
+-- The answer of what waits.
 abbrev pub answered_state : Answer → Bool → LeaseState → LeaseState
-answered_state a heeded s =
-    elim s.waiting [ None ↦ s | Some d ↦ elim (is_answer_to s.sizes d a) [ false ↦ s | true ↦ at_rest (after_answer d a heeded s) ] ]
+answered_state a heeded s = answered_by s.waiting a heeded s
