@@ -2,14 +2,16 @@
 use Rattle.sl_area.specs.Layouts.{Sizes}
 use Rattle.sl_area.specs.Places.{area_blocks, blocks_in, leader_of}
 use Rattle.sl_leases.specs.Leases.{Phase2_read, Read_before_free, is_at, is_phase_read, name_sought}
-use Rattle.sl_resource.proofs.CallParts.{ballot_aside, ballot_ends, ballot_stays, call_made, left_over, left_same, mode_done, name_found, name_stays, no_name, nothing_won, read_wins, settles_alone, settles_nothing}
-use Rattle.sl_resource.specs.Calls.{is_of_write, is_read_step}
-use Rattle.sl_resource.specs.Stands.{AllAnswered, IsWaiting, LeaseStands, LeaseState, layout_in}
-use Rattle.sl_resource.specs.Updates.{after_bytes, at_rest, ballot_read, name_read, own_stop, shown_done, won_done, won_looked, won_read}
+use Rattle.sl_resource.proofs.CallParts.{ballot_aside, ballot_ends, ballot_stays, bare_is, call_made, left_over, left_same, made_is, mode_done, name_found, name_stays, no_name, nothing_won, read_wins, settles_alone, settles_nothing}
+use Rattle.sl_resource.specs.Calls.{IsBlockWrite, IsDeed, IsLeaderWrite, IsReading, is_answer_to, is_of_read, is_of_write, is_read_step, sectors_for}
+use Rattle.sl_resource.specs.Stands.{AllAnswered, IsTold, IsWaiting, LeaseStands, LeaseState, layout_in}
+use Rattle.sl_resource.specs.Updates.{after_answer, after_bytes, answered_by, answered_state, at_rest, ballot_read, name_read, own_stop, shown_done, won_done, won_looked, won_read}
+use Rattle.sl_resource.specs.declared.deed.Deed.TheVariants.{Reads, WritesBlock, WritesLeader}
+use Rattle.sl_resource.specs.declared.deed.Deed.{Deed}
 use Rattle.sl_sector.specs.declared.sector.Block.{Block}
 use Rattle.sl_sector.specs.declared.sector.Leader.{Leader}
 use Rattle.sl_sector.specs.declared.sector.Rec.TheVariants.{BlockIs, LeaderIs}
-use Rattle.sl_trace.specs.Traces.{Answered, Submitted, is_ok_answer}
+use Rattle.sl_trace.specs.Traces.{Answered, Setting, Submitted, is_answer_for, is_ok_answer}
 use Rattle.sl_trace.specs.declared.effects.LeaseStep.TheVariants.{ClearMode, FreeLeader, Phase1Read, Phase1Write, Phase2Read, Phase2Write, ReadArea, ReadBeforeFree, SetMode, TakeLeader}
 use Rattle.sl_trace.specs.declared.effects.LeaseStep.{LeaseStep}
 use Rattle.sl_trace.specs.declared.effects.Op.TheVariants.{ReadSectors, WriteRecord}
@@ -18,7 +20,7 @@ use Rattle.sl_trace.specs.declared.effects.Purpose.TheVariants.{Lease}
 use Rattle.sl_trace.specs.declared.effects.Work.{Work}
 use Rattle.sl_trace.specs.declared.input.Answer.TheVariants.{Failed, Read, Written}
 use Rattle.sl_trace.specs.declared.input.Answer.{Answer}
-use Rattle.std.proofs.Common.{Bool, IsTrue, List, None, Option, Some, ap, ap₂, false, not, refl, sym, true, ℕ, ◌&&◌, ◌==◌, ◌∙◌, ◌∷◌, ◌≡◌}
+use Rattle.std.proofs.Common.{Bool, Err, IsTrue, List, None, Ok, OnOk, Result, Option, Some, ap, ap₂, false, is_some, length, not, refl, subst, sym, true, ℕ, ◌&&◌, ◌*◌, ◌==◌, ◌∙◌, ◌∷◌, ◌≡◌}
 
 -- An answer in its parts.
 abbrev pub answer_made : ℕ → ℕ → Answer → Bool → Answered
@@ -160,3 +162,86 @@ leader_answered s m work step l at reading Failed heeded ms is all k =
       waiting = (refl, all);
       named = k.named;
     }
+
+-- ---- all of them
+
+-- This answer in its parts.
+abbrev parts_of : Answered → Answered
+parts_of a = answer_made a.at a.reading a.answer a.heeded
+
+-- What the newest call has in its parts, without its answer and with it.
+stands_bare : (s : LeaseState) (m : Submitted) (ms : List Submitted) (work : Work) (step : LeaseStep) (does : Op) → m.answer ≡ None → m.call.purpose ≡ Lease work step → m.call.op ≡ does
+    → LeaseStands s (m ∷ ms) → LeaseStands s (call_made m work step does None ∷ ms)
+stands_bare s m ms work step does unanswered purpose op k = subst (λ x. LeaseStands s (x ∷ ms)) (bare_is m unanswered ∙ made_is m work step does None purpose op) k
+
+stands_told : (s : LeaseState) (m : Submitted) (ms : List Submitted) (work : Work) (step : LeaseStep) (does : Op) (a : Answered) → m.call.purpose ≡ Lease work step → m.call.op ≡ does
+    → LeaseStands s (call_made m work step does (Some a) ∷ ms) → LeaseStands s (record m { answer = Some a } ∷ ms)
+stands_told s m ms work step does a purpose op k = subst (λ x. LeaseStands s (x ∷ ms)) (sym (made_is m work step does (Some a) purpose op)) k
+
+-- A read in its parts.
+reading_answered : (s : LeaseState) (m : Submitted) (ms : List Submitted) (step : LeaseStep) (at reading : ℕ) (a : Answer) (heeded : Bool)
+    → IsReading s.sizes step m → m.answer ≡ None → IsTrue (is_of_read s.sizes step a) → AllAnswered ms → LeaseStands s (m ∷ ms)
+    → LeaseStands (at_rest (after_answer (Reads step) a heeded s)) (record m { answer = Some (answer_made at reading a heeded) } ∷ ms)
+reading_answered s m ms step at reading (Read bytes) heeded is unanswered fits all k =
+    stands_told _ m ms is.call.work step _ _ is.call.purpose is.call.op
+    (read_given s m is.call.work step _ at reading bytes heeded ms is.reads all (stands_bare s m ms is.call.work step _ unanswered is.call.purpose is.call.op k))
+reading_answered s m ms step at reading Written heeded is unanswered fits all k = absurd cc
+reading_answered s m ms step at reading Failed heeded is unanswered fits all k =
+    stands_told _ m ms is.call.work step _ _ is.call.purpose is.call.op
+    (read_failed s m is.call.work step _ at reading heeded ms all (stands_bare s m ms is.call.work step _ unanswered is.call.purpose is.call.op k))
+
+-- What a call does, by its op.
+fits_deed : (z : Sizes) (st : Setting) (d : Deed) (a : Answer) (m : Submitted) → st.layout.sector ≡ z.sector → IsDeed z d m → IsTrue (is_answer_for st a m.call.op) → IsTrue (is_answer_to z d a)
+fits_deed z st (Reads step) (Read bytes) m e is fits =
+    subst (λ n. IsTrue (length bytes == sectors_for z step * n)) e (subst (λ does. IsTrue (is_answer_for st (Read bytes) does)) is.call.op fits)
+fits_deed z st (Reads step) Written m e is fits = subst (λ does. IsTrue (is_answer_for st Written does)) is.call.op fits
+fits_deed z st (Reads step) Failed m e is fits = refl
+fits_deed z st (WritesBlock step shared) (Read bytes) m e is fits = subst (λ does. IsTrue (is_answer_for st (Read bytes) does)) is.2.call.op fits
+fits_deed z st (WritesBlock step shared) Written m e is fits = refl
+fits_deed z st (WritesBlock step shared) Failed m e is fits = refl
+fits_deed z st (WritesLeader step held lver) (Read bytes) m e is fits = subst (λ does. IsTrue (is_answer_for st (Read bytes) does)) is.3.call.op fits
+fits_deed z st (WritesLeader step held lver) Written m e is fits = refl
+fits_deed z st (WritesLeader step held lver) Failed m e is fits = refl
+
+-- A deed that is answered.
+deed_answered : (s : LeaseState) (m : Submitted) (ms : List Submitted) (d : Deed) (at reading : ℕ) (a : Answer) (heeded : Bool)
+    → m.answer ≡ None → IsDeed s.sizes d m → AllAnswered ms → IsTrue (is_answer_to s.sizes d a) → LeaseStands s (m ∷ ms)
+    → LeaseStands (at_rest (after_answer d a heeded s)) (record m { answer = Some (answer_made at reading a heeded) } ∷ ms)
+deed_answered s m ms (Reads step) at reading a heeded unanswered is all fits k = reading_answered s m ms step at reading a heeded is unanswered fits all k
+deed_answered s m ms (WritesBlock step shared) at reading a heeded unanswered is all fits k =
+    subst (λ x. LeaseStands (at_rest (after_answer (WritesBlock step x) a heeded s)) (record m { answer = Some (answer_made at reading a heeded) } ∷ ms)) is.1
+    (stands_told _ m ms is.2.call.work step _ _ is.2.call.purpose is.2.call.op
+    (block_answered s m is.2.call.work step is.0 at reading a heeded ms fits all (stands_bare s m ms is.2.call.work step _ unanswered is.2.call.purpose is.2.call.op k)))
+deed_answered s m ms (WritesLeader step held lver) at reading a heeded unanswered is all fits k =
+    subst (λ x. LeaseStands (at_rest (after_answer (WritesLeader step x lver) a heeded s)) (record m { answer = Some (answer_made at reading a heeded) } ∷ ms)) is.1
+    (subst (λ x. LeaseStands (at_rest (after_answer (WritesLeader step is.0.held x) a heeded s)) (record m { answer = Some (answer_made at reading a heeded) } ∷ ms)) is.2
+    (stands_told _ m ms is.3.call.work step _ _ is.3.call.purpose is.3.call.op
+    (leader_answered s m is.3.call.work step is.0 at reading a heeded ms fits all (stands_bare s m ms is.3.call.work step _ unanswered is.3.call.purpose is.3.call.op k))))
+
+no_answer : (o : Option Answered) → o ≡ None → IsTrue (is_some o) → ⊥
+no_answer None e h = absurd cc
+no_answer (Some a) e h = absurd cc
+
+where_true : {A : Type 0} (P : A → Type 0) (b : Bool) (x y : A) → IsTrue b → P y → P (elim b as (λ _. A) [ false ↦ x | true ↦ y ])
+where_true P true x y h p = p
+where_true P false x y h p = absurd cc
+
+waiting_answered : (s : LeaseState) (m : Submitted) (ms : List Submitted) (w : Option Deed) (st : Setting) (at reading : ℕ) (a : Answer) (heeded : Bool)
+    → m.answer ≡ None → st.layout.sector ≡ s.sizes.sector → IsTrue (is_answer_for st a m.call.op) → IsWaiting s.sizes w (m ∷ ms) → LeaseStands s (m ∷ ms)
+    → LeaseStands (answered_by w a heeded s) (record m { answer = Some (answer_made at reading a heeded) } ∷ ms)
+waiting_answered s m ms None st at reading a heeded unanswered layout fits q k = absurd (no_answer m.answer unanswered q.0)
+waiting_answered s m ms (Some d) st at reading a heeded unanswered layout fits q k =
+    where_true (λ x. LeaseStands x (record m { answer = Some (answer_made at reading a heeded) } ∷ ms)) (is_answer_to s.sizes d a) s _ (fits_deed s.sizes st d a m layout q.1 fits)
+    (deed_answered s m ms d at reading a heeded unanswered q.1 q.2 (fits_deed s.sizes st d a m layout q.1 fits) k)
+
+-- The newest call with its answer.
+pub answer_stands : (s : LeaseState) (answer : Answer) (heeded : Bool) (m : Submitted) (ms : List Submitted) (a : Answered) → IsTold s answer heeded m a → LeaseStands s (m ∷ ms)
+    → LeaseStands (answered_state answer heeded s) (record m { answer = Some a } ∷ ms)
+answer_stands s answer heeded m ms a is k =
+    subst (λ x. LeaseStands (answered_state answer heeded s) (record m { answer = Some x } ∷ ms)) (λ i. record { at = a.at; reading = a.reading; answer = sym is.told i; heeded = sym is.heed i })
+    (waiting_answered s m ms s.waiting is.setting a.at a.reading answer heeded is.open_call (ap (λ g. g.sector) is.layout) is.fits k.waiting k)
+
+-- What follows where there is a value.
+pub on_ok : {T E A B : Type 0} (r : Result T E) → (A → B) → OnOk r A → OnOk r B
+on_ok (Ok t) f a = f a
+on_ok (Err e) f a = a

@@ -1,9 +1,10 @@
 //! What an answer changes of what is kept of a lease.
-ghost use Rattle.sl_resource.specs.Stands.{IsOneLease, LeaseStands};
+ghost use Rattle.sl_resource.specs.Stands.{IsTold, LeaseStands};
 ghost use Rattle.sl_resource.specs.Calls.{is_answer_to, sectors_for};
 ghost use Rattle.sl_resource.specs.Updates.{after_answer, after_bytes, answered_state};
+ghost use Rattle.sl_trace.specs.Traces.{Answered, Submitted};
 ghost use Rattle.sl_trace.specs.declared.effects.LeaseStep.TheVariants.{Phase1Read, Phase2Read, ReadArea, ReadBeforeFree};
-ghost use Rattle.std.specs.Prelude.{IsTrue, OnErr, OnOk, false, length, ◌*◌, ◌+◌, ◌≡◌};
+ghost use Rattle.std.specs.Prelude.{IsTrue, List, OnErr, OnOk, Some, false, length, ◌*◌, ◌+◌, ◌∷◌, ◌≡◌};
 
 use crate::deed::{Deed, is_answer_to};
 use crate::lease::Lease;
@@ -144,8 +145,8 @@ impl Lease {
         }
     }
 
-    /// The call that waits is answered so. Other answers than one to that call change nothing.
-    pub fn answered(
+    /// The state after the answer.
+    fn take_answer(
         &mut self,
         alloc: Global,
         answer: &Answer,
@@ -161,5 +162,20 @@ impl Lease {
             }
         }
         Ok(())
+    }
+
+    /// The call that waits is answered so. Other answers than one to that call change nothing.
+    pub fn answered(
+        &mut self,
+        alloc: Global,
+        answer: &Answer,
+        heeded: bool,
+    ) -> Result<(), AllocError>
+        ensures state { OnOk result (self.new ≡ answered_state answer.now heeded self.old) }
+        ensures stands { OnOk result ((m : Submitted) (ms : List Submitted) (a : Answered) → IsTold self.old answer.now heeded m a
+            → LeaseStands self.old (m ∷ ms) → LeaseStands self.new (record m { answer = Some a } ∷ ms)) }
+        ensures kept { OnErr result (self.new ≡ self.old) }
+    {
+        self.take_answer(alloc, answer, heeded)
     }
 }
