@@ -2,3 +2,4 @@ pub mod ReadLaws
 pub mod ReadRules
 pub mod CallParts
 pub mod AnswerLaws
+pub mod NextLaws

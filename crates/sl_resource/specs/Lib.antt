@@ -1,3 +1,4 @@
+pub mod Asked
 pub mod Bounds
 pub mod Calls
 pub mod Reads

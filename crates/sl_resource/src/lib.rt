@@ -5,6 +5,7 @@ mod answers;
 mod deed;
 mod evidence;
 mod lease;
+mod owed;
 mod reads;
 mod updates;
 
