@@ -3,3 +3,5 @@ pub mod ReadRules
 pub mod CallParts
 pub mod AnswerLaws
 pub mod NextLaws
+pub mod TopLaws
+pub mod NextRules

@@ -2,6 +2,8 @@
 #![tactic(auto)]
 
 mod answers;
+mod area;
+mod ballots;
 mod deed;
 mod evidence;
 mod lease;

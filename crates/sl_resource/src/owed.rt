@@ -2,7 +2,7 @@
 ghost use Rattle.sl_leases.specs.LeaseWork.{begin_next, phase1_next, refuses, settle_next, settle_owed};
 ghost use Rattle.sl_leases.specs.Leases.{block_of_host, mode_gen_of, owed, owed_free, own_known, own_or_read};
 ghost use Rattle.sl_leases.specs.declared.lease.LeaseNext.TheVariants.{Nothing, WriteBlock};
-ghost use Rattle.sl_resource.specs.Asked.{known_with};
+ghost use Rattle.sl_resource.specs.Asked.{gen_with, known_with};
 ghost use Rattle.sl_resource.specs.Stands.{place_of};
 ghost use Rattle.sl_ballot.specs.Limits.{limited_block};
 ghost use Rattle.sl_leases.specs.Ballots.{moded_block};
@@ -78,7 +78,7 @@ impl Lease {
 
     /// The mode generation that its blocks have: the session's own where it has the shared mode, else 0.
     pub(crate) fn mode_gen(&self, held: Held) -> u64
-        ensures { (over : ℕ → ℕ → Bool) → result ≡ mode_gen_of (known_with self.now held over) }
+        ensures { result ≡ gen_with self.now held }
     {
         if held.shared { self.me.generation } else { 0 }
     }

@@ -7,5 +7,5 @@ use Rattle.sl_resource.proofs.lease.Lease.begin.Goals as goal
 pub returns-in-Some : goal.returns-in-Some
 returns-in-Some c = λ over.
     begins_with (place_of c.args.self.now) (known_with c.args.self.now c.args.held over) c.args.aim c.args.n c.in-Some.own c.mode_gen-mode_gen.result c.phase1_next.result
-    (sym c.own_known.ensures ∙ c.in-Some.is) (c.mode_gen-mode_gen.ensures over)
+    (sym c.own_known.ensures ∙ c.in-Some.is) c.mode_gen-mode_gen.ensures
     (c.phase1_next.ensures _ (lver-phase1_block _ _ _ _ _ _ _) (search rules))
