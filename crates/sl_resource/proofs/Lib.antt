@@ -5,3 +5,4 @@ pub mod AnswerLaws
 pub mod NextLaws
 pub mod TopLaws
 pub mod NextRules
+pub mod KnownLaws

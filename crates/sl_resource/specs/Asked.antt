@@ -1,18 +1,23 @@
 -- What a lease's session is asked, by what is kept of the lease and what the session knows beside it.
-use Rattle.sl_leases.specs.Ballots.{ballot_blocks, moded_block, phase2_block}
-use Rattle.sl_leases.specs.LeaseWork.{LeasePlace, named_area_next}
-use Rattle.sl_leases.specs.Leases.{LeaseKnown, is_leader_of}
+use Rattle.sl_area.specs.Places.{leader_of}
+use Rattle.sl_leases.specs.Ballots.{ballot_blocks, moded_block, phase2_block, stop_of}
+use Rattle.sl_leases.specs.LeaseWork.{LeasePlace, after_phase1, after_phase2, after_write, leader_for, named_area_next, refuses}
+use Rattle.sl_leases.specs.Leases.{LeaseKnown, is_leader_of, owed_free}
 use Rattle.sl_leases.specs.declared.lease.Aim.{Aim}
-use Rattle.sl_leases.specs.declared.lease.LeaseNext.TheVariants.{AnswerJob, WriteBlock}
+use Rattle.sl_leases.specs.declared.lease.LeaseNext.TheVariants.{AnswerJob, Nothing, WriteBlock, WriteLeader}
 use Rattle.sl_leases.specs.declared.lease.LeaseNext.{LeaseNext}
-use Rattle.sl_trace.specs.declared.reply.Reply.TheVariants.{TornLeader, WrongArea}
 use Rattle.sl_resource.specs.Stands.{LeaseState, name_in}
 use Rattle.sl_resource.specs.declared.evidence.Held.{Held}
 use Rattle.sl_sector.specs.declared.sector.Block.{Block}
 use Rattle.sl_sector.specs.declared.sector.Leader.{Leader}
-use Rattle.sl_trace.specs.declared.effects.LeaseStep.TheVariants.{Phase2Write}
-use Rattle.sl_words.specs.Words.{present}
-use Rattle.std.specs.Prelude.{Bool, List, None, Option, Some, false, filter, fold, if◌then◌else◌, map, max, not, true, ℕ, ◌==◌}
+use Rattle.sl_trace.specs.declared.effects.LeaseStep.TheVariants.{ClearMode, FreeLeader, Phase1Read, Phase1Write, Phase2Read, Phase2Write, ReadArea, ReadBeforeFree, SetMode, TakeLeader}
+use Rattle.sl_trace.specs.declared.effects.LeaseStep.{LeaseStep}
+use Rattle.sl_trace.specs.declared.input.Answer.TheVariants.{Failed, Read, Written}
+use Rattle.sl_trace.specs.declared.input.Answer.{Answer}
+use Rattle.sl_trace.specs.declared.reply.Reply.TheVariants.{IoFault, TornLeader, WrongArea}
+use Rattle.sl_words.specs.Words.{choose, present, some_is}
+use Rattle.std.specs.Option.{option_map_or}
+use Rattle.std.specs.Prelude.{Bool, List, None, Option, Some, false, filter, fold, if◌then◌else◌, map, max, not, option_and_then, true, ℕ, ◌==◌}
 
 -- What is known of a lease, by what is kept of it, what is held under it, and whom its session counts as over.
 abbrev pub known_with : LeaseState → Held → (ℕ → ℕ → Bool) → LeaseKnown
@@ -64,3 +69,42 @@ phase2_with s h own = WriteBlock Phase2Write (moded_block (phase2_block s.self o
 -- The greatest lver of the own block and of the other blocks read, one by one.
 abbrev pub tops_found : Block → List (Option Block) → ℕ
 tops_found own read = fold (λ top x. max top x) own.lver (map (λ b. b.lver) (filter (λ b. not (b.host == own.host)) (present read)))
+
+-- The free that is owed, unless its instance is held.
+abbrev pub owed_with : LeaseState → Held → Option ℕ
+owed_with s h = option_and_then (λ n. choose (not (some_is (λ e. e == n) h.exclusive)) n) s.won
+
+-- It is written.
+abbrev pub free_with : LeaseState → Held → LeaseNext
+free_with s h = option_map_or (λ n. WriteLeader FreeLeader (leader_named s (name_in s) false n)) (owed_with s h) Nothing
+
+-- The own block with the shared mode.
+abbrev pub mode_with : LeaseState → LeaseNext
+mode_with s = option_map_or (λ own. WriteBlock SetMode (moded_block own true s.self.generation)) s.own Nothing
+
+-- After the read of phase 1.
+abbrev pub phase1_ended : LeasePlace → LeaseKnown → Aim → List (Option Block) → LeaseNext
+phase1_ended p k aim read = option_map_or (λ own. after_phase1 p k aim own read (stop_of own read)) k.own Nothing
+
+-- After the read of phase 2.
+abbrev pub phase2_ended : LeasePlace → LeaseKnown → Aim → List (Option Block) → LeaseNext
+phase2_ended p k aim read = option_map_or (λ own. after_phase2 p k aim own (stop_of own read)) k.own Nothing
+
+-- After a read for this step that gave this leader, if it reads one, and these blocks.
+abbrev pub read_asked : LeasePlace → LeaseKnown → Aim → Option Leader → List (Option Block) → LeaseStep → LeaseNext
+read_asked p k aim l read (ReadArea name) = area_asked p k aim name l read
+read_asked p k aim l read ReadBeforeFree = option_map_or (λ n. WriteLeader FreeLeader (leader_for p k false n)) (owed_free k) Nothing
+read_asked p k aim l read Phase1Write = Nothing
+read_asked p k aim l read Phase1Read = phase1_ended p k aim read
+read_asked p k aim l read Phase2Write = Nothing
+read_asked p k aim l read Phase2Read = phase2_ended p k aim read
+read_asked p k aim l read TakeLeader = Nothing
+read_asked p k aim l read SetMode = Nothing
+read_asked p k aim l read FreeLeader = Nothing
+read_asked p k aim l read ClearMode = Nothing
+
+-- After this answer, the blocks being those that were last read.
+abbrev pub asked_next : LeasePlace → LeaseKnown → Aim → ℕ → ℕ → LeaseStep → List (Option Block) → Answer → LeaseNext
+asked_next p k aim call n step read (Read bytes) = read_asked p k aim (leader_of p.layout bytes) read step
+asked_next p k aim call n step read Written = after_write p k aim n step
+asked_next p k aim call n step read Failed = refuses aim (IoFault call)

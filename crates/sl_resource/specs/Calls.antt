@@ -120,3 +120,9 @@ abbrev pub is_answer_to : Sizes → Deed → Answer → Bool
 is_answer_to z (Reads step) a = is_of_read z step a
 is_answer_to z (WritesBlock step shared) a = is_of_write a
 is_answer_to z (WritesLeader step held lver) a = is_of_write a
+
+-- Whether the bytes of an answer are as many as a read for this step asks.
+abbrev pub is_whole_read : Sizes → LeaseStep → Answer → Bool
+is_whole_read z step (Read bytes) = length bytes == sectors_for z step * z.sector
+is_whole_read z step Written = true
+is_whole_read z step Failed = true

@@ -2,13 +2,15 @@
 use Rattle.sl_area.specs.Layouts.{Layout, Sizes, layout_of}
 use Rattle.sl_leases.specs.LeaseWork.{LeasePlace}
 use Rattle.sl_leases.specs.Leases.{Area_read, block_submitted, free_left, freed, is_at, last_blocks, may_show_shared, open_ballot, verified_name}
-use Rattle.sl_resource.specs.Calls.{IsDeed}
+use Rattle.sl_resource.specs.Calls.{IsDeed, is_whole_read}
 use Rattle.sl_resource.specs.declared.deed.Deed.{Deed}
 use Rattle.sl_sector.specs.declared.sector.Block.{Block}
 use Rattle.sl_sector.specs.declared.sector.Owner.{Owner}
 use Rattle.sl_trace.specs.Traces.{Answered, Setting, Submitted, is_answer_for}
 use Rattle.sl_trace.specs.declared.effects.LeaseStep.TheVariants.{ClearMode, FreeLeader, Phase1Read, Phase1Write, Phase2Read, Phase2Write, ReadArea, ReadBeforeFree, SetMode, TakeLeader}
 use Rattle.sl_trace.specs.declared.effects.LeaseStep.{LeaseStep}
+use Rattle.sl_trace.specs.declared.effects.Purpose.TheVariants.{Lease}
+use Rattle.sl_trace.specs.declared.effects.Work.{Work}
 use Rattle.sl_trace.specs.declared.input.Answer.{Answer}
 use Rattle.std.specs.Prelude.{Bool, IsTrue, List, None, Option, Some, false, is_some, not, true, unwrap_or, [], ℕ, ◌||◌, ◌∷◌, ◌≡◌}
 
@@ -111,3 +113,12 @@ pub record IsTold (s : LeaseState) (answer : Answer) (heeded : Bool) (m : Submit
   pub setting : Setting
   pub layout : setting.layout ≡ layout_in s
   pub fits : IsTrue (is_answer_for setting answer m.call.op)
+
+-- The call is at this step, and its answer is this one, by as many bytes as the step asks.
+pub record IsAnswered (z : Sizes) (at : LeaseStep) (answer : Answer) (m : Submitted) : Type 0 where
+  pub work : Work
+  pub purpose : m.call.purpose ≡ Lease work at
+  pub answered : Answered
+  pub has : m.answer ≡ Some answered
+  pub told : answered.answer ≡ answer
+  pub whole : IsTrue (is_whole_read z at answer)

@@ -66,7 +66,7 @@ pub(crate) fn is_answer_to(geometry: &Geometry, deed: &Deed, answer: &Answer) ->
 }
 
 /// Whether a read for this step asks so many bytes.
-fn is_whole(geometry: &Geometry, step: &LeaseStep, len: usize) -> bool
+pub(crate) fn is_whole(geometry: &Geometry, step: &LeaseStep, len: usize) -> bool
     ensures { result ≡ (len == sectors_for geometry.now step.now * geometry.now.sector) }
 {
     let size = geometry.sector() as usize;

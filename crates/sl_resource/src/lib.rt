@@ -7,6 +7,7 @@ mod ballots;
 mod deed;
 mod evidence;
 mod lease;
+mod next;
 mod owed;
 mod reads;
 mod updates;

@@ -2,7 +2,7 @@
 ghost use Rattle.sl_leases.specs.LeaseWork.{begin_next, phase1_next, refuses, settle_next, settle_owed};
 ghost use Rattle.sl_leases.specs.Leases.{block_of_host, mode_gen_of, owed, owed_free, own_known, own_or_read};
 ghost use Rattle.sl_leases.specs.declared.lease.LeaseNext.TheVariants.{Nothing, WriteBlock};
-ghost use Rattle.sl_resource.specs.Asked.{gen_with, known_with};
+ghost use Rattle.sl_resource.specs.Asked.{gen_with, known_with, owed_with};
 ghost use Rattle.sl_resource.specs.Stands.{place_of};
 ghost use Rattle.sl_ballot.specs.Limits.{limited_block};
 ghost use Rattle.sl_leases.specs.Ballots.{moded_block};
@@ -109,7 +109,7 @@ impl Lease {
 
     /// The free that is owed: of the instance won last, unless it is held under it.
     pub(crate) fn owed_free(&self, held: Held) -> Option<u64>
-        ensures { (over : ℕ → ℕ → Bool) → result ≡ owed_free (known_with self.now held over) }
+        ensures { result ≡ owed_with self.now held }
     {
         match self.won {
             Some(n) => free_owed(n, held.exclusive),

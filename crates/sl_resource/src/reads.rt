@@ -2,6 +2,7 @@
 ghost use Rattle.sl_area.specs.Layouts.{IsGeometry, layout_of};
 ghost use Rattle.sl_area.specs.Places.{area_blocks, blocks_in, leader_of, read_at, sector_of};
 ghost use Rattle.sl_resource.specs.Reads.{host_block};
+ghost use Rattle.sl_sector.specs.Records.{Fits, IsRecord};
 ghost use Rattle.std.specs.Prelude.{IfOk, IfSome, IsSomeAnd, drop, length, take, ◌*◌, ◌+◌, ◌-◌, ◌<◌, ◌^◌, ◌≡◌, ◌≤◌};
 
 use sl_area::Geometry;
@@ -11,7 +12,8 @@ use std::alloc::{AllocError, Global};
 /// What the sector at this place among those read spells.
 fn read_at(geometry: &Geometry, bytes: &[u8], place: usize) -> Result<Rec, Bad>
     requires { (place < 2 ^ 32) × ((place + 1) * geometry.now.sector ≤ length bytes.now) }
-    ensures { result ≡ read_at (layout_of geometry.now) bytes.now place }
+    ensures exact { result ≡ read_at (layout_of geometry.now) bytes.now place }
+    ensures bounds { IfOk result IsRecord }
 {
     let size = geometry.sector() as usize;
     let (_, rest) = bytes.split_at(place * size);
@@ -23,6 +25,7 @@ fn read_at(geometry: &Geometry, bytes: &[u8], place: usize) -> Result<Rec, Bad>
 pub(crate) fn leader_of(geometry: &Geometry, bytes: &[u8]) -> Option<Leader>
     requires { geometry.now.sector ≤ length bytes.now }
     ensures exact { result ≡ leader_of (layout_of geometry.now) bytes.now }
+    ensures bounds { IfSome result (λ l. Fits l.lver) }
 {
     leader_in(read_at(geometry, bytes, 0))
 }
