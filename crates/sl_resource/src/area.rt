@@ -3,6 +3,7 @@ ghost use Rattle.sl_leases.specs.LeaseWork.{area_next, begin_or_refuse, named_ar
 ghost use Rattle.sl_leases.specs.Leases.{instance_for, is_over_owner, top_lver};
 ghost use Rattle.sl_area.specs.Places.{leader_of};
 ghost use Rattle.sl_resource.specs.Asked.{area_asked, known_with, owner_over, tops_found};
+ghost use Rattle.sl_resource.specs.Calls.{IsFitNext};
 ghost use Rattle.sl_resource.specs.Stands.{layout_in, place_of};
 ghost use Rattle.sl_sector.specs.Records.{Fits};
 ghost use Rattle.std.specs.Prelude.{IfSome, is_none, not, option_map, position, ◌+◌, ◌<◌, ◌==◌, ◌≡◌};
@@ -62,7 +63,8 @@ impl Lease {
     /// Where all spells and the names are right: the ballot begins, or the holder is named.
     fn whole_area<E: Evidence>(&self, held: Held, evidence: &E, aim: Aim, leader: &Leader) -> LeaseNext
         requires { Fits leader.now.lver }
-        ensures { result ≡ whole_area_next (place_of self.now) (known_with self.now held (E.over evidence.now)) aim leader.now self.now.read }
+        ensures exact { result ≡ whole_area_next (place_of self.now) (known_with self.now held (E.over evidence.now)) aim leader.now self.now.read }
+        ensures fit { IsFitNext result }
     {
         match self.own_known() {
             None => LeaseNext::Nothing,
@@ -76,7 +78,8 @@ impl Lease {
     /// Where the names are right: a torn block, the own one too, refuses.
     fn named_area<E: Evidence>(&self, held: Held, evidence: &E, aim: Aim, leader: &Leader) -> LeaseNext
         requires { Fits leader.now.lver }
-        ensures { result ≡ named_area_next (place_of self.now) (known_with self.now held (E.over evidence.now)) aim leader.now self.now.read }
+        ensures exact { result ≡ named_area_next (place_of self.now) (known_with self.now held (E.over evidence.now)) aim leader.now self.now.read }
+        ensures fit { IsFitNext result }
     {
         match self.torn_host() {
             Some(host) => LeaseNext::AnswerJob(Reply::TornBlock { host }),
@@ -106,7 +109,8 @@ impl Lease {
     /// After the read of the area for a job that names this resource: a torn leader, other names, a torn block refuse in this order.
     pub(crate) fn after_area<E: Evidence>(&self, held: Held, evidence: &E, aim: Aim, resource: &Name, leader: Option<Leader>) -> LeaseNext
         requires { IfSome leader (λ l. Fits l.lver) }
-        ensures { result ≡ area_asked (place_of self.now) (known_with self.now held (E.over evidence.now)) aim resource.now leader self.now.read }
+        ensures exact { result ≡ area_asked (place_of self.now) (known_with self.now held (E.over evidence.now)) aim resource.now leader self.now.read }
+        ensures fit { IsFitNext result }
     {
         match leader {
             None => LeaseNext::AnswerJob(Reply::TornLeader),

@@ -3,6 +3,7 @@ ghost use Rattle.sl_leases.specs.LeaseWork.{after_phase1, after_phase2, ended_ne
 ghost use Rattle.sl_leases.specs.Leases.{is_shared_by_other, shared_elsewhere};
 ghost use Rattle.sl_leases.specs.declared.lease.LeaseNext.TheVariants.{Nothing, WriteLeader};
 ghost use Rattle.sl_resource.specs.Asked.{is_shared_beside, known_with, leader_named, phase2_with};
+ghost use Rattle.sl_resource.specs.Calls.{IsFitNext, is_leader_step};
 ghost use Rattle.sl_resource.specs.Stands.{name_in, place_of};
 ghost use Rattle.sl_sector.specs.Records.{Fits};
 ghost use Rattle.sl_resource.specs.declared.evidence.Held.{Held};
@@ -77,7 +78,8 @@ impl Lease {
 
     /// The leader is written, once the resource's name is known.
     pub(crate) fn write_leader(&self, step: LeaseStep, held: bool, n: u64) -> LeaseNext
-        ensures { IsTrue (is_some self.now.name) → result ≡ WriteLeader step (leader_named self.now (name_in self.now) held n) }
+        ensures exact { IsTrue (is_some self.now.name) → result ≡ WriteLeader step (leader_named self.now (name_in self.now) held n) }
+        ensures fit { Fits n → IsTrue (is_leader_step step) → IsFitNext result }
     {
         match self.name {
             Some(resource) => LeaseNext::WriteLeader {
@@ -91,7 +93,8 @@ impl Lease {
     /// After a stop: a job is refused; a block above the instance concludes the ballot, so a settling goes on; after any other it waits
     /// for a wake.
     fn stopped(&self, held: Held, aim: Aim, stop: Stop) -> LeaseNext
-        ensures { (over : ℕ → ℕ → Bool) → result ≡ stopped_next (place_of self.now) (known_with self.now held over) aim stop }
+        ensures exact { (over : ℕ → ℕ → Bool) → result ≡ stopped_next (place_of self.now) (known_with self.now held over) aim stop }
+        ensures fit { IsFitNext result }
     {
         match aim {
             Aim::Acquires(_) => LeaseNext::AnswerJob(stop_reply(stop)),
@@ -107,8 +110,10 @@ impl Lease {
     }
 
     /// The block of phase 2, with the mode that the session has now.
+    #[tactic(auto, unfolding(sl_leases::specs::Ballots::phase2_block))]
     fn phase2(&self, held: Held, own: &Block) -> LeaseNext
-        ensures { result ≡ phase2_with self.now held own.now }
+        ensures exact { result ≡ phase2_with self.now held own.now }
+        ensures fit { Fits own.now.lver → IsFitNext result }
     {
         let block = phase2_after_read(self.me, own, &self.read);
         LeaseNext::WriteBlock {
@@ -119,7 +124,8 @@ impl Lease {
 
     /// After the read of phase 1, where nothing stops the ballot.
     fn unstopped<E: Evidence>(&self, held: Held, evidence: &E, aim: Aim, own: &Block) -> LeaseNext
-        ensures { result ≡ unstopped_next (known_with self.now held (E.over evidence.now)) aim own.now self.now.read }
+        ensures exact { result ≡ unstopped_next (known_with self.now held (E.over evidence.now)) aim own.now self.now.read }
+        ensures fit { Fits own.now.lver → IsFitNext result }
     {
         if !looks_for_shared(aim) {
             return self.phase2(held, own);
@@ -144,7 +150,8 @@ impl Lease {
         own: &Block,
         stop: Option<Stop>,
     ) -> LeaseNext
-        ensures { result ≡ after_phase1 (place_of self.now) (known_with self.now held (E.over evidence.now)) aim own.now self.now.read stop }
+        ensures exact { result ≡ after_phase1 (place_of self.now) (known_with self.now held (E.over evidence.now)) aim own.now self.now.read stop }
+        ensures fit { Fits own.now.lver → IsFitNext result }
     {
         match stop {
             None => self.unstopped(held, evidence, aim, own),
@@ -154,8 +161,9 @@ impl Lease {
 
     /// A won ballot takes the leader; a settling writes it free.
     fn won_next(&self, aim: Aim, n: u64) -> LeaseNext
-        ensures { IsTrue (is_some self.now.name) → (h : Held) (over : ℕ → ℕ → Bool)
+        ensures exact { IsTrue (is_some self.now.name) → (h : Held) (over : ℕ → ℕ → Bool)
             → result ≡ won_next (place_of self.now) (known_with self.now h over) aim n }
+        ensures fit { Fits n → IsFitNext result }
     {
         match aim {
             Aim::Acquires(_) => self.write_leader(LeaseStep::TakeLeader, true, n),
@@ -174,7 +182,8 @@ impl Lease {
         owner: Owner,
     ) -> LeaseNext
         requires { Fits n }
-        ensures { result ≡ lost_next (place_of self.now) (known_with self.now held (E.over evidence.now)) aim n owner }
+        ensures exact { result ≡ lost_next (place_of self.now) (known_with self.now held (E.over evidence.now)) aim n owner }
+        ensures fit { IsFitNext result }
     {
         match aim {
             Aim::Acquires(_) => {
@@ -198,7 +207,8 @@ impl Lease {
         own: &Block,
     ) -> LeaseNext
         requires { Fits own.now.lver }
-        ensures { IsTrue (is_some self.now.name) → result ≡ ended_next (place_of self.now) (known_with self.now held (E.over evidence.now)) aim own.now }
+        ensures exact { IsTrue (is_some self.now.name) → result ≡ ended_next (place_of self.now) (known_with self.now held (E.over evidence.now)) aim own.now }
+        ensures fit { IsFitNext result }
     {
         let value = value_of(own);
         if same_owner(value, self.me) {
@@ -218,8 +228,9 @@ impl Lease {
         stop: Option<Stop>,
     ) -> LeaseNext
         requires { Fits own.now.lver }
-        ensures { IsTrue (is_some self.now.name)
+        ensures exact { IsTrue (is_some self.now.name)
             → result ≡ after_phase2 (place_of self.now) (known_with self.now held (E.over evidence.now)) aim own.now stop }
+        ensures fit { IsFitNext result }
     {
         match stop {
             None => self.ended_next(held, evidence, aim, own),

@@ -41,7 +41,7 @@ impl Model for Lease {
         sizes = l.geometry; lockspace = l.lockspace; self = l.me; own = l.own; read = l.read.items; name = l.name;
         freed = l.freed; ballot = l.ballot; shown = l.shown; won = l.won; waiting = l.waiting } };
 
-    ghost invariant = { λ l. IsWithinBounds l.geometry l.own l.read.items l.freed };
+    ghost invariant = { λ l. IsWithinBounds l.geometry l.own l.read.items l.freed l.won };
 }
 
 impl Lease {

@@ -4,10 +4,11 @@ ghost use Rattle.sl_leases.specs.LeaseWork.{after_clearing, after_freeing, after
 ghost use Rattle.sl_leases.specs.Leases.{known_of};
 ghost use Rattle.sl_leases.specs.declared.lease.LeaseNext.TheVariants.{Nothing, WriteLeader};
 ghost use Rattle.sl_resource.specs.Asked.{asked_next, free_with, known_with, mode_with, phase1_ended, phase2_ended, read_asked};
-ghost use Rattle.sl_resource.specs.Calls.{is_whole_read, sectors_for};
+ghost use Rattle.sl_resource.specs.Calls.{IsFitNext, is_whole_read, sectors_for};
 ghost use Rattle.sl_resource.specs.Stands.{IsAnswered, LeaseStands, is_begun, is_first_step, layout_in, name_in, place_of};
 ghost use Rattle.sl_area.specs.Places.{leader_of};
 ghost use Rattle.sl_trace.specs.Traces.{Submitted};
+ghost use Rattle.sl_sector.specs.Records.{Fits};
 ghost use Rattle.std.specs.Prelude.{Bool, IsTrue, List, is_some, length, ℕ, ◌*◌, ◌||◌, ◌∷◌, ◌≡◌};
 
 use crate::deed::is_whole;
@@ -23,7 +24,8 @@ use sl_trace::{Answer, LeaseStep, Mode, Reply};
 impl Lease {
     /// The free that is owed is written.
     fn free_next(&self, held: Held) -> LeaseNext
-        ensures { IsTrue (is_some self.now.name) → result ≡ free_with self.now held }
+        ensures exact { IsTrue (is_some self.now.name) → result ≡ free_with self.now held }
+        ensures fit { IsFitNext result }
     {
         match self.owed_free(held) {
             Some(n) => self.write_leader(LeaseStep::FreeLeader, false, n),
@@ -41,7 +43,8 @@ impl Lease {
 
     /// After the read of phase 1.
     fn phase1_done<E: Evidence>(&self, held: Held, evidence: &E, aim: Aim) -> LeaseNext
-        ensures { result ≡ phase1_ended (place_of self.now) (known_with self.now held (E.over evidence.now)) aim self.now.read }
+        ensures exact { result ≡ phase1_ended (place_of self.now) (known_with self.now held (E.over evidence.now)) aim self.now.read }
+        ensures fit { IsFitNext result }
     {
         match self.own {
             Some(own) => {
@@ -54,8 +57,9 @@ impl Lease {
 
     /// After the read of phase 2.
     fn phase2_done<E: Evidence>(&self, held: Held, evidence: &E, aim: Aim) -> LeaseNext
-        ensures { IsTrue (is_some self.now.name)
+        ensures exact { IsTrue (is_some self.now.name)
             → result ≡ phase2_ended (place_of self.now) (known_with self.now held (E.over evidence.now)) aim self.now.read }
+        ensures fit { IsFitNext result }
     {
         match self.own {
             Some(own) => {
@@ -76,9 +80,10 @@ impl Lease {
         bytes: &[u8],
     ) -> LeaseNext
         requires { length bytes.now ≡ sectors_for self.now.sizes step * self.now.sizes.sector }
-        ensures { IsTrue (is_first_step step || is_some self.now.name)
+        ensures exact { IsTrue (is_first_step step || is_some self.now.name)
             → result ≡ read_asked (place_of self.now) (known_with self.now held (E.over evidence.now)) aim (leader_of (layout_in self.now) bytes.now)
                 self.now.read step }
+        ensures fit { IsFitNext result }
     {
         match step {
             LeaseStep::ReadArea { resource } => self.after_area(
@@ -102,7 +107,8 @@ impl Lease {
 
     /// The leader of `n` is taken: exclusive is granted; shared goes on with the own block's mode.
     fn after_take(&self, aim: Aim, n: u64) -> LeaseNext
-        ensures { (h : Held) (over : ℕ → ℕ → Bool) → result ≡ after_take (known_with self.now h over) aim n }
+        ensures exact { (h : Held) (over : ℕ → ℕ → Bool) → result ≡ after_take (known_with self.now h over) aim n }
+        ensures fit { IsFitNext result }
     {
         match aim {
             Aim::Acquires(Mode::Exclusive) => LeaseNext::GrantJob {
@@ -117,7 +123,8 @@ impl Lease {
 
     /// The own block with the shared mode is written.
     fn set_mode(&self) -> LeaseNext
-        ensures { result ≡ mode_with self.now }
+        ensures exact { result ≡ mode_with self.now }
+        ensures fit { IsFitNext result }
     {
         match self.own {
             Some(own) => LeaseNext::WriteBlock {
@@ -130,7 +137,8 @@ impl Lease {
 
     /// The leader of `n` is freed: a shared acquire is granted, a release is done, a settling goes on.
     fn after_freeing(&self, held: Held, aim: Aim, n: u64) -> LeaseNext
-        ensures { (over : ℕ → ℕ → Bool) → result ≡ after_freeing (place_of self.now) (known_with self.now held over) aim n }
+        ensures exact { (over : ℕ → ℕ → Bool) → result ≡ after_freeing (place_of self.now) (known_with self.now held over) aim n }
+        ensures fit { IsFitNext result }
     {
         match aim {
             Aim::Acquires(_) => LeaseNext::GrantJob {
@@ -144,7 +152,8 @@ impl Lease {
 
     /// The mode is cleared: a release is done, a settling goes on.
     fn after_clearing(&self, held: Held, aim: Aim) -> LeaseNext
-        ensures { (over : ℕ → ℕ → Bool) → result ≡ after_clearing (place_of self.now) (known_with self.now held over) aim }
+        ensures exact { (over : ℕ → ℕ → Bool) → result ≡ after_clearing (place_of self.now) (known_with self.now held over) aim }
+        ensures fit { IsFitNext result }
     {
         match aim {
             Aim::Acquires(_) => LeaseNext::Nothing,
@@ -155,8 +164,9 @@ impl Lease {
 
     /// After a write of instance `n` that is done, by its step.
     fn after_write(&self, held: Held, aim: Aim, n: u64, step: LeaseStep) -> LeaseNext
-        ensures { IsTrue (is_first_step step || is_some self.now.name) → (over : ℕ → ℕ → Bool)
+        ensures exact { IsTrue (is_first_step step || is_some self.now.name) → (over : ℕ → ℕ → Bool)
             → result ≡ after_write (place_of self.now) (known_with self.now held over) aim n step }
+        ensures fit { Fits n → IsFitNext result }
     {
         match step {
             LeaseStep::ReadArea { resource: _ } => LeaseNext::Nothing,
@@ -183,8 +193,9 @@ impl Lease {
         step: LeaseStep,
         answer: &Answer,
     ) -> LeaseNext
-        ensures { IsTrue (is_first_step step || is_some self.now.name) → IsTrue (is_whole_read self.now.sizes step answer.now)
+        ensures exact { IsTrue (is_first_step step || is_some self.now.name) → IsTrue (is_whole_read self.now.sizes step answer.now)
             → result ≡ asked_next (place_of self.now) (known_with self.now held (E.over evidence.now)) aim call lver step self.now.read answer.now }
+        ensures fit { Fits lver → IsFitNext result }
     {
         match answer {
             Answer::Read(bytes) => {
@@ -210,19 +221,21 @@ impl Lease {
         step: LeaseStep,
         answer: &Answer,
     ) -> LeaseNext
-        ensures { (m : Submitted) (ms : List Submitted) → LeaseStands self.now (m ∷ ms) → IsAnswered self.now.sizes step answer.now m
+        ensures exact { (m : Submitted) (ms : List Submitted) → LeaseStands self.now (m ∷ ms) → IsAnswered self.now.sizes step answer.now m
             → result ≡ lease_next (place_of self.now)
                 (known_of (layout_in self.now) self.now.lockspace self.now.self held.shared held.exclusive (E.over evidence.now) (m ∷ ms))
                 aim call lver step answer.now }
+        ensures fit { Fits lver → IsFitNext result }
     {
         self.decided(held, evidence, aim, call, lver, step, answer)
     }
 
     /// What a settling does next: what is owed first.
     pub fn settle(&self, held: Held) -> LeaseNext
-        ensures { (over : ℕ → ℕ → Bool) (ms : List Submitted) → LeaseStands self.now ms
+        ensures exact { (over : ℕ → ℕ → Bool) (ms : List Submitted) → LeaseStands self.now ms
             → result ≡ settle_next (place_of self.now)
                 (known_of (layout_in self.now) self.now.lockspace self.now.self held.shared held.exclusive over ms) }
+        ensures fit { IsFitNext result }
     {
         self.settle_known(held)
     }
@@ -230,9 +243,10 @@ impl Lease {
     /// What a release does first, once the last holding under the lease has ended: an exclusive lease frees the leader, a shared one
     /// clears its mode.
     pub fn release(&self, held: Held, mode: Mode, lver: u64) -> LeaseNext
-        ensures { (over : ℕ → ℕ → Bool) (ms : List Submitted) → LeaseStands self.now ms → IsTrue (is_begun ms)
+        ensures exact { (over : ℕ → ℕ → Bool) (ms : List Submitted) → LeaseStands self.now ms → IsTrue (is_begun ms)
             → result ≡ release_next (place_of self.now)
                 (known_of (layout_in self.now) self.now.lockspace self.now.self held.shared held.exclusive over ms) mode lver }
+        ensures fit { Fits lver → IsFitNext result }
     {
         match mode {
             Mode::Exclusive => self.write_leader(LeaseStep::FreeLeader, false, lver),

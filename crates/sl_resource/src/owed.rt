@@ -3,13 +3,15 @@ ghost use Rattle.sl_leases.specs.LeaseWork.{begin_next, phase1_next, refuses, se
 ghost use Rattle.sl_leases.specs.Leases.{block_of_host, mode_gen_of, owed, owed_free, own_known, own_or_read};
 ghost use Rattle.sl_leases.specs.declared.lease.LeaseNext.TheVariants.{Nothing, WriteBlock};
 ghost use Rattle.sl_resource.specs.Asked.{gen_with, known_with, owed_with};
+ghost use Rattle.sl_resource.specs.Calls.{IsFitNext};
 ghost use Rattle.sl_resource.specs.Stands.{place_of};
 ghost use Rattle.sl_ballot.specs.Limits.{limited_block};
 ghost use Rattle.sl_leases.specs.Ballots.{moded_block};
 ghost use Rattle.sl_trace.specs.declared.effects.LeaseStep.TheVariants.{ClearMode};
 ghost use Rattle.sl_words.specs.Words.{choose, some_is};
 ghost use Rattle.std.specs.Option.{option_map_or};
-ghost use Rattle.std.specs.Prelude.{Bool, false, not, ℕ, ◌==◌, ◌≡◌};
+ghost use Rattle.sl_sector.specs.Records.{Fits};
+ghost use Rattle.std.specs.Prelude.{Bool, IfSome, false, not, ℕ, ◌==◌, ◌≡◌};
 
 use crate::evidence::Held;
 use crate::lease::Lease;
@@ -20,7 +22,8 @@ use sl_trace::{LeaseStep, Limited, Reply};
 
 /// A job is refused; a settling stops until a later wake.
 pub(crate) fn refuses(aim: Aim, reply: Reply) -> LeaseNext
-    ensures { result ≡ refuses aim reply }
+    ensures exact { result ≡ refuses aim reply }
+    ensures fit { IsFitNext result }
 {
     match aim {
         Aim::Acquires(_) => LeaseNext::AnswerJob(reply),
@@ -31,7 +34,8 @@ pub(crate) fn refuses(aim: Aim, reply: Reply) -> LeaseNext
 
 /// The block of phase 1 in instance `n`, unless a number would pass its limit.
 fn phase1_next(aim: Aim, n: u64, block: Result<Block, Limit>) -> LeaseNext
-    ensures { (b : Block) → b.lver ≡ n → block ≡ limited_block b → result ≡ phase1_next aim b }
+    ensures exact { (b : Block) → b.lver ≡ n → block ≡ limited_block b → result ≡ phase1_next aim b }
+    ensures fit { (b : Block) → b.lver ≡ n → block ≡ limited_block b → IsFitNext result }
 {
     if n >= 1 << 63 {
         return refuses(
@@ -86,7 +90,8 @@ impl Lease {
     /// A ballot in `n` begins: its number is above all that the session knows of the instance.
     #[tactic(auto, unfolding(sl_leases::specs::LeaseWork::begin_next, sl_leases::specs::Ballots::phase1_block))]
     pub(crate) fn begin(&self, held: Held, aim: Aim, n: u64) -> LeaseNext
-        ensures { (over : ℕ → ℕ → Bool) → result ≡ begin_next (place_of self.now) (known_with self.now held over) aim n }
+        ensures exact { (over : ℕ → ℕ → Bool) → result ≡ begin_next (place_of self.now) (known_with self.now held over) aim n }
+        ensures fit { IsFitNext result }
     {
         let mode_gen = self.mode_gen(held);
         match self.own_known() {
@@ -109,7 +114,8 @@ impl Lease {
 
     /// The free that is owed: of the instance won last, unless it is held under it.
     pub(crate) fn owed_free(&self, held: Held) -> Option<u64>
-        ensures { result ≡ owed_with self.now held }
+        ensures exact { result ≡ owed_with self.now held }
+        ensures bounds { IfSome result Fits }
     {
         match self.won {
             Some(n) => free_owed(n, held.exclusive),
@@ -135,7 +141,8 @@ impl Lease {
 
     /// The own block without its mode is written.
     pub(crate) fn clear_mode(&self) -> LeaseNext
-        ensures { result ≡ option_map_or (λ own. WriteBlock ClearMode (moded_block own false 0)) self.now.own Nothing }
+        ensures exact { result ≡ option_map_or (λ own. WriteBlock ClearMode (moded_block own false 0)) self.now.own Nothing }
+        ensures fit { IsFitNext result }
     {
         match self.own {
             Some(own) => LeaseNext::WriteBlock {
@@ -149,7 +156,8 @@ impl Lease {
     /// A settling does what is owed first.
     #[tactic(auto, unfolding(sl_leases::specs::LeaseWork::settle_next))]
     pub(crate) fn settle_known(&self, held: Held) -> LeaseNext
-        ensures { (over : ℕ → ℕ → Bool) → result ≡ settle_next (place_of self.now) (known_with self.now held over) }
+        ensures exact { (over : ℕ → ℕ → Bool) → result ≡ settle_next (place_of self.now) (known_with self.now held over) }
+        ensures fit { IsFitNext result }
     {
         match self.owed(held) {
             None => LeaseNext::Nothing,
@@ -162,7 +170,8 @@ impl Lease {
 
 /// The free of an instance, unless it is held under that.
 fn free_owed(n: u64, exclusive: Option<u64>) -> Option<u64>
-    ensures { result ≡ choose (not (some_is (λ e. e == n) exclusive)) n }
+    ensures exact { result ≡ choose (not (some_is (λ e. e == n) exclusive)) n }
+    ensures same { IfSome result (λ m. m ≡ n) }
 {
     match exclusive {
         Some(held) if held == n => None,
