@@ -1,10 +1,10 @@
 -- What an answer changes of what is asked of a lease's calls.
 use Rattle.sl_area.specs.Layouts.{Sizes}
 use Rattle.sl_area.specs.Places.{area_blocks, blocks_in, leader_of}
-use Rattle.sl_leases.specs.Leases.{Phase2_read, Read_before_free, is_at, is_phase_read, name_sought}
-use Rattle.sl_resource.proofs.CallParts.{ballot_aside, ballot_ends, ballot_stays, bare_is, call_made, left_over, left_same, made_is, mode_done, name_found, name_stays, no_name, nothing_won, read_wins, settles_alone, settles_nothing}
+use Rattle.sl_leases.specs.Leases.{Phase2_read, Read_before_free, is_at, is_phase_read, verified_by}
+use Rattle.sl_resource.proofs.CallParts.{ballot_aside, ballot_blank, ballot_ends, ballot_stays, bare_is, call_made, left_over, left_same, made_is, mode_done, mode_off, name_found, name_stays, name_was, nothing_won, read_wins, settles_alone, settles_nothing, won_blank}
 use Rattle.sl_resource.specs.Calls.{IsBlockWrite, IsDeed, IsLeaderWrite, IsReading, is_answer_to, is_of_read, is_of_write, is_read_step, sectors_for}
-use Rattle.sl_resource.specs.Stands.{AllAnswered, IsTold, IsWaiting, LeaseStands, LeaseState, layout_in}
+use Rattle.sl_resource.specs.Stands.{AllAnswered, IsBlank, IsTold, IsWaiting, LeaseStands, LeaseState, layout_in}
 use Rattle.sl_resource.specs.Updates.{after_answer, after_bytes, answered_by, answered_state, at_rest, ballot_read, name_read, own_stop, shown_done, won_done, won_looked, won_read}
 use Rattle.sl_resource.specs.declared.deed.Deed.TheVariants.{Reads, WritesBlock, WritesLeader}
 use Rattle.sl_resource.specs.declared.deed.Deed.{Deed}
@@ -34,13 +34,14 @@ pub read_given : (s : LeaseState) (m : Submitted) (work : Work) (step : LeaseSte
 read_given s m work (ReadArea name) n at reading bytes heeded ms reads all k = record {
       own = k.own;
       read = refl;
-      name = name_found (layout_in s) s.lockspace name (leader_of (layout_in s) bytes) s.name _ k.name;
+      name = name_found (layout_in s) s.lockspace name (leader_of (layout_in s) bytes) s.name ∙ ap (λ before. elim (verified_by (layout_in s) s.lockspace (call_made m work (ReadArea name) (ReadSectors n) (Some (answer_made at reading (Read bytes) heeded)))) as (λ _. Option (List ℕ)) [ Some n ↦ Some n | None ↦ before ]) k.name;
       freed = k.freed;
       ballot = k.ballot ∙ ballot_aside heeded _ _;
       shown = k.shown;
       won = k.won ∙ nothing_won heeded false s.self None _;
       waiting = (refl, all);
       named = λ begun. name_stays (layout_in s) s.lockspace name (leader_of (layout_in s) bytes) s.name (k.named begun);
+      blank = λ none. let b : IsBlank s = k.blank (name_was (layout_in s) s.lockspace name (leader_of (layout_in s) bytes) s.name none) in record { no_own = b.no_own; no_ballot = b.no_ballot; no_mode = b.no_mode; no_win = b.no_win };
     }
 read_given s m work ReadBeforeFree n at reading bytes heeded ms reads all k = record {
       own = k.own;
@@ -52,6 +53,7 @@ read_given s m work ReadBeforeFree n at reading bytes heeded ms reads all k = re
       won = ap (won_looked s.self (leader_of (layout_in s) bytes) (area_blocks (layout_in s) bytes)) (k.won ∙ left_over (λ n. false) (λ n. refl) _) ∙ nothing_won heeded false s.self None _;
       waiting = (refl, all);
       named = k.named;
+      blank = λ none. let b : IsBlank s = k.blank none in record { no_own = b.no_own; no_ballot = b.no_ballot; no_mode = b.no_mode; no_win = ap (won_looked s.self (leader_of (layout_in s) bytes) (area_blocks (layout_in s) bytes)) b.no_win };
     }
 read_given s m work Phase1Write n at reading bytes heeded ms reads all k = absurd cc
 read_given s m work Phase1Read n at reading bytes heeded ms reads all k = record {
@@ -64,6 +66,7 @@ read_given s m work Phase1Read n at reading bytes heeded ms reads all k = record
       won = k.won ∙ nothing_won heeded false s.self None _;
       waiting = (refl, all);
       named = k.named;
+      blank = λ none. let b : IsBlank s = k.blank none in record { no_own = b.no_own; no_ballot = ballot_blank heeded false _ _ b.no_ballot; no_mode = b.no_mode; no_win = b.no_win };
     }
 read_given s m work Phase2Write n at reading bytes heeded ms reads all k = absurd cc
 read_given s m work Phase2Read n at reading bytes heeded ms reads all k = record {
@@ -76,6 +79,7 @@ read_given s m work Phase2Read n at reading bytes heeded ms reads all k = record
       won = ap₂ (λ own before. won_read heeded s.self own (blocks_in (layout_in s) bytes) before) k.own k.won ∙ read_wins heeded s.self _ _ _;
       waiting = (refl, all);
       named = k.named;
+      blank = λ none. let b : IsBlank s = k.blank none in record { no_own = b.no_own; no_ballot = ballot_blank heeded true _ _ b.no_ballot; no_mode = b.no_mode; no_win = won_blank heeded s.self _ _ _ b.no_own b.no_win };
     }
 read_given s m work TakeLeader n at reading bytes heeded ms reads all k = absurd cc
 read_given s m work SetMode n at reading bytes heeded ms reads all k = absurd cc
@@ -97,6 +101,7 @@ read_failed s m work step n at reading heeded ms all k = record {
       won = k.won ∙ nothing_won heeded (is_at Phase2_read (call_made m work step (ReadSectors n) None)) s.self _ _;
       waiting = (refl, all);
       named = k.named;
+      blank = λ none. let b : IsBlank s = k.blank none in record { no_own = b.no_own; no_ballot = b.no_ballot; no_mode = b.no_mode; no_win = b.no_win };
     }
 
 -- A block that is written, or failed.
@@ -115,6 +120,7 @@ block_answered s m work step b at reading Written heeded ms is all k = record {
       won = k.won ∙ nothing_won heeded (is_at Phase2_read (call_made m work step (WriteRecord (BlockIs b)) None)) s.self _ _;
       waiting = (refl, all);
       named = k.named;
+      blank = λ none. let x : IsBlank s = k.blank none in record { no_own = x.no_own; no_ballot = x.no_ballot; no_mode = ap (shown_done b.shared true) x.no_mode ∙ mode_off b.shared true; no_win = x.no_win };
     }
 block_answered s m work step b at reading Failed heeded ms is all k = record {
       own = k.own;
@@ -126,6 +132,7 @@ block_answered s m work step b at reading Failed heeded ms is all k = record {
       won = k.won ∙ nothing_won heeded (is_at Phase2_read (call_made m work step (WriteRecord (BlockIs b)) None)) s.self _ _;
       waiting = (refl, all);
       named = k.named;
+      blank = λ none. let x : IsBlank s = k.blank none in record { no_own = x.no_own; no_ballot = x.no_ballot; no_mode = ap (shown_done b.shared false) x.no_mode ∙ mode_off b.shared false; no_win = x.no_win };
     }
 
 -- A leader that is written, or failed.
@@ -147,6 +154,7 @@ leader_answered s m work step l at reading Written heeded ms is all k =
           ∙ nothing_won heeded (is_at Phase2_read call) s.self _ _;
       waiting = (refl, all);
       named = k.named;
+      blank = λ none. let x : IsBlank s = k.blank none in record { no_own = x.no_own; no_ballot = x.no_ballot; no_mode = x.no_mode; no_win = ap (won_done l.held l.lver true) x.no_win };
     }
 leader_answered s m work step l at reading Failed heeded ms is all k =
     let call : Submitted = call_made m work step (WriteRecord (LeaderIs l)) None in record {
@@ -161,6 +169,7 @@ leader_answered s m work step l at reading Failed heeded ms is all k =
           ∙ nothing_won heeded (is_at Phase2_read call) s.self _ _;
       waiting = (refl, all);
       named = k.named;
+      blank = λ none. let x : IsBlank s = k.blank none in record { no_own = x.no_own; no_ballot = x.no_ballot; no_mode = x.no_mode; no_win = ap (won_done l.held l.lver false) x.no_win };
     }
 
 -- ---- all of them

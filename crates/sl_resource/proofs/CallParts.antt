@@ -40,17 +40,16 @@ no_name None before = refl
 no_name (Some name) before = refl
 
 name_chosen : (b : Bool) (name : List ℕ) (before : Option (List ℕ))
-    → unwrap_or (elim b as (λ _. Option (List ℕ)) [ true ↦ Some name | false ↦ before ]) [] ≡ elim (choose b name) as (λ _. List ℕ) [ Some n ↦ n | None ↦ unwrap_or before [] ]
+    → elim b as (λ _. Option (List ℕ)) [ true ↦ Some name | false ↦ before ] ≡ elim (choose b name) as (λ _. Option (List ℕ)) [ Some n ↦ Some n | None ↦ before ]
 name_chosen true name before = refl
 name_chosen false name before = refl
 
 -- The name that an acquire's read verifies.
-pub name_found : (g : Layout) (lockspace name : List ℕ) (l : Option Leader) (before : Option (List ℕ)) (was : List ℕ) → unwrap_or before [] ≡ was
-    → unwrap_or (name_read g lockspace name l before) []
-    ≡ elim (elim l as (λ _. Option (List ℕ)) [ None ↦ None | Some l ↦ choose (is_leader_of g lockspace name l) name ]) as (λ _. List ℕ) [ Some n ↦ n | None ↦ was ]
-name_found g lockspace name None before was e = e
-name_found g lockspace name (Some l) before was e =
-    name_chosen (is_leader_of g lockspace name l) name before ∙ ap (λ w. elim (choose (is_leader_of g lockspace name l) name) as (λ _. List ℕ) [ Some n ↦ n | None ↦ w ]) e
+pub name_found : (g : Layout) (lockspace name : List ℕ) (l : Option Leader) (before : Option (List ℕ))
+    → name_read g lockspace name l before
+    ≡ elim (elim l as (λ _. Option (List ℕ)) [ None ↦ None | Some l ↦ choose (is_leader_of g lockspace name l) name ]) as (λ _. Option (List ℕ)) [ Some n ↦ Some n | None ↦ before ]
+name_found g lockspace name None before = refl
+name_found g lockspace name (Some l) before = name_chosen (is_leader_of g lockspace name l) name before
 
 chosen_there : (b : Bool) (name : List ℕ) (before : Option (List ℕ)) → IsTrue (is_some before) → IsTrue (is_some (elim b as (λ _. Option (List ℕ)) [ true ↦ Some name | false ↦ before ]))
 chosen_there true name before h = refl
@@ -61,6 +60,15 @@ pub name_stays : (g : Layout) (lockspace name : List ℕ) (l : Option Leader) (b
 name_stays g lockspace name None before h = h
 name_stays g lockspace name (Some l) before h = chosen_there (is_leader_of g lockspace name l) name before h
 
+-- A lease that is still without a name was before.
+chosen_none : (b : Bool) (name : List ℕ) (before : Option (List ℕ)) → elim b as (λ _. Option (List ℕ)) [ true ↦ Some name | false ↦ before ] ≡ None → before ≡ None
+chosen_none true name before e = absurd cc
+chosen_none false name before e = e
+
+pub name_was : (g : Layout) (lockspace name : List ℕ) (l : Option Leader) (before : Option (List ℕ)) → name_read g lockspace name l before ≡ None → before ≡ None
+name_was g lockspace name None before e = e
+name_was g lockspace name (Some l) before e = chosen_none (is_leader_of g lockspace name l) name before e
+
 -- ---- ballots
 
 concluded_by : (last : Bool) (q : Option Stop) (before : Option ℕ)
@@ -68,6 +76,14 @@ concluded_by : (last : Bool) (q : Option Stop) (before : Option ℕ)
     ≡ elim (elim q as (λ _. Bool) [ None ↦ last | Some why ↦ is_ahead why ]) as (λ _. Option ℕ) [ true ↦ None | false ↦ before ]
 concluded_by last None before = refl
 concluded_by last (Some why) before = refl
+
+concluded_blank : (b : Bool) (before : Option ℕ) → before ≡ None → elim b as (λ _. Option ℕ) [ true ↦ None | false ↦ before ] ≡ None
+concluded_blank true before e = refl
+concluded_blank false before e = e
+
+won_same : (heeded : Bool) (self : Owner) (read : List (Option Block)) (before : Option ℕ) → won_read heeded self None read before ≡ before
+won_same false self read before = refl
+won_same true self read before = refl
 
 -- The open ballot after a read of a phase.
 pub ballot_ends : (heeded last : Bool) (own : Option Block) (read : List (Option Block)) (before : Option ℕ)
@@ -156,6 +172,15 @@ nothing_won true false self own before = refl
 nothing_won true true self None before = refl
 nothing_won true true self (Some b) before = refl
 
+-- ---- what a blank lease keeps
+
+pub ballot_blank : (heeded last : Bool) (stop : Option (Option Stop)) (before : Option ℕ) → before ≡ None → ballot_read heeded last stop before ≡ None
+ballot_blank false last stop before e = e
+ballot_blank true last stop before e = concluded_blank (is_concluded last stop) before e
+
+pub won_blank : (heeded : Bool) (self : Owner) (own : Option Block) (read : List (Option Block)) (before : Option ℕ) → own ≡ None → before ≡ None → won_read heeded self own read before ≡ None
+won_blank heeded self own read before none e = ap (λ o. won_read heeded self o read before) none ∙ won_same heeded self read before ∙ e
+
 -- ---- modes
 
 -- The mode after the answer of a block.
@@ -166,3 +191,10 @@ mode_done true true before = refl
 mode_done true false before = refl
 mode_done false true before = refl
 mode_done false false before = refl
+
+-- A mode that doesn't stand still doesn't.
+pub mode_off : (shared ok : Bool) → shown_done shared ok false ≡ false
+mode_off true true = refl
+mode_off true false = refl
+mode_off false true = refl
+mode_off false false = refl

@@ -139,3 +139,12 @@ IsFitNext (WriteBlock step b) = IsTrue (is_block_step step) × Fits b.lver
 IsFitNext (WriteLeader step l) = IsTrue (is_leader_step step) × Fits l.lver
 IsFitNext (AnswerJob r) = Unit {0}
 IsFitNext (GrantJob mode lver) = Unit {0}
+
+-- Whether it is a call.
+abbrev pub makes_call : LeaseNext → Bool
+makes_call Nothing = false
+makes_call (ReadFor step) = true
+makes_call (WriteBlock step b) = true
+makes_call (WriteLeader step l) = true
+makes_call (AnswerJob r) = false
+makes_call (GrantJob mode lver) = false

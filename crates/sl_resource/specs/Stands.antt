@@ -1,7 +1,7 @@
 -- What a session keeps of its work on a resource's lease, and which lists of calls that stands for.
 use Rattle.sl_area.specs.Layouts.{Layout, Sizes, layout_of}
 use Rattle.sl_leases.specs.LeaseWork.{LeasePlace}
-use Rattle.sl_leases.specs.Leases.{Area_read, block_submitted, free_left, freed, is_at, last_blocks, may_show_shared, open_ballot, verified_name}
+use Rattle.sl_leases.specs.Leases.{Area_read, block_submitted, free_left, freed, is_at, last_blocks, may_show_shared, open_ballot, verified_by}
 use Rattle.sl_resource.specs.Calls.{IsDeed, is_whole_read}
 use Rattle.sl_resource.specs.declared.deed.Deed.{Deed}
 use Rattle.sl_sector.specs.declared.sector.Block.{Block}
@@ -75,6 +75,18 @@ abbrev pub is_begun : List Submitted → Bool
 is_begun [] = false
 is_begun (m ∷ ms) = not (is_at Area_read m) || is_begun ms
 
+-- The resource's name that the calls have verified, if they have.
+abbrev pub verified_of : Layout → List ℕ → List Submitted → Option (List ℕ)
+verified_of g lockspace [] = None
+verified_of g lockspace (m ∷ ms) = elim (verified_by g lockspace m) [ Some name ↦ Some name | None ↦ verified_of g lockspace ms ]
+
+-- A lease that has written nothing.
+pub record IsBlank (s : LeaseState) : Type 0 where
+  pub no_own : s.own ≡ None
+  pub no_ballot : s.ballot ≡ None
+  pub no_mode : s.shown ≡ false
+  pub no_win : s.won ≡ None
+
 -- What an acquire begins with.
 abbrev pub is_first_step : LeaseStep → Bool
 is_first_step (ReadArea name) = true
@@ -97,13 +109,15 @@ pub record MayCall (s : LeaseState) (at : LeaseStep) : Type 0 where
 pub record LeaseStands (s : LeaseState) (ms : List Submitted) : Type 0 where
   pub own : s.own ≡ block_submitted ms
   pub read : s.read ≡ last_blocks (layout_in s) ms
-  pub name : name_in s ≡ verified_name (layout_in s) s.lockspace ms
+  pub name : s.name ≡ verified_of (layout_in s) s.lockspace ms
   pub freed : s.freed ≡ freed ms
   pub ballot : s.ballot ≡ open_ballot (layout_in s) ms
   pub shown : s.shown ≡ may_show_shared ms
   pub won : s.won ≡ free_left (layout_in s) s.self ms
   pub waiting : IsWaiting s.sizes s.waiting ms
+  -- nothing but that read is done, and nothing is owed, before the resource's name is verified
   pub named : IsTrue (is_begun ms) → IsTrue (is_some s.name)
+  pub blank : s.name ≡ None → IsBlank s
 
 -- An answer, heeded or not, to a call that has none, by as many bytes as it asks.
 pub record IsTold (s : LeaseState) (answer : Answer) (heeded : Bool) (m : Submitted) (a : Answered) : Type 0 where

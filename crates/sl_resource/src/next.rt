@@ -4,7 +4,7 @@ ghost use Rattle.sl_leases.specs.LeaseWork.{after_clearing, after_freeing, after
 ghost use Rattle.sl_leases.specs.Leases.{known_of};
 ghost use Rattle.sl_leases.specs.declared.lease.LeaseNext.TheVariants.{Nothing, WriteLeader};
 ghost use Rattle.sl_resource.specs.Asked.{asked_next, free_with, known_with, mode_with, phase1_ended, phase2_ended, read_asked};
-ghost use Rattle.sl_resource.specs.Calls.{IsFitNext, is_whole_read, sectors_for};
+ghost use Rattle.sl_resource.specs.Calls.{IsFitNext, is_whole_read, makes_call, sectors_for};
 ghost use Rattle.sl_resource.specs.Stands.{IsAnswered, LeaseStands, is_begun, is_first_step, layout_in, name_in, place_of};
 ghost use Rattle.sl_area.specs.Places.{leader_of};
 ghost use Rattle.sl_trace.specs.Traces.{Submitted};
@@ -225,6 +225,8 @@ impl Lease {
             → result ≡ lease_next (place_of self.now)
                 (known_of (layout_in self.now) self.now.lockspace self.now.self held.shared held.exclusive (E.over evidence.now) (m ∷ ms))
                 aim call lver step answer.now }
+        ensures named { (m : Submitted) (ms : List Submitted) → LeaseStands self.now (m ∷ ms) → IsAnswered self.now.sizes step answer.now m
+            → IsTrue (makes_call result) → IsTrue (is_some self.now.name) }
         ensures fit { Fits lver → IsFitNext result }
     {
         self.decided(held, evidence, aim, call, lver, step, answer)
@@ -235,6 +237,7 @@ impl Lease {
         ensures exact { (over : ℕ → ℕ → Bool) (ms : List Submitted) → LeaseStands self.now ms
             → result ≡ settle_next (place_of self.now)
                 (known_of (layout_in self.now) self.now.lockspace self.now.self held.shared held.exclusive over ms) }
+        ensures named { (ms : List Submitted) → LeaseStands self.now ms → IsTrue (makes_call result) → IsTrue (is_some self.now.name) }
         ensures fit { IsFitNext result }
     {
         self.settle_known(held)
@@ -246,6 +249,15 @@ impl Lease {
         ensures exact { (over : ℕ → ℕ → Bool) (ms : List Submitted) → LeaseStands self.now ms → IsTrue (is_begun ms)
             → result ≡ release_next (place_of self.now)
                 (known_of (layout_in self.now) self.now.lockspace self.now.self held.shared held.exclusive over ms) mode lver }
+        ensures fit { Fits lver → IsFitNext result }
+    {
+        self.release_known(held, mode, lver)
+    }
+
+    /// The same, by what is kept of the lease.
+    fn release_known(&self, held: Held, mode: Mode, lver: u64) -> LeaseNext
+        ensures exact { IsTrue (is_some self.now.name) → (over : ℕ → ℕ → Bool)
+            → result ≡ release_next (place_of self.now) (known_with self.now held over) mode lver }
         ensures fit { Fits lver → IsFitNext result }
     {
         match mode {

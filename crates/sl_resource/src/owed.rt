@@ -4,14 +4,14 @@ ghost use Rattle.sl_leases.specs.Leases.{block_of_host, mode_gen_of, owed, owed_
 ghost use Rattle.sl_leases.specs.declared.lease.LeaseNext.TheVariants.{Nothing, WriteBlock};
 ghost use Rattle.sl_resource.specs.Asked.{gen_with, known_with, owed_with};
 ghost use Rattle.sl_resource.specs.Calls.{IsFitNext};
-ghost use Rattle.sl_resource.specs.Stands.{place_of};
+ghost use Rattle.sl_resource.specs.Stands.{IsBlank, place_of};
 ghost use Rattle.sl_ballot.specs.Limits.{limited_block};
 ghost use Rattle.sl_leases.specs.Ballots.{moded_block};
 ghost use Rattle.sl_trace.specs.declared.effects.LeaseStep.TheVariants.{ClearMode};
 ghost use Rattle.sl_words.specs.Words.{choose, some_is};
 ghost use Rattle.std.specs.Option.{option_map_or};
 ghost use Rattle.sl_sector.specs.Records.{Fits};
-ghost use Rattle.std.specs.Prelude.{Bool, IfSome, false, not, ℕ, ◌==◌, ◌≡◌};
+ghost use Rattle.std.specs.Prelude.{Bool, IfSome, None, false, not, ℕ, ◌==◌, ◌≡◌};
 
 use crate::evidence::Held;
 use crate::lease::Lease;
@@ -125,7 +125,8 @@ impl Lease {
 
     /// What settling has to do first.
     fn owed(&self, held: Held) -> Option<Owed>
-        ensures { (over : ℕ → ℕ → Bool) → result ≡ owed (known_with self.now held over) }
+        ensures exact { (over : ℕ → ℕ → Bool) → result ≡ owed (known_with self.now held over) }
+        ensures blank { IsBlank self.now → result ≡ None }
     {
         if let Some(instance) = self.ballot {
             return Some(Owed::BallotOwed { instance });
@@ -157,6 +158,7 @@ impl Lease {
     #[tactic(auto, unfolding(sl_leases::specs::LeaseWork::settle_next))]
     pub(crate) fn settle_known(&self, held: Held) -> LeaseNext
         ensures exact { (over : ℕ → ℕ → Bool) → result ≡ settle_next (place_of self.now) (known_with self.now held over) }
+        ensures blank { IsBlank self.now → result ≡ Nothing }
         ensures fit { IsFitNext result }
     {
         match self.owed(held) {
