@@ -32,55 +32,55 @@ pub read_given : (s : LeaseState) (m : Submitted) (work : Work) (step : LeaseSte
     → LeaseStands s (call_made m work step (ReadSectors n) None ∷ ms)
     → LeaseStands (at_rest (after_bytes step bytes heeded s)) (call_made m work step (ReadSectors n) (Some (answer_made at reading (Read bytes) heeded)) ∷ ms)
 read_given s m work (ReadArea name) n at reading bytes heeded ms reads all k = record {
-      own = k.own;
-      read = refl;
-      name = name_found (layout_in s) s.lockspace name (leader_of (layout_in s) bytes) s.name ∙ ap (λ before. elim (verified_by (layout_in s) s.lockspace (call_made m work (ReadArea name) (ReadSectors n) (Some (answer_made at reading (Read bytes) heeded)))) as (λ _. Option (List ℕ)) [ Some n ↦ Some n | None ↦ before ]) k.name;
-      freed = k.freed;
-      ballot = k.ballot ∙ ballot_aside heeded _ _;
-      shown = k.shown;
-      won = k.won ∙ nothing_won heeded false s.self None _;
-      waiting = (refl, all);
-      named = λ begun. name_stays (layout_in s) s.lockspace name (leader_of (layout_in s) bytes) s.name (k.named begun);
-      blank = λ none. let b : IsBlank s = k.blank (name_was (layout_in s) s.lockspace name (leader_of (layout_in s) bytes) s.name none) in record { no_own = b.no_own; no_ballot = b.no_ballot; no_mode = b.no_mode; no_win = b.no_win };
-    }
+  own = k.own;
+  read = refl;
+  name = name_found (layout_in s) s.lockspace name (leader_of (layout_in s) bytes) s.name ∙ ap (λ before. elim (verified_by (layout_in s) s.lockspace (call_made m work (ReadArea name) (ReadSectors n) (Some (answer_made at reading (Read bytes) heeded)))) as (λ _. Option (List ℕ)) [ Some n ↦ Some n | None ↦ before ]) k.name;
+  freed = k.freed;
+  ballot = k.ballot ∙ ballot_aside heeded _ _;
+  shown = k.shown;
+  won = k.won ∙ nothing_won heeded false s.self None _;
+  waiting = (refl, all);
+  named = λ begun. name_stays (layout_in s) s.lockspace name (leader_of (layout_in s) bytes) s.name (k.named begun);
+  blank = λ none. let b : IsBlank s = k.blank (name_was (layout_in s) s.lockspace name (leader_of (layout_in s) bytes) s.name none) in record { no_own = b.no_own; no_ballot = b.no_ballot; no_mode = b.no_mode; no_win = b.no_win };
+}
 read_given s m work ReadBeforeFree n at reading bytes heeded ms reads all k = record {
-      own = k.own;
-      read = refl;
-      name = k.name;
-      freed = k.freed;
-      ballot = k.ballot ∙ ballot_aside heeded _ _;
-      shown = k.shown;
-      won = ap (won_looked s.self (leader_of (layout_in s) bytes) (area_blocks (layout_in s) bytes)) (k.won ∙ left_over (λ n. false) (λ n. refl) _) ∙ nothing_won heeded false s.self None _;
-      waiting = (refl, all);
-      named = k.named;
-      blank = λ none. let b : IsBlank s = k.blank none in record { no_own = b.no_own; no_ballot = b.no_ballot; no_mode = b.no_mode; no_win = ap (won_looked s.self (leader_of (layout_in s) bytes) (area_blocks (layout_in s) bytes)) b.no_win };
-    }
+  own = k.own;
+  read = refl;
+  name = k.name;
+  freed = k.freed;
+  ballot = k.ballot ∙ ballot_aside heeded _ _;
+  shown = k.shown;
+  won = ap (won_looked s.self (leader_of (layout_in s) bytes) (area_blocks (layout_in s) bytes)) (k.won ∙ left_over (λ n. false) (λ n. refl) _) ∙ nothing_won heeded false s.self None _;
+  waiting = (refl, all);
+  named = k.named;
+  blank = λ none. let b : IsBlank s = k.blank none in record { no_own = b.no_own; no_ballot = b.no_ballot; no_mode = b.no_mode; no_win = ap (won_looked s.self (leader_of (layout_in s) bytes) (area_blocks (layout_in s) bytes)) b.no_win };
+}
 read_given s m work Phase1Write n at reading bytes heeded ms reads all k = absurd cc
 read_given s m work Phase1Read n at reading bytes heeded ms reads all k = record {
-      own = k.own;
-      read = refl;
-      name = k.name;
-      freed = k.freed;
-      ballot = ap₂ (λ own before. ballot_read heeded false (own_stop own (blocks_in (layout_in s) bytes)) before) k.own k.ballot ∙ ballot_ends heeded false _ _ _;
-      shown = k.shown;
-      won = k.won ∙ nothing_won heeded false s.self None _;
-      waiting = (refl, all);
-      named = k.named;
-      blank = λ none. let b : IsBlank s = k.blank none in record { no_own = b.no_own; no_ballot = ballot_blank heeded false _ _ b.no_ballot; no_mode = b.no_mode; no_win = b.no_win };
-    }
+  own = k.own;
+  read = refl;
+  name = k.name;
+  freed = k.freed;
+  ballot = ap₂ (λ own before. ballot_read heeded false (own_stop own (blocks_in (layout_in s) bytes)) before) k.own k.ballot ∙ ballot_ends heeded false _ _ _;
+  shown = k.shown;
+  won = k.won ∙ nothing_won heeded false s.self None _;
+  waiting = (refl, all);
+  named = k.named;
+  blank = λ none. let b : IsBlank s = k.blank none in record { no_own = b.no_own; no_ballot = ballot_blank heeded false _ _ b.no_ballot; no_mode = b.no_mode; no_win = b.no_win };
+}
 read_given s m work Phase2Write n at reading bytes heeded ms reads all k = absurd cc
 read_given s m work Phase2Read n at reading bytes heeded ms reads all k = record {
-      own = k.own;
-      read = refl;
-      name = k.name;
-      freed = k.freed;
-      ballot = ap₂ (λ own before. ballot_read heeded true (own_stop own (blocks_in (layout_in s) bytes)) before) k.own k.ballot ∙ ballot_ends heeded true _ _ _;
-      shown = k.shown;
-      won = ap₂ (λ own before. won_read heeded s.self own (blocks_in (layout_in s) bytes) before) k.own k.won ∙ read_wins heeded s.self _ _ _;
-      waiting = (refl, all);
-      named = k.named;
-      blank = λ none. let b : IsBlank s = k.blank none in record { no_own = b.no_own; no_ballot = ballot_blank heeded true _ _ b.no_ballot; no_mode = b.no_mode; no_win = won_blank heeded s.self _ _ _ b.no_own b.no_win };
-    }
+  own = k.own;
+  read = refl;
+  name = k.name;
+  freed = k.freed;
+  ballot = ap₂ (λ own before. ballot_read heeded true (own_stop own (blocks_in (layout_in s) bytes)) before) k.own k.ballot ∙ ballot_ends heeded true _ _ _;
+  shown = k.shown;
+  won = ap₂ (λ own before. won_read heeded s.self own (blocks_in (layout_in s) bytes) before) k.own k.won ∙ read_wins heeded s.self _ _ _;
+  waiting = (refl, all);
+  named = k.named;
+  blank = λ none. let b : IsBlank s = k.blank none in record { no_own = b.no_own; no_ballot = ballot_blank heeded true _ _ b.no_ballot; no_mode = b.no_mode; no_win = won_blank heeded s.self _ _ _ b.no_own b.no_win };
+}
 read_given s m work TakeLeader n at reading bytes heeded ms reads all k = absurd cc
 read_given s m work SetMode n at reading bytes heeded ms reads all k = absurd cc
 read_given s m work FreeLeader n at reading bytes heeded ms reads all k = absurd cc
@@ -92,17 +92,17 @@ pub read_failed : (s : LeaseState) (m : Submitted) (work : Work) (step : LeaseSt
     → LeaseStands s (call_made m work step (ReadSectors n) None ∷ ms)
     → LeaseStands (at_rest s) (call_made m work step (ReadSectors n) (Some (answer_made at reading Failed heeded)) ∷ ms)
 read_failed s m work step n at reading heeded ms all k = record {
-      own = k.own;
-      read = k.read;
-      name = k.name;
-      freed = k.freed;
-      ballot = k.ballot ∙ ballot_stays (heeded && is_phase_read (call_made m work step (ReadSectors n) None)) _ _ _;
-      shown = k.shown;
-      won = k.won ∙ nothing_won heeded (is_at Phase2_read (call_made m work step (ReadSectors n) None)) s.self _ _;
-      waiting = (refl, all);
-      named = k.named;
-      blank = λ none. let b : IsBlank s = k.blank none in record { no_own = b.no_own; no_ballot = b.no_ballot; no_mode = b.no_mode; no_win = b.no_win };
-    }
+  own = k.own;
+  read = k.read;
+  name = k.name;
+  freed = k.freed;
+  ballot = k.ballot ∙ ballot_stays (heeded && is_phase_read (call_made m work step (ReadSectors n) None)) _ _ _;
+  shown = k.shown;
+  won = k.won ∙ nothing_won heeded (is_at Phase2_read (call_made m work step (ReadSectors n) None)) s.self _ _;
+  waiting = (refl, all);
+  named = k.named;
+  blank = λ none. let b : IsBlank s = k.blank none in record { no_own = b.no_own; no_ballot = b.no_ballot; no_mode = b.no_mode; no_win = b.no_win };
+}
 
 -- A block that is written, or failed.
 pub block_answered : (s : LeaseState) (m : Submitted) (work : Work) (step : LeaseStep) (b : Block) (at reading : ℕ) (a : Answer) (heeded : Bool) (ms : List Submitted)
@@ -111,29 +111,29 @@ pub block_answered : (s : LeaseState) (m : Submitted) (work : Work) (step : Leas
     → LeaseStands (at_rest (record s { shown = shown_done b.shared (is_ok_answer a) s.shown })) (call_made m work step (WriteRecord (BlockIs b)) (Some (answer_made at reading a heeded)) ∷ ms)
 block_answered s m work step b at reading (Read bytes) heeded ms is all k = absurd cc
 block_answered s m work step b at reading Written heeded ms is all k = record {
-      own = k.own;
-      read = k.read;
-      name = k.name;
-      freed = k.freed;
-      ballot = k.ballot;
-      shown = ap (shown_done b.shared true) k.shown ∙ mode_done b.shared true _;
-      won = k.won ∙ nothing_won heeded (is_at Phase2_read (call_made m work step (WriteRecord (BlockIs b)) None)) s.self _ _;
-      waiting = (refl, all);
-      named = k.named;
-      blank = λ none. let x : IsBlank s = k.blank none in record { no_own = x.no_own; no_ballot = x.no_ballot; no_mode = ap (shown_done b.shared true) x.no_mode ∙ mode_off b.shared true; no_win = x.no_win };
-    }
+  own = k.own;
+  read = k.read;
+  name = k.name;
+  freed = k.freed;
+  ballot = k.ballot;
+  shown = ap (shown_done b.shared true) k.shown ∙ mode_done b.shared true _;
+  won = k.won ∙ nothing_won heeded (is_at Phase2_read (call_made m work step (WriteRecord (BlockIs b)) None)) s.self _ _;
+  waiting = (refl, all);
+  named = k.named;
+  blank = λ none. let x : IsBlank s = k.blank none in record { no_own = x.no_own; no_ballot = x.no_ballot; no_mode = ap (shown_done b.shared true) x.no_mode ∙ mode_off b.shared true; no_win = x.no_win };
+}
 block_answered s m work step b at reading Failed heeded ms is all k = record {
-      own = k.own;
-      read = k.read;
-      name = k.name;
-      freed = k.freed;
-      ballot = k.ballot;
-      shown = ap (shown_done b.shared false) k.shown ∙ mode_done b.shared false _;
-      won = k.won ∙ nothing_won heeded (is_at Phase2_read (call_made m work step (WriteRecord (BlockIs b)) None)) s.self _ _;
-      waiting = (refl, all);
-      named = k.named;
-      blank = λ none. let x : IsBlank s = k.blank none in record { no_own = x.no_own; no_ballot = x.no_ballot; no_mode = ap (shown_done b.shared false) x.no_mode ∙ mode_off b.shared false; no_win = x.no_win };
-    }
+  own = k.own;
+  read = k.read;
+  name = k.name;
+  freed = k.freed;
+  ballot = k.ballot;
+  shown = ap (shown_done b.shared false) k.shown ∙ mode_done b.shared false _;
+  won = k.won ∙ nothing_won heeded (is_at Phase2_read (call_made m work step (WriteRecord (BlockIs b)) None)) s.self _ _;
+  waiting = (refl, all);
+  named = k.named;
+  blank = λ none. let x : IsBlank s = k.blank none in record { no_own = x.no_own; no_ballot = x.no_ballot; no_mode = ap (shown_done b.shared false) x.no_mode ∙ mode_off b.shared false; no_win = x.no_win };
+}
 
 -- A leader that is written, or failed.
 pub leader_answered : (s : LeaseState) (m : Submitted) (work : Work) (step : LeaseStep) (l : Leader) (at reading : ℕ) (a : Answer) (heeded : Bool) (ms : List Submitted)

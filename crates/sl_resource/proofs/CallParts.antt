@@ -89,9 +89,9 @@ won_same true self read before = refl
 pub ballot_ends : (heeded last : Bool) (own : Option Block) (read : List (Option Block)) (before : Option ℕ)
     → ballot_read heeded last (own_stop own read) before
     ≡ elim (elim (heeded && true) as (λ _. Bool) [
-        | false ↦ false
-        | true ↦ elim (option_and_then (λ b. Some (stop_of b read)) own) as (λ _. Bool) [ None ↦ false | Some stop ↦ elim stop as (λ _. Bool) [ None ↦ last | Some why ↦ is_ahead why ] ]
-      ]) as (λ _. Option ℕ) [ true ↦ None | false ↦ before ]
+      | false ↦ false
+      | true ↦ elim (option_and_then (λ b. Some (stop_of b read)) own) as (λ _. Bool) [ None ↦ false | Some stop ↦ elim stop as (λ _. Bool) [ None ↦ last | Some why ↦ is_ahead why ] ]
+    ]) as (λ _. Option ℕ) [ true ↦ None | false ↦ before ]
 ballot_ends false last own read before = refl
 ballot_ends true last None read before = refl
 ballot_ends true last (Some b) read before = concluded_by last (stop_of b read) before
@@ -100,9 +100,9 @@ ballot_ends true last (Some b) read before = concluded_by last (stop_of b read) 
 pub ballot_stays : (heeded : Bool) (f : Option Stop → Bool) (own : Option Block) (before : Option ℕ)
     → before
     ≡ elim (elim heeded as (λ _. Bool) [
-        | false ↦ false
-        | true ↦ elim (option_and_then {U = Option Stop} (λ b. None) own) as (λ _. Bool) [ None ↦ false | Some stop ↦ f stop ]
-      ]) as (λ _. Option ℕ) [ true ↦ None | false ↦ before ]
+      | false ↦ false
+      | true ↦ elim (option_and_then {U = Option Stop} (λ b. None) own) as (λ _. Bool) [ None ↦ false | Some stop ↦ f stop ]
+    ]) as (λ _. Option ℕ) [ true ↦ None | false ↦ before ]
 ballot_stays false f own before = refl
 ballot_stays true f None before = refl
 ballot_stays true f (Some b) before = refl
@@ -153,9 +153,9 @@ end_wins self b (Some why) before = refl
 pub read_wins : (heeded : Bool) (self : Owner) (own : Option Block) (read : List (Option Block)) (before : Option ℕ)
     → won_read heeded self own read before
     ≡ elim (elim heeded as (λ _. Option ℕ) [
-        | false ↦ None
-        | true ↦ option_and_then (λ p. choose (same_owner p.1 self) p.0) (option_and_then (λ b. value_in_end b (stop_of b read)) own)
-      ]) as (λ _. Option ℕ) [ Some n ↦ Some n | None ↦ before ]
+      | false ↦ None
+      | true ↦ option_and_then (λ p. choose (same_owner p.1 self) p.0) (option_and_then (λ b. value_in_end b (stop_of b read)) own)
+    ]) as (λ _. Option ℕ) [ Some n ↦ Some n | None ↦ before ]
 read_wins false self own read before = refl
 read_wins true self None read before = refl
 read_wins true self (Some b) read before = end_wins self b (stop_of b read) before
@@ -164,9 +164,9 @@ read_wins true self (Some b) read before = end_wins self b (stop_of b read) befo
 pub nothing_won : (heeded last : Bool) (self : Owner) (own : Option Block) (before : Option ℕ)
     → before
     ≡ elim (elim heeded as (λ _. Option ℕ) [
-        | false ↦ None
-        | true ↦ option_and_then (λ p. choose (same_owner p.1 self) p.0) (elim last as (λ _. Option (ℕ × Owner)) [ false ↦ None | true ↦ option_and_then {U = ℕ × Owner} (λ b. None) own ])
-      ]) as (λ _. Option ℕ) [ Some n ↦ Some n | None ↦ before ]
+      | false ↦ None
+      | true ↦ option_and_then (λ p. choose (same_owner p.1 self) p.0) (elim last as (λ _. Option (ℕ × Owner)) [ false ↦ None | true ↦ option_and_then {U = ℕ × Owner} (λ b. None) own ])
+    ]) as (λ _. Option ℕ) [ Some n ↦ Some n | None ↦ before ]
 nothing_won false last self own before = refl
 nothing_won true false self own before = refl
 nothing_won true true self None before = refl

@@ -41,18 +41,18 @@ verified_is g lockspace (m ∷ ms) = named_or (verified_by g lockspace m) (verif
 pub known_is : (s : LeaseState) (h : Held) (over : ℕ → ℕ → Bool) (ms : List Submitted) → LeaseStands s ms
     → known_with s h over ≡ known_of (layout_in s) s.lockspace s.self h.shared h.exclusive over ms
 known_is s h over ms k = λ i. record {
-      self = s.self;
-      own = k.own i;
-      read = k.read i;
-      name = (ap (λ o. unwrap_or o []) k.name ∙ verified_is (layout_in s) s.lockspace ms) i;
-      freed = k.freed i;
-      ballot = k.ballot i;
-      shown = k.shown i;
-      won = k.won i;
-      shared = h.shared;
-      exclusive = h.exclusive;
-      over = over;
-    }
+  self = s.self;
+  own = k.own i;
+  read = k.read i;
+  name = (ap (λ o. unwrap_or o []) k.name ∙ verified_is (layout_in s) s.lockspace ms) i;
+  freed = k.freed i;
+  ballot = k.ballot i;
+  shown = k.shown i;
+  won = k.won i;
+  shared = h.shared;
+  exclusive = h.exclusive;
+  over = over;
+}
 
 by_leader : (p : LeasePlace) (k : LeaseKnown) (aim : Aim) (name : List ℕ) (l : Option Leader) (read : List (Option Block))
     → area_asked p k aim name l read

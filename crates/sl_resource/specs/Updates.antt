@@ -50,11 +50,11 @@ shown_over shared before = elim shared [ true ↦ true | false ↦ before ]
 -- A write of the own block.
 abbrev pub after_block : LeaseStep → Block → LeaseState → LeaseState
 after_block step b s = record s {
-      own = Some b;
-      ballot = ballot_over (is_phase2_write step) b.lver s.ballot;
-      shown = shown_over b.shared s.shown;
-      waiting = Some (WritesBlock step b.shared);
-    }
+  own = Some b;
+  ballot = ballot_over (is_phase2_write step) b.lver s.ballot;
+  shown = shown_over b.shared s.shown;
+  waiting = Some (WritesBlock step b.shared);
+}
 
 -- The greatest instance freed after a leader.
 abbrev pub freed_over : Leader → ℕ → ℕ
@@ -107,19 +107,19 @@ won_read true self (Some b) read before = won_in_end self b (stop_of b read) bef
 -- A read for this step gave these bytes.
 abbrev pub after_bytes : LeaseStep → List ℕ → Bool → LeaseState → LeaseState
 after_bytes (ReadArea name) bytes heeded s = record s {
-      read = area_blocks (layout_in s) bytes;
-      name = name_read (layout_in s) s.lockspace name (leader_of (layout_in s) bytes) s.name;
-    }
+  read = area_blocks (layout_in s) bytes;
+  name = name_read (layout_in s) s.lockspace name (leader_of (layout_in s) bytes) s.name;
+}
 after_bytes ReadBeforeFree bytes heeded s = record s { read = area_blocks (layout_in s) bytes; won = won_looked s.self (leader_of (layout_in s) bytes) (area_blocks (layout_in s) bytes) s.won }
 after_bytes Phase1Read bytes heeded s = record s {
-      read = blocks_in (layout_in s) bytes;
-      ballot = ballot_read heeded false (own_stop s.own (blocks_in (layout_in s) bytes)) s.ballot;
-    }
+  read = blocks_in (layout_in s) bytes;
+  ballot = ballot_read heeded false (own_stop s.own (blocks_in (layout_in s) bytes)) s.ballot;
+}
 after_bytes Phase2Read bytes heeded s = record s {
-      read = blocks_in (layout_in s) bytes;
-      ballot = ballot_read heeded true (own_stop s.own (blocks_in (layout_in s) bytes)) s.ballot;
-      won = won_read heeded s.self s.own (blocks_in (layout_in s) bytes) s.won;
-    }
+  read = blocks_in (layout_in s) bytes;
+  ballot = ballot_read heeded true (own_stop s.own (blocks_in (layout_in s) bytes)) s.ballot;
+  won = won_read heeded s.self s.own (blocks_in (layout_in s) bytes) s.won;
+}
 after_bytes Phase1Write bytes heeded s = s
 after_bytes Phase2Write bytes heeded s = s
 after_bytes TakeLeader bytes heeded s = s

@@ -1,4 +1,11 @@
 //! What an answer changes of what is kept of a lease.
+//!
+//! A read gives blocks, and with them a name, a free that turns out to be done or the end of a ballot; a write that is done clears a mode
+//! or a free that was owed. A call that failed changes nothing, since it may have been done all the same.
+//!
+//! A read wins or concludes a ballot only if it is heeded. A job that was refused meanwhile takes no leader, so if its late answer closed
+//! the ballot, an instance would stay won by a session that doesn't hold it and doesn't free it. The blocks count all the same: they are
+//! what the disk showed.
 ghost use Rattle.sl_resource.specs.Stands.{IsTold, LeaseStands};
 ghost use Rattle.sl_resource.specs.Calls.{is_answer_to, sectors_for};
 ghost use Rattle.sl_resource.specs.Updates.{after_answer, after_bytes, answered_state};
@@ -18,12 +25,7 @@ use std::alloc::{AllocError, Global};
 
 impl Lease {
     /// An acquire's read of the area for this resource gave these bytes.
-    fn took_area(
-        &mut self,
-        alloc: Global,
-        resource: Name,
-        bytes: &[u8],
-    ) -> Result<(), AllocError>
+    fn took_area(&mut self, alloc: Global, resource: Name, bytes: &[u8]) -> Result<(), AllocError>
         requires { length bytes.now ≡ (self.old.sizes.hosts + 2) * self.old.sizes.sector }
         ensures took { OnOk result (self.new ≡ after_bytes (ReadArea resource) bytes.now false self.old) }
         ensures kept { OnErr result (self.new ≡ self.old) }
@@ -52,12 +54,7 @@ impl Lease {
     }
 
     /// The read of phase 1 gave these bytes.
-    fn took_phase1(
-        &mut self,
-        alloc: Global,
-        bytes: &[u8],
-        heeded: bool,
-    ) -> Result<(), AllocError>
+    fn took_phase1(&mut self, alloc: Global, bytes: &[u8], heeded: bool) -> Result<(), AllocError>
         requires { length bytes.now ≡ self.old.sizes.hosts * self.old.sizes.sector }
         ensures took { OnOk result (self.new ≡ after_bytes Phase1Read bytes.now heeded self.old) }
         ensures kept { OnErr result (self.new ≡ self.old) }
@@ -69,12 +66,7 @@ impl Lease {
     }
 
     /// The read of phase 2 gave these bytes.
-    fn took_phase2(
-        &mut self,
-        alloc: Global,
-        bytes: &[u8],
-        heeded: bool,
-    ) -> Result<(), AllocError>
+    fn took_phase2(&mut self, alloc: Global, bytes: &[u8], heeded: bool) -> Result<(), AllocError>
         requires { length bytes.now ≡ self.old.sizes.hosts * self.old.sizes.sector }
         ensures took { OnOk result (self.new ≡ after_bytes Phase2Read bytes.now heeded self.old) }
         ensures kept { OnErr result (self.new ≡ self.old) }

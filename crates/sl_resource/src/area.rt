@@ -1,4 +1,8 @@
 //! What an acquire does after its read of the area.
+//!
+//! The leader, then its names, then the blocks are looked at, and the first that isn't right refuses. A torn block may hide a later
+//! instance, so an acquire begins none beside it. Where all is right, the leader and the blocks tell which instance begins, or who holds
+//! the resource.
 ghost use Rattle.sl_leases.specs.LeaseWork.{area_next, begin_or_refuse, named_area_next, whole_area_next};
 ghost use Rattle.sl_leases.specs.Leases.{instance_for, is_over_owner, top_lver};
 ghost use Rattle.sl_area.specs.Places.{leader_of};
@@ -52,16 +56,34 @@ fn is_over_owner<E: Evidence>(evidence: &E, leader: &Leader) -> bool
 
 impl Lease {
     /// The instance that an acquire begins after its read of the area, or who holds it.
-    fn instance_for<E: Evidence>(&self, held: Held, evidence: &E, leader: &Leader, own: &Block) -> Instance
+    fn instance_for<E: Evidence>(
+        &self,
+        held: Held,
+        evidence: &E,
+        leader: &Leader,
+        own: &Block,
+    ) -> Instance
         requires { Fits leader.now.lver }
         ensures { result ≡ instance_for (known_with self.now held (E.over evidence.now)) leader.now own.now self.now.read }
     {
         let is_over = is_over_owner(evidence, leader);
-        instance_of(is_over, self.me, leader, self.freed, top_lver(own, &self.read))
+        instance_of(
+            is_over,
+            self.me,
+            leader,
+            self.freed,
+            top_lver(own, &self.read),
+        )
     }
 
     /// Where all spells and the names are right: the ballot begins, or the holder is named.
-    fn whole_area<E: Evidence>(&self, held: Held, evidence: &E, aim: Aim, leader: &Leader) -> LeaseNext
+    fn whole_area<E: Evidence>(
+        &self,
+        held: Held,
+        evidence: &E,
+        aim: Aim,
+        leader: &Leader,
+    ) -> LeaseNext
         requires { Fits leader.now.lver }
         ensures exact { result ≡ whole_area_next (place_of self.now) (known_with self.now held (E.over evidence.now)) aim leader.now self.now.read }
         ensures fit { IsFitNext result }
@@ -70,13 +92,22 @@ impl Lease {
             None => LeaseNext::Nothing,
             Some(own) => match self.instance_for(held, evidence, leader, &own) {
                 Instance::Begins { instance } => self.begin(held, aim, instance),
-                Instance::HeldAlready { lver, owner } => LeaseNext::AnswerJob(Reply::Held { lver, owner }),
+                Instance::HeldAlready { lver, owner } => LeaseNext::AnswerJob(Reply::Held {
+                    lver,
+                    owner,
+                }),
             },
         }
     }
 
     /// Where the names are right: a torn block, the own one too, refuses.
-    fn named_area<E: Evidence>(&self, held: Held, evidence: &E, aim: Aim, leader: &Leader) -> LeaseNext
+    fn named_area<E: Evidence>(
+        &self,
+        held: Held,
+        evidence: &E,
+        aim: Aim,
+        leader: &Leader,
+    ) -> LeaseNext
         requires { Fits leader.now.lver }
         ensures exact { result ≡ named_area_next (place_of self.now) (known_with self.now held (E.over evidence.now)) aim leader.now self.now.read }
         ensures fit { IsFitNext result }
@@ -107,7 +138,14 @@ impl Lease {
     }
 
     /// After the read of the area for a job that names this resource: a torn leader, other names, a torn block refuse in this order.
-    pub(crate) fn after_area<E: Evidence>(&self, held: Held, evidence: &E, aim: Aim, resource: &Name, leader: Option<Leader>) -> LeaseNext
+    pub(crate) fn after_area<E: Evidence>(
+        &self,
+        held: Held,
+        evidence: &E,
+        aim: Aim,
+        resource: &Name,
+        leader: Option<Leader>,
+    ) -> LeaseNext
         requires { IfSome leader (λ l. Fits l.lver) }
         ensures exact { result ≡ area_asked (place_of self.now) (known_with self.now held (E.over evidence.now)) aim resource.now leader self.now.read }
         ensures fit { IsFitNext result }

@@ -1,4 +1,9 @@
 //! What a lease does after the reads of a ballot.
+//!
+//! A stop comes first: what another block shows of a later instance or a greater number, or may hide by being torn, ends the try. Then an
+//! exclusive acquire looks for others' shared modes. It has to do so in phase 1, after its own number stands on the disk and before its
+//! value does: whoever gains the shared mode later must pass a ballot of its own, and meets this one. A shared acquire doesn't look, since
+//! shared leases stand beside each other.
 ghost use Rattle.sl_leases.specs.LeaseWork.{after_phase1, after_phase2, ended_next, leader_for, looks_for_shared, lost_next, phase2_next, stop_reply, stopped_next, unstopped_next, won_next};
 ghost use Rattle.sl_leases.specs.Leases.{is_shared_by_other, shared_elsewhere};
 ghost use Rattle.sl_leases.specs.declared.lease.LeaseNext.TheVariants.{Nothing, WriteLeader};
@@ -199,13 +204,7 @@ impl Lease {
     }
 
     /// A ballot of this block ended with its value.
-    fn ended_next<E: Evidence>(
-        &self,
-        held: Held,
-        evidence: &E,
-        aim: Aim,
-        own: &Block,
-    ) -> LeaseNext
+    fn ended_next<E: Evidence>(&self, held: Held, evidence: &E, aim: Aim, own: &Block) -> LeaseNext
         requires { Fits own.now.lver }
         ensures exact { IsTrue (is_some self.now.name) → result ≡ ended_next (place_of self.now) (known_with self.now held (E.over evidence.now)) aim own.now }
         ensures fit { IsFitNext result }

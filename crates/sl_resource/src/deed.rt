@@ -1,4 +1,4 @@
-//! What the calls of a lease do.
+//! What the calls of a lease do, by their steps, and how they may be answered.
 ghost use Rattle.sl_resource.specs.Calls.{is_answer_to, is_of_write, reads_area, sectors_for};
 ghost use Rattle.std.specs.Prelude.{◌*◌, ◌==◌, ◌≡◌};
 
@@ -11,7 +11,10 @@ pub enum Deed {
     /// It reads for this step: the whole area, or the blocks of all hosts.
     Reads(LeaseStep),
     /// It writes the own block, with the shared mode or without it.
-    WritesBlock { step: LeaseStep, shared: bool },
+    WritesBlock {
+        step: LeaseStep,
+        shared: bool,
+    },
     /// It writes the leader of this instance, held or free.
     WritesLeader {
         step: LeaseStep,

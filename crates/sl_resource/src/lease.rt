@@ -1,4 +1,21 @@
-//! A session's work on one resource's lease.
+//! What a session keeps of its work on one resource's lease.
+//!
+//! Everything that is asked of a lease is a function of the calls that worked on it and of their answers. A lease keeps what these
+//! questions come to in place of the calls: the own block as it was last submitted, the blocks as they were last read, the resource's
+//! name once it is verified, the greatest instance freed, the open ballot, whether the shared mode may stand in the own block, the
+//! instance won last whose free isn't known to be done, and what the newest call does while it has no answer.
+//!
+//! Either no call waits for its answer, or one does. Three things hold in both states:
+//!
+//! - The lease stands for each list of calls that led to it (`LeaseStands`). A part that lagged behind would make the next decision by a
+//!   block or a ballot that are no longer so.
+//! - At most the newest call waits. Two writes of the own block under way could land in either order, and the disk would then show a
+//!   ballot that the session has left.
+//! - Before a leader has shown the resource's name, nothing but an acquire's read of the area is done. Else a lease could write over the
+//!   area of another resource.
+//!
+//! A block counts from its submission on, answered or not, since a call that failed may still have been done; that the shared mode is
+//! gone counts only once it is answered, since until then others may read it.
 ghost use Rattle.sl_resource.specs.Calls.{IsBlockWrite, IsLeaderWrite, IsReading};
 ghost use Rattle.sl_resource.specs.Stands.{IsOneLease, LeaseStands, MayCall, new_state};
 ghost use Rattle.sl_resource.specs.Updates.{after_block, after_leader, after_reading};
@@ -38,8 +55,18 @@ impl Model for Lease {
     ghost Value = { LeaseState };
 
     ghost view = { λ l. record {
-        sizes = l.geometry; lockspace = l.lockspace; self = l.me; own = l.own; read = l.read.items; name = l.name;
-        freed = l.freed; ballot = l.ballot; shown = l.shown; won = l.won; waiting = l.waiting } };
+      sizes = l.geometry;
+      lockspace = l.lockspace;
+      self = l.me;
+      own = l.own;
+      read = l.read.items;
+      name = l.name;
+      freed = l.freed;
+      ballot = l.ballot;
+      shown = l.shown;
+      won = l.won;
+      waiting = l.waiting;
+    } };
 
     ghost invariant = { λ l. IsWithinBounds l.geometry l.own l.read.items l.freed l.won };
 }

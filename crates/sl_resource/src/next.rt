@@ -1,4 +1,11 @@
-//! What a lease does next.
+//! What a lease does next: at most one call, one reply or one grant.
+//!
+//! An exclusive acquire reads the area, runs a ballot, takes the leader and is granted. A shared one takes the leader too, but then writes
+//! its mode and frees the leader, in this order: were the leader free before the mode stood in the block, an exclusive acquire could begin
+//! the next instance, read no mode and be granted beside it. The own mode is cleared in one write, after which the release is done.
+//!
+//! `next` is asked after an answer was told by `answered`, and goes by the blocks that are kept, not by those in the answer's bytes: they
+//! are the same, and each sector is decoded once.
 ghost use Rattle.sl_leases.specs.Ballots.{stop_of};
 ghost use Rattle.sl_leases.specs.LeaseWork.{after_clearing, after_freeing, after_take, after_write, lease_next, refuses, release_next, settle_next};
 ghost use Rattle.sl_leases.specs.Leases.{known_of};
@@ -82,7 +89,7 @@ impl Lease {
         requires { length bytes.now ≡ sectors_for self.now.sizes step * self.now.sizes.sector }
         ensures exact { IsTrue (is_first_step step || is_some self.now.name)
             → result ≡ read_asked (place_of self.now) (known_with self.now held (E.over evidence.now)) aim (leader_of (layout_in self.now) bytes.now)
-                self.now.read step }
+            self.now.read step }
         ensures fit { IsFitNext result }
     {
         match step {
@@ -223,8 +230,8 @@ impl Lease {
     ) -> LeaseNext
         ensures exact { (m : Submitted) (ms : List Submitted) → LeaseStands self.now (m ∷ ms) → IsAnswered self.now.sizes step answer.now m
             → result ≡ lease_next (place_of self.now)
-                (known_of (layout_in self.now) self.now.lockspace self.now.self held.shared held.exclusive (E.over evidence.now) (m ∷ ms))
-                aim call lver step answer.now }
+            (known_of (layout_in self.now) self.now.lockspace self.now.self held.shared held.exclusive (E.over evidence.now) (m ∷ ms))
+            aim call lver step answer.now }
         ensures named { (m : Submitted) (ms : List Submitted) → LeaseStands self.now (m ∷ ms) → IsAnswered self.now.sizes step answer.now m
             → IsTrue (makes_call result) → IsTrue (is_some self.now.name) }
         ensures fit { Fits lver → IsFitNext result }
@@ -236,7 +243,7 @@ impl Lease {
     pub fn settle(&self, held: Held) -> LeaseNext
         ensures exact { (over : ℕ → ℕ → Bool) (ms : List Submitted) → LeaseStands self.now ms
             → result ≡ settle_next (place_of self.now)
-                (known_of (layout_in self.now) self.now.lockspace self.now.self held.shared held.exclusive over ms) }
+            (known_of (layout_in self.now) self.now.lockspace self.now.self held.shared held.exclusive over ms) }
         ensures named { (ms : List Submitted) → LeaseStands self.now ms → IsTrue (makes_call result) → IsTrue (is_some self.now.name) }
         ensures fit { IsFitNext result }
     {
@@ -248,7 +255,7 @@ impl Lease {
     pub fn release(&self, held: Held, mode: Mode, lver: u64) -> LeaseNext
         ensures exact { (over : ℕ → ℕ → Bool) (ms : List Submitted) → LeaseStands self.now ms → IsTrue (is_begun ms)
             → result ≡ release_next (place_of self.now)
-                (known_of (layout_in self.now) self.now.lockspace self.now.self held.shared held.exclusive over ms) mode lver }
+            (known_of (layout_in self.now) self.now.lockspace self.now.self held.shared held.exclusive over ms) mode lver }
         ensures fit { Fits lver → IsFitNext result }
     {
         self.release_known(held, mode, lver)

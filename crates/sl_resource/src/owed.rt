@@ -1,4 +1,10 @@
 //! What a lease owes, and the ballots that it begins.
+//!
+//! Work that stops halfway leaves three things on a disk. An open ballot may be ended by another host with this session as its value, so
+//! it is run to its end. A shared mode that nobody holds keeps exclusive acquires away, so it is cleared. An instance that was won and
+//! isn't held keeps everybody away, so its leader is written free. They stand in this order since the end of a ballot may make a free
+//! owed, and one free is owed at a time. A settling looks at the area before it frees: by then another host may have begun a later
+//! instance, whose leader it must not write over.
 ghost use Rattle.sl_leases.specs.LeaseWork.{begin_next, phase1_next, refuses, settle_next, settle_owed};
 ghost use Rattle.sl_leases.specs.Leases.{block_of_host, mode_gen_of, owed, owed_free, own_known, own_or_read};
 ghost use Rattle.sl_leases.specs.declared.lease.LeaseNext.TheVariants.{Nothing, WriteBlock};

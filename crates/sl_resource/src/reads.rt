@@ -1,4 +1,5 @@
-//! What the bytes of a read say of a resource's area.
+//! What the bytes of a read say of a resource's area. A sector that spells no record, a record of another kind or another host's block
+//! counts as torn.
 ghost use Rattle.sl_area.specs.Layouts.{IsGeometry, layout_of};
 ghost use Rattle.sl_area.specs.Places.{area_blocks, blocks_in, leader_of, read_at, sector_of};
 ghost use Rattle.sl_resource.specs.Reads.{host_block};

@@ -1,4 +1,4 @@
-//! How what is kept of a lease changes by a call and by its answer.
+//! How each part of what is kept of a lease changes, by a call and by its answer.
 ghost use Rattle.sl_area.specs.Layouts.{layout_of};
 ghost use Rattle.sl_leases.specs.Ballots.{is_ahead};
 ghost use Rattle.sl_leases.specs.Leases.{is_free_of, is_leader_of};
@@ -90,12 +90,7 @@ fn is_any_above(n: u64, blocks: &[Option<Block>]) -> bool
 }
 
 /// Whether leader and blocks show that the free of instance `n` isn't needed.
-fn is_settled(
-    me: Owner,
-    n: u64,
-    leader: &Option<Leader>,
-    blocks: &[Option<Block>],
-) -> bool
+fn is_settled(me: Owner, n: u64, leader: &Option<Leader>, blocks: &[Option<Block>]) -> bool
     ensures { result ≡ is_settled_by me n leader.now blocks.now }
 {
     read_leader_settles(me, n, leader) || is_any_above(n, blocks)
