@@ -6,3 +6,4 @@ pub mod NextLaws
 pub mod TopLaws
 pub mod NextRules
 pub mod KnownLaws
+pub mod RecordFacts

@@ -16,6 +16,7 @@
 //!
 //! A block counts from its submission on, answered or not, since a call that failed may still have been done; that the shared mode is
 //! gone counts only once it is answered, since until then others may read it.
+ghost use Rattle.sl_resource.specs.Bounds.{IsBegun, IsSession};
 ghost use Rattle.sl_resource.specs.Calls.{IsBlockWrite, IsLeaderWrite, IsReading};
 ghost use Rattle.sl_resource.specs.Stands.{IsOneLease, LeaseStands, MayCall, new_state};
 ghost use Rattle.sl_resource.specs.Updates.{after_block, after_leader, after_reading};
@@ -68,12 +69,13 @@ impl Model for Lease {
       waiting = l.waiting;
     } };
 
-    ghost invariant = { λ l. IsWithinBounds l.geometry l.own l.read.items l.freed l.won };
+    ghost invariant = { λ l. IsWithinBounds l.geometry l.me l.own l.read.items l.freed l.ballot l.won };
 }
 
 impl Lease {
     /// The lease of a session on a resource's area, before its first call.
     pub fn new(alloc: Global, geometry: Geometry, lockspace: Name, me: Owner) -> Lease
+        requires { IsSession geometry me }
         ensures state { result ≡ new_state geometry lockspace me }
         ensures stands { LeaseStands result [] }
     {
@@ -103,7 +105,7 @@ impl Lease {
 
     /// A write of this block is submitted, at a step that writes the own block.
     pub fn writes_block(&mut self, step: LeaseStep, block: Block)
-        requires { Fits block.lver }
+        requires { IsBegun block }
         ensures state { self.new ≡ after_block step block self.old }
         ensures stands { (m : Submitted) (ms : List Submitted) → LeaseStands self.old ms → MayCall self.old step → m.answer ≡ None
             → IsBlockWrite step block m → LeaseStands self.new (m ∷ ms) }

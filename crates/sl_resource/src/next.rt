@@ -11,6 +11,7 @@ ghost use Rattle.sl_leases.specs.LeaseWork.{after_clearing, after_freeing, after
 ghost use Rattle.sl_leases.specs.Leases.{known_of};
 ghost use Rattle.sl_leases.specs.declared.lease.LeaseNext.TheVariants.{Nothing, WriteLeader};
 ghost use Rattle.sl_resource.specs.Asked.{asked_next, free_with, known_with, mode_with, phase1_ended, phase2_ended, read_asked};
+ghost use Rattle.sl_resource.specs.Bounds.{IsBegun, IsInstance};
 ghost use Rattle.sl_resource.specs.Calls.{IsFitNext, is_whole_read, makes_call, sectors_for};
 ghost use Rattle.sl_resource.specs.Stands.{IsAnswered, LeaseStands, is_begun, is_first_step, layout_in, name_in, place_of};
 ghost use Rattle.sl_area.specs.Places.{leader_of};
@@ -173,7 +174,7 @@ impl Lease {
     fn after_write(&self, held: Held, aim: Aim, n: u64, step: LeaseStep) -> LeaseNext
         ensures exact { IsTrue (is_first_step step || is_some self.now.name) → (over : ℕ → ℕ → Bool)
             → result ≡ after_write (place_of self.now) (known_with self.now held over) aim n step }
-        ensures fit { Fits n → IsFitNext result }
+        ensures fit { IsInstance n → IsFitNext result }
     {
         match step {
             LeaseStep::ReadArea { resource: _ } => LeaseNext::Nothing,
@@ -202,7 +203,7 @@ impl Lease {
     ) -> LeaseNext
         ensures exact { IsTrue (is_first_step step || is_some self.now.name) → IsTrue (is_whole_read self.now.sizes step answer.now)
             → result ≡ asked_next (place_of self.now) (known_with self.now held (E.over evidence.now)) aim call lver step self.now.read answer.now }
-        ensures fit { Fits lver → IsFitNext result }
+        ensures fit { IsInstance lver → IsFitNext result }
     {
         match answer {
             Answer::Read(bytes) => {
@@ -234,7 +235,7 @@ impl Lease {
             aim call lver step answer.now }
         ensures named { (m : Submitted) (ms : List Submitted) → LeaseStands self.now (m ∷ ms) → IsAnswered self.now.sizes step answer.now m
             → IsTrue (makes_call result) → IsTrue (is_some self.now.name) }
-        ensures fit { Fits lver → IsFitNext result }
+        ensures fit { IsInstance lver → IsFitNext result }
     {
         self.decided(held, evidence, aim, call, lver, step, answer)
     }
@@ -256,7 +257,7 @@ impl Lease {
         ensures exact { (over : ℕ → ℕ → Bool) (ms : List Submitted) → LeaseStands self.now ms → IsTrue (is_begun ms)
             → result ≡ release_next (place_of self.now)
             (known_of (layout_in self.now) self.now.lockspace self.now.self held.shared held.exclusive over ms) mode lver }
-        ensures fit { Fits lver → IsFitNext result }
+        ensures fit { IsInstance lver → IsFitNext result }
     {
         self.release_known(held, mode, lver)
     }
@@ -265,7 +266,7 @@ impl Lease {
     fn release_known(&self, held: Held, mode: Mode, lver: u64) -> LeaseNext
         ensures exact { IsTrue (is_some self.now.name) → (over : ℕ → ℕ → Bool)
             → result ≡ release_next (place_of self.now) (known_with self.now held over) mode lver }
-        ensures fit { Fits lver → IsFitNext result }
+        ensures fit { IsInstance lver → IsFitNext result }
     {
         match mode {
             Mode::Exclusive => self.write_leader(LeaseStep::FreeLeader, false, lver),
