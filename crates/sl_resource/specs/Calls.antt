@@ -17,7 +17,7 @@ use Rattle.sl_trace.specs.declared.effects.Purpose.TheVariants.{Lease}
 use Rattle.sl_trace.specs.declared.effects.Work.{Work}
 use Rattle.sl_trace.specs.declared.input.Answer.TheVariants.{Failed, Read, Written}
 use Rattle.sl_trace.specs.declared.input.Answer.{Answer}
-use Rattle.std.specs.Prelude.{Bool, IsTrue, List, None, Option, Some, false, if◌then◌else◌, length, true, ℕ, ◌*◌, ◌+◌, ◌==◌, ◌||◌, ◌≡◌}
+use Rattle.std.specs.Prelude.{Bool, IsTrue, false, if◌then◌else◌, length, true, ℕ, ◌*◌, ◌+◌, ◌==◌, ◌||◌, ◌≡◌}
 
 -- Whether the step reads leader, request and blocks.
 abbrev pub reads_area : LeaseStep → Bool

@@ -19,7 +19,7 @@ pub returns-in-Some-clause-fit : goal.returns-in-Some-clause-fit
 returns-in-Some-clause-fit c = λ one.
     c.phase1_next.ensures.fit _ (lver-phase1_block _ _ _ _ _ _ _) c.phase1_after_read.ensures
     (λ fits.
-      let block : c.phase1_after_read.result
-                ≡ limited_block (phase1_block c.self.inside.me c.self.inside.geometry.hosts c.args.n c.args.held.shared (cond c.args.held.shared c.self.inside.me.generation 0) c.in-Some.own (present c.self.inside.read.items)) = search rules in
-      subst (λ r. IfOk r IsBegun) (sym block)
-      (phase1_begun c.self.inside.geometry c.self.inside.me c.args.n c.args.held.shared c.in-Some.own _ c.self.invariant.session (hosts_few c.self.inside.geometry c.hosts.ensures.geometry) one fits c.in-Some.ensures.bounds))
+    let block : c.phase1_after_read.result
+    ≡ limited_block (phase1_block c.self.inside.me c.self.inside.geometry.hosts c.args.n c.args.held.shared (cond c.args.held.shared c.self.inside.me.generation 0) c.in-Some.own (present c.self.inside.read.items)) = search rules in
+    subst (λ r. IfOk r IsBegun) (sym block)
+    (phase1_begun c.self.inside.geometry c.self.inside.me c.args.n c.args.held.shared c.in-Some.own _ c.self.invariant.session (hosts_few c.self.inside.geometry c.hosts.ensures.geometry) one fits c.in-Some.ensures.bounds))
