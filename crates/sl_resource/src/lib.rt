@@ -23,3 +23,6 @@ mod updates;
 pub use deed::Deed;
 pub use evidence::{Evidence, Held};
 pub use lease::Lease;
+
+#[cfg(test)]
+mod tests;
