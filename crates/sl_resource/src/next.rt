@@ -16,6 +16,7 @@ ghost use Rattle.sl_resource.specs.Calls.{IsFitNext, is_whole_read, makes_call, 
 ghost use Rattle.sl_resource.specs.Stands.{IsAnswered, LeaseStands, is_begun, is_first_step, layout_in, name_in, place_of};
 ghost use Rattle.sl_area.specs.Places.{leader_of};
 ghost use Rattle.sl_trace.specs.Traces.{Submitted};
+ghost use Rattle.sl_resource.specs.declared.evidence.Held.{Held};
 ghost use Rattle.sl_sector.specs.Records.{Fits};
 ghost use Rattle.std.specs.Prelude.{Bool, IsTrue, List, is_some, length, ℕ, ◌*◌, ◌||◌, ◌∷◌, ◌≡◌};
 
@@ -251,20 +252,20 @@ impl Lease {
         self.settle_known(held)
     }
 
-    /// What a release does first, once the last holding under the lease has ended: an exclusive lease frees the leader, a shared one
-    /// clears its mode.
-    pub fn release(&self, held: Held, mode: Mode, lver: u64) -> LeaseNext
-        ensures exact { (over : ℕ → ℕ → Bool) (ms : List Submitted) → LeaseStands self.now ms → IsTrue (is_begun ms)
+    /// What a release does first, once the last holding under the lease has ended: an exclusive lease of instance `lver` frees the leader,
+    /// a shared one clears its mode. It is asked of a lease that has done more than read the area.
+    pub fn release(&self, mode: Mode, lver: u64) -> LeaseNext
+        ensures exact { (held : Held) (over : ℕ → ℕ → Bool) (ms : List Submitted) → LeaseStands self.now ms → IsTrue (is_begun ms)
             → result ≡ release_next (place_of self.now)
             (known_of (layout_in self.now) self.now.lockspace self.now.self held.shared held.exclusive over ms) mode lver }
         ensures fit { IsInstance lver → IsFitNext result }
     {
-        self.release_known(held, mode, lver)
+        self.release_known(mode, lver)
     }
 
     /// The same, by what is kept of the lease.
-    fn release_known(&self, held: Held, mode: Mode, lver: u64) -> LeaseNext
-        ensures exact { IsTrue (is_some self.now.name) → (over : ℕ → ℕ → Bool)
+    fn release_known(&self, mode: Mode, lver: u64) -> LeaseNext
+        ensures exact { IsTrue (is_some self.now.name) → (held : Held) (over : ℕ → ℕ → Bool)
             → result ≡ release_next (place_of self.now) (known_with self.now held over) mode lver }
         ensures fit { IsInstance lver → IsFitNext result }
     {

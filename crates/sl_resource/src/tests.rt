@@ -104,12 +104,12 @@ fn block_of(next: LeaseNext) -> Result<Block, Fail>
 }
 
 /// The leader that comes next.
-fn leader_of(next: LeaseNext) -> Result<Leader, Fail>
-    requires { IsFitNext next }
+fn leader_of(next: &LeaseNext) -> Result<Leader, Fail>
+    requires { IsFitNext next.now }
     ensures { IfOk result IsGranted }
 {
     match next {
-        LeaseNext::WriteLeader { step: _, leader } => Ok(leader),
+        LeaseNext::WriteLeader { step: _, leader } => Ok(*leader),
         _ => Err("a leader comes next".into()),
     }
 }
@@ -169,7 +169,7 @@ fn take(alloc: Global, lease: &mut Lease, mode: Mode) -> Result<Leader, Fail> {
     lease.reads(LeaseStep::Phase2Read);
     lease.answered(alloc, &answer, true)?;
     let next = lease.next(NOT_HELD, &Nobody, aim, 5, 1, LeaseStep::Phase2Read, &answer);
-    let leader = leader_of(next)?;
+    let leader = leader_of(&next)?;
     lease.writes_leader(LeaseStep::TakeLeader, &leader);
     lease.answered(alloc, &Answer::Written, true)?;
     Ok(leader)
@@ -203,7 +203,7 @@ fn exclusive(rt: HostRuntime) -> Result<(), Fail> {
         &Answer::Written,
     );
     assert_eq!(rt; granted(next), (false, 1));
-    let leader = leader_of(lease.release(NOT_HELD, Mode::Exclusive, 1))?;
+    let leader = leader_of(&lease.release(Mode::Exclusive, 1))?;
     assert_eq!(rt; (leader.held, leader.lver), (false, 1));
     Ok(())
 }
@@ -228,7 +228,7 @@ fn shared(rt: HostRuntime) -> Result<(), Fail> {
     assert_eq!(rt; fields(&block), (1, 1, 1, 1, 7));
     lease.writes_block(LeaseStep::SetMode, block);
     lease.answered(alloc, &Answer::Written, true)?;
-    let leader = leader_of(lease.next(
+    let leader = leader_of(&lease.next(
         NOT_HELD,
         &Nobody,
         aim,
@@ -250,7 +250,7 @@ fn shared(rt: HostRuntime) -> Result<(), Fail> {
         &Answer::Written,
     );
     assert_eq!(rt; granted(next), (true, 1));
-    let block = block_of(lease.release(NOT_HELD, Mode::Shared, 1))?;
+    let block = block_of(lease.release(Mode::Shared, 1))?;
     assert_eq!(rt; fields(&block), (1, 1, 1, 1, 0));
     Ok(())
 }
