@@ -7,3 +7,4 @@ pub mod TopLaws
 pub mod NextRules
 pub mod KnownLaws
 pub mod RecordFacts
+pub mod GoingOn

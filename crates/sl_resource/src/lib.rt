@@ -14,6 +14,7 @@ mod area;
 mod ballots;
 mod deed;
 mod evidence;
+pub mod laws;
 mod lease;
 mod next;
 mod owed;
