@@ -6,8 +6,7 @@ use Rattle.sl_ballot.specs.declared.ballot.BallotStep.{BallotStep}
 use Rattle.sl_leases.specs.Ballots.{block_ahead, block_rival}
 use Rattle.sl_sector.specs.declared.sector.Block.{Block}
 use Rattle.sl_words.proofs.WordLaws.{and_true}
-use Rattle.std.proofs.Common.{All, Bool, Contains, List, None, Option, Some, [], arith, cond, false, find, inl, inr, nat_lt, refl, subst, suc, sym, true, ◌&&◌, ◌+◌, ◌<◌, ◌==◌, ◌∷◌, ◌≡◌, ◌≤◌, ◌⊎◌, ℕ}
-use Rattle.std.proofs.lemmas.Bool.Decides.{nat_tests}
+use Rattle.std.proofs.Common.{All, Bool, Contains, List, None, Option, Some, [], arith, cond, false, find, inl, inr, nat_lt, refl, suc, true, ◌&&◌, ◌==◌, ◌∷◌, ◌≡◌, ◌≤◌, ◌⊎◌}
 use Rattle.std.proofs.lemmas.Bool.{and_cases, eqb-false, eqb-true, ltb-false, ltb-true}
 use Rattle.std.proofs.lemmas.List.Elements.{All-cons, All-nil, All-weaker}
 

@@ -1,13 +1,13 @@
 -- Blocks that keep their rules.
 use Rattle.sl_ballot.proofs.RiseLaws.{numbers_rise}
 use Rattle.sl_ballot.proofs.ValueLaws.{values_are_kept}
-use Rattle.sl_ballot.specs.Laws.{BlocksAreRecords, IsBelowIn, IsBestIn, IsMode, IsOwner}
-use Rattle.sl_leases.specs.Ballots.{moded_block, phase1_block, phase2_block, value_of, value_to_write}
+use Rattle.sl_ballot.specs.Laws.{BlocksAreRecords, IsBelowIn, IsMode, IsOwner}
+use Rattle.sl_leases.specs.Ballots.{phase1_block, phase2_block, value_of, value_to_write}
 use Rattle.sl_sector.specs.Records.{Fits, IsBlock}
 use Rattle.sl_sector.specs.declared.sector.Block.{Block}
 use Rattle.sl_sector.specs.declared.sector.Owner.{Owner}
 use Rattle.sl_words.specs.Bounds.{most_hosts}
-use Rattle.std.proofs.Common.{All, Bool, List, arith, cond, false, inl, inr, refl, subst, sym, true, ◌<◌, ◌==◌, ◌∷◌, ◌≡◌, ◌≤◌, ◌⊎◌, ◌↔◌, ℕ}
+use Rattle.std.proofs.Common.{All, Bool, List, arith, cond, false, inl, inr, refl, subst, sym, true, ◌<◌, ◌==◌, ◌≡◌, ◌≤◌, ◌↔◌, ℕ}
 use Rattle.std.proofs.lemmas.Bool.{cases_lt, eqb-true}
 use Rattle.std.proofs.lemmas.List.Elements.{All-contains, All-head}
 

@@ -1,10 +1,10 @@
 -- The number of phase 1.
 use Rattle.sl_ballot.specs.Laws.{IsBelowIn, NumbersRise}
 use Rattle.sl_leases.proofs.NumberFacts.{numbers_are_least}
-use Rattle.sl_leases.specs.Ballots.{in_instance, next_mbal, number_above, phase1_block}
+use Rattle.sl_leases.specs.Ballots.{in_instance, next_mbal, phase1_block}
 use Rattle.sl_sector.specs.declared.sector.Block.{Block}
 use Rattle.sl_words.specs.Words.{greatest}
-use Rattle.std.proofs.Common.{All, Bool, List, [], arith, cond, false, length, map, max, refl, true, ◌*◌, ◌+◌, ◌<◌, ◌==◌, ◌∷◌, ◌≡◌, ◌≤◌, ℕ}
+use Rattle.std.proofs.Common.{All, List, [], arith, cond, false, map, refl, true, ◌*◌, ◌+◌, ◌<◌, ◌==◌, ◌∷◌, ◌≡◌, ℕ}
 use Rattle.std.proofs.lemmas.Bool.{eqb-false, eqb-true}
 use Rattle.std.proofs.lemmas.List.Elements.{All-cons, All-head, All-nil, All-tail}
 

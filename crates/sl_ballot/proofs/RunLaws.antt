@@ -3,15 +3,14 @@ use Rattle.sl_ballot.proofs.Passing.{stopped_or_on}
 use Rattle.sl_ballot.proofs.StepLaws.{end_with}
 use Rattle.sl_ballot.specs.Laws.{IsEndWith, IsRunEnd, IsStoppedBy, Passes, RunsEnd}
 use Rattle.sl_ballot.specs.Limits.{limited}
-use Rattle.sl_ballot.specs.Machine.{ends_with, phase2_step, unless_stopped}
+use Rattle.sl_ballot.specs.Machine.{ends_with, phase2_step}
 use Rattle.sl_ballot.specs.Runs.{run_from}
 use Rattle.sl_ballot.specs.declared.ballot.BallotStep.{BallotStep}
-use Rattle.sl_ballot.specs.declared.number.Limit.{Limit}
 use Rattle.sl_leases.specs.Ballots.{phase1_block, phase2_block, value_of, value_to_write}
 use Rattle.sl_sector.specs.declared.sector.Block.{Block}
 use Rattle.sl_sector.specs.declared.sector.Owner.{Owner}
 use Rattle.sl_words.specs.Bounds.{is_number, record_numbers}
-use Rattle.std.proofs.Common.{All, Bool, Err, List, Ok, Result, arith, false, inl, inr, nat_lt, refl, subst, sym, true, ◌<◌, ◌∙◌, ◌≡◌, ◌≤◌, ◌⊎◌, ◌↔◌, ℕ}
+use Rattle.std.proofs.Common.{All, Bool, Err, List, Ok, arith, false, inl, inr, nat_lt, refl, subst, sym, true, ◌<◌, ◌∙◌, ◌≡◌, ◌≤◌, ◌⊎◌, ◌↔◌, ℕ}
 use Rattle.std.proofs.lemmas.Bool.{ltb-false, ltb-true}
 use Rattle.std.proofs.lemmas.List.Elements.{All-weaker}
 

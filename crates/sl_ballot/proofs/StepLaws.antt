@@ -1,7 +1,7 @@
 -- Which step comes in which phase.
 use Rattle.sl_ballot.proofs.Passing.{stopped_or_on}
 use Rattle.sl_ballot.specs.Laws.{IsEndWith, IsStoppedBy, StepsFollowPhases}
-use Rattle.sl_ballot.specs.Machine.{ends_with, is_reading, phase1_step, phase2_step, step_in}
+use Rattle.sl_ballot.specs.Machine.{BallotState, after_step, ends_with, is_reading, phase1_step, phase2_step, step_in}
 use Rattle.sl_ballot.specs.declared.ballot.BallotStep.TheVariants.{Ahead, Go, Lost, Rival, Won}
 use Rattle.sl_ballot.specs.declared.ballot.BallotStep.{BallotStep}
 use Rattle.sl_ballot.specs.declared.ballot.Phase.TheVariants.{Ended, Phase1Read, Phase1Write, Phase2Read, Phase2Write}
@@ -11,7 +11,7 @@ use Rattle.sl_sector.specs.declared.sector.Block.{Block}
 use Rattle.sl_sector.specs.declared.sector.Owner.{Owner}
 use Rattle.sl_words.proofs.CaseLaws.{true_is_false}
 use Rattle.sl_words.proofs.WordLaws.{and_true}
-use Rattle.std.proofs.Common.{Bool, List, ap, ap₂, false, inl, inr, refl, true, ◌&&◌, ◌==◌, ◌∙◌, sym, ◌≡◌, ◌⊎◌, ℕ}
+use Rattle.std.proofs.Common.{Bool, List, ap, ap₂, false, inl, inr, refl, subst, true, ◌==◌, ◌∙◌, sym, ◌≡◌, ℕ}
 use Rattle.std.proofs.lemmas.Bool.{and_from, eq-eqb, eqb-true}
 
 -- Owners that pass as one, are one ..
@@ -128,9 +128,27 @@ lost-in Phase2Write self own blocks v reading e = absurd cc
 lost-in Phase2Read self own blocks v reading e = let h = second-lost self own blocks v e in (refl, h.0, h.1)
 lost-in Ended self own blocks v reading e = absurd cc
 
+-- Two blocks of one instance and one number.
+abbrev IsSameBallot : Block → Block → Type 0
+IsSameBallot own b = (b.lver ≡ own.lver) × (b.mbal ≡ own.mbal)
+
+-- Phase 2 goes on with those of phase 1.
+second-same : (self : Owner) (own : Block) (blocks : List Block) → IsSameBallot own (phase2_block self own blocks)
+unfolding phase2_block
+second-same self own blocks = (refl, refl)
+
+-- So does each step.
+step-same : (s : BallotState) (blocks : List Block) (step : BallotStep) → step_in s.phase s.self s.block blocks ≡ step → IsSameBallot s.block (after_step s step).block
+step-same s blocks (Go b) e = subst (IsSameBallot s.block) (sym (go-in s.phase s.self s.block blocks b e).1) (second-same s.self s.block blocks)
+step-same s blocks Won e = (refl, refl)
+step-same s blocks (Lost o) e = (refl, refl)
+step-same s blocks (Rival h m) e = (refl, refl)
+step-same s blocks (Ahead h l) e = (refl, refl)
+
 pub steps_follow_phases : StepsFollowPhases
 steps_follow_phases = record {
   go = (λ s blocks b e. go-in s.phase s.self s.block blocks b e);
   won = (λ s blocks reading e. won-in s.phase s.self s.block blocks reading e);
   lost = (λ s blocks v reading e. lost-in s.phase s.self s.block blocks v reading e);
+  stays = (λ s blocks. step-same s blocks (step_in s.phase s.self s.block blocks) refl);
 }

@@ -1,12 +1,11 @@
 -- The value of the greatest bal.
 use Rattle.sl_ballot.specs.Laws.{IsBestIn, ValuesAreKept}
-use Rattle.sl_leases.specs.Ballots.{greater_bal, in_instance, phase1_block, value_of, value_to_write}
+use Rattle.sl_leases.specs.Ballots.{greater_bal, in_instance, phase1_block, value_of}
 use Rattle.sl_sector.specs.declared.sector.Block.{Block}
 use Rattle.sl_sector.specs.declared.sector.Owner.{Owner}
 use Rattle.sl_words.specs.Words.{choose}
-use Rattle.std.proofs.Common.{All, Bool, Contains, List, None, Option, Some, [], ap, arith, cond, false, inl, inr, nat_lt, refl, subst, suc, sym, true, ◌+◌, ◌<◌, ◌==◌, ◌∙◌, ◌∷◌, ◌≡◌, ◌≤◌, ◌⊎◌, ℕ}
+use Rattle.std.proofs.Common.{All, Bool, Contains, List, None, Option, Some, [], ap, arith, cond, false, inl, inr, nat_lt, refl, subst, suc, sym, true, ◌<◌, ◌==◌, ◌∙◌, ◌∷◌, ◌≡◌, ◌≤◌, ◌⊎◌, ℕ}
 use Rattle.std.proofs.lemmas.Bool.{eq-eqb, eqb-false, eqb-true, ltb-false, ltb-true, ne_eqb}
-use Rattle.std.proofs.lemmas.Bool.Decides.{nat_tests}
 use Rattle.std.proofs.lemmas.List.Elements.{All-cons, All-nil, All-weaker}
 use Rattle.std.specs.List.{fold}
 use Rattle.std.specs.Option.{option_map_or}

@@ -1,17 +1,16 @@
 -- What the rules of a ballot come to, in words that don't follow its steps.
-use Rattle.sl_ballot.specs.Limits.{limited}
-use Rattle.sl_ballot.specs.Machine.{BallotState, is_reading, step_of, unless_stopped}
+use Rattle.sl_ballot.specs.Machine.{BallotState, after_step, is_reading, step_of, unless_stopped}
 use Rattle.sl_ballot.specs.Runs.{ballot_run}
 use Rattle.sl_ballot.specs.declared.ballot.BallotStep.TheVariants.{Ahead, Go, Lost, Rival, Won}
 use Rattle.sl_ballot.specs.declared.ballot.BallotStep.{BallotStep}
 use Rattle.sl_ballot.specs.declared.ballot.Phase.TheVariants.{Phase1Read, Phase2Read}
-use Rattle.sl_leases.specs.Ballots.{moded_block, phase1_block, phase2_block, same_owner, stop_among, value_of, value_to_write}
+use Rattle.sl_leases.specs.Ballots.{moded_block, phase1_block, phase2_block, stop_among, value_of, value_to_write}
 use Rattle.sl_leases.specs.declared.lease.Stop.TheVariants.{BlockAhead, BlockRival, BlockTorn}
 use Rattle.sl_sector.specs.Records.{Fits, IsBlock}
 use Rattle.sl_sector.specs.declared.sector.Block.{Block}
 use Rattle.sl_sector.specs.declared.sector.Owner.{Owner}
 use Rattle.sl_words.specs.Bounds.{most_hosts, record_numbers}
-use Rattle.std.specs.Prelude.{All, Any, Bool, Contains, Err, List, None, Ok, Some, false, true, ℕ, ◌*◌, ◌++◌, ◌+◌, ◌<◌, ◌∷◌, ◌≡◌, ◌≤◌, ◌⊎◌, ◌↔◌}
+use Rattle.std.specs.Prelude.{All, Bool, Contains, Err, List, None, Ok, Some, false, true, ℕ, ◌*◌, ◌++◌, ◌+◌, ◌<◌, ◌∷◌, ◌≡◌, ◌≤◌, ◌⊎◌, ◌↔◌}
 
 -- ---- numbers
 
@@ -88,12 +87,15 @@ pub record StopsAreOne : Type 0 where
 abbrev pub IsEndWith : Owner → Owner → BallotStep → Type 0
 IsEndWith self value step = ((value ≡ self) × (step ≡ Won)) ⊎ ((value ≡ self → ⊥) × (step ≡ Lost value))
 
--- Only a read of phase 1 gives a block to write, which is that of phase 2; only a read of phase 2 ends a ballot with its value.
+-- Only a read of phase 1 gives a block to write, which is that of phase 2; only a read of phase 2 ends a ballot with its value. A ballot
+-- keeps its instance and its number.
 pub record StepsFollowPhases : Type 0 where
   pub go : (s : BallotState) (blocks : List Block) (b : Block) → step_of s blocks ≡ Go b → (s.phase ≡ Phase1Read) × (b ≡ phase2_block s.self s.block blocks)
   pub won : (s : BallotState) (blocks : List Block) → is_reading s.phase ≡ true → step_of s blocks ≡ Won → (s.phase ≡ Phase2Read) × (value_of s.block ≡ s.self)
   pub lost : (s : BallotState) (blocks : List Block) (v : Owner) → is_reading s.phase ≡ true → step_of s blocks ≡ Lost v
       → (s.phase ≡ Phase2Read) × (v ≡ value_of s.block) × (value_of s.block ≡ s.self → ⊥)
+  pub stays : (s : BallotState) (blocks : List Block)
+      → ((after_step s (step_of s blocks)).block.lver ≡ s.block.lver) × ((after_step s (step_of s blocks)).block.mbal ≡ s.block.mbal)
 
 -- ---- whole ballots
 

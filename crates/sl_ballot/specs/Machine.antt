@@ -5,11 +5,11 @@ use Rattle.sl_ballot.specs.declared.ballot.BallotStep.{BallotStep}
 use Rattle.sl_ballot.specs.declared.ballot.Phase.TheVariants.{Ended, Phase1Read, Phase1Write, Phase2Read, Phase2Write}
 use Rattle.sl_ballot.specs.declared.ballot.Phase.{Phase}
 use Rattle.sl_ballot.specs.declared.number.Limit.{Limit}
-use Rattle.sl_leases.specs.Ballots.{block_ahead, block_rival, phase1_block, phase2_block, same_owner, value_of}
+use Rattle.sl_leases.specs.Ballots.{block_ahead, block_rival, phase2_block, same_owner, value_of}
 use Rattle.sl_sector.specs.declared.sector.Block.{Block}
 use Rattle.sl_sector.specs.declared.sector.Owner.{Owner}
 use Rattle.sl_words.specs.Bounds.{is_number}
-use Rattle.std.specs.Prelude.{Bool, Err, List, None, Ok, Result, Some, false, true, ℕ}
+use Rattle.std.specs.Prelude.{Bool, List, None, Result, Some, false, true}
 
 -- A ballot: the session whose it is, its block, and what comes next.
 pub record BallotState : Type 0 where
@@ -61,7 +61,7 @@ phase1_step self own blocks = unless_stopped own blocks (Go (phase2_block self o
 abbrev pub phase2_step : Owner → Block → List Block → BallotStep
 phase2_step self own blocks = unless_stopped own blocks (ends_with self (value_of own))
 
--- After the read of this phase.
+-- After the read of phase 1, or else of phase 2.
 abbrev pub step_in : Phase → Owner → Block → List Block → BallotStep
 step_in Phase1Read self own blocks = phase1_step self own blocks
 step_in phase self own blocks = phase2_step self own blocks

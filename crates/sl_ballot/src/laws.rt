@@ -19,7 +19,7 @@ pub fn stops_are_one()
     ensures { laws.StopsAreOne }
 {}
 
-/// A block to write comes only from the read of phase 1, an end with a value only from that of phase 2.
+/// A block to write comes only from the read of phase 1, an end with a value only from that of phase 2; instance and number stay.
 pub fn steps_follow_phases()
     ensures { laws.StepsFollowPhases }
 {}
