@@ -246,6 +246,7 @@ waiting_answered s m ms (Some d) st at reading a heeded unanswered layout fits q
 -- The newest call with its answer.
 pub answer_stands : (s : LeaseState) (answer : Answer) (heeded : Bool) (m : Submitted) (ms : List Submitted) (a : Answered) → IsTold s answer heeded m a → LeaseStands s (m ∷ ms)
     → LeaseStands (answered_state answer heeded s) (record m { answer = Some a } ∷ ms)
+unfolding answered_state
 answer_stands s answer heeded m ms a is k =
     subst (λ x. LeaseStands (answered_state answer heeded s) (record m { answer = Some x } ∷ ms)) (λ i. record { at = a.at; reading = a.reading; answer = sym is.told i; heeded = sym is.heed i })
     (waiting_answered s m ms s.waiting is.setting a.at a.reading answer heeded is.open_call (ap (λ g. g.sector) is.layout) is.fits k.waiting k)

@@ -1,19 +1,18 @@
 -- What lets work on a lease go on.
 use Rattle.sl_area.specs.Layouts.{Sizes}
-use Rattle.sl_resource.specs.Calls.{IsDeed, is_answer_to, is_whole_read, sectors_for}
+use Rattle.sl_resource.specs.Calls.{IsDeed, is_whole_read, sectors_for}
 use Rattle.sl_resource.specs.Laws.{WorkGoesOn}
-use Rattle.sl_resource.specs.Stands.{AllAnswered, IsAnswered, IsTold, IsWaiting, LeaseStands, LeaseState, is_begun, is_first_step}
+use Rattle.sl_resource.specs.Stands.{AllAnswered, IsWaiting, is_first_step}
 use Rattle.sl_resource.specs.declared.deed.Deed.TheVariants.{Reads, WritesBlock, WritesLeader}
 use Rattle.sl_resource.specs.declared.deed.Deed.{Deed}
 use Rattle.sl_trace.specs.Traces.{Answered, Setting, Submitted, is_answer_for}
-use Rattle.sl_trace.specs.declared.effects.LeaseStep.TheVariants.{ReadArea}
 use Rattle.sl_trace.specs.declared.effects.LeaseStep.{LeaseStep}
 use Rattle.sl_trace.specs.declared.effects.Purpose.TheVariants.{Lease}
 use Rattle.sl_trace.specs.declared.effects.Purpose.{Purpose}
 use Rattle.sl_trace.specs.declared.effects.Work.{Work}
 use Rattle.sl_trace.specs.declared.input.Answer.TheVariants.{Failed, Read, Written}
 use Rattle.sl_trace.specs.declared.input.Answer.{Answer}
-use Rattle.std.proofs.Common.{Bool, IsTrue, List, None, Option, Some, ap, false, is_some, length, refl, subst, sym, true, [], ℕ, ◌*◌, ◌==◌, ◌||◌, ◌∙◌, ◌∷◌, ◌≡◌}
+use Rattle.std.proofs.Common.{Bool, IsTrue, List, None, Option, Some, ap, false, is_some, length, refl, subst, sym, true, [], ◌*◌, ◌==◌, ◌||◌, ◌∙◌, ◌∷◌, ◌≡◌}
 
 not_both : (o : Option Answered) → o ≡ None → IsTrue (is_some o) → ⊥
 not_both None e h = absurd cc

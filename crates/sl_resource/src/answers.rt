@@ -143,7 +143,8 @@ impl Lease {
         }
     }
 
-    /// The state after the answer.
+    /// The answer is taken, by what waits for it.
+    #[tactic(auto, unfolding(crate::specs::Updates::answered_state))]
     fn take_answer(
         &mut self,
         alloc: Global,
@@ -163,7 +164,11 @@ impl Lease {
         Ok(())
     }
 
-    /// The call that waits is answered so. Other answers than one to that call change nothing.
+    /// The newest call was answered so, and heeded if the work that it is for still went on: its job had no reply before. A read is
+    /// answered by as many bytes as it asks, or fails; a write is done, or fails. Any other answer changes nothing.
+    ///
+    /// # Errors
+    /// Want of memory for the blocks of a read; then nothing is changed.
     pub fn answered(
         &mut self,
         alloc: Global,

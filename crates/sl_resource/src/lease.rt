@@ -73,7 +73,8 @@ impl Model for Lease {
 }
 
 impl Lease {
-    /// The lease of a session on a resource's area, before its first call.
+    /// The lease of a session on a resource's area, before its first call: of the session with this id and generation, in the lockspace
+    /// of this name. The id is 1 to the run's number of hosts, the generation 1 to 2^63 - 1.
     pub fn new(alloc: Global, geometry: Geometry, lockspace: Name, me: Owner) -> Lease
         requires { IsSession geometry me }
         ensures state { result ≡ new_state geometry lockspace me }
@@ -94,7 +95,8 @@ impl Lease {
         }
     }
 
-    /// A read for this step is submitted.
+    /// A read for this step is submitted: of leader, request and all blocks, or of the blocks alone. The lease stands for the list with
+    /// that call where no other waits for its answer, and the resource's name is verified or this read is to verify it.
     pub fn reads(&mut self, step: LeaseStep)
         ensures state { self.new ≡ after_reading step self.old }
         ensures stands { (m : Submitted) (ms : List Submitted) → LeaseStands self.old ms → MayCall self.old step → m.answer ≡ None
@@ -103,7 +105,8 @@ impl Lease {
         self.waiting = Some(Deed::Reads(step));
     }
 
-    /// A write of this block is submitted, at a step that writes the own block.
+    /// A write of this block is submitted, at a step that writes the own block. From here on it is the own block, whatever comes of the
+    /// write. Instance and number of the block are 1 to 2^63 - 1.
     pub fn writes_block(&mut self, step: LeaseStep, block: Block)
         requires { IsBegun block }
         ensures state { self.new ≡ after_block step block self.old }
@@ -117,7 +120,8 @@ impl Lease {
         self.own = Some(block);
     }
 
-    /// A write of this leader is submitted, at a step that writes the leader.
+    /// A write of this leader is submitted, at a step that writes the leader. A free counts as such from here on, whatever comes of the
+    /// write. The leader's instance is below 2^63.
     pub fn writes_leader(&mut self, step: LeaseStep, leader: &Leader)
         requires { Fits leader.now.lver }
         ensures state { self.new ≡ after_leader step leader.now self.old }

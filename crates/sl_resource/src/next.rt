@@ -219,7 +219,9 @@ impl Lease {
         }
     }
 
-    /// What comes next after the answer of the newest call, which had this number, was at this step and wrote instance `lver`, if any.
+    /// What comes next after the answer of the newest call, which had this number, was at this step and wrote a block or leader of
+    /// instance `lver`, if it wrote one. The answer was told by `answered` before. What comes next can be submitted: it is a record, at a
+    /// step that writes it, and a call only where the resource's name is verified.
     pub fn next<E: Evidence>(
         &self,
         held: Held,
@@ -241,7 +243,8 @@ impl Lease {
         self.decided(held, evidence, aim, call, lver, step, answer)
     }
 
-    /// What a settling does next: what is owed first.
+    /// What a settling does next, where no call waits: an open ballot is run to its end, else a mode that is left over is cleared, else a
+    /// free that is owed is looked after. Nothing where nothing is owed.
     pub fn settle(&self, held: Held) -> LeaseNext
         ensures exact { (over : ℕ → ℕ → Bool) (ms : List Submitted) → LeaseStands self.now ms
             → result ≡ settle_next (place_of self.now)
