@@ -134,10 +134,7 @@ impl Lease {
         ensures { result ≡ option_map (λ i. i + 1) (position is_none self.now.read) }
     {
         let _hosts = self.geometry.hosts();
-        match self.torn_place() {
-            Some(before) => Some(before as u32 + 1),
-            None => None,
-        }
+        self.torn_place().map(|before| before as u32 + 1)
     }
 
     /// After the read of the area for a job that names this resource: a torn leader, other names, a torn block refuse in this order.

@@ -73,10 +73,7 @@ impl Lease {
         ensures exact { result ≡ own_or_read self.now.self.id self.now.own self.now.read }
         ensures bounds { IfSome result IsBlock }
     {
-        match self.own {
-            Some(own) => Some(own),
-            None => self.block_read(),
-        }
+        self.own.or_else(|| self.block_read())
     }
 
     /// The own block as it was last read.
@@ -127,10 +124,7 @@ impl Lease {
         ensures exact { result ≡ owed_with self.now held }
         ensures bounds { IfSome result IsInstance }
     {
-        match self.won {
-            Some(n) => free_owed(n, held.exclusive),
-            None => None,
-        }
+        self.won.and_then(|n| free_owed(n, held.exclusive))
     }
 
     /// What settling has to do first.
@@ -145,10 +139,8 @@ impl Lease {
         if self.shown && !held.shared {
             return Some(Owed::ModeOwed);
         }
-        match self.owed_free(held) {
-            Some(instance) => Some(Owed::FreeOwed { instance }),
-            None => None,
-        }
+        self.owed_free(held)
+            .map(|instance| Owed::FreeOwed { instance })
     }
 
     /// The own block without its mode is written.
