@@ -4,3 +4,4 @@ pub mod Deltas
 pub mod Values
 pub mod Areas
 pub mod Keeps
+pub mod InstanceWays
