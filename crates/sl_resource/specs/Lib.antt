@@ -1,0 +1,6 @@
+pub mod Asked
+pub mod Bounds
+pub mod Calls
+pub mod Reads
+pub mod Stands
+pub mod Updates

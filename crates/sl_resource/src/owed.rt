@@ -1,0 +1,188 @@
+//! What a lease owes, and the ballots that it begins.
+//!
+//! Work that stops halfway leaves three things on a disk. An open ballot may be ended by another host with this session as its value, so
+//! it is run to its end. A shared mode that nobody holds keeps exclusive acquires away, so it is cleared. An instance that was won and
+//! isn't held keeps everybody away, so its leader is written free. They stand in this order since the end of a ballot may make a free
+//! owed, and one free is owed at a time. A settling looks at the area before it frees: by then another host may have begun a later
+//! instance, whose leader it must not write over.
+ghost use Rattle.sl_leases.specs.LeaseWork.{begin_next, phase1_next, refuses, settle_next, settle_owed};
+ghost use Rattle.sl_leases.specs.Leases.{block_of_host, mode_gen_of, owed, owed_free, own_known, own_or_read};
+ghost use Rattle.sl_leases.specs.declared.lease.LeaseNext.TheVariants.{Nothing, WriteBlock};
+ghost use Rattle.sl_resource.specs.Asked.{gen_with, known_with, owed_with};
+ghost use Rattle.sl_resource.specs.Calls.{IsFitNext};
+ghost use Rattle.sl_resource.specs.Stands.{IsBlank, place_of};
+ghost use Rattle.sl_ballot.specs.Limits.{limited_block};
+ghost use Rattle.sl_leases.specs.Ballots.{moded_block};
+ghost use Rattle.sl_trace.specs.declared.effects.LeaseStep.TheVariants.{ClearMode};
+ghost use Rattle.sl_words.specs.Words.{choose, some_is};
+ghost use Rattle.std.specs.Option.{option_map_or};
+ghost use Rattle.sl_sector.specs.Records.{Fits};
+ghost use Rattle.std.specs.Prelude.{Bool, IfSome, None, false, not, ℕ, ◌==◌, ◌≡◌};
+
+use crate::evidence::Held;
+use crate::lease::Lease;
+use sl_ballot::{Limit, moded_block, phase1_after_read};
+use sl_leases::{Aim, LeaseNext, Owed};
+use sl_sector::Block;
+use sl_trace::{LeaseStep, Limited, Reply};
+
+/// A job is refused; a settling stops until a later wake.
+pub(crate) fn refuses(aim: Aim, reply: Reply) -> LeaseNext
+    ensures exact { result ≡ refuses aim reply }
+    ensures fit { IsFitNext result }
+{
+    match aim {
+        Aim::Acquires(_) => LeaseNext::AnswerJob(reply),
+        Aim::Releases => LeaseNext::AnswerJob(reply),
+        Aim::Settles => LeaseNext::Nothing,
+    }
+}
+
+/// The block of phase 1 in instance `n`, unless a number would pass its limit.
+fn phase1_next(aim: Aim, n: u64, block: Result<Block, Limit>) -> LeaseNext
+    ensures exact { (b : Block) → b.lver ≡ n → block ≡ limited_block b → result ≡ phase1_next aim b }
+    ensures fit { (b : Block) → b.lver ≡ n → block ≡ limited_block b → IsFitNext result }
+{
+    if n >= 1 << 63 {
+        return refuses(
+            aim,
+            Reply::Limit {
+                which: Limited::Lver,
+            },
+        );
+    }
+    match block {
+        Ok(block) => LeaseNext::WriteBlock {
+            step: LeaseStep::Phase1Write,
+            block,
+        },
+        Err(_) => refuses(
+            aim,
+            Reply::Limit {
+                which: Limited::Mbal,
+            },
+        ),
+    }
+}
+
+impl Lease {
+    /// The own block: the one last submitted, else the one last read.
+    pub(crate) fn own_known(&self) -> Option<Block>
+        ensures { result ≡ own_or_read self.now.self.id self.now.own self.now.read }
+    {
+        match self.own {
+            Some(own) => Some(own),
+            None => self.block_read(),
+        }
+    }
+
+    /// The own block as it was last read.
+    fn block_read(&self) -> Option<Block>
+        ensures { result ≡ block_of_host self.now.read self.now.self.id }
+    {
+        match self.read.get((self.me.id as usize).saturating_sub(1)) {
+            Some(block) => *block,
+            None => None,
+        }
+    }
+
+    /// The mode generation that its blocks have: the session's own where it has the shared mode, else 0.
+    pub(crate) fn mode_gen(&self, held: Held) -> u64
+        ensures { result ≡ gen_with self.now held }
+    {
+        if held.shared { self.me.generation } else { 0 }
+    }
+
+    /// A ballot in `n` begins: its number is above all that the session knows of the instance.
+    #[tactic(auto, unfolding(sl_leases::specs::LeaseWork::begin_next, sl_leases::specs::Ballots::phase1_block))]
+    pub(crate) fn begin(&self, held: Held, aim: Aim, n: u64) -> LeaseNext
+        ensures exact { (over : ℕ → ℕ → Bool) → result ≡ begin_next (place_of self.now) (known_with self.now held over) aim n }
+        ensures fit { IsFitNext result }
+    {
+        let mode_gen = self.mode_gen(held);
+        match self.own_known() {
+            None => LeaseNext::Nothing,
+            Some(own) => phase1_next(
+                aim,
+                n,
+                phase1_after_read(
+                    self.me,
+                    self.geometry.hosts(),
+                    n,
+                    held.shared,
+                    mode_gen,
+                    &own,
+                    &self.read,
+                ),
+            ),
+        }
+    }
+
+    /// The free that is owed: of the instance won last, unless it is held under it.
+    pub(crate) fn owed_free(&self, held: Held) -> Option<u64>
+        ensures exact { result ≡ owed_with self.now held }
+        ensures bounds { IfSome result Fits }
+    {
+        match self.won {
+            Some(n) => free_owed(n, held.exclusive),
+            None => None,
+        }
+    }
+
+    /// What settling has to do first.
+    fn owed(&self, held: Held) -> Option<Owed>
+        ensures exact { (over : ℕ → ℕ → Bool) → result ≡ owed (known_with self.now held over) }
+        ensures blank { IsBlank self.now → result ≡ None }
+    {
+        if let Some(instance) = self.ballot {
+            return Some(Owed::BallotOwed { instance });
+        }
+        if self.shown && !held.shared {
+            return Some(Owed::ModeOwed);
+        }
+        match self.owed_free(held) {
+            Some(instance) => Some(Owed::FreeOwed { instance }),
+            None => None,
+        }
+    }
+
+    /// The own block without its mode is written.
+    pub(crate) fn clear_mode(&self) -> LeaseNext
+        ensures exact { result ≡ option_map_or (λ own. WriteBlock ClearMode (moded_block own false 0)) self.now.own Nothing }
+        ensures fit { IsFitNext result }
+    {
+        match self.own {
+            Some(own) => LeaseNext::WriteBlock {
+                step: LeaseStep::ClearMode,
+                block: moded_block(&own, false, 0),
+            },
+            None => LeaseNext::Nothing,
+        }
+    }
+
+    /// A settling does what is owed first.
+    #[tactic(auto, unfolding(sl_leases::specs::LeaseWork::settle_next))]
+    pub(crate) fn settle_known(&self, held: Held) -> LeaseNext
+        ensures exact { (over : ℕ → ℕ → Bool) → result ≡ settle_next (place_of self.now) (known_with self.now held over) }
+        ensures blank { IsBlank self.now → result ≡ Nothing }
+        ensures fit { IsFitNext result }
+    {
+        match self.owed(held) {
+            None => LeaseNext::Nothing,
+            Some(Owed::BallotOwed { instance }) => self.begin(held, Aim::Settles, instance),
+            Some(Owed::ModeOwed) => self.clear_mode(),
+            Some(Owed::FreeOwed { instance: _ }) => LeaseNext::ReadFor(LeaseStep::ReadBeforeFree),
+        }
+    }
+}
+
+/// The free of an instance, unless it is held under that.
+fn free_owed(n: u64, exclusive: Option<u64>) -> Option<u64>
+    ensures exact { result ≡ choose (not (some_is (λ e. e == n) exclusive)) n }
+    ensures same { IfSome result (λ m. m ≡ n) }
+{
+    match exclusive {
+        Some(held) if held == n => None,
+        _ => Some(n),
+    }
+}
