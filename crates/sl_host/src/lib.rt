@@ -1,0 +1,6 @@
+//! A host of the first path: one session that it is given, one resource, and a clock that stands still.
+#![tactic(auto)]
+
+mod effects;
+mod room;
+mod site;
