@@ -2,5 +2,6 @@
 #![tactic(auto)]
 
 mod effects;
+mod phase;
 mod room;
 mod site;
