@@ -1,2 +1,4 @@
+pub mod Hosts
 pub mod Phases
 pub mod Sites
+pub mod Submits

@@ -2,6 +2,9 @@
 #![tactic(auto)]
 
 mod effects;
+mod host;
+mod own;
+mod told;
 mod phase;
 mod room;
 mod site;

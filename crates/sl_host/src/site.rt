@@ -5,17 +5,21 @@
 ghost use Rattle.sl_area.specs.Layouts.{layout_of};
 ghost use Rattle.sl_first.specs.FirstSteps.{blocks_read, first_grant, first_read, first_self, leader_write, own_write};
 ghost use Rattle.sl_host.specs.Sites.{IsLaidOut, IsSite};
-ghost use Rattle.sl_trace.specs.Commands.{IsResourceArg};
+ghost use Rattle.sl_trace.specs.Commands.{moded_word};
 ghost use Rattle.sl_trace.specs.Traces.{Setting, end_of};
 ghost use Rattle.sl_trace.specs.declared.effects.Purpose.TheVariants.{Lease};
 ghost use Rattle.sl_trace.specs.declared.effects.Work.TheVariants.{ForJob};
-ghost use Rattle.std.specs.Prelude.{ℕ, ◌≡◌};
+ghost use Rattle.std.specs.Prelude.{IfOk, ℕ, false, ◌≡◌};
 
 use sl_area::Geometry;
 use sl_sector::{Block, Leader, Owner, Rec};
 use sl_trace::{
     Call, End, Given, Grant, LeaseStep, Mode, Op, Purpose, ResourceArg, Work,
 };
+use sl_text::Name;
+use sl_text::number::push_number;
+use sl_text::write::push_joined;
+use std::alloc::{AllocError, Global};
 use std::marker::Model;
 
 /// The sizes of a run, one session and one resource.
@@ -56,18 +60,38 @@ impl Site {
         self.geometry
     }
 
-    /// The session.
-    pub(crate) fn session(&self) -> Given
-        ensures { result ≡ self.now.session }
+    /// The name of the session's lockspace.
+    pub(crate) fn lockspace(&self) -> Name
+        ensures { result ≡ self.now.session.lockspace }
     {
-        self.session
+        self.session.lockspace
     }
 
-    /// The resource.
-    pub(crate) fn resource(&self) -> ResourceArg
-        ensures { result ≡ self.now.resource }
+    /// The reading of the session's last renewal, at which the clock stands.
+    pub(crate) fn renewed(&self) -> u64
+        ensures { result ≡ self.now.session.renewed }
     {
-        self.resource
+        self.session.renewed
+    }
+
+    /// The word by which commands name the resource. An `Err` is want of memory.
+    pub(crate) fn word(&self, alloc: Global) -> Result<Vec<u8>, AllocError>
+        ensures { IfOk result (λ word. word.items ≡ moded_word self.now.resource false) }
+    {
+        let mut offset = Vec::new(alloc);
+        push_number(&mut offset, self.resource.offset)?;
+        let mut word = Vec::new(alloc);
+        push_joined(
+            &mut word,
+            b':',
+            &[
+                self.resource.lockspace.as_slice(),
+                self.resource.name.as_slice(),
+                self.resource.path.as_slice(),
+                offset.as_slice(),
+            ],
+        )?;
+        Ok(word)
     }
 
     /// The session as ballots name it: it has generation 1.

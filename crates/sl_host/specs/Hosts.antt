@@ -1,0 +1,51 @@
+-- What a host of the first path keeps, and for which traces it stands.
+use Rattle.sl_area.specs.Layouts.{layout_of}
+use Rattle.sl_first.specs.FirstPath.{IsFirst, open_kept}
+use Rattle.sl_first.specs.FirstSteps.{FirstStands, Phase as Stand, first_self, work_in}
+use Rattle.sl_first.specs.FirstWords.{first_forms}
+use Rattle.sl_host.specs.Phases.{IsPhaseOf}
+use Rattle.sl_host.specs.Sites.{IsLaidOut, SiteState}
+use Rattle.sl_host.specs.declared.phase.Phase.TheVariants.{Holds, Idle, Works}
+use Rattle.sl_host.specs.declared.phase.Phase.{Phase}
+use Rattle.sl_resource.specs.Stands.{LeaseStands, LeaseState}
+use Rattle.sl_sector.specs.Records.{Fits}
+use Rattle.sl_trace.specs.Commands.{command_in}
+use Rattle.sl_trace.specs.Traces.{Setting, Submitted, Trace}
+use Rattle.std.specs.Prelude.{List, ℕ, ◌++◌, ◌≡◌}
+
+-- What a host keeps.
+pub record HostState : Type 0 where
+  pub site : SiteState
+  -- the numbers of its next call and its next job
+  pub next_call : ℕ
+  pub next_job : ℕ
+  pub phase : Phase
+  pub lease : LeaseState
+
+-- The instances that it keeps can stand in a record.
+abbrev pub IsFitPhase : Phase → Type 0
+IsFitPhase Idle = Unit {0}
+IsFitPhase (Holds p lver) = Fits lver
+IsFitPhase (Works kept) = Fits kept.lver
+
+-- The lease is one of the site's session, in the site's sizes.
+pub record IsLeaseOf (s : SiteState) (l : LeaseState) : Type 0 where
+  pub sizes : l.sizes ≡ s.sizes
+  pub lockspace : l.lockspace ≡ s.session.lockspace
+  pub self : l.self ≡ first_self s.session
+
+-- The setting is one of the first path, has the site's sizes, and reads texts by the two forms.
+pub record IsSettingOf (st : Setting) (s : SiteState) : Type 0 where
+  pub first : IsFirst st s.session s.resource
+  pub laid : IsLaidOut st s
+  pub reads : (text : List ℕ) → st.read text ≡ command_in (first_forms s.resource) text
+
+-- A host that keeps this stands for the trace of this setting.
+pub record HostStands (h : HostState) (st : Setting) (es : Trace) : Type 0 where
+  pub setting : IsSettingOf st h.site
+  pub stand : Stand
+  pub answered : List Submitted
+  pub first : FirstStands st h.site.session h.site.resource h.next_call h.next_job stand answered es
+  pub phase : IsPhaseOf h.site.resource h.phase stand
+  pub lease_of : IsLeaseOf h.site h.lease
+  pub lease : LeaseStands h.lease (open_kept (work_in stand) ++ answered)
