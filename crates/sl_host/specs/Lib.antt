@@ -2,3 +2,4 @@ pub mod Hosts
 pub mod Phases
 pub mod Sites
 pub mod Submits
+pub mod Taken

@@ -7,12 +7,15 @@ use Rattle.sl_host.specs.declared.phase.FirstCommand.{FirstCommand}
 use Rattle.sl_host.specs.declared.phase.Phase.TheVariants.{Holds, Idle, Works}
 use Rattle.sl_host.specs.declared.phase.Phase.{Phase}
 use Rattle.sl_leases.specs.Leases.{lver_written}
+use Rattle.sl_leases.specs.declared.lease.Aim.TheVariants.{Acquires as To_acquire, Releases as To_release}
+use Rattle.sl_leases.specs.declared.lease.Aim.{Aim}
 use Rattle.sl_leases.specs.declared.lease.LeaseNext.TheVariants.{AnswerJob, GrantJob, Nothing, ReadFor, WriteBlock, WriteLeader}
 use Rattle.sl_leases.specs.declared.lease.LeaseNext.{LeaseNext}
 use Rattle.sl_trace.specs.declared.command.Command.TheVariants.{Acquire, Release}
 use Rattle.sl_trace.specs.declared.command.Command.{Command}
 use Rattle.sl_trace.specs.declared.command.ResourceArg.{ResourceArg}
 use Rattle.sl_trace.specs.declared.effects.LeaseStep.{LeaseStep}
+use Rattle.sl_trace.specs.declared.effects.Mode.TheVariants.{Exclusive}
 use Rattle.sl_trace.specs.declared.effects.Op.TheVariants.{ReadSectors, WriteRecord}
 use Rattle.sl_trace.specs.declared.effects.Op.{Op}
 use Rattle.std.specs.Prelude.{None, Option, Some, false, ℕ, ◌≡◌}
@@ -26,6 +29,11 @@ command_of r (Releases p) = Release r p
 abbrev pub process_in : FirstCommand → ℕ
 process_in (Acquires p) = p
 process_in (Releases p) = p
+
+-- To what end it works on the lease.
+abbrev pub aim_in : FirstCommand → Aim
+aim_in (Acquires p) = To_acquire Exclusive
+aim_in (Releases p) = To_release
 
 -- The sectors that a call reads, if it does.
 abbrev pub sectors_asked : Op → Option ℕ

@@ -5,6 +5,7 @@ use sl_resource::{Evidence, Held};
 use std::marker::Model;
 
 /// The id of the session, which has generation 1.
+#[derive(Drop)]
 pub(crate) struct OwnId {
     pub(crate) id: u32,
 }

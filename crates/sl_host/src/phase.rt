@@ -1,7 +1,6 @@
 //! Where a host stands: idle, holding the resource, or at work for a job.
-ghost use Rattle.sl_first.specs.FirstSteps.{first_aim, told_number};
-ghost use Rattle.sl_host.specs.Phases.{command_of, going_on, phase_after, process_in};
-ghost use Rattle.sl_trace.specs.declared.command.ResourceArg.{ResourceArg as Resource};
+ghost use Rattle.sl_first.specs.FirstSteps.{told_number};
+ghost use Rattle.sl_host.specs.Phases.{aim_in, going_on, phase_after, process_in};
 ghost use Rattle.std.specs.Prelude.{◌≡◌, ◌+◌, ◌<◌, ◌^◌};
 
 use sl_leases::{Aim, LeaseNext};
@@ -27,7 +26,7 @@ impl FirstCommand {
 
     /// To what end it works on the lease.
     pub(crate) fn aim(&self) -> Aim
-        ensures { (r : Resource) → result ≡ first_aim (command_of r self.now) }
+        ensures { result ≡ aim_in self.now }
     {
         match self {
             FirstCommand::Acquire { process: _ } => Aim::Acquires(Mode::Exclusive),

@@ -3,16 +3,21 @@ ghost use Rattle.sl_first.specs.FirstPath.{Doing as Work};
 ghost use Rattle.sl_first.specs.FirstSteps.{process_of, told_effects};
 ghost use Rattle.sl_host.specs.Sites.{IsLaidOut};
 ghost use Rattle.sl_host.specs.Submits.{IsCallOf, MayFollow, after_next};
+ghost use Rattle.sl_host.specs.Taken.{IsTaken};
+ghost use Rattle.sl_sector.specs.Records.{Fits};
 ghost use Rattle.sl_resource.specs.Calls.{IsFitNext};
 ghost use Rattle.sl_resource.specs.Stands.{LeaseStands};
 ghost use Rattle.sl_trace.specs.Traces.{Setting, Submitted};
-ghost use Rattle.std.specs.Prelude.{List, None, ◌∷◌, ◌≡◌};
+ghost use Rattle.std.specs.Prelude.{IfOk, List, None, OnErr, ◌∷◌, ◌≡◌};
 
 use crate::effects::Rooms;
+use crate::own::{NOTHING_HELD, OwnId};
+use crate::phase::Doing;
 use crate::site::Site;
 use sl_leases::LeaseNext;
 use sl_resource::Lease;
-use sl_trace::{Effects, Reply};
+use sl_trace::{Answer, Effects, Reply};
+use std::alloc::{AllocError, Global};
 
 /// What the host does for this job of this process; a call that follows has this number.
 pub(crate) fn told_effects(
@@ -57,4 +62,34 @@ pub(crate) fn submits(lease: &mut Lease, next: &LeaseNext)
         LeaseNext::AnswerJob(_) => {}
         LeaseNext::GrantJob { mode: _, lver: _ } => {}
     }
+}
+
+/// The newest call of the lease is answered so: what comes next, of which the lease is told. An `Err` is want of memory, and changes
+/// nothing.
+pub(crate) fn take_answer(
+    lease: &mut Lease,
+    alloc: Global,
+    site: &Site,
+    doing: &Doing,
+    answer: &Answer,
+) -> Result<LeaseNext, AllocError>
+    requires { Fits doing.now.lver }
+    ensures taken { IfOk result (λ next. IsTaken site.now.session doing.now answer.now lease.old lease.new next) }
+    ensures kept { OnErr result (lease.new ≡ lease.old) }
+{
+    lease.answered(alloc, answer, true)?;
+    let own = OwnId {
+        id: site.owner().id,
+    };
+    let next = lease.next(
+        NOTHING_HELD,
+        &own,
+        doing.command.aim(),
+        doing.call,
+        doing.lver,
+        doing.step,
+        answer,
+    );
+    submits(lease, &next);
+    Ok(next)
 }
