@@ -131,14 +131,14 @@ is_whole_read z step Written = true
 is_whole_read z step Failed = true
 
 -- What a lease does next can be submitted: a read at a step that reads; a block or a leader, with an instance that a record may carry,
--- at a step that writes it.
+-- at a step that writes it. A grant's instance is one that a record may carry, too.
 abbrev pub IsFitNext : LeaseNext → Type 0
 IsFitNext Nothing = Unit {0}
 IsFitNext (ReadFor step) = IsTrue (is_read_step step)
 IsFitNext (WriteBlock step b) = IsTrue (is_block_step step) × Fits b.lver
 IsFitNext (WriteLeader step l) = IsTrue (is_leader_step step) × Fits l.lver
 IsFitNext (AnswerJob r) = Unit {0}
-IsFitNext (GrantJob mode lver) = Unit {0}
+IsFitNext (GrantJob mode lver) = Fits lver
 
 -- Whether it is a call.
 abbrev pub makes_call : LeaseNext → Bool

@@ -115,7 +115,7 @@ impl Lease {
     /// The leader of `n` is taken: exclusive is granted; shared goes on with the own block's mode.
     fn after_take(&self, aim: Aim, n: u64) -> LeaseNext
         ensures exact { (h : Held) (over : ℕ → ℕ → Bool) → result ≡ after_take (known_with self.now h over) aim n }
-        ensures fit { IsFitNext result }
+        ensures fit { Fits n → IsFitNext result }
     {
         match aim {
             Aim::Acquires(Mode::Exclusive) => LeaseNext::GrantJob {
@@ -145,7 +145,7 @@ impl Lease {
     /// The leader of `n` is freed: a shared acquire is granted, a release is done, a settling goes on.
     fn after_freeing(&self, held: Held, aim: Aim, n: u64) -> LeaseNext
         ensures exact { (over : ℕ → ℕ → Bool) → result ≡ after_freeing (place_of self.now) (known_with self.now held over) aim n }
-        ensures fit { IsFitNext result }
+        ensures fit { Fits n → IsFitNext result }
     {
         match aim {
             Aim::Acquires(_) => LeaseNext::GrantJob {
