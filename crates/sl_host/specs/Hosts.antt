@@ -1,6 +1,7 @@
 -- What a host of the first path keeps, and for which traces it stands.
 use Rattle.sl_area.specs.Layouts.{layout_of}
-use Rattle.sl_first.specs.FirstPath.{IsFirst, open_kept}
+use Rattle.sl_due.specs.Due.{due}
+use Rattle.sl_first.specs.FirstPath.{IsFirst, first_entry, open_kept}
 use Rattle.sl_first.specs.FirstSteps.{FirstStands, Phase as Stand, first_self, work_in}
 use Rattle.sl_first.specs.FirstWords.{first_forms}
 use Rattle.sl_host.specs.Phases.{IsPhaseOf}
@@ -11,7 +12,9 @@ use Rattle.sl_resource.specs.Stands.{LeaseStands, LeaseState}
 use Rattle.sl_sector.specs.Records.{Fits}
 use Rattle.sl_trace.specs.Commands.{command_in}
 use Rattle.sl_trace.specs.Traces.{Setting, Submitted, Trace}
-use Rattle.std.specs.Prelude.{List, ℕ, ◌++◌, ◌≡◌}
+use Rattle.sl_trace.specs.declared.effects.Effects.{Effects}
+use Rattle.sl_trace.specs.declared.input.Input.{Input}
+use Rattle.std.specs.Prelude.{List, ℕ, ◌++◌, ◌∷◌, ◌≡◌}
 
 -- What a host keeps.
 pub record HostState : Type 0 where
@@ -49,3 +52,8 @@ pub record HostStands (h : HostState) (st : Setting) (es : Trace) : Type 0 where
   pub phase : IsPhaseOf h.site.resource h.phase stand
   pub lease_of : IsLeaseOf h.site h.lease
   pub lease : LeaseStands h.lease (open_kept (work_in stand) ++ answered)
+
+-- The effects of a step are those that are due, and the host then stands for the trace with its entry.
+pub record Steps (h after : HostState) (st : Setting) (es : Trace) (i : Input) (fx : Effects) : Type 0 where
+  pub due_is : fx ≡ due st es h.site.session.renewed i
+  pub stands : HostStands after st (first_entry h.site.session i fx ∷ es)

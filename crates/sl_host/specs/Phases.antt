@@ -1,4 +1,5 @@
 -- Where a host stands, and how it shows where the definitions say it stands.
+use Rattle.sl_area.specs.Layouts.{Sizes}
 use Rattle.sl_first.specs.FirstPath.{Doing as Work}
 use Rattle.sl_first.specs.FirstSteps.{Holds as Held_by, Idle as Resting, Phase as Stand, Works as Working}
 use Rattle.sl_host.specs.declared.phase.Doing.{Doing}
@@ -18,7 +19,9 @@ use Rattle.sl_trace.specs.declared.effects.LeaseStep.{LeaseStep}
 use Rattle.sl_trace.specs.declared.effects.Mode.TheVariants.{Exclusive}
 use Rattle.sl_trace.specs.declared.effects.Op.TheVariants.{ReadSectors, WriteRecord}
 use Rattle.sl_trace.specs.declared.effects.Op.{Op}
-use Rattle.std.specs.Prelude.{None, Option, Some, false, ℕ, ◌≡◌}
+use Rattle.sl_trace.specs.declared.input.Answer.TheVariants.{Failed, Read, Written}
+use Rattle.sl_trace.specs.declared.input.Answer.{Answer}
+use Rattle.std.specs.Prelude.{Bool, None, Option, Some, false, length, true, ℕ, ◌*◌, ◌==◌, ◌≡◌}
 
 -- The command on this resource.
 abbrev pub command_of : ResourceArg → FirstCommand → Command
@@ -39,6 +42,15 @@ aim_in (Releases p) = To_release
 abbrev pub sectors_asked : Op → Option ℕ
 sectors_asked (ReadSectors n) = Some n
 sectors_asked (WriteRecord r) = None
+
+-- Whether a call that reads these sectors, or writes, may be answered so.
+abbrev pub is_answer_by : Sizes → Option ℕ → Answer → Bool
+is_answer_by z (Some n) (Read bytes) = length bytes == n * z.sector
+is_answer_by z (Some n) Written = false
+is_answer_by z (Some n) Failed = true
+is_answer_by z None (Read bytes) = false
+is_answer_by z None Written = true
+is_answer_by z None Failed = true
 
 -- What is kept of a job at work is so of this one.
 pub record IsDoingOf (r : ResourceArg) (kept : Doing) (d : Work) : Type 0 where
