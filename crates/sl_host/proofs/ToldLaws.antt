@@ -4,7 +4,7 @@ use Rattle.sl_due.specs.Due.{due}
 use Rattle.sl_first.proofs.FirstLaws.{told_first}
 use Rattle.sl_first.specs.FirstPath.{Doing as Work, first_entry, heeded_call, open_kept}
 use Rattle.sl_first.specs.FirstSteps.{Course, FirstStands, Freeing, Holds as Held_by, Idle as Resting, OnCourse, Phase as Stand, Reading_area, Reading_phase1, Reading_phase2, Taking, ToldFirst, Works as Working, Writing_phase1, Writing_phase2, blocks_read, first_aim, first_next, first_over, first_self, goes_on_with, leader_write, own_write, process_of, told_effects, told_number, told_phase, work_in}
-use Rattle.sl_host.specs.Hosts.{HostStands, HostState, IsLeaseOf, IsSettingOf, Steps}
+use Rattle.sl_host.specs.Hosts.{HostStands, HostState, IsFitPhase, IsLeaseOf, IsSettingOf, Steps}
 use Rattle.sl_host.specs.Phases.{IsDoingOf, IsPhaseOf, aim_in, command_of, is_answer_by, phase_after, process_in, sectors_asked}
 use Rattle.sl_host.specs.Sites.{IsLaidOut, SiteState}
 use Rattle.sl_host.specs.Submits.{IsCallOf}
@@ -13,11 +13,12 @@ use Rattle.sl_host.specs.declared.phase.Doing.{Doing}
 use Rattle.sl_host.specs.declared.phase.FirstCommand.TheVariants.{Acquire as Acquires, Release as Releases}
 use Rattle.sl_host.specs.declared.phase.FirstCommand.{FirstCommand}
 use Rattle.sl_host.specs.declared.phase.Phase.TheVariants.{Works}
+use Rattle.sl_host.specs.declared.phase.Phase.{Phase}
 use Rattle.sl_leases.specs.LeaseWork.{lease_next}
 use Rattle.sl_leases.specs.Leases.{known_of, lver_written}
 use Rattle.sl_leases.specs.declared.lease.LeaseNext.TheVariants.{AnswerJob, GrantJob, Nothing, ReadFor, WriteBlock, WriteLeader}
 use Rattle.sl_leases.specs.declared.lease.LeaseNext.{LeaseNext}
-use Rattle.sl_resource.specs.Calls.{IsReading, is_read_step, is_whole_read, sectors_for}
+use Rattle.sl_resource.specs.Calls.{IsFitNext, IsReading, is_read_step, is_whole_read, sectors_for}
 use Rattle.sl_resource.specs.Stands.{LeaseStands, LeaseState}
 use Rattle.sl_trace.specs.Traces.{Answered, Setting, Submitted, Trace, is_answer_for, new_call}
 use Rattle.sl_trace.specs.declared.command.Command.{Command}
@@ -34,7 +35,7 @@ use Rattle.sl_trace.specs.declared.input.Answer.{Answer}
 use Rattle.sl_trace.specs.declared.input.Given.{Given}
 use Rattle.sl_trace.specs.declared.input.Input.TheVariants.{Answer as Told}
 use Rattle.sl_words.proofs.CaseLaws.{false_is_true, none_some, some_value}
-use Rattle.std.proofs.Common.{Bool, IsTrue, List, None, Option, Some, ap, false, refl, subst, sym, true, [], length, ℕ, ◌+◌, ◌++◌, ◌*◌, ◌==◌, ◌∙◌, ◌∷◌, ◌≡◌}
+use Rattle.std.proofs.Common.{Bool, IsTrue, List, None, Option, Some, ap, arith, false, refl, subst, sym, true, [], length, ℕ, ◌+◌, ◌++◌, ◌*◌, ◌==◌, ◌∙◌, ◌∷◌, ◌≡◌}
 
 -- ---- what steps read
 
@@ -198,3 +199,54 @@ core s call job kept d answered st es a before after next fx setting first k is 
         lease = lease_of_next st s.session s.resource call es kept d a before after answered x laid next t newest told.stands.course;
       };
     }
+
+-- By where the host stands.
+by_stand : (s : SiteState) (call job : ℕ) (kept : Doing) (stand : Stand) (answered : List Submitted) (st : Setting) (es : Trace) (a : Answer) (before after : LeaseState) (next : LeaseNext) (fx : Effects)
+    → IsSettingOf st s → FirstStands st s.session s.resource call job stand answered es → IsPhaseOf s.resource (Works kept) stand
+    → IsLeaseOf s before → LeaseStands before (open_kept (work_in stand) ++ answered) → is_answer_by s.sizes kept.sectors a ≡ true → IsTaken s.session kept a before after next
+    → ((d : Work) → d.job.number ≡ kept.job → process_of d.command ≡ process_in kept.command → fx ≡ told_effects st s.session s.resource call d next)
+    → Steps (record { site = s; next_call = call; next_job = job; phase = Works kept; lease = before })
+    (record { site = s; next_call = told_number call next; next_job = job; phase = phase_after s.sizes.hosts kept call next; lease = after }) st es (Told kept.call a) fx
+by_stand s call job kept Resting answered st es a before after next fx setting first phase is lease fits t effects = absurd phase
+by_stand s call job kept (Held_by p lver) answered st es a before after next fx setting first phase is lease fits t effects = absurd phase
+by_stand s call job kept (Working d) answered st es a before after next fx setting first phase is lease fits t effects =
+    core s call job kept d answered st es a before after next fx setting first phase is lease fits t (effects d phase.job (process_kept s.resource kept d phase))
+
+pub told_steps : (h : HostState) (kept : Doing) (st : Setting) (es : Trace) (a : Answer) (after : LeaseState) (next : LeaseNext) (fx : Effects)
+    → h.phase ≡ Works kept → HostStands h st es → is_answer_by h.site.sizes kept.sectors a ≡ true → IsTaken h.site.session kept a h.lease after next
+    → ((v : Setting) (d : Work) → IsLaidOut v h.site → d.job.number ≡ kept.job → process_of d.command ≡ process_in kept.command → fx ≡ told_effects v h.site.session h.site.resource h.next_call d next)
+    → Steps h (record { site = h.site; next_call = told_number h.next_call next; next_job = h.next_job; phase = phase_after h.site.sizes.hosts kept h.next_call next; lease = after }) st es (Told kept.call a) fx
+told_steps h kept st es a after next fx works k fits t effects =
+    let s = by_stand h.site h.next_call h.next_job kept k.stand k.answered st es a h.lease after next fx k.setting k.first (subst (λ p. IsPhaseOf h.site.resource p k.stand) works k.phase)
+          k.lease_of k.lease fits t (λ d job process. effects st d k.setting.laid job process) in
+    record { due_is = s.due_is; stands = s.stands }
+
+-- What it keeps can stand in a record.
+pub fit_after : (hosts : ℕ) (kept : Doing) (call : ℕ) (next : LeaseNext) → IsFitNext next → IsFitPhase (phase_after hosts kept call next)
+fit_after hosts kept call Nothing fit = tt
+fit_after hosts kept call (ReadFor step) fit = omega arith
+fit_after hosts kept call (WriteBlock step b) fit = fit.1
+fit_after hosts kept call (WriteLeader step l) fit = fit.1
+fit_after hosts kept call (AnswerJob why) fit = tt
+fit_after hosts kept call (GrantJob mode lver) fit = fit
+
+-- The same, for a host of these parts.
+pub told_made : (h inside : HostState) (kept : Doing) (a : Answer) (after : LeaseState) (next : LeaseNext) (hosts number process : ℕ) (phase : Phase) (fx : Effects)
+    → h ≡ inside → h.phase ≡ Works kept → IsTaken inside.site.session kept a inside.lease after next
+    → hosts ≡ inside.site.sizes.hosts → phase ≡ phase_after hosts kept inside.next_call next → number ≡ told_number inside.next_call next → process ≡ process_in kept.command
+    → ((v : Setting) (d : Work) → IsLaidOut v inside.site → d.job.number ≡ kept.job → process_of d.command ≡ process
+    → fx ≡ told_effects v inside.site.session inside.site.resource inside.next_call d next)
+    → (st : Setting) (es : Trace) → HostStands h st es → is_answer_by h.site.sizes kept.sectors a ≡ true
+    → Steps h (record { site = inside.site; next_call = number; next_job = inside.next_job; phase = phase; lease = after }) st es (Told kept.call a) fx
+told_made h inside kept a after next hosts number process phase fx is works t hosts_are phase_is number_is process_is effects st es k fits =
+    subst (λ x. Steps x (record { site = inside.site; next_call = number; next_job = inside.next_job; phase = phase; lease = after }) st es (Told kept.call a) fx) (sym is)
+    (subst (λ x. Steps inside x st es (Told kept.call a) fx)
+        (λ i. record {
+          site = inside.site;
+          next_call = sym number_is i;
+          next_job = inside.next_job;
+          phase = sym (phase_is ∙ ap (λ n. phase_after n kept inside.next_call next) hosts_are) i;
+          lease = after;
+        })
+        (told_steps inside kept st es a after next fx (ap (λ x. x.phase) (sym is) ∙ works) (subst (λ x. HostStands x st es) is k) (subst (λ x. is_answer_by x.site.sizes kept.sectors a ≡ true) is fits) t
+        (λ v d laid job of_process. effects v d laid job (of_process ∙ sym process_is))))

@@ -60,21 +60,21 @@ pub enum Phase {
 
 impl Doing {
     /// The job goes on with this call at this step.
-    fn going_on(self, step: LeaseStep, call: u64, lver: u64, sectors: Option<u32>) -> Phase
-        ensures { result ≡ going_on self step call lver sectors }
+    fn going_on(&self, step: LeaseStep, call: u64, lver: u64, sectors: Option<u32>) -> Phase
+        ensures { result ≡ going_on self.now step call lver sectors }
     {
         Phase::Works(Doing {
             step,
             call,
             lver,
             sectors,
-            ..self
+            ..*self
         })
     }
 
     /// Where the host stands after an answer, by what comes next for the lease; a call that follows has this number.
-    pub(crate) fn phase_after(self, hosts: u32, call: u64, next: &LeaseNext) -> Phase
-        ensures { result ≡ phase_after hosts self call next.now }
+    pub(crate) fn phase_after(&self, hosts: u32, call: u64, next: &LeaseNext) -> Phase
+        ensures { result ≡ phase_after hosts self.now call next.now }
     {
         match next {
             LeaseNext::Nothing => Phase::Idle,
