@@ -7,5 +7,6 @@ mod host;
 mod own;
 mod told;
 mod phase;
+mod reading;
 mod room;
 mod site;
