@@ -1,3 +1,4 @@
+pub mod LineSteps
 pub mod ReadingLaws
 pub mod TakeLaws
 pub mod ToldLaws

@@ -62,7 +62,7 @@ of_waiting : (w : Option Deed) (a : Answer) (heeded : Bool) (s : LeaseState) →
 of_waiting None a heeded s = same s
 of_waiting (Some d) a heeded s = of_choice d a heeded s (is_answer_to s.sizes d a)
 
-of_next : (next : LeaseNext) (s : LeaseState) → IsOneLease s (after_next next s)
+pub of_next : (next : LeaseNext) (s : LeaseState) → IsOneLease s (after_next next s)
 of_next Nothing s = same s
 of_next (ReadFor step) s = record { sizes = refl; lockspace = refl; self = refl }
 of_next (WriteBlock step b) s = record { sizes = refl; lockspace = refl; self = refl }

@@ -5,7 +5,7 @@ use Rattle.sl_first.specs.FirstPath.{IsFirst, first_entry, open_kept}
 use Rattle.sl_first.specs.FirstSteps.{FirstStands, Phase as Stand, first_self, work_in}
 use Rattle.sl_first.specs.FirstWords.{first_forms}
 use Rattle.sl_host.specs.Phases.{IsPhaseOf}
-use Rattle.sl_host.specs.Sites.{IsLaidOut, SiteState}
+use Rattle.sl_host.specs.Sites.{IsLaidOut, IsSite, SiteState}
 use Rattle.sl_host.specs.declared.phase.Phase.TheVariants.{Holds, Idle, Works}
 use Rattle.sl_host.specs.declared.phase.Phase.{Phase}
 use Rattle.sl_resource.specs.Stands.{LeaseStands, LeaseState}
@@ -14,7 +14,9 @@ use Rattle.sl_trace.specs.Commands.{command_in}
 use Rattle.sl_trace.specs.Traces.{Setting, Submitted, Trace}
 use Rattle.sl_trace.specs.declared.effects.Effects.{Effects}
 use Rattle.sl_trace.specs.declared.input.Input.{Input}
-use Rattle.std.specs.Prelude.{List, ℕ, ◌++◌, ◌∷◌, ◌≡◌}
+use Rattle.sl_host.specs.declared.phase.FirstCommand.{FirstCommand}
+use Rattle.sl_trace.specs.declared.effects.LeaseStep.{LeaseStep}
+use Rattle.std.specs.Prelude.{List, Option, ℕ, ◌+◌, ◌++◌, ◌∷◌, ◌≡◌}
 
 -- What a host keeps.
 pub record HostState : Type 0 where
@@ -45,6 +47,7 @@ pub record IsSettingOf (st : Setting) (s : SiteState) : Type 0 where
 
 -- A host that keeps this stands for the trace of this setting.
 pub record HostStands (h : HostState) (st : Setting) (es : Trace) : Type 0 where
+  pub site : IsSite h.site
   pub setting : IsSettingOf st h.site
   pub stand : Stand
   pub answered : List Submitted
@@ -52,6 +55,14 @@ pub record HostStands (h : HostState) (st : Setting) (es : Trace) : Type 0 where
   pub phase : IsPhaseOf h.site.resource h.phase stand
   pub lease_of : IsLeaseOf h.site h.lease
   pub lease : LeaseStands h.lease (open_kept (work_in stand) ++ answered)
+
+-- The host after the next line's job went to work with the next call.
+abbrev pub begun : FirstCommand → LeaseStep → ℕ → Option ℕ → HostState → HostState
+begun command step lver sectors h = record h {
+  next_call = h.next_call + 1;
+  next_job = h.next_job + 1;
+  phase = Works (record { job = h.next_job; command = command; step = step; call = h.next_call; lver = lver; sectors = sectors });
+}
 
 -- The effects of a step are those that are due, and the host then stands for the trace with its entry.
 pub record Steps (h after : HostState) (st : Setting) (es : Trace) (i : Input) (fx : Effects) : Type 0 where

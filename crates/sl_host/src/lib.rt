@@ -4,6 +4,7 @@
 mod answers;
 mod effects;
 mod host;
+mod lines;
 mod own;
 mod told;
 mod phase;

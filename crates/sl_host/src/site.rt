@@ -4,9 +4,10 @@
 //! wraps.
 ghost use Rattle.sl_area.specs.Layouts.{layout_of};
 ghost use Rattle.sl_first.specs.FirstSteps.{blocks_read, first_grant, first_read, first_self, leader_write, own_write};
-ghost use Rattle.sl_host.specs.Sites.{IsLaidOut, IsSite};
+ghost use Rattle.sl_host.specs.Sites.{IsLaidOut, IsSite, freed_leader};
 ghost use Rattle.sl_trace.specs.Commands.{moded_word};
 ghost use Rattle.sl_trace.specs.Traces.{Setting, end_of};
+ghost use Rattle.sl_trace.specs.declared.effects.LeaseStep.TheVariants.{ReadArea};
 ghost use Rattle.sl_trace.specs.declared.effects.Purpose.TheVariants.{Lease};
 ghost use Rattle.sl_trace.specs.declared.effects.Work.TheVariants.{ForJob};
 ghost use Rattle.std.specs.Prelude.{IfOk, ℕ, false, ◌≡◌};
@@ -111,7 +112,7 @@ impl Site {
         Call {
             number,
             session: 0,
-            purpose: for_job(job, LeaseStep::ReadArea { resource: self.resource.name }),
+            purpose: for_job(job, self.first_step()),
             path: self.resource.path,
             offset: self.resource.offset,
             op: Op::ReadSectors {
@@ -165,6 +166,30 @@ impl Site {
             op: Op::WriteRecord {
                 record: Rec::LeaderIs(leader),
             },
+        }
+    }
+
+    /// The leader that a release writes: of this instance, and free.
+    pub(crate) fn freed_leader(&self, lver: u64) -> Leader
+        ensures { result ≡ freed_leader self.now lver }
+    {
+        Leader {
+            held: false,
+            num_hosts: self.geometry.hosts(),
+            lver,
+            generation: 1,
+            owner: self.session.id,
+            lockspace: self.session.lockspace,
+            resource: self.resource.name,
+        }
+    }
+
+    /// The step with which an acquire begins.
+    pub(crate) fn first_step(&self) -> LeaseStep
+        ensures { result ≡ ReadArea self.now.resource.name }
+    {
+        LeaseStep::ReadArea {
+            resource: self.resource.name,
         }
     }
 
