@@ -62,7 +62,7 @@ course_asks st g r z ms c step op laid (Reading_phase2 p b named own) = ap (λ l
 course_asks st g r z ms c step op laid (Taking p l named) = refl
 course_asks st g r z ms c step op laid (Freeing p l named) = refl
 
-answer_by : (st : Setting) (z : Sizes) (op : Op) (a : Answer) → st.layout ≡ layout_of z → is_answer_for st a op ≡ is_answer_by z (sectors_asked op) a
+pub answer_by : (st : Setting) (z : Sizes) (op : Op) (a : Answer) → st.layout ≡ layout_of z → is_answer_for st a op ≡ is_answer_by z (sectors_asked op) a
 answer_by st z (ReadSectors n) (Read bytes) laid = ap (λ l. length bytes == n * l.sector) laid
 answer_by st z (ReadSectors n) Written laid = refl
 answer_by st z (ReadSectors n) Failed laid = refl

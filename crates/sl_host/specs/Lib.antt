@@ -1,3 +1,4 @@
+pub mod Expected
 pub mod Hosts
 pub mod Phases
 pub mod Readings

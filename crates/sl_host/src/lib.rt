@@ -6,6 +6,7 @@ mod effects;
 mod host;
 mod lines;
 mod own;
+mod step;
 mod told;
 mod phase;
 mod reading;
