@@ -20,6 +20,7 @@ use Rattle.sl_words.proofs.WordLaws.{and_true}
 use Rattle.std.proofs.Common.{Bool, IsTrue, List, None, Option, Some, ap, false, refl, subst, sym, true, [], ℕ, ◌==◌, ◌&&◌, ◌||◌, ◌∙◌, ◌∷◌, ◌≡◌}
 use Rattle.std.proofs.lemmas.Bool.{eqb-true}
 use Rattle.std.specs.List.{list_any}
+use Rattle.std.specs.Prelude.{Err, IfOk, Ok, Result}
 
 or_none : (b : Bool) → (b || false) ≡ b
 or_none true = refl
@@ -57,3 +58,20 @@ step_at h after st es now i fx reading s =
       due_is = s.due_is ∙ ap (λ t. due st es t i) (sym reading);
       stands = subst (λ t. HostStands after st (record { reading = t; input = i; effects = fx } ∷ es)) (sym reading) s.stands;
     }
+
+-- Where there is memory for it.
+pub step_ok : {E : Type 0} (h after : HostState) (now : ℕ) (i j : Input) (r : Result Effects E) → now ≡ h.site.session.renewed → i ≡ j
+    → IfOk r (λ fx. (st : Setting) (es : Trace) → HostStands h st es → Steps h after st es j fx)
+    → IfOk r (λ fx. (st : Setting) (es : Trace) → HostStands h st es → StepsAt h after st es now i fx)
+step_ok h after now i j (Ok fx) reading is steps = λ st es k. step_at h after st es now i fx reading (subst (λ x. Steps h after st es x fx) (sym is) (steps st es k))
+step_ok h after now i j (Err e) reading is steps = tt
+
+-- The answer is the one to the job's call.
+pub told_ok : {E : Type 0} (h after : HostState) (kept : Doing) (call : ℕ) (a : Answer) (r : Result Effects E) → h.phase ≡ Works kept
+    → is_awaited h.site.sizes h.phase call a ≡ true
+    → IfOk r (λ fx. (st : Setting) (es : Trace) → HostStands h st es → is_answer_by h.site.sizes kept.sectors a ≡ true → Steps h after st es (Told kept.call a) fx)
+    → IfOk r (λ fx. (st : Setting) (es : Trace) → HostStands h st es → Steps h after st es (Told call a) fx)
+told_ok h after kept call a (Ok fx) works waits steps = λ st es k.
+    let both = and_true (kept.call == call) (is_answer_by h.site.sizes kept.sectors a) (subst (λ p. is_awaited h.site.sizes p call a ≡ true) works waits) in
+    subst (λ n. Steps h after st es (Told n a) fx) (eqb-true kept.call call both.0) (steps st es k both.1)
+told_ok h after kept call a (Err e) works waits steps = tt

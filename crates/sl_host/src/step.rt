@@ -1,7 +1,7 @@
 //! What a host does by what comes to it.
 ghost use Rattle.sl_area.specs.Layouts.{layout_of};
 ghost use Rattle.sl_host.specs.Expected.{StepsAt, expects, is_awaited};
-ghost use Rattle.sl_host.specs.Hosts.{HostStands};
+ghost use Rattle.sl_host.specs.Hosts.{HostStands, Steps};
 ghost use Rattle.sl_host.specs.Phases.{is_answer_by};
 ghost use Rattle.sl_trace.specs.Traces.{Setting, Trace, is_expected};
 ghost use Rattle.sl_trace.specs.declared.input.Answer.{Answer as Reading};
@@ -64,6 +64,43 @@ impl Host {
             Input::Wake => false,
             Input::Exit { process: _ } => false,
             Input::Spawned { process: _, ok: _ } => false,
+        }
+    }
+
+    /// The answer to the call of the job at work. An `Err` is want of memory, and changes nothing.
+    fn answered(&mut self, call: u64, answer: &Answer) -> Result<Effects, AllocError>
+        requires awaited { IsTrue (is_awaited self.old.site.sizes self.old.phase call answer.now) }
+        requires room { self.old.next_call < 2 ^ 63 }
+        ensures steps { IfOk result (λ fx. (st : Setting) (es : Trace) → HostStands self.old st es → Steps self.old self.new st es (Told call answer.now) fx) }
+        ensures kept { OnErr result (self.new ≡ self.old) }
+    {
+        match self.phase {
+            Phase::Idle => unreachable!(),
+            Phase::Holds {
+                process: _,
+                lver: _,
+            } => unreachable!(),
+            Phase::Works(doing) => self.told(&doing, answer),
+        }
+    }
+
+    /// What the host does when this comes to it: the ends, grants, replies and calls that are due, of which the last are submitted by
+    /// now. `now` is the reading at which the session was renewed, since the clock stands still. The input is a line, or an answer that
+    /// the host expects, and the next call and the next job have numbers below 2^63. An `Err` is want of memory, and changes nothing.
+    pub fn step(&mut self, now: u64, input: Input) -> Result<Effects, AllocError>
+        requires reading { now ≡ self.old.site.session.renewed }
+        requires expected { IsTrue (expects self.old input) }
+        requires call { self.old.next_call < 2 ^ 63 }
+        requires job { self.old.next_job < 2 ^ 63 }
+        ensures steps { IfOk result (λ fx. (st : Setting) (es : Trace) → HostStands self.old st es → StepsAt self.old self.new st es now input fx) }
+        ensures kept { OnErr result (self.new ≡ self.old) }
+    {
+        match input {
+            Input::Line(text) => self.line(text.as_slice()),
+            Input::Answer { call, answer } => self.answered(call, &answer),
+            Input::Wake => unreachable!(),
+            Input::Exit { process: _ } => unreachable!(),
+            Input::Spawned { process: _, ok: _ } => unreachable!(),
         }
     }
 }
