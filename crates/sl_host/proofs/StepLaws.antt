@@ -1,4 +1,5 @@
 -- What may come, and what the host does then.
+use Rattle.sl_area.specs.Layouts.{Sizes}
 use Rattle.sl_due.specs.Due.{due}
 use Rattle.sl_first.proofs.Stillness.{open_first}
 use Rattle.sl_first.specs.FirstPath.{open_kept}
@@ -69,9 +70,12 @@ step_ok h after now i j (Err e) reading is steps = tt
 -- The answer is the one to the job's call.
 pub told_ok : {E : Type 0} (h after : HostState) (kept : Doing) (call : ℕ) (a : Answer) (r : Result Effects E) → h.phase ≡ Works kept
     → is_awaited h.site.sizes h.phase call a ≡ true
-    → IfOk r (λ fx. (st : Setting) (es : Trace) → HostStands h st es → is_answer_by h.site.sizes kept.sectors a ≡ true → Steps h after st es (Told kept.call a) fx)
+    → IfOk r (λ fx. (st : Setting) (es : Trace) → HostStands h st es → Steps h after st es (Told kept.call a) fx)
     → IfOk r (λ fx. (st : Setting) (es : Trace) → HostStands h st es → Steps h after st es (Told call a) fx)
 told_ok h after kept call a (Ok fx) works waits steps = λ st es k.
     let both = and_true (kept.call == call) (is_answer_by h.site.sizes kept.sectors a) (subst (λ p. is_awaited h.site.sizes p call a ≡ true) works waits) in
-    subst (λ n. Steps h after st es (Told n a) fx) (eqb-true kept.call call both.0) (steps st es k both.1)
+    subst (λ n. Steps h after st es (Told n a) fx) (eqb-true kept.call call both.0) (steps st es k)
 told_ok h after kept call a (Err e) works waits steps = tt
+
+pub awaited_fits : (z : Sizes) (kept : Doing) (call : ℕ) (a : Answer) (phase : Phase) → phase ≡ Works kept → is_awaited z phase call a ≡ true → is_answer_by z kept.sectors a ≡ true
+awaited_fits z kept call a phase works waits = (and_true (kept.call == call) (is_answer_by z kept.sectors a) (subst (λ p. is_awaited z p call a ≡ true) works waits)).1

@@ -119,6 +119,7 @@ pub taken : (g : Given) (kept : Doing) (a : Answer) (s u t : LeaseState) (aim : 
     → t ≡ after_next next u
     → ((n : Submitted) (ms : List Submitted) → LeaseStands u ms → MayFollow u next → n.answer ≡ None → IsCallOf u.sizes next n → LeaseStands t (n ∷ ms))
     → IsTaken g kept a s t next
+unfolding answered_state
 taken g kept a s u t aim own next state told aimed owned decides named fit after follows =
     let one : IsOneLease s u = subst (λ v. IsOneLease s v) (sym state) (of_waiting s.waiting a true s) in
     let last : IsOneLease u t = subst (λ v. IsOneLease u v) (sym after) (of_next next u) in

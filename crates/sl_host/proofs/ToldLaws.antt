@@ -18,6 +18,7 @@ use Rattle.sl_leases.specs.LeaseWork.{lease_next}
 use Rattle.sl_leases.specs.Leases.{known_of, lver_written}
 use Rattle.sl_leases.specs.declared.lease.LeaseNext.TheVariants.{AnswerJob, GrantJob, Nothing, ReadFor, WriteBlock, WriteLeader}
 use Rattle.sl_leases.specs.declared.lease.LeaseNext.{LeaseNext}
+use Rattle.sl_resource.specs.Bounds.{IsInstance}
 use Rattle.sl_resource.specs.Calls.{IsFitNext, IsReading, is_read_step, is_whole_read, sectors_for}
 use Rattle.sl_resource.specs.Stands.{LeaseStands, LeaseState}
 use Rattle.sl_trace.specs.Traces.{Answered, Setting, Submitted, Trace, is_answer_for, new_call}
@@ -225,9 +226,9 @@ told_steps h kept st es a after next fx works k fits t effects =
 -- What it keeps can stand in a record.
 pub fit_after : (hosts : ℕ) (kept : Doing) (call : ℕ) (next : LeaseNext) → IsFitNext next → IsFitPhase (phase_after hosts kept call next)
 fit_after hosts kept call Nothing fit = tt
-fit_after hosts kept call (ReadFor step) fit = omega arith
-fit_after hosts kept call (WriteBlock step b) fit = fit.1
-fit_after hosts kept call (WriteLeader step l) fit = fit.1
+fit_after hosts kept call (ReadFor step) fit = λ e. absurd (none_some hosts (sym e))
+fit_after hosts kept call (WriteBlock step b) fit = λ e. (fit.1.begun.0, fit.1.block.lver)
+fit_after hosts kept call (WriteLeader step l) fit = λ e. fit.1.lver
 fit_after hosts kept call (AnswerJob why) fit = tt
 fit_after hosts kept call (GrantJob mode lver) fit = fit
 
@@ -237,9 +238,9 @@ pub told_made : (h inside : HostState) (kept : Doing) (a : Answer) (after : Leas
     → hosts ≡ inside.site.sizes.hosts → phase ≡ phase_after hosts kept inside.next_call next → number ≡ told_number inside.next_call next → process ≡ process_in kept.command
     → ((v : Setting) (d : Work) → IsLaidOut v inside.site → d.job.number ≡ kept.job → process_of d.command ≡ process
     → fx ≡ told_effects v inside.site.session inside.site.resource inside.next_call d next)
-    → (st : Setting) (es : Trace) → HostStands h st es → is_answer_by h.site.sizes kept.sectors a ≡ true
+    → is_answer_by h.site.sizes kept.sectors a ≡ true → (st : Setting) (es : Trace) → HostStands h st es
     → Steps h (record { site = inside.site; next_call = number; next_job = inside.next_job; phase = phase; lease = after }) st es (Told kept.call a) fx
-told_made h inside kept a after next hosts number process phase fx is works t hosts_are phase_is number_is process_is effects st es k fits =
+told_made h inside kept a after next hosts number process phase fx is works t hosts_are phase_is number_is process_is effects fits st es k =
     subst (λ x. Steps x (record { site = inside.site; next_call = number; next_job = inside.next_job; phase = phase; lease = after }) st es (Told kept.call a) fx) (sym is)
     (subst (λ x. Steps inside x st es (Told kept.call a) fx)
         (λ i. record {
@@ -251,3 +252,8 @@ told_made h inside kept a after next hosts number process phase fx is works t ho
         })
         (told_steps inside kept st es a after next fx (ap (λ x. x.phase) (sym is) ∙ works) (subst (λ x. HostStands x st es) is k) (subst (λ x. is_answer_by x.site.sizes kept.sectors a ≡ true) is fits) t
         (λ v d laid job of_process. effects v d laid job (of_process ∙ sym process_is))))
+
+-- What a call writes that is done.
+pub written_fits : (z : Sizes) (sectors : Option ℕ) (lver : ℕ) (a : Answer) → is_answer_by z sectors a ≡ true → (sectors ≡ None → IsInstance lver) → a ≡ Written → IsInstance lver
+written_fits z None lver a fits keeps e = keeps refl
+written_fits z (Some n) lver a fits keeps e = absurd (false_is_true (subst (λ x. is_answer_by z (Some n) x ≡ true) e fits))

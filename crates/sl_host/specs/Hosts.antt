@@ -8,15 +8,15 @@ use Rattle.sl_host.specs.Phases.{IsPhaseOf}
 use Rattle.sl_host.specs.Sites.{IsLaidOut, IsSite, SiteState}
 use Rattle.sl_host.specs.declared.phase.Phase.TheVariants.{Holds, Idle, Works}
 use Rattle.sl_host.specs.declared.phase.Phase.{Phase}
+use Rattle.sl_resource.specs.Bounds.{IsInstance}
 use Rattle.sl_resource.specs.Stands.{LeaseStands, LeaseState}
-use Rattle.sl_sector.specs.Records.{Fits}
 use Rattle.sl_trace.specs.Commands.{command_in}
 use Rattle.sl_trace.specs.Traces.{Setting, Submitted, Trace}
 use Rattle.sl_trace.specs.declared.effects.Effects.{Effects}
 use Rattle.sl_trace.specs.declared.input.Input.{Input}
 use Rattle.sl_host.specs.declared.phase.FirstCommand.{FirstCommand}
 use Rattle.sl_trace.specs.declared.effects.LeaseStep.{LeaseStep}
-use Rattle.std.specs.Prelude.{List, Option, ℕ, ◌+◌, ◌++◌, ◌∷◌, ◌≡◌}
+use Rattle.std.specs.Prelude.{List, None, Option, ℕ, ◌+◌, ◌++◌, ◌∷◌, ◌≡◌}
 
 -- What a host keeps.
 pub record HostState : Type 0 where
@@ -27,11 +27,11 @@ pub record HostState : Type 0 where
   pub phase : Phase
   pub lease : LeaseState
 
--- The instances that it keeps can stand in a record.
+-- The instances that it keeps are ones that may be granted: the one that is held, and the one that a call writes.
 abbrev pub IsFitPhase : Phase → Type 0
 IsFitPhase Idle = Unit {0}
-IsFitPhase (Holds p lver) = Fits lver
-IsFitPhase (Works kept) = Fits kept.lver
+IsFitPhase (Holds p lver) = IsInstance lver
+IsFitPhase (Works kept) = kept.sectors ≡ None → IsInstance kept.lver
 
 -- The lease is one of the site's session, in the site's sizes.
 pub record IsLeaseOf (s : SiteState) (l : LeaseState) : Type 0 where

@@ -4,7 +4,7 @@ ghost use Rattle.sl_host.specs.Phases.{is_answer_by};
 ghost use Rattle.sl_host.specs.declared.phase.Phase.TheVariants.{Works};
 ghost use Rattle.sl_trace.specs.Traces.{Setting, Trace};
 ghost use Rattle.sl_trace.specs.declared.input.Input.TheVariants.{Answer as Told};
-ghost use Rattle.std.specs.Prelude.{IfOk, OnErr, true, ◌<◌, ◌^◌, ◌≡◌};
+ghost use Rattle.std.specs.Prelude.{IfOk, IsTrue, OnErr, ◌<◌, ◌^◌, ◌≡◌};
 
 use crate::effects::Rooms;
 use crate::host::Host;
@@ -17,9 +17,10 @@ impl Host {
     /// The call of the job at work is answered so. An `Err` is want of memory, and changes nothing.
     pub(crate) fn told(&mut self, doing: &Doing, answer: &Answer) -> Result<Effects, AllocError>
         requires works { self.old.phase ≡ Works doing.now }
+        requires fits { IsTrue (is_answer_by self.old.site.sizes doing.now.sectors answer.now) }
         requires room { self.old.next_call < 2 ^ 63 }
         ensures steps { IfOk result (λ fx. (st : Setting) (es : Trace) → HostStands self.old st es
-            → is_answer_by self.old.site.sizes doing.now.sectors answer.now ≡ true → Steps self.old self.new st es (Told doing.now.call answer.now) fx) }
+            → Steps self.old self.new st es (Told doing.now.call answer.now) fx) }
         ensures kept { OnErr result (self.new ≡ self.old) }
     {
         let rooms = Rooms::new(self.alloc)?;

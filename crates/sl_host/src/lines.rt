@@ -7,11 +7,11 @@ ghost use Rattle.sl_host.specs.Sites.{freed_leader};
 ghost use Rattle.sl_trace.specs.declared.effects.LeaseStep.TheVariants.{FreeLeader};
 ghost use Rattle.sl_host.specs.Hosts.{HostStands, Steps, begun};
 ghost use Rattle.sl_host.specs.declared.phase.Phase.TheVariants.{Holds, Idle};
-ghost use Rattle.sl_sector.specs.Records.{Fits};
+ghost use Rattle.sl_resource.specs.Bounds.{IsInstance};
 ghost use Rattle.sl_trace.specs.Traces.{Setting, Trace};
 ghost use Rattle.sl_trace.specs.declared.command.Command.TheVariants.{Acquire as To_acquire, Release as To_release};
 ghost use Rattle.sl_trace.specs.declared.input.Input.TheVariants.{Line};
-ghost use Rattle.std.specs.Prelude.{IfOk, List, Ok, OnErr, OnOk, [], false, ℕ, ◌+◌, ◌<◌, ◌^◌, ◌≡◌};
+ghost use Rattle.std.specs.Prelude.{IfOk, List, None, Ok, OnErr, OnOk, [], false, ℕ, ◌+◌, ◌<◌, ◌^◌, ◌≡◌};
 
 use crate::effects::Rooms;
 use crate::host::Host;
@@ -40,7 +40,7 @@ impl Host {
     fn begins(&mut self, command: FirstCommand, step: LeaseStep, lver: u64, sectors: Option<u32>)
         requires call { self.old.next_call < 2 ^ 63 }
         requires job { self.old.next_job < 2 ^ 63 }
-        requires lver { Fits lver }
+        requires lver { sectors ≡ None → IsInstance lver }
         ensures { self.new ≡ begun command step lver sectors self.old }
     {
         self.phase = Phase::Works(Doing {

@@ -5,6 +5,7 @@
 ghost use Rattle.sl_area.specs.Layouts.{layout_of};
 ghost use Rattle.sl_first.specs.FirstSteps.{blocks_read, first_grant, first_read, first_self, leader_write, own_write};
 ghost use Rattle.sl_host.specs.Sites.{IsLaidOut, IsSite, freed_leader};
+ghost use Rattle.sl_resource.specs.Bounds.{IsGranted, IsInstance, IsSession};
 ghost use Rattle.sl_trace.specs.Commands.{moded_word};
 ghost use Rattle.sl_trace.specs.Traces.{Setting, end_of};
 ghost use Rattle.sl_trace.specs.declared.effects.LeaseStep.TheVariants.{ReadArea};
@@ -97,7 +98,8 @@ impl Site {
 
     /// The session as ballots name it: it has generation 1.
     pub(crate) fn owner(&self) -> Owner
-        ensures { result ≡ first_self self.now.session }
+        ensures exact { result ≡ first_self self.now.session }
+        ensures session { IsSession self.now.sizes result }
     {
         Owner {
             id: self.session.id,
@@ -171,7 +173,8 @@ impl Site {
 
     /// The leader that a release writes: of this instance, and free.
     pub(crate) fn freed_leader(&self, lver: u64) -> Leader
-        ensures { result ≡ freed_leader self.now lver }
+        ensures exact { result ≡ freed_leader self.now lver }
+        ensures granted { IsInstance lver → IsGranted result }
     {
         Leader {
             held: false,

@@ -4,7 +4,8 @@ ghost use Rattle.sl_first.specs.FirstSteps.{process_of, told_effects};
 ghost use Rattle.sl_host.specs.Sites.{IsLaidOut};
 ghost use Rattle.sl_host.specs.Submits.{IsCallOf, MayFollow, after_next};
 ghost use Rattle.sl_host.specs.Taken.{IsTaken};
-ghost use Rattle.sl_sector.specs.Records.{Fits};
+ghost use Rattle.sl_resource.specs.Bounds.{IsInstance};
+ghost use Rattle.sl_trace.specs.declared.input.Answer.TheVariants.{Written};
 ghost use Rattle.sl_resource.specs.Calls.{IsFitNext};
 ghost use Rattle.sl_resource.specs.Stands.{LeaseStands};
 ghost use Rattle.sl_trace.specs.Traces.{Setting, Submitted};
@@ -73,7 +74,7 @@ pub(crate) fn take_answer(
     doing: &Doing,
     answer: &Answer,
 ) -> Result<LeaseNext, AllocError>
-    requires { Fits doing.now.lver }
+    requires { answer.now ≡ Written → IsInstance doing.now.lver }
     ensures taken { IfOk result (λ next. IsTaken site.now.session doing.now answer.now lease.old lease.new next) }
     ensures kept { OnErr result (lease.new ≡ lease.old) }
 {

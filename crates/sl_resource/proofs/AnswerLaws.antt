@@ -3,9 +3,9 @@ use Rattle.sl_area.specs.Layouts.{Sizes}
 use Rattle.sl_area.specs.Places.{area_blocks, blocks_in, leader_of}
 use Rattle.sl_leases.specs.Leases.{Phase2_read, Read_before_free, is_at, is_phase_read, verified_by}
 use Rattle.sl_resource.proofs.CallParts.{ballot_aside, ballot_blank, ballot_ends, ballot_stays, bare_is, call_made, left_over, left_same, made_is, mode_done, mode_off, name_found, name_stays, name_was, nothing_won, read_wins, settles_alone, settles_nothing, won_blank}
-use Rattle.sl_resource.specs.Calls.{IsBlockWrite, IsDeed, IsLeaderWrite, IsReading, is_answer_to, is_of_read, is_of_write, is_read_step, sectors_for}
+use Rattle.sl_resource.specs.Calls.{IsDeed, IsReading, is_answer_to, is_of_read, is_of_write, is_read_step, sectors_for}
 use Rattle.sl_resource.specs.Stands.{AllAnswered, IsBlank, IsTold, IsWaiting, LeaseStands, LeaseState, layout_in}
-use Rattle.sl_resource.specs.Updates.{after_answer, after_bytes, answered_by, answered_state, at_rest, ballot_read, name_read, own_stop, shown_done, won_done, won_looked, won_read}
+use Rattle.sl_resource.specs.Updates.{after_answer, after_bytes, answered_by, answered_state, at_rest, ballot_read, own_stop, shown_done, won_done, won_looked, won_read}
 use Rattle.sl_resource.specs.declared.deed.Deed.TheVariants.{Reads, WritesBlock, WritesLeader}
 use Rattle.sl_resource.specs.declared.deed.Deed.{Deed}
 use Rattle.sl_sector.specs.declared.sector.Block.{Block}
@@ -246,6 +246,7 @@ waiting_answered s m ms (Some d) st at reading a heeded unanswered layout fits q
 -- The newest call with its answer.
 pub answer_stands : (s : LeaseState) (answer : Answer) (heeded : Bool) (m : Submitted) (ms : List Submitted) (a : Answered) → IsTold s answer heeded m a → LeaseStands s (m ∷ ms)
     → LeaseStands (answered_state answer heeded s) (record m { answer = Some a } ∷ ms)
+unfolding answered_state
 answer_stands s answer heeded m ms a is k =
     subst (λ x. LeaseStands (answered_state answer heeded s) (record m { answer = Some x } ∷ ms)) (λ i. record { at = a.at; reading = a.reading; answer = sym is.told i; heeded = sym is.heed i })
     (waiting_answered s m ms s.waiting is.setting a.at a.reading answer heeded is.open_call (ap (λ g. g.sector) is.layout) is.fits k.waiting k)

@@ -3,7 +3,6 @@ use Rattle.sl_leases.specs.Ballots.{is_ahead, same_owner, stop_of, value_of}
 use Rattle.sl_leases.specs.Leases.{value_in_end}
 use Rattle.sl_leases.specs.declared.lease.Stop.{Stop}
 use Rattle.sl_resource.specs.Updates.{ballot_read, is_concluded, name_read, own_stop, shown_done, won_in_end, won_read}
-use Rattle.sl_resource.specs.Stands.{is_begun}
 use Rattle.sl_area.specs.Layouts.{Layout}
 use Rattle.sl_leases.specs.Leases.{is_leader_of}
 use Rattle.sl_sector.specs.declared.sector.Block.{Block}
@@ -15,7 +14,7 @@ use Rattle.sl_trace.specs.declared.effects.Op.{Op}
 use Rattle.sl_trace.specs.declared.effects.Purpose.TheVariants.{Lease}
 use Rattle.sl_trace.specs.declared.effects.Work.{Work}
 use Rattle.sl_words.specs.Words.{choose}
-use Rattle.std.proofs.Common.{Bool, IsTrue, List, None, Option, Some, ap, false, is_some, not, refl, sym, true, unwrap_or, [], ℕ, ◌&&◌, ◌||◌, ◌∙◌, ◌≡◌}
+use Rattle.std.proofs.Common.{Bool, IsTrue, List, None, Option, Some, ap, false, is_some, not, refl, true, ℕ, ◌&&◌, ◌||◌, ◌∙◌, ◌≡◌}
 use Rattle.std.specs.Prelude.{option_and_then}
 
 -- This call at a step of work, with this op and answer.

@@ -7,8 +7,8 @@ use Rattle.sl_leases.specs.declared.lease.Aim.TheVariants.{Acquires, Releases, S
 use Rattle.sl_leases.specs.declared.lease.Aim.{Aim}
 use Rattle.sl_leases.specs.declared.lease.LeaseNext.TheVariants.{AnswerJob, Nothing}
 use Rattle.sl_leases.specs.declared.lease.LeaseNext.{LeaseNext}
-use Rattle.sl_resource.proofs.CallParts.{call_made, made_is}
-use Rattle.sl_resource.specs.Asked.{area_asked, asked_next, known_with, read_asked}
+use Rattle.sl_resource.proofs.CallParts.{call_made}
+use Rattle.sl_resource.specs.Asked.{area_asked, asked_next, known_with}
 use Rattle.sl_resource.specs.Calls.{makes_call}
 use Rattle.sl_resource.specs.Stands.{IsAnswered, IsBlank, LeaseStands, LeaseState, is_begun, is_first_step, layout_in, place_of, verified_of}
 use Rattle.sl_resource.specs.declared.evidence.Held.{Held}

@@ -6,3 +6,5 @@ pub mod NextLaws
 pub mod TopLaws
 pub mod NextRules
 pub mod KnownLaws
+pub mod RecordFacts
+pub mod GoingOn

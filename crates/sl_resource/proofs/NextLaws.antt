@@ -8,7 +8,7 @@ use Rattle.sl_leases.specs.declared.lease.LeaseNext.{LeaseNext}
 use Rattle.sl_sector.specs.declared.sector.Block.{Block}
 use Rattle.sl_sector.specs.declared.sector.Owner.{Owner}
 use Rattle.sl_words.specs.Words.{present}
-use Rattle.std.proofs.Common.{Bool, List, None, Option, Some, ap, refl, sym, ℕ, ◌∙◌, ◌≡◌}
+use Rattle.std.proofs.Common.{Bool, List, None, Some, ap, refl, sym, ℕ, ◌∙◌, ◌≡◌}
 
 -- The block of phase 1 is of its instance.
 pub lver-phase1_block : (self : Owner) (hosts n : ℕ) (shared : Bool) (mode_gen : ℕ) (own : Block) (seen : List Block) → (phase1_block self hosts n shared mode_gen own seen).lver ≡ n

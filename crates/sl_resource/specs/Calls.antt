@@ -2,7 +2,7 @@
 use Rattle.sl_area.specs.Layouts.{Sizes}
 use Rattle.sl_leases.specs.declared.lease.LeaseNext.TheVariants.{AnswerJob, GrantJob, Nothing, ReadFor, WriteBlock, WriteLeader}
 use Rattle.sl_leases.specs.declared.lease.LeaseNext.{LeaseNext}
-use Rattle.sl_sector.specs.Records.{Fits}
+use Rattle.sl_resource.specs.Bounds.{IsBegun, IsGranted, IsInstance}
 use Rattle.sl_resource.specs.declared.deed.Deed.TheVariants.{Reads, WritesBlock, WritesLeader}
 use Rattle.sl_resource.specs.declared.deed.Deed.{Deed}
 use Rattle.sl_sector.specs.declared.sector.Block.{Block}
@@ -17,7 +17,7 @@ use Rattle.sl_trace.specs.declared.effects.Purpose.TheVariants.{Lease}
 use Rattle.sl_trace.specs.declared.effects.Work.{Work}
 use Rattle.sl_trace.specs.declared.input.Answer.TheVariants.{Failed, Read, Written}
 use Rattle.sl_trace.specs.declared.input.Answer.{Answer}
-use Rattle.std.specs.Prelude.{Bool, IsTrue, List, None, Option, Some, false, if◌then◌else◌, length, true, ℕ, ◌*◌, ◌+◌, ◌==◌, ◌||◌, ◌≡◌}
+use Rattle.std.specs.Prelude.{Bool, IsTrue, false, if◌then◌else◌, length, true, ℕ, ◌*◌, ◌+◌, ◌==◌, ◌||◌, ◌≡◌}
 
 -- Whether the step reads leader, request and blocks.
 abbrev pub reads_area : LeaseStep → Bool
@@ -130,15 +130,15 @@ is_whole_read z step (Read bytes) = length bytes == sectors_for z step * z.secto
 is_whole_read z step Written = true
 is_whole_read z step Failed = true
 
--- What a lease does next can be submitted: a read at a step that reads; a block or a leader, with an instance that a record may carry,
--- at a step that writes it. A grant's instance is one that a record may carry, too.
+-- What a lease does next can be submitted: a read at a step that reads; a block or a leader that is a record, at a step that writes it.
+-- A grant's instance is one that may be granted.
 abbrev pub IsFitNext : LeaseNext → Type 0
 IsFitNext Nothing = Unit {0}
 IsFitNext (ReadFor step) = IsTrue (is_read_step step)
-IsFitNext (WriteBlock step b) = IsTrue (is_block_step step) × Fits b.lver
-IsFitNext (WriteLeader step l) = IsTrue (is_leader_step step) × Fits l.lver
+IsFitNext (WriteBlock step b) = IsTrue (is_block_step step) × IsBegun b
+IsFitNext (WriteLeader step l) = IsTrue (is_leader_step step) × IsGranted l
 IsFitNext (AnswerJob r) = Unit {0}
-IsFitNext (GrantJob mode lver) = Fits lver
+IsFitNext (GrantJob mode lver) = IsInstance lver
 
 -- Whether it is a call.
 abbrev pub makes_call : LeaseNext → Bool

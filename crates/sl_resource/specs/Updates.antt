@@ -153,5 +153,5 @@ answered_by None a heeded s = s
 answered_by (Some d) a heeded s = elim (is_answer_to s.sizes d a) [ false ↦ s | true ↦ at_rest (after_answer d a heeded s) ]
 
 -- The answer of what waits.
-abbrev pub answered_state : Answer → Bool → LeaseState → LeaseState
+unfoldable pub answered_state : Answer → Bool → LeaseState → LeaseState
 answered_state a heeded s = answered_by s.waiting a heeded s

@@ -6,7 +6,7 @@
 //! A read wins or concludes a ballot only if it is heeded. A job that was refused meanwhile takes no leader, so if its late answer closed
 //! the ballot, an instance would stay won by a session that doesn't hold it and doesn't free it. The blocks count all the same: they are
 //! what the disk showed.
-ghost use Rattle.sl_resource.specs.Stands.{IsTold, LeaseStands};
+ghost use Rattle.sl_resource.specs.Stands.{IsOneLease, IsTold, LeaseStands};
 ghost use Rattle.sl_resource.specs.Calls.{is_answer_to, sectors_for};
 ghost use Rattle.sl_resource.specs.Updates.{after_answer, after_bytes, answered_state};
 ghost use Rattle.sl_trace.specs.Traces.{Answered, Submitted};
@@ -29,6 +29,7 @@ impl Lease {
         requires { length bytes.now ≡ (self.old.sizes.hosts + 2) * self.old.sizes.sector }
         ensures took { OnOk result (self.new ≡ after_bytes (ReadArea resource) bytes.now false self.old) }
         ensures kept { OnErr result (self.new ≡ self.old) }
+        ensures one { IsOneLease self.old self.new }
     {
         let blocks = area_blocks(alloc, &self.geometry, bytes)?;
         if let Some(leader) = leader_of(&self.geometry, bytes) {
@@ -45,6 +46,7 @@ impl Lease {
         requires { length bytes.now ≡ (self.old.sizes.hosts + 2) * self.old.sizes.sector }
         ensures took { OnOk result (self.new ≡ after_bytes ReadBeforeFree bytes.now false self.old) }
         ensures kept { OnErr result (self.new ≡ self.old) }
+        ensures one { IsOneLease self.old self.new }
     {
         let blocks = area_blocks(alloc, &self.geometry, bytes)?;
         let leader = leader_of(&self.geometry, bytes);
@@ -58,6 +60,7 @@ impl Lease {
         requires { length bytes.now ≡ self.old.sizes.hosts * self.old.sizes.sector }
         ensures took { OnOk result (self.new ≡ after_bytes Phase1Read bytes.now heeded self.old) }
         ensures kept { OnErr result (self.new ≡ self.old) }
+        ensures one { IsOneLease self.old self.new }
     {
         let blocks = blocks_in(alloc, &self.geometry, bytes)?;
         self.ballot = ballot_read(heeded, false, own_stop(&self.own, &blocks), self.ballot);
@@ -70,6 +73,7 @@ impl Lease {
         requires { length bytes.now ≡ self.old.sizes.hosts * self.old.sizes.sector }
         ensures took { OnOk result (self.new ≡ after_bytes Phase2Read bytes.now heeded self.old) }
         ensures kept { OnErr result (self.new ≡ self.old) }
+        ensures one { IsOneLease self.old self.new }
     {
         let blocks = blocks_in(alloc, &self.geometry, bytes)?;
         self.ballot = ballot_read(heeded, true, own_stop(&self.own, &blocks), self.ballot);
@@ -89,6 +93,7 @@ impl Lease {
         requires { length bytes.now ≡ sectors_for self.old.sizes step * self.old.sizes.sector }
         ensures took { OnOk result (self.new ≡ after_bytes step bytes.now heeded self.old) }
         ensures kept { OnErr result (self.new ≡ self.old) }
+        ensures one { IsOneLease self.old self.new }
     {
         match step {
             LeaseStep::ReadArea { resource } => self.took_area(alloc, resource, bytes),
@@ -115,6 +120,7 @@ impl Lease {
         requires { IsTrue (is_answer_to self.old.sizes deed answer.now) }
         ensures taken { OnOk result (self.new ≡ after_answer deed answer.now heeded self.old) }
         ensures kept { OnErr result (self.new ≡ self.old) }
+        ensures one { IsOneLease self.old self.new }
     {
         match deed {
             Deed::Reads(step) => match answer {
@@ -137,7 +143,8 @@ impl Lease {
         }
     }
 
-    /// The state after the answer.
+    /// The answer is taken, by what waits for it.
+    #[tactic(auto, unfolding(crate::specs::Updates::answered_state))]
     fn take_answer(
         &mut self,
         alloc: Global,
@@ -146,6 +153,7 @@ impl Lease {
     ) -> Result<(), AllocError>
         ensures state { OnOk result (self.new ≡ answered_state answer.now heeded self.old) }
         ensures kept { OnErr result (self.new ≡ self.old) }
+        ensures one { IsOneLease self.old self.new }
     {
         if let Some(deed) = self.waiting {
             if is_answer_to(&self.geometry, &deed, answer) {
@@ -156,7 +164,11 @@ impl Lease {
         Ok(())
     }
 
-    /// The call that waits is answered so. Other answers than one to that call change nothing.
+    /// The newest call was answered so, and heeded if the work that it is for still went on: its job had no reply before. A read is
+    /// answered by as many bytes as it asks, or fails; a write is done, or fails. Any other answer changes nothing.
+    ///
+    /// # Errors
+    /// Want of memory for the blocks of a read; then nothing is changed.
     pub fn answered(
         &mut self,
         alloc: Global,
@@ -167,6 +179,7 @@ impl Lease {
         ensures stands { OnOk result ((m : Submitted) (ms : List Submitted) (a : Answered) → IsTold self.old answer.now heeded m a
             → LeaseStands self.old (m ∷ ms) → LeaseStands self.new (record m { answer = Some a } ∷ ms)) }
         ensures kept { OnErr result (self.new ≡ self.old) }
+        ensures one { IsOneLease self.old self.new }
     {
         self.take_answer(alloc, answer, heeded)
     }

@@ -6,11 +6,13 @@
 ghost use Rattle.sl_leases.specs.LeaseWork.{area_next, begin_or_refuse, named_area_next, whole_area_next};
 ghost use Rattle.sl_leases.specs.Leases.{instance_for, is_over_owner, top_lver};
 ghost use Rattle.sl_area.specs.Places.{leader_of};
+ghost use Rattle.sl_leases.specs.declared.lease.Instance.TheVariants.{Begins};
 ghost use Rattle.sl_resource.specs.Asked.{area_asked, known_with, owner_over, tops_found};
+ghost use Rattle.sl_resource.specs.Bounds.{IsBegun, IsInstance};
 ghost use Rattle.sl_resource.specs.Calls.{IsFitNext};
 ghost use Rattle.sl_resource.specs.Stands.{layout_in, place_of};
-ghost use Rattle.sl_sector.specs.Records.{Fits};
-ghost use Rattle.std.specs.Prelude.{IfSome, is_none, not, option_map, position, ◌+◌, ◌<◌, ◌==◌, ◌≡◌};
+ghost use Rattle.sl_sector.specs.Records.{IsLeader};
+ghost use Rattle.std.specs.Prelude.{ℕ, ◌≤◌, IfSome, is_none, not, option_map, position, ◌+◌, ◌<◌, ◌==◌, ◌≡◌};
 
 use crate::evidence::{Evidence, Held};
 use crate::lease::Lease;
@@ -63,8 +65,9 @@ impl Lease {
         leader: &Leader,
         own: &Block,
     ) -> Instance
-        requires { Fits leader.now.lver }
-        ensures { result ≡ instance_for (known_with self.now held (E.over evidence.now)) leader.now own.now self.now.read }
+        requires { IsLeader leader.now }
+        ensures exact { result ≡ instance_for (known_with self.now held (E.over evidence.now)) leader.now own.now self.now.read }
+        ensures least { (n : ℕ) → result ≡ Begins n → 1 ≤ n }
     {
         let is_over = is_over_owner(evidence, leader);
         instance_of(
@@ -84,7 +87,7 @@ impl Lease {
         aim: Aim,
         leader: &Leader,
     ) -> LeaseNext
-        requires { Fits leader.now.lver }
+        requires { IsLeader leader.now }
         ensures exact { result ≡ whole_area_next (place_of self.now) (known_with self.now held (E.over evidence.now)) aim leader.now self.now.read }
         ensures fit { IsFitNext result }
     {
@@ -108,7 +111,7 @@ impl Lease {
         aim: Aim,
         leader: &Leader,
     ) -> LeaseNext
-        requires { Fits leader.now.lver }
+        requires { IsLeader leader.now }
         ensures exact { result ≡ named_area_next (place_of self.now) (known_with self.now held (E.over evidence.now)) aim leader.now self.now.read }
         ensures fit { IsFitNext result }
     {
@@ -131,10 +134,7 @@ impl Lease {
         ensures { result ≡ option_map (λ i. i + 1) (position is_none self.now.read) }
     {
         let _hosts = self.geometry.hosts();
-        match self.torn_place() {
-            Some(before) => Some(before as u32 + 1),
-            None => None,
-        }
+        self.torn_place().map(|before| before as u32 + 1)
     }
 
     /// After the read of the area for a job that names this resource: a torn leader, other names, a torn block refuse in this order.
@@ -146,7 +146,7 @@ impl Lease {
         resource: &Name,
         leader: Option<Leader>,
     ) -> LeaseNext
-        requires { IfSome leader (λ l. Fits l.lver) }
+        requires { IfSome leader IsLeader }
         ensures exact { result ≡ area_asked (place_of self.now) (known_with self.now held (E.over evidence.now)) aim resource.now leader self.now.read }
         ensures fit { IsFitNext result }
     {

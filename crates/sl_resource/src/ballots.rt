@@ -8,6 +8,7 @@ ghost use Rattle.sl_leases.specs.LeaseWork.{after_phase1, after_phase2, ended_ne
 ghost use Rattle.sl_leases.specs.Leases.{is_shared_by_other, shared_elsewhere};
 ghost use Rattle.sl_leases.specs.declared.lease.LeaseNext.TheVariants.{Nothing, WriteLeader};
 ghost use Rattle.sl_resource.specs.Asked.{is_shared_beside, known_with, leader_named, phase2_with};
+ghost use Rattle.sl_resource.specs.Bounds.{IsBegun, IsGranted, IsInstance};
 ghost use Rattle.sl_resource.specs.Calls.{IsFitNext, is_leader_step};
 ghost use Rattle.sl_resource.specs.Stands.{name_in, place_of};
 ghost use Rattle.sl_sector.specs.Records.{Fits};
@@ -68,7 +69,8 @@ impl Lease {
 
     /// The leader that the lease writes, with the name that it has verified.
     fn leader_for(&self, resource: Name, held: bool, n: u64) -> Leader
-        ensures { result ≡ leader_named self.now resource held n }
+        ensures exact { result ≡ leader_named self.now resource held n }
+        ensures granted { IsInstance n → IsGranted result }
     {
         Leader {
             held,
@@ -84,7 +86,7 @@ impl Lease {
     /// The leader is written, once the resource's name is known.
     pub(crate) fn write_leader(&self, step: LeaseStep, held: bool, n: u64) -> LeaseNext
         ensures exact { IsTrue (is_some self.now.name) → result ≡ WriteLeader step (leader_named self.now (name_in self.now) held n) }
-        ensures fit { Fits n → IsTrue (is_leader_step step) → IsFitNext result }
+        ensures fit { IsInstance n → IsTrue (is_leader_step step) → IsFitNext result }
     {
         match self.name {
             Some(resource) => LeaseNext::WriteLeader {
@@ -115,11 +117,11 @@ impl Lease {
     }
 
     /// The block of phase 2, with the mode that the session has now.
-    #[tactic(auto, unfolding(sl_leases::specs::Ballots::phase2_block))]
     fn phase2(&self, held: Held, own: &Block) -> LeaseNext
         ensures exact { result ≡ phase2_with self.now held own.now }
-        ensures fit { Fits own.now.lver → IsFitNext result }
+        ensures fit { IsBegun own.now → IsFitNext result }
     {
+        let _hosts = self.geometry.hosts();
         let block = phase2_after_read(self.me, own, &self.read);
         LeaseNext::WriteBlock {
             step: LeaseStep::Phase2Write,
@@ -130,7 +132,7 @@ impl Lease {
     /// After the read of phase 1, where nothing stops the ballot.
     fn unstopped<E: Evidence>(&self, held: Held, evidence: &E, aim: Aim, own: &Block) -> LeaseNext
         ensures exact { result ≡ unstopped_next (known_with self.now held (E.over evidence.now)) aim own.now self.now.read }
-        ensures fit { Fits own.now.lver → IsFitNext result }
+        ensures fit { IsBegun own.now → IsFitNext result }
     {
         if !looks_for_shared(aim) {
             return self.phase2(held, own);
@@ -156,7 +158,7 @@ impl Lease {
         stop: Option<Stop>,
     ) -> LeaseNext
         ensures exact { result ≡ after_phase1 (place_of self.now) (known_with self.now held (E.over evidence.now)) aim own.now self.now.read stop }
-        ensures fit { Fits own.now.lver → IsFitNext result }
+        ensures fit { IsBegun own.now → IsFitNext result }
     {
         match stop {
             None => self.unstopped(held, evidence, aim, own),
@@ -168,7 +170,7 @@ impl Lease {
     fn won_next(&self, aim: Aim, n: u64) -> LeaseNext
         ensures exact { IsTrue (is_some self.now.name) → (h : Held) (over : ℕ → ℕ → Bool)
             → result ≡ won_next (place_of self.now) (known_with self.now h over) aim n }
-        ensures fit { Fits n → IsFitNext result }
+        ensures fit { IsInstance n → IsFitNext result }
     {
         match aim {
             Aim::Acquires(_) => self.write_leader(LeaseStep::TakeLeader, true, n),
@@ -186,7 +188,7 @@ impl Lease {
         n: u64,
         owner: Owner,
     ) -> LeaseNext
-        requires { Fits n }
+        requires { IsInstance n }
         ensures exact { result ≡ lost_next (place_of self.now) (known_with self.now held (E.over evidence.now)) aim n owner }
         ensures fit { IsFitNext result }
     {
@@ -205,7 +207,7 @@ impl Lease {
 
     /// A ballot of this block ended with its value.
     fn ended_next<E: Evidence>(&self, held: Held, evidence: &E, aim: Aim, own: &Block) -> LeaseNext
-        requires { Fits own.now.lver }
+        requires { IsBegun own.now }
         ensures exact { IsTrue (is_some self.now.name) → result ≡ ended_next (place_of self.now) (known_with self.now held (E.over evidence.now)) aim own.now }
         ensures fit { IsFitNext result }
     {
@@ -226,7 +228,7 @@ impl Lease {
         own: &Block,
         stop: Option<Stop>,
     ) -> LeaseNext
-        requires { Fits own.now.lver }
+        requires { IsBegun own.now }
         ensures exact { IsTrue (is_some self.now.name)
             → result ≡ after_phase2 (place_of self.now) (known_with self.now held (E.over evidence.now)) aim own.now stop }
         ensures fit { IsFitNext result }

@@ -16,6 +16,7 @@
 //!
 //! A block counts from its submission on, answered or not, since a call that failed may still have been done; that the shared mode is
 //! gone counts only once it is answered, since until then others may read it.
+ghost use Rattle.sl_resource.specs.Bounds.{IsBegun, IsSession};
 ghost use Rattle.sl_resource.specs.Calls.{IsBlockWrite, IsLeaderWrite, IsReading};
 ghost use Rattle.sl_resource.specs.Stands.{IsOneLease, LeaseStands, MayCall, new_state};
 ghost use Rattle.sl_resource.specs.Updates.{after_block, after_leader, after_reading};
@@ -68,12 +69,14 @@ impl Model for Lease {
       waiting = l.waiting;
     } };
 
-    ghost invariant = { λ l. IsWithinBounds l.geometry l.own l.read.items l.freed l.won };
+    ghost invariant = { λ l. IsWithinBounds l.geometry l.me l.own l.read.items l.freed l.ballot l.won };
 }
 
 impl Lease {
-    /// The lease of a session on a resource's area, before its first call.
+    /// The lease of a session on a resource's area, before its first call: of the session with this id and generation, in the lockspace
+    /// of this name. The id is 1 to the run's number of hosts, the generation 1 to 2^63 - 1.
     pub fn new(alloc: Global, geometry: Geometry, lockspace: Name, me: Owner) -> Lease
+        requires { IsSession geometry me }
         ensures state { result ≡ new_state geometry lockspace me }
         ensures stands { LeaseStands result [] }
     {
@@ -92,7 +95,8 @@ impl Lease {
         }
     }
 
-    /// A read for this step is submitted.
+    /// A read for this step is submitted: of leader, request and all blocks, or of the blocks alone. The lease stands for the list with
+    /// that call where no other waits for its answer, and the resource's name is verified or this read is to verify it.
     pub fn reads(&mut self, step: LeaseStep)
         ensures state { self.new ≡ after_reading step self.old }
         ensures stands { (m : Submitted) (ms : List Submitted) → LeaseStands self.old ms → MayCall self.old step → m.answer ≡ None
@@ -101,9 +105,10 @@ impl Lease {
         self.waiting = Some(Deed::Reads(step));
     }
 
-    /// A write of this block is submitted, at a step that writes the own block.
+    /// A write of this block is submitted, at a step that writes the own block. From here on it is the own block, whatever comes of the
+    /// write. Instance and number of the block are 1 to 2^63 - 1.
     pub fn writes_block(&mut self, step: LeaseStep, block: Block)
-        requires { Fits block.lver }
+        requires { IsBegun block }
         ensures state { self.new ≡ after_block step block self.old }
         ensures stands { (m : Submitted) (ms : List Submitted) → LeaseStands self.old ms → MayCall self.old step → m.answer ≡ None
             → IsBlockWrite step block m → LeaseStands self.new (m ∷ ms) }
@@ -115,7 +120,8 @@ impl Lease {
         self.own = Some(block);
     }
 
-    /// A write of this leader is submitted, at a step that writes the leader.
+    /// A write of this leader is submitted, at a step that writes the leader. A free counts as such from here on, whatever comes of the
+    /// write. The leader's instance is below 2^63.
     pub fn writes_leader(&mut self, step: LeaseStep, leader: &Leader)
         requires { Fits leader.now.lver }
         ensures state { self.new ≡ after_leader step leader.now self.old }

@@ -14,6 +14,7 @@ mod area;
 mod ballots;
 mod deed;
 mod evidence;
+pub mod laws;
 mod lease;
 mod next;
 mod owed;
@@ -23,3 +24,6 @@ mod updates;
 pub use deed::Deed;
 pub use evidence::{Evidence, Held};
 pub use lease::Lease;
+
+#[cfg(test)]
+mod tests;

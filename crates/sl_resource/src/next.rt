@@ -11,11 +11,13 @@ ghost use Rattle.sl_leases.specs.LeaseWork.{after_clearing, after_freeing, after
 ghost use Rattle.sl_leases.specs.Leases.{known_of};
 ghost use Rattle.sl_leases.specs.declared.lease.LeaseNext.TheVariants.{Nothing, WriteLeader};
 ghost use Rattle.sl_resource.specs.Asked.{asked_next, free_with, known_with, mode_with, phase1_ended, phase2_ended, read_asked};
+ghost use Rattle.sl_resource.specs.Bounds.{IsBegun, IsInstance};
 ghost use Rattle.sl_resource.specs.Calls.{IsFitNext, is_whole_read, makes_call, sectors_for};
 ghost use Rattle.sl_resource.specs.Stands.{IsAnswered, LeaseStands, is_begun, is_first_step, layout_in, name_in, place_of};
 ghost use Rattle.sl_area.specs.Places.{leader_of};
 ghost use Rattle.sl_trace.specs.Traces.{Submitted};
-ghost use Rattle.sl_sector.specs.Records.{Fits};
+ghost use Rattle.sl_resource.specs.declared.evidence.Held.{Held};
+ghost use Rattle.sl_trace.specs.declared.input.Answer.TheVariants.{Written};
 ghost use Rattle.std.specs.Prelude.{Bool, IsTrue, List, is_some, length, ℕ, ◌*◌, ◌||◌, ◌∷◌, ◌≡◌};
 
 use crate::deed::is_whole;
@@ -115,7 +117,7 @@ impl Lease {
     /// The leader of `n` is taken: exclusive is granted; shared goes on with the own block's mode.
     fn after_take(&self, aim: Aim, n: u64) -> LeaseNext
         ensures exact { (h : Held) (over : ℕ → ℕ → Bool) → result ≡ after_take (known_with self.now h over) aim n }
-        ensures fit { Fits n → IsFitNext result }
+        ensures fit { IsInstance n → IsFitNext result }
     {
         match aim {
             Aim::Acquires(Mode::Exclusive) => LeaseNext::GrantJob {
@@ -145,7 +147,7 @@ impl Lease {
     /// The leader of `n` is freed: a shared acquire is granted, a release is done, a settling goes on.
     fn after_freeing(&self, held: Held, aim: Aim, n: u64) -> LeaseNext
         ensures exact { (over : ℕ → ℕ → Bool) → result ≡ after_freeing (place_of self.now) (known_with self.now held over) aim n }
-        ensures fit { Fits n → IsFitNext result }
+        ensures fit { IsInstance n → IsFitNext result }
     {
         match aim {
             Aim::Acquires(_) => LeaseNext::GrantJob {
@@ -173,7 +175,7 @@ impl Lease {
     fn after_write(&self, held: Held, aim: Aim, n: u64, step: LeaseStep) -> LeaseNext
         ensures exact { IsTrue (is_first_step step || is_some self.now.name) → (over : ℕ → ℕ → Bool)
             → result ≡ after_write (place_of self.now) (known_with self.now held over) aim n step }
-        ensures fit { Fits n → IsFitNext result }
+        ensures fit { IsInstance n → IsFitNext result }
     {
         match step {
             LeaseStep::ReadArea { resource: _ } => LeaseNext::Nothing,
@@ -202,7 +204,7 @@ impl Lease {
     ) -> LeaseNext
         ensures exact { IsTrue (is_first_step step || is_some self.now.name) → IsTrue (is_whole_read self.now.sizes step answer.now)
             → result ≡ asked_next (place_of self.now) (known_with self.now held (E.over evidence.now)) aim call lver step self.now.read answer.now }
-        ensures fit { Fits lver → IsFitNext result }
+        ensures fit { (answer.now ≡ Written → IsInstance lver) → IsFitNext result }
     {
         match answer {
             Answer::Read(bytes) => {
@@ -217,7 +219,9 @@ impl Lease {
         }
     }
 
-    /// What comes next after the answer of the newest call, which had this number, was at this step and wrote instance `lver`, if any.
+    /// What comes next after the answer of the newest call, which had this number, was at this step and wrote a block or leader of
+    /// instance `lver`, if it wrote one. The answer was told by `answered` before. What comes next can be submitted: it is a record, at a
+    /// step that writes it, and a call only where the resource's name is verified.
     pub fn next<E: Evidence>(
         &self,
         held: Held,
@@ -234,12 +238,13 @@ impl Lease {
             aim call lver step answer.now }
         ensures named { (m : Submitted) (ms : List Submitted) → LeaseStands self.now (m ∷ ms) → IsAnswered self.now.sizes step answer.now m
             → IsTrue (makes_call result) → IsTrue (is_some self.now.name) }
-        ensures fit { Fits lver → IsFitNext result }
+        ensures fit { (answer.now ≡ Written → IsInstance lver) → IsFitNext result }
     {
         self.decided(held, evidence, aim, call, lver, step, answer)
     }
 
-    /// What a settling does next: what is owed first.
+    /// What a settling does next, where no call waits: an open ballot is run to its end, else a mode that is left over is cleared, else a
+    /// free that is owed is looked after. Nothing where nothing is owed.
     pub fn settle(&self, held: Held) -> LeaseNext
         ensures exact { (over : ℕ → ℕ → Bool) (ms : List Submitted) → LeaseStands self.now ms
             → result ≡ settle_next (place_of self.now)
@@ -250,22 +255,22 @@ impl Lease {
         self.settle_known(held)
     }
 
-    /// What a release does first, once the last holding under the lease has ended: an exclusive lease frees the leader, a shared one
-    /// clears its mode.
-    pub fn release(&self, held: Held, mode: Mode, lver: u64) -> LeaseNext
-        ensures exact { (over : ℕ → ℕ → Bool) (ms : List Submitted) → LeaseStands self.now ms → IsTrue (is_begun ms)
+    /// What a release does first, once the last holding under the lease has ended: an exclusive lease of instance `lver` frees the leader,
+    /// a shared one clears its mode. It is asked of a lease that has done more than read the area.
+    pub fn release(&self, mode: Mode, lver: u64) -> LeaseNext
+        ensures exact { (held : Held) (over : ℕ → ℕ → Bool) (ms : List Submitted) → LeaseStands self.now ms → IsTrue (is_begun ms)
             → result ≡ release_next (place_of self.now)
             (known_of (layout_in self.now) self.now.lockspace self.now.self held.shared held.exclusive over ms) mode lver }
-        ensures fit { Fits lver → IsFitNext result }
+        ensures fit { IsInstance lver → IsFitNext result }
     {
-        self.release_known(held, mode, lver)
+        self.release_known(mode, lver)
     }
 
     /// The same, by what is kept of the lease.
-    fn release_known(&self, held: Held, mode: Mode, lver: u64) -> LeaseNext
-        ensures exact { IsTrue (is_some self.now.name) → (over : ℕ → ℕ → Bool)
+    fn release_known(&self, mode: Mode, lver: u64) -> LeaseNext
+        ensures exact { IsTrue (is_some self.now.name) → (held : Held) (over : ℕ → ℕ → Bool)
             → result ≡ release_next (place_of self.now) (known_with self.now held over) mode lver }
-        ensures fit { Fits lver → IsFitNext result }
+        ensures fit { IsInstance lver → IsFitNext result }
     {
         match mode {
             Mode::Exclusive => self.write_leader(LeaseStep::FreeLeader, false, lver),

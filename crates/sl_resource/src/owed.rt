@@ -7,8 +7,10 @@
 //! instance, whose leader it must not write over.
 ghost use Rattle.sl_leases.specs.LeaseWork.{begin_next, phase1_next, refuses, settle_next, settle_owed};
 ghost use Rattle.sl_leases.specs.Leases.{block_of_host, mode_gen_of, owed, owed_free, own_known, own_or_read};
+ghost use Rattle.sl_leases.specs.declared.lease.Owed.TheVariants.{BallotOwed};
 ghost use Rattle.sl_leases.specs.declared.lease.LeaseNext.TheVariants.{Nothing, WriteBlock};
 ghost use Rattle.sl_resource.specs.Asked.{gen_with, known_with, owed_with};
+ghost use Rattle.sl_resource.specs.Bounds.{IsBegun, IsInstance};
 ghost use Rattle.sl_resource.specs.Calls.{IsFitNext};
 ghost use Rattle.sl_resource.specs.Stands.{IsBlank, place_of};
 ghost use Rattle.sl_ballot.specs.Limits.{limited_block};
@@ -16,8 +18,8 @@ ghost use Rattle.sl_leases.specs.Ballots.{moded_block};
 ghost use Rattle.sl_trace.specs.declared.effects.LeaseStep.TheVariants.{ClearMode};
 ghost use Rattle.sl_words.specs.Words.{choose, some_is};
 ghost use Rattle.std.specs.Option.{option_map_or};
-ghost use Rattle.sl_sector.specs.Records.{Fits};
-ghost use Rattle.std.specs.Prelude.{Bool, IfSome, None, false, not, ℕ, ◌==◌, ◌≡◌};
+ghost use Rattle.sl_sector.specs.Records.{Fits, IsBlock};
+ghost use Rattle.std.specs.Prelude.{Bool, IfOk, IfSome, None, Some, false, not, ℕ, ◌==◌, ◌≡◌, ◌≤◌};
 
 use crate::evidence::Held;
 use crate::lease::Lease;
@@ -41,7 +43,7 @@ pub(crate) fn refuses(aim: Aim, reply: Reply) -> LeaseNext
 /// The block of phase 1 in instance `n`, unless a number would pass its limit.
 fn phase1_next(aim: Aim, n: u64, block: Result<Block, Limit>) -> LeaseNext
     ensures exact { (b : Block) → b.lver ≡ n → block ≡ limited_block b → result ≡ phase1_next aim b }
-    ensures fit { (b : Block) → b.lver ≡ n → block ≡ limited_block b → IsFitNext result }
+    ensures fit { (b : Block) → b.lver ≡ n → block ≡ limited_block b → (Fits n → IfOk block IsBegun) → IsFitNext result }
 {
     if n >= 1 << 63 {
         return refuses(
@@ -68,17 +70,16 @@ fn phase1_next(aim: Aim, n: u64, block: Result<Block, Limit>) -> LeaseNext
 impl Lease {
     /// The own block: the one last submitted, else the one last read.
     pub(crate) fn own_known(&self) -> Option<Block>
-        ensures { result ≡ own_or_read self.now.self.id self.now.own self.now.read }
+        ensures exact { result ≡ own_or_read self.now.self.id self.now.own self.now.read }
+        ensures bounds { IfSome result IsBlock }
     {
-        match self.own {
-            Some(own) => Some(own),
-            None => self.block_read(),
-        }
+        self.own.or_else(|| self.block_read())
     }
 
     /// The own block as it was last read.
     fn block_read(&self) -> Option<Block>
-        ensures { result ≡ block_of_host self.now.read self.now.self.id }
+        ensures exact { result ≡ block_of_host self.now.read self.now.self.id }
+        ensures bounds { IfSome result IsBlock }
     {
         match self.read.get((self.me.id as usize).saturating_sub(1)) {
             Some(block) => *block,
@@ -97,7 +98,7 @@ impl Lease {
     #[tactic(auto, unfolding(sl_leases::specs::LeaseWork::begin_next, sl_leases::specs::Ballots::phase1_block))]
     pub(crate) fn begin(&self, held: Held, aim: Aim, n: u64) -> LeaseNext
         ensures exact { (over : ℕ → ℕ → Bool) → result ≡ begin_next (place_of self.now) (known_with self.now held over) aim n }
-        ensures fit { IsFitNext result }
+        ensures fit { 1 ≤ n → IsFitNext result }
     {
         let mode_gen = self.mode_gen(held);
         match self.own_known() {
@@ -121,18 +122,16 @@ impl Lease {
     /// The free that is owed: of the instance won last, unless it is held under it.
     pub(crate) fn owed_free(&self, held: Held) -> Option<u64>
         ensures exact { result ≡ owed_with self.now held }
-        ensures bounds { IfSome result Fits }
+        ensures bounds { IfSome result IsInstance }
     {
-        match self.won {
-            Some(n) => free_owed(n, held.exclusive),
-            None => None,
-        }
+        self.won.and_then(|n| free_owed(n, held.exclusive))
     }
 
     /// What settling has to do first.
     fn owed(&self, held: Held) -> Option<Owed>
         ensures exact { (over : ℕ → ℕ → Bool) → result ≡ owed (known_with self.now held over) }
         ensures blank { IsBlank self.now → result ≡ None }
+        ensures least { (n : ℕ) → result ≡ Some (BallotOwed n) → 1 ≤ n }
     {
         if let Some(instance) = self.ballot {
             return Some(Owed::BallotOwed { instance });
@@ -140,10 +139,8 @@ impl Lease {
         if self.shown && !held.shared {
             return Some(Owed::ModeOwed);
         }
-        match self.owed_free(held) {
-            Some(instance) => Some(Owed::FreeOwed { instance }),
-            None => None,
-        }
+        self.owed_free(held)
+            .map(|instance| Owed::FreeOwed { instance })
     }
 
     /// The own block without its mode is written.

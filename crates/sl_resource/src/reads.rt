@@ -3,8 +3,8 @@
 ghost use Rattle.sl_area.specs.Layouts.{IsGeometry, layout_of};
 ghost use Rattle.sl_area.specs.Places.{area_blocks, blocks_in, leader_of, read_at, sector_of};
 ghost use Rattle.sl_resource.specs.Reads.{host_block};
-ghost use Rattle.sl_sector.specs.Records.{Fits, IsRecord};
-ghost use Rattle.std.specs.Prelude.{IfOk, IfSome, IsSomeAnd, drop, length, take, ◌*◌, ◌+◌, ◌-◌, ◌<◌, ◌^◌, ◌≡◌, ◌≤◌};
+ghost use Rattle.sl_sector.specs.Records.{IsBlock, IsLeader, IsRecord};
+ghost use Rattle.std.specs.Prelude.{All, IfOk, IfSome, IsSomeAnd, drop, length, take, ◌*◌, ◌+◌, ◌-◌, ◌<◌, ◌^◌, ◌≡◌, ◌≤◌};
 
 use sl_area::Geometry;
 use sl_sector::{Bad, Block, Leader, Rec, block_in, decode, leader_in};
@@ -26,7 +26,7 @@ fn read_at(geometry: &Geometry, bytes: &[u8], place: usize) -> Result<Rec, Bad>
 pub(crate) fn leader_of(geometry: &Geometry, bytes: &[u8]) -> Option<Leader>
     requires { geometry.now.sector ≤ length bytes.now }
     ensures exact { result ≡ leader_of (layout_of geometry.now) bytes.now }
-    ensures bounds { IfSome result (λ l. Fits l.lver) }
+    ensures bounds { IfSome result IsLeader }
 {
     leader_in(read_at(geometry, bytes, 0))
 }
@@ -34,7 +34,8 @@ pub(crate) fn leader_of(geometry: &Geometry, bytes: &[u8]) -> Option<Leader>
 /// The block of a host, if its sector spells one.
 fn host_block(geometry: &Geometry, bytes: &[u8], host: u32) -> Option<Block>
     requires { (1 ≤ host) × (host * geometry.now.sector ≤ length bytes.now) }
-    ensures { result ≡ host_block geometry.now bytes.now host }
+    ensures exact { result ≡ host_block geometry.now bytes.now host }
+    ensures bounds { IfSome result IsBlock }
 {
     block_in(host, read_at(geometry, bytes, host as usize - 1))
 }
@@ -49,6 +50,7 @@ pub(crate) fn blocks_in(
     requires { length bytes.now ≡ geometry.now.hosts * geometry.now.sector }
     ensures exact { IfOk result (λ blocks. blocks.items ≡ blocks_in (layout_of geometry.now) bytes.now) }
     ensures count { IfOk result (λ blocks. length blocks.items ≡ geometry.now.hosts) }
+    ensures bounds { IfOk result (λ blocks. All (λ o. IfSome o IsBlock) blocks.items) }
 {
     let hosts = geometry.hosts();
     let mut blocks = Vec::with_capacity(alloc, hosts as usize)?;
@@ -67,6 +69,7 @@ pub(crate) fn area_blocks(
     requires { length bytes.now ≡ (geometry.now.hosts + 2) * geometry.now.sector }
     ensures exact { IfOk result (λ blocks. blocks.items ≡ area_blocks (layout_of geometry.now) bytes.now) }
     ensures count { IfOk result (λ blocks. length blocks.items ≡ geometry.now.hosts) }
+    ensures bounds { IfOk result (λ blocks. All (λ o. IfSome o IsBlock) blocks.items) }
 {
     let size = geometry.sector() as usize;
     let (_, blocks) = bytes.split_at(2 * size);

@@ -113,10 +113,7 @@ pub(crate) fn own_stop(own: &Option<Block>, read: &[Option<Block>]) -> Option<Op
     requires { length read.now < 2 ^ 32 }
     ensures { result ≡ own_stop own.now read.now }
 {
-    match own {
-        Some(own) => Some(stop_of(own, read)),
-        None => None,
-    }
+    own.as_ref().map(|own| stop_of(own, read))
 }
 
 /// Whether a block above the instance stopped the ballot.

@@ -8,5 +8,5 @@ returns-clause-steps c =
     let h = c.self.inside in
     let inside : HostState = record { site = h.site; next_call = h.next_call; next_job = h.next_job; phase = h.phase; lease = h.lease } in
     release_made c.args.self.now inside c.begins.new.self c.args.process c.args.lver c.submits.new.lease c.freed_leader.result c.end.result c.free_write.result
-    c.end-effects.result (sym c.self.view_is) c.requires.phase c.free_write.ensures c.end.ensures c.end-effects.ensures c.freed_leader.ensures
+    c.end-effects.result (sym c.self.view_is) c.requires.phase c.free_write.ensures c.end.ensures c.end-effects.ensures c.freed_leader.ensures.exact
     c.submits.ensures.state c.submits.ensures.stands c.begins.ensures

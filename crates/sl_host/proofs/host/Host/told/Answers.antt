@@ -14,4 +14,4 @@ returns-clause-steps c =
     let inside : HostState = record { site = h.site; next_call = h.next_call; next_job = h.next_job; phase = h.phase; lease = h.lease } in
     told_made c.args.self.now inside c.args.doing.now c.args.answer.now c.take_answer.new.lease c.in_ok-next.next c.hosts.result c.number_after-self-inside.result c.process-process.result
     c.phase_after-self-inside.result c.told_effects.result (sym c.self.view_is) c.requires.works c.in_ok-next.ensures.taken (c.hosts.ensures.exact ∙ ap (λ z. z.hosts) c.geometry.ensures) c.phase_after-self-inside.ensures
-    c.number_after-self-inside.ensures c.process-process.ensures c.told_effects.ensures
+    c.number_after-self-inside.ensures c.process-process.ensures c.told_effects.ensures c.requires.fits
