@@ -21,6 +21,7 @@ impl Host {
         requires room { self.old.next_call < 2 ^ 63 }
         ensures steps { IfOk result (λ fx. (st : Setting) (es : Trace) → HostStands self.old st es
             → Steps self.old self.new st es (Told doing.now.call answer.now) fx) }
+        ensures site { self.new.site ≡ self.old.site }
         ensures kept { OnErr result (self.new ≡ self.old) }
     {
         let rooms = Rooms::new(self.alloc)?;

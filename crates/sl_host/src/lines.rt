@@ -29,6 +29,7 @@ impl Host {
         requires { self.old.next_job < 2 ^ 63 }
         ensures effects { IfOk result (λ fx. fx ≡ first_effects [] [] (one_reply self.old.next_job why) []) }
         ensures state { OnOk result (self.new ≡ record self.old { next_job = self.old.next_job + 1 }) }
+        ensures site { self.new.site ≡ self.old.site }
         ensures kept { OnErr result (self.new ≡ self.old) }
     {
         let effects = Rooms::new(self.alloc)?.reply(self.next_job, why);
@@ -62,6 +63,7 @@ impl Host {
         requires job { self.old.next_job < 2 ^ 63 }
         ensures steps { IfOk result (λ fx. (st : Setting) (es : Trace) (text : List ℕ) → HostStands self.old st es
             → st.read text ≡ Ok (To_acquire self.old.site.resource false process) → Steps self.old self.new st es (Line text) fx) }
+        ensures site { self.new.site ≡ self.old.site }
         ensures kept { OnErr result (self.new ≡ self.old) }
     {
         let rooms = Rooms::new(self.alloc)?;
@@ -89,6 +91,7 @@ impl Host {
         requires job { self.old.next_job < 2 ^ 63 }
         ensures steps { IfOk result (λ fx. (st : Setting) (es : Trace) (text : List ℕ) → HostStands self.old st es
             → st.read text ≡ Ok (To_release self.old.site.resource process) → Steps self.old self.new st es (Line text) fx) }
+        ensures site { self.new.site ≡ self.old.site }
         ensures kept { OnErr result (self.new ≡ self.old) }
     {
         let ends = Room::new(self.alloc)?;
@@ -111,6 +114,7 @@ impl Host {
         requires job { self.old.next_job < 2 ^ 63 }
         ensures steps { IfOk result (λ fx. (st : Setting) (es : Trace) (text : List ℕ) → HostStands self.old st es
             → st.read text ≡ Ok (To_acquire self.old.site.resource false process) → Steps self.old self.new st es (Line text) fx) }
+        ensures site { self.new.site ≡ self.old.site }
         ensures kept { OnErr result (self.new ≡ self.old) }
     {
         match self.phase {
@@ -129,6 +133,7 @@ impl Host {
         requires job { self.old.next_job < 2 ^ 63 }
         ensures steps { IfOk result (λ fx. (st : Setting) (es : Trace) (text : List ℕ) → HostStands self.old st es
             → st.read text ≡ Ok (To_release self.old.site.resource process) → Steps self.old self.new st es (Line text) fx) }
+        ensures site { self.new.site ≡ self.old.site }
         ensures kept { OnErr result (self.new ≡ self.old) }
     {
         match self.phase {
@@ -152,6 +157,7 @@ impl Host {
         requires call { self.old.next_call < 2 ^ 63 }
         requires job { self.old.next_job < 2 ^ 63 }
         ensures steps { IfOk result (λ fx. (st : Setting) (es : Trace) → HostStands self.old st es → Steps self.old self.new st es (Line text.now) fx) }
+        ensures site { self.new.site ≡ self.old.site }
         ensures kept { OnErr result (self.new ≡ self.old) }
     {
         match read_command(text, &self.word) {

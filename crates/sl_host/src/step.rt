@@ -6,7 +6,7 @@ ghost use Rattle.sl_host.specs.Phases.{is_answer_by};
 ghost use Rattle.sl_trace.specs.Traces.{Setting, Trace, is_expected};
 ghost use Rattle.sl_trace.specs.declared.input.Answer.{Answer as Reading};
 ghost use Rattle.sl_trace.specs.declared.input.Input.TheVariants.{Answer as Told};
-ghost use Rattle.std.specs.Prelude.{IfOk, IsTrue, OnErr, ℕ, ◌&&◌, ◌==◌, ◌<◌, ◌^◌, ◌≡◌};
+ghost use Rattle.std.specs.Prelude.{IfOk, IsTrue, OnErr, nat_lt, ℕ, ◌&&◌, ◌==◌, ◌<◌, ◌^◌, ◌≡◌};
 
 use crate::host::Host;
 use crate::phase::{Doing, Phase};
@@ -36,6 +36,20 @@ fn is_awaited_by(geometry: &Geometry, doing: &Doing, call: u64, answer: &Answer)
 }
 
 impl Host {
+    /// The reading at which the session was renewed, at which the clock stands.
+    pub fn renewed(&self) -> u64
+        ensures { result ≡ self.now.site.session.renewed }
+    {
+        self.site.renewed()
+    }
+
+    /// Whether the next call and the next job have numbers below 2^63.
+    pub fn has_numbers(&self) -> bool
+        ensures { result ≡ (nat_lt self.now.next_call (2 ^ 63) && nat_lt self.now.next_job (2 ^ 63)) }
+    {
+        self.next_call < 1 << 63 && self.next_job < 1 << 63
+    }
+
     /// Whether this call waits for an answer, and may be answered so.
     fn is_awaited(&self, call: u64, answer: &Answer) -> bool
         ensures { result ≡ is_awaited self.now.site.sizes self.now.phase call answer.now }
@@ -72,6 +86,7 @@ impl Host {
         requires awaited { IsTrue (is_awaited self.old.site.sizes self.old.phase call answer.now) }
         requires room { self.old.next_call < 2 ^ 63 }
         ensures steps { IfOk result (λ fx. (st : Setting) (es : Trace) → HostStands self.old st es → Steps self.old self.new st es (Told call answer.now) fx) }
+        ensures site { self.new.site ≡ self.old.site }
         ensures kept { OnErr result (self.new ≡ self.old) }
     {
         match self.phase {
@@ -93,6 +108,7 @@ impl Host {
         requires call { self.old.next_call < 2 ^ 63 }
         requires job { self.old.next_job < 2 ^ 63 }
         ensures steps { IfOk result (λ fx. (st : Setting) (es : Trace) → HostStands self.old st es → StepsAt self.old self.new st es now input fx) }
+        ensures site { self.new.site ≡ self.old.site }
         ensures kept { OnErr result (self.new ≡ self.old) }
     {
         match input {
