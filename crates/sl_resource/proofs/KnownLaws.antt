@@ -33,7 +33,7 @@ named_or None a b e = e
 named_or (Some name) a b e = refl
 
 -- The name that is verified, as text.
-verified_is : (g : Layout) (lockspace : List ℕ) (ms : List Submitted) → unwrap_or (verified_of g lockspace ms) [] ≡ verified_name g lockspace ms
+pub verified_is : (g : Layout) (lockspace : List ℕ) (ms : List Submitted) → unwrap_or (verified_of g lockspace ms) [] ≡ verified_name g lockspace ms
 verified_is g lockspace [] = refl
 verified_is g lockspace (m ∷ ms) = named_or (verified_by g lockspace m) (verified_of g lockspace ms) (verified_name g lockspace ms) (verified_is g lockspace ms)
 

@@ -2,7 +2,7 @@
 use Rattle.sl_area.specs.Layouts.{Sizes}
 use Rattle.sl_leases.specs.declared.lease.LeaseNext.TheVariants.{AnswerJob, GrantJob, Nothing, ReadFor, WriteBlock, WriteLeader}
 use Rattle.sl_leases.specs.declared.lease.LeaseNext.{LeaseNext}
-use Rattle.sl_resource.specs.Bounds.{IsBegun, IsGranted}
+use Rattle.sl_resource.specs.Bounds.{IsBegun, IsGranted, IsInstance}
 use Rattle.sl_resource.specs.declared.deed.Deed.TheVariants.{Reads, WritesBlock, WritesLeader}
 use Rattle.sl_resource.specs.declared.deed.Deed.{Deed}
 use Rattle.sl_sector.specs.declared.sector.Block.{Block}
@@ -131,13 +131,14 @@ is_whole_read z step Written = true
 is_whole_read z step Failed = true
 
 -- What a lease does next can be submitted: a read at a step that reads; a block or a leader that is a record, at a step that writes it.
+-- A grant's instance is one that may be granted.
 abbrev pub IsFitNext : LeaseNext → Type 0
 IsFitNext Nothing = Unit {0}
 IsFitNext (ReadFor step) = IsTrue (is_read_step step)
 IsFitNext (WriteBlock step b) = IsTrue (is_block_step step) × IsBegun b
 IsFitNext (WriteLeader step l) = IsTrue (is_leader_step step) × IsGranted l
 IsFitNext (AnswerJob r) = Unit {0}
-IsFitNext (GrantJob mode lver) = Unit {0}
+IsFitNext (GrantJob mode lver) = IsInstance lver
 
 -- Whether it is a call.
 abbrev pub makes_call : LeaseNext → Bool

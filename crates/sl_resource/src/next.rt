@@ -17,7 +17,7 @@ ghost use Rattle.sl_resource.specs.Stands.{IsAnswered, LeaseStands, is_begun, is
 ghost use Rattle.sl_area.specs.Places.{leader_of};
 ghost use Rattle.sl_trace.specs.Traces.{Submitted};
 ghost use Rattle.sl_resource.specs.declared.evidence.Held.{Held};
-ghost use Rattle.sl_sector.specs.Records.{Fits};
+ghost use Rattle.sl_trace.specs.declared.input.Answer.TheVariants.{Written};
 ghost use Rattle.std.specs.Prelude.{Bool, IsTrue, List, is_some, length, ℕ, ◌*◌, ◌||◌, ◌∷◌, ◌≡◌};
 
 use crate::deed::is_whole;
@@ -117,7 +117,7 @@ impl Lease {
     /// The leader of `n` is taken: exclusive is granted; shared goes on with the own block's mode.
     fn after_take(&self, aim: Aim, n: u64) -> LeaseNext
         ensures exact { (h : Held) (over : ℕ → ℕ → Bool) → result ≡ after_take (known_with self.now h over) aim n }
-        ensures fit { IsFitNext result }
+        ensures fit { IsInstance n → IsFitNext result }
     {
         match aim {
             Aim::Acquires(Mode::Exclusive) => LeaseNext::GrantJob {
@@ -147,7 +147,7 @@ impl Lease {
     /// The leader of `n` is freed: a shared acquire is granted, a release is done, a settling goes on.
     fn after_freeing(&self, held: Held, aim: Aim, n: u64) -> LeaseNext
         ensures exact { (over : ℕ → ℕ → Bool) → result ≡ after_freeing (place_of self.now) (known_with self.now held over) aim n }
-        ensures fit { IsFitNext result }
+        ensures fit { IsInstance n → IsFitNext result }
     {
         match aim {
             Aim::Acquires(_) => LeaseNext::GrantJob {
@@ -204,7 +204,7 @@ impl Lease {
     ) -> LeaseNext
         ensures exact { IsTrue (is_first_step step || is_some self.now.name) → IsTrue (is_whole_read self.now.sizes step answer.now)
             → result ≡ asked_next (place_of self.now) (known_with self.now held (E.over evidence.now)) aim call lver step self.now.read answer.now }
-        ensures fit { IsInstance lver → IsFitNext result }
+        ensures fit { (answer.now ≡ Written → IsInstance lver) → IsFitNext result }
     {
         match answer {
             Answer::Read(bytes) => {
@@ -238,7 +238,7 @@ impl Lease {
             aim call lver step answer.now }
         ensures named { (m : Submitted) (ms : List Submitted) → LeaseStands self.now (m ∷ ms) → IsAnswered self.now.sizes step answer.now m
             → IsTrue (makes_call result) → IsTrue (is_some self.now.name) }
-        ensures fit { IsInstance lver → IsFitNext result }
+        ensures fit { (answer.now ≡ Written → IsInstance lver) → IsFitNext result }
     {
         self.decided(held, evidence, aim, call, lver, step, answer)
     }

@@ -1,0 +1,5 @@
+pub mod LineSteps
+pub mod ReadingLaws
+pub mod StepLaws
+pub mod TakeLaws
+pub mod ToldLaws
