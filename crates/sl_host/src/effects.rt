@@ -64,6 +64,8 @@ impl Rooms {
         ensures { result ≡ first_effects [] [] [] (call ∷ []) }
     {
         let Rooms { alloc, grants, replies, calls } = self;
+        // A value that is handed on needs each type within it named in the body: without these lines the kit's borrow checker, which
+        // says that the fault is its own, finds no plan.
         let _step: Option<LeaseStep> = None;
         let _join: Option<JoinStep> = None;
         let _work: Option<Work> = None;
