@@ -1,0 +1,3 @@
+pub mod Daemons
+pub mod Kept
+pub mod FirstEvents
