@@ -1,3 +1,4 @@
 pub mod Daemons
 pub mod Kept
 pub mod FirstEvents
+pub mod Changes
