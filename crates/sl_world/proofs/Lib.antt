@@ -1,3 +1,6 @@
 pub mod Flights
 pub mod Refusals
 pub mod Places
+pub mod Passing
+pub mod Solo
+pub mod Samples
