@@ -4,3 +4,4 @@ pub mod Places
 pub mod Passing
 pub mod Solo
 pub mod Samples
+pub mod Landings
