@@ -5,3 +5,4 @@ pub mod Passing
 pub mod Solo
 pub mod Samples
 pub mod Landings
+pub mod Steps

@@ -1,4 +1,5 @@
 -- How what is kept changes.
+use Rattle.sl_trace.specs.declared.input.Answer.{Answer}
 use Rattle.sl_area.specs.Layouts.{layout_of, sector_with}
 use Rattle.sl_trace.specs.Traces.{held_after, record_of}
 use Rattle.sl_trace.specs.declared.effects.Call.{Call}
@@ -54,5 +55,9 @@ abbrev pub after_own_step : Effects → Option FlightState → KeptState → Kep
 after_own_step fx o k = record k { flight = flight_after fx.calls o; held = held_after fx k.held }
 
 -- The answer ok of a call.
+abbrev pub ok_answer : FlightState → Answer
+ok_answer f = elim f.call.op [ ReadSectors n ↦ Read f.sampled | WriteRecord r ↦ Written ]
+
+-- .. as it comes to the host.
 abbrev pub told_ok : FlightState → Input
-told_ok f = elim f.call.op [ ReadSectors n ↦ Told f.call.number (Read f.sampled) | WriteRecord r ↦ Told f.call.number Written ]
+told_ok f = Told f.call.number (ok_answer f)
