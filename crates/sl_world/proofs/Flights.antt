@@ -71,7 +71,7 @@ one_found p r q x (c ∷ cs) h may = one_found_at p r q x c cs (r c) refl h may 
 
 -- ---- on the machine
 
-same_number : (n : ℕ) → (n == n) ≡ true
+pub same_number : (n : ℕ) → (n == n) ≡ true
 same_number n = grind (arith, tests)
 
 running_by : (a : Machine) (d : Daemon) (c : Course) → a.daemon ≡ Some d → d.number ≡ 0 → c.daemon ≡ 0 → is_of_running a c ≡ true

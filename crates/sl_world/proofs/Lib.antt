@@ -6,3 +6,4 @@ pub mod Solo
 pub mod Samples
 pub mod Landings
 pub mod Steps
+pub mod Answers
