@@ -7,3 +7,4 @@ pub mod Samples
 pub mod Landings
 pub mod Steps
 pub mod Answers
+pub mod FirstWorld

@@ -1,4 +1,6 @@
 -- How what is kept changes.
+use Rattle.sl_run.specs.declared.event.Event.{Event}
+use Rattle.sl_run.specs.declared.event.Event.TheVariants.{AnswerCall, GiveCommand, Land, Sample}
 use Rattle.sl_trace.specs.declared.input.Answer.{Answer}
 use Rattle.sl_area.specs.Layouts.{layout_of, sector_with}
 use Rattle.sl_trace.specs.Traces.{held_after, record_of}
@@ -6,12 +8,12 @@ use Rattle.sl_trace.specs.declared.effects.Call.{Call}
 use Rattle.sl_trace.specs.declared.effects.Effects.{Effects}
 use Rattle.sl_trace.specs.declared.effects.Op.TheVariants.{ReadSectors, WriteRecord}
 use Rattle.sl_trace.specs.declared.input.Answer.TheVariants.{Read, Written}
-use Rattle.sl_trace.specs.declared.input.Input.TheVariants.{Answer as Told}
+use Rattle.sl_trace.specs.declared.input.Input.TheVariants.{Answer as Told, Line}
 use Rattle.sl_trace.specs.declared.input.Input.{Input}
 use Rattle.sl_world.specs.Kept.{DiskState, FlightState, KeptState, WrittenState, is_written_at, kept_content, kept_sector}
 use Rattle.std.specs.List.{position, range_with_len}
 use Rattle.std.specs.Option.{option_map_or}
-use Rattle.std.specs.Prelude.{List, None, Option, Some, false, flat_map, slice_set, true, [], ℕ, ◌*◌, ◌++◌, ◌+◌, ◌∷◌}
+use Rattle.std.specs.Prelude.{List, None, Option, Some, false, flat_map, slice_set, true, [], ℕ, ◌*◌, ◌++◌, ◌+◌, ◌∷◌, option_map}
 
 -- These places with this one: in place of what was written there, or behind all others.
 abbrev pub put_written : WrittenState → List WrittenState → List WrittenState
@@ -61,3 +63,24 @@ ok_answer f = elim f.call.op [ ReadSectors n ↦ Read f.sampled | WriteRecord r 
 -- .. as it comes to the host.
 abbrev pub told_ok : FlightState → Input
 told_ok f = Told f.call.number (ok_answer f)
+
+-- What is kept after an event that gives the daemon nothing.
+abbrev pub kept_after : Event → KeptState → KeptState
+kept_after (Sample m c n) k = elim k.flight [ None ↦ k | Some f ↦ after_sample n f k ]
+kept_after (Land m c) k = elim k.flight [ None ↦ k | Some f ↦ after_land f k ]
+kept_after e k = k
+
+-- What an event gives the daemon, if it gives something.
+abbrev pub input_in : KeptState → Event → Option Input
+input_in k (GiveCommand m text) = Some (Line text)
+input_in k (AnswerCall m c ok) = option_map told_ok k.flight
+input_in k e = None
+
+-- The call that has no answer once the event's input is taken.
+abbrev pub flight_past : Event → KeptState → Option FlightState
+flight_past (AnswerCall m c ok) k = None
+flight_past e k = k.flight
+
+-- What is kept after a step at the event with these effects.
+abbrev pub stepped_kept : Event → Effects → KeptState → KeptState
+stepped_kept e fx k = after_own_step fx (flight_past e k) k
