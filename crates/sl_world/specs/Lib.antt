@@ -2,3 +2,4 @@ pub mod Daemons
 pub mod Kept
 pub mod FirstEvents
 pub mod Changes
+pub mod Initial

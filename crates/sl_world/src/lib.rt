@@ -2,5 +2,6 @@
 #![tactic(auto)]
 
 pub mod daemon;
+mod initial;
 
 pub use daemon::Daemon;
