@@ -8,3 +8,4 @@ pub mod Landings
 pub mod Steps
 pub mod Answers
 pub mod FirstWorld
+pub mod InitialLaws
