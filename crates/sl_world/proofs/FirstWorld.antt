@@ -22,13 +22,13 @@ use Rattle.sl_world.proofs.Flights.{Flying, flying, the_flight}
 use Rattle.sl_world.proofs.Landings.{land_tells}
 use Rattle.sl_world.proofs.Passing.{answer_passes, is_found, is_on_first, sample_passes, some_none}
 use Rattle.sl_world.proofs.Refusals.{refusal_is}
-use Rattle.sl_world.proofs.Samples.{IsSized, sample_tells}
+use Rattle.sl_world.proofs.Samples.{sample_tells}
 use Rattle.sl_world.proofs.Solo.{solo, solo_is}
 use Rattle.sl_world.proofs.Steps.{step_tells, stepped}
 use Rattle.sl_world.specs.Changes.{kept_after, ok_answer, stepped_kept, told_ok, after_sample, after_land}
 use Rattle.sl_world.specs.Daemons.{IsCalmInput, IsSmall, entry_of}
 use Rattle.sl_world.specs.FirstEvents.{answer_refusal, at_flight, flight_numbered, is_first_event, land_refusal, refusal_in, sample_refusal}
-use Rattle.sl_world.specs.Kept.{FlightState, KeptState, Shown, Tells, WorldStands, shown, shown_of}
+use Rattle.sl_world.specs.Kept.{FlightState, KeptState, Shown, Tells, WorldStands, shown, shown_of, IsSized}
 use Rattle.std.proofs.Common.{ap, refl, subst, sym, ◌∙◌}
 use Rattle.std.specs.Option.{option_map_or}
 use Rattle.std.specs.Prelude.{Bool, List, None, Option, Some, false, is_some, map, nat_lt, option_map, option_to_list, true, [], ℕ, ◌+◌, ◌==◌, ◌∷◌, ◌≡◌}

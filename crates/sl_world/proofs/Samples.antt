@@ -10,7 +10,7 @@ use Rattle.sl_world.proofs.Flights.{Flying, flying}
 use Rattle.sl_world.proofs.Solo.{sample_makes, sampled_machine, solo_is, still_held, waiting_changed}
 use Rattle.sl_world.specs.Changes.{after_sample, flight_sampled, sectors_from}
 use Rattle.sl_world.specs.FirstEvents.{flight_left}
-use Rattle.sl_world.specs.Kept.{DiskState, FlightState, IsFlight, KeptState, Shown, Tells, kept_content, kept_sector, shown, shown_of, waiting}
+use Rattle.sl_world.specs.Kept.{DiskState, FlightState, IsFlight, KeptState, Shown, Tells, kept_content, kept_sector, shown, shown_of, waiting, IsSized}
 use Rattle.std.proofs.Common.{ap, arith, length-append, refl, subst, sym, ◌∙◌}
 use Rattle.std.proofs.Math.Path.{fun_ext}
 use Rattle.std.proofs.lemmas.Bool.Decides.{nat_tests}
@@ -19,10 +19,6 @@ use Rattle.std.specs.List.{range_with_len}
 use Rattle.std.specs.Prelude.{List, Some, false, flat_map, length, map, nat_lt, option_to_list, true, [], ℕ, ◌*◌, ◌++◌, ◌+◌, ◌-◌, ◌==◌, ◌∷◌, ◌≡◌, ◌≤◌}
 
 -- ---- lengths
-
--- Each place has a sector's bytes.
-abbrev pub IsSized : DiskState → Type 0
-IsSized d = (path : List ℕ) (offset : ℕ) → length (kept_content d path offset) ≡ kept_sector d
 
 one_more : (n s a : ℕ) → a ≡ n * s → s + a ≡ (1 + n) * s
 one_more n s a h = omega (arith, h)

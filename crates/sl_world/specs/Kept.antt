@@ -1,4 +1,5 @@
 -- What the program keeps of a world, and the worlds that it stands for.
+use Rattle.sl_run.specs.Headers.{IsHeader}
 use Rattle.sl_area.specs.Layouts.{layout_of}
 use Rattle.sl_run.specs.Events.{sectors_of}
 use Rattle.sl_run.specs.Worlds.{Course, Daemon, Fate, In_flight, Landed, Machine, World, content, initial_bytes, mebibyte, reading_now}
@@ -8,8 +9,8 @@ use Rattle.sl_trace.specs.Traces.{Setting, Trace, outstanding, same_place}
 use Rattle.sl_trace.specs.declared.effects.Call.{Call}
 use Rattle.sl_trace.specs.declared.effects.Grant.{Grant}
 use Rattle.sl_trace.specs.declared.input.Given.{Given}
-use Rattle.std.specs.List.{list_any}
-use Rattle.std.specs.Prelude.{Bool, Contains, List, None, Option, Some, bytes_eq, false, filter, find, is_none, length, map, nat_le, option_to_list, true, [], ℕ, ◌&&◌, ◌*◌, ◌+◌, ◌-◌, ◌∷◌, ◌≡◌, ◌≤◌}
+use Rattle.std.specs.List.{list_any, list_all}
+use Rattle.std.specs.Prelude.{Bool, Contains, List, None, Option, Some, bytes_eq, false, filter, find, is_none, length, map, nat_le, option_to_list, true, [], ℕ, ◌&&◌, ◌*◌, ◌+◌, ◌-◌, ◌∷◌, ◌≡◌, ◌≤◌, ◌==◌}
 
 -- What was written at a place.
 pub record WrittenState : Type 0 where
@@ -54,6 +55,19 @@ abbrev pub is_on_disk : Header → Call → Bool
 is_on_disk h c =
     list_any (λ d. bytes_eq d.path c.path
     && nat_le (c.offset + (sectors_of c.op - 1) * h.geometry.sector + h.geometry.sector) (d.mebibytes * mebibyte)) h.disks
+
+-- Each place has a sector's bytes.
+abbrev pub IsSized : DiskState → Type 0
+IsSized d = (path : List ℕ) (offset : ℕ) → length (kept_content d path offset) ≡ kept_sector d
+
+-- The disks of a header, with these sectors written.
+pub record IsDisk (h : Header) (written : List WrittenState) : Type 0 where
+  pub header : IsHeader h
+  pub sized : list_all (λ s. length s.bytes == h.geometry.sector) written ≡ true
+
+-- The disks at moment 0.
+abbrev pub first_disk : Header → DiskState
+first_disk h = record { header = h; written = [] }
 
 -- ---- for which worlds it stands
 

@@ -228,3 +228,19 @@ fn in_resource(geometry: Geometry, line: &ResourceLine, number: u64) -> Option<R
         None
     }
 }
+
+/// The record that stands at a place at moment 0, if any.
+#[tactic(auto, unfolding(sl_run::specs::Worlds::initial_record))]
+pub fn initial_record(header: &Header, path: FilePath, offset: u64) -> Option<Rec>
+    ensures { result ≡ initial_record (layout_of header.now.geometry) header.now path offset }
+{
+    let geometry = header.geometry;
+    let sector = u64::from(geometry.sector());
+    match lockspace_at(header, path, offset) {
+        Some(line) => in_lockspace(header, line, offset.saturating_sub(line.offset) / sector),
+        None => match resource_at(header, path, offset) {
+            Some(line) => in_resource(geometry, line, offset.saturating_sub(line.offset) / sector),
+            None => None,
+        },
+    }
+}

@@ -2,6 +2,7 @@
 #![tactic(auto)]
 
 pub mod daemon;
+mod disk;
 mod initial;
 
 pub use daemon::Daemon;
