@@ -9,3 +9,4 @@ pub mod Steps
 pub mod Answers
 pub mod FirstWorld
 pub mod InitialLaws
+pub mod DiskLaws
