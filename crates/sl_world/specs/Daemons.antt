@@ -27,6 +27,10 @@ pub record IsCalmInput (st : Setting) (es : Trace) (now : ℕ) (i : Input) : Typ
 abbrev pub entry_of : ℕ → Input → Effects → Entry
 entry_of now i fx = record { reading = now; input = i; effects = fx }
 
+-- What the call writes, if it writes, is a record.
+abbrev pub IsSpelled : Call → Type 0
+IsSpelled c = (r : Rec) → record_of c.op ≡ Some r → IsRecord r
+
 -- What an entry of such a daemon never exceeds.
 pub record IsSmall (es : Trace) (e : Entry) : Type 0 where
   -- a second call without an answer would have to be kept beside the first
@@ -34,4 +38,4 @@ pub record IsSmall (es : Trace) (e : Entry) : Type 0 where
   -- room for a grant is taken before the step
   pub grants : length e.effects.grants ≤ 1
   -- what spells no record would land as torn bytes
-  pub spelled : (c : Call) (r : Rec) → Contains e.effects.calls c → record_of c.op ≡ Some r → IsRecord r
+  pub spelled : (c : Call) → Contains e.effects.calls c → IsSpelled c

@@ -3,6 +3,8 @@
 
 pub mod daemon;
 mod disk;
+mod flight;
 mod initial;
+mod kept;
 
 pub use daemon::Daemon;
