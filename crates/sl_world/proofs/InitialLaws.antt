@@ -30,13 +30,13 @@ use Rattle.std.specs.Prelude.{Bool, Contains, IsTrue, List, None, Option, Some, 
 
 -- ---- what is found is there
 
-first_place : (n : ℕ) → 0 < suc n
+pub first_place : (n : ℕ) → 0 < suc n
 first_place n = omega arith
 
 next_place : (k n : ℕ) → k < n → suc k < suc n
 next_place k n h = omega (arith, h)
 
-later : {X : Type 0} (y x : X) (ys : List X) → Contains ys x → Contains (y ∷ ys) x
+pub later : {X : Type 0} (y x : X) (ys : List X) → Contains ys x → Contains (y ∷ ys) x
 later y x ys c = (suc c.0, next_place c.0 (length ys) c.1, c.2)
 
 find_at : {X : Type 0} (p : X → Bool) (y : X) (ys : List X) (x : X) (b : Bool) → p y ≡ b → (if b then Some y else find p ys) ≡ Some x

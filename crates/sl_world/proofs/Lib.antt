@@ -10,3 +10,4 @@ pub mod Answers
 pub mod FirstWorld
 pub mod InitialLaws
 pub mod DiskLaws
+pub mod KeptLaws

@@ -53,6 +53,17 @@ read_passes false p l h = (refl, (neither (not p) l MissingPlace MissingSample h
 pub sample_passes : (d : DiskState) (n : ℕ) (f : FlightState) → sample_refusal d n f ≡ None → (flight_writes f ≡ false) × (nat_lt (flight_left f) n ≡ false)
 sample_passes d n f h = read_passes (flight_writes f) (is_on_disk d.header f.call) (nat_lt (flight_left f) n) h
 
+room_passes : (b p : Bool) (l : Bool) → elim b as (λ x. Option Refusal) [
+      | true ↦ Some MissingCall
+      | false ↦ first_that ((not p, MissingPlace) ∷ (l, MissingSample) ∷ [])
+    ] ≡ None → (p ≡ true) × (l ≡ false)
+room_passes true p l h = absurd (some_none MissingCall h)
+room_passes false true l h = (refl, (neither false l MissingPlace MissingSample h).1)
+room_passes false false l h = absurd (some_none MissingPlace h)
+
+pub sample_room_passes : (d : DiskState) (n : ℕ) (f : FlightState) → sample_refusal d n f ≡ None → (is_on_disk d.header f.call ≡ true) × (nat_lt (flight_left f) n ≡ false)
+sample_room_passes d n f h = room_passes (flight_writes f) (is_on_disk d.header f.call) (nat_lt (flight_left f) n) h
+
 write_passes : (b p : Bool) (l : Bool) → elim b as (λ x. Option Refusal) [
       | false ↦ Some MissingCall
       | true ↦ first_that ((not p, MissingPlace) ∷ (l, MissingFlight) ∷ [])

@@ -1,4 +1,6 @@
 -- How what is kept changes.
+use Rattle.sl_run.specs.Worlds.{clock_reading}
+use Rattle.sl_run.specs.declared.header.Header.{Header}
 use Rattle.sl_run.specs.declared.event.Event.{Event}
 use Rattle.sl_run.specs.declared.event.Event.TheVariants.{AnswerCall, GiveCommand, Land, Sample}
 use Rattle.sl_trace.specs.declared.input.Answer.{Answer}
@@ -10,10 +12,10 @@ use Rattle.sl_trace.specs.declared.effects.Op.TheVariants.{ReadSectors, WriteRec
 use Rattle.sl_trace.specs.declared.input.Answer.TheVariants.{Read, Written}
 use Rattle.sl_trace.specs.declared.input.Input.TheVariants.{Answer as Told, Line}
 use Rattle.sl_trace.specs.declared.input.Input.{Input}
-use Rattle.sl_world.specs.Kept.{DiskState, FlightState, KeptState, WrittenState, is_written_at, kept_content, kept_sector}
+use Rattle.sl_world.specs.Kept.{DiskState, FlightState, KeptState, WrittenState, is_written_at, kept_content, kept_sector, first_disk}
 use Rattle.std.specs.List.{position, range_with_len}
 use Rattle.std.specs.Option.{option_map_or}
-use Rattle.std.specs.Prelude.{List, None, Option, Some, false, flat_map, slice_set, true, [], ℕ, ◌*◌, ◌++◌, ◌+◌, ◌∷◌, option_map}
+use Rattle.std.specs.Prelude.{List, None, Option, Some, false, flat_map, slice_set, true, [], ℕ, ◌*◌, ◌++◌, ◌+◌, ◌∷◌, option_map, ◌^◌, ◌<◌}
 
 -- These places with this one: in place of what was written there, or behind all others.
 abbrev pub put_written : WrittenState → List WrittenState → List WrittenState
@@ -64,10 +66,18 @@ ok_answer f = elim f.call.op [ ReadSectors n ↦ Read f.sampled | WriteRecord r 
 abbrev pub told_ok : FlightState → Input
 told_ok f = Told f.call.number (ok_answer f)
 
+-- With so many sectors more of the call that waits.
+abbrev pub kept_sampled : ℕ → KeptState → KeptState
+kept_sampled n k = elim k.flight [ None ↦ k | Some f ↦ after_sample n f k ]
+
+-- With the landing of the call that waits.
+abbrev pub kept_landed : KeptState → KeptState
+kept_landed k = elim k.flight [ None ↦ k | Some f ↦ after_land f k ]
+
 -- What is kept after an event that gives the daemon nothing.
 abbrev pub kept_after : Event → KeptState → KeptState
-kept_after (Sample m c n) k = elim k.flight [ None ↦ k | Some f ↦ after_sample n f k ]
-kept_after (Land m c) k = elim k.flight [ None ↦ k | Some f ↦ after_land f k ]
+kept_after (Sample m c n) k = kept_sampled n k
+kept_after (Land m c) k = kept_landed k
 kept_after e k = k
 
 -- What an event gives the daemon, if it gives something.
@@ -84,3 +94,12 @@ flight_past e k = k.flight
 -- What is kept after a step at the event with these effects.
 abbrev pub stepped_kept : Event → Effects → KeptState → KeptState
 stepped_kept e fx k = after_own_step fx (flight_past e k) k
+
+-- What is kept at first: the machine's first reading, and nothing else.
+abbrev pub first_kept : Header → KeptState
+first_kept h = record { disk = first_disk h; reading = clock_reading h 1; flight = None; held = [] }
+
+-- The room that a sample takes: its places and its count are numbers of 64 bits.
+pub record HasRoom (sector n : ℕ) (f : FlightState) : Type 0 where
+  pub place : f.call.offset + (f.sectors + n) * sector < 2 ^ 64
+  pub count : f.sectors + n < 2 ^ 64
