@@ -9,11 +9,11 @@ use Rattle.sl_world.proofs.InitialLaws.{later, first_place, has_sizes}
 use Rattle.sl_world.proofs.Passing.{sample_room_passes}
 use Rattle.sl_world.specs.Changes.{HasRoom}
 use Rattle.sl_world.specs.FirstEvents.{sample_refusal}
-use Rattle.sl_world.specs.Kept.{DiskState, FlightState}
+use Rattle.sl_world.specs.Kept.{DiskState, FlightState, KeptState, kept_sector}
 use Rattle.std.proofs.Common.{arith, refl, subst, sym}
 use Rattle.std.proofs.lemmas.Bool.Decides.{nat_tests}
 use Rattle.std.specs.List.{list_any}
-use Rattle.std.specs.Prelude.{Bool, Contains, List, None, bytes_eq, false, length, nat_le, nat_lt, true, [], ℕ, ◌&&◌, ◌*◌, ◌+◌, ◌-◌, ◌<◌, ◌^◌, ◌||◌, ◌∷◌, ◌≡◌, ◌≤◌}
+use Rattle.std.specs.Prelude.{Bool, Contains, List, None, bytes_eq, false, length, nat_le, nat_lt, true, [], ℕ, ◌&&◌, ◌*◌, ◌+◌, ◌-◌, ◌<◌, ◌^◌, ◌||◌, ◌∷◌, ◌≡◌, ◌≤◌, Some}
 
 -- One of them passes.
 pub record Passes {X : Type 0} (p : X → Bool) (xs : List X) : Type 0 where
@@ -61,3 +61,8 @@ sample_has_room d n f h some short passes =
           (le_is _ _ fits.1) (h.disks disk.element disk.there).2 within;
       count = few_count f.sectors n (sectors_of f.call.op) within short;
     }
+
+-- Room that there is by the value is there by the fields.
+pub room_inside : (k v : KeptState) (n : ℕ) → v ≡ k → ((f : FlightState) → k.flight ≡ Some f → HasRoom (kept_sector k.disk) n f)
+    → (f : FlightState) → v.flight ≡ Some f → HasRoom (kept_sector v.disk) n f
+room_inside k v n is h = let P : KeptState → Type 0 = λ x. (f : FlightState) → x.flight ≡ Some f → HasRoom (kept_sector x.disk) n f in subst P (sym is) h

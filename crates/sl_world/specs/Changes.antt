@@ -15,7 +15,7 @@ use Rattle.sl_trace.specs.declared.input.Input.{Input}
 use Rattle.sl_world.specs.Kept.{DiskState, FlightState, KeptState, WrittenState, is_written_at, kept_content, kept_sector, first_disk}
 use Rattle.std.specs.List.{position, range_with_len}
 use Rattle.std.specs.Option.{option_map_or}
-use Rattle.std.specs.Prelude.{List, None, Option, Some, false, flat_map, slice_set, true, [], ℕ, ◌*◌, ◌++◌, ◌+◌, ◌∷◌, option_map, ◌^◌, ◌<◌}
+use Rattle.std.specs.Prelude.{List, None, Option, Some, false, flat_map, slice_set, true, [], ℕ, ◌*◌, ◌++◌, ◌+◌, ◌∷◌, option_map, ◌^◌, ◌<◌, Bool}
 
 -- These places with this one: in place of what was written there, or behind all others.
 abbrev pub put_written : WrittenState → List WrittenState → List WrittenState
@@ -53,6 +53,11 @@ new_flight c = record { call = c; sampled = []; sectors = 0; landed = false }
 abbrev pub flight_after : List Call → Option FlightState → Option FlightState
 flight_after [] o = o
 flight_after (c ∷ cs) o = Some (new_flight c)
+
+-- The call that still waits, where the one that waited is answered or isn't.
+abbrev pub still_waiting : Bool → Option FlightState → Option FlightState
+still_waiting true o = None
+still_waiting false o = o
 
 -- What is kept after a step with these effects, where this call was without an answer when they came.
 abbrev pub after_own_step : Effects → Option FlightState → KeptState → KeptState

@@ -69,7 +69,8 @@ impl Model for Disks {
 #[tactic(auto, using(crate::proofs::InitialLaws::is_size))]
 pub fn spelled(alloc: Global, geometry: Geometry, rec: &Rec) -> Result<Vec<u8>, AllocError>
     requires { IsRecord rec.now }
-    ensures { IfOk result (λ bytes. bytes.items ≡ sector_with (layout_of geometry) rec.now) }
+    ensures exact { IfOk result (λ bytes. bytes.items ≡ sector_with (layout_of geometry) rec.now) }
+    ensures sized { IfOk result (λ bytes. length bytes.items ≡ geometry.sector) }
 {
     let mut bytes = vec![in alloc; 0; geometry.sector() as usize]?;
     rec.encode_into(&mut bytes);

@@ -9,7 +9,7 @@ ghost use Rattle.sl_world.specs.Changes.{flight_sampled, new_flight, ok_answer, 
 ghost use Rattle.sl_world.specs.Daemons.{IsSpelled};
 ghost use Rattle.sl_world.specs.FirstEvents.{flight_left, flight_writes};
 ghost use Rattle.sl_world.specs.Kept.{kept_sector};
-ghost use Rattle.std.specs.Prelude.{IfOk, OnErr, OnOk, ◌*◌, ◌+◌, ◌<◌, ◌^◌, ◌≡◌, ◌≤◌, [], ◌==◌, true};
+ghost use Rattle.std.specs.Prelude.{IfOk, OnErr, OnOk, ◌*◌, ◌+◌, ◌<◌, ◌^◌, ◌≡◌, ◌≤◌, [], ◌==◌, true, length};
 
 use crate::disk::{Disks, spelled};
 use sl_area::Geometry;
@@ -131,7 +131,8 @@ impl Flight {
 
     /// The sector that it writes. An `Err` is want of memory.
     pub fn sector(&self, alloc: Global, geometry: Geometry) -> Result<Vec<u8>, AllocError>
-        ensures { IfOk result (λ bytes. bytes.items ≡ option_map_or (sector_with (layout_of geometry)) (record_of self.now.call.op) []) }
+        ensures exact { IfOk result (λ bytes. bytes.items ≡ option_map_or (sector_with (layout_of geometry)) (record_of self.now.call.op) []) }
+        ensures sized { flight_writes self.now ≡ true → IfOk result (λ bytes. length bytes.items ≡ geometry.sector) }
     {
         match self.call.op {
             Op::ReadSectors { sectors: _ } => Ok(Vec::new(alloc)),

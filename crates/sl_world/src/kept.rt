@@ -1,17 +1,20 @@
 //! What is kept of a world beside its host: the disks, the clock's reading, the call that waits, and what is held.
 
+ghost use Rattle.std.specs.Vec.{vec_capacity, vec_len};
+ghost use Rattle.sl_world.specs.FirstEvents.{flight_writes};
 ghost use Rattle.std.specs.Option.{option_copied};
 ghost use Rattle.sl_area.specs.Layouts.{layout_of};
 ghost use Rattle.sl_run.specs.Headers.{IsHeader};
-ghost use Rattle.sl_trace.specs.Traces.{held_after, is_ended_by};
-ghost use Rattle.sl_world.specs.Changes.{after_land, after_own_step, after_sample, flight_after};
+ghost use Rattle.sl_trace.specs.Traces.{held_after, is_ended_by, same_place};
+ghost use Rattle.sl_world.specs.Changes.{after_land, after_own_step, after_sample, flight_after, HasRoom, first_kept, kept_sampled, kept_landed, still_waiting};
 ghost use Rattle.sl_world.specs.Daemons.{IsSpelled};
 ghost use Rattle.sl_world.specs.FirstEvents as first_events;
-ghost use Rattle.sl_world.specs.Kept.{IsSized, kept_sector};
-ghost use Rattle.std.specs.Prelude.{Contains, IsTrue, None, OnErr, OnOk, Option, Some, length, false, true, ◌*◌, ◌+◌, ◌<◌, ◌^◌, ◌≡◌, ◌≤◌, ◌==◌, ◌&&◌};
+ghost use Rattle.sl_world.specs.Kept.{IsSized, kept_sector, FlightState};
+ghost use Rattle.std.specs.Prelude.{Contains, IsTrue, None, OnErr, OnOk, Option, Some, length, false, true, ◌*◌, ◌+◌, ◌<◌, ◌^◌, ◌≡◌, ◌≤◌, ◌==◌, ◌&&◌, [], ◌++◌, ◌∷◌, filter, not};
 
 use crate::disk::Disks;
 use crate::flight::Flight;
+use crate::initial::clock_reading;
 use sl_run::{Event, Header, Refusal};
 use sl_trace::{Call, Effects, End, Grant};
 use std::alloc::{AllocError, Global};
@@ -202,4 +205,142 @@ impl Kept {
             _ => None,
         }
     }
+
+    /// What is kept at first. It takes no memory.
+    pub fn new(alloc: Global, header: Header) -> Kept
+        requires { IsHeader header }
+        ensures { result ≡ first_kept header }
+    {
+        let reading = clock_reading(&header, 1);
+        Kept {
+            disks: Disks::new(alloc, header),
+            reading,
+            flight: None,
+            held: Vec::new(alloc),
+        }
+    }
+
+    /// The reading at which the machine's clock stands, in milliseconds.
+    pub fn reading(&self) -> u64
+        ensures { result ≡ self.now.reading }
+    {
+        self.reading
+    }
+
+    /// What is held, in the order of the grants.
+    pub fn held(&self) -> &[Grant]
+        ensures { result.now ≡ self.now.held }
+    {
+        &self.held
+    }
+
+    /// Samples so many sectors more of the call that waits. An `Err` is want of memory, and then nothing has changed.
+    pub fn sample(&mut self, n: u64) -> Result<(), AllocError>
+        requires { (f : FlightState) → self.old.flight ≡ Some f → HasRoom (kept_sector self.old.disk) n f }
+        ensures ok { OnOk result (self.new ≡ kept_sampled n self.old) }
+        ensures err { OnErr result (self.new ≡ self.old) }
+    {
+        match &mut self.flight {
+            Some(flight) => flight.sample(&self.disks, n),
+            None => Ok(()),
+        }
+    }
+
+    /// The write that waits lands. An `Err` is want of memory, and then nothing has changed.
+    pub fn land(&mut self) -> Result<(), AllocError>
+        requires { (f : FlightState) → self.old.flight ≡ Some f → flight_writes f ≡ true }
+        ensures ok { OnOk result (self.new ≡ kept_landed self.old) }
+        ensures err { OnErr result (self.new ≡ self.old) }
+    {
+        let geometry = self.disks.header().geometry;
+        match &mut self.flight {
+            Some(flight) => {
+                let bytes = flight.sector(*self.held.allocator(), geometry)?;
+                let call = *flight.call();
+                self.disks.put(call.path, call.offset, bytes)?;
+                flight.land();
+                Ok(())
+            }
+            None => Ok(()),
+        }
+    }
+
+    /// Takes what a step did: what is held then is put into the room, and a new call waits. It takes no memory.
+    pub fn take(&mut self, effects: &Effects, room: Vec<Grant>, answered: bool)
+        requires calls { (c : Call) → Contains effects.now.calls c → IsSpelled c }
+        requires empty { room.items ≡ [] }
+        requires room { length self.old.held + length effects.now.grants ≤ vec_capacity room }
+        ensures { self.new ≡ after_own_step effects.now (still_waiting answered self.old.flight) self.old }
+    {
+        let alloc = *self.held.allocator();
+        self.held = held_after(&self.held, effects, room);
+        if answered {
+            self.flight = None;
+        }
+        if let Some(call) = effects.calls.as_slice().first() {
+            self.flight = Some(Flight::new(alloc, *call));
+        }
+    }
+}
+
+/// Whether this is the end of the holding: its process and its place.
+fn ends_holding(end: &End, grant: &Grant) -> bool
+    ensures { result ≡ (end.now.process == grant.now.process && same_place end.now.path end.now.offset grant.now.path grant.now.offset) }
+{
+    end.process == grant.process && end.offset == grant.offset && end.path == grant.path
+}
+
+/// Whether one of these ends is that of the holding.
+fn is_ended_by(ends: &[End], grant: &Grant) -> bool
+    ensures { result ≡ is_ended_by ends.now grant.now }
+{
+    ends.iter().any(|end| ends_holding(end, grant))
+}
+
+/// Adds a holding where there is room.
+fn push_within(held: &mut Vec<Grant>, grant: Grant)
+    requires { vec_len held.old < vec_capacity held.old }
+    ensures items { held.new.items ≡ held.old.items ++ grant ∷ [] }
+    ensures room { vec_capacity held.old ≤ vec_capacity held.new }
+{
+    match held.push(grant) {
+        Ok(()) => {}
+        Err(_) => unreachable!(),
+    }
+}
+
+/// Puts the holdings that no end ends behind those in the room.
+fn put_unended(held: &[Grant], ends: &[End], mut room: Vec<Grant>) -> Vec<Grant>
+    requires { length room.items + length held.now ≤ vec_capacity room }
+    ensures items { result.items ≡ room.items ++ filter (λ g. not (is_ended_by ends.now g)) held.now }
+    ensures room { vec_capacity room ≤ vec_capacity result }
+    ensures few { length result.items ≤ length room.items + length held.now }
+{
+    for grant in held {
+        if !is_ended_by(ends, grant) {
+            push_within(&mut room, *grant);
+        }
+    }
+    room
+}
+
+/// Puts the new holdings behind those in the room.
+fn put_grants(grants: &[Grant], mut room: Vec<Grant>) -> Vec<Grant>
+    requires { length room.items + length grants.now ≤ vec_capacity room }
+    ensures { result.items ≡ room.items ++ grants.now }
+{
+    for grant in grants {
+        push_within(&mut room, *grant);
+    }
+    room
+}
+
+/// What is held after a step, put into the room.
+fn held_after(held: &[Grant], effects: &Effects, room: Vec<Grant>) -> Vec<Grant>
+    requires empty { room.items ≡ [] }
+    requires room { length held.now + length effects.now.grants ≤ vec_capacity room }
+    ensures { result.items ≡ held_after effects.now held.now }
+{
+    let unended = put_unended(held, effects.ends.as_slice(), room);
+    put_grants(effects.grants.as_slice(), unended)
 }

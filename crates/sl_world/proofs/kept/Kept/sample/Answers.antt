@@ -1,0 +1,8 @@
+use Rattle.sl_world.proofs.KeptLaws.{room_inside}
+use Rattle.sl_world.proofs.kept.Kept.sample.Goals as goal
+
+pub sample-requires-clause-place : goal.sample-requires-clause-place
+sample-requires-clause-place c = (room_inside _ _ c.args.n c.self.view_is c.requires c.in-Some.flight c.in-Some.is).place
+
+pub sample-requires-clause-count : goal.sample-requires-clause-count
+sample-requires-clause-count c = (room_inside _ _ c.args.n c.self.view_is c.requires c.in-Some.flight c.in-Some.is).count
