@@ -11,3 +11,4 @@ pub mod FirstWorld
 pub mod InitialLaws
 pub mod DiskLaws
 pub mod KeptLaws
+pub mod WorldLaws

@@ -1,7 +1,10 @@
 -- What the program keeps of a world, and the worlds that it stands for.
+use Rattle.sl_report.specs.Replay.{effects_of}
+use Rattle.sl_trace.specs.declared.effects.Effects.{Effects}
+use Rattle.sl_run.specs.declared.event.Event.{Event}
 use Rattle.sl_run.specs.Headers.{IsHeader}
 use Rattle.sl_area.specs.Layouts.{layout_of}
-use Rattle.sl_run.specs.Events.{sectors_of}
+use Rattle.sl_run.specs.Events.{sectors_of, happens, may_happen}
 use Rattle.sl_run.specs.Worlds.{Course, Daemon, Fate, In_flight, Landed, Machine, World, content, initial_bytes, mebibyte, reading_now}
 use Rattle.sl_run.specs.declared.header.Header.{Header}
 use Rattle.sl_trace.specs.Connections.{connections}
@@ -131,3 +134,13 @@ pub record WorldStands {D : Type 0} (stands : D → Setting → Trace → Type 0
   pub daemon : Daemon
   pub tells : Tells k w machine daemon
   pub runs : stands host daemon.setting daemon.trace
+
+-- What an event comes to: its effects are those that are due, and what is kept then, and the host, stand for the world after it.
+pub record Comes {D : Type 0} (stands : D → Setting → Trace → Type 0) (w : World) (e : Event) (fx : Effects) (k : KeptState) (host : D) : Type 0 where
+  pub may : may_happen w e ≡ true
+  pub effects : effects_of w e ≡ fx ∷ []
+  pub stays : WorldStands stands k host (happens w e (fx ∷ []))
+
+-- They stand for some world.
+abbrev pub StandsForSome : {D : Type 0} → (D → Setting → Trace → Type 0) → KeptState → D → Type 0
+StandsForSome stands k host = (w : World) × WorldStands stands k host w

@@ -6,17 +6,17 @@ ghost use Rattle.std.specs.Option.{option_copied};
 ghost use Rattle.sl_area.specs.Layouts.{layout_of};
 ghost use Rattle.sl_run.specs.Headers.{IsHeader};
 ghost use Rattle.sl_trace.specs.Traces.{held_after, is_ended_by, same_place};
-ghost use Rattle.sl_world.specs.Changes.{after_land, after_own_step, after_sample, flight_after, HasRoom, first_kept, kept_sampled, kept_landed, still_waiting};
+ghost use Rattle.sl_world.specs.Changes.{after_land, after_own_step, after_sample, flight_after, HasRoom, first_kept, kept_sampled, kept_landed, still_waiting, told_ok};
 ghost use Rattle.sl_world.specs.Daemons.{IsSpelled};
 ghost use Rattle.sl_world.specs.FirstEvents as first_events;
 ghost use Rattle.sl_world.specs.Kept.{IsSized, kept_sector, FlightState};
-ghost use Rattle.std.specs.Prelude.{Contains, IsTrue, None, OnErr, OnOk, Option, Some, length, false, true, ◌*◌, ◌+◌, ◌<◌, ◌^◌, ◌≡◌, ◌≤◌, ◌==◌, ◌&&◌, [], ◌++◌, ◌∷◌, filter, not};
+ghost use Rattle.std.specs.Prelude.{Contains, IsTrue, None, OnErr, OnOk, Option, Some, length, false, true, ◌*◌, ◌+◌, ◌<◌, ◌^◌, ◌≡◌, ◌≤◌, ◌==◌, ◌&&◌, [], ◌++◌, ◌∷◌, filter, not, IfOk, option_map};
 
 use crate::disk::Disks;
 use crate::flight::Flight;
 use crate::initial::clock_reading;
 use sl_run::{Event, Header, Refusal};
-use sl_trace::{Call, Effects, End, Grant};
+use sl_trace::{Call, Effects, End, Grant, Input};
 use std::alloc::{AllocError, Global};
 use std::marker::Model;
 
@@ -262,6 +262,24 @@ impl Kept {
                 Ok(())
             }
             None => Ok(()),
+        }
+    }
+
+    /// Room for what is held, and one holding more. An `Err` is want of memory.
+    pub fn room(&self) -> Result<Vec<Grant>, AllocError>
+        ensures empty { IfOk result (λ room. room.items ≡ []) }
+        ensures room { IfOk result (λ room. length self.now.held + 1 ≤ vec_capacity room) }
+    {
+        Vec::with_capacity(*self.held.allocator(), self.held.len() + 1)
+    }
+
+    /// The answer ok of the call that waits, if one does. An `Err` is want of memory.
+    pub fn answer(&self) -> Result<Option<Input>, AllocError>
+        ensures { IfOk result (λ input. input ≡ option_map told_ok self.now.flight) }
+    {
+        match &self.flight {
+            Some(flight) => Ok(Some(flight.answer(*self.held.allocator())?)),
+            None => Ok(None),
         }
     }
 

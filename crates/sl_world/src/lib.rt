@@ -6,5 +6,8 @@ mod disk;
 mod flight;
 mod initial;
 mod kept;
+pub mod world;
 
 pub use daemon::Daemon;
+pub use kept::is_first_event;
+pub use world::World;
