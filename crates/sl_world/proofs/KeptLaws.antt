@@ -62,7 +62,12 @@ sample_has_room d n f h some short passes =
       count = few_count f.sectors n (sectors_of f.call.op) within short;
     }
 
--- Room that there is by the value is there by the fields.
-pub room_inside : (k v : KeptState) (n : ℕ) → v ≡ k → ((f : FlightState) → k.flight ≡ Some f → HasRoom (kept_sector k.disk) n f)
-    → (f : FlightState) → v.flight ≡ Some f → HasRoom (kept_sector v.disk) n f
-room_inside k v n is h = let P : KeptState → Type 0 = λ x. (f : FlightState) → x.flight ≡ Some f → HasRoom (kept_sector x.disk) n f in subst P (sym is) h
+lt_is : (n : ℕ) → 0 < n → nat_lt 0 n ≡ true
+lt_is n h = grind (arith, nat_tests)
+
+-- What passes by the value has room by the fields.
+pub room_inside : (k v : KeptState) (n : ℕ) → v ≡ k → 0 < n → ((f : FlightState) → k.flight ≡ Some f → sample_refusal k.disk n f ≡ None)
+    → IsHeader v.disk.header → (f : FlightState) → v.flight ≡ Some f → sectors_of f.call.op < 2 ^ 32 → HasRoom (kept_sector v.disk) n f
+room_inside k v n is some h ok f at short =
+    let P : KeptState → Type 0 = λ x. (f : FlightState) → x.flight ≡ Some f → sample_refusal x.disk n f ≡ None in
+    sample_has_room v.disk n f ok (lt_is n some) short (subst P (sym is) h f at)

@@ -104,7 +104,8 @@ impl Flight {
 
     /// How many sectors it hasn't sampled.
     pub fn left(&self) -> u64
-        ensures { result ≡ flight_left self.now }
+        ensures exact { result ≡ flight_left self.now }
+        ensures few { events.sectors_of self.now.call.op < 2 ^ 32 }
     {
         sectors_of(&self.call.op).saturating_sub(self.sectors)
     }

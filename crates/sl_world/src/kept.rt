@@ -227,6 +227,11 @@ impl Kept {
         self.reading
     }
 
+    /// Where memory comes from.
+    pub fn allocator(&self) -> Global {
+        *self.held.allocator()
+    }
+
     /// What is held, in the order of the grants.
     pub fn held(&self) -> &[Grant]
         ensures { result.now ≡ self.now.held }
@@ -236,12 +241,17 @@ impl Kept {
 
     /// Samples so many sectors more of the call that waits. An `Err` is want of memory, and then nothing has changed.
     pub fn sample(&mut self, n: u64) -> Result<(), AllocError>
-        requires { (f : FlightState) → self.old.flight ≡ Some f → HasRoom (kept_sector self.old.disk) n f }
+        requires some { 0 < n }
+        requires passes { (f : FlightState) → self.old.flight ≡ Some f → first_events.sample_refusal self.old.disk n f ≡ None }
         ensures ok { OnOk result (self.new ≡ kept_sampled n self.old) }
         ensures err { OnErr result (self.new ≡ self.old) }
     {
+        let _header = self.disks.header();
         match &mut self.flight {
-            Some(flight) => flight.sample(&self.disks, n),
+            Some(flight) => {
+                let _left = flight.left();
+                flight.sample(&self.disks, n)
+            }
             None => Ok(()),
         }
     }

@@ -90,7 +90,6 @@ impl<D: Daemon> World<D> {
     /// The call that waits samples so many sectors more.
     fn sample(&mut self, machine: u32, call: u64, n: u64) -> Result<(), AllocError>
         requires passes { first_events.refusal_in self.old.kept (Sample machine call n) ≡ None }
-        requires room { (f : FlightState) → self.old.kept.flight ≡ Some f → HasRoom (kept_sector self.old.kept.disk) n f }
         requires sized { IsSized self.old.kept.disk }
         ensures ok { (w : worlds.World) → WorldStands D.stands self.old.kept self.old.host w
             → OnOk result (Comes D.stands w (Sample machine call n) traces.no_effects self.new.kept self.new.host) }
@@ -107,5 +106,59 @@ impl<D: Daemon> World<D> {
         ensures err { OnErr result (self.new ≡ self.old) }
     {
         self.kept.land()
+    }
+
+    /// The event happens.
+    fn happen(&mut self, event: Event) -> Result<Effects, AllocError>
+        requires first { IsTrue (first_events.is_first_event event) }
+        requires stands { StandsForSome D.stands self.old.kept self.old.host }
+        requires passes { first_events.refusal_in self.old.kept event ≡ None }
+        requires sized { IsSized self.old.kept.disk }
+        ensures ok { (w : worlds.World) → WorldStands D.stands self.old.kept self.old.host w
+            → IfOk result (λ fx. Comes D.stands w event fx self.new.kept self.new.host) }
+        ensures err { OnErr result (self.new ≡ self.old) }
+    {
+        match event {
+            Event::GiveCommand {
+                machine,
+                text,
+            } => self.give(machine, text),
+            Event::Sample {
+                machine,
+                call,
+                sectors,
+            } => {
+                self.sample(machine, call, sectors)?;
+                Ok(no_effects(self.kept.allocator()))
+            }
+            Event::Land {
+                machine,
+                call,
+            } => {
+                self.land(machine, call)?;
+                Ok(no_effects(self.kept.allocator()))
+            }
+            Event::AnswerCall {
+                machine,
+                call,
+                ok: _,
+            } => self.answer(machine, call),
+            _ => unreachable!(),
+        }
+    }
+}
+
+/// No effects. It takes no memory.
+fn no_effects(alloc: Global) -> Effects
+    ensures { result ≡ traces.no_effects }
+{
+    Effects {
+        ends: Seq::new(Vec::new(alloc)),
+        signals: Seq::new(Vec::new(alloc)),
+        moves: Seq::new(Vec::new(alloc)),
+        grants: Seq::new(Vec::new(alloc)),
+        starts: Seq::new(Vec::new(alloc)),
+        replies: Seq::new(Vec::new(alloc)),
+        calls: Seq::new(Vec::new(alloc)),
     }
 }
