@@ -10,4 +10,4 @@ pub mod world;
 
 pub use daemon::Daemon;
 pub use kept::is_first_event;
-pub use world::World;
+pub use world::{ApplyError, World};

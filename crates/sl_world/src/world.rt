@@ -4,6 +4,7 @@
 //! which that tells. Whatever happens to it happens to those: it refuses what they refuse, and after an event it stands for what the
 //! event makes of them, with the effects that the definitions call due.
 
+ghost use Rattle.sl_run.specs.declared.event.Refusal.{Refusal};
 ghost use Rattle.sl_due.specs.Due.{due};
 ghost use Rattle.sl_report.specs.Replay.{effects_of};
 ghost use Rattle.sl_run.specs.Events as events;
@@ -14,7 +15,7 @@ ghost use Rattle.sl_world.specs.Changes.{after_own_step, still_waiting, HasRoom}
 ghost use Rattle.sl_world.specs.Daemons.{IsCalmInput, IsSmall, entry_of};
 ghost use Rattle.sl_world.specs.FirstEvents as first_events;
 ghost use Rattle.sl_world.specs.Kept.{IsSized, WorldStands, Comes, StandsForSome, FlightState, kept_sector};
-ghost use Rattle.std.specs.Prelude.{IfOk, IsTrue, None, OnErr, Some, [], true, ◌∷◌, ◌≡◌, IfSome, OnOk};
+ghost use Rattle.std.specs.Prelude.{IfOk, IsTrue, None, OnErr, Some, [], true, ◌∷◌, ◌≡◌, IfSome, OnOk, Err};
 
 use crate::daemon::Daemon;
 use crate::kept::{self, Kept};
@@ -22,6 +23,15 @@ use sl_run::{Event, Header, Refusal};
 use sl_text::{Bytes, Seq};
 use sl_trace::{Effects, Grant, Input};
 use std::alloc::{AllocError, Global};
+
+/// Why an event isn't applied.
+#[derive(Drop)]
+pub enum ApplyError {
+    /// It may not happen.
+    Refused(Refusal),
+    /// There is no memory for it.
+    OutOfMemory,
+}
 
 /// A world of one machine whose clock stands still: what is kept of it, and its daemon.
 #[derive(Drop)]
@@ -36,8 +46,30 @@ impl<D: Daemon> World<D> {
         requires { IsTrue (first_events.is_first_event event.now) }
         ensures exact { (w : worlds.World) → WorldStands D.stands self.now.kept self.now.host w → result ≡ events.refusal_of w event.now }
         ensures kept { result ≡ first_events.refusal_in self.now.kept event.now }
+        ensures sized { IsSized self.now.kept.disk }
     {
         self.kept.refusal(event)
+    }
+
+    /// The event happens, if nothing refuses it; the answer is what the daemon did. After an `Err` nothing has changed.
+    pub fn apply(&mut self, event: Event) -> Result<Effects, ApplyError>
+        requires first { IsTrue (first_events.is_first_event event) }
+        requires stands { StandsForSome D.stands self.old.kept self.old.host }
+        ensures refused { (w : worlds.World) → WorldStands D.stands self.old.kept self.old.host w → (r : Refusal)
+            → events.refusal_of w event ≡ Some r → result ≡ Err (ApplyError.Refused r) }
+        ensures only { (w : worlds.World) → WorldStands D.stands self.old.kept self.old.host w → (r : Refusal)
+            → result ≡ Err (ApplyError.Refused r) → events.refusal_of w event ≡ Some r }
+        ensures ok { (w : worlds.World) → WorldStands D.stands self.old.kept self.old.host w
+            → IfOk result (λ fx. Comes D.stands w event fx self.new.kept self.new.host) }
+        ensures err { OnErr result (self.new ≡ self.old) }
+    {
+        match self.refusal(&event) {
+            Some(refusal) => Err(ApplyError::Refused(refusal)),
+            None => match self.happen(event) {
+                Ok(effects) => Ok(effects),
+                Err(_) => Err(ApplyError::OutOfMemory),
+            },
+        }
     }
 
     /// What is held, in the order of the grants.
