@@ -1,0 +1,218 @@
+-- What is kept, and the host, stand for the world after each event of the first path.
+use Rattle.sl_run.specs.declared.event.Refusal.TheVariants.{Syntax}
+use Rattle.sl_due.specs.Due.{due}
+use Rattle.sl_report.specs.Replay.{due_at, effects_of}
+use Rattle.sl_run.specs.Events.{first_change, happens, next_step, ok_input, take_step, refusal_of}
+use Rattle.sl_run.specs.Worlds.{Course, Daemon, Machine, Stamp, World, flight_of, reading_now}
+use Rattle.sl_run.specs.declared.event.Event.TheVariants.{AnswerCall, GiveCommand, Land, Sample}
+use Rattle.sl_run.specs.declared.event.Event.{Event}
+use Rattle.sl_run.specs.declared.event.Refusal.{Refusal}
+use Rattle.sl_trace.specs.Traces.{Setting, Trace, no_effects}
+use Rattle.sl_trace.specs.declared.effects.Effects.{Effects}
+use Rattle.sl_trace.specs.declared.effects.Op.TheVariants.{ReadSectors, WriteRecord}
+use Rattle.sl_trace.specs.declared.effects.Op.{Op}
+use Rattle.sl_trace.specs.declared.input.Answer.TheVariants.{Read, Written}
+use Rattle.sl_trace.specs.declared.input.Answer.{Answer}
+use Rattle.sl_trace.specs.declared.input.Input.TheVariants.{Answer as Told, Line}
+use Rattle.sl_trace.specs.declared.input.Input.{Input}
+use Rattle.sl_words.proofs.CaseLaws.{some_value}
+use Rattle.sl_words.specs.Words.{choose}
+use Rattle.sl_world.proofs.Answers.{answer_expected, answer_is_ok, answer_taken, closed_by}
+use Rattle.sl_world.proofs.Flights.{Flying, flying, the_flight}
+use Rattle.sl_world.proofs.Landings.{land_tells}
+use Rattle.sl_world.proofs.Passing.{answer_passes, is_found, is_on_first, sample_passes, some_none}
+use Rattle.sl_world.proofs.Refusals.{refusal_is}
+use Rattle.sl_world.proofs.Samples.{sample_tells}
+use Rattle.sl_world.proofs.Solo.{solo, solo_is}
+use Rattle.sl_world.proofs.Steps.{step_tells, stepped}
+use Rattle.sl_world.specs.Changes.{kept_after, ok_answer, stepped_kept, told_ok, after_sample, after_land}
+use Rattle.sl_world.specs.Daemons.{IsCalmInput, IsSmall, entry_of}
+use Rattle.sl_world.specs.FirstEvents.{answer_refusal, at_flight, flight_numbered, is_first_event, land_refusal, refusal_in, sample_refusal}
+use Rattle.sl_world.specs.Kept.{FlightState, KeptState, Shown, Tells, WorldStands, shown, shown_of, IsSized}
+use Rattle.std.proofs.Common.{ap, refl, subst, sym, ◌∙◌}
+use Rattle.std.specs.Option.{option_map_or}
+use Rattle.std.specs.Prelude.{Bool, List, None, Option, Some, false, is_some, map, nat_lt, option_map, option_to_list, true, [], ℕ, ◌+◌, ◌==◌, ◌∷◌, ◌≡◌}
+
+-- ---- events that give the daemon nothing
+
+-- What such an event comes to.
+pub record Quiet {D : Type 0} (stands : D → Setting → Trace → Type 0) (k : KeptState) (host : D) (w : World) (e : Event) : Type 0 where
+  pub effects : effects_of w e ≡ no_effects ∷ []
+  pub stays : WorldStands stands (kept_after e k) host (happens w e (no_effects ∷ []))
+
+sample_quiet_at : {D : Type 0} (stands : D → Setting → Trace → Type 0) (k : KeptState) (host : D) (w : World) (c n : ℕ) → WorldStands stands k host w → IsSized k.disk
+    → at_flight (flight_numbered k.flight c) (sample_refusal k.disk n) ≡ None → Quiet stands k host w (Sample 1 c n)
+sample_quiet_at stands k host w c n s sized h =
+    let x = is_found k.flight c (sample_refusal k.disk n) h in
+    let P : KeptState → Type 0 = λ v. WorldStands stands v host (happens w (Sample 1 c n) (no_effects ∷ [])) in
+    record {
+      effects = ap (λ v. effects_of v (Sample 1 c n)) (sym (solo_is w s.machine s.tells.alone));
+      stays = subst P (sym (ap (λ o. elim o as (λ x. KeptState) [ None ↦ k | Some f ↦ after_sample n f k ]) x.is)) (record {
+          machine = _;
+          daemon = s.daemon;
+          tells = sample_tells k w s.machine s.daemon c n x.flight s.tells sized x.is x.number (sample_passes k.disk n x.flight x.passes).1;
+          runs = s.runs;
+        });
+    }
+
+land_quiet_at : {D : Type 0} (stands : D → Setting → Trace → Type 0) (k : KeptState) (host : D) (w : World) (c : ℕ) → WorldStands stands k host w
+    → at_flight (flight_numbered k.flight c) (land_refusal k.disk) ≡ None → Quiet stands k host w (Land 1 c)
+land_quiet_at stands k host w c s h =
+    let x = is_found k.flight c (land_refusal k.disk) h in
+    let P : KeptState → Type 0 = λ v. WorldStands stands v host (happens w (Land 1 c) (no_effects ∷ [])) in
+    record {
+      effects = ap (λ v. effects_of v (Land 1 c)) (sym (solo_is w s.machine s.tells.alone));
+      stays = subst P (sym (ap (λ o. elim o as (λ x. KeptState) [ None ↦ k | Some f ↦ after_land f k ]) x.is)) (record {
+          machine = _;
+          daemon = s.daemon;
+          tells = land_tells k w s.machine s.daemon c x.flight s.tells x.is x.number;
+          runs = s.runs;
+        });
+    }
+
+shaped_passes : (b : Bool) (r : Option Refusal) → elim b as (λ x. Option Refusal) [ false ↦ Some Syntax | true ↦ r ] ≡ None → r ≡ None
+shaped_passes true r h = h
+shaped_passes false r h = absurd (some_none Syntax h)
+
+-- A sample that may be made.
+pub sample_quiet : {D : Type 0} (stands : D → Setting → Trace → Type 0) (k : KeptState) (host : D) (w : World) (m c n : ℕ) → WorldStands stands k host w → IsSized k.disk
+    → refusal_in k (Sample m c n) ≡ None → Quiet stands k host w (Sample m c n)
+sample_quiet stands k host w m c n s sized h =
+    let one = is_on_first m (at_flight (flight_numbered k.flight c) (sample_refusal k.disk n)) (shaped_passes (nat_lt 0 n) _ h) in
+    let P : ℕ → Type 0 = λ i. Quiet stands k host w (Sample i c n) in
+    subst P (sym one.0) (sample_quiet_at stands k host w c n s sized one.1)
+
+-- A landing that may come.
+pub land_quiet : {D : Type 0} (stands : D → Setting → Trace → Type 0) (k : KeptState) (host : D) (w : World) (m c : ℕ) → WorldStands stands k host w
+    → refusal_in k (Land m c) ≡ None → Quiet stands k host w (Land m c)
+land_quiet stands k host w m c s h =
+    let one = is_on_first m (at_flight (flight_numbered k.flight c) (land_refusal k.disk)) h in
+    let P : ℕ → Type 0 = λ i. Quiet stands k host w (Land i c) in
+    subst P (sym one.0) (land_quiet_at stands k host w c s one.1)
+
+-- ---- events that the daemon takes
+
+-- What such an event comes to, with the input that it gives.
+pub record Taking {D : Type 0} (stands : D → Setting → Trace → Type 0) (k : KeptState) (w : World) (e : Event) (i : Input) (st : Setting) (es : Trace) : Type 0 where
+  pub calm : IsCalmInput st es k.reading i
+  pub effects : effects_of w e ≡ due st es k.reading i ∷ []
+  pub stays : (host : D) (fx : Effects) → IsSmall es (entry_of k.reading i fx) → stands host st (entry_of k.reading i fx ∷ es)
+      → WorldStands stands (stepped_kept e fx k) host (happens w e (fx ∷ []))
+
+due_is : (k : KeptState) (w : World) (a : Machine) (d : Daemon) (i : Input) → Tells k w a d → due_at a i ≡ due d.setting d.trace k.reading i
+due_is k w a d i t =
+    ap (λ o. option_map_or (λ (b : Daemon). due b.setting b.trace (reading_now a) i) o no_effects) t.runs
+    ∙ ap (λ n. due d.setting d.trace n i) t.reading
+
+-- The stamp of an event's only step.
+abbrev step_stamp : World → Machine → Stamp
+step_stamp w a = record { step = w.step + 1; moment = w.moment; clock = a.clock }
+
+abbrev stepped_world : World → Machine → Input → Effects → List Course → World
+stepped_world w a i fx closed = record w { machines = stepped (step_stamp w a) i fx closed a ∷ []; step = w.step + 1 + 1 }
+
+command_makes : (w : World) (a : Machine) (d : Daemon) (text : List ℕ) (fx : Effects) → a.daemon ≡ Some d
+    → happens (solo w a) (GiveCommand 1 text) (fx ∷ []) ≡ stepped_world w a (Line text) fx a.calls
+unfolding first_change
+command_makes w a d text fx runs = ap (λ o. take_step 1 (choose (is_some o) (Line text)) fx (next_step (solo w a))) runs
+
+command_due : (k : KeptState) (w : World) (a : Machine) (d : Daemon) (text : List ℕ) → Tells k w a d
+    → effects_of (solo w a) (GiveCommand 1 text) ≡ due d.setting d.trace k.reading (Line text) ∷ []
+command_due k w a d text t =
+    ap (λ o. elim (choose (is_some o) (Line text)) as (λ x. List Effects) [ None ↦ no_effects ∷ [] | Some i ↦ due_at a i ∷ [] ]) t.runs
+    ∙ ap (λ fx. fx ∷ []) (due_is k w a d (Line text) t)
+
+command_taking : {D : Type 0} (stands : D → Setting → Trace → Type 0) (k : KeptState) (host : D) (w : World) (text : List ℕ) (s : WorldStands stands k host w)
+    → Taking stands k w (GiveCommand 1 text) (Line text) s.daemon.setting s.daemon.trace
+command_taking stands k host w text s =
+    let a : Machine = s.machine in
+    let d : Daemon = s.daemon in
+    let t : Tells k w a d = s.tells in
+    record {
+      calm = record { still = t.still; calm = refl; expected = refl };
+      effects = ap (λ v. effects_of v (GiveCommand 1 text)) (sym (solo_is w a t.alone)) ∙ command_due k w a d text t;
+      stays = λ host' fx small then.
+          let P : World → Type 0 = λ v. WorldStands stands (stepped_kept (GiveCommand 1 text) fx k) host' v in
+          subst P (sym (command_makes w a d text fx t.runs) ∙ ap (λ v. happens v (GiveCommand 1 text) (fx ∷ [])) (solo_is w a t.alone)) (record {
+            machine = _;
+            daemon = _;
+            tells = step_tells k w a d (step_stamp w a) (w.step + 1 + 1) (Line text) fx a.calls k.flight t
+                (record { calls = t.calls; out = t.outstanding; flight = t.flight }) small.calls;
+            runs = then;
+          });
+    }
+
+-- A command.
+pub command_taken : {D : Type 0} (stands : D → Setting → Trace → Type 0) (k : KeptState) (host : D) (w : World) (m : ℕ) (text : List ℕ) (s : WorldStands stands k host w)
+    → refusal_in k (GiveCommand m text) ≡ None → Taking stands k w (GiveCommand m text) (Line text) s.daemon.setting s.daemon.trace
+command_taken stands k host w m text s h =
+    let P : ℕ → Type 0 = λ i. Taking stands k w (GiveCommand i text) (Line text) s.daemon.setting s.daemon.trace in
+    subst P (sym (is_on_first m None h).0) (command_taking stands k host w text s)
+
+ok_input_by : (x : Course) (o : Op)
+    → elim o as (λ z. Input) [ ReadSectors n ↦ Told x.call.number (Read x.sampled) | WriteRecord r ↦ Told x.call.number Written ]
+    ≡ Told x.call.number (elim o as (λ z. Answer) [ ReadSectors n ↦ Read x.sampled | WriteRecord r ↦ Written ])
+ok_input_by x (ReadSectors n) = refl
+ok_input_by x (WriteRecord r) = refl
+
+ok_input_is : (f : FlightState) (x : Course) → shown x ≡ shown_of f → ok_input x ≡ told_ok f
+ok_input_is f x shows =
+    ok_input_by x x.call.op
+    ∙ ap (λ (z : Shown). Told z.call.number (elim z.call.op as (λ y. Answer) [ ReadSectors n ↦ Read z.sampled | WriteRecord r ↦ Written ])) shows
+
+answer_comes : (a : Machine) (c : ℕ) (f : FlightState) (y : Flying a f) → (f.call.number == c) ≡ true
+    → option_map ok_input (flight_of a c) ≡ Some (told_ok f)
+answer_comes a c f y number =
+    ap (option_map ok_input) (the_flight a f y c) ∙ ap (λ b. option_map ok_input (choose b y.course)) number
+    ∙ ap (λ i. Some i) (ok_input_is f y.course y.shows)
+
+answer_makes : (w : World) (a : Machine) (c : ℕ) (f : FlightState) (y : Flying a f) (fx : Effects) → (f.call.number == c) ≡ true
+    → happens (solo w a) (AnswerCall 1 c true) (fx ∷ [])
+    ≡ stepped_world w a (told_ok f) fx (closed_by (step_stamp w a) f.call.number (ok_answer f) a.calls)
+unfolding first_change
+answer_makes w a c f y fx number = ap (λ o. take_step 1 o fx (next_step (solo w a))) (answer_comes a c f y number)
+
+answer_due : (k : KeptState) (w : World) (a : Machine) (d : Daemon) (c : ℕ) (f : FlightState) (y : Flying a f) → Tells k w a d → (f.call.number == c) ≡ true
+    → effects_of (solo w a) (AnswerCall 1 c true) ≡ due d.setting d.trace k.reading (told_ok f) ∷ []
+answer_due k w a d c f y t number =
+    ap (λ o. elim o as (λ x. List Effects) [ None ↦ no_effects ∷ [] | Some i ↦ due_at a i ∷ [] ]) (answer_comes a c f y number)
+    ∙ ap (λ fx. fx ∷ []) (due_is k w a d (told_ok f) t)
+
+answer_taking : {D : Type 0} (stands : D → Setting → Trace → Type 0) (k : KeptState) (host : D) (w : World) (c : ℕ) (f : FlightState) (s : WorldStands stands k host w)
+    → k.flight ≡ Some f → (f.call.number == c) ≡ true → answer_refusal f ≡ None
+    → Taking stands k w (AnswerCall 1 c true) (told_ok f) s.daemon.setting s.daemon.trace
+answer_taking stands k host w c f s is number passes =
+    let a : Machine = s.machine in
+    let d : Daemon = s.daemon in
+    let t : Tells k w a d = s.tells in
+    let y : Flying a f = flying a d f t.runs t.first (t.calls ∙ ap (λ o. map shown_of (option_to_list o)) is) in
+    record {
+      calm = record { still = t.still; calm = answer_is_ok f; expected = answer_expected k w a d f t is (answer_passes f passes).0 };
+      effects = ap (λ v. effects_of v (AnswerCall 1 c true)) (sym (solo_is w a t.alone)) ∙ answer_due k w a d c f y t number;
+      stays = λ host' fx small then.
+          let P : World → Type 0 = λ v. WorldStands stands (stepped_kept (AnswerCall 1 c true) fx k) host' v in
+          let closed : List Course = closed_by (step_stamp w a) f.call.number (ok_answer f) a.calls in
+          subst P (sym (answer_makes w a c f y fx number) ∙ ap (λ v. happens v (AnswerCall 1 c true) (fx ∷ [])) (solo_is w a t.alone)) (record {
+            machine = _;
+            daemon = _;
+            tells = step_tells k w a d (step_stamp w a) (w.step + 1 + 1) (told_ok f) fx closed None t (answer_taken k w a d (step_stamp w a) fx f y t is) small.calls;
+            runs = then;
+          });
+    }
+
+-- An answer ok.
+pub answer_is_taken : {D : Type 0} (stands : D → Setting → Trace → Type 0) (k : KeptState) (host : D) (w : World) (m c : ℕ) (f : FlightState) (s : WorldStands stands k host w)
+    → k.flight ≡ Some f → refusal_in k (AnswerCall m c true) ≡ None
+    → Taking stands k w (AnswerCall m c true) (told_ok f) s.daemon.setting s.daemon.trace
+answer_is_taken stands k host w m c f s is h =
+    let one = is_on_first m (at_flight (flight_numbered k.flight c) answer_refusal) h in
+    let x = is_found k.flight c answer_refusal one.1 in
+    let same : x.flight ≡ f = some_value x.flight f (sym x.is ∙ is) in
+    let P : ℕ → Type 0 = λ i. Taking stands k w (AnswerCall i c true) (told_ok f) s.daemon.setting s.daemon.trace in
+    subst P (sym one.0) (answer_taking stands k host w c f s is (ap (λ (g : FlightState). g.call.number == c) (sym same) ∙ x.number)
+    (ap answer_refusal (sym same) ∙ x.passes))
+
+-- Why an event may not happen.
+pub refuses : {D : Type 0} (stands : D → Setting → Trace → Type 0) (k : KeptState) (host : D) (w : World) (e : Event) → WorldStands stands k host w
+    → is_first_event e ≡ true → refusal_of w e ≡ refusal_in k e
+refuses stands k host w e s first = refusal_is k w s.machine s.daemon e s.tells first

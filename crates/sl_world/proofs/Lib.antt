@@ -1,0 +1,14 @@
+pub mod Flights
+pub mod Refusals
+pub mod Places
+pub mod Passing
+pub mod Solo
+pub mod Samples
+pub mod Landings
+pub mod Steps
+pub mod Answers
+pub mod FirstWorld
+pub mod InitialLaws
+pub mod DiskLaws
+pub mod KeptLaws
+pub mod WorldLaws

@@ -1,0 +1,78 @@
+-- What it means that nothing is refused.
+use Rattle.sl_run.specs.Worlds.{first_that}
+use Rattle.sl_run.specs.declared.event.Refusal.TheVariants.{MissingCall, MissingFlight, MissingLanding, MissingMachine, MissingPlace, MissingSample}
+use Rattle.sl_run.specs.declared.event.Refusal.{Refusal}
+use Rattle.sl_words.specs.Words.{choose}
+use Rattle.sl_world.specs.FirstEvents.{answer_refusal, at_flight, flight_left, flight_numbered, flight_writes, land_refusal, on_first, sample_refusal}
+use Rattle.sl_world.specs.Kept.{DiskState, FlightState, is_on_disk}
+use Rattle.std.proofs.Common.{refl}
+use Rattle.std.proofs.lemmas.Bool.Decides.{Decides-eqb}
+use Rattle.std.specs.Prelude.{Bool, None, Option, Some, false, nat_lt, not, true, [], ℕ, ◌&&◌, ◌==◌, ◌∷◌, ◌≡◌}
+
+pub some_none : (r : Refusal) → Some r ≡ None → ⊥
+some_none r h = cc
+
+-- The event is on machine 1, and passes there.
+passes_machine : (m : ℕ) (r : Option Refusal) (b : Bool) → (m == 1) ≡ b → elim b as (λ x. Option Refusal) [ false ↦ Some MissingMachine | true ↦ r ] ≡ None
+    → (m ≡ 1) × (r ≡ None)
+passes_machine m r true is h = ((Decides-eqb m 1).0 is, h)
+passes_machine m r false is h = absurd (some_none MissingMachine h)
+
+pub is_on_first : (m : ℕ) (r : Option Refusal) → on_first m r ≡ None → (m ≡ 1) × (r ≡ None)
+is_on_first m r h = passes_machine m r (m == 1) refl h
+
+-- A call is in flight, has this number, and passes.
+pub record Found (o : Option FlightState) (c : ℕ) (refusal : FlightState → Option Refusal) : Type 0 where
+  pub flight : FlightState
+  pub is : o ≡ Some flight
+  pub number : (flight.call.number == c) ≡ true
+  pub passes : refusal flight ≡ None
+
+found_by : (f : FlightState) (c : ℕ) (refusal : FlightState → Option Refusal) (b : Bool) → (f.call.number == c) ≡ b → at_flight (choose b f) refusal ≡ None
+    → Found (Some f) c refusal
+found_by f c refusal true is h = record { flight = f; is = refl; number = is; passes = h }
+found_by f c refusal false is h = absurd (some_none MissingCall h)
+
+pub is_found : (o : Option FlightState) (c : ℕ) (refusal : FlightState → Option Refusal) → at_flight (flight_numbered o c) refusal ≡ None → Found o c refusal
+is_found None c refusal h = absurd (some_none MissingCall h)
+is_found (Some f) c refusal h = found_by f c refusal (f.call.number == c) refl h
+
+-- Two tests, and neither holds.
+neither : (a b : Bool) (r s : Refusal) → first_that ((a, r) ∷ (b, s) ∷ []) ≡ None → (a ≡ false) × (b ≡ false)
+neither true b r s h = absurd (some_none r h)
+neither false true r s h = absurd (some_none s h)
+neither false false r s h = (refl, refl)
+
+read_passes : (b p : Bool) (l : Bool) → elim b as (λ x. Option Refusal) [
+      | true ↦ Some MissingCall
+      | false ↦ first_that ((not p, MissingPlace) ∷ (l, MissingSample) ∷ [])
+    ] ≡ None → (b ≡ false) × (l ≡ false)
+read_passes true p l h = absurd (some_none MissingCall h)
+read_passes false p l h = (refl, (neither (not p) l MissingPlace MissingSample h).1)
+
+pub sample_passes : (d : DiskState) (n : ℕ) (f : FlightState) → sample_refusal d n f ≡ None → (flight_writes f ≡ false) × (nat_lt (flight_left f) n ≡ false)
+sample_passes d n f h = read_passes (flight_writes f) (is_on_disk d.header f.call) (nat_lt (flight_left f) n) h
+
+room_passes : (b p : Bool) (l : Bool) → elim b as (λ x. Option Refusal) [
+      | true ↦ Some MissingCall
+      | false ↦ first_that ((not p, MissingPlace) ∷ (l, MissingSample) ∷ [])
+    ] ≡ None → (p ≡ true) × (l ≡ false)
+room_passes true p l h = absurd (some_none MissingCall h)
+room_passes false true l h = (refl, (neither false l MissingPlace MissingSample h).1)
+room_passes false false l h = absurd (some_none MissingPlace h)
+
+pub sample_room_passes : (d : DiskState) (n : ℕ) (f : FlightState) → sample_refusal d n f ≡ None → (is_on_disk d.header f.call ≡ true) × (nat_lt (flight_left f) n ≡ false)
+sample_room_passes d n f h = room_passes (flight_writes f) (is_on_disk d.header f.call) (nat_lt (flight_left f) n) h
+
+write_passes : (b p : Bool) (l : Bool) → elim b as (λ x. Option Refusal) [
+      | false ↦ Some MissingCall
+      | true ↦ first_that ((not p, MissingPlace) ∷ (l, MissingFlight) ∷ [])
+    ] ≡ None → (b ≡ true) × (l ≡ false)
+write_passes false p l h = absurd (some_none MissingCall h)
+write_passes true p l h = (refl, (neither (not p) l MissingPlace MissingFlight h).1)
+
+pub land_passes : (d : DiskState) (f : FlightState) → land_refusal d f ≡ None → (flight_writes f ≡ true) × (f.landed ≡ false)
+land_passes d f h = write_passes (flight_writes f) (is_on_disk d.header f.call) f.landed h
+
+pub answer_passes : (f : FlightState) → answer_refusal f ≡ None → ((not (flight_writes f) && nat_lt 0 (flight_left f)) ≡ false) × ((flight_writes f && not f.landed) ≡ false)
+answer_passes f h = neither (not (flight_writes f) && nat_lt 0 (flight_left f)) (flight_writes f && not f.landed) MissingSample MissingLanding h

@@ -1,0 +1,73 @@
+-- What each event comes to, for every world that is stood for.
+use Rattle.sl_due.specs.Due.{due}
+use Rattle.sl_run.specs.Events.{happens}
+use Rattle.sl_run.specs.Worlds.{World}
+use Rattle.sl_run.specs.declared.event.Event.TheVariants.{AnswerCall, Land, Sample}
+use Rattle.sl_run.specs.declared.event.Event.{Event}
+use Rattle.sl_trace.specs.Traces.{Setting, Trace, no_effects}
+use Rattle.sl_trace.specs.declared.effects.Effects.{Effects}
+use Rattle.sl_trace.specs.declared.input.Input.{Input}
+use Rattle.sl_words.proofs.CaseLaws.{some_value}
+use Rattle.sl_world.proofs.FirstWorld.{Quiet, Taking, answer_is_taken, land_quiet, refuses, sample_quiet}
+use Rattle.sl_world.proofs.Passing.{is_found, is_on_first}
+use Rattle.sl_world.specs.Changes.{kept_after, kept_landed, kept_sampled, stepped_kept, told_ok}
+use Rattle.sl_world.specs.Daemons.{IsSmall, entry_of}
+use Rattle.sl_world.specs.FirstEvents.{answer_refusal, at_flight, flight_numbered, is_first_event, refusal_in}
+use Rattle.sl_world.specs.Kept.{Comes, IsSized, KeptState, WorldStands}
+use Rattle.std.proofs.Common.{ap, refl, subst, sym, ◌∙◌}
+use Rattle.std.specs.Prelude.{Err, IfOk, None, Ok, OnOk, Result, Some, is_none, option_map, true, [], ℕ, ◌∷◌, ◌≡◌}
+
+pub on_ok_to : {T E : Type 0} (r : Result T E) (P Q : Type 0) → (P → Q) → OnOk r P → OnOk r Q
+on_ok_to (Ok t) P Q f h = f h
+on_ok_to (Err e) P Q f h = h
+
+pub if_ok_to : {T E : Type 0} (r : Result T E) (P Q R : T → Type 0) → ((t : T) → P t → Q t → R t) → IfOk r P → IfOk r Q → IfOk r R
+if_ok_to (Ok t) P Q R f h k = f t h k
+if_ok_to (Err e) P Q R f h k = h
+
+-- ---- events that give the daemon nothing
+
+comes_quiet : {D : Type 0} (stands : D → Setting → Trace → Type 0) (k : KeptState) (host : D) (w : World) (e : Event) (new : KeptState) → WorldStands stands k host w
+    → is_first_event e ≡ true → refusal_in k e ≡ None → Quiet stands k host w e → new ≡ kept_after e k → Comes stands w e no_effects new host
+comes_quiet stands k host w e new s first h q is =
+    let P : KeptState → Type 0 = λ v. WorldStands stands v host (happens w e (no_effects ∷ [])) in
+    record { may = ap is_none (refuses stands k host w e s first ∙ h); effects = q.effects; stays = subst P (sym is) q.stays }
+
+pub sample_comes : {D : Type 0} (stands : D → Setting → Trace → Type 0) (k : KeptState) (host : D) (w : World) (m c n : ℕ) (new : KeptState) → WorldStands stands k host w
+    → IsSized k.disk → refusal_in k (Sample m c n) ≡ None → new ≡ kept_sampled n k → Comes stands w (Sample m c n) no_effects new host
+sample_comes stands k host w m c n new s sized h is =
+    comes_quiet stands k host w (Sample m c n) new s refl h (sample_quiet stands k host w m c n s sized h) is
+
+pub land_comes : {D : Type 0} (stands : D → Setting → Trace → Type 0) (k : KeptState) (host : D) (w : World) (m c : ℕ) (new : KeptState) → WorldStands stands k host w
+    → refusal_in k (Land m c) ≡ None → new ≡ kept_landed k → Comes stands w (Land m c) no_effects new host
+land_comes stands k host w m c new s h is =
+    comes_quiet stands k host w (Land m c) new s refl h (land_quiet stands k host w m c s h) is
+
+-- ---- events that the daemon takes
+
+-- What a step gives.
+abbrev pub Stepped : {D : Type 0} → (D → Setting → Trace → Type 0) → KeptState → Setting → Trace → Input → D → Effects → Type 0
+Stepped stands k st es i host fx = (fx ≡ due st es k.reading i) × IsSmall es (entry_of k.reading i fx) × stands host st (entry_of k.reading i fx ∷ es)
+
+pub comes_taking : {D : Type 0} (stands : D → Setting → Trace → Type 0) (k : KeptState) (host : D) (w : World) (e : Event) (i : Input) (s : WorldStands stands k host w)
+    → is_first_event e ≡ true → refusal_in k e ≡ None → Taking stands k w e i s.daemon.setting s.daemon.trace
+    → (then : D) (new : KeptState) (fx : Effects) → Stepped stands k s.daemon.setting s.daemon.trace i then fx → new ≡ stepped_kept e fx k
+    → Comes stands w e fx new then
+comes_taking stands k host w e i s first h t then new fx x is =
+    let P : KeptState → Type 0 = λ v. WorldStands stands v then (happens w e (fx ∷ [])) in
+    record {
+      may = ap is_none (refuses stands k host w e s first ∙ h);
+      effects = t.effects ∙ ap (λ y. y ∷ []) (sym x.0);
+      stays = subst P (sym is) (t.stays then fx x.1 x.2);
+    }
+
+-- The input of an answer is what the world gives its daemon.
+pub answer_ready : {D : Type 0} (stands : D → Setting → Trace → Type 0) (k : KeptState) (host : D) (w : World) (m c : ℕ) (i : Input) (s : WorldStands stands k host w)
+    → refusal_in k (AnswerCall m c true) ≡ None → Some i ≡ option_map told_ok k.flight
+    → Taking stands k w (AnswerCall m c true) i s.daemon.setting s.daemon.trace
+answer_ready stands k host w m c i s h is =
+    let one = is_on_first m (at_flight (flight_numbered k.flight c) answer_refusal) h in
+    let x = is_found k.flight c answer_refusal one.1 in
+    let same : i ≡ told_ok x.flight = some_value i (told_ok x.flight) (is ∙ ap (option_map told_ok) x.is) in
+    let P : Input → Type 0 = λ j. Taking stands k w (AnswerCall m c true) j s.daemon.setting s.daemon.trace in
+    subst P (sym same) (answer_is_taken stands k host w m c x.flight s x.is h)

@@ -1,0 +1,5 @@
+pub mod Daemons
+pub mod Kept
+pub mod FirstEvents
+pub mod Changes
+pub mod Initial

@@ -1,0 +1,24 @@
+//! What a world asks of the host that runs in it.
+
+ghost use Rattle.sl_due.specs.Due.{due};
+ghost use Rattle.sl_trace.specs.Traces.{Setting, Trace};
+ghost use Rattle.sl_trace.specs.declared.effects.Entry.{Entry};
+ghost use Rattle.sl_trace.specs.declared.effects.Effects.{Effects};
+ghost use Rattle.sl_trace.specs.declared.input.Input.{Input};
+ghost use Rattle.sl_world.specs.Daemons.{IsCalmInput, IsSmall, entry_of};
+ghost use Rattle.std.specs.Prelude.{IfOk, OnErr, ◌∷◌, ◌≡◌};
+
+use sl_trace::{Effects, Input};
+use std::alloc::AllocError;
+
+/// A daemon that a world runs.
+pub trait Daemon: Drop {
+    /// For which settings and traces it stands.
+    ghost stands: { Self → Setting → Trace → Type 0 };
+
+    /// Takes one step.
+    fn step(&mut self, now: u64, input: Input) -> Result<Effects, AllocError>
+        ensures due { (st : Setting) → (es : Trace) → stands self.old st es → IsCalmInput st es now input → IfOk result (λ fx. (fx ≡ due st es now input)
+            × IsSmall es (entry_of now input fx) × stands self.new st (entry_of now input fx ∷ es)) }
+        ensures err { OnErr result (self.new ≡ self.old) };
+}

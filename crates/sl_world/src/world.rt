@@ -1,0 +1,196 @@
+//! The executed world: what is kept, and the host that runs in it.
+//!
+//! The definitions of a world keep all that ever happened. This one keeps what its next event asks for, and stands for each world of
+//! which that tells. Whatever happens to it happens to those: it refuses what they refuse, and after an event it stands for what the
+//! event makes of them, with the effects that the definitions call due.
+
+ghost use Rattle.sl_run.specs.declared.event.Refusal.{Refusal};
+ghost use Rattle.sl_due.specs.Due.{due};
+ghost use Rattle.sl_report.specs.Replay.{effects_of};
+ghost use Rattle.sl_run.specs.Events as events;
+ghost use Rattle.sl_run.specs.Worlds as worlds;
+ghost use Rattle.sl_run.specs.declared.event.Event.TheVariants.{AnswerCall, GiveCommand, Land, Sample};
+ghost use Rattle.sl_trace.specs.Traces as traces;
+ghost use Rattle.sl_world.specs.Changes.{after_own_step, still_waiting, HasRoom};
+ghost use Rattle.sl_world.specs.Daemons.{IsCalmInput, IsSmall, entry_of};
+ghost use Rattle.sl_world.specs.FirstEvents as first_events;
+ghost use Rattle.sl_world.specs.Kept.{IsSized, WorldStands, Comes, StandsForSome, FlightState, kept_sector};
+ghost use Rattle.std.specs.Prelude.{IfOk, IsTrue, None, OnErr, Some, [], true, ◌∷◌, ◌≡◌, IfSome, OnOk, Err};
+
+use crate::daemon::Daemon;
+use crate::kept::{self, Kept};
+use sl_run::{Event, Header, Refusal};
+use sl_text::{Bytes, Seq};
+use sl_trace::{Effects, Grant, Input};
+use std::alloc::{AllocError, Global};
+
+/// Why an event isn't applied.
+#[derive(Drop)]
+pub enum ApplyError {
+    /// It may not happen.
+    Refused(Refusal),
+    /// There is no memory for it.
+    OutOfMemory,
+}
+
+/// A world of one machine whose clock stands still: what is kept of it, and its daemon.
+#[derive(Drop)]
+pub struct World<D: Daemon> {
+    kept: Kept,
+    host: D,
+}
+
+impl<D: Daemon> World<D> {
+    /// Why the event may not happen: the first reason that holds.
+    pub fn refusal(&self, event: &Event) -> Option<Refusal>
+        requires { IsTrue (first_events.is_first_event event.now) }
+        ensures exact { (w : worlds.World) → WorldStands D.stands self.now.kept self.now.host w → result ≡ events.refusal_of w event.now }
+        ensures kept { result ≡ first_events.refusal_in self.now.kept event.now }
+        ensures sized { IsSized self.now.kept.disk }
+    {
+        self.kept.refusal(event)
+    }
+
+    /// The event happens, if nothing refuses it; the answer is what the daemon did. After an `Err` nothing has changed.
+    pub fn apply(&mut self, event: Event) -> Result<Effects, ApplyError>
+        requires first { IsTrue (first_events.is_first_event event) }
+        requires stands { StandsForSome D.stands self.old.kept self.old.host }
+        ensures refused { (w : worlds.World) → WorldStands D.stands self.old.kept self.old.host w → (r : Refusal)
+            → events.refusal_of w event ≡ Some r → result ≡ Err (ApplyError.Refused r) }
+        ensures only { (w : worlds.World) → WorldStands D.stands self.old.kept self.old.host w → (r : Refusal)
+            → result ≡ Err (ApplyError.Refused r) → events.refusal_of w event ≡ Some r }
+        ensures ok { (w : worlds.World) → WorldStands D.stands self.old.kept self.old.host w
+            → IfOk result (λ fx. Comes D.stands w event fx self.new.kept self.new.host) }
+        ensures err { OnErr result (self.new ≡ self.old) }
+    {
+        match self.refusal(&event) {
+            Some(refusal) => Err(ApplyError::Refused(refusal)),
+            None => match self.happen(event) {
+                Ok(effects) => Ok(effects),
+                Err(_) => Err(ApplyError::OutOfMemory),
+            },
+        }
+    }
+
+    /// What is held, in the order of the grants.
+    pub fn holdings(&self) -> &[Grant]
+        ensures { (w : worlds.World) → WorldStands D.stands self.now.kept self.now.host w → IfSome (worlds.machine_at w 1) (λ a. a.holdings ≡ result.now) }
+    {
+        self.kept.held()
+    }
+
+    /// One step of the daemon. An `Err` is want of memory, and then nothing has changed.
+    fn step(&mut self, input: Input, answered: bool) -> Result<Effects, AllocError>
+        requires { (st : traces.Setting) × (es : traces.Trace) × D.stands self.old.host st es × IsCalmInput st es self.old.kept.reading input }
+        ensures done { (st : traces.Setting) → (es : traces.Trace) → D.stands self.old.host st es → IsCalmInput st es self.old.kept.reading input
+            → IfOk result (λ fx. (fx ≡ due st es self.old.kept.reading input) × IsSmall es (entry_of self.old.kept.reading input fx)
+            × D.stands self.new.host st (entry_of self.old.kept.reading input fx ∷ es)) }
+        ensures kept { IfOk result (λ fx. self.new.kept ≡ after_own_step fx (still_waiting answered self.old.kept.flight) self.old.kept) }
+        ensures err { OnErr result (self.new ≡ self.old) }
+    {
+        let room = self.kept.room()?;
+        let effects = self.host.step(self.kept.reading(), input)?;
+        self.kept.take(&effects, room, answered);
+        Ok(effects)
+    }
+
+    /// A command is given.
+    fn give(&mut self, machine: u32, text: Bytes) -> Result<Effects, AllocError>
+        requires stands { StandsForSome D.stands self.old.kept self.old.host }
+        requires passes { first_events.refusal_in self.old.kept (GiveCommand machine text) ≡ None }
+        ensures ok { (w : worlds.World) → WorldStands D.stands self.old.kept self.old.host w
+            → IfOk result (λ fx. Comes D.stands w (GiveCommand machine text) fx self.new.kept self.new.host) }
+        ensures err { OnErr result (self.new ≡ self.old) }
+    {
+        self.step(Input::Line(text), false)
+    }
+
+    /// The call that waits is answered ok.
+    fn answer(&mut self, machine: u32, call: u64) -> Result<Effects, AllocError>
+        requires stands { StandsForSome D.stands self.old.kept self.old.host }
+        requires passes { first_events.refusal_in self.old.kept (AnswerCall machine call true) ≡ None }
+        ensures ok { (w : worlds.World) → WorldStands D.stands self.old.kept self.old.host w
+            → IfOk result (λ fx. Comes D.stands w (AnswerCall machine call true) fx self.new.kept self.new.host) }
+        ensures err { OnErr result (self.new ≡ self.old) }
+    {
+        match self.kept.answer()? {
+            Some(input) => self.step(input, true),
+            None => unreachable!(),
+        }
+    }
+
+    /// The call that waits samples so many sectors more.
+    fn sample(&mut self, machine: u32, call: u64, n: u64) -> Result<(), AllocError>
+        requires passes { first_events.refusal_in self.old.kept (Sample machine call n) ≡ None }
+        requires sized { IsSized self.old.kept.disk }
+        ensures ok { (w : worlds.World) → WorldStands D.stands self.old.kept self.old.host w
+            → OnOk result (Comes D.stands w (Sample machine call n) traces.no_effects self.new.kept self.new.host) }
+        ensures err { OnErr result (self.new ≡ self.old) }
+    {
+        self.kept.sample(n)
+    }
+
+    /// The write that waits lands.
+    fn land(&mut self, machine: u32, call: u64) -> Result<(), AllocError>
+        requires { first_events.refusal_in self.old.kept (Land machine call) ≡ None }
+        ensures ok { (w : worlds.World) → WorldStands D.stands self.old.kept self.old.host w
+            → OnOk result (Comes D.stands w (Land machine call) traces.no_effects self.new.kept self.new.host) }
+        ensures err { OnErr result (self.new ≡ self.old) }
+    {
+        self.kept.land()
+    }
+
+    /// The event happens.
+    fn happen(&mut self, event: Event) -> Result<Effects, AllocError>
+        requires first { IsTrue (first_events.is_first_event event) }
+        requires stands { StandsForSome D.stands self.old.kept self.old.host }
+        requires passes { first_events.refusal_in self.old.kept event ≡ None }
+        requires sized { IsSized self.old.kept.disk }
+        ensures ok { (w : worlds.World) → WorldStands D.stands self.old.kept self.old.host w
+            → IfOk result (λ fx. Comes D.stands w event fx self.new.kept self.new.host) }
+        ensures err { OnErr result (self.new ≡ self.old) }
+    {
+        match event {
+            Event::GiveCommand {
+                machine,
+                text,
+            } => self.give(machine, text),
+            Event::Sample {
+                machine,
+                call,
+                sectors,
+            } => {
+                self.sample(machine, call, sectors)?;
+                Ok(no_effects(self.kept.allocator()))
+            }
+            Event::Land {
+                machine,
+                call,
+            } => {
+                self.land(machine, call)?;
+                Ok(no_effects(self.kept.allocator()))
+            }
+            Event::AnswerCall {
+                machine,
+                call,
+                ok: _,
+            } => self.answer(machine, call),
+            _ => unreachable!(),
+        }
+    }
+}
+
+/// No effects. It takes no memory.
+fn no_effects(alloc: Global) -> Effects
+    ensures { result ≡ traces.no_effects }
+{
+    Effects {
+        ends: Seq::new(Vec::new(alloc)),
+        signals: Seq::new(Vec::new(alloc)),
+        moves: Seq::new(Vec::new(alloc)),
+        grants: Seq::new(Vec::new(alloc)),
+        starts: Seq::new(Vec::new(alloc)),
+        replies: Seq::new(Vec::new(alloc)),
+        calls: Seq::new(Vec::new(alloc)),
+    }
+}
