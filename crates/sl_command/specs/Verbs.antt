@@ -19,17 +19,19 @@ use Rattle.std.specs.Prelude.{Bool, Err, List, Ok, Result, codes, false, true, [
 abbrev pub lockspace_behind : Layout → Unread → Result LockspaceArg ℕ
 lockspace_behind g u = read_each (exactly (codes "-s") ∷ is_lockspace_word g ∷ []) (λ ws. lockspace_of_word (word_at ws 1)) u
 
--- `-p` and a process.
+-- The tests of `-p` and a process.
 abbrev pub process_tests : List (List ℕ → Bool)
 process_tests = exactly (codes "-p") ∷ is_process_word ∷ []
 
+-- The process that they give.
 abbrev pub process_behind : Unread → Result ℕ ℕ
 process_behind u = read_each process_tests (λ ws. number_of (word_at ws 1)) u
 
--- `-c` and a program's path.
+-- The tests of `-c` and a program's path.
 abbrev pub program_tests : List (List ℕ → Bool)
 program_tests = exactly (codes "-c") ∷ is_path ∷ []
 
+-- The path that they give.
 abbrev pub program_behind : Unread → Result (List ℕ) ℕ
 program_behind u = read_each program_tests (λ ws. word_at ws 1) u
 
@@ -37,17 +39,19 @@ program_behind u = read_each program_tests (λ ws. word_at ws 1) u
 abbrev pub with_value : ℕ → List ℕ → ℕ × List ℕ
 with_value process bytes = (process, bytes)
 
--- `-p`, a process, `-d` and the digits of a value.
+-- The tests of `-p`, a process, `-d` and the digits of a value.
 abbrev pub value_tests : List (List ℕ → Bool)
 value_tests = exactly (codes "-p") ∷ is_process_word ∷ exactly (codes "-d") ∷ is_hex_word 2 512 ∷ []
 
+-- The process and the bytes that they give.
 abbrev pub value_behind : Unread → Result (ℕ × List ℕ) ℕ
 value_behind u = read_each value_tests (λ ws. with_value (number_of (word_at ws 1)) (hex_bytes (word_at ws 3))) u
 
--- `-f` and the force that clears a request, or one that asks.
+-- The tests of `-f` and the force that clears a request.
 abbrev pub clearing_tests : List (List ℕ → Bool)
 clearing_tests = exactly (codes "-f") ∷ exactly (codes "0") ∷ []
 
+-- The tests of `-f` and a force that asks.
 abbrev pub asking_tests : List (List ℕ → Bool)
 asking_tests = exactly (codes "-f") ∷ is_number_that (is_in_range 1 2) ∷ []
 

@@ -1,10 +1,11 @@
 //! Words of a command that stand for something: lockspaces, resources, lvers, processes.
 //!
-//! A lockspace is `name:id:path:offset`, a resource `lockspace:name:path:offset`. The id is one of the run's hosts, and the offset a
-//! multiple of the area's size: else two areas could overlap, and one host would write over what another one keeps there.
+//! A lockspace is `name:id:path:offset`, a resource `lockspace:name:path:offset`, with `:SH` behind it for the shared mode or with the
+//! lver that a request asks for. The id is one of the run's hosts, and the offset a multiple of the area's size: else two areas could
+//! overlap, and one host would write over what another one keeps there. A word is read part by part, and is taken whole or not at all.
 
 ghost use Rattle.std.specs.Int.{is_in_range};
-ghost use Rattle.std.specs.Prelude.{IfOk, IfSome, IsTrue, ◌^◌, ◌-◌, ◌<◌, ◌≡◌, ◌≤◌};
+ghost use Rattle.std.specs.Prelude.{IfOk, ◌≡◌};
 ghost use Rattle.sl_area.specs.Layouts.{layout_of};
 ghost use Rattle.sl_area.specs.Places.{is_base};
 ghost use Rattle.sl_command.specs.Arguments as arguments;
@@ -64,11 +65,7 @@ fn lockspace_parts(parts: &mut Parts<'_>, geometry: &Geometry) -> Result<Lockspa
     ensures { result ≡ arguments.lockspace_read (layout_of geometry.now) parts.old }
 {
     let name = parts.name()?;
-    let id = parts.accept(
-        parts
-            .peek()
-            .and_then(|part| read_short(part, geometry.hosts())),
-    )?;
+    let id = id_part(parts, geometry)?;
     let path = parts.path()?;
     let offset = base_part(parts, geometry)?;
     parts.finish()?;

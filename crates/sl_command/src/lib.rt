@@ -1,4 +1,9 @@
-//! The text of a command, read; and the texts of replies, commands and effects, written.
+//! The texts between a host and its users: a command's text, read and written; the texts of replies, and the lines of what a step
+//! does, written; and the name of a host that was given none.
+//!
+//! `reading` follows the forms of commands from the left, with `arguments` for the words that stand for something; `writing` gives a
+//! command's one text. `laws` says that the two agree: a text is read as a command exactly where it is that command's text. `replies`
+//! and `effects` print what a host answers and does. Reading takes no memory; a write that lacks memory leaves its text as it was.
 #![tactic(auto)]
 
 mod arguments;

@@ -3,15 +3,15 @@
 //! A reply is a word and what it tells, with one space between: numbers, names, states. What a later read should have told and
 //! could not is `torn`.
 
-ghost use Rattle.std.specs.Prelude.{IfOk, OnErr, OnOk, codes, map, string_bytes, ◌++◌, ◌∷◌, ◌≡◌, []};
-ghost use Rattle.std.specs.Prelude.{decimal};
-ghost use Rattle.sl_command.specs.Lines.{behind, counted, host_word, host_words, session_word};
+ghost use Rattle.std.specs.Prelude.{IfOk, OnErr, OnOk, codes, decimal, map, ◌++◌, ◌∷◌, ◌≡◌, []};
+ghost use Rattle.sl_command.specs.Lines.{behind, host_word, host_words, session_word};
 ghost use Rattle.sl_sector.specs.RecordTexts.{dash_for_none};
 ghost use Rattle.sl_text.specs.Forms.{spaced};
 ghost use Rattle.sl_text.specs.Numbers.{hex_text};
 ghost use Rattle.sl_trace.specs.EffectTexts as texts;
 
 use crate::words::{push_counted, push_word};
+use sl_sector::Owner;
 use sl_text::hex::push_hex;
 use sl_text::{Data, Name};
 use sl_trace::{DeltaOwner, DeltaVersion, HostState, Limited, Reply, SessionOf, StateOf};
@@ -207,6 +207,20 @@ fn push_delta(out: &mut Vec<u8>, lockspace: &Name, id: u32) -> Result<(), AllocE
     out.extend_from_slice(text.as_bytes())
 }
 
+/// Adds the lver that is held, and its owner.
+fn push_held(out: &mut Vec<u8>, lver: u64, owner: Owner) -> Result<(), AllocError>
+    ensures { OnOk result (out.new.items ≡ out.old.items ++ spaced (codes "Held" ∷ decimal lver ∷ decimal owner.id ∷ decimal owner.generation ∷ [])) }
+{
+    push_counted(out, "Held", &[lver, u64::from(owner.id), owner.generation])
+}
+
+/// Adds one of those who share a resource.
+fn push_shared(out: &mut Vec<u8>, owner: Owner) -> Result<(), AllocError>
+    ensures { OnOk result (out.new.items ≡ out.old.items ++ spaced (codes "Shared" ∷ decimal owner.id ∷ decimal owner.generation ∷ [])) }
+{
+    push_counted(out, "Shared", &[u64::from(owner.id), owner.generation])
+}
+
 /// Adds what was counted, and its limit.
 fn push_limit(out: &mut Vec<u8>, which: Limited) -> Result<(), AllocError>
     ensures { OnOk result (out.new.items ≡ out.old.items ++ spaced (codes "Limit" ∷ texts.limit_words which)) }
@@ -234,7 +248,7 @@ fn push_reply(out: &mut Vec<u8>, reply: &Reply) -> Result<(), AllocError>
         Reply::Generation { generation } => push_counted(out, "ok", &[*generation]),
         Reply::Granted { lver } => push_counted(out, "ok", &[*lver]),
         Reply::Started { lver, process } => push_counted(out, "ok", &[*lver, u64::from(*process)]),
-        Reply::Value { lver, seq, bytes } => { push_value(out, *lver, *seq, bytes) }
+        Reply::Value { lver, seq, bytes } => push_value(out, *lver, *seq, bytes),
         Reply::Hosts(states) => push_states(out, states.as_slice()),
         Reply::Sessions(sessions) => push_sessions(out, sessions.as_slice()),
         Reply::NoSession => push_counted(out, "NoSession", &[]),
@@ -246,16 +260,8 @@ fn push_reply(out: &mut Vec<u8>, reply: &Reply) -> Result<(), AllocError>
         Reply::TornDelta => push_counted(out, "TornDelta", &[]),
         Reply::TornLeader => push_counted(out, "TornLeader", &[]),
         Reply::TornBlock { host } => push_counted(out, "TornBlock", &[u64::from(*host)]),
-        Reply::Held { lver, owner } => push_counted(
-            out,
-            "Held",
-            &[*lver, u64::from(owner.id), owner.generation],
-        ),
-        Reply::Shared { owner } => push_counted(
-            out,
-            "Shared",
-            &[u64::from(owner.id), owner.generation],
-        ),
+        Reply::Held { lver, owner } => push_held(out, *lver, *owner),
+        Reply::Shared { owner } => push_shared(out, *owner),
         Reply::Rival { host, mbal } => push_counted(out, "Rival", &[u64::from(*host), *mbal]),
         Reply::Ahead { host, lver } => push_counted(out, "Ahead", &[u64::from(*host), *lver]),
         Reply::IoTimeout { call, from, to } => push_counted(out, "IoTimeout", &[*call, *from, *to]),

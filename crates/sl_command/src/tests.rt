@@ -121,6 +121,14 @@ fn told(rt: &impl Abort, alloc: Global, reply: &Reply, text: &[u8]) -> Result<()
     Ok(())
 }
 
+/// Generation 6 of this host.
+fn owned(name: Name) -> DeltaOwner {
+    DeltaOwner {
+        generation: 6,
+        name,
+    }
+}
+
 #[test]
 fn replies(rt: HostRuntime) -> Result<(), Fail> {
     let alloc = rt.alloc();
@@ -132,10 +140,6 @@ fn replies(rt: HostRuntime) -> Result<(), Fail> {
     let first = DeltaVersion {
         generation: 4,
         seq: 5,
-    };
-    let own = DeltaOwner {
-        generation: 6,
-        name,
     };
     let stored = Some(8);
     let none = Data::new(b"").ok_or("they are few")?;
@@ -189,15 +193,18 @@ fn replies(rt: HostRuntime) -> Result<(), Fail> {
         &rt,
         alloc,
         &Reply::IdLost {
-            own,
-            found: Some(own),
+            own: owned(name),
+            found: Some(owned(name)),
         },
         b"IdLost 6 h1 6 h1",
     )?;
     told(
         &rt,
         alloc,
-        &Reply::IdLost { own, found: None },
+        &Reply::IdLost {
+            own: owned(name),
+            found: None,
+        },
         b"IdLost 6 h1 torn",
     )?;
     told(&rt, alloc, &Reply::Held { lver: 9, owner }, b"Held 9 2 3")?;
