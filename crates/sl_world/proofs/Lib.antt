@@ -12,3 +12,4 @@ pub mod InitialLaws
 pub mod DiskLaws
 pub mod KeptLaws
 pub mod WorldLaws
+pub mod FirstMoment

@@ -3,3 +3,4 @@ pub mod Kept
 pub mod FirstEvents
 pub mod Changes
 pub mod Initial
+pub mod Beginning

@@ -4,6 +4,10 @@
 //! which that tells. Whatever happens to it happens to those: it refuses what they refuse, and after an event it stands for what the
 //! event makes of them, with the effects that the definitions call due.
 
+ghost use Rattle.sl_trace.specs.declared.command.Command.{Command};
+ghost use Rattle.sl_text.specs.Forms.{Form};
+ghost use Rattle.sl_run.specs.declared.header.Header.{Header};
+ghost use Rattle.sl_world.specs.Beginning.{IsFirstHeader, first_setting, program_of};
 ghost use Rattle.sl_run.specs.declared.event.Refusal.{Refusal};
 ghost use Rattle.sl_due.specs.Due.{due};
 ghost use Rattle.sl_report.specs.Replay.{effects_of};
@@ -15,7 +19,7 @@ ghost use Rattle.sl_world.specs.Changes.{after_own_step, still_waiting, HasRoom}
 ghost use Rattle.sl_world.specs.Daemons.{IsCalmInput, IsSmall, entry_of};
 ghost use Rattle.sl_world.specs.FirstEvents as first_events;
 ghost use Rattle.sl_world.specs.Kept.{IsSized, WorldStands, Comes, StandsForSome, FlightState, kept_sector};
-ghost use Rattle.std.specs.Prelude.{IfOk, IsTrue, None, OnErr, Some, [], true, ◌∷◌, ◌≡◌, IfSome, OnOk, Err};
+ghost use Rattle.std.specs.Prelude.{IfOk, IsTrue, None, OnErr, Some, [], true, ◌∷◌, ◌≡◌, IfSome, OnOk, Err, List};
 
 use crate::daemon::Daemon;
 use crate::kept::{self, Kept};
@@ -41,6 +45,18 @@ pub struct World<D: Daemon> {
 }
 
 impl<D: Daemon> World<D> {
+    /// The world of a header at moment 0, with the host of its daemon. It takes no memory.
+    pub fn new(alloc: Global, header: Header, host: D) -> World<D>
+        requires { IsFirstHeader header }
+        ensures { (commands : Header → List (Form Command)) → (first : IsFirstHeader header) → D.stands host (first_setting commands header first.session) []
+            → WorldStands D.stands result.kept result.host (worlds.world_with (program_of commands) header) }
+    {
+        World {
+            kept: Kept::new(alloc, header),
+            host,
+        }
+    }
+
     /// Why the event may not happen: the first reason that holds.
     pub fn refusal(&self, event: &Event) -> Option<Refusal>
         requires { IsTrue (first_events.is_first_event event.now) }
