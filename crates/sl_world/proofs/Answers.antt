@@ -124,7 +124,7 @@ pub answer_expected : (k : KeptState) (w : World) (a : Machine) (d : Daemon) (f 
     → (not (flight_writes f) && nat_lt 0 (flight_left f)) ≡ false → is_expected d.setting d.trace (told_ok f) ≡ true
 answer_expected k w a d f t is left =
     let one : One (λ (m : Submitted). m.call) (outstanding d.trace) f.call =
-        one_mapped (λ (m : Submitted). m.call) (outstanding d.trace) f.call (t.outstanding ∙ ap (λ o. map (λ (g : FlightState). g.call) (option_to_list o)) is) in
+    one_mapped (λ (m : Submitted). m.call) (outstanding d.trace) f.call (t.outstanding ∙ ap (λ o. map (λ (g : FlightState). g.call) (option_to_list o)) is) in
     let sector : kept_sector k.disk ≡ d.setting.layout.sector = sym (ap (λ (g : Layout). g.sector) (t.sizes ∙ t.layout)) in
     let whole : IsFlight d.setting.layout.sector f = subst (λ n. IsFlight n f) sector (t.flight f is) in
     ap (λ ms. list_any (λ (x : Submitted). x.call.number == f.call.number && is_answer_for d.setting (ok_answer f) x.call.op) ms) one.is

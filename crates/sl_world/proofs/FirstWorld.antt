@@ -48,11 +48,11 @@ sample_quiet_at stands k host w c n s sized h =
     record {
       effects = ap (λ v. effects_of v (Sample 1 c n)) (sym (solo_is w s.machine s.tells.alone));
       stays = subst P (sym (ap (λ o. elim o as (λ x. KeptState) [ None ↦ k | Some f ↦ after_sample n f k ]) x.is)) (record {
-          machine = _;
-          daemon = s.daemon;
-          tells = sample_tells k w s.machine s.daemon c n x.flight s.tells sized x.is x.number (sample_passes k.disk n x.flight x.passes).1;
-          runs = s.runs;
-        });
+        machine = _;
+        daemon = s.daemon;
+        tells = sample_tells k w s.machine s.daemon c n x.flight s.tells sized x.is x.number (sample_passes k.disk n x.flight x.passes).1;
+        runs = s.runs;
+      });
     }
 
 land_quiet_at : {D : Type 0} (stands : D → Setting → Trace → Type 0) (k : KeptState) (host : D) (w : World) (c : ℕ) → WorldStands stands k host w
@@ -63,11 +63,11 @@ land_quiet_at stands k host w c s h =
     record {
       effects = ap (λ v. effects_of v (Land 1 c)) (sym (solo_is w s.machine s.tells.alone));
       stays = subst P (sym (ap (λ o. elim o as (λ x. KeptState) [ None ↦ k | Some f ↦ after_land f k ]) x.is)) (record {
-          machine = _;
-          daemon = s.daemon;
-          tells = land_tells k w s.machine s.daemon c x.flight s.tells x.is x.number;
-          runs = s.runs;
-        });
+        machine = _;
+        daemon = s.daemon;
+        tells = land_tells k w s.machine s.daemon c x.flight s.tells x.is x.number;
+        runs = s.runs;
+      });
     }
 
 shaped_passes : (b : Bool) (r : Option Refusal) → elim b as (λ x. Option Refusal) [ false ↦ Some Syntax | true ↦ r ] ≡ None → r ≡ None

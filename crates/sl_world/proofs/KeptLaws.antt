@@ -52,9 +52,9 @@ pub sample_has_room : (d : DiskState) (n : ℕ) (f : FlightState) → IsHeader d
 sample_has_room d n f h some short passes =
     let ok = sample_room_passes d n f passes in
     let disk = passes_any (λ (k : Disk). bytes_eq k.path f.call.path
-        && nat_le (f.call.offset + (sectors_of f.call.op - 1) * d.header.geometry.sector + d.header.geometry.sector) (k.mebibytes * mebibyte)) d.header.disks ok.0 in
+    && nat_le (f.call.offset + (sectors_of f.call.op - 1) * d.header.geometry.sector + d.header.geometry.sector) (k.mebibytes * mebibyte)) d.header.disks ok.0 in
     let fits = and_true (bytes_eq disk.element.path f.call.path)
-        (nat_le (f.call.offset + (sectors_of f.call.op - 1) * d.header.geometry.sector + d.header.geometry.sector) (disk.element.mebibytes * mebibyte)) disk.passes in
+    (nat_le (f.call.offset + (sectors_of f.call.op - 1) * d.header.geometry.sector + d.header.geometry.sector) (disk.element.mebibytes * mebibyte)) disk.passes in
     let within : f.sectors + n ≤ sectors_of f.call.op = more_within f.sectors (sectors_of f.call.op) n some ok.1 in
     record {
       place = few_bytes f.call.offset (sectors_of f.call.op) f.sectors n d.header.geometry.sector disk.element.mebibytes (has_sizes d.header.geometry h.geometry).sector

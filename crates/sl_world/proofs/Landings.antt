@@ -107,6 +107,6 @@ land_tells k w a d c f t is number =
     let P : World → Type 0 = λ v. Tells (after_land f k) v (landed_machine c a) d in
     let found : flight_of a c ≡ Some y.course = the_flight a f y c ∙ chosen (f.call.number == c) y.course number in
     let made : landed_world w a c f.call ≡ happens w (Land 1 c) (no_effects ∷ []) =
-        ap (λ (s : Shown). landed_world w a c s.call) (sym y.shows) ∙ sym (land_makes w a c y.course found)
-        ∙ ap (λ v. happens v (Land 1 c) (no_effects ∷ [])) (solo_is w a t.alone) in
+    ap (λ (s : Shown). landed_world w a c s.call) (sym y.shows) ∙ sym (land_makes w a c y.course found)
+    ∙ ap (λ v. happens v (Land 1 c) (no_effects ∷ [])) (solo_is w a t.alone) in
     subst P made (landed_tells k w a d c f y t is number)

@@ -44,9 +44,9 @@ neither false true r s h = absurd (some_none s h)
 neither false false r s h = (refl, refl)
 
 read_passes : (b p : Bool) (l : Bool) → elim b as (λ x. Option Refusal) [
-      | true ↦ Some MissingCall
-      | false ↦ first_that ((not p, MissingPlace) ∷ (l, MissingSample) ∷ [])
-    ] ≡ None → (b ≡ false) × (l ≡ false)
+  | true ↦ Some MissingCall
+  | false ↦ first_that ((not p, MissingPlace) ∷ (l, MissingSample) ∷ [])
+] ≡ None → (b ≡ false) × (l ≡ false)
 read_passes true p l h = absurd (some_none MissingCall h)
 read_passes false p l h = (refl, (neither (not p) l MissingPlace MissingSample h).1)
 
@@ -54,9 +54,9 @@ pub sample_passes : (d : DiskState) (n : ℕ) (f : FlightState) → sample_refus
 sample_passes d n f h = read_passes (flight_writes f) (is_on_disk d.header f.call) (nat_lt (flight_left f) n) h
 
 room_passes : (b p : Bool) (l : Bool) → elim b as (λ x. Option Refusal) [
-      | true ↦ Some MissingCall
-      | false ↦ first_that ((not p, MissingPlace) ∷ (l, MissingSample) ∷ [])
-    ] ≡ None → (p ≡ true) × (l ≡ false)
+  | true ↦ Some MissingCall
+  | false ↦ first_that ((not p, MissingPlace) ∷ (l, MissingSample) ∷ [])
+] ≡ None → (p ≡ true) × (l ≡ false)
 room_passes true p l h = absurd (some_none MissingCall h)
 room_passes false true l h = (refl, (neither false l MissingPlace MissingSample h).1)
 room_passes false false l h = absurd (some_none MissingPlace h)
@@ -65,9 +65,9 @@ pub sample_room_passes : (d : DiskState) (n : ℕ) (f : FlightState) → sample_
 sample_room_passes d n f h = room_passes (flight_writes f) (is_on_disk d.header f.call) (nat_lt (flight_left f) n) h
 
 write_passes : (b p : Bool) (l : Bool) → elim b as (λ x. Option Refusal) [
-      | false ↦ Some MissingCall
-      | true ↦ first_that ((not p, MissingPlace) ∷ (l, MissingFlight) ∷ [])
-    ] ≡ None → (b ≡ true) × (l ≡ false)
+  | false ↦ Some MissingCall
+  | true ↦ first_that ((not p, MissingPlace) ∷ (l, MissingFlight) ∷ [])
+] ≡ None → (b ≡ true) × (l ≡ false)
 write_passes false p l h = absurd (some_none MissingCall h)
 write_passes true p l h = (refl, (neither (not p) l MissingPlace MissingFlight h).1)
 

@@ -151,7 +151,7 @@ refusal_is k w a d (Land m c) t first =
     ∙ ap (λ r. on_first m r) (at_machine k w a d c k.flight is_write_course ts (land_refusal k.disk) t refl (λ f y. land_is k w a d f y.course t y.shows))
 refusal_is k w a d (AnswerCall m c true) t first =
     let ts : Course → List (Bool × Refusal) =
-        λ f. (true && is_read_course f && nat_lt 0 (sectors_left f), MissingSample) ∷ (true && is_write_course f && not (is_landed f.fate), MissingLanding) ∷ [] in
+    λ f. (true && is_read_course f && nat_lt 0 (sectors_left f), MissingSample) ∷ (true && is_write_course f && not (is_landed f.fate), MissingLanding) ∷ [] in
     on_chosen (machine_at w m) (m == 1) a (λ b. needs_daemon b ∷ on_flight b c (is_of_running b) ts) (machine_is w a m t.alone)
     ∙ ap (λ r. on_first m r) (with_daemon a d (on_flight a c (is_of_running a) ts) t.runs
     ∙ at_machine k w a d c k.flight (is_of_running a) ts answer_refusal t refl (λ f y. answer_is f y.course (is_of_running a y.course) y.runs y.shows))

@@ -70,10 +70,10 @@ few_of : (es : Trace) (e : Entry) (o : Option FlightState)
     → length (outstanding (e ∷ es)) ≤ 1 → length (option_to_list o) + length e.effects.calls ≤ 1
 few_of es e o out small =
     let counted : length (outstanding (e ∷ es)) ≡ length (option_to_list o) + length e.effects.calls =
-        sym (length-map (outstanding (e ∷ es)) (λ m. m.call)) ∙ ap length (out_piled es e)
-        ∙ pile_length e.effects.calls (map (λ m. m.call) (unanswered (mark es e e.input (submitted es))))
-        ∙ ap (λ cs. length cs + length e.effects.calls) out
-        ∙ ap (λ n. n + length e.effects.calls) (length-map (option_to_list o) (λ (f : FlightState). f.call)) in
+    sym (length-map (outstanding (e ∷ es)) (λ m. m.call)) ∙ ap length (out_piled es e)
+    ∙ pile_length e.effects.calls (map (λ m. m.call) (unanswered (mark es e e.input (submitted es))))
+    ∙ ap (λ cs. length cs + length e.effects.calls) out
+    ∙ ap (λ n. n + length e.effects.calls) (length-map (option_to_list o) (λ (f : FlightState). f.call)) in
     subst (λ n. n ≤ 1) counted small
 
 -- ---- the machine

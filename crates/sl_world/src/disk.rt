@@ -151,14 +151,20 @@ impl Disks {
         let sector = u64::from(self.header.geometry.sector());
         let bytes = sectors_of(&call.op).saturating_sub(1) * sector + sector;
         let (path, offset) = (call.path, call.offset);
-        self.header.disks.as_slice().iter().any(|disk| has_room(disk, path, offset, bytes))
+        self.header
+            .disks
+            .as_slice()
+            .iter()
+            .any(|disk| has_room(disk, path, offset, bytes))
     }
 
     /// What was written at a place, if something was.
     fn find(&self, path: FilePath, offset: u64) -> Option<&Written>
         ensures { option_copied result ≡ find (is_written_at path offset) self.now.written }
     {
-        self.written.iter().find(|written| written.is_at(path, offset))
+        self.written
+            .iter()
+            .find(|written| written.is_at(path, offset))
     }
 
     /// Adds what stands at a place to the bytes. An `Err` is want of memory.
@@ -204,7 +210,9 @@ impl Disks {
     fn index_of(&self, path: FilePath, offset: u64) -> Option<usize>
         ensures { result ≡ position (is_written_at path offset) self.now.written }
     {
-        self.written.iter().position(|written| written.is_at(path, offset))
+        self.written
+            .iter()
+            .position(|written| written.is_at(path, offset))
     }
 
     /// Writes a sector at a place. An `Err` is want of memory, and then nothing has changed.

@@ -146,7 +146,10 @@ impl Flight {
         ensures { IfOk result (λ input. input ≡ told_ok self.now) }
     {
         let answer = match self.call.op {
-            Op::ReadSectors { sectors: _ } => Answer::Read(Bytes::from_slice(alloc, &self.sampled)?),
+            Op::ReadSectors { sectors: _ } => Answer::Read(Bytes::from_slice(
+                alloc,
+                &self.sampled,
+            )?),
             Op::WriteRecord { record: _ } => Answer::Written,
         };
         Ok(Input::Answer {

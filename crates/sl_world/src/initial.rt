@@ -44,7 +44,11 @@ fn lockspace_at(header: &Header, path: FilePath, offset: u64) -> Option<&Lockspa
     ensures { option_copied result ≡ line_at header.now path offset }
 {
     let geometry = header.geometry;
-    header.lockspaces.as_slice().iter().find(|line| is_lockspace_at(geometry, line, path, offset))
+    header
+        .lockspaces
+        .as_slice()
+        .iter()
+        .find(|line| is_lockspace_at(geometry, line, path, offset))
 }
 
 /// The resource whose area has the place.
@@ -52,7 +56,11 @@ fn resource_at(header: &Header, path: FilePath, offset: u64) -> Option<&Resource
     ensures { option_copied result ≡ resource_at header.now path offset }
 {
     let geometry = header.geometry;
-    header.resources.as_slice().iter().find(|line| is_resource_at(geometry, line, path, offset))
+    header
+        .resources
+        .as_slice()
+        .iter()
+        .find(|line| is_resource_at(geometry, line, path, offset))
 }
 
 /// Whether the session has this id of the lockspace.
@@ -66,14 +74,22 @@ fn is_member(session: &SessionLine, lockspace: Name, id: u32) -> bool
 fn member(header: &Header, lockspace: Name, id: u32) -> Option<&SessionLine>
     ensures { option_copied result ≡ session_of header.now lockspace id }
 {
-    header.sessions.as_slice().iter().find(|session| is_member(session, lockspace, id))
+    header
+        .sessions
+        .as_slice()
+        .iter()
+        .find(|session| is_member(session, lockspace, id))
 }
 
 /// The line of a machine's clock.
 fn clock_of(header: &Header, machine: u32) -> Option<&FirstReading>
     ensures { option_copied result ≡ clock_of header.now machine }
 {
-    header.clocks.as_slice().iter().find(|clock| clock.machine == machine)
+    header
+        .clocks
+        .as_slice()
+        .iter()
+        .find(|clock| clock.machine == machine)
 }
 
 /// A machine's first reading: that of its line, else 0.

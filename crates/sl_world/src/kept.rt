@@ -178,10 +178,7 @@ impl Kept {
     {
         let _header = self.disks.header();
         match event {
-            Event::GiveCommand {
-                machine,
-                text: _,
-            } => on_first(*machine, None),
+            Event::GiveCommand { machine, text: _ } => on_first(*machine, None),
             Event::Sample {
                 machine,
                 call,
@@ -193,10 +190,7 @@ impl Kept {
                     on_first(*machine, self.refuses_sample(*call, *sectors))
                 }
             }
-            Event::Land {
-                machine,
-                call,
-            } => on_first(*machine, self.refuses_landing(*call)),
+            Event::Land { machine, call } => on_first(*machine, self.refuses_landing(*call)),
             Event::AnswerCall {
                 machine,
                 call,

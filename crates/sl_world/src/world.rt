@@ -167,10 +167,7 @@ impl<D: Daemon> World<D> {
         ensures err { OnErr result (self.new ≡ self.old) }
     {
         match event {
-            Event::GiveCommand {
-                machine,
-                text,
-            } => self.give(machine, text),
+            Event::GiveCommand { machine, text } => self.give(machine, text),
             Event::Sample {
                 machine,
                 call,
@@ -179,10 +176,7 @@ impl<D: Daemon> World<D> {
                 self.sample(machine, call, sectors)?;
                 Ok(no_effects(self.kept.allocator()))
             }
-            Event::Land {
-                machine,
-                call,
-            } => {
+            Event::Land { machine, call } => {
                 self.land(machine, call)?;
                 Ok(no_effects(self.kept.allocator()))
             }
