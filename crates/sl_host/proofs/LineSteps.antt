@@ -222,13 +222,13 @@ acquire_begins h p after fx idle effects lease submits st es text k reads =
     let hosts : st.layout.hosts + 2 ≡ h.site.sizes.hosts + 2 = ap (λ l. l.hosts + 2) k.setting.laid in
     begun_with h st es text (Acquires p) (ReadArea h.site.resource.name) 0 (Some (h.site.sizes.hosts + 2)) [] c after fx k
     (subst (λ x. LineFirst st h.site.session h.site.resource h.next_job k.answered es text x)
-        (told_idle st h.site.session h.site.resource h.next_call h.next_job es text p k.stand rest)
-        (acquire_first st h.site.session h.site.resource k.setting.first h.next_call h.next_job k.stand k.answered es k.first text p (process_small h st es text (Acquire h.site.resource false p) k reads) reads))
+    (told_idle st h.site.session h.site.resource h.next_call h.next_job es text p k.stand rest)
+    (acquire_first st h.site.session h.site.resource k.setting.first h.next_call h.next_job k.stand k.answered es k.first text p (process_small h st es text (Acquire h.site.resource false p) k reads) reads))
     (record { job = k.first.stands.job_number; command = refl; step = refl; call = refl; lver = refl; sectors = ap (λ n. Some n) hosts })
     (one_lease h.site (ReadFor (ReadArea h.site.resource.name)) h.lease after k.lease_of lease)
     (submits (new_call (length es) h.site.session.renewed c) k.answered calls
-        (record { idle = waits_none h.lease.sizes h.lease.waiting k.answered calls.waiting k.first.stands.answered; named = refl }) refl
-        (record { reads = refl; call = record { work = ForJob h.next_job; purpose = refl; op = ap (λ n. ReadSectors (n + 2)) (ap (λ l. l.hosts) k.setting.laid ∙ ap (λ z. z.hosts) (sym k.lease_of.sizes)) } }))
+    (record { idle = waits_none h.lease.sizes h.lease.waiting k.answered calls.waiting k.first.stands.answered; named = refl }) refl
+    (record { reads = refl; call = record { work = ForJob h.next_job; purpose = refl; op = ap (λ n. ReadSectors (n + 2)) (ap (λ l. l.hosts) k.setting.laid ∙ ap (λ z. z.hosts) (sym k.lease_of.sizes)) } }))
     (effects st k.setting.laid)
 
 -- The same, for a host of these parts.
@@ -243,11 +243,11 @@ pub acquire_made : (h inside last : HostState) (p : ℕ) (after : LeaseState) (f
 acquire_made h inside last p after first step sectors c fx is idle call effects first_is step_is sectors_are lease submits last_is st es text k reads =
     subst (λ x. Steps x last st es (Line text) fx) (sym is)
     (subst (λ x. Steps inside x st es (Line text) fx)
-        (sym (last_is ∙ (λ i. begun (Acquires p) (step_is i) 0 (Some (sectors_are i + 2)) (record inside { lease = after }))))
-        (acquire_begins inside p after fx (ap (λ x. x.phase) (sym is) ∙ idle) (λ v laid. effects ∙ ap (λ x. first_effects [] [] [] (x ∷ [])) (call v laid))
-            (lease ∙ ap (λ s. after_next (ReadFor s) inside.lease) first_is)
-            (subst (λ s. (m : Submitted) (ms : List Submitted) → LeaseStands inside.lease ms → MayFollow inside.lease (ReadFor s) → m.answer ≡ None → IsCallOf inside.lease.sizes (ReadFor s) m → LeaseStands after (m ∷ ms)) first_is submits)
-            st es text (subst (λ x. HostStands x st es) is k) (reads ∙ ap (λ x. Ok (Acquire x.site.resource false p)) is)))
+    (sym (last_is ∙ (λ i. begun (Acquires p) (step_is i) 0 (Some (sectors_are i + 2)) (record inside { lease = after }))))
+    (acquire_begins inside p after fx (ap (λ x. x.phase) (sym is) ∙ idle) (λ v laid. effects ∙ ap (λ x. first_effects [] [] [] (x ∷ [])) (call v laid))
+    (lease ∙ ap (λ s. after_next (ReadFor s) inside.lease) first_is)
+    (subst (λ s. (m : Submitted) (ms : List Submitted) → LeaseStands inside.lease ms → MayFollow inside.lease (ReadFor s) → m.answer ≡ None → IsCallOf inside.lease.sizes (ReadFor s) m → LeaseStands after (m ∷ ms)) first_is submits)
+    st es text (subst (λ x. HostStands x st es) is k) (reads ∙ ap (λ x. Ok (Acquire x.site.resource false p)) is)))
 
 release_begins : (h : HostState) (p n : ℕ) (after : LeaseState) (fx : Effects) → h.phase ≡ Holds p n
     → fx ≡ first_effects (end_of (first_grant h.site.session h.site.resource p n) ∷ []) [] [] (leader_write h.site.resource h.next_call h.next_job FreeLeader (freed_leader h.site n) ∷ [])
@@ -262,19 +262,19 @@ release_begins h p n after fx held effects lease submits st es text k reads =
     let named : IsNamed st h.site.session h.site.resource k.answered = named_held st h.site.session h.site.resource k.answered p n k.stand rest k.first.course in
     let write = freed_write st h.site h.next_call h.next_job n k.answered k.setting.laid named in
     let has : is_some h.lease.name ≡ true = named_some h.lease.name h.site.resource.name
-          (ap (λ o. unwrap_or o []) calls.name ∙ verified_is (layout_of h.lease.sizes) h.lease.lockspace k.answered
-              ∙ (λ i. verified_name ((ap layout_of k.lease_of.sizes ∙ sym k.setting.laid) i) (k.lease_of.lockspace i) k.answered) ∙ named) k.site.resource.named in
+    (ap (λ o. unwrap_or o []) calls.name ∙ verified_is (layout_of h.lease.sizes) h.lease.lockspace k.answered
+    ∙ (λ i. verified_name ((ap layout_of k.lease_of.sizes ∙ sym k.setting.laid) i) (k.lease_of.lockspace i) k.answered) ∙ named) k.site.resource.named in
     let c = leader_write h.site.resource h.next_call h.next_job FreeLeader (freed_leader h.site n) in
     begun_with h st es text (Releases p) FreeLeader n None (end_of (first_grant h.site.session h.site.resource p n) ∷ []) c after fx k
     (subst (λ x. LineFirst st h.site.session h.site.resource h.next_job k.answered es text x)
-        (freed_same st h.site.session h.site.resource h.next_call h.next_job k.answered es text p n k.stand rest
-            ∙ ap (λ x. begins st h.site.session es text h.next_call (Release h.site.resource p) FreeLeader (end_of (first_grant h.site.session h.site.resource p n) ∷ []) x) (sym write))
-        (release_first st h.site.session h.site.resource k.setting.first h.next_call h.next_job k.stand k.answered es k.first text p (process_small h st es text (Release h.site.resource p) k reads) reads))
+    (freed_same st h.site.session h.site.resource h.next_call h.next_job k.answered es text p n k.stand rest
+    ∙ ap (λ x. begins st h.site.session es text h.next_call (Release h.site.resource p) FreeLeader (end_of (first_grant h.site.session h.site.resource p n) ∷ []) x) (sym write))
+    (release_first st h.site.session h.site.resource k.setting.first h.next_call h.next_job k.stand k.answered es k.first text p (process_small h st es text (Release h.site.resource p) k reads) reads))
     (record { job = k.first.stands.job_number; command = refl; step = refl; call = refl; lver = refl; sectors = refl })
     (one_lease h.site (WriteLeader FreeLeader (freed_leader h.site n)) h.lease after k.lease_of lease)
     (submits (new_call (length es) h.site.session.renewed c) k.answered calls
-        (record { idle = waits_none h.lease.sizes h.lease.waiting k.answered calls.waiting k.first.stands.answered; named = has }) refl
-        (record { writes = refl; call = record { work = ForJob h.next_job; purpose = refl; op = refl } }))
+    (record { idle = waits_none h.lease.sizes h.lease.waiting k.answered calls.waiting k.first.stands.answered; named = has }) refl
+    (record { writes = refl; call = record { work = ForJob h.next_job; purpose = refl; op = refl } }))
     effects
 
 -- The same, for a host of these parts.
@@ -291,10 +291,10 @@ release_made h inside last p n after l end c fx is held call ends effects leader
     let written = call ∙ ap (λ x. leader_write x.site.resource x.next_call x.next_job FreeLeader (freed_leader x.site n)) is in
     subst (λ x. Steps x last st es (Line text) fx) (sym is)
     (subst (λ x. Steps inside x st es (Line text) fx) (sym last_is)
-        (release_begins inside p n after fx (ap (λ x. x.phase) (sym is) ∙ held) (effects ∙ (λ i. first_effects (ends n i ∷ []) [] [] (written i ∷ [])))
-            (lease ∙ ap (λ x. after_next (WriteLeader FreeLeader x) inside.lease) leader)
-            (subst (λ x. (m : Submitted) (ms : List Submitted) → LeaseStands inside.lease ms → MayFollow inside.lease (WriteLeader FreeLeader x) → m.answer ≡ None → IsCallOf inside.lease.sizes (WriteLeader FreeLeader x) m → LeaseStands after (m ∷ ms)) leader submits)
-            st es text (subst (λ x. HostStands x st es) is k) (reads ∙ ap (λ x. Ok (Release x.site.resource p)) is)))
+    (release_begins inside p n after fx (ap (λ x. x.phase) (sym is) ∙ held) (effects ∙ (λ i. first_effects (ends n i ∷ []) [] [] (written i ∷ [])))
+    (lease ∙ ap (λ x. after_next (WriteLeader FreeLeader x) inside.lease) leader)
+    (subst (λ x. (m : Submitted) (ms : List Submitted) → LeaseStands inside.lease ms → MayFollow inside.lease (WriteLeader FreeLeader x) → m.answer ≡ None → IsCallOf inside.lease.sizes (WriteLeader FreeLeader x) m → LeaseStands after (m ∷ ms)) leader submits)
+    st es text (subst (λ x. HostStands x st es) is k) (reads ∙ ap (λ x. Ok (Release x.site.resource p)) is)))
 
 -- ---- lines of each phase
 
@@ -306,23 +306,23 @@ pub line_busy : (h : HostState) (p q n : ℕ) (fx : Effects) → h.phase ≡ Hol
 line_busy h p q n fx is st es text k reads =
     answered_at_once h st es text (Busy q) fx k
     (subst (λ x. LineFirst st h.site.session h.site.resource h.next_job k.answered es text x)
-        (told_busy st h.site.session h.site.resource h.next_call h.next_job es text p q n k.stand (subst (λ x. IsPhaseOf h.site.resource x k.stand) is k.phase))
-        (acquire_first st h.site.session h.site.resource k.setting.first h.next_call h.next_job k.stand k.answered es k.first text p (process_small h st es text (Acquire h.site.resource false p) k reads) reads))
+    (told_busy st h.site.session h.site.resource h.next_call h.next_job es text p q n k.stand (subst (λ x. IsPhaseOf h.site.resource x k.stand) is k.phase))
+    (acquire_first st h.site.session h.site.resource k.setting.first h.next_call h.next_job k.stand k.answered es k.first text p (process_small h st es text (Acquire h.site.resource false p) k reads) reads))
 
 pub line_pending : (h : HostState) (p : ℕ) (kept : Doing) (fx : Effects) → h.phase ≡ Works kept → (st : Setting) (es : Trace) (text : List ℕ) → HostStands h st es
     → st.read text ≡ Ok (Acquire h.site.resource false p) → AnsweredBy h st es text (Pending kept.call) fx
 line_pending h p kept fx is st es text k reads =
     answered_at_once h st es text (Pending kept.call) fx k
     (subst (λ x. LineFirst st h.site.session h.site.resource h.next_job k.answered es text x)
-        (told_pending st h.site.session h.site.resource h.next_call h.next_job es text p kept k.stand (subst (λ x. IsPhaseOf h.site.resource x k.stand) is k.phase))
-        (acquire_first st h.site.session h.site.resource k.setting.first h.next_call h.next_job k.stand k.answered es k.first text p (process_small h st es text (Acquire h.site.resource false p) k reads) reads))
+    (told_pending st h.site.session h.site.resource h.next_call h.next_job es text p kept k.stand (subst (λ x. IsPhaseOf h.site.resource x k.stand) is k.phase))
+    (acquire_first st h.site.session h.site.resource k.setting.first h.next_call h.next_job k.stand k.answered es k.first text p (process_small h st es text (Acquire h.site.resource false p) k reads) reads))
 
 not_held : (h : HostState) (p : ℕ) (fx : Effects) (st : Setting) (es : Trace) (text : List ℕ) (k : HostStands h st es) → st.read text ≡ Ok (Release h.site.resource p)
     → release_line st h.site.session h.site.resource h.next_call h.next_job k.answered es text p k.stand ≡ answers h.next_call h.next_job k.stand NotHeld → AnsweredBy h st es text NotHeld fx
 not_held h p fx st es text k reads told =
     answered_at_once h st es text NotHeld fx k
     (subst (λ x. LineFirst st h.site.session h.site.resource h.next_job k.answered es text x) told
-        (release_first st h.site.session h.site.resource k.setting.first h.next_call h.next_job k.stand k.answered es k.first text p (process_small h st es text (Release h.site.resource p) k reads) reads))
+    (release_first st h.site.session h.site.resource k.setting.first h.next_call h.next_job k.stand k.answered es k.first text p (process_small h st es text (Release h.site.resource p) k reads) reads))
 
 pub line_unheld : (h : HostState) (p : ℕ) (fx : Effects) → h.phase ≡ Idle → (st : Setting) (es : Trace) (text : List ℕ) → HostStands h st es
     → st.read text ≡ Ok (Release h.site.resource p) → AnsweredBy h st es text NotHeld fx

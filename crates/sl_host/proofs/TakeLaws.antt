@@ -124,16 +124,16 @@ taken g kept a s u t aim own next state told aimed owned decides named fit after
     let one : IsOneLease s u = subst (λ v. IsOneLease s v) (sym state) (of_waiting s.waiting a true s) in
     let last : IsOneLease u t = subst (λ v. IsOneLease u v) (sym after) (of_next next u) in
     let here : (x : Answered) (m : Submitted) → IsAnswered s.sizes kept.step a (answered_call m x) → IsAnswered u.sizes kept.step a (answered_call m x)
-          = λ x m. subst (λ z. IsAnswered z kept.step a (answered_call m x)) (sym one.sizes) in
+    = λ x m. subst (λ z. IsAnswered z kept.step a (answered_call m x)) (sym one.sizes) in
     let idle : (m : Submitted) (ms : List Submitted) (x : Answered) → LeaseStands u (answered_call m x ∷ ms) → u.waiting ≡ None
-          = λ m ms x k. rests u.sizes u.waiting (answered_call m x) ms x k.waiting refl in
+    = λ m ms x k. rests u.sizes u.waiting (answered_call m x) ms x k.waiting refl in
     record {
       fit = fit;
       steady = then_same s u t one last;
       exact = λ m ms x k.
           decides (answered_call m x) ms (told m ms x k.told k.stands) (here x m k.answered)
           ∙ (λ i. lease_next (record { layout = layout_of (one.sizes i); lockspace = one.lockspace i })
-              (known_of (layout_of (one.sizes i)) (one.lockspace i) (one.self i) false None (first_over (record g { id = owned i })) (answered_call m x ∷ ms)) (aimed i) kept.call kept.lver kept.step a);
+          (known_of (layout_of (one.sizes i)) (one.lockspace i) (one.self i) false None (first_over (record g { id = owned i })) (answered_call m x ∷ ms)) (aimed i) kept.call kept.lver kept.step a);
       ends = λ m ms x k none. subst (λ v. LeaseStands v (answered_call m x ∷ ms)) (sym (after ∙ no_call next u none)) (told m ms x k.told k.stands);
       goes_on = λ m ms x k n open_call is.
           let stands : LeaseStands u (answered_call m x ∷ ms) = told m ms x k.told k.stands in

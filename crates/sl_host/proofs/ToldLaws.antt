@@ -157,7 +157,7 @@ decided st g r s es kept d a before answered next laid k is site comes =
     let aim = aims r kept.command ∙ ap first_aim (sym k.command) in
     comes
     ∙ (λ i. lease_next (record { layout = lay i; lockspace = lock i })
-        (known_of (lay i) (lock i) (self i) false None (first_over g) (heeded_call es g a d.call ∷ answered)) (aim i) (sym k.call i) (sym k.lver i) (sym k.step i) a)
+    (known_of (lay i) (lock i) (self i) false None (first_over g) (heeded_call es g a d.call ∷ answered)) (aim i) (sym k.call i) (sym k.lver i) (sym k.step i) a)
 
 -- ---- all of it
 
@@ -175,18 +175,20 @@ core s call job kept d answered st es a before after next fx site setting first 
     let whole : is_whole_read s.sizes d.step a ≡ true = whole_at s.sizes d.step a (subst (λ o. is_answer_by s.sizes o a ≡ true) at asks) in
     let x : Answered = told_by s.session es a in
     let newest : IsToNewest before kept.step a d.call answered x = record {
-          stands = lease;
-          told = record { open_call = first.stands.work.unanswered; told = refl; heed = refl; setting = st; layout = laid; fits = may };
-          answered = record {
-            work = ForJob d.job.number;
-            purpose = first.stands.work.for_job ∙ ap (λ step. Lease (ForJob d.job.number) step) k.step;
-            answered = x; has = refl; told = refl;
-            whole = subst (λ z. is_whole_read z kept.step a ≡ true) (sym is.sizes) (subst (λ step. is_whole_read s.sizes step a ≡ true) k.step whole);
-          };
-        } in
+      stands = lease;
+      told = record { open_call = first.stands.work.unanswered; told = refl; heed = refl; setting = st; layout = laid; fits = may };
+      answered = record {
+        work = ForJob d.job.number;
+        purpose = first.stands.work.for_job ∙ ap (λ step. Lease (ForJob d.job.number) step) k.step;
+        answered = x;
+        has = refl;
+        told = refl;
+        whole = subst (λ z. is_whole_read z kept.step a ≡ true) (sym is.sizes) (subst (λ step. is_whole_read s.sizes step a ≡ true) k.step whole);
+      };
+    } in
     let comes = decided st s.session s.resource s es kept d a before answered next setting.laid k is refl (t.exact d.call answered x newest) in
     let told : ToldFirst st s.session s.resource call job d answered es a next
-          = subst (λ n. ToldFirst st s.session s.resource call job d answered es a n) (sym comes) (told_first st s.session s.resource setting.first call job d answered es first a may) in
+    = subst (λ n. ToldFirst st s.session s.resource call job d answered es a n) (sym comes) (told_first st s.session s.resource setting.first call job d answered es first a may) in
     record {
       due_is = effects ∙ sym told.due_is ∙ ap (λ n. due st es s.session.renewed (Told n a)) k.call;
       stands = record {
@@ -220,7 +222,7 @@ pub told_steps : (h : HostState) (kept : Doing) (st : Setting) (es : Trace) (a :
     → Steps h (record { site = h.site; next_call = told_number h.next_call next; next_job = h.next_job; phase = phase_after h.site.sizes.hosts kept h.next_call next; lease = after }) st es (Told kept.call a) fx
 told_steps h kept st es a after next fx works k fits t effects =
     let s = by_stand h.site h.next_call h.next_job kept k.stand k.answered st es a h.lease after next fx k.site k.setting k.first (subst (λ p. IsPhaseOf h.site.resource p k.stand) works k.phase)
-          k.lease_of k.lease fits t (λ d job process. effects st d k.setting.laid job process) in
+    k.lease_of k.lease fits t (λ d job process. effects st d k.setting.laid job process) in
     record { due_is = s.due_is; stands = s.stands }
 
 -- What it keeps can stand in a record.
@@ -243,15 +245,15 @@ pub told_made : (h inside : HostState) (kept : Doing) (a : Answer) (after : Leas
 told_made h inside kept a after next hosts number process phase fx is works t hosts_are phase_is number_is process_is effects fits st es k =
     subst (λ x. Steps x (record { site = inside.site; next_call = number; next_job = inside.next_job; phase = phase; lease = after }) st es (Told kept.call a) fx) (sym is)
     (subst (λ x. Steps inside x st es (Told kept.call a) fx)
-        (λ i. record {
-          site = inside.site;
-          next_call = sym number_is i;
-          next_job = inside.next_job;
-          phase = sym (phase_is ∙ ap (λ n. phase_after n kept inside.next_call next) hosts_are) i;
-          lease = after;
-        })
-        (told_steps inside kept st es a after next fx (ap (λ x. x.phase) (sym is) ∙ works) (subst (λ x. HostStands x st es) is k) (subst (λ x. is_answer_by x.site.sizes kept.sectors a ≡ true) is fits) t
-        (λ v d laid job of_process. effects v d laid job (of_process ∙ sym process_is))))
+    (λ i. record {
+      site = inside.site;
+      next_call = sym number_is i;
+      next_job = inside.next_job;
+      phase = sym (phase_is ∙ ap (λ n. phase_after n kept inside.next_call next) hosts_are) i;
+      lease = after;
+    })
+    (told_steps inside kept st es a after next fx (ap (λ x. x.phase) (sym is) ∙ works) (subst (λ x. HostStands x st es) is k) (subst (λ x. is_answer_by x.site.sizes kept.sectors a ≡ true) is fits) t
+    (λ v d laid job of_process. effects v d laid job (of_process ∙ sym process_is))))
 
 -- What a call writes that is done.
 pub written_fits : (z : Sizes) (sectors : Option ℕ) (lver : ℕ) (a : Answer) → is_answer_by z sectors a ≡ true → (sectors ≡ None → IsInstance lver) → a ≡ Written → IsInstance lver

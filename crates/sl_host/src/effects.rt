@@ -6,7 +6,9 @@ ghost use Rattle.std.specs.Prelude.{IfOk, [], ◌∷◌, ◌≡◌};
 use crate::room::Room;
 use sl_sector::{Block, DeltaRec, DeltaState, Leader, Rec, Request, ValueRec};
 use sl_text::{Data, FilePath, Name, Seq};
-use sl_trace::{Call, Effects, End, Grant, JobReply, JoinStep, LeaseStep, Op, Purpose, Reply, Work};
+use sl_trace::{
+    Call, Effects, End, Grant, JobReply, JoinStep, LeaseStep, Op, Purpose, Reply, Work,
+};
 use std::alloc::{AllocError, Global};
 
 /// These ends, grants, replies and calls, and nothing else.
@@ -55,15 +57,31 @@ impl Rooms {
     pub(crate) fn nothing(self) -> Effects
         ensures { result ≡ no_effects }
     {
-        let Rooms { alloc, grants, replies, calls } = self;
-        first_effects(alloc, Vec::new(alloc), grants.without(), replies.without(), calls.without())
+        let Rooms {
+            alloc,
+            grants,
+            replies,
+            calls,
+        } = self;
+        first_effects(
+            alloc,
+            Vec::new(alloc),
+            grants.without(),
+            replies.without(),
+            calls.without(),
+        )
     }
 
     /// A call is made.
     pub(crate) fn call(self, call: Call) -> Effects
         ensures { result ≡ first_effects [] [] [] (call ∷ []) }
     {
-        let Rooms { alloc, grants, replies, calls } = self;
+        let Rooms {
+            alloc,
+            grants,
+            replies,
+            calls,
+        } = self;
         // A value that is handed on needs each type within it named in the body: without these lines the kit's borrow checker, which
         // says that the fault is its own, finds no plan.
         let _step: Option<LeaseStep> = None;
@@ -81,25 +99,53 @@ impl Rooms {
         let _path: Option<FilePath> = None;
         let _purpose: Option<Purpose> = None;
         let _op: Option<Op> = None;
-        first_effects(alloc, Vec::new(alloc), grants.without(), replies.without(), calls.with(call))
+        first_effects(
+            alloc,
+            Vec::new(alloc),
+            grants.without(),
+            replies.without(),
+            calls.with(call),
+        )
     }
 
     /// A job is answered.
     pub(crate) fn reply(self, job: u64, reply: Reply) -> Effects
         ensures { result ≡ first_effects [] [] (one_reply job reply) [] }
     {
-        let Rooms { alloc, grants, replies, calls } = self;
+        let Rooms {
+            alloc,
+            grants,
+            replies,
+            calls,
+        } = self;
         let replies = replies.with(JobReply { job, reply });
-        first_effects(alloc, Vec::new(alloc), grants.without(), replies, calls.without())
+        first_effects(
+            alloc,
+            Vec::new(alloc),
+            grants.without(),
+            replies,
+            calls.without(),
+        )
     }
 
     /// A resource is granted, and its job is answered.
     pub(crate) fn grant(self, grant: Grant, job: u64, reply: Reply) -> Effects
         ensures { result ≡ first_effects [] (grant ∷ []) (one_reply job reply) [] }
     {
-        let Rooms { alloc, grants, replies, calls } = self;
+        let Rooms {
+            alloc,
+            grants,
+            replies,
+            calls,
+        } = self;
         let replies = replies.with(JobReply { job, reply });
-        first_effects(alloc, Vec::new(alloc), grants.with(grant), replies, calls.without())
+        first_effects(
+            alloc,
+            Vec::new(alloc),
+            grants.with(grant),
+            replies,
+            calls.without(),
+        )
     }
 
     /// A holding ends, and a call is made.
@@ -107,6 +153,9 @@ impl Rooms {
         ensures { result ≡ first_effects (end ∷ []) [] [] (call ∷ []) }
     {
         let ended = self.call(call);
-        Effects { ends: Seq::new(ends.with(end)), ..ended }
+        Effects {
+            ends: Seq::new(ends.with(end)),
+            ..ended
+        }
     }
 }

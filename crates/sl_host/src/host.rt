@@ -53,12 +53,12 @@ impl Host {
     ) -> Result<Host, AllocError>
         requires { IsSite (record { sizes = geometry; session = session; resource = resource }) }
         ensures state { IfOk result (λ h. h ≡ record {
-            site = record { sizes = geometry; session = session; resource = resource };
-            next_call = first.call;
-            next_job = first.job;
-            phase = Idle;
-            lease = new_state geometry session.lockspace (first_self session);
-          }) }
+          site = record { sizes = geometry; session = session; resource = resource };
+          next_call = first.call;
+          next_job = first.job;
+          phase = Idle;
+          lease = new_state geometry session.lockspace (first_self session);
+        }) }
         ensures stands { IfOk result (λ h. (st : Setting) → IsSettingOf st (record { sizes = geometry; session = session; resource = resource })
             → st.first ≡ first → HostStands h st []) }
     {

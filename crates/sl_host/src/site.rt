@@ -15,12 +15,10 @@ ghost use Rattle.std.specs.Prelude.{IfOk, ℕ, false, ◌≡◌};
 
 use sl_area::Geometry;
 use sl_sector::{Block, Leader, Owner, Rec};
-use sl_trace::{
-    Call, End, Given, Grant, LeaseStep, Mode, Op, Purpose, ResourceArg, Work,
-};
 use sl_text::Name;
 use sl_text::number::push_number;
 use sl_text::write::push_joined;
+use sl_trace::{Call, End, Given, Grant, LeaseStep, Mode, Op, Purpose, ResourceArg, Work};
 use std::alloc::{AllocError, Global};
 use std::marker::Model;
 
@@ -148,7 +146,10 @@ impl Site {
             session: 0,
             purpose: for_job(job, step),
             path: self.resource.path,
-            offset: self.geometry.block_place(self.resource.offset, self.session.id).offset(),
+            offset: self
+                .geometry
+                .block_place(self.resource.offset, self.session.id)
+                .offset(),
             op: Op::WriteRecord {
                 record: Rec::BlockIs(block),
             },
@@ -156,7 +157,13 @@ impl Site {
     }
 
     /// A write of the leader.
-    pub(crate) fn leader_write(&self, number: u64, job: u64, step: LeaseStep, leader: Leader) -> Call
+    pub(crate) fn leader_write(
+        &self,
+        number: u64,
+        job: u64,
+        step: LeaseStep,
+        leader: Leader,
+    ) -> Call
         ensures { result ≡ leader_write self.now.resource number job step leader }
     {
         Call {

@@ -102,14 +102,29 @@ fn shape(host: &mut Host, input: Input) -> Option<Shape> {
 
 /// A host of id 1, in a run of two hosts.
 fn host(alloc: Global) -> Result<Option<Host>, AllocError> {
-    let (Some(lockspace), Some(name), Some(path)) = (Name::new(b"ls"), Name::new(b"r"), FilePath::new(b"/d")) else {
+    let (Some(lockspace), Some(name), Some(path)) = (
+        Name::new(b"ls"),
+        Name::new(b"r"),
+        FilePath::new(b"/d"),
+    ) else {
         return Ok(None);
     };
     let Ok(geometry) = Geometry::new(512, 1_048_576, 2) else {
         return Ok(None);
     };
-    let session = Given { lockspace, id: 1, path, offset: 0, renewed: 100 };
-    let resource = ResourceArg { lockspace, name, path, offset: 1_048_576 };
+    let session = Given {
+        lockspace,
+        id: 1,
+        path,
+        offset: 0,
+        renewed: 100,
+    };
+    let resource = ResourceArg {
+        lockspace,
+        name,
+        path,
+        offset: 1_048_576,
+    };
     let first = Numbers { call: 1, job: 1 };
     Ok(Some(Host::new(alloc, geometry, session, resource, first)?))
 }
@@ -127,18 +142,48 @@ fn acquire_and_release(rt: HostRuntime) -> Result<(), Fail> {
     let phase2 = read(alloc, &[proposed(), empty_of_2()])?;
     let steps = vec![in alloc;
         (line(alloc, release)?, Some((0, None, Some(1), None, None))),
-        (line(alloc, acquire)?, Some((0, None, None, Some(1), Some(1_048_576)))),
-        (told(1, area), Some((0, None, None, Some(2), Some(1_049_600)))),
-        (told(2, Answer::Written), Some((0, None, None, Some(3), Some(1_049_600)))),
-        (told(3, phase1), Some((0, None, None, Some(4), Some(1_049_600)))),
-        (told(4, Answer::Written), Some((0, None, None, Some(5), Some(1_049_600)))),
-        (told(5, phase2), Some((0, None, None, Some(6), Some(1_048_576)))),
-        (line(alloc, b"release -r ls:r -p 7")?, Some((0, None, Some(3), None, None))),
-        (told(6, Answer::Written), Some((0, Some(1), Some(2), None, None))),
+        (
+            line(alloc, acquire)?,
+            Some((0, None, None, Some(1), Some(1_048_576)))
+        ),
+        (
+            told(1, area),
+            Some((0, None, None, Some(2), Some(1_049_600)))
+        ),
+        (
+            told(2, Answer::Written),
+            Some((0, None, None, Some(3), Some(1_049_600)))
+        ),
+        (
+            told(3, phase1),
+            Some((0, None, None, Some(4), Some(1_049_600)))
+        ),
+        (
+            told(4, Answer::Written),
+            Some((0, None, None, Some(5), Some(1_049_600)))
+        ),
+        (
+            told(5, phase2),
+            Some((0, None, None, Some(6), Some(1_048_576)))
+        ),
+        (
+            line(alloc, b"release -r ls:r -p 7")?,
+            Some((0, None, Some(3), None, None))
+        ),
+        (
+            told(6, Answer::Written),
+            Some((0, Some(1), Some(2), None, None))
+        ),
         (told(6, Answer::Written), None),
         (line(alloc, acquire)?, Some((0, None, Some(4), None, None))),
-        (line(alloc, release)?, Some((1, None, None, Some(7), Some(1_048_576)))),
-        (told(7, Answer::Written), Some((0, None, Some(5), None, None))),
+        (
+            line(alloc, release)?,
+            Some((1, None, None, Some(7), Some(1_048_576)))
+        ),
+        (
+            told(7, Answer::Written),
+            Some((0, None, Some(5), None, None))
+        ),
     ]?;
     for (input, wanted) in steps {
         assert_eq!(rt; shape(&mut host, input), wanted);

@@ -4,9 +4,10 @@ use Rattle.std.proofs.Common.{ap, subst, sym, ◌∙◌}
 use Rattle.sl_host.proofs.host.Host.told.Goals as goal
 
 pub invariant_of-self-2 : goal.invariant_of-self-2
-invariant_of-self-2 c =
-    (c.self.invariant.0,
-    subst IsFitPhase (sym c.phase_after-self-inside.ensures) (fit_after c.hosts.result c.args.doing.now c.self.inside.next_call c.in_ok-next.next c.in_ok-next.ensures.taken.fit))
+invariant_of-self-2 c = (
+  c.self.invariant.0,
+  subst IsFitPhase (sym c.phase_after-self-inside.ensures) (fit_after c.hosts.result c.args.doing.now c.self.inside.next_call c.in_ok-next.next c.in_ok-next.ensures.taken.fit),
+)
 
 pub returns-clause-steps : goal.returns-clause-steps
 returns-clause-steps c =
