@@ -5,7 +5,7 @@ ghost use Rattle.sl_world.specs.FirstEvents.{flight_writes};
 ghost use Rattle.std.specs.Option.{option_copied};
 ghost use Rattle.sl_area.specs.Layouts.{layout_of};
 ghost use Rattle.sl_run.specs.Headers.{IsHeader};
-ghost use Rattle.sl_trace.specs.Traces.{held_after, is_ended_by, same_place};
+ghost use Rattle.sl_trace.specs.Traces.{held_after, is_ended_by, no_effects, same_place};
 ghost use Rattle.sl_world.specs.Changes.{after_land, after_own_step, after_sample, flight_after, HasRoom, first_kept, kept_sampled, kept_landed, still_waiting, told_ok};
 ghost use Rattle.sl_world.specs.Daemons.{IsSpelled};
 ghost use Rattle.sl_world.specs.FirstEvents as first_events;
@@ -16,6 +16,7 @@ use crate::disk::Disks;
 use crate::flight::Flight;
 use crate::initial::clock_reading;
 use sl_run::{Event, Header, Refusal};
+use sl_text::Seq;
 use sl_trace::{Call, Effects, End, Grant, Input};
 use std::alloc::{AllocError, Global};
 use std::marker::Model;
@@ -221,9 +222,20 @@ impl Kept {
         self.reading
     }
 
-    /// Where memory comes from.
-    pub fn allocator(&self) -> Global {
-        *self.held.allocator()
+    /// No effects. It takes no memory.
+    pub fn no_effects(&self) -> Effects
+        ensures { result ≡ no_effects }
+    {
+        let alloc = *self.held.allocator();
+        Effects {
+            ends: Seq::new(Vec::new(alloc)),
+            signals: Seq::new(Vec::new(alloc)),
+            moves: Seq::new(Vec::new(alloc)),
+            grants: Seq::new(Vec::new(alloc)),
+            starts: Seq::new(Vec::new(alloc)),
+            replies: Seq::new(Vec::new(alloc)),
+            calls: Seq::new(Vec::new(alloc)),
+        }
     }
 
     /// What is held, in the order of the grants.

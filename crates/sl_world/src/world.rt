@@ -24,7 +24,7 @@ ghost use Rattle.std.specs.Prelude.{IfOk, IsTrue, None, OnErr, Some, [], true, â
 use crate::daemon::Daemon;
 use crate::kept::{self, Kept};
 use sl_run::{Event, Header, Refusal};
-use sl_text::{Bytes, Seq};
+use sl_text::Bytes;
 use sl_trace::{Effects, Grant, Input};
 use std::alloc::{AllocError, Global};
 
@@ -174,11 +174,11 @@ impl<D: Daemon> World<D> {
                 sectors,
             } => {
                 self.sample(machine, call, sectors)?;
-                Ok(no_effects(self.kept.allocator()))
+                Ok(self.kept.no_effects())
             }
             Event::Land { machine, call } => {
                 self.land(machine, call)?;
-                Ok(no_effects(self.kept.allocator()))
+                Ok(self.kept.no_effects())
             }
             Event::AnswerCall {
                 machine,
@@ -187,20 +187,5 @@ impl<D: Daemon> World<D> {
             } => self.answer(machine, call),
             _ => unreachable!(),
         }
-    }
-}
-
-/// No effects. It takes no memory.
-fn no_effects(alloc: Global) -> Effects
-    ensures { result â‰¡ traces.no_effects }
-{
-    Effects {
-        ends: Seq::new(Vec::new(alloc)),
-        signals: Seq::new(Vec::new(alloc)),
-        moves: Seq::new(Vec::new(alloc)),
-        grants: Seq::new(Vec::new(alloc)),
-        starts: Seq::new(Vec::new(alloc)),
-        replies: Seq::new(Vec::new(alloc)),
-        calls: Seq::new(Vec::new(alloc)),
     }
 }
