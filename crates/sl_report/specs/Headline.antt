@@ -19,9 +19,9 @@ use Rattle.sl_text.specs.Forms.{as_bytes}
 use Rattle.std.specs.Int.{is_in_range}
 use Rattle.std.specs.Prelude.{Bool, IsTrue, List, MatchBool, length, nat_le, [], ℕ, ◌++◌, ◌==◌, ◌↔◌, ◌∷◌, ◌≡◌, ◌≤◌}
 
--- A run as it should be: each daemon does what is due, so its trace is lawful and each refusal has its cause;
--- at no moment do two running holders conflict; values read are the last ones; a quiet acquire is granted.
-pub record GoodRun (p : Program) (h : Header) (xs : List Happening) : Type 0 where
+-- A run as it must be, whatever it does: each daemon does what is due, so its trace is lawful, each refusal has its cause and no job is
+-- left idle; at no moment do two running holders conflict.
+pub record SoundRun (p : Program) (h : Header) (xs : List Happening) : Type 0 where
   pub is_run : IsRun (world_with p h) xs
   pub is_due : EachDaemon IsHostTrace (world_at p h xs)
   pub lawful : EachDaemon Lawful (world_at p h xs)
@@ -30,16 +30,24 @@ pub record GoodRun (p : Program) (h : Header) (xs : List Happening) : Type 0 whe
   pub busy : AfterEachFront xs (λ now. EachDaemon NoIdleJob (world_at p h now))
   pub safe : SafeRun p h xs
   pub no_conflict : (run_counts (world_with p h) no_counts xs).conflicts ≡ 0
+
+-- A run as it should be: it is sound, values read are the last ones, and a quiet acquire is granted.
+pub record GoodRun (p : Program) (h : Header) (xs : List Happening) : Type 0 where
+  pub sound : SoundRun p h xs
   pub values : ValuesAreLast (world_at p h xs)
   pub quiet : QuietIsGranted (world_with p h) xs
 
--- The whole report of a source, with the status that goes with it.
-pub data ReplayOf (lang : Language) (source : List ℕ) : List ℕ → ℕ → Type 0 where
+-- What is promised of a run.
+abbrev pub Promise : Type 1
+Promise = Program → Header → List Happening → Type 0
+
+-- The whole report of a source, with the status that goes with it; of its run this is promised.
+pub data ReplayOf (promised : Promise) (lang : Language) (source : List ℕ) : List ℕ → ℕ → Type 0 where
   In_header : {written : List ℕ} → (number : ℕ) (why : Refusal) → read_header lang [] 1 (numbered_lines source) ≡ Header_refused number why →
-      written ≡ as_bytes (refusal_line number (lang.told why) ∷ []) → ReplayOf lang source written 1
+      written ≡ as_bytes (refusal_line number (lang.told why) ∷ []) → ReplayOf promised lang source written 1
   In_events : {written : List ℕ} {status : ℕ} → (h : Header) (rest : List NumberedLine) (xs : List Happening) (end : Ending) →
       read_header lang [] 1 (numbered_lines source) ≡ Header_read h rest → Follows (world_with lang.program h) (event_lines_of lang h rest) xs end →
-      GoodRun lang.program h xs → written ≡ as_bytes (report_of lang h xs end) → status ≡ status_of end → ReplayOf lang source written status
+      promised lang.program h xs → written ≡ as_bytes (report_of lang h xs end) → status ≡ status_of end → ReplayOf promised lang source written status
 
 -- The one text begins the other.
 abbrev pub IsFrontOf : List ℕ → List ℕ → Type 0
@@ -54,12 +62,12 @@ abbrev pub is_whole_status : ℕ → Bool
 is_whole_status status = nat_le status 1
 
 -- What `replay` owes for the bytes that it read, whether the source ended with them, the bytes that it wrote, and its status: with 0 or 1
--- the whole report, whatever the rest of the source; with 3, 4 and 5 a front of it.
-abbrev pub ReplayHeadline : Language → Bool → List ℕ → List ℕ → ℕ → Type 0
-ReplayHeadline lang ended read written status =
-    MatchBool (is_whole_status status) ((source : List ℕ) → MayHaveBeen ended read source → ReplayOf lang source written status)
+-- the whole report, whatever the rest of the source; with 3, 4 and 5 a front of the report that the plain program computes.
+abbrev pub ReplayHeadline : Promise → Language → Bool → List ℕ → List ℕ → ℕ → Type 0
+ReplayHeadline promised lang ended read written status =
+    MatchBool (is_whole_status status) ((source : List ℕ) → MayHaveBeen ended read source → ReplayOf promised lang source written status)
     (IsTrue (is_in_range 3 5 status)
-    × ((source report : List ℕ) (s : ℕ) → MayHaveBeen ended read source → ReplayOf lang source report s → IsFrontOf written report))
+    × ((source : List ℕ) → MayHaveBeen ended read source → IsFrontOf written (as_bytes (replay_lines lang source))))
 
 -- A header that is read is one that a world may begin with.
 abbrev pub HeadersAreGood : Language → Type 0
@@ -87,8 +95,8 @@ PlainGen p =
 
 -- The plain program computes the report.
 abbrev pub PlainReplay : Language → Type 0
-PlainReplay lang = (source : List ℕ) → (status : ℕ) × ReplayOf lang source (as_bytes (replay_lines lang source)) status
+PlainReplay lang = (source : List ℕ) → (status : ℕ) × ReplayOf GoodRun lang source (as_bytes (replay_lines lang source)) status
 
 -- What is written is the plain program's report: so the report is one, and the program computes it.
 abbrev pub Headline : Language → Type 0
-Headline lang = (source : List ℕ) (status : ℕ) (written : List ℕ) → ReplayOf lang source written status → written ≡ as_bytes (replay_lines lang source)
+Headline lang = (source : List ℕ) (status : ℕ) (written : List ℕ) → ReplayOf GoodRun lang source written status → written ≡ as_bytes (replay_lines lang source)

@@ -1,10 +1,10 @@
 -- What of the schedules' language a program reads. The whole language is the promise; a program that reads less of it says so by a
--- value of this type, and all that is said of schedules and reports is said of whatever language it reads.
-use Rattle.sl_report.specs.ScheduleLines.{HeaderLine, event_forms, header_forms}
+-- value of this type, and all that is said of schedules and reports is said of whatever language it reads. What a line says is always read
+-- by the forms of the whole language; a narrower one then leaves out some of it.
+use Rattle.sl_report.specs.ScheduleLines.{HeaderLine}
 use Rattle.sl_run.specs.Worlds.{Program, whole_program}
 use Rattle.sl_run.specs.declared.event.Event.{Event}
 use Rattle.sl_run.specs.declared.event.Refusal.{Refusal}
-use Rattle.sl_text.specs.Forms.{Form}
 use Rattle.sl_words.specs.Words.{least}
 use Rattle.std.specs.Prelude.{Bool, List, None, Option, Some, if◌then◌else◌, true, [], ℕ, ◌==◌, ◌||◌, ◌∷◌}
 
@@ -14,13 +14,13 @@ pub record Language : Type 0 where
   pub program : Program
   -- lines that say nothing
   pub skips : List ℕ → Bool
-  -- the forms of header lines, by an area's size
-  pub headers : ℕ → List (Form HeaderLine)
+  -- what is taken of a header line that was read, or of none
+  pub header_line : Option HeaderLine → Option HeaderLine
   -- how many lines of a rank the header must have, and may have at most, if there is a most
   pub least : ℕ → ℕ
   pub most : ℕ → Option ℕ
-  -- the forms of events but `command`, by the number of machines and a sector's size
-  pub events : ℕ → ℕ → List (Form Event)
+  -- what is taken of an event that was read, or of none
+  pub event : Option Event → Option Event
   -- how a refusal is told
   pub told : Refusal → Refusal
 
@@ -46,10 +46,10 @@ language_of p =
     record {
       program = p;
       skips = is_skipped;
-      headers = header_forms;
+      header_line = (λ l. l);
       least = least_lines;
       most = most_lines;
-      events = event_forms;
+      event = (λ e. e);
       told = (λ r. r);
     }
 

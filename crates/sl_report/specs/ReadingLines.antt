@@ -1,6 +1,6 @@
 -- How a line of a schedule is read, in a language.
 use Rattle.sl_report.specs.Languages.{Language}
-use Rattle.sl_report.specs.ScheduleLines.{HeaderLine, checked_event, count_of_rank, header_of, header_tests, is_positive_word, rank}
+use Rattle.sl_report.specs.ScheduleLines.{HeaderLine, checked_event, count_of_rank, event_forms, header_forms, header_of, header_tests, is_positive_word, rank}
 use Rattle.sl_run.specs.Worlds.{first_that}
 use Rattle.sl_run.specs.declared.event.Event.TheVariants.{GiveCommand}
 use Rattle.sl_run.specs.declared.event.Event.{Event}
@@ -15,7 +15,7 @@ use Rattle.std.specs.Prelude.{Bool, List, None, Option, Some, codes, nat_le, nat
 
 -- The header line that a line spells, if it does.
 abbrev pub header_line_in : Language → ℕ → List ℕ → Option HeaderLine
-header_line_in lang area line = made_by (lang.headers area) (words_of line)
+header_line_in lang area line = lang.header_line (made_by (header_forms area) (words_of line))
 
 -- Whether one more line of the rank may come.
 abbrev pub is_room_for : Language → List HeaderLine → ℕ → Bool
@@ -41,4 +41,4 @@ command_event ws = None
 -- The event that a line spells, if it does.
 abbrev pub event_in : Language → ℕ → ℕ → List ℕ → Option Event
 event_in lang machines sector line =
-    option_or (command_event (words_of line)) (checked_event sector (made_by (lang.events machines sector) (words_of line)))
+    lang.event (option_or (command_event (words_of line)) (checked_event sector (made_by (event_forms machines sector) (words_of line))))
