@@ -1,0 +1,2 @@
+//! The schedules that the program reads so far, and what their headers are.
+#![tactic(auto)]
