@@ -3,7 +3,6 @@ use Rattle.sl_first.proofs.CalmLaws.{present_first}
 use Rattle.sl_first.proofs.Courses.{first_place}
 use Rattle.sl_first.proofs.Decisions.{same_text}
 use Rattle.sl_first.proofs.FirstLaws.{told_first}
-use Rattle.sl_first.proofs.Growth.{same_number}
 use Rattle.sl_first.proofs.Knowledge.{known_first, lease_calls_first, over_first}
 use Rattle.sl_first.proofs.Spots.{is_even, spot_first}
 use Rattle.sl_first.proofs.Standing.{runs}
@@ -15,13 +14,13 @@ use Rattle.sl_first_cause.proofs.PhaseCauses.{phase1_well, phase2_well}
 use Rattle.sl_first_cause.proofs.Replied.{none_well, one_well}
 use Rattle.sl_first_law.proofs.Areas.{inside_first}
 use Rattle.sl_law.specs.Caused.{Answering, AnswersWell, CausedBy, before_entry}
-use Rattle.sl_leases.specs.Jobs.{command_numbered, command_of, lockspace_named}
+use Rattle.sl_leases.specs.Jobs.{command_of, lockspace_named}
 use Rattle.sl_leases.specs.LeaseWork.{lease_next}
 use Rattle.sl_leases.specs.Leases.{block_submitted, known, lease_calls, lver_written, spot_of, spot_of_call}
 use Rattle.sl_leases.specs.declared.lease.LeaseNext.TheVariants.{AnswerJob, GrantJob, Nothing, ReadFor, WriteBlock, WriteLeader}
 use Rattle.sl_leases.specs.declared.lease.LeaseNext.{LeaseNext}
 use Rattle.sl_sessions.specs.Sessions.{Session, session_named}
-use Rattle.sl_trace.specs.Traces.{Job, Replied, Setting, Submitted, Trace, is_answer_for, job_numbered, job_of, jobs, reply_to, submitted}
+use Rattle.sl_trace.specs.Traces.{Job, Replied, Setting, Submitted, Trace, is_answer_for, job_numbered, job_of, jobs, reply_to}
 use Rattle.sl_trace.specs.declared.command.Command.{Command}
 use Rattle.sl_trace.specs.declared.command.ResourceArg.{ResourceArg}
 use Rattle.sl_trace.specs.declared.effects.Effects.{Effects}
@@ -30,7 +29,6 @@ use Rattle.sl_trace.specs.declared.effects.LeaseStep.{LeaseStep}
 use Rattle.sl_trace.specs.declared.effects.Op.{Op}
 use Rattle.sl_trace.specs.declared.effects.Purpose.TheVariants.{Lease}
 use Rattle.sl_trace.specs.declared.effects.Purpose.{Purpose}
-use Rattle.sl_trace.specs.declared.effects.Spot.{Spot}
 use Rattle.sl_trace.specs.declared.effects.Work.TheVariants.{ForJob}
 use Rattle.sl_trace.specs.declared.input.Answer.TheVariants.{Failed, Read, Written}
 use Rattle.sl_trace.specs.declared.input.Answer.{Answer}
@@ -44,7 +42,7 @@ use Rattle.sl_words.specs.Words.{some_is}
 use Rattle.std.proofs.Common.{ap, arith, refl, subst, sym, tests, ◌∙◌}
 use Rattle.std.proofs.lemmas.List.{append-nil}
 use Rattle.std.specs.List.{list_all}
-use Rattle.std.specs.Prelude.{Bool, Contains, Err, List, None, Ok, Option, Result, Some, bytes_eq, false, find, if◌then◌else◌, is_none, length, option_and_then, true, [], ℕ, ◌&&◌, ◌==◌, ◌∷◌, ◌≡◌}
+use Rattle.std.specs.Prelude.{Bool, Contains, Err, List, None, Ok, Option, Result, Some, bytes_eq, false, find, if◌then◌else◌, is_none, length, option_and_then, true, [], ℕ, ◌==◌, ◌∷◌, ◌≡◌}
 
 -- ---- by the step at which the job is
 

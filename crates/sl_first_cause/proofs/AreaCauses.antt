@@ -1,14 +1,14 @@
 -- The cause of what a read of the area is answered with.
 use Rattle.sl_area.specs.Places.{area_blocks, leader_of}
 use Rattle.sl_first.proofs.Courses.{first_place}
-use Rattle.sl_first.specs.FirstPath.{first_session, heeded_call}
+use Rattle.sl_first.specs.FirstPath.{first_session}
 use Rattle.sl_first.specs.FirstSteps.{first_known}
 use Rattle.sl_first_cause.proofs.Hearing.{Hears, IsWell, area_given, at_step, reads, reads_blocks}
 use Rattle.sl_first_cause.proofs.Limits.{begin_well}
 use Rattle.sl_first_cause.proofs.Replied.{with_spot}
-use Rattle.sl_law.specs.Caused.{Answering, AnswersRead, EndsWith, ShowsInstance, after_entry, known_here}
+use Rattle.sl_law.specs.Caused.{Answering, AnswersRead, EndsWith, ShowsInstance, after_entry}
 use Rattle.sl_leases.specs.LeaseWork.{area_next, begin_or_refuse, named_area_next, whole_area_next}
-use Rattle.sl_leases.specs.Leases.{Area_read, LeaseKnown, instance_for, is_at, is_leader_of, last_blocks, own_block, own_known}
+use Rattle.sl_leases.specs.Leases.{Area_read, LeaseKnown, instance_for, is_at, is_leader_of, last_blocks, own_known}
 use Rattle.sl_leases.specs.declared.lease.Aim.TheVariants.{Acquires}
 use Rattle.sl_leases.specs.declared.lease.Instance.TheVariants.{Begins, HeldAlready}
 use Rattle.sl_leases.specs.declared.lease.Instance.{Instance}
@@ -16,8 +16,6 @@ use Rattle.sl_leases.specs.declared.lease.LeaseNext.TheVariants.{AnswerJob, Noth
 use Rattle.sl_leases.specs.declared.lease.LeaseNext.{LeaseNext}
 use Rattle.sl_sector.specs.declared.sector.Block.{Block}
 use Rattle.sl_sector.specs.declared.sector.Leader.{Leader}
-use Rattle.sl_sector.specs.declared.sector.Owner.{Owner}
-use Rattle.sl_sessions.specs.Sessions.{Session}
 use Rattle.sl_sessions.specs.Watching.{counts_over}
 use Rattle.sl_trace.specs.Traces.{Submitted}
 use Rattle.sl_trace.specs.declared.command.Command.TheVariants.{Acquire}
@@ -28,7 +26,7 @@ use Rattle.sl_trace.specs.declared.effects.Purpose.TheVariants.{RequestRead}
 use Rattle.sl_trace.specs.declared.input.Answer.TheVariants.{Read}
 use Rattle.sl_trace.specs.declared.input.Given.{Given}
 use Rattle.sl_trace.specs.declared.reply.Reply.TheVariants.{TornBlock, TornLeader, WrongArea}
-use Rattle.std.proofs.Common.{ap, inl, refl, subst, sym, ◌∙◌}
+use Rattle.std.proofs.Common.{ap, inl, refl, ◌∙◌}
 use Rattle.std.specs.Option.{option_map_or}
 use Rattle.std.specs.Prelude.{Bool, IsFalse, IsTrue, List, None, Option, Some, false, is_none, option_map, position, true, ℕ, ◌+◌, ◌∷◌, ◌≡◌, ◌⊎◌}
 

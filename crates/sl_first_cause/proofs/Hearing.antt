@@ -5,7 +5,6 @@ use Rattle.sl_first.specs.FirstPath.{first_session}
 use Rattle.sl_first.specs.FirstSteps.{first_known, first_over}
 use Rattle.sl_first_cause.proofs.Replied.{with_session}
 use Rattle.sl_law.specs.Caused.{Answering, AnswersCall, AnswersRead, ReadsBlocks, after_entry, known_here, the_session}
-use Rattle.sl_leases.specs.LeaseWork.{LeasePlace}
 use Rattle.sl_leases.specs.Leases.{Area_read, Phase1_read, Phase2_read, Read_before_free, StepKind, blocks_given, is_at, is_phase_read, kind_of_step, lease_calls, lease_step, own_block, same_kind, spot_of_call}
 use Rattle.sl_leases.specs.declared.lease.LeaseNext.TheVariants.{AnswerJob, GrantJob, Nothing, ReadFor, WriteBlock, WriteLeader}
 use Rattle.sl_leases.specs.declared.lease.LeaseNext.{LeaseNext}
@@ -15,7 +14,6 @@ use Rattle.sl_sessions.specs.Sessions.{Session}
 use Rattle.sl_sessions.specs.Watching.{counts_over}
 use Rattle.sl_trace.specs.Traces.{Submitted, bytes_given, gave}
 use Rattle.sl_trace.specs.declared.command.Command.{Command}
-use Rattle.sl_trace.specs.declared.command.ResourceArg.{ResourceArg}
 use Rattle.sl_trace.specs.declared.effects.LeaseStep.TheVariants.{Phase1Read, Phase2Read, ReadArea}
 use Rattle.sl_trace.specs.declared.effects.LeaseStep.{LeaseStep}
 use Rattle.sl_trace.specs.declared.effects.Purpose.TheVariants.{Lease}
@@ -25,7 +23,7 @@ use Rattle.sl_trace.specs.declared.input.Answer.TheVariants.{Read}
 use Rattle.sl_trace.specs.declared.input.Answer.{Answer}
 use Rattle.sl_trace.specs.declared.input.Given.{Given}
 use Rattle.sl_words.specs.Words.{some_is}
-use Rattle.std.proofs.Common.{ap, refl, sym, ◌∙◌}
+use Rattle.std.proofs.Common.{ap, ◌∙◌}
 use Rattle.std.specs.Prelude.{Bool, List, None, Ok, Option, Some, false, true, [], ℕ, ◌++◌, ◌||◌, ◌∷◌, ◌≡◌}
 
 -- The answer of the session's call at this step, for the job with this command, after these answered calls.

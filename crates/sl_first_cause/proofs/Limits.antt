@@ -6,7 +6,7 @@ use Rattle.sl_first.proofs.Courses.{first_place}
 use Rattle.sl_law.specs.Caused.{Answering, BeginsAt, next_number}
 use Rattle.sl_leases.specs.Ballots.{in_instance, next_mbal, phase1_block}
 use Rattle.sl_leases.specs.LeaseWork.{begin_next, phase1_next}
-use Rattle.sl_leases.specs.Leases.{LeaseKnown, blocks_given, mode_gen_of, own_block, own_known}
+use Rattle.sl_leases.specs.Leases.{LeaseKnown, blocks_given, mode_gen_of, own_block}
 use Rattle.sl_leases.specs.declared.lease.Aim.TheVariants.{Acquires}
 use Rattle.sl_leases.specs.declared.lease.LeaseNext.TheVariants.{AnswerJob, Nothing, WriteBlock}
 use Rattle.sl_leases.specs.declared.lease.LeaseNext.{LeaseNext}

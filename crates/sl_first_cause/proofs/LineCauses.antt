@@ -27,7 +27,7 @@ use Rattle.sl_words.proofs.CaseLaws.{false_is_true, none_some, some_value}
 use Rattle.sl_words.proofs.WordLaws.{and_true}
 use Rattle.std.proofs.Common.{ap, arith, refl, subst, sym, tests, ◌∙◌}
 use Rattle.std.specs.List.{list_all}
-use Rattle.std.specs.Prelude.{Bool, Contains, Err, IsTrue, List, None, Ok, Option, Result, Some, false, find, length, nat_lt, option_and_then, option_map, true, [], ℕ, ◌++◌, ◌==◌, ◌∷◌, ◌≡◌, ◌≤◌}
+use Rattle.std.specs.Prelude.{Bool, Contains, Err, IsTrue, List, None, Ok, Option, Result, Some, false, find, length, nat_lt, option_map, true, [], ℕ, ◌++◌, ◌==◌, ◌∷◌, ◌≡◌}
 
 -- ---- the line's job
 
@@ -130,8 +130,8 @@ not_held st g r k es f h text p reads none =
     line_well st g r k es h text NotHeld (
       refl,
       with_session x (first_session g) (λ s. job_command x (λ c. IsTrue (is_holders_command c) × WithSpot x (HoldsNothing x s c))) (session_there st g r k es f h text p reads)
-      (with_command x (Release r p) (λ c. IsTrue (is_holders_command c) × WithSpot x (HoldsNothing x (first_session g) c)) reads
-      (refl, with_spot x (Release r p) r (HoldsNothing x (first_session g) (Release r p)) reads refl (λ i there is. absurd (none i there is)))),
+          (with_command x (Release r p) (λ c. IsTrue (is_holders_command c) × WithSpot x (HoldsNothing x (first_session g) c)) reads
+          (refl, with_spot x (Release r p) r (HoldsNothing x (first_session g) (Release r p)) reads refl (λ i there is. absurd (none i there is)))),
     )
 
 others : (q p : ℕ) → (q == p) ≡ false → Some p ≡ Some q → ⊥

@@ -10,7 +10,7 @@ use Rattle.sl_law.specs.Caused.{Answering, EndsWith, IsStopRead, ShowsInstance, 
 use Rattle.sl_leases.specs.Ballots.{same_owner, stop_of, value_of}
 use Rattle.sl_leases.specs.Jobs.{wants_shared}
 use Rattle.sl_leases.specs.LeaseWork.{after_phase1, after_phase2, begin_next, lost_next, phase2_next, stop_reply, won_next}
-use Rattle.sl_leases.specs.Leases.{LeaseKnown, Phase1_read, Phase2_read, block_submitted, blocks_given, is_at, is_phase_read, last_blocks, own_block, own_or_read, shared_elsewhere}
+use Rattle.sl_leases.specs.Leases.{Phase1_read, Phase2_read, block_submitted, blocks_given, is_at, is_phase_read, last_blocks, own_block, own_or_read, shared_elsewhere}
 use Rattle.sl_leases.specs.declared.lease.Aim.TheVariants.{Acquires}
 use Rattle.sl_leases.specs.declared.lease.Instance.TheVariants.{HeldAlready}
 use Rattle.sl_leases.specs.declared.lease.LeaseNext.TheVariants.{AnswerJob, Nothing}
@@ -29,7 +29,7 @@ use Rattle.sl_trace.specs.declared.effects.Mode.TheVariants.{Exclusive}
 use Rattle.sl_trace.specs.declared.input.Answer.TheVariants.{Read}
 use Rattle.sl_trace.specs.declared.input.Given.{Given}
 use Rattle.sl_trace.specs.declared.reply.Reply.TheVariants.{Held as HeldBy, Shared as SharedBy}
-use Rattle.std.proofs.Common.{ap, inl, inr, refl, subst, sym, ◌∙◌}
+use Rattle.std.proofs.Common.{ap, inr, refl, ◌∙◌}
 use Rattle.std.specs.Option.{option_map_or}
 use Rattle.std.specs.Prelude.{Bool, IsFalse, IsTrue, List, None, Option, Some, false, true, ℕ, ◌+◌, ◌∷◌, ◌≡◌, ◌⊎◌}
 
@@ -70,8 +70,7 @@ shared_well g r x c answered bytes p h own known clear None none = tt
 shared_well g r x c answered bytes p h own known clear (Some b) some =
     reads_blocks g x c answered bytes Phase1Read (Acquire r false p) h (blocks_in x.setting.layout bytes) own (phase1_given g x c answered bytes (Acquire r false p) h) (own_is g x (c ∷ answered) own known)
     (λ s c blocks own. IsTrue (is_at Phase1_read c) × job_command x (λ a. wants_shared a ≡ false) × (stop_of own blocks ≡ None) × (d : Block)
-    × (shared_elsewhere (known_here x s c) blocks ≡ Some d) × (d.host ≡ b.host) × (d.mode_gen ≡ b.mode_gen))
-    (
+    × (shared_elsewhere (known_here x s c) blocks ≡ Some d) × (d.host ≡ b.host) × (d.mode_gen ≡ b.mode_gen)) (
       at_step g x c answered (Read bytes) Phase1Read (Acquire r false p) h Phase1_read refl,
       with_command x (Acquire r false p) (λ a. wants_shared a ≡ false) h.commanded refl,
       clear,

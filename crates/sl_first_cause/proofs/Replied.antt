@@ -13,8 +13,8 @@ use Rattle.sl_trace.specs.declared.effects.Entry.{Entry}
 use Rattle.sl_trace.specs.declared.effects.JobReply.{JobReply}
 use Rattle.sl_trace.specs.declared.effects.Spot.{Spot}
 use Rattle.sl_trace.specs.declared.reply.Reply.{Reply}
-use Rattle.std.proofs.Common.{ap, arith, subst, sym, ◌∙◌}
-use Rattle.std.specs.Prelude.{AllPairs, Contains, Err, IsSomeAnd, List, None, Ok, Option, Result, Some, length, [], ℕ, ◌<◌, ◌∷◌, ◌≡◌, ◌≢◌}
+use Rattle.std.proofs.Common.{arith, subst, sym}
+use Rattle.std.specs.Prelude.{AllPairs, Contains, Err, IsSomeAnd, List, None, Ok, Result, Some, length, [], ℕ, ◌<◌, ◌∷◌, ◌≡◌, ◌≢◌}
 
 -- ---- replies
 
@@ -35,9 +35,9 @@ pub one_well : (st : Setting) (past : Trace) (e : Entry) (job : ℕ) (why : Repl
 one_well st past e job why j one is running cause =
     record {
       running = λ a there.
-      let same : record { job = job; reply = why } ≡ a = only (record { job = job; reply = why }) a (subst (λ rs. Contains rs a) one there) in
-      subst (λ (b : JobReply). (i : Job) × (job_numbered st (e ∷ past) b.job ≡ Some i) × (reply_to past b.job ≡ None) × CausedBy (record { setting = st; past = past; entry = e; job = i }) b.reply)
-      same (j, is, running, cause);
+          let same : record { job = job; reply = why } ≡ a = only (record { job = job; reply = why }) a (subst (λ rs. Contains rs a) one there) in
+          subst (λ (b : JobReply). (i : Job) × (job_numbered st (e ∷ past) b.job ≡ Some i) × (reply_to past b.job ≡ None) × CausedBy (record { setting = st; past = past; entry = e; job = i }) b.reply)
+          same (j, is, running, cause);
       once = subst (λ rs. AllPairs (λ (a b : JobReply). a.job ≢ b.job) rs) (sym one) (λ i j d lt inside. absurd (omega (arith, lt, inside)));
     }
 
