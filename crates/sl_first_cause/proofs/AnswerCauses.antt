@@ -95,7 +95,7 @@ record IsJob (st : Setting) (es : Trace) (n : ℕ) (command : Command) (j : Job)
 same_way : (n m : ℕ) → (m == n) ≡ true → (n == m) ≡ true
 same_way n m h = grind (arith, tests)
 
-numbers_same : (n m : ℕ) → (n == m) ≡ true → m ≡ n
+pub numbers_same : (n m : ℕ) → (n == m) ≡ true → m ≡ n
 numbers_same n m h = grind (arith, tests)
 
 find_at : {A : Type 0} (p : A → Bool) (y : A) (ys : List A) (x : A) (b : Bool) → p y ≡ b → (if b then Some y else find p ys) ≡ Some x → (find p ys ≡ Some x → p x ≡ true) → p x ≡ true

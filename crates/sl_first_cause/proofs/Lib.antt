@@ -5,3 +5,4 @@ pub mod Limits
 pub mod AreaCauses
 pub mod PhaseCauses
 pub mod AnswerCauses
+pub mod Traces
