@@ -2,7 +2,7 @@
 
 ghost use Rattle.sl_first_cause.specs.Promises.{AnswersAreCaused, LinesAreCaused, TracesAreCaused};
 
-/// What a line is answered with at once stands in the trace: it says no command, another holds the resource, a call is at work, or the
+/// What a line is answered with at once stands in the trace: it says no command, somebody holds the resource, a call is at work, or the
 /// process holds nothing.
 pub fn lines_are_caused()
     ensures { LinesAreCaused }
