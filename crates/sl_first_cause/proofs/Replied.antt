@@ -14,12 +14,9 @@ use Rattle.sl_trace.specs.declared.effects.JobReply.{JobReply}
 use Rattle.sl_trace.specs.declared.effects.Spot.{Spot}
 use Rattle.sl_trace.specs.declared.reply.Reply.{Reply}
 use Rattle.std.proofs.Common.{arith, subst, sym}
-use Rattle.std.specs.Prelude.{AllPairs, Contains, Err, IsSomeAnd, List, None, Ok, Result, Some, length, [], ℕ, ◌<◌, ◌∷◌, ◌≡◌, ◌≢◌}
+use Rattle.std.specs.Prelude.{AllPairs, Contains, Err, IsSomeAnd, None, Ok, Result, Some, [], ℕ, ◌∷◌, ◌≡◌, ◌≢◌}
 
 -- ---- replies
-
-too_few : {A : Type 0} (i j : ℕ) (xs : List A) → length xs < 2 → i < j → j < length xs → ⊥
-too_few i j xs few lt inside = omega (arith, few, lt, inside)
 
 -- Where nobody is answered.
 pub none_well : (st : Setting) (past : Trace) (e : Entry) → e.effects.replies ≡ [] → AnswersWell st past e
