@@ -11,9 +11,9 @@ use Rattle.sl_law.specs.LawfulBlock.{BeginReason, LawfulPhase1}
 use Rattle.sl_ballot.specs.Limits.{limited}
 use Rattle.sl_leases.specs.Ballots.{phase1_block}
 use Rattle.sl_leases.specs.LeaseWork.{begin_next}
-use Rattle.sl_leases.specs.Leases.{freed, last_blocks, lease_calls, own_block, own_known, spot_of}
+use Rattle.sl_leases.specs.Leases.{freed, last_blocks, own_block, spot_of}
 use Rattle.sl_leases.specs.declared.lease.Aim.TheVariants.{Acquires}
-use Rattle.sl_leases.specs.declared.lease.LeaseNext.TheVariants.{AnswerJob, GrantJob, Nothing, ReadFor, WriteBlock, WriteLeader}
+use Rattle.sl_leases.specs.declared.lease.LeaseNext.TheVariants.{AnswerJob, GrantJob, Nothing, WriteBlock, WriteLeader}
 use Rattle.sl_leases.specs.declared.lease.LeaseNext.{LeaseNext}
 use Rattle.sl_leases.specs.LeaseWork.{phase1_next}
 use Rattle.sl_resource.proofs.RecordFacts.{phase1_begun}

@@ -1,6 +1,6 @@
 -- What a read gives keeps the rules of its kind, whatever bytes came.
 use Rattle.sl_area.specs.Layouts.{Layout}
-use Rattle.sl_area.specs.Places.{area_blocks, blocks_in, leader_of, read_at}
+use Rattle.sl_area.specs.Places.{blocks_in, leader_of, read_at}
 use Rattle.sl_sector.proofs.BlockLaws.{block_fits}
 use Rattle.sl_sector.proofs.LeaderLaws.{leader_fits}
 use Rattle.sl_sector.proofs.RuleLaws.{Hold, ensured, rules_hold}
@@ -17,10 +17,10 @@ use Rattle.sl_words.proofs.CaseLaws.{none_some, some_value}
 use Rattle.sl_words.proofs.WordLaws.{bind_ok}
 use Rattle.sl_words.specs.Results.{ensure, ◌>>=◌}
 use Rattle.sl_words.specs.Words.{choose}
-use Rattle.std.proofs.Common.{All, IfSome, ap, get_or, refl, subst, sym, ◌∙◌}
+use Rattle.std.proofs.Common.{All, IfSome, ap, get_or, refl, subst, ◌∙◌}
 use Rattle.std.proofs.lemmas.List.Elements.{All-from_get_or, All-map}
 use Rattle.std.specs.List.{range_with_len}
-use Rattle.std.specs.Prelude.{Bool, Err, List, None, Ok, Option, Result, Some, bytes_eq, drop, false, map, take, true, ℕ, ◌*◌, ◌-◌, ◌==◌, ◌∷◌, ◌≡◌}
+use Rattle.std.specs.Prelude.{Bool, Err, List, Ok, Result, Some, bytes_eq, drop, false, take, true, ℕ, ◌*◌, ◌-◌, ◌==◌, ◌≡◌}
 
 -- A block or leader that keeps its rules; nothing is said of the other kinds.
 abbrev Keeps : Rec → Type 0

@@ -3,17 +3,14 @@ use Rattle.sl_area.specs.Layouts.{Layout}
 use Rattle.sl_area.specs.Places.{area_blocks, blocks_in}
 use Rattle.sl_first.specs.FirstPath.{heeded_call}
 use Rattle.sl_first_law.proofs.Areas.{inside_first}
-use Rattle.sl_first_numbers.proofs.Decoding.{blocks_read}
 use Rattle.sl_leases.specs.Ballots.{stop_of, value_of}
-use Rattle.sl_leases.specs.Leases.{Area_read, Phase1_read, Phase2_read, Read_before_free, StepKind, block_submitted, blocks_given, ended_ballot, ended_ballots, is_area_read, is_at, kind_of_step, last_blocks, lease_step, own_or_read, same_kind, value_in_end}
-use Rattle.sl_leases.specs.declared.lease.Stop.{Stop}
+use Rattle.sl_leases.specs.Leases.{Area_read, Phase1_read, Phase2_read, Read_before_free, StepKind, block_submitted, ended_ballot, ended_ballots, is_area_read, kind_of_step, last_blocks, lease_step, own_or_read, same_kind, value_in_end}
 use Rattle.sl_resource.specs.Bounds.{IsBegun}
 use Rattle.sl_sector.specs.Records.{IsBlock}
 use Rattle.sl_sector.specs.declared.sector.Block.{Block}
 use Rattle.sl_sector.specs.declared.sector.Owner.{Owner}
 use Rattle.sl_trace.specs.Traces.{Submitted, Trace}
 use Rattle.sl_trace.specs.declared.effects.LeaseStep.TheVariants.{Phase2Read, ReadArea}
-use Rattle.sl_trace.specs.declared.effects.LeaseStep.{LeaseStep}
 use Rattle.sl_trace.specs.declared.effects.Purpose.TheVariants.{Lease}
 use Rattle.sl_trace.specs.declared.effects.Purpose.{Purpose}
 use Rattle.sl_trace.specs.declared.effects.Work.TheVariants.{ForJob}
@@ -21,8 +18,8 @@ use Rattle.sl_trace.specs.declared.input.Answer.TheVariants.{Read}
 use Rattle.sl_trace.specs.declared.input.Given.{Given}
 use Rattle.sl_words.proofs.CaseLaws.{some_value}
 use Rattle.sl_words.specs.Words.{some_is}
-use Rattle.std.proofs.Common.{All, IfSome, ap, get_or, refl, subst, sym, ◌∙◌}
-use Rattle.std.proofs.lemmas.List.Elements.{All-drop, All-head, All-tail}
+use Rattle.std.proofs.Common.{All, IfSome, ap, get_or, subst, sym, ◌∙◌}
+use Rattle.std.proofs.lemmas.List.Elements.{All-head, All-tail}
 use Rattle.std.proofs.lemmas.Option.{unwrap_or-slice_get}
 use Rattle.std.specs.Prelude.{Bool, Contains, IsTrue, List, None, Option, Some, false, option_and_then, suc, true, zero, [], ℕ, ◌-◌, ◌∷◌, ◌≡◌, ◌||◌}
 

@@ -1,5 +1,5 @@
 -- What the daemon's records rest on: its session, its blocks and frees after one more answer, and the leader that it writes.
-use Rattle.sl_area.specs.Layouts.{IsGeometry, Sizes}
+use Rattle.sl_area.specs.Layouts.{Sizes}
 use Rattle.sl_first.proofs.Courses.{first_place, host_in}
 use Rattle.sl_first.specs.FirstPath.{IsFirst, heeded_call}
 use Rattle.sl_first.specs.FirstSteps.{IsNamed, first_known, first_self}
@@ -24,7 +24,7 @@ use Rattle.sl_words.specs.Bounds.{most_hosts}
 use Rattle.std.proofs.Common.{ap, arith, refl, subst, sym, ◌∙◌}
 use Rattle.std.specs.List.{AllByRecursion}
 use Rattle.std.specs.Option.{option_map_or}
-use Rattle.std.specs.Prelude.{Bool, IfSome, IsTrue, List, None, Option, Some, false, if◌then◌else◌, max, option_and_then, true, ℕ, ◌<◌, ◌∷◌, ◌≡◌, ◌≤◌}
+use Rattle.std.specs.Prelude.{Bool, IfSome, IsTrue, List, None, Option, Some, false, if◌then◌else◌, max, option_and_then, true, ℕ, ◌∷◌, ◌≡◌, ◌≤◌}
 
 -- ---- the session
 

@@ -15,7 +15,7 @@ use Rattle.sl_leases.specs.declared.lease.LeaseNext.TheVariants.{AnswerJob, Gran
 use Rattle.sl_leases.specs.declared.lease.LeaseNext.{LeaseNext}
 use Rattle.sl_sector.specs.declared.sector.Block.{Block}
 use Rattle.sl_sector.specs.declared.sector.Leader.{Leader}
-use Rattle.sl_sector.specs.declared.sector.Rec.TheVariants.{BlockIs, LeaderIs}
+use Rattle.sl_sector.specs.declared.sector.Rec.TheVariants.{LeaderIs}
 use Rattle.sl_trace.specs.Traces.{Setting, Submitted, Trace, gave, is_answer_for, record_of}
 use Rattle.sl_trace.specs.declared.command.Command.{Command}
 use Rattle.sl_trace.specs.declared.command.ResourceArg.{ResourceArg}

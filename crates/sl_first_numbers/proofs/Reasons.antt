@@ -1,18 +1,16 @@
 -- Why an instance may begin, where a read of the area shows it, or the own ballot of the one before ended with another.
-use Rattle.sl_area.specs.Places.{area_blocks, blocks_in}
+use Rattle.sl_area.specs.Places.{area_blocks}
 use Rattle.sl_first.proofs.Knowledge.{generation_first, lease_calls_first, over_first}
-use Rattle.sl_first.specs.FirstPath.{first_session, heeded_call}
+use Rattle.sl_first.specs.FirstPath.{first_session}
 use Rattle.sl_first.specs.FirstSteps.{first_known, first_over, first_self}
-use Rattle.sl_first_law.proofs.Areas.{inside_first}
 use Rattle.sl_first_law.specs.Instances.{Block_leads, One_is_done, Own_goes_on, WhyInstance}
 use Rattle.sl_first_law.specs.Keeping.{AtCall}
 use Rattle.sl_first_numbers.proofs.Frees.{freed_among, greatest_among}
 use Rattle.sl_law.specs.LawfulBlock.{AreaRead, BeginReason, Block_above, Freed_before, Leader_before, Leader_own, Lost_before, Own_block}
-use Rattle.sl_leases.specs.Ballots.{counted_lver, is_counted_free, owner_of, same_owner, stop_of, value_of}
+use Rattle.sl_leases.specs.Ballots.{counted_lver, is_counted_free, owner_of, same_owner, value_of}
 use Rattle.sl_leases.specs.Leases.{ended_ballots, freed, is_over_owner, lease_calls, own_block, spot_of, top_lver}
 use Rattle.sl_sector.specs.declared.sector.Block.{Block}
 use Rattle.sl_sector.specs.declared.sector.Leader.{Leader}
-use Rattle.sl_sector.specs.declared.sector.Owner.{Owner}
 use Rattle.sl_sector.specs.Records.{IsLeader}
 use Rattle.sl_sessions.specs.Sessions.{Session, me}
 use Rattle.sl_sessions.specs.Watching.{counted_over, counts_over}
@@ -25,7 +23,7 @@ use Rattle.sl_words.proofs.WordLaws.{or_true}
 use Rattle.sl_words.specs.Words.{greatest, present}
 use Rattle.std.proofs.Common.{ap, arith, inl, inr, refl, subst, sym, tests, ◌∙◌}
 use Rattle.std.proofs.lemmas.Bool.{cases_lt}
-use Rattle.std.specs.Prelude.{Bool, Contains, List, Option, Some, false, filter, map, max, nat_le, nat_lt, not, suc, true, zero, [], ℕ, ◌&&◌, ◌+◌, ◌<◌, ◌==◌, ◌∷◌, ◌≡◌, ◌≤◌, ◌⊎◌, ◌||◌}
+use Rattle.std.specs.Prelude.{Bool, Contains, List, Some, false, filter, map, max, nat_le, nat_lt, not, suc, true, zero, [], ℕ, ◌&&◌, ◌+◌, ◌<◌, ◌==◌, ◌∷◌, ◌≡◌, ◌≤◌, ◌⊎◌, ◌||◌}
 
 -- ---- at the call
 

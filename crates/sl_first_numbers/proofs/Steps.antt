@@ -1,7 +1,6 @@
 -- Each answer of the work's call leads to a step that keeps the numbers.
 use Rattle.sl_area.specs.Places.{area_blocks, blocks_in, leader_of}
 use Rattle.sl_first.proofs.Courses.{first_place}
-
 use Rattle.sl_first.specs.FirstPath.{IsFirst, first_session, heeded_call}
 use Rattle.sl_first.specs.FirstSteps.{IsNamed, first_known, first_over, first_self}
 use Rattle.sl_first_law.proofs.Areas.{inside_first}
@@ -14,10 +13,10 @@ use Rattle.sl_first_numbers.proofs.Given.{ended_here, is_read_of_area, last_area
 use Rattle.sl_first_numbers.proofs.Keeps.{AreKept, few_hosts, its_session, leader_written, own_above, own_begun, sizes_in}
 use Rattle.sl_first_numbers.proofs.Reasons.{above_freed, area_reason, calls_at, lost_reason}
 use Rattle.sl_law.specs.Lawful.{IsSetting}
-use Rattle.sl_law.specs.LawfulBlock.{AreaRead, BeginReason}
+use Rattle.sl_law.specs.LawfulBlock.{AreaRead}
 use Rattle.sl_leases.specs.Ballots.{ballot_blocks, counted_lver, is_counted_free, moded_block, owner_of, phase2_block, same_owner, stop_of, value_of}
 use Rattle.sl_leases.specs.LeaseWork.{after_phase1, after_phase2, area_next, begin_next, begin_or_refuse, lost_next, named_area_next, phase2_next, whole_area_next, won_next}
-use Rattle.sl_leases.specs.Leases.{block_submitted, ended_ballots, freed, instance_for, is_leader_of, is_over_owner, last_blocks, lease_calls, own_block, own_or_read, shared_elsewhere, spot_of, top_lver}
+use Rattle.sl_leases.specs.Leases.{block_submitted, ended_ballots, freed, instance_for, is_leader_of, is_over_owner, last_blocks, own_block, own_or_read, shared_elsewhere, spot_of, top_lver}
 use Rattle.sl_leases.specs.declared.lease.Aim.TheVariants.{Acquires}
 use Rattle.sl_leases.specs.declared.lease.Aim.{Aim}
 use Rattle.sl_leases.specs.declared.lease.Instance.TheVariants.{Begins, HeldAlready}
@@ -26,7 +25,6 @@ use Rattle.sl_leases.specs.declared.lease.LeaseNext.TheVariants.{AnswerJob, Noth
 use Rattle.sl_leases.specs.declared.lease.LeaseNext.{LeaseNext}
 use Rattle.sl_leases.specs.declared.lease.Stop.{Stop}
 use Rattle.sl_resource.proofs.RecordFacts.{instance_least, phase2_begun}
-use Rattle.sl_resource.specs.Bounds.{IsBegun}
 use Rattle.sl_sector.specs.Records.{IsBlock, IsLeader}
 use Rattle.sl_sector.specs.declared.sector.Block.{Block}
 use Rattle.sl_sector.specs.declared.sector.Leader.{Leader}
@@ -41,11 +39,10 @@ use Rattle.sl_trace.specs.declared.input.Given.{Given}
 use Rattle.sl_trace.specs.declared.reply.Reply.TheVariants.{Held as HeldBy, Shared as SharedBy, TornBlock, TornLeader, WrongArea}
 use Rattle.sl_words.proofs.CaseLaws.{false_is_true}
 use Rattle.sl_words.proofs.OptionLaws.{cond_none}
-use Rattle.std.proofs.Common.{All, IfSome, ap, arith, refl, subst, sym, tests, ◌∙◌}
-
+use Rattle.std.proofs.Common.{All, IfSome, ap, arith, refl, subst, sym, tests}
 use Rattle.std.specs.List.{list_all, prefix_len}
 use Rattle.std.specs.Option.{option_map_or}
-use Rattle.std.specs.Prelude.{Bool, Contains, IsTrue, List, None, Option, Some, drop, false, is_none, is_some, length, nat_lt, not, position, suc, true, zero, [], if◌then◌else◌, ℕ, ◌&&◌, ◌*◌, ◌+◌, ◌<◌, ◌∷◌, ◌≡◌, ◌≤◌}
+use Rattle.std.specs.Prelude.{Bool, Contains, List, None, Option, Some, drop, false, is_none, is_some, length, nat_lt, not, position, suc, true, zero, [], if◌then◌else◌, ℕ, ◌&&◌, ◌*◌, ◌+◌, ◌∷◌, ◌≡◌, ◌≤◌}
 
 abbrev acquires : Aim
 acquires = Acquires Exclusive

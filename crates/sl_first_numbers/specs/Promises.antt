@@ -10,9 +10,7 @@ use Rattle.sl_leases.specs.declared.lease.LeaseNext.TheVariants.{WriteBlock}
 use Rattle.sl_sector.specs.Records.{IsRecord}
 use Rattle.sl_sector.specs.declared.sector.Block.{Block}
 use Rattle.sl_sector.specs.declared.sector.Rec.{Rec}
-use Rattle.sl_trace.specs.Limits.{most_processes}
 use Rattle.sl_trace.specs.Traces.{Setting, Submitted, Trace, is_answer_for, record_of, submitted}
-use Rattle.sl_trace.specs.declared.command.Command.TheVariants.{Acquire, Release}
 use Rattle.sl_trace.specs.declared.command.ResourceArg.{ResourceArg}
 use Rattle.sl_trace.specs.declared.effects.LeaseStep.TheVariants.{Phase1Write}
 use Rattle.sl_trace.specs.declared.input.Answer.{Answer}
