@@ -6,3 +6,4 @@ pub mod Given
 pub mod Beginning
 pub mod Steps
 pub mod NumberLaws
+pub mod CallLaws

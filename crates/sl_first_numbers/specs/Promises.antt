@@ -1,5 +1,5 @@
 -- What is proved of the records that a daemon of the first path writes, whatever answers come.
-use Rattle.sl_first.specs.FirstPath.{Doing, IsFirst, first_session, heeded_call}
+use Rattle.sl_first.specs.FirstPath.{Doing, IsFirst, first_effects, first_entry, first_session, heeded_call}
 use Rattle.sl_first.specs.FirstSteps.{FirstStands, Idle, Phase, Works, acquire_line, answers, first_aim, first_next, release_line, told_phase}
 use Rattle.sl_first_law.specs.Keeping.{AtCall}
 use Rattle.sl_first_numbers.specs.Numbers.{NumbersStand}
@@ -15,6 +15,7 @@ use Rattle.sl_trace.specs.declared.command.ResourceArg.{ResourceArg}
 use Rattle.sl_trace.specs.declared.effects.LeaseStep.TheVariants.{Phase1Write}
 use Rattle.sl_trace.specs.declared.input.Answer.{Answer}
 use Rattle.sl_trace.specs.declared.input.Given.{Given}
+use Rattle.sl_trace.specs.declared.input.Input.TheVariants.{Answer as Told}
 use Rattle.sl_trace.specs.declared.reply.Reply.TheVariants.{BadCommand as Misread}
 use Rattle.std.specs.Prelude.{List, Some, true, [], ℕ, ◌∷◌, ◌≡◌}
 
@@ -54,3 +55,11 @@ BallotsBeginLawfully =
     FirstStands st g r call job (Works d) answered es → (a : Answer) → is_answer_for st a d.call.call.op ≡ true → NumbersStand st g r answered (Works d) →
     (b : Block) → first_next st g es d answered (first_aim d.command) a ≡ WriteBlock Phase1Write b →
     (t : Trace) → AtCall st g r t → submitted t ≡ heeded_call es g a d.call ∷ answered → (c : Submitted) → LawfulPhase1 st t (first_session g) (spot_of r) c b
+
+-- Where the call after an answer is made, nothing is held, and the calls are these: the laws of a call speak of that trace.
+abbrev pub CallsFollowAnswers : Type 0
+CallsFollowAnswers =
+    (st : Setting) (g : Given) (r : ResourceArg) → IsFirst st g r → (call job : ℕ) (d : Doing) (answered : List Submitted) (es : Trace) →
+    FirstStands st g r call job (Works d) answered es → (a : Answer) →
+    AtCall st g r (first_entry g (Told d.call.call.number a) (first_effects [] [] [] []) ∷ es)
+    × (submitted (first_entry g (Told d.call.call.number a) (first_effects [] [] [] []) ∷ es) ≡ heeded_call es g a d.call ∷ answered)

@@ -1,6 +1,6 @@
 //! What the records of a daemon of one session and one resource keep, whatever answers come.
 
-ghost use Rattle.sl_first_numbers.specs.Promises.{AnswersKeepNumbers, BallotsBeginLawfully, LinesKeepNumbers, NumbersBegin, WritesAreRecords};
+ghost use Rattle.sl_first_numbers.specs.Promises.{AnswersKeepNumbers, BallotsBeginLawfully, CallsFollowAnswers, LinesKeepNumbers, NumbersBegin, WritesAreRecords};
 
 /// Before its first call there is nothing to keep.
 pub fn numbers_begin()
@@ -25,4 +25,9 @@ pub fn writes_are_records()
 /// Each block of phase 1 begins an instance for which there is reason, above the own free and not below the own block.
 pub fn ballots_begin_lawfully()
     ensures { BallotsBeginLawfully }
+{}
+
+/// The trace at which the call after an answer is made is one that the law of phase 1 speaks of.
+pub fn calls_follow_answers()
+    ensures { CallsFollowAnswers }
 {}
