@@ -1,12 +1,12 @@
 -- Where the call after an answer is made.
 use Rattle.sl_first.proofs.Standing.{held_stays, mine_told, told_calls}
-use Rattle.sl_first.specs.FirstPath.{Kept, first_effects, has_answer, heeded_call, is_first_call}
+use Rattle.sl_first.specs.FirstPath.{Kept, first_effects, has_answer, is_first_call}
 use Rattle.sl_first.specs.FirstSteps.{Works, kept_in}
 use Rattle.sl_first_numbers.specs.Promises.{CallsFollowAnswers}
 use Rattle.sl_trace.specs.Traces.{Submitted, holdings}
-use Rattle.std.proofs.Common.{ap, refl, subst, sym, ◌∙◌}
+use Rattle.std.proofs.Common.{ap, refl, ◌∙◌}
 use Rattle.std.specs.List.{list_all}
-use Rattle.std.specs.Prelude.{List, true, [], ◌∷◌, ◌≡◌}
+use Rattle.std.specs.Prelude.{List, []}
 
 pub calls_follow : CallsFollowAnswers
 calls_follow st g r f call job d answered es h a =

@@ -7,3 +7,4 @@ pub mod Beginning
 pub mod Steps
 pub mod NumberLaws
 pub mod CallLaws
+pub mod LineNumbers
