@@ -1,0 +1,10 @@
+pub mod Decoding
+pub mod Frees
+pub mod Reasons
+pub mod Keeps
+pub mod Given
+pub mod Beginning
+pub mod Steps
+pub mod NumberLaws
+pub mod CallLaws
+pub mod LineNumbers
