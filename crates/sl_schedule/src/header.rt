@@ -82,8 +82,8 @@ impl Model for HeaderReader {
     ghost invariant = { λ r. ArePossible (option_map times_seen r.times) r.hosts };
 }
 
-/// Where a line stands in the header's order.
-fn rank(line: &HeaderLine) -> u32
+/// Where a line stands in the header's order: its kind, from 0 for the version to 9 for `begin`.
+pub fn rank(line: &HeaderLine) -> u32
     ensures { result ≡ rank (header_seen line.now) }
 {
     match line {

@@ -1,0 +1,119 @@
+-- What the next line adds to the report, and what is owed after it.
+use Rattle.sl_first_schedule.specs.FirstLanguage.{first_language}
+use Rattle.sl_replay.specs.Reports.{Happened, IsRefusedIn, Owes, ending_from, line_read, rest_text}
+use Rattle.sl_replay.specs.declared.replay.Ended.TheVariants.{AtLine, Whole}
+use Rattle.sl_replay.specs.declared.replay.Ended.{Ended}
+use Rattle.sl_report.specs.ReadingLines.{event_in}
+use Rattle.sl_report.specs.Replay.{effects_of}
+use Rattle.sl_report.specs.Reports.{Counts, count_event, end_line, event_lines}
+use Rattle.sl_report.specs.ScheduleLines.{refusal_line}
+use Rattle.sl_report.specs.Schedules.{EventLine, NumberedLine, event_lines_of, event_or_syntax, line_refusal, replay_from}
+use Rattle.sl_run.specs.Events.{happens, may_happen, refusal_of}
+use Rattle.sl_run.specs.Worlds.{World}
+use Rattle.sl_run.specs.declared.event.Event.{Event}
+use Rattle.sl_run.specs.declared.event.Refusal.TheVariants.{Syntax}
+use Rattle.sl_run.specs.declared.event.Refusal.{Refusal}
+use Rattle.sl_run.specs.declared.header.Header.{Header}
+use Rattle.sl_text.specs.Forms.{as_bytes}
+use Rattle.sl_trace.specs.Traces.{Setting, Trace}
+use Rattle.sl_trace.specs.declared.effects.Effects.{Effects}
+use Rattle.sl_words.proofs.CaseLaws.{false_is_true}
+use Rattle.sl_world.specs.Kept.{KeptState}
+use Rattle.std.proofs.Common.{Bool, List, None, Option, Some, ap, append_assoc, false, refl, subst, sym, true, [], ℕ, ◌++◌, ◌∙◌, ◌∷◌, ◌≡◌}
+use Rattle.std.proofs.lemmas.Grind.{flat_map-append}
+use Rattle.std.specs.List.{cons_option}
+use Rattle.std.specs.Prelude.{Err, IsSome, Ok, Result, is_none}
+
+-- ---- the next line
+
+line_by : (o : Option Refusal) (n : ℕ) (e : Result Event Refusal) (ls : List EventLine)
+    → cons_option (elim o as (λ x. Option EventLine) [ Some r ↦ Some (n, Err r) | None ↦ Some (n, e) ]) ls
+    ≡ (n, elim o as (λ x. Result Event Refusal) [ Some r ↦ Err r | None ↦ e ]) ∷ ls
+line_by None n e ls = refl
+line_by (Some r) n e ls = refl
+
+-- None is passed over.
+pub next_line : (h : Header) (l : NumberedLine) (ls : List NumberedLine)
+    → event_lines_of first_language h (l ∷ ls) ≡ (l.number, line_read h l) ∷ event_lines_of first_language h ls
+next_line h l ls =
+    line_by (line_refusal l) l.number (event_or_syntax (event_in first_language h.machines h.geometry.sector l.text)) (event_lines_of first_language h ls)
+
+-- ---- a line that is refused
+
+stopped_by : {A : Type 0} (o : Option Refusal) (stop go : A) → IsSome o → elim o as (λ x. A) [ Some r ↦ stop | None ↦ go ] ≡ stop
+stopped_by None stop go h = absurd h
+stopped_by (Some r) stop go h = refl
+
+refused_text : (w : World) (k : Counts) (n : ℕ) (read : Result Event Refusal) (ls : List EventLine) → IsRefusedIn w read
+    → replay_from first_language w k ((n, read) ∷ ls) ≡ refusal_line n Syntax ∷ []
+refused_text w k n (Err r) ls h = refl
+refused_text w k n (Ok e) ls h =
+    stopped_by (refusal_of w e) (refusal_line n Syntax ∷ [])
+    (event_lines w e (effects_of w e) ++ replay_from first_language (happens w e (effects_of w e)) (count_event w e (effects_of w e) k) ls) h
+
+refused_end : (w : World) (n : ℕ) (read : Result Event Refusal) (ls : List EventLine) → IsRefusedIn w read → ending_from w ((n, read) ∷ ls) ≡ AtLine
+refused_end w n (Err r) ls h = refl
+refused_end w n (Ok e) ls h = stopped_by (refusal_of w e) AtLine (ending_from (happens w e (effects_of w e)) ls) h
+
+-- It ends the report.
+pub owed_refusal : {D : Type 0} (stands : D → Setting → Trace → Type 0) (h : Header) (kept : KeptState) (host : D) (k : Counts) (l : NumberedLine) (ls : List NumberedLine)
+    (out total : List ℕ) (end : Ended) → (o : Owes stands h kept host k (l ∷ ls) out total end) → IsRefusedIn o.world (line_read h l)
+    → (end ≡ AtLine) × (out ++ as_bytes (refusal_line l.number Syntax ∷ []) ≡ total)
+owed_refusal stands h kept host k l ls out total end o refused =
+    (
+      o.ends ∙ ap (ending_from o.world) (next_line h l ls) ∙ refused_end o.world l.number (line_read h l) (event_lines_of first_language h ls) refused,
+      sym (
+        o.text
+        ∙ ap (λ es. out ++ as_bytes (replay_from first_language o.world k es)) (next_line h l ls)
+        ∙ ap (λ t. out ++ as_bytes t) (refused_text o.world k l.number (line_read h l) (event_lines_of first_language h ls) refused)
+      ),
+    )
+
+-- ---- a line whose event happens
+
+gone_by : {A : Type 0} (o : Option Refusal) (stop go : A) → is_none o ≡ true → elim o as (λ x. A) [ Some r ↦ stop | None ↦ go ] ≡ go
+gone_by None stop go h = refl
+gone_by (Some r) stop go h = absurd (false_is_true h)
+
+gone_text : (w : World) (e : Event) (n : ℕ) (fx : Effects) (k : Counts) (ls : List EventLine) → may_happen w e ≡ true → effects_of w e ≡ fx ∷ []
+    → replay_from first_language w k ((n, Ok e) ∷ ls)
+    ≡ event_lines w e (fx ∷ []) ++ replay_from first_language (happens w e (fx ∷ [])) (count_event w e (fx ∷ []) k) ls
+gone_text w e n fx k ls may due =
+    gone_by (refusal_of w e) (refusal_line n Syntax ∷ [])
+    (event_lines w e (effects_of w e) ++ replay_from first_language (happens w e (effects_of w e)) (count_event w e (effects_of w e) k) ls) may
+    ∙ ap (λ fxs. event_lines w e fxs ++ replay_from first_language (happens w e fxs) (count_event w e fxs k) ls) due
+
+gone_end : (w : World) (e : Event) (n : ℕ) (fx : Effects) (ls : List EventLine) → may_happen w e ≡ true → effects_of w e ≡ fx ∷ []
+    → ending_from w ((n, Ok e) ∷ ls) ≡ ending_from (happens w e (fx ∷ [])) ls
+gone_end w e n fx ls may due =
+    gone_by (refusal_of w e) AtLine (ending_from (happens w e (effects_of w e)) ls) may ∙ ap (λ fxs. ending_from (happens w e fxs) ls) due
+
+-- What is owed after it.
+pub owed_after : {D : Type 0} (stands : D → Setting → Trace → Type 0) (h : Header) (kept now : KeptState) (host then : D) (k after : Counts) (l : NumberedLine)
+    (ls : List NumberedLine) (out more total : List ℕ) (end : Ended) (e : Event) → (o : Owes stands h kept host k (l ∷ ls) out total end) → line_read h l ≡ Ok e
+    → Happened stands o.world e now then k after out more → Owes stands h now then after ls more total end
+owed_after stands h kept now host then k after l ls out more total end e o read x =
+    let es : List EventLine = event_lines_of first_language h ls in
+    let w : World = happens o.world e (x.effects ∷ []) in
+    let lines : List (List ℕ) = event_lines o.world e (x.effects ∷ []) in
+    let rest : List (List ℕ) = replay_from first_language w after es in
+    let reads : event_lines_of first_language h (l ∷ ls) ≡ (l.number, Ok e) ∷ es = next_line h l ls ∙ ap (λ r. (l.number, r) ∷ es) read in
+    record {
+      world = w;
+      tells = x.tells;
+      text =
+        o.text
+        ∙ ap (λ v. out ++ as_bytes (replay_from first_language o.world k v)) reads
+        ∙ ap (λ t. out ++ as_bytes t) (gone_text o.world e l.number x.effects k es x.may x.due_is)
+        ∙ ap (λ c. out ++ as_bytes (lines ++ replay_from first_language w c es)) (sym x.counts)
+        ∙ ap (λ t. out ++ t) (flat_map-append (λ v. v ++ 10 ∷ []) lines rest)
+        ∙ sym (append_assoc out (as_bytes lines) (as_bytes rest))
+        ∙ ap (λ t. t ++ as_bytes rest) (sym x.text);
+      ends = o.ends ∙ ap (ending_from o.world) reads ∙ gone_end o.world e l.number x.effects es x.may x.due_is;
+    }
+
+-- ---- no line
+
+pub owed_end : {D : Type 0} (stands : D → Setting → Trace → Type 0) (h : Header) (kept : KeptState) (host : D) (k : Counts) (out total : List ℕ) (end : Ended)
+    → Owes stands h kept host k [] out total end → (end ≡ Whole) × (out ++ as_bytes (end_line k ∷ []) ≡ total)
+owed_end stands h kept host k out total end o = (o.ends, sym o.text)

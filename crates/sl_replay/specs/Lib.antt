@@ -1,0 +1,3 @@
+pub mod FirstLines
+pub mod Counting
+pub mod Reports
