@@ -26,3 +26,6 @@ mod told;
 pub use host::Host;
 pub use phase::{Doing, FirstCommand, Phase};
 pub use site::Site;
+
+#[cfg(test)]
+mod tests;
