@@ -1,5 +1,7 @@
+pub mod DaemonLaws
 pub mod LineSteps
 pub mod ReadingLaws
+pub mod SmallLaws
 pub mod StepLaws
 pub mod TakeLaws
 pub mod ToldLaws

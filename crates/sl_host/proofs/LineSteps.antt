@@ -1,24 +1,23 @@
 -- A line: what the host does is due, and it stands for the trace with that entry.
-use Rattle.sl_area.specs.Layouts.{Layout, Sizes, layout_of}
+use Rattle.sl_area.specs.Layouts.{Sizes, layout_of}
 use Rattle.sl_first.proofs.LineLaws.{acquire_first, misread_first, release_first}
 use Rattle.sl_first.specs.FirstPath.{IsFirstCommand, first_effects, first_entry, has_answer, next_doing, one_reply, open_kept}
-use Rattle.sl_first.specs.FirstSteps.{FirstStands, Holds as Held_by, Idle as Resting, IsNamed, LineFirst, OnCourse, Phase as Stand, Works as Working, acquire_line, answers, begins, first_grant, first_known, first_read, last_write, leader_write, process_of, release_by, release_line, work_in}
+use Rattle.sl_first.specs.FirstSteps.{FirstStands, Holds as Held_by, Idle as Resting, IsNamed, LineFirst, OnCourse, Phase as Stand, Works as Working, acquire_line, answers, begins, first_grant, first_read, last_write, leader_write, process_of, release_by, release_line, work_in}
+use Rattle.sl_host.proofs.SmallLaws.{leader_is, named_space, reads_only, small_call, small_reply, spells}
 use Rattle.sl_host.specs.Hosts.{HostStands, HostState, IsLeaseOf, Steps, begun}
 use Rattle.sl_host.specs.Phases.{IsDoingOf, IsPhaseOf, command_of}
 use Rattle.sl_host.specs.Readings.{on_resource}
-use Rattle.sl_host.specs.Sites.{IsLaidOut, IsSite, SiteState, freed_leader}
+use Rattle.sl_host.specs.Sites.{IsLaidOut, SiteState, freed_leader}
 use Rattle.sl_host.specs.Submits.{IsCallOf, MayFollow, after_next}
 use Rattle.sl_host.specs.declared.phase.Doing.{Doing}
 use Rattle.sl_host.specs.declared.phase.FirstCommand.TheVariants.{Acquire as Acquires, Release as Releases}
 use Rattle.sl_host.specs.declared.phase.FirstCommand.{FirstCommand}
 use Rattle.sl_host.specs.declared.phase.Phase.TheVariants.{Holds, Idle, Works}
-use Rattle.sl_host.specs.declared.phase.Phase.{Phase}
-use Rattle.sl_leases.specs.LeaseWork.{leader_for}
 use Rattle.sl_leases.specs.Leases.{verified_name}
 use Rattle.sl_leases.specs.declared.lease.LeaseNext.TheVariants.{ReadFor, WriteLeader}
 use Rattle.sl_leases.specs.declared.lease.LeaseNext.{LeaseNext}
 use Rattle.sl_resource.proofs.KnownLaws.{verified_is}
-use Rattle.sl_resource.specs.Stands.{IsWaiting, LeaseStands, LeaseState, MayCall, verified_of}
+use Rattle.sl_resource.specs.Stands.{IsWaiting, LeaseStands, LeaseState}
 use Rattle.sl_resource.specs.declared.deed.Deed.{Deed}
 use Rattle.sl_text.specs.Names.{is_name}
 use Rattle.sl_trace.specs.Limits.{most_processes}
@@ -31,7 +30,7 @@ use Rattle.sl_trace.specs.declared.effects.Effects.{Effects}
 use Rattle.sl_trace.specs.declared.effects.End.{End}
 use Rattle.sl_trace.specs.declared.effects.LeaseStep.TheVariants.{FreeLeader, ReadArea}
 use Rattle.sl_trace.specs.declared.effects.LeaseStep.{LeaseStep}
-use Rattle.sl_trace.specs.declared.effects.Op.TheVariants.{ReadSectors, WriteRecord}
+use Rattle.sl_trace.specs.declared.effects.Op.TheVariants.{ReadSectors}
 use Rattle.sl_trace.specs.declared.effects.Work.TheVariants.{ForJob}
 use Rattle.sl_trace.specs.declared.input.Given.{Given}
 use Rattle.sl_trace.specs.declared.input.Input.TheVariants.{Line}
@@ -40,9 +39,12 @@ use Rattle.sl_trace.specs.declared.reply.Reply.{Reply}
 use Rattle.sl_words.proofs.CaseLaws.{false_is_true, is_false}
 use Rattle.sl_words.proofs.WordLaws.{and_true}
 use Rattle.sl_host.proofs.TakeLaws.{of_next}
+use Rattle.sl_resource.specs.Bounds.{IsGranted}
 use Rattle.sl_resource.specs.Stands.{IsOneLease}
+use Rattle.sl_sector.specs.declared.sector.Rec.TheVariants.{LeaderIs}
+use Rattle.sl_world.specs.Daemons.{IsSmallStep, IsSpelled}
 use Rattle.sl_sector.specs.declared.sector.Leader.{Leader}
-use Rattle.std.proofs.Common.{Bool, IsTrue, inl, inr, List, None, Option, Some, ap, arith, false, is_some, refl, subst, sym, tests, true, unwrap_or, [], length, ℕ, ◌+◌, ◌++◌, ◌==◌, ◌∙◌, ◌∷◌, ◌≡◌, ◌≤◌}
+use Rattle.std.proofs.Common.{inl, inr, List, None, Option, Some, ap, arith, false, is_some, refl, subst, sym, tests, true, unwrap_or, [], length, ℕ, ◌+◌, ◌++◌, ◌==◌, ◌∙◌, ◌∷◌, ◌≡◌, ◌≤◌}
 use Rattle.sl_first.specs.FirstWords.{first_forms}
 use Rattle.sl_trace.specs.Commands.{command_in}
 use Rattle.std.proofs.lemmas.Bool.{eqb-true}
@@ -71,6 +73,7 @@ pub answered_at_once : (h : HostState) (st : Setting) (es : Trace) (text : List 
 answered_at_once h st es text why fx k line effects =
     record {
       due_is = effects ∙ sym line.due_is;
+      small = subst IsSmallStep (sym effects) (small_reply h.next_job why);
       stands = record {
         site = k.site;
         setting = k.setting;
@@ -91,11 +94,12 @@ begun_with : (h : HostState) (st : Setting) (es : Trace) (text : List ℕ) (comm
     → LineFirst st h.site.session h.site.resource h.next_job k.answered es text (begins st h.site.session es text h.next_call (command_of h.site.resource command) step ends c)
     → IsDoingOf h.site.resource (record { job = h.next_job; command = command; step = step; call = h.next_call; lver = lver; sectors = sectors })
     (next_doing st h.site.session es text (command_of h.site.resource command) step c)
-    → IsLeaseOf h.site after → LeaseStands after (new_call (length es) h.site.session.renewed c ∷ k.answered)
+    → IsSpelled c → IsLeaseOf h.site after → LeaseStands after (new_call (length es) h.site.session.renewed c ∷ k.answered)
     → fx ≡ first_effects ends [] [] (c ∷ []) → Steps h (begun command step lver sectors (record h { lease = after })) st es (Line text) fx
-begun_with h st es text command step lver sectors ends c after fx k line doing of_lease lease effects =
+begun_with h st es text command step lver sectors ends c after fx k line doing spelled of_lease lease effects =
     record {
       due_is = effects ∙ sym line.due_is;
+      small = subst IsSmallStep (sym effects) (small_call ends c spelled);
       stands = record {
         site = k.site;
         setting = k.setting;
@@ -225,6 +229,7 @@ acquire_begins h p after fx idle effects lease submits st es text k reads =
     (told_idle st h.site.session h.site.resource h.next_call h.next_job es text p k.stand rest)
     (acquire_first st h.site.session h.site.resource k.setting.first h.next_call h.next_job k.stand k.answered es k.first text p (process_small h st es text (Acquire h.site.resource false p) k reads) reads))
     (record { job = k.first.stands.job_number; command = refl; step = refl; call = refl; lver = refl; sectors = ap (λ n. Some n) hosts })
+    (reads_only c (st.layout.hosts + 2) refl)
     (one_lease h.site (ReadFor (ReadArea h.site.resource.name)) h.lease after k.lease_of lease)
     (submits (new_call (length es) h.site.session.renewed c) k.answered calls
     (record { idle = waits_none h.lease.sizes h.lease.waiting k.answered calls.waiting k.first.stands.answered; named = refl }) refl
@@ -249,14 +254,14 @@ acquire_made h inside last p after first step sectors c fx is idle call effects 
     (subst (λ s. (m : Submitted) (ms : List Submitted) → LeaseStands inside.lease ms → MayFollow inside.lease (ReadFor s) → m.answer ≡ None → IsCallOf inside.lease.sizes (ReadFor s) m → LeaseStands after (m ∷ ms)) first_is submits)
     st es text (subst (λ x. HostStands x st es) is k) (reads ∙ ap (λ x. Ok (Acquire x.site.resource false p)) is)))
 
-release_begins : (h : HostState) (p n : ℕ) (after : LeaseState) (fx : Effects) → h.phase ≡ Holds p n
+release_begins : (h : HostState) (p n : ℕ) (after : LeaseState) (fx : Effects) → h.phase ≡ Holds p n → IsGranted (freed_leader h.site n)
     → fx ≡ first_effects (end_of (first_grant h.site.session h.site.resource p n) ∷ []) [] [] (leader_write h.site.resource h.next_call h.next_job FreeLeader (freed_leader h.site n) ∷ [])
     → after ≡ after_next (WriteLeader FreeLeader (freed_leader h.site n)) h.lease
     → ((m : Submitted) (ms : List Submitted) → LeaseStands h.lease ms → MayFollow h.lease (WriteLeader FreeLeader (freed_leader h.site n)) → m.answer ≡ None
     → IsCallOf h.lease.sizes (WriteLeader FreeLeader (freed_leader h.site n)) m → LeaseStands after (m ∷ ms))
     → (st : Setting) (es : Trace) (text : List ℕ) → HostStands h st es → st.read text ≡ Ok (Release h.site.resource p)
     → Steps h (begun (Releases p) FreeLeader n None (record h { lease = after })) st es (Line text) fx
-release_begins h p n after fx held effects lease submits st es text k reads =
+release_begins h p n after fx held granted effects lease submits st es text k reads =
     let rest : IsPhaseOf h.site.resource (Holds p n) k.stand = subst (λ x. IsPhaseOf h.site.resource x k.stand) held k.phase in
     let calls : LeaseStands h.lease k.answered = subst (LeaseStands h.lease) (calls_held h.site.resource k.answered p n k.stand rest) k.lease in
     let named : IsNamed st h.site.session h.site.resource k.answered = named_held st h.site.session h.site.resource k.answered p n k.stand rest k.first.course in
@@ -271,6 +276,7 @@ release_begins h p n after fx held effects lease submits st es text k reads =
     ∙ ap (λ x. begins st h.site.session es text h.next_call (Release h.site.resource p) FreeLeader (end_of (first_grant h.site.session h.site.resource p n) ∷ []) x) (sym write))
     (release_first st h.site.session h.site.resource k.setting.first h.next_call h.next_job k.stand k.answered es k.first text p (process_small h st es text (Release h.site.resource p) k reads) reads))
     (record { job = k.first.stands.job_number; command = refl; step = refl; call = refl; lver = refl; sectors = refl })
+    (spells c (LeaderIs (freed_leader h.site n)) refl (leader_is (freed_leader h.site n) granted (named_space st h.site k.site k.setting) k.site.resource.named))
     (one_lease h.site (WriteLeader FreeLeader (freed_leader h.site n)) h.lease after k.lease_of lease)
     (submits (new_call (length es) h.site.session.renewed c) k.answered calls
     (record { idle = waits_none h.lease.sizes h.lease.waiting k.answered calls.waiting k.first.stands.answered; named = has }) refl
@@ -281,17 +287,17 @@ release_begins h p n after fx held effects lease submits st es text k reads =
 pub release_made : (h inside last : HostState) (p n : ℕ) (after : LeaseState) (l : Leader) (end : End) (c : Call) (fx : Effects) → h ≡ inside → h.phase ≡ Holds p n
     → c ≡ leader_write h.site.resource h.next_call h.next_job FreeLeader (freed_leader h.site n)
     → ((lver : ℕ) → end ≡ end_of (first_grant inside.site.session inside.site.resource p lver)) → fx ≡ first_effects (end ∷ []) [] [] (c ∷ [])
-    → l ≡ freed_leader inside.site n
+    → l ≡ freed_leader inside.site n → IsGranted l
     → after ≡ after_next (WriteLeader FreeLeader l) inside.lease
     → ((m : Submitted) (ms : List Submitted) → LeaseStands inside.lease ms → MayFollow inside.lease (WriteLeader FreeLeader l) → m.answer ≡ None
     → IsCallOf inside.lease.sizes (WriteLeader FreeLeader l) m → LeaseStands after (m ∷ ms))
     → last ≡ begun (Releases p) FreeLeader n None (record inside { lease = after })
     → (st : Setting) (es : Trace) (text : List ℕ) → HostStands h st es → st.read text ≡ Ok (Release h.site.resource p) → Steps h last st es (Line text) fx
-release_made h inside last p n after l end c fx is held call ends effects leader lease submits last_is st es text k reads =
+release_made h inside last p n after l end c fx is held call ends effects leader granted lease submits last_is st es text k reads =
     let written = call ∙ ap (λ x. leader_write x.site.resource x.next_call x.next_job FreeLeader (freed_leader x.site n)) is in
     subst (λ x. Steps x last st es (Line text) fx) (sym is)
     (subst (λ x. Steps inside x st es (Line text) fx) (sym last_is)
-    (release_begins inside p n after fx (ap (λ x. x.phase) (sym is) ∙ held) (effects ∙ (λ i. first_effects (ends n i ∷ []) [] [] (written i ∷ [])))
+    (release_begins inside p n after fx (ap (λ x. x.phase) (sym is) ∙ held) (subst IsGranted leader granted) (effects ∙ (λ i. first_effects (ends n i ∷ []) [] [] (written i ∷ [])))
     (lease ∙ ap (λ x. after_next (WriteLeader FreeLeader x) inside.lease) leader)
     (subst (λ x. (m : Submitted) (ms : List Submitted) → LeaseStands inside.lease ms → MayFollow inside.lease (WriteLeader FreeLeader x) → m.answer ≡ None → IsCallOf inside.lease.sizes (WriteLeader FreeLeader x) m → LeaseStands after (m ∷ ms)) leader submits)
     st es text (subst (λ x. HostStands x st es) is k) (reads ∙ ap (λ x. Ok (Release x.site.resource p)) is)))

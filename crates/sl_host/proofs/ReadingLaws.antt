@@ -13,7 +13,7 @@ use Rattle.sl_trace.specs.declared.command.Command.TheVariants.{Acquire, Release
 use Rattle.sl_trace.specs.declared.command.Command.{Command}
 use Rattle.sl_trace.specs.declared.command.ResourceArg.{ResourceArg}
 use Rattle.sl_words.specs.Results.{◌>>=◌}
-use Rattle.std.proofs.Common.{List, [], ap, false, refl, sym, true, ℕ, ◌≡◌, ◌∙◌, ◌∷◌}
+use Rattle.std.proofs.Common.{List, ap, false, refl, sym, true, ℕ, ◌≡◌, ◌∙◌}
 use Rattle.std.specs.Option.{ok_or}
 use Rattle.std.specs.Prelude.{Err, None, Ok, Option, Result, Some, codes}
 

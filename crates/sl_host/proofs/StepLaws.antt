@@ -2,23 +2,22 @@
 use Rattle.sl_area.specs.Layouts.{Sizes}
 use Rattle.sl_due.specs.Due.{due}
 use Rattle.sl_first.proofs.Stillness.{open_first}
-use Rattle.sl_first.specs.FirstPath.{open_kept}
-use Rattle.sl_first.specs.FirstSteps.{FirstStands, Holds as Held_by, Idle as Resting, Phase as Stand, Works as Working, kept_in, work_in}
+use Rattle.sl_first.specs.FirstSteps.{FirstStands, Holds as Held_by, Idle as Resting, Phase as Stand, Works as Working, kept_in}
 use Rattle.sl_host.proofs.ToldLaws.{answer_by}
-use Rattle.sl_host.specs.Expected.{StepsAt, expects, is_awaited}
+use Rattle.sl_host.specs.Expected.{StepsAt, is_awaited}
 use Rattle.sl_host.specs.Hosts.{HostStands, HostState, IsSettingOf, Steps}
 use Rattle.sl_host.specs.Phases.{IsPhaseOf, is_answer_by}
 use Rattle.sl_host.specs.Sites.{SiteState}
 use Rattle.sl_host.specs.declared.phase.Doing.{Doing}
 use Rattle.sl_host.specs.declared.phase.Phase.TheVariants.{Holds, Idle, Works}
 use Rattle.sl_host.specs.declared.phase.Phase.{Phase}
-use Rattle.sl_trace.specs.Traces.{Setting, Submitted, Trace, is_answer_for, is_expected, outstanding}
+use Rattle.sl_trace.specs.Traces.{Setting, Submitted, Trace, is_answer_for, is_expected}
 use Rattle.sl_trace.specs.declared.effects.Effects.{Effects}
 use Rattle.sl_trace.specs.declared.input.Answer.{Answer}
 use Rattle.sl_trace.specs.declared.input.Input.TheVariants.{Answer as Told}
 use Rattle.sl_trace.specs.declared.input.Input.{Input}
 use Rattle.sl_words.proofs.WordLaws.{and_true}
-use Rattle.std.proofs.Common.{Bool, IsTrue, List, None, Option, Some, ap, false, refl, subst, sym, true, [], ℕ, ◌==◌, ◌&&◌, ◌||◌, ◌∙◌, ◌∷◌, ◌≡◌}
+use Rattle.std.proofs.Common.{Bool, List, None, Some, ap, false, refl, subst, sym, true, ℕ, ◌==◌, ◌&&◌, ◌||◌, ◌∙◌, ◌∷◌, ◌≡◌}
 use Rattle.std.proofs.lemmas.Bool.{eqb-true}
 use Rattle.std.specs.List.{list_any}
 use Rattle.std.specs.Prelude.{Err, IfOk, Ok, Result}
@@ -57,6 +56,7 @@ pub step_at : (h after : HostState) (st : Setting) (es : Trace) (now : ℕ) (i :
 step_at h after st es now i fx reading s =
     record {
       due_is = s.due_is ∙ ap (λ t. due st es t i) (sym reading);
+      small = s.small;
       stands = subst (λ t. HostStands after st (record { reading = t; input = i; effects = fx } ∷ es)) (sym reading) s.stands;
     }
 

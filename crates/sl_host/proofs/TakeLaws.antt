@@ -2,7 +2,7 @@
 use Rattle.sl_first.specs.FirstSteps.{first_over}
 use Rattle.sl_host.specs.Phases.{aim_in}
 use Rattle.sl_host.specs.Submits.{IsCallOf, MayFollow, after_next}
-use Rattle.sl_host.specs.Taken.{IsTaken, IsToNewest, answered_call}
+use Rattle.sl_host.specs.Taken.{IsTaken, answered_call}
 use Rattle.sl_host.specs.declared.phase.Doing.{Doing}
 use Rattle.sl_area.specs.Layouts.{Sizes, layout_of}
 use Rattle.sl_leases.specs.LeaseWork.{lease_next}
@@ -11,11 +11,10 @@ use Rattle.sl_leases.specs.declared.lease.Aim.{Aim}
 use Rattle.sl_leases.specs.declared.lease.LeaseNext.TheVariants.{AnswerJob, GrantJob, Nothing, ReadFor, WriteBlock, WriteLeader}
 use Rattle.sl_leases.specs.declared.lease.LeaseNext.{LeaseNext}
 use Rattle.sl_resource.specs.Calls.{IsFitNext, is_answer_to, makes_call}
-use Rattle.sl_resource.specs.Stands.{IsAnswered, IsOneLease, IsTold, IsWaiting, LeaseStands, LeaseState, MayCall, is_first_step, layout_in, place_of}
+use Rattle.sl_resource.specs.Stands.{IsAnswered, IsOneLease, IsTold, IsWaiting, LeaseStands, LeaseState, is_first_step, layout_in, place_of}
 use Rattle.sl_resource.specs.Updates.{after_answer, after_bytes, answered_by, answered_state, at_rest}
 use Rattle.sl_resource.specs.declared.deed.Deed.TheVariants.{Reads, WritesBlock, WritesLeader}
 use Rattle.sl_resource.specs.declared.deed.Deed.{Deed}
-use Rattle.sl_sector.specs.declared.sector.Owner.{Owner}
 use Rattle.sl_trace.specs.Traces.{Answered, Submitted}
 use Rattle.sl_trace.specs.declared.effects.LeaseStep.TheVariants.{ClearMode, FreeLeader, Phase1Read, Phase1Write, Phase2Read, Phase2Write, ReadArea, ReadBeforeFree, SetMode, TakeLeader}
 use Rattle.sl_trace.specs.declared.effects.LeaseStep.{LeaseStep}
@@ -24,7 +23,7 @@ use Rattle.sl_trace.specs.declared.input.Answer.{Answer}
 use Rattle.sl_trace.specs.declared.input.Given.{Given}
 use Rattle.sl_words.proofs.CaseLaws.{false_is_true, none_some, true_is_false}
 use Rattle.std.specs.Prelude.{nat_lt, ◌&&◌, ◌==◌}
-use Rattle.std.proofs.Common.{Bool, IsTrue, List, None, Option, Some, ap, false, is_some, refl, subst, sym, true, [], ℕ, ◌||◌, ◌∙◌, ◌∷◌, ◌≡◌}
+use Rattle.std.proofs.Common.{Bool, IsTrue, List, None, Option, Some, false, is_some, refl, subst, sym, true, ℕ, ◌||◌, ◌∙◌, ◌∷◌, ◌≡◌}
 
 -- ---- one lease
 

@@ -3,11 +3,11 @@ use Rattle.sl_area.specs.Layouts.{Sizes, layout_of}
 use Rattle.sl_due.specs.Due.{due}
 use Rattle.sl_first.proofs.FirstLaws.{told_first}
 use Rattle.sl_first.specs.FirstPath.{Doing as Work, first_entry, heeded_call, open_kept}
-use Rattle.sl_first.specs.FirstSteps.{Course, FirstStands, Freeing, Holds as Held_by, Idle as Resting, OnCourse, Phase as Stand, Reading_area, Reading_phase1, Reading_phase2, Taking, ToldFirst, Works as Working, Writing_phase1, Writing_phase2, blocks_read, first_aim, first_next, first_over, first_self, goes_on_with, leader_write, own_write, process_of, told_effects, told_number, told_phase, work_in}
+use Rattle.sl_first.specs.FirstSteps.{Course, FirstStands, Freeing, Holds as Held_by, Idle as Resting, OnCourse, Phase as Stand, Reading_area, Reading_phase1, Reading_phase2, Taking, ToldFirst, Works as Working, Writing_phase1, Writing_phase2, blocks_read, first_aim, first_next, first_over, first_self, leader_write, own_write, process_of, told_effects, told_number, told_phase, work_in}
+use Rattle.sl_host.proofs.SmallLaws.{IsNextNamed, named_first, named_space, told_small}
 use Rattle.sl_host.specs.Hosts.{HostStands, HostState, IsFitPhase, IsLeaseOf, IsSettingOf, Steps}
 use Rattle.sl_host.specs.Phases.{IsDoingOf, IsPhaseOf, aim_in, command_of, is_answer_by, phase_after, process_in, sectors_asked}
 use Rattle.sl_host.specs.Sites.{IsLaidOut, IsSite, SiteState}
-use Rattle.sl_host.specs.Submits.{IsCallOf}
 use Rattle.sl_host.specs.Taken.{IsTaken, IsToNewest, answered_call}
 use Rattle.sl_host.specs.declared.phase.Doing.{Doing}
 use Rattle.sl_host.specs.declared.phase.FirstCommand.TheVariants.{Acquire as Acquires, Release as Releases}
@@ -15,11 +15,11 @@ use Rattle.sl_host.specs.declared.phase.FirstCommand.{FirstCommand}
 use Rattle.sl_host.specs.declared.phase.Phase.TheVariants.{Works}
 use Rattle.sl_host.specs.declared.phase.Phase.{Phase}
 use Rattle.sl_leases.specs.LeaseWork.{lease_next}
-use Rattle.sl_leases.specs.Leases.{known_of, lver_written}
+use Rattle.sl_leases.specs.Leases.{known_of}
 use Rattle.sl_leases.specs.declared.lease.LeaseNext.TheVariants.{AnswerJob, GrantJob, Nothing, ReadFor, WriteBlock, WriteLeader}
 use Rattle.sl_leases.specs.declared.lease.LeaseNext.{LeaseNext}
 use Rattle.sl_resource.specs.Bounds.{IsInstance}
-use Rattle.sl_resource.specs.Calls.{IsFitNext, IsReading, is_read_step, is_whole_read, sectors_for}
+use Rattle.sl_resource.specs.Calls.{IsFitNext, is_read_step, is_whole_read, sectors_for}
 use Rattle.sl_resource.specs.Stands.{LeaseStands, LeaseState}
 use Rattle.sl_trace.specs.Traces.{Answered, Setting, Submitted, Trace, is_answer_for, new_call}
 use Rattle.sl_trace.specs.declared.command.Command.{Command}
@@ -36,7 +36,8 @@ use Rattle.sl_trace.specs.declared.input.Answer.{Answer}
 use Rattle.sl_trace.specs.declared.input.Given.{Given}
 use Rattle.sl_trace.specs.declared.input.Input.TheVariants.{Answer as Told}
 use Rattle.sl_words.proofs.CaseLaws.{false_is_true, none_some, some_value}
-use Rattle.std.proofs.Common.{Bool, IsTrue, List, None, Option, Some, ap, arith, false, refl, subst, sym, true, [], length, ℕ, ◌+◌, ◌++◌, ◌*◌, ◌==◌, ◌∙◌, ◌∷◌, ◌≡◌}
+use Rattle.sl_world.specs.Daemons.{IsSmallStep}
+use Rattle.std.proofs.Common.{List, None, Option, Some, ap, false, refl, subst, sym, true, length, ℕ, ◌+◌, ◌++◌, ◌*◌, ◌==◌, ◌∙◌, ◌∷◌, ◌≡◌}
 
 -- ---- what steps read
 
@@ -191,6 +192,8 @@ core s call job kept d answered st es a before after next fx site setting first 
     = subst (λ n. ToldFirst st s.session s.resource call job d answered es a n) (sym comes) (told_first st s.session s.resource setting.first call job d answered es first a may) in
     record {
       due_is = effects ∙ sym told.due_is ∙ ap (λ n. due st es s.session.renewed (Told n a)) k.call;
+      small = subst IsSmallStep (sym effects) (told_small st s.session s.resource call d (named_space st s site setting) site.resource.named next t.fit
+          (subst (IsNextNamed s.session s.resource) (sym comes) (named_first st s.session s.resource setting.first call job d answered es first a may)));
       stands = record {
         site = site;
         setting = setting;
@@ -223,7 +226,7 @@ pub told_steps : (h : HostState) (kept : Doing) (st : Setting) (es : Trace) (a :
 told_steps h kept st es a after next fx works k fits t effects =
     let s = by_stand h.site h.next_call h.next_job kept k.stand k.answered st es a h.lease after next fx k.site k.setting k.first (subst (λ p. IsPhaseOf h.site.resource p k.stand) works k.phase)
     k.lease_of k.lease fits t (λ d job process. effects st d k.setting.laid job process) in
-    record { due_is = s.due_is; stands = s.stands }
+    record { due_is = s.due_is; small = s.small; stands = s.stands }
 
 -- What it keeps can stand in a record.
 pub fit_after : (hosts : ℕ) (kept : Doing) (call : ℕ) (next : LeaseNext) → IsFitNext next → IsFitPhase (phase_after hosts kept call next)

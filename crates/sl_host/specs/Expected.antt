@@ -10,6 +10,7 @@ use Rattle.sl_trace.specs.declared.effects.Effects.{Effects}
 use Rattle.sl_trace.specs.declared.input.Answer.{Answer}
 use Rattle.sl_trace.specs.declared.input.Input.TheVariants.{Answer as Told, Exit, Line, Spawned, Wake}
 use Rattle.sl_trace.specs.declared.input.Input.{Input}
+use Rattle.sl_world.specs.Daemons.{IsSmallStep}
 use Rattle.std.specs.Prelude.{Bool, false, true, ℕ, ◌&&◌, ◌==◌, ◌∷◌, ◌≡◌}
 
 -- Whether this call waits for an answer, and may be answered so.
@@ -26,7 +27,8 @@ expects h Wake = false
 expects h (Exit process) = false
 expects h (Spawned process ok) = false
 
--- The effects are due at this reading, and the host then stands for the trace with this entry.
+-- The effects are due at this reading, and few, and the host then stands for the trace with this entry.
 pub record StepsAt (h after : HostState) (st : Setting) (es : Trace) (now : ℕ) (i : Input) (fx : Effects) : Type 0 where
   pub due_is : fx ≡ due st es now i
+  pub small : IsSmallStep fx
   pub stands : HostStands after st (record { reading = now; input = i; effects = fx } ∷ es)

@@ -1,5 +1,4 @@
 -- What a host of the first path keeps, and for which traces it stands.
-use Rattle.sl_area.specs.Layouts.{layout_of}
 use Rattle.sl_due.specs.Due.{due}
 use Rattle.sl_first.specs.FirstPath.{IsFirst, first_entry, open_kept}
 use Rattle.sl_first.specs.FirstSteps.{FirstStands, Phase as Stand, first_self, work_in}
@@ -16,6 +15,7 @@ use Rattle.sl_trace.specs.declared.effects.Effects.{Effects}
 use Rattle.sl_trace.specs.declared.input.Input.{Input}
 use Rattle.sl_host.specs.declared.phase.FirstCommand.{FirstCommand}
 use Rattle.sl_trace.specs.declared.effects.LeaseStep.{LeaseStep}
+use Rattle.sl_world.specs.Daemons.{IsSmallStep}
 use Rattle.std.specs.Prelude.{List, None, Option, ℕ, ◌+◌, ◌++◌, ◌∷◌, ◌≡◌}
 
 -- What a host keeps.
@@ -64,7 +64,8 @@ begun command step lver sectors h = record h {
   phase = Works (record { job = h.next_job; command = command; step = step; call = h.next_call; lver = lver; sectors = sectors });
 }
 
--- The effects of a step are those that are due, and the host then stands for the trace with its entry.
+-- The effects of a step are those that are due, and few, and the host then stands for the trace with its entry.
 pub record Steps (h after : HostState) (st : Setting) (es : Trace) (i : Input) (fx : Effects) : Type 0 where
   pub due_is : fx ≡ due st es h.site.session.renewed i
+  pub small : IsSmallStep fx
   pub stands : HostStands after st (first_entry h.site.session i fx ∷ es)

@@ -6,10 +6,12 @@
 //!
 //! The host keeps no trace, but stands for each trace that led to it (`HostStands`): what it does in a step is what is due by that trace,
 //! and with the step's entry it stands for the longer one. Were it to do more, or less, or with another number, an audit of the trace
-//! would find it.
+//! would find it. So it is a daemon that a world may run (`daemon`): a step makes at most one call, grants at most one holding and answers
+//! at most one job, and what it writes are records.
 #![tactic(auto)]
 
 mod answers;
+mod daemon;
 mod effects;
 mod host;
 mod lines;
@@ -24,3 +26,6 @@ mod told;
 pub use host::Host;
 pub use phase::{Doing, FirstCommand, Phase};
 pub use site::Site;
+
+#[cfg(test)]
+mod tests;

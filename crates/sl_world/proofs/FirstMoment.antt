@@ -1,6 +1,6 @@
 -- What is kept at first tells of the world at moment 0.
 use Rattle.sl_area.specs.Layouts.{layout_of}
-use Rattle.sl_run.specs.Worlds.{Daemon, Machine, World, clock_reading, first_numbers, first_stamp, given_of, machine_of_header, new_daemon, setting_of, world_with}
+use Rattle.sl_run.specs.Worlds.{clock_reading, first_stamp, given_of, machine_of_header, new_daemon, world_with}
 use Rattle.sl_run.specs.declared.header.Header.{Header}
 use Rattle.sl_run.specs.declared.header.LockspaceLine.{LockspaceLine}
 use Rattle.sl_run.specs.declared.header.SessionLine.{SessionLine}
@@ -14,10 +14,10 @@ use Rattle.sl_words.proofs.ListLaws.{list_all_place}
 use Rattle.sl_world.specs.Beginning.{IsFirstHeader, first_setting, program_of}
 use Rattle.sl_world.specs.Changes.{first_kept}
 use Rattle.sl_world.specs.Kept.{Tells, WorldStands}
-use Rattle.std.proofs.Common.{ap, arith, refl, subst, sym, tests, ◌∙◌}
+use Rattle.std.proofs.Common.{ap, arith, refl, sym, ◌∙◌}
 use Rattle.std.proofs.lemmas.Bool.Decides.{Decides-eqb}
 use Rattle.std.specs.List.{list_all, range_with_len, cons_option}
-use Rattle.std.specs.Prelude.{Bool, Contains, List, None, Option, Some, bytes_eq, false, filter_map, find, map, option_map, true, [], ℕ, ◌*◌, ◌/◌, ◌==◌, ◌∷◌, ◌≡◌}
+use Rattle.std.specs.Prelude.{Bool, Contains, List, None, Option, Some, bytes_eq, false, filter_map, find, map, option_map, true, [], ℕ, ◌*◌, ◌==◌, ◌∷◌, ◌≡◌}
 
 reading_is : (n : ℕ) → reading_of (1000 * n) ≡ n
 reading_is n = omega arith

@@ -11,5 +11,6 @@ pub mod FirstWorld
 pub mod InitialLaws
 pub mod DiskLaws
 pub mod KeptLaws
+pub mod SmallLaws
 pub mod WorldLaws
 pub mod FirstMoment

@@ -2,15 +2,23 @@
 use Rattle.sl_run.specs.Worlds.{first_that}
 use Rattle.sl_run.specs.declared.event.Refusal.TheVariants.{MissingCall, MissingFlight, MissingLanding, MissingMachine, MissingPlace, MissingSample}
 use Rattle.sl_run.specs.declared.event.Refusal.{Refusal}
+use Rattle.sl_words.proofs.CaseLaws.{false_is_true}
 use Rattle.sl_words.specs.Words.{choose}
 use Rattle.sl_world.specs.FirstEvents.{answer_refusal, at_flight, flight_left, flight_numbered, flight_writes, land_refusal, on_first, sample_refusal}
 use Rattle.sl_world.specs.Kept.{DiskState, FlightState, is_on_disk}
-use Rattle.std.proofs.Common.{refl}
+use Rattle.std.proofs.Common.{refl, sym}
 use Rattle.std.proofs.lemmas.Bool.Decides.{Decides-eqb}
-use Rattle.std.specs.Prelude.{Bool, None, Option, Some, false, nat_lt, not, true, [], ℕ, ◌&&◌, ◌==◌, ◌∷◌, ◌≡◌}
+use Rattle.std.specs.Prelude.{Bool, None, Option, Some, false, is_none, is_some, nat_lt, not, true, [], ℕ, ◌&&◌, ◌==◌, ◌∷◌, ◌≡◌}
 
 pub some_none : (r : Refusal) → Some r ≡ None → ⊥
 some_none r h = cc
+
+-- What is found where there is some.
+pub none_by : {X : Type 0} (o : Option X) (b : Bool) → is_some o ≡ not b → b ≡ is_none o
+none_by None true h = refl
+none_by None false h = absurd (false_is_true h)
+none_by (Some x) true h = absurd (false_is_true (sym h))
+none_by (Some x) false h = refl
 
 -- The event is on machine 1, and passes there.
 passes_machine : (m : ℕ) (r : Option Refusal) (b : Bool) → (m == 1) ≡ b → elim b as (λ x. Option Refusal) [ false ↦ Some MissingMachine | true ↦ r ] ≡ None

@@ -7,15 +7,16 @@ use Rattle.sl_run.specs.declared.event.Event.{Event}
 use Rattle.sl_trace.specs.Traces.{Setting, Trace, no_effects}
 use Rattle.sl_trace.specs.declared.effects.Effects.{Effects}
 use Rattle.sl_trace.specs.declared.input.Input.{Input}
-use Rattle.sl_words.proofs.CaseLaws.{some_value}
+use Rattle.sl_words.proofs.CaseLaws.{false_is_true, some_value}
 use Rattle.sl_world.proofs.FirstWorld.{Quiet, Taking, answer_is_taken, land_quiet, refuses, sample_quiet}
 use Rattle.sl_world.proofs.Passing.{is_found, is_on_first}
+use Rattle.sl_world.proofs.SmallLaws.{none_few, nothing_called}
 use Rattle.sl_world.specs.Changes.{kept_after, kept_landed, kept_sampled, stepped_kept, told_ok}
 use Rattle.sl_world.specs.Daemons.{IsSmall, entry_of}
 use Rattle.sl_world.specs.FirstEvents.{answer_refusal, at_flight, flight_numbered, is_first_event, refusal_in}
-use Rattle.sl_world.specs.Kept.{Comes, IsSized, KeptState, WorldStands}
+use Rattle.sl_world.specs.Kept.{Comes, IsSized, KeptState, WorldStands, is_quiet}
 use Rattle.std.proofs.Common.{ap, refl, subst, sym, ◌∙◌}
-use Rattle.std.specs.Prelude.{Err, IfOk, None, Ok, OnOk, Result, Some, is_none, option_map, true, [], ℕ, ◌∷◌, ◌≡◌}
+use Rattle.std.specs.Prelude.{Err, IfOk, None, Ok, OnOk, Result, Some, false, is_none, option_map, true, [], ℕ, ◌∷◌, ◌≡◌}
 
 pub on_ok_to : {T E : Type 0} (r : Result T E) (P Q : Type 0) → (P → Q) → OnOk r P → OnOk r Q
 on_ok_to (Ok t) P Q f h = f h
@@ -31,7 +32,13 @@ comes_quiet : {D : Type 0} (stands : D → Setting → Trace → Type 0) (k : Ke
     → is_first_event e ≡ true → refusal_in k e ≡ None → Quiet stands k host w e → new ≡ kept_after e k → Comes stands w e no_effects new host
 comes_quiet stands k host w e new s first h q is =
     let P : KeptState → Type 0 = λ v. WorldStands stands v host (happens w e (no_effects ∷ [])) in
-    record { may = ap is_none (refuses stands k host w e s first ∙ h); effects = q.effects; stays = subst P (sym is) q.stays }
+    record {
+      may = ap is_none (refuses stands k host w e s first ∙ h);
+      effects = q.effects;
+      small = record { calls = none_few; grants = none_few; replies = none_few; spelled = nothing_called };
+      quiet = λ still. refl;
+      stays = subst P (sym is) q.stays;
+    }
 
 pub sample_comes : {D : Type 0} (stands : D → Setting → Trace → Type 0) (k : KeptState) (host : D) (w : World) (m c n : ℕ) (new : KeptState) → WorldStands stands k host w
     → IsSized k.disk → refusal_in k (Sample m c n) ≡ None → new ≡ kept_sampled n k → Comes stands w (Sample m c n) no_effects new host
@@ -50,14 +57,16 @@ abbrev pub Stepped : {D : Type 0} → (D → Setting → Trace → Type 0) → K
 Stepped stands k st es i host fx = (fx ≡ due st es k.reading i) × IsSmall es (entry_of k.reading i fx) × stands host st (entry_of k.reading i fx ∷ es)
 
 pub comes_taking : {D : Type 0} (stands : D → Setting → Trace → Type 0) (k : KeptState) (host : D) (w : World) (e : Event) (i : Input) (s : WorldStands stands k host w)
-    → is_first_event e ≡ true → refusal_in k e ≡ None → Taking stands k w e i s.daemon.setting s.daemon.trace
+    → is_first_event e ≡ true → is_quiet e ≡ false → refusal_in k e ≡ None → Taking stands k w e i s.daemon.setting s.daemon.trace
     → (then : D) (new : KeptState) (fx : Effects) → Stepped stands k s.daemon.setting s.daemon.trace i then fx → new ≡ stepped_kept e fx k
     → Comes stands w e fx new then
-comes_taking stands k host w e i s first h t then new fx x is =
+comes_taking stands k host w e i s first loud h t then new fx x is =
     let P : KeptState → Type 0 = λ v. WorldStands stands v then (happens w e (fx ∷ [])) in
     record {
       may = ap is_none (refuses stands k host w e s first ∙ h);
       effects = t.effects ∙ ap (λ y. y ∷ []) (sym x.0);
+      small = x.1.step;
+      quiet = λ still. absurd (false_is_true (sym loud ∙ still));
       stays = subst P (sym is) (t.stays then fx x.1 x.2);
     }
 

@@ -31,11 +31,18 @@ entry_of now i fx = record { reading = now; input = i; effects = fx }
 abbrev pub IsSpelled : Call → Type 0
 IsSpelled c = (r : Rec) → record_of c.op ≡ Some r → IsRecord r
 
+-- A step that makes at most one call and one grant, and answers at most one job.
+pub record IsSmallStep (fx : Effects) : Type 0 where
+  pub calls : length fx.calls ≤ 1
+  -- room for a grant is taken before the step
+  pub grants : length fx.grants ≤ 1
+  -- who counts replies by events counts one at most
+  pub replies : length fx.replies ≤ 1
+  -- what spells no record would land as torn bytes
+  pub spelled : (c : Call) → Contains fx.calls c → IsSpelled c
+
 -- What an entry of such a daemon never exceeds.
 pub record IsSmall (es : Trace) (e : Entry) : Type 0 where
   -- a second call without an answer would have to be kept beside the first
   pub calls : length (outstanding (e ∷ es)) ≤ 1
-  -- room for a grant is taken before the step
-  pub grants : length e.effects.grants ≤ 1
-  -- what spells no record would land as torn bytes
-  pub spelled : (c : Call) → Contains e.effects.calls c → IsSpelled c
+  pub step : IsSmallStep e.effects

@@ -1,6 +1,7 @@
 -- What the program keeps of a world, and the worlds that it stands for.
 use Rattle.sl_report.specs.Replay.{effects_of}
 use Rattle.sl_trace.specs.declared.effects.Effects.{Effects}
+use Rattle.sl_run.specs.declared.event.Event.TheVariants.{Land, Sample}
 use Rattle.sl_run.specs.declared.event.Event.{Event}
 use Rattle.sl_run.specs.Headers.{IsHeader}
 use Rattle.sl_area.specs.Layouts.{layout_of}
@@ -8,10 +9,11 @@ use Rattle.sl_run.specs.Events.{sectors_of, happens, may_happen}
 use Rattle.sl_run.specs.Worlds.{Course, Daemon, Fate, In_flight, Landed, Machine, World, content, initial_bytes, mebibyte, reading_now}
 use Rattle.sl_run.specs.declared.header.Header.{Header}
 use Rattle.sl_trace.specs.Connections.{connections}
-use Rattle.sl_trace.specs.Traces.{Setting, Trace, outstanding, same_place}
+use Rattle.sl_trace.specs.Traces.{Setting, Trace, no_effects, outstanding, same_place}
 use Rattle.sl_trace.specs.declared.effects.Call.{Call}
 use Rattle.sl_trace.specs.declared.effects.Grant.{Grant}
 use Rattle.sl_trace.specs.declared.input.Given.{Given}
+use Rattle.sl_world.specs.Daemons.{IsSmallStep}
 use Rattle.std.specs.List.{list_any, list_all}
 use Rattle.std.specs.Prelude.{Bool, Contains, List, None, Option, Some, bytes_eq, false, filter, find, is_none, length, map, nat_le, option_to_list, true, [], ℕ, ◌&&◌, ◌*◌, ◌+◌, ◌-◌, ◌∷◌, ◌≡◌, ◌≤◌, ◌==◌}
 
@@ -135,10 +137,18 @@ pub record WorldStands {D : Type 0} (stands : D → Setting → Trace → Type 0
   pub tells : Tells k w machine daemon
   pub runs : stands host daemon.setting daemon.trace
 
+-- Whether the event gives the daemon nothing.
+abbrev pub is_quiet : Event → Bool
+is_quiet (Sample m c n) = true
+is_quiet (Land m c) = true
+is_quiet e = false
+
 -- What an event comes to: its effects are those that are due, and what is kept then, and the host, stand for the world after it.
 pub record Comes {D : Type 0} (stands : D → Setting → Trace → Type 0) (w : World) (e : Event) (fx : Effects) (k : KeptState) (host : D) : Type 0 where
   pub may : may_happen w e ≡ true
   pub effects : effects_of w e ≡ fx ∷ []
+  pub small : IsSmallStep fx
+  pub quiet : is_quiet e ≡ true → fx ≡ no_effects
   pub stays : WorldStands stands k host (happens w e (fx ∷ []))
 
 -- They stand for some world.

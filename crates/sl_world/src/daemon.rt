@@ -16,8 +16,10 @@ pub trait Daemon: Drop {
     /// For which settings and traces it stands.
     ghost stands: { Self → Setting → Trace → Type 0 };
 
-    /// Takes one step.
+    /// Takes one step: the input may come at this reading, by a trace for which it stands. An `Err` is want of memory, or of numbers for
+    /// calls and jobs, and changes nothing.
     fn step(&mut self, now: u64, input: Input) -> Result<Effects, AllocError>
+        requires { (st : Setting) × (es : Trace) × stands self.old st es × IsCalmInput st es now input }
         ensures due { (st : Setting) → (es : Trace) → stands self.old st es → IsCalmInput st es now input → IfOk result (λ fx. (fx ≡ due st es now input)
             × IsSmall es (entry_of now input fx) × stands self.new st (entry_of now input fx ∷ es)) }
         ensures err { OnErr result (self.new ≡ self.old) };

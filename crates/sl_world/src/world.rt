@@ -33,7 +33,7 @@ use std::alloc::{AllocError, Global};
 pub enum ApplyError {
     /// It may not happen.
     Refused(Refusal),
-    /// There is no memory for it.
+    /// There is no memory for it, or the daemon has no number for it.
     OutOfMemory,
 }
 
@@ -67,7 +67,16 @@ impl<D: Daemon> World<D> {
         self.kept.refusal(event)
     }
 
-    /// The event happens, if nothing refuses it; the answer is what the daemon did. After an `Err` nothing has changed.
+    /// Whether the event may happen.
+    pub fn allows(&self, event: &Event) -> bool
+        requires { IsTrue (first_events.is_first_event event.now) }
+        ensures { (w : worlds.World) → WorldStands D.stands self.now.kept self.now.host w → result ≡ events.may_happen w event.now }
+    {
+        self.refusal(event).is_none()
+    }
+
+    /// The event happens, if nothing refuses it; the answer is what the daemon did: at most one call, one grant and one reply. A sample and
+    /// a landing give it nothing to do. After an `Err` nothing has changed.
     pub fn apply(&mut self, event: Event) -> Result<Effects, ApplyError>
         requires first { IsTrue (first_events.is_first_event event) }
         requires stands { StandsForSome D.stands self.old.kept self.old.host }
@@ -95,7 +104,7 @@ impl<D: Daemon> World<D> {
         self.kept.held()
     }
 
-    /// One step of the daemon. An `Err` is want of memory, and then nothing has changed.
+    /// One step of the daemon. An `Err` is want of memory or of numbers, and then nothing has changed.
     fn step(&mut self, input: Input, answered: bool) -> Result<Effects, AllocError>
         requires { (st : traces.Setting) × (es : traces.Trace) × D.stands self.old.host st es × IsCalmInput st es self.old.kept.reading input }
         ensures done { (st : traces.Setting) → (es : traces.Trace) → D.stands self.old.host st es → IsCalmInput st es self.old.kept.reading input

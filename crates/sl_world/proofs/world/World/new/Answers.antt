@@ -1,4 +1,4 @@
-use Rattle.sl_run.specs.Worlds.{World, world_with}
+use Rattle.sl_run.specs.Worlds.{world_with}
 use Rattle.sl_world.proofs.FirstMoment.{first_stands}
 use Rattle.sl_world.proofs.world.World.new.Goals as goal
 use Rattle.sl_world.specs.Beginning.{program_of}
