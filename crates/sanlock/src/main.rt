@@ -1,0 +1,42 @@
+//! The program: its words, standard input and standard output, and the status that it ends with.
+#![tactic(auto)]
+
+use sl_io::{ReadSource, WriteSink};
+use sl_top::{Devices, Status, run};
+use std::alloc::Alloc;
+use std::env::{self, Env};
+use std::io;
+use std::process::ExitCode;
+
+/// The devices of this machine; no command takes one yet.
+#[derive(Drop)]
+struct MachineDevices;
+
+impl Devices for MachineDevices {}
+
+/// The words of the command line, without the program's name.
+fn words<R: Env + Alloc>(rt: &R) -> io::Result<Vec<String<R::A>, R::A>> {
+    let mut words = Vec::new(rt.alloc());
+    for word in env::args(rt)?.skip(1) {
+        words.push(word)?;
+    }
+    Ok(words)
+}
+
+fn main(rt: HostRuntime) -> ExitCode {
+    let words = match words(&rt) {
+        Ok(words) => words,
+        Err(error) if error.kind() == io::ErrorKind::OutOfMemory => {
+            return ExitCode::from(Status::NoMemory.code());
+        }
+        Err(_) => Vec::new(rt.alloc()),
+    };
+    let mut source = ReadSource::new(rt.stdin());
+    let mut sink = WriteSink::new(rt.stdout());
+    let (status, _devices) = run(rt.alloc(), &words, &mut source, &mut sink, MachineDevices);
+    let status = match sink.flush() {
+        Ok(()) => status,
+        Err(_) => Status::WriteFault,
+    };
+    ExitCode::from(status.code())
+}
