@@ -1,1 +1,3 @@
 pub mod FirstLanguage
+pub mod FirstOrder
+pub mod Promises
