@@ -5,7 +5,7 @@ use Rattle.sl_first_schedule.specs.Promises.{RanksComeInOrder}
 use Rattle.sl_report.specs.Languages.{Language, whole_language}
 use Rattle.sl_report.specs.ReadingLines.{is_in_order}
 use Rattle.sl_report.specs.ScheduleLines.{AreaLine, BeginLine, ClockLine, DiskLine, HeaderLine, HostsLine, IdsLine, LeaseLine, MemberLine, TimeLine, VersionLine, count_of_rank, rank}
-use Rattle.std.proofs.Common.{Bool, List, None, Option, Some, [], ap, arith, cond, eqb, leb, ltb, map, refl, subst, sym, take, true, ℕ, ◌+◌, ◌&&◌, ◌<◌, ◌∙◌, ◌∷◌, ◌≡◌, ◌≤◌}
+use Rattle.std.proofs.Common.{Bool, List, None, Option, Some, [], ap, arith, cond, false, map, refl, take, true, ℕ, ◌+◌, ◌&&◌, ◌<◌, ◌∙◌, ◌∷◌, ◌≡◌}
 use Rattle.std.proofs.lemmas.Bool.{agree_below, agree_below_at}
 use Rattle.std.specs.List.{count_by, fold, list_all, range_with_len}
 use Rattle.std.specs.Prelude.{nat_le, nat_lt, ◌==◌}
@@ -21,7 +21,7 @@ room_in None n = true
 room_in (Some most) n = nat_lt n most
 
 -- What `is_in_order` asks of the ranks.
-abbrev order_in : Language → List ℕ → ℕ → Bool
+abbrev pub order_in : Language → List ℕ → ℕ → Bool
 order_in lang rs k =
     list_all (λ r. nat_le r k) rs && list_all (λ j. nat_le (lang.least j) (count_in rs j)) (range_with_len 0 k) && room_in (lang.most k) (count_in rs k)
 
@@ -47,13 +47,13 @@ same_room (Some top) m n same = ap (λ n. nat_lt n top) same
 all_same : (a b c d e f : Bool) → a ≡ d → b ≡ e → c ≡ f → (a && b && c) ≡ (d && e && f)
 all_same a b c d e f p q r = cc
 
-by_ranks : (lang : Language) (ls : List HeaderLine) (k : ℕ) → is_in_order lang ls k ≡ order_in lang (map rank ls) k
+pub by_ranks : (lang : Language) (ls : List HeaderLine) (k : ℕ) → is_in_order lang ls k ≡ order_in lang (map rank ls) k
 by_ranks lang ls k =
     all_same _ _ _ _ _ _ (none_later ls k)
     (same_tests (λ j. nat_le (lang.least j) (count_of_rank ls j)) (λ j. nat_le (lang.least j) (count_in (map rank ls) j)) (λ j. ap (nat_le (lang.least j)) (same_count ls j)) (range_with_len 0 k))
     (same_room (lang.most k) (count_of_rank ls k) (count_in (map rank ls) k) (same_count ls k))
 
-rank_small : (l : HeaderLine) → rank l < 10
+pub rank_small : (l : HeaderLine) → rank l < 10
 rank_small VersionLine = omega arith
 rank_small (TimeLine io fire land rho grace) = omega arith
 rank_small (HostsLine m) = omega arith
@@ -74,6 +74,10 @@ first_table n k few small =
 
 whole_table : (n : ℕ) → n < 9 → order_in whole_language (take n first_ranks) (rank_behind n) ≡ true
 whole_table n few = agree_below_at (λ n. order_in whole_language (take n first_ranks) (rank_behind n)) (λ n. true) 9 n refl few
+
+-- Behind `begin` nothing is in order.
+pub full_table : (k : ℕ) → k < 10 → order_in first_language (take 9 first_ranks) k ≡ false
+full_table k small = agree_below_at (λ k. order_in first_language (take 9 first_ranks) k) (λ k. false) 10 k refl small
 
 pub ranks_in_order : RanksComeInOrder
 ranks_in_order =

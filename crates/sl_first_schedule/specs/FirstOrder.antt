@@ -1,10 +1,10 @@
 -- The order of a header's lines in the language that is read so far, and lists of lines that were read one after the other.
 use Rattle.sl_first_schedule.specs.FirstLanguage.{first_language}
 use Rattle.sl_report.specs.ReadingLines.{header_refusal}
-use Rattle.sl_report.specs.ScheduleLines.{HeaderLine, header_forms}
+use Rattle.sl_report.specs.ScheduleLines.{HeaderLine, header_forms, rank}
 use Rattle.sl_report.specs.Schedules.{default_area, default_sector}
 use Rattle.sl_text.specs.Forms.{made_by}
-use Rattle.std.specs.Prelude.{List, None, Some, slice_index_or, [], ℕ, ◌++◌, ◌∷◌, ◌≡◌}
+use Rattle.std.specs.Prelude.{List, None, Some, length, map, slice_index_or, take, [], ℕ, ◌++◌, ◌∷◌, ◌≡◌, ◌≤◌}
 
 -- The ranks of a header's lines: one of each, but the clocks'.
 abbrev pub first_ranks : List ℕ
@@ -28,3 +28,8 @@ AreLinesBehind before (l ∷ ls) = IsLineBehind before l × AreLinesBehind (befo
 -- The lines of a header, up to some place.
 abbrev pub AreFirstLines : List HeaderLine → Type 0
 AreFirstLines ls = AreLinesBehind [] ls
+
+-- There are at most nine of them, of the first ranks in order.
+pub record HaveRanks (ls : List HeaderLine) : Type 0 where
+  pub few : length ls ≤ 9
+  pub ranks : map rank ls ≡ take (length ls) first_ranks

@@ -1,3 +1,4 @@
 pub mod FirstLanguage
 pub mod FirstOrder
+pub mod FirstHeaders
 pub mod Promises

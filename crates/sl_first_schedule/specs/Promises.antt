@@ -1,10 +1,13 @@
 -- What is proved of the schedules that are read so far.
+use Rattle.sl_first_schedule.specs.FirstHeaders.{FirstHeader}
 use Rattle.sl_first_schedule.specs.FirstLanguage.{first_language}
-use Rattle.sl_first_schedule.specs.FirstOrder.{first_ranks, rank_behind}
+use Rattle.sl_first_schedule.specs.FirstOrder.{AreFirstLines, HaveRanks, IsLineBehind, first_ranks, rank_behind}
 use Rattle.sl_report.specs.Languages.{whole_language}
 use Rattle.sl_report.specs.ReadingLines.{is_in_order}
 use Rattle.sl_report.specs.ScheduleLines.{HeaderLine, rank}
-use Rattle.std.specs.Prelude.{List, map, take, true, ℕ, ◌==◌, ◌≡◌, ◌≤◌}
+use Rattle.sl_report.specs.Schedules.{Header_read, NumberedLine, numbered_lines, read_header}
+use Rattle.sl_run.specs.declared.header.Header.{Header}
+use Rattle.std.specs.Prelude.{List, map, take, true, [], ℕ, ◌++◌, ◌==◌, ◌∷◌, ◌≡◌, ◌≤◌}
 
 -- Behind n lines of the first ranks exactly the next rank is in order; the whole language takes it too.
 pub record RanksComeInOrder : Type 0 where
@@ -12,3 +15,14 @@ pub record RanksComeInOrder : Type 0 where
       is_in_order first_language ls (rank l) ≡ (rank l == rank_behind n)
   pub whole : (n : ℕ) (ls : List HeaderLine) (l : HeaderLine) → n ≤ 8 → map rank ls ≡ take n first_ranks → rank l ≡ rank_behind n →
       is_in_order whole_language ls (rank l) ≡ true
+
+-- Lines that are taken one behind the other have the first ranks in order, and so do they with one more.
+pub record LinesComeInOrder : Type 0 where
+  pub ranks : (ls : List HeaderLine) → AreFirstLines ls → HaveRanks ls
+  pub more : (ls : List HeaderLine) (l : HeaderLine) → AreFirstLines ls → IsLineBehind ls l → AreFirstLines (ls ++ l ∷ [])
+
+-- Each header that is read, from its first line on or behind lines that were taken, is a first header.
+pub record HeadersAreFirst : Type 0 where
+  pub source : (source : List ℕ) (h : Header) (rest : List NumberedLine) → read_header first_language [] 1 (numbered_lines source) ≡ Header_read h rest → FirstHeader h
+  pub behind : (lines : List NumberedLine) (ls : List HeaderLine) (next : ℕ) (h : Header) (rest : List NumberedLine) → AreFirstLines ls →
+      read_header first_language ls next lines ≡ Header_read h rest → FirstHeader h

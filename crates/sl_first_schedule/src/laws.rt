@@ -1,8 +1,18 @@
 //! Headers that are read so far.
 
-ghost use Rattle.sl_first_schedule.specs.Promises.{RanksComeInOrder};
+ghost use Rattle.sl_first_schedule.specs.Promises.{HeadersAreFirst, LinesComeInOrder, RanksComeInOrder};
 
 /// A header has exactly one line of each rank but the clocks', in order.
 pub fn ranks_come_in_order()
     ensures { RanksComeInOrder }
+{}
+
+/// So have lines that are taken one behind the other.
+pub fn lines_come_in_order()
+    ensures { LinesComeInOrder }
+{}
+
+/// What is read is the header of one machine, one disk, one lockspace, one resource and one session.
+pub fn headers_are_first()
+    ensures { HeadersAreFirst }
 {}
