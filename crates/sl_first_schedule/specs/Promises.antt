@@ -2,10 +2,12 @@
 use Rattle.sl_first_schedule.specs.FirstHeaders.{FirstHeader}
 use Rattle.sl_first_schedule.specs.FirstLanguage.{first_language}
 use Rattle.sl_first_schedule.specs.FirstOrder.{AreFirstLines, HaveRanks, IsLineBehind, first_ranks, rank_behind}
+use Rattle.sl_first_schedule.specs.FirstWorld.{BeginsFirst}
 use Rattle.sl_report.specs.Languages.{whole_language}
 use Rattle.sl_report.specs.ReadingLines.{is_in_order}
 use Rattle.sl_report.specs.ScheduleLines.{HeaderLine, rank}
 use Rattle.sl_report.specs.Schedules.{Header_read, NumberedLine, numbered_lines, read_header}
+use Rattle.sl_run.specs.Headers.{IsHeader}
 use Rattle.sl_run.specs.declared.header.Header.{Header}
 use Rattle.std.specs.Prelude.{List, map, take, true, [], ℕ, ◌++◌, ◌==◌, ◌∷◌, ◌≡◌, ◌≤◌}
 
@@ -26,3 +28,8 @@ pub record HeadersAreFirst : Type 0 where
   pub source : (source : List ℕ) (h : Header) (rest : List NumberedLine) → read_header first_language [] 1 (numbered_lines source) ≡ Header_read h rest → FirstHeader h
   pub behind : (lines : List NumberedLine) (ls : List HeaderLine) (next : ℕ) (h : Header) (rest : List NumberedLine) → AreFirstLines ls →
       read_header first_language ls next lines ≡ Header_read h rest → FirstHeader h
+
+-- A world begins with each first header: one machine that is up and runs one daemon of the first path.
+pub record FirstHeadersBegin : Type 0 where
+  pub header : (h : Header) → FirstHeader h → IsHeader h
+  pub begins : (h : Header) (f : FirstHeader h) → BeginsFirst h f

@@ -1,6 +1,6 @@
 //! Headers that are read so far.
 
-ghost use Rattle.sl_first_schedule.specs.Promises.{HeadersAreFirst, LinesComeInOrder, RanksComeInOrder};
+ghost use Rattle.sl_first_schedule.specs.Promises.{FirstHeadersBegin, HeadersAreFirst, LinesComeInOrder, RanksComeInOrder};
 
 /// A header has exactly one line of each rank but the clocks', in order.
 pub fn ranks_come_in_order()
@@ -15,4 +15,9 @@ pub fn lines_come_in_order()
 /// What is read is the header of one machine, one disk, one lockspace, one resource and one session.
 pub fn headers_are_first()
     ensures { HeadersAreFirst }
+{}
+
+/// With such a header a world begins whose one daemon is of the first path.
+pub fn first_headers_begin()
+    ensures { FirstHeadersBegin }
 {}
