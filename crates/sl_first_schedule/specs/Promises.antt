@@ -9,7 +9,8 @@ use Rattle.sl_report.specs.ScheduleLines.{HeaderLine, rank}
 use Rattle.sl_report.specs.Schedules.{Header_read, NumberedLine, numbered_lines, read_header}
 use Rattle.sl_run.specs.Headers.{IsHeader}
 use Rattle.sl_run.specs.declared.header.Header.{Header}
-use Rattle.std.specs.Prelude.{List, map, take, true, [], ℕ, ◌++◌, ◌==◌, ◌∷◌, ◌≡◌, ◌≤◌}
+use Rattle.sl_text.specs.Forms.{as_bytes}
+use Rattle.std.specs.Prelude.{List, codes, map, take, true, [], ℕ, ◌++◌, ◌==◌, ◌∷◌, ◌≡◌, ◌≤◌}
 
 -- Behind n lines of the first ranks exactly the next rank is in order; the whole language takes it too.
 pub record RanksComeInOrder : Type 0 where
@@ -33,3 +34,13 @@ pub record HeadersAreFirst : Type 0 where
 pub record FirstHeadersBegin : Type 0 where
   pub header : (h : Header) → FirstHeader h → IsHeader h
   pub begins : (h : Header) (f : FirstHeader h) → BeginsFirst h f
+
+-- The lines of such a header.
+abbrev pub some_header : List (List ℕ)
+some_header =
+    codes "sanlock 1" ∷ codes "time 1000 60000 10000 10 60000" ∷ codes "hosts 1" ∷ codes "ids 2" ∷ codes "disk /d 2" ∷ codes "lockspace space /d 0"
+    ∷ codes "resource space lease /d 1048576" ∷ codes "session 1 space 1 host" ∷ codes "begin" ∷ []
+
+-- It is read, to its end.
+abbrev pub SomeHeaderIsRead : Type 0
+SomeHeaderIsRead = (h : Header) × (read_header first_language [] 1 (numbered_lines (as_bytes some_header)) ≡ Header_read h [])

@@ -1,6 +1,6 @@
 //! Headers that are read so far.
 
-ghost use Rattle.sl_first_schedule.specs.Promises.{FirstHeadersBegin, HeadersAreFirst, LinesComeInOrder, RanksComeInOrder};
+ghost use Rattle.sl_first_schedule.specs.Promises.{FirstHeadersBegin, HeadersAreFirst, LinesComeInOrder, RanksComeInOrder, SomeHeaderIsRead};
 
 /// A header has exactly one line of each rank but the clocks', in order.
 pub fn ranks_come_in_order()
@@ -20,4 +20,9 @@ pub fn headers_are_first()
 /// With such a header a world begins whose one daemon is of the first path.
 pub fn first_headers_begin()
     ensures { FirstHeadersBegin }
+{}
+
+/// Some header is read.
+pub fn some_header_is_read()
+    ensures { SomeHeaderIsRead }
 {}
