@@ -68,7 +68,7 @@ ends l h = absurd cc
 same_header : (a b : Header) (xs ys : List NumberedLine) → Header_read a xs ≡ Header_read b ys → a ≡ b
 same_header a b xs ys e = cc
 
-no_header : (n : ℕ) (why : Refusal) (h : Header) (rest : List NumberedLine) → Header_refused n why ≡ Header_read h rest → ⊥
+pub no_header : (n : ℕ) (why : Refusal) (h : Header) (rest : List NumberedLine) → Header_refused n why ≡ Header_read h rest → ⊥
 no_header n why h rest e = absurd cc
 
 -- What follows a line that isn't refused.

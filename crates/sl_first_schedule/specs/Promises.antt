@@ -4,13 +4,13 @@ use Rattle.sl_first_schedule.specs.FirstLanguage.{first_language}
 use Rattle.sl_first_schedule.specs.FirstOrder.{AreFirstLines, HaveRanks, IsLineBehind, first_ranks, rank_behind}
 use Rattle.sl_first_schedule.specs.FirstWorld.{BeginsFirst}
 use Rattle.sl_report.specs.Languages.{whole_language}
-use Rattle.sl_report.specs.ReadingLines.{is_in_order}
+use Rattle.sl_report.specs.ReadingLines.{header_refusal, is_in_order}
 use Rattle.sl_report.specs.ScheduleLines.{HeaderLine, rank}
 use Rattle.sl_report.specs.Schedules.{Header_read, NumberedLine, numbered_lines, read_header}
 use Rattle.sl_run.specs.Headers.{IsHeader}
 use Rattle.sl_run.specs.declared.header.Header.{Header}
 use Rattle.sl_text.specs.Forms.{as_bytes}
-use Rattle.std.specs.Prelude.{List, codes, map, take, true, [], ℕ, ◌++◌, ◌==◌, ◌∷◌, ◌≡◌, ◌≤◌}
+use Rattle.std.specs.Prelude.{List, codes, length, map, take, true, [], ℕ, ◌++◌, ◌==◌, ◌∷◌, ◌≡◌, ◌≤◌}
 
 -- Behind n lines of the first ranks exactly the next rank is in order; the whole language takes it too.
 pub record RanksComeInOrder : Type 0 where
@@ -44,3 +44,10 @@ some_header =
 -- It is read, to its end.
 abbrev pub SomeHeaderIsRead : Type 0
 SomeHeaderIsRead = (h : Header) × (read_header first_language [] 1 (numbered_lines (as_bytes some_header)) ≡ Header_read h [])
+
+-- The whole language refuses a line of the next rank for what the first language refuses it, and reads each header that the first reads.
+pub record HeadersAreWhole : Type 0 where
+  pub refusals : (sector area : ℕ) (ls : List HeaderLine) (l : HeaderLine) → length ls ≤ 8 → map rank ls ≡ take (length ls) first_ranks →
+      rank l ≡ rank_behind (length ls) → header_refusal whole_language sector area ls l ≡ header_refusal first_language sector area ls l
+  pub read : (lines : List NumberedLine) (ls : List HeaderLine) (next : ℕ) (h : Header) (rest : List NumberedLine) → AreFirstLines ls →
+      read_header first_language ls next lines ≡ Header_read h rest → read_header whole_language ls next lines ≡ Header_read h rest

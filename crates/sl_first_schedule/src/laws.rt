@@ -1,6 +1,6 @@
 //! Headers that are read so far.
 
-ghost use Rattle.sl_first_schedule.specs.Promises.{FirstHeadersBegin, HeadersAreFirst, LinesComeInOrder, RanksComeInOrder, SomeHeaderIsRead};
+ghost use Rattle.sl_first_schedule.specs.Promises.{FirstHeadersBegin, HeadersAreFirst, HeadersAreWhole, LinesComeInOrder, RanksComeInOrder, SomeHeaderIsRead};
 
 /// A header has exactly one line of each rank but the clocks', in order.
 pub fn ranks_come_in_order()
@@ -25,4 +25,9 @@ pub fn first_headers_begin()
 /// Some header is read.
 pub fn some_header_is_read()
     ensures { SomeHeaderIsRead }
+{}
+
+/// The whole language reads it as the same header.
+pub fn headers_are_whole()
+    ensures { HeadersAreWhole }
 {}
