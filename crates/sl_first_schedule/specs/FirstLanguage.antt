@@ -4,7 +4,6 @@ use Rattle.sl_first.specs.FirstWords.{first_forms}
 use Rattle.sl_report.specs.Languages.{Language}
 use Rattle.sl_report.specs.ScheduleLines.{ClockLine, HeaderLine, HostsLine}
 use Rattle.sl_run.specs.Worlds.{Program}
-use Rattle.sl_run.specs.declared.event.Event.{Event}
 use Rattle.sl_run.specs.declared.event.Refusal.TheVariants.{Syntax}
 use Rattle.sl_run.specs.declared.header.Header.{Header}
 use Rattle.sl_run.specs.declared.header.ResourceLine.{ResourceLine}
@@ -14,7 +13,7 @@ use Rattle.sl_trace.specs.declared.command.ResourceArg.{ResourceArg}
 use Rattle.sl_words.specs.Words.{choose}
 use Rattle.sl_world.specs.Beginning.{program_of}
 use Rattle.sl_world.specs.FirstEvents.{is_first_event}
-use Rattle.std.specs.Prelude.{Bool, List, Option, Some, false, flat_map, if◌then◌else◌, option_and_then, true, ℕ, ◌==◌}
+use Rattle.std.specs.Prelude.{Bool, List, Some, false, flat_map, if◌then◌else◌, option_and_then, true, ℕ, ◌==◌}
 
 -- The resource as a command names it.
 abbrev pub arg_of : ResourceLine → ResourceArg
