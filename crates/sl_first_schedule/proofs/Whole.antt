@@ -55,7 +55,7 @@ no_comment cs l h =
     ∙ ap (λ fs. made_by fs p.1) (no_verb p.0) in
     no_value l (made_by (header_forms default_area) (words_of (35 ∷ cs))) h none
 
-not_skipped : (text : List ℕ) (l : HeaderLine) → made_by (header_forms default_area) (words_of text) ≡ Some l → is_skipped text ≡ false
+pub not_skipped : (text : List ℕ) (l : HeaderLine) → made_by (header_forms default_area) (words_of text) ≡ Some l → is_skipped text ≡ false
 not_skipped [] l h = absurd (nothing_made l h)
 not_skipped (c ∷ cs) l h =
     is_false (c == 35) (λ t. no_comment cs l (subst (λ (d : ℕ). made_by (header_forms default_area) (words_of (d ∷ cs)) ≡ Some l) (eqb-true c 35 t) h))

@@ -7,20 +7,26 @@ ghost use Rattle.sl_first_schedule.specs.FirstLanguage.{first_language, is_first
 ghost use Rattle.sl_report.specs.Schedules.{read_header};
 ghost use Rattle.sl_schedule.specs.HeaderReads.{header_seen};
 ghost use Rattle.sl_schedule.specs.Lines.{line_seen};
-ghost use Rattle.sl_replay.specs.FirstLines.{IsHeaderRead, is_next_line, next_rank};
-ghost use Rattle.std.specs.Prelude.{IfOk, [], ◌<◌, ◌≡◌};
+ghost use Rattle.sl_replay.specs.FirstLines.{IsHeaderRead, is_next_line};
+ghost use Rattle.sl_first_schedule.specs.FirstOrder.{rank_behind};
+ghost use Rattle.std.specs.Prelude.{IfOk, [], ◌≡◌};
 
 use sl_run::Header;
 use sl_schedule::header_line::{HeaderLine, header_line};
-use sl_schedule::{Added, HeaderReader, Line, Lines, is_skipped, rank};
+use sl_schedule::{Added, HeaderReader, Line, Lines, rank};
 use std::alloc::{AllocError, Global};
 
+/// The ranks of a header's lines: one of each, but the clocks'.
+const RANKS: [u32; 9] = [0, 1, 2, 3, 5, 6, 7, 8, 9];
+
 /// The rank of the line that must follow so many lines.
-fn next_rank(taken: u32) -> u32
-    requires { taken < 2 ^ 31 }
-    ensures { result ≡ next_rank taken }
+fn rank_behind(taken: usize) -> u32
+    ensures { result ≡ rank_behind taken }
 {
-    if taken < 4 { taken } else { taken + 1 }
+    match RANKS.get(taken) {
+        Some(rank) => *rank,
+        None => 9,
+    }
 }
 
 /// Whether the line says what one machine has.
@@ -35,15 +41,14 @@ fn is_first_line(line: &HeaderLine) -> bool
 }
 
 /// Whether the line is the one that must follow so many lines.
-fn is_next_line(taken: u32, line: &Line) -> bool
-    requires { taken < 2 ^ 31 }
+fn is_next_line(taken: usize, line: &Line) -> bool
     ensures { result ≡ is_next_line taken (line_seen line.now) }
 {
-    if line.refusal().is_some() || is_skipped(line.text) {
+    if line.refusal().is_some() {
         return false;
     }
     match header_line(line.text) {
-        Some(read) => rank(&read) == next_rank(taken) && is_first_line(&read),
+        Some(read) => rank(&read) == rank_behind(taken) && is_first_line(&read),
         None => false,
     }
 }
