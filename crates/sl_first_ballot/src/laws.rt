@@ -1,0 +1,8 @@
+//! Which laws the ballots of a daemon of one session and one resource keep, whatever answers come.
+
+ghost use Rattle.sl_first_ballot.specs.Promises.{AnswersKeepWays, GrantsAreLawful, LeadersAreLawful, LinesKeepWays, ModesAreLawful, Phase2IsLawful, WaysBegin};
+
+/// Before the first entry there is no call.
+pub fn ways_begin()
+    ensures { WaysBegin }
+{}
