@@ -1,3 +1,5 @@
 pub mod Newest
 pub mod Stages
+pub mod Comes
+pub mod Answered
 pub mod WaysLaws
