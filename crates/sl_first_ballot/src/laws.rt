@@ -6,3 +6,13 @@ ghost use Rattle.sl_first_ballot.specs.Promises.{AnswersKeepWays, GrantsAreLawfu
 pub fn ways_begin()
     ensures { WaysBegin }
 {}
+
+/// A line keeps how the newest calls stand.
+pub fn lines_keep_ways()
+    ensures { LinesKeepWays }
+{}
+
+/// So does an answer, where a ballot that it begins is above each free that was submitted.
+pub fn answers_keep_ways()
+    ensures { AnswersKeepWays }
+{}
