@@ -3,3 +3,5 @@ pub mod Stages
 pub mod Comes
 pub mod Answered
 pub mod WaysLaws
+pub mod Phase2
+pub mod Leaders

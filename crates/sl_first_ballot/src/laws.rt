@@ -16,3 +16,13 @@ pub fn lines_keep_ways()
 pub fn answers_keep_ways()
     ensures { AnswersKeepWays }
 {}
+
+/// Phase 2's write has the value that its read of phase 1 tells, and its read comes when the write has been answered.
+pub fn phase2_is_lawful()
+    ensures { Phase2IsLawful }
+{}
+
+/// A leader is taken after a ballot of its instance that ended with the session, and freed while nothing is held under it.
+pub fn leaders_are_lawful()
+    ensures { LeadersAreLawful }
+{}
