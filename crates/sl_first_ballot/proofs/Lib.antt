@@ -5,3 +5,6 @@ pub mod Answered
 pub mod WaysLaws
 pub mod Phase2
 pub mod Leaders
+pub mod Modes
+pub mod Elsewhere
+pub mod Grants

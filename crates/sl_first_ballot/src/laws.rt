@@ -26,3 +26,13 @@ pub fn phase2_is_lawful()
 pub fn leaders_are_lawful()
     ensures { LeadersAreLawful }
 {}
+
+/// A block shows no shared mode: the session never has one.
+pub fn modes_are_lawful()
+    ensures { ModesAreLawful }
+{}
+
+/// A grant is under an instance that its session won, whose leader it took and has not freed, and its ballot saw no other's shared mode.
+pub fn grants_are_lawful()
+    ensures { GrantsAreLawful }
+{}
