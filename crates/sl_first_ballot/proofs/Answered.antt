@@ -6,14 +6,12 @@ use Rattle.sl_first.specs.FirstSteps.{Course, Freeing, Reading_area, Reading_pha
 use Rattle.sl_first_ballot.proofs.Comes.{IsFresh, NextStands, acquires, area_stands, phase1_stands, phase2_stands, proposed_lver}
 use Rattle.sl_first_ballot.proofs.Newest.{lver_is, read_writes_no_block, submitted_passed}
 use Rattle.sl_first_ballot.proofs.Stages.{asked1_own, asked2_own}
-use Rattle.sl_first_ballot.specs.Ways.{HasLeader, IsClear, IsWon, ReadsPhase1, ReadsPhase2, StepStands, TakesLeader, WritesPhase1, WritesPhase2, ballot_place, proposed}
+use Rattle.sl_first_ballot.specs.Ways.{IsClear, IsWon, ReadsPhase1, ReadsPhase2, StepStands, TakesLeader, WritesPhase1, WritesPhase2, ballot_place, proposed}
 use Rattle.sl_law.specs.LawfulBlock.{ReadAfter}
 use Rattle.sl_leases.specs.Ballots.{same_owner, stop_of, value_of}
 use Rattle.sl_leases.specs.LeaseWork.{after_phase1, after_phase2, lease_next}
 use Rattle.sl_leases.specs.Leases.{Area_read, Phase1_read, Phase2_read, Read_before_free, StepKind, block_submitted, blocks_given, ended_ballot, is_at, kind_of_step, lease_step, lver_written, same_kind, shared_elsewhere, value_in_end}
 use Rattle.sl_leases.specs.declared.lease.LeaseNext.TheVariants.{Nothing}
-use Rattle.sl_leases.specs.declared.lease.LeaseNext.{LeaseNext}
-use Rattle.sl_leases.specs.declared.lease.Stop.{Stop}
 use Rattle.sl_sector.specs.declared.sector.Block.{Block}
 use Rattle.sl_sector.specs.declared.sector.Owner.{Owner}
 use Rattle.sl_trace.specs.Traces.{Setting, Submitted, Trace, is_answer_for}

@@ -1,11 +1,10 @@
 -- What may come next is what the calls so far allow.
-use Rattle.sl_area.specs.Layouts.{Layout}
-use Rattle.sl_area.specs.Places.{area_blocks, blocks_in, leader_of}
+use Rattle.sl_area.specs.Places.{area_blocks, leader_of}
 use Rattle.sl_first.specs.FirstSteps.{first_known, first_over, first_self}
 use Rattle.sl_first_ballot.specs.Ways.{HasLeader, IsClear, IsWon, StepStands, ballot_place, proposed}
 use Rattle.sl_leases.specs.Ballots.{phase1_block, phase2_block, same_owner, stop_of, value_of}
 use Rattle.sl_leases.specs.LeaseWork.{leader_for, after_phase1, after_phase2, area_next, begin_next, begin_or_refuse, lost_next, named_area_next, phase1_next, phase2_next, whole_area_next, won_next}
-use Rattle.sl_leases.specs.Leases.{instance_for, is_at, is_leader_of, kind_of_step, mode_gen_of, own_known, shared_elsewhere}
+use Rattle.sl_leases.specs.Leases.{instance_for, is_at, is_leader_of, kind_of_step, own_known, shared_elsewhere}
 use Rattle.sl_leases.specs.Leases.{freed}
 use Rattle.sl_leases.specs.declared.lease.Aim.TheVariants.{Acquires}
 use Rattle.sl_leases.specs.declared.lease.Aim.{Aim}
@@ -19,8 +18,7 @@ use Rattle.sl_sector.specs.declared.sector.Leader.{Leader}
 use Rattle.sl_sector.specs.declared.sector.Owner.{Owner}
 use Rattle.sl_sector.specs.declared.sector.Rec.TheVariants.{BlockIs, LeaderIs}
 use Rattle.sl_trace.specs.Traces.{Setting, Submitted, Trace}
-use Rattle.sl_trace.specs.declared.effects.LeaseStep.TheVariants.{Phase1Write, Phase2Write, TakeLeader}
-use Rattle.sl_trace.specs.declared.effects.LeaseStep.{LeaseStep}
+use Rattle.sl_trace.specs.declared.effects.LeaseStep.TheVariants.{Phase1Write}
 use Rattle.sl_trace.specs.declared.effects.Mode.TheVariants.{Exclusive}
 use Rattle.sl_trace.specs.declared.effects.Op.TheVariants.{ReadSectors, WriteRecord}
 use Rattle.sl_trace.specs.declared.input.Given.{Given}

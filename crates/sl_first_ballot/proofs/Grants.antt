@@ -1,27 +1,34 @@
 -- A grant has its leader, its ballot and a clear read of the blocks behind it.
+use Rattle.sl_first.proofs.FirstLaws.{told_first}
 use Rattle.sl_first.proofs.Knowledge.{lease_calls_first}
-use Rattle.sl_first.specs.FirstPath.{IsFirst, first_session}
-use Rattle.sl_first.specs.FirstSteps.{FirstStands, Holds, first_grant, first_self}
+use Rattle.sl_first.specs.FirstPath.{Doing, IsFirst, first_entry, first_session, heeded_call}
+use Rattle.sl_first.specs.FirstSteps.{FirstStands, Holds, Works, first_aim, first_grant, first_next, first_self, process_of, told_effects, told_number, told_phase}
 use Rattle.sl_first_ballot.proofs.Comes.{proposed_mbal}
 use Rattle.sl_first_ballot.proofs.Elsewhere.{contains_cases, contains_none, no_other_shared, no_other_torn}
 use Rattle.sl_first_ballot.proofs.Leaders.{won_among}
 use Rattle.sl_first_ballot.proofs.Newest.{block_is, leader_is, leader_is_no_block, read_writes_no_block}
 use Rattle.sl_first_ballot.proofs.Phase2.{block_same, me_first}
 use Rattle.sl_first_ballot.proofs.Stages.{taken_ended, taken_freed}
+use Rattle.sl_first_ballot.proofs.WaysLaws.{answer_ways}
 use Rattle.sl_first_ballot.specs.Promises.{GrantIsLawful}
 use Rattle.sl_first_ballot.specs.Ways.{HasLeader, IsClear, IsWon, Numbered, ReadsPhase1, ReadsPhase2, WaysStand, proposed}
 use Rattle.sl_first_law.proofs.Areas.{inside_first, inside_more}
-use Rattle.sl_law.specs.LawfulGrant.{HasTaken}
-use Rattle.sl_law.specs.LawfulModes.{LawfulExclusiveGrant, NoneShared}
-use Rattle.sl_leases.specs.Leases.{Phase1_read, Phase1_write, Phase2_read, block_written, freed, is_area_read, is_at, is_block_read, lease_calls, spot_of}
+use Rattle.sl_law.specs.LawfulModes.{NoneShared}
+use Rattle.sl_leases.specs.Leases.{Phase1_read, Phase2_read, block_written, freed, is_area_read, is_at, is_block_read, lease_calls, spot_of}
+use Rattle.sl_leases.specs.declared.lease.LeaseNext.TheVariants.{GrantJob, WriteBlock}
+use Rattle.sl_leases.specs.declared.lease.LeaseNext.{LeaseNext}
 use Rattle.sl_sector.specs.declared.sector.Block.{Block}
 use Rattle.sl_sessions.specs.Sessions.{me}
-use Rattle.sl_trace.specs.Traces.{Setting, Submitted, Trace, submitted}
+use Rattle.sl_trace.specs.Traces.{Setting, Submitted, Trace, is_answer_for}
 use Rattle.sl_trace.specs.declared.command.ResourceArg.{ResourceArg}
+use Rattle.sl_trace.specs.declared.effects.LeaseStep.TheVariants.{Phase1Write}
+use Rattle.sl_trace.specs.declared.effects.Mode.{Mode}
+use Rattle.sl_trace.specs.declared.input.Answer.{Answer}
 use Rattle.sl_trace.specs.declared.input.Given.{Given}
-use Rattle.sl_words.proofs.CaseLaws.{no_value}
+use Rattle.sl_trace.specs.declared.input.Input.TheVariants.{Answer as Told}
+use Rattle.sl_words.proofs.CaseLaws.{false_is_true, no_value}
 use Rattle.std.proofs.Common.{ap, arith, inl, inr, refl, subst, sym, ◌∙◌}
-use Rattle.std.specs.Prelude.{Bool, Contains, IsTrue, List, None, Option, Some, [], false, length, true, ℕ, ◌+◌, ◌<◌, ◌∷◌, ◌≡◌, ◌≤◌, ◌||◌, ◌⊎◌}
+use Rattle.std.specs.Prelude.{Bool, Contains, IsTrue, List, None, Option, Some, [], false, length, true, ℕ, ◌+◌, ◌<◌, ◌∷◌, ◌≡◌, ◌≤◌, ◌||◌}
 
 -- ---- numbers rise
 
@@ -171,3 +178,25 @@ pub grants_lawful : (st : Setting) (g : Given) (r : ResourceArg) → IsFirst st 
     → FirstStands st g r call job (Holds p lver) answered t → WaysStand st g answered (Holds p lver) → GrantIsLawful st g t (first_grant g r p lver)
 grants_lawful st g r f call job p lver answered t h w =
     grant_by st g r t answered p lver (lease_calls_first st g r t h.stands.calm h.stands.mine ∙ h.stands.calls) (me_first st g r t h.stands.mine) w.numbered w.newest
+
+-- ---- the entry that gives it
+
+abbrev writes_block : LeaseNext → Bool
+writes_block (WriteBlock step b) = true
+writes_block next = false
+
+no_write : (mode : Mode) (lver : ℕ) (b : Block) → GrantJob mode lver ≡ WriteBlock Phase1Write b → ⊥
+no_write mode lver b is = false_is_true (ap (λ n. writes_block n) is)
+
+pub grant_given : (st : Setting) (g : Given) (r : ResourceArg) → IsFirst st g r → (call job : ℕ) (d : Doing) (answered : List Submitted) (es : Trace)
+    → FirstStands st g r call job (Works d) answered es → WaysStand st g answered (Works d) → (a : Answer) → is_answer_for st a d.call.call.op ≡ true
+    → (mode : Mode) (lver : ℕ) → first_next st g es d answered (first_aim d.command) a ≡ GrantJob mode lver
+    → GrantIsLawful st g (first_entry g (Told d.call.call.number a) (told_effects st g r call d (GrantJob mode lver)) ∷ es) (first_grant g r (process_of d.command) lver)
+grant_given st g r f call job d answered es h w a fits mode lver comes =
+    let ms : List Submitted = heeded_call es g a d.call ∷ answered in
+    let stands = subst (λ n. FirstStands st g r (told_number call n) job (told_phase st g r call es d n) ms (first_entry g (Told d.call.call.number a) (told_effects st g r call d n) ∷ es)) comes
+    (told_first st g r f call job d answered es h a fits).stands in
+    let ways = subst (λ n. WaysStand st g ms (told_phase st g r call es d n)) comes
+    (answer_ways st g r f call job d answered es h w a fits (λ b is. absurd (no_write mode lver b (sym comes ∙ is)))) in
+    grants_lawful st g r f (told_number call (GrantJob mode lver)) job (process_of d.command) lver ms
+    (first_entry g (Told d.call.call.number a) (told_effects st g r call d (GrantJob mode lver)) ∷ es) stands ways

@@ -1,15 +1,13 @@
 -- What is true of the lease's calls where they stand so.
-use Rattle.sl_area.specs.Layouts.{Layout}
 use Rattle.sl_first.specs.FirstSteps.{first_self}
 use Rattle.sl_first_ballot.proofs.Newest.{block_is, block_is_no_leader, ended_before, ended_here, freed_held, freed_passed, last_here, last_passed, last_write_of, leader_is, read_writes_no_block, read_writes_no_leader, submitted_here, submitted_passed}
-use Rattle.sl_first_ballot.specs.Ways.{HasLeader, IsClear, IsWon, ReadsPhase1, ReadsPhase2, WritesPhase1, WritesPhase2, proposed}
+use Rattle.sl_first_ballot.specs.Ways.{HasLeader, IsClear, IsWon, ReadsPhase1, ReadsPhase2, proposed}
 use Rattle.sl_leases.specs.Leases.{block_submitted, ended_ballots, freed}
 use Rattle.sl_sector.specs.declared.sector.Block.{Block}
-use Rattle.sl_sector.specs.declared.sector.Owner.{Owner}
 use Rattle.sl_trace.specs.Traces.{Setting, Submitted}
 use Rattle.sl_trace.specs.declared.input.Given.{Given}
 use Rattle.std.proofs.Common.{ap, arith, refl, subst, sym, ◌∙◌}
-use Rattle.std.specs.Prelude.{Contains, List, None, Option, Some, ℕ, ◌<◌, ◌∷◌, ◌≡◌}
+use Rattle.std.specs.Prelude.{Contains, List, Option, Some, ℕ, ◌<◌, ◌≡◌}
 
 -- ---- phase 1
 

@@ -1,14 +1,13 @@
 -- How the newest calls stand is kept by each line and by each answer.
-use Rattle.sl_first.specs.FirstPath.{Doing, IsFirst, first_entry, heeded_call, next_doing}
-use Rattle.sl_first.specs.FirstSteps.{FirstStands, Holds, Idle, LineStep, Phase, Works, acquire_line, answers, first_aim, first_next, first_read, last_write, release_by, release_line, told_phase}
+use Rattle.sl_first.specs.FirstPath.{Doing, IsFirst, heeded_call, next_doing}
+use Rattle.sl_first.specs.FirstSteps.{FirstStands, Holds, Idle, Phase, Works, acquire_line, answers, first_aim, first_next, first_read, last_write, release_by, release_line, told_phase}
 use Rattle.sl_first_ballot.proofs.Answered.{next_stands}
 use Rattle.sl_first_ballot.proofs.Comes.{IsFresh, NextStands}
 use Rattle.sl_first_ballot.specs.Promises.{WaysBegin}
-use Rattle.sl_first_ballot.specs.Ways.{HasLeader, Numbered, StepStands, WaysStand}
-use Rattle.sl_leases.specs.Leases.{Area_read, Leader_freed, Leader_taken, Mode_cleared, Mode_set, Phase1_read, Phase1_write, Phase2_read, Phase2_write, Read_before_free, StepKind, freed, kind_of_step, same_kind}
+use Rattle.sl_first_ballot.specs.Ways.{Numbered, StepStands, WaysStand}
+use Rattle.sl_leases.specs.Leases.{Area_read, Leader_freed, Leader_taken, Mode_cleared, Mode_set, Phase1_read, Phase1_write, Phase2_read, Phase2_write, Read_before_free, StepKind, kind_of_step, same_kind}
 use Rattle.sl_leases.specs.declared.lease.LeaseNext.TheVariants.{AnswerJob, GrantJob, Nothing, ReadFor, WriteBlock, WriteLeader}
 use Rattle.sl_leases.specs.declared.lease.LeaseNext.{LeaseNext}
-use Rattle.sl_sector.specs.declared.sector.Block.{Block}
 use Rattle.sl_trace.specs.Traces.{Setting, Submitted, Trace, is_answer_for, new_call, submitted}
 use Rattle.sl_trace.specs.declared.command.Command.TheVariants.{Acquire, Release}
 use Rattle.sl_trace.specs.declared.command.Command.{Command}
@@ -21,8 +20,8 @@ use Rattle.sl_trace.specs.declared.effects.Work.TheVariants.{ForJob}
 use Rattle.sl_trace.specs.declared.input.Answer.{Answer}
 use Rattle.sl_trace.specs.declared.input.Given.{Given}
 use Rattle.sl_trace.specs.declared.reply.Reply.TheVariants.{BadCommand as Misread}
-use Rattle.std.proofs.Common.{ap, arith, refl, sym, ◌∙◌}
-use Rattle.std.specs.Prelude.{Bool, List, false, length, true, [], ℕ, ◌+◌, ◌==◌, ◌∷◌, ◌≡◌}
+use Rattle.std.proofs.Common.{ap, refl, sym, ◌∙◌}
+use Rattle.std.specs.Prelude.{Bool, List, false, length, true, ℕ, ◌+◌, ◌==◌, ◌∷◌, ◌≡◌}
 
 pub ways_begin : WaysBegin
 ways_begin st g r f = record { numbered = tt; newest = tt }

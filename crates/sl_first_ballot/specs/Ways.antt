@@ -29,7 +29,7 @@ Numbered st (m ∷ ms) = (m.call.number ≡ st.first.call + length ms) × Number
 pub record WritesPhase1 (g : Given) (c : Submitted) (ms : List Submitted) (own : Block) : Type 0 where
   pub step : is_at Phase1_write c ≡ true
   pub wrote : c.call.op ≡ WriteRecord (BlockIs own)
-  -- no free of the instance was submitted, nor is one before phase 1 is written anew
+  -- whoever saw a free may have begun the next instance
   pub fresh : freed ms < own.lver
   pub host : own.host ≡ g.id
   pub unshared : own.shared ≡ false
