@@ -3,9 +3,8 @@ use Rattle.sl_area.specs.Places.{area_blocks, leader_of}
 use Rattle.sl_first.specs.FirstSteps.{first_known, first_over, first_self}
 use Rattle.sl_first_ballot.specs.Ways.{HasLeader, IsClear, IsWon, StepStands, ballot_place, proposed}
 use Rattle.sl_leases.specs.Ballots.{phase1_block, phase2_block, same_owner, stop_of, value_of}
-use Rattle.sl_leases.specs.LeaseWork.{leader_for, after_phase1, after_phase2, area_next, begin_next, begin_or_refuse, lost_next, named_area_next, phase1_next, phase2_next, whole_area_next, won_next}
-use Rattle.sl_leases.specs.Leases.{instance_for, is_at, is_leader_of, kind_of_step, own_known, shared_elsewhere}
-use Rattle.sl_leases.specs.Leases.{freed}
+use Rattle.sl_leases.specs.LeaseWork.{after_phase1, after_phase2, area_next, begin_next, begin_or_refuse, leader_for, lost_next, named_area_next, phase1_next, phase2_next, whole_area_next, won_next}
+use Rattle.sl_leases.specs.Leases.{freed, instance_for, is_at, is_leader_of, kind_of_step, own_known, shared_elsewhere}
 use Rattle.sl_leases.specs.declared.lease.Aim.TheVariants.{Acquires}
 use Rattle.sl_leases.specs.declared.lease.Aim.{Aim}
 use Rattle.sl_leases.specs.declared.lease.Instance.TheVariants.{Begins, HeldAlready}

@@ -1,7 +1,6 @@
 -- What a clear read of the blocks shows of other hosts.
 use Rattle.sl_first.specs.FirstSteps.{first_known}
-use Rattle.sl_leases.specs.Ballots.{known_block, stop_among, stop_of, torn_host, with_own}
-use Rattle.sl_leases.specs.Ballots.{ballot_blocks}
+use Rattle.sl_leases.specs.Ballots.{ballot_blocks, known_block, stop_among, stop_of, torn_host, with_own}
 use Rattle.sl_leases.specs.Leases.{block_of_host, is_shared_by_other}
 use Rattle.sl_leases.specs.declared.lease.Stop.TheVariants.{BlockTorn}
 use Rattle.sl_leases.specs.declared.lease.Stop.{Stop}

@@ -15,8 +15,8 @@ use Rattle.sl_trace.specs.Traces.{Setting, Submitted, Trace, is_answer_for, spot
 use Rattle.sl_trace.specs.declared.command.ResourceArg.{ResourceArg}
 use Rattle.sl_trace.specs.declared.effects.Grant.{Grant}
 use Rattle.sl_trace.specs.declared.effects.LeaseStep.TheVariants.{Phase1Write, Phase2Read, Phase2Write}
-use Rattle.sl_trace.specs.declared.input.Answer.{Answer}
 use Rattle.sl_trace.specs.declared.effects.Mode.{Mode}
+use Rattle.sl_trace.specs.declared.input.Answer.{Answer}
 use Rattle.sl_trace.specs.declared.input.Given.{Given}
 use Rattle.sl_trace.specs.declared.input.Input.TheVariants.{Answer as Told}
 use Rattle.sl_trace.specs.declared.reply.Reply.TheVariants.{BadCommand as Misread}
@@ -73,7 +73,7 @@ pub record GrantIsLawful (st : Setting) (g : Given) (t : Trace) (grant : Grant) 
   pub not_freed : freed (lease_calls st t (first_session g) (spot_of_grant grant)) < grant.lver
   pub exclusive : LawfulExclusiveGrant st t (first_session g) (spot_of_grant grant) grant.lver
 
--- The grant has that in the entry that gives it, whatever is known of frees, and as long as the daemon holds the resource.
+-- The grant has that in the entry that gives it, and as long as the daemon holds the resource.
 pub record GrantsAreLawful : Type 0 where
   pub given : (st : Setting) (g : Given) (r : ResourceArg) → IsFirst st g r → (call job : ℕ) (d : Doing) (answered : List Submitted) (es : Trace) →
       FirstStands st g r call job (Works d) answered es → WaysStand st g answered (Works d) → (a : Answer) → is_answer_for st a d.call.call.op ≡ true →
