@@ -1,0 +1,10 @@
+pub mod Newest
+pub mod Stages
+pub mod Comes
+pub mod Answered
+pub mod WaysLaws
+pub mod Phase2
+pub mod Leaders
+pub mod Modes
+pub mod Elsewhere
+pub mod Grants
