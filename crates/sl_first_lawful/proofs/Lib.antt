@@ -1,1 +1,2 @@
-mod Beginning
+pub mod Beginning
+pub mod Calls
