@@ -2,7 +2,7 @@
 use Rattle.sl_first.specs.FirstPath.{IsCalm, IsFirst, is_first_call}
 use Rattle.sl_first_law.proofs.Calmness.{keeps_recovery, keeps_watchdog}
 use Rattle.sl_first_law.proofs.Deltas.{keeps_delta}
-use Rattle.sl_first_lawful.specs.Keeping.{CallIsLawful}
+use Rattle.sl_first_lawful.specs.Keeping.{EntryIsLawful}
 use Rattle.sl_law.specs.Lawful.{Lawful}
 use Rattle.sl_law.specs.LawfulArea.{LawfulArea}
 use Rattle.sl_law.specs.LawfulBlock.{LawfulBlock}
@@ -25,16 +25,6 @@ use Rattle.sl_trace.specs.declared.input.Given.{Given}
 use Rattle.sl_trace.specs.declared.reply.Reply.TheVariants.{Value}
 use Rattle.std.specs.List.{list_all}
 use Rattle.std.specs.Prelude.{Contains, IsSome, List, Some, true, ℕ, ◌∷◌, ◌≡◌}
-
--- What is asked of an entry beside its session: of each call, of each grant, of each reply.
-pub record EntryIsLawful (st : Setting) (es : Trace) (e : Entry) : Type 0 where
-  pub owned : (c : Call) → Contains e.effects.calls c → IsSome (session_numbered st (e ∷ es) c.session)
-  pub spelled : (c : Call) (w : Rec) → Contains e.effects.calls c → record_of c.op ≡ Some w → IsRecord w
-  pub calls : EachCall st (CallIsLawful st) es e
-  pub granting : LawfulGrant st es e
-  pub modes : (x : Grant) (s : Session) → Contains e.effects.grants x → session_numbered st (e ∷ es) x.session ≡ Some s → LawfulModeGrant st es (e ∷ es) s x
-  pub replies : (a : JobReply) (lver seq : ℕ) (bytes : List ℕ) → Contains e.effects.replies a → a.reply ≡ Value lver seq bytes →
-      LawfulValueReply st es e a.job lver seq bytes
 
 keeps_calls : (st : Setting) (es : Trace) (e : Entry) → EntryIsLawful st es e → LawfulCalls st es e
 keeps_calls st es e h = record { owned = h.owned; alive = λ k c s at is. (h.calls k c s at is).alive; spelled = h.spelled }

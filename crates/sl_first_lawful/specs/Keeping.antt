@@ -1,4 +1,4 @@
--- All that the laws say of one call.
+-- All that the laws say of one call, and of an entry beside its session.
 use Rattle.sl_law.specs.LawfulArea.{LawfulAreaWrite, LawfulLeaseRead, is_area_work, is_block_work, is_delta_record, open_block_work}
 use Rattle.sl_law.specs.LawfulBlock.{LawfulBlockWrite, LawfulPhase2Read}
 use Rattle.sl_law.specs.LawfulCalls.{may_submit}
@@ -16,6 +16,19 @@ use Rattle.sl_sessions.specs.Sessions.{Session, has_open_delta, is_active, is_de
 use Rattle.sl_trace.specs.Traces.{Setting, Submitted, Trace, is_write, record_of}
 use Rattle.sl_trace.specs.declared.effects.Purpose.TheVariants.{ValueRead}
 use Rattle.std.specs.Prelude.{IsFalse, IsTrue, Some, false, not, true, [], ℕ, ◌&&◌, ◌≡◌}
+
+use Rattle.sl_law.specs.LawfulGrant.{LawfulGrant}
+use Rattle.sl_law.specs.LawfulModes.{LawfulModeGrant}
+use Rattle.sl_law.specs.LawfulValue.{LawfulValueReply}
+use Rattle.sl_law.specs.Saying.{EachCall}
+use Rattle.sl_sector.specs.Records.{IsRecord}
+use Rattle.sl_sessions.specs.Sessions.{session_numbered}
+use Rattle.sl_trace.specs.declared.effects.Call.{Call}
+use Rattle.sl_trace.specs.declared.effects.Entry.{Entry}
+use Rattle.sl_trace.specs.declared.effects.Grant.{Grant}
+use Rattle.sl_trace.specs.declared.effects.JobReply.{JobReply}
+use Rattle.sl_trace.specs.declared.reply.Reply.TheVariants.{Value}
+use Rattle.std.specs.Prelude.{Contains, IsSome, List, ◌∷◌}
 
 -- One field for what each law asks of a call of this session, at the trace as it stands there.
 pub record CallIsLawful (st : Setting) (t : Trace) (s : Session) (c : Submitted) : Type 0 where
@@ -35,3 +48,13 @@ pub record CallIsLawful (st : Setting) (t : Trace) (s : Session) (c : Submitted)
   pub few : IsTrue (is_leaving st t s) → is_write c.call.op ≡ true → IsTrue (is_leaving_write c.call.purpose)
   pub value : (v : ValueRec) → value_written c ≡ Some v → LawfulValueWrite st t s (spot_of_call st.layout c) v
   pub value_read : (j : ℕ) → c.call.purpose ≡ ValueRead j → LawfulValueRead st t s (spot_of_call st.layout c) c
+
+-- What is asked of an entry beside its session: of each call, of each grant, of each reply.
+pub record EntryIsLawful (st : Setting) (es : Trace) (e : Entry) : Type 0 where
+  pub owned : (c : Call) → Contains e.effects.calls c → IsSome (session_numbered st (e ∷ es) c.session)
+  pub spelled : (c : Call) (w : Rec) → Contains e.effects.calls c → record_of c.op ≡ Some w → IsRecord w
+  pub calls : EachCall st (CallIsLawful st) es e
+  pub granting : LawfulGrant st es e
+  pub modes : (x : Grant) (s : Session) → Contains e.effects.grants x → session_numbered st (e ∷ es) x.session ≡ Some s → LawfulModeGrant st es (e ∷ es) s x
+  pub replies : (a : JobReply) (lver seq : ℕ) (bytes : List ℕ) → Contains e.effects.replies a → a.reply ≡ Value lver seq bytes →
+      LawfulValueReply st es e a.job lver seq bytes
