@@ -16,9 +16,8 @@ use Rattle.sl_sector.specs.declared.sector.Rec.{Rec}
 use Rattle.sl_trace.specs.Traces.{Setting, Submitted, Trace, submitted}
 use Rattle.sl_trace.specs.declared.command.ResourceArg.{ResourceArg}
 use Rattle.sl_trace.specs.declared.effects.LeaseStep.{LeaseStep}
-use Rattle.sl_trace.specs.declared.effects.Spot.{Spot}
 use Rattle.sl_trace.specs.declared.input.Given.{Given}
-use Rattle.std.proofs.Common.{ap, refl, subst, sym, ◌∙◌}
+use Rattle.std.proofs.Common.{refl, subst, sym}
 use Rattle.std.specs.Prelude.{IsTrue, List, Some, ℕ, ◌≡◌}
 
 -- It is on the resource's area.
@@ -48,9 +47,10 @@ call_lawful st g r t h j step c one ms is at brings =
       placed = k.placed;
       apart = k.apart;
       active = λ work. k.active;
-      writes = λ w writes other.
-          (subst (λ p. IsTrue (is_area_work p)) (sym one.for_job) refl,
-          area_write st g r t h j step c one ms is at w (subst (λ s. record_offset st (first_session g) s w ≡ Some c.call.offset) spot (at.written w writes)) (at.named w writes));
+      writes = λ w writes other. (
+        subst (λ p. IsTrue (is_area_work p)) (sym one.for_job) refl,
+        area_write st g r t h j step c one ms is at w (subst (λ s. record_offset st (first_session g) s w ≡ Some c.call.offset) spot (at.written w writes)) (at.named w writes),
+      );
       alone = λ work. k.alone;
       reads = subst (λ s. IsRightRead st s c c.call.purpose) spot (subst (λ p. IsRightRead st (spot_of r) c p) (sym one.for_job) at.reads);
       block = λ b writes. subst (λ s. LawfulBlockAt st t (first_session g) s c b) spot (brings.block b writes);

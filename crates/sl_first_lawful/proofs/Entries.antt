@@ -7,24 +7,15 @@ use Rattle.sl_law.specs.Lawful.{Lawful}
 use Rattle.sl_law.specs.LawfulArea.{LawfulArea}
 use Rattle.sl_law.specs.LawfulBlock.{LawfulBlock}
 use Rattle.sl_law.specs.LawfulCalls.{LawfulCalls}
-use Rattle.sl_law.specs.LawfulGrant.{LawfulGrant}
 use Rattle.sl_law.specs.LawfulLeader.{LawfulLeader}
-use Rattle.sl_law.specs.LawfulModes.{LawfulModeGrant, LawfulModes}
-use Rattle.sl_law.specs.LawfulValue.{LawfulValue, LawfulValueReply}
-use Rattle.sl_law.specs.Saying.{EachCall}
-use Rattle.sl_sector.specs.Records.{IsRecord}
-use Rattle.sl_sector.specs.declared.sector.Rec.{Rec}
-use Rattle.sl_sessions.specs.Sessions.{Session, session_numbered}
-use Rattle.sl_trace.specs.Traces.{FollowsTrace, Setting, Trace, record_of, submitted}
+use Rattle.sl_law.specs.LawfulModes.{LawfulModes}
+use Rattle.sl_law.specs.LawfulValue.{LawfulValue}
+use Rattle.sl_trace.specs.Traces.{FollowsTrace, Setting, Trace, submitted}
 use Rattle.sl_trace.specs.declared.command.ResourceArg.{ResourceArg}
-use Rattle.sl_trace.specs.declared.effects.Call.{Call}
 use Rattle.sl_trace.specs.declared.effects.Entry.{Entry}
-use Rattle.sl_trace.specs.declared.effects.Grant.{Grant}
-use Rattle.sl_trace.specs.declared.effects.JobReply.{JobReply}
 use Rattle.sl_trace.specs.declared.input.Given.{Given}
-use Rattle.sl_trace.specs.declared.reply.Reply.TheVariants.{Value}
 use Rattle.std.specs.List.{list_all}
-use Rattle.std.specs.Prelude.{Contains, IsSome, List, Some, true, ℕ, ◌∷◌, ◌≡◌}
+use Rattle.std.specs.Prelude.{true, ◌∷◌, ◌≡◌}
 
 keeps_calls : (st : Setting) (es : Trace) (e : Entry) → EntryIsLawful st es e → LawfulCalls st es e
 keeps_calls st es e h = record { owned = h.owned; alive = λ k c s at is. (h.calls k c s at is).alive; spelled = h.spelled }

@@ -16,16 +16,13 @@ use Rattle.sl_first_lawful.specs.Promises.{KeepsLaws}
 use Rattle.sl_law.specs.LawfulGrant.{LawfulGrant, LawfulGrantTo}
 use Rattle.sl_law.specs.LawfulModes.{LawfulModeGrant}
 use Rattle.sl_law.specs.Saying.{cut_at}
-use Rattle.sl_sector.specs.Records.{IsRecord}
-use Rattle.sl_sector.specs.declared.sector.Rec.{Rec}
 use Rattle.sl_sessions.specs.Sessions.{Session, session_numbered}
-use Rattle.sl_trace.specs.Traces.{Setting, Submitted, Trace, holdings, new_call, record_of, same_place}
+use Rattle.sl_trace.specs.Traces.{Setting, Submitted, Trace, holdings, new_call, record_of}
 use Rattle.sl_trace.specs.declared.command.ResourceArg.{ResourceArg}
 use Rattle.sl_trace.specs.declared.effects.Call.{Call}
 use Rattle.sl_trace.specs.declared.effects.End.{End}
 use Rattle.sl_trace.specs.declared.effects.Entry.{Entry}
 use Rattle.sl_trace.specs.declared.effects.Grant.{Grant}
-use Rattle.sl_trace.specs.declared.effects.JobReply.{JobReply}
 use Rattle.sl_trace.specs.declared.effects.LeaseStep.{LeaseStep}
 use Rattle.sl_trace.specs.declared.effects.Purpose.TheVariants.{Lease}
 use Rattle.sl_trace.specs.declared.effects.Work.TheVariants.{ForJob}
@@ -36,7 +33,6 @@ use Rattle.sl_trace.specs.declared.reply.Reply.{Reply}
 use Rattle.sl_words.proofs.CaseLaws.{some_value}
 use Rattle.sl_words.proofs.WordLaws.{and_true}
 use Rattle.std.proofs.Common.{ap, refl, subst, sym, ◌∙◌}
-use Rattle.std.specs.List.{list_all}
 use Rattle.std.specs.Prelude.{Contains, IsSome, List, None, Some, false, length, true, [], ℕ, ◌∷◌, ◌≡◌}
 
 -- ---- no grant

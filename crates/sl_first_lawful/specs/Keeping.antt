@@ -16,7 +16,6 @@ use Rattle.sl_sessions.specs.Sessions.{Session, has_open_delta, is_active, is_de
 use Rattle.sl_trace.specs.Traces.{Setting, Submitted, Trace, is_write, record_of}
 use Rattle.sl_trace.specs.declared.effects.Purpose.TheVariants.{ValueRead}
 use Rattle.std.specs.Prelude.{IsFalse, IsTrue, Some, false, not, true, [], ℕ, ◌&&◌, ◌≡◌}
-
 use Rattle.sl_law.specs.LawfulGrant.{LawfulGrant}
 use Rattle.sl_law.specs.LawfulModes.{LawfulModeGrant}
 use Rattle.sl_law.specs.LawfulValue.{LawfulValueReply}
