@@ -1,6 +1,6 @@
 //! Which laws a daemon of one session and one resource keeps, whatever comes.
 
-ghost use Rattle.sl_first_law.specs.Promises.{CallsFindTheirPlace, CallsKeepLaws, ConnectionsStand, NamesAreVerified};
+ghost use Rattle.sl_first_law.specs.Promises.{AnswersFindTheirPlace, CallsFindTheirPlace, CallsKeepLaws, ConnectionsStand, NamesAreVerified};
 
 /// A call for the lease is its session's, which is active and has nothing else at work on the area; it touches no id's sector and no value.
 pub fn calls_keep_laws()
@@ -20,4 +20,9 @@ pub fn connections_stand()
 /// Where an entry makes a call, each call before it is answered, and nothing is held.
 pub fn calls_find_their_place()
     ensures { CallsFindTheirPlace }
+{}
+
+/// So it is where an answer goes on with a call.
+pub fn answers_find_their_place()
+    ensures { AnswersFindTheirPlace }
 {}
