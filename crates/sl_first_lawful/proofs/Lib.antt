@@ -5,3 +5,4 @@ pub mod Shapes
 pub mod Placing
 pub mod Lines
 pub mod Answers
+pub mod Bringing
