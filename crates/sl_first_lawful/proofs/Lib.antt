@@ -6,3 +6,4 @@ pub mod Placing
 pub mod Lines
 pub mod Answers
 pub mod Bringing
+pub mod Standing
