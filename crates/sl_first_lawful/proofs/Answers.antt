@@ -63,7 +63,7 @@ lease_plain (NoProcess p) q = refl
 lease_plain (Joined g) q = refl
 
 -- Once the work's call is answered.
-abbrev told_so : Trace → Given → Answer → Doing → List Submitted → List Submitted
+abbrev pub told_so : Trace → Given → Answer → Doing → List Submitted → List Submitted
 told_so es g a d answered = heeded_call es g a d.call ∷ answered
 
 -- The own block is written.

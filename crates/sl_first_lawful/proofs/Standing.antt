@@ -2,10 +2,10 @@
 use Rattle.sl_first.proofs.FirstLaws.{told_first}
 use Rattle.sl_first.proofs.Knowledge.{lease_calls_first}
 use Rattle.sl_first.proofs.LineLaws.{release_first}
-use Rattle.sl_first.specs.FirstPath.{Doing, IsFirst, first_effects, first_entry, heeded_call, next_doing}
+use Rattle.sl_first.specs.FirstPath.{Doing, IsFirst, first_effects, first_entry, next_doing}
 use Rattle.sl_first.specs.FirstSteps.{FirstStands, Holds, Idle, LineFirst, Phase, ToldFirst, Works, acquire_line, answers, blocks_read, first_aim, first_grant, first_next, first_read, last_write, leader_write, own_write, process_of, release_by, release_line, told_effects, told_phase}
 use Rattle.sl_first_law.proofs.Finding.{at_answer, at_call, calls_before}
-use Rattle.sl_first_lawful.proofs.Answers.{answer_keeps}
+use Rattle.sl_first_lawful.proofs.Answers.{answer_keeps, told_so}
 use Rattle.sl_first_lawful.proofs.Bringing.{work_brings}
 use Rattle.sl_first_lawful.proofs.Lines.{acquire_keeps, misread_keeps, release_keeps}
 use Rattle.sl_first_lawful.specs.Bringing.{BallotBrings, CallBrings, EntryBrings, PhaseBrings}
@@ -113,10 +113,6 @@ release_stays st g r f call job phase answered es h text p small reads brings wa
 -- The entry that brings the answer.
 abbrev told_entry : Setting → Given → ResourceArg → ℕ → Doing → Answer → LeaseNext → Entry
 told_entry st g r call d a next = first_entry g (Told d.call.call.number a) (told_effects st g r call d next)
-
--- Once the work's call is answered.
-abbrev told_so : Trace → Given → Answer → Doing → List Submitted → List Submitted
-told_so es g a d answered = heeded_call es g a d.call ∷ answered
 
 told_brings : (st : Setting) (g : Given) (r : ResourceArg) → IsFirst st g r → (call job : ℕ) (d : Doing) (answered : List Submitted) (es : Trace) (a : Answer) (next : LeaseNext)
     → ToldFirst st g r call job d answered es a next → BallotBrings st g r (told_so es g a d answered) next
