@@ -10,8 +10,8 @@ use Rattle.sl_sector.specs.declared.sector.Owner.{Owner}
 use Rattle.sl_words.proofs.CaseLaws.{false_is_true}
 use Rattle.sl_words.proofs.ListLaws.{greatest-cons}
 use Rattle.sl_words.specs.Words.{greatest, present}
-use Rattle.std.proofs.Common.{ap, arith, inl, inr, refl, subst, sym, tests, ◌∙◌}
-use Rattle.std.specs.Prelude.{Bool, List, Option, false, filter, if◌then◌else◌, map, max, nat_lt, not, true, ℕ, ◌+◌, ◌<◌, ◌==◌, ◌∷◌, ◌≡◌, ◌≤◌, ◌||◌}
+use Rattle.std.proofs.Common.{ap, arith, inl, inr, refl, sym, tests}
+use Rattle.std.specs.Prelude.{Bool, List, Option, false, filter, if◌then◌else◌, map, max, nat_lt, not, true, ℕ, ◌+◌, ◌<◌, ◌==◌, ◌≡◌, ◌≤◌, ◌||◌}
 
 abbrev number_begun : Instance → ℕ
 number_begun (Begins n) = n

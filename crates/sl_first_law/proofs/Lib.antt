@@ -5,3 +5,4 @@ pub mod Values
 pub mod Areas
 pub mod Keeps
 pub mod InstanceWays
+pub mod Finding

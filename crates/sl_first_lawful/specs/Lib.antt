@@ -1,0 +1,4 @@
+pub mod Bringing
+pub mod Keeping
+pub mod Standing
+pub mod Promises
