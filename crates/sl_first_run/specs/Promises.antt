@@ -1,0 +1,16 @@
+-- What is promised of the run in which each daemon does what is due.
+use Rattle.sl_first_run.specs.Followed.{followed}
+use Rattle.sl_report.specs.Languages.{Language}
+use Rattle.sl_report.specs.Reports.{Counts, run_counts, run_lines}
+use Rattle.sl_report.specs.Schedules.{EventLine, Follows, last_lines, replay_from}
+use Rattle.sl_run.specs.Runs.{IsRun}
+use Rattle.sl_run.specs.Worlds.{World}
+use Rattle.std.specs.Prelude.{List, ◌++◌, ◌≡◌}
+
+-- What is followed is a run of the schedule's events up to its ending, and the plain program's lines are the report of it. Nothing is asked
+-- of the daemons.
+pub record ReportsAreRuns : Type 0 where
+  pub follows : (w : World) (ls : List EventLine) → Follows w ls (followed w ls).0 (followed w ls).1
+  pub is_run : (w : World) (ls : List EventLine) → IsRun w (followed w ls).0
+  pub reported : (lang : Language) (w : World) (k : Counts) (ls : List EventLine) →
+      replay_from lang w k ls ≡ run_lines w (followed w ls).0 ++ last_lines lang (run_counts w k (followed w ls).0) (followed w ls).1
