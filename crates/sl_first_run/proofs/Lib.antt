@@ -1,1 +1,5 @@
 pub mod Reported
+pub mod Running
+pub mod Ended
+pub mod Moving
+pub mod Holding
