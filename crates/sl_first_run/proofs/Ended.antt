@@ -1,10 +1,9 @@
 -- No event of the first path ends a daemon.
 use Rattle.sl_first_run.proofs.Running.{ended_in}
-use Rattle.sl_run.specs.Events.{add_landing, after_effects, after_step, change_call, close_answered, fated, first_change, flight_at, happens, land_whole, next_step, sampled_more, take_step, write_bytes, input_of, machine_of}
-use Rattle.sl_run.specs.Worlds.{Course, Daemon, Landed, Machine, Stamp, World, change_machine, machine_at, stamp_now}
+use Rattle.sl_run.specs.Events.{add_landing, after_effects, after_step, change_call, close_answered, fated, first_change, flight_at, happens, next_step, sampled_more, take_step, write_bytes, input_of, machine_of}
+use Rattle.sl_run.specs.Worlds.{Course, Landed, Machine, Stamp, World, change_machine, machine_at, stamp_now}
 use Rattle.sl_run.specs.declared.event.Event.TheVariants.{AnswerCall, Crash, Do, DropWrite, ExitOf, GiveCommand, Land, Pass, Reset, Restart, Sample, SpawnedOf, StartDaemon, Tear, Test, WakeUp}
 use Rattle.sl_run.specs.declared.event.Event.{Event}
-use Rattle.sl_trace.specs.Traces.{is_ok_answer}
 use Rattle.sl_trace.specs.declared.effects.Effects.{Effects}
 use Rattle.sl_trace.specs.declared.input.Input.TheVariants.{Answer as Told, Exit, Line, Spawned, Wake}
 use Rattle.sl_trace.specs.declared.input.Input.{Input}

@@ -11,9 +11,9 @@ use Rattle.sl_words.proofs.CaseLaws.{false_is_true}
 use Rattle.sl_world.proofs.Flights.{same_number}
 use Rattle.std.proofs.Common.{ap, arith, refl, sym, ◌∙◌}
 use Rattle.std.proofs.lemmas.List.{append-nil}
-use Rattle.std.specs.List.{enumerate_from, list_any}
+use Rattle.std.specs.List.{enumerate_from}
 use Rattle.std.specs.Option.{option_map_or}
-use Rattle.std.specs.Prelude.{Bool, List, false, filter, flat_map, if◌then◌else◌, length, map, not, true, [], ℕ, ◌&&◌, ◌++◌, ◌+◌, ◌==◌, ◌||◌, ◌∷◌, ◌≡◌, ◌≤◌, suc}
+use Rattle.std.specs.Prelude.{Bool, List, false, filter, flat_map, if◌then◌else◌, length, map, not, true, [], ℕ, ◌&&◌, ◌++◌, ◌+◌, ◌==◌, ◌∷◌, ◌≡◌, ◌≤◌, suc}
 
 -- ---- one holding
 

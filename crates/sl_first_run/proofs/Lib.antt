@@ -3,3 +3,4 @@ pub mod Running
 pub mod Ended
 pub mod Moving
 pub mod Holding
+pub mod Soundness

@@ -2,24 +2,25 @@
 use Rattle.sl_first_run.proofs.Ended.{ends_none}
 use Rattle.sl_first_run.proofs.Running.{Is, Moves, Runs, Standing, landed_is_disk, taking_moves}
 use Rattle.sl_first_run.specs.PureDaemons.{PureDaemon}
-use Rattle.sl_run.specs.Events.{refusal_of}
+use Rattle.sl_run.specs.Events.{machine_of, refusal_of}
 use Rattle.sl_run.specs.Worlds.{World}
 use Rattle.sl_run.specs.declared.event.Event.TheVariants.{AnswerCall, Crash, Do, DropWrite, ExitOf, GiveCommand, Land, Pass, Reset, Restart, Sample, SpawnedOf, StartDaemon, Tear, Test, WakeUp}
 use Rattle.sl_run.specs.declared.event.Event.{Event}
-use Rattle.sl_trace.specs.Traces.{Setting, Trace, held_after, holdings, is_write, no_effects}
-use Rattle.sl_trace.specs.declared.effects.Grant.{Grant}
+use Rattle.sl_run.specs.declared.event.Refusal.TheVariants.{Syntax}
+use Rattle.sl_run.specs.declared.event.Refusal.{Refusal}
+use Rattle.sl_trace.specs.Traces.{Setting, Trace, holdings, is_write, no_effects}
 use Rattle.sl_trace.specs.declared.input.Input.TheVariants.{Line}
 use Rattle.sl_words.proofs.CaseLaws.{false_is_true, none_some, some_value}
 use Rattle.sl_world.proofs.DiskLaws.{is_sized}
 use Rattle.sl_world.proofs.FirstWorld.{Quiet, answer_is_taken, command_taken, land_quiet, refuses, sample_quiet}
-use Rattle.sl_world.proofs.Passing.{is_found, is_on_first, land_passes}
+use Rattle.sl_world.proofs.Passing.{is_found, is_on_first, land_passes, some_none}
 use Rattle.sl_world.proofs.Solo.{still_held}
-use Rattle.sl_world.specs.Changes.{after_land, after_sample, kept_after, kept_landed, kept_sampled, told_ok}
+use Rattle.sl_world.specs.Changes.{after_land, after_sample, kept_after, kept_landed, told_ok}
 use Rattle.sl_world.specs.Daemons.{IsSpelled}
-use Rattle.sl_world.specs.FirstEvents.{answer_refusal, at_flight, flight_numbered, is_first_event, land_refusal, refusal_in}
+use Rattle.sl_world.specs.FirstEvents.{answer_refusal, at_flight, flight_numbered, is_first_event, land_refusal, refusal_in, sample_refusal}
 use Rattle.sl_world.specs.Kept.{FlightState, IsDisk, KeptState}
 use Rattle.std.proofs.Common.{ap, refl, subst, sym, ◌∙◌}
-use Rattle.std.specs.Prelude.{List, None, Option, Some, false, length, true, [], ℕ, ◌∷◌, ◌≡◌, ◌≤◌}
+use Rattle.std.specs.Prelude.{Bool, None, nat_lt, Option, Some, false, length, true, ℕ, ◌≡◌, ◌≤◌}
 
 -- ---- events that give the daemon nothing
 
@@ -104,3 +105,32 @@ pub moves : (P : Setting → Trace → Type 0) (d : PureDaemon P) (w : World) (k
     → refusal_of w e ≡ None → Moves P w k e
 moves P d w k x e r first h = moves_by P d w k x e r first (sym (refuses (Is P) k x w e r.stands first) ∙ h)
 
+-- ---- its machine
+
+shaped_passes : (b : Bool) (r : Option Refusal) → elim b as (λ x. Option Refusal) [ false ↦ Some Syntax | true ↦ r ] ≡ None → r ≡ None
+shaped_passes true r h = h
+shaped_passes false r h = absurd (some_none Syntax h)
+
+one_by : (k : KeptState) (e : Event) → is_first_event e ≡ true → refusal_in k e ≡ None → machine_of e ≡ 1
+one_by k (GiveCommand m text) first h = (is_on_first m None h).0
+one_by k (Sample m c n) first h =
+    (is_on_first m (at_flight (flight_numbered k.flight c) (sample_refusal k.disk n)) (shaped_passes (nat_lt 0 n) _ h)).0
+one_by k (Land m c) first h = (is_on_first m (at_flight (flight_numbered k.flight c) (land_refusal k.disk)) h).0
+one_by k (AnswerCall m c ok) first h = (is_on_first m (at_flight (flight_numbered k.flight c) answer_refusal) h).0
+one_by k (Pass a b) first h = absurd (false_is_true first)
+one_by k (WakeUp m) first h = absurd (false_is_true first)
+one_by k (Tear m c n b) first h = absurd (false_is_true first)
+one_by k (Do m c) first h = absurd (false_is_true first)
+one_by k (DropWrite m c) first h = absurd (false_is_true first)
+one_by k (Test m) first h = absurd (false_is_true first)
+one_by k (ExitOf m p) first h = absurd (false_is_true first)
+one_by k (SpawnedOf m p b) first h = absurd (false_is_true first)
+one_by k (StartDaemon m n) first h = absurd (false_is_true first)
+one_by k (Crash m) first h = absurd (false_is_true first)
+one_by k (Reset m) first h = absurd (false_is_true first)
+one_by k (Restart m) first h = absurd (false_is_true first)
+
+-- An event that may happen is on machine 1.
+pub on_one : (P : Setting → Trace → Type 0) (w : World) (k : KeptState) (x : Standing) (e : Event) → Runs P w k x → is_first_event e ≡ true
+    → refusal_of w e ≡ None → machine_of e ≡ 1
+on_one P w k x e r first h = one_by k e first (sym (refuses (Is P) k x w e r.stands first) ∙ h)

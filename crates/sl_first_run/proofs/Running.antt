@@ -3,8 +3,7 @@ use Rattle.sl_area.specs.Layouts.{IsGeometry, Sizes, layout_of, program_digest, 
 use Rattle.sl_due.specs.Due.{due}
 use Rattle.sl_first_run.specs.PureDaemons.{PureDaemon}
 use Rattle.sl_report.specs.Replay.{effects_of}
-use Rattle.sl_run.specs.Events.{happens, refusal_of, machine_of}
-use Rattle.sl_run.specs.Headers.{IsHeader}
+use Rattle.sl_run.specs.Events.{happens}
 use Rattle.sl_run.specs.Worlds.{Daemon, World}
 use Rattle.sl_run.specs.declared.event.Event.{Event}
 use Rattle.sl_run.specs.declared.header.Header.{Header}
@@ -12,26 +11,25 @@ use Rattle.sl_sector.proofs.SpellingLaws.{length-spelling}
 use Rattle.sl_sector.proofs.WrittenBytes.{sha256_is_digest}
 use Rattle.sl_sector.specs.Records.{IsRecord}
 use Rattle.sl_sector.specs.declared.sector.Rec.{Rec}
-use Rattle.sl_trace.specs.Traces.{Setting, Trace, held_after, holdings, is_write, no_effects, record_of}
+use Rattle.sl_trace.specs.Traces.{Setting, Trace, held_after, holdings, is_write, record_of}
 use Rattle.sl_trace.specs.declared.effects.Call.{Call}
 use Rattle.sl_trace.specs.declared.effects.Effects.{Effects}
-use Rattle.sl_trace.specs.declared.effects.Grant.{Grant}
 use Rattle.sl_trace.specs.declared.effects.Op.TheVariants.{ReadSectors, WriteRecord}
 use Rattle.sl_trace.specs.declared.effects.Op.{Op}
 use Rattle.sl_trace.specs.declared.input.Input.{Input}
-use Rattle.sl_words.proofs.CaseLaws.{false_is_true, none_some, some_value}
+use Rattle.sl_words.proofs.CaseLaws.{false_is_true, some_value}
 use Rattle.sl_words.proofs.WordLaws.{and_true}
-use Rattle.sl_world.proofs.DiskLaws.{is_disk_set, is_sized}
-use Rattle.sl_world.proofs.FirstWorld.{Quiet, Taking}
+use Rattle.sl_world.proofs.DiskLaws.{is_disk_set}
+use Rattle.sl_world.proofs.FirstWorld.{Taking}
 use Rattle.sl_world.proofs.InitialLaws.{first_place, is_size}
-use Rattle.sl_world.specs.Changes.{after_land, after_own_step, after_sample, flight_after, flight_past, new_flight, put_written, stepped_kept, written_by}
-use Rattle.sl_world.specs.Daemons.{IsSmall, IsSpelled, entry_of}
+use Rattle.sl_world.specs.Changes.{after_land, flight_after, flight_past, new_flight, stepped_kept, written_by}
+use Rattle.sl_world.specs.Daemons.{IsSpelled, entry_of}
 use Rattle.sl_world.specs.Kept.{FlightState, IsDisk, KeptState, WorldStands, WrittenState, is_written_at}
 use Rattle.std.proofs.Common.{ap, refl, subst, sym, ◌∙◌}
 use Rattle.std.proofs.lemmas.Bool.Decides.{Decides-eqb}
 use Rattle.std.specs.List.{list_all, position}
 use Rattle.std.specs.Option.{option_map_or}
-use Rattle.std.specs.Prelude.{Bool, Contains, List, None, Option, Some, false, length, map, slice_set, true, [], ℕ, ◌++◌, ◌==◌, ◌∷◌, ◌≡◌, ◌≤◌}
+use Rattle.std.specs.Prelude.{Bool, Contains, List, None, Option, Some, length, map, slice_set, true, [], ℕ, ◌++◌, ◌==◌, ◌∷◌, ◌≡◌, ◌≤◌}
 
 -- A daemon by its setting and trace.
 pub record Standing : Type 0 where

@@ -1,3 +1,4 @@
 pub mod Followed
+pub mod FirstLines
 pub mod PureDaemons
 pub mod Promises

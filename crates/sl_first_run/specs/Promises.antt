@@ -1,11 +1,19 @@
 -- What is promised of the run in which each daemon does what is due.
+use Rattle.sl_first_run.specs.FirstLines.{are_first}
 use Rattle.sl_first_run.specs.Followed.{followed}
+use Rattle.sl_first_run.specs.PureDaemons.{PureDaemon}
+use Rattle.sl_report.specs.Headline.{SoundRun}
 use Rattle.sl_report.specs.Languages.{Language}
 use Rattle.sl_report.specs.Reports.{Counts, run_counts, run_lines}
 use Rattle.sl_report.specs.Schedules.{EventLine, Follows, last_lines, replay_from}
 use Rattle.sl_run.specs.Runs.{IsRun}
-use Rattle.sl_run.specs.Worlds.{World}
-use Rattle.std.specs.Prelude.{List, ◌++◌, ◌≡◌}
+use Rattle.sl_run.specs.Worlds.{World, world_with}
+use Rattle.sl_run.specs.declared.header.Header.{Header}
+use Rattle.sl_text.specs.Forms.{Form}
+use Rattle.sl_trace.specs.Traces.{Setting, Trace}
+use Rattle.sl_trace.specs.declared.command.Command.{Command}
+use Rattle.sl_world.specs.Beginning.{IsFirstHeader, first_setting, program_of}
+use Rattle.std.specs.Prelude.{List, true, [], ◌++◌, ◌≡◌}
 
 -- What is followed is a run of the schedule's events up to its ending, and the plain program's lines are the report of it. Nothing is asked
 -- of the daemons.
@@ -14,3 +22,10 @@ pub record ReportsAreRuns : Type 0 where
   pub is_run : (w : World) (ls : List EventLine) → IsRun w (followed w ls).0
   pub reported : (lang : Language) (w : World) (k : Counts) (ls : List EventLine) →
       replay_from lang w k ls ≡ run_lines w (followed w ls).0 ++ last_lines lang (run_counts w k (followed w ls).0) (followed w ls).1
+
+-- Where one daemon runs that keeps P, the run of a schedule of the first path is sound.
+abbrev pub FirstRunsAreSound : (Setting → Trace → Type 0) → Type 0
+FirstRunsAreSound P =
+    PureDaemon P → (commands : Header → List (Form Command)) (h : Header) (first : IsFirstHeader h) →
+    P (first_setting commands h first.session) [] → (ls : List EventLine) → are_first ls ≡ true →
+    SoundRun (program_of commands) h (followed (world_with (program_of commands) h) ls).0

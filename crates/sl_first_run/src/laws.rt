@@ -1,8 +1,20 @@
 //! What is promised of the run in which each daemon does what is due.
 
-ghost use Rattle.sl_first_run.specs.Promises.{ReportsAreRuns};
+ghost use Rattle.sl_first_run.specs.Promises.{FirstRunsAreSound, ReportsAreRuns};
+ghost use Rattle.sl_trace.specs.Traces.{Setting, Trace};
+
+/// What may be true of a daemon, by its setting and its trace.
+pub trait Truth {
+    /// Of which settings and traces it is true.
+    ghost holds: { Setting → Trace → Type 0 };
+}
 
 /// The plain program follows a schedule and reports the run.
 pub fn reports_are_runs()
     ensures { ReportsAreRuns }
+{}
+
+/// The run of a schedule of one machine is sound, where its daemon does what is due and keeps the laws.
+pub fn first_runs_are_sound<P: Truth>()
+    ensures { FirstRunsAreSound P.holds }
 {}
