@@ -4,3 +4,4 @@ pub mod Ended
 pub mod Moving
 pub mod Holding
 pub mod Soundness
+pub mod Reports

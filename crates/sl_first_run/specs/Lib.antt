@@ -1,4 +1,5 @@
 pub mod Followed
 pub mod FirstLines
 pub mod PureDaemons
+pub mod Readings
 pub mod Promises

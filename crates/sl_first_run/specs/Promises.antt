@@ -2,18 +2,19 @@
 use Rattle.sl_first_run.specs.FirstLines.{are_first}
 use Rattle.sl_first_run.specs.Followed.{followed}
 use Rattle.sl_first_run.specs.PureDaemons.{PureDaemon}
-use Rattle.sl_report.specs.Headline.{SoundRun}
+use Rattle.sl_first_run.specs.Readings.{IsFirstReading, replay_status}
+use Rattle.sl_report.specs.Headline.{ReplayOf, SoundRun}
 use Rattle.sl_report.specs.Languages.{Language}
 use Rattle.sl_report.specs.Reports.{Counts, run_counts, run_lines}
-use Rattle.sl_report.specs.Schedules.{EventLine, Follows, last_lines, replay_from}
+use Rattle.sl_report.specs.Schedules.{EventLine, Follows, last_lines, replay_from, replay_lines}
 use Rattle.sl_run.specs.Runs.{IsRun}
 use Rattle.sl_run.specs.Worlds.{World, world_with}
 use Rattle.sl_run.specs.declared.header.Header.{Header}
-use Rattle.sl_text.specs.Forms.{Form}
+use Rattle.sl_text.specs.Forms.{Form, as_bytes}
 use Rattle.sl_trace.specs.Traces.{Setting, Trace}
 use Rattle.sl_trace.specs.declared.command.Command.{Command}
 use Rattle.sl_world.specs.Beginning.{IsFirstHeader, first_setting, program_of}
-use Rattle.std.specs.Prelude.{List, true, [], ◌++◌, ◌≡◌}
+use Rattle.std.specs.Prelude.{List, true, [], ℕ, ◌++◌, ◌≡◌}
 
 -- What is followed is a run of the schedule's events up to its ending, and the plain program's lines are the report of it. Nothing is asked
 -- of the daemons.
@@ -29,3 +30,9 @@ FirstRunsAreSound P =
     PureDaemon P → (commands : Header → List (Form Command)) (h : Header) (first : IsFirstHeader h) →
     P (first_setting commands h first.session) [] → (ls : List EventLine) → are_first ls ≡ true →
     SoundRun (program_of commands) h (followed (world_with (program_of commands) h) ls).0
+
+-- The plain program's report of each source is that of a sound run, and its status is that of the run's ending.
+abbrev pub FirstReportsAreSound : (Setting → Trace → Type 0) → Type 0
+FirstReportsAreSound P =
+    (lang : Language) → IsFirstReading lang P → (source : List ℕ) →
+    ReplayOf SoundRun lang source (as_bytes (replay_lines lang source)) (replay_status lang source)

@@ -1,6 +1,6 @@
 //! What is promised of the run in which each daemon does what is due.
 
-ghost use Rattle.sl_first_run.specs.Promises.{FirstRunsAreSound, ReportsAreRuns};
+ghost use Rattle.sl_first_run.specs.Promises.{FirstReportsAreSound, FirstRunsAreSound, ReportsAreRuns};
 ghost use Rattle.sl_trace.specs.Traces.{Setting, Trace};
 
 /// What may be true of a daemon, by its setting and its trace.
@@ -17,4 +17,10 @@ pub fn reports_are_runs()
 /// The run of a schedule of one machine is sound, where its daemon does what is due and keeps the laws.
 pub fn first_runs_are_sound<P: Truth>()
     ensures { FirstRunsAreSound P.holds }
+{}
+
+/// The report of a source is that of a sound run, where the language reads schedules of one machine whose daemon does what is due and
+/// keeps the laws.
+pub fn first_reports_are_sound<P: Truth>()
+    ensures { FirstReportsAreSound P.holds }
 {}
