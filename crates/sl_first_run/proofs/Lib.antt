@@ -5,3 +5,4 @@ pub mod Moving
 pub mod Holding
 pub mod Soundness
 pub mod Reports
+pub mod CutLines

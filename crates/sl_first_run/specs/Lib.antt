@@ -2,4 +2,5 @@ pub mod Followed
 pub mod FirstLines
 pub mod PureDaemons
 pub mod Readings
+pub mod Cuts
 pub mod Promises
