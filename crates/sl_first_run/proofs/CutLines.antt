@@ -5,12 +5,12 @@ use Rattle.sl_run.specs.Worlds.{first_that}
 use Rattle.sl_run.specs.declared.event.Refusal.TheVariants.{LimitBytes, Syntax}
 use Rattle.sl_run.specs.declared.event.Refusal.{Refusal}
 use Rattle.sl_text.proofs.PieceLaws.{first_piece}
-use Rattle.sl_text.specs.Forms.{lines_of, pieces, without_empty_last}
+use Rattle.sl_text.specs.Forms.{pieces, without_empty_last}
 use Rattle.sl_words.proofs.CaseLaws.{false_is_true}
 use Rattle.std.proofs.Common.{ap, arith, inl, inr, length-append, refl, subst, sym, ◌∙◌}
 use Rattle.std.proofs.lemmas.Bool.Decides.{nat_tests}
-use Rattle.std.specs.List.{onto_first, slice_split}
-use Rattle.std.specs.Prelude.{Bool, List, Option, Some, cond, false, length, min, nat_le, nat_lt, true, [], ℕ, ◌&&◌, ◌++◌, ◌+◌, ◌<◌, ◌==◌, ◌∷◌, ◌≡◌, ◌≤◌}
+use Rattle.std.specs.List.{onto_first}
+use Rattle.std.specs.Prelude.{Bool, List, Some, cond, false, length, min, nat_le, nat_lt, true, [], ℕ, ◌&&◌, ◌++◌, ◌+◌, ◌<◌, ◌==◌, ◌∷◌, ◌≡◌, ◌≤◌}
 
 -- ---- the pieces
 
@@ -173,8 +173,11 @@ line_alike total other start number l xs ys true is h k rest =
     })
 line_alike total other start number l xs ys false is h k rest =
     let low : start + length l + 1 ≤ greatest_source = is_within greatest_source _ is in
-    inl (ap (λ b. record { number = number; start = start; text = l; is_past = b })
-    (past_less greatest_source total _ low ∙ sym (past_less greatest_source other _ low)), rest low)
+    inl (
+      ap (λ b. record { number = number; start = start; text = l; is_past = b })
+          (past_less greatest_source total _ low ∙ sym (past_less greatest_source other _ low)),
+      rest low,
+    )
 
 nothing_left : (g start total : ℕ) → start ≤ g → g < total → total ≡ start + (0 + 0) → ⊥
 nothing_left g start total low h is = omega (arith, low, h, is)

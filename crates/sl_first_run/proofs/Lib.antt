@@ -6,3 +6,4 @@ pub mod Holding
 pub mod Soundness
 pub mod Reports
 pub mod CutLines
+pub mod CutReadings
