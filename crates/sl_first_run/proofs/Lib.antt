@@ -7,3 +7,4 @@ pub mod Soundness
 pub mod Reports
 pub mod CutLines
 pub mod CutReadings
+pub mod Cutting

@@ -3,10 +3,10 @@ use Rattle.sl_first_run.specs.FirstLines.{are_first}
 use Rattle.sl_first_run.specs.Followed.{followed}
 use Rattle.sl_first_run.specs.PureDaemons.{PureDaemon}
 use Rattle.sl_first_run.specs.Readings.{IsFirstReading, replay_status}
-use Rattle.sl_report.specs.Headline.{ReplayOf, SoundRun}
+use Rattle.sl_report.specs.Headline.{IsFrontOf, Promise, ReplayOf, SoundRun}
 use Rattle.sl_report.specs.Languages.{Language}
 use Rattle.sl_report.specs.Reports.{Counts, run_counts, run_lines}
-use Rattle.sl_report.specs.Schedules.{EventLine, Follows, last_lines, replay_from, replay_lines}
+use Rattle.sl_report.specs.Schedules.{EventLine, Follows, greatest_source, last_lines, replay_from, replay_lines}
 use Rattle.sl_run.specs.Runs.{IsRun}
 use Rattle.sl_run.specs.Worlds.{World, world_with}
 use Rattle.sl_run.specs.declared.header.Header.{Header}
@@ -14,7 +14,7 @@ use Rattle.sl_text.specs.Forms.{Form, as_bytes}
 use Rattle.sl_trace.specs.Traces.{Setting, Trace}
 use Rattle.sl_trace.specs.declared.command.Command.{Command}
 use Rattle.sl_world.specs.Beginning.{IsFirstHeader, first_setting, program_of}
-use Rattle.std.specs.Prelude.{List, true, [], ℕ, ◌++◌, ◌≡◌}
+use Rattle.std.specs.Prelude.{List, length, true, [], ℕ, ◌++◌, ◌<◌, ◌≡◌}
 
 -- What is followed is a run of the schedule's events up to its ending, and the plain program's lines are the report of it. Nothing is asked
 -- of the daemons.
@@ -36,3 +36,16 @@ abbrev pub FirstReportsAreSound : (Setting → Trace → Type 0) → Type 0
 FirstReportsAreSound P =
     (lang : Language) → IsFirstReading lang P → (source : List ℕ) →
     ReplayOf SoundRun lang source (as_bytes (replay_lines lang source)) (replay_status lang source)
+
+-- A source of which more is read than the limit has one report, and one status, whatever comes behind what is read.
+pub record CutsAreReported : Type 0 where
+  pub reports : (lang : Language) (read source : List ℕ) → IsFrontOf read source → greatest_source < length read →
+      replay_lines lang source ≡ replay_lines lang read
+  pub statuses : (lang : Language) (read source : List ℕ) → IsFrontOf read source → greatest_source < length read →
+      replay_status lang source ≡ replay_status lang read
+
+-- .. and whatever is promised of a run, the replay of what is read is one of the source.
+abbrev pub CutsAreReplayed : Promise → Type 0
+CutsAreReplayed promised =
+    (lang : Language) (read source written : List ℕ) (status : ℕ) → IsFrontOf read source → greatest_source < length read →
+    ReplayOf promised lang read written status → ReplayOf promised lang source written status

@@ -1,7 +1,11 @@
 //! What is promised of the run in which each daemon does what is due.
 
-ghost use Rattle.sl_first_run.specs.Promises.{FirstReportsAreSound, FirstRunsAreSound, ReportsAreRuns};
+ghost use Rattle.sl_first_run.specs.Promises.{CutsAreReplayed, CutsAreReported, FirstReportsAreSound, FirstRunsAreSound, ReportsAreRuns};
+ghost use Rattle.sl_run.specs.Runs.{Happening};
+ghost use Rattle.sl_run.specs.Worlds.{Program};
+ghost use Rattle.sl_run.specs.declared.header.Header.{Header};
 ghost use Rattle.sl_trace.specs.Traces.{Setting, Trace};
+ghost use Rattle.std.specs.Prelude.{List};
 
 /// What may be true of a daemon, by its setting and its trace.
 pub trait Truth {
@@ -23,4 +27,20 @@ pub fn first_runs_are_sound<P: Truth>()
 /// keeps the laws.
 pub fn first_reports_are_sound<P: Truth>()
     ensures { FirstReportsAreSound P.holds }
+{}
+
+/// What is promised of a run.
+pub trait Promised {
+    /// Of which runs it is true.
+    ghost holds: { Program → Header → List Happening → Type 0 };
+}
+
+/// A source that is read past the limit is reported whatever comes behind.
+pub fn cuts_are_reported()
+    ensures { CutsAreReported }
+{}
+
+/// The replay of what was read of a source, past the limit, is a replay of the source.
+pub fn cuts_are_replayed<P: Promised>()
+    ensures { CutsAreReplayed P.holds }
 {}
