@@ -8,3 +8,4 @@ pub mod Reports
 pub mod CutLines
 pub mod CutReadings
 pub mod Cutting
+pub mod Headlines

@@ -3,7 +3,7 @@ use Rattle.sl_first_run.specs.FirstLines.{are_first}
 use Rattle.sl_first_run.specs.Followed.{followed}
 use Rattle.sl_first_run.specs.PureDaemons.{PureDaemon}
 use Rattle.sl_first_run.specs.Readings.{IsFirstReading, replay_status}
-use Rattle.sl_report.specs.Headline.{IsFrontOf, Promise, ReplayOf, SoundRun}
+use Rattle.sl_report.specs.Headline.{IsFrontOf, Promise, ReplayHeadline, ReplayOf, SoundRun}
 use Rattle.sl_report.specs.Languages.{Language}
 use Rattle.sl_report.specs.Reports.{Counts, run_counts, run_lines}
 use Rattle.sl_report.specs.Schedules.{EventLine, Follows, greatest_source, last_lines, replay_from, replay_lines}
@@ -14,7 +14,8 @@ use Rattle.sl_text.specs.Forms.{Form, as_bytes}
 use Rattle.sl_trace.specs.Traces.{Setting, Trace}
 use Rattle.sl_trace.specs.declared.command.Command.{Command}
 use Rattle.sl_world.specs.Beginning.{IsFirstHeader, first_setting, program_of}
-use Rattle.std.specs.Prelude.{List, length, true, [], ℕ, ◌++◌, ◌<◌, ◌≡◌}
+use Rattle.std.specs.Int.{is_in_range}
+use Rattle.std.specs.Prelude.{Bool, IsTrue, List, length, true, [], ℕ, ◌++◌, ◌<◌, ◌≡◌, ◌⊎◌}
 
 -- What is followed is a run of the schedule's events up to its ending, and the plain program's lines are the report of it. Nothing is asked
 -- of the daemons.
@@ -49,3 +50,18 @@ abbrev pub CutsAreReplayed : Promise → Type 0
 CutsAreReplayed promised =
     (lang : Language) (read source written : List ℕ) (status : ℕ) → IsFrontOf read source → greatest_source < length read →
     ReplayOf promised lang read written status → ReplayOf promised lang source written status
+
+-- What is read decides the report: the source ended with it, or it passes the limit.
+abbrev pub IsDecided : Bool → List ℕ → Type 0
+IsDecided ended read = (ended ≡ true) ⊎ (greatest_source < length read)
+
+-- What a program owes that writes the plain program's report of what it read.
+pub record FirstHeadlines (P : Setting → Trace → Type 0) : Type 0 where
+  pub whole : (lang : Language) → IsFirstReading lang P → (ended : Bool) (read : List ℕ) → IsDecided ended read →
+      ReplayHeadline SoundRun lang ended read (as_bytes (replay_lines lang read)) (replay_status lang read)
+  -- .. or a front of it
+  pub broken : (lang : Language) (ended : Bool) (read written : List ℕ) (status : ℕ) → IsTrue (is_in_range 3 5 status) → IsDecided ended read →
+      IsFrontOf written (as_bytes (replay_lines lang read)) → ReplayHeadline SoundRun lang ended read written status
+  -- .. or nothing
+  pub unwritten : (lang : Language) (ended : Bool) (read : List ℕ) (status : ℕ) → IsTrue (is_in_range 3 5 status) →
+      ReplayHeadline SoundRun lang ended read [] status
