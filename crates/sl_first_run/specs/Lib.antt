@@ -1,0 +1,6 @@
+pub mod Followed
+pub mod FirstLines
+pub mod PureDaemons
+pub mod Readings
+pub mod Cuts
+pub mod Promises

@@ -1,0 +1,51 @@
+//! What is promised of the run in which each daemon does what is due.
+
+ghost use Rattle.sl_first_run.specs.Promises.{CutsAreReplayed, CutsAreReported, FirstHeadlines, FirstReportsAreSound, FirstRunsAreSound, ReportsAreRuns};
+ghost use Rattle.sl_run.specs.Runs.{Happening};
+ghost use Rattle.sl_run.specs.Worlds.{Program};
+ghost use Rattle.sl_run.specs.declared.header.Header.{Header};
+ghost use Rattle.sl_trace.specs.Traces.{Setting, Trace};
+ghost use Rattle.std.specs.Prelude.{List};
+
+/// What may be true of a daemon, by its setting and its trace.
+pub trait DaemonClaim {
+    /// Of which settings and traces it is true.
+    ghost holds: { Setting → Trace → Type 0 };
+}
+
+/// The plain program follows a schedule and reports the run.
+pub fn reports_are_runs()
+    ensures { ReportsAreRuns }
+{}
+
+/// The run of a schedule of one machine is sound, where its daemon does what is due and keeps the laws.
+pub fn first_runs_are_sound<C: DaemonClaim>()
+    ensures { FirstRunsAreSound C.holds }
+{}
+
+/// The report of a source is that of a sound run, where the language reads schedules of one machine whose daemon does what is due and
+/// keeps the laws.
+pub fn first_reports_are_sound<C: DaemonClaim>()
+    ensures { FirstReportsAreSound C.holds }
+{}
+
+/// What is promised of a run.
+pub trait RunClaim {
+    /// Of which runs it is true.
+    ghost holds: { Program → Header → List Happening → Type 0 };
+}
+
+/// A source that is read past the limit is reported whatever comes behind.
+pub fn cuts_are_reported()
+    ensures { CutsAreReported }
+{}
+
+/// The replay of what was read of a source, past the limit, is a replay of the source.
+pub fn cuts_are_replayed<C: RunClaim>()
+    ensures { CutsAreReplayed C.holds }
+{}
+
+/// A program that writes the report of what it read, or a front of it, keeps what `replay` owes.
+pub fn first_headlines<C: DaemonClaim>()
+    ensures { FirstHeadlines C.holds }
+{}
