@@ -122,7 +122,7 @@ taking_moves P d w k x e i r t ends spelled =
         held = held;
         ended = ends fx ∙ r.ended;
         disk = r.disk;
-        spelled = spelled_after fx fx.calls (flight_past e k) step.0.spelled spelled;
+        spelled = spelled_after fx fx.calls (flight_past e k) step.0.step.spelled spelled;
       };
       few = subst (λ hs. length hs ≤ 1) (sym held) (d.few st then.trace step.1);
     }

@@ -6,7 +6,8 @@ ghost use Rattle.sl_run.specs.Conflicts.{conflicts, has_conflict};
 ghost use Rattle.sl_replay.specs.Counting.{IsCounted, IsSmallStep, counts_with, leaves_conflict, on_first};
 ghost use Rattle.sl_trace.specs.EffectTexts.{is_ok_reply};
 ghost use Rattle.sl_trace.specs.Traces.{is_shared};
-ghost use Rattle.std.specs.Prelude.{count_by, length, map, not, ◌<◌, ◌^◌, ◌≡◌, ◌≤◌};
+ghost use Rattle.std.specs.List.{list_any};
+ghost use Rattle.std.specs.Prelude.{count_by, length, map, not, ◌<◌, ◌-◌, ◌^◌, ◌≡◌, ◌≤◌};
 
 use sl_schedule::Counts;
 use sl_trace::{Effects, Grant, JobReply, Mode, Reply};
@@ -61,7 +62,7 @@ fn conflict(a: &Grant, b: &Grant) -> bool
 
 /// Whether the holding and one of these exclude each other.
 fn conflicts_with(a: &Grant, held: &[Grant]) -> bool
-    ensures { result ≡ Rattle.std.specs.List.list_any (conflicts (on_first a.now)) (map on_first held.now) }
+    ensures { result ≡ list_any (conflicts (on_first a.now)) (map on_first held.now) }
 {
     held.iter().any(|b| conflict(a, b))
 }

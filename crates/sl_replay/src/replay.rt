@@ -10,8 +10,9 @@ ghost use Rattle.sl_run.specs.declared.header.Header.{Header as HeaderOf};
 ghost use Rattle.sl_schedule.specs.Lines.{line_seen};
 ghost use Rattle.sl_world.specs.FirstEvents as first_events;
 ghost use Rattle.sl_world.specs.Kept.{StandsForSome, WorldStands};
-ghost use Rattle.std.specs.Option.{IfSome, result_ok};
-ghost use Rattle.std.specs.Prelude.{IfOk, IsSome, IsTrue, List, MatchBool, OnErr, length, ℕ, ◌+◌, ◌++◌, ◌^◌, ◌≡◌, ◌≤◌};
+ghost use Rattle.std.specs.Option.{IfSome};
+ghost use Rattle.std.specs.Result.{result_ok};
+ghost use Rattle.std.specs.Prelude.{IfOk, IsSome, IsTrue, List, MatchBool, OnErr, OnOk, length, ℕ, ◌+◌, ◌++◌, ◌-◌, ◌<◌, ◌^◌, ◌≡◌, ◌≤◌};
 
 use crate::count::counted;
 use sl_command::push_effect_lines;
