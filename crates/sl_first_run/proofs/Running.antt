@@ -85,10 +85,10 @@ landed_is_disk k f is writes spelled =
 -- ---- a step that the daemon takes
 
 -- The call that then waits writes a record.
-spelled_after : (fx : Effects) (cs : List Call) (o : Option FlightState) → ((c : Call) → Contains cs c → IsSpelled c)
+spelled_after : (cs : List Call) (o : Option FlightState) → ((c : Call) → Contains cs c → IsSpelled c)
     → ((f : FlightState) → o ≡ Some f → IsSpelled f.call) → (f : FlightState) → flight_after cs o ≡ Some f → IsSpelled f.call
-spelled_after fx [] o each kept f is = kept f is
-spelled_after fx (c ∷ cs) o each kept f is =
+spelled_after [] o each kept f is = kept f is
+spelled_after (c ∷ cs) o each kept f is =
     subst (λ (g : FlightState). IsSpelled g.call) (some_value (new_flight c) f is) (each c (0, first_place (length cs), refl))
 
 -- An event of the run, with its effects: what is then true of the world, and that the step leaves one holding at most.
@@ -122,7 +122,7 @@ taking_moves P d w k x e i r t ends spelled =
         held = held;
         ended = ends fx ∙ r.ended;
         disk = r.disk;
-        spelled = spelled_after fx fx.calls (flight_past e k) step.0.step.spelled spelled;
+        spelled = spelled_after fx.calls (flight_past e k) step.0.step.spelled spelled;
       };
       few = subst (λ hs. length hs ≤ 1) (sym held) (d.few st then.trace step.1);
     }
