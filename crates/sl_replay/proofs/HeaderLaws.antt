@@ -27,7 +27,7 @@ use Rattle.std.specs.Prelude.{is_none, not, option_and_then}
 -- ---- one line, whatever the tests say
 
 -- What a line makes of the lines behind it.
-after_line : List HeaderLine → ℕ → List NumberedLine → Option Refusal → Option HeaderLine → Option Refusal → HeaderReading
+abbrev after_line : List HeaderLine → ℕ → List NumberedLine → Option Refusal → Option HeaderLine → Option Refusal → HeaderReading
 after_line ls number rest unread read why =
     elim unread [
       | Some r ↦ Header_refused number r
@@ -52,7 +52,7 @@ read_line ls next l rest unread read why a b c =
 -- ---- a line that is not the next one
 
 -- It is refused.
-pub Stops : List HeaderLine → ℕ → NumberedLine → List NumberedLine → Type 0
+abbrev pub Stops : List HeaderLine → ℕ → NumberedLine → List NumberedLine → Type 0
 Stops ls next l rest = (why : Refusal) × (read_header first_language ls next (l ∷ rest) ≡ Header_refused l.number why)
 
 out_of_order : (t : Bool) (tests : List (Bool × Refusal)) → t ≡ false → first_that ((not t, Syntax) ∷ tests) ≡ Some Syntax
@@ -63,47 +63,47 @@ unsaid : (ls : List HeaderLine) (next : ℕ) (l : NumberedLine) (rest : List Num
     → Stops ls next l rest
 unsaid ls next l rest unread none = (Syntax, read_line ls next l rest None None (Some Syntax) unread none refl)
 
+other_line : (ls : List HeaderLine) (next : ℕ) (l : NumberedLine) (rest : List NumberedLine) (said : HeaderLine) → AreFirstLines ls → length ls ≤ 8
+    → line_refusal l ≡ None → header_line_in whole_language default_area l.text ≡ Some said
+    → (placed : Bool) → (rank said == rank_behind (length ls)) ≡ placed → (first : Bool) → is_first_line said ≡ first → (placed && first) ≡ false → Stops ls next l rest
+other_line ls next l rest said all few unread reads placed p false f fails =
+    unsaid ls next l rest unread (ap (λ o. option_and_then (λ h. choose (is_first_line h) h) o) reads ∙ ap (λ b. choose b said) f)
+other_line ls next l rest said all few unread reads false p true f fails =
+    let k : HaveRanks ls = have_ranks ls all in
+    (
+      Syntax,
+      read_line ls next l rest None (Some said) (Some Syntax) unread
+      (ap (λ o. option_and_then (λ h. choose (is_first_line h) h) o) reads ∙ ap (λ b. choose b said) f)
+      (out_of_order (is_in_order first_language ls (rank said)) (header_tests (header_of default_sector default_area ls) said)
+      (ranks_in_order.first (length ls) ls said few k.ranks ∙ p)),
+    )
+other_line ls next l rest said all few unread reads true p true f fails = absurd (false_is_true (sym fails))
+
 -- By what the whole language reads in it.
 not_next : (ls : List HeaderLine) (next : ℕ) (l : NumberedLine) (rest : List NumberedLine) (read : Option HeaderLine) → AreFirstLines ls → length ls ≤ 8
     → line_refusal l ≡ None → header_line_in whole_language default_area l.text ≡ read
     → some_is (λ h. rank h == rank_behind (length ls) && is_first_line h) read ≡ false → Stops ls next l rest
-not_next ls next l rest None all few unread reads no =
+not_next ls next l rest None all few unread reads fails =
     unsaid ls next l rest unread (ap (λ o. option_and_then (λ h. choose (is_first_line h) h) o) reads)
-not_next ls next l rest (Some said) all few unread reads no =
-    other_line ls next l rest said all few unread reads (rank said == rank_behind (length ls)) refl (is_first_line said) refl no
-  where
-    other_line : (ls : List HeaderLine) (next : ℕ) (l : NumberedLine) (rest : List NumberedLine) (said : HeaderLine) → AreFirstLines ls → length ls ≤ 8
-        → line_refusal l ≡ None → header_line_in whole_language default_area l.text ≡ Some said
-        → (placed : Bool) → (rank said == rank_behind (length ls)) ≡ placed → (first : Bool) → is_first_line said ≡ first → (placed && first) ≡ false → Stops ls next l rest
-    other_line ls next l rest said all few unread reads placed p false f no =
-        unsaid ls next l rest unread (ap (λ o. option_and_then (λ h. choose (is_first_line h) h) o) reads ∙ ap (λ b. choose b said) f)
-    other_line ls next l rest said all few unread reads false p true f no =
-        let k : HaveRanks ls = have_ranks ls all in
-        (
-          Syntax,
-          read_line ls next l rest None (Some said) (Some Syntax) unread
-          (ap (λ o. option_and_then (λ h. choose (is_first_line h) h) o) reads ∙ ap (λ b. choose b said) f)
-          (out_of_order (is_in_order first_language ls (rank said)) (header_tests (header_of default_sector default_area ls) said)
-          (ranks_in_order.first (length ls) ls said few k.ranks ∙ p)),
-        )
-    other_line ls next l rest said all few unread reads true p true f no = absurd (false_is_true (sym no))
+not_next ls next l rest (Some said) all few unread reads fails =
+    other_line ls next l rest said all few unread reads (rank said == rank_behind (length ls)) refl (is_first_line said) refl fails
 
 stops_by : (ls : List HeaderLine) (next : ℕ) (l : NumberedLine) (rest : List NumberedLine) (unread : Option Refusal) → AreFirstLines ls → length ls ≤ 8
     → line_refusal l ≡ unread
     → (is_none unread && some_is (λ h. rank h == rank_behind (length ls) && is_first_line h) (header_line_in whole_language default_area l.text)) ≡ false → Stops ls next l rest
-stops_by ls next l rest (Some r) all few u no =
+stops_by ls next l rest (Some r) all few u fails =
     (r, read_line ls next l rest (Some r) (header_line_in first_language default_area l.text)
       (header_line_refusal first_language ls (header_line_in first_language default_area l.text)) u refl refl)
-stops_by ls next l rest None all few u no = not_next ls next l rest (header_line_in whole_language default_area l.text) all few u refl no
+stops_by ls next l rest None all few u fails = not_next ls next l rest (header_line_in whole_language default_area l.text) all few u refl fails
 
 pub stops : (ls : List HeaderLine) (next : ℕ) (l : NumberedLine) (rest : List NumberedLine) → AreFirstLines ls → length ls ≤ 8
     → is_next_line (length ls) l ≡ false → Stops ls next l rest
-stops ls next l rest all few no = stops_by ls next l rest (line_refusal l) all few refl no
+stops ls next l rest all few fails = stops_by ls next l rest (line_refusal l) all few refl fails
 
 -- ---- the next line
 
 -- What the whole language's answer to it makes of the lines behind it.
-pub Goes : List HeaderLine → ℕ → NumberedLine → List NumberedLine → Added → Type 0
+abbrev pub Goes : List HeaderLine → ℕ → NumberedLine → List NumberedLine → Added → Type 0
 Goes ls next l rest More =
     AreFirstLines (lines_after ls l.text) × (length (lines_after ls l.text) ≡ length ls + 1) × (length ls ≤ 7)
     × (read_header first_language ls next (l ∷ rest) ≡ read_header first_language (lines_after ls l.text) (l.number + 1) rest)
@@ -111,11 +111,11 @@ Goes ls next l rest (Begun h) = read_header first_language ls next (l ∷ rest) 
 Goes ls next l rest (Refused why) = read_header first_language ls next (l ∷ rest) ≡ Header_refused l.number why
 
 -- The answer to a line that says this.
-answer_by : List HeaderLine → HeaderLine → Option Refusal → Bool → Added
+abbrev answer_by : List HeaderLine → HeaderLine → Option Refusal → Bool → Added
 answer_by ls said why begin =
     elim why [ Some r ↦ Refused r | None ↦ elim begin [ true ↦ Begun (header_of default_sector default_area ls) | false ↦ More ] ]
 
-lines_by : List HeaderLine → HeaderLine → Option Refusal → Bool → List HeaderLine
+abbrev lines_by : List HeaderLine → HeaderLine → Option Refusal → Bool → List HeaderLine
 lines_by ls said why begin = elim why [ Some r ↦ ls | None ↦ elim begin [ true ↦ [] | false ↦ ls ++ said ∷ [] ] ]
 
 -- What is known of the line.
@@ -178,7 +178,7 @@ more_follow ls said few placed begin =
 
 one_longer : (ls : List HeaderLine) (said : HeaderLine) → length (ls ++ said ∷ []) ≡ length ls + 1
 one_longer [] said = refl
-one_longer (l ∷ ls) said = ap (λ n. 1 + n) (one_longer ls said)
+one_longer (l ∷ ls) said = omega (arith, one_longer ls said)
 
 goes_by : (ls : List HeaderLine) (next : ℕ) (l : NumberedLine) (rest : List NumberedLine) (said : HeaderLine) → Says ls l said → AreFirstLines ls → length ls ≤ 8
     → (why : Option Refusal) → header_refusal first_language default_sector default_area ls said ≡ why → (begin : Bool) → is_begin said ≡ begin

@@ -41,7 +41,7 @@ next_line h l ls =
 -- ---- a line that is refused
 
 stopped_by : {A : Type 0} (o : Option Refusal) (stop go : A) → IsSome o → elim o as (λ x. A) [ Some r ↦ stop | None ↦ go ] ≡ stop
-stopped_by None stop go h = absurd h
+stopped_by None stop go h = absurd (false_is_true h)
 stopped_by (Some r) stop go h = refl
 
 refused_text : (w : World) (k : Counts) (n : ℕ) (read : Result Event Refusal) (ls : List EventLine) → IsRefusedIn w read
