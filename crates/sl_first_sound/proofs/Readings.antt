@@ -29,12 +29,11 @@ events_are_first (Some x) e is =
     ap is_first_event (sym both.1) ∙ both.0
 
 header_begins : (h : Header) (f : FirstHeader h) → BeginsFirst h f → (first : IsFirstHeader h) × IsFirstDaemon (first_setting first_commands h first.session) []
-header_begins h f b =
-    (
-      b.begins,
-      subst (λ s. IsFirstDaemon (first_setting first_commands h s) []) (sym b.session)
+header_begins h f b = (
+  b.begins,
+  subst (λ s. IsFirstDaemon (first_setting first_commands h s) []) (sym b.session)
       (begins (first_setting first_commands h f.member) (given_first f.space f.member) (arg_of f.lease) b.daemon.first b.daemon.setting),
-    )
+)
 
 header_read : (source : List ℕ) (h : Header) (rest : List NumberedLine) → read_header first_language [] 1 (numbered_lines source) ≡ Header_read h rest
     → (first : IsFirstHeader h) × IsFirstDaemon (first_setting first_commands h first.session) []
