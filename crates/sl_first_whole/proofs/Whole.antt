@@ -1,13 +1,14 @@
 -- What is true of where a daemon of the first path stands brings what its laws ask.
 use Rattle.sl_first.proofs.FirstLaws.{told_first}
 use Rattle.sl_first.proofs.LineLaws.{release_first}
-use Rattle.sl_first.specs.FirstPath.{Doing, IsFirst, heeded_call}
-use Rattle.sl_first.specs.FirstSteps.{FirstStands, IsNamed, Phase, Works, first_aim, first_next, release_line, told_phase}
+use Rattle.sl_first.specs.FirstPath.{Doing, IsFirst, first_entry, heeded_call}
+use Rattle.sl_first.specs.FirstSteps.{FirstStands, Holds, IsNamed, Phase, Works, first_aim, first_next, release_line, told_effects, told_phase}
 use Rattle.sl_first_ballot.proofs.Grants.{grants_lawful}
 use Rattle.sl_first_ballot.proofs.Leaders.{leaders_lawful}
 use Rattle.sl_first_ballot.proofs.Modes.{modes_lawful}
 use Rattle.sl_first_ballot.proofs.Phase2.{phase2_read_lawful, phase2_write_lawful}
 use Rattle.sl_first_ballot.proofs.WaysLaws.{acquire_ways, answer_ways, release_ways, ways_begin}
+use Rattle.sl_first_ballot.specs.Promises.{GrantIsLawful}
 use Rattle.sl_first_ballot.specs.Ways.{WaysStand}
 use Rattle.sl_first_cause.proofs.AnswerCauses.{answers_caused}
 use Rattle.sl_first_cause.proofs.LineCauses.{acquire_caused, misread_caused, release_caused}
@@ -19,6 +20,7 @@ use Rattle.sl_first_numbers.proofs.LineNumbers.{lines_keep}
 use Rattle.sl_first_numbers.proofs.NumberLaws.{answers_keep, ballots_begin}
 use Rattle.sl_first_numbers.specs.Numbers.{MaySubmit, NumbersStand}
 use Rattle.sl_first_whole.specs.Promises.{AnswersLeaveWhole, LinesLeaveWhole, WholeBegins}
+use Rattle.sl_law.specs.Lawful.{IsSetting}
 use Rattle.sl_sector.specs.Records.{IsRecord}
 use Rattle.sl_sector.specs.declared.sector.Rec.TheVariants.{BlockIs, DeltaIs, LeaderIs, RequestIs, ValueIs}
 use Rattle.sl_sector.specs.declared.sector.Rec.{Rec}
@@ -85,15 +87,15 @@ lines_whole = record {
     ways = acquire_ways st g r f call job phase answered es h was.ways text p;
   });
   release = (λ st g r f s call job phase answered es h was text p small reads.
-      let n = lines_keep.release st g r f s call job phase answered es h was.numbers text p in
-      let w = release_ways st g r f call job phase answered es h was.ways text p in
-      record {
-        lawful = release_stays st g r f call job phase answered es h text p small reads
-            (phase_brings st g r f _ _ (release_line st g r call job answered es text p phase).phase answered _ (release_first st g r f call job phase answered es h text p small reads).stands n w)
-            was.lawful (release_caused st g r f call job phase answered es h text p reads);
-        numbers = n;
-        ways = w;
-      });
+    let n = lines_keep.release st g r f s call job phase answered es h was.numbers text p in
+    let w = release_ways st g r f call job phase answered es h was.ways text p in
+    record {
+      lawful = release_stays st g r f call job phase answered es h text p small reads
+          (phase_brings st g r f _ _ (release_line st g r call job answered es text p phase).phase answered _ (release_first st g r f call job phase answered es h text p small reads).stands n w)
+          was.lawful (release_caused st g r f call job phase answered es h text p reads);
+      numbers = n;
+      ways = w;
+    });
 }
 
 -- The answer's numbers and ways stand first, and they bring what the laws ask of the entry.
