@@ -33,6 +33,7 @@ use Rattle.sl_words.proofs.CaseLaws.{none_some, some_value}
 use Rattle.std.proofs.Common.{arith, refl, subst}
 use Rattle.std.specs.Prelude.{List, Some, ℕ, ◌∷◌, ◌≡◌}
 
+-- What may be submitted, if it writes, is a record.
 may_spell : (ms : List Submitted) (op : Op) → MaySubmit ms op → (w : Rec) → record_of op ≡ Some w → IsRecord w
 may_spell ms (ReadSectors n) may w is = absurd (none_some w is)
 may_spell ms (WriteRecord (BlockIs b)) may w is = subst (λ v. IsRecord v) (some_value (BlockIs b) w is) may.0.block
@@ -41,6 +42,7 @@ may_spell ms (WriteRecord (DeltaIs d)) may w is = absurd may
 may_spell ms (WriteRecord (RequestIs q)) may w is = absurd may
 may_spell ms (WriteRecord (ValueIs v)) may w is = absurd may
 
+-- The call at work may be submitted, is of the step that the newest calls lead to, and so is lawful.
 work_brought : (st : Setting) (g : Given) (r : ResourceArg) (answered : List Submitted) (d : Doing) → NumbersStand st g r answered (Works d) → WaysStand st g answered (Works d)
     → (t : Trace) → AtCall st g r t → submitted t ≡ answered → WorkBrings st g r t d
 work_brought st g r answered d n w t at before =
@@ -52,6 +54,7 @@ work_brought st g r answered d n w t at before =
       mode = modes_lawful st g r t at answered before d w;
     }
 
+-- A call at work and a holding are as the laws ask, where the numbers and the newest calls stand.
 pub phase_brings : (st : Setting) (g : Given) (r : ResourceArg) → IsFirst st g r → (call job : ℕ) (phase : Phase) (answered : List Submitted) (es : Trace) → FirstStands st g r call job phase answered es
     → NumbersStand st g r answered phase → WaysStand st g answered phase → PhaseBrings st g r answered phase es
 phase_brings st g r f call job phase answered es h n w =
@@ -61,6 +64,7 @@ phase_brings st g r f call job phase answered es h n w =
           record { taken = k.taken; not_freed = k.not_freed; ballot = k.exclusive };
     }
 
+-- Before the first entry nothing was submitted.
 pub whole_begins : WholeBegins
 whole_begins st g r f s =
     record {
@@ -69,6 +73,7 @@ whole_begins st g r f s =
       ways = ways_begin st g r f;
     }
 
+-- A line leaves the answered calls; an acquire or a release may begin the job's first call.
 pub lines_whole : LinesLeaveWhole
 lines_whole = record {
   misread = (λ st g r f s call job phase answered es h was text column reads. record {
@@ -93,6 +98,7 @@ lines_whole = record {
     });
 }
 
+-- The answer's numbers and ways stand first, and they bring what the laws ask of the entry.
 pub answers_whole : AnswersLeaveWhole
 answers_whole st g r f s call job d answered es h was a fits =
     let next = first_next st g es d answered (first_aim d.command) a in

@@ -15,14 +15,20 @@ use Rattle.sl_trace.specs.declared.input.Input.TheVariants.{Answer as Told, Line
 use Rattle.sl_trace.specs.declared.reply.Reply.TheVariants.{BadCommand as Misread}
 use Rattle.std.specs.Prelude.{Err, List, Ok, false, true, [], ℕ, ◌∷◌, ◌≡◌, ◌≤◌}
 
+-- What is true of such a daemon, by its answered calls and where it stands.
 pub record WholeFirst (st : Setting) (g : Given) (r : ResourceArg) (answered : List Submitted) (phase : Phase) (es : Trace) : Type 0 where
+  -- the trace keeps the laws, and each reply has its cause
   pub lawful : LawfulFirst st g r answered phase es
+  -- what it submits are records, in no instance below an own free
   pub numbers : NumbersStand st g r answered phase
+  -- its newest calls are those that lead to its step
   pub ways : WaysStand st g answered phase
 
+-- It is true before the first entry.
 abbrev pub WholeBegins : Type 0
 WholeBegins = (st : Setting) (g : Given) (r : ResourceArg) → IsFirst st g r → IsSetting st → WholeFirst st g r [] Idle []
 
+-- It stays true after each line: a text that says no command, an acquire, a release.
 pub record LinesLeaveWhole : Type 0 where
   pub misread : (st : Setting) (g : Given) (r : ResourceArg) → IsFirst st g r → IsSetting st → (call job : ℕ) (phase : Phase) (answered : List Submitted) (es : Trace) →
       FirstStands st g r call job phase answered es → WholeFirst st g r answered phase es → (text : List ℕ) (column : ℕ) → st.read text ≡ Err column →
@@ -34,6 +40,7 @@ pub record LinesLeaveWhole : Type 0 where
       FirstStands st g r call job phase answered es → WholeFirst st g r answered phase es → (text : List ℕ) (p : ℕ) → p ≤ most_processes → st.read text ≡ Ok (Release r p) →
       WholeFirst st g r answered (release_line st g r call job answered es text p phase).phase (first_entry g (Line text) (release_line st g r call job answered es text p phase).effects ∷ es)
 
+-- It stays true after each answer that fits the call at work, `Failed` too.
 abbrev pub AnswersLeaveWhole : Type 0
 AnswersLeaveWhole =
     (st : Setting) (g : Given) (r : ResourceArg) → IsFirst st g r → IsSetting st → (call job : ℕ) (d : Doing) (answered : List Submitted) (es : Trace) →

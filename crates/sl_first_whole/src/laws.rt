@@ -2,17 +2,17 @@
 
 ghost use Rattle.sl_first_whole.specs.Promises.{AnswersLeaveWhole, LinesLeaveWhole, WholeBegins};
 
-/// Before the first entry.
+/// It is lawful before its first entry.
 pub fn whole_begins()
     ensures { WholeBegins }
 {}
 
-/// After each line.
+/// It stays so after each line.
 pub fn lines_leave_whole()
     ensures { LinesLeaveWhole }
 {}
 
-/// After each answer.
+/// It stays so after each answer to the call at work.
 pub fn answers_leave_whole()
     ensures { AnswersLeaveWhole }
 {}

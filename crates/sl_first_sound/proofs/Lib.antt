@@ -1,0 +1,4 @@
+pub mod Steps
+pub mod Daemons
+pub mod Readings
+pub mod Holdings

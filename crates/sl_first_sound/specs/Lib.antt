@@ -1,0 +1,2 @@
+pub mod FirstDaemons
+pub mod Promises
