@@ -87,15 +87,15 @@ lines_whole = record {
     ways = acquire_ways st g r f call job phase answered es h was.ways text p;
   });
   release = (λ st g r f s call job phase answered es h was text p small reads.
-    let n = lines_keep.release st g r f s call job phase answered es h was.numbers text p in
-    let w = release_ways st g r f call job phase answered es h was.ways text p in
-    record {
-      lawful = release_stays st g r f call job phase answered es h text p small reads
-          (phase_brings st g r f _ _ (release_line st g r call job answered es text p phase).phase answered _ (release_first st g r f call job phase answered es h text p small reads).stands n w)
-          was.lawful (release_caused st g r f call job phase answered es h text p reads);
-      numbers = n;
-      ways = w;
-    });
+      let n = lines_keep.release st g r f s call job phase answered es h was.numbers text p in
+      let w = release_ways st g r f call job phase answered es h was.ways text p in
+      record {
+        lawful = release_stays st g r f call job phase answered es h text p small reads
+            (phase_brings st g r f _ _ (release_line st g r call job answered es text p phase).phase answered _ (release_first st g r f call job phase answered es h text p small reads).stands n w)
+            was.lawful (release_caused st g r f call job phase answered es h text p reads);
+        numbers = n;
+        ways = w;
+      });
 }
 
 -- The answer's numbers and ways stand first, and they bring what the laws ask of the entry.
