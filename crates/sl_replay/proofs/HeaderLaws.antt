@@ -18,9 +18,10 @@ use Rattle.sl_schedule.specs.declared.header.Added.TheVariants.{Begun, More, Ref
 use Rattle.sl_schedule.specs.declared.header.Added.{Added}
 use Rattle.sl_text.specs.Forms.{words_of}
 use Rattle.sl_words.proofs.CaseLaws.{false_is_true}
+use Rattle.sl_words.proofs.ListLaws.{first_and_others}
 use Rattle.sl_words.proofs.WordLaws.{and_true}
-use Rattle.sl_words.specs.Words.{choose, some_is}
-use Rattle.std.proofs.Common.{Bool, List, None, Option, Some, [], ap, arith, false, length, refl, subst, sym, true, ℕ, ◌&&◌, ◌+◌, ◌++◌, ◌==◌, ◌∙◌, ◌∷◌, ◌≡◌, ◌≤◌}
+use Rattle.sl_words.specs.Words.{choose, first_of_list, some_is}
+use Rattle.std.proofs.Common.{Bool, List, None, Option, Some, [], ap, arith, drop, false, length, refl, subst, sym, true, ℕ, ◌&&◌, ◌+◌, ◌++◌, ◌==◌, ◌∙◌, ◌∷◌, ◌≡◌, ◌≤◌}
 use Rattle.std.proofs.lemmas.Bool.{eqb-true}
 use Rattle.std.specs.Prelude.{is_none, not, option_and_then}
 
@@ -225,3 +226,23 @@ pub goes : (ls : List HeaderLine) (next : ℕ) (l : NumberedLine) (rest : List N
 goes ls next l rest all few h =
     let s = says_by ls l (line_refusal l) (header_line_in whole_language default_area l.text) refl refl h in
     goes_by ls next l rest s.0 s.1 all few (header_refusal first_language default_sector default_area ls s.0) refl (is_begin s.0) refl
+
+-- ---- the first of the lines that are left
+
+pub stopped_at : (ls : List HeaderLine) (taken next : ℕ) (lines rest : List NumberedLine) (l : NumberedLine) (b : Bool) → AreFirstLines ls → length ls ≡ taken → taken ≤ 8
+    → Some l ≡ first_of_list lines → rest ≡ drop 1 lines → b ≡ is_next_line taken l → b ≡ false
+    → (why : Refusal) × (read_header first_language ls next lines ≡ Header_refused l.number why)
+stopped_at ls taken next lines rest l b all len few first left is fails =
+    let t : Stops ls next l (drop 1 lines) =
+    stops ls next l (drop 1 lines) all (subst (λ n. n ≤ 8) (sym len) few) (ap (λ n. is_next_line n l) len ∙ sym is ∙ fails) in
+    (t.0, ap (read_header first_language ls next) (first_and_others lines l (sym first)) ∙ t.1)
+
+pub goes_at : (ls : List HeaderLine) (taken next : ℕ) (lines rest : List NumberedLine) (l : NumberedLine) (b : Bool) (added : Added) → AreFirstLines ls → length ls ≡ taken → taken ≤ 8
+    → Some l ≡ first_of_list lines → rest ≡ drop 1 lines → b ≡ is_next_line taken l → b ≡ true → added ≡ answer_after ls l.text
+    → Goes ls next l rest added × (read_header first_language ls next lines ≡ read_header first_language ls next (l ∷ rest))
+goes_at ls taken next lines rest l b added all len few first left is holds answer =
+    (
+      subst (λ a. Goes ls next l rest a) (sym answer)
+      (goes ls next l rest all (subst (λ n. n ≤ 8) (sym len) few) (ap (λ n. is_next_line n l) len ∙ sym is ∙ holds)),
+      ap (read_header first_language ls next) (first_and_others lines l (sym first) ∙ ap (λ r. l ∷ r) (sym left)),
+    )

@@ -2,12 +2,13 @@
 //!
 //! A conflict is counted from what is held, and not concluded: the count would show a fault of the host.
 
-ghost use Rattle.sl_run.specs.Conflicts.{conflicts, has_conflict};
-ghost use Rattle.sl_replay.specs.Counting.{IsCounted, IsSmallStep, counts_with, leaves_conflict, on_first};
+ghost use Rattle.sl_run.specs.Conflicts.{conflicts};
+ghost use Rattle.sl_replay.specs.Counting.{IsCounted, counts_with, excludes, on_first};
+ghost use Rattle.sl_world.specs.Daemons.{IsSmallStep};
 ghost use Rattle.sl_trace.specs.EffectTexts.{is_ok_reply};
 ghost use Rattle.sl_trace.specs.Traces.{is_shared};
 ghost use Rattle.std.specs.List.{list_any};
-ghost use Rattle.std.specs.Prelude.{count_by, length, map, not, ◌<◌, ◌-◌, ◌^◌, ◌≡◌, ◌≤◌};
+ghost use Rattle.std.specs.Prelude.{count_by, length, not, ◌<◌, ◌-◌, ◌^◌, ◌≡◌, ◌≤◌};
 
 use sl_schedule::Counts;
 use sl_trace::{Effects, Grant, JobReply, Mode, Reply};
@@ -62,14 +63,14 @@ fn conflict(a: &Grant, b: &Grant) -> bool
 
 /// Whether the holding and one of these exclude each other.
 fn conflicts_with(a: &Grant, held: &[Grant]) -> bool
-    ensures { result ≡ list_any (conflicts (on_first a.now)) (map on_first held.now) }
+    ensures { result ≡ list_any (λ b. conflicts (on_first a.now) (on_first b)) held.now }
 {
     held.iter().any(|b| conflict(a, b))
 }
 
 /// Whether two of these holdings of the machine exclude each other.
 fn has_conflict(held: &[Grant]) -> bool
-    ensures { result ≡ has_conflict (map on_first held.now) }
+    ensures { result ≡ excludes held.now }
 {
     held.iter().any(|a| conflicts_with(a, held))
 }

@@ -70,7 +70,7 @@ pub fn read_first_header(
         match reader.add(line.text)? {
             Added::More => {}
             Added::Begun(header) => return Ok(Ok(header)),
-            Added::Refused(_) => return Ok(Err(line.number)),
+            Added::Refused(_why) => return Ok(Err(line.number)),
         }
         taken += 1;
         next = line.number + 1;

@@ -149,7 +149,7 @@ impl<D: Daemon> Replay<D> {
         ensures err { OnErr result (out.new.items ≡ out.old.items) }
     {
         match read_event(alloc, self.sector, line)? {
-            Some(event) => self.happen(out, event),
+            Some(event) => Ok(self.happen(out, event)?),
             None => Ok(false),
         }
     }
