@@ -1,4 +1,5 @@
 pub mod DaemonLaws
+pub mod LineShapes
 pub mod LineSteps
 pub mod ReadingLaws
 pub mod SmallLaws

@@ -2,7 +2,8 @@
 use Rattle.sl_area.specs.Layouts.{Sizes, layout_of}
 use Rattle.sl_first.proofs.LineLaws.{acquire_first, misread_first, release_first}
 use Rattle.sl_first.specs.FirstPath.{IsFirstCommand, first_effects, first_entry, has_answer, next_doing, one_reply, open_kept}
-use Rattle.sl_first.specs.FirstSteps.{FirstStands, Holds as Held_by, Idle as Resting, IsNamed, LineFirst, OnCourse, Phase as Stand, Works as Working, acquire_line, answers, begins, first_grant, first_read, last_write, leader_write, process_of, release_by, release_line, work_in}
+use Rattle.sl_first.specs.FirstSteps.{FirstStands, Holds as Held_by, Idle as Resting, IsNamed, LineFirst, OnCourse, Phase as Stand, Works as Working, answers, begins, first_grant, first_read, last_write, leader_write, process_of, release_line, work_in}
+use Rattle.sl_host.proofs.LineShapes.{told_idle, told_busy, told_pending, freed_idle, freed_working, freed_other, freed_same}
 use Rattle.sl_host.proofs.SmallLaws.{leader_is, named_space, reads_only, small_call, small_reply, spells}
 use Rattle.sl_host.specs.Hosts.{HostStands, HostState, IsLeaseOf, Steps, begun}
 use Rattle.sl_host.specs.Phases.{IsDoingOf, IsPhaseOf, command_of}
@@ -44,7 +45,7 @@ use Rattle.sl_resource.specs.Stands.{IsOneLease}
 use Rattle.sl_sector.specs.declared.sector.Rec.TheVariants.{LeaderIs}
 use Rattle.sl_world.specs.Daemons.{IsSmallStep, IsSpelled}
 use Rattle.sl_sector.specs.declared.sector.Leader.{Leader}
-use Rattle.std.proofs.Common.{inl, inr, List, None, Option, Some, ap, arith, false, is_some, refl, subst, sym, tests, true, unwrap_or, [], length, ℕ, ◌+◌, ◌++◌, ◌==◌, ◌∙◌, ◌∷◌, ◌≡◌, ◌≤◌}
+use Rattle.std.proofs.Common.{inl, inr, List, None, Option, Some, ap, false, is_some, refl, subst, sym, true, unwrap_or, [], length, ℕ, ◌+◌, ◌++◌, ◌==◌, ◌∙◌, ◌∷◌, ◌≡◌, ◌≤◌}
 use Rattle.sl_first.specs.FirstWords.{first_forms}
 use Rattle.sl_trace.specs.Commands.{command_in}
 use Rattle.std.proofs.lemmas.Bool.{eqb-true}
@@ -120,57 +121,6 @@ first_process r c (p, small, inr e) = subst (λ n. n ≤ most_processes) (sym (a
 
 process_small : (h : HostState) (st : Setting) (es : Trace) (text : List ℕ) (c : Command) → HostStands h st es → st.read text ≡ Ok c → process_of c ≤ most_processes
 process_small h st es text c k reads = first_process h.site.resource c (subst (IsFirstCommand h.site.resource) reads (k.setting.first.reads text))
-
--- ---- what a line tells, by the host's phase
-
-told_idle : (st : Setting) (g : Given) (r : ResourceArg) (call job : ℕ) (es : Trace) (text : List ℕ) (p : ℕ) (stand : Stand) → IsPhaseOf r Idle stand
-    → acquire_line st g r call job es text p stand ≡ begins st g es text call (Acquire r false p) (ReadArea r.name) [] (first_read st r call job)
-told_idle st g r call job es text p Resting k = refl
-told_idle st g r call job es text p (Held_by q n) k = absurd k
-told_idle st g r call job es text p (Working d) k = absurd k
-
-told_busy : (st : Setting) (g : Given) (r : ResourceArg) (call job : ℕ) (es : Trace) (text : List ℕ) (p q n : ℕ) (stand : Stand) → IsPhaseOf r (Holds q n) stand
-    → acquire_line st g r call job es text p stand ≡ answers call job stand (Busy q)
-told_busy st g r call job es text p q n Resting k = absurd k
-told_busy st g r call job es text p q n (Held_by q' n') k = ap (λ x. answers call job (Held_by q' n') (Busy x)) k.0
-told_busy st g r call job es text p q n (Working d) k = absurd k
-
-told_pending : (st : Setting) (g : Given) (r : ResourceArg) (call job : ℕ) (es : Trace) (text : List ℕ) (p : ℕ) (kept : Doing) (stand : Stand) → IsPhaseOf r (Works kept) stand
-    → acquire_line st g r call job es text p stand ≡ answers call job stand (Pending kept.call)
-told_pending st g r call job es text p kept Resting k = absurd k
-told_pending st g r call job es text p kept (Held_by q n) k = absurd k
-told_pending st g r call job es text p kept (Working d) k = ap (λ x. answers call job (Working d) (Pending x)) k.call
-
-freed_idle : (st : Setting) (g : Given) (r : ResourceArg) (call job : ℕ) (ms : List Submitted) (es : Trace) (text : List ℕ) (p : ℕ) (stand : Stand) → IsPhaseOf r Idle stand
-    → release_line st g r call job ms es text p stand ≡ answers call job stand NotHeld
-freed_idle st g r call job ms es text p Resting k = refl
-freed_idle st g r call job ms es text p (Held_by q n) k = absurd k
-freed_idle st g r call job ms es text p (Working d) k = absurd k
-
-freed_working : (st : Setting) (g : Given) (r : ResourceArg) (call job : ℕ) (ms : List Submitted) (es : Trace) (text : List ℕ) (p : ℕ) (kept : Doing) (stand : Stand) → IsPhaseOf r (Works kept) stand
-    → release_line st g r call job ms es text p stand ≡ answers call job stand NotHeld
-freed_working st g r call job ms es text p kept Resting k = absurd k
-freed_working st g r call job ms es text p kept (Held_by q n) k = absurd k
-freed_working st g r call job ms es text p kept (Working d) k = refl
-
-freed_other : (st : Setting) (g : Given) (r : ResourceArg) (call job : ℕ) (ms : List Submitted) (es : Trace) (text : List ℕ) (p q n : ℕ) (stand : Stand) → IsPhaseOf r (Holds q n) stand
-    → (q == p) ≡ false → release_line st g r call job ms es text p stand ≡ answers call job stand NotHeld
-freed_other st g r call job ms es text p q n Resting k other = absurd k
-freed_other st g r call job ms es text p q n (Held_by q' n') k other =
-    ap (release_by st g r call job ms es text p q' n') (ap (λ x. x == p) k.0 ∙ other)
-freed_other st g r call job ms es text p q n (Working d) k other = absurd k
-
-equal_to : (q p : ℕ) → q ≡ p → (q == p) ≡ true
-equal_to q p e = grind (arith, tests)
-
-freed_same : (st : Setting) (g : Given) (r : ResourceArg) (call job : ℕ) (ms : List Submitted) (es : Trace) (text : List ℕ) (p n : ℕ) (stand : Stand) → IsPhaseOf r (Holds p n) stand
-    → release_line st g r call job ms es text p stand
-    ≡ begins st g es text call (Release r p) FreeLeader (end_of (first_grant g r p n) ∷ []) (last_write st g r call job n ms)
-freed_same st g r call job ms es text p n Resting k = absurd k
-freed_same st g r call job ms es text p n (Held_by q' n') k =
-    ap (release_by st g r call job ms es text p q' n') (equal_to q' p k.0)
-    ∙ (λ i. begins st g es text call (Release r p) FreeLeader (end_of (first_grant g r (k.0 i) (k.1 i)) ∷ []) (last_write st g r call job (k.1 i) ms))
-freed_same st g r call job ms es text p n (Working d) k = absurd k
 
 -- ---- what is kept between jobs
 

@@ -42,6 +42,13 @@ pub(crate) struct Rooms {
     calls: Room<Call>,
 }
 
+/// The types within a call.
+type WithinCall = (
+    (Op, Purpose, Work, LeaseStep, JoinStep),
+    (Rec, Leader, Block, DeltaRec, DeltaState, Request, ValueRec),
+    (Name, Data, FilePath),
+);
+
 impl Rooms {
     /// Memory for one of each. An `Err` is want of memory.
     pub(crate) fn new(alloc: Global) -> Result<Rooms, AllocError> {
@@ -82,23 +89,9 @@ impl Rooms {
             replies,
             calls,
         } = self;
-        // A value that is handed on needs each type within it named in the body: without these lines the kit's borrow checker, which
-        // says that the fault is its own, finds no plan.
-        let _step: Option<LeaseStep> = None;
-        let _join: Option<JoinStep> = None;
-        let _work: Option<Work> = None;
-        let _record: Option<Rec> = None;
-        let _leader: Option<Leader> = None;
-        let _block: Option<Block> = None;
-        let _delta: Option<DeltaRec> = None;
-        let _state: Option<DeltaState> = None;
-        let _request: Option<Request> = None;
-        let _value: Option<ValueRec> = None;
-        let _name: Option<Name> = None;
-        let _data: Option<Data> = None;
-        let _path: Option<FilePath> = None;
-        let _purpose: Option<Purpose> = None;
-        let _op: Option<Op> = None;
+        // A value that is handed on needs each type within it named in the body: without this line the kit's borrow checker, which says
+        // that the fault is its own, finds no plan.
+        let _within: Option<WithinCall> = None;
         first_effects(
             alloc,
             Vec::new(alloc),

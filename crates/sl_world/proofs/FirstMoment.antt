@@ -11,6 +11,7 @@ use Rattle.sl_trace.specs.declared.command.Command.{Command}
 use Rattle.sl_trace.specs.declared.input.Given.{Given}
 use Rattle.sl_words.proofs.CaseLaws.{none_some}
 use Rattle.sl_words.proofs.ListLaws.{list_all_place}
+use Rattle.sl_world.proofs.Flights.{same_number}
 use Rattle.sl_world.specs.Beginning.{IsFirstHeader, first_setting, program_of}
 use Rattle.sl_world.specs.Changes.{first_kept}
 use Rattle.sl_world.specs.Kept.{Tells, WorldStands}
@@ -26,9 +27,6 @@ reading_is n = omega arith
 
 abbrev given_with : Header → SessionLine → LockspaceLine → Given
 given_with h s l = record { lockspace = s.lockspace; id = s.id; path = l.path; offset = l.offset; renewed = clock_reading h 1 }
-
-same_number : (n : ℕ) → (n == n) ≡ true
-same_number n = (Decides-eqb n n).1 refl
 
 given_at : (h : Header) (s : SessionLine) (gs : List Given) (here : Bool) (o : Option LockspaceLine) → list_all (λ (g : Given). g.renewed == clock_reading h 1) gs ≡ true
     → list_all (λ (g : Given). g.renewed == clock_reading h 1)

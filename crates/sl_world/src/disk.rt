@@ -95,7 +95,7 @@ fn initial_sector(
 }
 
 /// How many sectors a call has.
-fn sectors_of(op: &Op) -> u64
+pub fn sectors_of(op: &Op) -> u64
     ensures exact { result ≡ events.sectors_of op.now }
     ensures few { result < 2 ^ 32 }
 {

@@ -11,7 +11,7 @@ ghost use Rattle.sl_world.specs.FirstEvents.{flight_left, flight_writes};
 ghost use Rattle.sl_world.specs.Kept.{kept_sector};
 ghost use Rattle.std.specs.Prelude.{IfOk, OnErr, OnOk, ◌*◌, ◌+◌, ◌<◌, ◌^◌, ◌≡◌, ◌≤◌, [], ◌==◌, true, length};
 
-use crate::disk::{Disks, spelled};
+use crate::disk::{Disks, sectors_of, spelled};
 use sl_area::Geometry;
 use sl_text::Bytes;
 use sl_trace::{Answer, Call, Input, Op};
@@ -37,17 +37,6 @@ impl Model for Flight {
     ghost view = { λ f. record { call = f.call; sampled = f.sampled.items; sectors = f.sectors; landed = f.landed } };
 
     ghost invariant = { λ f. IsSpelled f.call };
-}
-
-/// How many sectors a call has.
-fn sectors_of(op: &Op) -> u64
-    ensures exact { result ≡ events.sectors_of op.now }
-    ensures few { result < 2 ^ 32 }
-{
-    match op {
-        Op::ReadSectors { sectors } => u64::from(*sectors),
-        Op::WriteRecord { record: _ } => 1,
-    }
 }
 
 /// Whether the call writes.
