@@ -70,13 +70,12 @@ other_line : (ls : List HeaderLine) (next : ℕ) (l : NumberedLine) (rest : List
 other_line ls next l rest said all few unread reads placed p false f fails =
     unsaid ls next l rest unread (ap (λ o. option_and_then (λ h. choose (is_first_line h) h) o) reads ∙ ap (λ b. choose b said) f)
 other_line ls next l rest said all few unread reads false p true f fails =
-    let k : HaveRanks ls = have_ranks ls all in
-    (
+    let k : HaveRanks ls = have_ranks ls all in (
       Syntax,
       read_line ls next l rest None (Some said) (Some Syntax) unread
-      (ap (λ o. option_and_then (λ h. choose (is_first_line h) h) o) reads ∙ ap (λ b. choose b said) f)
-      (out_of_order (is_in_order first_language ls (rank said)) (header_tests (header_of default_sector default_area ls) said)
-      (ranks_in_order.first (length ls) ls said few k.ranks ∙ p)),
+          (ap (λ o. option_and_then (λ h. choose (is_first_line h) h) o) reads ∙ ap (λ b. choose b said) f)
+          (out_of_order (is_in_order first_language ls (rank said)) (header_tests (header_of default_sector default_area ls) said)
+          (ranks_in_order.first (length ls) ls said few k.ranks ∙ p)),
     )
 other_line ls next l rest said all few unread reads true p true f fails = absurd (false_is_true (sym fails))
 
@@ -92,9 +91,11 @@ not_next ls next l rest (Some said) all few unread reads fails =
 stops_by : (ls : List HeaderLine) (next : ℕ) (l : NumberedLine) (rest : List NumberedLine) (unread : Option Refusal) → AreFirstLines ls → length ls ≤ 8
     → line_refusal l ≡ unread
     → (is_none unread && some_is (λ h. rank h == rank_behind (length ls) && is_first_line h) (header_line_in whole_language default_area l.text)) ≡ false → Stops ls next l rest
-stops_by ls next l rest (Some r) all few u fails =
-    (r, read_line ls next l rest (Some r) (header_line_in first_language default_area l.text)
-      (header_line_refusal first_language ls (header_line_in first_language default_area l.text)) u refl refl)
+stops_by ls next l rest (Some r) all few u fails = (
+  r,
+  read_line ls next l rest (Some r) (header_line_in first_language default_area l.text)
+      (header_line_refusal first_language ls (header_line_in first_language default_area l.text)) u refl refl,
+)
 stops_by ls next l rest None all few u fails = not_next ls next l rest (header_line_in whole_language default_area l.text) all few u refl fails
 
 pub stops : (ls : List HeaderLine) (next : ℕ) (l : NumberedLine) (rest : List NumberedLine) → AreFirstLines ls → length ls ≤ 8
@@ -190,26 +191,25 @@ goes_by ls next l rest said s all few (Some r) w begin b =
 goes_by ls next l rest said s all few None w true b =
     subst (λ a. Goes ls next l rest a) (sym (answer_is ls l said s all few ∙ ap (λ v. answer_by ls said v (is_begin said)) w ∙ ap (answer_by ls said None) b))
     (
-      read_line ls next l rest None (Some said) None s.unread (first_reads ls l said s) w
-      ∙ ap (λ c. elim c as (λ x. HeaderReading) [
-        | true ↦ Header_read (header_of default_sector default_area ls) rest
-        | false ↦ read_header first_language (ls ++ said ∷ []) (l.number + 1) rest
-      ]) b
+    read_line ls next l rest None (Some said) None s.unread (first_reads ls l said s) w
+    ∙ ap (λ c. elim c as (λ x. HeaderReading) [
+      | true ↦ Header_read (header_of default_sector default_area ls) rest
+      | false ↦ read_header first_language (ls ++ said ∷ []) (l.number + 1) rest
+    ]) b
     )
 goes_by ls next l rest said s all few None w false b =
     let after : lines_after ls l.text ≡ ls ++ said ∷ [] =
     lines_are ls l said s all few ∙ ap (λ v. lines_by ls said v (is_begin said)) w ∙ ap (lines_by ls said None) b in
-    subst (λ a. Goes ls next l rest a) (sym (answer_is ls l said s all few ∙ ap (λ v. answer_by ls said v (is_begin said)) w ∙ ap (answer_by ls said None) b))
-    (
+    subst (λ a. Goes ls next l rest a) (sym (answer_is ls l said s all few ∙ ap (λ v. answer_by ls said v (is_begin said)) w ∙ ap (answer_by ls said None) b)) (
       subst AreFirstLines (sym after) (one_more [] ls said all (record { words = words_of l.text; made = first_reads ls l said s; taken = w })),
       ap (λ ms. length ms) after ∙ one_longer ls said,
       more_follow ls said few s.placed b,
       read_line ls next l rest None (Some said) None s.unread (first_reads ls l said s) w
-      ∙ ap (λ c. elim c as (λ x. HeaderReading) [
-        | true ↦ Header_read (header_of default_sector default_area ls) rest
-        | false ↦ read_header first_language (ls ++ said ∷ []) (l.number + 1) rest
-      ]) b
-      ∙ ap (λ ms. read_header first_language ms (l.number + 1) rest) (sym after),
+          ∙ ap (λ c. elim c as (λ x. HeaderReading) [
+            | true ↦ Header_read (header_of default_sector default_area ls) rest
+            | false ↦ read_header first_language (ls ++ said ∷ []) (l.number + 1) rest
+          ]) b
+          ∙ ap (λ ms. read_header first_language ms (l.number + 1) rest) (sym after),
     )
 
 says_by : (ls : List HeaderLine) (l : NumberedLine) (unread : Option Refusal) (read : Option HeaderLine) → line_refusal l ≡ unread
@@ -240,9 +240,8 @@ stopped_at ls taken next lines rest l b all len few first left is fails =
 pub goes_at : (ls : List HeaderLine) (taken next : ℕ) (lines rest : List NumberedLine) (l : NumberedLine) (b : Bool) (added : Added) → AreFirstLines ls → length ls ≡ taken → taken ≤ 8
     → Some l ≡ first_of_list lines → rest ≡ drop 1 lines → b ≡ is_next_line taken l → b ≡ true → added ≡ answer_after ls l.text
     → Goes ls next l rest added × (read_header first_language ls next lines ≡ read_header first_language ls next (l ∷ rest))
-goes_at ls taken next lines rest l b added all len few first left is holds answer =
-    (
-      subst (λ a. Goes ls next l rest a) (sym answer)
+goes_at ls taken next lines rest l b added all len few first left is holds answer = (
+  subst (λ a. Goes ls next l rest a) (sym answer)
       (goes ls next l rest all (subst (λ n. n ≤ 8) (sym len) few) (ap (λ n. is_next_line n l) len ∙ sym is ∙ holds)),
-      ap (read_header first_language ls next) (first_and_others lines l (sym first) ∙ ap (λ r. l ∷ r) (sym left)),
-    )
+  ap (read_header first_language ls next) (first_and_others lines l (sym first) ∙ ap (λ r. l ∷ r) (sym left)),
+)

@@ -63,15 +63,14 @@ refused_end w n (Ok e) ls h = stopped_by (refusal_of w e) AtLine (ending_from (h
 pub owed_refusal : {D : Type 0} (stands : D → Setting → Trace → Type 0) (h : Header) (kept : KeptState) (host : D) (k : Counts) (l : NumberedLine) (ls : List NumberedLine)
     (out total : List ℕ) (end : Ended) → (o : Owes stands h kept host k (l ∷ ls) out total end) → IsRefusedIn o.world (line_read h l)
     → (end ≡ AtLine) × (out ++ as_bytes (refusal_line l.number Syntax ∷ []) ≡ total)
-owed_refusal stands h kept host k l ls out total end o refused =
-    (
-      o.ends ∙ ap (ending_from o.world) (next_line h l ls) ∙ refused_end o.world l.number (line_read h l) (event_lines_of first_language h ls) refused,
-      sym (
-        o.text
-        ∙ ap (λ es. out ++ as_bytes (replay_from first_language o.world k es)) (next_line h l ls)
-        ∙ ap (λ t. out ++ as_bytes t) (refused_text o.world k l.number (line_read h l) (event_lines_of first_language h ls) refused)
+owed_refusal stands h kept host k l ls out total end o refused = (
+  o.ends ∙ ap (ending_from o.world) (next_line h l ls) ∙ refused_end o.world l.number (line_read h l) (event_lines_of first_language h ls) refused,
+  sym (
+      o.text
+      ∙ ap (λ es. out ++ as_bytes (replay_from first_language o.world k es)) (next_line h l ls)
+      ∙ ap (λ t. out ++ as_bytes t) (refused_text o.world k l.number (line_read h l) (event_lines_of first_language h ls) refused)
       ),
-    )
+)
 
 -- ---- a line whose event happens
 
@@ -106,13 +105,13 @@ owed_after stands h kept now host then k after l ls out more total end e o read 
       world = w;
       tells = x.tells;
       text =
-        o.text
-        ∙ ap (λ v. out ++ as_bytes (replay_from first_language o.world k v)) reads
-        ∙ ap (λ t. out ++ as_bytes t) (gone_text o.world e l.number x.effects k es x.may x.due_is)
-        ∙ ap (λ c. out ++ as_bytes (lines ++ replay_from first_language w c es)) (sym x.counts)
-        ∙ ap (λ t. out ++ t) (flat_map-append (λ v. v ++ 10 ∷ []) lines rest)
-        ∙ sym (append_assoc out (as_bytes lines) (as_bytes rest))
-        ∙ ap (λ t. t ++ as_bytes rest) (sym x.text);
+          o.text
+          ∙ ap (λ v. out ++ as_bytes (replay_from first_language o.world k v)) reads
+          ∙ ap (λ t. out ++ as_bytes t) (gone_text o.world e l.number x.effects k es x.may x.due_is)
+          ∙ ap (λ c. out ++ as_bytes (lines ++ replay_from first_language w c es)) (sym x.counts)
+          ∙ ap (λ t. out ++ t) (flat_map-append (λ v. v ++ 10 ∷ []) lines rest)
+          ∙ sym (append_assoc out (as_bytes lines) (as_bytes rest))
+          ∙ ap (λ t. t ++ as_bytes rest) (sym x.text);
       ends = o.ends ∙ ap (ending_from o.world) reads ∙ gone_end o.world e l.number x.effects es x.may x.due_is;
     }
 

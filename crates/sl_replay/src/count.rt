@@ -21,7 +21,10 @@ fn is_ok(reply: &Reply) -> bool
         Reply::Done => true,
         Reply::Generation { generation: _ } => true,
         Reply::Granted { lver: _ } => true,
-        Reply::Started { lver: _, process: _ } => true,
+        Reply::Started {
+            lver: _,
+            process: _,
+        } => true,
         Reply::Value {
             lver: _,
             seq: _,

@@ -24,7 +24,7 @@ report_text source = as_bytes (replay_lines first_language source)
 
 -- The line that words of no command print.
 abbrev pub bad_words_text : List ℕ
-bad_words_text = codes "sanlock: bad words\n"
+bad_words_text = codes "sanlock: bad words" ++ 10 ∷ []
 
 -- A status that says that not all was written, or that there was no memory for all.
 abbrev pub IsCutShort : Status → Type 0

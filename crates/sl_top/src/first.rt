@@ -2,6 +2,7 @@
 
 ghost use Rattle.sl_first_schedule.specs.FirstHeaders.{FirstHeader};
 ghost use Rattle.sl_first_schedule.specs.FirstLanguage.{arg_of, first_program};
+ghost use Rattle.sl_first_schedule.specs.FirstWorld.{given_first};
 ghost use Rattle.sl_host.specs.Hosts.{HostStands};
 ghost use Rattle.sl_report.specs.Reports.{no_counts};
 ghost use Rattle.sl_run.specs.Worlds.{world_with};
@@ -18,6 +19,7 @@ use std::alloc::{AllocError, Global};
 /// The session that the header gives its one daemon; its clock begins at 0.
 fn session_of(header: &Header) -> Given
     requires { FirstHeader header.now }
+    ensures { (f : FirstHeader header.now) → result ≡ given_first f.space f.member }
 {
     match (header.sessions.get(0), header.lockspaces.get(0)) {
         (Some(session), Some(lockspace)) => Given {
@@ -34,6 +36,7 @@ fn session_of(header: &Header) -> Given
 /// The header's resource, as commands name it.
 fn resource_of(header: &Header) -> ResourceArg
     requires { FirstHeader header.now }
+    ensures { (f : FirstHeader header.now) → result ≡ arg_of f.lease }
 {
     match header.resources.get(0) {
         Some(resource) => ResourceArg {
@@ -61,5 +64,6 @@ pub(crate) fn first_run(alloc: Global, header: Header) -> Result<Replay<Host>, A
         first,
     )?;
     let sector = header.geometry.sector();
-    Ok(Replay::new(World::new(alloc, header, host), sector))
+    let world = World::new(alloc, header, host);
+    Ok(Replay::new(world, sector))
 }

@@ -31,21 +31,19 @@ fn push_report(alloc: Global, source: &[u8], out: &mut Vec<u8>) -> Result<Ended,
     ensures whole { IfOk result (λ ended. (out.new.items ≡ report_text source.now) × (ended ≡ ending_of source.now)) }
     ensures front { OnErr result (IsFrontOf out.new.items (report_text source.now)) }
 {
+    // Fewer than 2^63 bytes: so the lines can be counted.
+    let _bytes = source.len();
     let mut lines = Lines::new(source);
     match read_first_header(alloc, &mut lines)? {
-        Ok(header) => first_run(alloc, header)?.run(alloc, out, &mut lines),
+        Ok(header) => {
+            let mut replay = first_run(alloc, header)?;
+            let ended = replay.run(alloc, out, &mut lines)?;
+            Ok(ended)
+        }
         Err(number) => {
             push_refusal_line(out, number, Refusal::Syntax)?;
             Ok(Ended::AtLine)
         }
-    }
-}
-
-/// The status of a report that was put out as far as it stands.
-fn status_after(ended: &Result<Ended, AllocError>) -> Status {
-    match ended {
-        Ok(ended) => status_of(*ended),
-        Err(_) => Status::NoMemory,
     }
 }
 
@@ -57,7 +55,10 @@ fn report<K: Sink>(alloc: Global, source: &[u8], sink: &mut K) -> Status
     let mut out = Vec::new(alloc);
     let ended = push_report(alloc, source, &mut out);
     match write_all(sink, &out) {
-        Ok(()) => status_after(&ended),
+        Ok(()) => match ended {
+            Ok(ended) => status_of(ended),
+            Err(_) => Status::NoMemory,
+        },
         Err(_) => Status::WriteFault,
     }
 }

@@ -33,8 +33,7 @@ loop-line-preserved c =
     let s = c.loop-line.invariant in
     let t = goes_at s.0 c.loop-line.taken c.loop-line.next c.loop-line.lines c.next_line.new.self (line_seen c.in-Some.line) c.is_next_line.result More s.2 s.3
     s.4 c.in-Some.ensures.line c.in-Some.ensures.left c.is_next_line.ensures c.if-not-is_next_line.false
-    (sym c.in-More.is ∙ c.in_ok-add.ensures.exact s.0 s.1) in
-    (
+    (sym c.in-More.is ∙ c.in_ok-add.ensures.exact s.0 s.1) in (
       lines_after s.0 c.in-Some.line.text.now,
       c.in_ok-add.ensures.stands s.0 s.1,
       t.0.0,

@@ -28,11 +28,11 @@ returns-in_ok-push_effect_lines-in-Ok-clause-exact g c = λ w s.
       may = x.may;
       tells = x.stays;
       counts =
-        c.counted-self.ensures.exact
-        ∙ counted_are _ _ _ _ _ w c.args.event c.in-Ok.effects c.holdings.result.now c.args.self.now.counts s x.stays c.requires.first (none_is _ x.may) x.small.grants
+          c.counted-self.ensures.exact
+          ∙ counted_are _ _ _ _ _ w c.args.event c.in-Ok.effects c.holdings.result.now c.args.self.now.counts s x.stays c.requires.first (none_is _ x.may) x.small.grants
           (c.holdings.ensures (happens w c.args.event (c.in-Ok.effects ∷ [])) x.stays);
       text =
-        c.in_ok-push_effect_lines-in-Ok.ensures.ok
-        ∙ ap (λ m. c.args.out.now.items ++ as_bytes (effect_lines m c.in-Ok.effects)) c.machine_of-machine.ensures
-        ∙ ap (λ ls. c.args.out.now.items ++ as_bytes ls) (sym (first_lines w c.args.event c.in-Ok.effects c.requires.first));
+          c.in_ok-push_effect_lines-in-Ok.ensures.ok
+          ∙ ap (λ m. c.args.out.now.items ++ as_bytes (effect_lines m c.in-Ok.effects)) c.machine_of-machine.ensures
+          ∙ ap (λ ls. c.args.out.now.items ++ as_bytes ls) (sym (first_lines w c.args.event c.in-Ok.effects c.requires.first));
     }

@@ -6,16 +6,15 @@ use Rattle.std.proofs.Common.{arith, sym, ◌∙◌}
 pub loop-line-preserved : goal.loop-line-preserved
 loop-line-preserved g c =
     let so_far = c.loop-line.invariant in
-    let room = one_less c.loop-line.lines c.next_line.new.self (line_seen c.in-Some.line) c.in-Some.ensures.line c.in-Some.ensures.left in
-    (
+    let room = one_less c.loop-line.lines c.next_line.new.self (line_seen c.in-Some.line) c.in-Some.ensures.line c.in-Some.ensures.left in (
       c.in_ok-take_line.ensures.stays,
       c.in_ok-take_line.ensures.counted,
       omega (arith, room, c.in_ok-take_line.ensures.one, so_far.2),
       c.in_ok-take_line.ensures.sector ∙ so_far.3,
       λ h total end machines sector owed.
-        carried _ h _ _ _ _ _ _ (line_seen c.in-Some.line) _ c.next_line.new.self _ _ total end c.in_ok-take_line.field-0
-        (so_far.4 h total end machines sector owed) c.in-Some.ensures.line c.in-Some.ensures.left c.if-not-branch.false
-        (λ w s. c.in_ok-take_line.ensures.exact h w machines (sector ∙ sym so_far.3) s),
+          carried _ h _ _ _ _ _ _ (line_seen c.in-Some.line) _ c.next_line.new.self _ _ total end c.in_ok-take_line.field-0
+          (so_far.4 h total end machines sector owed) c.in-Some.ensures.line c.in-Some.ensures.left c.if-not-branch.false
+          (λ w s. c.in_ok-take_line.ensures.exact h w machines (sector ∙ sym so_far.3) s),
     )
 
 pub returns-in_err-take_line-clause-front : goal.returns-in_err-take_line-clause-front
