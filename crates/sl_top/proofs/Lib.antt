@@ -1,1 +1,2 @@
 pub mod TopLaws
+pub mod RunLaws

@@ -134,12 +134,12 @@ owed_first source h rest kept host k out read stands is empty =
       world = world_with first_program h;
       tells = stands;
       text =
-        ap (λ r. as_bytes (elim r as (λ x. List (List ℕ)) [
-          | Header_refused number why ↦ refusal_line number Syntax ∷ []
-          | Header_read g more ↦ replay_from first_language (world_with first_program g) no_counts (event_lines_of first_language g more)
-        ])) read
-        ∙ ap (λ c. rest_text h (world_with first_program h) c rest) (sym is)
-        ∙ ap (λ v. v ++ rest_text h (world_with first_program h) k rest) (sym empty);
+          ap (λ r. as_bytes (elim r as (λ x. List (List ℕ)) [
+            | Header_refused number why ↦ refusal_line number Syntax ∷ []
+            | Header_read g more ↦ replay_from first_language (world_with first_program g) no_counts (event_lines_of first_language g more)
+          ])) read
+          ∙ ap (λ c. rest_text h (world_with first_program h) c rest) (sym is)
+          ∙ ap (λ v. v ++ rest_text h (world_with first_program h) k rest) (sym empty);
       ends = ap (λ r. elim r as (λ x. Ended) [
         | Header_refused number why ↦ AtLine
         | Header_read g more ↦ ending_from (world_with first_program g) (event_lines_of first_language g more)
@@ -149,17 +149,16 @@ owed_first source h rest kept host k out read stands is empty =
 -- A header that is refused is all that the report tells.
 pub refused_first : (source : List ℕ) (number : ℕ) (rest : List NumberedLine) → IsHeaderRead (Err number) rest (read_header first_language [] 1 (numbered_lines source))
     → (report_text source ≡ as_bytes (refusal_line number Syntax ∷ [])) × (ending_of source ≡ AtLine)
-refused_first source number rest read =
-    (
-      ap (λ r. as_bytes (elim r as (λ x. List (List ℕ)) [
-        | Header_refused number why ↦ refusal_line number Syntax ∷ []
-        | Header_read g more ↦ replay_from first_language (world_with first_program g) no_counts (event_lines_of first_language g more)
-      ])) read.1,
-      ap (λ r. elim r as (λ x. Ended) [
-        | Header_refused number why ↦ AtLine
-        | Header_read g more ↦ ending_from (world_with first_program g) (event_lines_of first_language g more)
-      ]) read.1,
-    )
+refused_first source number rest read = (
+  ap (λ r. as_bytes (elim r as (λ x. List (List ℕ)) [
+    | Header_refused number why ↦ refusal_line number Syntax ∷ []
+    | Header_read g more ↦ replay_from first_language (world_with first_program g) no_counts (event_lines_of first_language g more)
+  ])) read.1,
+  ap (λ r. elim r as (λ x. Ended) [
+    | Header_refused number why ↦ AtLine
+    | Header_read g more ↦ ending_from (world_with first_program g) (event_lines_of first_language g more)
+  ]) read.1,
+)
 
 pub first_header : (source : List ℕ) (h : Header) (rest : List NumberedLine) → read_header first_language [] 1 (numbered_lines source) ≡ Header_read h rest → FirstHeader h
 first_header source h rest read = header_of_source source h rest read

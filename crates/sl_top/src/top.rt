@@ -8,7 +8,7 @@ ghost use Rattle.sl_report.specs.Headline.{IsFrontOf};
 ghost use Rattle.sl_top.specs.Runs.{PutsOut, Replays, bad_words_text, is_replay, report_text};
 ghost use Rattle.sl_top.specs.Statuses.{status_of};
 ghost use Rattle.sl_top.specs.declared.status.Status.TheVariants.{BadWords};
-ghost use Rattle.std.specs.Prelude.{IfOk, IsTrue, OnErr, [], false, true, ◌≡◌};
+ghost use Rattle.std.specs.Prelude.{IfOk, IsTrue, OnErr, [], false, length, ◌<◌, ◌^◌, ◌≡◌};
 
 use crate::first::first_run;
 use crate::status::{Status, status_of};
@@ -25,14 +25,21 @@ pub trait Devices: Drop {}
 /// The most bytes of a schedule.
 const GREATEST_SOURCE: usize = 1_000_000_000;
 
+/// How many bytes there are: so few that their lines can be counted.
+fn bytes_of(source: &[u8]) -> usize
+    ensures exact { result ≡ length source.now }
+    ensures few { length source.now < 2 ^ 63 }
+{
+    source.len()
+}
+
 /// Writes the report of a source. After an `Err`, which is want of memory, a front of it was written.
 fn push_report(alloc: Global, source: &[u8], out: &mut Vec<u8>) -> Result<Ended, AllocError>
     requires { out.old.items ≡ [] }
     ensures whole { IfOk result (λ ended. (out.new.items ≡ report_text source.now) × (ended ≡ ending_of source.now)) }
     ensures front { OnErr result (IsFrontOf out.new.items (report_text source.now)) }
 {
-    // Fewer than 2^63 bytes: so the lines can be counted.
-    let _bytes = source.len();
+    let _bytes = bytes_of(source);
     let mut lines = Lines::new(source);
     match read_first_header(alloc, &mut lines)? {
         Ok(header) => {

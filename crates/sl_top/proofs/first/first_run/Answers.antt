@@ -17,5 +17,5 @@ pub returns-clause-world : goal.returns-clause-world
 returns-clause-world c =
     let stands = c.new-world.ensures first_commands (begins_here c.args.header c.requires)
     (host_begins c.args.header c.requires c.session_of.result c.resource_of.result _ c.in_ok-host.host (c.session_of.ensures c.requires) (c.resource_of.ensures c.requires) refl
-      c.in_ok-host.ensures.stands) in
+    c.in_ok-host.ensures.stands) in
     subst (λ x. WorldStands HostStands x.world.kept x.world.host (world_with first_program c.args.header)) (sym c.new-2.ensures) stands
