@@ -8,3 +8,6 @@ mod words;
 
 pub use status::Status;
 pub use top::{Devices, run, run_offline};
+
+#[cfg(test)]
+mod tests;
