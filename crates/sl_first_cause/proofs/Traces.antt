@@ -38,7 +38,7 @@ pub record Goes (st : Setting) (g : Given) (r : ResourceArg) (es : Trace) : Type
   pub caused : IsCaused st es
 
 -- The entry is told by its input and what is due.
-entry_is : (st : Setting) (g : Given) (es : Trace) (e : Entry) (i : Input) (fx : Effects) → e.reading ≡ g.renewed → e.input ≡ i → IsDue st es e → due st es g.renewed i ≡ fx → e ≡ first_entry g i fx
+pub entry_is : (st : Setting) (g : Given) (es : Trace) (e : Entry) (i : Input) (fx : Effects) → e.reading ≡ g.renewed → e.input ≡ i → IsDue st es e → due st es g.renewed i ≡ fx → e ≡ first_entry g i fx
 entry_is st g es e i fx now is does comes =
     let same : e.effects ≡ fx = does ∙ ap (λ n. due st es n e.input) now ∙ ap (λ j. due st es g.renewed j) is ∙ comes in
     (λ k. record { reading = now k; input = is k; effects = same k })
@@ -83,10 +83,10 @@ told_goes st g r f call job d answered es h caused e a now is does fits =
     })
 
 -- Only the call at work may be answered.
-nothing_asked : (st : Setting) (es : Trace) (n : ℕ) (a : Answer) → outstanding es ≡ [] → is_expected st es (Told n a) ≡ true → ⊥
+pub nothing_asked : (st : Setting) (es : Trace) (n : ℕ) (a : Answer) → outstanding es ≡ [] → is_expected st es (Told n a) ≡ true → ⊥
 nothing_asked st es n a none expected = false_is_true (sym (ap (λ ms. list_any (λ m. m.call.number == n && is_answer_for st a m.call.op) ms) none) ∙ expected)
 
-only_one : (b : Bool) → list_any (λ (t : Bool). t) (b ∷ []) ≡ true → b ≡ true
+pub only_one : (b : Bool) → list_any (λ (t : Bool). t) (b ∷ []) ≡ true → b ≡ true
 only_one true h = refl
 only_one false h = absurd (false_is_true h)
 

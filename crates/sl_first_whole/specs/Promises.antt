@@ -4,7 +4,10 @@ use Rattle.sl_first.specs.FirstSteps.{FirstStands, Idle, Phase, Works, acquire_l
 use Rattle.sl_first_ballot.specs.Ways.{WaysStand}
 use Rattle.sl_first_lawful.specs.Standing.{LawfulFirst}
 use Rattle.sl_first_numbers.specs.Numbers.{NumbersStand}
-use Rattle.sl_law.specs.Lawful.{IsSetting}
+use Rattle.sl_due.specs.Due.{IsHostTrace}
+use Rattle.sl_first_cause.specs.Promises.{HearsOnly}
+use Rattle.sl_law.specs.Caused.{IsCaused}
+use Rattle.sl_law.specs.Lawful.{IsSetting, Lawful}
 use Rattle.sl_trace.specs.Limits.{most_processes}
 use Rattle.sl_trace.specs.Traces.{Setting, Submitted, Trace, is_answer_for}
 use Rattle.sl_trace.specs.declared.command.Command.TheVariants.{Acquire, Release}
@@ -47,3 +50,9 @@ AnswersLeaveWhole =
     FirstStands st g r call job (Works d) answered es → WholeFirst st g r answered (Works d) es → (a : Answer) → is_answer_for st a d.call.call.op ≡ true →
     WholeFirst st g r (heeded_call es g a d.call ∷ answered) (told_phase st g r call es d (first_next st g es d answered (first_aim d.command) a))
     (first_entry g (Told d.call.call.number a) (told_effects st g r call d (first_next st g es d answered (first_aim d.command) a)) ∷ es)
+
+-- In each trace that hears only lines and answers, on a clock that stands still, it keeps all laws, and each of its replies has its cause.
+abbrev pub TracesAreLawful : Type 0
+TracesAreLawful =
+    (st : Setting) (g : Given) (r : ResourceArg) → IsFirst st g r → IsSetting st → (es : Trace) → IsHostTrace st es → HearsOnly g es →
+    Lawful st es × IsCaused st es

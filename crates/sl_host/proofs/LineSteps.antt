@@ -84,6 +84,7 @@ answered_at_once h st es text why fx k line effects =
         phase = k.phase;
         lease_of = k.lease_of;
         lease = k.lease;
+        hears = ((refl, refl), k.hears);
       };
     }
 
@@ -111,6 +112,7 @@ begun_with h st es text command step lver sectors ends c after fx k line doing s
         phase = doing;
         lease_of = of_lease;
         lease = lease;
+        hears = ((refl, refl), k.hears);
       };
     }
 

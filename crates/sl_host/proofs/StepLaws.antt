@@ -4,13 +4,15 @@ use Rattle.sl_due.specs.Due.{due}
 use Rattle.sl_first.proofs.Stillness.{open_first}
 use Rattle.sl_first.specs.FirstSteps.{FirstStands, Holds as Held_by, Idle as Resting, Phase as Stand, Works as Working, kept_in}
 use Rattle.sl_host.proofs.ToldLaws.{answer_by}
-use Rattle.sl_host.specs.Expected.{StepsAt, is_awaited}
+use Rattle.sl_first_whole.proofs.Traces.{traces_lawful}
+use Rattle.sl_host.specs.Expected.{IsLawfulAt, StepsAt, is_awaited}
 use Rattle.sl_host.specs.Hosts.{HostStands, HostState, IsSettingOf, Steps}
 use Rattle.sl_host.specs.Phases.{IsPhaseOf, is_answer_by}
 use Rattle.sl_host.specs.Sites.{SiteState}
 use Rattle.sl_host.specs.declared.phase.Doing.{Doing}
 use Rattle.sl_host.specs.declared.phase.Phase.TheVariants.{Holds, Idle, Works}
 use Rattle.sl_host.specs.declared.phase.Phase.{Phase}
+use Rattle.sl_law.specs.Lawful.{IsSetting}
 use Rattle.sl_trace.specs.Traces.{Setting, Submitted, Trace, is_answer_for, is_expected}
 use Rattle.sl_trace.specs.declared.effects.Effects.{Effects}
 use Rattle.sl_trace.specs.declared.input.Answer.{Answer}
@@ -79,3 +81,16 @@ told_ok h after kept call a (Err e) works waits steps = tt
 
 pub awaited_fits : (z : Sizes) (kept : Doing) (call : ℕ) (a : Answer) (phase : Phase) → phase ≡ Works kept → is_awaited z phase call a ≡ true → is_answer_by z kept.sectors a ≡ true
 awaited_fits z kept call a phase works waits = (and_true (kept.call == call) (is_answer_by z kept.sectors a) (subst (λ p. is_awaited z p call a ≡ true) works waits)).1
+
+-- ---- what it stands for is lawful
+
+pub stands_lawful : (h : HostState) (st : Setting) (es : Trace) → HostStands h st es → IsSetting st → IsLawfulAt st es
+stands_lawful h st es k setting =
+    let both = traces_lawful st h.site.session h.site.resource k.setting.first setting es k.first.due_so_far k.hears in
+    record { lawful = both.0; caused = both.1 }
+
+pub lawful_ok : {E : Type 0} (h after : HostState) (now : ℕ) (i : Input) (r : Result Effects E)
+    → IfOk r (λ fx. (st : Setting) (es : Trace) → HostStands h st es → StepsAt h after st es now i fx)
+    → IfOk r (λ fx. (st : Setting) (es : Trace) → HostStands h st es → IsSetting st → IsLawfulAt st (record { reading = now; input = i; effects = fx } ∷ es))
+lawful_ok h after now i (Ok fx) steps = λ st es k setting. stands_lawful after st _ (steps st es k).stands setting
+lawful_ok h after now i (Err e) steps = tt

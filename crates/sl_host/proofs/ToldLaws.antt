@@ -5,6 +5,7 @@ use Rattle.sl_first.proofs.FirstLaws.{told_first}
 use Rattle.sl_first.specs.FirstPath.{Doing as Work, first_entry, heeded_call, open_kept}
 use Rattle.sl_first.specs.FirstSteps.{Course, FirstStands, Freeing, Holds as Held_by, Idle as Resting, OnCourse, Phase as Stand, Reading_area, Reading_phase1, Reading_phase2, Taking, ToldFirst, Works as Working, Writing_phase1, Writing_phase2, blocks_read, first_aim, first_next, first_over, first_self, leader_write, own_write, process_of, told_effects, told_number, told_phase, work_in}
 use Rattle.sl_host.proofs.SmallLaws.{IsNextNamed, named_first, named_space, told_small}
+use Rattle.sl_first_cause.specs.Promises.{HearsOnly}
 use Rattle.sl_host.specs.Hosts.{HostStands, HostState, IsFitPhase, IsLeaseOf, IsSettingOf, Steps}
 use Rattle.sl_host.specs.Phases.{IsDoingOf, IsPhaseOf, aim_in, command_of, is_answer_by, phase_after, process_in, sectors_asked}
 use Rattle.sl_host.specs.Sites.{IsLaidOut, IsSite, SiteState}
@@ -163,12 +164,12 @@ decided st g r s es kept d a before answered next laid k is site comes =
 -- ---- all of it
 
 core : (s : SiteState) (call job : ℕ) (kept : Doing) (d : Work) (answered : List Submitted) (st : Setting) (es : Trace) (a : Answer) (before after : LeaseState) (next : LeaseNext) (fx : Effects)
-    → IsSite s → IsSettingOf st s → FirstStands st s.session s.resource call job (Working d) answered es → IsDoingOf s.resource kept d
+    → IsSite s → IsSettingOf st s → FirstStands st s.session s.resource call job (Working d) answered es → HearsOnly s.session es → IsDoingOf s.resource kept d
     → IsLeaseOf s before → LeaseStands before (d.call ∷ answered) → is_answer_by s.sizes kept.sectors a ≡ true → IsTaken s.session kept a before after next
     → fx ≡ told_effects st s.session s.resource call d next
     → Steps (record { site = s; next_call = call; next_job = job; phase = Works kept; lease = before })
     (record { site = s; next_call = told_number call next; next_job = job; phase = phase_after s.sizes.hosts kept call next; lease = after }) st es (Told kept.call a) fx
-core s call job kept d answered st es a before after next fx site setting first k is lease fits t effects =
+core s call job kept d answered st es a before after next fx site setting first hears k is lease fits t effects =
     let laid : st.layout ≡ layout_of before.sizes = setting.laid ∙ sym (ap layout_of is.sizes) in
     let asks : is_answer_by s.sizes (sectors_asked d.call.call.op) a ≡ true = subst (λ o. is_answer_by s.sizes o a ≡ true) (sym k.sectors) fits in
     let may : is_answer_for st a d.call.call.op ≡ true = answer_by st s.sizes d.call.call.op a setting.laid ∙ asks in
@@ -204,27 +205,28 @@ core s call job kept d answered st es a before after next fx site setting first 
         phase = phases st s.session s.resource s.sizes call es kept d setting.laid k next;
         lease_of = record { sizes = t.steady.sizes ∙ is.sizes; lockspace = t.steady.lockspace ∙ is.lockspace; self = t.steady.self ∙ is.self };
         lease = lease_of_next st s.session s.resource call es kept d a before after answered x laid next t newest told.stands.course;
+        hears = ((refl, refl), hears);
       };
     }
 
 -- By where the host stands.
 by_stand : (s : SiteState) (call job : ℕ) (kept : Doing) (stand : Stand) (answered : List Submitted) (st : Setting) (es : Trace) (a : Answer) (before after : LeaseState) (next : LeaseNext) (fx : Effects)
-    → IsSite s → IsSettingOf st s → FirstStands st s.session s.resource call job stand answered es → IsPhaseOf s.resource (Works kept) stand
+    → IsSite s → IsSettingOf st s → FirstStands st s.session s.resource call job stand answered es → HearsOnly s.session es → IsPhaseOf s.resource (Works kept) stand
     → IsLeaseOf s before → LeaseStands before (open_kept (work_in stand) ++ answered) → is_answer_by s.sizes kept.sectors a ≡ true → IsTaken s.session kept a before after next
     → ((d : Work) → d.job.number ≡ kept.job → process_of d.command ≡ process_in kept.command → fx ≡ told_effects st s.session s.resource call d next)
     → Steps (record { site = s; next_call = call; next_job = job; phase = Works kept; lease = before })
     (record { site = s; next_call = told_number call next; next_job = job; phase = phase_after s.sizes.hosts kept call next; lease = after }) st es (Told kept.call a) fx
-by_stand s call job kept Resting answered st es a before after next fx site setting first phase is lease fits t effects = absurd phase
-by_stand s call job kept (Held_by p lver) answered st es a before after next fx site setting first phase is lease fits t effects = absurd phase
-by_stand s call job kept (Working d) answered st es a before after next fx site setting first phase is lease fits t effects =
-    core s call job kept d answered st es a before after next fx site setting first phase is lease fits t (effects d phase.job (process_kept s.resource kept d phase))
+by_stand s call job kept Resting answered st es a before after next fx site setting first hears phase is lease fits t effects = absurd phase
+by_stand s call job kept (Held_by p lver) answered st es a before after next fx site setting first hears phase is lease fits t effects = absurd phase
+by_stand s call job kept (Working d) answered st es a before after next fx site setting first hears phase is lease fits t effects =
+    core s call job kept d answered st es a before after next fx site setting first hears phase is lease fits t (effects d phase.job (process_kept s.resource kept d phase))
 
 pub told_steps : (h : HostState) (kept : Doing) (st : Setting) (es : Trace) (a : Answer) (after : LeaseState) (next : LeaseNext) (fx : Effects)
     → h.phase ≡ Works kept → HostStands h st es → is_answer_by h.site.sizes kept.sectors a ≡ true → IsTaken h.site.session kept a h.lease after next
     → ((v : Setting) (d : Work) → IsLaidOut v h.site → d.job.number ≡ kept.job → process_of d.command ≡ process_in kept.command → fx ≡ told_effects v h.site.session h.site.resource h.next_call d next)
     → Steps h (record { site = h.site; next_call = told_number h.next_call next; next_job = h.next_job; phase = phase_after h.site.sizes.hosts kept h.next_call next; lease = after }) st es (Told kept.call a) fx
 told_steps h kept st es a after next fx works k fits t effects =
-    let s = by_stand h.site h.next_call h.next_job kept k.stand k.answered st es a h.lease after next fx k.site k.setting k.first (subst (λ p. IsPhaseOf h.site.resource p k.stand) works k.phase)
+    let s = by_stand h.site h.next_call h.next_job kept k.stand k.answered st es a h.lease after next fx k.site k.setting k.first k.hears (subst (λ p. IsPhaseOf h.site.resource p k.stand) works k.phase)
     k.lease_of k.lease fits t (λ d job process. effects st d k.setting.laid job process) in
     record { due_is = s.due_is; small = s.small; stands = s.stands }
 

@@ -5,6 +5,8 @@ use Rattle.sl_host.specs.Hosts.{HostStands, HostState}
 use Rattle.sl_host.specs.Phases.{is_answer_by}
 use Rattle.sl_host.specs.declared.phase.Phase.TheVariants.{Holds, Idle, Works}
 use Rattle.sl_host.specs.declared.phase.Phase.{Phase}
+use Rattle.sl_law.specs.Caused.{IsCaused}
+use Rattle.sl_law.specs.Lawful.{Lawful}
 use Rattle.sl_trace.specs.Traces.{Setting, Trace}
 use Rattle.sl_trace.specs.declared.effects.Effects.{Effects}
 use Rattle.sl_trace.specs.declared.input.Answer.{Answer}
@@ -32,3 +34,8 @@ pub record StepsAt (h after : HostState) (st : Setting) (es : Trace) (now : ℕ)
   pub due_is : fx ≡ due st es now i
   pub small : IsSmallStep fx
   pub stands : HostStands after st (record { reading = now; input = i; effects = fx } ∷ es)
+
+-- The trace keeps all laws, and each of its replies has its cause.
+pub record IsLawfulAt (st : Setting) (es : Trace) : Type 0 where
+  pub lawful : Lawful st es
+  pub caused : IsCaused st es

@@ -3,6 +3,7 @@ use Rattle.sl_due.specs.Due.{due}
 use Rattle.sl_first.specs.FirstPath.{IsFirst, first_entry, open_kept}
 use Rattle.sl_first.specs.FirstSteps.{FirstStands, Phase as Stand, first_self, work_in}
 use Rattle.sl_first.specs.FirstWords.{first_forms}
+use Rattle.sl_first_cause.specs.Promises.{HearsOnly}
 use Rattle.sl_host.specs.Phases.{IsPhaseOf}
 use Rattle.sl_host.specs.Sites.{IsLaidOut, IsSite, SiteState}
 use Rattle.sl_host.specs.declared.phase.Phase.TheVariants.{Holds, Idle, Works}
@@ -55,6 +56,8 @@ pub record HostStands (h : HostState) (st : Setting) (es : Trace) : Type 0 where
   pub phase : IsPhaseOf h.site.resource h.phase stand
   pub lease_of : IsLeaseOf h.site h.lease
   pub lease : LeaseStands h.lease (open_kept (work_in stand) ++ answered)
+  -- it has heard lines and answers alone
+  pub hears : HearsOnly h.site.session es
 
 -- The host after the next line's job went to work with the next call.
 abbrev pub begun : FirstCommand → LeaseStep → ℕ → Option ℕ → HostState → HostState

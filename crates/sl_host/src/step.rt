@@ -1,12 +1,13 @@
 //! What a host does by what comes to it.
 ghost use Rattle.sl_area.specs.Layouts.{layout_of};
-ghost use Rattle.sl_host.specs.Expected.{StepsAt, expects, is_awaited};
+ghost use Rattle.sl_host.specs.Expected.{IsLawfulAt, StepsAt, expects, is_awaited};
 ghost use Rattle.sl_host.specs.Hosts.{HostStands, Steps};
 ghost use Rattle.sl_host.specs.Phases.{is_answer_by};
+ghost use Rattle.sl_law.specs.Lawful.{IsSetting};
 ghost use Rattle.sl_trace.specs.Traces.{Setting, Trace, is_expected};
 ghost use Rattle.sl_trace.specs.declared.input.Answer.{Answer as Reading};
 ghost use Rattle.sl_trace.specs.declared.input.Input.TheVariants.{Answer as Told};
-ghost use Rattle.std.specs.Prelude.{IfOk, IsTrue, OnErr, nat_lt, ℕ, ◌&&◌, ◌==◌, ◌<◌, ◌^◌, ◌≡◌};
+ghost use Rattle.std.specs.Prelude.{IfOk, IsTrue, OnErr, nat_lt, ℕ, ◌&&◌, ◌==◌, ◌<◌, ◌^◌, ◌∷◌, ◌≡◌};
 
 use crate::host::Host;
 use crate::phase::{Doing, Phase};
@@ -100,7 +101,7 @@ impl Host {
     }
 
     /// What the host does when this comes to it: the ends, grants, replies and calls that are due, of which the last are submitted by
-    /// now. `now` is the reading at which the session was renewed, since the clock stands still. The input is a line, or an answer that
+    /// now. Each trace that the host then stands for is lawful, and each reply in it has its cause. `now` is the reading at which the session was renewed, since the clock stands still. The input is a line, or an answer that
     /// the host expects, and the next call and the next job have numbers below 2^63. An `Err` is want of memory, and changes nothing.
     pub fn step(&mut self, now: u64, input: Input) -> Result<Effects, AllocError>
         requires reading { now ≡ self.old.site.session.renewed }
@@ -108,6 +109,8 @@ impl Host {
         requires call { self.old.next_call < 2 ^ 63 }
         requires job { self.old.next_job < 2 ^ 63 }
         ensures steps { IfOk result (λ fx. (st : Setting) (es : Trace) → HostStands self.old st es → StepsAt self.old self.new st es now input fx) }
+        ensures lawful { IfOk result (λ fx. (st : Setting) (es : Trace) → HostStands self.old st es → IsSetting st
+            → IsLawfulAt st (record { reading = now; input = input; effects = fx } ∷ es)) }
         ensures site { self.new.site ≡ self.old.site }
         ensures kept { OnErr result (self.new ≡ self.old) }
     {
