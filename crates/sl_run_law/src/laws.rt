@@ -1,0 +1,13 @@
+//! What stays and what only grows in a world.
+
+ghost use Rattle.sl_run_law.specs.Going.{RunsGoOn, WorldsGoOn};
+
+/// An event leaves the header, the layout and the number of machines; time goes on by what it takes, and landings stay.
+pub fn worlds_go_on()
+    ensures { WorldsGoOn }
+{}
+
+/// So does a run.
+pub fn runs_go_on()
+    ensures { RunsGoOn }
+{}
