@@ -1,10 +1,10 @@
 -- What an event leaves of a world: a walk over all of them.
 use Rattle.sl_run.specs.Events.{add_landing, after_crash, after_effects, after_pass, after_reset, after_restart, after_start, after_step, after_test, change_call, complete, fated, first_change, flight_at, happens, land_whole, next_input, next_step, passed, sampled_more, sectors_left, take_step, take_steps, torn_bytes, write_bytes, machine_of}
 use Rattle.sl_run.specs.Runs.{Happening, world_after}
-use Rattle.sl_run.specs.Worlds.{Course, Dropped, Landed, Landing, Machine, Torn, World, change_machine, is_in_flight, is_write_course, machine_at, stamp_now}
+use Rattle.sl_run.specs.Worlds.{Course, Dropped, Landed, Machine, Torn, World, change_machine, is_in_flight, is_write_course, machine_at, stamp_now}
 use Rattle.sl_run.specs.declared.event.Event.TheVariants.{AnswerCall, Crash, Do, DropWrite, ExitOf, GiveCommand, Land, Pass, Reset, Restart, Sample, SpawnedOf, StartDaemon, Tear, Test, WakeUp}
 use Rattle.sl_run.specs.declared.event.Event.{Event}
-use Rattle.sl_run_law.specs.Going.{Goes, LandingsGrow, steps_of_run, time_of, time_of_run}
+use Rattle.sl_run_law.specs.Going.{Goes, Grown, steps_of_run, time_of, time_of_run}
 use Rattle.sl_trace.specs.declared.effects.Call.{Call}
 use Rattle.sl_trace.specs.declared.effects.Effects.{Effects}
 use Rattle.sl_trace.specs.declared.input.Input.{Input}
@@ -16,10 +16,10 @@ use Rattle.std.specs.Prelude.{Bool, List, None, Option, Some, false, length, map
 
 -- ---- one change after another
 
-same_landings : (ls : List Landing) → LandingsGrow ls ls
-same_landings ls = record { newer = []; same = refl }
+pub same_list : {A : Type 0} (ls : List A) → Grown ls ls
+same_list ls = record { newer = []; same = refl }
 
-grown_again : (a b c : List Landing) → LandingsGrow a b → LandingsGrow b c → LandingsGrow a c
+pub grown_again : {A : Type 0} (a b c : List A) → Grown a b → Grown b c → Grown a c
 grown_again a b c g h = record { newer = h.newer ++ g.newer; same = h.same ∙ ap (λ ls. h.newer ++ ls) g.same ∙ sym (append_assoc h.newer g.newer a) }
 
 sum_of : (a b c d e : ℕ) → b ≡ a + d → c ≡ b + e → c ≡ a + (d + e)
@@ -37,7 +37,7 @@ stays w =
       machines = refl;
       moment = plus_zero w.moment;
       step = plus_zero w.step;
-      landings = same_landings w.landings;
+      landings = same_list w.landings;
     }
 
 pub goes_again : (d e k n : ℕ) (w v u : World) → Goes d k w v → Goes e n v u → Goes (d + e) (k + n) w u
@@ -70,7 +70,7 @@ changed_by m f w (Some a) =
       machines = set_length w.machines (m - 1) (f a);
       moment = plus_zero w.moment;
       step = plus_zero w.step;
-      landings = same_landings w.landings;
+      landings = same_list w.landings;
     }
 
 changed : (m : ℕ) (f : Machine → Machine) (w : World) → Goes 0 0 w (change_machine m f w)
@@ -100,7 +100,7 @@ stepped w =
       machines = refl;
       moment = plus_zero w.moment;
       step = refl;
-      landings = same_landings w.landings;
+      landings = same_list w.landings;
     }
 
 -- ---- before the daemon
@@ -119,7 +119,7 @@ time_passes d growths w =
       machines = enumerated_length d growths 1 w.machines;
       moment = refl;
       step = plus_zero w.step;
-      landings = same_landings w.landings;
+      landings = same_list w.landings;
     }
 
 whole_by : (m c : ℕ) (w : World) (o : Option Course)

@@ -1,2 +1,4 @@
 pub mod Going
 pub mod Walking
+pub mod Coursing
+pub mod Tracking

@@ -1,7 +1,7 @@
 -- What an event, and a run, leaves of a world.
 use Rattle.sl_run.specs.Events.{happens}
 use Rattle.sl_run.specs.Runs.{Happening, world_after}
-use Rattle.sl_run.specs.Worlds.{Landing, World}
+use Rattle.sl_run.specs.Worlds.{World}
 use Rattle.sl_run.specs.declared.event.Event.TheVariants.{Pass}
 use Rattle.sl_run.specs.declared.event.Event.{Event}
 use Rattle.sl_trace.specs.declared.effects.Effects.{Effects}
@@ -22,9 +22,9 @@ abbrev pub steps_of_run : List Happening → ℕ
 steps_of_run [] = 0
 steps_of_run (x ∷ xs) = (1 + length x.1) + steps_of_run xs
 
--- The landings grow in front.
-pub record LandingsGrow (before after : List Landing) : Type 0 where
-  pub newer : List Landing
+-- A list grows in front.
+pub record Grown {A : Type 0} (before after : List A) : Type 0 where
+  pub newer : List A
   pub same : after ≡ newer ++ before
 
 -- A world after this time and so many steps.
@@ -35,7 +35,7 @@ pub record Goes (time steps : ℕ) (w v : World) : Type 0 where
   pub machines : length v.machines ≡ length w.machines
   pub moment : v.moment ≡ w.moment + time
   pub step : v.step ≡ w.step + steps
-  pub landings : LandingsGrow w.landings v.landings
+  pub landings : Grown w.landings v.landings
 
 -- An event takes its time, and one step and one for each of its effects.
 abbrev pub WorldsGoOn : Type 0

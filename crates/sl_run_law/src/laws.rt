@@ -1,5 +1,6 @@
 //! What stays and what only grows in a world.
 
+ghost use Rattle.sl_run_law.specs.Courses.{MachinesGoOn, MachinesGoOnInRuns};
 ghost use Rattle.sl_run_law.specs.Going.{RunsGoOn, WorldsGoOn};
 
 /// An event leaves the header, the layout and the number of machines; time goes on by what it takes, and landings stay.
@@ -10,4 +11,14 @@ pub fn worlds_go_on()
 /// So does a run.
 pub fn runs_go_on()
     ensures { RunsGoOn }
+{}
+
+/// Each call stays with what it has sampled, and so do resets and daemons that ended.
+pub fn machines_go_on()
+    ensures { MachinesGoOn }
+{}
+
+/// So it is along a run.
+pub fn machines_go_on_in_runs()
+    ensures { MachinesGoOnInRuns }
 {}
