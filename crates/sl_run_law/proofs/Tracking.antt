@@ -130,7 +130,7 @@ steps_track w e before (fx ∷ fxs) v =
 pub event_tracks : (w : World) (e : Event) (fxs : List Effects) → EachMachine (λ m. Tracks Continues) w (happens w e fxs)
 event_tracks w e fxs =
     let u : World = first_change e w in
-    each_further (λ m. Tracks Continues) w (next_step u) (happens w e fxs) further (each_first (λ m. Tracks Continues) e w still (asked w e))
+    each_further (λ m. Tracks Continues) w (next_step u) (happens w e fxs) further (each_first (λ m. Tracks Continues) e w (λ none. still) (asked w e))
     (steps_track w e [] fxs (next_step u))
 
 pub run_tracks : (w : World) (xs : List Happening) → EachMachine (λ m. Tracks Continues) w (world_after w xs)

@@ -3,6 +3,7 @@ use Rattle.sl_run.specs.Events.{add_landing, after_crash, after_effects, after_p
 use Rattle.sl_run.specs.Worlds.{Course, Dropped, Landed, Machine, Torn, World, change_machine, flight_of, is_in_flight, is_write_course, machine_at, stamp_now}
 use Rattle.sl_run.specs.declared.event.Event.TheVariants.{AnswerCall, Crash, Do, DropWrite, ExitOf, GiveCommand, Land, Pass, Reset, Restart, Sample, SpawnedOf, StartDaemon, Tear, Test, WakeUp}
 use Rattle.sl_run.specs.declared.event.Event.{Event}
+use Rattle.sl_run_law.specs.Going.{time_of}
 use Rattle.sl_run_law.specs.Machines.{EachMachine}
 use Rattle.sl_trace.specs.declared.effects.Call.{Call}
 use Rattle.sl_trace.specs.declared.effects.Effects.{Effects}
@@ -10,9 +11,10 @@ use Rattle.sl_trace.specs.declared.input.Input.{Input}
 use Rattle.sl_words.proofs.CaseLaws.{none_some, one_value, some_value, true_is_false}
 use Rattle.std.proofs.Common.{ap, arith, inl, inr, refl, subst, sym, ◌∙◌}
 use Rattle.std.proofs.lemmas.Bool.{and_from}
+use Rattle.std.proofs.lemmas.Option.{slice_get_within}
 use Rattle.std.specs.List.{enumerate_from}
 use Rattle.std.specs.Option.{option_map_or}
-use Rattle.std.specs.Prelude.{Bool, List, None, Option, Some, false, if◌then◌else◌, map, not, ◌&&◌, option_and_then, slice_get, slice_set, suc, true, zero, [], ℕ, ◌+◌, ◌-◌, ◌<◌, ◌==◌, ◌∷◌, ◌≡◌, ◌⊎◌}
+use Rattle.std.specs.Prelude.{Bool, List, length, None, Option, Some, false, if◌then◌else◌, map, not, ◌&&◌, option_and_then, slice_get, slice_set, suc, true, zero, [], ℕ, ◌+◌, ◌-◌, ◌<◌, ◌==◌, ◌∷◌, ◌≡◌, ◌⊎◌}
 
 -- ---- places in the list
 
@@ -66,6 +68,13 @@ each_further S w v u further x y m a h =
     let q = y m p.0 p.1 in
     (q.0, q.1, further m a p.0 q.0 p.2 q.2)
 
+pub each_then : (S T U : ℕ → Machine → Machine → Type 0) (w v u : World) → ((m : ℕ) (a b c : Machine) → S m a b → T m b c → U m a c) → EachMachine S w v
+    → EachMachine T v u → EachMachine U w u
+each_then S T U w v u further x y m a h =
+    let p = x m a h in
+    let q = y m p.0 p.1 in
+    (q.0, q.1, further m a p.0 q.0 p.2 q.2)
+
 -- ---- one machine changes
 
 changed_place : (S : ℕ → Machine → Machine → Type 0) (f : Machine → Machine) (w : World) (m n : ℕ) (x a : Machine) → Still S → S m x (f x)
@@ -105,6 +114,10 @@ passed_place d growths (x ∷ ms) k (suc i) a h =
 
 number_of : (n : ℕ) → 0 < n → 1 + (n - 1) ≡ n
 number_of n h = omega (arith, h)
+
+-- A machine's number is in the range of the list.
+pub number_within : (w : World) (m : ℕ) (a : Machine) → machine_at w m ≡ Some a → (m - 1 < length w.machines) × (1 + (m - 1) ≡ m)
+number_within w m a h = let p = index w m a h in (slice_get_within w.machines (m - 1) a p.1, number_of m (above m p.0))
 
 each_passed : (S : ℕ → Machine → Machine → Type 0) (d : ℕ) (growths : Option (List ℕ)) (w : World)
     → ((m : ℕ) (a : Machine) → machine_at w m ≡ Some a → S m a (passed d growths m a)) → EachMachine S w (after_pass d growths w)
@@ -209,26 +222,26 @@ completes_by S w m c (Some f) is still read write = completed_by S w m c f (is_w
 
 -- ---- all events
 
-pub each_first : (S : ℕ → Machine → Machine → Type 0) (e : Event) (w : World) → Still S → Asked S w e → EachMachine S w (first_change e w)
+pub each_first : (S : ℕ → Machine → Machine → Type 0) (e : Event) (w : World) → (time_of e ≡ 0 → Still S) → Asked S w e → EachMachine S w (first_change e w)
 unfolding first_change
 each_first S (Pass d growths) w still q = each_passed S d growths w (q.pass d growths refl)
-each_first S (WakeUp m) w still q = each_still S w still
-each_first S (GiveCommand m text) w still q = each_still S w still
-each_first S (Sample m c k) w still q = each_changed S (change_call c (sampled_more w k)) w m still (q.sample m c k refl)
+each_first S (WakeUp m) w still q = each_still S w (still refl)
+each_first S (GiveCommand m text) w still q = each_still S w (still refl)
+each_first S (Sample m c k) w still q = each_changed S (change_call c (sampled_more w k)) w m (still refl) (q.sample m c k refl)
 each_first S (Land m c) w still q =
-    whole_by S w m c (flight_at w m c) refl still (λ a f h k. q.land m c refl a f h (flight_is w m c a f h k) refl)
+    whole_by S w m c (flight_at w m c) refl (still refl) (λ a f h k. q.land m c refl a f h (flight_is w m c a f h k) refl)
 each_first S (Tear m c k bytes) w still q =
-    torn_by S w m c k bytes (flight_at w m c) refl still (λ a f h j. q.tear m c k bytes refl a f h (flight_is w m c a f h j) refl)
-each_first S (AnswerCall m c ok) w still q = each_still S w still
-each_first S (Do m c) w still q = completes_by S w m c (flight_at w m c) refl still (q.done_read m c refl) (q.done_write m c refl)
-each_first S (DropWrite m c) w still q = each_changed S (change_call c (fated Dropped)) w m still (q.drop_write m c refl)
-each_first S (Test m) w still q = each_changed S (after_test w) w m still (q.tested m refl)
-each_first S (ExitOf m p) w still q = each_still S w still
-each_first S (SpawnedOf m p ok) w still q = each_still S w still
-each_first S (StartDaemon m name) w still q = each_changed S (after_start w m name) w m still (q.start m name refl)
-each_first S (Crash m) w still q = each_changed S after_crash w m still (q.crash m refl)
-each_first S (Reset m) w still q = each_changed S (after_reset w) w m still (q.reset m refl)
-each_first S (Restart m) w still q = each_changed S (after_restart w) w m still (q.restart m refl)
+    torn_by S w m c k bytes (flight_at w m c) refl (still refl) (λ a f h j. q.tear m c k bytes refl a f h (flight_is w m c a f h j) refl)
+each_first S (AnswerCall m c ok) w still q = each_still S w (still refl)
+each_first S (Do m c) w still q = completes_by S w m c (flight_at w m c) refl (still refl) (q.done_read m c refl) (q.done_write m c refl)
+each_first S (DropWrite m c) w still q = each_changed S (change_call c (fated Dropped)) w m (still refl) (q.drop_write m c refl)
+each_first S (Test m) w still q = each_changed S (after_test w) w m (still refl) (q.tested m refl)
+each_first S (ExitOf m p) w still q = each_still S w (still refl)
+each_first S (SpawnedOf m p ok) w still q = each_still S w (still refl)
+each_first S (StartDaemon m name) w still q = each_changed S (after_start w m name) w m (still refl) (q.start m name refl)
+each_first S (Crash m) w still q = each_changed S after_crash w m (still refl) (q.crash m refl)
+each_first S (Reset m) w still q = each_changed S (after_reset w) w m (still refl) (q.reset m refl)
+each_first S (Restart m) w still q = each_changed S (after_restart w) w m (still refl) (q.restart m refl)
 
 -- ---- a step
 

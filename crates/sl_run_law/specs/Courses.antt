@@ -22,22 +22,22 @@ pub record Continues (c d : Course) : Type 0 where
   pub samples : Appended c.samples d.samples
 
 -- One after another.
-abbrev pub Follow : (Course → Course → Type 0) → List Course → List Course → Type 0
+abbrev pub Follow : {A : Type 0} → (A → A → Type 0) → List A → List A → Type 0
 Follow C [] [] = Unit {0}
 Follow C [] (d ∷ ds) = ⊥
 Follow C (c ∷ cs) [] = ⊥
 Follow C (c ∷ cs) (d ∷ ds) = C c d × Follow C cs ds
 
 -- Each goes on in its place, and newer ones stand in front.
-pub record CallsGo (C : Course → Course → Type 0) (before after : List Course) : Type 0 where
-  pub newer : List Course
-  pub older : List Course
+pub record ListGoes {A : Type 0} (C : A → A → Type 0) (before after : List A) : Type 0 where
+  pub newer : List A
+  pub older : List A
   pub same : after ≡ newer ++ older
   pub follow : Follow C before older
 
 -- A machine later.
 pub record Tracks (C : Course → Course → Type 0) (a b : Machine) : Type 0 where
-  pub calls : CallsGo C a.calls b.calls
+  pub calls : ListGoes C a.calls b.calls
   pub resets : Grown a.resets b.resets
   pub ended : Grown a.ended b.ended
 

@@ -1,3 +1,5 @@
 pub mod Going
 pub mod Machines
 pub mod Courses
+pub mod Daemons
+pub mod Clocks

@@ -1,6 +1,8 @@
 //! What stays and what only grows in a world.
 
+ghost use Rattle.sl_run_law.specs.Clocks.{ClocksDrift, ClocksDriftInRuns};
 ghost use Rattle.sl_run_law.specs.Courses.{MachinesGoOn, MachinesGoOnInRuns};
+ghost use Rattle.sl_run_law.specs.Daemons.{DaemonsGoOn, DaemonsGoOnInRuns};
 ghost use Rattle.sl_run_law.specs.Going.{RunsGoOn, WorldsGoOn};
 
 /// An event leaves the header, the layout and the number of machines; time goes on by what it takes, and landings stay.
@@ -21,4 +23,24 @@ pub fn machines_go_on()
 /// So it is along a run.
 pub fn machines_go_on_in_runs()
     ensures { MachinesGoOnInRuns }
+{}
+
+/// Each daemon stays in its place, and its trace grows in front.
+pub fn daemons_go_on()
+    ensures { DaemonsGoOn }
+{}
+
+/// So it is along a run.
+pub fn daemons_go_on_in_runs()
+    ensures { DaemonsGoOnInRuns }
+{}
+
+/// A clock grows within the drift of the time that passes.
+pub fn clocks_drift()
+    ensures { ClocksDrift }
+{}
+
+/// So it is along a run.
+pub fn clocks_drift_in_runs()
+    ensures { ClocksDriftInRuns }
 {}
