@@ -3,6 +3,7 @@ use Rattle.sl_run.specs.Events.{new_course}
 use Rattle.sl_run.specs.Worlds.{Course, Stamp}
 use Rattle.sl_run_law.proofs.Going.{grown_again}
 use Rattle.sl_run_law.specs.Courses.{Appended, ListGoes, Continues, Follow}
+use Rattle.sl_run_law.specs.Fates.{Every}
 use Rattle.sl_run_law.specs.Going.{Grown}
 use Rattle.sl_trace.specs.declared.effects.Call.{Call}
 use Rattle.std.proofs.Common.{ap, refl, subst, sym, ◌∙◌}
@@ -44,11 +45,6 @@ StillCourse {A = A} C = (c : A) → C c c
 
 abbrev pub FurtherCourse : {A : Type 0} → (A → A → Type 0) → Type 0
 FurtherCourse {A = A} C = (c d e : A) → C c d → C d e → C c e
-
--- Each of them.
-abbrev pub Every : {A : Type 0} → (A → Type 0) → List A → Type 0
-Every P [] = Unit {0}
-Every P (c ∷ cs) = P c × Every P cs
 
 pub every_of : {A : Type 0} (P : A → Type 0) (cs : List A) → ((c : A) → P c) → Every P cs
 every_of P [] h = tt

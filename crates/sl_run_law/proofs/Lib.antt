@@ -5,3 +5,4 @@ pub mod Tracking
 pub mod Guards
 pub mod Hosting
 pub mod Clocks
+pub mod Fates

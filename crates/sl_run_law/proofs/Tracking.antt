@@ -3,10 +3,11 @@ use Rattle.sl_run.specs.Events.{after_crash, after_effects, after_step, change_c
 use Rattle.sl_run.specs.Runs.{Happening, world_after}
 use Rattle.sl_run.specs.Worlds.{Course, Daemon, Dropped, Fate, Landed, Machine, Stamp, Torn, World, stamp_now}
 use Rattle.sl_run.specs.declared.event.Event.{Event}
-use Rattle.sl_run_law.proofs.Coursing.{Every, FurtherCourse, StillCourse, calls_changed, calls_further, calls_still, calls_submitted, continues_further, continues_still, every_of, none_appended}
+use Rattle.sl_run_law.proofs.Coursing.{FurtherCourse, StillCourse, calls_changed, calls_further, calls_still, calls_submitted, continues_further, continues_still, every_of, none_appended}
 use Rattle.sl_run_law.proofs.Going.{grown_again, same_list}
 use Rattle.sl_run_law.proofs.Walking.{Asked, each_first, each_further, each_step, each_still}
 use Rattle.sl_run_law.specs.Courses.{Continues, Tracks}
+use Rattle.sl_run_law.specs.Fates.{Every}
 use Rattle.sl_run_law.specs.Going.{Grown}
 use Rattle.sl_run_law.specs.Machines.{EachMachine}
 use Rattle.sl_trace.specs.Traces.{is_ok_answer}
@@ -34,14 +35,14 @@ pub tracks_changed : (C : Course → Course → Type 0) (n : ℕ) (f : Course �
 tracks_changed C n f a still h =
     record { calls = calls_changed C (λ c. c.call.number == n) f a.calls still h; resets = same_list a.resets; ended = same_list a.ended }
 
-ended_by : (o : Option Daemon) (ds : List Daemon) → Grown ds (elim o as (λ x. List Daemon) [ None ↦ ds | Some d ↦ d ∷ ds ])
+pub ended_by : (o : Option Daemon) (ds : List Daemon) → Grown ds (elim o as (λ x. List Daemon) [ None ↦ ds | Some d ↦ d ∷ ds ])
 ended_by None ds = same_list ds
 ended_by (Some d) ds = record { newer = d ∷ []; same = refl }
 
 pub tracks_crash : (C : Course → Course → Type 0) (a : Machine) → StillCourse C → Tracks C a (after_crash a)
 tracks_crash C a still = record { calls = calls_still C a.calls still; resets = same_list a.resets; ended = ended_by a.daemon a.ended }
 
-tracks_effects : (C : Course → Course → Type 0) (now : Stamp) (fx : Effects) (a : Machine) → StillCourse C → Tracks C a (after_effects now fx a)
+pub tracks_effects : (C : Course → Course → Type 0) (now : Stamp) (fx : Effects) (a : Machine) → StillCourse C → Tracks C a (after_effects now fx a)
 tracks_effects C now fx a still =
     record { calls = calls_submitted C now (daemon_number a) a.calls fx.calls still; resets = same_list a.resets; ended = same_list a.ended }
 

@@ -3,3 +3,4 @@ pub mod Machines
 pub mod Courses
 pub mod Daemons
 pub mod Clocks
+pub mod Fates

@@ -3,6 +3,7 @@
 ghost use Rattle.sl_run_law.specs.Clocks.{ClocksDrift, ClocksDriftInRuns};
 ghost use Rattle.sl_run_law.specs.Courses.{MachinesGoOn, MachinesGoOnInRuns};
 ghost use Rattle.sl_run_law.specs.Daemons.{DaemonsGoOn, DaemonsGoOnInRuns};
+ghost use Rattle.sl_run_law.specs.Fates.{FatesStay, FatesStayInRuns};
 ghost use Rattle.sl_run_law.specs.Going.{RunsGoOn, WorldsGoOn};
 
 /// An event leaves the header, the layout and the number of machines; time goes on by what it takes, and landings stay.
@@ -43,4 +44,14 @@ pub fn clocks_drift()
 /// So it is along a run.
 pub fn clocks_drift_in_runs()
     ensures { ClocksDriftInRuns }
+{}
+
+/// A fate changes only from in flight, where no two calls of a machine have one number.
+pub fn fates_stay()
+    ensures { FatesStay }
+{}
+
+/// So it is along a run.
+pub fn fates_stay_in_runs()
+    ensures { FatesStayInRuns }
 {}
