@@ -18,20 +18,20 @@ use Rattle.std.specs.Prelude.{Bool, List, Some, false, find, if◌then◌else◌
 
 -- ---- the one with the number
 
-every_map : (P Q : Course → Type 0) (cs : List Course) → ((c : Course) → P c → Q c) → Every P cs → Every Q cs
+pub every_map : (P Q : Course → Type 0) (cs : List Course) → ((c : Course) → P c → Q c) → Every P cs → Every Q cs
 every_map P Q [] f h = tt
 every_map P Q (c ∷ cs) f h = (f c h.0, every_map P Q cs f h.1)
 
-record Found (p : Course → Bool) (P : Course → Type 0) (f : Course) : Type 0 where
-  test : p f ≡ true
-  holds : P f
+pub record Found (p : Course → Bool) (P : Course → Type 0) (f : Course) : Type 0 where
+  pub test : p f ≡ true
+  pub holds : P f
 
 found_at : (p : Course → Bool) (P : Course → Type 0) (c : Course) (cs : List Course) (f : Course) (b : Bool) → p c ≡ b → (if b then Some c else find p cs) ≡ Some f
     → P c → (find p cs ≡ Some f → Found p P f) → Found p P f
 found_at p P c cs f true is h this rest = let same = some_value c f h in record { test = ap p (sym same) ∙ is; holds = subst P same this }
 found_at p P c cs f false is h this rest = rest h
 
-found : (p : Course → Bool) (P : Course → Type 0) (cs : List Course) (f : Course) → find p cs ≡ Some f → Every P cs → Found p P f
+pub found : (p : Course → Bool) (P : Course → Type 0) (cs : List Course) (f : Course) → find p cs ≡ Some f → Every P cs → Found p P f
 found p P [] f h e = absurd (none_some f h)
 found p P (c ∷ cs) f h e = found_at p P c cs f (p c) refl h e.0 (λ k. found p P cs f k e.1)
 
@@ -51,7 +51,7 @@ numbered_at q n P c cs f false is h d this rest =
     (λ t. absurd (y.holds (same_numbers f.call.number c.call.number n (and_true (f.call.number == n) (q f) y.test).0 t)), rest h)
 
 -- What holds of the call in flight holds of all with its number.
-numbered : (q : Course → Bool) (n : ℕ) (P : Course → Type 0) (cs : List Course) (f : Course) → find (λ x. x.call.number == n && q x) cs ≡ Some f → AreDistinct cs → P f
+pub numbered : (q : Course → Bool) (n : ℕ) (P : Course → Type 0) (cs : List Course) (f : Course) → find (λ x. x.call.number == n && q x) cs ≡ Some f → AreDistinct cs → P f
     → Every (λ x. (x.call.number == n) ≡ true → P x) cs
 numbered q n P [] f h d this = tt
 numbered q n P (c ∷ cs) f h d this = numbered_at q n P c cs f (c.call.number == n && q c) refl h d this (λ k. numbered q n P cs f k d.1 this)

@@ -6,3 +6,4 @@ pub mod Guards
 pub mod Hosting
 pub mod Clocks
 pub mod Fates
+pub mod Answered

@@ -4,3 +4,4 @@ pub mod Courses
 pub mod Daemons
 pub mod Clocks
 pub mod Fates
+pub mod Answered

@@ -1,5 +1,6 @@
 //! What stays and what only grows in a world.
 
+ghost use Rattle.sl_run_law.specs.Answered.{AnswersStay, AnswersStayInRuns};
 ghost use Rattle.sl_run_law.specs.Clocks.{ClocksDrift, ClocksDriftInRuns};
 ghost use Rattle.sl_run_law.specs.Courses.{MachinesGoOn, MachinesGoOnInRuns};
 ghost use Rattle.sl_run_law.specs.Daemons.{DaemonsGoOn, DaemonsGoOnInRuns};
@@ -54,4 +55,14 @@ pub fn fates_stay()
 /// So it is along a run.
 pub fn fates_stay_in_runs()
     ensures { FatesStayInRuns }
+{}
+
+/// An answer once given stays, where no two calls of a machine have one number.
+pub fn answers_stay()
+    ensures { AnswersStay }
+{}
+
+/// So it is along a run.
+pub fn answers_stay_in_runs()
+    ensures { AnswersStayInRuns }
 {}
