@@ -7,3 +7,4 @@ pub mod Hosting
 pub mod Clocks
 pub mod Fates
 pub mod Answered
+pub mod Beginnings

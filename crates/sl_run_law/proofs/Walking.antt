@@ -35,7 +35,7 @@ index_by true o a h = absurd (none_some a h)
 index_by false o a h = (refl, h)
 
 -- The machine's place.
-index : (w : World) (m : ℕ) (a : Machine) → machine_at w m ≡ Some a → ((m == 0) ≡ false) × (slice_get w.machines (m - 1) ≡ Some a)
+pub index : (w : World) (m : ℕ) (a : Machine) → machine_at w m ≡ Some a → ((m == 0) ≡ false) × (slice_get w.machines (m - 1) ≡ Some a)
 index w m a h = index_by (m == 0) (slice_get w.machines (m - 1)) a h
 
 at_by : (b : Bool) (o : Option Machine) (a : Machine) → b ≡ false → o ≡ Some a → (if b then None else o) ≡ Some a

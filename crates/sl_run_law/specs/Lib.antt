@@ -5,3 +5,4 @@ pub mod Daemons
 pub mod Clocks
 pub mod Fates
 pub mod Answered
+pub mod Beginnings

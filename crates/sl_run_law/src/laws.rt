@@ -1,6 +1,7 @@
 //! What stays and what only grows in a world.
 
 ghost use Rattle.sl_run_law.specs.Answered.{AnswersStay, AnswersStayInRuns};
+ghost use Rattle.sl_run_law.specs.Beginnings.{BeginsCounted, BeginsNew};
 ghost use Rattle.sl_run_law.specs.Clocks.{ClocksDrift, ClocksDriftInRuns};
 ghost use Rattle.sl_run_law.specs.Courses.{MachinesGoOn, MachinesGoOnInRuns};
 ghost use Rattle.sl_run_law.specs.Daemons.{DaemonsGoOn, DaemonsGoOnInRuns};
@@ -65,4 +66,14 @@ pub fn answers_stay()
 /// So it is along a run.
 pub fn answers_stay_in_runs()
     ensures { AnswersStayInRuns }
+{}
+
+/// The header's world has as many machines as the header says.
+pub fn begins_counted()
+    ensures { BeginsCounted }
+{}
+
+/// Each of them is settled, and has made no call.
+pub fn begins_new()
+    ensures { BeginsNew }
 {}
