@@ -115,18 +115,21 @@ Before w e m a b = machine_at w m ≡ Some a → AreDistinct a.calls → Tracks 
 
 changes : (w : World) (e : Event) (m c : ℕ) (f : Course → Course) (a : Machine) → ((x : Course) → (f x).call ≡ x.call) → ((x : Course) → (f x).answered ≡ x.answered)
     → ((x : Course) → (f x).done ≡ x.done) → Before w e m a (change_call c f a)
-changes w e m c f a call answered done h d =
-    (tracks_changed KeepsAnswer c f a answer_still (every_of (λ x. (x.call.number == c) ≡ true → KeepsAnswer x (f x)) a.calls
-    (λ x t. record { answered = λ s k. answered x ∙ k; done = λ s k. done x })),
-    λ i is same n t. all_kept (λ x. x.call.number == c) f n a.calls call answered (ready w e m a h d i is same n t))
+changes w e m c f a call answered done h d = (
+  tracks_changed KeepsAnswer c f a answer_still (every_of (λ x. (x.call.number == c) ≡ true → KeepsAnswer x (f x)) a.calls
+      (λ x t. record { answered = λ s k. answered x ∙ k; done = λ s k. done x })),
+  λ i is same n t. all_kept (λ x. x.call.number == c) f n a.calls call answered (ready w e m a h d i is same n t),
+)
 
 no_calls : (w : World) (e : Event) (m : ℕ) (a b : Machine) → b.calls ≡ a.calls → b.resets ≡ a.resets → b.ended ≡ a.ended → Before w e m a b
-no_calls w e m a b calls resets ended h d =
-    (record {
-      calls = record { newer = []; older = a.calls; same = calls; follow = follow_still KeepsAnswer a.calls answer_still };
-      resets = record { newer = []; same = resets };
-      ended = record { newer = []; same = ended };
-    }, subst (λ cs. Ready w e m cs) (sym calls) (ready w e m a h d))
+no_calls w e m a b calls resets ended h d = (
+  record {
+    calls = record { newer = []; older = a.calls; same = calls; follow = follow_still KeepsAnswer a.calls answer_still };
+    resets = record { newer = []; same = resets };
+    ended = record { newer = []; same = ended };
+  },
+  subst (λ cs. Ready w e m cs) (sym calls) (ready w e m a h d),
+)
 
 asked : (w : World) (e : Event) → Asked (Before w e) w e
 asked w e =
@@ -141,11 +144,14 @@ asked w e =
       tested = λ m is a h. no_calls w e m a _ refl refl refl;
       start = λ m name is a h. no_calls w e m a _ refl refl refl;
       crash = λ m is a h k d. (tracks_crash KeepsAnswer a answer_still, ready w e m a k d);
-      reset = λ m is a h k d. (record {
-        calls = calls_still KeepsAnswer a.calls answer_still;
-        resets = record { newer = stamp_now w a ∷ []; same = refl };
-        ended = ended_by a.daemon a.ended;
-      }, ready w e m a k d);
+      reset = λ m is a h k d. (
+        record {
+          calls = calls_still KeepsAnswer a.calls answer_still;
+          resets = record { newer = stamp_now w a ∷ []; same = refl };
+          ended = ended_by a.daemon a.ended;
+        },
+        ready w e m a k d,
+      );
       restart = λ m is a h. no_calls w e m a _ refl refl refl;
     }
 

@@ -109,7 +109,7 @@ asked w e counted may =
     let rho : ℕ = w.header.timing.rho in
     record {
       pass = λ d growths is m a h.
-        subst (λ x. Drifts rho (time_of x) a (passed d growths m a)) (sym is) (passes_so w d growths counted (subst (λ x. may_happen w x ≡ true) is may) m a h);
+          subst (λ x. Drifts rho (time_of x) a (passed d growths m a)) (sym is) (passes_so w d growths counted (subst (λ x. may_happen w x ≡ true) is may) m a h);
       sample = λ m c k is a h. at_none rho (time_of e) a _ (ap time_of is) refl;
       land = λ m c is a f h g t. at_none rho (time_of e) a _ (ap time_of is) refl;
       tear = λ m c k bytes is a f h g t. at_none rho (time_of e) a _ (ap time_of is) refl;

@@ -41,10 +41,11 @@ same_numbers x y n h k = grind (arith, tests)
 numbered_at : (q : Course → Bool) (n : ℕ) (P : Course → Type 0) (c : Course) (cs : List Course) (f : Course) (b : Bool) → (c.call.number == n && q c) ≡ b
     → (if b then Some c else find (λ x. x.call.number == n && q x) cs) ≡ Some f → AreDistinct (c ∷ cs) → P f
     → (find (λ x. x.call.number == n && q x) cs ≡ Some f → Every (λ x. (x.call.number == n) ≡ true → P x) cs) → Every (λ x. (x.call.number == n) ≡ true → P x) (c ∷ cs)
-numbered_at q n P c cs f true is h d this rest =
-    (λ t. subst P (sym (some_value c f h)) this,
-    every_map (λ x. (x.call.number == c.call.number) ≡ true → ⊥) (λ x. (x.call.number == n) ≡ true → P x) cs
-    (λ x other t. absurd (other (same_numbers x.call.number c.call.number n t (and_true (c.call.number == n) (q c) is).0))) d.0)
+numbered_at q n P c cs f true is h d this rest = (
+  λ t. subst P (sym (some_value c f h)) this,
+  every_map (λ x. (x.call.number == c.call.number) ≡ true → ⊥) (λ x. (x.call.number == n) ≡ true → P x) cs
+      (λ x other t. absurd (other (same_numbers x.call.number c.call.number n t (and_true (c.call.number == n) (q c) is).0))) d.0,
+)
 numbered_at q n P c cs f false is h d this rest =
     let y : Found (λ x. x.call.number == n && q x) (λ x. (x.call.number == c.call.number) ≡ true → ⊥) f =
     found (λ x. x.call.number == n && q x) (λ x. (x.call.number == c.call.number) ≡ true → ⊥) cs f h d.0 in
@@ -96,8 +97,8 @@ asked w e each may =
       done_read = λ m c is a f h g t. unfated c (sampled_more w (sectors_left f)) a (λ x. refl);
       done_write = λ m c is a f h g t. now_fated Landed c a f (each m a h) g (and_true (is_write_course f) (is_in_flight f.fate) t).1;
       drop_write = λ m c is a h.
-        let p = drops w m c a (subst (λ x. may_happen w x ≡ true) is may) h in
-        now_fated Dropped c a p.0 (each m a h) p.1 p.2;
+          let p = drops w m c a (subst (λ x. may_happen w x ≡ true) is may) h in
+          now_fated Dropped c a p.0 (each m a h) p.1 p.2;
       tested = λ m is a h. no_calls a _ refl refl refl;
       start = λ m name is a h. no_calls a _ refl refl refl;
       crash = λ m is a h. tracks_crash KeepsFate a fate_still;

@@ -44,7 +44,7 @@ leaves a b up used daemon ended s =
     record {
       settled = record { down = λ h. daemon ∙ s.down (sym up ∙ h); unused = λ h. daemon ∙ s.unused (sym used ∙ h) };
       daemons = subst (λ o. ListGoes DaemonGoes (daemons_on a) (with_running o b.ended)) (sym daemon)
-      (subst (λ ds. ListGoes DaemonGoes (daemons_on a) (with_running a.daemon ds)) (sym ended) (same_daemons (daemons_on a)));
+          (subst (λ ds. ListGoes DaemonGoes (daemons_on a) (with_running a.daemon ds)) (sym ended) (same_daemons (daemons_on a)));
     }
 
 -- The daemon has one more entry.
@@ -55,13 +55,16 @@ entered_by e now (Some d) ds =
       newer = [];
       older = with_entry e now d ∷ ds;
       same = refl;
-      follow = (record {
-        number = refl;
-        setting = refl;
-        begun = refl;
-        trace = record { newer = e ∷ []; same = refl };
-        stamps = record { newer = now ∷ []; same = refl };
-      }, follow_still DaemonGoes ds daemon_still);
+      follow = (
+        record {
+          number = refl;
+          setting = refl;
+          begun = refl;
+          trace = record { newer = e ∷ []; same = refl };
+          stamps = record { newer = now ∷ []; same = refl };
+        },
+        follow_still DaemonGoes ds daemon_still,
+      );
     }
 
 entered : (e : Entry) (now : Stamp) (a b : Machine) → b.up ≡ a.up → b.used ≡ a.used → b.daemon ≡ option_map (with_entry e now) a.daemon → b.ended ≡ a.ended
@@ -73,7 +76,7 @@ entered e now a b up used daemon ended s =
         unused = λ h. daemon ∙ ap (option_map (with_entry e now)) (s.unused (sym used ∙ h));
       };
       daemons = subst (λ o. ListGoes DaemonGoes (daemons_on a) (with_running o b.ended)) (sym daemon)
-      (subst (λ ds. ListGoes DaemonGoes (daemons_on a) (with_running (option_map (with_entry e now) a.daemon) ds)) (sym ended) (entered_by e now a.daemon a.ended));
+          (subst (λ ds. ListGoes DaemonGoes (daemons_on a) (with_running (option_map (with_entry e now) a.daemon) ds)) (sym ended) (entered_by e now a.daemon a.ended));
     }
 
 -- The entry of a step.

@@ -83,9 +83,11 @@ changed_place : (S : ℕ → Machine → Machine → Type 0) (f : Machine → Ma
     → (b : Machine) × (machine_at (record w { machines = slice_set w.machines (m - 1) (f x) }) n ≡ Some b) × S n a b
 changed_place S f w m n x a still turn h k (inl p) =
     let same : n ≡ m = same_machine m n (index w m x h).0 (index w n a k).0 p.0 in
-    let one : x ≡ a = one_value x a (machine_at w m) h (ap (machine_at w) (sym same) ∙ k) in
-    (f x, at_by (n == 0) (slice_get (slice_set w.machines (m - 1) (f x)) (n - 1)) (f x) (index w n a k).0 p.1,
-    subst (λ y. S n y (f x)) one (subst (λ j. S j x (f x)) (sym same) turn))
+    let one : x ≡ a = one_value x a (machine_at w m) h (ap (machine_at w) (sym same) ∙ k) in (
+      f x,
+      at_by (n == 0) (slice_get (slice_set w.machines (m - 1) (f x)) (n - 1)) (f x) (index w n a k).0 p.1,
+      subst (λ y. S n y (f x)) one (subst (λ j. S j x (f x)) (sym same) turn),
+    )
 changed_place S f w m n x a still turn h k (inr q) =
     (a, at_by (n == 0) (slice_get (slice_set w.machines (m - 1) (f x)) (n - 1)) a (index w n a k).0 q, still n a)
 
@@ -122,11 +124,12 @@ number_within w m a h = let p = index w m a h in (slice_get_within w.machines (m
 each_passed : (S : ℕ → Machine → Machine → Type 0) (d : ℕ) (growths : Option (List ℕ)) (w : World)
     → ((m : ℕ) (a : Machine) → machine_at w m ≡ Some a → S m a (passed d growths m a)) → EachMachine S w (after_pass d growths w)
 each_passed S d growths w turn n a k =
-    let p = index w n a k in
-    (passed d growths n a,
-    at_by (n == 0) (slice_get (map (λ p. passed d growths p.0 p.1) (enumerate_from 1 w.machines)) (n - 1)) (passed d growths n a) p.0
-    (passed_place d growths w.machines 1 (n - 1) a p.1 ∙ ap (λ j. Some (passed d growths j a)) (number_of n (above n p.0))),
-    turn n a k)
+    let p = index w n a k in (
+      passed d growths n a,
+      at_by (n == 0) (slice_get (map (λ p. passed d growths p.0 p.1) (enumerate_from 1 w.machines)) (n - 1)) (passed d growths n a) p.0
+          (passed_place d growths w.machines 1 (n - 1) a p.1 ∙ ap (λ j. Some (passed d growths j a)) (number_of n (above n p.0))),
+      turn n a k,
+    )
 
 -- ---- what is asked of an event
 
