@@ -1,0 +1,5 @@
+use Rattle.sl_run_law.proofs.Answered.{event_answers}
+use Rattle.sl_run_law.proofs.laws.answers_stay.Goals as goal
+
+pub returns : goal.returns
+returns c = event_answers

@@ -1,0 +1,5 @@
+use Rattle.sl_run_law.proofs.Fates.{event_fates}
+use Rattle.sl_run_law.proofs.laws.fates_stay.Goals as goal
+
+pub returns : goal.returns
+returns c = event_fates

@@ -1,0 +1,79 @@
+//! What stays and what only grows in a world.
+
+ghost use Rattle.sl_run_law.specs.Answered.{AnswersStay, AnswersStayInRuns};
+ghost use Rattle.sl_run_law.specs.Beginnings.{BeginsCounted, BeginsNew};
+ghost use Rattle.sl_run_law.specs.Clocks.{ClocksDrift, ClocksDriftInRuns};
+ghost use Rattle.sl_run_law.specs.Courses.{MachinesGoOn, MachinesGoOnInRuns};
+ghost use Rattle.sl_run_law.specs.Daemons.{DaemonsGoOn, DaemonsGoOnInRuns};
+ghost use Rattle.sl_run_law.specs.Fates.{FatesStay, FatesStayInRuns};
+ghost use Rattle.sl_run_law.specs.Going.{RunsGoOn, WorldsGoOn};
+
+/// An event leaves the header, the layout and the number of machines; time goes on by what it takes, and landings stay.
+pub fn worlds_go_on()
+    ensures { WorldsGoOn }
+{}
+
+/// So does a run.
+pub fn runs_go_on()
+    ensures { RunsGoOn }
+{}
+
+/// Each call stays with what it has sampled, and so do resets and daemons that ended.
+pub fn machines_go_on()
+    ensures { MachinesGoOn }
+{}
+
+/// So it is along a run.
+pub fn machines_go_on_in_runs()
+    ensures { MachinesGoOnInRuns }
+{}
+
+/// Each daemon stays in its place, and its trace grows in front.
+pub fn daemons_go_on()
+    ensures { DaemonsGoOn }
+{}
+
+/// So it is along a run.
+pub fn daemons_go_on_in_runs()
+    ensures { DaemonsGoOnInRuns }
+{}
+
+/// A clock grows within the drift of the time that passes.
+pub fn clocks_drift()
+    ensures { ClocksDrift }
+{}
+
+/// So it is along a run.
+pub fn clocks_drift_in_runs()
+    ensures { ClocksDriftInRuns }
+{}
+
+/// A fate changes only from in flight, where no two calls of a machine have one number.
+pub fn fates_stay()
+    ensures { FatesStay }
+{}
+
+/// So it is along a run.
+pub fn fates_stay_in_runs()
+    ensures { FatesStayInRuns }
+{}
+
+/// An answer once given stays, where no two calls of a machine have one number.
+pub fn answers_stay()
+    ensures { AnswersStay }
+{}
+
+/// So it is along a run.
+pub fn answers_stay_in_runs()
+    ensures { AnswersStayInRuns }
+{}
+
+/// The header's world has as many machines as the header says.
+pub fn begins_counted()
+    ensures { BeginsCounted }
+{}
+
+/// Each of them is settled, and has made no call.
+pub fn begins_new()
+    ensures { BeginsNew }
+{}
