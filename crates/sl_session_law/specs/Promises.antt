@@ -1,7 +1,10 @@
 -- What one lawful trace promises of one of its sessions.
-use Rattle.sl_sessions.specs.Sessions.{Session, ended_after, joined_after, refused_after, removed_after}
-use Rattle.sl_trace.specs.Traces.{Trace}
-use Rattle.std.specs.Prelude.{None, Option, Some, ℕ, ◌++◌, ◌≡◌}
+use Rattle.sl_law.specs.Lawful.{Lawful}
+use Rattle.sl_sessions.specs.Sessions.{Session, ended_after, joined_after, refused_after, removed_after, session_numbered}
+use Rattle.sl_trace.specs.Traces.{Answered, Setting, Submitted, Trace, submitted}
+use Rattle.sl_trace.specs.declared.effects.Call.{Call}
+use Rattle.sl_trace.specs.declared.effects.Entry.{Entry}
+use Rattle.std.specs.Prelude.{Contains, None, Option, Some, length, slice_get, ℕ, ◌++◌, ◌∷◌, ◌≡◌}
 
 -- A mark of a session, once it is there, never changes.
 abbrev pub Stays : (Trace → Session → Option ℕ) → Type 0
@@ -14,3 +17,32 @@ pub record MarksStay : Type 0 where
   pub removed : Stays removed_after
   pub ended : Stays ended_after
   pub apart : (es : Trace) (s : Session) (k : ℕ) → refused_after es s ≡ Some k → joined_after es s ≡ None
+
+-- Where a call was made: by which call of which entry, after which trace.
+pub record IsMade (es : Trace) (m : Submitted) : Type 0 where
+  pub later : Trace
+  pub entry : Entry
+  pub past : Trace
+  pub whole : es ≡ later ++ entry ∷ past
+  pub index : ℕ
+  pub call : slice_get entry.effects.calls index ≡ Some m.call
+  pub place : m.at ≡ length past
+  pub reading : m.reading ≡ entry.reading
+
+-- Each call was made by an entry: what the laws say of each call of an entry is said of it.
+abbrev pub CallsAreMade : Type 0
+CallsAreMade = (es : Trace) (m : Submitted) → Contains (submitted es) m → IsMade es m
+
+-- An answered call never changes.
+abbrev pub AnswersStay : Type 0
+AnswersStay = (later es : Trace) (m : Submitted) (a : Answered) → Contains (submitted es) m → m.answer ≡ Some a → Contains (submitted (later ++ es)) m
+
+-- The session is one of the trace's.
+abbrev pub IsSession : Setting → Trace → Session → Type 0
+IsSession st es s = session_numbered st es s.number ≡ Some s
+
+-- A session that has ended, or was refused, submits nothing more.
+abbrev pub EndedAreSilent : Type 0
+EndedAreSilent =
+    (st : Setting) (e : Entry) (past : Trace) (s : Session) → Lawful st (e ∷ past) → IsSession st (e ∷ past) s → (k : ℕ) → ended_after past s ≡ Some k
+    → (i : ℕ) (c : Call) → slice_get e.effects.calls i ≡ Some c → c.session ≡ s.number → ⊥

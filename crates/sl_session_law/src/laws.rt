@@ -1,8 +1,23 @@
 //! What is known of a session stays known.
 
-ghost use Rattle.sl_session_law.specs.Promises.{MarksStay};
+ghost use Rattle.sl_session_law.specs.Promises.{AnswersStay, CallsAreMade, EndedAreSilent, MarksStay};
 
 /// Joined, refused, removed, ended: each stays as it was first found.
 pub fn marks_stay()
     ensures { MarksStay }
+{}
+
+/// Each call was made by an entry.
+pub fn calls_are_made()
+    ensures { CallsAreMade }
+{}
+
+/// An answered call never changes.
+pub fn answers_stay()
+    ensures { AnswersStay }
+{}
+
+/// A session that has ended submits nothing more.
+pub fn ended_are_silent()
+    ensures { EndedAreSilent }
 {}
