@@ -1,10 +1,12 @@
 -- What one lawful trace promises of one of its sessions.
 use Rattle.sl_law.specs.Lawful.{Lawful}
-use Rattle.sl_sessions.specs.Sessions.{Session, ended_after, joined_after, refused_after, removed_after, session_numbered}
-use Rattle.sl_trace.specs.Traces.{Answered, Setting, Submitted, Trace, submitted}
+use Rattle.sl_law.specs.LawfulDelta.{LawfulDeltaCall, is_on_own_sector}
+use Rattle.sl_law.specs.Saying.{cut_at}
+use Rattle.sl_sessions.specs.Sessions.{Session, ended_after, has_open_delta, is_delta_purpose, is_survey_purpose, joined_after, refused_after, removed_after, session_numbered}
+use Rattle.sl_trace.specs.Traces.{Answered, Setting, Submitted, Trace, new_call, submitted}
 use Rattle.sl_trace.specs.declared.effects.Call.{Call}
 use Rattle.sl_trace.specs.declared.effects.Entry.{Entry}
-use Rattle.std.specs.Prelude.{Contains, None, Option, Some, length, slice_get, ℕ, ◌++◌, ◌∷◌, ◌≡◌}
+use Rattle.std.specs.Prelude.{Contains, IsTrue, None, Option, Some, false, length, not, slice_get, ℕ, ◌&&◌, ◌++◌, ◌∷◌, ◌≡◌}
 
 -- A mark of a session, once it is there, never changes.
 abbrev pub Stays : (Trace → Session → Option ℕ) → Type 0
@@ -46,3 +48,29 @@ abbrev pub EndedAreSilent : Type 0
 EndedAreSilent =
     (st : Setting) (e : Entry) (past : Trace) (s : Session) → Lawful st (e ∷ past) → IsSession st (e ∷ past) s → (k : ℕ) → ended_after past s ≡ Some k
     → (i : ℕ) (c : Call) → slice_get e.effects.calls i ≡ Some c → c.session ≡ s.number → ⊥
+
+-- A session keeps its number.
+abbrev pub SessionsStay : Type 0
+SessionsStay =
+    (st : Setting) (later es : Trace) (n : ℕ) (s : Session) → session_numbered st es n ≡ Some s → session_numbered st (later ++ es) n ≡ Some s
+
+-- The trace as it stood when the call was made, and the call as it was made.
+abbrev pub front_of : {es : Trace} {m : Submitted} → IsMade es m → Trace
+front_of d = cut_at d.index d.entry ∷ d.past
+
+abbrev pub made_as : {es : Trace} {m : Submitted} → IsMade es m → Submitted
+made_as {es} {m} d = new_call (length d.past) d.entry.reading m.call
+
+-- A session's call kept the laws of delta sectors where it was made: its steps come in the order of a joining, with their waits and
+-- contents; at its own sector; and one at a time.
+pub record WasLawful (st : Setting) (es : Trace) (s : Session) (m : Submitted) : Type 0 where
+  pub made : IsMade es m
+  pub lawful : LawfulDeltaCall st (front_of made) s (made_as made) m.call.purpose
+  pub placed : IsTrue (is_delta_purpose m.call.purpose && not (is_survey_purpose m.call.purpose)) → IsTrue (is_on_own_sector st s (made_as made))
+  pub alone : IsTrue (is_delta_purpose m.call.purpose) → has_open_delta (front_of made) s ≡ false
+
+-- Each call of a session did.
+abbrev pub CallsWereLawful : Type 0
+CallsWereLawful =
+    (st : Setting) (es : Trace) (s : Session) (m : Submitted) → Lawful st es → IsSession st es s → Contains (submitted es) m → m.call.session ≡ s.number
+    → WasLawful st es s m

@@ -1,6 +1,6 @@
 //! What is known of a session stays known.
 
-ghost use Rattle.sl_session_law.specs.Promises.{AnswersStay, CallsAreMade, EndedAreSilent, MarksStay};
+ghost use Rattle.sl_session_law.specs.Promises.{AnswersStay, CallsAreMade, CallsWereLawful, EndedAreSilent, MarksStay, SessionsStay};
 
 /// Joined, refused, removed, ended: each stays as it was first found.
 pub fn marks_stay()
@@ -20,4 +20,14 @@ pub fn answers_stay()
 /// A session that has ended submits nothing more.
 pub fn ended_are_silent()
     ensures { EndedAreSilent }
+{}
+
+/// A session keeps its number.
+pub fn sessions_stay()
+    ensures { SessionsStay }
+{}
+
+/// Each call of a session kept the laws of delta sectors where it was made.
+pub fn calls_were_lawful()
+    ensures { CallsWereLawful }
 {}
