@@ -34,7 +34,7 @@ pub sessions_stay : SessionsStay
 sessions_stay st [] es n s at = at
 sessions_stay st (e ∷ later) es n s at = session_more st e (later ++ es) n s (sessions_stay st later es n s at)
 
-is_the_one : (o : Option Session) (s : Session) → IsSome o → ((x : Session) → o ≡ Some x → x ≡ s) → o ≡ Some s
+pub is_the_one : (o : Option Session) (s : Session) → IsSome o → ((x : Session) → o ≡ Some x → x ≡ s) → o ≡ Some s
 is_the_one None s some same = absurd (false_is_true some)
 is_the_one (Some x) s some same = ap (λ y. Some y) (same x refl)
 

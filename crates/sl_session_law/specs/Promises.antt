@@ -1,12 +1,17 @@
 -- What one lawful trace promises of one of its sessions.
 use Rattle.sl_law.specs.Lawful.{Lawful}
 use Rattle.sl_law.specs.LawfulDelta.{LawfulDeltaCall, is_on_own_sector}
-use Rattle.sl_law.specs.Saying.{cut_at}
-use Rattle.sl_sessions.specs.Sessions.{Session, ended_after, has_open_delta, is_delta_purpose, is_survey_purpose, joined_after, refused_after, removed_after, session_numbered}
-use Rattle.sl_trace.specs.Traces.{Answered, Setting, Submitted, Trace, new_call, submitted}
+use Rattle.sl_law.specs.LawfulWatchdog.{CoveredBy}
+use Rattle.sl_law.specs.Saying.{EachCall, cut_at}
+use Rattle.sl_sessions.specs.Sessions.{Session, calls_of, ended_after, has_open_delta, has_open_write, is_delta_purpose, is_survey_purpose, joined_after, refused_after, removed_after, session_numbered}
+use Rattle.sl_trace.specs.Traces.{Answered, EachEntry, Setting, Submitted, Trace, is_write, new_call, submitted}
 use Rattle.sl_trace.specs.declared.effects.Call.{Call}
 use Rattle.sl_trace.specs.declared.effects.Entry.{Entry}
-use Rattle.std.specs.Prelude.{Contains, IsTrue, None, Option, Some, false, length, not, slice_get, ℕ, ◌&&◌, ◌++◌, ◌∷◌, ◌≡◌}
+use Rattle.sl_trace.specs.declared.effects.JoinStep.TheVariants.{ClaimWrite, DecidingRead, FirstRead, FirstRenewal, VerifyRead, WatchRead}
+use Rattle.sl_trace.specs.declared.effects.Purpose.TheVariants.{Joining, SeeRequest}
+use Rattle.sl_trace.specs.declared.effects.Purpose.{Purpose}
+use Rattle.std.specs.List.{list_all}
+use Rattle.std.specs.Prelude.{Bool, Contains, IsTrue, List, None, Option, Some, [], false, is_some, length, not, slice_get, true, ℕ, ◌&&◌, ◌++◌, ◌∷◌, ◌≡◌}
 
 -- A mark of a session, once it is there, never changes.
 abbrev pub Stays : (Trace → Session → Option ℕ) → Type 0
@@ -74,3 +79,39 @@ abbrev pub CallsWereLawful : Type 0
 CallsWereLawful =
     (st : Setting) (es : Trace) (s : Session) (m : Submitted) → Lawful st es → IsSession st es s → Contains (submitted es) m → m.call.session ≡ s.number
     → WasLawful st es s m
+
+-- Requests are seen by joined sessions only. No law of traces says so: one that saw a request in its joining would stand at its
+-- beginning again, and could decide and claim twice.
+abbrev pub SeesJoined : Setting → Trace → Type 0
+SeesJoined st es = EachEntry (EachCall st (λ t s c. c.call.purpose ≡ SeeRequest → IsTrue (is_some (joined_after t s)))) es
+
+-- Whether a joining may make a call for this, that writes or not.
+abbrev pub fits_as : Purpose → Bool → Bool
+fits_as (Joining j ClaimWrite) writes = true
+fits_as (Joining j FirstRenewal) writes = true
+fits_as (Joining j step) writes = not writes
+fits_as p writes = false
+
+abbrev pub fits : Submitted → Bool
+fits m = fits_as m.call.purpose (is_write m.call.op)
+
+abbrev pub has_reply : Submitted → Bool
+has_reply m = is_some m.answer
+
+abbrev pub all_done : List Submitted → Bool
+all_done ms = list_all (λ m. fits m && has_reply m) ms
+
+-- Whether each call is one of a joining, and all but the newest are answered.
+abbrev pub is_in_turn : List Submitted → Bool
+is_in_turn [] = true
+is_in_turn (m ∷ ms) = fits m && all_done ms
+
+-- The calls of a session that isn't joined are in turn.
+abbrev pub JoiningsAreInTurn : Type 0
+JoiningsAreInTurn =
+    (st : Setting) (es : Trace) (s : Session) → Lawful st es → SeesJoined st es → IsSession st es s → joined_after es s ≡ None → is_in_turn (calls_of es s) ≡ true
+
+-- While a write of a session that was not removed is unanswered, its connection stands, and ends in time.
+abbrev pub WritesAreCovered : Type 0
+WritesAreCovered =
+    (st : Setting) (es : Trace) (s : Session) → Lawful st es → SeesJoined st es → IsSession st es s → removed_after es s ≡ None → has_open_write es s ≡ true → CoveredBy st es s

@@ -1,6 +1,6 @@
 //! What is known of a session stays known.
 
-ghost use Rattle.sl_session_law.specs.Promises.{AnswersStay, CallsAreMade, CallsWereLawful, EndedAreSilent, MarksStay, SessionsStay};
+ghost use Rattle.sl_session_law.specs.Promises.{AnswersStay, CallsAreMade, CallsWereLawful, EndedAreSilent, JoiningsAreInTurn, MarksStay, SessionsStay, WritesAreCovered};
 
 /// Joined, refused, removed, ended: each stays as it was first found.
 pub fn marks_stay()
@@ -30,4 +30,14 @@ pub fn sessions_stay()
 /// Each call of a session kept the laws of delta sectors where it was made.
 pub fn calls_were_lawful()
     ensures { CallsWereLawful }
+{}
+
+/// In a joining one call comes after another's answer.
+pub fn joinings_are_in_turn()
+    ensures { JoiningsAreInTurn }
+{}
+
+/// While a write is unanswered its session's connection stands.
+pub fn writes_are_covered()
+    ensures { WritesAreCovered }
 {}
