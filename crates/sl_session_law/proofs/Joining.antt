@@ -63,7 +63,7 @@ turn_told es e n a (m ∷ ms) h =
     let parts = and_true (fits m) (all_done ms) h in
     both (fits (answered_in es e n a m)) (all_done (map (answered_in es e n a) ms)) (fits_told es e n a m parts.0) (done_told es e n a ms parts.1)
 
-turn_marked : (es : Trace) (e : Entry) (i : Input) (ms : List Submitted) → is_in_turn ms ≡ true → is_in_turn (mark es e i ms) ≡ true
+pub turn_marked : (es : Trace) (e : Entry) (i : Input) (ms : List Submitted) → is_in_turn ms ≡ true → is_in_turn (mark es e i ms) ≡ true
 turn_marked es e (Told n a) ms h = turn_told es e n a ms h
 turn_marked es e (Line text) ms h = h
 turn_marked es e (Exit p) ms h = h
@@ -72,7 +72,7 @@ turn_marked es e Wake ms h = h
 
 -- ---- a new call comes after an answer
 
-fits_delta : (p : Purpose) (w : Bool) → fits_as p w ≡ true → is_delta_purpose p ≡ true
+pub fits_delta : (p : Purpose) (w : Bool) → fits_as p w ≡ true → is_delta_purpose p ≡ true
 fits_delta (Joining j step) w h = refl
 fits_delta Renewal w h = refl
 fits_delta Survey w h = refl
@@ -104,7 +104,7 @@ done_unanswered (m ∷ ms) h =
     let parts = and_true (fits m && has_reply m) (all_done ms) h in
     unanswered_none m ms m.answer refl (and_true (fits m) (has_reply m) parts.0).1 ∙ done_unanswered ms parts.1
 
-turn_done : (ms : List Submitted) → is_in_turn ms ≡ true → list_any (λ x. is_delta_purpose x.call.purpose) (unanswered ms) ≡ false → all_done ms ≡ true
+pub turn_done : (ms : List Submitted) → is_in_turn ms ≡ true → list_any (λ x. is_delta_purpose x.call.purpose) (unanswered ms) ≡ false → all_done ms ≡ true
 turn_done [] h none = refl
 turn_done (m ∷ ms) h none =
     let parts = and_true (fits m) (all_done ms) h in
@@ -116,7 +116,7 @@ abbrev is_standing : Stage → Bool
 is_standing Standing = true
 is_standing stage = false
 
-abbrev stage_for : Purpose → Bool → Stage
+abbrev pub stage_for : Purpose → Bool → Stage
 stage_for p done = elim p [ Joining j step ↦ stage_after step done | _ ↦ Looking ]
 
 not_by_step : (step : JoinStep) (done : Bool) → is_standing (stage_after step done) ≡ false
@@ -179,17 +179,17 @@ fits_new st es s c SeeRequest law active sees none = absurd (not_joined es s non
 
 -- ---- along the trace
 
-abbrev InTurn : Session → Trace → Type 0
+abbrev pub InTurn : Session → Trace → Type 0
 InTurn s t = joined_after t s ≡ None → is_in_turn (calls_of t s) ≡ true
 
-joined_before : (e : Entry) (past : Trace) (s : Session) (o : Option ℕ) → joined_after past s ≡ o → joined_after (e ∷ past) s ≡ None → o ≡ None
+pub joined_before : (e : Entry) (past : Trace) (s : Session) (o : Option ℕ) → joined_after past s ≡ o → joined_after (e ∷ past) s ≡ None → o ≡ None
 joined_before e past s None is none = refl
 joined_before e past s (Some k) is none = absurd (no_value k (joined_after (e ∷ past) s) (joined_more e past s k is) none)
 
-same_number_by : (a b : ℕ) → (a == b) ≡ true → a ≡ b
+pub same_number_by : (a b : ℕ) → (a == b) ≡ true → a ≡ b
 same_number_by a b h = grind (arith, tests)
 
-turn_call : (st : Setting) (e : Entry) (past : Trace) (s : Session) → Lawful st (e ∷ past) → SeesJoined st (e ∷ past)
+pub turn_call : (st : Setting) (e : Entry) (past : Trace) (s : Session) → Lawful st (e ∷ past) → SeesJoined st (e ∷ past)
     → ((x : Session) → session_numbered st (e ∷ past) s.number ≡ Some x → x ≡ s)
     → (k : ℕ) (c : Call) → slice_get e.effects.calls k ≡ Some c → (b : Bool) → (c.session == s.number) ≡ b → InTurn s (cut_at k e ∷ past) → InTurn s (cut_at (suc k) e ∷ past)
 turn_call st e past s h sees same k c at false other before none = ap (λ ms. is_in_turn ms) (other_next past e s k c at other) ∙ before none

@@ -38,13 +38,14 @@ pub record IsNewCall (at reading : ℕ) (cs : List Call) (m : Submitted) : Type 
   pub call : slice_get cs index ≡ Some m.call
   pub place : m.at ≡ at
   pub reading_is : m.reading ≡ reading
+  pub unmet : m.answer ≡ None
 
 next_call_is : (at reading : ℕ) (c : Call) (cs : List Call) (m : Submitted) → IsNewCall at reading cs m → IsNewCall at reading (c ∷ cs) m
-next_call_is at reading c cs m n = record { index = suc n.index; call = n.call; place = n.place; reading_is = n.reading_is; }
+next_call_is at reading c cs m n = record { index = suc n.index; call = n.call; place = n.place; reading_is = n.reading_is; unmet = n.unmet; }
 
 first_call_is : (at reading : ℕ) (c : Call) (cs : List Call) (m : Submitted) → new_call at reading c ≡ m → IsNewCall at reading (c ∷ cs) m
 first_call_is at reading c cs m is =
-    subst (λ (x : Submitted). IsNewCall at reading (c ∷ cs) x) is (record { index = zero; call = refl; place = refl; reading_is = refl; })
+    subst (λ (x : Submitted). IsNewCall at reading (c ∷ cs) x) is (record { index = zero; call = refl; place = refl; reading_is = refl; unmet = refl; })
 
 either_new : (at reading : ℕ) (c : Call) (cs : List Call) (ms : List Submitted) (m : Submitted)
     → Contains (new_call at reading c ∷ ms) m ⊎ IsNewCall at reading cs m → Contains ms m ⊎ IsNewCall at reading (c ∷ cs) m

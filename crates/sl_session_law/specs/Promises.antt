@@ -3,11 +3,14 @@ use Rattle.sl_law.specs.Lawful.{Lawful}
 use Rattle.sl_law.specs.LawfulDelta.{LawfulDeltaCall, is_on_own_sector}
 use Rattle.sl_law.specs.LawfulWatchdog.{CoveredBy}
 use Rattle.sl_law.specs.Saying.{EachCall, cut_at}
-use Rattle.sl_sessions.specs.Sessions.{Session, calls_of, ended_after, has_open_delta, has_open_write, is_delta_purpose, is_survey_purpose, joined_after, refused_after, removed_after, session_numbered}
+use Rattle.sl_sessions.specs.Sessions.{Session, calls_of, ended_after, has_open_delta, has_open_write, is_delta_purpose, is_survey_purpose, joined_after, refused_after, removed_after, same_join_step, session_numbered, stage_after}
+use Rattle.sl_sessions.specs.declared.stage.Stage.TheVariants.{Deciding, Looking, Verifying, Waiting}
+use Rattle.sl_sessions.specs.declared.stage.Stage.{Stage}
 use Rattle.sl_trace.specs.Traces.{Answered, EachEntry, Setting, Submitted, Trace, is_write, new_call, submitted}
 use Rattle.sl_trace.specs.declared.effects.Call.{Call}
 use Rattle.sl_trace.specs.declared.effects.Entry.{Entry}
 use Rattle.sl_trace.specs.declared.effects.JoinStep.TheVariants.{ClaimWrite, DecidingRead, FirstRead, FirstRenewal, VerifyRead, WatchRead}
+use Rattle.sl_trace.specs.declared.effects.JoinStep.{JoinStep}
 use Rattle.sl_trace.specs.declared.effects.Purpose.TheVariants.{Joining, SeeRequest}
 use Rattle.sl_trace.specs.declared.effects.Purpose.{Purpose}
 use Rattle.std.specs.List.{list_all}
@@ -115,3 +118,47 @@ JoiningsAreInTurn =
 abbrev pub WritesAreCovered : Type 0
 WritesAreCovered =
     (st : Setting) (es : Trace) (s : Session) → Lawful st es → SeesJoined st es → IsSession st es s → removed_after es s ≡ None → has_open_write es s ≡ true → CoveredBy st es s
+
+-- What a call's laws say of reads and writes that were answered when it was made is true of them ever after.
+abbrev pub FrontAnswersStay : Type 0
+FrontAnswersStay = (es : Trace) (m : Submitted) (d : IsMade es m) (r : Submitted) (a : Answered) → Contains (submitted (front_of d)) r → r.answer ≡ Some a → Contains (submitted es) r
+
+-- Whether a joining in this stage may come to this step.
+abbrev pub is_watching : JoinStep → Bool
+is_watching WatchRead = true
+is_watching DecidingRead = true
+is_watching step = false
+
+abbrev pub leads_to : Stage → JoinStep → Bool
+leads_to Looking step = is_watching step
+leads_to Deciding step = same_join_step ClaimWrite step
+leads_to Waiting step = same_join_step VerifyRead step
+leads_to Verifying step = same_join_step FirstRenewal step
+leads_to stage step = false
+
+-- Whether a call for the second may come directly after one for the first: after a look a look or the deciding read, after the
+-- deciding read the claim, then the verify read, then the first renewal.
+abbrev pub may_follow : Purpose → Purpose → Bool
+may_follow (Joining i a) (Joining j b) = leads_to (stage_after a true) b
+may_follow p q = false
+
+-- Whether a joining may begin with it.
+abbrev pub looks : Purpose → Bool
+looks (Joining j FirstRead) = true
+looks (Joining j WatchRead) = true
+looks p = false
+
+-- Whether it may come after these, the newest first.
+abbrev pub may_come : List Submitted → Purpose → Bool
+may_come [] p = looks p
+may_come (m ∷ ms) p = may_follow m.call.purpose p
+
+-- Whether these calls, the newest first, are in the order of a joining.
+abbrev pub is_ordered : List Submitted → Bool
+is_ordered [] = true
+is_ordered (m ∷ ms) = may_come ms m.call.purpose && is_ordered ms
+
+-- The calls of a session that isn't joined are in the order of a joining; so it decides once, claims once, verifies once.
+abbrev pub JoiningsAreOrdered : Type 0
+JoiningsAreOrdered =
+    (st : Setting) (es : Trace) (s : Session) → Lawful st es → SeesJoined st es → IsSession st es s → joined_after es s ≡ None → is_ordered (calls_of es s) ≡ true

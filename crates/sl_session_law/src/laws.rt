@@ -1,6 +1,6 @@
 //! What is known of a session stays known.
 
-ghost use Rattle.sl_session_law.specs.Promises.{AnswersStay, CallsAreMade, CallsWereLawful, EndedAreSilent, JoiningsAreInTurn, MarksStay, SessionsStay, WritesAreCovered};
+ghost use Rattle.sl_session_law.specs.Promises.{AnswersStay, CallsAreMade, CallsWereLawful, EndedAreSilent, FrontAnswersStay, JoiningsAreInTurn, JoiningsAreOrdered, MarksStay, SessionsStay, WritesAreCovered};
 
 /// Joined, refused, removed, ended: each stays as it was first found.
 pub fn marks_stay()
@@ -40,4 +40,14 @@ pub fn joinings_are_in_turn()
 /// While a write is unanswered its session's connection stands.
 pub fn writes_are_covered()
     ensures { WritesAreCovered }
+{}
+
+/// What was answered when a call was made stays answered so.
+pub fn front_answers_stay()
+    ensures { FrontAnswersStay }
+{}
+
+/// The calls of a joining come in its order.
+pub fn joinings_are_ordered()
+    ensures { JoiningsAreOrdered }
 {}
