@@ -56,7 +56,7 @@ open_refused (Some k) removed refused free joining none may = absurd (no_value k
 open_refused None removed (Some k) free joining none may = absurd (false_is_true may)
 open_refused None removed None free joining none may = refl
 
-open_stage : (joined removed refused : Option ℕ) (free : Option Submitted) (joining : Stage) → joined ≡ None → refused ≡ None → stage_by joined removed refused free joining ≡ joining
+pub open_stage : (joined removed refused : Option ℕ) (free : Option Submitted) (joining : Stage) → joined ≡ None → refused ≡ None → stage_by joined removed refused free joining ≡ joining
 open_stage (Some k) removed refused free joining none at = absurd (no_value k (Some k) refl none)
 open_stage None removed (Some k) free joining none at = absurd (no_value k (Some k) refl at)
 open_stage None removed None free joining none at = refl

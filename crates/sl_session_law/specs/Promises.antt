@@ -3,9 +3,10 @@ use Rattle.sl_law.specs.Lawful.{Lawful}
 use Rattle.sl_law.specs.LawfulDelta.{LawfulDeltaCall, is_on_own_sector}
 use Rattle.sl_law.specs.LawfulWatchdog.{CoveredBy}
 use Rattle.sl_law.specs.Saying.{EachCall, cut_at}
-use Rattle.sl_sessions.specs.Sessions.{Session, calls_of, ended_after, has_open_delta, has_open_write, is_delta_purpose, is_survey_purpose, joined_after, refused_after, removed_after, same_join_step, session_numbered, stage_after}
+use Rattle.sl_sessions.specs.Sessions.{Session, calls_of, ended_after, free_write, has_open_delta, has_open_write, is_delta_purpose, is_survey_purpose, joined_after, refused_after, removed_after, same_join_step, session_numbered, stage_after, stage_of}
 use Rattle.sl_sessions.specs.declared.stage.Stage.TheVariants.{Deciding, Looking, Verifying, Waiting}
 use Rattle.sl_sessions.specs.declared.stage.Stage.{Stage}
+use Rattle.sl_trace.specs.TraceLaws.{with_call}
 use Rattle.sl_trace.specs.Traces.{Answered, EachEntry, Setting, Submitted, Trace, is_write, new_call, submitted}
 use Rattle.sl_trace.specs.declared.effects.Call.{Call}
 use Rattle.sl_trace.specs.declared.effects.Entry.{Entry}
@@ -162,3 +163,15 @@ is_ordered (m ∷ ms) = may_come ms m.call.purpose && is_ordered ms
 abbrev pub JoiningsAreOrdered : Type 0
 JoiningsAreOrdered =
     (st : Setting) (es : Trace) (s : Session) → Lawful st es → SeesJoined st es → IsSession st es s → joined_after es s ≡ None → is_ordered (calls_of es s) ≡ true
+
+-- Once its free is submitted a joined session submits nothing more.
+abbrev pub FreedAreSilent : Type 0
+FreedAreSilent =
+    (st : Setting) (e : Entry) (past : Trace) (s : Session) → Lawful st (e ∷ past) → IsSession st (e ∷ past) s → (k : ℕ) → joined_after past s ≡ Some k
+    → (m : Submitted) → free_write (calls_of past s) ≡ Some m → (i : ℕ) (c : Call) → slice_get e.effects.calls i ≡ Some c → c.session ≡ s.number → ⊥
+
+-- Why joinings must see no requests: wherever a joining stands, a request that it sees sets it back to its watch.
+abbrev pub SeeingSetsBack : Type 0
+SeeingSetsBack =
+    (es : Trace) (e : Entry) (c : Call) (s : Session) → joined_after (e ∷ es) s ≡ None → refused_after (e ∷ es) s ≡ None → c.purpose ≡ SeeRequest → c.session ≡ s.number
+    → stage_of (with_call c e ∷ es) s ≡ Looking

@@ -1,6 +1,6 @@
 //! What is known of a session stays known.
 
-ghost use Rattle.sl_session_law.specs.Promises.{AnswersStay, CallsAreMade, CallsWereLawful, EndedAreSilent, FrontAnswersStay, JoiningsAreInTurn, JoiningsAreOrdered, MarksStay, SessionsStay, WritesAreCovered};
+ghost use Rattle.sl_session_law.specs.Promises.{AnswersStay, CallsAreMade, CallsWereLawful, EndedAreSilent, FreedAreSilent, FrontAnswersStay, JoiningsAreInTurn, JoiningsAreOrdered, MarksStay, SeeingSetsBack, SessionsStay, WritesAreCovered};
 
 /// Joined, refused, removed, ended: each stays as it was first found.
 pub fn marks_stay()
@@ -50,4 +50,14 @@ pub fn front_answers_stay()
 /// The calls of a joining come in its order.
 pub fn joinings_are_ordered()
     ensures { JoiningsAreOrdered }
+{}
+
+/// After its free a session submits nothing more.
+pub fn freed_are_silent()
+    ensures { FreedAreSilent }
+{}
+
+/// A request that a joining sees sets it back.
+pub fn seeing_sets_back()
+    ensures { SeeingSetsBack }
 {}
