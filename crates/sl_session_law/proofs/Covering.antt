@@ -2,6 +2,7 @@
 use Rattle.sl_law.specs.LawfulWatchdog.{CoveredBy, is_covered}
 use Rattle.sl_law.specs.Lawful.{Lawful}
 use Rattle.sl_session_law.proofs.Joining.{done_unanswered, in_turn}
+use Rattle.sl_session_law.proofs.Parting.{not_removed}
 use Rattle.sl_session_law.proofs.Owning.{got_inside}
 use Rattle.sl_session_law.proofs.Silence.{stage_by}
 use Rattle.sl_session_law.specs.Promises.{IsSession, JoiningsAreInTurn, SeesJoined, WritesAreCovered, all_done, fits, fits_as, is_in_turn}
@@ -77,7 +78,7 @@ stands_at st [] s h its unmet is = absurd (false_is_true unmet)
 stands_at st (e ∷ past) s h its unmet is = h.watchdog.0.stands s (got_inside (sessions st (e ∷ past)) s.number s its) is
 
 pub writes_are_covered : WritesAreCovered
-writes_are_covered st es s h sees its gone unmet = stands_at st es s h its unmet (covered st es s h sees its gone unmet)
+writes_are_covered st es s h sees its unmet = stands_at st es s h its unmet (covered st es s h sees its (not_removed st es s h its unmet) unmet)
 
 pub joinings_are_in_turn : JoiningsAreInTurn
 joinings_are_in_turn st es s h sees its none = in_turn st es s h sees (λ x at. one_value x s _ at its) none

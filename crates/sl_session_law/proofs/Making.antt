@@ -6,6 +6,7 @@ use Rattle.sl_trace.specs.declared.effects.Entry.{Entry}
 use Rattle.sl_trace.specs.declared.input.Answer.{Answer}
 use Rattle.sl_trace.specs.declared.input.Input.TheVariants.{Answer as Told, Exit, Line, Spawned, Wake}
 use Rattle.sl_trace.specs.declared.input.Input.{Input}
+use Rattle.sl_words.proofs.CaseLaws.{no_value}
 use Rattle.std.proofs.Common.{ap, arith, inl, inr, refl, subst, sym, ◌∙◌}
 use Rattle.std.specs.Option.{option_or}
 use Rattle.std.specs.Prelude.{Bool, Contains, List, None, Option, Some, [], false, fold, length, map, slice_get, slice_index_or, suc, true, zero, ℕ, ◌++◌, ◌<◌, ◌==◌, ◌∷◌, ◌≡◌, ◌⊎◌}
@@ -81,19 +82,32 @@ pub record WasOpen (ms : List Submitted) (m : Submitted) : Type 0 where
   pub before : Submitted
   pub inside : Contains ms before
   pub same : SameCall m before
+  pub unmet : m.answer ≡ None → before.answer ≡ None
+
+unmet_by : (m : Submitted) (a : Answered) (b : Bool) (o : Option Answered) → m.answer ≡ o
+    → (elim b as (λ x. Submitted) [ false ↦ m | true ↦ record m { answer = option_or m.answer (Some a) } ]).answer ≡ None → m.answer ≡ None
+unmet_by m a false o is none = none
+unmet_by m a true None is none = is
+unmet_by m a true (Some c) is none = absurd (no_value c (option_or (Some c) (Some a)) refl (ap (λ q. option_or q (Some a)) (sym is) ∙ none))
 
 was_more : (x : Submitted) (ms : List Submitted) (m : Submitted) → WasOpen ms m → WasOpen (x ∷ ms) m
-was_more x ms m w = record { before = w.before; inside = contains_more x ms w.before w.inside; same = w.same; }
+was_more x ms m w = record { before = w.before; inside = contains_more x ms w.before w.inside; same = w.same; unmet = w.unmet; }
 
 was_told : (es : Trace) (e : Entry) (n : ℕ) (a : Answer) (ms : List Submitted) (m : Submitted) → Contains (map (answered_in es e n a) ms) m → WasOpen ms m
 was_told es e n a [] m there = absurd (contains_none m there)
 was_told es e n a (x ∷ ms) m there = by (λ rest. was_told es e n a ms m rest) (contains_cases (answered_in es e n a x) (map (answered_in es e n a) ms) m there) where
   by : (Contains (map (answered_in es e n a) ms) m → WasOpen ms m) → (answered_in es e n a x ≡ m) ⊎ Contains (map (answered_in es e n a) ms) m → WasOpen (x ∷ ms) m
-  by more (inl is) = record { before = x; inside = contains_first x ms; same = subst (λ (y : Submitted). SameCall y x) is (same_answered es e n a x); }
+  by more (inl is) =
+      record {
+        before = x;
+        inside = contains_first x ms;
+        same = subst (λ (y : Submitted). SameCall y x) is (same_answered es e n a x);
+        unmet = subst (λ (y : Submitted). y.answer ≡ None → x.answer ≡ None) is (unmet_by x (answer_of es e a x.call) (x.call.number == n) x.answer refl);
+      }
   by more (inr rest) = was_more x ms m (more rest)
 
 itself : (ms : List Submitted) (m : Submitted) → Contains ms m → WasOpen ms m
-itself ms m there = record { before = m; inside = there; same = record { at = refl; reading = refl; call = refl; }; }
+itself ms m there = record { before = m; inside = there; same = record { at = refl; reading = refl; call = refl; }; unmet = λ is. is; }
 
 pub was_marked : (es : Trace) (e : Entry) (i : Input) (ms : List Submitted) (m : Submitted) → Contains (mark es e i ms) m → WasOpen ms m
 was_marked es e (Told n a) ms m there = was_told es e n a ms m there

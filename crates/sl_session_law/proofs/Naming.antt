@@ -29,7 +29,7 @@ by_rest : {A : Type 0} (p : A → Bool) (x : A) (xs : List A) (d : A) → (Conta
 by_rest p x xs d rest (inl here) = inr here
 by_rest p x xs d rest (inr there) = inl (rest there)
 
-kept : {A : Type 0} (p : A → Bool) (xs : List A) (d : A) → p d ≡ true → Contains xs d → Contains (filter p xs) d
+pub kept : {A : Type 0} (p : A → Bool) (xs : List A) (d : A) → p d ≡ true → Contains xs d → Contains (filter p xs) d
 kept p [] d h there = absurd (contains_none d there)
 kept p (x ∷ xs) d h there =
     kept_at p x xs d (p x) refl h (contains_cases x xs d there) (by_rest p x xs d (λ inside. kept p xs d h inside) (contains_cases x xs d there))

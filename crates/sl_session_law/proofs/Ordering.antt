@@ -130,7 +130,7 @@ comes_new st t s c (ValueRead j) ms law f is stage turn first = absurd (false_is
 -- ---- a first read comes before all others
 
 -- A call of an earlier entry is one of a session that had begun.
-begun_before : (st : Setting) (e : Entry) (past : Trace) (s : Session) → Lawful st (e ∷ past) → ((x : Session) → session_numbered st (e ∷ past) s.number ≡ Some x → x ≡ s)
+pub begun_before : (st : Setting) (e : Entry) (past : Trace) (s : Session) → Lawful st (e ∷ past) → ((x : Session) → session_numbered st (e ∷ past) s.number ≡ Some x → x ≡ s)
     → (m : Submitted) → Contains (submitted past) m → m.call.session ≡ s.number → session_numbered st past m.call.session ≡ Some s
 begun_before st e past s h same m there mine =
     let d = calls_are_made past m there in

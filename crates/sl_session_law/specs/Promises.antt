@@ -115,10 +115,10 @@ abbrev pub JoiningsAreInTurn : Type 0
 JoiningsAreInTurn =
     (st : Setting) (es : Trace) (s : Session) → Lawful st es → SeesJoined st es → IsSession st es s → joined_after es s ≡ None → is_in_turn (calls_of es s) ≡ true
 
--- While a write of a session that was not removed is unanswered, its connection stands, and ends in time.
+-- While a write of a session is unanswered, the session is not removed, and its connection stands, and ends in time.
 abbrev pub WritesAreCovered : Type 0
 WritesAreCovered =
-    (st : Setting) (es : Trace) (s : Session) → Lawful st es → SeesJoined st es → IsSession st es s → removed_after es s ≡ None → has_open_write es s ≡ true → CoveredBy st es s
+    (st : Setting) (es : Trace) (s : Session) → Lawful st es → SeesJoined st es → IsSession st es s → has_open_write es s ≡ true → CoveredBy st es s
 
 -- What a call's laws say of reads and writes that were answered when it was made is true of them ever after.
 abbrev pub FrontAnswersStay : Type 0
