@@ -80,3 +80,11 @@ named st es s there joined refused none =
       ∙ fails (λ (x : Session). bytes_eq x.lockspace s.lockspace) (present_sessions st es) none s
         (sorted_new (λ (a b : Session). is_text_before a.lockspace b.lockspace) (filter (is_present es) (sessions st es)) [] s
           (kept (is_present es) (sessions st es) s (present_by (joined_after es s) (removed_after es s) (refused_after es s) (has_open_write es s) joined refused) there)))
+
+-- No other takes the name of a present session.
+pub absent : (st : Setting) (es : Trace) (name : List ℕ) (x : Session) → Contains (sessions st es) x → x.lockspace ≡ name → session_named st es name ≡ None → is_present es x ≡ true → ⊥
+absent st es name x there is none present =
+    true_is_false (sym (ap (λ n. bytes_eq n name) is ∙ same_name name)
+      ∙ fails (λ (y : Session). bytes_eq y.lockspace name) (present_sessions st es) none x
+        (sorted_new (λ (a b : Session). is_text_before a.lockspace b.lockspace) (filter (is_present es) (sessions st es)) [] x
+          (kept (is_present es) (sessions st es) x present there)))

@@ -1,9 +1,17 @@
--- What one lawful trace promises of one of its sessions.
+-- What one lawful trace promises of one of its sessions, for the steps of an id. What each step asks of the one trace:
+-- Decide: one deciding read (JoiningsAreOrdered); what it showed and that it was watched, registered and read in one entry
+--   (CallsWereLawful with LawfulDeciding, FrontAnswersStay); one session of a lockspace after another (NamesAreApart).
+-- TearClaim, LandClaim: own name, generation one above the base's (CallsWereLawful with LawfulClaim).
+-- Verify: the claim was answered ok, the wait and its bound, registered in the entry of the read (CallsWereLawful with LawfulVerify).
+-- LandOwn, Renew: own generation, seq one above the last (CallsWereLawful with LawfulFirstRenewal, LawfulRenewal, LawfulFree); one at
+--   a time (its `alone`); nothing after the free (FreedAreSilent).
+-- End: nothing is submitted from there on (EndedAreSilent); marks don't change (MarksStay).
+-- Bounds: a write in flight has its connection, with a bounded expiry (WritesAreCovered, WritersStay).
 use Rattle.sl_law.specs.Lawful.{Lawful}
 use Rattle.sl_law.specs.LawfulDelta.{LawfulDeltaCall, is_on_own_sector}
 use Rattle.sl_law.specs.LawfulWatchdog.{CoveredBy}
 use Rattle.sl_law.specs.Saying.{EachCall, cut_at}
-use Rattle.sl_sessions.specs.Sessions.{Session, calls_of, ended_after, free_write, has_open_delta, has_open_write, is_delta_purpose, is_survey_purpose, joined_after, refused_after, removed_after, same_join_step, session_numbered, stage_after, stage_of}
+use Rattle.sl_sessions.specs.Sessions.{Session, calls_of, ended_after, free_write, has_open_delta, has_open_write, is_delta_purpose, is_join_call, is_present, is_survey_purpose, joined_after, refused_after, removed_after, same_join_step, session_numbered, sessions, stage_after, stage_of}
 use Rattle.sl_sessions.specs.declared.stage.Stage.TheVariants.{Deciding, Looking, Verifying, Waiting}
 use Rattle.sl_sessions.specs.declared.stage.Stage.{Stage}
 use Rattle.sl_trace.specs.TraceLaws.{with_call}
@@ -115,7 +123,7 @@ abbrev pub JoiningsAreInTurn : Type 0
 JoiningsAreInTurn =
     (st : Setting) (es : Trace) (s : Session) → Lawful st es → SeesJoined st es → IsSession st es s → joined_after es s ≡ None → is_in_turn (calls_of es s) ≡ true
 
--- While a write of a session is unanswered, the session is not removed, and its connection stands, and ends in time.
+-- While a write of a session is unanswered its connection stands, and ends in time.
 abbrev pub WritesAreCovered : Type 0
 WritesAreCovered =
     (st : Setting) (es : Trace) (s : Session) → Lawful st es → SeesJoined st es → IsSession st es s → has_open_write es s ≡ true → CoveredBy st es s
@@ -175,3 +183,13 @@ abbrev pub SeeingSetsBack : Type 0
 SeeingSetsBack =
     (es : Trace) (e : Entry) (c : Call) (s : Session) → joined_after (e ∷ es) s ≡ None → refused_after (e ∷ es) s ≡ None → c.purpose ≡ SeeRequest → c.session ≡ s.number
     → stage_of (with_call c e ∷ es) s ≡ Looking
+
+-- A session is not removed while a write of it is unanswered.
+abbrev pub WritersStay : Type 0
+WritersStay = (st : Setting) (es : Trace) (s : Session) → Lawful st es → IsSession st es s → has_open_write es s ≡ true → removed_after es s ≡ None
+
+-- Where a session makes its first read, no session of its lockspace's name is present: each has ended, with no write unanswered.
+abbrev pub NamesAreApart : Type 0
+NamesAreApart =
+    (st : Setting) (es : Trace) (s : Session) (m : Submitted) (w : WasLawful st es s m) → IsTrue (is_join_call FirstRead m.call.purpose)
+    → (x : Session) → Contains (sessions st (front_of w.made)) x → x.lockspace ≡ s.lockspace → is_present (front_of w.made) x ≡ false

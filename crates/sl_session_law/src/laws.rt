@@ -1,6 +1,6 @@
 //! What is known of a session stays known.
 
-ghost use Rattle.sl_session_law.specs.Promises.{AnswersStay, CallsAreMade, CallsWereLawful, EndedAreSilent, FreedAreSilent, FrontAnswersStay, JoiningsAreInTurn, JoiningsAreOrdered, MarksStay, SeeingSetsBack, SessionsStay, WritesAreCovered};
+ghost use Rattle.sl_session_law.specs.Promises.{AnswersStay, CallsAreMade, CallsWereLawful, EndedAreSilent, FreedAreSilent, FrontAnswersStay, JoiningsAreInTurn, JoiningsAreOrdered, MarksStay, NamesAreApart, SeeingSetsBack, SessionsStay, WritersStay, WritesAreCovered};
 
 /// Joined, refused, removed, ended: each stays as it was first found.
 pub fn marks_stay()
@@ -60,4 +60,14 @@ pub fn freed_are_silent()
 /// A request that a joining sees sets it back.
 pub fn seeing_sets_back()
     ensures { SeeingSetsBack }
+{}
+
+/// A session is not removed while a write of it is unanswered.
+pub fn writers_stay()
+    ensures { WritersStay }
+{}
+
+/// One session of a lockspace's name comes after another.
+pub fn names_are_apart()
+    ensures { NamesAreApart }
 {}
