@@ -31,7 +31,7 @@ nobody st t s c (ValueRead j) law is = absurd (false_is_true is)
 pub names_are_apart : NamesAreApart
 names_are_apart st es s m w is x there same =
     is_false (is_present (front_of w.made) x)
-      (λ present. absent st (front_of w.made) s.lockspace x there same (nobody st (front_of w.made) s (made_as w.made) m.call.purpose w.lawful is) present)
+    (λ present. absent st (front_of w.made) s.lockspace x there same (nobody st (front_of w.made) s (made_as w.made) m.call.purpose w.lawful is) present)
 
 pub writers_stay : WritersStay
 writers_stay st es s h its waits = not_removed st es s h its waits

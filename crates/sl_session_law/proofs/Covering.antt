@@ -9,14 +9,14 @@ use Rattle.sl_session_law.specs.Promises.{IsSession, JoiningsAreInTurn, SeesJoin
 use Rattle.sl_sessions.specs.Sessions.{Session, calls_of, free_write, has_open_write, is_covered_stage, joined_after, refused_after, removed_after, sessions, stage_after, stage_in, stage_of}
 use Rattle.sl_sessions.specs.declared.stage.Stage.TheVariants.{Looking}
 use Rattle.sl_sessions.specs.declared.stage.Stage.{Stage}
-use Rattle.sl_trace.specs.Traces.{Answered, Setting, Submitted, Trace, is_answered_ok, is_ok_answer, is_write, unanswered}
+use Rattle.sl_trace.specs.Traces.{Answered, Setting, Submitted, Trace, is_ok_answer, is_write, unanswered}
 use Rattle.sl_trace.specs.declared.effects.JoinStep.TheVariants.{ClaimWrite, DecidingRead, FirstRead, FirstRenewal, VerifyRead, WatchRead}
 use Rattle.sl_trace.specs.declared.effects.Purpose.TheVariants.{RequestRead, RequestWrite, Joining, Lease, Leaving, Renewal, SeeRequest, Survey, ValueRead, ValueWrite}
 use Rattle.sl_trace.specs.declared.effects.Purpose.{Purpose}
 use Rattle.sl_words.proofs.CaseLaws.{false_is_true, no_value, one_value}
 use Rattle.sl_words.proofs.WordLaws.{and_true}
 use Rattle.sl_words.specs.Words.{some_is}
-use Rattle.std.proofs.Common.{ap, refl, subst, sym, ◌∙◌}
+use Rattle.std.proofs.Common.{ap, refl, sym, ◌∙◌}
 use Rattle.std.specs.List.{list_any}
 use Rattle.std.specs.Prelude.{Bool, List, None, Option, Some, [], cond, false, is_none, is_some, true, ℕ, ◌&&◌, ◌||◌, ◌∷◌, ◌≡◌}
 
@@ -57,7 +57,7 @@ covered_in [] h unmet = absurd (false_is_true unmet)
 covered_in (m ∷ ms) h unmet =
     let parts = and_true (fits m) (all_done ms) h in
     covered_by m m.answer parts.0
-      (ap (λ rest. list_any (λ (x : Submitted). is_write x.call.op) (open_with m m.answer rest)) (sym (done_unanswered ms parts.1)) ∙ unmet)
+    (ap (λ rest. list_any (λ (x : Submitted). is_write x.call.op) (open_with m m.answer rest)) (sym (done_unanswered ms parts.1)) ∙ unmet)
 
 by_stage : (joined removed refused : Option ℕ) (free : Option Submitted) (joining : Stage) → removed ≡ None → (joined ≡ None → is_covered_stage joining ≡ true)
     → (is_covered_stage (stage_by joined removed refused free joining) || is_some refused && true) ≡ true
@@ -71,7 +71,7 @@ covered : (st : Setting) (es : Trace) (s : Session) → Lawful st es → SeesJoi
 covered st es s h sees its gone unmet =
     ap (λ w. is_covered_stage (stage_of es s) || is_some (refused_after es s) && w) unmet
     ∙ by_stage (joined_after es s) (removed_after es s) (refused_after es s) (free_write (calls_of es s)) (stage_in (calls_of es s)) gone
-        (λ none. covered_in (calls_of es s) (in_turn st es s h sees (λ x at. one_value x s _ at its) none) unmet)
+    (λ none. covered_in (calls_of es s) (in_turn st es s h sees (λ x at. one_value x s _ at its) none) unmet)
 
 stands_at : (st : Setting) (es : Trace) (s : Session) → Lawful st es → IsSession st es s → has_open_write es s ≡ true → is_covered es s ≡ true → CoveredBy st es s
 stands_at st [] s h its unmet is = absurd (false_is_true unmet)

@@ -8,18 +8,18 @@ use Rattle.sl_session_law.proofs.Ordering.{open_stage}
 use Rattle.sl_session_law.proofs.Silence.{stage_by}
 use Rattle.sl_session_law.proofs.Staying.{joined_more}
 use Rattle.sl_session_law.specs.Promises.{FreedAreSilent, SeeingSetsBack}
-use Rattle.sl_sessions.specs.Sessions.{Session, calls_of, free_write, is_call_of, is_free_purpose, joined_after, refused_after, removed_after, session_numbered, stage_in, stage_of}
+use Rattle.sl_sessions.specs.Sessions.{Session, calls_of, free_write, is_call_of, is_free_purpose, joined_after, refused_after, removed_after, session_numbered, stage_in}
 use Rattle.sl_sessions.specs.declared.stage.Stage.{Stage}
 use Rattle.sl_trace.proofs.TraceFacts.{submitted-push}
 use Rattle.sl_trace.specs.TraceLaws.{with_call}
-use Rattle.sl_trace.specs.Traces.{Submitted, Trace, answered_in, mark, new_call, submitted}
+use Rattle.sl_trace.specs.Traces.{Submitted, Trace, answered_in, mark, new_call}
 use Rattle.sl_trace.specs.declared.effects.Call.{Call}
 use Rattle.sl_trace.specs.declared.effects.Entry.{Entry}
 use Rattle.sl_trace.specs.declared.input.Answer.{Answer}
 use Rattle.sl_trace.specs.declared.input.Input.TheVariants.{Answer as Told, Exit, Line, Spawned, Wake}
 use Rattle.sl_trace.specs.declared.input.Input.{Input}
-use Rattle.sl_words.proofs.CaseLaws.{false_is_true, no_value, none_some, true_is_false}
-use Rattle.std.proofs.Common.{ap, arith, refl, subst, sym, tests, ◌∙◌}
+use Rattle.sl_words.proofs.CaseLaws.{false_is_true, none_some, true_is_false}
+use Rattle.std.proofs.Common.{ap, arith, refl, sym, tests, ◌∙◌}
 use Rattle.std.specs.Prelude.{Bool, List, None, Option, Some, [], cond, false, filter, is_some, length, map, slice_get, suc, true, ℕ, ◌==◌, ◌∷◌, ◌≡◌}
 
 found_by : (b c : Bool) (x y : Submitted) (o p : Option Submitted) → c ≡ b → is_some o ≡ is_some p → is_some (cond c (Some x) o) ≡ is_some (cond b (Some y) p)
@@ -30,7 +30,7 @@ freed_told : (es : Trace) (e : Entry) (n : ℕ) (a : Answer) (ms : List Submitte
 freed_told es e n a [] = refl
 freed_told es e n a (m ∷ ms) =
     found_by (is_free_purpose m.call.purpose) (is_free_purpose (answered_in es e n a m).call.purpose) (answered_in es e n a m) m (free_write (map (answered_in es e n a) ms)) (free_write ms)
-      (ap (λ c. is_free_purpose c.purpose) (same_answered es e n a m).call) (freed_told es e n a ms)
+    (ap (λ c. is_free_purpose c.purpose) (same_answered es e n a m).call) (freed_told es e n a ms)
 
 freed_marked : (es : Trace) (e : Entry) (i : Input) (ms : List Submitted) → is_some (free_write (mark es e i ms)) ≡ is_some (free_write ms)
 freed_marked es e (Told n a) ms = freed_told es e n a ms
@@ -56,8 +56,8 @@ freed_call e past s k c at false other h = ap (λ ms. is_some (free_write ms)) (
 freed_cut : (e : Entry) (past : Trace) (s : Session) (k : ℕ) → IsFreed s past → IsFreed s (cut_at k e ∷ past)
 freed_cut e past s k h =
     to_cut (IsFreed s) e past
-      (ap (λ ms. is_some (free_write ms)) (mine_marked past e s) ∙ freed_marked past (cut_at 0 e) e.input (calls_of past s) ∙ h)
-      (λ j c at before. freed_call e past s j c at (c.session == s.number) refl before) k
+    (ap (λ ms. is_some (free_write ms)) (mine_marked past e s) ∙ freed_marked past (cut_at 0 e) e.input (calls_of past s) ∙ h)
+    (λ j c at before. freed_call e past s j c at (c.session == s.number) refl before) k
 
 no_more_by : (joined removed refused : Option ℕ) (free : Option Submitted) (joining : Stage) (k : ℕ) → joined ≡ Some k → is_some free ≡ true
     → may_submit (stage_by joined removed refused free joining) ≡ false
@@ -70,8 +70,8 @@ pub freed_are_silent : FreedAreSilent
 freed_are_silent st e past s h its k joined m freed i c at mine =
     let t : Trace = cut_at i e ∷ past in
     true_is_false (sym (h.calls.0.alive i c s at (ap (λ n. session_numbered st (e ∷ past) n) mine ∙ its))
-      ∙ no_more_by (joined_after t s) (removed_after t s) (refused_after t s) (free_write (calls_of t s)) (stage_in (calls_of t s)) k
-          (joined_more (cut_at i e) past s k joined) (freed_cut e past s i (ap (λ o. is_some o) freed)))
+    ∙ no_more_by (joined_after t s) (removed_after t s) (refused_after t s) (free_write (calls_of t s)) (stage_in (calls_of t s)) k
+    (joined_more (cut_at i e) past s k joined) (freed_cut e past s i (ap (λ o. is_some o) freed)))
 
 -- ---- a request that is seen in a joining
 

@@ -1,14 +1,14 @@
 -- What was answered where a call was made stays answered; a request seen in a joining sets it back.
 use Rattle.sl_law.specs.Saying.{cut_at}
 use Rattle.sl_session_law.proofs.Making.{answers_stay, contains_more, old_stays}
-use Rattle.sl_session_law.specs.Promises.{FrontAnswersStay, IsMade, front_of}
-use Rattle.sl_trace.specs.Traces.{Answered, Submitted, Trace, mark, new_call, submitted}
+use Rattle.sl_session_law.specs.Promises.{FrontAnswersStay}
+use Rattle.sl_trace.specs.Traces.{Submitted, Trace, mark, new_call, submitted}
 use Rattle.sl_trace.specs.declared.effects.Call.{Call}
 use Rattle.sl_trace.specs.declared.effects.Entry.{Entry}
 use Rattle.sl_trace.specs.declared.input.Input.TheVariants.{Answer as Told, Exit, Line, Spawned, Wake}
 use Rattle.sl_trace.specs.declared.input.Input.{Input}
-use Rattle.std.proofs.Common.{ap, refl, subst, sym, ◌∙◌}
-use Rattle.std.specs.Prelude.{Contains, List, Some, [], fold, length, suc, take, zero, ℕ, ◌++◌, ◌∷◌, ◌≡◌}
+use Rattle.std.proofs.Common.{refl, subst, sym}
+use Rattle.std.specs.Prelude.{Contains, List, [], fold, length, suc, take, zero, ℕ, ◌∷◌, ◌≡◌}
 
 abbrev called : ℕ → ℕ → List Submitted → Call → List Submitted
 called at reading ms c = new_call at reading c ∷ ms
@@ -29,7 +29,7 @@ marked_whole es e k Wake ms = refl
 in_entry : (es : Trace) (e : Entry) (k : ℕ) (m : Submitted) → Contains (submitted (cut_at k e ∷ es)) m → Contains (submitted (e ∷ es)) m
 in_entry es e k m there =
     in_all (length es) e.reading e.effects.calls k (mark es e e.input (submitted es)) m
-      (subst (λ ms. Contains (fold (called (length es) e.reading) ms (take k e.effects.calls)) m) (marked_whole es e k e.input (submitted es)) there)
+    (subst (λ ms. Contains (fold (called (length es) e.reading) ms (take k e.effects.calls)) m) (marked_whole es e k e.input (submitted es)) there)
 
 pub front_answers_stay : FrontAnswersStay
 front_answers_stay es m d r a there is =

@@ -88,7 +88,7 @@ filter_told : (es : Trace) (e : Entry) (n : ℕ) (a : Answer) (s : Session) (ms 
 filter_told es e n a s [] = refl
 filter_told es e n a s (x ∷ ms) =
     kept_told (answered_in es e n a) x (is_call_of s x) (is_call_of s (answered_in es e n a x)) (filter (is_call_of s) (map (answered_in es e n a) ms)) (filter (is_call_of s) ms)
-      (ap (λ (c : Call). c.session == s.number) (same_answered es e n a x).call) (filter_told es e n a s ms)
+    (ap (λ (c : Call). c.session == s.number) (same_answered es e n a x).call) (filter_told es e n a s ms)
 
 filter_marked : (es : Trace) (e : Entry) (i : Input) (s : Session) (ms : List Submitted) → filter (is_call_of s) (mark es e i ms) ≡ mark es e i (filter (is_call_of s) ms)
 filter_marked es e (Told n a) s ms = filter_told es e n a s ms

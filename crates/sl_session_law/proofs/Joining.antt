@@ -10,8 +10,8 @@ use Rattle.sl_session_law.proofs.Owning.{got_inside, is_the_one, session_more}
 use Rattle.sl_session_law.proofs.Silence.{stage_by}
 use Rattle.sl_session_law.proofs.Staying.{joined_more}
 use Rattle.sl_session_law.specs.Promises.{SeesJoined, all_done, fits, fits_as, has_reply, is_in_turn}
-use Rattle.sl_sessions.specs.Sessions.{Session, calls_of, has_open_delta, is_active, is_delta_purpose, is_joined, joined_after, leaving_job, recovery_of, refused_after, removed_after, session_numbered, stage_after, stage_in, stage_of, free_write}
-use Rattle.sl_sessions.specs.declared.stage.Stage.TheVariants.{Claiming, Deciding, Ended, FirstRenewing, Freeing, Looking, Refused, Standing, Verifying, Waiting}
+use Rattle.sl_sessions.specs.Sessions.{Session, calls_of, is_active, is_delta_purpose, is_joined, joined_after, leaving_job, recovery_of, refused_after, removed_after, session_numbered, stage_after, stage_in, stage_of, free_write}
+use Rattle.sl_sessions.specs.declared.stage.Stage.TheVariants.{Looking, Standing}
 use Rattle.sl_sessions.specs.declared.stage.Stage.{Stage}
 use Rattle.sl_trace.specs.Traces.{Answered, Setting, Submitted, Trace, answer_of, answered_in, is_answered_ok, is_write, mark, new_call, unanswered}
 use Rattle.sl_trace.specs.declared.effects.Call.{Call}
@@ -25,8 +25,8 @@ use Rattle.sl_trace.specs.declared.input.Input.TheVariants.{Answer as Told, Exit
 use Rattle.sl_trace.specs.declared.input.Input.{Input}
 use Rattle.sl_words.proofs.CaseLaws.{false_is_true, no_value, true_is_false}
 use Rattle.sl_words.proofs.WordLaws.{and_true}
-use Rattle.std.proofs.Common.{ap, arith, refl, subst, sym, tests, ◌∙◌}
-use Rattle.std.specs.List.{list_all, list_any}
+use Rattle.std.proofs.Common.{ap, arith, refl, sym, tests, ◌∙◌}
+use Rattle.std.specs.List.{list_any}
 use Rattle.std.specs.Option.{option_or}
 use Rattle.std.specs.Prelude.{Bool, IsTrue, List, None, Option, Some, [], cond, false, is_none, is_some, length, map, not, slice_get, suc, true, ℕ, ◌&&◌, ◌==◌, ◌||◌, ◌∷◌, ◌≡◌}
 
@@ -54,8 +54,8 @@ done_told es e n a (m ∷ ms) h =
     let parts = and_true (fits m && has_reply m) (all_done ms) h in
     let one = and_true (fits m) (has_reply m) parts.0 in
     both (fits (answered_in es e n a m) && has_reply (answered_in es e n a m)) (all_done (map (answered_in es e n a) ms))
-      (both (fits (answered_in es e n a m)) (has_reply (answered_in es e n a m)) (fits_told es e n a m one.0) (replied_told es e n a m one.1))
-      (done_told es e n a ms parts.1)
+    (both (fits (answered_in es e n a m)) (has_reply (answered_in es e n a m)) (fits_told es e n a m one.0) (replied_told es e n a m one.1))
+    (done_told es e n a ms parts.1)
 
 turn_told : (es : Trace) (e : Entry) (n : ℕ) (a : Answer) (ms : List Submitted) → is_in_turn ms ≡ true → is_in_turn (map (answered_in es e n a) ms) ≡ true
 turn_told es e n a [] h = refl
@@ -92,7 +92,7 @@ done_by : (m : Submitted) (ms : List Submitted) (o : Option Answered) → m.answ
 done_by m ms (Some a) is h none = refl
 done_by m ms None is h none =
     absurd (true_is_false (sym (first_true (is_delta_purpose m.call.purpose) (list_any (λ x. is_delta_purpose x.call.purpose) (unanswered ms)) (fits_delta m.call.purpose (is_write m.call.op) h))
-      ∙ sym (ap (λ q. list_any (λ (x : Submitted). is_delta_purpose x.call.purpose) (cond (is_none q) (m ∷ unanswered ms) (unanswered ms))) is) ∙ none))
+    ∙ sym (ap (λ q. list_any (λ (x : Submitted). is_delta_purpose x.call.purpose) (cond (is_none q) (m ∷ unanswered ms) (unanswered ms))) is) ∙ none))
 
 unanswered_none : (m : Submitted) (ms : List Submitted) (o : Option Answered) → m.answer ≡ o → is_some o ≡ true → unanswered (m ∷ ms) ≡ unanswered ms
 unanswered_none m ms None is h = absurd (false_is_true h)
@@ -196,24 +196,24 @@ turn_call st e past s h sees same k c at false other before none = ap (λ ms. is
 turn_call st e past s h sees same k c at true mine before none =
     let number = same_number_by c.session s.number mine in
     let its = is_the_one (session_numbered st (e ∷ past) c.session) s (h.calls.0.owned c (got_inside e.effects.calls k c at))
-        (λ x is. same x (ap (λ n. session_numbered st (e ∷ past) n) (sym number) ∙ is)) in
+    (λ x is. same x (ap (λ n. session_numbered st (e ∷ past) n) (sym number) ∙ is)) in
     ap (λ ms. is_in_turn ms) (mine_next past e s k c at mine)
     ∙ both (fits (new_call (length past) e.reading c)) (all_done (calls_of (cut_at k e ∷ past) s))
-        (fits_new st (cut_at k e ∷ past) s (new_call (length past) e.reading c) c.purpose (h.delta.0.calls k c s at its) (h.area.0.active k c s at its) (sees.0 k c s at its) none)
-        (turn_done (calls_of (cut_at k e ∷ past) s) (before none)
-          (h.delta.0.alone k c s at its (fits_delta c.purpose (is_write c.op)
-            (fits_new st (cut_at k e ∷ past) s (new_call (length past) e.reading c) c.purpose (h.delta.0.calls k c s at its) (h.area.0.active k c s at its) (sees.0 k c s at its) none))))
+    (fits_new st (cut_at k e ∷ past) s (new_call (length past) e.reading c) c.purpose (h.delta.0.calls k c s at its) (h.area.0.active k c s at its) (sees.0 k c s at its) none)
+    (turn_done (calls_of (cut_at k e ∷ past) s) (before none)
+    (h.delta.0.alone k c s at its (fits_delta c.purpose (is_write c.op)
+    (fits_new st (cut_at k e ∷ past) s (new_call (length past) e.reading c) c.purpose (h.delta.0.calls k c s at its) (h.area.0.active k c s at its) (sees.0 k c s at its) none))))
 
 turn_entry : (st : Setting) (e : Entry) (past : Trace) (s : Session) → Lawful st (e ∷ past) → SeesJoined st (e ∷ past)
     → ((x : Session) → session_numbered st (e ∷ past) s.number ≡ Some x → x ≡ s) → InTurn s past → InTurn s (e ∷ past)
 turn_entry st e past s h sees same before =
     to_all (InTurn s) e past
-      (λ none. ap (λ ms. is_in_turn ms) (mine_marked past e s)
-        ∙ turn_marked past (cut_at 0 e) e.input (calls_of past s) (before (joined_before (cut_at 0 e) past s (joined_after past s) refl none)))
-      (λ k c at old. turn_call st e past s h sees same k c at (c.session == s.number) refl old)
+    (λ none. ap (λ ms. is_in_turn ms) (mine_marked past e s)
+    ∙ turn_marked past (cut_at 0 e) e.input (calls_of past s) (before (joined_before (cut_at 0 e) past s (joined_after past s) refl none)))
+    (λ k c at old. turn_call st e past s h sees same k c at (c.session == s.number) refl old)
 
 pub in_turn : (st : Setting) (es : Trace) (s : Session) → Lawful st es → SeesJoined st es → ((x : Session) → session_numbered st es s.number ≡ Some x → x ≡ s) → InTurn s es
 in_turn st [] s h sees same = λ none. refl
 in_turn st (e ∷ past) s h sees same =
     turn_entry st e past s h sees same
-      (in_turn st past s (lawful-front st (e ∷ []) past h) sees.1 (λ x at. same x (session_more st e past s.number x at)))
+    (in_turn st past s (lawful-front st (e ∷ []) past h) sees.1 (λ x at. same x (session_more st e past s.number x at)))

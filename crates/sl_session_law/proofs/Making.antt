@@ -42,11 +42,11 @@ pub record IsNewCall (at reading : ℕ) (cs : List Call) (m : Submitted) : Type 
   pub unmet : m.answer ≡ None
 
 next_call_is : (at reading : ℕ) (c : Call) (cs : List Call) (m : Submitted) → IsNewCall at reading cs m → IsNewCall at reading (c ∷ cs) m
-next_call_is at reading c cs m n = record { index = suc n.index; call = n.call; place = n.place; reading_is = n.reading_is; unmet = n.unmet; }
+next_call_is at reading c cs m n = record { index = suc n.index; call = n.call; place = n.place; reading_is = n.reading_is; unmet = n.unmet }
 
 first_call_is : (at reading : ℕ) (c : Call) (cs : List Call) (m : Submitted) → new_call at reading c ≡ m → IsNewCall at reading (c ∷ cs) m
 first_call_is at reading c cs m is =
-    subst (λ (x : Submitted). IsNewCall at reading (c ∷ cs) x) is (record { index = zero; call = refl; place = refl; reading_is = refl; unmet = refl; })
+    subst (λ (x : Submitted). IsNewCall at reading (c ∷ cs) x) is (record { index = zero; call = refl; place = refl; reading_is = refl; unmet = refl })
 
 either_new : (at reading : ℕ) (c : Call) (cs : List Call) (ms : List Submitted) (m : Submitted)
     → Contains (new_call at reading c ∷ ms) m ⊎ IsNewCall at reading cs m → Contains ms m ⊎ IsNewCall at reading (c ∷ cs) m
@@ -72,8 +72,8 @@ pub record SameCall (m n : Submitted) : Type 0 where
   pub call : m.call ≡ n.call
 
 same_by : (m : Submitted) (a : Answered) (b : Bool) → SameCall (elim b as (λ x. Submitted) [ false ↦ m | true ↦ record m { answer = option_or m.answer (Some a) } ]) m
-same_by m a false = record { at = refl; reading = refl; call = refl; }
-same_by m a true = record { at = refl; reading = refl; call = refl; }
+same_by m a false = record { at = refl; reading = refl; call = refl }
+same_by m a true = record { at = refl; reading = refl; call = refl }
 
 pub same_answered : (es : Trace) (e : Entry) (n : ℕ) (a : Answer) (m : Submitted) → SameCall (answered_in es e n a m) m
 same_answered es e n a m = same_by m (answer_of es e a m.call) (m.call.number == n)
@@ -91,7 +91,7 @@ unmet_by m a true None is none = is
 unmet_by m a true (Some c) is none = absurd (no_value c (option_or (Some c) (Some a)) refl (ap (λ q. option_or q (Some a)) (sym is) ∙ none))
 
 was_more : (x : Submitted) (ms : List Submitted) (m : Submitted) → WasOpen ms m → WasOpen (x ∷ ms) m
-was_more x ms m w = record { before = w.before; inside = contains_more x ms w.before w.inside; same = w.same; unmet = w.unmet; }
+was_more x ms m w = record { before = w.before; inside = contains_more x ms w.before w.inside; same = w.same; unmet = w.unmet }
 
 was_told : (es : Trace) (e : Entry) (n : ℕ) (a : Answer) (ms : List Submitted) (m : Submitted) → Contains (map (answered_in es e n a) ms) m → WasOpen ms m
 was_told es e n a [] m there = absurd (contains_none m there)
@@ -107,7 +107,7 @@ was_told es e n a (x ∷ ms) m there = by (λ rest. was_told es e n a ms m rest)
   by more (inr rest) = was_more x ms m (more rest)
 
 itself : (ms : List Submitted) (m : Submitted) → Contains ms m → WasOpen ms m
-itself ms m there = record { before = m; inside = there; same = record { at = refl; reading = refl; call = refl; }; unmet = λ is. is; }
+itself ms m there = record { before = m; inside = there; same = record { at = refl; reading = refl; call = refl }; unmet = λ is. is }
 
 pub was_marked : (es : Trace) (e : Entry) (i : Input) (ms : List Submitted) (m : Submitted) → Contains (mark es e i ms) m → WasOpen ms m
 was_marked es e (Told n a) ms m there = was_told es e n a ms m there
@@ -119,7 +119,7 @@ was_marked es e Wake ms m there = itself ms m there
 -- ---- each call was made
 
 made_new : (e : Entry) (es : Trace) (m : Submitted) → IsNewCall (length es) e.reading e.effects.calls m → IsMade (e ∷ es) m
-made_new e es m n = record { later = []; entry = e; past = es; whole = refl; index = n.index; call = n.call; place = n.place; reading = n.reading_is; }
+made_new e es m n = record { later = []; entry = e; past = es; whole = refl; index = n.index; call = n.call; place = n.place; reading = n.reading_is }
 
 made_old : (e : Entry) (es : Trace) (m b : Submitted) → SameCall m b → IsMade es b → IsMade (e ∷ es) m
 made_old e es m b same d =
@@ -153,8 +153,8 @@ told_stays es e n w (x ∷ ms) m a there is = by (λ rest. told_stays es e n w m
   by : (Contains ms m → Contains (map (answered_in es e n w) ms) m) → (x ≡ m) ⊎ Contains ms m → Contains (map (answered_in es e n w) (x ∷ ms)) m
   by more (inl here) =
       subst (λ (y : Submitted). Contains (answered_in es e n w x ∷ map (answered_in es e n w) ms) y)
-        (ap (λ (y : Submitted). answered_in es e n w y) here ∙ kept_by m a (answer_of es e w m.call) (m.call.number == n) is)
-        (contains_first (answered_in es e n w x) (map (answered_in es e n w) ms))
+      (ap (λ (y : Submitted). answered_in es e n w y) here ∙ kept_by m a (answer_of es e w m.call) (m.call.number == n) is)
+      (contains_first (answered_in es e n w x) (map (answered_in es e n w) ms))
   by more (inr rest) = contains_more (answered_in es e n w x) (map (answered_in es e n w) ms) m (more rest)
 
 marked_stays : (es : Trace) (e : Entry) (i : Input) (ms : List Submitted) (m : Submitted) (a : Answered) → Contains ms m → m.answer ≡ Some a → Contains (mark es e i ms) m
@@ -168,4 +168,4 @@ pub answers_stay : AnswersStay
 answers_stay [] es m a there is = there
 answers_stay (e ∷ later) es m a there is =
     old_stays (length (later ++ es)) e.reading e.effects.calls (mark (later ++ es) e e.input (submitted (later ++ es))) m
-      (marked_stays (later ++ es) e e.input (submitted (later ++ es)) m a (answers_stay later es m a there is) is)
+    (marked_stays (later ++ es) e e.input (submitted (later ++ es)) m a (answers_stay later es m a there is) is)

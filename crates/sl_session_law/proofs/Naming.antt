@@ -1,9 +1,9 @@
 -- A present session has its lockspace's name.
 use Rattle.sl_session_law.proofs.Making.{contains_cases, contains_first, contains_more, contains_none}
-use Rattle.sl_sessions.specs.Sessions.{Session, ended_after, has_open_write, is_present, joined_after, present_sessions, refused_after, removed_after, session_named, sessions}
+use Rattle.sl_sessions.specs.Sessions.{Session, has_open_write, is_present, joined_after, present_sessions, refused_after, removed_after, session_named, sessions}
 use Rattle.sl_trace.specs.Traces.{Setting, Trace}
-use Rattle.sl_words.proofs.CaseLaws.{false_is_true, none_some, no_value, true_is_false}
-use Rattle.sl_words.specs.Orders.{in_order, is_text_before, put_in}
+use Rattle.sl_words.proofs.CaseLaws.{none_some, no_value, true_is_false}
+use Rattle.sl_words.specs.Orders.{is_text_before, put_in}
 use Rattle.std.proofs.Common.{ap, inl, inr, refl, subst, sym, ◌∙◌}
 use Rattle.std.specs.Cmp.Lexicographic.{nat_list_eq_equiv}
 use Rattle.std.specs.Prelude.{Bool, Contains, List, None, Option, Some, [], bytes_eq, cond, false, filter, find, fold, if◌then◌else◌, is_none, true, ℕ, ◌&&◌, ◌||◌, ◌∷◌, ◌≡◌, ◌⊎◌}
@@ -77,14 +77,14 @@ present_by None removed None b none at = refl
 pub named : (st : Setting) (es : Trace) (s : Session) → Contains (sessions st es) s → joined_after es s ≡ None → refused_after es s ≡ None → session_named st es s.lockspace ≡ None → ⊥
 named st es s there joined refused none =
     true_is_false (sym (same_name s.lockspace)
-      ∙ fails (λ (x : Session). bytes_eq x.lockspace s.lockspace) (present_sessions st es) none s
-        (sorted_new (λ (a b : Session). is_text_before a.lockspace b.lockspace) (filter (is_present es) (sessions st es)) [] s
-          (kept (is_present es) (sessions st es) s (present_by (joined_after es s) (removed_after es s) (refused_after es s) (has_open_write es s) joined refused) there)))
+    ∙ fails (λ (x : Session). bytes_eq x.lockspace s.lockspace) (present_sessions st es) none s
+    (sorted_new (λ (a b : Session). is_text_before a.lockspace b.lockspace) (filter (is_present es) (sessions st es)) [] s
+    (kept (is_present es) (sessions st es) s (present_by (joined_after es s) (removed_after es s) (refused_after es s) (has_open_write es s) joined refused) there)))
 
 -- No other takes the name of a present session.
 pub absent : (st : Setting) (es : Trace) (name : List ℕ) (x : Session) → Contains (sessions st es) x → x.lockspace ≡ name → session_named st es name ≡ None → is_present es x ≡ true → ⊥
 absent st es name x there is none present =
     true_is_false (sym (ap (λ n. bytes_eq n name) is ∙ same_name name)
-      ∙ fails (λ (y : Session). bytes_eq y.lockspace name) (present_sessions st es) none x
-        (sorted_new (λ (a b : Session). is_text_before a.lockspace b.lockspace) (filter (is_present es) (sessions st es)) [] x
-          (kept (is_present es) (sessions st es) x present there)))
+    ∙ fails (λ (y : Session). bytes_eq y.lockspace name) (present_sessions st es) none x
+    (sorted_new (λ (a b : Session). is_text_before a.lockspace b.lockspace) (filter (is_present es) (sessions st es)) [] x
+    (kept (is_present es) (sessions st es) x present there)))

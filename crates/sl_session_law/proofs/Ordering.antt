@@ -5,12 +5,12 @@ use Rattle.sl_law.specs.LawfulCalls.{may_submit}
 use Rattle.sl_law.specs.LawfulDelta.{LawfulDeltaCall}
 use Rattle.sl_law.specs.Saying.{cut_at}
 use Rattle.sl_session_law.proofs.Growing.{mine_marked, mine_next, other_next, to_all}
-use Rattle.sl_session_law.proofs.Joining.{InTurn, both, fits_delta, fits_new, joined_before, same_number_by, stage_for, turn_call, turn_done, turn_marked}
-use Rattle.sl_session_law.proofs.Making.{IsNewCall, calls_are_made, contains_first, contains_none, contains_cases, contains_more, old_or_new, same_answered, was_marked, WasOpen}
+use Rattle.sl_session_law.proofs.Joining.{both, fits_delta, fits_new, joined_before, same_number_by, stage_for, turn_call, turn_done, turn_marked}
+use Rattle.sl_session_law.proofs.Making.{IsNewCall, calls_are_made, contains_first, contains_none, contains_cases, contains_more, old_or_new, same_answered, was_marked}
 use Rattle.sl_session_law.proofs.Naming.{named}
 use Rattle.sl_session_law.proofs.Owning.{got_inside, is_the_one, session_more, sessions_stay}
 use Rattle.sl_session_law.proofs.Silence.{stage_by}
-use Rattle.sl_session_law.specs.Promises.{IsSession, JoiningsAreOrdered, SeesJoined, all_done, fits, fits_as, has_reply, is_in_turn, is_ordered, leads_to, looks, may_come, may_follow}
+use Rattle.sl_session_law.specs.Promises.{JoiningsAreOrdered, SeesJoined, all_done, fits, fits_as, has_reply, is_in_turn, is_ordered, leads_to, looks, may_come, may_follow}
 use Rattle.sl_sessions.specs.Sessions.{Session, calls_of, free_write, is_call_of, joined_after, refused_after, removed_after, session_named, session_numbered, sessions, stage_in, stage_of}
 use Rattle.sl_sessions.specs.declared.stage.Stage.{Stage}
 use Rattle.sl_trace.specs.Traces.{Setting, Submitted, Trace, answered_in, is_answered_ok, is_write, mark, new_call, submitted}
@@ -39,8 +39,8 @@ ordered_told es e n a [] h = refl
 ordered_told es e n a (m ∷ ms) h =
     let parts = and_true (may_come ms m.call.purpose) (is_ordered ms) h in
     both (may_come (map (answered_in es e n a) ms) (answered_in es e n a m).call.purpose) (is_ordered (map (answered_in es e n a) ms))
-      (ap (λ c. may_come (map (answered_in es e n a) ms) c.purpose) (same_answered es e n a m).call ∙ same_purpose es e n a ms m.call.purpose ∙ parts.0)
-      (ordered_told es e n a ms parts.1)
+    (ap (λ c. may_come (map (answered_in es e n a) ms) c.purpose) (same_answered es e n a m).call ∙ same_purpose es e n a ms m.call.purpose ∙ parts.0)
+    (ordered_told es e n a ms parts.1)
 
 ordered_marked : (es : Trace) (e : Entry) (i : Input) (ms : List Submitted) → is_ordered ms ≡ true → is_ordered (mark es e i ms) ≡ true
 ordered_marked es e (Told n a) ms h = ordered_told es e n a ms h
@@ -137,11 +137,11 @@ begun_before st e past s h same m there mine =
     let hp = subst (λ t. Lawful st t) d.whole (lawful-front st (e ∷ []) past h) in
     let law = lawful-front st d.later (d.entry ∷ d.past) hp in
     subst (λ t. session_numbered st t m.call.session ≡ Some s) (sym d.whole)
-      (sessions_stay st d.later (d.entry ∷ d.past) m.call.session s
-        (is_the_one (session_numbered st (d.entry ∷ d.past) m.call.session) s (law.calls.0.owned m.call (got_inside d.entry.effects.calls d.index m.call d.call))
-          (λ x is. same x (session_more st e past s.number x
-            (subst (λ t. session_numbered st t s.number ≡ Some x) (sym d.whole)
-              (ap (λ n. session_numbered st (d.later ++ d.entry ∷ d.past) n) (sym mine) ∙ sessions_stay st d.later (d.entry ∷ d.past) m.call.session x is))))))
+    (sessions_stay st d.later (d.entry ∷ d.past) m.call.session s
+    (is_the_one (session_numbered st (d.entry ∷ d.past) m.call.session) s (law.calls.0.owned m.call (got_inside d.entry.effects.calls d.index m.call d.call))
+    (λ x is. same x (session_more st e past s.number x
+    (subst (λ t. session_numbered st t s.number ≡ Some x) (sym d.whole)
+    (ap (λ n. session_numbered st (d.later ++ d.entry ∷ d.past) n) (sym mine) ∙ sessions_stay st d.later (d.entry ∷ d.past) m.call.session x is))))))
 
 inside_by : (s : Session) (x : Submitted) (rest xs : List Submitted) (m : Submitted) (b : Bool) → is_call_of s x ≡ b → Contains (cond b (x ∷ rest) rest) m
     → (Contains rest m → Contains xs m × (is_call_of s m ≡ true)) → Contains (x ∷ xs) m × (is_call_of s m ≡ true)
@@ -164,11 +164,11 @@ begun_by : (st : Setting) (e : Entry) (past : Trace) (s : Session) (k : ℕ) →
 begun_by st e past s k h same m there r =
     let mine = inside s (submitted (cut_at k e ∷ past)) m there in
     let old = old_one m (length past) e.reading (take k e.effects.calls) (mark past (cut_at k e) e.input (submitted past)) r
-        (old_or_new (length past) e.reading (take k e.effects.calls) (mark past (cut_at k e) e.input (submitted past)) m mine.0) in
+    (old_or_new (length past) e.reading (take k e.effects.calls) (mark past (cut_at k e) e.input (submitted past)) m mine.0) in
     let w = was_marked past (cut_at k e) e.input (submitted past) m old in
     got_inside (sessions st (cut_at k e ∷ past)) w.before.call.session s
-      (session_more st (cut_at k e) past w.before.call.session s
-        (begun_before st e past s h same w.before w.inside (ap (λ c. c.session) (sym w.same.call) ∙ same_number_by m.call.session s.number mine.1)))
+    (session_more st (cut_at k e) past w.before.call.session s
+    (begun_before st e past s h same w.before w.inside (ap (λ c. c.session) (sym w.same.call) ∙ same_number_by m.call.session s.number mine.1)))
 
 none_before : (st : Setting) (e : Entry) (past : Trace) (s : Session) (k : ℕ) → Lawful st (e ∷ past) → ((x : Session) → session_numbered st (e ∷ past) s.number ≡ Some x → x ≡ s)
     → joined_after (cut_at k e ∷ past) s ≡ None → refused_after (cut_at k e ∷ past) s ≡ None → (ms : List Submitted) → calls_of (cut_at k e ∷ past) s ≡ ms → all_done ms ≡ true
@@ -176,8 +176,8 @@ none_before : (st : Setting) (e : Entry) (past : Trace) (s : Session) (k : ℕ) 
 none_before st e past s k h same none at [] is done nobody = refl
 none_before st e past s k h same none at (m ∷ ms) is done nobody =
     absurd (named st (cut_at k e ∷ past) s
-      (begun_by st e past s k h same m (subst (λ xs. Contains xs m) (sym is) (contains_first m ms)) (and_true (fits m) (has_reply m) (and_true (fits m && has_reply m) (all_done ms) done).0).1)
-      none at nobody)
+    (begun_by st e past s k h same m (subst (λ xs. Contains xs m) (sym is) (contains_first m ms)) (and_true (fits m) (has_reply m) (and_true (fits m && has_reply m) (all_done ms) done).0).1)
+    none at nobody)
 
 -- ---- along the trace
 
@@ -194,7 +194,7 @@ order_call st e past s h sees same k c at true mine before none =
     let n : Submitted = new_call (length past) e.reading c in
     let number = same_number_by c.session s.number mine in
     let its = is_the_one (session_numbered st (e ∷ past) c.session) s (h.calls.0.owned c (got_inside e.effects.calls k c at))
-        (λ x is. same x (ap (λ i. session_numbered st (e ∷ past) i) (sym number) ∙ is)) in
+    (λ x is. same x (ap (λ i. session_numbered st (e ∷ past) i) (sym number) ∙ is)) in
     let law = h.delta.0.calls k c s at its in
     let f = fits_new st t s n c.purpose law (h.area.0.active k c s at its) (sees.0 k c s at its) none in
     let turn = (before none).0 in
@@ -202,27 +202,29 @@ order_call st e past s h sees same k c at true mine before none =
     let refused = open_refused (joined_after t s) (removed_after t s) (refused_after t s) (free_write (calls_of t s)) (stage_in (calls_of t s)) none (h.calls.0.alive k c s at its) in
     ap (λ ms. is_ordered ms) (mine_next past e s k c at mine)
     ∙ both (may_come (calls_of t s) c.purpose) (is_ordered (calls_of t s))
-        (comes_new st t s n c.purpose (calls_of t s) law f refl
-          (open_stage (joined_after t s) (removed_after t s) (refused_after t s) (free_write (calls_of t s)) (stage_in (calls_of t s)) none refused) turn
-          (λ p nobody. none_before st e past s k h same none refused (calls_of t s) refl done nobody))
-        (before none).1
+    (comes_new st t s n c.purpose (calls_of t s) law f refl
+    (open_stage (joined_after t s) (removed_after t s) (refused_after t s) (free_write (calls_of t s)) (stage_in (calls_of t s)) none refused) turn
+    (λ p nobody. none_before st e past s k h same none refused (calls_of t s) refl done nobody))
+    (before none).1
 
 order_entry : (st : Setting) (e : Entry) (past : Trace) (s : Session) → Lawful st (e ∷ past) → SeesJoined st (e ∷ past)
     → ((x : Session) → session_numbered st (e ∷ past) s.number ≡ Some x → x ≡ s) → InOrder s past → InOrder s (e ∷ past)
 order_entry st e past s h sees same before =
     to_all (InOrder s) e past
-      (λ none. let old = before (joined_before (cut_at 0 e) past s (joined_after past s) refl none) in
-        (ap (λ ms. is_in_turn ms) (mine_marked past e s) ∙ turn_marked past (cut_at 0 e) e.input (calls_of past s) old.0,
-         ap (λ ms. is_ordered ms) (mine_marked past e s) ∙ ordered_marked past (cut_at 0 e) e.input (calls_of past s) old.1))
-      (λ k c at old none.
-        (turn_call st e past s h sees same k c at (c.session == s.number) refl (λ still. (old still).0) none,
-         order_call st e past s h sees same k c at (c.session == s.number) refl old none))
+    (λ none. let old = before (joined_before (cut_at 0 e) past s (joined_after past s) refl none) in (
+      ap (λ ms. is_in_turn ms) (mine_marked past e s) ∙ turn_marked past (cut_at 0 e) e.input (calls_of past s) old.0,
+      ap (λ ms. is_ordered ms) (mine_marked past e s) ∙ ordered_marked past (cut_at 0 e) e.input (calls_of past s) old.1,
+    ))
+    (λ k c at old none. (
+      turn_call st e past s h sees same k c at (c.session == s.number) refl (λ still. (old still).0) none,
+      order_call st e past s h sees same k c at (c.session == s.number) refl old none,
+    ))
 
 in_order_all : (st : Setting) (es : Trace) (s : Session) → Lawful st es → SeesJoined st es → ((x : Session) → session_numbered st es s.number ≡ Some x → x ≡ s) → InOrder s es
 in_order_all st [] s h sees same = λ none. (refl, refl)
 in_order_all st (e ∷ past) s h sees same =
     order_entry st e past s h sees same
-      (in_order_all st past s (lawful-front st (e ∷ []) past h) sees.1 (λ x at. same x (session_more st e past s.number x at)))
+    (in_order_all st past s (lawful-front st (e ∷ []) past h) sees.1 (λ x at. same x (session_more st e past s.number x at)))
 
 pub joinings_are_ordered : JoiningsAreOrdered
 joinings_are_ordered st es s h sees its none = (in_order_all st es s h sees (λ x at. one_value x s _ at its) none).1

@@ -8,8 +8,8 @@ use Rattle.sl_trace.specs.Traces.{Setting, Submitted, Trace}
 use Rattle.sl_trace.specs.declared.effects.Call.{Call}
 use Rattle.sl_trace.specs.declared.effects.Entry.{Entry}
 use Rattle.sl_words.proofs.CaseLaws.{false_is_true, none_some, one_value}
-use Rattle.std.proofs.Common.{ap, arith, refl, subst, sym, ◌∙◌}
-use Rattle.std.specs.Prelude.{Contains, IsSome, List, None, Option, Some, [], length, slice_get, slice_index_or, suc, zero, ℕ, ◌++◌, ◌<◌, ◌∷◌, ◌≡◌}
+use Rattle.std.proofs.Common.{ap, arith, refl, subst, ◌∙◌}
+use Rattle.std.specs.Prelude.{Contains, IsSome, List, None, Option, Some, [], length, slice_get, suc, zero, ℕ, ◌++◌, ◌∷◌, ◌≡◌}
 
 pub got_before : {A : Type 0} (xs ys : List A) (k : ℕ) (x : A) → slice_get xs k ≡ Some x → slice_get (xs ++ ys) k ≡ Some x
 got_before [] ys k x at = absurd (none_some x at)
@@ -43,9 +43,9 @@ pub owned : (st : Setting) (later : Trace) (e : Entry) (past : Trace) (s : Sessi
     → (i : ℕ) (c : Call) → slice_get e.effects.calls i ≡ Some c → c.session ≡ s.number → session_numbered st (e ∷ past) c.session ≡ Some s
 owned st later e past s h its i c at mine =
     is_the_one (session_numbered st (e ∷ past) c.session) s ((lawful-front st later (e ∷ past) h).calls.0.owned c (got_inside e.effects.calls i c at))
-      (λ x is. one_value x s (session_numbered st (later ++ e ∷ past) c.session)
-        (sessions_stay st later (e ∷ past) c.session x is)
-        (ap (λ n. session_numbered st (later ++ e ∷ past) n) mine ∙ its))
+    (λ x is. one_value x s (session_numbered st (later ++ e ∷ past) c.session)
+    (sessions_stay st later (e ∷ past) c.session x is)
+    (ap (λ n. session_numbered st (later ++ e ∷ past) n) mine ∙ its))
 
 was_lawful : (st : Setting) (es : Trace) (s : Session) (m : Submitted) (d : IsMade es m) → Lawful st (d.later ++ d.entry ∷ d.past)
     → session_numbered st (d.entry ∷ d.past) m.call.session ≡ Some s → WasLawful st es s m

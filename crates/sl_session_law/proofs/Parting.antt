@@ -4,23 +4,22 @@ use Rattle.sl_law.specs.Lawful.{Lawful}
 use Rattle.sl_law.specs.LawfulCalls.{may_submit}
 use Rattle.sl_law.specs.Saying.{cut_at}
 use Rattle.sl_session_law.proofs.Joining.{same_number_by}
-use Rattle.sl_session_law.proofs.Making.{IsNewCall, WasOpen, contains_cases, contains_first, contains_more, contains_none, old_or_new, was_marked}
+use Rattle.sl_session_law.proofs.Making.{IsNewCall, contains_cases, contains_first, contains_more, contains_none, old_or_new, was_marked}
 use Rattle.sl_session_law.proofs.Naming.{kept}
 use Rattle.sl_session_law.proofs.Ordering.{begun_before}
 use Rattle.sl_session_law.proofs.Owning.{got_inside}
-use Rattle.sl_session_law.proofs.Silence.{no_more, stage_by}
-use Rattle.sl_session_law.proofs.Staying.{joined_more, removed_more}
+use Rattle.sl_session_law.proofs.Silence.{no_more}
+use Rattle.sl_session_law.proofs.Staying.{joined_more}
 use Rattle.sl_session_law.specs.Promises.{IsSession}
-use Rattle.sl_sessions.specs.Sessions.{Session, calls_of, ended_after, free_write, has_open_write, is_call_of, is_present, joined_after, refused_after, removed_after, removed_in, session_numbered, sessions, stage_in, stage_of}
+use Rattle.sl_sessions.specs.Sessions.{Session, calls_of, has_open_write, is_call_of, joined_after, refused_after, removed_after, removed_in, session_numbered, sessions, stage_of}
 use Rattle.sl_trace.specs.Connections.{unregisters}
 use Rattle.sl_trace.specs.Traces.{Setting, Submitted, Trace, is_write, mark, submitted}
-use Rattle.sl_trace.specs.declared.effects.Call.{Call}
 use Rattle.sl_trace.specs.declared.effects.Entry.{Entry}
 use Rattle.sl_words.proofs.CaseLaws.{false_is_true, none_some, one_value, true_is_false}
 use Rattle.sl_words.proofs.WordLaws.{and_true, choose_some}
 use Rattle.std.proofs.Common.{ap, inl, inr, arith, refl, subst, sym, tests, ◌∙◌}
 use Rattle.std.specs.List.{list_any}
-use Rattle.std.specs.Prelude.{Bool, Contains, List, None, Option, Some, [], cond, false, filter, is_none, is_some, length, slice_get, true, ℕ, ◌&&◌, ◌+◌, ◌==◌, ◌||◌, ◌∷◌, ◌≡◌, ◌⊎◌}
+use Rattle.std.specs.Prelude.{Bool, Contains, List, None, Option, Some, [], cond, false, filter, is_none, is_some, length, true, ℕ, ◌&&◌, ◌+◌, ◌==◌, ◌||◌, ◌∷◌, ◌≡◌, ◌⊎◌}
 
 any_by : {A : Type 0} (p : A → Bool) (x : A) (xs : List A) (b : Bool) → p x ≡ b → (b || list_any p xs) ≡ true → (list_any p xs ≡ true → (y : A) × Contains xs y × (p y ≡ true))
     → (y : A) × Contains (x ∷ xs) y × (p y ≡ true)
@@ -59,7 +58,7 @@ unmet_write es s h =
     let found = any_found (λ (m : Submitted). is_write m.call.op) (filter (λ (m : Submitted). is_none m.answer) (calls_of es s)) h in
     let waits = kept_inside (λ (m : Submitted). is_none m.answer) (calls_of es s) found.0 found.1 in
     let its = kept_inside (is_call_of s) (submitted es) found.0 waits.0 in
-    record { call = found.0; inside = its.0; mine = same_number_by found.0.call.session s.number its.1; unmet = none_is found.0.answer waits.1; writes = found.2; }
+    record { call = found.0; inside = its.0; mine = same_number_by found.0.call.session s.number its.1; unmet = none_is found.0.answer waits.1; writes = found.2 }
 
 some_is_some : (o : Option ℕ) → is_some o ≡ true → (j : ℕ) × (o ≡ Some j)
 some_is_some None h = absurd (false_is_true h)
@@ -68,7 +67,7 @@ some_is_some (Some j) h = (j, refl)
 removal : (past : Trace) (s : Session) (e : Entry) (k : ℕ) → removed_in past s e ≡ Some k → (is_some (joined_after past s) ≡ true) × (list_any (unregisters s.lockspace) e.effects.moves ≡ true)
 removal past s e k is =
     and_true (is_some (joined_after past s)) (list_any (unregisters s.lockspace) e.effects.moves)
-      (choose_some (is_some (joined_after past s) && list_any (unregisters s.lockspace) e.effects.moves) (length past + 1) k is).0
+    (choose_some (is_some (joined_after past s) && list_any (unregisters s.lockspace) e.effects.moves) (length past + 1) k is).0
 
 abbrev removed_by : Option ℕ → Option ℕ → Option ℕ
 removed_by before now = elim before [ Some k ↦ Some k | None ↦ now ]
@@ -100,10 +99,11 @@ older_write st e past s k h its gone u (inr new) =
     absurd (true_is_false (sym (h.calls.0.alive new.index u.call.call s new.call (ap (λ n. session_numbered st (e ∷ past) n) u.mine ∙ its)) ∙ gone_by t s joined.0 k joined.1 gone))
 older_write st e past s k h its gone u (inl old) =
     let w = was_marked past e e.input (submitted past) u.call old in
-    let number = ap (λ c. c.session) (sym w.same.call) ∙ u.mine in
-    (record { call = w.before; inside = w.inside; mine = number; unmet = w.unmet u.unmet; writes = ap (λ c. is_write c.op) (sym w.same.call) ∙ u.writes; },
-     ap (λ n. session_numbered st past n) (sym number)
-       ∙ begun_before st e past s h (λ x at. one_value x s (session_numbered st (e ∷ past) s.number) at its) w.before w.inside number)
+    let number = ap (λ c. c.session) (sym w.same.call) ∙ u.mine in (
+      record { call = w.before; inside = w.inside; mine = number; unmet = w.unmet u.unmet; writes = ap (λ c. is_write c.op) (sym w.same.call) ∙ u.writes },
+      ap (λ n. session_numbered st past n) (sym number)
+          ∙ begun_before st e past s h (λ x at. one_value x s (session_numbered st (e ∷ past) s.number) at its) w.before w.inside number,
+    )
 
 any_at : {A : Type 0} (p : A → Bool) (x : A) (xs : List A) (d : A) → p d ≡ true → (b : Bool) → p x ≡ b → (x ≡ d) ⊎ Contains xs d → (Contains xs d → list_any p xs ≡ true) → (b || list_any p xs) ≡ true
 any_at p x xs d h true is at rest = refl
@@ -120,8 +120,8 @@ equal_numbers a b h = grind (arith, tests)
 write_unmet : (es : Trace) (s : Session) → UnmetWrite es s → has_open_write es s ≡ true
 write_unmet es s u =
     any_of (λ (m : Submitted). is_write m.call.op) (filter (λ (m : Submitted). is_none m.answer) (calls_of es s)) u.call u.writes
-      (kept (λ (m : Submitted). is_none m.answer) (calls_of es s) u.call (ap (λ o. is_none o) u.unmet)
-        (kept (is_call_of s) (submitted es) u.call (equal_numbers u.call.call.session s.number u.mine) u.inside))
+    (kept (λ (m : Submitted). is_none m.answer) (calls_of es s) u.call (ap (λ o. is_none o) u.unmet)
+    (kept (is_call_of s) (submitted es) u.call (equal_numbers u.call.call.session s.number u.mine) u.inside))
 
 parts_by : (st : Setting) (e : Entry) (past : Trace) (s : Session) (k : ℕ) → Lawful st (e ∷ past) → IsSession st past s → UnmetWrite (e ∷ past) s
     → (o : Option ℕ) → removed_after past s ≡ o → removed_by o (removed_in past s e) ≡ Some k → ((i : ℕ) → removed_after past s ≡ Some i → ⊥) → ⊥
@@ -130,15 +130,15 @@ parts_by st e past s k h its u None was at rest =
     let r = removal past s e k at in
     let j = some_is_some (joined_after past s) r.0 in
     true_is_false (sym (write_unmet (e ∷ past) s u)
-      ∙ (h.watchdog.0.removals s (got_inside (sessions st past) s.number s its)
-          (present_by (joined_after past s) (removed_after past s) (refused_after past s) (has_open_write past s) j.0 j.1 was) r.1).1)
+    ∙ (h.watchdog.0.removals s (got_inside (sessions st past) s.number s its)
+    (present_by (joined_after past s) (removed_after past s) (refused_after past s) (has_open_write past s) j.0 j.1 was) r.1).1)
 
 quiet : (st : Setting) (es : Trace) (s : Session) → Lawful st es → IsSession st es s → (k : ℕ) → removed_after es s ≡ Some k → UnmetWrite es s → ⊥
 quiet st [] s h its k gone u = none_some k gone
 quiet st (e ∷ past) s h its k gone u =
     let old = older_write st e past s k h its gone u (old_or_new (length past) e.reading e.effects.calls (mark past e e.input (submitted past)) u.call u.inside) in
     parts_by st e past s k h old.1 u (removed_after past s) refl gone
-      (λ i was. quiet st past s (lawful-front st (e ∷ []) past h) old.1 i was old.0)
+    (λ i was. quiet st past s (lawful-front st (e ∷ []) past h) old.1 i was old.0)
 
 none_by : (o : Option ℕ) → ((k : ℕ) → o ≡ Some k → ⊥) → o ≡ None
 none_by None never = refl

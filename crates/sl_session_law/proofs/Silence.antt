@@ -9,7 +9,7 @@ use Rattle.sl_sessions.specs.declared.stage.Stage.{Stage}
 use Rattle.sl_trace.specs.Traces.{Submitted, Trace}
 use Rattle.sl_words.proofs.CaseLaws.{none_some, true_is_false}
 use Rattle.std.proofs.Common.{ap, refl, sym, ◌∙◌}
-use Rattle.std.specs.Prelude.{Bool, None, Option, Some, false, true, ℕ, ◌∷◌, ◌≡◌}
+use Rattle.std.specs.Prelude.{None, Option, Some, false, ℕ, ◌∷◌, ◌≡◌}
 
 abbrev pub stage_by : Option ℕ → Option ℕ → Option ℕ → Option Submitted → Stage → Stage
 stage_by joined removed refused free joining =

@@ -1,12 +1,12 @@
 -- Marks of a session stay.
 use Rattle.sl_session_law.specs.Promises.{MarksStay, Stays}
-use Rattle.sl_sessions.specs.Sessions.{Session, ended_after, is_join_done, joined_after, refused_after, removed_after, removed_in}
+use Rattle.sl_sessions.specs.Sessions.{Session, ended_after, is_join_done, joined_after, refused_after, removed_after}
 use Rattle.sl_trace.proofs.TraceFacts.{reply_to-more}
 use Rattle.sl_trace.specs.Traces.{Replied, Trace, reply_to}
 use Rattle.sl_trace.specs.declared.effects.Entry.{Entry}
 use Rattle.sl_words.proofs.CaseLaws.{none_some}
 use Rattle.sl_words.specs.Words.{choose}
-use Rattle.std.proofs.Common.{ap, sym, ◌∙◌}
+use Rattle.std.proofs.Common.{ap, ◌∙◌}
 use Rattle.std.specs.Prelude.{Bool, None, Option, Some, false, not, option_and_then, refl, true, [], ℕ, ◌++◌, ◌+◌, ◌∷◌, ◌≡◌}
 
 -- What is made of a reply stays with the reply.
