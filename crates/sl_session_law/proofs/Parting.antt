@@ -1,0 +1,148 @@
+-- A session whose write is unanswered is not removed.
+use Rattle.sl_law.proofs.LawFacts.{lawful-front}
+use Rattle.sl_law.specs.Lawful.{Lawful}
+use Rattle.sl_law.specs.LawfulCalls.{may_submit}
+use Rattle.sl_law.specs.Saying.{cut_at}
+use Rattle.sl_session_law.proofs.Joining.{same_number_by}
+use Rattle.sl_session_law.proofs.Making.{IsNewCall, contains_cases, contains_first, contains_more, contains_none, old_or_new, was_marked}
+use Rattle.sl_session_law.proofs.Naming.{kept}
+use Rattle.sl_session_law.proofs.Ordering.{begun_before}
+use Rattle.sl_session_law.proofs.Owning.{got_inside}
+use Rattle.sl_session_law.proofs.Silence.{no_more}
+use Rattle.sl_session_law.proofs.Staying.{joined_more}
+use Rattle.sl_session_law.specs.Promises.{IsSession}
+use Rattle.sl_sessions.specs.Sessions.{Session, calls_of, has_open_write, is_call_of, joined_after, refused_after, removed_after, removed_in, session_numbered, sessions, stage_of}
+use Rattle.sl_trace.specs.Connections.{unregisters}
+use Rattle.sl_trace.specs.Traces.{Setting, Submitted, Trace, is_write, mark, submitted}
+use Rattle.sl_trace.specs.declared.effects.Entry.{Entry}
+use Rattle.sl_words.proofs.CaseLaws.{false_is_true, none_some, one_value, true_is_false}
+use Rattle.sl_words.proofs.WordLaws.{and_true, choose_some}
+use Rattle.std.proofs.Common.{ap, inl, inr, arith, refl, subst, sym, tests, ◌∙◌}
+use Rattle.std.specs.List.{list_any}
+use Rattle.std.specs.Prelude.{Bool, Contains, List, None, Option, Some, [], cond, false, filter, is_none, is_some, length, true, ℕ, ◌&&◌, ◌+◌, ◌==◌, ◌||◌, ◌∷◌, ◌≡◌, ◌⊎◌}
+
+any_by : {A : Type 0} (p : A → Bool) (x : A) (xs : List A) (b : Bool) → p x ≡ b → (b || list_any p xs) ≡ true → (list_any p xs ≡ true → (y : A) × Contains xs y × (p y ≡ true))
+    → (y : A) × Contains (x ∷ xs) y × (p y ≡ true)
+any_by p x xs true is h rest = (x, contains_first x xs, is)
+any_by p x xs false is h rest = let r = rest h in (r.0, contains_more x xs r.0 r.1, r.2)
+
+any_found : {A : Type 0} (p : A → Bool) (xs : List A) → list_any p xs ≡ true → (y : A) × Contains xs y × (p y ≡ true)
+any_found p [] h = absurd (false_is_true h)
+any_found p (x ∷ xs) h = any_by p x xs (p x) refl h (λ rest. any_found p xs rest)
+
+kept_by : {A : Type 0} (q : A → Bool) (x : A) (rest xs : List A) (m : A) (b : Bool) → q x ≡ b → Contains (cond b (x ∷ rest) rest) m
+    → (Contains rest m → Contains xs m × (q m ≡ true)) → Contains (x ∷ xs) m × (q m ≡ true)
+kept_by q x rest xs m false is there more = let r = more there in (contains_more x xs m r.0, r.1)
+kept_by {A} q x rest xs m true is there more = by (contains_cases x rest m there) where
+  by : (x ≡ m) ⊎ Contains rest m → Contains (x ∷ xs) m × (q m ≡ true)
+  by (inl here) = (subst (λ (y : A). Contains (x ∷ xs) y) here (contains_first x xs), subst (λ (y : A). q y ≡ true) here is)
+  by (inr old) = let r = more old in (contains_more x xs m r.0, r.1)
+
+kept_inside : {A : Type 0} (q : A → Bool) (xs : List A) (m : A) → Contains (filter q xs) m → Contains xs m × (q m ≡ true)
+kept_inside q [] m there = absurd (contains_none m there)
+kept_inside q (x ∷ xs) m there = kept_by q x (filter q xs) xs m (q x) refl there (λ more. kept_inside q xs m more)
+
+record UnmetWrite (es : Trace) (s : Session) : Type 0 where
+  call : Submitted
+  inside : Contains (submitted es) call
+  mine : call.call.session ≡ s.number
+  unmet : call.answer ≡ None
+  writes : is_write call.call.op ≡ true
+
+none_is : {A : Type 0} (o : Option A) → is_none o ≡ true → o ≡ None
+none_is None h = refl
+none_is (Some a) h = absurd (false_is_true h)
+
+unmet_write : (es : Trace) (s : Session) → has_open_write es s ≡ true → UnmetWrite es s
+unmet_write es s h =
+    let found = any_found (λ (m : Submitted). is_write m.call.op) (filter (λ (m : Submitted). is_none m.answer) (calls_of es s)) h in
+    let waits = kept_inside (λ (m : Submitted). is_none m.answer) (calls_of es s) found.0 found.1 in
+    let its = kept_inside (is_call_of s) (submitted es) found.0 waits.0 in
+    record { call = found.0; inside = its.0; mine = same_number_by found.0.call.session s.number its.1; unmet = none_is found.0.answer waits.1; writes = found.2 }
+
+some_is_some : (o : Option ℕ) → is_some o ≡ true → (j : ℕ) × (o ≡ Some j)
+some_is_some None h = absurd (false_is_true h)
+some_is_some (Some j) h = (j, refl)
+
+removal : (past : Trace) (s : Session) (e : Entry) (k : ℕ) → removed_in past s e ≡ Some k → (is_some (joined_after past s) ≡ true) × (list_any (unregisters s.lockspace) e.effects.moves ≡ true)
+removal past s e k is =
+    and_true (is_some (joined_after past s)) (list_any (unregisters s.lockspace) e.effects.moves)
+    (choose_some (is_some (joined_after past s) && list_any (unregisters s.lockspace) e.effects.moves) (length past + 1) k is).0
+
+abbrev removed_by : Option ℕ → Option ℕ → Option ℕ
+removed_by before now = elim before [ Some k ↦ Some k | None ↦ now ]
+
+removed_joined : (es : Trace) (s : Session) (k : ℕ) → removed_after es s ≡ Some k → (j : ℕ) × (joined_after es s ≡ Some j)
+removed_joined [] s k is = absurd (none_some k is)
+removed_joined (e ∷ past) s k is = by (λ i was. removed_joined past s i was) (removed_after past s) refl is where
+  by : ((i : ℕ) → removed_after past s ≡ Some i → (j : ℕ) × (joined_after past s ≡ Some j)) → (o : Option ℕ) → removed_after past s ≡ o → removed_by o (removed_in past s e) ≡ Some k
+      → (j : ℕ) × (joined_after (e ∷ past) s ≡ Some j)
+  by more (Some i) was at = let r = more i was in (r.0, joined_more e past s r.0 r.1)
+  by more None was at = let r = some_is_some (joined_after past s) (removal past s e k at).0 in (r.0, joined_more e past s r.0 r.1)
+
+gone_by : (es : Trace) (s : Session) (j k : ℕ) → joined_after es s ≡ Some j → removed_after es s ≡ Some k → may_submit (stage_of es s) ≡ false
+gone_by es s j k joined gone = no_more es s k (ap (λ o. elim o as (λ x. Option ℕ) [ Some i ↦ removed_after es s | None ↦ refused_after es s ]) joined ∙ gone)
+
+present_by : (joined removed refused : Option ℕ) (b : Bool) (j : ℕ) → joined ≡ Some j → removed ≡ None
+    → (is_none (elim joined as (λ x. Option ℕ) [ Some k ↦ removed | None ↦ refused ]) || is_none joined && b) ≡ true
+present_by None removed refused b j is gone = absurd (none_some j is)
+present_by (Some k) None refused b j is gone = refl
+present_by (Some k) (Some i) refused b j is gone = absurd (none_some i (sym gone))
+
+-- The write was submitted before the entry.
+older_write : (st : Setting) (e : Entry) (past : Trace) (s : Session) (k : ℕ) → Lawful st (e ∷ past) → IsSession st (e ∷ past) s → removed_after (e ∷ past) s ≡ Some k
+    → (u : UnmetWrite (e ∷ past) s) → Contains (mark past e e.input (submitted past)) u.call ⊎ IsNewCall (length past) e.reading e.effects.calls u.call
+    → UnmetWrite past s × IsSession st past s
+older_write st e past s k h its gone u (inr new) =
+    let t : Trace = cut_at new.index e ∷ past in
+    let joined = removed_joined t s k gone in
+    absurd (true_is_false (sym (h.calls.0.alive new.index u.call.call s new.call (ap (λ n. session_numbered st (e ∷ past) n) u.mine ∙ its)) ∙ gone_by t s joined.0 k joined.1 gone))
+older_write st e past s k h its gone u (inl old) =
+    let w = was_marked past e e.input (submitted past) u.call old in
+    let number = ap (λ c. c.session) (sym w.same.call) ∙ u.mine in (
+      record { call = w.before; inside = w.inside; mine = number; unmet = w.unmet u.unmet; writes = ap (λ c. is_write c.op) (sym w.same.call) ∙ u.writes },
+      ap (λ n. session_numbered st past n) (sym number)
+          ∙ begun_before st e past s h (λ x at. one_value x s (session_numbered st (e ∷ past) s.number) at its) w.before w.inside number,
+    )
+
+any_at : {A : Type 0} (p : A → Bool) (x : A) (xs : List A) (d : A) → p d ≡ true → (b : Bool) → p x ≡ b → (x ≡ d) ⊎ Contains xs d → (Contains xs d → list_any p xs ≡ true) → (b || list_any p xs) ≡ true
+any_at p x xs d h true is at rest = refl
+any_at p x xs d h false is (inl here) rest = absurd (true_is_false (sym h ∙ ap p (sym here) ∙ is))
+any_at p x xs d h false is (inr there) rest = rest there
+
+any_of : {A : Type 0} (p : A → Bool) (xs : List A) (d : A) → p d ≡ true → Contains xs d → list_any p xs ≡ true
+any_of p [] d h there = absurd (contains_none d there)
+any_of p (x ∷ xs) d h there = any_at p x xs d h (p x) refl (contains_cases x xs d there) (λ more. any_of p xs d h more)
+
+equal_numbers : (a b : ℕ) → a ≡ b → (a == b) ≡ true
+equal_numbers a b h = grind (arith, tests)
+
+write_unmet : (es : Trace) (s : Session) → UnmetWrite es s → has_open_write es s ≡ true
+write_unmet es s u =
+    any_of (λ (m : Submitted). is_write m.call.op) (filter (λ (m : Submitted). is_none m.answer) (calls_of es s)) u.call u.writes
+    (kept (λ (m : Submitted). is_none m.answer) (calls_of es s) u.call (ap (λ o. is_none o) u.unmet)
+    (kept (is_call_of s) (submitted es) u.call (equal_numbers u.call.call.session s.number u.mine) u.inside))
+
+parts_by : (st : Setting) (e : Entry) (past : Trace) (s : Session) (k : ℕ) → Lawful st (e ∷ past) → IsSession st past s → UnmetWrite (e ∷ past) s
+    → (o : Option ℕ) → removed_after past s ≡ o → removed_by o (removed_in past s e) ≡ Some k → ((i : ℕ) → removed_after past s ≡ Some i → ⊥) → ⊥
+parts_by st e past s k h its u (Some i) was at rest = rest i was
+parts_by st e past s k h its u None was at rest =
+    let r = removal past s e k at in
+    let j = some_is_some (joined_after past s) r.0 in
+    true_is_false (sym (write_unmet (e ∷ past) s u)
+    ∙ (h.watchdog.0.removals s (got_inside (sessions st past) s.number s its)
+    (present_by (joined_after past s) (removed_after past s) (refused_after past s) (has_open_write past s) j.0 j.1 was) r.1).1)
+
+quiet : (st : Setting) (es : Trace) (s : Session) → Lawful st es → IsSession st es s → (k : ℕ) → removed_after es s ≡ Some k → UnmetWrite es s → ⊥
+quiet st [] s h its k gone u = none_some k gone
+quiet st (e ∷ past) s h its k gone u =
+    let old = older_write st e past s k h its gone u (old_or_new (length past) e.reading e.effects.calls (mark past e e.input (submitted past)) u.call u.inside) in
+    parts_by st e past s k h old.1 u (removed_after past s) refl gone
+    (λ i was. quiet st past s (lawful-front st (e ∷ []) past h) old.1 i was old.0)
+
+none_by : (o : Option ℕ) → ((k : ℕ) → o ≡ Some k → ⊥) → o ≡ None
+none_by None never = refl
+none_by (Some k) never = absurd (never k refl)
+
+pub not_removed : (st : Setting) (es : Trace) (s : Session) → Lawful st es → IsSession st es s → has_open_write es s ≡ true → removed_after es s ≡ None
+not_removed st es s h its waits = none_by (removed_after es s) (λ k gone. quiet st es s h its k gone (unmet_write es s waits))
