@@ -1,0 +1,5 @@
+pub mod FrontLaws
+pub mod HavingLaws
+pub mod NumberLaws
+pub mod AnswerLaws
+pub mod TurnLaws

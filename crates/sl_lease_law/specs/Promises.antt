@@ -1,0 +1,37 @@
+-- What one lawful trace promises of one session on one resource's area. The safety of ballots asks these of the hosts; each is a fact
+-- of one trace, with no other host and no disk in it:
+--
+--   IsLastWrite, IsFoundBlock   the own block is the one last submitted, else the one last read
+--   IsPhase1, IsPhase2, KeepsBallot, GoesUp, NumbersArePositive     how a block comes from the own block and a read
+--   IsRegister.answered, forward                                    an answer is later than its call
+--   BallotEnded                 a phase 2 and a later read that shows nothing ahead
+--   BeginReason                 but for what a read shows: that is the disk's
+--   LeadersHaveWon, ExclusiveGranted, SharedGranted, FreesAfterMark, LooksAfterBegun    what stands before a leader or a grant
+--
+-- What reads show (IsRegister.submitted, earlier; ShowsNewest) and that sessions come in order are no facts of one trace. ShowsNewest
+-- rests on one of them: that a session has one block write in flight.
+use Rattle.sl_law.specs.Lawful.{Lawful}
+use Rattle.sl_law.specs.LawfulArea.{is_area_work, is_block_work}
+use Rattle.sl_lease_law.specs.Fronts.{LawfulSubmission}
+use Rattle.sl_leases.specs.Leases.{is_on, spot_of_call}
+use Rattle.sl_trace.specs.Traces.{Answered, Setting, Submitted, Trace, submitted}
+use Rattle.std.specs.Prelude.{IsTrue, List, Some, ◌++◌, ◌∷◌, ◌≡◌, ◌≤◌}
+
+-- Each call was submitted at a front of the trace.
+abbrev pub EachWasSubmitted : Type 0
+EachWasSubmitted = (st : Setting) (es : Trace) → Lawful st es → (newer older : List Submitted) (c : Submitted) → submitted es ≡ newer ++ c ∷ older
+    → LawfulSubmission st es c older
+
+-- The first call was answered before the other was submitted, or in the entry that submitted it.
+pub record WasAnsweredBy (d c : Submitted) : Type 0 where
+  pub answer : Answered
+  pub answered : d.answer ≡ Some answer
+  pub by : answer.at ≤ c.at
+
+-- Of a session's calls on an area that write or read blocks, each was answered by the time that a later one was submitted: so at most
+-- one is unanswered. (Delta records are written beside them, by calls that are no work on an area.)
+abbrev pub OneAtATime : Type 0
+OneAtATime = (st : Setting) (es : Trace) → Lawful st es → (newer between older : List Submitted) (c d : Submitted)
+    → submitted es ≡ newer ++ c ∷ (between ++ d ∷ older) → c.call.session ≡ d.call.session
+    → IsTrue (is_block_work c) → IsTrue (is_area_work c.call.purpose) → IsTrue (is_block_work d) → IsTrue (is_on st.layout (spot_of_call st.layout c) d.call)
+    → WasAnsweredBy d c
