@@ -15,7 +15,7 @@ use Rattle.sl_trace.specs.declared.effects.Call.{Call}
 use Rattle.sl_trace.specs.declared.effects.Spot.{Spot}
 use Rattle.sl_words.proofs.CaseLaws.{no_value, none_some}
 use Rattle.std.proofs.Common.{ap, arith, inl, inr, refl, subst, sym, ◌∙◌}
-use Rattle.std.proofs.lemmas.Bool.{nat_eq_refl}
+use Rattle.std.proofs.lemmas.Bool.{eq-eqb}
 use Rattle.std.specs.Prelude.{Bool, IsTrue, List, None, Option, Some, filter, is_none, length, nat_eq, suc, true, [], ℕ, ◌&&◌, ◌++◌, ◌+◌, ◌<◌, ◌==◌, ◌∷◌, ◌≡◌, ◌≤◌, ◌⊎◌}
 
 -- Whether a call of this kind writes, or reads blocks.
@@ -28,28 +28,26 @@ place st c = spot_of_call st.layout (new_call 0 0 c)
 both : (a b : Bool) → a ≡ true → b ≡ true → (a && b) ≡ true
 both a b ha hb = ap (λ x. x && b) ha ∙ hb
 
-same_number : (m n : ℕ) → m ≡ n → (m == n) ≡ true
-same_number m n is = subst (λ k. (m == k) ≡ true) is (nat_eq_refl m)
-
 -- A call that is unanswered at the front would bar the new one.
 bars : (st : Setting) (t : Trace) (s : Session) (at : Spot) (m : Submitted) → Has (submitted t) m → m.call.session ≡ s.number → m.answer ≡ None → works m.call ≡ true
     → is_on st.layout at m.call ≡ true → open_block_work st t s at ≡ [] → ⊥
 bars st t s at m has session waits works_here on none =
-    let mine : Has (calls_of t s) m = has_kept (is_call_of s) (submitted t) m has (same_number m.call.session s.number session) in
+    let mine : Has (calls_of t s) m = has_kept (is_call_of s) (submitted t) m has (eq-eqb m.call.session s.number session) in
     let waiting : Has (open_calls_of t s) m = has_kept (λ x. is_none x.answer) (calls_of t s) m mine (ap (λ o. is_none o) waits) in
     let here : Has (open_block_work st t s at) m =
         has_kept (λ x. is_block_work x && is_on st.layout at x.call) (open_calls_of t s) m waiting (both (is_block_work m) (is_on st.layout at m.call) works_here on)
     in
     has_none m here.newer here.older (sym none ∙ here.is)
 
+still : (n : ℕ) (was d : Submitted) (a : Answered) → was.answer ≡ Some a
+    → (d.answer ≡ was.answer) ⊎ ((was.answer ≡ None) × (b : Answered) × (d.answer ≡ Some b) × (n + 1 ≤ b.at)) → d.answer ≡ Some a
+still n was d a is (inl h) = h ∙ is
+still n was d a is (inr h) = absurd (no_value a was.answer is h.0)
+
 answered_now : (n : ℕ) (was d c : Submitted) → Aged (n + 1) was d → c.at ≡ n → ((a : Answered) → was.answer ≡ Some a → a.at < suc n) → (o : Option Answered) → was.answer ≡ o → (o ≡ None → ⊥)
     → WasAnsweredBy d c
 answered_now n was d c aged at within None is stands = absurd (stands refl)
-answered_now n was d c aged at within (Some a) is stands = record { answer = a; answered = same aged.answer; by = let less : a.at < suc n = within a is in omega (arith, less, at) }
-where
-  same : (d.answer ≡ was.answer) ⊎ ((was.answer ≡ None) × (b : Answered) × (d.answer ≡ Some b) × (n + 1 ≤ b.at)) → d.answer ≡ Some a
-  same (inl h) = h ∙ is
-  same (inr h) = absurd (no_value a was.answer is h.0)
+answered_now n was d c aged at within (Some a) is stands = record { answer = a; answered = still n was d a is aged.answer; by = let less : a.at < suc n = within a is in omega (arith, less, at) }
 
 turn : (st : Setting) (es : Trace) → Lawful st es → (between older : List Submitted) (c d : Submitted) → LawfulSubmission st es c (between ++ d ∷ older)
     → c.call.session ≡ d.call.session → works c.call ≡ true → is_area_work c.call.purpose ≡ true → works d.call ≡ true → is_on st.layout (place st c.call) d.call ≡ true
