@@ -13,7 +13,10 @@
 use Rattle.sl_law.specs.Lawful.{Lawful}
 use Rattle.sl_law.specs.LawfulArea.{is_area_work, is_block_work}
 use Rattle.sl_lease_law.specs.Fronts.{LawfulSubmission}
-use Rattle.sl_leases.specs.Leases.{is_on, spot_of_call}
+use Rattle.sl_lease_law.specs.Ways.{BlockComes, Phase2ReadRests, Phase2Rests}
+use Rattle.sl_sector.specs.declared.sector.Block.{Block}
+use Rattle.sl_sessions.specs.Sessions.{Session, session_numbered}
+use Rattle.sl_leases.specs.Leases.{Phase2_read, Phase2_write, block_written, is_at, is_on, spot_of_call}
 use Rattle.sl_trace.specs.Traces.{Answered, Setting, Submitted, Trace, submitted}
 use Rattle.std.specs.Prelude.{IsTrue, List, Some, ◌++◌, ◌∷◌, ◌≡◌, ◌≤◌}
 
@@ -35,3 +38,20 @@ OneAtATime = (st : Setting) (es : Trace) → Lawful st es → (newer between old
     → submitted es ≡ newer ++ c ∷ (between ++ d ∷ older) → c.call.session ≡ d.call.session
     → IsTrue (is_block_work c) → IsTrue (is_area_work c.call.purpose) → IsTrue (is_block_work d) → IsTrue (is_on st.layout (spot_of_call st.layout c) d.call)
     → WasAnsweredBy d c
+
+-- Each block comes from the own block by one of three ways. (With no hosts there are no numbers.)
+abbrev pub BlocksCome : Type 0
+BlocksCome = (st : Setting) (es : Trace) → Lawful st es → 1 ≤ st.layout.hosts → (newer older : List Submitted) (c : Submitted) (b : Block)
+    → submitted es ≡ newer ++ c ∷ older → block_written c ≡ Some b → (s : Session) → session_numbered st es c.call.session ≡ Some s
+    → BlockComes st s (spot_of_call st.layout c) older c b
+
+-- Each block of phase 2 rests on its own phase 1 and on a read after it.
+abbrev pub Phase2Follows : Type 0
+Phase2Follows = (st : Setting) (es : Trace) → Lawful st es → (newer older : List Submitted) (c : Submitted) (b : Block) → submitted es ≡ newer ++ c ∷ older
+    → block_written c ≡ Some b → IsTrue (is_at Phase2_write c) → (s : Session) → session_numbered st es c.call.session ≡ Some s
+    → Phase2Rests st es s (spot_of_call st.layout c) older c b
+
+-- Each read of phase 2 follows its own phase 2.
+abbrev pub Phase2IsRead : Type 0
+Phase2IsRead = (st : Setting) (es : Trace) → Lawful st es → (newer older : List Submitted) (c : Submitted) → submitted es ≡ newer ++ c ∷ older
+    → IsTrue (is_at Phase2_read c) → (s : Session) → session_numbered st es c.call.session ≡ Some s → Phase2ReadRests st s (spot_of_call st.layout c) older c

@@ -1,6 +1,6 @@
 //! What each lawful trace keeps to.
 
-ghost use Rattle.sl_lease_law.specs.Promises.{EachWasSubmitted, OneAtATime};
+ghost use Rattle.sl_lease_law.specs.Promises.{BlocksCome, EachWasSubmitted, OneAtATime, Phase2Follows, Phase2IsRead};
 
 /// Each call of a lawful trace was submitted at a front of it, and what that front knew is what the trace knows but for later answers.
 pub fn each_was_submitted()
@@ -10,4 +10,19 @@ pub fn each_was_submitted()
 /// A session has one call at a time that writes on an area or reads its blocks.
 pub fn one_at_a_time()
     ensures { OneAtATime }
+{}
+
+/// Each block that a session writes comes from its own block: by phase 1, by phase 2, or by a change of mode.
+pub fn blocks_come()
+    ensures { BlocksCome }
+{}
+
+/// Phase 2 follows its own phase 1, and a read after it that shows nothing above.
+pub fn phase2_follows()
+    ensures { Phase2Follows }
+{}
+
+/// The read of phase 2 follows its own phase 2, answered ok.
+pub fn phase2_is_read()
+    ensures { Phase2IsRead }
 {}
