@@ -40,7 +40,7 @@ aged_kept n p stable (x ∷ xs) (y ∷ ys) h =
 abbrev pub writes : Call → Option Block
 writes c = block_written (new_call 0 0 c)
 
-aged_block : (n : ℕ) (xs ys : List Submitted) → AllAged n xs ys → block_submitted xs ≡ block_submitted ys
+pub aged_block : (n : ℕ) (xs ys : List Submitted) → AllAged n xs ys → block_submitted xs ≡ block_submitted ys
 aged_block n [] [] h = refl
 aged_block n [] (y ∷ ys) h = absurd h
 aged_block n (x ∷ xs) [] h = absurd h

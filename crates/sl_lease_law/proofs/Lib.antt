@@ -6,3 +6,4 @@ pub mod TurnLaws
 pub mod WayLaws
 pub mod ComingLaws
 pub mod RestLaws
+pub mod EndLaws

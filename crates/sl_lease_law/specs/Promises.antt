@@ -13,10 +13,11 @@
 use Rattle.sl_law.specs.Lawful.{Lawful}
 use Rattle.sl_law.specs.LawfulArea.{is_area_work, is_block_work}
 use Rattle.sl_lease_law.specs.Fronts.{LawfulSubmission}
-use Rattle.sl_lease_law.specs.Ways.{BlockComes, Phase2ReadRests, Phase2Rests}
+use Rattle.sl_lease_law.specs.Ways.{BlockComes, LeaderRests, Phase2ReadRests, Phase2Rests}
 use Rattle.sl_sector.specs.declared.sector.Block.{Block}
+use Rattle.sl_sector.specs.declared.sector.Leader.{Leader}
 use Rattle.sl_sessions.specs.Sessions.{Session, session_numbered}
-use Rattle.sl_leases.specs.Leases.{Phase2_read, Phase2_write, block_written, is_at, is_on, spot_of_call}
+use Rattle.sl_leases.specs.Leases.{Phase2_read, Phase2_write, block_written, is_at, is_on, leader_written, spot_of_call}
 use Rattle.sl_trace.specs.Traces.{Answered, Setting, Submitted, Trace, submitted}
 use Rattle.std.specs.Prelude.{IsTrue, List, Some, ◌++◌, ◌∷◌, ◌≡◌, ◌≤◌}
 
@@ -55,3 +56,8 @@ Phase2Follows = (st : Setting) (es : Trace) → Lawful st es → (newer older : 
 abbrev pub Phase2IsRead : Type 0
 Phase2IsRead = (st : Setting) (es : Trace) → Lawful st es → (newer older : List Submitted) (c : Submitted) → submitted es ≡ newer ++ c ∷ older
     → IsTrue (is_at Phase2_read c) → (s : Session) → session_numbered st es c.call.session ≡ Some s → Phase2ReadRests st s (spot_of_call st.layout c) older c
+
+-- Each leader is written by a session that won its instance.
+abbrev pub LeadersFollow : Type 0
+LeadersFollow = (st : Setting) (es : Trace) → Lawful st es → (newer older : List Submitted) (c : Submitted) (l : Leader) → submitted es ≡ newer ++ c ∷ older
+    → leader_written c ≡ Some l → (s : Session) → session_numbered st es c.call.session ≡ Some s → LeaderRests st es s (spot_of_call st.layout c) older c l

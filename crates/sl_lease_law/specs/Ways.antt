@@ -2,13 +2,16 @@
 use Rattle.sl_law.specs.LawfulBlock.{ReadAfter}
 use Rattle.sl_law.specs.Saying.{cut_at}
 use Rattle.sl_lease_law.specs.Fronts.{Submission}
-use Rattle.sl_leases.specs.Ballots.{ballot_blocks, moded_block, phase2_block, stop_of}
-use Rattle.sl_leases.specs.Leases.{Mode_cleared, Mode_set, Phase1_read, Phase1_write, Phase2_write, block_submitted, block_written, blocks_given, is_at, is_lease_call, is_on}
+use Rattle.sl_leases.specs.Ballots.{ballot_blocks, moded_block, owner_of, phase2_block, same_owner, stop_of, value_of}
+use Rattle.sl_leases.specs.Leases.{Mode_cleared, Mode_set, Phase1_read, Phase1_write, Phase2_read, Phase2_write, block_submitted, block_written, blocks_given, freed, is_at, is_lease_call, is_on}
+use Rattle.sl_area.specs.Layouts.{Layout}
 use Rattle.sl_sector.specs.declared.sector.Block.{Block}
+use Rattle.sl_sector.specs.declared.sector.Leader.{Leader}
+use Rattle.sl_sector.specs.declared.sector.Owner.{Owner}
 use Rattle.sl_sessions.specs.Sessions.{Session, is_call_of, me}
 use Rattle.sl_trace.specs.Traces.{Setting, Submitted, Trace}
 use Rattle.sl_trace.specs.declared.effects.Spot.{Spot}
-use Rattle.std.specs.Prelude.{Contains, IsTrue, List, None, Option, Some, filter, find, is_some, ◌&&◌, ◌<◌, ◌∷◌, ◌≡◌, ◌≤◌, ◌⊎◌}
+use Rattle.std.specs.Prelude.{Contains, IsTrue, List, None, Option, Some, filter, find, is_some, true, ℕ, ◌&&◌, ◌++◌, ◌<◌, ◌∷◌, ◌≡◌, ◌≤◌, ◌⊎◌}
 
 -- Of these calls those of the session's lease on the area; of all calls they are the lease's.
 abbrev pub lease_among : Setting → Session → Spot → List Submitted → List Submitted
@@ -79,3 +82,27 @@ pub record Phase2ReadRests (st : Setting) (s : Session) (at : Spot) (older : Lis
   pub last : find (λ d. is_some (block_written d)) (lease_among st s at older) ≡ Some write
   pub is_phase2 : IsTrue (is_at Phase2_write write)
   pub ordered : ReadAfter write c
+
+-- ---- ballots that ended
+
+-- By these calls a ballot ended with this instance and value: after its block a read of all blocks showed nothing that stops it.
+pub record Ended (g : Layout) (ms : List Submitted) (p : ℕ × Owner) : Type 0 where
+  pub newer : List Submitted
+  pub read : Submitted
+  pub before : List Submitted
+  pub own : Block
+  pub blocks : List (Option Block)
+  pub is : ms ≡ newer ++ read ∷ before
+  pub reads : IsTrue (is_at Phase2_read read)
+  pub block : block_submitted before ≡ Some own
+  pub given : blocks_given g read ≡ Some blocks
+  pub clear : stop_of own blocks ≡ None
+  pub what : (own.lver, value_of own) ≡ p
+
+-- What a leader that is written rests on: it names the session, whose own ballot of the instance ended with itself before; as held it
+-- is written only above each free of the session.
+pub record LeaderRests (st : Setting) (es : Trace) (s : Session) (at : Spot) (older : List Submitted) (c : Submitted) (l : Leader) : Type 0 where
+  pub submission : Submission es c older
+  pub owner : IsTrue (same_owner (owner_of l) (me (cut_at submission.place submission.entry ∷ submission.past) s))
+  pub won : Ended st.layout (lease_among st s at older) (l.lver, me (cut_at submission.place submission.entry ∷ submission.past) s)
+  pub not_freed : l.held ≡ true → freed (lease_among st s at older) < l.lver

@@ -1,6 +1,6 @@
 //! What each lawful trace keeps to.
 
-ghost use Rattle.sl_lease_law.specs.Promises.{BlocksCome, EachWasSubmitted, OneAtATime, Phase2Follows, Phase2IsRead};
+ghost use Rattle.sl_lease_law.specs.Promises.{BlocksCome, EachWasSubmitted, LeadersFollow, OneAtATime, Phase2Follows, Phase2IsRead};
 
 /// Each call of a lawful trace was submitted at a front of it, and what that front knew is what the trace knows but for later answers.
 pub fn each_was_submitted()
@@ -25,4 +25,9 @@ pub fn phase2_follows()
 /// The read of phase 2 follows its own phase 2, answered ok.
 pub fn phase2_is_read()
     ensures { Phase2IsRead }
+{}
+
+/// A leader follows an own ballot of its instance that ended with the session.
+pub fn leaders_follow()
+    ensures { LeadersFollow }
 {}
