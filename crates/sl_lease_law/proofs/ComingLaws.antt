@@ -1,14 +1,16 @@
 -- Each block comes from the own block.
+use Rattle.sl_area.specs.Layouts.{Layout}
 use Rattle.sl_law.specs.Lawful.{Lawful}
 use Rattle.sl_law.specs.LawfulBlock.{LawfulBlockStep, LawfulBlockWrite, LawfulModeWrite, LawfulPhase1, LawfulPhase2}
 use Rattle.sl_law.specs.Saying.{cut_at}
+use Rattle.sl_lease_law.proofs.AgeLaws.{aged_block, aged_lease, found_stays, writes}
 use Rattle.sl_lease_law.proofs.FrontLaws.{each_was_submitted, lawful_there}
 use Rattle.sl_lease_law.proofs.WayLaws.{by_mode, by_phase1, by_phase2}
 use Rattle.sl_lease_law.specs.Fronts.{Aged, AllAged, LawfulSubmission, Submission}
 use Rattle.sl_lease_law.specs.Promises.{BlocksCome}
-use Rattle.sl_lease_law.specs.Ways.{BlockComes, ByMode, ByPhase1, ByPhase2, Of_mode, Of_phase1, Of_phase2, Way, lease_among}
+use Rattle.sl_lease_law.specs.Ways.{BlockComes, FoundIn, ByMode, ByPhase1, ByPhase2, Of_mode, Of_phase1, Of_phase2, Way, lease_among}
 use Rattle.sl_leases.specs.Ballots.{ballot_blocks, moded_block, phase1_block, phase2_block}
-use Rattle.sl_leases.specs.Leases.{Mode_cleared, Mode_set, Phase1_write, Phase2_write, StepKind, block_submitted, block_written, freed, is_at, is_lease_call, is_on, kind_of_step, last_blocks, lease_calls, lease_step, own_block, own_or_read, same_kind, spot_of_call}
+use Rattle.sl_leases.specs.Leases.{block_of_host, blocks_given, Mode_cleared, Mode_set, Phase1_write, Phase2_write, StepKind, block_submitted, block_written, freed, is_at, is_lease_call, is_on, kind_of_step, last_blocks, lease_calls, lease_step, own_block, own_or_read, same_kind, spot_of_call}
 use Rattle.sl_sector.specs.declared.sector.Block.{Block}
 use Rattle.sl_sessions.specs.Sessions.{Session, is_call_of, me, session_numbered}
 use Rattle.sl_trace.specs.Traces.{Setting, Submitted, Trace, new_call, submitted}
@@ -17,48 +19,38 @@ use Rattle.sl_trace.specs.declared.effects.LeaseStep.TheVariants.{ClearMode, Fre
 use Rattle.sl_trace.specs.declared.effects.LeaseStep.{LeaseStep}
 use Rattle.sl_trace.specs.declared.effects.Spot.{Spot}
 use Rattle.sl_trace.specs.declared.effects.Work.{Work}
-use Rattle.sl_words.proofs.CaseLaws.{none_some, one_value, some_value}
+use Rattle.sl_words.proofs.CaseLaws.{no_value, none_some, one_value, some_value}
 use Rattle.sl_words.specs.Words.{present, some_is}
 use Rattle.std.proofs.Common.{ap, arith, inl, inr, refl, subst, sym, ◌∙◌}
-use Rattle.std.specs.Prelude.{Bool, IsTrue, List, None, Option, Some, cond, false, filter, find, is_some, length, true, [], ℕ, ◌&&◌, ◌++◌, ◌+◌, ◌<◌, ◌∷◌, ◌≡◌, ◌≤◌}
-
--- ---- what ages keeps its block
-
-aged_cond : (n : ℕ) (x y : Submitted) (xs ys : List Submitted) (b : Bool) → Aged n x y → AllAged n xs ys → AllAged n (cond b (x ∷ xs) xs) (cond b (y ∷ ys) ys)
-aged_cond n x y xs ys true h hs = (h, hs)
-aged_cond n x y xs ys false h hs = hs
-
--- A test of the call alone passes the same of them.
-aged_kept : (n : ℕ) (p : Submitted → Bool) → ((x y : Submitted) → y.call ≡ x.call → p x ≡ p y) → (xs ys : List Submitted) → AllAged n xs ys → AllAged n (filter p xs) (filter p ys)
-aged_kept n p stable [] [] h = tt
-aged_kept n p stable [] (y ∷ ys) h = absurd h
-aged_kept n p stable (x ∷ xs) [] h = absurd h
-aged_kept n p stable (x ∷ xs) (y ∷ ys) h =
-    subst (λ b. AllAged n (filter p (x ∷ xs)) (cond b (y ∷ filter p ys) (filter p ys))) (stable x y h.0.call)
-    (aged_cond n x y (filter p xs) (filter p ys) (p x) h.0 (aged_kept n p stable xs ys h.1))
-
-abbrev pub writes : Call → Option Block
-writes c = block_written (new_call 0 0 c)
-
-pub aged_block : (n : ℕ) (xs ys : List Submitted) → AllAged n xs ys → block_submitted xs ≡ block_submitted ys
-aged_block n [] [] h = refl
-aged_block n [] (y ∷ ys) h = absurd h
-aged_block n (x ∷ xs) [] h = absurd h
-aged_block n (x ∷ xs) (y ∷ ys) h =
-    ap (λ o. elim o as (λ z. Option Block) [ Some b ↦ Some b | None ↦ block_submitted xs ]) (ap (λ c. writes c) (sym h.0.call))
-    ∙ ap (λ r. elim (block_written y) as (λ z. Option Block) [ Some b ↦ Some b | None ↦ r ]) (aged_block n xs ys h.1)
-
-pub aged_lease : (st : Setting) (s : Session) (at : Spot) (n : ℕ) (xs ys : List Submitted) → AllAged n xs ys → AllAged n (lease_among st s at xs) (lease_among st s at ys)
-aged_lease st s at n xs ys h =
-    aged_kept n (λ m. is_lease_call m && is_on st.layout at m.call) (λ x y is. ap (λ c. is_lease_call (new_call 0 0 c) && is_on st.layout at c) (sym is))
-    (filter (is_call_of s) xs) (filter (is_call_of s) ys)
-    (aged_kept n (is_call_of s) (λ x y is. ap (λ c. is_call_of s (new_call 0 0 c)) (sym is)) xs ys h)
+use Rattle.std.specs.Prelude.{Bool, IsTrue, List, None, Option, Some, cond, false, filter, find, is_some, length, slice_get, suc, true, unwrap_or, [], ℕ, ◌&&◌, ◌++◌, ◌+◌, ◌-◌, ◌<◌, ◌∷◌, ◌≡◌, ◌≤◌}
 
 -- ---- the own block is the one last submitted
 
 own_is_last : (id : ℕ) (o : Option Block) (read : List (Option Block)) (own d : Block) → own_or_read id o read ≡ Some own → o ≡ Some d → d ≡ own
 own_is_last id None read own d known is = absurd (none_some d is)
 own_is_last id (Some b) read own d known is = some_value d b (sym is) ∙ some_value b own known
+
+found_later : (g : Layout) (id : ℕ) (m : Submitted) (ms : List Submitted) (own : Block) → FoundIn g id ms own → FoundIn g id (m ∷ ms) own
+found_later g id m ms own f =
+    let k : ℕ = f.has.0 in
+    record { read = f.read; blocks = f.blocks; has = (suc k, (let less : k < length ms = f.has.1 in omega (arith, less)), f.has.2); given = f.given; block = f.block }
+
+found_here : (g : Layout) (id : ℕ) (m : Submitted) (ms : List Submitted) (own : Block) → (o : Option (List (Option Block))) → blocks_given g m ≡ o
+    → block_of_host (elim o as (λ x. List (Option Block)) [ Some bs ↦ bs | None ↦ last_blocks g ms ]) id ≡ Some own
+    → (block_of_host (last_blocks g ms) id ≡ Some own → FoundIn g id ms own) → FoundIn g id (m ∷ ms) own
+found_here g id m ms own None gives is later = found_later g id m ms own (later is)
+found_here g id m ms own (Some bs) gives is later = record { read = m; blocks = bs; has = (0, omega arith, refl); given = gives; block = is }
+
+none_there : (own : Block) (k : ℕ) → unwrap_or (slice_get {X = Option Block} [] k) None ≡ Some own → ⊥
+none_there own k is = none_some own is
+
+found_read : (g : Layout) (id : ℕ) (ms : List Submitted) (own : Block) → block_of_host (last_blocks g ms) id ≡ Some own → FoundIn g id ms own
+found_read g id [] own is = absurd (none_there own (id - 1) is)
+found_read g id (m ∷ ms) own is = found_here g id m ms own (blocks_given g m) refl is (λ h. found_read g id ms own h)
+
+own_is_found : (g : Layout) (id : ℕ) (ms : List Submitted) (own : Block) → (o : Option Block) → own_or_read id o (last_blocks g ms) ≡ Some own → o ≡ None → FoundIn g id ms own
+own_is_found g id ms own None known is = found_read g id ms own known
+own_is_found g id ms own (Some b) known is = absurd (none_some b (sym is))
 
 found_by : (m : Submitted) (ms : List Submitted) (w : Submitted) (own : Block) (o : Option Block) → block_written m ≡ o
     → cond (is_some o) (Some m) (find (λ d. is_some (block_written d)) ms) ≡ Some w → block_written w ≡ Some own
@@ -80,6 +72,7 @@ at_step kind c p is same = ap (λ o. some_is (λ q. same_kind (kind_of_step q.1)
 pub record ComesAt (st : Setting) (s : Session) (ms : List Submitted) (c : Submitted) (b : Block) : Type 0 where
   pub own : Block
   pub last : (d : Block) → block_submitted ms ≡ Some d → d ≡ own
+  pub found : block_submitted ms ≡ None → FoundIn st.layout s.id ms own
   pub way : Way s c own b
 
 by_step : (st : Setting) (t : Trace) (s : Session) (at : Spot) (c : Submitted) (b : Block) → 1 ≤ st.layout.hosts → (w : Work) (step : LeaseStep)
@@ -88,6 +81,7 @@ by_step st t s at c b some w Phase1Write is h =
     record {
       own = h.own;
       last = λ d found. own_is_last s.id (block_submitted (lease_calls st t s at)) (last_blocks st.layout (lease_calls st t s at)) h.own d h.known found;
+      found = λ none. own_is_found st.layout s.id (lease_calls st t s at) h.own (block_submitted (lease_calls st t s at)) h.known none;
       way = Of_phase1 (at_step Phase1_write c (w, Phase1Write) is refl)
           (subst (λ x. ByPhase1 s h.own x) (sym h.written)
           (by_phase1 s (me t s) st.layout.hosts b.lver b.shared b.mode_gen h.own (present (last_blocks st.layout (lease_calls st t s at))) some refl h.not_below
@@ -97,6 +91,7 @@ by_step st t s at c b some w Phase2Write is h =
     record {
       own = h.own;
       last = λ d found. one_value d h.own (block_submitted (lease_calls st t s at)) found (found_last (lease_calls st t s at) h.write h.own h.last h.wrote.0);
+      found = λ none. absurd (no_value h.own (block_submitted (lease_calls st t s at)) (found_last (lease_calls st t s at) h.write h.own h.last h.wrote.0) none);
       way = Of_phase2 (at_step Phase2_write c (w, Phase2Write) is refl)
           (subst (λ x. ByPhase2 h.own x) (sym h.written) (by_phase2 (me t s) h.own (ballot_blocks h.own h.blocks) b.shared b.mode_gen));
     }
@@ -104,12 +99,14 @@ by_step st t s at c b some w SetMode is h =
     record {
       own = h.own;
       last = λ d found. own_is_last s.id (block_submitted (lease_calls st t s at)) (last_blocks st.layout (lease_calls st t s at)) h.own d h.known found;
+      found = λ none. own_is_found st.layout s.id (lease_calls st t s at) h.own (block_submitted (lease_calls st t s at)) h.known none;
       way = Of_mode (inl (at_step Mode_set c (w, SetMode) is refl)) (subst (λ x. ByMode h.own x) (sym h.written) (by_mode h.own b.shared b.mode_gen h.begun));
     }
 by_step st t s at c b some w ClearMode is h =
     record {
       own = h.own;
       last = λ d found. own_is_last s.id (block_submitted (lease_calls st t s at)) (last_blocks st.layout (lease_calls st t s at)) h.own d h.known found;
+      found = λ none. own_is_found st.layout s.id (lease_calls st t s at) h.own (block_submitted (lease_calls st t s at)) h.known none;
       way = Of_mode (inr (at_step Mode_cleared c (w, ClearMode) is refl)) (subst (λ x. ByMode h.own x) (sym h.written) (by_mode h.own b.shared b.mode_gen h.begun));
     }
 by_step st t s at c b some w (ReadArea name) is h = absurd h
@@ -147,12 +144,18 @@ comes st es law some c older b l wrote s numbered =
     let lawful : LawfulBlockWrite st t s new b =
         (lawful_there st es law c older h).block.0.writes h.place h.call s h.there known b (ap (λ x. writes x) (sym called) ∙ wrote) in
     let there : ComesAt st s (lease_calls st t s (place st h.call)) new b = by_write st t s new b some (lease_step h.call.purpose) refl lawful in
+    let aged : AllAged (length h.past + 1) (lease_calls st t s (place st h.call)) (lease_among st s (place st h.call) older) =
+        aged_lease st s (place st h.call) (length h.past + 1) (submitted t) older h.before in
     record {
       own = there.own;
       last = λ d found. there.last d
           (aged_block (length h.past + 1) (lease_calls st t s (place st h.call)) (lease_among st s (place st h.call) older)
           (aged_lease st s (place st h.call) (length h.past + 1) (submitted t) older h.before)
           ∙ (ap (λ x. block_submitted (lease_among st s (place st x) older)) (sym called) ∙ found));
+      found = λ none. subst (λ x. FoundIn st.layout s.id (lease_among st s (place st x) older) there.own) (sym called)
+          (found_stays st.layout (length h.past + 1) s.id (lease_calls st t s (place st h.call)) (lease_among st s (place st h.call) older) there.own aged
+          (there.found (aged_block (length h.past + 1) (lease_calls st t s (place st h.call)) (lease_among st s (place st h.call) older) aged
+          ∙ (ap (λ x. block_submitted (lease_among st s (place st x) older)) (sym called) ∙ none))));
       way = same_way s new c there.own b called there.way;
     }
 

@@ -3,9 +3,8 @@ use Rattle.sl_area.specs.Layouts.{Layout}
 use Rattle.sl_law.specs.Lawful.{Lawful}
 use Rattle.sl_law.specs.LawfulLeader.{HasWon, LawfulFreeLeader, LawfulLeaderWrite, LawfulTake}
 use Rattle.sl_law.specs.Saying.{cut_at}
-use Rattle.sl_lease_law.proofs.ComingLaws.{aged_block, aged_lease}
+use Rattle.sl_lease_law.proofs.AgeLaws.{aged_block, aged_lease, blocks_stay, kind_stays}
 use Rattle.sl_lease_law.proofs.FrontLaws.{each_was_submitted, lawful_there}
-use Rattle.sl_lease_law.proofs.RestLaws.{blocks_stay, kind_stays}
 use Rattle.sl_lease_law.specs.Fronts.{Aged, AllAged, LawfulSubmission, Submission}
 use Rattle.sl_lease_law.specs.Promises.{LeadersFollow}
 use Rattle.sl_lease_law.specs.Ways.{Ended, LeaderRests, lease_among}

@@ -3,6 +3,7 @@ pub mod HavingLaws
 pub mod NumberLaws
 pub mod AnswerLaws
 pub mod TurnLaws
+pub mod AgeLaws
 pub mod WayLaws
 pub mod ComingLaws
 pub mod RestLaws

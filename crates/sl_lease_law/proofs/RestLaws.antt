@@ -2,7 +2,7 @@
 use Rattle.sl_law.specs.Lawful.{Lawful}
 use Rattle.sl_law.specs.LawfulBlock.{LawfulBlockStep, LawfulBlockWrite, LawfulPhase2, LawfulPhase2Read, ReadAfter}
 use Rattle.sl_law.specs.Saying.{cut_at}
-use Rattle.sl_lease_law.proofs.ComingLaws.{aged_lease, writes}
+use Rattle.sl_lease_law.proofs.AgeLaws.{Became, BecameLast, after_stays, aged_lease, became, became_last, block_stays, blocks_stay, kind_stays, writes}
 use Rattle.sl_lease_law.proofs.FrontLaws.{each_was_submitted, lawful_there}
 use Rattle.sl_lease_law.specs.Fronts.{Aged, AllAged, LawfulSubmission, Submission}
 use Rattle.sl_lease_law.specs.Promises.{Phase2Follows, Phase2IsRead}
@@ -22,92 +22,6 @@ use Rattle.sl_words.proofs.CaseLaws.{false_is_true, no_value, none_some, one_val
 use Rattle.sl_words.specs.Words.{some_is}
 use Rattle.std.proofs.Common.{ap, arith, inl, inr, refl, subst, sym, ◌∙◌}
 use Rattle.std.specs.Prelude.{Bool, Contains, IsTrue, List, None, Option, Some, cond, false, find, is_some, length, slice_index_or, suc, true, zero, [], ℕ, ◌++◌, ◌+◌, ◌<◌, ◌∷◌, ◌≡◌, ◌≤◌, ◌⊎◌}
-
--- ---- what ages
-
--- An answer stays.
-answer_by : (n : ℕ) (was is : Submitted) (a : Answered) → was.answer ≡ Some a
-    → (is.answer ≡ was.answer) ⊎ ((was.answer ≡ None) × (b : Answered) × (is.answer ≡ Some b) × (n ≤ b.at)) → is.answer ≡ Some a
-answer_by n was is a told (inl h) = h ∙ told
-answer_by n was is a told (inr h) = absurd (no_value a was.answer told h.0)
-
-pub answer_stays : (n : ℕ) (was is : Submitted) (a : Answered) → Aged n was is → was.answer ≡ Some a → is.answer ≡ Some a
-answer_stays n was is a h told = answer_by n was is a told h.answer
-
--- What a call with this answer gave.
-abbrev given_by : Layout → Call → Option Answered → Option (List (Option Block))
-given_by g c o = blocks_given g (record { at = 0; reading = 0; call = c; answer = o })
-
-told_blocks : (g : Layout) (n : ℕ) (was is : Submitted) (bs : List (Option Block)) → Aged n was is → (o : Option Answered) → was.answer ≡ o → given_by g was.call o ≡ Some bs
-    → blocks_given g is ≡ Some bs
-told_blocks g n was is bs h None told gives = absurd (none_some bs gives)
-told_blocks g n was is bs h (Some a) told gives =
-    ap (λ c. given_by g c is.answer) h.call ∙ (ap (λ o. given_by g was.call o) (answer_stays n was is a h told) ∙ gives)
-
-pub blocks_stay : (g : Layout) (n : ℕ) (was is : Submitted) (bs : List (Option Block)) → Aged n was is → blocks_given g was ≡ Some bs → blocks_given g is ≡ Some bs
-blocks_stay g n was is bs h gives = told_blocks g n was is bs h was.answer refl gives
-
-pub kind_stays : (k : StepKind) (n : ℕ) (was is : Submitted) → Aged n was is → is_at k was ≡ true → is_at k is ≡ true
-kind_stays k n was is h at = ap (λ c. is_at k (new_call 0 0 c)) h.call ∙ at
-
-pub block_stays : (n : ℕ) (was is : Submitted) (b : Block) → Aged n was is → block_written was ≡ Some b → block_written is ≡ Some b
-block_stays n was is b h wrote = ap (λ c. writes c) h.call ∙ wrote
-
--- What became of a call in a list.
-pub record Became (n : ℕ) (ys : List Submitted) (was : Submitted) : Type 0 where
-  pub now : Submitted
-  pub has : Contains ys now
-  pub aged : Aged n was now
-
-became_later : (n : ℕ) (y : Submitted) (ys : List Submitted) (was : Submitted) → Became n ys was → Became n (y ∷ ys) was
-became_later n y ys was h = let k : ℕ = h.has.0 in record { now = h.now; has = (suc k, (let less : k < length ys = h.has.1 in omega (arith, less)), h.has.2); aged = h.aged }
-
-became_at : (n : ℕ) (xs ys : List Submitted) (was : Submitted) → AllAged n xs ys → (k : ℕ) → k < length xs → slice_index_or xs k was ≡ was → Became n ys was
-became_at n [] ys was h k less is = absurd (omega (arith, less))
-became_at n (x ∷ xs) [] was h k less is = absurd h
-became_at n (x ∷ xs) (y ∷ ys) was h zero less is =
-    record { now = y; has = (0, omega arith, refl); aged = subst (λ z. Aged n z y) is h.0 }
-became_at n (x ∷ xs) (y ∷ ys) was h (suc k) less is = became_later n y ys was (became_at n xs ys was h.1 k (omega (arith, less)) is)
-
-pub became : (n : ℕ) (xs ys : List Submitted) (was : Submitted) → AllAged n xs ys → Contains xs was → Became n ys was
-became n xs ys was h c = became_at n xs ys was h c.0 c.1 c.2
-
--- What became of the newest block write.
-pub record BecameLast (n : ℕ) (ys : List Submitted) (was : Submitted) : Type 0 where
-  pub now : Submitted
-  pub last : find (λ d. is_some (block_written d)) ys ≡ Some now
-  pub aged : Aged n was now
-
-last_by : (n : ℕ) (x y : Submitted) (xs ys : List Submitted) (was : Submitted) → Aged n x y → (b : Bool) → is_some (block_written x) ≡ b
-    → cond b (Some x) (find (λ d. is_some (block_written d)) xs) ≡ Some was
-    → (find (λ d. is_some (block_written d)) xs ≡ Some was → BecameLast n ys was) → BecameLast n (y ∷ ys) was
-last_by n x y xs ys was h true is found later =
-    record {
-      now = y;
-      last = ap (λ t. cond t (Some y) (find (λ d. is_some (block_written d)) ys)) (ap (λ c. is_some (writes c)) h.call ∙ is);
-      aged = subst (λ z. Aged n z y) (some_value x was found) h;
-    }
-last_by n x y xs ys was h false is found later =
-    let rest : BecameLast n ys was = later found in
-    record {
-      now = rest.now;
-      last = ap (λ t. cond t (Some y) (find (λ d. is_some (block_written d)) ys)) (ap (λ c. is_some (writes c)) h.call ∙ is) ∙ rest.last;
-      aged = rest.aged;
-    }
-
-pub became_last : (n : ℕ) (xs ys : List Submitted) (was : Submitted) → AllAged n xs ys → find (λ d. is_some (block_written d)) xs ≡ Some was → BecameLast n ys was
-became_last n [] ys was h found = absurd (none_some was found)
-became_last n (x ∷ xs) [] was h found = absurd h
-became_last n (x ∷ xs) (y ∷ ys) was h found =
-    last_by n x y xs ys was h.0 (is_some (block_written x)) refl found (λ f. became_last n xs ys was h.1 f)
-
-after_stays : (n k : ℕ) (write read write' read' : Submitted) → Aged n write write' → read'.at ≡ read.at → ReadAfter write read → ReadAfter write' read'
-after_stays n k write read write' read' h at o =
-    record {
-      answer = o.answer;
-      answered = (answer_stays n write write' o.answer h o.answered.0, o.answered.1);
-      later = let by : o.answer.at ≤ read.at = o.later in omega (arith, by, at);
-    }
 
 -- ---- the block of phase 2
 

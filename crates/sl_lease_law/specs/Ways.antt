@@ -3,7 +3,7 @@ use Rattle.sl_law.specs.LawfulBlock.{ReadAfter}
 use Rattle.sl_law.specs.Saying.{cut_at}
 use Rattle.sl_lease_law.specs.Fronts.{Submission}
 use Rattle.sl_leases.specs.Ballots.{ballot_blocks, moded_block, owner_of, phase2_block, same_owner, stop_of, value_of}
-use Rattle.sl_leases.specs.Leases.{Mode_cleared, Mode_set, Phase1_read, Phase1_write, Phase2_read, Phase2_write, block_submitted, block_written, blocks_given, freed, is_at, is_lease_call, is_on}
+use Rattle.sl_leases.specs.Leases.{Mode_cleared, Mode_set, Phase1_read, Phase1_write, Phase2_read, Phase2_write, block_of_host, block_submitted, block_written, blocks_given, freed, is_at, is_lease_call, is_on}
 use Rattle.sl_area.specs.Layouts.{Layout}
 use Rattle.sl_sector.specs.declared.sector.Block.{Block}
 use Rattle.sl_sector.specs.declared.sector.Leader.{Leader}
@@ -50,10 +50,20 @@ pub data Way (s : Session) (c : Submitted) (own b : Block) : Type 0 where
   Of_phase2 : IsTrue (is_at Phase2_write c) → ByPhase2 own b → Way s c own b
   Of_mode : IsTrue (is_at Mode_set c) ⊎ IsTrue (is_at Mode_cleared c) → ByMode own b → Way s c own b
 
--- The own block of a write, and its way from it. Where the session wrote a block before, the own block is the last of those.
+-- A read of these calls gave this block at the host's place.
+pub record FoundIn (g : Layout) (id : ℕ) (ms : List Submitted) (own : Block) : Type 0 where
+  pub read : Submitted
+  pub blocks : List (Option Block)
+  pub has : Contains ms read
+  pub given : blocks_given g read ≡ Some blocks
+  pub block : block_of_host blocks id ≡ Some own
+
+-- The own block of a write, and its way from it. Where the session wrote a block before, the own block is the last of those; else a
+-- read of the session gave it.
 pub record BlockComes (st : Setting) (s : Session) (at : Spot) (older : List Submitted) (c : Submitted) (b : Block) : Type 0 where
   pub own : Block
   pub last : (d : Block) → block_submitted (lease_among st s at older) ≡ Some d → d ≡ own
+  pub found : block_submitted (lease_among st s at older) ≡ None → FoundIn st.layout s.id (lease_among st s at older) own
   pub way : Way s c own b
 
 -- One block is not above another: it is of a lower instance, or of the same with a number not greater.
