@@ -228,7 +228,7 @@ session_stays st (e ∷ later) es n s h =
 contains_got : {A : Type 0} (xs : List A) (k : ℕ) (x : A) → slice_get xs k ≡ Some x → Contains xs x
 contains_got xs k x h = (k, slice_get_within xs k x h, get_or_from_slice_get xs k x x h)
 
-got : {A : Type 0} (o : Option A) → IsSome o → (a : A) × (o ≡ Some a)
+pub got : {A : Type 0} (o : Option A) → IsSome o → (a : A) × (o ≡ Some a)
 got (Some a) h = (a, refl)
 got None h = absurd (false_is_true h)
 

@@ -8,3 +8,4 @@ pub mod WayLaws
 pub mod ComingLaws
 pub mod RestLaws
 pub mod EndLaws
+pub mod GrantLaws

@@ -13,13 +13,17 @@
 use Rattle.sl_law.specs.Lawful.{Lawful}
 use Rattle.sl_law.specs.LawfulArea.{is_area_work, is_block_work}
 use Rattle.sl_lease_law.specs.Fronts.{LawfulSubmission}
+use Rattle.sl_lease_law.specs.Holding.{ExclusiveRests, ModeRests}
 use Rattle.sl_lease_law.specs.Ways.{BlockComes, LeaderRests, Phase2ReadRests, Phase2Rests}
 use Rattle.sl_sector.specs.declared.sector.Block.{Block}
 use Rattle.sl_sector.specs.declared.sector.Leader.{Leader}
 use Rattle.sl_sessions.specs.Sessions.{Session, session_numbered}
 use Rattle.sl_leases.specs.Leases.{Phase2_read, Phase2_write, block_written, is_at, is_on, leader_written, spot_of_call}
-use Rattle.sl_trace.specs.Traces.{Answered, Setting, Submitted, Trace, submitted}
-use Rattle.std.specs.Prelude.{IsTrue, List, Some, ◌++◌, ◌∷◌, ◌≡◌, ◌≤◌}
+use Rattle.sl_trace.specs.Traces.{Answered, Setting, Submitted, Trace, spot_of_grant, submitted}
+use Rattle.sl_trace.specs.declared.effects.Entry.{Entry}
+use Rattle.sl_trace.specs.declared.effects.Grant.{Grant}
+use Rattle.sl_trace.specs.declared.effects.Mode.TheVariants.{Exclusive}
+use Rattle.std.specs.Prelude.{Contains, IsTrue, List, Some, ◌++◌, ◌∷◌, ◌≡◌, ◌≤◌}
 
 -- Each call was submitted at a front of the trace.
 abbrev pub EachWasSubmitted : Type 0
@@ -61,3 +65,13 @@ Phase2IsRead = (st : Setting) (es : Trace) → Lawful st es → (newer older : L
 abbrev pub LeadersFollow : Type 0
 LeadersFollow = (st : Setting) (es : Trace) → Lawful st es → (newer older : List Submitted) (c : Submitted) (l : Leader) → submitted es ≡ newer ++ c ∷ older
     → leader_written c ≡ Some l → (s : Session) → session_numbered st es c.call.session ≡ Some s → LeaderRests st es s (spot_of_call st.layout c) older c l
+
+-- Each block's mode is that of a holding.
+abbrev pub ModesFollow : Type 0
+ModesFollow = (st : Setting) (es : Trace) → Lawful st es → (newer older : List Submitted) (c : Submitted) (b : Block) → submitted es ≡ newer ++ c ∷ older
+    → block_written c ≡ Some b → (s : Session) → session_numbered st es c.call.session ≡ Some s → ModeRests es s (spot_of_call st.layout c) older c b
+
+-- Each exclusive grant follows a ballot that was won.
+abbrev pub ExclusiveFollows : Type 0
+ExclusiveFollows = (st : Setting) (es : Trace) → Lawful st es → (later past : Trace) (e : Entry) → es ≡ later ++ e ∷ past → (g : Grant) → Contains e.effects.grants g
+    → g.mode ≡ Exclusive → (s : Session) → session_numbered st es g.session ≡ Some s → ExclusiveRests st (e ∷ past) s (spot_of_grant g) g

@@ -1,6 +1,6 @@
 //! What each lawful trace keeps to.
 
-ghost use Rattle.sl_lease_law.specs.Promises.{BlocksCome, EachWasSubmitted, LeadersFollow, OneAtATime, Phase2Follows, Phase2IsRead};
+ghost use Rattle.sl_lease_law.specs.Promises.{BlocksCome, EachWasSubmitted, ExclusiveFollows, LeadersFollow, ModesFollow, OneAtATime, Phase2Follows, Phase2IsRead};
 
 /// Each call of a lawful trace was submitted at a front of it, and what that front knew is what the trace knows but for later answers.
 pub fn each_was_submitted()
@@ -30,4 +30,14 @@ pub fn phase2_is_read()
 /// A leader follows an own ballot of its instance that ended with the session.
 pub fn leaders_follow()
     ensures { LeadersFollow }
+{}
+
+/// A block has a mode where a shared holding stands or is about to be granted.
+pub fn modes_follow()
+    ensures { ModesFollow }
+{}
+
+/// An exclusive grant follows a ballot that the session won, and a look at all blocks.
+pub fn exclusive_follows()
+    ensures { ExclusiveFollows }
 {}
