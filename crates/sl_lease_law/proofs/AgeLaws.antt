@@ -1,24 +1,17 @@
 -- What stays of calls as they age.
 use Rattle.sl_area.specs.Layouts.{Layout}
-use Rattle.sl_law.specs.Lawful.{Lawful}
-use Rattle.sl_law.specs.LawfulBlock.{LawfulBlockStep, LawfulBlockWrite, LawfulModeWrite, LawfulPhase1, LawfulPhase2, LawfulPhase2Read, ReadAfter}
-use Rattle.sl_law.specs.Saying.{cut_at}
-use Rattle.sl_lease_law.specs.Fronts.{Aged, AllAged, LawfulSubmission, Submission}
-use Rattle.sl_lease_law.specs.Ways.{FoundIn, BlockComes, ByMode, ByPhase1, ByPhase2, Of_mode, Of_phase1, Of_phase2, Way, lease_among, Phase2ReadRests, Phase2Rests}
-use Rattle.sl_leases.specs.Ballots.{ballot_blocks, moded_block, phase1_block, phase2_block, stop_of}
-use Rattle.sl_leases.specs.Leases.{Mode_cleared, Mode_set, Phase1_write, Phase2_write, StepKind, block_submitted, block_written, freed, is_at, is_lease_call, is_on, kind_of_step, last_blocks, lease_calls, lease_step, own_block, own_or_read, same_kind, spot_of_call, Phase1_read, Phase2_read, blocks_given}
+use Rattle.sl_law.specs.LawfulBlock.{ReadAfter}
+use Rattle.sl_lease_law.specs.Fronts.{Aged, AllAged}
+use Rattle.sl_lease_law.specs.Ways.{FoundIn, lease_among}
+use Rattle.sl_leases.specs.Leases.{StepKind, block_submitted, block_written, is_at, is_lease_call, is_on, blocks_given}
 use Rattle.sl_sector.specs.declared.sector.Block.{Block}
-use Rattle.sl_sessions.specs.Sessions.{Session, is_call_of, me, session_numbered}
-use Rattle.sl_trace.specs.Traces.{Setting, Submitted, Trace, new_call, submitted, Answered}
+use Rattle.sl_sessions.specs.Sessions.{Session, is_call_of}
+use Rattle.sl_trace.specs.Traces.{Setting, Submitted, new_call, Answered}
 use Rattle.sl_trace.specs.declared.effects.Call.{Call}
-use Rattle.sl_trace.specs.declared.effects.LeaseStep.{LeaseStep}
-use Rattle.sl_trace.specs.declared.effects.LeaseStep.TheVariants.{ClearMode, FreeLeader, Phase1Read, Phase1Write, Phase2Read, Phase2Write, ReadArea, ReadBeforeFree, SetMode, TakeLeader}
 use Rattle.sl_trace.specs.declared.effects.Spot.{Spot}
-use Rattle.sl_trace.specs.declared.effects.Work.{Work}
-use Rattle.sl_words.proofs.CaseLaws.{none_some, one_value, some_value, false_is_true, no_value}
-use Rattle.sl_words.specs.Words.{present, some_is}
+use Rattle.sl_words.proofs.CaseLaws.{none_some, some_value, no_value}
 use Rattle.std.proofs.Common.{ap, arith, inl, inr, refl, subst, sym, ◌∙◌}
-use Rattle.std.specs.Prelude.{Bool, IsTrue, List, None, Option, Some, cond, false, filter, find, is_some, length, true, [], ℕ, ◌&&◌, ◌++◌, ◌+◌, ◌<◌, ◌∷◌, ◌≡◌, ◌≤◌, Contains, slice_index_or, suc, zero, ◌⊎◌}
+use Rattle.std.specs.Prelude.{Bool, List, None, Option, Some, cond, false, filter, find, is_some, length, true, [], ℕ, ◌&&◌, ◌<◌, ◌∷◌, ◌≡◌, ◌≤◌, Contains, slice_index_or, suc, zero, ◌⊎◌}
 
 -- ---- what ages keeps its block
 

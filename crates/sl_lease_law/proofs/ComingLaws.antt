@@ -1,18 +1,18 @@
 -- Each block comes from the own block.
 use Rattle.sl_area.specs.Layouts.{Layout}
 use Rattle.sl_law.specs.Lawful.{Lawful}
-use Rattle.sl_law.specs.LawfulBlock.{LawfulBlockStep, LawfulBlockWrite, LawfulModeWrite, LawfulPhase1, LawfulPhase2}
+use Rattle.sl_law.specs.LawfulBlock.{LawfulBlockStep, LawfulBlockWrite}
 use Rattle.sl_law.specs.Saying.{cut_at}
 use Rattle.sl_lease_law.proofs.AgeLaws.{aged_block, aged_lease, found_stays, writes}
 use Rattle.sl_lease_law.proofs.FrontLaws.{each_was_submitted, lawful_there}
 use Rattle.sl_lease_law.proofs.WayLaws.{by_mode, by_phase1, by_phase2}
-use Rattle.sl_lease_law.specs.Fronts.{Aged, AllAged, LawfulSubmission, Submission}
+use Rattle.sl_lease_law.specs.Fronts.{AllAged, LawfulSubmission, Submission}
 use Rattle.sl_lease_law.specs.Promises.{BlocksCome}
 use Rattle.sl_lease_law.specs.Ways.{BlockComes, FoundIn, ByMode, ByPhase1, ByPhase2, Of_mode, Of_phase1, Of_phase2, Way, lease_among}
-use Rattle.sl_leases.specs.Ballots.{ballot_blocks, moded_block, phase1_block, phase2_block}
-use Rattle.sl_leases.specs.Leases.{block_of_host, blocks_given, Mode_cleared, Mode_set, Phase1_write, Phase2_write, StepKind, block_submitted, block_written, freed, is_at, is_lease_call, is_on, kind_of_step, last_blocks, lease_calls, lease_step, own_block, own_or_read, same_kind, spot_of_call}
+use Rattle.sl_leases.specs.Ballots.{ballot_blocks}
+use Rattle.sl_leases.specs.Leases.{block_of_host, blocks_given, Mode_cleared, Mode_set, Phase1_write, Phase2_write, StepKind, block_submitted, block_written, freed, is_at, kind_of_step, last_blocks, lease_calls, lease_step, own_or_read, same_kind, spot_of_call}
 use Rattle.sl_sector.specs.declared.sector.Block.{Block}
-use Rattle.sl_sessions.specs.Sessions.{Session, is_call_of, me, session_numbered}
+use Rattle.sl_sessions.specs.Sessions.{Session, me, session_numbered}
 use Rattle.sl_trace.specs.Traces.{Setting, Submitted, Trace, new_call, submitted}
 use Rattle.sl_trace.specs.declared.effects.Call.{Call}
 use Rattle.sl_trace.specs.declared.effects.LeaseStep.TheVariants.{ClearMode, FreeLeader, Phase1Read, Phase1Write, Phase2Read, Phase2Write, ReadArea, ReadBeforeFree, SetMode, TakeLeader}
@@ -22,7 +22,7 @@ use Rattle.sl_trace.specs.declared.effects.Work.{Work}
 use Rattle.sl_words.proofs.CaseLaws.{no_value, none_some, one_value, some_value}
 use Rattle.sl_words.specs.Words.{present, some_is}
 use Rattle.std.proofs.Common.{ap, arith, inl, inr, refl, subst, sym, ◌∙◌}
-use Rattle.std.specs.Prelude.{Bool, IsTrue, List, None, Option, Some, cond, false, filter, find, is_some, length, slice_get, suc, true, unwrap_or, [], ℕ, ◌&&◌, ◌++◌, ◌+◌, ◌-◌, ◌<◌, ◌∷◌, ◌≡◌, ◌≤◌}
+use Rattle.std.specs.Prelude.{List, None, Option, Some, cond, find, is_some, length, slice_get, suc, true, unwrap_or, [], ℕ, ◌+◌, ◌-◌, ◌<◌, ◌∷◌, ◌≡◌, ◌≤◌}
 
 -- ---- the own block is the one last submitted
 
@@ -142,10 +142,10 @@ comes st es law some c older b l wrote s numbered =
     let itself : l.session ≡ s = one_value l.session s (session_numbered st es c.call.session) l.kept numbered in
     let known : session_numbered st (h.entry ∷ h.past) h.call.session ≡ Some s = l.known ∙ ap (λ x. Some x) itself in
     let lawful : LawfulBlockWrite st t s new b =
-        (lawful_there st es law c older h).block.0.writes h.place h.call s h.there known b (ap (λ x. writes x) (sym called) ∙ wrote) in
+    (lawful_there st es law c older h).block.0.writes h.place h.call s h.there known b (ap (λ x. writes x) (sym called) ∙ wrote) in
     let there : ComesAt st s (lease_calls st t s (place st h.call)) new b = by_write st t s new b some (lease_step h.call.purpose) refl lawful in
     let aged : AllAged (length h.past + 1) (lease_calls st t s (place st h.call)) (lease_among st s (place st h.call) older) =
-        aged_lease st s (place st h.call) (length h.past + 1) (submitted t) older h.before in
+    aged_lease st s (place st h.call) (length h.past + 1) (submitted t) older h.before in
     record {
       own = there.own;
       last = λ d found. there.last d

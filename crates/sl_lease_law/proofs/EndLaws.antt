@@ -5,10 +5,10 @@ use Rattle.sl_law.specs.LawfulLeader.{HasWon, LawfulFreeLeader, LawfulLeaderWrit
 use Rattle.sl_law.specs.Saying.{cut_at}
 use Rattle.sl_lease_law.proofs.AgeLaws.{aged_block, aged_lease, blocks_stay, kind_stays}
 use Rattle.sl_lease_law.proofs.FrontLaws.{each_was_submitted, lawful_there}
-use Rattle.sl_lease_law.specs.Fronts.{Aged, AllAged, LawfulSubmission, Submission}
+use Rattle.sl_lease_law.specs.Fronts.{AllAged, LawfulSubmission, Submission}
 use Rattle.sl_lease_law.specs.Promises.{LeadersFollow}
 use Rattle.sl_lease_law.specs.Ways.{Ended, LeaderRests, lease_among}
-use Rattle.sl_leases.specs.Ballots.{owner_of, same_owner, stop_of, value_of}
+use Rattle.sl_leases.specs.Ballots.{stop_of, value_of}
 use Rattle.sl_leases.specs.Leases.{Phase2_read, block_submitted, blocks_given, ended_ballot, ended_ballots, freed, freed_by, is_at, leader_written, lease_calls, spot_of_call, value_in_end}
 use Rattle.sl_leases.specs.declared.lease.Stop.{Stop}
 use Rattle.sl_sector.specs.declared.sector.Block.{Block}
@@ -20,7 +20,7 @@ use Rattle.sl_trace.specs.declared.effects.Call.{Call}
 use Rattle.sl_trace.specs.declared.effects.Spot.{Spot}
 use Rattle.sl_words.proofs.CaseLaws.{false_is_true, none_some, one_value, some_value}
 use Rattle.std.proofs.Common.{ap, arith, inl, inr, refl, subst, sym, ◌∙◌}
-use Rattle.std.specs.Prelude.{Bool, Contains, IsTrue, List, MatchBool, None, Option, Some, false, length, max, option_and_then, slice_index_or, suc, true, zero, [], ℕ, ◌++◌, ◌+◌, ◌<◌, ◌∷◌, ◌≡◌, ◌≤◌, ◌⊎◌}
+use Rattle.std.specs.Prelude.{Bool, Contains, List, MatchBool, None, Option, Some, false, length, max, option_and_then, slice_index_or, suc, true, zero, [], ℕ, ◌++◌, ◌+◌, ◌<◌, ◌∷◌, ◌≡◌, ◌⊎◌}
 
 contains_at : {A : Type 0} (x : A) (xs : List A) (d : A) (k : ℕ) → k < length (x ∷ xs) → slice_index_or (x ∷ xs) k d ≡ d → (x ≡ d) ⊎ Contains xs d
 contains_at x xs d zero less is = inl is
@@ -168,7 +168,7 @@ follow st es law older c l known_as wrote s numbered =
     let itself : known_as.session ≡ s = one_value known_as.session s (session_numbered st es c.call.session) known_as.kept numbered in
     let known : session_numbered st (h.entry ∷ h.past) h.call.session ≡ Some s = known_as.known ∙ ap (λ x. Some x) itself in
     let w : LawfulLeaderWrite st t s (place st h.call) (new_call (length h.past) h.entry.reading h.call) l =
-        (lawful_there st es law c older h).leader.0.writes h.place h.call s h.there known l (ap (λ x. leader_written (new_call 0 0 x)) (sym called) ∙ wrote) in
+    (lawful_there st es law c older h).leader.0.writes h.place h.call s h.there known l (ap (λ x. leader_written (new_call 0 0 x)) (sym called) ∙ wrote) in
     subst (λ x. LeaderRests st es s (place st x) older c l) (sym called) (leader_rests st es s (place st h.call) older c l h w)
 
 pub leaders_follow : LeadersFollow

@@ -12,7 +12,6 @@ use Rattle.sl_trace.specs.declared.input.Answer.{Answer}
 use Rattle.sl_trace.specs.declared.input.Input.TheVariants.{Answer as Told, Exit, Line, Spawned, Wake}
 use Rattle.sl_trace.specs.declared.input.Input.{Input}
 use Rattle.sl_words.proofs.CaseLaws.{false_is_true, none_some, some_value}
-use Rattle.sl_words.specs.Words.{some_is}
 use Rattle.std.proofs.Common.{ap, arith, inl, inr, refl, subst, sym, ◌∙◌}
 use Rattle.std.proofs.lemmas.Option.{get_or_from_slice_get, slice_get_within}
 use Rattle.std.specs.Option.{option_or}
@@ -239,8 +238,8 @@ lawful_there st es law c older h = lawful-front st h.later (h.entry ∷ h.past) 
 pub lawful_submission : (st : Setting) (es : Trace) → Lawful st es → (c : Submitted) (older : List Submitted) → Submission es c older → LawfulSubmission st es c older
 lawful_submission st es law c older h =
     let owner : (s : Session) × (session_numbered st (h.entry ∷ h.past) h.call.session ≡ Some s) =
-        got (session_numbered st (h.entry ∷ h.past) h.call.session)
-        ((lawful_there st es law c older h).calls.0.owned h.call (contains_got h.entry.effects.calls h.place h.call h.there))
+    got (session_numbered st (h.entry ∷ h.past) h.call.session)
+    ((lawful_there st es law c older h).calls.0.owned h.call (contains_got h.entry.effects.calls h.place h.call h.there))
     in
     record {
       submission = h;

@@ -19,8 +19,8 @@ use Rattle.sl_trace.specs.declared.effects.Grant.{Grant}
 use Rattle.sl_trace.specs.declared.effects.Mode.TheVariants.{Exclusive}
 use Rattle.sl_trace.specs.declared.effects.Spot.{Spot}
 use Rattle.sl_words.proofs.CaseLaws.{one_value}
-use Rattle.std.proofs.Common.{ap, refl, subst, sym, ◌∙◌}
-use Rattle.std.specs.Prelude.{Bool, Contains, IsTrue, List, MatchBool, Some, length, true, ◌++◌, ◌||◌, ◌∷◌, ◌≡◌, ◌↔◌}
+use Rattle.std.proofs.Common.{ap, subst, sym, ◌∙◌}
+use Rattle.std.specs.Prelude.{Contains, IsTrue, List, MatchBool, Some, length, true, ◌++◌, ◌||◌, ◌∷◌, ◌≡◌, ◌↔◌}
 
 abbrev place : Setting → Call → Spot
 place st c = spot_of_call st.layout (new_call 0 0 c)
@@ -34,7 +34,7 @@ mode_rests st es law older c b l wrote s numbered =
     let itself : l.session ≡ s = one_value l.session s (session_numbered st es c.call.session) l.kept numbered in
     let known : session_numbered st (h.entry ∷ h.past) h.call.session ≡ Some s = l.known ∙ ap (λ x. Some x) itself in
     let m : LawfulMode st t s (new_call (length h.past) h.entry.reading h.call) b =
-        (lawful_there st es law c older h).modes.0.blocks h.place h.call s h.there known b (ap (λ x. writes x) (sym called) ∙ wrote) in
+    (lawful_there st es law c older h).modes.0.blocks h.place h.call s h.there known b (ap (λ x. writes x) (sym called) ∙ wrote) in
     record {
       submission = h;
       exact = subst (λ x. (b.shared ≡ true) ↔ IsTrue (has_shared_on t s (place st x) || is_at Mode_set (new_call 0 0 x))) (sym called) m.exact;
@@ -50,11 +50,11 @@ exclusive_rests st later past e law g granted mode s numbered =
     let here : Lawful st (e ∷ past) = lawful-front st later (e ∷ past) law in
     let owner : (o : Session) × (session_numbered st (e ∷ past) g.session ≡ Some o) = got (session_numbered st (e ∷ past) g.session) (here.granting.0.owned g granted) in
     let itself : owner.0 ≡ s =
-        one_value owner.0 s (session_numbered st (later ++ e ∷ past) g.session) (session_stays st later (e ∷ past) g.session owner.0 owner.1) numbered in
+    one_value owner.0 s (session_numbered st (later ++ e ∷ past) g.session) (session_stays st later (e ∷ past) g.session owner.0 owner.1) numbered in
     let known : session_numbered st (e ∷ past) g.session ≡ Some s = owner.1 ∙ ap (λ x. Some x) itself in
     let x : LawfulExclusiveGrant st (e ∷ past) s (spot_of_grant g) g.lver =
-        subst (λ m. MatchBool (is_shared m) (LawfulSharedGrant st past (e ∷ past) s (spot_of_grant g) g.lver) (LawfulExclusiveGrant st (e ∷ past) s (spot_of_grant g) g.lver)) mode
-        (here.modes.0.grants g s granted known) in
+    subst (λ m. MatchBool (is_shared m) (LawfulSharedGrant st past (e ∷ past) s (spot_of_grant g) g.lver) (LawfulExclusiveGrant st (e ∷ past) s (spot_of_grant g) g.lver)) mode
+    (here.modes.0.grants g s granted known) in
     record {
       won = ended st.layout (lease_calls st (e ∷ past) s (spot_of_grant g)) (g.lver, me (e ∷ past) s) x.won;
       not_freed = (here.granting.0.each g s granted known).not_freed mode;

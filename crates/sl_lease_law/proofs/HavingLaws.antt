@@ -2,7 +2,7 @@
 use Rattle.sl_lease_law.specs.Fronts.{Aged, AllAged}
 use Rattle.sl_trace.specs.Traces.{Submitted}
 use Rattle.sl_words.proofs.CaseLaws.{none_some}
-use Rattle.std.proofs.Common.{ap, refl, subst, sym, ◌∙◌}
+use Rattle.std.proofs.Common.{ap, refl, subst, sym}
 use Rattle.std.specs.Prelude.{Bool, List, None, Some, cond, false, filter, slice_get, true, [], ℕ, ◌++◌, ◌∷◌, ◌≡◌}
 
 pub record Has {A : Type 0} (xs : List A) (x : A) : Type 0 where

@@ -2,7 +2,6 @@
 use Rattle.sl_sessions.specs.Sessions.{Session, added_by, begun_in, given_session, is_join_call, joining_session, session_numbered, sessions}
 use Rattle.sl_trace.specs.Traces.{Setting, Trace, next_job}
 use Rattle.sl_trace.specs.declared.command.LockspaceArg.{LockspaceArg}
-use Rattle.sl_trace.specs.declared.effects.Entry.{Entry}
 use Rattle.sl_trace.specs.declared.effects.JoinStep.TheVariants.{FirstRead}
 use Rattle.sl_trace.specs.declared.input.Given.{Given}
 use Rattle.sl_words.proofs.CaseLaws.{none_some, some_value}

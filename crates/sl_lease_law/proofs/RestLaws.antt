@@ -1,27 +1,25 @@
 -- What phase 2 and its read rest on, as it stands now.
 use Rattle.sl_law.specs.Lawful.{Lawful}
-use Rattle.sl_law.specs.LawfulBlock.{LawfulBlockStep, LawfulBlockWrite, LawfulPhase2, LawfulPhase2Read, ReadAfter}
+use Rattle.sl_law.specs.LawfulBlock.{LawfulBlockStep, LawfulBlockWrite, LawfulPhase2, LawfulPhase2Read}
 use Rattle.sl_law.specs.Saying.{cut_at}
 use Rattle.sl_lease_law.proofs.AgeLaws.{Became, BecameLast, after_stays, aged_lease, became, became_last, block_stays, blocks_stay, kind_stays, writes}
 use Rattle.sl_lease_law.proofs.FrontLaws.{each_was_submitted, lawful_there}
-use Rattle.sl_lease_law.specs.Fronts.{Aged, AllAged, LawfulSubmission, Submission}
+use Rattle.sl_lease_law.specs.Fronts.{AllAged, LawfulSubmission, Submission}
 use Rattle.sl_lease_law.specs.Promises.{Phase2Follows, Phase2IsRead}
 use Rattle.sl_lease_law.specs.Ways.{Phase2ReadRests, Phase2Rests, lease_among}
-use Rattle.sl_leases.specs.Ballots.{ballot_blocks, moded_block, phase2_block, stop_of}
-use Rattle.sl_leases.specs.Leases.{Phase1_read, Phase1_write, Phase2_read, Phase2_write, StepKind, block_written, blocks_given, is_at, kind_of_step, lease_calls, lease_step, same_kind, spot_of_call}
-use Rattle.sl_area.specs.Layouts.{Layout}
+use Rattle.sl_leases.specs.Leases.{Phase1_read, Phase1_write, Phase2_read, Phase2_write, block_written, is_at, kind_of_step, lease_calls, lease_step, same_kind, spot_of_call}
 use Rattle.sl_sector.specs.declared.sector.Block.{Block}
-use Rattle.sl_sessions.specs.Sessions.{Session, me, session_numbered}
-use Rattle.sl_trace.specs.Traces.{Answered, Setting, Submitted, Trace, new_call, submitted}
+use Rattle.sl_sessions.specs.Sessions.{Session, session_numbered}
+use Rattle.sl_trace.specs.Traces.{Setting, Submitted, Trace, new_call, submitted}
 use Rattle.sl_trace.specs.declared.effects.Call.{Call}
 use Rattle.sl_trace.specs.declared.effects.LeaseStep.TheVariants.{ClearMode, FreeLeader, Phase1Read, Phase1Write, Phase2Read, Phase2Write, ReadArea, ReadBeforeFree, SetMode, TakeLeader}
 use Rattle.sl_trace.specs.declared.effects.LeaseStep.{LeaseStep}
 use Rattle.sl_trace.specs.declared.effects.Spot.{Spot}
 use Rattle.sl_trace.specs.declared.effects.Work.{Work}
-use Rattle.sl_words.proofs.CaseLaws.{false_is_true, no_value, none_some, one_value, some_value}
+use Rattle.sl_words.proofs.CaseLaws.{false_is_true, one_value}
 use Rattle.sl_words.specs.Words.{some_is}
-use Rattle.std.proofs.Common.{ap, arith, inl, inr, refl, subst, sym, ◌∙◌}
-use Rattle.std.specs.Prelude.{Bool, Contains, IsTrue, List, None, Option, Some, cond, false, find, is_some, length, slice_index_or, suc, true, zero, [], ℕ, ◌++◌, ◌+◌, ◌<◌, ◌∷◌, ◌≡◌, ◌≤◌, ◌⊎◌}
+use Rattle.std.proofs.Common.{ap, refl, subst, sym, ◌∙◌}
+use Rattle.std.specs.Prelude.{List, None, Option, Some, length, true, ℕ, ◌+◌, ◌∷◌, ◌≡◌}
 
 -- ---- the block of phase 2
 
@@ -82,9 +80,9 @@ follows st es law older c b l wrote at s numbered =
     let itself : l.session ≡ s = one_value l.session s (session_numbered st es c.call.session) l.kept numbered in
     let known : session_numbered st (h.entry ∷ h.past) h.call.session ≡ Some s = l.known ∙ ap (λ x. Some x) itself in
     let lawful : LawfulBlockWrite st t s new b =
-        (lawful_there st es law c older h).block.0.writes h.place h.call s h.there known b (ap (λ x. writes x) (sym called) ∙ wrote) in
+    (lawful_there st es law c older h).block.0.writes h.place h.call s h.there known b (ap (λ x. writes x) (sym called) ∙ wrote) in
     let two : LawfulPhase2 st t s (place st h.call) new b =
-        two_write st t s new b (ap (λ x. is_at Phase2_write (new_call 0 0 x)) (sym called) ∙ at) (lease_step h.call.purpose) refl lawful in
+    two_write st t s new b (ap (λ x. is_at Phase2_write (new_call 0 0 x)) (sym called) ∙ at) (lease_step h.call.purpose) refl lawful in
     subst (λ x. Phase2Rests st es s (place st x) older c b) (sym called) (rests st es s (place st h.call) older c b h two)
 
 pub phase2_follows : Phase2Follows
@@ -115,7 +113,7 @@ is_read st es law older c l at s numbered =
     let itself : l.session ≡ s = one_value l.session s (session_numbered st es c.call.session) l.kept numbered in
     let known : session_numbered st (h.entry ∷ h.past) h.call.session ≡ Some s = l.known ∙ ap (λ x. Some x) itself in
     let two : LawfulPhase2Read st t s (place st h.call) (new_call (length h.past) h.entry.reading h.call) =
-        (lawful_there st es law c older h).block.0.reads h.place h.call s h.there known (ap (λ x. is_at Phase2_read (new_call 0 0 x)) (sym called) ∙ at) in
+    (lawful_there st es law c older h).block.0.reads h.place h.call s h.there known (ap (λ x. is_at Phase2_read (new_call 0 0 x)) (sym called) ∙ at) in
     subst (λ x. Phase2ReadRests st s (place st x) older c) (sym called) (read_rests st es s (place st h.call) older c h two)
 
 pub phase2_is_read : Phase2IsRead

@@ -9,14 +9,14 @@ use Rattle.sl_lease_law.proofs.NumberLaws.{number_is_place}
 use Rattle.sl_lease_law.specs.Fronts.{Aged, LawfulSubmission, Submission}
 use Rattle.sl_lease_law.specs.Promises.{OneAtATime, WasAnsweredBy}
 use Rattle.sl_leases.specs.Leases.{is_on, spot_of_call}
-use Rattle.sl_sessions.specs.Sessions.{Session, calls_of, is_call_of, open_calls_of, session_numbered}
-use Rattle.sl_trace.specs.Traces.{Answered, Setting, Submitted, Trace, new_call, submitted, unanswered}
+use Rattle.sl_sessions.specs.Sessions.{Session, calls_of, is_call_of, open_calls_of}
+use Rattle.sl_trace.specs.Traces.{Answered, Setting, Submitted, Trace, new_call, submitted}
 use Rattle.sl_trace.specs.declared.effects.Call.{Call}
 use Rattle.sl_trace.specs.declared.effects.Spot.{Spot}
-use Rattle.sl_words.proofs.CaseLaws.{no_value, none_some}
-use Rattle.std.proofs.Common.{ap, arith, inl, inr, refl, subst, sym, ◌∙◌}
+use Rattle.sl_words.proofs.CaseLaws.{no_value}
+use Rattle.std.proofs.Common.{ap, arith, inl, inr, refl, sym, ◌∙◌}
 use Rattle.std.proofs.lemmas.Bool.{eq-eqb}
-use Rattle.std.specs.Prelude.{Bool, IsTrue, List, None, Option, Some, filter, is_none, length, nat_eq, suc, true, [], ℕ, ◌&&◌, ◌++◌, ◌+◌, ◌<◌, ◌==◌, ◌∷◌, ◌≡◌, ◌≤◌, ◌⊎◌}
+use Rattle.std.specs.Prelude.{Bool, List, None, Option, Some, is_none, length, suc, true, [], ℕ, ◌&&◌, ◌++◌, ◌+◌, ◌<◌, ◌∷◌, ◌≡◌, ◌≤◌, ◌⊎◌}
 
 -- Whether a call of this kind writes, or reads blocks.
 abbrev works : Call → Bool
@@ -35,7 +35,7 @@ bars st t s at m has session waits works_here on none =
     let mine : Has (calls_of t s) m = has_kept (is_call_of s) (submitted t) m has (eq-eqb m.call.session s.number session) in
     let waiting : Has (open_calls_of t s) m = has_kept (λ x. is_none x.answer) (calls_of t s) m mine (ap (λ o. is_none o) waits) in
     let here : Has (open_block_work st t s at) m =
-        has_kept (λ x. is_block_work x && is_on st.layout at x.call) (open_calls_of t s) m waiting (both (is_block_work m) (is_on st.layout at m.call) works_here on)
+    has_kept (λ x. is_block_work x && is_on st.layout at x.call) (open_calls_of t s) m waiting (both (is_block_work m) (is_on st.layout at m.call) works_here on)
     in
     has_none m here.newer here.older (sym none ∙ here.is)
 
@@ -59,14 +59,14 @@ turn st es law between older c d l session works_c area works_d on =
     let called : c.call ≡ h.call = h.itself.call in
     let own : l.session.number ≡ h.call.session = number_is_place st (h.entry ∷ h.past) h.call.session l.session l.known in
     let session_was : w.was.call.session ≡ l.session.number =
-        ap (λ (x : Call). x.session) (sym w.aged.call) ∙ (sym session ∙ (ap (λ (x : Call). x.session) called ∙ sym own))
+    ap (λ (x : Call). x.session) (sym w.aged.call) ∙ (sym session ∙ (ap (λ (x : Call). x.session) called ∙ sym own))
     in
     let none : open_block_work st t l.session (place st h.call) ≡ [] =
-        (lawful_there st es law c (between ++ d ∷ older) h).area.0.alone h.place h.call l.session h.there l.known
-        (both (works h.call) (is_area_work h.call.purpose) (ap (λ x. works x) (sym called) ∙ works_c) (ap (λ (x : Call). is_area_work x.purpose) (sym called) ∙ area))
+    (lawful_there st es law c (between ++ d ∷ older) h).area.0.alone h.place h.call l.session h.there l.known
+    (both (works h.call) (is_area_work h.call.purpose) (ap (λ x. works x) (sym called) ∙ works_c) (ap (λ (x : Call). is_area_work x.purpose) (sym called) ∙ area))
     in
     let on_was : is_on st.layout (place st h.call) w.was.call ≡ true =
-        ap (λ x. is_on st.layout (place st x) w.was.call) (sym called) ∙ (ap (λ x. is_on st.layout (place st c.call) x) (sym w.aged.call) ∙ on)
+    ap (λ x. is_on st.layout (place st x) w.was.call) (sym called) ∙ (ap (λ x. is_on st.layout (place st c.call) x) (sym w.aged.call) ∙ on)
     in
     answered_now (length h.past) w.was d c w.aged h.itself.at (answers_within t w.was w.has) w.was.answer refl
     (λ waits. bars st t l.session (place st h.call) w.was w.has session_was waits (ap (λ x. works x) (sym w.aged.call) ∙ works_d) on_was none)

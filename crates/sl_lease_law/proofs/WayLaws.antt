@@ -6,10 +6,10 @@ use Rattle.sl_sector.specs.declared.sector.Owner.{Owner}
 use Rattle.sl_sessions.specs.Sessions.{Session}
 use Rattle.sl_words.proofs.CaseLaws.{is_false}
 use Rattle.sl_words.specs.Words.{greatest}
-use Rattle.std.proofs.Common.{ap, arith, refl, subst, sym, ◌∙◌}
+use Rattle.std.proofs.Common.{ap, arith, refl, subst, sym}
 use Rattle.std.proofs.lemmas.Bool.Decides.{nat_tests}
 use Rattle.std.proofs.lemmas.Bool.{eq-eqb, eqb-true}
-use Rattle.std.specs.Prelude.{Bool, List, cond, false, filter, if◌then◌else◌, map, nat_lt, true, ℕ, ◌*◌, ◌+◌, ◌-◌, ◌/◌, ◌<◌, ◌==◌, ◌∷◌, ◌≡◌, ◌≤◌}
+use Rattle.std.specs.Prelude.{Bool, List, cond, false, if◌then◌else◌, map, true, ℕ, ◌+◌, ◌<◌, ◌==◌, ◌∷◌, ◌≡◌, ◌≤◌}
 
 number_rises : (hosts id top : ℕ) → 1 ≤ hosts → top < number_above hosts id top
 number_rises hosts id top some = grind (arith, nat_tests)
@@ -24,16 +24,16 @@ phase1_number : (self : Owner) (hosts n : ℕ) (shared : Bool) (gen : ℕ) (own 
 unfolding phase1_block
 phase1_number self hosts n shared gen own seen some same =
     let top : own.mbal < greatest (map (λ (x : Block). x.mbal) (in_instance n (own ∷ seen))) + 1 =
-        first_counts own.mbal own (in_instance n seen) (own.lver == n) (eq-eqb own.lver n same) (omega arith) in
+    first_counts own.mbal own (in_instance n seen) (own.lver == n) (eq-eqb own.lver n same) (omega arith) in
     let more : greatest (map (λ (x : Block). x.mbal) (in_instance n (own ∷ seen))) < next_mbal hosts self.id (map (λ (x : Block). x.mbal) (in_instance n (own ∷ seen))) =
-        number_rises hosts self.id (greatest (map (λ (x : Block). x.mbal) (in_instance n (own ∷ seen)))) some in
+    number_rises hosts self.id (greatest (map (λ (x : Block). x.mbal) (in_instance n (own ∷ seen)))) some in
     omega (arith, top, more)
 
 phase1_positive : (self : Owner) (hosts n : ℕ) (shared : Bool) (gen : ℕ) (own : Block) (seen : List Block) → 1 ≤ hosts → 1 ≤ (phase1_block self hosts n shared gen own seen).mbal
 unfolding phase1_block
 phase1_positive self hosts n shared gen own seen some =
     let more : greatest (map (λ (x : Block). x.mbal) (in_instance n (own ∷ seen))) < next_mbal hosts self.id (map (λ (x : Block). x.mbal) (in_instance n (own ∷ seen))) =
-        number_rises hosts self.id (greatest (map (λ (x : Block). x.mbal) (in_instance n (own ∷ seen)))) some in
+    number_rises hosts self.id (greatest (map (λ (x : Block). x.mbal) (in_instance n (own ∷ seen)))) some in
     omega (arith, more)
 
 differ : (m n : ℕ) → m < n → (m == n) ≡ false

@@ -66,10 +66,6 @@ pub record BlockComes (st : Setting) (s : Session) (at : Spot) (older : List Sub
   pub found : block_submitted (lease_among st s at older) ≡ None → FoundIn st.layout s.id (lease_among st s at older) own
   pub way : Way s c own b
 
--- One block is not above another: it is of a lower instance, or of the same with a number not greater.
-abbrev pub IsNotAbove : Block → Block → Type 0
-IsNotAbove a b = (a.lver < b.lver) ⊎ ((a.lver ≡ b.lver) × (a.mbal ≤ b.mbal))
-
 -- What a block of phase 2 rests on: the session's last block before it is that of phase 1, and a read that was submitted after this was
 -- answered ok shows nothing that stops the ballot. (That the read was answered by then is the law of turns.)
 pub record Phase2Rests (st : Setting) (es : Trace) (s : Session) (at : Spot) (older : List Submitted) (c : Submitted) (b : Block) : Type 0 where
