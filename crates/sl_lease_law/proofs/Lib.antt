@@ -9,3 +9,4 @@ pub mod ComingLaws
 pub mod RestLaws
 pub mod EndLaws
 pub mod GrantLaws
+pub mod SpotLaws

@@ -10,6 +10,7 @@
 --
 -- What reads show (IsRegister.submitted, earlier; ShowsNewest) and that sessions come in order are no facts of one trace. ShowsNewest
 -- rests on one of them: that a session has one block write in flight.
+use Rattle.sl_area.specs.Layouts.{Layout}
 use Rattle.sl_law.specs.Lawful.{Lawful}
 use Rattle.sl_law.specs.LawfulArea.{is_area_work, is_block_work}
 use Rattle.sl_lease_law.specs.Fronts.{LawfulSubmission}
@@ -75,3 +76,7 @@ ModesFollow = (st : Setting) (es : Trace) → Lawful st es → (newer older : Li
 abbrev pub ExclusiveFollows : Type 0
 ExclusiveFollows = (st : Setting) (es : Trace) → Lawful st es → (later past : Trace) (e : Entry) → es ≡ later ++ e ∷ past → (g : Grant) → Contains e.effects.grants g
     → g.mode ≡ Exclusive → (s : Session) → session_numbered st es g.session ≡ Some s → ExclusiveRests st (e ∷ past) s (spot_of_grant g) g
+
+-- Areas are apart: a call on the area of another is of that area. So what is said of the area of a call is said of each call on it.
+abbrev pub AreasAreApart : Type 0
+AreasAreApart = (g : Layout) (c d : Submitted) → IsTrue (is_on g (spot_of_call g c) d.call) → spot_of_call g d ≡ spot_of_call g c
