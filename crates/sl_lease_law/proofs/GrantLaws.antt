@@ -8,7 +8,7 @@ use Rattle.sl_lease_law.proofs.EndLaws.{ended}
 use Rattle.sl_lease_law.proofs.FrontLaws.{each_was_submitted, got, lawful_there, session_stays}
 use Rattle.sl_lease_law.specs.Fronts.{LawfulSubmission, Submission}
 use Rattle.sl_lease_law.specs.Holding.{ExclusiveRests, ModeRests}
-use Rattle.sl_lease_law.specs.Promises.{ExclusiveFollows, ModesFollow}
+use Rattle.sl_lease_law.specs.Promises.{ExclusiveFollows, ModesFollow, SharedFollows}
 use Rattle.sl_leases.specs.Leases.{Mode_set, has_shared_on, is_at, lease_calls, spot_of_call}
 use Rattle.sl_sector.specs.declared.sector.Block.{Block}
 use Rattle.sl_sessions.specs.Sessions.{Session, me, session_numbered}
@@ -16,7 +16,7 @@ use Rattle.sl_trace.specs.Traces.{Setting, Submitted, Trace, is_shared, new_call
 use Rattle.sl_trace.specs.declared.effects.Call.{Call}
 use Rattle.sl_trace.specs.declared.effects.Entry.{Entry}
 use Rattle.sl_trace.specs.declared.effects.Grant.{Grant}
-use Rattle.sl_trace.specs.declared.effects.Mode.TheVariants.{Exclusive}
+use Rattle.sl_trace.specs.declared.effects.Mode.TheVariants.{Exclusive, Shared}
 use Rattle.sl_trace.specs.declared.effects.Spot.{Spot}
 use Rattle.sl_words.proofs.CaseLaws.{one_value}
 use Rattle.std.proofs.Common.{ap, subst, sym, ◌∙◌}
@@ -64,3 +64,18 @@ exclusive_rests st later past e law g granted mode s numbered =
 pub exclusive_follows : ExclusiveFollows
 exclusive_follows st es law later past e is g granted mode s numbered =
     exclusive_rests st later past e (subst (λ t. Lawful st t) is law) g granted mode s (subst (λ t. session_numbered st t g.session ≡ Some s) is numbered)
+
+shared_rests : (st : Setting) (later past : Trace) (e : Entry) → Lawful st (later ++ e ∷ past) → (g : Grant) → Contains e.effects.grants g → g.mode ≡ Shared → (s : Session)
+    → session_numbered st (later ++ e ∷ past) g.session ≡ Some s → LawfulSharedGrant st past (e ∷ past) s (spot_of_grant g) g.lver
+shared_rests st later past e law g granted mode s numbered =
+    let here : Lawful st (e ∷ past) = lawful-front st later (e ∷ past) law in
+    let owner : (o : Session) × (session_numbered st (e ∷ past) g.session ≡ Some o) = got (session_numbered st (e ∷ past) g.session) (here.granting.0.owned g granted) in
+    let itself : owner.0 ≡ s =
+        one_value owner.0 s (session_numbered st (later ++ e ∷ past) g.session) (session_stays st later (e ∷ past) g.session owner.0 owner.1) numbered in
+    let known : session_numbered st (e ∷ past) g.session ≡ Some s = owner.1 ∙ ap (λ x. Some x) itself in
+    subst (λ m. MatchBool (is_shared m) (LawfulSharedGrant st past (e ∷ past) s (spot_of_grant g) g.lver) (LawfulExclusiveGrant st (e ∷ past) s (spot_of_grant g) g.lver)) mode
+    (here.modes.0.grants g s granted known)
+
+pub shared_follows : SharedFollows
+shared_follows st es law later past e is g granted mode s numbered =
+    shared_rests st later past e (subst (λ t. Lawful st t) is law) g granted mode s (subst (λ t. session_numbered st t g.session ≡ Some s) is numbered)

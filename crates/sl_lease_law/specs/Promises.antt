@@ -13,6 +13,7 @@
 use Rattle.sl_area.specs.Layouts.{Layout}
 use Rattle.sl_law.specs.Lawful.{Lawful}
 use Rattle.sl_law.specs.LawfulArea.{is_area_work, is_block_work}
+use Rattle.sl_law.specs.LawfulModes.{LawfulSharedGrant}
 use Rattle.sl_lease_law.specs.Fronts.{LawfulSubmission}
 use Rattle.sl_lease_law.specs.Holding.{ExclusiveRests, ModeRests}
 use Rattle.sl_lease_law.specs.Ways.{BlockComes, LeaderRests, Phase2ReadRests, Phase2Rests}
@@ -23,7 +24,7 @@ use Rattle.sl_leases.specs.Leases.{Phase2_read, Phase2_write, block_written, is_
 use Rattle.sl_trace.specs.Traces.{Answered, Setting, Submitted, Trace, spot_of_grant, submitted}
 use Rattle.sl_trace.specs.declared.effects.Entry.{Entry}
 use Rattle.sl_trace.specs.declared.effects.Grant.{Grant}
-use Rattle.sl_trace.specs.declared.effects.Mode.TheVariants.{Exclusive}
+use Rattle.sl_trace.specs.declared.effects.Mode.TheVariants.{Exclusive, Shared}
 use Rattle.std.specs.Prelude.{Contains, IsTrue, List, Some, ◌++◌, ◌∷◌, ◌≡◌, ◌≤◌}
 
 -- Each call was submitted at a front of the trace.
@@ -80,3 +81,8 @@ ExclusiveFollows = (st : Setting) (es : Trace) → Lawful st es → (later past 
 -- Areas are apart: a call on the area of another is of that area. So what is said of the area of a call is said of each call on it.
 abbrev pub AreasAreApart : Type 0
 AreasAreApart = (g : Layout) (c d : Submitted) → IsTrue (is_on g (spot_of_call g c) d.call) → spot_of_call g d ≡ spot_of_call g c
+
+-- Each shared grant joins a shared holding of the session, or follows a ballot that it won and a mark that was answered.
+abbrev pub SharedFollows : Type 0
+SharedFollows = (st : Setting) (es : Trace) → Lawful st es → (later past : Trace) (e : Entry) → es ≡ later ++ e ∷ past → (g : Grant) → Contains e.effects.grants g
+    → g.mode ≡ Shared → (s : Session) → session_numbered st es g.session ≡ Some s → LawfulSharedGrant st past (e ∷ past) s (spot_of_grant g) g.lver

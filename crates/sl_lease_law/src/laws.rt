@@ -1,6 +1,6 @@
 //! What each lawful trace keeps to.
 
-ghost use Rattle.sl_lease_law.specs.Promises.{AreasAreApart, BlocksCome, EachWasSubmitted, ExclusiveFollows, LeadersFollow, ModesFollow, OneAtATime, Phase2Follows, Phase2IsRead};
+ghost use Rattle.sl_lease_law.specs.Promises.{AreasAreApart, BlocksCome, EachWasSubmitted, ExclusiveFollows, LeadersFollow, ModesFollow, OneAtATime, Phase2Follows, Phase2IsRead, SharedFollows};
 
 /// Each call of a lawful trace was submitted at a front of it, and what that front knew is what the trace knows but for later answers.
 pub fn each_was_submitted()
@@ -45,4 +45,9 @@ pub fn exclusive_follows()
 /// A call on the area of another is of that area.
 pub fn areas_are_apart()
     ensures { AreasAreApart }
+{}
+
+/// A shared grant joins a shared holding, or follows a ballot that the session won and its mark.
+pub fn shared_follows()
+    ensures { SharedFollows }
 {}
