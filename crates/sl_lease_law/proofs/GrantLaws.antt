@@ -71,7 +71,7 @@ shared_rests st later past e law g granted mode s numbered =
     let here : Lawful st (e ∷ past) = lawful-front st later (e ∷ past) law in
     let owner : (o : Session) × (session_numbered st (e ∷ past) g.session ≡ Some o) = got (session_numbered st (e ∷ past) g.session) (here.granting.0.owned g granted) in
     let itself : owner.0 ≡ s =
-        one_value owner.0 s (session_numbered st (later ++ e ∷ past) g.session) (session_stays st later (e ∷ past) g.session owner.0 owner.1) numbered in
+    one_value owner.0 s (session_numbered st (later ++ e ∷ past) g.session) (session_stays st later (e ∷ past) g.session owner.0 owner.1) numbered in
     let known : session_numbered st (e ∷ past) g.session ≡ Some s = owner.1 ∙ ap (λ x. Some x) itself in
     subst (λ m. MatchBool (is_shared m) (LawfulSharedGrant st past (e ∷ past) s (spot_of_grant g) g.lver) (LawfulExclusiveGrant st (e ∷ past) s (spot_of_grant g) g.lver)) mode
     (here.modes.0.grants g s granted known)

@@ -5,8 +5,8 @@ use Rattle.sl_law.specs.Saying.{cut_at}
 use Rattle.sl_lease_law.proofs.AgeLaws.{Became, BecameLast, after_stays, aged_lease, became, became_last, block_stays, blocks_stay, kind_stays, writes}
 use Rattle.sl_lease_law.proofs.FrontLaws.{each_was_submitted, lawful_there}
 use Rattle.sl_lease_law.specs.Fronts.{AllAged, LawfulSubmission, Submission}
-use Rattle.sl_lease_law.specs.Promises.{Phase2Follows, Phase2IsRead}
-use Rattle.sl_lease_law.specs.Ways.{Phase2ReadRests, Phase2Rests, lease_among}
+use Rattle.sl_lease_law.specs.Promises.{BlocksHaveFronts, Phase2Follows, Phase2IsRead}
+use Rattle.sl_lease_law.specs.Ways.{BlockFront, Phase2ReadRests, Phase2Rests, lease_among}
 use Rattle.sl_leases.specs.Leases.{Phase1_read, Phase1_write, Phase2_read, Phase2_write, block_written, is_at, kind_of_step, lease_calls, lease_step, same_kind, spot_of_call}
 use Rattle.sl_sector.specs.declared.sector.Block.{Block}
 use Rattle.sl_sessions.specs.Sessions.{Session, session_numbered}
@@ -118,3 +118,19 @@ is_read st es law older c l at s numbered =
 
 pub phase2_is_read : Phase2IsRead
 phase2_is_read st es law newer older c h at s numbered = is_read st es law older c (each_was_submitted st es law newer older c h) at s numbered
+
+-- ---- every block
+
+front_of : (st : Setting) (es : Trace) → Lawful st es → (older : List Submitted) (c : Submitted) (b : Block) → LawfulSubmission st es c older
+    → block_written c ≡ Some b → (s : Session) → session_numbered st es c.call.session ≡ Some s → BlockFront st es s older c b
+front_of st es law older c b l wrote s numbered =
+    let h : Submission es c older = l.submission in
+    let itself : l.session ≡ s = one_value l.session s (session_numbered st es c.call.session) l.kept numbered in
+    let known : session_numbered st (h.entry ∷ h.past) h.call.session ≡ Some s = l.known ∙ ap (λ x. Some x) itself in
+    record {
+      submission = h;
+      lawful = (lawful_there st es law c older h).block.0.writes h.place h.call s h.there known b (ap (λ x. writes x) (sym h.itself.call) ∙ wrote);
+    }
+
+pub blocks_have_fronts : BlocksHaveFronts
+blocks_have_fronts st es law newer older c b h wrote s numbered = front_of st es law older c b (each_was_submitted st es law newer older c h) wrote s numbered

@@ -1,15 +1,12 @@
 -- Areas are apart.
-use Rattle.sl_area.specs.Layouts.{Layout}
 use Rattle.sl_lease_law.specs.Promises.{AreasAreApart}
-use Rattle.sl_leases.specs.Leases.{is_on, spot_of_call}
-use Rattle.sl_trace.specs.Traces.{Submitted}
 use Rattle.sl_trace.specs.declared.effects.Spot.{Spot}
 use Rattle.sl_words.proofs.WordLaws.{and_true}
-use Rattle.std.proofs.Common.{ap, arith, inl, inr, refl, subst, sym, ◌∙◌}
+use Rattle.std.proofs.Common.{ap, arith, inl, inr, sym, ◌∙◌}
 use Rattle.std.proofs.Math.Nat.{div-add-mod, mod-lt, mul-le-mul_left}
 use Rattle.std.proofs.lemmas.Bool.{cases_lt, leb-true, ltb-true}
 use Rattle.std.proofs.lemmas.Slice.Eq.{bytes_eq-Decides}
-use Rattle.std.specs.Prelude.{Bool, List, bytes_eq, nat_le, nat_lt, true, ℕ, ◌%◌, ◌&&◌, ◌*◌, ◌+◌, ◌-◌, ◌/◌, ◌<◌, ◌≡◌, ◌≤◌}
+use Rattle.std.specs.Prelude.{List, bytes_eq, nat_le, nat_lt, true, ℕ, ◌%◌, ◌&&◌, ◌*◌, ◌+◌, ◌-◌, ◌/◌, ◌<◌, ◌≡◌, ◌≤◌}
 
 -- Two multiples of a size with a number less than the size above both are one.
 one_multiple : (size p q r s : ℕ) → r < size → s < size → size * p + r ≡ size * q + s → p ≡ q
@@ -33,7 +30,7 @@ one_base size o d low high =
     let some : 0 < size = omega (arith, low, high) in
     let rest : d % size < size = mod-lt d some in
     let same : d / size ≡ o / size =
-        one_multiple size (d / size) (o / size) (d % size) (d - size * (o / size)) rest (omega (arith, low, high, own)) (omega (arith, low, high, own, other))
+    one_multiple size (d / size) (o / size) (d % size) (d - size * (o / size)) rest (omega (arith, low, high, own)) (omega (arith, low, high, own, other))
     in
     base_is size d ∙ (ap (λ k. size * k) same ∙ sym (base_is size o))
 
@@ -49,13 +46,13 @@ spots_are p q m n paths bases = ap (λ x. spot_at x m) paths ∙ ap (λ y. spot_
 pub areas_are_apart : AreasAreApart
 areas_are_apart g c d on =
     let parts : (bytes_eq d.call.path c.call.path ≡ true) × ((nat_le (c.call.offset - c.call.offset % g.area) d.call.offset && nat_lt d.call.offset (c.call.offset - c.call.offset % g.area + g.area)) ≡ true) =
-        and_true (bytes_eq d.call.path c.call.path) (nat_le (c.call.offset - c.call.offset % g.area) d.call.offset && nat_lt d.call.offset (c.call.offset - c.call.offset % g.area + g.area)) on
+    and_true (bytes_eq d.call.path c.call.path) (nat_le (c.call.offset - c.call.offset % g.area) d.call.offset && nat_lt d.call.offset (c.call.offset - c.call.offset % g.area + g.area)) on
     in
     let within : (nat_le (c.call.offset - c.call.offset % g.area) d.call.offset ≡ true) × (nat_lt d.call.offset (c.call.offset - c.call.offset % g.area + g.area) ≡ true) =
-        and_true (nat_le (c.call.offset - c.call.offset % g.area) d.call.offset) (nat_lt d.call.offset (c.call.offset - c.call.offset % g.area + g.area)) parts.1
+    and_true (nat_le (c.call.offset - c.call.offset % g.area) d.call.offset) (nat_lt d.call.offset (c.call.offset - c.call.offset % g.area + g.area)) parts.1
     in
     let base : d.call.offset - d.call.offset % g.area ≡ c.call.offset - c.call.offset % g.area =
-        one_base g.area c.call.offset d.call.offset (leb-true (c.call.offset - c.call.offset % g.area) d.call.offset within.0)
-        (ltb-true d.call.offset (c.call.offset - c.call.offset % g.area + g.area) within.1)
+    one_base g.area c.call.offset d.call.offset (leb-true (c.call.offset - c.call.offset % g.area) d.call.offset within.0)
+    (ltb-true d.call.offset (c.call.offset - c.call.offset % g.area + g.area) within.1)
     in
     spots_are d.call.path c.call.path (d.call.offset - d.call.offset % g.area) (c.call.offset - c.call.offset % g.area) (same_text d.call.path c.call.path parts.0) base

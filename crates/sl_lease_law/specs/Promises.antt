@@ -16,7 +16,7 @@ use Rattle.sl_law.specs.LawfulArea.{is_area_work, is_block_work}
 use Rattle.sl_law.specs.LawfulModes.{LawfulSharedGrant}
 use Rattle.sl_lease_law.specs.Fronts.{LawfulSubmission}
 use Rattle.sl_lease_law.specs.Holding.{ExclusiveRests, ModeRests}
-use Rattle.sl_lease_law.specs.Ways.{BlockComes, LeaderRests, Phase2ReadRests, Phase2Rests}
+use Rattle.sl_lease_law.specs.Ways.{BlockComes, BlockFront, LeaderRests, Phase2ReadRests, Phase2Rests}
 use Rattle.sl_sector.specs.declared.sector.Block.{Block}
 use Rattle.sl_sector.specs.declared.sector.Leader.{Leader}
 use Rattle.sl_sessions.specs.Sessions.{Session, session_numbered}
@@ -86,3 +86,8 @@ AreasAreApart = (g : Layout) (c d : Submitted) → IsTrue (is_on g (spot_of_call
 abbrev pub SharedFollows : Type 0
 SharedFollows = (st : Setting) (es : Trace) → Lawful st es → (later past : Trace) (e : Entry) → es ≡ later ++ e ∷ past → (g : Grant) → Contains e.effects.grants g
     → g.mode ≡ Shared → (s : Session) → session_numbered st es g.session ≡ Some s → LawfulSharedGrant st past (e ∷ past) s (spot_of_grant g) g.lver
+
+-- Each block was written by the law of blocks at its front.
+abbrev pub BlocksHaveFronts : Type 0
+BlocksHaveFronts = (st : Setting) (es : Trace) → Lawful st es → (newer older : List Submitted) (c : Submitted) (b : Block) → submitted es ≡ newer ++ c ∷ older
+    → block_written c ≡ Some b → (s : Session) → session_numbered st es c.call.session ≡ Some s → BlockFront st es s older c b

@@ -1,5 +1,5 @@
 -- How a block that a session writes comes from its own block before.
-use Rattle.sl_law.specs.LawfulBlock.{ReadAfter}
+use Rattle.sl_law.specs.LawfulBlock.{LawfulBlockWrite, ReadAfter}
 use Rattle.sl_law.specs.Saying.{cut_at}
 use Rattle.sl_lease_law.specs.Fronts.{Submission}
 use Rattle.sl_leases.specs.Ballots.{ballot_blocks, moded_block, owner_of, phase2_block, same_owner, stop_of, value_of}
@@ -9,9 +9,9 @@ use Rattle.sl_sector.specs.declared.sector.Block.{Block}
 use Rattle.sl_sector.specs.declared.sector.Leader.{Leader}
 use Rattle.sl_sector.specs.declared.sector.Owner.{Owner}
 use Rattle.sl_sessions.specs.Sessions.{Session, is_call_of, me}
-use Rattle.sl_trace.specs.Traces.{Setting, Submitted, Trace}
+use Rattle.sl_trace.specs.Traces.{Setting, Submitted, Trace, new_call}
 use Rattle.sl_trace.specs.declared.effects.Spot.{Spot}
-use Rattle.std.specs.Prelude.{Contains, IsTrue, List, None, Option, Some, filter, find, is_some, true, ℕ, ◌&&◌, ◌++◌, ◌<◌, ◌∷◌, ◌≡◌, ◌≤◌, ◌⊎◌}
+use Rattle.std.specs.Prelude.{Contains, IsTrue, List, None, Option, Some, filter, find, is_some, length, true, ℕ, ◌&&◌, ◌++◌, ◌<◌, ◌∷◌, ◌≡◌, ◌≤◌, ◌⊎◌}
 
 -- Of these calls those of the session's lease on the area; of all calls they are the lease's.
 abbrev pub lease_among : Setting → Session → Spot → List Submitted → List Submitted
@@ -112,3 +112,9 @@ pub record LeaderRests (st : Setting) (es : Trace) (s : Session) (at : Spot) (ol
   pub owner : IsTrue (same_owner (owner_of l) (me (cut_at submission.place submission.entry ∷ submission.past) s))
   pub won : Ended st.layout (lease_among st s at older) (l.lver, me (cut_at submission.place submission.entry ∷ submission.past) s)
   pub not_freed : l.held ≡ true → freed (lease_among st s at older) < l.lver
+
+-- A block with its front: all that the law of blocks says where it was submitted, the reason of its instance too.
+pub record BlockFront (st : Setting) (es : Trace) (s : Session) (older : List Submitted) (c : Submitted) (b : Block) : Type 0 where
+  pub submission : Submission es c older
+  pub lawful : LawfulBlockWrite st (cut_at submission.place submission.entry ∷ submission.past) s
+      (new_call (length submission.past) submission.entry.reading submission.call) b

@@ -1,6 +1,6 @@
 //! What each lawful trace keeps to.
 
-ghost use Rattle.sl_lease_law.specs.Promises.{AreasAreApart, BlocksCome, EachWasSubmitted, ExclusiveFollows, LeadersFollow, ModesFollow, OneAtATime, Phase2Follows, Phase2IsRead, SharedFollows};
+ghost use Rattle.sl_lease_law.specs.Promises.{AreasAreApart, BlocksCome, BlocksHaveFronts, EachWasSubmitted, ExclusiveFollows, LeadersFollow, ModesFollow, OneAtATime, Phase2Follows, Phase2IsRead, SharedFollows};
 
 /// Each call of a lawful trace was submitted at a front of it, and what that front knew is what the trace knows but for later answers.
 pub fn each_was_submitted()
@@ -50,4 +50,9 @@ pub fn areas_are_apart()
 /// A shared grant joins a shared holding, or follows a ballot that the session won and its mark.
 pub fn shared_follows()
     ensures { SharedFollows }
+{}
+
+/// Each block that is written was lawful where it was submitted.
+pub fn blocks_have_fronts()
+    ensures { BlocksHaveFronts }
 {}
