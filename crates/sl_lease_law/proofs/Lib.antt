@@ -1,0 +1,12 @@
+pub mod FrontLaws
+pub mod HavingLaws
+pub mod NumberLaws
+pub mod AnswerLaws
+pub mod TurnLaws
+pub mod AgeLaws
+pub mod WayLaws
+pub mod ComingLaws
+pub mod RestLaws
+pub mod EndLaws
+pub mod GrantLaws
+pub mod SpotLaws
