@@ -170,6 +170,7 @@ impl<D: Daemon> Replay<D> {
         ensures front { (h : HeaderOf) (total : List ℕ) (end : Ended) → h.machines ≡ 1 → h.geometry.sector ≡ self.old.sector
             → Owes D.stands h self.old.world.kept self.old.world.host self.old.counts lines.old out.old.items total end
             → OnErr result (IsFrontOf out.new.items total) }
+        ensures sector { self.new.sector ≡ self.old.sector }
     {
         while let Some(line) = lines.next_line() {
             if !self.take_line(alloc, out, &line)? {

@@ -52,6 +52,6 @@ pub record Replays (left after : Option (List ℕ)) (faults later : ℕ) (taken 
   pub writes : Appends taken now written
   -- the bytes written are the report of a sound run
   pub headline : ReplayHeadline SoundRun first_language ended read written (code s)
-  -- and its last line, where it has one, tells how it ended
+  -- a fault is told only where one was counted
   pub read_fault : s ≡ ReadFault → Rose faults later
   pub write_fault : s ≡ WriteFault → Rose sink_faults sink_later

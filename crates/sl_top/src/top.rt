@@ -93,7 +93,10 @@ fn refuse_words<K: Sink>(sink: &mut K) -> Status
     }
 }
 
-/// Does what the words say, with no handle that waits.
+/// Does what the words say (those behind the program's name), with no handle that waits: so it returns. `replay` reads a schedule from the
+/// source to its end, or to one byte past 1000000000, and puts out its report; other words put out one line. The status is `Done` or `Refused`
+/// where the report is whole, `ReadFault` and `WriteFault` only where the source's or the sink's count of faults rose, `NoMemory` for want of
+/// memory, after which a front of the report was put out, and `BadWords` for other words.
 pub fn run_offline<S: Source, K: Sink, D: Devices>(
     alloc: Global,
     words: &[String],
@@ -114,7 +117,7 @@ pub fn run_offline<S: Source, K: Sink, D: Devices>(
     }
 }
 
-/// Does what the words say, and hands the devices back.
+/// Does what the words say, as `run_offline` does, and hands the devices back.
 pub fn run<S: Source, K: Sink, D: Devices>(
     alloc: Global,
     words: &[String],
