@@ -17,6 +17,7 @@ use Rattle.sl_trace.specs.Traces.{Setting, Submitted, Trace, submitted}
 use Rattle.sl_trace.specs.declared.command.ResourceArg.{ResourceArg}
 use Rattle.sl_trace.specs.declared.effects.LeaseStep.{LeaseStep}
 use Rattle.sl_trace.specs.declared.input.Given.{Given}
+use Rattle.sl_words.proofs.CaseLaws.{false_is_true}
 use Rattle.std.proofs.Common.{refl, subst, sym}
 use Rattle.std.specs.Prelude.{IsTrue, List, Some, ℕ, ◌≡◌}
 
@@ -53,6 +54,7 @@ call_lawful st g r t h j step c one ms is at brings =
       );
       alone = λ work. k.alone;
       reads = subst (λ s. IsRightRead st s c c.call.purpose) spot (subst (λ p. IsRightRead st (spot_of r) c p) (sym one.for_job) at.reads);
+      sees = λ sees. absurd (false_is_true (subst (λ p. IsTrue (is_area_work p)) sees (subst (λ p. IsTrue (is_area_work p)) (sym one.for_job) refl)));
       block = λ b writes. subst (λ s. LawfulBlockAt st t (first_session g) s c b) spot (brings.block b writes);
       phase2 = λ reads. subst (λ s. LawfulPhase2Read st t (first_session g) s c) spot (brings.reads reads);
       leader = λ l writes. subst (λ s. LawfulLeaderWrite st t (first_session g) s c l) spot (brings.leader l writes);

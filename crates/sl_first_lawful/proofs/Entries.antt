@@ -27,6 +27,7 @@ keeps_area st es e h =
       writes = λ k c s at is. (h.calls k c s at is).writes;
       alone = λ k c s at is. (h.calls k c s at is).alone;
       reads = λ k c s at is. (h.calls k c s at is).reads;
+      sees = λ k c s at is. (h.calls k c s at is).sees;
     }
 
 keeps_block : (st : Setting) (es : Trace) (e : Entry) → EntryIsLawful st es e → LawfulBlock st es e

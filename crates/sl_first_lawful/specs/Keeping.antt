@@ -12,10 +12,10 @@ use Rattle.sl_sector.specs.declared.sector.Block.{Block}
 use Rattle.sl_sector.specs.declared.sector.Leader.{Leader}
 use Rattle.sl_sector.specs.declared.sector.Rec.{Rec}
 use Rattle.sl_sector.specs.declared.sector.ValueRec.{ValueRec}
-use Rattle.sl_sessions.specs.Sessions.{Session, has_open_delta, is_active, is_delta_purpose, is_leaving, is_recovering, is_survey_purpose, stage_of}
+use Rattle.sl_sessions.specs.Sessions.{Session, has_open_delta, is_active, is_delta_purpose, is_leaving, is_recovering, is_survey_purpose, joined_after, stage_of}
 use Rattle.sl_trace.specs.Traces.{Setting, Submitted, Trace, is_write, record_of}
-use Rattle.sl_trace.specs.declared.effects.Purpose.TheVariants.{ValueRead}
-use Rattle.std.specs.Prelude.{IsFalse, IsTrue, Some, false, not, true, [], ℕ, ◌&&◌, ◌≡◌}
+use Rattle.sl_trace.specs.declared.effects.Purpose.TheVariants.{SeeRequest, ValueRead}
+use Rattle.std.specs.Prelude.{IsFalse, IsTrue, Some, false, is_some, not, true, [], ℕ, ◌&&◌, ◌≡◌}
 use Rattle.sl_law.specs.LawfulGrant.{LawfulGrant}
 use Rattle.sl_law.specs.LawfulModes.{LawfulModeGrant}
 use Rattle.sl_law.specs.LawfulValue.{LawfulValueReply}
@@ -39,6 +39,7 @@ pub record CallIsLawful (st : Setting) (t : Trace) (s : Session) (c : Submitted)
   pub writes : (w : Rec) → record_of c.call.op ≡ Some w → IsFalse (is_delta_record w) → IsTrue (is_area_work c.call.purpose) × LawfulAreaWrite st t s c w
   pub alone : IsTrue (is_block_work c && is_area_work c.call.purpose) → open_block_work st t s (spot_of_call st.layout c) ≡ []
   pub reads : LawfulLeaseRead st c
+  pub sees : c.call.purpose ≡ SeeRequest → IsTrue (is_some (joined_after t s))
   pub block : (b : Block) → block_written c ≡ Some b → LawfulBlockWrite st t s c b
   pub phase2 : IsTrue (is_at Phase2_read c) → LawfulPhase2Read st t s (spot_of_call st.layout c) c
   pub leader : (l : Leader) → leader_written c ≡ Some l → LawfulLeaderWrite st t s (spot_of_call st.layout c) c l

@@ -5,13 +5,13 @@ use Rattle.sl_leases.specs.Leases.{is_block_read, is_leader_of, is_on, spot_of_c
 use Rattle.sl_sector.specs.declared.sector.Leader.{Leader}
 use Rattle.sl_sector.specs.declared.sector.Rec.TheVariants.{BlockIs, DeltaIs, LeaderIs, RequestIs, ValueIs}
 use Rattle.sl_sector.specs.declared.sector.Rec.{Rec}
-use Rattle.sl_sessions.specs.Sessions.{Session, calls_of, delta_of_record, is_active, open_calls_of}
+use Rattle.sl_sessions.specs.Sessions.{Session, calls_of, delta_of_record, is_active, joined_after, open_calls_of}
 use Rattle.sl_trace.specs.Traces.{Setting, Submitted, Trace, gave, is_write, record_of}
 use Rattle.sl_trace.specs.declared.effects.Entry.{Entry}
 use Rattle.sl_trace.specs.declared.effects.LeaseStep.TheVariants.{Phase1Read, Phase2Read, ReadArea, ReadBeforeFree}
 use Rattle.sl_trace.specs.declared.effects.LeaseStep.{LeaseStep}
 use Rattle.sl_trace.specs.declared.effects.Op.TheVariants.{ReadSectors}
-use Rattle.sl_trace.specs.declared.effects.Purpose.TheVariants.{RequestRead, RequestWrite, Lease, ValueRead, ValueWrite}
+use Rattle.sl_trace.specs.declared.effects.Purpose.TheVariants.{RequestRead, RequestWrite, Lease, SeeRequest, ValueRead, ValueWrite}
 use Rattle.sl_trace.specs.declared.effects.Purpose.{Purpose}
 use Rattle.sl_trace.specs.declared.effects.Spot.{Spot}
 use Rattle.std.specs.Prelude.{Bool, Contains, IsFalse, IsTrue, List, None, Option, Some, false, filter, filter_map, is_some, option_and_then, true, [], ℕ, ◌&&◌, ◌+◌, ◌||◌, ◌≡◌}
@@ -105,3 +105,5 @@ pub record LawfulArea (st : Setting) (past : Trace) (e : Entry) : Type 0 where
   pub alone : EachCall st (λ es s c. IsTrue (is_block_work c && is_area_work c.call.purpose) → open_block_work st es s (spot_of_call st.layout c) ≡ []) past e
   -- what is taken for a host's block must come from that host's sector
   pub reads : EachCall st (λ es s c. LawfulLeaseRead st c) past e
+  -- in a joining it would put the watch in place of the stage that it stands in, and let it decide and claim again
+  pub sees : EachCall st (λ es s c. c.call.purpose ≡ SeeRequest → IsTrue (is_some (joined_after es s))) past e

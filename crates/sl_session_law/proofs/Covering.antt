@@ -5,7 +5,7 @@ use Rattle.sl_session_law.proofs.Joining.{done_unanswered, in_turn}
 use Rattle.sl_session_law.proofs.Parting.{not_removed}
 use Rattle.sl_session_law.proofs.Owning.{got_inside}
 use Rattle.sl_session_law.proofs.Silence.{stage_by}
-use Rattle.sl_session_law.specs.Promises.{IsSession, JoiningsAreInTurn, SeesJoined, WritesAreCovered, all_done, fits, fits_as, is_in_turn}
+use Rattle.sl_session_law.specs.Promises.{IsSession, JoiningsAreInTurn, WritesAreCovered, all_done, fits, fits_as, is_in_turn}
 use Rattle.sl_sessions.specs.Sessions.{Session, calls_of, free_write, has_open_write, is_covered_stage, joined_after, refused_after, removed_after, sessions, stage_after, stage_in, stage_of}
 use Rattle.sl_sessions.specs.declared.stage.Stage.TheVariants.{Looking}
 use Rattle.sl_sessions.specs.declared.stage.Stage.{Stage}
@@ -67,18 +67,18 @@ by_stage (Some j) None refused None joining gone h = refl
 by_stage None removed (Some k) free joining gone h = refl
 by_stage None removed None free joining gone h = ap (λ b. b || false && true) (h refl)
 
-covered : (st : Setting) (es : Trace) (s : Session) → Lawful st es → SeesJoined st es → IsSession st es s → removed_after es s ≡ None → has_open_write es s ≡ true → is_covered es s ≡ true
-covered st es s h sees its gone unmet =
+covered : (st : Setting) (es : Trace) (s : Session) → Lawful st es → IsSession st es s → removed_after es s ≡ None → has_open_write es s ≡ true → is_covered es s ≡ true
+covered st es s h its gone unmet =
     ap (λ w. is_covered_stage (stage_of es s) || is_some (refused_after es s) && w) unmet
     ∙ by_stage (joined_after es s) (removed_after es s) (refused_after es s) (free_write (calls_of es s)) (stage_in (calls_of es s)) gone
-    (λ none. covered_in (calls_of es s) (in_turn st es s h sees (λ x at. one_value x s _ at its) none) unmet)
+    (λ none. covered_in (calls_of es s) (in_turn st es s h (λ x at. one_value x s _ at its) none) unmet)
 
 stands_at : (st : Setting) (es : Trace) (s : Session) → Lawful st es → IsSession st es s → has_open_write es s ≡ true → is_covered es s ≡ true → CoveredBy st es s
 stands_at st [] s h its unmet is = absurd (false_is_true unmet)
 stands_at st (e ∷ past) s h its unmet is = h.watchdog.0.stands s (got_inside (sessions st (e ∷ past)) s.number s its) is
 
 pub writes_are_covered : WritesAreCovered
-writes_are_covered st es s h sees its unmet = stands_at st es s h its unmet (covered st es s h sees its (not_removed st es s h its unmet) unmet)
+writes_are_covered st es s h its unmet = stands_at st es s h its unmet (covered st es s h its (not_removed st es s h its unmet) unmet)
 
 pub joinings_are_in_turn : JoiningsAreInTurn
-joinings_are_in_turn st es s h sees its none = in_turn st es s h sees (λ x at. one_value x s _ at its) none
+joinings_are_in_turn st es s h its none = in_turn st es s h (λ x at. one_value x s _ at its) none

@@ -9,7 +9,7 @@ use Rattle.sl_session_law.proofs.Making.{same_answered}
 use Rattle.sl_session_law.proofs.Owning.{got_inside, is_the_one, session_more}
 use Rattle.sl_session_law.proofs.Silence.{stage_by}
 use Rattle.sl_session_law.proofs.Staying.{joined_more}
-use Rattle.sl_session_law.specs.Promises.{SeesJoined, all_done, fits, fits_as, has_reply, is_in_turn}
+use Rattle.sl_session_law.specs.Promises.{all_done, fits, fits_as, has_reply, is_in_turn}
 use Rattle.sl_sessions.specs.Sessions.{Session, calls_of, is_active, is_delta_purpose, is_joined, joined_after, leaving_job, recovery_of, refused_after, removed_after, session_numbered, stage_after, stage_in, stage_of, free_write}
 use Rattle.sl_sessions.specs.declared.stage.Stage.TheVariants.{Looking, Standing}
 use Rattle.sl_sessions.specs.declared.stage.Stage.{Stage}
@@ -189,31 +189,31 @@ joined_before e past s (Some k) is none = absurd (no_value k (joined_after (e �
 pub same_number_by : (a b : ℕ) → (a == b) ≡ true → a ≡ b
 same_number_by a b h = grind (arith, tests)
 
-pub turn_call : (st : Setting) (e : Entry) (past : Trace) (s : Session) → Lawful st (e ∷ past) → SeesJoined st (e ∷ past)
+pub turn_call : (st : Setting) (e : Entry) (past : Trace) (s : Session) → Lawful st (e ∷ past)
     → ((x : Session) → session_numbered st (e ∷ past) s.number ≡ Some x → x ≡ s)
     → (k : ℕ) (c : Call) → slice_get e.effects.calls k ≡ Some c → (b : Bool) → (c.session == s.number) ≡ b → InTurn s (cut_at k e ∷ past) → InTurn s (cut_at (suc k) e ∷ past)
-turn_call st e past s h sees same k c at false other before none = ap (λ ms. is_in_turn ms) (other_next past e s k c at other) ∙ before none
-turn_call st e past s h sees same k c at true mine before none =
+turn_call st e past s h same k c at false other before none = ap (λ ms. is_in_turn ms) (other_next past e s k c at other) ∙ before none
+turn_call st e past s h same k c at true mine before none =
     let number = same_number_by c.session s.number mine in
     let its = is_the_one (session_numbered st (e ∷ past) c.session) s (h.calls.0.owned c (got_inside e.effects.calls k c at))
     (λ x is. same x (ap (λ n. session_numbered st (e ∷ past) n) (sym number) ∙ is)) in
     ap (λ ms. is_in_turn ms) (mine_next past e s k c at mine)
     ∙ both (fits (new_call (length past) e.reading c)) (all_done (calls_of (cut_at k e ∷ past) s))
-    (fits_new st (cut_at k e ∷ past) s (new_call (length past) e.reading c) c.purpose (h.delta.0.calls k c s at its) (h.area.0.active k c s at its) (sees.0 k c s at its) none)
+    (fits_new st (cut_at k e ∷ past) s (new_call (length past) e.reading c) c.purpose (h.delta.0.calls k c s at its) (h.area.0.active k c s at its) (h.area.0.sees k c s at its) none)
     (turn_done (calls_of (cut_at k e ∷ past) s) (before none)
     (h.delta.0.alone k c s at its (fits_delta c.purpose (is_write c.op)
-    (fits_new st (cut_at k e ∷ past) s (new_call (length past) e.reading c) c.purpose (h.delta.0.calls k c s at its) (h.area.0.active k c s at its) (sees.0 k c s at its) none))))
+    (fits_new st (cut_at k e ∷ past) s (new_call (length past) e.reading c) c.purpose (h.delta.0.calls k c s at its) (h.area.0.active k c s at its) (h.area.0.sees k c s at its) none))))
 
-turn_entry : (st : Setting) (e : Entry) (past : Trace) (s : Session) → Lawful st (e ∷ past) → SeesJoined st (e ∷ past)
+turn_entry : (st : Setting) (e : Entry) (past : Trace) (s : Session) → Lawful st (e ∷ past)
     → ((x : Session) → session_numbered st (e ∷ past) s.number ≡ Some x → x ≡ s) → InTurn s past → InTurn s (e ∷ past)
-turn_entry st e past s h sees same before =
+turn_entry st e past s h same before =
     to_all (InTurn s) e past
     (λ none. ap (λ ms. is_in_turn ms) (mine_marked past e s)
     ∙ turn_marked past (cut_at 0 e) e.input (calls_of past s) (before (joined_before (cut_at 0 e) past s (joined_after past s) refl none)))
-    (λ k c at old. turn_call st e past s h sees same k c at (c.session == s.number) refl old)
+    (λ k c at old. turn_call st e past s h same k c at (c.session == s.number) refl old)
 
-pub in_turn : (st : Setting) (es : Trace) (s : Session) → Lawful st es → SeesJoined st es → ((x : Session) → session_numbered st es s.number ≡ Some x → x ≡ s) → InTurn s es
-in_turn st [] s h sees same = λ none. refl
-in_turn st (e ∷ past) s h sees same =
-    turn_entry st e past s h sees same
-    (in_turn st past s (lawful-front st (e ∷ []) past h) sees.1 (λ x at. same x (session_more st e past s.number x at)))
+pub in_turn : (st : Setting) (es : Trace) (s : Session) → Lawful st es → ((x : Session) → session_numbered st es s.number ≡ Some x → x ≡ s) → InTurn s es
+in_turn st [] s h same = λ none. refl
+in_turn st (e ∷ past) s h same =
+    turn_entry st e past s h same
+    (in_turn st past s (lawful-front st (e ∷ []) past h) (λ x at. same x (session_more st e past s.number x at)))

@@ -10,7 +10,7 @@ use Rattle.sl_session_law.proofs.Making.{IsNewCall, calls_are_made, contains_fir
 use Rattle.sl_session_law.proofs.Naming.{named}
 use Rattle.sl_session_law.proofs.Owning.{got_inside, is_the_one, session_more, sessions_stay}
 use Rattle.sl_session_law.proofs.Silence.{stage_by}
-use Rattle.sl_session_law.specs.Promises.{JoiningsAreOrdered, SeesJoined, all_done, fits, fits_as, has_reply, is_in_turn, is_ordered, leads_to, looks, may_come, may_follow}
+use Rattle.sl_session_law.specs.Promises.{JoiningsAreOrdered, all_done, fits, fits_as, has_reply, is_in_turn, is_ordered, leads_to, looks, may_come, may_follow}
 use Rattle.sl_sessions.specs.Sessions.{Session, calls_of, free_write, is_call_of, joined_after, refused_after, removed_after, session_named, session_numbered, sessions, stage_in, stage_of}
 use Rattle.sl_sessions.specs.declared.stage.Stage.{Stage}
 use Rattle.sl_trace.specs.Traces.{Setting, Submitted, Trace, answered_in, is_answered_ok, is_write, mark, new_call, submitted}
@@ -184,19 +184,19 @@ none_before st e past s k h same none at (m ∷ ms) is done nobody =
 abbrev InOrder : Session → Trace → Type 0
 InOrder s t = joined_after t s ≡ None → (is_in_turn (calls_of t s) ≡ true) × (is_ordered (calls_of t s) ≡ true)
 
-order_call : (st : Setting) (e : Entry) (past : Trace) (s : Session) → Lawful st (e ∷ past) → SeesJoined st (e ∷ past)
+order_call : (st : Setting) (e : Entry) (past : Trace) (s : Session) → Lawful st (e ∷ past)
     → ((x : Session) → session_numbered st (e ∷ past) s.number ≡ Some x → x ≡ s)
     → (k : ℕ) (c : Call) → slice_get e.effects.calls k ≡ Some c → (b : Bool) → (c.session == s.number) ≡ b → InOrder s (cut_at k e ∷ past)
     → joined_after (cut_at (suc k) e ∷ past) s ≡ None → is_ordered (calls_of (cut_at (suc k) e ∷ past) s) ≡ true
-order_call st e past s h sees same k c at false other before none = ap (λ ms. is_ordered ms) (other_next past e s k c at other) ∙ (before none).1
-order_call st e past s h sees same k c at true mine before none =
+order_call st e past s h same k c at false other before none = ap (λ ms. is_ordered ms) (other_next past e s k c at other) ∙ (before none).1
+order_call st e past s h same k c at true mine before none =
     let t : Trace = cut_at k e ∷ past in
     let n : Submitted = new_call (length past) e.reading c in
     let number = same_number_by c.session s.number mine in
     let its = is_the_one (session_numbered st (e ∷ past) c.session) s (h.calls.0.owned c (got_inside e.effects.calls k c at))
     (λ x is. same x (ap (λ i. session_numbered st (e ∷ past) i) (sym number) ∙ is)) in
     let law = h.delta.0.calls k c s at its in
-    let f = fits_new st t s n c.purpose law (h.area.0.active k c s at its) (sees.0 k c s at its) none in
+    let f = fits_new st t s n c.purpose law (h.area.0.active k c s at its) (h.area.0.sees k c s at its) none in
     let turn = (before none).0 in
     let done = turn_done (calls_of t s) turn (h.delta.0.alone k c s at its (fits_delta c.purpose (is_write c.op) f)) in
     let refused = open_refused (joined_after t s) (removed_after t s) (refused_after t s) (free_write (calls_of t s)) (stage_in (calls_of t s)) none (h.calls.0.alive k c s at its) in
@@ -207,24 +207,24 @@ order_call st e past s h sees same k c at true mine before none =
     (λ p nobody. none_before st e past s k h same none refused (calls_of t s) refl done nobody))
     (before none).1
 
-order_entry : (st : Setting) (e : Entry) (past : Trace) (s : Session) → Lawful st (e ∷ past) → SeesJoined st (e ∷ past)
+order_entry : (st : Setting) (e : Entry) (past : Trace) (s : Session) → Lawful st (e ∷ past)
     → ((x : Session) → session_numbered st (e ∷ past) s.number ≡ Some x → x ≡ s) → InOrder s past → InOrder s (e ∷ past)
-order_entry st e past s h sees same before =
+order_entry st e past s h same before =
     to_all (InOrder s) e past
     (λ none. let old = before (joined_before (cut_at 0 e) past s (joined_after past s) refl none) in (
       ap (λ ms. is_in_turn ms) (mine_marked past e s) ∙ turn_marked past (cut_at 0 e) e.input (calls_of past s) old.0,
       ap (λ ms. is_ordered ms) (mine_marked past e s) ∙ ordered_marked past (cut_at 0 e) e.input (calls_of past s) old.1,
     ))
     (λ k c at old none. (
-      turn_call st e past s h sees same k c at (c.session == s.number) refl (λ still. (old still).0) none,
-      order_call st e past s h sees same k c at (c.session == s.number) refl old none,
+      turn_call st e past s h same k c at (c.session == s.number) refl (λ still. (old still).0) none,
+      order_call st e past s h same k c at (c.session == s.number) refl old none,
     ))
 
-in_order_all : (st : Setting) (es : Trace) (s : Session) → Lawful st es → SeesJoined st es → ((x : Session) → session_numbered st es s.number ≡ Some x → x ≡ s) → InOrder s es
-in_order_all st [] s h sees same = λ none. (refl, refl)
-in_order_all st (e ∷ past) s h sees same =
-    order_entry st e past s h sees same
-    (in_order_all st past s (lawful-front st (e ∷ []) past h) sees.1 (λ x at. same x (session_more st e past s.number x at)))
+in_order_all : (st : Setting) (es : Trace) (s : Session) → Lawful st es → ((x : Session) → session_numbered st es s.number ≡ Some x → x ≡ s) → InOrder s es
+in_order_all st [] s h same = λ none. (refl, refl)
+in_order_all st (e ∷ past) s h same =
+    order_entry st e past s h same
+    (in_order_all st past s (lawful-front st (e ∷ []) past h) (λ x at. same x (session_more st e past s.number x at)))
 
 pub joinings_are_ordered : JoiningsAreOrdered
-joinings_are_ordered st es s h sees its none = (in_order_all st es s h sees (λ x at. one_value x s _ at its) none).1
+joinings_are_ordered st es s h its none = (in_order_all st es s h (λ x at. one_value x s _ at its) none).1

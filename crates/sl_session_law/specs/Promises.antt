@@ -92,11 +92,6 @@ CallsWereLawful =
     (st : Setting) (es : Trace) (s : Session) (m : Submitted) → Lawful st es → IsSession st es s → Contains (submitted es) m → m.call.session ≡ s.number
     → WasLawful st es s m
 
--- Requests are seen by joined sessions only. No law of traces says so: one that saw a request in its joining would stand at its
--- beginning again, and could decide and claim twice.
-abbrev pub SeesJoined : Setting → Trace → Type 0
-SeesJoined st es = EachEntry (EachCall st (λ t s c. c.call.purpose ≡ SeeRequest → IsTrue (is_some (joined_after t s)))) es
-
 -- Whether a joining may make a call for this, that writes or not.
 abbrev pub fits_as : Purpose → Bool → Bool
 fits_as (Joining j ClaimWrite) writes = true
@@ -121,12 +116,12 @@ is_in_turn (m ∷ ms) = fits m && all_done ms
 -- The calls of a session that isn't joined are in turn.
 abbrev pub JoiningsAreInTurn : Type 0
 JoiningsAreInTurn =
-    (st : Setting) (es : Trace) (s : Session) → Lawful st es → SeesJoined st es → IsSession st es s → joined_after es s ≡ None → is_in_turn (calls_of es s) ≡ true
+    (st : Setting) (es : Trace) (s : Session) → Lawful st es → IsSession st es s → joined_after es s ≡ None → is_in_turn (calls_of es s) ≡ true
 
 -- While a write of a session is unanswered its connection stands, and ends in time.
 abbrev pub WritesAreCovered : Type 0
 WritesAreCovered =
-    (st : Setting) (es : Trace) (s : Session) → Lawful st es → SeesJoined st es → IsSession st es s → has_open_write es s ≡ true → CoveredBy st es s
+    (st : Setting) (es : Trace) (s : Session) → Lawful st es → IsSession st es s → has_open_write es s ≡ true → CoveredBy st es s
 
 -- What a call's laws say of reads and writes that were answered when it was made is true of them ever after.
 abbrev pub FrontAnswersStay : Type 0
@@ -170,7 +165,7 @@ is_ordered (m ∷ ms) = may_come ms m.call.purpose && is_ordered ms
 -- The calls of a session that isn't joined are in the order of a joining; so it decides once, claims once, verifies once.
 abbrev pub JoiningsAreOrdered : Type 0
 JoiningsAreOrdered =
-    (st : Setting) (es : Trace) (s : Session) → Lawful st es → SeesJoined st es → IsSession st es s → joined_after es s ≡ None → is_ordered (calls_of es s) ≡ true
+    (st : Setting) (es : Trace) (s : Session) → Lawful st es → IsSession st es s → joined_after es s ≡ None → is_ordered (calls_of es s) ≡ true
 
 -- Once its free is submitted a joined session submits nothing more.
 abbrev pub FreedAreSilent : Type 0
@@ -178,7 +173,7 @@ FreedAreSilent =
     (st : Setting) (e : Entry) (past : Trace) (s : Session) → Lawful st (e ∷ past) → IsSession st (e ∷ past) s → (k : ℕ) → joined_after past s ≡ Some k
     → (m : Submitted) → free_write (calls_of past s) ≡ Some m → (i : ℕ) (c : Call) → slice_get e.effects.calls i ≡ Some c → c.session ≡ s.number → ⊥
 
--- Why joinings must see no requests: wherever a joining stands, a request that it sees sets it back to its watch.
+-- Why the laws let only a joined session see a request: wherever a joining stands, a request that it sees sets it back to its watch.
 abbrev pub SeeingSetsBack : Type 0
 SeeingSetsBack =
     (es : Trace) (e : Entry) (c : Call) (s : Session) → joined_after (e ∷ es) s ≡ None → refused_after (e ∷ es) s ≡ None → c.purpose ≡ SeeRequest → c.session ≡ s.number

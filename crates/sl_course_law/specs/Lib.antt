@@ -1,0 +1,3 @@
+pub mod Stamping
+pub mod Mirrors
+pub mod Promises

@@ -1,0 +1,1 @@
+//! What watchdogs promise of a lawful run.
