@@ -1,0 +1,1 @@
+//! What a lawful run promises of its areas.
