@@ -8,6 +8,7 @@ use Rattle.sl_run.specs.declared.header.Header.{Header}
 use Rattle.sl_run.specs.declared.header.LockspaceLine.{LockspaceLine}
 use Rattle.sl_run.specs.declared.header.ResourceLine.{ResourceLine}
 use Rattle.sl_run.specs.declared.header.SessionLine.{SessionLine}
+use Rattle.sl_sample_law.proofs.Numbering.{at_least_none}
 use Rattle.sl_sector.proofs.SpellingLaws.{length-spelling}
 use Rattle.sl_sector.specs.Records.{IsBlock, IsDelta, IsLeader, IsRecord, IsRequest, IsValue}
 use Rattle.sl_sector.specs.Spelling.{IsDigest, IsSectorSize}
@@ -158,9 +159,6 @@ lockspace_by h l k false r is ok named eq = absurd (none_some r eq)
 lockspace_by h l k true r is ok named eq =
     subst IsRecord (some_value (DeltaIs (initial_delta h l (k + 1))) r eq)
     (initial_delta_by h l (k + 1) (session_of h l.name (k + 1)) refl ok named (above_one k) (within k h.geometry.hosts is (has_sizes h.geometry ok.geometry).hosts.1))
-
-at_least_none : (n : ℕ) → 0 ≤ n
-at_least_none n = omega arith
 
 fresh_leader_is : (digest : List ℕ → List ℕ) (s : Sizes) (space name : List ℕ) → HasSizes s → IsTrue (is_name space) → IsTrue (is_name name) → IsLeader (fresh_leader (layout_with digest s) space name)
 fresh_leader_is digest s space name sizes a b =

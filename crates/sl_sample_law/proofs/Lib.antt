@@ -4,3 +4,7 @@ pub mod Seeing
 pub mod Reading
 pub mod Passing
 pub mod Flying
+pub mod Sampling
+pub mod Answering
+pub mod Stepping
+pub mod Showing

@@ -6,7 +6,13 @@ use Rattle.sl_words.proofs.CaseLaws.{none_some, some_value, true_is_false}
 use Rattle.std.proofs.Common.{ap, arith, inl, inr, mul-le-mul_left, refl, subst, sym, ◌∙◌}
 use Rattle.std.proofs.lemmas.Bool.Decides.{nat_tests}
 use Rattle.std.proofs.lemmas.List.{drop-append-le, drop_at, length-append, length-drop, take-append-le, take_all}
-use Rattle.std.specs.Prelude.{Bool, List, None, Option, Some, drop, false, filter, if◌then◌else◌, length, slice_get, suc, take, true, zero, [], ℕ, ◌*◌, ◌++◌, ◌+◌, ◌-◌, ◌<◌, ◌==◌, ◌∷◌, ◌≡◌, ◌≤◌, ◌⊎◌}
+use Rattle.std.specs.Prelude.{Bool, List, Option, Some, drop, false, filter, if◌then◌else◌, length, slice_get, suc, take, true, zero, [], ℕ, ◌*◌, ◌++◌, ◌+◌, ◌<◌, ◌==◌, ◌∷◌, ◌≡◌, ◌≤◌, ◌⊎◌}
+
+pub at_least_none : (n : ℕ) → 0 ≤ n
+at_least_none n = omega arith
+
+pub same : (n : ℕ) → n ≤ n
+same n = omega arith
 
 -- ---- what holds of each
 

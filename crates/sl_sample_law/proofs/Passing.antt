@@ -1,10 +1,10 @@
 -- What each event leaves of the disks: at most one landing comes, now.
-use Rattle.sl_run.specs.Events.{add_landing, after_crash, after_effects, after_pass, after_reset, after_restart, after_start, after_step, after_test, change_call, complete, fated, first_change, flight_at, land_whole, next_step, sampled_more, sectors_left, take_step, torn_bytes, write_bytes}
+use Rattle.sl_run.specs.Events.{add_landing, after_crash, after_effects, after_pass, after_reset, after_restart, after_start, after_step, after_test, change_call, fated, first_change, flight_at, land_whole, next_step, sampled_more, sectors_left, take_step, torn_bytes, write_bytes}
 use Rattle.sl_run.specs.Worlds.{Course, Dropped, Landed, Landing, Machine, Torn, World, change_machine, is_in_flight, is_write_course, machine_at, stamp_now}
 use Rattle.sl_run.specs.declared.event.Event.TheVariants.{AnswerCall, Crash, Do, DropWrite, ExitOf, GiveCommand, Land, Pass, Reset, Restart, Sample, SpawnedOf, StartDaemon, Tear, Test, WakeUp}
 use Rattle.sl_run.specs.declared.event.Event.{Event}
 use Rattle.sl_run_law.specs.Fates.{Every}
-use Rattle.sl_sample_law.proofs.Numbering.{every_front, every_so}
+use Rattle.sl_sample_law.proofs.Numbering.{every_front, every_so, same}
 use Rattle.sl_sample_law.proofs.Reading.{HasLandings}
 use Rattle.sl_sample_law.proofs.Seeing.{IsBetween, Onward}
 use Rattle.sl_trace.specs.declared.effects.Call.{Call}
@@ -16,9 +16,6 @@ use Rattle.std.specs.Option.{option_map_or}
 use Rattle.std.specs.Prelude.{Bool, List, None, Option, Some, false, slice_set, true, [], ℕ, ◌++◌, ◌+◌, ◌-◌, ◌<◌, ◌∷◌, ◌≡◌, ◌≤◌}
 
 -- ---- one change after another
-
-same : (n : ℕ) → n ≤ n
-same n = omega arith
 
 more : (n d : ℕ) → n ≤ n + d
 more n d = omega arith
@@ -143,21 +140,6 @@ first_onward (Crash m) w = onward_changed m after_crash w
 first_onward (Reset m) w = onward_changed m (after_reset w) w
 first_onward (Restart m) w = onward_changed m (after_restart w) w
 
--- ---- the daemon's step
-
--- The step's machine has changed, and its step is not over.
-abbrev pub within_step : ℕ → Option Input → Effects → World → World
-within_step m None fx v = change_machine m (λ a. after_effects (stamp_now v a) fx a) v
-within_step m (Some i) fx v = change_machine m (λ a. after_step (stamp_now v a) i fx a) v
-
-pub step_over : (m : ℕ) (o : Option Input) (fx : Effects) (v : World) → take_step m o fx v ≡ next_step (within_step m o fx v)
-step_over m None fx v = refl
-step_over m (Some i) fx v = refl
-
-pub onward_within : (m : ℕ) (o : Option Input) (fx : Effects) (v : World) → Onward v (within_step m o fx v)
-onward_within m None fx v = onward_changed m (λ a. after_effects (stamp_now v a) fx a) v
-onward_within m (Some i) fx v = onward_changed m (λ a. after_step (stamp_now v a) i fx a) v
-
 -- ---- what has landed
 
 old_past : (w v : World) (l : Landing) → Onward w v → (l.step < w.step) × (l.moment ≤ w.moment) → (l.step < v.step + 1) × (l.moment ≤ v.moment)
@@ -179,3 +161,22 @@ landings_over w v o h =
           (every_so (IsBetween w v) P o.newer (λ l b. new_past w v l b) o.each)
           (every_so (λ l. (l.step < w.step) × (l.moment ≤ w.moment)) P w.landings (λ l b. old_past w v l o b) h.landed));
     }
+
+-- ---- the daemon's step
+
+-- The world after a step.
+pub record StepOver (v u : World) : Type 0 where
+  pub onward : Onward v u
+  pub later : v.step < u.step
+  pub landings : HasLandings v → HasLandings u
+
+over : (v u : World) → Onward v u → StepOver v (next_step u)
+over v u o = record { onward = onward_again v u (next_step u) o (onward_stepped u); later = omega (arith, o.step); landings = landings_over v u o }
+
+pub step_over : (m : ℕ) (o : Option Input) (fx : Effects) (v : World) → StepOver v (take_step m o fx v)
+step_over m None fx v =
+    let f : Machine → Machine = λ a. after_effects (stamp_now v a) fx a in
+    over v (change_machine m f v) (onward_changed m f v)
+step_over m (Some i) fx v =
+    let f : Machine → Machine = λ a. after_step (stamp_now v a) i fx a in
+    over v (change_machine m f v) (onward_changed m f v)

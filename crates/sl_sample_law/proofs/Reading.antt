@@ -1,18 +1,17 @@
 -- A read that samples more sees what it samples.
-use Rattle.sl_area.specs.Places.{sector_of}
-use Rattle.sl_run.specs.Events.{is_read_course, next_step, rest_sampled, sample_at, sampled_more, sectors_of}
-use Rattle.sl_run.specs.Worlds.{Course, Landing, Sampling, Stamp, World, content, first_landing, history_of, initial_bytes, landed_at, sector_size}
+use Rattle.sl_run.specs.Events.{next_step, sample_at, sampled_more, sectors_of}
+use Rattle.sl_run.specs.Worlds.{Course, Landing, Sampling, World, content, first_landing, history_of, landed_at, sector_size}
 use Rattle.sl_run_law.specs.Fates.{Every}
-use Rattle.sl_sample_law.proofs.Numbering.{newest_number, number_below, one_behind, sector_behind, sector_stays}
+use Rattle.sl_sample_law.proofs.Numbering.{at_least_none, newest_number, number_below, one_behind, same, sector_behind, sector_stays}
 use Rattle.sl_sample_law.proofs.Seeing.{Sees}
-use Rattle.sl_sample_law.specs.Samples.{IsSampleOf, numbered_landing, sector_place}
+use Rattle.sl_sample_law.specs.Samples.{IsSampleOf, numbered_landing}
 use Rattle.sl_trace.specs.Traces.{same_place}
 use Rattle.sl_words.proofs.CaseLaws.{none_some}
 use Rattle.std.proofs.Common.{ap, arith, inl, inr, refl, subst, sym, ◌∙◌}
 use Rattle.std.proofs.lemmas.List.{append-nil, append_assoc, length-append}
 use Rattle.std.proofs.lemmas.Option.{slice_get_within}
 use Rattle.std.specs.List.{range_with_len}
-use Rattle.std.specs.Prelude.{Bool, List, None, Option, Some, false, filter, find, flat_map, if◌then◌else◌, length, map, slice_get, suc, true, zero, [], ℕ, ◌*◌, ◌++◌, ◌+◌, ◌-◌, ◌<◌, ◌∷◌, ◌≡◌, ◌≤◌, ◌⊎◌}
+use Rattle.std.specs.Prelude.{Bool, List, None, Some, false, filter, find, flat_map, if◌then◌else◌, length, map, slice_get, suc, true, zero, [], ℕ, ◌*◌, ◌++◌, ◌+◌, ◌<◌, ◌∷◌, ◌≡◌, ◌≤◌}
 
 -- ---- the newest of a place
 
@@ -61,9 +60,6 @@ newest_of first step moment p (x ∷ ls) this each =
     let n = newest_by first step moment p x ls (p x) each.0 (newest_of first step moment p ls this each.1) in
     record { landing = n.0; seen = n.1; bytes = n.2; came = (n.3, n.4) }
 
-at_least_none : (n : ℕ) → 0 ≤ n
-at_least_none n = omega arith
-
 newest : (w : World) (path : List ℕ) (offset : ℕ) → HasLandings w → IsNewest w path offset
 newest w path offset h =
     let n = newest_of (first_landing w path offset) w.step w.moment (λ l. same_place l.path l.offset path offset) w.landings (h.begun, at_least_none w.moment) h.landed in
@@ -105,9 +101,6 @@ below_sum a n h = omega (arith, h)
 
 not_full : (a n : ℕ) → a < n → a ≡ n → ⊥
 not_full a n h k = omega (arith, h, k)
-
-same_moment : (n : ℕ) → n ≤ n
-same_moment n = omega arith
 
 just_below : (n : ℕ) → n < n + 1
 just_below n = omega arith
@@ -156,7 +149,7 @@ sees_one w c may room h =
       past = λ k t at.
           elim (one_behind c.samples s k t at) as (λ z. (t.step < w.step + 1) × (t.moment ≤ w.moment)) [
             | inl old ↦ h.past k t old
-            | inr new ↦ subst (λ (x : Sampling). (x.step < w.step + 1) × (x.moment ≤ w.moment)) new.1 (just_below w.step, same_moment w.moment)
+            | inr new ↦ subst (λ (x : Sampling). (x.step < w.step + 1) × (x.moment ≤ w.moment)) new.1 (just_below w.step, same w.moment)
           ];
       shows = λ k t at.
           elim (one_behind c.samples s k t at) as (λ z. IsSampleOf (next_step w) (one_more w c) k t) [

@@ -1,17 +1,17 @@
 -- What is kept of each call: its samples are of its first sectors, in order, and each shows what was the newest.
 use Rattle.sl_area.specs.Places.{sector_of}
-use Rattle.sl_run.specs.Events.{is_read_course, next_step, rest_sampled, sample_at, sampled_more, sectors_of}
-use Rattle.sl_run.specs.Worlds.{Course, Landing, Sampling, Stamp, World, content, first_landing, history_of, initial_bytes, landed_at, sector_size}
+use Rattle.sl_run.specs.Events.{is_read_course, sectors_of}
+use Rattle.sl_run.specs.Worlds.{Course, Landing, Sampling, World, first_landing, history_of, initial_bytes}
 use Rattle.sl_run.specs.declared.header.Header.{Header}
 use Rattle.sl_area.specs.Layouts.{Layout}
 use Rattle.sl_run_law.specs.Fates.{Every}
-use Rattle.sl_sample_law.proofs.Numbering.{every_kept, number_from, number_stays}
+use Rattle.sl_sample_law.proofs.Numbering.{every_kept, every_so, number_from, number_stays}
 use Rattle.sl_sample_law.specs.Samples.{IsSampleOf, numbered_landing, sector_place}
 use Rattle.sl_trace.specs.Traces.{same_place}
-use Rattle.std.proofs.Common.{ap, arith, inl, inr, refl, subst, sym, ◌∙◌}
+use Rattle.std.proofs.Common.{ap, arith, inl, inr, sym, ◌∙◌}
 use Rattle.std.proofs.lemmas.List.{append_assoc}
 use Rattle.std.proofs.lemmas.List.Elements.{filter-append}
-use Rattle.std.specs.Prelude.{Bool, List, None, Option, Some, filter, length, slice_get, true, [], ℕ, ◌*◌, ◌++◌, ◌+◌, ◌-◌, ◌<◌, ◌∷◌, ◌≡◌, ◌≤◌, ◌⊎◌}
+use Rattle.std.specs.Prelude.{Bool, List, None, Some, filter, length, slice_get, true, [], ℕ, ◌*◌, ◌++◌, ◌+◌, ◌<◌, ◌∷◌, ◌≡◌, ◌≤◌}
 
 -- ---- what is kept
 
@@ -107,3 +107,6 @@ sees_later w v c o h =
       past = λ k s at. let p = h.past k s at in before_more s.step w.step v.step s.moment w.moment v.moment p.0 o.step p.1 o.moment;
       shows = λ k s at. sample_stays w v c k s o (h.past k s at) (h.shows k s at);
     }
+
+pub all_later : (w v : World) (cs : List Course) → Onward w v → Every (Sees w) cs → Every (Sees v) cs
+all_later w v cs o h = every_so (Sees w) (Sees v) cs (λ c s. sees_later w v c o s) h
