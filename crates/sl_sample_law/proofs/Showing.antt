@@ -58,7 +58,7 @@ first_sized p h now run path offset =
     (initial_sized p.digest run.digest h path offset run.header))
 
 -- Each place holds a whole sector.
-content_sized : LandingsAreSectors → (p : Program) (h : Header) (now : List Happening) → LawfulRun p h now → (path : List ℕ) (offset : ℕ)
+pub content_sized : LandingsAreSectors → (p : Program) (h : Header) (now : List Happening) → LawfulRun p h now → (path : List ℕ) (offset : ℕ)
     → length (content (world_at p h now) path offset) ≡ (world_at p h now).layout.sector
 content_sized sectors p h now run path offset =
     let w : World = world_at p h now in
@@ -117,7 +117,7 @@ every_has P (y ∷ xs) x has each =
     elim (contains_cases y xs x has) as (λ z. P x) [ inl same ↦ subst P same each.0 | inr more ↦ every_has P xs x more each.1 ]
 
 -- Each call of a lawful run is seen.
-call_seen : CallsAreDistinct → LandingsAreSectors → (p : Program) (h : Header) (xs : List Happening) → LawfulRun p h xs → (m : ℕ) (a : Machine) (c : Course)
+pub call_seen : CallsAreDistinct → LandingsAreSectors → (p : Program) (h : Header) (xs : List Happening) → LawfulRun p h xs → (m : ℕ) (a : Machine) (c : Course)
     → machine_at (world_at p h xs) m ≡ Some a → Contains a.calls c → Sees (world_at p h xs) c
 call_seen distinct sectors p h xs run m a c at has =
     let w : World = world_at p h xs in
