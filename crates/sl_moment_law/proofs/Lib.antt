@@ -1,0 +1,5 @@
+pub mod Keeping
+pub mod Adding
+pub mod Landing
+pub mod Beginning
+pub mod Following
