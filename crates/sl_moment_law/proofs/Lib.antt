@@ -3,3 +3,4 @@ pub mod Adding
 pub mod Landing
 pub mod Beginning
 pub mod Following
+pub mod Waiting

@@ -1,6 +1,7 @@
 //! What a lawful run promises of moments and clocks.
 
 ghost use Rattle.sl_moment_law.specs.Moments.{KeptIsPast, MomentsFollowSteps, StampsDrift, StampsDriftToNow};
+ghost use Rattle.sl_moment_law.specs.Waits.{ClaimsAreBounded, DeadWaits, JoinMaxWaits, PendingAreBounded, SilencesAreLong, TakeOverWaits, VerifyReadsAreLate, WatchesAreLong};
 
 /// Of two things the one with the lesser step came first.
 pub fn moments_follow_steps()
@@ -20,4 +21,46 @@ pub fn stamps_drift()
 /// So it does between a stamp and now.
 pub fn stamps_drift_to_now()
     ensures { StampsDriftToNow }
+{}
+
+// ---- waits
+
+/// A wait of `dead` on a machine's clock lasts longer than `gone`.
+pub fn dead_waits()
+    ensures { DeadWaits }
+{}
+
+/// A watch of `take_over` lasts longer than `hold` and `gone`.
+pub fn take_over_waits()
+    ensures { TakeOverWaits }
+{}
+
+/// At most `join_max` lasts less than `hold`.
+pub fn join_max_waits()
+    ensures { JoinMaxWaits }
+{}
+
+/// The verify read is sampled more than `gone` after the claim landed.
+pub fn verify_reads_are_late()
+    ensures { VerifyReadsAreLate }
+{}
+
+/// The deciding read is sampled more than `hold` and `gone` after the first of the watch.
+pub fn watches_are_long()
+    ensures { WatchesAreLong }
+{}
+
+/// The last read of a silence is sampled more than `gone` after its first.
+pub fn silences_are_long()
+    ensures { SilencesAreLong }
+{}
+
+/// A session that verifies its claim acts for a bounded time after it claimed.
+pub fn claims_are_bounded()
+    ensures { ClaimsAreBounded }
+{}
+
+/// A claim that may still land was decided a bounded time ago.
+pub fn pending_are_bounded()
+    ensures { PendingAreBounded }
 {}
