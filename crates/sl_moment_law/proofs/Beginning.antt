@@ -46,11 +46,16 @@ one_stamp p g h m = (
   refl,
 )
 
-each_first : (t : ℕ → Stamp) (f : ℕ → Machine) (k n i : ℕ) (a : Machine) → ((m : ℕ) → OneStamp t m (f m)) → slice_get (map f (range_with_len k n)) i ≡ Some a
-    → (j : ℕ) × OneStamp t j a
-each_first t f k zero i a each h = absurd (none_some a h)
-each_first t f k (suc n) zero a each h = (k, subst (OneStamp t k) (some_value (f k) a h) (each k))
-each_first t f k (suc n) (suc i) a each h = each_first t f (k + 1) n i a each h
+-- What each machine of the header is, each machine of the first world is.
+all_are : (P : Machine → Type 0) (f : ℕ → Machine) (k n i : ℕ) (a : Machine) → ((m : ℕ) → P (f m)) → slice_get (map f (range_with_len k n)) i ≡ Some a → P a
+all_are P f k zero i a each h = absurd (none_some a h)
+all_are P f k (suc n) zero a each h = subst P (some_value (f k) a h) (each k)
+all_are P f k (suc n) (suc i) a each h = all_are P f (k + 1) n i a each h
+
+pub first_machines : (P : Machine → Type 0) (p : Program) (h : Header) → ((m : ℕ) → P (machine_of_header p (layout_with p.digest h.geometry) h m)) → (m : ℕ) (a : Machine)
+    → machine_at (world_with p h) m ≡ Some a → P a
+first_machines P p h each m a at =
+    all_are P (machine_of_header p (layout_with p.digest h.geometry) h) 1 h.machines (m - 1) a each (index (world_with p h) m a at).1
 
 -- What a stamp of the first world is.
 pub record IsFirst (a : Machine) (s : Stamp) : Type 0 where
@@ -61,7 +66,7 @@ pub record IsFirst (a : Machine) (s : Stamp) : Type 0 where
 pub stamps_first : (p : Program) (h : Header) (m : ℕ) (a : Machine) (s : Stamp) → machine_at (world_with p h) m ≡ Some a → Contains (stamps_on a) s → IsFirst a s
 stamps_first p h m a s at has =
     let g : Layout = layout_with p.digest h.geometry in
-    let one = each_first (first_stamp h) (machine_of_header p g h) 1 h.machines (m - 1) a (one_stamp p g h) (index (world_with p h) m a at).1 in
+    let one = first_machines (λ b. (n : ℕ) × OneStamp (first_stamp h) n b) p h (λ n. (n, one_stamp p g h n)) m a at in
     let e : first_stamp h one.0 ≡ s = one.1.0 s has in
     record { step = sym (ap (λ (x : Stamp). x.step) e); moment = sym (ap (λ (x : Stamp). x.moment) e); clock = sym (ap (λ (x : Stamp). x.clock) e) ∙ sym one.1.1 }
 

@@ -4,3 +4,5 @@ pub mod Landing
 pub mod Beginning
 pub mod Following
 pub mod Waiting
+pub mod Stamps
+pub mod Ordering

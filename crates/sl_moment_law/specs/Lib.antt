@@ -1,2 +1,3 @@
 pub mod Moments
 pub mod Waits
+pub mod Orders

@@ -1,6 +1,7 @@
 //! What a lawful run promises of moments and clocks.
 
 ghost use Rattle.sl_moment_law.specs.Moments.{KeptIsPast, MomentsFollowSteps, StampsDrift, StampsDriftToNow};
+ghost use Rattle.sl_moment_law.specs.Orders.{EntriesAreInOrder, EntriesAreWaits, MachinesAreInOrder};
 ghost use Rattle.sl_moment_law.specs.Waits.{ClaimsAreBounded, DeadWaits, JoinMaxWaits, PendingAreBounded, SilencesAreLong, TakeOverWaits, VerifyReadsAreLate, WatchesAreLong};
 
 /// Of two things the one with the lesser step came first.
@@ -63,4 +64,21 @@ pub fn claims_are_bounded()
 /// A claim that may still land was decided a bounded time ago.
 pub fn pending_are_bounded()
     ensures { PendingAreBounded }
+{}
+
+// ---- order
+
+/// What a machine keeps is in the order of the steps.
+pub fn machines_are_in_order()
+    ensures { MachinesAreInOrder }
+{}
+
+/// The entries of a daemon come at later and later steps.
+pub fn entries_are_in_order()
+    ensures { EntriesAreInOrder }
+{}
+
+/// Two entries of a daemon are a wait.
+pub fn entries_are_waits()
+    ensures { EntriesAreWaits }
 {}
