@@ -27,11 +27,11 @@ use Rattle.std.specs.Prelude.{Contains, IsTrue, List, Some, [], ℕ, ◌*◌, �
 -- ---- one event
 
 -- A machine after an event: it was there before, and what it keeps more is new.
-record Was (rho : ℕ) (w v : World) (m : ℕ) (b : Machine) : Type 0 where
-  machine : Machine
-  at : machine_at w m ≡ Some machine
-  adds : Adds (Between w.step v.step v.moment) machine b
-  goes : Precedes rho (point_now w machine) (point_now v b)
+pub record Was (rho : ℕ) (w v : World) (m : ℕ) (b : Machine) : Type 0 where
+  pub machine : Machine
+  pub at : machine_at w m ≡ Some machine
+  pub adds : Adds (Between w.step v.step v.moment) machine b
+  pub goes : Precedes rho (point_now w machine) (point_now v b)
 
 precedes_by : (rho d : ℕ) (p q : Point) → q.moment ≡ p.moment + d → p.clock + (1000 - rho) * d ≤ q.clock → q.clock ≤ p.clock + (1000 + rho) * d → Precedes rho p q
 precedes_by rho d p q e low high =
@@ -58,15 +58,15 @@ was w e fxs counted may m b at =
     }
 
 -- A world after an event.
-record Follows (rho : ℕ) (w v : World) : Type 0 where
-  header : v.header ≡ w.header
-  counted : IsCounted v
-  step : w.step ≤ v.step
-  moment : w.moment ≤ v.moment
-  machines : (m : ℕ) (b : Machine) → machine_at v m ≡ Some b → Was rho w v m b
-  lands : Lands (Between w.step v.step v.moment) w v
+pub record Follows (rho : ℕ) (w v : World) : Type 0 where
+  pub header : v.header ≡ w.header
+  pub counted : IsCounted v
+  pub step : w.step ≤ v.step
+  pub moment : w.moment ≤ v.moment
+  pub machines : (m : ℕ) (b : Machine) → machine_at v m ≡ Some b → Was rho w v m b
+  pub lands : Lands (Between w.step v.step v.moment) w v
 
-follows : (w : World) (e : Event) (fxs : List Effects) → IsCounted w → IsTrue (may_happen w e) → Follows w.header.timing.rho w (happens w e fxs)
+pub follows : (w : World) (e : Event) (fxs : List Effects) → IsCounted w → IsTrue (may_happen w e) → Follows w.header.timing.rho w (happens w e fxs)
 follows w e fxs counted may =
     let g = event_goes w e fxs in
     record {
@@ -80,13 +80,13 @@ follows w e fxs counted may =
 
 -- ---- what is kept after it was kept before, or is new
 
-abbrev OldOrNew : World → World → ℕ → ℕ → Type 0
+abbrev pub OldOrNew : World → World → ℕ → ℕ → Type 0
 OldOrNew w v s m = IsKept w s m ⊎ Between w.step v.step v.moment s m
 
 new_at : (w v : World) (s m s' m' : ℕ) → s' ≡ s → m' ≡ m → Between w.step v.step v.moment s' m' → OldOrNew w v s m
 new_at w v s m s' m' is at new = inr (subst (λ n. Between w.step v.step v.moment s n) at (subst (λ n. Between w.step v.step v.moment n m') is new))
 
-kept_before : (rho : ℕ) (w v : World) (s m : ℕ) → Follows rho w v → IsKept v s m → OldOrNew w v s m
+pub kept_before : (rho : ℕ) (w v : World) (s m : ℕ) → Follows rho w v → IsKept v s m → OldOrNew w v s m
 kept_before rho w v s m f (Of_landing l has is at) =
     elim (f.lands l has) as (λ z. OldOrNew w v s m) [
       | inl old ↦ inl (Of_landing l old is at)
@@ -109,14 +109,14 @@ kept_before rho w v s m f (At_first is at) = inl (At_first is at)
 -- ---- the invariant
 
 -- What is said of a world with a header of this drift.
-record Keeps (h : Header) (w : World) : Type 0 where
-  header : w.header ≡ h
-  counted : IsCounted w
-  past : (s m : ℕ) → IsKept w s m → (s < w.step) × (m ≤ w.moment)
-  order : (s t m n : ℕ) → IsKept w s m → IsKept w t n → s ≤ t → m ≤ n
-  drift : (m : ℕ) (a : Machine) (s t : Stamp) → machine_at w m ≡ Some a → Contains (stamps_on a) s → Contains (stamps_on a) t → s.step ≤ t.step
+pub record Keeps (h : Header) (w : World) : Type 0 where
+  pub header : w.header ≡ h
+  pub counted : IsCounted w
+  pub past : (s m : ℕ) → IsKept w s m → (s < w.step) × (m ≤ w.moment)
+  pub order : (s t m n : ℕ) → IsKept w s m → IsKept w t n → s ≤ t → m ≤ n
+  pub drift : (m : ℕ) (a : Machine) (s t : Stamp) → machine_at w m ≡ Some a → Contains (stamps_on a) s → Contains (stamps_on a) t → s.step ≤ t.step
       → Precedes h.timing.rho (point_of s) (point_of t)
-  now : (m : ℕ) (a : Machine) (s : Stamp) → machine_at w m ≡ Some a → Contains (stamps_on a) s → Precedes h.timing.rho (point_of s) (point_now w a)
+  pub now : (m : ℕ) (a : Machine) (s : Stamp) → machine_at w m ≡ Some a → Contains (stamps_on a) s → Precedes h.timing.rho (point_of s) (point_now w a)
 
 past_next : (rho : ℕ) (h : Header) (w v : World) → Follows rho w v → Keeps h w → (s m : ℕ) → IsKept v s m → (s < v.step) × (m ≤ v.moment)
 past_next rho h w v f k s m is =
@@ -140,7 +140,7 @@ point_is p q e f =
     ap at e ∙ ap showing f
 
 -- A new stamp is now.
-now_is : (w v : World) (b : Machine) (s : Stamp) → IsNow (Between w.step v.step v.moment) b.clock s → point_now v b ≡ point_of s
+pub now_is : (w v : World) (b : Machine) (s : Stamp) → IsNow (Between w.step v.step v.moment) b.clock s → point_now v b ≡ point_of s
 now_is w v b s new = sym (point_is (point_of s) (point_now v b) new.0.2 new.1)
 
 old_to_now : (h : Header) (w v : World) (m : ℕ) (b : Machine) (s : Stamp) (x : Was h.timing.rho w v m b) → Keeps h w → Contains (stamps_on x.machine) s
@@ -212,7 +212,7 @@ keeps_first p h =
       now = λ m a s at has. subst (λ q. Precedes rho (point_of s) q) (at_first p h m a s at has) (clocks_drift.same rho (point_of s));
     }
 
-keeps : (p : Program) (h : Header) (xs : List Happening) → LawfulRun p h xs → Keeps h (world_at p h xs)
+pub keeps : (p : Program) (h : Header) (xs : List Happening) → LawfulRun p h xs → Keeps h (world_at p h xs)
 keeps p h xs run = keeps_on h (world_with p h) xs run.is_run (keeps_first p h)
 
 -- ---- the laws

@@ -6,3 +6,4 @@ pub mod Following
 pub mod Waiting
 pub mod Stamps
 pub mod Ordering
+pub mod Later

@@ -1,5 +1,6 @@
 //! What a lawful run promises of moments and clocks.
 
+ghost use Rattle.sl_moment_law.specs.Fronts.{FrontsGoOn, MomentsFollowFronts, StampsDriftFromFronts};
 ghost use Rattle.sl_moment_law.specs.Moments.{KeptIsPast, MomentsFollowSteps, StampsDrift, StampsDriftToNow};
 ghost use Rattle.sl_moment_law.specs.Orders.{EntriesAreInOrder, EntriesAreWaits, MachinesAreInOrder};
 ghost use Rattle.sl_moment_law.specs.Waits.{ClaimsAreBounded, DeadWaits, JoinMaxWaits, PendingAreBounded, SilencesAreLong, TakeOverWaits, VerifyReadsAreLate, WatchesAreLong};
@@ -81,4 +82,21 @@ pub fn entries_are_in_order()
 /// Two entries of a daemon are a wait.
 pub fn entries_are_waits()
     ensures { EntriesAreWaits }
+{}
+
+// ---- from a front on
+
+/// What is kept later was kept at the front, or is of later.
+pub fn fronts_go_on()
+    ensures { FrontsGoOn }
+{}
+
+/// Moments follow steps between a front and later.
+pub fn moments_follow_fronts()
+    ensures { MomentsFollowFronts }
+{}
+
+/// Clocks drift within their bounds between a front and later.
+pub fn stamps_drift_from_fronts()
+    ensures { StampsDriftFromFronts }
 {}
