@@ -1,0 +1,5 @@
+pub mod Listing
+pub mod Guarding
+pub mod Arriving
+pub mod Passing
+pub mod Ordering
