@@ -99,7 +99,7 @@ flies_on w m c f h = flight_by w m c f (machine_at w m) refl h
 pub flight_there : (w : World) (m c : ℕ) (a : Machine) (f : Course) → machine_at w m ≡ Some a → flight_of a c ≡ Some f → flight_at w m c ≡ Some f
 flight_there w m c a f at flies = ap (λ (o : Option Machine). option_and_then (λ b. flight_of b c) o) at ∙ flies
 
-landed_with : (w : World) (m c : ℕ) (fate : Fate) (f : Call) (whole : Bool) (bytes : List ℕ)
+pub landed_with : (w : World) (m c : ℕ) (fate : Fate) (f : Call) (whole : Bool) (bytes : List ℕ)
     → (change_machine m (change_call c (fated fate)) (add_landing m f whole bytes w)).landings ≡ landing_of w m f whole bytes ∷ w.landings
 landed_with w m c fate f whole bytes = changed_landings m (change_call c (fated fate)) (add_landing m f whole bytes w)
 

@@ -3,3 +3,6 @@ pub mod Guarding
 pub mod Arriving
 pub mod Passing
 pub mod Ordering
+pub mod Turning
+pub mod Stepping
+pub mod Remaining
