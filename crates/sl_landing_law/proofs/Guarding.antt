@@ -83,3 +83,13 @@ drop_ended w m c a f may h j =
     let g : Machine → Course → List (Bool × Refusal) = λ b x. (is_of_running b x || not (is_in_flight x.fate), MissingFlight) ∷ [] in
     or_first (is_of_running a f) (not (is_in_flight f.fate))
     (on_course a c is_write_course (g a) f j (on_this w m (λ b. on_flight b c is_write_course (g b)) a h (passes w (DropWrite m c) may))).0
+
+-- A daemon runs where a call is answered.
+pub answer_runs : (w : World) (m c : ℕ) (ok : Bool) (a : Machine) → may_happen w (AnswerCall m c ok) ≡ true → machine_at w m ≡ Some a → is_none a.daemon ≡ false
+unfolding event_tests
+answer_runs w m c ok a may h =
+    (on_this w m (λ b. needs_daemon b ∷ on_flight b c (is_of_running b) (answer_tests ok)) a h (passes w (AnswerCall m c ok) may)).0
+
+pub do_runs : (w : World) (m c : ℕ) (a : Machine) → may_happen w (Do m c) ≡ true → machine_at w m ≡ Some a → is_none a.daemon ≡ false
+unfolding event_tests
+do_runs w m c a may h = (on_this w m (λ b. needs_daemon b ∷ on_flight b c (is_of_running b) (done_tests w)) a h (passes w (Do m c) may)).0

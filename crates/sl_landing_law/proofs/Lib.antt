@@ -6,3 +6,7 @@ pub mod Ordering
 pub mod Turning
 pub mod Stepping
 pub mod Remaining
+pub mod Initial
+pub mod Running
+pub mod Spelled
+pub mod Sizing

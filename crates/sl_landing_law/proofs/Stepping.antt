@@ -100,7 +100,7 @@ closed v m Wake a = turned_same (Step v m (Some Wake) m a) a a (step_still v m (
 closed v m (Exit p) a = turned_same (Step v m (Some (Exit p)) m a) a a (step_still v m (Some (Exit p)) m a) refl
 closed v m (Spawned p ok) a = turned_same (Step v m (Some (Spawned p ok)) m a) a a (step_still v m (Some (Spawned p ok)) m a) refl
 
-same_daemon : (now : Stamp) (i : Input) (a : Machine) → (close_answered now i a).daemon ≡ a.daemon
+pub same_daemon : (now : Stamp) (i : Input) (a : Machine) → (close_answered now i a).daemon ≡ a.daemon
 same_daemon now (Line text) a = refl
 same_daemon now (Told n answer) a = refl
 same_daemon now Wake a = refl
