@@ -10,3 +10,6 @@ pub mod Initial
 pub mod Running
 pub mod Spelled
 pub mod Sizing
+pub mod Making
+pub mod Writers
+pub mod Once

@@ -77,7 +77,7 @@ turn_sampled : (w : World) (e : Event) (m : ℕ) (a : Machine) (k : ℕ) (c : Co
 turn_sampled w e m a k c = record { call = refl; daemon = refl; made = refl; answered = refl; done = refl; fate = inl refl }
 
 -- The call that flies has the number.
-flight_number : (a : Machine) (n : ℕ) (f : Course) → flight_of a n ≡ Some f → f.call.number ≡ n
+pub flight_number : (a : Machine) (n : ℕ) (f : Course) → flight_of a n ≡ Some f → f.call.number ≡ n
 flight_number a n f h =
     let p = found_in (λ x. x.call.number == n && is_open a x) a.calls f h in
     (Decides-eqb f.call.number n).0 (and_true (f.call.number == n) (is_open a f) p.1).0
