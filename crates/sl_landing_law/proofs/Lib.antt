@@ -13,3 +13,4 @@ pub mod Sizing
 pub mod Making
 pub mod Writers
 pub mod Once
+pub mod Owning

@@ -89,7 +89,7 @@ asked w e =
       restart = λ m is a h i k. refl;
     }
 
-stays_running : (w : World) (e : Event) → EachMachine (StaysRunning w e) w (first_change e w)
+pub stays_running : (w : World) (e : Event) → EachMachine (StaysRunning w e) w (first_change e w)
 stays_running w e = each_first (StaysRunning w e) e w (λ none m a i h. refl) (asked w e)
 
 -- ---- its entry
