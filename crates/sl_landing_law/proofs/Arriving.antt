@@ -19,7 +19,7 @@ set_here [] i x a h = absurd (none_some a h)
 set_here (y ∷ ms) zero x a h = refl
 set_here (y ∷ ms) (suc i) x a h = set_here ms i x a h
 
-at_by : (b : Bool) (o : Option Machine) (a : Machine) → b ≡ false → o ≡ Some a → (if b then None else o) ≡ Some a
+pub at_by : (b : Bool) (o : Option Machine) (a : Machine) → b ≡ false → o ≡ Some a → (if b then None else o) ≡ Some a
 at_by true o a h k = absurd (true_is_false h)
 at_by false o a h k = k
 

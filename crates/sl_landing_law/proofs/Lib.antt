@@ -14,3 +14,4 @@ pub mod Making
 pub mod Writers
 pub mod Once
 pub mod Owning
+pub mod Done

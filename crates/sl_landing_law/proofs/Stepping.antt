@@ -1,4 +1,5 @@
 -- What a daemon's step makes of its machine's calls: one may be answered, and new ones come. And the event as a whole.
+use Rattle.sl_landing_law.proofs.Arriving.{at_by}
 use Rattle.sl_landing_law.proofs.Listing.{made_calls, old_or_made, stays_made}
 use Rattle.sl_landing_law.proofs.Passing.{event_goes_on, world_first, world_then}
 use Rattle.sl_landing_law.proofs.Turning.{Turn, Turned, first_turns, turned_call, turned_same}
@@ -13,10 +14,10 @@ use Rattle.sl_trace.specs.declared.effects.Effects.{Effects}
 use Rattle.sl_trace.specs.declared.input.Answer.{Answer}
 use Rattle.sl_trace.specs.declared.input.Input.TheVariants.{Answer as Told, Exit, Line, Spawned, Wake}
 use Rattle.sl_trace.specs.declared.input.Input.{Input}
-use Rattle.sl_words.proofs.CaseLaws.{one_value, true_is_false}
+use Rattle.sl_words.proofs.CaseLaws.{one_value}
 use Rattle.std.proofs.Common.{ap, arith, inl, inr, refl, subst, sym}
 use Rattle.std.proofs.lemmas.Bool.Decides.{Decides-eqb}
-use Rattle.std.specs.Prelude.{Bool, Contains, List, None, Option, Some, false, if◌then◌else◌, length, slice_get, suc, true, zero, [], ℕ, ◌-◌, ◌<◌, ◌==◌, ◌∷◌, ◌≡◌, ◌⊎◌}
+use Rattle.std.specs.Prelude.{Contains, List, Option, Some, length, slice_get, suc, true, zero, [], ℕ, ◌-◌, ◌<◌, ◌==◌, ◌∷◌, ◌≡◌, ◌⊎◌}
 
 -- ---- the step
 
@@ -146,10 +147,6 @@ got_at [] i h = absurd (omega (arith, h))
 got_at (a ∷ ms) zero h = (a, refl)
 got_at (a ∷ ms) (suc i) h = got_at ms i (omega (arith, h))
 
-there_by : (b : Bool) (o : Option Machine) (a : Machine) → b ≡ false → o ≡ Some a → (if b then None else o) ≡ Some a
-there_by true o a h k = absurd (true_is_false h)
-there_by false o a h k = k
-
 -- Where a machine comes from.
 pub record Came (w : World) (e : Event) (fx : Effects) (m : ℕ) (b : Machine) : Type 0 where
   pub before : Machine
@@ -161,6 +158,6 @@ came w e fx m b may at =
     let u : World = world_then w e fx in
     let less : m - 1 < length w.machines = omega (arith, (number_within u m b at).0, (event_goes_on w e fx).machines) in
     let a = got_at w.machines (m - 1) less in
-    let there : machine_at w m ≡ Some a.0 = there_by (m == 0) (slice_get w.machines (m - 1)) a.0 (index u m b at).0 a.1 in
+    let there : machine_at w m ≡ Some a.0 = at_by (m == 0) (slice_get w.machines (m - 1)) a.0 (index u m b at).0 a.1 in
     let p = event_makes w e fx may m a.0 there in
     record { before = a.0; at = there; passage = subst (Passage w e fx m a.0) (one_value p.0 b (machine_at u m) p.1 at) p.2 }

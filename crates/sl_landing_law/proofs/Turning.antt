@@ -110,7 +110,7 @@ complete_by : (w : World) (m n : ℕ) (f : Course) (o : Option Course) → o ≡
     ] ≡ land_whole m n w
 complete_by w m n f o is writes waits = rw is (rw writes (rw waits refl))
 
-do_is : (w : World) (m n : ℕ) (a : Machine) (f : Course) (e : Event) → e ≡ Do m n → machine_at w m ≡ Some a → flight_of a n ≡ Some f → is_write_course f ≡ true
+pub do_is : (w : World) (m n : ℕ) (a : Machine) (f : Course) (e : Event) → e ≡ Do m n → machine_at w m ≡ Some a → flight_of a n ≡ Some f → is_write_course f ≡ true
     → is_in_flight f.fate ≡ true → first_change e w ≡ land_whole m n w
 unfolding first_change
 do_is w m n a f e is at flies writes waits =
