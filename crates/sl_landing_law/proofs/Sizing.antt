@@ -144,3 +144,8 @@ pub are_sectors : LandingsAreSectors
 are_sectors p h xs run =
     world_keeps AreSized p h (λ l there. absurd (contains_none l there))
     (λ now x law l so. sized (world_at p h now) x.0 l.effects l.may (laid p h now l.before) (run_spells p h now l.before) so) xs run
+
+-- What stands at any place is a whole sector.
+pub content_is_sector : (p : Program) (h : Header) (xs : List Happening) → LawfulRun p h xs → (path : List ℕ) (offset : ℕ)
+    → length (content (world_at p h xs) path offset) ≡ (world_at p h xs).layout.sector
+content_is_sector p h xs run path offset = content_size (world_at p h xs) path offset (laid p h xs run) (are_sectors p h xs run)

@@ -1,5 +1,5 @@
 -- Each landing has its writer.
-use Rattle.sl_area.specs.Layouts.{Layout, sector_with}
+use Rattle.sl_area.specs.Layouts.{Layout, record_in, sector_with}
 use Rattle.sl_course_law.specs.Promises.{CallsAreDistinct}
 use Rattle.sl_landing_law.proofs.Arriving.{Arrival, IsPart, IsWhole, Lands, first_lands}
 use Rattle.sl_landing_law.proofs.Listing.{contains_map, found_in}
@@ -27,7 +27,7 @@ use Rattle.sl_words.proofs.CaseLaws.{false_is_true, none_some, some_value, true_
 use Rattle.sl_words.proofs.WordLaws.{and_true}
 use Rattle.std.proofs.Common.{ap, arith, inl, inr, refl, subst, sym, ◌∙◌}
 use Rattle.std.specs.Option.{option_map_or}
-use Rattle.std.specs.Prelude.{Bool, Contains, None, Option, Some, false, is_none, true, [], ℕ, ◌&&◌, ◌++◌, ◌<◌, ◌==◌, ◌||◌, ◌∷◌, ◌≡◌, ◌≤◌}
+use Rattle.std.specs.Prelude.{Bool, Contains, List, None, Option, Some, false, is_none, is_ok, true, [], ℕ, ◌&&◌, ◌++◌, ◌<◌, ◌==◌, ◌||◌, ◌∷◌, ◌≡◌, ◌≤◌}
 
 abbrev AreWritten : World → Type 0
 AreWritten w = (l : Landing) → Contains w.landings l → HasWriter w l
@@ -42,10 +42,13 @@ pub writer_settled : (w : World) (l : Landing) (c : Course) (r : Rec) → LeftBy
 writer_settled w l c r (inl whole) = has_settled Landed c refl whole.1
 writer_settled w l c r (inr part) = has_settled Torn c refl part.1
 
+-- What spells nothing in one world does so in the other.
+nothing_still : (w u : World) (bs : List ℕ) → u.layout ≡ w.layout → spells_something w bs ≡ false → spells_something u bs ≡ false
+nothing_still w u bs lay h = ap (λ (g : Layout). is_ok (record_in g bs)) lay ∙ h
+
 left_still : (w u : World) (l : Landing) (c d : Course) (r : Rec) → d.fate ≡ c.fate → u.layout ≡ w.layout → LeftBy w l c r → LeftBy u l d r
-left_still w u l c d r fate lay (inl whole) =
-    inl (whole.0, fate ∙ whole.1, whole.2 ∙ ap (λ (g : Layout). sector_with g r) (sym lay))
-left_still w u l c d r fate lay (inr part) = inr (part.0, fate ∙ part.1, subst (λ v. v) (ap (λ (g : Layout). spells_something (record w { layout = g }) l.bytes ≡ false) (sym lay)) part.2)
+left_still w u l c d r fate lay (inl whole) = inl (whole.0, fate ∙ whole.1, whole.2 ∙ ap (λ (g : Layout). sector_with g r) (sym lay))
+left_still w u l c d r fate lay (inr part) = inr (part.0, fate ∙ part.1, nothing_still w u l.bytes lay part.2)
 
 -- An answer comes after the landing.
 abbrev AnsweredAfter : Landing → Course → Type 0
@@ -167,8 +170,7 @@ whole_left w u v a k lay d r fate writes =
 
 part_left : (w u v : World) (a : Arrival w v) (k : IsPart w v a.machine a.number a.host a.flight a.landing) → u.layout ≡ w.layout
     → (d : Course) (r : Rec) → d.fate ≡ Torn → record_of a.flight.call.op ≡ Some r → LeftBy u a.landing d r
-part_left w u v a k lay d r fate writes =
-    inr (k.whole, fate, subst (λ v. v) (ap (λ (g : Layout). spells_something (record w { layout = g }) a.landing.bytes ≡ false) (sym lay)) k.nothing)
+part_left w u v a k lay d r fate writes = inr (k.whole, fate, nothing_still w u a.landing.bytes lay k.nothing)
 
 writer_now : (w : World) (e : Event) (fx : Effects) (a : Arrival w (first_change e w)) → AreBefore w → HasWriter (world_then w e fx) a.landing
 writer_now w e fx a earlier =
