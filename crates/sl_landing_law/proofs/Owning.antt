@@ -2,7 +2,7 @@
 use Rattle.sl_area.specs.Layouts.{Layout, layout_with}
 use Rattle.sl_course_law.specs.Promises.{CallsAreDistinct}
 use Rattle.sl_front_law.proofs.Going.{was_there}
-use Rattle.sl_landing_law.proofs.Making.{distinct_at, the_flight}
+use Rattle.sl_landing_law.proofs.Making.{distinct_at, equal_numbers, the_flight}
 use Rattle.sl_landing_law.proofs.Passing.{world_first, world_keeps, world_then}
 use Rattle.sl_landing_law.proofs.Running.{input_runs, own_makes_none, stays_running}
 use Rattle.sl_landing_law.proofs.Stepping.{IsMade, Stepped, came}
@@ -29,7 +29,7 @@ use Rattle.sl_trace.specs.declared.input.Input.TheVariants.{Answer as Told, Exit
 use Rattle.sl_trace.specs.declared.input.Input.{Input}
 use Rattle.sl_words.proofs.CaseLaws.{false_is_true, none_some, not_both, one_value, some_value}
 use Rattle.sl_words.specs.Words.{some_is}
-use Rattle.std.proofs.Common.{ap, arith, inl, inr, refl, subst, sym, tests, ◌∙◌}
+use Rattle.std.proofs.Common.{ap, arith, inl, inr, refl, subst, sym, ◌∙◌}
 use Rattle.std.specs.List.{range_with_len}
 use Rattle.std.specs.Option.{option_map_or}
 use Rattle.std.specs.Prelude.{Contains, List, None, Option, Some, false, find, is_some, length, map, option_map, slice_get, suc, true, zero, [], ℕ, ◌++◌, ◌+◌, ◌-◌, ◌<◌, ◌==◌, ◌∷◌, ◌≡◌, ◌≤◌, ◌⊎◌}
@@ -127,9 +127,7 @@ lost_by : (o : Option Daemon) (n k : ℕ) → some_is (λ d. d.number == n) o �
 lost_by None n k h is same = none_some k is
 lost_by (Some d) n k h is same =
     let e : d.number ≡ k = some_value d.number k is in
-    absurd (not_both (d.number == n) (equal (d.number) n (e ∙ same)) h) where
-      equal : (x y : ℕ) → x ≡ y → (x == y) ≡ true
-      equal x y p = grind (arith, tests)
+    not_both (d.number == n) (equal_numbers d.number n (e ∙ same)) h
 
 -- What isn't of the running daemon is of no daemon that runs.
 not_running : (a : Machine) (c : Course) → is_of_running a c ≡ false → IsLost a c
