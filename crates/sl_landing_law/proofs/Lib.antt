@@ -1,0 +1,17 @@
+pub mod Listing
+pub mod Guarding
+pub mod Arriving
+pub mod Passing
+pub mod Ordering
+pub mod Turning
+pub mod Stepping
+pub mod Remaining
+pub mod Initial
+pub mod Running
+pub mod Spelled
+pub mod Sizing
+pub mod Making
+pub mod Writers
+pub mod Once
+pub mod Owning
+pub mod Done
