@@ -9,6 +9,7 @@ use Rattle.sl_session_law.proofs.Silence.{stage_by}
 use Rattle.sl_session_law.proofs.Staying.{refused_apart, removed_more}
 use Rattle.sl_session_law.specs.Promises.{IsSession}
 use Rattle.sl_sessions.specs.Sessions.{Session, calls_of, free_write, has_open_write, is_covered_stage, joined_after, last_renewal, refused_after, removed_after, session_numbered, sessions, stage_in, stage_of}
+use Rattle.sl_sessions.specs.declared.stage.Stage.TheVariants.{Looking}
 use Rattle.sl_sessions.specs.declared.stage.Stage.{Stage}
 use Rattle.sl_time.specs.Times.{TimingNumbers, fail}
 use Rattle.sl_trace.specs.Connections.{Connection, connection_named, connections, given_connection, last_registering, registers, test_holds}
@@ -138,6 +139,19 @@ given_job st n s at = given_jobless st.given 0 n s at
 
 pub acts_first : (st : Setting) (s : Session) → IsSession st [] s → acts_until st [] s ≡ s.renewed + fail st.timing
 acts_first st s its = acts_joined st [] s 0 (ap (λ o. elim o as (λ x. Option ℕ) [ None ↦ Some 0 | Some j ↦ None ]) (given_job st s.number s its))
+
+covered_none : (joined removed refused : Option ℕ) (free : Option Submitted) → joined ≡ None → refused ≡ None → covered_with joined removed refused free Looking false ≡ true → ⊥
+covered_none (Some k) removed refused free none at h = none_some k (sym none)
+covered_none None removed (Some k) free none at h = none_some k (sym at)
+covered_none None removed None free none at h = false_is_true h
+
+refused_first : (job : Option ℕ) → elim job as (λ x. Option ℕ) [ None ↦ None | Some j ↦ None ] ≡ None
+refused_first None = refl
+refused_first (Some j) = refl
+
+-- A session that isn't joined as its daemon begins needs no connection.
+pub nothing_covered : (s : Session) → joined_after [] s ≡ None → is_covered [] s ≡ true → ⊥
+nothing_covered s none is = covered_none (joined_after [] s) (removed_after [] s) (refused_after [] s) (free_write (calls_of [] s)) none (refused_first s.job) is
 
 -- ---- a test
 

@@ -6,3 +6,4 @@ pub mod Renewing
 pub mod Joins
 pub mod Becoming
 pub mod Freshness
+pub mod Stamps
