@@ -7,3 +7,7 @@ pub mod Joins
 pub mod Becoming
 pub mod Freshness
 pub mod Stamps
+pub mod Knowing
+pub mod Machines
+pub mod Holding
+pub mod Changing
