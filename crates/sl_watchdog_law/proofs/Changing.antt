@@ -40,7 +40,7 @@ and_last false b c f h = false_is_true h
 only_one : (c d : Course) → d.made ≡ c.made → d.daemon ≡ c.daemon → (may_land d ≡ true → may_land c ≡ true) → GoesOn (c ∷ []) d
 only_one c d made daemon lands = record { before = c; inside = contains_first c []; made = made; daemon = daemon; lands = lands }
 
-if_changed : (f : Course → Course) (c : Course) (t : Bool) → GoesOn (c ∷ []) (f c) → GoesOn (c ∷ []) (elim t as (λ x. Course) [ true ↦ f c | false ↦ c ])
+pub if_changed : (f : Course → Course) (c : Course) (t : Bool) → GoesOn (c ∷ []) (f c) → GoesOn (c ∷ []) (elim t as (λ x. Course) [ true ↦ f c | false ↦ c ])
 if_changed f c true g = g
 if_changed f c false g = goes_same (c ∷ []) c (contains_first c [])
 

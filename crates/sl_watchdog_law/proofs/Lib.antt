@@ -11,3 +11,5 @@ pub mod Knowing
 pub mod Machines
 pub mod Holding
 pub mod Changing
+pub mod Stepping
+pub mod Beginning

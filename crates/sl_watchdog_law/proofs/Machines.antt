@@ -119,7 +119,7 @@ lost_still t a cs d each l =
       stood = l.stood;
     }
 
-lately_still : (t : TimingNumbers) (moment step : ℕ) (a : Machine) (c : Course) → GoesOn a.calls c → IsWatched t moment step a → may_land c ≡ true → (r : Stamp)
+pub lately_still : (t : TimingNumbers) (moment step : ℕ) (a : Machine) (c : Course) → GoesOn a.calls c → IsWatched t moment step a → may_land c ≡ true → (r : Stamp)
     → Contains (resets_after a c.made.step) r → moment ≤ r.moment + t.land
 lately_still t moment step a c g w lands r there =
     w.lately g.before g.inside (g.lands lands) r (subst (λ (s : Stamp). Contains (resets_after a s.step) r) g.made there)
