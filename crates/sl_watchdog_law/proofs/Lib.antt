@@ -13,3 +13,4 @@ pub mod Holding
 pub mod Changing
 pub mod Stepping
 pub mod Beginning
+pub mod Watching
