@@ -1,6 +1,6 @@
 -- At moment 0 each machine is watched.
 use Rattle.sl_area.specs.Layouts.{Layout, layout_with}
-use Rattle.sl_run.specs.Worlds.{Daemon, Machine, Program, Stamp, clock_reading, first_daemon, first_numbers, first_stamp, given_of, machine_at, machine_of_header, new_daemon, setting_of, world_with}
+use Rattle.sl_run.specs.Worlds.{Daemon, Machine, Program, clock_reading, first_numbers, first_stamp, given_of, machine_at, machine_of_header, new_daemon, setting_of, world_with}
 use Rattle.sl_run.specs.declared.header.Header.{Header}
 use Rattle.sl_run.specs.declared.header.LockspaceLine.{LockspaceLine}
 use Rattle.sl_run.specs.declared.header.SessionLine.{SessionLine}

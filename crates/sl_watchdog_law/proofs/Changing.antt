@@ -1,29 +1,22 @@
 -- Each change of a machine leaves it watched.
 use Rattle.sl_course_law.specs.Mirrors.{since_restart}
-use Rattle.sl_law.specs.Lawful.{Lawful}
-use Rattle.sl_moment_law.specs.Moments.{point_of}
-use Rattle.sl_run.specs.Events.{after_crash, after_reset, after_restart, after_start, after_test, change_call, fated, growth_of, passed, sampled_more, with_entry}
-use Rattle.sl_run.specs.Worlds.{Course, Daemon, Fate, In_flight, Machine, Stamp, World, daemons_on, is_in_flight, is_write_course, may_land, reading_now, resets_after, stamp_now}
+use Rattle.sl_run.specs.Events.{after_crash, after_reset, after_restart, after_start, after_test, change_call, fated, passed, sampled_more}
+use Rattle.sl_run.specs.Worlds.{Course, Daemon, Fate, Machine, Stamp, World, daemons_on, is_in_flight, is_write_course, may_land, reading_now, resets_after, stamp_now}
 use Rattle.sl_run_law.proofs.Tracking.{told}
-use Rattle.sl_session_law.proofs.Making.{contains_cases, contains_first, contains_more, contains_none}
+use Rattle.sl_session_law.proofs.Making.{contains_cases, contains_first, contains_more}
 use Rattle.sl_session_law.proofs.Naming.{kept}
-use Rattle.sl_session_law.specs.Promises.{IsSession}
-use Rattle.sl_sessions.specs.Sessions.{Session, has_open_write}
-use Rattle.sl_time.specs.Times.{TimingNumbers, fail, reading_of}
-use Rattle.sl_trace.specs.Connections.{Connection, connections, test_holds}
-use Rattle.sl_trace.specs.Traces.{Setting}
-use Rattle.sl_trace.specs.declared.effects.Entry.{Entry}
-use Rattle.sl_trace.specs.declared.effects.Grant.{Grant}
+use Rattle.sl_time.specs.Times.{TimingNumbers, reading_of}
+use Rattle.sl_trace.specs.Connections.{test_holds}
 use Rattle.sl_watchdog_law.proofs.Finding.{kept_inside}
-use Rattle.sl_watchdog_law.proofs.Freshness.{IsFresh, stays_fresh, test_finds}
+use Rattle.sl_watchdog_law.proofs.Freshness.{IsFresh, test_finds}
 use Rattle.sl_watchdog_law.proofs.Holding.{held}
 use Rattle.sl_watchdog_law.proofs.Knowing.{IsKnown}
-use Rattle.sl_watchdog_law.proofs.Machines.{GoesOn, IsHeld, IsWatched, WasLost, calls_keep, either_daemon, first_by, first_there, goes_mapped, goes_same, lost_by, lost_daemons, steps_keep}
+use Rattle.sl_watchdog_law.proofs.Machines.{GoesOn, IsHeld, IsWatched, WasLost, calls_keep, either_daemon, first_by, first_there, goes_mapped, goes_same, lost_by}
 use Rattle.sl_watchdog_law.proofs.Standing.{covered_open}
 use Rattle.sl_watchdog_law.proofs.Stamps.{GivenNow}
 use Rattle.sl_words.proofs.CaseLaws.{false_is_true, none_some, some_value, true_is_false}
-use Rattle.std.proofs.Common.{ap, arith, inl, inr, refl, subst, sym, tests, ◌∙◌}
-use Rattle.std.specs.Prelude.{Bool, Contains, List, None, Option, Some, [], drop, false, filter, if◌then◌else◌, is_none, map, nat_lt, true, ℕ, ◌&&◌, ◌+◌, ◌<◌, ◌==◌, ◌∷◌, ◌≡◌, ◌≤◌, ◌⊎◌}
+use Rattle.std.proofs.Common.{ap, arith, inl, inr, refl, subst, sym, ◌∙◌}
+use Rattle.std.specs.Prelude.{Bool, Contains, List, None, Option, Some, [], false, if◌then◌else◌, is_none, map, nat_lt, true, ℕ, ◌&&◌, ◌+◌, ◌<◌, ◌==◌, ◌∷◌, ◌≡◌, ◌≤◌, ◌⊎◌}
 
 -- ---- calls
 

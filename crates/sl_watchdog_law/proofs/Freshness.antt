@@ -1,29 +1,29 @@
 -- What keeps the reading of the last keepalive below that until which a session may act.
 use Rattle.sl_law.proofs.LawFacts.{lawful-front}
 use Rattle.sl_law.specs.Lawful.{Lawful}
-use Rattle.sl_law.specs.LawfulWatchdog.{CoveredBy, acts_until, is_covered}
+use Rattle.sl_law.specs.LawfulWatchdog.{acts_until, is_covered}
 use Rattle.sl_session_law.proofs.Joining.{joined_before}
-use Rattle.sl_session_law.proofs.Making.{contains_first, contains_more, contains_none}
+use Rattle.sl_session_law.proofs.Making.{contains_first, contains_more}
 use Rattle.sl_session_law.proofs.Owning.{got_inside}
 use Rattle.sl_session_law.proofs.Silence.{stage_by}
 use Rattle.sl_session_law.proofs.Staying.{refused_apart, removed_more}
 use Rattle.sl_session_law.specs.Promises.{IsSession}
-use Rattle.sl_sessions.specs.Sessions.{Session, calls_of, free_write, has_open_write, is_covered_stage, joined_after, last_renewal, refused_after, removed_after, session_numbered, sessions, stage_in, stage_of}
+use Rattle.sl_sessions.specs.Sessions.{Session, calls_of, free_write, has_open_write, is_covered_stage, joined_after, last_renewal, refused_after, removed_after, session_numbered, sessions, stage_in}
 use Rattle.sl_sessions.specs.declared.stage.Stage.TheVariants.{Looking}
 use Rattle.sl_sessions.specs.declared.stage.Stage.{Stage}
 use Rattle.sl_time.specs.Times.{TimingNumbers, fail}
-use Rattle.sl_trace.specs.Connections.{Connection, connection_named, connections, given_connection, last_registering, registers, test_holds}
+use Rattle.sl_trace.specs.Connections.{Connection, connections, given_connection, last_registering, registers, test_holds}
 use Rattle.sl_trace.specs.Traces.{Setting, Submitted, Trace}
 use Rattle.sl_trace.specs.declared.effects.Entry.{Entry}
 use Rattle.sl_trace.specs.declared.input.Given.{Given}
 use Rattle.sl_watchdog_law.proofs.Becoming.{was_covered}
 use Rattle.sl_watchdog_law.proofs.Finding.{call_inside, find_inside, none_of, open_write}
-use Rattle.sl_watchdog_law.proofs.Joins.{JoinsNow, job_of_joining, joins_now, was_session}
+use Rattle.sl_watchdog_law.proofs.Joins.{joins_now, was_session}
 use Rattle.sl_watchdog_law.proofs.Numbering.{given_jobless, given_one}
 use Rattle.sl_watchdog_law.proofs.Renewing.{renewal_grows}
 use Rattle.sl_watchdog_law.proofs.Standing.{covered_open, written_after}
-use Rattle.sl_words.proofs.CaseLaws.{false_is_true, no_value, none_some, true_is_false}
-use Rattle.std.proofs.Common.{ap, arith, inl, inr, refl, subst, sym, tests, ◌∙◌}
+use Rattle.sl_words.proofs.CaseLaws.{false_is_true, no_value, none_some}
+use Rattle.std.proofs.Common.{ap, arith, refl, subst, sym, tests}
 use Rattle.std.specs.List.{list_any}
 use Rattle.std.specs.Prelude.{Bool, Contains, List, None, Option, Some, [], bytes_eq, false, is_some, map, nat_le, not, slice_get, suc, true, zero, ℕ, ◌&&◌, ◌+◌, ◌<◌, ◌||◌, ◌∷◌, ◌≡◌, ◌≤◌}
 

@@ -1,22 +1,21 @@
 -- The connection of a session that needs it stands, on a machine that is up.
-use Rattle.sl_clocks.specs.Points.{Point, Precedes}
-use Rattle.sl_clocks.specs.Watchdog.{IsConnected}
+use Rattle.sl_clocks.specs.Points.{Precedes}
 use Rattle.sl_course_law.specs.Mirrors.{since_restart}
-use Rattle.sl_law.specs.LawfulWatchdog.{acts_until, is_covered}
+use Rattle.sl_law.specs.LawfulWatchdog.{is_covered}
 use Rattle.sl_moment_law.specs.Moments.{point_of, stamps_on}
 use Rattle.sl_front_law.proofs.Having.{contains_left, contains_right, in_flat}
 use Rattle.sl_run.specs.Worlds.{Course, Daemon, Machine, Stamp, daemons_on}
 use Rattle.sl_session_law.proofs.Making.{contains_first, contains_more}
 use Rattle.sl_session_law.specs.Promises.{IsSession}
 use Rattle.sl_sessions.specs.Sessions.{Session}
-use Rattle.sl_time.specs.Times.{TimingNumbers, fail, reading_of}
+use Rattle.sl_time.specs.Times.{TimingNumbers, fail}
 use Rattle.sl_watchdog_law.proofs.Knowing.{IsKnown}
 use Rattle.sl_watchdog_law.proofs.Machines.{IsHeld, IsWatched, first_by, first_there}
-use Rattle.sl_watchdog_law.proofs.Stamps.{CountsFrom, counts_from}
+use Rattle.sl_watchdog_law.proofs.Stamps.{counts_from}
 use Rattle.sl_words.proofs.CaseLaws.{none_some}
-use Rattle.std.proofs.Common.{ap, arith, inl, inr, refl, subst, sym, ◌∙◌}
+use Rattle.std.proofs.Common.{ap, arith, inl, inr, refl}
 use Rattle.std.proofs.lemmas.Bool.{cases_lt}
-use Rattle.std.specs.Prelude.{Bool, Contains, List, None, Option, Some, false, filter_map, flat_map, map, true, ℕ, ◌&&◌, ◌++◌, ◌+◌, ◌<◌, ◌∷◌, ◌≡◌, ◌≤◌, ◌⊎◌}
+use Rattle.std.specs.Prelude.{Bool, Contains, List, Some, false, filter_map, flat_map, map, true, ℕ, ◌&&◌, ◌++◌, ◌∷◌, ◌≡◌, ◌⊎◌}
 
 abbrev stamps_of : Daemon → List Stamp
 stamps_of d = d.begun ∷ d.stamps

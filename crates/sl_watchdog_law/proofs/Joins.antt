@@ -1,18 +1,16 @@
 -- A session joins by the answer of its first renewal: from that entry on the renewal counts.
 use Rattle.sl_law.proofs.LawFacts.{lawful-front}
 use Rattle.sl_law.specs.Lawful.{Lawful}
-use Rattle.sl_law.specs.LawfulDelta.{LawfulJoin}
 use Rattle.sl_session_law.proofs.Joining.{joined_before}
 use Rattle.sl_session_law.proofs.Making.{SameCall, contains_cases, contains_first, contains_more, contains_none, old_or_new, same_answered}
 use Rattle.sl_session_law.proofs.Owning.{got_inside}
 use Rattle.sl_session_law.specs.Promises.{IsSession}
-use Rattle.sl_sessions.specs.Sessions.{Begun, Renewing, Session, calls_of, is_call_of, is_join_call, is_join_done, is_joined, is_renewal, joined_after, last_renewal, recovers, recovery_of, removed_after, renewed_by, renewing, session_numbered, sessions, shows_other}
+use Rattle.sl_sessions.specs.Sessions.{Begun, Renewing, Session, calls_of, is_call_of, is_join_call, is_join_done, is_joined, is_renewal, joined_after, last_renewal, recovery_of, removed_after, renewed_by, renewing, sessions, shows_other}
 use Rattle.sl_time.specs.Times.{fail}
 use Rattle.sl_trace.specs.Traces.{Answered, Replied, Setting, Submitted, Trace, answer_of, answered_in, call_numbered, mark, reply_in, reply_to, submitted}
 use Rattle.sl_trace.specs.declared.effects.Entry.{Entry}
 use Rattle.sl_trace.specs.declared.effects.JobReply.{JobReply}
 use Rattle.sl_trace.specs.declared.effects.JoinStep.TheVariants.{ClaimWrite, DecidingRead, FirstRead, FirstRenewal, VerifyRead, WatchRead}
-use Rattle.sl_trace.specs.declared.effects.JoinStep.{JoinStep}
 use Rattle.sl_trace.specs.declared.effects.Purpose.TheVariants.{RequestRead, RequestWrite, Joining, Lease, Leaving, Renewal, SeeRequest, Survey, ValueRead, ValueWrite}
 use Rattle.sl_trace.specs.declared.effects.Purpose.{Purpose}
 use Rattle.sl_trace.specs.declared.input.Answer.TheVariants.{Written}
@@ -23,14 +21,14 @@ use Rattle.sl_watchdog_law.proofs.Finding.{call_owner, equal_numbers, find_insid
 use Rattle.sl_watchdog_law.proofs.Numbering.{call_found, given_first, given_later}
 use Rattle.sl_watchdog_law.proofs.Readings.{Counts, NextRenewal, Stays, after_by, in_by, next_renewal}
 use Rattle.sl_watchdog_law.proofs.Renewing.{IsOpenRenewal, told_is_open}
-use Rattle.sl_watchdog_law.proofs.Standing.{WasThere, older_call}
+use Rattle.sl_watchdog_law.proofs.Standing.{older_call}
 use Rattle.sl_watchdog_law.specs.Acting.{renewal_entry, renewal_in, renewal_told}
 use Rattle.sl_words.proofs.CaseLaws.{false_is_true, no_value, none_some, one_value, some_value, true_is_false}
 use Rattle.sl_words.proofs.WordLaws.{choose_some}
 use Rattle.sl_words.specs.Words.{choose}
 use Rattle.std.proofs.Common.{ap, arith, inl, inr, refl, subst, sym, ◌∙◌}
 use Rattle.std.specs.Option.{option_or}
-use Rattle.std.specs.Prelude.{Bool, Contains, List, None, Option, Some, [], false, find, is_none, is_some, length, map, nat_le, not, option_and_then, option_map, slice_get, suc, true, unwrap_or, zero, ℕ, ◌&&◌, ◌+◌, ◌<◌, ◌==◌, ◌∷◌, ◌≡◌, ◌⊎◌}
+use Rattle.std.specs.Prelude.{Bool, Contains, List, None, Option, Some, [], false, find, is_none, is_some, length, map, nat_le, option_and_then, option_map, suc, true, ℕ, ◌&&◌, ◌+◌, ◌<◌, ◌==◌, ◌∷◌, ◌≡◌, ◌⊎◌}
 
 -- ---- which entry brought an answer
 

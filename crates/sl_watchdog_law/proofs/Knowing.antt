@@ -1,6 +1,6 @@
 -- What is known of the machines of a lawful run, from what runs promise of calls, daemons and moments.
 use Rattle.sl_clocks.specs.Points.{Precedes}
-use Rattle.sl_course_law.specs.Mirrors.{Mirrors, since_restart}
+use Rattle.sl_course_law.specs.Mirrors.{Mirrors}
 use Rattle.sl_course_law.specs.Promises.{DaemonsAreOfWorld, EntriesAreStamped, MachinesMirror}
 use Rattle.sl_course_law.specs.Stamping.{IsStamped}
 use Rattle.sl_front_law.proofs.Going.{was_there}

@@ -14,3 +14,4 @@ pub mod Changing
 pub mod Stepping
 pub mod Beginning
 pub mod Watching
+pub mod Promising

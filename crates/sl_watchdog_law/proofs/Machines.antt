@@ -10,7 +10,7 @@ use Rattle.sl_time.specs.Times.{TimingNumbers, reading_of}
 use Rattle.sl_watchdog_law.proofs.Freshness.{IsFresh}
 use Rattle.sl_watchdog_law.proofs.Stamps.{GivenNow}
 use Rattle.sl_watchdog_law.specs.Acting.{acting_stamp}
-use Rattle.sl_words.proofs.CaseLaws.{none_some, some_value, true_is_false}
+use Rattle.sl_words.proofs.CaseLaws.{none_some, some_value}
 use Rattle.sl_words.specs.Words.{first_of_list}
 use Rattle.std.proofs.Common.{ap, arith, inl, inr, refl, subst, sym, ◌∙◌}
 use Rattle.std.specs.Prelude.{Bool, Contains, List, None, Option, Some, [], drop, false, if◌then◌else◌, map, true, ℕ, ◌&&◌, ◌+◌, ◌<◌, ◌∷◌, ◌≡◌, ◌≤◌, ◌⊎◌}

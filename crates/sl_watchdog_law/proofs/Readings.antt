@@ -1,5 +1,5 @@
 -- Nothing in a trace has a later reading than its newest entry.
-use Rattle.sl_session_law.proofs.Making.{IsNewCall, contains_none, old_or_new, was_marked}
+use Rattle.sl_session_law.proofs.Making.{contains_none, old_or_new, was_marked}
 use Rattle.sl_sessions.specs.Sessions.{Begun, Renewing, Session, begun_in, is_call_of, is_joined, is_renewal, last_renewal, recovers, renewed_by, renewing, session_numbered, sessions, shows_other}
 use Rattle.sl_time.specs.Times.{fail}
 use Rattle.sl_trace.specs.Connections.{last_registering, registers}
@@ -15,7 +15,7 @@ use Rattle.sl_watchdog_law.proofs.Numbering.{begun_is, either_place, given_one}
 use Rattle.sl_words.proofs.CaseLaws.{none_some}
 use Rattle.sl_words.proofs.WordLaws.{and_true, choose_some}
 use Rattle.sl_words.specs.Words.{choose, greatest}
-use Rattle.std.proofs.Common.{ap, arith, inl, inr, max, refl, subst, sym, ◌∙◌}
+use Rattle.std.proofs.Common.{ap, arith, inl, inr, refl, subst, sym, ◌∙◌}
 use Rattle.std.specs.List.{list_any}
 use Rattle.std.specs.Prelude.{Bool, Contains, List, None, Option, Some, [], false, length, map, nat_le, option_and_then, option_map, slice_get, unwrap_or, suc, true, zero, ℕ, ◌&&◌, ◌+◌, ◌==◌, ◌∷◌, ◌≡◌, ◌≤◌, ◌⊎◌}
 

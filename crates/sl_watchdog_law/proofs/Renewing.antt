@@ -3,27 +3,26 @@ use Rattle.sl_law.proofs.LawFacts.{lawful-front}
 use Rattle.sl_law.specs.Lawful.{Lawful}
 use Rattle.sl_law.specs.Saying.{cut_at}
 use Rattle.sl_session_law.proofs.Growing.{mine_marked, mine_next, other_next, to_all}
-use Rattle.sl_session_law.proofs.Making.{SameCall, WasOpen, contains_cases, contains_none, old_or_new, was_marked}
+use Rattle.sl_session_law.proofs.Making.{contains_cases, contains_none, old_or_new, was_marked}
 use Rattle.sl_session_law.proofs.Owning.{got_inside, is_the_one, session_more}
 use Rattle.sl_session_law.specs.Promises.{IsSession}
-use Rattle.sl_sessions.specs.Sessions.{Session, calls_of, is_call_of, is_delta_purpose, is_renewal, last_renewal, session_numbered}
+use Rattle.sl_sessions.specs.Sessions.{Session, calls_of, is_delta_purpose, is_renewal, last_renewal, session_numbered}
 use Rattle.sl_trace.specs.Traces.{Setting, Submitted, Trace, call_numbered, is_answer_for, is_write, mark, new_call, submitted}
 use Rattle.sl_trace.specs.declared.effects.Call.{Call}
 use Rattle.sl_trace.specs.declared.effects.Entry.{Entry}
-use Rattle.sl_trace.specs.declared.effects.JoinStep.TheVariants.{ClaimWrite, DecidingRead, FirstRead, FirstRenewal, VerifyRead, WatchRead}
 use Rattle.sl_trace.specs.declared.effects.Op.TheVariants.{ReadSectors, WriteRecord}
 use Rattle.sl_trace.specs.declared.effects.Op.{Op}
 use Rattle.sl_trace.specs.declared.effects.Purpose.TheVariants.{RequestRead, RequestWrite, Joining, Lease, Leaving, Renewal, SeeRequest, Survey, ValueRead, ValueWrite}
 use Rattle.sl_trace.specs.declared.effects.Purpose.{Purpose}
 use Rattle.sl_trace.specs.declared.input.Answer.TheVariants.{Written}
-use Rattle.sl_watchdog_law.proofs.Finding.{call_inside, call_owner, find_inside, open_delta, same_number}
-use Rattle.sl_watchdog_law.proofs.Numbering.{IsAsked, answered_call}
-use Rattle.sl_watchdog_law.proofs.Readings.{Counts, IsTold, NextRenewal, Stays, given_reading, next_renewal, renewal_reading, told}
-use Rattle.sl_watchdog_law.proofs.Standing.{WasThere, older_call}
+use Rattle.sl_watchdog_law.proofs.Finding.{call_inside, open_delta, same_number}
+use Rattle.sl_watchdog_law.proofs.Numbering.{answered_call}
+use Rattle.sl_watchdog_law.proofs.Readings.{Counts, NextRenewal, Stays, given_reading, next_renewal, renewal_reading, told}
+use Rattle.sl_watchdog_law.proofs.Standing.{older_call}
 use Rattle.sl_watchdog_law.specs.Acting.{renewal_told}
 use Rattle.sl_words.proofs.CaseLaws.{false_is_true, one_value, true_is_false}
 use Rattle.std.proofs.Common.{ap, arith, inl, inr, refl, subst, sym, ◌∙◌}
-use Rattle.std.specs.Prelude.{Bool, Contains, List, None, Option, Some, [], false, length, slice_get, suc, true, zero, ℕ, ◌==◌, ◌∷◌, ◌≡◌, ◌≤◌, ◌⊎◌}
+use Rattle.std.specs.Prelude.{Bool, Contains, List, None, Some, [], false, length, slice_get, suc, true, ℕ, ◌==◌, ◌∷◌, ◌≡◌, ◌≤◌, ◌⊎◌}
 
 -- ---- one open call on a delta sector
 

@@ -5,10 +5,9 @@ use Rattle.sl_law.specs.Lawful.{Lawful}
 use Rattle.sl_law.specs.LawfulWatchdog.{acts_until, is_covered}
 use Rattle.sl_run.specs.Worlds.{Daemon, Stamp}
 use Rattle.sl_session_law.proofs.Joining.{joined_before}
-use Rattle.sl_session_law.proofs.Making.{SameCall, contains_first, contains_more, contains_none, old_or_new, was_marked}
-use Rattle.sl_session_law.proofs.Owning.{got_inside}
+use Rattle.sl_session_law.proofs.Making.{contains_first, contains_more, contains_none, old_or_new, was_marked}
 use Rattle.sl_session_law.specs.Promises.{IsSession}
-use Rattle.sl_sessions.specs.Sessions.{Session, joined_after, last_renewal, session_numbered}
+use Rattle.sl_sessions.specs.Sessions.{Session, joined_after, last_renewal}
 use Rattle.sl_time.specs.Times.{fail, reading_of}
 use Rattle.sl_trace.specs.Connections.{last_registering, registers}
 use Rattle.sl_trace.specs.Traces.{Setting, Submitted, Trace, mark, submitted}
@@ -20,8 +19,8 @@ use Rattle.sl_watchdog_law.proofs.Freshness.{acts_joined, acts_joining, nothing_
 use Rattle.sl_watchdog_law.proofs.Joins.{has_renewal}
 use Rattle.sl_watchdog_law.proofs.Numbering.{given_first, given_one}
 use Rattle.sl_watchdog_law.proofs.Readings.{Counts, NextRenewal, Stays, next_renewal, told}
-use Rattle.sl_watchdog_law.specs.Acting.{acting_stamp, registering_entry, renewal_entry, renewal_in}
-use Rattle.sl_words.proofs.CaseLaws.{false_is_true, no_value, none_some, one_value, some_value, true_is_false}
+use Rattle.sl_watchdog_law.specs.Acting.{acting_stamp, registering_entry, renewal_entry}
+use Rattle.sl_words.proofs.CaseLaws.{false_is_true, none_some, some_value}
 use Rattle.std.proofs.Common.{ap, arith, inl, inr, refl, subst, sym, tests, ◌∙◌}
 use Rattle.std.specs.List.{list_any}
 use Rattle.std.specs.Prelude.{Bool, Contains, List, None, Option, Some, [], false, is_some, length, option_and_then, slice_get, suc, true, ℕ, ◌+◌, ◌<◌, ◌==◌, ◌∷◌, ◌≡◌}

@@ -3,7 +3,7 @@ use Rattle.sl_law.proofs.LawFacts.{lawful-front}
 use Rattle.sl_law.specs.Lawful.{Lawful}
 use Rattle.sl_law.specs.LawfulWatchdog.{is_covered}
 use Rattle.sl_session_law.proofs.Joining.{done_unanswered, in_turn, stage_for}
-use Rattle.sl_session_law.proofs.Making.{IsNewCall, contains_none, old_or_new, was_marked}
+use Rattle.sl_session_law.proofs.Making.{contains_none, old_or_new, was_marked}
 use Rattle.sl_session_law.proofs.Ordering.{begun_before}
 use Rattle.sl_session_law.proofs.Owning.{got_inside}
 use Rattle.sl_session_law.proofs.Parting.{not_removed}
@@ -20,12 +20,12 @@ use Rattle.sl_trace.specs.declared.effects.Purpose.TheVariants.{RequestRead, Req
 use Rattle.sl_trace.specs.declared.effects.Purpose.{Purpose}
 use Rattle.sl_watchdog_law.proofs.Finding.{call_inside, open_write}
 use Rattle.sl_watchdog_law.proofs.Readings.{registering_reading}
-use Rattle.sl_words.proofs.CaseLaws.{false_is_true, is_false, no_value, one_value, true_is_false}
+use Rattle.sl_words.proofs.CaseLaws.{false_is_true, no_value, one_value, true_is_false}
 use Rattle.sl_words.proofs.WordLaws.{and_true}
 use Rattle.sl_words.specs.Words.{some_is}
 use Rattle.std.proofs.Common.{ap, arith, inl, inr, refl, subst, sym, ◌∙◌}
 use Rattle.std.specs.List.{list_any}
-use Rattle.std.specs.Prelude.{Bool, Contains, List, None, Option, Some, [], cond, false, is_none, is_some, length, true, ℕ, ◌&&◌, ◌||◌, ◌∷◌, ◌≡◌, ◌≤◌, ◌⊎◌}
+use Rattle.std.specs.Prelude.{Bool, Contains, List, None, Option, Some, [], cond, false, is_none, is_some, length, true, ℕ, ◌&&◌, ◌||◌, ◌∷◌, ◌≡◌, ◌≤◌}
 
 -- ---- covered
 

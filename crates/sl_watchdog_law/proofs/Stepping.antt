@@ -1,12 +1,10 @@
 -- A step of a machine's daemon, or of the machine itself, leaves it watched.
 use Rattle.sl_course_law.specs.Mirrors.{AreNumbered, since_restart}
 use Rattle.sl_law.specs.Lawful.{Lawful}
-use Rattle.sl_run.specs.Events.{after_effects, after_step, close_answered, daemon_number, new_course, with_entry}
+use Rattle.sl_run.specs.Events.{after_effects, after_step, daemon_number, new_course, with_entry}
 use Rattle.sl_run.specs.Worlds.{Course, Daemon, Machine, Stamp, daemons_on, may_land, reading_now, resets_after}
 use Rattle.sl_run_law.proofs.Tracking.{told}
 use Rattle.sl_session_law.proofs.Making.{contains_cases, contains_first, contains_none}
-use Rattle.sl_session_law.specs.Promises.{IsSession}
-use Rattle.sl_sessions.specs.Sessions.{Session}
 use Rattle.sl_time.specs.Times.{IsTiming, TimingNumbers, fail, reading_of}
 use Rattle.sl_trace.specs.Connections.{Connection, after_move}
 use Rattle.sl_trace.specs.Traces.{held_after, is_ok_answer}
@@ -20,12 +18,12 @@ use Rattle.sl_watchdog_law.proofs.Changing.{if_changed, told_goes}
 use Rattle.sl_watchdog_law.proofs.Finding.{kept_inside}
 use Rattle.sl_watchdog_law.proofs.Freshness.{IsFresh, stays_fresh}
 use Rattle.sl_watchdog_law.proofs.Knowing.{IsKnown}
-use Rattle.sl_watchdog_law.proofs.Machines.{GoesOn, IsWatched, WasLost, calls_keep, first_by, goes_mapped, goes_same, lately_still, lost_by, lost_daemons, steps_keep}
+use Rattle.sl_watchdog_law.proofs.Machines.{GoesOn, IsWatched, WasLost, first_by, goes_mapped, goes_same, lately_still, lost_by, lost_daemons, steps_keep}
 use Rattle.sl_watchdog_law.proofs.Stamps.{GivenNow}
-use Rattle.sl_words.proofs.CaseLaws.{no_value, none_some, some_value, true_is_false}
+use Rattle.sl_words.proofs.CaseLaws.{no_value, none_some, some_value}
 use Rattle.std.proofs.Common.{ap, arith, inl, inr, refl, subst, sym, tests, ◌∙◌}
 use Rattle.std.specs.Option.{option_map_or}
-use Rattle.std.specs.Prelude.{Bool, Contains, List, None, Option, Some, [], false, filter, fold, if◌then◌else◌, length, map, nat_lt, option_map, true, ℕ, ◌&&◌, ◌+◌, ◌<◌, ◌==◌, ◌∷◌, ◌≡◌, ◌≤◌, ◌⊎◌}
+use Rattle.std.specs.Prelude.{Bool, Contains, List, None, Option, Some, [], false, fold, length, map, nat_lt, option_map, true, ℕ, ◌&&◌, ◌+◌, ◌<◌, ◌==◌, ◌∷◌, ◌≡◌, ◌≤◌, ◌⊎◌}
 
 -- ---- the daemon that runs
 
@@ -39,7 +37,7 @@ since_running : (b : Machine) (d : Daemon) → b.daemon ≡ Some d → b.up ≡ 
 since_running b d runs up used =
     ap (λ t. first_by t (daemons_on b)) (both_true b.up b.used up used) ∙ ap (λ o. first_by true (daemons_by o b.ended)) runs
 
-lost_running : (b : Machine) (d : Daemon) → b.daemon ≡ Some d → b.up ≡ true → b.used ≡ true → lost_daemons b ≡ b.ended
+pub lost_running : (b : Machine) (d : Daemon) → b.daemon ≡ Some d → b.up ≡ true → b.used ≡ true → lost_daemons b ≡ b.ended
 lost_running b d runs up used = ap (λ t. lost_by t (daemons_on b)) (both_true b.up b.used up used) ∙ ap (λ o. lost_by true (daemons_by o b.ended)) runs
 
 first_is : (t : Bool) (x : Daemon) (ds : List Daemon) (d : Daemon) → first_by t (x ∷ ds) ≡ Some d → x ≡ d
@@ -214,7 +212,7 @@ step_leaves now (Exit p) fx b = record { up = refl; used = refl; ended = refl; d
 step_leaves now (Spawned p ok) fx b = record { up = refl; used = refl; ended = refl; daemon = refl }
 step_leaves now Wake fx b = record { up = refl; used = refl; ended = refl; daemon = refl }
 
-number_below : (ds : List Daemon) (x : Daemon) → AreNumbered ds → Contains ds x → x.number < length ds
+pub number_below : (ds : List Daemon) (x : Daemon) → AreNumbered ds → Contains ds x → x.number < length ds
 number_below [] x h there = absurd (contains_none x there)
 number_below (d ∷ ds) x h there =
     elim (contains_cases d ds x there) as (λ z. x.number < length (d ∷ ds)) [
@@ -222,7 +220,7 @@ number_below (d ∷ ds) x h there =
       | inr old ↦ let n = number_below ds x h.1 old in omega (arith, n)
     ]
 
-by_false : (b : Bool) → (b ≡ false → ⊥) → b ≡ true
+pub by_false : (b : Bool) → (b ≡ false → ⊥) → b ≡ true
 by_false true h = refl
 by_false false h = absurd (h refl)
 

@@ -1,9 +1,9 @@
 -- Whatever happens in a lawful run, each machine stays watched.
-use Rattle.sl_front_law.proofs.Going.{IsKeptInRuns, IsLast, last_event, run_after, run_keeps, was_there}
-use Rattle.sl_run.specs.Events.{after_effects, after_step, change_call, event_tests, fated, first_change, happens, if_running, input_at, input_of, is_late_landing, machine_of, may_happen, needs_daemon, next_step, on_flight, own_effects, pass_tests, passed, sampled_more, sectors_left, take_step}
-use Rattle.sl_run.specs.Runs.{Happening, own_effects_of}
+use Rattle.sl_front_law.proofs.Going.{last_event, run_after, run_keeps, was_there}
+use Rattle.sl_run.specs.Events.{after_effects, after_step, change_call, event_tests, fated, first_change, if_running, input_at, input_of, is_late_landing, machine_of, may_happen, next_step, own_effects, pass_tests, passed, sampled_more, sectors_left, take_step}
+use Rattle.sl_run.specs.Runs.{Happening}
 use Rattle.sl_run.specs.Safety.{LawfulRun, world_at}
-use Rattle.sl_run.specs.Worlds.{Course, Daemon, Dropped, Landed, Machine, Program, Stamp, Torn, World, change_machine, is_of_running, machine_at, may_land, resets_after, stamp_now, world_with}
+use Rattle.sl_run.specs.Worlds.{Course, Daemon, Dropped, Landed, Machine, Program, Stamp, Torn, World, machine_at, may_land, resets_after, stamp_now, world_with}
 use Rattle.sl_run.specs.declared.event.Event.TheVariants.{AnswerCall, Crash, Do, DropWrite, ExitOf, GiveCommand, Land, Pass, Reset, Restart, Sample, SpawnedOf, StartDaemon, Tear, Test, WakeUp}
 use Rattle.sl_run.specs.declared.event.Event.{Event}
 use Rattle.sl_run.specs.declared.header.Header.{Header}
@@ -25,11 +25,10 @@ use Rattle.sl_watchdog_law.proofs.Machines.{GoesOn, IsWatched, steps_keep}
 use Rattle.sl_watchdog_law.proofs.Stepping.{own_keeps, step_keeps, stepping}
 use Rattle.sl_words.proofs.CaseLaws.{false_is_true, none_some, one_value, true_is_false}
 use Rattle.sl_words.proofs.WordLaws.{choose_some}
-use Rattle.sl_words.specs.Words.{choose}
-use Rattle.std.proofs.Common.{ap, arith, inl, inr, refl, subst, sym, tests, ◌∙◌}
+use Rattle.std.proofs.Common.{ap, arith, refl, subst, sym, tests, ◌∙◌}
 use Rattle.std.specs.List.{list_any}
 use Rattle.std.specs.Option.{option_map_or}
-use Rattle.std.specs.Prelude.{Bool, Contains, IsTrue, List, None, Option, Some, [], false, is_none, is_some, nat_lt, option_and_then, option_map, slice_set, true, ℕ, ◌&&◌, ◌++◌, ◌+◌, ◌-◌, ◌<◌, ◌∷◌, ◌≡◌, ◌≤◌}
+use Rattle.std.specs.Prelude.{Bool, List, None, Option, Some, [], false, is_none, is_some, nat_lt, option_and_then, slice_set, true, ℕ, ◌&&◌, ◌++◌, ◌+◌, ◌-◌, ◌∷◌, ◌≡◌, ◌≤◌}
 
 -- ---- guards
 
