@@ -5,7 +5,7 @@ use Rattle.sl_law.specs.LawfulDelta.{LawfulDeltaCall}
 use Rattle.sl_law.specs.LawfulWatchdog.{is_covered}
 use Rattle.sl_law.specs.Saying.{cut_at}
 use Rattle.sl_session_law.proofs.Growing.{mine_marked, mine_next, other_next, to_all}
-use Rattle.sl_session_law.proofs.Joining.{joined_before, stage_for}
+use Rattle.sl_session_law.proofs.Joining.{joined_before, same_number_by, stage_for}
 use Rattle.sl_session_law.proofs.Making.{IsNewCall, contains_first, old_or_new}
 use Rattle.sl_session_law.proofs.Ordering.{begun_before, open_stage}
 use Rattle.sl_session_law.proofs.Owning.{got_inside, is_the_one}
@@ -27,7 +27,7 @@ use Rattle.sl_trace.specs.declared.effects.Purpose.{Purpose}
 use Rattle.sl_trace.specs.declared.input.Answer.{Answer}
 use Rattle.sl_trace.specs.declared.input.Input.TheVariants.{Answer as Told, Exit, Line, Spawned, Wake}
 use Rattle.sl_trace.specs.declared.input.Input.{Input}
-use Rattle.sl_watchdog_law.proofs.Finding.{OpenWrite, call_inside, call_owner, open_write, same_number, the_open_write}
+use Rattle.sl_watchdog_law.proofs.Finding.{OpenWrite, call_inside, call_owner, open_write, the_open_write}
 use Rattle.sl_watchdog_law.proofs.Standing.{covered_open, older_call}
 use Rattle.sl_words.proofs.CaseLaws.{false_is_true, no_value, none_some, one_value, true_is_false}
 use Rattle.sl_words.proofs.WordLaws.{and_true, or_true}
@@ -131,7 +131,7 @@ covered_call st e past s h its none refused quiet k c at false other before is =
     before (ap (λ ms. is_covered_stage (stage_in ms)) (sym (other_next past e s k c at other)) ∙ is)
 covered_call st e past s h its none refused quiet k c at true mine before is =
     let t : Trace = cut_at k e ∷ past in
-    let number = same_number c.session s.number mine in
+    let number = same_number_by c.session s.number mine in
     let here = is_the_one (session_numbered st (e ∷ past) c.session) s (h.calls.0.owned c (got_inside e.effects.calls k c at))
     (λ x is. one_value x s (session_numbered st (e ∷ past) s.number) (ap (λ n. session_numbered st (e ∷ past) n) (sym number) ∙ is) its) in
     before (new_covered st e past k s (new_call (length past) e.reading c) c.purpose (h.delta.0.calls k c s at here)

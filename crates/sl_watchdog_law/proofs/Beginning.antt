@@ -7,17 +7,17 @@ use Rattle.sl_run.specs.declared.header.SessionLine.{SessionLine}
 use Rattle.sl_run_law.proofs.Walking.{index}
 use Rattle.sl_session_law.proofs.Making.{contains_none}
 use Rattle.sl_sessions.specs.Sessions.{Session}
-use Rattle.sl_time.specs.Times.{IsTiming, TimingNumbers, fail, reading_of}
+use Rattle.sl_time.specs.Times.{IsTiming, reading_of}
 use Rattle.sl_trace.specs.Connections.{given_connection}
 use Rattle.sl_trace.specs.declared.input.Given.{Given}
-use Rattle.sl_watchdog_law.proofs.Freshness.{IsFresh, acts_first}
+use Rattle.sl_watchdog_law.proofs.Freshness.{IsFresh, acts_first, some_fail}
 use Rattle.sl_watchdog_law.proofs.Machines.{IsWatched}
 use Rattle.sl_watchdog_law.proofs.Numbering.{given_one}
 use Rattle.sl_watchdog_law.proofs.Stamps.{GivenNow}
 use Rattle.sl_words.proofs.CaseLaws.{none_some, some_value}
 use Rattle.std.proofs.Common.{ap, arith, refl, subst, sym, ◌∙◌}
 use Rattle.std.specs.List.{cons_option, range_with_len}
-use Rattle.std.specs.Prelude.{Bool, List, None, Option, Some, [], bytes_eq, false, filter_map, find, is_some, map, option_map, slice_get, suc, true, zero, ℕ, ◌*◌, ◌+◌, ◌-◌, ◌<◌, ◌==◌, ◌∷◌, ◌≡◌}
+use Rattle.std.specs.Prelude.{Bool, List, None, Option, Some, [], bytes_eq, false, filter_map, find, is_some, map, option_map, slice_get, suc, true, zero, ℕ, ◌*◌, ◌+◌, ◌-◌, ◌==◌, ◌∷◌, ◌≡◌}
 
 filtered_by : (f : SessionLine → Option Given) (x : SessionLine) (xs : List SessionLine) (n : ℕ) (g : Given) (o : Option Given) → f x ≡ o
     → slice_get (cons_option o (filter_map f xs)) n ≡ Some g
@@ -53,9 +53,6 @@ given_first : (h : Header) (m n : ℕ) (g : Given) → slice_get (filter_map (gi
 given_first h m n g at =
     let r = filtered (given_of h m) h.sessions n g at in
     given_by h m r.0 g (r.0.machine == m) r.1 ∙ sym (reading_first (clock_reading h m))
-
-some_fail : (t : TimingNumbers) → IsTiming t → 0 < fail t
-some_fail t h = let n = h.io.0 in omega (arith, n)
 
 abbrev daemon_of : Program → Layout → Header → ℕ → SessionLine → Daemon
 daemon_of p g h m s = new_daemon 0 (setting_of p g h m s.name first_numbers (filter_map (given_of h m) h.sessions)) (first_stamp h m)

@@ -71,7 +71,7 @@ pass_keeps t moment later step d m growths a may w =
       lately = may.lands;
       given = w.given;
       fresh = w.fresh;
-      lost = λ x there. let l = w.lost x there in record { reset = l.reset; there = l.there; after = l.after; stood = l.stood };
+      lost = w.lost;
     }
 
 -- ---- a test
@@ -87,7 +87,7 @@ tested_by t moment step now a false k clock at is w =
       lately = w.lately;
       given = w.given;
       fresh = w.fresh;
-      lost = λ x there. let l = w.lost x there in record { reset = l.reset; there = l.there; after = l.after; stood = l.stood };
+      lost = w.lost;
     }
 tested_by t moment step now a true k clock at is w =
     record {
@@ -103,7 +103,7 @@ tested_by t moment step now a true k clock at is w =
           let early = test_finds d.setting d.trace s (reading_now a) (k.lawful d there) holds its covered in
           let same = ap reading_of clock in
           omega (arith, early, same);
-      lost = λ x there. let l = w.lost x there in record { reset = l.reset; there = l.there; after = l.after; stood = l.stood };
+      lost = w.lost;
     }
 
 pub test_keeps : (t : TimingNumbers) (moment step : ℕ) (w : World) (a : Machine) → IsKnown t a → w.moment ≡ moment → IsWatched t moment step a → IsWatched t moment step (after_test w a)
@@ -121,17 +121,16 @@ crash_keeps t moment step a w =
       lately = w.lately;
       given = w.given;
       fresh = w.fresh;
-      lost = λ x there. let l = w.lost x there in record { reset = l.reset; there = l.there; after = l.after; stood = l.stood };
+      lost = w.lost;
     }
 
 -- ---- a reset
 
-lost_more : (t : TimingNumbers) (w : World) (a : Machine) (d : Daemon) → WasLost t a d → WasLost t (after_reset w a) d
-lost_more t w a d l =
-    record { reset = l.reset; there = contains_more (stamp_now w a) a.resets l.reset l.there; after = l.after; stood = l.stood }
+lost_more : (t : TimingNumbers) (r : Stamp) (rs : List Stamp) (cs : List Course) (d : Daemon) → WasLost t rs cs d → WasLost t (r ∷ rs) cs d
+lost_more t r rs cs d l = record { reset = l.reset; there = contains_more r rs l.reset l.there; after = l.after; stood = l.stood }
 
 lost_now : (t : TimingNumbers) (moment step : ℕ) (w : World) (a : Machine) (d : Daemon) → IsKnown t a → w.moment ≡ moment → w.step ≡ step → IsWatched t moment step a
-    → since_restart a ≡ Some d → WasLost t (after_reset w a) d
+    → since_restart a ≡ Some d → WasLost t (stamp_now w a ∷ a.resets) a.calls d
 lost_now t moment step w a d k at this h since =
     let there = first_there (a.up && a.used) (daemons_on a) d since in
     record {
@@ -170,9 +169,9 @@ reset_keeps t moment step w a k at this h =
       given = λ d since. absurd (none_some d since);
       fresh = λ d s since. absurd (none_some d since);
       lost = λ d there.
-          elim (either_daemon (a.up && a.used) (daemons_on a) d there) as (λ z. WasLost t (after_reset w a) d) [
+          elim (either_daemon (a.up && a.used) (daemons_on a) d there) as (λ z. WasLost t (stamp_now w a ∷ a.resets) a.calls d) [
             | inl since ↦ lost_now t moment step w a d k at this h since
-            | inr old ↦ lost_more t w a d (h.lost d old)
+            | inr old ↦ lost_more t (stamp_now w a) a.resets a.calls d (h.lost d old)
           ];
     }
 
@@ -194,8 +193,7 @@ restart_keeps t moment step w a down at h =
       given = λ d since. absurd (none_some d since);
       fresh = λ d s since. absurd (none_some d since);
       lost = λ d there.
-          let l = h.lost d (subst (λ ds. Contains ds d) (sym (lost_down a.up a.used (daemons_on a) down)) there) in
-          record { reset = l.reset; there = l.there; after = l.after; stood = l.stood };
+          h.lost d (subst (λ ds. Contains ds d) (sym (lost_down a.up a.used (daemons_on a) down)) there);
     }
 
 -- ---- a daemon begins
@@ -232,6 +230,5 @@ start_keeps t moment step w m name a k up unused h =
       lost = λ d there.
           let old : Contains a.ended d = subst (λ ds. Contains ds d) (lost_up a.up _ a.ended up) there in
           let same : daemons_on a ≡ a.ended = ap (λ o. daemons_by o a.ended) (k.settled.unused unused) in
-          let l = h.lost d (subst (λ ds. Contains ds d) (sym (lost_unused a.up a.used (daemons_on a) unused ∙ same)) old) in
-          record { reset = l.reset; there = l.there; after = l.after; stood = l.stood };
+          h.lost d (subst (λ ds. Contains ds d) (sym (lost_unused a.up a.used (daemons_on a) unused ∙ same)) old);
     }

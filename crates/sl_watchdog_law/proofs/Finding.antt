@@ -1,9 +1,10 @@
 -- What is in a list, and what a test finds there.
+use Rattle.sl_session_law.proofs.Joining.{same_number_by}
 use Rattle.sl_session_law.proofs.Making.{contains_cases, contains_first, contains_more, contains_none}
 use Rattle.sl_session_law.proofs.Naming.{kept}
 use Rattle.sl_sessions.specs.Sessions.{Session, calls_of, has_open_delta, has_open_write, is_call_of, is_delta_purpose}
 use Rattle.sl_trace.specs.Traces.{Submitted, Trace, is_write, submitted}
-use Rattle.sl_words.proofs.CaseLaws.{false_is_true, none_some, some_value, true_is_false}
+use Rattle.sl_words.proofs.CaseLaws.{false_is_true, is_false, none_some, some_value, true_is_false}
 use Rattle.std.proofs.Common.{ap, arith, inl, inr, refl, subst, sym, tests, ◌∙◌}
 use Rattle.std.specs.List.{list_any}
 use Rattle.std.specs.Prelude.{Bool, Contains, List, None, Option, Some, [], cond, false, filter, find, is_none, true, ℕ, ◌==◌, ◌||◌, ◌∷◌, ◌≡◌, ◌⊎◌}
@@ -29,13 +30,9 @@ pub any_of : {A : Type 0} (p : A → Bool) (xs : List A) (d : A) → p d ≡ tru
 any_of p [] d h there = absurd (contains_none d there)
 any_of p (x ∷ xs) d h there = any_at p x xs d h (p x) refl (contains_cases x xs d there) (λ more. any_of p xs d h more)
 
-by_false : (b : Bool) → (b ≡ true → ⊥) → b ≡ false
-by_false true h = absurd (h refl)
-by_false false h = refl
-
 -- Where none passes, each fails.
 pub none_of : {A : Type 0} (p : A → Bool) (xs : List A) (d : A) → list_any p xs ≡ false → Contains xs d → p d ≡ false
-none_of p xs d none there = by_false (p d) (λ h. true_is_false (sym (any_of p xs d h there) ∙ none))
+none_of p xs d none there = is_false (p d) (λ h. true_is_false (sym (any_of p xs d h there) ∙ none))
 
 kept_by : {A : Type 0} (q : A → Bool) (x : A) (rest xs : List A) (m : A) (b : Bool) → q x ≡ b → Contains (cond b (x ∷ rest) rest) m
     → (Contains rest m → Contains xs m × (q m ≡ true)) → Contains (x ∷ xs) m × (q m ≡ true)
@@ -71,8 +68,8 @@ none_is (Some a) h = absurd (false_is_true h)
 pub equal_numbers : (a b : ℕ) → a ≡ b → (a == b) ≡ true
 equal_numbers a b h = grind (arith, tests)
 
-pub same_number : (a b : ℕ) → (a == b) ≡ true → a ≡ b
-same_number a b h = grind (arith, tests)
+pub numbers_apart : (a b : ℕ) → (a ≡ b → ⊥) → (a == b) ≡ false
+numbers_apart a b h = is_false (a == b) (λ t. h (same_number_by a b t))
 
 -- A session's call.
 pub call_inside : (es : Trace) (s : Session) (m : Submitted) → Contains (submitted es) m → m.call.session ≡ s.number → Contains (calls_of es s) m
@@ -81,7 +78,7 @@ call_inside es s m there mine = kept (is_call_of s) (submitted es) m (equal_numb
 pub call_owner : (es : Trace) (s : Session) (m : Submitted) → Contains (calls_of es s) m → Contains (submitted es) m × (m.call.session ≡ s.number)
 call_owner es s m there =
     let r = kept_inside (is_call_of s) (submitted es) m there in
-    (r.0, same_number m.call.session s.number r.1)
+    (r.0, same_number_by m.call.session s.number r.1)
 
 pub open_write : (es : Trace) (s : Session) (m : Submitted) → Contains (calls_of es s) m → m.answer ≡ None → is_write m.call.op ≡ true → has_open_write es s ≡ true
 open_write es s m there waits writes =

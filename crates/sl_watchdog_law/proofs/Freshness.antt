@@ -11,7 +11,7 @@ use Rattle.sl_session_law.specs.Promises.{IsSession}
 use Rattle.sl_sessions.specs.Sessions.{Session, calls_of, free_write, has_open_write, is_covered_stage, joined_after, last_renewal, refused_after, removed_after, session_numbered, sessions, stage_in}
 use Rattle.sl_sessions.specs.declared.stage.Stage.TheVariants.{Looking}
 use Rattle.sl_sessions.specs.declared.stage.Stage.{Stage}
-use Rattle.sl_time.specs.Times.{TimingNumbers, fail}
+use Rattle.sl_time.specs.Times.{IsTiming, TimingNumbers, fail}
 use Rattle.sl_trace.specs.Connections.{Connection, connections, given_connection, last_registering, registers, test_holds}
 use Rattle.sl_trace.specs.Traces.{Setting, Submitted, Trace}
 use Rattle.sl_trace.specs.declared.effects.Entry.{Entry}
@@ -74,6 +74,9 @@ acts_joined st es s k h = ap (acts_by (fail st.timing) (last_renewal st es s) (l
 
 pub acts_joining : (st : Setting) (es : Trace) (s : Session) → joined_after es s ≡ None → acts_until st es s ≡ last_registering es s.lockspace + fail st.timing
 acts_joining st es s h = ap (acts_by (fail st.timing) (last_renewal st es s) (last_registering es s.lockspace)) h
+
+pub some_fail : (t : TimingNumbers) → IsTiming t → 0 < fail t
+some_fail t h = let n = h.io.0 in omega (arith, n)
 
 -- ---- an entry
 

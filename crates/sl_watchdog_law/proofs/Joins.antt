@@ -1,7 +1,7 @@
 -- A session joins by the answer of its first renewal: from that entry on the renewal counts.
 use Rattle.sl_law.proofs.LawFacts.{lawful-front}
 use Rattle.sl_law.specs.Lawful.{Lawful}
-use Rattle.sl_session_law.proofs.Joining.{joined_before}
+use Rattle.sl_session_law.proofs.Joining.{joined_before, same_number_by}
 use Rattle.sl_session_law.proofs.Making.{SameCall, contains_cases, contains_first, contains_more, contains_none, old_or_new, same_answered}
 use Rattle.sl_session_law.proofs.Owning.{got_inside}
 use Rattle.sl_session_law.specs.Promises.{IsSession}
@@ -17,7 +17,7 @@ use Rattle.sl_trace.specs.declared.input.Answer.TheVariants.{Written}
 use Rattle.sl_trace.specs.declared.input.Answer.{Answer}
 use Rattle.sl_trace.specs.declared.input.Input.TheVariants.{Answer as Told, Exit, Line, Spawned, Wake}
 use Rattle.sl_trace.specs.declared.input.Input.{Input}
-use Rattle.sl_watchdog_law.proofs.Finding.{call_owner, equal_numbers, find_inside, same_number}
+use Rattle.sl_watchdog_law.proofs.Finding.{call_owner, equal_numbers, find_inside}
 use Rattle.sl_watchdog_law.proofs.Numbering.{call_found, given_first, given_later}
 use Rattle.sl_watchdog_law.proofs.Readings.{Counts, NextRenewal, Stays, after_by, in_by, next_renewal}
 use Rattle.sl_watchdog_law.proofs.Renewing.{IsOpenRenewal, told_is_open}
@@ -64,7 +64,7 @@ brought_by past e n w x a ms i there true is None was h same =
       before = x;
       inside = there;
       same = same;
-      told = i ∙ ap (λ k. Told k w) (sym (same_number x.call.number n is)) ∙ ap (λ (b : Answered). Told x.call.number b.answer) now;
+      told = i ∙ ap (λ k. Told k w) (sym (same_number_by x.call.number n is)) ∙ ap (λ (b : Answered). Told x.call.number b.answer) now;
       place = ap (λ (b : Answered). b.at) (sym now);
     })
 

@@ -49,10 +49,10 @@ pub record IsHeld (t : TimingNumbers) (d : Daemon) (s : Session) (kept : Stamp) 
   pub connected : IsConnected t (point_of stamp) (point_of kept) moment
 
 -- The daemon's machine was reset after all its calls, while connections stood for all writes that it left open.
-pub record WasLost (t : TimingNumbers) (a : Machine) (d : Daemon) : Type 0 where
+pub record WasLost (t : TimingNumbers) (resets : List Stamp) (calls : List Course) (d : Daemon) : Type 0 where
   pub reset : Stamp
-  pub there : Contains a.resets reset
-  pub after : (c : Course) → Contains a.calls c → c.daemon ≡ d.number → c.made.step < reset.step
+  pub there : Contains resets reset
+  pub after : (c : Course) → Contains calls c → c.daemon ≡ d.number → c.made.step < reset.step
   pub stood : (s : Session) → IsSession d.setting d.trace s → has_open_write d.trace s ≡ true → (kept : Stamp) × IsHeld t d s kept reset.moment
 
 -- What is kept of a machine, at this moment and before this step.
@@ -68,7 +68,7 @@ pub record IsWatched (t : TimingNumbers) (moment step : ℕ) (a : Machine) : Typ
   pub given : (d : Daemon) → since_restart a ≡ Some d → GivenNow d
   -- the last keepalive found each connection unexpired
   pub fresh : (d : Daemon) (s : Session) → since_restart a ≡ Some d → IsFresh d.setting d.trace s (reading_of a.kept.clock)
-  pub lost : (d : Daemon) → Contains (lost_daemons a) d → WasLost t a d
+  pub lost : (d : Daemon) → Contains (lost_daemons a) d → WasLost t a.resets a.calls d
 
 -- ---- calls that go on
 
@@ -110,12 +110,15 @@ goes_mapped f (x ∷ cs) c each there =
       | inr more ↦ goes_more x cs c (goes_mapped f cs c each more)
     ]
 
-lost_still : (t : TimingNumbers) (a : Machine) (cs : List Course) (d : Daemon) → ((c : Course) → Contains cs c → GoesOn a.calls c) → WasLost t a d → WasLost t (record a { calls = cs }) d
-lost_still t a cs d each l =
+lost_still : (t : TimingNumbers) (resets : List Stamp) (calls cs : List Course) (d : Daemon) → ((c : Course) → Contains cs c → GoesOn calls c) → WasLost t resets calls d
+    → WasLost t resets cs d
+lost_still t resets calls cs d each l =
     record {
       reset = l.reset;
       there = l.there;
-      after = λ c there its. let g = each c there in subst (λ (s : Stamp). s.step < l.reset.step) (sym g.made) (l.after g.before g.inside (sym g.daemon ∙ its));
+      after = λ c there its.
+          let g = each c there in
+          subst (λ (s : Stamp). s.step < l.reset.step) (sym g.made) (l.after g.before g.inside (sym g.daemon ∙ its));
       stood = l.stood;
     }
 
@@ -136,7 +139,7 @@ calls_keep t moment step a cs each w =
       lately = λ c there lands r after. lately_still t moment step a c (each c there) w lands r after;
       given = w.given;
       fresh = w.fresh;
-      lost = λ d there. lost_still t a cs d each (w.lost d there);
+      lost = λ d there. lost_still t a.resets a.calls cs d each (w.lost d there);
     }
 
 -- Nothing of it is lost as steps go on.

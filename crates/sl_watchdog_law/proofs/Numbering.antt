@@ -1,4 +1,5 @@
 -- Numbers of sessions and of calls in a trace.
+use Rattle.sl_session_law.proofs.Joining.{same_number_by}
 use Rattle.sl_session_law.proofs.Making.{contains_cases, contains_none, same_answered}
 use Rattle.sl_session_law.proofs.Owning.{session_more}
 use Rattle.sl_sessions.specs.Sessions.{Session, added_by, begun_in, given_session, is_join_call, joining_session, session_numbered, sessions}
@@ -11,8 +12,8 @@ use Rattle.sl_trace.specs.declared.input.Answer.{Answer}
 use Rattle.sl_trace.specs.declared.input.Given.{Given}
 use Rattle.sl_trace.specs.declared.input.Input.TheVariants.{Answer as Told, Exit, Line, Spawned, Wake}
 use Rattle.sl_trace.specs.declared.input.Input.{Input}
-use Rattle.sl_watchdog_law.proofs.Finding.{any_found, equal_numbers, kept_inside, none_is, same_number}
-use Rattle.sl_words.proofs.CaseLaws.{is_false, none_some, some_value}
+use Rattle.sl_watchdog_law.proofs.Finding.{any_found, equal_numbers, kept_inside, none_is, numbers_apart}
+use Rattle.sl_words.proofs.CaseLaws.{none_some, some_value}
 use Rattle.sl_words.proofs.WordLaws.{and_true}
 use Rattle.std.proofs.Common.{ap, arith, inl, inr, refl, subst, sym, ◌∙◌}
 use Rattle.std.specs.List.{enumerate_from, list_any, range_with_len}
@@ -162,9 +163,6 @@ number_below first (x ∷ ms) m h there =
       | inr old ↦ let n = number_below first ms m h.1 old in omega (arith, n)
     ]
 
-not_equal : (a b : ℕ) → (a ≡ b → ⊥) → (a == b) ≡ false
-not_equal a b h = is_false (a == b) (λ t. h (same_number a b t))
-
 found_here : (x : Submitted) (ms : List Submitted) (m : Submitted) → x ≡ m → find (λ (y : Submitted). y.call.number == m.call.number) (x ∷ ms) ≡ Some m
 found_here x ms m here =
     ap (λ b. cond b (Some x) (find (λ (y : Submitted). y.call.number == m.call.number) ms)) (equal_numbers x.call.number m.call.number (ap (λ (y : Submitted). y.call.number) here))
@@ -174,7 +172,7 @@ found_later : (first : ℕ) (x : Submitted) (ms : List Submitted) (m : Submitted
     → find (λ (y : Submitted). y.call.number == m.call.number) ms ≡ Some m → find (λ (y : Submitted). y.call.number == m.call.number) (x ∷ ms) ≡ Some m
 found_later first x ms m h n rest =
     let k = h.0 in
-    ap (λ b. cond b (Some x) (find (λ (y : Submitted). y.call.number == m.call.number) ms)) (not_equal x.call.number m.call.number (λ same. omega (arith, n, k, same)))
+    ap (λ b. cond b (Some x) (find (λ (y : Submitted). y.call.number == m.call.number) ms)) (numbers_apart x.call.number m.call.number (λ same. omega (arith, n, k, same)))
     ∙ rest
 
 -- A call is found by its number.
@@ -206,7 +204,7 @@ answered_call st es e n a h is =
       record {
         inside = w.0;
         waits = none_is r.0.answer w.1;
-        found = subst (λ k. call_numbered es k ≡ Some r.0) (same_number r.0.call.number n b.0) (call_found st es r.0 h.1 w.0);
+        found = subst (λ k. call_numbered es k ≡ Some r.0) (same_number_by r.0.call.number n b.0) (call_found st es r.0 h.1 w.0);
         kind = b.1;
       },
     )

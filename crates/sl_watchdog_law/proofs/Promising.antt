@@ -10,6 +10,7 @@ use Rattle.sl_run.specs.Safety.{Found, IsSession as IsSessionOf, SessionId, WasR
 use Rattle.sl_run.specs.Worlds.{Course, Daemon, Machine, Stamp, World, daemon_numbered, daemons_on, is_of_running, is_open, is_write_course, machine_at, may_land, resets_after, world_with}
 use Rattle.sl_run.specs.declared.header.Header.{Header}
 use Rattle.sl_run_law.proofs.Going.{run_goes}
+use Rattle.sl_session_law.proofs.Joining.{both, same_number_by}
 use Rattle.sl_session_law.proofs.Covering.{writes_are_covered}
 use Rattle.sl_session_law.proofs.Making.{calls_are_made, contains_cases, contains_first, contains_more, contains_none}
 use Rattle.sl_session_law.proofs.Naming.{kept}
@@ -20,7 +21,7 @@ use Rattle.sl_time.specs.Times.{TimingNumbers}
 use Rattle.sl_trace.specs.Connections.{connection_named}
 use Rattle.sl_trace.specs.Traces.{Answered, Setting, Submitted, Trace, is_write, submitted}
 use Rattle.sl_trace.specs.declared.effects.Call.{Call}
-use Rattle.sl_watchdog_law.proofs.Finding.{any_found, call_inside, equal_numbers, find_inside, none_is, open_write, same_number}
+use Rattle.sl_watchdog_law.proofs.Finding.{any_found, call_inside, equal_numbers, find_inside, none_is, numbers_apart, open_write}
 use Rattle.sl_watchdog_law.proofs.Holding.{held}
 use Rattle.sl_watchdog_law.proofs.Knowing.{IsKnown, RestsOn, known}
 use Rattle.sl_watchdog_law.proofs.Machines.{IsWatched, WasLost, either_daemon, lost_daemons}
@@ -51,6 +52,12 @@ record IsFound (w : World) (i : SessionId) (f : Found) : Type 0 where
   daemon : Contains (daemons_on f.machine) f.daemon × (f.daemon.number ≡ i.daemon)
   session : session_numbered f.daemon.setting f.daemon.trace i.number ≡ Some f.session
 
+found_in : (w : World) (i : SessionId) (a : Machine) (d : Daemon) (s : Session) (f : Found) → machine_at w i.machine ≡ Some a → daemon_numbered a i.daemon ≡ Some d
+    → session_numbered d.setting d.trace i.number ≡ Some s → record { machine = a; daemon = d; session = s } ≡ f → IsFound w i f
+found_in w i a d s f at numbered session is =
+    let there = find_inside (λ (x : Daemon). x.number == i.daemon) (daemons_on a) d numbered in
+    subst (λ (x : Found). IsFound w i x) is (record { at = at; daemon = (there.0, same_number_by d.number i.daemon there.1); session = session })
+
 is_found : (w : World) (i : SessionId) (f : Found) → IsSessionOf w i f → IsFound w i f
 is_found w i f h =
     let a = after_value (λ (a : Machine). option_and_then (λ (d : Daemon). option_map (λ (s : Session). record { machine = a; daemon = d; session = s })
@@ -58,8 +65,7 @@ is_found w i f h =
     let d = after_value (λ (d : Daemon). option_map (λ (s : Session). record { machine = a.0; daemon = d; session = s }) (session_numbered d.setting d.trace i.number))
     (daemon_numbered a.0 i.daemon) f a.2 in
     let s = mapped_value (λ (s : Session). record { machine = a.0; daemon = d.0; session = s }) (session_numbered d.0.setting d.0.trace i.number) f d.2 in
-    let there = find_inside (λ (x : Daemon). x.number == i.daemon) (daemons_on a.0) d.0 d.1 in
-    subst (λ (x : Found). IsFound w i x) s.2 (record { at = a.1; daemon = (there.0, same_number d.0.number i.daemon there.1); session = s.1 })
+    found_in w i a.0 d.0 s.0 f a.1 d.1 s.1 s.2
 
 -- It is a session of its trace.
 itself : (st : Setting) (es : Trace) (n : ℕ) (s : Session) → session_numbered st es n ≡ Some s → IsSession st es s
@@ -130,7 +136,7 @@ not_running : (t : TimingNumbers) (a : Machine) (c : Course) (d : Daemon) → Is
 not_running t a c d k there its runs =
     let x = some_is_true (λ (y : Daemon). y.number == c.daemon) a.daemon runs in
     apart_by a d x.0 k.mirrors.numbered x.1 (by_false a.up (λ down. no_value x.0 a.daemon x.1 (k.settled.down down)))
-    (by_false a.used (λ unused. no_value x.0 a.daemon x.1 (k.settled.unused unused))) there (same_number x.0.number c.daemon x.2 ∙ its)
+    (by_false a.used (λ unused. no_value x.0 a.daemon x.1 (k.settled.unused unused))) there (same_number_by x.0.number c.daemon x.2 ∙ its)
 
 or_second : (a b : Bool) → (a ≡ true → ⊥) → (a || b) ≡ true → b ≡ true
 or_second true b never h = absurd (never refl)
@@ -144,7 +150,7 @@ is_less : (x y : ℕ) → x < y → nat_lt x y ≡ true
 is_less x y h = grind (arith, tests)
 
 -- The reset came after it.
-reset_after : (t : TimingNumbers) (a : Machine) (c : Course) (d : Daemon) → (l : WasLost t a d) → Contains a.calls c → c.daemon ≡ d.number → Contains (resets_after a c.made.step) l.reset
+reset_after : (t : TimingNumbers) (a : Machine) (c : Course) (d : Daemon) → (l : WasLost t a.resets a.calls d) → Contains a.calls c → c.daemon ≡ d.number → Contains (resets_after a c.made.step) l.reset
 reset_after t a c d l there its =
     kept (λ (x : Stamp). nat_lt c.made.step x.step) a.resets l.reset (is_less c.made.step l.reset.step (l.after c there its)) l.there
 
@@ -176,9 +182,9 @@ writers on calls p h xs run i f is flies =
     let kind = and_true (is_course_of i c) (is_write_course c) b.0 in
     let whose = and_true (c.daemon == i.daemon) (c.call.session == i.number) kind.0 in
     let there = g.daemon.0 in
-    let mine = same_number c.daemon i.daemon whose.0 ∙ sym g.daemon.1 in
+    let mine = same_number_by c.daemon i.daemon whose.0 ∙ sym g.daemon.1 in
     let its = itself f.daemon.setting f.daemon.trace i.number f.session g.session in
-    let number = same_number c.call.session i.number whose.1 ∙ sym (number_is f.daemon.setting f.daemon.trace i.number f.session g.session) in
+    let number = same_number_by c.call.session i.number whose.1 ∙ sym (number_is f.daemon.setting f.daemon.trace i.number f.session g.session) in
     let none = none_is c.answered (and_true (is_none c.answered) (is_of_running f.machine c || may_land c) b.1).0 in
     let o = open_write_of f.machine c f.daemon (calls p h xs run i.machine f.machine f.daemon g.at there) found.1 mine kind.1 none in
     acts_by h w f c (known on p h xs run i.machine f.machine g.at) (all_watched on p h xs run i.machine f.machine g.at) its found.1 mine b.1 there
@@ -202,9 +208,6 @@ session_of_call st es m h there =
     let s = some_of (session_numbered st (d.entry ∷ d.past) m.call.session) (law.calls.0.owned m.call (got_inside d.entry.effects.calls d.index m.call d.call)) in
     (s.0, subst (λ x. session_numbered st x m.call.session ≡ Some s.0) (sym d.whole) (sessions_stay st d.later (d.entry ∷ d.past) m.call.session s.0 s.1))
 
-not_equal : (x y : ℕ) → y < x → (x == y) ≡ false
-not_equal x y h = grind (arith, tests)
-
 -- A daemon is found by its number.
 daemon_found : (ds : List Daemon) (d : Daemon) → AreNumbered ds → Contains ds d → find (λ (x : Daemon). x.number == d.number) ds ≡ Some d
 daemon_found [] d h there = absurd (contains_none d there)
@@ -216,7 +219,7 @@ daemon_found (x ∷ ds) d h there =
       | inr old ↦
           let below = number_below ds d h.1 old in
           let place = h.0 in
-          ap (λ b. cond b (Some x) (find (λ (y : Daemon). y.number == d.number) ds)) (not_equal x.number d.number (omega (arith, below, place)))
+          ap (λ b. cond b (Some x) (find (λ (y : Daemon). y.number == d.number) ds)) (numbers_apart x.number d.number (λ same. omega (arith, below, place, same)))
           ∙ daemon_found ds d h.1 old
     ]
 
@@ -230,9 +233,6 @@ is_session w m n a d s at numbers there its =
     ∙ ap (λ o. option_and_then (λ (x : Daemon). option_map (λ (y : Session). record { machine = a; daemon = x; session = y }) (session_numbered x.setting x.trace n)) o)
     (daemon_found (daemons_on a) d numbers there)
     ∙ ap (λ o. option_map (λ (y : Session). record { machine = a; daemon = d; session = y }) o) its
-
-both : (a b : Bool) → a ≡ true → b ≡ true → (a && b) ≡ true
-both a b h k = ap (λ x. x && b) h ∙ k
 
 not_empty : (rs : List Stamp) (r : Stamp) → Contains rs r → is_empty rs ≡ false
 not_empty [] r there = absurd (contains_none r there)

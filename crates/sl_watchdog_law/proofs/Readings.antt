@@ -169,9 +169,9 @@ renewal_by st e es s h before (Counts m is told_is same) =
     let time = h.0.time in
     omega (arith, same, r, time)
 
-pub renewal_reading : (st : Setting) (es : Trace) (n : ℕ) (s : Session) → IsTrace st es → s.renewed ≤ last_reading st [] → last_renewal st es s ≤ last_reading st es
-renewal_reading st [] n s h given = given
-renewal_reading st (e ∷ es) n s h given =
-    let before = renewal_reading st es n s h.1 given in
+pub renewal_reading : (st : Setting) (es : Trace) (s : Session) → IsTrace st es → s.renewed ≤ last_reading st [] → last_renewal st es s ≤ last_reading st es
+renewal_reading st [] s h given = given
+renewal_reading st (e ∷ es) s h given =
+    let before = renewal_reading st es s h.1 given in
     let time = h.0.time in
     renewal_by st e es s h (omega (arith, before, time)) (next_renewal st es s e)

@@ -2,6 +2,7 @@
 use Rattle.sl_law.proofs.LawFacts.{lawful-front}
 use Rattle.sl_law.specs.Lawful.{Lawful}
 use Rattle.sl_law.specs.Saying.{cut_at}
+use Rattle.sl_session_law.proofs.Joining.{same_number_by}
 use Rattle.sl_session_law.proofs.Growing.{mine_marked, mine_next, other_next, to_all}
 use Rattle.sl_session_law.proofs.Making.{contains_cases, contains_none, old_or_new, was_marked}
 use Rattle.sl_session_law.proofs.Owning.{got_inside, is_the_one, session_more}
@@ -15,7 +16,7 @@ use Rattle.sl_trace.specs.declared.effects.Op.{Op}
 use Rattle.sl_trace.specs.declared.effects.Purpose.TheVariants.{RequestRead, RequestWrite, Joining, Lease, Leaving, Renewal, SeeRequest, Survey, ValueRead, ValueWrite}
 use Rattle.sl_trace.specs.declared.effects.Purpose.{Purpose}
 use Rattle.sl_trace.specs.declared.input.Answer.TheVariants.{Written}
-use Rattle.sl_watchdog_law.proofs.Finding.{call_inside, open_delta, same_number}
+use Rattle.sl_watchdog_law.proofs.Finding.{call_inside, open_delta}
 use Rattle.sl_watchdog_law.proofs.Numbering.{answered_call}
 use Rattle.sl_watchdog_law.proofs.Readings.{Counts, NextRenewal, Stays, given_reading, next_renewal, renewal_reading, told}
 use Rattle.sl_watchdog_law.proofs.Standing.{older_call}
@@ -57,7 +58,7 @@ one_call : (st : Setting) (e : Entry) (past : Trace) (s : Session) → Lawful st
     → (k : ℕ) (c : Call) → slice_get e.effects.calls k ≡ Some c → (b : Bool) → (c.session == s.number) ≡ b → OneOpen (calls_of (cut_at k e ∷ past) s) → OneOpen (calls_of (cut_at (suc k) e ∷ past) s)
 one_call st e past s h same k c at false other one = subst OneOpen (sym (other_next past e s k c at other)) one
 one_call st e past s h same k c at true mine one =
-    let number = same_number c.session s.number mine in
+    let number = same_number_by c.session s.number mine in
     let its = is_the_one (session_numbered st (e ∷ past) c.session) s (h.calls.0.owned c (got_inside e.effects.calls k c at))
     (λ x is. same x (ap (λ n. session_numbered st (e ∷ past) n) (sym number) ∙ is)) in
     subst OneOpen (sym (mine_next past e s k c at mine))
@@ -106,7 +107,7 @@ told_is_open st e past s m h is =
     let same : asked.0 ≡ m = one_value asked.0 m (call_numbered past w.number) asked.1.found w.found in
     record {
       inside = subst (λ x. Contains (submitted past) x) same asked.1.inside;
-      mine = same_number m.call.session s.number w.its;
+      mine = same_number_by m.call.session s.number w.its;
       renews = w.renews;
       waits = subst (λ (x : Submitted). x.answer ≡ None) same asked.1.waits;
       writes = subst (λ (x : Submitted). is_write x.call.op ≡ true) same (written_by st asked.0.call.op asked.1.kind);
@@ -130,7 +131,7 @@ renewed_after st (e ∷ past) s m h its there mine renews waits =
     elim (old_or_new (length past) e.reading e.effects.calls (mark past e e.input (submitted past)) m there) as (λ z. last_renewal st (e ∷ past) s ≤ m.reading) [
       | inr new ↦
           let r = new.reading_is in
-          let below = renewal_reading st (e ∷ past) s.number s h.is_trace (given_reading st (e ∷ past) s.number s its) in
+          let below = renewal_reading st (e ∷ past) s h.is_trace (given_reading st (e ∷ past) s.number s its) in
           omega (arith, r, below)
       | inl old ↦
           let w = older_call st e past s m h its old mine in

@@ -4,6 +4,7 @@ use Rattle.sl_law.specs.Lawful.{Lawful}
 use Rattle.sl_run.specs.Events.{after_effects, after_step, daemon_number, new_course, with_entry}
 use Rattle.sl_run.specs.Worlds.{Course, Daemon, Machine, Stamp, daemons_on, may_land, reading_now, resets_after}
 use Rattle.sl_run_law.proofs.Tracking.{told}
+use Rattle.sl_session_law.proofs.Joining.{both}
 use Rattle.sl_session_law.proofs.Making.{contains_cases, contains_first, contains_none}
 use Rattle.sl_time.specs.Times.{IsTiming, TimingNumbers, fail, reading_of}
 use Rattle.sl_trace.specs.Connections.{Connection, after_move}
@@ -16,9 +17,9 @@ use Rattle.sl_trace.specs.declared.input.Input.TheVariants.{Answer as Told, Exit
 use Rattle.sl_trace.specs.declared.input.Input.{Input}
 use Rattle.sl_watchdog_law.proofs.Changing.{if_changed, told_goes}
 use Rattle.sl_watchdog_law.proofs.Finding.{kept_inside}
-use Rattle.sl_watchdog_law.proofs.Freshness.{IsFresh, stays_fresh}
+use Rattle.sl_watchdog_law.proofs.Freshness.{IsFresh, some_fail, stays_fresh}
 use Rattle.sl_watchdog_law.proofs.Knowing.{IsKnown}
-use Rattle.sl_watchdog_law.proofs.Machines.{GoesOn, IsWatched, WasLost, first_by, goes_mapped, goes_same, lately_still, lost_by, lost_daemons, steps_keep}
+use Rattle.sl_watchdog_law.proofs.Machines.{GoesOn, IsWatched, first_by, goes_mapped, goes_same, lately_still, lost_by, lost_daemons, steps_keep}
 use Rattle.sl_watchdog_law.proofs.Stamps.{GivenNow}
 use Rattle.sl_words.proofs.CaseLaws.{no_value, none_some, some_value}
 use Rattle.std.proofs.Common.{ap, arith, inl, inr, refl, subst, sym, tests, ◌∙◌}
@@ -30,15 +31,12 @@ use Rattle.std.specs.Prelude.{Bool, Contains, List, None, Option, Some, [], fals
 abbrev daemons_by : Option Daemon → List Daemon → List Daemon
 daemons_by o ds = elim o [ None ↦ ds | Some d ↦ d ∷ ds ]
 
-both_true : (up used : Bool) → up ≡ true → used ≡ true → (up && used) ≡ true
-both_true up used h k = ap (λ b. b && used) h ∙ k
-
 since_running : (b : Machine) (d : Daemon) → b.daemon ≡ Some d → b.up ≡ true → b.used ≡ true → since_restart b ≡ Some d
 since_running b d runs up used =
-    ap (λ t. first_by t (daemons_on b)) (both_true b.up b.used up used) ∙ ap (λ o. first_by true (daemons_by o b.ended)) runs
+    ap (λ t. first_by t (daemons_on b)) (both b.up b.used up used) ∙ ap (λ o. first_by true (daemons_by o b.ended)) runs
 
 pub lost_running : (b : Machine) (d : Daemon) → b.daemon ≡ Some d → b.up ≡ true → b.used ≡ true → lost_daemons b ≡ b.ended
-lost_running b d runs up used = ap (λ t. lost_by t (daemons_on b)) (both_true b.up b.used up used) ∙ ap (λ o. lost_by true (daemons_by o b.ended)) runs
+lost_running b d runs up used = ap (λ t. lost_by t (daemons_on b)) (both b.up b.used up used) ∙ ap (λ o. lost_by true (daemons_by o b.ended)) runs
 
 first_is : (t : Bool) (x : Daemon) (ds : List Daemon) (d : Daemon) → first_by t (x ∷ ds) ≡ Some d → x ≡ d
 first_is true x ds d h = some_value x d h
@@ -95,11 +93,11 @@ made_by : (t : TimingNumbers) (moment step : ℕ) (b : Machine) (now : Stamp) (n
 made_by t moment step b now number c at w (inl g) = let n = w.made g.before g.inside in let m = ap (λ (x : Stamp). x.step) g.made in omega (arith, n, m)
 made_by t moment step b now number c at w (inr new) = let m = ap (λ (x : Stamp). x.step) new.0 in omega (arith, m, at)
 
-after_by : (t : TimingNumbers) (b : Machine) (d x : Daemon) (now : Stamp) (c : Course) → WasLost t b x → (x.number ≡ d.number → ⊥) → c.daemon ≡ x.number → IsOfStep b.calls now d.number c
+after_by : (b : Machine) (d x : Daemon) (now : Stamp) (c : Course) → (x.number ≡ d.number → ⊥) → c.daemon ≡ x.number → IsOfStep b.calls now d.number c
     → (r : Stamp) → ((c : Course) → Contains b.calls c → c.daemon ≡ x.number → c.made.step < r.step) → c.made.step < r.step
-after_by t b d x now c l apart its (inl g) r after =
+after_by b d x now c apart its (inl g) r after =
     let n = after g.before g.inside (sym g.daemon ∙ its) in let m = ap (λ (y : Stamp). y.step) g.made in omega (arith, n, m)
-after_by t b d x now c l apart its (inr new) r after = absurd (apart (sym its ∙ new.1))
+after_by b d x now c apart its (inr new) r after = absurd (apart (sym its ∙ new.1))
 
 entered : (t : TimingNumbers) (moment step : ℕ) (b : Machine) (d : Daemon) (e : Entry) (now : Stamp) (xs : List Connection) (cs : List Course) (gs : List Grant)
     → IsStepping t step b d e now → ((c : Course) → Contains cs c → IsOfStep b.calls now d.number c) → IsWatched t moment step b
@@ -117,12 +115,12 @@ entered t moment step b d e now xs cs gs s each w =
           (stays_fresh d.setting e d.trace y (reading_of b.kept.clock) s.lawful s.some (kept_before b.kept.clock b.clock e.reading w.past s.reading)
           (w.fresh d y (since_running b d s.runs s.up s.used)));
       lost = λ x there.
-          let old : Contains b.ended x = subst (λ ds. Contains ds x) (ap (λ q. lost_by q (with_entry e now d ∷ b.ended)) (both_true b.up b.used s.up s.used)) there in
+          let old : Contains b.ended x = subst (λ ds. Contains ds x) (ap (λ q. lost_by q (with_entry e now d ∷ b.ended)) (both b.up b.used s.up s.used)) there in
           let l = w.lost x (subst (λ ds. Contains ds x) (sym (lost_running b d s.runs s.up s.used)) old) in
           record {
             reset = l.reset;
             there = l.there;
-            after = λ c inside its. after_by t b d x now c l (s.apart x old) its (each c inside) l.reset l.after;
+            after = λ c inside its. after_by b d x now c (s.apart x old) its (each c inside) l.reset l.after;
             stood = l.stood;
           };
     }
@@ -182,7 +180,7 @@ others_keep t moment step b xs gs w =
       lately = w.lately;
       given = w.given;
       fresh = w.fresh;
-      lost = λ x there. let l = w.lost x there in record { reset = l.reset; there = l.there; after = l.after; stood = l.stood };
+      lost = w.lost;
     }
 
 pub own_keeps : (t : TimingNumbers) (moment step : ℕ) (b : Machine) (fx : Effects) (now : Stamp) → fx.calls ≡ [] → IsWatched t moment step b
@@ -224,10 +222,7 @@ pub by_false : (b : Bool) → (b ≡ false → ⊥) → b ≡ true
 by_false true h = refl
 by_false false h = absurd (h refl)
 
-some_fail : (t : TimingNumbers) → IsTiming t → 0 < fail t
-some_fail t h = let n = h.io.0 in omega (arith, n)
-
--- A daemon that steps is one that is known to, by what is known of the machine after the step.
+-- What is known of a machine after a step tells that its daemon could take it.
 pub stepping : (t : TimingNumbers) (step : ℕ) (b : Machine) (d : Daemon) (i : Input) (fx : Effects) (now : Stamp) → IsTiming t → b.daemon ≡ Some d → now.step ≡ step
     → IsKnown t (after_step now i fx b) → IsStepping t step b d (entry_of i fx b) now
 stepping t step b d i fx now timing runs at k =
