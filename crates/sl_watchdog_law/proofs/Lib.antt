@@ -1,0 +1,17 @@
+pub mod Finding
+pub mod Numbering
+pub mod Readings
+pub mod Standing
+pub mod Renewing
+pub mod Joins
+pub mod Becoming
+pub mod Freshness
+pub mod Stamps
+pub mod Knowing
+pub mod Machines
+pub mod Holding
+pub mod Changing
+pub mod Stepping
+pub mod Beginning
+pub mod Watching
+pub mod Promising
