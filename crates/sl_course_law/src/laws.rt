@@ -1,1 +1,8 @@
 //! What a lawful run promises of calls and daemons.
+
+ghost use Rattle.sl_course_law.specs.Promises.{EntriesAreStamped};
+
+/// Each entry of a daemon has its stamp.
+pub fn entries_are_stamped()
+    ensures { EntriesAreStamped }
+{}

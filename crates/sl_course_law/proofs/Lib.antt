@@ -1,0 +1,4 @@
+pub mod Turning
+pub mod Keeping
+pub mod Daemons
+pub mod Stamped
