@@ -39,15 +39,15 @@ begun_by o ds none = subst (λ x. ds ≡ elim x as (λ y. List Daemon) [ None �
 pub all_ended : (a : Machine) → a.daemon ≡ None → a.ended ≡ daemons_on a
 all_ended a none = begun_by a.daemon a.ended none
 
-pub turned_daemons : (w : World) (m : ℕ) (a b : Machine) → IsSettled a → Turned w m a b → DaemonsTurn w m a b
-turned_daemons w m a b s (Stays is) = Same_daemons (ap daemons_on is)
-turned_daemons w m a b s (Clocked n is) = Same_daemons (ap daemons_on is)
-turned_daemons w m a b s (Called n f g h k is) = Same_daemons (ap daemons_on is)
-turned_daemons w m a b s (Tested t is) = Same_daemons (ap daemons_on is)
-turned_daemons w m a b s (Crashed is) = Same_daemons (ap daemons_on is)
-turned_daemons w m a b s (Went_down up is) = Same_daemons (ap daemons_on is)
-turned_daemons w m a b s (Came_up down is) = Same_daemons (ap daemons_on is)
-turned_daemons w m a b s (Began name up used fresh is) =
+pub turned_daemons : (w : World) (e : Event) (m : ℕ) (a b : Machine) → IsSettled a → Turned w e m a b → DaemonsTurn w m a b
+turned_daemons w e m a b s (Stays is) = Same_daemons (ap daemons_on is)
+turned_daemons w e m a b s (Clocked n is) = Same_daemons (ap daemons_on is)
+turned_daemons w e m a b s (Called n f g h k is) = Same_daemons (ap daemons_on is)
+turned_daemons w e m a b s (Tested t is) = Same_daemons (ap daemons_on is)
+turned_daemons w e m a b s (Crashed event is) = Same_daemons (ap daemons_on is)
+turned_daemons w e m a b s (Went_down event up is) = Same_daemons (ap daemons_on is)
+turned_daemons w e m a b s (Came_up event down is) = Same_daemons (ap daemons_on is)
+turned_daemons w e m a b s (Began name event up used fresh is) =
     let d : Daemon = new_daemon (length (daemons_on a)) (setting_of w.program w.layout w.header m name (next_numbers a) []) (stamp_now w a) in
     One_begins d (record { name = name; fresh = fresh; is = refl }) (ap daemons_on is ∙ ap (λ ds. d ∷ ds) (all_ended a (s.unused used)))
 
@@ -60,7 +60,7 @@ entered_by w m b c e s (Some d) was is ended reading =
     (ap (λ o. elim o as (λ x. List Daemon) [ None ↦ b.ended | Some y ↦ y ∷ b.ended ]) was)
     (ap (λ o. elim o as (λ x. List Daemon) [ None ↦ c.ended | Some y ↦ y ∷ c.ended ]) is ∙ ap (λ ds. with_entry e s d ∷ ds) ended)
 
-abbrev entry_of : Input → Effects → Machine → Entry
+abbrev pub entry_of : Input → Effects → Machine → Entry
 entry_of i fx a = record { reading = reading_now a; input = i; effects = fx }
 
 pub step_daemon : (now : Stamp) (i : Input) (fx : Effects) (a : Machine) → (after_step now i fx a).daemon ≡ option_map (with_entry (entry_of i fx a) now) a.daemon

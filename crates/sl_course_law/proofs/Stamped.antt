@@ -18,7 +18,7 @@ keeps p h now x m a c g was =
     let turn = daemons_keep w m IsStamped in
     let new = λ (y : Machine) (d : Daemon) (n : IsNewest w m y d). subst IsStamped (sym n.is) tt in
     turn b c (new b) (λ d e s reading k. (reading, k)) (stepped_daemons w x.0 g.effects m b c g.becomes.stepped)
-    (turn a b (new a) (λ d e s reading k. (reading, k)) (turned_daemons w m a b g.settled g.becomes.turned) was)
+    (turn a b (new a) (λ d e s reading k. (reading, k)) (turned_daemons w x.0 m a b g.settled g.becomes.turned) was)
 
 first : (p : Program) (h : Header) (m : ℕ) → OnDaemons IsStamped (machine_of_header p (layout_with p.digest h.geometry) h m)
 first p h m = first_daemons p (layout_with p.digest h.geometry) h m IsStamped (λ s is. tt)

@@ -26,16 +26,16 @@ pub record KeepsAsking (f : Course → Course) : Type 0 where
   pub answered : (c : Course) → (f c).answered ≡ c.answered
 
 -- What an event changes on a machine before a step.
-pub data Turned (w : World) (m : ℕ) (a b : Machine) : Type 0 where
-  Stays : b ≡ a → Turned w m a b
-  Clocked : (n : ℕ) → b ≡ record a { clock = n } → Turned w m a b
+pub data Turned (w : World) (e : Event) (m : ℕ) (a b : Machine) : Type 0 where
+  Stays : b ≡ a → Turned w e m a b
+  Clocked : (n : ℕ) → b ≡ record a { clock = n } → Turned w e m a b
   -- a call in flight is sampled, lands or is dropped
-  Called : (n : ℕ) (f : Course → Course) (g : Course) → flight_of a n ≡ Some g → KeepsAsking f → b ≡ change_call n f a → Turned w m a b
-  Tested : (s : Stamp) → b ≡ record a { kept = s } → Turned w m a b
-  Began : (name : List ℕ) → a.up ≡ true → a.used ≡ false → list_any (bytes_eq name) (names_of w) ≡ false → b ≡ after_start w m name a → Turned w m a b
-  Crashed : b ≡ after_crash a → Turned w m a b
-  Went_down : a.up ≡ true → b ≡ after_reset w a → Turned w m a b
-  Came_up : a.up ≡ false → b ≡ after_restart w a → Turned w m a b
+  Called : (n : ℕ) (f : Course → Course) (g : Course) → flight_of a n ≡ Some g → KeepsAsking f → b ≡ change_call n f a → Turned w e m a b
+  Tested : (s : Stamp) → b ≡ record a { kept = s } → Turned w e m a b
+  Began : (name : List ℕ) → e ≡ StartDaemon m name → a.up ≡ true → a.used ≡ false → list_any (bytes_eq name) (names_of w) ≡ false → b ≡ after_start w m name a → Turned w e m a b
+  Crashed : e ≡ Crash m → b ≡ after_crash a → Turned w e m a b
+  Went_down : e ≡ Reset m → a.up ≡ true → b ≡ after_reset w a → Turned w e m a b
+  Came_up : e ≡ Restart m → a.up ≡ false → b ≡ after_restart w a → Turned w e m a b
 
 -- What the step of the event makes of a machine.
 pub data Stepped (w : World) (e : Event) (fx : Effects) (m : ℕ) (b c : Machine) : Type 0 where
@@ -47,7 +47,7 @@ pub data Stepped (w : World) (e : Event) (fx : Effects) (m : ℕ) (b c : Machine
 pub record Becomes (w : World) (e : Event) (fx : Effects) (m : ℕ) (a c : Machine) : Type 0 where
   pub middle : Machine
   pub between : machine_at (first_change e w) m ≡ Some middle
-  pub turned : Turned w m a middle
+  pub turned : Turned w e m a middle
   pub stepped : Stepped w e fx m middle c
 
 -- ---- guards
@@ -100,7 +100,7 @@ was_up w m a may h = not_false a.up (on_this w m _ a h (passes w (Reset m) may))
 pub sampling_keeps : (w : World) (k : ℕ) → KeepsAsking (sampled_more w k)
 sampling_keeps w k = record { call = λ c. refl; daemon = λ c. refl; made = λ c. refl; answered = λ c. refl }
 
-asked : (w : World) (e : Event) → may_happen w e ≡ true → Asked (Turned w) w e
+asked : (w : World) (e : Event) → may_happen w e ≡ true → Asked (Turned w e) w e
 asked w e may =
     record {
       pass = λ d growths is m a h. Clocked _ refl;
@@ -118,16 +118,16 @@ asked w e may =
       start = λ m name is a h.
           let may' : may_happen w (StartDaemon m name) ≡ true = subst (λ y. may_happen w y ≡ true) is may in
           let x = starts w m name a may' h in
-          Began name x.0 x.1 (fresh_name w m name a may' h) refl;
-      crash = λ m is a h. Crashed refl;
-      reset = λ m is a h. Went_down (was_up w m a (subst (λ y. may_happen w y ≡ true) is may) h) refl;
-      restart = λ m is a h. Came_up (restarts w m a (subst (λ y. may_happen w y ≡ true) is may) h) refl;
+          Began name is x.0 x.1 (fresh_name w m name a may' h) refl;
+      crash = λ m is a h. Crashed is refl;
+      reset = λ m is a h. Went_down is (was_up w m a (subst (λ y. may_happen w y ≡ true) is may) h) refl;
+      restart = λ m is a h. Came_up is (restarts w m a (subst (λ y. may_happen w y ≡ true) is may) h) refl;
     }
 
 pub becomes : (w : World) (e : Event) (fx : Effects) → may_happen w e ≡ true → EachMachine (Becomes w e fx) w (take_step (machine_of e) (input_of w e) fx (next_step (first_change e w)))
 becomes w e fx may m a at =
     let v : World = next_step (first_change e w) in
-    let p = each_first (Turned w) e w (λ none m b. Stays refl) (asked w e may) m a at in
+    let p = each_first (Turned w e) e w (λ none m b. Stays refl) (asked w e may) m a at in
     let q = each_step (Stepped w e fx) (machine_of e) (input_of w e) fx v (λ n b. Elsewhere refl) (λ none b h. Alone none refl refl) (λ i is b h. Took i is refl refl) m p.0 p.1 in
     (q.0, q.1, record { middle = p.0; between = p.1; turned = p.2; stepped = q.2 })
 

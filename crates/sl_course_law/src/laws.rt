@@ -1,8 +1,13 @@
 //! What a lawful run promises of calls and daemons.
 
-ghost use Rattle.sl_course_law.specs.Promises.{EntriesAreStamped};
+ghost use Rattle.sl_course_law.specs.Promises.{CallsAreDistinct, EntriesAreStamped};
 
 /// Each entry of a daemon has its stamp.
 pub fn entries_are_stamped()
     ensures { EntriesAreStamped }
+{}
+
+/// Numbers of a machine's calls are different.
+pub fn calls_are_distinct()
+    ensures { CallsAreDistinct }
 {}
