@@ -5,3 +5,5 @@ pub mod Stamped
 pub mod Running
 pub mod Calling
 pub mod Distinct
+pub mod Counting
+pub mod Pairing

@@ -1,10 +1,15 @@
 //! What a lawful run promises of calls and daemons.
 
-ghost use Rattle.sl_course_law.specs.Promises.{CallsAreDistinct, EntriesAreStamped};
+ghost use Rattle.sl_course_law.specs.Promises.{CallsAreDistinct, CoursesHaveDaemons, EntriesAreStamped};
 
 /// Each entry of a daemon has its stamp.
 pub fn entries_are_stamped()
     ensures { EntriesAreStamped }
+{}
+
+/// Each call of a machine is one of a daemon of it.
+pub fn courses_have_daemons()
+    ensures { CoursesHaveDaemons }
 {}
 
 /// Numbers of a machine's calls are different.
