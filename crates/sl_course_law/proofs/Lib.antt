@@ -7,3 +7,7 @@ pub mod Calling
 pub mod Distinct
 pub mod Counting
 pub mod Pairing
+pub mod Changing
+pub mod Answering
+pub mod Matching
+pub mod Matched

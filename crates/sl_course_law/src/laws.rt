@@ -1,10 +1,15 @@
 //! What a lawful run promises of calls and daemons.
 
-ghost use Rattle.sl_course_law.specs.Promises.{CallsAreDistinct, CoursesHaveDaemons, EntriesAreStamped};
+ghost use Rattle.sl_course_law.specs.Promises.{CallsAreDistinct, CoursesAreCalls, CoursesHaveDaemons, EntriesAreStamped};
 
 /// Each entry of a daemon has its stamp.
 pub fn entries_are_stamped()
     ensures { EntriesAreStamped }
+{}
+
+/// A machine's calls of a daemon are those of its trace.
+pub fn courses_are_calls()
+    ensures { CoursesAreCalls }
 {}
 
 /// Each call of a machine is one of a daemon of it.
