@@ -11,3 +11,5 @@ pub mod Changing
 pub mod Answering
 pub mod Matching
 pub mod Matched
+pub mod Made
+pub mod Naming

@@ -1,6 +1,6 @@
 //! What a lawful run promises of calls and daemons.
 
-ghost use Rattle.sl_course_law.specs.Promises.{CallsAreDistinct, CoursesAreCalls, CoursesHaveDaemons, EntriesAreStamped};
+ghost use Rattle.sl_course_law.specs.Promises.{CallsAreDistinct, CoursesAreCalls, CoursesHaveDaemons, DaemonNamesAreApart, DaemonsAreOfWorld, EntriesAreStamped};
 
 /// Each entry of a daemon has its stamp.
 pub fn entries_are_stamped()
@@ -20,4 +20,14 @@ pub fn courses_have_daemons()
 /// Numbers of a machine's calls are different.
 pub fn calls_are_distinct()
     ensures { CallsAreDistinct }
+{}
+
+/// Each daemon is made of the header's times and layout.
+pub fn daemons_are_of_world()
+    ensures { DaemonsAreOfWorld }
+{}
+
+/// No two daemons share a name.
+pub fn daemon_names_are_apart()
+    ensures { DaemonNamesAreApart }
 {}
