@@ -159,7 +159,7 @@ keeps p h now x m a c g was =
     stepped_counted p h now x m a c g b g.becomes.turned g.becomes.stepped
     (turned_counted w x.0 m a b (turned_daemons w x.0 m a b g.settled g.becomes.turned) g.becomes.turned was)
 
-first_numbered : (f : SessionLine → Daemon) (o : Option SessionLine) → ((s : SessionLine) → (f s).number ≡ 0)
+pub first_numbered : (f : SessionLine → Daemon) (o : Option SessionLine) → ((s : SessionLine) → (f s).number ≡ 0)
     → AreNumbered (elim (option_map f o) as (λ x. List Daemon) [ None ↦ [] | Some d ↦ d ∷ [] ])
 first_numbered f None each = tt
 first_numbered f (Some s) each = (each s, tt)

@@ -13,3 +13,6 @@ pub mod Matching
 pub mod Matched
 pub mod Made
 pub mod Naming
+pub mod Resetting
+pub mod Mirroring
+pub mod Mirrored

@@ -1,21 +1,21 @@
 -- Daemons are made of the header's times and layout, and have begun before now.
 use Rattle.sl_area.specs.Layouts.{layout_with}
 use Rattle.sl_course_law.proofs.Daemons.{IsNewest, OnDaemons, daemons_keep, every_has, first_daemons, stepped_daemons, turned_daemons}
-use Rattle.sl_course_law.proofs.Keeping.{Goes_on, machines_keep}
+use Rattle.sl_course_law.proofs.Keeping.{Goes_on, OfMachines, machines_keep}
 use Rattle.sl_course_law.specs.Mirrors.{IsOfWorld}
 use Rattle.sl_course_law.specs.Promises.{DaemonsAreOfWorld}
 use Rattle.sl_front_law.proofs.Going.{run_after}
 use Rattle.sl_run.specs.Events.{with_entry}
 use Rattle.sl_run.specs.Runs.{Happening}
-use Rattle.sl_run.specs.Safety.{world_at}
-use Rattle.sl_run.specs.Worlds.{Daemon, Machine, Program, Stamp, World, daemons_on, machine_of_header, next_numbers, setting_of, stamp_now, new_daemon, world_with}
+use Rattle.sl_run.specs.Safety.{LawfulRun, world_at}
+use Rattle.sl_run.specs.Worlds.{Daemon, Machine, Program, Stamp, World, daemons_on, machine_at, machine_of_header, next_numbers, setting_of, stamp_now, new_daemon, world_with}
 use Rattle.sl_run.specs.declared.header.Header.{Header}
 use Rattle.sl_run_law.proofs.Going.{run_goes}
 use Rattle.sl_run_law.specs.Fates.{Every}
 use Rattle.sl_run_law.specs.Going.{Goes, steps_of_run, time_of_run}
 use Rattle.sl_trace.specs.declared.effects.Entry.{Entry}
 use Rattle.std.proofs.Common.{ap, arith, refl, subst, sym, ◌∙◌}
-use Rattle.std.specs.Prelude.{List, length, [], ℕ, ◌++◌, ◌+◌, ◌<◌, ◌∷◌, ◌≡◌}
+use Rattle.std.specs.Prelude.{List, Some, length, [], ℕ, ◌++◌, ◌+◌, ◌<◌, ◌∷◌, ◌≡◌}
 
 -- What the last event of a run leaves of its world.
 pub last_goes : (p : Program) (h : Header) (now : List Happening) (x : Happening)
@@ -87,6 +87,15 @@ first p h m =
     first_daemons p (layout_with p.digest h.geometry) h m (IsOfWorld w m)
     (λ s is. record { timing = refl; layout = refl; machine = refl; begun = omega arith; given = λ other. absurd (other refl) })
 
+pub of_world_after : (p : Program) (h : Header) (xs : List Happening) → LawfulRun p h xs → OfMachines (λ w m. OnDaemons (IsOfWorld w m)) (world_at p h xs)
+of_world_after p h xs run = machines_keep p h (λ w n. OnDaemons (IsOfWorld w n)) (first p h) (keeps p h) xs run
+
+-- Each has begun before now.
+pub begun_before : (p : Program) (h : Header) (xs : List Happening) → LawfulRun p h xs → (m : ℕ) (a : Machine) → machine_at (world_at p h xs) m ≡ Some a
+    → OnDaemons (λ d. d.begun.step < (world_at p h xs).step) a
+begun_before p h xs run m a at =
+    every_each (IsOfWorld (world_at p h xs) m) (λ d. d.begun.step < (world_at p h xs).step) (daemons_on a) (λ d k. k.begun) (of_world_after p h xs run m a at)
+
 pub daemons_are_of_world : DaemonsAreOfWorld
 daemons_are_of_world p h xs run m a d at has =
-    every_has (IsOfWorld (world_at p h xs) m) (daemons_on a) d (machines_keep p h (λ w n. OnDaemons (IsOfWorld w n)) (first p h) (keeps p h) xs run m a at) has
+    every_has (IsOfWorld (world_at p h xs) m) (daemons_on a) d (of_world_after p h xs run m a at) has

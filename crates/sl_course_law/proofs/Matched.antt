@@ -103,7 +103,7 @@ turned_matched w e m a b s counted distinct (Began name event up used fresh is) 
 -- ---- a step
 
 -- The daemons before the running one.
-all_less : (ds : List Daemon) → AreNumbered ds → Every (λ d. d.number < length ds) ds
+pub all_less : (ds : List Daemon) → AreNumbered ds → Every (λ d. d.number < length ds) ds
 all_less [] h = tt
 all_less (d ∷ ds) h =
     let same : d.number ≡ length ds = h.0 in

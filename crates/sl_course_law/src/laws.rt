@@ -1,6 +1,6 @@
 //! What a lawful run promises of calls and daemons.
 
-ghost use Rattle.sl_course_law.specs.Promises.{CallsAreDistinct, CoursesAreCalls, CoursesHaveDaemons, DaemonNamesAreApart, DaemonsAreOfWorld, EntriesAreStamped};
+ghost use Rattle.sl_course_law.specs.Promises.{CallsAreDistinct, CoursesAreCalls, CoursesHaveDaemons, DaemonNamesAreApart, DaemonsAreOfWorld, EntriesAreStamped, MachinesMirror};
 
 /// Each entry of a daemon has its stamp.
 pub fn entries_are_stamped()
@@ -20,6 +20,11 @@ pub fn courses_have_daemons()
 /// Numbers of a machine's calls are different.
 pub fn calls_are_distinct()
     ensures { CallsAreDistinct }
+{}
+
+/// A machine keeps of its daemons what it should.
+pub fn machines_mirror()
+    ensures { MachinesMirror }
 {}
 
 /// Each daemon is made of the header's times and layout.
