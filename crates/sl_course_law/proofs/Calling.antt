@@ -49,7 +49,7 @@ less_other x n h t = grind (arith, tests)
 is_below : (x n : ℕ) → x ≡ n → x < n + 1
 is_below x n h = omega (arith, h)
 
-pub one_numbered : (n : ℕ) (c : Course) (cs : List Course) → c.call.number ≡ n → AreNumberedBelow n cs → AreNumberedBelow (n + 1) (c ∷ cs)
+one_numbered : (n : ℕ) (c : Course) (cs : List Course) → c.call.number ≡ n → AreNumberedBelow n cs → AreNumberedBelow (n + 1) (c ∷ cs)
 one_numbered n c cs is h =
     record {
       below = (is_below c.call.number n is, every_map (λ d. d.call.number < n) (λ d. d.call.number < n + 1) cs (λ d. less_more d.call.number n) h.below);

@@ -1,6 +1,6 @@
 -- Daemons are numbered in their list, and each call has the number of one of them.
 use Rattle.sl_area.specs.Layouts.{layout_with}
-use Rattle.sl_course_law.proofs.Daemons.{DaemonsTurn, One_begins, One_enters, Same_daemons, every_has, stepped_daemons, turned_daemons}
+use Rattle.sl_course_law.proofs.Daemons.{DaemonsTurn, One_begins, One_enters, Same_daemons, daemons_are, every_has, stepped_daemons, turned_daemons}
 use Rattle.sl_course_law.proofs.Distinct.{made_calls, step_calls}
 use Rattle.sl_course_law.proofs.Keeping.{Goes_on, OfMachines, machines_keep}
 use Rattle.sl_course_law.proofs.Running.{runs_then}
@@ -114,12 +114,12 @@ turned_counted w e m a b turn t h =
     }
 
 -- The running daemon has the greatest number.
-pub running_number : (a : Machine) (d : Daemon) → a.daemon ≡ Some d → AreNumbered (daemons_on a) → d.number ≡ length a.ended
-running_number a d runs h = (subst AreNumbered (ap (λ o. elim o as (λ x. List Daemon) [ None ↦ a.ended | Some y ↦ y ∷ a.ended ]) runs) h).0
+running_number : (a : Machine) (d : Daemon) → a.daemon ≡ Some d → AreNumbered (daemons_on a) → d.number ≡ length a.ended
+running_number a d runs h = (subst AreNumbered (daemons_are a d runs) h).0
 
 running_below : (a : Machine) (d : Daemon) → a.daemon ≡ Some d → AreNumbered (daemons_on a) → d.number < count_of a
 running_below a d runs h =
-    let count : count_of a ≡ suc (length a.ended) = ap (λ o. length (elim o as (λ x. List Daemon) [ None ↦ a.ended | Some y ↦ y ∷ a.ended ])) runs in
+    let count : count_of a ≡ suc (length a.ended) = ap length (daemons_are a d runs) in
     let number : d.number ≡ length a.ended = running_number a d runs h in
     omega (arith, count, number)
 
@@ -159,7 +159,7 @@ keeps p h now x m a c g was =
     stepped_counted p h now x m a c g b g.becomes.turned g.becomes.stepped
     (turned_counted w x.0 m a b (turned_daemons w x.0 m a b g.settled g.becomes.turned) g.becomes.turned was)
 
-pub first_numbered : (f : SessionLine → Daemon) (o : Option SessionLine) → ((s : SessionLine) → (f s).number ≡ 0)
+first_numbered : (f : SessionLine → Daemon) (o : Option SessionLine) → ((s : SessionLine) → (f s).number ≡ 0)
     → AreNumbered (elim (option_map f o) as (λ x. List Daemon) [ None ↦ [] | Some d ↦ d ∷ [] ])
 first_numbered f None each = tt
 first_numbered f (Some s) each = (each s, tt)

@@ -51,14 +51,16 @@ turned_daemons w e m a b s (Began name event up used fresh is) =
     let d : Daemon = new_daemon (length (daemons_on a)) (setting_of w.program w.layout w.header m name (next_numbers a) []) (stamp_now w a) in
     One_begins d (record { name = name; fresh = fresh; is = refl }) (ap daemons_on is ∙ ap (λ ds. d ∷ ds) (all_ended a (s.unused used)))
 
+-- Where one runs, it stands before those that ended.
+pub daemons_are : (a : Machine) (d : Daemon) → a.daemon ≡ Some d → daemons_on a ≡ d ∷ a.ended
+daemons_are a d runs = ap (λ o. elim o as (λ x. List Daemon) [ None ↦ a.ended | Some y ↦ y ∷ a.ended ]) runs
+
 entered_by : (w : World) (m : ℕ) (b c : Machine) (e : Entry) (s : Stamp) (o : Option Daemon) → b.daemon ≡ o → c.daemon ≡ option_map (with_entry e s) o → c.ended ≡ b.ended
     → reading_of s.clock ≡ e.reading → DaemonsTurn w m b c
 entered_by w m b c e s None was is ended reading =
     Same_daemons (sym (all_ended c is) ∙ ended ∙ all_ended b was)
 entered_by w m b c e s (Some d) was is ended reading =
-    One_enters d b.ended e s reading
-    (ap (λ o. elim o as (λ x. List Daemon) [ None ↦ b.ended | Some y ↦ y ∷ b.ended ]) was)
-    (ap (λ o. elim o as (λ x. List Daemon) [ None ↦ c.ended | Some y ↦ y ∷ c.ended ]) is ∙ ap (λ ds. with_entry e s d ∷ ds) ended)
+    One_enters d b.ended e s reading (daemons_are b d was) (daemons_are c (with_entry e s d) is ∙ ap (λ ds. with_entry e s d ∷ ds) ended)
 
 abbrev pub entry_of : Input → Effects → Machine → Entry
 entry_of i fx a = record { reading = reading_now a; input = i; effects = fx }
@@ -97,6 +99,10 @@ daemons_keep w m Q a b new more (One_begins d n is) h = subst (Every Q) (sym is)
 daemons_keep w m Q a b new more (One_enters d ds e s reading was is) h =
     let k : Every Q (d ∷ ds) = subst (Every Q) was h in
     subst (Every Q) (sym is) (more d e s reading k.0, k.1)
+
+pub every_each : {A : Type 0} (P Q : A → Type 0) (xs : List A) → ((x : A) → P x → Q x) → Every P xs → Every Q xs
+every_each P Q [] each h = tt
+every_each P Q (x ∷ xs) each h = (each x h.0, every_each P Q xs each h.1)
 
 pub every_has : {A : Type 0} (Q : A → Type 0) (ds : List A) (d : A) → Every Q ds → Contains ds d → Q d
 every_has Q [] d h there = absurd (contains_none d there)

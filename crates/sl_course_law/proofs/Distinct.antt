@@ -1,7 +1,7 @@
 -- No two calls of a machine have the same number: each daemon begins with the number after those of the ones before it.
 use Rattle.sl_area.specs.Layouts.{layout_with}
 use Rattle.sl_course_law.proofs.Calling.{AreNumberedBelow, all_numbered, numbered_called, same_call_if}
-use Rattle.sl_course_law.proofs.Daemons.{entry_of, step_daemon}
+use Rattle.sl_course_law.proofs.Daemons.{daemons_are, entry_of, step_daemon}
 use Rattle.sl_course_law.proofs.Keeping.{Goes_on, OfMachines, lawful_on, machines_keep}
 use Rattle.sl_course_law.proofs.Running.{runs_then}
 use Rattle.sl_course_law.proofs.Turning.{Alone, Began, Called, Came_up, Clocked, Crashed, Elsewhere, IsQuiet, Stays, Stepped, Tested, Took, Turned, Went_down, own_quiet}
@@ -62,7 +62,7 @@ abbrev numbers_in : List Daemon → Numbers
 numbers_in ds = elim (first_of_list ds) as (λ x. Numbers) [ None ↦ first_numbers | Some d ↦ record { call = next_call d.setting d.trace; job = next_job d.setting d.trace } ]
 
 next_is : (a : Machine) (d : Daemon) → a.daemon ≡ Some d → (next_numbers a).call ≡ next_call d.setting d.trace
-next_is a d is = ap (λ o. (numbers_in (elim o as (λ x. List Daemon) [ None ↦ a.ended | Some y ↦ y ∷ a.ended ])).call) is
+next_is a d is = ap (λ ds. (numbers_in ds).call) (daemons_are a d is)
 
 abbrev number_of : Machine → ℕ
 number_of a = (next_numbers a).call
@@ -125,7 +125,7 @@ pub entered : (now : Stamp) (i : Input) (fx : Effects) (b : Machine) (d : Daemon
 entered now i fx b d runs = step_daemon now i fx b ∙ ap (option_map (with_entry (entry_of i fx b) now)) runs
 
 pub running_has : (a : Machine) (d : Daemon) → a.daemon ≡ Some d → Contains (daemons_on a) d
-running_has a d runs = subst (λ o. Contains (elim o as (λ x. List Daemon) [ None ↦ a.ended | Some y ↦ y ∷ a.ended ]) d) (sym runs) (contains_first d a.ended)
+running_has a d runs = subst (λ ds. Contains ds d) (sym (daemons_are a d runs)) (contains_first d a.ended)
 
 step_numbered : (now : Stamp) (i : Input) (fx : Effects) (b : Machine) (d : Daemon) → b.daemon ≡ Some d
     → IsTrace d.setting (entry_of i fx b ∷ d.trace) → IsNumbered b → IsNumbered (after_step now i fx b)

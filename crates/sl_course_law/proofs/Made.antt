@@ -1,6 +1,6 @@
 -- Daemons are made of the header's times and layout, and have begun before now.
 use Rattle.sl_area.specs.Layouts.{layout_with}
-use Rattle.sl_course_law.proofs.Daemons.{IsNewest, OnDaemons, daemons_keep, every_has, first_daemons, stepped_daemons, turned_daemons}
+use Rattle.sl_course_law.proofs.Daemons.{IsNewest, OnDaemons, daemons_keep, every_each, every_has, first_daemons, stepped_daemons, turned_daemons}
 use Rattle.sl_course_law.proofs.Keeping.{Goes_on, OfMachines, machines_keep}
 use Rattle.sl_course_law.specs.Mirrors.{IsOfWorld}
 use Rattle.sl_course_law.specs.Promises.{DaemonsAreOfWorld}
@@ -11,7 +11,6 @@ use Rattle.sl_run.specs.Safety.{LawfulRun, world_at}
 use Rattle.sl_run.specs.Worlds.{Daemon, Machine, Program, Stamp, World, daemons_on, machine_at, machine_of_header, next_numbers, setting_of, stamp_now, new_daemon, world_with}
 use Rattle.sl_run.specs.declared.header.Header.{Header}
 use Rattle.sl_run_law.proofs.Going.{run_goes}
-use Rattle.sl_run_law.specs.Fates.{Every}
 use Rattle.sl_run_law.specs.Going.{Goes, steps_of_run, time_of_run}
 use Rattle.sl_trace.specs.declared.effects.Entry.{Entry}
 use Rattle.std.proofs.Common.{ap, arith, refl, subst, sym, ◌∙◌}
@@ -30,7 +29,7 @@ step_less s t k h = omega (arith, h)
 pub last_step : (p : Program) (h : Header) (now : List Happening) (x : Happening) → (world_at p h now).step < (world_at p h (now ++ x ∷ [])).step
 last_step p h now x = step_less (world_at p h now).step (world_at p h (now ++ x ∷ [])).step (length x.1) (last_goes p h now x).step
 
-less_again : (x s t : ℕ) → x < s → s < t → x < t
+pub less_again : (x s t : ℕ) → x < s → s < t → x < t
 less_again x s t g h = omega (arith, g, h)
 
 -- A world that has gone on from another.
@@ -63,10 +62,6 @@ newest_of w v m a d g n =
 
 one_more : (v : World) (m : ℕ) (d : Daemon) (e : Entry) (s : Stamp) → IsOfWorld v m d → IsOfWorld v m (with_entry e s d)
 one_more v m d e s h = record { timing = h.timing; layout = h.layout; machine = h.machine; begun = h.begun; given = h.given }
-
-every_each : (P Q : Daemon → Type 0) (ds : List Daemon) → ((d : Daemon) → P d → Q d) → Every P ds → Every Q ds
-every_each P Q [] each h = tt
-every_each P Q (d ∷ ds) each h = (each d h.0, every_each P Q ds each h.1)
 
 keeps : (p : Program) (h : Header) (now : List Happening) (x : Happening) (m : ℕ) (a c : Machine) → Goes_on p h now x m a c → OnDaemons (IsOfWorld (world_at p h now) m) a
     → OnDaemons (IsOfWorld (world_at p h (now ++ x ∷ [])) m) c

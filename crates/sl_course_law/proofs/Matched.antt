@@ -2,10 +2,10 @@
 use Rattle.sl_area.specs.Layouts.{layout_with}
 use Rattle.sl_course_law.proofs.Answering.{AllAwait, Awaits, awaits, flight_waits, only_flight}
 use Rattle.sl_course_law.proofs.Counting.{IsCountedOn, counted_after, daemon_number_is, daemons_numbered}
-use Rattle.sl_course_law.proofs.Daemons.{all_ended, entry_of, every_has, first_daemons, step_ended, turned_daemons}
+use Rattle.sl_course_law.proofs.Daemons.{all_ended, daemons_are, entry_of, every_each, every_has, first_daemons, step_ended, turned_daemons}
 use Rattle.sl_course_law.proofs.Distinct.{entered, each_distinct, made_calls, running_has, step_calls}
 use Rattle.sl_course_law.proofs.Keeping.{Goes_on, machines_keep}
-use Rattle.sl_course_law.proofs.Matching.{IsEntered, answered_course, changed_course, later_course, made_course, same_is_true}
+use Rattle.sl_course_law.proofs.Matching.{IsEntered, answered_course, changed_course, later_course, less_is_other, made_course, same_is_true}
 use Rattle.sl_course_law.proofs.Pairing.{every_filtered, filter_changed, filter_drops, filter_has, filter_none, pairs_change, pairs_first, pairs_hold, pairs_length}
 use Rattle.sl_course_law.proofs.Running.{daemon_stays, runs_before}
 use Rattle.sl_course_law.proofs.Stamped.{entries_are_stamped}
@@ -72,13 +72,6 @@ called_matched a n f g flight keeps distinct d h =
     (only_flight a n g flight distinct)) h
 
 -- ---- a daemon begins
-
-every_each : {A : Type 0} (P Q : A → Type 0) (xs : List A) → ((x : A) → P x → Q x) → Every P xs → Every Q xs
-every_each P Q [] each h = tt
-every_each P Q (x ∷ xs) each h = (each x h.0, every_each P Q xs each h.1)
-
-less_is_other : (x n : ℕ) → x < n → (x == n) ≡ false
-less_is_other x n h = grind (arith, tests)
 
 none_yet : (cs : List Course) (d : Daemon) → d.trace ≡ [] → Every (λ c. c.daemon < d.number) cs → CallsOf cs d
 none_yet cs d none h =
@@ -192,10 +185,6 @@ step_matched now i fx b d is h numbered k = (
       → Every (CallsOf (made_calls now d.number (close_answered now i b).calls fx.calls)) es
   every_both [] less old = tt
   every_both (e ∷ es) less old = (ended_matched now i fx b d e h less.0 old.0, every_both es less.1 old.1)
-
--- The daemons of a machine where one runs.
-pub daemons_are : (a : Machine) (d : Daemon) → a.daemon ≡ Some d → daemons_on a ≡ d ∷ a.ended
-daemons_are a d runs = ap (λ o. elim o as (λ x. List Daemon) [ None ↦ a.ended | Some y ↦ y ∷ a.ended ]) runs
 
 stepped_matched : (p : Program) (h : Header) (now : List Happening) (x : Happening) (m : ℕ) (a c : Machine) (g : Goes_on p h now x m a c) (b : Machine)
     → (i : Input) → Turned (world_at p h now) x.0 m a b → c ≡ after_step (stamp_now (next_step (first_change x.0 (world_at p h now))) b) i g.effects b

@@ -28,7 +28,7 @@ found_below : (ss : List Stamp) (i : ℕ) (x : Stamp) → stamp_in ss i ≡ Some
 found_below [] i x h = absurd (none_some x h)
 found_below (s ∷ ss) i x h = below_by s ss i x (i == length ss) refl (found_below ss i x) h
 
-less_is_other : (i n : ℕ) → i < n → (i == n) ≡ false
+pub less_is_other : (i n : ℕ) → i < n → (i == n) ≡ false
 less_is_other i n h = grind (arith, tests)
 
 pub same_is_true : (i n : ℕ) → i ≡ n → (i == n) ≡ true

@@ -2,10 +2,10 @@
 use Rattle.sl_area.specs.Layouts.{Layout, layout_with}
 use Rattle.sl_course_law.proofs.Changing.{changed_here}
 use Rattle.sl_course_law.proofs.Counting.{daemons_numbered}
-use Rattle.sl_course_law.proofs.Daemons.{daemon_of_line, entry_of, every_has, stepped_daemons, turned_daemons}
+use Rattle.sl_course_law.proofs.Daemons.{daemon_of_line, daemons_are, entry_of, every_has, stepped_daemons, turned_daemons}
 use Rattle.sl_course_law.proofs.Keeping.{Goes_on, machines_keep}
 use Rattle.sl_course_law.proofs.Made.{begun_before}
-use Rattle.sl_course_law.proofs.Matched.{all_less, daemons_are}
+use Rattle.sl_course_law.proofs.Matched.{all_less}
 use Rattle.sl_course_law.proofs.Mirroring.{IsKnown, none_if, since_is, turned_mirrors}
 use Rattle.sl_course_law.proofs.Resetting.{resets_before}
 use Rattle.sl_course_law.proofs.Running.{runs_then}
@@ -227,7 +227,7 @@ keeps : (p : Program) (h : Header) (now : List Happening) (x : Happening) (m : â
 keeps p h now x m a c g was =
     let w : World = world_at p h now in
     let b : Machine = g.becomes.middle in
-    let known : IsKnown w m a = record { settled = g.settled; begun = begun_before p h now g.before m a g.at; resets = resets_before p h now g.before m a g.at } in
+    let known : IsKnown w a = record { settled = g.settled; begun = begun_before p h now g.before m a g.at; resets = resets_before p h now g.before m a g.at } in
     let numbered : AreNumbered (daemons_on b) = daemons_numbered w m a b (turned_daemons w x.0 m a b g.settled g.becomes.turned) was.numbered in
     let later : AreNumbered (daemons_on c) = daemons_numbered w m b c (stepped_daemons w x.0 g.effects m b c g.becomes.stepped) numbered in
     stepped_mirrors p h now x m a c g b g.becomes.between g.becomes.turned g.becomes.stepped later

@@ -17,7 +17,7 @@ use Rattle.std.proofs.Common.{ap, inl, inr, refl, subst, sym, ◌∙◌}
 use Rattle.std.specs.Prelude.{Bool, Contains, List, None, Option, Some, false, if◌then◌else◌, length, true, [], ℕ, ◌&&◌, ◌<◌, ◌∷◌, ◌≡◌}
 
 -- What is known of the machine before the event beside what it keeps.
-pub record IsKnown (w : World) (m : ℕ) (a : Machine) : Type 0 where
+pub record IsKnown (w : World) (a : Machine) : Type 0 where
   pub settled : IsSettled a
   pub begun : Every (λ (d : Daemon). d.begun.step < w.step) (daemons_on a)
   pub resets : ResetsBefore w a
@@ -76,8 +76,8 @@ crashed_mirrors a h =
       lost = h.lost;
     }
 
-down_mirrors : (w : World) (m : ℕ) (a : Machine) → IsKnown w m a → Mirrors a → Mirrors (after_reset w a)
-down_mirrors w m a k h =
+down_mirrors : (w : World) (a : Machine) → IsKnown w a → Mirrors a → Mirrors (after_reset w a)
+down_mirrors w a k h =
     record {
       numbered = h.numbered;
       running = λ d is. absurd (none_some d is);
@@ -105,7 +105,7 @@ up_mirrors w a down s h =
 
 -- ---- a daemon begins
 
-began_mirrors : (w : World) (m : ℕ) (name : List ℕ) (a : Machine) → a.up ≡ true → a.used ≡ false → AreNumbered (daemons_on (after_start w m name a)) → IsKnown w m a → Mirrors a
+began_mirrors : (w : World) (m : ℕ) (name : List ℕ) (a : Machine) → a.up ≡ true → a.used ≡ false → AreNumbered (daemons_on (after_start w m name a)) → IsKnown w a → Mirrors a
     → Mirrors (after_start w m name a)
 began_mirrors w m name a up used numbered k h =
     let b : Machine = after_start w m name a in
@@ -129,13 +129,13 @@ began_mirrors w m name a up used numbered k h =
           ];
     }
 
-pub turned_mirrors : (w : World) (e : Event) (m : ℕ) (a b : Machine) → IsKnown w m a → AreNumbered (daemons_on b) → Turned w e m a b → Mirrors a → Mirrors b
+pub turned_mirrors : (w : World) (e : Event) (m : ℕ) (a b : Machine) → IsKnown w a → AreNumbered (daemons_on b) → Turned w e m a b → Mirrors a → Mirrors b
 turned_mirrors w e m a b k numbered (Stays is) h = subst Mirrors (sym is) h
 turned_mirrors w e m a b k numbered (Clocked n is) h = subst Mirrors (sym is) (again a n a.kept a.calls h)
 turned_mirrors w e m a b k numbered (Called n f g flight keeps is) h = subst Mirrors (sym is) (again a a.clock a.kept _ h)
 turned_mirrors w e m a b k numbered (Tested t is) h = subst Mirrors (sym is) (again a a.clock t a.calls h)
 turned_mirrors w e m a b k numbered (Crashed event is) h = subst Mirrors (sym is) (crashed_mirrors a h)
-turned_mirrors w e m a b k numbered (Went_down event up is) h = subst Mirrors (sym is) (down_mirrors w m a k h)
+turned_mirrors w e m a b k numbered (Went_down event up is) h = subst Mirrors (sym is) (down_mirrors w a k h)
 turned_mirrors w e m a b k numbered (Came_up event down is) h = subst Mirrors (sym is) (up_mirrors w a down k.settled h)
 turned_mirrors w e m a b k numbered (Began name event up used fresh is) h =
     subst Mirrors (sym is) (began_mirrors w m name a up used (subst (λ (x : Machine). AreNumbered (daemons_on x)) is numbered) k h)

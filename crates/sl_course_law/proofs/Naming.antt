@@ -1,6 +1,6 @@
 -- Daemons of one name are one daemon: one that begins has a name that none had.
 use Rattle.sl_area.specs.Layouts.{layout_with}
-use Rattle.sl_course_law.proofs.Daemons.{all_ended, entry_of, every_has, first_daemons, step_daemon, step_ended}
+use Rattle.sl_course_law.proofs.Daemons.{all_ended, daemons_are, entry_of, every_has, first_daemons, step_daemon, step_ended}
 use Rattle.sl_course_law.proofs.Keeping.{Goes_on, header_machine, was_before}
 use Rattle.sl_course_law.proofs.Turning.{Alone, Began, Called, Came_up, Clocked, Crashed, Elsewhere, Stays, Stepped, Tested, Took, Turned, Went_down}
 use Rattle.sl_course_law.specs.Mirrors.{NamesAreApart}
@@ -79,9 +79,8 @@ entered_origin : (b c : Machine) (e : Entry) (s : Stamp) (d : Daemon) (o : Optio
     → Contains (daemons_on c) d → WasThere b d
 entered_origin b c e s d None was is ended has = itself b c d (sym (all_ended c is) ∙ ended ∙ all_ended b was) has
 entered_origin b c e s d (Some y) was is ended has =
-    let before : daemons_on b ≡ y ∷ b.ended = ap (λ o. elim o as (λ x. List Daemon) [ None ↦ b.ended | Some z ↦ z ∷ b.ended ]) was in
-    let after : daemons_on c ≡ with_entry e s y ∷ b.ended =
-    ap (λ o. elim o as (λ x. List Daemon) [ None ↦ c.ended | Some z ↦ z ∷ c.ended ]) is ∙ ap (λ ds. with_entry e s y ∷ ds) ended in
+    let before : daemons_on b ≡ y ∷ b.ended = daemons_are b y was in
+    let after : daemons_on c ≡ with_entry e s y ∷ b.ended = daemons_are c (with_entry e s y) is ∙ ap (λ ds. with_entry e s y ∷ ds) ended in
     elim (contains_cases (with_entry e s y) b.ended d (subst (λ ds. Contains ds d) after has)) as (λ z. WasThere b d) [
       | inl this ↦ record {
         daemon = y;

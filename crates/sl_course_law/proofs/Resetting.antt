@@ -1,7 +1,8 @@
 -- Each reset of a machine came before now.
 use Rattle.sl_area.specs.Layouts.{layout_with}
+use Rattle.sl_course_law.proofs.Daemons.{every_each}
 use Rattle.sl_course_law.proofs.Keeping.{Goes_on, OfMachines, machines_keep}
-use Rattle.sl_course_law.proofs.Made.{last_step}
+use Rattle.sl_course_law.proofs.Made.{last_step, less_again}
 use Rattle.sl_course_law.proofs.Turning.{Alone, Began, Called, Came_up, Clocked, Crashed, Elsewhere, Stays, Stepped, Tested, Took, Turned, Went_down}
 use Rattle.sl_run.specs.Events.{after_step, first_change, next_step}
 use Rattle.sl_run.specs.Runs.{Happening}
@@ -21,13 +22,6 @@ use Rattle.std.specs.Prelude.{List, false, filter, if◌then◌else◌, nat_lt, 
 -- What is kept.
 abbrev pub ResetsBefore : World → Machine → Type 0
 ResetsBefore w a = Every (λ r. r.step < w.step) a.resets
-
-less_again : (x s t : ℕ) → x < s → s < t → x < t
-less_again x s t g h = omega (arith, g, h)
-
-every_each : (P Q : Stamp → Type 0) (rs : List Stamp) → ((r : Stamp) → P r → Q r) → Every P rs → Every Q rs
-every_each P Q [] each h = tt
-every_each P Q (r ∷ rs) each h = (each r h.0, every_each P Q rs each h.1)
 
 turned_resets : (w : World) (e : Event) (m : ℕ) (a b : Machine) (Q : Stamp → Type 0) → Q (stamp_now w a) → Turned w e m a b → Every Q a.resets → Every Q b.resets
 turned_resets w e m a b Q new (Stays is) h = subst (λ (x : Machine). Every Q x.resets) (sym is) h

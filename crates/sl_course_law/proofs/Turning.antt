@@ -1,7 +1,7 @@
 -- What an event makes of a machine: first what the event changes there, then what the step of its daemon, or the machine itself, does.
 use Rattle.sl_run.specs.Events.{after_crash, after_effects, after_reset, after_restart, after_start, after_step, change_call, event_tests, fated, first_change, input_of, is_read_course, machine_of, may_happen, next_step, on_flight, own_effects, sampled_more, sectors_left, take_step}
 use Rattle.sl_run.specs.Runs.{own_effects_of}
-use Rattle.sl_run.specs.Worlds.{Course, Dropped, Landed, Machine, Stamp, Torn, World, flight_of, machine_at, names_of, stamp_now}
+use Rattle.sl_run.specs.Worlds.{Course, Dropped, Fate, Landed, Machine, Stamp, Torn, World, flight_of, machine_at, names_of, stamp_now}
 use Rattle.sl_run.specs.declared.event.Event.TheVariants.{AnswerCall, Crash, Do, DropWrite, ExitOf, GiveCommand, Land, Pass, Reset, Restart, Sample, SpawnedOf, StartDaemon, Tear, Test, WakeUp}
 use Rattle.sl_run.specs.declared.event.Event.{Event}
 use Rattle.sl_run.specs.declared.event.Refusal.TheVariants.{MissingCall}
@@ -97,8 +97,11 @@ was_up w m a may h = not_false a.up (on_this w m _ a h (passes w (Reset m) may))
 
 -- ---- what the event changes
 
-pub sampling_keeps : (w : World) (k : ℕ) → KeepsAsking (sampled_more w k)
+sampling_keeps : (w : World) (k : ℕ) → KeepsAsking (sampled_more w k)
 sampling_keeps w k = record { call = λ c. refl; daemon = λ c. refl; made = λ c. refl; answered = λ c. refl }
+
+fating_keeps : (fate : Fate) → KeepsAsking (fated fate)
+fating_keeps fate = record { call = λ c. refl; daemon = λ c. refl; made = λ c. refl; answered = λ c. refl }
 
 asked : (w : World) (e : Event) → may_happen w e ≡ true → Asked (Turned w e) w e
 asked w e may =
@@ -107,13 +110,13 @@ asked w e may =
       sample = λ m c k is a h.
           let x = sampled_flight w m c k a (subst (λ y. may_happen w y ≡ true) is may) h in
           Called c (sampled_more w k) x.0 x.1 (sampling_keeps w k) refl;
-      land = λ m c is a f h g t. Called c (fated Landed) f g (record { call = λ x. refl; daemon = λ x. refl; made = λ x. refl; answered = λ x. refl }) refl;
-      tear = λ m c k bytes is a f h g t. Called c (fated Torn) f g (record { call = λ x. refl; daemon = λ x. refl; made = λ x. refl; answered = λ x. refl }) refl;
+      land = λ m c is a f h g t. Called c (fated Landed) f g (fating_keeps Landed) refl;
+      tear = λ m c k bytes is a f h g t. Called c (fated Torn) f g (fating_keeps Torn) refl;
       done_read = λ m c is a f h g t. Called c (sampled_more w (sectors_left f)) f g (sampling_keeps w (sectors_left f)) refl;
-      done_write = λ m c is a f h g t. Called c (fated Landed) f g (record { call = λ x. refl; daemon = λ x. refl; made = λ x. refl; answered = λ x. refl }) refl;
+      done_write = λ m c is a f h g t. Called c (fated Landed) f g (fating_keeps Landed) refl;
       drop_write = λ m c is a h.
           let x = drops w m c a (subst (λ y. may_happen w y ≡ true) is may) h in
-          Called c (fated Dropped) x.0 x.1 (record { call = λ x. refl; daemon = λ x. refl; made = λ x. refl; answered = λ x. refl }) refl;
+          Called c (fated Dropped) x.0 x.1 (fating_keeps Dropped) refl;
       tested = λ m is a h. Tested _ refl;
       start = λ m name is a h.
           let may' : may_happen w (StartDaemon m name) ≡ true = subst (λ y. may_happen w y ≡ true) is may in
