@@ -15,3 +15,4 @@ pub mod Writers
 pub mod Once
 pub mod Owning
 pub mod Done
+pub mod Proven

@@ -15,3 +15,4 @@ pub mod Stepping
 pub mod Beginning
 pub mod Watching
 pub mod Promising
+pub mod Proven
