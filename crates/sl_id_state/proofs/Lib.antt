@@ -1,3 +1,4 @@
 pub mod Frames
 pub mod SectorFrames
 pub mod LandingFrames
+pub mod StateFrames
