@@ -2,3 +2,4 @@ pub mod Frames
 pub mod SectorFrames
 pub mod LandingFrames
 pub mod StateFrames
+pub mod FindingFrames
