@@ -3,3 +3,4 @@ pub mod SectorFrames
 pub mod LandingFrames
 pub mod StateFrames
 pub mod FindingFrames
+pub mod WriterFrames
