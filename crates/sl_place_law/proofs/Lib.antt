@@ -1,3 +1,5 @@
 pub mod Finding
 pub mod Numbering
 pub mod Reading
+pub mod Areas
+pub mod Beginnings
