@@ -3,3 +3,4 @@ pub mod Numbering
 pub mod Reading
 pub mod Areas
 pub mod Beginnings
+pub mod Daemons
