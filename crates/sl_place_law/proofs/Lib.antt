@@ -4,3 +4,4 @@ pub mod Reading
 pub mod Areas
 pub mod Beginnings
 pub mod Daemons
+pub mod Looks

@@ -62,12 +62,6 @@ some_of : {A : Type 0} (o : Option A) → IsSome o → (x : A) × (o ≡ Some x)
 some_of None h = absurd (false_is_true h)
 some_of (Some x) h = (x, refl)
 
--- A session's call where it was made: the laws of its entry speak of it.
-pub record IsLawfulCall (st : Setting) (es : Trace) (s : Session) (m : Submitted) : Type 0 where
-  pub made : IsMade es m
-  pub whole : Lawful st (made.entry ∷ made.past)
-  pub its : session_numbered st (made.entry ∷ made.past) m.call.session ≡ Some s
-
 whole_of : (st : Setting) (es : Trace) (m : Submitted) (d : IsMade es m) → Lawful st es → Lawful st (d.later ++ d.entry ∷ d.past)
 whole_of st es m d h = subst (λ t. Lawful st t) d.whole h
 
@@ -82,16 +76,14 @@ owner_of st es m h there =
     let number = session_number st es m.call.session its.0 later in
     (its.0, ap (λ n. session_numbered st es n) number ∙ later, sym number)
 
-pub lawful_call : (st : Setting) (es : Trace) (s : Session) (m : Submitted) → Lawful st es → IsSession st es s → Contains (submitted es) m → m.call.session ≡ s.number
-    → IsLawfulCall st es s m
-lawful_call st es s m h its there mine =
-    let d = calls_are_made es m there in
-    let whole = whole_of st es m d h in
-    record {
-      made = d;
-      whole = lawful-front st d.later (d.entry ∷ d.past) whole;
-      its = owned st d.later d.entry d.past s whole (subst (λ t. IsSession st t s) d.whole its) d.index m.call d.call mine;
-    }
+-- A session's call where it was made: the laws of its entry speak of it.
+pub call_law : (st : Setting) (es : Trace) (s : Session) (m : Submitted) (d : IsMade es m) → Lawful st es → IsSession st es s → m.call.session ≡ s.number
+    → Lawful st (d.entry ∷ d.past) × (session_numbered st (d.entry ∷ d.past) m.call.session ≡ Some s)
+call_law st es s m d h its mine =
+    let whole = whole_of st es m d h in (
+      lawful-front st d.later (d.entry ∷ d.past) whole,
+      owned st d.later d.entry d.past s whole (subst (λ t. IsSession st t s) d.whole its) d.index m.call d.call mine,
+    )
 
 -- What a call writes is a record.
 pub writes_record : (st : Setting) (es : Trace) (m : Submitted) (r : Rec) → Lawful st es → Contains (submitted es) m → record_of m.call.op ≡ Some r → IsRecord r
