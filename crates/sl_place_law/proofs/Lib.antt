@@ -5,3 +5,4 @@ pub mod Areas
 pub mod Beginnings
 pub mod Daemons
 pub mod Looks
+pub mod Seats
