@@ -6,3 +6,4 @@ pub mod Beginnings
 pub mod Daemons
 pub mod Looks
 pub mod Seats
+pub mod Leased
