@@ -7,3 +7,4 @@ pub mod Daemons
 pub mod Looks
 pub mod Seats
 pub mod Leased
+pub mod Homing
