@@ -53,6 +53,9 @@ pub record IsPromised : Type 0 where
 pub header_is : (p : Program) (h : Header) (xs : List Happening) → (world_at p h xs).header ≡ h
 header_is p h xs = (run_goes (world_with p h) xs).header
 
+pub program_is : (p : Program) (h : Header) (xs : List Happening) → (world_at p h xs).program ≡ p
+program_is p h xs = (run_goes (world_with p h) xs).program
+
 pub layout_is : (p : Program) (h : Header) (xs : List Happening) → (world_at p h xs).layout ≡ layout_with p.digest h.geometry
 layout_is p h xs = (run_goes (world_with p h) xs).layout
 
