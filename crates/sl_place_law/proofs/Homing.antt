@@ -5,13 +5,13 @@ use Rattle.sl_landing_law.specs.Landings.{HasWriter, IsWrittenBy}
 use Rattle.sl_law.specs.LawfulArea.{HasVerified, LawfulAreaWrite, is_delta_record, record_offset}
 use Rattle.sl_law.specs.LawfulLeader.{LawfulLeaderWrite}
 use Rattle.sl_leases.specs.Leases.{leader_of_record, leader_written, spot_of_call}
-use Rattle.sl_place_law.proofs.Areas.{IsSized, base_around, is_within, lockspace_aligned, never_both, one_lockspace, one_resource, resource_aligned, same_base}
+use Rattle.sl_place_law.proofs.Areas.{IsSized, base_around, lockspace_aligned, never_both, one_lockspace, one_resource, resource_aligned, same_base}
 use Rattle.sl_place_law.proofs.Finding.{equal_numbers}
 use Rattle.sl_place_law.proofs.Leased.{IsLeased, verified_leased}
 use Rattle.sl_place_law.proofs.Looks.{IsOwnDelta, delta_is_own}
 use Rattle.sl_place_law.proofs.Reading.{IsPromised, IsTraced, call_law, owner_of, traced}
-use Rattle.sl_place_law.proofs.Seats.{Delta_home, HomeBefore, IsHome, IsSeated, Lease_home, SessionsAligned, given_seated, look_seated, sized_in}
-use Rattle.sl_place_law.specs.Homes.{In_lockspace, In_resource, IsAtHome, IsDeltaLanding, IsLeaseLanding, WrittenBySession}
+use Rattle.sl_place_law.proofs.Seats.{Delta_home, HomeBefore, IsHome, IsLooseDelta, IsSeated, Lease_home, given_seated, look_seated, sized_in}
+use Rattle.sl_place_law.specs.Homes.{In_lockspace, In_resource, IsAtHome, IsLeaseLanding, WrittenBySession}
 use Rattle.sl_run.specs.Headers.{IsHeader}
 use Rattle.sl_run.specs.Runs.{Happening}
 use Rattle.sl_run.specs.Safety.{Found, LawfulRun, SessionId, is_course_of, session_of_world, world_at}
@@ -33,7 +33,7 @@ use Rattle.sl_words.proofs.CaseLaws.{none_some}
 use Rattle.sl_words.proofs.OrderLaws.{by_smaller}
 use Rattle.std.proofs.Common.{ap, arith, inl, inr, refl, subst, sym, ◌∙◌}
 use Rattle.std.proofs.lemmas.Bool.{and_from}
-use Rattle.std.specs.Prelude.{Contains, IsTrue, List, None, Option, Some, false, option_and_then, option_map, ℕ, ◌%◌, ◌*◌, ◌+◌, ◌-◌, ◌<◌, ◌≡◌, ◌≤◌}
+use Rattle.std.specs.Prelude.{Contains, IsTrue, List, None, Option, Some, false, option_and_then, option_map, ℕ, ◌%◌, ◌+◌, ◌-◌, ◌/◌, ◌<◌, ◌≡◌, ◌≤◌}
 
 -- ---- the writer of a landing
 
@@ -112,62 +112,45 @@ home_early h w n k lt home x there early = home x there (omega (arith, early, lt
 
 -- ---- a delta record
 
-seated_from : (p : Program) (h : Header) (xs : List Happening) → IsPromised → LawfulRun p h xs → SessionsAligned (world_at p h xs) → (x : Landing) (t : IsTold (world_at p h xs) x)
+seated_from : (p : Program) (h : Header) (xs : List Happening) → IsPromised → LawfulRun p h xs → (x : Landing) (t : IsTold (world_at p h xs) x)
     → HomeBefore h (world_at p h xs) x.step → (d : DeltaRec) → IsOwnDelta t.trace.daemon.setting t.trace.daemon.trace t.session t.trace.submitted_as d
     → (o : Option ℕ) → t.session.job ≡ o → IsSeated h (world_at p h xs) t.session
-seated_from p h xs b run aligned x t home d own None job =
+seated_from p h xs b run x t home d own None job =
     given_seated p h xs run t.machine t.wrote.machine t.trace.daemon t.wrote.at t.trace.has t.session
     (got_inside (sessions t.trace.daemon.setting t.trace.daemon.trace) t.session.number t.session t.its) job
-seated_from p h xs b run aligned x t home d own (Some j) job =
+seated_from p h xs b run x t home d own (Some j) job =
     let w : World = world_at p h xs in
     let inside = got_inside (sessions t.trace.daemon.setting t.trace.daemon.trace) t.session.number t.session t.its in
     elim own.from as (λ z. IsSeated h w t.session) [
       | inl none ↦ absurd (none_some j (sym none ∙ job))
       | inr look ↦
           look_seated p h xs b run t.machine t.wrote.machine t.trace.daemon t.wrote.at t.trace.has t.session
-          (aligned t.machine t.wrote.machine t.trace.daemon t.session j t.wrote.at t.trace.has inside job) t.trace.submitted_as.at t.wrote.course.made t.trace.is.made
+          t.trace.submitted_as.at t.wrote.course.made t.trace.is.made
           (home_early h w x.step t.wrote.course.made.step t.wrote.after.0 home) look
     ]
 
-offset_low : (base k : ℕ) → base ≤ base + k
-offset_low base k = omega arith
-
-offset_high : (base id hosts : ℕ) → 1 ≤ id → id ≤ hosts → hosts ≤ 2000 → base + 512 * (id - 1) < base + 1048576
-offset_high base id hosts low high most = omega (arith, low, high, most)
-
--- A delta sector is in its area.
-delta_within : (g : Layout) (base id : ℕ) → IsSized g → 1 ≤ id → id ≤ g.hosts → IsTrue (in_area g base (delta_offset g base id))
-delta_within g base id z low high =
-    is_within g base (delta_offset g base id) z (offset_low base (g.sector * (id - 1)))
-    (subst (λ n. base + n * (id - 1) < base + 1048576) (sym z.sector) (offset_high base id g.hosts low high z.hosts.1))
-
-delta_home : (p : Program) (h : Header) (xs : List Happening) → IsPromised → LawfulRun p h xs → SessionsAligned (world_at p h xs) → (x : Landing) (t : IsTold (world_at p h xs) x)
+delta_home : (p : Program) (h : Header) (xs : List Happening) → IsPromised → LawfulRun p h xs → (x : Landing) (t : IsTold (world_at p h xs) x)
     → HomeBefore h (world_at p h xs) x.step → (d : DeltaRec) → t.wrote.record_written ≡ DeltaIs d → IsHome h (world_at p h xs) x
-delta_home p h xs b run aligned x t home d is =
+delta_home p h xs b run x t home d is =
     let w : World = world_at p h xs in
     let st : Setting = t.trace.daemon.setting in
     let q : Submitted = t.trace.submitted_as in
     let s : Session = t.session in
     let delta : delta_written q ≡ Some d = ap (option_and_then delta_of_record) (writes w x t) ∙ ap delta_of_record is in
     let own = delta_is_own st t.trace.daemon.trace s q d t.trace.lawful t.its t.trace.inside t.mine delta in
-    let seat = seated_from p h xs b run aligned x t home d own s.job refl in
+    let seat = seated_from p h xs b run x t home d own s.job refl in
     let layout : st.layout ≡ w.layout = (b.of_world p h xs run t.machine t.wrote.machine t.trace.daemon t.wrote.at t.trace.has).layout in
     let path : x.path ≡ seat.line.path = path_of w x t ∙ own.own.0 ∙ seat.path in
-    let offset : x.offset ≡ delta_offset w.layout seat.line.offset s.id =
-    offset_of w x t ∙ own.own.1 ∙ ap (λ (g : Layout). delta_offset g s.offset s.id) layout ∙ ap (λ o. delta_offset w.layout o s.id) seat.offset in
-    Delta_home seat.line seat.there path
-    (subst (λ o. IsTrue (in_area w.layout seat.line.offset o)) (sym offset) (delta_within w.layout seat.line.offset s.id (sized_in p h xs run) seat.id.0 seat.id.1))
+    let offset : x.offset ≡ delta_offset w.layout s.offset s.id = offset_of w x t ∙ own.own.1 ∙ ap (λ (g : Layout). delta_offset g s.offset s.id) layout in
+    Delta_home seat.line seat.there path (subst (λ o. IsTrue (in_area w.layout seat.line.offset o)) (sym offset) seat.inside)
     (record {
       written = written_by w x t;
       delta = d;
       spells = is;
-      names = (
-        own.names.0 ∙ seat.name,
-        offset ∙ ap (λ n. delta_offset w.layout seat.line.offset n) (sym own.names.1),
-        subst (λ n. 1 ≤ n) (sym own.names.1) seat.id.0,
-        subst (λ n. n ≤ w.layout.hosts) (sym own.names.1) seat.id.1,
-      );
-      of_session = (seat.name, sym own.names.1, seat.path, seat.offset);
+      name = own.names.0 ∙ seat.name;
+      id = subst (λ n. (1 ≤ n) × (n ≤ w.layout.hosts)) (sym own.names.1) seat.id;
+      index = own.names.1 ∙ seat.index ∙ ap (λ o. (o - seat.line.offset) / w.layout.sector + 1) (sym offset);
+      of_session = (seat.name, sym own.names.1, seat.path, offset);
     })
 
 -- ---- another record
@@ -236,44 +219,44 @@ lease_home p h xs b run x t home other =
 
 -- ---- each landing
 
-home_by : (p : Program) (h : Header) (xs : List Happening) → IsPromised → LawfulRun p h xs → SessionsAligned (world_at p h xs) → (x : Landing) (t : IsTold (world_at p h xs) x)
+home_by : (p : Program) (h : Header) (xs : List Happening) → IsPromised → LawfulRun p h xs → (x : Landing) (t : IsTold (world_at p h xs) x)
     → HomeBefore h (world_at p h xs) x.step → (r : Rec) → t.wrote.record_written ≡ r → IsHome h (world_at p h xs) x
-home_by p h xs b run aligned x t home (DeltaIs d) is = delta_home p h xs b run aligned x t home d is
-home_by p h xs b run aligned x t home (LeaderIs l) is = lease_home p h xs b run x t home (ap is_delta_record is)
-home_by p h xs b run aligned x t home (BlockIs l) is = lease_home p h xs b run x t home (ap is_delta_record is)
-home_by p h xs b run aligned x t home (RequestIs l) is = lease_home p h xs b run x t home (ap is_delta_record is)
-home_by p h xs b run aligned x t home (ValueIs l) is = lease_home p h xs b run x t home (ap is_delta_record is)
+home_by p h xs b run x t home (DeltaIs d) is = delta_home p h xs b run x t home d is
+home_by p h xs b run x t home (LeaderIs l) is = lease_home p h xs b run x t home (ap is_delta_record is)
+home_by p h xs b run x t home (BlockIs l) is = lease_home p h xs b run x t home (ap is_delta_record is)
+home_by p h xs b run x t home (RequestIs l) is = lease_home p h xs b run x t home (ap is_delta_record is)
+home_by p h xs b run x t home (ValueIs l) is = lease_home p h xs b run x t home (ap is_delta_record is)
 
 abbrev HomeAt : Header → World → ℕ → Type 0
 HomeAt h w n = (x : Landing) → Contains w.landings x → x.step ≡ n → IsHome h w x
 
-home_step : (p : Program) (h : Header) (xs : List Happening) → IsPromised → LawfulRun p h xs → SessionsAligned (world_at p h xs) → (n : ℕ)
+home_step : (p : Program) (h : Header) (xs : List Happening) → IsPromised → LawfulRun p h xs → (n : ℕ)
     → ((k : ℕ) → k < n → HomeAt h (world_at p h xs) k) → HomeAt h (world_at p h xs) n
-home_step p h xs b run aligned n before x there is =
+home_step p h xs b run n before x there is =
     let t = told p h xs b run x there in
-    home_by p h xs b run aligned x t (λ y inside early. before y.step (subst (λ k. y.step < k) is early) y inside refl) t.wrote.record_written refl
+    home_by p h xs b run x t (λ y inside early. before y.step (subst (λ k. y.step < k) is early) y inside refl) t.wrote.record_written refl
 
 -- Each landing of a lawful run is at home.
-pub at_home : (p : Program) (h : Header) (xs : List Happening) → IsPromised → LawfulRun p h xs → SessionsAligned (world_at p h xs) → (x : Landing)
+pub at_home : (p : Program) (h : Header) (xs : List Happening) → IsPromised → LawfulRun p h xs → (x : Landing)
     → Contains (world_at p h xs).landings x → IsHome h (world_at p h xs) x
-at_home p h xs b run aligned x there = by_smaller (HomeAt h (world_at p h xs)) (home_step p h xs b run aligned) x.step x there refl
+at_home p h xs b run x there = by_smaller (HomeAt h (world_at p h xs)) (home_step p h xs b run) x.step x there refl
 
 -- ---- what it says of areas
 
 of_lockspace : (h : Header) (w : World) → IsHeader h → IsSized w.layout → (l : LockspaceLine) → Contains h.lockspaces l → (x : Landing) → x.path ≡ l.path
-    → IsTrue (in_area w.layout l.offset x.offset) → IsHome h w x → IsDeltaLanding w l x
+    → IsTrue (in_area w.layout l.offset x.offset) → IsHome h w x → IsLooseDelta w l x
 of_lockspace h w ok z l there x path inside (Delta_home k here way within landing) =
     let base = same_base w.layout k.offset l.offset x.offset z (lockspace_aligned h k ok here) (lockspace_aligned h l ok there) within inside in
-    subst (λ y. IsDeltaLanding w y x) (one_lockspace h k l ok here there (sym way ∙ path) base) landing
+    subst (λ y. IsLooseDelta w y x) (one_lockspace h k l ok here there (sym way ∙ path) base) landing
 of_lockspace h w ok z l there x path inside (Lease_home r here way within landing) =
     let base = same_base w.layout l.offset r.offset x.offset z (lockspace_aligned h l ok there) (resource_aligned h r ok here) inside within in
     absurd (never_both h l r ok there here (sym path ∙ way) base)
 
-pub lockspaces_hold_deltas : (p : Program) (h : Header) (xs : List Happening) → IsPromised → LawfulRun p h xs → SessionsAligned (world_at p h xs) → (l : LockspaceLine)
-    → Contains h.lockspaces l → (x : Landing) → Contains (world_at p h xs).landings x → x.path ≡ l.path → IsTrue (in_area (world_at p h xs).layout l.offset x.offset)
-    → IsDeltaLanding (world_at p h xs) l x
-lockspaces_hold_deltas p h xs b run aligned l there x landed path inside =
-    of_lockspace h (world_at p h xs) run.header (sized_in p h xs run) l there x path inside (at_home p h xs b run aligned x landed)
+-- In a lockspace's area only delta records land, each in the sector of its id.
+pub loose_deltas : (p : Program) (h : Header) (xs : List Happening) → IsPromised → LawfulRun p h xs → (l : LockspaceLine) → Contains h.lockspaces l → (x : Landing)
+    → Contains (world_at p h xs).landings x → x.path ≡ l.path → IsTrue (in_area (world_at p h xs).layout l.offset x.offset) → IsLooseDelta (world_at p h xs) l x
+loose_deltas p h xs b run l there x landed path inside =
+    of_lockspace h (world_at p h xs) run.header (sized_in p h xs run) l there x path inside (at_home p h xs b run x landed)
 
 of_resource : (h : Header) (w : World) → IsHeader h → IsSized w.layout → (r : ResourceLine) → Contains h.resources r → (x : Landing) → x.path ≡ r.path
     → IsTrue (in_area w.layout r.offset x.offset) → IsHome h w x → IsLeaseLanding w r x
@@ -284,16 +267,16 @@ of_resource h w ok z r there x path inside (Lease_home k here way within landing
     let base = same_base w.layout k.offset r.offset x.offset z (resource_aligned h k ok here) (resource_aligned h r ok there) within inside in
     subst (λ y. IsLeaseLanding w y x) (one_resource h k r ok here there (sym way ∙ path) base) landing
 
-pub resources_hold_leases : (p : Program) (h : Header) (xs : List Happening) → IsPromised → LawfulRun p h xs → SessionsAligned (world_at p h xs) → (r : ResourceLine)
+pub resources_hold_leases_given : (p : Program) (h : Header) (xs : List Happening) → IsPromised → LawfulRun p h xs → (r : ResourceLine)
     → Contains h.resources r → (x : Landing) → Contains (world_at p h xs).landings x → x.path ≡ r.path → IsTrue (in_area (world_at p h xs).layout r.offset x.offset)
     → IsLeaseLanding (world_at p h xs) r x
-resources_hold_leases p h xs b run aligned r there x landed path inside =
-    of_resource h (world_at p h xs) run.header (sized_in p h xs run) r there x path inside (at_home p h xs b run aligned x landed)
+resources_hold_leases_given p h xs b run r there x landed path inside =
+    of_resource h (world_at p h xs) run.header (sized_in p h xs run) r there x path inside (at_home p h xs b run x landed)
 
 somewhere : (h : Header) (w : World) (x : Landing) → IsHome h w x → IsAtHome h w x
 somewhere h w x (Delta_home l there path inside landing) = In_lockspace l there path inside
 somewhere h w x (Lease_home r there path inside landing) = In_resource r there path inside
 
-pub nothing_lands_elsewhere : (p : Program) (h : Header) (xs : List Happening) → IsPromised → LawfulRun p h xs → SessionsAligned (world_at p h xs) → (x : Landing)
+pub nothing_lands_elsewhere_given : (p : Program) (h : Header) (xs : List Happening) → IsPromised → LawfulRun p h xs → (x : Landing)
     → Contains (world_at p h xs).landings x → IsAtHome h (world_at p h xs) x
-nothing_lands_elsewhere p h xs b run aligned x landed = somewhere h (world_at p h xs) x (at_home p h xs b run aligned x landed)
+nothing_lands_elsewhere_given p h xs b run x landed = somewhere h (world_at p h xs) x (at_home p h xs b run x landed)

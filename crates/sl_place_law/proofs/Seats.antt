@@ -3,16 +3,15 @@ use Rattle.sl_area.specs.Layouts.{Layout, record_in}
 use Rattle.sl_area.specs.Places.{delta_offset, in_area, sector_of}
 use Rattle.sl_course_law.specs.Stamping.{stamp_in}
 use Rattle.sl_law.specs.LawfulArea.{is_delta_record}
-use Rattle.sl_place_law.proofs.Areas.{IsSized, lockspace_aligned, sector_fits, sized, within_area}
+use Rattle.sl_place_law.proofs.Areas.{IsSized, is_within, sector_fits, sized}
 use Rattle.sl_place_law.proofs.Beginnings.{In_lockspace, In_resource, IsInitial, read_first}
 use Rattle.sl_place_law.proofs.Daemons.{Falls, daemons_are_fine}
 use Rattle.sl_place_law.proofs.Finding.{found_in, given_by, same_number, same_text}
 use Rattle.sl_place_law.proofs.Looks.{Look}
 use Rattle.sl_place_law.proofs.Numbering.{Of_command, Of_setting, Origin, origin_of}
 use Rattle.sl_place_law.proofs.Reading.{IsPromised, IsShown, header_is, layout_is, one_sector, read_of, reads_back, sector_shown}
-use Rattle.sl_place_law.specs.Homes.{IsDeltaLanding, IsLeaseLanding}
+use Rattle.sl_place_law.specs.Homes.{IsLeaseLanding, WrittenBySession}
 use Rattle.sl_run.specs.Events.{sectors_of}
-use Rattle.sl_run.specs.Headers.{IsHeader}
 use Rattle.sl_run.specs.Runs.{Happening}
 use Rattle.sl_run.specs.Safety.{LawfulRun, world_at}
 use Rattle.sl_run.specs.Worlds.{Daemon, Landing, Machine, Program, Stamp, World, clock_reading, daemons_on, first_landing, given_of, initial_bytes, machine_at}
@@ -31,13 +30,25 @@ use Rattle.sl_trace.specs.Traces.{Setting}
 use Rattle.sl_trace.specs.declared.input.Given.{Given}
 use Rattle.sl_words.proofs.CaseLaws.{none_some, some_value}
 use Rattle.std.proofs.Common.{ap, arith, inl, inr, refl, subst, sym, ◌∙◌}
-use Rattle.std.specs.Prelude.{Bool, Contains, Err, IsTrue, List, None, Ok, Option, Result, Some, [], bytes_eq, false, filter_map, find, length, option_map, true, ℕ, ◌%◌, ◌*◌, ◌+◌, ◌-◌, ◌/◌, ◌<◌, ◌==◌, ◌∷◌, ◌≡◌, ◌≤◌, ◌⊎◌}
+use Rattle.std.specs.Prelude.{Bool, Contains, Err, IsTrue, List, None, Ok, Option, Result, Some, [], bytes_eq, false, filter_map, find, length, option_map, true, ℕ, ◌*◌, ◌+◌, ◌-◌, ◌/◌, ◌<◌, ◌==◌, ◌∷◌, ◌≡◌, ◌≤◌, ◌⊎◌}
 
 -- ---- homes
 
+-- A delta record in a lockspace's area: it shows the id of the sector in which it begins, and its session is of that lockspace and id. (It
+-- begins where the sector does if the session's own area does.)
+pub record IsLooseDelta (w : World) (l : LockspaceLine) (x : Landing) : Type 0 where
+  pub written : WrittenBySession w x
+  pub delta : DeltaRec
+  pub spells : written.wrote.record_written ≡ DeltaIs delta
+  pub name : delta.lockspace ≡ l.name
+  pub id : (1 ≤ delta.id) × (delta.id ≤ w.layout.hosts)
+  pub index : delta.id ≡ (x.offset - l.offset) / w.layout.sector + 1
+  pub of_session : (written.found.session.lockspace ≡ l.name) × (written.found.session.id ≡ delta.id) × (written.found.session.path ≡ l.path)
+      × (x.offset ≡ delta_offset w.layout written.found.session.offset written.found.session.id)
+
 -- Where a landing is at home, and what it is there.
 pub data IsHome (h : Header) (w : World) (x : Landing) : Type 0 where
-  Delta_home : (l : LockspaceLine) → Contains h.lockspaces l → x.path ≡ l.path → IsTrue (in_area w.layout l.offset x.offset) → IsDeltaLanding w l x
+  Delta_home : (l : LockspaceLine) → Contains h.lockspaces l → x.path ≡ l.path → IsTrue (in_area w.layout l.offset x.offset) → IsLooseDelta w l x
       → IsHome h w x
   Lease_home : (r : ResourceLine) → Contains h.resources r → x.path ≡ r.path → IsTrue (in_area w.layout r.offset x.offset) → IsLeaseLanding w r x
       → IsHome h w x
@@ -46,19 +57,15 @@ pub data IsHome (h : Header) (w : World) (x : Landing) : Type 0 where
 abbrev pub HomeBefore : Header → World → ℕ → Type 0
 HomeBefore h w n = (x : Landing) → Contains w.landings x → x.step < n → IsHome h w x
 
--- A lockspace area that a command names begins where a sector may.
-abbrev pub SessionsAligned : World → Type 0
-SessionsAligned w = (m : ℕ) (a : Machine) (d : Daemon) (s : Session) (j : ℕ) → machine_at w m ≡ Some a → Contains (daemons_on a) d
-    → Contains (sessions d.setting d.trace) s → s.job ≡ Some j → s.offset % w.layout.sector ≡ 0
-
--- The session's sector is that of its id in the area of its lockspace.
+-- The session's sector begins in that of its id, in the area of its lockspace.
 pub record IsSeated (h : Header) (w : World) (s : Session) : Type 0 where
   pub line : LockspaceLine
   pub there : Contains h.lockspaces line
   pub path : s.path ≡ line.path
-  pub offset : s.offset ≡ line.offset
   pub name : s.lockspace ≡ line.name
   pub id : (1 ≤ s.id) × (s.id ≤ w.layout.hosts)
+  pub inside : IsTrue (in_area w.layout line.offset (delta_offset w.layout s.offset s.id))
+  pub index : s.id ≡ (delta_offset w.layout s.offset s.id - line.offset) / w.layout.sector + 1
 
 -- ---- the layout of a run
 
@@ -151,10 +158,38 @@ among h m gs g (inr some) there =
     let line = given_by (given_of h m) h.sessions g (subst (λ xs. Contains xs g) some there) in
     (line.0, line.1, given_where h m line.0 g (line.0.machine == m) line.2)
 
-seated_by : (p : Program) (h : Header) (xs : List Happening) → LawfulRun p h xs → (m : ℕ) (st : Setting) (s : Session)
-    → (st.given ≡ []) ⊎ (st.given ≡ filter_map (given_of h m) h.sessions) → s.job ≡ None → Origin st s → IsSeated h (world_at p h xs) s
-seated_by p h xs run m st s given none (Of_command j text a job adds offset) = absurd (none_some j (sym none ∙ job))
-seated_by p h xs run m st s given none (Of_setting i g there is) =
+offset_low : (base k : ℕ) → base ≤ base + k
+offset_low base k = omega arith
+
+offset_high : (base id hosts : ℕ) → 1 ≤ id → id ≤ hosts → hosts ≤ 2000 → base + 512 * (id - 1) < base + 1048576
+offset_high base id hosts low high most = omega (arith, low, high, most)
+
+-- A delta sector is in its area.
+pub delta_within : (g : Layout) (base id : ℕ) → IsSized g → 1 ≤ id → id ≤ g.hosts → IsTrue (in_area g base (delta_offset g base id))
+delta_within g base id z low high =
+    is_within g base (delta_offset g base id) z (offset_low base (g.sector * (id - 1)))
+    (subst (λ n. base + n * (id - 1) < base + 1048576) (sym z.sector) (offset_high base id g.hosts low high z.hosts.1))
+
+index_by : (base id : ℕ) → 1 ≤ id → id ≡ (base + 512 * (id - 1) - base) / 512 + 1
+index_by base id low = omega (arith, low)
+
+-- .. and shows its id.
+delta_index : (g : Layout) (base id : ℕ) → IsSized g → 1 ≤ id → id ≡ (delta_offset g base id - base) / g.sector + 1
+delta_index g base id z low = subst (λ n. id ≡ (base + n * (id - 1) - base) / n + 1) (sym z.sector) (index_by base id low)
+
+-- A session that a daemon is given has its area at its lockspace's.
+pub record IsAtLine (h : Header) (w : World) (s : Session) : Type 0 where
+  pub line : LockspaceLine
+  pub there : Contains h.lockspaces line
+  pub path : s.path ≡ line.path
+  pub offset : s.offset ≡ line.offset
+  pub name : s.lockspace ≡ line.name
+  pub id : (1 ≤ s.id) × (s.id ≤ w.layout.hosts)
+
+line_by : (p : Program) (h : Header) (xs : List Happening) → LawfulRun p h xs → (m : ℕ) (st : Setting) (s : Session)
+    → (st.given ≡ []) ⊎ (st.given ≡ filter_map (given_of h m) h.sessions) → s.job ≡ None → Origin st s → IsAtLine h (world_at p h xs) s
+line_by p h xs run m st s given none (Of_command j text a job adds offset) = absurd (none_some j (sym none ∙ job))
+line_by p h xs run m st s given none (Of_setting i g there is) =
     let line = among h m st.given g given there in
     let member = run.header.members line.0 line.1 in
     let id : s.id ≡ line.0.id = ap (λ x. x.id) is ∙ line.2.names.1 in
@@ -170,10 +205,27 @@ seated_by p h xs run m st s given none (Of_setting i g there is) =
       );
     }
 
+pub given_line_of : (p : Program) (h : Header) (xs : List Happening) → LawfulRun p h xs → (m : ℕ) (a : Machine) (d : Daemon) → machine_at (world_at p h xs) m ≡ Some a
+    → Contains (daemons_on a) d → (s : Session) → Contains (sessions d.setting d.trace) s → s.job ≡ None → IsAtLine h (world_at p h xs) s
+given_line_of p h xs run m a d at has s there none =
+    line_by p h xs run m d.setting s (daemons_are_fine p h xs run m a d at has).given none (origin_of d.setting d.trace s there)
+
+at_line_seated : (h : Header) (w : World) (s : Session) → IsSized w.layout → IsAtLine h w s → IsSeated h w s
+at_line_seated h w s z k =
+    record {
+      line = k.line;
+      there = k.there;
+      path = k.path;
+      name = k.name;
+      id = k.id;
+      inside = subst (λ o. IsTrue (in_area w.layout k.line.offset (delta_offset w.layout o s.id))) (sym k.offset) (delta_within w.layout k.line.offset s.id z k.id.0 k.id.1);
+      index = subst (λ o. s.id ≡ (delta_offset w.layout o s.id - k.line.offset) / w.layout.sector + 1) (sym k.offset) (delta_index w.layout k.line.offset s.id z k.id.0);
+    }
+
 pub given_seated : (p : Program) (h : Header) (xs : List Happening) → LawfulRun p h xs → (m : ℕ) (a : Machine) (d : Daemon) → machine_at (world_at p h xs) m ≡ Some a
     → Contains (daemons_on a) d → (s : Session) → Contains (sessions d.setting d.trace) s → s.job ≡ None → IsSeated h (world_at p h xs) s
 given_seated p h xs run m a d at has s there none =
-    seated_by p h xs run m d.setting s (daemons_are_fine p h xs run m a d at has).given none (origin_of d.setting d.trace s there)
+    at_line_seated h (world_at p h xs) s (sized_in p h xs run) (given_line_of p h xs run m a d at has s there none)
 
 -- ---- a session that had looked
 
@@ -184,8 +236,8 @@ record IsDeltaPlace (h : Header) (w : World) (path : List ℕ) (offset : ℕ) (d
   path_is : line.path ≡ path
   name : d.lockspace ≡ line.name
   id : (1 ≤ d.id) × (d.id ≤ w.layout.hosts)
-  place : (offset ≡ delta_offset w.layout line.offset d.id)
-      ⊎ (IsTrue (in_area w.layout line.offset offset) × (d.id ≡ (offset - line.offset) / w.layout.sector + 1))
+  inside : IsTrue (in_area w.layout line.offset offset)
+  index : d.id ≡ (offset - line.offset) / w.layout.sector + 1
 
 pub delta_in_is : (r : Result Rec Bad) (d : DeltaRec) → delta_in r ≡ Some d → r ≡ Ok (DeltaIs d)
 delta_in_is (Ok (DeltaIs e)) d h = ap (λ x. Ok (DeltaIs x)) (some_value e d h)
@@ -213,9 +265,10 @@ at_home p h xs b run x d read (Delta_home l there path inside landing) =
       line = l;
       there = there;
       path_is = sym path;
-      name = landing.names.0;
-      id = (landing.names.2, landing.names.3);
-      place = inl landing.names.1;
+      name = landing.name;
+      id = landing.id;
+      inside = inside;
+      index = landing.index;
     })
 at_home p h xs b run x d read (Lease_home r there path inside landing) =
     let w : World = world_at p h xs in
@@ -244,7 +297,8 @@ at_first_by h w path offset d (In_lockspace l e there path_is inside few is its)
       path_is = path_is;
       name = ap (λ x. x.lockspace) same ∙ its.lockspace;
       id = (subst (λ n. 1 ≤ n) (sym id) (above_one k), subst (λ n. n ≤ w.layout.hosts) (sym id) (up_to_hosts k w.layout.hosts few));
-      place = inr (inside, id);
+      inside = inside;
+      index = id;
     }
 
 -- What stood at a place at first, in the layout of the world.
@@ -272,36 +326,17 @@ shown_place p h xs b run path offset bytes n d home read s =
           (initial_in p h xs run path offset (DeltaIs d) (subst (λ (y : Landing). record_in w.layout y.bytes ≡ Ok (DeltaIs d)) at_first its))
     ]
 
--- The base of a sector at its place.
-same_start : (a b c : ℕ) → a + c ≡ b + c → a ≡ b
-same_start a b c h = omega (arith, h)
-
-start_is : (s l o q : ℕ) → o ≡ s + 512 * q → q ≡ (o - l) / 512 → l ≤ o → s % 512 ≡ 0 → l % 1048576 ≡ 0 → s ≡ l
-start_is s l o q place index low aligned base = omega (arith, place, index, low, aligned, base)
-
-index_of : (id k : ℕ) → id ≡ k + 1 → id - 1 ≡ k
-index_of id k h = omega (arith, h)
-
-offset_by : (h : Header) (w : World) (l : LockspaceLine) (s : Session) (offset : ℕ) (d : DeltaRec) → IsHeader h → IsSized w.layout → Contains h.lockspaces l
-    → s.offset % w.layout.sector ≡ 0 → offset ≡ delta_offset w.layout s.offset s.id → d.id ≡ s.id
-    → (offset ≡ delta_offset w.layout l.offset d.id) ⊎ (IsTrue (in_area w.layout l.offset offset) × (d.id ≡ (offset - l.offset) / w.layout.sector + 1)) → s.offset ≡ l.offset
-offset_by h w l s offset d ok z there aligned place id (inl at) =
-    same_start s.offset l.offset (w.layout.sector * (s.id - 1)) (sym place ∙ at ∙ ap (λ n. delta_offset w.layout l.offset n) id)
-offset_by h w l s offset d ok z there aligned place id (inr first) =
-    start_is s.offset l.offset offset (s.id - 1) (place ∙ ap (λ n. s.offset + n * (s.id - 1)) z.sector)
-    (index_of s.id ((offset - l.offset) / w.layout.sector) (sym id ∙ first.1) ∙ ap (λ n. (offset - l.offset) / n) z.sector)
-    (within_area w.layout l.offset offset z first.0).0 (subst (λ n. s.offset % n ≡ 0) z.sector aligned) (lockspace_aligned h l ok there)
-
-place_seats : (h : Header) (w : World) (s : Session) (path : List ℕ) (offset : ℕ) (d : DeltaRec) → IsHeader h → IsSized w.layout → s.offset % w.layout.sector ≡ 0
-    → path ≡ s.path → offset ≡ delta_offset w.layout s.offset s.id → (d.lockspace ≡ s.lockspace) × (d.id ≡ s.id) → IsDeltaPlace h w path offset d → IsSeated h w s
-place_seats h w s path offset d ok z aligned path_is place names k =
+place_seats : (h : Header) (w : World) (s : Session) (path : List ℕ) (offset : ℕ) (d : DeltaRec) → path ≡ s.path → offset ≡ delta_offset w.layout s.offset s.id
+    → (d.lockspace ≡ s.lockspace) × (d.id ≡ s.id) → IsDeltaPlace h w path offset d → IsSeated h w s
+place_seats h w s path offset d path_is place names k =
     record {
       line = k.line;
       there = k.there;
       path = sym path_is ∙ sym k.path_is;
-      offset = offset_by h w k.line s offset d ok z k.there aligned place names.1 k.place;
       name = sym names.0 ∙ k.name;
       id = subst (λ n. (1 ≤ n) × (n ≤ w.layout.hosts)) names.1 k.id;
+      inside = subst (λ o. IsTrue (in_area w.layout k.line.offset o)) place k.inside;
+      index = sym names.1 ∙ k.index ∙ ap (λ o. (o - k.line.offset) / w.layout.sector + 1) place;
     }
 
 none_more : (o n : ℕ) → o + 0 * n ≡ o
@@ -318,9 +353,9 @@ home_early h w n k le home x there early = home x there (omega (arith, early, le
 
 -- A session that had looked by the entry of this stamp is seated, where the landings before it are at home.
 pub look_seated : (p : Program) (h : Header) (xs : List Happening) → IsPromised → LawfulRun p h xs → (m : ℕ) (a : Machine) (d : Daemon) → machine_at (world_at p h xs) m ≡ Some a
-    → Contains (daemons_on a) d → (s : Session) → s.offset % (world_at p h xs).layout.sector ≡ 0 → (at : ℕ) (made : Stamp) → stamp_in d.stamps at ≡ Some made
+    → Contains (daemons_on a) d → (s : Session) (at : ℕ) (made : Stamp) → stamp_in d.stamps at ≡ Some made
     → HomeBefore h (world_at p h xs) made.step → Look d.setting d.trace s at → IsSeated h (world_at p h xs) s
-look_seated p h xs b run m a d is has s aligned at made stamped home l =
+look_seated p h xs b run m a d is has s at made stamped home l =
     let w : World = world_at p h xs in
     let layout : d.setting.layout ≡ w.layout = (b.of_world p h xs run m a d is has).layout in
     let r = read_of b p h xs run m a d is has l.first l.read.inside 1 l.op l.bytes l.read.given in
@@ -333,5 +368,5 @@ look_seated p h xs b run m a d is has s aligned at made stamped home l =
     ap (record_in w.layout) (one_sector b p h xs run m a d is l.first l.bytes r one) ∙ delta_in_is (record_in w.layout l.bytes) l.found spelled in
     let k = shown_place p h xs b run l.first.call.path (l.first.call.offset + 0 * w.layout.sector) (sector_of w.layout l.bytes 0) r.stamp.step l.found
     (home_early h w made.step r.stamp.step early home) read shown in
-    place_seats h w s l.first.call.path (l.first.call.offset + 0 * w.layout.sector) l.found run.header (sized_in p h xs run) aligned l.own.0
+    place_seats h w s l.first.call.path (l.first.call.offset + 0 * w.layout.sector) l.found l.own.0
     (none_more l.first.call.offset w.layout.sector ∙ l.own.1 ∙ ap (λ (g : Layout). delta_offset g s.offset s.id) layout) l.names k
