@@ -150,6 +150,7 @@ delta_home p h xs b run x t home d is =
       name = own.names.0 ∙ seat.name;
       id = subst (λ n. (1 ≤ n) × (n ≤ w.layout.hosts)) (sym own.names.1) seat.id;
       index = own.names.1 ∙ seat.index ∙ ap (λ o. (o - seat.line.offset) / w.layout.sector + 1) (sym offset);
+      aligned = λ starts. subst (λ o. o % w.layout.sector ≡ 0) (sym offset) (seat.aligned starts);
       of_session = (seat.name, sym own.names.1, seat.path, offset);
     })
 
@@ -244,17 +245,17 @@ at_home p h xs b run x there = by_smaller (HomeAt h (world_at p h xs)) (home_ste
 -- ---- what it says of areas
 
 of_lockspace : (h : Header) (w : World) → IsHeader h → IsSized w.layout → (l : LockspaceLine) → Contains h.lockspaces l → (x : Landing) → x.path ≡ l.path
-    → IsTrue (in_area w.layout l.offset x.offset) → IsHome h w x → IsLooseDelta w l x
+    → IsTrue (in_area w.layout l.offset x.offset) → IsHome h w x → IsLooseDelta h w l x
 of_lockspace h w ok z l there x path inside (Delta_home k here way within landing) =
     let base = same_base w.layout k.offset l.offset x.offset z (lockspace_aligned h k ok here) (lockspace_aligned h l ok there) within inside in
-    subst (λ y. IsLooseDelta w y x) (one_lockspace h k l ok here there (sym way ∙ path) base) landing
+    subst (λ y. IsLooseDelta h w y x) (one_lockspace h k l ok here there (sym way ∙ path) base) landing
 of_lockspace h w ok z l there x path inside (Lease_home r here way within landing) =
     let base = same_base w.layout l.offset r.offset x.offset z (lockspace_aligned h l ok there) (resource_aligned h r ok here) inside within in
     absurd (never_both h l r ok there here (sym path ∙ way) base)
 
 -- In a lockspace's area only delta records land, each in the sector of its id.
 pub loose_deltas : (p : Program) (h : Header) (xs : List Happening) → IsPromised → LawfulRun p h xs → (l : LockspaceLine) → Contains h.lockspaces l → (x : Landing)
-    → Contains (world_at p h xs).landings x → x.path ≡ l.path → IsTrue (in_area (world_at p h xs).layout l.offset x.offset) → IsLooseDelta (world_at p h xs) l x
+    → Contains (world_at p h xs).landings x → x.path ≡ l.path → IsTrue (in_area (world_at p h xs).layout l.offset x.offset) → IsLooseDelta h (world_at p h xs) l x
 loose_deltas p h xs b run l there x landed path inside =
     of_lockspace h (world_at p h xs) run.header (sized_in p h xs run) l there x path inside (at_home p h xs b run x landed)
 

@@ -8,3 +8,4 @@ pub mod Looks
 pub mod Seats
 pub mod Leased
 pub mod Homing
+pub mod Exact
