@@ -11,7 +11,7 @@ use Rattle.sl_place_law.proofs.Leased.{IsLeased, verified_leased}
 use Rattle.sl_place_law.proofs.Looks.{IsOwnDelta, delta_is_own}
 use Rattle.sl_place_law.proofs.Reading.{IsPromised, IsTraced, call_law, owner_of, traced}
 use Rattle.sl_place_law.proofs.Seats.{Delta_home, HomeBefore, IsHome, IsLooseDelta, IsSeated, Lease_home, given_seated, look_seated, sized_in}
-use Rattle.sl_place_law.specs.Homes.{In_lockspace, In_resource, IsAtHome, IsLeaseLanding, WrittenBySession}
+use Rattle.sl_place_law.specs.Homes.{In_lockspace, In_resource, IsAtHome, IsLeaseLanding, NothingLandsElsewhere, ResourcesHoldLeases, WrittenBySession}
 use Rattle.sl_run.specs.Headers.{IsHeader}
 use Rattle.sl_run.specs.Runs.{Happening}
 use Rattle.sl_run.specs.Safety.{Found, LawfulRun, SessionId, is_course_of, session_of_world, world_at}
@@ -268,16 +268,15 @@ of_resource h w ok z r there x path inside (Lease_home k here way within landing
     let base = same_base w.layout k.offset r.offset x.offset z (resource_aligned h k ok here) (resource_aligned h r ok there) within inside in
     subst (λ y. IsLeaseLanding w y x) (one_resource h k r ok here there (sym way ∙ path) base) landing
 
-pub resources_hold_leases_given : (p : Program) (h : Header) (xs : List Happening) → IsPromised → LawfulRun p h xs → (r : ResourceLine)
-    → Contains h.resources r → (x : Landing) → Contains (world_at p h xs).landings x → x.path ≡ r.path → IsTrue (in_area (world_at p h xs).layout r.offset x.offset)
-    → IsLeaseLanding (world_at p h xs) r x
-resources_hold_leases_given p h xs b run r there x landed path inside =
+-- In a resource's area only its own records land.
+pub resources_hold_leases_given : IsPromised → ResourcesHoldLeases
+resources_hold_leases_given b p h xs run r there x landed path inside =
     of_resource h (world_at p h xs) run.header (sized_in p h xs run) r there x path inside (at_home p h xs b run x landed)
 
 somewhere : (h : Header) (w : World) (x : Landing) → IsHome h w x → IsAtHome h w x
 somewhere h w x (Delta_home l there path inside landing) = In_lockspace l there path inside
 somewhere h w x (Lease_home r there path inside landing) = In_resource r there path inside
 
-pub nothing_lands_elsewhere_given : (p : Program) (h : Header) (xs : List Happening) → IsPromised → LawfulRun p h xs → (x : Landing)
-    → Contains (world_at p h xs).landings x → IsAtHome h (world_at p h xs) x
-nothing_lands_elsewhere_given p h xs b run x landed = somewhere h (world_at p h xs) x (at_home p h xs b run x landed)
+-- Outside the header's areas nothing lands.
+pub nothing_lands_elsewhere_given : IsPromised → NothingLandsElsewhere
+nothing_lands_elsewhere_given b p h xs run x landed = somewhere h (world_at p h xs) x (at_home p h xs b run x landed)
