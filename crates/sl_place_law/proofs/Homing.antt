@@ -10,7 +10,7 @@ use Rattle.sl_place_law.proofs.Finding.{equal_numbers}
 use Rattle.sl_place_law.proofs.Leased.{IsLeased, verified_leased}
 use Rattle.sl_place_law.proofs.Looks.{IsOwnDelta, delta_is_own}
 use Rattle.sl_place_law.proofs.Reading.{IsPromised, IsTraced, call_law, owner_of, traced}
-use Rattle.sl_place_law.proofs.Seats.{Delta_home, HomeBefore, IsHome, IsLooseDelta, IsSeated, Lease_home, given_seated, look_seated, sized_in}
+use Rattle.sl_place_law.proofs.Seats.{Delta_home, HomeBefore, IsHome, IsLooseDelta, IsSeated, Lease_home, given_seated, home_early, look_seated, sized_in}
 use Rattle.sl_place_law.specs.Homes.{In_lockspace, In_resource, IsAtHome, IsLeaseLanding, NothingLandsElsewhere, ResourcesHoldLeases, WrittenBySession}
 use Rattle.sl_run.specs.Headers.{IsHeader}
 use Rattle.sl_run.specs.Runs.{Happening}
@@ -107,8 +107,9 @@ path_of w x t = sym t.wrote.place.0 ∙ ap (λ c. c.path) (sym t.trace.is.call)
 offset_of : (w : World) (x : Landing) (t : IsTold w x) → x.offset ≡ t.trace.submitted_as.call.offset
 offset_of w x t = sym t.wrote.place.1 ∙ ap (λ c. c.offset) (sym t.trace.is.call)
 
-home_early : (h : Header) (w : World) (n k : ℕ) → k < n → HomeBefore h w n → HomeBefore h w k
-home_early h w n k lt home x there early = home x there (omega (arith, early, lt))
+-- The landings before the write was made are at home.
+made_home : (h : Header) (w : World) (x : Landing) (t : IsTold w x) → HomeBefore h w x.step → HomeBefore h w t.wrote.course.made.step
+made_home h w x t home = let le : t.wrote.course.made.step ≤ x.step = omega (arith, t.wrote.after.0) in home_early h w x.step t.wrote.course.made.step le home
 
 -- ---- a delta record
 
@@ -126,7 +127,7 @@ seated_from p h xs b run x t home d own (Some j) job =
       | inr look ↦
           look_seated p h xs b run t.machine t.wrote.machine t.trace.daemon t.wrote.at t.trace.has t.session
           t.trace.submitted_as.at t.wrote.course.made t.trace.is.made
-          (home_early h w x.step t.wrote.course.made.step t.wrote.after.0 home) look
+          (made_home h w x t home) look
     ]
 
 delta_home : (p : Program) (h : Header) (xs : List Happening) → IsPromised → LawfulRun p h xs → (x : Landing) (t : IsTold (world_at p h xs) x)
@@ -172,7 +173,7 @@ leased : (p : Program) (h : Header) (xs : List Happening) → IsPromised → Law
     → IsLeased h (world_at p h xs) t.session t.trace.submitted_as resource
 leased p h xs b run x t k home resource verified =
     verified_leased p h xs b run t.machine t.wrote.machine t.trace.daemon t.wrote.at t.trace.has t.trace.lawful t.session t.its t.trace.submitted_as k t.wrote.course.made t.trace.is.made
-    (home_early h (world_at p h xs) x.step t.wrote.course.made.step t.wrote.after.0 home) resource verified
+    (made_home h (world_at p h xs) x t home) resource verified
 
 -- The leader that is written names the resource.
 leader_names : (p : Program) (h : Header) (xs : List Happening) → IsPromised → LawfulRun p h xs → (x : Landing) (t : IsTold (world_at p h xs) x) (k : IsMade t.trace.daemon.trace t.trace.submitted_as)

@@ -6,11 +6,11 @@ use Rattle.sl_law.specs.Lawful.{Lawful}
 use Rattle.sl_law.specs.LawfulArea.{HasVerified, IsRightRead, is_leader_read, leaders_read}
 use Rattle.sl_place_law.proofs.Areas.{IsSized, base_aligned, resource_aligned, same_base, sector_fits}
 use Rattle.sl_place_law.proofs.Beginnings.{In_lockspace, In_resource, IsInitial}
-use Rattle.sl_place_law.proofs.Daemons.{daemons_are_fine}
+use Rattle.sl_place_law.proofs.Daemons.{daemons_are_fine, stamp_order}
 use Rattle.sl_place_law.proofs.Finding.{filtered, given_by, same_text}
 use Rattle.sl_place_law.proofs.Looks.{Heard, heard}
 use Rattle.sl_place_law.proofs.Reading.{IsPromised, IsShown, call_law, read_of, reads_back, sector_shown}
-use Rattle.sl_place_law.proofs.Seats.{Delta_home, HomeBefore, IsHome, Lease_home, initial_in, sized_in, stamp_order}
+use Rattle.sl_place_law.proofs.Seats.{Delta_home, HomeBefore, IsHome, Lease_home, home_early, initial_in, none_more, sized_in}
 use Rattle.sl_leases.specs.Leases.{is_leader_of, is_on, spot_of_call}
 use Rattle.sl_run.specs.Events.{sectors_of}
 use Rattle.sl_run.specs.Headers.{IsHeader}
@@ -179,20 +179,8 @@ leader_read st es s at l there =
     let bytes = bytes_of st.layout (gave f.0) l f.2 in
     record { call = f.0; there = inside.0; reads = both.0; on = both.1; bytes = bytes.0; given = bytes.1; spelled = bytes.2 }
 
-none_more : (o n : ℕ) → o + 0 * n ≡ o
-none_more o n = omega arith
-
 reads_some : (n k : ℕ) → k ≡ n → 0 < n → 0 < k
 reads_some n k e h = omega (arith, e, h)
-
-home_early : (h : Header) (w : World) (n k : ℕ) → k ≤ n → HomeBefore h w n → HomeBefore h w k
-home_early h w n k le home x there early = home x there (omega (arith, early, le))
-
-at_itself : (o : ℕ) → o ≤ o
-at_itself o = omega arith
-
-before_end : (o : ℕ) → o < o + 1048576
-before_end o = omega arith
 
 -- The resource's area, and that of the call, are the area of the read.
 same_areas : (h : Header) (w : World) (line : ResourceLine) (read call : ℕ) → IsHeader h → IsSized w.layout → Contains h.resources line → read ≡ read - read % w.layout.area

@@ -8,7 +8,7 @@ use Rattle.sl_front_law.proofs.Having.{contains_append, in_flat}
 use Rattle.sl_landing_law.specs.Landings.{IsWrittenBy, LandingsAreWritten, LeftBy}
 use Rattle.sl_law.proofs.LawFacts.{lawful-front}
 use Rattle.sl_law.specs.Lawful.{Lawful}
-use Rattle.sl_place_law.proofs.Finding.{equal_numbers, filtered, finds, found_in, numbered_inside, partner, partner_of, place_is, same_number}
+use Rattle.sl_place_law.proofs.Finding.{equal_numbers, filtered, finds, found_in, numbered_inside, partner, partner_of, place_is, same_number, same_read}
 use Rattle.sl_place_law.proofs.Numbering.{session_number}
 use Rattle.sl_run.specs.Events.{sectors_of}
 use Rattle.sl_run.specs.Runs.{Happening}
@@ -21,7 +21,6 @@ use Rattle.sl_sample_law.specs.Samples.{DoneReadsAreWhole, IsSampleOf, SampledAr
 use Rattle.sl_sector.proofs.PublicLaws.{spelled_is_read}
 use Rattle.sl_sector.specs.Records.{IsRecord}
 use Rattle.sl_sector.specs.Spelling.{IsDigest, IsSectorSize}
-use Rattle.sl_sector.specs.declared.sector.Bad.{Bad}
 use Rattle.sl_sector.specs.declared.sector.Rec.{Rec}
 use Rattle.sl_session_law.proofs.Growing.{all_of_it}
 use Rattle.sl_session_law.proofs.Making.{calls_are_made, contains_cases, contains_none}
@@ -36,7 +35,7 @@ use Rattle.sl_trace.specs.declared.input.Answer.TheVariants.{Failed, Read, Writt
 use Rattle.sl_trace.specs.declared.input.Answer.{Answer}
 use Rattle.sl_words.proofs.CaseLaws.{false_is_true, none_some, some_value, true_is_false}
 use Rattle.std.proofs.Common.{ap, arith, inl, inr, refl, subst, sym, ◌∙◌}
-use Rattle.std.specs.Prelude.{option_map, Contains, IsSome, List, drop, take, ◌++◌, ◌-◌, None, Ok, Option, Result, Some, [], is_ok, length, not, option_and_then, slice_get, suc, true, zero, ℕ, ◌*◌, ◌+◌, ◌<◌, ◌==◌, ◌∷◌, ◌≡◌, ◌⊎◌}
+use Rattle.std.specs.Prelude.{option_map, Contains, IsSome, List, drop, take, ◌++◌, ◌-◌, None, Ok, Option, Some, [], is_ok, length, not, option_and_then, slice_get, suc, true, zero, ℕ, ◌*◌, ◌+◌, ◌<◌, ◌==◌, ◌∷◌, ◌≡◌, ◌⊎◌}
 
 -- What the crates of calls, landings and samples promise.
 pub record IsPromised : Type 0 where
@@ -132,9 +131,6 @@ traced b p h xs run m a c at has =
     }
 
 -- ---- a landing is read back
-
-same_read : (read : Result Rec Bad) (r s : Rec) → read ≡ Ok r → read ≡ Ok s → r ≡ s
-same_read read r s e f = cc
 
 left_by : (w : World) (x : Landing) (c : Course) (r s : Rec) → IsDigest w.layout.digest → IsSectorSize w.layout.sector → IsRecord r → LeftBy w x c r
     → record_in w.layout x.bytes ≡ Ok s → r ≡ s
