@@ -169,7 +169,7 @@ pub data IsInitial (g : Layout) (h : Header) (path : List ℕ) (offset : ℕ) (r
   In_resource : (x : ResourceLine) → Contains h.resources x → x.path ≡ path → IsTrue (in_area g x.offset offset) → IsRecord r
       → ((d : DeltaRec) → r ≡ DeltaIs d → ⊥) → ((l : Leader) → r ≡ LeaderIs l → l ≡ fresh_leader g x.lockspace x.name) → IsInitial g h path offset r
 
-abbrev line_at : Layout → Header → List ℕ → ℕ → Option LockspaceLine
+abbrev pub line_at : Layout → Header → List ℕ → ℕ → Option LockspaceLine
 line_at g h path offset = find (λ l. bytes_eq l.path path && in_area g l.offset offset) h.lockspaces
 
 abbrev resource_at : Layout → Header → List ℕ → ℕ → Option ResourceLine

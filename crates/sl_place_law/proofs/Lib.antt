@@ -9,3 +9,4 @@ pub mod Seats
 pub mod Leased
 pub mod Homing
 pub mod Exact
+pub mod Unaligned
