@@ -1,1 +1,4 @@
 pub mod Moments
+pub mod Waits
+pub mod Orders
+pub mod Fronts

@@ -1,0 +1,6 @@
+pub mod Frames
+pub mod SectorFrames
+pub mod LandingFrames
+pub mod StateFrames
+pub mod FindingFrames
+pub mod WriterFrames

@@ -1,0 +1,3 @@
+pub mod IdStates
+pub mod Facts
+pub mod Promises

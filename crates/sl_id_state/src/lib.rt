@@ -1,0 +1,4 @@
+//! The state of an id, read off a world.
+#![tactic(auto)]
+
+pub mod laws;

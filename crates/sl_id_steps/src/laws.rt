@@ -1,0 +1,1 @@
+//! How the events of a lawful run are steps of an id.

@@ -1,0 +1,11 @@
+pub mod Filling
+pub mod Numbering
+pub mod Seeing
+pub mod Reading
+pub mod Passing
+pub mod Flying
+pub mod Sampling
+pub mod Answering
+pub mod Stepping
+pub mod Showing
+pub mod Proven
