@@ -10,3 +10,4 @@ pub mod Leased
 pub mod Homing
 pub mod Exact
 pub mod Unaligned
+pub mod Proven
