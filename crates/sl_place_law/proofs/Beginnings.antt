@@ -2,7 +2,7 @@
 use Rattle.sl_area.specs.Layouts.{Layout, layout_with, record_in, sector_with}
 use Rattle.sl_area.specs.Places.{fresh_block, fresh_delta, fresh_leader, in_area, no_request, no_value}
 use Rattle.sl_place_law.proofs.Areas.{IsSized, sector_fits, sized}
-use Rattle.sl_place_law.proofs.Finding.{found_in, same_number, same_text}
+use Rattle.sl_place_law.proofs.Finding.{found_in, same_number, same_read, same_text}
 use Rattle.sl_run.specs.Headers.{IsHeader}
 use Rattle.sl_run.specs.Worlds.{clock_reading, initial_bytes, initial_delta, initial_of_lockspace, initial_of_resource, initial_record, member_delta}
 use Rattle.sl_run.specs.declared.header.FirstReading.{FirstReading}
@@ -13,7 +13,6 @@ use Rattle.sl_run.specs.declared.header.SessionLine.{SessionLine}
 use Rattle.sl_sector.proofs.PublicLaws.{spelled_is_read}
 use Rattle.sl_sector.specs.Records.{IsBlock, IsDelta, IsLeader, IsRecord, IsRequest, IsValue}
 use Rattle.sl_sector.specs.Spelling.{IsDigest, decoded, magic}
-use Rattle.sl_sector.specs.declared.sector.Bad.{Bad}
 use Rattle.sl_sector.specs.declared.sector.DeltaRec.{DeltaRec}
 use Rattle.sl_sector.specs.declared.sector.Leader.{Leader}
 use Rattle.sl_sector.specs.declared.sector.Rec.TheVariants.{BlockIs, DeltaIs, LeaderIs, RequestIs, ValueIs}
@@ -25,7 +24,7 @@ use Rattle.sl_words.specs.Words.{choose}
 use Rattle.std.proofs.Common.{ap, arith, refl, subst, sym, ◌∙◌}
 use Rattle.std.proofs.lemmas.Bool.Decides.{nat_tests}
 use Rattle.std.specs.Option.{option_map_or}
-use Rattle.std.specs.Prelude.{Bool, Contains, Err, IsTrue, List, None, Ok, Option, Result, Some, bytes_eq, false, find, if◌then◌else◌, nat_lt, replicate, suc, true, zero, ℕ, ◌%◌, ◌&&◌, ◌*◌, ◌+◌, ◌-◌, ◌/◌, ◌<◌, ◌==◌, ◌^◌, ◌≡◌, ◌≤◌}
+use Rattle.std.specs.Prelude.{Bool, Contains, IsTrue, List, None, Ok, Option, Some, bytes_eq, false, find, if◌then◌else◌, nat_lt, replicate, suc, true, zero, ℕ, ◌%◌, ◌&&◌, ◌*◌, ◌+◌, ◌-◌, ◌/◌, ◌<◌, ◌==◌, ◌^◌, ◌≡◌, ◌≤◌}
 
 -- ---- the records are records
 
@@ -170,7 +169,7 @@ pub data IsInitial (g : Layout) (h : Header) (path : List ℕ) (offset : ℕ) (r
   In_resource : (x : ResourceLine) → Contains h.resources x → x.path ≡ path → IsTrue (in_area g x.offset offset) → IsRecord r
       → ((d : DeltaRec) → r ≡ DeltaIs d → ⊥) → ((l : Leader) → r ≡ LeaderIs l → l ≡ fresh_leader g x.lockspace x.name) → IsInitial g h path offset r
 
-abbrev line_at : Layout → Header → List ℕ → ℕ → Option LockspaceLine
+abbrev pub line_at : Layout → Header → List ℕ → ℕ → Option LockspaceLine
 line_at g h path offset = find (λ l. bytes_eq l.path path && in_area g l.offset offset) h.lockspaces
 
 abbrev resource_at : Layout → Header → List ℕ → ℕ → Option ResourceLine
@@ -270,9 +269,6 @@ initial_is_record : (g : Layout) (h : Header) (path : List ℕ) (offset : ℕ) (
 initial_is_record g h path offset r (In_lockspace l d there path_is inside few is its) = delta_is_record r d is its.is
 initial_is_record g h path offset r (In_resource x there path_is inside is no_delta leader) = is
 
-err_is_ok : (bad : Bad) (r : Rec) → (let e : Result Rec Bad = Err bad in e) ≡ Ok r → ⊥
-err_is_ok bad r e = cc
-
 -- Zeros spell nothing.
 no_zeros : (digest : List ℕ → List ℕ) (n : ℕ) (r : Rec) → decoded digest (replicate (suc n) 0) ≡ Ok r → ⊥
 unfolding decoded magic
@@ -281,9 +277,6 @@ no_zeros digest n r h = absurd cc
 zeros_at : (digest : List ℕ → List ℕ) (n : ℕ) (r : Rec) → 512 ≤ n → decoded digest (replicate n 0) ≡ Ok r → ⊥
 zeros_at digest zero r h e = absurd (omega (arith, h))
 zeros_at digest (suc n) r h e = no_zeros digest n r e
-
-same_read : (read : Result Rec Bad) (r s : Rec) → read ≡ Ok r → read ≡ Ok s → r ≡ s
-same_read read r s e f = cc
 
 read_by : (digest : List ℕ → List ℕ) (h : Header) (path : List ℕ) (offset : ℕ) (o : Option Rec) (r : Rec) → IsDigest digest → IsHeader h
     → initial_record (layout_with digest h.geometry) h path offset ≡ o

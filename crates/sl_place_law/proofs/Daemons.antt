@@ -1,6 +1,8 @@
 -- Of each daemon of a lawful run: each entry came at a later step than the one before, and it is given the header's sessions or none.
 use Rattle.sl_area.specs.Layouts.{Layout, layout_with}
+use Rattle.sl_course_law.specs.Stamping.{stamp_in}
 use Rattle.sl_front_law.proofs.Going.{IsKeptInRuns, IsLast, last_event, run_keeps}
+use Rattle.sl_place_law.proofs.Finding.{same_number}
 use Rattle.sl_place_law.proofs.Reading.{header_is, program_is}
 use Rattle.sl_run.specs.Events.{after_effects, after_step, first_change, input_of, machine_of, next_step, take_step, with_entry}
 use Rattle.sl_run.specs.Runs.{Happening}
@@ -235,3 +237,49 @@ kept_fine p h = record { first = begins_fine p h; next = next_fine p h }
 pub daemons_are_fine : (p : Program) (h : Header) (xs : List Happening) → LawfulRun p h xs → (m : ℕ) (a : Machine) (d : Daemon) → machine_at (world_at p h xs) m ≡ Some a
     → Contains (daemons_on a) d → IsFine p h (world_at p h xs).step m d
 daemons_are_fine p h xs run m a d at there = run_keeps p h (λ now. FineWorld p h (world_at p h now)) (kept_fine p h) xs run m a at d there
+
+-- ---- stamps in order
+
+below_too : (a n k : ℕ) → a < k → k < n → a < n
+below_too a n k p q = omega (arith, p, q)
+
+falls_from : (n k : ℕ) (ss : List Stamp) → k < n → Falls k ss → Falls n ss
+falls_from n k [] lt h = tt
+falls_from n k (s ∷ ss) lt h = (below_too s.step n k h.0 lt, h.1)
+
+below_by : (n : ℕ) (s : Stamp) (ss : List Stamp) (i : ℕ) (t : Stamp) (b : Bool) → elim b as (λ z. Option Stamp) [ true ↦ Some s | false ↦ stamp_in ss i ] ≡ Some t
+    → s.step < n → (stamp_in ss i ≡ Some t → t.step < n) → t.step < n
+below_by n s ss i t true is here rest = subst (λ x. x.step < n) (some_value s t is) here
+below_by n s ss i t false is here rest = rest is
+
+stamp_below : (n : ℕ) (ss : List Stamp) (i : ℕ) (t : Stamp) → Falls n ss → stamp_in ss i ≡ Some t → t.step < n
+stamp_below n [] i t h is = absurd (none_some t is)
+stamp_below n (s ∷ ss) i t h is = below_by n s ss i t (i == length ss) is h.0 (λ old. stamp_below n ss i t (falls_from n s.step ss h.0 h.1) old)
+
+inside_by : (s : Stamp) (ss : List Stamp) (i : ℕ) (t : Stamp) (b : Bool) → (i == length ss) ≡ b → elim b as (λ z. Option Stamp) [ true ↦ Some s | false ↦ stamp_in ss i ] ≡ Some t
+    → (stamp_in ss i ≡ Some t → i < length ss) → i ≤ length ss
+inside_by s ss i t true e is rest = omega (arith, same_number i (length ss) e)
+inside_by s ss i t false e is rest = omega (arith, rest is)
+
+stamp_inside : (ss : List Stamp) (i : ℕ) (t : Stamp) → stamp_in ss i ≡ Some t → i < length ss
+stamp_inside [] i t is = absurd (none_some t is)
+stamp_inside (s ∷ ss) i t is =
+    let le : i ≤ length ss = inside_by s ss i t (i == length ss) refl is (λ old. stamp_inside ss i t old) in omega (arith, le)
+
+order_by : (n : ℕ) (s : Stamp) (ss : List Stamp) (i j : ℕ) (t u : Stamp) (b c : Bool) → (i == length ss) ≡ b → (j == length ss) ≡ c
+    → elim b as (λ z. Option Stamp) [ true ↦ Some s | false ↦ stamp_in ss i ] ≡ Some t
+    → elim c as (λ z. Option Stamp) [ true ↦ Some s | false ↦ stamp_in ss j ] ≡ Some u → i ≤ j → Falls s.step ss
+    → (stamp_in ss i ≡ Some t → stamp_in ss j ≡ Some u → t.step ≤ u.step) → t.step ≤ u.step
+order_by n s ss i j t u true true p q is other le falls rest =
+    let same : t ≡ u = sym (some_value s t is) ∙ some_value s u other in omega (arith, ap (λ x. x.step) same)
+order_by n s ss i j t u false true p q is other le falls rest =
+    let low : t.step < s.step = stamp_below s.step ss i t falls is in omega (arith, low, ap (λ x. x.step) (some_value s u other))
+order_by n s ss i j t u true false p q is other le falls rest =
+    absurd (let lt : j < length ss = stamp_inside ss j u other in omega (arith, le, lt, same_number i (length ss) p))
+order_by n s ss i j t u false false p q is other le falls rest = rest is other
+
+-- Of two entries the older came first.
+pub stamp_order : (n : ℕ) (ss : List Stamp) (i j : ℕ) (t u : Stamp) → Falls n ss → stamp_in ss i ≡ Some t → stamp_in ss j ≡ Some u → i ≤ j → t.step ≤ u.step
+stamp_order n [] i j t u h is other le = absurd (none_some t is)
+stamp_order n (s ∷ ss) i j t u h is other le =
+    order_by n s ss i j t u (i == length ss) (j == length ss) refl refl is other le h.1 (λ x y. stamp_order s.step ss i j t u h.1 x y le)

@@ -9,7 +9,7 @@ use Rattle.sl_words.proofs.WordLaws.{and_true}
 use Rattle.std.proofs.Common.{ap, arith, inl, inr, refl, subst, sym, tests, ◌∙◌}
 use Rattle.std.proofs.lemmas.Slice.Eq.{bytes_eq-Decides}
 use Rattle.std.specs.List.{cons_option}
-use Rattle.std.specs.Prelude.{Bool, Contains, List, None, Option, Some, [], bytes_eq, cond, false, filter, filter_map, find, length, true, ℕ, ◌==◌, ◌∷◌, ◌≡◌, ◌⊎◌}
+use Rattle.std.specs.Prelude.{Bool, Contains, List, None, Option, Some, [], bytes_eq, cond, false, filter, filter_map, find, length, true, ℕ, ◌==◌, ◌∷◌, ◌≡◌, ◌⊎◌, Ok, Result}
 
 -- ---- tests
 
@@ -27,6 +27,10 @@ pub place_is : (path : List ℕ) (offset : ℕ) (path' : List ℕ) (offset' : �
 place_is path offset path' offset' h =
     let both = and_true (offset == offset') (bytes_eq path path') h in
     (same_text path path' both.1, same_number offset offset' both.0)
+
+-- One answer is one value.
+pub same_read : {A E : Type 0} (read : Result A E) (r s : A) → read ≡ Ok r → read ≡ Ok s → r ≡ s
+same_read read r s e f = cc
 
 -- ---- what passes a test
 

@@ -10,8 +10,8 @@ use Rattle.sl_place_law.proofs.Finding.{equal_numbers}
 use Rattle.sl_place_law.proofs.Leased.{IsLeased, verified_leased}
 use Rattle.sl_place_law.proofs.Looks.{IsOwnDelta, delta_is_own}
 use Rattle.sl_place_law.proofs.Reading.{IsPromised, IsTraced, call_law, owner_of, traced}
-use Rattle.sl_place_law.proofs.Seats.{Delta_home, HomeBefore, IsHome, IsLooseDelta, IsSeated, Lease_home, given_seated, look_seated, sized_in}
-use Rattle.sl_place_law.specs.Homes.{In_lockspace, In_resource, IsAtHome, IsLeaseLanding, WrittenBySession}
+use Rattle.sl_place_law.proofs.Seats.{Delta_home, HomeBefore, IsHome, IsLooseDelta, IsSeated, Lease_home, given_seated, home_early, look_seated, sized_in}
+use Rattle.sl_place_law.specs.Homes.{In_lockspace, In_resource, IsAtHome, IsLeaseLanding, NothingLandsElsewhere, ResourcesHoldLeases, WrittenBySession}
 use Rattle.sl_run.specs.Headers.{IsHeader}
 use Rattle.sl_run.specs.Runs.{Happening}
 use Rattle.sl_run.specs.Safety.{Found, LawfulRun, SessionId, is_course_of, session_of_world, world_at}
@@ -107,8 +107,9 @@ path_of w x t = sym t.wrote.place.0 ∙ ap (λ c. c.path) (sym t.trace.is.call)
 offset_of : (w : World) (x : Landing) (t : IsTold w x) → x.offset ≡ t.trace.submitted_as.call.offset
 offset_of w x t = sym t.wrote.place.1 ∙ ap (λ c. c.offset) (sym t.trace.is.call)
 
-home_early : (h : Header) (w : World) (n k : ℕ) → k < n → HomeBefore h w n → HomeBefore h w k
-home_early h w n k lt home x there early = home x there (omega (arith, early, lt))
+-- The landings before the write was made are at home.
+made_home : (h : Header) (w : World) (x : Landing) (t : IsTold w x) → HomeBefore h w x.step → HomeBefore h w t.wrote.course.made.step
+made_home h w x t home = let le : t.wrote.course.made.step ≤ x.step = omega (arith, t.wrote.after.0) in home_early h w x.step t.wrote.course.made.step le home
 
 -- ---- a delta record
 
@@ -126,7 +127,7 @@ seated_from p h xs b run x t home d own (Some j) job =
       | inr look ↦
           look_seated p h xs b run t.machine t.wrote.machine t.trace.daemon t.wrote.at t.trace.has t.session
           t.trace.submitted_as.at t.wrote.course.made t.trace.is.made
-          (home_early h w x.step t.wrote.course.made.step t.wrote.after.0 home) look
+          (made_home h w x t home) look
     ]
 
 delta_home : (p : Program) (h : Header) (xs : List Happening) → IsPromised → LawfulRun p h xs → (x : Landing) (t : IsTold (world_at p h xs) x)
@@ -172,7 +173,7 @@ leased : (p : Program) (h : Header) (xs : List Happening) → IsPromised → Law
     → IsLeased h (world_at p h xs) t.session t.trace.submitted_as resource
 leased p h xs b run x t k home resource verified =
     verified_leased p h xs b run t.machine t.wrote.machine t.trace.daemon t.wrote.at t.trace.has t.trace.lawful t.session t.its t.trace.submitted_as k t.wrote.course.made t.trace.is.made
-    (home_early h (world_at p h xs) x.step t.wrote.course.made.step t.wrote.after.0 home) resource verified
+    (made_home h (world_at p h xs) x t home) resource verified
 
 -- The leader that is written names the resource.
 leader_names : (p : Program) (h : Header) (xs : List Happening) → IsPromised → LawfulRun p h xs → (x : Landing) (t : IsTold (world_at p h xs) x) (k : IsMade t.trace.daemon.trace t.trace.submitted_as)
@@ -268,16 +269,15 @@ of_resource h w ok z r there x path inside (Lease_home k here way within landing
     let base = same_base w.layout k.offset r.offset x.offset z (resource_aligned h k ok here) (resource_aligned h r ok there) within inside in
     subst (λ y. IsLeaseLanding w y x) (one_resource h k r ok here there (sym way ∙ path) base) landing
 
-pub resources_hold_leases_given : (p : Program) (h : Header) (xs : List Happening) → IsPromised → LawfulRun p h xs → (r : ResourceLine)
-    → Contains h.resources r → (x : Landing) → Contains (world_at p h xs).landings x → x.path ≡ r.path → IsTrue (in_area (world_at p h xs).layout r.offset x.offset)
-    → IsLeaseLanding (world_at p h xs) r x
-resources_hold_leases_given p h xs b run r there x landed path inside =
+-- In a resource's area only its own records land.
+pub resources_hold_leases_given : IsPromised → ResourcesHoldLeases
+resources_hold_leases_given b p h xs run r there x landed path inside =
     of_resource h (world_at p h xs) run.header (sized_in p h xs run) r there x path inside (at_home p h xs b run x landed)
 
 somewhere : (h : Header) (w : World) (x : Landing) → IsHome h w x → IsAtHome h w x
 somewhere h w x (Delta_home l there path inside landing) = In_lockspace l there path inside
 somewhere h w x (Lease_home r there path inside landing) = In_resource r there path inside
 
-pub nothing_lands_elsewhere_given : (p : Program) (h : Header) (xs : List Happening) → IsPromised → LawfulRun p h xs → (x : Landing)
-    → Contains (world_at p h xs).landings x → IsAtHome h (world_at p h xs) x
-nothing_lands_elsewhere_given p h xs b run x landed = somewhere h (world_at p h xs) x (at_home p h xs b run x landed)
+-- Outside the header's areas nothing lands.
+pub nothing_lands_elsewhere_given : IsPromised → NothingLandsElsewhere
+nothing_lands_elsewhere_given b p h xs run x landed = somewhere h (world_at p h xs) x (at_home p h xs b run x landed)

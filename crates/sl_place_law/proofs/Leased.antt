@@ -6,11 +6,11 @@ use Rattle.sl_law.specs.Lawful.{Lawful}
 use Rattle.sl_law.specs.LawfulArea.{HasVerified, IsRightRead, is_leader_read, leaders_read}
 use Rattle.sl_place_law.proofs.Areas.{IsSized, base_aligned, resource_aligned, same_base, sector_fits}
 use Rattle.sl_place_law.proofs.Beginnings.{In_lockspace, In_resource, IsInitial}
-use Rattle.sl_place_law.proofs.Daemons.{daemons_are_fine}
+use Rattle.sl_place_law.proofs.Daemons.{daemons_are_fine, stamp_order}
 use Rattle.sl_place_law.proofs.Finding.{filtered, given_by, same_text}
 use Rattle.sl_place_law.proofs.Looks.{Heard, heard}
 use Rattle.sl_place_law.proofs.Reading.{IsPromised, IsShown, call_law, read_of, reads_back, sector_shown}
-use Rattle.sl_place_law.proofs.Seats.{Delta_home, HomeBefore, IsHome, Lease_home, initial_in, sized_in, stamp_order}
+use Rattle.sl_place_law.proofs.Seats.{Delta_home, HomeBefore, IsHome, Lease_home, home_early, initial_in, none_more, sized_in}
 use Rattle.sl_leases.specs.Leases.{is_leader_of, is_on, spot_of_call}
 use Rattle.sl_run.specs.Events.{sectors_of}
 use Rattle.sl_run.specs.Headers.{IsHeader}
@@ -179,20 +179,8 @@ leader_read st es s at l there =
     let bytes = bytes_of st.layout (gave f.0) l f.2 in
     record { call = f.0; there = inside.0; reads = both.0; on = both.1; bytes = bytes.0; given = bytes.1; spelled = bytes.2 }
 
-none_more : (o n : ℕ) → o + 0 * n ≡ o
-none_more o n = omega arith
-
 reads_some : (n k : ℕ) → k ≡ n → 0 < n → 0 < k
 reads_some n k e h = omega (arith, e, h)
-
-home_early : (h : Header) (w : World) (n k : ℕ) → k ≤ n → HomeBefore h w n → HomeBefore h w k
-home_early h w n k le home x there early = home x there (omega (arith, early, le))
-
-at_itself : (o : ℕ) → o ≤ o
-at_itself o = omega arith
-
-before_end : (o : ℕ) → o < o + 1048576
-before_end o = omega arith
 
 -- The resource's area, and that of the call, are the area of the read.
 same_areas : (h : Header) (w : World) (line : ResourceLine) (read call : ℕ) → IsHeader h → IsSized w.layout → Contains h.resources line → read ≡ read - read % w.layout.area
@@ -209,6 +197,21 @@ named g s resource l h =
     let first = and_true (bytes_eq l.lockspace s.lockspace && bytes_eq l.resource resource) (l.num_hosts == g.hosts) h in
     let one = and_true (bytes_eq l.lockspace s.lockspace) (bytes_eq l.resource resource) first.0 in
     record { lockspace = same_text l.lockspace s.lockspace one.0; resource_is = same_text l.resource resource one.1 }
+
+-- What the read that was verified says of the call's area.
+leased_by : (h : Header) (w : World) (s : Session) (q rd : Submitted) (resource : List ℕ) (l : Leader) → IsHeader h → IsSized w.layout
+    → IsLeaderPlace h w rd.call.path (rd.call.offset + 0 * w.layout.sector) l → rd.call.path ≡ q.call.path → rd.call.offset ≡ rd.call.offset - rd.call.offset % w.layout.area
+    → IsTrue (in_area w.layout (q.call.offset - q.call.offset % w.layout.area) rd.call.offset) → AreNamed s resource l → IsLeased h w s q resource
+leased_by h w s q rd resource l ok z place path base on names =
+    record {
+      line = place.line;
+      there = place.there;
+      path = sym path ∙ sym place.path_is;
+      base = same_areas h w place.line rd.call.offset q.call.offset ok z place.there base on
+          (subst (λ o. IsTrue (in_area w.layout place.line.offset o)) (none_more rd.call.offset w.layout.sector) place.inside);
+      lockspace = sym names.lockspace ∙ place.names.0;
+      name = sym names.resource_is ∙ place.names.1;
+    }
 
 -- A session that had verified the area of its call, where the landings before the call are at home.
 pub verified_leased : (p : Program) (h : Header) (xs : List Happening) → IsPromised → LawfulRun p h xs → (m : ℕ) (a : Machine) (d : Daemon) → machine_at (world_at p h xs) m ≡ Some a
@@ -232,15 +235,7 @@ verified_leased p h xs b run m a d is has law s its q k made stamped home resour
     let place = shown_leader p h xs b run rd.call.call.path (rd.call.call.offset + 0 * w.layout.sector) (sector_of w.layout rd.bytes 0) r.stamp.step l
     (home_early h w made.step r.stamp.step early home) (leader_in_is (record_in w.layout (sector_of w.layout rd.bytes 0)) l spelled) shown in
     let on = and_true (bytes_eq rd.call.call.path q.call.path) (in_area d.setting.layout (q.call.offset - q.call.offset % d.setting.layout.area) rd.call.call.offset) rd.on in
-    let names = named d.setting.layout s resource l verified.2 in
-    record {
-      line = place.line;
-      there = place.there;
-      path = sym (same_text rd.call.call.path q.call.path on.0) ∙ sym place.path_is;
-      base = same_areas h w place.line rd.call.call.offset q.call.offset run.header z place.there
-          (subst (λ (g : Layout). rd.call.call.offset ≡ rd.call.call.offset - rd.call.call.offset % g.area) layout right.offset)
-          (subst (λ (g : Layout). IsTrue (in_area g (q.call.offset - q.call.offset % g.area) rd.call.call.offset)) layout on.1)
-          (subst (λ o. IsTrue (in_area w.layout place.line.offset o)) (none_more rd.call.call.offset w.layout.sector) place.inside);
-      lockspace = sym names.lockspace ∙ place.names.0;
-      name = sym names.resource_is ∙ place.names.1;
-    }
+    leased_by h w s q rd.call resource l run.header z place (same_text rd.call.call.path q.call.path on.0)
+    (subst (λ (g : Layout). rd.call.call.offset ≡ rd.call.call.offset - rd.call.call.offset % g.area) layout right.offset)
+    (subst (λ (g : Layout). IsTrue (in_area g (q.call.offset - q.call.offset % g.area) rd.call.call.offset)) layout on.1)
+    (named d.setting.layout s resource l verified.2)

@@ -9,3 +9,5 @@ pub mod Seats
 pub mod Leased
 pub mod Homing
 pub mod Exact
+pub mod Unaligned
+pub mod Proven

@@ -5,8 +5,8 @@ use Rattle.sl_course_law.specs.Stamping.{stamp_in}
 use Rattle.sl_law.specs.LawfulArea.{is_delta_record}
 use Rattle.sl_place_law.proofs.Areas.{IsSized, is_within, lockspace_aligned, sector_fits, sized}
 use Rattle.sl_place_law.proofs.Beginnings.{StartsAligned, In_lockspace, In_resource, IsInitial, read_first}
-use Rattle.sl_place_law.proofs.Daemons.{Falls, daemons_are_fine}
-use Rattle.sl_place_law.proofs.Finding.{found_in, given_by, same_number, same_text}
+use Rattle.sl_place_law.proofs.Daemons.{daemons_are_fine, stamp_order}
+use Rattle.sl_place_law.proofs.Finding.{found_in, given_by, same_text}
 use Rattle.sl_place_law.proofs.Looks.{Look}
 use Rattle.sl_place_law.proofs.Numbering.{Of_command, Of_setting, Origin, origin_of}
 use Rattle.sl_place_law.proofs.Reading.{IsPromised, IsShown, header_is, layout_is, one_sector, read_of, reads_back, sector_shown}
@@ -31,7 +31,7 @@ use Rattle.sl_trace.specs.Traces.{Setting}
 use Rattle.sl_trace.specs.declared.input.Given.{Given}
 use Rattle.sl_words.proofs.CaseLaws.{none_some, some_value}
 use Rattle.std.proofs.Common.{ap, arith, inl, inr, refl, subst, sym, ◌∙◌}
-use Rattle.std.specs.Prelude.{Bool, Contains, Err, IsTrue, List, None, Ok, Option, Result, Some, [], bytes_eq, false, filter_map, find, length, option_map, true, ℕ, ◌*◌, ◌+◌, ◌-◌, ◌/◌, ◌<◌, ◌==◌, ◌∷◌, ◌≡◌, ◌≤◌, ◌⊎◌, ◌%◌}
+use Rattle.std.specs.Prelude.{Bool, Contains, Err, IsTrue, List, None, Ok, Option, Result, Some, [], bytes_eq, false, filter_map, find, option_map, true, ℕ, ◌*◌, ◌+◌, ◌-◌, ◌/◌, ◌<◌, ◌==◌, ◌≡◌, ◌≤◌, ◌⊎◌, ◌%◌}
 
 -- ---- homes
 
@@ -74,52 +74,6 @@ pub record IsSeated (h : Header) (w : World) (s : Session) : Type 0 where
 
 pub sized_in : (p : Program) (h : Header) (xs : List Happening) → LawfulRun p h xs → IsSized (world_at p h xs).layout
 sized_in p h xs run = subst IsSized (sym (layout_is p h xs)) (sized p.digest h.geometry run.header.geometry)
-
--- ---- stamps in order
-
-below_too : (a n k : ℕ) → a < k → k < n → a < n
-below_too a n k p q = omega (arith, p, q)
-
-falls_from : (n k : ℕ) (ss : List Stamp) → k < n → Falls k ss → Falls n ss
-falls_from n k [] lt h = tt
-falls_from n k (s ∷ ss) lt h = (below_too s.step n k h.0 lt, h.1)
-
-below_by : (n : ℕ) (s : Stamp) (ss : List Stamp) (i : ℕ) (t : Stamp) (b : Bool) → elim b as (λ z. Option Stamp) [ true ↦ Some s | false ↦ stamp_in ss i ] ≡ Some t
-    → s.step < n → (stamp_in ss i ≡ Some t → t.step < n) → t.step < n
-below_by n s ss i t true is here rest = subst (λ x. x.step < n) (some_value s t is) here
-below_by n s ss i t false is here rest = rest is
-
-stamp_below : (n : ℕ) (ss : List Stamp) (i : ℕ) (t : Stamp) → Falls n ss → stamp_in ss i ≡ Some t → t.step < n
-stamp_below n [] i t h is = absurd (none_some t is)
-stamp_below n (s ∷ ss) i t h is = below_by n s ss i t (i == length ss) is h.0 (λ old. stamp_below n ss i t (falls_from n s.step ss h.0 h.1) old)
-
-inside_by : (s : Stamp) (ss : List Stamp) (i : ℕ) (t : Stamp) (b : Bool) → (i == length ss) ≡ b → elim b as (λ z. Option Stamp) [ true ↦ Some s | false ↦ stamp_in ss i ] ≡ Some t
-    → (stamp_in ss i ≡ Some t → i < length ss) → i ≤ length ss
-inside_by s ss i t true e is rest = omega (arith, same_number i (length ss) e)
-inside_by s ss i t false e is rest = omega (arith, rest is)
-
-stamp_inside : (ss : List Stamp) (i : ℕ) (t : Stamp) → stamp_in ss i ≡ Some t → i < length ss
-stamp_inside [] i t is = absurd (none_some t is)
-stamp_inside (s ∷ ss) i t is =
-    let le : i ≤ length ss = inside_by s ss i t (i == length ss) refl is (λ old. stamp_inside ss i t old) in omega (arith, le)
-
-order_by : (n : ℕ) (s : Stamp) (ss : List Stamp) (i j : ℕ) (t u : Stamp) (b c : Bool) → (i == length ss) ≡ b → (j == length ss) ≡ c
-    → elim b as (λ z. Option Stamp) [ true ↦ Some s | false ↦ stamp_in ss i ] ≡ Some t
-    → elim c as (λ z. Option Stamp) [ true ↦ Some s | false ↦ stamp_in ss j ] ≡ Some u → i ≤ j → Falls s.step ss
-    → (stamp_in ss i ≡ Some t → stamp_in ss j ≡ Some u → t.step ≤ u.step) → t.step ≤ u.step
-order_by n s ss i j t u true true p q is other le falls rest =
-    let same : t ≡ u = sym (some_value s t is) ∙ some_value s u other in omega (arith, ap (λ x. x.step) same)
-order_by n s ss i j t u false true p q is other le falls rest =
-    let low : t.step < s.step = stamp_below s.step ss i t falls is in omega (arith, low, ap (λ x. x.step) (some_value s u other))
-order_by n s ss i j t u true false p q is other le falls rest =
-    absurd (let lt : j < length ss = stamp_inside ss j u other in omega (arith, le, lt, same_number i (length ss) p))
-order_by n s ss i j t u false false p q is other le falls rest = rest is other
-
--- Of two entries the older came first.
-pub stamp_order : (n : ℕ) (ss : List Stamp) (i j : ℕ) (t u : Stamp) → Falls n ss → stamp_in ss i ≡ Some t → stamp_in ss j ≡ Some u → i ≤ j → t.step ≤ u.step
-stamp_order n [] i j t u h is other le = absurd (none_some t is)
-stamp_order n (s ∷ ss) i j t u h is other le =
-    order_by n s ss i j t u (i == length ss) (j == length ss) refl refl is other le h.1 (λ x y. stamp_order s.step ss i j t u h.1 x y le)
 
 -- ---- a session that is given
 
@@ -289,9 +243,6 @@ at_home p h xs b run x d read (Lease_home r there path inside landing) =
     let back = reads_back b p h xs run (sector_fits w.layout (sized_in p h xs run)) x k.machine k.call k.wrote (DeltaIs d) read in
     absurd (not_other (is_delta_record k.wrote.record_written) (ap is_delta_record back) landing.other)
 
-not_leader : (d : DeltaRec) (r : Rec) → r ≡ DeltaIs d → ((e : DeltaRec) → r ≡ DeltaIs e → ⊥) → ⊥
-not_leader d r is never = never d is
-
 above_one : (k : ℕ) → 1 ≤ k + 1
 above_one k = omega arith
 
@@ -355,16 +306,13 @@ place_seats h w s path offset d path_is place names k =
       aligned = λ starts. subst (λ o. o % w.layout.sector ≡ 0) place (k.aligned starts);
     }
 
-none_more : (o n : ℕ) → o + 0 * n ≡ o
+pub none_more : (o n : ℕ) → o + 0 * n ≡ o
 none_more o n = omega arith
-
-less_by : (a b c : ℕ) → a ≤ b → b < c → a < c
-less_by a b c h k = omega (arith, h, k)
 
 one_there : (k : ℕ) → k ≡ 1 → 0 < k
 one_there k h = omega (arith, h)
 
-home_early : (h : Header) (w : World) (n k : ℕ) → k ≤ n → HomeBefore h w n → HomeBefore h w k
+pub home_early : (h : Header) (w : World) (n k : ℕ) → k ≤ n → HomeBefore h w n → HomeBefore h w k
 home_early h w n k le home x there early = home x there (omega (arith, early, le))
 
 -- A session that had looked by the entry of this stamp is seated, where the landings before it are at home.

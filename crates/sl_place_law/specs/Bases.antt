@@ -1,7 +1,7 @@
--- Delta records land where the sectors of a lockspace's area begin, if a session can find one nowhere else. A program may read any
--- command from a line. If it read one that named an area three bytes behind a lockspace's, the joining would read there what the area's
--- sectors spell at first (`initial_record` rounds an offset down to its sector), and would claim an id of that lockspace at a place that
--- nobody else of the lockspace ever reads.
+-- Where delta records land in a lockspace's area: at the places of their ids, if no session has an area that begins within a sector. A
+-- program may read any command from a line. If it read one that named an area three bytes behind a lockspace's, the joining would read
+-- there what the area's first sector spells at first, since `initial_record` takes an offset for that of the sector that it lies in; and
+-- it would claim that id of that lockspace at a place which none of the lockspace's other sessions ever reads.
 use Rattle.sl_area.specs.Layouts.{layout_with}
 use Rattle.sl_area.specs.Places.{in_area}
 use Rattle.sl_place_law.specs.Homes.{IsDeltaLanding}
@@ -21,7 +21,7 @@ use Rattle.std.specs.Prelude.{Contains, IsTrue, List, Some, ℕ, ◌%◌, ◌≡
 abbrev pub JoinsAligned : Program → Header → Type 0
 JoinsAligned p h = (text : List ℕ) (a : LockspaceArg) → added (command_in (p.commands h) text) ≡ Some a → a.offset % h.geometry.sector ≡ 0
 
--- Delta records stand at first where sectors begin, and nowhere else.
+-- Delta records stand at first where sectors begin, and nowhere else. (With that `initial_record` this is so of no header with a lockspace.)
 abbrev pub BeginsAligned : Program → Header → Type 0
 BeginsAligned p h = (path : List ℕ) (offset : ℕ) (d : DeltaRec) → initial_record (layout_with p.digest h.geometry) h path offset ≡ Some (DeltaIs d)
     → offset % h.geometry.sector ≡ 0
