@@ -9,3 +9,4 @@ pub mod Seats
 pub mod Leased
 pub mod Homing
 pub mod Proven
+pub mod Checks

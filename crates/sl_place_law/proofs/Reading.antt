@@ -12,7 +12,7 @@ use Rattle.sl_place_law.proofs.Finding.{equal_numbers, filtered, finds, found_in
 use Rattle.sl_place_law.proofs.Numbering.{session_number}
 use Rattle.sl_run.specs.Events.{sectors_of}
 use Rattle.sl_run.specs.Runs.{Happening}
-use Rattle.sl_run.specs.Safety.{LawfulRun, world_at}
+use Rattle.sl_run.specs.Safety.{Found, LawfulRun, SessionId, session_of_world, world_at}
 use Rattle.sl_run.specs.Worlds.{Course, Daemon, Landing, Machine, Program, Sampling, Stamp, World, daemon_numbered, daemons_on, first_landing, history_of, landed_at, machine_at, world_with}
 use Rattle.sl_run.specs.declared.header.Header.{Header}
 use Rattle.sl_run_law.proofs.Going.{run_goes}
@@ -35,7 +35,7 @@ use Rattle.sl_trace.specs.declared.input.Answer.TheVariants.{Failed, Read, Writt
 use Rattle.sl_trace.specs.declared.input.Answer.{Answer}
 use Rattle.sl_words.proofs.CaseLaws.{false_is_true, none_some, some_value, true_is_false}
 use Rattle.std.proofs.Common.{ap, arith, inl, inr, refl, subst, sym, ◌∙◌}
-use Rattle.std.specs.Prelude.{Contains, IsSome, List, drop, take, ◌++◌, ◌-◌, None, Ok, Option, Some, [], is_ok, length, not, option_and_then, slice_get, suc, true, zero, ℕ, ◌*◌, ◌+◌, ◌<◌, ◌==◌, ◌∷◌, ◌≡◌, ◌⊎◌}
+use Rattle.std.specs.Prelude.{Contains, IsSome, List, drop, take, ◌++◌, ◌-◌, None, Ok, Option, Some, [], is_ok, length, not, option_and_then, option_map, slice_get, suc, true, zero, ℕ, ◌*◌, ◌+◌, ◌<◌, ◌==◌, ◌∷◌, ◌≡◌, ◌⊎◌}
 
 -- What the crates of calls, landings and samples promise.
 pub record IsPromised : Type 0 where
@@ -260,3 +260,34 @@ one_sector b p h xs run m a d at q bytes r one =
     let count : length r.course.samples ≡ 1 = r.whole ∙ one in
     let size : length bytes ≡ 1 * w.layout.sector = ap (λ bs. length bs) r.sampled ∙ long ∙ ap (λ n. n * w.layout.sector) count in
     first_whole w.layout.sector bytes (size ∙ one_times w.layout.sector)
+
+-- ---- a session of the world
+
+-- The machine, the daemon and the session that are meant.
+pub record IsInside (w : World) (i : SessionId) (f : Found) : Type 0 where
+  pub at : machine_at w i.machine ≡ Some f.machine
+  pub has : Contains (daemons_on f.machine) f.daemon
+  pub its : session_numbered f.daemon.setting f.daemon.trace i.number ≡ Some f.session
+
+abbrev found_as : Machine → Daemon → Session → Found
+found_as a d s = record { machine = a; daemon = d; session = s }
+
+inside_daemon : (w : World) (i : SessionId) (f : Found) (a : Machine) (d : Daemon) (o : Option Session) → machine_at w i.machine ≡ Some a → Contains (daemons_on a) d
+    → session_numbered d.setting d.trace i.number ≡ o → option_map (λ (s : Session). found_as a d s) o ≡ Some f → IsInside w i f
+inside_daemon w i f a d None at has is h = absurd (none_some f h)
+inside_daemon w i f a d (Some s) at has is h = subst (IsInside w i) (some_value (found_as a d s) f h) (record { at = at; has = has; its = is })
+
+inside_machine : (w : World) (i : SessionId) (f : Found) (a : Machine) (o : Option Daemon) → machine_at w i.machine ≡ Some a → daemon_numbered a i.daemon ≡ o
+    → option_and_then (λ (d : Daemon). option_map (λ (s : Session). found_as a d s) (session_numbered d.setting d.trace i.number)) o ≡ Some f → IsInside w i f
+inside_machine w i f a None at is h = absurd (none_some f h)
+inside_machine w i f a (Some d) at is h =
+    inside_daemon w i f a d (session_numbered d.setting d.trace i.number) at (found_in (λ (x : Daemon). x.number == i.daemon) (daemons_on a) d is).0 refl h
+
+inside_world : (w : World) (i : SessionId) (f : Found) (o : Option Machine) → machine_at w i.machine ≡ o
+    → option_and_then (λ (a : Machine). option_and_then (λ (d : Daemon). option_map (λ (s : Session). found_as a d s) (session_numbered d.setting d.trace i.number))
+    (daemon_numbered a i.daemon)) o ≡ Some f → IsInside w i f
+inside_world w i f None is h = absurd (none_some f h)
+inside_world w i f (Some a) is h = inside_machine w i f a (daemon_numbered a i.daemon) is refl h
+
+pub session_inside : (w : World) (i : SessionId) (f : Found) → session_of_world w i ≡ Some f → IsInside w i f
+session_inside w i f h = inside_world w i f (machine_at w i.machine) refl h
