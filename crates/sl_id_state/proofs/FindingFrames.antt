@@ -142,7 +142,7 @@ moves_in : (a b : Machine) (d : Daemon) (s : Option Session)
 moves_in a b d None = refl
 moves_in a b d (Some s) = refl
 
-moves_by : (i : SessionId) (a b : Machine) (o : Option Daemon) → session_with i b o ≡ option_map (moved b) (session_with i a o)
+pub moves_by : (i : SessionId) (a b : Machine) (o : Option Daemon) → session_with i b o ≡ option_map (moved b) (session_with i a o)
 moves_by i a b None = refl
 moves_by i a b (Some d) = moves_in a b d (session_numbered d.setting d.trace i.number)
 
