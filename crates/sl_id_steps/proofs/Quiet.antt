@@ -48,7 +48,7 @@ none_runs : (a : Machine) → a.daemon ≡ None → daemons_on a ≡ a.ended
 none_runs a h = ap (λ (o : Option Daemon). elim o as (λ z. List Daemon) [ None ↦ a.ended | Some d ↦ d ∷ a.ended ]) h
 
 -- A new daemon is given no session.
-begins : (w : World) (m : ℕ) (name : List ℕ) (a : Machine) → a.daemon ≡ None → AreNumbered (daemons_on a) → IsStill a (after_start w m name a)
+pub begins : (w : World) (m : ℕ) (name : List ℕ) (a : Machine) → a.daemon ≡ None → AreNumbered (daemons_on a) → IsStill a (after_start w m name a)
 begins w m name a none numbered =
     record {
       calls = refl;
@@ -66,9 +66,9 @@ begins w m name a none numbered =
     }
 
 -- What is known of each machine before an event.
-record IsOrderly (w : World) : Type 0 where
-  settled : (m : ℕ) (a : Machine) → machine_at w m ≡ Some a → IsSettled a
-  numbered : (m : ℕ) (a : Machine) → machine_at w m ≡ Some a → AreNumbered (daemons_on a)
+pub record IsOrderly (w : World) : Type 0 where
+  pub settled : (m : ℕ) (a : Machine) → machine_at w m ≡ Some a → IsSettled a
+  pub numbered : (m : ℕ) (a : Machine) → machine_at w m ≡ Some a → AreNumbered (daemons_on a)
 
 asked : (w : World) (e : Event) → IsQuietEvent w e → may_happen w e ≡ true → IsOrderly w → Asked (λ m. IsStill) w e
 asked w e quiet may o =
@@ -95,7 +95,7 @@ changed_by : (m : ℕ) (f : Machine → Machine) (w : World) (o : Option Machine
 changed_by m f w None = refl
 changed_by m f w (Some a) = refl
 
-nothing_lands : (m : ℕ) (f : Machine → Machine) (w : World) → (change_machine m f w).landings ≡ w.landings
+pub nothing_lands : (m : ℕ) (f : Machine → Machine) (w : World) → (change_machine m f w).landings ≡ w.landings
 nothing_lands m f w = changed_by m f w (machine_at w m)
 
 quiet_lands : (e : Event) (w : World) → IsQuietEvent w e → (first_change e w).landings ≡ w.landings
@@ -146,7 +146,7 @@ settled_later p h xs run m b at =
     let go = run_hosts (world_with p h) xs run m a.0 a.1 in
     subst IsSettled (one_value go.0 b (machine_at (world_at p h xs) m) go.1 at) (go.2 (begins_new p h m a.0 a.1).settled).settled
 
-orderly : MachinesMirror → (p : Program) (h : Header) (now : List Happening) → LawfulRun p h now → IsOrderly (world_at p h now)
+pub orderly : MachinesMirror → (p : Program) (h : Header) (now : List Happening) → LawfulRun p h now → IsOrderly (world_at p h now)
 orderly mirror p h now run =
     record { settled = settled_later p h now run.is_run; numbered = λ m a at. (mirror p h now run m a at).numbered }
 
@@ -200,14 +200,14 @@ length_set (x ∷ ms) zero a = refl
 length_set (x ∷ ms) (suc i) a = ap (λ n. suc n) (length_set ms i a)
 
 -- A change of one machine leaves the rest of a world.
-record LeavesRest (w v : World) : Type 0 where
-  layout : v.layout ≡ w.layout
-  header : v.header ≡ w.header
-  landings : v.landings ≡ w.landings
-  machines : length v.machines ≡ length w.machines
-  moment : v.moment ≡ w.moment
+pub record LeavesRest (w v : World) : Type 0 where
+  pub layout : v.layout ≡ w.layout
+  pub header : v.header ≡ w.header
+  pub landings : v.landings ≡ w.landings
+  pub machines : length v.machines ≡ length w.machines
+  pub moment : v.moment ≡ w.moment
 
-leaves_by : (m : ℕ) (f : Machine → Machine) (w : World) (o : Option Machine)
+pub leaves_by : (m : ℕ) (f : Machine → Machine) (w : World) (o : Option Machine)
     → LeavesRest w (next_step (elim o as (λ x. World) [ None ↦ w | Some a ↦ record w { machines = slice_set w.machines (m - 1) (f a) } ]))
 leaves_by m f w None = record { layout = refl; header = refl; landings = refl; machines = refl; moment = refl }
 leaves_by m f w (Some a) = record { layout = refl; header = refl; landings = refl; machines = length_set w.machines (m - 1) (f a); moment = refl }

@@ -42,7 +42,7 @@ pub record IsStill (a b : Machine) : Type 0 where
   pub daemon : (b.daemon ≡ a.daemon) ⊎ Starts a b
 
 -- Those that run and those that ended.
-abbrev with_running : Option Daemon → List Daemon → List Daemon
+abbrev pub with_running : Option Daemon → List Daemon → List Daemon
 with_running o ds = elim o [ None ↦ ds | Some d ↦ d ∷ ds ]
 
 same_daemons : (a b : Machine) → b.daemon ≡ a.daemon → b.ended ≡ a.ended → daemons_on b ≡ daemons_on a
@@ -131,7 +131,7 @@ stays_by i a b ended (inr s) = started_by i a b s (s.daemon.number == i.daemon) 
 -- ---- what machines were given stays
 
 -- What a first daemon was given.
-abbrev given_first : Option Daemon → List Session
+abbrev pub given_first : Option Daemon → List Session
 given_first None = []
 given_first (Some d) = sessions d.setting []
 
@@ -147,7 +147,7 @@ no_length : (ds : List Daemon) (n : ℕ) → n ≡ length ds → (n == 0) ≡ tr
 no_length [] n h k = refl
 no_length (d ∷ ds) n h k = absurd (omega (arith, h, same_numbers n 0 k))
 
-given_stays : (a b : Machine) → b.ended ≡ a.ended → (b.daemon ≡ a.daemon) ⊎ Starts a b → given_on b ≡ given_on a
+pub given_stays : (a b : Machine) → b.ended ≡ a.ended → (b.daemon ≡ a.daemon) ⊎ Starts a b → given_on b ≡ given_on a
 given_stays a b ended (inl daemon) =
     ap (λ ds. given_first (find (λ x. x.number == 0) ds)) (same_daemons a b daemon ended)
 given_stays a b ended (inr s) =
