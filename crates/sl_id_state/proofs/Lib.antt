@@ -5,3 +5,4 @@ pub mod StateFrames
 pub mod FindingFrames
 pub mod WriterFrames
 pub mod CallFrames
+pub mod SampleFrames
