@@ -73,7 +73,7 @@ entered e now None ds = refl
 entered e now (Some d) ds = entered_by e now d ds (d.number == 0)
 
 -- The entry of a step.
-abbrev entry_of : Input → Effects → Machine → Entry
+abbrev pub entry_of : Input → Effects → Machine → Entry
 entry_of i fx a = record { reading = reading_now a; input = i; effects = fx }
 
 step_given : (now : Stamp) (i : Input) (fx : Effects) (a : Machine) → given_on (after_step now i fx a) ≡ given_on a
