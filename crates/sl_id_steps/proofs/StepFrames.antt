@@ -131,10 +131,13 @@ entry_keeps w e j gives = each_first (λ m. KeepsDaemons) e w (λ none. still) (
 pub record IsEntry (p : Program) (h : Header) (now : List Happening) (x : Happening) : Type 0 where
   pub input : Input
   pub effects : Effects
-  -- the machine before the step, with the daemon that takes it, as it was before the event
+  -- the machine before the event, and before the step, with the daemon that takes it
+  pub was : Machine
   pub machine : Machine
   pub daemon : Daemon
   pub gives : input_of (world_at p h now) x.0 ≡ Some input
+  pub was_at : machine_at (world_at p h now) (machine_of x.0) ≡ Some was
+  pub ran : was.daemon ≡ Some daemon
   pub at : machine_at (between (world_at p h now) x.0) (machine_of x.0) ≡ Some machine
   pub runs : machine.daemon ≡ Some daemon
   pub later : machine_at (after_event p h now x) (machine_of x.0) ≡ Some (after_step (stamp_now (between (world_at p h now) x.0) machine) input effects machine)
@@ -161,9 +164,12 @@ entry_is p h now x run j gives =
     record {
       input = j;
       effects = last.effects;
+      was = r.machine;
       machine = b.0;
       daemon = r.daemon;
       gives = gives;
+      was_at = r.at;
+      ran = r.runs;
       at = b.1;
       runs = b.2.daemon ∙ r.runs;
       later = ap (λ v. machine_at v (machine_of x.0)) after ∙ step_at (machine_of x.0) j last.effects u b.0 b.1;
