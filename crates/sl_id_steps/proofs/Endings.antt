@@ -97,12 +97,12 @@ writes_more r c h =
     and_from (is_write_course c) (open_while r c) p.0 (open_more r (is_none c.answered) (may_land c) p.1)
 
 -- What is known of a session on the machine.
-record EndsOf (i : SessionId) (f g : Found) : Type 0 where
-  past : SamePast i f g
-  stops : runs_still g ≡ false
-  reset : was_reset f ≡ true → was_reset g ≡ true
-  flying : has_write_in_flight i g.machine ≡ true → has_write_in_flight i f.machine ≡ true
-  claim : (c : Course) → join_course i ClaimWrite g.machine ≡ Some c → may_land c ≡ true → has_write_in_flight i g.machine ≡ true
+pub record EndsOf (i : SessionId) (f g : Found) : Type 0 where
+  pub past : SamePast i f g
+  pub stops : runs_still g ≡ false
+  pub reset : was_reset f ≡ true → was_reset g ≡ true
+  pub flying : has_write_in_flight i g.machine ≡ true → has_write_in_flight i f.machine ≡ true
+  pub claim : (c : Course) → join_course i ClaimWrite g.machine ≡ Some c → may_land c ≡ true → has_write_in_flight i g.machine ≡ true
 
 not_empty : (b c : Bool) → (b ≡ false → c ≡ false) → not b ≡ true → not c ≡ true
 not_empty true c f h = absurd (true_is_false (sym h))
@@ -126,10 +126,10 @@ claim_flies i b c stops at lands =
     ∙ any_has (λ x. is_write_course x && open_while false x) (own_courses i b) c p.there
     (and_from (is_write_course c) (open_while false c) r.0 (and_from (is_none c.answered) (may_land c) r.1 lands))
 
-not_running : (n : ℕ) (b : Machine) → b.daemon ≡ None → is_running n b ≡ false
+pub not_running : (n : ℕ) (b : Machine) → b.daemon ≡ None → is_running n b ≡ false
 not_running n b h = ap (λ (o : Option Daemon). some_is (λ d. d.number == n) o) h
 
-ends_of : (i : SessionId) (f : Found) (a b : Machine) → f.machine ≡ a → b.calls ≡ a.calls → b.daemon ≡ None
+pub ends_of : (i : SessionId) (f : Found) (a b : Machine) → f.machine ≡ a → b.calls ≡ a.calls → b.daemon ≡ None
     → ((step : ℕ) → is_empty (resets_after a step) ≡ false → is_empty (resets_after b step) ≡ false) → EndsOf i f (moved b f)
 ends_of i f a b on calls none resets =
     let same : b.calls ≡ f.machine.calls = calls ∙ ap (λ x. x.calls) (sym on) in
@@ -156,7 +156,7 @@ claim_is i g None x stops at h = absurd (not_both (runs_still g && x) h (ap (λ 
 claim_is i g (Some c) x stops at h = (c, at, h)
 
 -- A claim that may land after it might before.
-pending_before : (i : SessionId) (f g : Found) → EndsOf i f g → (is_some (deciding_sample i g) && claim_may_land i g) ≡ true
+pub pending_before : (i : SessionId) (f g : Found) → EndsOf i f g → (is_some (deciding_sample i g) && claim_may_land i g) ≡ true
     → (is_some (deciding_sample i f) && claim_may_land i f) ≡ true
 pending_before i f g e h =
     let p = and_true (is_some (deciding_sample i g)) (claim_may_land i g) h in
@@ -182,7 +182,7 @@ only_free false false c h k = absurd (true_is_false (sym k))
 only_free false true false h k = absurd (true_is_false (sym h))
 
 -- Where it is over after, but wasn't before, no claim of it may land.
-last_one : (i : SessionId) (f g : Found) → EndsOf i f g → is_over i f ≡ false → is_over i g ≡ true
+pub last_one : (i : SessionId) (f g : Found) → EndsOf i f g → is_over i f ≡ false → is_over i g ≡ true
     → (is_some (deciding_sample i g) && claim_may_land i g) ≡ false
 last_one i f g e alive closed =
     is_false (is_some (deciding_sample i g) && claim_may_land i g) (λ h.
@@ -207,7 +207,7 @@ or_more true b x y same more h = or_left x y (sym same)
 or_more false b x y same more h = or_right x y (more h)
 
 -- One that is over stays over.
-over_stays : (i : SessionId) (f g : Found) → EndsOf i f g → is_over i f ≡ true → is_over i g ≡ true
+pub over_stays : (i : SessionId) (f g : Found) → EndsOf i f g → is_over i f ≡ true → is_over i g ≡ true
 over_stays i f g e h =
     let s = e.past in
     let same : is_some (ended_after (trace_of f) f.session) ≡ is_some (ended_after (trace_of g) g.session) =
