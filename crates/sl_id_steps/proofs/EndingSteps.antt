@@ -12,7 +12,7 @@ use Rattle.sl_ids.proofs.DerivedLaws.{watchdogs}
 use Rattle.sl_ids.proofs.WholeRuns.{reached_kept}
 use Rattle.sl_ids.specs.Guards.{terms_of}
 use Rattle.sl_ids.specs.Invariant.{Invariant}
-use Rattle.sl_ids.specs.Runs.{IsBounded, Later}
+use Rattle.sl_ids.specs.Runs.{IsBounded, Later, Reached}
 use Rattle.sl_ids.specs.State.{Session as IdSession, SessionId as IdName, State}
 use Rattle.sl_ids.specs.Terms.{Terms}
 use Rattle.sl_id_steps.proofs.CallEvents.{OnOne, on_one, passes}
@@ -26,19 +26,20 @@ use Rattle.sl_run.specs.Events.{after_crash, after_reset, event_tests, first_cha
 use Rattle.sl_run.specs.Runs.{Happening}
 use Rattle.sl_run.specs.Safety.{Found, LawfulRun, SessionId, is_course_of, is_over, session_of_world, world_at}
 use Rattle.sl_run.specs.Worlds.{Daemon, Machine, Program, Stamp, World, change_machine, daemon_numbered, daemons_on, machine_at, resets_after, stamp_now}
-use Rattle.sl_run.specs.declared.event.Event.TheVariants.{Crash, Reset}
+use Rattle.sl_run.specs.declared.event.Event.TheVariants.{AnswerCall, Crash, Do, DropWrite, ExitOf, GiveCommand, Land, Pass as PassOf, Reset, Restart, Sample, SpawnedOf, StartDaemon, Tear, Test, WakeUp}
 use Rattle.sl_run.specs.declared.event.Event.{Event}
 use Rattle.sl_run.specs.declared.event.Refusal.TheVariants.{MissingUp}
 use Rattle.sl_run.specs.declared.header.Header.{Header}
 use Rattle.sl_run_law.proofs.Going.{event_goes}
-use Rattle.sl_run_law.specs.Going.{Goes}
+use Rattle.sl_run_law.specs.Going.{Goes, time_of}
 use Rattle.sl_sessions.specs.Sessions.{Session, session_numbered, sessions}
 use Rattle.sl_words.proofs.CaseLaws.{is_false, none_some, not_both, one_value, some_value, true_is_false}
 use Rattle.sl_words.proofs.OrderLaws.{same_or_apart}
 use Rattle.sl_words.specs.Words.{is_empty, some_is}
 use Rattle.std.proofs.Common.{ap, arith, inl, inr, refl, subst, sym, tests, ◌∙◌}
 use Rattle.std.proofs.lemmas.Option.{slice_get_past}
-use Rattle.std.specs.Prelude.{Bool, Contains, List, None, Option, Some, cond, false, filter, find, is_none, is_some, length, nat_lt, not, option_map, slice_get, true, [], ℕ, ◌&&◌, ◌++◌, ◌<◌, ◌==◌, ◌∷◌, ◌≡◌, ◌≤◌, ◌⊎◌}
+use Rattle.std.specs.Option.{option_map_or}
+use Rattle.std.specs.Prelude.{Bool, Contains, List, None, Option, Some, cond, false, filter, find, is_none, is_some, length, nat_lt, not, option_map, slice_get, true, [], ℕ, ◌&&◌, ◌++◌, ◌+◌, ◌<◌, ◌==◌, ◌∷◌, ◌≡◌, ◌≤◌, ◌⊎◌}
 
 -- ---- a session of the machine
 
@@ -253,3 +254,151 @@ ending_turns r w v path offset m e s inv =
       solo = λ j k isj isk apart bj bk. (inv.two j k apart).solo
           (one_name w path offset j k (isj.0 ∙ sym isk.0) (isj.1 ∙ sym isk.1) bj bk) bj bk;
     }
+
+-- ---- a crash, and a reset
+
+there_is : (a : Machine) (o : Option Daemon) → a.daemon ≡ o → is_none o ≡ false → (d : Daemon) × (a.daemon ≡ Some d)
+there_is a None at h = absurd (true_is_false h)
+there_is a (Some d) at h = (d, at)
+
+same_numbers : (m n : ℕ) → (m == n) ≡ true → m ≡ n
+same_numbers m n h = grind (arith, tests)
+
+other_number : (m n : ℕ) → (n ≡ m → ⊥) → (m == n) ≡ false
+other_number m n h = is_false (m == n) (λ t. h (sym (same_numbers m n t)))
+
+no_time : (n m : ℕ) → m ≡ n + 0 → m ≡ n
+no_time n m h = omega (arith, h)
+
+crash_ends : (w : World) (m : ℕ) → may_happen w (Crash m) ≡ true → EndsOn w (between w (Crash m)) m
+unfolding event_tests first_change
+crash_ends w m may =
+    let o = on_one w m (λ a. needs_daemon a ∷ []) (passes w (Crash m) may) in
+    let d = there_is o.machine o.machine.daemon refl o.passes.0 in
+    let g : Goes 0 1 w (between w (Crash m)) = event_goes w (Crash m) [] in
+    record {
+      before = o.machine;
+      after = after_crash o.machine;
+      at = o.at;
+      later = changed_here w m after_crash o.machine o.at;
+      elsewhere = λ k apart. changed_elsewhere w m k after_crash apart;
+      calls = refl;
+      daemons = refl;
+      none = refl;
+      resets = λ step h. h;
+      moment = no_time w.moment (between w (Crash m)).moment g.moment;
+      daemon = d.0.number;
+      steady = λ x has apart. (ap (λ o. some_is (λ y. y.number == x.number) o) d.1 ∙ other_number d.0.number x.number apart, refl);
+    }
+
+longer : (r : Stamp) (rs : List Stamp) (t : Bool) → is_empty rs ≡ false → is_empty (cond t (r ∷ rs) rs) ≡ false
+longer r rs true h = refl
+longer r rs false h = h
+
+-- A reset is one more.
+one_reset : (w : World) (a : Machine) (step : ℕ) → is_empty (resets_after a step) ≡ false → is_empty (resets_after (after_reset w a) step) ≡ false
+one_reset w a step h = longer (stamp_now w a) (resets_after a step) (nat_lt step w.step) h
+
+-- The number of the daemon since the last restart.
+abbrev since_number : Machine → ℕ
+since_number a = option_map_or (λ d. d.number) (since_restart a) 0
+
+not_since : (a : Machine) (d : Daemon) → (d.number ≡ since_number a → ⊥) → since_restart a ≡ Some d → ⊥
+not_since a d apart h = apart (sym (ap (λ o. option_map_or (λ (x : Daemon). x.number) o 0) h))
+
+idle_by : (a : Machine) (d : Daemon) (o : Option Daemon) → Mirrors a → a.daemon ≡ o → (d.number ≡ since_number a → ⊥) → is_running d.number a ≡ false
+idle_by a d None mirror is apart = not_running d.number a is
+idle_by a d (Some r) mirror is apart =
+    let number : since_number a ≡ r.number = ap (λ o. option_map_or (λ (x : Daemon). x.number) o 0) (mirror.running r is) in
+    ap (λ o. some_is (λ y. y.number == d.number) o) is ∙ other_number r.number d.number (λ same. apart (same ∙ sym number))
+
+reset_ends : (w : World) (m : ℕ) → may_happen w (Reset m) ≡ true → ((a : Machine) → machine_at w m ≡ Some a → Mirrors a) → EndsOn w (between w (Reset m)) m
+unfolding event_tests first_change
+reset_ends w m may mirrors =
+    let o = on_one w m (λ a. (not a.up, MissingUp) ∷ []) (passes w (Reset m) may) in
+    let a : Machine = o.machine in
+    let k : Mirrors a = mirrors a o.at in
+    let g : Goes 0 1 w (between w (Reset m)) = event_goes w (Reset m) [] in
+    record {
+      before = a;
+      after = after_reset w a;
+      at = o.at;
+      later = changed_here w m (after_reset w) a o.at;
+      elsewhere = λ j apart. changed_elsewhere w m j (after_reset w) apart;
+      calls = refl;
+      daemons = refl;
+      none = refl;
+      resets = one_reset w a;
+      moment = no_time w.moment (between w (Reset m)).moment g.moment;
+      daemon = since_number a;
+      steady = λ d has apart. (
+        idle_by a d a.daemon k refl apart,
+        one_reset w a d.begun.step (k.lost d has (not_since a d apart)) ∙ sym (k.lost d has (not_since a d apart)),
+      );
+    }
+
+-- Each ending is one on a machine.
+ends_on : (w : World) (e : Event) → IsEndingEvent w e → may_happen w e ≡ true → ((m : ℕ) (a : Machine) → machine_at w m ≡ Some a → Mirrors a)
+    → (m : ℕ) × EndsOn w (between w e) m
+ends_on w (PassOf d growths) q may mirrors = absurd q
+ends_on w (WakeUp m) q may mirrors = absurd q
+ends_on w (GiveCommand m text) q may mirrors = absurd q
+ends_on w (Sample m c k) q may mirrors = absurd q
+ends_on w (Land m c) q may mirrors = absurd q
+ends_on w (Tear m c k bytes) q may mirrors = absurd q
+ends_on w (AnswerCall m c ok) q may mirrors = absurd q
+ends_on w (Do m c) q may mirrors = absurd q
+ends_on w (DropWrite m c) q may mirrors = absurd q
+ends_on w (Test m) q may mirrors = absurd q
+ends_on w (ExitOf m p) q may mirrors = absurd q
+ends_on w (SpawnedOf m p ok) q may mirrors = absurd q
+ends_on w (StartDaemon m name) q may mirrors = absurd q
+ends_on w (Crash m) q may mirrors = (m, crash_ends w m may)
+ends_on w (Reset m) q may mirrors = (m, reset_ends w m may (mirrors m))
+ends_on w (Restart m) q may mirrors = absurd q
+
+ending_lands : (e : Event) (w : World) → IsEndingEvent w e → (first_change e w).landings ≡ w.landings
+unfolding first_change
+ending_lands (PassOf d growths) w q = absurd q
+ending_lands (WakeUp m) w q = absurd q
+ending_lands (GiveCommand m text) w q = absurd q
+ending_lands (Sample m c k) w q = absurd q
+ending_lands (Land m c) w q = absurd q
+ending_lands (Tear m c k bytes) w q = absurd q
+ending_lands (AnswerCall m c ok) w q = absurd q
+ending_lands (Do m c) w q = absurd q
+ending_lands (DropWrite m c) w q = absurd q
+ending_lands (Test m) w q = absurd q
+ending_lands (ExitOf m p) w q = absurd q
+ending_lands (SpawnedOf m p ok) w q = absurd q
+ending_lands (StartDaemon m name) w q = absurd q
+ending_lands (Crash m) w q = nothing_lands m after_crash w
+ending_lands (Reset m) w q = nothing_lands m (after_reset w) w
+ending_lands (Restart m) w q = absurd q
+
+-- Where nothing lands the sector stays.
+pub first_sector : StayDistinct → MachinesMirror → LandingsAreWritten → (p : Program) (h : Header) (now : List Happening) (x : Happening)
+    → LawfulRun p h (now ++ x ∷ []) → (path : List ℕ) (offset : ℕ) → (first_change x.0 (world_at p h now)).landings ≡ (world_at p h now).landings
+    → SameSector (world_at p h now) (between (world_at p h now) x.0) path offset
+first_sector distinct mirror written p h now x run path offset landings =
+    let w : World = world_at p h now in
+    let g : Goes (time_of x.0) 1 w (between w x.0) = event_goes w x.0 [] in
+    record {
+      layout = g.layout;
+      history = history_same w (between w x.0) path offset g.layout g.header landings;
+      writers = first_writers distinct mirror written p h now x run path offset;
+    }
+
+-- The invariant of an id holds where it is reached.
+pub holds_there : (p : Program) (h : Header) (xs : List Happening) (w : State) → LawfulRun p h xs → Reached (terms_of h.timing) w
+    → Invariant (terms_of h.timing) w
+holds_there p h xs w run reached = (reached_kept (terms_of h.timing) w (watchdogs.long h.timing run.header.timing) reached).0
+
+pub endings_go_on_given : StayDistinct → MachinesMirror → LandingsAreWritten → EndingsGoOn
+endings_go_on_given distinct mirror written p h now x path offset run place ending reached bounded =
+    let last = last_event p h now x run in
+    let w : World = world_at p h now in
+    let e = ends_on w x.0 ending last.may (mirror p h now last.before) in
+    let s = first_sector distinct mirror written p h now x run path offset (ending_lands x.0 w ending) in
+    one_turns (terms_of h.timing) (id_state w path offset) (state_between p h now x.0 path offset) e.0 e.1.daemon
+    (ending_turns (terms_of h.timing) w (between w x.0) path offset e.0 e.1 s (holds_there p h now (id_state w path offset) last.before reached)) bounded
