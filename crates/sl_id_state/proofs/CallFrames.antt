@@ -1,27 +1,26 @@
 -- A change of one call in flight changes the session whose call it is, and no other; and one more landing changes what a session takes
 -- from its sector only where it is the session's own.
-use Rattle.sl_id_state.proofs.FindingFrames.{IsFound, found_moves, found_on, is_found, moved, not_found, own_apart, own_mapped, same_moved, session_on}
-use Rattle.sl_id_state.proofs.Frames.{SameThere, claim_index, landed_seq}
+use Rattle.sl_id_state.proofs.FindingFrames.{found_moves, found_on, is_found, moved, own_apart, own_mapped, same_moved, session_on}
+use Rattle.sl_id_state.proofs.Frames.{SameThere}
 use Rattle.sl_id_state.proofs.LandingFrames.{Grows, number_there}
 use Rattle.sl_id_state.proofs.SectorFrames.{SameIf, ThereIf, same_still, seqs_same}
 use Rattle.sl_id_state.specs.IdStates.{deciding_sample, generation_above, generation_by, index_of, is_left_by, join_course, name_of, own_courses, same_name, seq_left, writer_of}
-use Rattle.sl_ids.specs.State.{SessionId as IdName}
 use Rattle.sl_run.specs.Events.{change_call}
 use Rattle.sl_run.specs.Safety.{Found, SessionId, is_course_of, session_of_world}
-use Rattle.sl_run.specs.Worlds.{Course, Landing, Machine, Sampling, World, daemons_on, flight_of, history_of, machine_at}
+use Rattle.sl_run.specs.Worlds.{Course, Landing, Machine, Sampling, World, flight_of, history_of, machine_at}
 use Rattle.sl_run_law.proofs.Coursing.{changed_if}
-use Rattle.sl_run_law.specs.Fates.{AreDistinct, Every}
+use Rattle.sl_run_law.specs.Fates.{AreDistinct}
 use Rattle.sl_sample_law.proofs.Numbering.{number_stays}
 use Rattle.sl_sample_law.specs.Samples.{numbered_landing}
-use Rattle.sl_sessions.specs.Sessions.{Session, given_number}
+use Rattle.sl_sessions.specs.Sessions.{given_number}
 use Rattle.sl_trace.specs.declared.effects.JoinStep.TheVariants.{ClaimWrite}
-use Rattle.sl_words.proofs.CaseLaws.{is_false, none_some, true_is_false}
+use Rattle.sl_words.proofs.CaseLaws.{is_false, true_is_false}
 use Rattle.sl_words.proofs.OrderLaws.{same_or_apart}
 use Rattle.sl_words.proofs.WordLaws.{and_true}
 use Rattle.sl_words.specs.Words.{greatest, some_is}
 use Rattle.std.proofs.Common.{ap, arith, inl, inr, refl, subst, sym, tests, ◌∙◌}
 use Rattle.std.specs.Option.{option_map_or}
-use Rattle.std.specs.Prelude.{Bool, List, None, Option, Some, false, filter, length, map, max, option_map, option_and_then, true, [], ℕ, ◌&&◌, ◌++◌, ◌<◌, ◌==◌, ◌∷◌, ◌≡◌, ◌⊎◌}
+use Rattle.std.specs.Prelude.{Bool, List, None, Option, Some, false, length, map, option_map, option_and_then, true, [], ℕ, ◌&&◌, ◌++◌, ◌<◌, ◌==◌, ◌∷◌, ◌≡◌}
 
 -- ---- one more landing
 

@@ -6,13 +6,12 @@ use Rattle.sl_id_state.specs.Facts.{JoinReadsAreOwn, ReadsOwn, is_reading_step}
 use Rattle.sl_id_state.specs.IdStates.{claim_bytes, comes_before, deciding_sample, is_sector_of, join_course, own_courses, refused_stamp, sample_showing, verifying_sample, watched_bytes}
 use Rattle.sl_run.specs.Runs.{Happening}
 use Rattle.sl_run.specs.Safety.{Found, LawfulRun, SessionId, is_course_of, session_of_world, world_at}
-use Rattle.sl_run.specs.Worlds.{Course, Machine, Program, Sampling, World, history_of, machine_at}
+use Rattle.sl_run.specs.Worlds.{Course, Machine, Program, Sampling, World, history_of}
 use Rattle.sl_run.specs.declared.header.Header.{Header}
 use Rattle.sl_sample_law.proofs.Numbering.{number_below}
 use Rattle.sl_sample_law.specs.Samples.{IsSampleOf, SamplesAreLandings, sector_place}
 use Rattle.sl_session_law.proofs.Making.{contains_cases, contains_first, contains_more, contains_none}
 use Rattle.sl_sessions.specs.Sessions.{Session, is_join_call, same_join_step}
-use Rattle.sl_trace.specs.Traces.{same_place}
 use Rattle.sl_trace.specs.declared.effects.JoinStep.TheVariants.{ClaimWrite, DecidingRead, FirstRead, FirstRenewal, VerifyRead, WatchRead}
 use Rattle.sl_trace.specs.declared.effects.JoinStep.{JoinStep}
 use Rattle.sl_trace.specs.declared.effects.Purpose.TheVariants.{Joining}
@@ -22,7 +21,7 @@ use Rattle.sl_words.proofs.WordLaws.{and_true, choose_some}
 use Rattle.sl_words.specs.Words.{choose, first_of_list, some_is}
 use Rattle.std.proofs.Common.{ap, arith, inl, inr, refl, subst, sym, tests, ◌∙◌}
 use Rattle.std.proofs.lemmas.Slice.Eq.{bytes_eq-Decides}
-use Rattle.std.specs.Prelude.{Bool, Contains, List, None, Option, Some, bytes_eq, cond, false, filter, find, length, map, option_and_then, option_map, slice_get, true, [], ℕ, ◌&&◌, ◌*◌, ◌+◌, ◌<◌, ◌==◌, ◌∷◌, ◌≡◌}
+use Rattle.std.specs.Prelude.{Bool, Contains, List, None, Option, Some, bytes_eq, cond, false, filter, length, option_and_then, true, [], ℕ, ◌&&◌, ◌*◌, ◌+◌, ◌<◌, ◌==◌, ◌∷◌, ◌≡◌}
 
 -- ---- own calls
 

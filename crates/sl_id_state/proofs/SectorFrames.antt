@@ -1,24 +1,22 @@
 -- Where what landed at a sector stays, and who wrote it, so does what a session's state takes from there.
 use Rattle.sl_ids.specs.State.{Landing as IdLanding, Session as IdSession, SessionId as IdName}
-use Rattle.sl_ids.specs.Listed.{no_landing}
-use Rattle.sl_id_state.proofs.Frames.{Same, SameThere, begun_same, claim_index, landed_seq, standing_same}
-use Rattle.sl_id_state.specs.IdStates.{blank, deciding_sample, generation_above, generation_by, has_begun, id_state, index_of, is_sector_of, join_course, landing_of, name_of, said_by, same_name, seq_left, session_at, session_named_so, standing_by, standing_of, writer_of}
+use Rattle.sl_id_state.proofs.Frames.{Same, SameThere, begun_same, standing_same}
+use Rattle.sl_id_state.specs.IdStates.{blank, deciding_sample, generation_above, generation_by, has_begun, index_of, is_sector_of, join_course, landing_of, name_of, said_by, same_name, seq_left, session_at, session_named_so, standing_by, standing_of, writer_of}
 use Rattle.sl_run.specs.Safety.{Found, SessionId, session_of_world}
-use Rattle.sl_run.specs.Worlds.{Course, Landing, Machine, Sampling, World, first_landing, history_of, landed_at}
+use Rattle.sl_run.specs.Worlds.{Landing, Sampling, World, first_landing, history_of, landed_at}
 use Rattle.sl_run_law.specs.Fates.{Every}
-use Rattle.sl_sample_law.proofs.Numbering.{number_below, number_stays}
 use Rattle.sl_sample_law.specs.Samples.{numbered_landing}
-use Rattle.sl_sessions.specs.Sessions.{Session, given_number}
+use Rattle.sl_sessions.specs.Sessions.{given_number}
 use Rattle.sl_trace.specs.Traces.{same_place}
 use Rattle.sl_trace.specs.declared.effects.JoinStep.TheVariants.{ClaimWrite}
-use Rattle.sl_words.proofs.CaseLaws.{none_some, some_value, true_is_false}
+use Rattle.sl_words.proofs.CaseLaws.{none_some, some_value}
 use Rattle.sl_words.proofs.WordLaws.{and_true}
 use Rattle.sl_words.specs.Words.{greatest, some_is}
-use Rattle.std.proofs.Common.{ap, arith, length-append, refl, subst, sym, ◌∙◌}
+use Rattle.std.proofs.Common.{ap, refl, subst, sym, ◌∙◌}
 use Rattle.std.proofs.lemmas.List.Elements.{filter-append}
 use Rattle.std.proofs.lemmas.List.{append_assoc}
 use Rattle.std.specs.Option.{option_map_or}
-use Rattle.std.specs.Prelude.{Bool, List, None, Option, Some, false, filter, length, map, option_map, true, [], ℕ, ◌&&◌, ◌++◌, ◌+◌, ◌<◌, ◌==◌, ◌∷◌, ◌≡◌}
+use Rattle.std.specs.Prelude.{Bool, List, None, Option, Some, false, filter, length, map, true, [], ℕ, ◌&&◌, ◌++◌, ◌==◌, ◌∷◌, ◌≡◌}
 
 -- ---- the same sector
 

@@ -5,7 +5,7 @@ use Rattle.sl_ids.specs.State.{SessionId as IdName}
 use Rattle.sl_landing_law.specs.Landings.{HasWriter, LandingsAreWritten}
 use Rattle.sl_run.specs.Runs.{Happening}
 use Rattle.sl_run.specs.Safety.{LawfulRun, world_at}
-use Rattle.sl_run.specs.Worlds.{Course, Daemon, Landing, Machine, Program, World, daemon_numbered, daemons_on, first_landing, history_of, landed_at, machine_at}
+use Rattle.sl_run.specs.Worlds.{Course, Daemon, Landing, Machine, Program, World, daemon_numbered, first_landing, history_of, landed_at, machine_at}
 use Rattle.sl_run.specs.declared.header.Header.{Header}
 use Rattle.sl_run_law.specs.Courses.{Continues, Follow, ListGoes}
 use Rattle.sl_run_law.specs.Fates.{AreDistinct, EachDistinct, Every}
@@ -13,11 +13,11 @@ use Rattle.sl_run_law.specs.Machines.{EachMachine}
 use Rattle.sl_session_law.proofs.Making.{contains_cases, contains_first, contains_more, contains_none}
 use Rattle.sl_sessions.specs.Sessions.{Session, sessions}
 use Rattle.sl_trace.specs.Traces.{same_place}
-use Rattle.sl_words.proofs.CaseLaws.{none_some, one_value, some_value, true_is_false}
+use Rattle.sl_words.proofs.CaseLaws.{none_some, some_value, true_is_false}
 use Rattle.sl_words.specs.Words.{first_given}
 use Rattle.std.proofs.Common.{ap, arith, inl, inr, refl, subst, sym, tests, ◌∙◌}
 use Rattle.std.specs.List.{enumerate_from}
-use Rattle.std.specs.Prelude.{Bool, Contains, List, None, Option, Some, cond, false, filter, find, if◌then◌else◌, length, option_and_then, option_map, slice_get, suc, true, zero, [], ℕ, ◌++◌, ◌+◌, ◌-◌, ◌<◌, ◌==◌, ◌∷◌, ◌≡◌}
+use Rattle.std.specs.Prelude.{Bool, Contains, List, None, Option, Some, cond, false, filter, find, if◌then◌else◌, length, option_and_then, option_map, slice_get, suc, true, [], ℕ, ◌++◌, ◌+◌, ◌-◌, ◌==◌, ◌∷◌, ◌≡◌}
 
 -- ---- the call with a number
 

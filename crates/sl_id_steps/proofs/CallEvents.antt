@@ -3,7 +3,7 @@ use Rattle.sl_id_state.proofs.CallFrames.{ChangesCall}
 use Rattle.sl_id_state.proofs.FindingFrames.{changed_elsewhere, changed_here}
 use Rattle.sl_id_steps.proofs.Quiet.{nothing_lands}
 use Rattle.sl_id_steps.specs.Parts.{between}
-use Rattle.sl_run.specs.Events.{add_landing, change_call, complete, event_tests, fated, first_change, flight_at, happens, is_placed, is_read_course, is_shaped, land_torn, land_whole, may_happen, needs_daemon, next_step, on_flight, on_machine, sampled_more, sectors_left, spells_something, torn_bytes, write_bytes}
+use Rattle.sl_run.specs.Events.{add_landing, change_call, complete, event_tests, fated, first_change, flight_at, is_placed, is_read_course, is_shaped, land_torn, land_whole, may_happen, needs_daemon, next_step, on_flight, on_machine, sampled_more, sectors_left, spells_something, torn_bytes, write_bytes}
 use Rattle.sl_run.specs.Worlds.{Course, Dropped, Fate, Landed, Landing, Machine, Torn, World, change_machine, first_that, flight_of, is_in_flight, is_landed, is_of_running, is_torn_fate, is_write_course, machine_at}
 use Rattle.sl_run.specs.declared.event.Event.TheVariants.{AnswerCall, Do, DropWrite, Land, Sample, Tear}
 use Rattle.sl_run.specs.declared.event.Event.{Event}
@@ -12,8 +12,8 @@ use Rattle.sl_run.specs.declared.event.Refusal.{Refusal}
 use Rattle.sl_run_law.proofs.Going.{event_goes}
 use Rattle.sl_run_law.specs.Fates.{AreDistinct}
 use Rattle.sl_run_law.specs.Going.{Goes, time_of}
-use Rattle.sl_words.proofs.CaseLaws.{false_is_true, none_some, some_value, true_is_false}
-use Rattle.std.proofs.Common.{ap, refl, subst, sym, ◌∙◌}
+use Rattle.sl_words.proofs.CaseLaws.{false_is_true, true_is_false}
+use Rattle.std.proofs.Common.{ap, refl, ◌∙◌}
 use Rattle.std.specs.Option.{option_map_or}
 use Rattle.std.specs.Prelude.{Bool, List, None, Option, Some, false, is_none, length, nat_lt, not, option_and_then, slice_set, true, [], ℕ, ◌&&◌, ◌++◌, ◌-◌, ◌||◌, ◌∷◌, ◌≡◌}
 

@@ -1,45 +1,45 @@
 -- An end of a daemon's run, or a reset, as one step of an id.
-use Rattle.sl_course_law.specs.Mirrors.{IsOfWorld, Mirrors, since_restart}
-use Rattle.sl_course_law.specs.Promises.{DaemonsAreOfWorld, MachinesMirror}
+use Rattle.sl_course_law.specs.Mirrors.{Mirrors, since_restart}
+use Rattle.sl_course_law.specs.Promises.{MachinesMirror}
 use Rattle.sl_front_law.proofs.Going.{last_event}
 use Rattle.sl_id_state.proofs.CallFrames.{elsewhere_same}
 use Rattle.sl_id_state.proofs.FindingFrames.{IsFound, changed_elsewhere, changed_here, found_moves, found_on, is_found, moved, on_machine, session_on, session_with}
 use Rattle.sl_id_state.proofs.Frames.{Same, SameThere, begun_past, ended, flying_same, is_running, standing_past}
 use Rattle.sl_id_state.proofs.LandingFrames.{same_landings}
-use Rattle.sl_id_state.proofs.SectorFrames.{SameIf, SameSector, ThereIf, history_same, sector_same, session_same_if}
+use Rattle.sl_id_state.proofs.SectorFrames.{SameIf, SameSector, history_same, sector_same, session_same_if}
 use Rattle.sl_id_state.specs.IdStates.{blank, claim_may_land, deciding_sample, has_begun, id_state, is_sector_of, own_courses, session_at, session_named_so, standing_by, standing_of}
 use Rattle.sl_ids.proofs.DerivedLaws.{watchdogs}
 use Rattle.sl_ids.proofs.WholeRuns.{reached_kept}
 use Rattle.sl_ids.specs.Guards.{terms_of}
 use Rattle.sl_ids.specs.Invariant.{Invariant}
-use Rattle.sl_ids.specs.Runs.{IsBounded, Later, Reached}
+use Rattle.sl_ids.specs.Runs.{Reached}
 use Rattle.sl_ids.specs.State.{Session as IdSession, SessionId as IdName, State}
 use Rattle.sl_ids.specs.Terms.{Terms}
-use Rattle.sl_id_steps.proofs.CallEvents.{OnOne, on_one, passes}
+use Rattle.sl_id_steps.proofs.CallEvents.{on_one, passes}
 use Rattle.sl_id_steps.proofs.Endings.{EndsOf, EndsOn, ends_of, last_one, not_running, over_stays, pending_before}
 use Rattle.sl_id_steps.proofs.EventFrames.{StayDistinct, first_writers}
 use Rattle.sl_id_steps.proofs.Quiet.{nothing_lands}
-use Rattle.sl_id_steps.proofs.Turning.{IsOfDaemon, OneTurns, Turns, flags_stay, flags_turn, of_number, one_turns}
+use Rattle.sl_id_steps.proofs.Turning.{OneTurns, Turns, flags_stay, flags_turn, of_number, one_turns}
 use Rattle.sl_id_steps.specs.Parts.{EndingsGoOn, IsEndingEvent, between, state_between}
 use Rattle.sl_landing_law.specs.Landings.{LandingsAreWritten}
-use Rattle.sl_run.specs.Events.{after_crash, after_reset, event_tests, first_change, may_happen, needs_daemon, next_step}
+use Rattle.sl_run.specs.Events.{after_crash, after_reset, event_tests, first_change, may_happen, needs_daemon}
 use Rattle.sl_run.specs.Runs.{Happening}
 use Rattle.sl_run.specs.Safety.{Found, LawfulRun, SessionId, is_course_of, is_over, session_of_world, world_at}
-use Rattle.sl_run.specs.Worlds.{Daemon, Machine, Program, Stamp, World, change_machine, daemon_numbered, daemons_on, machine_at, resets_after, stamp_now}
+use Rattle.sl_run.specs.Worlds.{Daemon, Machine, Program, Stamp, World, daemon_numbered, machine_at, resets_after, stamp_now}
 use Rattle.sl_run.specs.declared.event.Event.TheVariants.{AnswerCall, Crash, Do, DropWrite, ExitOf, GiveCommand, Land, Pass as PassOf, Reset, Restart, Sample, SpawnedOf, StartDaemon, Tear, Test, WakeUp}
 use Rattle.sl_run.specs.declared.event.Event.{Event}
 use Rattle.sl_run.specs.declared.event.Refusal.TheVariants.{MissingUp}
 use Rattle.sl_run.specs.declared.header.Header.{Header}
 use Rattle.sl_run_law.proofs.Going.{event_goes}
 use Rattle.sl_run_law.specs.Going.{Goes, time_of}
-use Rattle.sl_sessions.specs.Sessions.{Session, session_numbered, sessions}
-use Rattle.sl_words.proofs.CaseLaws.{is_false, none_some, not_both, one_value, some_value, true_is_false}
+use Rattle.sl_sessions.specs.Sessions.{sessions}
+use Rattle.sl_words.proofs.CaseLaws.{is_false, not_both, one_value, true_is_false}
 use Rattle.sl_words.proofs.OrderLaws.{same_or_apart}
 use Rattle.sl_words.specs.Words.{is_empty, some_is}
 use Rattle.std.proofs.Common.{ap, arith, inl, inr, refl, subst, sym, tests, ◌∙◌}
 use Rattle.std.proofs.lemmas.Option.{slice_get_past}
 use Rattle.std.specs.Option.{option_map_or}
-use Rattle.std.specs.Prelude.{Bool, Contains, List, None, Option, Some, cond, false, filter, find, is_none, is_some, length, nat_lt, not, option_map, slice_get, true, [], ℕ, ◌&&◌, ◌++◌, ◌+◌, ◌<◌, ◌==◌, ◌∷◌, ◌≡◌, ◌≤◌, ◌⊎◌}
+use Rattle.std.specs.Prelude.{Bool, List, None, Option, Some, cond, false, filter, is_none, is_some, length, nat_lt, not, option_map, true, [], ℕ, ◌&&◌, ◌++◌, ◌+◌, ◌==◌, ◌∷◌, ◌≡◌, ◌≤◌, ◌⊎◌}
 
 -- ---- a session of the machine
 

@@ -1,45 +1,19 @@
 -- A daemon's end, and a reset of its machine: of its sessions one may lose its claim, or end.
-use Rattle.sl_course_law.specs.Mirrors.{Mirrors, since_restart}
-use Rattle.sl_course_law.specs.Promises.{MachinesMirror}
-use Rattle.sl_front_law.proofs.Going.{last_event}
-use Rattle.sl_id_state.proofs.CallFrames.{elsewhere_same}
-use Rattle.sl_id_state.proofs.FindingFrames.{IsFound, changed_elsewhere, changed_here, find_passes, found_moves, found_on, is_found, moved, not_found, on_machine, same_moved, session_on, session_with}
-use Rattle.sl_id_state.proofs.Frames.{SamePast, begun_past, decides_past, ended, flying_of, free_landed_by, free_of, is_running, join_past, open_while, standing_past}
-use Rattle.sl_id_state.proofs.LandingFrames.{same_landings}
-use Rattle.sl_id_state.proofs.SectorFrames.{SameIf, SameSector, ThereIf, history_same, sector_same, session_same_if}
-use Rattle.sl_id_state.specs.IdStates.{blank, claim_may_land, deciding_sample, has_begun, id_state, is_sector_of, join_course, own_courses, runs_still, session_at, session_named_so, standing_by, standing_of}
-use Rattle.sl_ids.proofs.DerivedLaws.{watchdogs}
-use Rattle.sl_ids.proofs.WholeRuns.{reached_kept}
-use Rattle.sl_ids.specs.Guards.{terms_of}
-use Rattle.sl_ids.specs.Invariant.{Invariant}
-use Rattle.sl_ids.specs.State.{Session as IdSession, SessionId as IdName, State}
-use Rattle.sl_id_steps.proofs.CallEvents.{OnOne, on_one, passes}
-use Rattle.sl_id_steps.proofs.EventFrames.{StayDistinct, first_writers}
-use Rattle.sl_id_steps.proofs.Quiet.{nothing_lands}
-use Rattle.sl_id_steps.proofs.Turning.{IsOfDaemon, OneTurns, Turns, flags_stay, flags_turn, of_number, one_turns}
-use Rattle.sl_id_steps.specs.Parts.{EndingsGoOn, IsEndingEvent, between, state_between}
-use Rattle.sl_landing_law.specs.Landings.{LandingsAreWritten}
-use Rattle.sl_run.specs.Events.{after_crash, after_reset, event_tests, first_change, may_happen, needs_daemon, next_step}
-use Rattle.sl_run.specs.Runs.{Happening}
-use Rattle.sl_run.specs.Safety.{Found, LawfulRun, SessionId, free_landed, has_write_in_flight, is_course_of, is_over, session_of_world, trace_of, was_reset, world_at}
-use Rattle.sl_run.specs.Worlds.{Course, Daemon, Machine, Program, Stamp, World, change_machine, daemon_numbered, daemons_on, is_in_flight, is_write_course, machine_at, may_land, resets_after, stamp_now}
-use Rattle.sl_run.specs.declared.event.Event.TheVariants.{Crash, Reset}
-use Rattle.sl_run.specs.declared.event.Event.{Event}
-use Rattle.sl_run.specs.declared.header.Header.{Header}
-use Rattle.sl_run_law.proofs.Going.{event_goes}
-use Rattle.sl_run_law.specs.Going.{Goes}
+use Rattle.sl_id_state.proofs.FindingFrames.{find_passes, moved}
+use Rattle.sl_id_state.proofs.Frames.{SamePast, decides_past, flying_of, free_landed_by, free_of, is_running, join_past, open_while}
+use Rattle.sl_id_state.specs.IdStates.{claim_may_land, deciding_sample, join_course, own_courses, runs_still}
+use Rattle.sl_run.specs.Safety.{Found, SessionId, free_landed, has_write_in_flight, is_course_of, is_over, trace_of, was_reset}
+use Rattle.sl_run.specs.Worlds.{Course, Daemon, Machine, World, daemons_on, is_in_flight, is_write_course, machine_at, may_land, resets_after}
 use Rattle.sl_session_law.proofs.Making.{contains_cases, contains_none}
-use Rattle.sl_sessions.specs.Sessions.{Session, calls_of, ended_after, free_write, is_join_call, refused_after, session_numbered, sessions}
+use Rattle.sl_sessions.specs.Sessions.{calls_of, ended_after, free_write, is_join_call, refused_after}
 use Rattle.sl_trace.specs.declared.effects.JoinStep.TheVariants.{ClaimWrite}
-use Rattle.sl_words.proofs.CaseLaws.{is_false, none_some, not_both, one_value, some_value, true_is_false, true_or_false}
-use Rattle.sl_words.proofs.OrderLaws.{same_or_apart}
+use Rattle.sl_words.proofs.CaseLaws.{is_false, not_both, true_is_false}
 use Rattle.sl_words.proofs.WordLaws.{and_true, or_true}
 use Rattle.sl_words.specs.Words.{is_empty, some_is}
-use Rattle.std.proofs.Common.{ap, arith, inl, inr, refl, subst, sym, tests, ◌∙◌}
+use Rattle.std.proofs.Common.{ap, inl, inr, refl, sym, ◌∙◌}
 use Rattle.std.proofs.lemmas.Bool.{and_from}
-use Rattle.std.proofs.lemmas.Option.{slice_get_past}
 use Rattle.std.specs.List.{list_any}
-use Rattle.std.specs.Prelude.{Bool, Contains, List, None, Option, Some, cond, false, filter, find, is_none, is_some, length, nat_lt, not, option_and_then, option_map, slice_get, true, [], ℕ, ◌&&◌, ◌++◌, ◌<◌, ◌==◌, ◌||◌, ◌∷◌, ◌≡◌, ◌≤◌, ◌⊎◌}
+use Rattle.std.specs.Prelude.{Bool, Contains, List, None, Option, Some, false, filter, is_none, is_some, not, true, [], ℕ, ◌&&◌, ◌==◌, ◌||◌, ◌∷◌, ◌≡◌, ◌⊎◌}
 
 -- ---- what ends
 

@@ -1,24 +1,23 @@
 -- What stays of a world between an event's first change and its step, and after that step: its calls, who wrote what, the layout.
 use Rattle.sl_course_law.specs.Promises.{MachinesMirror}
 use Rattle.sl_front_law.proofs.Going.{last_event}
-use Rattle.sl_front_law.proofs.Having.{contains_append}
 use Rattle.sl_id_state.proofs.FindingFrames.{find_passes}
 use Rattle.sl_id_state.proofs.SectorFrames.{SameSector, history_same}
-use Rattle.sl_id_state.proofs.WriterFrames.{HasCall, KeepsGiven, KeepsWriters, call_kept, call_of, call_there, calls_of_landings, given_on, writers_kept}
+use Rattle.sl_id_state.proofs.WriterFrames.{HasCall, KeepsGiven, KeepsWriters, call_kept, call_there, calls_of_landings, given_on, writers_kept}
 use Rattle.sl_id_state.specs.IdStates.{writer_of}
 use Rattle.sl_id_steps.proofs.Quiet.{IsOrderly, LeavesRest, begins, leaves_by, nothing_lands, orderly}
 use Rattle.sl_id_steps.proofs.Still.{IsStill, given_first, given_stays, with_running}
 use Rattle.sl_id_steps.specs.Parts.{between}
 use Rattle.sl_landing_law.specs.Landings.{LandingsAreWritten}
-use Rattle.sl_run.specs.Events.{add_landing, after_crash, after_effects, after_reset, after_restart, after_start, after_step, after_test, change_call, complete, fated, first_change, flight_at, happens, input_of, land_whole, machine_of, may_happen, next_step, sampled_more, sectors_left, take_step, torn_bytes, with_entry, write_bytes}
-use Rattle.sl_run.specs.Runs.{Happening, world_after}
+use Rattle.sl_run.specs.Events.{add_landing, after_crash, after_effects, after_reset, after_restart, after_start, after_step, after_test, change_call, fated, first_change, flight_at, input_of, land_whole, machine_of, may_happen, sampled_more, sectors_left, take_step, torn_bytes, with_entry, write_bytes}
+use Rattle.sl_run.specs.Runs.{Happening}
 use Rattle.sl_run.specs.Safety.{LawfulRun, world_at}
-use Rattle.sl_run.specs.Worlds.{Course, Daemon, Dropped, Landed, Landing, Machine, Program, Stamp, Torn, World, change_machine, daemons_on, flight_of, history_of, is_in_flight, is_open, is_write_course, machine_at, reading_now, stamp_now, world_with}
+use Rattle.sl_run.specs.Worlds.{Course, Daemon, Dropped, Landed, Landing, Machine, Program, Stamp, Torn, World, change_machine, flight_of, history_of, is_in_flight, is_open, is_write_course, machine_at, reading_now, stamp_now}
 use Rattle.sl_run.specs.declared.event.Event.TheVariants.{AnswerCall, Crash, Do, DropWrite, ExitOf, GiveCommand, Land, Pass, Reset, Restart, Sample, SpawnedOf, StartDaemon, Tear, Test, WakeUp}
 use Rattle.sl_run.specs.declared.event.Event.{Event}
 use Rattle.sl_run.specs.declared.header.Header.{Header}
 use Rattle.sl_run_law.proofs.Coursing.{continues_further, continues_still, every_of, none_appended}
-use Rattle.sl_run_law.proofs.Going.{event_goes, first_goes}
+use Rattle.sl_run_law.proofs.Going.{event_goes}
 use Rattle.sl_run_law.proofs.Guards.{starts}
 use Rattle.sl_run_law.proofs.Tracking.{event_tracks, told, tracks_effects, tracks_step, tracks_still}
 use Rattle.sl_run_law.proofs.Walking.{Asked, each_first, each_step}
@@ -26,17 +25,15 @@ use Rattle.sl_run_law.specs.Courses.{Continues, Follow, ListGoes, Tracks}
 use Rattle.sl_run_law.specs.Fates.{AreDistinct, EachDistinct, Every}
 use Rattle.sl_run_law.specs.Going.{Goes, time_of}
 use Rattle.sl_run_law.specs.Machines.{EachMachine}
-use Rattle.sl_session_law.proofs.Making.{contains_cases, contains_first, contains_more, contains_none}
-use Rattle.sl_sessions.specs.Sessions.{Session, sessions}
-use Rattle.sl_trace.specs.declared.effects.Call.{Call}
+use Rattle.sl_session_law.proofs.Making.{contains_cases}
 use Rattle.sl_trace.specs.declared.effects.Effects.{Effects}
 use Rattle.sl_trace.specs.declared.effects.Entry.{Entry}
 use Rattle.sl_trace.specs.declared.input.Input.TheVariants.{Answer as Told, Exit, Line, Spawned, Wake}
 use Rattle.sl_trace.specs.declared.input.Input.{Input}
-use Rattle.sl_words.proofs.CaseLaws.{none_some, one_value, some_value, true_is_false}
+use Rattle.sl_words.proofs.CaseLaws.{none_some}
 use Rattle.std.proofs.Common.{ap, arith, inl, inr, refl, subst, sym, tests, ◌∙◌}
 use Rattle.std.specs.Option.{option_map_or}
-use Rattle.std.specs.Prelude.{Bool, Contains, List, None, Option, Some, cond, false, find, length, option_and_then, option_map, slice_set, true, [], ℕ, ◌&&◌, ◌++◌, ◌-◌, ◌==◌, ◌∷◌, ◌≡◌, ◌⊎◌}
+use Rattle.std.specs.Prelude.{Bool, Contains, List, None, Option, Some, cond, false, find, length, option_and_then, option_map, true, [], ℕ, ◌&&◌, ◌++◌, ◌==◌, ◌∷◌, ◌≡◌, ◌⊎◌}
 
 -- ---- what first daemons were given
 

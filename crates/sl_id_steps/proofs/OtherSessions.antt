@@ -3,11 +3,11 @@ use Rattle.sl_course_law.specs.Promises.{MachinesMirror}
 use Rattle.sl_id_state.proofs.CallFrames.{elsewhere_same}
 use Rattle.sl_id_state.proofs.FindingFrames.{find_passes, found_on, is_found, moved, own_untouched, same_moved, session_on}
 use Rattle.sl_id_state.proofs.Frames.{is_running, of_daemon}
-use Rattle.sl_id_state.proofs.SectorFrames.{SameIf, SameSector, ThereIf, sector_same, session_same_if}
+use Rattle.sl_id_state.proofs.SectorFrames.{SameIf, SameSector, sector_same, session_same_if}
 use Rattle.sl_id_state.specs.IdStates.{own_courses, session_at, session_named_so}
 use Rattle.sl_id_steps.proofs.CallEvents.{answer_flies, do_flies}
 use Rattle.sl_id_steps.proofs.EventFrames.{StayDistinct, after_event, between_distinct, first_tracks, step_sector}
-use Rattle.sl_id_steps.proofs.StepFrames.{IsEntry, IsNewCourse, Submits, entered, other_found, step_resets, step_runs, step_submits}
+use Rattle.sl_id_steps.proofs.StepFrames.{IsEntry, IsNewCourse, other_found, step_resets, step_runs, step_submits}
 use Rattle.sl_id_steps.specs.Parts.{between}
 use Rattle.sl_ids.specs.State.{SessionId as IdName}
 use Rattle.sl_landing_law.specs.Landings.{LandingsAreWritten}
@@ -33,13 +33,13 @@ use Rattle.sl_trace.specs.declared.input.Answer.TheVariants.{Failed, Read, Writt
 use Rattle.sl_trace.specs.declared.input.Answer.{Answer}
 use Rattle.sl_trace.specs.declared.input.Input.TheVariants.{Answer as Told, Exit, Line, Spawned, Wake}
 use Rattle.sl_trace.specs.declared.input.Input.{Input}
-use Rattle.sl_words.proofs.CaseLaws.{is_false, none_some, not_both, one_value, some_value, true_is_false}
+use Rattle.sl_words.proofs.CaseLaws.{is_false, none_some, not_both, one_value, some_value}
 use Rattle.sl_words.proofs.OrderLaws.{same_or_apart}
-use Rattle.sl_words.proofs.WordLaws.{and_true, some_is_true}
+use Rattle.sl_words.proofs.WordLaws.{and_true}
 use Rattle.sl_words.specs.Words.{choose, some_is}
 use Rattle.std.proofs.Common.{ap, arith, inl, inr, refl, subst, sym, tests, ◌∙◌}
 use Rattle.std.proofs.lemmas.List.Elements.{filter-append}
-use Rattle.std.specs.Prelude.{Bool, Contains, List, None, Option, Some, cond, false, filter, is_some, map, option_and_then, option_map, true, [], ℕ, ◌&&◌, ◌++◌, ◌==◌, ◌∷◌, ◌≡◌, ◌⊎◌}
+use Rattle.std.specs.Prelude.{Bool, Contains, List, None, Option, Some, cond, false, filter, is_some, option_and_then, option_map, true, [], ℕ, ◌&&◌, ◌++◌, ◌==◌, ◌∷◌, ◌≡◌}
 
 -- ---- the call that an entry answers
 

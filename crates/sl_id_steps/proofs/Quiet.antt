@@ -5,13 +5,11 @@ use Rattle.sl_front_law.proofs.Going.{last_event, was_there}
 use Rattle.sl_id_state.proofs.LandingFrames.{same_landings}
 use Rattle.sl_id_state.proofs.StateFrames.{one_step}
 use Rattle.sl_id_state.specs.IdStates.{id_state}
-use Rattle.sl_id_state.specs.Promises.{IsIdPlace}
-use Rattle.sl_id_steps.proofs.Still.{IsStill, Starts, StaysStill, still_sector, still_session}
+use Rattle.sl_id_steps.proofs.Still.{IsStill, StaysStill, still_sector, still_session}
 use Rattle.sl_id_steps.specs.Parts.{IsQuietEvent, OwnStepsGoOn, QuietChangesGoOn, between, state_between}
 use Rattle.sl_ids.specs.Guards.{terms_of}
-use Rattle.sl_ids.specs.Runs.{IsBounded, Later, Reached}
 use Rattle.sl_ids.specs.Steps.{Pass, Passes}
-use Rattle.sl_run.specs.Events.{after_effects, after_restart, after_start, after_test, first_change, input_of, machine_of, may_happen, next_step, own_effects, passed, take_step}
+use Rattle.sl_run.specs.Events.{after_effects, after_restart, after_start, after_test, first_change, machine_of, may_happen, next_step, own_effects, passed, take_step}
 use Rattle.sl_run.specs.Runs.{Happening, IsRun, own_effects_of}
 use Rattle.sl_run.specs.Safety.{LawfulRun, world_at}
 use Rattle.sl_run.specs.Worlds.{Daemon, Machine, Program, World, change_machine, daemons_on, machine_at, stamp_now, world_with}
@@ -22,18 +20,16 @@ use Rattle.sl_run_law.proofs.Beginnings.{begins_new}
 use Rattle.sl_run_law.proofs.Going.{event_goes}
 use Rattle.sl_run_law.proofs.Guards.{starts}
 use Rattle.sl_run_law.proofs.Hosting.{run_hosts}
-use Rattle.sl_run_law.proofs.Walking.{Asked, each_first, each_step, each_still}
+use Rattle.sl_run_law.proofs.Walking.{Asked, each_first, each_step}
 use Rattle.sl_run_law.specs.Daemons.{IsSettled}
 use Rattle.sl_run_law.specs.Going.{Goes, time_of}
 use Rattle.sl_run_law.specs.Machines.{EachMachine}
 use Rattle.sl_trace.specs.Traces.{no_effects}
-use Rattle.sl_trace.specs.declared.effects.Call.{Call}
 use Rattle.sl_trace.specs.declared.effects.Effects.{Effects}
-use Rattle.sl_trace.specs.declared.input.Input.{Input}
 use Rattle.sl_words.proofs.CaseLaws.{none_some, one_value}
 use Rattle.std.proofs.Common.{ap, arith, inl, inr, refl, subst, sym, ◌∙◌}
 use Rattle.std.specs.Option.{option_map_or}
-use Rattle.std.specs.Prelude.{Bool, IsTrue, List, None, Option, Some, fold, length, slice_set, suc, true, zero, [], ℕ, ◌++◌, ◌+◌, ◌-◌, ◌∷◌, ◌≡◌, ◌≤◌}
+use Rattle.std.specs.Prelude.{List, None, Option, Some, length, slice_set, suc, true, zero, [], ℕ, ◌++◌, ◌+◌, ◌-◌, ◌∷◌, ◌≡◌, ◌≤◌}
 
 -- ---- machines
 

@@ -1,43 +1,33 @@
 -- An entry of a daemon: what its step makes of its machine, and that the sessions of all other daemons stay as they were.
 use Rattle.sl_front_law.proofs.Going.{last_event}
-use Rattle.sl_id_state.proofs.CallFrames.{elsewhere_same}
-use Rattle.sl_id_state.proofs.FindingFrames.{IsFound, changed_elsewhere, changed_here, found_on, is_found, moved, moves_by, own_untouched, same_moved, session_on, session_with}
-use Rattle.sl_id_state.proofs.Frames.{is_running}
-use Rattle.sl_id_state.proofs.SectorFrames.{SameIf, SameSector, ThereIf, sector_same, session_same_if}
-use Rattle.sl_id_state.specs.IdStates.{own_courses, session_at, session_named_so}
+use Rattle.sl_id_state.proofs.FindingFrames.{IsFound, changed_elsewhere, changed_here, is_found, moved, moves_by, session_on, session_with}
 use Rattle.sl_id_steps.proofs.CallEvents.{answer_flies, do_flies}
-use Rattle.sl_id_steps.proofs.EventFrames.{StayDistinct, after_event, between_distinct, entry_of}
+use Rattle.sl_id_steps.proofs.EventFrames.{after_event, entry_of}
 use Rattle.sl_id_steps.proofs.Still.{with_running}
 use Rattle.sl_id_steps.specs.Parts.{between}
-use Rattle.sl_ids.specs.State.{SessionId as IdName}
-use Rattle.sl_run.specs.Events.{after_effects, after_step, change_call, close_answered, daemon_number, first_change, if_running, input_at, input_of, machine_of, may_happen, new_course, sampled_more, take_step, with_entry}
+use Rattle.sl_run.specs.Events.{after_step, close_answered, daemon_number, if_running, input_at, input_of, machine_of, may_happen, new_course, take_step, with_entry}
 use Rattle.sl_run.specs.Runs.{Happening}
-use Rattle.sl_run.specs.Safety.{Found, LawfulRun, SessionId, is_course_of, session_of_world, world_at}
-use Rattle.sl_run.specs.Worlds.{Course, Daemon, Machine, Program, Stamp, World, daemon_numbered, daemons_on, flight_of, machine_at, stamp_now}
+use Rattle.sl_run.specs.Safety.{Found, LawfulRun, SessionId, world_at}
+use Rattle.sl_run.specs.Worlds.{Course, Daemon, Machine, Program, Stamp, World, daemon_numbered, daemons_on, machine_at, stamp_now}
 use Rattle.sl_run.specs.declared.event.Event.TheVariants.{AnswerCall, Crash, Do, DropWrite, ExitOf, GiveCommand, Land, Pass, Reset, Restart, Sample, SpawnedOf, StartDaemon, Tear, Test, WakeUp}
 use Rattle.sl_run.specs.declared.event.Event.{Event}
 use Rattle.sl_run.specs.declared.header.Header.{Header}
-use Rattle.sl_run_law.proofs.Coursing.{changed_if}
-use Rattle.sl_run_law.proofs.Tracking.{IsTold, told}
 use Rattle.sl_run_law.proofs.Walking.{Asked, each_first}
 use Rattle.sl_run_law.specs.Fates.{Every}
 use Rattle.sl_run_law.specs.Machines.{EachMachine}
 use Rattle.sl_session_law.proofs.Making.{contains_first, contains_more}
 use Rattle.sl_session_law.proofs.Owning.{session_more}
-use Rattle.sl_sessions.specs.Sessions.{Session, session_numbered}
-use Rattle.sl_trace.specs.Traces.{is_ok_answer}
+use Rattle.sl_sessions.specs.Sessions.{session_numbered}
 use Rattle.sl_trace.specs.declared.effects.Call.{Call}
 use Rattle.sl_trace.specs.declared.effects.Effects.{Effects}
 use Rattle.sl_trace.specs.declared.input.Input.TheVariants.{Answer as Told, Exit, Line, Spawned, Wake}
 use Rattle.sl_trace.specs.declared.input.Input.{Input}
-use Rattle.sl_words.proofs.CaseLaws.{none_some, one_value, some_value, true_is_false}
-use Rattle.sl_words.proofs.OrderLaws.{same_or_apart}
-use Rattle.sl_words.specs.Words.{choose, some_is}
-use Rattle.std.proofs.Common.{ap, arith, inl, inr, refl, subst, sym, tests, ◌∙◌}
+use Rattle.sl_words.proofs.CaseLaws.{none_some, one_value, true_is_false}
+use Rattle.sl_words.specs.Words.{choose}
+use Rattle.std.proofs.Common.{ap, refl, subst, sym, ◌∙◌}
 use Rattle.std.proofs.lemmas.List.{append_assoc}
-use Rattle.std.proofs.lemmas.List.Elements.{filter-append}
 use Rattle.std.specs.Option.{option_map_or}
-use Rattle.std.specs.Prelude.{Bool, Contains, List, None, Option, Some, cond, false, filter, find, fold, is_none, is_some, map, option_and_then, option_map, true, [], ℕ, ◌++◌, ◌==◌, ◌∷◌, ◌≡◌, ◌⊎◌}
+use Rattle.std.specs.Prelude.{Bool, Contains, List, None, Option, Some, cond, false, find, fold, is_none, is_some, option_and_then, option_map, true, [], ℕ, ◌++◌, ◌==◌, ◌∷◌, ◌≡◌}
 
 -- ---- the daemon that takes it
 

@@ -1,26 +1,23 @@
 -- Where the machines of a world keep their calls, daemons and resets, and nothing lands, its ids stay.
-use Rattle.sl_area.specs.Layouts.{Layout}
 use Rattle.sl_course_law.specs.Mirrors.{AreNumbered}
-use Rattle.sl_id_state.proofs.FindingFrames.{IsFound, find_passes, found_moves, found_on, is_found, moved, moves_by, not_found, same_moved, session_on, session_with}
-use Rattle.sl_id_state.proofs.Frames.{Same, is_running}
+use Rattle.sl_id_state.proofs.FindingFrames.{find_passes, found_moves, found_on, is_found, moved, moves_by, not_found, same_moved, session_on, session_with}
+use Rattle.sl_id_state.proofs.Frames.{is_running}
 use Rattle.sl_id_state.proofs.SectorFrames.{SameFound, SameSector, history_same, sector_same, session_same}
 use Rattle.sl_id_state.proofs.WriterFrames.{KeepsGiven, given_on, holder_same}
-use Rattle.sl_id_state.specs.IdStates.{holder_at, own_courses, session_at, session_named_so, submitter_of, submitter_on, writer_of}
+use Rattle.sl_id_state.specs.IdStates.{holder_at, session_at, session_named_so, submitter_of, submitter_on, writer_of}
 use Rattle.sl_ids.specs.State.{SessionId as IdName}
-use Rattle.sl_run.specs.declared.header.Header.{Header}
 use Rattle.sl_run.specs.Safety.{Found, SessionId, is_course_of, session_of_world}
-use Rattle.sl_run.specs.Worlds.{Course, Daemon, Landing, Machine, World, daemon_numbered, daemons_on, history_of, machine_at}
+use Rattle.sl_run.specs.Worlds.{Daemon, Landing, Machine, World, daemon_numbered, daemons_on, history_of, machine_at}
 use Rattle.sl_run_law.specs.Fates.{Every}
 use Rattle.sl_run_law.specs.Machines.{EachMachine}
 use Rattle.sl_session_law.proofs.Making.{contains_cases, contains_none}
 use Rattle.sl_sessions.specs.Sessions.{Session, given_session, session_numbered, sessions}
-use Rattle.sl_words.proofs.CaseLaws.{false_is_true, none_some, true_is_false}
+use Rattle.sl_words.proofs.CaseLaws.{none_some, true_is_false}
 use Rattle.sl_trace.specs.declared.input.Given.{Given}
 use Rattle.sl_words.specs.Words.{some_is}
 use Rattle.std.proofs.Common.{ap, arith, inl, inr, refl, subst, sym, tests, ◌∙◌}
-use Rattle.std.proofs.lemmas.Option.{slice_get_past, slice_get_within, slice_get-get_or}
 use Rattle.std.specs.List.{enumerate_from}
-use Rattle.std.specs.Prelude.{Bool, Contains, List, None, Option, Some, cond, false, filter, find, if◌then◌else◌, length, map, option_and_then, option_map, slice_get, suc, true, zero, [], ℕ, ◌++◌, ◌-◌, ◌<◌, ◌==◌, ◌∷◌, ◌≡◌, ◌≤◌, ◌⊎◌}
+use Rattle.std.specs.Prelude.{Bool, Contains, List, None, Option, Some, cond, false, filter, find, if◌then◌else◌, length, map, option_and_then, option_map, slice_get, suc, true, zero, [], ℕ, ◌-◌, ◌<◌, ◌==◌, ◌∷◌, ◌≡◌, ◌⊎◌}
 
 -- ---- machines
 

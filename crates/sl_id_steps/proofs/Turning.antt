@@ -3,14 +3,13 @@ use Rattle.sl_id_state.proofs.Frames.{ended}
 use Rattle.sl_id_state.proofs.StateFrames.{agree_on, name_cases, one_step}
 use Rattle.sl_ids.specs.Runs.{IsBounded, Later}
 use Rattle.sl_ids.specs.State.{Session as IdSession, SessionId as IdName, State}
-use Rattle.sl_ids.specs.Steps.{End, Ends, Lose, Loses, SameLandings, after_end, after_losing}
+use Rattle.sl_ids.specs.Steps.{Ends, Loses, SameLandings, after_end, after_losing}
 use Rattle.sl_ids.specs.Terms.{Terms}
 use Rattle.sl_words.proofs.CaseLaws.{is_false, not_both, true_is_false, true_or_false}
 use Rattle.sl_words.proofs.OrderLaws.{same_or_apart}
 use Rattle.sl_words.proofs.WordLaws.{and_true}
 use Rattle.std.proofs.Common.{ap, arith, inl, inr, refl, subst, sym, ◌∙◌}
-use Rattle.std.proofs.lemmas.Bool.{and_from}
-use Rattle.std.specs.Prelude.{Bool, false, not, suc, true, zero, ℕ, ◌&&◌, ◌+◌, ◌<◌, ◌≡◌, ◌≤◌, ◌⊎◌}
+use Rattle.std.specs.Prelude.{Bool, false, not, suc, true, zero, ℕ, ◌&&◌, ◌<◌, ◌≡◌, ◌≤◌, ◌⊎◌}
 
 -- ---- one session
 
