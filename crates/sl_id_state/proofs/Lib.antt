@@ -6,3 +6,4 @@ pub mod FindingFrames
 pub mod WriterFrames
 pub mod CallFrames
 pub mod SampleFrames
+pub mod LaterFrames
