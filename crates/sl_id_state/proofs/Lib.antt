@@ -4,3 +4,6 @@ pub mod LandingFrames
 pub mod StateFrames
 pub mod FindingFrames
 pub mod WriterFrames
+pub mod CallFrames
+pub mod SampleFrames
+pub mod LaterFrames
