@@ -1,0 +1,4 @@
+pub mod Listing
+pub mod Tails
+pub mod Numbers
+pub mod Bridge
