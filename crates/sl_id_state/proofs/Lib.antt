@@ -2,3 +2,4 @@ pub mod Listing
 pub mod Tails
 pub mod Numbers
 pub mod Bridge
+pub mod Keeping
