@@ -219,7 +219,7 @@ placed w i f c k there =
 
 -- ---- steps of a joining
 
-step_agrees : (d : Daemon) (step : JoinStep) (c : Course) (m : Submitted) → IsCourseOf d c m → is_join_call step m.call.purpose ≡ is_join_call step c.call.purpose
+pub step_agrees : (d : Daemon) (step : JoinStep) (c : Course) (m : Submitted) → IsCourseOf d c m → is_join_call step m.call.purpose ≡ is_join_call step c.call.purpose
 step_agrees d step c m r = ap (λ (x : Call). is_join_call step x.purpose) r.call
 
 -- The call of a step in the trace is that on the machine.

@@ -3,3 +3,7 @@ pub mod Tails
 pub mod Numbers
 pub mod Bridge
 pub mod Keeping
+pub mod Living
+pub mod Timing
+pub mod Steps
+pub mod Watching
