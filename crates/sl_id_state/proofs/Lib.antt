@@ -7,3 +7,4 @@ pub mod Living
 pub mod Timing
 pub mod Steps
 pub mod Watching
+pub mod Claiming
