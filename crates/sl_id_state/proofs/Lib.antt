@@ -8,3 +8,4 @@ pub mod Timing
 pub mod Steps
 pub mod Watching
 pub mod Claiming
+pub mod Verifying
