@@ -9,3 +9,4 @@ pub mod Steps
 pub mod Watching
 pub mod Claiming
 pub mod Verifying
+pub mod Rising

@@ -40,7 +40,7 @@ use Rattle.std.specs.Prelude.{Bool, Contains, List, None, Option, Some, [], byte
 pub ranks_of : (step : JoinStep) (p : Purpose) → is_join_call step p ≡ true → (is_joining p ≡ true) × (rank p ≡ rank_at step)
 ranks_of step p is = let r = step_is step p is in (ap (λ q. is_joining q) r.1, ap (λ q. rank q) r.1)
 
-twice : (x y : Submitted) (n : ℕ) → rank x.call.purpose ≡ n → rank y.call.purpose ≡ n → (n ≡ 2 → ⊥) → Precede y x → ⊥
+pub twice : (x y : Submitted) (n : ℕ) → rank x.call.purpose ≡ n → rank y.call.purpose ≡ n → (n ≡ 2 → ⊥) → Precede y x → ⊥
 twice x y n a b once (inl lt) = omega (arith, a, b, lt)
 twice x y n a b once (inr both) = once (sym b ∙ both.1)
 
