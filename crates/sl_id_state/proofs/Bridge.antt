@@ -144,6 +144,14 @@ pub older_stands : (n : ℕ) (newer : List Course) (c : Course) (older : List Co
     → d.made.step < c.made.step → Contains older d
 older_stands n newer c older d h there lt = older_by n newer c older d h (contains_append newer (c ∷ older) d there) lt
 
+falls_at : (n : ℕ) (newer : List Course) (c : Course) (older : List Course) → CallsFall n (newer ++ c ∷ older) → CallsFall (c.made.step + 1) older
+falls_at n [] c older h = h.2
+falls_at n (x ∷ newer) c older h = falls_at (x.made.step + 1) newer c older h.2
+
+-- What stands behind was not made after.
+behind_is_before : (n : ℕ) (newer : List Course) (c : Course) (older : List Course) (d : Course) → CallsFall n (newer ++ c ∷ older) → Contains older d → d.made.step ≤ c.made.step
+behind_is_before n newer c older d h there = let r = falls_below (c.made.step + 1) older d (falls_at n newer c older h) there in omega (arith, r.0)
+
 fall_front : (n : ℕ) (xs ys : List Stamp) → Fall n (xs ++ ys) → Fall n xs
 fall_front n [] ys h = tt
 fall_front n (x ∷ xs) ys h = (h.0, fall_front x.step xs ys h.1)
@@ -192,6 +200,7 @@ pub record IsPlaced (i : SessionId) (f : Found) (c : Course) : Type 0 where
   pub timed : IsTimed c
   -- what was made before it stands behind it
   pub order : (d : Course) → Contains (own_courses i f.machine) d → d.made.step < c.made.step → Contains older d
+  pub behind : (d : Course) → Contains older d → d.made.step ≤ c.made.step
 
 -- The call as it stands in the trace, and those that stand behind it.
 abbrev pub call_at : {i : SessionId} {f : Found} {c : Course} → IsPlaced i f c → Submitted
@@ -215,6 +224,7 @@ placed w i f c k there =
           (subst (λ cs. EachTail (IsMadeAfter (trace_of f) f.session) cs) pairs.whole (all_made (trace_of f) f.session));
       timed = (falls_below w.step (own_courses i f.machine) c k.falls there).1;
       order = λ d has lt. older_stands w.step s.newer c s.older d falls (subst (λ cs. Contains cs d) s.whole has) lt;
+      behind = λ d has. behind_is_before w.step s.newer c s.older d falls has;
     }
 
 -- ---- steps of a joining

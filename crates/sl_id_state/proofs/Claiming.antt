@@ -179,7 +179,7 @@ read_step g p h xs run i f c o own step reads r bytes given =
       place = one_place w f b.course c ro.place own;
     }
 
-has_decided : Grounds → (p : Program) (h : Header) (xs : List Happening) → LawfulRun p h xs → (i : SessionId) (f : Found) (c : Course) (o : IsOwnCall (world_at p h xs) i f c)
+pub has_decided : Grounds → (p : Program) (h : Header) (xs : List Happening) → LawfulRun p h xs → (i : SessionId) (f : Found) (c : Course) (o : IsOwnCall (world_at p h xs) i f c)
     → is_join_call ClaimWrite c.call.purpose ≡ true → HasDecided (world_at p h xs) i f c
 has_decided g p h xs run i f c o is =
     let w : World = world_at p h xs in

@@ -10,3 +10,4 @@ pub mod Watching
 pub mod Claiming
 pub mod Verifying
 pub mod Rising
+pub mod Renewing

@@ -171,7 +171,7 @@ late t s k is = late_by (joined_after t s) (removed_after t s) (refused_after t 
 no_stage : (t : Trace) (s : Session) (k : ℕ) (x : Stage) → joined_after t s ≡ Some k → stage_of t s ≡ x → is_late x ≡ false → ⊥
 no_stage t s k x joined is early = true_is_false (sym (late t s k joined) ∙ ap (λ y. is_late y) is ∙ early)
 
-joined_not : (st : Setting) (t : Trace) (s : Session) (n : Submitted) (k : ℕ) (p : Purpose) → LawfulDeltaCall st t s n p → joined_after t s ≡ Some k
+pub joined_not : (st : Setting) (t : Trace) (s : Session) (n : Submitted) (k : ℕ) (p : Purpose) → LawfulDeltaCall st t s n p → joined_after t s ≡ Some k
     → (session_named st t s.lockspace ≡ None → ⊥) → is_joining p ≡ false
 joined_not st t s n k (Joining j FirstRead) law joined named = absurd (named law.apart)
 joined_not st t s n k (Joining j WatchRead) law joined named = absurd (no_stage t s k Looking joined law.looking refl)
@@ -188,7 +188,7 @@ present_by None removed refused free joining b k is may = absurd (none_some k is
 present_by (Some j) (Some i) refused free joining b k is may = absurd (false_is_true may)
 present_by (Some j) None refused free joining b k is may = refl
 
-has_name : (st : Setting) (t : Trace) (s : Session) (k : ℕ) → Contains (sessions st t) s → joined_after t s ≡ Some k → may_submit (stage_of t s) ≡ true
+pub has_name : (st : Setting) (t : Trace) (s : Session) (k : ℕ) → Contains (sessions st t) s → joined_after t s ≡ Some k → may_submit (stage_of t s) ≡ true
     → session_named st t s.lockspace ≡ None → ⊥
 has_name st t s k there joined may none =
     absent st t s.lockspace s there refl none

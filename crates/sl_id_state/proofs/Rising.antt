@@ -182,7 +182,7 @@ renewal_behind es s m older d k j =
     let two = partner_of IsLater older (calls_of (front_at d) s) one.0 d.prior one.1 in
     (two.0, two.1, ap (λ (x : Call). is_join_call FirstRenewal x.purpose) (two.2.same.call ∙ one.2.same.call ∙ sym w.same.call) ∙ found.1)
 
-joined_behind : (st : Setting) (es : Trace) (s : Session) (m : Submitted) (older : List Submitted) (d : IsMadeAfter es s m older) → IsLawfulCall st es s m older d
+pub joined_behind : (st : Setting) (es : Trace) (s : Session) (m : Submitted) (older : List Submitted) (d : IsMadeAfter es s m older) → IsLawfulCall st es s m older d
     → stage_of (front_at d) s ≡ Standing → (s.job ≡ None) ⊎ HasFirst older
 joined_behind st es s m older d l is = by s.job refl where
   by : (job : Option ℕ) → s.job ≡ job → (s.job ≡ None) ⊎ HasFirst older

@@ -90,7 +90,7 @@ pub record IsAnsweredBefore (i : SessionId) (f : Found) (c : Course) (r : Submit
   pub told : IsAnsweredAs f.daemon course a
   pub before : told.stamp.step ≤ c.made.step
 
-own_behind : (i : SessionId) (f : Found) (c : Course) (x : IsPlaced i f c) (d : Course) → Contains x.older d → Contains (own_courses i f.machine) d
+pub own_behind : (i : SessionId) (f : Found) (c : Course) (x : IsPlaced i f c) (d : Course) → Contains x.older d → Contains (own_courses i f.machine) d
 own_behind i f c x d there = subst (λ cs. Contains cs d) (sym x.whole) (contains_right x.newer (c ∷ x.older) d (contains_more c x.older d there))
 
 pub answered_before : (w : World) (i : SessionId) (f : Found) (c : Course) (o : IsOwnCall w i f c) (r : Submitted) (a : Answered)
