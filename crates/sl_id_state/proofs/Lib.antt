@@ -11,3 +11,5 @@ pub mod Claiming
 pub mod Verifying
 pub mod Rising
 pub mod Renewing
+pub mod Begun
+pub mod Following

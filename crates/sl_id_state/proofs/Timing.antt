@@ -167,7 +167,7 @@ refused_by e es s k (Some j) is none h =
     (ap (λ q. elim q as (λ z. Option ℕ) [ None ↦ None | Some i ↦ option_and_then if_refused (reply_to es i) ]) (sym is) ∙ none)
     (ap (λ q. elim q as (λ z. Option ℕ) [ None ↦ None | Some i ↦ option_and_then if_refused (reply_to (e ∷ es) i) ]) (sym is) ∙ h)
 
-longer : {A : Type 0} (xs ys : List A) → length ys ≤ length (xs ++ ys)
+pub longer : {A : Type 0} (xs ys : List A) → length ys ≤ length (xs ++ ys)
 longer [] ys = omega arith
 longer (x ∷ xs) ys = omega (arith, longer xs ys)
 
