@@ -4,7 +4,7 @@ use Rattle.sl_trace.specs.Connections.{connections}
 use Rattle.sl_trace.specs.Traces.{holdings}
 use Rattle.sl_trace.specs.declared.effects.Grant.{Grant}
 use Rattle.sl_words.specs.Words.{first_of_list, is_empty}
-use Rattle.std.specs.Prelude.{Contains, List, None, Option, Some, false, if◌then◌else◌, length, true, [], ℕ, ◌&&◌, ◌<◌, ◌∷◌, ◌≡◌}
+use Rattle.std.specs.Prelude.{Contains, List, None, Option, Some, false, if◌then◌else◌, length, [], ℕ, ◌&&◌, ◌<◌, ◌∷◌, ◌≡◌}
 
 -- The daemon that the machine has had since its last restart, whether it runs or has ended.
 abbrev pub since_restart : Machine → Option Daemon

@@ -2,7 +2,7 @@
 -- of it and when it was answered; the trace knows which entry made it, at which reading, and which entry brought which answer.
 use Rattle.sl_run.specs.Worlds.{Course, Daemon, Machine, Stamp}
 use Rattle.sl_time.specs.Times.{reading_of}
-use Rattle.sl_trace.specs.Traces.{Answered, Submitted, Trace, is_ok_answer, submitted}
+use Rattle.sl_trace.specs.Traces.{Answered, Submitted, is_ok_answer, submitted}
 use Rattle.sl_trace.specs.declared.effects.Entry.{Entry}
 use Rattle.sl_trace.specs.declared.input.Answer.TheVariants.{Read}
 use Rattle.std.specs.Prelude.{List, None, Option, Some, filter, length, true, false, [], ℕ, ◌==◌, ◌∷◌, ◌≡◌}

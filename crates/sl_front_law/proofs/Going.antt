@@ -78,7 +78,7 @@ was_there w xs m b at =
     let q = same_place_in w.machines (world_after w xs).machines (m - 1) b ((run_goes w xs).machines) p.1 in
     (q.0, there_by (m == 0) (slice_get w.machines (m - 1)) q.0 p.0 q.1)
 
-settled_later : (p : Program) (h : Header) (xs : List Happening) → IsRun (world_with p h) xs → (m : ℕ) (b : Machine) → machine_at (world_at p h xs) m ≡ Some b → IsSettled b
+pub settled_later : (p : Program) (h : Header) (xs : List Happening) → IsRun (world_with p h) xs → (m : ℕ) (b : Machine) → machine_at (world_at p h xs) m ≡ Some b → IsSettled b
 settled_later p h xs run m b at =
     let a = was_there (world_with p h) xs m b at in
     let go = run_hosts (world_with p h) xs run m a.0 a.1 in

@@ -1,3 +1,9 @@
+pub mod Frames
+pub mod SectorFrames
+pub mod LandingFrames
+pub mod StateFrames
+pub mod FindingFrames
+pub mod WriterFrames
 pub mod Listing
 pub mod Tails
 pub mod Numbers

@@ -1,5 +1,6 @@
 -- How a session may read and write its id's sector: watch, decide, claim, wait, verify, renew, free.
 use Rattle.sl_area.specs.Layouts.{record_in, sector_with}
+use Rattle.sl_area.specs.Places.{is_base}
 use Rattle.sl_law.specs.Saying.{EachCall, EachSession, newest_moves, older}
 use Rattle.sl_sector.specs.Bitmaps.{no_bits}
 use Rattle.sl_sector.specs.Spelling.{delta_in}
@@ -34,6 +35,8 @@ IsRegistering st es s c = IsTrue (list_any (registers_with s.lockspace (c.readin
 pub record LawfulLook (st : Setting) (es : Trace) (s : Session) (c : Submitted) : Type 0 where
   -- a write in the place of a read would be under no law
   pub reads : c.call.op ≡ ReadSectors 1
+  -- from an offset within a sector it would read an id's record, and claim it, at a place that no other session of the id looks at
+  pub placed : IsTrue (is_base st.layout s.offset)
   -- two sessions of one daemon in one lockspace would share a name, and could take each other's record for their own
   pub apart : session_named st es s.lockspace ≡ None
 

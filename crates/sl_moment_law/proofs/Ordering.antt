@@ -5,7 +5,7 @@ use Rattle.sl_front_law.proofs.Having.{contains_append}
 use Rattle.sl_moment_law.proofs.Adding.{steps_by_one}
 use Rattle.sl_moment_law.proofs.Beginning.{first_machines}
 use Rattle.sl_moment_law.proofs.Stamps.{entry_is_stamp}
-use Rattle.sl_moment_law.specs.Orders.{CallsFall, EntriesAreInOrder, EntriesAreWaits, Fall, IsInOrder, IsTimed, MachinesAreInOrder, life_of}
+use Rattle.sl_moment_law.specs.Orders.{CallsFall, EntriesAreInOrder, EntriesAreWaits, Fall, IsInOrder, IsTimed, MachinesAreInOrder, entry_stamp, life_of}
 use Rattle.sl_run.specs.Events.{after_crash, after_effects, after_reset, after_restart, after_start, after_step, after_test, change_call, close_answered, daemon_number, fated, first_change, happens, machine_of, may_happen, new_course, next_input, next_step, passed, sample_at, sampled_more, sectors_left, take_step, take_steps, with_entry}
 use Rattle.sl_run.specs.Runs.{Happening, IsRun, world_after}
 use Rattle.sl_run.specs.Safety.{world_at}
@@ -21,8 +21,7 @@ use Rattle.sl_run_law.proofs.Hosting.{event_hosts}
 use Rattle.sl_run_law.proofs.Walking.{Asked, each_first, each_step, each_still, each_then}
 use Rattle.sl_run_law.specs.Daemons.{IsSettled}
 use Rattle.sl_run_law.specs.Machines.{EachMachine}
-use Rattle.sl_session_law.proofs.Making.{contains_cases, contains_none}
-use Rattle.sl_session_law.proofs.Owning.{got_inside}
+use Rattle.sl_session_law.proofs.Making.{contains_cases, contains_first, contains_more, contains_none}
 use Rattle.sl_trace.specs.Traces.{Setting, is_ok_answer}
 use Rattle.sl_trace.specs.declared.effects.Call.{Call}
 use Rattle.sl_trace.specs.declared.effects.Effects.{Effects}
@@ -32,7 +31,8 @@ use Rattle.sl_trace.specs.declared.input.Input.TheVariants.{Answer as Told, Exit
 use Rattle.sl_trace.specs.declared.input.Input.{Input}
 use Rattle.sl_words.proofs.CaseLaws.{none_some, one_value, some_value}
 use Rattle.std.proofs.Common.{ap, arith, inl, inr, refl, subst, sym, ◌∙◌}
-use Rattle.std.specs.Prelude.{Bool, Contains, List, None, Option, Some, false, filter_map, find, flat_map, fold, length, map, option_map, slice_get, suc, true, zero, [], ℕ, ◌++◌, ◌+◌, ◌<◌, ◌==◌, ◌∷◌, ◌≡◌, ◌≤◌}
+use Rattle.std.proofs.lemmas.Bool.{eqb-true}
+use Rattle.std.specs.Prelude.{Bool, Contains, List, None, Option, Some, false, filter_map, find, flat_map, fold, length, map, option_map, true, [], ℕ, ◌++◌, ◌+◌, ◌<◌, ◌==◌, ◌∷◌, ◌≡◌, ◌≤◌}
 
 -- ---- lists that fall
 
@@ -57,18 +57,47 @@ fall_step n (t ∷ ss) s h has =
       | inr more ↦ omega (arith, h.0, fall_step t.step ss s h.1 more)
     ]
 
-fall_places : (n : ℕ) (ss : List Stamp) (i j : ℕ) (s t : Stamp) → Fall n ss → slice_get ss i ≡ Some t → slice_get ss j ≡ Some s → i ≤ j → s.step ≤ t.step
-fall_places n [] i j s t h at there le = absurd (none_some t at)
-fall_places n (x ∷ ss) zero zero s t h at there le =
-    let e : x ≡ t = some_value x t at in
-    let f : x ≡ s = some_value x s there in
-    let g : s.step ≡ t.step = ap (λ (y : Stamp). y.step) (sym f ∙ e) in
-    omega (arith, g)
-fall_places n (x ∷ ss) zero (suc j) s t h at there le =
-    let e : x.step ≡ t.step = ap (λ (y : Stamp). y.step) (some_value x t at) in
-    omega (arith, e, fall_step x.step ss s h.1 (got_inside ss j s there))
-fall_places n (x ∷ ss) (suc i) zero s t h at there le = absurd (omega (arith, le))
-fall_places n (x ∷ ss) (suc i) (suc j) s t h at there le = fall_places x.step ss i j s t h.1 at there (omega (arith, le))
+-- ---- entries by their numbers
+
+record IsEntry (ss : List Stamp) (i : ℕ) (s : Stamp) : Type 0 where
+  within : i < length ss
+  there : Contains ss s
+
+entry_by : (x : Stamp) (ss : List Stamp) (i : ℕ) (s : Stamp) (b : Bool) → (i == length ss) ≡ b
+    → elim b as (λ z. Option Stamp) [ true ↦ Some x | false ↦ entry_stamp ss i ] ≡ Some s → (entry_stamp ss i ≡ Some s → IsEntry ss i s) → IsEntry (x ∷ ss) i s
+entry_by x ss i s true is at rest =
+    let last : i ≡ length ss = eqb-true i (length ss) is in
+    record { within = omega (arith, last); there = subst (λ y. Contains (x ∷ ss) y) (some_value x s at) (contains_first x ss) }
+entry_by x ss i s false is at rest =
+    let r = rest at in
+    let lt : i < length ss = r.within in
+    record { within = omega (arith, lt); there = contains_more x ss s r.there }
+
+entry_in : (ss : List Stamp) (i : ℕ) (s : Stamp) → entry_stamp ss i ≡ Some s → IsEntry ss i s
+entry_in [] i s at = absurd (none_some s at)
+entry_in (x ∷ ss) i s at = entry_by x ss i s (i == length ss) refl at (entry_in ss i s)
+
+numbered_by : (x : Stamp) (ss : List Stamp) (i j : ℕ) (s t : Stamp) (a b : Bool) → (i == length ss) ≡ a → (j == length ss) ≡ b → Fall x.step ss → i ≤ j
+    → elim a as (λ z. Option Stamp) [ true ↦ Some x | false ↦ entry_stamp ss i ] ≡ Some s
+    → elim b as (λ z. Option Stamp) [ true ↦ Some x | false ↦ entry_stamp ss j ] ≡ Some t
+    → (entry_stamp ss i ≡ Some s → entry_stamp ss j ≡ Some t → s.step ≤ t.step) → s.step ≤ t.step
+numbered_by x ss i j s t true true k l fall le at there rest =
+    let same : s.step ≡ t.step = ap (λ (y : Stamp). y.step) (sym (some_value x s at) ∙ some_value x t there) in
+    omega (arith, same)
+numbered_by x ss i j s t true false k l fall le at there rest =
+    let last : i ≡ length ss = eqb-true i (length ss) k in
+    let lt : j < length ss = (entry_in ss j t there).within in
+    absurd (omega (arith, last, lt, le))
+numbered_by x ss i j s t false true k l fall le at there rest =
+    let lt : s.step < x.step = fall_step x.step ss s fall (entry_in ss i s at).there in
+    let same : x.step ≡ t.step = ap (λ (y : Stamp). y.step) (some_value x t there) in
+    omega (arith, lt, same)
+numbered_by x ss i j s t false false k l fall le at there rest = rest at there
+
+fall_numbers : (n : ℕ) (ss : List Stamp) (i j : ℕ) (s t : Stamp) → Fall n ss → i ≤ j → entry_stamp ss i ≡ Some s → entry_stamp ss j ≡ Some t → s.step ≤ t.step
+fall_numbers n [] i j s t h le at there = absurd (none_some s at)
+fall_numbers n (x ∷ ss) i j s t h le at there =
+    numbered_by x ss i j s t (i == length ss) (j == length ss) refl refl h.1 le at there (fall_numbers x.step ss i j s t h.1 le)
 
 -- ---- calls
 
@@ -354,12 +383,12 @@ pub entries_ordered : EntriesAreInOrder
 entries_ordered p h xs run m a d at has = life_falls (world_at p h xs).step (daemons_on a) d (machines_ordered p h xs run m a at).daemons has
 
 pub entries_wait : EntriesAreWaits
-entries_wait p h xs run m a d at has i j from to there here le =
+entries_wait p h xs run m a d at has i j from to here there le =
     record {
       machine = a;
       at = at;
-      begins = entry_is_stamp a d from has (got_inside d.stamps j from here);
-      ends = entry_is_stamp a d to has (got_inside d.stamps i to there);
-      order = fall_places (world_at p h xs).step d.stamps i j from to
-          (fall_front (world_at p h xs).step d.stamps (d.begun ∷ []) (entries_ordered p h xs run m a d at has)) there here le;
+      begins = entry_is_stamp a d from has (entry_in d.stamps i from here).there;
+      ends = entry_is_stamp a d to has (entry_in d.stamps j to there).there;
+      order = fall_numbers (world_at p h xs).step d.stamps i j from to
+          (fall_front (world_at p h xs).step d.stamps (d.begun ∷ []) (entries_ordered p h xs run m a d at has)) le here there;
     }

@@ -4,7 +4,7 @@ use Rattle.sl_run.specs.Runs.{Happening}
 use Rattle.sl_run.specs.Safety.{LawfulRun, world_at}
 use Rattle.sl_run.specs.Worlds.{Course, Daemon, Machine, Program, Sampling, Stamp, daemons_on, machine_at}
 use Rattle.sl_run.specs.declared.header.Header.{Header}
-use Rattle.std.specs.Prelude.{Contains, List, Some, flat_map, slice_get, [], ℕ, ◌++◌, ◌+◌, ◌<◌, ◌∷◌, ◌≡◌, ◌≤◌}
+use Rattle.std.specs.Prelude.{Contains, List, None, Option, Some, false, flat_map, length, true, [], ℕ, ◌++◌, ◌+◌, ◌<◌, ◌==◌, ◌∷◌, ◌≡◌, ◌≤◌}
 
 -- These stamps, the newest first, are of steps that fall from below n.
 abbrev pub Fall : ℕ → List Stamp → Type 0
@@ -41,8 +41,13 @@ abbrev pub EntriesAreInOrder : Type 0
 EntriesAreInOrder = (p : Program) (h : Header) (xs : List Happening) → LawfulRun p h xs → (m : ℕ) (a : Machine) (d : Daemon)
     → machine_at (world_at p h xs) m ≡ Some a → Contains (daemons_on a) d → Fall (world_at p h xs).step (life_of d)
 
--- So two entries of a daemon are a wait, from the one that stands behind.
+-- The stamp of entry i, counted from 0 for the oldest, as traces count their entries; the newest stands first.
+abbrev pub entry_stamp : List Stamp → ℕ → Option Stamp
+entry_stamp [] i = None
+entry_stamp (s ∷ ss) i = elim (i == length ss) [ true ↦ Some s | false ↦ entry_stamp ss i ]
+
+-- So two entries of a daemon are a wait, from the earlier one.
 abbrev pub EntriesAreWaits : Type 0
 EntriesAreWaits = (p : Program) (h : Header) (xs : List Happening) → LawfulRun p h xs → (m : ℕ) (a : Machine) (d : Daemon)
-    → machine_at (world_at p h xs) m ≡ Some a → Contains (daemons_on a) d → (i j : ℕ) (from to : Stamp) → slice_get d.stamps i ≡ Some to
-    → slice_get d.stamps j ≡ Some from → i ≤ j → IsWait (world_at p h xs) m from to
+    → machine_at (world_at p h xs) m ≡ Some a → Contains (daemons_on a) d → (i j : ℕ) (from to : Stamp) → entry_stamp d.stamps i ≡ Some from
+    → entry_stamp d.stamps j ≡ Some to → i ≤ j → IsWait (world_at p h xs) m from to

@@ -8,3 +8,4 @@ pub mod Sampling
 pub mod Answering
 pub mod Stepping
 pub mod Showing
+pub mod Proven

@@ -1,0 +1,4 @@
+//! The history of a resource, read off a run.
+#![tactic(auto)]
+
+pub mod laws;
