@@ -1,7 +1,7 @@
 -- Sessions of one lockspace of a daemon: the later one begins where the earlier has ended, with no write unanswered.
-use Rattle.sl_id_state.proofs.Listing.{filtered, number_is, partner}
+use Rattle.sl_place_law.proofs.Finding.{filtered, partner, same_number}
 use Rattle.sl_id_state.proofs.Keeping.{IsLawfulCall, join_law}
-use Rattle.sl_id_state.proofs.Numbers.{begun_by}
+use Rattle.sl_id_state.proofs.Living.{begun_by}
 use Rattle.sl_id_state.proofs.Tails.{IsLater, IsMadeAfter, later_again, later_still, marked_later}
 use Rattle.sl_id_state.proofs.Timing.{longer}
 use Rattle.sl_id_state.proofs.Verifying.{any_of}
@@ -181,7 +181,7 @@ quiet_entry : (st : Setting) (e : Entry) (past : Trace) (s : Session) (k : ℕ) 
     → (j : ℕ) (c : Call) → slice_get e.effects.calls j ≡ Some c → (c.session == s.number) ≡ false
 quiet_entry st e past s k h its ended j c at =
     is_false (c.session == s.number) (λ mine.
-    let own = owned st [] e past s h its j c at (number_is c.session s.number mine) in
+    let own = owned st [] e past s h its j c at (same_number c.session s.number mine) in
     true_is_false (sym (h.calls.0.alive j c s at own) ∙ no_more (cut_at j e ∷ past) s k ended))
 
 same_cut : (e : Entry) (past : Trace) (s : Session) → ((j : ℕ) (c : Call) → slice_get e.effects.calls j ≡ Some c → (c.session == s.number) ≡ false) → (k : ℕ)
@@ -259,7 +259,7 @@ late_call st es n s m older d l number b = by (below_or m.at (length b.past)) wh
   by (inl lt) =
       let mid = ends b.later (b.entry ∷ b.past) d.later (d.entry ∷ d.past) (sym b.whole ∙ d.whole) (omega (arith, lt, d.place)) in
       let its : session_numbered st (d.entry ∷ d.past) s.number ≡ Some s =
-      ap (λ k. session_numbered st (d.entry ∷ d.past) k) (sym (number_is m.call.session s.number d.mine)) ∙ l.its in
+      ap (λ k. session_numbered st (d.entry ∷ d.past) k) (sym (same_number m.call.session s.number d.mine)) ∙ l.its in
       let was = late_by st s b.entry b.past mid.0 (d.entry ∷ d.past) mid.1 (omega (arith, lt, d.place)) its in
       absurd (omega (arith, within (sessions st b.past) s.number s was, number, b.above))
 

@@ -1,11 +1,12 @@
 -- A session of a lawful run beside its trace: its calls on its machine are those of its trace, in the same order.
-use Rattle.sl_area.specs.Layouts.{layout_with}
+use Rattle.sl_place_law.proofs.Reading.{lawful_daemon}
 use Rattle.sl_course_law.specs.Mirrors.{IsOfWorld}
 use Rattle.sl_course_law.specs.Promises.{CoursesAreCalls, DaemonsAreOfWorld}
 use Rattle.sl_course_law.specs.Stamping.{AreCalls, IsCourseOf, Pairwise, courses_of}
-use Rattle.sl_front_law.proofs.Having.{contains_append, in_flat}
-use Rattle.sl_id_state.proofs.Listing.{EachTail, PairsAt, filter_both, filter_pairs, find_pairs, found_in, map_some, number_is, pairs_at, stands, stands_there, tail_at, then_some}
-use Rattle.sl_id_state.proofs.Numbers.{session_number}
+use Rattle.sl_front_law.proofs.Having.{contains_append}
+use Rattle.sl_id_state.proofs.Listing.{EachTail, PairsAt, filter_both, filter_pairs, find_pairs, map_some, pairs_at, stands, stands_there, tail_at, then_some}
+use Rattle.sl_place_law.proofs.Finding.{found_in, same_number}
+use Rattle.sl_place_law.proofs.Numbering.{session_number}
 use Rattle.sl_id_state.proofs.Tails.{IsMadeAfter, all_made}
 use Rattle.sl_id_state.specs.IdStates.{join_course, own_courses}
 use Rattle.sl_landing_law.specs.Landings.{DoneWritesHaveLanded}
@@ -14,20 +15,17 @@ use Rattle.sl_moment_law.proofs.Ordering.{entries_ordered, machines_ordered}
 use Rattle.sl_moment_law.specs.Orders.{CallsFall, Fall, IsTimed}
 use Rattle.sl_run.specs.Runs.{Happening}
 use Rattle.sl_run.specs.Safety.{Found, IsSession, LawfulRun, SessionId, is_course_of, setting_in, trace_of, world_at}
-use Rattle.sl_run.specs.Worlds.{Course, Daemon, Machine, Program, Stamp, World, daemon_numbered, daemons_on, machine_at, world_with}
+use Rattle.sl_run.specs.Worlds.{Course, Daemon, Machine, Program, Stamp, World, daemon_numbered, daemons_on, machine_at}
 use Rattle.sl_run.specs.declared.header.Header.{Header}
-use Rattle.sl_run_law.proofs.Going.{run_goes}
-use Rattle.sl_run_law.proofs.Walking.{index}
 use Rattle.sl_sample_law.specs.Samples.{DoneReadsAreWhole, SampledAreSectors, SamplesAreLandings}
 use Rattle.sl_session_law.proofs.Making.{contains_cases, contains_none}
-use Rattle.sl_session_law.proofs.Owning.{got_inside}
 use Rattle.sl_session_law.specs.Promises.{IsSession as IsSessionOf}
 use Rattle.sl_sessions.specs.Sessions.{Session, calls_of, is_call_of, is_join_call, join_call, session_numbered}
 use Rattle.sl_trace.specs.Traces.{Submitted, submitted}
 use Rattle.sl_trace.specs.declared.effects.Call.{Call}
 use Rattle.sl_trace.specs.declared.effects.JoinStep.{JoinStep}
 use Rattle.std.proofs.Common.{ap, arith, inl, inr, subst, sym, ◌∙◌}
-use Rattle.std.specs.Prelude.{Bool, Contains, List, Option, Some, [], cond, false, filter, option_and_then, option_map, true, ℕ, ◌++◌, ◌+◌, ◌-◌, ◌<◌, ◌==◌, ◌∷◌, ◌≡◌, ◌≤◌, ◌⊎◌}
+use Rattle.std.specs.Prelude.{Bool, Contains, List, Option, Some, [], cond, false, filter, option_and_then, option_map, true, ℕ, ◌++◌, ◌+◌, ◌<◌, ◌==◌, ◌∷◌, ◌≡◌, ◌≤◌, ◌⊎◌}
 
 -- What the crates of calls, landings and samples promise.
 pub record Grounds : Type 0 where
@@ -37,14 +35,6 @@ pub record Grounds : Type 0 where
   pub samples : SamplesAreLandings
   pub sectors : SampledAreSectors
   pub done : DoneReadsAreWhole
-
--- ---- the header stays
-
-pub header_is : (p : Program) (h : Header) (xs : List Happening) → (world_at p h xs).header ≡ h
-header_is p h xs = (run_goes (world_with p h) xs).header
-
-pub layout_is : (p : Program) (h : Header) (xs : List Happening) → (world_at p h xs).layout ≡ layout_with p.digest h.geometry
-layout_is p h xs = (run_goes (world_with p h) xs).layout
 
 -- ---- a session that is meant
 
@@ -76,7 +66,7 @@ is_there w i f its =
     record {
       at = one.1;
       has = d.0;
-      daemon = number_is two.0.number i.daemon d.1;
+      daemon = same_number two.0.number i.daemon d.1;
       found = two.1;
       session = three.1;
       number = session_number two.0.setting two.0.trace i.number three.0 three.1;
@@ -166,13 +156,6 @@ pub record IsKnown (w : World) (i : SessionId) (f : Found) : Type 0 where
   pub of_world : IsOfWorld w i.machine f.daemon
   pub stamps : Fall w.step f.daemon.stamps
   pub falls : CallsFall w.step (own_courses i f.machine)
-
--- A daemon of a lawful run has a lawful trace.
-pub lawful_daemon : (p : Program) (h : Header) (xs : List Happening) → LawfulRun p h xs → (m : ℕ) (a : Machine) (d : Daemon) → machine_at (world_at p h xs) m ≡ Some a
-    → Contains (daemons_on a) d → Lawful d.setting d.trace
-lawful_daemon p h xs run m a d at has =
-    let w : World = world_at p h xs in
-    run.lawful d (in_flat daemons_on w.machines a d (got_inside w.machines (m - 1) a (index w m a at).1) has)
 
 pub known : Grounds → (p : Program) (h : Header) (xs : List Happening) → LawfulRun p h xs → (i : SessionId) (f : Found) → IsSession (world_at p h xs) i f
     → IsKnown (world_at p h xs) i f

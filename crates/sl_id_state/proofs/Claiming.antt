@@ -1,12 +1,14 @@
 -- What stands behind a claim.
+use Rattle.sl_place_law.proofs.Reading.{answer_gave}
 use Rattle.sl_area.specs.Layouts.{Layout, record_in}
 use Rattle.sl_area.specs.Places.{delta_offset}
 use Rattle.sl_course_law.specs.Stamping.{IsCourseOf}
 use Rattle.sl_id_state.proofs.Bridge.{Grounds, known}
-use Rattle.sl_id_state.proofs.Keeping.{IsOwnCall, is_at_own, own_call, place_is, read_is_own, step_is, step_law}
-use Rattle.sl_id_state.proofs.Listing.{Each, EachTail, each_of, filtered, partner, tail_at}
+use Rattle.sl_id_state.proofs.Keeping.{IsOwnCall, is_at_own, own_call, read_is_own, step_is, step_law}
+use Rattle.sl_id_state.proofs.Listing.{Each, EachTail, each_of, tail_at}
+use Rattle.sl_place_law.proofs.Finding.{place_is, filtered, partner}
 use Rattle.sl_id_state.proofs.Living.{InPlace, Precede, rank}
-use Rattle.sl_id_state.proofs.Steps.{IsSampled, answer_gave, answered_before, before_refusal, is_sampled, only, places, ranks_of, showing}
+use Rattle.sl_id_state.proofs.Steps.{IsSampled, answered_before, before_refusal, is_sampled, only, places, ranks_of, showing}
 use Rattle.sl_id_state.specs.Facts.{ClaimsHaveDecided, HasDecided, WritesOwn, is_reading_step}
 use Rattle.sl_id_state.specs.IdStates.{content_of, generation_above, generation_by, is_sector_of, sample_showing, watched_bytes}
 use Rattle.sl_id_state.proofs.Tails.{front_at}

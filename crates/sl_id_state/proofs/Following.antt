@@ -3,7 +3,8 @@ use Rattle.sl_course_law.specs.Stamping.{AnswersAgree, IsAnsweredAs}
 use Rattle.sl_id_state.proofs.Begun.{HadEnded, IsBegun, any_placed, answered_then, began_alone, begun_where, early_call, had_ended, late_call, within}
 use Rattle.sl_id_state.proofs.Bridge.{Grounds, IsKnown, known}
 use Rattle.sl_id_state.proofs.Keeping.{IsOwnCall, own_call}
-use Rattle.sl_id_state.proofs.Listing.{Each, each_from, each_of, map_some, number_is, stands_there}
+use Rattle.sl_id_state.proofs.Listing.{Each, each_from, each_of, map_some, stands_there}
+use Rattle.sl_place_law.proofs.Finding.{same_number}
 use Rattle.sl_id_state.proofs.Timing.{stamps_rise}
 use Rattle.sl_id_state.specs.Facts.{SessionsFollow}
 use Rattle.sl_id_state.specs.IdStates.{own_courses}
@@ -92,7 +93,7 @@ given_line h m s g is = by (s.machine == m) refl is where
   by false same at = absurd (none_some g at)
   by true same at =
       let r = map_some (λ l. given_as s h l (clock_reading h m)) (find (λ (l : LockspaceLine). bytes_eq l.name s.lockspace) h.lockspaces) g at in
-      (number_is s.machine m same, ap (λ (x : Given). x.lockspace) (sym r.2))
+      (same_number s.machine m same, ap (λ (x : Given). x.lockspace) (sym r.2))
 
 abbrev Apart : Given → Given → Type 0
 Apart a b = a.lockspace ≡ b.lockspace → ⊥

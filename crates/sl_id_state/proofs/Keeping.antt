@@ -1,6 +1,7 @@
 -- The laws of each call of a session, where it was made.
+use Rattle.sl_session_law.proofs.Joining.{both}
 use Rattle.sl_id_state.proofs.Bridge.{Grounds, IsKnown, IsPlaced, call_at, calls_behind, known, placed}
-use Rattle.sl_id_state.proofs.Listing.{number_is, same_as}
+use Rattle.sl_place_law.proofs.Finding.{place_is, equal_numbers, same_number}
 use Rattle.sl_id_state.proofs.Tails.{IsMadeAfter, front_at}
 use Rattle.sl_id_state.specs.Facts.{JoinReadsAreOwn, ReadsOwn, is_reading_step}
 use Rattle.sl_id_state.specs.IdStates.{is_sector_of, own_courses}
@@ -24,26 +25,15 @@ use Rattle.sl_trace.specs.declared.effects.Op.TheVariants.{ReadSectors}
 use Rattle.sl_trace.specs.declared.effects.Purpose.TheVariants.{Joining}
 use Rattle.sl_trace.specs.declared.effects.Purpose.{Purpose}
 use Rattle.sl_words.proofs.CaseLaws.{false_is_true}
-use Rattle.sl_words.proofs.WordLaws.{and_true}
 use Rattle.std.proofs.Common.{ap, refl, subst, sym, ◌∙◌}
-use Rattle.std.proofs.lemmas.Slice.Eq.{bytes_eq-Decides}
 use Rattle.std.specs.Cmp.Lexicographic.{nat_list_eq_equiv}
-use Rattle.std.specs.Prelude.{Bool, Contains, IsTrue, List, Some, bytes_eq, false, length, not, true, ℕ, ◌&&◌, ◌==◌, ◌∷◌, ◌≡◌}
+use Rattle.std.specs.Prelude.{Contains, IsTrue, List, Some, bytes_eq, false, length, not, true, ℕ, ◌&&◌, ◌==◌, ◌∷◌, ◌≡◌}
 
 -- ---- places
 
-pub place_is : (path : List ℕ) (offset : ℕ) (path' : List ℕ) (offset' : ℕ) → same_place path offset path' offset' ≡ true → (path ≡ path') × (offset ≡ offset')
-place_is path offset path' offset' h =
-    let both = and_true (offset == offset') (bytes_eq path path') h in
-    ((bytes_eq-Decides path path').0 both.1, number_is offset offset' both.0)
-
-both_true : (a b : Bool) → a ≡ true → b ≡ true → (a && b) ≡ true
-both_true true b f g = g
-both_true false b f g = absurd (false_is_true f)
-
 pub is_place : (path : List ℕ) (offset : ℕ) (path' : List ℕ) (offset' : ℕ) → path ≡ path' → offset ≡ offset' → same_place path offset path' offset' ≡ true
 is_place path offset path' offset' p o =
-    both_true (offset == offset') (bytes_eq path path') (same_as offset offset' o) (ap (λ q. bytes_eq path q) (sym p) ∙ nat_list_eq_equiv.refl path)
+    both (offset == offset') (bytes_eq path path') (equal_numbers offset offset' o) (ap (λ q. bytes_eq path q) (sym p) ∙ nat_list_eq_equiv.refl path)
 
 -- ---- a call where it was made
 
@@ -62,7 +52,7 @@ pub lawful_call : (st : Setting) (es : Trace) (s : Session) (m : Submitted) (old
 lawful_call st es s m older d h its =
     let whole = subst (λ t. Lawful st t) d.whole h in
     let here = lawful-front st d.later (d.entry ∷ d.past) whole in
-    let own = owned st d.later d.entry d.past s whole (subst (λ t. IsSessionOf st t s) d.whole its) d.index m.call d.call (number_is m.call.session s.number d.mine) in
+    let own = owned st d.later d.entry d.past s whole (subst (λ t. IsSessionOf st t s) d.whole its) d.index m.call d.call (same_number m.call.session s.number d.mine) in
     record {
       lawful = here;
       its = own;

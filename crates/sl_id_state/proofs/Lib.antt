@@ -6,7 +6,6 @@ pub mod FindingFrames
 pub mod WriterFrames
 pub mod Listing
 pub mod Tails
-pub mod Numbers
 pub mod Bridge
 pub mod Keeping
 pub mod Living
@@ -19,3 +18,4 @@ pub mod Rising
 pub mod Renewing
 pub mod Begun
 pub mod Following
+pub mod Proven

@@ -3,16 +3,10 @@ use Rattle.sl_course_law.specs.Stamping.{Pairwise}
 use Rattle.sl_front_law.proofs.Having.{contains_right}
 use Rattle.sl_session_law.proofs.Making.{contains_cases, contains_first, contains_more, contains_none}
 use Rattle.sl_words.proofs.CaseLaws.{none_some, some_value}
-use Rattle.std.proofs.Common.{ap, arith, inl, inr, refl, subst, sym, tests, ◌∙◌}
-use Rattle.std.specs.Prelude.{Bool, Contains, List, None, Option, Some, [], cond, false, filter, find, option_and_then, option_map, true, ℕ, ◌&&◌, ◌++◌, ◌==◌, ◌∷◌, ◌≡◌, ◌⊎◌}
+use Rattle.std.proofs.Common.{ap, inl, inr, refl, subst, sym, ◌∙◌}
+use Rattle.std.specs.Prelude.{Bool, Contains, List, None, Option, Some, [], cond, false, filter, find, option_and_then, option_map, true, ◌&&◌, ◌++◌, ◌∷◌, ◌≡◌, ◌⊎◌}
 
--- ---- numbers and options
-
-pub number_is : (a b : ℕ) → (a == b) ≡ true → a ≡ b
-number_is a b h = grind (arith, tests)
-
-pub same_as : (a b : ℕ) → a ≡ b → (a == b) ≡ true
-same_as a b h = grind (arith, tests)
+-- ---- options
 
 pub then_some : {A B : Type 0} (f : A → Option B) (o : Option A) (b : B) → option_and_then f o ≡ Some b → (a : A) × (o ≡ Some a) × (f a ≡ Some b)
 then_some f None b h = absurd (none_some b h)
@@ -82,29 +76,6 @@ filter_both p q [] = refl
 filter_both p q (x ∷ xs) =
     ap (λ zs. cond (p x && q x) (x ∷ zs) zs) (filter_both p q xs) ∙ keeps_by p q x (p x) (q x) (filter p xs) refl refl
 
-filtered_by : {A : Type 0} (p : A → Bool) (x : A) (rest xs : List A) (m : A) (b : Bool) → p x ≡ b → Contains (cond b (x ∷ rest) rest) m
-    → (Contains rest m → Contains xs m × (p m ≡ true)) → Contains (x ∷ xs) m × (p m ≡ true)
-filtered_by p x rest xs m false is there more = let r = more there in (contains_more x xs m r.0, r.1)
-filtered_by {A} p x rest xs m true is there more = by (contains_cases x rest m there) where
-  by : (x ≡ m) ⊎ Contains rest m → Contains (x ∷ xs) m × (p m ≡ true)
-  by (inl here) = (subst (λ (y : A). Contains (x ∷ xs) y) here (contains_first x xs), subst (λ (y : A). p y ≡ true) here is)
-  by (inr old) = let r = more old in (contains_more x xs m r.0, r.1)
-
-pub filtered : {A : Type 0} (p : A → Bool) (xs : List A) (m : A) → Contains (filter p xs) m → Contains xs m × (p m ≡ true)
-filtered p [] m there = absurd (contains_none m there)
-filtered p (x ∷ xs) m there = filtered_by p x (filter p xs) xs m (p x) refl there (λ more. filtered p xs m more)
-
-found_by : {A : Type 0} (p : A → Bool) (x : A) (xs : List A) (m : A) (b : Bool) → p x ≡ b → cond b (Some x) (find p xs) ≡ Some m
-    → (find p xs ≡ Some m → Contains xs m × (p m ≡ true)) → Contains (x ∷ xs) m × (p m ≡ true)
-found_by {A} p x xs m true is h rest =
-    let same = some_value x m h in
-    (subst (λ (y : A). Contains (x ∷ xs) y) same (contains_first x xs), subst (λ (y : A). p y ≡ true) same is)
-found_by p x xs m false is h rest = let r = rest h in (contains_more x xs m r.0, r.1)
-
-pub found_in : {A : Type 0} (p : A → Bool) (xs : List A) (m : A) → find p xs ≡ Some m → Contains xs m × (p m ≡ true)
-found_in p [] m h = absurd (none_some m h)
-found_in p (x ∷ xs) m h = found_by p x xs m (p x) refl h (λ rest. found_in p xs m rest)
-
 -- It is found where it stands, if none newer passes.
 pub find_here : {A : Type 0} (p : A → Bool) (newer : List A) (x : A) (older : List A) → Each (λ y. p y ≡ false) newer → p x ≡ true
     → find p (newer ++ x ∷ older) ≡ Some x
@@ -135,22 +106,6 @@ pairs_at R (z ∷ newer) x older [] h = absurd h
 pairs_at R (z ∷ newer) x older (y ∷ ys) h =
     let r = pairs_at R newer x older ys h.1 in
     record { front = y ∷ r.front; here = r.here; rest = r.rest; whole = ap (λ zs. y ∷ zs) r.whole; fronts = (h.0, r.fronts); this = r.this; rests = r.rests }
-
-pub partner : {A B : Type 0} (R : A → B → Type 0) (xs : List A) (ys : List B) (a : A) → Pairwise R xs ys → Contains xs a → (b : B) × Contains ys b × R a b
-partner R [] ys a pairs there = absurd (contains_none a there)
-partner R (x ∷ xs) [] a pairs there = absurd pairs
-partner {A} {B} R (x ∷ xs) (y ∷ ys) a pairs there = by (λ old. partner R xs ys a pairs.1 old) (contains_cases x xs a there) where
-  by : (Contains xs a → (b : B) × Contains ys b × R a b) → (x ≡ a) ⊎ Contains xs a → (b : B) × Contains (y ∷ ys) b × R a b
-  by rest (inl here) = (y, contains_first y ys, subst (λ (z : A). R z y) here pairs.0)
-  by rest (inr old) = let r = rest old in (r.0, contains_more y ys r.0 r.1, r.2)
-
-pub partner_of : {A B : Type 0} (R : A → B → Type 0) (xs : List A) (ys : List B) (b : B) → Pairwise R xs ys → Contains ys b → (a : A) × Contains xs a × R a b
-partner_of R xs [] b pairs there = absurd (contains_none b there)
-partner_of R [] (y ∷ ys) b pairs there = absurd pairs
-partner_of {A} {B} R (x ∷ xs) (y ∷ ys) b pairs there = by (λ old. partner_of R xs ys b pairs.1 old) (contains_cases y ys b there) where
-  by : (Contains ys b → (a : A) × Contains xs a × R a b) → (y ≡ b) ⊎ Contains ys b → (a : A) × Contains (x ∷ xs) a × R a b
-  by rest (inl here) = (x, contains_first x xs, subst (λ (z : B). R x z) here pairs.0)
-  by rest (inr old) = let r = rest old in (r.0, contains_more x xs r.0 r.1, r.2)
 
 kept_pair : {A B : Type 0} (R : A → B → Type 0) (x : A) (y : B) (xs : List A) (ys : List B) (b c : Bool) → c ≡ b → R x y → Pairwise R xs ys
     → Pairwise R (cond b (x ∷ xs) xs) (cond c (y ∷ ys) ys)

@@ -1,7 +1,8 @@
 -- The calls of a session's joining come in its order, also once it has joined: each step but the watch comes once, and what comes
 -- before it is answered.
-use Rattle.sl_id_state.proofs.Listing.{Each, EachTail, filtered, found_in, number_is}
-use Rattle.sl_id_state.proofs.Numbers.{begun_by}
+use Rattle.sl_session_law.proofs.Joining.{both}
+use Rattle.sl_id_state.proofs.Listing.{Each, EachTail}
+use Rattle.sl_place_law.proofs.Finding.{filtered, found_in, same_number}
 use Rattle.sl_id_state.proofs.Tails.{AreLater, IsLater, marked_later}
 use Rattle.sl_law.proofs.LawFacts.{lawful-front}
 use Rattle.sl_law.specs.Lawful.{Lawful}
@@ -98,16 +99,12 @@ pub record IsInPlace (m : Submitted) (older : List Submitted) : Type 0 where
 abbrev pub InPlace : Submitted → List Submitted → Type 0
 InPlace m older = is_joining m.call.purpose ≡ true → IsInPlace m older
 
-both_true : (a b : Bool) → a ≡ true → b ≡ true → (a && b) ≡ true
-both_true true b f g = g
-both_true false b f g = absurd (false_is_true f)
-
 done_turn : (ms : List Submitted) → all_done ms ≡ true → is_in_turn ms ≡ true
 done_turn [] h = refl
 done_turn (m ∷ ms) h =
     let parts = and_true (fits m && has_reply m) (all_done ms) h in
     let one = and_true (fits m) (has_reply m) parts.0 in
-    let two = parts.1 in both_true (fits m) (all_done ms) one.0 two
+    let two = parts.1 in both (fits m) (all_done ms) one.0 two
 
 from_order : (ms : List Submitted) → is_in_turn ms ≡ true → is_ordered ms ≡ true → EachTail InPlace ms
 from_order [] turn h = tt
@@ -140,7 +137,7 @@ done_later (x ∷ ms) [] all h = absurd all
 done_later (x ∷ ms) (y ∷ ns) all h =
     let parts = and_true (fits y && has_reply y) (all_done ns) h in
     let one = and_true (fits y) (has_reply y) parts.0 in
-    both_true (fits x && has_reply x) (all_done ms) (both_true (fits x) (has_reply x) (fits_later x y all.0 one.0) (reply_by x y all.0 y.answer refl one.1)) (done_later ms ns all.1 parts.1)
+    both (fits x && has_reply x) (all_done ms) (both (fits x) (has_reply x) (fits_later x y all.0 one.0) (reply_by x y all.0 y.answer refl one.1)) (done_later ms ns all.1 parts.1)
 
 places_later : (ms ns : List Submitted) → AreLater ms ns → EachTail InPlace ns → EachTail InPlace ms
 places_later [] ns all h = tt
@@ -201,6 +198,9 @@ either_got [] ys k x at = inr (got_inside ys k x at)
 either_got (y ∷ xs) ys zero x at = inl at
 either_got (y ∷ xs) ys (suc k) x at = either_got xs ys k x at
 
+abbrev pub begun_by : Setting → Trace → ℕ → Bool → Option LockspaceArg → List Session
+begun_by st es n b o = elim b [ false ↦ [] | true ↦ elim o [ None ↦ [] | Some a ↦ joining_session n (next_job st es) a ∷ [] ] ]
+
 begun_job : (st : Setting) (es : Trace) (n : ℕ) (b : Bool) (o : Option LockspaceArg) (s : Session) → Contains (begun_by st es n b o) s → s.job ≡ None → ⊥
 begun_job st es n false o s there none = contains_none s there
 begun_job st es n true None s there none = contains_none s there
@@ -227,7 +227,7 @@ joined_renewal st e past s h its k j =
     let found = found_in (λ (m : Submitted). is_join_call FirstRenewal m.call.purpose) (calls_of (e ∷ past) s) j.renewal j.first in
     let own = filtered (is_call_of s) (submitted (e ∷ past)) j.renewal found.0 in
     let w = answered_old e past j.renewal j.answer own.0 j.done.0 in
-    let number = ap (λ (c : Call). c.session) (sym w.same.call) ∙ number_is j.renewal.call.session s.number own.1 in
+    let number = ap (λ (c : Call). c.session) (sym w.same.call) ∙ same_number j.renewal.call.session s.number own.1 in
     ap (λ n. session_numbered st past n) (sym number)
     ∙ begun_before st e past s h (λ x at. one_value x s (session_numbered st (e ∷ past) s.number) at its) w.before w.inside number
 
@@ -249,7 +249,7 @@ place_next : (st : Setting) (e : Entry) (past : Trace) (s : Session) → Lawful 
     → EachTail InPlace (calls_of (cut_at k e ∷ past) s) → EachTail InPlace (calls_of (cut_at (suc k) e ∷ past) s)
 place_next st e past s h its was j joined k c at false other old = subst (EachTail InPlace) (sym (other_next past e s k c at other)) old
 place_next st e past s h its was j joined k c at true mine old =
-    let own = owned st [] e past s h its k c at (number_is c.session s.number mine) in
+    let own = owned st [] e past s h its k c at (same_number c.session s.number mine) in
     let t : Trace = cut_at k e ∷ past in
     let none = joined_not st t s (new_call (length past) e.reading c) j c.purpose (h.delta.0.calls k c s at own) joined
     (has_name st t s j (got_inside (sessions st t) s.number s (session_more st (cut_at k e) past s.number s was)) joined (h.calls.0.alive k c s at own)) in

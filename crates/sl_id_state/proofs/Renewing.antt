@@ -5,7 +5,8 @@ use Rattle.sl_front_law.proofs.Having.{contains_right}
 use Rattle.sl_id_state.proofs.Bridge.{Grounds, IsKnown, known}
 use Rattle.sl_id_state.proofs.Claiming.{has_decided, one_place, read_step, record_is, step_truth}
 use Rattle.sl_id_state.proofs.Keeping.{IsLawfulCall, IsOwnCall, is_at_own, lawful_call, own_call, step_law}
-use Rattle.sl_id_state.proofs.Listing.{Each, EachTail, each_from, each_of, each_pair, find_none, number_is, partner, partner_of, stands_there, tail_at}
+use Rattle.sl_id_state.proofs.Listing.{Each, EachTail, each_from, each_of, each_pair, find_none, stands_there, tail_at}
+use Rattle.sl_place_law.proofs.Finding.{partner, partner_of, same_number}
 use Rattle.sl_id_state.proofs.Living.{begun_if_joined, has_name, is_joining, joined_not}
 use Rattle.sl_id_state.proofs.Rising.{ClaimHasGeneration, HasFirst, HasGeneration, HasLess, IsFirst, IsNext, IsShaped, Rises, all_renew, all_rise, all_shaped, claim_behind, joined_behind, one_generation, shape, unique}
 use Rattle.sl_id_state.proofs.Steps.{before_refusal, only, own_behind, places, ranks_of, showing}
@@ -47,7 +48,7 @@ given_none : (st : Setting) (es : Trace) (s : Session) (m : Submitted) (older : 
     → is_joining m.call.purpose ≡ false
 given_none st es s m older d l none =
     let t : Trace = front_at d in
-    let its : IsSessionOf st (d.entry ∷ d.past) s = ap (λ n. session_numbered st (d.entry ∷ d.past) n) (sym (number_is m.call.session s.number d.mine)) ∙ l.its in
+    let its : IsSessionOf st (d.entry ∷ d.past) s = ap (λ n. session_numbered st (d.entry ∷ d.past) n) (sym (same_number m.call.session s.number d.mine)) ∙ l.its in
     let was = begun_if_joined st d.entry d.past s l.lawful its 0 (given_joined (d.entry ∷ d.past) s none) in
     joined_not st t s (new_call (length d.past) d.entry.reading m.call) 0 m.call.purpose l.law (given_joined t s none)
     (has_name st t s 0 (got_inside (sessions st t) s.number s (session_more st (cut_at d.index d.entry) d.past s.number s was)) (given_joined t s none) l.alive)

@@ -1,7 +1,8 @@
 -- The delta records that a session writes: one generation, and each seq above all before.
 use Rattle.sl_id_state.proofs.Claiming.{done_of}
 use Rattle.sl_id_state.proofs.Keeping.{IsLawfulCall, lawful_call}
-use Rattle.sl_id_state.proofs.Listing.{Each, EachTail, each_from, each_of, filtered, found_in, partner_of, then_some}
+use Rattle.sl_id_state.proofs.Listing.{Each, EachTail, each_from, each_of, then_some}
+use Rattle.sl_place_law.proofs.Finding.{filtered, found_in, partner_of}
 use Rattle.sl_id_state.proofs.Living.{InPlace, Precede, answered_old, rank, rank_at}
 use Rattle.sl_id_state.proofs.Steps.{ranks_of, twice}
 use Rattle.sl_id_state.proofs.Tails.{AreLater, AreMade, all_made, IsLater, IsMadeAfter, front_at, marked_later}

@@ -1,9 +1,11 @@
 -- A step of a joining on the machine: it comes once, and what its laws say of answered calls is true of calls of the machine that were
 -- answered before it.
+use Rattle.sl_session_law.proofs.Joining.{both}
 use Rattle.sl_course_law.specs.Stamping.{AnswersAgree, IsAnsweredAs, IsCourseOf}
 use Rattle.sl_id_state.proofs.Bridge.{Grounds, IsKnown, IsPlaced, step_agrees}
 use Rattle.sl_id_state.proofs.Keeping.{IsOwnCall, step_is}
-use Rattle.sl_id_state.proofs.Listing.{Each, EachTail, each_of, each_pair, filtered, find_here, partner_of, stands_there}
+use Rattle.sl_id_state.proofs.Listing.{Each, EachTail, each_of, each_pair, find_here, stands_there}
+use Rattle.sl_place_law.proofs.Finding.{filtered, partner_of}
 use Rattle.sl_id_state.proofs.Living.{InPlace, Precede, in_place, is_joining, rank, rank_at}
 use Rattle.sl_id_state.proofs.Tails.{IsLater, front_at}
 use Rattle.sl_id_state.proofs.Timing.{answer_past, reading_front, refused_after_call, stamps_order, stamps_rise}
@@ -21,19 +23,17 @@ use Rattle.sl_session_law.proofs.Growing.{all_of_it}
 use Rattle.sl_session_law.proofs.Making.{contains_more}
 use Rattle.sl_sessions.specs.Sessions.{calls_of, is_call_of, is_join_call, refused_after}
 use Rattle.sl_time.specs.Times.{reading_of}
-use Rattle.sl_trace.specs.Traces.{Answered, Submitted, bytes_given, is_write, submitted}
+use Rattle.sl_trace.specs.Traces.{Answered, Submitted, is_write, submitted}
 use Rattle.sl_trace.specs.declared.effects.Call.{Call}
 use Rattle.sl_trace.specs.declared.effects.JoinStep.{JoinStep}
 use Rattle.sl_trace.specs.declared.effects.Op.TheVariants.{ReadSectors}
 use Rattle.sl_trace.specs.declared.effects.Op.{Op}
 use Rattle.sl_trace.specs.declared.effects.Purpose.{Purpose}
-use Rattle.sl_trace.specs.declared.input.Answer.TheVariants.{Failed, Read, Written}
-use Rattle.sl_trace.specs.declared.input.Answer.{Answer}
-use Rattle.sl_words.proofs.CaseLaws.{is_false, none_some, some_value}
+use Rattle.sl_words.proofs.CaseLaws.{is_false}
 use Rattle.sl_words.specs.Words.{choose, first_of_list, some_is}
 use Rattle.std.proofs.Common.{ap, arith, inl, inr, refl, subst, sym, tests, ◌∙◌}
 use Rattle.std.specs.Cmp.Lexicographic.{nat_list_eq_equiv}
-use Rattle.std.specs.Prelude.{Bool, Contains, List, None, Option, Some, [], bytes_eq, drop, false, find, length, nat_lt, not, option_and_then, slice_get, suc, take, true, ℕ, ◌&&◌, ◌*◌, ◌++◌, ◌-◌, ◌<◌, ◌∷◌, ◌≡◌, ◌≤◌}
+use Rattle.std.specs.Prelude.{Contains, List, None, Option, Some, [], bytes_eq, drop, false, find, length, nat_lt, not, option_and_then, slice_get, suc, take, true, ℕ, ◌&&◌, ◌*◌, ◌++◌, ◌-◌, ◌<◌, ◌∷◌, ◌≡◌, ◌≤◌}
 
 -- ---- a step comes once
 
@@ -72,15 +72,6 @@ only w i f c o step once is =
     is
 
 -- ---- what was answered before
-
-given_bytes : (x : Answer) (bytes : List ℕ) → bytes_given x ≡ Some bytes → x ≡ Read bytes
-given_bytes (Read some) bytes h = ap (λ bs. Read bs) (some_value some bytes h)
-given_bytes Written bytes h = absurd (none_some bytes h)
-given_bytes Failed bytes h = absurd (none_some bytes h)
-
-pub answer_gave : (o : Option Answered) (bytes : List ℕ) → option_and_then (λ a. bytes_given a.answer) o ≡ Some bytes → (a : Answered) × (o ≡ Some a) × (a.answer ≡ Read bytes)
-answer_gave None bytes h = absurd (none_some bytes h)
-answer_gave (Some a) bytes h = (a, refl, given_bytes a.answer bytes h)
 
 -- A call that was answered where this one was made, on the machine.
 pub record IsAnsweredBefore (i : SessionId) (f : Found) (c : Course) (r : Submitted) (a : Answered) : Type 0 where
@@ -179,9 +170,6 @@ before_refusal w i f c o x lt = by (refused_after (trace_of f) f.session) refl w
   by None is = refl
   by (Some k) is = at_stamp k is (stamp_in f.daemon.stamps (k - 1)) refl
 
-both_true : (a b : Bool) → a ≡ true → b ≡ true → (a && b) ≡ true
-both_true a b f g = ap (λ t. t && b) f ∙ g
-
 -- So a read that shows these bytes has its sample.
 pub showing : (f : Found) (bytes : Option (List ℕ)) (c : Course) (bs : List ℕ) (x : Sampling) → bytes ≡ Some bs → bs ≡ c.sampled → first_of_list c.samples ≡ Some x
     → comes_before (refused_stamp f) x ≡ true → sample_showing f bytes c ≡ Some x
@@ -189,4 +177,4 @@ showing f bytes c bs x is same first before =
     let shown : some_is (λ b. bytes_eq b c.sampled) bytes ≡ true =
     ap (λ o. some_is (λ b. bytes_eq b c.sampled) o) is ∙ ap (λ b. bytes_eq b c.sampled) same ∙ nat_list_eq_equiv.refl c.sampled in
     ap (λ o. option_and_then (λ (y : Sampling). choose (some_is (λ b. bytes_eq b c.sampled) bytes && comes_before (refused_stamp f) y) y) o) first
-    ∙ ap (λ b. choose b x) (both_true (some_is (λ b. bytes_eq b c.sampled) bytes) (comes_before (refused_stamp f) x) shown before)
+    ∙ ap (λ b. choose b x) (both (some_is (λ b. bytes_eq b c.sampled) bytes) (comes_before (refused_stamp f) x) shown before)

@@ -1,6 +1,7 @@
 -- When what a trace tells came about: answers and readings of a front are of its past, a refusal is of later, and stamps are in order.
 use Rattle.sl_course_law.specs.Stamping.{stamp_in}
-use Rattle.sl_id_state.proofs.Listing.{map_some, number_is, then_some}
+use Rattle.sl_id_state.proofs.Listing.{map_some, then_some}
+use Rattle.sl_place_law.proofs.Finding.{same_number}
 use Rattle.sl_law.specs.LawfulCalls.{may_submit}
 use Rattle.sl_law.specs.Saying.{cut_at}
 use Rattle.sl_moment_law.specs.Orders.{Fall}
@@ -27,7 +28,7 @@ use Rattle.std.specs.Prelude.{Bool, Contains, List, None, Option, Some, [], fals
 
 stamp_by : (x : Stamp) (xs : List Stamp) (i : ℕ) (s : Stamp) (b : Bool) → (i == length xs) ≡ b → elim b as (λ z. Option Stamp) [ true ↦ Some x | false ↦ stamp_in xs i ] ≡ Some s
     → ((i ≡ length xs) × (x ≡ s)) ⊎ (stamp_in xs i ≡ Some s)
-stamp_by x xs i s true is h = inl (number_is i (length xs) is, some_value x s h)
+stamp_by x xs i s true is h = inl (same_number i (length xs) is, some_value x s h)
 stamp_by x xs i s false is h = inr h
 
 stamp_cases : (x : Stamp) (xs : List Stamp) (i : ℕ) (s : Stamp) → stamp_in (x ∷ xs) i ≡ Some s → ((i ≡ length xs) × (x ≡ s)) ⊎ (stamp_in xs i ≡ Some s)

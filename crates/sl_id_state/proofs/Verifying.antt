@@ -1,8 +1,9 @@
 -- What stands behind a verify read; and that delta records are written one after the other.
+use Rattle.sl_place_law.proofs.Reading.{header_is}
 use Rattle.sl_course_law.specs.Stamping.{AnswersAgree, IsAnsweredAs, IsCourseOf}
-use Rattle.sl_id_state.proofs.Bridge.{Grounds, header_is, known}
+use Rattle.sl_id_state.proofs.Bridge.{Grounds, known}
 use Rattle.sl_id_state.proofs.Keeping.{IsOwnCall, own_call, step_law}
-use Rattle.sl_id_state.proofs.Listing.{filtered, found_in, partner}
+use Rattle.sl_place_law.proofs.Finding.{filtered, found_in, partner}
 use Rattle.sl_id_state.proofs.Steps.{answered_before, only, reading_made}
 use Rattle.sl_id_state.proofs.Tails.{IsLater, front_at}
 use Rattle.sl_id_state.proofs.Timing.{answer_past, stamps_order}

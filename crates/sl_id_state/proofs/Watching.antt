@@ -1,9 +1,11 @@
 -- What stands behind a deciding read.
+use Rattle.sl_place_law.proofs.Reading.{answer_gave}
+use Rattle.sl_place_law.proofs.Reading.{header_is}
 use Rattle.sl_area.specs.Layouts.{Layout, record_in}
 use Rattle.sl_clocks.specs.Points.{reading}
-use Rattle.sl_id_state.proofs.Bridge.{Grounds, header_is, known}
+use Rattle.sl_id_state.proofs.Bridge.{Grounds, known}
 use Rattle.sl_id_state.proofs.Keeping.{IsOwnCall, own_call, step_law}
-use Rattle.sl_id_state.proofs.Steps.{answer_gave, answered_before, only, read_before}
+use Rattle.sl_id_state.proofs.Steps.{answered_before, only, read_before}
 use Rattle.sl_id_state.proofs.Tails.{front_at}
 use Rattle.sl_id_state.specs.Facts.{DecidingReadsHaveWatched, HasWatched}
 use Rattle.sl_law.specs.LawfulDelta.{WatchOver}
