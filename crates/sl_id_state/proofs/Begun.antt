@@ -1,16 +1,19 @@
 -- Sessions of one lockspace of a daemon: the later one begins where the earlier has ended, with no write unanswered.
 use Rattle.sl_place_law.proofs.Finding.{filtered, partner, same_number}
 use Rattle.sl_id_state.proofs.Keeping.{IsLawfulCall, join_law}
-use Rattle.sl_id_state.proofs.Living.{begun_by}
 use Rattle.sl_id_state.proofs.Tails.{IsLater, IsMadeAfter, later_again, later_still, marked_later}
 use Rattle.sl_id_state.proofs.Timing.{longer}
-use Rattle.sl_id_state.proofs.Verifying.{any_of}
+use Rattle.sl_front_law.proofs.Having.{placed_at}
+use Rattle.sl_watchdog_law.proofs.Finding.{any_found, any_of}
+use Rattle.sl_watchdog_law.proofs.Numbering.{begun_is, either_place}
+use Rattle.std.proofs.lemmas.Bool.{cases_lt}
+use Rattle.std.proofs.lemmas.Option.{slice_get_within}
 use Rattle.sl_law.proofs.LawFacts.{lawful-front}
 use Rattle.sl_law.specs.Lawful.{Lawful}
 use Rattle.sl_law.specs.LawfulCalls.{may_submit}
 use Rattle.sl_law.specs.Saying.{cut_at}
 use Rattle.sl_session_law.proofs.Growing.{other_next, to_all, to_cut}
-use Rattle.sl_session_law.proofs.Making.{IsNewCall, contains_cases, contains_none, old_or_new}
+use Rattle.sl_session_law.proofs.Making.{IsNewCall, old_or_new}
 use Rattle.sl_session_law.proofs.Naming.{absent, kept}
 use Rattle.sl_session_law.proofs.Owning.{got_inside, owned, session_more, sessions_stay}
 use Rattle.sl_session_law.proofs.Parting.{not_removed}
@@ -23,31 +26,12 @@ use Rattle.sl_trace.specs.declared.command.LockspaceArg.{LockspaceArg}
 use Rattle.sl_trace.specs.declared.effects.Call.{Call}
 use Rattle.sl_trace.specs.declared.effects.Entry.{Entry}
 use Rattle.sl_trace.specs.declared.effects.JoinStep.TheVariants.{FirstRead}
-use Rattle.sl_words.proofs.CaseLaws.{false_is_true, is_false, no_value, none_some, true_is_false}
-use Rattle.std.proofs.Common.{ap, arith, length-append, inl, inr, refl, subst, sym, ◌∙◌}
+use Rattle.sl_words.proofs.CaseLaws.{false_is_true, is_false, no_value, none_some, one_value, true_is_false}
+use Rattle.std.proofs.Common.{ap, arith, inl, inr, refl, subst, sym, ◌∙◌}
 use Rattle.std.specs.List.{list_any}
-use Rattle.std.specs.Prelude.{Bool, Contains, IsSome, List, None, Option, Some, [], drop, false, is_none, length, slice_get, suc, true, zero, ℕ, ◌&&◌, ◌++◌, ◌+◌, ◌<◌, ◌==◌, ◌||◌, ◌∷◌, ◌≡◌, ◌≤◌, ◌⊎◌}
+use Rattle.std.specs.Prelude.{Bool, Contains, IsSome, List, None, Option, Some, [], drop, false, is_none, length, slice_get, suc, true, ℕ, ◌&&◌, ◌++◌, ◌+◌, ◌<◌, ◌==◌, ◌||◌, ◌∷◌, ◌≡◌, ◌≤◌, ◌⊎◌}
 
 -- ---- lists
-
-pub within : {A : Type 0} (xs : List A) (k : ℕ) (x : A) → slice_get xs k ≡ Some x → k < length xs
-within [] k x at = absurd (none_some x at)
-within (y ∷ xs) zero x at = omega arith
-within (y ∷ xs) (suc k) x at = omega (arith, within xs k x at)
-
-got_within : {A : Type 0} (xs ys : List A) (k : ℕ) (x : A) → slice_get (xs ++ ys) k ≡ Some x → k < length xs → slice_get xs k ≡ Some x
-got_within [] ys k x at lt = absurd (omega (arith, lt))
-got_within (y ∷ xs) ys zero x at lt = at
-got_within (y ∷ xs) ys (suc k) x at lt = got_within xs ys k x at (omega (arith, lt))
-
-either_place : {A : Type 0} (xs ys : List A) (k : ℕ) (x : A) → slice_get (xs ++ ys) k ≡ Some x → (slice_get xs k ≡ Some x) ⊎ ((length xs ≤ k) × Contains ys x)
-either_place [] ys k x at = inr (omega arith, got_inside ys k x at)
-either_place (y ∷ xs) ys zero x at = inl at
-either_place (y ∷ xs) ys (suc k) x at =
-    elim (either_place xs ys k x at) as (λ z. (slice_get xs k ≡ Some x) ⊎ ((suc (length xs) ≤ suc k) × Contains ys x)) [
-      | inl old ↦ inl old
-      | inr new ↦ inr (omega (arith, new.0), new.1)
-    ]
 
 -- Of two ends of a list the shorter is an end of the longer.
 ends : {A : Type 0} (xs zs ys bs : List A) → xs ++ zs ≡ ys ++ bs → length bs ≤ length zs → (mid : List A) × (zs ≡ mid ++ bs)
@@ -59,61 +43,50 @@ ends (x ∷ xs) zs (y ∷ ys) bs h le = ends xs zs ys bs (ap (λ us. drop 1 us) 
 -- ---- where a session began
 
 -- The entry that began a session.
-pub record IsBegun (st : Setting) (es : Trace) (n : ℕ) (s : Session) : Type 0 where
+pub record BeganAt (st : Setting) (es : Trace) (n : ℕ) (s : Session) : Type 0 where
   pub later : Trace
   pub entry : Entry
   pub past : Trace
   pub whole : es ≡ later ++ entry ∷ past
   -- it wasn't there before
-  pub above : n ≡ length (sessions st past)
-  pub inside : Contains (begun_in st past (length (sessions st past)) entry) s
+  pub number : n ≡ length (sessions st past)
+  pub begun : slice_get (begun_in st past (length (sessions st past)) entry) 0 ≡ Some s
 
-begun_short : (st : Setting) (es : Trace) (n : ℕ) (b : Bool) (o : Option LockspaceArg) → length (begun_by st es n b o) ≤ 1
-begun_short st es n true None = omega arith
-begun_short st es n true (Some a) = omega arith
-begun_short st es n false o = omega arith
+-- An entry begins one session at most.
+first_begun : (st : Setting) (past : Trace) (e : Entry) (k : ℕ) (s : Session) → slice_get (begun_in st past (length (sessions st past)) e) k ≡ Some s
+    → (k ≡ 0) × (slice_get (begun_in st past (length (sessions st past)) e) 0 ≡ Some s)
+first_begun st past e k s at =
+    let one = begun_is st past (length (sessions st past)) k e s at in
+    (one.0, subst (λ j. slice_get (begun_in st past (length (sessions st past)) e) j ≡ Some s) one.0 at)
 
-pub begun_where : (st : Setting) (es : Trace) (n : ℕ) (s : Session) → session_numbered st es n ≡ Some s → (session_numbered st [] n ≡ Some s) ⊎ IsBegun st es n s
+abbrev WasGiven : Setting → ℕ → Session → Type 0
+WasGiven st n s = (session_numbered st [] n ≡ Some s)
+
+began_now : (st : Setting) (e : Entry) (es : Trace) (n k : ℕ) (s : Session) → n ≡ length (sessions st es) + k
+    → slice_get (begun_in st es (length (sessions st es)) e) k ≡ Some s → BeganAt st (e ∷ es) n s
+began_now st e es n k s place at =
+    let one = first_begun st es e k s at in
+    record { later = []; entry = e; past = es; whole = refl; number = omega (arith, place, one.0); begun = one.1 }
+
+pub begun_where : (st : Setting) (es : Trace) (n : ℕ) (s : Session) → session_numbered st es n ≡ Some s → (session_numbered st [] n ≡ Some s) ⊎ BeganAt st es n s
 begun_where st [] n s at = inl at
-begun_where st (e ∷ es) n s at =
-    let most : n < length (sessions st es) + length (begun_in st es (length (sessions st es)) e) =
-    subst (λ k. n < k) (length-append (sessions st es) (begun_in st es (length (sessions st es)) e)) (within (sessions st es ++ begun_in st es (length (sessions st es)) e) n s at) in
-    let few = begun_short st es (length (sessions st es)) (list_any (λ c. is_join_call FirstRead c.purpose) e.effects.calls) (added_by st e.input) in
-    by (omega (arith, most, few)) (λ old. begun_where st es n s old) (either_place (sessions st es) (begun_in st es (length (sessions st es)) e) n s at)
-  where
-    more : (session_numbered st [] n ≡ Some s) ⊎ IsBegun st es n s → (session_numbered st [] n ≡ Some s) ⊎ IsBegun st (e ∷ es) n s
-    more (inl given) = inl given
-    more (inr b) = inr (record { later = e ∷ b.later; entry = b.entry; past = b.past; whole = ap (λ t. e ∷ t) b.whole; above = b.above; inside = b.inside })
+begun_where st (e ∷ es) n s at = by (λ old. begun_where st es n s old) (either_place (sessions st es) (begun_in st es (length (sessions st es)) e) n s at) where
+  more : WasGiven st n s ⊎ BeganAt st es n s → WasGiven st n s ⊎ BeganAt st (e ∷ es) n s
+  more (inl given) = inl given
+  more (inr b) = inr (record { later = e ∷ b.later; entry = b.entry; past = b.past; whole = ap (λ t. e ∷ t) b.whole; number = b.number; begun = b.begun })
 
-    by : n ≤ length (sessions st es) → (session_numbered st es n ≡ Some s → (session_numbered st [] n ≡ Some s) ⊎ IsBegun st es n s)
-        → (session_numbered st es n ≡ Some s) ⊎ ((length (sessions st es) ≤ n) × Contains (begun_in st es (length (sessions st es)) e) s)
-        → (session_numbered st [] n ≡ Some s) ⊎ IsBegun st (e ∷ es) n s
-    by le rest (inl old) = more (rest old)
-    by le rest (inr new) = inr (record { later = []; entry = e; past = es; whole = refl; above = omega (arith, le, new.0); inside = new.1 })
+  by : (session_numbered st es n ≡ Some s → WasGiven st n s ⊎ BeganAt st es n s)
+      → (session_numbered st es n ≡ Some s) ⊎ ((k : ℕ) × (n ≡ length (sessions st es) + k) × (slice_get (begun_in st es (length (sessions st es)) e) k ≡ Some s))
+      → WasGiven st n s ⊎ BeganAt st (e ∷ es) n s
+  by rest (inl old) = more (rest old)
+  by rest (inr new) = inr (began_now st e es n new.0 s new.1 new.2)
 
 -- Such an entry makes a first read.
-begins_by : (st : Setting) (es : Trace) (n : ℕ) (b : Bool) (o : Option LockspaceArg) (s : Session) → Contains (begun_by st es n b o) s → b ≡ true
-begins_by st es n true o s there = refl
-begins_by st es n false o s there = absurd (contains_none s there)
-
-one_of : (j s x : Session) → (j ≡ s) ⊎ Contains [] s → (j ≡ x) ⊎ Contains [] x → s ≡ x
-one_of j s x (inl p) (inl q) = sym p ∙ q
-one_of j s x (inl p) (inr q) = absurd (contains_none x q)
-one_of j s x (inr p) q = absurd (contains_none s p)
-
-one_begun : (st : Setting) (es : Trace) (n : ℕ) (b : Bool) (o : Option LockspaceArg) (s x : Session) → Contains (begun_by st es n b o) s → Contains (begun_by st es n b o) x → s ≡ x
-one_begun st es n false o s x there here = absurd (contains_none s there)
-one_begun st es n true None s x there here = absurd (contains_none s there)
-one_begun st es n true (Some a) s x there here =
-    let j : Session = joining_session n (next_job st es) a in one_of j s x (contains_cases j [] s there) (contains_cases j [] x here)
-
-pub any_placed : {A : Type 0} (p : A → Bool) (xs : List A) → list_any p xs ≡ true → (k : ℕ) × (x : A) × (slice_get xs k ≡ Some x) × (p x ≡ true)
-any_placed p [] h = absurd (false_is_true h)
-any_placed {A} p (x ∷ xs) h = by (λ more. any_placed p xs more) (p x) refl h where
-  by : (list_any p xs ≡ true → (k : ℕ) × (y : A) × (slice_get xs k ≡ Some y) × (p y ≡ true)) → (b : Bool) → p x ≡ b → (b || list_any p xs) ≡ true
-      → (k : ℕ) × (y : A) × (slice_get (x ∷ xs) k ≡ Some y) × (p y ≡ true)
-  by rest true is at = (zero, x, refl, is)
-  by rest false is at = let r = rest at in (suc r.0, r.1, r.2, r.3)
+begins_by : (st : Setting) (es : Trace) (n : ℕ) (b : Bool) (o : Option LockspaceArg) (s : Session)
+    → slice_get (elim b as (λ z. List Session) [ false ↦ [] | true ↦ elim o as (λ z. List Session) [ None ↦ [] | Some a ↦ joining_session n (next_job st es) a ∷ [] ] ]) 0 ≡ Some s
+    → b ≡ true
+begins_by st es n true o s at = refl
+begins_by st es n false o s at = absurd (none_some s at)
 
 some_of : {A : Type 0} (o : Option A) → IsSome o → (x : A) × (o ≡ Some x)
 some_of None h = absurd (false_is_true h)
@@ -136,28 +109,29 @@ pub record BeganAlone (st : Setting) (es : Trace) (s : Session) : Type 0 where
   pub index : ℕ
   pub nobody : session_named st (cut_at index entry ∷ past) s.lockspace ≡ None
 
-pub began_alone : (st : Setting) (es : Trace) (n : ℕ) (s : Session) (b : IsBegun st es n s) → Lawful st es → (a : BeganAlone st es s) × (a.past ≡ b.past)
+pub began_alone : (st : Setting) (es : Trace) (n : ℕ) (s : Session) (b : BeganAt st es n s) → Lawful st es → (a : BeganAlone st es s) × (a.past ≡ b.past)
 began_alone st es n s b h =
     let here = lawful-front st b.later (b.entry ∷ b.past) (subst (λ t. Lawful st t) b.whole h) in
     let count : ℕ = length (sessions st b.past) in
-    let first = any_placed (λ (c : Call). is_join_call FirstRead c.purpose) b.entry.effects.calls
-    (begins_by st b.past count (list_any (λ c. is_join_call FirstRead c.purpose) b.entry.effects.calls) (added_by st b.entry.input) s b.inside) in
-    let x = some_of (session_numbered st (b.entry ∷ b.past) first.1.session) (here.calls.0.owned first.1 (got_inside b.entry.effects.calls first.0 first.1 first.2)) in
-    let t : Trace = cut_at first.0 b.entry ∷ b.past in
-    let law = join_law st t x.0 (new_call (length b.past) b.entry.reading first.1) first.1.purpose FirstRead (here.delta.0.calls first.0 first.1 x.0 first.2 x.1) first.3 in
-    let may = here.calls.0.alive first.0 first.1 x.0 first.2 x.1 in
-    let nobody = alone_by st b.entry b.past first.0 s first.1.session x.0 b.inside law.apart may (either_place (sessions st b.past) (begun_in st b.past count b.entry) first.1.session x.0 x.1) in
-    (record { later = b.later; entry = b.entry; past = b.past; whole = b.whole; lawful = here; index = first.0; nobody = nobody }, refl)
+    let reads = any_found (λ (c : Call). is_join_call FirstRead c.purpose) b.entry.effects.calls
+    (begins_by st b.past count (list_any (λ c. is_join_call FirstRead c.purpose) b.entry.effects.calls) (added_by st b.entry.input) s b.begun) in
+    let at = placed_at b.entry.effects.calls reads.0 reads.1 in
+    let x = some_of (session_numbered st (b.entry ∷ b.past) reads.0.session) (here.calls.0.owned reads.0 reads.1) in
+    let t : Trace = cut_at at.0 b.entry ∷ b.past in
+    let law = join_law st t x.0 (new_call (length b.past) b.entry.reading reads.0) reads.0.purpose FirstRead (here.delta.0.calls at.0 reads.0 x.0 at.1 x.1) reads.2 in
+    let may = here.calls.0.alive at.0 reads.0 x.0 at.1 x.1 in
+    let nobody = alone_by st b.entry b.past at.0 s reads.0.session x.0 b.begun law.apart may (either_place (sessions st b.past) (begun_in st b.past count b.entry) reads.0.session x.0 x.1) in
+    (record { later = b.later; entry = b.entry; past = b.past; whole = b.whole; lawful = here; index = at.0; nobody = nobody }, refl)
   where
-    alone_by : (st : Setting) (e : Entry) (past : Trace) (k : ℕ) (s : Session) (n : ℕ) (x : Session) → Contains (begun_in st past (length (sessions st past)) e) s
+    alone_by : (st : Setting) (e : Entry) (past : Trace) (k : ℕ) (s : Session) (n : ℕ) (x : Session) → slice_get (begun_in st past (length (sessions st past)) e) 0 ≡ Some s
         → session_named st (cut_at k e ∷ past) x.lockspace ≡ None → may_submit (stage_of (cut_at k e ∷ past) x) ≡ true
-        → (session_numbered st past n ≡ Some x) ⊎ ((length (sessions st past) ≤ n) × Contains (begun_in st past (length (sessions st past)) e) x)
+        → (session_numbered st past n ≡ Some x) ⊎ ((j : ℕ) × (n ≡ length (sessions st past) + j) × (slice_get (begun_in st past (length (sessions st past)) e) j ≡ Some x))
         → session_named st (cut_at k e ∷ past) s.lockspace ≡ None
     alone_by st e past k s n x there none may (inl old) =
         let t : Trace = cut_at k e ∷ past in
         absurd (absent st t x.lockspace x (got_inside (sessions st t) n x (session_more st (cut_at k e) past n x old)) refl none (alive_present t x may))
     alone_by st e past k s n x there none may (inr new) =
-        let same = one_begun st past (length (sessions st past)) (list_any (λ c. is_join_call FirstRead c.purpose) e.effects.calls) (added_by st e.input) s x there new.1 in
+        let same = one_value s x (slice_get (begun_in st past (length (sessions st past)) e) 0) there (first_begun st past e new.0 x new.2).1 in
         ap (λ (y : Session). session_named st (cut_at k e ∷ past) y.lockspace) same ∙ none
 
 -- ---- one that had ended by then
@@ -224,19 +198,9 @@ had_ended st es s x a was same =
 
 -- ---- its calls were made before, and those of the other after
 
-below_or : (a b : ℕ) → (a < b) ⊎ (b ≤ a)
-below_or zero zero = inr (omega arith)
-below_or zero (suc b) = inl (omega arith)
-below_or (suc a) zero = inr (omega arith)
-below_or (suc a) (suc b) =
-    elim (below_or a b) as (λ z. (suc a < suc b) ⊎ (suc b ≤ suc a)) [
-      | inl lt ↦ inl (omega (arith, lt))
-      | inr le ↦ inr (omega (arith, le))
-    ]
-
 pub early_call : (st : Setting) (es : Trace) (s : Session) (m : Submitted) (older : List Submitted) (d : IsMadeAfter es s m older) → IsLawfulCall st es s m older d → (b : HadEnded st es s)
     → m.at < length b.past
-early_call st es s m older d l b = by (below_or m.at (length b.past)) where
+early_call st es s m older d l b = by (cases_lt m.at (length b.past)) where
   by : (m.at < length b.past) ⊎ (length b.past ≤ m.at) → m.at < length b.past
   by (inl lt) = lt
   by (inr le) =
@@ -252,8 +216,8 @@ late_by st s e past (y ∷ mid) t is le at =
     subst (λ u. session_numbered st u s.number ≡ Some s) (sym (ap (λ zs. drop 1 zs) is)) (sessions_stay st mid t s.number s at)
 
 pub late_call : (st : Setting) (es : Trace) (n : ℕ) (s : Session) (m : Submitted) (older : List Submitted) (d : IsMadeAfter es s m older) → IsLawfulCall st es s m older d
-    → s.number ≡ n → (b : IsBegun st es n s) → length b.past ≤ m.at
-late_call st es n s m older d l number b = by (below_or m.at (length b.past)) where
+    → s.number ≡ n → (b : BeganAt st es n s) → length b.past ≤ m.at
+late_call st es n s m older d l number b = by (cases_lt m.at (length b.past)) where
   by : (m.at < length b.past) ⊎ (length b.past ≤ m.at) → length b.past ≤ m.at
   by (inr le) = le
   by (inl lt) =
@@ -261,7 +225,7 @@ late_call st es n s m older d l number b = by (below_or m.at (length b.past)) wh
       let its : session_numbered st (d.entry ∷ d.past) s.number ≡ Some s =
       ap (λ k. session_numbered st (d.entry ∷ d.past) k) (sym (same_number m.call.session s.number d.mine)) ∙ l.its in
       let was = late_by st s b.entry b.past mid.0 (d.entry ∷ d.past) mid.1 (omega (arith, lt, d.place)) its in
-      absurd (omega (arith, within (sessions st b.past) s.number s was, number, b.above))
+      absurd (omega (arith, slice_get_within (sessions st b.past) s.number s was, number, b.number))
 
 -- ---- and its writes are answered
 

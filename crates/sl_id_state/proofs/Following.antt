@@ -1,6 +1,8 @@
 -- Of a daemon's sessions of one lockspace each is over before the next begins.
+use Rattle.sl_watchdog_law.proofs.Finding.{any_found}
+use Rattle.std.proofs.lemmas.Option.{slice_get_within}
 use Rattle.sl_course_law.specs.Stamping.{AnswersAgree, IsAnsweredAs}
-use Rattle.sl_id_state.proofs.Begun.{HadEnded, IsBegun, any_placed, answered_then, began_alone, begun_where, early_call, had_ended, late_call, within}
+use Rattle.sl_id_state.proofs.Begun.{HadEnded, BeganAt, answered_then, began_alone, begun_where, early_call, had_ended, late_call}
 use Rattle.sl_id_state.proofs.Bridge.{Grounds, IsKnown, known}
 use Rattle.sl_id_state.proofs.Keeping.{IsOwnCall, own_call}
 use Rattle.sl_id_state.proofs.Listing.{Each, each_from, each_of, map_some, stands_there}
@@ -181,8 +183,8 @@ flies_not w i f k b c has test =
 not_in_flight : (w : World) (i : SessionId) (f : Found) (k : IsKnown w i f) (b : HadEnded (setting_in f) (trace_of f) f.session) → has_write_in_flight i f.machine ≡ false
 not_in_flight w i f k b =
     is_false (has_write_in_flight i f.machine) (λ flies.
-    let q = any_placed (λ (c : Course). is_course_of i c && is_write_course c && is_open f.machine c) f.machine.calls flies in
-    flies_not w i f k b q.1 (got_inside f.machine.calls q.0 q.1 q.2) q.3)
+    let q = any_found (λ (c : Course). is_course_of i c && is_write_course c && is_open f.machine c) f.machine.calls flies in
+    flies_not w i f k b q.0 q.1 q.2)
 
 over_then : (w : World) (i : SessionId) (f : Found) (k : IsKnown w i f) (b : HadEnded (setting_in f) (trace_of f) f.session) → is_over i f ≡ true
 over_then w i f k b =
@@ -203,12 +205,12 @@ abbrev beside : Found → Session → Found
 beside f s = record { machine = f.machine; daemon = f.daemon; session = s }
 
 follows_begun : (w : World) (i k : SessionId) (f : Found) (s : Session) → IsKnown w i f → IsKnown w k (beside f s) → i.number < k.number → f.session.lockspace ≡ s.lockspace
-    → IsBegun (setting_in f) (trace_of f) k.number s → Follows i k f (beside f s)
+    → BeganAt (setting_in f) (trace_of f) k.number s → Follows i k f (beside f s)
 follows_begun w i k f s one two lt same b =
     let st : Setting = setting_in f in
     let es : Trace = trace_of f in
     let a = began_alone st es k.number s b one.lawful in
-    let inside : i.number < length (sessions st b.past) = omega (arith, lt, b.above) in
+    let inside : i.number < length (sessions st b.past) = omega (arith, lt, b.number) in
     let was = was_past st b.later b.entry b.past i.number f.session (ap (λ t. session_numbered st t i.number) (sym b.whole) ∙ one.there.session) inside in
     let own : session_numbered st a.0.past f.session.number ≡ Some f.session =
     ap (λ t. session_numbered st t f.session.number) a.1 ∙ ap (λ n. session_numbered st b.past n) one.there.number ∙ was in
@@ -228,7 +230,7 @@ follows_given : (w : World) (h : Header) (i k : SessionId) (f : Found) (s : Sess
     → session_numbered (setting_in f) [] k.number ≡ Some s → ⊥
 follows_given w h i k f s one together given lt same at =
     let st : Setting = setting_in f in
-    let first = was_first st (trace_of f) i.number f.session one.there.session (omega (arith, lt, within (sessions st []) k.number s at)) in
+    let first = was_first st (trace_of f) i.number f.session one.there.session (omega (arith, lt, slice_get_within (sessions st []) k.number s at)) in
     given_differ st.given (pairs_given h i.machine st.given together given) i.number k.number f.session s first at lt same
 
 follows_beside : (w : World) (h : Header) (i k : SessionId) (f : Found) (s : Session) → IsKnown w i f → IsKnown w k (beside f s) → AllPairs GoTogether h.sessions

@@ -1,5 +1,6 @@
 -- The calls of a session's joining come in its order, also once it has joined: each step but the watch comes once, and what comes
 -- before it is answered.
+use Rattle.sl_watchdog_law.proofs.Numbering.{begun_is, either_place}
 use Rattle.sl_session_law.proofs.Joining.{both}
 use Rattle.sl_id_state.proofs.Listing.{Each, EachTail}
 use Rattle.sl_place_law.proofs.Finding.{filtered, found_in, same_number}
@@ -11,17 +12,16 @@ use Rattle.sl_law.specs.LawfulDelta.{LawfulDeltaCall, LawfulJoin}
 use Rattle.sl_law.specs.Saying.{cut_at}
 use Rattle.sl_session_law.proofs.Covering.{joinings_are_in_turn}
 use Rattle.sl_session_law.proofs.Growing.{mine_marked, mine_next, other_next, to_all}
-use Rattle.sl_session_law.proofs.Making.{IsNewCall, WasOpen, contains_cases, contains_none, old_or_new, was_marked}
+use Rattle.sl_session_law.proofs.Making.{IsNewCall, WasOpen, old_or_new, was_marked}
 use Rattle.sl_session_law.proofs.Naming.{absent}
 use Rattle.sl_session_law.proofs.Ordering.{begun_before, joinings_are_ordered}
 use Rattle.sl_session_law.proofs.Owning.{got_inside, owned, session_more}
 use Rattle.sl_session_law.proofs.Silence.{stage_by}
 use Rattle.sl_session_law.specs.Promises.{IsSession as IsSessionOf, all_done, fits, fits_as, has_reply, is_in_turn, is_ordered, may_come, may_follow}
-use Rattle.sl_sessions.specs.Sessions.{Session, added_by, begun_in, calls_of, free_write, has_open_write, is_call_of, is_join_call, joined_after, joining_session, refused_after, removed_after, session_named, session_numbered, sessions, stage_in, stage_of}
+use Rattle.sl_sessions.specs.Sessions.{Session, begun_in, calls_of, free_write, has_open_write, is_call_of, is_join_call, joined_after, refused_after, removed_after, session_named, session_numbered, sessions, stage_in, stage_of}
 use Rattle.sl_sessions.specs.declared.stage.Stage.TheVariants.{Deciding, Ended, Freeing, Looking, Standing, Verifying, Waiting}
 use Rattle.sl_sessions.specs.declared.stage.Stage.{Stage}
-use Rattle.sl_trace.specs.Traces.{Answered, Setting, Submitted, Trace, is_write, mark, new_call, next_job, submitted}
-use Rattle.sl_trace.specs.declared.command.LockspaceArg.{LockspaceArg}
+use Rattle.sl_trace.specs.Traces.{Answered, Setting, Submitted, Trace, is_write, mark, new_call, submitted}
 use Rattle.sl_trace.specs.declared.effects.Call.{Call}
 use Rattle.sl_trace.specs.declared.effects.Entry.{Entry}
 use Rattle.sl_trace.specs.declared.effects.JoinStep.TheVariants.{ClaimWrite, DecidingRead, FirstRead, FirstRenewal, VerifyRead, WatchRead}
@@ -31,8 +31,7 @@ use Rattle.sl_trace.specs.declared.effects.Purpose.{Purpose}
 use Rattle.sl_words.proofs.CaseLaws.{false_is_true, no_value, none_some, one_value, true_is_false}
 use Rattle.sl_words.proofs.WordLaws.{and_true}
 use Rattle.std.proofs.Common.{ap, arith, inl, inr, refl, subst, sym, ◌∙◌}
-use Rattle.std.specs.List.{list_any}
-use Rattle.std.specs.Prelude.{Bool, Contains, List, None, Option, Some, [], false, is_none, is_some, length, slice_get, suc, true, zero, ℕ, ◌&&◌, ◌++◌, ◌<◌, ◌==◌, ◌||◌, ◌∷◌, ◌≡◌, ◌≤◌, ◌⊎◌}
+use Rattle.std.specs.Prelude.{Bool, Contains, List, None, Option, Some, [], false, is_none, is_some, length, slice_get, suc, true, ℕ, ◌&&◌, ◌<◌, ◌==◌, ◌||◌, ◌∷◌, ◌≡◌, ◌≤◌, ◌⊎◌}
 
 -- ---- the place of a step
 
@@ -193,23 +192,6 @@ has_name st t s k there joined may none =
 
 -- ---- a joined session had begun before
 
-either_got : {A : Type 0} (xs ys : List A) (k : ℕ) (x : A) → slice_get (xs ++ ys) k ≡ Some x → (slice_get xs k ≡ Some x) ⊎ Contains ys x
-either_got [] ys k x at = inr (got_inside ys k x at)
-either_got (y ∷ xs) ys zero x at = inl at
-either_got (y ∷ xs) ys (suc k) x at = either_got xs ys k x at
-
-abbrev pub begun_by : Setting → Trace → ℕ → Bool → Option LockspaceArg → List Session
-begun_by st es n b o = elim b [ false ↦ [] | true ↦ elim o [ None ↦ [] | Some a ↦ joining_session n (next_job st es) a ∷ [] ] ]
-
-begun_job : (st : Setting) (es : Trace) (n : ℕ) (b : Bool) (o : Option LockspaceArg) (s : Session) → Contains (begun_by st es n b o) s → s.job ≡ None → ⊥
-begun_job st es n false o s there none = contains_none s there
-begun_job st es n true None s there none = contains_none s there
-begun_job st es n true (Some a) s there none =
-    elim (contains_cases (joining_session n (next_job st es) a) [] s there) as (λ z. ⊥) [
-      | inl here ↦ no_value (next_job st es) s.job (ap (λ (x : Session). x.job) (sym here)) none
-      | inr more ↦ contains_none s more
-    ]
-
 old_by : (m : Submitted) (at reading : ℕ) (cs : List Call) (ms : List Submitted) → has_reply m ≡ true → Contains ms m ⊎ IsNewCall at reading cs m → Contains ms m
 old_by m at reading cs ms r (inl there) = there
 old_by m at reading cs ms r (inr new) = absurd (false_is_true (sym (ap (λ o. is_some o) new.unmet) ∙ r))
@@ -237,9 +219,9 @@ begun_if_joined st e past s h its k joined = by s.job refl where
   by : (job : Option ℕ) → s.job ≡ job → IsSessionOf st past s
   by (Some j) is = joined_renewal st e past s h its k (h.delta.0.joins s (got_inside (sessions st (e ∷ past)) s.number s its) j k is joined)
   by None is =
-      elim (either_got (sessions st past) (begun_in st past (length (sessions st past)) e) s.number s its) as (λ z. IsSessionOf st past s) [
+      elim (either_place (sessions st past) (begun_in st past (length (sessions st past)) e) s.number s its) as (λ z. IsSessionOf st past s) [
         | inl was ↦ was
-        | inr new ↦ absurd (begun_job st past (length (sessions st past)) (list_any (λ c. is_join_call FirstRead c.purpose) e.effects.calls) (added_by st e.input) s new is)
+        | inr new ↦ let job = (begun_is st past (length (sessions st past)) new.0 e s new.2).1.job in absurd (no_value job.0 s.job job.1 is)
       ]
 
 -- ---- along the trace

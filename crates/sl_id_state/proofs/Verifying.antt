@@ -1,4 +1,5 @@
 -- What stands behind a verify read; and that delta records are written one after the other.
+use Rattle.sl_watchdog_law.proofs.Finding.{any_of}
 use Rattle.sl_place_law.proofs.Reading.{header_is}
 use Rattle.sl_course_law.specs.Stamping.{AnswersAgree, IsAnsweredAs, IsCourseOf}
 use Rattle.sl_id_state.proofs.Bridge.{Grounds, known}
@@ -19,7 +20,6 @@ use Rattle.sl_sector.specs.declared.sector.DeltaState.TheVariants.{Claimed}
 use Rattle.sl_sessions.specs.Deltas.{delta_of_session, delta_record}
 use Rattle.sl_sector.specs.declared.sector.Rec.TheVariants.{DeltaIs}
 use Rattle.sl_sector.specs.declared.sector.Rec.{Rec}
-use Rattle.sl_session_law.proofs.Making.{contains_cases, contains_none}
 use Rattle.sl_session_law.proofs.Naming.{kept}
 use Rattle.sl_sessions.specs.Sessions.{Session, calls_of, delta_of_record, delta_written, has_open_delta, is_call_of, is_delta_purpose, is_join_call}
 use Rattle.sl_time.specs.Times.{dead, join_max}
@@ -31,9 +31,8 @@ use Rattle.sl_trace.specs.declared.effects.Op.{Op}
 use Rattle.sl_trace.specs.declared.effects.Purpose.TheVariants.{Joining, Leaving, Renewal, Survey}
 use Rattle.sl_trace.specs.declared.effects.Purpose.{Purpose}
 use Rattle.sl_words.proofs.CaseLaws.{no_value, none_some, true_is_false}
-use Rattle.std.proofs.Common.{ap, arith, inl, inr, refl, subst, sym, ◌∙◌}
-use Rattle.std.specs.List.{list_any}
-use Rattle.std.specs.Prelude.{Bool, Contains, List, None, Option, Some, [], false, is_none, length, option_and_then, suc, true, ◌+◌, ◌<◌, ◌||◌, ◌∷◌, ◌≡◌, ◌≤◌, ◌⊎◌}
+use Rattle.std.proofs.Common.{ap, arith, refl, subst, sym, ◌∙◌}
+use Rattle.std.specs.Prelude.{Contains, List, None, Option, Some, false, is_none, length, option_and_then, suc, true, ◌+◌, ◌<◌, ◌≡◌, ◌≤◌}
 
 -- ---- the verify read
 
@@ -104,15 +103,6 @@ pub delta_purpose : (w : World) (i : SessionId) (f : Found) (c : Course) (o : Is
 delta_purpose w i f c o d is =
     delta_by (setting_in f) (front_at o.placed.made) f.session (new_call (length o.placed.made.past) o.placed.made.entry.reading o.placed.pairs.here.call) d o.placed.pairs.here.call.purpose
     o.lawful.law (written_there w i f c o d is)
-
-any_at : {A : Type 0} (p : A → Bool) (x : A) (xs : List A) (d : A) → p d ≡ true → (b : Bool) → p x ≡ b → (x ≡ d) ⊎ Contains xs d → (Contains xs d → list_any p xs ≡ true) → (b || list_any p xs) ≡ true
-any_at p x xs d h true is at rest = refl
-any_at p x xs d h false is (inl here) rest = absurd (true_is_false (sym h ∙ ap p (sym here) ∙ is))
-any_at p x xs d h false is (inr there) rest = rest there
-
-pub any_of : {A : Type 0} (p : A → Bool) (xs : List A) (d : A) → p d ≡ true → Contains xs d → list_any p xs ≡ true
-any_of p [] d h there = absurd (contains_none d there)
-any_of p (x ∷ xs) d h there = any_at p x xs d h (p x) refl (contains_cases x xs d there) (λ more. any_of p xs d h more)
 
 -- Where no call on a delta sector is open, each is answered.
 closed : (t : Trace) (s : Session) (r : Submitted) → has_open_delta t s ≡ false → Contains (calls_of t s) r → is_delta_purpose r.call.purpose ≡ true
