@@ -100,16 +100,12 @@ alive_present : (t : Trace) (s : Session) → may_submit (stage_of t s) ≡ true
 alive_present t s may = ap (λ o. is_none o || is_none (joined_after t s) && has_open_write t s) (not_ended t s may (ended_after t s) refl)
 
 -- Where a session began nobody had its lockspace's name.
-pub record BeganAlone (st : Setting) (es : Trace) (s : Session) : Type 0 where
-  pub later : Trace
-  pub entry : Entry
-  pub past : Trace
-  pub whole : es ≡ later ++ entry ∷ past
-  pub lawful : Lawful st (entry ∷ past)
+pub record BeganAlone (st : Setting) (es : Trace) (n : ℕ) (s : Session) (b : BeganAt st es n s) : Type 0 where
+  pub lawful : Lawful st (b.entry ∷ b.past)
   pub index : ℕ
-  pub nobody : session_named st (cut_at index entry ∷ past) s.lockspace ≡ None
+  pub nobody : session_named st (cut_at index b.entry ∷ b.past) s.lockspace ≡ None
 
-pub began_alone : (st : Setting) (es : Trace) (n : ℕ) (s : Session) (b : BeganAt st es n s) → Lawful st es → (a : BeganAlone st es s) × (a.past ≡ b.past)
+pub began_alone : (st : Setting) (es : Trace) (n : ℕ) (s : Session) (b : BeganAt st es n s) → Lawful st es → BeganAlone st es n s b
 began_alone st es n s b h =
     let here = lawful-front st b.later (b.entry ∷ b.past) (subst (λ t. Lawful st t) b.whole h) in
     let count : ℕ = length (sessions st b.past) in
@@ -121,7 +117,7 @@ began_alone st es n s b h =
     let law = join_law st t x.0 (new_call (length b.past) b.entry.reading reads.0) reads.0.purpose FirstRead (here.delta.0.calls at.0 reads.0 x.0 at.1 x.1) reads.2 in
     let may = here.calls.0.alive at.0 reads.0 x.0 at.1 x.1 in
     let nobody = alone_by st b.entry b.past at.0 s reads.0.session x.0 b.begun law.apart may (either_place (sessions st b.past) (begun_in st b.past count b.entry) reads.0.session x.0 x.1) in
-    (record { later = b.later; entry = b.entry; past = b.past; whole = b.whole; lawful = here; index = at.0; nobody = nobody }, refl)
+    record { lawful = here; index = at.0; nobody = nobody }
   where
     alone_by : (st : Setting) (e : Entry) (past : Trace) (k : ℕ) (s : Session) (n : ℕ) (x : Session) → slice_get (begun_in st past (length (sessions st past)) e) 0 ≡ Some s
         → session_named st (cut_at k e ∷ past) x.lockspace ≡ None → may_submit (stage_of (cut_at k e ∷ past) x) ≡ true
@@ -136,15 +132,11 @@ began_alone st es n s b h =
 
 -- ---- one that had ended by then
 
--- An entry after which a session had ended, with no write unanswered.
-pub record HadEnded (st : Setting) (es : Trace) (s : Session) : Type 0 where
-  pub later : Trace
-  pub entry : Entry
-  pub past : Trace
-  pub whole : es ≡ later ++ entry ∷ past
+-- Where one session began another had ended, with no write unanswered.
+pub record HadEnded (st : Setting) (es : Trace) (n : ℕ) (s : Session) (b : BeganAt st es n s) (x : Session) : Type 0 where
   pub mark_of_end : ℕ
-  pub ended : ended_after (entry ∷ past) s ≡ Some mark_of_end
-  pub closed : has_open_write (entry ∷ past) s ≡ false
+  pub ended : ended_after (b.entry ∷ b.past) x ≡ Some mark_of_end
+  pub closed : has_open_write (b.entry ∷ b.past) x ≡ false
 
 present_cases : (ended joined : Option ℕ) (b : Bool) → (is_none ended || is_none joined && b) ≡ false → ((k : ℕ) × (ended ≡ Some k)) × (joined ≡ None → b ≡ false)
 present_cases None joined b h = absurd (true_is_false h)
@@ -176,38 +168,32 @@ closed_by st e past s i k h its ended shut (Some j) is =
     no_value k (removed_after (e ∷ past) s) gone (not_removed st (e ∷ past) s h its waits))
 
 -- A session of the same lockspace that was there when another began.
-pub had_ended : (st : Setting) (es : Trace) (s x : Session) (a : BeganAlone st es s) → session_numbered st a.past x.number ≡ Some x → x.lockspace ≡ s.lockspace
-    → (b : HadEnded st es x) × (b.past ≡ a.past)
-had_ended st es s x a was same =
-    let t : Trace = cut_at a.index a.entry ∷ a.past in
-    let there = got_inside (sessions st t) x.number x (session_more st (cut_at a.index a.entry) a.past x.number x was) in
+pub had_ended : (st : Setting) (es : Trace) (n : ℕ) (s : Session) (b : BeganAt st es n s) (a : BeganAlone st es n s b) (x : Session) → session_numbered st b.past x.number ≡ Some x
+    → x.lockspace ≡ s.lockspace → HadEnded st es n s b x
+had_ended st es n s b a x was same =
+    let t : Trace = cut_at a.index b.entry ∷ b.past in
+    let there = got_inside (sessions st t) x.number x (session_more st (cut_at a.index b.entry) b.past x.number x was) in
     let gone : is_present t x ≡ false = is_false (is_present t x) (λ present. absent st t s.lockspace x there same a.nobody present) in
     let c = present_cases (ended_after t x) (joined_after t x) (has_open_write t x) gone in
-    let its = session_more st a.entry a.past x.number x was in (
-      record {
-        later = a.later;
-        entry = a.entry;
-        past = a.past;
-        whole = a.whole;
-        mark_of_end = c.0.0;
-        ended = c.0.1;
-        closed = closed_by st a.entry a.past x a.index c.0.0 a.lawful its c.0.1 c.1 (joined_after (a.entry ∷ a.past) x) refl;
-      },
-      refl,
-    )
+    let its = session_more st b.entry b.past x.number x was in
+    record {
+      mark_of_end = c.0.0;
+      ended = c.0.1;
+      closed = closed_by st b.entry b.past x a.index c.0.0 a.lawful its c.0.1 c.1 (joined_after (b.entry ∷ b.past) x) refl;
+    }
 
 -- ---- its calls were made before, and those of the other after
 
-pub early_call : (st : Setting) (es : Trace) (s : Session) (m : Submitted) (older : List Submitted) (d : IsMadeAfter es s m older) → IsLawfulCall st es s m older d → (b : HadEnded st es s)
-    → m.at < length b.past
-early_call st es s m older d l b = by (cases_lt m.at (length b.past)) where
+pub early_call : (st : Setting) (es : Trace) (n : ℕ) (s : Session) (b : BeganAt st es n s) (x : Session) → HadEnded st es n s b x → (m : Submitted) (older : List Submitted)
+    → (d : IsMadeAfter es x m older) → IsLawfulCall st es x m older d → m.at < length b.past
+early_call st es n s b x h m older d l = by (cases_lt m.at (length b.past)) where
   by : (m.at < length b.past) ⊎ (length b.past ≤ m.at) → m.at < length b.past
   by (inl lt) = lt
   by (inr le) =
       let mid = ends d.later (d.entry ∷ d.past) b.later (b.entry ∷ b.past) (sym d.whole ∙ b.whole) (omega (arith, le, d.place)) in
-      let ended : ended_after (d.entry ∷ d.past) s ≡ Some b.mark_of_end =
-      ap (λ t. ended_after t s) mid.1 ∙ marks_stay.ended mid.0 (b.entry ∷ b.past) s b.mark_of_end b.ended in
-      absurd (true_is_false (sym l.alive ∙ no_more (cut_at d.index d.entry ∷ d.past) s b.mark_of_end ended))
+      let ended : ended_after (d.entry ∷ d.past) x ≡ Some h.mark_of_end =
+      ap (λ t. ended_after t x) mid.1 ∙ marks_stay.ended mid.0 (b.entry ∷ b.past) x h.mark_of_end h.ended in
+      absurd (true_is_false (sym l.alive ∙ no_more (cut_at d.index d.entry ∷ d.past) x h.mark_of_end ended))
 
 late_by : (st : Setting) (s : Session) (e : Entry) (past mid t : Trace) → e ∷ past ≡ mid ++ t → length t ≤ length past → session_numbered st t s.number ≡ Some s
     → session_numbered st past s.number ≡ Some s
@@ -256,9 +242,9 @@ answered_by t s m r shut there l is None its =
     absurd (true_is_false (sym (any_of (λ (x : Submitted). is_write x.call.op) (unanswered (calls_of t s)) r (ap (λ (c : Call). is_write c.op) (sym l.same.call) ∙ is)
     (kept (λ (x : Submitted). is_none x.answer) (calls_of t s) r (ap (λ q. is_none q) its) there)) ∙ shut))
 
-pub answered_then : (st : Setting) (es : Trace) (s : Session) (m : Submitted) → (b : HadEnded st es s) → Contains (calls_of es s) m → m.at < length b.past
-    → is_write m.call.op ≡ true → (a : Answered) × (m.answer ≡ Some a)
-answered_then st es s m b there lt is =
+pub answered_then : (st : Setting) (es : Trace) (n : ℕ) (s : Session) (b : BeganAt st es n s) (x : Session) → HadEnded st es n s b x → (m : Submitted) → Contains (calls_of es x) m
+    → m.at < length b.past → is_write m.call.op ≡ true → (a : Answered) × (m.answer ≡ Some a)
+answered_then st es n s b x h m there lt is =
     let t : Trace = b.entry ∷ b.past in
-    let r = earlier b.later t s m (subst (λ u. Contains (calls_of u s) m) b.whole there) (omega (arith, lt)) in
-    answered_by t s m r.0 b.closed r.1 r.2 is r.0.answer refl
+    let r = earlier b.later t x m (subst (λ u. Contains (calls_of u x) m) b.whole there) (omega (arith, lt)) in
+    answered_by t x m r.0 h.closed r.1 r.2 is r.0.answer refl

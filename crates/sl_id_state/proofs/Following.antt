@@ -162,35 +162,41 @@ not_open a c s is flies =
 told_by : (f : Found) (c : Course) (o : Option Answered) (a : Answered) → o ≡ Some a → AnswersAgree f.daemon c o → IsAnsweredAs f.daemon c a
 told_by f c o a is agree = subst (λ y. AnswersAgree f.daemon c y) is agree
 
--- A write of a session that had ended is answered.
-none_flies : (w : World) (i : SessionId) (f : Found) (c : Course) (o : IsOwnCall w i f c) (b : HadEnded (setting_in f) (trace_of f) f.session) → is_write_course c ≡ true
-    → is_open f.machine c ≡ true → ⊥
-none_flies w i f c o b writes flies =
+-- The session has ended where another of its daemon began.
+abbrev EndedAt : (f : Found) (n : ℕ) (s : Session) → BeganAt (setting_in f) (trace_of f) n s → Type 0
+EndedAt f n s b = HadEnded (setting_in f) (trace_of f) n s b f.session
+
+-- So its writes are answered.
+none_flies : (w : World) (i : SessionId) (f : Found) (c : Course) (o : IsOwnCall w i f c) (n : ℕ) (s : Session) (b : BeganAt (setting_in f) (trace_of f) n s) → EndedAt f n s b
+    → is_write_course c ≡ true → is_open f.machine c ≡ true → ⊥
+none_flies w i f c o n s b e writes flies =
     let x = o.placed.pairs in
-    let early = early_call (setting_in f) (trace_of f) f.session x.here x.rest o.placed.made o.lawful b in
-    let answer = answered_then (setting_in f) (trace_of f) f.session x.here b
+    let early = early_call (setting_in f) (trace_of f) n s b f.session e x.here x.rest o.placed.made o.lawful in
+    let answer = answered_then (setting_in f) (trace_of f) n s b f.session e x.here
     (subst (λ ms. Contains ms x.here) (sym x.whole) (stands_there x.front x.here x.rest)) early (ap (λ (y : Call). is_write y.op) x.this.call ∙ writes) in
     let told = told_by f c x.here.answer answer.0 answer.1 x.this.answers in
     not_open f.machine c told.stamp told.answered flies
 
-flies_not : (w : World) (i : SessionId) (f : Found) (k : IsKnown w i f) (b : HadEnded (setting_in f) (trace_of f) f.session) (c : Course) → Contains f.machine.calls c
-    → (is_course_of i c && is_write_course c && is_open f.machine c) ≡ true → ⊥
-flies_not w i f k b c has test =
+flies_not : (w : World) (i : SessionId) (f : Found) (k : IsKnown w i f) (n : ℕ) (s : Session) (b : BeganAt (setting_in f) (trace_of f) n s) → EndedAt f n s b → (c : Course)
+    → Contains f.machine.calls c → (is_course_of i c && is_write_course c && is_open f.machine c) ≡ true → ⊥
+flies_not w i f k n s b e c has test =
     let both = and_true (is_course_of i c && is_write_course c) (is_open f.machine c) test in
     let one = and_true (is_course_of i c) (is_write_course c) both.0 in
-    none_flies w i f c (own_call w i f c k (kept (is_course_of i) f.machine.calls c one.0 has)) b one.1 both.1
+    none_flies w i f c (own_call w i f c k (kept (is_course_of i) f.machine.calls c one.0 has)) n s b e one.1 both.1
 
-not_in_flight : (w : World) (i : SessionId) (f : Found) (k : IsKnown w i f) (b : HadEnded (setting_in f) (trace_of f) f.session) → has_write_in_flight i f.machine ≡ false
-not_in_flight w i f k b =
+not_in_flight : (w : World) (i : SessionId) (f : Found) (k : IsKnown w i f) (n : ℕ) (s : Session) (b : BeganAt (setting_in f) (trace_of f) n s) → EndedAt f n s b
+    → has_write_in_flight i f.machine ≡ false
+not_in_flight w i f k n s b e =
     is_false (has_write_in_flight i f.machine) (λ flies.
     let q = any_found (λ (c : Course). is_course_of i c && is_write_course c && is_open f.machine c) f.machine.calls flies in
-    flies_not w i f k b q.0 q.1 q.2)
+    flies_not w i f k n s b e q.0 q.1 q.2)
 
-over_then : (w : World) (i : SessionId) (f : Found) (k : IsKnown w i f) (b : HadEnded (setting_in f) (trace_of f) f.session) → is_over i f ≡ true
-over_then w i f k b =
-    let ended : ended_after (trace_of f) f.session ≡ Some b.mark_of_end =
-    ap (λ t. ended_after t f.session) b.whole ∙ marks_stay.ended b.later (b.entry ∷ b.past) f.session b.mark_of_end b.ended in
-    over_by (free_landed i f) (is_some (ended_after (trace_of f) f.session)) (was_reset f) (has_write_in_flight i f.machine) (ap (λ o. is_some o) ended) (not_in_flight w i f k b)
+over_then : (w : World) (i : SessionId) (f : Found) (k : IsKnown w i f) (n : ℕ) (s : Session) (b : BeganAt (setting_in f) (trace_of f) n s) → EndedAt f n s b → is_over i f ≡ true
+over_then w i f k n s b e =
+    let ended : ended_after (trace_of f) f.session ≡ Some e.mark_of_end =
+    ap (λ t. ended_after t f.session) b.whole ∙ marks_stay.ended b.later (b.entry ∷ b.past) f.session e.mark_of_end e.ended in
+    over_by (free_landed i f) (is_some (ended_after (trace_of f) f.session)) (was_reset f) (has_write_in_flight i f.machine) (ap (λ o. is_some o) ended)
+    (not_in_flight w i f k n s b e)
 
 -- ---- two sessions of a daemon
 
@@ -212,17 +218,16 @@ follows_begun w i k f s one two lt same b =
     let a = began_alone st es k.number s b one.lawful in
     let inside : i.number < length (sessions st b.past) = omega (arith, lt, b.number) in
     let was = was_past st b.later b.entry b.past i.number f.session (ap (λ t. session_numbered st t i.number) (sym b.whole) ∙ one.there.session) inside in
-    let own : session_numbered st a.0.past f.session.number ≡ Some f.session =
-    ap (λ t. session_numbered st t f.session.number) a.1 ∙ ap (λ n. session_numbered st b.past n) one.there.number ∙ was in
-    let e = had_ended st es s f.session a.0 own same in
-    let at : length e.0.past ≡ length b.past = ap (λ t. length t) (e.1 ∙ a.1) in (
-      over_then w i f one e.0,
+    let own : session_numbered st b.past f.session.number ≡ Some f.session = ap (λ n. session_numbered st b.past n) one.there.number ∙ was in
+    let e = had_ended st es k.number s b a f.session own same in (
+      over_then w i f one k.number s b e,
       λ c d has its.
           let x = own_call w i f c one has in
           let y = own_call w k (beside f s) d two its in
-          let early = early_call st es f.session x.placed.pairs.here x.placed.pairs.rest x.placed.made x.lawful e.0 in
+          let early = early_call st es k.number s b f.session e x.placed.pairs.here x.placed.pairs.rest x.placed.made x.lawful in
           let late = late_call st es k.number s y.placed.pairs.here y.placed.pairs.rest y.placed.made y.lawful two.there.number b in
-          stamps_rise w.step f.daemon.stamps x.placed.pairs.here.at y.placed.pairs.here.at c.made d.made one.stamps x.placed.pairs.this.made y.placed.pairs.this.made (omega (arith, early, late, at)),
+          stamps_rise w.step f.daemon.stamps x.placed.pairs.here.at y.placed.pairs.here.at c.made d.made one.stamps x.placed.pairs.this.made y.placed.pairs.this.made
+          (omega (arith, early, late)),
     )
 
 follows_given : (w : World) (h : Header) (i k : SessionId) (f : Found) (s : Session) → IsKnown w i f → AllPairs GoTogether h.sessions
