@@ -4,7 +4,7 @@ use Rattle.sl_course_law.specs.Mirrors.{IsOfWorld}
 use Rattle.sl_course_law.specs.Promises.{CoursesAreCalls, DaemonsAreOfWorld}
 use Rattle.sl_course_law.specs.Stamping.{AreCalls, IsCourseOf, Pairwise, courses_of}
 use Rattle.sl_front_law.proofs.Having.{contains_append}
-use Rattle.sl_id_state.proofs.Listing.{EachTail, PairsAt, filter_both, filter_pairs, find_pairs, map_some, pairs_at, stands, stands_there, tail_at, then_some}
+use Rattle.sl_id_state.proofs.Listing.{EveryTail, PairsAt, filter_both, filter_pairs, find_pairs, map_some, pairs_at, stands, stands_there, tail_at, then_some}
 use Rattle.sl_place_law.proofs.Finding.{found_in, same_number}
 use Rattle.sl_place_law.proofs.Numbering.{session_number}
 use Rattle.sl_id_state.proofs.Tails.{IsMadeAfter, all_made}
@@ -204,7 +204,7 @@ placed w i f c k there =
       whole = s.whole;
       pairs = pairs;
       made = tail_at (IsMadeAfter (trace_of f) f.session) pairs.front pairs.here pairs.rest
-          (subst (λ cs. EachTail (IsMadeAfter (trace_of f) f.session) cs) pairs.whole (all_made (trace_of f) f.session));
+          (subst (λ cs. EveryTail (IsMadeAfter (trace_of f) f.session) cs) pairs.whole (all_made (trace_of f) f.session));
       timed = (falls_below w.step (own_courses i f.machine) c k.falls there).1;
       order = λ d has lt. older_stands w.step s.newer c s.older d falls (subst (λ cs. Contains cs d) s.whole has) lt;
       behind = λ d has. behind_is_before w.step s.newer c s.older d falls has;

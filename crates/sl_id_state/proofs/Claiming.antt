@@ -1,11 +1,13 @@
 -- What stands behind a claim.
+use Rattle.sl_run_law.specs.Fates.{Every}
+use Rattle.sl_landing_law.proofs.Listing.{every_one}
 use Rattle.sl_place_law.proofs.Reading.{answer_gave}
 use Rattle.sl_area.specs.Layouts.{Layout, record_in}
 use Rattle.sl_area.specs.Places.{delta_offset}
 use Rattle.sl_course_law.specs.Stamping.{IsCourseOf}
 use Rattle.sl_id_state.proofs.Bridge.{Grounds, known}
 use Rattle.sl_id_state.proofs.Keeping.{IsOwnCall, is_at_own, own_call, read_is_own, step_is, step_law}
-use Rattle.sl_id_state.proofs.Listing.{Each, EachTail, each_of, tail_at}
+use Rattle.sl_id_state.proofs.Listing.{EveryTail, tail_at}
 use Rattle.sl_place_law.proofs.Finding.{place_is, filtered, partner}
 use Rattle.sl_id_state.proofs.Living.{InPlace, Precede, rank}
 use Rattle.sl_id_state.proofs.Steps.{IsSampled, answered_before, before_refusal, is_sampled, only, places, ranks_of, showing}
@@ -123,16 +125,16 @@ rank_below : (m x : Submitted) → rank m.call.purpose ≡ 4 → Precede m x →
 rank_below m x is (inl lt) = omega (arith, lt, is)
 rank_below m x is (inr both) = absurd (omega (arith, is, both.1))
 
-each_done : (ms : List Submitted) → all_done ms ≡ true → Each (λ (x : Submitted). (fits x ≡ true) × (has_reply x ≡ true)) ms
-each_done [] h = tt
-each_done (m ∷ ms) h = let parts = and_true (fits m && has_reply m) (all_done ms) h in (and_true (fits m) (has_reply m) parts.0, each_done ms parts.1)
+every_done : (ms : List Submitted) → all_done ms ≡ true → Every (λ (x : Submitted). (fits x ≡ true) × (has_reply x ≡ true)) ms
+every_done [] h = tt
+every_done (m ∷ ms) h = let parts = and_true (fits m && has_reply m) (all_done ms) h in (and_true (fits m) (has_reply m) parts.0, every_done ms parts.1)
 
 pub done_of : (ms : List Submitted) (m : Submitted) → all_done ms ≡ true → Contains ms m → (fits m ≡ true) × (has_reply m ≡ true)
-done_of ms m h there = each_of (λ (x : Submitted). (fits x ≡ true) × (has_reply x ≡ true)) ms m (each_done ms h) there
+done_of ms m h there = every_one (λ (x : Submitted). (fits x ≡ true) × (has_reply x ≡ true)) ms m (every_done ms h) there
 
 pub place_at : (w : World) (i : SessionId) (f : Found) (c : Course) (o : IsOwnCall w i f c) → InPlace o.placed.pairs.here o.placed.pairs.rest
 place_at w i f c o =
-    tail_at InPlace o.placed.pairs.front o.placed.pairs.here o.placed.pairs.rest (subst (λ ms. EachTail InPlace ms) o.placed.pairs.whole (places w i f o.known))
+    tail_at InPlace o.placed.pairs.front o.placed.pairs.here o.placed.pairs.rest (subst (λ ms. EveryTail InPlace ms) o.placed.pairs.whole (places w i f o.known))
 
 none_written : (w : World) (i : SessionId) (f : Found) (c : Course) (o : IsOwnCall w i f c) → is_join_call ClaimWrite c.call.purpose ≡ true → (d : Course) → Contains o.placed.older d
     → record_of d.call.op ≡ None
@@ -141,7 +143,7 @@ none_written w i f c o is d there =
     let r = ranks_of ClaimWrite x.here.call.purpose (ap (λ (y : Call). is_join_call ClaimWrite y.purpose) x.this.call ∙ is) in
     let place = place_at w i f c o r.0 in
     let m = partner (IsCourseOf f.daemon) o.placed.older x.rest d x.rests there in
-    let low = rank_below x.here m.0 r.1 (each_of (Precede x.here) x.rest m.0 place.below m.1) in
+    let low = rank_below x.here m.0 r.1 (every_one (Precede x.here) x.rest m.0 place.below m.1) in
     no_record d.call.op
     (ap (λ (y : Call). is_write y.op) (sym m.2.call)
     ∙ reads_by m.0.call.purpose (is_write m.0.call.op) (done_of x.rest m.0 place.done m.1).0 low)

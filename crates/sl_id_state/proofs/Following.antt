@@ -1,11 +1,14 @@
 -- Of a daemon's sessions of one lockspace each is over before the next begins.
+use Rattle.sl_run_law.specs.Fates.{Every}
+use Rattle.sl_landing_law.proofs.Listing.{every_one}
+use Rattle.sl_sample_law.proofs.Numbering.{every_so}
 use Rattle.sl_watchdog_law.proofs.Finding.{any_found}
 use Rattle.std.proofs.lemmas.Option.{slice_get_within}
 use Rattle.sl_course_law.specs.Stamping.{AnswersAgree, IsAnsweredAs}
 use Rattle.sl_id_state.proofs.Begun.{HadEnded, BeganAt, answered_then, began_alone, begun_where, early_call, had_ended, late_call}
 use Rattle.sl_id_state.proofs.Bridge.{Grounds, IsKnown, known}
 use Rattle.sl_id_state.proofs.Keeping.{IsOwnCall, own_call}
-use Rattle.sl_id_state.proofs.Listing.{Each, each_from, each_of, map_some, stands_there}
+use Rattle.sl_id_state.proofs.Listing.{every_from, map_some, stands_there}
 use Rattle.sl_place_law.proofs.Finding.{same_number}
 use Rattle.sl_id_state.proofs.Timing.{stamps_rise}
 use Rattle.sl_id_state.specs.Facts.{SessionsFollow}
@@ -38,31 +41,27 @@ abbrev pub DaemonsAreGiven : Type 0
 DaemonsAreGiven = (p : Program) (h : Header) (xs : List Happening) → LawfulRun p h xs → (m : ℕ) (a : Machine) (d : Daemon) → machine_at (world_at p h xs) m ≡ Some a
     → Contains (daemons_on a) d → (d.setting.given ≡ []) ⊎ (d.setting.given ≡ filter_map (given_of h m) h.sessions)
 
--- Each two of a list, in their order.
+-- Every two of a list, in their order.
 abbrev Pairs : {A : Type 0} → (A → A → Type 0) → List A → Type 0
 Pairs R [] = Unit {0}
-Pairs R (x ∷ xs) = Each (R x) xs × Pairs R xs
+Pairs R (x ∷ xs) = Every (R x) xs × Pairs R xs
 
 pairs_of : {A : Type 0} (R : A → A → Type 0) (xs : List A) → AllPairs R xs → Pairs R xs
 pairs_of R [] h = tt
 pairs_of {A} R (x ∷ xs) h = (
-  each_from (R x) xs (λ y there. subst (λ (z : A). R x z) there.2 (h zero (suc there.0) y (omega arith) (omega (arith, there.1)))),
+  every_from (R x) xs (λ y there. subst (λ (z : A). R x z) there.2 (h zero (suc there.0) y (omega arith) (omega (arith, there.1)))),
   pairs_of R xs (λ i j d lt inside. h (suc i) (suc j) d (omega (arith, lt)) (omega (arith, inside))),
 )
 
-each_mapped_by : {A B : Type 0} (f : A → Option B) (P : B → Type 0) (x : A) (o : Option B) (rest : List B) → f x ≡ o → ((b : B) → f x ≡ Some b → P b) → Each P rest → Each P (cons_option o rest)
-each_mapped_by f P x None rest is h each = each
-each_mapped_by f P x (Some b) rest is h each = (h b is, each)
+every_mapped_by : {A B : Type 0} (f : A → Option B) (P : B → Type 0) (x : A) (o : Option B) (rest : List B) → f x ≡ o → ((b : B) → f x ≡ Some b → P b) → Every P rest → Every P (cons_option o rest)
+every_mapped_by f P x None rest is h each = each
+every_mapped_by f P x (Some b) rest is h each = (h b is, each)
 
-each_mapped : {A B : Type 0} (f : A → Option B) (P : B → Type 0) (xs : List A) → Each (λ x. (b : B) → f x ≡ Some b → P b) xs → Each P (filter_map f xs)
-each_mapped f P [] h = tt
-each_mapped f P (x ∷ xs) h = each_mapped_by f P x (f x) (filter_map f xs) refl h.0 (each_mapped f P xs h.1)
+every_mapped : {A B : Type 0} (f : A → Option B) (P : B → Type 0) (xs : List A) → Every (λ x. (b : B) → f x ≡ Some b → P b) xs → Every P (filter_map f xs)
+every_mapped f P [] h = tt
+every_mapped f P (x ∷ xs) h = every_mapped_by f P x (f x) (filter_map f xs) refl h.0 (every_mapped f P xs h.1)
 
-each_so : {A : Type 0} (P Q : A → Type 0) (xs : List A) → ((x : A) → P x → Q x) → Each P xs → Each Q xs
-each_so P Q [] go h = tt
-each_so P Q (x ∷ xs) go h = (go x h.0, each_so P Q xs go h.1)
-
-pairs_by : {A B : Type 0} (f : A → Option B) (S : B → B → Type 0) (x : A) (xs : List A) (o : Option B) → f x ≡ o → ((b : B) → f x ≡ Some b → Each (S b) (filter_map f xs))
+pairs_by : {A B : Type 0} (f : A → Option B) (S : B → B → Type 0) (x : A) (xs : List A) (o : Option B) → f x ≡ o → ((b : B) → f x ≡ Some b → Every (S b) (filter_map f xs))
     → Pairs S (filter_map f xs) → Pairs S (cons_option o (filter_map f xs))
 pairs_by f S x xs None is one rest = rest
 pairs_by f S x xs (Some b) is one rest = (one b is, rest)
@@ -72,13 +71,13 @@ pairs_mapped : {A B : Type 0} (f : A → Option B) (R : A → A → Type 0) (S :
 pairs_mapped f R S go [] h = tt
 pairs_mapped {A} {B} f R S go (x ∷ xs) h =
     pairs_by f S x xs (f x) refl
-    (λ b is. each_mapped f (S b) xs (each_so (R x) (λ (y : A). (c : B) → f y ≡ Some c → S b c) xs (λ y r c its. go x y b c r is its) h.0))
+    (λ b is. every_mapped f (S b) xs (every_so (R x) (λ (y : A). (c : B) → f y ≡ Some c → S b c) xs (λ y r c its. go x y b c r is its) h.0))
     (pairs_mapped f R S go xs h.1)
 
 pair_at : {A : Type 0} (S : A → A → Type 0) (xs : List A) (i k : ℕ) (b c : A) → Pairs S xs → slice_get xs i ≡ Some b → slice_get xs k ≡ Some c → i < k → S b c
 pair_at S [] i k b c h at to lt = absurd (none_some b at)
 pair_at S (x ∷ xs) i zero b c h at to lt = absurd (omega (arith, lt))
-pair_at {A} S (x ∷ xs) zero (suc k) b c h at to lt = subst (λ (y : A). S y c) (some_value x b at) (each_of (S x) xs c h.0 (got_inside xs k c to))
+pair_at {A} S (x ∷ xs) zero (suc k) b c h at to lt = subst (λ (y : A). S y c) (some_value x b at) (every_one (S x) xs c h.0 (got_inside xs k c to))
 pair_at S (x ∷ xs) (suc i) (suc k) b c h at to lt = pair_at S xs i k b c h.1 at to (omega (arith, lt))
 
 abbrev given_as : SessionLine → Header → LockspaceLine → ℕ → Given

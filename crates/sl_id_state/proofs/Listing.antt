@@ -1,4 +1,5 @@
 -- Lists side by side: where an element stands, and what is related to it in the other list.
+use Rattle.sl_run_law.specs.Fates.{Every}
 use Rattle.sl_course_law.specs.Stamping.{Pairwise}
 use Rattle.sl_front_law.proofs.Having.{contains_right}
 use Rattle.sl_session_law.proofs.Making.{contains_cases, contains_first, contains_more, contains_none}
@@ -35,33 +36,17 @@ pub stands_there : {A : Type 0} (newer : List A) (x : A) (older : List A) → Co
 stands_there newer x older = contains_right newer (x ∷ older) x (contains_first x older)
 
 -- What is said of each element and those behind it.
-abbrev pub EachTail : {A : Type 0} → (A → List A → Type 0) → List A → Type 0
-EachTail P [] = Unit {0}
-EachTail P (x ∷ xs) = P x xs × EachTail P xs
+abbrev pub EveryTail : {A : Type 0} → (A → List A → Type 0) → List A → Type 0
+EveryTail P [] = Unit {0}
+EveryTail P (x ∷ xs) = P x xs × EveryTail P xs
 
-pub tail_at : {A : Type 0} (P : A → List A → Type 0) (newer : List A) (x : A) (older : List A) → EachTail P (newer ++ x ∷ older) → P x older
+pub tail_at : {A : Type 0} (P : A → List A → Type 0) (newer : List A) (x : A) (older : List A) → EveryTail P (newer ++ x ∷ older) → P x older
 tail_at P [] x older h = h.0
 tail_at P (y ∷ newer) x older h = tail_at P newer x older h.1
 
-pub tail_on : {A : Type 0} (P : A → List A → Type 0) (newer : List A) (x : A) (older : List A) → EachTail P (newer ++ x ∷ older) → EachTail P (x ∷ older)
-tail_on P [] x older h = h
-tail_on P (y ∷ newer) x older h = tail_on P newer x older h.1
-
--- What is said of each.
-abbrev pub Each : {A : Type 0} → (A → Type 0) → List A → Type 0
-Each P [] = Unit {0}
-Each P (x ∷ xs) = P x × Each P xs
-
-pub each_of : {A : Type 0} (P : A → Type 0) (xs : List A) (x : A) → Each P xs → Contains xs x → P x
-each_of P [] x h there = absurd (contains_none x there)
-each_of {A} P (y ∷ xs) x h there = elim (contains_cases y xs x there) as (λ z. P x) [
-  | inl here ↦ subst (λ (z : A). P z) here h.0
-  | inr more ↦ each_of P xs x h.1 more
-]
-
-pub each_from : {A : Type 0} (P : A → Type 0) (xs : List A) → ((x : A) → Contains xs x → P x) → Each P xs
-each_from P [] h = tt
-each_from P (x ∷ xs) h = (h x (contains_first x xs), each_from P xs (λ y there. h y (contains_more x xs y there)))
+pub every_from : {A : Type 0} (P : A → Type 0) (xs : List A) → ((x : A) → Contains xs x → P x) → Every P xs
+every_from P [] h = tt
+every_from P (x ∷ xs) h = (h x (contains_first x xs), every_from P xs (λ y there. h y (contains_more x xs y there)))
 
 -- ---- filters and finds
 
@@ -77,13 +62,13 @@ filter_both p q (x ∷ xs) =
     ap (λ zs. cond (p x && q x) (x ∷ zs) zs) (filter_both p q xs) ∙ keeps_by p q x (p x) (q x) (filter p xs) refl refl
 
 -- It is found where it stands, if none newer passes.
-pub find_here : {A : Type 0} (p : A → Bool) (newer : List A) (x : A) (older : List A) → Each (λ y. p y ≡ false) newer → p x ≡ true
+pub find_here : {A : Type 0} (p : A → Bool) (newer : List A) (x : A) (older : List A) → Every (λ y. p y ≡ false) newer → p x ≡ true
     → find p (newer ++ x ∷ older) ≡ Some x
 find_here p [] x older none is = ap (λ b. cond b (Some x) (find p older)) is
 find_here p (y ∷ newer) x older none is =
     ap (λ b. cond b (Some y) (find p (newer ++ x ∷ older))) none.0 ∙ find_here p newer x older none.1 is
 
-pub find_none : {A : Type 0} (p : A → Bool) (xs : List A) → Each (λ y. p y ≡ false) xs → find p xs ≡ None
+pub find_none : {A : Type 0} (p : A → Bool) (xs : List A) → Every (λ y. p y ≡ false) xs → find p xs ≡ None
 find_none p [] none = refl
 find_none p (x ∷ xs) none = ap (λ b. cond b (Some x) (find p xs)) none.0 ∙ find_none p xs none.1
 
@@ -137,8 +122,8 @@ find_pairs R p q agree (x ∷ xs) (y ∷ ys) h z is =
     finds_pair R x y (find p xs) (find q ys) z (p x) (q y) (agree x y h.0) h.0 (λ more. find_pairs R p q agree xs ys h.1 z more) is
 
 -- What is said of each of the second is said of each of the first.
-pub each_pair : {A B : Type 0} (R : A → B → Type 0) (P : A → Type 0) (Q : B → Type 0) → ((a : A) (b : B) → R a b → Q b → P a) → (xs : List A) (ys : List B)
-    → Pairwise R xs ys → Each Q ys → Each P xs
-each_pair R P Q go [] ys h each = tt
-each_pair R P Q go (x ∷ xs) [] h each = absurd h
-each_pair R P Q go (x ∷ xs) (y ∷ ys) h each = (go x y h.0 each.0, each_pair R P Q go xs ys h.1 each.1)
+pub every_pair : {A B : Type 0} (R : A → B → Type 0) (P : A → Type 0) (Q : B → Type 0) → ((a : A) (b : B) → R a b → Q b → P a) → (xs : List A) (ys : List B)
+    → Pairwise R xs ys → Every Q ys → Every P xs
+every_pair R P Q go [] ys h each = tt
+every_pair R P Q go (x ∷ xs) [] h each = absurd h
+every_pair R P Q go (x ∷ xs) (y ∷ ys) h each = (go x y h.0 each.0, every_pair R P Q go xs ys h.1 each.1)

@@ -1,8 +1,9 @@
 -- The calls of a session's joining come in its order, also once it has joined: each step but the watch comes once, and what comes
 -- before it is answered.
+use Rattle.sl_run_law.specs.Fates.{Every}
 use Rattle.sl_watchdog_law.proofs.Numbering.{begun_is, either_place}
 use Rattle.sl_session_law.proofs.Joining.{both}
-use Rattle.sl_id_state.proofs.Listing.{Each, EachTail}
+use Rattle.sl_id_state.proofs.Listing.{EveryTail}
 use Rattle.sl_place_law.proofs.Finding.{filtered, found_in, same_number}
 use Rattle.sl_id_state.proofs.Tails.{AreLater, IsLater, marked_later}
 use Rattle.sl_law.proofs.LawFacts.{lawful-front}
@@ -78,20 +79,20 @@ ranks_again n k r (inl a) (inr b) = inr (omega (arith, a, b.0), b.1)
 ranks_again n k r (inr a) (inl b) = inl (omega (arith, a.0, a.1, b))
 ranks_again n k r (inr a) (inr b) = inr (a.0, b.1)
 
-ordered_below : (m : Submitted) (ms : List Submitted) → may_come ms m.call.purpose ≡ true → is_ordered ms ≡ true → Each (Precede m) ms
+ordered_below : (m : Submitted) (ms : List Submitted) → may_come ms m.call.purpose ≡ true → is_ordered ms ≡ true → Every (Precede m) ms
 ordered_below m [] comes h = tt
 ordered_below m (y ∷ ys) comes h =
     let parts = and_true (may_come ys y.call.purpose) (is_ordered ys) h in
     let one = follows_by y.call.purpose m.call.purpose comes in
     (one, below_all m y ys one (ordered_below y ys parts.0 parts.1))
   where
-    below_all : (m y : Submitted) (ys : List Submitted) → Precede m y → Each (Precede y) ys → Each (Precede m) ys
+    below_all : (m y : Submitted) (ys : List Submitted) → Precede m y → Every (Precede y) ys → Every (Precede m) ys
     below_all m y [] one h = tt
     below_all m y (z ∷ zs) one h = (ranks_again (rank z.call.purpose) (rank y.call.purpose) (rank m.call.purpose) h.0 one, below_all m y zs one h.1)
 
 -- A call of a joining, with those that stood before it.
 pub record IsInPlace (m : Submitted) (older : List Submitted) : Type 0 where
-  pub below : Each (Precede m) older
+  pub below : Every (Precede m) older
   pub fit : fits m ≡ true
   pub done : all_done older ≡ true
 
@@ -105,7 +106,7 @@ done_turn (m ∷ ms) h =
     let one = and_true (fits m) (has_reply m) parts.0 in
     let two = parts.1 in both (fits m) (all_done ms) one.0 two
 
-from_order : (ms : List Submitted) → is_in_turn ms ≡ true → is_ordered ms ≡ true → EachTail InPlace ms
+from_order : (ms : List Submitted) → is_in_turn ms ≡ true → is_ordered ms ≡ true → EveryTail InPlace ms
 from_order [] turn h = tt
 from_order (m ∷ ms) turn h =
     let t = and_true (fits m) (all_done ms) turn in
@@ -114,7 +115,7 @@ from_order (m ∷ ms) turn h =
 
 -- ---- answers
 
-below_later : (m n : Submitted) (ms ns : List Submitted) → IsLater m n → AreLater ms ns → Each (Precede n) ns → Each (Precede m) ms
+below_later : (m n : Submitted) (ms ns : List Submitted) → IsLater m n → AreLater ms ns → Every (Precede n) ns → Every (Precede m) ms
 below_later m n [] ns one all h = tt
 below_later m n (x ∷ ms) [] one all h = absurd all
 below_later m n (x ∷ ms) (y ∷ ns) one all h = (
@@ -138,7 +139,7 @@ done_later (x ∷ ms) (y ∷ ns) all h =
     let one = and_true (fits y) (has_reply y) parts.0 in
     both (fits x && has_reply x) (all_done ms) (both (fits x) (has_reply x) (fits_later x y all.0 one.0) (reply_by x y all.0 y.answer refl one.1)) (done_later ms ns all.1 parts.1)
 
-places_later : (ms ns : List Submitted) → AreLater ms ns → EachTail InPlace ns → EachTail InPlace ms
+places_later : (ms ns : List Submitted) → AreLater ms ns → EveryTail InPlace ns → EveryTail InPlace ms
 places_later [] ns all h = tt
 places_later (m ∷ ms) [] all h = absurd all
 places_later (m ∷ ms) (n ∷ ns) all h = (one, places_later ms ns all.1 h.1) where
@@ -228,23 +229,23 @@ begun_if_joined st e past s h its k joined = by s.job refl where
 
 place_next : (st : Setting) (e : Entry) (past : Trace) (s : Session) → Lawful st (e ∷ past) → IsSessionOf st (e ∷ past) s → IsSessionOf st past s
     → (j : ℕ) → joined_after (e ∷ past) s ≡ Some j → (k : ℕ) (c : Call) → slice_get e.effects.calls k ≡ Some c → (b : Bool) → (c.session == s.number) ≡ b
-    → EachTail InPlace (calls_of (cut_at k e ∷ past) s) → EachTail InPlace (calls_of (cut_at (suc k) e ∷ past) s)
-place_next st e past s h its was j joined k c at false other old = subst (EachTail InPlace) (sym (other_next past e s k c at other)) old
+    → EveryTail InPlace (calls_of (cut_at k e ∷ past) s) → EveryTail InPlace (calls_of (cut_at (suc k) e ∷ past) s)
+place_next st e past s h its was j joined k c at false other old = subst (EveryTail InPlace) (sym (other_next past e s k c at other)) old
 place_next st e past s h its was j joined k c at true mine old =
     let own = owned st [] e past s h its k c at (same_number c.session s.number mine) in
     let t : Trace = cut_at k e ∷ past in
     let none = joined_not st t s (new_call (length past) e.reading c) j c.purpose (h.delta.0.calls k c s at own) joined
     (has_name st t s j (got_inside (sessions st t) s.number s (session_more st (cut_at k e) past s.number s was)) joined (h.calls.0.alive k c s at own)) in
-    subst (EachTail InPlace) (sym (mine_next past e s k c at mine)) (λ joins. absurd (true_is_false (sym joins ∙ none)), old)
+    subst (EveryTail InPlace) (sym (mine_next past e s k c at mine)) (λ joins. absurd (true_is_false (sym joins ∙ none)), old)
 
-pub in_place : (st : Setting) (es : Trace) (s : Session) → Lawful st es → IsSessionOf st es s → EachTail InPlace (calls_of es s)
+pub in_place : (st : Setting) (es : Trace) (s : Session) → Lawful st es → IsSessionOf st es s → EveryTail InPlace (calls_of es s)
 in_place st [] s h its = tt
 in_place st (e ∷ past) s h its = by (λ was. in_place st past s (lawful-front st (e ∷ []) past h) was) (joined_after (e ∷ past) s) refl where
-  by : (IsSessionOf st past s → EachTail InPlace (calls_of past s)) → (o : Option ℕ) → joined_after (e ∷ past) s ≡ o → EachTail InPlace (calls_of (e ∷ past) s)
+  by : (IsSessionOf st past s → EveryTail InPlace (calls_of past s)) → (o : Option ℕ) → joined_after (e ∷ past) s ≡ o → EveryTail InPlace (calls_of (e ∷ past) s)
   by rest None none = from_order (calls_of (e ∷ past) s) (joinings_are_in_turn st (e ∷ past) s h its none) (joinings_are_ordered st (e ∷ past) s h its none)
   by rest (Some j) joined =
       let was = begun_if_joined st e past s h its j joined in
-      to_all (λ t. EachTail InPlace (calls_of t s)) e past
-      (subst (EachTail InPlace) (sym (mine_marked past e s))
+      to_all (λ t. EveryTail InPlace (calls_of t s)) e past
+      (subst (EveryTail InPlace) (sym (mine_marked past e s))
       (places_later (mark past (cut_at 0 e) e.input (calls_of past s)) (calls_of past s) (marked_later past (cut_at 0 e) e.input (calls_of past s)) (rest was)))
       (λ k c at old. place_next st e past s h its was j joined k c at (c.session == s.number) refl old)

@@ -1,11 +1,13 @@
 -- What stands behind a renewal or a free.
+use Rattle.sl_run_law.specs.Fates.{Every}
+use Rattle.sl_landing_law.proofs.Listing.{every_one}
 use Rattle.sl_area.specs.Layouts.{Layout, sector_with}
 use Rattle.sl_course_law.specs.Stamping.{IsCourseOf}
 use Rattle.sl_front_law.proofs.Having.{contains_right}
 use Rattle.sl_id_state.proofs.Bridge.{Grounds, IsKnown, known}
 use Rattle.sl_id_state.proofs.Claiming.{has_decided, one_place, read_step, record_is, step_truth}
 use Rattle.sl_id_state.proofs.Keeping.{IsLawfulCall, IsOwnCall, is_at_own, lawful_call, own_call, step_law}
-use Rattle.sl_id_state.proofs.Listing.{Each, EachTail, each_from, each_of, each_pair, find_none, stands_there, tail_at}
+use Rattle.sl_id_state.proofs.Listing.{EveryTail, every_from, every_pair, find_none, stands_there, tail_at}
 use Rattle.sl_place_law.proofs.Finding.{partner, partner_of, same_number}
 use Rattle.sl_id_state.proofs.Living.{begun_if_joined, has_name, is_joining, joined_not}
 use Rattle.sl_id_state.proofs.Rising.{ClaimHasGeneration, HasFirst, HasGeneration, HasLess, IsFirst, IsNext, IsShaped, Rises, all_renew, all_rise, all_shaped, claim_behind, joined_behind, one_generation, shape, unique}
@@ -54,12 +56,12 @@ given_none st es s m older d l none =
     (has_name st t s 0 (got_inside (sessions st t) s.number s (session_more st (cut_at d.index d.entry) d.past s.number s was)) (given_joined t s none) l.alive)
 
 all_given_by : (st : Setting) (es : Trace) (s : Session) → Lawful st es → IsSessionOf st es s → s.job ≡ None → (ms : List Submitted) → AreMade es s ms
-    → Each (λ (m : Submitted). is_joining m.call.purpose ≡ false) ms
+    → Every (λ (m : Submitted). is_joining m.call.purpose ≡ false) ms
 all_given_by st es s h its none [] made = tt
 all_given_by st es s h its none (m ∷ ms) made =
     (given_none st es s m ms made.0 (lawful_call st es s m ms made.0 h its) none, all_given_by st es s h its none ms made.1)
 
-none_joining : (w : World) (i : SessionId) (f : Found) → IsKnown w i f → f.session.job ≡ None → Each (λ (m : Submitted). is_joining m.call.purpose ≡ false) (calls_of (trace_of f) f.session)
+none_joining : (w : World) (i : SessionId) (f : Found) → IsKnown w i f → f.session.job ≡ None → Every (λ (m : Submitted). is_joining m.call.purpose ≡ false) (calls_of (trace_of f) f.session)
 none_joining w i f k none =
     all_given_by (setting_in f) (trace_of f) f.session k.lawful k.its none (calls_of (trace_of f) f.session) (all_made (trace_of f) f.session)
 
@@ -70,7 +72,7 @@ given_undecided : (w : World) (i : SessionId) (f : Found) → IsKnown w i f → 
 given_undecided w i f k none =
     ap (λ q. option_and_then (sample_showing f (watched_bytes i f)) q)
     (find_none (λ (c : Course). is_join_call DecidingRead c.call.purpose) (own_courses i f.machine)
-    (each_pair (IsCourseOf f.daemon) (λ (c : Course). is_join_call DecidingRead c.call.purpose ≡ false) (λ (m : Submitted). is_joining m.call.purpose ≡ false)
+    (every_pair (IsCourseOf f.daemon) (λ (c : Course). is_join_call DecidingRead c.call.purpose ≡ false) (λ (m : Submitted). is_joining m.call.purpose ≡ false)
     (λ c m r apart. not_at c.call.purpose (ap (λ (x : Call). is_joining x.purpose) (sym r.call) ∙ apart)) (own_courses i f.machine) (calls_of (trace_of f) f.session) k.pairs
     (none_joining w i f k none)))
 
@@ -178,28 +180,28 @@ verified_by w i f c (inr r) = inr (r.1.sample, r.1.verifying, omega (arith, r.1.
 -- ---- its generation
 
 generation_is : (w : World) (i : SessionId) (f : Found) (k : IsKnown w i f) (g : ℕ) → (f.session.job ≡ None → g ≡ 1)
-    → Each (ClaimHasGeneration g) (calls_of (trace_of f) f.session) → (c : Course) (o : IsOwnCall w i f c) (d : DeltaRec) → record_of c.call.op ≡ Some (DeltaIs d) → d.generation ≡ g
+    → Every (ClaimHasGeneration g) (calls_of (trace_of f) f.session) → (c : Course) (o : IsOwnCall w i f c) (d : DeltaRec) → record_of c.call.op ≡ Some (DeltaIs d) → d.generation ≡ g
 generation_is w i f k g given claims c o d writes =
     let ms : List Submitted = calls_of (trace_of f) f.session in
     let x = o.placed.pairs in
-    each_of (HasGeneration g) ms x.here
+    every_one (HasGeneration g) ms x.here
     (one_generation f.session g given ms (all_shaped (setting_in f) (trace_of f) f.session k.lawful k.its) (all_renew (setting_in f) (trace_of f) f.session k.lawful k.its) claims)
     (subst (λ zs. Contains zs x.here) (sym x.whole) (stands_there x.front x.here x.rest)) d (written_there w i f c o d writes)
 
-claims_given : (g : ℕ) (ms : List Submitted) → Each (λ (m : Submitted). is_joining m.call.purpose ≡ false) ms → Each (ClaimHasGeneration g) ms
+claims_given : (g : ℕ) (ms : List Submitted) → Every (λ (m : Submitted). is_joining m.call.purpose ≡ false) ms → Every (ClaimHasGeneration g) ms
 claims_given g [] h = tt
 claims_given g (m ∷ ms) h = (λ at. absurd (true_is_false (sym (ranks_of ClaimWrite m.call.purpose at).0 ∙ h.0)), claims_given g ms h.1)
 
-claims_one : (w : World) (i : SessionId) (f : Found) (k : IsKnown w i f) (first : Course) (r : HasRenewed w i f first) → Each (ClaimHasGeneration r.claimed.generation) (calls_of (trace_of f) f.session)
+claims_one : (w : World) (i : SessionId) (f : Found) (k : IsKnown w i f) (first : Course) (r : HasRenewed w i f first) → Every (ClaimHasGeneration r.claimed.generation) (calls_of (trace_of f) f.session)
 claims_one w i f k first r =
-    each_from (ClaimHasGeneration r.claimed.generation) (calls_of (trace_of f) f.session) (λ x there at d is.
+    every_from (ClaimHasGeneration r.claimed.generation) (calls_of (trace_of f) f.session) (λ x there at d is.
     let same = unique ClaimWrite (λ e. omega (arith, e)) (calls_of (trace_of f) f.session) (places w i f k) x r.call there r.inside at r.call_claims in
     ap (λ (y : DeltaRec). y.generation) (one_value d r.claimed (delta_written r.call) (ap (λ (y : Submitted). delta_written y) (sym same) ∙ is) r.written))
 
 not_given : (w : World) (i : SessionId) (f : Found) (k : IsKnown w i f) (first : Course) (r : HasRenewed w i f first) → f.session.job ≡ None → ⊥
 not_given w i f k first r none =
     true_is_false (sym (ranks_of ClaimWrite r.call.call.purpose r.call_claims).0
-    ∙ each_of (λ (m : Submitted). is_joining m.call.purpose ≡ false) (calls_of (trace_of f) f.session) r.call (none_joining w i f k none) r.inside)
+    ∙ every_one (λ (m : Submitted). is_joining m.call.purpose ≡ false) (calls_of (trace_of f) f.session) r.call (none_joining w i f k none) r.inside)
 
 same_record : (o : Option Rec) (a b : DeltaRec) → o ≡ Some (DeltaIs a) → o ≡ Some (DeltaIs b) → a ≡ b
 same_record o a b p q = some_value a b (ap (λ x. option_and_then delta_of_record x) (sym p ∙ q))
@@ -235,9 +237,9 @@ rises_above w i f c o d writes k e has wrote lt =
     let ms : List Submitted = calls_of (trace_of f) f.session in
     let x = o.placed in
     let all = all_rise f.session ms (all_shaped (setting_in f) (trace_of f) f.session o.known.lawful o.known.its) (places w i f o.known) in
-    let here = tail_at Rises x.pairs.front x.pairs.here x.pairs.rest (subst (λ zs. EachTail Rises zs) x.pairs.whole all) in
+    let here = tail_at Rises x.pairs.front x.pairs.here x.pairs.rest (subst (λ zs. EveryTail Rises zs) x.pairs.whole all) in
     let m = partner (IsCourseOf f.daemon) x.older x.pairs.rest k x.pairs.rests (x.order k has lt) in
-    each_of (HasLess d.seq) x.pairs.rest m.0 (here d (written_there w i f c o d writes)) m.1 e
+    every_one (HasLess d.seq) x.pairs.rest m.0 (here d (written_there w i f c o d writes)) m.1 e
     (ap (λ (y : Call). option_and_then delta_of_record (record_of y.op)) m.2.call ∙ ap (λ q. option_and_then delta_of_record q) wrote)
 
 -- ---- the law

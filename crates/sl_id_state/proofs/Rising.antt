@@ -1,7 +1,9 @@
 -- The delta records that a session writes: one generation, and each seq above all before.
+use Rattle.sl_run_law.specs.Fates.{Every}
+use Rattle.sl_landing_law.proofs.Listing.{every_one}
 use Rattle.sl_id_state.proofs.Claiming.{done_of}
 use Rattle.sl_id_state.proofs.Keeping.{IsLawfulCall, lawful_call}
-use Rattle.sl_id_state.proofs.Listing.{Each, EachTail, each_from, each_of, then_some}
+use Rattle.sl_id_state.proofs.Listing.{EveryTail, every_from, then_some}
 use Rattle.sl_place_law.proofs.Finding.{filtered, found_in, partner_of}
 use Rattle.sl_id_state.proofs.Living.{InPlace, Precede, answered_old, rank, rank_at}
 use Rattle.sl_id_state.proofs.Steps.{ranks_of, twice}
@@ -264,11 +266,11 @@ shaped_at st es s h its m older x d is apart =
       | inr next ↦ inr (of_last st es s m older x d l next)
     ]
 
-all_shaped_by : (st : Setting) (es : Trace) (s : Session) → Lawful st es → IsSessionOf st es s → (ms : List Submitted) → AreMade es s ms → EachTail (Shaped s) ms
+all_shaped_by : (st : Setting) (es : Trace) (s : Session) → Lawful st es → IsSessionOf st es s → (ms : List Submitted) → AreMade es s ms → EveryTail (Shaped s) ms
 all_shaped_by st es s h its [] made = tt
 all_shaped_by st es s h its (m ∷ ms) made = (shaped_at st es s h its m ms made.0, all_shaped_by st es s h its ms made.1)
 
-pub all_shaped : (st : Setting) (es : Trace) (s : Session) → Lawful st es → IsSessionOf st es s → EachTail (Shaped s) (calls_of es s)
+pub all_shaped : (st : Setting) (es : Trace) (s : Session) → Lawful st es → IsSessionOf st es s → EveryTail (Shaped s) (calls_of es s)
 all_shaped st es s h its = all_shaped_by st es s h its (calls_of es s) (all_made es s)
 
 -- A first renewal writes.
@@ -285,14 +287,14 @@ renews_by st t s n (Joining j ClaimWrite) law is = absurd (false_is_true is)
 renews_by st t s n (Joining j VerifyRead) law is = absurd (false_is_true is)
 renews_by st t s n p law is = absurd (false_is_true is)
 
-all_renew_by : (st : Setting) (es : Trace) (s : Session) → Lawful st es → IsSessionOf st es s → (ms : List Submitted) → AreMade es s ms → Each Renews ms
+all_renew_by : (st : Setting) (es : Trace) (s : Session) → Lawful st es → IsSessionOf st es s → (ms : List Submitted) → AreMade es s ms → Every Renews ms
 all_renew_by st es s h its [] made = tt
 all_renew_by st es s h its (m ∷ ms) made = (
   λ is. renews_by st (front_at made.0) s (new_call (length made.0.past) made.0.entry.reading m.call) m.call.purpose (lawful_call st es s m ms made.0 h its).law is,
   all_renew_by st es s h its ms made.1,
 )
 
-pub all_renew : (st : Setting) (es : Trace) (s : Session) → Lawful st es → IsSessionOf st es s → Each Renews (calls_of es s)
+pub all_renew : (st : Setting) (es : Trace) (s : Session) → Lawful st es → IsSessionOf st es s → Every Renews (calls_of es s)
 all_renew st es s h its = all_renew_by st es s h its (calls_of es s) (all_made es s)
 
 -- ---- one generation
@@ -322,28 +324,28 @@ last_none (x ∷ ms) none m there d is = by (λ rest old. last_none ms rest m ol
 given_one : (s : Session) (g : ℕ) → s.job ≡ None → g ≡ 1 → given_number s ≡ g
 given_one s g none one = ap (λ (o : Option ℕ). elim o as (λ z. ℕ) [ None ↦ 1 | Some j ↦ 0 ]) none ∙ sym one
 
-last_generation : (s : Session) (g : ℕ) (older : List Submitted) → (s.job ≡ None → g ≡ 1) → Each Renews older → Each (HasGeneration g) older → (s.job ≡ None) ⊎ HasFirst older
+last_generation : (s : Session) (g : ℕ) (older : List Submitted) → (s.job ≡ None → g ≡ 1) → Every Renews older → Every (HasGeneration g) older → (s.job ≡ None) ⊎ HasFirst older
     → generation_in s older ≡ g
 last_generation s g older given renews each joined = by (last_delta older) refl joined where
   by : (o : Option DeltaRec) → last_delta older ≡ o → (s.job ≡ None) ⊎ HasFirst older → option_map_or (λ (e : DeltaRec). e.generation) o (given_number s) ≡ g
-  by (Some e) is j = let r = last_inside older e is in each_of (HasGeneration g) older r.0 each r.1 e r.2
+  by (Some e) is j = let r = last_inside older e is in every_one (HasGeneration g) older r.0 each r.1 e r.2
   by None is (inl none) = given_one s g none (given none)
   by None is (inr first) =
-      let w = each_of Renews older first.0 renews first.1 first.2 in
+      let w = every_one Renews older first.0 renews first.1 first.2 in
       absurd (last_none older is first.0 first.1 w.0 w.1)
 
-pub one_generation : (s : Session) (g : ℕ) → (s.job ≡ None → g ≡ 1) → (ms : List Submitted) → EachTail (Shaped s) ms → Each Renews ms → Each (ClaimHasGeneration g) ms
-    → Each (HasGeneration g) ms
+pub one_generation : (s : Session) (g : ℕ) → (s.job ≡ None → g ≡ 1) → (ms : List Submitted) → EveryTail (Shaped s) ms → Every Renews ms → Every (ClaimHasGeneration g) ms
+    → Every (HasGeneration g) ms
 one_generation s g given [] shaped renews claims = tt
 one_generation s g given (m ∷ ms) shaped renews claims =
     let rest = one_generation s g given ms shaped.1 renews.1 claims.1 in
     (λ d is. by rest d is (is_join_call ClaimWrite m.call.purpose) refl, rest)
   where
-    of_kind : Each (HasGeneration g) ms → (d : DeltaRec) → (OfClaim ms d × (is_join_call FirstRenewal m.call.purpose ≡ true)) ⊎ OfLast s ms d → d.generation ≡ g
-    of_kind rest d (inl c) = c.0.generation ∙ each_of (HasGeneration g) ms c.0.call rest c.0.inside c.0.claim c.0.written
+    of_kind : Every (HasGeneration g) ms → (d : DeltaRec) → (OfClaim ms d × (is_join_call FirstRenewal m.call.purpose ≡ true)) ⊎ OfLast s ms d → d.generation ≡ g
+    of_kind rest d (inl c) = c.0.generation ∙ every_one (HasGeneration g) ms c.0.call rest c.0.inside c.0.claim c.0.written
     of_kind rest d (inr l) = l.generation ∙ last_generation s g ms given renews.1 rest l.joined
 
-    by : Each (HasGeneration g) ms → (d : DeltaRec) → delta_written m ≡ Some d → (b : Bool) → is_join_call ClaimWrite m.call.purpose ≡ b → d.generation ≡ g
+    by : Every (HasGeneration g) ms → (d : DeltaRec) → delta_written m ≡ Some d → (b : Bool) → is_join_call ClaimWrite m.call.purpose ≡ b → d.generation ≡ g
     by rest d is true at = claims.0 at d is
     by rest d is false at = of_kind rest d (shaped.0 d is at)
 
@@ -353,10 +355,10 @@ abbrev pub HasLess : ℕ → Submitted → Type 0
 HasLess n r = (e : DeltaRec) → delta_written r ≡ Some e → e.seq < n
 
 abbrev pub Rises : Submitted → List Submitted → Type 0
-Rises m older = (d : DeltaRec) → delta_written m ≡ Some d → Each (HasLess d.seq) older
+Rises m older = (d : DeltaRec) → delta_written m ≡ Some d → Every (HasLess d.seq) older
 
 -- One call of a step that comes once.
-pub unique : (step : JoinStep) → (rank_at step ≡ 2 → ⊥) → (ms : List Submitted) → EachTail InPlace ms → (a b : Submitted) → Contains ms a → Contains ms b
+pub unique : (step : JoinStep) → (rank_at step ≡ 2 → ⊥) → (ms : List Submitted) → EveryTail InPlace ms → (a b : Submitted) → Contains ms a → Contains ms b
     → is_join_call step a.call.purpose ≡ true → is_join_call step b.call.purpose ≡ true → a ≡ b
 unique step once [] places a b there here p q = absurd (contains_none a there)
 unique step once (x ∷ xs) places a b there here p q =
@@ -366,7 +368,7 @@ unique step once (x ∷ xs) places a b there here p q =
     clash y z is behind r t =
         let first : is_join_call step x.call.purpose ≡ true = ap (λ (u : Submitted). is_join_call step u.call.purpose) is ∙ r in
         let k = ranks_of step x.call.purpose first in
-        twice z x (rank_at step) (ranks_of step z.call.purpose t).1 k.1 once (each_of (Precede x) xs z (places.0 k.0).below behind)
+        twice z x (rank_at step) (ranks_of step z.call.purpose t).1 k.1 once (every_one (Precede x) xs z (places.0 k.0).below behind)
 
     by : (Contains xs a → Contains xs b → a ≡ b) → (x ≡ a) ⊎ Contains xs a → (x ≡ b) ⊎ Contains xs b → a ≡ b
     by rest (inl i) (inl j) = sym i ∙ j
@@ -374,16 +376,16 @@ unique step once (x ∷ xs) places a b there here p q =
     by rest (inr i) (inl j) = absurd (clash b a j i q p)
     by rest (inr i) (inr j) = rest i j
 
-less_last : (d : DeltaRec) (ms : List Submitted) (n : ℕ) → d.seq < n → Each (HasLess d.seq) ms → Each (HasLess n) ms
+less_last : (d : DeltaRec) (ms : List Submitted) (n : ℕ) → d.seq < n → Every (HasLess d.seq) ms → Every (HasLess n) ms
 less_last d [] n lt h = tt
 less_last d (m ∷ ms) n lt h = (λ e is. omega (arith, lt, h.0 e is), less_last d ms n lt h.1)
 
 -- What continues the last is above all.
-above_last : (s : Session) (ms : List Submitted) → EachTail Rises ms → (n : ℕ) → n ≡ seq_in s ms + 1 → Each (HasLess n) ms
+above_last : (s : Session) (ms : List Submitted) → EveryTail Rises ms → (n : ℕ) → n ≡ seq_in s ms + 1 → Every (HasLess n) ms
 above_last s [] rises n is = tt
 above_last s (m ∷ ms) rises n is = by (λ same. above_last s ms rises.1 n same) (delta_written m) refl is where
-  by : (n ≡ seq_in s ms + 1 → Each (HasLess n) ms) → (o : Option DeltaRec) → delta_written m ≡ o
-      → n ≡ option_map_or (λ (x : DeltaRec). x.seq) (last_by o (last_delta ms)) (given_number s) + 1 → Each (HasLess n) (m ∷ ms)
+  by : (n ≡ seq_in s ms + 1 → Every (HasLess n) ms) → (o : Option DeltaRec) → delta_written m ≡ o
+      → n ≡ option_map_or (λ (x : DeltaRec). x.seq) (last_by o (last_delta ms)) (given_number s) + 1 → Every (HasLess n) (m ∷ ms)
   by rest (Some d) its at =
       let lt : d.seq < n = omega (arith, at) in (
         λ e h. let same : d.seq ≡ e.seq = ap (λ (x : DeltaRec). x.seq) (one_value d e (delta_written m) its h) in omega (arith, same, lt),
@@ -419,37 +421,37 @@ rank_under m x n is once (inl lt) = omega (arith, lt, is)
 rank_under m x n is once (inr both) = absurd (once (sym is ∙ both.1))
 
 -- Nothing is written before a claim.
-before_claim : (m : Submitted) (ms : List Submitted) → InPlace m ms → is_join_call ClaimWrite m.call.purpose ≡ true → (n : ℕ) → Each (HasLess n) ms
+before_claim : (m : Submitted) (ms : List Submitted) → InPlace m ms → is_join_call ClaimWrite m.call.purpose ≡ true → (n : ℕ) → Every (HasLess n) ms
 before_claim m ms place at n =
     let k = ranks_of ClaimWrite m.call.purpose at in
     let p = place k.0 in
-    each_from (HasLess n) ms (λ x there e is.
+    every_from (HasLess n) ms (λ x there e is.
     absurd (early_step x.call.purpose (is_write x.call.op) (done_of ms x p.done there).0
-    (rank_under m x 4 k.1 (λ z. omega (arith, z)) (each_of (Precede m) ms x p.below there)) (writing_by x.call.op e is)))
+    (rank_under m x 4 k.1 (λ z. omega (arith, z)) (every_one (Precede m) ms x p.below there)) (writing_by x.call.op e is)))
 
 -- Only the claim is written before the first renewal.
-before_first : (m : Submitted) (ms : List Submitted) → InPlace m ms → EachTail InPlace ms → is_join_call FirstRenewal m.call.purpose ≡ true → (d : DeltaRec) → OfClaim ms d
-    → Each (HasLess d.seq) ms
+before_first : (m : Submitted) (ms : List Submitted) → InPlace m ms → EveryTail InPlace ms → is_join_call FirstRenewal m.call.purpose ≡ true → (d : DeltaRec) → OfClaim ms d
+    → Every (HasLess d.seq) ms
 before_first m ms place places at d c =
     let k = ranks_of FirstRenewal m.call.purpose at in
     let p = place k.0 in
-    each_from (HasLess d.seq) ms (λ x there e is.
+    every_from (HasLess d.seq) ms (λ x there e is.
     let claims = writer_step x.call.purpose (is_write x.call.op) (done_of ms x p.done there).0
-    (rank_under m x 6 k.1 (λ z. omega (arith, z)) (each_of (Precede m) ms x p.below there)) (writing_by x.call.op e is) in
+    (rank_under m x 6 k.1 (λ z. omega (arith, z)) (every_one (Precede m) ms x p.below there)) (writing_by x.call.op e is) in
     let one = unique ClaimWrite (λ z. omega (arith, z)) ms places x c.call there c.inside claims c.at in
     let same : e.seq ≡ c.claim.seq = ap (λ (y : DeltaRec). y.seq) (one_value e c.claim (delta_written c.call) (ap (λ (y : Submitted). delta_written y) (sym one) ∙ is) c.written) in
     omega (arith, same, c.seq))
 
-pub all_rise : (s : Session) (ms : List Submitted) → EachTail (Shaped s) ms → EachTail InPlace ms → EachTail Rises ms
+pub all_rise : (s : Session) (ms : List Submitted) → EveryTail (Shaped s) ms → EveryTail InPlace ms → EveryTail Rises ms
 all_rise s [] shaped places = tt
 all_rise s (m ∷ ms) shaped places =
     let rest = all_rise s ms shaped.1 places.1 in
     (λ d is. by rest d is (is_join_call ClaimWrite m.call.purpose) refl, rest)
   where
-    of_kind : EachTail Rises ms → (d : DeltaRec) → (OfClaim ms d × (is_join_call FirstRenewal m.call.purpose ≡ true)) ⊎ OfLast s ms d → Each (HasLess d.seq) ms
+    of_kind : EveryTail Rises ms → (d : DeltaRec) → (OfClaim ms d × (is_join_call FirstRenewal m.call.purpose ≡ true)) ⊎ OfLast s ms d → Every (HasLess d.seq) ms
     of_kind rest d (inl c) = before_first m ms places.0 places.1 c.1 d c.0
     of_kind rest d (inr l) = above_last s ms rest d.seq l.seq
 
-    by : EachTail Rises ms → (d : DeltaRec) → delta_written m ≡ Some d → (b : Bool) → is_join_call ClaimWrite m.call.purpose ≡ b → Each (HasLess d.seq) ms
+    by : EveryTail Rises ms → (d : DeltaRec) → delta_written m ≡ Some d → (b : Bool) → is_join_call ClaimWrite m.call.purpose ≡ b → Every (HasLess d.seq) ms
     by rest d is true at = before_claim m ms places.0 at d.seq
     by rest d is false at = of_kind rest d (shaped.0 d is at)

@@ -1,10 +1,12 @@
 -- A step of a joining on the machine: it comes once, and what its laws say of answered calls is true of calls of the machine that were
 -- answered before it.
+use Rattle.sl_run_law.specs.Fates.{Every}
+use Rattle.sl_landing_law.proofs.Listing.{every_one}
 use Rattle.sl_session_law.proofs.Joining.{both}
 use Rattle.sl_course_law.specs.Stamping.{AnswersAgree, IsAnsweredAs, IsCourseOf}
 use Rattle.sl_id_state.proofs.Bridge.{Grounds, IsKnown, IsPlaced, step_agrees}
 use Rattle.sl_id_state.proofs.Keeping.{IsOwnCall, step_is}
-use Rattle.sl_id_state.proofs.Listing.{Each, EachTail, each_of, each_pair, find_here, stands_there}
+use Rattle.sl_id_state.proofs.Listing.{EveryTail, every_pair, find_here, stands_there}
 use Rattle.sl_place_law.proofs.Finding.{filtered, partner_of}
 use Rattle.sl_id_state.proofs.Living.{InPlace, Precede, in_place, is_joining, rank, rank_at}
 use Rattle.sl_id_state.proofs.Tails.{IsLater, front_at}
@@ -44,18 +46,18 @@ pub twice : (x y : Submitted) (n : ℕ) → rank x.call.purpose ≡ n → rank y
 twice x y n a b once (inl lt) = omega (arith, a, b, lt)
 twice x y n a b once (inr both) = once (sym b ∙ both.1)
 
-other_steps : (step : JoinStep) (front : List Submitted) (here : Submitted) (rest : List Submitted) → EachTail InPlace (front ++ here ∷ rest)
-    → is_join_call step here.call.purpose ≡ true → (rank_at step ≡ 2 → ⊥) → Each (λ (y : Submitted). is_join_call step y.call.purpose ≡ false) front
+other_steps : (step : JoinStep) (front : List Submitted) (here : Submitted) (rest : List Submitted) → EveryTail InPlace (front ++ here ∷ rest)
+    → is_join_call step here.call.purpose ≡ true → (rank_at step ≡ 2 → ⊥) → Every (λ (y : Submitted). is_join_call step y.call.purpose ≡ false) front
 other_steps step [] here rest h is once = tt
 other_steps step (y ∷ front) here rest h is once = (
   is_false (is_join_call step y.call.purpose) (λ same.
       let r = ranks_of step y.call.purpose same in
       twice here y (rank_at step) (ranks_of step here.call.purpose is).1 r.1 once
-      (each_of (Precede y) (front ++ here ∷ rest) here (h.0 r.0).below (stands_there front here rest))),
+      (every_one (Precede y) (front ++ here ∷ rest) here (h.0 r.0).below (stands_there front here rest))),
   other_steps step front here rest h.1 is once,
 )
 
-pub places : (w : World) (i : SessionId) (f : Found) → IsKnown w i f → EachTail InPlace (calls_of (trace_of f) f.session)
+pub places : (w : World) (i : SessionId) (f : Found) → IsKnown w i f → EveryTail InPlace (calls_of (trace_of f) f.session)
 places w i f k = in_place (setting_in f) (trace_of f) f.session k.lawful k.its
 
 pub only : (w : World) (i : SessionId) (f : Found) (c : Course) → IsOwnCall w i f c → (step : JoinStep) → (rank_at step ≡ 2 → ⊥) → is_join_call step c.call.purpose ≡ true
@@ -64,10 +66,10 @@ only w i f c o step once is =
     let x = o.placed in
     let here : is_join_call step x.pairs.here.call.purpose ≡ true = ap (λ (y : Call). is_join_call step y.purpose) x.pairs.this.call ∙ is in
     let none =
-    other_steps step x.pairs.front x.pairs.here x.pairs.rest (subst (λ ms. EachTail InPlace ms) x.pairs.whole (places w i f o.known)) here once in
+    other_steps step x.pairs.front x.pairs.here x.pairs.rest (subst (λ ms. EveryTail InPlace ms) x.pairs.whole (places w i f o.known)) here once in
     ap (λ cs. find (λ (y : Course). is_join_call step y.call.purpose) cs) x.whole
     ∙ find_here (λ (y : Course). is_join_call step y.call.purpose) x.newer c x.older
-    (each_pair (IsCourseOf f.daemon) (λ (y : Course). is_join_call step y.call.purpose ≡ false) (λ (m : Submitted). is_join_call step m.call.purpose ≡ false)
+    (every_pair (IsCourseOf f.daemon) (λ (y : Course). is_join_call step y.call.purpose ≡ false) (λ (m : Submitted). is_join_call step m.call.purpose ≡ false)
     (λ y m r no. sym (step_agrees f.daemon step y m r) ∙ no) x.newer x.pairs.front x.pairs.fronts none)
     is
 

@@ -1,6 +1,6 @@
--- Each call of a session with those that stood before it: the laws of its entry speak of the same calls, answered less.
+-- Every call of a session with those that stood before it: the laws of its entry speak of the same calls, answered less.
 use Rattle.sl_course_law.specs.Stamping.{Pairwise}
-use Rattle.sl_id_state.proofs.Listing.{EachTail}
+use Rattle.sl_id_state.proofs.Listing.{EveryTail}
 use Rattle.sl_law.specs.Saying.{cut_at}
 use Rattle.sl_session_law.proofs.Growing.{mine_marked, mine_next, other_next, to_all}
 use Rattle.sl_session_law.proofs.Making.{SameCall, same_answered}
@@ -86,7 +86,7 @@ abbrev pub front_at : {es : Trace} {s : Session} {m : Submitted} {older : List S
 front_at d = cut_at d.index d.entry ∷ d.past
 
 abbrev pub AreMade : Trace → Session → List Submitted → Type 0
-AreMade es s ms = EachTail (IsMadeAfter es s) ms
+AreMade es s ms = EveryTail (IsMadeAfter es s) ms
 
 made_later : (es : Trace) (e : Entry) (s : Session) (m n : Submitted) (ms ns : List Submitted) → IsLater m n → AreLater ms ns → IsMadeAfter es s n ns → IsMadeAfter (e ∷ es) s m ms
 made_later es e s m n ms ns one all d =
