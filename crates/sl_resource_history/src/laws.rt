@@ -1,9 +1,28 @@
-//! Test.
+//! What a lawful run promises of the history of each resource.
 
-ghost use Rattle.sl_resource_history.specs.Histories.{history_in};
-ghost use Rattle.std.specs.Prelude.{◌≡◌};
+ghost use Rattle.sl_resource_history.specs.Promises.{HistoriesAreLedByWinners, HistoriesAreRegisters, HistoriesGoUp, HistoriesKeepBallots, HistoriesNumberAbove};
 
-/// Test.
-pub fn test()
-    ensures { (p : Rattle.sl_run.specs.Worlds.Program) → (h : Rattle.sl_run.specs.declared.header.Header.Header) → (a : Rattle.sl_trace.specs.declared.effects.Spot.Spot) → history_in p h Rattle.std.specs.Prelude.[] a Rattle.std.specs.Prelude.[] ≡ history_in p h Rattle.std.specs.Prelude.[] a Rattle.std.specs.Prelude.[] }
+/// Its blocks are registers.
+pub fn histories_are_registers()
+    ensures { HistoriesAreRegisters }
+{}
+
+/// Each write is one of a ballot.
+pub fn histories_keep_ballots()
+    ensures { HistoriesKeepBallots }
+{}
+
+/// No ballot goes below the own block.
+pub fn histories_go_up()
+    ensures { HistoriesGoUp }
+{}
+
+/// Numbers of ballots are above 0.
+pub fn histories_number_above()
+    ensures { HistoriesNumberAbove }
+{}
+
+/// Leaders are written by winners.
+pub fn histories_are_led_by_winners()
+    ensures { HistoriesAreLedByWinners }
 {}
