@@ -4,3 +4,7 @@ pub mod LandingFrames
 pub mod StateFrames
 pub mod FindingFrames
 pub mod WriterFrames
+pub mod Members
+pub mod Sectors
+pub mod Holders
+pub mod Starts
