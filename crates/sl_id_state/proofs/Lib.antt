@@ -22,3 +22,7 @@ pub mod Renewing
 pub mod Begun
 pub mod Following
 pub mod Proven
+pub mod Members
+pub mod Sectors
+pub mod Holders
+pub mod Starts

@@ -1,16 +1,16 @@
--- What a lawful run makes of an id: from a start it goes on by the steps of an id, within the bounds that watchdogs keep.
+-- What the worlds of a lawful run make of an id: at first a start, and always within the bounds that watchdogs keep.
 use Rattle.sl_area.specs.Places.{delta_offset}
 use Rattle.sl_id_state.specs.IdStates.{id_state}
 use Rattle.sl_ids.specs.Guards.{terms_of}
-use Rattle.sl_ids.specs.Runs.{IsBounded, IsStart, Later, Reached}
+use Rattle.sl_ids.specs.Runs.{IsBounded, IsStart}
 use Rattle.sl_run.specs.Headers.{IsHeader}
 use Rattle.sl_run.specs.Runs.{Happening}
 use Rattle.sl_run.specs.Safety.{LawfulRun, world_at}
-use Rattle.sl_run.specs.Worlds.{Program, World, world_with}
+use Rattle.sl_run.specs.Worlds.{Program, world_with}
 use Rattle.sl_run.specs.declared.header.Header.{Header}
 use Rattle.sl_run.specs.declared.header.LockspaceLine.{LockspaceLine}
 use Rattle.sl_sector.specs.Spelling.{IsDigest}
-use Rattle.std.specs.Prelude.{Contains, List, ℕ, ◌++◌, ◌≡◌, ◌≤◌}
+use Rattle.std.specs.Prelude.{Contains, List, ℕ, ◌≡◌, ◌≤◌}
 
 -- The place of an id of a lockspace of the header.
 pub record IsIdPlace (p : Program) (h : Header) (path : List ℕ) (offset : ℕ) : Type 0 where
@@ -30,14 +30,3 @@ IdsStart = (p : Program) (h : Header) (path : List ℕ) (offset : ℕ) → IsHea
 abbrev pub IdsAreBounded : Type 0
 IdsAreBounded = (p : Program) (h : Header) (xs : List Happening) (path : List ℕ) (offset : ℕ) → LawfulRun p h xs
     → IsBounded (terms_of h.timing) (id_state (world_at p h xs) path offset)
-
--- From front to front it goes on by its steps.
-abbrev pub IdsGoOn : Type 0
-IdsGoOn = (p : Program) (h : Header) (now rest : List Happening) (path : List ℕ) (offset : ℕ) → LawfulRun p h (now ++ rest)
-    → IsIdPlace p h path offset
-    → Later (terms_of h.timing) (id_state (world_at p h now) path offset) (id_state (world_at p h (now ++ rest)) path offset)
-
--- So it is reached.
-abbrev pub IdsAreReached : Type 0
-IdsAreReached = (p : Program) (h : Header) (xs : List Happening) (path : List ℕ) (offset : ℕ) → LawfulRun p h xs → IsIdPlace p h path offset
-    → Reached (terms_of h.timing) (id_state (world_at p h xs) path offset)

@@ -1,0 +1,1 @@
+//! What a lawful run makes of an id, from its start on.
