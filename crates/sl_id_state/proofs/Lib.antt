@@ -4,3 +4,4 @@ pub mod LandingFrames
 pub mod StateFrames
 pub mod FindingFrames
 pub mod WriterFrames
+pub mod Registered
