@@ -5,3 +5,5 @@ pub mod StateFrames
 pub mod FindingFrames
 pub mod WriterFrames
 pub mod Registered
+pub mod JoinOrder
+pub mod Beside
