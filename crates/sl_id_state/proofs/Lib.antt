@@ -7,3 +7,4 @@ pub mod WriterFrames
 pub mod Registered
 pub mod JoinOrder
 pub mod Beside
+pub mod Bounding
