@@ -1,4 +1,4 @@
--- The watchdogs keep an id's bounds: whoever may still land a claim, or has verified one and is not over, may act by its connection.
+-- From when the connection of a session of a lawful run counts, and on which daemon; and that one which has not verified has not joined.
 use Rattle.sl_clocks.specs.Points.{Point}
 use Rattle.sl_clocks.specs.Watchdog.{Connected, MayAct}
 use Rattle.sl_course_law.specs.Mirrors.{Mirrors, since_restart}
@@ -50,11 +50,11 @@ use Rattle.std.specs.Prelude.{Bool, Contains, List, None, Option, Some, [], cond
 
 -- ---- options and lists
 
-after_value : {A B : Type 0} (f : A → Option B) (o : Option A) → is_some (option_and_then f o) ≡ true → (a : A) × (o ≡ Some a)
+pub after_value : {A B : Type 0} (f : A → Option B) (o : Option A) → is_some (option_and_then f o) ≡ true → (a : A) × (o ≡ Some a)
 after_value f None h = absurd (false_is_true h)
 after_value f (Some a) h = (a, refl)
 
-then_value : {A B : Type 0} (f : A → Option B) (o : Option A) (b : B) → option_and_then f o ≡ Some b → (a : A) × (o ≡ Some a)
+pub then_value : {A B : Type 0} (f : A → Option B) (o : Option A) (b : B) → option_and_then f o ≡ Some b → (a : A) × (o ≡ Some a)
 then_value f None b h = absurd (none_some b h)
 then_value f (Some a) b h = (a, refl)
 
@@ -68,11 +68,11 @@ find_fails : {A : Type 0} (p : A → Bool) (xs : List A) (d : A) → find p xs �
 find_fails p [] d none there = absurd (contains_none d there)
 find_fails p (x ∷ xs) d none there = find_fails_by p x xs d (p x) refl none (contains_cases x xs d there) (λ left inside. find_fails p xs d left inside)
 
-or_first : (a b : Bool) → a ≡ true → (a || b) ≡ true
+pub or_first : (a b : Bool) → a ≡ true → (a || b) ≡ true
 or_first true b h = refl
 or_first false b h = absurd (false_is_true h)
 
-both_true : (a b : Bool) → a ≡ true → b ≡ true → (a && b) ≡ true
+pub both_true : (a b : Bool) → a ≡ true → b ≡ true → (a && b) ≡ true
 both_true true b f g = g
 both_true false b f g = absurd (false_is_true f)
 
@@ -93,7 +93,7 @@ since_is w i f b x since same =
     (same_number_by x.number f.daemon.number same ∙ b.number) b.numbered)
 
 -- One that runs.
-running_since : (w : World) (i : SessionId) (f : Found) → IsBeside w i f → runs_still f ≡ true → since_restart f.machine ≡ Some f.daemon
+pub running_since : (w : World) (i : SessionId) (f : Found) → IsBeside w i f → runs_still f ≡ true → since_restart f.machine ≡ Some f.daemon
 running_since w i f b runs =
     let d = some_is_true (λ (d : Daemon). d.number == f.daemon.number) f.machine.daemon runs in
     since_is w i f b d.0 (b.mirrors.running d.0 d.1) d.2
@@ -103,7 +103,7 @@ kept_by true h is = true_is_false is
 kept_by false h is = true_is_false h
 
 -- One whose machine was not reset.
-kept_since : (w : World) (i : SessionId) (f : Found) → IsBeside w i f → was_reset f ≡ false → since_restart f.machine ≡ Some f.daemon
+pub kept_since : (w : World) (i : SessionId) (f : Found) → IsBeside w i f → was_reset f ≡ false → since_restart f.machine ≡ Some f.daemon
 kept_since w i f b kept_is = by (since_restart f.machine) refl where
   lost : (since_restart f.machine ≡ Some f.daemon → ⊥) → ⊥
   lost never = kept_by (is_empty (resets_after f.machine f.daemon.begun.step)) kept_is (b.mirrors.lost f.daemon b.has never)
@@ -128,7 +128,7 @@ stamp_for d joined renewal registering =
     ]
 
 -- In a joining it is that of the newest call that was made with a registering.
-stamp_is : (w : World) (i : SessionId) (f : Found) → IsBeside w i f → joined_after (trace_of f) f.session ≡ None → is_covered (trace_of f) f.session ≡ true
+pub stamp_is : (w : World) (i : SessionId) (f : Found) → IsBeside w i f → joined_after (trace_of f) f.session ≡ None → is_covered (trace_of f) f.session ≡ true
     → (c : Course) (m : Submitted) → IsCourseOf f.daemon c m → registering_call (calls_of (trace_of f) f.session) ≡ Some m
     → acting_stamp f.daemon f.session ≡ Some c.made
 stamp_is w i f b none covered c m r found =
@@ -138,19 +138,19 @@ stamp_is w i f b none covered c m r found =
     ∙ r.made
 
 -- A point of this moment, by which a session may act.
-abbrev IsGuardedAt : TimingNumbers → ℕ → ℕ → Type 0
+abbrev pub IsGuardedAt : TimingNumbers → ℕ → ℕ → Type 0
 IsGuardedAt t now k = (q : Point) × (q.moment ≡ k) × MayAct t q now
 
-acts_at : (h : Header) (w : World) (f : Found) (x : Stamp) → ActsStill h w f → acting_stamp f.daemon f.session ≡ Some x → IsGuardedAt h.timing w.moment x.moment
+pub acts_at : (h : Header) (w : World) (f : Found) (x : Stamp) → ActsStill h w f → acting_stamp f.daemon f.session ≡ Some x → IsGuardedAt h.timing w.moment x.moment
 acts_at h w f x a from =
     (point_of a.stamp, ap (λ (s : Stamp). s.moment) (one_value a.stamp x (acting_stamp f.daemon f.session) a.from from), a.acts)
 
-by_connection : (h : Header) (w : World) (f : Found) → StandsConnected h w f → ActsStill h w f
+pub by_connection : (h : Header) (w : World) (f : Found) → StandsConnected h w f → ActsStill h w f
 by_connection h w f s = record { stamp = s.stamp; from = s.from; acts = Connected (point_of f.machine.kept) s.connected }
 
 -- ---- a session that has not verified has not joined
 
-jobless : (es : Trace) (s : Session) → s.job ≡ None → (k : ℕ) × (joined_after es s ≡ Some k)
+pub jobless : (es : Trace) (s : Session) → s.job ≡ None → (k : ℕ) × (joined_after es s ≡ Some k)
 jobless es s none = by s.job none refl where
   by : (o : Option ℕ) → o ≡ None → s.job ≡ o → (k : ℕ) × (joined_after es s ≡ Some k)
   by None is its = (0, rw its refl)
@@ -209,7 +209,7 @@ joined_has_verified st (e ∷ past) s j k h its job joined none =
     true_is_false (sym law.verified.1
     ∙ find_fails (λ (x : Submitted). is_join_call VerifyRead x.call.purpose) (calls_of es s) law.read none (call_inside es s law.read inside read.1))
 
-not_joined : (w : World) (i : SessionId) (f : Found) → IsBeside w i f → (m : Submitted) → join_call (calls_of (trace_of f) f.session) DecidingRead ≡ Some m
+pub not_joined : (w : World) (i : SessionId) (f : Found) → IsBeside w i f → (m : Submitted) → join_call (calls_of (trace_of f) f.session) DecidingRead ≡ Some m
     → join_call (calls_of (trace_of f) f.session) VerifyRead ≡ None → joined_after (trace_of f) f.session ≡ None
 not_joined w i f b m decides none = by (joined_after (trace_of f) f.session) refl where
   joins : (k : ℕ) → joined_after (trace_of f) f.session ≡ Some k → (o : Option ℕ) → f.session.job ≡ o → ⊥

@@ -8,3 +8,4 @@ pub mod Registered
 pub mod JoinOrder
 pub mod Beside
 pub mod Bounding
+pub mod Bounded
