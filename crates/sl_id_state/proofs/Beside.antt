@@ -23,7 +23,7 @@ use Rattle.sl_watchdog_law.proofs.Finding.{open_write}
 use Rattle.sl_watchdog_law.proofs.Numbering.{number_is}
 use Rattle.sl_words.proofs.CaseLaws.{no_value, none_some, some_value}
 use Rattle.std.proofs.Common.{ap, inl, inr, refl, subst, sym, ◌∙◌}
-use Rattle.std.specs.Prelude.{Bool, Contains, List, None, Option, Some, [], cond, false, filter, find, true, ℕ, ◌&&◌, ◌-◌, ◌==◌, ◌∷◌, ◌≡◌, ◌⊎◌}
+use Rattle.std.specs.Prelude.{Bool, Contains, List, None, Option, Some, [], cond, false, filter, find, true, ◌&&◌, ◌-◌, ◌==◌, ◌∷◌, ◌≡◌, ◌⊎◌}
 
 -- ---- two lists, element by element
 

@@ -1,13 +1,13 @@
 -- The watchdogs keep an id's bounds: whoever may still land a claim, or has verified one and is not over, may act by its connection.
 use Rattle.sl_course_law.specs.Mirrors.{since_restart}
-use Rattle.sl_id_state.proofs.Beside.{IsBeside, beside, join_none, join_there, write_waits}
-use Rattle.sl_id_state.proofs.Bounding.{IsGuardedAt, acts_at, after_value, both_true, by_connection, jobless, kept_since, not_joined, or_first, running_since, stamp_is, then_value}
+use Rattle.sl_id_state.proofs.Beside.{beside, join_none, join_there, write_waits}
+use Rattle.sl_id_state.proofs.Bounding.{IsGuardedAt, acts_at, after_value, by_connection, jobless, kept_since, not_joined, or_first, running_since, stamp_is, then_value}
 use Rattle.sl_id_state.proofs.JoinOrder.{decided_newest, deciding_registers, verified_newest}
 use Rattle.sl_id_state.specs.Facts.{VerifyReadsHaveClaimed}
-use Rattle.sl_id_state.specs.IdStates.{blank, claim_bytes, claim_may_land, deciding_sample, has_begun, id_state, is_sector_of, join_course, own_courses, renewed_by_now, runs_still, sample_showing, session_at, session_named_so, standing_by, standing_of, verifying_sample, watched_bytes}
+use Rattle.sl_id_state.specs.IdStates.{blank, claim_bytes, claim_may_land, deciding_sample, has_begun, id_state, is_sector_of, join_course, own_courses, renewed_by_now, runs_still, sample_showing, session_named_so, standing_by, standing_of, verifying_sample, watched_bytes}
 use Rattle.sl_id_state.specs.Promises.{IdsAreBounded}
 use Rattle.sl_ids.proofs.DerivedLaws.{watchdogs}
-use Rattle.sl_ids.specs.State.{Session as IdSession, SessionId as IdName}
+use Rattle.sl_ids.specs.State.{Session as IdSession}
 use Rattle.sl_law.specs.LawfulWatchdog.{is_covered}
 use Rattle.sl_run.specs.Runs.{Happening}
 use Rattle.sl_run.specs.Safety.{Found, IsSession as IsSessionOf, LawfulRun, SessionId, free_landed, has_write_in_flight, is_course_of, is_over, session_of_world, trace_of, was_reset, world_at}
@@ -16,7 +16,7 @@ use Rattle.sl_run.specs.declared.header.Header.{Header}
 use Rattle.sl_session_law.proofs.Naming.{kept}
 use Rattle.sl_session_law.proofs.Ordering.{joinings_are_ordered, open_stage}
 use Rattle.sl_session_law.proofs.Silence.{stage_by}
-use Rattle.sl_sessions.specs.Sessions.{Session, calls_of, ended_after, free_write, has_open_write, is_covered_stage, is_join_call, join_call, joined_after, refused_after, removed_after, stage_in, stage_of}
+use Rattle.sl_sessions.specs.Sessions.{Session, calls_of, ended_after, free_write, has_open_write, is_covered_stage, is_join_call, joined_after, refused_after, removed_after, stage_in, stage_of}
 use Rattle.sl_sessions.specs.declared.stage.Stage.{Stage}
 use Rattle.sl_trace.specs.Traces.{Submitted, Trace}
 use Rattle.sl_trace.specs.declared.effects.JoinStep.TheVariants.{ClaimWrite, DecidingRead, VerifyRead}
@@ -25,7 +25,7 @@ use Rattle.sl_watchdog_law.proofs.Proven.{covered_are_connected, writers_may_act
 use Rattle.sl_watchdog_law.proofs.Standing.{covered_open}
 use Rattle.sl_watchdog_law.specs.Acting.{acting_stamp}
 use Rattle.sl_watchdog_law.specs.Promises.{ActsStill}
-use Rattle.sl_words.proofs.CaseLaws.{false_is_true, is_false, no_value, none_some, one_value, some_value, true_is_false}
+use Rattle.sl_words.proofs.CaseLaws.{false_is_true, no_value, none_some, one_value, true_is_false}
 use Rattle.sl_words.proofs.WordLaws.{and_true, or_true}
 use Rattle.std.proofs.Common.{ap, inl, inr, refl, subst, sym, ◌∙◌}
 use Rattle.std.specs.Option.{option_map_or}

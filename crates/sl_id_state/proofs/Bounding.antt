@@ -1,52 +1,41 @@
 -- From when the connection of a session of a lawful run counts, and on which daemon; and that one which has not verified has not joined.
 use Rattle.sl_clocks.specs.Points.{Point}
 use Rattle.sl_clocks.specs.Watchdog.{Connected, MayAct}
-use Rattle.sl_course_law.specs.Mirrors.{Mirrors, since_restart}
+use Rattle.sl_course_law.specs.Mirrors.{since_restart}
 use Rattle.sl_course_law.specs.Stamping.{IsCourseOf, stamp_in}
-use Rattle.sl_id_state.proofs.Beside.{IsBeside, beside, join_none, join_there, write_waits}
-use Rattle.sl_id_state.proofs.JoinOrder.{decided_newest, deciding_registers, verified_newest}
+use Rattle.sl_id_state.proofs.Beside.{IsBeside}
 use Rattle.sl_id_state.proofs.Registered.{registered, registering_call}
-use Rattle.sl_id_state.specs.Facts.{VerifyReadsHaveClaimed}
-use Rattle.sl_id_state.specs.IdStates.{blank, claim_bytes, claim_may_land, deciding_sample, has_begun, id_state, is_sector_of, join_course, own_courses, renewed_by_now, runs_still, sample_showing, session_at, session_named_so, standing_by, standing_of, verifying_sample, watched_bytes}
-use Rattle.sl_id_state.specs.Promises.{IdsAreBounded}
-use Rattle.sl_ids.proofs.DerivedLaws.{watchdogs}
-use Rattle.sl_ids.specs.State.{Session as IdSession, SessionId as IdName}
+use Rattle.sl_id_state.specs.IdStates.{runs_still}
 use Rattle.sl_law.specs.Lawful.{Lawful}
 use Rattle.sl_law.specs.LawfulDelta.{LawfulDeciding, LawfulDeltaCall, LawfulFirstRenewal}
 use Rattle.sl_law.specs.LawfulWatchdog.{is_covered}
 use Rattle.sl_moment_law.specs.Moments.{point_of}
-use Rattle.sl_run.specs.Runs.{Happening}
-use Rattle.sl_run.specs.Safety.{Found, IsSession as IsSessionOf, LawfulRun, SessionId, free_landed, has_write_in_flight, is_course_of, is_over, session_of_world, trace_of, was_reset, world_at}
-use Rattle.sl_run.specs.Worlds.{Course, Daemon, Machine, Program, Sampling, Stamp, World, daemon_numbered, daemons_on, is_in_flight, is_of_running, is_open, is_write_course, may_land, resets_after}
+use Rattle.sl_run.specs.Safety.{Found, SessionId, trace_of, was_reset}
+use Rattle.sl_run.specs.Worlds.{Course, Daemon, Stamp, World, daemons_on, resets_after}
 use Rattle.sl_run.specs.declared.header.Header.{Header}
 use Rattle.sl_session_law.proofs.Fronts.{front_answers_stay}
 use Rattle.sl_session_law.proofs.Joining.{same_number_by}
 use Rattle.sl_session_law.proofs.Making.{contains_cases, contains_none}
-use Rattle.sl_session_law.proofs.Naming.{kept}
-use Rattle.sl_session_law.proofs.Ordering.{joinings_are_ordered, open_stage}
 use Rattle.sl_session_law.proofs.Owning.{calls_were_lawful, got_inside}
 use Rattle.sl_session_law.proofs.Silence.{stage_by}
-use Rattle.sl_session_law.specs.Promises.{IsSession, WasLawful, front_of}
-use Rattle.sl_sessions.specs.Sessions.{Session, calls_of, ended_after, free_write, has_open_write, is_covered_stage, is_join_call, join_call, joined_after, refused_after, removed_after, sessions, stage_in, stage_of}
+use Rattle.sl_session_law.specs.Promises.{IsSession, front_of}
+use Rattle.sl_sessions.specs.Sessions.{Session, calls_of, free_write, is_join_call, join_call, joined_after, refused_after, removed_after, sessions, stage_in}
 use Rattle.sl_sessions.specs.declared.stage.Stage.TheVariants.{Looking}
 use Rattle.sl_sessions.specs.declared.stage.Stage.{Stage}
 use Rattle.sl_time.specs.Times.{TimingNumbers}
-use Rattle.sl_trace.specs.Traces.{Answered, Setting, Submitted, Trace, bytes_given, submitted}
-use Rattle.sl_trace.specs.declared.effects.JoinStep.TheVariants.{ClaimWrite, DecidingRead, FirstRenewal, VerifyRead}
+use Rattle.sl_trace.specs.Traces.{Answered, Setting, Submitted, Trace, bytes_given}
+use Rattle.sl_trace.specs.declared.effects.JoinStep.TheVariants.{DecidingRead, FirstRenewal, VerifyRead}
 use Rattle.sl_trace.specs.declared.effects.Purpose.TheVariants.{Joining}
 use Rattle.sl_trace.specs.declared.effects.Purpose.{Purpose}
-use Rattle.sl_watchdog_law.proofs.Finding.{any_found, any_of, call_inside, call_owner, equal_numbers, find_inside, none_is}
+use Rattle.sl_watchdog_law.proofs.Finding.{call_inside, call_owner, equal_numbers, find_inside}
 use Rattle.sl_watchdog_law.proofs.Machines.{first_by}
-use Rattle.sl_watchdog_law.proofs.Proven.{covered_are_connected, writers_may_act}
-use Rattle.sl_watchdog_law.proofs.Standing.{covered_open}
 use Rattle.sl_watchdog_law.specs.Acting.{acting_stamp, registering_entry, renewal_entry}
 use Rattle.sl_watchdog_law.specs.Promises.{ActsStill, StandsConnected}
-use Rattle.sl_words.proofs.CaseLaws.{false_is_true, is_false, no_value, none_some, one_value, some_value, true_is_false}
-use Rattle.sl_words.proofs.WordLaws.{and_true, or_true, some_is_true}
-use Rattle.sl_words.specs.Words.{is_empty, some_is}
+use Rattle.sl_words.proofs.CaseLaws.{false_is_true, no_value, none_some, one_value, some_value, true_is_false}
+use Rattle.sl_words.proofs.WordLaws.{some_is_true}
+use Rattle.sl_words.specs.Words.{is_empty}
 use Rattle.std.proofs.Common.{ap, inl, inr, refl, subst, sym, ◌∙◌}
-use Rattle.std.specs.Option.{option_map_or}
-use Rattle.std.specs.Prelude.{Bool, Contains, List, None, Option, Some, [], cond, false, find, is_none, is_some, not, option_and_then, true, ℕ, ◌&&◌, ◌==◌, ◌||◌, ◌∷◌, ◌≡◌, ◌⊎◌}
+use Rattle.std.specs.Prelude.{Bool, Contains, List, None, Option, Some, [], cond, false, find, is_some, not, option_and_then, true, ℕ, ◌&&◌, ◌==◌, ◌||◌, ◌∷◌, ◌≡◌, ◌⊎◌}
 
 -- ---- options and lists
 
