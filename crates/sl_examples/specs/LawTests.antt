@@ -40,7 +40,7 @@ use Rattle.sl_trace.specs.declared.effects.JoinStep.TheVariants.{ClaimWrite, Dec
 use Rattle.sl_trace.specs.declared.effects.JoinStep.{JoinStep}
 use Rattle.sl_trace.specs.declared.effects.LeaseStep.TheVariants.{ClearMode, Phase1Read, Phase1Write, Phase2Read, Phase2Write, ReadArea, ReadBeforeFree, SetMode}
 use Rattle.sl_trace.specs.declared.effects.Op.TheVariants.{ReadSectors, WriteRecord}
-use Rattle.sl_trace.specs.declared.effects.Purpose.TheVariants.{RequestRead, Joining, Leaving, Renewal, Survey, ValueRead}
+use Rattle.sl_trace.specs.declared.effects.Purpose.TheVariants.{RequestRead, Joining, Leaving, Renewal, SeeRequest, Survey, ValueRead}
 use Rattle.sl_trace.specs.declared.effects.Purpose.{Purpose}
 use Rattle.sl_trace.specs.declared.effects.Signal.TheVariants.{Kill, Term}
 use Rattle.sl_trace.specs.declared.effects.Spot.{Spot}
@@ -173,7 +173,7 @@ abbrev pub delta_call_test : Setting → Trace → Session → Submitted → Boo
 delta_call_test st es s c =
     elim c.call.purpose [
       | Joining j step ↦ elim step [
-        | FirstRead ↦ reads_one c && is_none (session_named st es s.lockspace)
+        | FirstRead ↦ reads_one c && is_base st.layout s.offset && is_none (session_named st es s.lockspace)
         | WatchRead ↦ reads_one c && is_at_stage es s Looking
         | DecidingRead ↦ reads_one c && deciding_test st es s c
         | ClaimWrite ↦ claim_test st es s c
@@ -241,12 +241,18 @@ abbrev pub alone_test : Setting → Trace → Entry → Bool
 alone_test st past e =
     each_call st (λ es s c. implies (is_block_work c && is_area_work c.call.purpose) (length (open_block_work st es s (spot_of_call st.layout c)) == 0)) past e
 
+-- Whether a call sees a request.
+abbrev pub sees_request : Purpose → Bool
+sees_request SeeRequest = true
+sees_request p = false
+
 -- The law of work on areas.
 abbrev pub area_test : Setting → Trace → Entry → Bool
 area_test st past e =
     each_call st (λ es s c. implies (is_area_work c.call.purpose) (is_active st es s)
     && option_map_or (λ r. is_delta_record r || area_write_test st es s c r) (record_of c.call.op) true
-    && lease_read_test st c) past e
+    && lease_read_test st c
+    && implies (sees_request c.call.purpose) (is_some (joined_after es s))) past e
     && alone_test st past e
 
 -- ---- blocks

@@ -1,19 +1,19 @@
 -- Sessions are found where they were found, as events go on.
 use Rattle.sl_id_state.proofs.Frames.{Same, flying_same, is_running}
-use Rattle.sl_id_state.specs.IdStates.{own_courses, runs_still}
-use Rattle.sl_run.specs.Events.{change_call, change_calls}
-use Rattle.sl_run.specs.Safety.{Found, SessionId, is_course_of, session_of_world, was_reset}
-use Rattle.sl_run.specs.Worlds.{Course, Daemon, Machine, World, change_machine, daemon_numbered, daemons_on, flight_of, is_open, machine_at, resets_after}
+use Rattle.sl_id_state.specs.IdStates.{own_courses}
+use Rattle.sl_run.specs.Events.{change_call}
+use Rattle.sl_run.specs.Safety.{Found, SessionId, is_course_of, session_of_world}
+use Rattle.sl_run.specs.Worlds.{Course, Daemon, Machine, World, change_machine, daemon_numbered, daemons_on, flight_of, is_open, machine_at}
 use Rattle.sl_run_law.proofs.Coursing.{changed_if}
 use Rattle.sl_run_law.proofs.Fates.{numbered}
 use Rattle.sl_run_law.proofs.Walking.{index}
 use Rattle.sl_run_law.specs.Fates.{AreDistinct, Every}
-use Rattle.sl_session_law.proofs.Making.{contains_cases, contains_first, contains_more, contains_none}
+use Rattle.sl_session_law.proofs.Making.{contains_first, contains_more}
 use Rattle.sl_sessions.specs.Sessions.{Session, session_numbered}
 use Rattle.sl_words.proofs.CaseLaws.{none_some, not_both, some_value, true_is_false}
-use Rattle.sl_words.specs.Words.{is_empty, some_is}
-use Rattle.std.proofs.Common.{ap, arith, inl, inr, refl, subst, sym, tests, ◌∙◌}
-use Rattle.std.specs.Prelude.{Bool, Contains, List, None, Option, Some, cond, false, filter, find, if◌then◌else◌, is_none, map, nat_lt, not, option_and_then, option_map, slice_get, slice_set, suc, true, zero, [], ℕ, ◌&&◌, ◌-◌, ◌<◌, ◌==◌, ◌∷◌, ◌≡◌}
+use Rattle.sl_words.specs.Words.{is_empty}
+use Rattle.std.proofs.Common.{ap, arith, refl, subst, sym, tests, ◌∙◌}
+use Rattle.std.specs.Prelude.{Bool, Contains, List, None, Option, Some, cond, false, filter, find, if◌then◌else◌, map, nat_lt, not, option_and_then, option_map, slice_get, slice_set, suc, true, zero, [], ℕ, ◌-◌, ◌==◌, ◌∷◌, ◌≡◌}
 
 -- ---- machines
 
@@ -142,7 +142,7 @@ moves_in : (a b : Machine) (d : Daemon) (s : Option Session)
 moves_in a b d None = refl
 moves_in a b d (Some s) = refl
 
-moves_by : (i : SessionId) (a b : Machine) (o : Option Daemon) → session_with i b o ≡ option_map (moved b) (session_with i a o)
+pub moves_by : (i : SessionId) (a b : Machine) (o : Option Daemon) → session_with i b o ≡ option_map (moved b) (session_with i a o)
 moves_by i a b None = refl
 moves_by i a b (Some d) = moves_in a b d (session_numbered d.setting d.trace i.number)
 

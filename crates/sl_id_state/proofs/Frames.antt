@@ -1,7 +1,7 @@
 -- What a session's state depends on: where that stays, the state stays.
 use Rattle.sl_area.specs.Layouts.{Layout, sector_with}
 use Rattle.sl_course_law.specs.Stamping.{stamp_in}
-use Rattle.sl_id_state.specs.IdStates.{deciding_sample, comes_before, generation_by, has_begun, index_of, join_course, name_of, own_courses, runs_still, seq_left, standing_of}
+use Rattle.sl_id_state.specs.IdStates.{claim_may_land, deciding_sample, comes_before, generation_by, has_begun, index_of, join_course, name_of, own_courses, runs_still, seq_left, standing_of}
 use Rattle.sl_ids.specs.State.{Session as IdSession}
 use Rattle.sl_run.specs.Safety.{Found, SessionId, free_landed, has_write_in_flight, is_course_of, is_over, trace_of, was_reset}
 use Rattle.sl_run.specs.Worlds.{Course, Daemon, Machine, Sampling, Stamp, World, history_of, is_landed, is_open, is_write_course, may_land}
@@ -106,6 +106,19 @@ pub record Same (i : SessionId) (f g : Found) : Type 0 where
   pub reset : was_reset g ≡ was_reset f
   pub flying : has_write_in_flight i g.machine ≡ has_write_in_flight i f.machine
 
+-- The same of all that it has done, but for whether its daemon runs, was reset or has a write in flight.
+pub record SamePast (i : SessionId) (f g : Found) : Type 0 where
+  pub calls : own_courses i g.machine ≡ own_courses i f.machine
+  pub session : g.session ≡ f.session
+  pub setting : g.daemon.setting ≡ f.daemon.setting
+  pub begun : g.daemon.begun ≡ f.daemon.begun
+  pub trace : g.daemon.trace ≡ f.daemon.trace
+  pub stamps : g.daemon.stamps ≡ f.daemon.stamps
+
+pub past_of : (i : SessionId) (f g : Found) → Same i f g → SamePast i f g
+past_of i f g s =
+    record { calls = s.calls; session = s.session; setting = s.setting; begun = s.begun; trace = s.trace; stamps = s.stamps }
+
 -- The landing that its claim left, if it left one.
 abbrev pub claim_index : World → List ℕ → ℕ → SessionId → Option Course → ℕ
 claim_index w path offset i o = option_map_or (λ c. index_of (i.machine, c.call.number) (history_of w path offset)) o 0
@@ -140,18 +153,27 @@ decides_as : (i : SessionId) (f : Found) → deciding_sample i f ≡ decides_in 
 unfolding decides_in
 decides_as i f = refl
 
-pub decides_same : (i : SessionId) (f g : Found) → Same i f g → deciding_sample i g ≡ deciding_sample i f
-decides_same i f g s =
+pub decides_past : (i : SessionId) (f g : Found) → SamePast i f g → deciding_sample i g ≡ deciding_sample i f
+decides_past i f g s =
     decides_as i g ∙ ap (λ cs. decides_in cs g.daemon.stamps g.daemon.trace g.session) s.calls
     ∙ ap (λ ss. decides_in (own_courses i f.machine) ss g.daemon.trace g.session) s.stamps
     ∙ ap (λ es. decides_in (own_courses i f.machine) f.daemon.stamps es g.session) s.trace
     ∙ ap (λ x. decides_in (own_courses i f.machine) f.daemon.stamps f.daemon.trace x) s.session ∙ sym (decides_as i f)
 
+pub decides_same : (i : SessionId) (f g : Found) → Same i f g → deciding_sample i g ≡ deciding_sample i f
+decides_same i f g s = decides_past i f g (past_of i f g s)
+
+pub join_past : (i : SessionId) (step : JoinStep) (f g : Found) → SamePast i f g → join_course i step g.machine ≡ join_course i step f.machine
+join_past i step f g s = ap (newest_at step) s.calls
+
 pub join_same : (i : SessionId) (step : JoinStep) (f g : Found) → Same i f g → join_course i step g.machine ≡ join_course i step f.machine
 join_same i step f g s = ap (newest_at step) s.calls
 
+pub begun_past : (i : SessionId) (f g : Found) → SamePast i f g → has_begun i g ≡ has_begun i f
+begun_past i f g s = ap (λ x. is_none x.job || is_some (deciding_sample i g)) s.session ∙ ap (λ o. is_none f.session.job || is_some o) (decides_past i f g s)
+
 pub begun_same : (i : SessionId) (f g : Found) → Same i f g → has_begun i g ≡ has_begun i f
-begun_same i f g s = ap (λ x. is_none x.job || is_some (deciding_sample i g)) s.session ∙ ap (λ o. is_none f.session.job || is_some o) (decides_same i f g s)
+begun_same i f g s = begun_past i f g (past_of i f g s)
 
 -- ---- where a session stands, by its parts
 
@@ -255,17 +277,17 @@ stands_as : (w : World) (path : List ℕ) (offset : ℕ) (i : SessionId) (f : Fo
 stands_as w path offset i f =
     stands_but w path offset i f ∙ ap (λ b. with_over b (stands_in (parts_of w path offset i f))) (over_as i f) ∙ over_back w path offset i f
 
-seq_same : (w v : World) (path : List ℕ) (offset : ℕ) (i : SessionId) (f g : Found) → Same i f g → SameThere w v path offset i f
+seq_same : (w v : World) (path : List ℕ) (offset : ℕ) (i : SessionId) (f g : Found) → SamePast i f g → SameThere w v path offset i f
     → landed_seq v path offset i g.session ≡ landed_seq w path offset i f.session
 seq_same w v path offset i f g s t = ap (landed_seq v path offset i) s.session ∙ t.seq
 
-index_same : (w v : World) (path : List ℕ) (offset : ℕ) (i : SessionId) (f g : Found) → Same i f g → SameThere w v path offset i f
+index_same : (w v : World) (path : List ℕ) (offset : ℕ) (i : SessionId) (f g : Found) → SamePast i f g → SameThere w v path offset i f
     → claim_index v path offset i (join_course i ClaimWrite g.machine) ≡ claim_index w path offset i (join_course i ClaimWrite f.machine)
-index_same w v path offset i f g s t = ap (claim_index v path offset i) (join_same i ClaimWrite f g s) ∙ t.claim
+index_same w v path offset i f g s t = ap (claim_index v path offset i) (join_past i ClaimWrite f g s) ∙ t.claim
 
-generation_same : (w v : World) (path : List ℕ) (offset : ℕ) (i : SessionId) (f g : Found) → Same i f g → SameThere w v path offset i f
+generation_same : (w v : World) (path : List ℕ) (offset : ℕ) (i : SessionId) (f g : Found) → SamePast i f g → SameThere w v path offset i f
     → generation_by v path offset (deciding_sample i g) ≡ generation_by w path offset (deciding_sample i f)
-generation_same w v path offset i f g s t = ap (generation_by v path offset) (decides_same i f g s) ∙ t.generation
+generation_same w v path offset i f g s t = ap (generation_by v path offset) (decides_past i f g s) ∙ t.generation
 
 make : Layout → List Course → Session → Setting → Stamp → Trace → List Stamp → Bool → Bool → Bool → ℕ → ℕ → ℕ → Parts
 make a b c d e f g h i j k l m =
@@ -304,5 +326,46 @@ unfolding parts_of
 standing_same w v path offset i f g s t =
     stands_as v path offset i g
     ∙ ap stands_in (parts_same (parts_of w path offset i f) (parts_of v path offset i g) t.layout s.calls s.session s.setting s.begun s.trace s.stamps s.runs s.reset
-    s.flying (index_same w v path offset i f g s t) (generation_same w v path offset i f g s t) (seq_same w v path offset i f g s t))
+    s.flying (index_same w v path offset i f g (past_of i f g s) t) (generation_same w v path offset i f g (past_of i f g s) t)
+    (seq_same w v path offset i f g (past_of i f g s) t))
     ∙ sym (stands_as w path offset i f)
+
+-- ---- where its past stays, but not whether its daemon runs, was reset or has a write in flight
+
+-- A session with these flags.
+abbrev pub ended : IdSession → Bool → Bool → IdSession
+ended s pending over = record s { pending = pending; over = over }
+
+with_end : Parts → Bool → Bool → Bool → Parts
+with_end p runs reset flying = record p { runs = runs; reset = reset; flying = flying }
+
+parts_past : (w v : World) (path : List ℕ) (offset : ℕ) (i : SessionId) (f g : Found) → SamePast i f g → SameThere w v path offset i f
+    → parts_of v path offset i g ≡ with_end (parts_of w path offset i f) (runs_still g) (was_reset g) (has_write_in_flight i g.machine)
+unfolding parts_of with_end
+parts_past w v path offset i f g s t =
+    parts_same (record (parts_of w path offset i f) { runs = runs_still g; reset = was_reset g; flying = has_write_in_flight i g.machine })
+    (parts_of v path offset i g) t.layout s.calls s.session s.setting s.begun s.trace s.stamps refl refl refl (index_same w v path offset i f g s t)
+    (generation_same w v path offset i f g s t) (seq_same w v path offset i f g s t)
+
+pending_in : Parts → Bool → Bool
+pending_in p runs = is_some (decides_in p.calls p.stamps p.trace p.session) && claim_in p.calls runs p.trace p.session
+
+ends_as : (p : Parts) (runs reset flying : Bool)
+    → stands_in (with_end p runs reset flying) ≡ ended (stands_in p) (pending_in p runs) (over_in p.calls reset flying p.trace p.session)
+unfolding stands_in with_end pending_in
+ends_as p runs reset flying = refl
+
+with_flags : (x s : IdSession) (a b : Bool) → x ≡ ended s a b → x ≡ ended s x.pending x.over
+with_flags x s a b e = e ∙ ap (λ c. ended s c b) (sym (ap (λ y. y.pending) e)) ∙ ap (λ c. ended s x.pending c) (sym (ap (λ y. y.over) e))
+
+-- Then all else of its state stays.
+pub standing_past : (w v : World) (path : List ℕ) (offset : ℕ) (i : SessionId) (f g : Found) → SamePast i f g → SameThere w v path offset i f
+    → standing_of v path offset i g
+    ≡ ended (standing_of w path offset i f) (is_some (deciding_sample i g) && claim_may_land i g) (is_over i g)
+standing_past w v path offset i f g s t =
+    let p : Parts = parts_of w path offset i f in
+    let e = stands_as v path offset i g ∙ ap stands_in (parts_past w v path offset i f g s t)
+    ∙ ends_as p (runs_still g) (was_reset g) (has_write_in_flight i g.machine) in
+    with_flags (standing_of v path offset i g) (stands_in p) (pending_in p (runs_still g))
+    (over_in p.calls (was_reset g) (has_write_in_flight i g.machine) p.trace p.session) e
+    ∙ ap (λ x. ended x (is_some (deciding_sample i g) && claim_may_land i g) (is_over i g)) (sym (stands_as w path offset i f))

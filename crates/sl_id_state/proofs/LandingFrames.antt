@@ -2,16 +2,15 @@
 use Rattle.sl_id_state.proofs.SectorFrames.{SameSector, every_numbered, landing_same}
 use Rattle.sl_id_state.specs.IdStates.{id_state, landing_of, said_by, writer_of}
 use Rattle.sl_ids.specs.Listed.{no_landing}
-use Rattle.sl_ids.specs.State.{Content, Landing as IdLanding, SessionId as IdName, State}
+use Rattle.sl_ids.specs.State.{Content, Landing as IdLanding, SessionId as IdName}
 use Rattle.sl_ids.specs.Steps.{Lands, SameLandings}
 use Rattle.sl_run.specs.Worlds.{Landing, World, history_of}
 use Rattle.sl_run_law.specs.Fates.{Every}
 use Rattle.sl_sample_law.proofs.Numbering.{newest_number, number_stays}
 use Rattle.sl_sample_law.specs.Samples.{numbered_landing}
-use Rattle.sl_words.proofs.CaseLaws.{true_is_false}
-use Rattle.std.proofs.Common.{ap, arith, length-append, refl, sym, tests, ◌∙◌}
+use Rattle.std.proofs.Common.{ap, arith, refl, sym, tests, ◌∙◌}
 use Rattle.std.specs.Option.{option_map_or}
-use Rattle.std.specs.Prelude.{Bool, List, None, Option, Some, false, length, true, [], ℕ, ◌++◌, ◌+◌, ◌<◌, ◌==◌, ◌∷◌, ◌≡◌}
+use Rattle.std.specs.Prelude.{Bool, List, Option, Some, false, length, true, [], ℕ, ◌++◌, ◌+◌, ◌<◌, ◌==◌, ◌∷◌, ◌≡◌}
 
 not_newest : (k n : ℕ) → (k == n) ≡ false → k < n + 1 → k < n
 not_newest k n h lt = grind (arith, tests)

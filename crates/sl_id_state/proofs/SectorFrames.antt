@@ -1,23 +1,22 @@
 -- Where what landed at a sector stays, and who wrote it, so does what a session's state takes from there.
 use Rattle.sl_ids.specs.State.{Landing as IdLanding, Session as IdSession, SessionId as IdName}
-use Rattle.sl_ids.specs.Listed.{no_landing}
-use Rattle.sl_id_state.proofs.Frames.{Same, SameThere, begun_same, claim_index, landed_seq, standing_same}
-use Rattle.sl_id_state.specs.IdStates.{blank, deciding_sample, generation_above, generation_by, has_begun, id_state, index_of, is_sector_of, join_course, landing_of, name_of, said_by, same_name, seq_left, session_at, session_named_so, standing_by, standing_of, writer_of}
+use Rattle.sl_id_state.proofs.Frames.{Same, SameThere, begun_same, standing_same}
+use Rattle.sl_id_state.specs.IdStates.{blank, deciding_sample, generation_above, generation_by, has_begun, index_of, is_sector_of, join_course, landing_of, name_of, said_by, same_name, seq_left, session_at, session_named_so, standing_by, standing_of, writer_of}
 use Rattle.sl_run.specs.Safety.{Found, SessionId, session_of_world}
-use Rattle.sl_run.specs.Worlds.{Course, Landing, Machine, Sampling, World, first_landing, history_of, landed_at}
+use Rattle.sl_run.specs.Worlds.{Landing, Sampling, World, first_landing, history_of, landed_at}
 use Rattle.sl_run_law.specs.Fates.{Every}
-use Rattle.sl_sample_law.proofs.Numbering.{number_below, number_stays}
 use Rattle.sl_sample_law.specs.Samples.{numbered_landing}
-use Rattle.sl_sessions.specs.Sessions.{Session, given_number}
+use Rattle.sl_sessions.specs.Sessions.{given_number}
 use Rattle.sl_trace.specs.Traces.{same_place}
 use Rattle.sl_trace.specs.declared.effects.JoinStep.TheVariants.{ClaimWrite}
-use Rattle.sl_words.proofs.CaseLaws.{none_some, some_value, true_is_false}
+use Rattle.sl_words.proofs.CaseLaws.{none_some, some_value}
+use Rattle.sl_words.proofs.WordLaws.{and_true}
 use Rattle.sl_words.specs.Words.{greatest, some_is}
-use Rattle.std.proofs.Common.{ap, arith, length-append, refl, subst, sym, ◌∙◌}
+use Rattle.std.proofs.Common.{ap, refl, subst, sym, ◌∙◌}
 use Rattle.std.proofs.lemmas.List.Elements.{filter-append}
 use Rattle.std.proofs.lemmas.List.{append_assoc}
 use Rattle.std.specs.Option.{option_map_or}
-use Rattle.std.specs.Prelude.{Bool, List, None, Option, Some, false, filter, length, map, option_map, true, [], ℕ, ◌&&◌, ◌++◌, ◌+◌, ◌<◌, ◌==◌, ◌∷◌, ◌≡◌}
+use Rattle.std.specs.Prelude.{Bool, List, None, Option, Some, false, filter, length, map, true, [], ℕ, ◌&&◌, ◌++◌, ◌==◌, ◌∷◌, ◌≡◌}
 
 -- ---- the same sector
 
@@ -51,7 +50,7 @@ landing_same w v l layout writer =
     ap (λ (o : Option IdName). let x : IdLanding = record { moment = l.moment; writer = o; shown = said_by v.layout l.bytes } in x) writer
     ∙ ap (λ g. let x : IdLanding = record { moment = l.moment; writer = writer_of w l; shown = said_by g l.bytes } in x) layout
 
-seqs_same : (w v : World) (n : IdName) (ls : List Landing) → v.layout ≡ w.layout → Every (λ l. writer_of v l ≡ writer_of w l) ls
+pub seqs_same : (w v : World) (n : IdName) (ls : List Landing) → v.layout ≡ w.layout → Every (λ l. writer_of v l ≡ writer_of w l) ls
     → map (seq_left v n) ls ≡ map (seq_left w n) ls
 seqs_same w v n ls layout h =
     mapped_same (seq_left v n) (seq_left w n) ls
@@ -114,6 +113,56 @@ pub session_same_at : (w v : World) (path : List ℕ) (offset : ℕ) (n : IdName
 session_same_at w v path offset n f g at then s t =
     ap (standing_by v path offset (session_named_so n)) then ∙ found_by w v path offset (session_named_so n) f g s t
     ∙ sym (ap (standing_by w path offset (session_named_so n)) at)
+
+-- ---- .. where only a session that has begun there takes something from the sector
+
+-- The same of what its state takes from there, if it has begun and the sector is its own.
+pub record ThereIf (w v : World) (path : List ℕ) (offset : ℕ) (i : SessionId) (f : Found) : Type 0 where
+  pub layout : v.layout ≡ w.layout
+  pub own : is_sector_of w.layout path offset f.session ≡ true → has_begun i f ≡ true → SameThere w v path offset i f
+
+abbrev stood : World → List ℕ → ℕ → SessionId → Found → Bool → IdSession
+stood w path offset i f b = elim b [ false ↦ blank | true ↦ standing_of w path offset i f ]
+
+test_same : (w v : World) (path : List ℕ) (offset : ℕ) (i : SessionId) (f g : Found) → v.layout ≡ w.layout → Same i f g
+    → (is_sector_of v.layout path offset g.session && has_begun i g) ≡ (is_sector_of w.layout path offset f.session && has_begun i f)
+test_same w v path offset i f g layout s =
+    ap (λ x. is_sector_of v.layout path offset x && has_begun i g) s.session ∙ ap (λ x. is_sector_of x path offset f.session && has_begun i g) layout
+    ∙ ap (λ x. is_sector_of w.layout path offset f.session && x) (begun_same i f g s)
+
+if_by : (w v : World) (path : List ℕ) (offset : ℕ) (i : SessionId) (f g : Found) (b : Bool)
+    → (is_sector_of w.layout path offset f.session && has_begun i f) ≡ b → Same i f g → ThereIf w v path offset i f
+    → stood v path offset i g b ≡ stood w path offset i f b
+if_by w v path offset i f g false is s t = refl
+if_by w v path offset i f g true is s t =
+    let p = and_true (is_sector_of w.layout path offset f.session) (has_begun i f) is in
+    standing_same w v path offset i f g s (t.own p.0 p.1)
+
+-- The same found, and the same there if it matters: the same state.
+pub found_if : (w v : World) (path : List ℕ) (offset : ℕ) (i : SessionId) (f g : Found) → Same i f g → ThereIf w v path offset i f
+    → standing_by v path offset i (Some g) ≡ standing_by w path offset i (Some f)
+found_if w v path offset i f g s t =
+    ap (stood v path offset i g) (test_same w v path offset i f g t.layout s)
+    ∙ if_by w v path offset i f g (is_sector_of w.layout path offset f.session && has_begun i f) refl s t
+
+abbrev pub SameIf : World → World → List ℕ → ℕ → SessionId → Option Found → Option Found → Type 0
+SameIf w v path offset i None None = Unit {0}
+SameIf w v path offset i (Some f) (Some g) = Same i f g × ThereIf w v path offset i f
+SameIf w v path offset i None (Some g) = ⊥
+SameIf w v path offset i (Some f) None = ⊥
+
+same_if_by : (w v : World) (path : List ℕ) (offset : ℕ) (i : SessionId) (o p : Option Found) → SameIf w v path offset i o p
+    → standing_by v path offset i p ≡ standing_by w path offset i o
+same_if_by w v path offset i None None h = refl
+same_if_by w v path offset i (Some f) (Some g) h = found_if w v path offset i f g h.0 h.1
+same_if_by w v path offset i None (Some g) h = absurd h
+same_if_by w v path offset i (Some f) None h = absurd h
+
+pub session_same_if : (w v : World) (path : List ℕ) (offset : ℕ) (n : IdName)
+    → SameIf w v path offset (session_named_so n) (session_of_world w (session_named_so n)) (session_of_world v (session_named_so n))
+    → session_at v path offset n ≡ session_at w path offset n
+session_same_if w v path offset n h =
+    same_if_by w v path offset (session_named_so n) (session_of_world w (session_named_so n)) (session_of_world v (session_named_so n)) h
 
 -- A session that stays as it is found.
 pub same_still : (i : SessionId) (f : Found) → Same i f f

@@ -5,7 +5,7 @@ use Rattle.sl_ids.specs.State.{SessionId as IdName}
 use Rattle.sl_landing_law.specs.Landings.{HasWriter, LandingsAreWritten}
 use Rattle.sl_run.specs.Runs.{Happening}
 use Rattle.sl_run.specs.Safety.{LawfulRun, world_at}
-use Rattle.sl_run.specs.Worlds.{Course, Daemon, Landing, Machine, Program, World, daemon_numbered, daemons_on, first_landing, history_of, landed_at, machine_at}
+use Rattle.sl_run.specs.Worlds.{Course, Daemon, Landing, Machine, Program, World, daemon_numbered, first_landing, history_of, landed_at, machine_at}
 use Rattle.sl_run.specs.declared.header.Header.{Header}
 use Rattle.sl_run_law.specs.Courses.{Continues, Follow, ListGoes}
 use Rattle.sl_run_law.specs.Fates.{AreDistinct, EachDistinct, Every}
@@ -13,11 +13,11 @@ use Rattle.sl_run_law.specs.Machines.{EachMachine}
 use Rattle.sl_session_law.proofs.Making.{contains_cases, contains_first, contains_more, contains_none}
 use Rattle.sl_sessions.specs.Sessions.{Session, sessions}
 use Rattle.sl_trace.specs.Traces.{same_place}
-use Rattle.sl_words.proofs.CaseLaws.{none_some, one_value, some_value, true_is_false}
+use Rattle.sl_words.proofs.CaseLaws.{none_some, some_value, true_is_false}
 use Rattle.sl_words.specs.Words.{first_given}
 use Rattle.std.proofs.Common.{ap, arith, inl, inr, refl, subst, sym, tests, ◌∙◌}
 use Rattle.std.specs.List.{enumerate_from}
-use Rattle.std.specs.Prelude.{Bool, Contains, List, None, Option, Some, cond, false, filter, find, if◌then◌else◌, length, option_and_then, option_map, slice_get, suc, true, zero, [], ℕ, ◌++◌, ◌+◌, ◌-◌, ◌<◌, ◌==◌, ◌∷◌, ◌≡◌}
+use Rattle.std.specs.Prelude.{Bool, Contains, List, None, Option, Some, cond, false, filter, find, if◌then◌else◌, length, option_and_then, option_map, slice_get, suc, true, [], ℕ, ◌++◌, ◌+◌, ◌-◌, ◌==◌, ◌∷◌, ◌≡◌}
 
 -- ---- the call with a number
 
@@ -199,14 +199,42 @@ pub record KeepsWriters (w v : World) : Type 0 where
   pub calls : EachMachine (λ m a b. ListGoes Continues a.calls b.calls) w v
   pub distinct : EachDistinct v
 
-written_by : (w v : World) (l : Landing) → KeepsWriters w v → HasWriter w l → writer_of v l ≡ writer_of w l
-written_by w v l k h =
-    let b = k.calls h.machine h.wrote.machine h.wrote.at in
+-- A landing whose writer is a call of a machine.
+pub record HasCall (w : World) (l : Landing) : Type 0 where
+  pub machine : ℕ
+  pub call : ℕ
+  pub named : l.writer ≡ Some (machine, call)
+  pub host : Machine
+  pub course : Course
+  pub at : machine_at w machine ≡ Some host
+  pub has : call_of call host.calls ≡ Some course
+
+-- What was written has its call.
+pub call_of_writer : (w : World) (l : Landing) → HasWriter w l → HasCall w l
+call_of_writer w l h =
     let n : (h.wrote.course.call.number == h.call) ≡ true = ap (λ x. x == h.call) h.wrote.number ∙ number_itself h.call in
     let c = call_there h.call h.wrote.machine.calls h.wrote.course h.wrote.has n in
+    record { machine = h.machine; call = h.call; named = h.named; host = h.wrote.machine; course = c.0; at = h.wrote.at; has = c.1 }
+
+-- Its writer stays.
+pub writer_stays : (w v : World) (l : Landing) → KeepsWriters w v → HasCall w l → writer_of v l ≡ writer_of w l
+writer_stays w v l k h =
+    let b = k.calls h.machine h.host h.at in
     ap (λ o. elim o as (λ z. Option IdName) [ None ↦ holder_at v l.path l.offset | Some p ↦ submitter_of v p ]) h.named
-    ∙ submitter_stays w v h.machine h.call h.wrote.machine b.0 c.0 h.wrote.at b.1 b.2 (k.distinct h.machine b.0 b.1) c.1
+    ∙ submitter_stays w v h.machine h.call h.host b.0 h.course h.at b.1 b.2 (k.distinct h.machine b.0 b.1) h.has
     ∙ sym (ap (λ o. elim o as (λ z. Option IdName) [ None ↦ holder_at w l.path l.offset | Some p ↦ submitter_of w p ]) h.named)
+
+there_by : (n : ℕ) (o p : Option Course) (c : Course) → o ≡ Some c → CallStays o p → (d : Course) × (p ≡ Some d)
+there_by n None p c h s = absurd (none_some c h)
+there_by n (Some x) p c h s = (s.0, s.1)
+
+-- It has its call later.
+pub call_kept : (w v : World) (l : Landing) → KeepsWriters w v → HasCall w l → HasCall v l
+call_kept w v l k h =
+    let b = k.calls h.machine h.host h.at in
+    let d = there_by h.call (call_of h.call h.host.calls) (call_of h.call b.0.calls) h.course h.has
+    (call_stays h.call h.host.calls b.0.calls b.2 (k.distinct h.machine b.0 b.1)) in
+    record { machine = h.machine; call = h.call; named = h.named; host = b.0; course = d.0; at = b.1; has = d.1 }
 
 each_kept : (p : Landing → Bool) (P : Landing → Type 0) (l : Landing) (ls : List Landing) (t : Bool) → P l → Every P (filter p ls)
     → Every P (cond t (l ∷ filter p ls) (filter p ls))
@@ -222,12 +250,22 @@ each_behind : (P : Landing → Type 0) (ls : List Landing) (x : Landing) → Eve
 each_behind P [] x each this = (this, tt)
 each_behind P (l ∷ ls) x each this = (each.0, each_behind P ls x each.1 this)
 
--- Who wrote what stands in the history of a place stays.
+-- Who wrote what stands in the history of a place stays, where each landing has its call.
+pub writers_kept : (w v : World) (path : List ℕ) (offset : ℕ) → KeepsWriters w v → ((l : Landing) → Contains w.landings l → HasCall w l)
+    → Every (λ l. writer_of v l ≡ writer_of w l) (history_of w path offset)
+writers_kept w v path offset k each =
+    each_behind (λ l. writer_of v l ≡ writer_of w l) (landed_at w path offset) (first_landing w path offset)
+    (each_filtered (λ l. same_place l.path l.offset path offset) (λ l. writer_of v l ≡ writer_of w l) w.landings
+    (λ l has. writer_stays w v l k (each l has)))
+    (holder_same w v path offset k.layout k.machines k.given)
+
+-- Each landing of a run has its call.
+pub calls_of_landings : LandingsAreWritten → (p : Program) (h : Header) (now : List Happening) → LawfulRun p h now → (l : Landing)
+    → Contains (world_at p h now).landings l → HasCall (world_at p h now) l
+calls_of_landings written p h now run l has = call_of_writer (world_at p h now) l (written p h now run l has)
+
+-- So the writers of a run stay.
 pub writers_stay : LandingsAreWritten → (p : Program) (h : Header) (now : List Happening) → LawfulRun p h now → (v : World) → KeepsWriters (world_at p h now) v
     → (path : List ℕ) (offset : ℕ) → Every (λ l. writer_of v l ≡ writer_of (world_at p h now) l) (history_of (world_at p h now) path offset)
 writers_stay written p h now run v k path offset =
-    let w : World = world_at p h now in
-    each_behind (λ l. writer_of v l ≡ writer_of w l) (landed_at w path offset) (first_landing w path offset)
-    (each_filtered (λ l. same_place l.path l.offset path offset) (λ l. writer_of v l ≡ writer_of w l) w.landings
-    (λ l has. written_by w v l k (written p h now run l has)))
-    (holder_same w v path offset k.layout k.machines k.given)
+    writers_kept (world_at p h now) v path offset k (calls_of_landings written p h now run)

@@ -1,6 +1,6 @@
 -- The header's areas are apart, and begin at multiples of their size.
 use Rattle.sl_area.specs.Layouts.{IsGeometry, Layout, Sizes, layout_with}
-use Rattle.sl_area.specs.Places.{in_area}
+use Rattle.sl_area.specs.Places.{in_area, is_base}
 use Rattle.sl_front_law.proofs.Having.{placed_at}
 use Rattle.sl_run.specs.Headers.{IsHeader, areas_of}
 use Rattle.sl_run.specs.declared.header.Header.{Header}
@@ -15,7 +15,7 @@ use Rattle.std.proofs.lemmas.Bool.{cases_lt}
 use Rattle.std.proofs.lemmas.Bool.Decides.{Decides-eqb, nat_tests}
 use Rattle.std.proofs.lemmas.Option.{slice_get_within}
 use Rattle.std.specs.Int.{is_in_range}
-use Rattle.std.specs.Prelude.{AllPairs, Bool, Contains, IsTrue, List, Some, [], false, length, map, nat_le, nat_lt, slice_get, slice_index_or, suc, true, zero, ℕ, ◌%◌, ◌&&◌, ◌++◌, ◌+◌, ◌-◌, ◌<◌, ◌==◌, ◌||◌, ◌∷◌, ◌≡◌, ◌≤◌}
+use Rattle.std.specs.Prelude.{AllPairs, Bool, Contains, IsTrue, List, Some, [], false, length, map, nat_le, nat_lt, slice_get, slice_index_or, suc, true, zero, ℕ, ◌%◌, ◌&&◌, ◌++◌, ◌+◌, ◌-◌, ◌<◌, ◌==◌, ◌^◌, ◌||◌, ◌∷◌, ◌≡◌, ◌≤◌}
 
 -- ---- sizes
 
@@ -52,7 +52,7 @@ sector_fits g z = (fits_low g.sector z.sector, fits_high g.sector z.sector)
 in_by : (base o area : ℕ) → (nat_le base o && nat_lt o (base + area)) ≡ true → area ≡ 1048576 → (base ≤ o) × (o < base + 1048576)
 in_by base o area h is = (grind (arith, nat_tests), grind (arith, nat_tests))
 
-pub within_area : (g : Layout) (base o : ℕ) → IsSized g → IsTrue (in_area g base o) → (base ≤ o) × (o < base + 1048576)
+within_area : (g : Layout) (base o : ℕ) → IsSized g → IsTrue (in_area g base o) → (base ≤ o) × (o < base + 1048576)
 within_area g base o z h = in_by base o g.area h z.area
 
 by_bounds : (base o area : ℕ) → base ≤ o → o < base + 1048576 → area ≡ 1048576 → (nat_le base o && nat_lt o (base + area)) ≡ true
@@ -180,3 +180,7 @@ lockspace_aligned h l ok there =
 pub resource_aligned : (h : Header) (r : ResourceLine) → IsHeader h → Contains h.resources r → r.offset % 1048576 ≡ 0
 resource_aligned h r ok there =
     to_numeral r.offset h.geometry.area (ok.resources r there).1.aligned (sized (λ bs. bs) h.geometry ok.geometry).area
+
+-- What passes the test of a base is a multiple of the area's size.
+pub is_base_aligned : (g : Layout) (o : ℕ) → IsSized g → IsTrue (is_base g o) → o % 1048576 ≡ 0
+is_base_aligned g o z h = to_numeral o g.area ((Decides-eqb (o % g.area) 0).0 (and_true (o % g.area == 0) (nat_lt o (10 ^ 12)) h).0) z.area

@@ -21,10 +21,10 @@ use Rattle.sl_text.specs.Names.{is_name}
 use Rattle.sl_words.proofs.CaseLaws.{none_some, some_value}
 use Rattle.sl_words.proofs.WordLaws.{and_true, choose_some}
 use Rattle.sl_words.specs.Words.{choose}
-use Rattle.std.proofs.Common.{ap, arith, refl, subst, sym, ◌∙◌}
+use Rattle.std.proofs.Common.{arith, refl, subst, sym}
 use Rattle.std.proofs.lemmas.Bool.Decides.{nat_tests}
 use Rattle.std.specs.Option.{option_map_or}
-use Rattle.std.specs.Prelude.{Bool, Contains, IsTrue, List, None, Ok, Option, Some, bytes_eq, false, find, if◌then◌else◌, nat_lt, replicate, suc, true, zero, ℕ, ◌%◌, ◌&&◌, ◌*◌, ◌+◌, ◌-◌, ◌/◌, ◌<◌, ◌==◌, ◌^◌, ◌≡◌, ◌≤◌}
+use Rattle.std.specs.Prelude.{Bool, Contains, IsTrue, List, None, Ok, Option, Some, bytes_eq, false, find, if◌then◌else◌, nat_lt, replicate, suc, true, zero, ℕ, ◌&&◌, ◌*◌, ◌+◌, ◌-◌, ◌/◌, ◌<◌, ◌==◌, ◌^◌, ◌≡◌, ◌≤◌}
 
 -- ---- the records are records
 
@@ -169,7 +169,7 @@ pub data IsInitial (g : Layout) (h : Header) (path : List ℕ) (offset : ℕ) (r
   In_resource : (x : ResourceLine) → Contains h.resources x → x.path ≡ path → IsTrue (in_area g x.offset offset) → IsRecord r
       → ((d : DeltaRec) → r ≡ DeltaIs d → ⊥) → ((l : Leader) → r ≡ LeaderIs l → l ≡ fresh_leader g x.lockspace x.name) → IsInitial g h path offset r
 
-abbrev pub line_at : Layout → Header → List ℕ → ℕ → Option LockspaceLine
+abbrev line_at : Layout → Header → List ℕ → ℕ → Option LockspaceLine
 line_at g h path offset = find (λ l. bytes_eq l.path path && in_area g l.offset offset) h.lockspaces
 
 abbrev resource_at : Layout → Header → List ℕ → ℕ → Option ResourceLine
@@ -282,7 +282,7 @@ read_by : (digest : List ℕ → List ℕ) (h : Header) (path : List ℕ) (offse
     → initial_record (layout_with digest h.geometry) h path offset ≡ o
     → record_in (layout_with digest h.geometry)
     (elim o as (λ x. List ℕ) [ None ↦ replicate h.geometry.sector 0 | Some x ↦ sector_with (layout_with digest h.geometry) x ]) ≡ Ok r
-    → IsInitial (layout_with digest h.geometry) h path offset r × (initial_record (layout_with digest h.geometry) h path offset ≡ Some r)
+    → IsInitial (layout_with digest h.geometry) h path offset r
 read_by digest h path offset None r d ok is read =
     absurd (zeros_at digest h.geometry.sector r (sector_fits (layout_with digest h.geometry) (sized digest h.geometry ok.geometry)).0 read)
 read_by digest h path offset (Some x) r d ok is read =
@@ -290,14 +290,10 @@ read_by digest h path offset (Some x) r d ok is read =
     let its = initial_from digest h path offset x ok is in
     let again = spelled_is_read digest d h.geometry.sector (sector_fits g (sized digest h.geometry ok.geometry)) x (initial_is_record g h path offset x its) in
     let same : x ≡ r = same_read (record_in g (sector_with g x)) x r again read in
-    (subst (IsInitial g h path offset) same its, is ∙ ap (λ y. Some y) same)
-
--- Delta records stand at first where sectors begin.
-abbrev pub StartsAligned : Layout → Header → Type 0
-StartsAligned g h = (path : List ℕ) (offset : ℕ) (d : DeltaRec) → initial_record g h path offset ≡ Some (DeltaIs d) → offset % g.sector ≡ 0
+    subst (IsInitial g h path offset) same its
 
 -- What the bytes of a place spell at first stands there at first.
 pub read_first : (digest : List ℕ → List ℕ) (h : Header) (path : List ℕ) (offset : ℕ) (r : Rec) → IsDigest digest → IsHeader h
     → record_in (layout_with digest h.geometry) (initial_bytes (layout_with digest h.geometry) h path offset) ≡ Ok r
-    → IsInitial (layout_with digest h.geometry) h path offset r × (initial_record (layout_with digest h.geometry) h path offset ≡ Some r)
+    → IsInitial (layout_with digest h.geometry) h path offset r
 read_first digest h path offset r d ok read = read_by digest h path offset (initial_record (layout_with digest h.geometry) h path offset) r d ok refl read

@@ -3,7 +3,6 @@ use Rattle.sl_area.specs.Layouts.{Layout, layout_with}
 use Rattle.sl_course_law.specs.Stamping.{stamp_in}
 use Rattle.sl_front_law.proofs.Going.{IsKeptInRuns, IsLast, last_event, run_keeps}
 use Rattle.sl_place_law.proofs.Finding.{same_number}
-use Rattle.sl_place_law.proofs.Reading.{header_is, program_is}
 use Rattle.sl_run.specs.Events.{after_effects, after_step, first_change, input_of, machine_of, next_step, take_step, with_entry}
 use Rattle.sl_run.specs.Runs.{Happening}
 use Rattle.sl_run.specs.Safety.{LawfulRun, world_at}
@@ -15,7 +14,6 @@ use Rattle.sl_run_law.proofs.Going.{first_goes, run_goes}
 use Rattle.sl_run_law.proofs.Walking.{Asked, each_first, each_step, each_then, index, number_within}
 use Rattle.sl_run_law.specs.Machines.{EachMachine}
 use Rattle.sl_session_law.proofs.Making.{contains_cases, contains_more, contains_none}
-use Rattle.sl_trace.specs.Commands.{command_in}
 use Rattle.sl_trace.specs.declared.effects.Effects.{Effects}
 use Rattle.sl_trace.specs.declared.effects.Entry.{Entry}
 use Rattle.sl_trace.specs.declared.input.Input.TheVariants.{Answer as Told, Exit, Line, Spawned, Wake}
@@ -31,13 +29,12 @@ Falls n [] = Unit {0}
 Falls n (s ∷ ss) = (s.step < n) × Falls s.step ss
 
 -- What is said of each daemon of machine m while the world has made n steps.
-pub record IsFine (p : Program) (h : Header) (n m : ℕ) (d : Daemon) : Type 0 where
+pub record IsFine (h : Header) (n m : ℕ) (d : Daemon) : Type 0 where
   pub stamps : Falls n d.stamps
   pub given : (d.setting.given ≡ []) ⊎ (d.setting.given ≡ filter_map (given_of h m) h.sessions)
-  pub reads : d.setting.read ≡ command_in (p.commands h)
 
-abbrev AllFine : Program → Header → ℕ → ℕ → Machine → Type 0
-AllFine p h n m a = (d : Daemon) → Contains (daemons_on a) d → IsFine p h n m d
+abbrev AllFine : Header → ℕ → ℕ → Machine → Type 0
+AllFine h n m a = (d : Daemon) → Contains (daemons_on a) d → IsFine h n m d
 
 -- ---- what keeps it
 
@@ -54,8 +51,8 @@ one_more n = omega arith
 last_below : (n : ℕ) → n < n + 1
 last_below n = omega arith
 
-fine_more : (p : Program) (h : Header) (n m : ℕ) (d : Daemon) → IsFine p h n m d → IsFine p h (n + 1) m d
-fine_more p h n m d f = record { stamps = falls_more n (n + 1) d.stamps (one_more n) f.stamps; given = f.given; reads = f.reads }
+fine_more : (h : Header) (n m : ℕ) (d : Daemon) → IsFine h n m d → IsFine h (n + 1) m d
+fine_more h n m d f = record { stamps = falls_more n (n + 1) d.stamps (one_more n) f.stamps; given = f.given }
 
 abbrev with_running : Option Daemon → List Daemon → List Daemon
 with_running o ds = elim o [ None ↦ ds | Some d ↦ d ∷ ds ]
@@ -65,21 +62,18 @@ ended_too None ds d there = there
 ended_too (Some x) ds d there = contains_more x ds d there
 
 -- A daemon that is given nothing begins.
-begins : (p : Program) (h : Header) (n m : ℕ) (a : Machine) (x : Daemon) → x.stamps ≡ [] → x.setting.given ≡ [] → x.setting.read ≡ command_in (p.commands h) → AllFine p h n m a → (d : Daemon) → Contains (x ∷ a.ended) d → IsFine p h n m d
-begins p h n m a x stamps given reads fine d there =
-    elim (contains_cases x a.ended d there) as (λ z. IsFine p h n m d) [
-      | inl here ↦ subst (IsFine p h n m) here (record { stamps = subst (Falls n) (sym stamps) tt; given = inl given; reads = reads })
+begins : (h : Header) (n m : ℕ) (a : Machine) (x : Daemon) → x.stamps ≡ [] → x.setting.given ≡ [] → AllFine h n m a → (d : Daemon) → Contains (x ∷ a.ended) d → IsFine h n m d
+begins h n m a x stamps given fine d there =
+    elim (contains_cases x a.ended d there) as (λ z. IsFine h n m d) [
+      | inl here ↦ subst (IsFine h n m) here (record { stamps = subst (Falls n) (sym stamps) tt; given = inl given })
       | inr old ↦ fine d (ended_too a.daemon a.ended d old)
     ]
 
-abbrev StaysFine : Program → Header → ℕ → Machine → Machine → Type 0
-StaysFine p h m a b = (n : ℕ) → AllFine p h n m a → AllFine p h n m b
+abbrev StaysFine : Header → ℕ → Machine → Machine → Type 0
+StaysFine h m a b = (n : ℕ) → AllFine h n m a → AllFine h n m b
 
-reads_are : (p : Program) (h : Header) (w : World) → w.program ≡ p → w.header ≡ h → command_in (w.program.commands w.header) ≡ command_in (p.commands h)
-reads_are p h w program header = ap (λ (q : Program). command_in (q.commands w.header)) program ∙ ap (λ k. command_in (p.commands k)) header
-
-asked : (p : Program) (h : Header) (w : World) (e : Event) → w.program ≡ p → w.header ≡ h → Asked (StaysFine p h) w e
-asked p h w e program header =
+asked : (h : Header) (w : World) (e : Event) → Asked (StaysFine h) w e
+asked h w e =
     record {
       pass = λ d growths is m a at n fine x there. fine x there;
       sample = λ m c k is a at n fine x there. fine x there;
@@ -89,7 +83,7 @@ asked p h w e program header =
       done_write = λ m c is a f at g t n fine x there. fine x there;
       drop_write = λ m c is a at n fine x there. fine x there;
       tested = λ m is a at n fine x there. fine x there;
-      start = λ m name is a at n fine. begins p h n m a (new_daemon (length (daemons_on a)) (setting_of w.program w.layout w.header m name (next_numbers a) []) (stamp_now w a)) refl refl (reads_are p h w program header) fine;
+      start = λ m name is a at n fine. begins h n m a (new_daemon (length (daemons_on a)) (setting_of w.program w.layout w.header m name (next_numbers a) []) (stamp_now w a)) refl refl fine;
       crash = λ m is a at n fine x there. fine x there;
       reset = λ m is a at n fine x there. fine x there;
       restart = λ m is a at n fine x there. fine x there;
@@ -97,48 +91,48 @@ asked p h w e program header =
 
 -- ---- a step
 
-abbrev StepsFine : Program → Header → ℕ → ℕ → Machine → Machine → Type 0
-StepsFine p h n m a b = AllFine p h n m a → AllFine p h (n + 1) m b
+abbrev StepsFine : Header → ℕ → ℕ → Machine → Machine → Type 0
+StepsFine h n m a b = AllFine h n m a → AllFine h (n + 1) m b
 
-entered_by : (p : Program) (h : Header) (m : ℕ) (e : Entry) (now : Stamp) (o : Option Daemon) (ds : List Daemon) → ((d : Daemon) → Contains (with_running o ds) d → IsFine p h now.step m d)
-    → (d : Daemon) → Contains (with_running (option_map (with_entry e now) o) ds) d → IsFine p h (now.step + 1) m d
-entered_by p h m e now None ds fine d there = fine_more p h now.step m d (fine d there)
-entered_by p h m e now (Some x) ds fine d there =
-    elim (contains_cases (with_entry e now x) ds d there) as (λ z. IsFine p h (now.step + 1) m d) [
-      | inl here ↦ subst (IsFine p h (now.step + 1) m) here
-          (let old : IsFine p h now.step m x = fine x (zero, omega arith, refl) in record { stamps = (last_below now.step, old.stamps); given = old.given; reads = old.reads })
-      | inr old ↦ fine_more p h now.step m d (fine d (contains_more x ds d old))
+entered_by : (h : Header) (m : ℕ) (e : Entry) (now : Stamp) (o : Option Daemon) (ds : List Daemon) → ((d : Daemon) → Contains (with_running o ds) d → IsFine h now.step m d)
+    → (d : Daemon) → Contains (with_running (option_map (with_entry e now) o) ds) d → IsFine h (now.step + 1) m d
+entered_by h m e now None ds fine d there = fine_more h now.step m d (fine d there)
+entered_by h m e now (Some x) ds fine d there =
+    elim (contains_cases (with_entry e now x) ds d there) as (λ z. IsFine h (now.step + 1) m d) [
+      | inl here ↦ subst (IsFine h (now.step + 1) m) here
+          (let old : IsFine h now.step m x = fine x (zero, omega arith, refl) in record { stamps = (last_below now.step, old.stamps); given = old.given })
+      | inr old ↦ fine_more h now.step m d (fine d (contains_more x ds d old))
     ]
 
-entered : (p : Program) (h : Header) (m : ℕ) (e : Entry) (now : Stamp) (a b : Machine) → b.daemon ≡ option_map (with_entry e now) a.daemon → b.ended ≡ a.ended → AllFine p h now.step m a
-    → AllFine p h (now.step + 1) m b
-entered p h m e now a b daemon ended fine d there =
-    entered_by p h m e now a.daemon a.ended fine d
+entered : (h : Header) (m : ℕ) (e : Entry) (now : Stamp) (a b : Machine) → b.daemon ≡ option_map (with_entry e now) a.daemon → b.ended ≡ a.ended → AllFine h now.step m a
+    → AllFine h (now.step + 1) m b
+entered h m e now a b daemon ended fine d there =
+    entered_by h m e now a.daemon a.ended fine d
     (subst (λ o. Contains (with_running o a.ended) d) daemon (subst (λ ds. Contains (with_running b.daemon ds) d) ended there))
 
 abbrev entry_of : Input → Effects → Machine → Entry
 entry_of i fx a = record { reading = reading_now a; input = i; effects = fx }
 
-steps_fine : (p : Program) (h : Header) (m : ℕ) (now : Stamp) (i : Input) (fx : Effects) (a : Machine) → AllFine p h now.step m a → AllFine p h (now.step + 1) m (after_step now i fx a)
-steps_fine p h m now (Line text) fx a = entered p h m (entry_of (Line text) fx a) now a (after_step now (Line text) fx a) refl refl
-steps_fine p h m now (Told n answer) fx a = entered p h m (entry_of (Told n answer) fx a) now a (after_step now (Told n answer) fx a) refl refl
-steps_fine p h m now Wake fx a = entered p h m (entry_of Wake fx a) now a (after_step now Wake fx a) refl refl
-steps_fine p h m now (Exit k) fx a = entered p h m (entry_of (Exit k) fx a) now a (after_step now (Exit k) fx a) refl refl
-steps_fine p h m now (Spawned k ok) fx a = entered p h m (entry_of (Spawned k ok) fx a) now a (after_step now (Spawned k ok) fx a) refl refl
+steps_fine : (h : Header) (m : ℕ) (now : Stamp) (i : Input) (fx : Effects) (a : Machine) → AllFine h now.step m a → AllFine h (now.step + 1) m (after_step now i fx a)
+steps_fine h m now (Line text) fx a = entered h m (entry_of (Line text) fx a) now a (after_step now (Line text) fx a) refl refl
+steps_fine h m now (Told n answer) fx a = entered h m (entry_of (Told n answer) fx a) now a (after_step now (Told n answer) fx a) refl refl
+steps_fine h m now Wake fx a = entered h m (entry_of Wake fx a) now a (after_step now Wake fx a) refl refl
+steps_fine h m now (Exit p) fx a = entered h m (entry_of (Exit p) fx a) now a (after_step now (Exit p) fx a) refl refl
+steps_fine h m now (Spawned p ok) fx a = entered h m (entry_of (Spawned p ok) fx a) now a (after_step now (Spawned p ok) fx a) refl refl
 
-still : (p : Program) (h : Header) (n m : ℕ) (a : Machine) → StepsFine p h n m a a
-still p h n m a fine d there = fine_more p h n m d (fine d there)
+still : (h : Header) (n m : ℕ) (a : Machine) → StepsFine h n m a a
+still h n m a fine d there = fine_more h n m d (fine d there)
 
-step_fine : (p : Program) (h : Header) (m : ℕ) (o : Option Input) (fx : Effects) (v : World) → EachMachine (StepsFine p h v.step) v (take_step m o fx v)
-step_fine p h m o fx v =
-    each_step (StepsFine p h v.step) m o fx v (still p h v.step)
-    (λ none a at fine d there. fine_more p h v.step m d (fine d there))
-    (λ i is a at. steps_fine p h m (stamp_now v a) i fx a)
+step_fine : (h : Header) (m : ℕ) (o : Option Input) (fx : Effects) (v : World) → EachMachine (StepsFine h v.step) v (take_step m o fx v)
+step_fine h m o fx v =
+    each_step (StepsFine h v.step) m o fx v (still h v.step)
+    (λ none a at fine d there. fine_more h v.step m d (fine d there))
+    (λ i is a at. steps_fine h m (stamp_now v a) i fx a)
 
 -- ---- worlds
 
-abbrev FineWorld : Program → Header → World → Type 0
-FineWorld p h w = (m : ℕ) (a : Machine) → machine_at w m ≡ Some a → AllFine p h w.step m a
+abbrev FineWorld : Header → World → Type 0
+FineWorld h w = (m : ℕ) (a : Machine) → machine_at w m ≡ Some a → AllFine h w.step m a
 
 changed_by : (m : ℕ) (f : Machine → Machine) (w : World) (o : Option Machine)
     → (elim o as (λ x. World) [ None ↦ w | Some a ↦ record w { machines = slice_set w.machines (m - 1) (f a) } ]).step ≡ w.step
@@ -175,31 +169,31 @@ back S w v same each m b at =
 same_count : (p : Program) (h : Header) (now later : List Happening) → length (world_at p h later).machines ≡ length (world_at p h now).machines
 same_count p h now later = (run_goes (world_with p h) later).machines ∙ sym (run_goes (world_with p h) now).machines
 
-abbrev Goes : Program → Header → ℕ → ℕ → ℕ → Machine → Machine → Type 0
-Goes p h n k m a b = AllFine p h n m a → AllFine p h k m b
+abbrev Goes : Header → ℕ → ℕ → ℕ → Machine → Machine → Type 0
+Goes h n k m a b = AllFine h n m a → AllFine h k m b
 
-event_fine : (p : Program) (h : Header) (e : Event) (m : ℕ) (o : Option Input) (fx : Effects) (w : World) → w.program ≡ p → w.header ≡ h
-    → EachMachine (Goes p h w.step (w.step + 1 + 1)) w (take_step m o fx (next_step (first_change e w)))
-event_fine p h e m o fx w program header =
+event_fine : (h : Header) (e : Event) (m : ℕ) (o : Option Input) (fx : Effects) (w : World)
+    → EachMachine (Goes h w.step (w.step + 1 + 1)) w (take_step m o fx (next_step (first_change e w)))
+event_fine h e m o fx w =
     let u : World = next_step (first_change e w) in
     let same : u.step ≡ w.step + 1 = ap (λ n. n + 1) (first_step e w) in
-    let begun : EachMachine (StaysFine p h) w u = each_first (StaysFine p h) e w (λ none k a n fine. fine) (asked p h w e program header) in
-    let next : EachMachine (StepsFine p h (w.step + 1)) u (take_step m o fx u) =
-    subst (λ n. EachMachine (StepsFine p h n) u (take_step m o fx u)) same (step_fine p h m o fx u) in
-    each_then (StaysFine p h) (StepsFine p h (w.step + 1)) (Goes p h w.step (w.step + 1 + 1)) w u (take_step m o fx u)
-    (λ k a b c one two fine. two (λ d there. fine_more p h w.step k d (one w.step fine d there))) begun next
+    let begun : EachMachine (StaysFine h) w u = each_first (StaysFine h) e w (λ none k a n fine. fine) (asked h w e) in
+    let next : EachMachine (StepsFine h (w.step + 1)) u (take_step m o fx u) =
+    subst (λ n. EachMachine (StepsFine h n) u (take_step m o fx u)) same (step_fine h m o fx u) in
+    each_then (StaysFine h) (StepsFine h (w.step + 1)) (Goes h w.step (w.step + 1 + 1)) w u (take_step m o fx u)
+    (λ k a b c one two fine. two (λ d there. fine_more h w.step k d (one w.step fine d there))) begun next
 
-next_fine : (p : Program) (h : Header) (now : List Happening) (x : Happening) → LawfulRun p h (now ++ x ∷ []) → FineWorld p h (world_at p h now) → FineWorld p h (world_at p h (now ++ x ∷ []))
+next_fine : (p : Program) (h : Header) (now : List Happening) (x : Happening) → LawfulRun p h (now ++ x ∷ []) → FineWorld h (world_at p h now) → FineWorld h (world_at p h (now ++ x ∷ []))
 next_fine p h now x run fine m b at =
     let w : World = world_at p h now in
     let last : IsLast p h now x = last_event p h now x run in
     let u : World = next_step (first_change x.0 w) in
-    let go : EachMachine (Goes p h w.step (w.step + 1 + 1)) w (world_at p h (now ++ x ∷ [])) =
-    subst (λ v. EachMachine (Goes p h w.step (w.step + 1 + 1)) w v) (sym last.after) (event_fine p h x.0 (machine_of x.0) (input_of w x.0) last.effects w (program_is p h now) (header_is p h now)) in
-    let was = back (Goes p h w.step (w.step + 1 + 1)) w (world_at p h (now ++ x ∷ [])) (same_count p h now (now ++ x ∷ [])) go m b at in
+    let go : EachMachine (Goes h w.step (w.step + 1 + 1)) w (world_at p h (now ++ x ∷ [])) =
+    subst (λ v. EachMachine (Goes h w.step (w.step + 1 + 1)) w v) (sym last.after) (event_fine h x.0 (machine_of x.0) (input_of w x.0) last.effects w) in
+    let was = back (Goes h w.step (w.step + 1 + 1)) w (world_at p h (now ++ x ∷ [])) (same_count p h now (now ++ x ∷ [])) go m b at in
     let steps : (world_at p h (now ++ x ∷ [])).step ≡ w.step + 1 + 1 =
     ap (λ v. v.step) last.after ∙ step_is (machine_of x.0) (input_of w x.0) last.effects u ∙ ap (λ n. n + 1 + 1) (first_step x.0 w) in
-    subst (λ n. AllFine p h n m b) (sym steps) (was.2 (fine m was.0 was.1))
+    subst (λ n. AllFine h n m b) (sym steps) (was.2 (fine m was.0 was.1))
 
 -- ---- at first
 
@@ -210,33 +204,33 @@ numbered f k (suc n) (suc i) a h = let same : (k + 1) + i ≡ k + suc i = omega 
 
 first_by : (p : Program) (g : Layout) (h : Header) (m : ℕ) (o : Option SessionLine) (d : Daemon)
     → Contains (with_running (option_map (λ (s : SessionLine). new_daemon 0 (setting_of p g h m s.name first_numbers (filter_map (given_of h m) h.sessions)) (first_stamp h m)) o) []) d
-    → IsFine p h 1 m d
+    → IsFine h 1 m d
 first_by p g h m None d there = absurd (contains_none d there)
 first_by p g h m (Some s) d there =
-    elim (contains_cases (new_daemon 0 (setting_of p g h m s.name first_numbers (filter_map (given_of h m) h.sessions)) (first_stamp h m)) [] d there) as (λ z. IsFine p h 1 m d) [
-      | inl here ↦ subst (IsFine p h 1 m) here (record { stamps = tt; given = inr refl; reads = refl })
+    elim (contains_cases (new_daemon 0 (setting_of p g h m s.name first_numbers (filter_map (given_of h m) h.sessions)) (first_stamp h m)) [] d there) as (λ z. IsFine h 1 m d) [
+      | inl here ↦ subst (IsFine h 1 m) here (record { stamps = tt; given = inr refl })
       | inr old ↦ absurd (contains_none d old)
     ]
 
-first_fine : (p : Program) (g : Layout) (h : Header) (m : ℕ) → AllFine p h 1 m (machine_of_header p g h m)
+first_fine : (p : Program) (g : Layout) (h : Header) (m : ℕ) → AllFine h 1 m (machine_of_header p g h m)
 unfolding machine_of_header
 first_fine p g h m d there = first_by p g h m (find (λ (s : SessionLine). s.machine == m) h.sessions) d there
 
-begins_fine : (p : Program) (h : Header) → FineWorld p h (world_with p h)
+begins_fine : (p : Program) (h : Header) → FineWorld h (world_with p h)
 begins_fine p h m a at =
     let g : Layout = layout_with p.digest h.geometry in
     let within = number_within (world_with p h) m a at in
     let is : a ≡ machine_of_header p g h (1 + (m - 1)) = numbered (machine_of_header p g h) 1 h.machines (m - 1) a (index (world_with p h) m a at).1 in
     let same : a ≡ machine_of_header p g h m = is ∙ ap (machine_of_header p g h) within.1 in
-    subst (AllFine p h 1 m) (sym same) (first_fine p g h m)
+    subst (AllFine h 1 m) (sym same) (first_fine p g h m)
 
-kept_fine : (p : Program) (h : Header) → IsKeptInRuns p h (λ now. FineWorld p h (world_at p h now))
+kept_fine : (p : Program) (h : Header) → IsKeptInRuns p h (λ now. FineWorld h (world_at p h now))
 kept_fine p h = record { first = begins_fine p h; next = next_fine p h }
 
 -- After each lawful run.
 pub daemons_are_fine : (p : Program) (h : Header) (xs : List Happening) → LawfulRun p h xs → (m : ℕ) (a : Machine) (d : Daemon) → machine_at (world_at p h xs) m ≡ Some a
-    → Contains (daemons_on a) d → IsFine p h (world_at p h xs).step m d
-daemons_are_fine p h xs run m a d at there = run_keeps p h (λ now. FineWorld p h (world_at p h now)) (kept_fine p h) xs run m a at d there
+    → Contains (daemons_on a) d → IsFine h (world_at p h xs).step m d
+daemons_are_fine p h xs run m a d at there = run_keeps p h (λ now. FineWorld h (world_at p h now)) (kept_fine p h) xs run m a at d there
 
 -- ---- stamps in order
 

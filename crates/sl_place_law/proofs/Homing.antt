@@ -10,8 +10,8 @@ use Rattle.sl_place_law.proofs.Finding.{equal_numbers}
 use Rattle.sl_place_law.proofs.Leased.{IsLeased, verified_leased}
 use Rattle.sl_place_law.proofs.Looks.{IsOwnDelta, delta_is_own}
 use Rattle.sl_place_law.proofs.Reading.{IsPromised, IsTraced, call_law, owner_of, traced}
-use Rattle.sl_place_law.proofs.Seats.{Delta_home, HomeBefore, IsHome, IsLooseDelta, IsSeated, Lease_home, given_seated, home_early, look_seated, sized_in}
-use Rattle.sl_place_law.specs.Homes.{In_lockspace, In_resource, IsAtHome, IsLeaseLanding, NothingLandsElsewhere, ResourcesHoldLeases, WrittenBySession}
+use Rattle.sl_place_law.proofs.Seats.{Delta_home, HomeBefore, IsHome, IsSeated, Lease_home, delta_within, given_seated, home_early, look_seated, sized_in}
+use Rattle.sl_place_law.specs.Homes.{In_lockspace, In_resource, IsAtHome, IsDeltaLanding, IsLeaseLanding, LockspacesHoldDeltas, NothingLandsElsewhere, ResourcesHoldLeases, WrittenBySession}
 use Rattle.sl_run.specs.Headers.{IsHeader}
 use Rattle.sl_run.specs.Runs.{Happening}
 use Rattle.sl_run.specs.Safety.{Found, LawfulRun, SessionId, is_course_of, session_of_world, world_at}
@@ -33,7 +33,7 @@ use Rattle.sl_words.proofs.CaseLaws.{none_some}
 use Rattle.sl_words.proofs.OrderLaws.{by_smaller}
 use Rattle.std.proofs.Common.{ap, arith, inl, inr, refl, subst, sym, ◌∙◌}
 use Rattle.std.proofs.lemmas.Bool.{and_from}
-use Rattle.std.specs.Prelude.{Contains, IsTrue, List, None, Option, Some, false, option_and_then, option_map, ℕ, ◌%◌, ◌+◌, ◌-◌, ◌/◌, ◌<◌, ◌≡◌, ◌≤◌}
+use Rattle.std.specs.Prelude.{Contains, IsTrue, List, None, Option, Some, false, option_and_then, option_map, ℕ, ◌%◌, ◌-◌, ◌<◌, ◌≡◌, ◌≤◌}
 
 -- ---- the writer of a landing
 
@@ -142,17 +142,18 @@ delta_home p h xs b run x t home d is =
     let seat = seated_from p h xs b run x t home d own s.job refl in
     let layout : st.layout ≡ w.layout = (b.of_world p h xs run t.machine t.wrote.machine t.trace.daemon t.wrote.at t.trace.has).layout in
     let path : x.path ≡ seat.line.path = path_of w x t ∙ own.own.0 ∙ seat.path in
-    let offset : x.offset ≡ delta_offset w.layout s.offset s.id = offset_of w x t ∙ own.own.1 ∙ ap (λ (g : Layout). delta_offset g s.offset s.id) layout in
-    Delta_home seat.line seat.there path (subst (λ o. IsTrue (in_area w.layout seat.line.offset o)) (sym offset) seat.inside)
+    let id : (1 ≤ d.id) × (d.id ≤ w.layout.hosts) = subst (λ n. (1 ≤ n) × (n ≤ w.layout.hosts)) (sym own.names.1) seat.id in
+    let offset : x.offset ≡ delta_offset w.layout seat.line.offset d.id =
+    offset_of w x t ∙ own.own.1 ∙ ap (λ (g : Layout). delta_offset g s.offset s.id) layout ∙ ap (λ o. delta_offset w.layout o s.id) seat.offset
+    ∙ ap (λ n. delta_offset w.layout seat.line.offset n) (sym own.names.1) in
+    Delta_home seat.line seat.there path
+    (subst (λ o. IsTrue (in_area w.layout seat.line.offset o)) (sym offset) (delta_within w.layout seat.line.offset d.id (sized_in p h xs run) id.0 id.1))
     (record {
       written = written_by w x t;
       delta = d;
       spells = is;
-      name = own.names.0 ∙ seat.name;
-      id = subst (λ n. (1 ≤ n) × (n ≤ w.layout.hosts)) (sym own.names.1) seat.id;
-      index = own.names.1 ∙ seat.index ∙ ap (λ o. (o - seat.line.offset) / w.layout.sector + 1) (sym offset);
-      aligned = λ starts. subst (λ o. o % w.layout.sector ≡ 0) (sym offset) (seat.aligned starts);
-      of_session = (seat.name, sym own.names.1, seat.path, offset);
+      names = (own.names.0 ∙ seat.name, offset, id.0, id.1);
+      of_session = (seat.name, sym own.names.1, seat.path, seat.offset);
     })
 
 -- ---- another record
@@ -246,18 +247,17 @@ at_home p h xs b run x there = by_smaller (HomeAt h (world_at p h xs)) (home_ste
 -- ---- what it says of areas
 
 of_lockspace : (h : Header) (w : World) → IsHeader h → IsSized w.layout → (l : LockspaceLine) → Contains h.lockspaces l → (x : Landing) → x.path ≡ l.path
-    → IsTrue (in_area w.layout l.offset x.offset) → IsHome h w x → IsLooseDelta h w l x
+    → IsTrue (in_area w.layout l.offset x.offset) → IsHome h w x → IsDeltaLanding w l x
 of_lockspace h w ok z l there x path inside (Delta_home k here way within landing) =
     let base = same_base w.layout k.offset l.offset x.offset z (lockspace_aligned h k ok here) (lockspace_aligned h l ok there) within inside in
-    subst (λ y. IsLooseDelta h w y x) (one_lockspace h k l ok here there (sym way ∙ path) base) landing
+    subst (λ y. IsDeltaLanding w y x) (one_lockspace h k l ok here there (sym way ∙ path) base) landing
 of_lockspace h w ok z l there x path inside (Lease_home r here way within landing) =
     let base = same_base w.layout l.offset r.offset x.offset z (lockspace_aligned h l ok there) (resource_aligned h r ok here) inside within in
     absurd (never_both h l r ok there here (sym path ∙ way) base)
 
--- In a lockspace's area only delta records land, each in the sector of its id.
-pub loose_deltas : (p : Program) (h : Header) (xs : List Happening) → IsPromised → LawfulRun p h xs → (l : LockspaceLine) → Contains h.lockspaces l → (x : Landing)
-    → Contains (world_at p h xs).landings x → x.path ≡ l.path → IsTrue (in_area (world_at p h xs).layout l.offset x.offset) → IsLooseDelta h (world_at p h xs) l x
-loose_deltas p h xs b run l there x landed path inside =
+-- In a lockspace's area only delta records of its ids land.
+pub lockspaces_hold_deltas_given : IsPromised → LockspacesHoldDeltas
+lockspaces_hold_deltas_given b p h xs run l there x landed path inside =
     of_lockspace h (world_at p h xs) run.header (sized_in p h xs run) l there x path inside (at_home p h xs b run x landed)
 
 of_resource : (h : Header) (w : World) → IsHeader h → IsSized w.layout → (r : ResourceLine) → Contains h.resources r → (x : Landing) → x.path ≡ r.path

@@ -141,7 +141,7 @@ shown_leader p h xs b run path offset bytes n l home read s =
           (subst (λ o. IsLeaderPlace h w s.landing.path o l) s.place.1 (at_home p h xs b run s.landing l its (home s.landing landed s.early)))
       | inr first ↦
           at_first h w path offset l
-          (initial_in p h xs run path offset (LeaderIs l) (subst (λ (y : Landing). record_in w.layout y.bytes ≡ Ok (LeaderIs l)) first its)).0
+          (initial_in p h xs run path offset (LeaderIs l) (subst (λ (y : Landing). record_in w.layout y.bytes ≡ Ok (LeaderIs l)) first its))
     ]
 
 -- ---- a session that has verified

@@ -8,6 +8,5 @@ pub mod Looks
 pub mod Seats
 pub mod Leased
 pub mod Homing
-pub mod Exact
-pub mod Unaligned
 pub mod Proven
+pub mod Checks

@@ -1,5 +1,6 @@
 -- A session that writes its sector was given, or had looked at the sector before: its first read gave a record of its lockspace and id.
 use Rattle.sl_area.specs.Layouts.{record_in}
+use Rattle.sl_area.specs.Places.{is_base}
 use Rattle.sl_law.specs.Lawful.{Lawful}
 use Rattle.sl_law.specs.LawfulDelta.{Gave, LawfulClaim, LawfulDeciding, LawfulDeltaCall, LawfulFirstRenewal, LawfulJoin, LawfulJoinStep, LawfulLook, LawfulVerify, is_on_own_sector}
 use Rattle.sl_place_law.proofs.Finding.{filtered, found_in, place_is, same_number}
@@ -203,13 +204,14 @@ lawfully st es s at step h its e =
       own = at_own st s (made_as w.made) (w.placed (joins_own p.0 step e.call.call.purpose p.1));
     }
 
--- The first look of a joining: what it read is a record of the session's lockspace and id.
+-- The first look of a joining, which is at the base of an area: what it read is a record of the session's lockspace and id.
 pub record Look (st : Setting) (es : Trace) (s : Session) (at : ℕ) : Type 0 where
   pub first : Submitted
   pub bytes : List ℕ
   pub found : DeltaRec
   pub read : Heard es s at bytes first
   pub op : first.call.op ≡ ReadSectors 1
+  pub base : IsTrue (is_base st.layout s.offset)
   pub own : (first.call.path ≡ s.path) × (first.call.offset ≡ own_offset st s)
   pub spelled : delta_in (record_in st.layout bytes) ≡ Some found
   pub names : (found.lockspace ≡ s.lockspace) × (found.id ≡ s.id)
@@ -226,6 +228,7 @@ look_too st es s k at le l =
       found = l.found;
       read = heard_too es s k at l.bytes l.first le l.read;
       op = l.op;
+      base = l.base;
       own = l.own;
       spelled = l.spelled;
       names = l.names;
@@ -243,6 +246,7 @@ at_deciding st es s at h its e =
       found = law.found;
       read = heard es s e.call l.was.made law.bytes law.first law.given.0 law.given.2;
       op = look.reads;
+      base = look.placed;
       own = first.own;
       spelled = law.spelled.0;
       names = (law.spelled.1, law.spelled.2);

@@ -1,16 +1,15 @@
 -- A session has the number of its place, and is given by the setting or begun by a command.
 use Rattle.sl_session_law.proofs.Making.{contains_cases, contains_more, contains_none, contains_first}
 use Rattle.sl_front_law.proofs.Having.{contains_append}
-use Rattle.sl_sessions.specs.Sessions.{Session, added, added_by, begun_in, given_session, is_join_call, joining_session, session_numbered, sessions}
-use Rattle.sl_trace.specs.Traces.{Setting, Trace, line_in, next_job}
+use Rattle.sl_sessions.specs.Sessions.{Session, added_by, begun_in, given_session, is_join_call, joining_session, session_numbered, sessions}
+use Rattle.sl_trace.specs.Traces.{Setting, Trace, next_job}
 use Rattle.sl_trace.specs.declared.command.LockspaceArg.{LockspaceArg}
 use Rattle.sl_trace.specs.declared.effects.JoinStep.TheVariants.{FirstRead}
 use Rattle.sl_trace.specs.declared.input.Given.{Given}
-use Rattle.sl_trace.specs.declared.input.Input.{Input}
 use Rattle.sl_words.proofs.CaseLaws.{none_some, some_value}
 use Rattle.std.proofs.Common.{ap, arith, inl, inr, refl, subst, sym, ◌∙◌}
 use Rattle.std.specs.List.{enumerate_from, list_any}
-use Rattle.std.specs.Prelude.{Bool, Contains, List, None, Option, Some, [], false, length, map, option_and_then, slice_get, suc, true, zero, ℕ, ◌++◌, ◌+◌, ◌∷◌, ◌≡◌, ◌⊎◌}
+use Rattle.std.specs.Prelude.{Bool, Contains, List, None, Option, Some, [], false, length, map, slice_get, suc, true, zero, ℕ, ◌++◌, ◌+◌, ◌∷◌, ◌≡◌, ◌⊎◌}
 
 -- ---- numbers
 
@@ -61,7 +60,7 @@ session_number st es n s at = number_at 0 (sessions st es) n s (numbered_all st 
 -- Where a session is from.
 pub data Origin (st : Setting) (s : Session) : Type 0 where
   Of_setting : (i : ℕ) (g : Given) → Contains st.given g → s ≡ given_session (i, g) → Origin st s
-  Of_command : (j : ℕ) (text : List ℕ) (a : LockspaceArg) → s.job ≡ Some j → added (st.read text) ≡ Some a → s.offset ≡ a.offset → Origin st s
+  Of_command : (j : ℕ) → s.job ≡ Some j → Origin st s
 
 given_origin : (st : Setting) (k : ℕ) (gs : List Given) (s : Session) → ((g : Given) → Contains gs g → Contains st.given g)
     → Contains (map given_session (enumerate_from k gs)) s → Origin st s
@@ -73,19 +72,12 @@ given_origin st k (g ∷ gs) s among there =
     by rest (inl here) = Of_setting k g (among g (contains_first g gs)) (sym here)
     by rest (inr old) = rest old
 
-line_of : (st : Setting) (o : Option (List ℕ)) (a : LockspaceArg) → option_and_then (λ text. added (st.read text)) o ≡ Some a → (text : List ℕ) × (added (st.read text) ≡ Some a)
-line_of st None a h = absurd (none_some a h)
-line_of st (Some text) a h = (text, h)
-
-begun_origin : (st : Setting) (es : Trace) (n : ℕ) (i : Input) (b : Bool) (o : Option LockspaceArg) (s : Session) → added_by st i ≡ o
-    → Contains (begun_by st es n b o) s → Origin st s
-begun_origin st es n i false o s is there = absurd (contains_none s there)
-begun_origin st es n i true None s is there = absurd (contains_none s there)
-begun_origin st es n i true (Some a) s is there = by (contains_cases (joining_session n (next_job st es) a) [] s there) where
+begun_origin : (st : Setting) (es : Trace) (n : ℕ) (b : Bool) (o : Option LockspaceArg) (s : Session) → Contains (begun_by st es n b o) s → Origin st s
+begun_origin st es n false o s there = absurd (contains_none s there)
+begun_origin st es n true None s there = absurd (contains_none s there)
+begun_origin st es n true (Some a) s there = by (contains_cases (joining_session n (next_job st es) a) [] s there) where
   by : (joining_session n (next_job st es) a ≡ s) ⊎ Contains [] s → Origin st s
-  by (inl here) =
-      let line = line_of st (line_in i) a is in
-      Of_command (next_job st es) line.0 a (ap (λ x. x.job) (sym here)) line.1 (ap (λ x. x.offset) (sym here))
+  by (inl here) = Of_command (next_job st es) (ap (λ x. x.job) (sym here))
   by (inr old) = absurd (contains_none s old)
 
 pub origin_of : (st : Setting) (es : Trace) (s : Session) → Contains (sessions st es) s → Origin st s
@@ -93,7 +85,7 @@ origin_of st [] s there = given_origin st 0 st.given s (λ g inside. inside) the
 origin_of st (e ∷ es) s there =
     let ss : List Session = sessions st es in
     by (λ old. origin_of st es s old)
-    (λ new. begun_origin st es (length ss) e.input (list_any (λ c. is_join_call FirstRead c.purpose) e.effects.calls) (added_by st e.input) s refl new)
+    (λ new. begun_origin st es (length ss) (list_any (λ c. is_join_call FirstRead c.purpose) e.effects.calls) (added_by st e.input) s new)
     (contains_append ss (begun_in st es (length ss) e) s there)
   where
     by : (Contains (sessions st es) s → Origin st s) → (Contains (begun_in st es (length (sessions st es)) e) s → Origin st s)

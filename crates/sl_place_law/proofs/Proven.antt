@@ -3,11 +3,9 @@ use Rattle.sl_course_law.proofs.Counting.{courses_have_daemons}
 use Rattle.sl_course_law.proofs.Made.{daemons_are_of_world}
 use Rattle.sl_course_law.proofs.Matched.{courses_are_calls}
 use Rattle.sl_landing_law.proofs.Proven.{landings_are_written}
-use Rattle.sl_place_law.proofs.Exact.{by_joins}
-use Rattle.sl_place_law.proofs.Homing.{nothing_lands_elsewhere_given, resources_hold_leases_given}
+use Rattle.sl_place_law.proofs.Homing.{lockspaces_hold_deltas_given, nothing_lands_elsewhere_given, resources_hold_leases_given}
 use Rattle.sl_place_law.proofs.Reading.{IsPromised}
-use Rattle.sl_place_law.specs.Bases.{JoinsAligned, LockspacesHoldDeltasIf}
-use Rattle.sl_place_law.specs.Homes.{NothingLandsElsewhere, ResourcesHoldLeases}
+use Rattle.sl_place_law.specs.Homes.{LockspacesHoldDeltas, NothingLandsElsewhere, ResourcesHoldLeases}
 use Rattle.sl_sample_law.proofs.Proven.{done_reads_are_whole, sampled_are_sectors, samples_are_landings}
 
 pub promised : IsPromised
@@ -22,11 +20,11 @@ promised =
       done = done_reads_are_whole;
     }
 
+pub lockspaces_hold_deltas : LockspacesHoldDeltas
+lockspaces_hold_deltas = lockspaces_hold_deltas_given promised
+
 pub resources_hold_leases : ResourcesHoldLeases
 resources_hold_leases = resources_hold_leases_given promised
 
 pub nothing_lands_elsewhere : NothingLandsElsewhere
 nothing_lands_elsewhere = nothing_lands_elsewhere_given promised
-
-pub lockspaces_hold_deltas : LockspacesHoldDeltasIf JoinsAligned
-lockspaces_hold_deltas = by_joins promised

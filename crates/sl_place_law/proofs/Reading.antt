@@ -35,7 +35,7 @@ use Rattle.sl_trace.specs.declared.input.Answer.TheVariants.{Failed, Read, Writt
 use Rattle.sl_trace.specs.declared.input.Answer.{Answer}
 use Rattle.sl_words.proofs.CaseLaws.{false_is_true, none_some, some_value, true_is_false}
 use Rattle.std.proofs.Common.{ap, arith, inl, inr, refl, subst, sym, ◌∙◌}
-use Rattle.std.specs.Prelude.{option_map, Contains, IsSome, List, drop, take, ◌++◌, ◌-◌, None, Ok, Option, Some, [], is_ok, length, not, option_and_then, slice_get, suc, true, zero, ℕ, ◌*◌, ◌+◌, ◌<◌, ◌==◌, ◌∷◌, ◌≡◌, ◌⊎◌}
+use Rattle.std.specs.Prelude.{Contains, IsSome, List, drop, take, ◌++◌, ◌-◌, None, Ok, Option, Some, [], is_ok, length, not, option_and_then, option_map, slice_get, suc, true, zero, ℕ, ◌*◌, ◌+◌, ◌<◌, ◌==◌, ◌∷◌, ◌≡◌, ◌⊎◌}
 
 -- What the crates of calls, landings and samples promise.
 pub record IsPromised : Type 0 where
@@ -51,9 +51,6 @@ pub record IsPromised : Type 0 where
 
 pub header_is : (p : Program) (h : Header) (xs : List Happening) → (world_at p h xs).header ≡ h
 header_is p h xs = (run_goes (world_with p h) xs).header
-
-pub program_is : (p : Program) (h : Header) (xs : List Happening) → (world_at p h xs).program ≡ p
-program_is p h xs = (run_goes (world_with p h) xs).program
 
 pub layout_is : (p : Program) (h : Header) (xs : List Happening) → (world_at p h xs).layout ≡ layout_with p.digest h.geometry
 layout_is p h xs = (run_goes (world_with p h) xs).layout

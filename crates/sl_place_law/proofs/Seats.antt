@@ -1,21 +1,21 @@
--- Where a landing is at home, and where a session's sector is: a session that writes it has it in the area of its lockspace.
+-- Where a landing is at home, and where a session is: one that writes its sector has the area of its lockspace.
 use Rattle.sl_area.specs.Layouts.{Layout, record_in}
-use Rattle.sl_area.specs.Places.{delta_offset, in_area, sector_of}
+use Rattle.sl_area.specs.Places.{delta_offset, in_area, is_base, sector_of}
 use Rattle.sl_course_law.specs.Stamping.{stamp_in}
 use Rattle.sl_law.specs.LawfulArea.{is_delta_record}
-use Rattle.sl_place_law.proofs.Areas.{IsSized, is_within, lockspace_aligned, sector_fits, sized}
-use Rattle.sl_place_law.proofs.Beginnings.{StartsAligned, In_lockspace, In_resource, IsInitial, read_first}
+use Rattle.sl_place_law.proofs.Areas.{IsSized, is_base_aligned, is_within, lockspace_aligned, same_base, sector_fits, sized}
+use Rattle.sl_place_law.proofs.Beginnings.{In_lockspace, In_resource, IsInitial, read_first}
 use Rattle.sl_place_law.proofs.Daemons.{daemons_are_fine, stamp_order}
 use Rattle.sl_place_law.proofs.Finding.{found_in, given_by, same_text}
 use Rattle.sl_place_law.proofs.Looks.{Look}
 use Rattle.sl_place_law.proofs.Numbering.{Of_command, Of_setting, Origin, origin_of}
 use Rattle.sl_place_law.proofs.Reading.{IsPromised, IsShown, header_is, layout_is, one_sector, read_of, reads_back, sector_shown}
-use Rattle.sl_place_law.specs.Homes.{IsLeaseLanding, WrittenBySession}
+use Rattle.sl_place_law.specs.Homes.{IsDeltaLanding, IsLeaseLanding}
 use Rattle.sl_run.specs.Events.{sectors_of}
 use Rattle.sl_run.specs.Headers.{IsHeader}
 use Rattle.sl_run.specs.Runs.{Happening}
 use Rattle.sl_run.specs.Safety.{LawfulRun, world_at}
-use Rattle.sl_run.specs.Worlds.{Daemon, Landing, Machine, Program, Stamp, World, clock_reading, daemons_on, first_landing, given_of, initial_bytes, initial_record, machine_at}
+use Rattle.sl_run.specs.Worlds.{Daemon, Landing, Machine, Program, Stamp, World, clock_reading, daemons_on, first_landing, given_of, initial_bytes, machine_at}
 use Rattle.sl_run.specs.declared.header.Header.{Header}
 use Rattle.sl_run.specs.declared.header.LockspaceLine.{LockspaceLine}
 use Rattle.sl_run.specs.declared.header.ResourceLine.{ResourceLine}
@@ -35,22 +35,9 @@ use Rattle.std.specs.Prelude.{Bool, Contains, Err, IsTrue, List, None, Ok, Optio
 
 -- ---- homes
 
--- A delta record in a lockspace's area: it shows the id of the sector in which it begins, and its session is of that lockspace and id. (It
--- begins where the sector does if the session's own area does.)
-pub record IsLooseDelta (h : Header) (w : World) (l : LockspaceLine) (x : Landing) : Type 0 where
-  pub written : WrittenBySession w x
-  pub delta : DeltaRec
-  pub spells : written.wrote.record_written ≡ DeltaIs delta
-  pub name : delta.lockspace ≡ l.name
-  pub id : (1 ≤ delta.id) × (delta.id ≤ w.layout.hosts)
-  pub index : delta.id ≡ (x.offset - l.offset) / w.layout.sector + 1
-  pub aligned : StartsAligned w.layout h → x.offset % w.layout.sector ≡ 0
-  pub of_session : (written.found.session.lockspace ≡ l.name) × (written.found.session.id ≡ delta.id) × (written.found.session.path ≡ l.path)
-      × (x.offset ≡ delta_offset w.layout written.found.session.offset written.found.session.id)
-
 -- Where a landing is at home, and what it is there.
 pub data IsHome (h : Header) (w : World) (x : Landing) : Type 0 where
-  Delta_home : (l : LockspaceLine) → Contains h.lockspaces l → x.path ≡ l.path → IsTrue (in_area w.layout l.offset x.offset) → IsLooseDelta h w l x
+  Delta_home : (l : LockspaceLine) → Contains h.lockspaces l → x.path ≡ l.path → IsTrue (in_area w.layout l.offset x.offset) → IsDeltaLanding w l x
       → IsHome h w x
   Lease_home : (r : ResourceLine) → Contains h.resources r → x.path ≡ r.path → IsTrue (in_area w.layout r.offset x.offset) → IsLeaseLanding w r x
       → IsHome h w x
@@ -59,16 +46,14 @@ pub data IsHome (h : Header) (w : World) (x : Landing) : Type 0 where
 abbrev pub HomeBefore : Header → World → ℕ → Type 0
 HomeBefore h w n = (x : Landing) → Contains w.landings x → x.step < n → IsHome h w x
 
--- The session's sector begins in that of its id, in the area of its lockspace.
+-- The session's area is that of its lockspace.
 pub record IsSeated (h : Header) (w : World) (s : Session) : Type 0 where
   pub line : LockspaceLine
   pub there : Contains h.lockspaces line
   pub path : s.path ≡ line.path
+  pub offset : s.offset ≡ line.offset
   pub name : s.lockspace ≡ line.name
   pub id : (1 ≤ s.id) × (s.id ≤ w.layout.hosts)
-  pub inside : IsTrue (in_area w.layout line.offset (delta_offset w.layout s.offset s.id))
-  pub index : s.id ≡ (delta_offset w.layout s.offset s.id - line.offset) / w.layout.sector + 1
-  pub aligned : StartsAligned w.layout h → delta_offset w.layout s.offset s.id % w.layout.sector ≡ 0
 
 -- ---- the layout of a run
 
@@ -115,45 +100,10 @@ among h m gs g (inr some) there =
     let line = given_by (given_of h m) h.sessions g (subst (λ xs. Contains xs g) some there) in
     (line.0, line.1, given_where h m line.0 g (line.0.machine == m) line.2)
 
-offset_low : (base k : ℕ) → base ≤ base + k
-offset_low base k = omega arith
-
-offset_high : (base id hosts : ℕ) → 1 ≤ id → id ≤ hosts → hosts ≤ 2000 → base + 512 * (id - 1) < base + 1048576
-offset_high base id hosts low high most = omega (arith, low, high, most)
-
--- A delta sector is in its area.
-pub delta_within : (g : Layout) (base id : ℕ) → IsSized g → 1 ≤ id → id ≤ g.hosts → IsTrue (in_area g base (delta_offset g base id))
-delta_within g base id z low high =
-    is_within g base (delta_offset g base id) z (offset_low base (g.sector * (id - 1)))
-    (subst (λ n. base + n * (id - 1) < base + 1048576) (sym z.sector) (offset_high base id g.hosts low high z.hosts.1))
-
-index_by : (base id : ℕ) → 1 ≤ id → id ≡ (base + 512 * (id - 1) - base) / 512 + 1
-index_by base id low = omega (arith, low)
-
--- .. and shows its id.
-delta_index : (g : Layout) (base id : ℕ) → IsSized g → 1 ≤ id → id ≡ (delta_offset g base id - base) / g.sector + 1
-delta_index g base id z low = subst (λ n. id ≡ (base + n * (id - 1) - base) / n + 1) (sym z.sector) (index_by base id low)
-
-begins_by : (line base id : ℕ) → line % 1048576 ≡ 0 → base ≡ line → (base + 512 * (id - 1)) % 512 ≡ 0
-begins_by line base id h e = omega (arith, h, e)
-
--- .. and begins a sector.
-delta_aligned : (g : Layout) (line base id : ℕ) → IsSized g → line % 1048576 ≡ 0 → base ≡ line → delta_offset g base id % g.sector ≡ 0
-delta_aligned g line base id z h e = subst (λ n. (base + n * (id - 1)) % n ≡ 0) (sym z.sector) (begins_by line base id h e)
-
--- A session that a daemon is given has its area at its lockspace's.
-pub record IsAtLine (h : Header) (w : World) (s : Session) : Type 0 where
-  pub line : LockspaceLine
-  pub there : Contains h.lockspaces line
-  pub path : s.path ≡ line.path
-  pub offset : s.offset ≡ line.offset
-  pub name : s.lockspace ≡ line.name
-  pub id : (1 ≤ s.id) × (s.id ≤ w.layout.hosts)
-
-line_by : (p : Program) (h : Header) (xs : List Happening) → LawfulRun p h xs → (m : ℕ) (st : Setting) (s : Session)
-    → (st.given ≡ []) ⊎ (st.given ≡ filter_map (given_of h m) h.sessions) → s.job ≡ None → Origin st s → IsAtLine h (world_at p h xs) s
-line_by p h xs run m st s given none (Of_command j text a job adds offset) = absurd (none_some j (sym none ∙ job))
-line_by p h xs run m st s given none (Of_setting i g there is) =
+seated_by : (p : Program) (h : Header) (xs : List Happening) → LawfulRun p h xs → (m : ℕ) (st : Setting) (s : Session)
+    → (st.given ≡ []) ⊎ (st.given ≡ filter_map (given_of h m) h.sessions) → s.job ≡ None → Origin st s → IsSeated h (world_at p h xs) s
+seated_by p h xs run m st s given none (Of_command j job) = absurd (none_some j (sym none ∙ job))
+seated_by p h xs run m st s given none (Of_setting i g there is) =
     let line = among h m st.given g given there in
     let member = run.header.members line.0 line.1 in
     let id : s.id ≡ line.0.id = ap (λ x. x.id) is ∙ line.2.names.1 in
@@ -169,30 +119,25 @@ line_by p h xs run m st s given none (Of_setting i g there is) =
       );
     }
 
-pub given_line_of : (p : Program) (h : Header) (xs : List Happening) → LawfulRun p h xs → (m : ℕ) (a : Machine) (d : Daemon) → machine_at (world_at p h xs) m ≡ Some a
-    → Contains (daemons_on a) d → (s : Session) → Contains (sessions d.setting d.trace) s → s.job ≡ None → IsAtLine h (world_at p h xs) s
-given_line_of p h xs run m a d at has s there none =
-    line_by p h xs run m d.setting s (daemons_are_fine p h xs run m a d at has).given none (origin_of d.setting d.trace s there)
-
-at_line_seated : (h : Header) (w : World) (s : Session) → IsHeader h → IsSized w.layout → IsAtLine h w s → IsSeated h w s
-at_line_seated h w s ok z k =
-    record {
-      line = k.line;
-      there = k.there;
-      path = k.path;
-      name = k.name;
-      id = k.id;
-      inside = subst (λ o. IsTrue (in_area w.layout k.line.offset (delta_offset w.layout o s.id))) (sym k.offset) (delta_within w.layout k.line.offset s.id z k.id.0 k.id.1);
-      index = subst (λ o. s.id ≡ (delta_offset w.layout o s.id - k.line.offset) / w.layout.sector + 1) (sym k.offset) (delta_index w.layout k.line.offset s.id z k.id.0);
-      aligned = λ starts. delta_aligned w.layout k.line.offset s.offset s.id z (lockspace_aligned h k.line ok k.there) k.offset;
-    }
-
+-- A session that a daemon is given is seated.
 pub given_seated : (p : Program) (h : Header) (xs : List Happening) → LawfulRun p h xs → (m : ℕ) (a : Machine) (d : Daemon) → machine_at (world_at p h xs) m ≡ Some a
     → Contains (daemons_on a) d → (s : Session) → Contains (sessions d.setting d.trace) s → s.job ≡ None → IsSeated h (world_at p h xs) s
 given_seated p h xs run m a d at has s there none =
-    at_line_seated h (world_at p h xs) s run.header (sized_in p h xs run) (given_line_of p h xs run m a d at has s there none)
+    seated_by p h xs run m d.setting s (daemons_are_fine p h xs run m a d at has).given none (origin_of d.setting d.trace s there)
 
 -- ---- a session that had looked
+
+offset_low : (base k : ℕ) → base ≤ base + k
+offset_low base k = omega arith
+
+offset_high : (base id hosts : ℕ) → 1 ≤ id → id ≤ hosts → hosts ≤ 2000 → base + 512 * (id - 1) < base + 1048576
+offset_high base id hosts low high most = omega (arith, low, high, most)
+
+-- A delta sector is in its area.
+pub delta_within : (g : Layout) (base id : ℕ) → IsSized g → 1 ≤ id → id ≤ g.hosts → IsTrue (in_area g base (delta_offset g base id))
+delta_within g base id z low high =
+    is_within g base (delta_offset g base id) z (offset_low base (g.sector * (id - 1)))
+    (subst (λ n. base + n * (id - 1) < base + 1048576) (sym z.sector) (offset_high base id g.hosts low high z.hosts.1))
 
 -- What a place that shows a delta record is.
 record IsDeltaPlace (h : Header) (w : World) (path : List ℕ) (offset : ℕ) (d : DeltaRec) : Type 0 where
@@ -202,8 +147,6 @@ record IsDeltaPlace (h : Header) (w : World) (path : List ℕ) (offset : ℕ) (d
   name : d.lockspace ≡ line.name
   id : (1 ≤ d.id) × (d.id ≤ w.layout.hosts)
   inside : IsTrue (in_area w.layout line.offset offset)
-  index : d.id ≡ (offset - line.offset) / w.layout.sector + 1
-  aligned : StartsAligned w.layout h → offset % w.layout.sector ≡ 0
 
 pub delta_in_is : (r : Result Rec Bad) (d : DeltaRec) → delta_in r ≡ Some d → r ≡ Ok (DeltaIs d)
 delta_in_is (Ok (DeltaIs e)) d h = ap (λ x. Ok (DeltaIs x)) (some_value e d h)
@@ -231,11 +174,9 @@ at_home p h xs b run x d read (Delta_home l there path inside landing) =
       line = l;
       there = there;
       path_is = sym path;
-      name = landing.name;
-      id = landing.id;
+      name = landing.names.0;
+      id = (landing.names.2, landing.names.3);
       inside = inside;
-      index = landing.index;
-      aligned = landing.aligned;
     })
 at_home p h xs b run x d read (Lease_home r there path inside landing) =
     let w : World = world_at p h xs in
@@ -249,9 +190,9 @@ above_one k = omega arith
 up_to_hosts : (k n : ℕ) → k < n → k + 1 ≤ n
 up_to_hosts k n h = omega (arith, h)
 
-at_first_by : (h : Header) (w : World) (path : List ℕ) (offset : ℕ) (d : DeltaRec) → initial_record w.layout h path offset ≡ Some (DeltaIs d) → IsInitial w.layout h path offset (DeltaIs d) → IsDeltaPlace h w path offset d
-at_first_by h w path offset d stands (In_resource x there path_is inside is never leader) = absurd (never d refl)
-at_first_by h w path offset d stands (In_lockspace l e there path_is inside few is its) =
+at_first_by : (h : Header) (w : World) (path : List ℕ) (offset : ℕ) (d : DeltaRec) → IsInitial w.layout h path offset (DeltaIs d) → IsDeltaPlace h w path offset d
+at_first_by h w path offset d (In_resource x there path_is inside is never leader) = absurd (never d refl)
+at_first_by h w path offset d (In_lockspace l e there path_is inside few is its) =
     let same : d ≡ e = same_delta d e is in
     let k : ℕ = (offset - l.offset) / w.layout.sector in
     let id : d.id ≡ k + 1 = ap (λ x. x.id) same ∙ its.same_id in
@@ -262,17 +203,15 @@ at_first_by h w path offset d stands (In_lockspace l e there path_is inside few 
       name = ap (λ x. x.lockspace) same ∙ its.lockspace;
       id = (subst (λ n. 1 ≤ n) (sym id) (above_one k), subst (λ n. n ≤ w.layout.hosts) (sym id) (up_to_hosts k w.layout.hosts few));
       inside = inside;
-      index = id;
-      aligned = λ starts. starts path offset d stands;
     }
 
 -- What stood at a place at first, in the layout of the world.
 pub initial_in : (p : Program) (h : Header) (xs : List Happening) → LawfulRun p h xs → (path : List ℕ) (offset : ℕ) (r : Rec)
     → record_in (world_at p h xs).layout (first_landing (world_at p h xs) path offset).bytes ≡ Ok r
-    → IsInitial (world_at p h xs).layout h path offset r × (initial_record (world_at p h xs).layout h path offset ≡ Some r)
+    → IsInitial (world_at p h xs).layout h path offset r
 initial_in p h xs run path offset r read =
     let w : World = world_at p h xs in
-    subst (λ g. IsInitial g h path offset r × (initial_record g h path offset ≡ Some r)) (sym (layout_is p h xs))
+    subst (λ g. IsInitial g h path offset r) (sym (layout_is p h xs))
     (read_first p.digest h path offset r run.digest run.header
     (subst (λ g. record_in g (initial_bytes g h path offset) ≡ Ok r) (layout_is p h xs)
     (subst (λ k. record_in w.layout (initial_bytes w.layout k path offset) ≡ Ok r) (header_is p h xs) read)))
@@ -288,22 +227,23 @@ shown_place p h xs b run path offset bytes n d home read s =
           subst (λ y. IsDeltaPlace h w y offset d) s.place.0
           (subst (λ o. IsDeltaPlace h w s.landing.path o d) s.place.1 (at_home p h xs b run s.landing d its (home s.landing landed s.early)))
       | inr at_first ↦
-          let i = initial_in p h xs run path offset (DeltaIs d) (subst (λ (y : Landing). record_in w.layout y.bytes ≡ Ok (DeltaIs d)) at_first its) in
-          at_first_by h w path offset d i.1 i.0
+          at_first_by h w path offset d
+          (initial_in p h xs run path offset (DeltaIs d) (subst (λ (y : Landing). record_in w.layout y.bytes ≡ Ok (DeltaIs d)) at_first its))
     ]
 
-place_seats : (h : Header) (w : World) (s : Session) (path : List ℕ) (offset : ℕ) (d : DeltaRec) → path ≡ s.path → offset ≡ delta_offset w.layout s.offset s.id
-    → (d.lockspace ≡ s.lockspace) × (d.id ≡ s.id) → IsDeltaPlace h w path offset d → IsSeated h w s
-place_seats h w s path offset d path_is place names k =
+-- Areas begin at bases, so a session whose sector is in the area of a line has its own area there.
+place_seats : (h : Header) (w : World) (s : Session) (path : List ℕ) (offset : ℕ) (d : DeltaRec) → IsHeader h → IsSized w.layout → s.offset % 1048576 ≡ 0 → path ≡ s.path
+    → offset ≡ delta_offset w.layout s.offset s.id → (d.lockspace ≡ s.lockspace) × (d.id ≡ s.id) → IsDeltaPlace h w path offset d → IsSeated h w s
+place_seats h w s path offset d ok z base path_is place names k =
+    let id : (1 ≤ s.id) × (s.id ≤ w.layout.hosts) = subst (λ n. (1 ≤ n) × (n ≤ w.layout.hosts)) names.1 k.id in
     record {
       line = k.line;
       there = k.there;
       path = sym path_is ∙ sym k.path_is;
+      offset = same_base w.layout s.offset k.line.offset (delta_offset w.layout s.offset s.id) z base (lockspace_aligned h k.line ok k.there)
+          (delta_within w.layout s.offset s.id z id.0 id.1) (subst (λ o. IsTrue (in_area w.layout k.line.offset o)) place k.inside);
       name = sym names.0 ∙ k.name;
-      id = subst (λ n. (1 ≤ n) × (n ≤ w.layout.hosts)) names.1 k.id;
-      inside = subst (λ o. IsTrue (in_area w.layout k.line.offset o)) place k.inside;
-      index = sym names.1 ∙ k.index ∙ ap (λ o. (o - k.line.offset) / w.layout.sector + 1) place;
-      aligned = λ starts. subst (λ o. o % w.layout.sector ≡ 0) place (k.aligned starts);
+      id = id;
     }
 
 pub none_more : (o n : ℕ) → o + 0 * n ≡ o
@@ -332,5 +272,7 @@ look_seated p h xs b run m a d is has s at made stamped home l =
     ap (record_in w.layout) (one_sector b p h xs run m a d is l.first l.bytes r one) ∙ delta_in_is (record_in w.layout l.bytes) l.found spelled in
     let k = shown_place p h xs b run l.first.call.path (l.first.call.offset + 0 * w.layout.sector) (sector_of w.layout l.bytes 0) r.stamp.step l.found
     (home_early h w made.step r.stamp.step early home) read shown in
-    place_seats h w s l.first.call.path (l.first.call.offset + 0 * w.layout.sector) l.found l.own.0
+    let z = sized_in p h xs run in
+    let base = is_base_aligned w.layout s.offset z (subst (λ (g : Layout). IsTrue (is_base g s.offset)) layout l.base) in
+    place_seats h w s l.first.call.path (l.first.call.offset + 0 * w.layout.sector) l.found run.header z base l.own.0
     (none_more l.first.call.offset w.layout.sector ∙ l.own.1 ∙ ap (λ (g : Layout). delta_offset g s.offset s.id) layout) l.names k

@@ -1,11 +1,10 @@
 //! What a lawful run promises of its areas.
 
-ghost use Rattle.sl_place_law.specs.Bases.{JoinsAligned, LockspacesHoldDeltasIf};
-ghost use Rattle.sl_place_law.specs.Homes.{NothingLandsElsewhere, ResourcesHoldLeases};
+ghost use Rattle.sl_place_law.specs.Homes.{LockspacesHoldDeltas, NothingLandsElsewhere, ResourcesHoldLeases};
 
-/// Where the program's commands name areas that begin where sectors may, only delta records of its ids land in a lockspace's area.
+/// In a lockspace's area only delta records of its ids land.
 pub fn lockspaces_hold_deltas()
-    ensures { LockspacesHoldDeltasIf JoinsAligned }
+    ensures { LockspacesHoldDeltas }
 {}
 
 /// In a resource's area only its own records land.

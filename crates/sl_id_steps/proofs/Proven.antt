@@ -1,0 +1,13 @@
+-- The laws of this crate, over those of the crates below.
+use Rattle.sl_course_law.proofs.Distinct.{each_distinct}
+use Rattle.sl_course_law.proofs.Mirrored.{machines_mirror}
+use Rattle.sl_id_steps.proofs.EndingSteps.{endings_go_on_given}
+use Rattle.sl_id_steps.proofs.Quiet.{quiet_changes_go_on_given}
+use Rattle.sl_id_steps.specs.Parts.{EndingsGoOn, QuietChangesGoOn}
+use Rattle.sl_landing_law.proofs.Proven.{landings_are_written}
+
+pub quiet_changes_go_on : QuietChangesGoOn
+quiet_changes_go_on = quiet_changes_go_on_given machines_mirror
+
+pub endings_go_on : EndingsGoOn
+endings_go_on = endings_go_on_given each_distinct machines_mirror landings_are_written
