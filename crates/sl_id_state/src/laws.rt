@@ -1,6 +1,7 @@
 //! What a lawful run makes of an id.
 
 ghost use Rattle.sl_id_state.specs.Facts.{ClaimsHaveDecided, DecidingReadsHaveWatched, DeltaWritesComeInTurn, JoinReadsAreOwn, RenewalsHaveVerified, SessionsFollow, VerifyReadsHaveClaimed};
+ghost use Rattle.sl_id_state.specs.Promises.{IdsAreBounded};
 
 /// A read of a joining reads the session's own sector.
 pub fn join_reads_are_own()
@@ -35,4 +36,9 @@ pub fn delta_writes_come_in_turn()
 /// A daemon's sessions of one lockspace follow one another.
 pub fn sessions_follow()
     ensures { SessionsFollow }
+{}
+
+/// The watchdogs keep the bounds of an id.
+pub fn ids_are_bounded()
+    ensures { IdsAreBounded }
 {}
