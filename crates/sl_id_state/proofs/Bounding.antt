@@ -1,4 +1,5 @@
 -- From when the connection of a session of a lawful run counts, and on which daemon; and that one which has not verified has not joined.
+use Rattle.sl_area.specs.Layouts.{sector_with}
 use Rattle.sl_clocks.specs.Points.{Point}
 use Rattle.sl_clocks.specs.Watchdog.{Connected, MayAct}
 use Rattle.sl_course_law.specs.Mirrors.{since_restart}
@@ -13,12 +14,13 @@ use Rattle.sl_moment_law.specs.Moments.{point_of}
 use Rattle.sl_run.specs.Safety.{Found, SessionId, trace_of, was_reset}
 use Rattle.sl_run.specs.Worlds.{Course, Daemon, Stamp, World, daemons_on, resets_after}
 use Rattle.sl_run.specs.declared.header.Header.{Header}
+use Rattle.sl_sector.specs.declared.sector.Rec.TheVariants.{DeltaIs}
 use Rattle.sl_session_law.proofs.Fronts.{front_answers_stay}
 use Rattle.sl_session_law.proofs.Joining.{same_number_by}
 use Rattle.sl_session_law.proofs.Making.{contains_cases, contains_none}
 use Rattle.sl_session_law.proofs.Owning.{calls_were_lawful, got_inside}
 use Rattle.sl_session_law.proofs.Silence.{stage_by}
-use Rattle.sl_session_law.specs.Promises.{IsSession, front_of}
+use Rattle.sl_session_law.specs.Promises.{IsMade, IsSession, front_of, made_as}
 use Rattle.sl_sessions.specs.Sessions.{Session, calls_of, free_write, is_join_call, join_call, joined_after, refused_after, removed_after, sessions, stage_in}
 use Rattle.sl_sessions.specs.declared.stage.Stage.TheVariants.{Looking}
 use Rattle.sl_sessions.specs.declared.stage.Stage.{Stage}
@@ -31,7 +33,7 @@ use Rattle.sl_watchdog_law.proofs.Finding.{call_inside, call_owner, equal_number
 use Rattle.sl_watchdog_law.proofs.Machines.{first_by}
 use Rattle.sl_watchdog_law.specs.Acting.{acting_stamp, registering_entry, renewal_entry}
 use Rattle.sl_watchdog_law.specs.Promises.{ActsStill, StandsConnected}
-use Rattle.sl_words.proofs.CaseLaws.{false_is_true, no_value, none_some, one_value, some_value, true_is_false}
+use Rattle.sl_words.proofs.CaseLaws.{false_is_true, no_value, none_some, not_both, one_value, some_value, true_is_false}
 use Rattle.sl_words.proofs.WordLaws.{some_is_true}
 use Rattle.sl_words.specs.Words.{is_empty}
 use Rattle.std.proofs.Common.{ap, inl, inr, refl, subst, sym, ◌∙◌}
@@ -166,7 +168,7 @@ given_not_deciding st es s m h its job found =
     let there = find_inside (λ (x : Submitted). is_join_call DecidingRead x.call.purpose) (calls_of es s) m found in
     let own = call_owner es s m there.0 in
     let was = calls_were_lawful st es s m h its own.0 own.1 in
-    let law = deciding_law st (front_of was.made) s _ m.call.purpose was.lawful there.1 in
+    let law = deciding_law st (front_of was.made) s (made_as was.made) m.call.purpose was.lawful there.1 in
     let t : Trace = front_of was.made in
     let k = jobless t s job in
     not_looking (joined_after t s) (removed_after t s) (refused_after t s) (free_write (calls_of t s)) (stage_in (calls_of t s)) k.0 k.1 law.looking
@@ -181,6 +183,16 @@ never_joined s j k job joined = by s.job job refl where
   by None is its = none_some j is
   by (Some i) is its = none_some k (sym (rw its refl) ∙ joined)
 
+-- The first renewal comes after the verify read.
+renewal_after : (st : Setting) (es : Trace) (s : Session) (m c : Submitted) (made : IsMade es m) → LawfulFirstRenewal st (front_of made) s c
+    → join_call (calls_of es s) VerifyRead ≡ None → ⊥
+renewal_after st es s m c made law none =
+    let read = call_owner (front_of made) s law.read law.verified.0 in
+    let a = gave_answer law.read.answer (sector_with st.layout (DeltaIs law.claim)) law.verified.2 in
+    let inside = front_answers_stay es m made law.read a.0 read.0 a.1 in
+    not_both (is_join_call VerifyRead law.read.call.purpose) law.verified.1
+    (find_fails (λ (x : Submitted). is_join_call VerifyRead x.call.purpose) (calls_of es s) law.read none (call_inside es s law.read inside read.1))
+
 -- One that has joined by a job has made its verify read.
 joined_has_verified : (st : Setting) (es : Trace) (s : Session) (j k : ℕ) → Lawful st es → IsSession st es s → s.job ≡ Some j → joined_after es s ≡ Some k
     → join_call (calls_of es s) VerifyRead ≡ None → ⊥
@@ -191,12 +203,8 @@ joined_has_verified st (e ∷ past) s j k h its job joined none =
     let there = find_inside (λ (x : Submitted). is_join_call FirstRenewal x.call.purpose) (calls_of es s) join.renewal join.first in
     let own = call_owner es s join.renewal there.0 in
     let was = calls_were_lawful st es s join.renewal h its own.0 own.1 in
-    let law = renewal_law st (front_of was.made) s _ join.renewal.call.purpose was.lawful there.1 in
-    let read = call_owner (front_of was.made) s law.read law.verified.0 in
-    let a = gave_answer law.read.answer _ law.verified.2 in
-    let inside = front_answers_stay es join.renewal was.made law.read a.0 read.0 a.1 in
-    true_is_false (sym law.verified.1
-    ∙ find_fails (λ (x : Submitted). is_join_call VerifyRead x.call.purpose) (calls_of es s) law.read none (call_inside es s law.read inside read.1))
+    renewal_after st es s join.renewal (made_as was.made) was.made
+    (renewal_law st (front_of was.made) s (made_as was.made) join.renewal.call.purpose was.lawful there.1) none
 
 pub not_joined : (w : World) (i : SessionId) (f : Found) → IsBeside w i f → (m : Submitted) → join_call (calls_of (trace_of f) f.session) DecidingRead ≡ Some m
     → join_call (calls_of (trace_of f) f.session) VerifyRead ≡ None → joined_after (trace_of f) f.session ≡ None
