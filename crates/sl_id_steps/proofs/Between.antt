@@ -154,10 +154,10 @@ run_more : (w : World) (now rest : List Happening) → IsRun w now → IsRun (wo
 run_more w [] rest run more = more
 run_more w (x ∷ now) rest run more = (run.0, run.1, run_more (happens w x.0 x.1) now rest run.2 more)
 
-abbrev SameDaemons : ℕ → Machine → Machine → Type 0
+abbrev pub SameDaemons : ℕ → Machine → Machine → Type 0
 SameDaemons m a b = daemons_on b ≡ daemons_on a
 
-abbrev own_happening : World → Event → Happening
+abbrev pub own_happening : World → Event → Happening
 own_happening w e = (e, own_effects_of w e ∷ [])
 
 has_steps : (w : World) (e : Event) → input_of w e ≡ None → HasSteps w e (own_effects_of w e ∷ [])
@@ -213,7 +213,7 @@ lawful_after p h now x lawful each d has =
     lawful_on p h now x (suc place.0) on.0 d lawful each (place_of (world_at p h (now ++ x ∷ [])) place.0 on.0 place.1) on.2
 
 -- A run in which this event comes next.
-other_run : (p : Program) (h : Header) (now : List Happening) (e : Event) → LawfulRun p h now → may_happen (world_at p h now) e ≡ true
+pub other_run : (p : Program) (h : Header) (now : List Happening) (e : Event) → LawfulRun p h now → may_happen (world_at p h now) e ≡ true
     → input_of (world_at p h now) e ≡ None → EachMachine SameDaemons (world_at p h now) (between (world_at p h now) e)
     → LawfulRun p h (now ++ own_happening (world_at p h now) e ∷ [])
 other_run p h now e run may none each =
@@ -225,7 +225,7 @@ other_run p h now e run may none each =
       lawful = lawful_after p h now (own_happening w e) run.lawful (same_daemons p h now e none each);
     }
 
-by_other : IdsAreBounded → (p : Program) (h : Header) (now : List Happening) (e d : Event) (path : List ℕ) (offset : ℕ) → LawfulRun p h now
+pub by_other : IdsAreBounded → (p : Program) (h : Header) (now : List Happening) (e d : Event) (path : List ℕ) (offset : ℕ) → LawfulRun p h now
     → may_happen (world_at p h now) d ≡ true → input_of (world_at p h now) d ≡ None → EachMachine SameDaemons (world_at p h now) (between (world_at p h now) d)
     → between (world_at p h now) e ≡ between (world_at p h now) d → IsBounded (terms_of h.timing) (state_between p h now e path offset)
 by_other bounded p h now e d path offset run may none each same =
@@ -243,15 +243,15 @@ may_by : (w : World) (e : Event) → is_shaped w e ≡ true → NoneHolds (event
 may_by w e shaped h = none_refuses ((not (is_shaped w e), Syntax) ∷ event_tests w e) (ap not shaped, h)
 
 -- The call in flight that is done, on its disk, while its daemon runs.
-record DoesOne (w : World) (m n : ℕ) : Type 0 where
-  machine : Machine
-  course : Course
-  at : machine_at w m ≡ Some machine
-  flight : flight_of machine n ≡ Some course
-  runs : is_none machine.daemon ≡ false
-  placed : not (is_placed w course.call) ≡ false
+pub record DoesOne (w : World) (m n : ℕ) : Type 0 where
+  pub machine : Machine
+  pub course : Course
+  pub at : machine_at w m ≡ Some machine
+  pub flight : flight_of machine n ≡ Some course
+  pub runs : is_none machine.daemon ≡ false
+  pub placed : not (is_placed w course.call) ≡ false
 
-does_one : (w : World) (m n : ℕ) → may_happen w (Do m n) ≡ true → DoesOne w m n
+pub does_one : (w : World) (m n : ℕ) → may_happen w (Do m n) ≡ true → DoesOne w m n
 unfolding event_tests
 does_one w m n may =
     let checks : Course → List (Bool × Refusal) = λ f. (not (is_placed w f.call), MissingPlace) ∷ (is_torn_fate f.fate, MissingLanding) ∷ [] in
@@ -259,7 +259,7 @@ does_one w m n may =
     let f = on_flying o.machine n (is_of_running o.machine) checks o.passes.1 in
     record { machine = o.machine; course = f.course; at = o.at; flight = f.flight; runs = o.passes.0; placed = f.passes.0 }
 
-does_flight : (w : World) (m n : ℕ) (d : DoesOne w m n) → flight_at w m n ≡ Some d.course
+pub does_flight : (w : World) (m n : ℕ) (d : DoesOne w m n) → flight_at w m n ≡ Some d.course
 does_flight w m n d = ap (λ (o : Option Machine). option_and_then (λ a. flight_of a n) o) d.at ∙ d.flight
 
 -- The tests of an event on this machine, and on this call of it.
@@ -277,7 +277,7 @@ on_flight_is a n kind checks c at is h =
     ])) (sym at) (subst (λ b. NoneHolds (elim b as (λ y. List (Bool × Refusal)) [ false ↦ (true, MissingCall) ∷ [] | true ↦ checks c ])) (sym is) h)
 
 -- A write that is done may land.
-land_may : (w : World) (m n : ℕ) (d : DoesOne w m n) → is_write_course d.course ≡ true → is_in_flight d.course.fate ≡ true → may_happen w (Land m n) ≡ true
+pub land_may : (w : World) (m n : ℕ) (d : DoesOne w m n) → is_write_course d.course ≡ true → is_in_flight d.course.fate ≡ true → may_happen w (Land m n) ≡ true
 unfolding event_tests
 land_may w m n d writes flies =
     let checks : Course → List (Bool × Refusal) = λ f. (not (is_placed w f.call), MissingPlace) ∷ (not (is_in_flight f.fate), MissingFlight) ∷ [] in
@@ -289,7 +289,7 @@ not_below : (n : ℕ) → nat_lt n n ≡ false
 not_below n = grind (arith, tests)
 
 -- The rest of a read that is done may be sampled.
-sample_may : (w : World) (m n : ℕ) (d : DoesOne w m n) → is_write_course d.course ≡ false → nat_lt 0 (sectors_left d.course) ≡ true
+pub sample_may : (w : World) (m n : ℕ) (d : DoesOne w m n) → is_write_course d.course ≡ false → nat_lt 0 (sectors_left d.course) ≡ true
     → may_happen w (Sample m n (sectors_left d.course)) ≡ true
 unfolding event_tests
 sample_may w m n d reads some =
@@ -300,11 +300,11 @@ sample_may w m n d reads some =
     (d.runs, on_flight_is d.machine n is_read_course checks d.course d.flight (ap not reads) (d.placed, (not_below k, tt))))
 
 -- One call changed, and maybe a landing: the daemons stay.
-call_daemons : (w u : World) (m n : ℕ) (turn : Course → Course) → u.machines ≡ w.machines → EachMachine SameDaemons w (with_call u m n turn)
+pub call_daemons : (w u : World) (m n : ℕ) (turn : Course → Course) → u.machines ≡ w.machines → EachMachine SameDaemons w (with_call u m n turn)
 call_daemons w u m n turn same k a at =
     each_changed SameDaemons (change_call n turn) u m (λ i x. refl) (λ x there. refl) k a (ap (λ ms. machine_at (record w { machines = ms }) k) same ∙ at)
 
-none_in : (o : Option Machine) → option_and_then (λ (a : Machine). let none : Option Input = None in none) o ≡ None
+pub none_in : (o : Option Machine) → option_and_then (λ (a : Machine). let none : Option Input = None in none) o ≡ None
 none_in None = refl
 none_in (Some a) = refl
 
@@ -314,7 +314,7 @@ nothing_more : {A : Type 0} (xs : List A) → xs ++ [] ≡ xs
 nothing_more [] = refl
 nothing_more (x ∷ xs) = ap (λ ys. x ∷ ys) (nothing_more xs)
 
-sampled_all : (w : World) (c : Course) → sampled_more w 0 c ≡ c
+pub sampled_all : (w : World) (c : Course) → sampled_more w 0 c ≡ c
 sampled_all w c =
     ap (λ bytes. let x : Course = record c { sampled = bytes; samples = c.samples ++ [] } in x) (nothing_more c.sampled)
     ∙ ap (λ samples. let x : Course = record c { samples = samples } in x) (nothing_more c.samples)
@@ -334,7 +334,7 @@ set_same [] i a h = refl
 set_same (x ∷ ms) zero a h = ap (λ y. y ∷ ms) (sym (some_value x a h))
 set_same (x ∷ ms) (suc i) a h = ap (λ ys. x ∷ ys) (set_same ms i a h)
 
-unchanged : (w : World) (m n : ℕ) (turn : Course → Course) → ((c : Course) → turn c ≡ c) → change_machine m (change_call n turn) w ≡ w
+pub unchanged : (w : World) (m n : ℕ) (turn : Course → Course) → ((c : Course) → turn c ≡ c) → change_machine m (change_call n turn) w ≡ w
 unchanged w m n turn same = by (machine_at w m) refl where
   by : (o : Option Machine) → machine_at w m ≡ o
       → elim o as (λ z. World) [ None ↦ w | Some a ↦ record w { machines = slice_set w.machines (m - 1) (change_call n turn a) } ] ≡ w
