@@ -4,6 +4,11 @@ pub mod LandingFrames
 pub mod StateFrames
 pub mod FindingFrames
 pub mod WriterFrames
+pub mod Registered
+pub mod JoinOrder
+pub mod Beside
+pub mod Bounding
+pub mod Bounded
 pub mod CallFrames
 pub mod SampleFrames
 pub mod LaterFrames

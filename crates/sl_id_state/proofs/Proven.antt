@@ -1,6 +1,7 @@
 -- The laws of one session and its sector, over those of the crates below.
 use Rattle.sl_course_law.proofs.Made.{daemons_are_of_world}
 use Rattle.sl_course_law.proofs.Matched.{courses_are_calls}
+use Rattle.sl_id_state.proofs.Bounded.{ids_are_bounded_given}
 use Rattle.sl_id_state.proofs.Bridge.{Grounds}
 use Rattle.sl_id_state.proofs.Claiming.{claims_have_decided_given}
 use Rattle.sl_id_state.proofs.Following.{DaemonsAreGiven, sessions_follow_given}
@@ -9,6 +10,7 @@ use Rattle.sl_id_state.proofs.Renewing.{renewals_have_verified_given}
 use Rattle.sl_id_state.proofs.Verifying.{delta_writes_come_in_turn_given, verify_reads_have_claimed_given}
 use Rattle.sl_id_state.proofs.Watching.{deciding_reads_have_watched_given}
 use Rattle.sl_id_state.specs.Facts.{ClaimsHaveDecided, DecidingReadsHaveWatched, DeltaWritesComeInTurn, JoinReadsAreOwn, RenewalsHaveVerified, SessionsFollow, VerifyReadsHaveClaimed}
+use Rattle.sl_id_state.specs.Promises.{IdsAreBounded}
 use Rattle.sl_landing_law.proofs.Proven.{done_writes_have_landed}
 use Rattle.sl_place_law.proofs.Daemons.{daemons_are_fine}
 use Rattle.sl_sample_law.proofs.Proven.{done_reads_are_whole, sampled_are_sectors, samples_are_landings}
@@ -47,3 +49,6 @@ delta_writes_come_in_turn = delta_writes_come_in_turn_given grounds
 
 pub sessions_follow : SessionsFollow
 sessions_follow = sessions_follow_given grounds daemons_are_given
+
+pub ids_are_bounded : IdsAreBounded
+ids_are_bounded = ids_are_bounded_given verify_reads_have_claimed

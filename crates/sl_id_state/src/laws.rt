@@ -1,7 +1,7 @@
 //! What a lawful run makes of an id.
 
 ghost use Rattle.sl_id_state.specs.Facts.{ClaimsHaveDecided, DecidingReadsHaveWatched, DeltaWritesComeInTurn, JoinReadsAreOwn, RenewalsHaveVerified, SessionsFollow, VerifyReadsHaveClaimed};
-ghost use Rattle.sl_id_state.specs.Promises.{IdsStart};
+ghost use Rattle.sl_id_state.specs.Promises.{IdsAreBounded, IdsStart};
 
 /// A read of a joining reads the session's own sector.
 pub fn join_reads_are_own()
@@ -41,4 +41,9 @@ pub fn sessions_follow()
 /// At first one record stands there.
 pub fn ids_start()
     ensures { IdsStart }
+{}
+
+/// The watchdogs keep the bounds of an id.
+pub fn ids_are_bounded()
+    ensures { IdsAreBounded }
 {}

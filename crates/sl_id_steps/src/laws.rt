@@ -1,6 +1,11 @@
 //! How the events of a lawful run are steps of an id.
 
-ghost use Rattle.sl_id_steps.specs.Parts.{EndingsGoOn, OwnStepsGoOn, QuietChangesGoOn};
+ghost use Rattle.sl_id_steps.specs.Parts.{BetweenIsBounded, EndingsGoOn, OwnStepsGoOn, QuietChangesGoOn};
+
+/// The bounds hold between an event's first change and its step.
+pub fn between_is_bounded()
+    ensures { BetweenIsBounded }
+{}
 
 /// What changes nothing of an id.
 pub fn quiet_changes_go_on()
