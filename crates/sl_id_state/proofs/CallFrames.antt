@@ -53,7 +53,7 @@ abbrev pub IsThere : List Landing → Option Sampling → Type 0
 IsThere ls None = Unit {0}
 IsThere ls (Some x) = x.index < length ls
 
-generation_grows : (w v : World) (path : List ℕ) (offset : ℕ) (newer : List Landing) (o : Option Sampling) → v.layout ≡ w.layout
+pub generation_grows : (w v : World) (path : List ℕ) (offset : ℕ) (newer : List Landing) (o : Option Sampling) → v.layout ≡ w.layout
     → history_of v path offset ≡ newer ++ history_of w path offset → IsThere (history_of w path offset) o
     → generation_by v path offset o ≡ generation_by w path offset o
 generation_grows w v path offset newer None layout history there = refl

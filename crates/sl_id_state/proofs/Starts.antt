@@ -102,7 +102,7 @@ initial_at p h path offset ok x =
     ∙ record_of_index h x.lockspace k x.id index x.range.0 x.range.1
 
 -- Its bytes say what it says.
-said_first : (p : Program) (h : Header) (path : List ℕ) (offset : ℕ) → IsHeader h → IsDigest p.digest → (x : IsIdPlace p h path offset)
+pub said_first : (p : Program) (h : Header) (path : List ℕ) (offset : ℕ) → IsHeader h → IsDigest p.digest → (x : IsIdPlace p h path offset)
     → said_by (layout_at p h) (initial_bytes (layout_at p h) h path offset) ≡ Some (content_of (initial_delta h x.lockspace x.id))
 said_first p h path offset ok digest x =
     let g : Layout = layout_at p h in

@@ -130,9 +130,10 @@ abbrev pub claim_may_land : SessionId → Found → Bool
 claim_may_land i f =
     elim (join_course i ClaimWrite f.machine) [ None ↦ runs_still f && is_none (refused_after (trace_of f) f.session) | Some c ↦ may_land c ]
 
--- The number of the landing that a call left, among all of a place; the newest stands first.
+-- The number of the landing that a call left whole, among all of a place; the newest stands first. (A torn claim is no claim: nothing of
+-- its session but that it was pending changes when it is torn.)
 abbrev pub is_left_by : ℕ × ℕ → Landing → Bool
-is_left_by p l = some_is (λ q. q.0 == p.0 && q.1 == p.1) l.writer
+is_left_by p l = l.whole && some_is (λ q. q.0 == p.0 && q.1 == p.1) l.writer
 
 abbrev pub index_of : ℕ × ℕ → List Landing → ℕ
 index_of p [] = 0

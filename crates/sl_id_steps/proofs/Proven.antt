@@ -1,12 +1,16 @@
 -- The laws of this crate, over those of the crates below.
 use Rattle.sl_course_law.proofs.Distinct.{each_distinct}
 use Rattle.sl_course_law.proofs.Mirrored.{machines_mirror}
-use Rattle.sl_id_state.proofs.Proven.{ids_are_bounded}
 use Rattle.sl_id_steps.proofs.Between.{between_is_bounded_given}
+use Rattle.sl_id_state.proofs.Proven.{claims_have_decided, grounds, ids_are_bounded, join_reads_are_own, renewals_have_verified}
 use Rattle.sl_id_steps.proofs.EndingSteps.{endings_go_on_given}
+use Rattle.sl_id_steps.proofs.Landed.{RestsOn}
+use Rattle.sl_id_steps.proofs.LandingEvents.{landings_go_on_given}
 use Rattle.sl_id_steps.proofs.Quiet.{quiet_changes_go_on_given}
-use Rattle.sl_id_steps.specs.Parts.{BetweenIsBounded, EndingsGoOn, QuietChangesGoOn}
+use Rattle.sl_id_steps.specs.Parts.{BetweenIsBounded, EndingsGoOn, LandingsGoOn, QuietChangesGoOn}
 use Rattle.sl_landing_law.proofs.Proven.{landings_are_written}
+use Rattle.sl_place_law.proofs.Proven.{lockspaces_hold_deltas, promised}
+use Rattle.sl_sample_law.proofs.Proven.{samples_are_landings}
 
 pub quiet_changes_go_on : QuietChangesGoOn
 quiet_changes_go_on = quiet_changes_go_on_given machines_mirror
@@ -16,3 +20,21 @@ endings_go_on = endings_go_on_given each_distinct machines_mirror landings_are_w
 
 pub between_is_bounded : BetweenIsBounded
 between_is_bounded = between_is_bounded_given ids_are_bounded
+
+rests_on : RestsOn
+rests_on =
+    record {
+      grounds = grounds;
+      promised = promised;
+      distinct = each_distinct;
+      mirror = machines_mirror;
+      written = landings_are_written;
+      samples = samples_are_landings;
+      reads = join_reads_are_own;
+      claims = claims_have_decided;
+      renewals = renewals_have_verified;
+      deltas = lockspaces_hold_deltas;
+    }
+
+pub landings_go_on : LandingsGoOn
+landings_go_on = landings_go_on_given rests_on

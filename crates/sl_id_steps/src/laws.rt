@@ -1,6 +1,6 @@
 //! How the events of a lawful run are steps of an id.
 
-ghost use Rattle.sl_id_steps.specs.Parts.{BetweenIsBounded, EndingsGoOn, OwnStepsGoOn, QuietChangesGoOn};
+ghost use Rattle.sl_id_steps.specs.Parts.{BetweenIsBounded, EndingsGoOn, LandingsGoOn, OwnStepsGoOn, QuietChangesGoOn};
 
 /// The bounds hold between an event's first change and its step.
 pub fn between_is_bounded()
@@ -10,6 +10,11 @@ pub fn between_is_bounded()
 /// What changes nothing of an id.
 pub fn quiet_changes_go_on()
     ensures { QuietChangesGoOn }
+{}
+
+/// A write lands, is torn or is dropped.
+pub fn landings_go_on()
+    ensures { LandingsGoOn }
 {}
 
 /// A daemon or its machine ends.
