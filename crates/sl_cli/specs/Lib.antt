@@ -1,1 +1,5 @@
+pub mod Actions
+pub mod Arguments
 pub mod CommandLine
+pub mod Parses
+pub mod Readings

@@ -1,0 +1,63 @@
+-- What the parser makes of the words, and what that says.
+use Rattle.clap.specs.Faults.{fault_of}
+use Rattle.clap.specs.Simple.{subcommand_of}
+use Rattle.clap.specs.Walk.{Row, Text, first_of, is_empty}
+use Rattle.sl_cli.specs.Actions.{Given, action_in}
+use Rattle.sl_cli.specs.CommandLine.{command_line}
+use Rattle.sl_cli.specs.declared.given.Met.TheVariants as Met
+use Rattle.sl_cli.specs.declared.given.Met.{Met}
+use Rattle.sl_cli.specs.declared.reading.Words.TheVariants.{Direct, Help, Replay, Version}
+use Rattle.sl_cli.specs.declared.reading.Words.{Words}
+use Rattle.std.specs.Prelude.{Bool, List, None, Option, Some, bytes_eq, codes, false, if◌then◌else◌, option_and_then, option_map, [], ℕ, ◌≡◌, ◌||◌, ◌∷◌}
+
+-- What was given, by what was found of each argument.
+abbrev pub given_in : List Row → Given
+given_in rows = record {
+  action = first_of (codes "action") rows;
+  lockspace = first_of (codes "lockspace") rows;
+  resource = first_of (codes "resource") rows;
+  hosts = first_of (codes "hosts") rows;
+  stretch = first_of (codes "area") rows;
+}
+
+-- The command of this name that was met, with what was given to it.
+abbrev pub named_met : Text → List Row → Option Met
+named_met name rows =
+    if bytes_eq name (codes "replay") then Some Met.Replay
+    else if bytes_eq name (codes "direct") then Some (Met.Direct (given_in rows))
+    else None
+
+-- The command that was met.
+abbrev pub met_in : Option (Text × List Row) → Option Met
+met_in None = None
+met_in (Some p) = named_met p.0 p.1
+
+-- What it says.
+abbrev pub said_by : Met → Option Words
+said_by Met.Replay = Some Replay
+said_by (Met.Direct given) = option_map (λ a. Direct a) (action_in given)
+
+-- The parser takes the words, and meets this command.
+abbrev pub TakenAs : List Text → Option Met → Type 0
+TakenAs ws met = (fault_of command_line ws ≡ []) × (met ≡ met_in (subcommand_of command_line ws))
+
+-- The parser doesn't take the words.
+abbrev pub IsRefused : List Text → Type 0
+IsRefused ws = is_empty (fault_of command_line ws) ≡ false
+
+-- What the words of a command say, if the parser takes them.
+abbrev pub parsed : List Text → Option Words
+parsed ws = if is_empty (fault_of command_line ws) then option_and_then said_by (met_in (subcommand_of command_line ws)) else None
+
+-- The words are one of these two, alone.
+abbrev pub is_only : List ℕ → List ℕ → List Text → Bool
+is_only long short [] = false
+is_only long short (w ∷ []) = bytes_eq w long || bytes_eq w short
+is_only long short (w ∷ v ∷ ws) = false
+
+-- What the words of the command line say.
+abbrev pub said_in : List Text → Option Words
+said_in ws =
+    if is_only (codes "--help") (codes "-h") ws then Some Help
+    else if is_only (codes "--version") (codes "-V") ws then Some Version
+    else parsed ws
