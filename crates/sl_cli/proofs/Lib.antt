@@ -1,1 +1,9 @@
 pub mod ArgumentLaws
+pub mod BareCommands
+pub mod BuiltCommand
+pub mod CommandLaws
+pub mod DirectLaws
+pub mod Letters
+pub mod OptionSteps
+pub mod Steps
+pub mod Turns

@@ -11,7 +11,7 @@ option_rule id letter = record (new_rule id) { short = Some letter }
 abbrev pub direct_app : App
 direct_app =
     with_rule (with_rule (with_rule (with_rule (with_rule (new_app (codes "direct")) (new_rule (codes "action")))
-    (option_rule (codes "lockspace") 115)) (option_rule (codes "resource") 114)) (option_rule (codes "hosts") 110)) (option_rule (codes "area") 100)
+    (option_rule (codes "lockspace") 115)) (option_rule (codes "resource") 114)) (option_rule (codes "hosts") 110)) (option_rule (codes "stretch") 100)
 
 -- The program, without a name in front of its words, and without what the parser would add of its own.
 abbrev pub bare_shape : Shape

@@ -1,5 +1,6 @@
 pub mod Actions
 pub mod Arguments
 pub mod CommandLine
+pub mod CommandWords
 pub mod Parses
 pub mod Readings

@@ -1,14 +1,14 @@
 -- What the parser makes of the words, and what that says.
 use Rattle.clap.specs.Faults.{fault_of}
 use Rattle.clap.specs.Simple.{subcommand_of}
-use Rattle.clap.specs.Walk.{Row, Text, first_of, is_empty}
+use Rattle.clap.specs.Walk.{Row, Text, first_of}
 use Rattle.sl_cli.specs.Actions.{Given, action_in}
 use Rattle.sl_cli.specs.CommandLine.{command_line}
-use Rattle.sl_cli.specs.declared.given.Met.TheVariants as Met
 use Rattle.sl_cli.specs.declared.given.Met.{Met}
-use Rattle.sl_cli.specs.declared.reading.Words.TheVariants.{Direct, Help, Replay, Version}
+use Rattle.sl_cli.specs.declared.reading.Words.TheVariants.{Direct, Replay}
 use Rattle.sl_cli.specs.declared.reading.Words.{Words}
-use Rattle.std.specs.Prelude.{Bool, List, None, Option, Some, bytes_eq, codes, false, if◌then◌else◌, option_and_then, option_map, [], ℕ, ◌≡◌, ◌||◌, ◌∷◌}
+use Rattle.sl_words.specs.Words.{is_empty}
+use Rattle.std.specs.Prelude.{List, None, Option, Some, bytes_eq, codes, if◌then◌else◌, option_and_then, option_map, [], ◌≡◌}
 
 -- What was given, by what was found of each argument.
 abbrev pub given_in : List Row → Given
@@ -17,7 +17,7 @@ given_in rows = record {
   lockspace = first_of (codes "lockspace") rows;
   resource = first_of (codes "resource") rows;
   hosts = first_of (codes "hosts") rows;
-  stretch = first_of (codes "area") rows;
+  stretch = first_of (codes "stretch") rows;
 }
 
 -- The command of this name that was met, with what was given to it.
@@ -43,21 +43,8 @@ TakenAs ws met = (fault_of command_line ws ≡ []) × (met ≡ met_in (subcomman
 
 -- The parser doesn't take the words.
 abbrev pub IsRefused : List Text → Type 0
-IsRefused ws = is_empty (fault_of command_line ws) ≡ false
+IsRefused ws = fault_of command_line ws ≡ [] → ⊥
 
 -- What the words of a command say, if the parser takes them.
 abbrev pub parsed : List Text → Option Words
 parsed ws = if is_empty (fault_of command_line ws) then option_and_then said_by (met_in (subcommand_of command_line ws)) else None
-
--- The words are one of these two, alone.
-abbrev pub is_only : List ℕ → List ℕ → List Text → Bool
-is_only long short [] = false
-is_only long short (w ∷ []) = bytes_eq w long || bytes_eq w short
-is_only long short (w ∷ v ∷ ws) = false
-
--- What the words of the command line say.
-abbrev pub said_in : List Text → Option Words
-said_in ws =
-    if is_only (codes "--help") (codes "-h") ws then Some Help
-    else if is_only (codes "--version") (codes "-V") ws then Some Version
-    else parsed ws

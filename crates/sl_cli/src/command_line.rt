@@ -40,7 +40,7 @@ fn direct<'a>(alloc: Global) -> Result<Command<'a>, AllocError>
     let command = with_option(alloc, command, "lockspace", 's')?;
     let command = with_option(alloc, command, "resource", 'r')?;
     let command = with_option(alloc, command, "hosts", 'n')?;
-    with_option(alloc, command, "area", 'd')
+    with_option(alloc, command, "stretch", 'd')
 }
 
 /// The program without its commands. Its words have no name in front, and no word asks the parser for help.

@@ -54,7 +54,7 @@ impl<'a> Given<'a> {
             lockspace: value_of(matches, "lockspace"),
             resource: value_of(matches, "resource"),
             hosts: value_of(matches, "hosts"),
-            stretch: value_of(matches, "area"),
+            stretch: value_of(matches, "stretch"),
         }
     }
 

@@ -1,9 +1,10 @@
 //! The words of the command line, turned into what they say.
 
 ghost use Rattle.clap.specs.Values.{kind_of};
-ghost use Rattle.sl_cli.specs.Parses.{IsRefused, TakenAs, is_only, said_by, said_in};
+ghost use Rattle.sl_cli.specs.CommandWords.{command_in, is_only, said_in};
+ghost use Rattle.sl_cli.specs.Parses.{IsRefused, TakenAs, said_by};
 ghost use Rattle.sl_cli.specs.declared.reading.WordsError.TheVariants.{Bad, NoMemory};
-ghost use Rattle.std.specs.Prelude.{Err, IfErr, IfOk, None, Some, map, string_bytes, ◌≡◌};
+ghost use Rattle.std.specs.Prelude.{Err, IfErr, IfOk, None, Some, map, option_and_then, string_bytes, ◌≡◌};
 
 use crate::command_line::command_line;
 use crate::given::{Met, met_in};
@@ -80,17 +81,26 @@ fn parse<'a>(alloc: Global, words: &'a [String]) -> Result<Option<Met<'a>>, Word
     }
 }
 
-/// What the words of the command line say, without the program's name.
+/// The command that the words name, if they are of one.
+fn command<'a>(alloc: Global, words: &'a [String]) -> Result<Option<Met<'a>>, WordsError>
+    ensures read { IfOk result (λ met. option_and_then said_by met ≡ command_in (map string_bytes words.entry.now)) }
+    ensures bad { result ≡ Err Bad → command_in (map string_bytes words.entry.now) ≡ None }
+{
+    parse(alloc, words)
+}
+
+/// What the words of the command line say, without the program's name. `Bad` comes exactly where they say nothing; `NoMemory` may come at
+/// any command.
 pub fn read_words(alloc: Global, words: &[String]) -> Result<Words, WordsError>
     ensures read { IfOk result (λ w. said_in (map string_bytes words.now) ≡ Some w) }
-    ensures bad { IfErr result (λ e. e ≡ Bad → said_in (map string_bytes words.now) ≡ None) }
+    ensures bad { result ≡ Err Bad → said_in (map string_bytes words.now) ≡ None }
 {
     if is_only(words, "--help", "-h") {
         Ok(Words::Help)
     } else if is_only(words, "--version", "-V") {
         Ok(Words::Version)
     } else {
-        let met = parse(alloc, words)?.ok_or(WordsError::Bad)?;
+        let met = command(alloc, words)?.ok_or(WordsError::Bad)?;
         said(met).ok_or(WordsError::Bad)
     }
 }
