@@ -1,0 +1,6 @@
+//! x
+use crate::action::Directed;
+
+pub fn run_direct() -> Directed {
+    Directed::Done
+}
