@@ -1,19 +1,24 @@
 //! Areas that are initialised.
 ghost use Rattle.sl_area.specs.Layouts.{layout_of, sector_with};
 ghost use Rattle.sl_area.specs.Places.{delta_offset, is_base};
-ghost use Rattle.sl_direct.specs.Actions.{IsAreaBase, IsHostCount};
+ghost use Rattle.sl_direct.specs.Actions.{HasActed, IsAction, IsAreaBase, IsHostCount};
 ghost use Rattle.sl_direct.specs.Disks.{BrokeOff, Wrote};
 ghost use Rattle.sl_direct.specs.FreshAreas.{block_write, block_writes, delta_write, layout_for, leader_write, lockspace_writes, request_write, resource_writes, value_write, write_of};
+ghost use Rattle.sl_direct.specs.declared.action.Action.TheVariants.{InitLockspace, InitResource};
+ghost use Rattle.sl_direct.specs.declared.action.Directed.TheVariants.{AreaFault};
 ghost use Rattle.sl_sector.specs.Records.{IsRecord};
 ghost use Rattle.sl_text.specs.Names.{is_name};
-ghost use Rattle.sl_words.specs.Causes.{HasCause};
+ghost use Rattle.sl_words.specs.Causes.{HasCause, Rose};
 ghost use Rattle.std.specs.Prelude.{IsTrue, OnErr, OnOk, [], ◌∷◌, ◌≡◌, ◌≤◌};
 
+use crate::action::Directed;
 use crate::fresh::{fresh_block, fresh_delta, fresh_leader, geometry_for, no_request, no_value};
+use crate::lines::{push_lockspace_line, push_resource_line};
 use sl_area::{Area, Geometry, Place};
 use sl_io::Failed;
 use sl_sector::Rec;
 use sl_text::Name;
+use sl_trace::{LockspaceArg, ResourceArg};
 
 /// Writes the sector of a record.
 fn write_record<A: Area>(area: &mut A, at: Place, rec: &Rec) -> Result<(), Failed>
@@ -49,7 +54,7 @@ fn write_delta<A: Area>(
 }
 
 /// Writes the sectors of a lockspace. After an `Err` a front of them was written, and the next one may be torn.
-pub(crate) fn write_lockspace<A: Area>(
+fn write_lockspace<A: Area>(
     area: &mut A,
     hosts: u32,
     lockspace: Name,
@@ -140,7 +145,7 @@ fn write_leader<A: Area>(
 }
 
 /// Writes the sectors of a resource, the leader last. After an `Err` a front of them was written, and the next one may be torn.
-pub(crate) fn write_resource<A: Area>(
+fn write_resource<A: Area>(
     area: &mut A,
     hosts: u32,
     lockspace: Name,
@@ -158,4 +163,62 @@ pub(crate) fn write_resource<A: Area>(
     write_blocks(area, hosts, base)?;
     write_value(area, hosts, base)?;
     write_leader(area, hosts, lockspace, resource, base)
+}
+
+/// Initialises the area of a lockspace. Its line is made first, so that want of memory leaves the area as it was.
+pub(crate) fn init_lockspace<A: Area>(
+    area: &mut A,
+    lockspace: &LockspaceArg,
+    hosts: u32,
+    out: &mut Vec<u8>,
+) -> Directed
+    requires action { IsAction (InitLockspace lockspace.now hosts) }
+    requires first { out.old.items ≡ [] }
+    ensures acted { HasActed (InitLockspace lockspace.now hosts) (A.content area.old) (A.content area.new) out.new.items result }
+    ensures cause { result ≡ AreaFault → Rose (A.faults area.old) (A.faults area.new) }
+    ensures later { A.faults area.old ≤ A.faults area.new }
+{
+    match push_lockspace_line(out, lockspace, hosts) {
+        Ok(()) => match write_lockspace(area, hosts, lockspace.name, lockspace.offset) {
+            Ok(()) => Directed::Done,
+            Err(_) => {
+                out.clear();
+                Directed::AreaFault
+            }
+        },
+        Err(_) => Directed::NoMemory,
+    }
+}
+
+/// Initialises the area of a resource, as `init_lockspace` does that of a lockspace.
+pub(crate) fn init_resource<A: Area>(
+    area: &mut A,
+    resource: &ResourceArg,
+    hosts: u32,
+    out: &mut Vec<u8>,
+) -> Directed
+    requires action { IsAction (InitResource resource.now hosts) }
+    requires first { out.old.items ≡ [] }
+    ensures acted { HasActed (InitResource resource.now hosts) (A.content area.old) (A.content area.new) out.new.items result }
+    ensures cause { result ≡ AreaFault → Rose (A.faults area.old) (A.faults area.new) }
+    ensures later { A.faults area.old ≤ A.faults area.new }
+{
+    match push_resource_line(out, resource, hosts) {
+        Ok(()) => {
+            match write_resource(
+                area,
+                hosts,
+                resource.lockspace,
+                resource.name,
+                resource.offset,
+            ) {
+                Ok(()) => Directed::Done,
+                Err(_) => {
+                    out.clear();
+                    Directed::AreaFault
+                }
+            }
+        }
+        Err(_) => Directed::NoMemory,
+    }
 }
