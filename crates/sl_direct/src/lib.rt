@@ -2,5 +2,11 @@
 #![tactic(auto)]
 
 pub mod action;
+mod areas;
+mod direct;
+mod fresh;
+mod lines;
+mod looks;
 
 pub use action::{Action, Directed};
+pub use direct::run_direct;

@@ -1,0 +1,5 @@
+pub mod DiskLaws
+pub mod FreshLaws
+pub mod LineLaws
+pub mod LookLaws
+pub mod ActLaws

@@ -1,0 +1,4 @@
+pub mod FreshAreas
+pub mod Disks
+pub mod Lines
+pub mod Actions
