@@ -4,3 +4,4 @@ pub mod CommandLine
 pub mod CommandWords
 pub mod Parses
 pub mod Readings
+pub mod Spellings

@@ -7,6 +7,7 @@
 mod arguments;
 mod command_line;
 mod given;
+pub mod laws;
 mod reading;
 mod texts;
 

@@ -3,8 +3,9 @@
 ghost use Rattle.clap.specs.Values.{kind_of};
 ghost use Rattle.sl_cli.specs.CommandWords.{command_in, is_only, said_in};
 ghost use Rattle.sl_cli.specs.Parses.{IsRefused, TakenAs, said_by};
+ghost use Rattle.sl_cli.specs.Spellings.{CanBeDone};
 ghost use Rattle.sl_cli.specs.declared.reading.WordsError.TheVariants.{Bad, NoMemory};
-ghost use Rattle.std.specs.Prelude.{Err, IfErr, IfOk, None, Some, map, option_and_then, string_bytes, ◌≡◌};
+ghost use Rattle.std.specs.Prelude.{Err, IfErr, IfOk, IfSome, None, Some, map, option_and_then, string_bytes, ◌≡◌};
 
 use crate::command_line::command_line;
 use crate::given::{Met, met_in};
@@ -61,7 +62,8 @@ fn error_of(error: &Error) -> WordsError
 
 /// What a command says.
 fn said(met: Met<'_>) -> Option<Words>
-    ensures { result ≡ said_by met.entry }
+    ensures exact { result ≡ said_by met.entry }
+    ensures can { IfSome result CanBeDone }
 {
     match met {
         Met::Replay => Some(Words::Replay),
@@ -94,6 +96,7 @@ fn command<'a>(alloc: Global, words: &'a [String]) -> Result<Option<Met<'a>>, Wo
 pub fn read_words(alloc: Global, words: &[String]) -> Result<Words, WordsError>
     ensures read { IfOk result (λ w. said_in (map string_bytes words.now) ≡ Some w) }
     ensures bad { result ≡ Err Bad → said_in (map string_bytes words.now) ≡ None }
+    ensures can { IfOk result CanBeDone }
 {
     if is_only(words, "--help", "-h") {
         Ok(Words::Help)
