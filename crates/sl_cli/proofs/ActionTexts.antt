@@ -8,15 +8,15 @@ use Rattle.sl_direct.specs.Actions.{IsAction, IsHostCount, IsStretch}
 use Rattle.sl_direct.specs.declared.action.Action.TheVariants.{Dump, InitLockspace, InitResource, ReadLeader}
 use Rattle.sl_direct.specs.declared.action.Action.{Action}
 use Rattle.sl_text.specs.Numbers.{number_of}
-use Rattle.sl_trace.specs.Commands.{is_resource_word, moded_word, resource_of_word}
+use Rattle.sl_trace.specs.Commands.{is_resource_word, resource_of_word}
 use Rattle.sl_words.proofs.CaseLaws.{none_some}
 use Rattle.sl_words.proofs.WordLaws.{and_true, choose_some}
 use Rattle.sl_words.specs.Words.{choose}
-use Rattle.std.proofs.Common.{Bool, List, None, Option, Some, ap, eqb, false, inl, inr, leb, ltb, refl, subst, sym, true, ℕ, ◌%◌, ◌&&◌, ◌^◌, ◌≡◌, ◌∙◌}
+use Rattle.std.proofs.Common.{Bool, List, None, Option, Some, ap, eqb, inl, inr, leb, ltb, subst, sym, true, ℕ, ◌%◌, ◌&&◌, ◌^◌, ◌≡◌, ◌∙◌}
 use Rattle.std.proofs.lemmas.Bool.{cases_Bool, eqb-true, leb-true, ltb-true}
 use Rattle.std.proofs.lemmas.Slice.Eq.{bytes_eq-Decides}
 use Rattle.std.specs.Int.{is_in_range}
-use Rattle.std.specs.Prelude.{bytes_eq, codes, if◌then◌else◌}
+use Rattle.std.specs.Prelude.{bytes_eq, codes}
 
 -- ---- what is read was given
 

@@ -6,13 +6,13 @@ use Rattle.sl_command.proofs.PartTexts.{base_small, number_read, number_written,
 use Rattle.sl_text.proofs.FreeLaws.{decimal_free, name_free, path_free}
 use Rattle.sl_text.proofs.NumberLaws.{decimal-number_of, number_of-decimal}
 use Rattle.sl_text.proofs.PieceLaws.{join_with_byte-pieces, pieces-join_with_byte}
-use Rattle.sl_text.specs.Forms.{coloned, exactly, is_free_of, pieces, word_at}
-use Rattle.sl_text.specs.Names.{is_name, is_path}
-use Rattle.sl_text.specs.Numbers.{is_number_that, number_of}
+use Rattle.sl_text.specs.Forms.{coloned, is_free_of, pieces, word_at}
+use Rattle.sl_text.specs.Names.{is_name}
+use Rattle.sl_text.specs.Numbers.{number_of}
 use Rattle.sl_trace.specs.Commands.{lockspace_word}
 use Rattle.sl_trace.specs.declared.command.LockspaceArg.{LockspaceArg}
 use Rattle.sl_words.proofs.WordLaws.{and_true}
-use Rattle.std.proofs.Common.{Bool, List, [], ap, arith, eqb, length, ltb, refl, sym, true, ℕ, ◌%◌, ◌&&◌, ◌<◌, ◌^◌, ◌≡◌, ◌∙◌, ◌∷◌}
+use Rattle.std.proofs.Common.{List, [], ap, arith, eqb, length, ltb, refl, sym, true, ℕ, ◌%◌, ◌<◌, ◌^◌, ◌≡◌, ◌∙◌, ◌∷◌}
 use Rattle.std.proofs.lemmas.Bool.{and_from, eqb-true, ltb-true}
 use Rattle.std.proofs.lemmas.Slice.Eq.{bytes_eq-Decides}
 use Rattle.std.specs.Int.{is_in_range}

@@ -1,13 +1,12 @@
 -- Words in any order are read, and no others are.
 use Rattle.sl_cli.proofs.ActionTexts.{actions_have_one_text, given_read}
-use Rattle.sl_cli.specs.Actions.{Given, action_in}
-use Rattle.sl_cli.specs.CommandWords.{Taken, Use, command_in, direct_in, ends_here, given_by, is_given, is_only, is_plain, next_taken, nothing_taken, option_named, said_in, use_of, uses_from, with_use}
-use Rattle.sl_cli.specs.Spellings.{AreUses, AsksFor, IsAsked, OnlyItsWordsAskForAnAction, OptionsComeInAnyOrder, are_apart, given_for, is_use, letter_named, option_words, spelled, use_words}
+use Rattle.sl_cli.specs.Actions.{action_in}
+use Rattle.sl_cli.specs.CommandWords.{Taken, Use, command_in, ends_here, given_by, is_given, is_only, is_plain, nothing_taken, option_named, use_of, uses_from, with_use}
+use Rattle.sl_cli.specs.Spellings.{AsksFor, IsAsked, OnlyItsWordsAskForAnAction, OptionsComeInAnyOrder, are_apart, is_use, letter_named, option_words, spelled, use_words}
 use Rattle.sl_cli.specs.declared.reading.Words.TheVariants.{Direct, Help, Replay, Version}
-use Rattle.sl_cli.specs.declared.reading.Words.{Words}
 use Rattle.sl_direct.specs.declared.action.Action.{Action}
 use Rattle.sl_words.proofs.CaseLaws.{none_some}
-use Rattle.sl_words.proofs.WordLaws.{and_true, choose_some, or_true}
+use Rattle.sl_words.proofs.WordLaws.{and_true}
 use Rattle.sl_words.specs.Words.{choose}
 use Rattle.std.proofs.Common.{Bool, List, None, Option, Some, [], ap, append_assoc, append-nil, eqb, false, inl, inr, refl, subst, sym, true, ℕ, ◌&&◌, ◌++◌, ◌≡◌, ◌∙◌, ◌∷◌, ◌⊎◌}
 use Rattle.std.proofs.lemmas.Bool.{cases_Bool, not-true}
