@@ -8,7 +8,7 @@ use Rattle.std.specs.Prelude.{Bool, List, None, Option, Some, bytes_eq, codes, d
 
 -- ---- what is given to `direct`
 
--- The options: the letter of each, and what it gives.
+-- The options, `-s`, `-r`, `-n` and `-d`: the letter of each, and what it gives.
 abbrev pub options : List (ℕ × List ℕ)
 options = (115, codes "lockspace") ∷ (114, codes "resource") ∷ (110, codes "hosts") ∷ (100, codes "stretch") ∷ []
 
@@ -47,13 +47,13 @@ abbrev pub with_use : Taken → List ℕ → List ℕ → Option Taken
 with_use t name value =
     choose (not (is_given name t.uses)) (record { uses = t.uses ++ use_of name value ∷ []; waiting = None; only_action = t.only_action })
 
--- The word is no option: it doesn't begin with a hyphen, or is nothing else.
+-- The word is no option: it doesn't begin with a hyphen (45), or is nothing else.
 abbrev pub is_plain : List ℕ → Bool
 is_plain [] = true
 is_plain (c ∷ []) = true
 is_plain (c ∷ d ∷ cs) = not (c == 45)
 
--- An option, with what stands behind its letter: nothing, or its value, which may stand behind a `=`.
+-- An option, with what stands behind its letter: nothing, or its value, which may stand behind a `=` (61).
 abbrev pub with_option : Taken → List ℕ → List ℕ → Option Taken
 with_option t name [] = Some (record t { waiting = Some name })
 with_option t name (c ∷ cs) = with_use t name (if c == 61 then cs else c ∷ cs)

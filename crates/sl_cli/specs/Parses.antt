@@ -7,8 +7,7 @@ use Rattle.sl_cli.specs.CommandLine.{command_line}
 use Rattle.sl_cli.specs.declared.given.Met.{Met}
 use Rattle.sl_cli.specs.declared.reading.Words.TheVariants.{Direct, Replay}
 use Rattle.sl_cli.specs.declared.reading.Words.{Words}
-use Rattle.sl_words.specs.Words.{is_empty}
-use Rattle.std.specs.Prelude.{List, None, Option, Some, bytes_eq, codes, if◌then◌else◌, option_and_then, option_map, [], ◌≡◌}
+use Rattle.std.specs.Prelude.{List, None, Option, Some, bytes_eq, codes, if◌then◌else◌, option_map, [], ◌≡◌}
 
 -- What was given, by what was found of each argument.
 abbrev pub given_in : List Row → Given
@@ -44,7 +43,3 @@ TakenAs ws met = (fault_of command_line ws ≡ []) × (met ≡ met_in (subcomman
 -- The parser doesn't take the words.
 abbrev pub IsRefused : List Text → Type 0
 IsRefused ws = fault_of command_line ws ≡ [] → ⊥
-
--- What the words of a command say, if the parser takes them.
-abbrev pub parsed : List Text → Option Words
-parsed ws = if is_empty (fault_of command_line ws) then option_and_then said_by (met_in (subcommand_of command_line ws)) else None

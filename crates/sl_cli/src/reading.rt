@@ -5,7 +5,7 @@ ghost use Rattle.sl_cli.specs.CommandWords.{command_in, is_only, said_in};
 ghost use Rattle.sl_cli.specs.Parses.{IsRefused, TakenAs, said_by};
 ghost use Rattle.sl_cli.specs.Spellings.{CanBeDone};
 ghost use Rattle.sl_cli.specs.declared.reading.WordsError.TheVariants.{Bad, NoMemory};
-ghost use Rattle.std.specs.Prelude.{Err, IfErr, IfOk, IfSome, None, Some, map, option_and_then, string_bytes, ◌≡◌};
+ghost use Rattle.std.specs.Prelude.{Err, IfOk, IfSome, None, Some, map, option_and_then, string_bytes, ◌≡◌};
 
 use crate::command_line::command_line;
 use crate::given::{Met, met_in};
@@ -17,9 +17,13 @@ use std::alloc::{AllocError, Global};
 /// What the words of the command line say.
 #[derive(Clone, Copy)]
 pub enum Words {
+    /// Run a schedule, and report it.
     Replay,
+    /// Do this to an area.
     Direct(Action),
+    /// Put out the help.
     Help,
+    /// Put out the version.
     Version,
 }
 
@@ -91,8 +95,8 @@ fn command<'a>(alloc: Global, words: &'a [String]) -> Result<Option<Met<'a>>, Wo
     parse(alloc, words)
 }
 
-/// What the words of the command line say, without the program's name. `Bad` comes exactly where they say nothing; `NoMemory` may come at
-/// any command.
+/// What the words of the command line say; the program's name is none of them. An action that they ask for can be done. `Bad` comes exactly
+/// where they say nothing; in place of either may come `NoMemory`.
 pub fn read_words(alloc: Global, words: &[String]) -> Result<Words, WordsError>
     ensures read { IfOk result (λ w. said_in (map string_bytes words.now) ≡ Some w) }
     ensures bad { result ≡ Err Bad → said_in (map string_bytes words.now) ≡ None }
