@@ -10,3 +10,6 @@ mod looks;
 
 pub use action::{Action, Directed};
 pub use direct::run_direct;
+
+#[cfg(test)]
+mod tests;
