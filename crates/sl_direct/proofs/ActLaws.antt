@@ -4,14 +4,13 @@ use Rattle.sl_direct.proofs.LookLaws.{one_line}
 use Rattle.sl_direct.specs.Actions.{Acts, Directs, HasActed, IsFront, PutsOut, Writes, last_lines, output_of}
 use Rattle.sl_direct.specs.Disks.{BrokeOff, Wrote}
 use Rattle.sl_direct.specs.FreshAreas.{Write}
-use Rattle.sl_direct.specs.Lines.{fault_line}
 use Rattle.sl_direct.specs.declared.action.Action.TheVariants.{Dump, InitLockspace, InitResource, ReadLeader}
 use Rattle.sl_direct.specs.declared.action.Action.{Action}
-use Rattle.sl_direct.specs.declared.action.Directed.TheVariants.{AreaFault, Done, NoMemory, NotTheLeader, WriteFault}
+use Rattle.sl_direct.specs.declared.action.Directed.TheVariants.{AreaFault, Done, WriteFault}
 use Rattle.sl_direct.specs.declared.action.Directed.{Directed}
 use Rattle.sl_text.specs.Forms.{as_bytes}
 use Rattle.sl_words.specs.Causes.{Rose}
-use Rattle.std.proofs.Common.{List, Option, [], ap, append_assoc, arith, inl, inr, length, refl, subst, sym, take, take-append-drop, drop, ℕ, ◌++◌, ◌∙◌, ◌∷◌, ◌≡◌, ◌≤◌, ◌⊎◌}
+use Rattle.std.proofs.Common.{List, Option, [], ap, append_assoc, arith, inl, inr, refl, subst, sym, take, take-append-drop, drop, ℕ, ◌++◌, ◌∙◌, ◌∷◌, ◌≡◌, ◌≤◌, ◌⊎◌}
 use Rattle.std.proofs.KnownBytes.{Appends-trans}
 use Rattle.std.specs.Io.KnownBytes.{Appends}
 

@@ -21,7 +21,7 @@ use Rattle.std.specs.Prelude.{OnErr}
 
 -- ---- sectors
 
-sector_size : IsSectorSize 512
+pub sector_size : IsSectorSize 512
 sector_size = (omega arith, omega arith)
 
 pub length-sector : (r : Rec) → IsRecord r → length (spelling sha256 512 r) ≡ 512

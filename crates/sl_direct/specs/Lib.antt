@@ -2,3 +2,4 @@ pub mod FreshAreas
 pub mod Disks
 pub mod Lines
 pub mod Actions
+pub mod Laws

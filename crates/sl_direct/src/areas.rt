@@ -162,7 +162,8 @@ fn write_resource<A: Area>(
     write_request(area, hosts, base)?;
     write_blocks(area, hosts, base)?;
     write_value(area, hosts, base)?;
-    write_leader(area, hosts, lockspace, resource, base)
+    write_leader(area, hosts, lockspace, resource, base)?;
+    Ok(())
 }
 
 /// Initialises the area of a lockspace. Its line is made first, so that want of memory leaves the area as it was.
