@@ -1,9 +1,7 @@
 //! Areas that are initialised.
-ghost use Rattle.sl_area.specs.Layouts.{layout_of, sector_with};
-ghost use Rattle.sl_area.specs.Places.{delta_offset, is_base};
-ghost use Rattle.sl_direct.specs.Actions.{HasActed, IsAction, IsAreaBase, IsHostCount};
-ghost use Rattle.sl_direct.specs.Disks.{BrokeOff, Wrote};
+ghost use Rattle.sl_direct.specs.Actions.{IsAction, IsAreaBase, IsHostCount};
 ghost use Rattle.sl_direct.specs.FreshAreas.{block_write, block_writes, delta_write, layout_for, leader_write, lockspace_writes, request_write, resource_writes, value_write, write_of};
+ghost use Rattle.sl_direct.specs.Steps.{BrokeOff, HasActed, Wrote};
 ghost use Rattle.sl_direct.specs.declared.action.Action.TheVariants.{InitLockspace, InitResource};
 ghost use Rattle.sl_direct.specs.declared.action.Directed.TheVariants.{AreaFault};
 ghost use Rattle.sl_sector.specs.Records.{IsRecord};

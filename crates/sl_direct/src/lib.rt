@@ -6,9 +6,10 @@
 //! nothing on the disk tells it.
 //!
 //! An initialising writes each sector of the area once: of a lockspace the record of each id, of a resource the request, the blocks,
-//! the value and last the leader. A host reads the leader first, so an area that was left half-written is seen as one, and is
-//! initialised anew. Sectors between these and the area's end stay as they were. A look at a leader or at a stretch of sectors reads a sector
-//! at a time, and writes none.
+//! the value and last the leader. Every host reads the leader before it asks for the resource. So on a disk where none stood, an area
+//! that was left half-written has no leader, and is refused as torn. Where an old leader stood it stands still, before blocks that may
+//! be new: an initialising that broke off has to be made again before a host works there. Sectors between these and the area's end stay as
+//! they were. A look at a leader or at a stretch of sectors reads a sector at a time, and writes none.
 //!
 //! What an action tells is kept until it has ended, and is then put out. So it may end in five ways:
 //!
