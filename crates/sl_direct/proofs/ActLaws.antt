@@ -1,17 +1,16 @@
 -- How actions end, and what is put out of what they print.
 use Rattle.sl_direct.proofs.DiskLaws.{AllApart, all_written, front_written}
 use Rattle.sl_direct.proofs.LookLaws.{one_line}
-use Rattle.sl_direct.specs.Actions.{Acts, Directs, HasActed, IsFront, PutsOut, Writes, last_lines, output_of}
-use Rattle.sl_direct.specs.Disks.{BrokeOff, Wrote}
+use Rattle.sl_direct.specs.Actions.{Acts, Directs, IsFront, PutsOut, Writes, last_lines, output_of}
 use Rattle.sl_direct.specs.FreshAreas.{Write}
-use Rattle.sl_direct.specs.Lines.{fault_line}
+use Rattle.sl_direct.specs.Steps.{BrokeOff, HasActed, Wrote}
 use Rattle.sl_direct.specs.declared.action.Action.TheVariants.{Dump, InitLockspace, InitResource, ReadLeader}
 use Rattle.sl_direct.specs.declared.action.Action.{Action}
-use Rattle.sl_direct.specs.declared.action.Directed.TheVariants.{AreaFault, Done, NoMemory, NotTheLeader, WriteFault}
+use Rattle.sl_direct.specs.declared.action.Directed.TheVariants.{AreaFault, Done, WriteFault}
 use Rattle.sl_direct.specs.declared.action.Directed.{Directed}
 use Rattle.sl_text.specs.Forms.{as_bytes}
 use Rattle.sl_words.specs.Causes.{Rose}
-use Rattle.std.proofs.Common.{List, Option, [], ap, append_assoc, arith, inl, inr, length, refl, subst, sym, take, take-append-drop, drop, ℕ, ◌++◌, ◌∙◌, ◌∷◌, ◌≡◌, ◌≤◌, ◌⊎◌}
+use Rattle.std.proofs.Common.{List, Option, [], ap, append_assoc, arith, inl, inr, refl, subst, sym, take, take-append-drop, drop, ℕ, ◌++◌, ◌∙◌, ◌∷◌, ◌≡◌, ◌≤◌, ◌⊎◌}
 use Rattle.std.proofs.KnownBytes.{Appends-trans}
 use Rattle.std.specs.Io.KnownBytes.{Appends}
 
@@ -87,6 +86,15 @@ fault_counted a content after lines put output went d faults later acts (inl who
     absurd (no_write_fault a content after lines (subst (Acts a content after lines) (sym whole.1 ∙ is) acts))
 fault_counted a content after lines put output went d faults later acts (inr cut) is = cut.2
 
+-- A fault of the area that is told is the action's.
+area_counted : (put output : List ℕ) (went d : Directed) (faults later sink_faults sink_later : ℕ) → (went ≡ AreaFault → Rose faults later)
+    → (((put ≡ output) × (d ≡ went)) ⊎ (IsFront put output × (d ≡ WriteFault) × Rose sink_faults sink_later)) → d ≡ AreaFault → Rose faults later
+area_counted put output went d faults later sink_faults sink_later cause (inl whole) is = cause (sym whole.1 ∙ is)
+area_counted put output went d faults later sink_faults sink_later cause (inr cut) is = absurd (two_faults (sym cut.1 ∙ is))
+  where
+    two_faults : WriteFault ≡ AreaFault → ⊥
+    two_faults e = cc
+
 -- What was acted was put out.
 pub directs : (a : Action) (content after : Option (List ℕ)) (faults later : ℕ) (taken now : Option (List ℕ)) (sink_faults sink_later : ℕ) (out text : List ℕ) (went d : Directed)
     → HasActed a content after out went → text ≡ out → (went ≡ AreaFault → Rose faults later) → faults ≤ later
@@ -103,7 +111,8 @@ directs a content after faults later taken now sink_faults sink_later out text w
       lines = lines;
       acts = acted.2;
       output = whole;
-      area_fault = cause;
+      area_fault = area_counted whole.put (output_of lines went) went d faults later sink_faults sink_later cause whole.is_put;
       write_fault = fault_counted a content after lines whole.put (output_of lines went) went d sink_faults sink_later acted.2 whole.is_put;
+      area_failed = cause;
       never_falls = falls;
     }

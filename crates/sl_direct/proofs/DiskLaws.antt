@@ -1,13 +1,14 @@
 -- Writes to a disk, one behind another: what stands afterwards, and what stays.
 use Rattle.sl_area.specs.Sectors.{Apart, KeepsOthers, SectorPlace, put_at}
-use Rattle.sl_direct.specs.Disks.{AllFit, BrokeOff, Holds, HoldsFront, IsBrokenOff, IsInitialised, IsOutside, Stands, Wrote, WroteFront, written}
+use Rattle.sl_direct.specs.Disks.{Holds, HoldsFront, IsBrokenOff, IsInitialised, IsOutside, Stands}
 use Rattle.sl_direct.specs.FreshAreas.{Write, place_of}
+use Rattle.sl_direct.specs.Steps.{AllFit, BrokeOff, Wrote, WroteFront, written}
 use Rattle.std.proofs.Common.{All, Err, List, None, Ok, Option, Result, Some, [], ap, append_assoc, arith, drop, get_or, inl, inr, length, map, refl, subst, sym, take, take-append-drop, ℕ, ◌++◌, ◌+◌, ◌-◌, ◌<◌, ◌∙◌, ◌∷◌, ◌≡◌, ◌≤◌, ◌⊎◌}
 use Rattle.std.proofs.lemmas.List.FromFn.{map-range_with_len_more, take-map-range_with_len}
 use Rattle.std.specs.List.{range_with_len}
-use Rattle.std.specs.Prelude.{OnErr, OnOk, ⊤}
-use Rattle.std.proofs.lemmas.List.Elements.{All-append, All-cons, All-head, All-nil, All-tail}
-use Rattle.std.proofs.lemmas.List.{append-nil, drop-drop, drop-take, drop_at, get_or-drop, get_or-take, length-append, length-drop, length-take, length-take-le, take-take, take_at}
+use Rattle.std.specs.Prelude.{OnErr, ⊤}
+use Rattle.std.proofs.lemmas.List.Elements.{All-cons, All-head, All-nil, All-tail}
+use Rattle.std.proofs.lemmas.List.{drop-drop, drop-take, drop_at, get_or-drop, get_or-take, length-append, length-drop, length-take, length-take-le, take-take, take_at}
 
 -- ---- one write
 
@@ -199,7 +200,7 @@ pub all_right : {X : Type 0} (P : X → Type 0) (xs ys : List X) → All P (xs +
 all_right P [] ys all = all
 all_right P (x ∷ xs) ys all = all_right P xs ys (All-tail P x (xs ++ ys) all)
 
-front_apart : (done : List Write) (next : Write) (rest : List Write) → AllApart (done ++ next ∷ rest)
+pub front_apart : (done : List Write) (next : Write) (rest : List Write) → AllApart (done ++ next ∷ rest)
     → AllApart done × All (λ w. Apart (place_of w) (place_of next)) done
 front_apart [] next rest apart = (tt, All-nil _)
 front_apart (w ∷ done) next rest apart =
@@ -259,18 +260,6 @@ range_broke f n k id a b c below is first broke =
 
 -- ---- answers
 
-pub on_ok : {T E : Type 0} (r : Result T E) (P : Type 0) → P → OnOk r P
-on_ok (Ok x) P p = p
-on_ok (Err e) P p = tt
-
 pub on_err : {T E : Type 0} (r : Result T E) (P : Type 0) → P → OnErr r P
 on_err (Ok x) P p = tt
 on_err (Err e) P p = p
-
-pub ok_then : {T E : Type 0} (r : Result T E) (P Q : Type 0) → (P → Q) → OnOk r P → OnOk r Q
-ok_then (Ok x) P Q next p = next p
-ok_then (Err e) P Q next p = tt
-
-pub err_then : {T E : Type 0} (r : Result T E) (P Q : Type 0) → (P → Q) → OnErr r P → OnErr r Q
-err_then (Ok x) P Q next p = tt
-err_then (Err e) P Q next p = next p

@@ -5,8 +5,8 @@ use Rattle.sl_area.specs.Places.{fresh_block, fresh_delta, fresh_leader, no_requ
 use Rattle.sl_area.specs.Sectors.{Apart, KeepsOthers}
 use Rattle.sl_direct.proofs.DiskLaws.{AllApart, BrokeOff-behind, BrokeOff-front, Wrote-append, broke_first}
 use Rattle.sl_direct.specs.Actions.{IsHostCount}
-use Rattle.sl_direct.specs.Disks.{BrokeOff, Wrote}
 use Rattle.sl_direct.specs.FreshAreas.{Write, block_write, block_writes, delta_write, layout_for, leader_write, lockspace_writes, place_of, request_write, resource_writes, value_write, write_of}
+use Rattle.sl_direct.specs.Steps.{BrokeOff, Wrote}
 use Rattle.sl_sector.proofs.SpellingLaws.{length-spelling}
 use Rattle.sl_sector.proofs.WrittenBytes.{sha256_is_digest}
 use Rattle.sl_sector.specs.Records.{IsRecord}
@@ -21,7 +21,7 @@ use Rattle.std.specs.Prelude.{OnErr}
 
 -- ---- sectors
 
-sector_size : IsSectorSize 512
+pub sector_size : IsSectorSize 512
 sector_size = (omega arith, omega arith)
 
 pub length-sector : (r : Rec) → IsRecord r → length (spelling sha256 512 r) ≡ 512

@@ -3,3 +3,4 @@ pub mod FreshLaws
 pub mod LineLaws
 pub mod LookLaws
 pub mod ActLaws
+pub mod AreaLaws

@@ -1,6 +1,5 @@
 -- Lines put together from their parts.
 use Rattle.sl_direct.specs.Lines.{found_words}
-use Rattle.sl_sector.specs.RecordTexts.{record_words}
 use Rattle.sl_sector.specs.declared.sector.Bad.TheVariants.{BadCheck, BadField, BadKind, BadMagic, BadPad}
 use Rattle.sl_sector.specs.declared.sector.Bad.{Bad}
 use Rattle.sl_sector.specs.declared.sector.Rec.TheVariants.{BlockIs, DeltaIs, LeaderIs, RequestIs, ValueIs}

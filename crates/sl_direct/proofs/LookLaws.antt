@@ -1,20 +1,20 @@
 -- What was read, and what was told of it.
 use Rattle.sl_area.specs.Sectors.{IsReadAt}
-use Rattle.sl_direct.specs.Actions.{AreReadAt, AreTold, Ended, HasActed, IsToldAt}
+use Rattle.sl_direct.specs.Actions.{AreReadAt}
 use Rattle.sl_direct.specs.Lines.{dump_lines, is_its_leader, leader_in_sector, leader_line, sector_line}
-use Rattle.sl_direct.specs.declared.action.Action.TheVariants.{Dump, ReadLeader}
-use Rattle.sl_direct.specs.declared.action.Directed.TheVariants.{AreaFault, Done, NoMemory, NotTheLeader}
-use Rattle.sl_direct.specs.declared.action.Directed.{Directed}
+use Rattle.sl_direct.specs.Steps.{AreTold, HasActed, IsToldAt}
+use Rattle.sl_direct.specs.declared.action.Action.TheVariants.{ReadLeader}
+use Rattle.sl_direct.specs.declared.action.Directed.TheVariants.{Done, NotTheLeader}
 use Rattle.sl_text.specs.Forms.{as_bytes}
 use Rattle.sl_trace.specs.declared.command.ResourceArg.{ResourceArg}
-use Rattle.std.proofs.Common.{Bool, List, None, Option, Some, [], ap, append_assoc, arith, false, length, refl, suc, subst, sym, true, zero, ℕ, ◌*◌, ◌++◌, ◌+◌, ◌<◌, ◌∙◌, ◌∷◌, ◌≡◌, ◌≤◌}
+use Rattle.std.proofs.Common.{Bool, List, None, Option, Some, [], ap, append_assoc, arith, false, length, refl, suc, subst, sym, true, zero, ℕ, ◌*◌, ◌++◌, ◌+◌, ◌∙◌, ◌∷◌, ◌≡◌}
 use Rattle.std.proofs.lemmas.List.{append-nil, flat_map_more, length-append}
 use Rattle.std.specs.Io.KnownBytes.{Keeps}
 use Rattle.std.specs.Prelude.{◌&&◌}
 
 -- ---- a leader
 
-and_nothing : (b : Bool) → (b && true) ≡ b
+pub and_nothing : (b : Bool) → (b && true) ≡ b
 and_nothing true = refl
 and_nothing false = refl
 

@@ -3,7 +3,7 @@ use Rattle.sl_area.specs.Places.{is_base}
 use Rattle.sl_area.specs.Sectors.{IsReadAt}
 use Rattle.sl_direct.specs.Disks.{IsBrokenOff, IsInitialised}
 use Rattle.sl_direct.specs.FreshAreas.{Write, layout_for, lockspace_writes, resource_writes}
-use Rattle.sl_direct.specs.Lines.{dump_lines, fault_line, is_its_leader, leader_in_sector, leader_line, lockspace_line, resource_line, sector_line}
+use Rattle.sl_direct.specs.Lines.{dump_lines, fault_line, is_its_leader, leader_in_sector, leader_line, lockspace_line, resource_line}
 use Rattle.sl_direct.specs.declared.action.Action.TheVariants.{Dump, InitLockspace, InitResource, ReadLeader}
 use Rattle.sl_direct.specs.declared.action.Action.{Action}
 use Rattle.sl_direct.specs.declared.action.Directed.TheVariants.{AreaFault, Done, NoMemory, NotTheLeader, WriteFault}
@@ -55,24 +55,6 @@ abbrev pub AreReadAt : Option (List ℕ) → ℕ → List (List ℕ) → Type 0
 AreReadAt content at [] = ⊤
 AreReadAt content at (s ∷ ss) = (length s ≡ 512) × IsReadAt content at s × AreReadAt content (at + 512) ss
 
--- So many of them were read, and each was told in a line of its own.
-pub record AreTold (content : Option (List ℕ)) (offset count : ℕ) (out : List ℕ) : Type 0 where
-  pub sectors : List (List ℕ)
-  pub long : length sectors ≡ count
-  pub read : AreReadAt content offset sectors
-  pub told : out ≡ as_bytes (dump_lines offset sectors)
-
--- One more was.
-pub record IsToldAt (content : Option (List ℕ)) (at : ℕ) (out later : List ℕ) : Type 0 where
-  pub sector : List ℕ
-  pub long : length sector ≡ 512
-  pub read : IsReadAt content at sector
-  pub told : later ≡ out ++ sector_line at sector ++ 10 ∷ []
-
--- Why no more was: a read failed, or there was no memory.
-abbrev pub IsStopped : ℕ → ℕ → Directed → Type 0
-IsStopped faults later d = ((d ≡ AreaFault) × Rose faults later) ⊎ (d ≡ NoMemory)
-
 -- What is to be read, and what is told of it.
 pub record Look : Type 0 where
   -- from where on, and how many sectors
@@ -122,10 +104,6 @@ Acts (InitResource r hosts) = Writes (resource_writes (layout_for hosts) r.locks
 Acts (ReadLeader r) = Reads (leader_look r)
 Acts (Dump path offset size) = Reads (dump_look offset size)
 
--- What was printed, line by line.
-abbrev pub HasActed : Action → Option (List ℕ) → Option (List ℕ) → List ℕ → Directed → Type 0
-HasActed a content after out d = (lines : List (List ℕ)) × (out ≡ as_bytes lines) × Acts a content after lines d
-
 -- The line that is printed behind all others where the area failed.
 abbrev pub last_lines : Directed → List (List ℕ)
 last_lines AreaFault = fault_line ∷ []
@@ -154,8 +132,10 @@ pub record Directs (a : Action) (content after : Option (List ℕ)) (faults late
   pub acts : Acts a content after lines went
   -- what was put out of them
   pub output : PutsOut taken now sink_faults sink_later (output_of lines went) went d
-  -- a fault is told only where one was counted
-  pub area_fault : went ≡ AreaFault → Rose faults later
+  -- a fault is told only where one was counted in this run
+  pub area_fault : d ≡ AreaFault → Rose faults later
   pub write_fault : d ≡ WriteFault → Rose sink_faults sink_later
+  -- also that of a line whose writing failed
+  pub area_failed : went ≡ AreaFault → Rose faults later
   -- no count falls
   pub never_falls : faults ≤ later

@@ -1,6 +1,5 @@
 -- What a disk holds after writes: after all of them, and after a front of them behind which one failed.
-use Rattle.sl_area.specs.Sectors.{KeepsOthers, put_at}
-use Rattle.sl_direct.specs.FreshAreas.{Write, place_of}
+use Rattle.sl_direct.specs.FreshAreas.{Write}
 use Rattle.std.specs.Prelude.{All, List, None, Option, Some, drop, length, slice_index, take, [], ⊤, ℕ, ◌++◌, ◌+◌, ◌<◌, ◌∷◌, ◌≡◌, ◌≤◌, ◌⊎◌}
 
 -- ---- what is held
@@ -40,36 +39,3 @@ abbrev pub IsBrokenOff : List Write → Option (List ℕ) → Option (List ℕ) 
 IsBrokenOff ws None after = ⊤
 IsBrokenOff ws (Some before) None = ⊥
 IsBrokenOff ws (Some before) (Some after) = HoldsFront ws before after
-
--- ---- the same, write by write
-
--- The content after these writes, one behind another.
-abbrev pub written : List Write → List ℕ → List ℕ
-written [] content = content
-written (w ∷ ws) content = written ws (put_at w.offset w.sector content)
-
--- Each lies on a disk of so many bytes.
-abbrev pub AllFit : List Write → ℕ → Type 0
-AllFit [] size = ⊤
-AllFit (w ∷ ws) size = (w.offset + length w.sector ≤ size) × AllFit ws size
-
--- These writes were made, one behind another.
-abbrev pub Wrote : List Write → Option (List ℕ) → Option (List ℕ) → Type 0
-Wrote ws None after = ⊤
-Wrote ws (Some before) None = ⊥
-Wrote ws (Some before) (Some after) = AllFit ws (length before) × (after ≡ written ws before)
-
--- A front of them was made, and the next one failed.
-pub record WroteFront (ws : List Write) (before after : List ℕ) : Type 0 where
-  pub done : List Write
-  pub next : Write
-  pub rest : List Write
-  pub split : ws ≡ done ++ next ∷ rest
-  pub fit : AllFit done (length before)
-  pub kept : KeepsOthers (Some (written done before)) (Some after) (place_of next)
-
--- The same, where the content is told.
-abbrev pub BrokeOff : List Write → Option (List ℕ) → Option (List ℕ) → Type 0
-BrokeOff ws None after = ⊤
-BrokeOff ws (Some before) None = ⊥
-BrokeOff ws (Some before) (Some after) = WroteFront ws before after

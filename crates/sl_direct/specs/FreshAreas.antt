@@ -54,8 +54,8 @@ leader_write g lockspace resource base = write_of (leader_offset base) (LeaderIs
 abbrev pub block_writes : Layout → ℕ → List Write
 block_writes g base = map (block_write g base) (range_with_len 1 g.hosts)
 
--- A resource: the request, each host's block, the value, and last the leader. Until the leader stands nobody takes the area for the
--- resource's, so an initialising that broke off is seen.
+-- A resource: the request, each host's block, the value, and last the leader. Where no leader stood before, none stands after an
+-- initialising that broke off, and so it is seen.
 abbrev pub resource_writes : Layout → List ℕ → List ℕ → ℕ → List Write
 resource_writes g lockspace resource base =
     request_write g base ∷ (block_writes g base ++ value_write g base ∷ leader_write g lockspace resource base ∷ [])

@@ -1,9 +1,7 @@
 //! Areas that are initialised.
-ghost use Rattle.sl_area.specs.Layouts.{layout_of, sector_with};
-ghost use Rattle.sl_area.specs.Places.{delta_offset, is_base};
-ghost use Rattle.sl_direct.specs.Actions.{HasActed, IsAction, IsAreaBase, IsHostCount};
-ghost use Rattle.sl_direct.specs.Disks.{BrokeOff, Wrote};
+ghost use Rattle.sl_direct.specs.Actions.{IsAction, IsAreaBase, IsHostCount};
 ghost use Rattle.sl_direct.specs.FreshAreas.{block_write, block_writes, delta_write, layout_for, leader_write, lockspace_writes, request_write, resource_writes, value_write, write_of};
+ghost use Rattle.sl_direct.specs.Steps.{BrokeOff, HasActed, Wrote};
 ghost use Rattle.sl_direct.specs.declared.action.Action.TheVariants.{InitLockspace, InitResource};
 ghost use Rattle.sl_direct.specs.declared.action.Directed.TheVariants.{AreaFault};
 ghost use Rattle.sl_sector.specs.Records.{IsRecord};
@@ -162,7 +160,8 @@ fn write_resource<A: Area>(
     write_request(area, hosts, base)?;
     write_blocks(area, hosts, base)?;
     write_value(area, hosts, base)?;
-    write_leader(area, hosts, lockspace, resource, base)
+    write_leader(area, hosts, lockspace, resource, base)?;
+    Ok(())
 }
 
 /// Initialises the area of a lockspace. Its line is made first, so that want of memory leaves the area as it was.

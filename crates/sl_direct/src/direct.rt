@@ -1,5 +1,6 @@
 //! An action, done to an area and told to a sink.
-ghost use Rattle.sl_direct.specs.Actions.{Directs, HasActed, IsAction, PutsOut, last_lines};
+ghost use Rattle.sl_direct.specs.Actions.{Directs, IsAction, PutsOut, last_lines};
+ghost use Rattle.sl_direct.specs.Steps.{HasActed};
 ghost use Rattle.sl_direct.specs.declared.action.Directed.TheVariants.{AreaFault};
 ghost use Rattle.sl_text.specs.Forms.{as_bytes};
 ghost use Rattle.sl_words.specs.Causes.{Rose};
@@ -51,7 +52,20 @@ fn put_out<K: Sink>(sink: &mut K, text: &[u8], went: Directed) -> Directed
     }
 }
 
-/// Does an action to the area, and writes what it tells to the sink, each line with its line feed.
+/// Does an action to the area, and writes what it tells to the sink, each line with its line feed. A look changes nothing of the area.
+///
+/// # Answers
+/// `Done` where it was done to its end, and all is written.
+///
+/// `NotTheLeader` where the sector that `ReadLeader` read spells no leader, or one of other names; what it holds is written in its place.
+///
+/// `AreaFault` only where the area counted a fault in this call. The output ends with the line `area fault`. Of an initialising the
+/// writes before the one that failed stand, and that sector may be torn.
+///
+/// `NoMemory` where there was none. The area is as it was, and the lines that were told before are written.
+///
+/// `WriteFault` only where the sink counted a fault in this call. The area is as one of the others leaves it, and a front of that one's
+/// output is written.
 pub fn run_direct<A: Area, K: Sink>(
     alloc: Global,
     action: &Action,

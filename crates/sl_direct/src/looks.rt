@@ -1,12 +1,13 @@
 //! Sectors of an area that are read and told.
 ghost use Rattle.sl_area.specs.Sectors.{IsReadAt};
-ghost use Rattle.sl_direct.specs.Actions.{AreTold, HasActed, IsAreaBase, IsStopped, IsStretch, IsToldAt};
+ghost use Rattle.sl_direct.specs.Actions.{IsAreaBase, IsStretch};
 ghost use Rattle.sl_direct.specs.Lines as texts;
+ghost use Rattle.sl_direct.specs.Steps.{AreTold, HasActed, IsStopped, IsToldAt};
 ghost use Rattle.sl_direct.specs.declared.action.Action.TheVariants.{Dump, ReadLeader};
 ghost use Rattle.sl_direct.specs.declared.action.Directed.TheVariants.{AreaFault};
 ghost use Rattle.sl_words.specs.Causes.{HasCause, Rose};
 ghost use Rattle.std.specs.Io.KnownBytes.{Keeps};
-ghost use Rattle.std.specs.Prelude.{IfErr, IfOk, List, OnErr, OnOk, [], length, ℕ, ◌%◌, ◌*◌, ◌++◌, ◌/◌, ◌<◌, ◌^◌, ◌∷◌, ◌≡◌, ◌≤◌};
+ghost use Rattle.std.specs.Prelude.{IfErr, IfOk, OnErr, OnOk, [], length, ℕ, ◌%◌, ◌*◌, ◌++◌, ◌/◌, ◌<◌, ◌^◌, ◌∷◌, ◌≡◌, ◌≤◌};
 
 use crate::action::Directed;
 use crate::fresh::geometry_for;

@@ -4,7 +4,6 @@ use Rattle.sl_direct.proofs.FreshLaws.{lockspace_apart}
 use Rattle.sl_direct.proofs.areas.init_lockspace.Goals as goal
 use Rattle.sl_direct.specs.FreshAreas.{layout_for, lockspace_writes}
 use Rattle.sl_direct.specs.Lines.{lockspace_line}
-use Rattle.std.proofs.Common.{rules}
 
 pub returns-in-Ok-write_lockspace-clause-acted : goal.returns-in-Ok-write_lockspace-clause-acted
 returns-in-Ok-write_lockspace-clause-acted g c =

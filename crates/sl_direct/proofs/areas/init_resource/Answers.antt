@@ -4,7 +4,6 @@ use Rattle.sl_direct.proofs.FreshLaws.{resource_apart}
 use Rattle.sl_direct.proofs.areas.init_resource.Goals as goal
 use Rattle.sl_direct.specs.FreshAreas.{layout_for, resource_writes}
 use Rattle.sl_direct.specs.Lines.{resource_line}
-use Rattle.std.proofs.Common.{rules}
 
 pub returns-in-Ok-write_resource-clause-acted : goal.returns-in-Ok-write_resource-clause-acted
 returns-in-Ok-write_resource-clause-acted g c =

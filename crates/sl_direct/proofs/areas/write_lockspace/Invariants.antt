@@ -1,7 +1,7 @@
 -- The records of the ids so far were written.
 use Rattle.sl_direct.proofs.areas.write_lockspace.Given as goal
-use Rattle.sl_direct.specs.Disks.{Wrote}
 use Rattle.sl_direct.specs.FreshAreas.{delta_write, layout_for}
+use Rattle.sl_direct.specs.Steps.{Wrote}
 use Rattle.std.proofs.Common.{map, ◌≤◌}
 use Rattle.std.specs.List.{range_with_len}
 
