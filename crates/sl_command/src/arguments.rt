@@ -44,7 +44,7 @@ fn read_base(word: &[u8], geometry: &Geometry) -> Option<u64>
 }
 
 /// Reads the next part as a base.
-fn base_part(parts: &mut Parts<'_>, geometry: &Geometry) -> Result<u64, usize>
+pub fn base_part(parts: &mut Parts<'_>, geometry: &Geometry) -> Result<u64, usize>
     ensures exact { result ≡ next_as (is_number_that (is_base (layout_of geometry.now))) number_of parts.old }
     ensures left { parts.new ≡ left_after result parts.old }
 {
@@ -131,7 +131,7 @@ fn asked_parts(parts: &mut Parts<'_>, geometry: &Geometry) -> Result<(ResourceAr
 }
 
 /// The resource that a word names, if it names one and no more.
-fn resource_of(word: &[u8], geometry: &Geometry) -> Option<ResourceArg>
+pub fn resource_of(word: &[u8], geometry: &Geometry) -> Option<ResourceArg>
     ensures { result ≡ choose (commands.is_resource_word (layout_of geometry.now) word.now) (commands.resource_of_word word.now) }
 {
     resource_parts(&mut Parts::new(word), geometry).ok()

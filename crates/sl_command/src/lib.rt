@@ -6,7 +6,7 @@
 //! and `effects` print what a host answers and does. Reading takes no memory; a write that lacks memory leaves its text as it was.
 #![tactic(auto)]
 
-mod arguments;
+pub mod arguments;
 pub mod effects;
 pub mod laws;
 pub mod naming;

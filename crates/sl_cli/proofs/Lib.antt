@@ -1,0 +1,12 @@
+pub mod ActionTexts
+pub mod ArgumentLaws
+pub mod ArgumentTexts
+pub mod BareCommands
+pub mod BuiltCommand
+pub mod CommandLaws
+pub mod DirectLaws
+pub mod Letters
+pub mod OptionSteps
+pub mod SpellingLaws
+pub mod Steps
+pub mod Turns

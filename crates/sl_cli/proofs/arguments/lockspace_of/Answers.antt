@@ -1,0 +1,11 @@
+use Rattle.sl_cli.proofs.ArgumentLaws.{lockspace_read-is}
+use Rattle.sl_cli.proofs.arguments.lockspace_of.Goals as goal
+use Rattle.sl_cli.specs.Readings.{lockspace_read}
+use Rattle.sl_command.proofs.ArgumentLaws.{taken}
+use Rattle.sl_text.specs.Walks.{unread}
+use Rattle.std.proofs.Common.{ap, ◌∙◌}
+
+pub returns : goal.returns
+returns c =
+    let w = c.args.word.now in
+    taken lockspace_read w _ _ _ _ (c.new.ensures ∙ ap (unread 58) c.as_bytes.ensures.value) c.lockspace_parts.ensures c.ok.ensures.value (lockspace_read-is w)

@@ -1,0 +1,23 @@
+-- The command as the argument parser knows it.
+use Rattle.clap.specs.Walk.{Rule}
+use Rattle.clap.specs.Simple.{App, Shape, new_app, new_rule, new_shape, with_rule, with_subcommand}
+use Rattle.std.specs.Prelude.{List, Some, codes, true, [], ℕ}
+
+-- An option of one letter, which takes a value.
+abbrev pub option_rule : List ℕ → ℕ → Rule
+option_rule id letter = record (new_rule id) { short = Some letter }
+
+-- `direct ACTION`, with the options of all actions.
+abbrev pub direct_app : App
+direct_app =
+    with_rule (with_rule (with_rule (with_rule (with_rule (new_app (codes "direct")) (new_rule (codes "action")))
+    (option_rule (codes "lockspace") 115)) (option_rule (codes "resource") 114)) (option_rule (codes "hosts") 110)) (option_rule (codes "stretch") 100)
+
+-- The program, without a name in front of its words, and without what the parser would add of its own.
+abbrev pub bare_shape : Shape
+bare_shape =
+    record (new_shape (codes "sanlock")) { no_binary_name = true; disable_help_flag = true; disable_help_subcommand = true; subcommand_required = true }
+
+-- The whole command.
+abbrev pub command_line : App
+command_line = with_subcommand (with_subcommand (record { top = bare_shape; subs = [] }) (new_shape (codes "replay"))) direct_app.top

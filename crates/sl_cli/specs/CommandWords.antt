@@ -1,0 +1,132 @@
+-- How the words of the command line are read, from the left.
+use Rattle.sl_cli.specs.Actions.{Given, action_in}
+use Rattle.sl_cli.specs.declared.reading.Words.TheVariants.{Direct, Help, Replay, Version}
+use Rattle.sl_cli.specs.declared.reading.Words.{Words}
+use Rattle.sl_words.specs.Words.{choose, is_empty}
+use Rattle.std.specs.List.{list_any}
+use Rattle.std.specs.Prelude.{Bool, List, None, Option, Some, bytes_eq, codes, drop, false, find, if◌then◌else◌, is_some, not, option_and_then, option_map, true, [], ℕ, ◌++◌, ◌==◌, ◌||◌, ◌∷◌}
+
+-- ---- what is given to `direct`
+
+-- The options, `-s`, `-r`, `-n` and `-d`: the letter of each, and what it gives.
+abbrev pub options : List (ℕ × List ℕ)
+options = (115, codes "lockspace") ∷ (114, codes "resource") ∷ (110, codes "hosts") ∷ (100, codes "stretch") ∷ []
+
+-- What the option of this letter gives.
+abbrev pub option_named : ℕ → Option (List ℕ)
+option_named letter = option_map (λ o. o.1) (find (λ o. o.0 == letter) options)
+
+-- A word that was given: what it is, and the word.
+pub record Use : Type 0 where
+  pub name : List ℕ
+  pub value : List ℕ
+
+-- How far the words are read.
+pub record Taken : Type 0 where
+  -- what was given
+  pub uses : List Use
+  -- the option whose value is the next word
+  pub waiting : Option (List ℕ)
+  -- whether `--` was met: behind it no word is an option
+  pub only_action : Bool
+
+-- Before all words.
+abbrev pub nothing_taken : Taken
+nothing_taken = record { uses = []; waiting = None; only_action = false }
+
+-- Whether it was given.
+abbrev pub is_given : List ℕ → List Use → Bool
+is_given name uses = list_any (λ u. bytes_eq u.name name) uses
+
+-- The use of a name with this value.
+abbrev pub use_of : List ℕ → List ℕ → Use
+use_of name value = record { name = name; value = value }
+
+-- One more word is given; nothing is given twice.
+abbrev pub with_use : Taken → List ℕ → List ℕ → Option Taken
+with_use t name value =
+    choose (not (is_given name t.uses)) (record { uses = t.uses ++ use_of name value ∷ []; waiting = None; only_action = t.only_action })
+
+-- The word is no option: it doesn't begin with a hyphen (45), or is nothing else.
+abbrev pub is_plain : List ℕ → Bool
+is_plain [] = true
+is_plain (c ∷ []) = true
+is_plain (c ∷ d ∷ cs) = not (c == 45)
+
+-- An option, with what stands behind its letter: nothing, or its value, which may stand behind a `=` (61).
+abbrev pub with_option : Taken → List ℕ → List ℕ → Option Taken
+with_option t name [] = Some (record t { waiting = Some name })
+with_option t name (c ∷ cs) = with_use t name (if c == 61 then cs else c ∷ cs)
+
+-- What stands behind a hyphen: one more, or an option's letter with what stands behind it.
+abbrev pub behind_hyphen : Taken → List ℕ → Option Taken
+behind_hyphen t [] = None
+behind_hyphen t (c ∷ cs) =
+    if c == 45 then choose (is_empty cs) (record t { only_action = true })
+    else option_and_then (λ name. with_option t name cs) (option_named c)
+
+-- A word where no option waits for its value.
+abbrev pub with_word : Taken → List ℕ → Option Taken
+with_word t w = if is_plain w then with_use t (codes "action") w else behind_hyphen t (drop 1 w)
+
+-- A word where an option waits for its value.
+abbrev pub with_value : Taken → List ℕ → List ℕ → Option Taken
+with_value t name w = if is_plain w then with_use t name w else None
+
+-- One more word.
+abbrev pub next_taken : Taken → List ℕ → Option Taken
+next_taken t w =
+    if t.only_action then with_use t (codes "action") w
+    else elim t.waiting [ Some name ↦ with_value t name w | None ↦ with_word t w ]
+
+-- All that the words give.
+abbrev pub uses_from : Taken → List (List ℕ) → Option (List Use)
+uses_from t [] = choose (not (is_some t.waiting)) t.uses
+uses_from t (w ∷ ws) = option_and_then (λ next. uses_from next ws) (next_taken t w)
+
+-- The word that was given as this.
+abbrev pub value_of : List ℕ → List Use → Option (List ℕ)
+value_of name uses = option_map (λ u. u.value) (find (λ u. bytes_eq u.name name) uses)
+
+-- What was given, each by its name.
+abbrev pub given_by : List Use → Given
+given_by uses = record {
+  action = value_of (codes "action") uses;
+  lockspace = value_of (codes "lockspace") uses;
+  resource = value_of (codes "resource") uses;
+  hosts = value_of (codes "hosts") uses;
+  stretch = value_of (codes "stretch") uses;
+}
+
+-- ---- the whole line
+
+-- The words are one of these two, alone.
+abbrev pub is_only : List ℕ → List ℕ → List (List ℕ) → Bool
+is_only long short [] = false
+is_only long short (w ∷ []) = bytes_eq w long || bytes_eq w short
+is_only long short (w ∷ v ∷ ws) = false
+
+-- Behind `replay` stands nothing, or `--`.
+abbrev pub ends_here : List (List ℕ) → Bool
+ends_here [] = true
+ends_here (w ∷ []) = bytes_eq w (codes "--")
+ends_here (w ∷ v ∷ ws) = false
+
+-- What the words behind `direct` say.
+abbrev pub direct_in : List (List ℕ) → Option Words
+direct_in ws = option_and_then (λ uses. option_map (λ a. Direct a) (action_in (given_by uses))) (uses_from nothing_taken ws)
+
+-- What the words of a command say.
+abbrev pub command_in : List (List ℕ) → Option Words
+command_in [] = None
+command_in (w ∷ ws) =
+    if bytes_eq (codes "replay") w then choose (ends_here ws) Replay
+    else if bytes_eq (codes "direct") w then direct_in ws
+    else None
+
+-- What the words of the command line say.
+abbrev pub said_in : List (List ℕ) → Option Words
+said_in ws =
+    if is_only (codes "--help") (codes "-h") ws then Some Help
+    else if is_only (codes "--version") (codes "-V") ws then Some Version
+    else command_in ws

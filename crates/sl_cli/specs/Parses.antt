@@ -1,0 +1,45 @@
+-- What the parser makes of the words, and what that says.
+use Rattle.clap.specs.Faults.{fault_of}
+use Rattle.clap.specs.Simple.{subcommand_of}
+use Rattle.clap.specs.Walk.{Row, Text, first_of}
+use Rattle.sl_cli.specs.Actions.{Given, action_in}
+use Rattle.sl_cli.specs.CommandLine.{command_line}
+use Rattle.sl_cli.specs.declared.given.Met.{Met}
+use Rattle.sl_cli.specs.declared.reading.Words.TheVariants.{Direct, Replay}
+use Rattle.sl_cli.specs.declared.reading.Words.{Words}
+use Rattle.std.specs.Prelude.{List, None, Option, Some, bytes_eq, codes, if◌then◌else◌, option_map, [], ◌≡◌}
+
+-- What was given, by what was found of each argument.
+abbrev pub given_in : List Row → Given
+given_in rows = record {
+  action = first_of (codes "action") rows;
+  lockspace = first_of (codes "lockspace") rows;
+  resource = first_of (codes "resource") rows;
+  hosts = first_of (codes "hosts") rows;
+  stretch = first_of (codes "stretch") rows;
+}
+
+-- The command of this name that was met, with what was given to it.
+abbrev pub named_met : Text → List Row → Option Met
+named_met name rows =
+    if bytes_eq name (codes "replay") then Some Met.Replay
+    else if bytes_eq name (codes "direct") then Some (Met.Direct (given_in rows))
+    else None
+
+-- The command that was met.
+abbrev pub met_in : Option (Text × List Row) → Option Met
+met_in None = None
+met_in (Some p) = named_met p.0 p.1
+
+-- What it says.
+abbrev pub said_by : Met → Option Words
+said_by Met.Replay = Some Replay
+said_by (Met.Direct given) = option_map (λ a. Direct a) (action_in given)
+
+-- The parser takes the words, and meets this command.
+abbrev pub TakenAs : List Text → Option Met → Type 0
+TakenAs ws met = (fault_of command_line ws ≡ []) × (met ≡ met_in (subcommand_of command_line ws))
+
+-- The parser doesn't take the words.
+abbrev pub IsRefused : List Text → Type 0
+IsRefused ws = fault_of command_line ws ≡ [] → ⊥

@@ -1,0 +1,64 @@
+//! The command as the argument parser knows it.
+
+ghost use Rattle.clap.specs.Walk.{rule_of};
+ghost use Rattle.clap.specs.Simple.{app_of, new_rule, new_shape, with_rule};
+ghost use Rattle.clap.specs.declared.builder.command.Command.TheViews.{out-Command as fields_of};
+ghost use Rattle.sl_cli.specs.CommandLine.{bare_shape, command_line, direct_app, option_rule};
+ghost use Rattle.std.specs.Prelude.{IfOk, [], codes, false, ◌≡◌};
+
+use clap::{Arg, Command};
+use std::alloc::{AllocError, Global};
+
+/// The command with one more option, of one letter and with a value.
+fn with_option<'a>(
+    alloc: Global,
+    command: Command<'a>,
+    id: &'a str,
+    letter: char,
+) -> Result<Command<'a>, AllocError>
+    requires { (fields_of command).has_globals ≡ false }
+    ensures app { IfOk result (λ c. app_of c ≡ with_rule (app_of command.entry) (option_rule id.entry.now letter)) }
+    ensures local { IfOk result (λ c. (fields_of c).has_globals ≡ false) }
+{
+    command.arg(Arg::new(alloc, id).short(letter))
+}
+
+/// `direct`, with its action.
+fn bare_direct<'a>(alloc: Global) -> Result<Command<'a>, AllocError>
+    ensures app { IfOk result (λ c. app_of c ≡ with_rule (record { top = new_shape (codes "direct"); subs = [] }) (new_rule (codes "action"))) }
+    ensures local { IfOk result (λ c. (fields_of c).has_globals ≡ false) }
+{
+    Command::new(alloc, "direct").arg(Arg::new(alloc, "action"))
+}
+
+/// `direct`, with its action and the options of all actions.
+fn direct<'a>(alloc: Global) -> Result<Command<'a>, AllocError>
+    ensures app { IfOk result (λ c. app_of c ≡ direct_app) }
+    ensures local { IfOk result (λ c. (fields_of c).has_globals ≡ false) }
+{
+    let command = bare_direct(alloc)?;
+    let command = with_option(alloc, command, "lockspace", 's')?;
+    let command = with_option(alloc, command, "resource", 'r')?;
+    let command = with_option(alloc, command, "hosts", 'n')?;
+    with_option(alloc, command, "stretch", 'd')
+}
+
+/// The program without its commands. Its words have no name in front, and no word asks the parser for help.
+fn bare<'a>(alloc: Global) -> Command<'a>
+    ensures { app_of result ≡ record { top = bare_shape; subs = [] } }
+{
+    Command::new(alloc, "sanlock")
+        .no_binary_name(true)
+        .disable_help_flag(true)
+        .disable_help_subcommand(true)
+        .subcommand_required(true)
+}
+
+/// The whole command.
+pub(crate) fn command_line<'a>(alloc: Global) -> Result<Command<'a>, AllocError>
+    ensures { IfOk result (λ c. app_of c ≡ command_line) }
+{
+    bare(alloc)
+        .subcommand(Command::new(alloc, "replay"))?
+        .subcommand(direct(alloc)?)
+}

@@ -1,0 +1,144 @@
+//! The command that the parser met, what was given to it, and the action that this asks for.
+
+ghost use Rattle.clap.specs.Matches.{found_of};
+ghost use Rattle.clap.specs.Simple.{subcommand_rows_of};
+ghost use Rattle.clap.specs.Walk.{first_of, rows_of};
+ghost use Rattle.sl_cli.specs.Actions.{action_in, dump_in, init_in, read_leader_in};
+ghost use Rattle.sl_cli.specs.Parses.{given_in, met_in};
+ghost use Rattle.std.specs.Prelude.{codes, option_map, ◌≡◌};
+
+use crate::arguments::{hosts_of, lockspace_of, resource_of, stretch_of};
+use clap::ArgMatches;
+use sl_direct::Action;
+use std::marker::Model;
+
+/// The word of the action, and the values of the options: each where it was given.
+#[derive(Drop)]
+pub(crate) struct Given<'a> {
+    action: Option<&'a str>,
+    lockspace: Option<&'a str>,
+    resource: Option<&'a str>,
+    hosts: Option<&'a str>,
+    stretch: Option<&'a str>,
+}
+
+impl<'a> Model for Given<'a> {
+    ghost use Rattle.sl_cli.specs.Actions as actions;
+    ghost use Rattle.std.specs.Prelude.{option_map};
+
+    ghost Value = { actions.Given };
+
+    ghost view = { λ g. record {
+      action = option_map (λ w. w.now) g.action;
+      lockspace = option_map (λ w. w.now) g.lockspace;
+      resource = option_map (λ w. w.now) g.resource;
+      hosts = option_map (λ w. w.now) g.hosts;
+      stretch = option_map (λ w. w.now) g.stretch;
+    } };
+}
+
+/// The value of an argument, if it was given.
+fn value_of<'a>(matches: &ArgMatches<'a>, id: &str) -> Option<&'a str>
+    ensures { option_map (λ w. w.now) result ≡ first_of id.now (rows_of (found_of matches.now)) }
+{
+    matches.get_str(id)
+}
+
+impl<'a> Given<'a> {
+    /// What the parser found.
+    pub(crate) fn new(matches: &ArgMatches<'a>) -> Given<'a>
+        ensures { result ≡ given_in (rows_of (found_of matches.now)) }
+    {
+        Given {
+            action: value_of(matches, "action"),
+            lockspace: value_of(matches, "lockspace"),
+            resource: value_of(matches, "resource"),
+            hosts: value_of(matches, "hosts"),
+            stretch: value_of(matches, "stretch"),
+        }
+    }
+
+    /// A new lockspace or a new resource, for so many hosts.
+    #[tactic(auto, using(crate::proofs::ArgumentLaws::no_second))]
+    fn init(&self) -> Option<Action>
+        ensures { result ≡ init_in self.now.lockspace self.now.resource self.now.hosts self.now.stretch }
+    {
+        match (self.lockspace, self.resource, self.hosts, self.stretch) {
+            (Some(lockspace), None, Some(hosts), None) => Some(Action::InitLockspace {
+                lockspace: lockspace_of(lockspace)?,
+                hosts: hosts_of(hosts)?,
+            }),
+            (None, Some(resource), Some(hosts), None) => Some(Action::InitResource {
+                resource: resource_of(resource)?,
+                hosts: hosts_of(hosts)?,
+            }),
+            _ => None,
+        }
+    }
+
+    /// The leader of a resource.
+    fn read_leader(&self) -> Option<Action>
+        ensures { result ≡ read_leader_in self.now.lockspace self.now.resource self.now.hosts self.now.stretch }
+    {
+        match (self.lockspace, self.resource, self.hosts, self.stretch) {
+            (None, Some(resource), None, None) => Some(Action::ReadLeader {
+                resource: resource_of(resource)?,
+            }),
+            _ => None,
+        }
+    }
+
+    /// The sectors of a stretch.
+    fn dump(&self) -> Option<Action>
+        ensures { result ≡ dump_in self.now.lockspace self.now.resource self.now.hosts self.now.stretch }
+    {
+        match (self.lockspace, self.resource, self.hosts, self.stretch) {
+            (None, None, None, Some(stretch)) => {
+                let stretch = stretch_of(stretch)?;
+                Some(Action::Dump {
+                    path: stretch.path,
+                    offset: stretch.offset,
+                    size: stretch.size,
+                })
+            }
+            _ => None,
+        }
+    }
+
+    /// The action that was asked for, if it is one.
+    pub(crate) fn action(&self) -> Option<Action>
+        ensures { result ≡ action_in self.now }
+    {
+        let name = self.action?;
+        if name == "init" {
+            self.init()
+        } else if name == "read_leader" {
+            self.read_leader()
+        } else if name == "dump" {
+            self.dump()
+        } else {
+            None
+        }
+    }
+}
+
+/// The command that the parser met, with what was given to it.
+#[derive(Drop)]
+pub(crate) enum Met<'a> {
+    Replay,
+    Direct(Given<'a>),
+}
+
+/// The command that the parser met.
+pub(crate) fn met_in<'a>(matches: &ArgMatches<'a>) -> Option<Met<'a>>
+    ensures { result ≡ met_in (subcommand_rows_of matches.now) }
+{
+    let (name, matches) = matches.subcommand()?;
+    if name == "replay" {
+        Some(Met::Replay)
+    } else if name == "direct" {
+        Some(Met::Direct(Given::new(matches)))
+    } else {
+        None
+    }
+}

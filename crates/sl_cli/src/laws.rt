@@ -1,0 +1,18 @@
+//! What the words of the command line are: laws that need no run.
+
+ghost use Rattle.sl_cli.specs.Spellings.{ActionsHaveOneText, OnlyItsWordsAskForAnAction, OptionsComeInAnyOrder};
+
+/// What is given to `direct` asks for an action exactly where it is what the action needs: each word in its one spelling, and no other.
+pub fn actions_have_one_text()
+    ensures { ActionsHaveOneText }
+{}
+
+/// The words that give what an action needs ask for it, in whatever order.
+pub fn options_come_in_any_order()
+    ensures { OptionsComeInAnyOrder }
+{}
+
+/// No other words ask for an action.
+pub fn only_its_words_ask_for_an_action()
+    ensures { OnlyItsWordsAskForAnAction }
+{}

@@ -1,0 +1,28 @@
+//! What the program says of itself.
+
+/// What `--help` puts out.
+pub const HELP: &str = "\
+usage: sanlock COMMAND
+
+  replay                   run the schedule on standard input, print its report
+  direct init -s LOCKSPACE -n N
+                           write the sectors of a lockspace for N hosts
+  direct init -r RESOURCE -n N
+                           write the sectors of a resource for N hosts
+  direct read_leader -r RESOURCE
+                           print who holds a resource
+  direct dump -d PATH:OFFSET:SIZE
+                           print each sector of a part of a file
+  --help, -h               print this
+  --version, -V            print the version
+
+LOCKSPACE is NAME:0:PATH:OFFSET, RESOURCE is LOCKSPACE_NAME:NAME:PATH:OFFSET,
+with OFFSET a multiple of 1048576. In a dump OFFSET and SIZE are multiples of
+512. Offsets are below 10^12. N is 1 to 2000. Options come in any order.
+
+Status: 0 done; 1 a line was refused; 2 bad words; 3 a read and 4 a write
+failed; 5 no memory; 6 a read or a write of an area failed; 7 not the leader.
+";
+
+/// What `--version` puts out.
+pub const VERSION: &str = "sanlock 0.1.0\n";

@@ -1,0 +1,196 @@
+-- The sectors of an area that is initialised: each is of 512 bytes, and no two share one.
+use Rattle.sha2.specs.Sha256.{sha256}
+use Rattle.sl_area.specs.Layouts.{Layout}
+use Rattle.sl_area.specs.Places.{fresh_block, fresh_delta, fresh_leader, no_request, no_value}
+use Rattle.sl_area.specs.Sectors.{Apart, KeepsOthers}
+use Rattle.sl_direct.proofs.DiskLaws.{AllApart, BrokeOff-behind, BrokeOff-front, Wrote-append, broke_first}
+use Rattle.sl_direct.specs.Actions.{IsHostCount}
+use Rattle.sl_direct.specs.FreshAreas.{Write, block_write, block_writes, delta_write, layout_for, leader_write, lockspace_writes, place_of, request_write, resource_writes, value_write, write_of}
+use Rattle.sl_direct.specs.Steps.{BrokeOff, Wrote}
+use Rattle.sl_sector.proofs.SpellingLaws.{length-spelling}
+use Rattle.sl_sector.proofs.WrittenBytes.{sha256_is_digest}
+use Rattle.sl_sector.specs.Records.{IsRecord}
+use Rattle.sl_sector.specs.Spelling.{IsSectorSize, spelling}
+use Rattle.sl_sector.specs.declared.sector.Rec.TheVariants.{BlockIs, DeltaIs, LeaderIs, RequestIs, ValueIs}
+use Rattle.sl_sector.specs.declared.sector.Rec.{Rec}
+use Rattle.sl_text.specs.Names.{is_name}
+use Rattle.std.proofs.Common.{All, Err, IsTrue, List, Ok, Option, Result, [], arith, inl, inr, length, map, refl, subst, suc, sym, zero, ℕ, ◌++◌, ◌+◌, ◌<◌, ◌^◌, ◌∙◌, ◌∷◌, ◌≡◌, ◌≤◌, ◌⊎◌}
+use Rattle.std.proofs.lemmas.List.Elements.{All-append, All-cons, All-head, All-nil, All-tail}
+use Rattle.std.specs.List.{range_with_len}
+use Rattle.std.specs.Prelude.{OnErr}
+
+-- ---- sectors
+
+pub sector_size : IsSectorSize 512
+sector_size = (omega arith, omega arith)
+
+pub length-sector : (r : Rec) → IsRecord r → length (spelling sha256 512 r) ≡ 512
+length-sector r is = length-spelling sha256 sha256_is_digest 512 r sector_size is
+
+-- A write that failed is the first of its own.
+pub write_failed : {E : Type 0} (result : Result (Unit {0}) E) (at size : ℕ) (r : Rec) (a b : Option (List ℕ)) → size ≡ 512 → IsRecord r
+    → OnErr result (KeepsOthers a b (record { offset = at; size = size })) → OnErr result (BrokeOff (write_of at r ∷ []) a b)
+write_failed (Ok x) at size r a b long is kept = tt
+write_failed (Err e) at size r a b long is kept = broke_first (write_of at r) size a b (long ∙ sym (length-sector r is)) kept
+
+-- ---- a resource's writes, one behind another
+
+-- All of them.
+pub resource_wrote : (r : Write) (bs : List Write) (v l : Write) (a b c d e : Option (List ℕ)) → Wrote (r ∷ []) a b → Wrote bs b c → Wrote (v ∷ []) c d → Wrote (l ∷ []) d e
+    → Wrote (r ∷ (bs ++ v ∷ l ∷ [])) a e
+resource_wrote r bs v l a b c d e first second third last =
+    Wrote-append (r ∷ []) (bs ++ v ∷ l ∷ []) a b e first (Wrote-append bs (v ∷ l ∷ []) b c e second (Wrote-append (v ∷ []) (l ∷ []) c d e third last))
+
+-- The request's failed.
+pub request_broke : (r : Write) (bs : List Write) (v l : Write) (a b : Option (List ℕ)) → BrokeOff (r ∷ []) a b → BrokeOff (r ∷ (bs ++ v ∷ l ∷ [])) a b
+request_broke r bs v l a b broke = BrokeOff-front (r ∷ []) (bs ++ v ∷ l ∷ []) a b broke
+
+-- A block's.
+pub block_broke : (r : Write) (bs : List Write) (v l : Write) (a b c : Option (List ℕ)) → Wrote (r ∷ []) a b → BrokeOff bs b c → BrokeOff (r ∷ (bs ++ v ∷ l ∷ [])) a c
+block_broke r bs v l a b c first broke =
+    BrokeOff-behind (r ∷ []) (bs ++ v ∷ l ∷ []) a b c first (BrokeOff-front bs (v ∷ l ∷ []) b c broke)
+
+-- The value's.
+pub value_broke : (r : Write) (bs : List Write) (v l : Write) (a b c d : Option (List ℕ)) → Wrote (r ∷ []) a b → Wrote bs b c → BrokeOff (v ∷ []) c d
+    → BrokeOff (r ∷ (bs ++ v ∷ l ∷ [])) a d
+value_broke r bs v l a b c d first second broke =
+    BrokeOff-behind (r ∷ []) (bs ++ v ∷ l ∷ []) a b d first
+    (BrokeOff-behind bs (v ∷ l ∷ []) b c d second (BrokeOff-front (v ∷ []) (l ∷ []) c d broke))
+
+-- The leader's.
+pub leader_broke : (r : Write) (bs : List Write) (v l : Write) (a b c d e : Option (List ℕ)) → Wrote (r ∷ []) a b → Wrote bs b c → Wrote (v ∷ []) c d → BrokeOff (l ∷ []) d e
+    → BrokeOff (r ∷ (bs ++ v ∷ l ∷ [])) a e
+leader_broke r bs v l a b c d e first second third broke =
+    BrokeOff-behind (r ∷ []) (bs ++ v ∷ l ∷ []) a b e first
+    (BrokeOff-behind bs (v ∷ l ∷ []) b c e second (BrokeOff-behind (v ∷ []) (l ∷ []) c d e third broke))
+
+-- ---- the records have spellings
+
+nothing_less : 0 < 0 → ⊥
+nothing_less h = omega (arith, h)
+
+no_number : 0 < 2 ^ 63
+no_number = omega arith
+
+a_moment : 0 < 10 ^ 15
+a_moment = omega arith
+
+at_least_none : (n : ℕ) → 0 ≤ n
+at_least_none n = omega arith
+
+pub fresh_delta_is : (name : List ℕ) (id : ℕ) → IsTrue (is_name name) → 1 ≤ id → id ≤ 2000 → IsRecord (DeltaIs (fresh_delta name id))
+fresh_delta_is name id named low high =
+    record {
+      id = (low, high);
+      generation = no_number;
+      seq = no_number;
+      stamp = a_moment;
+      lockspace = named;
+      bitmap = (refl, refl);
+      unused = λ h. (refl, refl, refl, refl, refl);
+      used = λ h. absurd (nothing_less h);
+    }
+
+pub fresh_leader_is : (hosts : ℕ) (space name : List ℕ) → IsHostCount hosts → IsTrue (is_name space) → IsTrue (is_name name)
+    → IsRecord (LeaderIs (fresh_leader (layout_for hosts) space name))
+fresh_leader_is hosts space name count a b =
+    record {
+      hosts = count;
+      lver = no_number;
+      generation = no_number;
+      owner = at_least_none hosts;
+      lockspace = a;
+      resource = b;
+      same = ((λ h. refl, λ h. refl), (λ h. refl, λ h. refl));
+      unused = λ h. refl;
+    }
+
+pub fresh_block_is : (host : ℕ) → 1 ≤ host → host ≤ 2000 → IsRecord (BlockIs (fresh_block host))
+fresh_block_is host low high =
+    record {
+      host = (low, high);
+      lver = no_number;
+      mbal = no_number;
+      bal = at_least_none 0;
+      generations = (no_number, no_number);
+      inp = at_least_none 2000;
+      value = ((λ h. refl, λ h. refl), (λ h. refl, λ h. refl));
+      mode = (λ h. refl, λ h. refl);
+      unused = λ h. (refl, refl);
+    }
+
+pub no_request_is : IsRecord (RequestIs no_request)
+no_request_is = record { force = at_least_none 2; host = at_least_none 2000; lver = no_number; same = (λ h. refl, λ h. refl) }
+
+pub no_value_is : IsRecord (ValueIs no_value)
+no_value_is = record { host = at_least_none 2000; lver = no_number; seq = no_number; bytes = (at_least_none 256, refl) }
+
+-- ---- the sectors are apart
+
+abbrev IsApartFrom : Write → Write → Type 0
+IsApartFrom w v = Apart (place_of w) (place_of v)
+
+-- Two sectors of which one begins where the other has ended.
+sectors_apart : (a b : ℕ) (r s : Rec) → IsRecord r → IsRecord s → ((a + 512 ≤ b) ⊎ (b + 512 ≤ a)) → IsApartFrom (write_of a r) (write_of b s)
+sectors_apart a b r s first second (inl le) = inl (subst (λ (n : ℕ). a + n ≤ b) (sym (length-sector r first)) le)
+sectors_apart a b r s first second (inr le) = inr (subst (λ (n : ℕ). b + n ≤ a) (sym (length-sector s second)) le)
+
+all_of_range : (P : Write → Type 0) (f : ℕ → Write) (a n : ℕ) → ((k : ℕ) → a ≤ k → k < a + n → P (f k)) → All P (map f (range_with_len a n))
+all_of_range P f a zero each = All-nil P
+all_of_range P f a (suc n) each =
+    All-cons P (f a) (map f (range_with_len (a + 1) n)) (each a (omega arith) (omega arith))
+    (all_of_range P f (a + 1) n (λ k low high. each k (omega (arith, low)) (omega (arith, high))))
+
+apart_in_range : (f : ℕ → Write) (a n : ℕ) → ((i j : ℕ) → a ≤ i → i < j → j < a + n → IsApartFrom (f i) (f j)) → AllApart (map f (range_with_len a n))
+apart_in_range f a zero each = tt
+apart_in_range f a (suc n) each = (
+  all_of_range (IsApartFrom (f a)) f (a + 1) n (λ k low high. each a k (omega arith) (omega (arith, low)) (omega (arith, high))),
+  apart_in_range f (a + 1) n (λ i j low less high. each i j (omega (arith, low)) less (omega (arith, high))),
+)
+
+apart_joined : (xs ys : List Write) → AllApart xs → AllApart ys → All (λ x. All (IsApartFrom x) ys) xs → AllApart (xs ++ ys)
+apart_joined [] ys first second across = second
+apart_joined (x ∷ xs) ys first second across = (
+  All-append (IsApartFrom x) xs ys first.0 (All-head (λ v. All (IsApartFrom v) ys) x xs across),
+  apart_joined xs ys first.1 second (All-tail (λ v. All (IsApartFrom v) ys) x xs across),
+)
+
+-- A lockspace's.
+pub lockspace_apart : (hosts : ℕ) (name : List ℕ) (base : ℕ) → IsHostCount hosts → IsTrue (is_name name) → AllApart (lockspace_writes (layout_for hosts) name base)
+lockspace_apart hosts name base count named =
+    apart_in_range (delta_write (layout_for hosts) name base) 1 hosts
+    (λ i j low less high.
+    sectors_apart _ _ (DeltaIs (fresh_delta name i)) (DeltaIs (fresh_delta name j)) (fresh_delta_is name i named low (omega (arith, low, less, high, count.1)))
+    (fresh_delta_is name j named (omega (arith, low, less)) (omega (arith, high, count.1))) (inl (omega (arith, low, less))))
+
+-- A resource's.
+pub resource_apart : (hosts : ℕ) (space name : List ℕ) (base : ℕ) → IsHostCount hosts → IsTrue (is_name space) → IsTrue (is_name name)
+    → AllApart (resource_writes (layout_for hosts) space name base)
+resource_apart hosts space name base count a b =
+    let g : Layout = layout_for hosts in
+    let block = λ (k : ℕ). block_write g base k in
+    let value : Write = value_write g base in
+    let leader : Write = leader_write g space name base in
+    let request : Write = request_write g base in
+    let is_leader : IsRecord (LeaderIs (fresh_leader g space name)) = fresh_leader_is hosts space name count a b in
+    let is_block : (k : ℕ) → 1 ≤ k → k < 1 + hosts → IsRecord (BlockIs (fresh_block k)) = λ k low high. fresh_block_is k low (omega (arith, high, count.1)) in
+    let last : AllApart (value ∷ leader ∷ []) =
+    (All-cons (IsApartFrom value) leader [] (sectors_apart _ _ (ValueIs no_value) (LeaderIs (fresh_leader g space name)) no_value_is is_leader (inr (omega arith))) (All-nil _), (All-nil _, tt)) in
+    let blocks : AllApart (block_writes g base) =
+    apart_in_range block 1 hosts
+    (λ i j low less high.
+    sectors_apart _ _ (BlockIs (fresh_block i)) (BlockIs (fresh_block j)) (is_block i low (omega (arith, less, high))) (is_block j (omega (arith, low, less)) high) (inl (omega (arith, less)))) in
+    let across : All (λ x. All (IsApartFrom x) (value ∷ leader ∷ [])) (block_writes g base) =
+    all_of_range (λ x. All (IsApartFrom x) (value ∷ leader ∷ [])) block 1 hosts
+    (λ k low high.
+    All-cons (IsApartFrom (block k)) value (leader ∷ []) (sectors_apart _ _ (BlockIs (fresh_block k)) (ValueIs no_value) (is_block k low high) no_value_is (inl (omega (arith, high, count.1))))
+    (All-cons (IsApartFrom (block k)) leader []
+    (sectors_apart _ _ (BlockIs (fresh_block k)) (LeaderIs (fresh_leader g space name)) (is_block k low high) is_leader (inr (omega (arith, low)))) (All-nil _))) in (
+      All-append (IsApartFrom request) (block_writes g base) (value ∷ leader ∷ [])
+          (all_of_range (IsApartFrom request) block 1 hosts
+          (λ k low high. sectors_apart _ _ (RequestIs no_request) (BlockIs (fresh_block k)) no_request_is (is_block k low high) (inl (omega (arith, low)))))
+          (All-cons (IsApartFrom request) value (leader ∷ []) (sectors_apart _ _ (RequestIs no_request) (ValueIs no_value) no_request_is no_value_is (inl (omega arith)))
+          (All-cons (IsApartFrom request) leader []
+          (sectors_apart _ _ (RequestIs no_request) (LeaderIs (fresh_leader g space name)) no_request_is is_leader (inr (omega arith))) (All-nil _))),
+      apart_joined (block_writes g base) (value ∷ leader ∷ []) blocks last across,
+    )

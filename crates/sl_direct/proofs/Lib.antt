@@ -1,0 +1,6 @@
+pub mod DiskLaws
+pub mod FreshLaws
+pub mod LineLaws
+pub mod LookLaws
+pub mod ActLaws
+pub mod AreaLaws

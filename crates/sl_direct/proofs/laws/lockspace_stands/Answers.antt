@@ -1,0 +1,5 @@
+use Rattle.sl_direct.proofs.AreaLaws as its
+use Rattle.sl_direct.proofs.laws.lockspace_stands.Goals as goal
+
+pub returns : goal.returns
+returns c = its.lockspace_stands

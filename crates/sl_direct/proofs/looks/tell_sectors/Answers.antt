@@ -1,0 +1,13 @@
+-- One more sector is told.
+use Rattle.sl_direct.proofs.LookLaws.{one_told}
+use Rattle.sl_direct.proofs.looks.tell_sectors.Goals as goal
+use Rattle.std.proofs.Common.{arith, rules}
+use Rattle.std.proofs.KnownBytes.{Keeps-trans}
+
+pub loop-number-preserved : goal.loop-number-preserved
+loop-number-preserved g c =
+    record {
+      told = one_told _ _ c.args.offset c.loop-number.number _ _ _ c.loop-number.invariant.kept (omega arith) c.loop-number.invariant.told c.in_ok-tell_sector.ensures.ok;
+      kept = Keeps-trans _ _ _ c.loop-number.invariant.kept c.in_ok-tell_sector.ensures.kept;
+      later = search rules;
+    }

@@ -1,0 +1,61 @@
+-- What is written to the area of a lockspace or of a resource that is initialised, in the order in which it is written.
+use Rattle.sha2.specs.Sha256.{sha256}
+use Rattle.sl_area.specs.Layouts.{Layout, layout_of, sizes}
+use Rattle.sl_area.specs.Places.{block_offset, delta_offset, fresh_block, fresh_delta, fresh_leader, leader_offset, no_request, no_value, request_offset, value_offset}
+use Rattle.sl_area.specs.Sectors.{SectorPlace}
+use Rattle.sl_sector.specs.Spelling.{spelling}
+use Rattle.sl_sector.specs.declared.sector.Rec.TheVariants.{BlockIs, DeltaIs, LeaderIs, RequestIs, ValueIs}
+use Rattle.sl_sector.specs.declared.sector.Rec.{Rec}
+use Rattle.std.specs.List.{range_with_len}
+use Rattle.std.specs.Prelude.{List, length, map, [], ℕ, ◌++◌, ◌∷◌}
+
+-- Sectors of 512 bytes, in areas of one mebibyte, for so many hosts.
+abbrev pub layout_for : ℕ → Layout
+layout_for hosts = layout_of (sizes 512 1048576 hosts)
+
+-- A sector that is written: where it begins, and its bytes.
+pub record Write : Type 0 where
+  pub offset : ℕ
+  pub sector : List ℕ
+
+-- The bytes that it replaces.
+abbrev pub place_of : Write → SectorPlace
+place_of w = record { offset = w.offset; size = length w.sector }
+
+-- The write of a record, in a sector that ends with the SHA-256 of its other bytes.
+abbrev pub write_of : ℕ → Rec → Write
+write_of offset r = record { offset = offset; sector = spelling sha256 512 r }
+
+-- An id's record that was never claimed, in its place.
+abbrev pub delta_write : Layout → List ℕ → ℕ → ℕ → Write
+delta_write g lockspace base id = write_of (delta_offset g base id) (DeltaIs (fresh_delta lockspace id))
+
+-- A lockspace: the record of each id.
+abbrev pub lockspace_writes : Layout → List ℕ → ℕ → List Write
+lockspace_writes g lockspace base = map (delta_write g lockspace base) (range_with_len 1 g.hosts)
+
+-- The cleared request, in its place.
+abbrev pub request_write : Layout → ℕ → Write
+request_write g base = write_of (request_offset g base) (RequestIs no_request)
+
+-- A host's block that has no ballot, in its place.
+abbrev pub block_write : Layout → ℕ → ℕ → Write
+block_write g base id = write_of (block_offset g base id) (BlockIs (fresh_block id))
+
+-- The value without a byte, in its place.
+abbrev pub value_write : Layout → ℕ → Write
+value_write g base = write_of (value_offset g base) (ValueIs no_value)
+
+-- The leader that was never held, in its place.
+abbrev pub leader_write : Layout → List ℕ → List ℕ → ℕ → Write
+leader_write g lockspace resource base = write_of (leader_offset base) (LeaderIs (fresh_leader g lockspace resource))
+
+-- The blocks of all hosts.
+abbrev pub block_writes : Layout → ℕ → List Write
+block_writes g base = map (block_write g base) (range_with_len 1 g.hosts)
+
+-- A resource: the request, each host's block, the value, and last the leader. Where no leader stood before, none stands after an
+-- initialising that broke off, and so it is seen.
+abbrev pub resource_writes : Layout → List ℕ → List ℕ → ℕ → List Write
+resource_writes g lockspace resource base =
+    request_write g base ∷ (block_writes g base ++ value_write g base ∷ leader_write g lockspace resource base ∷ [])

@@ -1,0 +1,41 @@
+//! What is done to an area by hand: it is initialised, its leader is read, its sectors are told.
+//!
+//! A disk of zeros spells no record, so to every host it is torn: nobody can join a lockspace or take a resource there before somebody has
+//! initialised its area. `run_direct` does that, and lets a person look at what a disk has. It takes the area and a sink, and no file:
+//! what it leaves and prints can so be said byte by byte. That no session runs on an area that is initialised is the caller's to see to:
+//! nothing on the disk tells it.
+//!
+//! An initialising writes each sector of the area once: of a lockspace the record of each id, of a resource the request, the blocks,
+//! the value and last the leader. Every host reads the leader before it asks for the resource. So on a disk where none stood, an area
+//! that was left half-written has no leader, and is refused as torn. Where an old leader stood it stands still, before blocks that may
+//! be new: an initialising that broke off has to be made again before a host works there. Sectors between these and the area's end stay as
+//! they were. A look at a leader or at a stretch of sectors reads a sector at a time, and writes none.
+//!
+//! What an action tells is kept until it has ended, and is then put out. So it may end in five ways:
+//!
+//! | answer | the area | the output |
+//! |---|---|---|
+//! | `Done` | every write stands; after a look it is as it was | all lines |
+//! | `NotTheLeader` | as it was | what the sector holds in place of the resource's leader |
+//! | `AreaFault` | the writes before the one that failed stand, and that sector may be torn; after a look it is as it was | the lines of the sectors that were read, then `area fault` |
+//! | `NoMemory` | as it was | the lines of the sectors that were told before |
+//! | `WriteFault` | as one of these left it | a front of its output |
+//!
+//! `areas` writes, with the records of `fresh`; `looks` reads; `lines` has the lines; `direct` puts them out. The clause of `run_direct` is
+//! the table (`Directs` in specs/Actions.antt), and `laws` says what it comes to: which records stand, that the leader stands last, that a
+//! leader is told exactly where it is the resource's, and that what was initialised is found.
+#![tactic(auto)]
+
+pub mod action;
+mod areas;
+mod direct;
+mod fresh;
+pub mod laws;
+mod lines;
+mod looks;
+
+pub use action::{Action, Directed};
+pub use direct::run_direct;
+
+#[cfg(test)]
+mod tests;
