@@ -1,15 +1,16 @@
-//! Whole outputs of actions on an area in memory, and what is told where the area or the sink fails.
+//! Whole outputs of actions on areas in memory and in a file, and what is told where the area or the sink fails.
 
 ghost use Rattle.sl_direct.specs.Actions.{IsAction};
 ghost use Rattle.sl_text.specs.Names.{is_name};
 ghost use Rattle.std.specs.Prelude.{IfOk, IsTrue, ◌≡◌};
 
 use crate::{Action, Directed, run_direct};
-use sl_area::MemArea;
+use sl_area::{Area, FileArea, MemArea};
 use sl_io::MemSink;
 use sl_text::{FilePath, Name};
 use sl_trace::{LockspaceArg, ResourceArg};
 use std::alloc::{AllocError, Global};
+use std::fs;
 use std::test::Fail;
 
 /// Bytes of an area.
@@ -103,7 +104,7 @@ fn text(alloc: Global, lines: &[&str]) -> Result<Vec<u8>, AllocError> {
 fn tells(
     alloc: Global,
     action: &Action,
-    area: &mut MemArea,
+    area: &mut impl Area,
     ended: Directed,
     lines: &[&str],
 ) -> Result<bool, AllocError>
@@ -118,7 +119,7 @@ fn tells(
 /// Whether the initialising of `r` does.
 fn initialises(
     alloc: Global,
-    area: &mut MemArea,
+    area: &mut impl Area,
     ended: Directed,
     lines: &[&str],
 ) -> Result<bool, Fail> {
@@ -127,7 +128,12 @@ fn initialises(
 }
 
 /// Whether the dump does.
-fn dumps(alloc: Global, area: &mut MemArea, ended: Directed, lines: &[&str]) -> Result<bool, Fail> {
+fn dumps(
+    alloc: Global,
+    area: &mut impl Area,
+    ended: Directed,
+    lines: &[&str],
+) -> Result<bool, Fail> {
     let action = dump()?;
     Ok(tells(alloc, &action, area, ended, lines)?)
 }
@@ -136,7 +142,7 @@ fn dumps(alloc: Global, area: &mut MemArea, ended: Directed, lines: &[&str]) -> 
 fn reads(
     alloc: Global,
     name: &[u8],
-    area: &mut MemArea,
+    area: &mut impl Area,
     ended: Directed,
     line: &str,
 ) -> Result<bool, Fail> {
@@ -170,6 +176,20 @@ fn a_lockspace(rt: HostRuntime) -> Result<(), Fail> {
     Ok(())
 }
 
+#[test]
+fn a_file(rt: HostRuntime) -> Result<(), Fail> {
+    let alloc = rt.alloc();
+    let mut area = FileArea::open(&rt, "no_such_area");
+    assert!(rt; initialises(alloc, &mut area, Directed::AreaFault, &["area fault"])?);
+    fs::write(&rt, "an_area", b"".as_slice())?;
+    let mut area = FileArea::open(&rt, "an_area");
+    assert!(rt; initialises(alloc, &mut area, Directed::Done, &["init ls:r 2"])?);
+    assert!(rt; dumps(alloc, &mut area, Directed::Done, &DUMPED)?);
+    assert_eq!(rt; fs::read(&rt, "an_area")?.len(), AREA);
+    fs::remove_file(&rt, "an_area")?;
+    Ok(())
+}
+
 /// The leader of an area that was initialised, with one byte changed.
 fn changed(alloc: Global, at: usize) -> Result<MemArea, Fail> {
     let mut area = MemArea::new(alloc, AREA, Vec::new(alloc))?;
@@ -180,18 +200,20 @@ fn changed(alloc: Global, at: usize) -> Result<MemArea, Fail> {
     Ok(MemArea::of(bytes, Vec::new(alloc)))
 }
 
+/// Whether the look at that leader tells this line.
+fn refuses(alloc: Global, at: usize, line: &str) -> Result<bool, Fail> {
+    let mut area = changed(alloc, at)?;
+    reads(alloc, b"r", &mut area, Directed::NotTheLeader, line)
+}
+
 #[test]
 fn no_leader(rt: HostRuntime) -> Result<(), Fail> {
     let alloc = rt.alloc();
     let mut area = MemArea::new(alloc, 512, Vec::new(alloc))?;
     assert!(rt; reads(alloc, b"r", &mut area, Directed::NotTheLeader, "BadMagic")?);
-    for (at, line) in [(12, "BadField 12"), (200, "BadPad 200"), (511, "BadCheck")] {
-        let mut area = changed(alloc, at)?;
-        assert!(rt;
-            reads(alloc, b"r", &mut area, Directed::NotTheLeader, line)?,
-            "byte {at}"
-        );
-    }
+    assert!(rt; refuses(alloc, 12, "BadField 12")?);
+    assert!(rt; refuses(alloc, 200, "BadPad 200")?);
+    assert!(rt; refuses(alloc, 511, "BadCheck")?);
     Ok(())
 }
 
