@@ -61,7 +61,7 @@ all_given_by st es s h its none [] made = tt
 all_given_by st es s h its none (m ∷ ms) made =
     (given_none st es s m ms made.0 (lawful_call st es s m ms made.0 h its) none, all_given_by st es s h its none ms made.1)
 
-none_joining : (w : World) (i : SessionId) (f : Found) → IsKnown w i f → f.session.job ≡ None → Every (λ (m : Submitted). is_joining m.call.purpose ≡ false) (calls_of (trace_of f) f.session)
+pub none_joining : (w : World) (i : SessionId) (f : Found) → IsKnown w i f → f.session.job ≡ None → Every (λ (m : Submitted). is_joining m.call.purpose ≡ false) (calls_of (trace_of f) f.session)
 none_joining w i f k none =
     all_given_by (setting_in f) (trace_of f) f.session k.lawful k.its none (calls_of (trace_of f) f.session) (all_made (trace_of f) f.session)
 
