@@ -121,7 +121,7 @@ NewestIn p first kept o =
     (l : Landing) × (numbered_landing (kept ++ first ∷ []) (length kept) ≡ Some l)
     × (elim o as (λ z. List ℕ) [ Some x ↦ x.bytes | None ↦ first.bytes ] ≡ l.bytes)
 
-one_longer : (ls : List Landing) (first : Landing) → suc (length ls) ≡ length (ls ++ first ∷ [])
+pub one_longer : (ls : List Landing) (first : Landing) → suc (length ls) ≡ length (ls ++ first ∷ [])
 one_longer [] first = refl
 one_longer (l ∷ ls) first = ap (λ n. suc n) (one_longer ls first)
 

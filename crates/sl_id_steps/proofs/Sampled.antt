@@ -201,7 +201,7 @@ made_same s h =
     base = s.base; claim = s.claim; name = s.name; generation = s.generation; seq = s.seq; registered = s.registered; renewed = s.renewed } in x) h
 
 -- Sessions with the same parts, but for some, are one.
-same_parts : (s t : IdSession) → s.begun ≡ true → t.begun ≡ true → t.decided ≡ s.decided → t.pending ≡ s.pending → t.landed ≡ s.landed → t.verified ≡ s.verified
+pub same_parts : (s t : IdSession) → s.begun ≡ true → t.begun ≡ true → t.decided ≡ s.decided → t.pending ≡ s.pending → t.landed ≡ s.landed → t.verified ≡ s.verified
     → t.joined ≡ s.joined → t.over ≡ s.over → t.base ≡ s.base → t.claim ≡ s.claim → t.name ≡ s.name → t.generation ≡ s.generation → t.seq ≡ s.seq
     → t.registered ≡ s.registered → t.renewed ≡ s.renewed → t ≡ s
 same_parts s t x y a b c d e f g h i j k l m =
