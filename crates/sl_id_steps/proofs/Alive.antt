@@ -23,7 +23,7 @@ use Rattle.sl_law.specs.LawfulDelta.{LawfulDeltaCall, LawfulJoin}
 use Rattle.sl_moment_law.specs.Orders.{Fall}
 use Rattle.sl_run.specs.Runs.{Happening}
 use Rattle.sl_run.specs.Safety.{Found, LawfulRun, SessionId, free_landed, has_write_in_flight, is_course_of, is_over, session_of_world, trace_of, was_reset, world_at}
-use Rattle.sl_run.specs.Worlds.{Course, Daemon, Machine, Program, Sampling, Stamp, World, daemon_numbered, daemons_on, flight_of, is_in_flight, is_landed, is_of_running, is_open, is_write_course, may_land, resets_after}
+use Rattle.sl_run.specs.Worlds.{Course, Daemon, Machine, Program, Sampling, Stamp, World, daemon_numbered, flight_of, is_in_flight, is_landed, is_of_running, is_open, is_write_course, may_land, resets_after}
 use Rattle.sl_run.specs.declared.header.Header.{Header}
 use Rattle.sl_run_law.specs.Fates.{Every}
 use Rattle.sl_sector.specs.declared.sector.DeltaRec.{DeltaRec}
@@ -31,14 +31,14 @@ use Rattle.sl_sector.specs.declared.sector.Rec.TheVariants.{DeltaIs}
 use Rattle.sl_session_law.proofs.Owning.{got_inside}
 use Rattle.sl_session_law.proofs.Staying.{refused_more}
 use Rattle.sl_session_law.specs.Promises.{IsSession as IsSessionOf}
-use Rattle.sl_sessions.specs.Sessions.{Session, calls_of, delta_of_record, delta_written, ended_after, free_write, is_free_purpose, is_join_call, joined_after, refused_after, removed_after, sessions}
+use Rattle.sl_sessions.specs.Sessions.{Session, calls_of, delta_written, free_write, is_free_purpose, is_join_call, joined_after, refused_after, removed_after, sessions}
 use Rattle.sl_trace.specs.Traces.{Setting, Submitted, Trace, record_of}
 use Rattle.sl_trace.specs.declared.effects.Call.{Call}
 use Rattle.sl_trace.specs.declared.effects.JoinStep.TheVariants.{ClaimWrite, FirstRenewal}
 use Rattle.sl_trace.specs.declared.effects.JoinStep.{JoinStep}
 use Rattle.sl_trace.specs.declared.effects.Purpose.TheVariants.{Joining, Leaving}
 use Rattle.sl_trace.specs.declared.effects.Purpose.{Purpose}
-use Rattle.sl_words.proofs.CaseLaws.{false_is_true, is_false, no_value, none_some, not_both, one_value, some_value, true_is_false}
+use Rattle.sl_words.proofs.CaseLaws.{false_is_true, none_some, not_both, one_value, some_value, true_is_false}
 use Rattle.sl_words.proofs.WordLaws.{and_true}
 use Rattle.sl_words.specs.Words.{is_empty, some_is}
 use Rattle.std.proofs.Common.{ap, arith, inl, inr, refl, subst, sym, tests, ◌∙◌}
@@ -225,21 +225,21 @@ pub no_free : (p : Program) (h : Header) (xs : List Happening) → LawfulRun p h
 no_free p h xs run i f at j job none =
     ap (λ o. some_is (λ c. list_any (λ d. is_course_of i d && d.call.number == c.call.number && is_landed d.fate) f.machine.calls) o)
     (by (free_write (calls_of (trace_of f) f.session)) refl) where
-  by : (o : Option Submitted) → free_write (calls_of (trace_of f) f.session) ≡ o → o ≡ None
-  by None is = refl
-  by (Some m) is =
-      let w : World = world_at p h xs in
-      let q = known grounds p h xs run i f at in
-      let x = find_pairs (IsCourseOf f.daemon) (λ (c : Course). is_free_purpose c.call.purpose) (λ (n : Submitted). is_free_purpose n.call.purpose)
+      by : (o : Option Submitted) → free_write (calls_of (trace_of f) f.session) ≡ o → o ≡ None
+      by None is = refl
+      by (Some m) is =
+          let w : World = world_at p h xs in
+          let q = known grounds p h xs run i f at in
+          let x = find_pairs (IsCourseOf f.daemon) (λ (c : Course). is_free_purpose c.call.purpose) (λ (n : Submitted). is_free_purpose n.call.purpose)
           (λ c n r. ap (λ (y : Call). is_free_purpose y.purpose) r.call) (own_courses i f.machine) (calls_of (trace_of f) f.session) q.pairs m is in
-      let there = find_passes (λ (c : Course). is_free_purpose c.call.purpose) (own_courses i f.machine) x.0 x.1 in
-      let o = own_call w i f x.0 q there.there in
-      let same = o.placed.pairs.this.call in
-      let law = frees_by f.daemon.setting (front_at o.placed.made) f.session _ o.placed.pairs.here.call.purpose o.lawful.law
+          let there = find_passes (λ (c : Course). is_free_purpose c.call.purpose) (own_courses i f.machine) x.0 x.1 in
+          let o = own_call w i f x.0 q there.there in
+          let same = o.placed.pairs.this.call in
+          let law = frees_by f.daemon.setting (front_at o.placed.made) f.session _ o.placed.pairs.here.call.purpose o.lawful.law
           (ap (λ (y : Call). is_free_purpose y.purpose) same ∙ there.test) in
-      absurd (unwritten p h xs run i f at j job none x.0 there.there law.0
-      (record_is o.placed.pairs.here.call x.0.call.op law.0 (ap (λ (y : Call). y.op) same) law.1)
-      (ap (λ (y : Call). is_join_call ClaimWrite y.purpose) (sym same) ∙ law.2))
+          absurd (unwritten p h xs run i f at j job none x.0 there.there law.0
+          (record_is o.placed.pairs.here.call x.0.call.op law.0 (ap (λ (y : Call). y.op) same) law.1)
+          (ap (λ (y : Call). is_join_call ClaimWrite y.purpose) (sym same) ∙ law.2))
 
 -- ---- it hasn't joined
 

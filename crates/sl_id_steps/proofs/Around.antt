@@ -1,52 +1,33 @@
 -- What is known of a session whose deciding read or verify read is sampled: where it stands before and after, that of its daemon's
 -- sessions it alone is not over, and that before its claim it has written nothing.
-use Rattle.sl_area.specs.Layouts.{record_in}
-use Rattle.sl_clocks.specs.Points.{Precedes, reading}
 use Rattle.sl_course_law.proofs.Naming.{daemon_names_are_apart}
-use Rattle.sl_id_state.proofs.Bridge.{IsKnown, known}
-use Rattle.sl_id_state.proofs.Frames.{claim_index, landed_seq}
-use Rattle.sl_id_state.proofs.LandingFrames.{landing_at, same_landings}
-use Rattle.sl_id_state.proofs.Proven.{claims_have_decided, grounds, join_reads_are_own, sessions_follow, verify_reads_have_claimed}
-use Rattle.sl_id_state.proofs.SampleFrames.{join_is, one_sector, read_is_own, verifying_is}
+use Rattle.sl_id_state.proofs.Bridge.{known}
+use Rattle.sl_id_state.proofs.Frames.{landed_seq}
+use Rattle.sl_id_state.proofs.LandingFrames.{landing_at}
+use Rattle.sl_id_state.proofs.Proven.{grounds, sessions_follow}
 use Rattle.sl_id_state.proofs.SectorFrames.{SameSector}
 use Rattle.sl_id_state.proofs.StateFrames.{name_is}
-use Rattle.sl_id_state.specs.Facts.{HasWatched}
-use Rattle.sl_id_state.specs.IdStates.{blank, claim_may_land, content_of, deciding_sample, generation_above, generation_by, has_begun, id_state, is_sector_of, join_course, kind_of, name_of, own_courses, runs_still, said_by, same_name, seq_left, session_at, session_named_so, standing_by, standing_of, verifying_sample, watched_bytes, writer_of}
+use Rattle.sl_id_state.specs.IdStates.{blank, deciding_sample, has_begun, id_state, is_sector_of, name_of, same_name, seq_left, session_at, session_named_so, standing_by, standing_of, verifying_sample, writer_of}
 use Rattle.sl_id_state.specs.Promises.{IsIdPlace}
-use Rattle.sl_id_steps.proofs.Alive.{IsReading, has_job, job_is, not_over, still_runs, unjoined, unrefused}
-use Rattle.sl_id_steps.proofs.Outcomes.{HasNewest, IsSampledCall, ShowsNow, has_newest, one_longer}
-use Rattle.sl_id_steps.proofs.Sampled.{same_parts, sampled_found, stands_sampled, stands_with}
-use Rattle.sl_id_steps.proofs.Sharing.{FirstShown, begun_name, first_shown, watching_name}
-use Rattle.sl_ids.proofs.DerivedLaws.{waits}
-use Rattle.sl_ids.specs.Guards.{terms_of}
-use Rattle.sl_ids.specs.Invariant.{Invariant}
-use Rattle.sl_ids.specs.State.{Content, Session as IdSession, SessionId as IdName, State, shown}
-use Rattle.sl_ids.specs.Steps.{Decide, IsWatched, Was_free, after_deciding}
-use Rattle.sl_moment_law.proofs.Following.{drift_between, kept_past}
-use Rattle.sl_moment_law.proofs.Stamps.{answer_is_stamp, made_is_stamp}
-use Rattle.sl_moment_law.specs.Moments.{Of_stamp, point_of}
+use Rattle.sl_id_steps.proofs.Outcomes.{one_longer}
+use Rattle.sl_id_steps.proofs.Sampled.{sampled_found, stands_sampled, stands_with}
+use Rattle.sl_id_steps.proofs.Sharing.{begun_name}
+use Rattle.sl_ids.specs.State.{Session as IdSession, SessionId as IdName}
 use Rattle.sl_run.specs.Events.{sample_at}
 use Rattle.sl_run.specs.Runs.{Happening}
-use Rattle.sl_run.specs.Safety.{Found, LawfulRun, SessionId, is_over, session_of_world, trace_of, world_at}
-use Rattle.sl_run.specs.Worlds.{Course, Landing, Program, Sampling, World, content, first_landing, history_of, is_landed, landed_at, may_land, sector_size}
+use Rattle.sl_run.specs.Safety.{Found, LawfulRun, SessionId, is_over, session_of_world, world_at}
+use Rattle.sl_run.specs.Worlds.{Course, Landing, Program, World, content, first_landing, history_of, landed_at, sector_size}
 use Rattle.sl_run.specs.declared.header.Header.{Header}
 use Rattle.sl_run_law.specs.Fates.{Every}
 use Rattle.sl_sample_law.proofs.Numbering.{newest_number, number_below, number_stays}
 use Rattle.sl_sample_law.specs.Samples.{numbered_landing}
-use Rattle.sl_sector.specs.Spelling.{delta_in}
-use Rattle.sl_sector.specs.declared.sector.DeltaRec.{DeltaRec}
-use Rattle.sl_sector.specs.declared.sector.DeltaState.TheVariants.{Free}
-use Rattle.sl_sessions.specs.Sessions.{Session, given_number, is_join_call, joined_after, refused_after}
-use Rattle.sl_time.specs.Times.{take_over}
-use Rattle.sl_trace.specs.declared.effects.JoinStep.TheVariants.{ClaimWrite, DecidingRead, VerifyRead}
-use Rattle.sl_words.proofs.CaseLaws.{is_false, none_some, not_both, true_is_false}
-use Rattle.sl_words.proofs.OrderLaws.{same_or_apart}
+use Rattle.sl_sessions.specs.Sessions.{Session, given_number}
+use Rattle.sl_words.proofs.CaseLaws.{is_false, not_both, true_is_false}
 use Rattle.sl_words.proofs.WordLaws.{and_true}
 use Rattle.sl_words.specs.Words.{greatest, some_is}
-use Rattle.std.proofs.Common.{ap, arith, inl, inr, refl, subst, sym, tests, ◌∙◌}
+use Rattle.std.proofs.Common.{ap, arith, inl, inr, refl, sym, tests, ◌∙◌}
 use Rattle.std.proofs.lemmas.Slice.Eq.{bytes_eq-Decides}
-use Rattle.std.specs.Option.{option_map_or}
-use Rattle.std.specs.Prelude.{Bool, Contains, List, None, Option, Some, bytes_eq, false, is_none, is_some, length, map, nat_lt, option_map, suc, true, [], ℕ, ◌&&◌, ◌*◌, ◌+◌, ◌<◌, ◌==◌, ◌||◌, ◌∷◌, ◌≡◌, ◌≤◌, ◌⊎◌}
+use Rattle.std.specs.Prelude.{Bool, List, None, Option, Some, bytes_eq, false, length, map, nat_lt, suc, true, [], ℕ, ◌&&◌, ◌*◌, ◌+◌, ◌<◌, ◌∷◌, ◌≡◌, ◌⊎◌}
 
 -- ---- a session whose call is sampled, before and after
 
@@ -114,7 +95,7 @@ begun_by w path offset n None at h = absurd (true_is_false (sym h))
 begun_by w path offset n (Some g) at h =
     let i : SessionId = session_named_so n in
     let p = and_true (is_sector_of w.layout path offset g.session) (has_begun i g)
-        (begun_if (is_sector_of w.layout path offset g.session && has_begun i g) (standing_of w path offset i g) h) in
+    (begun_if (is_sector_of w.layout path offset g.session && has_begun i g) (standing_of w path offset i g) h) in
     record { found = g; at = at; sector = p.0; begun = p.1 }
 
 pub begun_at : (w : World) (path : List ℕ) (offset : ℕ) (n : IdName) → (session_at w path offset n).begun ≡ true → BegunAt w path offset n
@@ -152,7 +133,7 @@ alone p h xs run path offset i f at alive q name x apart named begun =
     let mine = known grounds p h xs run i f at in
     let its = known grounds p h xs run k g b.at in
     let one = daemon_names_are_apart p h xs run k.machine i.machine g.machine f.machine g.daemon f.daemon its.there.at mine.there.at its.there.has mine.there.has
-        (sym (ap (λ s. s.name) stands) ∙ named) in
+    (sym (ap (λ s. s.name) stands) ∙ named) in
     let daemon : k.daemon ≡ i.daemon = sym its.there.daemon ∙ one.1 ∙ mine.there.daemon in
     let other : k.number ≡ i.number → ⊥ = λ e. apart (name_by x i one.0 daemon e) in
     ap (λ s. s.over) stands

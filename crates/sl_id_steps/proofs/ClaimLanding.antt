@@ -19,15 +19,15 @@ use Rattle.sl_sample_law.specs.Samples.{numbered_landing}
 use Rattle.sl_sector.specs.declared.sector.Rec.{Rec}
 use Rattle.sl_session_law.proofs.Making.{contains_cases, contains_none}
 use Rattle.sl_session_law.proofs.Naming.{kept as keeps}
-use Rattle.sl_trace.specs.Traces.{record_of, same_place}
-use Rattle.sl_words.proofs.CaseLaws.{false_is_true, not_both, one_value, some_value, true_is_false}
+use Rattle.sl_trace.specs.Traces.{same_place}
+use Rattle.sl_words.proofs.CaseLaws.{false_is_true, not_both, one_value, some_value}
 use Rattle.sl_words.proofs.WordLaws.{and_true}
 use Rattle.sl_words.specs.Words.{some_is}
 use Rattle.std.proofs.Common.{ap, arith, inl, inr, refl, subst, sym, tests, ◌∙◌}
 use Rattle.std.proofs.lemmas.Bool.{and_from}
 use Rattle.std.proofs.lemmas.Slice.Eq.{bytes_eq-Decides}
 use Rattle.std.specs.Option.{option_map_or}
-use Rattle.std.specs.Prelude.{Bool, Contains, List, None, Option, Some, bytes_eq, false, length, true, [], ℕ, ◌&&◌, ◌++◌, ◌<◌, ◌==◌, ◌∷◌, ◌≡◌, ◌≤◌}
+use Rattle.std.specs.Prelude.{Bool, Contains, List, None, Option, Some, bytes_eq, false, length, true, [], ℕ, ◌&&◌, ◌==◌, ◌∷◌, ◌≡◌, ◌≤◌}
 
 same_numbers : (m n : ℕ) → (m == n) ≡ true → m ≡ n
 same_numbers m n h = grind (arith, tests)

@@ -1,13 +1,11 @@
 -- A deciding read that is sampled, and shows what was watched: its session decides.
-use Rattle.sl_area.specs.Layouts.{record_in}
 use Rattle.sl_clocks.specs.Points.{reading}
-use Rattle.sl_id_state.proofs.Bridge.{known}
-use Rattle.sl_id_state.proofs.Frames.{claim_index, landed_seq}
+use Rattle.sl_id_state.proofs.Frames.{claim_index}
 use Rattle.sl_id_state.proofs.LandingFrames.{landing_at, same_landings}
-use Rattle.sl_id_state.proofs.Proven.{claims_have_decided, grounds, join_reads_are_own, verify_reads_have_claimed}
+use Rattle.sl_id_state.proofs.Proven.{claims_have_decided, join_reads_are_own, verify_reads_have_claimed}
 use Rattle.sl_id_state.proofs.SampleFrames.{join_is, one_sector, read_is_own, verifying_is}
 use Rattle.sl_id_state.specs.Facts.{HasWatched}
-use Rattle.sl_id_state.specs.IdStates.{blank, claim_may_land, content_of, deciding_sample, generation_above, generation_by, has_begun, id_state, is_sector_of, join_course, kind_of, name_of, runs_still, said_by, session_at, verifying_sample, watched_bytes}
+use Rattle.sl_id_state.specs.IdStates.{blank, content_of, deciding_sample, generation_above, id_state, is_sector_of, join_course, kind_of, name_of, runs_still, said_by, session_at, verifying_sample, watched_bytes}
 use Rattle.sl_id_state.specs.Promises.{IsIdPlace}
 use Rattle.sl_id_steps.proofs.Alive.{IsReading, has_job, job_is, not_over, still_runs, unjoined, unrefused}
 use Rattle.sl_id_steps.proofs.Around.{SamplesOne, alone, blank_before, equal_bytes, is_here, newest_last, nothing_written, stood_after}
@@ -17,7 +15,7 @@ use Rattle.sl_id_steps.proofs.Sharing.{first_shown, watching_name}
 use Rattle.sl_ids.proofs.DerivedLaws.{waits}
 use Rattle.sl_ids.specs.Guards.{terms_of}
 use Rattle.sl_ids.specs.Invariant.{Invariant}
-use Rattle.sl_ids.specs.State.{Content, Session as IdSession, State, shown}
+use Rattle.sl_ids.specs.State.{Content}
 use Rattle.sl_ids.specs.Steps.{Decide, IsWatched, Was_free, after_deciding}
 use Rattle.sl_moment_law.proofs.Following.{drift_between, kept_past}
 use Rattle.sl_moment_law.proofs.Stamps.{answer_is_stamp, made_is_stamp}
@@ -25,13 +23,12 @@ use Rattle.sl_moment_law.specs.Moments.{Of_stamp, point_of}
 use Rattle.sl_run.specs.Events.{sample_at}
 use Rattle.sl_run.specs.Runs.{Happening}
 use Rattle.sl_run.specs.Safety.{Found, LawfulRun, SessionId, is_over, session_of_world, trace_of, world_at}
-use Rattle.sl_run.specs.Worlds.{Course, Landing, Program, Sampling, World, content, history_of, is_landed, landed_at, may_land}
+use Rattle.sl_run.specs.Worlds.{Course, Landing, Program, Sampling, World, history_of, is_landed, landed_at, may_land}
 use Rattle.sl_run.specs.declared.header.Header.{Header}
 use Rattle.sl_sample_law.proofs.Numbering.{number_below}
 use Rattle.sl_sample_law.specs.Samples.{numbered_landing}
-use Rattle.sl_sector.specs.Spelling.{delta_in}
 use Rattle.sl_sector.specs.declared.sector.DeltaState.TheVariants.{Free}
-use Rattle.sl_sessions.specs.Sessions.{given_number, is_join_call, joined_after, refused_after}
+use Rattle.sl_sessions.specs.Sessions.{joined_after, refused_after}
 use Rattle.sl_time.specs.Times.{take_over}
 use Rattle.sl_trace.specs.declared.effects.JoinStep.TheVariants.{ClaimWrite, DecidingRead, FirstRead, VerifyRead}
 use Rattle.sl_watchdog_law.specs.Acting.{acting_stamp}
@@ -39,7 +36,7 @@ use Rattle.sl_words.proofs.CaseLaws.{none_some, true_is_false}
 use Rattle.sl_words.specs.Words.{some_is}
 use Rattle.std.proofs.Common.{ap, inl, inr, refl, subst, sym, ◌∙◌}
 use Rattle.std.specs.Option.{option_map_or}
-use Rattle.std.specs.Prelude.{Bool, Contains, List, None, Option, Some, false, is_none, is_some, length, option_map, true, ℕ, ◌&&◌, ◌+◌, ◌<◌, ◌||◌, ◌≡◌, ◌≤◌, ◌⊎◌}
+use Rattle.std.specs.Prelude.{Bool, List, None, Option, Some, false, is_none, is_some, length, option_map, true, ℕ, ◌&&◌, ◌+◌, ◌||◌, ◌≡◌, ◌≤◌, ◌⊎◌}
 
 -- ---- it has neither claimed nor verified
 
@@ -223,7 +220,7 @@ decides p h xs v path offset n j i f c d =
     let g : Found = sampled_found w n j f in
     let own = join_is i DecidingRead f.machine c k.watched.only in
     let before = (kept_past p h xs d.run c.made.step c.made.moment
-        (Of_stamp i.machine f.machine c.made d.reading.known.there.at (made_is_stamp f.machine c own.has) refl refl)).1 in
+    (Of_stamp i.machine f.machine c.made d.reading.known.there.at (made_is_stamp f.machine c own.has) refl refl)).1 in
     record {
       first = ap (λ s. s.begun) k.blank_is;
       not_over = ap (λ s. s.over) k.blank_is;

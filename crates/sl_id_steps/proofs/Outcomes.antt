@@ -1,7 +1,7 @@
 -- What a sample of a call makes of what its session's deciding read and verify read showed: nothing, or the one or the other shows now what
 -- it was to show.
 use Rattle.sl_landing_law.proofs.Listing.{every_one}
-use Rattle.sl_id_state.proofs.SampleFrames.{IsJoinCourse, join_is, joining_is, read_is_own}
+use Rattle.sl_id_state.proofs.SampleFrames.{IsJoinCourse, join_is, joining_is}
 use Rattle.sl_id_state.specs.Facts.{HasClaimed, HasWatched, is_reading_step}
 use Rattle.sl_id_state.specs.IdStates.{claim_bytes, comes_before, deciding_sample, join_course, own_courses, refused_stamp, sample_showing, verifying_sample, watched_bytes}
 use Rattle.sl_id_steps.proofs.Sampled.{join_sampled, keeps_rest, sampled_found, turned}
@@ -14,15 +14,14 @@ use Rattle.sl_run_law.specs.Fates.{AreDistinct, Every}
 use Rattle.sl_sample_law.proofs.Flying.{IsOne, all_one, flies}
 use Rattle.sl_sample_law.proofs.Numbering.{newest_number}
 use Rattle.sl_sample_law.specs.Samples.{numbered_landing}
-use Rattle.sl_sessions.specs.Sessions.{is_join_call, same_join_step}
-use Rattle.sl_session_law.proofs.Making.{contains_cases, contains_none}
+use Rattle.sl_sessions.specs.Sessions.{is_join_call}
 use Rattle.sl_trace.specs.declared.effects.JoinStep.TheVariants.{ClaimWrite, DecidingRead, FirstRead, VerifyRead}
 use Rattle.sl_trace.specs.declared.effects.JoinStep.{JoinStep}
 use Rattle.sl_trace.specs.Traces.{same_place}
 use Rattle.sl_trace.specs.declared.effects.Op.TheVariants.{ReadSectors}
 use Rattle.sl_trace.specs.declared.effects.Op.{Op}
 use Rattle.sl_trace.specs.declared.effects.Purpose.{Purpose}
-use Rattle.sl_words.proofs.CaseLaws.{false_is_true, is_false, none_some, not_both, true_is_false}
+use Rattle.sl_words.proofs.CaseLaws.{is_false, none_some, not_both}
 use Rattle.sl_words.proofs.WordLaws.{and_true}
 use Rattle.sl_words.specs.Words.{choose, first_of_list, some_is}
 use Rattle.std.proofs.Common.{ap, arith, inl, inr, refl, subst, sym, tests, ◌∙◌}

@@ -3,16 +3,16 @@
 use Rattle.sl_id_state.proofs.FindingFrames.{moved, own_mapped}
 use Rattle.sl_id_state.proofs.Frames.{claim_index, flying_of, free_landed_by, free_of, is_running, landed_as, landed_seq, open_while}
 use Rattle.sl_id_state.proofs.SectorFrames.{SameSector, sector_same}
-use Rattle.sl_id_state.specs.IdStates.{claim_bytes, claim_may_land, deciding_sample, generation_above, generation_by, index_of, join_course, own_courses, runs_still, standing_of, verifying_sample, watched_bytes}
+use Rattle.sl_id_state.specs.IdStates.{claim_may_land, deciding_sample, generation_above, generation_by, index_of, join_course, own_courses, runs_still, standing_of, verifying_sample}
 use Rattle.sl_ids.specs.State.{Session as IdSession}
-use Rattle.sl_run.specs.Events.{change_call, sampled_more, write_bytes}
+use Rattle.sl_run.specs.Events.{change_call, sampled_more}
 use Rattle.sl_run.specs.Safety.{Found, SessionId, free_landed, has_write_in_flight, is_course_of, is_over, trace_of, was_reset}
 use Rattle.sl_run.specs.Worlds.{Course, Sampling, World, history_of, is_landed, is_write_course, may_land}
 use Rattle.sl_run_law.proofs.Coursing.{changed_if}
 use Rattle.sl_sample_law.specs.Samples.{numbered_landing}
 use Rattle.sl_sessions.specs.Sessions.{calls_of, ended_after, free_write, is_join_call, joined_after, refused_after}
 use Rattle.sl_trace.specs.Traces.{Submitted}
-use Rattle.sl_trace.specs.declared.effects.JoinStep.TheVariants.{ClaimWrite, DecidingRead, FirstRead, VerifyRead}
+use Rattle.sl_trace.specs.declared.effects.JoinStep.TheVariants.{ClaimWrite, DecidingRead, VerifyRead}
 use Rattle.sl_trace.specs.declared.effects.JoinStep.{JoinStep}
 use Rattle.sl_watchdog_law.specs.Acting.{acting_stamp}
 use Rattle.sl_words.specs.Words.{some_is}
@@ -140,7 +140,6 @@ over_still w n j i f =
 
 -- ---- where it stands, by what its deciding read and its verify read showed
 
-
 -- Where it stands with these samples.
 abbrev pub stands_with : World → List ℕ → ℕ → SessionId → Found → Option Sampling → Option Sampling → IdSession
 stands_with w path offset i f decided verified =
@@ -197,8 +196,22 @@ made_with a b c d e f g h i j k l m =
 made_same : (s : IdSession) → s.begun ≡ true → s ≡ made_with s.decided s.pending s.landed s.verified s.joined s.over s.base s.claim s.name s.generation s.seq s.registered s.renewed
 unfolding made_with
 made_same s h =
-    ap (λ b. let x : IdSession = record { begun = b; decided = s.decided; pending = s.pending; landed = s.landed; verified = s.verified; joined = s.joined; over = s.over;
-    base = s.base; claim = s.claim; name = s.name; generation = s.generation; seq = s.seq; registered = s.registered; renewed = s.renewed } in x) h
+    ap (λ b. let x : IdSession = record {
+      begun = b;
+      decided = s.decided;
+      pending = s.pending;
+      landed = s.landed;
+      verified = s.verified;
+      joined = s.joined;
+      over = s.over;
+      base = s.base;
+      claim = s.claim;
+      name = s.name;
+      generation = s.generation;
+      seq = s.seq;
+      registered = s.registered;
+      renewed = s.renewed;
+    } in x) h
 
 -- Sessions with the same parts, but for some, are one.
 pub same_parts : (s t : IdSession) → s.begun ≡ true → t.begun ≡ true → t.decided ≡ s.decided → t.pending ≡ s.pending → t.landed ≡ s.landed → t.verified ≡ s.verified

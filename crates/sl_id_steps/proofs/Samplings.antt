@@ -4,20 +4,20 @@ use Rattle.sl_course_law.proofs.Mirrored.{machines_mirror}
 use Rattle.sl_front_law.proofs.Going.{last_event}
 use Rattle.sl_id_state.proofs.Bridge.{known}
 use Rattle.sl_id_state.proofs.CallFrames.{ChangesCall, caller, caller_found, others_same}
-use Rattle.sl_id_state.proofs.FindingFrames.{find_passes, found_moves, found_on, moved, session_on}
+use Rattle.sl_id_state.proofs.FindingFrames.{find_passes, found_moves, found_on, moved}
 use Rattle.sl_id_state.proofs.LandingFrames.{same_landings}
 use Rattle.sl_id_state.proofs.Proven.{deciding_reads_have_watched, grounds, join_reads_are_own, verify_reads_have_claimed}
 use Rattle.sl_id_state.proofs.SampleFrames.{read_is_own}
 use Rattle.sl_id_state.proofs.SectorFrames.{SameSector, sector_same, session_same_if}
 use Rattle.sl_id_state.proofs.StateFrames.{agree_on, name_cases, one_step}
-use Rattle.sl_id_state.specs.IdStates.{blank, claim_bytes, deciding_sample, has_begun, id_state, is_sector_of, name_of, own_courses, session_at, session_named_so, standing_by, standing_of, verifying_sample, watched_bytes}
+use Rattle.sl_id_state.specs.IdStates.{blank, deciding_sample, has_begun, id_state, is_sector_of, name_of, own_courses, session_at, session_named_so, standing_by, standing_of, verifying_sample}
 use Rattle.sl_id_state.specs.Promises.{IsIdPlace}
 use Rattle.sl_id_steps.proofs.Alive.{IsReading}
 use Rattle.sl_id_steps.proofs.Around.{SamplesOne}
 use Rattle.sl_id_steps.proofs.CallEvents.{CallEvent, do_flies, do_read_between, flight_is, sample_between, sample_event, sample_flies}
 use Rattle.sl_id_steps.proofs.Deciding.{DecidesNow, decides}
 use Rattle.sl_id_steps.proofs.EndingSteps.{first_sector, holds_there}
-use Rattle.sl_id_steps.proofs.Outcomes.{Decides_now, IsSampledCall, Outcome, ShowsNow, Stays, Verifies_now, outcome}
+use Rattle.sl_id_steps.proofs.Outcomes.{Decides_now, IsSampledCall, Outcome, Stays, Verifies_now, outcome}
 use Rattle.sl_id_steps.proofs.Sampled.{sampled_found, stands_sampled, stands_with}
 use Rattle.sl_id_steps.proofs.Verifying.{VerifiesNow, verifies}
 use Rattle.sl_id_steps.specs.Parts.{IsSamplingEvent, SamplingsGoOn, between, state_between}
@@ -27,7 +27,7 @@ use Rattle.sl_ids.specs.Runs.{IsBounded, Later}
 use Rattle.sl_ids.specs.State.{Session as IdSession, SessionId as IdName}
 use Rattle.sl_ids.specs.Steps.{Decides, Verifies}
 use Rattle.sl_landing_law.proofs.Proven.{landings_are_written}
-use Rattle.sl_run.specs.Events.{change_call, is_read_course, may_happen, sampled_more, sectors_left, sectors_of}
+use Rattle.sl_run.specs.Events.{change_call, may_happen, sampled_more, sectors_left, sectors_of}
 use Rattle.sl_run.specs.Runs.{Happening}
 use Rattle.sl_run.specs.Safety.{Found, LawfulRun, SessionId, is_course_of, session_of_world, world_at}
 use Rattle.sl_run.specs.Worlds.{Course, Machine, Program, World, flight_of, is_open, is_write_course, machine_at}
@@ -43,7 +43,7 @@ use Rattle.sl_trace.specs.declared.effects.JoinStep.{JoinStep}
 use Rattle.sl_words.proofs.CaseLaws.{true_is_false}
 use Rattle.std.proofs.Common.{ap, arith, inl, inr, refl, subst, sym, tests, ◌∙◌}
 use Rattle.std.proofs.lemmas.Bool.{and_from}
-use Rattle.std.specs.Prelude.{Bool, Contains, List, None, Option, Some, false, is_none, is_some, length, nat_lt, not, option_map, true, [], ℕ, ◌&&◌, ◌++◌, ◌-◌, ◌==◌, ◌||◌, ◌∷◌, ◌≡◌, ◌≤◌, ◌⊎◌}
+use Rattle.std.specs.Prelude.{Bool, Contains, List, None, Option, Some, false, is_none, is_some, length, nat_lt, not, option_map, true, [], ℕ, ◌&&◌, ◌-◌, ◌==◌, ◌||◌, ◌≡◌, ◌≤◌}
 
 -- ---- the call that is sampled
 
@@ -133,9 +133,6 @@ none_later w u m n turn k i same none =
     let b : Machine = change_call n turn a in
     found_on u i b (ap (machine_at u) same ∙ k.later) ∙ found_moves i a b refl
     ∙ ap (option_map (moved b)) (sym (found_on w i a (ap (machine_at w) same ∙ k.at)) ∙ none)
-
-counts_if : World → List ℕ → ℕ → SessionId → Found → IdSession → Bool → IdSession
-counts_if w path offset i f s b = elim b [ false ↦ blank | true ↦ s ]
 
 -- Nothing that matters was sampled.
 same_after : (w u : World) (path : List ℕ) (offset n j : ℕ) (i : SessionId) (f : Found) → SameSector w u path offset → session_of_world w i ≡ Some f

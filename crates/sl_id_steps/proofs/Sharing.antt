@@ -1,6 +1,6 @@
 -- What stands at the place of an id is of its lockspace, and so is each session that has begun there; of one daemon's such sessions each is
 -- over before the next.
-use Rattle.sl_area.specs.Layouts.{Layout, layout_with, record_in}
+use Rattle.sl_area.specs.Layouts.{Layout, record_in}
 use Rattle.sl_area.specs.Places.{delta_offset, in_area}
 use Rattle.sl_front_law.proofs.Having.{contains_append}
 use Rattle.sl_id_state.proofs.Bridge.{known}
@@ -8,7 +8,7 @@ use Rattle.sl_id_state.proofs.Proven.{deciding_reads_have_watched, grounds, join
 use Rattle.sl_id_state.proofs.SampleFrames.{deciding_is, join_is, kept, one_sector, read_is_own}
 use Rattle.sl_id_state.proofs.Steps.{is_sampled}
 use Rattle.sl_id_state.specs.Facts.{HasWatched}
-use Rattle.sl_id_state.specs.IdStates.{deciding_sample, has_begun, is_sector_of, join_course}
+use Rattle.sl_id_state.specs.IdStates.{deciding_sample, has_begun, is_sector_of}
 use Rattle.sl_id_state.specs.Promises.{IsIdPlace}
 use Rattle.sl_place_law.proofs.Areas.{lockspace_aligned, one_lockspace, same_base}
 use Rattle.sl_place_law.proofs.Beginnings.{In_lockspace, In_resource, IsInitial}
@@ -26,14 +26,14 @@ use Rattle.sl_sector.specs.declared.sector.DeltaRec.{DeltaRec}
 use Rattle.sl_sector.specs.declared.sector.Rec.TheVariants.{DeltaIs}
 use Rattle.sl_session_law.proofs.Making.{contains_cases, contains_first, contains_more, contains_none}
 use Rattle.sl_session_law.proofs.Owning.{got_inside}
-use Rattle.sl_sessions.specs.Sessions.{Session, is_join_call, sessions}
+use Rattle.sl_sessions.specs.Sessions.{sessions}
 use Rattle.sl_trace.specs.Traces.{same_place}
 use Rattle.sl_trace.specs.declared.effects.JoinStep.TheVariants.{DecidingRead, FirstRead}
 use Rattle.sl_words.proofs.CaseLaws.{false_is_true, none_some, some_value}
 use Rattle.sl_words.proofs.WordLaws.{and_true}
 use Rattle.std.proofs.Common.{ap, arith, inl, inr, refl, subst, sym, tests, ◌∙◌}
 use Rattle.std.proofs.lemmas.Slice.Eq.{bytes_eq-Decides}
-use Rattle.std.specs.Prelude.{Bool, Contains, IsTrue, List, None, Ok, Option, Some, bytes_eq, false, is_none, is_some, length, true, [], ℕ, ◌&&◌, ◌*◌, ◌++◌, ◌+◌, ◌==◌, ◌||◌, ◌∷◌, ◌≡◌, ◌≤◌, ◌⊎◌}
+use Rattle.std.specs.Prelude.{Bool, Contains, IsTrue, List, None, Option, Some, bytes_eq, false, is_none, is_some, length, true, [], ℕ, ◌*◌, ◌+◌, ◌==◌, ◌||◌, ◌∷◌, ◌≡◌, ◌≤◌, ◌⊎◌}
 
 -- ---- the line of the place
 

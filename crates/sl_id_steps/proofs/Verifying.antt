@@ -1,12 +1,10 @@
 -- A verify read that is sampled, and shows the own claim: its session has verified it.
-use Rattle.sl_clocks.specs.Points.{reading}
-use Rattle.sl_id_state.proofs.Bridge.{known}
 use Rattle.sl_id_state.proofs.Keeping.{own_call}
 use Rattle.sl_id_state.proofs.LandingFrames.{landing_at, same_landings}
-use Rattle.sl_id_state.proofs.Proven.{claims_have_decided, grounds, join_reads_are_own}
+use Rattle.sl_id_state.proofs.Proven.{claims_have_decided, join_reads_are_own}
 use Rattle.sl_id_state.proofs.SampleFrames.{join_is, one_sector, read_is_own}
 use Rattle.sl_id_state.specs.Facts.{HasClaimed, HasDecided}
-use Rattle.sl_id_state.specs.IdStates.{claim_bytes, deciding_sample, has_begun, id_state, index_of, is_sector_of, join_course, name_of, said_by, session_at, standing_of, verifying_sample}
+use Rattle.sl_id_state.specs.IdStates.{claim_bytes, deciding_sample, has_begun, id_state, index_of, is_sector_of, name_of, said_by, session_at, standing_of, verifying_sample}
 use Rattle.sl_id_steps.proofs.Alive.{IsReading, has_job, not_over, unjoined, unrefused}
 use Rattle.sl_id_steps.proofs.Around.{SamplesOne, equal_bytes, is_here, newest_last, stood_after, stood_before}
 use Rattle.sl_id_steps.proofs.ClaimLanding.{LandedHere, landed_here}
@@ -15,7 +13,7 @@ use Rattle.sl_id_steps.proofs.Sampled.{same_parts, sampled_found, stands_with}
 use Rattle.sl_ids.proofs.DerivedLaws.{waits}
 use Rattle.sl_ids.specs.Guards.{terms_of}
 use Rattle.sl_ids.specs.Invariant.{Invariant}
-use Rattle.sl_ids.specs.State.{Session as IdSession, State, moment, shown}
+use Rattle.sl_ids.specs.State.{State}
 use Rattle.sl_ids.specs.Steps.{Verify, after_verifying}
 use Rattle.sl_moment_law.proofs.Following.{drift_between, kept_past}
 use Rattle.sl_moment_law.proofs.Stamps.{answer_is_stamp, made_is_stamp}
@@ -23,17 +21,16 @@ use Rattle.sl_moment_law.specs.Moments.{Of_stamp, point_of}
 use Rattle.sl_run.specs.Events.{sample_at, write_bytes}
 use Rattle.sl_run.specs.Runs.{Happening}
 use Rattle.sl_run.specs.Safety.{Found, LawfulRun, SessionId, is_over, session_of_world, trace_of, world_at}
-use Rattle.sl_run.specs.Worlds.{Course, Landing, Program, Sampling, World, history_of, is_landed, landed_at}
+use Rattle.sl_run.specs.Worlds.{Course, Program, Sampling, World, history_of, is_landed, landed_at}
 use Rattle.sl_run.specs.declared.header.Header.{Header}
-use Rattle.sl_sample_law.specs.Samples.{numbered_landing}
-use Rattle.sl_sessions.specs.Sessions.{joined_after, refused_after}
+use Rattle.sl_sessions.specs.Sessions.{joined_after}
 use Rattle.sl_trace.specs.declared.effects.JoinStep.TheVariants.{ClaimWrite, VerifyRead}
 use Rattle.sl_watchdog_law.specs.Acting.{acting_stamp}
 use Rattle.sl_words.proofs.CaseLaws.{none_some}
 use Rattle.sl_words.specs.Words.{some_is}
-use Rattle.std.proofs.Common.{ap, arith, inl, inr, refl, subst, sym, ◌∙◌}
+use Rattle.std.proofs.Common.{ap, arith, refl, subst, sym, ◌∙◌}
 use Rattle.std.specs.Option.{option_map_or}
-use Rattle.std.specs.Prelude.{Bool, Contains, List, None, Option, Some, false, is_none, is_some, length, option_map, true, ℕ, ◌+◌, ◌<◌, ◌||◌, ◌≡◌, ◌≤◌}
+use Rattle.std.specs.Prelude.{Bool, List, None, Option, Some, false, is_none, is_some, length, option_map, true, ℕ, ◌<◌, ◌||◌, ◌≡◌, ◌≤◌}
 
 -- A verify read that is sampled now and shows the own claim.
 pub record VerifiesNow (p : Program) (h : Header) (xs : List Happening) (v : World) (path : List ℕ) (offset n j : ℕ) (i : SessionId) (f : Found) (c : Course) : Type 0 where

@@ -1,10 +1,15 @@
 //! How the events of a lawful run are steps of an id.
 
-ghost use Rattle.sl_id_steps.specs.Parts.{EndingsGoOn, OwnStepsGoOn, QuietChangesGoOn};
+ghost use Rattle.sl_id_steps.specs.Parts.{EndingsGoOn, OwnStepsGoOn, QuietChangesGoOn, SamplingsGoOn};
 
 /// What changes nothing of an id.
 pub fn quiet_changes_go_on()
     ensures { QuietChangesGoOn }
+{}
+
+/// A read is sampled.
+pub fn samplings_go_on()
+    ensures { SamplingsGoOn }
 {}
 
 /// A daemon or its machine ends.
