@@ -32,7 +32,7 @@ use Rattle.sl_session_law.proofs.Owning.{got_inside}
 use Rattle.sl_session_law.proofs.Staying.{refused_more}
 use Rattle.sl_session_law.specs.Promises.{IsSession as IsSessionOf}
 use Rattle.sl_sessions.specs.Sessions.{Session, calls_of, delta_written, free_write, is_free_purpose, is_join_call, joined_after, refused_after, removed_after, sessions}
-use Rattle.sl_trace.specs.Traces.{Setting, Submitted, Trace, record_of}
+use Rattle.sl_trace.specs.Traces.{Setting, Submitted, Trace, new_call, record_of}
 use Rattle.sl_trace.specs.declared.effects.Call.{Call}
 use Rattle.sl_trace.specs.declared.effects.JoinStep.TheVariants.{ClaimWrite, FirstRenewal}
 use Rattle.sl_trace.specs.declared.effects.JoinStep.{JoinStep}
@@ -125,10 +125,10 @@ runs_by false c d is h = absurd (false_is_true h)
 never_lands : (c : Course) → is_write_course c ≡ false → may_land c ≡ false
 never_lands c is = ap (λ b. b && is_none c.answered && is_in_flight c.fate) is
 
-same_numbers : (m n : ℕ) → (m == n) ≡ true → m ≡ n
+pub same_numbers : (m n : ℕ) → (m == n) ≡ true → m ≡ n
 same_numbers m n h = grind (arith, tests)
 
-number_is : (m n : ℕ) → m ≡ n → (m == n) ≡ true
+pub number_is : (m n : ℕ) → m ≡ n → (m == n) ≡ true
 number_is m n h = grind (arith, tests)
 
 -- A read in flight is of the daemon that runs.
@@ -235,7 +235,8 @@ no_free p h xs run i f at j job none =
           let there = find_passes (λ (c : Course). is_free_purpose c.call.purpose) (own_courses i f.machine) x.0 x.1 in
           let o = own_call w i f x.0 q there.there in
           let same = o.placed.pairs.this.call in
-          let law = frees_by f.daemon.setting (front_at o.placed.made) f.session _ o.placed.pairs.here.call.purpose o.lawful.law
+          let law = frees_by f.daemon.setting (front_at o.placed.made) f.session
+          (new_call (length o.placed.made.past) o.placed.made.entry.reading o.placed.pairs.here.call) o.placed.pairs.here.call.purpose o.lawful.law
           (ap (λ (y : Call). is_free_purpose y.purpose) same ∙ there.test) in
           absurd (unwritten p h xs run i f at j job none x.0 there.there law.0
           (record_is o.placed.pairs.here.call x.0.call.op law.0 (ap (λ (y : Call). y.op) same) law.1)

@@ -11,12 +11,12 @@ use Rattle.sl_id_state.specs.IdStates.{blank, deciding_sample, has_begun, id_sta
 use Rattle.sl_id_state.specs.Promises.{IsIdPlace}
 use Rattle.sl_id_steps.proofs.Outcomes.{one_longer}
 use Rattle.sl_id_steps.proofs.Sampled.{sampled_found, stands_sampled, stands_with}
-use Rattle.sl_id_steps.proofs.Sharing.{begun_name}
+use Rattle.sl_id_steps.proofs.Sharing.{begun_name, no_more}
 use Rattle.sl_ids.specs.State.{Session as IdSession, SessionId as IdName}
 use Rattle.sl_run.specs.Events.{sample_at}
 use Rattle.sl_run.specs.Runs.{Happening}
 use Rattle.sl_run.specs.Safety.{Found, LawfulRun, SessionId, is_over, session_of_world, world_at}
-use Rattle.sl_run.specs.Worlds.{Course, Landing, Program, World, content, first_landing, history_of, landed_at, sector_size}
+use Rattle.sl_run.specs.Worlds.{Course, Landing, Program, Sampling, World, content, first_landing, history_of, landed_at, sector_size}
 use Rattle.sl_run.specs.declared.header.Header.{Header}
 use Rattle.sl_run_law.specs.Fates.{Every}
 use Rattle.sl_sample_law.proofs.Numbering.{newest_number, number_below, number_stays}
@@ -27,7 +27,7 @@ use Rattle.sl_words.proofs.WordLaws.{and_true}
 use Rattle.sl_words.specs.Words.{greatest, some_is}
 use Rattle.std.proofs.Common.{ap, arith, inl, inr, refl, sym, tests, ◌∙◌}
 use Rattle.std.proofs.lemmas.Slice.Eq.{bytes_eq-Decides}
-use Rattle.std.specs.Prelude.{Bool, List, None, Option, Some, bytes_eq, false, length, map, nat_lt, suc, true, [], ℕ, ◌&&◌, ◌*◌, ◌+◌, ◌<◌, ◌∷◌, ◌≡◌, ◌⊎◌}
+use Rattle.std.specs.Prelude.{Bool, List, None, Option, Some, bytes_eq, false, is_some, length, map, nat_lt, suc, true, [], ℕ, ◌&&◌, ◌*◌, ◌+◌, ◌<◌, ◌||◌, ◌∷◌, ◌≡◌, ◌⊎◌}
 
 -- ---- a session whose call is sampled, before and after
 
@@ -75,6 +75,11 @@ pub stood_after : (w v : World) (path : List ℕ) (offset n j : ℕ) (i : Sessio
 stood_after w v path offset n j i f s sector begun =
     let sector_later : is_sector_of v.layout path offset f.session ≡ true = ap (λ g. is_sector_of g path offset f.session) s.same.layout ∙ sector in
     stood_before v path offset i (sampled_found w n j f) s.found sector_later begun ∙ stands_sampled w v path offset s.same n j i f
+
+-- One whose deciding read has shown what it watched has begun.
+pub now_begun : (a : Bool) (o : Option Sampling) (x : Sampling) → o ≡ Some x → (a || is_some o) ≡ true
+now_begun true o x h = refl
+now_begun false o x h = ap (λ q. is_some q) h
 
 -- ---- one that has begun
 
@@ -144,9 +149,6 @@ alone p h xs run path offset i f at alive q name x apart named begun =
 
 pub equal_bytes : (bytes : Option (List ℕ)) (xs ys : List ℕ) → bytes ≡ Some xs → some_is (λ b. bytes_eq b ys) bytes ≡ true → xs ≡ ys
 equal_bytes bytes xs ys is h = (bytes_eq-Decides xs ys).0 (sym (ap (λ o. some_is (λ b. bytes_eq b ys) o) is) ∙ h)
-
-no_more : (n s : ℕ) → n + 0 * s ≡ n
-no_more n s = omega arith
 
 -- The sector of the call is that of the place.
 pub record IsHere (w : World) (path : List ℕ) (offset : ℕ) (c : Course) : Type 0 where

@@ -2,6 +2,7 @@
 use Rattle.sl_front_law.proofs.Having.{contains_append, contains_left}
 use Rattle.sl_id_state.proofs.SampleFrames.{kept}
 use Rattle.sl_id_state.specs.IdStates.{index_of, is_left_by}
+use Rattle.sl_id_steps.proofs.Alive.{number_is, same_numbers}
 use Rattle.sl_id_steps.proofs.Sharing.{numbered_there}
 use Rattle.sl_landing_law.proofs.Listing.{one_call}
 use Rattle.sl_landing_law.proofs.Proven.{landings_are_written}
@@ -23,17 +24,11 @@ use Rattle.sl_trace.specs.Traces.{same_place}
 use Rattle.sl_words.proofs.CaseLaws.{false_is_true, not_both, one_value, some_value}
 use Rattle.sl_words.proofs.WordLaws.{and_true}
 use Rattle.sl_words.specs.Words.{some_is}
-use Rattle.std.proofs.Common.{ap, arith, inl, inr, refl, subst, sym, tests, ◌∙◌}
+use Rattle.std.proofs.Common.{ap, inl, inr, refl, subst, sym, ◌∙◌}
 use Rattle.std.proofs.lemmas.Bool.{and_from}
 use Rattle.std.proofs.lemmas.Slice.Eq.{bytes_eq-Decides}
 use Rattle.std.specs.Option.{option_map_or}
 use Rattle.std.specs.Prelude.{Bool, Contains, List, None, Option, Some, bytes_eq, false, length, true, [], ℕ, ◌&&◌, ◌==◌, ◌∷◌, ◌≡◌, ◌≤◌}
-
-same_numbers : (m n : ℕ) → (m == n) ≡ true → m ≡ n
-same_numbers m n h = grind (arith, tests)
-
-number_is : (m n : ℕ) → m ≡ n → (m == n) ≡ true
-number_is m n h = grind (arith, tests)
 
 -- ---- the landing that a call left, by its number
 

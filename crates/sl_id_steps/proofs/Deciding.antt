@@ -8,7 +8,7 @@ use Rattle.sl_id_state.specs.Facts.{HasWatched}
 use Rattle.sl_id_state.specs.IdStates.{blank, content_of, deciding_sample, generation_above, id_state, is_sector_of, join_course, kind_of, name_of, runs_still, said_by, session_at, verifying_sample, watched_bytes}
 use Rattle.sl_id_state.specs.Promises.{IsIdPlace}
 use Rattle.sl_id_steps.proofs.Alive.{IsReading, has_job, job_is, not_over, still_runs, unjoined, unrefused}
-use Rattle.sl_id_steps.proofs.Around.{SamplesOne, alone, blank_before, equal_bytes, is_here, newest_last, nothing_written, stood_after}
+use Rattle.sl_id_steps.proofs.Around.{SamplesOne, alone, blank_before, equal_bytes, is_here, newest_last, now_begun, nothing_written, stood_after}
 use Rattle.sl_id_steps.proofs.Outcomes.{IsSampledCall, ShowsNow, has_newest}
 use Rattle.sl_id_steps.proofs.Sampled.{same_parts, sampled_found, stands_with}
 use Rattle.sl_id_steps.proofs.Sharing.{first_shown, watching_name}
@@ -205,10 +205,6 @@ stands_decided p h xs v path offset n j i f c d k =
     (none_renewed (joined_after (trace_of f) f.session) (option_map_or (λ y. y.moment) (acting_stamp f.daemon f.session) 0) k.joined)
 
 -- ---- the step
-
-now_begun : (a : Bool) (o : Option Sampling) (x : Sampling) → o ≡ Some x → (a || is_some o) ≡ true
-now_begun true o x h = refl
-now_begun false o x h = ap (λ q. is_some q) h
 
 pub decides : (p : Program) (h : Header) (xs : List Happening) (v : World) (path : List ℕ) (offset n j : ℕ) (i : SessionId) (f : Found) (c : Course)
     → DecidesNow p h xs v path offset n j i f c

@@ -4,6 +4,7 @@ use Rattle.sl_landing_law.proofs.Listing.{every_one}
 use Rattle.sl_id_state.proofs.SampleFrames.{IsJoinCourse, join_is, joining_is}
 use Rattle.sl_id_state.specs.Facts.{HasClaimed, HasWatched, is_reading_step}
 use Rattle.sl_id_state.specs.IdStates.{claim_bytes, comes_before, deciding_sample, join_course, own_courses, refused_stamp, sample_showing, verifying_sample, watched_bytes}
+use Rattle.sl_id_steps.proofs.Alive.{number_is}
 use Rattle.sl_id_steps.proofs.Sampled.{join_sampled, keeps_rest, sampled_found, turned}
 use Rattle.sl_run.specs.Events.{sample_at, sampled_more, sectors_of, write_bytes}
 use Rattle.sl_run.specs.Safety.{Found, SessionId}
@@ -24,7 +25,7 @@ use Rattle.sl_trace.specs.declared.effects.Purpose.{Purpose}
 use Rattle.sl_words.proofs.CaseLaws.{is_false, none_some, not_both}
 use Rattle.sl_words.proofs.WordLaws.{and_true}
 use Rattle.sl_words.specs.Words.{choose, first_of_list, some_is}
-use Rattle.std.proofs.Common.{ap, arith, inl, inr, refl, subst, sym, tests, ◌∙◌}
+use Rattle.std.proofs.Common.{ap, arith, inl, inr, refl, subst, sym, ◌∙◌}
 use Rattle.std.proofs.lemmas.List.{append-nil}
 use Rattle.std.specs.List.{range_with_len}
 use Rattle.std.specs.Prelude.{Bool, Contains, List, None, Option, Some, bytes_eq, cond, false, filter, find, flat_map, length, map, option_and_then, option_map, suc, true, zero, [], ℕ, ◌&&◌, ◌*◌, ◌++◌, ◌+◌, ◌-◌, ◌==◌, ◌∷◌, ◌≡◌, ◌≤◌, ◌⊎◌}
@@ -156,11 +157,8 @@ untouched : (w : World) (n j : ℕ) (a : List Course) (c x : Course) → Every (
 untouched w n j a c x each has apart =
     ap (λ b. changed_if b (sampled_more w j) x) (is_false (x.call.number == n) (λ t. apart (every_one (IsOne n c) a x each has t)))
 
-number_itself : (m n : ℕ) → m ≡ n → (m == n) ≡ true
-number_itself m n h = grind (arith, tests)
-
 touched : (w : World) (n j : ℕ) (c : Course) → c.call.number ≡ n → turned w n j c ≡ sampled_more w j c
-touched w n j c is = ap (λ b. changed_if b (sampled_more w j) c) (number_itself c.call.number n is)
+touched w n j c is = ap (λ b. changed_if b (sampled_more w j) c) (number_is c.call.number n is)
 
 join_still : (w : World) (h : Header) (n j : ℕ) (i : SessionId) (f : Found) (c : Course) → IsSampledCall w h n j i f c → (step : JoinStep) (x : Course)
     → join_course i step f.machine ≡ Some x → (x ≡ c → ⊥) → join_course i step (sampled_found w n j f).machine ≡ Some x

@@ -12,7 +12,7 @@ use Rattle.sl_id_state.proofs.SectorFrames.{SameSector, sector_same, session_sam
 use Rattle.sl_id_state.proofs.StateFrames.{agree_on, name_cases, one_step}
 use Rattle.sl_id_state.specs.IdStates.{blank, deciding_sample, has_begun, id_state, is_sector_of, name_of, own_courses, session_at, session_named_so, standing_by, standing_of, verifying_sample}
 use Rattle.sl_id_state.specs.Promises.{IsIdPlace}
-use Rattle.sl_id_steps.proofs.Alive.{IsReading}
+use Rattle.sl_id_steps.proofs.Alive.{IsReading, number_is}
 use Rattle.sl_id_steps.proofs.Around.{SamplesOne}
 use Rattle.sl_id_steps.proofs.CallEvents.{CallEvent, do_flies, do_read_between, flight_is, sample_between, sample_event, sample_flies}
 use Rattle.sl_id_steps.proofs.Deciding.{DecidesNow, decides}
@@ -198,9 +198,6 @@ all_same p h now x path offset s same =
       | inl e ↦ ap (session_at u path offset) e ∙ same ∙ ap (session_at w path offset) (sym e)
       | inr apart ↦ its_others p h now x path offset s y apart
     ]) s.bounded
-
-number_is : (m n : ℕ) → m ≡ n → (m == n) ≡ true
-number_is m n h = grind (arith, tests)
 
 -- The session, found.
 record Its (p : Program) (h : Header) (now : List Happening) (x : Happening) (path : List ℕ) (offset : ℕ) (s : Sampling p h now x path offset) (f : Found) : Type 0 where

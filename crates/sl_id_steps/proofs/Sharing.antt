@@ -10,6 +10,7 @@ use Rattle.sl_id_state.proofs.Steps.{is_sampled}
 use Rattle.sl_id_state.specs.Facts.{HasWatched}
 use Rattle.sl_id_state.specs.IdStates.{deciding_sample, has_begun, is_sector_of}
 use Rattle.sl_id_state.specs.Promises.{IsIdPlace}
+use Rattle.sl_id_steps.proofs.Alive.{same_numbers}
 use Rattle.sl_place_law.proofs.Areas.{lockspace_aligned, one_lockspace, same_base}
 use Rattle.sl_place_law.proofs.Beginnings.{In_lockspace, In_resource, IsInitial}
 use Rattle.sl_place_law.proofs.Checks.{shows_its_id}
@@ -31,7 +32,7 @@ use Rattle.sl_trace.specs.Traces.{same_place}
 use Rattle.sl_trace.specs.declared.effects.JoinStep.TheVariants.{DecidingRead, FirstRead}
 use Rattle.sl_words.proofs.CaseLaws.{false_is_true, none_some, some_value}
 use Rattle.sl_words.proofs.WordLaws.{and_true}
-use Rattle.std.proofs.Common.{ap, arith, inl, inr, refl, subst, sym, tests, ◌∙◌}
+use Rattle.std.proofs.Common.{ap, arith, inl, inr, refl, subst, sym, ◌∙◌}
 use Rattle.std.proofs.lemmas.Slice.Eq.{bytes_eq-Decides}
 use Rattle.std.specs.Prelude.{Bool, Contains, IsTrue, List, None, Option, Some, bytes_eq, false, is_none, is_some, length, true, [], ℕ, ◌*◌, ◌+◌, ◌==◌, ◌||◌, ◌∷◌, ◌≡◌, ◌≤◌, ◌⊎◌}
 
@@ -59,9 +60,6 @@ one_line p h xs run path offset k l there at inside =
     (lockspace_aligned h k.lockspace run.header k.has) inside (inside_line p h xs run path offset k))
 
 -- ---- what stands there
-
-same_numbers : (m n : ℕ) → (m == n) ≡ true → m ≡ n
-same_numbers m n h = grind (arith, tests)
 
 place_is : (path other : List ℕ) (offset at : ℕ) → same_place path offset other at ≡ true → (path ≡ other) × (offset ≡ at)
 place_is path other offset at h =
@@ -122,7 +120,7 @@ pub record FirstShown (w : World) (path : List ℕ) (offset : ℕ) (first : Cour
   pub shows : IsSampleOf w first 0 sample
   pub moment : landing.moment ≤ sample.moment
 
-no_more : (n s : ℕ) → n + 0 * s ≡ n
+pub no_more : (n s : ℕ) → n + 0 * s ≡ n
 no_more n s = omega arith
 
 pub first_shown : (p : Program) (h : Header) (xs : List Happening) → LawfulRun p h xs → (path : List ℕ) (offset : ℕ) (i : SessionId) (f : Found)

@@ -6,14 +6,14 @@ use Rattle.sl_id_state.proofs.SampleFrames.{join_is, one_sector, read_is_own}
 use Rattle.sl_id_state.specs.Facts.{HasClaimed, HasDecided}
 use Rattle.sl_id_state.specs.IdStates.{claim_bytes, deciding_sample, has_begun, id_state, index_of, is_sector_of, name_of, said_by, session_at, standing_of, verifying_sample}
 use Rattle.sl_id_steps.proofs.Alive.{IsReading, has_job, not_over, unjoined, unrefused}
-use Rattle.sl_id_steps.proofs.Around.{SamplesOne, equal_bytes, is_here, newest_last, stood_after, stood_before}
+use Rattle.sl_id_steps.proofs.Around.{SamplesOne, equal_bytes, is_here, newest_last, now_begun, stood_after, stood_before}
 use Rattle.sl_id_steps.proofs.ClaimLanding.{LandedHere, landed_here}
 use Rattle.sl_id_steps.proofs.Outcomes.{IsSampledCall, ShowsNow, has_newest}
 use Rattle.sl_id_steps.proofs.Sampled.{same_parts, sampled_found, stands_with}
 use Rattle.sl_ids.proofs.DerivedLaws.{waits}
 use Rattle.sl_ids.specs.Guards.{terms_of}
 use Rattle.sl_ids.specs.Invariant.{Invariant}
-use Rattle.sl_ids.specs.State.{State}
+use Rattle.sl_ids.specs.State.{State, moment}
 use Rattle.sl_ids.specs.Steps.{Verify, after_verifying}
 use Rattle.sl_moment_law.proofs.Following.{drift_between, kept_past}
 use Rattle.sl_moment_law.proofs.Stamps.{answer_is_stamp, made_is_stamp}
@@ -30,7 +30,7 @@ use Rattle.sl_words.proofs.CaseLaws.{none_some}
 use Rattle.sl_words.specs.Words.{some_is}
 use Rattle.std.proofs.Common.{ap, arith, refl, subst, sym, ◌∙◌}
 use Rattle.std.specs.Option.{option_map_or}
-use Rattle.std.specs.Prelude.{Bool, List, None, Option, Some, false, is_none, is_some, length, option_map, true, ℕ, ◌<◌, ◌||◌, ◌≡◌, ◌≤◌}
+use Rattle.std.specs.Prelude.{Bool, List, None, Option, Some, false, is_none, is_some, length, option_map, true, ℕ, ◌+◌, ◌<◌, ◌||◌, ◌≡◌, ◌≤◌}
 
 -- A verify read that is sampled now and shows the own claim.
 pub record VerifiesNow (p : Program) (h : Header) (xs : List Happening) (v : World) (path : List ℕ) (offset n j : ℕ) (i : SessionId) (f : Found) (c : Course) : Type 0 where
@@ -57,10 +57,6 @@ record Known (p : Program) (h : Header) (xs : List Happening) (path : List ℕ) 
   lands : LandedHere (world_at p h xs) path offset i.machine claimed.claim
   now : c.made.moment ≤ (world_at p h xs).moment
   order : claimed.claim.made.step ≤ c.made.step
-
-now_begun : (a : Bool) (o : Option Sampling) (x : Sampling) → o ≡ Some x → (a || is_some o) ≡ true
-now_begun true o x h = refl
-now_begun false o x h = ap (λ q. is_some q) h
 
 not_later : (a b c : ℕ) → a < b → b ≤ c → a ≤ c
 not_later a b c h k = omega (arith, h, k)
@@ -125,6 +121,31 @@ stands_verified p h xs path offset i f c x k =
     (renewed_now (joined_after (trace_of f) f.session) (option_map_or (λ y. y.moment) (acting_stamp f.daemon f.session) 0) _ c.made.moment k.joined
     (ap (λ o. option_map_or (λ (y : Course). y.made.moment) o 0) k.claimed.only))
 
+-- Its claim landed long enough before, and not too long.
+record IsTimely (p : Program) (h : Header) (xs : List Happening) (path : List ℕ) (offset : ℕ) (i : SessionId) (c : Course) (s : State) : Type 0 where
+  waited : moment s (s.session (name_of i)).claim + (terms_of h.timing).wait < s.now
+  soon : c.made.moment < moment s (s.session (name_of i)).claim + (terms_of h.timing).hold
+
+timely : (p : Program) (h : Header) (xs : List Happening) (v : World) (path : List ℕ) (offset n j : ℕ) (i : SessionId) (f : Found) (c : Course)
+    → VerifiesNow p h xs v path offset n j i f c → Known p h xs path offset i f c → IsTimely p h xs path offset i c (id_state (world_at p h xs) path offset)
+timely p h xs v path offset n j i f c d k =
+    let s : State = id_state (world_at p h xs) path offset in
+    let q = k.claimed in
+    let at = d.reading.known.there.at in
+    let own = join_is i VerifyRead f.machine c q.only in
+    let claim = join_is i ClaimWrite f.machine q.claim q.claimed in
+    let e = claim_landing p h xs path offset i f c k in
+    let answer = answer_is_stamp f.machine q.claim q.answer claim.has q.answered.0 in
+    let made = made_is_stamp f.machine c own.has in
+    record {
+      waited = waits.waited h.timing s (s.session (name_of i)).claim (point_of q.answer) (point_of c.made)
+          (subst (λ m. m ≤ q.answer.moment) (sym e.0) (k.lands.its.before q.answer q.answered.0))
+          (drift_between p h xs d.run i.machine f.machine q.answer c.made at answer made q.answered.1) q.waited k.now;
+      soon = waits.soon h.timing s (s.session (name_of i)).claim (point_of q.claim.made) (point_of c.made) d.run.header.timing
+          (subst (λ m. q.claim.made.moment ≤ m) (sym e.0) k.lands.its.after)
+          (drift_between p h xs d.run i.machine f.machine q.claim.made c.made at (made_is_stamp f.machine q.claim claim.has) made k.order) q.in_time;
+    }
+
 pub verifies : (p : Program) (h : Header) (xs : List Happening) (v : World) (path : List ℕ) (offset n j : ℕ) (i : SessionId) (f : Found) (c : Course)
     → VerifiesNow p h xs v path offset n j i f c
     → Verify (terms_of h.timing) (id_state (world_at p h xs) path offset) (id_state v path offset) (name_of i)
@@ -134,9 +155,6 @@ verifies p h xs v path offset n j i f c d =
     let k = known_of p h xs v path offset n j i f c d in
     let q = k.claimed in
     let g : Found = sampled_found w n j f in
-    let at = d.reading.known.there.at in
-    let own = join_is i VerifyRead f.machine c q.only in
-    let claim = join_is i ClaimWrite f.machine q.claim q.claimed in
     let e = claim_landing p h xs path offset i f c k in
     let landed : (s.session (name_of i)).landed ≡ true =
     ap (λ y. y.landed) k.stands ∙ ap (λ o. some_is (λ (y : Course). is_landed y.fate) o) q.claimed ∙ q.landed in
@@ -146,8 +164,7 @@ verifies p h xs v path offset n j i f c d =
     let bytes : l.landing.bytes ≡ k.lands.landing.bytes =
     sym (equal_bytes (claim_bytes w i f) (write_bytes w q.claim.call) _ (ap (λ o. option_map (λ y. write_bytes w y.call) o) q.claimed) d.shows.shows ∙ here.bytes ∙ l.bytes)
     ∙ sym k.lands.its.bytes in
-    let answer = answer_is_stamp f.machine q.claim q.answer claim.has q.answered.0 in
-    let made = made_is_stamp f.machine c own.has in
+    let time = timely p h xs v path offset n j i f c d k in
     record {
       landed = landed;
       not_over = ap (λ y. y.over) k.stands ∙ k.over;
@@ -157,14 +174,10 @@ verifies p h xs v path offset n j i f c d =
       spelled = ap (λ x. x.shown) (landing_at w path offset (length (landed_at w path offset)) l.landing l.seen) ∙ ap (said_by w.layout) bytes
           ∙ sym e.1 ∙ spelled.spelled;
       own = spelled.spelled;
-      waited = waits.waited h.timing s (s.session (name_of i)).claim (point_of q.answer) (point_of c.made)
-          (subst (λ m. m ≤ q.answer.moment) (sym e.0) (k.lands.its.before q.answer q.answered.0))
-          (drift_between p h xs d.run i.machine f.machine q.answer c.made at answer made q.answered.1) q.waited k.now;
+      waited = time.waited;
       registered = c.made.moment;
       before = k.now;
-      soon = waits.soon h.timing s (s.session (name_of i)).claim (point_of q.claim.made) (point_of c.made) d.run.header.timing
-          (subst (λ m. q.claim.made.moment ≤ m) (sym e.0) k.lands.its.after)
-          (drift_between p h xs d.run i.machine f.machine q.claim.made c.made at (made_is_stamp f.machine q.claim claim.has) made k.order) q.in_time;
+      soon = time.soon;
       same = same_landings w v path offset d.one.same;
       changes = record {
         now = d.one.moment;
