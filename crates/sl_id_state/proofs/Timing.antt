@@ -160,7 +160,7 @@ refused_now e es j k None is none h =
     let at : r.0.at ≡ length es = ap (λ (x : Replied). x.at) (sym a.2) in
     sym (choose_some (not (is_join_done r.0.reply)) (r.0.at + 1) k r.2).1 ∙ ap (λ n. n + 1) at
 
-refused_by : (e : Entry) (es : Trace) (s : Session) (k : ℕ) (job : Option ℕ) → s.job ≡ job → refused_after es s ≡ None → refused_after (e ∷ es) s ≡ Some k → k ≡ length es + 1
+pub refused_by : (e : Entry) (es : Trace) (s : Session) (k : ℕ) (job : Option ℕ) → s.job ≡ job → refused_after es s ≡ None → refused_after (e ∷ es) s ≡ Some k → k ≡ length es + 1
 refused_by e es s k None is none h =
     absurd (none_some k (ap (λ q. elim q as (λ z. Option ℕ) [ None ↦ None | Some j ↦ option_and_then if_refused (reply_to (e ∷ es) j) ]) (sym is) ∙ h))
 refused_by e es s k (Some j) is none h =

@@ -1,6 +1,6 @@
 //! How the events of a lawful run are steps of an id.
 
-ghost use Rattle.sl_id_steps.specs.Parts.{BetweenIsBounded, EndingsGoOn, LandingsGoOn, OwnStepsGoOn, QuietChangesGoOn};
+ghost use Rattle.sl_id_steps.specs.Parts.{BetweenIsBounded, EndingsGoOn, LandingsGoOn, OwnStepsGoOn, QuietChangesGoOn, SamplingsGoOn};
 
 /// The bounds hold between an event's first change and its step.
 pub fn between_is_bounded()
@@ -15,6 +15,11 @@ pub fn quiet_changes_go_on()
 /// A write lands, is torn or is dropped.
 pub fn landings_go_on()
     ensures { LandingsGoOn }
+{}
+
+/// A read is sampled.
+pub fn samplings_go_on()
+    ensures { SamplingsGoOn }
 {}
 
 /// A daemon or its machine ends.
