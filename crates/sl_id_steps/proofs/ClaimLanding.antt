@@ -50,9 +50,13 @@ left_at p (y ∷ ls) l has is =
       | inr more ↦ left_at p ls l more is
     ])
 
-left_itself : (p : ℕ × ℕ) (l : Landing) → l.writer ≡ Some p → is_left_by p l ≡ true
-left_itself p l h =
-    ap (λ o. some_is (λ (q : ℕ × ℕ). q.0 == p.0 && q.1 == p.1) o) h ∙ and_from (p.0 == p.0) (p.1 == p.1) (number_is p.0 p.0 refl) (number_is p.1 p.1 refl)
+abbrev is_by : ℕ × ℕ → Option (ℕ × ℕ) → Bool
+is_by p o = some_is (λ (q : ℕ × ℕ). q.0 == p.0 && q.1 == p.1) o
+
+left_itself : (p : ℕ × ℕ) (l : Landing) → l.whole ≡ true → l.writer ≡ Some p → is_left_by p l ≡ true
+left_itself p l whole h =
+    and_from l.whole (is_by p l.writer) whole
+    (ap (is_by p) h ∙ and_from (p.0 == p.0) (p.1 == p.1) (number_is p.0 p.0 refl) (number_is p.1 p.1 refl))
 
 writer_by : (p : ℕ × ℕ) (o : Option (ℕ × ℕ)) → some_is (λ (q : ℕ × ℕ). q.0 == p.0 && q.1 == p.1) o ≡ true → o ≡ Some p
 writer_by p None h = absurd (false_is_true h)
@@ -128,11 +132,11 @@ landed_here p h xs run path offset m a c at distinct has landed here there =
     let inside : Contains ls l.0 =
     contains_left (landed_at w path offset) (first_landing w path offset ∷ []) l.0
     (keeps (λ x. same_place x.path x.offset path offset) w.landings l.0 (at_same l.0.path path l.0.offset offset (sym its.place.0 ∙ here) (sym its.place.1 ∙ there)) l.1) in
-    let k = left_at (m, c.call.number) ls l.0 inside (left_itself (m, c.call.number) l.0 l.2) in
+    let k = left_at (m, c.call.number) ls l.0 inside (left_itself (m, c.call.number) l.0 l.3 l.2) in
     record {
       landing = k.0;
       seen = k.1;
       its = landing_of_call p h xs run m a c at distinct has landed k.0
           (not_first w path offset (m, c.call.number) k.0 (numbered_there ls (index_of (m, c.call.number) ls) k.0 k.1) k.2)
-          (writer_by (m, c.call.number) k.0.writer k.2);
+          (writer_by (m, c.call.number) k.0.writer (and_true k.0.whole (is_by (m, c.call.number) k.0.writer) k.2).1);
     }
