@@ -1,5 +1,4 @@
 -- Of one lockspace at most one session of a daemon stands: joined, and not removed.
-use Rattle.sl_law.proofs.LawFacts.{lawful-front}
 use Rattle.sl_law.specs.Lawful.{Lawful}
 use Rattle.sl_law.specs.LawfulDelta.{Gave, LawfulClaim, LawfulDeltaCall, LawfulFirstRenewal, LawfulJoin, LawfulJoinStep, LawfulVerify}
 use Rattle.sl_law.specs.Saying.{cut_at}
@@ -17,11 +16,10 @@ use Rattle.sl_run.specs.declared.header.LockspaceLine.{LockspaceLine}
 use Rattle.sl_run.specs.declared.header.SessionLine.{SessionLine}
 use Rattle.sl_session_law.proofs.Apart.{names_are_apart}
 use Rattle.sl_session_law.proofs.Fronts.{front_answers_stay}
-use Rattle.sl_session_law.proofs.Making.{answers_stay, contains_cases, contains_more, contains_none}
 use Rattle.sl_session_law.proofs.Owning.{calls_were_lawful, got_inside, session_more, sessions_stay}
 use Rattle.sl_session_law.proofs.Staying.{ended_more, stays}
 use Rattle.sl_session_law.specs.Promises.{IsMade, IsSession, WasLawful, front_of, made_as}
-use Rattle.sl_sessions.specs.Sessions.{Session, begun_in, calls_of, ended_after, given_session, is_call_of, is_join_call, is_present, join_call, joined_after, refused_after, removed_after, same_join_step, session_numbered, sessions}
+use Rattle.sl_sessions.specs.Sessions.{Session, begun_in, calls_of, ended_after, is_call_of, is_join_call, is_present, join_call, joined_after, refused_after, removed_after, same_join_step, session_numbered, sessions}
 use Rattle.sl_trace.specs.Traces.{Answered, Setting, Submitted, Trace, submitted}
 use Rattle.sl_trace.specs.declared.effects.Entry.{Entry}
 use Rattle.sl_trace.specs.declared.effects.JoinStep.TheVariants.{ClaimWrite, DecidingRead, FirstRead, FirstRenewal, VerifyRead, WatchRead}
@@ -35,7 +33,7 @@ use Rattle.std.proofs.Common.{ap, arith, inl, inr, refl, subst, sym, ◌∙◌}
 use Rattle.std.proofs.lemmas.Bool.{cases_lt}
 use Rattle.std.proofs.lemmas.Option.{slice_get_within}
 use Rattle.std.specs.List.{cons_option}
-use Rattle.std.specs.Prelude.{AllPairs, Bool, Contains, IsTrue, List, None, Option, Some, [], bytes_eq, false, filter_map, find, is_none, length, option_map, slice_get, slice_index_or, suc, true, zero, ℕ, ◌&&◌, ◌++◌, ◌+◌, ◌<◌, ◌==◌, ◌||◌, ◌∷◌, ◌≡◌, ◌≤◌, ◌⊎◌}
+use Rattle.std.specs.Prelude.{AllPairs, Bool, Contains, IsTrue, List, None, Option, Some, [], bytes_eq, false, filter_map, find, is_none, length, option_map, slice_get, slice_index_or, suc, true, zero, ℕ, ◌++◌, ◌+◌, ◌<◌, ◌==◌, ◌||◌, ◌∷◌, ◌≡◌, ◌≤◌, ◌⊎◌}
 
 -- ---- each joining begins with a first read
 

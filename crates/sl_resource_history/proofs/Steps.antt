@@ -1,17 +1,17 @@
 -- Steps name entries: calls that were made at one step are of one entry of one daemon of one machine.
 use Rattle.sl_course_law.specs.Stamping.{stamp_in}
 use Rattle.sl_front_law.proofs.Going.{IsLast}
-use Rattle.sl_front_law.proofs.Having.{contains_append, contains_left, contains_right, in_flat}
+use Rattle.sl_front_law.proofs.Having.{contains_left, in_flat}
 use Rattle.sl_landing_law.proofs.Making.{run_made_before}
 use Rattle.sl_landing_law.proofs.Passing.{first_later, world_first, world_keeps, world_then}
-use Rattle.sl_landing_law.proofs.Stepping.{Came, IsMade, came}
+use Rattle.sl_landing_law.proofs.Stepping.{came}
 use Rattle.sl_moment_law.proofs.Ordering.{machines_ordered}
 use Rattle.sl_moment_law.specs.Orders.{CallsFall, Fall, IsTimed, life_of}
-use Rattle.sl_run.specs.Events.{daemon_number, may_happen, new_course}
+use Rattle.sl_run.specs.Events.{may_happen}
 use Rattle.sl_run.specs.Events.{machine_of}
 use Rattle.sl_run.specs.Runs.{Happening}
 use Rattle.sl_run.specs.Safety.{LawfulRun, world_at}
-use Rattle.sl_run.specs.Worlds.{Course, Daemon, Machine, Program, Stamp, World, daemons_on, machine_at, stamp_now, world_with}
+use Rattle.sl_run.specs.Worlds.{Course, Daemon, Machine, Program, Stamp, World, daemons_on, machine_at}
 use Rattle.sl_run.specs.declared.event.Event.{Event}
 use Rattle.sl_run.specs.declared.header.Header.{Header}
 use Rattle.sl_run_law.proofs.Beginnings.{begins_new}
@@ -19,7 +19,7 @@ use Rattle.sl_session_law.proofs.Making.{contains_cases, contains_first, contain
 use Rattle.sl_trace.specs.declared.effects.Effects.{Effects}
 use Rattle.sl_words.proofs.CaseLaws.{none_some, some_value}
 use Rattle.std.proofs.Common.{ap, arith, inl, inr, refl, subst, sym, tests, ◌∙◌}
-use Rattle.std.specs.Prelude.{Bool, Contains, List, None, Option, Some, [], false, flat_map, length, suc, true, ℕ, ◌++◌, ◌+◌, ◌<◌, ◌==◌, ◌∷◌, ◌≡◌, ◌≤◌, ◌⊎◌}
+use Rattle.std.specs.Prelude.{Bool, Contains, List, Option, Some, [], false, flat_map, length, true, ℕ, ◌++◌, ◌+◌, ◌<◌, ◌==◌, ◌∷◌, ◌≡◌, ◌≤◌, ◌⊎◌}
 
 -- ---- machines
 
@@ -110,15 +110,15 @@ one_life : (n : ℕ) (ds : List Daemon) (d e : Daemon) (s t : Stamp) → Fall n 
 one_life n [] d e s t h has too p q same = absurd (contains_none d has)
 one_life n (x ∷ ds) d e s t h has too p q same = by (λ here there. one_life n ds d e s t (fall_rest n (life_of x) (flat_map life_of ds) h) here there p q same) (contains_cases x ds d has) (contains_cases x ds e too)
   where
-  by : (Contains ds d → Contains ds e → d ≡ e) → (x ≡ d) ⊎ Contains ds d → (x ≡ e) ⊎ Contains ds e → d ≡ e
-  by rest (inl here) (inl hence) = sym here ∙ hence
-  by rest (inl here) (inr more) =
-      absurd (less_same s.step t.step
-      (fall_apart n (life_of x) (flat_map life_of ds) s t h (subst (λ y. IsOf y s) (sym here) p) (in_flat life_of ds e t more q)) same)
-  by rest (inr more) (inl hence) =
-      absurd (less_same t.step s.step
-      (fall_apart n (life_of x) (flat_map life_of ds) t s h (subst (λ y. IsOf y t) (sym hence) q) (in_flat life_of ds d s more p)) (sym same))
-  by rest (inr more) (inr other) = rest more other
+    by : (Contains ds d → Contains ds e → d ≡ e) → (x ≡ d) ⊎ Contains ds d → (x ≡ e) ⊎ Contains ds e → d ≡ e
+    by rest (inl here) (inl hence) = sym here ∙ hence
+    by rest (inl here) (inr more) =
+        absurd (less_same s.step t.step
+        (fall_apart n (life_of x) (flat_map life_of ds) s t h (subst (λ y. IsOf y s) (sym here) p) (in_flat life_of ds e t more q)) same)
+    by rest (inr more) (inl hence) =
+        absurd (less_same t.step s.step
+        (fall_apart n (life_of x) (flat_map life_of ds) t s h (subst (λ y. IsOf y t) (sym hence) q) (in_flat life_of ds d s more p)) (sym same))
+    by rest (inr more) (inr other) = rest more other
 
 -- ---- entries
 
@@ -170,4 +170,3 @@ timed_in n (x ∷ cs) c h has =
 pub call_timed : (p : Program) (h : Header) (xs : List Happening) → LawfulRun p h xs → (m : ℕ) (a : Machine) (c : Course) → machine_at (world_at p h xs) m ≡ Some a
     → Contains a.calls c → IsTimed c
 call_timed p h xs run m a c at has = timed_in (world_at p h xs).step a.calls c (machines_ordered p h xs run m a at).calls has
-
