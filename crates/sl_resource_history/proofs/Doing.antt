@@ -1,24 +1,24 @@
 -- A call that is done has its answer; and steps of calls begin above 0.
 use Rattle.sl_front_law.proofs.Going.{IsLast}
 use Rattle.sl_landing_law.proofs.Passing.{world_first, world_keeps, world_then}
-use Rattle.sl_landing_law.proofs.Stepping.{IsAnswered, IsMade, Step, came}
+use Rattle.sl_landing_law.proofs.Stepping.{IsMade, Step, came}
 use Rattle.sl_landing_law.proofs.Turning.{Turn}
 use Rattle.sl_moment_law.proofs.Ordering.{entries_ordered}
 use Rattle.sl_resource_history.proofs.Calls.{IsOwned}
 use Rattle.sl_resource_history.proofs.Steps.{fall_apart, stamp_there}
 use Rattle.sl_resource_history.specs.Sending.{Sent, step_of}
-use Rattle.sl_run.specs.Events.{input_of, machine_of, may_happen}
+use Rattle.sl_run.specs.Events.{input_of, machine_of}
 use Rattle.sl_run.specs.Runs.{Happening}
 use Rattle.sl_run.specs.Safety.{LawfulRun, world_at}
-use Rattle.sl_run.specs.Worlds.{Course, Daemon, Machine, Program, Stamp, World, machine_at, stamp_now, world_with}
+use Rattle.sl_run.specs.Worlds.{Course, Daemon, Machine, Program, Stamp, World, machine_at, stamp_now}
 use Rattle.sl_run.specs.declared.event.Event.{Event}
 use Rattle.sl_run.specs.declared.header.Header.{Header}
 use Rattle.sl_run_law.proofs.Beginnings.{begins_new}
 use Rattle.sl_session_law.proofs.Making.{contains_first, contains_none}
 use Rattle.sl_trace.specs.declared.effects.Effects.{Effects}
 use Rattle.sl_words.proofs.CaseLaws.{false_is_true}
-use Rattle.std.proofs.Common.{ap, arith, inl, inr, refl, subst, sym, ◌∙◌}
-use Rattle.std.specs.Prelude.{Contains, List, Some, [], true, ℕ, ◌++◌, ◌<◌, ◌∷◌, ◌≡◌, ◌⊎◌}
+use Rattle.std.proofs.Common.{ap, arith, inl, inr, subst, sym, ◌∙◌}
+use Rattle.std.specs.Prelude.{Contains, List, Some, [], true, ℕ, ◌<◌, ◌∷◌, ◌≡◌}
 
 abbrev IsClosed : Course → Type 0
 IsClosed c = (s : Stamp) × (c.answered ≡ Some s)

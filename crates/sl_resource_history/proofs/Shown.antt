@@ -4,11 +4,11 @@ use Rattle.sl_area.specs.Places.{block_offset, in_area, leader_offset, request_o
 use Rattle.sl_course_law.proofs.Distinct.{each_distinct}
 use Rattle.sl_front_law.proofs.Having.{contains_append}
 use Rattle.sl_landing_law.proofs.Listing.{one_call}
-use Rattle.sl_landing_law.specs.Landings.{IsWrittenBy, LeftBy}
+use Rattle.sl_landing_law.specs.Landings.{LeftBy}
 use Rattle.sl_law.specs.LawfulArea.{IsAreaRead, IsBlockRead, IsRightRead, record_offset}
 use Rattle.sl_leases.specs.Leases.{block_of_record, is_area_read, is_block_read, is_on, spot_of_call}
 use Rattle.sl_place_law.proofs.Areas.{IsSized, is_within}
-use Rattle.sl_place_law.proofs.Finding.{equal_numbers, filtered, numbered_inside, place_is, same_number}
+use Rattle.sl_place_law.proofs.Finding.{equal_numbers, filtered, numbered_inside, place_is, same_number, same_text}
 use Rattle.sl_place_law.proofs.Proven.{promised, resources_hold_leases}
 use Rattle.sl_place_law.proofs.Reading.{call_law, session_inside}
 use Rattle.sl_place_law.proofs.Seats.{sized_in}
@@ -28,7 +28,7 @@ use Rattle.sl_sector.specs.declared.sector.Block.{Block}
 use Rattle.sl_sector.specs.declared.sector.Rec.TheVariants.{BlockIs, DeltaIs, LeaderIs, RequestIs, ValueIs}
 use Rattle.sl_sector.specs.declared.sector.Rec.{Rec}
 use Rattle.sl_session_law.proofs.Making.{contains_cases, contains_none}
-use Rattle.sl_session_law.specs.Promises.{front_of, made_as}
+use Rattle.sl_session_law.specs.Promises.{made_as}
 use Rattle.sl_sessions.specs.Sessions.{Session}
 use Rattle.sl_trace.specs.Traces.{Setting, Submitted, new_call, record_of, same_place}
 use Rattle.sl_trace.specs.declared.effects.Call.{Call}
@@ -44,7 +44,7 @@ use Rattle.sl_words.proofs.WordLaws.{and_true}
 use Rattle.std.proofs.Common.{ap, arith, inl, inr, refl, subst, sym, ◌∙◌}
 use Rattle.std.proofs.lemmas.Bool.{and_from, leb-true}
 use Rattle.std.specs.Option.{option_map_or}
-use Rattle.std.specs.Prelude.{Bool, Contains, IsTrue, List, None, Option, Some, [], bytes_eq, cond, false, find, if◌then◌else◌, is_some, nat_le, option_and_then, slice_get, true, ℕ, ◌&&◌, ◌*◌, ◌++◌, ◌+◌, ◌-◌, ◌<◌, ◌==◌, ◌∷◌, ◌≡◌, ◌≤◌, ◌⊎◌}
+use Rattle.std.specs.Prelude.{Bool, Contains, IsTrue, List, None, Option, Some, [], bytes_eq, false, find, if◌then◌else◌, is_some, nat_le, option_and_then, slice_get, true, ℕ, ◌*◌, ◌+◌, ◌-◌, ◌<◌, ◌==◌, ◌∷◌, ◌≡◌, ◌≤◌, ◌⊎◌}
 
 -- ---- a host's place
 
@@ -220,3 +220,122 @@ stands_there p h xs run r there k host i l at =
       | inl landed ↦ inr (block_landing p h xs run r there k host l landed its.0 its.1)
       | inr first ↦ inl first
     ]
+
+-- ---- what a read shows
+
+abbrev call_for : Purpose → Submitted
+call_for p = new_call 0 0 (record { number = 0; session = 0; purpose = p; path = []; offset = 0; op = ReadSectors 0 })
+
+abbrev looks_for : Purpose → Bool
+looks_for p = is_block_read (call_for p)
+
+abbrev area_for : Purpose → Bool
+area_for p = is_area_read (call_for p)
+
+-- A read of all blocks is a read of the area, or of the blocks alone, from its first sector.
+abbrev pub IsPlaced : Setting → Spot → Submitted → Type 0
+IsPlaced st at m = ((is_area_read m ≡ true) × IsAreaRead st at m) ⊎ ((is_area_read m ≡ false) × IsBlockRead st at m)
+
+placed_step : (st : Setting) (at : Spot) (m : Submitted) (work : Work) (step : LeaseStep) → m.call.purpose ≡ Lease work step → is_block_read m ≡ true
+    → IsRightRead st at m (Lease work step) → IsPlaced st at m
+placed_step st at m work (ReadArea name) is h right = inl (ap area_for is, right)
+placed_step st at m work ReadBeforeFree is h right = inl (ap area_for is, right)
+placed_step st at m work Phase1Read is h right = inr (ap area_for is, right)
+placed_step st at m work Phase2Read is h right = inr (ap area_for is, right)
+placed_step st at m work Phase1Write is h right = absurd (false_is_true (sym (ap looks_for is) ∙ h))
+placed_step st at m work Phase2Write is h right = absurd (false_is_true (sym (ap looks_for is) ∙ h))
+placed_step st at m work TakeLeader is h right = absurd (false_is_true (sym (ap looks_for is) ∙ h))
+placed_step st at m work SetMode is h right = absurd (false_is_true (sym (ap looks_for is) ∙ h))
+placed_step st at m work FreeLeader is h right = absurd (false_is_true (sym (ap looks_for is) ∙ h))
+placed_step st at m work ClearMode is h right = absurd (false_is_true (sym (ap looks_for is) ∙ h))
+
+placed_for : (st : Setting) (at : Spot) (m : Submitted) (p : Purpose) → m.call.purpose ≡ p → is_block_read m ≡ true → IsRightRead st at m p → IsPlaced st at m
+placed_for st at m (Lease work step) is h right = placed_step st at m work step is h right
+placed_for st at m (RequestRead j) is h right = absurd (false_is_true (sym (ap looks_for is) ∙ h))
+placed_for st at m (RequestWrite j o) is h right = absurd (false_is_true (sym (ap looks_for is) ∙ h))
+placed_for st at m (ValueWrite j) is h right = absurd (false_is_true (sym (ap looks_for is) ∙ h))
+placed_for st at m (ValueRead j) is h right = absurd (false_is_true (sym (ap looks_for is) ∙ h))
+placed_for st at m (Joining j step) is h right = absurd (false_is_true (sym (ap looks_for is) ∙ h))
+placed_for st at m Renewal is h right = absurd (false_is_true (sym (ap looks_for is) ∙ h))
+placed_for st at m Survey is h right = absurd (false_is_true (sym (ap looks_for is) ∙ h))
+placed_for st at m (Leaving j) is h right = absurd (false_is_true (sym (ap looks_for is) ∙ h))
+placed_for st at m SeeRequest is h right = absurd (false_is_true (sym (ap looks_for is) ∙ h))
+
+-- A read of all blocks of a resource, as its trace has it.
+pub read_placed : (p : Program) (h : Header) (xs : List Happening) → LawfulRun p h xs → (r : ResourceLine) → Contains h.resources r → (x : Sent) (o : IsOwned (world_at p h xs) x)
+    → is_on (world_at p h xs).layout (spot_of_line r) x.course.call ≡ true → reads_blocks x.course ≡ true
+    → IsPlaced o.trace.daemon.setting (spot_of_line r) (made_as (made_of o))
+read_placed p h xs run r there x o on reads =
+    let w : World = world_at p h xs in
+    let st : Setting = o.trace.daemon.setting in
+    let q : Submitted = o.trace.submitted_as in
+    let d = made_of o in
+    let law = call_law st o.trace.daemon.trace o.session q d o.trace.lawful o.its o.mine in
+    let spot : spot_of_call st.layout (made_as d) ≡ spot_of_line r =
+    ap (λ (g : Layout). spot_of_call g (made_as d)) (owner_layout p h xs run x o)
+    ∙ spot_is p h xs run r there (made_as d) (ap (is_on w.layout (spot_of_line r)) o.trace.is.call ∙ on) in
+    placed_for st (spot_of_line r) (made_as d) q.call.purpose refl (ap (λ (c : Call). is_block_read (new_call 0 0 c)) o.trace.is.call ∙ reads)
+    (subst (λ at. IsRightRead st at (made_as d) q.call.purpose) spot (law.0.area.0.reads d.index q.call o.session d.call law.1))
+
+place_of_area : (base n k : ℕ) → n ≡ 512 → base + (k + 1) * n ≡ base + n * (k + 1)
+place_of_area base n k h = subst (λ m. base + (k + 1) * m ≡ base + m * (k + 1)) (sym h) (omega arith)
+
+place_of_block : (base n k : ℕ) → n ≡ 512 → 1 ≤ k → base + n * (1 + 1) + (k - 1) * n ≡ base + n * (k + 1)
+place_of_block base n k h low = subst (λ m. base + m * (1 + 1) + (k - 1) * m ≡ base + m * (k + 1)) (sym h) (omega (arith, low))
+
+sector_if : (b : Bool) (is : Bool) (k : ℕ) → is ≡ b → (if is then k + 1 else k - 1) ≡ (if b then k + 1 else k - 1)
+sector_if b is k h = ap (λ (x : Bool). if x then k + 1 else k - 1) h
+
+place_by : (st : Setting) (w : World) (r : ResourceLine) (c : Course) (q : Submitted) (k : ℕ) → st.layout ≡ w.layout → IsSized w.layout → is_host w k ≡ true → q.call ≡ c.call
+    → IsPlaced st (spot_of_line r) q → sector_place w c (sector_number c k) ≡ block_offset w.layout r.offset k
+place_by st w r c q k layout z host call (inl area) =
+    let kind : is_area_read (new_call 0 0 c.call) ≡ true = ap (λ (y : Call). is_area_read (new_call 0 0 y)) (sym call) ∙ area.0 in
+    ap (λ n. c.call.offset + n * w.layout.sector) (sector_if true (is_area_read (new_call 0 0 c.call)) k kind)
+    ∙ ap (λ n. n + (k + 1) * w.layout.sector) (ap (λ (y : Call). y.offset) (sym call) ∙ area.1.0) ∙ place_of_area r.offset w.layout.sector k z.sector
+place_by st w r c q k layout z host call (inr alone) =
+    let kind : is_area_read (new_call 0 0 c.call) ≡ false = ap (λ (y : Call). is_area_read (new_call 0 0 y)) (sym call) ∙ alone.0 in
+    ap (λ n. c.call.offset + n * w.layout.sector) (sector_if false (is_area_read (new_call 0 0 c.call)) k kind)
+    ∙ ap (λ n. n + (k - 1) * w.layout.sector) (ap (λ (y : Call). y.offset) (sym call) ∙ alone.1.0 ∙ ap (λ (g : Layout). block_offset g r.offset 1) layout)
+    ∙ place_of_block r.offset w.layout.sector k z.sector (host_range w k host).0
+
+-- The sector of a host's block in a read is the host's place.
+pub sector_is : (p : Program) (h : Header) (xs : List Happening) → LawfulRun p h xs → (r : ResourceLine) → Contains h.resources r → (x : Sent) (o : IsOwned (world_at p h xs) x)
+    → is_on (world_at p h xs).layout (spot_of_line r) x.course.call ≡ true → reads_blocks x.course ≡ true → (k : ℕ) → is_host (world_at p h xs) k ≡ true
+    → sector_place (world_at p h xs) x.course (sector_number x.course k) ≡ block_offset (world_at p h xs).layout r.offset k
+sector_is p h xs run r there x o on reads k host =
+    place_by o.trace.daemon.setting (world_at p h xs) r x.course (made_as (made_of o)) k (owner_layout p h xs run x o) (sized_in p h xs run) host o.trace.is.call
+    (read_placed p h xs run r there x o on reads)
+
+-- What a read shows of a host: the landing and the sample of it.
+pub record IsShownOf (w : World) (r : ResourceLine) (x : Sent) (k : ℕ) (l : Landing) : Type 0 where
+  pub sampling : Sampling
+  pub taken : slice_get x.course.samples (sector_number x.course k) ≡ Some sampling
+  pub sample : IsSampleOf w x.course (sector_number x.course k) sampling
+  pub place : numbered_landing (history_of w r.path (block_offset w.layout r.offset k)) sampling.index ≡ Some l
+  pub is : sample.landing ≡ l
+
+sample_by : (w : World) (at : Spot) (k : ℕ) (l : Landing) (o : Option Sampling)
+    → option_and_then (λ (s : Sampling). numbered_landing (history_of w at.path (block_offset w.layout at.base k)) s.index) o ≡ Some l
+    → (s : Sampling) × (o ≡ Some s) × (numbered_landing (history_of w at.path (block_offset w.layout at.base k)) s.index ≡ Some l)
+sample_by w at k l None is = absurd (none_some l is)
+sample_by w at k l (Some s) is = (s, refl, is)
+
+pub shown_of : (p : Program) (h : Header) (xs : List Happening) → LawfulRun p h xs → (r : ResourceLine) → Contains h.resources r → (x : Sent) (o : IsOwned (world_at p h xs) x)
+    → is_on (world_at p h xs).layout (spot_of_line r) x.course.call ≡ true → reads_blocks x.course ≡ true → (k : ℕ) → is_host (world_at p h xs) k ≡ true
+    → (l : Landing) → landing_shown (world_at p h xs) (spot_of_line r) x.course k ≡ Some l → IsShownOf (world_at p h xs) r x k l
+shown_of p h xs run r there x o on reads k host l shows =
+    let w : World = world_at p h xs in
+    let c : Course = x.course in
+    let s = sample_by w (spot_of_line r) k l (slice_get c.samples (sector_number c k)) shows in
+    let sample = samples_are_landings p h xs run x.machine o.there.machine c (sector_number c k) s.0 o.there.at o.there.has s.1 in
+    let path : c.call.path ≡ r.path = same_text c.call.path r.path (and_true (bytes_eq c.call.path r.path) (in_area w.layout r.offset c.call.offset) on).0 in
+    let here : numbered_landing (history_of w c.call.path (sector_place w c (sector_number c k))) s.0.index ≡ Some l =
+    ap (λ n. numbered_landing (history_of w c.call.path n) s.0.index) (sector_is p h xs run r there x o on reads k host)
+    ∙ ap (λ y. numbered_landing (history_of w y (block_offset w.layout r.offset k)) s.0.index) path ∙ s.2 in
+    record {
+      sampling = s.0;
+      taken = s.1;
+      sample = sample;
+      place = s.2;
+      is = one_value sample.landing l (numbered_landing (history_of w c.call.path (sector_place w c (sector_number c k))) s.0.index) sample.seen here;
+    }

@@ -1,1 +1,8 @@
 //! What a lawful run promises of the history of each resource.
+
+ghost use Rattle.sl_resource_history.specs.Promises.{HistoriesAreRegisters};
+
+/// Its blocks are registers.
+pub fn histories_are_registers()
+    ensures { HistoriesAreRegisters }
+{}
