@@ -238,7 +238,7 @@ given_apart st es s t differ its other name one two =
     let x = given_one st t.number t (given_first st es t.number t other two) in
     differ_at st.given s.number t.number g.0 x.0 differ g.1 x.1 (sym g.2 ∙ name ∙ x.2)
 
-head_pairs : {A : Type 0} (R : A → A → Type 0) (x : A) (xs : List A) (i : ℕ) (y : A) → AllPairs R (x ∷ xs) → slice_get xs i ≡ Some y → R x y
+pub head_pairs : {A : Type 0} (R : A → A → Type 0) (x : A) (xs : List A) (i : ℕ) (y : A) → AllPairs R (x ∷ xs) → slice_get xs i ≡ Some y → R x y
 head_pairs {A} R x xs i y all at =
     let lt : i < length xs = slice_get_within xs i y at in
     subst (λ (z : A). R x z) (got_index xs i y x at) (all zero (suc i) x (omega arith) (omega (arith, lt)))
@@ -248,7 +248,7 @@ head_pairs {A} R x xs i y all at =
     got_index (v ∷ zs) zero z d h = some_value v z h
     got_index (v ∷ zs) (suc k) z d h = got_index zs k z d h
 
-tail_pairs : {A : Type 0} (R : A → A → Type 0) (x : A) (xs : List A) → AllPairs R (x ∷ xs) → AllPairs R xs
+pub tail_pairs : {A : Type 0} (R : A → A → Type 0) (x : A) (xs : List A) → AllPairs R (x ∷ xs) → AllPairs R xs
 tail_pairs R x xs all i j d lt less = all (suc i) (suc j) d (omega (arith, lt)) (omega (arith, less))
 
 given_line_by : (h : Header) (m : ℕ) (s : SessionLine) (g : Given) (o : Option LockspaceLine) (reading : ℕ)

@@ -220,7 +220,7 @@ active_stands st t s h =
     record { entries = r.0; joined = r.1; kept = r.2 }
 
 -- Where a session made a call on an area it stood.
-stood : (st : Setting) (es : Trace) (s : Session) (q : Submitted) (d : IsMade es q) → Lawful st es → IsSession st es s → q.call.session ≡ s.number → is_area_work q.call.purpose ≡ true
+pub stood : (st : Setting) (es : Trace) (s : Session) (q : Submitted) (d : IsMade es q) → Lawful st es → IsSession st es s → q.call.session ≡ s.number → is_area_work q.call.purpose ≡ true
     → Stands (d.entry ∷ d.past) s
 stood st es s q d h its mine area =
     let law = call_law st es s q d h its mine in
@@ -281,16 +281,16 @@ order {A} (x ∷ xs) a b here there = by (λ p q. order xs a b p q) (contains_ca
 -- ---- steps name calls
 
 -- A call of a daemon with its session, on an area.
-record IsTurn (a : Machine) (d : Daemon) (at : Spot) (c : Course) (q : Submitted) (s : Session) : Type 0 where
-  has : Contains a.calls c
-  inside : Contains (submitted d.trace) q
-  is : IsCourseOf d c q
-  its : IsSession d.setting d.trace s
-  mine : q.call.session ≡ s.number
-  work : is_block_work q ≡ true
-  area : is_area_work q.call.purpose ≡ true
-  on : is_on d.setting.layout at q.call ≡ true
-  spot : spot_of_call d.setting.layout q ≡ at
+pub record IsTurn (a : Machine) (d : Daemon) (at : Spot) (c : Course) (q : Submitted) (s : Session) : Type 0 where
+  pub has : Contains a.calls c
+  pub inside : Contains (submitted d.trace) q
+  pub is : IsCourseOf d c q
+  pub its : IsSession d.setting d.trace s
+  pub mine : q.call.session ≡ s.number
+  pub work : is_block_work q ≡ true
+  pub area : is_area_work q.call.purpose ≡ true
+  pub on : is_on d.setting.layout at q.call ≡ true
+  pub spot : spot_of_call d.setting.layout q ≡ at
 
 late_by : (a b s : ℕ) → a ≡ b → s ≤ a → b < s → ⊥
 late_by a b s same le lt = omega (arith, same, le, lt)
@@ -343,7 +343,7 @@ one_turn p h xs run m a d here has law at c e q k s t one two same name =
     one_call a.calls c e (each_distinct p h xs run m a here) one.has two.has
     (equal_numbers c.call.number e.call.number (ap (λ x. x.number) (sym one.is.call) ∙ ap (λ (x : Submitted). x.call.number) call ∙ ap (λ x. x.number) two.is.call))
 
-turn_of : (p : Program) (h : Header) (xs : List Happening) → LawfulRun p h xs → (r : ResourceLine) → Contains h.resources r → (x : Sent) (k : IsWork (world_at p h xs) r x)
+pub turn_of : (p : Program) (h : Header) (xs : List Happening) → LawfulRun p h xs → (r : ResourceLine) → Contains h.resources r → (x : Sent) (k : IsWork (world_at p h xs) r x)
     → IsTurn k.owned.there.machine k.owned.trace.daemon (spot_of_line r) x.course k.owned.trace.submitted_as k.owned.session
 turn_of p h xs run r there x k =
     let o = k.owned in
@@ -362,7 +362,7 @@ turn_of p h xs run r there x k =
       spot = ap (λ (g : Layout). spot_of_call g q) layout ∙ spot_is p h xs run r there q on;
     }
 
-sent_is : (x y : Sent) → x.machine ≡ y.machine → x.course ≡ y.course → x ≡ y
+pub sent_is : (x y : Sent) → x.machine ≡ y.machine → x.course ≡ y.course → x ≡ y
 sent_is x y m c =
     ap (λ n. let z : Sent = record { machine = n; course = x.course } in z) m ∙ ap (λ d. let z : Sent = record { machine = y.machine; course = d } in z) c
 
@@ -391,7 +391,7 @@ steps_name p h xs run r there x y one two same =
 
 -- ---- what is work
 
-write_is : (o : Op) (r : Rec) → record_of o ≡ Some r → is_write o ≡ true
+pub write_is : (o : Op) (r : Rec) → record_of o ≡ Some r → is_write o ≡ true
 write_is (ReadSectors n) r h = absurd (none_some r h)
 write_is (WriteRecord s) r h = refl
 
