@@ -123,10 +123,10 @@ joined_then p h xs run r x k =
 
 -- ---- whose a landing is
 
-abbrev Name : Type 0
+abbrev pub Name : Type 0
 Name = ℕ × ℕ
 
-abbrev name_of : Sent → Name
+abbrev pub name_of : Sent → Name
 name_of x = (x.machine, x.course.call.number)
 
 -- Two calls of one machine and one number are one.
