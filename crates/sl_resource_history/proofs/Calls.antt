@@ -59,10 +59,10 @@ use Rattle.std.specs.Prelude.{Bool, Contains, IsTrue, List, None, Option, Some, 
 
 -- ---- all that was sent
 
-abbrev IsNumbered : {A : Type 0} → ℕ → List A → ℕ × A → Type 0
+abbrev pub IsNumbered : {A : Type 0} → ℕ → List A → ℕ × A → Type 0
 IsNumbered k xs p = (i : ℕ) × (p.0 ≡ k + i) × (slice_get xs i ≡ Some p.1)
 
-numbered_in : {A : Type 0} (k : ℕ) (xs : List A) (p : ℕ × A) → Contains (enumerate_from k xs) p → IsNumbered k xs p
+pub numbered_in : {A : Type 0} (k : ℕ) (xs : List A) (p : ℕ × A) → Contains (enumerate_from k xs) p → IsNumbered k xs p
 numbered_in k [] p there = absurd (contains_none p there)
 numbered_in {A} k (x ∷ xs) p there = by (λ old. numbered_in (k + 1) xs p old) (contains_cases (k, x) (enumerate_from (k + 1) xs) p there) where
   by : (Contains (enumerate_from (k + 1) xs) p → IsNumbered (k + 1) xs p) → ((k, x) ≡ p) ⊎ Contains (enumerate_from (k + 1) xs) p → IsNumbered k (x ∷ xs) p
@@ -80,7 +80,7 @@ numbered_at k (x ∷ xs) (suc i) a at =
     subst (λ n. Contains (enumerate_from k (x ∷ xs)) (n, a)) same
     (contains_more (k, x) (enumerate_from (k + 1) xs) ((k + 1) + i, a) (numbered_at (k + 1) xs i a at))
 
-abbrev sent_by : ℕ × Machine → List Sent
+abbrev pub sent_by : ℕ × Machine → List Sent
 sent_by p = map (λ c. let x : Sent = record { machine = p.0; course = c } in x) p.1.calls
 
 not_zero : (i : ℕ) → (1 + i == 0) ≡ false
@@ -89,7 +89,7 @@ not_zero i = grind (arith, tests)
 less_one : (i : ℕ) → 1 + i - 1 ≡ i
 less_one i = omega arith
 
-machine_there : (w : World) (m i : ℕ) (a : Machine) → m ≡ 1 + i → slice_get w.machines i ≡ Some a → machine_at w m ≡ Some a
+pub machine_there : (w : World) (m i : ℕ) (a : Machine) → m ≡ 1 + i → slice_get w.machines i ≡ Some a → machine_at w m ≡ Some a
 machine_there w m i a is at =
     at_by (m == 0) (slice_get w.machines (m - 1)) a (ap (λ n. n == 0) is ∙ not_zero i) (ap (λ n. slice_get w.machines (n - 1)) is ∙ ap (λ n. slice_get w.machines n) (less_one i) ∙ at)
 
