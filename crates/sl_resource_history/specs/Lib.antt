@@ -1,3 +1,4 @@
 pub mod Sending
 pub mod Histories
 pub mod Promises
+pub mod Orders
