@@ -1,0 +1,52 @@
+-- What the argument over ballots may use of the ids of a lawful run, in words of its worlds.
+use Rattle.sl_run.specs.Runs.{Happening}
+use Rattle.sl_run.specs.Safety.{Found, GenerationsRise, HasJoined, IsSession, LawfulRun, OneForEachId, SameId, SessionId, found_generation, is_over, world_at}
+use Rattle.sl_run.specs.Worlds.{Program}
+use Rattle.sl_run.specs.declared.header.Header.{Header}
+use Rattle.std.specs.Prelude.{List, true, ◌++◌, ◌≡◌}
+
+-- What is said of each lawful run.
+abbrev pub OfEachRun : (Program → Header → List Happening → Type 0) → Type 0
+OfEachRun P = (p : Program) (h : Header) (xs : List Happening) → LawfulRun p h xs → P p h xs
+
+-- .. of each front of one.
+abbrev pub OfEachGoing : (Program → Header → List Happening → List Happening → Type 0) → Type 0
+OfEachGoing P = (p : Program) (h : Header) (now rest : List Happening) → LawfulRun p h (now ++ rest) → P p h now (now ++ rest)
+
+-- For each id at most one joined session is not over.
+abbrev pub OneActsForEachId : Type 0
+OneActsForEachId = OfEachRun (λ p h xs. OneForEachId (world_at p h xs))
+
+-- One that joins later has a greater generation.
+abbrev pub JoinersRise : Type 0
+JoinersRise = OfEachRun GenerationsRise
+
+-- By its lockspace, its id and its generation a joined session is named.
+abbrev pub GenerationsNameOne : Type 0
+GenerationsNameOne =
+    OfEachRun (λ p h xs. (i k : SessionId) (f g : Found) → IsSession (world_at p h xs) i f → IsSession (world_at p h xs) k g → HasJoined f → HasJoined g
+    → f.session.lockspace ≡ g.session.lockspace → f.session.id ≡ g.session.id → found_generation f ≡ found_generation g → i ≡ k)
+
+-- Joined sessions of one lockspace and one id have one id of one area.
+abbrev pub LockspacesAreAreas : Type 0
+LockspacesAreAreas =
+    OfEachRun (λ p h xs. (i k : SessionId) (f g : Found) → IsSession (world_at p h xs) i f → IsSession (world_at p h xs) k g → HasJoined f → HasJoined g
+    → f.session.lockspace ≡ g.session.lockspace → f.session.id ≡ g.session.id → SameId f g)
+
+-- Joined is for ever.
+abbrev pub JoinedStays : Type 0
+JoinedStays =
+    OfEachGoing (λ p h now xs. (i : SessionId) (f g : Found) → IsSession (world_at p h now) i f → IsSession (world_at p h xs) i g → HasJoined f → HasJoined g)
+
+-- .. and so is over.
+abbrev pub OverStays : Type 0
+OverStays =
+    OfEachGoing (λ p h now xs. (i : SessionId) (f g : Found) → IsSession (world_at p h now) i f → IsSession (world_at p h xs) i g → HasJoined f
+    → is_over i f ≡ true → is_over i g ≡ true)
+
+-- Where a session has joined, each of its id that had joined before it is over.
+abbrev pub JoinersFindOver : Type 0
+JoinersFindOver =
+    OfEachGoing (λ p h now xs. (i k : SessionId) (f later g : Found) → IsSession (world_at p h now) i f → HasJoined f → IsSession (world_at p h xs) i later
+    → IsSession (world_at p h xs) k g → HasJoined g → ((before : Found) → IsSession (world_at p h now) k before → HasJoined before → ⊥) → SameId f g
+    → is_over i later ≡ true)
