@@ -1,6 +1,6 @@
 -- What the argument over ballots may use of the ids of a lawful run, in words of its worlds.
 use Rattle.sl_run.specs.Runs.{Happening}
-use Rattle.sl_run.specs.Safety.{Found, GenerationsRise, HasJoined, IsSession, LawfulRun, OneForEachId, SameId, SessionId, found_generation, is_over, world_at}
+use Rattle.sl_run.specs.Safety.{Found, GenerationsRise, HasJoined, IsSession, LawfulRun, OneForEachId, OwnSectorStands, SameId, SessionId, found_generation, is_over, world_at}
 use Rattle.sl_run.specs.Worlds.{Program}
 use Rattle.sl_run.specs.declared.header.Header.{Header}
 use Rattle.std.specs.Prelude.{List, true, ◌++◌, ◌≡◌}
@@ -50,3 +50,7 @@ JoinersFindOver =
     OfEachGoing (λ p h now xs. (i k : SessionId) (f later g : Found) → IsSession (world_at p h now) i f → HasJoined f → IsSession (world_at p h xs) i later
     → IsSession (world_at p h xs) k g → HasJoined g → ((before : Found) → IsSession (world_at p h now) k before → HasJoined before → ⊥) → SameId f g
     → is_over i later ≡ true)
+
+-- A joined session's sector holds a record of its own, or torn bytes, until it is over.
+abbrev pub SectorsStand : Type 0
+SectorsStand = OfEachRun (λ p h xs. OwnSectorStands (world_at p h xs))
