@@ -1,3 +1,5 @@
 pub mod Standing
 pub mod Acting
 pub mod Owning
+pub mod Quieting
+pub mod Silence

@@ -3,10 +3,10 @@ use Rattle.sl_area.specs.Layouts.{Layout, record_in}
 use Rattle.sl_area.specs.Places.{delta_offset}
 use Rattle.sl_id_safety.proofs.Standing.{joined_stand}
 use Rattle.sl_id_safety.specs.Interface.{SectorsStand}
-use Rattle.sl_id_safety.specs.Standing.{StandsJoined, sector_offset}
+use Rattle.sl_id_safety.specs.Standing.{sector_offset}
 use Rattle.sl_id_state.proofs.Bridge.{known}
 use Rattle.sl_id_state.proofs.Proven.{grounds}
-use Rattle.sl_id_state.specs.IdStates.{content_of, id_state, landing_of, name_of, said_by, session_at}
+use Rattle.sl_id_state.specs.IdStates.{content_of, id_state, landing_of, name_of, said_by}
 use Rattle.sl_id_world.specs.Reaching.{IdsAreReached}
 use Rattle.sl_ids.proofs.DerivedLaws.{watchdogs}
 use Rattle.sl_ids.proofs.WholeRuns.{reached_kept}
@@ -16,19 +16,15 @@ use Rattle.sl_ids.specs.Listed.{no_landing}
 use Rattle.sl_ids.specs.State.{Content, Landing as IdLanding, Session as IdSession, SessionId as IdName, State}
 use Rattle.sl_ids.specs.Terms.{Terms}
 use Rattle.sl_place_law.proofs.Finding.{equal_numbers}
-use Rattle.sl_run.specs.Runs.{Happening}
-use Rattle.sl_run.specs.Safety.{Found, HasJoined, IsSession, LawfulRun, SessionId, found_generation, is_over, setting_in, world_at}
-use Rattle.sl_run.specs.Worlds.{Landing, Program, World, content, first_landing, history_of}
-use Rattle.sl_run.specs.declared.header.Header.{Header}
+use Rattle.sl_run.specs.Safety.{world_at}
+use Rattle.sl_run.specs.Worlds.{Landing, World, content, first_landing, history_of}
 use Rattle.sl_sample_law.specs.Samples.{numbered_landing}
 use Rattle.sl_sector.specs.Spelling.{delta_in}
-use Rattle.sl_sector.specs.declared.sector.DeltaRec.{DeltaRec}
-use Rattle.sl_sessions.specs.Deltas.{own_offset}
 use Rattle.sl_trace.specs.Traces.{same_place}
 use Rattle.std.proofs.Common.{ap, arith, inl, inr, refl, subst, sym, ◌∙◌}
 use Rattle.std.proofs.lemmas.Bool.{cases_lt}
 use Rattle.std.specs.Option.{option_map_or}
-use Rattle.std.specs.Prelude.{Bool, IsFalse, List, None, Option, Some, [], cond, false, filter, find, length, option_map, suc, true, ℕ, ◌++◌, ◌<◌, ◌==◌, ◌∷◌, ◌≡◌, ◌⊎◌}
+use Rattle.std.specs.Prelude.{Bool, List, None, Option, Some, [], cond, false, filter, find, length, option_map, suc, true, ℕ, ◌++◌, ◌<◌, ◌∷◌, ◌≡◌, ◌⊎◌}
 
 -- ---- what stands at a place is the newest of its history
 

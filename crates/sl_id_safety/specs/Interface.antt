@@ -1,9 +1,11 @@
 -- What the argument over ballots may use of the ids of a lawful run, in words of its worlds.
+use Rattle.sl_id_state.specs.IdStates.{own_courses}
 use Rattle.sl_run.specs.Runs.{Happening}
 use Rattle.sl_run.specs.Safety.{Found, GenerationsRise, HasJoined, IsSession, LawfulRun, OneForEachId, OwnSectorStands, SameId, SessionId, found_generation, is_over, world_at}
-use Rattle.sl_run.specs.Worlds.{Program}
+use Rattle.sl_run.specs.Worlds.{Course, Program, Stamp, World, is_write_course}
 use Rattle.sl_run.specs.declared.header.Header.{Header}
-use Rattle.std.specs.Prelude.{List, true, ◌++◌, ◌≡◌}
+use Rattle.sl_sessions.specs.Sessions.{is_free_purpose}
+use Rattle.std.specs.Prelude.{Contains, List, Some, false, true, ◌++◌, ◌<◌, ◌≡◌}
 
 -- What is said of each lawful run.
 abbrev pub OfEachRun : (Program → Header → List Happening → Type 0) → Type 0
@@ -54,3 +56,20 @@ JoinersFindOver =
 -- A joined session's sector holds a record of its own, or torn bytes, until it is over.
 abbrev pub SectorsStand : Type 0
 SectorsStand = OfEachRun (λ p h xs. OwnSectorStands (world_at p h xs))
+
+-- ---- a session that is over is silent
+
+-- What is said of each call that a joined session, over at a front, has later.
+abbrev pub OfOver : (World → Course → Type 0) → Type 0
+OfOver P =
+    OfEachGoing (λ p h now xs. (i : SessionId) (f g : Found) → IsSession (world_at p h now) i f → IsSession (world_at p h xs) i g → HasJoined f
+    → is_over i f ≡ true → (c : Course) → Contains (own_courses i g.machine) c → P (world_at p h now) c)
+
+-- It was made before.
+abbrev pub OverAreSilent : Type 0
+OverAreSilent = OfOver (λ w c. c.made.step < w.step)
+
+-- If it writes, and isn't the free, its answer came before.
+abbrev pub OverAreSettled : Type 0
+OverAreSettled =
+    OfOver (λ w c. is_write_course c ≡ true → is_free_purpose c.call.purpose ≡ false → (s : Stamp) → c.answered ≡ Some s → s.step < w.step)
