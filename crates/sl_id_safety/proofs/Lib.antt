@@ -3,3 +3,5 @@ pub mod Acting
 pub mod Owning
 pub mod Quieting
 pub mod Silence
+pub mod Freed
+pub mod Settling

@@ -98,17 +98,17 @@ is_nothing : (rs : List Stamp) → rs ≡ [] → not (is_empty rs) ≡ true → 
 is_nothing rs none is = true_is_false (sym is ∙ ap (λ xs. not (is_empty xs)) none)
 
 -- A daemon that runs was not reset.
-not_reset : (f : Found) → Mirrors f.machine → f.machine.daemon ≡ Some f.daemon → was_reset f ≡ true → ⊥
+pub not_reset : (f : Found) → Mirrors f.machine → f.machine.daemon ≡ Some f.daemon → was_reset f ≡ true → ⊥
 not_reset f mirror runs reset = is_nothing (resets_after f.machine f.daemon.begun.step) (mirror.kept f.daemon (mirror.running f.daemon runs)) reset
 
-over_cases : (free ended reset flying : Bool) → (free || (ended || reset) && not flying) ≡ true → (free ≡ true) ⊎ ((ended ≡ true) × (flying ≡ false)) ⊎ (reset ≡ true)
+pub over_cases : (free ended reset flying : Bool) → (free || (ended || reset) && not flying) ≡ true → (free ≡ true) ⊎ ((ended ≡ true) × (flying ≡ false)) ⊎ (reset ≡ true)
 over_cases true ended reset flying is = inl refl
 over_cases false true reset true is = absurd (true_is_false (sym is))
 over_cases false true reset false is = inr (inl (refl, refl))
 over_cases false false true flying is = inr (inr refl)
 over_cases false false false flying is = absurd (true_is_false (sym is))
 
-freed_by : (o : Option Submitted) (p : Submitted → Bool) → some_is p o ≡ true → (m : Submitted) × (o ≡ Some m)
+pub freed_by : (o : Option Submitted) (p : Submitted → Bool) → some_is p o ≡ true → (m : Submitted) × (o ≡ Some m)
 freed_by None p is = absurd (true_is_false (sym is))
 freed_by (Some m) p is = (m, refl)
 
