@@ -5,3 +5,5 @@ pub mod Quieting
 pub mod Silence
 pub mod Freed
 pub mod Settling
+pub mod Fronting
+pub mod Showing

@@ -31,11 +31,11 @@ use Rattle.std.specs.Prelude.{Bool, List, None, Option, Some, [], cond, false, f
 abbrev bytes_by : Option Landing → List ℕ → List ℕ
 bytes_by o first = elim o [ Some l ↦ l.bytes | None ↦ first ]
 
-record HasTop (xs : List Landing) (bytes : List ℕ) : Type 0 where
-  top : Landing
-  below : List Landing
-  whole : xs ≡ top ∷ below
-  holds : bytes ≡ top.bytes
+pub record HasTop (xs : List Landing) (bytes : List ℕ) : Type 0 where
+  pub top : Landing
+  pub below : List Landing
+  pub whole : xs ≡ top ∷ below
+  pub holds : bytes ≡ top.bytes
 
 top_by : (p : Landing → Bool) (x : Landing) (xs : List Landing) (first : Landing) (b : Bool) → HasTop (filter p xs ++ first ∷ []) (bytes_by (find p xs) first.bytes)
     → HasTop (cond b (x ∷ filter p xs) (filter p xs) ++ first ∷ []) (bytes_by (cond b (Some x) (find p xs)) first.bytes)
@@ -47,10 +47,10 @@ has_top p [] first = record { top = first; below = []; whole = refl; holds = ref
 has_top p (x ∷ xs) first = top_by p x xs first (p x) (has_top p xs first)
 
 -- The newest landing of a place spells what stands there.
-newest_stands : (w : World) (path : List ℕ) (offset : ℕ) → HasTop (history_of w path offset) (content w path offset)
+pub newest_stands : (w : World) (path : List ℕ) (offset : ℕ) → HasTop (history_of w path offset) (content w path offset)
 newest_stands w path offset = has_top (λ l. same_place l.path l.offset path offset) w.landings (first_landing w path offset)
 
-numbered_top : (l : Landing) (ls : List Landing) → numbered_landing (l ∷ ls) (length ls) ≡ Some l
+pub numbered_top : (l : Landing) (ls : List Landing) → numbered_landing (l ∷ ls) (length ls) ≡ Some l
 numbered_top l ls = ap (λ b. elim b as (λ z. Option Landing) [ true ↦ Some l | false ↦ numbered_landing ls (length ls) ]) (equal_numbers (length ls) (length ls) refl)
 
 -- ---- the writer of the newest landing
