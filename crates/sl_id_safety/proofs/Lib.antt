@@ -7,3 +7,5 @@ pub mod Freed
 pub mod Settling
 pub mod Fronting
 pub mod Showing
+pub mod Seeing
+pub mod Evident

@@ -2,7 +2,7 @@
 use Rattle.sl_area.specs.Places.{sector_of}
 use Rattle.sl_front_law.proofs.Going.{fronts_are_lawful, run_after}
 use Rattle.sl_front_law.proofs.Having.{contains_append, contains_left, contains_right}
-use Rattle.sl_id_safety.proofs.Fronting.{landed_since}
+use Rattle.sl_id_safety.proofs.Fronting.{FrontAt, landed_since}
 use Rattle.sl_id_safety.proofs.Owning.{newest_stands, numbered_top}
 use Rattle.sl_id_state.proofs.Keeping.{is_place}
 use Rattle.sl_id_state.proofs.SectorFrames.{at_place, history_grows}
@@ -171,3 +171,18 @@ shown_by reached p h now rest run c k s i reaches first place x says =
       is_last = let long = ap (λ ls. length ls) t.whole in omega (arith, long, top);
       shows = shows_number u path offset j.0 l j.1 ∙ ap (λ y. said_by y l.bytes) (sym g.layout) ∙ spells;
     }
+
+-- What is said of a sample of a run, at a front of it.
+abbrev Shown : Program → Header → List Happening → Course → ℕ → Sampling → Content → List Happening → Type 0
+Shown p h now c k s x xs = LawfulRun p h xs → IsSampleOf (world_at p h xs) c k s → IsIdPlace p h c.call.path (sector_place (world_at p h xs) c k)
+    → said_by (world_at p h xs).layout (sector_of (world_at p h xs).layout c.sampled k) ≡ Some x
+    → ShowsLast (id_state (world_at p h now) c.call.path (sector_place (world_at p h xs) c k)) x
+
+-- A sample shows the newest landing of the first front that has come to its step.
+pub shown_at : IdsAreReached → (p : Program) (h : Header) (xs : List Happening) (c : Course) (k : ℕ) (s : Sampling) (f : FrontAt p h xs s.step) → LawfulRun p h xs
+    → IsSampleOf (world_at p h xs) c k s → IsIdPlace p h c.call.path (sector_place (world_at p h xs) c k) → (x : Content)
+    → said_by (world_at p h xs).layout (sector_of (world_at p h xs).layout c.sampled k) ≡ Some x
+    → ShowsLast (id_state (world_at p h f.now) c.call.path (sector_place (world_at p h xs) c k)) x
+shown_at reached p h xs c k s f run i place x says =
+    subst (Shown p h f.now c k s x) (sym f.whole)
+    (λ run' i' place' says'. shown_by reached p h f.now f.rest run' c k s i' f.reaches f.first place' x says') run i place says

@@ -1,11 +1,12 @@
 -- What the argument over ballots may use of the ids of a lawful run, in words of its worlds.
 use Rattle.sl_id_state.specs.IdStates.{own_courses}
 use Rattle.sl_run.specs.Runs.{Happening}
-use Rattle.sl_run.specs.Safety.{Found, GenerationsRise, HasJoined, IsSession, LawfulRun, OneForEachId, OwnSectorStands, SameId, SessionId, found_generation, is_over, world_at}
+use Rattle.sl_run.specs.Safety.{EvidenceIsTrue, Found, GenerationsRise, HasJoined, IsSession, LawfulRun, OneForEachId, OwnSectorStands, SameId, SessionId, found_generation, is_over, same_lockspace, setting_in, trace_of, world_at}
 use Rattle.sl_run.specs.Worlds.{Course, Program, Stamp, World, is_write_course}
 use Rattle.sl_run.specs.declared.header.Header.{Header}
-use Rattle.sl_sessions.specs.Sessions.{is_free_purpose}
-use Rattle.std.specs.Prelude.{Contains, List, Some, false, true, ◌++◌, ◌<◌, ◌≡◌}
+use Rattle.sl_sessions.specs.Sessions.{calls_of, is_free_purpose}
+use Rattle.sl_sessions.specs.Watching.{Run, Sighting, counts_over, current_run, is_silent, sightings}
+use Rattle.std.specs.Prelude.{Contains, IsTrue, List, Some, false, true, ℕ, ◌++◌, ◌<◌, ◌≡◌}
 
 -- What is said of each lawful run.
 abbrev pub OfEachRun : (Program → Header → List Happening → Type 0) → Type 0
@@ -73,3 +74,31 @@ OverAreSilent = OfOver (λ w c. c.made.step < w.step)
 abbrev pub OverAreSettled : Type 0
 OverAreSettled =
     OfOver (λ w c. is_write_course c ≡ true → is_free_purpose c.call.purpose ≡ false → (s : Stamp) → c.answered ≡ Some s → s.step < w.step)
+
+-- ---- evidence
+
+-- What is said of each joined session, whatever comes later, whose generation somebody has a reason to count as over.
+abbrev pub MeansOver : (World → SessionId → Found → ℕ → ℕ → Type 0) → Type 0
+MeansOver Reason =
+    OfEachGoing (λ p h now xs. (i k : SessionId) (f g : Found) (j n : ℕ) → IsSession (world_at p h now) i f → Reason (world_at p h now) i f j n
+    → IsSession (world_at p h xs) k g → HasJoined g → IsTrue (same_lockspace f g) → g.session.id ≡ j → found_generation g ≡ n → is_over k g ≡ true)
+
+-- The sightings of id j, and the run that they end with.
+abbrev pub sightings_of : Found → ℕ → List Sighting
+sightings_of f j = sightings (setting_in f).layout j (calls_of (trace_of f) f.session)
+
+-- A run of its sightings shows the generation silent.
+abbrev pub ShowsSilent : World → SessionId → Found → ℕ → ℕ → Type 0
+ShowsSilent w i f j n =
+    (r : Run) × (current_run (setting_in f).layout j (sightings_of f j) ≡ Some r) × (is_silent (setting_in f).timing n r ≡ true)
+
+abbrev pub SilenceMeansOver : Type 0
+SilenceMeansOver = MeansOver ShowsSilent
+
+-- Any evidence.
+abbrev pub EvidenceMeansOver : Type 0
+EvidenceMeansOver = MeansOver (λ w i f j n. IsTrue (counts_over (setting_in f) (trace_of f) f.session j n))
+
+-- So it is true, at each front.
+abbrev pub EvidencesAreTrue : Type 0
+EvidencesAreTrue = OfEachRun EvidenceIsTrue

@@ -1,6 +1,6 @@
 //! What a lawful run promises of the sessions of each id.
 
-ghost use Rattle.sl_id_safety.specs.Interface.{JoinedStays, LockspacesAreAreas};
+ghost use Rattle.sl_id_safety.specs.Interface.{JoinedStays, LockspacesAreAreas, OverAreSettled, OverAreSilent};
 ghost use Rattle.sl_id_safety.specs.Standing.{JoinedStand, SameIdsStandTogether, StandingTogetherIsSameId};
 
 /// A joined session stands with its id as the world has it.
@@ -26,4 +26,14 @@ pub fn lockspaces_are_areas()
 /// A joined session stays so.
 pub fn joined_stays()
     ensures { JoinedStays }
+{}
+
+/// A session that is over makes no call any more.
+pub fn over_are_silent()
+    ensures { OverAreSilent }
+{}
+
+/// No write of it but its free is answered any more.
+pub fn over_are_settled()
+    ensures { OverAreSettled }
 {}
