@@ -1,0 +1,133 @@
+-- The free is a session's last call, and is made where no call of it is open.
+use Rattle.sl_id_state.proofs.Keeping.{lawful_call}
+use Rattle.sl_id_state.proofs.Listing.{stands, stands_there, tail_at}
+use Rattle.sl_id_state.proofs.Tails.{AreMade, IsLater, IsMadeAfter, all_made, front_at}
+use Rattle.sl_id_state.proofs.Timing.{longer}
+use Rattle.sl_law.specs.Lawful.{Lawful}
+use Rattle.sl_law.specs.LawfulCalls.{may_submit}
+use Rattle.sl_law.specs.LawfulDelta.{LawfulDeltaCall, LawfulFree}
+use Rattle.sl_place_law.proofs.Finding.{filtered, finds, found_in, partner}
+use Rattle.sl_place_law.proofs.Looks.{made_below}
+use Rattle.sl_session_law.proofs.Joining.{stage_for}
+use Rattle.sl_session_law.proofs.Making.{contains_cases, contains_none}
+use Rattle.sl_session_law.proofs.Naming.{kept}
+use Rattle.sl_session_law.proofs.Silence.{stage_by}
+use Rattle.sl_session_law.proofs.Staying.{marks_stay}
+use Rattle.sl_session_law.specs.Promises.{IsSession as IsSessionOf}
+use Rattle.sl_sessions.specs.Sessions.{Session, calls_of, free_write, is_call_of, is_free_purpose, joined_after, open_calls_of, refused_after, removed_after, stage_after, stage_in, stage_of}
+use Rattle.sl_sessions.specs.declared.stage.Stage.TheVariants.{Standing}
+use Rattle.sl_sessions.specs.declared.stage.Stage.{Stage}
+use Rattle.sl_trace.specs.Traces.{Answered, Setting, Submitted, Trace, is_answered_ok, new_call, submitted}
+use Rattle.sl_trace.specs.declared.effects.Call.{Call}
+use Rattle.sl_trace.specs.declared.effects.JoinStep.TheVariants.{ClaimWrite, DecidingRead, FirstRead, FirstRenewal, VerifyRead, WatchRead}
+use Rattle.sl_trace.specs.declared.effects.JoinStep.{JoinStep}
+use Rattle.sl_trace.specs.declared.effects.Purpose.TheVariants.{Joining, Leaving}
+use Rattle.sl_trace.specs.declared.effects.Purpose.{Purpose}
+use Rattle.sl_words.proofs.CaseLaws.{false_is_true, none_some, true_is_false}
+use Rattle.std.proofs.Common.{ap, arith, inl, inr, refl, subst, sym, ◌∙◌}
+use Rattle.std.specs.Prelude.{Bool, Contains, List, None, Option, Some, [], drop, false, is_none, is_some, length, suc, true, ℕ, ◌++◌, ◌∷◌, ◌≡◌, ◌≤◌}
+
+-- ---- lists
+
+-- Of two ends of a list the shorter is an end of the longer.
+ends : {A : Type 0} (xs zs ys bs : List A) → xs ++ zs ≡ ys ++ bs → length bs ≤ length zs → (mid : List A) × (zs ≡ mid ++ bs)
+ends [] zs ys bs h le = (ys, h)
+ends (x ∷ xs) zs [] bs h le =
+    absurd (let same : suc (length (xs ++ zs)) ≡ length bs = ap (λ us. length us) h in omega (arith, same, le, longer xs zs))
+ends (x ∷ xs) zs (y ∷ ys) bs h le = ends xs zs ys bs (ap (λ us. drop 1 us) h) le
+
+-- ---- the law of the free
+
+free_law : (st : Setting) (t : Trace) (s : Session) (c : Submitted) (p : Purpose) → is_free_purpose p ≡ true → LawfulDeltaCall st t s c p → LawfulFree st t s c
+free_law st t s c (Leaving j) is law = law
+free_law st t s c p is law = absurd (true_is_false (sym is))
+
+no_more_by : (joined removed refused : Option ℕ) (free : Option Submitted) (joining : Stage) (k : ℕ) → joined ≡ Some k → is_some free ≡ true
+    → may_submit (stage_by joined removed refused free joining) ≡ false
+no_more_by None removed refused free joining k is h = absurd (none_some k is)
+no_more_by (Some j) (Some i) refused free joining k is h = refl
+no_more_by (Some j) None refused (Some m) joining k is h = refl
+no_more_by (Some j) None refused None joining k is h = absurd (true_is_false (sym h))
+
+abbrev is_standing : Stage → Bool
+is_standing Standing = true
+is_standing stage = false
+
+not_by_step : (step : JoinStep) (done : Bool) → is_standing (stage_after step done) ≡ false
+not_by_step FirstRead done = refl
+not_by_step WatchRead done = refl
+not_by_step DecidingRead done = refl
+not_by_step ClaimWrite false = refl
+not_by_step ClaimWrite true = refl
+not_by_step VerifyRead done = refl
+not_by_step FirstRenewal done = refl
+
+not_by_purpose : (p : Purpose) (done : Bool) → is_standing (stage_for p done) ≡ false
+not_by_purpose (Joining j step) done = not_by_step step done
+not_by_purpose p done = refl
+
+not_in : (ms : List Submitted) → is_standing (stage_in ms) ≡ false
+not_in [] = refl
+not_in (m ∷ ms) = not_by_purpose m.call.purpose (is_answered_ok m)
+
+standing_by : (joined removed refused : Option ℕ) (free : Option Submitted) (ms : List Submitted) → is_standing (stage_by joined removed refused free (stage_in ms)) ≡ true
+    → (k : ℕ) × (joined ≡ Some k)
+standing_by (Some k) removed refused free ms is = (k, refl)
+standing_by None removed (Some k) free ms is = absurd (false_is_true is)
+standing_by None removed None free ms is = absurd (true_is_false (sym is ∙ not_in ms))
+
+standing_joined : (t : Trace) (s : Session) → stage_of t s ≡ Standing → (k : ℕ) × (joined_after t s ≡ Some k)
+standing_joined t s is =
+    standing_by (joined_after t s) (removed_after t s) (refused_after t s) (free_write (calls_of t s)) (calls_of t s) (ap (λ x. is_standing x) is)
+
+-- ---- nothing is newer than the free
+
+-- A call with the free behind it was made where the session had joined and was freed: so it wasn't made.
+none_newer : (st : Setting) (es : Trace) (s : Session) (m x : Submitted) (older behind : List Submitted) → Lawful st es → IsSessionOf st es s → (d : IsMadeAfter es s m older)
+    → Contains older x → is_free_purpose x.call.purpose ≡ true → IsMadeAfter es s x behind → ⊥
+none_newer st es s m x older behind h its d there free e =
+    let t : Trace = front_at d in
+    let n = partner IsLater older (calls_of t s) x d.prior there in
+    let early = made_below t n.0 (filtered (is_call_of s) (submitted t) n.0 n.1).0 in
+    let at : suc (length e.past) ≤ suc (length d.past) = omega (arith, early, n.2.same.at, e.place) in
+    let mid = ends d.later (d.entry ∷ d.past) e.later (e.entry ∷ e.past) (sym d.whole ∙ e.whole) at in
+    let law = free_law st (front_at e) s (new_call (length e.past) e.entry.reading x.call) x.call.purpose free (lawful_call st es s x behind e h its).law in
+    let k = standing_joined (front_at e) s law.standing in
+    let joined : joined_after t s ≡ Some k.0 = ap (λ us. joined_after us s) mid.1 ∙ marks_stay.joined mid.0 (e.entry ∷ e.past) s k.0 k.1 in
+    let found = finds (λ (y : Submitted). is_free_purpose y.call.purpose) (calls_of t s) n.0
+    (ap (λ (y : Call). is_free_purpose y.purpose) (sym n.2.same.call) ∙ free) n.1 in
+    true_is_false (sym (lawful_call st es s m older d h its).alive
+    ∙ no_more_by (joined_after t s) (removed_after t s) (refused_after t s) (free_write (calls_of t s)) (stage_in (calls_of t s)) k.0 joined (ap (λ o. is_some o) found.1))
+
+-- ---- what is behind it is answered
+
+answered_by : (t : Trace) (s : Session) (m n : Submitted) → open_calls_of t s ≡ [] → Contains (calls_of t s) n → IsLater m n → (o : Option Answered) → n.answer ≡ o
+    → (a : Answered) × (m.answer ≡ Some a)
+answered_by t s m n none there r None is =
+    absurd (contains_none n (subst (λ ms. Contains ms n) none (kept (λ (x : Submitted). is_none x.answer) (calls_of t s) n (ap (λ o. is_none o) is) there)))
+answered_by t s m n none there r (Some a) is = (a, ap (λ (x : Submitted). x.answer) (r.stays a is) ∙ is)
+
+behind_answered : (st : Setting) (es : Trace) (s : Session) (x m : Submitted) (older : List Submitted) → Lawful st es → IsSessionOf st es s → (d : IsMadeAfter es s x older)
+    → is_free_purpose x.call.purpose ≡ true → Contains older m → (a : Answered) × (m.answer ≡ Some a)
+behind_answered st es s x m older h its d free there =
+    let t : Trace = front_at d in
+    let law = free_law st t s (new_call (length d.past) d.entry.reading x.call) x.call.purpose free (lawful_call st es s x older d h its).law in
+    let n = partner IsLater older (calls_of t s) m d.prior there in
+    answered_by t s m n.0 law.no_call n.1 n.2 n.0.answer refl
+
+-- Of a session that has written its free each other call is answered.
+pub freed_answered : (st : Setting) (es : Trace) (s : Session) → Lawful st es → IsSessionOf st es s → (x : Submitted) → free_write (calls_of es s) ≡ Some x → (m : Submitted)
+    → Contains (calls_of es s) m → is_free_purpose m.call.purpose ≡ false → (a : Answered) × (m.answer ≡ Some a)
+freed_answered st es s h its x is m there other =
+    let found = found_in (λ (y : Submitted). is_free_purpose y.call.purpose) (calls_of es s) x is in
+    let at = stands (calls_of es s) x found.0 in
+    by at.newer at.older (subst (λ ms. AreMade es s ms) at.whole (all_made es s)) (subst (λ ms. Contains ms m) at.whole there) found.1
+  where
+    by : (newer older : List Submitted) → AreMade es s (newer ++ x ∷ older) → Contains (newer ++ x ∷ older) m → is_free_purpose x.call.purpose ≡ true → (a : Answered) × (m.answer ≡ Some a)
+    by (y ∷ newer) older made has free =
+        absurd (none_newer st es s y x (newer ++ x ∷ older) older h its made.0 (stands_there newer x older) free (tail_at (IsMadeAfter es s) newer x older made.1))
+    by [] older made has free =
+        elim (contains_cases x older m has) as (λ z. (a : Answered) × (m.answer ≡ Some a)) [
+          | inl here ↦ absurd (true_is_false (sym free ∙ ap (λ (y : Submitted). is_free_purpose y.call.purpose) here ∙ other))
+          | inr behind ↦ behind_answered st es s x m older h its made.0 free behind
+        ]

@@ -1,0 +1,99 @@
+-- A front of a run for each step, and what had landed by then.
+use Rattle.sl_front_law.proofs.Going.{one_step, run_after, run_keeps, run_rest}
+use Rattle.sl_front_law.specs.Fronts.{HasOneStep}
+use Rattle.sl_moment_law.proofs.Landing.{event_lands}
+use Rattle.sl_run.specs.Events.{happens}
+use Rattle.sl_run.specs.Runs.{Happening, world_after}
+use Rattle.sl_run.specs.Safety.{LawfulRun, world_at}
+use Rattle.sl_run.specs.Worlds.{Landing, Program, World, world_with}
+use Rattle.sl_run.specs.declared.header.Header.{Header}
+use Rattle.sl_run_law.proofs.Going.{run_goes}
+use Rattle.std.proofs.Common.{ap, arith, inl, inr, refl, subst, sym, ◌∙◌}
+use Rattle.std.proofs.lemmas.Bool.{cases_lt}
+use Rattle.std.specs.Prelude.{Contains, List, [], length, ℕ, ◌++◌, ◌+◌, ◌<◌, ◌∷◌, ◌≡◌, ◌≤◌, ◌⊎◌}
+
+-- ---- a front for each step
+
+-- The first front of these that has come to step n.
+pub record FrontAt (p : Program) (h : Header) (xs : List Happening) (n : ℕ) : Type 0 where
+  pub now : List Happening
+  pub rest : List Happening
+  pub whole : xs ≡ now ++ rest
+  pub reaches : n ≤ (world_at p h now).step
+  pub first : (world_at p h now).step ≤ n + 1
+
+two_steps : (w n k : ℕ) → n ≡ w + ((1 + k) + 0) → k ≡ 1 → n ≡ w + 2
+two_steps w n k is one = omega (arith, is, one)
+
+-- An event takes two steps: its own, and one of a daemon or of the machine.
+step_next : (p : Program) (h : Header) (now : List Happening) (x : Happening) → LawfulRun p h (now ++ x ∷ []) → (world_at p h (now ++ x ∷ [])).step ≡ (world_at p h now).step + 2
+step_next p h now x run =
+    let w : World = world_at p h now in
+    let last = run_rest (world_with p h) now (x ∷ []) run.is_run in
+    let one : HasOneStep w x.0 x.1 = one_step w x.0 x.1 last.1 in
+    ap (λ (v : World). v.step) (run_after (world_with p h) now (x ∷ []))
+    ∙ two_steps w.step (world_after w (x ∷ [])).step (length x.1) (run_goes w (x ∷ [])).step (ap (λ fxs. length fxs) one.one)
+
+nothing_more : (now : List Happening) → now ++ [] ≡ now
+nothing_more [] = refl
+nothing_more (y ∷ now) = ap (λ xs. y ∷ xs) (nothing_more now)
+
+append_more : (now rest : List Happening) (x : Happening) → (now ++ rest) ++ x ∷ [] ≡ now ++ (rest ++ x ∷ [])
+append_more [] rest x = refl
+append_more (y ∷ now) rest x = ap (λ xs. y ∷ xs) (append_more now rest x)
+
+abbrev EachStep : Program → Header → List Happening → Type 0
+EachStep p h xs = (n : ℕ) → n ≤ (world_at p h xs).step → FrontAt p h xs n
+
+least_step : (n : ℕ) → n ≤ 1 → 1 ≤ n + 1
+least_step n le = omega arith
+
+step_first : (p : Program) (h : Header) → EachStep p h []
+step_first p h n le = record { now = []; rest = []; whole = refl; reaches = le; first = least_step n le }
+
+more : (p : Program) (h : Header) (now : List Happening) (x : Happening) (n : ℕ) → FrontAt p h now n → FrontAt p h (now ++ x ∷ []) n
+more p h now x n f =
+    record {
+      now = f.now;
+      rest = f.rest ++ x ∷ [];
+      whole = ap (λ ys. ys ++ x ∷ []) f.whole ∙ append_more f.now f.rest x;
+      reaches = f.reaches;
+      first = f.first;
+    }
+
+step_more : (p : Program) (h : Header) (now : List Happening) (x : Happening) → LawfulRun p h (now ++ x ∷ []) → EachStep p h now → EachStep p h (now ++ x ∷ [])
+step_more p h now x run each n le = by (cases_lt (world_at p h now).step n) where
+  by : ((world_at p h now).step < n) ⊎ (n ≤ (world_at p h now).step) → FrontAt p h (now ++ x ∷ []) n
+  by (inl above) =
+      let next = step_next p h now x run in
+      record { now = now ++ x ∷ []; rest = []; whole = sym (nothing_more (now ++ x ∷ [])); reaches = le; first = omega (arith, next, above) }
+  by (inr old) = more p h now x n (each n old)
+
+pub front_at : (p : Program) (h : Header) (xs : List Happening) → LawfulRun p h xs → (n : ℕ) → n ≤ (world_at p h xs).step → FrontAt p h xs n
+front_at p h xs run = run_keeps p h (EachStep p h) (record { first = step_first p h; next = step_more p h }) xs run
+
+-- ---- what lands later
+
+abbrev pub LandedSince : World → World → Type 0
+LandedSince u v = (l : Landing) → Contains v.landings l → Contains u.landings l ⊎ (u.step ≤ l.step)
+
+since_event : (u v w : World) → u.step ≤ v.step → LandedSince u v → ((l : Landing) → Contains w.landings l → Contains v.landings l ⊎ (v.step ≤ l.step)) → LandedSince u w
+since_event u v w le old new l there =
+    elim (new l there) as (λ z. Contains u.landings l ⊎ (u.step ≤ l.step)) [ inl was ↦ old l was | inr later ↦ inr (omega (arith, le, later)) ]
+
+at_event : (v : World) (x : Happening) (l : Landing) → Contains (happens v x.0 x.1).landings l → Contains v.landings l ⊎ (v.step ≤ l.step)
+at_event v x l there =
+    elim (event_lands v x.0 x.1 l there) as (λ z. Contains v.landings l ⊎ (v.step ≤ l.step)) [ inl was ↦ inl was | inr new ↦ inr new.0 ]
+
+since_on : (u v : World) (xs : List Happening) → u.step ≤ v.step → LandedSince u v → LandedSince u (world_after v xs)
+since_on u v [] le old = old
+since_on u v (x ∷ xs) le old =
+    let w : World = happens v x.0 x.1 in
+    let step = (run_goes v (x ∷ [])).step in
+    since_on u w xs (omega (arith, le, step)) (since_event u v w le old (at_event v x))
+
+-- What landed later than a front came at a later step.
+pub landed_since : (p : Program) (h : Header) (now rest : List Happening) → LandedSince (world_at p h now) (world_at p h (now ++ rest))
+landed_since p h now rest =
+    subst (λ v. LandedSince (world_at p h now) v) (sym (run_after (world_with p h) now rest))
+    (since_on (world_at p h now) (world_at p h now) rest (omega arith) (λ l there. inl there))

@@ -1,0 +1,11 @@
+pub mod Standing
+pub mod Acting
+pub mod Owning
+pub mod Quieting
+pub mod Silence
+pub mod Freed
+pub mod Settling
+pub mod Fronting
+pub mod Showing
+pub mod Seeing
+pub mod Evident

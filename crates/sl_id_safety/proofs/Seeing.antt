@@ -1,0 +1,124 @@
+-- A record that a session has seen of an id: the sample of a survey shows it.
+use Rattle.sl_area.specs.Layouts.{Layout, record_in}
+use Rattle.sl_area.specs.Places.{sector_of}
+use Rattle.sl_course_law.specs.Stamping.{IsCourseOf}
+use Rattle.sl_id_safety.specs.Interface.{sightings_of}
+use Rattle.sl_id_state.proofs.Bridge.{known}
+use Rattle.sl_id_state.proofs.Keeping.{own_call}
+use Rattle.sl_id_state.proofs.Listing.{map_some, then_some}
+use Rattle.sl_id_state.proofs.Proven.{grounds}
+use Rattle.sl_id_state.proofs.Tails.{front_at}
+use Rattle.sl_id_state.specs.IdStates.{content_of, own_courses, said_by}
+use Rattle.sl_law.specs.LawfulDelta.{LawfulDeltaCall, LawfulSurvey}
+use Rattle.sl_place_law.proofs.Finding.{filtered, given_by, partner_of}
+use Rattle.sl_place_law.proofs.Proven.{promised}
+use Rattle.sl_place_law.proofs.Reading.{read_of}
+use Rattle.sl_run.specs.Events.{sectors_of}
+use Rattle.sl_run.specs.Runs.{Happening}
+use Rattle.sl_run.specs.Safety.{Found, IsSession, LawfulRun, SessionId, setting_in, trace_of, world_at}
+use Rattle.sl_run.specs.Worlds.{Course, Program, Sampling, World}
+use Rattle.sl_run.specs.declared.header.Header.{Header}
+use Rattle.sl_sector.specs.Spelling.{delta_in}
+use Rattle.sl_sector.specs.declared.sector.DeltaRec.{DeltaRec}
+use Rattle.sl_sessions.specs.Sessions.{Session, calls_of, is_call_of, is_survey_purpose}
+use Rattle.sl_sessions.specs.Watching.{Sighting, look_of, seen_records, sighted}
+use Rattle.sl_trace.specs.Traces.{Answered, Setting, Submitted, Trace, bytes_given, gave, new_call, submitted}
+use Rattle.sl_trace.specs.declared.effects.Call.{Call}
+use Rattle.sl_trace.specs.declared.effects.Op.TheVariants.{ReadSectors}
+use Rattle.sl_trace.specs.declared.effects.Purpose.TheVariants.{Survey}
+use Rattle.sl_trace.specs.declared.effects.Purpose.{Purpose}
+use Rattle.sl_words.proofs.CaseLaws.{none_some, some_value, true_is_false}
+use Rattle.sl_words.specs.Words.{choose}
+use Rattle.std.proofs.Common.{ap, arith, refl, sym, ◌∙◌}
+use Rattle.std.specs.Prelude.{Bool, Contains, List, None, Option, Some, [], false, length, option_and_then, option_map, slice_get, suc, true, zero, ℕ, ◌-◌, ◌<◌, ◌==◌, ◌∷◌, ◌≡◌, ◌≤◌}
+
+-- The sample of a survey of the session that shows the record.
+pub record IsSeen (w : World) (f : Found) (j : ℕ) (d : DeltaRec) : Type 0 where
+  pub course : Course
+  pub has : Contains f.machine.calls course
+  pub sample : Sampling
+  pub slot : slice_get course.samples (j - 1) ≡ Some sample
+  pub place : (course.call.path ≡ f.session.path) × (course.call.offset ≡ f.session.offset)
+  pub says : said_by w.layout (sector_of w.layout course.sampled (j - 1)) ≡ Some (content_of d)
+
+there_is : {A : Type 0} (xs : List A) (k : ℕ) → k < length xs → (x : A) × (slice_get xs k ≡ Some x)
+there_is [] k lt = absurd (omega (arith, lt))
+there_is (x ∷ xs) zero lt = (x, refl)
+there_is (x ∷ xs) (suc k) lt = there_is xs k (omega (arith, lt))
+
+survey_law : (st : Setting) (t : Trace) (s : Session) (c : Submitted) (p : Purpose) → is_survey_purpose p ≡ true → LawfulDeltaCall st t s c p → LawfulSurvey st t s c
+survey_law st t s c Survey is law = law
+survey_law st t s c p is law = absurd (true_is_false (sym is))
+
+chosen : (b : Bool) (e d : DeltaRec) → choose b e ≡ Some d → e ≡ d
+chosen true e d is = some_value e d is
+chosen false e d is = absurd (none_some d is)
+
+-- A look is the answer of a survey.
+record IsLook (g : Layout) (j : ℕ) (m : Submitted) (x : Sighting) : Type 0 where
+  survey : is_survey_purpose m.call.purpose ≡ true
+  bytes : List ℕ
+  given : gave m ≡ Some bytes
+  shows : x.bytes ≡ sector_of g bytes (j - 1)
+
+abbrev look_in : Layout → ℕ → Submitted → Answered → List ℕ → Sighting
+look_in g j m a bytes = record { before = m.reading; after = a.reading; bytes = sector_of g bytes (j - 1) }
+
+look_by : (g : Layout) (j : ℕ) (m : Submitted) (x : Sighting) (b : Bool) → is_survey_purpose m.call.purpose ≡ b
+    → elim b as (λ z. Option Sighting) [ false ↦ None | true ↦ option_and_then (λ a. option_map (look_in g j m a) (bytes_given a.answer)) m.answer ] ≡ Some x → IsLook g j m x
+look_by g j m x false at is = absurd (none_some x is)
+look_by g j m x true at is =
+    let a = then_some (λ a. option_map (look_in g j m a) (bytes_given a.answer)) m.answer x is in
+    let bytes = map_some (look_in g j m a.0) (bytes_given a.0.answer) x a.2 in
+    record {
+      survey = at;
+      bytes = bytes.0;
+      given = ap (option_and_then (λ y. bytes_given y.answer)) a.1 ∙ bytes.1;
+      shows = ap (λ (y : Sighting). y.bytes) (sym bytes.2);
+    }
+
+within : (j hosts n : ℕ) → 1 ≤ j → j ≤ hosts → n ≡ hosts → j - 1 < n
+within j hosts n low high is = omega (arith, low, high, is)
+
+seen_look : (p : Program) (h : Header) (now : List Happening) → LawfulRun p h now → (i : SessionId) (f : Found) → IsSession (world_at p h now) i f → (j : ℕ) → 1 ≤ j
+    → j ≤ (world_at p h now).layout.hosts → (m : Submitted) → Contains (calls_of (trace_of f) f.session) m → (x : Sighting) → IsLook (setting_in f).layout j m x → (d : DeltaRec)
+    → delta_in (record_in (setting_in f).layout x.bytes) ≡ Some d → IsSeen (world_at p h now) f j d
+seen_look p h now run i f its j low high m there x look d spells =
+    let w : World = world_at p h now in
+    let kn = known grounds p h now run i f its in
+    let layout = kn.of_world.layout in
+    let r = partner_of (IsCourseOf f.daemon) (own_courses i f.machine) (calls_of (trace_of f) f.session) m kn.pairs there in
+    let o = own_call w i f r.0 kn r.1 in
+    let call : o.placed.pairs.here.call ≡ m.call = o.placed.pairs.this.call ∙ sym r.2.call in
+    let law = survey_law (setting_in f) (front_at o.placed.made) f.session (new_call (length o.placed.made.past) o.placed.made.entry.reading o.placed.pairs.here.call)
+    o.placed.pairs.here.call.purpose (ap (λ (y : Call). is_survey_purpose y.purpose) call ∙ look.survey) o.lawful.law in
+    let op : m.call.op ≡ ReadSectors (setting_in f).layout.hosts = ap (λ (y : Call). y.op) (sym call) ∙ law.whole.2 in
+    let read = read_of promised p h now run i.machine f.machine f.daemon kn.there.at kn.there.has m (filtered (is_call_of f.session) (submitted (trace_of f)) m there).0
+    (setting_in f).layout.hosts op look.bytes look.given in
+    let hosts : length read.course.samples ≡ w.layout.hosts = read.whole ∙ ap sectors_of op ∙ ap (λ (g : Layout). g.hosts) layout in
+    let slot = there_is read.course.samples (j - 1) (within j w.layout.hosts (length read.course.samples) low high hosts) in
+    record {
+      course = read.course;
+      has = read.has;
+      sample = slot.0;
+      slot = slot.1;
+      place = (
+        ap (λ (y : Call). y.path) (sym read.is.call ∙ sym call) ∙ law.whole.0,
+        ap (λ (y : Call). y.offset) (sym read.is.call ∙ sym call) ∙ law.whole.1,
+      );
+      says = ap (option_map content_of)
+          (ap (λ bs. delta_in (record_in w.layout (sector_of w.layout bs (j - 1)))) (sym read.sampled)
+          ∙ ap (λ (g : Layout). delta_in (record_in g (sector_of g look.bytes (j - 1)))) (sym layout)
+          ∙ ap (λ bs. delta_in (record_in (setting_in f).layout bs)) (sym look.shows) ∙ spells);
+    }
+
+-- A record that was seen is shown by a sample.
+pub seen : (p : Program) (h : Header) (now : List Happening) → LawfulRun p h now → (i : SessionId) (f : Found) → IsSession (world_at p h now) i f → (j : ℕ) → 1 ≤ j
+    → j ≤ (world_at p h now).layout.hosts → (d : DeltaRec) → Contains (seen_records (setting_in f).layout j (sightings_of f j)) d → IsSeen (world_at p h now) f j d
+seen p h now run i f its j low high d there =
+    let g : Layout = (setting_in f).layout in
+    let x = given_by (sighted g j) (sightings_of f j) d there in
+    let m = given_by (look_of g j) (calls_of (trace_of f) f.session) x.0 x.1 in
+    let e = then_some (λ (y : DeltaRec). choose (y.id == j) y) (delta_in (record_in g x.0.bytes)) d x.2 in
+    seen_look p h now run i f its j low high m.0 m.1 x.0 (look_by g j m.0 x.0 (is_survey_purpose m.0.call.purpose) refl m.2) d
+    (e.1 ∙ ap (λ y. Some y) (chosen (e.0.id == j) e.0 d e.2))

@@ -1,0 +1,331 @@
+-- A joined session has begun, has verified and stands at the place of an id.
+use Rattle.sl_area.specs.Layouts.{Layout}
+use Rattle.sl_area.specs.Places.{delta_offset}
+use Rattle.sl_course_law.specs.Stamping.{IsCourseOf}
+use Rattle.sl_id_safety.specs.Standing.{JoinedStand, SameIdsStandTogether, StandingTogetherIsSameId, sector_offset}
+use Rattle.sl_id_state.proofs.Bridge.{IsKnown, known}
+use Rattle.sl_id_state.proofs.Claiming.{record_is}
+use Rattle.sl_id_state.proofs.Keeping.{IsLawfulCall, is_place, lawful_call, own_call, step_is, step_law}
+use Rattle.sl_id_state.proofs.Listing.{every_pair, find_none, then_some}
+use Rattle.sl_id_state.proofs.Living.{begun_if_joined, has_name, is_joining, joined_not}
+use Rattle.sl_id_state.proofs.Proven.{claims_have_decided, grounds, renewals_have_verified, verify_reads_have_claimed}
+use Rattle.sl_id_state.proofs.Steps.{ranks_of}
+use Rattle.sl_id_state.proofs.Tails.{AreMade, IsMadeAfter, all_made, front_at}
+use Rattle.sl_id_state.specs.IdStates.{blank, claim_bytes, deciding_sample, generation_by, has_begun, is_sector_of, join_course, name_of, own_courses, sample_showing, session_at, standing_by, standing_of, verifying_sample, watched_bytes}
+use Rattle.sl_id_state.specs.Promises.{IsIdPlace}
+use Rattle.sl_ids.specs.State.{Session as IdSession}
+use Rattle.sl_law.specs.Lawful.{Lawful}
+use Rattle.sl_law.specs.LawfulDelta.{LawfulJoin}
+use Rattle.sl_law.specs.Saying.{cut_at}
+use Rattle.sl_place_law.proofs.Areas.{IsSized, lockspace_aligned}
+use Rattle.sl_place_law.proofs.Finding.{filtered, found_in, partner_of, place_is, same_number}
+use Rattle.sl_place_law.proofs.Homing.{at_home}
+use Rattle.sl_place_law.proofs.Looks.{Look, delta_is_own}
+use Rattle.sl_place_law.proofs.Proven.{promised}
+use Rattle.sl_place_law.proofs.Reading.{layout_is}
+use Rattle.sl_place_law.proofs.Seats.{IsSeated, given_seated, look_seated, sized_in}
+use Rattle.sl_run.specs.Runs.{Happening}
+use Rattle.sl_run.specs.Safety.{Found, IsSession, LawfulRun, SessionId, found_generation, setting_in, trace_of, world_at}
+use Rattle.sl_run.specs.Worlds.{Course, Program, Sampling, World}
+use Rattle.sl_run.specs.declared.header.Header.{Header}
+use Rattle.sl_run_law.specs.Fates.{Every}
+use Rattle.sl_sector.specs.declared.sector.DeltaRec.{DeltaRec}
+use Rattle.sl_sector.specs.declared.sector.Rec.TheVariants.{DeltaIs}
+use Rattle.sl_sector.specs.declared.sector.Rec.{Rec}
+use Rattle.sl_session_law.proofs.Making.{contains_cases, contains_first, contains_more, contains_none}
+use Rattle.sl_session_law.proofs.Owning.{got_inside, session_more}
+use Rattle.sl_session_law.specs.Promises.{IsSession as IsSessionOf}
+use Rattle.sl_sessions.specs.Sessions.{Session, calls_of, delta_of_record, delta_written, given_number, is_call_of, is_join_call, is_join_done, joined_after, last_delta, session_numbered, sessions}
+use Rattle.sl_trace.specs.Traces.{Setting, Submitted, Trace, new_call, record_of, reply_to, submitted}
+use Rattle.sl_trace.specs.declared.effects.Call.{Call}
+use Rattle.sl_trace.specs.declared.effects.JoinStep.TheVariants.{ClaimWrite, DecidingRead, FirstRenewal, VerifyRead}
+use Rattle.sl_trace.specs.declared.effects.Op.{Op}
+use Rattle.sl_trace.specs.declared.effects.Purpose.{Purpose}
+use Rattle.sl_words.proofs.CaseLaws.{is_false, no_value, none_some, some_value, true_is_false}
+use Rattle.sl_words.specs.Words.{choose}
+use Rattle.std.proofs.Common.{ap, arith, inl, inr, refl, subst, sym, ◌∙◌}
+use Rattle.std.specs.Option.{option_map_or}
+use Rattle.std.specs.Prelude.{Bool, Contains, IsSome, List, None, Option, Some, false, is_none, is_some, length, option_and_then, true, [], ℕ, ◌%◌, ◌&&◌, ◌*◌, ◌+◌, ◌-◌, ◌<◌, ◌||◌, ◌∷◌, ◌≡◌, ◌≤◌, ◌⊎◌}
+
+pub some_of : {A : Type 0} (o : Option A) → IsSome o → (x : A) × (o ≡ Some x)
+some_of None is = absurd (true_is_false (sym is))
+some_of (Some x) is = (x, refl)
+
+-- ---- the first renewal of a session that has joined
+
+nothing_joined : (s : Session) (j : ℕ) → s.job ≡ Some j → joined_after [] s ≡ None
+nothing_joined s j job =
+    ap (λ (o : Option ℕ). elim o as (λ z. Option ℕ) [ None ↦ Some 0 | Some y ↦ option_and_then (λ r. choose (is_join_done r.reply) (r.at + 1)) (reply_to [] y) ]) job
+
+joins : (st : Setting) (es : Trace) (s : Session) → Lawful st es → IsSessionOf st es s → (j k : ℕ) → s.job ≡ Some j → joined_after es s ≡ Some k → LawfulJoin es s k
+joins st [] s h its j k job joined = absurd (none_some k (sym (nothing_joined s j job) ∙ joined))
+joins st (e ∷ past) s h its j k job joined = h.delta.0.joins s (got_inside (sessions st (e ∷ past)) s.number s its) j k job joined
+
+-- It joined by the answer of its first renewal, which wrote a delta record.
+pub record HasRenewal (i : SessionId) (f : Found) : Type 0 where
+  pub call : Submitted
+  pub inside : Contains (calls_of (trace_of f) f.session) call
+  pub course : Course
+  pub has : Contains (own_courses i f.machine) course
+  pub is : IsCourseOf f.daemon course call
+  pub at : is_join_call FirstRenewal course.call.purpose ≡ true
+  pub delta : DeltaRec
+  pub writes : record_of course.call.op ≡ Some (DeltaIs delta)
+
+some_record : {d : DeltaRec} (c : Call) (op : Op) → c.op ≡ op → option_and_then delta_of_record (record_of c.op) ≡ Some d → (e : DeltaRec) × (record_of op ≡ Some (DeltaIs e))
+some_record {d} c op same is = (d, record_is c op d same is)
+
+pub has_renewal : (w : World) (i : SessionId) (f : Found) → IsKnown w i f → (j k : ℕ) → f.session.job ≡ Some j → joined_after (trace_of f) f.session ≡ Some k → HasRenewal i f
+has_renewal w i f kn j k job joined =
+    let join = joins (setting_in f) (trace_of f) f.session kn.lawful kn.its j k job joined in
+    let found = found_in (λ (m : Submitted). is_join_call FirstRenewal m.call.purpose) (calls_of (trace_of f) f.session) join.renewal join.first in
+    let r = partner_of (IsCourseOf f.daemon) (own_courses i f.machine) (calls_of (trace_of f) f.session) join.renewal kn.pairs found.0 in
+    let at : is_join_call FirstRenewal r.0.call.purpose ≡ true = ap (λ (y : Call). is_join_call FirstRenewal y.purpose) (sym r.2.call) ∙ found.1 in
+    let o = own_call w i f r.0 kn r.1 in
+    let law = step_law w i f r.0 o FirstRenewal at in
+    let wrote = some_record o.placed.pairs.here.call r.0.call.op (ap (λ (y : Call). y.op) o.placed.pairs.this.call) law.written in
+    record { call = join.renewal; inside = found.0; course = r.0; has = r.1; is = r.2; at = at; delta = wrote.0; writes = wrote.1 }
+
+no_claim : (p : Purpose) → is_join_call FirstRenewal p ≡ true → is_join_call ClaimWrite p ≡ false
+no_claim p at = ap (λ q. is_join_call ClaimWrite q) (step_is FirstRenewal p at).1
+
+-- ---- it has begun and verified
+
+pub record HasBegun (w : World) (i : SessionId) (f : Found) : Type 0 where
+  pub begun : has_begun i f ≡ true
+  pub verified : (is_none f.session.job || is_some (verifying_sample w i f)) ≡ true
+
+given_begun : (job : Option ℕ) (b : Bool) → job ≡ None → (is_none job || b) ≡ true
+given_begun job b none = ap (λ (o : Option ℕ). is_none o || b) none
+
+or_some : {A : Type 0} (b : Bool) (o : Option A) (x : A) → o ≡ Some x → (b || is_some o) ≡ true
+or_some true o x is = refl
+or_some false o x is = ap is_some is
+
+decided_by : (p : Program) (h : Header) (xs : List Happening) → LawfulRun p h xs → (i : SessionId) (f : Found) → IsSession (world_at p h xs) i f → (x : Sampling)
+    → verifying_sample (world_at p h xs) i f ≡ Some x → (y : Sampling) × (deciding_sample i f ≡ Some y)
+decided_by p h xs run i f its x is =
+    let w : World = world_at p h xs in
+    let v = then_some (sample_showing f (claim_bytes w i f)) (join_course i VerifyRead f.machine) x is in
+    let at = found_in (λ (c : Course). is_join_call VerifyRead c.call.purpose) (own_courses i f.machine) v.0 v.1 in
+    let k = verify_reads_have_claimed p h xs run i f v.0 its at.0 at.1 in
+    let claim = found_in (λ (c : Course). is_join_call ClaimWrite c.call.purpose) (own_courses i f.machine) k.claim k.claimed in
+    let d = claims_have_decided p h xs run i f k.claim its claim.0 claim.1 in
+    (d.sample, d.decided)
+
+begun_by : (p : Program) (h : Header) (xs : List Happening) → LawfulRun p h xs → (i : SessionId) (f : Found) → IsSession (world_at p h xs) i f
+    → (c : Course) → (f.session.job ≡ None) ⊎ ((x : Sampling) × (verifying_sample (world_at p h xs) i f ≡ Some x) × (x.step < c.made.step)) → HasBegun (world_at p h xs) i f
+begun_by p h xs run i f its c (inl none) =
+    record { begun = given_begun f.session.job (is_some (deciding_sample i f)) none; verified = given_begun f.session.job (is_some (verifying_sample (world_at p h xs) i f)) none }
+begun_by p h xs run i f its c (inr v) =
+    let d = decided_by p h xs run i f its v.0 v.1 in
+    record {
+      begun = or_some (is_none f.session.job) (deciding_sample i f) d.0 d.1;
+      verified = or_some (is_none f.session.job) (verifying_sample (world_at p h xs) i f) v.0 v.1;
+    }
+
+pub has_begun_by : (p : Program) (h : Header) (xs : List Happening) → LawfulRun p h xs → (i : SessionId) (f : Found) → IsSession (world_at p h xs) i f → (k : ℕ)
+    → joined_after (trace_of f) f.session ≡ Some k → (o : Option ℕ) → f.session.job ≡ o → HasBegun (world_at p h xs) i f
+has_begun_by p h xs run i f its k joined None job =
+    record {
+      begun = given_begun f.session.job (is_some (deciding_sample i f)) job;
+      verified = given_begun f.session.job (is_some (verifying_sample (world_at p h xs) i f)) job;
+    }
+has_begun_by p h xs run i f its k joined (Some j) job =
+    let r = has_renewal (world_at p h xs) i f (known grounds p h xs run i f its) j k job joined in
+    begun_by p h xs run i f its r.course
+    (renewals_have_verified p h xs run i f r.course its r.has r.delta r.writes (no_claim r.course.call.purpose r.at)).verified
+
+-- ---- its place
+
+look_of : (f : Found) (j : ℕ) (at : ℕ) → f.session.job ≡ Some j → (f.session.job ≡ None) ⊎ Look (setting_in f) (trace_of f) f.session at → Look (setting_in f) (trace_of f) f.session at
+look_of f j at job (inl none) = absurd (no_value j f.session.job job none)
+look_of f j at job (inr look) = look
+
+pub seated_by : (p : Program) (h : Header) (xs : List Happening) → LawfulRun p h xs → (i : SessionId) (f : Found) → IsSession (world_at p h xs) i f → (k : ℕ)
+    → joined_after (trace_of f) f.session ≡ Some k → (o : Option ℕ) → f.session.job ≡ o → IsSeated h (world_at p h xs) f.session
+seated_by p h xs run i f its k joined None job =
+    let kn = known grounds p h xs run i f its in
+    given_seated p h xs run i.machine f.machine f.daemon kn.there.at kn.there.has f.session (got_inside (sessions (setting_in f) (trace_of f)) f.session.number f.session kn.its) job
+seated_by p h xs run i f its k joined (Some j) job =
+    let kn = known grounds p h xs run i f its in
+    let r = has_renewal (world_at p h xs) i f kn j k job joined in
+    let mine = filtered (is_call_of f.session) (submitted (trace_of f)) r.call r.inside in
+    let writes : delta_written r.call ≡ Some r.delta = ap (λ (y : Call). option_and_then delta_of_record (record_of y.op)) r.is.call ∙ ap (option_and_then delta_of_record) r.writes in
+    let own = delta_is_own (setting_in f) (trace_of f) f.session r.call r.delta kn.lawful kn.its mine.0 (same_number r.call.call.session f.session.number mine.1) writes in
+    look_seated p h xs promised run i.machine f.machine f.daemon kn.there.at kn.there.has f.session r.call.at r.course.made r.is.made
+    (λ x there early. at_home p h xs promised run x there) (look_of f j r.call.at job own.from)
+
+-- ---- its generation
+
+last_inside : (ms : List Submitted) (d : DeltaRec) → last_delta ms ≡ Some d → (m : Submitted) × Contains ms m × (delta_written m ≡ Some d)
+last_inside [] d is = absurd (none_some d is)
+last_inside (m ∷ ms) d is = by (λ more. last_inside ms d more) (delta_written m) refl is where
+  by : (last_delta ms ≡ Some d → (x : Submitted) × Contains ms x × (delta_written x ≡ Some d)) → (o : Option DeltaRec) → delta_written m ≡ o
+      → elim o as (λ z. Option DeltaRec) [ Some e ↦ Some e | None ↦ last_delta ms ] ≡ Some d → (x : Submitted) × Contains (m ∷ ms) x × (delta_written x ≡ Some d)
+  by rest (Some e) its at = (m, contains_first m ms, its ∙ at)
+  by rest None its at = let r = rest at in (r.0, contains_more m ms r.0 r.1, r.2)
+
+last_none : (ms : List Submitted) → last_delta ms ≡ None → (m : Submitted) → Contains ms m → (d : DeltaRec) → delta_written m ≡ Some d → ⊥
+last_none [] none m there d is = contains_none m there
+last_none (x ∷ ms) none m there d is = by (λ rest old. last_none ms rest m old d is) (delta_written x) refl none (contains_cases x ms m there) where
+  by : (last_delta ms ≡ None → Contains ms m → ⊥) → (o : Option DeltaRec) → delta_written x ≡ o
+      → elim o as (λ z. Option DeltaRec) [ Some e ↦ Some e | None ↦ last_delta ms ] ≡ None → (x ≡ m) ⊎ Contains ms m → ⊥
+  by rest (Some e) its at place = none_some e (sym at)
+  by rest None its at (inl here) = no_value d (delta_written m) is (ap (λ (y : Submitted). delta_written y) (sym here) ∙ its)
+  by rest None its at (inr old) = rest at old
+
+same_record : (o : Option Rec) (a b : DeltaRec) → o ≡ Some (DeltaIs a) → o ≡ Some (DeltaIs b) → a ≡ b
+same_record o a b p q = some_value a b (ap (λ x. option_and_then delta_of_record x) (sym p ∙ q))
+
+-- Generations are told by the session's own sector.
+own_place : (w : World) (f : Found) (c : Course) (y : Option Sampling) → is_sector_of w.layout c.call.path c.call.offset f.session ≡ true
+    → generation_by w c.call.path c.call.offset y ≡ generation_by w f.session.path (sector_offset w f) y
+own_place w f c y own =
+    let same = place_is f.session.path (sector_offset w f) c.call.path c.call.offset own in
+    ap (λ q. generation_by w q c.call.offset y) (sym same.0) ∙ ap (λ n. generation_by w f.session.path n y) (sym same.1)
+
+generation_of_course : (p : Program) (h : Header) (xs : List Happening) → LawfulRun p h xs → (i : SessionId) (f : Found) (c : Course) → IsSession (world_at p h xs) i f
+    → Contains (own_courses i f.machine) c → (d : DeltaRec) → record_of c.call.op ≡ Some (DeltaIs d) → (b : Bool) → is_join_call ClaimWrite c.call.purpose ≡ b
+    → d.generation ≡ generation_by (world_at p h xs) f.session.path (sector_offset (world_at p h xs) f) (deciding_sample i f)
+generation_of_course p h xs run i f c its there d writes true at =
+    let w : World = world_at p h xs in
+    let k = claims_have_decided p h xs run i f c its there at in
+    ap (λ (x : DeltaRec). x.generation) (same_record (record_of c.call.op) d k.record_written writes k.own.writes) ∙ k.generation
+    ∙ own_place w f c (Some k.sample) k.own.place ∙ ap (generation_by w f.session.path (sector_offset w f)) (sym k.decided)
+generation_of_course p h xs run i f c its there d writes false at =
+    let w : World = world_at p h xs in
+    let v = renewals_have_verified p h xs run i f c its there d writes at in
+    v.generation ∙ own_place w f c (deciding_sample i f) v.own.place
+
+-- ---- a session that was joined at first makes no call of a joining
+
+given_joined : (t : Trace) (s : Session) → s.job ≡ None → joined_after t s ≡ Some 0
+given_joined t s none =
+    ap (λ (o : Option ℕ). elim o as (λ z. Option ℕ) [ None ↦ Some 0 | Some j ↦ option_and_then (λ r. choose (is_join_done r.reply) (r.at + 1)) (reply_to t j) ]) none
+
+given_none : (st : Setting) (es : Trace) (s : Session) (m : Submitted) (older : List Submitted) (d : IsMadeAfter es s m older) → IsLawfulCall st es s m older d → s.job ≡ None
+    → is_joining m.call.purpose ≡ false
+given_none st es s m older d l none =
+    let t : Trace = front_at d in
+    let its : IsSessionOf st (d.entry ∷ d.past) s = ap (λ n. session_numbered st (d.entry ∷ d.past) n) (sym (same_number m.call.session s.number d.mine)) ∙ l.its in
+    let was = begun_if_joined st d.entry d.past s l.lawful its 0 (given_joined (d.entry ∷ d.past) s none) in
+    joined_not st t s (new_call (length d.past) d.entry.reading m.call) 0 m.call.purpose l.law (given_joined t s none)
+    (has_name st t s 0 (got_inside (sessions st t) s.number s (session_more st (cut_at d.index d.entry) d.past s.number s was)) (given_joined t s none) l.alive)
+
+all_given : (st : Setting) (es : Trace) (s : Session) → Lawful st es → IsSessionOf st es s → s.job ≡ None → (ms : List Submitted) → AreMade es s ms
+    → Every (λ (m : Submitted). is_joining m.call.purpose ≡ false) ms
+all_given st es s h its none [] made = tt
+all_given st es s h its none (m ∷ ms) made = (given_none st es s m ms made.0 (lawful_call st es s m ms made.0 h its) none, all_given st es s h its none ms made.1)
+
+not_at : (p : Purpose) → is_joining p ≡ false → is_join_call DecidingRead p ≡ false
+not_at p apart = is_false (is_join_call DecidingRead p) (λ is. true_is_false (sym (ranks_of DecidingRead p is).0 ∙ apart))
+
+pub given_undecided : (w : World) (i : SessionId) (f : Found) → IsKnown w i f → f.session.job ≡ None → deciding_sample i f ≡ None
+given_undecided w i f k none =
+    ap (λ q. option_and_then (sample_showing f (watched_bytes i f)) q)
+    (find_none (λ (c : Course). is_join_call DecidingRead c.call.purpose) (own_courses i f.machine)
+    (every_pair (IsCourseOf f.daemon) (λ (c : Course). is_join_call DecidingRead c.call.purpose ≡ false) (λ (m : Submitted). is_joining m.call.purpose ≡ false)
+    (λ c m r apart. not_at c.call.purpose (ap (λ (x : Call). is_joining x.purpose) (sym r.call) ∙ apart)) (own_courses i f.machine) (calls_of (trace_of f) f.session) k.pairs
+    (all_given (setting_in f) (trace_of f) f.session k.lawful k.its none (calls_of (trace_of f) f.session) (all_made (trace_of f) f.session))))
+
+-- ---- its generation, whether it wrote or not
+
+unwritten_by : (w : World) (i : SessionId) (f : Found) (kn : IsKnown w i f) (k : ℕ) → joined_after (trace_of f) f.session ≡ Some k → last_delta (calls_of (trace_of f) f.session) ≡ None
+    → (o : Option ℕ) → f.session.job ≡ o → given_number f.session ≡ generation_by w f.session.path (sector_offset w f) (deciding_sample i f)
+unwritten_by w i f kn k joined none None job =
+    ap (λ (o : Option ℕ). elim o as (λ z. ℕ) [ None ↦ 1 | Some j ↦ 0 ]) job ∙ ap (generation_by w f.session.path (sector_offset w f)) (sym (given_undecided w i f kn job))
+unwritten_by w i f kn k joined none (Some j) job =
+    let r = has_renewal w i f kn j k job joined in
+    absurd (last_none (calls_of (trace_of f) f.session) none r.call r.inside r.delta
+    (ap (λ (y : Call). option_and_then delta_of_record (record_of y.op)) r.is.call ∙ ap (option_and_then delta_of_record) r.writes))
+
+generation_by_last : (p : Program) (h : Header) (xs : List Happening) → LawfulRun p h xs → (i : SessionId) (f : Found) → IsSession (world_at p h xs) i f → (k : ℕ)
+    → joined_after (trace_of f) f.session ≡ Some k → (o : Option DeltaRec) → last_delta (calls_of (trace_of f) f.session) ≡ o
+    → option_map_or (λ (d : DeltaRec). d.generation) o (given_number f.session)
+    ≡ generation_by (world_at p h xs) f.session.path (sector_offset (world_at p h xs) f) (deciding_sample i f)
+generation_by_last p h xs run i f its k joined None is =
+    unwritten_by (world_at p h xs) i f (known grounds p h xs run i f its) k joined is f.session.job refl
+generation_by_last p h xs run i f its k joined (Some d) is =
+    let kn = known grounds p h xs run i f its in
+    let m = last_inside (calls_of (trace_of f) f.session) d is in
+    let r = partner_of (IsCourseOf f.daemon) (own_courses i f.machine) (calls_of (trace_of f) f.session) m.0 kn.pairs m.1 in
+    generation_of_course p h xs run i f r.0 its r.1 d (record_is m.0.call r.0.call.op d (ap (λ (y : Call). y.op) r.2.call) m.2) (is_join_call ClaimWrite r.0.call.purpose) refl
+
+pub generation_found : (p : Program) (h : Header) (xs : List Happening) → LawfulRun p h xs → (i : SessionId) (f : Found) → IsSession (world_at p h xs) i f → (k : ℕ)
+    → joined_after (trace_of f) f.session ≡ Some k
+    → found_generation f ≡ generation_by (world_at p h xs) f.session.path (sector_offset (world_at p h xs) f) (deciding_sample i f)
+generation_found p h xs run i f its k joined = generation_by_last p h xs run i f its k joined (last_delta (calls_of (trace_of f) f.session)) refl
+
+-- ---- the law
+
+abbrev place_of : (p : Program) (h : Header) (xs : List Happening) (f : Found) → (s : IsSeated h (world_at p h xs) f.session) → IsIdPlace p h f.session.path (sector_offset (world_at p h xs) f)
+place_of p h xs f s =
+    record {
+      lockspace = s.line;
+      id = f.session.id;
+      has = s.there;
+      range = (s.id.0, subst (λ (g : Layout). f.session.id ≤ g.hosts) (layout_is p h xs) s.id.1);
+      is_path = s.path;
+      is_offset = ap (λ (g : Layout). delta_offset g f.session.offset f.session.id) (layout_is p h xs)
+          ∙ ap (λ n. delta_offset (world_at p h []).layout n f.session.id) s.offset;
+    }
+
+standing_where : (w : World) (path : List ℕ) (offset : ℕ) (i : SessionId) (f : Found) (b c : Bool) → b ≡ true → c ≡ true
+    → elim (b && c) as (λ z. IdSession) [ false ↦ blank | true ↦ standing_of w path offset i f ] ≡ standing_of w path offset i f
+standing_where w path offset i f true true p q = refl
+standing_where w path offset i f false c p q = absurd (true_is_false (sym p))
+standing_where w path offset i f true false p q = absurd (true_is_false (sym q))
+
+-- A session that has begun stands in its id.
+pub stands_as : (w : World) (i : SessionId) (f : Found) → IsSession w i f → has_begun i f ≡ true
+    → session_at w f.session.path (sector_offset w f) (name_of i) ≡ standing_of w f.session.path (sector_offset w f) i f
+stands_as w i f its begun =
+    ap (standing_by w f.session.path (sector_offset w f) i) its
+    ∙ standing_where w f.session.path (sector_offset w f) i f (is_sector_of w.layout f.session.path (sector_offset w f) f.session) (has_begun i f)
+    (is_place f.session.path (sector_offset w f) f.session.path (sector_offset w f) refl refl) begun
+
+-- A joined session stands in its id as the world has it.
+pub joined_stand : JoinedStand
+joined_stand p h xs run i f its joined =
+    let w : World = world_at p h xs in
+    let k = some_of (joined_after (trace_of f) f.session) joined in
+    let s = seated_by p h xs run i f its k.0 k.1 f.session.job refl in
+    let b = has_begun_by p h xs run i f its k.0 k.1 f.session.job refl in
+    let same = stands_as w i f its b.begun in
+    record {
+      place = place_of p h xs f s;
+      names = (s.name, s.offset, refl);
+      stands = same;
+      joined = ap (λ (x : IdSession). x.joined) same ∙ joined;
+      verified = ap (λ (x : IdSession). x.verified) same ∙ b.verified;
+      over = ap (λ (x : IdSession). x.over) same;
+      generation = ap (λ (x : IdSession). x.generation) same ∙ sym (generation_found p h xs run i f its k.0 k.1);
+    }
+
+-- ---- one id, one sector
+
+pub same_ids_stand_together : SameIdsStandTogether
+same_ids_stand_together w f g same =
+    let at = place_is f.session.path f.session.offset g.session.path g.session.offset same.0 in
+    (at.0, ap (λ n. delta_offset w.layout n f.session.id) at.1 ∙ ap (λ n. delta_offset w.layout g.session.offset n) same.1)
+
+one_sector : (a b i k : ℕ) → a % 1048576 ≡ 0 → b % 1048576 ≡ 0 → 1 ≤ i → i ≤ 2000 → 1 ≤ k → k ≤ 2000 → a + 512 * (i - 1) ≡ b + 512 * (k - 1) → (a ≡ b) × (i ≡ k)
+one_sector a b i k p q low high low' high' same = (omega (arith, p, q, low, high, low', high', same), omega (arith, p, q, low, high, low', high', same))
+
+sectors_apart : (g : Layout) (a b i k : ℕ) → IsSized g → a % 1048576 ≡ 0 → b % 1048576 ≡ 0 → 1 ≤ i → i ≤ g.hosts → 1 ≤ k → k ≤ g.hosts → delta_offset g a i ≡ delta_offset g b k
+    → (a ≡ b) × (i ≡ k)
+sectors_apart g a b i k z p q low high low' high' same =
+    one_sector a b i k p q low (omega (arith, high, z.hosts.1)) low' (omega (arith, high', z.hosts.1)) (subst (λ n. a + n * (i - 1) ≡ b + n * (k - 1)) z.sector same)
+
+pub standing_together_is_same_id : StandingTogetherIsSameId
+standing_together_is_same_id p h xs run i k f g its also joined joins path offset =
+    let w : World = world_at p h xs in
+    let one = some_of (joined_after (trace_of f) f.session) joined in
+    let two = some_of (joined_after (trace_of g) g.session) joins in
+    let s = seated_by p h xs run i f its one.0 one.1 f.session.job refl in
+    let t = seated_by p h xs run k g also two.0 two.1 g.session.job refl in
+    let apart = sectors_apart w.layout f.session.offset g.session.offset f.session.id g.session.id (sized_in p h xs run)
+    (ap (λ n. n % 1048576) s.offset ∙ lockspace_aligned h s.line run.header s.there) (ap (λ n. n % 1048576) t.offset ∙ lockspace_aligned h t.line run.header t.there)
+    s.id.0 s.id.1 t.id.0 t.id.1 offset in
+    (is_place f.session.path f.session.offset g.session.path g.session.offset path apart.0, apart.1)

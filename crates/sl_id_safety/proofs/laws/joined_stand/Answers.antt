@@ -1,0 +1,5 @@
+use Rattle.sl_id_safety.proofs.Standing.{joined_stand}
+use Rattle.sl_id_safety.proofs.laws.joined_stand.Goals as goal
+
+pub returns : goal.returns
+returns c = joined_stand

@@ -1,0 +1,5 @@
+use Rattle.sl_id_safety.proofs.Acting.{joined_stays}
+use Rattle.sl_id_safety.proofs.laws.joined_stays.Goals as goal
+
+pub returns : goal.returns
+returns c = joined_stays

@@ -1,0 +1,5 @@
+use Rattle.sl_id_safety.proofs.Acting.{lockspaces_are_areas}
+use Rattle.sl_id_safety.proofs.laws.lockspaces_are_areas.Goals as goal
+
+pub returns : goal.returns
+returns c = lockspaces_are_areas

@@ -1,0 +1,5 @@
+use Rattle.sl_id_safety.proofs.Silence.{over_are_silent}
+use Rattle.sl_id_safety.proofs.laws.over_are_silent.Goals as goal
+
+pub returns : goal.returns
+returns c = over_are_silent

@@ -1,0 +1,5 @@
+use Rattle.sl_id_safety.proofs.Standing.{standing_together_is_same_id}
+use Rattle.sl_id_safety.proofs.laws.standing_together_is_same_id.Goals as goal
+
+pub returns : goal.returns
+returns c = standing_together_is_same_id
