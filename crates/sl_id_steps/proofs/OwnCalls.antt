@@ -1,15 +1,18 @@
 -- What an entry makes of the calls of a session of the daemon that takes it: each stays, or is answered, and new ones stand in front.
 use Rattle.sl_front_law.proofs.Having.{contains_right}
-use Rattle.sl_id_state.proofs.Bridge.{IsKnown}
+use Rattle.sl_id_state.proofs.Bridge.{IsKnown, known}
 use Rattle.sl_id_state.proofs.FindingFrames.{find_passes, own_mapped}
 use Rattle.sl_id_state.proofs.Keeping.{own_call}
 use Rattle.sl_id_state.proofs.Living.{rank_at}
+use Rattle.sl_id_state.proofs.Proven.{grounds}
 use Rattle.sl_id_state.proofs.Steps.{only}
 use Rattle.sl_id_state.specs.IdStates.{join_course, own_courses}
 use Rattle.sl_id_steps.proofs.StepFrames.{IsNewCourse, step_submits}
 use Rattle.sl_run.specs.Events.{after_step, close_answered}
-use Rattle.sl_run.specs.Safety.{Found, SessionId, is_course_of}
-use Rattle.sl_run.specs.Worlds.{Course, Daemon, In_flight, Machine, Stamp, World}
+use Rattle.sl_run.specs.Runs.{Happening}
+use Rattle.sl_run.specs.Safety.{Found, IsSession, LawfulRun, SessionId, is_course_of, world_at}
+use Rattle.sl_run.specs.Worlds.{Course, Daemon, In_flight, Machine, Program, Sampling, Stamp, World}
+use Rattle.sl_run.specs.declared.header.Header.{Header}
 use Rattle.sl_run_law.proofs.Coursing.{changed_if}
 use Rattle.sl_run_law.proofs.Tracking.{told}
 use Rattle.sl_run_law.specs.Fates.{Every}
@@ -25,7 +28,7 @@ use Rattle.sl_trace.specs.declared.input.Input.{Input}
 use Rattle.sl_words.proofs.CaseLaws.{none_some, some_value}
 use Rattle.std.proofs.Common.{ap, inl, inr, refl, subst, sym, ◌∙◌}
 use Rattle.std.proofs.lemmas.List.Elements.{filter-append}
-use Rattle.std.specs.Prelude.{Bool, Contains, List, None, Option, Some, cond, false, filter, find, map, true, [], ℕ, ◌&&◌, ◌++◌, ◌==◌, ◌∷◌, ◌≡◌}
+use Rattle.std.specs.Prelude.{Bool, Contains, List, None, Option, Some, cond, false, filter, find, length, map, true, [], ℕ, ◌&&◌, ◌++◌, ◌==◌, ◌<◌, ◌∷◌, ◌≡◌}
 
 -- ---- one call
 
@@ -173,43 +176,67 @@ contains_mapped f (x ∷ cs) c has =
 
 -- ---- a session
 
--- A session before an entry of its daemon and after it.
-pub record Through (w v : World) (i : SessionId) (f g : Found) : Type 0 where
+-- A session before an entry of its daemon, in a world w, and after it.
+pub record Through (p : Program) (h : Header) (xs : List Happening) (w : World) (i : SessionId) (f g : Found) : Type 0 where
+  pub run : LawfulRun p h xs
+  pub its : IsSession (world_at p h xs) i g
+  pub layout : (world_at p h xs).layout ≡ w.layout
   pub stamp : Stamp
   pub entry : Entry
   pub session : g.session ≡ f.session
   pub setting : g.daemon.setting ≡ f.daemon.setting
   pub trace : g.daemon.trace ≡ entry ∷ f.daemon.trace
   pub stamps : g.daemon.stamps ≡ stamp ∷ f.daemon.stamps
+  pub even : length f.daemon.stamps ≡ length f.daemon.trace
   pub newer : List Course
   pub calls : own_courses i g.machine ≡ newer ++ map (closed stamp entry.input) (own_courses i f.machine)
   pub each : Every (IsFresh stamp) newer
-  pub layout : v.layout ≡ w.layout
-  pub known : IsKnown v i g
+  -- what was sampled came before
+  pub early : (c : Course) (y : Sampling) → Contains (own_courses i f.machine) c → Contains c.samples y → y.step < stamp.step
+
+-- What is known of it after.
+pub knows : {p : Program} {h : Header} {xs : List Happening} {w : World} {i : SessionId} {f g : Found} → Through p h xs w i f g
+    → IsKnown (world_at p h xs) i g
+knows {p = p} {h = h} {xs = xs} {i = i} {g = g} t = known grounds p h xs t.run i g t.its
+
+-- What the entry makes of a call that was there.
+abbrev pub closes : {p : Program} {h : Header} {xs : List Happening} {w : World} {i : SessionId} {f g : Found} → Through p h xs w i f g → Course → Course
+closes t = closed t.stamp t.entry.input
 
 -- A call that it had, later.
-pub had_call : (w v : World) (i : SessionId) (f g : Found) (t : Through w v i f g) (c : Course) → Contains (own_courses i f.machine) c
-    → Contains (own_courses i g.machine) (closed t.stamp t.entry.input c)
-had_call w v i f g t c has =
+pub had_call : {p : Program} {h : Header} {xs : List Happening} {w : World} {i : SessionId} {f g : Found} (t : Through p h xs w i f g) (c : Course)
+    → Contains (own_courses i f.machine) c → Contains (own_courses i g.machine) (closes t c)
+had_call {i = i} {f = f} t c has =
     let k : Course → Course = closed t.stamp t.entry.input in
     subst (λ cs. Contains cs (k c)) (sym t.calls)
     (contains_right t.newer (map k (own_courses i f.machine)) (k c) (contains_mapped k (own_courses i f.machine) c has))
 
-step_as : (now : Stamp) (j : Input) (step : JoinStep) (c : Course) → is_join_call step (closed now j c).call.purpose ≡ is_join_call step c.call.purpose
+pub step_as : (now : Stamp) (j : Input) (step : JoinStep) (c : Course) → is_join_call step (closed now j c).call.purpose ≡ is_join_call step c.call.purpose
 step_as now j step c = let k : IsKept c (closed now j c) = kept now j c in ap (λ x. is_join_call step x.purpose) k.call
 
-one_call : (w v : World) (i : SessionId) (f g : Found) (t : Through w v i f g) (step : JoinStep) → (rank_at step ≡ 2 → ⊥) → (c : Course)
-    → join_course i step f.machine ≡ Some c → join_course i step g.machine ≡ Some (closed t.stamp t.entry.input c)
-one_call w v i f g t step once c at =
+-- A call of a step of its joining.
+pub record HadStep {p : Program} {h : Header} {xs : List Happening} {w : World} {i : SessionId} {f g : Found} (t : Through p h xs w i f g) (step : JoinStep) (c : Course) : Type 0 where
+  pub before : Contains (own_courses i f.machine) c
+  pub has : Contains (own_courses i g.machine) (closes t c)
+  pub is : is_join_call step (closes t c).call.purpose ≡ true
+
+pub had_step : {p : Program} {h : Header} {xs : List Happening} {w : World} {i : SessionId} {f g : Found} (t : Through p h xs w i f g) (step : JoinStep) (c : Course)
+    → join_course i step f.machine ≡ Some c → HadStep t step c
+had_step {i = i} {f = f} t step c at =
     let p = find_passes (λ x. is_join_call step x.call.purpose) (own_courses i f.machine) c at in
-    only v i g (closed t.stamp t.entry.input c) (own_call v i g (closed t.stamp t.entry.input c) t.known (had_call w v i f g t c p.there)) step once
-    (step_as t.stamp t.entry.input step c ∙ p.test)
+    record { before = p.there; has = had_call t c p.there; is = step_as t.stamp t.entry.input step c ∙ p.test }
+
+one_call : {p : Program} {h : Header} {xs : List Happening} {w : World} {i : SessionId} {f g : Found} (t : Through p h xs w i f g) (step : JoinStep)
+    → (rank_at step ≡ 2 → ⊥) → (c : Course) → join_course i step f.machine ≡ Some c → join_course i step g.machine ≡ Some (closes t c)
+one_call {p = p} {h = h} {xs = xs} {i = i} {g = g} t step once c at =
+    let s = had_step t step c at in
+    only (world_at p h xs) i g (closes t c) (own_call (world_at p h xs) i g (closes t c) (knows t) s.has) step once s.is
 
 -- So goes each step of its joining that comes once.
-pub join_goes : (w v : World) (i : SessionId) (f g : Found) (t : Through w v i f g) (step : JoinStep) → (rank_at step ≡ 2 → ⊥)
-    → JoinGoes (IsFresh t.stamp) (closed t.stamp t.entry.input) (join_course i step f.machine) (join_course i step g.machine)
-join_goes w v i f g t step once =
+pub join_goes : {p : Program} {h : Header} {xs : List Happening} {w : World} {i : SessionId} {f g : Found} (t : Through p h xs w i f g) (step : JoinStep)
+    → (rank_at step ≡ 2 → ⊥) → JoinGoes (IsFresh t.stamp) (closes t) (join_course i step f.machine) (join_course i step g.machine)
+join_goes {i = i} {f = f} {g = g} t step once =
     let p : Course → Bool = λ x. is_join_call step x.call.purpose in
     goes_by (IsFresh t.stamp) p (closed t.stamp t.entry.input) t.newer (own_courses i f.machine) t.each (step_as t.stamp t.entry.input step)
-    (λ c at. ap (λ cs. find p cs) (sym t.calls) ∙ one_call w v i f g t step once c at)
+    (λ c at. ap (λ cs. find p cs) (sym t.calls) ∙ one_call t step once c at)
     (join_course i step f.machine) (join_course i step g.machine) refl (ap (λ cs. find p cs) (sym t.calls))
