@@ -1,4 +1,5 @@
 -- What an entry makes of the calls of a session of the daemon that takes it: each stays, or is answered, and new ones stand in front.
+use Rattle.sl_course_law.proofs.Pairing.{every_filtered}
 use Rattle.sl_front_law.proofs.Having.{contains_right}
 use Rattle.sl_id_state.proofs.Bridge.{IsKnown, known}
 use Rattle.sl_id_state.proofs.FindingFrames.{find_passes, own_mapped}
@@ -6,19 +7,19 @@ use Rattle.sl_id_state.proofs.Keeping.{own_call}
 use Rattle.sl_id_state.proofs.Living.{rank_at}
 use Rattle.sl_id_state.proofs.Proven.{grounds}
 use Rattle.sl_id_state.proofs.Steps.{only}
-use Rattle.sl_id_state.specs.IdStates.{join_course, own_courses}
+use Rattle.sl_id_state.specs.IdStates.{join_course, own_courses, runs_still}
 use Rattle.sl_id_steps.proofs.StepFrames.{IsNewCourse, step_submits}
 use Rattle.sl_run.specs.Events.{after_step, close_answered}
 use Rattle.sl_run.specs.Runs.{Happening}
-use Rattle.sl_run.specs.Safety.{Found, IsSession, LawfulRun, SessionId, is_course_of, world_at}
+use Rattle.sl_run.specs.Safety.{Found, IsSession, LawfulRun, SessionId, is_course_of, was_reset, world_at}
 use Rattle.sl_run.specs.Worlds.{Course, Daemon, In_flight, Machine, Program, Sampling, Stamp, World}
 use Rattle.sl_run.specs.declared.header.Header.{Header}
 use Rattle.sl_run_law.proofs.Coursing.{changed_if}
 use Rattle.sl_run_law.proofs.Tracking.{told}
 use Rattle.sl_run_law.specs.Fates.{Every}
 use Rattle.sl_session_law.proofs.Making.{contains_cases, contains_first, contains_more, contains_none}
-use Rattle.sl_sessions.specs.Sessions.{is_join_call}
-use Rattle.sl_trace.specs.Traces.{is_ok_answer}
+use Rattle.sl_sessions.specs.Sessions.{calls_of, ended_after, free_write, is_join_call, joined_after}
+use Rattle.sl_trace.specs.Traces.{Submitted, is_ok_answer}
 use Rattle.sl_trace.specs.declared.effects.Call.{Call}
 use Rattle.sl_trace.specs.declared.effects.Effects.{Effects}
 use Rattle.sl_trace.specs.declared.effects.Entry.{Entry}
@@ -97,19 +98,11 @@ closed_all now Wake a = sym (map_still (closed now Wake) a.calls (λ c. refl))
 closed_all now (Exit p) a = sym (map_still (closed now (Exit p)) a.calls (λ c. refl))
 closed_all now (Spawned p ok) a = sym (map_still (closed now (Spawned p ok)) a.calls (λ c. refl))
 
-filtered_by : (P : Course → Type 0) (b : Bool) (c : Course) (cs : List Course) → P c → Every P cs → Every P (cond b (c ∷ cs) cs)
-filtered_by P true c cs this rest = (this, rest)
-filtered_by P false c cs this rest = rest
-
-every_filtered : (P : Course → Type 0) (p : Course → Bool) (cs : List Course) → Every P cs → Every P (filter p cs)
-every_filtered P p [] h = tt
-every_filtered P p (c ∷ cs) h = filtered_by P (p c) c (filter p cs) h.0 (every_filtered P p cs h.1)
-
 -- The session's own calls after the entry.
 pub record OwnAfter (now : Stamp) (j : Input) (number : ℕ) (calls : List Call) (i : SessionId) (a b : Machine) : Type 0 where
   pub newer : List Course
   pub same : own_courses i b ≡ newer ++ map (closed now j) (own_courses i a)
-  pub each : Every (IsNewCourse now number calls) newer
+  pub each : Every (λ c. IsNewCourse now number calls c × (is_course_of i c ≡ true)) newer
 
 own_as : (i : SessionId) (now : Stamp) (j : Input) (c : Course) → is_course_of i (closed now j c) ≡ is_course_of i c
 own_as i now j c =
@@ -152,7 +145,7 @@ mapped_by : (f : Course → Course) (b t : Bool) (c : Course) (o q : Option Cour
 mapped_by f true t c o q same h rest = absurd (none_some c (sym h))
 mapped_by f false t c o q same h rest = ap (λ b. cond b (Some (f c)) q) same ∙ rest h
 
-find_mapped : (p : Course → Bool) (f : Course → Course) (cs : List Course) → ((c : Course) → p (f c) ≡ p c) → find p cs ≡ None
+pub find_mapped : (p : Course → Bool) (f : Course → Course) (cs : List Course) → ((c : Course) → p (f c) ≡ p c) → find p cs ≡ None
     → find p (map f cs) ≡ None
 find_mapped p f [] as_was h = refl
 find_mapped p f (c ∷ cs) as_was h =
@@ -191,7 +184,16 @@ pub record Through (p : Program) (h : Header) (xs : List Happening) (w : World) 
   pub newer : List Course
   pub calls : own_courses i g.machine ≡ newer ++ map (closed stamp entry.input) (own_courses i f.machine)
   pub each : Every (IsFresh stamp) newer
-  -- what was sampled came before
+  -- its daemon runs on, and was not reset
+  pub ran : runs_still f ≡ true
+  pub runs : runs_still g ≡ true
+  pub was_up : was_reset f ≡ false
+  pub is_up : was_reset g ≡ false
+  -- what has ended, or written its free, makes no call
+  pub silent : (k : ℕ) → ended_after f.daemon.trace f.session ≡ Some k → newer ≡ []
+  pub freed : (k : ℕ) (m : Submitted) → joined_after f.daemon.trace f.session ≡ Some k → free_write (calls_of f.daemon.trace f.session) ≡ Some m → newer ≡ []
+  -- what was made and sampled came before
+  pub older : (c : Course) → Contains (own_courses i f.machine) c → c.made.step < stamp.step
   pub early : (c : Course) (y : Sampling) → Contains (own_courses i f.machine) c → Contains c.samples y → y.step < stamp.step
 
 -- What is known of it after.
