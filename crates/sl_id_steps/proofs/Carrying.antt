@@ -32,10 +32,11 @@ use Rattle.sl_run.specs.declared.header.Header.{Header}
 use Rattle.sl_run_law.specs.Fates.{Every}
 use Rattle.sl_session_law.proofs.Freeing.{freed_are_silent}
 use Rattle.sl_session_law.proofs.Silence.{ended_are_silent}
-use Rattle.sl_sessions.specs.Sessions.{Session, calls_of, ended_after, free_write, joined_after}
+use Rattle.sl_sessions.specs.Sessions.{Session, calls_of, ended_after, free_write, joined_after, session_numbered}
 use Rattle.sl_trace.specs.Traces.{Submitted, Trace}
 use Rattle.sl_trace.specs.declared.effects.Call.{Call}
 use Rattle.sl_trace.specs.declared.effects.Entry.{Entry}
+use Rattle.sl_words.proofs.CaseLaws.{is_false, not_both}
 use Rattle.sl_words.proofs.WordLaws.{and_true}
 use Rattle.sl_words.specs.Words.{is_empty, some_is}
 use Rattle.std.proofs.Common.{ap, arith, inl, inr, refl, subst, sym, tests, ◌∙◌}
@@ -69,13 +70,13 @@ abbrev IsNewOwn : SessionId → Stamp → ℕ → List Call → Course → Type 
 IsNewOwn i now number calls c = IsNewCourse now number calls c × (is_course_of i c ≡ true)
 
 none_new : (i : SessionId) (now : Stamp) (number : ℕ) (calls : List Call) (xs : List Course)
-    → ((k : ℕ) (c : Call) → slice_get calls k ≡ Some c → c.session ≡ i.number → ⊥) → Every (IsNewOwn i now number calls) xs → xs ≡ []
+    → ((k : ℕ) (c : Call) → slice_get calls k ≡ Some c → (c.session == i.number) ≡ false) → Every (IsNewOwn i now number calls) xs → xs ≡ []
 none_new i now number calls [] never each = refl
 none_new i now number calls (x ∷ xs) never each =
     let n = each.0.0 in
     let at = placed_at calls n.call n.has in
     let mine = and_true (x.daemon == i.daemon) (x.call.session == i.number) each.0.1 in
-    absurd (never at.0 n.call at.1 (ap (λ c. c.call.session) (sym n.is) ∙ same_numbers x.call.session i.number mine.1))
+    absurd (not_both (x.call.session == i.number) mine.1 (ap (λ c. c.call.session == i.number) n.is ∙ never at.0 n.call at.1))
 
 -- ---- one session
 
@@ -101,8 +102,8 @@ up_by a d m runs = m.kept d (m.running d runs)
 -- It goes through the entry.
 through_by : StayDistinct → MachinesMirror → LandingsAreWritten → (p : Program) (h : Header) (now : List Happening) (x : Happening)
     (run : LawfulRun p h (now ++ x ∷ [])) (e : IsEntry p h now x) (i : SessionId) (s : Session) → i.machine ≡ machine_of x.0
-    → IsSession (after_event p h now x) i (after e s) → Through p h (now ++ x ∷ []) (between (world_at p h now) x.0) i (before e s) (after e s)
-through_by distinct mirror written p h now x run e i s here its =
+    → session_numbered e.daemon.setting e.daemon.trace s.number ≡ Some s → IsSession (after_event p h now x) i (after e s) → Through p h (now ++ x ∷ []) (between (world_at p h now) x.0) i (before e s) (after e s)
+through_by distinct mirror written p h now x run e i s here had its =
     let u : World = between (world_at p h now) x.0 in
     let v : World = after_event p h now x in
     let a : Machine = e.machine in
@@ -134,11 +135,14 @@ through_by distinct mirror written p h now x run e i s here its =
       runs = running_is b g.daemon still;
       was_up = ap (λ rs. not (is_empty rs)) (sym (resets_same d.begun.step) ∙ up);
       is_up = ap (λ rs. not (is_empty rs)) up;
-      silent = λ n ended. none_new i (stamp_of e) d.number e.effects.calls own.newer
-          (λ j c at mine. ended_are_silent d.setting (entry_of e.input e.effects a) d.trace s k.lawful k.its n ended j c at (mine ∙ sym k.there.number)) own.each;
-      freed = λ n m joined free. none_new i (stamp_of e) d.number e.effects.calls own.newer
-          (λ j c at mine. freed_are_silent d.setting (entry_of e.input e.effects a) d.trace s k.lawful k.its n joined m free j c at (mine ∙ sym k.there.number))
-          own.each;
+      number = k.there.daemon;
+      had = had;
+      silent = λ n ended j c at. is_false (c.session == s.number) (λ mine.
+          ended_are_silent d.setting (entry_of e.input e.effects a) d.trace s k.lawful k.its n ended j c at (same_numbers c.session s.number mine));
+      freed = λ n m joined free j c at. is_false (c.session == s.number) (λ mine.
+          freed_are_silent d.setting (entry_of e.input e.effects a) d.trace s k.lawful k.its n joined m free j c at (same_numbers c.session s.number mine));
+      none_new = λ never. none_new i (stamp_of e) d.number e.effects.calls own.newer
+          (λ j c at. ap (λ n. c.session == n) (sym k.there.number) ∙ never j c at) own.each;
       older = λ c has. kept_early p h now x run c.made.step c.made.moment
           (Of_stamp (machine_of x.0) a c.made e.at (made_is_stamp a c (filtered (is_course_of i) a.calls c has).0) refl refl);
       early = λ c y has in_it. kept_early p h now x run y.step y.moment
@@ -170,9 +174,13 @@ carried distinct mirror written p h now x run e i is f at =
     let on : session_on i e.machine ≡ Some f = sym (found_on u i e.machine (ap (machine_at u) is.0 ∙ e.at)) ∙ at in
     let own = own_found (stamp_of e) e.input e.effects e.machine e.daemon i f e.runs is.1 on in
     let its : session_of_world v i ≡ Some (after e f.session) = found_on v i (stepped e) (ap (machine_at v) is.0 ∙ e.later) ∙ own.1 in
+    let k : IsKnown v i (after e f.session) = known grounds p h (now ++ x ∷ []) run i (after e f.session) its in
+    let had : session_numbered e.daemon.setting e.daemon.trace f.session.number ≡ Some f.session =
+    ap (λ n. session_numbered e.daemon.setting e.daemon.trace n) k.there.number
+    ∙ subst (λ d. session_numbered d.setting d.trace i.number ≡ Some f.session) own.0 (is_found i e.machine f on).session in
     record {
       found = after e f.session;
       at = its;
       through = subst (λ k. Through p h (now ++ x ∷ []) u i k (after e f.session)) (before_is e f (is_found i e.machine f on).machine own.0)
-          (through_by distinct mirror written p h now x run e i f.session is.0 its);
+          (through_by distinct mirror written p h now x run e i f.session is.0 had its);
     }

@@ -18,7 +18,7 @@ use Rattle.sl_run_law.proofs.Coursing.{changed_if}
 use Rattle.sl_run_law.proofs.Tracking.{told}
 use Rattle.sl_run_law.specs.Fates.{Every}
 use Rattle.sl_session_law.proofs.Making.{contains_cases, contains_first, contains_more, contains_none}
-use Rattle.sl_sessions.specs.Sessions.{calls_of, ended_after, free_write, is_join_call, joined_after}
+use Rattle.sl_sessions.specs.Sessions.{Session, calls_of, ended_after, free_write, is_join_call, joined_after, session_numbered}
 use Rattle.sl_trace.specs.Traces.{Submitted, is_ok_answer}
 use Rattle.sl_trace.specs.declared.effects.Call.{Call}
 use Rattle.sl_trace.specs.declared.effects.Effects.{Effects}
@@ -29,7 +29,7 @@ use Rattle.sl_trace.specs.declared.input.Input.{Input}
 use Rattle.sl_words.proofs.CaseLaws.{none_some, some_value}
 use Rattle.std.proofs.Common.{ap, inl, inr, refl, subst, sym, ◌∙◌}
 use Rattle.std.proofs.lemmas.List.Elements.{filter-append}
-use Rattle.std.specs.Prelude.{Bool, Contains, List, None, Option, Some, cond, false, filter, find, length, map, true, [], ℕ, ◌&&◌, ◌++◌, ◌==◌, ◌<◌, ◌∷◌, ◌≡◌}
+use Rattle.std.specs.Prelude.{Bool, Contains, List, None, Option, Some, cond, false, filter, find, length, map, slice_get, true, [], ℕ, ◌&&◌, ◌++◌, ◌==◌, ◌<◌, ◌∷◌, ◌≡◌}
 
 -- ---- one call
 
@@ -169,6 +169,10 @@ contains_mapped f (x ∷ cs) c has =
 
 -- ---- a session
 
+-- An entry that makes no call of the session.
+abbrev pub IsSilent : Entry → Session → Type 0
+IsSilent e s = (j : ℕ) (c : Call) → slice_get e.effects.calls j ≡ Some c → (c.session == s.number) ≡ false
+
 -- A session before an entry of its daemon, in a world w, and after it.
 pub record Through (p : Program) (h : Header) (xs : List Happening) (w : World) (i : SessionId) (f g : Found) : Type 0 where
   pub run : LawfulRun p h xs
@@ -189,9 +193,13 @@ pub record Through (p : Program) (h : Header) (xs : List Happening) (w : World) 
   pub runs : runs_still g ≡ true
   pub was_up : was_reset f ≡ false
   pub is_up : was_reset g ≡ false
+  pub number : f.daemon.number ≡ i.daemon
+  pub had : session_numbered f.daemon.setting f.daemon.trace f.session.number ≡ Some f.session
   -- what has ended, or written its free, makes no call
-  pub silent : (k : ℕ) → ended_after f.daemon.trace f.session ≡ Some k → newer ≡ []
-  pub freed : (k : ℕ) (m : Submitted) → joined_after f.daemon.trace f.session ≡ Some k → free_write (calls_of f.daemon.trace f.session) ≡ Some m → newer ≡ []
+  pub silent : (k : ℕ) → ended_after f.daemon.trace f.session ≡ Some k → IsSilent entry f.session
+  pub freed : (k : ℕ) (m : Submitted) → joined_after f.daemon.trace f.session ≡ Some k → free_write (calls_of f.daemon.trace f.session) ≡ Some m
+      → IsSilent entry f.session
+  pub none_new : IsSilent entry f.session → newer ≡ []
   -- what was made and sampled came before
   pub older : (c : Course) → Contains (own_courses i f.machine) c → c.made.step < stamp.step
   pub early : (c : Course) (y : Sampling) → Contains (own_courses i f.machine) c → Contains c.samples y → y.step < stamp.step
