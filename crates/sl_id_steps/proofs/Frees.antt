@@ -143,11 +143,11 @@ of_closed f cs same None = refl
 of_closed f cs same (Some n) = any_closed n f cs same
 
 -- Where the entry makes no call of it.
-silent_calls_own : {p : Program} {h : Header} {xs : List Happening} {w : World} {i : SessionId} {f g : Found} (t : Through p h xs w i f g) → IsSilent t.entry f.session
+pub silent_calls_own : {p : Program} {h : Header} {xs : List Happening} {w : World} {i : SessionId} {f g : Found} (t : Through p h xs w i f g) → IsSilent t.entry f.session
     → own_courses i g.machine ≡ map (closes t) (own_courses i f.machine)
 silent_calls_own {i = i} {f = f} t silent = t.calls ∙ ap (λ cs. cs ++ map (closed t.stamp t.entry.input) (own_courses i f.machine)) (t.none_new silent)
 
-trace_calls : {p : Program} {h : Header} {xs : List Happening} {w : World} {i : SessionId} {f g : Found} (t : Through p h xs w i f g)
+pub trace_calls : {p : Program} {h : Header} {xs : List Happening} {w : World} {i : SessionId} {f g : Found} (t : Through p h xs w i f g)
     → calls_of (trace_of g) g.session ≡ calls_of (t.entry ∷ f.daemon.trace) f.session
 trace_calls {f = f} {g = g} t = ap (λ es. calls_of es g.session) t.trace ∙ ap (λ s. calls_of (t.entry ∷ f.daemon.trace) s) t.session
 
@@ -160,3 +160,113 @@ free_silent {i = i} {f = f} {g = g} t silent =
     ∙ ap (λ ms. landed_of (own_courses i f.machine) (number_of (free_write ms))) (trace_calls t)
     ∙ ap (λ o. landed_of (own_courses i f.machine) o) (silent_number t.entry f.daemon.trace f.session silent)
     ∙ sym (by_number (own_courses i f.machine) (free_write (calls_of f.daemon.trace f.session))) ∙ sym (free_of i f)
+
+-- ---- a free that the entry makes has not landed
+
+found_if : (b : Bool) (x : Submitted) (o : Option Submitted) → cond b (Some x) o ≡ None → (b ≡ false) × (o ≡ None)
+found_if true x o h = absurd (none_some x (sym h))
+found_if false x o h = (refl, h)
+
+none_passes : (p : Submitted → Bool) (ms : List Submitted) (m : Submitted) → find p ms ≡ None → Contains ms m → p m ≡ false
+none_passes p [] m none has = absurd (contains_none m has)
+none_passes p (x ∷ ms) m none has =
+    let r = found_if (p x) x (find p ms) none in
+    elim (contains_cases x ms m has) as (λ z. p m ≡ false) [
+      | inl e ↦ ap p (sym e) ∙ r.0
+      | inr more ↦ none_passes p ms m r.1 more
+    ]
+
+mapped : (f : Course → Course) (cs : List Course) (d : Course) → Contains (map f cs) d → (c : Course) × Contains cs c × (f c ≡ d)
+mapped f [] d has = absurd (contains_none d has)
+mapped f (c ∷ cs) d has =
+    elim (contains_cases (f c) (map f cs) d has) as (λ z. (x : Course) × Contains (c ∷ cs) x × (f x ≡ d)) [
+      | inl e ↦ (c, contains_first c cs, e)
+      | inr more ↦ let r = mapped f cs d more in (r.0, contains_more c cs r.0 r.1, r.2)
+    ]
+
+every_inside : (P : Course → Type 0) (cs : List Course) (c : Course) → Every P cs → Contains cs c → P c
+every_inside P [] c each has = absurd (contains_none c has)
+every_inside P (x ∷ cs) c each has =
+    elim (contains_cases x cs c has) as (λ z. P c) [
+      | inl e ↦ subst P e each.0
+      | inr more ↦ every_inside P cs c each.1 more
+    ]
+
+not_less : (a b : Stamp) → a ≡ b → a.step < b.step → ⊥
+not_less a b e lt = let same : a.step ≡ b.step = ap (λ (s : Stamp). s.step) e in omega (arith, same, lt)
+
+-- A call of the session that was made in the entry has not landed.
+fresh_flies : {p : Program} {h : Header} {xs : List Happening} {w : World} {i : SessionId} {f g : Found} (t : Through p h xs w i f g) (c : Course)
+    → Contains (own_courses i g.machine) c → c.made ≡ t.stamp → is_landed c.fate ≡ false
+fresh_flies {i = i} {f = f} t c own now =
+    let k : Course → Course = closed t.stamp t.entry.input in
+    elim (contains_append t.newer (map k (own_courses i f.machine)) c (subst (λ cs. Contains cs c) t.calls own)) as (λ z. is_landed c.fate ≡ false) [
+      | inl new ↦ ap (λ x. is_landed x) (every_inside (IsFresh t.stamp) t.newer c t.each new).fate
+      | inr old ↦ let r = mapped k (own_courses i f.machine) c old in
+          let keep : IsKept r.0 (k r.0) = kept t.stamp t.entry.input r.0 in
+          absurd (not_less r.0.made t.stamp (sym keep.made ∙ ap (λ x. x.made) r.2 ∙ now) (t.older r.0 r.1))
+    ]
+
+stamp_first : (s : Stamp) (ss : List Stamp) (k : ℕ) (x : Stamp) → k ≡ length ss → stamp_in (s ∷ ss) k ≡ Some x → x ≡ s
+stamp_first s ss k x is at =
+    some_value x s (sym at ∙ ap (λ b. elim b as (λ z. Option Stamp) [ true ↦ Some s | false ↦ stamp_in ss k ]) (is_number k (length ss) is))
+  where
+    is_number : (m n : ℕ) → m ≡ n → (m == n) ≡ true
+    is_number m n h = grind (arith, tests)
+
+-- A free of the entry.
+new_free : {p : Program} {h : Header} {xs : List Happening} {w : World} {i : SessionId} {f g : Found} (t : Through p h xs w i f g)
+    → free_write (calls_of f.daemon.trace f.session) ≡ None → (m : Submitted) → free_write (calls_of (trace_of g) g.session) ≡ Some m → m.at ≡ length f.daemon.trace
+new_free {f = f} {g = g} t none m free =
+    let r = find_inside (λ (x : Submitted). is_free_purpose x.call.purpose) (calls_of (t.entry ∷ f.daemon.trace) f.session) m
+    (ap (λ ms. free_write ms) (sym (trace_calls t)) ∙ free) in
+    let own = call_owner (t.entry ∷ f.daemon.trace) f.session m r.0 in
+    elim (old_or_new (length f.daemon.trace) t.entry.reading t.entry.effects.calls (mark f.daemon.trace t.entry t.entry.input (submitted f.daemon.trace)) m own.0)
+    as (λ z. m.at ≡ length f.daemon.trace) [
+      | inr new ↦ new.place
+      | inl old ↦ let o : WasOpen (submitted f.daemon.trace) m = was_marked f.daemon.trace t.entry t.entry.input (submitted f.daemon.trace) m old in
+          absurd (not_both (is_free_purpose o.before.call.purpose) (ap (λ c. is_free_purpose c.purpose) (sym o.same.call) ∙ r.1)
+          (none_passes (λ (x : Submitted). is_free_purpose x.call.purpose) (calls_of f.daemon.trace f.session) o.before none
+          (call_inside f.daemon.trace f.session o.before o.inside (ap (λ c. c.session) (sym o.same.call) ∙ own.1))))
+    ]
+
+new_flies : {p : Program} {h : Header} {xs : List Happening} {w : World} {i : SessionId} {f g : Found} (t : Through p h xs w i f g)
+    → free_write (calls_of f.daemon.trace f.session) ≡ None → (m : Submitted) → free_write (calls_of (trace_of g) g.session) ≡ Some m
+    → list_any (landed_as m.call.number) (own_courses i g.machine) ≡ false
+new_flies {p = p} {h = h} {xs = xs} {i = i} {f = f} {g = g} t none m free =
+    is_false (list_any (landed_as m.call.number) (own_courses i g.machine)) (λ any.
+    let k = knows t in
+    let r = find_inside (λ (x : Submitted). is_free_purpose x.call.purpose) (calls_of (trace_of g) g.session) m free in
+    let c = partner_of (IsCourseOf g.daemon) (own_courses i g.machine) (calls_of (trace_of g) g.session) m k.pairs r.0 in
+    let now : c.0.made ≡ t.stamp =
+    stamp_first t.stamp f.daemon.stamps m.at c.0.made (new_free t none m free ∙ sym t.even)
+    (ap (λ ss. stamp_in ss m.at) (sym t.stamps) ∙ c.2.made) in
+    let d = any_found (landed_as m.call.number) (own_courses i g.machine) any in
+    let q = and_true (d.0.call.number == m.call.number) (is_landed d.0.fate) d.2 in
+    let one : d.0 ≡ c.0 =
+    distinct_one g.machine.calls d.0 c.0 (each_distinct p h xs t.run i.machine g.machine k.there.at) (filtered (is_course_of i) g.machine.calls d.0 d.1).0
+    (filtered (is_course_of i) g.machine.calls c.0 c.1).0 (ap (λ y. d.0.call.number == y.number) (sym c.2.call) ∙ q.0) in
+    not_both (is_landed c.0.fate) (ap (λ y. is_landed y.fate) (sym one) ∙ q.1) (fresh_flies t c.0 c.1 now))
+
+free_by_cases : {p : Program} {h : Header} {xs : List Happening} {w : World} {i : SessionId} {f g : Found} (t : Through p h xs w i f g)
+    → free_write (calls_of f.daemon.trace f.session) ≡ None → (o : Option Submitted) → free_write (calls_of (trace_of g) g.session) ≡ o
+    → free_landed_by (own_courses i g.machine) o ≡ false
+free_by_cases t none None is = refl
+free_by_cases t none (Some m) is = new_flies t none m is
+
+free_stays_by : {p : Program} {h : Header} {xs : List Happening} {w : World} {i : SessionId} {f g : Found} (t : Through p h xs w i f g)
+    → (o : Option Submitted) → free_write (calls_of f.daemon.trace f.session) ≡ o → free_landed i g ≡ free_landed i f
+free_stays_by {i = i} {f = f} {g = g} t None is =
+    free_of i g ∙ free_by_cases t is (free_write (calls_of (trace_of g) g.session)) refl
+    ∙ sym (ap (λ o. free_landed_by (own_courses i f.machine) o) is) ∙ sym (free_of i f)
+free_stays_by {f = f} {g = g} t (Some m) is =
+    let lawful : Lawful f.daemon.setting (t.entry ∷ f.daemon.trace) =
+    subst (λ st. Lawful st (t.entry ∷ f.daemon.trace)) t.setting (subst (λ es. Lawful (setting_in g) es) t.trace (knows t).lawful) in
+    let j = freed_joined f.daemon.setting f.daemon.trace f.session m
+    (lawful-front f.daemon.setting (t.entry ∷ []) f.daemon.trace lawful) t.had is in
+    free_silent t (t.freed j.0 m j.1 is)
+
+-- So whether it has landed stays.
+pub free_stays : {p : Program} {h : Header} {xs : List Happening} {w : World} {i : SessionId} {f g : Found} (t : Through p h xs w i f g)
+    → free_landed i g ≡ free_landed i f
+free_stays {f = f} t = free_stays_by t (free_write (calls_of f.daemon.trace f.session)) refl
