@@ -45,7 +45,7 @@ use Rattle.std.specs.Prelude.{Bool, Contains, List, None, Option, Some, false, f
 -- ---- what was kept
 
 -- What was kept before the step of an entry came before it.
-kept_early : (p : Program) (h : Header) (now : List Happening) (x : Happening) → LawfulRun p h (now ++ x ∷ []) → (s m : ℕ)
+pub kept_early : (p : Program) (h : Header) (now : List Happening) (x : Happening) → LawfulRun p h (now ++ x ∷ []) → (s m : ℕ)
     → IsKept (between (world_at p h now) x.0) s m → s < (between (world_at p h now) x.0).step
 kept_early p h now x run s m is =
     let last = last_event p h now x run in
@@ -84,13 +84,13 @@ none_new i now number calls (x ∷ xs) never each =
 abbrev before : {p : Program} {h : Header} {now : List Happening} {x : Happening} → IsEntry p h now x → Session → Found
 before e s = record { machine = e.machine; daemon = e.daemon; session = s }
 
-abbrev stamp_of : {p : Program} {h : Header} {now : List Happening} {x : Happening} → IsEntry p h now x → Stamp
+abbrev pub stamp_of : {p : Program} {h : Header} {now : List Happening} {x : Happening} → IsEntry p h now x → Stamp
 stamp_of {p = p} {h = h} {now = now} {x = x} e = stamp_now (between (world_at p h now) x.0) e.machine
 
-abbrev stepped : {p : Program} {h : Header} {now : List Happening} {x : Happening} → IsEntry p h now x → Machine
+abbrev pub stepped : {p : Program} {h : Header} {now : List Happening} {x : Happening} → IsEntry p h now x → Machine
 stepped e = after_step (stamp_of e) e.input e.effects e.machine
 
-abbrev after : {p : Program} {h : Header} {now : List Happening} {x : Happening} → IsEntry p h now x → Session → Found
+abbrev pub after : {p : Program} {h : Header} {now : List Happening} {x : Happening} → IsEntry p h now x → Session → Found
 after e s = record { machine = stepped e; daemon = entered (stamp_of e) e.input e.effects e.machine e.daemon; session = s }
 
 running_is : (a : Machine) (d : Daemon) → a.daemon ≡ Some d → some_is (λ x. x.number == d.number) a.daemon ≡ true

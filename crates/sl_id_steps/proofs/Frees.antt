@@ -176,7 +176,7 @@ none_passes p (x ∷ ms) m none has =
       | inr more ↦ none_passes p ms m r.1 more
     ]
 
-mapped : (f : Course → Course) (cs : List Course) (d : Course) → Contains (map f cs) d → (c : Course) × Contains cs c × (f c ≡ d)
+pub mapped : (f : Course → Course) (cs : List Course) (d : Course) → Contains (map f cs) d → (c : Course) × Contains cs c × (f c ≡ d)
 mapped f [] d has = absurd (contains_none d has)
 mapped f (c ∷ cs) d has =
     elim (contains_cases (f c) (map f cs) d has) as (λ z. (x : Course) × Contains (c ∷ cs) x × (f x ≡ d)) [
@@ -184,7 +184,7 @@ mapped f (c ∷ cs) d has =
       | inr more ↦ let r = mapped f cs d more in (r.0, contains_more c cs r.0 r.1, r.2)
     ]
 
-every_inside : (P : Course → Type 0) (cs : List Course) (c : Course) → Every P cs → Contains cs c → P c
+pub every_inside : (P : Course → Type 0) (cs : List Course) (c : Course) → Every P cs → Contains cs c → P c
 every_inside P [] c each has = absurd (contains_none c has)
 every_inside P (x ∷ cs) c each has =
     elim (contains_cases x cs c has) as (λ z. P c) [
@@ -192,7 +192,7 @@ every_inside P (x ∷ cs) c each has =
       | inr more ↦ every_inside P cs c each.1 more
     ]
 
-not_less : (a b : Stamp) → a ≡ b → a.step < b.step → ⊥
+pub not_less : (a b : Stamp) → a ≡ b → a.step < b.step → ⊥
 not_less a b e lt = let same : a.step ≡ b.step = ap (λ (s : Stamp). s.step) e in omega (arith, same, lt)
 
 -- A call of the session that was made in the entry has not landed.

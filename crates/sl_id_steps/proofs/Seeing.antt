@@ -37,7 +37,7 @@ past_by : (s : Stamp) (ss : List Stamp) (k : ℕ) (b : Bool) → (k == length ss
 past_by s ss k true is le rest = absurd (too_far k (length ss) le is)
 past_by s ss k false is le rest = rest
 
-past_none : (ss : List Stamp) (k : ℕ) → length ss ≤ k → stamp_in ss k ≡ None
+pub past_none : (ss : List Stamp) (k : ℕ) → length ss ≤ k → stamp_in ss k ≡ None
 past_none [] k le = refl
 past_none (s ∷ ss) k le = past_by s ss k (k == length ss) refl le (past_none ss k (omega (arith, le)))
 
@@ -102,7 +102,7 @@ refusal_same {f = f} {g = g} t y lt =
 
 -- ---- what a read shows
 
-first_there : (ys : List Sampling) (y : Sampling) → first_of_list ys ≡ Some y → Contains ys y
+pub first_there : (ys : List Sampling) (y : Sampling) → first_of_list ys ≡ Some y → Contains ys y
 first_there [] y h = absurd (none_some y h)
 first_there (x ∷ ys) y h = subst (λ z. Contains (x ∷ ys) z) (some_value x y h) (contains_first x ys)
 
