@@ -124,6 +124,7 @@ through_by distinct mirror written p h now x run e i s here had its =
       entry = entry_of e.input e.effects a;
       session = refl;
       setting = refl;
+      began = refl;
       trace = refl;
       stamps = refl;
       even = pairs_length IsStampOf d.stamps d.trace stamped.1;

@@ -182,6 +182,7 @@ pub record Through (p : Program) (h : Header) (xs : List Happening) (w : World) 
   pub entry : Entry
   pub session : g.session ≡ f.session
   pub setting : g.daemon.setting ≡ f.daemon.setting
+  pub began : g.daemon.begun ≡ f.daemon.begun
   pub trace : g.daemon.trace ≡ entry ∷ f.daemon.trace
   pub stamps : g.daemon.stamps ≡ stamp ∷ f.daemon.stamps
   pub even : length f.daemon.stamps ≡ length f.daemon.trace

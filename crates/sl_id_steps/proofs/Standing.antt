@@ -179,10 +179,10 @@ no_deciding {p = p} {h = h} {xs = xs} {i = i} {g = g} t none c at =
     not_looking (joined_after es g.session) (removed_after es g.session) (refused_after es g.session) (free_write (calls_of es g.session))
     (stage_in (calls_of es g.session)) 0 (given_joined es g.session (ap (λ s. s.job) t.session ∙ none)) law.looking
 
-has_read : (g : Found) (bytes : Option (List ℕ)) (o : Option Course) → is_some (option_and_then (sample_showing g bytes) o) ≡ true → o ≡ None → ⊥
+pub has_read : (g : Found) (bytes : Option (List ℕ)) (o : Option Course) → is_some (option_and_then (sample_showing g bytes) o) ≡ true → o ≡ None → ⊥
 has_read g bytes o h none = true_is_false (sym h ∙ ap (λ q. is_some (option_and_then (sample_showing g bytes) q)) none)
 
-registered_by : {p : Program} {h : Header} {xs : List Happening} {w : World} {i : SessionId} {f g : Found} (t : Through p h xs w i f g) (o q : Option Course)
+pub registered_by : {p : Program} {h : Header} {xs : List Happening} {w : World} {i : SessionId} {f g : Found} (t : Through p h xs w i f g) (o q : Option Course)
     → JoinGoes (IsFresh t.stamp) (closes t) o q → ((c : Course) → o ≡ None → q ≡ Some c → ⊥)
     → option_map_or (λ (c : Course). c.made.moment) q 0 ≡ option_map_or (λ (c : Course). c.made.moment) o 0
 registered_by t None None goes new = refl
