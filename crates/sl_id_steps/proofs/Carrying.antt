@@ -1,46 +1,40 @@
 -- Each session of the daemon that takes an entry goes through it.
-use Rattle.sl_course_law.proofs.Mirrored.{machines_mirror}
 use Rattle.sl_course_law.proofs.Pairing.{pairs_length}
 use Rattle.sl_course_law.proofs.Stamped.{entries_are_stamped}
-use Rattle.sl_course_law.specs.Mirrors.{Mirrors, since_restart}
+use Rattle.sl_course_law.specs.Mirrors.{Mirrors}
 use Rattle.sl_course_law.specs.Promises.{MachinesMirror}
 use Rattle.sl_course_law.specs.Stamping.{IsStampOf}
 use Rattle.sl_front_law.proofs.Going.{last_event}
 use Rattle.sl_front_law.proofs.Having.{placed_at}
 use Rattle.sl_id_state.proofs.Bridge.{IsKnown, known}
-use Rattle.sl_id_state.proofs.FindingFrames.{IsFound, found_on, is_found, session_on}
-use Rattle.sl_id_state.proofs.Frames.{is_running}
+use Rattle.sl_id_state.proofs.FindingFrames.{found_on, is_found, session_on}
 use Rattle.sl_id_state.proofs.Proven.{grounds}
 use Rattle.sl_id_state.proofs.SectorFrames.{every_other}
-use Rattle.sl_id_state.specs.IdStates.{own_courses, runs_still}
 use Rattle.sl_id_steps.proofs.EventFrames.{StayDistinct, after_event, entry_of, step_sector}
 use Rattle.sl_id_steps.proofs.OtherSessions.{IsOfEntry}
 use Rattle.sl_id_steps.proofs.OwnCalls.{IsFresh, Through, fresh_of, own_after}
 use Rattle.sl_id_steps.proofs.StepFrames.{IsEntry, IsNewCourse, entered, own_found, step_resets, step_runs}
 use Rattle.sl_id_steps.specs.Parts.{between}
 use Rattle.sl_landing_law.specs.Landings.{LandingsAreWritten}
-use Rattle.sl_law.specs.Lawful.{Lawful}
 use Rattle.sl_moment_law.proofs.Following.{Follows, follows, keeps, kept_before}
 use Rattle.sl_moment_law.proofs.Stamps.{made_is_stamp}
 use Rattle.sl_moment_law.specs.Moments.{IsKept, Of_sample, Of_stamp}
 use Rattle.sl_place_law.proofs.Finding.{filtered}
 use Rattle.sl_run.specs.Events.{after_step, machine_of}
 use Rattle.sl_run.specs.Runs.{Happening}
-use Rattle.sl_run.specs.Safety.{Found, IsSession, LawfulRun, SessionId, is_course_of, session_of_world, was_reset, world_at}
-use Rattle.sl_run.specs.Worlds.{Course, Daemon, Machine, Program, Sampling, Stamp, World, daemons_on, machine_at, resets_after, stamp_now}
+use Rattle.sl_run.specs.Safety.{Found, IsSession, LawfulRun, SessionId, is_course_of, session_of_world, world_at}
+use Rattle.sl_run.specs.Worlds.{Course, Daemon, Machine, Program, Stamp, World, machine_at, resets_after, stamp_now}
 use Rattle.sl_run.specs.declared.header.Header.{Header}
 use Rattle.sl_run_law.specs.Fates.{Every}
 use Rattle.sl_session_law.proofs.Freeing.{freed_are_silent}
 use Rattle.sl_session_law.proofs.Silence.{ended_are_silent}
-use Rattle.sl_sessions.specs.Sessions.{Session, calls_of, ended_after, free_write, joined_after, session_numbered}
-use Rattle.sl_trace.specs.Traces.{Submitted, Trace}
+use Rattle.sl_sessions.specs.Sessions.{Session, session_numbered}
 use Rattle.sl_trace.specs.declared.effects.Call.{Call}
-use Rattle.sl_trace.specs.declared.effects.Entry.{Entry}
 use Rattle.sl_words.proofs.CaseLaws.{is_false, not_both}
 use Rattle.sl_words.proofs.WordLaws.{and_true}
 use Rattle.sl_words.specs.Words.{is_empty, some_is}
 use Rattle.std.proofs.Common.{ap, arith, inl, inr, refl, subst, sym, tests, ◌∙◌}
-use Rattle.std.specs.Prelude.{Bool, Contains, List, None, Option, Some, false, filter, length, map, nat_lt, not, slice_get, true, [], ℕ, ◌&&◌, ◌++◌, ◌+◌, ◌<◌, ◌==◌, ◌∷◌, ◌≡◌, ◌≤◌, ◌⊎◌}
+use Rattle.std.specs.Prelude.{List, Some, false, filter, nat_lt, not, slice_get, true, [], ℕ, ◌++◌, ◌<◌, ◌==◌, ◌∷◌, ◌≡◌}
 
 -- ---- what was kept
 

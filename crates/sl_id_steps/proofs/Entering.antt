@@ -15,18 +15,18 @@ use Rattle.sl_id_steps.proofs.EventFrames.{StayDistinct, after_event, step_rest,
 use Rattle.sl_id_steps.proofs.OtherSessions.{IsOfEntry, other_session_stays}
 use Rattle.sl_id_steps.proofs.Quiet.{LeavesRest}
 use Rattle.sl_id_steps.proofs.StepFrames.{IsEntry, entry_is}
-use Rattle.sl_id_steps.proofs.Turning.{Acts, IsOfDaemon, OneMay, of_number, one_acts}
+use Rattle.sl_id_steps.proofs.Turning.{Acts, OneMay, one_acts}
 use Rattle.sl_id_steps.specs.Parts.{EntriesGoOn, between, state_between}
 use Rattle.sl_landing_law.specs.Landings.{LandingsAreWritten}
 use Rattle.sl_run.specs.Events.{input_of, machine_of, take_step}
 use Rattle.sl_run.specs.Runs.{Happening}
-use Rattle.sl_run.specs.Safety.{LawfulRun, SessionId, world_at}
+use Rattle.sl_run.specs.Safety.{LawfulRun, world_at}
 use Rattle.sl_run.specs.Worlds.{Program, World, daemon_numbered}
 use Rattle.sl_run.specs.declared.header.Header.{Header}
 use Rattle.sl_trace.specs.declared.input.Input.{Input}
 use Rattle.sl_words.proofs.CaseLaws.{true_is_false}
 use Rattle.std.proofs.Common.{ap, arith, refl, sym, tests, ◌∙◌}
-use Rattle.std.specs.Prelude.{IsSome, List, None, Option, Some, false, is_some, true, [], ℕ, ◌++◌, ◌==◌, ◌∷◌, ◌≡◌}
+use Rattle.std.specs.Prelude.{IsSome, List, None, Option, Some, false, true, [], ℕ, ◌++◌, ◌==◌, ◌∷◌, ◌≡◌}
 
 -- What an entry is to a session of the daemon that takes it.
 pub record EntryActs (w : State) (s t : IdSession) : Type 0 where

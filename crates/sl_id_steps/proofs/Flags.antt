@@ -6,21 +6,20 @@ use Rattle.sl_id_steps.proofs.Frees.{free_stays, silent_calls_own}
 use Rattle.sl_id_steps.proofs.OwnCalls.{IsFresh, IsKept, IsSilent, JoinGoes, Through, closed, closes, find_mapped, join_goes, kept, knows, step_as}
 use Rattle.sl_id_steps.proofs.Seeing.{deciding_stays}
 use Rattle.sl_run.specs.Runs.{Happening}
-use Rattle.sl_run.specs.Safety.{Found, SessionId, free_landed, has_write_in_flight, is_over, trace_of, was_reset, world_at}
+use Rattle.sl_run.specs.Safety.{Found, SessionId, free_landed, has_write_in_flight, is_over, trace_of, was_reset}
 use Rattle.sl_run.specs.Worlds.{Course, Program, World, is_in_flight, is_write_course, may_land}
 use Rattle.sl_run.specs.declared.header.Header.{Header}
 use Rattle.sl_session_law.proofs.Staying.{ended_more, refused_apart, refused_more}
 use Rattle.sl_sessions.specs.Sessions.{Session, ended_after, is_join_call, joined_after, refused_after, removed_after}
 use Rattle.sl_trace.specs.Traces.{Trace}
 use Rattle.sl_trace.specs.declared.effects.JoinStep.TheVariants.{ClaimWrite}
-use Rattle.sl_watchdog_law.proofs.Finding.{any_found, any_of, none_is}
+use Rattle.sl_watchdog_law.proofs.Finding.{any_of, none_is}
 use Rattle.sl_words.proofs.CaseLaws.{is_false, none_some, not_both, true_is_false}
 use Rattle.sl_words.proofs.WordLaws.{and_true}
-use Rattle.sl_words.specs.Words.{some_is}
-use Rattle.std.proofs.Common.{ap, arith, refl, subst, sym, tests, ◌∙◌}
+use Rattle.std.proofs.Common.{ap, arith, refl, sym, ◌∙◌}
 use Rattle.std.proofs.lemmas.Bool.{and_from, or_right}
 use Rattle.std.specs.List.{list_any}
-use Rattle.std.specs.Prelude.{Bool, Contains, List, None, Option, Some, false, find, is_none, is_some, map, not, true, [], ℕ, ◌&&◌, ◌++◌, ◌==◌, ◌||◌, ◌∷◌, ◌≡◌}
+use Rattle.std.specs.Prelude.{Bool, List, None, Option, Some, false, find, is_none, is_some, map, not, true, [], ℕ, ◌&&◌, ◌||◌, ◌∷◌, ◌≡◌}
 
 -- ---- a claim that may land
 

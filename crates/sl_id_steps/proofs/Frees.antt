@@ -3,7 +3,6 @@ use Rattle.sl_course_law.specs.Stamping.{IsCourseOf, stamp_in}
 use Rattle.sl_course_law.proofs.Distinct.{each_distinct}
 use Rattle.sl_front_law.proofs.Having.{contains_append}
 use Rattle.sl_id_state.proofs.Frames.{free_landed_by, free_of, landed_as}
-use Rattle.sl_id_state.proofs.Timing.{longer}
 use Rattle.sl_id_state.specs.IdStates.{own_courses}
 use Rattle.sl_id_steps.proofs.OtherSessions.{distinct_one}
 use Rattle.sl_id_steps.proofs.OwnCalls.{IsFresh, IsKept, IsSilent, Through, closed, closes, kept, knows}
@@ -13,21 +12,20 @@ use Rattle.sl_law.specs.LawfulDelta.{LawfulDeltaCall}
 use Rattle.sl_law.specs.Saying.{cut_at}
 use Rattle.sl_place_law.proofs.Finding.{filtered, partner_of}
 use Rattle.sl_run.specs.Runs.{Happening}
-use Rattle.sl_run.specs.Safety.{Found, SessionId, free_landed, is_course_of, setting_in, trace_of, world_at}
-use Rattle.sl_run.specs.Worlds.{Course, Landed, Program, Stamp, World, is_landed}
+use Rattle.sl_run.specs.Safety.{Found, SessionId, free_landed, is_course_of, setting_in, trace_of}
+use Rattle.sl_run.specs.Worlds.{Course, Program, Stamp, World, is_landed}
 use Rattle.sl_run.specs.declared.header.Header.{Header}
 use Rattle.sl_run_law.specs.Fates.{Every}
-use Rattle.sl_session_law.proofs.Growing.{mine_marked, other_next, to_all, to_cut}
-use Rattle.sl_session_law.proofs.Making.{IsNewCall, WasOpen, contains_cases, contains_first, contains_more, contains_none, old_or_new, same_answered, was_marked}
+use Rattle.sl_session_law.proofs.Growing.{mine_marked, other_next, to_all}
+use Rattle.sl_session_law.proofs.Making.{WasOpen, contains_cases, contains_first, contains_more, contains_none, old_or_new, same_answered, was_marked}
 use Rattle.sl_session_law.proofs.Owning.{calls_were_lawful}
 use Rattle.sl_session_law.proofs.Silence.{stage_by}
 use Rattle.sl_session_law.proofs.Staying.{marks_stay}
-use Rattle.sl_session_law.specs.Promises.{IsMade, IsSession, WasLawful, front_of, made_as}
-use Rattle.sl_sessions.specs.Sessions.{Session, calls_of, free_write, is_call_of, is_free_purpose, joined_after, refused_after, removed_after, stage_after, stage_in, stage_of}
-use Rattle.sl_sessions.specs.declared.stage.Stage.TheVariants.{Claiming, Deciding, Ended, FirstRenewing, Freeing, Looking, Refused, Standing, Verifying, Waiting}
+use Rattle.sl_session_law.specs.Promises.{IsSession, WasLawful, front_of, made_as}
+use Rattle.sl_sessions.specs.Sessions.{Session, calls_of, free_write, is_free_purpose, joined_after, refused_after, removed_after, stage_after, stage_in, stage_of}
+use Rattle.sl_sessions.specs.declared.stage.Stage.TheVariants.{Looking, Standing}
 use Rattle.sl_sessions.specs.declared.stage.Stage.{Stage}
 use Rattle.sl_trace.specs.Traces.{Setting, Submitted, Trace, answered_in, is_answered_ok, mark, submitted}
-use Rattle.sl_trace.specs.declared.effects.Call.{Call}
 use Rattle.sl_trace.specs.declared.effects.Entry.{Entry}
 use Rattle.sl_trace.specs.declared.effects.JoinStep.TheVariants.{ClaimWrite, DecidingRead, FirstRead, FirstRenewal, VerifyRead, WatchRead}
 use Rattle.sl_trace.specs.declared.effects.JoinStep.{JoinStep}
@@ -36,13 +34,13 @@ use Rattle.sl_trace.specs.declared.effects.Purpose.{Purpose}
 use Rattle.sl_trace.specs.declared.input.Answer.{Answer}
 use Rattle.sl_trace.specs.declared.input.Input.TheVariants.{Answer as Told, Exit, Line, Spawned, Wake}
 use Rattle.sl_trace.specs.declared.input.Input.{Input}
-use Rattle.sl_watchdog_law.proofs.Finding.{any_found, any_of, call_inside, call_owner, find_inside}
+use Rattle.sl_watchdog_law.proofs.Finding.{any_found, call_inside, call_owner, find_inside}
 use Rattle.sl_words.proofs.CaseLaws.{false_is_true, is_false, none_some, not_both, some_value, true_is_false}
 use Rattle.sl_words.proofs.WordLaws.{and_true}
 use Rattle.sl_words.specs.Words.{some_is}
 use Rattle.std.proofs.Common.{ap, arith, inl, inr, refl, subst, sym, tests, ◌∙◌}
 use Rattle.std.specs.List.{list_any}
-use Rattle.std.specs.Prelude.{Bool, Contains, List, None, Option, Some, cond, false, filter, find, is_some, length, map, option_map, suc, true, [], ℕ, ◌&&◌, ◌++◌, ◌+◌, ◌-◌, ◌<◌, ◌==◌, ◌||◌, ◌∷◌, ◌≡◌, ◌≤◌, ◌⊎◌}
+use Rattle.std.specs.Prelude.{Bool, Contains, List, None, Option, Some, cond, false, find, length, map, option_map, true, [], ℕ, ◌&&◌, ◌++◌, ◌<◌, ◌==◌, ◌||◌, ◌∷◌, ◌≡◌}
 
 -- ---- a session that has written its free had joined
 

@@ -9,7 +9,7 @@ use Rattle.sl_id_state.proofs.FindingFrames.{find_passes, found_on, session_on, 
 use Rattle.sl_id_state.proofs.Keeping.{own_call}
 use Rattle.sl_id_state.proofs.Proven.{grounds}
 use Rattle.sl_id_state.proofs.SampleFrames.{showed}
-use Rattle.sl_id_state.specs.IdStates.{blank, deciding_sample, has_begun, is_sector_of, join_course, own_courses, sample_showing, session_at, session_named_so, standing_by, standing_of, watched_bytes}
+use Rattle.sl_id_state.specs.IdStates.{blank, deciding_sample, has_begun, is_sector_of, join_course, own_courses, sample_showing, session_named_so, standing_by, standing_of, watched_bytes}
 use Rattle.sl_id_steps.proofs.Carrying.{after, kept_early, stamp_of, stepped}
 use Rattle.sl_id_steps.proofs.EventFrames.{after_event, entry_of}
 use Rattle.sl_id_steps.proofs.Frees.{every_inside, mapped, not_less}
@@ -20,7 +20,7 @@ use Rattle.sl_id_steps.proofs.Seeing.{first_there, past_none}
 use Rattle.sl_id_steps.proofs.StepFrames.{IsEntry, IsNewCourse, entered, step_runs}
 use Rattle.sl_id_steps.proofs.Still.{with_running}
 use Rattle.sl_id_steps.specs.Parts.{between}
-use Rattle.sl_ids.specs.State.{Session as IdSession, SessionId as IdName}
+use Rattle.sl_ids.specs.State.{Session as IdSession}
 use Rattle.sl_moment_law.proofs.Stamps.{made_is_stamp}
 use Rattle.sl_moment_law.specs.Moments.{Of_stamp}
 use Rattle.sl_place_law.proofs.Finding.{filtered}
@@ -35,8 +35,8 @@ use Rattle.sl_trace.specs.Traces.{Setting, Trace}
 use Rattle.sl_trace.specs.declared.effects.Entry.{Entry}
 use Rattle.sl_trace.specs.declared.effects.JoinStep.TheVariants.{DecidingRead}
 use Rattle.sl_watchdog_law.proofs.Numbering.{begun_is, either_place}
-use Rattle.sl_words.proofs.CaseLaws.{none_some, one_value, some_value, true_is_false}
-use Rattle.std.proofs.Common.{ap, arith, inl, inr, refl, subst, sym, tests, ◌∙◌}
+use Rattle.sl_words.proofs.CaseLaws.{none_some, some_value}
+use Rattle.std.proofs.Common.{ap, arith, inl, inr, refl, subst, sym, ◌∙◌}
 use Rattle.std.specs.Prelude.{Bool, Contains, List, None, Option, Some, cond, false, find, is_none, is_some, length, map, option_and_then, option_map, slice_get, true, [], ℕ, ◌&&◌, ◌++◌, ◌+◌, ◌==◌, ◌||◌, ◌∷◌, ◌≡◌, ◌≤◌, ◌⊎◌}
 
 -- ---- where it began

@@ -20,7 +20,7 @@ use Rattle.sl_id_steps.proofs.OtherSessions.{IsOfEntry}
 use Rattle.sl_id_steps.proofs.OwnCalls.{Through}
 use Rattle.sl_id_steps.proofs.Standing.{acted, begun_stays, stands_on}
 use Rattle.sl_id_steps.proofs.StepFrames.{IsEntry}
-use Rattle.sl_id_steps.proofs.Turning.{Acts, Renewed, Renews_so, Turned, Turns, flags_stay, flags_turn}
+use Rattle.sl_id_steps.proofs.Turning.{Renewed, Renews_so, Turned, Turns, flags_stay, flags_turn}
 use Rattle.sl_id_steps.specs.Parts.{between, state_between}
 use Rattle.sl_landing_law.specs.Landings.{LandingsAreWritten}
 use Rattle.sl_run.specs.Runs.{Happening}

@@ -1,6 +1,5 @@
 -- Through an entry a session acts since when it did, unless a renewal of it counts.
 use Rattle.sl_course_law.specs.Stamping.{stamp_in}
-use Rattle.sl_id_state.proofs.Bridge.{IsKnown}
 use Rattle.sl_id_state.specs.IdStates.{claim_bytes, has_begun, is_sector_of, join_course, renewed_by_now, verifying_sample}
 use Rattle.sl_id_state.specs.Promises.{IsIdPlace}
 use Rattle.sl_id_steps.proofs.EventFrames.{after_event}
@@ -17,7 +16,7 @@ use Rattle.sl_law.proofs.LawFacts.{lawful-front}
 use Rattle.sl_law.specs.Lawful.{Lawful}
 use Rattle.sl_run.specs.Runs.{Happening}
 use Rattle.sl_run.specs.Safety.{Found, LawfulRun, SessionId, session_of_world, setting_in, trace_of, world_at}
-use Rattle.sl_run.specs.Worlds.{Course, Daemon, Program, Sampling, Stamp, World}
+use Rattle.sl_run.specs.Worlds.{Course, Program, Sampling, Stamp, World}
 use Rattle.sl_run.specs.declared.header.Header.{Header}
 use Rattle.sl_session_law.proofs.Making.{calls_are_made}
 use Rattle.sl_session_law.proofs.Owning.{session_more}
@@ -32,9 +31,9 @@ use Rattle.sl_watchdog_law.proofs.Readings.{Counts, NextRenewal, Stays, next_ren
 use Rattle.sl_watchdog_law.proofs.Renewing.{IsOpenRenewal, told_is_open}
 use Rattle.sl_watchdog_law.specs.Acting.{acting_stamp, registering_entry, renewal_entry, renewal_in}
 use Rattle.sl_words.proofs.CaseLaws.{none_some, some_value}
-use Rattle.std.proofs.Common.{ap, arith, inl, inr, refl, subst, sym, tests, ◌∙◌}
+use Rattle.std.proofs.Common.{ap, arith, refl, subst, sym, tests, ◌∙◌}
 use Rattle.std.specs.Option.{option_map_or}
-use Rattle.std.specs.Prelude.{Bool, Contains, List, None, Option, Some, false, is_some, length, option_and_then, suc, true, [], ℕ, ◌++◌, ◌+◌, ◌<◌, ◌==◌, ◌∷◌, ◌≡◌, ◌≤◌}
+use Rattle.std.specs.Prelude.{Bool, Contains, List, None, Option, Some, false, is_some, length, option_and_then, suc, true, [], ℕ, ◌++◌, ◌<◌, ◌==◌, ◌∷◌, ◌≡◌}
 
 -- ---- the renewal that counts last
 

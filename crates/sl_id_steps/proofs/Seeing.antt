@@ -4,11 +4,11 @@ use Rattle.sl_id_state.proofs.Listing.{map_some, then_some}
 use Rattle.sl_id_state.proofs.Proven.{deciding_reads_have_watched, verify_reads_have_claimed}
 use Rattle.sl_id_state.specs.Facts.{HasClaimed, HasWatched}
 use Rattle.sl_id_state.specs.IdStates.{claim_bytes, comes_before, deciding_sample, join_course, own_courses, refused_stamp, sample_showing, verifying_sample, watched_bytes}
-use Rattle.sl_id_steps.proofs.OwnCalls.{HadStep, IsFresh, IsKept, JoinGoes, Through, closed, closes, had_step, join_goes, kept}
+use Rattle.sl_id_steps.proofs.OwnCalls.{IsFresh, IsKept, JoinGoes, Through, closed, closes, had_step, join_goes, kept}
 use Rattle.sl_run.specs.Events.{write_bytes}
 use Rattle.sl_run.specs.Runs.{Happening}
-use Rattle.sl_run.specs.Safety.{Found, SessionId, trace_of, world_at}
-use Rattle.sl_run.specs.Worlds.{Course, Landed, Program, Sampling, Stamp, World, is_landed}
+use Rattle.sl_run.specs.Safety.{Found, SessionId, world_at}
+use Rattle.sl_run.specs.Worlds.{Course, Program, Sampling, Stamp, World, is_landed}
 use Rattle.sl_run.specs.declared.header.Header.{Header}
 use Rattle.sl_session_law.proofs.Making.{contains_first}
 use Rattle.sl_session_law.proofs.Staying.{refused_more}
