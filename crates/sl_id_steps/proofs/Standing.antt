@@ -135,7 +135,7 @@ no_index {p = p} {h = h} {xs = xs} {i = i} t path offset c own flies =
     ])
 
 -- Its claim's landing is the same; one that the entry submits has left none.
-index_stays : {p : Program} {h : Header} {xs : List Happening} {w : World} {i : SessionId} {f g : Found} (t : Through p h xs w i f g) (path : List ℕ) (offset : ℕ)
+pub index_stays : {p : Program} {h : Header} {xs : List Happening} {w : World} {i : SessionId} {f g : Found} (t : Through p h xs w i f g) (path : List ℕ) (offset : ℕ)
     (o q : Option Course) → join_course i ClaimWrite g.machine ≡ q → JoinGoes (IsFresh t.stamp) (closes t) o q
     → history_of (world_at p h xs) path offset ≡ history_of w path offset
     → option_map_or (λ c. index_of (i.machine, c.call.number) (history_of (world_at p h xs) path offset)) q 0
