@@ -44,7 +44,7 @@ use Rattle.std.specs.Prelude.{Bool, Contains, List, None, Option, Some, cond, fa
 
 -- ---- a session that has written its free had joined
 
-abbrev is_standing : Stage → Bool
+abbrev pub is_standing : Stage → Bool
 is_standing Standing = true
 is_standing x = false
 
@@ -61,7 +61,7 @@ call_stage : (p : Purpose) (b : Bool) → is_standing (elim p as (λ z. Stage) [
 call_stage (Joining j step) b = step_stage step b
 call_stage p b = refl
 
-joining_stage : (ms : List Submitted) → is_standing (stage_in ms) ≡ false
+pub joining_stage : (ms : List Submitted) → is_standing (stage_in ms) ≡ false
 joining_stage [] = refl
 joining_stage (m ∷ ms) = call_stage m.call.purpose (is_answered_ok m)
 
@@ -165,7 +165,7 @@ found_if : (b : Bool) (x : Submitted) (o : Option Submitted) → cond b (Some x)
 found_if true x o h = absurd (none_some x (sym h))
 found_if false x o h = (refl, h)
 
-none_passes : (p : Submitted → Bool) (ms : List Submitted) (m : Submitted) → find p ms ≡ None → Contains ms m → p m ≡ false
+pub none_passes : (p : Submitted → Bool) (ms : List Submitted) (m : Submitted) → find p ms ≡ None → Contains ms m → p m ≡ false
 none_passes p [] m none has = absurd (contains_none m has)
 none_passes p (x ∷ ms) m none has =
     let r = found_if (p x) x (find p ms) none in

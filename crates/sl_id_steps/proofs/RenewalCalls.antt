@@ -118,14 +118,14 @@ same_sector path offset own at there by a b =
     let y = place_is own at there by b in
     is_place there by path offset (sym y.0 ∙ x.0) (sym y.1 ∙ x.1)
 
-filtered_in : (p : Landing → Bool) (x l : Landing) (ls : List Landing) (b : Bool) → p x ≡ b → (x ≡ l) ⊎ Contains ls l → p l ≡ true
+filtered_in : {A : Type 0} (p : A → Bool) (x l : A) (ls : List A) (b : Bool) → p x ≡ b → (x ≡ l) ⊎ Contains ls l → p l ≡ true
     → (Contains ls l → Contains (filter p ls) l) → Contains (cond b (x ∷ filter p ls) (filter p ls)) l
 filtered_in p x l ls true at (inl e) is rest = subst (λ y. Contains (x ∷ filter p ls) y) e (contains_first x (filter p ls))
 filtered_in p x l ls true at (inr more) is rest = contains_more x (filter p ls) l (rest more)
 filtered_in p x l ls false at (inl e) is rest = absurd (not_both (p l) is (ap p (sym e) ∙ at))
 filtered_in p x l ls false at (inr more) is rest = rest more
 
-contains_filtered : (p : Landing → Bool) (ls : List Landing) (l : Landing) → Contains ls l → p l ≡ true → Contains (filter p ls) l
+pub contains_filtered : {A : Type 0} (p : A → Bool) (ls : List A) (l : A) → Contains ls l → p l ≡ true → Contains (filter p ls) l
 contains_filtered p [] l has is = absurd (contains_none l has)
 contains_filtered p (x ∷ ls) l has is =
     filtered_in p x l ls (p x) refl (contains_cases x ls l has) is (λ more. contains_filtered p ls l more is)
