@@ -117,7 +117,7 @@ ended_of {f = f} {g = g} t k is =
     ap (λ es. ended_after es g.session) t.trace ∙ ap (λ s. ended_after (t.entry ∷ f.daemon.trace) s) t.session ∙ ended_more t.entry f.daemon.trace f.session k is
 
 -- What is over: its free has landed, or it has ended with no write in flight.
-over_is : (i : SessionId) (f : Found) → was_reset f ≡ false
+pub over_is : (i : SessionId) (f : Found) → was_reset f ≡ false
     → is_over i f ≡ (free_landed i f || is_some (ended_after (trace_of f) f.session) && not (has_write_in_flight i f.machine))
 over_is i f up = ap (λ b. free_landed i f || (is_some (ended_after (trace_of f) f.session) || b) && not (has_write_in_flight i f.machine)) up ∙ no_reset where
   or_none : (a : Bool) → (a || false) ≡ a

@@ -1,6 +1,6 @@
 //! How the events of a lawful run are steps of an id.
 
-ghost use Rattle.sl_id_steps.specs.Parts.{EndingsGoOn, OwnStepsGoOn, QuietChangesGoOn};
+ghost use Rattle.sl_id_steps.specs.Parts.{EndingsGoOn, EntriesGoOn, OwnStepsGoOn, QuietChangesGoOn};
 
 /// What changes nothing of an id.
 pub fn quiet_changes_go_on()
@@ -15,4 +15,9 @@ pub fn endings_go_on()
 /// What a machine does by itself.
 pub fn own_steps_go_on()
     ensures { OwnStepsGoOn }
+{}
+
+/// An entry of a daemon.
+pub fn entries_go_on()
+    ensures { EntriesGoOn }
 {}
