@@ -7,15 +7,14 @@ use Rattle.sl_id_steps.proofs.Frees.{is_standing, joining_stage, none_passes}
 use Rattle.sl_id_steps.proofs.RenewalCalls.{contains_filtered}
 use Rattle.sl_law.specs.Lawful.{Lawful}
 use Rattle.sl_law.specs.LawfulDelta.{LawfulDeltaCall}
-use Rattle.sl_law.specs.LawfulRecovery.{MayPart}
 use Rattle.sl_place_law.proofs.Finding.{partner}
-use Rattle.sl_session_law.proofs.Making.{IsNewCall, contains_cases, contains_none}
+use Rattle.sl_session_law.proofs.Making.{contains_cases, contains_none}
 use Rattle.sl_session_law.proofs.Parting.{not_removed}
 use Rattle.sl_session_law.proofs.Silence.{stage_by}
 use Rattle.sl_session_law.proofs.Staying.{refused_apart, refused_more}
 use Rattle.sl_session_law.specs.Promises.{IsSession, all_done, fits, fits_as, has_reply}
-use Rattle.sl_sessions.specs.Sessions.{Session, calls_of, ended_after, free_write, has_open_write, is_free_purpose, is_renewal, joined_after, open_calls_of, refused_after, removed_after, stage_in, stage_of}
-use Rattle.sl_sessions.specs.declared.stage.Stage.TheVariants.{Ended, Freeing, Refused, Standing}
+use Rattle.sl_sessions.specs.Sessions.{Session, calls_of, ended_after, free_write, is_free_purpose, is_renewal, joined_after, open_calls_of, refused_after, removed_after, stage_in, stage_of}
+use Rattle.sl_sessions.specs.declared.stage.Stage.TheVariants.{Standing}
 use Rattle.sl_sessions.specs.declared.stage.Stage.{Stage}
 use Rattle.sl_trace.specs.Traces.{Answered, Setting, Submitted, Trace, is_write, new_call}
 use Rattle.sl_trace.specs.declared.effects.Entry.{Entry}
@@ -26,8 +25,8 @@ use Rattle.sl_watchdog_law.proofs.Finding.{call_inside, find_inside, open_write}
 use Rattle.sl_watchdog_law.proofs.Renewing.{IsOpenRenewal}
 use Rattle.sl_words.proofs.CaseLaws.{false_is_true, none_some, not_both, true_is_false}
 use Rattle.sl_words.proofs.WordLaws.{and_true}
-use Rattle.std.proofs.Common.{ap, arith, inl, inr, refl, subst, sym, tests, ◌∙◌}
-use Rattle.std.specs.Prelude.{Bool, Contains, List, None, Option, Some, false, find, is_none, is_some, length, true, [], ℕ, ◌&&◌, ◌++◌, ◌==◌, ◌∷◌, ◌≡◌, ◌⊎◌}
+use Rattle.std.proofs.Common.{ap, inl, inr, refl, subst, sym, ◌∙◌}
+use Rattle.std.specs.Prelude.{Bool, Contains, List, None, Option, Some, false, is_none, length, true, [], ℕ, ◌&&◌, ◌∷◌, ◌≡◌, ◌⊎◌}
 
 -- ---- which of two calls was made first
 

@@ -1,5 +1,4 @@
 -- A renewal that counts stands above the session's claim, and is of a session that has verified it.
-use Rattle.sl_area.specs.Layouts.{Layout}
 use Rattle.sl_id_state.proofs.FindingFrames.{find_passes}
 use Rattle.sl_id_state.proofs.Keeping.{own_call, step_law}
 use Rattle.sl_id_state.proofs.Listing.{then_some}
@@ -15,7 +14,7 @@ use Rattle.sl_landing_law.proofs.Ordering.{come_in_order}
 use Rattle.sl_law.specs.LawfulDelta.{LawfulDeltaCall}
 use Rattle.sl_place_law.proofs.Finding.{filtered}
 use Rattle.sl_run.specs.Runs.{Happening}
-use Rattle.sl_run.specs.Safety.{Found, SessionId, setting_in, trace_of, world_at}
+use Rattle.sl_run.specs.Safety.{Found, SessionId, setting_in, world_at}
 use Rattle.sl_run.specs.Worlds.{Course, Landing, Program, Sampling, World, first_landing, history_of, landed_at}
 use Rattle.sl_run.specs.declared.header.Header.{Header}
 use Rattle.sl_sector.specs.declared.sector.DeltaRec.{DeltaRec}
@@ -32,10 +31,10 @@ use Rattle.sl_trace.specs.declared.effects.Purpose.{Purpose}
 use Rattle.sl_words.proofs.CaseLaws.{false_is_true, none_some, one_value, some_value, true_is_false}
 use Rattle.sl_words.proofs.WordLaws.{and_true}
 use Rattle.sl_words.specs.Words.{some_is}
-use Rattle.std.proofs.Common.{ap, arith, inl, inr, refl, subst, sym, tests, ◌∙◌}
+use Rattle.std.proofs.Common.{ap, arith, inl, inr, refl, sym, tests, ◌∙◌}
 use Rattle.std.proofs.lemmas.List.Kept.{AllPairs-filter}
 use Rattle.std.specs.Option.{option_map_or}
-use Rattle.std.specs.Prelude.{Bool, Contains, List, None, Option, Some, false, is_none, is_some, length, option_and_then, true, [], ℕ, ◌&&◌, ◌++◌, ◌<◌, ◌==◌, ◌||◌, ◌∷◌, ◌≡◌, ◌≤◌, ◌⊎◌}
+use Rattle.std.specs.Prelude.{Bool, Contains, List, None, Option, Some, false, is_none, is_some, length, option_and_then, true, ℕ, ◌&&◌, ◌<◌, ◌==◌, ◌||◌, ◌≡◌, ◌≤◌}
 
 -- ---- verified
 

@@ -4,44 +4,38 @@ use Rattle.sl_course_law.proofs.Distinct.{each_distinct}
 use Rattle.sl_course_law.specs.Stamping.{AnswersAgree, IsAnsweredAs, IsCourseOf, stamp_in}
 use Rattle.sl_front_law.proofs.Having.{placed_at}
 use Rattle.sl_id_state.proofs.Keeping.{is_at_own, is_place, own_call}
-use Rattle.sl_id_state.proofs.LandingFrames.{landing_at}
-use Rattle.sl_id_state.proofs.Proven.{renewals_have_verified}
-use Rattle.sl_id_state.specs.Facts.{HasVerified}
-use Rattle.sl_id_state.specs.IdStates.{id_state, index_of, is_left_by, is_sector_of, own_courses}
+use Rattle.sl_id_state.specs.IdStates.{index_of, is_left_by, is_sector_of, own_courses}
 use Rattle.sl_id_steps.proofs.Frees.{trace_calls}
 use Rattle.sl_id_steps.proofs.OtherSessions.{distinct_one}
 use Rattle.sl_id_steps.proofs.OwnCalls.{Through, knows}
 use Rattle.sl_landing_law.proofs.Listing.{contains_map}
 use Rattle.sl_landing_law.proofs.Proven.{done_writes_have_landed, landings_are_written}
 use Rattle.sl_landing_law.proofs.Remaining.{landed_are_there}
-use Rattle.sl_landing_law.specs.Landings.{HasLanded, HasWriter, IsWrittenBy}
+use Rattle.sl_landing_law.specs.Landings.{HasWriter}
 use Rattle.sl_place_law.proofs.Finding.{filtered, partner_of, place_is}
 use Rattle.sl_run.specs.Runs.{Happening}
 use Rattle.sl_run.specs.Safety.{Found, SessionId, is_course_of, trace_of, world_at}
-use Rattle.sl_run.specs.Worlds.{Course, Landing, Machine, Program, Stamp, World, is_write_course, landed_at, machine_at}
+use Rattle.sl_run.specs.Worlds.{Course, Landing, Program, Stamp, World, is_write_course, landed_at, machine_at}
 use Rattle.sl_run.specs.declared.header.Header.{Header}
 use Rattle.sl_sample_law.proofs.Numbering.{newest_number, number_stays}
 use Rattle.sl_sample_law.specs.Samples.{numbered_landing}
 use Rattle.sl_session_law.proofs.Making.{contains_cases, contains_first, contains_more, contains_none, old_stays, same_answered}
 use Rattle.sl_sessions.specs.Sessions.{calls_of, is_delta_purpose, is_join_call, is_renewal, is_survey_purpose}
-use Rattle.sl_trace.specs.Traces.{Answered, Submitted, Trace, answer_of, answered_in, is_ok_answer, is_write, mark, same_place, submitted}
+use Rattle.sl_trace.specs.Traces.{Answered, Submitted, Trace, answer_of, answered_in, is_write, mark, same_place, submitted}
 use Rattle.sl_trace.specs.declared.effects.Entry.{Entry}
-use Rattle.sl_trace.specs.declared.effects.JoinStep.TheVariants.{ClaimWrite, DecidingRead, FirstRead, FirstRenewal, VerifyRead, WatchRead}
+use Rattle.sl_trace.specs.declared.effects.JoinStep.TheVariants.{ClaimWrite, FirstRenewal}
 use Rattle.sl_trace.specs.declared.effects.Purpose.TheVariants.{Joining, Renewal}
 use Rattle.sl_trace.specs.declared.effects.Purpose.{Purpose}
 use Rattle.sl_trace.specs.declared.input.Answer.TheVariants.{Written}
-use Rattle.sl_trace.specs.declared.input.Answer.{Answer}
-use Rattle.sl_trace.specs.declared.input.Input.TheVariants.{Answer as Told}
 use Rattle.sl_watchdog_law.proofs.Finding.{call_inside, equal_numbers, find_inside}
 use Rattle.sl_watchdog_law.proofs.Readings.{Counts, IsTold, NextRenewal, Stays, next_renewal, told}
 use Rattle.sl_watchdog_law.proofs.Renewing.{IsOpenRenewal}
-use Rattle.sl_watchdog_law.specs.Acting.{renewal_in, renewal_told}
+use Rattle.sl_watchdog_law.specs.Acting.{renewal_in}
 use Rattle.sl_words.proofs.CaseLaws.{false_is_true, no_value, not_both, none_some, one_value, some_value, true_is_false}
-use Rattle.sl_words.proofs.WordLaws.{and_true}
 use Rattle.std.proofs.Common.{ap, arith, inl, inr, refl, subst, sym, tests, ◌∙◌}
 use Rattle.std.proofs.lemmas.Option.{slice_get_within}
 use Rattle.std.specs.Option.{option_map_or, option_or}
-use Rattle.std.specs.Prelude.{AllPairs, Bool, Contains, IsTrue, List, None, Option, Some, cond, false, filter, length, map, not, slice_get, slice_index_or, suc, true, zero, [], ℕ, ◌&&◌, ◌++◌, ◌<◌, ◌==◌, ◌∷◌, ◌≡◌, ◌≤◌, ◌⊎◌}
+use Rattle.std.specs.Prelude.{AllPairs, Bool, Contains, List, None, Option, Some, cond, false, filter, length, not, slice_get, slice_index_or, suc, true, zero, [], ℕ, ◌&&◌, ◌++◌, ◌<◌, ◌==◌, ◌∷◌, ◌≡◌, ◌≤◌, ◌⊎◌}
 
 -- ---- in the trace
 
@@ -90,14 +84,16 @@ renewal_call {i = i} {f = f} {g = g} t m is unmet =
     let number = (find_inside (λ (y : Submitted). y.call.number == k.number) (submitted es) m k.found).1 in
     let answer : x.answer ≡ Some a = answer_by m a (m.call.number == k.number) number unmet.waits in
     let agree : IsAnsweredAs g.daemon r.0 a = subst (λ o. AnswersAgree g.daemon r.0 o) answer r.2.answers in
-    let call : r.0.call ≡ m.call = sym r.2.call ∙ same.call in
-    (r.0, record {
-      own = r.1;
-      purpose_is = ap (λ c. c.purpose) call;
-      writes = ap (λ c. is_write c.op) call ∙ unmet.writes;
-      made = ap (λ n. stamp_in g.daemon.stamps n) (sym same.at) ∙ r.2.made;
-      done = agree.done;
-    })
+    let call : r.0.call ≡ m.call = sym r.2.call ∙ same.call in (
+      r.0,
+      record {
+        own = r.1;
+        purpose_is = ap (λ c. c.purpose) call;
+        writes = ap (λ c. is_write c.op) call ∙ unmet.writes;
+        made = ap (λ n. stamp_in g.daemon.stamps n) (sym same.at) ∙ r.2.made;
+        done = agree.done;
+      },
+    )
 
 -- ---- in the sector
 
@@ -140,10 +136,12 @@ wrote_it {p = p} {h = h} {xs = xs} {i = i} {g = g} t c own l has named =
     let machine : x.machine ≡ i.machine = ap (λ o. option_map_or (λ (z : ℕ × ℕ). z.0) o 0) (sym x.named ∙ named) in
     let number : x.call ≡ c.call.number = ap (λ o. option_map_or (λ (z : ℕ × ℕ). z.1) o 0) (sym x.named ∙ named) in
     let a : x.wrote.machine ≡ g.machine =
-    one_value x.wrote.machine g.machine (machine_at v i.machine) (ap (machine_at v) (sym machine) ∙ x.wrote.at) (knows t).there.at in
-    (x, distinct_one g.machine.calls x.wrote.course c (each_distinct p h xs t.run i.machine g.machine (knows t).there.at)
-    (subst (λ m. Contains m.calls x.wrote.course) a x.wrote.has) (filtered (is_course_of i) g.machine.calls c own).0
-    (equal_numbers x.wrote.course.call.number c.call.number (x.wrote.number ∙ number)))
+    one_value x.wrote.machine g.machine (machine_at v i.machine) (ap (machine_at v) (sym machine) ∙ x.wrote.at) (knows t).there.at in (
+      x,
+      distinct_one g.machine.calls x.wrote.course c (each_distinct p h xs t.run i.machine g.machine (knows t).there.at)
+          (subst (λ m. Contains m.calls x.wrote.course) a x.wrote.has) (filtered (is_course_of i) g.machine.calls c own).0
+          (equal_numbers x.wrote.course.call.number c.call.number (x.wrote.number ∙ number)),
+    )
 
 -- Where a write of the session landed.
 pub record HasLeft (w : World) (path : List ℕ) (offset : ℕ) (c : Course) : Type 0 where

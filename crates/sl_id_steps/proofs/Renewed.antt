@@ -22,7 +22,7 @@ use Rattle.sl_law.specs.Lawful.{Lawful}
 use Rattle.sl_law.specs.LawfulRecovery.{MayPart}
 use Rattle.sl_run.specs.Runs.{Happening}
 use Rattle.sl_run.specs.Safety.{Found, SessionId, free_landed, has_write_in_flight, is_over, trace_of, world_at}
-use Rattle.sl_run.specs.Worlds.{Course, Program, Stamp, World, first_landing, history_of, landed_at}
+use Rattle.sl_run.specs.Worlds.{Program, Stamp, World, first_landing, history_of, landed_at}
 use Rattle.sl_run.specs.declared.header.Header.{Header}
 use Rattle.sl_sample_law.specs.Samples.{numbered_landing}
 use Rattle.sl_session_law.proofs.Making.{WasOpen, old_or_new, was_marked}
@@ -38,13 +38,13 @@ use Rattle.sl_watchdog_law.proofs.Finding.{call_inside, call_owner, find_inside}
 use Rattle.sl_watchdog_law.proofs.Readings.{after_by, in_by}
 use Rattle.sl_watchdog_law.proofs.Renewing.{IsOpenRenewal}
 use Rattle.sl_watchdog_law.specs.Acting.{renewal_entry, renewal_in, renewal_told}
-use Rattle.sl_words.proofs.CaseLaws.{is_false, none_some, not_both, true_is_false}
+use Rattle.sl_words.proofs.CaseLaws.{none_some, not_both, true_is_false}
 use Rattle.sl_words.proofs.WordLaws.{and_true, choose_some}
-use Rattle.std.proofs.Common.{ap, arith, inl, inr, refl, subst, sym, tests, ◌∙◌}
+use Rattle.std.proofs.Common.{ap, arith, inl, inr, refl, subst, sym, ◌∙◌}
 use Rattle.std.proofs.lemmas.Bool.{and_from}
 use Rattle.std.specs.List.{list_any}
 use Rattle.std.specs.Option.{option_map_or}
-use Rattle.std.specs.Prelude.{Bool, Contains, List, None, Option, Some, false, is_none, is_some, length, nat_le, not, true, [], ℕ, ◌&&◌, ◌++◌, ◌+◌, ◌<◌, ◌==◌, ◌||◌, ◌∷◌, ◌≡◌, ◌≤◌}
+use Rattle.std.specs.Prelude.{Bool, List, None, Option, Some, false, is_none, is_some, length, nat_le, not, true, [], ℕ, ◌&&◌, ◌+◌, ◌<◌, ◌||◌, ◌∷◌, ◌≡◌, ◌≤◌}
 
 -- ---- it does not end with the entry
 
