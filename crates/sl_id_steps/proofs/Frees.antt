@@ -6,6 +6,7 @@ use Rattle.sl_id_state.proofs.Frames.{free_landed_by, free_of, landed_as}
 use Rattle.sl_id_state.specs.IdStates.{own_courses}
 use Rattle.sl_id_steps.proofs.OtherSessions.{distinct_one}
 use Rattle.sl_id_steps.proofs.OwnCalls.{IsFresh, IsKept, IsSilent, Through, closed, closes, kept, knows}
+use Rattle.sl_landing_law.proofs.Listing.{every_one, in_map}
 use Rattle.sl_law.proofs.LawFacts.{lawful-front}
 use Rattle.sl_law.specs.Lawful.{Lawful}
 use Rattle.sl_law.specs.LawfulDelta.{LawfulDeltaCall}
@@ -15,9 +16,8 @@ use Rattle.sl_run.specs.Runs.{Happening}
 use Rattle.sl_run.specs.Safety.{Found, SessionId, free_landed, is_course_of, setting_in, trace_of}
 use Rattle.sl_run.specs.Worlds.{Course, Program, Stamp, World, is_landed}
 use Rattle.sl_run.specs.declared.header.Header.{Header}
-use Rattle.sl_run_law.specs.Fates.{Every}
 use Rattle.sl_session_law.proofs.Growing.{mine_marked, other_next, to_all}
-use Rattle.sl_session_law.proofs.Making.{WasOpen, contains_cases, contains_first, contains_more, contains_none, old_or_new, same_answered, was_marked}
+use Rattle.sl_session_law.proofs.Making.{WasOpen, contains_cases, contains_none, old_or_new, same_answered, was_marked}
 use Rattle.sl_session_law.proofs.Owning.{calls_were_lawful}
 use Rattle.sl_session_law.proofs.Silence.{stage_by}
 use Rattle.sl_session_law.proofs.Staying.{marks_stay}
@@ -174,22 +174,6 @@ none_passes p (x ∷ ms) m none has =
       | inr more ↦ none_passes p ms m r.1 more
     ]
 
-pub mapped : (f : Course → Course) (cs : List Course) (d : Course) → Contains (map f cs) d → (c : Course) × Contains cs c × (f c ≡ d)
-mapped f [] d has = absurd (contains_none d has)
-mapped f (c ∷ cs) d has =
-    elim (contains_cases (f c) (map f cs) d has) as (λ z. (x : Course) × Contains (c ∷ cs) x × (f x ≡ d)) [
-      | inl e ↦ (c, contains_first c cs, e)
-      | inr more ↦ let r = mapped f cs d more in (r.0, contains_more c cs r.0 r.1, r.2)
-    ]
-
-pub every_inside : (P : Course → Type 0) (cs : List Course) (c : Course) → Every P cs → Contains cs c → P c
-every_inside P [] c each has = absurd (contains_none c has)
-every_inside P (x ∷ cs) c each has =
-    elim (contains_cases x cs c has) as (λ z. P c) [
-      | inl e ↦ subst P e each.0
-      | inr more ↦ every_inside P cs c each.1 more
-    ]
-
 pub not_less : (a b : Stamp) → a ≡ b → a.step < b.step → ⊥
 not_less a b e lt = let same : a.step ≡ b.step = ap (λ (s : Stamp). s.step) e in omega (arith, same, lt)
 
@@ -199,8 +183,8 @@ fresh_flies : {p : Program} {h : Header} {xs : List Happening} {w : World} {i : 
 fresh_flies {i = i} {f = f} t c own now =
     let k : Course → Course = closed t.stamp t.entry.input in
     elim (contains_append t.newer (map k (own_courses i f.machine)) c (subst (λ cs. Contains cs c) t.calls own)) as (λ z. is_landed c.fate ≡ false) [
-      | inl new ↦ ap (λ x. is_landed x) (every_inside (IsFresh t.stamp) t.newer c t.each new).fate
-      | inr old ↦ let r = mapped k (own_courses i f.machine) c old in
+      | inl new ↦ ap (λ x. is_landed x) (every_one (IsFresh t.stamp) t.newer c t.each new).fate
+      | inr old ↦ let r = in_map k (own_courses i f.machine) c old in
           let keep : IsKept r.0 (k r.0) = kept t.stamp t.entry.input r.0 in
           absurd (not_less r.0.made t.stamp (sym keep.made ∙ ap (λ x. x.made) r.2 ∙ now) (t.older r.0 r.1))
     ]

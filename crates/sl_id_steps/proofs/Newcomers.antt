@@ -12,7 +12,7 @@ use Rattle.sl_id_state.proofs.SampleFrames.{showed}
 use Rattle.sl_id_state.specs.IdStates.{blank, deciding_sample, has_begun, is_sector_of, join_course, own_courses, sample_showing, session_named_so, standing_by, standing_of, watched_bytes}
 use Rattle.sl_id_steps.proofs.Carrying.{after, kept_early, stamp_of, stepped}
 use Rattle.sl_id_steps.proofs.EventFrames.{after_event, entry_of}
-use Rattle.sl_id_steps.proofs.Frees.{every_inside, mapped, not_less}
+use Rattle.sl_id_steps.proofs.Frees.{not_less}
 use Rattle.sl_id_steps.proofs.OtherSessions.{IsOfEntry}
 use Rattle.sl_id_steps.proofs.OwnCalls.{IsKept, closed, fresh_of, kept, own_after}
 use Rattle.sl_id_steps.proofs.OwnSessions.{NewAreBlank}
@@ -21,6 +21,7 @@ use Rattle.sl_id_steps.proofs.StepFrames.{IsEntry, IsNewCourse, entered, step_ru
 use Rattle.sl_id_steps.proofs.Still.{with_running}
 use Rattle.sl_id_steps.specs.Parts.{between}
 use Rattle.sl_ids.specs.State.{Session as IdSession}
+use Rattle.sl_landing_law.proofs.Listing.{every_one, in_map}
 use Rattle.sl_moment_law.proofs.Stamps.{made_is_stamp}
 use Rattle.sl_moment_law.specs.Moments.{Of_stamp}
 use Rattle.sl_place_law.proofs.Finding.{filtered}
@@ -106,9 +107,9 @@ not_decided p h now x run e i s here its began (Some y) is =
     let own = own_after i (stamp_of e) e.input e.effects e.machine e.daemon e.runs in
     let f : Course → Course = closed (stamp_of e) e.input in
     elim (contains_append own.newer (map f (own_courses i e.machine)) c.0 (subst (λ cs. Contains cs c.0) own.same r.there)) as (λ z. Some y ≡ None) [
-      | inl new ↦ let n = every_inside (λ z. IsNewCourse (stamp_of e) e.daemon.number e.effects.calls z × (is_course_of i z ≡ true)) own.newer c.0 own.each new in
+      | inl new ↦ let n = every_one (λ z. IsNewCourse (stamp_of e) e.daemon.number e.effects.calls z × (is_course_of i z ≡ true)) own.newer c.0 own.each new in
           absurd (contains_none y (subst (λ ys. Contains ys y) (fresh_of (stamp_of e) e.daemon.number e.effects.calls c.0 n.0).samples (first_there c.0.samples y first)))
-      | inr old ↦ let m = mapped f (own_courses i e.machine) c.0 old in
+      | inr old ↦ let m = in_map f (own_courses i e.machine) c.0 old in
           let keep : IsKept m.0 (f m.0) = kept (stamp_of e) e.input m.0 in
           absurd (not_less m.0.made (stamp_of e) (sym keep.made ∙ ap (λ z. z.made) m.2 ∙ made)
           (kept_early p h now x run m.0.made.step m.0.made.moment

@@ -9,6 +9,7 @@ use Rattle.sl_id_state.proofs.Proven.{grounds}
 use Rattle.sl_id_state.proofs.Steps.{only}
 use Rattle.sl_id_state.specs.IdStates.{join_course, own_courses, runs_still}
 use Rattle.sl_id_steps.proofs.StepFrames.{IsNewCourse, step_submits}
+use Rattle.sl_landing_law.proofs.Listing.{contains_map}
 use Rattle.sl_run.specs.Events.{after_step, close_answered}
 use Rattle.sl_run.specs.Runs.{Happening}
 use Rattle.sl_run.specs.Safety.{Found, IsSession, LawfulRun, SessionId, is_course_of, was_reset, world_at}
@@ -17,7 +18,6 @@ use Rattle.sl_run.specs.declared.header.Header.{Header}
 use Rattle.sl_run_law.proofs.Coursing.{changed_if}
 use Rattle.sl_run_law.proofs.Tracking.{told}
 use Rattle.sl_run_law.specs.Fates.{Every}
-use Rattle.sl_session_law.proofs.Making.{contains_cases, contains_first, contains_more, contains_none}
 use Rattle.sl_sessions.specs.Sessions.{Session, calls_of, ended_after, free_write, is_join_call, joined_after, session_numbered}
 use Rattle.sl_trace.specs.Traces.{Submitted, is_ok_answer}
 use Rattle.sl_trace.specs.declared.effects.Call.{Call}
@@ -27,7 +27,7 @@ use Rattle.sl_trace.specs.declared.effects.JoinStep.{JoinStep}
 use Rattle.sl_trace.specs.declared.input.Input.TheVariants.{Answer as Told, Exit, Line, Spawned, Wake}
 use Rattle.sl_trace.specs.declared.input.Input.{Input}
 use Rattle.sl_words.proofs.CaseLaws.{none_some, some_value}
-use Rattle.std.proofs.Common.{ap, inl, inr, refl, subst, sym, ◌∙◌}
+use Rattle.std.proofs.Common.{ap, refl, subst, sym, ◌∙◌}
 use Rattle.std.proofs.lemmas.List.Elements.{filter-append}
 use Rattle.std.specs.Prelude.{Bool, Contains, List, None, Option, Some, cond, false, filter, find, length, map, slice_get, true, [], ℕ, ◌&&◌, ◌++◌, ◌==◌, ◌<◌, ◌∷◌, ◌≡◌}
 
@@ -159,14 +159,6 @@ goes_by P p f newer cs each as_was one None (Some c) at there = find_newer P p n
 goes_by P p f newer cs each as_was one (Some c) None at there = absurd (none_some (f c) (sym there ∙ one c at))
 goes_by P p f newer cs each as_was one (Some c) (Some x) at there = some_value x (f c) (sym there ∙ one c at)
 
-contains_mapped : (f : Course → Course) (cs : List Course) (c : Course) → Contains cs c → Contains (map f cs) (f c)
-contains_mapped f [] c has = absurd (contains_none c has)
-contains_mapped f (x ∷ cs) c has =
-    elim (contains_cases x cs c has) as (λ z. Contains (map f (x ∷ cs)) (f c)) [
-      | inl e ↦ subst (λ y. Contains (f x ∷ map f cs) (f y)) e (contains_first (f x) (map f cs))
-      | inr more ↦ contains_more (f x) (map f cs) (f c) (contains_mapped f cs c more)
-    ]
-
 -- ---- a session
 
 -- An entry that makes no call of the session.
@@ -220,7 +212,7 @@ pub had_call : {p : Program} {h : Header} {xs : List Happening} {w : World} {i :
 had_call {i = i} {f = f} t c has =
     let k : Course → Course = closed t.stamp t.entry.input in
     subst (λ cs. Contains cs (k c)) (sym t.calls)
-    (contains_right t.newer (map k (own_courses i f.machine)) (k c) (contains_mapped k (own_courses i f.machine) c has))
+    (contains_right t.newer (map k (own_courses i f.machine)) (k c) (contains_map k (own_courses i f.machine) c has))
 
 pub step_as : (now : Stamp) (j : Input) (step : JoinStep) (c : Course) → is_join_call step (closed now j c).call.purpose ≡ is_join_call step c.call.purpose
 step_as now j step c = let k : IsKept c (closed now j c) = kept now j c in ap (λ x. is_join_call step x.purpose) k.call
