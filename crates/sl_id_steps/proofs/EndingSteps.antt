@@ -207,7 +207,7 @@ one_name w path offset j k machine daemon bj bk =
     ∙ sym (ap (λ s. s.name) g.stands)
 
 -- How many sessions a daemon has.
-abbrev sessions_of : Option Daemon → ℕ
+abbrev pub sessions_of : Option Daemon → ℕ
 sessions_of None = 0
 sessions_of (Some d) = length (sessions d.setting d.trace)
 

@@ -4,10 +4,15 @@ use Rattle.sl_course_law.proofs.Mirrored.{machines_mirror}
 use Rattle.sl_id_steps.proofs.Between.{between_is_bounded_given}
 use Rattle.sl_id_state.proofs.Proven.{claims_have_decided, grounds, ids_are_bounded, join_reads_are_own, renewals_have_verified}
 use Rattle.sl_id_steps.proofs.EndingSteps.{endings_go_on_given}
+use Rattle.sl_id_steps.proofs.Entering.{entries_go_on_by}
 use Rattle.sl_id_steps.proofs.Landed.{RestsOn}
 use Rattle.sl_id_steps.proofs.LandingEvents.{landings_go_on_given}
+use Rattle.sl_id_steps.proofs.Newcomers.{new_are_blank}
+use Rattle.sl_id_steps.proofs.OwnSessions.{own_sessions_act_by}
 use Rattle.sl_id_steps.proofs.Quiet.{quiet_changes_go_on_given}
-use Rattle.sl_id_steps.specs.Parts.{BetweenIsBounded, EndingsGoOn, LandingsGoOn, QuietChangesGoOn}
+use Rattle.sl_id_steps.proofs.Renewals.{renewals_go_by}
+use Rattle.sl_id_steps.proofs.Renewed.{counted_renew}
+use Rattle.sl_id_steps.specs.Parts.{BetweenIsBounded, EndingsGoOn, EntriesGoOn, LandingsGoOn, QuietChangesGoOn}
 use Rattle.sl_landing_law.proofs.Proven.{landings_are_written}
 use Rattle.sl_place_law.proofs.Proven.{lockspaces_hold_deltas, promised}
 use Rattle.sl_sample_law.proofs.Proven.{samples_are_landings}
@@ -38,3 +43,8 @@ rests_on =
 
 pub landings_go_on : LandingsGoOn
 landings_go_on = landings_go_on_given rests_on
+
+pub entries_go_on : EntriesGoOn
+entries_go_on =
+    entries_go_on_by each_distinct machines_mirror landings_are_written
+    (own_sessions_act_by each_distinct machines_mirror landings_are_written new_are_blank (renewals_go_by counted_renew))

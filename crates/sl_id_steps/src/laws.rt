@@ -1,6 +1,6 @@
 //! How the events of a lawful run are steps of an id.
 
-ghost use Rattle.sl_id_steps.specs.Parts.{BetweenIsBounded, EndingsGoOn, LandingsGoOn, OwnStepsGoOn, QuietChangesGoOn, SamplingsGoOn};
+ghost use Rattle.sl_id_steps.specs.Parts.{BetweenIsBounded, EndingsGoOn, EntriesGoOn, LandingsGoOn, OwnStepsGoOn, QuietChangesGoOn, SamplingsGoOn};
 
 /// The bounds hold between an event's first change and its step.
 pub fn between_is_bounded()
@@ -30,4 +30,9 @@ pub fn endings_go_on()
 /// What a machine does by itself.
 pub fn own_steps_go_on()
     ensures { OwnStepsGoOn }
+{}
+
+/// An entry of a daemon.
+pub fn entries_go_on()
+    ensures { EntriesGoOn }
 {}
