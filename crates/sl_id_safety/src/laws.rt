@@ -1,6 +1,6 @@
 //! What a lawful run promises of the sessions of each id.
 
-ghost use Rattle.sl_id_safety.specs.Interface.{JoinedStays, LockspacesAreAreas, OverAreSettled, OverAreSilent};
+ghost use Rattle.sl_id_safety.specs.Interface.{GenerationsNameOne, JoinedStays, JoinersFindOver, JoinersRise, LockspacesAreAreas, OneActsForEachId, OverAreSettled, OverAreSilent, OverStays, SectorsStand};
 ghost use Rattle.sl_id_safety.specs.Standing.{JoinedStand, SameIdsStandTogether, StandingTogetherIsSameId};
 
 /// A joined session stands with its id as the world has it.
@@ -36,4 +36,34 @@ pub fn over_are_silent()
 /// No write of it but its free is answered any more.
 pub fn over_are_settled()
     ensures { OverAreSettled }
+{}
+
+/// For each id at most one joined session is not over.
+pub fn one_acts_for_each_id()
+    ensures { OneActsForEachId }
+{}
+
+/// One that joins later has a greater generation.
+pub fn joiners_rise()
+    ensures { JoinersRise }
+{}
+
+/// Lockspace, id and generation name one joined session.
+pub fn generations_name_one()
+    ensures { GenerationsNameOne }
+{}
+
+/// A session that is over stays so.
+pub fn over_stays()
+    ensures { OverStays }
+{}
+
+/// Where a session has joined, each of its id that had joined before is over.
+pub fn joiners_find_over()
+    ensures { JoinersFindOver }
+{}
+
+/// A joined session's sector holds a record of its own, or torn bytes, until it is over.
+pub fn sectors_stand()
+    ensures { SectorsStand }
 {}

@@ -126,7 +126,7 @@ claim_before {p = p} {h = h} {xs = xs} {i = i} {g = g} t c d v k at l has left =
           let q : HasClaimed h u i g r.0 = verify_reads_have_claimed p h xs t.run i g r.0 t.its s.there s.test in
           let one : q.claim ≡ k = one_value q.claim k (join_course i ClaimWrite g.machine) q.claimed at in
           let mine = (find_passes (λ x. is_join_call ClaimWrite x.call.purpose) (own_courses i g.machine) k at).there in
-          let x = wrote_it t k mine l has (left_name i.machine k.call.number l.writer left) in
+          let x = wrote_it t k mine l has (left_name i.machine k.call.number l.writer (and_true l.whole _ left).1) in
           let answered : k.answered ≡ Some q.answer = ap (λ y. y.answered) (sym one) ∙ q.answered.0 in
           let before = (x.0.wrote.before q.answer (ap (λ y. y.answered) x.1 ∙ answered)).0 in
           let sample = (showed g (claim_bytes u i g) r.0 some.0 r.2).sample in

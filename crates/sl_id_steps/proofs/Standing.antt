@@ -110,7 +110,7 @@ nothing_left {p = p} {h = h} {xs = xs} {i = i} {g = g} t c own flies l has left 
     let v : World = world_at p h xs in
     let x : HasWriter v l = landings_are_written p h xs t.run l has in
     let named : (x.machine == i.machine && x.call == c.call.number) ≡ true =
-    sym (ap (λ o. some_is (λ (z : ℕ × ℕ). z.0 == i.machine && z.1 == c.call.number) o) x.named) ∙ left in
+    sym (ap (λ o. some_is (λ (z : ℕ × ℕ). z.0 == i.machine && z.1 == c.call.number) o) x.named) ∙ (and_true l.whole _ left).1 in
     let both = and_true (x.machine == i.machine) (x.call == c.call.number) named in
     let a : x.wrote.machine ≡ g.machine =
     one_value x.wrote.machine g.machine (machine_at v i.machine) (ap (machine_at v) (sym (same_numbers x.machine i.machine both.0)) ∙ x.wrote.at) (knows t).there.at in

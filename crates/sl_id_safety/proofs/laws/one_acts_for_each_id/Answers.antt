@@ -1,0 +1,5 @@
+use Rattle.sl_id_safety.proofs.Proven.{one_acts_for_each_id}
+use Rattle.sl_id_safety.proofs.laws.one_acts_for_each_id.Goals as goal
+
+pub returns : goal.returns
+returns c = one_acts_for_each_id

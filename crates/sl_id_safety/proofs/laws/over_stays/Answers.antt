@@ -1,0 +1,5 @@
+use Rattle.sl_id_safety.proofs.Proven.{over_stays}
+use Rattle.sl_id_safety.proofs.laws.over_stays.Goals as goal
+
+pub returns : goal.returns
+returns c = over_stays

@@ -1,0 +1,5 @@
+use Rattle.sl_id_safety.proofs.Proven.{sectors_stand}
+use Rattle.sl_id_safety.proofs.laws.sectors_stand.Goals as goal
+
+pub returns : goal.returns
+returns c = sectors_stand
