@@ -9,3 +9,5 @@ pub mod Fronting
 pub mod Showing
 pub mod Seeing
 pub mod Evident
+pub mod Standstill
+pub mod Silent
