@@ -61,11 +61,11 @@ record StoodThere (p : Program) (h : Header) (xs : List Happening) (path : List 
 same_spot : (base size j : ℕ) → base + (j - 1) * size ≡ base + size * (j - 1)
 same_spot base size j = omega (arith, mul_comm (j - 1) size)
 
-append_twice : (a b c : List Happening) → (a ++ b) ++ c ≡ a ++ (b ++ c)
+pub append_twice : (a b c : List Happening) → (a ++ b) ++ c ≡ a ++ (b ++ c)
 append_twice [] b c = refl
 append_twice (x ∷ a) b c = ap (λ xs. x ∷ xs) (append_twice a b c)
 
-place_seen : (w : World) (f : Found) (j : ℕ) (d : DeltaRec) (s : IsSeen w f j d) → sector_place w s.course (j - 1) ≡ delta_offset w.layout f.session.offset j
+pub place_seen : (w : World) (f : Found) (j : ℕ) (d : DeltaRec) (s : IsSeen w f j d) → sector_place w s.course (j - 1) ≡ delta_offset w.layout f.session.offset j
 place_seen w f j d s = same_spot s.course.call.offset w.layout.sector j ∙ ap (λ n. delta_offset w.layout n j) s.place.1
 
 stood_there : IdsAreReached → (p : Program) (h : Header) (now rest : List Happening) → LawfulRun p h (now ++ rest) → (i : SessionId) (f : Found) → IsSession (world_at p h now) i f
@@ -144,7 +144,7 @@ seen_evidence : (r : Terms) (u : State) (d : DeltaRec) (n : ℕ) → ShowsLast u
 seen_evidence r u d n s (inl newer) = Newer s.last (content_of d) s.is_last s.shows newer
 seen_evidence r u d n s (inr free) = Freed s.last (content_of d) s.is_last s.shows (ap kind_of free.0) free.1
 
-from_front : IdsAreReached → IdsGoOn → (p : Program) (h : Header) (front rest : List Happening) → LawfulRun p h (front ++ rest) → (path : List ℕ) (offset : ℕ) → IsIdPlace p h path offset
+pub from_front : IdsAreReached → IdsGoOn → (p : Program) (h : Header) (front rest : List Happening) → LawfulRun p h (front ++ rest) → (path : List ℕ) (offset : ℕ) → IsIdPlace p h path offset
     → (n : ℕ) → Evidence (terms_of h.timing) (id_state (world_at p h front) path offset) n → (k : SessionId) (g : Found) → StandsIn (world_at p h (front ++ rest)) path offset k g
     → found_generation g ≡ n → is_over k g ≡ true
 from_front reached on p h front rest run path offset place n ev k g t generation =
@@ -159,7 +159,7 @@ from_front reached on p h front rest run path offset place n ev k g t generation
 -- ---- the law
 
 -- A session of the same lockspace with this id stands at the place of the id in the lockspace of the one that looks.
-looks_at : (p : Program) (h : Header) (now xs : List Happening) (f g : Found) (k : SessionId) (j : ℕ) → IsTrue (same_lockspace f g) → g.session.id ≡ j → StandsJoined p h (world_at p h xs) k g
+pub looks_at : (p : Program) (h : Header) (now xs : List Happening) (f g : Found) (k : SessionId) (j : ℕ) → IsTrue (same_lockspace f g) → g.session.id ≡ j → StandsJoined p h (world_at p h xs) k g
     → IsIdPlace p h f.session.path (delta_offset (world_at p h now).layout f.session.offset j)
     × StandsIn (world_at p h xs) f.session.path (delta_offset (world_at p h now).layout f.session.offset j) k g
 looks_at p h now xs f g k j same id t =
@@ -170,7 +170,7 @@ looks_at p h now xs f g k j same id t =
       stands_in p h (world_at p h xs) k g t f.session.path (delta_offset (world_at p h now).layout f.session.offset j) (sym at.0) offset,
     )
 
-id_range : (p : Program) (h : Header) (now xs : List Happening) (k : SessionId) (g : Found) (j : ℕ) → g.session.id ≡ j → StandsJoined p h (world_at p h xs) k g
+pub id_range : (p : Program) (h : Header) (now xs : List Happening) (k : SessionId) (g : Found) (j : ℕ) → g.session.id ≡ j → StandsJoined p h (world_at p h xs) k g
     → (1 ≤ j) × (j ≤ (world_at p h now).layout.hosts)
 id_range p h now xs k g j id t =
     let same : t.place.id ≡ j = sym t.names.2 ∙ id in

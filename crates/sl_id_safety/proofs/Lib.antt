@@ -9,4 +9,6 @@ pub mod Fronting
 pub mod Showing
 pub mod Seeing
 pub mod Evident
+pub mod Standstill
+pub mod Silent
 pub mod Proven

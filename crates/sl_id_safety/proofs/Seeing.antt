@@ -1,7 +1,7 @@
 -- A record that a session has seen of an id: the sample of a survey shows it.
 use Rattle.sl_area.specs.Layouts.{Layout, record_in}
 use Rattle.sl_area.specs.Places.{sector_of}
-use Rattle.sl_course_law.specs.Stamping.{IsCourseOf}
+use Rattle.sl_course_law.specs.Stamping.{AnswersAgree, IsAnsweredAs, IsCourseOf}
 use Rattle.sl_id_safety.specs.Interface.{sightings_of}
 use Rattle.sl_id_state.proofs.Bridge.{known}
 use Rattle.sl_id_state.proofs.Keeping.{own_call}
@@ -16,12 +16,13 @@ use Rattle.sl_place_law.proofs.Reading.{read_of}
 use Rattle.sl_run.specs.Events.{sectors_of}
 use Rattle.sl_run.specs.Runs.{Happening}
 use Rattle.sl_run.specs.Safety.{Found, IsSession, LawfulRun, SessionId, setting_in, trace_of, world_at}
-use Rattle.sl_run.specs.Worlds.{Course, Program, Sampling, World}
+use Rattle.sl_run.specs.Worlds.{Course, Program, Sampling, Stamp, World}
 use Rattle.sl_run.specs.declared.header.Header.{Header}
 use Rattle.sl_sector.specs.Spelling.{delta_in}
 use Rattle.sl_sector.specs.declared.sector.DeltaRec.{DeltaRec}
 use Rattle.sl_sessions.specs.Sessions.{Session, calls_of, is_call_of, is_survey_purpose}
 use Rattle.sl_sessions.specs.Watching.{Sighting, look_of, seen_records, sighted}
+use Rattle.sl_time.specs.Times.{reading_of}
 use Rattle.sl_trace.specs.Traces.{Answered, Setting, Submitted, Trace, bytes_given, gave, new_call, submitted}
 use Rattle.sl_trace.specs.declared.effects.Call.{Call}
 use Rattle.sl_trace.specs.declared.effects.Op.TheVariants.{ReadSectors}
@@ -29,7 +30,7 @@ use Rattle.sl_trace.specs.declared.effects.Purpose.TheVariants.{Survey}
 use Rattle.sl_trace.specs.declared.effects.Purpose.{Purpose}
 use Rattle.sl_words.proofs.CaseLaws.{none_some, some_value, true_is_false}
 use Rattle.sl_words.specs.Words.{choose}
-use Rattle.std.proofs.Common.{ap, arith, refl, sym, ◌∙◌}
+use Rattle.std.proofs.Common.{ap, arith, refl, subst, sym, ◌∙◌}
 use Rattle.std.specs.Prelude.{Bool, Contains, List, None, Option, Some, [], false, length, option_and_then, option_map, slice_get, suc, true, zero, ℕ, ◌-◌, ◌<◌, ◌==◌, ◌∷◌, ◌≡◌, ◌≤◌}
 
 -- The sample of a survey of the session that shows the record.
@@ -40,6 +41,14 @@ pub record IsSeen (w : World) (f : Found) (j : ℕ) (d : DeltaRec) : Type 0 wher
   pub slot : slice_get course.samples (j - 1) ≡ Some sample
   pub place : (course.call.path ≡ f.session.path) × (course.call.offset ≡ f.session.offset)
   pub says : said_by w.layout (sector_of w.layout course.sampled (j - 1)) ≡ Some (content_of d)
+
+-- .. and how it stands in time to what the session read on its clock.
+pub record IsSighted (w : World) (f : Found) (j : ℕ) (x : Sighting) (d : DeltaRec) : Type 0 where
+  pub seen : IsSeen w f j d
+  pub before : reading_of seen.course.made.clock ≡ x.before
+  pub stamp : Stamp
+  pub answered : seen.course.answered ≡ Some stamp
+  pub after : reading_of stamp.clock ≡ x.after
 
 there_is : {A : Type 0} (xs : List A) (k : ℕ) → k < length xs → (x : A) × (slice_get xs k ≡ Some x)
 there_is [] k lt = absurd (omega (arith, lt))
@@ -60,6 +69,10 @@ record IsLook (g : Layout) (j : ℕ) (m : Submitted) (x : Sighting) : Type 0 whe
   bytes : List ℕ
   given : gave m ≡ Some bytes
   shows : x.bytes ≡ sector_of g bytes (j - 1)
+  before : m.reading ≡ x.before
+  answer : Answered
+  its : m.answer ≡ Some answer
+  after : answer.reading ≡ x.after
 
 abbrev look_in : Layout → ℕ → Submitted → Answered → List ℕ → Sighting
 look_in g j m a bytes = record { before = m.reading; after = a.reading; bytes = sector_of g bytes (j - 1) }
@@ -75,6 +88,10 @@ look_by g j m x true at is =
       bytes = bytes.0;
       given = ap (option_and_then (λ y. bytes_given y.answer)) a.1 ∙ bytes.1;
       shows = ap (λ (y : Sighting). y.bytes) (sym bytes.2);
+      before = ap (λ (y : Sighting). y.before) bytes.2;
+      answer = a.0;
+      its = a.1;
+      after = ap (λ (y : Sighting). y.after) bytes.2;
     }
 
 within : (j hosts n : ℕ) → 1 ≤ j → j ≤ hosts → n ≡ hosts → j - 1 < n
@@ -82,7 +99,7 @@ within j hosts n low high is = omega (arith, low, high, is)
 
 seen_look : (p : Program) (h : Header) (now : List Happening) → LawfulRun p h now → (i : SessionId) (f : Found) → IsSession (world_at p h now) i f → (j : ℕ) → 1 ≤ j
     → j ≤ (world_at p h now).layout.hosts → (m : Submitted) → Contains (calls_of (trace_of f) f.session) m → (x : Sighting) → IsLook (setting_in f).layout j m x → (d : DeltaRec)
-    → delta_in (record_in (setting_in f).layout x.bytes) ≡ Some d → IsSeen (world_at p h now) f j d
+    → delta_in (record_in (setting_in f).layout x.bytes) ≡ Some d → IsSighted (world_at p h now) f j x d
 seen_look p h now run i f its j low high m there x look d spells =
     let w : World = world_at p h now in
     let kn = known grounds p h now run i f its in
@@ -97,28 +114,42 @@ seen_look p h now run i f its j low high m there x look d spells =
     (setting_in f).layout.hosts op look.bytes look.given in
     let hosts : length read.course.samples ≡ w.layout.hosts = read.whole ∙ ap sectors_of op ∙ ap (λ (g : Layout). g.hosts) layout in
     let slot = there_is read.course.samples (j - 1) (within j w.layout.hosts (length read.course.samples) low high hosts) in
+    let heard : IsAnsweredAs f.daemon read.course look.answer = subst (λ o. AnswersAgree f.daemon read.course o) look.its read.is.answers in
     record {
-      course = read.course;
-      has = read.has;
-      sample = slot.0;
-      slot = slot.1;
-      place = (
-        ap (λ (y : Call). y.path) (sym read.is.call ∙ sym call) ∙ law.whole.0,
-        ap (λ (y : Call). y.offset) (sym read.is.call ∙ sym call) ∙ law.whole.1,
-      );
-      says = ap (option_map content_of)
-          (ap (λ bs. delta_in (record_in w.layout (sector_of w.layout bs (j - 1)))) (sym read.sampled)
-          ∙ ap (λ (g : Layout). delta_in (record_in g (sector_of g look.bytes (j - 1)))) (sym layout)
-          ∙ ap (λ bs. delta_in (record_in (setting_in f).layout bs)) (sym look.shows) ∙ spells);
+      seen = record {
+        course = read.course;
+        has = read.has;
+        sample = slot.0;
+        slot = slot.1;
+        place = (
+          ap (λ (y : Call). y.path) (sym read.is.call ∙ sym call) ∙ law.whole.0,
+          ap (λ (y : Call). y.offset) (sym read.is.call ∙ sym call) ∙ law.whole.1,
+        );
+        says = ap (option_map content_of)
+            (ap (λ bs. delta_in (record_in w.layout (sector_of w.layout bs (j - 1)))) (sym read.sampled)
+            ∙ ap (λ (g : Layout). delta_in (record_in g (sector_of g look.bytes (j - 1)))) (sym layout)
+            ∙ ap (λ bs. delta_in (record_in (setting_in f).layout bs)) (sym look.shows) ∙ spells);
+      };
+      before = sym read.is.reading ∙ look.before;
+      stamp = heard.stamp;
+      answered = heard.answered;
+      after = heard.reading ∙ look.after;
     }
+
+-- A sighting of a record is a sample that shows it.
+pub looked : (p : Program) (h : Header) (now : List Happening) → LawfulRun p h now → (i : SessionId) (f : Found) → IsSession (world_at p h now) i f → (j : ℕ) → 1 ≤ j
+    → j ≤ (world_at p h now).layout.hosts → (x : Sighting) → Contains (sightings_of f j) x → (d : DeltaRec) → sighted (setting_in f).layout j x ≡ Some d
+    → IsSighted (world_at p h now) f j x d
+looked p h now run i f its j low high x there d spells =
+    let g : Layout = (setting_in f).layout in
+    let m = given_by (look_of g j) (calls_of (trace_of f) f.session) x there in
+    let e = then_some (λ (y : DeltaRec). choose (y.id == j) y) (delta_in (record_in g x.bytes)) d spells in
+    seen_look p h now run i f its j low high m.0 m.1 x (look_by g j m.0 x (is_survey_purpose m.0.call.purpose) refl m.2) d
+    (e.1 ∙ ap (λ y. Some y) (chosen (e.0.id == j) e.0 d e.2))
 
 -- A record that was seen is shown by a sample.
 pub seen : (p : Program) (h : Header) (now : List Happening) → LawfulRun p h now → (i : SessionId) (f : Found) → IsSession (world_at p h now) i f → (j : ℕ) → 1 ≤ j
     → j ≤ (world_at p h now).layout.hosts → (d : DeltaRec) → Contains (seen_records (setting_in f).layout j (sightings_of f j)) d → IsSeen (world_at p h now) f j d
 seen p h now run i f its j low high d there =
-    let g : Layout = (setting_in f).layout in
-    let x = given_by (sighted g j) (sightings_of f j) d there in
-    let m = given_by (look_of g j) (calls_of (trace_of f) f.session) x.0 x.1 in
-    let e = then_some (λ (y : DeltaRec). choose (y.id == j) y) (delta_in (record_in g x.0.bytes)) d x.2 in
-    seen_look p h now run i f its j low high m.0 m.1 x.0 (look_by g j m.0 x.0 (is_survey_purpose m.0.call.purpose) refl m.2) d
-    (e.1 ∙ ap (λ y. Some y) (chosen (e.0.id == j) e.0 d e.2))
+    let x = given_by (sighted (setting_in f).layout j) (sightings_of f j) d there in
+    (looked p h now run i f its j low high x.0 x.1 d x.2).seen

@@ -2,7 +2,7 @@
 use Rattle.sl_area.specs.Places.{sector_of}
 use Rattle.sl_front_law.proofs.Going.{fronts_are_lawful, run_after}
 use Rattle.sl_front_law.proofs.Having.{contains_append, contains_left, contains_right}
-use Rattle.sl_id_safety.proofs.Fronting.{FrontAt, landed_since}
+use Rattle.sl_id_safety.proofs.Fronting.{FrontAt, landed_before, landed_since}
 use Rattle.sl_id_safety.proofs.Owning.{newest_stands, numbered_top}
 use Rattle.sl_id_state.proofs.Keeping.{is_place}
 use Rattle.sl_id_state.proofs.SectorFrames.{at_place, history_grows}
@@ -130,23 +130,26 @@ pub record ShowsLast (v : State) (x : Content) : Type 0 where
 is_top : (j top n step : ℕ) → j < top + 1 → (j < top → n < step) → step ≤ n → j ≡ top
 is_top j top n step lt above le = elim (cases_lt j top) as (λ z. j ≡ top) [ inl less ↦ absurd (let k = above less in omega (arith, k, le)) | inr ge ↦ omega (arith, lt, ge) ]
 
-late_by : (p : Program) (h : Header) (now : List Happening) → LawfulRun p h now → (path : List ℕ) (offset n : ℕ) (l : Landing) → Contains (history_of (world_at p h now) path offset) l
-    → (world_at p h now).step ≤ n + 1 → l.step ≤ n
-late_by p h now run path offset n l there le =
+-- What has landed at a place came by this step.
+abbrev pub HasLandedBy : World → List ℕ → ℕ → ℕ → Type 0
+HasLandedBy w path offset n = (l : Landing) → Contains (history_of w path offset) l → l.step ≤ n
+
+late_by : (p : Program) (h : Header) (now : List Happening) → LawfulRun p h now → (path : List ℕ) (offset n : ℕ) → (world_at p h now).step ≤ n + 1
+    → HasLandedBy (world_at p h now) path offset n
+late_by p h now run path offset n le l there =
     elim (past_by p h now run path offset l there) as (λ z. l.step ≤ n) [ inl early ↦ omega (arith, early, le) | inr zero ↦ omega (arith, zero) ]
 
 shown_by : IdsAreReached → (p : Program) (h : Header) (now rest : List Happening) → LawfulRun p h (now ++ rest) → (c : Course) (k : ℕ) (s : Sampling)
-    → (i : IsSampleOf (world_at p h (now ++ rest)) c k s) → s.step ≤ (world_at p h now).step → (world_at p h now).step ≤ s.step + 1
+    → (i : IsSampleOf (world_at p h (now ++ rest)) c k s) → s.step ≤ (world_at p h now).step → HasLandedBy (world_at p h now) c.call.path (sector_place (world_at p h (now ++ rest)) c k) s.step
     → IsIdPlace p h c.call.path (sector_place (world_at p h (now ++ rest)) c k) → (x : Content)
     → said_by (world_at p h (now ++ rest)).layout (sector_of (world_at p h (now ++ rest)).layout c.sampled k) ≡ Some x
     → ShowsLast (id_state (world_at p h now) c.call.path (sector_place (world_at p h (now ++ rest)) c k)) x
-shown_by reached p h now rest run c k s i reaches first place x says =
+shown_by reached p h now rest run c k s i reaches past place x says =
     let u : World = world_at p h now in
     let w : World = world_at p h (now ++ rest) in
     let path : List ℕ = c.call.path in
     let offset : ℕ = sector_place w c k in
     let g = grows_to p h now rest path offset in
-    let front = fronts_are_lawful p h now rest run in
     let v : State = id_state w path offset in
     let inv = reached_kept (terms_of h.timing) v (watchdogs.long h.timing run.header.timing) (reached p h (now ++ rest) path offset run place) in
     let l : Landing = i.landing in
@@ -165,7 +168,7 @@ shown_by reached p h now rest run c k s i reaches first place x says =
     ap (λ ls. numbered_landing ls (length t.below)) g.history ∙ number_stays g.newer (history_of u path offset) (length t.below) t.top top_in in
     let top : j.0 ≡ length t.below =
     is_top j.0 (length t.below) s.step t.top.step below (λ less. (i.before_next (length t.below) t.top top_later (subst (λ m. m < length t.below) same less)).0)
-    (late_by p h now front path offset s.step t.top (subst (λ ls. Contains ls t.top) (sym t.whole) (contains_first t.top t.below)) first) in
+    (past t.top (subst (λ ls. Contains ls t.top) (sym t.whole) (contains_first t.top t.below))) in
     record {
       last = j.0;
       is_last = let long = ap (λ ls. length ls) t.whole in omega (arith, long, top);
@@ -174,15 +177,46 @@ shown_by reached p h now rest run c k s i reaches first place x says =
 
 -- What is said of a sample of a run, at a front of it.
 abbrev Shown : Program → Header → List Happening → Course → ℕ → Sampling → Content → List Happening → Type 0
-Shown p h now c k s x xs = LawfulRun p h xs → IsSampleOf (world_at p h xs) c k s → IsIdPlace p h c.call.path (sector_place (world_at p h xs) c k)
+Shown p h now c k s x xs = LawfulRun p h xs → HasLandedBy (world_at p h now) c.call.path (sector_place (world_at p h xs) c k) s.step → IsSampleOf (world_at p h xs) c k s → IsIdPlace p h c.call.path (sector_place (world_at p h xs) c k)
     → said_by (world_at p h xs).layout (sector_of (world_at p h xs).layout c.sampled k) ≡ Some x
     → ShowsLast (id_state (world_at p h now) c.call.path (sector_place (world_at p h xs) c k)) x
 
--- A sample shows the newest landing of the first front that has come to its step.
+-- A sample shows the newest landing of a front that has come to its step, where nothing has landed there since.
+shown_in : IdsAreReached → (p : Program) (h : Header) (xs now rest : List Happening) → xs ≡ now ++ rest → (c : Course) (k : ℕ) (s : Sampling) → LawfulRun p h xs
+    → s.step ≤ (world_at p h now).step → HasLandedBy (world_at p h now) c.call.path (sector_place (world_at p h xs) c k) s.step
+    → IsSampleOf (world_at p h xs) c k s → IsIdPlace p h c.call.path (sector_place (world_at p h xs) c k) → (x : Content)
+    → said_by (world_at p h xs).layout (sector_of (world_at p h xs).layout c.sampled k) ≡ Some x
+    → ShowsLast (id_state (world_at p h now) c.call.path (sector_place (world_at p h xs) c k)) x
+shown_in reached p h xs now rest whole c k s run reaches past i place x says =
+    subst (Shown p h now c k s x) (sym whole)
+    (λ run' past' i' place' says'. shown_by reached p h now rest run' c k s i' reaches past' place' x says') run past i place says
+
+-- So it does at the first front that has come to its step.
 pub shown_at : IdsAreReached → (p : Program) (h : Header) (xs : List Happening) (c : Course) (k : ℕ) (s : Sampling) (f : FrontAt p h xs s.step) → LawfulRun p h xs
     → IsSampleOf (world_at p h xs) c k s → IsIdPlace p h c.call.path (sector_place (world_at p h xs) c k) → (x : Content)
     → said_by (world_at p h xs).layout (sector_of (world_at p h xs).layout c.sampled k) ≡ Some x
     → ShowsLast (id_state (world_at p h f.now) c.call.path (sector_place (world_at p h xs) c k)) x
-shown_at reached p h xs c k s f run i place x says =
-    subst (Shown p h f.now c k s x) (sym f.whole)
-    (λ run' i' place' says'. shown_by reached p h f.now f.rest run' c k s i' f.reaches f.first place' x says') run i place says
+shown_at reached p h xs c k s f run i place =
+    let front = fronts_are_lawful p h f.now f.rest (subst (λ ys. LawfulRun p h ys) f.whole run) in
+    shown_in reached p h xs f.now f.rest f.whole c k s run f.reaches
+    (late_by p h f.now front c.call.path (sector_place (world_at p h xs) c k) s.step f.first) i place
+
+-- Nothing lands in the second step of an event.
+settled_by : (p : Program) (h : Header) (now : List Happening) → LawfulRun p h now → (path : List ℕ) (offset n : ℕ) → (world_at p h now).step ≤ n + 1 + 1
+    → HasLandedBy (world_at p h now) path offset n
+settled_by p h now run path offset n le l there =
+    elim (in_history (world_at p h now) path offset l there).1 as (λ z. l.step ≤ n) [
+      | inl landed ↦ let early = landed_before p h now run l landed in omega (arith, early, le)
+      | inr is ↦ let zero : l.step ≡ 0 = ap (λ (x : Landing). x.step) is in omega (arith, zero)
+    ]
+
+-- .. and at the first one that is past it.
+pub shown_after : IdsAreReached → (p : Program) (h : Header) (xs : List Happening) (c : Course) (k : ℕ) (s : Sampling) (f : FrontAt p h xs (s.step + 1)) → LawfulRun p h xs
+    → IsSampleOf (world_at p h xs) c k s → IsIdPlace p h c.call.path (sector_place (world_at p h xs) c k) → (x : Content)
+    → said_by (world_at p h xs).layout (sector_of (world_at p h xs).layout c.sampled k) ≡ Some x
+    → ShowsLast (id_state (world_at p h f.now) c.call.path (sector_place (world_at p h xs) c k)) x
+shown_after reached p h xs c k s f run i place =
+    let front = fronts_are_lawful p h f.now f.rest (subst (λ ys. LawfulRun p h ys) f.whole run) in
+    let reaches = f.reaches in
+    shown_in reached p h xs f.now f.rest f.whole c k s run (omega (arith, reaches))
+    (settled_by p h f.now front c.call.path (sector_place (world_at p h xs) c k) s.step f.first) i place

@@ -1,6 +1,6 @@
 //! What a lawful run promises of the sessions of each id.
 
-ghost use Rattle.sl_id_safety.specs.Interface.{GenerationsNameOne, JoinedStays, JoinersFindOver, JoinersRise, LockspacesAreAreas, OneActsForEachId, OverAreSettled, OverAreSilent, OverStays, SectorsStand};
+ghost use Rattle.sl_id_safety.specs.Interface.{EvidenceMeansOver, EvidencesAreTrue, GenerationsNameOne, JoinedStays, JoinersFindOver, JoinersRise, LockspacesAreAreas, OneActsForEachId, OverAreSettled, OverAreSilent, OverStays, SectorsStand};
 ghost use Rattle.sl_id_safety.specs.Standing.{JoinedStand, SameIdsStandTogether, StandingTogetherIsSameId};
 
 /// A joined session stands with its id as the world has it.
@@ -66,4 +66,14 @@ pub fn joiners_find_over()
 /// A joined session's sector holds a record of its own, or torn bytes, until it is over.
 pub fn sectors_stand()
     ensures { SectorsStand }
+{}
+
+/// A session that somebody has evidence against is over, whenever it joined, and none joins later.
+pub fn evidence_means_over()
+    ensures { EvidenceMeansOver }
+{}
+
+/// So all evidence of a run is true.
+pub fn evidences_are_true()
+    ensures { EvidencesAreTrue }
 {}

@@ -1,0 +1,5 @@
+use Rattle.sl_id_safety.proofs.Proven.{evidences_are_true}
+use Rattle.sl_id_safety.proofs.laws.evidences_are_true.Goals as goal
+
+pub returns : goal.returns
+returns c = evidences_are_true
