@@ -7,7 +7,7 @@ use Rattle.sl_ballots.specs.History.{Block as HistoryBlock, History, Leader as H
 use Rattle.sl_ballots.specs.Residues.{host_by_remainder}
 use Rattle.sl_course_law.specs.Stamping.{stamp_in}
 use Rattle.sl_leases.specs.Leases.{is_area_read}
-use Rattle.sl_resource_history.specs.Sending.{Sent, block_of_course, holder_of, is_joined_there, last_block_before, last_look_before, leader_of_course, nobody, read_at, sender_of, sent_at, session_of_holder, step_of, writes_block, writes_leader}
+use Rattle.sl_resource_history.specs.Sending.{Sent, block_of_course, holder_of, last_block_before, last_look_before, leader_of_course, nobody, read_at, sender_of, sent_at, session_of_holder, step_of, writes_block, writes_leader}
 use Rattle.sl_run.specs.Events.{happens}
 use Rattle.sl_run.specs.Runs.{Happening}
 use Rattle.sl_run.specs.Safety.{Found, SessionId, is_over, session_of_world, setting_in, trace_of, world_at}
@@ -20,7 +20,7 @@ use Rattle.sl_sessions.specs.Sessions.{joined_after}
 use Rattle.sl_sessions.specs.Watching.{counted_over}
 use Rattle.sl_trace.specs.Traces.{Trace, new_call}
 use Rattle.sl_trace.specs.declared.effects.Spot.{Spot}
-use Rattle.sl_words.specs.Words.{choose, some_is}
+use Rattle.sl_words.specs.Words.{some_is}
 use Rattle.std.specs.Option.{option_map_or}
 use Rattle.std.specs.Prelude.{Bool, List, None, Option, Some, false, find, if◌then◌else◌, is_some, nat_le, option_and_then, option_map, slice_get, true, [], ℕ, ◌&&◌, ◌+◌, ◌-◌, ◌==◌, ◌∷◌}
 

@@ -1,20 +1,18 @@
 -- What was sent to the area of a resource, by which session, and when. A call is named by the step of the entry that made it: on one area
 -- at most one write, one read, one leader and one grant in each mode come at a step.
-use Rattle.sl_area.specs.Layouts.{Layout}
 use Rattle.sl_ballots.specs.History.{Owner as Holder}
 use Rattle.sl_leases.specs.Leases.{block_of_record, is_block_read, is_on, leader_of_record}
 use Rattle.sl_run.specs.Safety.{Found, SessionId, found_generation, session_of_world, trace_of}
-use Rattle.sl_run.specs.Worlds.{Course, Daemon, Machine, World, daemons_on}
+use Rattle.sl_run.specs.Worlds.{Course, Daemon, World, daemons_on}
 use Rattle.sl_sector.specs.declared.sector.Block.{Block}
 use Rattle.sl_sector.specs.declared.sector.Leader.{Leader}
 use Rattle.sl_sessions.specs.Sessions.{joined_after, sessions}
 use Rattle.sl_trace.specs.Traces.{new_call, record_of}
-use Rattle.sl_trace.specs.declared.effects.Call.{Call}
 use Rattle.sl_trace.specs.declared.effects.Spot.{Spot}
 use Rattle.sl_words.specs.Words.{some_is}
 use Rattle.std.specs.List.{enumerate_from}
 use Rattle.std.specs.Option.{option_map_or}
-use Rattle.std.specs.Prelude.{Bool, List, None, Option, Some, bytes_eq, find, flat_map, is_some, map, nat_le, nat_lt, option_and_then, option_map, ℕ, ◌&&◌, ◌==◌}
+use Rattle.std.specs.Prelude.{Bool, List, Option, bytes_eq, find, flat_map, is_some, map, nat_le, nat_lt, option_and_then, ℕ, ◌&&◌, ◌==◌}
 
 -- A call with its machine.
 pub record Sent : Type 0 where
