@@ -196,6 +196,7 @@ pub record Standing (w : World) (x : Sent) : Type 0 where
   pub before : List Course
   pub courses : courses_of machine daemon.number ≡ after ++ x.course ∷ before
   pub told : PairParts (IsCourseOf daemon) x.course before (submitted daemon.trace)
+  pub fallen : CallsFall w.step (courses_of machine daemon.number)
   pub timed : IsTimed x.course
   pub fall : CallsFall (x.course.made.step + 1) before
   pub session : Session
@@ -234,6 +235,7 @@ standing p h xs run x has =
       before = q.older;
       courses = q.is;
       told = told;
+      fallen = subst (λ cs. CallsFall w.step cs) (sym q.is) fall;
       timed = behind.0;
       fall = behind.1;
       session = s.0;
