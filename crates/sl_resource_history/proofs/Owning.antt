@@ -11,7 +11,7 @@ use Rattle.sl_lease_law.proofs.SpotLaws.{areas_are_apart}
 use Rattle.sl_lease_law.proofs.TurnLaws.{one_at_a_time}
 use Rattle.sl_lease_law.specs.Promises.{WasAnsweredBy}
 use Rattle.sl_lease_law.specs.Ways.{BlockComes, BlockFront, lease_among}
-use Rattle.sl_leases.specs.Leases.{block_of_record, block_submitted, block_written, is_lease_call, is_on, lease_step, spot_of_call}
+use Rattle.sl_leases.specs.Leases.{block_of_record, block_submitted, block_written, is_block_read, is_lease_call, is_on, lease_step, spot_of_call}
 use Rattle.sl_moment_law.specs.Orders.{CallsFall, IsTimed}
 use Rattle.sl_place_law.proofs.Daemons.{daemons_are_fine, stamp_order}
 use Rattle.sl_place_law.proofs.Finding.{equal_numbers, filtered, finds, found_in, same_number}
@@ -21,8 +21,8 @@ use Rattle.sl_place_law.proofs.Seats.{sized_in}
 use Rattle.sl_resource_history.proofs.Lasting.{LastBlock, kept_calls, last_block, lease_kept, no_block_there, of_lease}
 use Rattle.sl_resource_history.proofs.Newest.{newest, sent_as}
 use Rattle.sl_resource_history.proofs.Standing.{Standing, machine_of, pair_parts, parts, sent_there, stands_behind, standing}
-use Rattle.sl_resource_history.specs.Histories.{base_of}
-use Rattle.sl_resource_history.specs.Sending.{Sent, all_sent, block_of_course, is_block_before, last_block_before, same_session, sender_of, step_of, writes_block}
+use Rattle.sl_resource_history.specs.Histories.{base_of, shown_by}
+use Rattle.sl_resource_history.specs.Sending.{Sent, all_sent, block_of_course, holder_of, is_block_before, last_block_before, last_look_before, same_session, sender_of, step_of, writes_block}
 use Rattle.sl_run.specs.Runs.{Happening}
 use Rattle.sl_run.specs.Safety.{LawfulRun, SessionId, world_at}
 use Rattle.sl_run.specs.Worlds.{Course, Daemon, Machine, Program, Stamp, World, machine_at}
@@ -43,7 +43,9 @@ use Rattle.sl_trace.specs.declared.effects.Work.{Work}
 use Rattle.sl_words.proofs.CaseLaws.{false_is_true, none_some, some_value, true_is_false}
 use Rattle.sl_words.proofs.WordLaws.{and_true}
 use Rattle.std.proofs.Common.{ap, arith, inl, inr, refl, subst, sym, tests, ◌∙◌}
-use Rattle.std.proofs.lemmas.Bool.{and_from}
+use Rattle.std.proofs.lemmas.Bool.Decides.{nat_tests}
+use Rattle.std.proofs.lemmas.Bool.{and_from, ltb-true}
+use Rattle.std.specs.Option.{option_map_or}
 use Rattle.std.specs.Prelude.{Bool, Contains, List, None, Option, Some, cond, false, filter, find, is_some, length, nat_lt, option_and_then, true, [], ℕ, ◌%◌, ◌&&◌, ◌++◌, ◌+◌, ◌-◌, ◌<◌, ◌==◌, ◌||◌, ◌∷◌, ◌≡◌, ◌≤◌, ◌⊎◌}
 
 -- ---- places
@@ -149,3 +151,183 @@ is_behind w x s c has =
     subst (λ cs. Contains cs c) (sym s.courses) (contains_right s.after (x.course ∷ s.before) c (contains_more x.course s.before c has)) in
     let f = filtered (λ (d : Course). d.daemon == s.daemon.number) s.machine.calls c inside in
     (f.0, same_number c.daemon s.daemon.number f.1 ∙ s.number)
+
+-- ---- turns
+
+abbrev pub works : Call → Bool
+works c = is_block_work (new_call 0 0 c)
+
+or_left : (a b : Bool) → a ≡ true → (a || b) ≡ true
+or_left true b h = refl
+or_left false b h = absurd (false_is_true h)
+
+pub block_works : (c : Course) (b : Block) → block_of_course c ≡ Some b → works c.call ≡ true
+block_works c b is = or_left (is_write c.call.op) (is_block_read (new_call 0 0 c.call)) (writes_write c.call.op b is)
+
+abbrev pub spot_at : Layout → Call → Spot
+spot_at g c = spot_of_call g (new_call 0 0 c)
+
+pub timed_in : (n : ℕ) (cs : List Course) (c : Course) → CallsFall n cs → Contains cs c → IsTimed c
+timed_in n [] c h has = absurd (contains_none c has)
+timed_in n (x ∷ cs) c h has =
+    elim (contains_cases x cs c has) as (λ z. IsTimed c) [
+      | inl e ↦ subst (λ y. IsTimed y) e h.1
+      | inr more ↦ timed_in (x.made.step + 1) cs c h.2 more
+    ]
+
+below_too : (a b c : ℕ) → a < b → b ≤ c → a < c
+below_too a b c p q = omega (arith, p, q)
+
+pub layout_at : (p : Program) (h : Header) (xs : List Happening) → LawfulRun p h xs → (x : Sent) (s : Standing (world_at p h xs) x) → (setting_at s).layout ≡ (world_at p h xs).layout
+layout_at p h xs run x s = (promised.of_world p h xs run x.machine s.machine s.daemon s.at s.has).layout
+
+-- What a session wrote or read on an area before was answered by then, so it was made at an earlier step.
+pub made_before : (p : Program) (h : Header) (xs : List Happening) → LawfulRun p h xs → (x : Sent) (s : Standing (world_at p h xs) x) (c : Course) → Contains s.before c
+    → c.call.session ≡ x.course.call.session → works x.course.call ≡ true → is_area_work x.course.call.purpose ≡ true → works c.call ≡ true
+    → is_on (world_at p h xs).layout (spot_at (world_at p h xs).layout x.course.call) c.call ≡ true → c.made.step < x.course.made.step
+made_before p h xs run x s c has same work area other on =
+    let w : World = world_at p h xs in
+    let st : Setting = setting_at s in
+    let m : Submitted = s.told.one in
+    let q = parts s.before c has in
+    let r = pair_parts (IsCourseOf s.daemon) q.newer c q.older s.told.older (subst (λ cs. Pairwise (IsCourseOf s.daemon) cs s.told.older) q.is s.told.pairs) in
+    let whole : submitted s.daemon.trace ≡ s.told.newer ++ m ∷ (r.newer ++ r.one ∷ r.older) = s.told.is ∙ ap (λ ms. s.told.newer ++ m ∷ ms) r.is in
+    let layout : st.layout ≡ w.layout = layout_at p h xs run x s in
+    let one : m.call ≡ x.course.call = s.told.pair.call in
+    let a : WasAnsweredBy r.one m =
+    one_at_a_time st s.daemon.trace s.lawful s.told.newer r.newer r.older m r.one whole
+    (ap (λ c. c.session) one ∙ sym same ∙ ap (λ c. c.session) (sym r.pair.call)) (ap works one ∙ work) (ap (λ c. is_area_work c.purpose) one ∙ area)
+    (ap works r.pair.call ∙ other)
+    (ap (λ g. is_on g (spot_at g m.call) r.one.call) layout ∙ ap (λ c. is_on w.layout (spot_at w.layout c) r.one.call) one
+    ∙ ap (λ c. is_on w.layout (spot_at w.layout x.course.call) c) r.pair.call ∙ on) in
+    let k : IsAnsweredAs s.daemon c a.answer = subst (λ o. AnswersAgree s.daemon c o) a.answered r.pair.answers in
+    below_too c.made.step k.stamp.step x.course.made.step ((timed_in (x.course.made.step + 1) s.before c s.fall has).answered k.stamp k.answered)
+    (stamp_order w.step s.daemon.stamps a.answer.at m.at k.stamp x.course.made (daemons_are_fine p h xs run x.machine s.machine s.daemon s.at s.has).stamps k.entry
+    s.told.pair.made a.by)
+
+-- ---- the last block before
+
+pub less_test : (a b : ℕ) → a < b → nat_lt a b ≡ true
+less_test a b h = grind (arith, nat_tests)
+
+pub before_is : (w : World) (at : Spot) (x z : Sent) → step_of z < step_of x → is_on w.layout at z.course.call ≡ true → writes_block z.course ≡ true → sender_of z ≡ sender_of x
+    → is_block_before w at (sender_of x) (step_of x) z ≡ true
+before_is w at x z less on writes same =
+    and_from _ _ (and_from _ _ (and_from _ _ (less_test (step_of z) (step_of x) less) on) writes)
+    (subst (λ i. same_session (sender_of x) i ≡ true) (sym same) (same_itself (sender_of x)))
+
+pub record IsBefore (w : World) (at : Spot) (x z : Sent) : Type 0 where
+  pub less : step_of z < step_of x
+  pub on : is_on w.layout at z.course.call ≡ true
+  pub writes : writes_block z.course ≡ true
+  pub sender : sender_of z ≡ sender_of x
+
+pub is_before : (w : World) (at : Spot) (x z : Sent) → is_block_before w at (sender_of x) (step_of x) z ≡ true → IsBefore w at x z
+is_before w at x z h =
+    let three = and_true (nat_lt (step_of z) (step_of x) && is_on w.layout at z.course.call && writes_block z.course) (same_session (sender_of x) (sender_of z)) h in
+    let two = and_true (nat_lt (step_of z) (step_of x) && is_on w.layout at z.course.call) (writes_block z.course) three.0 in
+    let one = and_true (nat_lt (step_of z) (step_of x)) (is_on w.layout at z.course.call) two.0 in
+    record { less = ltb-true (step_of z) (step_of x) one.0; on = one.1; writes = two.1; sender = sym (same_is (sender_of x) (sender_of z) three.1) }
+
+pub written : (c : Course) → writes_block c ≡ true → (b : Block) × (block_of_course c ≡ Some b)
+written c h = by (block_of_course c) h where
+  by : (o : Option Block) → is_some o ≡ true → (b : Block) × (o ≡ Some b)
+  by None k = absurd (false_is_true k)
+  by (Some b) k = (b, refl)
+
+-- The test of the session's lease on the area.
+abbrev pub lease_test : {w : World} {x : Sent} → Standing w x → Spot → Call → Bool
+lease_test {w} {x} s at c = of_lease s.daemon.setting s.session at c
+
+-- A block of the session on the area passes it.
+pub passes_test : (p : Program) (h : Header) (xs : List Happening) → LawfulRun p h xs → (at : Spot) (x : Sent) (s : Standing (world_at p h xs) x) (z : Sent)
+    → Contains (all_sent (world_at p h xs)) z → is_on (world_at p h xs).layout at z.course.call ≡ true → writes_block z.course ≡ true → sender_of z ≡ sender_of x
+    → lease_test s at z.course.call ≡ true
+passes_test p h xs run at x s z has on writes same =
+    let w : World = world_at p h xs in
+    let k : Standing w z = standing p h xs run z has in
+    let b = written z.course writes in
+    and_from _ _ (equal_numbers z.course.call.session s.session.number (ap (λ i. i.number) same ∙ sym (number_at w x s)))
+    (and_from _ _ (block_is_lease w z k b.0 b.1) (ap (λ g. is_on g at z.course.call) (layout_at p h xs run x s) ∙ on))
+
+-- The own block of a write, as the session wrote it before.
+pub record OwnWritten (w : World) (at : Spot) (x : Sent) (own : Block) : Type 0 where
+  pub sent : Sent
+  pub has : Contains (all_sent w) sent
+  pub on : is_on w.layout at sent.course.call ≡ true
+  pub block : block_of_course sent.course ≡ Some own
+  pub before : step_of sent < step_of x
+  pub sender : sender_of sent ≡ sender_of x
+  pub base : base_of w at x ≡ step_of sent
+  pub newest : (v : Sent) → Contains (all_sent w) v → is_on w.layout at v.course.call ≡ true → writes_block v.course ≡ true → sender_of v ≡ sender_of x → step_of v < step_of x
+      → step_of v ≤ step_of sent
+
+both_ways : (a b : ℕ) → a ≤ b → b ≤ a → b ≡ a
+both_ways a b p q = omega (arith, p, q)
+
+abbrev pub base_by : World → Spot → Sent → Option Sent → ℕ
+base_by w at x o =
+    elim o [ Some y ↦ step_of y | None ↦ option_map_or (shown_by w at (holder_of w (sender_of x)).id) (last_look_before w at (sender_of x) (step_of x)) 0 ]
+
+pub own_written : (p : Program) (h : Header) (xs : List Happening) → LawfulRun p h xs → (at : Spot) → at.base % (world_at p h xs).layout.area ≡ 0 → (x : Sent)
+    → Contains (all_sent (world_at p h xs)) x → (s : Standing (world_at p h xs) x) → is_on (world_at p h xs).layout at x.course.call ≡ true → (b : Block)
+    → block_of_course x.course ≡ Some b → (own : Block) → block_submitted (lease_among s.daemon.setting s.session at s.told.older) ≡ Some own
+    → OwnWritten (world_at p h xs) at x own
+own_written p h xs run at zero x there s on b is own found =
+    let w : World = world_at p h xs in
+    let T : Call → Bool = lease_test s at in
+    let P : Sent → Bool = is_block_before w at (sender_of x) (step_of x) in
+    let l = last_block s.daemon T (x.course.made.step + 1) s.before s.told.older own s.told.pairs s.fall
+    (ap (λ ms. block_submitted ms) (sym (lease_kept s.daemon.setting s.session at s.told.older)) ∙ found) in
+    let z : Sent = sent_as x.machine l.course in
+    let i = is_behind w x s l.course l.has in
+    let inside = sent_there w x.machine s.machine l.course s.at i.0 in
+    let one = and_true (is_call_of s.session (new_call 0 0 l.course.call)) (is_lease_call (new_call 0 0 l.course.call) && is_on s.daemon.setting.layout at l.course.call) l.passes in
+    let two = and_true (is_lease_call (new_call 0 0 l.course.call)) (is_on s.daemon.setting.layout at l.course.call) one.1 in
+    let session : l.course.call.session ≡ x.course.call.session = same_number l.course.call.session s.session.number one.0 ∙ number_at w x s in
+    let same : sender_of z ≡ sender_of x =
+    session_as x.machine l.course.daemon l.course.call.session x.machine x.course.daemon x.course.call.session refl i.1 session in
+    let layout = layout_at p h xs run x s in
+    let on_z : is_on w.layout at l.course.call ≡ true = ap (λ g. is_on g at l.course.call) (sym layout) ∙ two.1 in
+    let spot : spot_at w.layout x.course.call ≡ at = spot_is w.layout at (new_call 0 0 x.course.call) zero on in
+    let less : l.course.made.step < x.course.made.step =
+    made_before p h xs run x s l.course l.has session (block_works x.course b is) (lease_is_work x.course.call.purpose (block_is_lease w x s b is)) (block_works l.course own l.block)
+    (ap (λ q. is_on w.layout q l.course.call) spot ∙ on_z) in
+    let passes : P z ≡ true = before_is w at x z less on_z (ap (λ o. is_some o) l.block) same in
+    let y = finds P (all_sent w) z passes inside in
+    let its = found_in P (all_sent w) y.0 y.1 in
+    let g = is_before w at x y.0 its.1 in
+    let up : l.course.made.step ≤ step_of y.0 =
+    newest P w x.machine w.step s.machine y.0 l.course s.at s.falls (λ v passed. ap (λ k. k.machine) (is_before w at x v passed).sender) i.0 passes y.1 in
+    let down : step_of y.0 ≤ l.course.made.step =
+    l.newest y.0.course (behind w x s y.0 its.0 g.sender g.less) (passes_test p h xs run at x s y.0 its.0 g.on g.writes g.sender) g.writes in
+    record {
+      sent = z;
+      has = inside;
+      on = on_z;
+      block = l.block;
+      before = less;
+      sender = same;
+      base = ap (base_by w at x) y.1 ∙ both_ways l.course.made.step (step_of y.0) up down;
+      newest = λ v vin von vwrites vsame vless. l.newest v.course (behind w x s v vin vsame vless) (passes_test p h xs run at x s v vin von vwrites vsame) vwrites;
+    }
+
+-- Where it wrote none before, none is found.
+pub none_before : (p : Program) (h : Header) (xs : List Happening) → LawfulRun p h xs → (at : Spot) (x : Sent) (s : Standing (world_at p h xs) x)
+    → block_submitted (lease_among s.daemon.setting s.session at s.told.older) ≡ None → (v : Sent) → Contains (all_sent (world_at p h xs)) v
+    → is_on (world_at p h xs).layout at v.course.call ≡ true → writes_block v.course ≡ true → sender_of v ≡ sender_of x → step_of v < step_of x → ⊥
+none_before p h xs run at x s none v has on writes same less =
+    no_block_there s.daemon (lease_test s at) s.before s.told.older v.course s.told.pairs
+    (ap (λ ms. block_submitted ms) (sym (lease_kept s.daemon.setting s.session at s.told.older)) ∙ none) (behind (world_at p h xs) x s v has same less)
+    (passes_test p h xs run at x s v has on writes same) writes
+
+found_none : {A : Type 0} (P : A → Bool) (xs : List A) (o : Option A) → find P xs ≡ o → ((x : A) → Contains xs x → P x ≡ true → ⊥) → o ≡ None
+found_none P xs None is never = refl
+found_none P xs (Some x) is never = let f = found_in P xs x is in absurd (never x f.0 f.1)
+
+pub last_is_none : (p : Program) (h : Header) (xs : List Happening) → LawfulRun p h xs → (at : Spot) (x : Sent) (s : Standing (world_at p h xs) x)
+    → block_submitted (lease_among s.daemon.setting s.session at s.told.older) ≡ None → last_block_before (world_at p h xs) at (sender_of x) (step_of x) ≡ None
+last_is_none p h xs run at x s none =
+    let w : World = world_at p h xs in
+    found_none (is_block_before w at (sender_of x) (step_of x)) (all_sent w) (last_block_before w at (sender_of x) (step_of x)) refl
+    (λ v has passes. let g = is_before w at x v passes in none_before p h xs run at x s none v has g.on g.writes g.sender g.less)
