@@ -192,7 +192,7 @@ area_step st at c work SetMode h law = absurd (false_is_true h)
 area_step st at c work FreeLeader h law = absurd (false_is_true h)
 area_step st at c work ClearMode h law = absurd (false_is_true h)
 
-area_right : (st : Setting) (at : Spot) (c : Submitted) (p : Purpose) → is_area_read (purposed p) ≡ true → IsRightRead st at c p → IsAreaRead st at c
+pub area_right : (st : Setting) (at : Spot) (c : Submitted) (p : Purpose) → is_area_read (purposed p) ≡ true → IsRightRead st at c p → IsAreaRead st at c
 area_right st at c (Lease work step) h law = area_step st at c work step h law
 area_right st at c (Joining j step) h law = absurd (false_is_true h)
 area_right st at c Renewal h law = absurd (false_is_true h)
@@ -216,7 +216,7 @@ phase_step st at c work SetMode h law = absurd (false_is_true h)
 phase_step st at c work FreeLeader h law = absurd (false_is_true h)
 phase_step st at c work ClearMode h law = absurd (false_is_true h)
 
-phase_right : (st : Setting) (at : Spot) (c : Submitted) (p : Purpose) → is_phase_read (purposed p) ≡ true → IsRightRead st at c p → IsBlockRead st at c
+pub phase_right : (st : Setting) (at : Spot) (c : Submitted) (p : Purpose) → is_phase_read (purposed p) ≡ true → IsRightRead st at c p → IsBlockRead st at c
 phase_right st at c (Lease work step) h law = phase_step st at c work step h law
 phase_right st at c (Joining j step) h law = absurd (false_is_true h)
 phase_right st at c Renewal h law = absurd (false_is_true h)
