@@ -1,1 +1,8 @@
 //! What a lawful run promises of the history of each resource.
+
+ghost use Rattle.sl_resource_history.specs.Promises.{HistoriesNumberAbove};
+
+/// Numbers of ballots are above 0.
+pub fn histories_number_above()
+    ensures { HistoriesNumberAbove }
+{}
