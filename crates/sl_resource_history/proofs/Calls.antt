@@ -504,7 +504,7 @@ read_works p h xs run r x sent on counted =
 
 -- ---- calls by their steps
 
-finds_it : {A : Type 0} (p : A → Bool) (xs : List A) (x : A) → Contains xs x → p x ≡ true → ((y : A) → Contains xs y → p y ≡ true → y ≡ x) → find p xs ≡ Some x
+pub finds_it : {A : Type 0} (p : A → Bool) (xs : List A) (x : A) → Contains xs x → p x ≡ true → ((y : A) → Contains xs y → p y ≡ true → y ≡ x) → find p xs ≡ Some x
 finds_it p xs x there is only =
     let f = finds p xs x is there in
     let its = found_in p xs f.0 f.1 in
@@ -573,7 +573,7 @@ read_at_step p h xs run r there x sent on is =
 
 -- ---- who works has joined
 
-text_same : (a b : List ℕ) → a ≡ b → bytes_eq a b ≡ true
+pub text_same : (a b : List ℕ) → a ≡ b → bytes_eq a b ≡ true
 text_same a b h = (bytes_eq-Decides a b).1 h
 
 -- Its session is a joined one of the lockspace.
@@ -611,10 +611,10 @@ pub numbers_meant : (w : World) (i : SessionId) (f : Found) → session_of_world
 numbers_meant w i f is =
     (daemon_in i f (machine_at w i.machine) is, session_number f.daemon.setting f.daemon.trace i.number f.session (session_inside w i f is).its)
 
-abbrev named : ℕ → ℕ → ℕ → SessionId
+abbrev pub named : ℕ → ℕ → ℕ → SessionId
 named m d n = record { machine = m; daemon = d; number = n }
 
-name_is : (m d n m' d' n' : ℕ) → m ≡ m' → d ≡ d' → n ≡ n' → named m d n ≡ named m' d' n'
+pub name_is : (m d n m' d' n' : ℕ) → m ≡ m' → d ≡ d' → n ≡ n' → named m d n ≡ named m' d' n'
 name_is m d n m' d' n' p q r = ap (λ x. named x d n) p ∙ ap (λ x. named m' x n) q ∙ ap (λ x. named m' d' x) r
 
 -- A session that is found is one of the world's.

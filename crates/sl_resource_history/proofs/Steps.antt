@@ -91,7 +91,7 @@ fall_front n [] ts h = tt
 fall_front n (s ∷ ss) ts h = (h.0, fall_front s.step ss ts h.1)
 
 -- Of two lists in one that falls the first is later.
-fall_apart : (n : ℕ) (ss ts : List Stamp) (s t : Stamp) → Fall n (ss ++ ts) → Contains ss s → Contains ts t → t.step < s.step
+pub fall_apart : (n : ℕ) (ss ts : List Stamp) (s t : Stamp) → Fall n (ss ++ ts) → Contains ss s → Contains ts t → t.step < s.step
 fall_apart n [] ts s t h has too = absurd (contains_none s has)
 fall_apart n (x ∷ ss) ts s t h has too =
     elim (contains_cases x ss s has) as (λ z. t.step < s.step) [
