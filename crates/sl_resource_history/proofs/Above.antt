@@ -72,7 +72,7 @@ or_left false b h = absurd (false_is_true h)
 
 reads_by : (g : Layout) (q : Submitted) (bs : List (Option Block)) → Gave g q bs → is_block_read q ≡ true
 reads_by g q bs (By_area bytes told is same) = or_left (is_area_read q) (is_phase_read q) is
-reads_by g q bs (By_phase bytes told is same) = or_right (is_area_read q) (is_phase_read q) is
+reads_by g q bs (By_phase bytes told alone is same) = or_right (is_area_read q) (is_phase_read q) is
 
 -- What gave blocks is a read of blocks.
 pub reads_work : (g : Layout) (q : Submitted) (bs : List (Option Block)) → blocks_given g q ≡ Some bs → works q.call ≡ true

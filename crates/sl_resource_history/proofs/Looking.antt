@@ -27,7 +27,7 @@ use Rattle.sl_words.proofs.CaseLaws.{none_some, some_value}
 use Rattle.std.proofs.Common.{ap, arith, inl, inr, refl, subst, sym, ◌∙◌}
 use Rattle.std.proofs.lemmas.List.{drop-drop}
 use Rattle.std.specs.List.{range_with_len}
-use Rattle.std.specs.Prelude.{Bool, Contains, List, None, Option, Some, drop, false, length, map, slice_get, suc, take, true, zero, [], ℕ, ◌*◌, ◌+◌, ◌-◌, ◌<◌, ◌∷◌, ◌≡◌, ◌≤◌, ◌⊎◌}
+use Rattle.std.specs.Prelude.{Bool, Contains, List, None, Option, Some, drop, false, if◌then◌else◌, length, map, slice_get, suc, take, true, zero, [], ℕ, ◌*◌, ◌+◌, ◌-◌, ◌<◌, ◌∷◌, ◌≡◌, ◌≤◌, ◌⊎◌}
 
 -- ---- the blocks of a list of bytes
 
@@ -72,7 +72,7 @@ behind_two g bytes j h = ap (λ l. take g.sector l) (drop-drop (j * g.sector) (2
 
 pub data Gave (g : Layout) (q : Submitted) (bs : List (Option Block)) : Type 0 where
   By_area : (bytes : List ℕ) → gave q ≡ Some bytes → is_area_read q ≡ true → bs ≡ area_blocks g bytes → Gave g q bs
-  By_phase : (bytes : List ℕ) → gave q ≡ Some bytes → is_phase_read q ≡ true → bs ≡ blocks_in g bytes → Gave g q bs
+  By_phase : (bytes : List ℕ) → gave q ≡ Some bytes → is_area_read q ≡ false → is_phase_read q ≡ true → bs ≡ blocks_in g bytes → Gave g q bs
 
 gave_by : (g : Layout) (q : Submitted) (bs : List (Option Block)) (o : Option (List ℕ)) (a b : Bool) → gave q ≡ o → is_area_read q ≡ a → is_phase_read q ≡ b
     → elim o as (λ z. Option (List (Option Block))) [
@@ -84,7 +84,7 @@ gave_by : (g : Layout) (q : Submitted) (bs : List (Option Block)) (o : Option (L
     ] ≡ Some bs → Gave g q bs
 gave_by g q bs None a b told one two h = absurd (none_some bs h)
 gave_by g q bs (Some bytes) true b told one two h = By_area bytes told one (sym (some_value (area_blocks g bytes) bs h))
-gave_by g q bs (Some bytes) false true told one two h = By_phase bytes told two (sym (some_value (blocks_in g bytes) bs h))
+gave_by g q bs (Some bytes) false true told one two h = By_phase bytes told one two (sym (some_value (blocks_in g bytes) bs h))
 gave_by g q bs (Some bytes) false false told one two h = absurd (none_some bs h)
 
 pub given_blocks : (g : Layout) (q : Submitted) (bs : List (Option Block)) → blocks_given g q ≡ Some bs → Gave g q bs
@@ -133,6 +133,7 @@ pub record Looked (p : Program) (h : Header) (xs : List Happening) (m : ℕ) (a 
   pub sector : ℕ
   pub below : j < (world_at p h xs).layout.hosts
   pub spells : block_in (j + 1) (record_in (world_at p h xs).layout (sector_of (world_at p h xs).layout bytes sector)) ≡ Some b
+  pub number : sector ≡ (if is_area_read q then j + 1 + 1 else j + 1 - 1)
   pub within : sector < sectors_of q.call.op
   pub place : q.call.offset + sector * (world_at p h xs).layout.sector
       ≡ block_offset (world_at p h xs).layout (spot_of_call (world_at p h xs).layout q).base (j + 1)
@@ -142,6 +143,9 @@ area_offset o base s j e h = subst (λ x. o + (j + 2) * x ≡ base + x * (j + 1 
 
 phase_offset : (o base s j : ℕ) → o ≡ base + s * (1 + 1) → s ≡ 512 → o + j * s ≡ base + s * (j + 1 + 1)
 phase_offset o base s j e h = subst (λ x. o ≡ base + x * (1 + 1) → o + j * x ≡ base + x * (j + 1 + 1)) (sym h) (λ k. omega (arith, k)) e
+
+two_of : (j : ℕ) → j + 2 ≡ j + 1 + 1
+two_of j = omega arith
 
 two_more : (j n : ℕ) → j < n → j + 2 < n + 2
 two_more j n h = omega (arith, h)
@@ -160,12 +164,13 @@ looked_by p h xs m a d q k bs (By_area bytes told is same) j b there =
       bytes = bytes;
       read = read_of promised p h xs k.run m a d k.at k.has q k.there (w.layout.hosts + 2) op bytes told;
       sector = j + 2;
+      number = two_of j ∙ ap (λ (b : Bool). if b then j + 1 + 1 else j + 1 - 1) (sym is);
       below = t.0;
       spells = ap (λ l. block_in (j + 1) (record_in w.layout l)) (sym (behind_two w.layout bytes j z.sector)) ∙ t.1;
       within = subst (λ o. j + 2 < sectors_of o) (sym op) (two_more j w.layout.hosts t.0);
       place = area_offset q.call.offset (spot_of_call w.layout q).base w.layout.sector j offset z.sector;
     }
-looked_by p h xs m a d q k bs (By_phase bytes told is same) j b there =
+looked_by p h xs m a d q k bs (By_phase bytes told alone is same) j b there =
     let w : World = world_at p h xs in
     let z : IsSized w.layout = sized_in p h xs k.run in
     let layout = look_layout p h xs m a d q k in
@@ -177,6 +182,7 @@ looked_by p h xs m a d q k bs (By_phase bytes told is same) j b there =
       bytes = bytes;
       read = read_of promised p h xs k.run m a d k.at k.has q k.there w.layout.hosts op bytes told;
       sector = j;
+      number = sym (one_back j) ∙ ap (λ (b : Bool). if b then j + 1 + 1 else j + 1 - 1) (sym alone);
       below = t.0;
       spells = t.1;
       within = subst (λ o. j < sectors_of o) (sym op) t.0;
