@@ -70,7 +70,7 @@ or_left : (a b : Bool) → a ≡ true → (a || b) ≡ true
 or_left true b h = refl
 or_left false b h = absurd (false_is_true h)
 
-reads_by : (g : Layout) (q : Submitted) (bs : List (Option Block)) → Gave g q bs → is_block_read q ≡ true
+pub reads_by : (g : Layout) (q : Submitted) (bs : List (Option Block)) → Gave g q bs → is_block_read q ≡ true
 reads_by g q bs (By_area bytes told is same) = or_left (is_area_read q) (is_phase_read q) is
 reads_by g q bs (By_phase bytes told alone is same) = or_right (is_area_read q) (is_phase_read q) is
 
@@ -99,7 +99,7 @@ answer_step p h xs run x s q by a told t stamped =
     stamp_order w.step s.daemon.stamps a.at s.told.one.at t x.course.made (daemons_are_fine p h xs run x.machine s.machine s.daemon s.at s.has).stamps stamped s.told.pair.made
     (subst (λ (y : Answered). y.at ≤ s.told.one.at) same by.by)
 
-in_older : (ms newer older : List Submitted) (m q : Submitted) → ms ≡ newer ++ m ∷ older → Contains older q → Contains ms q
+pub in_older : (ms newer older : List Submitted) (m q : Submitted) → ms ≡ newer ++ m ∷ older → Contains older q → Contains ms q
 in_older ms newer older m q is has = subst (λ l. Contains l q) (sym is) (contains_right newer (m ∷ older) q (contains_more m older q has))
 
 pub older_look : (p : Program) (h : Header) (xs : List Happening) → LawfulRun p h xs → (x : Sent) (s : Standing (world_at p h xs) x) (at : Spot) (q : Submitted)

@@ -116,7 +116,7 @@ pub same_itself : (i : SessionId) → same_session i i ≡ true
 same_itself i =
     and_from _ _ (and_from _ _ (equal_numbers i.machine i.machine refl) (equal_numbers i.daemon i.daemon refl)) (equal_numbers i.number i.number refl)
 
-session_as : (m d n m' d' n' : ℕ) → m ≡ m' → d ≡ d' → n ≡ n' → (let i : SessionId = record { machine = m; daemon = d; number = n } in i) ≡ record { machine = m'; daemon = d'; number = n' }
+pub session_as : (m d n m' d' n' : ℕ) → m ≡ m' → d ≡ d' → n ≡ n' → (let i : SessionId = record { machine = m; daemon = d; number = n } in i) ≡ record { machine = m'; daemon = d'; number = n' }
 session_as m d n m' d' n' p q r =
     ap (λ k. let i : SessionId = record { machine = k; daemon = d; number = n } in i) p ∙ ap (λ k. let i : SessionId = record { machine = m'; daemon = k; number = n } in i) q
     ∙ ap (λ k. let i : SessionId = record { machine = m'; daemon = d'; number = k } in i) r
