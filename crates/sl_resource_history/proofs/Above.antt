@@ -218,7 +218,7 @@ pub record WrittenAt (p : Program) (h : Header) (xs : List Happening) (r : Resou
   pub wrote : block_of_course sent.course ≡ Some block
   pub shown : (history_of_line p h xs r).block e ≡ history_block block
 
-block_by : (o : Option Sent) (x : Sent) (b : Block) → o ≡ Some x → block_of_course x.course ≡ Some b
+pub block_by : (o : Option Sent) (x : Sent) (b : Block) → o ≡ Some x → block_of_course x.course ≡ Some b
     → option_map_or history_block (option_and_then (λ y. block_of_course y.course) o) no_block ≡ history_block b
 block_by o x b is wrote =
     ap (λ q. option_map_or history_block (option_and_then (λ y. block_of_course y.course) q) no_block) is ∙ ap (λ q. option_map_or history_block q no_block) wrote

@@ -110,7 +110,7 @@ first_by digest h path offset (Some x) b d ok is read =
     let same : x ≡ BlockIs b = same_read (record_in g (sector_with g x)) x (BlockIs b) again read in
     initial_fresh g h path offset b (is ∙ ap (λ y. Some y) same)
 
-first_fresh : (p : Program) (h : Header) (xs : List Happening) → LawfulRun p h xs → (path : List ℕ) (offset : ℕ) (b : Block)
+pub first_fresh : (p : Program) (h : Header) (xs : List Happening) → LawfulRun p h xs → (path : List ℕ) (offset : ℕ) (b : Block)
     → record_in (world_at p h xs).layout (first_landing (world_at p h xs) path offset).bytes ≡ Ok (BlockIs b) → history_block b ≡ no_block
 first_fresh p h xs run path offset b read =
     let w : World = world_at p h xs in
@@ -125,7 +125,7 @@ pub data Seen (w : World) (at : Spot) (b : Block) (n : ℕ) : Type 0 where
   Never : history_block b ≡ no_block → Seen w at b n
   Once : (z : Sent) → Contains (all_sent w) z → is_on w.layout at z.course.call ≡ true → block_of_course z.course ≡ Some b → step_of z < n → Seen w at b n
 
-block_in_is : (host : ℕ) (r : Result Rec Bad) (b : Block) → block_in host r ≡ Some b → (r ≡ Ok (BlockIs b)) × (b.host ≡ host)
+pub block_in_is : (host : ℕ) (r : Result Rec Bad) (b : Block) → block_in host r ≡ Some b → (r ≡ Ok (BlockIs b)) × (b.host ≡ host)
 block_in_is host (Ok (DeltaIs e)) b h = absurd (none_some b h)
 block_in_is host (Ok (LeaderIs e)) b h = absurd (none_some b h)
 block_in_is host (Ok (BlockIs e)) b h =
