@@ -1,10 +1,8 @@
 -- Numbers of ballots are above 0: a block of an instance has a number, since it comes from phase 1, or from a block that has one.
 use Rattle.sl_area.specs.Layouts.{Layout}
-use Rattle.sl_ballots.specs.Ballots.{IsPhase1}
-use Rattle.sl_ballots.specs.History.{History}
 use Rattle.sl_course_law.specs.Stamping.{stamp_in}
 use Rattle.sl_front_law.proofs.Having.{contains_right}
-use Rattle.sl_law.specs.LawfulArea.{is_area_work, is_block_work}
+use Rattle.sl_law.specs.LawfulArea.{is_area_work}
 use Rattle.sl_lease_law.proofs.ComingLaws.{blocks_come}
 use Rattle.sl_lease_law.proofs.NumberLaws.{number_is_place}
 use Rattle.sl_lease_law.proofs.TurnLaws.{one_at_a_time}
@@ -15,13 +13,13 @@ use Rattle.sl_place_law.proofs.Areas.{resource_aligned}
 use Rattle.sl_place_law.proofs.Daemons.{daemons_are_fine, stamp_order}
 use Rattle.sl_place_law.proofs.Finding.{filtered, same_number}
 use Rattle.sl_place_law.proofs.Seats.{sized_in}
-use Rattle.sl_resource_history.proofs.Calls.{IsSentTo, found_at}
+use Rattle.sl_resource_history.proofs.Calls.{found_at}
 use Rattle.sl_resource_history.proofs.Looking.{By_area, By_phase, Gave, IsLook, given_blocks, look_seen, looked}
-use Rattle.sl_resource_history.proofs.Owning.{OwnWritten, block_is_lease, block_told, block_works, layout_at, lease_is_work, number_at, own_written, spot_is, works, written}
+use Rattle.sl_resource_history.proofs.Owning.{block_is_lease, block_told, block_works, layout_at, lease_is_work, number_at, own_written, spot_is, works, written}
 use Rattle.sl_resource_history.proofs.Showing.{Never, Once, Seen}
 use Rattle.sl_resource_history.proofs.Standing.{Standing, parts, standing}
 use Rattle.sl_resource_history.specs.Histories.{history_block, no_block}
-use Rattle.sl_resource_history.specs.Promises.{HistoriesNumberAbove, NamesDiffer, history_of_line, spot_of_line}
+use Rattle.sl_resource_history.specs.Promises.{HistoriesNumberAbove, history_of_line, spot_of_line}
 use Rattle.sl_resource_history.specs.Sending.{Sent, all_sent, block_of_course, sent_at, step_of, writes_block}
 use Rattle.sl_run.specs.Runs.{Happening}
 use Rattle.sl_run.specs.Safety.{LawfulRun, world_at}
@@ -31,14 +29,14 @@ use Rattle.sl_run.specs.declared.header.ResourceLine.{ResourceLine}
 use Rattle.sl_sector.specs.declared.sector.Block.{Block}
 use Rattle.sl_session_law.proofs.Making.{contains_more}
 use Rattle.sl_sessions.specs.Sessions.{Session, is_call_of, session_numbered}
-use Rattle.sl_trace.specs.Traces.{Answered, Setting, Submitted, new_call, submitted}
+use Rattle.sl_trace.specs.Traces.{Answered, Setting, Submitted, submitted}
 use Rattle.sl_trace.specs.declared.effects.Spot.{Spot}
-use Rattle.sl_words.proofs.CaseLaws.{false_is_true, none_some, one_value, some_value}
+use Rattle.sl_words.proofs.CaseLaws.{false_is_true, none_some, one_value}
 use Rattle.sl_words.proofs.OrderLaws.{by_smaller}
 use Rattle.sl_words.proofs.WordLaws.{and_true}
-use Rattle.std.proofs.Common.{ap, arith, inl, inr, refl, subst, sym, ◌∙◌}
+use Rattle.std.proofs.Common.{ap, arith, refl, subst, sym, ◌∙◌}
 use Rattle.std.specs.Option.{option_map_or}
-use Rattle.std.specs.Prelude.{Bool, Contains, List, None, Option, Some, false, filter, is_some, option_and_then, slice_get, true, unwrap_or, [], ℕ, ◌%◌, ◌&&◌, ◌++◌, ◌+◌, ◌-◌, ◌<◌, ◌||◌, ◌∷◌, ◌≡◌, ◌≤◌, ◌⊎◌}
+use Rattle.std.specs.Prelude.{Bool, Contains, List, None, Option, Some, false, filter, is_some, option_and_then, slice_get, true, unwrap_or, ℕ, ◌%◌, ◌&&◌, ◌++◌, ◌-◌, ◌<◌, ◌||◌, ◌∷◌, ◌≡◌, ◌≤◌}
 
 -- ---- a resource's area
 

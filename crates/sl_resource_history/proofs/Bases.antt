@@ -1,20 +1,20 @@
 -- The block of a write's base is the own block that the law of blocks speaks of; so no ballot goes below it.
 use Rattle.sl_ballots.specs.History.{History}
-use Rattle.sl_lease_law.specs.Ways.{BlockComes, Of_mode, Of_phase1, Of_phase2, Way, lease_among}
-use Rattle.sl_leases.specs.Leases.{block_submitted, is_on, spot_of_call}
+use Rattle.sl_lease_law.specs.Ways.{Of_mode, Of_phase1, Of_phase2, Way, lease_among}
+use Rattle.sl_leases.specs.Leases.{block_submitted, is_on}
 use Rattle.sl_place_law.proofs.Seats.{sized_in}
-use Rattle.sl_resource_history.proofs.Above.{WrittenAt, comes_at, line_aligned, told_spot, written_at}
-use Rattle.sl_resource_history.proofs.Basing.{OwnRead, ReadFront, read_front}
+use Rattle.sl_resource_history.proofs.Above.{comes_at, line_aligned, told_spot, written_at}
+use Rattle.sl_resource_history.proofs.Basing.{read_front}
 use Rattle.sl_resource_history.proofs.Calls.{block_works as block_is_work}
 use Rattle.sl_resource_history.proofs.Calls.{in_world, worker_joined}
 use Rattle.sl_resource_history.proofs.Owning.{OwnWritten, base_by, block_is_lease, block_works, last_is_none, layout_at, lease_is_work, own_written}
 use Rattle.sl_resource_history.proofs.Recalled.{IsWrite, LookFound, look_found}
-use Rattle.sl_resource_history.proofs.Rising.{ShowsBlock, block_of_none, block_of_step, look_shows}
+use Rattle.sl_resource_history.proofs.Rising.{block_of_none, block_of_step, look_shows}
 use Rattle.sl_resource_history.proofs.Shown.{holder_is}
 use Rattle.sl_resource_history.proofs.Standing.{Standing, standing}
-use Rattle.sl_resource_history.specs.Histories.{base_of, history_block, is_host, landing_shown, no_block, own_before, shown_by, shows_whole, step_of_landing}
+use Rattle.sl_resource_history.specs.Histories.{base_of, history_block, is_host, landing_shown, own_before, shown_by, shows_whole, step_of_landing}
 use Rattle.sl_resource_history.specs.Promises.{HistoriesGoUp, history_of_line, spot_of_line}
-use Rattle.sl_resource_history.specs.Sending.{Sent, all_sent, block_of_course, holder_of, is_joined_there, last_look_before, sender_of, sent_at, step_of, writes_block}
+use Rattle.sl_resource_history.specs.Sending.{Sent, all_sent, block_of_course, holder_of, sender_of, step_of}
 use Rattle.sl_run.specs.Runs.{Happening}
 use Rattle.sl_run.specs.Safety.{Found, LawfulRun, world_at}
 use Rattle.sl_run.specs.Worlds.{Landing, Program, World}

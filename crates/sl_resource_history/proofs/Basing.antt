@@ -1,14 +1,10 @@
 -- The own block of a session's first write: what its last read shows of its host.
-use Rattle.sl_area.specs.Layouts.{Layout}
-use Rattle.sl_course_law.specs.Stamping.{AnswersAgree, IsAnsweredAs, IsCourseOf, stamp_in}
-use Rattle.sl_law.specs.LawfulArea.{is_area_work, is_block_work}
-use Rattle.sl_law.specs.LawfulBlock.{LawfulBlockStep, LawfulBlockWrite}
+use Rattle.sl_law.specs.LawfulBlock.{LawfulBlockStep}
 use Rattle.sl_law.specs.Saying.{cut_at}
-use Rattle.sl_lease_law.proofs.AgeLaws.{aged_block, aged_lease, answer_stays}
-use Rattle.sl_lease_law.proofs.AnswerLaws.{answers_within}
+use Rattle.sl_lease_law.proofs.AgeLaws.{aged_block, aged_lease}
 use Rattle.sl_lease_law.proofs.WayLaws.{by_mode, by_phase1}
-use Rattle.sl_lease_law.specs.Fronts.{Aged, AllAged, Submission}
-use Rattle.sl_lease_law.specs.Ways.{BlockFront, ByMode, ByPhase1, Of_mode, Of_phase1, Of_phase2, Way, lease_among}
+use Rattle.sl_lease_law.specs.Fronts.{AllAged, Submission}
+use Rattle.sl_lease_law.specs.Ways.{ByMode, ByPhase1, Of_mode, Of_phase1, Way, lease_among}
 use Rattle.sl_leases.specs.Leases.{Mode_cleared, Mode_set, Phase1_write, StepKind, block_of_host, block_submitted, block_written, freed, is_at, kind_of_step, last_blocks, lease_calls, lease_step, own_or_read, same_kind, spot_of_call}
 use Rattle.sl_resource_history.proofs.Owning.{front_at}
 use Rattle.sl_resource_history.proofs.Standing.{Standing}
@@ -17,15 +13,14 @@ use Rattle.sl_run.specs.Worlds.{World}
 use Rattle.sl_sector.specs.declared.sector.Block.{Block}
 use Rattle.sl_sessions.specs.Sessions.{Session, me}
 use Rattle.sl_trace.specs.Traces.{Setting, Submitted, Trace, new_call, submitted}
-use Rattle.sl_trace.specs.declared.effects.Call.{Call}
 use Rattle.sl_trace.specs.declared.effects.LeaseStep.TheVariants.{ClearMode, FreeLeader, Phase1Read, Phase1Write, Phase2Read, Phase2Write, ReadArea, ReadBeforeFree, SetMode, TakeLeader}
 use Rattle.sl_trace.specs.declared.effects.LeaseStep.{LeaseStep}
 use Rattle.sl_trace.specs.declared.effects.Spot.{Spot}
 use Rattle.sl_trace.specs.declared.effects.Work.{Work}
-use Rattle.sl_words.proofs.CaseLaws.{false_is_true, no_value, none_some, one_value, some_value}
+use Rattle.sl_words.proofs.CaseLaws.{none_some}
 use Rattle.sl_words.specs.Words.{present, some_is}
 use Rattle.std.proofs.Common.{ap, arith, inl, inr, refl, subst, sym, ◌∙◌}
-use Rattle.std.specs.Prelude.{Bool, Contains, List, None, Option, Some, cond, find, is_some, length, suc, true, [], ℕ, ◌+◌, ◌-◌, ◌<◌, ◌∷◌, ◌≡◌, ◌≤◌}
+use Rattle.std.specs.Prelude.{List, None, Option, Some, cond, find, is_some, length, suc, true, [], ℕ, ◌+◌, ◌<◌, ◌∷◌, ◌≡◌, ◌≤◌}
 
 -- ---- at the front
 

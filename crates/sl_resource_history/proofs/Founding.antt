@@ -2,30 +2,30 @@
 use Rattle.sl_ballots.specs.Ballots.{IsFoundBlock, IsLastWrite}
 use Rattle.sl_ballots.specs.History.{History}
 use Rattle.sl_lease_law.specs.Ways.{lease_among}
-use Rattle.sl_leases.specs.Leases.{block_submitted, is_on}
+use Rattle.sl_leases.specs.Leases.{block_submitted}
 use Rattle.sl_resource_history.proofs.Above.{WrittenAt, written_at}
-use Rattle.sl_resource_history.proofs.Bases.{BaseIs, Based, Shown, Written, based, look_base, own_host}
-use Rattle.sl_resource_history.proofs.Calls.{block_at_step, holder_named, read_at_step, worker_joined}
+use Rattle.sl_resource_history.proofs.Bases.{Shown, Written, based, look_base, own_host}
+use Rattle.sl_resource_history.proofs.Calls.{block_at_step, read_at_step, worker_joined}
 use Rattle.sl_resource_history.proofs.Calls.{block_works as block_is_work}
 use Rattle.sl_resource_history.proofs.Owning.{OwnWritten, none_before}
 use Rattle.sl_resource_history.proofs.Recalled.{LookFound}
-use Rattle.sl_resource_history.proofs.Rising.{ShowsBlock, look_shows}
+use Rattle.sl_resource_history.proofs.Rising.{look_shows}
 use Rattle.sl_resource_history.proofs.Standing.{Standing, standing}
-use Rattle.sl_resource_history.specs.Histories.{base_of, counts_own, is_host, landing_shown, shown_by, shows_by, shows_whole}
-use Rattle.sl_resource_history.specs.Promises.{NamesDiffer, OfEachHistory, history_of_line, spot_of_line}
-use Rattle.sl_resource_history.specs.Sending.{Sent, all_sent, block_of_course, holder_of, is_counted_read, is_joined_there, nobody, read_at, sender_of, sent_at, step_of, writes_block}
+use Rattle.sl_resource_history.specs.Histories.{base_of, counts_own, is_host, shown_by, shows_by, shows_whole}
+use Rattle.sl_resource_history.specs.Promises.{NamesDiffer, history_of_line, spot_of_line}
+use Rattle.sl_resource_history.specs.Sending.{Sent, holder_of, is_counted_read, is_joined_there, nobody, read_at, sender_of, sent_at, step_of, writes_block}
 use Rattle.sl_run.specs.Runs.{Happening}
-use Rattle.sl_run.specs.Safety.{LawfulRun, SessionId, world_at}
+use Rattle.sl_run.specs.Safety.{LawfulRun, world_at}
 use Rattle.sl_run.specs.Worlds.{Landing, Program, Stamp, World}
 use Rattle.sl_run.specs.declared.header.Header.{Header}
 use Rattle.sl_run.specs.declared.header.ResourceLine.{ResourceLine}
 use Rattle.sl_sector.specs.declared.sector.Block.{Block}
 use Rattle.sl_trace.specs.declared.effects.Spot.{Spot}
 use Rattle.sl_words.specs.Words.{some_is}
-use Rattle.std.proofs.Common.{ap, arith, inl, inr, refl, subst, sym, ◌∙◌}
+use Rattle.std.proofs.Common.{ap, inl, inr, refl, subst, sym, ◌∙◌}
 use Rattle.std.proofs.lemmas.Bool.{and_from}
 use Rattle.std.specs.Option.{option_map_or}
-use Rattle.std.specs.Prelude.{Bool, Contains, List, None, Option, Some, false, if◌then◌else◌, is_some, option_and_then, true, ℕ, ◌<◌, ◌≡◌, ◌≤◌, ◌⊎◌}
+use Rattle.std.specs.Prelude.{Bool, Contains, List, None, Some, false, if◌then◌else◌, is_some, option_and_then, true, ℕ, ◌<◌, ◌≡◌, ◌≤◌, ◌⊎◌}
 
 -- ---- the writer of a step
 

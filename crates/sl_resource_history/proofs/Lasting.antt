@@ -1,7 +1,7 @@
 -- The block that a session last submitted, in its trace and among its machine's calls.
 use Rattle.sl_course_law.specs.Stamping.{IsCourseOf, Pairwise}
 use Rattle.sl_lease_law.specs.Ways.{lease_among}
-use Rattle.sl_leases.specs.Leases.{block_of_record, block_submitted, block_written, is_lease_call, is_on}
+use Rattle.sl_leases.specs.Leases.{block_of_record, block_submitted, is_lease_call, is_on}
 use Rattle.sl_moment_law.specs.Orders.{CallsFall}
 use Rattle.sl_resource_history.proofs.Newest.{calls_below}
 use Rattle.sl_resource_history.specs.Sending.{block_of_course, writes_block}
@@ -12,9 +12,9 @@ use Rattle.sl_sessions.specs.Sessions.{Session, is_call_of}
 use Rattle.sl_trace.specs.Traces.{Setting, Submitted, new_call, record_of}
 use Rattle.sl_trace.specs.declared.effects.Call.{Call}
 use Rattle.sl_trace.specs.declared.effects.Spot.{Spot}
-use Rattle.sl_words.proofs.CaseLaws.{none_some, some_value, true_is_false}
+use Rattle.sl_words.proofs.CaseLaws.{none_some, true_is_false}
 use Rattle.std.proofs.Common.{ap, arith, inl, inr, refl, subst, sym, ◌∙◌}
-use Rattle.std.specs.Prelude.{Bool, Contains, List, None, Option, Some, cond, false, filter, is_some, option_and_then, true, [], ℕ, ◌&&◌, ◌+◌, ◌<◌, ◌∷◌, ◌≡◌, ◌≤◌, ◌⊎◌}
+use Rattle.std.specs.Prelude.{Bool, Contains, List, None, Option, Some, cond, false, filter, is_some, option_and_then, true, [], ℕ, ◌&&◌, ◌+◌, ◌<◌, ◌∷◌, ◌≡◌, ◌≤◌}
 
 -- Whether a call is of the session's lease on the area.
 abbrev pub of_lease : Setting → Session → Spot → Call → Bool

@@ -1,7 +1,6 @@
 -- A read of blocks that was answered: the blocks that it gave were written on the area before, or are fresh.
 use Rattle.sl_area.specs.Layouts.{Layout, record_in}
 use Rattle.sl_area.specs.Places.{area_blocks, block_offset, blocks_in, read_at, sector_of}
-use Rattle.sl_course_law.specs.Stamping.{stamp_in}
 use Rattle.sl_law.specs.Lawful.{Lawful}
 use Rattle.sl_law.specs.LawfulArea.{IsAreaRead, IsBlockRead}
 use Rattle.sl_leases.specs.Leases.{blocks_given, is_area_read, is_phase_read, spot_of_call}
@@ -18,16 +17,16 @@ use Rattle.sl_run.specs.declared.header.Header.{Header}
 use Rattle.sl_sector.specs.Spelling.{block_in}
 use Rattle.sl_sector.specs.declared.sector.Block.{Block}
 use Rattle.sl_session_law.proofs.Making.{calls_are_made}
-use Rattle.sl_session_law.specs.Promises.{IsMade, IsSession, made_as}
+use Rattle.sl_session_law.specs.Promises.{IsSession, made_as}
 use Rattle.sl_sessions.specs.Sessions.{Session}
-use Rattle.sl_trace.specs.Traces.{Setting, Submitted, gave, submitted}
+use Rattle.sl_trace.specs.Traces.{Submitted, gave, submitted}
 use Rattle.sl_trace.specs.declared.effects.Op.TheVariants.{ReadSectors}
 use Rattle.sl_trace.specs.declared.effects.Spot.{Spot}
 use Rattle.sl_words.proofs.CaseLaws.{none_some, some_value}
-use Rattle.std.proofs.Common.{ap, arith, inl, inr, refl, subst, sym, ◌∙◌}
+use Rattle.std.proofs.Common.{ap, arith, refl, subst, sym, ◌∙◌}
 use Rattle.std.proofs.lemmas.List.{drop-drop}
 use Rattle.std.specs.List.{range_with_len}
-use Rattle.std.specs.Prelude.{Bool, Contains, List, None, Option, Some, drop, false, if◌then◌else◌, length, map, slice_get, suc, take, true, zero, [], ℕ, ◌*◌, ◌+◌, ◌-◌, ◌<◌, ◌∷◌, ◌≡◌, ◌≤◌, ◌⊎◌}
+use Rattle.std.specs.Prelude.{Bool, Contains, List, None, Option, Some, drop, false, if◌then◌else◌, map, slice_get, suc, take, true, zero, ℕ, ◌*◌, ◌+◌, ◌-◌, ◌<◌, ◌≡◌}
 
 -- ---- the blocks of a list of bytes
 

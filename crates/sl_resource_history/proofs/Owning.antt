@@ -3,34 +3,32 @@ use Rattle.sl_area.specs.Layouts.{Layout}
 use Rattle.sl_course_law.specs.Stamping.{AnswersAgree, IsAnsweredAs, IsCourseOf, Pairwise, courses_of}
 use Rattle.sl_front_law.proofs.Having.{contains_right}
 use Rattle.sl_law.specs.LawfulArea.{is_area_work, is_block_work}
-use Rattle.sl_law.specs.LawfulBlock.{LawfulBlockStep, LawfulBlockWrite}
+use Rattle.sl_law.specs.LawfulBlock.{LawfulBlockStep}
 use Rattle.sl_law.specs.Saying.{cut_at}
-use Rattle.sl_lease_law.proofs.ComingLaws.{blocks_come}
 use Rattle.sl_lease_law.proofs.RestLaws.{blocks_have_fronts}
 use Rattle.sl_lease_law.proofs.SpotLaws.{areas_are_apart}
 use Rattle.sl_lease_law.proofs.TurnLaws.{one_at_a_time}
 use Rattle.sl_lease_law.specs.Promises.{WasAnsweredBy}
-use Rattle.sl_lease_law.specs.Ways.{BlockComes, BlockFront, lease_among}
+use Rattle.sl_lease_law.specs.Ways.{BlockFront, lease_among}
 use Rattle.sl_leases.specs.Leases.{block_of_record, block_submitted, block_written, is_block_read, is_lease_call, is_on, lease_step, spot_of_call}
 use Rattle.sl_moment_law.specs.Orders.{CallsFall, IsTimed}
 use Rattle.sl_place_law.proofs.Daemons.{daemons_are_fine, stamp_order}
 use Rattle.sl_place_law.proofs.Finding.{equal_numbers, filtered, finds, found_in, same_number}
 use Rattle.sl_place_law.proofs.Numbering.{session_number}
 use Rattle.sl_place_law.proofs.Proven.{promised}
-use Rattle.sl_place_law.proofs.Seats.{sized_in}
-use Rattle.sl_resource_history.proofs.Lasting.{LastBlock, kept_calls, last_block, lease_kept, no_block_there, of_lease}
+use Rattle.sl_resource_history.proofs.Lasting.{last_block, lease_kept, no_block_there, of_lease}
 use Rattle.sl_resource_history.proofs.Newest.{newest, sent_as}
 use Rattle.sl_resource_history.proofs.Standing.{Standing, machine_of, pair_parts, parts, sent_there, stands_behind, standing}
 use Rattle.sl_resource_history.specs.Histories.{base_of, shown_by}
 use Rattle.sl_resource_history.specs.Sending.{Sent, all_sent, block_of_course, holder_of, is_block_before, last_block_before, last_look_before, same_session, sender_of, step_of, writes_block}
 use Rattle.sl_run.specs.Runs.{Happening}
 use Rattle.sl_run.specs.Safety.{LawfulRun, SessionId, world_at}
-use Rattle.sl_run.specs.Worlds.{Course, Daemon, Machine, Program, Stamp, World, machine_at}
+use Rattle.sl_run.specs.Worlds.{Course, Machine, Program, World, machine_at}
 use Rattle.sl_run.specs.declared.header.Header.{Header}
 use Rattle.sl_sector.specs.declared.sector.Block.{Block}
-use Rattle.sl_session_law.proofs.Making.{contains_cases, contains_first, contains_more, contains_none}
+use Rattle.sl_session_law.proofs.Making.{contains_cases, contains_more, contains_none}
 use Rattle.sl_session_law.proofs.Naming.{kept}
-use Rattle.sl_sessions.specs.Sessions.{Session, is_call_of, session_numbered}
+use Rattle.sl_sessions.specs.Sessions.{Session, is_call_of}
 use Rattle.sl_trace.specs.Traces.{Setting, Submitted, Trace, is_write, new_call, record_of, submitted}
 use Rattle.sl_trace.specs.declared.effects.Call.{Call}
 use Rattle.sl_trace.specs.declared.effects.Op.TheVariants.{ReadSectors, WriteRecord}
@@ -40,13 +38,13 @@ use Rattle.sl_trace.specs.declared.effects.Purpose.TheVariants.{Joining, Lease, 
 use Rattle.sl_trace.specs.declared.effects.Purpose.{Purpose}
 use Rattle.sl_trace.specs.declared.effects.Spot.{Spot}
 use Rattle.sl_trace.specs.declared.effects.Work.{Work}
-use Rattle.sl_words.proofs.CaseLaws.{false_is_true, none_some, some_value, true_is_false}
+use Rattle.sl_words.proofs.CaseLaws.{false_is_true, none_some, some_value}
 use Rattle.sl_words.proofs.WordLaws.{and_true}
-use Rattle.std.proofs.Common.{ap, arith, inl, inr, refl, subst, sym, tests, ◌∙◌}
+use Rattle.std.proofs.Common.{ap, arith, inl, inr, refl, subst, sym, ◌∙◌}
 use Rattle.std.proofs.lemmas.Bool.Decides.{nat_tests}
 use Rattle.std.proofs.lemmas.Bool.{and_from, ltb-true}
 use Rattle.std.specs.Option.{option_map_or}
-use Rattle.std.specs.Prelude.{Bool, Contains, List, None, Option, Some, cond, false, filter, find, is_some, length, nat_lt, option_and_then, true, [], ℕ, ◌%◌, ◌&&◌, ◌++◌, ◌+◌, ◌-◌, ◌<◌, ◌==◌, ◌||◌, ◌∷◌, ◌≡◌, ◌≤◌, ◌⊎◌}
+use Rattle.std.specs.Prelude.{Bool, Contains, List, None, Option, Some, false, find, is_some, length, nat_lt, option_and_then, true, [], ℕ, ◌%◌, ◌&&◌, ◌++◌, ◌+◌, ◌-◌, ◌<◌, ◌==◌, ◌||◌, ◌∷◌, ◌≡◌, ◌≤◌}
 
 -- ---- places
 

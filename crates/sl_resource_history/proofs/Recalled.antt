@@ -1,34 +1,33 @@
 -- The last read of blocks that a session's first write rests on is the last look of the history.
 use Rattle.sl_area.specs.Layouts.{Layout}
 use Rattle.sl_area.specs.Places.{area_blocks, blocks_in}
-use Rattle.sl_course_law.specs.Stamping.{AnswersAgree, IsAnsweredAs, IsCourseOf, stamp_in}
+use Rattle.sl_course_law.specs.Stamping.{AnswersAgree, IsAnsweredAs, IsCourseOf}
 use Rattle.sl_law.specs.LawfulArea.{is_area_work}
-use Rattle.sl_lease_law.proofs.AgeLaws.{answer_stays, blocks_stay}
+use Rattle.sl_lease_law.proofs.AgeLaws.{blocks_stay}
 use Rattle.sl_lease_law.specs.Fronts.{Aged}
 use Rattle.sl_lease_law.specs.Promises.{WasAnsweredBy}
-use Rattle.sl_lease_law.specs.Ways.{lease_among}
-use Rattle.sl_leases.specs.Leases.{Area_read, Phase1_read, Phase2_read, Read_before_free, block_of_host, block_submitted, blocks_given, is_area_read, is_block_read, is_lease_call, is_on, is_phase_read, kind_of_step, last_blocks, lease_step, same_kind, spot_of_call}
+use Rattle.sl_leases.specs.Leases.{Area_read, Phase1_read, Phase2_read, Read_before_free, block_of_host, blocks_given, is_area_read, is_block_read, is_lease_call, is_on, is_phase_read, kind_of_step, last_blocks, lease_step, same_kind, spot_of_call}
 use Rattle.sl_place_law.proofs.Finding.{equal_numbers, finds, found_in, same_number}
 use Rattle.sl_place_law.proofs.Reading.{answer_gave}
-use Rattle.sl_resource_history.proofs.Above.{IsAmong, answer_step, answered_before, in_older, line_aligned, older_look, reads_by, reads_work}
-use Rattle.sl_resource_history.proofs.Basing.{OwnRead, ReadFront}
+use Rattle.sl_resource_history.proofs.Above.{IsAmong, answer_step, answered_before, in_older, older_look, reads_by}
+use Rattle.sl_resource_history.proofs.Basing.{ReadFront}
 use Rattle.sl_resource_history.proofs.Calls.{read_at_step}
 use Rattle.sl_resource_history.proofs.Fitting.{answers_fit}
 use Rattle.sl_resource_history.proofs.Lasting.{kept_calls, lease_kept}
 use Rattle.sl_resource_history.proofs.Looking.{By_area, By_phase, Gave, area_place, given_blocks, phase_place}
 use Rattle.sl_resource_history.proofs.Newest.{newest, sent_as}
-use Rattle.sl_resource_history.proofs.Owning.{behind, block_is_lease, block_works, is_behind, layout_at, lease_is_work, lease_test, number_at, same_is, same_itself, session_as, works}
-use Rattle.sl_resource_history.proofs.Recalling.{Gives, LastRead, last_read}
+use Rattle.sl_resource_history.proofs.Owning.{behind, is_behind, layout_at, lease_test, number_at, same_is, same_itself, session_as, works}
+use Rattle.sl_resource_history.proofs.Recalling.{LastRead, last_read}
 use Rattle.sl_resource_history.proofs.Standing.{Standing, sent_there, standing}
 use Rattle.sl_resource_history.specs.Promises.{spot_of_line}
-use Rattle.sl_resource_history.specs.Sending.{Sent, all_sent, block_of_course, is_counted_read, is_joined_there, is_look_before, last_look_before, read_at, reads_blocks, same_session, sender_of, step_of}
+use Rattle.sl_resource_history.specs.Sending.{Sent, all_sent, is_counted_read, is_joined_there, is_look_before, last_look_before, read_at, reads_blocks, same_session, sender_of, step_of}
 use Rattle.sl_run.specs.Runs.{Happening}
-use Rattle.sl_run.specs.Safety.{LawfulRun, SessionId, world_at}
-use Rattle.sl_run.specs.Worlds.{Course, Program, Stamp, World}
+use Rattle.sl_run.specs.Safety.{LawfulRun, world_at}
+use Rattle.sl_run.specs.Worlds.{Program, Stamp, World}
 use Rattle.sl_run.specs.declared.header.Header.{Header}
 use Rattle.sl_run.specs.declared.header.ResourceLine.{ResourceLine}
 use Rattle.sl_sector.specs.declared.sector.Block.{Block}
-use Rattle.sl_sessions.specs.Sessions.{Session, is_call_of}
+use Rattle.sl_sessions.specs.Sessions.{is_call_of}
 use Rattle.sl_trace.specs.Traces.{Answered, Setting, Submitted, bytes_given, gave, is_answer_for, is_ok_answer, new_call, submitted}
 use Rattle.sl_trace.specs.declared.effects.Call.{Call}
 use Rattle.sl_trace.specs.declared.effects.LeaseStep.{LeaseStep}
@@ -44,7 +43,7 @@ use Rattle.sl_words.specs.Words.{some_is}
 use Rattle.std.proofs.Common.{ap, arith, inl, inr, refl, subst, sym, ◌∙◌}
 use Rattle.std.proofs.lemmas.Bool.Decides.{nat_tests}
 use Rattle.std.proofs.lemmas.Bool.{and_from, leb-true}
-use Rattle.std.specs.Prelude.{Bool, Contains, List, None, Option, Some, false, find, is_some, length, nat_le, option_and_then, true, [], ℕ, ◌&&◌, ◌+◌, ◌<◌, ◌==◌, ◌||◌, ◌≡◌, ◌≤◌, ◌⊎◌}
+use Rattle.std.specs.Prelude.{Bool, Contains, List, None, Option, Some, false, is_some, length, nat_le, option_and_then, true, ℕ, ◌&&◌, ◌+◌, ◌<◌, ◌||◌, ◌≡◌, ◌≤◌, ◌⊎◌}
 
 -- ---- reads of blocks
 

@@ -8,10 +8,10 @@ use Rattle.sl_resource_history.proofs.Lasting.{kept_calls}
 use Rattle.sl_resource_history.proofs.Newest.{calls_below}
 use Rattle.sl_run.specs.Worlds.{Course, Daemon}
 use Rattle.sl_sector.specs.declared.sector.Block.{Block}
-use Rattle.sl_session_law.proofs.Making.{contains_cases, contains_first, contains_more, contains_none}
+use Rattle.sl_session_law.proofs.Making.{contains_cases, contains_first, contains_more}
 use Rattle.sl_trace.specs.Traces.{Submitted}
 use Rattle.sl_trace.specs.declared.effects.Call.{Call}
-use Rattle.sl_words.proofs.CaseLaws.{none_some, some_value, true_is_false}
+use Rattle.sl_words.proofs.CaseLaws.{none_some, true_is_false}
 use Rattle.std.proofs.Common.{ap, arith, inl, inr, refl, subst, sym, ◌∙◌}
 use Rattle.std.specs.Prelude.{Bool, Contains, List, None, Option, Some, cond, false, slice_get, true, unwrap_or, [], ℕ, ◌+◌, ◌-◌, ◌<◌, ◌∷◌, ◌≡◌, ◌≤◌}
 

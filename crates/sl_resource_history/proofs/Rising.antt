@@ -1,56 +1,49 @@
 -- No ballot goes below the own block: the block of a write's base is the own block that the law of blocks speaks of.
-use Rattle.sl_area.specs.Layouts.{Layout, record_in}
+use Rattle.sl_area.specs.Layouts.{record_in}
 use Rattle.sl_area.specs.Places.{block_offset, in_area, sector_of}
-use Rattle.sl_ballots.specs.Ballots.{IsPhase1}
 use Rattle.sl_ballots.specs.History.{History}
 use Rattle.sl_course_law.proofs.Distinct.{each_distinct}
 use Rattle.sl_landing_law.proofs.Listing.{one_call}
 use Rattle.sl_landing_law.specs.Landings.{LeftBy}
-use Rattle.sl_lease_law.specs.Ways.{BlockComes, Of_mode, Of_phase1, Of_phase2, Way, lease_among}
-use Rattle.sl_leases.specs.Leases.{block_of_host, block_of_record, block_submitted, blocks_given, is_area_read, is_on, spot_of_call}
+use Rattle.sl_leases.specs.Leases.{block_of_record, is_area_read, is_on, spot_of_call}
 use Rattle.sl_place_law.proofs.Areas.{sector_fits}
 use Rattle.sl_place_law.proofs.Finding.{same_read, same_text}
 use Rattle.sl_place_law.proofs.Reading.{digest_is, writes_record}
 use Rattle.sl_place_law.proofs.Seats.{sized_in}
-use Rattle.sl_resource_history.proofs.Above.{WrittenAt, block_by, comes_at, line_aligned, older_look, own_there, told_spot, written_at}
-use Rattle.sl_resource_history.proofs.Basing.{OwnRead, ReadFront, read_front}
-use Rattle.sl_resource_history.proofs.Calls.{block_at_step, found_at, in_world, owned, worker_joined}
-use Rattle.sl_resource_history.proofs.Calls.{block_works as block_is_work}
+use Rattle.sl_resource_history.proofs.Above.{block_by, line_aligned, older_look, own_there}
+use Rattle.sl_resource_history.proofs.Calls.{block_at_step, found_at, owned}
 use Rattle.sl_resource_history.proofs.Doing.{made_since}
-use Rattle.sl_resource_history.proofs.Looking.{Looked, looked}
-use Rattle.sl_resource_history.proofs.Owning.{base_by, block_is_lease, block_works, layout_at, lease_is_work, own_written, spot_is}
-use Rattle.sl_resource_history.proofs.Recalled.{IsWrite, LookFound, look_found}
+use Rattle.sl_resource_history.proofs.Looking.{looked}
+use Rattle.sl_resource_history.proofs.Owning.{spot_is}
+use Rattle.sl_resource_history.proofs.Recalled.{LookFound}
 use Rattle.sl_resource_history.proofs.Showing.{block_in_is, first_fresh}
-use Rattle.sl_resource_history.proofs.Shown.{IsBlockLanding, holder_is, stands_there, writes_is}
-use Rattle.sl_resource_history.proofs.Standing.{Standing, standing}
-use Rattle.sl_resource_history.specs.Histories.{base_of, history_block, is_host, landing_shown, no_block, sector_number, shown_by, shows_whole, step_of_landing}
-use Rattle.sl_resource_history.specs.Promises.{HistoriesGoUp, history_of_line, spot_of_line}
-use Rattle.sl_resource_history.specs.Sending.{Sent, all_sent, block_of_course, holder_of, holder_of_found, is_joined_there, last_block_before, last_look_before, sender_of, sent_at, step_of, writes_block}
+use Rattle.sl_resource_history.proofs.Shown.{stands_there}
+use Rattle.sl_resource_history.proofs.Standing.{Standing}
+use Rattle.sl_resource_history.specs.Histories.{history_block, is_host, landing_shown, no_block, sector_number, step_of_landing}
+use Rattle.sl_resource_history.specs.Promises.{history_of_line, spot_of_line}
+use Rattle.sl_resource_history.specs.Sending.{Sent, all_sent, block_of_course, sent_at, step_of, writes_block}
 use Rattle.sl_run.specs.Events.{sectors_of}
 use Rattle.sl_run.specs.Runs.{Happening}
-use Rattle.sl_run.specs.Safety.{Found, LawfulRun, SessionId, world_at}
-use Rattle.sl_run.specs.Worlds.{Course, Landing, Machine, Program, Sampling, World, first_landing, history_of}
+use Rattle.sl_run.specs.Safety.{LawfulRun, world_at}
+use Rattle.sl_run.specs.Worlds.{Course, Landing, Program, Sampling, World, history_of}
 use Rattle.sl_run.specs.declared.header.Header.{Header}
 use Rattle.sl_run.specs.declared.header.ResourceLine.{ResourceLine}
 use Rattle.sl_sample_law.proofs.Proven.{samples_are_landings}
 use Rattle.sl_sample_law.specs.Samples.{IsSampleOf, numbered_landing, sector_place}
 use Rattle.sl_sector.proofs.PublicLaws.{spelled_is_read}
 use Rattle.sl_sector.specs.Records.{IsRecord}
-use Rattle.sl_sector.specs.Spelling.{IsDigest, IsSectorSize, block_in}
+use Rattle.sl_sector.specs.Spelling.{IsDigest, IsSectorSize}
 use Rattle.sl_sector.specs.declared.sector.Block.{Block}
 use Rattle.sl_sector.specs.declared.sector.Rec.TheVariants.{BlockIs}
-use Rattle.sl_sector.specs.declared.sector.Rec.{Rec}
-use Rattle.sl_sessions.specs.Sessions.{Session, session_numbered}
-use Rattle.sl_trace.specs.Traces.{Setting, Submitted, new_call, record_of}
+use Rattle.sl_trace.specs.Traces.{new_call, record_of}
 use Rattle.sl_trace.specs.declared.effects.Call.{Call}
 use Rattle.sl_trace.specs.declared.effects.Spot.{Spot}
-use Rattle.sl_words.proofs.CaseLaws.{false_is_true, none_some, one_value, some_value, true_is_false, true_or_false}
+use Rattle.sl_words.proofs.CaseLaws.{true_is_false}
 use Rattle.sl_words.proofs.WordLaws.{and_true}
-use Rattle.sl_words.specs.Words.{some_is}
-use Rattle.std.proofs.Common.{ap, arith, inl, inr, refl, subst, sym, tests, ◌∙◌}
+use Rattle.std.proofs.Common.{ap, arith, inl, inr, refl, subst, sym, ◌∙◌}
 use Rattle.std.proofs.lemmas.Bool.{eq-eqb, leb-true}
 use Rattle.std.specs.Option.{option_map_or}
-use Rattle.std.specs.Prelude.{Bool, Contains, List, None, Ok, Option, Some, bytes_eq, false, if◌then◌else◌, is_ok, is_some, length, nat_le, option_and_then, slice_get, suc, true, zero, [], ℕ, ◌&&◌, ◌*◌, ◌+◌, ◌-◌, ◌<◌, ◌==◌, ◌∷◌, ◌≡◌, ◌≤◌, ◌⊎◌}
+use Rattle.std.specs.Prelude.{Contains, List, None, Ok, Option, Some, bytes_eq, if◌then◌else◌, is_ok, is_some, length, nat_le, option_and_then, slice_get, suc, true, zero, [], ℕ, ◌*◌, ◌+◌, ◌-◌, ◌<◌, ◌∷◌, ◌≡◌, ◌≤◌}
 
 -- ---- the history's blocks
 
@@ -96,12 +89,11 @@ block_or a b h = cc
 -- What a landing spells is the block that left it, whole.
 left_block : (w : World) (l : Landing) (c : Course) (b own : Block) → IsDigest w.layout.digest → IsSectorSize w.layout.sector → IsRecord (BlockIs b) → LeftBy w l c (BlockIs b)
     → record_in w.layout l.bytes ≡ Ok (BlockIs own) → (b ≡ own) × (l.whole ≡ true)
-left_block w l c b own digest size is (inl whole) read =
-    (
-      block_or b own (same_read (record_in w.layout l.bytes) (BlockIs b) (BlockIs own)
+left_block w l c b own digest size is (inl whole) read = (
+  block_or b own (same_read (record_in w.layout l.bytes) (BlockIs b) (BlockIs own)
       (ap (λ bs. record_in w.layout bs) whole.2 ∙ spelled_is_read w.layout.digest digest w.layout.sector size (BlockIs b) is) read),
-      whole.0,
-    )
+  whole.0,
+)
 left_block w l c b own digest size is (inr torn) read = absurd (true_is_false (sym (ap (λ z. is_ok z) read) ∙ torn.2))
 
 -- The step that a look shows of a host, and the block of that step.
@@ -122,10 +114,10 @@ landing_block p h xs run r there k host i l at own read =
     let place : ℕ = block_offset w.layout r.offset k in
     elim (stands_there p h xs run r there k host i l at) as (λ z. (l.whole ≡ true) × (H.block (step_of_landing w l) ≡ history_block own)) [
       | inl first ↦ (
-            ap (λ (y : Landing). y.whole) first,
-            ap (λ (y : Landing). H.block (step_of_landing w y)) first ∙ block_of_none p h xs run r
+        ap (λ (y : Landing). y.whole) first,
+        ap (λ (y : Landing). H.block (step_of_landing w y)) first ∙ block_of_none p h xs run r
             ∙ sym (first_fresh p h xs run r.path place own (subst (λ (y : Landing). record_in w.layout y.bytes ≡ Ok (BlockIs own)) first read)),
-          )
+      )
       | inr b ↦
           let o = owned p h xs run b.sent b.there in
           let is : IsRecord (BlockIs b.block) =

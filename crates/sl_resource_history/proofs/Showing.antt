@@ -1,25 +1,22 @@
 -- What a read of blocks shows: each block that it gives was written before, or is a fresh one.
 use Rattle.sl_area.specs.Layouts.{Layout, layout_with, record_in, sector_with}
-use Rattle.sl_area.specs.Places.{area_blocks, block_offset, blocks_in, fresh_block, fresh_leader, in_area, no_request, no_value, sector_of}
-use Rattle.sl_course_law.specs.Stamping.{stamp_in}
+use Rattle.sl_area.specs.Places.{block_offset, fresh_block, fresh_leader, in_area, no_request, no_value}
 use Rattle.sl_landing_law.proofs.Initial.{initial_is_record}
-use Rattle.sl_law.specs.Lawful.{Lawful}
 use Rattle.sl_law.specs.LawfulArea.{IsAreaRead, IsBlockRead, IsLeaseRead, IsRightRead}
-use Rattle.sl_leases.specs.Leases.{block_of_record, blocks_given, is_area_read, is_on, is_phase_read, spot_of_call}
+use Rattle.sl_leases.specs.Leases.{block_of_record, is_area_read, is_on, is_phase_read}
 use Rattle.sl_place_law.proofs.Areas.{IsSized, is_within, sector_fits, sized}
 use Rattle.sl_place_law.proofs.Finding.{same_number, same_read}
 use Rattle.sl_place_law.proofs.Proven.{promised}
-use Rattle.sl_place_law.proofs.Reading.{IsRead, IsShown, call_law, header_is, layout_is, read_of, reads_back, sector_shown}
+use Rattle.sl_place_law.proofs.Reading.{IsShown, header_is, layout_is, reads_back}
 use Rattle.sl_place_law.proofs.Seats.{sized_in}
 use Rattle.sl_resource_history.proofs.Newest.{sent_as}
 use Rattle.sl_resource_history.proofs.Standing.{sent_there}
 use Rattle.sl_resource_history.specs.Histories.{history_block, no_block}
 use Rattle.sl_resource_history.specs.Sending.{Sent, all_sent, block_of_course, step_of}
-use Rattle.sl_run.specs.Events.{sectors_of}
 use Rattle.sl_run.specs.Headers.{IsHeader}
 use Rattle.sl_run.specs.Runs.{Happening}
 use Rattle.sl_run.specs.Safety.{LawfulRun, world_at}
-use Rattle.sl_run.specs.Worlds.{Course, Daemon, Landing, Machine, Program, World, daemons_on, first_landing, initial_bytes, initial_of_lockspace, initial_of_resource, initial_record, machine_at}
+use Rattle.sl_run.specs.Worlds.{Course, Landing, Program, World, first_landing, initial_bytes, initial_of_lockspace, initial_of_resource, initial_record}
 use Rattle.sl_run.specs.declared.header.Header.{Header}
 use Rattle.sl_run.specs.declared.header.LockspaceLine.{LockspaceLine}
 use Rattle.sl_run.specs.declared.header.ResourceLine.{ResourceLine}
@@ -29,11 +26,7 @@ use Rattle.sl_sector.specs.declared.sector.Block.{Block}
 use Rattle.sl_sector.specs.declared.sector.Rec.TheVariants.{BlockIs, DeltaIs, LeaderIs, RequestIs, ValueIs}
 use Rattle.sl_sector.specs.declared.sector.Rec.{Rec}
 use Rattle.sl_sector.specs.declared.sector.Bad.{Bad}
-use Rattle.sl_session_law.proofs.Making.{calls_are_made}
-use Rattle.sl_session_law.specs.Promises.{IsMade, IsSession, made_as}
-use Rattle.sl_sessions.specs.Sessions.{Session, session_numbered}
-use Rattle.sl_trace.specs.Traces.{Setting, Submitted, Trace, gave, new_call, record_of, submitted}
-use Rattle.sl_trace.specs.declared.effects.Call.{Call}
+use Rattle.sl_trace.specs.Traces.{Setting, Submitted, new_call, record_of}
 use Rattle.sl_trace.specs.declared.effects.LeaseStep.TheVariants.{ClearMode, FreeLeader, Phase1Read, Phase1Write, Phase2Read, Phase2Write, ReadArea, ReadBeforeFree, SetMode, TakeLeader}
 use Rattle.sl_trace.specs.declared.effects.LeaseStep.{LeaseStep}
 use Rattle.sl_trace.specs.declared.effects.Op.TheVariants.{ReadSectors}
@@ -41,19 +34,15 @@ use Rattle.sl_trace.specs.declared.effects.Purpose.TheVariants.{Joining, Lease, 
 use Rattle.sl_trace.specs.declared.effects.Purpose.{Purpose}
 use Rattle.sl_trace.specs.declared.effects.Spot.{Spot}
 use Rattle.sl_trace.specs.declared.effects.Work.{Work}
-use Rattle.sl_words.proofs.CaseLaws.{false_is_true, none_some, some_value, true_is_false}
-use Rattle.sl_words.proofs.WordLaws.{and_true, choose_some}
+use Rattle.sl_words.proofs.CaseLaws.{false_is_true, none_some, some_value}
+use Rattle.sl_words.proofs.WordLaws.{choose_some}
 use Rattle.sl_words.specs.Words.{choose}
-use Rattle.std.proofs.Common.{ap, arith, inl, inr, refl, subst, sym, tests, ◌∙◌}
+use Rattle.std.proofs.Common.{ap, arith, inl, inr, refl, subst, sym, ◌∙◌}
 use Rattle.std.proofs.lemmas.Bool.{and_from}
 use Rattle.std.proofs.lemmas.Slice.Eq.{bytes_eq-Decides}
-use Rattle.std.specs.List.{range_with_len}
-use Rattle.std.specs.Prelude.{Bool, Contains, List, None, Ok, Err, Option, Result, Some, bytes_eq, drop, false, find, if◌then◌else◌, length, map, nat_lt, option_and_then, replicate, slice_get, suc, take, true, zero, [], ℕ, ◌&&◌, ◌*◌, ◌++◌, ◌+◌, ◌-◌, ◌/◌, ◌<◌, ◌==◌, ◌||◌, ◌∷◌, ◌≡◌, ◌≤◌, ◌⊎◌}
+use Rattle.std.specs.Prelude.{Bool, Contains, List, None, Ok, Err, Option, Result, Some, bytes_eq, false, find, if◌then◌else◌, nat_lt, option_and_then, replicate, suc, true, zero, [], ℕ, ◌&&◌, ◌*◌, ◌+◌, ◌-◌, ◌/◌, ◌<◌, ◌==◌, ◌≡◌, ◌≤◌}
 
 -- ---- what stood there at first
-
-
-
 
 block_or : (a b : Block) → BlockIs a ≡ BlockIs b → a ≡ b
 block_or a b h = cc
@@ -75,7 +64,7 @@ of_resource g x k b false false false false eq = absurd (none_some (BlockIs b) e
 initial_by : (g : Layout) (h : Header) (offset : ℕ) (b : Block) (o : Option LockspaceLine) (q : Option ResourceLine)
     → elim o as (λ x. Option Rec) [
       | Some l ↦ initial_of_lockspace h l ((offset - l.offset) / g.sector)
-      | None ↦ elim q as (λ x. Option Rec) [ | Some x ↦ initial_of_resource g x ((offset - x.offset) / g.sector) | None ↦ None ]
+      | None ↦ elim q as (λ x. Option Rec) [ Some x ↦ initial_of_resource g x ((offset - x.offset) / g.sector) | None ↦ None ]
     ] ≡ Some (BlockIs b) → history_block b ≡ no_block
 initial_by g h offset b None None eq = absurd (none_some (BlockIs b) eq)
 initial_by g h offset b None (Some x) eq =
@@ -167,10 +156,10 @@ sector_seen p h xs run at j bytes n b lt spells s =
           let path : k.wrote.course.call.path ≡ at.path = k.wrote.place.0 ∙ s.place.0 in
           let offset : block_offset w.layout at.base (j + 1) ≡ k.wrote.course.call.offset = sym s.place.1 ∙ sym k.wrote.place.1 in
           Once (sent_as k.machine k.wrote.course) (sent_there w k.machine k.wrote.machine k.wrote.course k.wrote.at k.wrote.has)
-              (and_from _ _ ((bytes_eq-Decides k.wrote.course.call.path at.path).1 path)
-              (subst (λ o. in_area w.layout at.base o ≡ true) offset (block_inside w.layout at.base j z lt)))
-              (wrote_it k.wrote.course b k.wrote.record_written k.wrote.writes back)
-              (early_too k.wrote.course.made.step s.landing.step n k.wrote.after.0 s.early)
+          (and_from _ _ ((bytes_eq-Decides k.wrote.course.call.path at.path).1 path)
+          (subst (λ o. in_area w.layout at.base o ≡ true) offset (block_inside w.layout at.base j z lt)))
+          (wrote_it k.wrote.course b k.wrote.record_written k.wrote.writes back)
+          (early_too k.wrote.course.made.step s.landing.step n k.wrote.after.0 s.early)
       | inr first ↦
           Never (first_fresh p h xs run at.path (block_offset w.layout at.base (j + 1)) b (subst (λ (y : Landing). record_in w.layout y.bytes ≡ Ok (BlockIs b)) first read))
     ]
