@@ -3,9 +3,13 @@ use Rattle.sl_area.specs.Layouts.{record_in}
 use Rattle.sl_area.specs.Places.{block_offset, in_area, sector_of}
 use Rattle.sl_ballots.specs.History.{History}
 use Rattle.sl_course_law.proofs.Distinct.{each_distinct}
+use Rattle.sl_front_law.proofs.Having.{contains_right}
 use Rattle.sl_landing_law.proofs.Listing.{one_call}
 use Rattle.sl_landing_law.specs.Landings.{LeftBy}
-use Rattle.sl_leases.specs.Leases.{block_of_record, is_area_read, is_on, spot_of_call}
+use Rattle.sl_lease_law.proofs.NumberLaws.{number_is_place}
+use Rattle.sl_session_law.proofs.Making.{contains_first}
+use Rattle.sl_sessions.specs.Sessions.{session_numbered}
+use Rattle.sl_leases.specs.Leases.{block_of_record, blocks_given, is_area_read, is_on, spot_of_call}
 use Rattle.sl_place_law.proofs.Areas.{sector_fits}
 use Rattle.sl_place_law.proofs.Finding.{same_read, same_text}
 use Rattle.sl_place_law.proofs.Reading.{digest_is, writes_record}
@@ -13,7 +17,7 @@ use Rattle.sl_place_law.proofs.Seats.{sized_in}
 use Rattle.sl_resource_history.proofs.Above.{block_by, line_aligned, older_look, own_there}
 use Rattle.sl_resource_history.proofs.Calls.{block_at_step, found_at, owned}
 use Rattle.sl_resource_history.proofs.Doing.{made_since}
-use Rattle.sl_resource_history.proofs.Looking.{looked}
+use Rattle.sl_resource_history.proofs.Looking.{IsLook, looked}
 use Rattle.sl_resource_history.proofs.Owning.{spot_is}
 use Rattle.sl_resource_history.proofs.Recalled.{LookFound}
 use Rattle.sl_resource_history.proofs.Showing.{block_in_is, first_fresh}
@@ -25,7 +29,7 @@ use Rattle.sl_resource_history.specs.Sending.{Sent, all_sent, block_of_course, s
 use Rattle.sl_run.specs.Events.{sectors_of}
 use Rattle.sl_run.specs.Runs.{Happening}
 use Rattle.sl_run.specs.Safety.{LawfulRun, world_at}
-use Rattle.sl_run.specs.Worlds.{Course, Landing, Program, Sampling, World, history_of}
+use Rattle.sl_run.specs.Worlds.{Course, Daemon, Landing, Machine, Program, Sampling, World, history_of}
 use Rattle.sl_run.specs.declared.header.Header.{Header}
 use Rattle.sl_run.specs.declared.header.ResourceLine.{ResourceLine}
 use Rattle.sl_sample_law.proofs.Proven.{samples_are_landings}
@@ -35,7 +39,7 @@ use Rattle.sl_sector.specs.Records.{IsRecord}
 use Rattle.sl_sector.specs.Spelling.{IsDigest, IsSectorSize}
 use Rattle.sl_sector.specs.declared.sector.Block.{Block}
 use Rattle.sl_sector.specs.declared.sector.Rec.TheVariants.{BlockIs}
-use Rattle.sl_trace.specs.Traces.{new_call, record_of}
+use Rattle.sl_trace.specs.Traces.{Submitted, new_call, record_of}
 use Rattle.sl_trace.specs.declared.effects.Call.{Call}
 use Rattle.sl_trace.specs.declared.effects.Spot.{Spot}
 use Rattle.sl_words.proofs.CaseLaws.{true_is_false}
@@ -128,30 +132,30 @@ landing_block p h xs run r there k host i l at own read =
           (left.1, ap (λ n. H.block n) b.step ∙ block_of_step p h xs run r there b.sent own b.there b.on wrote)
     ]
 
-pub look_shows : (p : Program) (h : Header) (xs : List Happening) → LawfulRun p h xs → (r : ResourceLine) → Contains h.resources r → (x : Sent) (s : Standing (world_at p h xs) x)
-    → (own : Block) → (f : LookFound (world_at p h xs) (spot_of_line r) x s own) → is_host (world_at p h xs) s.session.id ≡ true → ShowsBlock p h xs r s.session.id f.sent.course own
-look_shows p h xs run r there x s own f host =
+-- The block that a read of a session gave of a host is the history's of the step that it shows.
+pub look_block : (p : Program) (h : Header) (xs : List Happening) (r : ResourceLine) → Contains h.resources r → (m : ℕ) (a : Machine) (d : Daemon) (q : Submitted) → IsLook p h xs m a d q
+    → (c : Course) → Contains a.calls c → q.call ≡ c.call → is_on (world_at p h xs).layout (spot_of_line r) c.call ≡ true → (bs : List (Option Block))
+    → blocks_given d.setting.layout q ≡ Some bs → (id : ℕ) → is_host (world_at p h xs) id ≡ true → (own : Block) → slice_get bs (id - 1) ≡ Some (Some own)
+    → ShowsBlock p h xs r id c own
+look_block p h xs r there m a d q k c inside call on bs given id host own taken =
     let w : World = world_at p h xs in
-    let id : ℕ = s.session.id in
     let j : ℕ = id - 1 in
-    let c : Course = f.sent.course in
     let on_id : j + 1 ≡ id = back_on id (host_low w id host) in
-    let k = older_look p h xs run x s (spot_of_line r) f.told f.among in
-    let l = looked p h xs x.machine s.machine s.daemon f.told k f.blocks f.given j own (own_there f.blocks id own f.block) in
+    let l = looked p h xs m a d q k bs given j own taken in
     let same : l.read.course ≡ c =
-    one_call s.machine.calls l.read.course c (each_distinct p h xs run x.machine s.machine s.at) l.read.has f.inside
-    (eq-eqb l.read.course.call.number c.call.number (ap (λ (y : Call). y.number) (sym l.read.is.call ∙ f.pair.call))) in
-    let long : length c.samples ≡ sectors_of f.told.call.op = ap (λ (y : Course). length y.samples) (sym same) ∙ l.read.whole in
+    one_call a.calls l.read.course c (each_distinct p h xs k.run m a k.at) l.read.has inside
+    (eq-eqb l.read.course.call.number c.call.number (ap (λ (y : Call). y.number) (sym l.read.is.call ∙ call))) in
+    let long : length c.samples ≡ sectors_of q.call.op = ap (λ (y : Course). length y.samples) (sym same) ∙ l.read.whole in
     let some = there_is c.samples l.sector (subst (λ n. l.sector < n) (sym long) l.within) in
-    let i : IsSampleOf w c l.sector some.0 = samples_are_landings p h xs run x.machine s.machine c l.sector some.0 s.at f.inside some.1 in
-    let path : c.call.path ≡ r.path = same_text c.call.path r.path (and_true (bytes_eq c.call.path r.path) (in_area w.layout r.offset c.call.offset) f.look.on).0 in
-    let spot : spot_of_call w.layout f.told ≡ spot_of_line r =
-    spot_is w.layout (spot_of_line r) f.told (line_aligned p h xs run r there) (ap (λ (y : Call). is_on w.layout (spot_of_line r) y) f.pair.call ∙ f.look.on) in
+    let i : IsSampleOf w c l.sector some.0 = samples_are_landings p h xs k.run m a c l.sector some.0 k.at inside some.1 in
+    let path : c.call.path ≡ r.path = same_text c.call.path r.path (and_true (bytes_eq c.call.path r.path) (in_area w.layout r.offset c.call.offset) on).0 in
+    let spot : spot_of_call w.layout q ≡ spot_of_line r =
+    spot_is w.layout (spot_of_line r) q (line_aligned p h xs k.run r there) (ap (λ (y : Call). is_on w.layout (spot_of_line r) y) call ∙ on) in
     let place : sector_place w c l.sector ≡ block_offset w.layout r.offset id =
-    ap (λ (y : Call). y.offset + l.sector * w.layout.sector) (sym f.pair.call) ∙ l.place ∙ ap (λ (q : Spot). block_offset w.layout q.base (j + 1)) spot
+    ap (λ (y : Call). y.offset + l.sector * w.layout.sector) (sym call) ∙ l.place ∙ ap (λ (q : Spot). block_offset w.layout q.base (j + 1)) spot
     ∙ ap (λ n. block_offset w.layout r.offset n) on_id in
     let number : l.sector ≡ sector_number c id =
-    l.number ∙ ap (λ (y : Call). if is_area_read (new_call 0 0 y) then j + 1 + 1 else j + 1 - 1) f.pair.call
+    l.number ∙ ap (λ (y : Call). if is_area_read (new_call 0 0 y) then j + 1 + 1 else j + 1 - 1) call
     ∙ ap (λ n. if is_area_read (new_call 0 0 c.call) then n + 1 else n - 1) on_id in
     let seen : numbered_landing (history_of w r.path (block_offset w.layout r.offset id)) some.0.index ≡ Some i.landing =
     ap (λ n. numbered_landing (history_of w r.path n) some.0.index) (sym place) ∙ ap (λ y. numbered_landing (history_of w y (sector_place w c l.sector)) some.0.index) (sym path) ∙ i.seen in
@@ -159,7 +163,7 @@ look_shows p h xs run r there x s own f host =
     ap (λ bs. sector_of w.layout bs l.sector) (l.read.sampled ∙ ap (λ (y : Course). y.sampled) same) ∙ i.bytes in
     let read : record_in w.layout i.landing.bytes ≡ Ok (BlockIs own) =
     ap (λ bs. record_in w.layout bs) (sym bytes) ∙ (block_in_is (j + 1) (record_in w.layout (sector_of w.layout l.bytes l.sector)) own l.spells).0 in
-    let b = landing_block p h xs run r there id host some.0.index i.landing seen own read in
+    let b = landing_block p h xs k.run r there id host some.0.index i.landing seen own read in
     record {
       landing = i.landing;
       shown = ap (λ n. option_and_then (λ (q : Sampling). numbered_landing (history_of w r.path (block_offset w.layout r.offset id)) q.index) (slice_get c.samples n)) (sym number)
@@ -167,3 +171,34 @@ look_shows p h xs run r there x s own f host =
       whole = b.0;
       block = b.1;
     }
+
+-- So it is of the own host, by the last look,
+pub look_shows : (p : Program) (h : Header) (xs : List Happening) → LawfulRun p h xs → (r : ResourceLine) → Contains h.resources r → (x : Sent) (s : Standing (world_at p h xs) x)
+    → (own : Block) → (f : LookFound (world_at p h xs) (spot_of_line r) x s own) → is_host (world_at p h xs) s.session.id ≡ true → ShowsBlock p h xs r s.session.id f.sent.course own
+look_shows p h xs run r there x s own f host =
+    look_block p h xs r there x.machine s.machine s.daemon f.told (older_look p h xs run x s (spot_of_line r) f.told f.among) f.sent.course f.inside f.pair.call f.look.on f.blocks f.given
+    s.session.id host own (own_there f.blocks s.session.id own f.block)
+
+-- A read, in its own trace.
+pub told_look : (p : Program) (h : Header) (xs : List Happening) → LawfulRun p h xs → (z : Sent) (s : Standing (world_at p h xs) z) → IsLook p h xs z.machine s.machine s.daemon s.told.one
+told_look p h xs run z s =
+    let n = number_is_place s.daemon.setting s.daemon.trace s.told.one.call.session s.session s.known in
+    record {
+      run = run;
+      at = s.at;
+      has = s.has;
+      lawful = s.lawful;
+      session = s.session;
+      its = ap (λ k. session_numbered s.daemon.setting s.daemon.trace k) n ∙ s.known;
+      there = subst (λ l. Contains l s.told.one) (sym s.told.is)
+          (contains_right s.told.newer (s.told.one ∷ s.told.older) s.told.one (contains_first s.told.one s.told.older));
+      mine = sym n;
+    }
+
+-- .. and of each host, by each read of blocks.
+pub read_shows_block : (p : Program) (h : Header) (xs : List Happening) → LawfulRun p h xs → (r : ResourceLine) → Contains h.resources r → (z : Sent)
+    → (s : Standing (world_at p h xs) z) → is_on (world_at p h xs).layout (spot_of_line r) z.course.call ≡ true → (bs : List (Option Block))
+    → blocks_given s.daemon.setting.layout s.told.one ≡ Some bs → (k : ℕ) → is_host (world_at p h xs) k ≡ true → (b : Block) → slice_get bs (k - 1) ≡ Some (Some b)
+    → ShowsBlock p h xs r k z.course b
+read_shows_block p h xs run r there z s on bs given k host b taken =
+    look_block p h xs r there z.machine s.machine s.daemon s.told.one (told_look p h xs run z s) z.course s.inside s.told.pair.call on bs given k host b taken
