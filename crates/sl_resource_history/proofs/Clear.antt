@@ -8,7 +8,7 @@ use Rattle.sl_words.proofs.CaseLaws.{none_some, some_value}
 use Rattle.std.proofs.Common.{ap, arith, inl, inr, refl, subst, sym, ◌∙◌}
 use Rattle.std.proofs.lemmas.Bool.Decides.{nat_tests}
 use Rattle.std.specs.List.{cons_option}
-use Rattle.std.specs.Prelude.{Bool, Contains, List, None, Option, Some, cond, false, filter_map, find, nat_lt, option_map, slice_get, suc, true, zero, [], ℕ, ◌&&◌, ◌+◌, ◌<◌, ◌==◌, ◌∷◌, ◌≡◌, ◌≤◌, ◌⊎◌}
+use Rattle.std.specs.Prelude.{Bool, Contains, List, None, Option, Some, cond, false, find, nat_lt, option_map, slice_get, suc, true, zero, [], ℕ, ◌&&◌, ◌+◌, ◌==◌, ◌∷◌, ◌≡◌, ◌≤◌, ◌⊎◌}
 
 none_by : {A : Type 0} (p : A → Bool) (x : A) (xs : List A) (y : A) (b : Bool) → p x ≡ b → cond b (Some x) (find p xs) ≡ None → (x ≡ y) ⊎ Contains xs y
     → (find p xs ≡ None → Contains xs y → p y ≡ false) → p y ≡ false
@@ -77,13 +77,13 @@ mapped_none f None h = refl
 mapped_none f (Some x) h = absurd (none_some (f x) (sym h))
 
 among_by : (own : Block) (blocks : List Block) (o : Option Block) → block_ahead own blocks ≡ o
-    → elim o as (λ z. Option Stop) [ | Some b ↦ Some (BlockAhead b.host b.lver) | None ↦ option_map (λ b. BlockRival b.host b.mbal) (block_rival own blocks) ] ≡ None
+    → elim o as (λ z. Option Stop) [ Some b ↦ Some (BlockAhead b.host b.lver) | None ↦ option_map (λ b. BlockRival b.host b.mbal) (block_rival own blocks) ] ≡ None
     → (block_ahead own blocks ≡ None) × (block_rival own blocks ≡ None)
 among_by own blocks None is h = (is, mapped_none (λ b. BlockRival b.host b.mbal) (block_rival own blocks) h)
 among_by own blocks (Some b) is h = absurd (none_some (BlockAhead b.host b.lver) (sym h))
 
 clear_by : (own : Block) (read : List (Option Block)) (o : Option ℕ) → torn_host (with_own own 1 read) ≡ o
-    → elim o as (λ z. Option Stop) [ | Some host ↦ Some (BlockTorn host) | None ↦ stop_among own (ballot_blocks own read) ] ≡ None → IsClear own read
+    → elim o as (λ z. Option Stop) [ Some host ↦ Some (BlockTorn host) | None ↦ stop_among own (ballot_blocks own read) ] ≡ None → IsClear own read
 clear_by own read None is h =
     let two = among_by own (ballot_blocks own read) (block_ahead own (ballot_blocks own read)) refl h in
     record {

@@ -1,14 +1,14 @@
 -- The number of a ballot is of its host's remainder.
 use Rattle.sl_ballots.specs.Residues.{host_by_remainder}
-use Rattle.sl_leases.specs.Ballots.{in_instance, next_mbal, number_above, phase1_block}
+use Rattle.sl_leases.specs.Ballots.{in_instance, number_above, phase1_block}
 use Rattle.sl_sector.specs.declared.sector.Block.{Block}
 use Rattle.sl_sector.specs.declared.sector.Owner.{Owner}
 use Rattle.sl_words.specs.Words.{greatest}
-use Rattle.std.proofs.Common.{ap, arith, inl, inr, refl, subst, sym, ◌∙◌}
+use Rattle.std.proofs.Common.{ap, arith, inl, inr, subst, sym, ◌∙◌}
 use Rattle.std.proofs.lemmas.Bool.Decides.{nat_tests}
 use Rattle.std.proofs.lemmas.Bool.{cases_lt}
 use Rattle.std.proofs.lemmas.Nat.{mod-mul-add}
-use Rattle.std.specs.Prelude.{Bool, List, cond, false, if◌then◌else◌, map, nat_lt, true, ℕ, ◌%◌, ◌*◌, ◌+◌, ◌-◌, ◌/◌, ◌<◌, ◌==◌, ◌∷◌, ◌≡◌, ◌≤◌}
+use Rattle.std.specs.Prelude.{Bool, List, false, if◌then◌else◌, map, nat_lt, true, ℕ, ◌%◌, ◌*◌, ◌+◌, ◌-◌, ◌/◌, ◌<◌, ◌==◌, ◌∷◌, ◌≡◌, ◌≤◌}
 
 last : (n r : ℕ) → r ≡ 0 → (if r == 0 then n else r) ≡ n
 last n r e = grind (arith, nat_tests)

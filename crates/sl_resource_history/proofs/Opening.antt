@@ -2,9 +2,9 @@
 use Rattle.sl_ballots.specs.Ballots.{IsPhase1, KeepsBallot}
 use Rattle.sl_ballots.specs.History.{History}
 use Rattle.sl_ballots.specs.Residues.{host_by_remainder}
-use Rattle.sl_law.specs.LawfulBlock.{LawfulBlockStep, LawfulBlockWrite, LawfulPhase1}
+use Rattle.sl_law.specs.LawfulBlock.{LawfulBlockStep, LawfulPhase1}
 use Rattle.sl_law.specs.Saying.{cut_at}
-use Rattle.sl_lease_law.specs.Ways.{ByMode, ByPhase1, Of_mode, Of_phase1, Of_phase2, Way}
+use Rattle.sl_lease_law.specs.Ways.{ByMode, ByPhase1}
 use Rattle.sl_leases.specs.Leases.{Phase1_write, is_at, kind_of_step, last_blocks, lease_calls, lease_step, same_kind, spot_of_call}
 use Rattle.sl_resource_history.proofs.Above.{WrittenAt}
 use Rattle.sl_resource_history.proofs.Bases.{Based, own_host}
@@ -31,9 +31,9 @@ use Rattle.sl_trace.specs.declared.effects.Work.{Work}
 use Rattle.sl_words.proofs.CaseLaws.{false_is_true}
 use Rattle.sl_words.proofs.WordLaws.{and_true}
 use Rattle.sl_words.specs.Words.{present, some_is}
-use Rattle.std.proofs.Common.{ap, arith, inl, inr, refl, subst, sym, ◌∙◌}
+use Rattle.std.proofs.Common.{ap, refl, subst, sym, ◌∙◌}
 use Rattle.std.proofs.lemmas.Bool.{leb-true}
-use Rattle.std.specs.Prelude.{Contains, List, None, Option, Some, length, nat_le, true, ℕ, ◌<◌, ◌∷◌, ◌≡◌, ◌≤◌, ◌⊎◌}
+use Rattle.std.specs.Prelude.{Contains, List, None, Option, Some, length, nat_le, true, ℕ, ◌<◌, ◌∷◌, ◌≡◌, ◌≤◌}
 
 -- ---- the law of phase 1 at its front
 
@@ -86,7 +86,7 @@ phase1_of p h xs run r there e x s host b at k =
     let number : host_by_remainder w.layout.hosts x.block.mbal ≡ s.session.id =
     ap (λ g. host_by_remainder g.hosts x.block.mbal) (sym layout)
     ∙ phase1_number w x.sent s x.block x.wrote (ap (λ c. is_at Phase1_write (new_call 0 0 c)) (sym b.same) ∙ at) (leb-true 1 s.session.id bounds.0)
-        (subst (λ g. s.session.id ≤ g.hosts) (sym layout) (leb-true s.session.id w.layout.hosts bounds.1)) in
+    (subst (λ g. s.session.id ≤ g.hosts) (sym layout) (leb-true s.session.id w.layout.hosts bounds.1)) in
     phase1_goes H e s.session.id b.own x.block x.shown (own_is_base p h xs run r there e x s host b) (ap (λ o. o.id) (writer_is p h xs r e x.sent x.is) ∙ own_host w x.sent s) number
     k.instance k.mbal k.bal k.inp k.anew
 

@@ -9,7 +9,7 @@ use Rattle.sl_words.specs.Words.{choose}
 use Rattle.std.proofs.Common.{ap, arith, inl, inr, refl, subst, sym, ◌∙◌}
 use Rattle.std.proofs.lemmas.Bool.Decides.{nat_tests}
 use Rattle.std.specs.Option.{option_map_or}
-use Rattle.std.specs.Prelude.{Bool, Contains, List, None, Option, Some, false, filter, fold, if◌then◌else◌, nat_lt, true, [], ℕ, ◌<◌, ◌==◌, ◌∷◌, ◌≡◌, ◌≤◌, ◌⊎◌}
+use Rattle.std.specs.Prelude.{Bool, Contains, List, None, Option, Some, false, fold, if◌then◌else◌, nat_lt, true, [], ℕ, ◌<◌, ◌==◌, ◌∷◌, ◌≡◌, ◌≤◌, ◌⊎◌}
 
 -- The greatest of these that has accepted, if any has.
 pub data Best (bs : List Block) (r : Option Block) : Type 0 where
@@ -62,7 +62,7 @@ from_by a b bs false is r step =
     record {
       best = r.best;
       is = step ∙ r.is;
-      from = elim r.from as (λ z. (r.best ≡ a) ⊎ Contains (b ∷ bs) r.best) [ | inl e ↦ inl e | inr more ↦ inr (contains_more b bs r.best more) ];
+      from = elim r.from as (λ z. (r.best ≡ a) ⊎ Contains (b ∷ bs) r.best) [ inl e ↦ inl e | inr more ↦ inr (contains_more b bs r.best more) ];
       least = r.least;
       most = λ c has. elim (contains_cases b bs c has) as (λ z. c.bal ≤ r.best.bal) [
         | inl e ↦ subst (λ (y : Block). y.bal ≤ r.best.bal) e (up_to b.bal a.bal r.best.bal (not_less a.bal b.bal is) r.least)
