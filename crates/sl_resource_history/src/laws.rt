@@ -1,7 +1,7 @@
 //! What a lawful run promises of the history of each resource.
 
 ghost use Rattle.sl_resource_history.specs.Orders.{BlocksLandInOrder, ReadsShowNewest};
-ghost use Rattle.sl_resource_history.specs.Promises.{HistoriesAreRegisters};
+ghost use Rattle.sl_resource_history.specs.Promises.{HistoriesAreRegisters, HistoriesGoUp, HistoriesNumberAbove};
 
 /// Its blocks are registers.
 pub fn histories_are_registers()
@@ -16,4 +16,14 @@ pub fn blocks_land_in_order()
 /// A read shows what was answered ok before it, or what was submitted later.
 pub fn reads_show_newest()
     ensures { ReadsShowNewest }
+{}
+
+/// No ballot goes below the own block.
+pub fn histories_go_up()
+    ensures { HistoriesGoUp }
+{}
+
+/// Numbers of ballots are above 0.
+pub fn histories_number_above()
+    ensures { HistoriesNumberAbove }
 {}
