@@ -9,3 +9,4 @@ pub mod Fronting
 pub mod Showing
 pub mod Seeing
 pub mod Evident
+pub mod Before
