@@ -10,3 +10,4 @@ pub mod Showing
 pub mod Seeing
 pub mod Evident
 pub mod Before
+pub mod Claimed

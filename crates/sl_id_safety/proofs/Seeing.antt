@@ -16,7 +16,7 @@ use Rattle.sl_place_law.proofs.Reading.{read_of}
 use Rattle.sl_run.specs.Events.{sectors_of}
 use Rattle.sl_run.specs.Runs.{Happening}
 use Rattle.sl_run.specs.Safety.{Found, IsSession, LawfulRun, SessionId, setting_in, trace_of, world_at}
-use Rattle.sl_run.specs.Worlds.{Course, Program, Sampling, World}
+use Rattle.sl_run.specs.Worlds.{Course, Program, Sampling, Stamp, World}
 use Rattle.sl_run.specs.declared.header.Header.{Header}
 use Rattle.sl_sector.specs.Spelling.{delta_in}
 use Rattle.sl_sector.specs.declared.sector.DeltaRec.{DeltaRec}
@@ -36,6 +36,9 @@ use Rattle.std.specs.Prelude.{Bool, Contains, List, None, Option, Some, [], fals
 pub record IsSeen (w : World) (f : Found) (j : ℕ) (d : DeltaRec) : Type 0 where
   pub course : Course
   pub has : Contains f.machine.calls course
+  pub survey : is_survey_purpose course.call.purpose ≡ true
+  pub stamp : Stamp
+  pub answered : course.answered ≡ Some stamp
   pub sample : Sampling
   pub slot : slice_get course.samples (j - 1) ≡ Some sample
   pub place : (course.call.path ≡ f.session.path) × (course.call.offset ≡ f.session.offset)
@@ -46,7 +49,7 @@ there_is [] k lt = absurd (omega (arith, lt))
 there_is (x ∷ xs) zero lt = (x, refl)
 there_is (x ∷ xs) (suc k) lt = there_is xs k (omega (arith, lt))
 
-survey_law : (st : Setting) (t : Trace) (s : Session) (c : Submitted) (p : Purpose) → is_survey_purpose p ≡ true → LawfulDeltaCall st t s c p → LawfulSurvey st t s c
+pub survey_law : (st : Setting) (t : Trace) (s : Session) (c : Submitted) (p : Purpose) → is_survey_purpose p ≡ true → LawfulDeltaCall st t s c p → LawfulSurvey st t s c
 survey_law st t s c Survey is law = law
 survey_law st t s c p is law = absurd (true_is_false (sym is))
 
@@ -55,11 +58,11 @@ chosen true e d is = some_value e d is
 chosen false e d is = absurd (none_some d is)
 
 -- A look is the answer of a survey.
-record IsLook (g : Layout) (j : ℕ) (m : Submitted) (x : Sighting) : Type 0 where
-  survey : is_survey_purpose m.call.purpose ≡ true
-  bytes : List ℕ
-  given : gave m ≡ Some bytes
-  shows : x.bytes ≡ sector_of g bytes (j - 1)
+pub record IsLook (g : Layout) (j : ℕ) (m : Submitted) (x : Sighting) : Type 0 where
+  pub survey : is_survey_purpose m.call.purpose ≡ true
+  pub bytes : List ℕ
+  pub given : gave m ≡ Some bytes
+  pub shows : x.bytes ≡ sector_of g bytes (j - 1)
 
 abbrev look_in : Layout → ℕ → Submitted → Answered → List ℕ → Sighting
 look_in g j m a bytes = record { before = m.reading; after = a.reading; bytes = sector_of g bytes (j - 1) }
@@ -80,7 +83,7 @@ look_by g j m x true at is =
 within : (j hosts n : ℕ) → 1 ≤ j → j ≤ hosts → n ≡ hosts → j - 1 < n
 within j hosts n low high is = omega (arith, low, high, is)
 
-seen_look : (p : Program) (h : Header) (now : List Happening) → LawfulRun p h now → (i : SessionId) (f : Found) → IsSession (world_at p h now) i f → (j : ℕ) → 1 ≤ j
+pub seen_look : (p : Program) (h : Header) (now : List Happening) → LawfulRun p h now → (i : SessionId) (f : Found) → IsSession (world_at p h now) i f → (j : ℕ) → 1 ≤ j
     → j ≤ (world_at p h now).layout.hosts → (m : Submitted) → Contains (calls_of (trace_of f) f.session) m → (x : Sighting) → IsLook (setting_in f).layout j m x → (d : DeltaRec)
     → delta_in (record_in (setting_in f).layout x.bytes) ≡ Some d → IsSeen (world_at p h now) f j d
 seen_look p h now run i f its j low high m there x look d spells =
@@ -100,6 +103,9 @@ seen_look p h now run i f its j low high m there x look d spells =
     record {
       course = read.course;
       has = read.has;
+      survey = ap (λ (y : Call). is_survey_purpose y.purpose) (sym read.is.call) ∙ look.survey;
+      stamp = read.stamp;
+      answered = read.closed;
       sample = slot.0;
       slot = slot.1;
       place = (
