@@ -127,13 +127,16 @@ had_begun st (x ∷ later) e past s h its k joined =
     (begun_if_joined st x (later ++ e ∷ past) s h its k
     (marks_stay.joined (x ∷ later) (e ∷ past) s k (joined_more e past s k joined))) k joined
 
+abbrev pub found_with : Machine → Daemon → Session → Found
+found_with a d s = record { machine = a; daemon = d; session = s }
+
 -- The session before the event: the entry is the newest, or was there.
 pub record StoodBefore (p : Program) (h : Header) (now : List Happening) (i : SessionId) (g : Found) (past : Trace) (e : Entry) : Type 0 where
-  pub found : Found
-  pub its : IsSession (world_at p h now) i found
-  pub session : found.session ≡ g.session
-  pub setting : setting_in found ≡ setting_in g
-  pub place : ((trace_of found ≡ past) × (trace_of g ≡ e ∷ past)) ⊎ ((l : Trace) × (trace_of found ≡ l ++ e ∷ past))
+  pub machine : Machine
+  pub daemon : Daemon
+  pub its : IsSession (world_at p h now) i (found_with machine daemon g.session)
+  pub setting : daemon.setting ≡ setting_in g
+  pub place : ((daemon.trace ≡ past) × (trace_of g ≡ e ∷ past)) ⊎ ((l : Trace) × (daemon.trace ≡ l ++ e ∷ past))
 
 abbrev Parts : Trace → Trace → Trace → Entry → Type 0
 Parts t d past e = ((t ≡ past) × (d ≡ e ∷ past)) ⊎ ((l : Trace) × (t ≡ l ++ e ∷ past))
@@ -181,10 +184,10 @@ stood_before p h now x run i g its later e past whole k joined =
         let session : session_numbered c.daemon.setting c.daemon.trace i.number ≡ Some g.session =
         ap (λ st. session_numbered st c.daemon.trace i.number) c.setting ∙ still_session (setting_in g) c.daemon.trace (trace_of g) past e g.session i.number at parts in
         record {
-          found = record { machine = a; daemon = c.daemon; session = g.session };
+          machine = a;
+          daemon = c.daemon;
           its = found_on (world_at p h now) i a o.at ∙ ap (session_with i a) there
-              ∙ ap (λ q. option_map (λ s. let y : Found = record { machine = a; daemon = c.daemon; session = s } in y) q) session;
-          session = refl;
+              ∙ ap (λ q. option_map (found_with a c.daemon) q) session;
           setting = c.setting;
           place = parts;
         }

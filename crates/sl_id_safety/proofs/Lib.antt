@@ -11,3 +11,4 @@ pub mod Seeing
 pub mod Evident
 pub mod Before
 pub mod Claimed
+pub mod NoOther

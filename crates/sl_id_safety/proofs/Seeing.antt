@@ -1,6 +1,7 @@
 -- A record that a session has seen of an id: the sample of a survey shows it.
 use Rattle.sl_area.specs.Layouts.{Layout, record_in}
 use Rattle.sl_area.specs.Places.{sector_of}
+use Rattle.sl_course_law.proofs.Distinct.{each_distinct}
 use Rattle.sl_course_law.specs.Stamping.{IsCourseOf}
 use Rattle.sl_id_safety.specs.Interface.{sightings_of}
 use Rattle.sl_id_state.proofs.Bridge.{known}
@@ -9,13 +10,14 @@ use Rattle.sl_id_state.proofs.Listing.{map_some, then_some}
 use Rattle.sl_id_state.proofs.Proven.{grounds}
 use Rattle.sl_id_state.proofs.Tails.{front_at}
 use Rattle.sl_id_state.specs.IdStates.{content_of, own_courses, said_by}
+use Rattle.sl_landing_law.proofs.Listing.{one_call}
 use Rattle.sl_law.specs.LawfulDelta.{LawfulDeltaCall, LawfulSurvey}
-use Rattle.sl_place_law.proofs.Finding.{filtered, given_by, partner_of}
+use Rattle.sl_place_law.proofs.Finding.{equal_numbers, filtered, given_by, partner_of}
 use Rattle.sl_place_law.proofs.Proven.{promised}
 use Rattle.sl_place_law.proofs.Reading.{read_of}
 use Rattle.sl_run.specs.Events.{sectors_of}
 use Rattle.sl_run.specs.Runs.{Happening}
-use Rattle.sl_run.specs.Safety.{Found, IsSession, LawfulRun, SessionId, setting_in, trace_of, world_at}
+use Rattle.sl_run.specs.Safety.{Found, IsSession, LawfulRun, SessionId, is_course_of, setting_in, trace_of, world_at}
 use Rattle.sl_run.specs.Worlds.{Course, Program, Sampling, Stamp, World}
 use Rattle.sl_run.specs.declared.header.Header.{Header}
 use Rattle.sl_sector.specs.Spelling.{delta_in}
@@ -29,13 +31,14 @@ use Rattle.sl_trace.specs.declared.effects.Purpose.TheVariants.{Survey}
 use Rattle.sl_trace.specs.declared.effects.Purpose.{Purpose}
 use Rattle.sl_words.proofs.CaseLaws.{none_some, some_value, true_is_false}
 use Rattle.sl_words.specs.Words.{choose}
-use Rattle.std.proofs.Common.{ap, arith, refl, sym, ◌∙◌}
+use Rattle.std.proofs.Common.{ap, arith, refl, subst, sym, ◌∙◌}
 use Rattle.std.specs.Prelude.{Bool, Contains, List, None, Option, Some, [], false, length, option_and_then, option_map, slice_get, suc, true, zero, ℕ, ◌-◌, ◌<◌, ◌==◌, ◌∷◌, ◌≡◌, ◌≤◌}
 
 -- The sample of a survey of the session that shows the record.
-pub record IsSeen (w : World) (f : Found) (j : ℕ) (d : DeltaRec) : Type 0 where
+pub record IsSeen (w : World) (i : SessionId) (f : Found) (j : ℕ) (d : DeltaRec) : Type 0 where
   pub course : Course
   pub has : Contains f.machine.calls course
+  pub own : Contains (own_courses i f.machine) course
   pub survey : is_survey_purpose course.call.purpose ≡ true
   pub stamp : Stamp
   pub answered : course.answered ≡ Some stamp
@@ -85,7 +88,7 @@ within j hosts n low high is = omega (arith, low, high, is)
 
 pub seen_look : (p : Program) (h : Header) (now : List Happening) → LawfulRun p h now → (i : SessionId) (f : Found) → IsSession (world_at p h now) i f → (j : ℕ) → 1 ≤ j
     → j ≤ (world_at p h now).layout.hosts → (m : Submitted) → Contains (calls_of (trace_of f) f.session) m → (x : Sighting) → IsLook (setting_in f).layout j m x → (d : DeltaRec)
-    → delta_in (record_in (setting_in f).layout x.bytes) ≡ Some d → IsSeen (world_at p h now) f j d
+    → delta_in (record_in (setting_in f).layout x.bytes) ≡ Some d → IsSeen (world_at p h now) i f j d
 seen_look p h now run i f its j low high m there x look d spells =
     let w : World = world_at p h now in
     let kn = known grounds p h now run i f its in
@@ -98,11 +101,15 @@ seen_look p h now run i f its j low high m there x look d spells =
     let op : m.call.op ≡ ReadSectors (setting_in f).layout.hosts = ap (λ (y : Call). y.op) (sym call) ∙ law.whole.2 in
     let read = read_of promised p h now run i.machine f.machine f.daemon kn.there.at kn.there.has m (filtered (is_call_of f.session) (submitted (trace_of f)) m there).0
     (setting_in f).layout.hosts op look.bytes look.given in
+    let same : r.0 ≡ read.course =
+    one_call f.machine.calls r.0 read.course (each_distinct p h now run i.machine f.machine kn.there.at) (filtered (is_course_of i) f.machine.calls r.0 r.1).0 read.has
+    (equal_numbers r.0.call.number read.course.call.number (ap (λ (y : Call). y.number) (sym r.2.call ∙ read.is.call))) in
     let hosts : length read.course.samples ≡ w.layout.hosts = read.whole ∙ ap sectors_of op ∙ ap (λ (g : Layout). g.hosts) layout in
     let slot = there_is read.course.samples (j - 1) (within j w.layout.hosts (length read.course.samples) low high hosts) in
     record {
       course = read.course;
       has = read.has;
+      own = subst (λ (y : Course). Contains (own_courses i f.machine) y) same r.1;
       survey = ap (λ (y : Call). is_survey_purpose y.purpose) (sym read.is.call) ∙ look.survey;
       stamp = read.stamp;
       answered = read.closed;
@@ -120,7 +127,7 @@ seen_look p h now run i f its j low high m there x look d spells =
 
 -- A record that was seen is shown by a sample.
 pub seen : (p : Program) (h : Header) (now : List Happening) → LawfulRun p h now → (i : SessionId) (f : Found) → IsSession (world_at p h now) i f → (j : ℕ) → 1 ≤ j
-    → j ≤ (world_at p h now).layout.hosts → (d : DeltaRec) → Contains (seen_records (setting_in f).layout j (sightings_of f j)) d → IsSeen (world_at p h now) f j d
+    → j ≤ (world_at p h now).layout.hosts → (d : DeltaRec) → Contains (seen_records (setting_in f).layout j (sightings_of f j)) d → IsSeen (world_at p h now) i f j d
 seen p h now run i f its j low high d there =
     let g : Layout = (setting_in f).layout in
     let x = given_by (sighted g j) (sightings_of f j) d there in

@@ -1,7 +1,7 @@
 -- What the argument over ballots may use of the ids of a lawful run, in words of its worlds.
 use Rattle.sl_id_state.specs.IdStates.{own_courses}
 use Rattle.sl_run.specs.Runs.{Happening}
-use Rattle.sl_run.specs.Safety.{EvidenceIsTrue, Found, GenerationsRise, HasJoined, IsSession, LawfulRun, OneForEachId, OwnSectorStands, SameId, SessionId, found_generation, is_over, same_lockspace, setting_in, trace_of, world_at}
+use Rattle.sl_run.specs.Safety.{EvidenceIsTrue, Found, GenerationsRise, HasJoined, IsSession, LawfulRun, OneForEachId, OwnSectorStands, ReadsNoOther, SameId, SessionId, found_generation, is_over, same_lockspace, setting_in, trace_of, world_at}
 use Rattle.sl_run.specs.Worlds.{Course, Program, Stamp, World, is_write_course}
 use Rattle.sl_run.specs.declared.header.Header.{Header}
 use Rattle.sl_sessions.specs.Sessions.{calls_of, is_free_purpose}
@@ -57,6 +57,10 @@ JoinersFindOver =
 -- A joined session's sector holds a record of its own, or torn bytes, until it is over.
 abbrev pub SectorsStand : Type 0
 SectorsStand = OfEachRun (λ p h xs. OwnSectorStands (world_at p h xs))
+
+-- No joined session reads a foreign record in its own sector.
+abbrev pub JoinedReadNoOther : Type 0
+JoinedReadNoOther = OfEachRun (λ p h xs. ReadsNoOther (world_at p h xs))
 
 -- ---- a session that is over is silent
 
