@@ -1,23 +1,25 @@
--- A joined session that isn't over reads no foreign record in its own sector: while its survey waits for the answer it isn't over, and what
+-- No joined session reads a foreign record in its own sector: while its survey waits for the answer it isn't over, and until it is over what
 -- stands at or above its claim is its own.
-use Rattle.sl_area.specs.Layouts.{record_in}
-use Rattle.sl_area.specs.Places.{delta_of, sector_of}
+use Rattle.sl_area.specs.Layouts.{layout_with}
+use Rattle.sl_area.specs.Places.{delta_of, delta_offset, sector_of}
+use Rattle.sl_course_law.proofs.Daemons.{OnDaemons, every_has, first_daemons}
+use Rattle.sl_course_law.proofs.Keeping.{header_machine}
 use Rattle.sl_course_law.proofs.Mirrored.{machines_mirror}
 use Rattle.sl_front_law.proofs.Going.{fronts_are_lawful, run_keeps}
-use Rattle.sl_id_safety.proofs.Acting.{same_offset}
+use Rattle.sl_id_safety.proofs.Acting.{same_offset, stands_in}
 use Rattle.sl_id_safety.proofs.Before.{StoodBefore, found_with, stood_before}
 use Rattle.sl_id_safety.proofs.Claimed.{claim_below}
 use Rattle.sl_id_safety.proofs.Evident.{id_range, place_seen}
 use Rattle.sl_id_safety.proofs.Freed.{freed_answered}
 use Rattle.sl_id_safety.proofs.Fronting.{step_next}
 use Rattle.sl_id_safety.proofs.Owning.{own_above}
-use Rattle.sl_id_safety.proofs.Seeing.{IsLook, IsSeen, seen_look}
+use Rattle.sl_id_safety.proofs.Seeing.{IsSeen, seen_look}
 use Rattle.sl_id_safety.proofs.Showing.{StoodAt, stood_at}
-use Rattle.sl_id_safety.proofs.Silence.{GoesOn, freed_by, goes_on, not_reset, over_cases}
+use Rattle.sl_id_safety.proofs.Silence.{freed_by, goes_on, not_reset, over_cases}
 use Rattle.sl_id_safety.proofs.Standing.{joined_stand, some_of}
 use Rattle.sl_id_safety.specs.Interface.{JoinedReadNoOther}
-use Rattle.sl_id_safety.specs.Standing.{StandsJoined, sector_offset}
-use Rattle.sl_id_state.proofs.Bridge.{IsKnown, known}
+use Rattle.sl_id_safety.specs.Standing.{sector_offset}
+use Rattle.sl_id_state.proofs.Bridge.{IsKnown, is_there, known}
 use Rattle.sl_id_state.proofs.Proven.{grounds}
 use Rattle.sl_id_state.specs.IdStates.{content_of, id_state, name_of, session_at}
 use Rattle.sl_id_state.specs.Promises.{IsIdPlace}
@@ -35,17 +37,15 @@ use Rattle.sl_moment_law.proofs.Stamps.{answer_is_stamp}
 use Rattle.sl_moment_law.specs.Moments.{Of_stamp}
 use Rattle.sl_place_law.proofs.Finding.{equal_numbers, found_in}
 use Rattle.sl_run.specs.Runs.{Happening}
-use Rattle.sl_run.specs.Safety.{Found, HasJoined, IsSession, LawfulRun, ReadsNoOther, SessionId, found_generation, free_landed, has_write_in_flight, is_over, setting_in, trace_of, was_reset, world_at}
-use Rattle.sl_run.specs.Worlds.{Daemon, Machine, Program, World}
+use Rattle.sl_run.specs.Safety.{Found, HasJoined, IsSession, LawfulRun, ReadsNoOther, SessionId, free_landed, has_write_in_flight, is_over, setting_in, trace_of, was_reset, world_at}
+use Rattle.sl_run.specs.Worlds.{Daemon, Machine, Program, World, daemons_on, machine_at}
 use Rattle.sl_run.specs.declared.header.Header.{Header}
 use Rattle.sl_sample_law.proofs.Proven.{samples_are_landings}
 use Rattle.sl_sample_law.specs.Samples.{sector_place}
-use Rattle.sl_sector.specs.Spelling.{delta_in}
 use Rattle.sl_sector.specs.declared.sector.DeltaRec.{DeltaRec}
 use Rattle.sl_session_law.proofs.Making.{old_stays, same_answered}
 use Rattle.sl_session_law.proofs.Naming.{kept}
 use Rattle.sl_session_law.proofs.Staying.{joined_more}
-use Rattle.sl_session_law.specs.Promises.{IsSession as IsSessionOf}
 use Rattle.sl_sessions.specs.Sessions.{Session, calls_of, ended_after, free_write, generation_of, is_call_of, is_free_purpose, is_joined, is_survey_purpose, joined_after, refused_after, removed_after, shows_other, shows_other_in, survey_in}
 use Rattle.sl_sessions.specs.Watching.{Sighting}
 use Rattle.sl_trace.specs.Traces.{Answered, Setting, Submitted, Trace, answer_of, answered_in, bytes_given, call_numbered, gave, mark, submitted}
@@ -65,11 +65,11 @@ use Rattle.std.proofs.Common.{ap, arith, inl, inr, refl, subst, sym, ◌∙◌}
 use Rattle.std.proofs.lemmas.Bool.{and_from}
 use Rattle.std.specs.Cmp.Lexicographic.{nat_list_eq_equiv}
 use Rattle.std.specs.Option.{option_or}
-use Rattle.std.specs.Prelude.{Bool, Contains, IsFalse, IsTrue, List, None, Option, Some, [], bytes_eq, false, is_none, is_some, length, map, not, option_and_then, suc, true, ℕ, ◌&&◌, ◌++◌, ◌+◌, ◌-◌, ◌<◌, ◌==◌, ◌∷◌, ◌≡◌, ◌≤◌, ◌⊎◌}
+use Rattle.std.specs.Prelude.{Bool, Contains, List, None, Option, Some, [], bytes_eq, false, is_none, is_some, length, not, option_and_then, true, ℕ, ◌&&◌, ◌++◌, ◌+◌, ◌-◌, ◌<◌, ◌==◌, ◌∷◌, ◌≡◌, ◌≤◌, ◌⊎◌}
 
 -- ---- an input that shows another
 
--- The survey that the input answers.
+-- The survey that the input answers, with what it read.
 record ToldSurvey (es : Trace) (s : Session) (i : Input) (bytes : List ℕ) : Type 0 where
   number : ℕ
   input : i ≡ Told number (Read bytes)
@@ -92,7 +92,7 @@ told_survey es s (Told n (Read bs)) bytes is = by (some_is (λ m. is_call_of s m
   by false at same = absurd (none_some bytes same)
 told_survey es s i bytes is = absurd (none_some bytes is)
 
--- .. with the record that it shows.
+-- .. with the foreign record that it shows.
 record ToldOther (st : Setting) (es : Trace) (s : Session) (i : Input) : Type 0 where
   bytes : List ℕ
   told : ToldSurvey es s i bytes
@@ -269,3 +269,77 @@ stood_own reached p h now x i f g past e b d s =
           (subst (λ q. StoodAt u q (sector_place w s.course (g.session.id - 1)) s.sample.index (content_of d)) s.place.0 stood);
       above = claim_below p h xs b.run i g b.also t inv.0 s.course s.own s.survey (g.session.id - 1) s.sample sample (sym s.place.0) (sym spot);
     }
+
+-- So it is the session's own.
+reads_own : IdsAreReached → IdsGoOn → (p : Program) (h : Header) (now : List Happening) (x : Happening) (i : SessionId) (f g : Found) (past : Trace) (e : Entry)
+    → IsBrought p h now x i f g past e → ToldOther (setting_in g) past g.session e.input → ⊥
+reads_own reached on p h now x i f g past e b t =
+    let xs : List Happening = now ++ x ∷ [] in
+    let w : World = world_at p h xs in
+    let u : World = world_at p h now in
+    let r : Terms = terms_of h.timing in
+    let front = fronts_are_lawful p h now (x ∷ []) b.run in
+    let long = watchdogs.long h.timing b.run.header.timing in
+    let path : List ℕ = g.session.path in
+    let offset : ℕ = sector_offset w g in
+    let s = joined_stand p h now front i f b.its (joined_before_it p h now x i f g past e b) in
+    let place = (joined_stand p h xs b.run i g b.also (joined_after_it p h now x i f g past e b)).place in
+    let at : f.session.path ≡ path = ap (λ (y : Session). y.path) b.same in
+    let spot : sector_offset u f ≡ offset = ap (λ (y : Session). delta_offset u.layout y.offset y.id) b.same ∙ sym (same_offset p h xs now g) in
+    let stands = stands_in p h u i f s path offset at spot in
+    let name : (session_at u path offset (name_of i)).name ≡ (setting_in f).name =
+    subst (λ q. (session_at u q offset (name_of i)).name ≡ (setting_in f).name) at
+    (subst (λ n. (session_at u f.session.path n (name_of i)).name ≡ (setting_in f).name) spot (ap (λ (y : IdSession). y.name) s.stands)) in
+    let shown = stood_own reached p h now x i f g past e b t.record_read (shown_own p h now x i f g past e b t) in
+    let inv = reached_kept r (id_state u path offset) long (reached p h now path offset front place) in
+    let more = on p h now (x ∷ []) path offset b.run place in
+    let grown = run_grows r more.0 (id_state u path offset) (id_state w path offset) inv.0 inv.1 more.1 in
+    let claim : (session_at w path offset (name_of i)).claim ≡ (session_at u path offset (name_of i)).claim = ((grown.goes (name_of i)).verified stands.verified).2 in
+    let above = shown.above in
+    let own = own_above r (id_state u path offset) (name_of i) inv.0 stands.verified (stands.over ∙ not_over p h now x i f g past e b t) shown.index shown.stood.below
+    (omega (arith, above, claim)) (content_of t.record_read) shown.stood.shows in
+    let generation : t.record_read.generation ≡ generation_of past g.session =
+    own.generation ∙ stands.generation ∙ ap (λ y. generation_of (trace_of f) y) b.same ∙ ap (λ es. generation_of es g.session) b.before in
+    let host : t.record_read.host ≡ Some (setting_in g).name = own.its ∙ ap (λ y. Some y) (name ∙ ap (λ (st : Setting). st.name) b.setting) in
+    let both =
+    and_from (t.record_read.generation == generation_of past g.session) (some_is (λ n. bytes_eq n (setting_in g).name) t.record_read.host)
+    (equal_numbers t.record_read.generation (generation_of past g.session) generation)
+    (ap (λ o. some_is (λ n. bytes_eq n (setting_in g).name) o) host ∙ nat_list_eq_equiv.refl (setting_in g).name) in
+    true_is_false (sym t.other ∙ ap not both)
+
+-- ---- the law
+
+no_other_by : IdsAreReached → IdsGoOn → (p : Program) (h : Header) (now : List Happening) (x : Happening) → LawfulRun p h (now ++ x ∷ []) → ReadsNoOther (world_at p h now)
+    → ReadsNoOther (world_at p h (now ++ x ∷ []))
+no_other_by reached on p h now x run old i g past e later also whole joined =
+    let k = joined_so past g.session joined in
+    by (stood_before p h now x run i g also later e past whole k.0 k.1)
+  where
+    by : StoodBefore p h now i g past e → shows_other (setting_in g) past g.session e.input ≡ false
+    by s = here s.machine s.daemon s.its s.setting s.place where
+      here : (a : Machine) (d : Daemon) → IsSession (world_at p h now) i (found_with a d g.session) → d.setting ≡ setting_in g
+          → ((d.trace ≡ past) × (trace_of g ≡ e ∷ past)) ⊎ ((l : Trace) × (d.trace ≡ l ++ e ∷ past)) → shows_other (setting_in g) past g.session e.input ≡ false
+      here a d its setting (inr was) =
+          subst (λ st. shows_other st past g.session e.input ≡ false) setting (old i (found_with a d g.session) past e was.0 its was.1 joined)
+      here a d its setting (inl new) =
+          is_false (shows_other (setting_in g) past g.session e.input)
+          (λ other. reads_own reached on p h now x i (found_with a d g.session) g past e
+          (record { run = run; its = its; also = also; same = refl; setting = setting; before = new.0; after = new.1; joined = joined })
+          (told_other (setting_in g) past g.session e.input (survey_in past g.session e.input) refl other))
+
+-- At first no daemon has an entry.
+nothing_first : (p : Program) (h : Header) → ReadsNoOther (world_at p h [])
+nothing_first p h i f past e later its whole joined = absurd (no_entry later (sym whole ∙ no_trace (is_there (world_at p h []) i f its).at (is_there (world_at p h []) i f its).has)) where
+  no_entry : (l : Trace) → l ++ e ∷ past ≡ [] → ⊥
+  no_entry [] is = let long = ap (λ (es : Trace). length es) is in omega (arith, long)
+  no_entry (y ∷ l) is = let long = ap (λ (es : Trace). length es) is in omega (arith, long)
+
+  no_trace : machine_at (world_at p h []) i.machine ≡ Some f.machine → Contains (daemons_on f.machine) f.daemon → trace_of f ≡ []
+  no_trace at has =
+      every_has (λ (d : Daemon). d.trace ≡ []) (daemons_on f.machine) f.daemon
+      (subst (OnDaemons (λ (d : Daemon). d.trace ≡ [])) (sym (header_machine p h i.machine f.machine at))
+      (first_daemons p (layout_with p.digest h.geometry) h i.machine (λ (d : Daemon). d.trace ≡ []) (λ line inside. refl))) has
+
+pub reads_no_other_given : IdsAreReached → IdsGoOn → JoinedReadNoOther
+reads_no_other_given reached on p h xs run =
+    run_keeps p h (λ ys. ReadsNoOther (world_at p h ys)) (record { first = nothing_first p h; next = no_other_by reached on p h }) xs run
