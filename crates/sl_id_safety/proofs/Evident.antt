@@ -65,11 +65,11 @@ pub append_twice : (a b c : List Happening) → (a ++ b) ++ c ≡ a ++ (b ++ c)
 append_twice [] b c = refl
 append_twice (x ∷ a) b c = ap (λ xs. x ∷ xs) (append_twice a b c)
 
-pub place_seen : (w : World) (f : Found) (j : ℕ) (d : DeltaRec) (s : IsSeen w f j d) → sector_place w s.course (j - 1) ≡ delta_offset w.layout f.session.offset j
-place_seen w f j d s = same_spot s.course.call.offset w.layout.sector j ∙ ap (λ n. delta_offset w.layout n j) s.place.1
+pub place_seen : (w : World) (i : SessionId) (f : Found) (j : ℕ) (d : DeltaRec) (s : IsSeen w i f j d) → sector_place w s.course (j - 1) ≡ delta_offset w.layout f.session.offset j
+place_seen w i f j d s = same_spot s.course.call.offset w.layout.sector j ∙ ap (λ n. delta_offset w.layout n j) s.place.1
 
 stood_there : IdsAreReached → (p : Program) (h : Header) (now rest : List Happening) → LawfulRun p h (now ++ rest) → (i : SessionId) (f : Found) → IsSession (world_at p h now) i f
-    → (j : ℕ) → (d : DeltaRec) → (s : IsSeen (world_at p h now) f j d) → (a : machine_at (world_at p h now) i.machine ≡ Some f.machine)
+    → (j : ℕ) → (d : DeltaRec) → (s : IsSeen (world_at p h now) i f j d) → (a : machine_at (world_at p h now) i.machine ≡ Some f.machine)
     → IsIdPlace p h f.session.path (delta_offset (world_at p h now).layout f.session.offset j)
     → StoodThere p h (now ++ rest) f.session.path (delta_offset (world_at p h now).layout f.session.offset j) d
 stood_there reached p h now rest run i f its j d s at place =
@@ -80,7 +80,7 @@ stood_there reached p h now rest run i f its j d s at place =
     (Of_sample i.machine f.machine s.course s.sample at s.has (got_inside s.course.samples (j - 1) s.sample s.slot) refl refl) in
     let x = front_at p h now front s.sample.step (omega (arith, past.0)) in
     let run' : LawfulRun p h (x.now ++ x.rest) = subst (λ ys. LawfulRun p h ys) x.whole front in
-    let spot = place_seen w f j d s in
+    let spot = place_seen w i f j d s in
     let place' : IsIdPlace p h s.course.call.path (sector_place w s.course (j - 1)) =
     subst (λ n. IsIdPlace p h s.course.call.path n) (sym spot) (subst (λ q. IsIdPlace p h q offset) (sym s.place.0) place) in
     let shows = shown_at reached p h now s.course (j - 1) s.sample x front (samples_are_landings p h now front i.machine f.machine s.course (j - 1) s.sample at s.has s.slot) place' (content_of d) s.says in

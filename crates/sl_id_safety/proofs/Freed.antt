@@ -76,7 +76,7 @@ standing_by (Some k) removed refused free ms is = (k, refl)
 standing_by None removed (Some k) free ms is = absurd (false_is_true is)
 standing_by None removed None free ms is = absurd (true_is_false (sym is ∙ not_in ms))
 
-standing_joined : (t : Trace) (s : Session) → stage_of t s ≡ Standing → (k : ℕ) × (joined_after t s ≡ Some k)
+pub standing_joined : (t : Trace) (s : Session) → stage_of t s ≡ Standing → (k : ℕ) × (joined_after t s ≡ Some k)
 standing_joined t s is =
     standing_by (joined_after t s) (removed_after t s) (refused_after t s) (free_write (calls_of t s)) (calls_of t s) (ap (λ x. is_standing x) is)
 

@@ -32,7 +32,7 @@ two_steps : (w n k : ℕ) → n ≡ w + ((1 + k) + 0) → k ≡ 1 → n ≡ w + 
 two_steps w n k is one = omega (arith, is, one)
 
 -- An event takes two steps: its own, and one of a daemon or of the machine.
-step_next : (p : Program) (h : Header) (now : List Happening) (x : Happening) → LawfulRun p h (now ++ x ∷ []) → (world_at p h (now ++ x ∷ [])).step ≡ (world_at p h now).step + 2
+pub step_next : (p : Program) (h : Header) (now : List Happening) (x : Happening) → LawfulRun p h (now ++ x ∷ []) → (world_at p h (now ++ x ∷ [])).step ≡ (world_at p h now).step + 2
 step_next p h now x run =
     let w : World = world_at p h now in
     let last = run_rest (world_with p h) now (x ∷ []) run.is_run in

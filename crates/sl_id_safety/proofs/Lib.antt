@@ -11,4 +11,7 @@ pub mod Seeing
 pub mod Evident
 pub mod Standstill
 pub mod Silent
+pub mod Before
+pub mod Claimed
+pub mod NoOther
 pub mod Proven

@@ -66,19 +66,23 @@ last_or_above claim k lt = by (less_or_not claim k) where
 
 -- ---- the law
 
--- What the newest landing of an id says is said by a session that has verified and isn't over.
-pub own_record : (r : Terms) (v : State) (n : IdName) → Invariant r v → (v.session n).verified ≡ true → (v.session n).over ≡ false → (k : ℕ) → suc k ≡ v.count → (x : Content)
-    → (v.landing k).shown ≡ Some x → IsOwnRecord (v.session n).name (v.session n).generation (v.session n).seq (v.session n).verified (v.session n).over x
-own_record r v n inv verified acts k last x shows =
+-- What a landing of an id says, at or above the claim of a session that has verified and isn't over, is said by the session.
+pub own_above : (r : Terms) (v : State) (n : IdName) → Invariant r v → (v.session n).verified ≡ true → (v.session n).over ≡ false → (k : ℕ) → k < v.count → (v.session n).claim < suc k
+    → (x : Content) → (v.landing k).shown ≡ Some x → IsOwnRecord (v.session n).name (v.session n).generation (v.session n).seq (v.session n).verified (v.session n).over x
+own_above r v n inv verified acts k below within x shows =
     let s = inv.one n in
-    let claim = (s.verified verified).1 in
-    let within : (v.session n).claim < suc k = subst (λ m. (v.session n).claim < m) (sym last) claim.within in
-    let below : k < v.count = subst (λ m. k < m) last (omega arith) in
-    s.wrote k below (by (last_or_above (v.session n).claim k within) claim.writer below) x shows
+    s.wrote k below (by (last_or_above (v.session n).claim k within) (s.verified verified).1.writer below) x shows
   where
     by : ((v.session n).claim < k) ⊎ ((v.session n).claim ≡ k) → (v.landing (v.session n).claim).writer ≡ Some n → k < v.count → (v.landing k).writer ≡ Some n
     by (inl above) writer below = (inv.one n).owner verified acts k above below
     by (inr same) writer below = subst (λ (m : ℕ). (v.landing m).writer ≡ Some n) same writer
+
+-- So the newest landing of an id.
+pub own_record : (r : Terms) (v : State) (n : IdName) → Invariant r v → (v.session n).verified ≡ true → (v.session n).over ≡ false → (k : ℕ) → suc k ≡ v.count → (x : Content)
+    → (v.landing k).shown ≡ Some x → IsOwnRecord (v.session n).name (v.session n).generation (v.session n).seq (v.session n).verified (v.session n).over x
+own_record r v n inv verified acts k last x shows =
+    let claim = ((inv.one n).verified verified).1.within in
+    own_above r v n inv verified acts k (subst (λ m. k < m) last (omega arith)) (subst (λ m. (v.session n).claim < m) (sym last) claim) x shows
 
 pub sectors_stand_given : IdsAreReached → SectorsStand
 sectors_stand_given reached p h xs run i f d its joined stands reads =

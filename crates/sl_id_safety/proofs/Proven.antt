@@ -1,10 +1,12 @@
 -- What the ids of each lawful run promise, since each of their states is reached.
 use Rattle.sl_id_safety.proofs.Acting.{generations_name_one_given, joiners_find_over_given, joiners_rise_given, one_acts_given, over_stays_given}
 use Rattle.sl_id_safety.proofs.Evident.{evidence_means_over_given, evidences_are_true_given}
+use Rattle.sl_id_safety.proofs.NoOther.{reads_no_other_given}
 use Rattle.sl_id_safety.proofs.Owning.{sectors_stand_given}
 use Rattle.sl_id_safety.proofs.Silent.{silence_means_over_given}
-use Rattle.sl_id_safety.specs.Interface.{EvidenceMeansOver, EvidencesAreTrue, GenerationsNameOne, JoinersFindOver, JoinersRise, OneActsForEachId, OverStays, SectorsStand, SilenceMeansOver}
+use Rattle.sl_id_safety.specs.Interface.{EvidenceMeansOver, EvidencesAreTrue, GenerationsNameOne, IdsAreSafe, JoinedReadNoOther, JoinersFindOver, JoinersRise, OneActsForEachId, OverStays, SectorsStand, SilenceMeansOver}
 use Rattle.sl_id_world.proofs.Proven.{ids_are_reached, ids_go_on}
+use Rattle.sl_watchdog_law.proofs.Proven.{writes_in_flight_are_covered}
 
 pub one_acts_for_each_id : OneActsForEachId
 one_acts_for_each_id = one_acts_given ids_are_reached
@@ -32,3 +34,17 @@ evidence_means_over = evidence_means_over_given ids_are_reached ids_go_on silenc
 
 pub evidences_are_true : EvidencesAreTrue
 evidences_are_true = evidences_are_true_given ids_are_reached ids_go_on silence_means_over
+
+pub reads_no_other : JoinedReadNoOther
+reads_no_other = reads_no_other_given ids_are_reached ids_go_on
+
+pub ids_are_safe : IdsAreSafe
+ids_are_safe p h xs run =
+    record {
+      covered = writes_in_flight_are_covered p h xs run;
+      evidence = evidences_are_true p h xs run;
+      one = one_acts_for_each_id p h xs run;
+      rise = joiners_rise p h xs run;
+      own = sectors_stand p h xs run;
+      no_other = reads_no_other p h xs run;
+    }

@@ -1,6 +1,7 @@
 -- A record that a session has seen of an id: the sample of a survey shows it.
 use Rattle.sl_area.specs.Layouts.{Layout, record_in}
 use Rattle.sl_area.specs.Places.{sector_of}
+use Rattle.sl_course_law.proofs.Distinct.{each_distinct}
 use Rattle.sl_course_law.specs.Stamping.{AnswersAgree, IsAnsweredAs, IsCourseOf}
 use Rattle.sl_id_safety.specs.Interface.{sightings_of}
 use Rattle.sl_id_state.proofs.Bridge.{known}
@@ -9,13 +10,14 @@ use Rattle.sl_id_state.proofs.Listing.{map_some, then_some}
 use Rattle.sl_id_state.proofs.Proven.{grounds}
 use Rattle.sl_id_state.proofs.Tails.{front_at}
 use Rattle.sl_id_state.specs.IdStates.{content_of, own_courses, said_by}
+use Rattle.sl_landing_law.proofs.Listing.{one_call}
 use Rattle.sl_law.specs.LawfulDelta.{LawfulDeltaCall, LawfulSurvey}
-use Rattle.sl_place_law.proofs.Finding.{filtered, given_by, partner_of}
+use Rattle.sl_place_law.proofs.Finding.{equal_numbers, filtered, given_by, partner_of}
 use Rattle.sl_place_law.proofs.Proven.{promised}
 use Rattle.sl_place_law.proofs.Reading.{read_of}
 use Rattle.sl_run.specs.Events.{sectors_of}
 use Rattle.sl_run.specs.Runs.{Happening}
-use Rattle.sl_run.specs.Safety.{Found, IsSession, LawfulRun, SessionId, setting_in, trace_of, world_at}
+use Rattle.sl_run.specs.Safety.{Found, IsSession, LawfulRun, SessionId, is_course_of, setting_in, trace_of, world_at}
 use Rattle.sl_run.specs.Worlds.{Course, Program, Sampling, Stamp, World}
 use Rattle.sl_run.specs.declared.header.Header.{Header}
 use Rattle.sl_sector.specs.Spelling.{delta_in}
@@ -34,17 +36,21 @@ use Rattle.std.proofs.Common.{ap, arith, refl, subst, sym, ◌∙◌}
 use Rattle.std.specs.Prelude.{Bool, Contains, List, None, Option, Some, [], false, length, option_and_then, option_map, slice_get, suc, true, zero, ℕ, ◌-◌, ◌<◌, ◌==◌, ◌∷◌, ◌≡◌, ◌≤◌}
 
 -- The sample of a survey of the session that shows the record.
-pub record IsSeen (w : World) (f : Found) (j : ℕ) (d : DeltaRec) : Type 0 where
+pub record IsSeen (w : World) (i : SessionId) (f : Found) (j : ℕ) (d : DeltaRec) : Type 0 where
   pub course : Course
   pub has : Contains f.machine.calls course
+  pub own : Contains (own_courses i f.machine) course
+  pub survey : is_survey_purpose course.call.purpose ≡ true
+  pub stamp : Stamp
+  pub answered : course.answered ≡ Some stamp
   pub sample : Sampling
   pub slot : slice_get course.samples (j - 1) ≡ Some sample
   pub place : (course.call.path ≡ f.session.path) × (course.call.offset ≡ f.session.offset)
   pub says : said_by w.layout (sector_of w.layout course.sampled (j - 1)) ≡ Some (content_of d)
 
 -- .. and how it stands in time to what the session read on its clock.
-pub record IsSighted (w : World) (f : Found) (j : ℕ) (x : Sighting) (d : DeltaRec) : Type 0 where
-  pub seen : IsSeen w f j d
+pub record IsSighted (w : World) (i : SessionId) (f : Found) (j : ℕ) (x : Sighting) (d : DeltaRec) : Type 0 where
+  pub seen : IsSeen w i f j d
   pub before : reading_of seen.course.made.clock ≡ x.before
   pub stamp : Stamp
   pub answered : seen.course.answered ≡ Some stamp
@@ -55,7 +61,7 @@ there_is [] k lt = absurd (omega (arith, lt))
 there_is (x ∷ xs) zero lt = (x, refl)
 there_is (x ∷ xs) (suc k) lt = there_is xs k (omega (arith, lt))
 
-survey_law : (st : Setting) (t : Trace) (s : Session) (c : Submitted) (p : Purpose) → is_survey_purpose p ≡ true → LawfulDeltaCall st t s c p → LawfulSurvey st t s c
+pub survey_law : (st : Setting) (t : Trace) (s : Session) (c : Submitted) (p : Purpose) → is_survey_purpose p ≡ true → LawfulDeltaCall st t s c p → LawfulSurvey st t s c
 survey_law st t s c Survey is law = law
 survey_law st t s c p is law = absurd (true_is_false (sym is))
 
@@ -64,15 +70,15 @@ chosen true e d is = some_value e d is
 chosen false e d is = absurd (none_some d is)
 
 -- A look is the answer of a survey.
-record IsLook (g : Layout) (j : ℕ) (m : Submitted) (x : Sighting) : Type 0 where
-  survey : is_survey_purpose m.call.purpose ≡ true
-  bytes : List ℕ
-  given : gave m ≡ Some bytes
-  shows : x.bytes ≡ sector_of g bytes (j - 1)
-  before : m.reading ≡ x.before
-  answer : Answered
-  its : m.answer ≡ Some answer
-  after : answer.reading ≡ x.after
+pub record IsLook (g : Layout) (j : ℕ) (m : Submitted) (x : Sighting) : Type 0 where
+  pub survey : is_survey_purpose m.call.purpose ≡ true
+  pub bytes : List ℕ
+  pub given : gave m ≡ Some bytes
+  pub shows : x.bytes ≡ sector_of g bytes (j - 1)
+  pub before : m.reading ≡ x.before
+  pub answer : Answered
+  pub its : m.answer ≡ Some answer
+  pub after : answer.reading ≡ x.after
 
 abbrev look_in : Layout → ℕ → Submitted → Answered → List ℕ → Sighting
 look_in g j m a bytes = record { before = m.reading; after = a.reading; bytes = sector_of g bytes (j - 1) }
@@ -97,9 +103,9 @@ look_by g j m x true at is =
 within : (j hosts n : ℕ) → 1 ≤ j → j ≤ hosts → n ≡ hosts → j - 1 < n
 within j hosts n low high is = omega (arith, low, high, is)
 
-seen_look : (p : Program) (h : Header) (now : List Happening) → LawfulRun p h now → (i : SessionId) (f : Found) → IsSession (world_at p h now) i f → (j : ℕ) → 1 ≤ j
+pub seen_look : (p : Program) (h : Header) (now : List Happening) → LawfulRun p h now → (i : SessionId) (f : Found) → IsSession (world_at p h now) i f → (j : ℕ) → 1 ≤ j
     → j ≤ (world_at p h now).layout.hosts → (m : Submitted) → Contains (calls_of (trace_of f) f.session) m → (x : Sighting) → IsLook (setting_in f).layout j m x → (d : DeltaRec)
-    → delta_in (record_in (setting_in f).layout x.bytes) ≡ Some d → IsSighted (world_at p h now) f j x d
+    → delta_in (record_in (setting_in f).layout x.bytes) ≡ Some d → IsSighted (world_at p h now) i f j x d
 seen_look p h now run i f its j low high m there x look d spells =
     let w : World = world_at p h now in
     let kn = known grounds p h now run i f its in
@@ -112,6 +118,9 @@ seen_look p h now run i f its j low high m there x look d spells =
     let op : m.call.op ≡ ReadSectors (setting_in f).layout.hosts = ap (λ (y : Call). y.op) (sym call) ∙ law.whole.2 in
     let read = read_of promised p h now run i.machine f.machine f.daemon kn.there.at kn.there.has m (filtered (is_call_of f.session) (submitted (trace_of f)) m there).0
     (setting_in f).layout.hosts op look.bytes look.given in
+    let same : r.0 ≡ read.course =
+    one_call f.machine.calls r.0 read.course (each_distinct p h now run i.machine f.machine kn.there.at) (filtered (is_course_of i) f.machine.calls r.0 r.1).0 read.has
+    (equal_numbers r.0.call.number read.course.call.number (ap (λ (y : Call). y.number) (sym r.2.call ∙ read.is.call))) in
     let hosts : length read.course.samples ≡ w.layout.hosts = read.whole ∙ ap sectors_of op ∙ ap (λ (g : Layout). g.hosts) layout in
     let slot = there_is read.course.samples (j - 1) (within j w.layout.hosts (length read.course.samples) low high hosts) in
     let heard : IsAnsweredAs f.daemon read.course look.answer = subst (λ o. AnswersAgree f.daemon read.course o) look.its read.is.answers in
@@ -119,6 +128,10 @@ seen_look p h now run i f its j low high m there x look d spells =
       seen = record {
         course = read.course;
         has = read.has;
+        own = subst (λ (y : Course). Contains (own_courses i f.machine) y) same r.1;
+        survey = ap (λ (y : Call). is_survey_purpose y.purpose) (sym read.is.call) ∙ look.survey;
+        stamp = read.stamp;
+        answered = read.closed;
         sample = slot.0;
         slot = slot.1;
         place = (
@@ -139,7 +152,7 @@ seen_look p h now run i f its j low high m there x look d spells =
 -- A sighting of a record is a sample that shows it.
 pub looked : (p : Program) (h : Header) (now : List Happening) → LawfulRun p h now → (i : SessionId) (f : Found) → IsSession (world_at p h now) i f → (j : ℕ) → 1 ≤ j
     → j ≤ (world_at p h now).layout.hosts → (x : Sighting) → Contains (sightings_of f j) x → (d : DeltaRec) → sighted (setting_in f).layout j x ≡ Some d
-    → IsSighted (world_at p h now) f j x d
+    → IsSighted (world_at p h now) i f j x d
 looked p h now run i f its j low high x there d spells =
     let g : Layout = (setting_in f).layout in
     let m = given_by (look_of g j) (calls_of (trace_of f) f.session) x there in
@@ -149,7 +162,7 @@ looked p h now run i f its j low high x there d spells =
 
 -- A record that was seen is shown by a sample.
 pub seen : (p : Program) (h : Header) (now : List Happening) → LawfulRun p h now → (i : SessionId) (f : Found) → IsSession (world_at p h now) i f → (j : ℕ) → 1 ≤ j
-    → j ≤ (world_at p h now).layout.hosts → (d : DeltaRec) → Contains (seen_records (setting_in f).layout j (sightings_of f j)) d → IsSeen (world_at p h now) f j d
+    → j ≤ (world_at p h now).layout.hosts → (d : DeltaRec) → Contains (seen_records (setting_in f).layout j (sightings_of f j)) d → IsSeen (world_at p h now) i f j d
 seen p h now run i f its j low high d there =
     let x = given_by (sighted (setting_in f).layout j) (sightings_of f j) d there in
     (looked p h now run i f its j low high x.0 x.1 d x.2).seen

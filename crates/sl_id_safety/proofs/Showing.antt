@@ -36,7 +36,7 @@ use Rattle.std.specs.Prelude.{Contains, List, Some, [], length, ℕ, ◌++◌, �
 
 -- ---- numbers of landings
 
-has_number : (ls : List Landing) (l : Landing) → Contains ls l → (j : ℕ) × (numbered_landing ls j ≡ Some l)
+pub has_number : (ls : List Landing) (l : Landing) → Contains ls l → (j : ℕ) × (numbered_landing ls j ≡ Some l)
 has_number [] l there = absurd (contains_none l there)
 has_number (x ∷ ls) l there =
     elim (contains_cases x ls l there) as (λ z. (j : ℕ) × (numbered_landing (x ∷ ls) j ≡ Some l)) [
@@ -173,6 +173,38 @@ shown_by reached p h now rest run c k s i reaches past place x says =
       last = j.0;
       is_last = let long = ap (λ ls. length ls) t.whole in omega (arith, long, top);
       shows = shows_number u path offset j.0 l j.1 ∙ ap (λ y. said_by y l.bytes) (sym g.layout) ∙ spells;
+    }
+
+-- A landing of the id's state at a front, with what it spells.
+pub record StoodAt (u : World) (path : List ℕ) (offset j : ℕ) (x : Content) : Type 0 where
+  pub below : j < length (history_of u path offset)
+  pub shows : shown (id_state u path offset) j ≡ Some x
+
+-- What a sample shows stood at each front after its landing.
+pub stood_at : IdsAreReached → (p : Program) (h : Header) (now rest : List Happening) → LawfulRun p h (now ++ rest) → (c : Course) (k : ℕ) (s : Sampling)
+    → (i : IsSampleOf (world_at p h (now ++ rest)) c k s) → i.landing.step < (world_at p h now).step → IsIdPlace p h c.call.path (sector_place (world_at p h (now ++ rest)) c k)
+    → (x : Content) → said_by (world_at p h (now ++ rest)).layout (sector_of (world_at p h (now ++ rest)).layout c.sampled k) ≡ Some x
+    → StoodAt (world_at p h now) c.call.path (sector_place (world_at p h (now ++ rest)) c k) s.index x
+stood_at reached p h now rest run c k s i early place x says =
+    let u : World = world_at p h now in
+    let w : World = world_at p h (now ++ rest) in
+    let path : List ℕ = c.call.path in
+    let offset : ℕ = sector_place w c k in
+    let g = grows_to p h now rest path offset in
+    let v : State = id_state w path offset in
+    let inv = reached_kept (terms_of h.timing) v (watchdogs.long h.timing run.header.timing) (reached p h (now ++ rest) path offset run place) in
+    let l : Landing = i.landing in
+    let spells : said_by w.layout l.bytes ≡ Some x = ap (said_by w.layout) (sym i.bytes) ∙ says in
+    let old = old_by u w path offset l g.layout g.header early (landed_since p h now rest) (in_history w path offset l (numbered_inside (history_of w path offset) s.index l i.seen)) in
+    let j = has_number (history_of u path offset) l old in
+    let later : numbered_landing (history_of w path offset) j.0 ≡ Some l = ap (λ ls. numbered_landing ls j.0) g.history ∙ number_stays g.newer (history_of u path offset) j.0 l j.1 in
+    let same : j.0 ≡ s.index =
+    one_place (terms_of h.timing) v inv.0 j.0 s.index x (number_below (history_of w path offset) j.0 l later) (number_below (history_of w path offset) s.index l i.seen)
+    (shows_number w path offset j.0 l later ∙ spells) (shows_number w path offset s.index l i.seen ∙ spells) in
+    let here : numbered_landing (history_of u path offset) s.index ≡ Some l = subst (λ n. numbered_landing (history_of u path offset) n ≡ Some l) same j.1 in
+    record {
+      below = number_below (history_of u path offset) s.index l here;
+      shows = shows_number u path offset s.index l here ∙ ap (λ y. said_by y l.bytes) (sym g.layout) ∙ spells;
     }
 
 -- What is said of a sample of a run, at a front of it.

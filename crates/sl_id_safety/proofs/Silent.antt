@@ -77,7 +77,7 @@ record IsSampled (w : World) (m : ℕ) (a : Machine) (c : Course) (k : ℕ) (s :
   made : Contains (stamps_on a) c.made
 
 sampled : (p : Program) (h : Header) (xs : List Happening) → LawfulRun p h xs → (i : SessionId) (f : Found) → IsSession (world_at p h xs) i f → (j : ℕ) (d : DeltaRec)
-    → (s : IsSeen (world_at p h xs) f j d) → IsSampled (world_at p h xs) i.machine f.machine s.course (j - 1) s.sample
+    → (s : IsSeen (world_at p h xs) i f j d) → IsSampled (world_at p h xs) i.machine f.machine s.course (j - 1) s.sample
 sampled p h xs run i f its j d s =
     let at = (is_there (world_at p h xs) i f its).at in
     let kept : IsKept (world_at p h xs) s.sample.step s.sample.moment =
@@ -106,7 +106,7 @@ record AreApart (t : TimingNumbers) (s e : Sampling) : Type 0 where
   moments : s.moment + gone t < e.moment
 
 are_apart : (p : Program) (h : Header) (xs : List Happening) → LawfulRun p h xs → (i : SessionId) (f : Found) → IsSession (world_at p h xs) i f → (j : ℕ) (d : DeltaRec)
-    → (x y : Sighting) (a : IsSighted (world_at p h xs) f j x d) (b : IsSighted (world_at p h xs) f j y d) → x.after + dead h.timing ≤ y.before
+    → (x y : Sighting) (a : IsSighted (world_at p h xs) i f j x d) (b : IsSighted (world_at p h xs) i f j y d) → x.after + dead h.timing ≤ y.before
     → AreApart h.timing a.seen.sample b.seen.sample
 are_apart p h xs run i f its j d x y a b far =
     let w : World = world_at p h xs in
@@ -130,16 +130,16 @@ are_apart p h xs run i f its j d x y a b far =
 
 -- ---- the two fronts
 
-shows_there : (w v : World) (f : Found) (j : ℕ) (d : DeltaRec) (s : IsSeen w f j d) → ShowsLast (id_state v s.course.call.path (sector_place w s.course (j - 1))) (content_of d)
+shows_there : (w v : World) (i : SessionId) (f : Found) (j : ℕ) (d : DeltaRec) (s : IsSeen w i f j d) → ShowsLast (id_state v s.course.call.path (sector_place w s.course (j - 1))) (content_of d)
     → ShowsLast (id_state v f.session.path (delta_offset w.layout f.session.offset j)) (content_of d)
-shows_there w v f j d s shows =
-    subst (λ n. ShowsLast (id_state v f.session.path n) (content_of d)) (place_seen w f j d s)
+shows_there w v i f j d s shows =
+    subst (λ n. ShowsLast (id_state v f.session.path n) (content_of d)) (place_seen w i f j d s)
     (subst (λ q. ShowsLast (id_state v q (sector_place w s.course (j - 1))) (content_of d)) s.place.0 shows)
 
-spot_there : (p : Program) (h : Header) (w : World) (f : Found) (j : ℕ) (d : DeltaRec) (s : IsSeen w f j d) → IsIdPlace p h f.session.path (delta_offset w.layout f.session.offset j)
+spot_there : (p : Program) (h : Header) (w : World) (i : SessionId) (f : Found) (j : ℕ) (d : DeltaRec) (s : IsSeen w i f j d) → IsIdPlace p h f.session.path (delta_offset w.layout f.session.offset j)
     → IsIdPlace p h s.course.call.path (sector_place w s.course (j - 1))
-spot_there p h w f j d s place =
-    subst (λ n. IsIdPlace p h s.course.call.path n) (sym (place_seen w f j d s))
+spot_there p h w i f j d s place =
+    subst (λ n. IsIdPlace p h s.course.call.path n) (sym (place_seen w i f j d s))
     (subst (λ q. IsIdPlace p h q (delta_offset w.layout f.session.offset j)) (sym s.place.0) place)
 
 -- A front of a front is one of the whole.
@@ -174,7 +174,7 @@ moment_front p h xs now rest whole run s m is lt =
     front_is_after p h now rest (subst (λ ys. LawfulRun p h ys) whole run) s m (subst (λ ys. IsKept (world_at p h ys) s m) whole is) (omega (arith, lt))
 
 stood_still : IdsAreReached → (p : Program) (h : Header) (xs : List Happening) → LawfulRun p h xs → (i : SessionId) (f : Found) → IsSession (world_at p h xs) i f → (j : ℕ) (d : DeltaRec)
-    → IsIdPlace p h f.session.path (delta_offset (world_at p h xs).layout f.session.offset j) → (s e : IsSeen (world_at p h xs) f j d) → AreApart h.timing s.sample e.sample
+    → IsIdPlace p h f.session.path (delta_offset (world_at p h xs).layout f.session.offset j) → (s e : IsSeen (world_at p h xs) i f j d) → AreApart h.timing s.sample e.sample
     → StoodStill p h xs f.session.path (delta_offset (world_at p h xs).layout f.session.offset j) (content_of d)
 stood_still reached p h xs run i f its j d place s e apart =
     let w : World = world_at p h xs in
@@ -188,8 +188,8 @@ stood_still reached p h xs run i f its j d place s e apart =
     let reaches = b.reaches in
     let a = front_at p h b.now (fronts_are_lawful p h b.now b.rest run') s.sample.step (omega (arith, reaches, order)) in
     let a' = front_of_front p h xs (e.sample.step + 1) s.sample.step b a in
-    let first = shows_there w (world_at p h a.now) f j d s (shown_at reached p h xs s.course (j - 1) s.sample a' run one.is (spot_there p h w f j d s place) (content_of d) s.says) in
-    let last = shows_there w (world_at p h b.now) f j d e (shown_after reached p h xs e.course (j - 1) e.sample b run two.is (spot_there p h w f j d e place) (content_of d) e.says) in
+    let first = shows_there w (world_at p h a.now) i f j d s (shown_at reached p h xs s.course (j - 1) s.sample a' run one.is (spot_there p h w i f j d s place) (content_of d) s.says) in
+    let last = shows_there w (world_at p h b.now) i f j d e (shown_after reached p h xs e.course (j - 1) e.sample b run two.is (spot_there p h w i f j d e place) (content_of d) e.says) in
     let begins = front_moment p h xs a.now (a.rest ++ b.rest) a'.whole run s.sample.step s.sample.moment one.kept a.first in
     let ends = moment_front p h xs b.now b.rest b.whole run e.sample.step e.sample.moment two.kept reaches in
     let far = apart.moments in

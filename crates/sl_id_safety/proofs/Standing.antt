@@ -57,7 +57,7 @@ nothing_joined : (s : Session) (j : ℕ) → s.job ≡ Some j → joined_after [
 nothing_joined s j job =
     ap (λ (o : Option ℕ). elim o as (λ z. Option ℕ) [ None ↦ Some 0 | Some y ↦ option_and_then (λ r. choose (is_join_done r.reply) (r.at + 1)) (reply_to [] y) ]) job
 
-joins : (st : Setting) (es : Trace) (s : Session) → Lawful st es → IsSessionOf st es s → (j k : ℕ) → s.job ≡ Some j → joined_after es s ≡ Some k → LawfulJoin es s k
+pub joins : (st : Setting) (es : Trace) (s : Session) → Lawful st es → IsSessionOf st es s → (j k : ℕ) → s.job ≡ Some j → joined_after es s ≡ Some k → LawfulJoin es s k
 joins st [] s h its j k job joined = absurd (none_some k (sym (nothing_joined s j job) ∙ joined))
 joins st (e ∷ past) s h its j k job joined = h.delta.0.joins s (got_inside (sessions st (e ∷ past)) s.number s its) j k job joined
 
@@ -72,7 +72,7 @@ pub record HasRenewal (i : SessionId) (f : Found) : Type 0 where
   pub delta : DeltaRec
   pub writes : record_of course.call.op ≡ Some (DeltaIs delta)
 
-some_record : {d : DeltaRec} (c : Call) (op : Op) → c.op ≡ op → option_and_then delta_of_record (record_of c.op) ≡ Some d → (e : DeltaRec) × (record_of op ≡ Some (DeltaIs e))
+pub some_record : {d : DeltaRec} (c : Call) (op : Op) → c.op ≡ op → option_and_then delta_of_record (record_of c.op) ≡ Some d → (e : DeltaRec) × (record_of op ≡ Some (DeltaIs e))
 some_record {d} c op same is = (d, record_is c op d same is)
 
 pub has_renewal : (w : World) (i : SessionId) (f : Found) → IsKnown w i f → (j k : ℕ) → f.session.job ≡ Some j → joined_after (trace_of f) f.session ≡ Some k → HasRenewal i f
@@ -86,7 +86,7 @@ has_renewal w i f kn j k job joined =
     let wrote = some_record o.placed.pairs.here.call r.0.call.op (ap (λ (y : Call). y.op) o.placed.pairs.this.call) law.written in
     record { call = join.renewal; inside = found.0; course = r.0; has = r.1; is = r.2; at = at; delta = wrote.0; writes = wrote.1 }
 
-no_claim : (p : Purpose) → is_join_call FirstRenewal p ≡ true → is_join_call ClaimWrite p ≡ false
+pub no_claim : (p : Purpose) → is_join_call FirstRenewal p ≡ true → is_join_call ClaimWrite p ≡ false
 no_claim p at = ap (λ q. is_join_call ClaimWrite q) (step_is FirstRenewal p at).1
 
 -- ---- it has begun and verified

@@ -1,7 +1,7 @@
 -- What the argument over ballots may use of the ids of a lawful run, in words of its worlds.
 use Rattle.sl_id_state.specs.IdStates.{own_courses}
 use Rattle.sl_run.specs.Runs.{Happening}
-use Rattle.sl_run.specs.Safety.{EvidenceIsTrue, Found, GenerationsRise, HasJoined, IsSession, LawfulRun, OneForEachId, OwnSectorStands, SameId, SessionId, found_generation, is_over, same_lockspace, setting_in, trace_of, world_at}
+use Rattle.sl_run.specs.Safety.{DeltaInvariant, EvidenceIsTrue, Found, GenerationsRise, HasJoined, IsSession, LawfulRun, OneForEachId, OwnSectorStands, ReadsNoOther, SameId, SessionId, found_generation, is_over, same_lockspace, setting_in, trace_of, world_at}
 use Rattle.sl_run.specs.Worlds.{Course, Program, Stamp, World, is_write_course}
 use Rattle.sl_run.specs.declared.header.Header.{Header}
 use Rattle.sl_sessions.specs.Sessions.{calls_of, is_free_purpose}
@@ -58,6 +58,10 @@ JoinersFindOver =
 abbrev pub SectorsStand : Type 0
 SectorsStand = OfEachRun (λ p h xs. OwnSectorStands (world_at p h xs))
 
+-- No joined session reads a foreign record in its own sector.
+abbrev pub JoinedReadNoOther : Type 0
+JoinedReadNoOther = OfEachRun (λ p h xs. ReadsNoOther (world_at p h xs))
+
 -- ---- a session that is over is silent
 
 -- What is said of each call that a joined session, over at a front, has later.
@@ -102,3 +106,10 @@ EvidenceMeansOver = MeansOver (λ w i f j n. IsTrue (counts_over (setting_in f) 
 -- So it is true, at each front.
 abbrev pub EvidencesAreTrue : Type 0
 EvidencesAreTrue = OfEachRun EvidenceIsTrue
+
+-- ---- all of it
+
+-- Writes in flight are covered, evidence is true, one session acts for each id, generations rise, a joined session's sector is its own and
+-- it reads no other there: after each lawful run, so after each event of it.
+abbrev pub IdsAreSafe : Type 0
+IdsAreSafe = OfEachRun DeltaInvariant

@@ -1,6 +1,6 @@
 //! What a lawful run promises of the sessions of each id.
 
-ghost use Rattle.sl_id_safety.specs.Interface.{EvidenceMeansOver, EvidencesAreTrue, GenerationsNameOne, JoinedStays, JoinersFindOver, JoinersRise, LockspacesAreAreas, OneActsForEachId, OverAreSettled, OverAreSilent, OverStays, SectorsStand};
+ghost use Rattle.sl_id_safety.specs.Interface.{EvidenceMeansOver, EvidencesAreTrue, GenerationsNameOne, IdsAreSafe, JoinedReadNoOther, JoinedStays, JoinersFindOver, JoinersRise, LockspacesAreAreas, OneActsForEachId, OverAreSettled, OverAreSilent, OverStays, SectorsStand};
 ghost use Rattle.sl_id_safety.specs.Standing.{JoinedStand, SameIdsStandTogether, StandingTogetherIsSameId};
 
 /// A joined session stands with its id as the world has it.
@@ -76,4 +76,15 @@ pub fn evidence_means_over()
 /// So all evidence of a run is true.
 pub fn evidences_are_true()
     ensures { EvidencesAreTrue }
+{}
+
+/// A joined session reads no foreign record in its own sector.
+pub fn reads_no_other()
+    ensures { JoinedReadNoOther }
+{}
+
+/// The invariant of ids and time, after every event of every lawful run: writes in flight are covered, evidence is true, one session acts
+/// for each id, generations rise, and a joined session's sector is its own.
+pub fn ids_are_safe()
+    ensures { IdsAreSafe }
 {}
