@@ -1,0 +1,10 @@
+-- The history of each resource of a lawful run keeps all rules of the argument over ballots.
+use Rattle.sl_ballots.specs.Ballots.{IsLawful}
+use Rattle.sl_ballots.specs.Instances.{KeepsInstances}
+use Rattle.sl_session_history.specs.Promises.{OfHistories}
+
+abbrev pub HistoriesAreLawful : Type 0
+HistoriesAreLawful = OfHistories IsLawful
+
+abbrev pub HistoriesKeepInstances : Type 0
+HistoriesKeepInstances = OfHistories KeepsInstances
