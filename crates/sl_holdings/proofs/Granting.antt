@@ -11,7 +11,7 @@ use Rattle.sl_words.proofs.CaseLaws.{false_is_true, one_value}
 use Rattle.sl_words.proofs.WordLaws.{and_true}
 use Rattle.std.proofs.Common.{arith, refl, subst, sym}
 use Rattle.std.proofs.lemmas.Bool.{and_from, eq-eqb, eqb-true, le-leb, leb-true}
-use Rattle.std.specs.Prelude.{Bool, Some, false, nat_le, true, ℕ, ◌&&◌, ◌==◌, ◌≡◌, ◌≤◌}
+use Rattle.std.specs.Prelude.{Bool, false, nat_le, true, ℕ, ◌&&◌, ◌==◌, ◌≡◌, ◌≤◌}
 
 -- The exclusive grant where p says so, and the shared one, up to step t, where q does.
 abbrev pub grants_of : Bool → ExclusiveGrant → Bool → SharedGrant → ℕ → Grants
