@@ -1,1 +1,3 @@
 pub mod Granted
+pub mod Freeless
+pub mod Standing
