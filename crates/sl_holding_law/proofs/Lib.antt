@@ -1,3 +1,5 @@
 pub mod Granted
 pub mod Freeless
 pub mod Standing
+pub mod Places
+pub mod Unfreed
