@@ -3,3 +3,6 @@ pub mod Freeless
 pub mod Standing
 pub mod Places
 pub mod Unfreed
+pub mod Sharing
+pub mod Agreeing
+pub mod Holders
