@@ -1,6 +1,6 @@
 //! What a lawful trace and a lawful run promise of holdings.
 
-ghost use Rattle.sl_holding_law.specs.Granting.{ExclusivesAreUnfreed, HoldersStand, HoldingsAreGranted, OneDaemonAgrees, SharedRunsBegin};
+ghost use Rattle.sl_holding_law.specs.Granting.{ExclusivesAreUnfreed, HoldersStand, HoldingsAreGranted, OneDaemonAgrees, SharedHoldingsBegin, SharedRunsBegin};
 ghost use Rattle.sl_holding_law.specs.Holders.{HoldingsAreHeld, OneMachineAgrees};
 
 /// Each holding was granted by an entry, from which on it stood.
@@ -36,4 +36,9 @@ pub fn holdings_are_held()
 /// Holdings of one machine don't conflict.
 pub fn one_machine_agrees()
     ensures { OneMachineAgrees }
+{}
+
+/// A shared holding has stood beside shared ones without a gap since a grant that came by a ballot of its own instance.
+pub fn shared_holdings_begin()
+    ensures { SharedHoldingsBegin }
 {}
