@@ -1,1 +1,2 @@
 pub mod ReasonNames
+pub mod ReasonFronts
