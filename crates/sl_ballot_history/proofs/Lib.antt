@@ -1,2 +1,3 @@
 pub mod ReasonNames
 pub mod ReasonFronts
+pub mod ReasonLeaders
