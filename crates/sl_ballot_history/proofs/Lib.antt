@@ -3,3 +3,4 @@ pub mod ReasonFronts
 pub mod ReasonLeaders
 pub mod ReasonEvidence
 pub mod ReasonFronted
+pub mod ReasonReads
