@@ -4,3 +4,4 @@ pub mod ReasonLeaders
 pub mod ReasonEvidence
 pub mod ReasonFronted
 pub mod ReasonReads
+pub mod ReasonWrites
