@@ -5,3 +5,5 @@ pub mod ReasonEvidence
 pub mod ReasonFronted
 pub mod ReasonReads
 pub mod ReasonWrites
+pub mod ReasonOwn
+pub mod ReasonCases
