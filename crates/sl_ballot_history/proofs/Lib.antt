@@ -7,3 +7,5 @@ pub mod ReasonReads
 pub mod ReasonWrites
 pub mod ReasonOwn
 pub mod ReasonCases
+pub mod ReasonGiven
+pub mod KeptBallots
