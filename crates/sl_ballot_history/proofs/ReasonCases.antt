@@ -11,7 +11,7 @@ use Rattle.sl_ballots.specs.Ballots.{BeginReason, Begun, Freed_before, LeaderSub
 use Rattle.sl_ballots.specs.History.{History, Owner as Holder}
 use Rattle.sl_course_law.specs.Stamping.{stamp_in}
 use Rattle.sl_law.specs.LawfulArea.{is_area_work}
-use Rattle.sl_law.specs.LawfulBlock.{AreaRead, Block_above, Freed_before as Freed_in_trace, Leader_before, Leader_own, Lost_before as Lost_in_trace, Own_block}
+use Rattle.sl_law.specs.LawfulBlock.{Block_above, Freed_before as Freed_in_trace, Leader_before, Leader_own, Lost_before as Lost_in_trace, Own_block}
 use Rattle.sl_law.specs.LawfulBlock.{BeginReason as TraceReason}
 use Rattle.sl_law.specs.Saying.{cut_at}
 use Rattle.sl_lease_law.specs.Fronts.{Submission}
@@ -38,11 +38,10 @@ use Rattle.sl_sector.specs.declared.sector.Owner.{Owner}
 use Rattle.sl_sessions.specs.Sessions.{me}
 use Rattle.sl_sessions.specs.Watching.{counted_over}
 use Rattle.sl_trace.specs.Traces.{Setting, Trace}
-use Rattle.sl_trace.specs.declared.effects.Spot.{Spot}
 use Rattle.sl_words.proofs.CaseLaws.{true_is_false}
 use Rattle.sl_words.proofs.WordLaws.{and_true}
 use Rattle.std.proofs.Common.{ap, arith, inl, inr, refl, subst, sym, ◌∙◌}
-use Rattle.std.specs.Prelude.{Bool, Contains, IsTrue, List, Some, false, is_some, length, true, ℕ, ◌&&◌, ◌+◌, ◌<◌, ◌==◌, ◌∷◌, ◌≡◌, ◌≤◌, ◌⊎◌}
+use Rattle.std.specs.Prelude.{Bool, Contains, List, Some, false, is_some, length, true, ℕ, ◌+◌, ◌<◌, ◌==◌, ◌∷◌, ◌≡◌, ◌≤◌, ◌⊎◌}
 
 -- ---- where a block is written
 

@@ -15,7 +15,7 @@ use Rattle.sl_resource_history.proofs.Owning.{block_is_lease, block_works, front
 use Rattle.sl_resource_history.proofs.Standing.{Standing, standing}
 use Rattle.sl_resource_history.specs.Histories.{history_block}
 use Rattle.sl_resource_history.specs.Promises.{history_of_line, spot_of_line}
-use Rattle.sl_resource_history.specs.Sending.{Sent, holder_of, sender_of, sent_at, step_of, writes_block}
+use Rattle.sl_resource_history.specs.Sending.{holder_of, sender_of, sent_at, step_of, writes_block}
 use Rattle.sl_run.specs.Safety.{world_at}
 use Rattle.sl_run.specs.Worlds.{World}
 use Rattle.sl_sector.specs.declared.sector.Block.{Block}

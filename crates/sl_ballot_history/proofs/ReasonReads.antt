@@ -26,7 +26,7 @@ use Rattle.sl_sector.specs.declared.sector.Leader.{Leader}
 use Rattle.sl_trace.specs.Traces.{Answered, Setting, Submitted, Trace, bytes_given, gave, new_call, submitted}
 use Rattle.sl_trace.specs.declared.effects.Spot.{Spot}
 use Rattle.sl_words.specs.Words.{present}
-use Rattle.std.proofs.Common.{ap, arith, refl, subst, sym, ◌∙◌}
+use Rattle.std.proofs.Common.{ap, arith, subst, sym, ◌∙◌}
 use Rattle.std.specs.Prelude.{Contains, List, None, Option, Some, false, option_and_then, slice_get, true, ℕ, ◌%◌, ◌<◌, ◌≡◌, ◌≤◌}
 
 -- ---- what was seen once

@@ -3,7 +3,7 @@
 use Rattle.sl_ballots.specs.Ballots.{LeaderSubmitted}
 use Rattle.sl_ballots.specs.History.{History, Leader as HistoryLeader, Owner as Holder}
 use Rattle.sl_course_law.specs.Stamping.{IsCourseOf}
-use Rattle.sl_law.specs.LawfulArea.{is_area_work, is_block_work}
+use Rattle.sl_law.specs.LawfulArea.{is_area_work}
 use Rattle.sl_lease_law.proofs.AgeLaws.{aged_lease, became}
 use Rattle.sl_lease_law.specs.Fronts.{AllAged}
 use Rattle.sl_leases.specs.Leases.{is_block_read, is_free_write, is_on, leader_of_record, leader_written, lease_calls}
@@ -11,7 +11,7 @@ use Rattle.sl_place_law.proofs.Finding.{partner_of, same_number}
 use Rattle.sl_resource_history.proofs.Above.{is_among}
 use Rattle.sl_resource_history.proofs.Calls.{leader_at_step}
 use Rattle.sl_resource_history.proofs.Latest.{sent_as}
-use Rattle.sl_resource_history.proofs.Owning.{is_behind, layout_at, made_before, number_at, session_as, spot_at, spot_is, works}
+use Rattle.sl_resource_history.proofs.Owning.{is_behind, layout_at, made_before, number_at, spot_at, spot_is, works}
 use Rattle.sl_resource_history.proofs.Standing.{Standing, sent_there}
 use Rattle.sl_resource_history.specs.Histories.{history_leader, no_leader}
 use Rattle.sl_resource_history.specs.Promises.{history_of_line, spot_of_line}
@@ -29,7 +29,7 @@ use Rattle.sl_trace.specs.declared.effects.Op.{Op}
 use Rattle.sl_trace.specs.declared.effects.Spot.{Spot}
 use Rattle.sl_words.proofs.CaseLaws.{none_some, true_is_false}
 use Rattle.sl_words.proofs.WordLaws.{and_true, some_is_true}
-use Rattle.std.proofs.Common.{ap, refl, subst, sym, ◌∙◌}
+use Rattle.std.proofs.Common.{ap, refl, sym, ◌∙◌}
 use Rattle.std.specs.Option.{option_map_or}
 use Rattle.std.specs.Prelude.{Bool, Contains, List, Option, Some, false, is_some, not, option_and_then, true, ℕ, ◌%◌, ◌&&◌, ◌<◌, ◌==◌, ◌||◌, ◌≡◌}
 
