@@ -1,1 +1,5 @@
 pub mod ReasonNames
+pub mod Phase2Stands
+pub mod Phase2Last
+pub mod Phase2Hosts
+pub mod Phase2First
