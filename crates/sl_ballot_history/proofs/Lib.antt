@@ -3,3 +3,4 @@ pub mod Phase2Stands
 pub mod Phase2Last
 pub mod Phase2Hosts
 pub mod Phase2First
+pub mod Phase2Reads
