@@ -4,3 +4,4 @@ pub mod Phase2Last
 pub mod Phase2Hosts
 pub mod Phase2First
 pub mod Phase2Reads
+pub mod Phase2Shows
