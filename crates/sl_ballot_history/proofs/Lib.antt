@@ -5,3 +5,4 @@ pub mod Phase2Hosts
 pub mod Phase2First
 pub mod Phase2Reads
 pub mod Phase2Shows
+pub mod Phase2Values
