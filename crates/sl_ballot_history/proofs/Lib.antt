@@ -6,3 +6,4 @@ pub mod Phase2First
 pub mod Phase2Reads
 pub mod Phase2Shows
 pub mod Phase2Values
+pub mod Phase2Names
