@@ -1,4 +1,14 @@
 pub mod ReasonNames
+pub mod ReasonFronts
+pub mod ReasonLeaders
+pub mod ReasonEvidence
+pub mod ReasonFronted
+pub mod ReasonReads
+pub mod ReasonWrites
+pub mod ReasonOwn
+pub mod ReasonCases
+pub mod ReasonGiven
+pub mod KeptBallots
 pub mod Phase2Stands
 pub mod Phase2Last
 pub mod Phase2Hosts
@@ -6,4 +16,4 @@ pub mod Phase2First
 pub mod Phase2Reads
 pub mod Phase2Shows
 pub mod Phase2Values
-pub mod Phase2Names
+pub mod Phase2Apart
