@@ -17,3 +17,5 @@ pub mod Phase2Reads
 pub mod Phase2Shows
 pub mod Phase2Values
 pub mod Phase2Apart
+pub mod Phase2Between
+pub mod Phase2Ones
