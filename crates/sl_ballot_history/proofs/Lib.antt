@@ -19,3 +19,4 @@ pub mod Phase2Values
 pub mod Phase2Apart
 pub mod Phase2Between
 pub mod Phase2Ones
+pub mod Phase2Is

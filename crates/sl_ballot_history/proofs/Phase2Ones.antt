@@ -58,7 +58,7 @@ base_is p h xs r e x s write y =
     ap (λ o. option_map_or (base_of (world_at p h xs) (spot_of_line r)) o 0) x.is ∙ ap (base_by (world_at p h xs) (spot_of_line r) x.sent) y.last
 
 -- A block that was sent, as what is written at its step.
-pub written_there : (p : Program) (h : Header) (xs : List Happening) → LawfulRun p h xs → (r : ResourceLine) → Contains h.resources r → (x : Sent) (s : Standing (world_at p h xs) x)
+abbrev pub written_there : (p : Program) (h : Header) (xs : List Happening) → LawfulRun p h xs → (r : ResourceLine) → Contains h.resources r → (x : Sent) (s : Standing (world_at p h xs) x)
     → (write : Submitted) (y : OwnLast (world_at p h xs) (spot_of_line r) x s write) (own : Block) → block_written write ≡ Some own → WrittenAt p h xs r (step_of y.sent)
 written_there p h xs run r there x s write y own wrote =
     let w : World = world_at p h xs in
