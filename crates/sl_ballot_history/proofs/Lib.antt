@@ -20,3 +20,4 @@ pub mod Phase2Apart
 pub mod Phase2Between
 pub mod Phase2Ones
 pub mod Phase2Is
+pub mod EndedGrown
