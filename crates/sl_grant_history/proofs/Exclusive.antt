@@ -8,7 +8,7 @@ use Rattle.sl_grant_history.proofs.Evident.{evidence_by}
 use Rattle.sl_grant_history.proofs.Freeing.{FreeTold, free_told, freed_most}
 use Rattle.sl_grant_history.proofs.Looks.{Shows, given_at, is_present, look_shows_host, look_shows_nothing}
 use Rattle.sl_grant_history.proofs.Names.{StoodAt, stood_at}
-use Rattle.sl_grant_history.proofs.Placing.{resource_at}
+use Rattle.sl_grant_history.proofs.Placing.{at_resource, resource_at}
 use Rattle.sl_grant_history.proofs.Stepping.{BlockThere, IsAt, LookThere, block_there, look_there}
 use Rattle.sl_grant_history.proofs.Telling.{IsFront, IsTold, IsWhole, LeaseWas, OfLease, before_in, in_lease, in_order, lease_was, of_lease, told_answer, told_made, whole_of}
 use Rattle.sl_grant_history.specs.Granted.{ExclusiveGrantsAre, GrantedThere, ResourceAt}
@@ -226,5 +226,5 @@ exclusive_grants_are_given given p h xs run i f its entry past step e g has mine
     let placed = (named.lawful.granting.0.each g f.session has (ap (λ n. session_numbered st front n) mine ∙ named.known)).placed in
     let a = resource_at p h xs i f front k (spot_of_grant g) placed law.write law.wrote.0 law.own law.wrote.2 in
     granted_at p h xs given run i f its entry past step e g a
-    (subst (λ z. freed (lease_calls st front f.session z) < g.lver) a.spot rests.not_freed)
-    (subst (λ z. LawfulExclusiveGrant st front f.session z g.lver) a.spot law)
+    (at_resource p h xs i (spot_of_grant g) a (λ z. freed (lease_calls st front f.session z) < g.lver) rests.not_freed)
+    (at_resource p h xs i (spot_of_grant g) a (λ z. LawfulExclusiveGrant st front f.session z g.lver) law)

@@ -8,6 +8,7 @@ use Rattle.sl_grant_history.proofs.Alive.{alive_by}
 use Rattle.sl_grant_history.proofs.Evident.{pairs_long}
 use Rattle.sl_grant_history.proofs.Exclusive.{IsToldOf, exclusive_grants_are_given}
 use Rattle.sl_grant_history.proofs.Freeing.{FreeTold, free_told}
+use Rattle.sl_grant_history.proofs.Placing.{at_resource}
 use Rattle.sl_grant_history.proofs.Telling.{entry_past, in_lease, whole_of}
 use Rattle.sl_grant_history.specs.Granted.{ExclusivesAreKept, GrantedThere, KeptThere, ResourceAt, history_there}
 use Rattle.sl_holding_law.proofs.Granted.{holdings_are_granted}
@@ -81,7 +82,7 @@ kept_at p h xs given run i f its alive entry past step e g held exclusive t =
       unfreed = λ l.
           let freed = free_told p h xs run r t.place.there differ i f its t.place.joined g.lver l.step l.leads (l.lver ∙ t.instance) (l.owner ∙ t.holder) l.held in
           let there : Contains (holdings_on (trace_of f) f.session (spot_of_line r)) g =
-          subst (λ z. Contains (holdings_on (trace_of f) f.session z) g) t.place.spot (on_held (trace_of f) f.session (spot_of_grant g) g held) in
+          at_resource p h xs i (spot_of_grant g) t.place (λ z. Contains (holdings_on (trace_of f) f.session z) g) (on_held (trace_of f) f.session (spot_of_grant g) g held) in
           true_is_false
           (sym freed.free
           ∙ exclusives_are_unfreed st (trace_of f) all.lawful f.session all.known (spot_of_line r) g there exclusive freed.call

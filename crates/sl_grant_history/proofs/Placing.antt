@@ -98,3 +98,8 @@ resource_at p h xs i f front k at placed c has b wrote =
           (worker_joined p h xs l.line t.sent
           (block_works p h xs k.run l.line l.there t.sent t.has (subst (λ z. is_on w.layout z t.sent.course.call ≡ true) spot on) writes));
     }
+
+-- What is said of the area is said of the resource's.
+pub at_resource : (p : Program) (h : Header) (xs : List Happening) (i : SessionId) (at : Spot) → (a : ResourceAt p h xs i at) → (P : Spot → Type 0) → P at
+    → P (spot_of_line a.resource)
+at_resource p h xs i at a P it = subst P a.spot it

@@ -13,7 +13,7 @@ use Rattle.sl_grant_history.proofs.Kept.{CameAt, came_at}
 use Rattle.sl_grant_history.proofs.Marks.{HasMark, RunsThere, front_of_run, marked_after, marked_before}
 use Rattle.sl_grant_history.proofs.Names.{StoodAt, stood_at}
 use Rattle.sl_grant_history.proofs.Owned.{BlockTold, block_told}
-use Rattle.sl_grant_history.proofs.Placing.{resource_at}
+use Rattle.sl_grant_history.proofs.Placing.{at_resource, resource_at}
 use Rattle.sl_grant_history.proofs.Stepping.{AnsweredThere, BlockThere, IsAt, block_answered, block_there}
 use Rattle.sl_grant_history.proofs.Telling.{IsFront, IsTold, IsWhole, LeaseWas, OfLease, before_in, by_cases, entry_past, in_lease, in_order, lease_was, of_lease, told_made, whole_of}
 use Rattle.sl_grant_history.specs.Granted.{ResourceAt, SharedAreShared, SharedThere}
@@ -242,8 +242,8 @@ shared_are_shared_given given p h xs run i f its alive at has =
       step = c.step;
       came = c.there;
       instance = q.instance;
-      ballot = subst (λ z. SharedByBallot st front f.session z q.instance) a.spot q.ballot;
-      stood = λ newer older same. subst (λ z. has_shared_on (older ++ front) f.session z ≡ true) a.spot (q.stood newer older same);
+      ballot = at_resource p h xs i at a (λ z. SharedByBallot st front f.session z q.instance) q.ballot;
+      stood = λ newer older same. at_resource p h xs i at a (λ z. has_shared_on (older ++ front) f.session z ≡ true) (q.stood newer older same);
       at = record { front_is = k; there = a.there; joined = a.joined };
       named = stood_at p h xs i f front k at q.ballot.mode mode;
     }) alive in
