@@ -22,3 +22,4 @@ pub mod Phase2Ones
 pub mod Phase2Is
 pub mod EndedGrown
 pub mod Ended
+pub mod EndedAll
