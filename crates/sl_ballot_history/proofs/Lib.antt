@@ -23,3 +23,4 @@ pub mod Phase2Is
 pub mod EndedGrown
 pub mod Ended
 pub mod EndedAll
+pub mod Led
