@@ -22,3 +22,5 @@ pub mod Phase2Ones
 pub mod Phase2Is
 pub mod EndedGrown
 pub mod Ended
+pub mod EndedAll
+pub mod Led
