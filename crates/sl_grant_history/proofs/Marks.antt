@@ -7,14 +7,14 @@ use Rattle.sl_grant_history.proofs.Exclusive.{IsToldOf}
 use Rattle.sl_grant_history.proofs.Names.{StoodAt, stood_at}
 use Rattle.sl_grant_history.proofs.Owned.{BlockTold, ends_within}
 use Rattle.sl_grant_history.proofs.Stepping.{IsAt}
-use Rattle.sl_grant_history.proofs.Telling.{IsFront, IsWhole, LeaseWas, OfLease, in_lease, lease_was, whole_of}
+use Rattle.sl_grant_history.proofs.Telling.{IsFront, OfLease, in_lease, lease_was, whole_of}
 use Rattle.sl_law.specs.LawfulModes.{SharedByBallot}
 use Rattle.sl_law.specs.Saying.{cut_at}
 use Rattle.sl_lease_law.proofs.GrantLaws.{modes_follow}
 use Rattle.sl_lease_law.specs.Holding.{ModeRests}
 use Rattle.sl_leases.specs.Leases.{Mode_set, block_of_record, has_shared_on, is_at, spot_of_call}
 use Rattle.sl_resource_history.proofs.Above.{line_aligned}
-use Rattle.sl_resource_history.proofs.Calls.{split, stood}
+use Rattle.sl_resource_history.proofs.Calls.{split}
 use Rattle.sl_resource_history.proofs.Owning.{spot_is}
 use Rattle.sl_resource_history.specs.Promises.{spot_of_line}
 use Rattle.sl_resource_history.specs.Sending.{is_joined_there}
@@ -30,7 +30,7 @@ use Rattle.sl_trace.specs.declared.effects.Call.{Call}
 use Rattle.sl_trace.specs.declared.effects.Entry.{Entry}
 use Rattle.sl_words.proofs.CaseLaws.{false_is_true}
 use Rattle.std.proofs.Common.{ap, arith, refl, subst, sym, ◌∙◌}
-use Rattle.std.specs.Prelude.{Bool, Contains, List, Some, false, length, option_and_then, suc, true, ℕ, ◌%◌, ◌++◌, ◌<◌, ◌||◌, ◌∷◌, ◌≡◌, ◌≤◌}
+use Rattle.std.specs.Prelude.{Bool, Contains, List, false, length, option_and_then, suc, true, ℕ, ◌%◌, ◌++◌, ◌<◌, ◌||◌, ◌∷◌, ◌≡◌, ◌≤◌}
 
 -- ---- where all of it stands
 
@@ -100,8 +100,7 @@ marked_by p h xs r i f k e t late older m =
     let whole : IsFront p h xs i f back = record { run = k.run; its = k.its; later = sub.later; whole = sub.whole } in
     let was = lease_was st sub.later back s (spot_of_line r) t.call (subst (λ z. OfLease st z s (spot_of_line r) t.call) sub.whole t.lease)
     (last_in t.call.at (length sub.past) place) in
-    let named = stood_at p h xs i f back whole (spot_of_line r) was.was was.lease in
-    (
+    let named = stood_at p h xs i f back whole (spot_of_line r) was.was was.lease in (
       shared,
       m.own shared ∙ sym (cut_keeps st sub.entry sub.past s named.entries named.lawful named.known named.joined sub.place) ∙ named.generation,
     )

@@ -2,7 +2,7 @@
 -- resource of the header, of the session's lockspace.
 use Rattle.sl_area.specs.Layouts.{Layout}
 use Rattle.sl_area.specs.Places.{in_area, is_base}
-use Rattle.sl_grant_history.proofs.Telling.{IsFront, IsTold, IsWhole, OfLease, of_lease, told, told_block, told_on, whole_of}
+use Rattle.sl_grant_history.proofs.Telling.{IsFront, of_lease, told, told_block, told_on, whole_of}
 use Rattle.sl_grant_history.specs.Granted.{ResourceAt}
 use Rattle.sl_id_state.proofs.Bridge.{placed}
 use Rattle.sl_leases.specs.Leases.{block_written, is_on, lease_calls}
@@ -28,9 +28,7 @@ use Rattle.sl_trace.specs.declared.effects.Call.{Call}
 use Rattle.sl_trace.specs.declared.effects.Spot.{Spot}
 use Rattle.sl_words.proofs.WordLaws.{and_true}
 use Rattle.std.proofs.Common.{ap, refl, subst, sym, ◌∙◌}
-use Rattle.std.specs.Prelude.{Contains, List, Some, bytes_eq, true, ℕ, ◌%◌, ◌-◌, ◌≡◌}
-
-
+use Rattle.std.specs.Prelude.{Contains, List, Some, bytes_eq, true, ◌%◌, ◌-◌, ◌≡◌}
 
 -- ---- the area of a block
 
