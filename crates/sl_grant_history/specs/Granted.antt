@@ -10,6 +10,7 @@ use Rattle.sl_run.specs.Safety.{Found, IsSession, LawfulRun, SessionId, is_over,
 use Rattle.sl_run.specs.Worlds.{Program}
 use Rattle.sl_run.specs.declared.header.Header.{Header}
 use Rattle.sl_run.specs.declared.header.ResourceLine.{ResourceLine}
+use Rattle.sl_session_law.proofs.Naming.{kept}
 use Rattle.sl_trace.specs.Traces.{Trace, is_shared, spot_of_grant}
 use Rattle.sl_trace.specs.declared.effects.Entry.{Entry}
 use Rattle.sl_trace.specs.declared.effects.Grant.{Grant}
@@ -63,3 +64,9 @@ pub record SharedThere (p : Program) (h : Header) (xs : List Happening) (i : Ses
 abbrev pub SharedAreShared : Type 0
 SharedAreShared = (p : Program) (h : Header) (xs : List Happening) → LawfulRun p h xs → (i : SessionId) (f : Found) → IsSession (world_at p h xs) i f
     → IsFalse (is_over i f) → (at : Spot) → IsTrue (has_shared_on (trace_of f) f.session at) → SharedThere p h xs i at
+
+-- .. and under a holding's own instance.
+abbrev pub SharedAreUnder : Type 0
+SharedAreUnder = (p : Program) (h : Header) (xs : List Happening) → LawfulRun p h xs → (i : SessionId) (f : Found) → IsSession (world_at p h xs) i f
+    → IsFalse (is_over i f) → (at : Spot) (g : Grant) → Contains (holdings_on (trace_of f) f.session at) g → IsTrue (is_shared g.mode)
+    → (y : SharedThere p h xs i at) × (y.grant.won ≡ g.lver)
