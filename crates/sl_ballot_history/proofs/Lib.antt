@@ -21,3 +21,6 @@ pub mod Phase2Between
 pub mod Phase2Ones
 pub mod Phase2Is
 pub mod EndedGrown
+pub mod Ended
+pub mod EndedAll
+pub mod Led
