@@ -1,0 +1,14 @@
+//! What a lawful run keeps of the ballots of each resource.
+
+ghost use Rattle.sl_ballot_history.specs.Endings.{EndedBallotsEnd};
+ghost use Rattle.sl_ballot_history.specs.Leading.{LeadersFollowBallots};
+
+/// A ballot that has ended in a session's trace has ended in the history.
+pub fn ended_ballots_end()
+    ensures { EndedBallotsEnd }
+{}
+
+/// Leaders are written by winners.
+pub fn leaders_follow_ballots()
+    ensures { LeadersFollowBallots }
+{}
