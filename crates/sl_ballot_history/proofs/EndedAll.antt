@@ -1,7 +1,7 @@
 -- A ballot that has ended in a trace has ended in the history: the read that ended it stands in the whole trace as it stood then.
 use Rattle.sl_area.specs.Layouts.{Layout}
 use Rattle.sl_ballot_history.proofs.Ended.{AnsweredBy, EndingRead, ballot_ended}
-use Rattle.sl_ballot_history.proofs.EndedGrown.{Alike, Unkept, alike_blocks, grown_to, unkept}
+use Rattle.sl_ballot_history.proofs.EndedGrown.{Alike, alike_blocks, grown_to, unkept}
 use Rattle.sl_ballot_history.specs.Endings.{EndedBallotsEnd, holder_as}
 use Rattle.sl_ballots.specs.Ballots.{BallotEnded}
 use Rattle.sl_course_law.specs.Stamping.{Pairwise}
@@ -17,19 +17,18 @@ use Rattle.sl_resource_history.proofs.Looking.{By_area, By_phase, Gave, given_bl
 use Rattle.sl_resource_history.proofs.Standing.{pair_parts}
 use Rattle.sl_resource_history.specs.Promises.{history_of_line, spot_of_line}
 use Rattle.sl_resource_history.specs.Sending.{holder_of}
-use Rattle.sl_run.specs.Safety.{Found, SessionId, setting_in, trace_of, world_at}
-use Rattle.sl_run.specs.Worlds.{Stamp, World}
+use Rattle.sl_run.specs.Safety.{Found, setting_in, trace_of, world_at}
+use Rattle.sl_run.specs.Worlds.{World}
 use Rattle.sl_sector.specs.declared.sector.Block.{Block}
 use Rattle.sl_sector.specs.declared.sector.Owner.{Owner}
 use Rattle.sl_sessions.specs.Sessions.{Session, calls_of, is_call_of}
 use Rattle.sl_trace.specs.Traces.{Answered, Setting, Submitted, Trace, gave, new_call, submitted}
 use Rattle.sl_trace.specs.declared.effects.Call.{Call}
-use Rattle.sl_trace.specs.declared.effects.Entry.{Entry}
 use Rattle.sl_trace.specs.declared.effects.Spot.{Spot}
 use Rattle.sl_words.proofs.CaseLaws.{none_some, one_value}
 use Rattle.sl_words.proofs.WordLaws.{and_true}
 use Rattle.std.proofs.Common.{ap, append_assoc, arith, refl, subst, sym, ◌∙◌}
-use Rattle.std.specs.Prelude.{List, None, Option, Some, filter, length, suc, true, ℕ, ◌&&◌, ◌++◌, ◌<◌, ◌∷◌, ◌≡◌, ◌≤◌}
+use Rattle.std.specs.Prelude.{List, None, Option, Some, filter, length, suc, ℕ, ◌&&◌, ◌++◌, ◌<◌, ◌∷◌, ◌≡◌, ◌≤◌}
 
 -- ---- the read
 

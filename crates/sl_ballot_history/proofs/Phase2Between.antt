@@ -11,7 +11,7 @@ use Rattle.sl_resource_history.proofs.Lasts.{last_is_last}
 use Rattle.sl_resource_history.proofs.Owning.{before_is, is_before}
 use Rattle.sl_resource_history.proofs.Standing.{Standing}
 use Rattle.sl_resource_history.specs.Promises.{history_of_line, spot_of_line}
-use Rattle.sl_resource_history.specs.Sending.{Sent, all_sent, is_block_before, last_block_before, sender_of, sent_at, step_of, writes_block}
+use Rattle.sl_resource_history.specs.Sending.{Sent, all_sent, is_block_before, last_block_before, sender_of, step_of, writes_block}
 use Rattle.sl_run.specs.Runs.{Happening}
 use Rattle.sl_run.specs.Safety.{LawfulRun, world_at}
 use Rattle.sl_run.specs.Worlds.{Course, Daemon, Machine, Program, Stamp, World, daemons_on, machine_at}

@@ -1,5 +1,4 @@
 -- The block that a session wrote last before a call of its lease, in its trace and in the history: they are one.
-use Rattle.sl_ballot_history.proofs.Phase2Stands.{StandsAt}
 use Rattle.sl_course_law.specs.Stamping.{IsCourseOf, Pairwise}
 use Rattle.sl_law.specs.LawfulArea.{is_area_work}
 use Rattle.sl_lease_law.specs.Ways.{lease_among}

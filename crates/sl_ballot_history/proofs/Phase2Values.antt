@@ -2,11 +2,11 @@
 use Rattle.sl_area.specs.Layouts.{Layout}
 use Rattle.sl_area.specs.Places.{read_at as sector_read}
 use Rattle.sl_ballot_history.proofs.Phase2Reads.{read_told}
-use Rattle.sl_ballot_history.proofs.Phase2Shows.{HostShown, OwnRead, host_shown, none_shown}
+use Rattle.sl_ballot_history.proofs.Phase2Shows.{OwnRead, host_shown, none_shown}
 use Rattle.sl_ballot_history.specs.Endings.{holder_as}
 use Rattle.sl_ballots.specs.Ballots.{ProposesItself, ProposesSeen}
 use Rattle.sl_ballots.specs.History.{History}
-use Rattle.sl_leases.specs.Ballots.{ballot_blocks, known_block, value_of, value_to_write, whole_blocks, with_own}
+use Rattle.sl_leases.specs.Ballots.{ballot_blocks, value_to_write, whole_blocks, with_own}
 use Rattle.sl_resource_history.proofs.Looking.{By_area, By_phase, Gave}
 use Rattle.sl_resource_history.proofs.Owning.{layout_at}
 use Rattle.sl_resource_history.proofs.Values.{Another, Itself, Proposes, proposes}
@@ -28,7 +28,7 @@ use Rattle.std.proofs.Common.{ap, arith, inl, inr, refl, subst, sym, ◌∙◌}
 use Rattle.std.proofs.lemmas.Bool.Decides.{nat_tests}
 use Rattle.std.proofs.lemmas.Bool.{and_from}
 use Rattle.std.specs.List.{cons_option, range_with_len}
-use Rattle.std.specs.Prelude.{Bool, Contains, List, None, Option, Some, false, map, nat_le, slice_get, suc, true, zero, [], ℕ, ◌&&◌, ◌+◌, ◌-◌, ◌<◌, ◌∷◌, ◌≡◌, ◌≤◌, ◌⊎◌}
+use Rattle.std.specs.Prelude.{Bool, Contains, List, None, Option, Some, false, map, nat_le, slice_get, suc, true, zero, [], ℕ, ◌+◌, ◌-◌, ◌<◌, ◌∷◌, ◌≡◌, ◌≤◌, ◌⊎◌}
 
 -- ---- each block that the ballot goes by is of a host
 
