@@ -19,17 +19,15 @@ use Rattle.sl_grant_history.proofs.Telling.{IsFront, OfLease, before_in, by_case
 use Rattle.sl_grant_history.specs.Granted.{ResourceAt, SharedAreShared, SharedAreUnder, SharedThere}
 use Rattle.sl_holding_law.proofs.Granted.{holdings_are_granted}
 use Rattle.sl_holding_law.proofs.Places.{held_on, on_held, the_shared}
-use Rattle.sl_holding_law.proofs.Sharing.{shared_holdings_begin, shared_runs_begin}
+use Rattle.sl_holding_law.proofs.Sharing.{shared_holdings_begin}
 use Rattle.sl_holding_law.specs.Granting.{SharedRun}
 use Rattle.sl_holdings.specs.Holdings.{IsSharedTo, SharedGrant}
 use Rattle.sl_law.proofs.LawFacts.{lawful-front}
 use Rattle.sl_law.specs.Lawful.{Lawful}
 use Rattle.sl_law.specs.LawfulModes.{SharedByBallot}
-use Rattle.sl_law.specs.Saying.{older}
 use Rattle.sl_lease_law.proofs.FrontLaws.{got}
-use Rattle.sl_leases.specs.Leases.{ended_ballot, ended_ballots, freed, has_shared_on, is_free_write, lease_calls}
+use Rattle.sl_leases.specs.Leases.{ended_ballot, ended_ballots, has_shared_on, is_free_write, lease_calls}
 use Rattle.sl_place_law.proofs.Looks.{answered_below}
-use Rattle.sl_resource_history.proofs.Calls.{stood}
 use Rattle.sl_resource_history.proofs.Shown.{holder_is}
 use Rattle.sl_resource_history.specs.Promises.{history_of_line, spot_of_line}
 use Rattle.sl_resource_history.specs.Sending.{Sent, holder_of, sent_at, step_of, writes_block}
