@@ -24,3 +24,4 @@ pub mod EndedGrown
 pub mod Ended
 pub mod EndedAll
 pub mod Led
+pub mod EndedJoined
