@@ -1,16 +1,15 @@
 -- Who ends a ballot has written its block, and so has verified the leader of a resource there: the area is a resource's, and the session
 -- has joined its lockspace.
 use Rattle.sl_area.specs.Layouts.{Layout}
-use Rattle.sl_area.specs.Places.{is_base}
 use Rattle.sl_ballot_history.proofs.Ended.{EndingRead}
-use Rattle.sl_ballot_history.proofs.EndedAll.{EndsIn, ends_in}
+use Rattle.sl_ballot_history.proofs.EndedAll.{ends_in}
 use Rattle.sl_ballot_history.proofs.Phase2Hosts.{written_in}
-use Rattle.sl_ballot_history.proofs.Phase2Stands.{StandsAt, stands_at}
+use Rattle.sl_ballot_history.proofs.Phase2Stands.{stands_at}
 use Rattle.sl_ballot_history.specs.Enders.{EndersAreJoined}
 use Rattle.sl_law.specs.LawfulArea.{LawfulAreaWrite}
 use Rattle.sl_lease_law.proofs.EndLaws.{ended}
 use Rattle.sl_lease_law.specs.Ways.{lease_among}
-use Rattle.sl_leases.specs.Leases.{block_of_record, block_written, is_on, lease_calls, spot_of_call}
+use Rattle.sl_leases.specs.Leases.{block_of_record, is_on, lease_calls, spot_of_call}
 use Rattle.sl_place_law.proofs.Finding.{same_number}
 use Rattle.sl_place_law.proofs.Homing.{at_home}
 use Rattle.sl_place_law.proofs.Leased.{IsLeased, verified_leased}
@@ -21,7 +20,7 @@ use Rattle.sl_resource_history.proofs.Calls.{IsOwned, block_sent, block_works, m
 use Rattle.sl_resource_history.proofs.Owning.{session_as, spot_is}
 use Rattle.sl_resource_history.proofs.Standing.{parts}
 use Rattle.sl_resource_history.specs.Promises.{spot_of_line}
-use Rattle.sl_resource_history.specs.Sending.{Sent, all_sent, block_of_course, is_joined_there, sender_of, writes_block}
+use Rattle.sl_resource_history.specs.Sending.{Sent, all_sent, is_joined_there, sender_of, writes_block}
 use Rattle.sl_run.specs.Runs.{Happening}
 use Rattle.sl_run.specs.Safety.{Found, IsSession, LawfulRun, SessionId, setting_in, trace_of, world_at}
 use Rattle.sl_run.specs.Worlds.{Program, World}
@@ -31,12 +30,12 @@ use Rattle.sl_sector.specs.declared.sector.Block.{Block}
 use Rattle.sl_sector.specs.declared.sector.Rec.TheVariants.{BlockIs}
 use Rattle.sl_session_law.specs.Promises.{front_of, made_as}
 use Rattle.sl_sessions.specs.Sessions.{Session, session_numbered}
-use Rattle.sl_trace.specs.Traces.{Setting, Submitted, Trace, new_call, record_of, submitted}
+use Rattle.sl_trace.specs.Traces.{Setting, Submitted, Trace, record_of, submitted}
 use Rattle.sl_trace.specs.declared.effects.Call.{Call}
 use Rattle.sl_trace.specs.declared.effects.Spot.{Spot}
 use Rattle.sl_words.proofs.WordLaws.{and_true}
-use Rattle.std.proofs.Common.{ap, append_assoc, refl, subst, sym, ◌∙◌}
-use Rattle.std.specs.Prelude.{Bool, Contains, List, Option, Some, is_some, nat_lt, option_and_then, true, ℕ, ◌%◌, ◌&&◌, ◌++◌, ◌-◌, ◌==◌, ◌^◌, ◌∷◌, ◌≡◌}
+use Rattle.std.proofs.Common.{ap, append_assoc, refl, sym, ◌∙◌}
+use Rattle.std.specs.Prelude.{Contains, List, Option, Some, is_some, nat_lt, option_and_then, true, ℕ, ◌%◌, ◌++◌, ◌-◌, ◌==◌, ◌^◌, ◌∷◌, ◌≡◌}
 
 -- ---- who writes a block
 

@@ -15,10 +15,10 @@ use Rattle.sl_leases.specs.Leases.{block_submitted, is_lease_call, is_on, leader
 use Rattle.sl_place_law.proofs.Finding.{same_number}
 use Rattle.sl_resource_history.proofs.Above.{IsAmong, answer_step, answered_before, line_aligned, reads_work, told_spot}
 use Rattle.sl_resource_history.proofs.Calls.{IsSentTo, IsWork, found_at, leader_works, worker_joined}
-use Rattle.sl_resource_history.proofs.Standing.{Standing, standing}
+use Rattle.sl_resource_history.proofs.Standing.{standing}
 use Rattle.sl_resource_history.specs.Histories.{history_leader, no_leader}
 use Rattle.sl_resource_history.specs.Promises.{NamesDiffer, history_of_line, spot_of_line}
-use Rattle.sl_resource_history.specs.Sending.{Sent, holder_of, leader_of_course, sender_of, sent_at, step_of, writes_leader}
+use Rattle.sl_resource_history.specs.Sending.{Sent, holder_of, leader_of_course, sender_of, sent_at, writes_leader}
 use Rattle.sl_run.specs.Runs.{Happening}
 use Rattle.sl_run.specs.Safety.{Found, LawfulRun, setting_in, trace_of, world_at}
 use Rattle.sl_run.specs.Worlds.{Program, World}
@@ -37,7 +37,7 @@ use Rattle.sl_words.proofs.CaseLaws.{false_is_true}
 use Rattle.sl_words.proofs.WordLaws.{and_true}
 use Rattle.std.proofs.Common.{ap, append_assoc, refl, subst, sym, ◌∙◌}
 use Rattle.std.specs.Option.{option_map_or}
-use Rattle.std.specs.Prelude.{Bool, Contains, List, None, Option, Some, filter, is_some, option_and_then, true, [], ℕ, ◌&&◌, ◌++◌, ◌==◌, ◌∷◌, ◌≡◌, ◌≤◌}
+use Rattle.std.specs.Prelude.{Contains, List, None, Option, Some, filter, is_some, option_and_then, true, [], ℕ, ◌&&◌, ◌++◌, ◌==◌, ◌∷◌, ◌≡◌, ◌≤◌}
 
 -- ---- an end among the calls before
 

@@ -1,5 +1,4 @@
 -- The block that a session wrote last before a call of its lease, in its trace and in the history: they are one.
-use Rattle.sl_ballot_history.proofs.Phase2Stands.{StandsAt}
 use Rattle.sl_course_law.specs.Stamping.{IsCourseOf, Pairwise}
 use Rattle.sl_law.specs.LawfulArea.{is_area_work}
 use Rattle.sl_lease_law.specs.Ways.{lease_among}
@@ -117,7 +116,7 @@ pub record OwnLast (w : World) (at : Spot) (x : Sent) (s : Standing w x) (write 
   pub newest : (v : Sent) → Contains (all_sent w) v → is_on w.layout at v.course.call ≡ true → writes_block v.course ≡ true → sender_of v ≡ sender_of x → step_of v < step_of x
       → step_of v ≤ step_of sent
 
-both_ways : (a b : ℕ) → a ≤ b → b ≤ a → a ≡ b
+pub both_ways : (a b : ℕ) → a ≤ b → b ≤ a → a ≡ b
 both_ways a b p q = omega (arith, p, q)
 
 or_left : (a b : Bool) → a ≡ true → (a || b) ≡ true

@@ -56,7 +56,8 @@ pub record ReadTold (w : World) (z : Sent) (s : Standing w z) (bs : List (Option
   pub sampled : bytes ≡ z.course.sampled
   pub reads : reads_blocks z.course ≡ true
 
-gave_bytes : (g : Layout) (q : Submitted) (bs : List (Option Block)) → Gave g q bs → (bytes : List ℕ) × (gave q ≡ Some bytes)
+-- What gave blocks gave bytes.
+pub gave_bytes : (g : Layout) (q : Submitted) (bs : List (Option Block)) → Gave g q bs → (bytes : List ℕ) × (gave q ≡ Some bytes)
 gave_bytes g q bs (By_area bytes told is same) = (bytes, told)
 gave_bytes g q bs (By_phase bytes told alone is same) = (bytes, told)
 
