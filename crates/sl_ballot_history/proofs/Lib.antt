@@ -25,3 +25,4 @@ pub mod Ended
 pub mod EndedAll
 pub mod Led
 pub mod EndedJoined
+pub mod KeptProven
