@@ -129,6 +129,10 @@ block_is_work c writes = by (option_and_then block_of_record (record_of c.call.o
   by None is h = absurd (false_is_true h)
   by (Some b) is h = or_left (is_write c.call.op) _ (writes_write c.call.op b is)
 
+-- What is found is what it is.
+pub found_as : {A : Type 0} (o : Option A) (x y : A) → o ≡ Some x → x ≡ y → o ≡ Some y
+found_as o x y found is = found ∙ ap (λ z. Some z) is
+
 -- Two blocks of one step are one.
 pub one_block : (p : Program) (h : Header) (xs : List Happening) → LawfulRun p h xs → (r : ResourceLine) → Contains h.resources r → (y z : Sent)
     → Contains (all_sent (world_at p h xs)) y → Contains (all_sent (world_at p h xs)) z → is_on (world_at p h xs).layout (spot_of_line r) y.course.call ≡ true
@@ -179,6 +183,6 @@ own_last p h xs run r there x s on work area write found =
       pair = l.pair;
       before = less;
       sender = same;
-      last = y.1 ∙ ap (λ v. Some v) is;
+      last = found_as (find P (all_sent w)) y.0 z y.1 is;
       newest = λ v vin von vwrites vsame vless. l.newest v.course (behind w x s v vin vsame vless) (passes_test p h xs run at x s v vin von vwrites vsame) vwrites;
     }

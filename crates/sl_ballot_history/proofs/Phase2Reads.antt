@@ -1,7 +1,7 @@
 -- A read of blocks, as its trace and the history have it: what it gave of a host's place is what the landing spells that it shows there.
 use Rattle.sl_area.specs.Layouts.{Layout, record_in, sector_with}
 use Rattle.sl_area.specs.Places.{block_offset, blocks_in, fresh_block, read_at as sector_read, sector_of}
-use Rattle.sl_ballot_history.proofs.Phase2First.{first_spells}
+use Rattle.sl_ballot_history.proofs.Phase2First.{fresh_at_first}
 use Rattle.sl_ballot_history.proofs.Phase2Hosts.{block_host}
 use Rattle.sl_course_law.specs.Stamping.{AnswersAgree, IsAnsweredAs}
 use Rattle.sl_landing_law.specs.Landings.{LeftBy}
@@ -174,7 +174,7 @@ whole_spells p h xs run r there k host i l at whole =
       | inl first ↦
           record {
             block = fresh_block k;
-            spells = ap (λ (y : Landing). block_in k (record_in w.layout y.bytes)) first ∙ ap (λ x. block_in k x) (first_spells p h xs run r there k host)
+            spells = ap (λ (y : Landing). block_in k (record_in w.layout y.bytes)) first ∙ ap (λ x. block_in k x) (fresh_at_first p h xs run r there k host)
                 ∙ choose_it (k == k) (fresh_block k) (equal_numbers k k refl);
           }
       | inr b ↦
