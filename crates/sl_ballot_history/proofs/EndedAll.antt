@@ -2,6 +2,7 @@
 use Rattle.sl_area.specs.Layouts.{Layout}
 use Rattle.sl_ballot_history.proofs.Ended.{AnsweredBy, EndingRead, ballot_ended}
 use Rattle.sl_ballot_history.proofs.EndedGrown.{Alike, alike_blocks, grown_to, unkept}
+use Rattle.sl_ballot_history.proofs.Phase2Reads.{gave_bytes}
 use Rattle.sl_ballot_history.specs.Endings.{EndedBallotsEnd, holder_as}
 use Rattle.sl_ballots.specs.Ballots.{BallotEnded}
 use Rattle.sl_course_law.specs.Stamping.{Pairwise}
@@ -13,7 +14,7 @@ use Rattle.sl_leases.specs.Leases.{Phase2_read, block_submitted, blocks_given, i
 use Rattle.sl_place_law.proofs.Daemons.{daemons_are_fine, stamp_order}
 use Rattle.sl_place_law.proofs.Finding.{same_number}
 use Rattle.sl_place_law.proofs.Reading.{answer_gave, session_inside}
-use Rattle.sl_resource_history.proofs.Looking.{By_area, By_phase, Gave, given_blocks}
+use Rattle.sl_resource_history.proofs.Looking.{given_blocks}
 use Rattle.sl_resource_history.proofs.Standing.{pair_parts}
 use Rattle.sl_resource_history.specs.Promises.{history_of_line, spot_of_line}
 use Rattle.sl_resource_history.specs.Sending.{holder_of}
@@ -22,7 +23,7 @@ use Rattle.sl_run.specs.Worlds.{World}
 use Rattle.sl_sector.specs.declared.sector.Block.{Block}
 use Rattle.sl_sector.specs.declared.sector.Owner.{Owner}
 use Rattle.sl_sessions.specs.Sessions.{Session, calls_of, is_call_of}
-use Rattle.sl_trace.specs.Traces.{Answered, Setting, Submitted, Trace, gave, new_call, submitted}
+use Rattle.sl_trace.specs.Traces.{Answered, Setting, Submitted, Trace, new_call, submitted}
 use Rattle.sl_trace.specs.declared.effects.Call.{Call}
 use Rattle.sl_trace.specs.declared.effects.Spot.{Spot}
 use Rattle.sl_words.proofs.CaseLaws.{none_some, one_value}
@@ -43,10 +44,6 @@ given_by g was is bs k (Some a) told gives = ap (λ c. given_with g c is.answer)
 -- What a call gave what became of it gives.
 pub given_stays : (g : Layout) (was is : Submitted) (bs : List (Option Block)) → Alike was is → blocks_given g was ≡ Some bs → blocks_given g is ≡ Some bs
 given_stays g was is bs k gives = given_by g was is bs k was.answer refl gives
-
-gave_bytes : (g : Layout) (q : Submitted) (bs : List (Option Block)) → Gave g q bs → (bytes : List ℕ) × (gave q ≡ Some bytes)
-gave_bytes g q bs (By_area bytes told is same) = (bytes, told)
-gave_bytes g q bs (By_phase bytes told alone is same) = (bytes, told)
 
 -- A call that gave blocks was answered.
 pub given_answered : (g : Layout) (q : Submitted) (bs : List (Option Block)) → blocks_given g q ≡ Some bs → (a : Answered) × (q.answer ≡ Some a)

@@ -24,4 +24,5 @@ pub mod EndedGrown
 pub mod Ended
 pub mod EndedAll
 pub mod Led
+pub mod EndedJoined
 pub mod KeptProven

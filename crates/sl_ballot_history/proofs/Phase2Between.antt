@@ -1,6 +1,6 @@
 -- Between a block and the next of its session: the block was answered ok, and then a read was submitted, before which the block is the
 -- session's last.
-use Rattle.sl_ballot_history.proofs.Phase2Last.{OwnLast, one_block}
+use Rattle.sl_ballot_history.proofs.Phase2Last.{OwnLast, both_ways, one_block}
 use Rattle.sl_course_law.specs.Stamping.{AnswersAgree, IsAnsweredAs, IsCourseOf, stamp_in}
 use Rattle.sl_law.specs.LawfulBlock.{ReadAfter}
 use Rattle.sl_leases.specs.Leases.{is_on}
@@ -55,9 +55,6 @@ ok_is p h xs run r there y has on writes n k =
     ∙ ap (λ b. ok_by b y.course.answered) k.done ∙ ap (λ o. ok_by true o) k.answered
 
 -- ---- the last before a read
-
-both_ways : (a b : ℕ) → a ≤ b → b ≤ a → a ≡ b
-both_ways a b p q = omega (arith, p, q)
 
 less_more : (a b c : ℕ) → a < b → b < c → a < c
 less_more a b c p q = omega (arith, p, q)

@@ -183,7 +183,7 @@ none_shown p h xs run r there z own bs o k host =
 
 -- ---- nothing stops the ballot
 
-none_below : (a b : ℕ) → a ≡ 0 → a ≤ b
+pub none_below : (a b : ℕ) → a ≡ 0 → a ≤ b
 none_below a b h = omega (arith, h)
 
 host_clear : (h : History) (read k : ℕ) (own : Block) (bs : List (Option Block)) → HostShown h read k own bs → IsClear own bs
