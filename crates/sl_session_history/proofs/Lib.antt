@@ -1,1 +1,2 @@
 pub mod FollowingJoins
+pub mod Following
