@@ -33,7 +33,7 @@ fronts_compare {A} (x ∷ a) ra (y ∷ b) rb same = by (fronts_compare a ra b rb
   by (inl r) = inl (r.0, ap (λ z. z ∷ b) (sym head) ∙ ap (λ zs. x ∷ zs) r.1)
   by (inr r) = inr (r.0, r.1, ap (λ z. z ∷ a) head ∙ ap (λ zs. y ∷ zs) r.2)
 
-append_apart : {A : Type 0} (a b c : List A) → (a ++ b) ++ c ≡ a ++ (b ++ c)
+pub append_apart : {A : Type 0} (a b c : List A) → (a ++ b) ++ c ≡ a ++ (b ++ c)
 append_apart [] b c = refl
 append_apart (x ∷ a) b c = ap (λ xs. x ∷ xs) (append_apart a b c)
 

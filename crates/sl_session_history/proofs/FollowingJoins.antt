@@ -224,7 +224,7 @@ pub record FirstJoined (p : Program) (h : Header) (xs : List Happening) (k : Ses
 abbrev FirstJoins : Program → Header → List Happening → Type 0
 FirstJoins p h xs = (k : SessionId) (g : Found) → IsSession (world_at p h xs) k g → HasJoined g → FirstJoined p h xs k
 
-append_more : (now rest : List Happening) (x : Happening) → (now ++ rest) ++ x ∷ [] ≡ now ++ (rest ++ x ∷ [])
+pub append_more : (now rest : List Happening) (x : Happening) → (now ++ rest) ++ x ∷ [] ≡ now ++ (rest ++ x ∷ [])
 append_more [] rest x = refl
 append_more (y ∷ now) rest x = ap (λ xs. y ∷ xs) (append_more now rest x)
 
