@@ -1,4 +1,5 @@
 pub mod Named
+pub mod FollowingDaemons
 pub mod FollowingJoins
 pub mod Following
 pub mod Settled

@@ -90,8 +90,8 @@ before_is w r k n x b early =
     (and_from _ _ (and_from _ _ (equal_numbers x.machine x.machine refl) (equal_numbers x.course.daemon x.course.daemon refl))
     (equal_numbers x.course.call.session x.course.call.session refl))
 
-never_after : (z n x s : ℕ) → z ≤ x → x < s → s ≤ z → ⊥
-never_after z n x s p q t = omega (arith, p, q, t)
+never_after : (z x s : ℕ) → z ≤ x → x < s → s ≤ z → ⊥
+never_after z x s p q t = omega (arith, p, q, t)
 
 -- A block of the reader's host that was answered ok before the read isn't later than the reader's last own block.
 own_is_newest : (p : Program) (h : Header) (xs : List Happening) → LawfulRun p h xs → (r : ResourceLine) → Contains h.resources r → (k : ℕ) (x y z : Sent) → BlockSent (world_at p h xs) r k x
@@ -108,7 +108,7 @@ own_is_newest p h xs run r there k x y z b one two s told late last (inr (inl ov
     sends_before p h xs run r x y one own (subst (λ i. IsOverWhenJoins p h xs (sender_of x) i) f.sender over)
 own_is_newest p h xs run r there k x y z b one two s told late last (inr (inr over)) =
     let before = sends_before p h xs run r z x two one over in
-    absurd (never_after (step_of z) 0 (step_of x) s.step before told late)
+    absurd (never_after (step_of z) (step_of x) s.step before told late)
 
 -- ---- what a read shows
 
