@@ -1,3 +1,9 @@
 pub mod Named
 pub mod OrderedFronts
 pub mod OrderedDaemons
+pub mod FollowingDaemons
+pub mod FollowingJoins
+pub mod Following
+pub mod Settled
+pub mod FollowingSessions
+pub mod Register
