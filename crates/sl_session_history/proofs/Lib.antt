@@ -6,3 +6,6 @@ pub mod OrderedStood
 pub mod OrderedNames
 pub mod Joined
 pub mod OrderedOver
+pub mod OrderedSilent
+pub mod OrderedWork
+pub mod OrderedOnce
