@@ -9,3 +9,5 @@ pub mod OrderedOver
 pub mod OrderedSilent
 pub mod OrderedWork
 pub mod OrderedOnce
+pub mod Ordered
+pub mod EvidenceJoining

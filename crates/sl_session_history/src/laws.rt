@@ -1,6 +1,6 @@
 //! What the sessions of each resource's history promise.
 
-ghost use Rattle.sl_session_history.specs.Promises.{HistoriesEndEarlier, JoinedAreHosts, NamesAreApart};
+ghost use Rattle.sl_session_history.specs.Promises.{HistoriesAreInOrder, HistoriesEndEarlier, JoinedAreHosts, NamesAreApart};
 
 /// Joined sessions of one lockspace have different names for ballots.
 pub fn names_are_apart()
@@ -15,4 +15,9 @@ pub fn joined_are_hosts()
 /// Where a session joins, all of its id that joined before are over.
 pub fn histories_end_earlier()
     ensures { HistoriesEndEarlier }
+{}
+
+/// Only joined sessions act, one of an id joins at a step, and over is final, silent and settled.
+pub fn histories_are_in_order()
+    ensures { HistoriesAreInOrder }
 {}
