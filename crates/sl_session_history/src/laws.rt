@@ -1,6 +1,6 @@
 //! What the sessions of each resource's history promise.
 
-ghost use Rattle.sl_session_history.specs.Promises.{HistoriesAreInOrder, HistoriesEndEarlier, JoinedAreHosts, NamesAreApart};
+ghost use Rattle.sl_session_history.specs.Promises.{HistoriesAreInOrder, HistoriesEndEarlier, HistoriesHaveTrueEvidence, JoinedAreHosts, NamesAreApart};
 
 /// Joined sessions of one lockspace have different names for ballots.
 pub fn names_are_apart()
@@ -20,4 +20,9 @@ pub fn histories_end_earlier()
 /// Only joined sessions act, one of an id joins at a step, and over is final, silent and settled.
 pub fn histories_are_in_order()
     ensures { HistoriesAreInOrder }
+{}
+
+/// A session that somebody has evidence against is over, and none joins later.
+pub fn histories_have_true_evidence()
+    ensures { HistoriesHaveTrueEvidence }
 {}
