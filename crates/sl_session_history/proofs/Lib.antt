@@ -7,3 +7,15 @@ pub mod Following
 pub mod Settled
 pub mod FollowingSessions
 pub mod Register
+pub mod OrderedTraces
+pub mod OrderedStood
+pub mod OrderedNames
+pub mod Joined
+pub mod OrderedOver
+pub mod OrderedSilent
+pub mod OrderedWork
+pub mod OrderedOnce
+pub mod Ordered
+pub mod EvidenceJoining
+pub mod EvidenceFronts
+pub mod Evidence
