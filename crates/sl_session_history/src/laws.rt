@@ -21,6 +21,8 @@ pub fn sessions_follow()
 /// A read shows, of each host, what was answered ok before it was submitted, or what was submitted later.
 pub fn histories_show_newest()
     ensures { HistoriesShowNewest }
+{}
+
 /// Where a session joins, all of its id that joined before are over.
 pub fn histories_end_earlier()
     ensures { HistoriesEndEarlier }
