@@ -1,0 +1,5 @@
+pub mod Seeking
+pub mod Sames
+pub mod Eaches
+pub mod Blocks
+pub mod Trying
