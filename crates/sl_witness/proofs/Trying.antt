@@ -27,11 +27,11 @@ use Rattle.sl_run.specs.Safety.{world_at}
 use Rattle.sl_law.specs.LawfulBlock.{LawfulBlock}
 use Rattle.sl_examples.specs.Cheap.{cheap_program}
 use Rattle.sl_witness.specs.Witness.{witness_header, witness_run}
-use Rattle.sl_witness.proofs.Blocks.{seek_blocks}
+use Rattle.sl_witness.proofs.Traces.{seek_each_daemon}
 use Rattle.sl_witness.proofs.Eaches.{seek_each_entry}
 use Rattle.sl_witness.proofs.Seeking.{seek_all}
 use Rattle.sl_trace.specs.Traces.{EachEntry}
 
-trial : IsSome (seek_all (λ d. EachEntry (LawfulBlock d.setting) d.trace) (λ d. seek_each_entry (LawfulBlock d.setting) (seek_blocks d.setting) d.trace) (daemons_of (world_at cheap_program witness_header witness_run)))
+trial : IsSome (seek_each_daemon (world_at cheap_program witness_header witness_run))
 unfolding after_answer after_answer_of after_end after_free after_input after_join_answer after_lease_answer after_renewal after_request_read after_see_request after_survey after_value_read area_next before_input begin_next begin_recoveries begin_recovery block_rules carry_decision carry_delta carry_lease checked_part count_event decided decoded delta_rules digits due due_step event_forms event_tests field_bytes fields_of finish finish_session first_change forms header_forms header_of header_tests initial_record instance_of join_on_wake kill_holders kills known leader_rules lease_next machine_of_header magic next_after_deciding next_after_first next_after_verify next_after_watch next_in_joining next_on_wake next_renewal on_exit on_line on_spawned on_wake padded_text pass_tests phase1_block phase2_block refuse renew_on_wake reply_words request_refusal request_rules see_requests settle settle_next settle_on_wake settlings signal_and_refuse spelling stop_of take_input time_out time_outs u32_at u32_bytes u64_at u64_bytes value_rules
 trial = refl
