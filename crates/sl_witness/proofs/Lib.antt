@@ -9,4 +9,6 @@ pub mod Leaders
 pub mod Modes
 pub mod Watches
 pub mod Traces
-pub mod Trying
+pub mod Headers
+pub mod Running
+pub mod Taking
