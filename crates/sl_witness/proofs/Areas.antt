@@ -9,13 +9,14 @@ use Rattle.sl_trace.specs.Traces.{Setting, Submitted, Trace, is_write, record_of
 use Rattle.sl_trace.specs.declared.effects.Entry.{Entry}
 use Rattle.sl_trace.specs.declared.effects.LeaseStep.TheVariants.{ClearMode, FreeLeader, Phase1Read, Phase1Write, Phase2Read, Phase2Write, ReadArea, ReadBeforeFree, SetMode, TakeLeader}
 use Rattle.sl_trace.specs.declared.effects.LeaseStep.{LeaseStep}
-use Rattle.sl_trace.specs.declared.effects.Purpose.TheVariants.{Joining, Lease, Leaving, Renewal, RequestRead, RequestWrite, SeeRequest, Survey, ValueRead, ValueWrite}
+use Rattle.sl_trace.specs.declared.effects.Purpose.TheVariants.{Lease, Renewal, SeeRequest, Survey}
 use Rattle.sl_trace.specs.declared.effects.Purpose.{Purpose}
 use Rattle.sl_trace.specs.declared.effects.Spot.{Spot}
 use Rattle.sl_witness.proofs.Eaches.{seek_each_call}
 use Rattle.sl_witness.proofs.Sames.{not_seen, seek_read_op, sees, some_same}
 use Rattle.sl_witness.proofs.Seeking.{seek_any, seek_empty, seek_false, seek_for, seek_if, seek_same, seek_true, ◌>>=◌}
-use Rattle.std.specs.Prelude.{Bool, IsFalse, IsTrue, None, Option, Some, is_some, ℕ, ◌&&◌, ◌+◌, ◌≡◌, []}
+use Rattle.sl_words.proofs.CaseLaws.{not_both}
+use Rattle.std.specs.Prelude.{IsFalse, IsTrue, None, Option, Some, is_some, ℕ, ◌&&◌, ◌+◌, ◌≡◌, []}
 
 -- A leader that the session has read there, and that names its lockspace.
 abbrev pub seek_verified : (st : Setting) (es : Trace) (s : Session) (at : Spot) → Option ((l : Leader) × HasVerified st es s at l.resource)
@@ -39,16 +40,13 @@ seek_area_write st es s c r = do
 abbrev pub WritesWell : Setting → Trace → Session → Submitted → Rec → Type 0
 WritesWell st es s c r = IsFalse (is_delta_record r) → IsTrue (is_area_work c.call.purpose) × LawfulAreaWrite st es s c r
 
-pub by_delta : (P : Type 0) (b : Bool) → IsTrue b → IsFalse b → P
-by_delta P b p q = absurd cc
-
 abbrev pub seek_writes_well : (st : Setting) (es : Trace) (s : Session) (c : Submitted) (r : Rec) → Option (WritesWell st es s c r)
 seek_writes_well st es s c r = elim (seek_true (is_delta_record r)) [
-  | Some h ↦ Some (by_delta _ (is_delta_record r) h)
+  | Some h ↦ Some (λ other. absurd (not_both (is_delta_record r) h other))
   | None ↦ do
-      work ← seek_true (is_area_work c.call.purpose)
-      write ← seek_area_write st es s c r
-      Some (λ h. (work, write))
+    work ← seek_true (is_area_work c.call.purpose)
+    write ← seek_area_write st es s c r
+    Some (λ h. (work, write))
 ]
 
 abbrev pub seek_area_read : (st : Setting) (at : Spot) (c : Submitted) → Option (IsAreaRead st at c)
@@ -89,11 +87,11 @@ seek_sees es s p = do
 abbrev pub seek_areas : (st : Setting) (past : Trace) (e : Entry) → Option (LawfulArea st past e)
 seek_areas st past e = do
   active ← seek_each_call st (λ es s c. IsTrue (is_area_work c.call.purpose) → IsTrue (is_active st es s))
-    (λ es s c. seek_if (is_area_work c.call.purpose) (seek_true (is_active st es s))) past e
+      (λ es s c. seek_if (is_area_work c.call.purpose) (seek_true (is_active st es s))) past e
   writes ← seek_each_call st (λ es s c. (r : Rec) → record_of c.call.op ≡ Some r → WritesWell st es s c r)
-    (λ es s c. seek_for (WritesWell st es s c) (record_of c.call.op) (seek_writes_well st es s c)) past e
+      (λ es s c. seek_for (WritesWell st es s c) (record_of c.call.op) (seek_writes_well st es s c)) past e
   alone ← seek_each_call st (λ es s c. IsTrue (is_block_work c && is_area_work c.call.purpose) → open_block_work st es s (spot_of_call st.layout c) ≡ [])
-    (λ es s c. seek_if (is_block_work c && is_area_work c.call.purpose) (seek_empty (open_block_work st es s (spot_of_call st.layout c)))) past e
+      (λ es s c. seek_if (is_block_work c && is_area_work c.call.purpose) (seek_empty (open_block_work st es s (spot_of_call st.layout c)))) past e
   reads ← seek_each_call st (λ es s c. LawfulLeaseRead st c) (λ es s c. seek_right_read st (spot_of_call st.layout c) c c.call.purpose) past e
   seen ← seek_each_call st (λ es s c. c.call.purpose ≡ SeeRequest → IsTrue (is_some (joined_after es s))) (λ es s c. seek_sees es s c.call.purpose) past e
   Some (record { active = active; writes = writes; alone = alone; reads = reads; sees = seen })

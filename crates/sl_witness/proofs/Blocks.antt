@@ -1,6 +1,6 @@
 -- A search for the law of block writing, with the one reason that the run needs: the leader before is free, or its owner is over.
 use Rattle.sl_area.specs.Places.{area_blocks, leader_of}
-use Rattle.sl_law.specs.LawfulBlock.{AreaRead, BeginReason, Leader_before, LawfulBlock, LawfulBlockStep, LawfulBlockWrite, LawfulPhase1, LawfulPhase2, LawfulPhase2Read, ReadAfter}
+use Rattle.sl_law.specs.LawfulBlock.{BeginReason, Leader_before, LawfulBlock, LawfulBlockStep, LawfulBlockWrite, LawfulPhase1, LawfulPhase2, LawfulPhase2Read, ReadAfter}
 use Rattle.sl_leases.specs.Ballots.{ballot_blocks, moded_block, phase1_block, phase2_block, stop_of}
 use Rattle.sl_leases.specs.Leases.{Phase1_read, Phase1_write, Phase2_read, Phase2_write, block_written, blocks_given, freed, is_area_read, is_at, is_leader_of, last_blocks, lease_calls, lease_step, own_block, spot_of_call}
 use Rattle.sl_sector.specs.declared.sector.Block.{Block}
@@ -9,10 +9,8 @@ use Rattle.sl_sessions.specs.Sessions.{Session, me}
 use Rattle.sl_sessions.specs.Watching.{counted_over}
 use Rattle.sl_trace.specs.Traces.{Setting, Submitted, Trace, gave}
 use Rattle.sl_trace.specs.declared.effects.Entry.{Entry}
-use Rattle.sl_trace.specs.declared.effects.LeaseStep.TheVariants.{ClearMode, FreeLeader, Phase1Read, Phase1Write, Phase2Read, Phase2Write, ReadArea, ReadBeforeFree, SetMode, TakeLeader}
+use Rattle.sl_trace.specs.declared.effects.LeaseStep.TheVariants.{Phase1Write, Phase2Write}
 use Rattle.sl_trace.specs.declared.effects.LeaseStep.{LeaseStep}
-use Rattle.sl_trace.specs.declared.effects.Purpose.TheVariants.{Lease}
-use Rattle.sl_trace.specs.declared.effects.Purpose.{Purpose}
 use Rattle.sl_trace.specs.declared.effects.Spot.{Spot}
 use Rattle.sl_trace.specs.declared.effects.Work.{Work}
 use Rattle.sl_witness.proofs.Eaches.{seek_each_call}
@@ -31,8 +29,8 @@ abbrev pub seek_free_or_over : (st : Setting) (es : Trace) (s : Session) (l : Le
 seek_free_or_over st es s l = elim (seek_false l.held) [
   | Some h ↦ Some (inl h)
   | None ↦ do
-      h ← seek_true (counted_over st es s l.owner l.generation)
-      Some (inr h)
+    h ← seek_true (counted_over st es s l.owner l.generation)
+    Some (inr h)
 ]
 
 -- What a read of the area shows of n.
@@ -152,7 +150,7 @@ seek_block_write st es s c b = seek_block_of st es s (spot_of_call st.layout c) 
 abbrev pub seek_blocks : (st : Setting) (past : Trace) (e : Entry) → Option (LawfulBlock st past e)
 seek_blocks st past e = do
   writes ← seek_each_call st (λ es s c. (b : Block) → block_written c ≡ Some b → LawfulBlockWrite st es s c b)
-    (λ es s c. seek_for (LawfulBlockWrite st es s c) (block_written c) (seek_block_write st es s c)) past e
+      (λ es s c. seek_for (LawfulBlockWrite st es s c) (block_written c) (seek_block_write st es s c)) past e
   reads ← seek_each_call st (λ es s c. IsTrue (is_at Phase2_read c) → LawfulPhase2Read st es s (spot_of_call st.layout c) c)
-    (λ es s c. seek_if (is_at Phase2_read c) (seek_phase2_read st es s (spot_of_call st.layout c) c)) past e
+      (λ es s c. seek_if (is_at Phase2_read c) (seek_phase2_read st es s (spot_of_call st.layout c) c)) past e
   Some (record { writes = writes; reads = reads })

@@ -3,7 +3,6 @@ use Rattle.sl_law.specs.LawfulCalls.{LawfulCalls, may_submit}
 use Rattle.sl_sector.specs.Records.{AreBytes, IsBlock, IsDelta, IsLeader, IsRecord}
 use Rattle.sl_sector.specs.declared.sector.Block.{Block}
 use Rattle.sl_sector.specs.declared.sector.DeltaRec.{DeltaRec}
-use Rattle.sl_sector.specs.declared.sector.DeltaState.TheVariants.{Free}
 use Rattle.sl_sector.specs.declared.sector.Leader.{Leader}
 use Rattle.sl_sector.specs.declared.sector.Rec.TheVariants.{BlockIs, DeltaIs, LeaderIs, RequestIs, ValueIs}
 use Rattle.sl_sector.specs.declared.sector.Rec.{Rec}
@@ -17,7 +16,7 @@ use Rattle.sl_witness.proofs.Seeking.{seek_all, seek_false, seek_for, seek_le, s
 use Rattle.sl_words.specs.Bounds.{moments, most_hosts, record_numbers}
 use Rattle.std.proofs.Common.{refl}
 use Rattle.std.specs.List.{list_all}
-use Rattle.std.specs.Prelude.{Bool, Contains, IsSome, IsSomeAnd, IsTrue, List, None, Option, Some, false, is_some, length, nat_lt, replicate, suc, zero, ℕ, ◌<◌, ◌↔◌, ◌∷◌, ◌≡◌}
+use Rattle.std.specs.Prelude.{Bool, Contains, IsSome, IsSomeAnd, IsTrue, List, None, Option, Some, false, is_some, length, nat_lt, suc, zero, ℕ, ◌<◌, ◌↔◌, ◌∷◌, ◌≡◌}
 use native.Mathlib.Omega.{arith}
 
 -- ---- numbers that are 0 together

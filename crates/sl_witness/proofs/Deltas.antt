@@ -1,6 +1,5 @@
 -- A search for the law of delta writing, in a run without a joining or a leaving: renewals and reads of all ids.
 use Rattle.sl_law.specs.LawfulDelta.{LawfulDelta, LawfulDeltaCall, LawfulJoin, LawfulRenewal, LawfulSurvey, is_on_own_sector}
-use Rattle.sl_sector.specs.declared.sector.DeltaRec.{DeltaRec}
 use Rattle.sl_sector.specs.declared.sector.DeltaState.TheVariants.{Live}
 use Rattle.sl_sessions.specs.Deltas.{delta_of_session, delta_record}
 use Rattle.sl_sessions.specs.Sessions.{Session, delta_written, generation_of, has_open_delta, is_delta_purpose, is_survey_purpose, joined_after, last_seq, recovery_of, stage_of}
@@ -11,7 +10,7 @@ use Rattle.sl_trace.specs.declared.effects.Purpose.{Purpose}
 use Rattle.sl_witness.proofs.Eaches.{seek_each_call, seek_each_session}
 use Rattle.sl_witness.proofs.Sames.{seek_read_op, seek_some_delta, seek_standing}
 use Rattle.sl_witness.proofs.Seeking.{seek_false, seek_if, seek_none, seek_same, seek_some, seek_text, seek_true, ◌>>=◌}
-use Rattle.std.specs.Prelude.{Bool, IsTrue, None, Option, Some, false, not, ℕ, ◌&&◌, ◌+◌, ◌∷◌, ◌≡◌}
+use Rattle.std.specs.Prelude.{IsTrue, None, Option, Some, false, not, ℕ, ◌&&◌, ◌+◌, ◌∷◌, ◌≡◌}
 
 abbrev pub seek_renewal : (st : Setting) (es : Trace) (s : Session) (c : Submitted) → Option (LawfulRenewal st es s c)
 seek_renewal st es s c = do
@@ -54,9 +53,9 @@ abbrev pub seek_deltas : (st : Setting) (past : Trace) (e : Entry) → Option (L
 seek_deltas st past e = do
   calls ← seek_each_call st (λ es s c. LawfulDeltaCall st es s c c.call.purpose) (λ es s c. seek_delta_call st es s c c.call.purpose) past e
   placed ← seek_each_call st
-    (λ es s c. IsTrue (is_delta_purpose c.call.purpose && not (is_survey_purpose c.call.purpose)) → IsTrue (is_on_own_sector st s c))
-    (λ es s c. seek_if (is_delta_purpose c.call.purpose && not (is_survey_purpose c.call.purpose)) (seek_true (is_on_own_sector st s c))) past e
+      (λ es s c. IsTrue (is_delta_purpose c.call.purpose && not (is_survey_purpose c.call.purpose)) → IsTrue (is_on_own_sector st s c))
+      (λ es s c. seek_if (is_delta_purpose c.call.purpose && not (is_survey_purpose c.call.purpose)) (seek_true (is_on_own_sector st s c))) past e
   joins ← seek_each_session st (λ s. (j k : ℕ) → s.job ≡ Some j → joined_after (e ∷ past) s ≡ Some k → LawfulJoin (e ∷ past) s k) (seek_join (e ∷ past)) (e ∷ past)
   alone ← seek_each_call st (λ es s c. IsTrue (is_delta_purpose c.call.purpose) → has_open_delta es s ≡ false)
-    (λ es s c. seek_if (is_delta_purpose c.call.purpose) (seek_false (has_open_delta es s))) past e
+      (λ es s c. seek_if (is_delta_purpose c.call.purpose) (seek_false (has_open_delta es s))) past e
   Some (record { calls = calls; placed = placed; joins = joins; alone = alone })

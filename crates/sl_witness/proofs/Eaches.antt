@@ -7,7 +7,7 @@ use Rattle.sl_trace.specs.declared.effects.Entry.{Entry}
 use Rattle.sl_witness.proofs.Seeking.{seek_all, seek_at, seek_for, seek_le, seek_lt, seek_text, seek_true, ◌>>=◌}
 use Rattle.sl_words.specs.Bounds.{moments}
 use Rattle.std.specs.List.{range_with_len}
-use Rattle.std.specs.Prelude.{List, Option, Some, length, map, slice_get, [], ℕ, ◌∷◌, ◌≡◌}
+use Rattle.std.specs.Prelude.{Option, Some, length, map, slice_get, [], ℕ, ◌∷◌, ◌≡◌}
 
 abbrev pub seek_each_entry : (P : Trace → Entry → Type 0) → ((past : Trace) (e : Entry) → Option (P past e)) → (es : Trace) → Option (EachEntry P es)
 seek_each_entry P f [] = Some tt
@@ -28,8 +28,8 @@ abbrev pub seek_each_call : (st : Setting) (P : Trace → Session → Submitted 
     → (past : Trace) (e : Entry) → Option (EachCall st P past e)
 seek_each_call st P f past e = do
   h ← seek_at (OfCall st P past e)
-    (λ k c. seek_for (λ s. P (cut_at k e ∷ past) s (new_call (length past) e.reading c)) (session_numbered st (e ∷ past) c.session)
-    (λ s. f (cut_at k e ∷ past) s (new_call (length past) e.reading c))) e.effects.calls
+      (λ k c. seek_for (λ s. P (cut_at k e ∷ past) s (new_call (length past) e.reading c)) (session_numbered st (e ∷ past) c.session)
+      (λ s. f (cut_at k e ∷ past) s (new_call (length past) e.reading c))) e.effects.calls
   Some (each_by_place st P past e h)
 
 abbrev pub seek_each_session : (st : Setting) (P : Session → Type 0) → ((s : Session) → Option (P s)) → (es : Trace) → Option (EachSession st P es)

@@ -13,7 +13,7 @@ use Rattle.sl_time.specs.Times.{IsTiming, TimingNumbers}
 use Rattle.sl_witness.proofs.Seeking.{seek_all, seek_any, seek_false, seek_le, seek_lt, seek_pairs, seek_same, seek_text, seek_true, ◌>>=◌}
 use Rattle.std.proofs.Common.{eq-eqb}
 use Rattle.std.proofs.lemmas.Slice.Eq.{bytes_eq-Decides}
-use Rattle.std.specs.Prelude.{Bool, Contains, IsFalse, IsTrue, List, None, Option, Some, bytes_eq, false, length, true, ℕ, ◌%◌, ◌*◌, ◌+◌, ◌<◌, ◌==◌, ◌^◌, ◌↔◌, ◌≡◌, ◌≢◌, ◌≤◌}
+use Rattle.std.specs.Prelude.{Contains, IsTrue, List, Option, Some, bytes_eq, false, length, true, ℕ, ◌%◌, ◌*◌, ◌+◌, ◌<◌, ◌==◌, ◌^◌, ◌↔◌, ◌≡◌, ◌≢◌, ◌≤◌}
 
 -- ---- what differs
 
@@ -144,7 +144,7 @@ seek_header h = do
   lockspaces ← seek_all (λ l. IsTrue (is_name l.name) × IsArea h l.path l.offset) (seek_lockspace h) h.lockspaces
   one_lockspace ← seek_pairs (λ a b. a.name ≢ b.name) (λ a b. seek_other_text a.name b.name) h.lockspaces
   resources ← seek_all (λ r. IsTrue (is_name r.name) × IsArea h r.path r.offset × ((l : LockspaceLine) × Contains h.lockspaces l × (l.name ≡ r.lockspace)))
-    (seek_resource h) h.resources
+      (seek_resource h) h.resources
   apart ← seek_pairs AreApart seek_apart (areas_of h)
   few_disks ← seek_le (length h.disks) 8
   few_lockspaces ← seek_le (length h.lockspaces) 8

@@ -47,5 +47,5 @@ seek_leader_write st es s at c l = do
 abbrev pub seek_leaders : (st : Setting) (past : Trace) (e : Entry) → Option (LawfulLeader st past e)
 seek_leaders st past e = do
   writes ← seek_each_call st (λ es s c. (l : Leader) → leader_written c ≡ Some l → LawfulLeaderWrite st es s (spot_of_call st.layout c) c l)
-    (λ es s c. seek_for (LawfulLeaderWrite st es s (spot_of_call st.layout c) c) (leader_written c) (seek_leader_write st es s (spot_of_call st.layout c) c)) past e
+      (λ es s c. seek_for (LawfulLeaderWrite st es s (spot_of_call st.layout c) c) (leader_written c) (seek_leader_write st es s (spot_of_call st.layout c) c)) past e
   Some (record { writes = writes })

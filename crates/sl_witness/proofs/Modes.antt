@@ -7,24 +7,21 @@ use Rattle.sl_law.specs.LawfulModes.{LawfulExclusiveGrant, LawfulMode, LawfulMod
 use Rattle.sl_leases.specs.Leases.{Mode_set, Phase1_write, block_of_host, block_written, blocks_given, freed, has_shared_on, is_at, is_block_read, leader_written, lease_calls, spot_of_call}
 use Rattle.sl_sector.specs.declared.sector.Block.{Block}
 use Rattle.sl_sector.specs.declared.sector.Leader.{Leader}
-use Rattle.sl_sessions.specs.Sessions.{Session, generation_of, is_active, session_numbered}
+use Rattle.sl_sessions.specs.Sessions.{Session, is_active, session_numbered}
 use Rattle.sl_sessions.specs.Watching.{counted_over}
 use Rattle.sl_trace.specs.Traces.{Setting, Submitted, Trace, holdings, is_answered_ok, is_shared, same_place, spot_of_grant}
 use Rattle.sl_trace.specs.declared.effects.Entry.{Entry}
 use Rattle.sl_trace.specs.declared.effects.Grant.{Grant}
-use Rattle.sl_trace.specs.declared.effects.Mode.TheVariants.{Exclusive}
 use Rattle.sl_trace.specs.declared.effects.Spot.{Spot}
 use Rattle.sl_witness.proofs.Blocks.{seek_read_after}
 use Rattle.sl_witness.proofs.Eaches.{seek_each_call}
 use Rattle.sl_witness.proofs.Leaders.{seek_won}
 use Rattle.sl_witness.proofs.Seeking.{seek_all, seek_any, seek_by, seek_false, seek_for, seek_lt, seek_same, seek_some, seek_text, seek_true, seek_up_to, ◌>>=◌}
+use Rattle.sl_words.proofs.CaseLaws.{not_both}
 use Rattle.sl_words.specs.Words.{present}
-use Rattle.std.specs.Prelude.{Bool, Contains, IsFalse, IsSome, IsTrue, List, None, Option, Some, is_some, true, ℕ, ◌&&◌, ◌<◌, ◌==◌, ◌||◌, ◌↔◌, ◌∷◌, ◌≡◌, ◌≤◌}
+use Rattle.std.specs.Prelude.{Contains, IsFalse, IsSome, IsTrue, List, None, Option, Some, is_some, true, ℕ, ◌&&◌, ◌||◌, ◌∷◌, ◌≡◌, ◌≤◌}
 
 -- ---- no shared mode
-
-pub not_shared : (P : Type 0) (b : Bool) → IsFalse b → b ≡ true → P
-not_shared P b h is = absurd cc
 
 -- What is said of a block: it has no shared mode.
 abbrev pub IsOver : Setting → Trace → Session → Block → Type 0
@@ -33,7 +30,7 @@ IsOver st es s b = (b.host ≡ s.id → ⊥) → b.shared ≡ true → IsTrue (c
 abbrev pub seek_over : (st : Setting) (es : Trace) (s : Session) (b : Block) → Option (IsOver st es s b)
 seek_over st es s b = do
   h ← seek_false b.shared
-  Some (λ other. not_shared _ b.shared h)
+  Some (λ other is. absurd (not_both b.shared is h))
 
 pub none_shared_by : (st : Setting) (es : Trace) (s : Session) (blocks : List (Option Block))
     → ((b : Block) → Contains (present blocks) b → IsOver st es s b)
@@ -47,9 +44,9 @@ abbrev pub seek_none_shared : (st : Setting) (es : Trace) (s : Session) (blocks 
 seek_none_shared st es s blocks = do
   over ← seek_all (IsOver st es s) (seek_over st es s) (present blocks)
   whole ← seek_up_to (λ host. (host ≡ s.id → ⊥) → IsSome (block_of_host blocks host))
-    (λ host. do
-      h ← seek_true (is_some (block_of_host blocks host))
-      Some (there_if_other blocks host s.id h)) st.layout.hosts
+      (λ host. do
+        h ← seek_true (is_some (block_of_host blocks host))
+        Some (there_if_other blocks host s.id h)) st.layout.hosts
   Some (none_shared_by st es s blocks over whole)
 
 -- ---- an exclusive grant
@@ -129,8 +126,8 @@ seek_mode_grant st past es s g =
 pub no_mode_by : (st : Setting) (es : Trace) (s : Session) (c : Submitted) (b : Block) → IsFalse b.shared
     → IsFalse (has_shared_on es s (spot_of_call st.layout c) || is_at Mode_set c) → LawfulMode st es s c b
 no_mode_by st es s c b none nor = record {
-  exact = (λ h. not_shared _ b.shared none h, λ h. not_shared _ (has_shared_on es s (spot_of_call st.layout c) || is_at Mode_set c) nor h);
-  own = λ h. not_shared _ b.shared none h;
+  exact = (λ h. absurd (not_both b.shared h none), λ h. absurd (not_both (has_shared_on es s (spot_of_call st.layout c) || is_at Mode_set c) h nor));
+  own = λ h. absurd (not_both b.shared h none);
 }
 
 abbrev pub seek_mode : (st : Setting) (es : Trace) (s : Session) (c : Submitted) (b : Block) → Option (LawfulMode st es s c b)
@@ -159,7 +156,7 @@ abbrev pub seek_modes : (st : Setting) (past : Trace) (e : Entry) → Option (La
 seek_modes st past e = do
   grants ← seek_each_grant st (λ s g. LawfulModeGrant st past (e ∷ past) s g) (λ s g. seek_mode_grant st past (e ∷ past) s g) (e ∷ past) e.effects.grants
   blocks ← seek_each_call st (λ es s c. (b : Block) → block_written c ≡ Some b → LawfulMode st es s c b)
-    (λ es s c. seek_for (LawfulMode st es s c) (block_written c) (seek_mode st es s c)) past e
+      (λ es s c. seek_for (LawfulMode st es s c) (block_written c) (seek_mode st es s c)) past e
   Some (record { grants = grants; blocks = blocks })
 
 -- What is said of another holding.

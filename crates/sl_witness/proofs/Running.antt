@@ -11,7 +11,7 @@ use Rattle.sl_sector.specs.Spelling.{IsDigest}
 use Rattle.sl_witness.proofs.Seeking.{seek_true, ◌>>=◌}
 use Rattle.std.proofs.Common.{arith, lt-ltb, mod-lt, refl}
 use Rattle.std.specs.List.{list_all}
-use Rattle.std.specs.Prelude.{IsTrue, List, None, Option, Some, length, nat_lt, replicate, sum, true, [], ℕ, ◌%◌, ◌++◌, ◌/◌, ◌<◌, ◌∷◌, ◌≡◌}
+use Rattle.std.specs.Prelude.{IsTrue, List, Option, Some, length, nat_lt, replicate, sum, true, [], ℕ, ◌%◌, ◌++◌, ◌/◌, ◌∷◌, ◌≡◌}
 
 abbrev pub seek_run : (w : World) (es : List Event) → Option (IsRun w (due_run w es))
 seek_run w [] = Some tt

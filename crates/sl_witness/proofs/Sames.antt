@@ -50,7 +50,7 @@ pub delta_same : (a b : DeltaRec) → a.state ≡ b.state → a.id ≡ b.id → 
     → a.lockspace ≡ b.lockspace → a.host ≡ b.host → a.bitmap ≡ b.bitmap → a ≡ b
 delta_same a b state id generation seq stamp lockspace host bitmap =
     let e : made_delta a.state a.id a.generation a.seq a.stamp a.lockspace a.host a.bitmap
-        ≡ made_delta b.state b.id b.generation b.seq b.stamp b.lockspace b.host b.bitmap = cc in e
+    ≡ made_delta b.state b.id b.generation b.seq b.stamp b.lockspace b.host b.bitmap = cc in e
 
 abbrev pub seek_delta : (a b : DeltaRec) → Option (a ≡ b)
 seek_delta a b = do
@@ -83,7 +83,7 @@ pub block_same : (a b : Block) → a.host ≡ b.host → a.shared ≡ b.shared �
     → a.inp_gen ≡ b.inp_gen → a.mode_gen ≡ b.mode_gen → a.inp ≡ b.inp → a ≡ b
 block_same a b host shared lver mbal bal inp_gen mode_gen inp =
     let e : made_block a.host a.shared a.lver a.mbal a.bal a.inp_gen a.mode_gen a.inp
-        ≡ made_block b.host b.shared b.lver b.mbal b.bal b.inp_gen b.mode_gen b.inp = cc in e
+    ≡ made_block b.host b.shared b.lver b.mbal b.bal b.inp_gen b.mode_gen b.inp = cc in e
 
 abbrev pub seek_block : (a b : Block) → Option (a ≡ b)
 seek_block a b = do

@@ -1,11 +1,12 @@
 -- Searches for proofs: a function that gives a proof of its claim, or nothing where it didn't find one. A search that computes to a
 -- proof has proved its claim; the leaves are lemmas that stay closed, so that nothing of a proof is computed but that it is there.
 use Rattle.sl_session_law.proofs.Making.{contains_cases, contains_first, contains_more, contains_none}
+use Rattle.sl_words.proofs.CaseLaws.{false_is_true, none_some}
 use Rattle.std.proofs.Common.{eq-or-lt_of_le, eqb-true, inl, inr, leb-true, ltb-true, refl, subst, sym}
 use Rattle.std.proofs.lemmas.List.Elements.{All-cons, All-nil}
 use Rattle.std.proofs.lemmas.List.Kept.{AllPairs-cons}
 use Rattle.std.proofs.lemmas.Slice.Eq.{bytes_eq-Decides}
-use Rattle.std.specs.Prelude.{All, AllPairs, Bool, Contains, IsFalse, IsSome, IsTrue, List, MatchBool, None, Option, Some, bytes_eq, false, is_some, length, nat_le, nat_lt, slice_get, suc, true, zero, [], ℕ, ◌+◌, ◌<◌, ◌==◌, ◌↔◌, ◌∷◌, ◌≡◌, ◌≤◌}
+use Rattle.std.specs.Prelude.{All, AllPairs, Bool, Contains, IsFalse, IsSome, IsTrue, List, MatchBool, None, Option, Some, bytes_eq, false, nat_le, nat_lt, slice_get, suc, true, zero, [], ℕ, ◌<◌, ◌==◌, ◌∷◌, ◌≡◌, ◌≤◌}
 use native.Mathlib.Omega.{arith}
 
 infixl 10 ◌>>=◌
@@ -66,25 +67,19 @@ abbrev pub seek_empty : {A : Type 0} (xs : List A) → Option (xs ≡ [])
 seek_empty [] = Some refl
 seek_empty (x ∷ xs) = None
 
-pub for_none : {A : Type 0} (P : A → Type 0) (a : A) → None ≡ Some a → P a
-for_none P a h = absurd cc
-
 pub for_value : {A : Type 0} (P : A → Type 0) (b : A) → P b → (a : A) → Some b ≡ Some a → P a
 for_value P b h a e = let same : b ≡ a = cc in subst P same h
 
 -- What is said of a value, wherever there is one.
 abbrev pub seek_for : {A : Type 0} (P : A → Type 0) (o : Option A) → ((a : A) → Option (P a)) → Option ((a : A) → o ≡ Some a → P a)
-seek_for P None f = Some (for_none P)
+seek_for P None f = Some (λ a is. absurd (none_some a is))
 seek_for P (Some b) f = do
   h ← f b
   Some (for_value P b h)
 
-pub no_truth : (P : Type 0) → IsTrue false → P
-no_truth P h = absurd cc
-
 -- What is said where a test holds.
 abbrev pub seek_if : {P : Type 0} (b : Bool) → Option P → Option (IsTrue b → P)
-seek_if {P} false f = Some (no_truth P)
+seek_if false f = Some (λ is. absurd (false_is_true is))
 seek_if true f = do
   h ← f
   Some (λ is. h)
@@ -117,8 +112,8 @@ seek_any P f [] = None
 seek_any P f (x ∷ xs) = elim (f x) [
   | Some p ↦ Some (x, contains_first x xs, p)
   | None ↦ do
-      later ← seek_any P f xs
-      Some (later.0, contains_more x xs later.0 later.1, later.2)
+    later ← seek_any P f xs
+    Some (later.0, contains_more x xs later.0 later.1, later.2)
 ]
 
 pub at_none : {A : Type 0} (P : ℕ → A → Type 0) (k : ℕ) (a : A) → slice_get [] k ≡ Some a → P k a

@@ -11,7 +11,6 @@ use Rattle.sl_due.specs.DueWake.{finish, finish_session, join_on_wake, on_wake, 
 use Rattle.sl_examples.specs.Cheap.{cheap_language, cheap_program}
 use Rattle.sl_examples.specs.Rows.{owner_reset_then_taken_over}
 use Rattle.sl_examples.specs.WorldTests.{read_events}
-use Rattle.sl_law.specs.Lawful.{Lawful}
 use Rattle.sl_leases.specs.Ballots.{instance_of, phase1_block, phase2_block, stop_of}
 use Rattle.sl_leases.specs.LeaseWork.{area_next, begin_next, lease_next, settle_next}
 use Rattle.sl_leases.specs.Leases.{known}
@@ -21,8 +20,7 @@ use Rattle.sl_report.specs.ScheduleLines.{event_forms, header_forms, header_of, 
 use Rattle.sl_report.specs.Schedules.{HeaderReading, Header_read, Header_refused, NumberedLine, event_lines_of, numbered_lines, read_header}
 use Rattle.sl_run.specs.Conflicts.{world_holdings}
 use Rattle.sl_run.specs.Events.{event_tests, first_change, happens, pass_tests}
-use Rattle.sl_run.specs.Headers.{IsHeader}
-use Rattle.sl_run.specs.Runs.{EachDaemon, Happening, IsRun, world_after}
+use Rattle.sl_run.specs.Runs.{Happening, world_after}
 use Rattle.sl_run.specs.Safety.{LawfulRun, world_at}
 use Rattle.sl_run.specs.Worlds.{World, initial_record, machine_of_header}
 use Rattle.sl_run.specs.declared.event.Event.TheVariants.{Reset}
@@ -34,7 +32,6 @@ use Rattle.sl_text.specs.Forms.{as_bytes}
 use Rattle.sl_text.specs.Names.{padded_text}
 use Rattle.sl_trace.specs.Commands.{forms}
 use Rattle.sl_trace.specs.EffectTexts.{reply_words}
-use Rattle.sl_trace.specs.declared.effects.Effects.{Effects}
 use Rattle.sl_trace.specs.declared.effects.Grant.{Grant}
 use Rattle.sl_trace.specs.declared.effects.Mode.TheVariants.{Exclusive}
 use Rattle.sl_witness.proofs.Headers.{seek_header}

@@ -11,7 +11,7 @@ use Rattle.sl_law.specs.LawfulRecovery.{LawfulRecovery}
 use Rattle.sl_law.specs.LawfulValue.{LawfulValue}
 use Rattle.sl_law.specs.LawfulWatchdog.{LawfulWatchdog}
 use Rattle.sl_run.specs.Runs.{EachDaemon, daemons_of}
-use Rattle.sl_run.specs.Worlds.{Daemon, World}
+use Rattle.sl_run.specs.Worlds.{World}
 use Rattle.sl_trace.specs.Traces.{FollowsTrace, Setting, Trace}
 use Rattle.sl_witness.proofs.Areas.{seek_areas}
 use Rattle.sl_witness.proofs.Blocks.{seek_blocks}
@@ -22,7 +22,7 @@ use Rattle.sl_witness.proofs.Leaders.{seek_leaders}
 use Rattle.sl_witness.proofs.Modes.{seek_grants, seek_modes}
 use Rattle.sl_witness.proofs.Seeking.{seek_all, ◌>>=◌}
 use Rattle.sl_witness.proofs.Watches.{seek_recovery, seek_values, seek_watchdog}
-use Rattle.std.specs.Prelude.{Contains, List, None, Option, Some}
+use Rattle.std.specs.Prelude.{Option, Some}
 
 abbrev pub seek_lawful : (st : Setting) (es : Trace) → Option (Lawful st es)
 seek_lawful st es = do
