@@ -10,7 +10,6 @@ use Rattle.sl_due.specs.DueRequests.{after_request_read, after_see_request, afte
 use Rattle.sl_due.specs.DueWake.{finish, finish_session, join_on_wake, on_wake, renew_on_wake, settle_on_wake, settlings}
 use Rattle.sl_examples.specs.Cheap.{cheap_language, cheap_program}
 use Rattle.sl_examples.specs.Rows.{owner_reset_then_taken_over}
-use Rattle.sl_examples.specs.WorldTests.{read_events}
 use Rattle.sl_leases.specs.Ballots.{instance_of, phase1_block, phase2_block, stop_of}
 use Rattle.sl_leases.specs.LeaseWork.{area_next, begin_next, lease_next, settle_next}
 use Rattle.sl_leases.specs.Leases.{known}
@@ -41,7 +40,7 @@ use Rattle.sl_witness.proofs.Traces.{seek_each_daemon}
 use Rattle.sl_witness.specs.Witness.{HoldsAlone, IsOfTheSchedule, PassesOver, TakeoverIsLawful, owning_events, taking_events, witness_events, witness_header, witness_run, witness_world}
 use Rattle.std.specs.Fmt.{digits}
 use Rattle.std.proofs.Common.{ap}
-use Rattle.std.specs.Prelude.{IsSome, List, codes, false, refl, [], ℕ, ◌++◌, ◌∷◌, ◌≡◌}
+use Rattle.std.specs.Prelude.{IsSome, List, Ok, codes, false, map, refl, [], ℕ, ◌++◌, ◌∷◌, ◌≡◌}
 
 -- ---- the schedule
 
@@ -57,7 +56,7 @@ reads : reading ≡ Header_read witness_header (rest_of reading)
 unfolding after_answer after_answer_of after_end after_free after_input after_join_answer after_lease_answer after_renewal after_request_read after_see_request after_survey after_value_read area_next before_input begin_next begin_recoveries begin_recovery block_rules carry_decision carry_delta carry_lease checked_part count_event decided decoded delta_rules digits due due_step event_forms event_tests field_bytes fields_of finish finish_session first_change forms header_forms header_of header_tests initial_record instance_of join_on_wake kill_holders kills known leader_rules lease_next machine_of_header magic next_after_deciding next_after_first next_after_verify next_after_watch next_in_joining next_on_wake next_renewal on_exit on_line on_spawned on_wake padded_text pass_tests phase1_block phase2_block refuse renew_on_wake reply_words request_refusal request_rules see_requests settle settle_next settle_on_wake settlings signal_and_refuse spelling stop_of take_input time_out time_outs u32_at u32_bytes u64_at u64_bytes value_rules
 reads = refl
 
-tells : read_events (event_lines_of cheap_language witness_header (rest_of reading)) ≡ witness_events
+tells : map (λ l. l.1) (event_lines_of cheap_language witness_header (rest_of reading)) ≡ map (λ e. Ok e) witness_events
 unfolding after_answer after_answer_of after_end after_free after_input after_join_answer after_lease_answer after_renewal after_request_read after_see_request after_survey after_value_read area_next before_input begin_next begin_recoveries begin_recovery block_rules carry_decision carry_delta carry_lease checked_part count_event decided decoded delta_rules digits due due_step event_forms event_tests field_bytes fields_of finish finish_session first_change forms header_forms header_of header_tests initial_record instance_of join_on_wake kill_holders kills known leader_rules lease_next machine_of_header magic next_after_deciding next_after_first next_after_verify next_after_watch next_in_joining next_on_wake next_renewal on_exit on_line on_spawned on_wake padded_text pass_tests phase1_block phase2_block refuse renew_on_wake reply_words request_refusal request_rules see_requests settle settle_next settle_on_wake settlings signal_and_refuse spelling stop_of take_input time_out time_outs u32_at u32_bytes u64_at u64_bytes value_rules
 tells = refl
 

@@ -3,7 +3,6 @@
 -- what is due. What is proved of lawful runs is proved of this one, so it is no empty talk.
 use Rattle.sl_examples.specs.Cheap.{cheap_language, cheap_program}
 use Rattle.sl_examples.specs.Rows.{owner_reset_then_taken_over}
-use Rattle.sl_examples.specs.WorldTests.{read_events}
 use Rattle.sl_report.specs.Replay.{due_run}
 use Rattle.sl_report.specs.Schedules.{Header_read, NumberedLine, event_lines_of, numbered_lines, read_header}
 use Rattle.sl_run.specs.Conflicts.{world_holdings}
@@ -17,7 +16,7 @@ use Rattle.sl_text.specs.Forms.{as_bytes}
 use Rattle.sl_trace.specs.declared.effects.Effects.{Effects}
 use Rattle.sl_trace.specs.declared.effects.Grant.{Grant}
 use Rattle.sl_trace.specs.declared.effects.Mode.TheVariants.{Exclusive}
-use Rattle.std.specs.Prelude.{List, None, codes, [], ℕ, ◌++◌, ◌∷◌, ◌≡◌}
+use Rattle.std.specs.Prelude.{List, None, Ok, codes, map, [], ℕ, ◌++◌, ◌∷◌, ◌≡◌}
 
 -- The header of the schedule: two machines, each with a session; one disk, one lockspace, one resource.
 abbrev pub witness_header : Header
@@ -64,7 +63,8 @@ witness_run = due_run witness_world witness_events
 pub record IsOfTheSchedule : Type 0 where
   pub rest : List NumberedLine
   pub reads : read_header cheap_language [] 1 (numbered_lines (as_bytes owner_reset_then_taken_over.source)) ≡ Header_read witness_header rest
-  pub tells : read_events (event_lines_of cheap_language witness_header rest) ≡ witness_events
+  -- each line is an event; none is left out
+  pub tells : map (λ l. l.1) (event_lines_of cheap_language witness_header rest) ≡ map (λ e. Ok e) witness_events
 
 -- The only holding of the world: the resource, exclusive, on this machine, under this instance.
 pub record HoldsAlone (w : World) (machine lver : ℕ) : Type 0 where
