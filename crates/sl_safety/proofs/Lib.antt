@@ -1,3 +1,4 @@
 pub mod Placed
 pub mod Excluding
 pub mod Lawful
+pub mod Standing
