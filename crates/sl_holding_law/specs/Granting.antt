@@ -7,7 +7,7 @@ use Rattle.sl_trace.specs.Traces.{Setting, Submitted, Trace, holdings, is_shared
 use Rattle.sl_trace.specs.declared.effects.Entry.{Entry}
 use Rattle.sl_trace.specs.declared.effects.Grant.{Grant}
 use Rattle.sl_trace.specs.declared.effects.Spot.{Spot}
-use Rattle.std.specs.Prelude.{Contains, IsFalse, IsTrue, None, Some, false, true, ℕ, ◌&&◌, ◌++◌, ◌∷◌, ◌≡◌}
+use Rattle.std.specs.Prelude.{Contains, IsFalse, IsTrue, None, Some, ℕ, ◌&&◌, ◌++◌, ◌∷◌, ◌≡◌}
 
 -- The entry that granted it, from which on it stood.
 pub record GrantedIn (es : Trace) (g : Grant) : Type 0 where
@@ -50,6 +50,15 @@ pub record SharedRun (st : Setting) (es : Trace) (s : Session) (at : Spot) : Typ
 abbrev pub SharedRunsBegin : Type 0
 SharedRunsBegin = (st : Setting) (es : Trace) → Lawful st es → (s : Session) → session_numbered st es s.number ≡ Some s → (at : Spot)
     → IsTrue (has_shared_on es s at) → SharedRun st es s at
+
+-- Such a run begins under the holding's own instance: a grant beside another is under that one's.
+pub record SharedRunUnder (st : Setting) (es : Trace) (s : Session) (at : Spot) (n : ℕ) : Type 0 where
+  pub run : SharedRun st es s at
+  pub under : run.instance ≡ n
+
+abbrev pub SharedHoldingsBegin : Type 0
+SharedHoldingsBegin = (st : Setting) (es : Trace) → Lawful st es → (s : Session) → session_numbered st es s.number ≡ Some s → (at : Spot) (g : Grant)
+    → Contains (holdings_on es s at) g → IsTrue (is_shared g.mode) → SharedRunUnder st es s at g.lver
 
 -- Two processes of one daemon hold one resource only if both hold it shared.
 abbrev pub OneDaemonAgrees : Type 0
