@@ -3,3 +3,9 @@ pub mod ReasonFronts
 pub mod ReasonLeaders
 pub mod ReasonEvidence
 pub mod ReasonFronted
+pub mod ReasonReads
+pub mod ReasonWrites
+pub mod ReasonOwn
+pub mod ReasonCases
+pub mod ReasonGiven
+pub mod KeptBallots
