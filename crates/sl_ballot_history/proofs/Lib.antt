@@ -9,3 +9,15 @@ pub mod ReasonOwn
 pub mod ReasonCases
 pub mod ReasonGiven
 pub mod KeptBallots
+pub mod Phase2Stands
+pub mod Phase2Last
+pub mod Phase2Hosts
+pub mod Phase2First
+pub mod Phase2Reads
+pub mod Phase2Shows
+pub mod Phase2Values
+pub mod Phase2Apart
+pub mod Phase2Between
+pub mod Phase2Ones
+pub mod Phase2Is
+pub mod EndedGrown
