@@ -64,7 +64,7 @@ trace_by_entry n (s ∷ ss) (y ∷ later) past e t fall even at =
     (not_le s.step t.step (fall_step s.step ss t fall.1 (stamp_there ss (length past) t there)))
     ∙ trace_by_entry s.step ss later past e t fall.1 (less_one (length ss) (length (later ++ e ∷ past)) even) there
 
-pairs_long : {A B : Type 0} (R : A → B → Type 0) (xs : List A) (ys : List B) → Pairwise R xs ys → length xs ≡ length ys
+pub pairs_long : {A B : Type 0} (R : A → B → Type 0) (xs : List A) (ys : List B) → Pairwise R xs ys → length xs ≡ length ys
 pairs_long R [] [] h = refl
 pairs_long R [] (y ∷ ys) h = absurd h
 pairs_long R (x ∷ xs) [] h = absurd h

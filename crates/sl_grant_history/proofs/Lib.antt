@@ -7,3 +7,9 @@ pub mod Names
 pub mod Freeing
 pub mod Looks
 pub mod Exclusive
+pub mod Counting
+pub mod Alive
+pub mod Kept
+pub mod Owned
+pub mod Marks
+pub mod Sharing

@@ -140,7 +140,7 @@ in_order p h xs run i f its m n s t one two le =
     let all = whole_of p h xs run i f its in
     stamp_order (world_at p h xs).step f.daemon.stamps m n s t (daemons_are_fine p h xs run i.machine f.machine f.daemon all.at all.has).stamps one two le
 
-by_cases : (m n : ℕ) (P : Type 0) → (m ≤ n → P) → (n < m → P) → P
+pub by_cases : (m n : ℕ) (P : Type 0) → (m ≤ n → P) → (n < m → P) → P
 by_cases m n P yes_so otherwise = elim (cases_lt n m) as (λ z. P) [ inl less ↦ otherwise less | inr most ↦ yes_so most ]
 
 not_both : (a b : ℕ) → a ≤ b → b < a → ⊥
