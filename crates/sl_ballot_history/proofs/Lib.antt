@@ -21,3 +21,4 @@ pub mod Phase2Between
 pub mod Phase2Ones
 pub mod Phase2Is
 pub mod EndedGrown
+pub mod Ended
