@@ -36,7 +36,7 @@ found_by p x xs false is (inl here) = absurd (false_is_true (sym is ∙ here))
 found_by p x xs false is (inr later) = later
 
 -- Where something passes, something is found.
-found_where : {A : Type 0} (p : A → Bool) (xs : List A) (x : A) → Contains xs x → p x ≡ true → is_some (find p xs) ≡ true
+pub found_where : {A : Type 0} (p : A → Bool) (xs : List A) (x : A) → Contains xs x → p x ≡ true → is_some (find p xs) ≡ true
 found_where p [] x there passes = absurd (contains_none x there)
 found_where p (y ∷ ys) x there passes =
     found_by p y ys (p y) refl
