@@ -4,3 +4,8 @@ pub mod Following
 pub mod Settled
 pub mod OrderedFronts
 pub mod OrderedDaemons
+pub mod OrderedTraces
+pub mod OrderedStood
+pub mod OrderedNames
+pub mod Joined
+pub mod OrderedOver

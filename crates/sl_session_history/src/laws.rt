@@ -1,6 +1,6 @@
 //! What the sessions of each resource's history promise.
 
-ghost use Rattle.sl_session_history.specs.Promises.{JoinedAreHosts, NamesAreApart};
+ghost use Rattle.sl_session_history.specs.Promises.{HistoriesEndEarlier, JoinedAreHosts, NamesAreApart};
 
 /// Joined sessions of one lockspace have different names for ballots.
 pub fn names_are_apart()
@@ -10,4 +10,9 @@ pub fn names_are_apart()
 /// Each of them has the id of a host.
 pub fn joined_are_hosts()
     ensures { JoinedAreHosts }
+{}
+
+/// Where a session joins, all of its id that joined before are over.
+pub fn histories_end_earlier()
+    ensures { HistoriesEndEarlier }
 {}
