@@ -27,8 +27,7 @@ use Rattle.sl_resource_history.proofs.Bases.{own_host}
 use Rattle.sl_resource_history.proofs.Calls.{numbers_meant}
 use Rattle.sl_resource_history.proofs.Founding.{writer_is, writes_at}
 use Rattle.sl_resource_history.proofs.Owning.{lease_is_work, session_as, spot_is, works}
-use Rattle.sl_resource_history.proofs.Standing.{Standing, standing}
-use Rattle.sl_resource_history.specs.Histories.{history_block}
+use Rattle.sl_resource_history.proofs.Standing.{standing}
 use Rattle.sl_resource_history.specs.Promises.{NamesDiffer, history_of_line, spot_of_line}
 use Rattle.sl_resource_history.specs.Sending.{Sent, block_of_course, holder_of, is_joined_there, sender_of, step_of}
 use Rattle.sl_run.specs.Runs.{Happening}
@@ -41,7 +40,7 @@ use Rattle.sl_sessions.specs.Sessions.{Session, session_numbered}
 use Rattle.sl_trace.specs.Traces.{Answered, Setting, Submitted, Trace, new_call, submitted}
 use Rattle.sl_trace.specs.declared.effects.Call.{Call}
 use Rattle.sl_trace.specs.declared.effects.Spot.{Spot}
-use Rattle.std.proofs.Common.{ap, refl, subst, sym, ◌∙◌}
+use Rattle.std.proofs.Common.{ap, subst, sym, ◌∙◌}
 use Rattle.std.specs.Option.{option_map_or}
 use Rattle.std.specs.Prelude.{Contains, List, None, Option, Some, find, is_some, option_and_then, true, ℕ, ◌++◌, ◌∷◌, ◌≡◌, ◌≤◌}
 

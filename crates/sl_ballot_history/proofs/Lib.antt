@@ -22,3 +22,7 @@ pub mod Phase2Ones
 pub mod Phase2Is
 pub mod EndedGrown
 pub mod Ended
+pub mod EndedAll
+pub mod Led
+pub mod EndedJoined
+pub mod KeptProven

@@ -1,6 +1,6 @@
 -- Between a block and the next of its session: the block was answered ok, and then a read was submitted, before which the block is the
 -- session's last.
-use Rattle.sl_ballot_history.proofs.Phase2Last.{OwnLast, one_block}
+use Rattle.sl_ballot_history.proofs.Phase2Last.{OwnLast, both_ways, one_block}
 use Rattle.sl_course_law.specs.Stamping.{AnswersAgree, IsAnsweredAs, IsCourseOf, stamp_in}
 use Rattle.sl_law.specs.LawfulBlock.{ReadAfter}
 use Rattle.sl_leases.specs.Leases.{is_on}
@@ -11,7 +11,7 @@ use Rattle.sl_resource_history.proofs.Lasts.{last_is_last}
 use Rattle.sl_resource_history.proofs.Owning.{before_is, is_before}
 use Rattle.sl_resource_history.proofs.Standing.{Standing}
 use Rattle.sl_resource_history.specs.Promises.{history_of_line, spot_of_line}
-use Rattle.sl_resource_history.specs.Sending.{Sent, all_sent, is_block_before, last_block_before, sender_of, sent_at, step_of, writes_block}
+use Rattle.sl_resource_history.specs.Sending.{Sent, all_sent, is_block_before, last_block_before, sender_of, step_of, writes_block}
 use Rattle.sl_run.specs.Runs.{Happening}
 use Rattle.sl_run.specs.Safety.{LawfulRun, world_at}
 use Rattle.sl_run.specs.Worlds.{Course, Daemon, Machine, Program, Stamp, World, daemons_on, machine_at}
@@ -55,9 +55,6 @@ ok_is p h xs run r there y has on writes n k =
     ∙ ap (λ b. ok_by b y.course.answered) k.done ∙ ap (λ o. ok_by true o) k.answered
 
 -- ---- the last before a read
-
-both_ways : (a b : ℕ) → a ≤ b → b ≤ a → a ≡ b
-both_ways a b p q = omega (arith, p, q)
 
 less_more : (a b c : ℕ) → a < b → b < c → a < c
 less_more a b c p q = omega (arith, p, q)

@@ -7,7 +7,7 @@ use Rattle.sl_ballot_history.proofs.Phase2Hosts.{block_host}
 use Rattle.sl_ballot_history.proofs.Phase2Last.{OwnLast, own_last}
 use Rattle.sl_ballot_history.proofs.Phase2Ones.{base_is, is_one, last_wrote, own_of_last, written_there}
 use Rattle.sl_ballot_history.proofs.Phase2Shows.{OwnRead, is_clean, read_is}
-use Rattle.sl_ballot_history.proofs.Phase2Stands.{StandsAt, stands_at}
+use Rattle.sl_ballot_history.proofs.Phase2Stands.{stands_at}
 use Rattle.sl_ballot_history.proofs.Phase2Values.{proposes_what}
 use Rattle.sl_ballot_history.proofs.ReasonFronted.{fronted, name_at_front}
 use Rattle.sl_ballot_history.specs.Endings.{HostsJoin, holder_as}
@@ -20,7 +20,7 @@ use Rattle.sl_lease_law.proofs.NumberLaws.{number_is_place}
 use Rattle.sl_lease_law.proofs.RestLaws.{phase2_follows}
 use Rattle.sl_lease_law.specs.Ways.{Phase2Rests}
 use Rattle.sl_leases.specs.Ballots.{ballot_blocks, moded_block, phase2_block, value_to_write}
-use Rattle.sl_leases.specs.Leases.{Phase1_write, Phase2_write, blocks_given, is_at, is_on, spot_of_call}
+use Rattle.sl_leases.specs.Leases.{Phase1_write, Phase2_write, blocks_given, is_at, is_on}
 use Rattle.sl_resource_history.proofs.Above.{IsAmong, WrittenAt, answer_step, answered_before, is_among, line_aligned, reads_work, told_spot, written_at}
 use Rattle.sl_resource_history.proofs.Bases.{own_host}
 use Rattle.sl_resource_history.proofs.Calls.{worker_joined}
@@ -30,7 +30,7 @@ use Rattle.sl_resource_history.proofs.Owning.{block_is_lease, block_told, block_
 use Rattle.sl_resource_history.proofs.Standing.{Standing, parts, standing}
 use Rattle.sl_resource_history.specs.Histories.{history_block}
 use Rattle.sl_resource_history.specs.Promises.{NamesDiffer, history_of_line, spot_of_line}
-use Rattle.sl_resource_history.specs.Sending.{Sent, block_of_course, holder_of, is_joined_there, sender_of, sent_at, step_of, writes_block}
+use Rattle.sl_resource_history.specs.Sending.{Sent, block_of_course, holder_of, is_joined_there, sender_of, step_of}
 use Rattle.sl_run.specs.Runs.{Happening}
 use Rattle.sl_run.specs.Safety.{LawfulRun, world_at}
 use Rattle.sl_run.specs.Worlds.{Course, Daemon, Program, Stamp, World}
@@ -43,7 +43,7 @@ use Rattle.sl_trace.specs.Traces.{Answered, Setting, Submitted, Trace, new_call,
 use Rattle.sl_trace.specs.declared.effects.Call.{Call}
 use Rattle.sl_trace.specs.declared.effects.Spot.{Spot}
 use Rattle.sl_words.proofs.CaseLaws.{some_value}
-use Rattle.std.proofs.Common.{ap, append_assoc, arith, refl, subst, sym, ◌∙◌}
+use Rattle.std.proofs.Common.{ap, append_assoc, arith, subst, sym, ◌∙◌}
 use Rattle.std.specs.Option.{option_map_or}
 use Rattle.std.specs.Prelude.{Contains, List, Option, Some, is_some, option_and_then, true, ℕ, ◌++◌, ◌<◌, ◌∷◌, ◌≡◌, ◌≤◌, ◌⊎◌}
 

@@ -2,21 +2,19 @@
 use Rattle.sl_ballot_history.proofs.Phase2Apart.{host_there, phase1_alone}
 use Rattle.sl_ballot_history.proofs.Phase2Last.{OwnLast}
 use Rattle.sl_ballot_history.specs.Endings.{HostsJoin}
-use Rattle.sl_ballots.specs.Ballots.{IsLastWrite, IsPhase1}
-use Rattle.sl_ballots.specs.History.{History}
+use Rattle.sl_ballots.specs.Ballots.{IsPhase1}
 use Rattle.sl_lease_law.specs.Ways.{Of_mode, Of_phase1, Of_phase2, Way}
 use Rattle.sl_leases.specs.Leases.{Mode_cleared, Mode_set, Phase1_write, Phase2_write, block_of_record, block_written, is_at}
 use Rattle.sl_resource_history.proofs.Above.{WrittenAt, block_by}
 use Rattle.sl_resource_history.proofs.Bases.{Based, based}
 use Rattle.sl_resource_history.proofs.Calls.{block_at_step, worker_joined}
 use Rattle.sl_resource_history.proofs.Calls.{block_works as block_is_work}
-use Rattle.sl_resource_history.proofs.Founding.{is_last}
 use Rattle.sl_resource_history.proofs.Opening.{phase1_of}
 use Rattle.sl_resource_history.proofs.Owning.{OwnWritten, base_by}
 use Rattle.sl_resource_history.proofs.Standing.{Standing, standing}
 use Rattle.sl_resource_history.specs.Histories.{base_of, is_host}
-use Rattle.sl_resource_history.specs.Promises.{NamesDiffer, history_of_line, spot_of_line}
-use Rattle.sl_resource_history.specs.Sending.{Sent, block_of_course, is_joined_there, sender_of, sent_at, step_of, writes_block}
+use Rattle.sl_resource_history.specs.Promises.{history_of_line, spot_of_line}
+use Rattle.sl_resource_history.specs.Sending.{Sent, block_of_course, sent_at, step_of, writes_block}
 use Rattle.sl_run.specs.Runs.{Happening}
 use Rattle.sl_run.specs.Safety.{LawfulRun, world_at}
 use Rattle.sl_run.specs.Worlds.{Program, World}
@@ -27,7 +25,7 @@ use Rattle.sl_trace.specs.Traces.{Submitted, new_call, record_of}
 use Rattle.sl_trace.specs.declared.effects.Call.{Call}
 use Rattle.sl_trace.specs.declared.effects.Spot.{Spot}
 use Rattle.sl_words.proofs.CaseLaws.{false_is_true}
-use Rattle.std.proofs.Common.{ap, inl, inr, refl, subst, sym, ◌∙◌}
+use Rattle.std.proofs.Common.{ap, inl, inr, refl, sym, ◌∙◌}
 use Rattle.std.specs.Option.{option_map_or}
 use Rattle.std.specs.Prelude.{Contains, List, Some, is_some, option_and_then, true, ℕ, ◌≡◌, ◌⊎◌}
 
