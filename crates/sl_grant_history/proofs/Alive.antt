@@ -9,7 +9,7 @@ use Rattle.sl_run.specs.Safety.{Found, IsSession, LawfulRun, SessionId, is_over,
 use Rattle.sl_run.specs.Worlds.{Program, World, world_with}
 use Rattle.sl_run.specs.declared.header.Header.{Header}
 use Rattle.sl_run.specs.declared.header.ResourceLine.{ResourceLine}
-use Rattle.sl_session_history.proofs.OrderedFronts.{FrontFrom, front_by, some_steps}
+use Rattle.sl_session_history.proofs.OrderedFronts.{front_by, some_steps}
 use Rattle.sl_words.proofs.CaseLaws.{true_is_false}
 use Rattle.sl_words.specs.Words.{some_is}
 use Rattle.std.proofs.Common.{ap, arith, inl, inr, subst, sym, ◌∙◌}

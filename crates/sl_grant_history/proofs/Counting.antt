@@ -42,21 +42,20 @@ one_more n i = omega arith
 nothing_more : (n : ℕ) → n ≡ n + 0
 nothing_more n = omega arith
 
-head_same : {A : Type 0} (x y : A) (xs ys : List A) → x ∷ xs ≡ y ∷ ys → x ≡ y
+pub head_same : {A : Type 0} (x y : A) (xs ys : List A) → x ∷ xs ≡ y ∷ ys → x ≡ y
 head_same x y xs ys h = cc
 
-tail_same : {A : Type 0} (x y : A) (xs ys : List A) → x ∷ xs ≡ y ∷ ys → xs ≡ ys
+pub tail_same : {A : Type 0} (x y : A) (xs ys : List A) → x ∷ xs ≡ y ∷ ys → xs ≡ ys
 tail_same x y xs ys h = cc
 
 numbered_here : (n : ℕ) (cs : List Call) → map (λ (c : Call). c.number) cs ≡ range_with_len n (length cs) → (i : ℕ) (c : Call) → slice_get cs i ≡ Some c
     → (c.number ≡ n + i) × (i < length cs)
 numbered_here n [] same i c at = absurd (none_some c at)
-numbered_here n (x ∷ cs) same zero c at =
-    (
-      ap (λ (y : Call). y.number) (sym (some_value x c at))
-          ∙ head_same x.number n (map (λ (c : Call). c.number) cs) (range_with_len (n + 1) (length cs)) same ∙ nothing_more n,
-      omega arith,
-    )
+numbered_here n (x ∷ cs) same zero c at = (
+  ap (λ (y : Call). y.number) (sym (some_value x c at))
+      ∙ head_same x.number n (map (λ (c : Call). c.number) cs) (range_with_len (n + 1) (length cs)) same ∙ nothing_more n,
+  omega arith,
+)
 numbered_here n (x ∷ cs) same (suc i) c at =
     let rest = numbered_here (n + 1) cs (tail_same x.number n (map (λ (c : Call). c.number) cs) (range_with_len (n + 1) (length cs)) same) i c at in
     let less = rest.1 in

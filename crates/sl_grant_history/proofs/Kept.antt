@@ -2,14 +2,15 @@
 -- freed.
 use Rattle.sl_ballot_history.specs.Endings.{IsEntryAt}
 use Rattle.sl_ballots.specs.History.{History}
+use Rattle.sl_course_law.proofs.Pairing.{pairs_length}
 use Rattle.sl_course_law.proofs.Stamped.{entries_are_stamped}
 use Rattle.sl_course_law.specs.Stamping.{IsStampOf, stamp_in}
 use Rattle.sl_grant_history.proofs.Alive.{alive_by}
-use Rattle.sl_grant_history.proofs.Evident.{pairs_long}
 use Rattle.sl_grant_history.proofs.Exclusive.{IsToldOf, exclusive_grants_are_given}
-use Rattle.sl_grant_history.proofs.Freeing.{FreeTold, free_told}
+use Rattle.sl_grant_history.proofs.Freeing.{free_told}
+use Rattle.sl_grant_history.proofs.Placing.{at_resource}
 use Rattle.sl_grant_history.proofs.Telling.{entry_past, in_lease, whole_of}
-use Rattle.sl_grant_history.specs.Granted.{ExclusivesAreKept, GrantedThere, KeptThere, ResourceAt, history_there}
+use Rattle.sl_grant_history.specs.Granted.{ExclusivesAreKept, GrantedThere, history_there}
 use Rattle.sl_holding_law.proofs.Granted.{holdings_are_granted}
 use Rattle.sl_holding_law.proofs.Places.{HeldOn, held_on, on_held}
 use Rattle.sl_holding_law.proofs.Unfreed.{exclusives_are_unfreed}
@@ -56,7 +57,7 @@ pub came_at : (p : Program) (h : Header) (xs : List Happening) → LawfulRun p h
 came_at p h xs run i f its later entry past whole =
     let all = whole_of p h xs run i f its in
     let even : length f.daemon.stamps ≡ length (later ++ entry ∷ past) =
-    pairs_long IsStampOf f.daemon.stamps (trace_of f) (entries_are_stamped p h xs run i.machine f.machine f.daemon all.at all.has) ∙ ap (λ (t : Trace). length t) whole in
+    pairs_length IsStampOf f.daemon.stamps (trace_of f) (entries_are_stamped p h xs run i.machine f.machine f.daemon all.at all.has) ∙ ap (λ (t : Trace). length t) whole in
     let s = has_stamp f.daemon.stamps (length past) (subst (λ n. length past < n) (sym even) (past_within later past entry)) in
     record { step = s.0.step; there = record { later = later; whole = whole; stamp = s.0; stamped = s.1; step_is = refl } }
 
@@ -81,7 +82,7 @@ kept_at p h xs given run i f its alive entry past step e g held exclusive t =
       unfreed = λ l.
           let freed = free_told p h xs run r t.place.there differ i f its t.place.joined g.lver l.step l.leads (l.lver ∙ t.instance) (l.owner ∙ t.holder) l.held in
           let there : Contains (holdings_on (trace_of f) f.session (spot_of_line r)) g =
-          subst (λ z. Contains (holdings_on (trace_of f) f.session z) g) t.place.spot (on_held (trace_of f) f.session (spot_of_grant g) g held) in
+          at_resource p h xs i (spot_of_grant g) t.place (λ z. Contains (holdings_on (trace_of f) f.session z) g) (on_held (trace_of f) f.session (spot_of_grant g) g held) in
           true_is_false
           (sym freed.free
           ∙ exclusives_are_unfreed st (trace_of f) all.lawful f.session all.known (spot_of_line r) g there exclusive freed.call

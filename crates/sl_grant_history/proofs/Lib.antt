@@ -13,3 +13,4 @@ pub mod Kept
 pub mod Owned
 pub mod Marks
 pub mod Sharing
+pub mod Proven

@@ -7,10 +7,11 @@ use Rattle.sl_grant_history.proofs.Exclusive.{IsToldOf}
 use Rattle.sl_grant_history.proofs.Names.{StoodAt, stood_at}
 use Rattle.sl_grant_history.proofs.Owned.{BlockTold, ends_within}
 use Rattle.sl_grant_history.proofs.Stepping.{IsAt}
-use Rattle.sl_grant_history.proofs.Telling.{IsFront, IsWhole, LeaseWas, OfLease, in_lease, lease_was, whole_of}
+use Rattle.sl_grant_history.proofs.Telling.{IsFront, OfLease, in_lease, lease_was, whole_of}
 use Rattle.sl_law.specs.LawfulModes.{SharedByBallot}
 use Rattle.sl_law.specs.Saying.{cut_at}
 use Rattle.sl_lease_law.proofs.GrantLaws.{modes_follow}
+use Rattle.sl_lease_law.specs.Holding.{ModeRests}
 use Rattle.sl_leases.specs.Leases.{Mode_set, block_of_record, has_shared_on, is_at, spot_of_call}
 use Rattle.sl_resource_history.proofs.Above.{line_aligned}
 use Rattle.sl_resource_history.proofs.Calls.{split}
@@ -24,12 +25,12 @@ use Rattle.sl_run.specs.declared.header.Header.{Header}
 use Rattle.sl_run.specs.declared.header.ResourceLine.{ResourceLine}
 use Rattle.sl_sector.specs.declared.sector.Block.{Block}
 use Rattle.sl_sessions.specs.Sessions.{Session, session_numbered}
-use Rattle.sl_trace.specs.Traces.{Setting, Trace, record_of, submitted}
+use Rattle.sl_trace.specs.Traces.{Setting, Submitted, Trace, record_of, submitted}
 use Rattle.sl_trace.specs.declared.effects.Call.{Call}
 use Rattle.sl_trace.specs.declared.effects.Entry.{Entry}
 use Rattle.sl_words.proofs.CaseLaws.{false_is_true}
 use Rattle.std.proofs.Common.{ap, arith, refl, subst, sym, ◌∙◌}
-use Rattle.std.specs.Prelude.{Bool, Contains, List, Some, false, length, option_and_then, suc, true, ℕ, ◌%◌, ◌++◌, ◌<◌, ◌||◌, ◌∷◌, ◌≡◌, ◌≤◌}
+use Rattle.std.specs.Prelude.{Bool, Contains, List, false, length, option_and_then, suc, true, ℕ, ◌%◌, ◌++◌, ◌<◌, ◌||◌, ◌∷◌, ◌≡◌, ◌≤◌}
 
 -- ---- where all of it stands
 
@@ -76,38 +77,43 @@ aligned : (p : Program) (h : Header) (xs : List Happening) (r : ResourceLine) (i
 aligned p h xs r i f k =
     ap (λ (g : Layout). r.offset % g.area) (whole_of p h xs k.run i f k.its).layout ∙ line_aligned p h xs k.run r k.there
 
--- After the grant: by the law of modes.
-pub marked_after : (p : Program) (h : Header) (xs : List Happening) (r : ResourceLine) (i : SessionId) (f : Found) → (k : RunsThere p h xs r i f) → (e : ℕ) (t : BlockTold p h xs r f e)
-    → length (front_of_run k) ≤ t.call.at → HasMark f t.block
-marked_after p h xs r i f k e t late =
+-- It holds shared at each later front.
+held_after : (p : Program) (h : Header) (xs : List Happening) (r : ResourceLine) (i : SessionId) (f : Found) → (k : RunsThere p h xs r i f) → (newer back : Trace)
+    → trace_of f ≡ newer ++ back → length (front_of_run k) ≤ length back → has_shared_on back f.session (spot_of_line r) ≡ true
+held_after p h xs r i f k newer back whole long =
+    let mid = ends_within k.later (front_of_run k) newer back (sym k.whole ∙ whole) long in
+    subst (λ z. has_shared_on z f.session (spot_of_line r) ≡ true) (sym mid.1) (k.stood newer mid.0 mid.2)
+
+marked_by : (p : Program) (h : Header) (xs : List Happening) (r : ResourceLine) (i : SessionId) (f : Found) → (k : RunsThere p h xs r i f) → (e : ℕ) (t : BlockTold p h xs r f e)
+    → length (front_of_run k) ≤ t.call.at → (older : List Submitted) → ModeRests (trace_of f) f.session (spot_of_call (setting_in f).layout t.call) older t.call t.block
+    → HasMark f t.block
+marked_by p h xs r i f k e t late older m =
     let st : Setting = setting_in f in
-    let es : Trace = trace_of f in
     let s : Session = f.session in
-    let all = whole_of p h xs k.run i f k.its in
-    let parts = split (submitted es) t.call t.lease.inside in
-    let number : session_numbered st es t.call.call.session ≡ Some s = ap (λ n. session_numbered st es n) t.lease.mine ∙ all.known in
-    let m = modes_follow st es all.lawful parts.0 parts.1 t.call t.block parts.2 t.wrote s number in
     let sub = m.submission in
     let back : Trace = sub.entry ∷ sub.past in
     let place : t.call.at ≡ length sub.past = sub.itself.at in
-    let long : length (front_of_run k) ≤ length back = up_long (length (front_of_run k)) t.call.at (length sub.past) late place in
-    let mid = ends_within k.later (front_of_run k) sub.later back (sym k.whole ∙ sub.whole) long in
-    let at : spot_of_call st.layout t.call ≡ spot_of_line r =
-    spot_is st.layout (spot_of_line r) t.call (aligned p h xs r i f k) t.lease.on in
-    let held : has_shared_on back s (spot_of_line r) ≡ true =
-    subst (λ z. has_shared_on z s (spot_of_line r) ≡ true) (sym mid.1) (k.stood sub.later mid.0 mid.2) in
-    let shown : has_shared_on (cut_at sub.place sub.entry ∷ sub.past) s (spot_of_call st.layout t.call) ≡ true =
-    ap (λ z. has_shared_on back s z) at ∙ held in
+    let held = held_after p h xs r i f k sub.later back sub.whole (up_long (length (front_of_run k)) t.call.at (length sub.past) late place) in
+    let at : spot_of_call st.layout t.call ≡ spot_of_line r = spot_is st.layout (spot_of_line r) t.call (aligned p h xs r i f k) t.lease.on in
+    let shown : has_shared_on (cut_at sub.place sub.entry ∷ sub.past) s (spot_of_call st.layout t.call) ≡ true = ap (λ z. has_shared_on back s z) at ∙ held in
     let shared : t.block.shared ≡ true = m.exact.1 (or_so (has_shared_on (cut_at sub.place sub.entry ∷ sub.past) s (spot_of_call st.layout t.call)) (is_at Mode_set t.call) shown) in
     let whole : IsFront p h xs i f back = record { run = k.run; its = k.its; later = sub.later; whole = sub.whole } in
     let was = lease_was st sub.later back s (spot_of_line r) t.call (subst (λ z. OfLease st z s (spot_of_line r) t.call) sub.whole t.lease)
     (last_in t.call.at (length sub.past) place) in
-    let named = stood_at p h xs i f back whole (spot_of_line r) was.was was.lease in
-    let known : session_numbered st back s.number ≡ Some s = named.known in
-    (
+    let named = stood_at p h xs i f back whole (spot_of_line r) was.was was.lease in (
       shared,
-      m.own shared ∙ sym (cut_keeps st sub.entry sub.past s named.entries named.lawful known named.joined sub.place) ∙ named.generation,
+      m.own shared ∙ sym (cut_keeps st sub.entry sub.past s named.entries named.lawful named.known named.joined sub.place) ∙ named.generation,
     )
+
+-- After the grant: by the law of modes.
+pub marked_after : (p : Program) (h : Header) (xs : List Happening) (r : ResourceLine) (i : SessionId) (f : Found) → (k : RunsThere p h xs r i f) → (e : ℕ) (t : BlockTold p h xs r f e)
+    → length (front_of_run k) ≤ t.call.at → HasMark f t.block
+marked_after p h xs r i f k e t late =
+    let all = whole_of p h xs k.run i f k.its in
+    let parts = split (submitted (trace_of f)) t.call t.lease.inside in
+    marked_by p h xs r i f k e t late parts.1
+    (modes_follow (setting_in f) (trace_of f) all.lawful parts.0 parts.1 t.call t.block parts.2 t.wrote f.session
+    (ap (λ n. session_numbered (setting_in f) (trace_of f) n) t.lease.mine ∙ all.known))
 
 -- Before it: by what the grant says of the blocks from its mark on.
 pub marked_before : (p : Program) (h : Header) (xs : List Happening) (r : ResourceLine) (i : SessionId) (f : Found) → (k : RunsThere p h xs r i f) → (e : ℕ) (t : BlockTold p h xs r f e)

@@ -1,7 +1,9 @@
 -- A session's block in the history, back in its trace: the call of its lease that wrote it, and where it was made.
 use Rattle.sl_area.specs.Layouts.{Layout}
 use Rattle.sl_course_law.specs.Stamping.{stamp_in}
-use Rattle.sl_grant_history.proofs.Telling.{OfLease, before_in, in_order, whole_of}
+use Rattle.sl_grant_history.proofs.Counting.{head_same, tail_same}
+use Rattle.sl_grant_history.proofs.Telling.{OfLease}
+use Rattle.sl_lease_law.proofs.AgeLaws.{writes}
 use Rattle.sl_leases.specs.Leases.{block_of_record, block_written, is_lease_call, is_on}
 use Rattle.sl_resource_history.proofs.Above.{written_at}
 use Rattle.sl_resource_history.proofs.Calls.{block_works, found_of, owner_found, owner_layout, worker_joined}
@@ -17,10 +19,11 @@ use Rattle.sl_run.specs.Worlds.{Program, World}
 use Rattle.sl_run.specs.declared.header.Header.{Header}
 use Rattle.sl_run.specs.declared.header.ResourceLine.{ResourceLine}
 use Rattle.sl_sector.specs.declared.sector.Block.{Block}
-use Rattle.sl_trace.specs.Traces.{Submitted, new_call, record_of}
+use Rattle.sl_trace.specs.Traces.{Submitted, front, new_call, record_of}
 use Rattle.sl_trace.specs.declared.effects.Call.{Call}
 use Rattle.sl_words.proofs.CaseLaws.{one_value}
 use Rattle.std.proofs.Common.{ap, arith, refl, subst, sym, ◌∙◌}
+use Rattle.std.proofs.lemmas.List.{length-append}
 use Rattle.std.specs.Prelude.{Contains, List, Option, Some, [], is_some, length, option_and_then, suc, true, ℕ, ◌++◌, ◌+◌, ◌∷◌, ◌≡◌, ◌≤◌}
 
 -- A block of the session on the resource's area, as its whole trace has it.
@@ -76,22 +79,12 @@ block_told p h xs run r there differ i f its joined e writes writer =
 no_longer : (n k m : ℕ) → n ≡ suc (k + m) → n ≤ m → ⊥
 no_longer n k m is most = omega (arith, is, most)
 
-length_both : {A : Type 0} (xs ys : List A) → length (xs ++ ys) ≡ length xs + length ys
-length_both [] ys = let e : length ys ≡ 0 + length ys = omega arith in e
-length_both (x ∷ xs) ys = let rest = length_both xs ys in omega (arith, rest)
-
-head_same : {A : Type 0} (x y : A) (xs ys : List A) → x ∷ xs ≡ y ∷ ys → x ≡ y
-head_same x y xs ys h = cc
-
-tail_same : {A : Type 0} (x y : A) (xs ys : List A) → x ∷ xs ≡ y ∷ ys → xs ≡ ys
-tail_same x y xs ys h = cc
-
 -- Of two ends of one list the longer one ends with the other.
 pub ends_within : {A : Type 0} (later front newer back : List A) → later ++ front ≡ newer ++ back → length front ≤ length back
     → (mid : List A) × (back ≡ mid ++ front) × (later ≡ newer ++ mid)
 ends_within later front [] back same le = (later, sym same, refl)
 ends_within [] front (y ∷ newer) back same le =
-    absurd (no_longer (length front) (length newer) (length back) (ap (λ zs. length zs) same ∙ ap (λ n. suc n) (length_both newer back)) le)
+    absurd (no_longer (length front) (length newer) (length back) (ap (λ zs. length zs) same ∙ ap (λ n. suc n) (length-append newer back)) le)
 ends_within (x ∷ later) front (y ∷ newer) back same le =
     let r = ends_within later front newer back (tail_same x y (later ++ front) (newer ++ back) same) le in
     (r.0, r.1, ap (λ zs. x ∷ zs) r.2 ∙ ap (λ z. z ∷ newer ++ r.0) (head_same x y (later ++ front) (newer ++ back) same))

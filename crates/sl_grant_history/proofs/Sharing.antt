@@ -7,16 +7,16 @@ use Rattle.sl_ballots.specs.History.{Block as HistoryBlock, History, Owner as Ho
 use Rattle.sl_course_law.specs.Stamping.{stamp_in}
 use Rattle.sl_grant_history.proofs.Alive.{alive_by}
 use Rattle.sl_grant_history.proofs.Counting.{numbers_rise}
-use Rattle.sl_grant_history.proofs.Exclusive.{IsToldOf, entry_front}
+use Rattle.sl_grant_history.proofs.Exclusive.{IsToldOf}
 use Rattle.sl_grant_history.proofs.Freeing.{FreeTold, free_told}
-use Rattle.sl_grant_history.proofs.Kept.{CameAt, came_at}
+use Rattle.sl_grant_history.proofs.Kept.{came_at}
 use Rattle.sl_grant_history.proofs.Marks.{HasMark, RunsThere, front_of_run, marked_after, marked_before}
-use Rattle.sl_grant_history.proofs.Names.{StoodAt, stood_at}
+use Rattle.sl_grant_history.proofs.Names.{stood_at}
 use Rattle.sl_grant_history.proofs.Owned.{BlockTold, block_told}
-use Rattle.sl_grant_history.proofs.Placing.{resource_at}
-use Rattle.sl_grant_history.proofs.Stepping.{AnsweredThere, BlockThere, IsAt, block_answered, block_there}
-use Rattle.sl_grant_history.proofs.Telling.{IsFront, IsTold, IsWhole, LeaseWas, OfLease, before_in, by_cases, entry_past, in_lease, in_order, lease_was, of_lease, told_made, whole_of}
-use Rattle.sl_grant_history.specs.Granted.{ResourceAt, SharedAreShared, SharedThere}
+use Rattle.sl_grant_history.proofs.Placing.{at_resource, resource_at}
+use Rattle.sl_grant_history.proofs.Stepping.{AnsweredThere, BlockThere, block_answered, block_there}
+use Rattle.sl_grant_history.proofs.Telling.{IsFront, OfLease, before_in, by_cases, entry_past, in_lease, in_order, lease_was, of_lease, told_made, whole_of}
+use Rattle.sl_grant_history.specs.Granted.{ResourceAt, SharedAreShared}
 use Rattle.sl_holding_law.proofs.Granted.{holdings_are_granted}
 use Rattle.sl_holding_law.proofs.Places.{the_shared}
 use Rattle.sl_holding_law.proofs.Sharing.{shared_runs_begin}
@@ -125,8 +125,7 @@ marked p h xs r i f k m e le writes writer =
     let t = block_told p h xs k.run r k.there differ i f k.its k.joined e writes writer in
     let mark : HasMark f t.block =
     by_cases (length (front_of_run k)) t.call.at (HasMark f t.block) (λ late. marked_after p h xs r i f k e t late)
-    (λ early. marked_before p h xs r i f k e t early (from_mark p h xs r i f k m e t early le)) in
-    (
+    (λ early. marked_before p h xs r i f k e t early (from_mark p h xs r i f k m e t early le)) in (
       ap (λ (b : HistoryBlock). b.shared) t.says ∙ mark.0,
       ap (λ (b : HistoryBlock). b.mode_gen) t.says ∙ mark.1 ∙ ap (λ (o : Holder). o.generation) (sym (holder_is w i f k.its)),
     )
@@ -149,9 +148,6 @@ freed_after p h xs r i f k stamp answered l t =
     (in_order p h xs k.run i f k.its k.ballot.mode_answer.at t.call.at stamp t.stamp answered t.made
     (by_cases (length (front_of_run k)) t.call.at (k.ballot.mode_answer.at ≤ t.call.at) late early))
   where
-    st : Setting
-    st = setting_in f
-
     mode : OfLease (setting_in f) (front_of_run k) f.session (spot_of_line r) k.ballot.mode
     mode = of_lease (setting_in f) (front_of_run k) f.session (spot_of_line r) k.ballot.mode k.ballot.of_lease.0
 
@@ -187,8 +183,7 @@ shared_to p h xs r i f k alive =
     let won : Contains (ended_ballots st.layout (lease_calls st (front_of_run k) f.session (spot_of_line r))) (k.instance, me (front_of_run k) f.session) =
     subst (λ ms. Contains (ended_ballots st.layout ms) (k.instance, me (front_of_run k) f.session)) (sym b.split)
     (ended_there st.layout b.after b.read b.before (k.instance, me (front_of_run k) f.session) b.won.1) in
-    let past : k.came.stamp.step < w.step = entry_past p h xs k.run i f k.its (length k.past) k.came.stamp k.came.stamped in
-    (
+    let past : k.came.stamp.step < w.step = entry_past p h xs k.run i f k.its (length k.past) k.came.stamp k.came.stamped in (
       record { step = k.step; holder = holder_of w i; won = k.instance; mark = step_of m.sent.sent },
       refl,
       record {
@@ -242,8 +237,8 @@ shared_are_shared_given given p h xs run i f its alive at has =
       step = c.step;
       came = c.there;
       instance = q.instance;
-      ballot = subst (λ z. SharedByBallot st front f.session z q.instance) a.spot q.ballot;
-      stood = λ newer older same. subst (λ z. has_shared_on (older ++ front) f.session z ≡ true) a.spot (q.stood newer older same);
+      ballot = at_resource p h xs i at a (λ z. SharedByBallot st front f.session z q.instance) q.ballot;
+      stood = λ newer older same. at_resource p h xs i at a (λ z. has_shared_on (older ++ front) f.session z ≡ true) (q.stood newer older same);
       at = record { front_is = k; there = a.there; joined = a.joined };
       named = stood_at p h xs i f front k at q.ballot.mode mode;
     }) alive in
