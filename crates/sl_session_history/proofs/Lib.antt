@@ -9,3 +9,5 @@ pub mod OrderedStood
 pub mod OrderedNames
 pub mod Joined
 pub mod OrderedOver
+pub mod FollowingSessions
+pub mod Register

@@ -1,6 +1,8 @@
 //! What the sessions of each resource's history promise.
 
 ghost use Rattle.sl_session_history.specs.Promises.{HistoriesEndEarlier, JoinedAreHosts, NamesAreApart};
+ghost use Rattle.sl_session_history.specs.Following.{SessionsFollow};
+ghost use Rattle.sl_session_history.specs.Promises.{HistoriesShowNewest, JoinedAreHosts, NamesAreApart};
 
 /// Joined sessions of one lockspace have different names for ballots.
 pub fn names_are_apart()
@@ -15,4 +17,12 @@ pub fn joined_are_hosts()
 /// Where a session joins, all of its id that joined before are over.
 pub fn histories_end_earlier()
     ensures { HistoriesEndEarlier }
+/// The sessions of a host follow one another on each resource.
+pub fn sessions_follow()
+    ensures { SessionsFollow }
+{}
+
+/// A read shows, of each host, what was answered ok before it was submitted, or what was submitted later.
+pub fn histories_show_newest()
+    ensures { HistoriesShowNewest }
 {}
