@@ -4,7 +4,9 @@
 -- the resource's history, where the ballots of an instance agree.
 use Rattle.sl_area.specs.Layouts.{Layout}
 use Rattle.sl_area.specs.Places.{is_base}
-use Rattle.sl_ballot_history.specs.Endings.{EndedBallotsEnd, IsEntryAt, holder_as}
+use Rattle.sl_ballot_history.proofs.EndedAll.{ended_ballots_end}
+use Rattle.sl_ballot_history.proofs.EndedJoined.{enders_are_joined}
+use Rattle.sl_ballot_history.specs.Endings.{holder_as}
 use Rattle.sl_ballots.proofs.AgreementLaws.{agreement, one_winner}
 use Rattle.sl_ballots.specs.Ballots.{BallotEnded}
 use Rattle.sl_ballots.specs.History.{Owner as Holder}
@@ -36,51 +38,6 @@ use Rattle.sl_words.proofs.CaseLaws.{none_some}
 use Rattle.std.proofs.Common.{ap, refl, subst, sym, ◌∙◌}
 use Rattle.std.specs.Prelude.{Bool, Contains, IsTrue, List, None, Option, Some, [], false, option_and_then, true, ℕ, ◌++◌, ◌∷◌, ◌≡◌}
 
--- ---- a ballot that ended had a block
-
--- A call that wrote a block.
-record WroteBlock (ms : List Submitted) : Type 0 where
-  call : Submitted
-  block : Block
-  has : Contains ms call
-  wrote : block_written call ≡ Some block
-
-wrote_more : (m : Submitted) (ms : List Submitted) → WroteBlock ms → WroteBlock (m ∷ ms)
-wrote_more m ms w = record { call = w.call; block = w.block; has = contains_more m ms w.call w.has; wrote = w.wrote }
-
-submitted_by : (m : Submitted) (ms : List Submitted) (own : Block) (o : Option Block) → block_written m ≡ o
-    → elim o as (λ z. Option Block) [ Some b ↦ Some b | None ↦ block_submitted ms ] ≡ Some own → (block_submitted ms ≡ Some own → WroteBlock ms) → WroteBlock (m ∷ ms)
-submitted_by m ms own (Some b) wrote is rest = record { call = m; block = b; has = contains_first m ms; wrote = wrote }
-submitted_by m ms own None wrote is rest = wrote_more m ms (rest is)
-
-submitted_is : (ms : List Submitted) (own : Block) → block_submitted ms ≡ Some own → WroteBlock ms
-submitted_is [] own is = absurd (none_some own is)
-submitted_is (m ∷ ms) own is = submitted_by m ms own (block_written m) refl is (submitted_is ms own)
-
-ended_by : (g : Layout) (m : Submitted) (ms : List Submitted) (x : ℕ × Owner) (o : Option Block) → block_submitted ms ≡ o
-    → option_and_then (λ own. option_and_then (λ blocks. value_in_end own (stop_of own blocks)) (blocks_given g m)) o ≡ Some x → WroteBlock ms
-ended_by g m ms x None is end = absurd (none_some x end)
-ended_by g m ms x (Some own) is end = submitted_is ms own is
-
-read_ended : (g : Layout) (m : Submitted) (ms : List Submitted) (x : ℕ × Owner) (b : Bool) → is_at Phase2_read m ≡ b
-    → elim b as (λ z. Option (ℕ × Owner)) [
-      | false ↦ None
-      | true ↦ option_and_then (λ own. option_and_then (λ blocks. value_in_end own (stop_of own blocks)) (blocks_given g m)) (block_submitted ms)
-    ] ≡ Some x → WroteBlock ms
-read_ended g m ms x false at end = absurd (none_some x end)
-read_ended g m ms x true at end = ended_by g m ms x (block_submitted ms) refl end
-
-among_by : (g : Layout) (m : Submitted) (ms : List Submitted) (x : ℕ × Owner) (o : Option (ℕ × Owner)) → ended_ballot g m ms ≡ o
-    → Contains (elim o as (λ z. List (ℕ × Owner)) [ None ↦ ended_ballots g ms | Some p ↦ p ∷ ended_ballots g ms ]) x → (Contains (ended_ballots g ms) x → WroteBlock ms)
-    → WroteBlock (m ∷ ms)
-among_by g m ms x None is there rest = wrote_more m ms (rest there)
-among_by g m ms x (Some p) is there rest = wrote_more m ms (read_ended g m ms p (is_at Phase2_read m) refl is)
-
--- Who ended a ballot has written a block.
-ended_wrote : (g : Layout) (ms : List Submitted) (x : ℕ × Owner) → Contains (ended_ballots g ms) x → WroteBlock ms
-ended_wrote g [] x there = absurd (contains_none x there)
-ended_wrote g (m ∷ ms) x there = among_by g m ms x (ended_ballot g m ms) refl there (ended_wrote g ms x)
-
 -- ---- it ended in the history
 
 -- A ballot of an area that has ended in the history of the resource there.
@@ -89,30 +46,25 @@ record EndsThere (p : Program) (h : Header) (xs : List Happening) (i : SessionId
   step : ℕ
   ended : BallotEnded (history_of_line p h xs place.resource) (holder_of (world_at p h xs) i) n (holder_as o) step
 
-ends_by : EndedBallotsEnd → (p : Program) (h : Header) (xs : List Happening) → LawfulRun p h xs → (i : SessionId) (f : Found) → IsSession (world_at p h xs) i f → (at : Spot)
+ends_by : (p : Program) (h : Header) (xs : List Happening) → LawfulRun p h xs → (i : SessionId) (f : Found) → IsSession (world_at p h xs) i f → (at : Spot)
     → ResourceAt p h xs i at → (n : ℕ) (o : Owner) (es : Trace) → trace_of f ≡ es → Contains (ended_ballots (setting_in f).layout (lease_calls (setting_in f) es f.session at)) (n, o)
     → EndsThere p h xs i at n o
-ends_by ended_given p h xs run i f its at a n o [] whole there = absurd (contains_none (n, o) there)
-ends_by ended_given p h xs run i f its at a n o (e ∷ past) whole there =
+ends_by p h xs run i f its at a n o [] whole there = absurd (contains_none (n, o) there)
+ends_by p h xs run i f its at a n o (e ∷ past) whole there =
     let r : ResourceLine = a.resource in
     let c = came_at p h xs run i f its [] e past whole in
     record {
       place = a;
       step = c.step;
-      ended = ended_given p h xs r run a.there (names_are_apart p h xs r run a.there) (joined_are_hosts p h xs r run a.there) i f its a.joined e past c.step c.there n o
+      ended = ended_ballots_end p h xs r run a.there (names_are_apart p h xs r run a.there) (joined_are_hosts p h xs r run a.there) i f its a.joined e past c.step c.there n o
           (subst (λ (s : Spot). Contains (ended_ballots (setting_in f).layout (lease_calls (setting_in f) (e ∷ past) f.session s)) (n, o)) a.spot there);
     }
 
-ends_there : EndedBallotsEnd → (p : Program) (h : Header) (xs : List Happening) → LawfulRun p h xs → (i : SessionId) (f : Found) → IsSession (world_at p h xs) i f → (at : Spot)
+ends_there : (p : Program) (h : Header) (xs : List Happening) → LawfulRun p h xs → (i : SessionId) (f : Found) → IsSession (world_at p h xs) i f → (at : Spot)
     → IsTrue (is_base (world_at p h xs).layout at.base) → (n : ℕ) (o : Owner) → Contains (ballots_of f at) (n, o) → EndsThere p h xs i at n o
-ends_there ended_given p h xs run i f its at base n o there =
-    let st = setting_in f in
-    let all = whole_of p h xs run i f its in
-    let b = ended_wrote st.layout (lease_calls st (trace_of f) f.session at) (n, o) there in
-    let front : IsFront p h xs i f (trace_of f) = record { run = run; its = its; later = []; whole = refl } in
-    let a : ResourceAt p h xs i at =
-    resource_at p h xs i f (trace_of f) front at (ap (λ (g : Layout). is_base g at.base) all.layout ∙ base) b.call b.has b.block b.wrote in
-    ends_by ended_given p h xs run i f its at a n o (trace_of f) refl there
+ends_there p h xs run i f its at base n o there =
+    let a = enders_are_joined p h xs run i f its [] (trace_of f) refl at base (n, o) there in
+    ends_by p h xs run i f its at (record { resource = a.0; there = a.1; spot = a.2; joined = a.3 }) n o (trace_of f) refl there
 
 -- ---- of one resource
 
@@ -125,22 +77,22 @@ same_resource p h xs run i k at a b =
 one_owner : (u v : Owner) → holder_as u ≡ holder_as v → u ≡ v
 one_owner u v same = ap (λ (o : Holder). let x : Owner = record { id = o.id; generation = o.generation } in x) same
 
-pub agreement_given : HistoriesAreLawful → EndedBallotsEnd → (p : Program) (h : Header) (xs : List Happening) → LawfulRun p h xs → Agreement (world_at p h xs)
-agreement_given lawful_given ended_given p h xs run i k f g at n u v base its also one two =
+pub agreement_given : HistoriesAreLawful → (p : Program) (h : Header) (xs : List Happening) → LawfulRun p h xs → Agreement (world_at p h xs)
+agreement_given lawful_given p h xs run i k f g at n u v base its also one two =
     let w : World = world_at p h xs in
-    let a : EndsThere p h xs i at n u = ends_there ended_given p h xs run i f its at base n u one in
-    let b : EndsThere p h xs k at n v = ends_there ended_given p h xs run k g also at base n v two in
+    let a : EndsThere p h xs i at n u = ends_there p h xs run i f its at base n u one in
+    let b : EndsThere p h xs k at n v = ends_there p h xs run k g also at base n v two in
     let r : ResourceLine = a.place.resource in
     let other : BallotEnded (history_of_line p h xs r) (holder_of w k) n (holder_as v) b.step =
     subst (λ (l : ResourceLine). BallotEnded (history_of_line p h xs l) (holder_of w k) n (holder_as v) b.step) (same_resource p h xs run i k at a.place b.place) b.ended in
     one_owner u v
     (agreement (history_of_line p h xs r) (lawful_given p h xs r run a.place.there) n (holder_of w i) (holder_of w k) (holder_as u) (holder_as v) a.step b.step a.ended other)
 
-pub one_winner_given : HistoriesAreLawful → EndedBallotsEnd → (p : Program) (h : Header) (xs : List Happening) → LawfulRun p h xs → OneWinner (world_at p h xs)
-one_winner_given lawful_given ended_given p h xs run i k f g at n base its also one two =
+pub one_winner_given : HistoriesAreLawful → (p : Program) (h : Header) (xs : List Happening) → LawfulRun p h xs → OneWinner (world_at p h xs)
+one_winner_given lawful_given p h xs run i k f g at n base its also one two =
     let w : World = world_at p h xs in
-    let a = ends_there ended_given p h xs run i f its at base n (me (trace_of f) f.session) one in
-    let b = ends_there ended_given p h xs run k g also at base n (me (trace_of g) g.session) two in
+    let a = ends_there p h xs run i f its at base n (me (trace_of f) f.session) one in
+    let b = ends_there p h xs run k g also at base n (me (trace_of g) g.session) two in
     let r : ResourceLine = a.place.resource in
     let same = same_resource p h xs run i k at a.place b.place in
     let mine : BallotEnded (history_of_line p h xs r) (holder_of w i) n (holder_of w i) a.step =

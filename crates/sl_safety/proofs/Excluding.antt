@@ -3,8 +3,8 @@
 -- Of two that conflict one is exclusive, and both are of one resource. There the argument over ballots gives them one holder, and
 -- names of joined sessions are apart: so both are of one session, thus of one machine, and a machine doesn't conflict with itself.
 use Rattle.sl_front_law.proofs.Going.{fronts_are_lawful}
-use Rattle.sl_grant_history.specs.Granted.{ExclusivesAreKept, SharedAreShared}
-use Rattle.sl_holding_law.specs.Holders.{HeldBy, HoldingsAreHeld, OneMachineAgrees}
+use Rattle.sl_holding_law.proofs.Holders.{holdings_are_held, one_machine_agrees}
+use Rattle.sl_holding_law.specs.Holders.{HeldBy}
 use Rattle.sl_holdings.proofs.Holding.{none_shares_beside, one_is_kept}
 use Rattle.sl_place_law.proofs.Finding.{place_is}
 use Rattle.sl_resource_history.specs.Promises.{history_of_line}
@@ -16,7 +16,7 @@ use Rattle.sl_run.specs.declared.header.Header.{Header}
 use Rattle.sl_run.specs.declared.header.ResourceLine.{ResourceLine}
 use Rattle.sl_safety.proofs.Placed.{ExclusiveOf, HoldsAsShared, HoldsExclusive, SharedOf, exclusive_of, of_one_resource, shared_of}
 use Rattle.sl_safety.specs.Histories.{HistoriesAreLawful, HistoriesKeepInstances}
-use Rattle.sl_session_history.specs.Promises.{NamesAreApart}
+use Rattle.sl_session_history.proofs.Named.{names_are_apart}
 use Rattle.sl_trace.specs.Traces.{is_shared, same_place}
 use Rattle.sl_watchdog_law.proofs.Finding.{any_found}
 use Rattle.sl_words.proofs.CaseLaws.{false_is_true, true_or_false}
@@ -29,11 +29,6 @@ use Rattle.std.specs.Prelude.{Bool, Contains, List, false, not, true, ◌&&◌, 
 pub record Grounds : Type 0 where
   pub lawful : HistoriesAreLawful
   pub instances : HistoriesKeepInstances
-  pub names : NamesAreApart
-  pub held : HoldingsAreHeld
-  pub machines : OneMachineAgrees
-  pub exclusives : ExclusivesAreKept
-  pub shared : SharedAreShared
 
 -- ---- of one resource
 
@@ -43,7 +38,7 @@ one_holds : Grounds → (p : Program) (h : Header) (xs : List Happening) → Law
 one_holds b p h xs run r there i k x y =
     let one = one_is_kept (history_of_line p h xs r) (b.lawful p h xs r run there) (b.instances p h xs r run there) x.grant y.grant x.granted y.granted
     (world_at p h xs).step x.kept y.kept in
-    b.names p h xs r run there i k x.joined y.joined (sym x.holder ∙ one.0 ∙ y.holder)
+    names_are_apart p h xs r run there i k x.joined y.joined (sym x.holder ∙ one.0 ∙ y.holder)
 
 -- Beside one no other holds it shared.
 none_holds_shared : Grounds → (p : Program) (h : Header) (xs : List Happening) → LawfulRun p h xs → (r : ResourceLine) → Contains h.resources r
@@ -51,7 +46,7 @@ none_holds_shared : Grounds → (p : Program) (h : Header) (xs : List Happening)
 none_holds_shared b p h xs run r there i k x y =
     let one = none_shares_beside (history_of_line p h xs r) (b.lawful p h xs r run there) (b.instances p h xs r run there) x.grant x.granted y.grant
     (world_at p h xs).step x.kept y.shared in
-    b.names p h xs r run there i k x.joined y.joined (sym x.holder ∙ one ∙ y.holder)
+    names_are_apart p h xs r run there i k x.joined y.joined (sym x.holder ∙ one ∙ y.holder)
 
 -- ---- of one place
 
@@ -59,15 +54,15 @@ none_holds_shared b p h xs run r there i k x y =
 same_session : Grounds → (p : Program) (h : Header) (xs : List Happening) → LawfulRun p h xs → (x y : Holding) (f : HeldBy (world_at p h xs) x)
     (g : HeldBy (world_at p h xs) y) → x.held.path ≡ y.held.path → x.held.offset ≡ y.held.offset → is_shared x.held.mode ≡ false → f.session ≡ g.session
 same_session b p h xs run x y f g paths offsets exclusive =
-    let a : ExclusiveOf p h xs f.session x.held = exclusive_of b.exclusives p h xs run x f exclusive in
+    let a : ExclusiveOf p h xs f.session x.held = exclusive_of p h xs run x f exclusive in
     elim (true_or_false (is_shared y.held.mode)) [
       | inl shared ↦
-          let c : SharedOf p h xs g.session y.held = shared_of b.shared p h xs run y g shared in
+          let c : SharedOf p h xs g.session y.held = shared_of p h xs run y g shared in
           let same = of_one_resource h run.header x.held y.held a.resource c.resource a.of c.of paths offsets in
           none_holds_shared b p h xs run a.resource a.of.there f.session g.session a.holds
           (subst (λ (r : ResourceLine). HoldsAsShared p h xs g.session r) (sym same) c.holds)
       | inr other ↦
-          let c : ExclusiveOf p h xs g.session y.held = exclusive_of b.exclusives p h xs run y g other in
+          let c : ExclusiveOf p h xs g.session y.held = exclusive_of p h xs run y g other in
           let same = of_one_resource h run.header x.held y.held a.resource c.resource a.of c.of paths offsets in
           one_holds b p h xs run a.resource a.of.there f.session g.session a.holds
           (subst (λ (r : ResourceLine). HoldsExclusive p h xs g.session r) (sym same) c.holds)
@@ -99,8 +94,8 @@ one_machine b p h xs run x y f g is =
 never_conflict : Grounds → (p : Program) (h : Header) (xs : List Happening) → LawfulRun p h xs → (x y : Holding)
     → Contains (world_holdings (world_at p h xs)) x → Contains (world_holdings (world_at p h xs)) y → conflicts x y ≡ true → ⊥
 never_conflict b p h xs run x y there also is =
-    let same = one_machine b p h xs run x y (b.held p h xs run x there) (b.held p h xs run y also) is in
-    false_is_true (sym (b.machines p h xs run x y there also same) ∙ is)
+    let same = one_machine b p h xs run x y (holdings_are_held p h xs run x there) (holdings_are_held p h xs run y also) is in
+    false_is_true (sym (one_machine_agrees p h xs run x y there also same) ∙ is)
 
 exclusive_after : Grounds → (p : Program) (h : Header) (xs : List Happening) → LawfulRun p h xs → IsExclusive (world_at p h xs)
 exclusive_after b p h xs run =

@@ -20,9 +20,10 @@ use Rattle.sl_run.specs.Safety.{LawfulRun, block_there, world_at}
 use Rattle.sl_run.specs.Worlds.{Program, Stamp, World}
 use Rattle.sl_run.specs.declared.header.Header.{Header}
 use Rattle.sl_run.specs.declared.header.ResourceLine.{ResourceLine}
-use Rattle.sl_safety.proofs.Standing.{HistoriesFollow, SentSince, block_stands}
+use Rattle.sl_safety.proofs.Standing.{SentSince, block_stands}
 use Rattle.sl_safety.specs.Histories.{HistoriesAreLawful}
 use Rattle.sl_sector.specs.declared.sector.Block.{Block}
+use Rattle.sl_session_history.proofs.FollowingSessions.{sessions_follow}
 use Rattle.std.proofs.Common.{ap, arith, subst, sym, ◌∙◌}
 use Rattle.std.specs.Prelude.{Contains, List, Some, true, ℕ, ◌++◌, ◌<◌, ◌≡◌, ◌≤◌}
 
@@ -89,14 +90,14 @@ says_shared lawful_given p h xs run r there s is y block b says since =
 -- ---- what stands
 
 -- At each front that the mark's answer has come before.
-pub mode_stands : HistoriesAreLawful → HistoriesFollow → (p : Program) (h : Header) (now rest : List Happening) → LawfulRun p h (now ++ rest) → (r : ResourceLine)
+pub mode_stands : HistoriesAreLawful → (p : Program) (h : Header) (now rest : List Happening) → LawfulRun p h (now ++ rest) → (r : ResourceLine)
     → Contains h.resources r → (s : SharedGrant) → is_host (world_at p h (now ++ rest)) s.holder.id ≡ true
     → (is : IsSharedTo (history_of_line p h (now ++ rest) r) s (world_at p h (now ++ rest)).step) → is.ack ≤ (world_at p h now).step → (b : Block)
     → block_there (world_at p h now) (spot_of_line r) s.holder.id ≡ Some b → SaysShared s b
-mode_stands lawful_given follow_given p h now rest run r there s host is early b spells =
+mode_stands lawful_given p h now rest run r there s host is early b spells =
     let w : World = world_at p h (now ++ rest) in
     let m : MarkSent w r s is.ack = mark_sent p h (now ++ rest) r s w.step is in
     let y : SentSince w r s.holder.id b m.sent =
-    block_stands p h now rest run r there s.holder.id host (follow_given p h (now ++ rest) r run there s.holder.id) m.sent m.block m.done m.stamp
+    block_stands p h now rest run r there s.holder.id host (sessions_follow p h (now ++ rest) r run there s.holder.id) m.sent m.block m.done m.stamp
     m.answered (subst (λ (n : ℕ). n ≤ (world_at p h now).step) (sym m.at) early) b spells in
     says_shared lawful_given p h (now ++ rest) run r there s is y.sent y.block b y.says (subst (λ (n : ℕ). n ≤ step_of y.sent) m.step y.since)

@@ -7,7 +7,7 @@ use Rattle.sl_course_law.proofs.Mirrored.{machines_mirror}
 use Rattle.sl_course_law.specs.Stamping.{stamp_in}
 use Rattle.sl_front_law.proofs.Going.{fronts_are_lawful}
 use Rattle.sl_grant_history.proofs.Telling.{IsFront, IsTold, OfLease, entry_past, of_lease, told, told_made, told_on, told_wrote}
-use Rattle.sl_grant_history.specs.Granted.{SharedAreShared, SharedThere}
+use Rattle.sl_grant_history.specs.Granted.{SharedThere}
 use Rattle.sl_holdings.proofs.Holding.{marks_come}
 use Rattle.sl_id_safety.proofs.Silence.{GoesOn, goes_on}
 use Rattle.sl_id_state.proofs.LaterFrames.{found_later}
@@ -29,7 +29,6 @@ use Rattle.sl_run.specs.declared.header.Header.{Header}
 use Rattle.sl_run.specs.declared.header.ResourceLine.{ResourceLine}
 use Rattle.sl_safety.proofs.Marked.{MarkSent, mark_sent, mode_stands, sent_before}
 use Rattle.sl_safety.proofs.Placed.{found_where}
-use Rattle.sl_safety.proofs.Standing.{HistoriesFollow}
 use Rattle.sl_safety.specs.Histories.{HistoriesAreLawful, HistoriesKeepInstances}
 use Rattle.sl_sector.specs.declared.sector.Block.{Block}
 use Rattle.sl_session_history.proofs.FollowingJoins.{stamps_stay}
@@ -55,7 +54,6 @@ SharedAreUnder = (p : Program) (h : Header) (xs : List Happening) → LawfulRun 
 pub record ModeGrounds : Type 0 where
   pub lawful : HistoriesAreLawful
   pub instances : HistoriesKeepInstances
-  pub follow : HistoriesFollow
   pub shared : SharedAreUnder
 
 -- ---- where the mark was answered
@@ -75,7 +73,7 @@ showing g p h now rest run i f its at y early b spells =
     subst (λ n. is_host w n ≡ true) (ap (λ o. o.id) (sym y.holder)) (joined_are_hosts p h (now ++ rest) r run y.place.there i y.place.joined) in
     let there : block_there (world_at p h now) (spot_of_line r) y.grant.holder.id ≡ Some b =
     ap (λ (s : Spot). block_there (world_at p h now) s y.grant.holder.id) (sym y.place.spot) ∙ ap (λ n. block_there (world_at p h now) at n) (ap (λ o. o.id) name) ∙ spells in
-    let says = mode_stands g.lawful g.follow p h now rest run r y.place.there y.grant host y.shared early b there in
+    let says = mode_stands g.lawful p h now rest run r y.place.there y.grant host y.shared early b there in
     (says.0, says.1 ∙ ap (λ o. o.generation) name)
 
 showing_at : ModeGrounds → (p : Program) (h : Header) (now rest xs : List Happening) → now ++ rest ≡ xs → Showing p h now xs

@@ -46,11 +46,6 @@ use Rattle.std.specs.Prelude.{Contains, List, Ok, Option, Some, [], option_and_t
 abbrev pub BlocksFollow : World → ResourceLine → ℕ → Type 0
 BlocksFollow w r k = (x y : Sent) → BlockSent w r k x → BlockSent w r k y → Follows w r k (sender_of x) (sender_of y)
 
--- So it is with each host of each resource of a lawful run.
-abbrev pub HistoriesFollow : Type 0
-HistoriesFollow = (p : Program) (h : Header) (xs : List Happening) (r : ResourceLine) → LawfulRun p h xs → Contains h.resources r → (k : ℕ)
-    → BlocksFollow (world_at p h xs) r k
-
 -- ---- fronts
 
 layout_kept : (p : Program) (h : Header) (now xs : List Happening) → (world_at p h now).layout ≡ (world_at p h xs).layout

@@ -1,12 +1,7 @@
 -- The whole: lawful runs are safe, and keep both invariants.
 --
 -- What isn't proved yet is an argument.
-use Rattle.sl_ballot_history.specs.Endings.{EndedBallotsEnd}
 use Rattle.sl_front_law.proofs.Going.{fronts_are_lawful}
-use Rattle.sl_grant_history.proofs.Exclusive.{IsToldOf}
-use Rattle.sl_grant_history.proofs.Kept.{exclusives_are_kept_given}
-use Rattle.sl_grant_history.proofs.Sharing.{shared_are_shared_given}
-use Rattle.sl_holding_law.proofs.Holders.{holdings_are_held, one_machine_agrees}
 use Rattle.sl_id_safety.proofs.Proven.{ids_are_safe}
 use Rattle.sl_run.specs.Runs.{Happening}
 use Rattle.sl_run.specs.Safety.{Invariants, LawfulRun, LeaseInvariant, Safety}
@@ -14,54 +9,38 @@ use Rattle.sl_run.specs.Worlds.{Program}
 use Rattle.sl_run.specs.declared.header.Header.{Header}
 use Rattle.sl_safety.proofs.Agreeing.{agreement_given, one_winner_given}
 use Rattle.sl_safety.proofs.Excluding.{safety_given}
-use Rattle.sl_safety.proofs.Lawful.{BallotsKeep, SessionsKeep, are_lawful_given, keep_instances_given}
+use Rattle.sl_safety.proofs.Lawful.{are_lawful_given, keep_instances_given}
 use Rattle.sl_safety.proofs.Moded.{ModeGrounds, SharedAreUnder, modes_stand_given, modes_stood_given}
-use Rattle.sl_safety.proofs.Standing.{HistoriesFollow}
 use Rattle.sl_safety.specs.Histories.{HistoriesAreLawful, HistoriesKeepInstances}
-use Rattle.sl_session_history.proofs.Named.{joined_are_hosts, names_are_apart}
+use Rattle.sl_session_history.specs.Promises.{HistoriesAreInOrder, HistoriesHaveTrueEvidence}
 use Rattle.std.proofs.Common.{subst}
 use Rattle.std.specs.Prelude.{List}
 
 -- What is still to be proved.
 pub record Given : Type 0 where
-  pub sessions : SessionsKeep
-  pub follow : HistoriesFollow
-  pub ballots : BallotsKeep
-  pub ended : EndedBallotsEnd
+  pub order : HistoriesAreInOrder
+  pub evidence : HistoriesHaveTrueEvidence
   pub under : SharedAreUnder
 
 lawful : Given → HistoriesAreLawful
-lawful g = are_lawful_given g.sessions g.ballots
+lawful g = are_lawful_given g.order
 
 instances : Given → HistoriesKeepInstances
-instances g = keep_instances_given g.sessions g.ballots
-
-told_of : Given → IsToldOf
-told_of g = record { names = names_are_apart; hosts = joined_are_hosts; ended = g.ended }
+instances g = keep_instances_given g.evidence
 
 -- No two holdings conflict.
 pub safety_from : Given → Safety
-safety_from g =
-    safety_given
-    (record {
-      lawful = lawful g;
-      instances = instances g;
-      names = names_are_apart;
-      held = holdings_are_held;
-      machines = one_machine_agrees;
-      exclusives = exclusives_are_kept_given (told_of g);
-      shared = shared_are_shared_given (told_of g);
-    })
+safety_from g = safety_given (record { lawful = lawful g; instances = instances g })
 
 mode_grounds : Given → ModeGrounds
-mode_grounds g = record { lawful = lawful g; instances = instances g; follow = g.follow; shared = g.under }
+mode_grounds g = record { lawful = lawful g; instances = instances g; shared = g.under }
 
 -- The invariant of blocks and leaders.
 pub leases_from : Given → (p : Program) (h : Header) (xs : List Happening) → LawfulRun p h xs → LeaseInvariant p h xs
 leases_from g p h xs run =
     record {
-      agreement = agreement_given (lawful g) g.ended p h xs run;
-      winner = one_winner_given (lawful g) g.ended p h xs run;
+      agreement = agreement_given (lawful g) p h xs run;
+      winner = one_winner_given (lawful g) p h xs run;
       mode = modes_stand_given (mode_grounds g) p h xs run;
       mode_before = modes_stood_given (mode_grounds g) p h xs run;
     }

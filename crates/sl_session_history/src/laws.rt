@@ -1,8 +1,7 @@
 //! What the sessions of each resource's history promise.
 
-ghost use Rattle.sl_session_history.specs.Promises.{HistoriesEndEarlier, JoinedAreHosts, NamesAreApart};
 ghost use Rattle.sl_session_history.specs.Following.{SessionsFollow};
-ghost use Rattle.sl_session_history.specs.Promises.{HistoriesShowNewest, JoinedAreHosts, NamesAreApart};
+ghost use Rattle.sl_session_history.specs.Promises.{HistoriesEndEarlier, HistoriesShowNewest, JoinedAreHosts, NamesAreApart};
 
 /// Joined sessions of one lockspace have different names for ballots.
 pub fn names_are_apart()
