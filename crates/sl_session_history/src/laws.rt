@@ -16,6 +16,8 @@ pub fn joined_are_hosts()
 /// Where a session joins, all of its id that joined before are over.
 pub fn histories_end_earlier()
     ensures { HistoriesEndEarlier }
+{}
+
 /// The sessions of a host follow one another on each resource.
 pub fn sessions_follow()
     ensures { SessionsFollow }
