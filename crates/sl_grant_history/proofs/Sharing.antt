@@ -16,10 +16,11 @@ use Rattle.sl_grant_history.proofs.Owned.{BlockTold, block_told}
 use Rattle.sl_grant_history.proofs.Placing.{at_resource, resource_at}
 use Rattle.sl_grant_history.proofs.Stepping.{AnsweredThere, BlockThere, block_answered, block_there}
 use Rattle.sl_grant_history.proofs.Telling.{IsFront, OfLease, before_in, by_cases, entry_past, in_lease, in_order, lease_was, of_lease, told_made, whole_of}
-use Rattle.sl_grant_history.specs.Granted.{ResourceAt, SharedAreShared}
+use Rattle.sl_grant_history.specs.Granted.{ResourceAt, SharedAreShared, SharedAreUnder, SharedThere}
 use Rattle.sl_holding_law.proofs.Granted.{holdings_are_granted}
-use Rattle.sl_holding_law.proofs.Places.{the_shared}
-use Rattle.sl_holding_law.proofs.Sharing.{shared_runs_begin}
+use Rattle.sl_holding_law.proofs.Places.{held_on, on_held, the_shared}
+use Rattle.sl_holding_law.proofs.Sharing.{shared_holdings_begin}
+use Rattle.sl_holding_law.specs.Granting.{SharedRun}
 use Rattle.sl_holdings.specs.Holdings.{IsSharedTo, SharedGrant}
 use Rattle.sl_law.proofs.LawFacts.{lawful-front}
 use Rattle.sl_law.specs.Lawful.{Lawful}
@@ -31,7 +32,7 @@ use Rattle.sl_resource_history.proofs.Shown.{holder_is}
 use Rattle.sl_resource_history.specs.Promises.{history_of_line, spot_of_line}
 use Rattle.sl_resource_history.specs.Sending.{Sent, holder_of, sent_at, step_of, writes_block}
 use Rattle.sl_run.specs.Runs.{Happening}
-use Rattle.sl_run.specs.Safety.{Found, SessionId, is_over, setting_in, trace_of, world_at}
+use Rattle.sl_run.specs.Safety.{Found, IsSession, LawfulRun, SessionId, is_over, setting_in, trace_of, world_at}
 use Rattle.sl_run.specs.Worlds.{Program, Stamp, World}
 use Rattle.sl_run.specs.declared.header.Header.{Header}
 use Rattle.sl_run.specs.declared.header.ResourceLine.{ResourceLine}
@@ -170,7 +171,7 @@ freed_after p h xs r i f k stamp answered l t =
 -- ---- all of it
 
 shared_to : (p : Program) (h : Header) (xs : List Happening) (r : ResourceLine) (i : SessionId) (f : Found) → (k : RunsThere p h xs r i f) → is_over i f ≡ false
-    → (s : SharedGrant) × (s.holder ≡ holder_of (world_at p h xs) i) × IsSharedTo (history_of_line p h xs r) s (world_at p h xs).step
+    → (s : SharedGrant) × (s.holder ≡ holder_of (world_at p h xs) i) × IsSharedTo (history_of_line p h xs r) s (world_at p h xs).step × (s.won ≡ k.instance)
 shared_to p h xs r i f k alive =
     let w : World = world_at p h xs in
     let H : History = history_of_line p h xs r in
@@ -199,6 +200,7 @@ shared_to p h xs r i f k alive =
             freed_after p h xs r i f k a.stamp a.entry l (free_told p h xs k.run r k.there differ i f k.its k.joined k.instance l leads lver owner held);
         alive = alive_by p h xs k.run r differ i f k.its k.joined alive;
       },
+      refl,
     )
 
 is_placed : (st : Setting) (es : Trace) → Lawful st es → (g : Grant) → Contains (holdings es) g → is_base st.layout g.offset ≡ true
@@ -209,21 +211,18 @@ is_placed st es law g has =
     let s = got (session_numbered st front g.session) (here.granting.0.owned g from.given) in
     (here.granting.0.each g s.0 from.given s.1).placed
 
-pub shared_are_shared_given : IsToldOf → SharedAreShared
-shared_are_shared_given given p h xs run i f its alive at has =
+-- A run of shared holdings began by a grant of the history.
+run_began : IsToldOf → (p : Program) (h : Header) (xs : List Happening) → LawfulRun p h xs → (i : SessionId) (f : Found) → IsSession (world_at p h xs) i f → is_over i f ≡ false
+    → (at : Spot) → is_base (setting_in f).layout at.base ≡ true → (q : SharedRun (setting_in f) (trace_of f) f.session at)
+    → (y : SharedThere p h xs i at) × (y.grant.won ≡ q.instance)
+run_began given p h xs run i f its alive at placed q =
     let st : Setting = setting_in f in
-    let es : Trace = trace_of f in
-    let all = whole_of p h xs run i f its in
-    let q = shared_runs_begin st es all.lawful f.session all.known at has in
     let front : Trace = q.entry ∷ q.past in
-    let one = the_shared es f.session at has in
-    let placed : is_base st.layout at.base ≡ true = subst (λ (z : Spot). is_base st.layout z.base ≡ true) one.1.spot (is_placed st es all.lawful one.0 one.1.there) in
     let k : IsFront p h xs i f front = record { run = run; its = its; later = q.later; whole = q.whole } in
     let c = came_at p h xs run i f its q.later q.entry q.past q.whole in
     let a : ResourceAt p h xs i at = resource_at p h xs i f front k at placed q.ballot.mode q.ballot.of_lease.0 q.ballot.block q.ballot.moded.2 in
-    let r : ResourceLine = a.resource in
     let mode = of_lease st front f.session at q.ballot.mode q.ballot.of_lease.0 in
-    let s = shared_to p h xs r i f
+    let s = shared_to p h xs a.resource i f
     (record {
       given = given;
       run = run;
@@ -242,4 +241,20 @@ shared_are_shared_given given p h xs run i f its alive at has =
       at = record { front_is = k; there = a.there; joined = a.joined };
       named = stood_at p h xs i f front k at q.ballot.mode mode;
     }) alive in
-    record { place = a; grant = s.0; holder = s.1; shared = s.2 }
+    (record { place = a; grant = s.0; holder = s.1; shared = s.2 }, s.3)
+
+pub shared_are_under_given : IsToldOf → SharedAreUnder
+shared_are_under_given given p h xs run i f its alive at g has shared =
+    let st : Setting = setting_in f in
+    let all = whole_of p h xs run i f its in
+    let held = held_on (trace_of f) f.session at g has in
+    let q = shared_holdings_begin st (trace_of f) all.lawful f.session all.known at g has shared in
+    let placed : is_base st.layout at.base ≡ true =
+    subst (λ (z : Spot). is_base st.layout z.base ≡ true) held.spot (is_placed st (trace_of f) all.lawful g held.there) in
+    let y = run_began given p h xs run i f its alive at placed q.run in
+    (y.0, y.1 ∙ q.under)
+
+pub shared_are_shared_given : IsToldOf → SharedAreShared
+shared_are_shared_given given p h xs run i f its alive at has =
+    let one = the_shared (trace_of f) f.session at has in
+    (shared_are_under_given given p h xs run i f its alive at one.0 (on_held (trace_of f) f.session at one.0 one.1) one.2).0

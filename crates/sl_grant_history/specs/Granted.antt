@@ -63,3 +63,9 @@ pub record SharedThere (p : Program) (h : Header) (xs : List Happening) (i : Ses
 abbrev pub SharedAreShared : Type 0
 SharedAreShared = (p : Program) (h : Header) (xs : List Happening) → LawfulRun p h xs → (i : SessionId) (f : Found) → IsSession (world_at p h xs) i f
     → IsFalse (is_over i f) → (at : Spot) → IsTrue (has_shared_on (trace_of f) f.session at) → SharedThere p h xs i at
+
+-- .. and under a holding's own instance.
+abbrev pub SharedAreUnder : Type 0
+SharedAreUnder = (p : Program) (h : Header) (xs : List Happening) → LawfulRun p h xs → (i : SessionId) (f : Found) → IsSession (world_at p h xs) i f
+    → IsFalse (is_over i f) → (at : Spot) (g : Grant) → Contains (holdings_on (trace_of f) f.session at) g → IsTrue (is_shared g.mode)
+    → (y : SharedThere p h xs i at) × (y.grant.won ≡ g.lver)

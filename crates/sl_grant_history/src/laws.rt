@@ -1,6 +1,6 @@
 //! What a lawful run promises of its grants, in the history of their resource.
 
-ghost use Rattle.sl_grant_history.specs.Granted.{ExclusiveGrantsAre, ExclusivesAreKept, SharedAreShared};
+ghost use Rattle.sl_grant_history.specs.Granted.{ExclusiveGrantsAre, ExclusivesAreKept, SharedAreShared, SharedAreUnder};
 
 /// Each exclusive grant of a trace is one of the history of its resource: its session won the instance, had not freed it, and had looked
 /// at all blocks after the instance had begun.
@@ -17,4 +17,9 @@ pub fn exclusives_are_kept()
 /// since.
 pub fn shared_are_shared()
     ensures { SharedAreShared }
+{}
+
+/// That grant is one under the holding's own instance.
+pub fn shared_are_under()
+    ensures { SharedAreUnder }
 {}
