@@ -11,3 +11,6 @@ pub mod Joined
 pub mod OrderedOver
 pub mod FollowingSessions
 pub mod Register
+pub mod OrderedSilent
+pub mod OrderedWork
+pub mod OrderedOnce

@@ -124,7 +124,7 @@ flies_by true true runs (Some s) fate a b c d = absurd (none_some s (sym c))
 flies_by true false runs answered fate a b c d = absurd (true_is_false (sym b))
 flies_by false writes runs answered fate a b c d = absurd (true_is_false (sym a))
 
-over_none_new : (p : Program) (h : Header) (now : List Happening) (x : Happening) → LawfulRun p h (now ++ x ∷ []) → (i : SessionId) (f : Found)
+pub over_none_new : (p : Program) (h : Header) (now : List Happening) (x : Happening) → LawfulRun p h (now ++ x ∷ []) → (i : SessionId) (f : Found)
     → IsSession (world_at p h (now ++ x ∷ [])) i f → is_over i f ≡ true → (c : Course) → Contains (own_courses i f.machine) c → is_write_course c ≡ true
     → is_free_purpose c.call.purpose ≡ false → c.made.step < (world_at p h now).step
 over_none_new p h now x run i f its over c has writes other = by (known grounds p h (now ++ x ∷ []) run i f its) (cases_lt c.made.step (world_at p h now).step) where

@@ -36,10 +36,10 @@ pub data JoinedWhen (f : Found) (k n : ℕ) : Type 0 where
   At_first : k ≡ 0 → n ≡ 0 → JoinedWhen f k n
   By_entry : (i : ℕ) (s : Stamp) → k ≡ suc i → i < length (trace_of f) → stamp_in f.daemon.stamps i ≡ Some s → s.step ≡ n → JoinedWhen f k n
 
-abbrev step_if : Found → ℕ → Bool → ℕ
+abbrev pub step_if : Found → ℕ → Bool → ℕ
 step_if f k b = elim b as (λ z. ℕ) [ true ↦ 0 | false ↦ option_map_or (λ (s : Stamp). s.step) (stamp_in f.daemon.stamps (k - 1)) 0 ]
 
-abbrev step_by : Found → ℕ → ℕ
+abbrev pub step_by : Found → ℕ → ℕ
 step_by f k = step_if f k (k == 0)
 
 not_zero : (i : ℕ) → (suc i == 0) ≡ false
