@@ -7,6 +7,7 @@ use Rattle.sl_course_law.proofs.Mirrored.{machines_mirror}
 use Rattle.sl_course_law.specs.Stamping.{stamp_in}
 use Rattle.sl_front_law.proofs.Going.{fronts_are_lawful}
 use Rattle.sl_grant_history.proofs.Telling.{IsFront, IsTold, OfLease, entry_past, of_lease, told, told_made, told_on, told_wrote}
+use Rattle.sl_grant_history.proofs.Proven.{shared_are_under}
 use Rattle.sl_grant_history.specs.Granted.{SharedThere}
 use Rattle.sl_holdings.proofs.Holding.{marks_come}
 use Rattle.sl_id_safety.proofs.Silence.{GoesOn, goes_on}
@@ -44,17 +45,10 @@ use Rattle.sl_words.specs.Words.{some_is}
 use Rattle.std.proofs.Common.{ap, arith, refl, subst, sym, tests, ◌∙◌}
 use Rattle.std.specs.Prelude.{Bool, Contains, IsFalse, IsTrue, List, None, Option, Some, [], is_some, nat_lt, true, ℕ, ◌&&◌, ◌++◌, ◌<◌, ◌∷◌, ◌≡◌, ◌≤◌}
 
--- Each shared holding of a session that is not over has stood since a grant under its own instance.
-abbrev pub SharedAreUnder : Type 0
-SharedAreUnder = (p : Program) (h : Header) (xs : List Happening) → LawfulRun p h xs → (i : SessionId) (f : Found) → IsSession (world_at p h xs) i f
-    → IsFalse (is_over i f) → (at : Spot) (g : Grant) → Contains (holdings_on (trace_of f) f.session at) g → IsTrue (is_shared g.mode)
-    → (y : SharedThere p h xs i at) × (y.grant.won ≡ g.lver)
-
 -- What this rests on.
 pub record ModeGrounds : Type 0 where
   pub lawful : HistoriesAreLawful
   pub instances : HistoriesKeepInstances
-  pub shared : SharedAreUnder
 
 -- ---- where the mark was answered
 
@@ -101,7 +95,7 @@ answered_before p h xs run i at y =
 
 pub modes_stand_given : ModeGrounds → (p : Program) (h : Header) (xs : List Happening) → LawfulRun p h xs → SharedModeStands (world_at p h xs)
 modes_stand_given g p h xs run i f at held holds =
-    let y = (g.shared p h xs run i f holds.0 holds.1 at held holds.2 holds.3).0 in
+    let y = (shared_are_under p h xs run i f holds.0 holds.1 at held holds.2 holds.3).0 in
     showing_at g p h xs [] xs (nothing_more xs) run i f holds.0 at y (answered_before p h xs run i at y)
 
 -- ---- where an instance above has begun
@@ -175,7 +169,7 @@ Stood p h now ys =
 
 stood : ModeGrounds → (p : Program) (h : Header) (now rest : List Happening) → Stood p h now (now ++ rest)
 stood b p h now rest run i k f g at held holds its begins =
-    let y = b.shared p h (now ++ rest) run i f holds.0 holds.1 at held holds.2 holds.3 in
+    let y = shared_are_under p h (now ++ rest) run i f holds.0 holds.1 at held holds.2 holds.3 in
     let above : IsTrue (begins_above g (spot_of_line y.0.place.resource) y.0.grant.won) =
     ap (λ (s : Spot). begins_above g s y.0.grant.won) (sym y.0.place.spot) ∙ ap (λ n. begins_above g at n) y.1 ∙ begins in
     showing b p h now rest run i f holds.0 at y.0

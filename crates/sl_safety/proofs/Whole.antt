@@ -10,7 +10,7 @@ use Rattle.sl_run.specs.declared.header.Header.{Header}
 use Rattle.sl_safety.proofs.Agreeing.{agreement_given, one_winner_given}
 use Rattle.sl_safety.proofs.Excluding.{safety_given}
 use Rattle.sl_safety.proofs.Lawful.{are_lawful_given, keep_instances_given}
-use Rattle.sl_safety.proofs.Moded.{ModeGrounds, SharedAreUnder, modes_stand_given, modes_stood_given}
+use Rattle.sl_safety.proofs.Moded.{ModeGrounds, modes_stand_given, modes_stood_given}
 use Rattle.sl_safety.specs.Histories.{HistoriesAreLawful, HistoriesKeepInstances}
 use Rattle.sl_session_history.specs.Promises.{HistoriesAreInOrder, HistoriesHaveTrueEvidence}
 use Rattle.std.proofs.Common.{subst}
@@ -20,7 +20,6 @@ use Rattle.std.specs.Prelude.{List}
 pub record Given : Type 0 where
   pub order : HistoriesAreInOrder
   pub evidence : HistoriesHaveTrueEvidence
-  pub under : SharedAreUnder
 
 lawful : Given → HistoriesAreLawful
 lawful g = are_lawful_given g.order
@@ -33,7 +32,7 @@ pub safety_from : Given → Safety
 safety_from g = safety_given (record { lawful = lawful g; instances = instances g })
 
 mode_grounds : Given → ModeGrounds
-mode_grounds g = record { lawful = lawful g; instances = instances g; shared = g.under }
+mode_grounds g = record { lawful = lawful g; instances = instances g }
 
 -- The invariant of blocks and leaders.
 pub leases_from : Given → (p : Program) (h : Header) (xs : List Happening) → LawfulRun p h xs → LeaseInvariant p h xs
