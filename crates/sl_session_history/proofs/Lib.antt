@@ -14,3 +14,5 @@ pub mod Register
 pub mod OrderedSilent
 pub mod OrderedWork
 pub mod OrderedOnce
+pub mod Ordered
+pub mod EvidenceJoining

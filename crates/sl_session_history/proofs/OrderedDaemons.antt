@@ -108,7 +108,7 @@ begins_come P new ds es given none is d has =
       | inr old ↦ inl (came_itself P ds d old)
     ]
 
-turned_come : (P : Stamp → Type 0) (w : World) (e : Event) (m : ℕ) (a b : Machine) → IsSettled a → Turned w e m a b → Come P (daemons_on a) (daemons_on b)
+pub turned_come : (P : Stamp → Type 0) (w : World) (e : Event) (m : ℕ) (a b : Machine) → IsSettled a → Turned w e m a b → Come P (daemons_on a) (daemons_on b)
 turned_come P w e m a b s (Stays is) = come_same P (daemons_on a) (daemons_on b) (ap daemons_on is)
 turned_come P w e m a b s (Clocked n is) = come_same P (daemons_on a) (daemons_on b) (ap daemons_on is)
 turned_come P w e m a b s (Called n f g h k is) = come_same P (daemons_on a) (daemons_on b) (ap daemons_on is)

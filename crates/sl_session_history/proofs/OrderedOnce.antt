@@ -49,7 +49,7 @@ pub record HasStamp (w : World) (m : ℕ) (s : Stamp) : Type 0 where
 abbrev StampsApart : World → Type 0
 StampsApart w = (m n : ℕ) (s t : Stamp) → HasStamp w m s → HasStamp w n t → s.step ≡ t.step → m ≡ n
 
-stamp_past : (p : Program) (h : Header) (xs : List Happening) → LawfulRun p h xs → (m : ℕ) (s : Stamp) → HasStamp (world_at p h xs) m s → s.step < (world_at p h xs).step
+pub stamp_past : (p : Program) (h : Header) (xs : List Happening) → LawfulRun p h xs → (m : ℕ) (s : Stamp) → HasStamp (world_at p h xs) m s → s.step < (world_at p h xs).step
 stamp_past p h xs run m s k =
     fall_step (world_at p h xs).step (k.daemon.stamps ++ k.daemon.begun ∷ []) s (entries_ordered p h xs run m k.machine k.daemon k.at k.has)
     (contains_left k.daemon.stamps (k.daemon.begun ∷ []) s k.stamp)

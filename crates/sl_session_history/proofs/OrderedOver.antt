@@ -37,7 +37,7 @@ use Rattle.std.specs.Prelude.{Bool, Contains, List, None, Option, Some, [], fals
 
 -- ---- who is over had joined
 
-free_stands : (st : Setting) (t : Trace) (s : Session) (n : Submitted) (p : Purpose) → LawfulDeltaCall st t s n p → is_free_purpose p ≡ true → stage_of t s ≡ Standing
+pub free_stands : (st : Setting) (t : Trace) (s : Session) (n : Submitted) (p : Purpose) → LawfulDeltaCall st t s n p → is_free_purpose p ≡ true → stage_of t s ≡ Standing
 free_stands st t s n (Leaving j) law is = law.standing
 free_stands st t s n p law is = absurd (true_is_false (sym is))
 
@@ -84,14 +84,14 @@ over_had_joined p h now rest run i f g its also joins over =
 
 -- ---- what was made in the last event is in flight
 
-record IsNew (c : Course) : Type 0 where
-  answered : c.answered ≡ None
-  fate : c.fate ≡ In_flight
+pub record IsNew (c : Course) : Type 0 where
+  pub answered : c.answered ≡ None
+  pub fate : c.fate ≡ In_flight
 
 made_earlier : (s w n : ℕ) → n ≤ s → w < n → s ≡ w → ⊥
 made_earlier s w n le lt is = omega (arith, le, lt, is)
 
-new_flies : (p : Program) (h : Header) (now : List Happening) (x : Happening) → LawfulRun p h (now ++ x ∷ []) → (m : ℕ) (b : Machine) (c : Course)
+pub new_flies : (p : Program) (h : Header) (now : List Happening) (x : Happening) → LawfulRun p h (now ++ x ∷ []) → (m : ℕ) (b : Machine) (c : Course)
     → machine_at (world_at p h (now ++ x ∷ [])) m ≡ Some b → Contains b.calls c → (world_at p h now).step ≤ c.made.step → IsNew c
 new_flies p h now x run m b c at has le =
     let w : World = world_at p h now in
