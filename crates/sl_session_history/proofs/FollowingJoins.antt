@@ -1,6 +1,6 @@
 -- The front of a run at which a session first stands joined. It is that of the run's beginning, or the entry by which the session joined
 -- is of the event before it, and so is of the step right before it.
-use Rattle.sl_course_law.proofs.Daemons.{IsNewest, all_ended, daemons_are, entry_of, step_daemon, step_ended}
+use Rattle.sl_course_law.proofs.Daemons.{all_ended, daemons_are, entry_of, step_daemon, step_ended}
 use Rattle.sl_course_law.proofs.Keeping.{Goes_on, was_before}
 use Rattle.sl_course_law.proofs.Matching.{newest_stamp, stamp_stays}
 use Rattle.sl_course_law.proofs.Mirrored.{machines_mirror}
@@ -8,7 +8,7 @@ use Rattle.sl_course_law.proofs.Pairing.{pairs_length}
 use Rattle.sl_course_law.proofs.Stamped.{entries_are_stamped}
 use Rattle.sl_course_law.proofs.Turning.{Alone, Began, Called, Came_up, Clocked, Crashed, Elsewhere, Stays, Stepped, Tested, Took, Turned, Went_down}
 use Rattle.sl_course_law.specs.Stamping.{IsStampOf, stamp_in}
-use Rattle.sl_front_law.proofs.Going.{fronts_are_lawful, run_keeps}
+use Rattle.sl_front_law.proofs.Going.{run_keeps}
 use Rattle.sl_id_safety.proofs.Before.{StoodBefore, found_with, stood_before}
 use Rattle.sl_id_safety.proofs.Fronting.{step_next}
 use Rattle.sl_id_safety.proofs.Silence.{goes_on}
@@ -16,7 +16,7 @@ use Rattle.sl_id_state.proofs.Bridge.{IsThere, is_there}
 use Rattle.sl_id_state.proofs.FindingFrames.{found_on, session_with}
 use Rattle.sl_id_state.proofs.LaterFrames.{numbered_found}
 use Rattle.sl_resource_history.specs.Histories.{joined_step}
-use Rattle.sl_run.specs.Events.{first_change, input_of, machine_of, next_step}
+use Rattle.sl_run.specs.Events.{first_change, next_step}
 use Rattle.sl_run.specs.Runs.{Happening}
 use Rattle.sl_run.specs.Safety.{Found, HasJoined, IsSession, LawfulRun, SessionId, session_of_world, trace_of, world_at}
 use Rattle.sl_run.specs.Worlds.{Daemon, Machine, Program, Stamp, World, daemons_on, new_daemon, next_numbers, setting_of, stamp_now}
@@ -24,7 +24,7 @@ use Rattle.sl_run.specs.declared.event.Event.{Event}
 use Rattle.sl_run.specs.declared.header.Header.{Header}
 use Rattle.sl_run_law.proofs.Going.{first_goes}
 use Rattle.sl_run_law.specs.Daemons.{IsSettled}
-use Rattle.sl_session_law.proofs.Making.{contains_cases, contains_first, contains_more}
+use Rattle.sl_session_law.proofs.Making.{contains_cases, contains_more}
 use Rattle.sl_session_law.proofs.Staying.{marks_stay}
 use Rattle.sl_sessions.specs.Sessions.{Session, given_session, is_join_done, joined_after, session_numbered}
 use Rattle.sl_trace.specs.Traces.{Replied, Setting, Trace, reply_in, reply_to}
@@ -38,7 +38,7 @@ use Rattle.sl_words.specs.Words.{choose}
 use Rattle.std.proofs.Common.{ap, arith, inl, inr, refl, subst, sym, tests, ◌∙◌}
 use Rattle.std.specs.List.{enumerate_from}
 use Rattle.std.specs.Option.{option_map_or}
-use Rattle.std.specs.Prelude.{Bool, Contains, List, None, Option, Some, [], false, find, is_some, length, map, option_and_then, option_map, slice_get, suc, true, ℕ, ◌++◌, ◌+◌, ◌-◌, ◌==◌, ◌∷◌, ◌≡◌, ◌≤◌, ◌⊎◌}
+use Rattle.std.specs.Prelude.{Bool, Contains, List, None, Option, Some, [], false, find, is_some, length, map, option_and_then, option_map, slice_get, true, ℕ, ◌++◌, ◌+◌, ◌-◌, ◌==◌, ◌∷◌, ◌≡◌, ◌≤◌, ◌⊎◌}
 
 -- ---- what an event does to a daemon
 

@@ -2,39 +2,38 @@
 -- counts as the one that the reader last submitted; a block of its host that was answered ok before is its own, or of a session that was
 -- over where the reader joined: one that finds the reader over joined after the read.
 use Rattle.sl_ballots.specs.Disk.{Wrote}
-use Rattle.sl_ballots.specs.History.{Owner as Holder}
 use Rattle.sl_id_safety.proofs.Silence.{over_are_silent}
 use Rattle.sl_id_state.specs.IdStates.{own_courses}
 use Rattle.sl_leases.specs.Leases.{is_on}
 use Rattle.sl_place_law.proofs.Finding.{equal_numbers, same_number}
-use Rattle.sl_resource_history.proofs.Calls.{IsSentTo, IsWork, block_works, found_of, owner_found, read_works}
+use Rattle.sl_resource_history.proofs.Calls.{IsWork, block_works, found_of, owner_found, read_works}
 use Rattle.sl_resource_history.proofs.Landed.{joined_then}
 use Rattle.sl_resource_history.proofs.Latest.{newest}
 use Rattle.sl_resource_history.proofs.Newest.{reads_show_newest}
-use Rattle.sl_resource_history.proofs.Registers.{IsBefore, IsBlockAt, IsReadAt, block_at, found_before, ok_is, read_found, session_is}
+use Rattle.sl_resource_history.proofs.Registers.{IsBlockAt, IsReadAt, block_at, found_before, ok_is, read_found, session_is}
 use Rattle.sl_resource_history.proofs.Standing.{standing}
 use Rattle.sl_resource_history.proofs.Steps.{call_timed}
 use Rattle.sl_resource_history.specs.Histories.{counts_own, is_host, landing_shown, own_before, shown_by, shows_by, shows_whole, step_of_landing}
 use Rattle.sl_resource_history.specs.Orders.{BlockSent, ReadSent}
 use Rattle.sl_resource_history.specs.Promises.{history_of_line, spot_of_line}
-use Rattle.sl_resource_history.specs.Sending.{Sent, all_sent, holder_of, is_block_before, nobody, read_at, same_session, sender_of, sent_at, step_of, writes_block}
+use Rattle.sl_resource_history.specs.Sending.{Sent, all_sent, holder_of, is_block_before, nobody, read_at, same_session, sender_of, step_of, writes_block}
 use Rattle.sl_run.specs.Runs.{Happening}
 use Rattle.sl_run.specs.Safety.{Found, IsSession, LawfulRun, SessionId, is_course_of, world_at}
-use Rattle.sl_run.specs.Worlds.{Course, Landing, Machine, Program, Stamp, World}
+use Rattle.sl_run.specs.Worlds.{Landing, Program, Stamp, World}
 use Rattle.sl_run.specs.declared.header.Header.{Header}
 use Rattle.sl_run.specs.declared.header.ResourceLine.{ResourceLine}
 use Rattle.sl_session_history.proofs.Following.{IsOverBy, IsOverWhenJoins, Sequel}
-use Rattle.sl_session_history.proofs.FollowingSessions.{IsOfHost, host_sequel, sent_own, sessions_follow, worker_is_host, worker_of_host}
+use Rattle.sl_session_history.proofs.FollowingSessions.{host_sequel, sent_own, sessions_follow, worker_is_host, worker_of_host}
 use Rattle.sl_session_history.specs.Promises.{HistoriesShowNewest}
 use Rattle.sl_session_law.proofs.Naming.{kept}
-use Rattle.sl_words.proofs.CaseLaws.{one_value, true_is_false}
+use Rattle.sl_words.proofs.CaseLaws.{true_is_false}
 use Rattle.sl_words.proofs.WordLaws.{and_true, some_is_true}
 use Rattle.sl_words.specs.Words.{some_is}
 use Rattle.std.proofs.Common.{ap, arith, inl, inr, refl, subst, sym, ◌∙◌}
 use Rattle.std.proofs.lemmas.Bool.{and_from}
 use Rattle.std.proofs.lemmas.Bool.Decides.{nat_tests}
 use Rattle.std.specs.Option.{option_map_or}
-use Rattle.std.specs.Prelude.{Bool, Contains, List, None, Option, Some, false, find, if◌then◌else◌, is_some, nat_lt, true, ℕ, ◌&&◌, ◌+◌, ◌<◌, ◌==◌, ◌≡◌, ◌≤◌, ◌⊎◌}
+use Rattle.std.specs.Prelude.{Bool, Contains, List, None, Option, Some, false, find, if◌then◌else◌, is_some, nat_lt, true, ℕ, ◌&&◌, ◌+◌, ◌<◌, ◌==◌, ◌≡◌, ◌≤◌}
 
 -- ---- a session that is over sends nothing
 
