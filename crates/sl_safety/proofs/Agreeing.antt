@@ -25,7 +25,7 @@ use Rattle.sl_run.specs.Safety.{Agreement, Found, IsSession, LawfulRun, OneWinne
 use Rattle.sl_run.specs.Worlds.{Program, World}
 use Rattle.sl_run.specs.declared.header.Header.{Header}
 use Rattle.sl_run.specs.declared.header.ResourceLine.{ResourceLine}
-use Rattle.sl_safety.specs.Histories.{HistoriesAreLawful}
+use Rattle.sl_safety.proofs.Lawful.{are_lawful}
 use Rattle.sl_sector.specs.declared.sector.Block.{Block}
 use Rattle.sl_sector.specs.declared.sector.Owner.{Owner}
 use Rattle.sl_session_history.proofs.Named.{joined_are_hosts, names_are_apart}
@@ -77,8 +77,8 @@ same_resource p h xs run i k at a b =
 one_owner : (u v : Owner) → holder_as u ≡ holder_as v → u ≡ v
 one_owner u v same = ap (λ (o : Holder). let x : Owner = record { id = o.id; generation = o.generation } in x) same
 
-pub agreement_given : HistoriesAreLawful → (p : Program) (h : Header) (xs : List Happening) → LawfulRun p h xs → Agreement (world_at p h xs)
-agreement_given lawful_given p h xs run i k f g at n u v base its also one two =
+pub agreement_holds : (p : Program) (h : Header) (xs : List Happening) → LawfulRun p h xs → Agreement (world_at p h xs)
+agreement_holds p h xs run i k f g at n u v base its also one two =
     let w : World = world_at p h xs in
     let a : EndsThere p h xs i at n u = ends_there p h xs run i f its at base n u one in
     let b : EndsThere p h xs k at n v = ends_there p h xs run k g also at base n v two in
@@ -86,10 +86,10 @@ agreement_given lawful_given p h xs run i k f g at n u v base its also one two =
     let other : BallotEnded (history_of_line p h xs r) (holder_of w k) n (holder_as v) b.step =
     subst (λ (l : ResourceLine). BallotEnded (history_of_line p h xs l) (holder_of w k) n (holder_as v) b.step) (same_resource p h xs run i k at a.place b.place) b.ended in
     one_owner u v
-    (agreement (history_of_line p h xs r) (lawful_given p h xs r run a.place.there) n (holder_of w i) (holder_of w k) (holder_as u) (holder_as v) a.step b.step a.ended other)
+    (agreement (history_of_line p h xs r) (are_lawful p h xs r run a.place.there) n (holder_of w i) (holder_of w k) (holder_as u) (holder_as v) a.step b.step a.ended other)
 
-pub one_winner_given : HistoriesAreLawful → (p : Program) (h : Header) (xs : List Happening) → LawfulRun p h xs → OneWinner (world_at p h xs)
-one_winner_given lawful_given p h xs run i k f g at n base its also one two =
+pub one_winner_holds : (p : Program) (h : Header) (xs : List Happening) → LawfulRun p h xs → OneWinner (world_at p h xs)
+one_winner_holds p h xs run i k f g at n base its also one two =
     let w : World = world_at p h xs in
     let a = ends_there p h xs run i f its at base n (me (trace_of f) f.session) one in
     let b = ends_there p h xs run k g also at base n (me (trace_of g) g.session) two in
@@ -101,4 +101,4 @@ one_winner_given lawful_given p h xs run i k f g at n base its also one two =
     subst (λ (o : Holder). BallotEnded (history_of_line p h xs r) (holder_of w k) n o b.step) (sym (holder_is w k g also))
     (subst (λ (l : ResourceLine). BallotEnded (history_of_line p h xs l) (holder_of w k) n (holder_as (me (trace_of g) g.session)) b.step) same b.ended) in
     names_are_apart p h xs r run a.place.there i k a.place.joined (subst (λ (l : ResourceLine). IsTrue (is_joined_there w l.lockspace k)) same b.place.joined)
-    (one_winner (history_of_line p h xs r) (lawful_given p h xs r run a.place.there) n (holder_of w i) (holder_of w k) a.step b.step mine other)
+    (one_winner (history_of_line p h xs r) (are_lawful p h xs r run a.place.there) n (holder_of w i) (holder_of w k) a.step b.step mine other)

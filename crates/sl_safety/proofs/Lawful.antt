@@ -10,17 +10,18 @@ use Rattle.sl_resource_history.proofs.Registers.{are_registers}
 use Rattle.sl_safety.specs.Histories.{HistoriesAreLawful, HistoriesKeepInstances}
 use Rattle.sl_session_history.proofs.Joined.{histories_end_earlier}
 use Rattle.sl_session_history.proofs.Named.{joined_are_hosts, names_are_apart}
+use Rattle.sl_session_history.proofs.Ordered.{histories_are_in_order}
 use Rattle.sl_session_history.proofs.Register.{show_newest}
-use Rattle.sl_session_history.specs.Promises.{HistoriesAreInOrder, HistoriesHaveTrueEvidence}
+use Rattle.sl_session_history.specs.Promises.{HistoriesHaveTrueEvidence}
 
-pub are_lawful_given : HistoriesAreInOrder → HistoriesAreLawful
-are_lawful_given order_given p h xs r run there =
+pub are_lawful : HistoriesAreLawful
+are_lawful p h xs r run there =
     let names = names_are_apart p h xs r run there in
     let hosts = joined_are_hosts p h xs r run there in
     record {
       register = are_registers p h xs r run there names;
       newest = show_newest p h xs r run there;
-      sessions = order_given p h xs r run there;
+      sessions = histories_are_in_order p h xs r run there;
       earlier = histories_end_earlier p h xs r run there;
       ballots = histories_keep_their_ballots p h xs r run there names hosts;
       up = go_up p h xs r run there names;

@@ -20,8 +20,8 @@ use Rattle.sl_run.specs.Safety.{LawfulRun, block_there, world_at}
 use Rattle.sl_run.specs.Worlds.{Program, Stamp, World}
 use Rattle.sl_run.specs.declared.header.Header.{Header}
 use Rattle.sl_run.specs.declared.header.ResourceLine.{ResourceLine}
+use Rattle.sl_safety.proofs.Lawful.{are_lawful}
 use Rattle.sl_safety.proofs.Standing.{SentSince, block_stands}
-use Rattle.sl_safety.specs.Histories.{HistoriesAreLawful}
 use Rattle.sl_sector.specs.declared.sector.Block.{Block}
 use Rattle.sl_session_history.proofs.FollowingSessions.{sessions_follow}
 use Rattle.std.proofs.Common.{ap, arith, subst, sym, ◌∙◌}
@@ -74,15 +74,15 @@ abbrev pub SaysShared : SharedGrant → Block → Type 0
 SaysShared s b = (b.shared ≡ true) × (b.mode_gen ≡ s.holder.generation)
 
 -- A block of the holder's host that isn't older than the mark is a mark.
-says_shared : HistoriesAreLawful → (p : Program) (h : Header) (xs : List Happening) → LawfulRun p h xs → (r : ResourceLine) → Contains h.resources r
+says_shared : (p : Program) (h : Header) (xs : List Happening) → LawfulRun p h xs → (r : ResourceLine) → Contains h.resources r
     → (s : SharedGrant) → IsSharedTo (history_of_line p h xs r) s (world_at p h xs).step → (y : Sent) → BlockSent (world_at p h xs) r s.holder.id y → (b : Block)
     → block_of_course y.course ≡ Some b → s.mark ≤ step_of y → SaysShared s b
-says_shared lawful_given p h xs run r there s is y block b says since =
+says_shared p h xs run r there s is y block b says since =
     let w : World = world_at p h xs in
     let H : History = history_of_line p h xs r in
     let before : step_of y < w.step = sent_before p h xs run y block.sent in
     let mark : IsMark H s.holder (step_of y) =
-    marks_last H (lawful_given p h xs r run there) s w.step is (step_of y) (wrote p h xs run r there s.holder.id y block.sent block.on block.block block.host) since
+    marks_last H (are_lawful p h xs r run there) s w.step is (step_of y) (wrote p h xs run r there s.holder.id y block.sent block.on block.block block.host) since
     (omega (arith, before)) in
     let same = block_of_step p h xs run r there y b block.sent block.on says in
     (ap (λ c. c.shared) (sym same) ∙ mark.shared, ap (λ c. c.mode_gen) (sym same) ∙ mark.generation)
@@ -90,14 +90,14 @@ says_shared lawful_given p h xs run r there s is y block b says since =
 -- ---- what stands
 
 -- At each front that the mark's answer has come before.
-pub mode_stands : HistoriesAreLawful → (p : Program) (h : Header) (now rest : List Happening) → LawfulRun p h (now ++ rest) → (r : ResourceLine)
+pub mode_stands : (p : Program) (h : Header) (now rest : List Happening) → LawfulRun p h (now ++ rest) → (r : ResourceLine)
     → Contains h.resources r → (s : SharedGrant) → is_host (world_at p h (now ++ rest)) s.holder.id ≡ true
     → (is : IsSharedTo (history_of_line p h (now ++ rest) r) s (world_at p h (now ++ rest)).step) → is.ack ≤ (world_at p h now).step → (b : Block)
     → block_there (world_at p h now) (spot_of_line r) s.holder.id ≡ Some b → SaysShared s b
-mode_stands lawful_given p h now rest run r there s host is early b spells =
+mode_stands p h now rest run r there s host is early b spells =
     let w : World = world_at p h (now ++ rest) in
     let m : MarkSent w r s is.ack = mark_sent p h (now ++ rest) r s w.step is in
     let y : SentSince w r s.holder.id b m.sent =
     block_stands p h now rest run r there s.holder.id host (sessions_follow p h (now ++ rest) r run there s.holder.id) m.sent m.block m.done m.stamp
     m.answered (subst (λ (n : ℕ). n ≤ (world_at p h now).step) (sym m.at) early) b spells in
-    says_shared lawful_given p h (now ++ rest) run r there s is y.sent y.block b y.says (subst (λ (n : ℕ). n ≤ step_of y.sent) m.step y.since)
+    says_shared p h (now ++ rest) run r there s is y.sent y.block b y.says (subst (λ (n : ℕ). n ≤ step_of y.sent) m.step y.since)

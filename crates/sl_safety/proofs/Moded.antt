@@ -28,12 +28,14 @@ use Rattle.sl_run.specs.Safety.{Found, HoldsShared, IsSession, LawfulRun, Sessio
 use Rattle.sl_run.specs.Worlds.{Program, Stamp, World}
 use Rattle.sl_run.specs.declared.header.Header.{Header}
 use Rattle.sl_run.specs.declared.header.ResourceLine.{ResourceLine}
+use Rattle.sl_safety.proofs.Lawful.{are_lawful}
 use Rattle.sl_safety.proofs.Marked.{MarkSent, mark_sent, mode_stands, sent_before}
 use Rattle.sl_safety.proofs.Placed.{found_where}
-use Rattle.sl_safety.specs.Histories.{HistoriesAreLawful, HistoriesKeepInstances}
+use Rattle.sl_safety.specs.Histories.{HistoriesKeepInstances}
 use Rattle.sl_sector.specs.declared.sector.Block.{Block}
 use Rattle.sl_session_history.proofs.FollowingJoins.{stamps_stay}
 use Rattle.sl_session_history.proofs.Named.{joined_are_hosts}
+use Rattle.sl_session_history.proofs.OrderedFronts.{nothing_more}
 use Rattle.sl_trace.specs.Traces.{Setting, Submitted, is_shared}
 use Rattle.sl_trace.specs.declared.effects.Call.{Call}
 use Rattle.sl_trace.specs.declared.effects.Grant.{Grant}
@@ -45,11 +47,6 @@ use Rattle.sl_words.specs.Words.{some_is}
 use Rattle.std.proofs.Common.{ap, arith, refl, subst, sym, tests, ◌∙◌}
 use Rattle.std.specs.Prelude.{Bool, Contains, IsFalse, IsTrue, List, None, Option, Some, [], is_some, nat_lt, true, ℕ, ◌&&◌, ◌++◌, ◌<◌, ◌∷◌, ◌≡◌, ◌≤◌}
 
--- What this rests on.
-pub record ModeGrounds : Type 0 where
-  pub lawful : HistoriesAreLawful
-  pub instances : HistoriesKeepInstances
-
 -- ---- where the mark was answered
 
 -- At a front that the mark's answer has come before the mode stands.
@@ -58,8 +55,8 @@ Showing p h now ys =
     LawfulRun p h ys → (i : SessionId) (f : Found) → IsSession (world_at p h ys) i f → (at : Spot) (y : SharedThere p h ys i at)
     → y.shared.ack ≤ (world_at p h now).step → ShowsMode (world_at p h now) f at
 
-showing : ModeGrounds → (p : Program) (h : Header) (now rest : List Happening) → Showing p h now (now ++ rest)
-showing g p h now rest run i f its at y early b spells =
+showing : (p : Program) (h : Header) (now rest : List Happening) → Showing p h now (now ++ rest)
+showing p h now rest run i f its at y early b spells =
     let w : World = world_at p h (now ++ rest) in
     let r : ResourceLine = y.place.resource in
     let name = y.holder ∙ holder_is w i f its in
@@ -67,17 +64,13 @@ showing g p h now rest run i f its at y early b spells =
     subst (λ n. is_host w n ≡ true) (ap (λ o. o.id) (sym y.holder)) (joined_are_hosts p h (now ++ rest) r run y.place.there i y.place.joined) in
     let there : block_there (world_at p h now) (spot_of_line r) y.grant.holder.id ≡ Some b =
     ap (λ (s : Spot). block_there (world_at p h now) s y.grant.holder.id) (sym y.place.spot) ∙ ap (λ n. block_there (world_at p h now) at n) (ap (λ o. o.id) name) ∙ spells in
-    let says = mode_stands g.lawful p h now rest run r y.place.there y.grant host y.shared early b there in
+    let says = mode_stands p h now rest run r y.place.there y.grant host y.shared early b there in
     (says.0, says.1 ∙ ap (λ o. o.generation) name)
 
-showing_at : ModeGrounds → (p : Program) (h : Header) (now rest xs : List Happening) → now ++ rest ≡ xs → Showing p h now xs
-showing_at g p h now rest xs whole = subst (λ ys. Showing p h now ys) whole (showing g p h now rest)
+showing_at : (p : Program) (h : Header) (now rest xs : List Happening) → now ++ rest ≡ xs → Showing p h now xs
+showing_at p h now rest xs whole = subst (λ ys. Showing p h now ys) whole (showing p h now rest)
 
 -- ---- after each run
-
-nothing_more : (xs : List Happening) → xs ++ [] ≡ xs
-nothing_more [] = refl
-nothing_more (x ∷ xs) = ap (λ ys. x ∷ ys) (nothing_more xs)
 
 less_is : (a b c : ℕ) → a ≡ b → a < c → b ≤ c
 less_is a b c e h = omega (arith, e, h)
@@ -93,10 +86,10 @@ answered_before p h xs run i at y =
     (Of_stamp m.sent.machine k.machine m.stamp k.at (answer_is_stamp k.machine m.sent.course m.stamp k.has m.answered) refl refl) in
     less_is m.stamp.step y.shared.ack w.step m.at past.0
 
-pub modes_stand_given : ModeGrounds → (p : Program) (h : Header) (xs : List Happening) → LawfulRun p h xs → SharedModeStands (world_at p h xs)
-modes_stand_given g p h xs run i f at held holds =
+pub modes_stand : (p : Program) (h : Header) (xs : List Happening) → LawfulRun p h xs → SharedModeStands (world_at p h xs)
+modes_stand p h xs run i f at held holds =
     let y = (shared_are_under p h xs run i f holds.0 holds.1 at held holds.2 holds.3).0 in
-    showing_at g p h xs [] xs (nothing_more xs) run i f holds.0 at y (answered_before p h xs run i at y)
+    showing_at p h xs [] xs (nothing_more xs) run i f holds.0 at y (answered_before p h xs run i at y)
 
 -- ---- where an instance above has begun
 
@@ -144,9 +137,9 @@ begun_above p h now rest run k g its r n begins =
     }
 
 -- It was sent after the mark was answered.
-begun_later : ModeGrounds → (p : Program) (h : Header) (now rest : List Happening) → LawfulRun p h (now ++ rest) → (i : SessionId) (at : Spot)
+begun_later : HistoriesKeepInstances → (p : Program) (h : Header) (now rest : List Happening) → LawfulRun p h (now ++ rest) → (i : SessionId) (at : Spot)
     → (y : SharedThere p h (now ++ rest) i at) → BegunAbove p h now rest y.place.resource y.grant.won → y.shared.ack ≤ (world_at p h now).step
-begun_later g p h now rest run i at y b =
+begun_later instances_given p h now rest run i at y b =
     let w : World = world_at p h (now ++ rest) in
     let r : ResourceLine = y.place.resource in
     let H : History = history_of_line p h (now ++ rest) r in
@@ -157,7 +150,7 @@ begun_later g p h now rest run i at y b =
     let before : e < w.step = sent_before p h (now ++ rest) run b.sent b.has in
     let above = b.above in
     let early = b.early in
-    let late = marks_come H (g.lawful p h (now ++ rest) r run y.place.there) (g.instances p h (now ++ rest) r run y.place.there) y.grant w.step y.shared y.shared.ack e
+    let late = marks_come H (are_lawful p h (now ++ rest) r run y.place.there) (instances_given p h (now ++ rest) r run y.place.there) y.grant w.step y.shared y.shared.ack e
     y.shared.acked writes (omega (arith, before)) (subst (λ n. y.grant.won < n) (sym lver) above) in
     omega (arith, late, early)
 
@@ -167,14 +160,14 @@ Stood p h now ys =
     LawfulRun p h ys → (i k : SessionId) (f g : Found) (at : Spot) (held : Grant) → HoldsShared (world_at p h ys) i f at held → IsSession (world_at p h now) k g
     → IsTrue (begins_above g at held.lver) → ShowsMode (world_at p h now) f at
 
-stood : ModeGrounds → (p : Program) (h : Header) (now rest : List Happening) → Stood p h now (now ++ rest)
-stood b p h now rest run i k f g at held holds its begins =
+stood : HistoriesKeepInstances → (p : Program) (h : Header) (now rest : List Happening) → Stood p h now (now ++ rest)
+stood instances_given p h now rest run i k f g at held holds its begins =
     let y = shared_are_under p h (now ++ rest) run i f holds.0 holds.1 at held holds.2 holds.3 in
     let above : IsTrue (begins_above g (spot_of_line y.0.place.resource) y.0.grant.won) =
     ap (λ (s : Spot). begins_above g s y.0.grant.won) (sym y.0.place.spot) ∙ ap (λ n. begins_above g at n) y.1 ∙ begins in
-    showing b p h now rest run i f holds.0 at y.0
-    (begun_later b p h now rest run i at y.0 (begun_above p h now rest run k g its y.0.place.resource y.0.grant.won above))
+    showing p h now rest run i f holds.0 at y.0
+    (begun_later instances_given p h now rest run i at y.0 (begun_above p h now rest run k g its y.0.place.resource y.0.grant.won above))
 
-pub modes_stood_given : ModeGrounds → (p : Program) (h : Header) (xs : List Happening) → LawfulRun p h xs → SharedModeStood p h xs
-modes_stood_given g p h xs run now rest whole i k f e at held holds its begins =
-    (subst (λ ys. Stood p h now ys) (sym whole) (stood g p h now rest)) run i k f e at held holds its begins
+pub modes_stood_given : HistoriesKeepInstances → (p : Program) (h : Header) (xs : List Happening) → LawfulRun p h xs → SharedModeStood p h xs
+modes_stood_given instances_given p h xs run now rest whole i k f e at held holds its begins =
+    (subst (λ ys. Stood p h now ys) (sym whole) (stood instances_given p h now rest)) run i k f e at held holds its begins

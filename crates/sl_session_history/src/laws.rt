@@ -26,6 +26,8 @@ pub fn sessions_follow()
 /// A read shows, of each host, what was answered ok before it was submitted, or what was submitted later.
 pub fn histories_show_newest()
     ensures { HistoriesShowNewest }
+{}
+
 /// Only joined sessions act, one of an id joins at a step, and over is final, silent and settled.
 pub fn histories_are_in_order()
     ensures { HistoriesAreInOrder }
