@@ -2,7 +2,6 @@
 --
 -- Who ended a ballot on an area has written a block there, so it has joined for the resource there; and what ended in its trace has ended in
 -- the resource's history, where the ballots of an instance agree.
-use Rattle.sl_area.specs.Layouts.{Layout}
 use Rattle.sl_area.specs.Places.{is_base}
 use Rattle.sl_ballot_history.proofs.EndedAll.{ended_ballots_end}
 use Rattle.sl_ballot_history.proofs.EndedJoined.{enders_are_joined}
@@ -11,11 +10,8 @@ use Rattle.sl_ballots.proofs.AgreementLaws.{agreement, one_winner}
 use Rattle.sl_ballots.specs.Ballots.{BallotEnded}
 use Rattle.sl_ballots.specs.History.{Owner as Holder}
 use Rattle.sl_grant_history.proofs.Kept.{came_at}
-use Rattle.sl_grant_history.proofs.Placing.{resource_at}
-use Rattle.sl_grant_history.proofs.Telling.{IsFront, whole_of}
 use Rattle.sl_grant_history.specs.Granted.{ResourceAt}
-use Rattle.sl_leases.specs.Leases.{block_submitted, block_written, blocks_given, ended_ballot, ended_ballots, is_at, lease_calls, value_in_end, Phase2_read}
-use Rattle.sl_leases.specs.Ballots.{stop_of}
+use Rattle.sl_leases.specs.Leases.{ended_ballots, lease_calls}
 use Rattle.sl_place_law.proofs.Areas.{one_resource}
 use Rattle.sl_resource_history.proofs.Shown.{holder_is}
 use Rattle.sl_resource_history.specs.Promises.{history_of_line, spot_of_line}
@@ -26,17 +22,14 @@ use Rattle.sl_run.specs.Worlds.{Program, World}
 use Rattle.sl_run.specs.declared.header.Header.{Header}
 use Rattle.sl_run.specs.declared.header.ResourceLine.{ResourceLine}
 use Rattle.sl_safety.proofs.Lawful.{are_lawful}
-use Rattle.sl_sector.specs.declared.sector.Block.{Block}
 use Rattle.sl_sector.specs.declared.sector.Owner.{Owner}
 use Rattle.sl_session_history.proofs.Named.{joined_are_hosts, names_are_apart}
-use Rattle.sl_session_law.proofs.Making.{contains_first, contains_more, contains_none}
+use Rattle.sl_session_law.proofs.Making.{contains_none}
 use Rattle.sl_sessions.specs.Sessions.{me}
-use Rattle.sl_trace.specs.Traces.{Submitted, Trace}
-use Rattle.sl_trace.specs.declared.effects.Entry.{Entry}
+use Rattle.sl_trace.specs.Traces.{Trace}
 use Rattle.sl_trace.specs.declared.effects.Spot.{Spot}
-use Rattle.sl_words.proofs.CaseLaws.{none_some}
 use Rattle.std.proofs.Common.{ap, refl, subst, sym, ◌∙◌}
-use Rattle.std.specs.Prelude.{Bool, Contains, IsTrue, List, None, Option, Some, [], false, option_and_then, true, ℕ, ◌++◌, ◌∷◌, ◌≡◌}
+use Rattle.std.specs.Prelude.{Contains, IsTrue, List, [], ℕ, ◌∷◌, ◌≡◌}
 
 -- ---- it ended in the history
 

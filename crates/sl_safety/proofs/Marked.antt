@@ -11,7 +11,7 @@ use Rattle.sl_resource_history.proofs.Calls.{sent_there}
 use Rattle.sl_resource_history.proofs.Founding.{writer_is}
 use Rattle.sl_resource_history.proofs.Registers.{block_at, ok_is, wrote}
 use Rattle.sl_resource_history.proofs.Rising.{block_of_step}
-use Rattle.sl_resource_history.specs.Histories.{history_block, is_host}
+use Rattle.sl_resource_history.specs.Histories.{is_host}
 use Rattle.sl_resource_history.specs.Orders.{BlockSent}
 use Rattle.sl_resource_history.specs.Promises.{history_of_line, spot_of_line}
 use Rattle.sl_resource_history.specs.Sending.{Sent, all_sent, block_of_course, step_of}

@@ -12,7 +12,7 @@ use Rattle.sl_grant_history.specs.Granted.{SharedThere}
 use Rattle.sl_holdings.proofs.Holding.{marks_come}
 use Rattle.sl_id_safety.proofs.Silence.{GoesOn, goes_on}
 use Rattle.sl_id_state.proofs.LaterFrames.{found_later}
-use Rattle.sl_leases.specs.Leases.{Phase1_write, block_written, holdings_on, is_at, is_on, lease_calls}
+use Rattle.sl_leases.specs.Leases.{Phase1_write, block_written, is_at, is_on, lease_calls}
 use Rattle.sl_moment_law.proofs.Following.{kept_past}
 use Rattle.sl_moment_law.proofs.Stamps.{answer_is_stamp}
 use Rattle.sl_moment_law.specs.Moments.{Of_stamp}
@@ -24,20 +24,18 @@ use Rattle.sl_resource_history.specs.Histories.{is_host}
 use Rattle.sl_resource_history.specs.Promises.{history_of_line, spot_of_line}
 use Rattle.sl_resource_history.specs.Sending.{Sent, all_sent, block_of_course, step_of}
 use Rattle.sl_run.specs.Runs.{Happening}
-use Rattle.sl_run.specs.Safety.{Found, HoldsShared, IsSession, LawfulRun, SessionId, SharedModeStands, SharedModeStood, ShowsMode, begins_above, block_there, is_over, setting_in, trace_of, world_at}
+use Rattle.sl_run.specs.Safety.{Found, HoldsShared, IsSession, LawfulRun, SessionId, SharedModeStands, SharedModeStood, ShowsMode, begins_above, block_there, setting_in, trace_of, world_at}
 use Rattle.sl_run.specs.Worlds.{Program, Stamp, World}
 use Rattle.sl_run.specs.declared.header.Header.{Header}
 use Rattle.sl_run.specs.declared.header.ResourceLine.{ResourceLine}
 use Rattle.sl_safety.proofs.Lawful.{are_lawful}
-use Rattle.sl_safety.proofs.Marked.{MarkSent, mark_sent, mode_stands, sent_before}
-use Rattle.sl_safety.proofs.Placed.{found_where}
+use Rattle.sl_safety.proofs.Marked.{mark_sent, mode_stands, sent_before}
 use Rattle.sl_safety.specs.Histories.{HistoriesKeepInstances}
 use Rattle.sl_sector.specs.declared.sector.Block.{Block}
 use Rattle.sl_session_history.proofs.FollowingJoins.{stamps_stay}
 use Rattle.sl_session_history.proofs.Named.{joined_are_hosts}
 use Rattle.sl_session_history.proofs.OrderedFronts.{nothing_more}
-use Rattle.sl_trace.specs.Traces.{Setting, Submitted, is_shared}
-use Rattle.sl_trace.specs.declared.effects.Call.{Call}
+use Rattle.sl_trace.specs.Traces.{Setting, Submitted}
 use Rattle.sl_trace.specs.declared.effects.Grant.{Grant}
 use Rattle.sl_trace.specs.declared.effects.Spot.{Spot}
 use Rattle.sl_watchdog_law.proofs.Finding.{any_found}
@@ -45,7 +43,7 @@ use Rattle.sl_words.proofs.CaseLaws.{false_is_true, one_value}
 use Rattle.sl_words.proofs.WordLaws.{and_true}
 use Rattle.sl_words.specs.Words.{some_is}
 use Rattle.std.proofs.Common.{ap, arith, refl, subst, sym, tests, ◌∙◌}
-use Rattle.std.specs.Prelude.{Bool, Contains, IsFalse, IsTrue, List, None, Option, Some, [], is_some, nat_lt, true, ℕ, ◌&&◌, ◌++◌, ◌<◌, ◌∷◌, ◌≡◌, ◌≤◌}
+use Rattle.std.specs.Prelude.{Contains, IsTrue, List, None, Option, Some, [], is_some, nat_lt, true, ℕ, ◌&&◌, ◌++◌, ◌<◌, ◌≡◌, ◌≤◌}
 
 -- ---- where the mark was answered
 

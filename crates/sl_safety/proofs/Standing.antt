@@ -37,10 +37,10 @@ use Rattle.sl_sector.specs.declared.sector.Rec.TheVariants.{BlockIs}
 use Rattle.sl_sector.specs.declared.sector.Rec.{Rec}
 use Rattle.sl_session_law.proofs.Making.{contains_cases, contains_first}
 use Rattle.sl_session_law.proofs.Naming.{kept}
-use Rattle.sl_trace.specs.Traces.{record_of, same_place}
+use Rattle.sl_trace.specs.Traces.{same_place}
 use Rattle.sl_words.proofs.CaseLaws.{some_value}
-use Rattle.std.proofs.Common.{ap, arith, inl, inr, refl, subst, sym, ◌∙◌}
-use Rattle.std.specs.Prelude.{Contains, List, Ok, Option, Some, [], option_and_then, true, ℕ, ◌++◌, ◌<◌, ◌∷◌, ◌≡◌, ◌≤◌, ◌⊎◌}
+use Rattle.std.proofs.Common.{ap, arith, inl, inr, subst, sym, ◌∙◌}
+use Rattle.std.specs.Prelude.{Contains, List, Ok, Some, [], option_and_then, true, ℕ, ◌++◌, ◌<◌, ◌∷◌, ◌≡◌, ◌≤◌, ◌⊎◌}
 
 -- Blocks of one host were sent by sessions that follow one another.
 abbrev pub BlocksFollow : World → ResourceLine → ℕ → Type 0

@@ -95,7 +95,7 @@ freed_where st es s h its m is =
     let k = standing_joined (front_at d) s (free_stands st (front_at d) s _ m.call.purpose (lawful_call st es s m at.older d h its).law found.1) in
     let le : k.0 ≤ suc (length d.past) = joined_within (d.entry ∷ d.past) s k.0 k.1 in
     let place = d.place in
-    (found.0, k.0, ap (λ us. joined_after us s) d.whole ∙ marks_stay.joined d.later (d.entry ∷ d.past) s k.0 k.1, omega (arith, le, place))
+    (found.0, (k.0, ap (λ us. joined_after us s) d.whole ∙ marks_stay.joined d.later (d.entry ∷ d.past) s k.0 k.1, omega (arith, le, place)))
 
 -- ---- not over where it joins
 
