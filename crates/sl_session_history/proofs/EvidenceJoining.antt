@@ -8,7 +8,7 @@ use Rattle.sl_course_law.proofs.Turning.{Alone, Elsewhere, Stepped, Took}
 use Rattle.sl_course_law.specs.Stamping.{IsCourseOf, stamp_in}
 use Rattle.sl_front_law.proofs.Having.{contains_append}
 use Rattle.sl_id_safety.proofs.Freed.{standing_joined}
-use Rattle.sl_id_safety.proofs.Silence.{freed_by, not_reset, over_cases}
+use Rattle.sl_id_safety.proofs.Silence.{not_reset, over_cases}
 use Rattle.sl_id_state.proofs.Bridge.{IsKnown, known}
 use Rattle.sl_id_state.proofs.Keeping.{lawful_call}
 use Rattle.sl_id_state.proofs.Listing.{stands, tail_at}
@@ -22,7 +22,7 @@ use Rattle.sl_place_law.proofs.Finding.{equal_numbers, filtered, found_in, partn
 use Rattle.sl_run.specs.Events.{first_change, next_step, with_entry}
 use Rattle.sl_run.specs.Runs.{Happening}
 use Rattle.sl_run.specs.Safety.{Found, IsSession, LawfulRun, SessionId, free_landed, has_write_in_flight, is_course_of, is_over, setting_in, trace_of, was_reset, world_at}
-use Rattle.sl_run.specs.Worlds.{Course, Daemon, Machine, Program, Stamp, World, daemons_on, is_landed, machine_at, stamp_now}
+use Rattle.sl_run.specs.Worlds.{Course, Daemon, Machine, Program, Stamp, daemons_on, is_landed, stamp_now}
 use Rattle.sl_run.specs.declared.header.Header.{Header}
 use Rattle.sl_session_history.proofs.OrderedDaemons.{Came, turned_come}
 use Rattle.sl_session_history.proofs.OrderedOnce.{stamp_past}
@@ -41,7 +41,7 @@ use Rattle.sl_words.proofs.CaseLaws.{one_value, true_is_false}
 use Rattle.sl_words.proofs.WordLaws.{and_true, some_is_true}
 use Rattle.std.proofs.Common.{ap, arith, inl, inr, refl, subst, sym, ◌∙◌}
 use Rattle.std.specs.List.{list_any}
-use Rattle.std.specs.Prelude.{Bool, Contains, List, None, Option, Some, [], false, is_some, length, option_map, suc, true, ℕ, ◌&&◌, ◌++◌, ◌<◌, ◌==◌, ◌∷◌, ◌≡◌, ◌≤◌, ◌⊎◌}
+use Rattle.std.specs.Prelude.{Contains, List, None, Option, Some, [], false, is_some, length, option_map, suc, true, ℕ, ◌&&◌, ◌++◌, ◌<◌, ◌==◌, ◌∷◌, ◌≡◌, ◌≤◌, ◌⊎◌}
 
 -- ---- a daemon that took an entry in the last event runs
 

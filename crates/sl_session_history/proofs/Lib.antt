@@ -16,3 +16,5 @@ pub mod OrderedWork
 pub mod OrderedOnce
 pub mod Ordered
 pub mod EvidenceJoining
+pub mod EvidenceFronts
+pub mod Evidence

@@ -89,7 +89,7 @@ apart_next p h now x run apart m n s t one two same = by (world_at p h now) apar
   by w apart past later (inr a) (inl b) = absurd (never_both t.step s.step w.step (world_first w x.0).step (past n t b) later a.1 (sym same))
 
 -- At first no daemon has an entry.
-first_empty : (p : Program) (h : Header) (m : ℕ) (a : Machine) (d : Daemon) → machine_at (world_with p h) m ≡ Some a → Contains (daemons_on a) d → (d.trace ≡ []) × (d.stamps ≡ [])
+pub first_empty : (p : Program) (h : Header) (m : ℕ) (a : Machine) (d : Daemon) → machine_at (world_with p h) m ≡ Some a → Contains (daemons_on a) d → (d.trace ≡ []) × (d.stamps ≡ [])
 first_empty p h m a d at has =
     every_has (λ (x : Daemon). (x.trace ≡ []) × (x.stamps ≡ [])) (daemons_on a) d
     (subst (λ (b : Machine). Every (λ (x : Daemon). (x.trace ≡ []) × (x.stamps ≡ [])) (daemons_on b)) (sym (header_machine p h m a at))

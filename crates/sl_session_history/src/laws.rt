@@ -1,7 +1,7 @@
 //! What the sessions of each resource's history promise.
 
 ghost use Rattle.sl_session_history.specs.Following.{SessionsFollow};
-ghost use Rattle.sl_session_history.specs.Promises.{HistoriesAreInOrder, HistoriesEndEarlier, HistoriesShowNewest, JoinedAreHosts, NamesAreApart};
+ghost use Rattle.sl_session_history.specs.Promises.{HistoriesAreInOrder, HistoriesEndEarlier, HistoriesHaveTrueEvidence, HistoriesShowNewest, JoinedAreHosts, NamesAreApart};
 
 /// Joined sessions of one lockspace have different names for ballots.
 pub fn names_are_apart()
@@ -31,4 +31,9 @@ pub fn histories_show_newest()
 /// Only joined sessions act, one of an id joins at a step, and over is final, silent and settled.
 pub fn histories_are_in_order()
     ensures { HistoriesAreInOrder }
+{}
+
+/// Evidence means over.
+pub fn histories_have_true_evidence()
+    ensures { HistoriesHaveTrueEvidence }
 {}
