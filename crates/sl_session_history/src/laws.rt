@@ -13,6 +13,11 @@ pub fn joined_are_hosts()
     ensures { JoinedAreHosts }
 {}
 
+/// Where a session joins, all of its id that joined before are over.
+pub fn histories_end_earlier()
+    ensures { HistoriesEndEarlier }
+{}
+
 /// The sessions of a host follow one another on each resource.
 pub fn sessions_follow()
     ensures { SessionsFollow }
@@ -23,17 +28,12 @@ pub fn histories_show_newest()
     ensures { HistoriesShowNewest }
 {}
 
-/// Where a session joins, all of its id that joined before are over.
-pub fn histories_end_earlier()
-    ensures { HistoriesEndEarlier }
-{}
-
 /// Only joined sessions act, one of an id joins at a step, and over is final, silent and settled.
 pub fn histories_are_in_order()
     ensures { HistoriesAreInOrder }
 {}
 
-/// A session that somebody has evidence against is over, and none joins later.
+/// Evidence means over.
 pub fn histories_have_true_evidence()
     ensures { HistoriesHaveTrueEvidence }
 {}
