@@ -1,18 +1,12 @@
-//! The program: its words, standard input and standard output, and the status that it ends with.
+//! The program: its words, standard input and standard output, the machine's files, and the status that it ends with.
 #![tactic(auto)]
 
 use sl_io::{ReadSource, WriteSink};
-use sl_top::{Devices, Status, run};
+use sl_top::{FileDevices, Status, run};
 use std::alloc::Alloc;
 use std::env::{self, Env};
 use std::io;
 use std::process::ExitCode;
-
-/// The devices of this machine; no command takes one yet.
-#[derive(Drop)]
-struct MachineDevices;
-
-impl Devices for MachineDevices {}
 
 /// The words of the command line, without the program's name.
 fn words<R: Env + Alloc>(rt: &R) -> io::Result<Vec<String<R::A>, R::A>> {
@@ -29,11 +23,13 @@ fn main(rt: HostRuntime) -> ExitCode {
         Err(error) if error.kind() == io::ErrorKind::OutOfMemory => {
             return ExitCode::from(Status::NoMemory.code());
         }
+        // A word that is not UTF-8 is a word of no command, as no words are.
         Err(_) => Vec::new(rt.alloc()),
     };
     let mut source = ReadSource::new(rt.stdin());
     let mut sink = WriteSink::new(rt.stdout());
-    let (status, _devices) = run(rt.alloc(), &words, &mut source, &mut sink, MachineDevices);
+    let devices = FileDevices::new(rt);
+    let (status, _devices) = run(rt.alloc(), &words, &mut source, &mut sink, devices);
     let status = match sink.flush() {
         Ok(()) => status,
         Err(_) => Status::WriteFault,

@@ -39,6 +39,13 @@ IsAction (InitResource r hosts) = IsTrue (is_name r.lockspace) × IsTrue (is_nam
 IsAction (ReadLeader r) = IsAreaBase r.offset
 IsAction (Dump path offset size) = IsStretch offset size
 
+-- The path of the file that an action is done to.
+abbrev pub path_of : Action → List ℕ
+path_of (InitLockspace l hosts) = l.path
+path_of (InitResource r hosts) = r.path
+path_of (ReadLeader r) = r.path
+path_of (Dump path offset size) = path
+
 -- ---- an action that writes
 
 -- How it may end: all is written and the line is printed; or a write failed, and nothing is printed; or nothing is done.

@@ -1,5 +1,8 @@
 //! What may be done to an area, and how it went.
 
+ghost use Rattle.sl_direct.specs.Actions.{path_of};
+ghost use Rattle.std.specs.Prelude.{◌≡◌};
+
 use sl_text::FilePath;
 use sl_trace::{LockspaceArg, ResourceArg};
 
@@ -26,6 +29,20 @@ pub enum Action {
         offset: u64,
         size: u64,
     },
+}
+
+impl Action {
+    /// The path of the file that it is done to.
+    pub fn path(&self) -> FilePath
+        ensures { result ≡ path_of self.now }
+    {
+        match self {
+            Action::InitLockspace { lockspace, hosts: _ } => lockspace.path,
+            Action::InitResource { resource, hosts: _ } => resource.path,
+            Action::ReadLeader { resource } => resource.path,
+            Action::Dump { path, offset: _, size: _ } => *path,
+        }
+    }
 }
 
 /// How an action went.

@@ -1,2 +1,6 @@
 pub mod TopLaws
 pub mod RunLaws
+pub mod DirectLaws
+pub mod OweLaws
+pub mod StatusLaws
+pub mod MemDiskLaws

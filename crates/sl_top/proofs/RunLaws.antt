@@ -7,7 +7,7 @@ use Rattle.sl_first_sound.proofs.Readings.{first_schedules_are_reported}
 use Rattle.sl_replay.specs.Reports.{ending_from, ending_of}
 use Rattle.sl_replay.specs.declared.replay.Ended.TheVariants.{AtLine, Whole}
 use Rattle.sl_replay.specs.declared.replay.Ended.{Ended}
-use Rattle.sl_report.specs.Headline.{IsFrontOf, ReplayHeadline, SoundRun}
+use Rattle.sl_report.specs.Headline.{ReplayHeadline, SoundRun}
 use Rattle.sl_report.specs.Replay.{effects_of}
 use Rattle.sl_report.specs.Schedules.{At_line, EventLine, HeaderReading, Header_read, Header_refused, event_lines_of, greatest_source, numbered_lines, read_header, status_of as status_number}
 use Rattle.sl_run.specs.Events.{happens, refusal_of}
@@ -18,7 +18,7 @@ use Rattle.sl_top.specs.Statuses.{code, status_of}
 use Rattle.sl_top.specs.declared.status.Status.TheVariants.{NoMemory, ReadFault, WriteFault}
 use Rattle.sl_top.specs.declared.status.Status.{Status}
 use Rattle.sl_words.specs.Causes.{Rose}
-use Rattle.std.proofs.Common.{Bool, IsTrue, List, None, Option, Some, [], ap, append-nil, arith, false, inl, inr, length, refl, subst, sym, true, ℕ, ◌+◌, ◌∙◌, ◌∷◌, ◌≡◌, ◌<◌}
+use Rattle.std.proofs.Common.{Bool, IsTrue, List, None, Option, Some, [], ap, append-nil, false, inl, inr, length, refl, subst, sym, ℕ, ◌+◌, ◌∙◌, ◌∷◌, ◌≡◌}
 use Rattle.std.specs.Int.{is_in_range}
 use Rattle.std.specs.Io.KnownBytes.{Appends, Consumes, IsAtEnd}
 use Rattle.sl_io.specs.Reading.{IsReading}
@@ -96,7 +96,7 @@ replays_by left after faults later taken now sink_faults sink_later read ended s
 
 -- ---- nothing was put out
 
-nothing_put : (taken : Option (List ℕ)) → Appends taken taken []
+pub nothing_put : (taken : Option (List ℕ)) → Appends taken taken []
 nothing_put None = tt
 nothing_put (Some xs) = sym (append-nil xs)
 

@@ -1,7 +1,4 @@
 -- What is read is reported: how a source begins, and what is put out of its report.
-use Rattle.sl_area.specs.Layouts.{layout_of}
-use Rattle.sl_first_run.specs.Followed.{followed, followed_end}
-use Rattle.sl_first_run.specs.Readings.{replay_status}
 use Rattle.sl_first_schedule.proofs.Daemon.{begins_first}
 use Rattle.sl_first_schedule.proofs.Headers.{header_of_source}
 use Rattle.sl_first_schedule.specs.FirstHeaders.{FirstHeader}
@@ -14,25 +11,22 @@ use Rattle.sl_replay.specs.Reports.{Owes, ending_from, ending_of, rest_text}
 use Rattle.sl_replay.specs.declared.replay.Ended.TheVariants.{AtLine, Whole}
 use Rattle.sl_replay.specs.declared.replay.Ended.{Ended}
 use Rattle.sl_report.specs.Headline.{IsFrontOf}
-use Rattle.sl_report.specs.Replay.{effects_of}
 use Rattle.sl_report.specs.Reports.{Counts, no_counts}
 use Rattle.sl_report.specs.ScheduleLines.{HeaderLine, refusal_line}
 use Rattle.sl_run.specs.declared.event.Refusal.TheVariants.{Syntax}
 use Rattle.sl_report.specs.Schedules.{replay_from}
 use Rattle.sl_text.specs.Forms.{as_bytes}
-use Rattle.sl_report.specs.Schedules.{At_line, EventLine, HeaderReading, Header_read, Header_refused, NumberedLine, event_lines_of, header_line_refusal, is_begin, line_refusal, numbered_from, numbered_lines, read_header, status_of as status_number, with_line}
+use Rattle.sl_report.specs.Schedules.{HeaderReading, Header_read, Header_refused, NumberedLine, event_lines_of, header_line_refusal, is_begin, line_refusal, numbered_from, numbered_lines, read_header, with_line}
 use Rattle.sl_report.specs.ReadingLines.{header_line_in}
 use Rattle.sl_report.specs.Schedules.{default_area, default_sector}
 use Rattle.sl_report.specs.ScheduleLines.{header_of}
-use Rattle.sl_run.specs.Events.{happens, refusal_of}
-use Rattle.sl_run.specs.Worlds.{World, first_numbers, world_with}
-use Rattle.sl_run.specs.declared.event.Event.{Event}
+use Rattle.sl_run.specs.Worlds.{first_numbers, world_with}
 use Rattle.sl_run.specs.declared.event.Refusal.{Refusal}
 use Rattle.sl_run.specs.declared.header.Header.{Header}
 use Rattle.sl_run.specs.declared.header.SessionLine.{SessionLine}
 use Rattle.sl_text.specs.Forms.{lines_of, pieces, without_empty_last}
-use Rattle.sl_top.specs.Runs.{IsCutShort, IsWritten, PutsOut, report_text}
-use Rattle.sl_top.specs.Statuses.{code, status_of}
+use Rattle.sl_top.specs.Runs.{PutsOut, report_text}
+use Rattle.sl_top.specs.Statuses.{status_of}
 use Rattle.sl_top.specs.declared.status.Status.TheVariants.{NoMemory, WriteFault}
 use Rattle.sl_top.specs.declared.status.Status.{Status}
 use Rattle.sl_trace.specs.Traces.{Setting}
@@ -41,14 +35,14 @@ use Rattle.sl_trace.specs.declared.input.Given.{Given}
 use Rattle.sl_trace.specs.declared.input.Numbers.{Numbers}
 use Rattle.sl_words.specs.Causes.{Rose}
 use Rattle.sl_words.specs.Words.{some_is}
-use Rattle.std.specs.Io.KnownBytes.{Appends, Consumes, IsAtEnd}
+use Rattle.std.specs.Io.KnownBytes.{Appends}
 use Rattle.sl_world.specs.Beginning.{IsFirstHeader, first_setting}
 use Rattle.sl_world.specs.Kept.{KeptState, WorldStands}
 use Rattle.std.proofs.Common.{Bool, List, None, Option, Some, [], ap, arith, drop, false, inl, inr, length, refl, subst, sym, take, true, ℕ, ◌+◌, ◌++◌, ◌-◌, ◌<◌, ◌==◌, ◌^◌, ◌∙◌, ◌∷◌, ◌≡◌, ◌≤◌, append-nil, append_assoc}
 use Rattle.std.proofs.lemmas.List.Splits.{length-slice_split}
 use Rattle.std.proofs.lemmas.List.Sums.{count_by-le-length}
 use Rattle.std.proofs.lemmas.List.{take-append-drop}
-use Rattle.std.specs.Prelude.{Err, IfOk, Ok, OnErr, Result, ◌⊎◌}
+use Rattle.std.specs.Prelude.{Err, IfOk, Ok, OnErr, Result}
 
 -- ---- the world of a header
 

@@ -1,2 +1,5 @@
 pub mod Statuses
+pub mod Disks
+pub mod MemDisks
 pub mod Runs
+pub mod Laws

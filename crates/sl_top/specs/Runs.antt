@@ -1,28 +1,33 @@
--- What a run of the program owes: by its words, what it read and wrote, and its status.
+-- What a run of the program owes: by what its words say, what it read and wrote, what it left on the disks, and its status.
+use Rattle.sl_cli.specs.CommandWords.{said_in}
+use Rattle.sl_cli.specs.declared.reading.Words.TheVariants.{Direct, Help, Replay, Version}
+use Rattle.sl_cli.specs.declared.reading.Words.{Words}
+use Rattle.sl_cli.specs.declared.texts.TheConstants.{HELP, VERSION}
+use Rattle.sl_direct.specs.Actions.{Directs, path_of}
+use Rattle.sl_direct.specs.declared.action.Action.{Action}
+use Rattle.sl_direct.specs.declared.action.Directed.{Directed}
 use Rattle.sl_first_schedule.specs.FirstLanguage.{first_language}
-use Rattle.sl_replay.specs.Reports.{ending_of}
 use Rattle.sl_report.specs.Headline.{IsFrontOf, ReplayHeadline, SoundRun}
 use Rattle.sl_report.specs.Schedules.{replay_lines}
 use Rattle.sl_text.specs.Forms.{as_bytes}
-use Rattle.sl_top.specs.Statuses.{code, status_of}
-use Rattle.sl_top.specs.declared.status.Status.TheVariants.{BadWords, NoMemory, ReadFault, WriteFault}
+use Rattle.sl_top.specs.Disks.{CountsBack, Disks, KeepsAllBut}
+use Rattle.sl_top.specs.Statuses.{code, status_after}
+use Rattle.sl_top.specs.declared.status.Status.TheVariants.{BadWords, Done, NoMemory, ReadFault, WriteFault}
 use Rattle.sl_top.specs.declared.status.Status.{Status}
 use Rattle.sl_words.specs.Causes.{Rose}
 use Rattle.std.specs.Global.{Global}
 use Rattle.std.specs.Io.KnownBytes.{Appends, Consumes, IsAtEnd}
-use Rattle.std.specs.Prelude.{Bool, IsTrue, List, Option, String, bytes_eq, codes, false, string_bytes, true, [], ℕ, ◌++◌, ◌∷◌, ◌≡◌, ◌⊎◌}
+use Rattle.std.specs.Prelude.{Bool, IsTrue, List, None, Option, Some, String, codes, map, string_bytes, [], ℕ, ◌++◌, ◌∷◌, ◌≡◌, ◌⊎◌}
 
--- Whether the words are those of `replay`.
-abbrev pub is_replay : List (String Global) → Bool
-is_replay [] = false
-is_replay (w ∷ []) = bytes_eq (string_bytes w) (codes "replay")
-is_replay (w ∷ v ∷ ws) = false
+-- What the words of the command line say, if they say something.
+abbrev pub said : List (String Global) → Option Words
+said words = said_in (map string_bytes words)
 
 -- The report of a source.
 abbrev pub report_text : List ℕ → List ℕ
 report_text source = as_bytes (replay_lines first_language source)
 
--- The line that words of no command print.
+-- The line that words print which say nothing.
 abbrev pub bad_words_text : List ℕ
 bad_words_text = codes "sanlock: bad words" ++ 10 ∷ []
 
@@ -55,3 +60,44 @@ pub record Replays (left after : Option (List ℕ)) (faults later : ℕ) (taken 
   -- a fault is told only where one was counted
   pub read_fault : s ≡ ReadFault → Rose faults later
   pub write_fault : s ≡ WriteFault → Rose sink_faults sink_later
+
+-- What an action owes, which is done to the disk at its path.
+pub record ActsOn (a : Action) (before now : Disks) (faults later : ℕ) (taken put : Option (List ℕ)) (sink_faults sink_later : ℕ) (s : Status) : Type 0 where
+  -- how it went, and the faults that its area counted
+  pub ended : Directed
+  pub counted : ℕ
+  -- what the disk has, and what is printed
+  pub directs : Directs a (before (path_of a)) (now (path_of a)) 0 counted taken put sink_faults sink_later ended
+  pub others : KeepsAllBut (path_of a) before now
+  -- the devices count a fault exactly where the area did
+  pub count : CountsBack counted faults later
+  pub status : s ≡ status_after ended
+
+-- What there is outside: what is left of the source and what the sink has taken, where they tell it, what the disks have, and the faults
+-- that each has counted.
+pub record Outside : Type 0 where
+  pub left : Option (List ℕ)
+  pub source_faults : ℕ
+  pub taken : Option (List ℕ)
+  pub sink_faults : ℕ
+  pub disks : Disks
+  pub device_faults : ℕ
+
+-- A text that is put out, with the status of all of it.
+abbrev pub Tells : List ℕ → Status → Outside → Outside → Status → Type 0
+Tells text whole x y s = PutsOut x.taken y.taken x.sink_faults y.sink_faults text whole s
+
+-- What a run owes, by what its words say.
+abbrev pub Owes : Option Words → Outside → Outside → Status → Type 0
+Owes None x y s = Tells bad_words_text BadWords x y s
+Owes (Some Replay) x y s = Replays x.left y.left x.source_faults y.source_faults x.taken y.taken x.sink_faults y.sink_faults s
+Owes (Some (Direct a)) x y s = ActsOn a x.disks y.disks x.device_faults y.device_faults x.taken y.taken x.sink_faults y.sink_faults s
+Owes (Some Help) x y s = Tells HELP.now Done x y s
+Owes (Some Version) x y s = Tells VERSION.now Done x y s
+
+-- Only the words that need it touch the source, and the devices.
+abbrev pub IsReplay : Option Words → Type 0
+IsReplay w = w ≡ Some Replay
+
+abbrev pub IsDirect : Option Words → Type 0
+IsDirect w = (a : Action) × (w ≡ Some (Direct a))

@@ -1,7 +1,9 @@
 -- The numbers of statuses.
+use Rattle.sl_direct.specs.declared.action.Directed.TheVariants as directed
+use Rattle.sl_direct.specs.declared.action.Directed.{Directed}
 use Rattle.sl_replay.specs.declared.replay.Ended.TheVariants.{AtLine, Whole}
 use Rattle.sl_replay.specs.declared.replay.Ended.{Ended}
-use Rattle.sl_top.specs.declared.status.Status.TheVariants.{BadWords, Done, NoMemory, ReadFault, Refused, WriteFault}
+use Rattle.sl_top.specs.declared.status.Status.TheVariants.{AreaFault, BadWords, Done, NoMemory, NotTheLeader, ReadFault, Refused, WriteFault}
 use Rattle.sl_top.specs.declared.status.Status.{Status}
 use Rattle.std.specs.Prelude.{ℕ}
 
@@ -13,8 +15,18 @@ code BadWords = 2
 code ReadFault = 3
 code WriteFault = 4
 code NoMemory = 5
+code AreaFault = 6
+code NotTheLeader = 7
 
 -- The status of a report that was written whole.
 abbrev pub status_of : Ended → Status
 status_of Whole = Done
 status_of AtLine = Refused
+
+-- The status of an action that went so.
+abbrev pub status_after : Directed → Status
+status_after directed.Done = Done
+status_after directed.WriteFault = WriteFault
+status_after directed.NoMemory = NoMemory
+status_after directed.AreaFault = AreaFault
+status_after directed.NotTheLeader = NotTheLeader

@@ -1,18 +1,19 @@
 //! What the program ends with.
 
-ghost use Rattle.sl_top.specs.Statuses.{code, status_of};
+ghost use Rattle.sl_top.specs.Statuses.{code, status_after, status_of};
 ghost use Rattle.std.specs.Prelude.{◌≡◌};
 
+use sl_direct::Directed;
 use sl_replay::Ended;
 
 /// How a run of the program ended.
 #[derive(Clone, Copy, Debug, PartialEq, Eq)]
 pub enum Status {
-    /// The source was read to its end, each line was accepted, and the output is whole.
+    /// The source was read to its end and each line was accepted, or an action was done; the output is whole.
     Done,
     /// A line can't be read, or isn't allowed; the output ends with its refusal.
     Refused,
-    /// The words are of no command.
+    /// The words are of no command and no action.
     BadWords,
     /// Reading failed.
     ReadFault,
@@ -20,10 +21,14 @@ pub enum Status {
     WriteFault,
     /// There is no memory.
     NoMemory,
+    /// A read or a write of an area failed; the output ends with the line `area fault`.
+    AreaFault,
+    /// The sector that was to be a resource's leader holds none, or one of other names; the output says what it holds.
+    NotTheLeader,
 }
 
 impl Status {
-    /// Its number, 0 to 5, which the process ends with.
+    /// Its number, 0 to 7, which the process ends with.
     pub fn code(&self) -> u8
         ensures { result ≡ code self.now }
     {
@@ -34,6 +39,8 @@ impl Status {
             Status::ReadFault => 3,
             Status::WriteFault => 4,
             Status::NoMemory => 5,
+            Status::AreaFault => 6,
+            Status::NotTheLeader => 7,
         }
     }
 }
@@ -45,5 +52,18 @@ pub(crate) fn status_of(ended: Ended) -> Status
     match ended {
         Ended::Whole => Status::Done,
         Ended::AtLine => Status::Refused,
+    }
+}
+
+/// The status of an action that went so.
+pub(crate) fn status_after(directed: Directed) -> Status
+    ensures { result ≡ status_after directed }
+{
+    match directed {
+        Directed::Done => Status::Done,
+        Directed::WriteFault => Status::WriteFault,
+        Directed::NoMemory => Status::NoMemory,
+        Directed::AreaFault => Status::AreaFault,
+        Directed::NotTheLeader => Status::NotTheLeader,
     }
 }

@@ -1,26 +1,28 @@
 //! The top call.
 //!
 //! `replay` reads its source whole before it runs a line, so a read that fails leaves nothing written. The report is put out once it
-//! stands, or as far as memory went: what is written is then a front of it.
+//! stands, or as far as memory went: what is written is then a front of it. `direct` takes one disk of the devices, does its action there,
+//! and gives the disk back.
 
+ghost use Rattle.sl_direct.specs.Actions.{IsAction};
 ghost use Rattle.sl_replay.specs.Reports.{ending_of};
 ghost use Rattle.sl_report.specs.Headline.{IsFrontOf};
-ghost use Rattle.sl_top.specs.Runs.{PutsOut, Replays, bad_words_text, is_replay, report_text};
+ghost use Rattle.sl_top.specs.Runs.{ActsOn, IsDirect, IsReplay, Owes, PutsOut, Replays, report_text, said};
 ghost use Rattle.sl_top.specs.Statuses.{status_of};
-ghost use Rattle.sl_top.specs.declared.status.Status.TheVariants.{BadWords};
-ghost use Rattle.std.specs.Prelude.{IfOk, IsTrue, OnErr, [], false, length, ◌<◌, ◌^◌, ◌≡◌};
+ghost use Rattle.sl_top.specs.declared.status.Status.TheVariants.{WriteFault};
+ghost use Rattle.std.specs.Prelude.{IfOk, OnErr, [], length, ◌<◌, ◌^◌, ◌≡◌, ◌≢◌};
 
+use crate::devices::Devices;
 use crate::first::first_run;
-use crate::status::{Status, status_of};
-use crate::words::is_replay;
+use crate::status::{Status, status_after, status_of};
+use sl_area::Area;
+use sl_cli::{HELP, VERSION, Words, WordsError, read_words};
+use sl_direct::{Action, run_direct};
 use sl_io::{ReadAll, ReadAllError, Sink, Source, read_all, write_all};
 use sl_replay::{Ended, read_first_header};
 use sl_run::Refusal;
 use sl_schedule::{Lines, push_refusal_line};
 use std::alloc::{AllocError, Global};
-
-/// The devices that a run may take: of a command so far none.
-pub trait Devices: Drop {}
 
 /// The most bytes of a schedule.
 const GREATEST_SOURCE: usize = 1_000_000_000;
@@ -83,20 +85,46 @@ fn replay<S: Source, K: Sink>(alloc: Global, source: &mut S, sink: &mut K) -> St
     }
 }
 
-/// Puts out what words of no command print.
-fn refuse_words<K: Sink>(sink: &mut K) -> Status
-    ensures { PutsOut (K.taken sink.old) (K.taken sink.new) (K.faults sink.old) (K.faults sink.new) bad_words_text BadWords result }
+/// Puts out a text.
+fn tell<K: Sink>(sink: &mut K, text: &[u8], whole: Status) -> Status
+    requires { whole ≢ WriteFault }
+    ensures { PutsOut (K.taken sink.old) (K.taken sink.new) (K.faults sink.old) (K.faults sink.new) text.now whole result }
 {
-    match write_all(sink, b"sanlock: bad words\n") {
-        Ok(()) => Status::BadWords,
+    match write_all(sink, text) {
+        Ok(()) => whole,
         Err(_) => Status::WriteFault,
     }
 }
 
-/// Does what the words say (those behind the program's name), with no handle that waits: so it returns. `replay` reads a schedule from the
-/// source to its end, or to one byte past 1000000000, and puts out its report; other words put out one line. The status is `Done` or `Refused`
-/// where the report is whole, `ReadFault` and `WriteFault` only where the source's or the sink's count of faults rose, `NoMemory` for want of
-/// memory, after which a front of the report was put out, and `BadWords` for other words.
+/// Does an action to the disk at its path.
+fn direct<K: Sink, D: Devices>(
+    alloc: Global,
+    action: &Action,
+    sink: &mut K,
+    devices: &mut D,
+) -> Status
+    requires { IsAction action.now }
+    ensures { ActsOn action.now (D.disks devices.old) (D.disks devices.new) (D.faults devices.old) (D.faults devices.new)
+        (K.taken sink.old) (K.taken sink.new) (K.faults sink.old) (K.faults sink.new) result }
+{
+    let path = action.path();
+    let mut area = devices.area(1, 1, path.as_str());
+    let directed = run_direct(alloc, action, &mut area, sink);
+    devices.back(area);
+    status_after(directed)
+}
+
+/// Does what the words say (those behind the program's name), with no handle that waits: so it returns.
+///
+/// `replay` reads a schedule from the source to its end, or to one byte past 1000000000, and puts out its report. `direct` does its action
+/// to the disk at the action's path, and puts out what that tells. The help and the version are put out as they are. Words that say none of
+/// these put out one line.
+///
+/// # Statuses
+/// `Done` and `Refused` where the report is whole, `Done` also where an action, the help or the version is; `BadWords` for words that say
+/// nothing; `ReadFault` and `WriteFault` only where the source's or the sink's count of faults rose; `AreaFault` only where the devices'
+/// did; `NotTheLeader` where the sector that an action read is not its resource's leader; `NoMemory` for want of memory, after which a
+/// front of the output was put out.
 pub fn run_offline<S: Source, K: Sink, D: Devices>(
     alloc: Global,
     words: &[String],
@@ -104,16 +132,20 @@ pub fn run_offline<S: Source, K: Sink, D: Devices>(
     sink: &mut K,
     devices: &mut D,
 ) -> Status
-    ensures replay { IsTrue (is_replay words.now) → Replays (S.left source.old) (S.left source.new) (S.faults source.old) (S.faults source.new)
-        (K.taken sink.old) (K.taken sink.new) (K.faults sink.old) (K.faults sink.new) result }
-    ensures other { is_replay words.now ≡ false → PutsOut (K.taken sink.old) (K.taken sink.new) (K.faults sink.old) (K.faults sink.new) bad_words_text BadWords result }
-    ensures source { is_replay words.now ≡ false → source.new ≡ source.old }
-    ensures devices { devices.new ≡ devices.old }
+    ensures owes { Owes (said words.now)
+        (record { left = S.left source.old; source_faults = S.faults source.old; taken = K.taken sink.old; sink_faults = K.faults sink.old; disks = D.disks devices.old; device_faults = D.faults devices.old })
+        (record { left = S.left source.new; source_faults = S.faults source.new; taken = K.taken sink.new; sink_faults = K.faults sink.new; disks = D.disks devices.new; device_faults = D.faults devices.new })
+        result }
+    ensures source { (IsReplay (said words.now) → ⊥) → source.new ≡ source.old }
+    ensures devices { (IsDirect (said words.now) → ⊥) → devices.new ≡ devices.old }
 {
-    if is_replay(words) {
-        replay(alloc, source, sink)
-    } else {
-        refuse_words(sink)
+    match read_words(alloc, words) {
+        Ok(Words::Replay) => replay(alloc, source, sink),
+        Ok(Words::Direct(action)) => direct(alloc, &action, sink, devices),
+        Ok(Words::Help) => tell(sink, HELP.as_bytes(), Status::Done),
+        Ok(Words::Version) => tell(sink, VERSION.as_bytes(), Status::Done),
+        Err(WordsError::Bad) => tell(sink, b"sanlock: bad words\n", Status::BadWords),
+        Err(WordsError::NoMemory) => Status::NoMemory,
     }
 }
 
@@ -125,11 +157,12 @@ pub fn run<S: Source, K: Sink, D: Devices>(
     sink: &mut K,
     devices: D,
 ) -> (Status, D)
-    ensures replay { IsTrue (is_replay words.now) → Replays (S.left source.old) (S.left source.new) (S.faults source.old) (S.faults source.new)
-        (K.taken sink.old) (K.taken sink.new) (K.faults sink.old) (K.faults sink.new) result.0 }
-    ensures other { is_replay words.now ≡ false → PutsOut (K.taken sink.old) (K.taken sink.new) (K.faults sink.old) (K.faults sink.new) bad_words_text BadWords result.0 }
-    ensures source { is_replay words.now ≡ false → source.new ≡ source.old }
-    ensures devices { result.1 ≡ devices }
+    ensures owes { Owes (said words.now)
+        (record { left = S.left source.old; source_faults = S.faults source.old; taken = K.taken sink.old; sink_faults = K.faults sink.old; disks = D.disks devices; device_faults = D.faults devices })
+        (record { left = S.left source.new; source_faults = S.faults source.new; taken = K.taken sink.new; sink_faults = K.faults sink.new; disks = D.disks result.1; device_faults = D.faults result.1 })
+        result.0 }
+    ensures source { (IsReplay (said words.now) → ⊥) → source.new ≡ source.old }
+    ensures devices { (IsDirect (said words.now) → ⊥) → result.1 ≡ devices }
 {
     let mut devices = devices;
     let status = run_offline(alloc, words, source, sink, &mut devices);

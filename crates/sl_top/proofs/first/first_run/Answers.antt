@@ -1,7 +1,7 @@
 use Rattle.sl_first_schedule.specs.FirstLanguage.{first_commands}
 use Rattle.sl_top.proofs.TopLaws.{begins_here, host_begins, site_of}
 use Rattle.sl_top.proofs.first.first_run.Goals as goal
-use Rattle.std.proofs.Common.{ap, refl, subst, sym, ◌∙◌}
+use Rattle.std.proofs.Common.{refl, subst, sym}
 use Rattle.sl_host.specs.Hosts.{HostStands}
 use Rattle.sl_run.specs.Worlds.{world_with}
 use Rattle.sl_first_schedule.specs.FirstLanguage.{first_program}

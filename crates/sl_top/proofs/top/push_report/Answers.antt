@@ -1,11 +1,8 @@
-use Rattle.sl_first_schedule.specs.FirstLanguage.{first_language}
-use Rattle.sl_host.specs.Hosts.{HostStands}
-use Rattle.sl_replay.specs.Reports.{Owes, ending_of}
-use Rattle.sl_report.specs.Schedules.{Header_read, numbered_lines, read_header}
+use Rattle.sl_replay.specs.Reports.{ending_of}
 use Rattle.sl_top.proofs.TopLaws.{first_header, header_is, none_written, on_err, owed_first, room_for}
 use Rattle.sl_top.proofs.top.push_report.Goals as goal
 use Rattle.sl_top.specs.Runs.{report_text}
-use Rattle.std.proofs.Common.{sym, ◌∙◌, ◌≡◌}
+use Rattle.std.proofs.Common.{sym}
 
 pub returns-in_err-header-clause-front : goal.returns-in_err-header-clause-front
 returns-in_err-header-clause-front c = on_err c.from_residual.result _ (none_written c.args.out.now.items _ c.requires)

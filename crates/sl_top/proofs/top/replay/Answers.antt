@@ -1,4 +1,3 @@
-use Rattle.sl_report.specs.Schedules.{greatest_source}
 use Rattle.sl_top.proofs.RunLaws.{longer_read, replays_by, unread, whole_read}
 use Rattle.sl_top.proofs.top.replay.Goals as goal
 use Rattle.sl_top.specs.declared.status.Status.TheVariants.{NoMemory, ReadFault}

@@ -1,0 +1,137 @@
+-- What an action owes: a disk is handed out, the action is done to the area, and the area goes back. Where the devices don't tell what the
+-- disk has, nothing of it is owed, so what the area tells is forgotten; where they do, the area has what the disk had.
+use Rattle.sl_direct.specs.Actions.{Acts, AreReadAt, Directs, Look, Reads, Writes, dump_look, leader_look, path_of}
+use Rattle.sl_direct.specs.FreshAreas.{Write, layout_for, lockspace_writes, resource_writes}
+use Rattle.sl_direct.specs.Lines.{lockspace_line, resource_line}
+use Rattle.sl_direct.specs.declared.action.Action.TheVariants.{Dump, InitLockspace, InitResource, ReadLeader}
+use Rattle.sl_direct.specs.declared.action.Action.{Action}
+use Rattle.sl_direct.specs.declared.action.Directed.TheVariants.{AreaFault, Done, NoMemory, NotTheLeader, WriteFault}
+use Rattle.sl_direct.specs.declared.action.Directed.{Directed}
+use Rattle.sl_top.proofs.RunLaws.{nothing_put}
+use Rattle.sl_top.specs.Disks.{CountsBack, Disks, HandsOut, KeepsAllBut, TakesBack}
+use Rattle.sl_top.specs.Runs.{ActsOn}
+use Rattle.sl_top.specs.Statuses.{status_after}
+use Rattle.sl_top.specs.declared.status.Status.TheVariants as status
+use Rattle.sl_top.specs.declared.status.Status.{Status}
+use Rattle.std.proofs.Common.{List, None, Option, Some, [], ap, arith, inl, refl, subst, sym, ℕ, ◌+◌, ◌∙◌, ◌∷◌, ◌≡◌}
+use Rattle.std.specs.Io.KnownBytes.{Keeps}
+use Rattle.std.specs.Prelude.{option_map}
+
+-- ---- what isn't told
+
+sectors_untold : (content : Option (List ℕ)) (at : ℕ) (ss : List (List ℕ)) → AreReadAt content at ss → AreReadAt None at ss
+sectors_untold content at [] h = tt
+sectors_untold content at (s ∷ ss) h = (h.0, tt, sectors_untold content (at + 512) ss h.2)
+
+writes_untold : (ws : List Write) (line : List ℕ) (content left after : Option (List ℕ)) (lines : List (List ℕ)) (d : Directed) → Writes ws line content left lines d
+    → Writes ws line None after lines d
+writes_untold ws line content left after lines Done h = (tt, h.1)
+writes_untold ws line content left after lines AreaFault h = (tt, h.1)
+writes_untold ws line content left after lines NoMemory h = (tt, h.1)
+writes_untold ws line content left after lines WriteFault h = h
+writes_untold ws line content left after lines NotTheLeader h = h
+
+reads_untold : (k : Look) (content left after : Option (List ℕ)) (lines : List (List ℕ)) (d : Directed) → Reads k content left lines d → Reads k None after lines d
+reads_untold k content left after lines d h =
+    record { kept = tt; sectors = h.sectors; read = sectors_untold content k.offset h.sectors h.read; told = h.told; ended = h.ended }
+
+acts_untold : (a : Action) (content left after : Option (List ℕ)) (lines : List (List ℕ)) (d : Directed) → Acts a content left lines d → Acts a None after lines d
+acts_untold (InitLockspace l hosts) = writes_untold (lockspace_writes (layout_for hosts) l.name l.offset) (lockspace_line l hosts)
+acts_untold (InitResource r hosts) = writes_untold (resource_writes (layout_for hosts) r.lockspace r.name r.offset) (resource_line r hosts)
+acts_untold (ReadLeader r) = reads_untold (leader_look r)
+acts_untold (Dump path offset size) = reads_untold (dump_look offset size)
+
+directs_untold : (a : Action) (content left after : Option (List ℕ)) (faults later : ℕ) (taken now : Option (List ℕ)) (sink_faults sink_later : ℕ) (d : Directed)
+    → Directs a content left faults later taken now sink_faults sink_later d → Directs a None after faults later taken now sink_faults sink_later d
+directs_untold a content left after faults later taken now sink_faults sink_later d h =
+    record {
+      went = h.went;
+      lines = h.lines;
+      acts = acts_untold a content left after h.lines h.went h.acts;
+      output = h.output;
+      area_fault = h.area_fault;
+      write_fault = h.write_fault;
+      area_failed = h.area_failed;
+      never_falls = h.never_falls;
+    }
+
+-- ---- the disk that is lent
+
+kept_is : (c : List ℕ) (content : Option (List ℕ)) → Keeps (Some c) content → content ≡ Some c
+kept_is c None h = absurd h
+kept_is c (Some d) h = ap (λ x. Some x) h
+
+-- What is done to the area is done to the disk.
+directs_disk : (a : Action) (path : List ℕ) (told lent content left : Option (List ℕ)) (between now : Disks) (faults later : ℕ) (taken put : Option (List ℕ)) (sink_faults sink_later : ℕ)
+    (d : Directed) → Keeps told content → lent ≡ option_map (λ c. path) told → TakesBack lent between now left
+    → Directs a content left faults later taken put sink_faults sink_later d → Directs a told (now path) faults later taken put sink_faults sink_later d
+directs_disk a path None lent content left between now faults later taken put sink_faults sink_later d kept lends back h =
+    directs_untold a content left (now path) faults later taken put sink_faults sink_later d h
+directs_disk a path (Some c) lent content left between now faults later taken put sink_faults sink_later d kept lends back h =
+    let here : TakesBack (Some path) between now left = subst (λ x. TakesBack x between now left) lends back in
+    subst (λ x. Directs a (Some c) x faults later taken put sink_faults sink_later d) (sym here.0)
+    (subst (λ x. Directs a x left faults later taken put sink_faults sink_later d) (kept_is c content kept) h)
+
+-- The others stay where the area goes back.
+others_stay : (path : List ℕ) (told lent left : Option (List ℕ)) (between now : Disks) → lent ≡ option_map (λ c. path) told → TakesBack lent between now left
+    → KeepsAllBut path between now
+others_stay path None lent left between now lends back =
+    let here : TakesBack None between now left = subst (λ x. TakesBack x between now left) lends back in
+    λ other apart. here other
+others_stay path (Some c) lent left between now lends back =
+    let here : TakesBack (Some path) between now left = subst (λ x. TakesBack x between now left) lends back in
+    here.1
+
+-- Handed out, acted on, and taken back.
+pub acts_on : (a : Action) (path : List ℕ) (before between now : Disks) (lent content left : Option (List ℕ)) (faults middle later fresh counted : ℕ) (taken put : Option (List ℕ))
+    (sink_faults sink_later : ℕ) (d : Directed) (s : Status) → path ≡ path_of a → HandsOut path before between lent content → fresh ≡ 0 → middle ≡ faults
+    → Directs a content left fresh counted taken put sink_faults sink_later d → TakesBack lent between now left → CountsBack counted middle later → s ≡ status_after d
+    → ActsOn a before now faults later taken put sink_faults sink_later s
+acts_on a path before between now lent content left faults middle later fresh counted taken put sink_faults sink_later d s at out none same h back count is =
+    let done : Directs a (before path) (now path) 0 counted taken put sink_faults sink_later d =
+    subst (λ f. Directs a (before path) (now path) f counted taken put sink_faults sink_later d) none
+    (directs_disk a path (before path) lent content left between now fresh counted taken put sink_faults sink_later d out.content_is out.lent_is back h) in
+    let stay : KeepsAllBut path before now =
+    λ other apart. others_stay path (before path) lent left between now out.lent_is back other apart ∙ out.others other apart in
+    record {
+      ended = d;
+      counted = counted;
+      directs = subst (λ p. Directs a (before p) (now p) 0 counted taken put sink_faults sink_later d) at done;
+      others = subst (λ p. KeepsAllBut p before now) at stay;
+      count = subst (λ f. CountsBack counted f later) same count;
+      status = is;
+    }
+
+-- ---- nothing is done
+
+keeps_same : (content : Option (List ℕ)) → Keeps content content
+keeps_same None = tt
+keeps_same (Some c) = refl
+
+nothing_acted : (a : Action) (content : Option (List ℕ)) → Acts a content content [] NoMemory
+nothing_acted (InitLockspace l hosts) content = (keeps_same content, refl)
+nothing_acted (InitResource r hosts) content = (keeps_same content, refl)
+nothing_acted (ReadLeader r) content = record { kept = keeps_same content; sectors = []; read = tt; told = refl; ended = omega arith }
+nothing_acted (Dump path offset size) content = record { kept = keeps_same content; sectors = []; read = tt; told = refl; ended = omega arith }
+
+-- For want of memory.
+pub not_begun : (a : Action) (disks : Disks) (faults : ℕ) (taken : Option (List ℕ)) (sink_faults : ℕ) → ActsOn a disks disks faults faults taken taken sink_faults sink_faults status.NoMemory
+not_begun a disks faults taken sink_faults =
+    record {
+      ended = NoMemory;
+      counted = 0;
+      directs =
+          record {
+            went = NoMemory;
+            lines = [];
+            acts = nothing_acted a (disks (path_of a));
+            output = record { put = []; puts = nothing_put taken; is_put = inl (refl, refl); never_falls = omega arith };
+            area_fault = λ e. absurd cc;
+            write_fault = λ e. absurd cc;
+            area_failed = λ e. absurd cc;
+            never_falls = omega arith;
+          };
+      others = λ other apart. refl;
+      count = record { rose = λ some. absurd (omega (arith, some)); stays = λ none. refl; later = omega arith };
+      status = refl;
+    }

@@ -1,0 +1,104 @@
+-- Disks in memory: where the one at a path stands, and what is told of all when another is put in its place.
+use Rattle.sl_top.specs.Disks.{Disks, HandsOut, KeepsAllBut, TakesBack, told_at}
+use Rattle.sl_top.specs.MemDisks.{content_at, is_at}
+use Rattle.sl_top.specs.declared.mem_devices.MemDisk.{MemDisk}
+use Rattle.std.proofs.Common.{Bool, List, None, Option, Some, ap, false, length, refl, slice_index_or, slice_set, subst, sym, true, ℕ, ◌∙◌, ◌≡◌, ◌≤◌}
+use Rattle.std.proofs.lemmas.Bool.{ltb-false}
+use Rattle.std.proofs.lemmas.List.Folds.{find-set, find_at, find_past}
+use Rattle.std.proofs.lemmas.List.Quantifiers.{position-Some}
+use Rattle.std.proofs.lemmas.Option.{slice_get-get_or, slice_get_past}
+use Rattle.std.proofs.lemmas.Slice.Eq.{bytes_eq-Decides}
+use Rattle.std.specs.Io.KnownBytes.{Keeps}
+use Rattle.std.specs.List.{position, position_or_len, slice_get}
+use Rattle.std.specs.Prelude.{if◌then◌else◌, nat_lt, option_map, ◌≢◌}
+
+-- ---- where it stands
+
+taken_if : (b : Bool) (n at : ℕ) → (if b then Some n else None) ≡ Some at → at ≡ n
+taken_if true n at e = cc
+taken_if false n at e = absurd cc
+
+false_if : (b : Bool) (n : ℕ) → (if b then Some n else None) ≡ None → b ≡ false
+false_if true n e = absurd cc
+false_if false n e = refl
+
+first_at : (path : List ℕ) (ds : List MemDisk) (at : ℕ) → position (is_at path) ds ≡ Some at → at ≡ position_or_len (is_at path) ds
+first_at path ds at e = taken_if (nat_lt (position_or_len (is_at path) ds) (length ds)) (position_or_len (is_at path) ds) at e
+
+-- No disk stands there.
+pub none_found : (path : List ℕ) (ds : List MemDisk) → position (is_at path) ds ≡ None → content_at ds path ≡ None
+none_found path ds e =
+    let past : length ds ≤ position_or_len (is_at path) ds =
+    ltb-false (position_or_len (is_at path) ds) (length ds) (false_if (nat_lt (position_or_len (is_at path) ds) (length ds)) (position_or_len (is_at path) ds) e) in
+    ap (λ x. option_map (λ (d : MemDisk). d.area.content) x) (find_at (is_at path) ds ∙ slice_get_past ds (position_or_len (is_at path) ds) past)
+
+-- This one does.
+pub one_found : (path : List ℕ) (ds : List MemDisk) (at : ℕ) (d : MemDisk) → position (is_at path) ds ≡ Some at → content_at ds path ≡ Some (slice_index_or ds at d).area.content
+one_found path ds at d e =
+    ap (λ x. option_map (λ (d : MemDisk). d.area.content) x)
+    (find_at (is_at path) ds ∙ ap (λ n. slice_get ds n) (sym (first_at path ds at e)) ∙ slice_get-get_or ds at d (position-Some (is_at path) ds at d e).0)
+
+pub path_found : (path : List ℕ) (ds : List MemDisk) (at : ℕ) (d : MemDisk) → position (is_at path) ds ≡ Some at → (slice_index_or ds at d).path ≡ path
+path_found path ds at d e = (bytes_eq-Decides (slice_index_or ds at d).path path).0 (position-Some (is_at path) ds at d e).1
+
+-- ---- another in its place
+
+not_true : (b : Bool) → (b ≡ true → ⊥) → b ≡ false
+not_true true f = absurd (f refl)
+not_true false f = refl
+
+not_at : (other : List ℕ) (d : MemDisk) (path : List ℕ) → d.path ≡ path → other ≢ path → is_at other d ≡ false
+not_at other d path here apart = not_true (is_at other d) (λ h. apart (sym ((bytes_eq-Decides d.path other).0 h) ∙ here))
+
+pub put_there : (path : List ℕ) (ds : List MemDisk) (at : ℕ) (d y : MemDisk) → position (is_at path) ds ≡ Some at → y.path ≡ path
+    → TakesBack (told_at (content_at ds) path) (content_at ds) (content_at (slice_set ds at y)) (Some y.area.content)
+put_there path ds at d y e same =
+    let there : told_at (content_at ds) path ≡ Some path = ap (λ x. option_map (λ c. path) x) (one_found path ds at d e) in
+    let put : content_at (slice_set ds at y) path ≡ Some y.area.content =
+    ap (λ x. option_map (λ (d : MemDisk). d.area.content) x)
+    (find-set (is_at path) ds at y (first_at path ds at e) (position-Some (is_at path) ds at d e).0 ((bytes_eq-Decides y.path path).1 same)) in
+    let others : KeepsAllBut path (content_at ds) (content_at (slice_set ds at y)) =
+    λ other apart.
+    ap (λ x. option_map (λ (d : MemDisk). d.area.content) x)
+    (find_past (is_at other) ds at y d (not_at other (slice_index_or ds at d) path (path_found path ds at d e) apart) (not_at other y path same apart)) in
+    subst (λ l. TakesBack l (content_at ds) (content_at (slice_set ds at y)) (Some y.area.content)) (sym there) (put, others)
+
+pub nothing_put : (path : List ℕ) (ds : List MemDisk) (content : Option (List ℕ)) → position (is_at path) ds ≡ None
+    → TakesBack (told_at (content_at ds) path) (content_at ds) (content_at ds) content
+nothing_put path ds content e =
+    let nowhere : told_at (content_at ds) path ≡ None = ap (λ x. option_map (λ c. path) x) (none_found path ds e) in
+    subst (λ l. TakesBack l (content_at ds) (content_at ds) content) (sym nowhere) (λ other. refl)
+
+-- ---- handed out
+
+keeps_told : (told content : Option (List ℕ)) → content ≡ told → Keeps told content
+keeps_told None content e = tt
+keeps_told (Some c) content e = subst (λ x. Keeps (Some c) x) (sym e) refl
+
+others_stay : (path : List ℕ) (told : Option (List ℕ)) (before now : Disks) (content : Option (List ℕ)) → TakesBack (option_map (λ c. path) told) before now content
+    → KeepsAllBut path before now
+others_stay path None before now content back = λ other apart. back other
+others_stay path (Some c) before now content back = back.1
+
+-- The disk at the path is out, and this one stands in its place.
+pub handed_out : (path : List ℕ) (before now : Disks) (left content : List ℕ) → Some content ≡ before path → TakesBack (told_at before path) before now (Some left)
+    → HandsOut path before now (told_at now path) (Some content)
+handed_out path before now left content is back =
+    let there : told_at before path ≡ Some path = ap (λ x. option_map (λ c. path) x) (sym is) in
+    let put : TakesBack (Some path) before now (Some left) = subst (λ l. TakesBack l before now (Some left)) there back in
+    record {
+      content_is = keeps_told (before path) (Some content) is;
+      lent_is = ap (λ x. option_map (λ c. path) x) put.0 ∙ sym there;
+      others = put.1;
+    }
+
+-- There is none, and nothing is.
+pub none_out : (path : List ℕ) (before now : Disks) (left content : Option (List ℕ)) → None ≡ before path → TakesBack (told_at before path) before now left
+    → HandsOut path before now None content
+none_out path before now left content is back =
+    let nowhere : told_at before path ≡ None = ap (λ x. option_map (λ c. path) x) (sym is) in
+    record {
+      content_is = subst (λ x. Keeps x content) is tt;
+      lent_is = sym nowhere;
+      others = others_stay path (before path) before now left back;
+    }

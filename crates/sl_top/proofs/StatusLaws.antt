@@ -1,0 +1,185 @@
+-- Which statuses a run may end with, by what its words say, and why.
+use Rattle.sl_cli.specs.declared.reading.Words.TheVariants.{Direct, Help, Replay, Version}
+use Rattle.sl_cli.specs.declared.reading.Words.{Words}
+use Rattle.sl_cli.specs.declared.texts.TheConstants.{HELP, VERSION}
+use Rattle.sl_direct.proofs.AreaLaws.{leader_is_told}
+use Rattle.sl_direct.specs.Actions.{Directs, path_of}
+use Rattle.sl_direct.specs.declared.action.Action.TheVariants.{ReadLeader}
+use Rattle.sl_direct.specs.declared.action.Action.{Action}
+use Rattle.sl_direct.specs.declared.action.Directed.TheVariants as directed
+use Rattle.sl_direct.specs.declared.action.Directed.{Directed}
+use Rattle.sl_first_schedule.specs.FirstLanguage.{first_language}
+use Rattle.sl_report.specs.Headline.{ReplayHeadline, SoundRun}
+use Rattle.sl_top.specs.Laws.{CausesHaveStatuses, HasItsCause, IsNotTheLeader, StatusesHaveCauses, has_leader}
+use Rattle.sl_top.specs.Runs.{ActsOn, IsCutShort, IsWritten, Outside, PutsOut, Replays, bad_words_text}
+use Rattle.sl_top.specs.Statuses.{code, status_after}
+use Rattle.sl_top.specs.declared.status.Status.TheVariants.{AreaFault, BadWords, Done, NoMemory, NotTheLeader, ReadFault, Refused, WriteFault}
+use Rattle.sl_top.specs.declared.status.Status.{Status}
+use Rattle.sl_trace.specs.declared.command.ResourceArg.{ResourceArg}
+use Rattle.sl_words.specs.Causes.{Rose}
+use Rattle.std.proofs.Common.{Bool, IsTrue, List, None, Option, Some, ap, arith, false, inl, inr, refl, subst, sym, true, ℕ, ◌<◌, ◌∙◌, ◌≡◌}
+use Rattle.std.specs.Prelude.{◌⊎◌}
+
+-- ---- a text that is put out
+
+put_status : (text written : List ℕ) (whole s : Status) → IsWritten text whole written s → (s ≡ whole) ⊎ IsCutShort s
+put_status text written whole s (inl h) = inl h.1
+put_status text written whole s (inr h) = inr h.1
+
+none_of : (s t whole : Status) → (s ≡ whole) ⊎ IsCutShort s → s ≡ t → (whole ≡ t → ⊥) → (WriteFault ≡ t → ⊥) → (NoMemory ≡ t → ⊥) → ⊥
+none_of s t whole (inl h) is a b c = a (sym h ∙ is)
+none_of s t whole (inr (inl h)) is a b c = b (sym h ∙ is)
+none_of s t whole (inr (inr h)) is a b c = c (sym h ∙ is)
+
+done_caused : (w : Option Words) (x y : Outside) (text : List ℕ) (s : Status) → PutsOut x.taken y.taken x.sink_faults y.sink_faults text Done s → HasItsCause w x y s
+done_caused w x y text s put =
+    let ends : (s ≡ Done) ⊎ IsCutShort s = put_status text put.written Done s put.text_is in
+    record {
+      refused = λ e. absurd (none_of s Refused Done ends e (λ no. absurd cc) (λ no. absurd cc) (λ no. absurd cc));
+      bad_words = λ e. absurd (none_of s BadWords Done ends e (λ no. absurd cc) (λ no. absurd cc) (λ no. absurd cc));
+      read_fault = λ e. absurd (none_of s ReadFault Done ends e (λ no. absurd cc) (λ no. absurd cc) (λ no. absurd cc));
+      write_fault = put.cause;
+      area_fault = λ e. absurd (none_of s AreaFault Done ends e (λ no. absurd cc) (λ no. absurd cc) (λ no. absurd cc));
+      not_the_leader = λ e. absurd (none_of s NotTheLeader Done ends e (λ no. absurd cc) (λ no. absurd cc) (λ no. absurd cc));
+    }
+
+bad_caused : (x y : Outside) (s : Status) → PutsOut x.taken y.taken x.sink_faults y.sink_faults bad_words_text BadWords s → HasItsCause None x y s
+bad_caused x y s put =
+    let ends : (s ≡ BadWords) ⊎ IsCutShort s = put_status bad_words_text put.written BadWords s put.text_is in
+    record {
+      refused = λ e. absurd (none_of s Refused BadWords ends e (λ no. absurd cc) (λ no. absurd cc) (λ no. absurd cc));
+      bad_words = λ e. refl;
+      read_fault = λ e. absurd (none_of s ReadFault BadWords ends e (λ no. absurd cc) (λ no. absurd cc) (λ no. absurd cc));
+      write_fault = put.cause;
+      area_fault = λ e. absurd (none_of s AreaFault BadWords ends e (λ no. absurd cc) (λ no. absurd cc) (λ no. absurd cc));
+      not_the_leader = λ e. absurd (none_of s NotTheLeader BadWords ends e (λ no. absurd cc) (λ no. absurd cc) (λ no. absurd cc));
+    }
+
+-- ---- a replay
+
+-- No other status tells of a report.
+outside : (ended : Bool) (read written : List ℕ) (s t : Status) → ReplayHeadline SoundRun first_language ended read written (code s) → s ≡ t
+    → (ReplayHeadline SoundRun first_language ended read written (code t) → ⊥) → ⊥
+outside ended read written s t headline is never = never (subst (λ u. ReplayHeadline SoundRun first_language ended read written (code u)) is headline)
+
+replay_caused : (x y : Outside) (s : Status) → Replays x.left y.left x.source_faults y.source_faults x.taken y.taken x.sink_faults y.sink_faults s → HasItsCause (Some Replay) x y s
+replay_caused x y s run =
+    record {
+      refused = λ e. refl;
+      bad_words = λ e. absurd (outside run.ended run.read run.written s BadWords run.headline e (λ h. let no : false ≡ true = h.0 in absurd cc));
+      read_fault = λ e. (refl, run.read_fault e);
+      write_fault = run.write_fault;
+      area_fault = λ e. absurd (outside run.ended run.read run.written s AreaFault run.headline e (λ h. let no : false ≡ true = h.0 in absurd cc));
+      not_the_leader = λ e. absurd (outside run.ended run.read run.written s NotTheLeader run.headline e (λ h. let no : false ≡ true = h.0 in absurd cc));
+    }
+
+-- ---- an action
+
+not_refused : (d : Directed) → status_after d ≡ Refused → ⊥
+not_refused directed.Done e = absurd cc
+not_refused directed.WriteFault e = absurd cc
+not_refused directed.NoMemory e = absurd cc
+not_refused directed.AreaFault e = absurd cc
+not_refused directed.NotTheLeader e = absurd cc
+
+not_bad : (d : Directed) → status_after d ≡ BadWords → ⊥
+not_bad directed.Done e = absurd cc
+not_bad directed.WriteFault e = absurd cc
+not_bad directed.NoMemory e = absurd cc
+not_bad directed.AreaFault e = absurd cc
+not_bad directed.NotTheLeader e = absurd cc
+
+not_read : (d : Directed) → status_after d ≡ ReadFault → ⊥
+not_read directed.Done e = absurd cc
+not_read directed.WriteFault e = absurd cc
+not_read directed.NoMemory e = absurd cc
+not_read directed.AreaFault e = absurd cc
+not_read directed.NotTheLeader e = absurd cc
+
+write_failed : (d : Directed) → status_after d ≡ WriteFault → d ≡ directed.WriteFault
+write_failed directed.Done e = absurd cc
+write_failed directed.WriteFault e = refl
+write_failed directed.NoMemory e = absurd cc
+write_failed directed.AreaFault e = absurd cc
+write_failed directed.NotTheLeader e = absurd cc
+
+area_failed : (d : Directed) → status_after d ≡ AreaFault → d ≡ directed.AreaFault
+area_failed directed.Done e = absurd cc
+area_failed directed.WriteFault e = absurd cc
+area_failed directed.NoMemory e = absurd cc
+area_failed directed.AreaFault e = refl
+area_failed directed.NotTheLeader e = absurd cc
+
+other_leader : (d : Directed) → status_after d ≡ NotTheLeader → d ≡ directed.NotTheLeader
+other_leader directed.Done e = absurd cc
+other_leader directed.WriteFault e = absurd cc
+other_leader directed.NoMemory e = absurd cc
+other_leader directed.AreaFault e = absurd cc
+other_leader directed.NotTheLeader e = refl
+
+some_fault : (n : ℕ) → Rose 0 n → 0 < n
+some_fault n rose = omega (arith, rose)
+
+leader_cause : (a : Action) (x : Outside) (now : Option (List ℕ)) (counted : ℕ) (taken put : Option (List ℕ)) (sink_faults sink_later : ℕ) (r : ResourceArg) → a ≡ ReadLeader r
+    → Directs (ReadLeader r) (x.disks r.path) now 0 counted taken put sink_faults sink_later directed.NotTheLeader → IsNotTheLeader (Some (Direct a)) x
+leader_cause a x now counted taken put sink_faults sink_later r is h =
+    record {
+      resource = r;
+      asked = ap (λ b. Some (Direct b)) is;
+      other = λ content told.
+          leader_is_told.wrong r content now 0 counted taken put sink_faults sink_later
+          (subst (λ c. Directs (ReadLeader r) c now 0 counted taken put sink_faults sink_later directed.NotTheLeader) told h);
+    }
+
+leader_caused : (a : Action) (x y : Outside) (s : Status) → (run : ActsOn a x.disks y.disks x.device_faults y.device_faults x.taken y.taken x.sink_faults y.sink_faults s)
+    → run.ended ≡ directed.NotTheLeader → IsNotTheLeader (Some (Direct a)) x
+leader_caused a x y s run is =
+    let h = subst (λ d. Directs a (x.disks (path_of a)) (y.disks (path_of a)) 0 run.counted x.taken y.taken x.sink_faults y.sink_faults d) is run.directs in
+    let found : (r : ResourceArg) × (a ≡ ReadLeader r) =
+    leader_is_told.other a (x.disks (path_of a)) (y.disks (path_of a)) 0 run.counted x.taken y.taken x.sink_faults y.sink_faults h in
+    leader_cause a x (y.disks found.0.path) run.counted x.taken y.taken x.sink_faults y.sink_faults found.0 found.1
+    (subst (λ b. Directs b (x.disks (path_of b)) (y.disks (path_of b)) 0 run.counted x.taken y.taken x.sink_faults y.sink_faults directed.NotTheLeader) found.1 h)
+
+direct_caused : (a : Action) (x y : Outside) (s : Status) → ActsOn a x.disks y.disks x.device_faults y.device_faults x.taken y.taken x.sink_faults y.sink_faults s
+    → HasItsCause (Some (Direct a)) x y s
+direct_caused a x y s run =
+    record {
+      refused = λ e. absurd (not_refused run.ended (sym run.status ∙ e));
+      bad_words = λ e. absurd (not_bad run.ended (sym run.status ∙ e));
+      read_fault = λ e. absurd (not_read run.ended (sym run.status ∙ e));
+      write_fault = λ e. run.directs.write_fault (write_failed run.ended (sym run.status ∙ e));
+      area_fault = λ e. ((a, refl), run.count.rose (some_fault run.counted (run.directs.area_fault (area_failed run.ended (sym run.status ∙ e)))));
+      not_the_leader = λ e. leader_caused a x y s run (other_leader run.ended (sym run.status ∙ e));
+    }
+
+-- ---- all words
+
+pub statuses_have_causes : StatusesHaveCauses
+statuses_have_causes None x y s h = bad_caused x y s h
+statuses_have_causes (Some Replay) x y s h = replay_caused x y s h
+statuses_have_causes (Some (Direct a)) x y s h = direct_caused a x y s h
+statuses_have_causes (Some Help) x y s h = done_caused (Some Help) x y HELP.now s h
+statuses_have_causes (Some Version) x y s h = done_caused (Some Version) x y VERSION.now s h
+
+-- ---- where its cause stands
+
+-- A look that is done found the leader.
+leader_found : (r : ResourceArg) (content : List ℕ) (now : Option (List ℕ)) (counted : ℕ) (taken put : Option (List ℕ)) (sink_faults sink_later : ℕ) (d : Directed) (s : Status)
+    → Directs (ReadLeader r) (Some content) now 0 counted taken put sink_faults sink_later d → s ≡ status_after d → has_leader r content ≡ false
+    → (s ≡ NotTheLeader) ⊎ (s ≡ AreaFault) ⊎ IsCutShort s
+leader_found r content now counted taken put sink_faults sink_later directed.Done s h is other =
+    let right : IsTrue (has_leader r content) = leader_is_told.right r content now 0 counted taken put sink_faults sink_later h in
+    let no : false ≡ true = sym other ∙ right in absurd cc
+leader_found r content now counted taken put sink_faults sink_later directed.WriteFault s h is other = inr (inr (inl is))
+leader_found r content now counted taken put sink_faults sink_later directed.NoMemory s h is other = inr (inr (inr is))
+leader_found r content now counted taken put sink_faults sink_later directed.AreaFault s h is other = inr (inl is)
+leader_found r content now counted taken put sink_faults sink_later directed.NotTheLeader s h is other = inl is
+
+pub causes_have_statuses : CausesHaveStatuses
+causes_have_statuses =
+    record {
+      bad_words = λ x y s put. put_status bad_words_text put.written BadWords s put.text_is;
+      not_the_leader = λ r content x y s run told other.
+          leader_found r content (y.disks r.path) run.counted x.taken y.taken x.sink_faults y.sink_faults run.ended s
+          (subst (λ c. Directs (ReadLeader r) c (y.disks r.path) 0 run.counted x.taken y.taken x.sink_faults y.sink_faults run.ended) told run.directs) run.status other;
+    }

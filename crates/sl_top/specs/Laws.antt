@@ -1,0 +1,40 @@
+-- What each status tells of a run.
+use Rattle.sl_cli.specs.declared.reading.Words.TheVariants.{Direct, Replay}
+use Rattle.sl_cli.specs.declared.reading.Words.{Words}
+use Rattle.sl_direct.specs.Laws.{sector_at}
+use Rattle.sl_direct.specs.Lines.{is_its_leader, leader_in_sector}
+use Rattle.sl_direct.specs.declared.action.Action.TheVariants.{ReadLeader}
+use Rattle.sl_top.specs.Runs.{IsCutShort, IsDirect, Outside, Owes}
+use Rattle.sl_top.specs.declared.status.Status.TheVariants.{AreaFault, BadWords, NotTheLeader, ReadFault, Refused, WriteFault}
+use Rattle.sl_top.specs.declared.status.Status.{Status}
+use Rattle.sl_trace.specs.declared.command.ResourceArg.{ResourceArg}
+use Rattle.sl_words.specs.Causes.{Rose}
+use Rattle.std.specs.Prelude.{Bool, List, None, Option, Some, false, ℕ, ◌≡◌, ◌⊎◌}
+
+-- Whether the disk's sector at a resource's offset spells its leader.
+abbrev pub has_leader : ResourceArg → List ℕ → Bool
+has_leader r content = is_its_leader r (leader_in_sector (sector_at r.offset content))
+
+-- A leader was to be read, and the sector was not the resource's leader, where the disk is told.
+pub record IsNotTheLeader (w : Option Words) (x : Outside) : Type 0 where
+  pub resource : ResourceArg
+  pub asked : w ≡ Some (Direct (ReadLeader resource))
+  pub other : (content : List ℕ) → x.disks resource.path ≡ Some content → has_leader resource content ≡ false
+
+-- Each status but 0 and want of memory comes only with its cause.
+pub record HasItsCause (w : Option Words) (x y : Outside) (s : Status) : Type 0 where
+  pub refused : s ≡ Refused → w ≡ Some Replay
+  pub bad_words : s ≡ BadWords → w ≡ None
+  pub read_fault : s ≡ ReadFault → (w ≡ Some Replay) × Rose x.source_faults y.source_faults
+  pub write_fault : s ≡ WriteFault → Rose x.sink_faults y.sink_faults
+  pub area_fault : s ≡ AreaFault → IsDirect w × Rose x.device_faults y.device_faults
+  pub not_the_leader : s ≡ NotTheLeader → IsNotTheLeader w x
+
+abbrev pub StatusesHaveCauses : Type 0
+StatusesHaveCauses = (w : Option Words) (x y : Outside) (s : Status) → Owes w x y s → HasItsCause w x y s
+
+-- And where its cause stands, the status comes, if nothing cut the run short.
+pub record CausesHaveStatuses : Type 0 where
+  pub bad_words : (x y : Outside) (s : Status) → Owes None x y s → (s ≡ BadWords) ⊎ IsCutShort s
+  pub not_the_leader : (r : ResourceArg) (content : List ℕ) (x y : Outside) (s : Status) → Owes (Some (Direct (ReadLeader r))) x y s → x.disks r.path ≡ Some content
+      → has_leader r content ≡ false → (s ≡ NotTheLeader) ⊎ (s ≡ AreaFault) ⊎ IsCutShort s

@@ -1,0 +1,13 @@
+//! What each status tells of a run: laws of the definitions that `run` and `run_offline` cite.
+
+ghost use Rattle.sl_top.specs.Laws.{CausesHaveStatuses, StatusesHaveCauses};
+
+/// Each status but `Done` and want of memory comes only with its cause.
+pub fn statuses_have_causes()
+    ensures { StatusesHaveCauses }
+{}
+
+/// Words that say nothing end with `BadWords`, and a look at another leader with `NotTheLeader`, if nothing cuts the run short.
+pub fn causes_have_statuses()
+    ensures { CausesHaveStatuses }
+{}

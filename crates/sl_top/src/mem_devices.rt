@@ -1,0 +1,175 @@
+//! Devices in memory: disks by their paths.
+//!
+//! A disk that is handed out is the disk itself, under a count of its own; an empty one stands in its place until it comes back. So one is
+//! out at a time. A path at which no disk stands gives an area each of whose calls fails, as a missing file does.
+ghost use Rattle.sl_io.specs.Faults.{one_more};
+ghost use Rattle.sl_top.specs.Disks.{CountsBack, HandsOut, TakesBack, told_at};
+ghost use Rattle.sl_top.specs.MemDisks.{content_at, is_at, lent_in};
+ghost use Rattle.std.specs.List.{position};
+ghost use Rattle.std.specs.Prelude.{IfSome, None, Some, [], option_map, ◌≡◌};
+
+use crate::devices::Devices;
+use sl_area::{Area, MemArea, Place};
+use sl_io::{Failed, FaultCount};
+use sl_text::FilePath;
+use std::alloc::Global;
+use std::marker::Model;
+use std::mem;
+
+/// A disk in memory, and its path.
+#[derive(Drop)]
+pub struct MemDisk {
+    pub path: FilePath,
+    pub area: MemArea,
+}
+
+/// A disk in memory that is handed out: it counts its faults from then on.
+#[derive(Drop)]
+pub struct LentDisk {
+    area: MemArea,
+    faults: FaultCount,
+}
+
+impl LentDisk {
+    /// The disk, with no fault yet.
+    fn new(area: MemArea) -> LentDisk
+        ensures area { result.area ≡ area }
+        ensures fresh { result.faults ≡ 0 }
+    {
+        LentDisk {
+            area,
+            faults: FaultCount::new(),
+        }
+    }
+}
+
+impl Area for LentDisk {
+    ghost content = { λ d. Some d.area.content };
+
+    ghost faults = { λ d. d.faults };
+
+    fn read(&mut self, at: Place, n: u32, buffer: &mut [u8]) -> Result<(), Failed> {
+        match self.area.read(at, n, buffer) {
+            Ok(()) => Ok(()),
+            Err(_) => Err(self.faults.raise()),
+        }
+    }
+
+    fn write(&mut self, at: Place, sector: &[u8]) -> Result<(), Failed> {
+        match self.area.write(at, sector) {
+            Ok(()) => Ok(()),
+            Err(_) => Err(self.faults.raise()),
+        }
+    }
+}
+
+/// Disks in memory, by their paths.
+#[derive(Drop)]
+pub struct MemDevices {
+    alloc: Global,
+    all: Vec<MemDisk>,
+    out: Option<FilePath>,
+    faults: FaultCount,
+}
+
+impl Model for MemDevices {
+    ghost use Rattle.sl_top.specs.MemDisks.{DevicesState};
+
+    ghost Value = { DevicesState };
+
+    ghost view = { λ d. record { all = d.all.items; out = d.out; faults = d.faults } };
+}
+
+/// Where the disk at a path stands among the disks.
+fn slot_of(disks: &[MemDisk], path: &[u8]) -> Option<usize>
+    ensures { result ≡ position (is_at path.now) disks.now }
+{
+    disks.iter().position(|disk| disk.path.as_slice() == path)
+}
+
+/// What the disk at a path has.
+fn content_of<'a>(disks: &'a [MemDisk], path: &[u8]) -> Option<&'a [u8]>
+    ensures { option_map (λ c. c.now) result ≡ content_at disks.entry.now path.now }
+{
+    let at = slot_of(disks, path)?;
+    Some(disks[at].area.content())
+}
+
+/// Puts another disk in the place of the one at a path, and gives that one, with its path.
+fn exchange(disks: &mut [MemDisk], path: &[u8], area: MemArea) -> Option<(FilePath, MemArea)>
+    ensures taken { option_map (λ t. t.1.content) result ≡ content_at disks.old path.now }
+    ensures path { IfSome result (λ t. t.0 ≡ path.now) }
+    ensures put { TakesBack (told_at (content_at disks.old) path.now) (content_at disks.old) (content_at disks.new) (Some area.content) }
+{
+    let at = slot_of(disks, path)?;
+    let disk = &mut disks[at];
+    let path = disk.path;
+    Some((path, mem::replace(&mut disk.area, area)))
+}
+
+impl MemDevices {
+    /// These disks. Of two at one path the first counts.
+    pub fn new(alloc: Global, disks: Vec<MemDisk>) -> MemDevices
+        ensures { result ≡ record { all = disks.items; out = None; faults = 0 } }
+    {
+        MemDevices {
+            alloc,
+            all: disks,
+            out: None,
+            faults: FaultCount::new(),
+        }
+    }
+
+    /// The faults so far.
+    pub fn faults(&self) -> u64
+        ensures { result ≡ self.now.faults }
+    {
+        self.faults.get()
+    }
+
+    /// What the disk at a path has.
+    pub fn content(&self, path: &FilePath) -> Option<&[u8]>
+        ensures { option_map (λ c. c.now) result ≡ content_at self.now.all path.now }
+    {
+        content_of(&self.all, path.as_slice())
+    }
+}
+
+/// A disk with no room.
+fn no_disk(alloc: Global) -> MemArea
+    ensures { result.content ≡ [] }
+{
+    MemArea::of(Vec::new(alloc), Vec::new(alloc))
+}
+
+impl Devices for MemDevices {
+    type Area = LentDisk;
+
+    ghost disks = { λ d. content_at d.all };
+
+    ghost lent = { lent_in };
+
+    ghost faults = { λ d. d.faults };
+
+    fn area(&mut self, _machine: u32, _worker: u32, path: &str) -> LentDisk {
+        match exchange(&mut self.all, path.as_bytes(), no_disk(self.alloc)) {
+            Some((path, area)) => {
+                self.out = Some(path);
+                LentDisk::new(area)
+            }
+            None => {
+                self.out = None;
+                LentDisk::new(no_disk(self.alloc))
+            }
+        }
+    }
+
+    fn back(&mut self, area: LentDisk) {
+        if area.faults.get() > 0 {
+            self.faults.raise();
+        }
+        if let Some(path) = self.out {
+            let _ = exchange(&mut self.all, path.as_slice(), area.area);
+        }
+    }
+}
