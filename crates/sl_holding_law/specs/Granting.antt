@@ -7,7 +7,7 @@ use Rattle.sl_trace.specs.Traces.{Setting, Submitted, Trace, holdings, is_shared
 use Rattle.sl_trace.specs.declared.effects.Entry.{Entry}
 use Rattle.sl_trace.specs.declared.effects.Grant.{Grant}
 use Rattle.sl_trace.specs.declared.effects.Spot.{Spot}
-use Rattle.std.specs.Prelude.{Contains, IsFalse, IsTrue, None, Some, false, true, ℕ, ◌&&◌, ◌++◌, ◌∷◌, ◌≡◌}
+use Rattle.std.specs.Prelude.{Contains, IsFalse, IsTrue, None, Some, ℕ, ◌&&◌, ◌++◌, ◌∷◌, ◌≡◌}
 
 -- The entry that granted it, from which on it stood.
 pub record GrantedIn (es : Trace) (g : Grant) : Type 0 where

@@ -6,7 +6,7 @@ use Rattle.sl_run.specs.Safety.{Found, HasJoined, IsSession, LawfulRun, SessionI
 use Rattle.sl_run.specs.Worlds.{Program, World}
 use Rattle.sl_run.specs.declared.header.Header.{Header}
 use Rattle.sl_sessions.specs.Sessions.{holdings_of}
-use Rattle.std.specs.Prelude.{Contains, IsFalse, List, Some, ℕ, ◌≡◌}
+use Rattle.std.specs.Prelude.{Contains, IsFalse, List, Some, ◌≡◌}
 
 -- A holding is one of a joined session of its machine, which is not over.
 pub record HeldBy (w : World) (x : Holding) : Type 0 where

@@ -3,3 +3,5 @@
 //! A machine keeps the holdings of its processes; the daemon's trace has the grants and the ends. Nothing is said here of other machines
 //! or of what disks show.
 #![tactic(auto)]
+
+pub mod laws;

@@ -6,3 +6,5 @@
 //! which `sl_ballots` asks for it. The register lemma belongs here as well, since it rests on it that the sessions of an id follow one
 //! another.
 #![tactic(auto)]
+
+pub mod laws;
