@@ -1,1 +1,5 @@
 pub mod ReasonNames
+pub mod ReasonFronts
+pub mod ReasonLeaders
+pub mod ReasonEvidence
+pub mod ReasonFronted
