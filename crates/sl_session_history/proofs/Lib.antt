@@ -1,1 +1,4 @@
 pub mod Named
+pub mod FollowingJoins
+pub mod Following
+pub mod Settled
