@@ -3,3 +3,17 @@ pub mod ReasonFronts
 pub mod ReasonLeaders
 pub mod ReasonEvidence
 pub mod ReasonFronted
+pub mod ReasonReads
+pub mod ReasonWrites
+pub mod ReasonOwn
+pub mod ReasonCases
+pub mod ReasonGiven
+pub mod KeptBallots
+pub mod Phase2Stands
+pub mod Phase2Last
+pub mod Phase2Hosts
+pub mod Phase2First
+pub mod Phase2Reads
+pub mod Phase2Shows
+pub mod Phase2Values
+pub mod Phase2Apart

@@ -21,7 +21,7 @@ use Rattle.sl_trace.specs.Traces.{Setting, Trace}
 use Rattle.sl_words.proofs.CaseLaws.{false_is_true}
 use Rattle.sl_words.proofs.WordLaws.{and_true}
 use Rattle.std.proofs.Common.{ap, refl, subst, sym, ◌∙◌}
-use Rattle.std.specs.Prelude.{List, None, Option, Some, is_none, is_some, length, true, ℕ, ◌&&◌, ◌++◌, ◌∷◌, ◌≡◌}
+use Rattle.std.specs.Prelude.{None, Option, Some, is_none, is_some, length, true, ℕ, ◌&&◌, ◌∷◌, ◌≡◌}
 
 -- ---- joined at the front
 
@@ -63,7 +63,6 @@ fronted w x s h area =
     }
 
 -- ---- its name
-
 
 -- The session's name at the front of its call is the one that it has in the end.
 pub name_at_front : (w : World) (x : Sent) (s : Standing w x) (h : Submission s.daemon.trace s.told.one s.told.older) → Fronted w x s h

@@ -48,7 +48,6 @@ look_none g id at reading c false is = ap (λ b. elim b as (λ z. Option Sightin
 sighting_next : (g : Layout) (id at reading : ℕ) (c : Call) (ms : List Submitted) → sightings g id (new_call at reading c ∷ ms) ≡ sightings g id ms
 sighting_next g id at reading c ms = ap (λ o. cons_option o (sightings g id ms)) (look_none g id at reading c (is_survey_purpose c.purpose) refl)
 
-
 -- What a joined session counts as over before a call of an entry it counts as over after it.
 pub counts_alike : (st : Setting) (e : Entry) (past : Trace) (s : Session) (i : ℕ) → Lawful st (e ∷ past) → IsSession st (e ∷ past) s → joined_after (e ∷ past) s ≡ Some i → (k j h : ℕ)
     → counts_over st (e ∷ past) s j h ≡ counts_over st (cut_at k e ∷ past) s j h

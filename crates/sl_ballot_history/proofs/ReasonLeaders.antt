@@ -4,7 +4,7 @@ use Rattle.sl_area.specs.Places.{fresh_block, fresh_leader, in_area, leader_of, 
 use Rattle.sl_landing_law.proofs.Initial.{initial_is_record}
 use Rattle.sl_law.specs.LawfulArea.{IsAreaRead}
 use Rattle.sl_leases.specs.Leases.{is_area_read, is_on, leader_of_record, spot_of_call}
-use Rattle.sl_place_law.proofs.Areas.{IsSized, is_within, sector_fits, sized}
+use Rattle.sl_place_law.proofs.Areas.{is_within, sector_fits, sized}
 use Rattle.sl_place_law.proofs.Finding.{same_read}
 use Rattle.sl_place_law.proofs.Proven.{promised}
 use Rattle.sl_place_law.proofs.Reading.{IsRead, IsShown, header_is, layout_is, read_of, reads_back, sector_shown}
