@@ -25,13 +25,10 @@ use Rattle.sl_words.proofs.CaseLaws.{none_some, some_value}
 use Rattle.sl_words.specs.Words.{some_is}
 use Rattle.std.proofs.Common.{ap, arith, sym, tests, ◌∙◌}
 use Rattle.std.proofs.lemmas.Bool.Decides.{nat_tests}
+use Rattle.std.proofs.lemmas.List.{length-append}
 use Rattle.std.specs.Prelude.{Bool, List, Option, Some, [], false, length, nat_le, suc, true, ℕ, ◌++◌, ◌+◌, ◌<◌, ◌==◌, ◌∷◌, ◌≡◌}
 
 -- ---- the trace by a step
-
-length_parts : {A : Type 0} (xs ys : List A) → length (xs ++ ys) ≡ length xs + length ys
-length_parts [] ys = let e : length ys ≡ 0 + length ys = omega arith in e
-length_parts (x ∷ xs) ys = let rest = length_parts xs ys in omega (arith, rest)
 
 at_head : (n m : ℕ) → suc n ≡ suc m → (m == n) ≡ true
 at_head n m h = grind (arith, tests)
@@ -60,7 +57,7 @@ by_step n (s ∷ ss) [] past e t fall even at =
     ap (λ b. elim b as (λ z. Trace) [ true ↦ e ∷ past | false ↦ trace_by ss past t.step ])
     (ap (λ (y : Stamp). nat_le y.step t.step) same ∙ le_itself t.step)
 by_step n (s ∷ ss) (y ∷ later) past e t fall even at =
-    let long : length (later ++ e ∷ past) ≡ length later + suc (length past) = length_parts later (e ∷ past) in
+    let long : length (later ++ e ∷ past) ≡ length later + suc (length past) = length-append later (e ∷ past) in
     let off : (length past == length ss) ≡ false = behind (length ss) (length later) (length past) (even ∙ ap (λ k. suc k) long) in
     let there : stamp_in ss (length past) ≡ Some t = ap (λ b. stamp_or b s ss (length past)) (sym off) ∙ at in
     ap (λ b. elim b as (λ z. Trace) [ true ↦ y ∷ (later ++ e ∷ past) | false ↦ trace_by ss (later ++ e ∷ past) t.step ])
