@@ -51,6 +51,15 @@ abbrev pub SharedRunsBegin : Type 0
 SharedRunsBegin = (st : Setting) (es : Trace) → Lawful st es → (s : Session) → session_numbered st es s.number ≡ Some s → (at : Spot)
     → IsTrue (has_shared_on es s at) → SharedRun st es s at
 
+-- Such a run begins under the holding's own instance: a grant beside another is under that one's.
+pub record SharedRunUnder (st : Setting) (es : Trace) (s : Session) (at : Spot) (n : ℕ) : Type 0 where
+  pub run : SharedRun st es s at
+  pub under : run.instance ≡ n
+
+abbrev pub SharedHoldingsBegin : Type 0
+SharedHoldingsBegin = (st : Setting) (es : Trace) → Lawful st es → (s : Session) → session_numbered st es s.number ≡ Some s → (at : Spot) (g : Grant)
+    → Contains (holdings_on es s at) g → IsTrue (is_shared g.mode) → SharedRunUnder st es s at g.lver
+
 -- Two processes of one daemon hold one resource only if both hold it shared.
 abbrev pub OneDaemonAgrees : Type 0
 OneDaemonAgrees = (st : Setting) (es : Trace) → Lawful st es → (a b : Grant) → Contains (holdings es) a → Contains (holdings es) b
