@@ -5,3 +5,5 @@ pub mod Stepping
 pub mod Evident
 pub mod Names
 pub mod Freeing
+pub mod Looks
+pub mod Exclusive
