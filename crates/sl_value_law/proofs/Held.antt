@@ -1,7 +1,7 @@
 -- What a write of a value was made under: an exclusive holding of its session there, and where that was granted.
 use Rattle.sl_area.specs.Places.{value_offset}
 use Rattle.sl_holding_law.proofs.Granted.{holdings_are_granted}
-use Rattle.sl_holding_law.proofs.Places.{held_on}
+use Rattle.sl_holding_law.proofs.Places.{HeldOn, held_on}
 use Rattle.sl_law.specs.LawfulArea.{is_area_work}
 use Rattle.sl_law.specs.LawfulLeader.{open_writes_on}
 use Rattle.sl_law.specs.Saying.{cut_at}
@@ -59,6 +59,11 @@ value_held p h xs i f c o v writes =
       place = some_value (value_offset (setting_in f).layout (area_of o).base) q.call.offset area.1.placed ∙ ap (λ (x : Call). x.offset) o.is.call;
     }
 
+-- It is a holding of its session there.
+pub holding_of : (p : Program) (h : Header) (xs : List Happening) (i : SessionId) (f : Found) (c : Course) (o : OwnCall p h xs i f c) → (v : ValueHeld p h xs i f c o)
+    → HeldOn (front_of o.made) f.session (area_of o) v.grant
+holding_of p h xs i f c o v = held_on (front_of o.made) f.session (area_of o) v.grant v.held
+
 -- ---- where it was granted
 
 -- By an entry of the trace: by that of the call, or by one of before, and then it stood before the call's.
@@ -101,6 +106,6 @@ granted_by es m d g (y ∷ ys) entry older whole given stood =
 pub was_granted : (p : Program) (h : Header) (xs : List Happening) (i : SessionId) (f : Found) (c : Course) (o : OwnCall p h xs i f c) → (v : ValueHeld p h xs i f c o)
     → WasGranted (trace_of f) o.made.past v.grant
 was_granted p h xs i f c o v =
-    let on = held_on (front_of o.made) f.session (area_of o) v.grant v.held in
+    let on = holding_of p h xs i f c o v in
     let g = holdings_are_granted (front_of o.made) v.grant on.there in
     granted_by (trace_of f) o.call o.made v.grant g.later g.entry g.past g.whole g.given g.stood
