@@ -25,7 +25,7 @@ length_parts : {A : Type 0} (xs ys : List A) → length (xs ++ ys) ≡ length xs
 length_parts [] ys = let e : length ys ≡ 0 + length ys = omega arith in e
 length_parts (x ∷ xs) ys = let rest = length_parts xs ys in omega (arith, rest)
 
-long_as : {A B : Type 0} (R : A → B → Type 0) (xs : List A) (ys : List B) → Pairwise R xs ys → length xs ≡ length ys
+pub long_as : {A B : Type 0} (R : A → B → Type 0) (xs : List A) (ys : List B) → Pairwise R xs ys → length xs ≡ length ys
 long_as R [] [] h = refl
 long_as R [] (y ∷ ys) h = absurd h
 long_as R (x ∷ xs) [] h = absurd h

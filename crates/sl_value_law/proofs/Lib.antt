@@ -5,3 +5,8 @@ pub mod Taking
 pub mod Ending
 pub mod Kept
 pub mod One
+pub mod Coming
+pub mod Replying
+pub mod Reading
+pub mod Fronting
+pub mod Barring

@@ -51,7 +51,7 @@ pub record Grounds : Type 0 where
 
 -- ---- areas
 
-abbrev spot_there : Layout → List ℕ → ℕ → Spot
+abbrev pub spot_there : Layout → List ℕ → ℕ → Spot
 spot_there g path offset = record { path = path; base = offset - offset % g.area }
 
 -- The area of a call, as the world has it.
@@ -167,16 +167,20 @@ one_writes_given b p h xs run i k f g at c d x y =
     let too : OwnCall p h xs i f d = subst (λ z. OwnCall p h xs i z d) found (subst (λ j. OwnCall p h xs j g d) (sym session) q) in
     (session, one_flies p h xs i f c d o too x.value y.value x.writes y.writes x.flies (subst (λ (z : Found). is_open z.machine d ≡ true) found y.flies) paths offsets)
 
--- The area of a write at the value's place is the one that is meant.
-meant : (p : Program) (h : Header) (xs : List Happening) (i : SessionId) (f : Found) (at : Spot) (c : Course) (o : OwnCall p h xs i f c) → WritesValue (world_at p h xs) i f at c → area_of o ≡ at
-meant p h xs i f at c o x =
+-- The area of a call at the value's place is the one that is meant.
+pub meant_by : (p : Program) (h : Header) (xs : List Happening) (i : SessionId) (f : Found) (at : Spot) (c : Course) (o : OwnCall p h xs i f c)
+    → value_offset (setting_in f).layout (area_of o).base ≡ c.call.offset → c.call.path ≡ at.path → c.call.offset ≡ value_offset (world_at p h xs).layout at.base → area_of o ≡ at
+meant_by p h xs i f at c o place paths offsets =
     let w : World = world_at p h xs in
     let z : IsSized w.layout = sized_in p h xs o.run in
-    let a = placed_at w i f at c x in
-    let v = value_held p h xs i f c o x.value x.writes in
     let placed : value_offset w.layout (area_of o).base ≡ value_offset w.layout at.base =
-    ap (λ (l : Layout). value_offset l (area_of o).base) (sym o.known.of_world.layout) ∙ v.place ∙ a.1 in
-    spots_are (area_of o) at (ap (λ (y : Call). y.path) o.is.call ∙ a.0) (same_by (area_of o).base at.base w.layout.area w.layout.sector z.area z.sector placed)
+    ap (λ (l : Layout). value_offset l (area_of o).base) (sym o.known.of_world.layout) ∙ place ∙ offsets in
+    spots_are (area_of o) at (ap (λ (y : Call). y.path) o.is.call ∙ paths) (same_by (area_of o).base at.base w.layout.area w.layout.sector z.area z.sector placed)
+
+meant : (p : Program) (h : Header) (xs : List Happening) (i : SessionId) (f : Found) (at : Spot) (c : Course) (o : OwnCall p h xs i f c) → WritesValue (world_at p h xs) i f at c → area_of o ≡ at
+meant p h xs i f at c o x =
+    let a = placed_at (world_at p h xs) i f at c x in
+    meant_by p h xs i f at c o (value_held p h xs i f c o x.value x.writes).place a.0 a.1
 
 pub holders_keep_given : Grounds → HoldersKeepValues
 holders_keep_given b p h xs run i k f g at c held x its stands has =

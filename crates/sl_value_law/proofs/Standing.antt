@@ -15,7 +15,7 @@ use Rattle.std.proofs.Common.{ap, inl, inr, refl, sym, ◌∙◌}
 use Rattle.std.proofs.lemmas.Bool.{and_from}
 use Rattle.std.specs.Prelude.{Bool, List, None, Option, Some, false, is_none, is_some, not, true, ◌&&◌, ◌||◌, ◌≡◌, ◌⊎◌}
 
-none_by : {A : Type 0} (o : Option A) → is_none o ≡ true → o ≡ None
+pub none_by : {A : Type 0} (o : Option A) → is_none o ≡ true → o ≡ None
 none_by None h = refl
 none_by (Some a) h = absurd (false_is_true h)
 
