@@ -10,3 +10,6 @@ pub mod Replying
 pub mod Reading
 pub mod Fronting
 pub mod Barring
+pub mod Landing
+pub mod Ordering
+pub mod Last
