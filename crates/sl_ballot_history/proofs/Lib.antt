@@ -17,3 +17,12 @@ pub mod Phase2Reads
 pub mod Phase2Shows
 pub mod Phase2Values
 pub mod Phase2Apart
+pub mod Phase2Between
+pub mod Phase2Ones
+pub mod Phase2Is
+pub mod EndedGrown
+pub mod Ended
+pub mod EndedAll
+pub mod Led
+pub mod EndedJoined
+pub mod KeptProven

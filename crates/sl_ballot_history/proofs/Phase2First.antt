@@ -94,9 +94,9 @@ abbrev bytes_of : Layout → Option Rec → List ℕ
 bytes_of g o = elim o [ None ↦ replicate g.sector 0 | Some x ↦ sector_with g x ]
 
 -- The first landing at a host's place spells the host's fresh block.
-pub first_spells : (p : Program) (h : Header) (xs : List Happening) → LawfulRun p h xs → (r : ResourceLine) → Contains h.resources r → (k : ℕ) → is_host (world_at p h xs) k ≡ true
+pub fresh_at_first : (p : Program) (h : Header) (xs : List Happening) → LawfulRun p h xs → (r : ResourceLine) → Contains h.resources r → (k : ℕ) → is_host (world_at p h xs) k ≡ true
     → record_in (world_at p h xs).layout (first_landing (world_at p h xs) r.path (block_offset (world_at p h xs).layout r.offset k)).bytes ≡ Ok (BlockIs (fresh_block k))
-first_spells p h xs run r there k host =
+fresh_at_first p h xs run r there k host =
     let w : World = world_at p h xs in
     let g : Layout = w.layout in
     let z = sized_in p h xs run in

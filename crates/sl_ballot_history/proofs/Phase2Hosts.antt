@@ -4,7 +4,7 @@ use Rattle.sl_law.specs.Lawful.{Lawful}
 use Rattle.sl_lease_law.proofs.ComingLaws.{blocks_come}
 use Rattle.sl_lease_law.proofs.NumberLaws.{number_is_place}
 use Rattle.sl_lease_law.specs.Ways.{BlockComes, Of_mode, Of_phase1, Of_phase2, Way, lease_among}
-use Rattle.sl_leases.specs.Leases.{block_of_host, block_submitted, block_written, blocks_given, is_on, spot_of_call}
+use Rattle.sl_leases.specs.Leases.{block_of_host, block_submitted, block_written, blocks_given, spot_of_call}
 use Rattle.sl_place_law.proofs.Seats.{sized_in}
 use Rattle.sl_resource_history.proofs.Above.{is_among, own_there}
 use Rattle.sl_resource_history.proofs.Looking.{IsLook, looked}
@@ -22,11 +22,10 @@ use Rattle.sl_session_law.proofs.Making.{contains_cases, contains_first, contain
 use Rattle.sl_front_law.proofs.Having.{contains_right}
 use Rattle.sl_sessions.specs.Sessions.{Session, session_numbered}
 use Rattle.sl_trace.specs.Traces.{Setting, Submitted, Trace, submitted}
-use Rattle.sl_words.proofs.CaseLaws.{none_some, some_value}
+use Rattle.sl_words.proofs.CaseLaws.{none_some}
 use Rattle.sl_words.proofs.WordLaws.{and_true}
 use Rattle.std.proofs.Common.{ap, append_assoc, arith, inl, inr, refl, subst, sym, ◌∙◌}
 use Rattle.std.proofs.lemmas.Bool.{leb-true}
-
 use Rattle.std.specs.Prelude.{Contains, List, None, Option, Some, nat_le, true, [], ℕ, ◌++◌, ◌+◌, ◌-◌, ◌∷◌, ◌≡◌, ◌≤◌}
 
 -- ---- who wrote the block that was last submitted

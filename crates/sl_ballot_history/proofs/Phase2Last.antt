@@ -1,5 +1,4 @@
 -- The block that a session wrote last before a call of its lease, in its trace and in the history: they are one.
-use Rattle.sl_ballot_history.proofs.Phase2Stands.{StandsAt}
 use Rattle.sl_course_law.specs.Stamping.{IsCourseOf, Pairwise}
 use Rattle.sl_law.specs.LawfulArea.{is_area_work}
 use Rattle.sl_lease_law.specs.Ways.{lease_among}
@@ -117,7 +116,7 @@ pub record OwnLast (w : World) (at : Spot) (x : Sent) (s : Standing w x) (write 
   pub newest : (v : Sent) → Contains (all_sent w) v → is_on w.layout at v.course.call ≡ true → writes_block v.course ≡ true → sender_of v ≡ sender_of x → step_of v < step_of x
       → step_of v ≤ step_of sent
 
-both_ways : (a b : ℕ) → a ≤ b → b ≤ a → a ≡ b
+pub both_ways : (a b : ℕ) → a ≤ b → b ≤ a → a ≡ b
 both_ways a b p q = omega (arith, p, q)
 
 or_left : (a b : Bool) → a ≡ true → (a || b) ≡ true
@@ -129,6 +128,10 @@ block_is_work c writes = by (option_and_then block_of_record (record_of c.call.o
   by : (o : Option _) → option_and_then block_of_record (record_of c.call.op) ≡ o → is_some o ≡ true → works c.call ≡ true
   by None is h = absurd (false_is_true h)
   by (Some b) is h = or_left (is_write c.call.op) _ (writes_write c.call.op b is)
+
+-- What is found is what it is.
+pub found_as : {A : Type 0} (o : Option A) (x y : A) → o ≡ Some x → x ≡ y → o ≡ Some y
+found_as o x y found is = found ∙ ap (λ z. Some z) is
 
 -- Two blocks of one step are one.
 pub one_block : (p : Program) (h : Header) (xs : List Happening) → LawfulRun p h xs → (r : ResourceLine) → Contains h.resources r → (y z : Sent)
@@ -180,6 +183,6 @@ own_last p h xs run r there x s on work area write found =
       pair = l.pair;
       before = less;
       sender = same;
-      last = y.1 ∙ ap (λ v. Some v) is;
+      last = found_as (find P (all_sent w)) y.0 z y.1 is;
       newest = λ v vin von vwrites vsame vless. l.newest v.course (behind w x s v vin vsame vless) (passes_test p h xs run at x s v vin von vwrites vsame) vwrites;
     }

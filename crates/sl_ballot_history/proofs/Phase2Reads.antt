@@ -1,7 +1,7 @@
 -- A read of blocks, as its trace and the history have it: what it gave of a host's place is what the landing spells that it shows there.
 use Rattle.sl_area.specs.Layouts.{Layout, record_in, sector_with}
 use Rattle.sl_area.specs.Places.{block_offset, blocks_in, fresh_block, read_at as sector_read, sector_of}
-use Rattle.sl_ballot_history.proofs.Phase2First.{first_spells}
+use Rattle.sl_ballot_history.proofs.Phase2First.{fresh_at_first}
 use Rattle.sl_ballot_history.proofs.Phase2Hosts.{block_host}
 use Rattle.sl_course_law.specs.Stamping.{AnswersAgree, IsAnsweredAs}
 use Rattle.sl_landing_law.specs.Landings.{LeftBy}
@@ -56,7 +56,8 @@ pub record ReadTold (w : World) (z : Sent) (s : Standing w z) (bs : List (Option
   pub sampled : bytes ≡ z.course.sampled
   pub reads : reads_blocks z.course ≡ true
 
-gave_bytes : (g : Layout) (q : Submitted) (bs : List (Option Block)) → Gave g q bs → (bytes : List ℕ) × (gave q ≡ Some bytes)
+-- What gave blocks gave bytes.
+pub gave_bytes : (g : Layout) (q : Submitted) (bs : List (Option Block)) → Gave g q bs → (bytes : List ℕ) × (gave q ≡ Some bytes)
 gave_bytes g q bs (By_area bytes told is same) = (bytes, told)
 gave_bytes g q bs (By_phase bytes told alone is same) = (bytes, told)
 
@@ -173,7 +174,7 @@ whole_spells p h xs run r there k host i l at whole =
       | inl first ↦
           record {
             block = fresh_block k;
-            spells = ap (λ (y : Landing). block_in k (record_in w.layout y.bytes)) first ∙ ap (λ x. block_in k x) (first_spells p h xs run r there k host)
+            spells = ap (λ (y : Landing). block_in k (record_in w.layout y.bytes)) first ∙ ap (λ x. block_in k x) (fresh_at_first p h xs run r there k host)
                 ∙ choose_it (k == k) (fresh_block k) (equal_numbers k k refl);
           }
       | inr b ↦

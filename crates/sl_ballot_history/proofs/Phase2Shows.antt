@@ -1,9 +1,9 @@
 -- What the history has of a read: of each host the block that the ballot goes by, the own torn one as it was last submitted; and each
 -- block that the ballot goes by it has of a host.
-use Rattle.sl_ballot_history.proofs.Phase2Reads.{ReadTold, given_at, host_range, not_torn, read_told}
+use Rattle.sl_ballot_history.proofs.Phase2Reads.{given_at, host_range, not_torn, read_told}
 use Rattle.sl_ballots.specs.Ballots.{IsClean}
 use Rattle.sl_ballots.specs.History.{History}
-use Rattle.sl_leases.specs.Ballots.{ballot_blocks, known_block, stop_of, torn_host, whole_blocks, with_own}
+use Rattle.sl_leases.specs.Ballots.{ballot_blocks, known_block, stop_of, with_own}
 use Rattle.sl_leases.specs.Leases.{blocks_given, is_on}
 use Rattle.sl_place_law.proofs.Finding.{equal_numbers, same_number}
 use Rattle.sl_resource_history.proofs.Bases.{own_host}
@@ -20,16 +20,14 @@ use Rattle.sl_run.specs.Worlds.{Landing, Program, World}
 use Rattle.sl_run.specs.declared.header.Header.{Header}
 use Rattle.sl_run.specs.declared.header.ResourceLine.{ResourceLine}
 use Rattle.sl_sector.specs.declared.sector.Block.{Block}
-use Rattle.sl_session_law.proofs.Making.{contains_cases, contains_none}
 use Rattle.sl_trace.specs.declared.effects.Spot.{Spot}
-use Rattle.sl_words.proofs.CaseLaws.{false_is_true, none_some, some_value}
+use Rattle.sl_words.proofs.CaseLaws.{none_some, some_value}
 use Rattle.sl_words.proofs.WordLaws.{some_is_true}
 use Rattle.sl_words.specs.Words.{some_is}
-use Rattle.std.proofs.Common.{ap, arith, inl, inr, refl, subst, sym, ◌∙◌}
+use Rattle.std.proofs.Common.{ap, arith, refl, subst, sym, ◌∙◌}
 use Rattle.std.proofs.lemmas.Bool.{and_from}
-use Rattle.std.specs.List.{cons_option}
 use Rattle.std.specs.Option.{option_map_or}
-use Rattle.std.specs.Prelude.{Bool, Contains, List, None, Option, Some, false, if◌then◌else◌, is_some, slice_get, suc, true, unwrap_or, zero, [], ℕ, ◌&&◌, ◌+◌, ◌-◌, ◌<◌, ◌==◌, ◌∷◌, ◌≡◌, ◌≤◌}
+use Rattle.std.specs.Prelude.{Bool, Contains, List, None, Option, Some, false, if◌then◌else◌, is_some, slice_get, true, unwrap_or, ℕ, ◌+◌, ◌-◌, ◌==◌, ◌≡◌, ◌≤◌}
 
 -- A read of a session with the blocks that it gave, and the block that the session wrote last before.
 pub record OwnRead (w : World) (r : ResourceLine) (z : Sent) (own : Block) (bs : List (Option Block)) : Type 0 where
@@ -185,7 +183,7 @@ none_shown p h xs run r there z own bs o k host =
 
 -- ---- nothing stops the ballot
 
-none_below : (a b : ℕ) → a ≡ 0 → a ≤ b
+pub none_below : (a b : ℕ) → a ≡ 0 → a ≤ b
 none_below a b h = omega (arith, h)
 
 host_clear : (h : History) (read k : ℕ) (own : Block) (bs : List (Option Block)) → HostShown h read k own bs → IsClear own bs

@@ -2,11 +2,11 @@
 use Rattle.sl_area.specs.Layouts.{Layout}
 use Rattle.sl_area.specs.Places.{read_at as sector_read}
 use Rattle.sl_ballot_history.proofs.Phase2Reads.{read_told}
-use Rattle.sl_ballot_history.proofs.Phase2Shows.{HostShown, OwnRead, host_shown, none_shown}
+use Rattle.sl_ballot_history.proofs.Phase2Shows.{OwnRead, host_shown, none_below, none_shown}
 use Rattle.sl_ballot_history.specs.Endings.{holder_as}
 use Rattle.sl_ballots.specs.Ballots.{ProposesItself, ProposesSeen}
 use Rattle.sl_ballots.specs.History.{History}
-use Rattle.sl_leases.specs.Ballots.{ballot_blocks, known_block, value_of, value_to_write, whole_blocks, with_own}
+use Rattle.sl_leases.specs.Ballots.{ballot_blocks, value_to_write, whole_blocks, with_own}
 use Rattle.sl_resource_history.proofs.Looking.{By_area, By_phase, Gave}
 use Rattle.sl_resource_history.proofs.Owning.{layout_at}
 use Rattle.sl_resource_history.proofs.Values.{Another, Itself, Proposes, proposes}
@@ -28,7 +28,7 @@ use Rattle.std.proofs.Common.{ap, arith, inl, inr, refl, subst, sym, ◌∙◌}
 use Rattle.std.proofs.lemmas.Bool.Decides.{nat_tests}
 use Rattle.std.proofs.lemmas.Bool.{and_from}
 use Rattle.std.specs.List.{cons_option, range_with_len}
-use Rattle.std.specs.Prelude.{Bool, Contains, List, None, Option, Some, false, map, nat_le, slice_get, suc, true, zero, [], ℕ, ◌&&◌, ◌+◌, ◌-◌, ◌<◌, ◌∷◌, ◌≡◌, ◌≤◌, ◌⊎◌}
+use Rattle.std.specs.Prelude.{Bool, Contains, List, None, Option, Some, false, map, nat_le, slice_get, suc, true, zero, [], ℕ, ◌+◌, ◌-◌, ◌<◌, ◌∷◌, ◌≡◌, ◌≤◌, ◌⊎◌}
 
 -- ---- each block that the ballot goes by is of a host
 
@@ -121,9 +121,6 @@ none_of p h xs run r there z own bs o all k true host same =
     let s = host_shown p h xs run r there z own bs o k host in
     ap (λ y. y.bal) s.shown ∙ all s.block s.among (ap (λ y. y.lver) (sym s.shown) ∙ same)
 none_of p h xs run r there z own bs o all k false host same = ap (λ y. y.bal) (none_shown p h xs run r there z own bs o k host).shown
-
-none_below : (a b : ℕ) → a ≡ 0 → a ≤ b
-none_below a b h = omega (arith, h)
 
 most_of : (p : Program) (h : Header) (xs : List Happening) → LawfulRun p h xs → (r : ResourceLine) → Contains h.resources r → (z : Sent) (own : Block) (bs : List (Option Block))
     → OwnRead (world_at p h xs) r z own bs → (best : ℕ) → ((c : Block) → Contains (ballot_blocks own bs) c → c.lver ≡ own.lver → c.bal ≤ best) → (k : ℕ) (b : Bool)

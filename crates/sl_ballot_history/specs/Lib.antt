@@ -1,2 +1,4 @@
 pub mod Endings
 pub mod Reasons
+pub mod Leading
+pub mod Enders

@@ -4,3 +4,5 @@
 //! A trace knows what its session's reads gave; a history knows which blocks they show. `sl_lease_law` says what stands behind a block,
 //! a leader and an end of a ballot in the trace; here the same is said of the history, in the words in which `sl_ballots` asks for it.
 #![tactic(auto)]
+
+pub mod laws;

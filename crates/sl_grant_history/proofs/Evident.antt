@@ -1,9 +1,10 @@
 -- What a session counted as over by an entry of its trace it has evidence of by the entry's step, in the history.
 use Rattle.sl_ballot_history.specs.Endings.{IsEntryAt}
 use Rattle.sl_ballots.specs.History.{Owner as Holder}
+use Rattle.sl_course_law.proofs.Pairing.{pairs_length}
 use Rattle.sl_course_law.proofs.Stamped.{entries_are_stamped}
-use Rattle.sl_course_law.specs.Stamping.{IsStampOf, Pairwise, stamp_in}
-use Rattle.sl_grant_history.proofs.Telling.{IsWhole, whole_of}
+use Rattle.sl_course_law.specs.Stamping.{IsStampOf, stamp_in}
+use Rattle.sl_grant_history.proofs.Telling.{whole_of}
 use Rattle.sl_moment_law.proofs.Ordering.{entries_ordered}
 use Rattle.sl_moment_law.specs.Orders.{Fall}
 use Rattle.sl_resource_history.proofs.Calls.{holder_named}
@@ -21,13 +22,10 @@ use Rattle.sl_trace.specs.Traces.{Trace}
 use Rattle.sl_trace.specs.declared.effects.Entry.{Entry}
 use Rattle.sl_words.proofs.CaseLaws.{none_some, some_value}
 use Rattle.sl_words.specs.Words.{some_is}
-use Rattle.std.proofs.Common.{ap, arith, refl, sym, tests, ◌∙◌}
+use Rattle.std.proofs.Common.{ap, arith, sym, tests, ◌∙◌}
 use Rattle.std.proofs.lemmas.Bool.Decides.{nat_tests}
+use Rattle.std.proofs.lemmas.List.{length-append}
 use Rattle.std.specs.Prelude.{Bool, List, Option, Some, [], false, length, nat_le, suc, true, ℕ, ◌++◌, ◌+◌, ◌<◌, ◌==◌, ◌∷◌, ◌≡◌}
-
-length_parts : {A : Type 0} (xs ys : List A) → length (xs ++ ys) ≡ length xs + length ys
-length_parts [] ys = let e : length ys ≡ 0 + length ys = omega arith in e
-length_parts (x ∷ xs) ys = let rest = length_parts xs ys in omega (arith, rest)
 
 head_place : (n m : ℕ) → suc n ≡ suc m → (m == n) ≡ true
 head_place n m h = grind (arith, tests)
@@ -57,18 +55,12 @@ trace_by_entry n (s ∷ ss) [] past e t fall even at =
     ap (λ b. elim b as (λ z. Trace) [ true ↦ e ∷ past | false ↦ trace_by ss past t.step ])
     (ap (λ (y : Stamp). nat_le y.step t.step) same ∙ le_itself t.step)
 trace_by_entry n (s ∷ ss) (y ∷ later) past e t fall even at =
-    let long : length (later ++ e ∷ past) ≡ length later + suc (length past) = length_parts later (e ∷ past) in
+    let long : length (later ++ e ∷ past) ≡ length later + suc (length past) = length-append later (e ∷ past) in
     let off : (length past == length ss) ≡ false = place_behind (length ss) (length later) (length past) (even ∙ ap (λ k. suc k) long) in
     let there : stamp_in ss (length past) ≡ Some t = ap (λ b. stamp_or b s ss (length past)) (sym off) ∙ at in
     ap (λ b. elim b as (λ z. Trace) [ true ↦ y ∷ (later ++ e ∷ past) | false ↦ trace_by ss (later ++ e ∷ past) t.step ])
     (not_le s.step t.step (fall_step s.step ss t fall.1 (stamp_there ss (length past) t there)))
     ∙ trace_by_entry s.step ss later past e t fall.1 (less_one (length ss) (length (later ++ e ∷ past)) even) there
-
-pairs_long : {A B : Type 0} (R : A → B → Type 0) (xs : List A) (ys : List B) → Pairwise R xs ys → length xs ≡ length ys
-pairs_long R [] [] h = refl
-pairs_long R [] (y ∷ ys) h = absurd h
-pairs_long R (x ∷ xs) [] h = absurd h
-pairs_long R (x ∷ xs) (y ∷ ys) h = ap (λ n. suc n) (pairs_long R xs ys h.1)
 
 pub trace_by_step : (p : Program) (h : Header) (xs : List Happening) → LawfulRun p h xs → (i : SessionId) (f : Found) → IsSession (world_at p h xs) i f
     → (entry : Entry) (past : Trace) (step : ℕ) → IsEntryAt f entry past step → trace_by f.daemon.stamps (trace_of f) step ≡ entry ∷ past
@@ -78,7 +70,7 @@ trace_by_step p h xs run i f its entry past step e =
     let fall : Fall w.step f.daemon.stamps =
     fall_front w.step f.daemon.stamps (f.daemon.begun ∷ []) (entries_ordered p h xs run i.machine f.machine f.daemon all.at all.has) in
     let even : length f.daemon.stamps ≡ length (e.later ++ entry ∷ past) =
-    pairs_long IsStampOf f.daemon.stamps (trace_of f) (entries_are_stamped p h xs run i.machine f.machine f.daemon all.at all.has) ∙ ap (λ (t : Trace). length t) e.whole in
+    pairs_length IsStampOf f.daemon.stamps (trace_of f) (entries_are_stamped p h xs run i.machine f.machine f.daemon all.at all.has) ∙ ap (λ (t : Trace). length t) e.whole in
     ap (λ n. trace_by f.daemon.stamps (trace_of f) n) (sym e.step_is) ∙ ap (λ (t : Trace). trace_by f.daemon.stamps t e.stamp.step) e.whole
     ∙ trace_by_entry w.step f.daemon.stamps e.later past entry e.stamp fall even e.stamped
 

@@ -6,11 +6,11 @@ use Rattle.sl_ballots.specs.Ballots.{BallotEnded}
 use Rattle.sl_ballots.specs.History.{Block as HistoryBlock, History, Owner as Holder}
 use Rattle.sl_grant_history.proofs.Evident.{evidence_by}
 use Rattle.sl_grant_history.proofs.Freeing.{FreeTold, free_told, freed_most}
-use Rattle.sl_grant_history.proofs.Looks.{Shows, given_at, is_present, look_shows_host, look_shows_nothing}
-use Rattle.sl_grant_history.proofs.Names.{StoodAt, stood_at}
-use Rattle.sl_grant_history.proofs.Placing.{resource_at}
-use Rattle.sl_grant_history.proofs.Stepping.{BlockThere, IsAt, LookThere, block_there, look_there}
-use Rattle.sl_grant_history.proofs.Telling.{IsFront, IsTold, IsWhole, LeaseWas, OfLease, before_in, in_lease, in_order, lease_was, of_lease, told_answer, told_made, whole_of}
+use Rattle.sl_grant_history.proofs.Looks.{given_at, is_present, look_shows_host, look_shows_nothing}
+use Rattle.sl_grant_history.proofs.Names.{stood_at}
+use Rattle.sl_grant_history.proofs.Placing.{at_resource, resource_at}
+use Rattle.sl_grant_history.proofs.Stepping.{IsAt, LookThere, block_there, look_there}
+use Rattle.sl_grant_history.proofs.Telling.{IsFront, IsTold, LeaseWas, OfLease, before_in, in_lease, in_order, lease_was, of_lease, told_answer, told_made, whole_of}
 use Rattle.sl_grant_history.specs.Granted.{ExclusiveGrantsAre, GrantedThere, ResourceAt}
 use Rattle.sl_law.specs.LawfulBlock.{ReadAfter}
 use Rattle.sl_law.specs.LawfulModes.{LawfulExclusiveGrant, NoneShared}
@@ -123,8 +123,7 @@ saw_host p h xs r differ i f entry past step e at c bs given l mine none k other
           let marked : b.0.shared ≡ true = ap (λ (y : HistoryBlock). y.shared) (sym s.block) ∙ shared in
           let counted = none.over b.0 (is_present bs (k - 1) b.0 (given_at bs k b.0 b.1)) (λ same. other (sym s.host ∙ same)) marked in
           let evident : H.evidence (holder_of w i) (named_as b.0.host b.0.mode_gen) step ≡ true =
-          evidence_by p h xs at.front_is.run r differ i f at.front_is.its at.joined entry past step e (named_as b.0.host b.0.mode_gen) counted in
-          (
+          evidence_by p h xs at.front_is.run r differ i f at.front_is.its at.joined entry past step e (named_as b.0.host b.0.mode_gen) counted in (
             step,
             same_step step,
             ap (λ n. H.evidence (holder_of w i) (named_as k n) step) (ap (λ (y : HistoryBlock). y.mode_gen) s.block)
@@ -226,5 +225,5 @@ exclusive_grants_are_given given p h xs run i f its entry past step e g has mine
     let placed = (named.lawful.granting.0.each g f.session has (ap (λ n. session_numbered st front n) mine ∙ named.known)).placed in
     let a = resource_at p h xs i f front k (spot_of_grant g) placed law.write law.wrote.0 law.own law.wrote.2 in
     granted_at p h xs given run i f its entry past step e g a
-    (subst (λ z. freed (lease_calls st front f.session z) < g.lver) a.spot rests.not_freed)
-    (subst (λ z. LawfulExclusiveGrant st front f.session z g.lver) a.spot law)
+    (at_resource p h xs i (spot_of_grant g) a (λ z. freed (lease_calls st front f.session z) < g.lver) rests.not_freed)
+    (at_resource p h xs i (spot_of_grant g) a (λ z. LawfulExclusiveGrant st front f.session z g.lver) law)

@@ -7,3 +7,10 @@ pub mod Names
 pub mod Freeing
 pub mod Looks
 pub mod Exclusive
+pub mod Counting
+pub mod Alive
+pub mod Kept
+pub mod Owned
+pub mod Marks
+pub mod Sharing
+pub mod Proven

@@ -3,9 +3,8 @@
 use Rattle.sl_area.specs.Layouts.{record_in}
 use Rattle.sl_area.specs.Places.{sector_of}
 use Rattle.sl_ballots.specs.History.{History}
-use Rattle.sl_grant_history.proofs.Stepping.{IsAt, LookThere, look_there}
-use Rattle.sl_grant_history.proofs.Telling.{IsFront, IsTold, IsWhole, OfLease, whole_of}
-use Rattle.sl_ids.specs.State.{shown}
+use Rattle.sl_grant_history.proofs.Stepping.{IsAt, LookThere}
+use Rattle.sl_grant_history.proofs.Telling.{whole_of}
 use Rattle.sl_leases.specs.Leases.{block_of_host, blocks_given}
 use Rattle.sl_resource_history.proofs.Looking.{IsLook, looked}
 use Rattle.sl_resource_history.proofs.Rising.{block_of_none, look_block}

@@ -2,7 +2,7 @@
 use Rattle.sl_ballot_history.proofs.ReasonNames.{cut_keeps, generation_stays}
 use Rattle.sl_ballot_history.specs.Endings.{holder_as}
 use Rattle.sl_ballots.specs.History.{Owner as Holder}
-use Rattle.sl_grant_history.proofs.Telling.{IsFront, IsWhole, OfLease, of_lease, whole_of}
+use Rattle.sl_grant_history.proofs.Telling.{IsFront, OfLease, whole_of}
 use Rattle.sl_law.proofs.LawFacts.{lawful-front}
 use Rattle.sl_law.specs.Lawful.{Lawful}
 use Rattle.sl_law.specs.LawfulArea.{is_area_work}

@@ -2,7 +2,7 @@
 -- resource of the header, of the session's lockspace.
 use Rattle.sl_area.specs.Layouts.{Layout}
 use Rattle.sl_area.specs.Places.{in_area, is_base}
-use Rattle.sl_grant_history.proofs.Telling.{IsFront, IsTold, IsWhole, OfLease, of_lease, told, told_block, told_on, whole_of}
+use Rattle.sl_grant_history.proofs.Telling.{IsFront, of_lease, told, told_block, told_on, whole_of}
 use Rattle.sl_grant_history.specs.Granted.{ResourceAt}
 use Rattle.sl_id_state.proofs.Bridge.{placed}
 use Rattle.sl_leases.specs.Leases.{block_written, is_on, lease_calls}
@@ -28,9 +28,7 @@ use Rattle.sl_trace.specs.declared.effects.Call.{Call}
 use Rattle.sl_trace.specs.declared.effects.Spot.{Spot}
 use Rattle.sl_words.proofs.WordLaws.{and_true}
 use Rattle.std.proofs.Common.{ap, refl, subst, sym, ◌∙◌}
-use Rattle.std.specs.Prelude.{Contains, List, Some, bytes_eq, true, ℕ, ◌%◌, ◌-◌, ◌≡◌}
-
-
+use Rattle.std.specs.Prelude.{Contains, List, Some, bytes_eq, true, ◌%◌, ◌-◌, ◌≡◌}
 
 -- ---- the area of a block
 
@@ -98,3 +96,8 @@ resource_at p h xs i f front k at placed c has b wrote =
           (worker_joined p h xs l.line t.sent
           (block_works p h xs k.run l.line l.there t.sent t.has (subst (λ z. is_on w.layout z t.sent.course.call ≡ true) spot on) writes));
     }
+
+-- What is said of the area is said of the resource's.
+pub at_resource : (p : Program) (h : Header) (xs : List Happening) (i : SessionId) (at : Spot) → (a : ResourceAt p h xs i at) → (P : Spot → Type 0) → P at
+    → P (spot_of_line a.resource)
+at_resource p h xs i at a P it = subst P a.spot it

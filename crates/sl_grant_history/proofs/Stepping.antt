@@ -1,7 +1,7 @@
 -- What a session's blocks, reads and leaders are in the history of their resource.
 use Rattle.sl_area.specs.Layouts.{Layout}
 use Rattle.sl_course_law.specs.Stamping.{stamp_in}
-use Rattle.sl_grant_history.proofs.Telling.{IsFront, IsTold, IsWhole, OfLease, of_lease, told, told_answer, told_block, told_made, told_on, told_reads, told_same, told_wrote, whole_of}
+use Rattle.sl_grant_history.proofs.Telling.{IsFront, IsTold, OfLease, told, told_answer, told_block, told_on, told_reads, told_same, told_wrote}
 use Rattle.sl_leases.specs.Leases.{block_written, blocks_given, is_block_read, is_on}
 use Rattle.sl_place_law.proofs.Reading.{answer_gave}
 use Rattle.sl_resource_history.proofs.Calls.{block_at_step, read_at_step}
@@ -23,8 +23,6 @@ use Rattle.std.proofs.Common.{ap, ◌∙◌}
 use Rattle.std.proofs.lemmas.Bool.{and_from}
 use Rattle.std.specs.Option.{option_map_or}
 use Rattle.std.specs.Prelude.{Contains, List, None, Option, Some, false, is_some, option_and_then, option_map, true, ℕ, ◌≡◌}
-
-
 
 -- A session of the lockspace of a resource, at a front of its trace.
 pub record IsAt (p : Program) (h : Header) (xs : List Happening) (r : ResourceLine) (i : SessionId) (f : Found) (front : Trace) : Type 0 where

@@ -84,8 +84,7 @@ told_from p h xs run i f its c mine g =
     let all = whole_of p h xs run i f its in
     let own = partner_of (IsCourseOf f.daemon) (courses_of f.machine f.daemon.number) (submitted (trace_of f)) g.now
     (courses_are_calls p h xs run i.machine f.machine f.daemon all.at all.has) g.inside in
-    let of_daemon = filtered (λ (x : Course). x.daemon == f.daemon.number) f.machine.calls own.0 own.1 in
-    (
+    let of_daemon = filtered (λ (x : Course). x.daemon == f.daemon.number) f.machine.calls own.0 own.1 in (
       record {
         sent = record { machine = i.machine; course = own.0 };
         has = there_sent w i.machine f.machine own.0 all.at of_daemon.0;
@@ -140,14 +139,11 @@ in_order p h xs run i f its m n s t one two le =
     let all = whole_of p h xs run i f its in
     stamp_order (world_at p h xs).step f.daemon.stamps m n s t (daemons_are_fine p h xs run i.machine f.machine f.daemon all.at all.has).stamps one two le
 
-by_cases : (m n : ℕ) (P : Type 0) → (m ≤ n → P) → (n < m → P) → P
+pub by_cases : (m n : ℕ) (P : Type 0) → (m ≤ n → P) → (n < m → P) → P
 by_cases m n P yes_so otherwise = elim (cases_lt n m) as (λ z. P) [ inl less ↦ otherwise less | inr most ↦ yes_so most ]
 
 not_both : (a b : ℕ) → a ≤ b → b < a → ⊥
 not_both a b h k = omega (arith, h, k)
-
-less_most : (a b : ℕ) → a < b → a ≤ b
-less_most a b h = omega (arith, h)
 
 -- Steps in order are entries in order.
 pub before_in : (p : Program) (h : Header) (xs : List Happening) → LawfulRun p h xs → (i : SessionId) (f : Found) → IsSession (world_at p h xs) i f → (m n : ℕ) (s t : Stamp)

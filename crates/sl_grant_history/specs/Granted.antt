@@ -6,11 +6,11 @@ use Rattle.sl_leases.specs.Leases.{has_shared_on, holdings_on}
 use Rattle.sl_resource_history.specs.Promises.{history_of_line, spot_of_line}
 use Rattle.sl_resource_history.specs.Sending.{holder_of, is_joined_there}
 use Rattle.sl_run.specs.Runs.{Happening}
-use Rattle.sl_run.specs.Safety.{Found, IsSession, LawfulRun, SessionId, is_over, setting_in, trace_of, world_at}
+use Rattle.sl_run.specs.Safety.{Found, IsSession, LawfulRun, SessionId, is_over, trace_of, world_at}
 use Rattle.sl_run.specs.Worlds.{Program}
 use Rattle.sl_run.specs.declared.header.Header.{Header}
 use Rattle.sl_run.specs.declared.header.ResourceLine.{ResourceLine}
-use Rattle.sl_trace.specs.Traces.{Trace, is_shared, same_place, spot_of_grant}
+use Rattle.sl_trace.specs.Traces.{Trace, is_shared, spot_of_grant}
 use Rattle.sl_trace.specs.declared.effects.Entry.{Entry}
 use Rattle.sl_trace.specs.declared.effects.Grant.{Grant}
 use Rattle.sl_trace.specs.declared.effects.Spot.{Spot}
@@ -63,3 +63,9 @@ pub record SharedThere (p : Program) (h : Header) (xs : List Happening) (i : Ses
 abbrev pub SharedAreShared : Type 0
 SharedAreShared = (p : Program) (h : Header) (xs : List Happening) → LawfulRun p h xs → (i : SessionId) (f : Found) → IsSession (world_at p h xs) i f
     → IsFalse (is_over i f) → (at : Spot) → IsTrue (has_shared_on (trace_of f) f.session at) → SharedThere p h xs i at
+
+-- .. and under a holding's own instance.
+abbrev pub SharedAreUnder : Type 0
+SharedAreUnder = (p : Program) (h : Header) (xs : List Happening) → LawfulRun p h xs → (i : SessionId) (f : Found) → IsSession (world_at p h xs) i f
+    → IsFalse (is_over i f) → (at : Spot) (g : Grant) → Contains (holdings_on (trace_of f) f.session at) g → IsTrue (is_shared g.mode)
+    → (y : SharedThere p h xs i at) × (y.grant.won ≡ g.lver)

@@ -3,7 +3,7 @@
 use Rattle.sl_course_law.proofs.Mirrored.{machines_mirror}
 use Rattle.sl_front_law.proofs.Going.{fronts_are_lawful}
 use Rattle.sl_id_safety.proofs.Acting.{joined_stays}
-use Rattle.sl_id_safety.proofs.Proven.{joiners_find_over, one_acts_for_each_id, over_stays}
+use Rattle.sl_id_safety.proofs.Proven.{joiners_find_over, one_acts_for_each_id}
 use Rattle.sl_id_safety.proofs.Silence.{goes_on}
 use Rattle.sl_id_state.proofs.LaterFrames.{found_later}
 use Rattle.sl_moment_law.proofs.Later.{fronts_go}
@@ -17,7 +17,7 @@ use Rattle.sl_sessions.specs.Sessions.{Session}
 use Rattle.sl_trace.specs.Traces.{same_place}
 use Rattle.sl_words.proofs.CaseLaws.{some_value}
 use Rattle.std.proofs.Common.{ap, arith, inl, inr, refl, subst, sym, ◌∙◌}
-use Rattle.std.specs.Prelude.{Bool, IsTrue, List, Some, [], drop, false, slice_get, true, ℕ, ◌++◌, ◌+◌, ◌<◌, ◌∷◌, ◌≡◌, ◌≤◌, ◌⊎◌}
+use Rattle.std.specs.Prelude.{Bool, IsTrue, List, Some, [], drop, false, slice_get, true, ℕ, ◌++◌, ◌+◌, ◌∷◌, ◌≡◌, ◌≤◌, ◌⊎◌}
 
 -- ---- fronts of one run
 

@@ -3,34 +3,34 @@
 use Rattle.sl_course_law.proofs.Answering.{flight_waits}
 use Rattle.sl_course_law.proofs.Distinct.{each_distinct}
 use Rattle.sl_course_law.proofs.Mirrored.{machines_mirror}
-use Rattle.sl_course_law.specs.Stamping.{AnswersAgree, IsAnsweredAs, IsCourseOf}
+use Rattle.sl_course_law.specs.Stamping.{AnswersAgree, IsCourseOf}
 use Rattle.sl_front_law.proofs.Going.{fronts_are_lawful, last_event, run_after, run_keeps}
 use Rattle.sl_run_law.proofs.Tracking.{run_tracks}
 use Rattle.sl_id_safety.proofs.Fronting.{step_next}
 use Rattle.sl_id_safety.proofs.Freed.{freed_answered}
 use Rattle.sl_id_safety.proofs.Proven.{over_stays}
 use Rattle.sl_id_safety.proofs.Silence.{freed_by}
-use Rattle.sl_id_state.proofs.Bridge.{IsKnown, IsThere, is_there, known}
-use Rattle.sl_id_state.proofs.LaterFrames.{FoundLater, found_later}
+use Rattle.sl_id_state.proofs.Bridge.{IsKnown, known}
+use Rattle.sl_id_state.proofs.LaterFrames.{found_later}
 use Rattle.sl_id_state.proofs.Proven.{grounds}
 use Rattle.sl_id_state.specs.IdStates.{own_courses}
 use Rattle.sl_id_steps.proofs.OtherSessions.{goes_has}
 use Rattle.sl_landing_law.proofs.Arriving.{Arrival, Lands, first_lands}
 use Rattle.sl_landing_law.proofs.Listing.{one_call}
 use Rattle.sl_landing_law.proofs.Passing.{step_landings}
-use Rattle.sl_place_law.proofs.Finding.{equal_numbers, found_in, partner, same_number}
+use Rattle.sl_place_law.proofs.Finding.{equal_numbers, found_in, partner}
 use Rattle.sl_run.specs.Events.{first_change, input_of, machine_of, next_step}
 use Rattle.sl_run.specs.Runs.{Happening}
 use Rattle.sl_run.specs.Safety.{Found, IsSession, LawfulRun, SessionId, free_landed, has_write_in_flight, is_course_of, is_over, setting_in, trace_of, was_reset, world_at}
 use Rattle.sl_run.specs.Worlds.{Course, Landing, Machine, Program, World, flight_of, is_open, is_write_course, machine_at, world_with}
 use Rattle.sl_run.specs.declared.header.Header.{Header}
 use Rattle.sl_run_law.specs.Courses.{Continues}
-use Rattle.sl_session_history.proofs.Following.{IsOverBy, StandsAt, fronts_compare, stands_later, steps_rise, append_apart}
-use Rattle.sl_session_history.proofs.FollowingJoins.{append_more, nothing_more}
+use Rattle.sl_session_history.proofs.Following.{IsOverBy, fronts_compare, steps_rise, append_apart}
+use Rattle.sl_session_history.proofs.FollowingJoins.{append_more}
 use Rattle.sl_session_law.proofs.Making.{contains_cases, contains_none}
 use Rattle.sl_session_law.proofs.Naming.{kept}
 use Rattle.sl_sessions.specs.Sessions.{calls_of, ended_after, free_write, is_free_purpose}
-use Rattle.sl_trace.specs.Traces.{Answered, Submitted}
+use Rattle.sl_trace.specs.Traces.{Answered}
 use Rattle.sl_trace.specs.declared.effects.Call.{Call}
 use Rattle.sl_watchdog_law.proofs.Finding.{any_of}
 use Rattle.sl_words.proofs.CaseLaws.{no_value, none_some, one_value, some_value, true_is_false}
