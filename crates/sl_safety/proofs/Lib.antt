@@ -1,3 +1,8 @@
+pub mod Lawful
 pub mod Placed
 pub mod Excluding
-pub mod Lawful
+pub mod Agreeing
+pub mod Standing
+pub mod Marked
+pub mod Moded
+pub mod Whole

@@ -2,7 +2,7 @@
 --
 -- A holding that conflicts with another is of one place with it, and resources are apart: so both are of one resource, and there each is
 -- a grant of its session.
-use Rattle.sl_grant_history.specs.Granted.{ExclusivesAreKept, SharedAreShared}
+use Rattle.sl_grant_history.proofs.Proven.{exclusives_are_kept, shared_are_shared}
 use Rattle.sl_holding_law.specs.Holders.{HeldBy}
 use Rattle.sl_holdings.specs.Holdings.{ExclusiveGrant, IsGrantedExclusive, IsKept, IsSharedTo, SharedGrant}
 use Rattle.sl_id_state.proofs.Keeping.{is_place}
@@ -36,7 +36,7 @@ found_by p x xs false is (inl here) = absurd (false_is_true (sym is ∙ here))
 found_by p x xs false is (inr later) = later
 
 -- Where something passes, something is found.
-found_where : {A : Type 0} (p : A → Bool) (xs : List A) (x : A) → Contains xs x → p x ≡ true → is_some (find p xs) ≡ true
+pub found_where : {A : Type 0} (p : A → Bool) (xs : List A) (x : A) → Contains xs x → p x ≡ true → is_some (find p xs) ≡ true
 found_where p [] x there passes = absurd (contains_none x there)
 found_where p (y ∷ ys) x there passes =
     found_by p y ys (p y) refl
@@ -89,20 +89,20 @@ pub record SharedOf (p : Program) (h : Header) (xs : List Happening) (i : Sessio
   pub of : IsOfResource h g resource
   pub holds : HoldsAsShared p h xs i resource
 
-pub exclusive_of : ExclusivesAreKept → (p : Program) (h : Header) (xs : List Happening) → LawfulRun p h xs → (x : Holding)
+pub exclusive_of : (p : Program) (h : Header) (xs : List Happening) → LawfulRun p h xs → (x : Holding)
     → (y : HeldBy (world_at p h xs) x) → is_shared x.held.mode ≡ false → ExclusiveOf p h xs y.session x.held
-exclusive_of kept_given p h xs run x y exclusive =
-    let k = kept_given p h xs run y.session y.found y.is y.alive (spot_of_grant x.held) x.held (on_place (world_at p h xs) x y) exclusive in
+exclusive_of p h xs run x y exclusive =
+    let k = exclusives_are_kept p h xs run y.session y.found y.is y.alive (spot_of_grant x.held) x.held (on_place (world_at p h xs) x y) exclusive in
     record {
       resource = k.there.place.resource;
       of = record { there = k.there.place.there; spot = k.there.place.spot };
       holds = record { grant = k.there.grant; holder = k.there.holder; joined = k.there.place.joined; granted = k.there.granted; kept = k.kept };
     }
 
-pub shared_of : SharedAreShared → (p : Program) (h : Header) (xs : List Happening) → LawfulRun p h xs → (x : Holding)
+pub shared_of : (p : Program) (h : Header) (xs : List Happening) → LawfulRun p h xs → (x : Holding)
     → (y : HeldBy (world_at p h xs) x) → is_shared x.held.mode ≡ true → SharedOf p h xs y.session x.held
-shared_of shared_given p h xs run x y shared =
-    let k = shared_given p h xs run y.session y.found y.is y.alive (spot_of_grant x.held) (shares_place (world_at p h xs) x y shared) in
+shared_of p h xs run x y shared =
+    let k = shared_are_shared p h xs run y.session y.found y.is y.alive (spot_of_grant x.held) (shares_place (world_at p h xs) x y shared) in
     record {
       resource = k.place.resource;
       of = record { there = k.place.there; spot = k.place.spot };

@@ -201,7 +201,7 @@ first_joined p h xs run = run_keeps p h (FirstJoins p h) (record { first = joins
 
 -- ---- its step
 
-stamps_stay : (newer older : List Stamp) (i : ℕ) (s : Stamp) → stamp_in older i ≡ Some s → stamp_in (newer ++ older) i ≡ Some s
+pub stamps_stay : (newer older : List Stamp) (i : ℕ) (s : Stamp) → stamp_in older i ≡ Some s → stamp_in (newer ++ older) i ≡ Some s
 stamps_stay [] older i s at = at
 stamps_stay (t ∷ newer) older i s at = stamp_stays t (newer ++ older) i s (stamps_stay newer older i s at)
 
