@@ -18,7 +18,7 @@ use Rattle.sl_place_law.proofs.Reading.{layout_is}
 use Rattle.sl_resource_history.proofs.Calls.{IsOwned, Newer, Older, Order, Same, found_of, order, owned, owner_found, there_sent, write_is}
 use Rattle.sl_resource_history.specs.Sending.{Sent, sender_of}
 use Rattle.sl_run.specs.Runs.{Happening}
-use Rattle.sl_run.specs.Safety.{Found, IsSession, LawfulRun, SessionId, is_course_of, is_over, session_of_world, setting_in, trace_of, world_at}
+use Rattle.sl_run.specs.Safety.{Found, LawfulRun, SessionId, is_over, session_of_world, setting_in, trace_of, world_at}
 use Rattle.sl_run.specs.Worlds.{Course, Machine, Program, Stamp, World, is_open, machine_at}
 use Rattle.sl_run.specs.declared.header.Header.{Header}
 use Rattle.sl_sector.specs.declared.sector.Rec.TheVariants.{ValueIs}
@@ -47,7 +47,7 @@ use Rattle.sl_words.proofs.CaseLaws.{is_false, none_some, one_value, true_is_fal
 use Rattle.std.proofs.Common.{ap, arith, inl, inr, refl, subst, sym, ◌∙◌}
 use Rattle.std.proofs.lemmas.Bool.Decides.{nat_tests}
 use Rattle.std.proofs.lemmas.Bool.{and_from}
-use Rattle.std.specs.Prelude.{Bool, Contains, List, None, Option, Some, [], false, is_none, length, nat_le, suc, true, ℕ, ◌&&◌, ◌++◌, ◌<◌, ◌==◌, ◌∷◌, ◌≡◌, ◌≤◌, ◌⊎◌}
+use Rattle.std.specs.Prelude.{Contains, List, None, Option, Some, is_none, length, nat_le, suc, true, ℕ, ◌&&◌, ◌++◌, ◌<◌, ◌∷◌, ◌≡◌, ◌≤◌}
 
 -- ---- a write in flight at a front
 

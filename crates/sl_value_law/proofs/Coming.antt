@@ -11,7 +11,7 @@ use Rattle.sl_run.specs.Worlds.{Course, Machine, Program, World, is_in_flight, m
 use Rattle.sl_run.specs.declared.event.Event.{Event}
 use Rattle.sl_run.specs.declared.header.Header.{Header}
 use Rattle.sl_run_law.specs.Fates.{AreDistinct}
-use Rattle.sl_session_history.proofs.OrderedDaemons.{nothing_more}
+use Rattle.sl_session_history.proofs.FollowingJoins.{nothing_more}
 use Rattle.sl_session_history.proofs.OrderedFronts.{steps_grow}
 use Rattle.sl_trace.specs.declared.effects.Effects.{Effects}
 use Rattle.sl_words.proofs.CaseLaws.{no_value}

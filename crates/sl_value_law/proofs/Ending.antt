@@ -1,17 +1,10 @@
--- The end of a run: its world is the one at its own step, and each entry of a trace has its stamp.
+-- Each entry of a trace has its stamp.
 use Rattle.sl_course_law.specs.Stamping.{IsStampOf, Pairwise, stamp_in}
-use Rattle.sl_front_law.proofs.Going.{run_after}
-use Rattle.sl_resource_history.specs.Histories.{world_by}
-use Rattle.sl_run.specs.Runs.{Happening, world_after}
-use Rattle.sl_run.specs.Safety.{LawfulRun, world_at}
-use Rattle.sl_run.specs.Worlds.{Program, Stamp, World, world_with}
-use Rattle.sl_run.specs.declared.header.Header.{Header}
-use Rattle.sl_session_history.proofs.FollowingJoins.{nothing_more}
-use Rattle.sl_session_history.proofs.OrderedFronts.{front_by, some_steps}
+use Rattle.sl_run.specs.Worlds.{Stamp}
 use Rattle.sl_trace.specs.Traces.{Trace}
 use Rattle.sl_trace.specs.declared.effects.Entry.{Entry}
-use Rattle.std.proofs.Common.{ap, arith, inl, inr, refl, subst, sym, tests, ◌∙◌}
-use Rattle.std.specs.Prelude.{Bool, List, None, Option, Some, [], false, length, suc, true, ℕ, ◌++◌, ◌+◌, ◌<◌, ◌==◌, ◌∷◌, ◌≡◌, ◌≤◌, ◌⊎◌}
+use Rattle.std.proofs.Common.{ap, arith, refl, sym, tests, ◌∙◌}
+use Rattle.std.specs.Prelude.{Bool, List, Option, Some, [], false, length, suc, true, ℕ, ◌++◌, ◌+◌, ◌<◌, ◌==◌, ◌∷◌, ◌≡◌}
 
 -- ---- the stamp of an entry
 
@@ -46,27 +39,3 @@ stamp_at (y ∷ later) e past (s ∷ ss) h =
     let r = stamp_at later e past ss h.1 in
     let long = long_as IsStampOf ss (later ++ e ∷ past) h.1 ∙ length_parts later (e ∷ past) in
     (r.0, ap (λ b. stamp_or b s ss (length past)) (other_test (length past) (length ss) (within (length later) (length past) (length ss) long)) ∙ r.1)
-
--- ---- who is over at the end
-
-not_past : (a b : ℕ) → a ≤ b → b < a → ⊥
-not_past a b h k = omega (arith, h, k)
-
-cons_none : (z : Happening) (zs : List Happening) → z ∷ zs ≡ [] → ⊥
-cons_none z zs e = absurd cc
-
--- The world at its own step is the world.
-pub world_now : (p : Program) (h : Header) (xs : List Happening) → LawfulRun p h xs → world_by (world_with p h) xs (world_at p h xs).step ≡ world_at p h xs
-world_now p h xs run =
-    let f = front_by p h xs run (world_at p h xs).step in
-    f.is ∙ by f.now f.rest f.whole f.ends
-  where
-    by : (now rest : List Happening) → xs ≡ now ++ rest → (rest ≡ []) ⊎ ((world_at p h xs).step ≤ (world_after (world_with p h) now).step)
-        → world_after (world_with p h) now ≡ world_at p h xs
-    by now [] whole ends = ap (world_at p h) (sym (whole ∙ nothing_more now))
-    by now (y ∷ ys) whole (inl none) = absurd (cons_none y ys none)
-    by now (y ∷ ys) whole (inr late) =
-        let more = some_steps (world_after (world_with p h) now) y ys in
-        let end : world_at p h xs ≡ world_after (world_after (world_with p h) now) (y ∷ ys) = ap (world_at p h) whole ∙ run_after (world_with p h) now (y ∷ ys) in
-        absurd (not_past (world_at p h xs).step (world_after (world_with p h) now).step late
-        (subst (λ (w : World). (world_after (world_with p h) now).step < w.step) (sym end) more))

@@ -1,7 +1,7 @@
 -- A reader's session at a front between its call and its answer: it holds the resource there, and is not over.
 use Rattle.sl_course_law.proofs.Mirrored.{machines_mirror}
 use Rattle.sl_course_law.proofs.Stamped.{entries_are_stamped}
-use Rattle.sl_course_law.specs.Stamping.{IsStampOf, Pairwise, stamp_in}
+use Rattle.sl_course_law.specs.Stamping.{IsStampOf, stamp_in}
 use Rattle.sl_front_law.proofs.Going.{fronts_are_lawful}
 use Rattle.sl_grant_history.proofs.Growing.{calls_grow}
 use Rattle.sl_holding_law.proofs.Freeless.{staying_is_freeless}
@@ -21,10 +21,9 @@ use Rattle.sl_run.specs.declared.header.Header.{Header}
 use Rattle.sl_sector.specs.declared.sector.ValueRec.{ValueRec}
 use Rattle.sl_session_law.proofs.Making.{contains_first}
 use Rattle.sl_session_law.proofs.Staying.{marks_stay}
-use Rattle.sl_sessions.specs.Sessions.{Session, calls_of, ended_after, free_write, is_active, is_call_of, is_free_purpose, is_joined, joined_after, leaving_job, recovery_of, refused_after, removed_after}
+use Rattle.sl_sessions.specs.Sessions.{Session, calls_of, ended_after, is_active, is_call_of, is_free_purpose, is_joined, joined_after, leaving_job, recovery_of, refused_after, removed_after}
 use Rattle.sl_trace.specs.Traces.{Setting, Submitted, Trace, submitted}
 use Rattle.sl_trace.specs.declared.effects.Call.{Call}
-use Rattle.sl_trace.specs.declared.effects.Entry.{Entry}
 use Rattle.sl_trace.specs.declared.effects.Grant.{Grant}
 use Rattle.sl_trace.specs.declared.effects.Spot.{Spot}
 use Rattle.sl_value_law.proofs.Coming.{Comes, WasThere, calls_come}
@@ -36,7 +35,7 @@ use Rattle.sl_words.proofs.WordLaws.{and_true}
 use Rattle.std.proofs.Common.{ap, arith, inl, inr, refl, subst, sym, ◌∙◌}
 use Rattle.std.proofs.lemmas.Bool.Decides.{nat_tests}
 use Rattle.std.proofs.lemmas.Bool.{cases_lt}
-use Rattle.std.specs.Prelude.{Bool, Contains, List, None, Option, Some, [], false, is_none, is_some, length, nat_le, nat_lt, not, suc, true, ℕ, ◌&&◌, ◌++◌, ◌+◌, ◌<◌, ◌==◌, ◌||◌, ◌∷◌, ◌≡◌, ◌≤◌, ◌⊎◌}
+use Rattle.std.specs.Prelude.{Bool, Contains, List, None, Option, Some, [], false, is_none, is_some, length, nat_le, nat_lt, not, suc, true, ℕ, ◌&&◌, ◌++◌, ◌<◌, ◌==◌, ◌||◌, ◌∷◌, ◌≡◌, ◌≤◌, ◌⊎◌}
 
 -- ---- lists and traces
 

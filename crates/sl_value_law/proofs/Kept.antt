@@ -1,10 +1,10 @@
 -- A write of a value in flight keeps the exclusive grant under which it was made: its session is not over, and has not freed the instance.
 -- A free of before the grant would bar the grant, one of before the write would bar the holding, and one that came after waits for it.
-use Rattle.sl_ballot_history.specs.Endings.{IsEntryAt}
 use Rattle.sl_ballots.specs.Ballots.{LeaderSubmitted}
 use Rattle.sl_ballots.specs.History.{Owner as Holder}
 use Rattle.sl_course_law.proofs.Stamped.{entries_are_stamped}
 use Rattle.sl_course_law.specs.Stamping.{IsStampOf, Pairwise, stamp_in}
+use Rattle.sl_grant_history.proofs.Alive.{whole_by}
 use Rattle.sl_grant_history.proofs.Freeing.{FreeTold, free_told}
 use Rattle.sl_grant_history.proofs.Telling.{OfLease, before_in, entry_past, in_lease, in_order, lease_was, told, told_answer, told_made}
 use Rattle.sl_grant_history.specs.Granted.{ExclusiveGrantsAre, GrantedThere, history_there}
@@ -35,19 +35,19 @@ use Rattle.sl_session_history.proofs.Following.{append_apart}
 use Rattle.sl_session_history.proofs.Named.{names_are_apart}
 use Rattle.sl_session_law.proofs.Owning.{sessions_stay}
 use Rattle.sl_sessions.specs.Sessions.{is_free_purpose, session_numbered}
-use Rattle.sl_trace.specs.Traces.{Setting, Submitted, Trace, holdings, is_write, record_of, spot_of_grant, submitted}
+use Rattle.sl_trace.specs.Traces.{Setting, Submitted, holdings, is_write, record_of, submitted}
 use Rattle.sl_trace.specs.declared.effects.Call.{Call}
 use Rattle.sl_trace.specs.declared.effects.Grant.{Grant}
 use Rattle.sl_trace.specs.declared.effects.Op.TheVariants.{ReadSectors, WriteRecord}
 use Rattle.sl_trace.specs.declared.effects.Op.{Op}
 use Rattle.sl_trace.specs.declared.effects.Purpose.TheVariants.{Joining, Lease, Leaving, Renewal, RequestRead, RequestWrite, SeeRequest, Survey, ValueRead, ValueWrite}
 use Rattle.sl_trace.specs.declared.effects.Purpose.{Purpose}
-use Rattle.sl_value_law.proofs.Ending.{stamp_at, world_now}
+use Rattle.sl_value_law.proofs.Ending.{stamp_at}
 use Rattle.sl_value_law.proofs.Held.{ValueHeld, WasGranted, area_of, holding_of, value_held, was_granted}
 use Rattle.sl_value_law.proofs.Owning.{OwnCall, unanswered}
 use Rattle.sl_value_law.proofs.Standing.{not_over, open_waits}
 use Rattle.sl_value_law.proofs.Taking.{After, Before, OnArea, One, Turn, turns}
-use Rattle.sl_words.proofs.CaseLaws.{false_is_true, none_some, one_value, true_is_false}
+use Rattle.sl_words.proofs.CaseLaws.{false_is_true, one_value, true_is_false}
 use Rattle.sl_words.specs.Words.{some_is}
 use Rattle.std.proofs.Common.{ap, arith, inl, inr, refl, subst, sym, ◌∙◌}
 use Rattle.std.specs.Prelude.{Bool, Contains, List, None, Option, Some, [], false, length, not, option_and_then, true, ℕ, ◌&&◌, ◌++◌, ◌<◌, ◌==◌, ◌||◌, ◌∷◌, ◌≡◌, ◌≤◌, ◌⊎◌}
@@ -190,7 +190,7 @@ alive p h xs i f c o r differ joined stands y is over =
     let w : World = world_at p h xs in
     stands
     (sym (over_is p h xs i f o.is_session)
-    ∙ ap (λ (u : World). is_over_in u i) (sym (world_now p h xs o.run))
+    ∙ ap (λ (u : World). is_over_in u i) (sym (whole_by p h xs o.run))
     ∙ ap (λ (q : Option SessionId). some_is (is_over_in (world_by (world_with p h) xs w.step)) q) (sym (ap (session_of_holder w r.lockspace) is ∙ holder_named w r.lockspace differ i joined))
     ∙ over)
 

@@ -7,7 +7,7 @@ use Rattle.sl_landing_law.proofs.Ordering.{come_in_order}
 use Rattle.sl_landing_law.proofs.Proven.{done_writes_have_landed, landings_are_written}
 use Rattle.sl_landing_law.proofs.Remaining.{landed_are_there}
 use Rattle.sl_landing_law.specs.Landings.{HasWriter}
-use Rattle.sl_place_law.proofs.Finding.{equal_numbers, filtered, numbered_inside, place_is, same_number}
+use Rattle.sl_place_law.proofs.Finding.{filtered, numbered_inside, place_is, same_number}
 use Rattle.sl_resource_history.proofs.Alone.{head_pairs, tail_pairs}
 use Rattle.sl_resource_history.proofs.Calls.{there_sent, write_is}
 use Rattle.sl_resource_history.proofs.Landed.{Name, name_of, one_sent}
@@ -27,7 +27,7 @@ use Rattle.sl_trace.specs.Traces.{record_of, same_place}
 use Rattle.sl_trace.specs.declared.effects.Spot.{Spot}
 use Rattle.sl_words.proofs.CaseLaws.{none_some, some_value}
 use Rattle.std.proofs.Common.{ap, arith, inl, inr, refl, subst, sym, ◌∙◌}
-use Rattle.std.specs.Prelude.{AllPairs, Bool, Contains, List, Option, Some, [], false, filter, if◌then◌else◌, length, true, ℕ, ◌++◌, ◌<◌, ◌==◌, ◌∷◌, ◌≡◌, ◌≤◌, ◌⊎◌}
+use Rattle.std.specs.Prelude.{AllPairs, Bool, Contains, List, Option, Some, [], false, filter, if◌then◌else◌, length, true, ℕ, ◌++◌, ◌<◌, ◌==◌, ◌∷◌, ◌≡◌, ◌≤◌}
 
 -- ---- what a place has held comes in order
 

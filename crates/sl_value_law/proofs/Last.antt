@@ -1,7 +1,7 @@
 -- A reader is given the last value that was set: what it sampled is the newest landing there, each set that was answered ok before its
 -- answer had landed before its sample, and values land in the order in which they were made.
 use Rattle.sl_area.specs.Layouts.{record_in}
-use Rattle.sl_area.specs.Places.{sector_of, value_offset}
+use Rattle.sl_area.specs.Places.{value_offset}
 use Rattle.sl_id_state.proofs.Keeping.{is_place}
 use Rattle.sl_id_state.proofs.Proven.{grounds}
 use Rattle.sl_id_state.proofs.Steps.{IsSampled, is_sampled}
@@ -15,11 +15,10 @@ use Rattle.sl_place_law.proofs.Seats.{sized_in}
 use Rattle.sl_resource_history.proofs.Landed.{Name, name_of, one_sent}
 use Rattle.sl_resource_history.proofs.Shown.{in_history}
 use Rattle.sl_resource_history.specs.Sending.{Sent, step_of}
-use Rattle.sl_run.specs.Events.{spells_something}
 use Rattle.sl_run.specs.Runs.{Happening}
 use Rattle.sl_run.specs.Safety.{Found, LawfulRun, SessionId, world_at}
-use Rattle.sl_run.specs.Values.{IsGivenValue, IsSet, IsSetBefore, MayRead, ValueTheorem}
-use Rattle.sl_run.specs.Worlds.{Course, Landed, Landing, Program, Stamp, World, first_landing, history_of, initial_bytes}
+use Rattle.sl_run.specs.Values.{IsSet, IsSetBefore, MayRead, ValueTheorem}
+use Rattle.sl_run.specs.Worlds.{Course, Landed, Landing, Program, Stamp, World, history_of}
 use Rattle.sl_run.specs.declared.header.Header.{Header}
 use Rattle.sl_sample_law.specs.Samples.{IsSampleOf, numbered_landing, sector_place}
 use Rattle.sl_sector.specs.Spelling.{value_in}
@@ -37,7 +36,7 @@ use Rattle.sl_value_law.specs.Writing.{HoldersKeepValues, OneWritesValue}
 use Rattle.sl_words.proofs.CaseLaws.{none_some, one_value, some_value, true_is_false}
 use Rattle.std.proofs.Common.{ap, arith, inl, inr, refl, subst, sym, ◌∙◌}
 use Rattle.std.proofs.lemmas.Bool.{cases_lt}
-use Rattle.std.specs.Prelude.{Bool, Contains, Err, IsSomeAnd, List, None, Ok, Option, Result, Some, false, is_ok, true, ℕ, ◌*◌, ◌+◌, ◌<◌, ◌≡◌, ◌≤◌, ◌⊎◌}
+use Rattle.std.specs.Prelude.{Err, IsSomeAnd, List, None, Ok, Option, Result, Some, is_ok, true, ℕ, ◌*◌, ◌+◌, ◌<◌, ◌≡◌, ◌≤◌, ◌⊎◌}
 
 -- ---- the sample
 
@@ -182,12 +181,12 @@ may_read one keep p h xs at i f c v stamp R path offset step when =
     let told : value_in (record_in w.layout m.bytes) ≡ Some R.value = ap (λ y. value_in (record_in w.layout y)) (sym s.shown) ∙ R.told in
     let its = in_history w at.path place m (numbered_inside (history_of w at.path place) s.index m s.seen) in
     let sooner : (d : Course) (u : ValueRec) → (x : IsSet w at d u) → IsSetBefore d step
-        → (l : Landing) × SetLanded w at (record { machine = x.machine.0; course = d }) l × ((l ≡ m) ⊎ (l.step < m.step)) =
+    → (l : Landing) × SetLanded w at (record { machine = x.machine.0; course = d }) l × ((l ≡ m) ⊎ (l.step < m.step)) =
     λ d u x b.
-        let y : Sent = record { machine = x.machine.0; course = d } in
-        let l = done_landed p h xs run at d u x b.0 in
-        let early = landed_early keep p h xs at i f c v stamp R path offset s y u (set_sent w at d u x) l.0 l.1 (set_done p h xs at d u step stamp.step when b) in
-        (l.0, l.1, landed_by_then p h xs run at c s y l.0 l.1 early) in
+    let y : Sent = record { machine = x.machine.0; course = d } in
+    let l = done_landed p h xs run at d u x b.0 in
+    let early = landed_early keep p h xs at i f c v stamp R path offset s y u (set_sent w at d u x) l.0 l.1 (set_done p h xs at d u step stamp.step when b) in
+    (l.0, l.1, landed_by_then p h xs run at c s y l.0 l.1 early) in
     elim its.2 as (λ z. MayRead w at step R.value) [
       | inr first ↦
           inr (

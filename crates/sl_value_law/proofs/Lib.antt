@@ -13,3 +13,4 @@ pub mod Barring
 pub mod Landing
 pub mod Ordering
 pub mod Last
+pub mod Proven

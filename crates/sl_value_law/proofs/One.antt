@@ -18,7 +18,7 @@ use Rattle.sl_resource_history.proofs.Calls.{order, write_is}
 use Rattle.sl_resource_history.specs.Promises.{history_of_line, spot_of_line}
 use Rattle.sl_run.specs.Headers.{IsHeader}
 use Rattle.sl_run.specs.Runs.{Happening}
-use Rattle.sl_run.specs.Safety.{Found, IsSession, LawfulRun, SessionId, is_over, session_of_world, setting_in, trace_of, world_at}
+use Rattle.sl_run.specs.Safety.{Found, LawfulRun, SessionId, session_of_world, setting_in, trace_of, world_at}
 use Rattle.sl_run.specs.Worlds.{Course, Program, World, is_open}
 use Rattle.sl_run.specs.declared.header.Header.{Header}
 use Rattle.sl_run.specs.declared.header.ResourceLine.{ResourceLine}
@@ -29,17 +29,16 @@ use Rattle.sl_sector.specs.declared.sector.ValueRec.{ValueRec}
 use Rattle.sl_session_history.proofs.Named.{names_are_apart}
 use Rattle.sl_trace.specs.Traces.{Submitted, is_shared, is_write, record_of, submitted}
 use Rattle.sl_trace.specs.declared.effects.Call.{Call}
-use Rattle.sl_trace.specs.declared.effects.Grant.{Grant}
 use Rattle.sl_trace.specs.declared.effects.Spot.{Spot}
 use Rattle.sl_value_law.proofs.Held.{area_of, value_held}
-use Rattle.sl_value_law.proofs.Kept.{StandsBehind, or_left, stands_behind}
+use Rattle.sl_value_law.proofs.Kept.{or_left, stands_behind}
 use Rattle.sl_value_law.proofs.Owning.{OwnCall, own_call, unanswered}
 use Rattle.sl_value_law.proofs.Standing.{open_waits}
 use Rattle.sl_value_law.proofs.Taking.{After, Before, OnArea, One, Turn, on_own, turns}
 use Rattle.sl_value_law.specs.Writing.{HoldersKeepValues, OneWritesValue, WritesValue}
 use Rattle.sl_words.proofs.CaseLaws.{one_value, true_or_false}
-use Rattle.std.proofs.Common.{ap, arith, inl, inr, refl, subst, sym, ◌∙◌}
-use Rattle.std.specs.Prelude.{Contains, List, None, Some, false, true, ℕ, ◌%◌, ◌+◌, ◌-◌, ◌≡◌, ◌≤◌}
+use Rattle.std.proofs.Common.{ap, arith, inl, inr, subst, sym, ◌∙◌}
+use Rattle.std.specs.Prelude.{Contains, List, None, Some, true, ℕ, ◌%◌, ◌+◌, ◌-◌, ◌≡◌}
 
 -- What this rests on.
 pub record Grounds : Type 0 where

@@ -1,5 +1,4 @@
 -- Values land in the order in which they were made: where a later one landed first the earlier one was in flight beside it.
-use Rattle.sl_area.specs.Places.{value_offset}
 use Rattle.sl_course_law.proofs.Distinct.{each_distinct}
 use Rattle.sl_front_law.proofs.Going.{fronts_are_lawful, run_after}
 use Rattle.sl_front_law.proofs.Having.{contains_right, placed_at}
@@ -14,7 +13,7 @@ use Rattle.sl_resource_history.proofs.Landed.{Name, name_of}
 use Rattle.sl_resource_history.specs.Sending.{Sent, step_of}
 use Rattle.sl_run.specs.Runs.{Happening}
 use Rattle.sl_run.specs.Safety.{LawfulRun, world_at}
-use Rattle.sl_run.specs.Worlds.{Course, Fate, Landed, Landing, Machine, Program, Stamp, World, is_in_flight, is_landed, is_of_running, is_open, is_write_course, machine_at, may_land, world_with}
+use Rattle.sl_run.specs.Worlds.{Course, Landed, Landing, Machine, Program, Stamp, World, is_in_flight, is_landed, is_of_running, is_open, is_write_course, machine_at, may_land, world_with}
 use Rattle.sl_run.specs.declared.header.Header.{Header}
 use Rattle.sl_run_law.proofs.Going.{run_goes}
 use Rattle.sl_sector.specs.declared.sector.Rec.TheVariants.{ValueIs}
@@ -25,7 +24,7 @@ use Rattle.sl_session_law.proofs.Making.{contains_cases, contains_none}
 use Rattle.sl_trace.specs.Traces.{record_of}
 use Rattle.sl_trace.specs.declared.effects.Call.{Call}
 use Rattle.sl_trace.specs.declared.effects.Spot.{Spot}
-use Rattle.sl_value_law.proofs.Barring.{WriteThere, write_there}
+use Rattle.sl_value_law.proofs.Barring.{write_there}
 use Rattle.sl_value_law.proofs.Coming.{Comes, WasThere, calls_come}
 use Rattle.sl_value_law.proofs.Landing.{SetLanded, SetSent}
 use Rattle.sl_value_law.proofs.Standing.{none_by}

@@ -1,5 +1,5 @@
 -- A call of a session beside its trace: which call it is there, and the front at which it was made.
-use Rattle.sl_course_law.specs.Stamping.{AnswersAgree, IsAnsweredAs, IsCourseOf}
+use Rattle.sl_course_law.specs.Stamping.{AnswersAgree, IsCourseOf}
 use Rattle.sl_id_state.proofs.Bridge.{IsKnown, known}
 use Rattle.sl_id_state.proofs.Proven.{grounds}
 use Rattle.sl_id_state.specs.IdStates.{own_courses}
@@ -8,7 +8,7 @@ use Rattle.sl_place_law.proofs.Finding.{filtered, partner, same_number}
 use Rattle.sl_place_law.proofs.Reading.{call_law}
 use Rattle.sl_run.specs.Runs.{Happening}
 use Rattle.sl_run.specs.Safety.{Found, IsSession, LawfulRun, SessionId, is_course_of, setting_in, trace_of, world_at}
-use Rattle.sl_run.specs.Worlds.{Course, Program, World}
+use Rattle.sl_run.specs.Worlds.{Course, Program}
 use Rattle.sl_run.specs.declared.header.Header.{Header}
 use Rattle.sl_session_law.proofs.Making.{calls_are_made}
 use Rattle.sl_session_law.proofs.Naming.{kept}

@@ -15,7 +15,7 @@ use Rattle.sl_resource_history.proofs.Calls.{found_of, owned, owner_found, there
 use Rattle.sl_resource_history.proofs.Steps.{one_entry}
 use Rattle.sl_resource_history.specs.Sending.{Sent, sender_of}
 use Rattle.sl_run.specs.Runs.{Happening}
-use Rattle.sl_run.specs.Safety.{Found, IsSession, LawfulRun, SessionId, is_course_of, setting_in, trace_of, world_at}
+use Rattle.sl_run.specs.Safety.{Found, LawfulRun, SessionId, is_course_of, setting_in, trace_of, world_at}
 use Rattle.sl_run.specs.Values.{IsGivenValue}
 use Rattle.sl_run.specs.Worlds.{Course, Daemon, Program, Stamp, World, daemon_numbered, machine_at}
 use Rattle.sl_run.specs.declared.header.Header.{Header}
@@ -23,7 +23,7 @@ use Rattle.sl_sector.specs.Spelling.{value_in}
 use Rattle.sl_sector.specs.declared.sector.ValueRec.{ValueRec}
 use Rattle.sl_session_law.proofs.Making.{answers_stay}
 use Rattle.sl_session_law.proofs.Owning.{sessions_stay}
-use Rattle.sl_sessions.specs.Sessions.{Session, calls_of, is_active, is_call_of, session_numbered}
+use Rattle.sl_sessions.specs.Sessions.{Session, is_active, is_call_of, session_numbered}
 use Rattle.sl_trace.specs.Traces.{Answered, Setting, Submitted, Trace, call_numbered, is_ok_answer, reply_to, submitted}
 use Rattle.sl_trace.specs.declared.effects.Call.{Call}
 use Rattle.sl_trace.specs.declared.effects.Entry.{Entry}
@@ -38,7 +38,7 @@ use Rattle.sl_value_law.proofs.Replying.{AnsweredBy, answered_by, one_answered, 
 use Rattle.sl_words.proofs.CaseLaws.{one_value}
 use Rattle.std.proofs.Common.{ap, refl, subst, sym, ◌∙◌}
 use Rattle.std.proofs.lemmas.Bool.{and_from}
-use Rattle.std.specs.Prelude.{Contains, IsSomeAnd, List, None, Option, Some, false, find, length, true, ℕ, ◌&&◌, ◌++◌, ◌==◌, ◌∷◌, ◌≡◌}
+use Rattle.std.specs.Prelude.{Contains, IsSomeAnd, List, None, Option, Some, false, length, true, ℕ, ◌++◌, ◌==◌, ◌∷◌, ◌≡◌}
 
 pub record Reader (p : Program) (h : Header) (xs : List Happening) (at : Spot) (i : SessionId) (f : Found) (c : Course) (v : ValueRec) (stamp : Stamp) : Type 0 where
   pub own : OwnCall p h xs i f c
@@ -121,8 +121,7 @@ reader_by p h xs at i f c v o job n purpose reply answered path offset =
     let calm : writes_since st o.call.at (R.entry ∷ R.past) f.session at ≡ false =
     subst (λ (s : Session). writes_since st o.call.at (R.entry ∷ R.past) s at ≡ false) session
     (subst (λ z. writes_since st o.call.at (R.entry ∷ R.past) lr.session z ≡ false) spot
-    (subst (λ z. writes_since st z (R.entry ∷ R.past) lr.session (spot_of_call st.layout call) ≡ false) place lr.calm)) in
-    (
+    (subst (λ z. writes_since st z (R.entry ∷ R.past) lr.session (spot_of_call st.layout call) ≡ false) place lr.calm)) in (
       ans.stamp,
       record {
         own = o;

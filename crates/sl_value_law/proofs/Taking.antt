@@ -18,7 +18,7 @@ use Rattle.sl_value_law.proofs.Held.{area_of}
 use Rattle.sl_value_law.proofs.Owning.{OwnCall}
 use Rattle.std.proofs.Common.{refl, subst, sym}
 use Rattle.std.proofs.lemmas.Bool.{and_from}
-use Rattle.std.specs.Prelude.{List, bytes_eq, true, ◌%◌, ◌&&◌, ◌++◌, ◌-◌, ◌∷◌, ◌≡◌}
+use Rattle.std.specs.Prelude.{List, bytes_eq, true, ◌%◌, ◌-◌, ◌≡◌}
 
 -- A call is on its area.
 pub on_own : (p : Program) (h : Header) (xs : List Happening) (i : SessionId) (f : Found) (c : Course) (o : OwnCall p h xs i f c) → is_on (setting_in f).layout (area_of o) o.call.call ≡ true
