@@ -4,3 +4,5 @@
 //! flight, and at most one such write is in flight at all: values land in the order of their submission, and what a reader samples is the
 //! last that was answered ok, or a later one.
 #![tactic(auto)]
+
+pub mod laws;

@@ -1,0 +1,16 @@
+pub mod Owning
+pub mod Standing
+pub mod Held
+pub mod Taking
+pub mod Ending
+pub mod Kept
+pub mod One
+pub mod Coming
+pub mod Replying
+pub mod Reading
+pub mod Fronting
+pub mod Barring
+pub mod Landing
+pub mod Ordering
+pub mod Last
+pub mod Proven
