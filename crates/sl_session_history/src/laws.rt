@@ -13,14 +13,11 @@ pub fn joined_are_hosts()
     ensures { JoinedAreHosts }
 {}
 
-<<<<<<< HEAD
 /// Where a session joins, all of its id that joined before are over.
 pub fn histories_end_earlier()
     ensures { HistoriesEndEarlier }
 {}
 
-=======
->>>>>>> 780a21f72798f47ffcdeb6951cf3515bc1f2d70e
 /// The sessions of a host follow one another on each resource.
 pub fn sessions_follow()
     ensures { SessionsFollow }
@@ -29,14 +26,6 @@ pub fn sessions_follow()
 /// A read shows, of each host, what was answered ok before it was submitted, or what was submitted later.
 pub fn histories_show_newest()
     ensures { HistoriesShowNewest }
-<<<<<<< HEAD
-=======
-{}
-
-/// Where a session joins, all of its id that joined before are over.
-pub fn histories_end_earlier()
-    ensures { HistoriesEndEarlier }
->>>>>>> 780a21f72798f47ffcdeb6951cf3515bc1f2d70e
 {}
 
 /// Only joined sessions act, one of an id joins at a step, and over is final, silent and settled.
