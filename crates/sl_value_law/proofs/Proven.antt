@@ -1,8 +1,7 @@
 -- The laws of values, of what the histories of resources keep.
 use Rattle.sl_grant_history.proofs.Proven.{exclusive_grants_are, exclusives_are_kept, shared_are_shared}
 use Rattle.sl_run.specs.Values.{ValueTheorem}
-use Rattle.sl_safety.proofs.Lawful.{are_lawful, keep_instances_given}
-use Rattle.sl_session_history.proofs.Evidence.{histories_have_true_evidence}
+use Rattle.sl_safety.proofs.Lawful.{are_lawful, keep_instances}
 use Rattle.sl_value_law.proofs.Last.{values_are_last_given}
 use Rattle.sl_value_law.proofs.One.{Grounds, holders_keep_given, one_writes_given}
 use Rattle.sl_value_law.specs.Writing.{HoldersKeepValues, OneWritesValue}
@@ -11,7 +10,7 @@ grounds : Grounds
 grounds =
     record {
       lawful = are_lawful;
-      instances = keep_instances_given histories_have_true_evidence;
+      instances = keep_instances;
       granted = exclusive_grants_are;
       exclusives = exclusives_are_kept;
       shared = shared_are_shared;
