@@ -10,6 +10,7 @@ use Rattle.sl_law.specs.Saying.{cut_at}
 use Rattle.sl_lease_law.proofs.FrontLaws.{lawful_there}
 use Rattle.sl_lease_law.proofs.NumberLaws.{number_is_place}
 use Rattle.sl_lease_law.specs.Fronts.{Submission}
+use Rattle.sl_plain.proofs.Options.{some_there}
 use Rattle.sl_resource_history.proofs.Shown.{holder_is}
 use Rattle.sl_resource_history.proofs.Standing.{Standing}
 use Rattle.sl_resource_history.specs.Sending.{Sent, holder_of, sender_of}
@@ -33,15 +34,11 @@ pub record Fronted (w : World) (x : Sent) (s : Standing w x) (h : Submission s.d
   pub joins : joined_after (h.entry ∷ h.past) s.session ≡ Some joined
   pub place : s.told.one.at ≡ length h.past
 
-joined_by : (o : Option ℕ) → is_some o ≡ true → (k : ℕ) × (o ≡ Some k)
-joined_by None is = absurd (false_is_true is)
-joined_by (Some k) is = (k, refl)
-
 active_joined : (st : Setting) (t : Trace) (s : Session) → is_active st t s ≡ true → (k : ℕ) × (joined_after t s ≡ Some k)
 active_joined st t s h =
     let three = and_true (is_some (joined_after t s) && is_none (removed_after t s) && is_none (recovery_of st t s)) (is_none (leaving_job st t s)) h in
     let two = and_true (is_some (joined_after t s) && is_none (removed_after t s)) (is_none (recovery_of st t s)) three.0 in
-    joined_by (joined_after t s) (and_true (is_some (joined_after t s)) (is_none (removed_after t s)) two.0).0
+    some_there (joined_after t s) (and_true (is_some (joined_after t s)) (is_none (removed_after t s)) two.0).0
 
 pub fronted : (w : World) (x : Sent) (s : Standing w x) (h : Submission s.daemon.trace s.told.one s.told.older) → is_area_work x.course.call.purpose ≡ true → Fronted w x s h
 fronted w x s h area =

@@ -2,6 +2,7 @@
 use Rattle.sl_law.specs.LawfulBlock.{LawfulBlockStep}
 use Rattle.sl_law.specs.Saying.{cut_at}
 use Rattle.sl_lease_law.proofs.AgeLaws.{aged_block, aged_lease}
+use Rattle.sl_lease_law.proofs.ComingLaws.{at_step}
 use Rattle.sl_lease_law.proofs.WayLaws.{by_mode, by_phase1}
 use Rattle.sl_lease_law.specs.Fronts.{AllAged, Submission}
 use Rattle.sl_lease_law.specs.Ways.{ByMode, ByPhase1, Of_mode, Of_phase1, Way, lease_among}
@@ -44,9 +45,6 @@ none_by m w ms (Some b) is none found later = none_some b (sym none)
 none_found : (ms : List Submitted) (w : Submitted) → block_submitted ms ≡ None → find (λ d. is_some (block_written d)) ms ≡ Some w → ⊥
 none_found [] w none found = none_some w found
 none_found (m ∷ ms) w none found = none_by m w ms (block_written m) refl none found (λ n f. none_found ms w n f)
-
-at_step : (kind : StepKind) (c : Submitted) (p : Work × LeaseStep) → lease_step c.call.purpose ≡ Some p → same_kind (kind_of_step p.1) kind ≡ true → is_at kind c ≡ true
-at_step kind c p is same = ap (λ o. some_is (λ q. same_kind (kind_of_step q.1) kind) o) is ∙ same
 
 less_then : (a b : ℕ) → a < b → 1 ≤ b
 less_then a b h = omega (arith, h)
