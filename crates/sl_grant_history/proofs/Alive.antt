@@ -9,7 +9,7 @@ use Rattle.sl_run.specs.Safety.{Found, IsSession, LawfulRun, SessionId, is_over,
 use Rattle.sl_run.specs.Worlds.{Program, World, world_with}
 use Rattle.sl_run.specs.declared.header.Header.{Header}
 use Rattle.sl_run.specs.declared.header.ResourceLine.{ResourceLine}
-use Rattle.sl_session_history.proofs.OrderedFronts.{front_by, some_steps}
+use Rattle.sl_session_history.proofs.OrderedFronts.{front_at, some_steps}
 use Rattle.sl_words.proofs.CaseLaws.{true_is_false}
 use Rattle.sl_words.specs.Words.{some_is}
 use Rattle.std.proofs.Common.{ap, arith, inl, inr, subst, sym, ◌∙◌}
@@ -30,7 +30,7 @@ ends_there w now (x ∷ rest) (inr le) =
 pub whole_by : (p : Program) (h : Header) (xs : List Happening) → LawfulRun p h xs → world_by (world_with p h) xs (world_at p h xs).step ≡ world_at p h xs
 whole_by p h xs run =
     let w : World = world_with p h in
-    let f = front_by p h xs run (world_at p h xs).step in
+    let f = front_at p h xs run (world_at p h xs).step in
     f.is ∙ ap (world_after w)
     (sym (ends_there w f.now f.rest (subst (λ ys. (f.rest ≡ []) ⊎ ((world_after w ys).step ≤ (world_after w f.now).step)) f.whole f.ends)) ∙ sym f.whole)
 

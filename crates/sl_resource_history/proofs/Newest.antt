@@ -42,7 +42,7 @@ use Rattle.std.specs.Prelude.{AllPairs, Bool, Contains, List, Option, Some, [], 
 -- ---- what a place has held comes in order
 
 -- The newer of these stand first.
-abbrev Descends : List Landing → Type 0
+abbrev pub Descends : List Landing → Type 0
 Descends [] = Unit {0}
 Descends (l ∷ ls) = ((x : Landing) → Contains ls x → x.step < l.step) × Descends ls
 
@@ -109,7 +109,7 @@ has_number (l ∷ ls) x there =
 above_first : (p : Program) (h : Header) (xs : List Happening) → LawfulRun p h xs → (l : Landing) → Contains (world_at p h xs).landings l → 0 < l.step
 above_first p h xs run l there = let k = landings_are_written p h xs run l there in let a = k.wrote.after.0 in omega (arith, a)
 
-history_descends : (p : Program) (h : Header) (xs : List Happening) → LawfulRun p h xs → (path : List ℕ) (offset : ℕ) → Descends (history_of (world_at p h xs) path offset)
+pub history_descends : (p : Program) (h : Header) (xs : List Happening) → LawfulRun p h xs → (path : List ℕ) (offset : ℕ) → Descends (history_of (world_at p h xs) path offset)
 history_descends p h xs run path offset =
     let w : World = world_at p h xs in
     let test : Landing → Bool = λ l. same_place l.path l.offset path offset in
@@ -141,12 +141,12 @@ block_place p h xs run r there k x b =
     ∙ ap (λ n. block_offset w.layout r.offset n) id
 
 -- Its landing.
-record HasCome (w : World) (r : ResourceLine) (k : ℕ) (x : Sent) (s : Stamp) : Type 0 where
-  landing : Landing
-  at : LandedAt w r k x landing
-  early : landing.step < s.step
+pub record HasCome (w : World) (r : ResourceLine) (k : ℕ) (x : Sent) (s : Stamp) : Type 0 where
+  pub landing : Landing
+  pub at : LandedAt w r k x landing
+  pub early : landing.step < s.step
 
-has_come : (p : Program) (h : Header) (xs : List Happening) → LawfulRun p h xs → (r : ResourceLine) → Contains h.resources r → (k : ℕ) (x : Sent) → BlockSent (world_at p h xs) r k x
+pub has_come : (p : Program) (h : Header) (xs : List Happening) → LawfulRun p h xs → (r : ResourceLine) → Contains h.resources r → (k : ℕ) (x : Sent) → BlockSent (world_at p h xs) r k x
     → x.course.done ≡ true → (s : Stamp) → x.course.answered ≡ Some s → HasCome (world_at p h xs) r k x s
 has_come p h xs run r there k x b done s told =
     let w : World = world_at p h xs in

@@ -226,11 +226,11 @@ pub record LeaseInvariant (program : Program) (h : Header) (xs : List Happening)
 abbrev pub SafeRun : Program → Header → List Happening → Type 0
 SafeRun program h xs = AfterEachFront xs (λ now. IsExclusive (world_at program h now))
 
--- Safety, to be proved.
+-- Safety: so it is in every lawful run. (`sl_safety` proves it.)
 abbrev pub Safety : Type 0
 Safety = (program : Program) (h : Header) (xs : List Happening) → LawfulRun program h xs → SafeRun program h xs
 
--- The two invariants, to be proved.
+-- The two invariants, after every event of every lawful run. (`sl_safety` proves them.)
 abbrev pub Invariants : Type 0
 Invariants = (program : Program) (h : Header) (xs : List Happening) → LawfulRun program h xs →
     AfterEachFront xs (λ now. DeltaInvariant program h now × LeaseInvariant program h now)

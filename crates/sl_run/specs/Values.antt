@@ -49,6 +49,6 @@ ValuesAreLast w =
     (at : Spot) (c : Course) (step : ℕ) (v : ValueRec) → IsGivenValue w at c step v →
     (host : ℕ) × MayRead w at step (record v { host = host })
 
--- To be proved.
+-- So it is after every lawful run.
 abbrev pub ValueTheorem : Type 0
 ValueTheorem = (program : Program) (h : Header) (xs : List Happening) → LawfulRun program h xs → ValuesAreLast (world_at program h xs)

@@ -6,5 +6,6 @@ use Rattle.sl_session_history.specs.Promises.{OfHistories}
 abbrev pub HistoriesAreLawful : Type 0
 HistoriesAreLawful = OfHistories IsLawful
 
+-- .. and of the order of instances.
 abbrev pub HistoriesKeepInstances : Type 0
 HistoriesKeepInstances = OfHistories KeepsInstances

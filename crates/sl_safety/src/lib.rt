@@ -3,3 +3,5 @@
 //! Here the two halves meet. `sl_id_safety` says of each id, and the histories of resources say of each resource, what the argument over
 //! ballots asks for; so of two holdings that stand, one of them exclusive, both are of one session.
 #![tactic(auto)]
+
+pub mod laws;

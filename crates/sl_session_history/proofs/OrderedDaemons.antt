@@ -14,7 +14,7 @@ use Rattle.sl_run.specs.Worlds.{Daemon, Machine, Program, Stamp, World, daemons_
 use Rattle.sl_run.specs.declared.event.Event.{Event}
 use Rattle.sl_run.specs.declared.header.Header.{Header}
 use Rattle.sl_run_law.specs.Daemons.{IsSettled}
-use Rattle.sl_session_history.proofs.OrderedFronts.{steps_grow}
+use Rattle.sl_session_history.proofs.OrderedFronts.{nothing_more, steps_grow}
 use Rattle.sl_trace.specs.Traces.{Setting, Trace}
 use Rattle.sl_trace.specs.declared.effects.Entry.{Entry}
 use Rattle.std.proofs.Common.{ap, arith, inl, inr, refl, subst, sym, ◌∙◌}
@@ -108,7 +108,7 @@ begins_come P new ds es given none is d has =
       | inr old ↦ inl (came_itself P ds d old)
     ]
 
-turned_come : (P : Stamp → Type 0) (w : World) (e : Event) (m : ℕ) (a b : Machine) → IsSettled a → Turned w e m a b → Come P (daemons_on a) (daemons_on b)
+pub turned_come : (P : Stamp → Type 0) (w : World) (e : Event) (m : ℕ) (a b : Machine) → IsSettled a → Turned w e m a b → Come P (daemons_on a) (daemons_on b)
 turned_come P w e m a b s (Stays is) = come_same P (daemons_on a) (daemons_on b) (ap daemons_on is)
 turned_come P w e m a b s (Clocked n is) = come_same P (daemons_on a) (daemons_on b) (ap daemons_on is)
 turned_come P w e m a b s (Called n f g h k is) = come_same P (daemons_on a) (daemons_on b) (ap daemons_on is)
@@ -200,10 +200,6 @@ was_next p h now xs x run le was m c at =
 one_more : (now : List Happening) (x : Happening) (rest : List Happening) → (now ++ x ∷ []) ++ rest ≡ now ++ x ∷ rest
 one_more [] x rest = refl
 one_more (y ∷ now) x rest = ap (λ xs. y ∷ xs) (one_more now x rest)
-
-pub nothing_more : (now : List Happening) → now ++ [] ≡ now
-nothing_more [] = refl
-nothing_more (y ∷ now) = ap (λ xs. y ∷ xs) (nothing_more now)
 
 were_on : (p : Program) (h : Header) (now xs rest : List Happening) → LawfulRun p h (xs ++ rest) → (world_at p h now).step ≤ (world_at p h xs).step → EachWas p h now xs
     → EachWas p h now (xs ++ rest)

@@ -1,10 +1,10 @@
 -- The front of a run at a step: all events that end by it. Of two fronts of a run the one of the lesser step is the front of the other.
-use Rattle.sl_front_law.proofs.Going.{one_step}
+use Rattle.sl_front_law.proofs.Going.{one_step, run_after}
 use Rattle.sl_front_law.specs.Fronts.{HasOneStep}
 use Rattle.sl_resource_history.specs.Histories.{world_by}
 use Rattle.sl_run.specs.Events.{happens}
 use Rattle.sl_run.specs.Runs.{Happening, HasSteps, IsRun, world_after}
-use Rattle.sl_run.specs.Safety.{LawfulRun}
+use Rattle.sl_run.specs.Safety.{LawfulRun, world_at}
 use Rattle.sl_run.specs.Worlds.{Program, World, world_with}
 use Rattle.sl_run.specs.declared.header.Header.{Header}
 use Rattle.sl_run_law.proofs.Going.{run_goes}
@@ -66,9 +66,6 @@ front_from w (x ∷ xs) run t le =
 first_step : (t : ℕ) → 1 ≤ t + 1
 first_step t = omega arith
 
-pub front_by : (p : Program) (h : Header) (xs : List Happening) → LawfulRun p h xs → (t : ℕ) → FrontFrom (world_with p h) xs t
-front_by p h xs run t = front_from (world_with p h) xs run.is_run t (first_step t)
-
 -- ---- fronts of one run
 
 same_head : {A : Type 0} (x y : A) (xs ys : List A) → x ∷ xs ≡ y ∷ ys → x ≡ y
@@ -98,3 +95,35 @@ ended {A} (x ∷ xs) = by (ended xs) where
   by : Ended xs → Ended (x ∷ xs)
   by (Nothing is) = Ends [] x (ap (λ ys. x ∷ ys) is)
   by (Ends front y is) = Ends (x ∷ front) y (ap (λ ys. x ∷ ys) is)
+
+-- ---- the fronts of a lawful run
+
+-- The front at a step, with what comes after it.
+pub record FrontAt (p : Program) (h : Header) (xs : List Happening) (t : ℕ) : Type 0 where
+  pub now : List Happening
+  pub rest : List Happening
+  pub whole : xs ≡ now ++ rest
+  pub run : LawfulRun p h (now ++ rest)
+  pub is : world_by (world_with p h) xs t ≡ world_at p h now
+  pub begins : (world_at p h now).step ≤ t + 1
+  pub ends : (rest ≡ []) ⊎ (t ≤ (world_at p h now).step)
+
+pub front_at : (p : Program) (h : Header) (xs : List Happening) → LawfulRun p h xs → (t : ℕ) → FrontAt p h xs t
+front_at p h xs run t =
+    let f = front_from (world_with p h) xs run.is_run t (first_step t) in
+    record { now = f.now; rest = f.rest; whole = f.whole; run = subst (λ ys. LawfulRun p h ys) f.whole run; is = f.is; begins = f.begins; ends = f.ends }
+
+pub nothing_more : {A : Type 0} (xs : List A) → xs ++ [] ≡ xs
+nothing_more [] = refl
+nothing_more (x ∷ xs) = ap (λ ys. x ∷ ys) (nothing_more xs)
+
+-- The front at a later step goes on from the front at a step.
+pub fronts_nest : (p : Program) (h : Header) (xs : List Happening) (t u : ℕ) (f : FrontAt p h xs t) (g : FrontAt p h xs u) → t < u → (mid : List Happening) × (g.now ≡ f.now ++ mid)
+fronts_nest p h xs t u f g lt =
+    front_order (world_with p h) f.now f.rest g.now g.rest (sym f.whole ∙ g.whole) (by g.ends)
+  where
+    by : (g.rest ≡ []) ⊎ (u ≤ (world_at p h g.now).step) → (world_at p h f.now).step ≤ (world_at p h g.now).step
+    by (inr le) = omega (arith, f.begins, le, lt)
+    by (inl none) =
+        let whole : g.now ≡ f.now ++ f.rest = sym (nothing_more g.now) ∙ ap (λ ys. g.now ++ ys) (sym none) ∙ sym g.whole ∙ f.whole in
+        subst (λ (v : World). (world_at p h f.now).step ≤ v.step) (sym (ap (world_at p h) whole ∙ run_after (world_with p h) f.now f.rest)) (steps_grow (world_at p h f.now) f.rest)

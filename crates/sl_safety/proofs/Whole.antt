@@ -1,0 +1,33 @@
+-- The whole: lawful runs are safe, and keep both invariants.
+use Rattle.sl_front_law.proofs.Going.{fronts_are_lawful}
+use Rattle.sl_id_safety.proofs.Proven.{ids_are_safe}
+use Rattle.sl_run.specs.Runs.{Happening}
+use Rattle.sl_run.specs.Safety.{Invariants, LawfulRun, LeaseInvariant, Safety}
+use Rattle.sl_run.specs.Worlds.{Program}
+use Rattle.sl_run.specs.declared.header.Header.{Header}
+use Rattle.sl_safety.proofs.Agreeing.{agreement_holds, one_winner_holds}
+use Rattle.sl_safety.proofs.Excluding.{safety_given}
+use Rattle.sl_safety.proofs.Lawful.{keep_instances}
+use Rattle.sl_safety.proofs.Moded.{modes_stand, modes_stood_given}
+use Rattle.std.proofs.Common.{subst}
+use Rattle.std.specs.Prelude.{List}
+
+-- No two holdings conflict.
+pub lawful_runs_are_safe : Safety
+lawful_runs_are_safe = safety_given keep_instances
+
+-- The invariant of blocks and leaders.
+pub leases_are_safe : (p : Program) (h : Header) (xs : List Happening) → LawfulRun p h xs → LeaseInvariant p h xs
+leases_are_safe p h xs run =
+    record {
+      agreement = agreement_holds p h xs run;
+      winner = one_winner_holds p h xs run;
+      mode = modes_stand p h xs run;
+      mode_before = modes_stood_given keep_instances p h xs run;
+    }
+
+-- Both invariants, after each event.
+pub invariants_hold : Invariants
+invariants_hold p h xs run now rest whole =
+    let front : LawfulRun p h now = fronts_are_lawful p h now rest (subst (λ (ys : List Happening). LawfulRun p h ys) whole run) in
+    (ids_are_safe p h now front, leases_are_safe p h now front)

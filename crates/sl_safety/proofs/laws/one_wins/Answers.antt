@@ -1,0 +1,5 @@
+use Rattle.sl_safety.proofs.Agreeing.{one_winner_holds}
+use Rattle.sl_safety.proofs.laws.one_wins.Goals as goal
+
+pub returns : goal.returns
+returns c = one_winner_holds

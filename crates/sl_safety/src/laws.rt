@@ -1,0 +1,40 @@
+//! What every lawful run keeps of resources.
+
+ghost use Rattle.sl_run.specs.Safety.{Invariants, Safety};
+ghost use Rattle.sl_safety.specs.Histories.{HistoriesAreLawful, HistoriesKeepInstances};
+ghost use Rattle.sl_safety.specs.Kept.{BallotsAgree, OneWins, SharedModesStand};
+
+/// The history of each resource keeps all rules of the argument over ballots.
+pub fn histories_are_lawful()
+    ensures { HistoriesAreLawful }
+{}
+
+/// All ballots of a resource's instance that end, end with one session.
+pub fn ballots_agree()
+    ensures { BallotsAgree }
+{}
+
+/// At most one session ends a ballot of an instance with itself.
+pub fn one_wins()
+    ensures { OneWins }
+{}
+
+/// The mode of a shared holder that is not over stands in its host's block.
+pub fn shared_modes_stand()
+    ensures { SharedModesStand }
+{}
+
+/// .. and of the order of instances.
+pub fn histories_keep_instances()
+    ensures { HistoriesKeepInstances }
+{}
+
+/// No two holdings conflict, after every event of every lawful run.
+pub fn lawful_runs_are_safe()
+    ensures { Safety }
+{}
+
+/// Both invariants hold after every event of every lawful run: that of ids and time, and that of blocks and leaders.
+pub fn invariants_hold()
+    ensures { Invariants }
+{}

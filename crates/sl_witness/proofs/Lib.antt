@@ -1,0 +1,14 @@
+pub mod Seeking
+pub mod Sames
+pub mod Eaches
+pub mod Blocks
+pub mod Calls
+pub mod Deltas
+pub mod Areas
+pub mod Leaders
+pub mod Modes
+pub mod Watches
+pub mod Traces
+pub mod Headers
+pub mod Running
+pub mod Taking
