@@ -22,14 +22,14 @@ use Rattle.sl_sessions.specs.Sessions.{Session, calls_of, ended_after, free_writ
 use Rattle.sl_trace.specs.Traces.{Submitted, holdings, is_shared, same_place}
 use Rattle.sl_trace.specs.declared.effects.Grant.{Grant}
 use Rattle.sl_watchdog_law.proofs.Promising.{itself}
-use Rattle.sl_words.proofs.CaseLaws.{false_is_true, is_false, one_value, true_is_false}
+use Rattle.sl_words.proofs.CaseLaws.{false_is_true, is_false, one_value}
 use Rattle.sl_words.proofs.ListLaws.{first_and_others}
 use Rattle.sl_words.proofs.WordLaws.{and_true}
 use Rattle.sl_words.specs.Words.{first_of_list, is_empty, some_is}
 use Rattle.std.proofs.Common.{ap, arith, inl, inr, refl, subst, sym, tests, ◌∙◌}
 use Rattle.std.proofs.lemmas.Bool.{and_from, eq-eqb}
 use Rattle.std.specs.List.{enumerate_from, list_any}
-use Rattle.std.specs.Prelude.{Bool, Contains, List, None, Option, Some, [], cond, false, find, if◌then◌else◌, is_none, is_some, map, not, option_and_then, option_map, slice_get, suc, true, zero, ℕ, ◌&&◌, ◌+◌, ◌-◌, ◌==◌, ◌||◌, ◌∷◌, ◌≡◌, ◌⊎◌}
+use Rattle.std.specs.Prelude.{Bool, Contains, List, None, Option, Some, [], cond, false, find, is_none, is_some, map, not, option_and_then, option_map, slice_get, suc, true, zero, ℕ, ◌&&◌, ◌+◌, ◌-◌, ◌==◌, ◌||◌, ◌∷◌, ◌≡◌, ◌⊎◌}
 
 -- ---- the machine of a holding
 

@@ -25,7 +25,7 @@ use Rattle.sl_words.proofs.CaseLaws.{no_value}
 use Rattle.sl_words.proofs.WordLaws.{and_true}
 use Rattle.std.proofs.Common.{ap, inl, inr, refl, subst, sym, ◌∙◌}
 use Rattle.std.proofs.lemmas.Bool.{eq-eqb}
-use Rattle.std.specs.Prelude.{Bool, Contains, IsTrue, List, Some, false, is_none, length, true, [], ℕ, ◌&&◌, ◌==◌, ◌∷◌, ◌≡◌, ◌⊎◌}
+use Rattle.std.specs.Prelude.{Bool, Contains, IsTrue, List, Some, false, is_none, length, true, [], ◌&&◌, ◌==◌, ◌∷◌, ◌≡◌, ◌⊎◌}
 
 -- The session under which a process holds, and that the area of the holding is one.
 pub record StandsBehind (st : Setting) (es : Trace) (g : Grant) : Type 0 where

@@ -2,12 +2,12 @@
 use Rattle.sl_course_law.proofs.Matched.{courses_are_calls}
 use Rattle.sl_course_law.proofs.Mirrored.{machines_mirror}
 use Rattle.sl_course_law.specs.Mirrors.{Mirrors}
-use Rattle.sl_course_law.specs.Stamping.{AnswersAgree, AreCalls, IsCourseOf, Pairwise, courses_of}
+use Rattle.sl_course_law.specs.Stamping.{AreCalls, IsCourseOf, Pairwise, courses_of}
 use Rattle.sl_front_law.proofs.Having.{in_flat}
 use Rattle.sl_id_state.proofs.FindingFrames.{on_machine}
 use Rattle.sl_id_state.specs.IdStates.{join_course, own_courses}
 use Rattle.sl_law.specs.Lawful.{Lawful}
-use Rattle.sl_plain.proofs.Lists.{contains_cases, contains_first, contains_more, contains_none, filter_both, got_inside}
+use Rattle.sl_plain.proofs.Lists.{filter_both, got_inside}
 use Rattle.sl_run.specs.Runs.{Happening}
 use Rattle.sl_run.specs.Safety.{Found, IsSession as IsSessionOf, LawfulRun, SessionId, trace_of, world_at}
 use Rattle.sl_run.specs.Worlds.{Course, Daemon, Machine, Program, World, daemon_numbered, daemons_on, is_write_course, machine_at}
@@ -15,15 +15,15 @@ use Rattle.sl_run.specs.declared.header.Header.{Header}
 use Rattle.sl_run_law.proofs.Walking.{index}
 use Rattle.sl_session_law.specs.Promises.{IsSession}
 use Rattle.sl_sessions.specs.Sessions.{Session, calls_of, has_open_write, is_call_of, is_join_call, join_call, session_numbered}
-use Rattle.sl_trace.specs.Traces.{Answered, Submitted, is_write, submitted}
+use Rattle.sl_trace.specs.Traces.{Submitted, is_write, submitted}
 use Rattle.sl_trace.specs.declared.effects.Call.{Call}
 use Rattle.sl_trace.specs.declared.effects.JoinStep.{JoinStep}
 use Rattle.sl_watchdog_law.proofs.Finding.{open_write}
 use Rattle.sl_watchdog_law.proofs.Numbering.{number_is}
 use Rattle.sl_watchdog_law.proofs.Promising.{pair_of, unanswered_by}
-use Rattle.sl_words.proofs.CaseLaws.{no_value, none_some, some_value}
-use Rattle.std.proofs.Common.{ap, inl, inr, refl, subst, sym, ◌∙◌}
-use Rattle.std.specs.Prelude.{Bool, Contains, List, None, Option, Some, [], cond, false, filter, find, true, ◌&&◌, ◌-◌, ◌==◌, ◌∷◌, ◌≡◌, ◌⊎◌}
+use Rattle.sl_words.proofs.CaseLaws.{none_some, some_value}
+use Rattle.std.proofs.Common.{ap, refl, subst, sym, ◌∙◌}
+use Rattle.std.specs.Prelude.{Bool, Contains, List, None, Option, Some, [], cond, false, filter, find, true, ◌-◌, ◌==◌, ◌∷◌, ◌≡◌}
 
 -- ---- two lists, element by element
 

@@ -11,13 +11,12 @@ use Rattle.sl_law.specs.Lawful.{Lawful}
 use Rattle.sl_law.specs.LawfulDelta.{LawfulDeciding, LawfulDeltaCall, LawfulFirstRenewal}
 use Rattle.sl_law.specs.LawfulWatchdog.{is_covered}
 use Rattle.sl_moment_law.specs.Moments.{point_of}
-use Rattle.sl_plain.proofs.Lists.{contains_cases, contains_none, find_fails, find_inside, got_inside}
+use Rattle.sl_plain.proofs.Lists.{find_fails, find_inside, got_inside}
 use Rattle.sl_run.specs.Safety.{Found, SessionId, trace_of, was_reset}
 use Rattle.sl_run.specs.Worlds.{Course, Daemon, Stamp, World, daemons_on, resets_after}
 use Rattle.sl_run.specs.declared.header.Header.{Header}
 use Rattle.sl_sector.specs.declared.sector.Rec.TheVariants.{DeltaIs}
 use Rattle.sl_session_law.proofs.Fronts.{front_answers_stay}
-use Rattle.sl_session_law.proofs.Naming.{fails_at}
 use Rattle.sl_session_law.proofs.Owning.{calls_were_lawful}
 use Rattle.sl_session_law.proofs.Silence.{stage_by}
 use Rattle.sl_session_law.specs.Promises.{IsMade, IsSession, front_of, made_as}
@@ -36,9 +35,9 @@ use Rattle.sl_watchdog_law.specs.Promises.{ActsStill, StandsConnected}
 use Rattle.sl_words.proofs.CaseLaws.{false_is_true, no_value, none_some, not_both, one_value, some_value, true_is_false}
 use Rattle.sl_words.proofs.WordLaws.{some_is_true}
 use Rattle.sl_words.specs.Words.{is_empty}
-use Rattle.std.proofs.Common.{ap, inl, inr, refl, subst, sym, ◌∙◌}
-use Rattle.std.proofs.lemmas.Bool.{and_from, eq-eqb, eqb-true, or_left}
-use Rattle.std.specs.Prelude.{Bool, Contains, List, None, Option, Some, [], cond, false, find, is_some, not, option_and_then, true, ℕ, ◌&&◌, ◌==◌, ◌||◌, ◌∷◌, ◌≡◌, ◌⊎◌}
+use Rattle.std.proofs.Common.{ap, refl, sym, ◌∙◌}
+use Rattle.std.proofs.lemmas.Bool.{eq-eqb, eqb-true}
+use Rattle.std.specs.Prelude.{Bool, List, None, Option, Some, [], cond, false, find, is_some, not, option_and_then, true, ℕ, ◌&&◌, ◌==◌, ◌∷◌, ◌≡◌}
 
 -- ---- options and lists
 

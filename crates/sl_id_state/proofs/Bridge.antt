@@ -1,9 +1,9 @@
 -- A session of a lawful run beside its trace: its calls on its machine are those of its trace, in the same order.
-use Rattle.sl_id_state.proofs.Beside.{filter_pairs, own_pairs}
+use Rattle.sl_id_state.proofs.Beside.{own_pairs}
 use Rattle.sl_place_law.proofs.Reading.{lawful_daemon}
 use Rattle.sl_course_law.specs.Mirrors.{IsOfWorld}
 use Rattle.sl_course_law.specs.Promises.{CoursesAreCalls, DaemonsAreOfWorld}
-use Rattle.sl_course_law.specs.Stamping.{AreCalls, IsCourseOf, Pairwise, courses_of}
+use Rattle.sl_course_law.specs.Stamping.{IsCourseOf, Pairwise}
 use Rattle.sl_front_law.proofs.Having.{contains_append}
 use Rattle.sl_id_state.proofs.Listing.{EveryTail, PairsAt, find_pairs, pairs_at, stands, stands_there, tail_at}
 use Rattle.sl_place_law.proofs.Numbering.{session_number}
@@ -13,19 +13,19 @@ use Rattle.sl_landing_law.specs.Landings.{DoneWritesHaveLanded}
 use Rattle.sl_law.specs.Lawful.{Lawful}
 use Rattle.sl_moment_law.proofs.Ordering.{calls_more, entries_ordered, fall_front, machines_ordered}
 use Rattle.sl_moment_law.specs.Orders.{CallsFall, Fall, IsTimed}
-use Rattle.sl_plain.proofs.Lists.{contains_cases, contains_none, filter_both, find_inside}
+use Rattle.sl_plain.proofs.Lists.{contains_cases, contains_none, find_inside}
 use Rattle.sl_plain.proofs.Options.{mapped_value, then_value}
 use Rattle.sl_run.specs.Runs.{Happening}
 use Rattle.sl_run.specs.Safety.{Found, IsSession, LawfulRun, SessionId, is_course_of, setting_in, trace_of, world_at}
-use Rattle.sl_run.specs.Worlds.{Course, Daemon, Machine, Program, Stamp, World, daemon_numbered, daemons_on, machine_at}
+use Rattle.sl_run.specs.Worlds.{Course, Daemon, Machine, Program, World, daemon_numbered, daemons_on, machine_at}
 use Rattle.sl_run.specs.declared.header.Header.{Header}
 use Rattle.sl_sample_law.specs.Samples.{DoneReadsAreWhole, SampledAreSectors, SamplesAreLandings}
 use Rattle.sl_session_law.specs.Promises.{IsSession as IsSessionOf}
-use Rattle.sl_sessions.specs.Sessions.{Session, calls_of, is_call_of, is_join_call, join_call, session_numbered}
-use Rattle.sl_trace.specs.Traces.{Submitted, submitted}
+use Rattle.sl_sessions.specs.Sessions.{Session, calls_of, is_join_call, join_call, session_numbered}
+use Rattle.sl_trace.specs.Traces.{Submitted}
 use Rattle.sl_trace.specs.declared.effects.Call.{Call}
 use Rattle.sl_trace.specs.declared.effects.JoinStep.{JoinStep}
-use Rattle.std.proofs.Common.{ap, arith, inl, inr, subst, sym, ◌∙◌}
+use Rattle.std.proofs.Common.{ap, arith, inl, inr, subst, ◌∙◌}
 use Rattle.std.proofs.lemmas.Bool.{eqb-true}
 use Rattle.std.specs.Prelude.{Bool, Contains, List, Option, Some, [], cond, false, filter, option_and_then, option_map, true, ℕ, ◌++◌, ◌+◌, ◌<◌, ◌==◌, ◌∷◌, ◌≡◌, ◌≤◌, ◌⊎◌}
 

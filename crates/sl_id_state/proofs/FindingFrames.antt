@@ -1,9 +1,7 @@
 -- Sessions are found where they were found, as events go on.
-use Rattle.sl_course_law.proofs.Changing.{changed_here}
 use Rattle.sl_id_state.proofs.Frames.{Same, flying_same, is_running}
 use Rattle.sl_id_state.specs.IdStates.{own_courses}
-use Rattle.sl_plain.proofs.Lists.{contains_first, contains_more, set_here}
-use Rattle.sl_plain.proofs.Options.{else_some}
+use Rattle.sl_plain.proofs.Lists.{contains_first, contains_more}
 use Rattle.sl_run.specs.Events.{change_call}
 use Rattle.sl_run.specs.Safety.{Found, SessionId, is_course_of, session_of_world}
 use Rattle.sl_run.specs.Worlds.{Course, Daemon, Machine, World, change_machine, daemon_numbered, daemons_on, flight_of, is_open, machine_at}

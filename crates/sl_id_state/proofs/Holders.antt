@@ -23,7 +23,7 @@ use Rattle.sl_words.specs.Words.{first_given}
 use Rattle.std.proofs.Common.{ap, arith, inl, inr, refl, subst, sym, ◌∙◌}
 use Rattle.std.proofs.lemmas.Bool.Decides.{nat_tests}
 use Rattle.std.specs.List.{enumerate_from}
-use Rattle.std.specs.Prelude.{Bool, Contains, List, None, Option, Some, [], false, find, if◌then◌else◌, option_and_then, option_map, slice_get, suc, true, zero, ℕ, ◌+◌, ◌-◌, ◌==◌, ◌∷◌, ◌≡◌}
+use Rattle.std.specs.Prelude.{Contains, List, None, Option, Some, [], false, find, option_and_then, option_map, slice_get, suc, true, zero, ℕ, ◌+◌, ◌-◌, ◌==◌, ◌∷◌, ◌≡◌}
 
 -- ---- the first that is given
 

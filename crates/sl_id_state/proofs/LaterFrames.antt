@@ -1,12 +1,12 @@
 -- A session that is found is found later, with the same daemon gone on and the same machine gone on.
 use Rattle.sl_course_law.specs.Mirrors.{AreNumbered}
 use Rattle.sl_course_law.specs.Promises.{MachinesMirror}
-use Rattle.sl_front_law.proofs.Going.{daemon_later, run_after, run_rest}
-use Rattle.sl_id_state.proofs.FindingFrames.{IsFound, found_on, on_machine, session_with}
+use Rattle.sl_front_law.proofs.Going.{daemon_later, run_after}
+use Rattle.sl_id_state.proofs.FindingFrames.{found_on, on_machine, session_with}
 use Rattle.sl_plain.proofs.Lists.{contains_cases, contains_none}
-use Rattle.sl_run.specs.Runs.{Happening, IsRun}
+use Rattle.sl_run.specs.Runs.{Happening}
 use Rattle.sl_run.specs.Safety.{Found, LawfulRun, SessionId, session_of_world, world_at}
-use Rattle.sl_run.specs.Worlds.{Daemon, Machine, Program, World, daemon_numbered, daemons_on, machine_at, world_with}
+use Rattle.sl_run.specs.Worlds.{Daemon, Program, World, daemon_numbered, daemons_on, machine_at, world_with}
 use Rattle.sl_run.specs.declared.header.Header.{Header}
 use Rattle.sl_run_law.proofs.Tracking.{run_tracks}
 use Rattle.sl_run_law.specs.Courses.{Continues, Tracks}
@@ -14,10 +14,10 @@ use Rattle.sl_run_law.specs.Daemons.{DaemonGoes}
 use Rattle.sl_session_law.proofs.Owning.{sessions_stay}
 use Rattle.sl_sessions.specs.Sessions.{Session, session_numbered}
 use Rattle.sl_watchdog_law.proofs.Stepping.{number_below}
-use Rattle.sl_words.proofs.CaseLaws.{is_false, one_value}
+use Rattle.sl_words.proofs.CaseLaws.{one_value}
 use Rattle.std.proofs.Common.{ap, arith, inl, inr, refl, subst, sym, tests, ◌∙◌}
-use Rattle.std.proofs.lemmas.Bool.{eq-eqb, eqb-true}
-use Rattle.std.specs.Prelude.{Bool, Contains, List, None, Option, Some, cond, false, find, length, option_map, true, [], ℕ, ◌++◌, ◌<◌, ◌==◌, ◌∷◌, ◌≡◌}
+use Rattle.std.proofs.lemmas.Bool.{eq-eqb}
+use Rattle.std.specs.Prelude.{Contains, List, Some, cond, false, find, length, option_map, [], ℕ, ◌++◌, ◌<◌, ◌==◌, ◌∷◌, ◌≡◌}
 
 first_other : (n m k : ℕ) → n ≡ k → m < k → (n == m) ≡ false
 first_other n m k h lt = grind (arith, tests)

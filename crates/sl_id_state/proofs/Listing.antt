@@ -1,13 +1,11 @@
 -- Lists side by side: where an element stands, and what is related to it in the other list.
-use Rattle.sl_id_state.proofs.Beside.{filter_pairs, kept_pair}
-use Rattle.sl_plain.proofs.Lists.{contains_cases, contains_first, contains_more, contains_none, filter_both}
-use Rattle.sl_plain.proofs.Options.{mapped_value, then_value}
+use Rattle.sl_plain.proofs.Lists.{contains_cases, contains_first, contains_more, contains_none}
 use Rattle.sl_run_law.specs.Fates.{Every}
 use Rattle.sl_course_law.specs.Stamping.{Pairwise}
 use Rattle.sl_front_law.proofs.Having.{contains_right}
 use Rattle.sl_words.proofs.CaseLaws.{none_some, some_value}
 use Rattle.std.proofs.Common.{ap, inl, inr, refl, subst, sym, ◌∙◌}
-use Rattle.std.specs.Prelude.{Bool, Contains, List, None, Option, Some, [], cond, false, filter, find, option_and_then, option_map, true, ◌&&◌, ◌++◌, ◌∷◌, ◌≡◌, ◌⊎◌}
+use Rattle.std.specs.Prelude.{Bool, Contains, List, None, Option, Some, [], cond, false, find, true, ◌++◌, ◌∷◌, ◌≡◌, ◌⊎◌}
 
 -- ---- options
 

@@ -12,7 +12,7 @@ use Rattle.sl_law.specs.LawfulDelta.{LawfulDeltaCall, LawfulJoin}
 use Rattle.sl_law.specs.Saying.{cut_at}
 use Rattle.sl_session_law.proofs.Covering.{joinings_are_in_turn}
 use Rattle.sl_session_law.proofs.Growing.{mine_marked, mine_next, other_next, to_all}
-use Rattle.sl_session_law.proofs.Making.{IsNewCall, WasOpen, old_or_new, was_marked}
+use Rattle.sl_session_law.proofs.Making.{WasOpen, old_or_new, was_marked}
 use Rattle.sl_session_law.proofs.Naming.{absent}
 use Rattle.sl_session_law.proofs.Ordering.{begun_before, joinings_are_ordered, old_one}
 use Rattle.sl_session_law.proofs.Owning.{owned, session_more}

@@ -4,8 +4,7 @@ use Rattle.sl_course_law.proofs.Daemons.{daemon_of_line, every_has, first_daemon
 use Rattle.sl_course_law.proofs.Keeping.{header_machine}
 use Rattle.sl_id_state.proofs.FindingFrames.{IsFound, find_passes, on_machine}
 use Rattle.sl_place_law.proofs.Finding.{finds, same_text}
-use Rattle.sl_plain.proofs.Lists.{got_index, got_inside}
-use Rattle.sl_plain.proofs.Numbers.{one_index}
+use Rattle.sl_plain.proofs.Lists.{got_index}
 use Rattle.sl_run.specs.Headers.{IsHeader}
 use Rattle.sl_run.specs.Safety.{Found, IsSession, SessionId}
 use Rattle.sl_run.specs.Worlds.{Daemon, Machine, Program, clock_reading, daemons_on, given_of, machine_of_header, world_with}
@@ -15,8 +14,8 @@ use Rattle.sl_run.specs.declared.header.SessionLine.{SessionLine}
 use Rattle.sl_sessions.specs.Sessions.{Session, given_session, session_numbered}
 use Rattle.sl_trace.specs.declared.input.Given.{Given}
 use Rattle.sl_words.proofs.CaseLaws.{none_some, some_value}
-use Rattle.std.proofs.Common.{ap, arith, inl, inr, refl, subst, sym, ◌∙◌}
-use Rattle.std.proofs.lemmas.Bool.{cases_lt, eq-eqb, eqb-true}
+use Rattle.std.proofs.Common.{ap, arith, refl, subst, sym, ◌∙◌}
+use Rattle.std.proofs.lemmas.Bool.{eq-eqb, eqb-true}
 use Rattle.std.proofs.lemmas.Option.{slice_get_within}
 use Rattle.std.proofs.lemmas.Slice.Eq.{bytes_eq-Decides}
 use Rattle.std.specs.List.{cons_option, enumerate_from}

@@ -4,43 +4,34 @@ use Rattle.sl_law.specs.Lawful.{Lawful}
 use Rattle.sl_law.specs.LawfulDelta.{LawfulDeltaCall}
 use Rattle.sl_law.specs.LawfulWatchdog.{is_covered}
 use Rattle.sl_law.specs.Saying.{cut_at}
-use Rattle.sl_plain.proofs.Lists.{contains_first, got_inside}
+use Rattle.sl_plain.proofs.Lists.{got_inside}
 use Rattle.sl_plain.proofs.Options.{some_there}
 use Rattle.sl_session_law.proofs.Growing.{mine_marked, mine_next, other_next, to_all}
 use Rattle.sl_session_law.proofs.Joining.{joined_before, stage_for}
-use Rattle.sl_session_law.proofs.Making.{IsNewCall, old_or_new, same_answered}
-use Rattle.sl_session_law.proofs.Ordering.{begun_before, open_stage}
+use Rattle.sl_session_law.proofs.Making.{old_or_new, same_answered}
+use Rattle.sl_session_law.proofs.Ordering.{open_stage}
 use Rattle.sl_session_law.proofs.Owning.{is_the_one}
-use Rattle.sl_session_law.proofs.Silence.{no_more, stage_by}
-use Rattle.sl_session_law.proofs.Staying.{refused_more}
 use Rattle.sl_session_law.specs.Promises.{IsSession}
-use Rattle.sl_sessions.specs.Sessions.{Session, calls_of, free_write, has_open_write, is_covered_stage, joined_after, refused_after, removed_after, session_numbered, stage_after, stage_in, stage_of}
-use Rattle.sl_sessions.specs.declared.stage.Stage.{Stage}
+use Rattle.sl_sessions.specs.Sessions.{Session, calls_of, free_write, has_open_write, is_covered_stage, joined_after, refused_after, removed_after, session_numbered, stage_in, stage_of}
 use Rattle.sl_trace.specs.Connections.{registers, registers_with}
-use Rattle.sl_trace.specs.Traces.{Answered, Setting, Submitted, Trace, answer_of, answered_in, is_ok_answer, is_write, mark, new_call, submitted}
+use Rattle.sl_trace.specs.Traces.{Setting, Submitted, Trace, answered_in, mark, new_call, submitted}
 use Rattle.sl_trace.specs.declared.effects.Call.{Call}
 use Rattle.sl_trace.specs.declared.effects.Entry.{Entry}
 use Rattle.sl_trace.specs.declared.effects.JoinStep.TheVariants.{ClaimWrite, DecidingRead, FirstRead, FirstRenewal, VerifyRead, WatchRead}
-use Rattle.sl_trace.specs.declared.effects.JoinStep.{JoinStep}
-use Rattle.sl_trace.specs.declared.effects.Move.TheVariants.{Register, Renew, Unregister}
-use Rattle.sl_trace.specs.declared.effects.Move.{Move}
 use Rattle.sl_trace.specs.declared.effects.Purpose.TheVariants.{RequestRead, RequestWrite, Joining, Lease, Leaving, Renewal, SeeRequest, Survey, ValueRead, ValueWrite}
 use Rattle.sl_trace.specs.declared.effects.Purpose.{Purpose}
-use Rattle.sl_trace.specs.declared.input.Answer.{Answer}
 use Rattle.sl_trace.specs.declared.input.Input.TheVariants.{Answer as Told, Exit, Line, Spawned, Wake}
 use Rattle.sl_trace.specs.declared.input.Input.{Input}
-use Rattle.sl_watchdog_law.proofs.Becoming.{WasSo, any_more, by_joining, by_write, covered_marked, covered_stage_by, covered_told, less_by_step, less_covered, refused_before, some_call, with_registers}
-use Rattle.sl_watchdog_law.proofs.Finding.{OpenWrite, call_inside, call_owner, open_write, the_open_write}
-use Rattle.sl_watchdog_law.proofs.Standing.{covered_open, not_registered, older_call}
+use Rattle.sl_watchdog_law.proofs.Becoming.{WasSo, any_more, by_joining, by_write, covered_marked, covered_stage_by, with_registers}
+use Rattle.sl_watchdog_law.proofs.Finding.{the_open_write}
+use Rattle.sl_watchdog_law.proofs.Standing.{not_registered}
 use Rattle.sl_watchdog_law.specs.Acting.{registering_entry}
-use Rattle.sl_words.proofs.CaseLaws.{false_is_true, no_value, none_some, one_value, some_value, true_is_false}
+use Rattle.sl_words.proofs.CaseLaws.{false_is_true, none_some, one_value, some_value, true_is_false}
 use Rattle.sl_words.proofs.WordLaws.{and_true, or_true}
-use Rattle.sl_words.specs.Words.{some_is}
 use Rattle.std.proofs.Common.{ap, inl, inr, refl, sym, ◌∙◌}
-use Rattle.std.proofs.lemmas.Bool.{eqb-true, or_left}
+use Rattle.std.proofs.lemmas.Bool.{eqb-true}
 use Rattle.std.specs.List.{list_any}
-use Rattle.std.specs.Option.{option_or}
-use Rattle.std.specs.Prelude.{Bool, Contains, List, None, Option, Some, [], bytes_eq, cond, false, find, is_some, length, map, slice_get, suc, true, ℕ, ◌&&◌, ◌==◌, ◌||◌, ◌∷◌, ◌≡◌, ◌⊎◌}
+use Rattle.std.specs.Prelude.{Bool, List, None, Option, Some, [], cond, false, find, is_some, length, map, slice_get, suc, true, ℕ, ◌&&◌, ◌==◌, ◌∷◌, ◌≡◌, ◌⊎◌}
 
 -- ---- calls that are made with a registering
 

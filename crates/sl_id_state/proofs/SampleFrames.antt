@@ -5,7 +5,7 @@ use Rattle.sl_id_state.proofs.FindingFrames.{find_passes, on_machine}
 use Rattle.sl_id_state.specs.Facts.{JoinReadsAreOwn, ReadsOwn, is_reading_step}
 use Rattle.sl_id_state.specs.IdStates.{claim_bytes, comes_before, deciding_sample, is_sector_of, join_course, own_courses, refused_stamp, sample_showing, verifying_sample, watched_bytes}
 use Rattle.sl_place_law.proofs.Looks.{same_step}
-use Rattle.sl_plain.proofs.Lists.{contains_cases, contains_first, contains_more, contains_none, kept_inside}
+use Rattle.sl_plain.proofs.Lists.{kept_inside}
 use Rattle.sl_plain.proofs.Numbers.{no_times_more}
 use Rattle.sl_run.specs.Runs.{Happening}
 use Rattle.sl_run.specs.Safety.{Found, LawfulRun, SessionId, is_course_of, session_of_world, world_at}
@@ -13,18 +13,18 @@ use Rattle.sl_run.specs.Worlds.{Course, Machine, Program, Sampling, World, histo
 use Rattle.sl_run.specs.declared.header.Header.{Header}
 use Rattle.sl_sample_law.proofs.Numbering.{number_below}
 use Rattle.sl_sample_law.specs.Samples.{IsSampleOf, SamplesAreLandings, sector_place}
-use Rattle.sl_sessions.specs.Sessions.{Session, is_join_call, same_join_step}
-use Rattle.sl_trace.specs.declared.effects.JoinStep.TheVariants.{ClaimWrite, DecidingRead, FirstRead, FirstRenewal, VerifyRead, WatchRead}
+use Rattle.sl_sessions.specs.Sessions.{Session, is_join_call}
+use Rattle.sl_trace.specs.declared.effects.JoinStep.TheVariants.{DecidingRead, VerifyRead}
 use Rattle.sl_trace.specs.declared.effects.JoinStep.{JoinStep}
 use Rattle.sl_trace.specs.declared.effects.Purpose.TheVariants.{Joining}
 use Rattle.sl_trace.specs.declared.effects.Purpose.{Purpose}
 use Rattle.sl_words.proofs.CaseLaws.{none_some, true_is_false}
 use Rattle.sl_words.proofs.WordLaws.{and_true, choose_some}
 use Rattle.sl_words.specs.Words.{choose, first_of_list, some_is}
-use Rattle.std.proofs.Common.{ap, arith, inl, inr, refl, subst, sym, tests, ◌∙◌}
+use Rattle.std.proofs.Common.{ap, refl, subst, sym, ◌∙◌}
 use Rattle.std.proofs.lemmas.Bool.{eqb-true}
 use Rattle.std.proofs.lemmas.Slice.Eq.{bytes_eq-Decides}
-use Rattle.std.specs.Prelude.{Bool, Contains, List, None, Option, Some, bytes_eq, cond, false, filter, length, option_and_then, true, [], ℕ, ◌&&◌, ◌*◌, ◌+◌, ◌<◌, ◌==◌, ◌∷◌, ◌≡◌}
+use Rattle.std.specs.Prelude.{Contains, List, None, Option, Some, bytes_eq, length, option_and_then, true, ℕ, ◌&&◌, ◌<◌, ◌==◌, ◌≡◌}
 
 -- ---- own calls
 

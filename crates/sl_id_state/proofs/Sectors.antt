@@ -5,7 +5,7 @@ use Rattle.sl_course_law.proofs.Daemons.{daemon_of_line}
 use Rattle.sl_front_law.proofs.Having.{placed_at}
 use Rattle.sl_id_state.proofs.FindingFrames.{found_on, session_with}
 use Rattle.sl_id_state.proofs.Keeping.{is_place}
-use Rattle.sl_id_state.proofs.Members.{IsFirst, IsGivenOf, equal_texts, given_by_line, given_place, givens, is_given, layout_at, line_gives, one_given, pair_of, session_at_place}
+use Rattle.sl_id_state.proofs.Members.{IsFirst, IsGivenOf, given_by_line, given_place, givens, is_given, layout_at, line_gives, one_given, pair_of, session_at_place}
 use Rattle.sl_id_state.specs.IdStates.{is_sector_of}
 use Rattle.sl_id_state.specs.Promises.{IsIdPlace}
 use Rattle.sl_landing_law.proofs.Initial.{up_to}
@@ -21,14 +21,13 @@ use Rattle.sl_run.specs.declared.header.Header.{Header}
 use Rattle.sl_run.specs.declared.header.LockspaceLine.{LockspaceLine}
 use Rattle.sl_run.specs.declared.header.SessionLine.{SessionLine}
 use Rattle.sl_sessions.specs.Sessions.{Session, given_session}
-use Rattle.sl_trace.specs.Traces.{same_place}
 use Rattle.sl_trace.specs.declared.input.Given.{Given}
 use Rattle.sl_words.proofs.CaseLaws.{one_value}
 use Rattle.std.proofs.Common.{ap, arith, refl, subst, sym, ◌∙◌}
-use Rattle.std.proofs.lemmas.Bool.{and_from, eq-eqb}
+use Rattle.std.proofs.lemmas.Bool.{eq-eqb}
 use Rattle.std.proofs.lemmas.Bool.Decides.{nat_tests}
 use Rattle.std.specs.List.{range_with_len}
-use Rattle.std.specs.Prelude.{Bool, Contains, List, None, Option, Some, bytes_eq, false, find, if◌then◌else◌, map, option_map, slice_get, suc, true, zero, [], ℕ, ◌*◌, ◌%◌, ◌+◌, ◌-◌, ◌<◌, ◌==◌, ◌∷◌, ◌≡◌, ◌≤◌}
+use Rattle.std.specs.Prelude.{Contains, List, None, Some, false, find, map, option_map, slice_get, suc, true, zero, [], ℕ, ◌*◌, ◌%◌, ◌+◌, ◌-◌, ◌<◌, ◌==◌, ◌∷◌, ◌≡◌, ◌≤◌}
 
 -- ---- lines are apart
 

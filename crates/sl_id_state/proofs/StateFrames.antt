@@ -7,9 +7,9 @@ use Rattle.sl_ids.specs.Terms.{Terms}
 use Rattle.sl_plain.proofs.Numbers.{equal_is_least, number_itself}
 use Rattle.sl_words.proofs.CaseLaws.{is_false, not_both, true_is_false}
 use Rattle.sl_words.proofs.WordLaws.{and_true}
-use Rattle.std.proofs.Common.{ap, arith, inl, inr, refl, sym, tests, ◌∙◌}
+use Rattle.std.proofs.Common.{ap, inl, inr, refl, sym, ◌∙◌}
 use Rattle.std.proofs.lemmas.Bool.{and_from, eqb-true}
-use Rattle.std.specs.Prelude.{Bool, Option, false, true, [], ℕ, ◌&&◌, ◌==◌, ◌∷◌, ◌≡◌, ◌≤◌, ◌⊎◌}
+use Rattle.std.specs.Prelude.{Bool, Option, false, true, [], ◌&&◌, ◌==◌, ◌∷◌, ◌≡◌, ◌⊎◌}
 
 -- ---- names
 

@@ -4,7 +4,7 @@ use Rattle.sl_course_law.proofs.Daemons.{every_has}
 use Rattle.sl_place_law.proofs.Looks.{joins_at}
 use Rattle.sl_place_law.proofs.Reading.{first_whole}
 use Rattle.sl_plain.proofs.Lists.{contains_more, kept_inside}
-use Rattle.sl_plain.proofs.Numbers.{no_times, one_times}
+use Rattle.sl_plain.proofs.Numbers.{one_times}
 use Rattle.sl_run_law.specs.Fates.{Every}
 use Rattle.sl_course_law.specs.Stamping.{AnswersAgree, IsAnsweredAs, IsCourseOf}
 use Rattle.sl_id_state.proofs.Bridge.{Grounds, IsKnown, IsPlaced, step_agrees}
@@ -24,7 +24,6 @@ use Rattle.sl_run.specs.Worlds.{Course, Machine, Program, Sampling, Stamp, World
 use Rattle.sl_run.specs.declared.header.Header.{Header}
 use Rattle.sl_area.specs.Places.{sector_of}
 use Rattle.sl_sample_law.specs.Samples.{IsSampleOf}
-use Rattle.sl_session_law.proofs.Growing.{all_of_it}
 use Rattle.sl_sessions.specs.Sessions.{calls_of, is_call_of, is_join_call, refused_after}
 use Rattle.sl_time.specs.Times.{reading_of}
 use Rattle.sl_trace.specs.Traces.{Answered, Submitted, is_write, submitted}
@@ -36,10 +35,10 @@ use Rattle.sl_trace.specs.declared.effects.Purpose.{Purpose}
 use Rattle.sl_watchdog_law.proofs.Joins.{answered_within}
 use Rattle.sl_words.proofs.CaseLaws.{is_false}
 use Rattle.sl_words.specs.Words.{choose, first_of_list, some_is}
-use Rattle.std.proofs.Common.{ap, arith, inl, inr, refl, subst, sym, tests, ◌∙◌}
+use Rattle.std.proofs.Common.{ap, arith, inl, inr, refl, subst, sym, ◌∙◌}
 use Rattle.std.proofs.lemmas.Bool.{and_from, lt-ltb}
 use Rattle.std.specs.Cmp.Lexicographic.{nat_list_eq_equiv}
-use Rattle.std.specs.Prelude.{Contains, List, None, Option, Some, [], bytes_eq, drop, false, find, length, nat_lt, not, option_and_then, slice_get, suc, take, true, ℕ, ◌&&◌, ◌*◌, ◌++◌, ◌-◌, ◌<◌, ◌∷◌, ◌≡◌, ◌≤◌}
+use Rattle.std.specs.Prelude.{Contains, List, None, Option, Some, [], bytes_eq, false, find, length, not, option_and_then, slice_get, suc, true, ℕ, ◌&&◌, ◌*◌, ◌++◌, ◌-◌, ◌<◌, ◌∷◌, ◌≡◌, ◌≤◌}
 
 -- ---- a step comes once
 

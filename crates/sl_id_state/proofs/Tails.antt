@@ -12,7 +12,6 @@ use Rattle.sl_trace.specs.declared.input.Answer.{Answer}
 use Rattle.sl_trace.specs.declared.input.Input.TheVariants.{Answer as Told, Exit, Line, Spawned, Wake}
 use Rattle.sl_trace.specs.declared.input.Input.{Input}
 use Rattle.std.proofs.Common.{ap, refl, subst, sym, ◌∙◌}
-use Rattle.std.specs.Option.{option_or}
 use Rattle.std.specs.Prelude.{Bool, List, Some, [], false, length, map, slice_get, suc, true, ℕ, ◌++◌, ◌==◌, ◌∷◌, ◌≡◌}
 
 -- A call, and the same call earlier: an answer that it had then it has still.

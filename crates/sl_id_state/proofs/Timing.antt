@@ -4,28 +4,23 @@ use Rattle.sl_course_law.specs.Stamping.{stamp_in}
 use Rattle.sl_law.specs.LawfulCalls.{may_submit}
 use Rattle.sl_law.specs.Saying.{cut_at}
 use Rattle.sl_moment_law.specs.Orders.{Fall}
-use Rattle.sl_plain.proofs.Lists.{contains_cases, contains_first, contains_more, contains_none, in_map}
+use Rattle.sl_plain.proofs.Lists.{contains_none}
 use Rattle.sl_plain.proofs.Options.{mapped_value, then_value}
 use Rattle.sl_run.specs.Worlds.{Stamp}
 use Rattle.sl_session_law.proofs.Making.{IsNewCall, old_or_new, was_marked}
 use Rattle.sl_session_law.proofs.Silence.{no_more}
 use Rattle.sl_session_law.proofs.Staying.{refused_apart, refused_more}
 use Rattle.sl_sessions.specs.Sessions.{Session, is_join_done, refused_after, removed_after, stage_of}
-use Rattle.sl_trace.specs.Traces.{Answered, IsTrace, Replied, Setting, Submitted, Trace, answer_of, answered_in, last_reading, mark, reply_in, reply_to, submitted}
+use Rattle.sl_trace.specs.Traces.{IsTrace, Replied, Setting, Submitted, Trace, last_reading, mark, reply_in, reply_to, submitted}
 use Rattle.sl_trace.specs.declared.effects.Entry.{Entry}
 use Rattle.sl_trace.specs.declared.effects.JobReply.{JobReply}
-use Rattle.sl_trace.specs.declared.input.Answer.{Answer}
-use Rattle.sl_trace.specs.declared.input.Input.TheVariants.{Answer as Told, Exit, Line, Spawned, Wake}
-use Rattle.sl_trace.specs.declared.input.Input.{Input}
-use Rattle.sl_watchdog_law.proofs.Joins.{answered_within}
 use Rattle.sl_words.proofs.CaseLaws.{no_value, none_some, one_value, some_value, true_is_false}
 use Rattle.sl_words.proofs.OrderLaws.{less_or_same}
 use Rattle.sl_words.proofs.WordLaws.{choose_some}
 use Rattle.sl_words.specs.Words.{choose}
 use Rattle.std.proofs.Common.{ap, arith, inl, inr, refl, subst, sym, ◌∙◌}
 use Rattle.std.proofs.lemmas.Bool.{eqb-true}
-use Rattle.std.specs.Option.{option_or}
-use Rattle.std.specs.Prelude.{Bool, Contains, List, None, Option, Some, [], false, find, length, map, not, option_and_then, suc, take, true, ℕ, ◌++◌, ◌+◌, ◌-◌, ◌<◌, ◌==◌, ◌∷◌, ◌≡◌, ◌≤◌, ◌⊎◌}
+use Rattle.std.specs.Prelude.{Bool, Contains, List, None, Option, Some, [], false, find, length, not, option_and_then, take, true, ℕ, ◌++◌, ◌+◌, ◌-◌, ◌<◌, ◌==◌, ◌∷◌, ◌≡◌, ◌≤◌, ◌⊎◌}
 
 -- ---- stamps of a daemon
 

@@ -6,7 +6,6 @@ use Rattle.sl_ids.specs.State.{SessionId as IdName}
 use Rattle.sl_landing_law.specs.Landings.{HasWriter, LandingsAreWritten}
 use Rattle.sl_plain.proofs.Lists.{contains_cases, contains_first, contains_more, contains_none}
 use Rattle.sl_plain.proofs.Numbers.{number_itself, one_before}
-use Rattle.sl_plain.proofs.Options.{else_some}
 use Rattle.sl_run.specs.Runs.{Happening}
 use Rattle.sl_run.specs.Safety.{LawfulRun, world_at}
 use Rattle.sl_run.specs.Worlds.{Course, Daemon, Landing, Machine, Program, World, daemon_numbered, first_landing, history_of, landed_at, machine_at}

@@ -4,10 +4,10 @@ use Rattle.sl_law.specs.LawfulDelta.{Gave, LawfulClaim, LawfulDeltaCall, LawfulF
 use Rattle.sl_law.specs.Saying.{cut_at}
 use Rattle.sl_place_law.proofs.Daemons.{daemons_are_fine}
 use Rattle.sl_place_law.proofs.Finding.{given_by}
-use Rattle.sl_place_law.proofs.Looks.{heard, joins_at, same_step}
+use Rattle.sl_place_law.proofs.Looks.{heard, joins_at}
 use Rattle.sl_place_law.proofs.Reading.{call_law}
 use Rattle.sl_front_law.proofs.Having.{placed_at}
-use Rattle.sl_plain.proofs.Lists.{find_inside, got_inside, kept_inside, there_is}
+use Rattle.sl_plain.proofs.Lists.{find_inside, got_inside, there_is}
 use Rattle.sl_plain.proofs.Numbers.{both_ways, lt_then_le}
 use Rattle.sl_run.specs.Headers.{GoTogether, IsHeader}
 use Rattle.sl_run.specs.Runs.{Happening}
@@ -21,17 +21,16 @@ use Rattle.sl_session_law.proofs.Fronts.{front_answers_stay}
 use Rattle.sl_session_law.proofs.Owning.{calls_were_lawful, session_more, sessions_stay}
 use Rattle.sl_session_law.proofs.Staying.{ended_more, stays}
 use Rattle.sl_session_law.specs.Promises.{IsMade, IsSession, WasLawful, front_of, made_as}
-use Rattle.sl_sessions.specs.Sessions.{Session, begun_in, calls_of, ended_after, is_call_of, is_join_call, is_present, join_call, joined_after, refused_after, removed_after, same_join_step, session_numbered, sessions}
+use Rattle.sl_sessions.specs.Sessions.{Session, begun_in, calls_of, ended_after, is_join_call, is_present, join_call, joined_after, refused_after, removed_after, session_numbered, sessions}
 use Rattle.sl_trace.specs.Traces.{Answered, Setting, Submitted, Trace, submitted}
 use Rattle.sl_trace.specs.declared.effects.Entry.{Entry}
-use Rattle.sl_trace.specs.declared.effects.JoinStep.TheVariants.{ClaimWrite, DecidingRead, FirstRead, FirstRenewal, VerifyRead, WatchRead}
+use Rattle.sl_trace.specs.declared.effects.JoinStep.TheVariants.{ClaimWrite, FirstRead, FirstRenewal, VerifyRead}
 use Rattle.sl_trace.specs.declared.effects.JoinStep.{JoinStep}
-use Rattle.sl_trace.specs.declared.effects.Purpose.TheVariants.{Joining, Lease, Leaving, Renewal, RequestRead, RequestWrite, SeeRequest, Survey, ValueRead, ValueWrite}
 use Rattle.sl_trace.specs.declared.effects.Purpose.{Purpose}
 use Rattle.sl_trace.specs.declared.input.Given.{Given}
 use Rattle.sl_watchdog_law.proofs.Finding.{call_owner}
 use Rattle.sl_watchdog_law.proofs.Numbering.{begun_is, either_place, given_first, given_one}
-use Rattle.sl_words.proofs.CaseLaws.{false_is_true, none_some, one_value, some_value, true_is_false}
+use Rattle.sl_words.proofs.CaseLaws.{none_some, one_value, some_value, true_is_false}
 use Rattle.std.proofs.Common.{ap, arith, inl, inr, refl, subst, sym, ◌∙◌}
 use Rattle.std.proofs.lemmas.Bool.{cases_lt, eqb-true}
 use Rattle.std.proofs.lemmas.Option.{slice_get_within}

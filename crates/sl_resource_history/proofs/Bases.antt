@@ -26,7 +26,7 @@ use Rattle.sl_sessions.specs.Sessions.{Session, session_numbered}
 use Rattle.sl_trace.specs.Traces.{Submitted}
 use Rattle.sl_trace.specs.declared.effects.Spot.{Spot}
 use Rattle.sl_words.specs.Words.{some_is}
-use Rattle.std.proofs.Common.{ap, arith, inl, inr, refl, subst, sym, ◌∙◌}
+use Rattle.std.proofs.Common.{ap, inl, inr, refl, subst, sym, ◌∙◌}
 use Rattle.std.specs.Option.{option_map_or}
 use Rattle.std.specs.Prelude.{Bool, Contains, List, None, Option, Some, false, if◌then◌else◌, is_some, true, ℕ, ◌≡◌, ◌≤◌, ◌⊎◌}
 

@@ -6,7 +6,7 @@ use Rattle.sl_lease_law.proofs.ComingLaws.{at_step}
 use Rattle.sl_lease_law.proofs.WayLaws.{by_mode, by_phase1}
 use Rattle.sl_lease_law.specs.Fronts.{AllAged, Submission}
 use Rattle.sl_lease_law.specs.Ways.{ByMode, ByPhase1, Of_mode, Of_phase1, Way, lease_among}
-use Rattle.sl_leases.specs.Leases.{Mode_cleared, Mode_set, Phase1_write, StepKind, block_of_host, block_submitted, block_written, freed, is_at, kind_of_step, last_blocks, lease_calls, lease_step, own_or_read, same_kind, spot_of_call}
+use Rattle.sl_leases.specs.Leases.{Mode_cleared, Mode_set, Phase1_write, block_of_host, block_submitted, block_written, freed, last_blocks, lease_calls, lease_step, own_or_read, spot_of_call}
 use Rattle.sl_resource_history.proofs.Owning.{front_at}
 use Rattle.sl_resource_history.proofs.Standing.{Standing}
 use Rattle.sl_resource_history.specs.Sending.{Sent, block_of_course}
@@ -19,9 +19,9 @@ use Rattle.sl_trace.specs.declared.effects.LeaseStep.{LeaseStep}
 use Rattle.sl_trace.specs.declared.effects.Spot.{Spot}
 use Rattle.sl_trace.specs.declared.effects.Work.{Work}
 use Rattle.sl_words.proofs.CaseLaws.{none_some}
-use Rattle.sl_words.specs.Words.{present, some_is}
+use Rattle.sl_words.specs.Words.{present}
 use Rattle.std.proofs.Common.{ap, arith, inl, inr, refl, subst, sym, ◌∙◌}
-use Rattle.std.specs.Prelude.{List, None, Option, Some, cond, find, is_some, length, suc, true, [], ℕ, ◌+◌, ◌<◌, ◌∷◌, ◌≡◌, ◌≤◌}
+use Rattle.std.specs.Prelude.{List, None, Option, Some, cond, find, is_some, length, suc, [], ℕ, ◌+◌, ◌<◌, ◌∷◌, ◌≡◌, ◌≤◌}
 
 -- ---- at the front
 

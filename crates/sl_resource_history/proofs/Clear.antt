@@ -2,15 +2,14 @@
 use Rattle.sl_leases.specs.Ballots.{ballot_blocks, block_ahead, block_rival, known_block, stop_among, stop_of, torn_host, whole_blocks, with_own}
 use Rattle.sl_leases.specs.declared.lease.Stop.{Stop}
 use Rattle.sl_leases.specs.declared.lease.Stop.TheVariants.{BlockAhead, BlockRival, BlockTorn}
-use Rattle.sl_plain.proofs.Lists.{contains_cases, contains_first, contains_more, contains_none, find_fails}
+use Rattle.sl_plain.proofs.Lists.{contains_first, contains_more, find_fails}
 use Rattle.sl_sector.specs.declared.sector.Block.{Block}
-use Rattle.sl_session_law.proofs.Naming.{fails_at}
 use Rattle.sl_words.proofs.CaseLaws.{none_some, some_value}
-use Rattle.std.proofs.Common.{ap, arith, inl, inr, refl, subst, sym, ◌∙◌}
+use Rattle.std.proofs.Common.{ap, arith, refl, subst, sym, ◌∙◌}
 use Rattle.std.proofs.lemmas.Bool.{ltb-false}
 use Rattle.std.proofs.lemmas.Bool.Decides.{nat_tests}
 use Rattle.std.specs.List.{cons_option}
-use Rattle.std.specs.Prelude.{Bool, Contains, List, None, Option, Some, cond, false, find, nat_lt, option_map, slice_get, suc, true, zero, [], ℕ, ◌&&◌, ◌+◌, ◌==◌, ◌∷◌, ◌≡◌, ◌≤◌, ◌⊎◌}
+use Rattle.std.specs.Prelude.{Contains, List, None, Option, Some, false, nat_lt, option_map, slice_get, suc, zero, [], ℕ, ◌&&◌, ◌+◌, ◌==◌, ◌∷◌, ◌≡◌, ◌≤◌}
 
 -- A host's place among the blocks, whole.
 pub record IsWhole (ps : List (ℕ × Option Block)) (p : ℕ × Option Block) : Type 0 where

@@ -19,7 +19,7 @@ use Rattle.sl_run_law.proofs.Beginnings.{begins_new}
 use Rattle.sl_trace.specs.declared.effects.Effects.{Effects}
 use Rattle.sl_watchdog_law.proofs.Stamps.{stamp_there}
 use Rattle.sl_words.proofs.CaseLaws.{false_is_true}
-use Rattle.std.proofs.Common.{ap, arith, inl, inr, subst, sym, ◌∙◌}
+use Rattle.std.proofs.Common.{ap, inl, inr, subst, sym, ◌∙◌}
 use Rattle.std.specs.Prelude.{Contains, List, Some, [], true, ℕ, ◌<◌, ◌∷◌, ◌≡◌}
 
 abbrev IsClosed : Course → Type 0

@@ -2,7 +2,7 @@
 use Rattle.sl_course_law.proofs.Distinct.{mark_length}
 use Rattle.sl_law.specs.Lawful.{Lawful}
 use Rattle.sl_law.proofs.LawFacts.{lawful-front}
-use Rattle.sl_plain.proofs.Lists.{any_found, contains_cases, contains_first, contains_more, contains_none, in_map, kept_inside}
+use Rattle.sl_plain.proofs.Lists.{any_found, contains_cases, contains_none, in_map, kept_inside}
 use Rattle.sl_session_law.proofs.Making.{old_or_new, same_answered}
 use Rattle.sl_trace.specs.Traces.{Answered, Setting, Submitted, Trace, answer_of, answered_in, is_answer_for, is_expected, mark, new_call, outstanding, submitted}
 use Rattle.sl_trace.specs.declared.effects.Call.{Call}
@@ -10,13 +10,13 @@ use Rattle.sl_trace.specs.declared.effects.Entry.{Entry}
 use Rattle.sl_trace.specs.declared.input.Answer.{Answer}
 use Rattle.sl_trace.specs.declared.input.Input.TheVariants.{Answer as Told, Exit, Line, Spawned, Wake}
 use Rattle.sl_trace.specs.declared.input.Input.{Input}
-use Rattle.sl_words.proofs.CaseLaws.{false_is_true, no_value, some_value}
+use Rattle.sl_words.proofs.CaseLaws.{no_value, some_value}
 use Rattle.sl_words.proofs.WordLaws.{and_true}
 use Rattle.std.proofs.Common.{ap, arith, inl, inr, refl, subst, sym, ◌∙◌}
 use Rattle.std.proofs.lemmas.Bool.{eqb-true}
-use Rattle.std.specs.List.{list_any, range_with_len}
+use Rattle.std.specs.List.{range_with_len}
 use Rattle.std.specs.Option.{option_or}
-use Rattle.std.specs.Prelude.{Bool, Contains, List, None, Option, Some, false, fold, is_none, length, map, suc, true, [], ℕ, ◌&&◌, ◌+◌, ◌<◌, ◌==◌, ◌||◌, ◌∷◌, ◌≡◌, ◌⊎◌}
+use Rattle.std.specs.Prelude.{Bool, Contains, List, None, Option, Some, false, fold, is_none, length, map, suc, true, [], ℕ, ◌&&◌, ◌+◌, ◌<◌, ◌==◌, ◌∷◌, ◌≡◌, ◌⊎◌}
 
 -- ---- a number names one call
 

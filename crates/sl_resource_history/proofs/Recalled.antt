@@ -43,7 +43,6 @@ use Rattle.sl_words.proofs.CaseLaws.{false_is_true, no_value, none_some, one_val
 use Rattle.sl_words.proofs.WordLaws.{and_true, or_true}
 use Rattle.sl_words.specs.Words.{some_is}
 use Rattle.std.proofs.Common.{ap, arith, inl, inr, refl, subst, sym, ◌∙◌}
-use Rattle.std.proofs.lemmas.Bool.Decides.{nat_tests}
 use Rattle.std.proofs.lemmas.Bool.{and_from, eq-eqb, eqb-true, le-leb, leb-true, or_right}
 use Rattle.std.specs.Prelude.{Bool, Contains, List, None, Option, Some, false, is_some, length, nat_le, option_and_then, true, ℕ, ◌&&◌, ◌+◌, ◌<◌, ◌||◌, ◌≡◌, ◌≤◌, ◌⊎◌}
 

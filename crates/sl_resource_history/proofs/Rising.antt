@@ -16,9 +16,8 @@ use Rattle.sl_place_law.proofs.Areas.{sector_fits}
 use Rattle.sl_place_law.proofs.Finding.{same_read, same_text}
 use Rattle.sl_place_law.proofs.Reading.{digest_is, writes_record}
 use Rattle.sl_place_law.proofs.Seats.{sized_in}
-use Rattle.sl_resource_history.proofs.Above.{block_by, line_aligned, nothing_above, older_look, own_there}
-use Rattle.sl_resource_history.proofs.Calls.{block_at_step, found_at, owned}
-use Rattle.sl_resource_history.proofs.Doing.{made_since}
+use Rattle.sl_resource_history.proofs.Above.{block_by, line_aligned, older_look, own_there}
+use Rattle.sl_resource_history.proofs.Calls.{block_at_step, owned}
 use Rattle.sl_resource_history.proofs.Looking.{IsLook, looked}
 use Rattle.sl_resource_history.proofs.Owning.{spot_is}
 use Rattle.sl_resource_history.proofs.Recalled.{LookFound}
@@ -46,10 +45,10 @@ use Rattle.sl_trace.specs.declared.effects.Call.{Call}
 use Rattle.sl_trace.specs.declared.effects.Spot.{Spot}
 use Rattle.sl_words.proofs.CaseLaws.{true_is_false}
 use Rattle.sl_words.proofs.WordLaws.{and_true}
-use Rattle.std.proofs.Common.{ap, arith, inl, inr, refl, subst, sym, ◌∙◌}
+use Rattle.std.proofs.Common.{ap, inl, inr, refl, subst, sym, ◌∙◌}
 use Rattle.std.proofs.lemmas.Bool.{eq-eqb, leb-true}
 use Rattle.std.specs.Option.{option_map_or}
-use Rattle.std.specs.Prelude.{Contains, List, None, Ok, Option, Some, bytes_eq, if◌then◌else◌, is_ok, is_some, length, nat_le, option_and_then, slice_get, suc, true, zero, [], ℕ, ◌*◌, ◌+◌, ◌-◌, ◌<◌, ◌∷◌, ◌≡◌, ◌≤◌}
+use Rattle.std.specs.Prelude.{Contains, List, Ok, Option, Some, bytes_eq, if◌then◌else◌, is_ok, is_some, length, nat_le, option_and_then, slice_get, true, ℕ, ◌*◌, ◌+◌, ◌-◌, ◌<◌, ◌∷◌, ◌≡◌, ◌≤◌}
 
 -- ---- the history's blocks
 

@@ -5,7 +5,7 @@ use Rattle.sl_landing_law.proofs.Initial.{initial_is_record}
 use Rattle.sl_law.specs.LawfulArea.{IsAreaRead, IsBlockRead, IsLeaseRead, IsRightRead}
 use Rattle.sl_leases.specs.Leases.{block_of_record, is_area_read, is_on, is_phase_read}
 use Rattle.sl_place_law.proofs.Areas.{IsSized, is_within, sector_fits, sized}
-use Rattle.sl_place_law.proofs.Beginnings.{no_zeros, zeros_at}
+use Rattle.sl_place_law.proofs.Beginnings.{zeros_at}
 use Rattle.sl_place_law.proofs.Finding.{same_read}
 use Rattle.sl_place_law.proofs.Proven.{promised}
 use Rattle.sl_place_law.proofs.Reading.{IsShown, header_is, layout_is, reads_back}
@@ -23,7 +23,7 @@ use Rattle.sl_run.specs.declared.header.Header.{Header}
 use Rattle.sl_run.specs.declared.header.LockspaceLine.{LockspaceLine}
 use Rattle.sl_run.specs.declared.header.ResourceLine.{ResourceLine}
 use Rattle.sl_sector.proofs.PublicLaws.{spelled_is_read}
-use Rattle.sl_sector.specs.Spelling.{IsDigest, block_in, decoded, magic}
+use Rattle.sl_sector.specs.Spelling.{IsDigest, block_in}
 use Rattle.sl_sector.specs.declared.sector.Block.{Block}
 use Rattle.sl_sector.specs.declared.sector.Rec.TheVariants.{BlockIs, DeltaIs, LeaderIs, RequestIs, ValueIs}
 use Rattle.sl_sector.specs.declared.sector.Rec.{Rec}
@@ -42,7 +42,7 @@ use Rattle.sl_words.specs.Words.{choose}
 use Rattle.std.proofs.Common.{ap, arith, inl, inr, refl, subst, sym, ◌∙◌}
 use Rattle.std.proofs.lemmas.Bool.{and_from, eqb-true}
 use Rattle.std.proofs.lemmas.Slice.Eq.{bytes_eq-Decides}
-use Rattle.std.specs.Prelude.{Bool, Contains, List, None, Ok, Err, Option, Result, Some, bytes_eq, false, find, if◌then◌else◌, nat_lt, option_and_then, replicate, suc, true, zero, [], ℕ, ◌&&◌, ◌*◌, ◌+◌, ◌-◌, ◌/◌, ◌<◌, ◌==◌, ◌≡◌, ◌≤◌}
+use Rattle.std.specs.Prelude.{Bool, Contains, List, None, Ok, Err, Option, Result, Some, bytes_eq, false, find, if◌then◌else◌, nat_lt, option_and_then, replicate, true, [], ℕ, ◌&&◌, ◌*◌, ◌+◌, ◌-◌, ◌/◌, ◌<◌, ◌==◌, ◌≡◌, ◌≤◌}
 
 -- ---- what stood there at first
 

@@ -10,8 +10,8 @@ use Rattle.sl_leases.specs.Leases.{block_of_record, is_area_read, is_block_read,
 use Rattle.sl_place_law.proofs.Areas.{IsSized, is_within}
 use Rattle.sl_place_law.proofs.Checks.{behind, placed_in_world, same_block}
 use Rattle.sl_place_law.proofs.Finding.{numbered_inside, place_is, same_text}
-use Rattle.sl_place_law.proofs.Proven.{promised, resources_hold_leases}
-use Rattle.sl_place_law.proofs.Reading.{call_law, session_inside}
+use Rattle.sl_place_law.proofs.Proven.{resources_hold_leases}
+use Rattle.sl_place_law.proofs.Reading.{call_law}
 use Rattle.sl_place_law.proofs.Seats.{sized_in}
 use Rattle.sl_place_law.specs.Homes.{IsLeaseLanding}
 use Rattle.sl_plain.proofs.Lists.{contains_cases, contains_none, kept_inside}

@@ -8,7 +8,7 @@ use Rattle.sl_moment_law.specs.Orders.{CallsFall, IsTimed}
 use Rattle.sl_place_law.proofs.Proven.{promised}
 use Rattle.sl_place_law.proofs.Reading.{IsTraced, owner_of, traced}
 use Rattle.sl_plain.proofs.Lists.{contains_cases, contains_first, contains_map, contains_more, contains_none, find_inside, in_map as mapped, kept}
-use Rattle.sl_plain.proofs.Numbers.{lt_then_le, next_is_most}
+use Rattle.sl_plain.proofs.Numbers.{next_is_most}
 use Rattle.sl_plain.proofs.Options.{else_some}
 use Rattle.sl_resource_history.proofs.Latest.{calls_below, place_above, sent_as}
 use Rattle.sl_resource_history.specs.Sending.{Sent, all_sent}
@@ -19,11 +19,11 @@ use Rattle.sl_run.specs.declared.header.Header.{Header}
 use Rattle.sl_run_law.proofs.Walking.{index}
 use Rattle.sl_sessions.specs.Sessions.{Session, session_numbered}
 use Rattle.sl_trace.specs.Traces.{submitted}
-use Rattle.sl_words.proofs.CaseLaws.{none_some, some_value, true_is_false}
+use Rattle.sl_words.proofs.CaseLaws.{none_some, some_value}
 use Rattle.std.proofs.Common.{ap, arith, inl, inr, refl, subst, sym, tests, ◌∙◌}
 use Rattle.std.proofs.lemmas.Bool.{eq-eqb, eqb-true}
 use Rattle.std.specs.List.{enumerate_from}
-use Rattle.std.specs.Prelude.{Bool, Contains, List, None, Option, Some, cond, false, filter, if◌then◌else◌, map, slice_get, suc, true, zero, [], ℕ, ◌++◌, ◌+◌, ◌-◌, ◌<◌, ◌==◌, ◌∷◌, ◌≡◌, ◌≤◌}
+use Rattle.std.specs.Prelude.{Bool, Contains, List, Some, cond, false, filter, map, slice_get, suc, true, zero, [], ℕ, ◌++◌, ◌+◌, ◌-◌, ◌<◌, ◌==◌, ◌∷◌, ◌≡◌}
 
 -- ---- which machine
 

@@ -5,9 +5,9 @@ use Rattle.sl_front_law.proofs.Having.{contains_left, in_flat}
 use Rattle.sl_landing_law.proofs.Making.{run_made_before}
 use Rattle.sl_landing_law.proofs.Passing.{first_later, world_first, world_keeps, world_then}
 use Rattle.sl_landing_law.proofs.Stepping.{came}
-use Rattle.sl_moment_law.proofs.Ordering.{fall_front, fall_more, fall_rest, fall_step, machines_ordered}
-use Rattle.sl_moment_law.specs.Orders.{CallsFall, Fall, IsTimed, life_of}
-use Rattle.sl_plain.proofs.Lists.{contains_cases, contains_first, contains_more, contains_none}
+use Rattle.sl_moment_law.proofs.Ordering.{fall_rest, fall_step, machines_ordered}
+use Rattle.sl_moment_law.specs.Orders.{Fall, IsTimed, life_of}
+use Rattle.sl_plain.proofs.Lists.{contains_cases, contains_none}
 use Rattle.sl_resource_history.proofs.Owning.{timed_in}
 use Rattle.sl_run.specs.Events.{may_happen}
 use Rattle.sl_run.specs.Events.{machine_of}
@@ -21,7 +21,7 @@ use Rattle.sl_trace.specs.declared.effects.Effects.{Effects}
 use Rattle.sl_watchdog_law.proofs.Stamps.{stamp_there}
 use Rattle.sl_words.proofs.CaseLaws.{none_some, some_value}
 use Rattle.std.proofs.Common.{ap, arith, inl, inr, refl, subst, sym, tests, ◌∙◌}
-use Rattle.std.specs.Prelude.{Bool, Contains, List, Option, Some, [], false, flat_map, length, true, ℕ, ◌++◌, ◌+◌, ◌<◌, ◌==◌, ◌∷◌, ◌≡◌, ◌≤◌, ◌⊎◌}
+use Rattle.std.specs.Prelude.{Bool, Contains, List, Option, Some, [], false, flat_map, length, true, ℕ, ◌++◌, ◌<◌, ◌==◌, ◌∷◌, ◌≡◌, ◌⊎◌}
 
 -- ---- machines
 
