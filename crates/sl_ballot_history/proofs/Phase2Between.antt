@@ -21,7 +21,7 @@ use Rattle.sl_run.specs.declared.header.Header.{Header}
 use Rattle.sl_run.specs.declared.header.ResourceLine.{ResourceLine}
 use Rattle.sl_trace.specs.Traces.{Submitted, is_ok_answer}
 use Rattle.sl_trace.specs.declared.effects.Spot.{Spot}
-use Rattle.std.proofs.Common.{ap, arith, subst, sym, ◌∙◌}
+use Rattle.std.proofs.Common.{ap, subst, sym, ◌∙◌}
 use Rattle.std.specs.Prelude.{Bool, Contains, List, None, Option, Some, false, option_and_then, option_map, true, ℕ, ◌<◌, ◌≡◌, ◌≤◌}
 
 -- ---- answered ok

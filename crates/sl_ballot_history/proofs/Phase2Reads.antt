@@ -36,13 +36,12 @@ use Rattle.sl_sector.specs.declared.sector.Rec.TheVariants.{BlockIs}
 use Rattle.sl_trace.specs.Traces.{Answered, Submitted, gave, is_ok_answer, new_call, record_of}
 use Rattle.sl_trace.specs.declared.effects.Call.{Call}
 use Rattle.sl_words.proofs.CaseLaws.{false_is_true, none_some, some_value, true_is_false}
-use Rattle.sl_words.proofs.WordLaws.{and_true}
 use Rattle.sl_words.specs.Words.{choose}
 use Rattle.std.proofs.Common.{ap, arith, inl, inr, refl, subst, sym, ◌∙◌}
-use Rattle.std.proofs.lemmas.Bool.{eq-eqb, leb-true}
+use Rattle.std.proofs.lemmas.Bool.{eq-eqb}
 use Rattle.std.proofs.lemmas.List.{drop-drop}
 use Rattle.std.specs.List.{range_with_len}
-use Rattle.std.specs.Prelude.{Bool, Contains, List, None, Ok, Option, Some, drop, false, if◌then◌else◌, map, nat_le, option_and_then, slice_get, suc, take, true, zero, ℕ, ◌*◌, ◌+◌, ◌-◌, ◌<◌, ◌==◌, ◌≡◌, ◌≤◌}
+use Rattle.std.specs.Prelude.{Bool, Contains, List, None, Ok, Option, Some, drop, false, if◌then◌else◌, map, option_and_then, slice_get, suc, take, true, zero, ℕ, ◌*◌, ◌+◌, ◌-◌, ◌<◌, ◌==◌, ◌≡◌, ◌≤◌}
 
 -- ---- in the trace
 

@@ -25,10 +25,10 @@ use Rattle.sl_trace.specs.declared.effects.Spot.{Spot}
 use Rattle.sl_words.proofs.CaseLaws.{none_some, some_value}
 use Rattle.sl_words.proofs.WordLaws.{some_is_true}
 use Rattle.sl_words.specs.Words.{some_is}
-use Rattle.std.proofs.Common.{ap, arith, refl, subst, sym, ◌∙◌}
+use Rattle.std.proofs.Common.{ap, refl, subst, sym, ◌∙◌}
 use Rattle.std.proofs.lemmas.Bool.{and_from, eq-eqb, eqb-true}
 use Rattle.std.specs.Option.{option_map_or}
-use Rattle.std.specs.Prelude.{Bool, Contains, List, None, Option, Some, false, if◌then◌else◌, is_some, slice_get, true, unwrap_or, ℕ, ◌+◌, ◌-◌, ◌==◌, ◌≡◌, ◌≤◌}
+use Rattle.std.specs.Prelude.{Bool, Contains, List, None, Option, Some, false, if◌then◌else◌, is_some, slice_get, true, unwrap_or, ℕ, ◌-◌, ◌==◌, ◌≡◌, ◌≤◌}
 
 -- A read of a session with the blocks that it gave, and the block that the session wrote last before.
 pub record OwnRead (w : World) (r : ResourceLine) (z : Sent) (own : Block) (bs : List (Option Block)) : Type 0 where

@@ -19,10 +19,9 @@ use Rattle.sl_session_law.proofs.Owning.{owned}
 use Rattle.sl_session_law.specs.Promises.{IsSession}
 use Rattle.sl_sessions.specs.Sessions.{Session, generation_of, is_active, joined_after, leaving_job, me, recovery_of, removed_after, session_numbered}
 use Rattle.sl_trace.specs.Traces.{Setting, Trace}
-use Rattle.sl_words.proofs.CaseLaws.{false_is_true}
 use Rattle.sl_words.proofs.WordLaws.{and_true}
-use Rattle.std.proofs.Common.{ap, refl, subst, sym, ◌∙◌}
-use Rattle.std.specs.Prelude.{None, Option, Some, is_none, is_some, length, true, ℕ, ◌&&◌, ◌∷◌, ◌≡◌}
+use Rattle.std.proofs.Common.{ap, subst, sym, ◌∙◌}
+use Rattle.std.specs.Prelude.{Some, is_none, is_some, length, true, ℕ, ◌&&◌, ◌∷◌, ◌≡◌}
 
 -- ---- joined at the front
 

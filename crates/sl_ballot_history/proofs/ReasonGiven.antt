@@ -5,14 +5,14 @@ use Rattle.sl_ballot_history.specs.Endings.{EndedBallotsEnd}
 use Rattle.sl_ballot_history.specs.Reasons.{InstancesHaveReasons}
 use Rattle.sl_ballots.specs.Ballots.{BeginReason}
 use Rattle.sl_ballots.specs.History.{History}
-use Rattle.sl_law.specs.LawfulBlock.{LawfulBlockStep, LawfulPhase1}
-use Rattle.sl_leases.specs.Leases.{Phase1_write, freed, is_at, kind_of_step, lease_calls, lease_step, same_kind, spot_of_call}
+use Rattle.sl_law.specs.LawfulBlock.{LawfulPhase1}
+use Rattle.sl_leases.specs.Leases.{Phase1_write, freed, is_at, lease_calls, lease_step, spot_of_call}
 use Rattle.sl_plain.proofs.Numbers.{above_zero}
 use Rattle.sl_resource_history.proofs.Above.{block_by, line_aligned, told_spot}
 use Rattle.sl_resource_history.proofs.Calls.{found_at, worker_joined}
 use Rattle.sl_resource_history.proofs.Calls.{block_works as block_is_work}
 use Rattle.sl_resource_history.proofs.Founding.{writer_is}
-use Rattle.sl_resource_history.proofs.Opening.{kind_here, one_step, one_write}
+use Rattle.sl_resource_history.proofs.Opening.{one_write}
 use Rattle.sl_resource_history.proofs.Owning.{block_is_lease, block_works, front_at, lease_is_work, written}
 use Rattle.sl_resource_history.proofs.Standing.{Standing, standing}
 use Rattle.sl_resource_history.specs.Histories.{history_block}
@@ -20,17 +20,9 @@ use Rattle.sl_resource_history.specs.Promises.{history_of_line, spot_of_line}
 use Rattle.sl_resource_history.specs.Sending.{holder_of, sender_of, sent_at, step_of, writes_block}
 use Rattle.sl_run.specs.Safety.{world_at}
 use Rattle.sl_run.specs.Worlds.{World}
-use Rattle.sl_sector.specs.declared.sector.Block.{Block}
-use Rattle.sl_sessions.specs.Sessions.{Session}
-use Rattle.sl_trace.specs.Traces.{Setting, Submitted, Trace, new_call}
-use Rattle.sl_trace.specs.declared.effects.LeaseStep.TheVariants.{ClearMode, FreeLeader, Phase1Read, Phase1Write, Phase2Read, Phase2Write, ReadArea, ReadBeforeFree, SetMode, TakeLeader}
-use Rattle.sl_trace.specs.declared.effects.LeaseStep.{LeaseStep}
-use Rattle.sl_trace.specs.declared.effects.Spot.{Spot}
-use Rattle.sl_trace.specs.declared.effects.Work.{Work}
-use Rattle.sl_words.proofs.CaseLaws.{false_is_true}
-use Rattle.sl_words.specs.Words.{some_is}
-use Rattle.std.proofs.Common.{ap, arith, refl, subst, sym, ◌∙◌}
-use Rattle.std.specs.Prelude.{None, Option, Some, length, true, ℕ, ◌<◌, ◌≡◌}
+use Rattle.sl_trace.specs.Traces.{Setting, Submitted, new_call}
+use Rattle.std.proofs.Common.{ap, refl, subst, sym, ◌∙◌}
+use Rattle.std.specs.Prelude.{length, true, ◌≡◌}
 
 -- ---- the law of phase 1
 

@@ -5,7 +5,7 @@ use Rattle.sl_landing_law.proofs.Initial.{initial_is_record}
 use Rattle.sl_law.specs.LawfulArea.{IsAreaRead}
 use Rattle.sl_leases.specs.Leases.{is_area_read, is_on, leader_of_record, spot_of_call}
 use Rattle.sl_place_law.proofs.Areas.{is_within, sector_fits, sized}
-use Rattle.sl_place_law.proofs.Beginnings.{no_zeros, zeros_at}
+use Rattle.sl_place_law.proofs.Beginnings.{zeros_at}
 use Rattle.sl_place_law.proofs.Finding.{same_read}
 use Rattle.sl_place_law.proofs.Leased.{and_two, leader_in_is}
 use Rattle.sl_place_law.proofs.Proven.{promised}
@@ -25,10 +25,9 @@ use Rattle.sl_run.specs.declared.header.Header.{Header}
 use Rattle.sl_run.specs.declared.header.LockspaceLine.{LockspaceLine}
 use Rattle.sl_run.specs.declared.header.ResourceLine.{ResourceLine}
 use Rattle.sl_sector.proofs.PublicLaws.{spelled_is_read}
-use Rattle.sl_sector.specs.Spelling.{IsDigest, decoded, leader_in, magic}
-use Rattle.sl_sector.specs.declared.sector.Bad.{Bad}
+use Rattle.sl_sector.specs.Spelling.{IsDigest, leader_in}
 use Rattle.sl_sector.specs.declared.sector.Leader.{Leader}
-use Rattle.sl_sector.specs.declared.sector.Rec.TheVariants.{BlockIs, DeltaIs, LeaderIs, RequestIs, ValueIs}
+use Rattle.sl_sector.specs.declared.sector.Rec.TheVariants.{BlockIs, LeaderIs, RequestIs, ValueIs}
 use Rattle.sl_sector.specs.declared.sector.Rec.{Rec}
 use Rattle.sl_trace.specs.Traces.{Submitted, gave, record_of}
 use Rattle.sl_trace.specs.declared.effects.Op.TheVariants.{ReadSectors}
@@ -39,7 +38,7 @@ use Rattle.sl_words.specs.Words.{choose}
 use Rattle.std.proofs.Common.{ap, arith, inl, inr, refl, subst, sym, ◌∙◌}
 use Rattle.std.proofs.lemmas.Bool.{and_from}
 use Rattle.std.proofs.lemmas.Slice.Eq.{bytes_eq-Decides}
-use Rattle.std.specs.Prelude.{Bool, Contains, Err, List, None, Ok, Option, Result, Some, bytes_eq, false, find, if◌then◌else◌, nat_lt, option_and_then, replicate, suc, true, zero, ℕ, ◌&&◌, ◌*◌, ◌+◌, ◌-◌, ◌/◌, ◌<◌, ◌==◌, ◌≡◌, ◌≤◌}
+use Rattle.std.specs.Prelude.{Bool, Contains, List, None, Ok, Option, Some, bytes_eq, false, find, if◌then◌else◌, nat_lt, option_and_then, replicate, true, ℕ, ◌&&◌, ◌*◌, ◌+◌, ◌-◌, ◌/◌, ◌<◌, ◌==◌, ◌≡◌}
 
 -- ---- what stood there at first
 

@@ -20,8 +20,6 @@ use Rattle.sl_trace.specs.declared.effects.Call.{Call}
 use Rattle.sl_trace.specs.declared.effects.Entry.{Entry}
 use Rattle.sl_trace.specs.declared.effects.JoinStep.TheVariants.{ClaimWrite, DecidingRead, FirstRead, FirstRenewal, VerifyRead, WatchRead}
 use Rattle.sl_trace.specs.declared.effects.JoinStep.{JoinStep}
-use Rattle.sl_trace.specs.declared.effects.Op.TheVariants.{ReadSectors}
-use Rattle.sl_trace.specs.declared.effects.Op.{Op}
 use Rattle.sl_trace.specs.declared.effects.Purpose.TheVariants.{Joining, Lease, Leaving, Renewal, RequestRead, RequestWrite, SeeRequest, Survey, ValueRead, ValueWrite}
 use Rattle.sl_trace.specs.declared.effects.Purpose.{Purpose}
 use Rattle.sl_trace.specs.declared.input.Answer.{Answer}

@@ -1,12 +1,10 @@
 -- The own block of a session, where it writes one: it wrote it before, or a read gave it; so it was submitted before, or is fresh.
-use Rattle.sl_area.specs.Layouts.{Layout}
 use Rattle.sl_law.specs.LawfulArea.{is_area_work}
 use Rattle.sl_lease_law.proofs.AgeLaws.{aged_block, aged_lease, found_stays}
-use Rattle.sl_lease_law.proofs.ComingLaws.{found_here, found_later, found_read, none_there}
+use Rattle.sl_lease_law.proofs.ComingLaws.{found_read}
 use Rattle.sl_lease_law.specs.Fronts.{AllAged}
-use Rattle.sl_lease_law.specs.Ways.{FoundIn, lease_among}
-use Rattle.sl_leases.specs.Leases.{block_of_host, block_submitted, blocks_given, is_on, last_blocks, lease_calls, own_block, own_or_read, spot_of_call}
-use Rattle.sl_plain.proofs.Lists.{contains_first, contains_more}
+use Rattle.sl_lease_law.specs.Ways.{lease_among}
+use Rattle.sl_leases.specs.Leases.{block_submitted, is_on, last_blocks, lease_calls, own_block, own_or_read, spot_of_call}
 use Rattle.sl_resource_history.proofs.Above.{found_seen}
 use Rattle.sl_resource_history.proofs.Owning.{own_written, works}
 use Rattle.sl_resource_history.proofs.Showing.{Once, Seen}
@@ -17,11 +15,10 @@ use Rattle.sl_run.specs.Safety.{LawfulRun, world_at}
 use Rattle.sl_run.specs.Worlds.{Program}
 use Rattle.sl_run.specs.declared.header.Header.{Header}
 use Rattle.sl_sector.specs.declared.sector.Block.{Block}
-use Rattle.sl_trace.specs.Traces.{Setting, Submitted, Trace, submitted}
+use Rattle.sl_trace.specs.Traces.{Setting, Trace, submitted}
 use Rattle.sl_trace.specs.declared.effects.Spot.{Spot}
-use Rattle.sl_words.proofs.CaseLaws.{none_some}
 use Rattle.std.proofs.Common.{refl, sym, ◌∙◌}
-use Rattle.std.specs.Prelude.{Contains, List, None, Option, Some, [], slice_get, true, unwrap_or, ℕ, ◌%◌, ◌-◌, ◌∷◌, ◌≡◌}
+use Rattle.std.specs.Prelude.{Contains, List, None, Option, Some, true, ℕ, ◌%◌, ◌≡◌}
 
 -- ---- a block that was last read
 

@@ -15,7 +15,7 @@ use Rattle.sl_plain.proofs.Numbers.{lt_then_le}
 use Rattle.sl_resource_history.proofs.Above.{IsAmong, answer_step, answered_before, is_among, older_look, reads_work, seen_by}
 use Rattle.sl_resource_history.proofs.Looking.{look_seen, looked}
 use Rattle.sl_resource_history.proofs.Owning.{layout_at, spot_is, works}
-use Rattle.sl_resource_history.proofs.Showing.{Never, Once, Seen}
+use Rattle.sl_resource_history.proofs.Showing.{Seen}
 use Rattle.sl_resource_history.proofs.Standing.{Standing}
 use Rattle.sl_resource_history.specs.Sending.{Sent, step_of}
 use Rattle.sl_run.specs.Runs.{Happening}
@@ -27,8 +27,8 @@ use Rattle.sl_sector.specs.declared.sector.Leader.{Leader}
 use Rattle.sl_trace.specs.Traces.{Answered, Setting, Submitted, Trace, bytes_given, gave, new_call, submitted}
 use Rattle.sl_trace.specs.declared.effects.Spot.{Spot}
 use Rattle.sl_words.specs.Words.{present}
-use Rattle.std.proofs.Common.{ap, arith, subst, sym, ◌∙◌}
-use Rattle.std.specs.Prelude.{Contains, List, None, Option, Some, false, option_and_then, slice_get, true, ℕ, ◌%◌, ◌<◌, ◌≡◌, ◌≤◌}
+use Rattle.std.proofs.Common.{ap, subst, sym, ◌∙◌}
+use Rattle.std.specs.Prelude.{Contains, List, None, Option, Some, false, option_and_then, slice_get, true, ℕ, ◌%◌, ◌≡◌, ◌≤◌}
 
 -- ---- what was seen once
 
