@@ -3,7 +3,7 @@ use Rattle.sl_course_law.proofs.Daemons.{every_has}
 use Rattle.sl_course_law.proofs.Mirrored.{machines_mirror}
 use Rattle.sl_course_law.proofs.Pairing.{pairs_length}
 use Rattle.sl_course_law.proofs.Stamped.{entries_are_stamped}
-use Rattle.sl_course_law.specs.Stamping.{IsCourseOf, Pairwise, stamp_in}
+use Rattle.sl_course_law.specs.Stamping.{IsCourseOf, stamp_in}
 use Rattle.sl_id_state.proofs.Bounding.{never_joined}
 use Rattle.sl_id_state.proofs.Bridge.{IsKnown, join_pairs, known}
 use Rattle.sl_id_state.proofs.Claiming.{record_is}
@@ -23,7 +23,6 @@ use Rattle.sl_id_state.proofs.Timing.{refused_by, stamp_below}
 use Rattle.sl_id_state.specs.IdStates.{comes_before, own_courses, refused_stamp, runs_still, verifying_sample}
 use Rattle.sl_law.specs.Lawful.{Lawful}
 use Rattle.sl_law.specs.LawfulDelta.{LawfulDeltaCall, LawfulJoin}
-use Rattle.sl_moment_law.specs.Orders.{Fall}
 use Rattle.sl_plain.proofs.Lists.{got_inside, kept_inside}
 use Rattle.sl_run.specs.Runs.{Happening}
 use Rattle.sl_run.specs.Safety.{Found, LawfulRun, SessionId, free_landed, has_write_in_flight, is_course_of, is_over, session_of_world, trace_of, was_reset, world_at}
@@ -41,13 +40,13 @@ use Rattle.sl_trace.specs.declared.effects.JoinStep.TheVariants.{ClaimWrite, Fir
 use Rattle.sl_trace.specs.declared.effects.JoinStep.{JoinStep}
 use Rattle.sl_trace.specs.declared.effects.Purpose.TheVariants.{Joining, Leaving}
 use Rattle.sl_trace.specs.declared.effects.Purpose.{Purpose}
-use Rattle.sl_words.proofs.CaseLaws.{false_is_true, none_some, not_both, one_value, some_value, true_is_false}
+use Rattle.sl_words.proofs.CaseLaws.{false_is_true, none_some, not_both, one_value, true_is_false}
 use Rattle.sl_words.proofs.WordLaws.{and_true}
 use Rattle.sl_words.specs.Words.{is_empty, some_is}
-use Rattle.std.proofs.Common.{ap, arith, inl, inr, refl, subst, sym, tests, ◌∙◌}
+use Rattle.std.proofs.Common.{ap, arith, inl, inr, refl, sym, tests, ◌∙◌}
 use Rattle.std.proofs.lemmas.Bool.{eq-eqb, eqb-true}
 use Rattle.std.specs.List.{list_any}
-use Rattle.std.specs.Prelude.{Bool, Contains, List, None, Option, Some, cond, false, find, is_none, is_some, length, nat_lt, not, option_and_then, suc, true, [], ℕ, ◌&&◌, ◌+◌, ◌-◌, ◌<◌, ◌==◌, ◌||◌, ◌∷◌, ◌≡◌, ◌≤◌}
+use Rattle.std.specs.Prelude.{Bool, Contains, List, None, Option, Some, cond, false, find, is_none, is_some, length, nat_lt, not, option_and_then, true, [], ℕ, ◌&&◌, ◌+◌, ◌-◌, ◌<◌, ◌==◌, ◌||◌, ◌∷◌, ◌≡◌, ◌≤◌}
 
 -- ---- it isn't refused
 

@@ -5,8 +5,8 @@ use Rattle.sl_front_law.proofs.Having.{contains_flat, in_flat, placed_at}
 use Rattle.sl_id_state.specs.IdStates.{id_state, session_at}
 use Rattle.sl_id_state.specs.Promises.{IdsAreBounded}
 use Rattle.sl_id_steps.proofs.CallEvents.{NoneHolds, do_landed_between, do_read_between, do_write_between, land_between, on_flying, on_one, passes, sample_between, with_call}
-use Rattle.sl_id_steps.proofs.Quiet.{LeavesRest, leaves_by, own_keeps, own_still, still}
-use Rattle.sl_id_steps.proofs.Still.{IsStill, StaysStill, still_session}
+use Rattle.sl_id_steps.proofs.Quiet.{LeavesRest, leaves_by, own_still}
+use Rattle.sl_id_steps.proofs.Still.{StaysStill, still_session}
 use Rattle.sl_id_steps.specs.Parts.{BetweenIsBounded, between, state_between}
 use Rattle.sl_ids.specs.Guards.{terms_of}
 use Rattle.sl_ids.specs.Runs.{IsBounded}
@@ -14,7 +14,7 @@ use Rattle.sl_ids.specs.Terms.{Terms}
 use Rattle.sl_landing_law.proofs.Running.{own_by as no_calls_by}
 use Rattle.sl_law.specs.Lawful.{Lawful}
 use Rattle.sl_plain.proofs.Lists.{got_inside}
-use Rattle.sl_run.specs.Events.{add_landing, after_effects, change_call, event_tests, fated, first_change, flight_at, happens, input_of, is_placed, is_read_course, is_shaped, machine_of, on_flight, on_machine, may_happen, next_input, next_step, own_effects, sampled_more, sectors_left, take_step, write_bytes}
+use Rattle.sl_run.specs.Events.{add_landing, after_effects, change_call, event_tests, fated, first_change, flight_at, happens, input_of, is_placed, is_read_course, is_shaped, machine_of, on_flight, on_machine, may_happen, next_input, next_step, sampled_more, sectors_left, take_step, write_bytes}
 use Rattle.sl_run.specs.Runs.{EachDaemon, Happening, HasSteps, IsRun, daemons_of, own_effects_of, world_after}
 use Rattle.sl_run.specs.Safety.{LawfulRun, world_at}
 use Rattle.sl_run.specs.Worlds.{Course, Daemon, Landed, Machine, Program, World, change_machine, daemons_on, first_that, flight_of, is_in_flight, is_of_running, is_torn_fate, is_write_course, machine_at, stamp_now, world_with}
@@ -25,13 +25,9 @@ use Rattle.sl_run.specs.declared.event.Refusal.{Refusal}
 use Rattle.sl_run.specs.declared.header.Header.{Header}
 use Rattle.sl_run_law.proofs.Walking.{each_changed, each_further, each_step, index}
 use Rattle.sl_run_law.specs.Machines.{EachMachine}
-use Rattle.sl_trace.specs.Traces.{no_effects}
-use Rattle.sl_trace.specs.declared.effects.Effects.{Effects}
 use Rattle.sl_trace.specs.declared.input.Input.{Input}
-use Rattle.sl_watchdog_law.proofs.Watching.{own_by}
 use Rattle.sl_words.proofs.CaseLaws.{none_some, one_value, some_value, true_is_false}
-use Rattle.std.proofs.Common.{ap, arith, inl, refl, subst, sym, tests, ◌∙◌}
-use Rattle.std.specs.Option.{option_map_or}
+use Rattle.std.proofs.Common.{ap, arith, refl, subst, sym, tests, ◌∙◌}
 use Rattle.std.specs.Prelude.{Bool, Contains, IsSome, List, None, Option, Some, [], false, is_none, length, map, nat_lt, not, option_and_then, slice_get, slice_set, suc, take, true, zero, ℕ, ◌++◌, ◌+◌, ◌-◌, ◌<◌, ◌==◌, ◌∷◌, ◌≡◌, ◌≤◌}
 
 -- ---- where nothing but the step passes

@@ -24,10 +24,8 @@ use Rattle.sl_run.specs.Runs.{Happening}
 use Rattle.sl_run.specs.Safety.{LawfulRun, world_at}
 use Rattle.sl_run.specs.Worlds.{Program, World, daemon_numbered}
 use Rattle.sl_run.specs.declared.header.Header.{Header}
-use Rattle.sl_trace.specs.declared.input.Input.{Input}
-use Rattle.sl_words.proofs.CaseLaws.{true_is_false}
-use Rattle.std.proofs.Common.{ap, arith, refl, sym, tests, ◌∙◌}
-use Rattle.std.specs.Prelude.{IsSome, List, None, Option, Some, false, true, [], ℕ, ◌++◌, ◌==◌, ◌∷◌, ◌≡◌}
+use Rattle.std.proofs.Common.{ap, arith, sym, tests, ◌∙◌}
+use Rattle.std.specs.Prelude.{List, false, true, [], ℕ, ◌++◌, ◌==◌, ◌∷◌, ◌≡◌}
 
 -- What an entry is to a session of the daemon that takes it.
 pub record EntryActs (w : State) (s t : IdSession) : Type 0 where

@@ -8,21 +8,20 @@ use Rattle.sl_id_state.specs.IdStates.{writer_of}
 use Rattle.sl_id_steps.proofs.Quiet.{IsOrderly, LeavesRest, begins, leaves_by, orderly}
 use Rattle.sl_id_steps.proofs.Still.{IsStill, given_first, given_stays, with_running}
 use Rattle.sl_id_steps.specs.Parts.{between}
-use Rattle.sl_landing_law.proofs.Arriving.{changed_landings, flies_on, flight_by}
+use Rattle.sl_landing_law.proofs.Arriving.{changed_landings, flies_on}
 use Rattle.sl_landing_law.specs.Landings.{LandingsAreWritten}
 use Rattle.sl_plain.proofs.Lists.{contains_cases}
 use Rattle.sl_plain.proofs.Numbers.{number_itself}
 use Rattle.sl_run.specs.Events.{add_landing, after_crash, after_effects, after_reset, after_restart, after_start, after_step, after_test, change_call, fated, first_change, flight_at, input_of, land_whole, machine_of, may_happen, sampled_more, sectors_left, take_step, torn_bytes, with_entry, write_bytes}
 use Rattle.sl_run.specs.Runs.{Happening}
 use Rattle.sl_run.specs.Safety.{LawfulRun, world_at}
-use Rattle.sl_run.specs.Worlds.{Course, Daemon, Dropped, Landed, Landing, Machine, Program, Stamp, Torn, World, change_machine, flight_of, history_of, is_in_flight, is_open, is_write_course, machine_at, reading_now, stamp_now}
+use Rattle.sl_run.specs.Worlds.{Course, Daemon, Dropped, Landed, Landing, Machine, Program, Stamp, Torn, World, change_machine, history_of, is_in_flight, is_open, is_write_course, machine_at, reading_now, stamp_now}
 use Rattle.sl_run.specs.declared.event.Event.TheVariants.{AnswerCall, Crash, Do, DropWrite, ExitOf, GiveCommand, Land, Pass, Reset, Restart, Sample, SpawnedOf, StartDaemon, Tear, Test, WakeUp}
 use Rattle.sl_run.specs.declared.event.Event.{Event}
 use Rattle.sl_run.specs.declared.header.Header.{Header}
-use Rattle.sl_run_law.proofs.Coursing.{continues_further, continues_still, every_of, none_appended}
 use Rattle.sl_run_law.proofs.Going.{event_goes}
 use Rattle.sl_run_law.proofs.Guards.{starts}
-use Rattle.sl_run_law.proofs.Tracking.{event_tracks, step_tracks, still, told, told_continues, tracks_effects, tracks_step, tracks_still}
+use Rattle.sl_run_law.proofs.Tracking.{event_tracks, step_tracks}
 use Rattle.sl_run_law.proofs.Walking.{Asked, each_first, each_step}
 use Rattle.sl_run_law.specs.Courses.{Continues, Follow, ListGoes, Tracks}
 use Rattle.sl_run_law.specs.Fates.{AreDistinct, EachDistinct, Every}
@@ -32,10 +31,9 @@ use Rattle.sl_trace.specs.declared.effects.Effects.{Effects}
 use Rattle.sl_trace.specs.declared.effects.Entry.{Entry}
 use Rattle.sl_trace.specs.declared.input.Input.TheVariants.{Answer as Told, Exit, Line, Spawned, Wake}
 use Rattle.sl_trace.specs.declared.input.Input.{Input}
-use Rattle.sl_words.proofs.CaseLaws.{none_some}
-use Rattle.std.proofs.Common.{ap, arith, inl, inr, refl, subst, sym, tests, ◌∙◌}
+use Rattle.std.proofs.Common.{ap, inl, inr, refl, subst, sym, ◌∙◌}
 use Rattle.std.specs.Option.{option_map_or}
-use Rattle.std.specs.Prelude.{Bool, Contains, List, None, Option, Some, cond, false, find, length, option_and_then, option_map, true, [], ℕ, ◌&&◌, ◌++◌, ◌==◌, ◌∷◌, ◌≡◌, ◌⊎◌}
+use Rattle.std.specs.Prelude.{Bool, Contains, List, None, Option, Some, cond, false, find, length, option_map, true, [], ℕ, ◌&&◌, ◌++◌, ◌==◌, ◌∷◌, ◌≡◌, ◌⊎◌}
 
 -- ---- what first daemons were given
 

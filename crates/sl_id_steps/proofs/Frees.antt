@@ -12,7 +12,7 @@ use Rattle.sl_law.specs.Lawful.{Lawful}
 use Rattle.sl_law.specs.LawfulDelta.{LawfulDeltaCall}
 use Rattle.sl_law.specs.Saying.{cut_at}
 use Rattle.sl_place_law.proofs.Finding.{partner_of}
-use Rattle.sl_plain.proofs.Lists.{any_found, contains_cases, contains_none, find_fails, find_inside, in_map, kept_inside}
+use Rattle.sl_plain.proofs.Lists.{any_found, find_fails, find_inside, in_map, kept_inside}
 use Rattle.sl_run.specs.Runs.{Happening}
 use Rattle.sl_run.specs.Safety.{Found, SessionId, free_landed, is_course_of, setting_in, trace_of}
 use Rattle.sl_run.specs.Worlds.{Course, Program, Stamp, World, is_landed}
@@ -36,12 +36,12 @@ use Rattle.sl_trace.specs.declared.input.Answer.{Answer}
 use Rattle.sl_trace.specs.declared.input.Input.TheVariants.{Answer as Told, Exit, Line, Spawned, Wake}
 use Rattle.sl_trace.specs.declared.input.Input.{Input}
 use Rattle.sl_watchdog_law.proofs.Finding.{call_inside, call_owner}
-use Rattle.sl_words.proofs.CaseLaws.{false_is_true, is_false, none_some, not_both, some_value, true_is_false}
+use Rattle.sl_words.proofs.CaseLaws.{false_is_true, is_false, not_both, some_value, true_is_false}
 use Rattle.sl_words.proofs.WordLaws.{and_true}
 use Rattle.sl_words.specs.Words.{some_is}
 use Rattle.std.proofs.Common.{ap, arith, inl, inr, refl, subst, sym, tests, ◌∙◌}
 use Rattle.std.specs.List.{list_any}
-use Rattle.std.specs.Prelude.{Bool, Contains, List, None, Option, Some, cond, false, find, length, map, option_map, true, [], ℕ, ◌&&◌, ◌++◌, ◌<◌, ◌==◌, ◌||◌, ◌∷◌, ◌≡◌}
+use Rattle.std.specs.Prelude.{Bool, Contains, List, None, Option, Some, cond, false, length, map, option_map, true, [], ℕ, ◌&&◌, ◌++◌, ◌<◌, ◌==◌, ◌||◌, ◌∷◌, ◌≡◌}
 
 -- ---- a session that has written its free had joined
 

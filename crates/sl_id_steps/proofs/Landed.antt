@@ -34,10 +34,10 @@ use Rattle.sl_trace.specs.Traces.{same_place}
 use Rattle.sl_trace.specs.declared.effects.JoinStep.TheVariants.{ClaimWrite}
 use Rattle.sl_id_state.proofs.Keeping.{is_place}
 use Rattle.sl_words.proofs.WordLaws.{and_true}
-use Rattle.sl_words.proofs.CaseLaws.{is_false, not_both, true_is_false}
+use Rattle.sl_words.proofs.CaseLaws.{is_false, not_both}
 use Rattle.std.proofs.Common.{ap, arith, inl, inr, refl, subst, sym, ◌∙◌}
 use Rattle.std.proofs.lemmas.Bool.{eq-eqb}
-use Rattle.std.specs.Prelude.{Bool, Contains, List, None, Option, Some, false, is_some, true, ℕ, ◌+◌, ◌<◌, ◌==◌, ◌≡◌}
+use Rattle.std.specs.Prelude.{Bool, Contains, List, None, Option, Some, false, true, ℕ, ◌+◌, ◌<◌, ◌==◌, ◌≡◌}
 
 -- What the laws of runs promise, and of a session at its own sector.
 pub record RestsOn : Type 0 where

@@ -38,8 +38,8 @@ use Rattle.sl_sector.specs.declared.sector.DeltaRec.{DeltaRec}
 use Rattle.sl_sector.specs.declared.sector.Rec.TheVariants.{DeltaIs}
 use Rattle.sl_trace.specs.Traces.{record_of, same_place}
 use Rattle.sl_words.proofs.CaseLaws.{true_is_false}
-use Rattle.std.proofs.Common.{ap, arith, inl, inr, refl, subst, sym, ◌∙◌}
-use Rattle.std.specs.Prelude.{Bool, Contains, List, Some, cond, false, option_and_then, true, [], ℕ, ◌&&◌, ◌++◌, ◌==◌, ◌∷◌, ◌≡◌, ◌≤◌, ◌⊎◌}
+use Rattle.std.proofs.Common.{ap, inl, inr, refl, subst, sym, ◌∙◌}
+use Rattle.std.specs.Prelude.{Bool, Contains, List, Some, cond, false, option_and_then, true, [], ℕ, ◌&&◌, ◌++◌, ◌==◌, ◌∷◌, ◌≡◌, ◌⊎◌}
 
 -- ---- the write
 

@@ -10,7 +10,7 @@ use Rattle.sl_id_state.proofs.FindingFrames.{find_passes, found_on, session_on, 
 use Rattle.sl_id_state.proofs.Keeping.{own_call}
 use Rattle.sl_id_state.proofs.Proven.{grounds}
 use Rattle.sl_id_state.proofs.SampleFrames.{showed}
-use Rattle.sl_id_state.specs.IdStates.{blank, deciding_sample, has_begun, is_sector_of, join_course, own_courses, sample_showing, session_named_so, standing_by, standing_of, watched_bytes}
+use Rattle.sl_id_state.specs.IdStates.{blank, deciding_sample, has_begun, is_sector_of, join_course, own_courses, session_named_so, standing_by, standing_of, watched_bytes}
 use Rattle.sl_id_steps.proofs.Carrying.{after, kept_early, stamp_of, stepped}
 use Rattle.sl_id_steps.proofs.Counted.{shown_course}
 use Rattle.sl_id_steps.proofs.EventFrames.{after_event, entry_of}
@@ -38,7 +38,7 @@ use Rattle.sl_trace.specs.declared.effects.JoinStep.TheVariants.{DecidingRead}
 use Rattle.sl_watchdog_law.proofs.Numbering.{begun_is, either_place}
 use Rattle.sl_words.proofs.CaseLaws.{none_some, some_value}
 use Rattle.std.proofs.Common.{ap, arith, inl, inr, refl, subst, sym, ◌∙◌}
-use Rattle.std.specs.Prelude.{Bool, Contains, List, None, Option, Some, cond, false, find, is_none, is_some, length, map, option_and_then, option_map, slice_get, true, [], ℕ, ◌&&◌, ◌++◌, ◌+◌, ◌==◌, ◌||◌, ◌∷◌, ◌≡◌, ◌≤◌, ◌⊎◌}
+use Rattle.std.specs.Prelude.{Bool, Contains, List, None, Option, Some, cond, false, find, is_none, is_some, length, map, option_map, slice_get, true, [], ℕ, ◌&&◌, ◌++◌, ◌+◌, ◌==◌, ◌||◌, ◌∷◌, ◌≡◌, ◌≤◌, ◌⊎◌}
 
 -- ---- where it began
 

@@ -15,7 +15,6 @@ use Rattle.sl_landing_law.proofs.Listing.{one_call}
 use Rattle.sl_landing_law.specs.Landings.{LandingsAreWritten}
 use Rattle.sl_front_law.proofs.Going.{last_event}
 use Rattle.sl_plain.proofs.Lists.{contains_cases, contains_first, contains_more, contains_none}
-use Rattle.sl_plain.proofs.Numbers.{number_turned}
 use Rattle.sl_run.specs.Events.{after_step, close_answered, done_input, if_running, input_at, input_of, machine_of, may_happen, new_course, ok_input}
 use Rattle.sl_run.specs.Runs.{Happening}
 use Rattle.sl_run.specs.Safety.{Found, LawfulRun, SessionId, is_course_of, session_of_world, world_at}

@@ -17,7 +17,7 @@ use Rattle.sl_id_state.specs.Promises.{IsIdPlace}
 use Rattle.sl_id_steps.proofs.Fating.{seq_at}
 use Rattle.sl_id_steps.proofs.OwnWrites.{IsRenewing, above_given, rises_above}
 use Rattle.sl_ids.specs.State.{Content, SessionId as IdName}
-use Rattle.sl_landing_law.specs.Landings.{HasWriter, LandingsAreWritten, LeftBy}
+use Rattle.sl_landing_law.specs.Landings.{HasWriter, LandingsAreWritten}
 use Rattle.sl_place_law.proofs.Areas.{sector_fits}
 use Rattle.sl_place_law.proofs.Reading.{IsPromised, header_is, layout_is, reads_back}
 use Rattle.sl_place_law.proofs.Seats.{delta_in_is, sized_in}

@@ -1,7 +1,7 @@
 -- Quiet events, and what a machine does by itself: nothing of an id changes but the moment.
 use Rattle.sl_course_law.specs.Mirrors.{AreNumbered}
 use Rattle.sl_course_law.specs.Promises.{MachinesMirror}
-use Rattle.sl_front_law.proofs.Going.{last_event, settled_later, was_there}
+use Rattle.sl_front_law.proofs.Going.{last_event, settled_later}
 use Rattle.sl_id_state.proofs.LandingFrames.{same_landings}
 use Rattle.sl_id_state.proofs.StateFrames.{one_step}
 use Rattle.sl_id_state.specs.IdStates.{id_state}
@@ -10,31 +10,26 @@ use Rattle.sl_id_steps.specs.Parts.{IsQuietEvent, OwnStepsGoOn, QuietChangesGoOn
 use Rattle.sl_ids.specs.Guards.{terms_of}
 use Rattle.sl_ids.specs.Steps.{Pass, Passes}
 use Rattle.sl_landing_law.proofs.Arriving.{changed_landings}
-use Rattle.sl_landing_law.proofs.Running.{own_by as no_calls_by, own_makes_none}
+use Rattle.sl_landing_law.proofs.Running.{own_makes_none}
 use Rattle.sl_plain.proofs.Lists.{set_length}
 use Rattle.sl_plain.proofs.Numbers.{equal_is_least}
-use Rattle.sl_run.specs.Events.{after_effects, after_restart, after_start, after_test, first_change, machine_of, may_happen, next_step, own_effects, passed, take_step}
-use Rattle.sl_run.specs.Runs.{Happening, IsRun, own_effects_of}
+use Rattle.sl_run.specs.Events.{after_effects, after_restart, after_start, after_test, first_change, machine_of, may_happen, next_step, passed, take_step}
+use Rattle.sl_run.specs.Runs.{Happening}
 use Rattle.sl_run.specs.Safety.{LawfulRun, world_at}
-use Rattle.sl_run.specs.Worlds.{Daemon, Machine, Program, World, change_machine, daemons_on, machine_at, stamp_now, world_with}
+use Rattle.sl_run.specs.Worlds.{Daemon, Machine, Program, World, daemons_on, machine_at, stamp_now}
 use Rattle.sl_run.specs.declared.event.Event.TheVariants.{AnswerCall, Crash, Do, DropWrite, ExitOf, GiveCommand, Land, Pass as PassOf, Reset, Restart, Sample, SpawnedOf, StartDaemon, Tear, Test, WakeUp}
 use Rattle.sl_run.specs.declared.event.Event.{Event}
 use Rattle.sl_run.specs.declared.header.Header.{Header}
-use Rattle.sl_run_law.proofs.Beginnings.{begins_new}
 use Rattle.sl_run_law.proofs.Going.{event_goes}
 use Rattle.sl_run_law.proofs.Guards.{starts}
-use Rattle.sl_run_law.proofs.Hosting.{run_hosts}
 use Rattle.sl_run_law.proofs.Walking.{Asked, each_first, each_step}
 use Rattle.sl_run_law.specs.Daemons.{IsSettled}
 use Rattle.sl_run_law.specs.Going.{Goes, time_of}
 use Rattle.sl_run_law.specs.Machines.{EachMachine}
-use Rattle.sl_trace.specs.Traces.{no_effects}
 use Rattle.sl_trace.specs.declared.effects.Effects.{Effects}
-use Rattle.sl_watchdog_law.proofs.Watching.{own_by}
-use Rattle.sl_words.proofs.CaseLaws.{none_some, one_value}
+use Rattle.sl_words.proofs.CaseLaws.{none_some}
 use Rattle.std.proofs.Common.{ap, arith, inl, inr, refl, subst, sym, ◌∙◌}
-use Rattle.std.specs.Option.{option_map_or}
-use Rattle.std.specs.Prelude.{List, None, Option, Some, length, slice_set, suc, true, zero, [], ℕ, ◌++◌, ◌+◌, ◌-◌, ◌∷◌, ◌≡◌, ◌≤◌}
+use Rattle.std.specs.Prelude.{List, None, Option, Some, length, slice_set, true, [], ℕ, ◌++◌, ◌+◌, ◌-◌, ◌∷◌, ◌≡◌, ◌≤◌}
 
 -- ---- machines
 

@@ -19,12 +19,11 @@ use Rattle.sl_run.specs.Runs.{Happening}
 use Rattle.sl_run.specs.Safety.{Found, LawfulRun, SessionId, session_of_world, setting_in, trace_of, world_at}
 use Rattle.sl_run.specs.Worlds.{Course, Program, Sampling, Stamp, World}
 use Rattle.sl_run.specs.declared.header.Header.{Header}
-use Rattle.sl_session_law.proofs.Making.{calls_are_made}
 use Rattle.sl_session_law.proofs.Owning.{session_more}
 use Rattle.sl_session_law.proofs.Staying.{joined_more}
-use Rattle.sl_session_law.specs.Promises.{IsMade, IsSession}
+use Rattle.sl_session_law.specs.Promises.{IsSession}
 use Rattle.sl_sessions.specs.Sessions.{Session, joined_after}
-use Rattle.sl_trace.specs.Traces.{Setting, Submitted, Trace, submitted}
+use Rattle.sl_trace.specs.Traces.{Setting, Submitted, Trace}
 use Rattle.sl_trace.specs.declared.effects.Entry.{Entry}
 use Rattle.sl_trace.specs.declared.effects.JoinStep.TheVariants.{VerifyRead}
 use Rattle.sl_watchdog_law.proofs.Joins.{joins_now}
@@ -34,7 +33,7 @@ use Rattle.sl_watchdog_law.specs.Acting.{acting_stamp, registering_entry, renewa
 use Rattle.sl_words.proofs.CaseLaws.{none_some, some_value}
 use Rattle.std.proofs.Common.{ap, arith, refl, subst, sym, tests, ◌∙◌}
 use Rattle.std.specs.Option.{option_map_or}
-use Rattle.std.specs.Prelude.{Bool, Contains, List, None, Option, Some, false, is_some, length, option_and_then, suc, true, [], ℕ, ◌++◌, ◌<◌, ◌==◌, ◌∷◌, ◌≡◌}
+use Rattle.std.specs.Prelude.{Bool, List, None, Option, Some, false, is_some, length, option_and_then, suc, true, [], ℕ, ◌++◌, ◌<◌, ◌==◌, ◌∷◌, ◌≡◌}
 
 -- ---- the renewal that counts last
 

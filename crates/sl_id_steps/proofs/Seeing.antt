@@ -6,25 +6,22 @@ use Rattle.sl_id_state.specs.Facts.{HasClaimed, HasWatched}
 use Rattle.sl_id_state.specs.IdStates.{claim_bytes, comes_before, deciding_sample, join_course, own_courses, refused_stamp, sample_showing, verifying_sample, watched_bytes}
 use Rattle.sl_id_steps.proofs.OwnCalls.{IsFresh, IsKept, JoinGoes, Through, closed, closes, had_step, join_goes, kept}
 use Rattle.sl_plain.proofs.Lists.{contains_first}
-use Rattle.sl_plain.proofs.Options.{mapped_value, then_value}
 use Rattle.sl_run.specs.Events.{write_bytes}
 use Rattle.sl_run.specs.Runs.{Happening}
 use Rattle.sl_run.specs.Safety.{Found, SessionId, world_at}
 use Rattle.sl_run.specs.Worlds.{Course, Program, Sampling, Stamp, World, is_landed}
 use Rattle.sl_run.specs.declared.header.Header.{Header}
 use Rattle.sl_session_law.proofs.Staying.{refused_more}
-use Rattle.sl_sessions.specs.Sessions.{Session, is_join_done, refused_after}
-use Rattle.sl_trace.specs.Traces.{Replied, Trace, reply_in, reply_to}
+use Rattle.sl_sessions.specs.Sessions.{Session, refused_after}
+use Rattle.sl_trace.specs.Traces.{Trace}
 use Rattle.sl_trace.specs.declared.effects.Entry.{Entry}
-use Rattle.sl_trace.specs.declared.effects.JobReply.{JobReply}
 use Rattle.sl_trace.specs.declared.effects.JoinStep.TheVariants.{ClaimWrite, DecidingRead, FirstRead, VerifyRead}
 use Rattle.sl_trace.specs.declared.effects.JoinStep.{JoinStep}
-use Rattle.sl_words.proofs.CaseLaws.{no_value, none_some, one_value, some_value, true_is_false}
-use Rattle.sl_words.proofs.WordLaws.{choose_some}
+use Rattle.sl_words.proofs.CaseLaws.{none_some, one_value, some_value, true_is_false}
 use Rattle.sl_words.specs.Words.{choose, first_of_list, some_is}
 use Rattle.std.proofs.Common.{ap, arith, refl, subst, sym, tests, ◌∙◌}
 use Rattle.std.proofs.lemmas.Bool.{lt-ltb}
-use Rattle.std.specs.Prelude.{Bool, Contains, List, None, Option, Some, bytes_eq, false, find, length, nat_lt, not, option_and_then, option_map, suc, true, [], ℕ, ◌&&◌, ◌+◌, ◌-◌, ◌<◌, ◌==◌, ◌∷◌, ◌≡◌, ◌≤◌}
+use Rattle.std.specs.Prelude.{Bool, Contains, List, None, Option, Some, bytes_eq, false, length, option_and_then, option_map, suc, true, [], ℕ, ◌&&◌, ◌+◌, ◌-◌, ◌<◌, ◌==◌, ◌∷◌, ◌≡◌, ◌≤◌}
 
 -- ---- a refusal
 

@@ -16,7 +16,7 @@ use Rattle.sl_place_law.proofs.Checks.{shows_its_id}
 use Rattle.sl_place_law.proofs.Finding.{numbered_inside}
 use Rattle.sl_place_law.proofs.Reading.{layout_is}
 use Rattle.sl_place_law.proofs.Seats.{delta_in_is, delta_within, given_seated, initial_in, same_delta, sized_in}
-use Rattle.sl_plain.proofs.Lists.{contains_cases, contains_first, contains_more, contains_none, got_inside, kept_inside}
+use Rattle.sl_plain.proofs.Lists.{contains_cases, contains_none, got_inside, kept_inside}
 use Rattle.sl_plain.proofs.Numbers.{no_times_more}
 use Rattle.sl_plain.proofs.Options.{none_is, some_there}
 use Rattle.sl_run.specs.Runs.{Happening}
@@ -31,12 +31,11 @@ use Rattle.sl_sector.specs.declared.sector.Rec.TheVariants.{DeltaIs}
 use Rattle.sl_sessions.specs.Sessions.{sessions}
 use Rattle.sl_trace.specs.Traces.{same_place}
 use Rattle.sl_trace.specs.declared.effects.JoinStep.TheVariants.{DecidingRead, FirstRead}
-use Rattle.sl_words.proofs.CaseLaws.{false_is_true, none_some, some_value}
 use Rattle.sl_words.proofs.WordLaws.{and_true, or_true}
-use Rattle.std.proofs.Common.{ap, arith, inl, inr, refl, subst, sym, ◌∙◌}
+use Rattle.std.proofs.Common.{ap, inl, inr, refl, subst, sym, ◌∙◌}
 use Rattle.std.proofs.lemmas.Bool.{eqb-true}
 use Rattle.std.proofs.lemmas.Slice.Eq.{bytes_eq-Decides}
-use Rattle.std.specs.Prelude.{Bool, Contains, IsTrue, List, None, Option, Some, bytes_eq, false, is_none, is_some, length, true, [], ℕ, ◌*◌, ◌+◌, ◌==◌, ◌||◌, ◌∷◌, ◌≡◌, ◌≤◌, ◌⊎◌}
+use Rattle.std.specs.Prelude.{Contains, IsTrue, List, None, Some, bytes_eq, is_none, is_some, true, [], ℕ, ◌==◌, ◌∷◌, ◌≡◌, ◌≤◌}
 
 -- ---- the line of the place
 

@@ -14,27 +14,23 @@ use Rattle.sl_ids.specs.State.{Session as IdSession}
 use Rattle.sl_landing_law.proofs.Listing.{one_call}
 use Rattle.sl_landing_law.proofs.Proven.{landings_are_written}
 use Rattle.sl_landing_law.proofs.Writers.{writer_settled}
-use Rattle.sl_landing_law.specs.Landings.{HasWriter, LeftBy}
+use Rattle.sl_landing_law.specs.Landings.{HasWriter}
 use Rattle.sl_plain.proofs.Lists.{contains_cases, contains_first, contains_more, contains_none, kept_inside}
 use Rattle.sl_plain.proofs.Options.{none_is}
 use Rattle.sl_run.specs.Runs.{Happening}
 use Rattle.sl_run.specs.Safety.{Found, SessionId, is_course_of, is_over, trace_of, world_at}
 use Rattle.sl_run.specs.Worlds.{Course, In_flight, Landing, Program, Sampling, World, first_landing, history_of, is_in_flight, is_landed, landed_at, machine_at}
 use Rattle.sl_run.specs.declared.header.Header.{Header}
-use Rattle.sl_sector.specs.declared.sector.Rec.{Rec}
-use Rattle.sl_session_law.proofs.Silence.{stage_by}
-use Rattle.sl_sessions.specs.Sessions.{Session, calls_of, free_write, given_number, is_join_call, joined_after, refused_after, removed_after, stage_in}
-use Rattle.sl_sessions.specs.declared.stage.Stage.TheVariants.{Looking}
-use Rattle.sl_sessions.specs.declared.stage.Stage.{Stage}
-use Rattle.sl_trace.specs.Traces.{Submitted, Trace, same_place}
+use Rattle.sl_sessions.specs.Sessions.{calls_of, free_write, given_number, is_join_call, joined_after, refused_after, removed_after, stage_in}
+use Rattle.sl_trace.specs.Traces.{Trace, same_place}
 use Rattle.sl_trace.specs.declared.effects.JoinStep.TheVariants.{ClaimWrite, DecidingRead}
-use Rattle.sl_words.proofs.CaseLaws.{is_false, none_some, one_value, true_is_false}
+use Rattle.sl_words.proofs.CaseLaws.{is_false, one_value, true_is_false}
 use Rattle.sl_words.proofs.WordLaws.{and_true, or_true}
 use Rattle.sl_words.specs.Words.{greatest, some_is}
-use Rattle.std.proofs.Common.{ap, arith, inl, inr, refl, subst, sym, tests, ◌∙◌}
+use Rattle.std.proofs.Common.{ap, arith, inl, inr, refl, subst, sym, ◌∙◌}
 use Rattle.std.proofs.lemmas.Bool.{eq-eqb, eqb-true}
 use Rattle.std.specs.Option.{option_map_or}
-use Rattle.std.specs.Prelude.{Bool, Contains, List, None, Option, Some, false, is_none, is_some, length, map, option_and_then, true, [], ℕ, ◌&&◌, ◌==◌, ◌||◌, ◌∷◌, ◌≡◌, ◌⊎◌}
+use Rattle.std.specs.Prelude.{Bool, Contains, List, None, Option, Some, false, is_none, is_some, length, map, option_and_then, true, [], ℕ, ◌&&◌, ◌==◌, ◌||◌, ◌∷◌, ◌≡◌}
 
 -- ---- a state by its fields
 

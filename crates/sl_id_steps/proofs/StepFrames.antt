@@ -1,7 +1,6 @@
 -- An entry of a daemon: what its step makes of its machine, and that the sessions of all other daemons stay as they were.
 use Rattle.sl_course_law.proofs.Changing.{changed_here}
 use Rattle.sl_course_law.proofs.Daemons.{daemons_are, step_ended}
-use Rattle.sl_course_law.proofs.Resetting.{step_resets}
 use Rattle.sl_front_law.proofs.Going.{last_event}
 use Rattle.sl_id_state.proofs.FindingFrames.{IsFound, changed_elsewhere, is_found, moved, moves_by, session_on, session_with}
 use Rattle.sl_id_steps.proofs.CallEvents.{answer_flies, do_flies}

@@ -6,7 +6,6 @@ use Rattle.sl_id_state.proofs.SectorFrames.{SameFound, SameSector, history_same,
 use Rattle.sl_id_state.proofs.WriterFrames.{KeepsGiven, given_on, holder_same}
 use Rattle.sl_id_state.specs.IdStates.{holder_at, session_at, session_named_so, submitter_of, submitter_on, writer_of}
 use Rattle.sl_ids.specs.State.{SessionId as IdName}
-use Rattle.sl_plain.proofs.Lists.{contains_cases, contains_none}
 use Rattle.sl_run.specs.Safety.{Found, SessionId, is_course_of, session_of_world}
 use Rattle.sl_run.specs.Worlds.{Daemon, Landing, Machine, World, daemon_numbered, daemons_on, history_of, machine_at}
 use Rattle.sl_run_law.specs.Fates.{Every}
@@ -16,10 +15,10 @@ use Rattle.sl_watchdog_law.proofs.Stepping.{number_below}
 use Rattle.sl_words.proofs.CaseLaws.{none_some, true_is_false}
 use Rattle.sl_trace.specs.declared.input.Given.{Given}
 use Rattle.sl_words.specs.Words.{some_is}
-use Rattle.std.proofs.Common.{ap, arith, inl, inr, refl, subst, sym, tests, ◌∙◌}
+use Rattle.std.proofs.Common.{ap, arith, inl, inr, refl, subst, sym, ◌∙◌}
 use Rattle.std.proofs.lemmas.Bool.{eqb-true}
 use Rattle.std.specs.List.{enumerate_from}
-use Rattle.std.specs.Prelude.{Bool, Contains, List, None, Option, Some, cond, false, filter, find, if◌then◌else◌, length, map, option_and_then, option_map, slice_get, suc, true, zero, [], ℕ, ◌-◌, ◌<◌, ◌==◌, ◌∷◌, ◌≡◌, ◌⊎◌}
+use Rattle.std.specs.Prelude.{Bool, List, None, Option, Some, cond, false, filter, find, if◌then◌else◌, length, map, option_and_then, option_map, slice_get, suc, true, zero, [], ℕ, ◌-◌, ◌==◌, ◌∷◌, ◌≡◌, ◌⊎◌}
 
 -- ---- machines
 

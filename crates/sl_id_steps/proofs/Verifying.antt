@@ -29,7 +29,7 @@ use Rattle.sl_trace.specs.declared.effects.JoinStep.TheVariants.{ClaimWrite, Ver
 use Rattle.sl_watchdog_law.specs.Acting.{acting_stamp}
 use Rattle.sl_words.proofs.CaseLaws.{none_some}
 use Rattle.sl_words.specs.Words.{some_is}
-use Rattle.std.proofs.Common.{ap, arith, refl, subst, sym, ◌∙◌}
+use Rattle.std.proofs.Common.{ap, refl, subst, sym, ◌∙◌}
 use Rattle.std.specs.Option.{option_map_or}
 use Rattle.std.specs.Prelude.{Bool, List, None, Option, Some, false, is_none, is_some, length, option_map, true, ℕ, ◌+◌, ◌<◌, ◌||◌, ◌≡◌, ◌≤◌}
 
