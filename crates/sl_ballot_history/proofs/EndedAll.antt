@@ -2,7 +2,6 @@
 use Rattle.sl_area.specs.Layouts.{Layout}
 use Rattle.sl_ballot_history.proofs.Ended.{AnsweredBy, EndingRead, ballot_ended}
 use Rattle.sl_ballot_history.proofs.EndedGrown.{Alike, alike_blocks, grown_to, unkept}
-use Rattle.sl_ballot_history.proofs.Phase2Reads.{gave_bytes}
 use Rattle.sl_ballot_history.specs.Endings.{EndedBallotsEnd, holder_as}
 use Rattle.sl_ballots.specs.Ballots.{BallotEnded}
 use Rattle.sl_course_law.specs.Stamping.{Pairwise}
@@ -12,9 +11,10 @@ use Rattle.sl_lease_law.specs.Ways.{Ended, lease_among}
 use Rattle.sl_leases.specs.Ballots.{value_of}
 use Rattle.sl_leases.specs.Leases.{Phase2_read, block_submitted, blocks_given, is_at, is_lease_call, is_on, lease_calls}
 use Rattle.sl_place_law.proofs.Daemons.{daemons_are_fine, stamp_order}
-use Rattle.sl_place_law.proofs.Finding.{same_number}
 use Rattle.sl_place_law.proofs.Reading.{answer_gave, session_inside}
+use Rattle.sl_plain.proofs.Numbers.{below_suc}
 use Rattle.sl_resource_history.proofs.Looking.{given_blocks}
+use Rattle.sl_resource_history.proofs.Recalled.{found_bytes}
 use Rattle.sl_resource_history.proofs.Standing.{pair_parts}
 use Rattle.sl_resource_history.specs.Promises.{history_of_line, spot_of_line}
 use Rattle.sl_resource_history.specs.Sending.{holder_of}
@@ -28,8 +28,9 @@ use Rattle.sl_trace.specs.declared.effects.Call.{Call}
 use Rattle.sl_trace.specs.declared.effects.Spot.{Spot}
 use Rattle.sl_words.proofs.CaseLaws.{none_some, one_value}
 use Rattle.sl_words.proofs.WordLaws.{and_true}
-use Rattle.std.proofs.Common.{ap, append_assoc, arith, refl, subst, sym, ◌∙◌}
-use Rattle.std.specs.Prelude.{List, None, Option, Some, filter, length, suc, ℕ, ◌&&◌, ◌++◌, ◌<◌, ◌∷◌, ◌≡◌, ◌≤◌}
+use Rattle.std.proofs.Common.{ap, append_assoc, refl, subst, sym, ◌∙◌}
+use Rattle.std.proofs.lemmas.Bool.{eqb-true}
+use Rattle.std.specs.Prelude.{List, None, Option, Some, filter, length, ℕ, ◌&&◌, ◌++◌, ◌<◌, ◌∷◌, ◌≡◌, ◌≤◌}
 
 -- ---- the read
 
@@ -48,7 +49,7 @@ given_stays g was is bs k gives = given_by g was is bs k was.answer refl gives
 -- A call that gave blocks was answered.
 pub given_answered : (g : Layout) (q : Submitted) (bs : List (Option Block)) → blocks_given g q ≡ Some bs → (a : Answered) × (q.answer ≡ Some a)
 given_answered g q bs gives =
-    let bytes = gave_bytes g q bs (given_blocks g q bs gives) in
+    let bytes = found_bytes g q bs (given_blocks g q bs gives) in
     let a = answer_gave q.answer bytes.0 bytes.1 in
     (a.0, a.1)
 
@@ -82,7 +83,7 @@ ends_in f later front whole at p e =
         read = r.one;
         older = r.older;
         is = ap (λ t. submitted t) whole ∙ g.is ∙ ap (λ ms. g.newer ++ ms) r.is ∙ sym (append_assoc g.newer r.newer (r.one ∷ r.older));
-        mine = ap (λ (c : Call). c.session) r.pair.call ∙ same_number e.read.call.session ses.number v.passes;
+        mine = ap (λ (c : Call). c.session) r.pair.call ∙ eqb-true e.read.call.session ses.number v.passes;
         lease = ap (λ (c : Call). is_lease_call (new_call 0 0 c)) r.pair.call ∙ both.0;
         on = ap (λ (c : Call). is_on st.layout at c) r.pair.call ∙ both.1;
         reads = ap (λ (c : Call). is_at Phase2_read (new_call 0 0 c)) r.pair.call ∙ e.reads;
@@ -96,9 +97,6 @@ ends_in f later front whole at p e =
       what = e.what;
     }
 
-no_later : (a n : ℕ) → a < suc n → a ≤ n
-no_later a n h = omega (arith, h)
-
 pub ended_ballots_end : EndedBallotsEnd
 ended_ballots_end p h xs r run there differ hosts i f its joined entry past step e n o has =
     let w : World = world_at p h xs in
@@ -108,6 +106,6 @@ ended_ballots_end p h xs r run there differ hosts i f its joined entry past step
     let by : AnsweredBy f k.ending.read step =
     λ a told t entry_of. subst (λ j. t.step ≤ j) e.step_is
     (stamp_order w.step f.daemon.stamps a.at (length past) t e.stamp (daemons_are_fine p h xs run i.machine f.machine f.daemon inside.at inside.has).stamps entry_of e.stamped
-    (no_later a.at (length past) (k.early a told))) in
+    (below_suc a.at (length past) (k.early a told))) in
     let done = ballot_ended p h xs r run there differ hosts i f its joined k.own k.blocks k.ending step by in
     subst (λ (q : ℕ × Owner). BallotEnded (history_of_line p h xs r) (holder_of w i) q.0 (holder_as q.1) step) k.what done

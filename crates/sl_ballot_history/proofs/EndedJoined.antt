@@ -10,7 +10,6 @@ use Rattle.sl_law.specs.LawfulArea.{LawfulAreaWrite}
 use Rattle.sl_lease_law.proofs.EndLaws.{ended}
 use Rattle.sl_lease_law.specs.Ways.{lease_among}
 use Rattle.sl_leases.specs.Leases.{block_of_record, is_on, lease_calls, spot_of_call}
-use Rattle.sl_place_law.proofs.Finding.{same_number}
 use Rattle.sl_place_law.proofs.Homing.{at_home}
 use Rattle.sl_place_law.proofs.Leased.{IsLeased, verified_leased}
 use Rattle.sl_place_law.proofs.Proven.{promised}
@@ -35,6 +34,7 @@ use Rattle.sl_trace.specs.declared.effects.Call.{Call}
 use Rattle.sl_trace.specs.declared.effects.Spot.{Spot}
 use Rattle.sl_words.proofs.WordLaws.{and_true}
 use Rattle.std.proofs.Common.{ap, append_assoc, refl, sym, ◌∙◌}
+use Rattle.std.proofs.lemmas.Bool.{eqb-true}
 use Rattle.std.specs.Prelude.{Contains, List, Option, Some, is_some, nat_lt, option_and_then, true, ℕ, ◌%◌, ◌++◌, ◌-◌, ◌==◌, ◌^◌, ◌∷◌, ◌≡◌}
 
 -- ---- who writes a block
@@ -108,6 +108,6 @@ pub enders_are_joined : EndersAreJoined
 enders_are_joined p h xs run i f its later front whole at base q has =
     let w : World = world_at p h xs in
     let g : Layout = w.layout in
-    let zero : at.base % g.area ≡ 0 = same_number (at.base % g.area) 0 (and_true (at.base % g.area == 0) (nat_lt at.base (10 ^ 12)) base).0 in
+    let zero : at.base % g.area ≡ 0 = eqb-true (at.base % g.area) 0 (and_true (at.base % g.area == 0) (nat_lt at.base (10 ^ 12)) base).0 in
     let k = ends_in f later front whole at q (ended (setting_in f).layout (lease_calls (setting_in f) front f.session at) q has) in
     enders p h xs run i f its at zero k.own k.blocks k.ending

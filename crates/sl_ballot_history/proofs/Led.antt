@@ -12,7 +12,8 @@ use Rattle.sl_lease_law.proofs.EndLaws.{leaders_follow}
 use Rattle.sl_lease_law.specs.Ways.{Ended, LeaderRests, lease_among}
 use Rattle.sl_leases.specs.Ballots.{owner_of, same_owner, value_of}
 use Rattle.sl_leases.specs.Leases.{block_submitted, is_lease_call, is_on, leader_of_record}
-use Rattle.sl_place_law.proofs.Finding.{same_number}
+use Rattle.sl_plain.proofs.Lists.{contains_first}
+use Rattle.sl_plain.proofs.Options.{some_there}
 use Rattle.sl_resource_history.proofs.Above.{IsAmong, answer_step, answered_before, line_aligned, reads_work, told_spot}
 use Rattle.sl_resource_history.proofs.Calls.{IsSentTo, IsWork, found_at, leader_works, worker_joined}
 use Rattle.sl_resource_history.proofs.Standing.{standing}
@@ -27,17 +28,16 @@ use Rattle.sl_run.specs.declared.header.ResourceLine.{ResourceLine}
 use Rattle.sl_sector.specs.declared.sector.Block.{Block}
 use Rattle.sl_sector.specs.declared.sector.Leader.{Leader}
 use Rattle.sl_sector.specs.declared.sector.Owner.{Owner}
-use Rattle.sl_session_law.proofs.Making.{contains_first}
 use Rattle.sl_front_law.proofs.Having.{contains_right}
 use Rattle.sl_sessions.specs.Sessions.{Session, is_call_of, me}
 use Rattle.sl_trace.specs.Traces.{Setting, Submitted, record_of, submitted}
 use Rattle.sl_trace.specs.declared.effects.Call.{Call}
 use Rattle.sl_trace.specs.declared.effects.Spot.{Spot}
-use Rattle.sl_words.proofs.CaseLaws.{false_is_true}
 use Rattle.sl_words.proofs.WordLaws.{and_true}
-use Rattle.std.proofs.Common.{ap, append_assoc, refl, subst, sym, ◌∙◌}
+use Rattle.std.proofs.Common.{ap, append_assoc, subst, sym, ◌∙◌}
+use Rattle.std.proofs.lemmas.Bool.{eqb-true}
 use Rattle.std.specs.Option.{option_map_or}
-use Rattle.std.specs.Prelude.{Contains, List, None, Option, Some, filter, is_some, option_and_then, true, [], ℕ, ◌&&◌, ◌++◌, ◌==◌, ◌∷◌, ◌≡◌, ◌≤◌}
+use Rattle.std.specs.Prelude.{Contains, List, Option, Some, filter, is_some, option_and_then, true, [], ℕ, ◌&&◌, ◌++◌, ◌==◌, ◌∷◌, ◌≡◌, ◌≤◌}
 
 -- ---- an end among the calls before
 
@@ -58,7 +58,7 @@ ends_among f newer older is at p e =
     let v = unkept (is_call_of ses) older u.newer e.read u.older u.is in
     let before : lease_among st ses at v.older ≡ e.before = ap (λ ms. filter (λ m. is_lease_call m && is_on st.layout at m.call) ms) v.kept ∙ u.kept in
     let both = and_true (is_lease_call e.read) (is_on st.layout at e.read.call) u.passes in
-    let mine : e.read.call.session ≡ ses.number = same_number e.read.call.session ses.number v.passes in
+    let mine : e.read.call.session ≡ ses.number = eqb-true e.read.call.session ses.number v.passes in
     record {
       own = e.own;
       blocks = e.blocks;
@@ -94,10 +94,6 @@ record LeaderAt (p : Program) (h : Header) (xs : List Happening) (r : ResourceLi
   wrote : leader_of_course sent.course ≡ Some leader
   shown : (history_of_line p h xs r).leader l ≡ history_leader leader
 
-some_there : {A : Type 0} (o : Option A) → is_some o ≡ true → (x : A) × (o ≡ Some x)
-some_there None h = absurd (false_is_true h)
-some_there (Some x) h = (x, refl)
-
 leader_at : (p : Program) (h : Header) (xs : List Happening) (r : ResourceLine) (l : ℕ) → (history_of_line p h xs r).leads l ≡ true → LeaderAt p h xs r l
 leader_at p h xs r l leads =
     let w : World = world_at p h xs in
@@ -113,11 +109,11 @@ leader_at p h xs r l leads =
           ∙ ap (λ o. option_map_or history_leader o no_leader) k.1;
     }
 
-owner_as : (a b : Owner) → same_owner a b ≡ true → holder_as a ≡ holder_as b
+pub owner_as : (a b : Owner) → same_owner a b ≡ true → holder_as a ≡ holder_as b
 owner_as a b h =
     let both = and_true (a.id == b.id) (a.generation == b.generation) h in
-    ap (λ n. let o : Holder = record { id = n; generation = a.generation } in o) (same_number a.id b.id both.0)
-    ∙ ap (λ n. let o : Holder = record { id = b.id; generation = n } in o) (same_number a.generation b.generation both.1)
+    ap (λ n. let o : Holder = record { id = n; generation = a.generation } in o) (eqb-true a.id b.id both.0)
+    ∙ ap (λ n. let o : Holder = record { id = b.id; generation = n } in o) (eqb-true a.generation b.generation both.1)
 
 won_by : (p : Program) (h : Header) (xs : List Happening) (r : ResourceLine) → LawfulRun p h xs → Contains h.resources r → NamesDiffer (world_at p h xs) r.lockspace
     → HostsJoin (world_at p h xs) r.lockspace → (l : ℕ) (k : LeaderAt p h xs r l)

@@ -1,11 +1,13 @@
 -- Between a block and the next of its session: the block was answered ok, and then a read was submitted, before which the block is the
 -- session's last.
-use Rattle.sl_ballot_history.proofs.Phase2Last.{OwnLast, both_ways, one_block}
+use Rattle.sl_ballot_history.proofs.Phase2Last.{OwnLast, one_block}
 use Rattle.sl_course_law.specs.Stamping.{AnswersAgree, IsAnsweredAs, IsCourseOf, stamp_in}
 use Rattle.sl_law.specs.LawfulBlock.{ReadAfter}
 use Rattle.sl_leases.specs.Leases.{is_on}
 use Rattle.sl_place_law.proofs.Daemons.{daemons_are_fine, stamp_order}
-use Rattle.sl_place_law.proofs.Finding.{finds, found_in}
+use Rattle.sl_place_law.proofs.Finding.{finds}
+use Rattle.sl_plain.proofs.Lists.{find_inside}
+use Rattle.sl_plain.proofs.Numbers.{both_ways, trans_lt}
 use Rattle.sl_resource_history.proofs.Calls.{block_at_step}
 use Rattle.sl_resource_history.proofs.Lasts.{last_is_last}
 use Rattle.sl_resource_history.proofs.Owning.{before_is, is_before}
@@ -19,7 +21,7 @@ use Rattle.sl_run.specs.declared.header.Header.{Header}
 use Rattle.sl_run.specs.declared.header.ResourceLine.{ResourceLine}
 use Rattle.sl_trace.specs.Traces.{Submitted, is_ok_answer}
 use Rattle.sl_trace.specs.declared.effects.Spot.{Spot}
-use Rattle.std.proofs.Common.{ap, arith, subst, sym, ◌∙◌}
+use Rattle.std.proofs.Common.{ap, subst, sym, ◌∙◌}
 use Rattle.std.specs.Prelude.{Bool, Contains, List, None, Option, Some, false, option_and_then, option_map, true, ℕ, ◌<◌, ◌≡◌, ◌≤◌}
 
 -- ---- answered ok
@@ -56,9 +58,6 @@ ok_is p h xs run r there y has on writes n k =
 
 -- ---- the last before a read
 
-less_more : (a b c : ℕ) → a < b → b < c → a < c
-less_more a b c p q = omega (arith, p, q)
-
 -- Of a session's calls after its last block before another call, that block is the last before each.
 pub last_between : (p : Program) (h : Header) (xs : List Happening) → LawfulRun p h xs → (r : ResourceLine) → Contains h.resources r → (x : Sent)
     → (s : Standing (world_at p h xs) x) (write : Submitted) → (y : OwnLast (world_at p h xs) (spot_of_line r) x s write) → (z : Sent) → sender_of z ≡ sender_of x
@@ -69,8 +68,8 @@ last_between p h xs run r there x s write y z same after before =
     let P : Sent → Bool = is_block_before w at (sender_of z) (step_of z) in
     let passes : P y.sent ≡ true = before_is w at z y.sent after y.on y.writes (y.sender ∙ sym same) in
     let f = finds P (all_sent w) y.sent passes y.has in
-    let its = found_in P (all_sent w) f.0 f.1 in
+    let its = find_inside P (all_sent w) f.0 f.1 in
     let g = is_before w at z f.0 its.1 in
     let up : step_of y.sent ≤ step_of f.0 = last_is_last p h xs run at (sender_of z) (step_of z) y.sent f.0 f.1 y.has passes in
-    let down : step_of f.0 ≤ step_of y.sent = y.newest f.0 its.0 g.on g.writes (g.sender ∙ same) (less_more (step_of f.0) (step_of z) (step_of x) g.less before) in
+    let down : step_of f.0 ≤ step_of y.sent = y.newest f.0 its.0 g.on g.writes (g.sender ∙ same) (trans_lt (step_of f.0) (step_of z) (step_of x) g.less before) in
     f.1 ∙ ap (λ v. Some v) (one_block p h xs run r there f.0 y.sent its.0 y.has g.on y.on g.writes y.writes (both_ways (step_of f.0) (step_of y.sent) down up))

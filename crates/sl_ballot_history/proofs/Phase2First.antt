@@ -3,9 +3,10 @@ use Rattle.sl_area.specs.Layouts.{Layout, record_in, sector_with}
 use Rattle.sl_area.specs.Places.{block_offset, fresh_block, fresh_leader, in_area, no_request, no_value}
 use Rattle.sl_landing_law.proofs.Initial.{initial_is_record}
 use Rattle.sl_place_law.proofs.Areas.{IsSized, lockspace_aligned, never_both, one_resource, resource_aligned, same_base, sector_fits}
-use Rattle.sl_place_law.proofs.Finding.{finds, found_in, same_text}
+use Rattle.sl_place_law.proofs.Finding.{finds, same_text}
 use Rattle.sl_place_law.proofs.Reading.{digest_is, header_is, layout_is}
 use Rattle.sl_place_law.proofs.Seats.{sized_in}
+use Rattle.sl_plain.proofs.Lists.{find_inside}
 use Rattle.sl_resource_history.proofs.Calls.{text_same}
 use Rattle.sl_resource_history.proofs.Shown.{place_within}
 use Rattle.sl_resource_history.specs.Histories.{is_host}
@@ -65,7 +66,7 @@ record_there : (g : Layout) (h : Header) (r : ResourceLine) (k : ℕ) → IsHead
       | None ↦ elim q as (λ z. Option Rec) [ Some x ↦ initial_of_resource g x ((block_offset g r.offset k - x.offset) / g.sector) | None ↦ None ]
     ] ≡ Some (BlockIs (fresh_block k))
 record_there g h r k ok z there low high inside (Some l) q at at_too =
-    let f = found_in (λ (x : LockspaceLine). bytes_eq x.path r.path && in_area g x.offset (block_offset g r.offset k)) h.lockspaces l at in
+    let f = find_inside (λ (x : LockspaceLine). bytes_eq x.path r.path && in_area g x.offset (block_offset g r.offset k)) h.lockspaces l at in
     let both = and_true (bytes_eq l.path r.path) (in_area g l.offset (block_offset g r.offset k)) f.1 in
     absurd (never_both h l r ok f.0 there (same_text l.path r.path both.0)
     (same_base g l.offset r.offset (block_offset g r.offset k) z (lockspace_aligned h l ok f.0) (resource_aligned h r ok there) both.1 inside))
@@ -73,7 +74,7 @@ record_there g h r k ok z there low high inside None None at at_too =
     let f = finds (λ (x : ResourceLine). bytes_eq x.path r.path && in_area g x.offset (block_offset g r.offset k)) h.resources r (and_from _ _ (text_same r.path r.path refl) inside) there in
     absurd (none_some f.0 (sym at_too ∙ f.1))
 record_there g h r k ok z there low high inside None (Some x) at at_too =
-    let f = found_in (λ (x : ResourceLine). bytes_eq x.path r.path && in_area g x.offset (block_offset g r.offset k)) h.resources x at_too in
+    let f = find_inside (λ (x : ResourceLine). bytes_eq x.path r.path && in_area g x.offset (block_offset g r.offset k)) h.resources x at_too in
     let both = and_true (bytes_eq x.path r.path) (in_area g x.offset (block_offset g r.offset k)) f.1 in
     let same : x ≡ r =
     one_resource h x r ok f.0 there (same_text x.path r.path both.0)

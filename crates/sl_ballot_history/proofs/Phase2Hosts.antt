@@ -6,6 +6,8 @@ use Rattle.sl_lease_law.proofs.NumberLaws.{number_is_place}
 use Rattle.sl_lease_law.specs.Ways.{BlockComes, Of_mode, Of_phase1, Of_phase2, Way, lease_among}
 use Rattle.sl_leases.specs.Leases.{block_of_host, block_submitted, block_written, blocks_given, spot_of_call}
 use Rattle.sl_place_law.proofs.Seats.{sized_in}
+use Rattle.sl_plain.proofs.Lists.{contains_cases, contains_first, contains_more, contains_none}
+use Rattle.sl_plain.proofs.Numbers.{back_again}
 use Rattle.sl_resource_history.proofs.Above.{is_among, own_there}
 use Rattle.sl_resource_history.proofs.Looking.{IsLook, looked}
 use Rattle.sl_resource_history.proofs.Owning.{block_told, layout_at}
@@ -18,13 +20,12 @@ use Rattle.sl_run.specs.Safety.{LawfulRun, world_at}
 use Rattle.sl_run.specs.Worlds.{Daemon, Machine, Program, World}
 use Rattle.sl_run.specs.declared.header.Header.{Header}
 use Rattle.sl_sector.specs.declared.sector.Block.{Block}
-use Rattle.sl_session_law.proofs.Making.{contains_cases, contains_first, contains_more, contains_none}
 use Rattle.sl_front_law.proofs.Having.{contains_right}
 use Rattle.sl_sessions.specs.Sessions.{Session, session_numbered}
 use Rattle.sl_trace.specs.Traces.{Setting, Submitted, Trace, submitted}
 use Rattle.sl_words.proofs.CaseLaws.{none_some}
 use Rattle.sl_words.proofs.WordLaws.{and_true}
-use Rattle.std.proofs.Common.{ap, append_assoc, arith, inl, inr, refl, subst, sym, ◌∙◌}
+use Rattle.std.proofs.Common.{ap, append_assoc, inl, inr, refl, subst, sym, ◌∙◌}
 use Rattle.std.proofs.lemmas.Bool.{leb-true}
 use Rattle.std.specs.Prelude.{Contains, List, None, Option, Some, nat_le, true, [], ℕ, ◌++◌, ◌+◌, ◌-◌, ◌∷◌, ◌≡◌, ◌≤◌}
 
@@ -84,14 +85,11 @@ hosts_named st es law some s known reads newer (x ∷ ms) is c has mine b wrote 
 
 -- ---- in the world
 
-back_on : (n : ℕ) → 1 ≤ n → n - 1 + 1 ≡ n
-back_on n h = omega (arith, h)
-
 found_host : (p : Program) (h : Header) (xs : List Happening) (m : ℕ) (a : Machine) (d : Daemon) (q : Submitted) → IsLook p h xs m a d q → (bs : List (Option Block))
     → blocks_given d.setting.layout q ≡ Some bs → (id : ℕ) → 1 ≤ id → (own : Block) → block_of_host bs id ≡ Some own → own.host ≡ id
 found_host p h xs m a d q k bs given id low own block =
     let l = looked p h xs m a d q k bs given (id - 1) own (own_there bs id own block) in
-    (block_in_is (id - 1 + 1) _ own l.spells).1 ∙ back_on id low
+    (block_in_is (id - 1 + 1) _ own l.spells).1 ∙ back_again id low
 
 -- Each block that was sent by a session of a host names it.
 pub block_host : (p : Program) (h : Header) (xs : List Happening) → LawfulRun p h xs → (x : Sent) (s : Standing (world_at p h xs) x)

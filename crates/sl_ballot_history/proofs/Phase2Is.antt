@@ -21,6 +21,7 @@ use Rattle.sl_lease_law.proofs.RestLaws.{phase2_follows}
 use Rattle.sl_lease_law.specs.Ways.{Phase2Rests}
 use Rattle.sl_leases.specs.Ballots.{ballot_blocks, moded_block, phase2_block, value_to_write}
 use Rattle.sl_leases.specs.Leases.{Phase1_write, Phase2_write, blocks_given, is_at, is_on}
+use Rattle.sl_plain.proofs.Numbers.{lt_then_le}
 use Rattle.sl_resource_history.proofs.Above.{IsAmong, WrittenAt, answer_step, answered_before, is_among, line_aligned, reads_work, told_spot, written_at}
 use Rattle.sl_resource_history.proofs.Bases.{own_host}
 use Rattle.sl_resource_history.proofs.Calls.{worker_joined}
@@ -43,7 +44,7 @@ use Rattle.sl_trace.specs.Traces.{Answered, Setting, Submitted, Trace, new_call,
 use Rattle.sl_trace.specs.declared.effects.Call.{Call}
 use Rattle.sl_trace.specs.declared.effects.Spot.{Spot}
 use Rattle.sl_words.proofs.CaseLaws.{some_value}
-use Rattle.std.proofs.Common.{ap, append_assoc, arith, subst, sym, ◌∙◌}
+use Rattle.std.proofs.Common.{ap, append_assoc, subst, sym, ◌∙◌}
 use Rattle.std.specs.Option.{option_map_or}
 use Rattle.std.specs.Prelude.{Contains, List, Option, Some, is_some, option_and_then, true, ℕ, ◌++◌, ◌<◌, ◌∷◌, ◌≡◌, ◌≤◌, ◌⊎◌}
 
@@ -104,9 +105,6 @@ record PhaseRead (p : Program) (h : Header) (xs : List Happening) (r : ResourceL
 heard_of : (d : Daemon) (c : Course) (q : Submitted) (a : Answered) → IsCourseOf d c q → q.answer ≡ Some a → IsAnsweredAs d c a
 heard_of d c q a pair told = subst (λ o. AnswersAgree d c o) told pair.answers
 
-less_up : (a b c : ℕ) → a < b → b ≤ c → a < c
-less_up a b c p q = omega (arith, p, q)
-
 phase_read : (p : Program) (h : Header) (xs : List Happening) → LawfulRun p h xs → (r : ResourceLine) → Contains h.resources r → HostsJoin (world_at p h xs) r.lockspace
     → (e : ℕ) (x : WrittenAt p h xs r e) (k : Behind p h xs r e x) → PhaseRead p h xs r e x k
 phase_read p h xs run r there hosts e x k =
@@ -131,13 +129,13 @@ phase_read p h xs run r there hosts e x k =
     acked_by p h xs run x.sent.machine s.machine s.daemon s.at s.has k.y.sent k.rests.write k.y.pair q z.sent.course z.pair.made k.rests.ordered in
     let v = written_there p h xs run r there x.sent s k.rests.write k.y own k.rests.wrote.0 in
     let sv = standing p h xs run k.y.sent k.y.has in
-    let after : step_of k.y.sent < step_of z.sent = less_up (step_of k.y.sent) acked.stamp.step (step_of z.sent) (sv.timed.answered acked.stamp acked.answered) acked.by in
+    let after : step_of k.y.sent < step_of z.sent = lt_then_le (step_of k.y.sent) acked.stamp.step (step_of z.sent) (sv.timed.answered acked.stamp acked.answered) acked.by in
     let spot = told_spot p h xs run at (line_aligned p h xs run r there) x.sent s x.on in
     let by = answered_before p h xs run x.sent s (block_works x.sent.course x.block x.wrote) k.area q (subst (λ a. IsAmong st s.session a s.told.older q) (sym spot) among)
     (reads_work st.layout q k.rests.blocks k.rests.given) in
     let heard = heard_of s.daemon z.sent.course q by.answer z.pair by.answered in
     let early : heard.stamp.step ≤ step_of x.sent = answer_step p h xs run x.sent s q by by.answer by.answered heard.stamp heard.entry in
-    let before : step_of z.sent < step_of x.sent = less_up (step_of z.sent) heard.stamp.step (step_of x.sent) (z.stands.timed.answered heard.stamp heard.answered) early in
+    let before : step_of z.sent < step_of x.sent = lt_then_le (step_of z.sent) heard.stamp.step (step_of x.sent) (z.stands.timed.answered heard.stamp heard.answered) early in
     let joined : is_joined_there w r.lockspace (sender_of z.sent) ≡ true = ap (λ i. is_joined_there w r.lockspace i) sender ∙ k.joined in
     let block : block_of_course k.y.sent.course ≡ Some own = last_wrote w at x.sent s k.rests.write k.y own k.rests.wrote.0 in
     let joined_y : is_joined_there w r.lockspace (sender_of k.y.sent) ≡ true = ap (λ i. is_joined_there w r.lockspace i) k.y.sender ∙ k.joined in

@@ -4,7 +4,9 @@ use Rattle.sl_law.specs.LawfulArea.{is_area_work}
 use Rattle.sl_lease_law.specs.Ways.{lease_among}
 use Rattle.sl_leases.specs.Leases.{block_of_record, block_written, is_lease_call, is_on}
 use Rattle.sl_moment_law.specs.Orders.{CallsFall}
-use Rattle.sl_place_law.proofs.Finding.{finds, found_in, same_number}
+use Rattle.sl_place_law.proofs.Finding.{finds}
+use Rattle.sl_plain.proofs.Lists.{contains_cases, contains_first, contains_more, find_inside}
+use Rattle.sl_plain.proofs.Numbers.{below_next, both_ways, refl_le}
 use Rattle.sl_resource_history.proofs.Above.{line_aligned}
 use Rattle.sl_resource_history.proofs.Calls.{block_at_step}
 use Rattle.sl_resource_history.proofs.Lasting.{kept_calls, lease_kept}
@@ -18,15 +20,15 @@ use Rattle.sl_run.specs.Safety.{LawfulRun, world_at}
 use Rattle.sl_run.specs.Worlds.{Course, Daemon, Program, World}
 use Rattle.sl_run.specs.declared.header.Header.{Header}
 use Rattle.sl_run.specs.declared.header.ResourceLine.{ResourceLine}
-use Rattle.sl_session_law.proofs.Making.{contains_cases, contains_first, contains_more}
 use Rattle.sl_sessions.specs.Sessions.{is_call_of}
 use Rattle.sl_trace.specs.Traces.{Submitted, is_write, new_call, record_of}
 use Rattle.sl_trace.specs.declared.effects.Call.{Call}
 use Rattle.sl_trace.specs.declared.effects.Spot.{Spot}
 use Rattle.sl_words.proofs.CaseLaws.{false_is_true, none_some, some_value, true_is_false}
 use Rattle.sl_words.proofs.WordLaws.{and_true}
-use Rattle.std.proofs.Common.{ap, arith, inl, inr, refl, subst, sym, ◌∙◌}
-use Rattle.std.specs.Prelude.{Bool, Contains, List, None, Option, Some, cond, false, find, is_some, option_and_then, true, [], ℕ, ◌&&◌, ◌+◌, ◌<◌, ◌||◌, ◌∷◌, ◌≡◌, ◌≤◌}
+use Rattle.std.proofs.Common.{ap, inl, inr, refl, subst, sym, ◌∙◌}
+use Rattle.std.proofs.lemmas.Bool.{eqb-true, or_left}
+use Rattle.std.specs.Prelude.{Bool, Contains, List, None, Option, Some, cond, false, find, is_some, option_and_then, true, [], ℕ, ◌&&◌, ◌+◌, ◌<◌, ◌∷◌, ◌≡◌, ◌≤◌}
 
 -- ---- the last block among calls that pass
 
@@ -40,12 +42,6 @@ pub record LastWrite (d : Daemon) (T : Call → Bool) (cs : List Course) (write 
 
 abbrev writes_by : Call → Bool
 writes_by c = is_some (option_and_then block_of_record (record_of c.op))
-
-refl_le : (n : ℕ) → n ≤ n
-refl_le n = omega arith
-
-no_more : (a b : ℕ) → a < b + 1 → a ≤ b
-no_more a b h = omega (arith, h)
 
 one_more : (d : Daemon) (T : Call → Bool) (c : Course) (cs : List Course) (write : Submitted) → (T c.call ≡ true → writes_block c ≡ true → ⊥) → LastWrite d T cs write
     → LastWrite d T (c ∷ cs) write
@@ -73,7 +69,7 @@ head_is d T c m cs write pair same passes writes fall =
       writes = writes;
       newest = λ e has q wrote. elim (contains_cases c cs e has) as (λ z. e.made.step ≤ c.made.step) [
         | inl here ↦ subst (λ (x : Course). x.made.step ≤ c.made.step) here (refl_le c.made.step)
-        | inr more ↦ no_more e.made.step c.made.step (calls_below (c.made.step + 1) cs e fall more)
+        | inr more ↦ below_next e.made.step c.made.step (calls_below (c.made.step + 1) cs e fall more)
       ];
     }
 
@@ -116,13 +112,6 @@ pub record OwnLast (w : World) (at : Spot) (x : Sent) (s : Standing w x) (write 
   pub newest : (v : Sent) → Contains (all_sent w) v → is_on w.layout at v.course.call ≡ true → writes_block v.course ≡ true → sender_of v ≡ sender_of x → step_of v < step_of x
       → step_of v ≤ step_of sent
 
-pub both_ways : (a b : ℕ) → a ≤ b → b ≤ a → a ≡ b
-both_ways a b p q = omega (arith, p, q)
-
-or_left : (a b : Bool) → a ≡ true → (a || b) ≡ true
-or_left true b h = refl
-or_left false b h = absurd (false_is_true h)
-
 block_is_work : (c : Course) → writes_block c ≡ true → works c.call ≡ true
 block_is_work c writes = by (option_and_then block_of_record (record_of c.call.op)) refl writes where
   by : (o : Option _) → option_and_then block_of_record (record_of c.call.op) ≡ o → is_some o ≡ true → works c.call ≡ true
@@ -158,7 +147,7 @@ own_last p h xs run r there x s on work area write found =
     let inside = sent_there w x.machine s.machine l.course s.at i.0 in
     let one = and_true (is_call_of s.session (new_call 0 0 l.course.call)) (is_lease_call (new_call 0 0 l.course.call) && is_on s.daemon.setting.layout at l.course.call) l.passes in
     let two = and_true (is_lease_call (new_call 0 0 l.course.call)) (is_on s.daemon.setting.layout at l.course.call) one.1 in
-    let session : l.course.call.session ≡ x.course.call.session = same_number l.course.call.session s.session.number one.0 ∙ number_at w x s in
+    let session : l.course.call.session ≡ x.course.call.session = eqb-true l.course.call.session s.session.number one.0 ∙ number_at w x s in
     let same : sender_of z ≡ sender_of x =
     session_as x.machine l.course.daemon l.course.call.session x.machine x.course.daemon x.course.call.session refl i.1 session in
     let layout = layout_at p h xs run x s in
@@ -168,7 +157,7 @@ own_last p h xs run r there x s on work area write found =
     made_before p h xs run x s l.course l.has session work area (block_is_work l.course l.writes) (ap (λ q. is_on w.layout q l.course.call) spot ∙ on_z) in
     let passes : P z ≡ true = before_is w at x z less on_z l.writes same in
     let y = finds P (all_sent w) z passes inside in
-    let its = found_in P (all_sent w) y.0 y.1 in
+    let its = find_inside P (all_sent w) y.0 y.1 in
     let g = is_before w at x y.0 its.1 in
     let up : l.course.made.step ≤ step_of y.0 =
     newest P w x.machine w.step s.machine y.0 l.course s.at s.falls (λ v passed. ap (λ k. k.machine) (is_before w at x v passed).sender) i.0 passes y.1 in

@@ -3,19 +3,21 @@ use Rattle.sl_area.specs.Layouts.{Layout, record_in, sector_with}
 use Rattle.sl_area.specs.Places.{block_offset, blocks_in, fresh_block, read_at as sector_read, sector_of}
 use Rattle.sl_ballot_history.proofs.Phase2First.{fresh_at_first}
 use Rattle.sl_ballot_history.proofs.Phase2Hosts.{block_host}
+use Rattle.sl_course_law.proofs.Distinct.{nothing_more}
 use Rattle.sl_course_law.specs.Stamping.{AnswersAgree, IsAnsweredAs}
 use Rattle.sl_landing_law.specs.Landings.{LeftBy}
 use Rattle.sl_leases.specs.Leases.{block_of_record, blocks_given, is_area_read, is_block_read, is_on}
 use Rattle.sl_place_law.proofs.Areas.{sector_fits}
-use Rattle.sl_place_law.proofs.Finding.{equal_numbers}
 use Rattle.sl_place_law.proofs.Reading.{answer_gave, digest_is, writes_record}
 use Rattle.sl_place_law.proofs.Seats.{sized_in}
+use Rattle.sl_plain.proofs.Numbers.{one_again, one_further}
 use Rattle.sl_resource_history.proofs.Above.{reads_by}
 use Rattle.sl_resource_history.proofs.Bases.{own_host}
 use Rattle.sl_resource_history.proofs.Calls.{owned}
 use Rattle.sl_resource_history.proofs.Looking.{By_area, By_phase, Gave, given_blocks}
 use Rattle.sl_resource_history.proofs.Owning.{layout_at}
-use Rattle.sl_resource_history.proofs.Shown.{IsShownOf, shown_of, stands_there}
+use Rattle.sl_resource_history.proofs.Recalled.{found_bytes}
+use Rattle.sl_resource_history.proofs.Shown.{IsShownOf, host_range, shown_of, stands_there}
 use Rattle.sl_resource_history.proofs.Standing.{Standing, standing}
 use Rattle.sl_resource_history.specs.Histories.{is_host, landing_shown, sector_number}
 use Rattle.sl_resource_history.specs.Promises.{spot_of_line}
@@ -34,13 +36,12 @@ use Rattle.sl_sector.specs.declared.sector.Rec.TheVariants.{BlockIs}
 use Rattle.sl_trace.specs.Traces.{Answered, Submitted, gave, is_ok_answer, new_call, record_of}
 use Rattle.sl_trace.specs.declared.effects.Call.{Call}
 use Rattle.sl_words.proofs.CaseLaws.{false_is_true, none_some, some_value, true_is_false}
-use Rattle.sl_words.proofs.WordLaws.{and_true}
 use Rattle.sl_words.specs.Words.{choose}
 use Rattle.std.proofs.Common.{ap, arith, inl, inr, refl, subst, sym, ◌∙◌}
-use Rattle.std.proofs.lemmas.Bool.{leb-true}
+use Rattle.std.proofs.lemmas.Bool.{eq-eqb}
 use Rattle.std.proofs.lemmas.List.{drop-drop}
 use Rattle.std.specs.List.{range_with_len}
-use Rattle.std.specs.Prelude.{Bool, Contains, List, None, Ok, Option, Some, drop, false, if◌then◌else◌, map, nat_le, option_and_then, slice_get, suc, take, true, zero, ℕ, ◌*◌, ◌+◌, ◌-◌, ◌<◌, ◌==◌, ◌≡◌, ◌≤◌}
+use Rattle.std.specs.Prelude.{Bool, Contains, List, None, Ok, Option, Some, drop, false, if◌then◌else◌, map, option_and_then, slice_get, suc, take, true, zero, ℕ, ◌*◌, ◌+◌, ◌-◌, ◌<◌, ◌==◌, ◌≡◌, ◌≤◌}
 
 -- ---- in the trace
 
@@ -56,15 +57,10 @@ pub record ReadTold (w : World) (z : Sent) (s : Standing w z) (bs : List (Option
   pub sampled : bytes ≡ z.course.sampled
   pub reads : reads_blocks z.course ≡ true
 
--- What gave blocks gave bytes.
-pub gave_bytes : (g : Layout) (q : Submitted) (bs : List (Option Block)) → Gave g q bs → (bytes : List ℕ) × (gave q ≡ Some bytes)
-gave_bytes g q bs (By_area bytes told is same) = (bytes, told)
-gave_bytes g q bs (By_phase bytes told alone is same) = (bytes, told)
-
 pub read_told : (w : World) (z : Sent) (s : Standing w z) (bs : List (Option Block)) → blocks_given s.daemon.setting.layout s.told.one ≡ Some bs → ReadTold w z s bs
 read_told w z s bs given =
     let by = given_blocks s.daemon.setting.layout s.told.one bs given in
-    let bytes = gave_bytes s.daemon.setting.layout s.told.one bs by in
+    let bytes = found_bytes s.daemon.setting.layout s.told.one bs by in
     let a = answer_gave s.told.one.answer bytes.0 bytes.1 in
     let heard : IsAnsweredAs s.daemon z.course a.0 = subst (λ o. AnswersAgree s.daemon z.course o) a.1 s.told.pair.answers in
     record {
@@ -81,12 +77,6 @@ read_told w z s bs given =
 
 -- ---- what was given of a host
 
-one_further : (a j : ℕ) → a + 1 + j ≡ a + suc j
-one_further a j = omega arith
-
-no_further : (a : ℕ) → a + 0 ≡ a
-no_further a = omega arith
-
 less_one : (j n : ℕ) → suc j < suc n → j < n
 less_one j n h = omega (arith, h)
 
@@ -95,14 +85,11 @@ nothing_below j h = omega (arith, h)
 
 ranged_at : {A : Type 0} (f : ℕ → A) (a n j : ℕ) → j < n → slice_get (map f (range_with_len a n)) j ≡ Some (f (a + j))
 ranged_at f a zero j lt = absurd (nothing_below j lt)
-ranged_at f a (suc n) zero lt = ap (λ i. Some (f i)) (sym (no_further a))
+ranged_at f a (suc n) zero lt = ap (λ i. Some (f i)) (sym (nothing_more a))
 ranged_at f a (suc n) (suc j) lt = ranged_at f (a + 1) n j (less_one j n lt) ∙ ap (λ i. Some (f i)) (one_further a j)
 
 below_hosts : (k n : ℕ) → 1 ≤ k → k ≤ n → k - 1 < n
 below_hosts k n low high = omega (arith, low, high)
-
-same_host : (k : ℕ) → 1 ≤ k → 1 + (k - 1) ≡ k
-same_host k low = omega (arith, low)
 
 two_on : (s k : ℕ) → s ≡ 512 → 1 ≤ k → 2 * s + (k - 1) * s ≡ (k + 1) * s
 two_on s k h low = subst (λ x. 2 * x + (k - 1) * x ≡ (k + 1) * x) (sym h) (omega (arith, low))
@@ -114,7 +101,7 @@ block_there : (g : Layout) (bytes : List ℕ) (k : ℕ) → 1 ≤ k → k ≤ g.
     → slice_get (blocks_in g bytes) (k - 1) ≡ Some (block_in k (record_in g (sector_of g bytes (k - 1))))
 block_there g bytes k low high =
     ranged_at (λ i. block_in i (sector_read g bytes (i - 1))) 1 g.hosts (k - 1) (below_hosts k g.hosts low high)
-    ∙ ap (λ i. Some (block_in i (sector_read g bytes (i - 1)))) (same_host k low)
+    ∙ ap (λ i. Some (block_in i (sector_read g bytes (i - 1)))) (one_again k low)
 
 abbrev number_if : Bool → ℕ → ℕ
 number_if area k = if area then k + 1 else k - 1
@@ -130,9 +117,6 @@ given_of g q bs k size low high (By_phase some told alone is same) bytes gives =
     let one : some ≡ bytes = some_value some bytes (sym told ∙ gives) in
     ap (λ l. slice_get l (k - 1)) same ∙ block_there g some k low high
     ∙ ap (λ l. Some (block_in k (record_in g (sector_of g l (k - 1))))) one ∙ ap (λ b. Some (block_in k (record_in g (sector_of g bytes (number_if b k))))) (sym alone)
-
-pub host_range : (w : World) (k : ℕ) → is_host w k ≡ true → (1 ≤ k) × (k ≤ w.layout.hosts)
-host_range w k host = let b = and_true (nat_le 1 k) (nat_le k w.layout.hosts) host in (leb-true 1 k b.0, leb-true k w.layout.hosts b.1)
 
 -- A host's place in a read.
 pub record GivenAt (w : World) (z : Sent) (bs : List (Option Block)) (k : ℕ) : Type 0 where
@@ -175,7 +159,7 @@ whole_spells p h xs run r there k host i l at whole =
           record {
             block = fresh_block k;
             spells = ap (λ (y : Landing). block_in k (record_in w.layout y.bytes)) first ∙ ap (λ x. block_in k x) (fresh_at_first p h xs run r there k host)
-                ∙ choose_it (k == k) (fresh_block k) (equal_numbers k k refl);
+                ∙ choose_it (k == k) (fresh_block k) (eq-eqb k k refl);
           }
       | inr b ↦
           let o = owned p h xs run b.sent b.there in
@@ -192,7 +176,7 @@ whole_spells p h xs run r there k host i l at whole =
           block_host p h xs run b.sent s (ap (λ n. is_host w n) id ∙ host) b.block (ap (λ q. option_and_then block_of_record q) b.writes) ∙ id in
           record {
             block = b.block;
-            spells = ap (λ x. block_in k x) read ∙ choose_it (b.block.host == k) b.block (equal_numbers b.block.host k named);
+            spells = ap (λ x. block_in k x) read ∙ choose_it (b.block.host == k) b.block (eq-eqb b.block.host k named);
           }
     ]
 

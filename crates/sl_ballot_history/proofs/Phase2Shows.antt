@@ -1,15 +1,16 @@
 -- What the history has of a read: of each host the block that the ballot goes by, the own torn one as it was last submitted; and each
 -- block that the ballot goes by it has of a host.
-use Rattle.sl_ballot_history.proofs.Phase2Reads.{given_at, host_range, not_torn, read_told}
+use Rattle.sl_ballot_history.proofs.Phase2Reads.{given_at, not_torn, read_told}
 use Rattle.sl_ballots.specs.Ballots.{IsClean}
 use Rattle.sl_ballots.specs.History.{History}
 use Rattle.sl_leases.specs.Ballots.{ballot_blocks, known_block, stop_of, with_own}
 use Rattle.sl_leases.specs.Leases.{blocks_given, is_on}
-use Rattle.sl_place_law.proofs.Finding.{equal_numbers, same_number}
+use Rattle.sl_plain.proofs.Numbers.{one_again, zero_is_least}
 use Rattle.sl_resource_history.proofs.Bases.{own_host}
 use Rattle.sl_resource_history.proofs.Calls.{read_at_step}
 use Rattle.sl_resource_history.proofs.Clear.{IsClear, IsWhole, all_whole, is_clear, taken_at}
 use Rattle.sl_resource_history.proofs.Rising.{ShowsBlock, block_of_none, block_of_step, read_shows_block}
+use Rattle.sl_resource_history.proofs.Shown.{host_range}
 use Rattle.sl_resource_history.proofs.Standing.{Standing}
 use Rattle.sl_resource_history.specs.Histories.{counts_own, history_block, is_host, landing_shown, no_block, own_before, shown_by, shows_by, shows_whole, step_of_landing}
 use Rattle.sl_resource_history.specs.Promises.{history_of_line, spot_of_line}
@@ -24,10 +25,10 @@ use Rattle.sl_trace.specs.declared.effects.Spot.{Spot}
 use Rattle.sl_words.proofs.CaseLaws.{none_some, some_value}
 use Rattle.sl_words.proofs.WordLaws.{some_is_true}
 use Rattle.sl_words.specs.Words.{some_is}
-use Rattle.std.proofs.Common.{ap, arith, refl, subst, sym, ◌∙◌}
-use Rattle.std.proofs.lemmas.Bool.{and_from}
+use Rattle.std.proofs.Common.{ap, refl, subst, sym, ◌∙◌}
+use Rattle.std.proofs.lemmas.Bool.{and_from, eq-eqb, eqb-true}
 use Rattle.std.specs.Option.{option_map_or}
-use Rattle.std.specs.Prelude.{Bool, Contains, List, None, Option, Some, false, if◌then◌else◌, is_some, slice_get, true, unwrap_or, ℕ, ◌+◌, ◌-◌, ◌==◌, ◌≡◌, ◌≤◌}
+use Rattle.std.specs.Prelude.{Bool, Contains, List, None, Option, Some, false, if◌then◌else◌, is_some, slice_get, true, unwrap_or, ℕ, ◌-◌, ◌==◌, ◌≡◌, ◌≤◌}
 
 -- A read of a session with the blocks that it gave, and the block that the session wrote last before.
 pub record OwnRead (w : World) (r : ResourceLine) (z : Sent) (own : Block) (bs : List (Option Block)) : Type 0 where
@@ -104,7 +105,7 @@ own_shown p h xs run r there z own bs o k host its none false whole =
     let at : Spot = spot_of_line r in
     let same : (holder_of w (sender_of z)).id ≡ k = own_host w z o.stands ∙ sym o.named ∙ sym its in
     record {
-      shows = shows_at w at k z false host whole ∙ and_from _ _ (equal_numbers (holder_of w (sender_of z)).id k same) (ap (λ q. is_some q) o.before);
+      shows = shows_at w at k z false host whole ∙ and_from _ _ (eq-eqb (holder_of w (sender_of z)).id k same) (ap (λ q. is_some q) o.before);
       shown = ap (λ n. (history_of_line p h xs r).block n) (shown_at w at k z false host whole ∙ ap (λ q. option_map_or step_of q 0) o.before)
           ∙ block_of_step p h xs run r there o.last own o.last_has o.last_on o.block;
     }
@@ -117,13 +118,10 @@ record TakenAs (own : Block) (bs : List (Option Block)) (k : ℕ) (o : Option Bl
   taken : slice_get (with_own own 1 bs) (k - 1) ≡ Some (k, Some block)
   among : Contains (ballot_blocks own bs) block
 
-same_place : (k : ℕ) → 1 ≤ k → 1 + (k - 1) ≡ k
-same_place k low = omega (arith, low)
-
 taken_as : (own : Block) (bs : List (Option Block)) → IsClear own bs → (k : ℕ) → 1 ≤ k → (o : Option Block) → slice_get bs (k - 1) ≡ Some o → TakenAs own bs k o
 taken_as own bs c k low o given =
     let at : slice_get (with_own own 1 bs) (k - 1) ≡ Some (k, known_block own o k) =
-    taken_at own 1 bs (k - 1) o given ∙ ap (λ n. Some (n, known_block own o n)) (same_place k low) in
+    taken_at own 1 bs (k - 1) o given ∙ ap (λ n. Some (n, known_block own o n)) (one_again k low) in
     let w : IsWhole (with_own own 1 bs) (k, known_block own o k) = all_whole (with_own own 1 bs) (k - 1) (k, known_block own o k) c.whole at in
     record { block = w.block; is = w.is; taken = at ∙ ap (λ x. Some (k, x)) w.is; among = w.has }
 
@@ -132,7 +130,7 @@ known_whole own b k true = refl
 known_whole own b k false = refl
 
 known_torn : (own : Block) (b : Block) (k : ℕ) (t : Bool) → (k == own.host) ≡ t → (if t then Some (unwrap_or None own) else None) ≡ Some b → (k ≡ own.host) × (own ≡ b)
-known_torn own b k true is h = (same_number k own.host is, some_value own b h)
+known_torn own b k true is h = (eqb-true k own.host is, some_value own b h)
 known_torn own b k false is h = absurd (none_some b h)
 
 shows_taken : (p : Program) (h : Header) (xs : List Happening) → LawfulRun p h xs → (r : ResourceLine) → Contains h.resources r → (z : Sent) (own : Block) (bs : List (Option Block))
@@ -183,9 +181,6 @@ none_shown p h xs run r there z own bs o k host =
 
 -- ---- nothing stops the ballot
 
-pub none_below : (a b : ℕ) → a ≡ 0 → a ≤ b
-none_below a b h = omega (arith, h)
-
 host_clear : (h : History) (read k : ℕ) (own : Block) (bs : List (Option Block)) → HostShown h read k own bs → IsClear own bs
     → ((h.block (h.shown read k)).lver ≤ own.lver) × ((h.block (h.shown read k)).lver ≡ own.lver → (h.block (h.shown read k)).mbal ≤ own.mbal)
 host_clear h read k own bs s c = (
@@ -210,8 +205,8 @@ clear_at p h xs run r there z own bs o k false host =
     let s = none_shown p h xs run r there z own bs o k host in
     record {
       shows = s.shows;
-      lver = none_below (H.block (H.shown (step_of z) k)).lver own.lver (ap (λ y. y.lver) s.shown);
-      mbal = λ same. none_below (H.block (H.shown (step_of z) k)).mbal own.mbal (ap (λ y. y.mbal) s.shown);
+      lver = zero_is_least (H.block (H.shown (step_of z) k)).lver own.lver (ap (λ y. y.lver) s.shown);
+      mbal = λ same. zero_is_least (H.block (H.shown (step_of z) k)).mbal own.mbal (ap (λ y. y.mbal) s.shown);
     }
 
 -- The read stops no ballot of the own block.

@@ -4,7 +4,7 @@ use Rattle.sl_course_law.specs.Stamping.{IsCourseOf, Pairwise, courses_of}
 use Rattle.sl_front_law.proofs.Having.{contains_right}
 use Rattle.sl_law.specs.Lawful.{Lawful}
 use Rattle.sl_moment_law.specs.Orders.{CallsFall}
-use Rattle.sl_place_law.proofs.Finding.{filtered, same_number}
+use Rattle.sl_plain.proofs.Lists.{contains_first, kept_inside}
 use Rattle.sl_resource_history.proofs.Latest.{sent_as}
 use Rattle.sl_resource_history.proofs.Standing.{PairParts, Standing, fall_behind, sent_there, standing}
 use Rattle.sl_resource_history.proofs.Steps.{one_daemon}
@@ -13,11 +13,11 @@ use Rattle.sl_run.specs.Runs.{Happening}
 use Rattle.sl_run.specs.Safety.{LawfulRun, world_at}
 use Rattle.sl_run.specs.Worlds.{Course, Daemon, Machine, Program, World, daemon_numbered, daemons_on, machine_at}
 use Rattle.sl_run.specs.declared.header.Header.{Header}
-use Rattle.sl_session_law.proofs.Making.{contains_first}
 use Rattle.sl_sessions.specs.Sessions.{Session, session_numbered}
 use Rattle.sl_trace.specs.Traces.{Submitted, submitted}
 use Rattle.sl_words.proofs.CaseLaws.{one_value}
 use Rattle.std.proofs.Common.{ap, refl, subst, sym, ◌∙◌}
+use Rattle.std.proofs.lemmas.Bool.{eqb-true}
 use Rattle.std.specs.Prelude.{Contains, List, Some, [], ℕ, ◌++◌, ◌==◌, ◌∷◌, ◌≡◌}
 
 -- ---- the other list in parts
@@ -62,8 +62,8 @@ stands_at p h xs run m a d at has law newer older q is s known =
     let o = other_parts (IsCourseOf d) (courses_of a d.number) newer q older
     (subst (λ ms. Pairwise (IsCourseOf d) (courses_of a d.number) ms) is (courses_are_calls p h xs run m a d at has)) in
     let c : Course = o.one in
-    let f = filtered (λ (x : Course). x.daemon == d.number) a.calls c (subst (λ cs. Contains cs c) (sym o.is) (contains_right o.newer (c ∷ o.older) c (contains_first c o.older))) in
-    let number : c.daemon ≡ d.number = same_number c.daemon d.number f.1 in
+    let f = kept_inside (λ (x : Course). x.daemon == d.number) a.calls c (subst (λ cs. Contains cs c) (sym o.is) (contains_right o.newer (c ∷ o.older) c (contains_first c o.older))) in
+    let number : c.daemon ≡ d.number = eqb-true c.daemon d.number f.1 in
     let z : Sent = sent_as m c in
     let there : Contains (all_sent w) z = sent_there w m a c at f.0 in
     let k = standing p h xs run z there in

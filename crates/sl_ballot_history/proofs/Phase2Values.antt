@@ -2,11 +2,13 @@
 use Rattle.sl_area.specs.Layouts.{Layout}
 use Rattle.sl_area.specs.Places.{read_at as sector_read}
 use Rattle.sl_ballot_history.proofs.Phase2Reads.{read_told}
-use Rattle.sl_ballot_history.proofs.Phase2Shows.{OwnRead, host_shown, none_below, none_shown}
+use Rattle.sl_ballot_history.proofs.Phase2Shows.{OwnRead, host_shown, none_shown}
 use Rattle.sl_ballot_history.specs.Endings.{holder_as}
 use Rattle.sl_ballots.specs.Ballots.{ProposesItself, ProposesSeen}
 use Rattle.sl_ballots.specs.History.{History}
 use Rattle.sl_leases.specs.Ballots.{ballot_blocks, value_to_write, whole_blocks, with_own}
+use Rattle.sl_plain.proofs.Lists.{contains_cases, contains_none}
+use Rattle.sl_plain.proofs.Numbers.{both_next, zero_is_least, zero_less}
 use Rattle.sl_resource_history.proofs.Looking.{By_area, By_phase, Gave}
 use Rattle.sl_resource_history.proofs.Owning.{layout_at}
 use Rattle.sl_resource_history.proofs.Values.{Another, Itself, Proposes, proposes}
@@ -21,14 +23,12 @@ use Rattle.sl_run.specs.declared.header.ResourceLine.{ResourceLine}
 use Rattle.sl_sector.specs.Spelling.{block_in}
 use Rattle.sl_sector.specs.declared.sector.Block.{Block}
 use Rattle.sl_sector.specs.declared.sector.Owner.{Owner}
-use Rattle.sl_session_law.proofs.Making.{contains_cases, contains_none}
 use Rattle.sl_trace.specs.Traces.{Submitted}
 use Rattle.sl_words.proofs.CaseLaws.{none_some, some_value}
 use Rattle.std.proofs.Common.{ap, arith, inl, inr, refl, subst, sym, ◌∙◌}
-use Rattle.std.proofs.lemmas.Bool.Decides.{nat_tests}
-use Rattle.std.proofs.lemmas.Bool.{and_from}
+use Rattle.std.proofs.lemmas.Bool.{and_from, le-leb}
 use Rattle.std.specs.List.{cons_option, range_with_len}
-use Rattle.std.specs.Prelude.{Bool, Contains, List, None, Option, Some, false, map, nat_le, slice_get, suc, true, zero, [], ℕ, ◌+◌, ◌-◌, ◌<◌, ◌∷◌, ◌≡◌, ◌≤◌, ◌⊎◌}
+use Rattle.std.specs.Prelude.{Bool, Contains, List, None, Option, Some, false, map, slice_get, suc, true, zero, [], ℕ, ◌+◌, ◌-◌, ◌<◌, ◌∷◌, ◌≡◌, ◌≤◌, ◌⊎◌}
 
 -- ---- each block that the ballot goes by is of a host
 
@@ -59,16 +59,10 @@ read_there own host [] j p at = absurd (none_some p at)
 read_there own host (b ∷ bs) zero p at = (b, refl)
 read_there own host (b ∷ bs) (suc j) p at = read_there own (host + 1) bs j p at
 
-less_more : (j n : ℕ) → j < n → suc j < suc n
-less_more j n h = omega (arith, h)
-
-some_more : (n : ℕ) → 0 < suc n
-some_more n = omega arith
-
 ranged_below : {A : Type 0} (f : ℕ → A) (a n j : ℕ) (y : A) → slice_get (map f (range_with_len a n)) j ≡ Some y → j < n
 ranged_below f a zero j y h = absurd (none_some y h)
-ranged_below f a (suc n) zero y h = some_more n
-ranged_below f a (suc n) (suc j) y h = less_more j n (ranged_below f (a + 1) n j y h)
+ranged_below f a (suc n) zero y h = zero_less n
+ranged_below f a (suc n) (suc j) y h = both_next j n (ranged_below f (a + 1) n j y h)
 
 given_below : (g : Layout) (q : Submitted) (bs : List (Option Block)) (j : ℕ) (o : Option Block) → Gave g q bs → slice_get bs j ≡ Some o → j < g.hosts
 given_below g q bs j o (By_area bytes told is same) at = ranged_below (λ k. block_in k (sector_read g _ (k - 1))) 1 g.hosts j o (ap (λ l. slice_get l j) (sym same) ∙ at)
@@ -79,9 +73,6 @@ one_on j n h = (omega arith, omega (arith, h))
 
 back_one : (j : ℕ) → j ≡ 1 + j - 1
 back_one j = omega arith
-
-le_test : (a b : ℕ) → a ≤ b → nat_le a b ≡ true
-le_test a b h = grind (arith, nat_tests)
 
 -- A host whose block in the history it is.
 pub record OfHost (w : World) (h : History) (read : ℕ) (own : Block) (bs : List (Option Block)) (b : Block) : Type 0 where
@@ -99,7 +90,7 @@ of_host p h xs run r there z own bs o b has =
     let below : f.index < w.layout.hosts =
     subst (λ g. f.index < g.hosts) (layout_at p h xs run z o.stands) (given_below o.stands.daemon.setting.layout o.stands.told.one bs f.index read.0 t.by read.1) in
     let range = one_on f.index w.layout.hosts below in
-    let host : is_host w (1 + f.index) ≡ true = and_from _ _ (le_test 1 (1 + f.index) range.0) (le_test (1 + f.index) w.layout.hosts range.1) in
+    let host : is_host w (1 + f.index) ≡ true = and_from _ _ (le-leb 1 (1 + f.index) range.0) (le-leb (1 + f.index) w.layout.hosts range.1) in
     let s = host_shown p h xs run r there z own bs o (1 + f.index) host in
     let pair : f.pair ≡ (1 + f.index, Some s.block) =
     some_value f.pair (1 + f.index, Some s.block) (sym f.at ∙ ap (λ j. slice_get (with_own own 1 bs) j) (back_one f.index) ∙ s.taken) in
@@ -130,7 +121,7 @@ most_of p h xs run r there z own bs o best all k true host same =
     let s = host_shown p h xs run r there z own bs o k host in
     subst (λ y. y.bal ≤ best) (sym s.shown) (all s.block s.among (ap (λ y. y.lver) (sym s.shown) ∙ same))
 most_of p h xs run r there z own bs o best all k false host same =
-    none_below ((history_of_line p h xs r).block ((history_of_line p h xs r).shown (step_of z) k)).bal best (ap (λ y. y.bal) (none_shown p h xs run r there z own bs o k host).shown)
+    zero_is_least ((history_of_line p h xs r).block ((history_of_line p h xs r).shown (step_of z) k)).bal best (ap (λ y. y.bal) (none_shown p h xs run r there z own bs o k host).shown)
 
 proposes_by : (p : Program) (h : Header) (xs : List Happening) → LawfulRun p h xs → (r : ResourceLine) → Contains h.resources r → (e : ℕ) (z : Sent) (own : Block) (bs : List (Option Block))
     → OwnRead (world_at p h xs) r z own bs → (self : Owner) → Proposal p h xs r e self own bs

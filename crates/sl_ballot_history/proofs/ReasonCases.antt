@@ -17,11 +17,12 @@ use Rattle.sl_law.specs.Saying.{cut_at}
 use Rattle.sl_lease_law.specs.Fronts.{Submission}
 use Rattle.sl_leases.specs.Ballots.{owner_of, same_owner}
 use Rattle.sl_leases.specs.Leases.{ended_ballots, is_on, lease_calls, spot_of_call}
-use Rattle.sl_place_law.proofs.Finding.{same_number}
+use Rattle.sl_plain.proofs.Numbers.{refl_le}
 use Rattle.sl_resource_history.proofs.Above.{line_aligned}
 use Rattle.sl_resource_history.proofs.Calls.{block_at_step}
 use Rattle.sl_resource_history.proofs.Owning.{works}
 use Rattle.sl_resource_history.proofs.Founding.{writes_at}
+use Rattle.sl_resource_history.proofs.Phases.{holder_as as named_alike}
 use Rattle.sl_resource_history.proofs.Rising.{block_of_step}
 use Rattle.sl_resource_history.proofs.Showing.{Never, Once, Seen}
 use Rattle.sl_resource_history.proofs.Standing.{Standing}
@@ -41,7 +42,8 @@ use Rattle.sl_trace.specs.Traces.{Setting, Trace}
 use Rattle.sl_words.proofs.CaseLaws.{true_is_false}
 use Rattle.sl_words.proofs.WordLaws.{and_true}
 use Rattle.std.proofs.Common.{ap, arith, inl, inr, refl, subst, sym, ◌∙◌}
-use Rattle.std.specs.Prelude.{Bool, Contains, List, Some, false, is_some, length, true, ℕ, ◌+◌, ◌<◌, ◌==◌, ◌∷◌, ◌≡◌, ◌≤◌, ◌⊎◌}
+use Rattle.std.proofs.lemmas.Bool.{eqb-true}
+use Rattle.std.specs.Prelude.{Bool, Contains, List, Some, false, is_some, length, true, ℕ, ◌+◌, ◌<◌, ◌==◌, ◌∷◌, ◌≡◌, ◌⊎◌}
 
 -- ---- where a block is written
 
@@ -95,9 +97,6 @@ read_leader p h xs r x s k l (Led z has on wrote less) = Was_led (leader_submitt
 one_is : (a n : ℕ) → a ≡ 0 → a + 1 ≡ n → n ≡ 1
 one_is a n p q = omega (arith, p, q)
 
-same_step : (n : ℕ) → n ≤ n
-same_step n = omega arith
-
 held_as : {h : History} {n : ℕ} {o : Holder} {e : ℕ} (a b : Bool) → a ≡ b → LeaderSubmitted h n o a e → LeaderSubmitted h n o b e
 held_as {h} {n} {o} {e} a b same l = subst (λ c. LeaderSubmitted h n o c e) same l
 
@@ -106,21 +105,17 @@ before_by : (H : History) (s : Holder) (l : Leader) (n e : ℕ) → l.lver + 1 �
 before_by H s l n e next b held why (None_led none free) = Never_led (one_is l.lver n none next)
 before_by H s l n e next false held why (Was_led w) = Freed_before (owner_named l) l.lver next (held_as l.held false held w)
 before_by H s l n e next true held (inl free) (Was_led w) = absurd (true_is_false (sym held ∙ free))
-before_by H s l n e next true held (inr over) (Was_led w) = Owner_over (owner_named l) l.lver e next (held_as l.held true held w) over (same_step e)
+before_by H s l n e next true held (inr over) (Was_led w) = Owner_over (owner_named l) l.lver e next (held_as l.held true held w) over (refl_le e)
 
 own_leader : (H : History) (s : Holder) (l : Leader) (n e : ℕ) → l.lver ≡ n → l.held ≡ true → owner_named l ≡ s → ReadLeader H l e → BeginReason H s n e
 own_leader H s l n e is held own (None_led none free) = absurd (true_is_false (sym held ∙ free))
 own_leader H s l n e is held own (Was_led w) =
     Leads_itself (subst (λ k. LeaderSubmitted H k s true e) is (subst (λ o. LeaderSubmitted H l.lver o true e) own (held_as l.held true held w)))
 
-named_alike : (a b c d : ℕ) → a ≡ c → b ≡ d → (let o : Holder = record { id = a; generation = b } in o) ≡ record { id = c; generation = d }
-named_alike a b c d p q =
-    ap (λ k. let o : Holder = record { id = k; generation = b } in o) p ∙ ap (λ k. let o : Holder = record { id = c; generation = k } in o) q
-
 same_owner_named : (l : Leader) (o : Owner) → same_owner (owner_of l) o ≡ true → owner_named l ≡ holder_as o
 same_owner_named l o h =
     let both = and_true (l.owner == o.id) (l.generation == o.generation) h in
-    named_alike l.owner l.generation o.id o.generation (same_number l.owner o.id both.0) (same_number l.generation o.generation both.1)
+    named_alike l.owner l.generation o.id o.generation (eqb-true l.owner o.id both.0) (eqb-true l.generation o.generation both.1)
 
 -- ---- evidence and ends
 
@@ -148,7 +143,7 @@ lost_by ended_given p h xs r x s k n m o has next counted =
       stamped = subst (λ i. stamp_in s.daemon.stamps i ≡ Some x.course.made) k.fronted.place s.told.pair.made;
       step_is = refl;
     }) m o now)
-    (over_at p h xs r x s k (holder_as o) counted) (same_step (step_of x))
+    (over_at p h xs r x s k (holder_as o) counted) (refl_le (step_of x))
 
 -- ---- case by case
 

@@ -4,11 +4,11 @@ use Rattle.sl_ballots.specs.History.{Owner as Holder}
 use Rattle.sl_course_law.proofs.Pairing.{pairs_length}
 use Rattle.sl_course_law.proofs.Stamped.{entries_are_stamped}
 use Rattle.sl_course_law.specs.Stamping.{IsStampOf, stamp_in}
-use Rattle.sl_moment_law.proofs.Ordering.{entries_ordered}
+use Rattle.sl_moment_law.proofs.Ordering.{entries_ordered, fall_front, fall_step}
 use Rattle.sl_moment_law.specs.Orders.{Fall}
+use Rattle.sl_plain.proofs.Numbers.{le_itself}
 use Rattle.sl_resource_history.proofs.Calls.{holder_named, in_world}
 use Rattle.sl_resource_history.proofs.Standing.{Standing}
-use Rattle.sl_resource_history.proofs.Steps.{fall_front, fall_step, stamp_there}
 use Rattle.sl_resource_history.specs.Histories.{has_counted_over, trace_by}
 use Rattle.sl_resource_history.specs.Promises.{NamesDiffer, history_of_line}
 use Rattle.sl_resource_history.specs.Sending.{Sent, holder_of, is_joined_there, sender_of, step_of}
@@ -21,34 +21,29 @@ use Rattle.sl_sessions.specs.Sessions.{session_numbered}
 use Rattle.sl_sessions.specs.Watching.{counted_over}
 use Rattle.sl_trace.specs.Traces.{Trace}
 use Rattle.sl_trace.specs.declared.effects.Entry.{Entry}
+use Rattle.sl_watchdog_law.proofs.Stamps.{stamp_there}
 use Rattle.sl_words.proofs.CaseLaws.{none_some, some_value}
 use Rattle.sl_words.specs.Words.{some_is}
 use Rattle.std.proofs.Common.{ap, arith, sym, tests, ◌∙◌}
-use Rattle.std.proofs.lemmas.Bool.Decides.{nat_tests}
+use Rattle.std.proofs.lemmas.Bool.{lt-leb}
 use Rattle.std.proofs.lemmas.List.{length-append}
-use Rattle.std.specs.Prelude.{Bool, List, Option, Some, [], false, length, nat_le, suc, true, ℕ, ◌++◌, ◌+◌, ◌<◌, ◌==◌, ◌∷◌, ◌≡◌}
+use Rattle.std.specs.Prelude.{Bool, List, Option, Some, [], false, length, nat_le, suc, true, ℕ, ◌++◌, ◌+◌, ◌==◌, ◌∷◌, ◌≡◌}
 
 -- ---- the trace by a step
 
-at_head : (n m : ℕ) → suc n ≡ suc m → (m == n) ≡ true
+pub at_head : (n m : ℕ) → suc n ≡ suc m → (m == n) ≡ true
 at_head n m h = grind (arith, tests)
 
-le_itself : (n : ℕ) → nat_le n n ≡ true
-le_itself n = grind (arith, nat_tests)
-
-not_le : (a b : ℕ) → b < a → nat_le a b ≡ false
-not_le a b h = grind (arith, nat_tests)
-
-behind : (n m k : ℕ) → suc n ≡ suc (m + suc k) → (k == n) ≡ false
+pub behind : (n m k : ℕ) → suc n ≡ suc (m + suc k) → (k == n) ≡ false
 behind n m k h = grind (arith, tests)
 
-less_one : (n m : ℕ) → suc n ≡ suc m → n ≡ m
+pub less_one : (n m : ℕ) → suc n ≡ suc m → n ≡ m
 less_one n m h = omega (arith, h)
 
 abbrev stamp_or : Bool → Stamp → List Stamp → ℕ → Option Stamp
 stamp_or b s ss i = elim b [ true ↦ Some s | false ↦ stamp_in ss i ]
 
-by_step : (n : ℕ) (ss : List Stamp) (later past : Trace) (e : Entry) (t : Stamp) → Fall n ss → length ss ≡ length (later ++ e ∷ past) → stamp_in ss (length past) ≡ Some t
+pub by_step : (n : ℕ) (ss : List Stamp) (later past : Trace) (e : Entry) (t : Stamp) → Fall n ss → length ss ≡ length (later ++ e ∷ past) → stamp_in ss (length past) ≡ Some t
     → trace_by ss (later ++ e ∷ past) t.step ≡ e ∷ past
 by_step n [] later past e t fall even at = absurd (none_some t at)
 by_step n (s ∷ ss) [] past e t fall even at =
@@ -61,7 +56,7 @@ by_step n (s ∷ ss) (y ∷ later) past e t fall even at =
     let off : (length past == length ss) ≡ false = behind (length ss) (length later) (length past) (even ∙ ap (λ k. suc k) long) in
     let there : stamp_in ss (length past) ≡ Some t = ap (λ b. stamp_or b s ss (length past)) (sym off) ∙ at in
     ap (λ b. elim b as (λ z. Trace) [ true ↦ y ∷ (later ++ e ∷ past) | false ↦ trace_by ss (later ++ e ∷ past) t.step ])
-    (not_le s.step t.step (fall_step s.step ss t fall.1 (stamp_there ss (length past) t there)))
+    (lt-leb s.step t.step (fall_step s.step ss t fall.1 (stamp_there ss (length past) t there)))
     ∙ by_step s.step ss later past e t fall.1 (less_one (length ss) (length (later ++ e ∷ past)) even) there
 
 -- ---- evidence

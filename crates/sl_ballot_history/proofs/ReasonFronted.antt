@@ -10,6 +10,7 @@ use Rattle.sl_law.specs.Saying.{cut_at}
 use Rattle.sl_lease_law.proofs.FrontLaws.{lawful_there}
 use Rattle.sl_lease_law.proofs.NumberLaws.{number_is_place}
 use Rattle.sl_lease_law.specs.Fronts.{Submission}
+use Rattle.sl_plain.proofs.Options.{some_there}
 use Rattle.sl_resource_history.proofs.Shown.{holder_is}
 use Rattle.sl_resource_history.proofs.Standing.{Standing}
 use Rattle.sl_resource_history.specs.Sending.{Sent, holder_of, sender_of}
@@ -18,10 +19,9 @@ use Rattle.sl_session_law.proofs.Owning.{owned}
 use Rattle.sl_session_law.specs.Promises.{IsSession}
 use Rattle.sl_sessions.specs.Sessions.{Session, generation_of, is_active, joined_after, leaving_job, me, recovery_of, removed_after, session_numbered}
 use Rattle.sl_trace.specs.Traces.{Setting, Trace}
-use Rattle.sl_words.proofs.CaseLaws.{false_is_true}
 use Rattle.sl_words.proofs.WordLaws.{and_true}
-use Rattle.std.proofs.Common.{ap, refl, subst, sym, ◌∙◌}
-use Rattle.std.specs.Prelude.{None, Option, Some, is_none, is_some, length, true, ℕ, ◌&&◌, ◌∷◌, ◌≡◌}
+use Rattle.std.proofs.Common.{ap, subst, sym, ◌∙◌}
+use Rattle.std.specs.Prelude.{Some, is_none, is_some, length, true, ℕ, ◌&&◌, ◌∷◌, ◌≡◌}
 
 -- ---- joined at the front
 
@@ -33,15 +33,11 @@ pub record Fronted (w : World) (x : Sent) (s : Standing w x) (h : Submission s.d
   pub joins : joined_after (h.entry ∷ h.past) s.session ≡ Some joined
   pub place : s.told.one.at ≡ length h.past
 
-joined_by : (o : Option ℕ) → is_some o ≡ true → (k : ℕ) × (o ≡ Some k)
-joined_by None is = absurd (false_is_true is)
-joined_by (Some k) is = (k, refl)
-
 active_joined : (st : Setting) (t : Trace) (s : Session) → is_active st t s ≡ true → (k : ℕ) × (joined_after t s ≡ Some k)
 active_joined st t s h =
     let three = and_true (is_some (joined_after t s) && is_none (removed_after t s) && is_none (recovery_of st t s)) (is_none (leaving_job st t s)) h in
     let two = and_true (is_some (joined_after t s) && is_none (removed_after t s)) (is_none (recovery_of st t s)) three.0 in
-    joined_by (joined_after t s) (and_true (is_some (joined_after t s)) (is_none (removed_after t s)) two.0).0
+    some_there (joined_after t s) (and_true (is_some (joined_after t s)) (is_none (removed_after t s)) two.0).0
 
 pub fronted : (w : World) (x : Sent) (s : Standing w x) (h : Submission s.daemon.trace s.told.one s.told.older) → is_area_work x.course.call.purpose ≡ true → Fronted w x s h
 fronted w x s h area =

@@ -5,12 +5,14 @@ use Rattle.sl_ballot_history.specs.Endings.{EndedBallotsEnd}
 use Rattle.sl_ballot_history.specs.Reasons.{InstancesHaveReasons}
 use Rattle.sl_ballots.specs.Ballots.{BeginReason}
 use Rattle.sl_ballots.specs.History.{History}
-use Rattle.sl_law.specs.LawfulBlock.{LawfulBlockStep, LawfulPhase1}
-use Rattle.sl_leases.specs.Leases.{Phase1_write, freed, is_at, kind_of_step, lease_calls, lease_step, same_kind, spot_of_call}
+use Rattle.sl_law.specs.LawfulBlock.{LawfulPhase1}
+use Rattle.sl_leases.specs.Leases.{Phase1_write, freed, is_at, lease_calls, lease_step, spot_of_call}
+use Rattle.sl_plain.proofs.Numbers.{above_zero}
 use Rattle.sl_resource_history.proofs.Above.{block_by, line_aligned, told_spot}
 use Rattle.sl_resource_history.proofs.Calls.{found_at, worker_joined}
 use Rattle.sl_resource_history.proofs.Calls.{block_works as block_is_work}
 use Rattle.sl_resource_history.proofs.Founding.{writer_is}
+use Rattle.sl_resource_history.proofs.Opening.{one_write}
 use Rattle.sl_resource_history.proofs.Owning.{block_is_lease, block_works, front_at, lease_is_work, written}
 use Rattle.sl_resource_history.proofs.Standing.{Standing, standing}
 use Rattle.sl_resource_history.specs.Histories.{history_block}
@@ -18,45 +20,13 @@ use Rattle.sl_resource_history.specs.Promises.{history_of_line, spot_of_line}
 use Rattle.sl_resource_history.specs.Sending.{holder_of, sender_of, sent_at, step_of, writes_block}
 use Rattle.sl_run.specs.Safety.{world_at}
 use Rattle.sl_run.specs.Worlds.{World}
-use Rattle.sl_sector.specs.declared.sector.Block.{Block}
-use Rattle.sl_sessions.specs.Sessions.{Session}
-use Rattle.sl_trace.specs.Traces.{Setting, Submitted, Trace, new_call}
-use Rattle.sl_trace.specs.declared.effects.LeaseStep.TheVariants.{ClearMode, FreeLeader, Phase1Read, Phase1Write, Phase2Read, Phase2Write, ReadArea, ReadBeforeFree, SetMode, TakeLeader}
-use Rattle.sl_trace.specs.declared.effects.LeaseStep.{LeaseStep}
-use Rattle.sl_trace.specs.declared.effects.Spot.{Spot}
-use Rattle.sl_trace.specs.declared.effects.Work.{Work}
-use Rattle.sl_words.proofs.CaseLaws.{false_is_true}
-use Rattle.sl_words.specs.Words.{some_is}
-use Rattle.std.proofs.Common.{ap, arith, refl, subst, sym, ◌∙◌}
-use Rattle.std.specs.Prelude.{None, Option, Some, length, true, ℕ, ◌<◌, ◌≡◌}
+use Rattle.sl_trace.specs.Traces.{Setting, Submitted, new_call}
+use Rattle.std.proofs.Common.{ap, refl, subst, sym, ◌∙◌}
+use Rattle.std.specs.Prelude.{length, true, ◌≡◌}
 
 -- ---- the law of phase 1
 
-by_kind : (st : Setting) (t : Trace) (s : Session) (at : Spot) (c : Submitted) (b : Block) (step : LeaseStep) → same_kind (kind_of_step step) Phase1_write ≡ true
-    → LawfulBlockStep st t s at c b step → LawfulPhase1 st t s at c b
-by_kind st t s at c b Phase1Write kind h = h
-by_kind st t s at c b Phase2Write kind h = absurd (false_is_true kind)
-by_kind st t s at c b SetMode kind h = absurd (false_is_true kind)
-by_kind st t s at c b ClearMode kind h = absurd (false_is_true kind)
-by_kind st t s at c b (ReadArea name) kind h = absurd h
-by_kind st t s at c b ReadBeforeFree kind h = absurd h
-by_kind st t s at c b Phase1Read kind h = absurd h
-by_kind st t s at c b Phase2Read kind h = absurd h
-by_kind st t s at c b TakeLeader kind h = absurd h
-by_kind st t s at c b FreeLeader kind h = absurd h
-
-kind_here : (c : Submitted) (p : Work × LeaseStep) → lease_step c.call.purpose ≡ Some p → is_at Phase1_write c ≡ true → same_kind (kind_of_step p.1) Phase1_write ≡ true
-kind_here c p is at = sym (ap (λ o. some_is (λ q. same_kind (kind_of_step q.1) Phase1_write) o) is) ∙ at
-
-by_write : (st : Setting) (t : Trace) (s : Session) (c : Submitted) (b : Block) → is_at Phase1_write c ≡ true → (o : Option (Work × LeaseStep)) → lease_step c.call.purpose ≡ o
-    → elim o as (λ x. Type 0) [ None ↦ ⊥ | Some p ↦ LawfulBlockStep st t s (spot_of_call st.layout c) c b p.1 ] → LawfulPhase1 st t s (spot_of_call st.layout c) c b
-by_write st t s c b at None is h = absurd h
-by_write st t s c b at (Some p) is h = by_kind st t s (spot_of_call st.layout c) c b p.1 (kind_here c p is at) h
-
 -- ---- the reason
-
-above_none : (a b : ℕ) → a < b → 0 < b
-above_none a b h = omega (arith, h)
 
 pub have_reasons : EndedBallotsEnd → InstancesHaveReasons
 have_reasons ended_given p h xs r run there differ hosts e x is at =
@@ -90,9 +60,9 @@ have_reasons ended_given p h xs r run there differ hosts e x is at =
     let here : spot_of_call st.layout new ≡ spot_of_line r = ap (λ c. spot_of_call st.layout (new_call 0 0 c)) (sym k.front.itself.call) ∙ k.spot in
     let one : LawfulPhase1 st (front_trace k) s.session (spot_of_line r) new b.0 =
     subst (λ a. LawfulPhase1 st (front_trace k) s.session a new b.0) here
-    (by_write st (front_trace k) s.session new b.0 at_front (lease_step new.call.purpose) refl front.lawful) in
+    (one_write st (front_trace k) s.session new b.0 at_front (lease_step new.call.purpose) refl front.lawful) in
     let begins : Begins p h xs r x b.0.lver =
-    reason_of ended_given p h xs r x s k b.0.lver (above_none (freed (lease_calls st (front_trace k) s.session (spot_of_line r))) b.0.lver one.not_freed) one.reason in
+    reason_of ended_given p h xs r x s k b.0.lver (above_zero (freed (lease_calls st (front_trace k) s.session (spot_of_line r))) b.0.lver one.not_freed) one.reason in
     let block : H.block e ≡ history_block b.0 = block_by (sent_at w (spot_of_line r) writes_block e) x b.0 is b.1 in
     subst (λ n. BeginReason H (H.writer e) (H.block e).lver n) f.0.step_is
     (subst (λ o. BeginReason H o (H.block e).lver (step_of x)) (sym (writer_is p h xs r e x is))

@@ -5,10 +5,13 @@ use Rattle.sl_landing_law.proofs.Initial.{initial_is_record}
 use Rattle.sl_law.specs.LawfulArea.{IsAreaRead}
 use Rattle.sl_leases.specs.Leases.{is_area_read, is_on, leader_of_record, spot_of_call}
 use Rattle.sl_place_law.proofs.Areas.{is_within, sector_fits, sized}
+use Rattle.sl_place_law.proofs.Beginnings.{zeros_at}
 use Rattle.sl_place_law.proofs.Finding.{same_read}
+use Rattle.sl_place_law.proofs.Leased.{and_two, leader_in_is}
 use Rattle.sl_place_law.proofs.Proven.{promised}
 use Rattle.sl_place_law.proofs.Reading.{IsRead, IsShown, header_is, layout_is, read_of, reads_back, sector_shown}
 use Rattle.sl_place_law.proofs.Seats.{sized_in}
+use Rattle.sl_plain.proofs.Numbers.{no_times_more, refl_le, trans_lt}
 use Rattle.sl_resource_history.proofs.Latest.{sent_as}
 use Rattle.sl_resource_history.proofs.Looking.{IsLook, area_place, look_layout}
 use Rattle.sl_resource_history.proofs.Standing.{sent_there}
@@ -22,10 +25,9 @@ use Rattle.sl_run.specs.declared.header.Header.{Header}
 use Rattle.sl_run.specs.declared.header.LockspaceLine.{LockspaceLine}
 use Rattle.sl_run.specs.declared.header.ResourceLine.{ResourceLine}
 use Rattle.sl_sector.proofs.PublicLaws.{spelled_is_read}
-use Rattle.sl_sector.specs.Spelling.{IsDigest, decoded, leader_in, magic}
-use Rattle.sl_sector.specs.declared.sector.Bad.{Bad}
+use Rattle.sl_sector.specs.Spelling.{IsDigest, leader_in}
 use Rattle.sl_sector.specs.declared.sector.Leader.{Leader}
-use Rattle.sl_sector.specs.declared.sector.Rec.TheVariants.{BlockIs, DeltaIs, LeaderIs, RequestIs, ValueIs}
+use Rattle.sl_sector.specs.declared.sector.Rec.TheVariants.{BlockIs, LeaderIs, RequestIs, ValueIs}
 use Rattle.sl_sector.specs.declared.sector.Rec.{Rec}
 use Rattle.sl_trace.specs.Traces.{Submitted, gave, record_of}
 use Rattle.sl_trace.specs.declared.effects.Op.TheVariants.{ReadSectors}
@@ -36,17 +38,9 @@ use Rattle.sl_words.specs.Words.{choose}
 use Rattle.std.proofs.Common.{ap, arith, inl, inr, refl, subst, sym, ◌∙◌}
 use Rattle.std.proofs.lemmas.Bool.{and_from}
 use Rattle.std.proofs.lemmas.Slice.Eq.{bytes_eq-Decides}
-use Rattle.std.specs.Prelude.{Bool, Contains, Err, List, None, Ok, Option, Result, Some, bytes_eq, false, find, if◌then◌else◌, nat_lt, option_and_then, replicate, suc, true, zero, ℕ, ◌&&◌, ◌*◌, ◌+◌, ◌-◌, ◌/◌, ◌<◌, ◌==◌, ◌≡◌, ◌≤◌}
+use Rattle.std.specs.Prelude.{Bool, Contains, List, None, Ok, Option, Some, bytes_eq, false, find, if◌then◌else◌, nat_lt, option_and_then, replicate, true, ℕ, ◌&&◌, ◌*◌, ◌+◌, ◌-◌, ◌/◌, ◌<◌, ◌==◌, ◌≡◌}
 
 -- ---- what stood there at first
-
-no_zeros : (digest : List ℕ → List ℕ) (n : ℕ) (r : Rec) → decoded digest (replicate (suc n) 0) ≡ Ok r → ⊥
-unfolding decoded magic
-no_zeros digest n r h = absurd cc
-
-zeros_at : (digest : List ℕ → List ℕ) (n : ℕ) (r : Rec) → 512 ≤ n → decoded digest (replicate n 0) ≡ Ok r → ⊥
-zeros_at digest zero r h e = absurd (omega (arith, h))
-zeros_at digest (suc n) r h e = no_zeros digest n r e
 
 first_by : (digest : List ℕ → List ℕ) (h : Header) (path : List ℕ) (offset : ℕ) (o : Option Rec) (r : Rec) → IsDigest digest → IsHeader h
     → initial_record (layout_with digest h.geometry) h path offset ≡ o
@@ -116,22 +110,8 @@ pub data LeaderSeen (w : World) (at : Spot) (l : Leader) (n : ℕ) : Type 0 wher
   Unled : IsUnled l → LeaderSeen w at l n
   Led : (z : Sent) → Contains (all_sent w) z → is_on w.layout at z.course.call ≡ true → leader_of_course z.course ≡ Some l → step_of z < n → LeaderSeen w at l n
 
-leader_in_is : (r : Result Rec Bad) (l : Leader) → leader_in r ≡ Some l → r ≡ Ok (LeaderIs l)
-leader_in_is (Ok (DeltaIs e)) l h = absurd (none_some l h)
-leader_in_is (Ok (LeaderIs e)) l h = ap (λ x. Ok (LeaderIs x)) (some_value e l h)
-leader_in_is (Ok (BlockIs e)) l h = absurd (none_some l h)
-leader_in_is (Ok (RequestIs e)) l h = absurd (none_some l h)
-leader_in_is (Ok (ValueIs e)) l h = absurd (none_some l h)
-leader_in_is (Err bad) l h = absurd (none_some l h)
-
-same_low : (n : ℕ) → n ≤ n
-same_low n = omega arith
-
 within_here : (n : ℕ) → n < n + 1048576
 within_here n = omega arith
-
-early_too : (a b c : ℕ) → a < b → b < c → a < c
-early_too a b c p q = omega (arith, p, q)
 
 wrote_it : (c : Course) (l : Leader) (r : Rec) → record_of c.call.op ≡ Some r → r ≡ LeaderIs l → leader_of_course c ≡ Some l
 wrote_it c l r is same = ap (λ o. option_and_then leader_of_record o) (is ∙ ap (λ x. Some x) same)
@@ -151,9 +131,9 @@ leader_shown p h xs run at bytes n l spells s =
           let offset : at.base ≡ k.wrote.course.call.offset = sym s.place.1 ∙ sym k.wrote.place.1 in
           Led (sent_as k.machine k.wrote.course) (sent_there w k.machine k.wrote.machine k.wrote.course k.wrote.at k.wrote.has)
           (and_from _ _ ((bytes_eq-Decides k.wrote.course.call.path at.path).1 path)
-          (subst (λ o. in_area w.layout at.base o ≡ true) offset (is_within w.layout at.base at.base z (same_low at.base) (within_here at.base))))
+          (subst (λ o. in_area w.layout at.base o ≡ true) offset (is_within w.layout at.base at.base z (refl_le at.base) (within_here at.base))))
           (wrote_it k.wrote.course l k.wrote.record_written k.wrote.writes back)
-          (early_too k.wrote.course.made.step s.landing.step n k.wrote.after.0 s.early)
+          (trans_lt k.wrote.course.made.step s.landing.step n k.wrote.after.0 s.early)
       | inr first ↦
           Unled (initial_unled (layout_with p.digest h.geometry) h at.path at.base l
           (first_spells p h xs run at.path at.base (LeaderIs l) (subst (λ (y : Landing). record_in w.layout y.bytes ≡ Ok (LeaderIs l)) first read)))
@@ -167,12 +147,6 @@ pub record LeaderLooked (p : Program) (h : Header) (xs : List Happening) (a : Ma
   pub read : IsRead a d q bytes
   pub seen : LeaderSeen (world_at p h xs) (spot_of_call (world_at p h xs).layout q) l read.stamp.step
 
-first_place : (a s : ℕ) → a + 0 * s ≡ a
-first_place a s = omega arith
-
-some_sectors : (n : ℕ) → 0 < n + 2
-some_sectors n = omega arith
-
 pub leader_looked : (p : Program) (h : Header) (xs : List Happening) (m : ℕ) (a : Machine) (d : Daemon) (q : Submitted) → IsLook p h xs m a d q → is_area_read q ≡ true
     → (bytes : List ℕ) → gave q ≡ Some bytes → (l : Leader) → leader_of d.setting.layout bytes ≡ Some l → LeaderLooked p h xs a d q l
 leader_looked p h xs m a d q k is bytes told l spells =
@@ -182,11 +156,11 @@ leader_looked p h xs m a d q k is bytes told l spells =
     let op : q.call.op ≡ ReadSectors (w.layout.hosts + 2) = right.1 ∙ ap (λ g. ReadSectors (g.hosts + 2)) layout in
     let offset : q.call.offset ≡ (spot_of_call w.layout q).base = right.0 ∙ ap (λ g. (spot_of_call g q).base) layout in
     let r = read_of promised p h xs k.run m a d k.at k.has q k.there (w.layout.hosts + 2) op bytes told in
-    let shown = sector_shown promised p h xs k.run m a d k.at q bytes r 0 (subst (λ o. 0 < sectors_of o) (sym op) (some_sectors w.layout.hosts)) in
+    let shown = sector_shown promised p h xs k.run m a d k.at q bytes r 0 (subst (λ o. 0 < sectors_of o) (sym op) (and_two w.layout.hosts)) in
     record {
       bytes = bytes;
       read = r;
       seen = leader_shown p h xs k.run (spot_of_call w.layout q) (sector_of w.layout bytes 0) r.stamp.step l
           (ap (λ g. leader_of g bytes) (sym layout) ∙ spells)
-          (subst (λ o. IsShown w q.call.path o (sector_of w.layout bytes 0) r.stamp.step) (first_place q.call.offset w.layout.sector ∙ offset) shown);
+          (subst (λ o. IsShown w q.call.path o (sector_of w.layout bytes 0) r.stamp.step) (no_times_more q.call.offset w.layout.sector ∙ offset) shown);
     }

@@ -4,7 +4,7 @@ use Rattle.sl_law.proofs.LawFacts.{lawful-front}
 use Rattle.sl_law.specs.Lawful.{Lawful}
 use Rattle.sl_law.specs.LawfulDelta.{LawfulDeltaCall, LawfulJoinStep}
 use Rattle.sl_law.specs.Saying.{cut_at}
-use Rattle.sl_place_law.proofs.Finding.{same_number}
+use Rattle.sl_place_law.proofs.Looks.{reads_none}
 use Rattle.sl_sector.specs.declared.sector.DeltaRec.{DeltaRec}
 use Rattle.sl_session_law.proofs.Growing.{mine_marked, mine_next, other_next, to_all, to_cut}
 use Rattle.sl_session_law.proofs.Making.{same_answered}
@@ -20,8 +20,6 @@ use Rattle.sl_trace.specs.declared.effects.Call.{Call}
 use Rattle.sl_trace.specs.declared.effects.Entry.{Entry}
 use Rattle.sl_trace.specs.declared.effects.JoinStep.TheVariants.{ClaimWrite, DecidingRead, FirstRead, FirstRenewal, VerifyRead, WatchRead}
 use Rattle.sl_trace.specs.declared.effects.JoinStep.{JoinStep}
-use Rattle.sl_trace.specs.declared.effects.Op.TheVariants.{ReadSectors}
-use Rattle.sl_trace.specs.declared.effects.Op.{Op}
 use Rattle.sl_trace.specs.declared.effects.Purpose.TheVariants.{Joining, Lease, Leaving, Renewal, RequestRead, RequestWrite, SeeRequest, Survey, ValueRead, ValueWrite}
 use Rattle.sl_trace.specs.declared.effects.Purpose.{Purpose}
 use Rattle.sl_trace.specs.declared.input.Answer.{Answer}
@@ -29,6 +27,7 @@ use Rattle.sl_trace.specs.declared.input.Input.TheVariants.{Answer as Told, Exit
 use Rattle.sl_trace.specs.declared.input.Input.{Input}
 use Rattle.sl_words.proofs.CaseLaws.{none_some, one_value}
 use Rattle.std.proofs.Common.{ap, refl, sym, ◌∙◌}
+use Rattle.std.proofs.lemmas.Bool.{eqb-true}
 use Rattle.std.specs.Option.{option_map_or}
 use Rattle.std.specs.Prelude.{Bool, List, None, Option, Some, [], false, length, map, option_and_then, slice_get, suc, true, ℕ, ◌++◌, ◌==◌, ◌∷◌, ◌≡◌}
 
@@ -44,18 +43,15 @@ not_verifying (Some i) refused free joining k h = absurd cc
 not_verifying None refused (Some m) joining k h = absurd cc
 not_verifying None refused None joining k h = absurd cc
 
-reads_no_delta : (c : Submitted) (n : ℕ) (d : DeltaRec) → c.call.op ≡ ReadSectors n → delta_written c ≡ Some d → ⊥
-reads_no_delta c n d op wrote = none_some d (sym (ap (λ (o : Op). option_and_then delta_of_record (record_of o)) op) ∙ wrote)
-
 step_keeps : (st : Setting) (es : Trace) (s : Session) (c : Submitted) (k : ℕ) → joined_after es s ≡ Some k → (d : DeltaRec) → delta_written c ≡ Some d → (step : JoinStep)
     → LawfulJoinStep st es s c step → d.generation ≡ generation_of es s
-step_keeps st es s c k joined d wrote FirstRead law = absurd (reads_no_delta c 1 d law.reads wrote)
-step_keeps st es s c k joined d wrote WatchRead law = absurd (reads_no_delta c 1 d law.reads wrote)
-step_keeps st es s c k joined d wrote DecidingRead law = absurd (reads_no_delta c 1 d law.reads wrote)
+step_keeps st es s c k joined d wrote FirstRead law = absurd (reads_none c 1 d law.reads wrote)
+step_keeps st es s c k joined d wrote WatchRead law = absurd (reads_none c 1 d law.reads wrote)
+step_keeps st es s c k joined d wrote DecidingRead law = absurd (reads_none c 1 d law.reads wrote)
 step_keeps st es s c k joined d wrote ClaimWrite law =
     absurd (not_deciding (removed_after es s) (refused_after es s) (free_write (calls_of es s)) (stage_in (calls_of es s)) k
     (ap (λ o. stage_by o (removed_after es s) (refused_after es s) (free_write (calls_of es s)) (stage_in (calls_of es s))) (sym joined) ∙ law.deciding))
-step_keeps st es s c k joined d wrote VerifyRead law = absurd (reads_no_delta c 1 d law.reads wrote)
+step_keeps st es s c k joined d wrote VerifyRead law = absurd (reads_none c 1 d law.reads wrote)
 step_keeps st es s c k joined d wrote FirstRenewal law =
     absurd (not_verifying (removed_after es s) (refused_after es s) (free_write (calls_of es s)) (stage_in (calls_of es s)) k
     (ap (λ o. stage_by o (removed_after es s) (refused_after es s) (free_write (calls_of es s)) (stage_in (calls_of es s))) (sym joined) ∙ law.verifying))
@@ -64,7 +60,7 @@ delta_keeps : (st : Setting) (es : Trace) (s : Session) (c : Submitted) (k : ℕ
     → LawfulDeltaCall st es s c p → d.generation ≡ generation_of es s
 delta_keeps st es s c k joined d wrote (Joining j step) law = step_keeps st es s c k joined d wrote step law
 delta_keeps st es s c k joined d wrote Renewal law = ap (λ (x : DeltaRec). x.generation) (one_value d _ (delta_written c) wrote law.written)
-delta_keeps st es s c k joined d wrote Survey law = absurd (reads_no_delta c st.layout.hosts d law.whole.2 wrote)
+delta_keeps st es s c k joined d wrote Survey law = absurd (reads_none c st.layout.hosts d law.whole.2 wrote)
 delta_keeps st es s c k joined d wrote (Leaving j) law = ap (λ (x : DeltaRec). x.generation) (one_value d _ (delta_written c) wrote law.written)
 delta_keeps st es s c k joined d wrote (Lease work step) law = absurd (none_some d (sym law ∙ wrote))
 delta_keeps st es s c k joined d wrote (RequestRead j) law = absurd (none_some d (sym law ∙ wrote))
@@ -90,7 +86,7 @@ next_keeps : (st : Setting) (e : Entry) (past : Trace) (s : Session) (j : ℕ) �
 next_keeps st e past s j law its joined k c at g was true mine =
     let new : Submitted = new_call (length past) e.reading c in
     let t : Trace = cut_at k e ∷ past in
-    let number : session_numbered st (e ∷ past) c.session ≡ Some s = ap (λ n. session_numbered st (e ∷ past) n) (same_number c.session s.number mine) ∙ its in
+    let number : session_numbered st (e ∷ past) c.session ≡ Some s = ap (λ n. session_numbered st (e ∷ past) n) (eqb-true c.session s.number mine) ∙ its in
     ap (λ ms. generation_in s ms) (mine_next past e s k c at mine)
     ∙ mine_keeps s new (calls_of t s) g was (λ d wrote. delta_keeps st t s new j joined d wrote c.purpose (law.delta.0.calls k c s at number) ∙ was)
 next_keeps st e past s j law its joined k c at g was false other = ap (λ ms. generation_in s ms) (other_next past e s k c at other) ∙ was

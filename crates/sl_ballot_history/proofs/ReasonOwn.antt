@@ -1,10 +1,10 @@
 -- The own block of a session, where it writes one: it wrote it before, or a read gave it; so it was submitted before, or is fresh.
-use Rattle.sl_area.specs.Layouts.{Layout}
 use Rattle.sl_law.specs.LawfulArea.{is_area_work}
 use Rattle.sl_lease_law.proofs.AgeLaws.{aged_block, aged_lease, found_stays}
+use Rattle.sl_lease_law.proofs.ComingLaws.{found_read}
 use Rattle.sl_lease_law.specs.Fronts.{AllAged}
-use Rattle.sl_lease_law.specs.Ways.{FoundIn, lease_among}
-use Rattle.sl_leases.specs.Leases.{block_of_host, block_submitted, blocks_given, is_on, last_blocks, lease_calls, own_block, own_or_read, spot_of_call}
+use Rattle.sl_lease_law.specs.Ways.{lease_among}
+use Rattle.sl_leases.specs.Leases.{block_submitted, is_on, last_blocks, lease_calls, own_block, own_or_read, spot_of_call}
 use Rattle.sl_resource_history.proofs.Above.{found_seen}
 use Rattle.sl_resource_history.proofs.Owning.{own_written, works}
 use Rattle.sl_resource_history.proofs.Showing.{Once, Seen}
@@ -15,31 +15,12 @@ use Rattle.sl_run.specs.Safety.{LawfulRun, world_at}
 use Rattle.sl_run.specs.Worlds.{Program}
 use Rattle.sl_run.specs.declared.header.Header.{Header}
 use Rattle.sl_sector.specs.declared.sector.Block.{Block}
-use Rattle.sl_session_law.proofs.Making.{contains_first, contains_more}
-use Rattle.sl_trace.specs.Traces.{Setting, Submitted, Trace, submitted}
+use Rattle.sl_trace.specs.Traces.{Setting, Trace, submitted}
 use Rattle.sl_trace.specs.declared.effects.Spot.{Spot}
-use Rattle.sl_words.proofs.CaseLaws.{none_some}
 use Rattle.std.proofs.Common.{refl, sym, ◌∙◌}
-use Rattle.std.specs.Prelude.{Contains, List, None, Option, Some, [], slice_get, true, unwrap_or, ℕ, ◌%◌, ◌-◌, ◌∷◌, ◌≡◌}
+use Rattle.std.specs.Prelude.{Contains, List, None, Option, Some, true, ℕ, ◌%◌, ◌≡◌}
 
 -- ---- a block that was last read
-
-found_later : (g : Layout) (id : ℕ) (m : Submitted) (ms : List Submitted) (own : Block) → FoundIn g id ms own → FoundIn g id (m ∷ ms) own
-found_later g id m ms own f = record { read = f.read; blocks = f.blocks; has = contains_more m ms f.read f.has; given = f.given; block = f.block }
-
-found_here : (g : Layout) (id : ℕ) (m : Submitted) (ms : List Submitted) (own : Block) → (o : Option (List (Option Block))) → blocks_given g m ≡ o
-    → block_of_host (elim o as (λ x. List (Option Block)) [ Some bs ↦ bs | None ↦ last_blocks g ms ]) id ≡ Some own
-    → (block_of_host (last_blocks g ms) id ≡ Some own → FoundIn g id ms own) → FoundIn g id (m ∷ ms) own
-found_here g id m ms own None gives is later = found_later g id m ms own (later is)
-found_here g id m ms own (Some bs) gives is later = record { read = m; blocks = bs; has = contains_first m ms; given = gives; block = is }
-
-none_there : (own : Block) (k : ℕ) → unwrap_or (slice_get {X = Option Block} [] k) None ≡ Some own → ⊥
-none_there own k is = none_some own is
-
--- What the last read of blocks gave of a host some read gave.
-last_found : (g : Layout) (id : ℕ) (ms : List Submitted) (own : Block) → block_of_host (last_blocks g ms) id ≡ Some own → FoundIn g id ms own
-last_found g id [] own is = absurd (none_there own (id - 1) is)
-last_found g id (m ∷ ms) own is = found_here g id m ms own (blocks_given g m) refl is (λ h. last_found g id ms own h)
 
 -- ---- the own block
 
@@ -50,7 +31,7 @@ own_by : (p : Program) (h : Header) (xs : List Happening) → LawfulRun p h xs �
     → own_or_read s.session.id o (last_blocks s.daemon.setting.layout (lease_calls s.daemon.setting front s.session at)) ≡ Some own → Seen (world_at p h xs) at own (step_of x)
 own_by p h xs run at zero x has s on b is work area spot n front aged own None found known =
     let st : Setting = s.daemon.setting in
-    let f = last_found st.layout s.session.id (lease_calls st front s.session at) own known in
+    let f = found_read st.layout s.session.id (lease_calls st front s.session at) own known in
     found_seen p h xs run at zero x s work area spot own
     (found_stays st.layout n s.session.id (lease_calls st front s.session at) (lease_among st s.session at s.told.older) own (aged_lease st s.session at n (submitted front) s.told.older aged) f)
 own_by p h xs run at zero x has s on b is work area spot n front aged own (Some d) found known =

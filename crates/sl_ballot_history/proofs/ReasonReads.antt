@@ -11,10 +11,11 @@ use Rattle.sl_lease_law.specs.Fronts.{Aged, AllAged}
 use Rattle.sl_leases.specs.Leases.{blocks_given, is_area_read, is_on, is_phase_read, spot_of_call}
 use Rattle.sl_place_law.proofs.Finding.{given_by}
 use Rattle.sl_place_law.proofs.Reading.{answer_gave}
-use Rattle.sl_resource_history.proofs.Above.{IsAmong, answer_step, answered_before, is_among, older_look, reads_work}
+use Rattle.sl_plain.proofs.Numbers.{lt_then_le}
+use Rattle.sl_resource_history.proofs.Above.{IsAmong, answer_step, answered_before, is_among, older_look, reads_work, seen_by}
 use Rattle.sl_resource_history.proofs.Looking.{look_seen, looked}
 use Rattle.sl_resource_history.proofs.Owning.{layout_at, spot_is, works}
-use Rattle.sl_resource_history.proofs.Showing.{Never, Once, Seen}
+use Rattle.sl_resource_history.proofs.Showing.{Seen}
 use Rattle.sl_resource_history.proofs.Standing.{Standing}
 use Rattle.sl_resource_history.specs.Sending.{Sent, step_of}
 use Rattle.sl_run.specs.Runs.{Happening}
@@ -26,21 +27,14 @@ use Rattle.sl_sector.specs.declared.sector.Leader.{Leader}
 use Rattle.sl_trace.specs.Traces.{Answered, Setting, Submitted, Trace, bytes_given, gave, new_call, submitted}
 use Rattle.sl_trace.specs.declared.effects.Spot.{Spot}
 use Rattle.sl_words.specs.Words.{present}
-use Rattle.std.proofs.Common.{ap, arith, subst, sym, ◌∙◌}
-use Rattle.std.specs.Prelude.{Contains, List, None, Option, Some, false, option_and_then, slice_get, true, ℕ, ◌%◌, ◌<◌, ◌≡◌, ◌≤◌}
+use Rattle.std.proofs.Common.{ap, subst, sym, ◌∙◌}
+use Rattle.std.specs.Prelude.{Contains, List, None, Option, Some, false, option_and_then, slice_get, true, ℕ, ◌%◌, ◌≡◌, ◌≤◌}
 
 -- ---- what was seen once
 
-less_then : (a b c : ℕ) → a < b → b ≤ c → a < c
-less_then a b c p q = omega (arith, p, q)
-
-seen_later : (w : World) (at : Spot) (b : Block) (n k : ℕ) → n ≤ k → Seen w at b n → Seen w at b k
-seen_later w at b n k le (Never h) = Never h
-seen_later w at b n k le (Once z has on is less) = Once z has on is (less_then (step_of z) n k less le)
-
 leader_later : (w : World) (at : Spot) (l : Leader) (n k : ℕ) → n ≤ k → LeaderSeen w at l n → LeaderSeen w at l k
 leader_later w at l n k le (Unled h) = Unled h
-leader_later w at l n k le (Led z has on is less) = Led z has on is (less_then (step_of z) n k less le)
+leader_later w at l n k le (Led z has on is less) = Led z has on is (lt_then_le (step_of z) n k less le)
 
 -- ---- what a call gave stays
 
@@ -99,6 +93,6 @@ area_seen p h xs run at zero x s work area spot n front aged r =
       blocks = λ b has.
           let j = present_there (area_blocks g r.bytes) b has in
           let y = looked p h xs x.machine s.machine s.daemon q k (area_blocks g r.bytes) given j.0 b j.1 in
-          seen_later w at b y.read.stamp.step (step_of x) (answer_step p h xs run x s q by y.read.answered y.read.its y.read.stamp y.read.entry)
+          seen_by w at b y.read.stamp.step (step_of x) (answer_step p h xs run x s q by y.read.answered y.read.its y.read.stamp y.read.entry)
           (subst (λ a. Seen w a b y.read.stamp.step) place (look_seen p h xs x.machine s.machine s.daemon q k j.0 b y));
     }

@@ -7,7 +7,7 @@ use Rattle.sl_law.specs.LawfulArea.{is_area_work}
 use Rattle.sl_lease_law.proofs.AgeLaws.{aged_lease, became}
 use Rattle.sl_lease_law.specs.Fronts.{AllAged}
 use Rattle.sl_leases.specs.Leases.{is_block_read, is_free_write, is_on, leader_of_record, leader_written, lease_calls}
-use Rattle.sl_place_law.proofs.Finding.{partner_of, same_number}
+use Rattle.sl_place_law.proofs.Finding.{partner_of}
 use Rattle.sl_resource_history.proofs.Above.{is_among}
 use Rattle.sl_resource_history.proofs.Calls.{leader_at_step}
 use Rattle.sl_resource_history.proofs.Latest.{sent_as}
@@ -27,11 +27,12 @@ use Rattle.sl_trace.specs.declared.effects.Call.{Call}
 use Rattle.sl_trace.specs.declared.effects.Op.TheVariants.{ReadSectors, WriteRecord}
 use Rattle.sl_trace.specs.declared.effects.Op.{Op}
 use Rattle.sl_trace.specs.declared.effects.Spot.{Spot}
-use Rattle.sl_words.proofs.CaseLaws.{none_some, true_is_false}
+use Rattle.sl_words.proofs.CaseLaws.{none_some}
 use Rattle.sl_words.proofs.WordLaws.{and_true, some_is_true}
 use Rattle.std.proofs.Common.{ap, refl, sym, ◌∙◌}
+use Rattle.std.proofs.lemmas.Bool.{eqb-true, not-true, or_left}
 use Rattle.std.specs.Option.{option_map_or}
-use Rattle.std.specs.Prelude.{Bool, Contains, List, Option, Some, false, is_some, not, option_and_then, true, ℕ, ◌%◌, ◌&&◌, ◌<◌, ◌==◌, ◌||◌, ◌≡◌}
+use Rattle.std.specs.Prelude.{Contains, List, Option, Some, false, is_some, not, option_and_then, true, ℕ, ◌%◌, ◌&&◌, ◌<◌, ◌==◌, ◌≡◌}
 
 -- ---- a leader by its step
 
@@ -62,14 +63,6 @@ leader_submitted p h xs run r there z has on l wrote e less =
 leader_writes : (op : Op) (l : Leader) → option_and_then leader_of_record (record_of op) ≡ Some l → is_write op ≡ true
 leader_writes (ReadSectors n) l h = absurd (none_some l h)
 leader_writes (WriteRecord r) l h = refl
-
-or_left : (a b : Bool) → a ≡ true → (a || b) ≡ true
-or_left true b h = refl
-or_left false b h = absurd (true_is_false (sym h))
-
-not_held : (b : Bool) → not b ≡ true → b ≡ false
-not_held true h = absurd (true_is_false (sym h))
-not_held false h = refl
 
 -- A leader that the session wrote before, free, for this instance.
 pub record FreeBefore (w : World) (at : Spot) (x : Sent) (m : ℕ) : Type 0 where
@@ -111,6 +104,6 @@ free_before p h xs run at zero x s on work area n front aged q has m is =
       less = made_before p h xs run x s c.0 c.1 session work area
           (or_left (is_write c.0.call.op) (is_block_read (new_call 0 0 c.0.call)) (leader_writes c.0.call.op l.0 wrote))
           (ap (λ a. is_on w.layout a c.0.call) spot ∙ on_c);
-      lver = same_number l.0.lver m both.0;
-      free = not_held l.0.held both.1;
+      lver = eqb-true l.0.lver m both.0;
+      free = not-true l.0.held both.1;
     }

@@ -5,11 +5,12 @@ use Rattle.sl_course_law.proofs.Counting.{turned_each}
 use Rattle.sl_course_law.proofs.Running.{input_there}
 use Rattle.sl_course_law.proofs.Turning.{KeepsAsking, Turned, flies}
 use Rattle.sl_run.specs.Events.{change_call, done_input, event_tests, first_change, if_running, input_at, input_of, machine_of, may_happen, ok_input, rest_sampled, sampled_more, sectors_left}
-use Rattle.sl_run.specs.Worlds.{Course, Daemon, Machine, World, flight_of, is_of_running, is_open, is_write_course, machine_at, may_land}
+use Rattle.sl_run.specs.Worlds.{Course, Daemon, Machine, World, flight_of, is_of_running, is_open, is_write_course, machine_at}
 use Rattle.sl_run.specs.declared.event.Event.TheVariants.{AnswerCall, Crash, Do, DropWrite, ExitOf, GiveCommand, Land, Pass, Reset, Restart, Sample, SpawnedOf, StartDaemon, Tear, Test, WakeUp}
 use Rattle.sl_run.specs.declared.event.Event.{Event}
-use Rattle.sl_run_law.proofs.Coursing.{changed_if, every_of}
-use Rattle.sl_run_law.proofs.Fates.{every_map, found, numbered}
+use Rattle.sl_run_law.proofs.Answered.{flight_waits}
+use Rattle.sl_run_law.proofs.Coursing.{changed_if}
+use Rattle.sl_run_law.proofs.Fates.{every_map, numbered}
 use Rattle.sl_run_law.proofs.Guards.{on_this, passes}
 use Rattle.sl_run_law.specs.Fates.{AreDistinct, Every}
 use Rattle.sl_trace.specs.declared.effects.Call.{Call}
@@ -21,10 +22,10 @@ use Rattle.sl_trace.specs.declared.input.Input.TheVariants.{Answer as Told, Exit
 use Rattle.sl_trace.specs.declared.input.Input.{Input}
 use Rattle.sl_trace.specs.Traces.{is_write}
 use Rattle.sl_words.proofs.CaseLaws.{false_is_true, none_some, one_value, some_value}
-use Rattle.sl_words.proofs.WordLaws.{and_true, choose_some, some_is_true}
+use Rattle.sl_words.proofs.WordLaws.{choose_some, some_is_true}
 use Rattle.std.proofs.Common.{ap, refl, subst, sym, ◌∙◌}
 use Rattle.std.proofs.lemmas.Bool.Decides.{Decides-eqb}
-use Rattle.std.specs.Prelude.{Bool, List, None, Option, Some, false, is_none, is_some, map, option_map, true, [], ℕ, ◌&&◌, ◌==◌, ◌||◌, ◌∷◌, ◌≡◌}
+use Rattle.std.specs.Prelude.{Bool, List, None, Some, false, is_some, map, option_map, true, [], ℕ, ◌==◌, ◌∷◌, ◌≡◌}
 
 -- The call waits for this answer to this daemon.
 pub record Awaits (d : Daemon) (answer : Answer) (c : Course) : Type 0 where
@@ -37,18 +38,6 @@ abbrev pub AllAwait : Daemon → Input → List Course → Type 0
 AllAwait d i cs = elim i [ Told n answer ↦ Every (λ c. (c.call.number == n) ≡ true → Awaits d answer c) cs | _ ↦ Unit {0} ]
 
 -- ---- the call in flight
-
-is_nothing : {A : Type 0} (o : Option A) → is_none o ≡ true → o ≡ None
-is_nothing None h = refl
-is_nothing (Some s) h = absurd (false_is_true h)
-
--- The call in flight isn't answered, and has its number.
-pub flight_waits : (a : Machine) (c : ℕ) (f : Course) → flight_of a c ≡ Some f → (f.call.number ≡ c) × (f.answered ≡ None)
-flight_waits a c f h =
-    let p : Course → Bool = λ x. x.call.number == c && is_open a x in
-    let y = found p (λ x. Unit {0}) a.calls f h (every_of (λ x. Unit {0}) a.calls (λ x. tt)) in
-    let q = and_true (f.call.number == c) (is_open a f) y.test in
-    ((Decides-eqb f.call.number c).0 q.0, is_nothing f.answered (and_true (is_none f.answered) (is_of_running a f || may_land f) q.1).0)
 
 -- It is the only one with its number.
 pub only_flight : (a : Machine) (c : ℕ) (f : Course) → flight_of a c ≡ Some f → AreDistinct a.calls → Every (λ x. (x.call.number == c) ≡ true → x ≡ f) a.calls

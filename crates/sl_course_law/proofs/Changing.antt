@@ -1,27 +1,19 @@
 -- What a change of one machine makes of that machine.
+use Rattle.sl_plain.proofs.Lists.{set_here}
+use Rattle.sl_plain.proofs.Options.{else_some}
 use Rattle.sl_run.specs.Events.{change_call, first_change, flight_at, land_whole, sampled_more, sectors_left}
 use Rattle.sl_run.specs.Worlds.{Course, Machine, World, change_machine, flight_of, is_in_flight, is_write_course, machine_at}
 use Rattle.sl_run.specs.declared.event.Event.TheVariants.{AnswerCall, Do}
 use Rattle.sl_run_law.proofs.Walking.{index}
-use Rattle.sl_words.proofs.CaseLaws.{none_some, true_is_false}
 use Rattle.std.proofs.Common.{ap, refl, ◌∙◌}
-use Rattle.std.specs.Prelude.{Bool, List, None, Option, Some, false, if◌then◌else◌, option_and_then, slice_get, slice_set, suc, true, zero, [], ℕ, ◌-◌, ◌==◌, ◌∷◌, ◌≡◌}
-
-set_here : (ms : List Machine) (i : ℕ) (x a : Machine) → slice_get ms i ≡ Some a → slice_get (slice_set ms i x) i ≡ Some x
-set_here [] i x a h = absurd (none_some a h)
-set_here (y ∷ ms) zero x a h = refl
-set_here (y ∷ ms) (suc i) x a h = set_here ms i x a h
-
-at_by : (b : Bool) (o : Option Machine) (a : Machine) → b ≡ false → o ≡ Some a → (if b then None else o) ≡ Some a
-at_by true o a h k = absurd (true_is_false h)
-at_by false o a h k = k
+use Rattle.std.specs.Prelude.{Bool, None, Option, Some, false, option_and_then, slice_get, slice_set, true, ℕ, ◌-◌, ◌==◌, ◌≡◌}
 
 -- The machine that changes.
 pub changed_here : (w : World) (m : ℕ) (f : Machine → Machine) (a : Machine) → machine_at w m ≡ Some a → machine_at (change_machine m f w) m ≡ Some (f a)
 changed_here w m f a at =
     let p = index w m a at in
     ap (λ o. machine_at (elim o as (λ x. World) [ None ↦ w | Some y ↦ record w { machines = slice_set w.machines (m - 1) (f y) } ]) m) at
-    ∙ at_by (m == 0) (slice_get (slice_set w.machines (m - 1) (f a)) (m - 1)) (f a) p.0 (set_here w.machines (m - 1) (f a) a p.1)
+    ∙ else_some (m == 0) (slice_get (slice_set w.machines (m - 1) (f a)) (m - 1)) (f a) p.0 (set_here w.machines (m - 1) (f a) a p.1)
 
 -- A read that is completed has sampled its last sectors.
 pub read_completed : (w : World) (m c : ℕ) (a : Machine) (f : Course) → machine_at w m ≡ Some a → flight_of a c ≡ Some f → is_write_course f ≡ false

@@ -7,6 +7,7 @@ use Rattle.sl_course_law.proofs.Running.{runs_then}
 use Rattle.sl_course_law.proofs.Turning.{Alone, Began, Called, Came_up, Clocked, Crashed, Elsewhere, IsQuiet, KeepsAsking, Stays, Stepped, Tested, Took, Turned, Went_down, own_quiet}
 use Rattle.sl_course_law.specs.Mirrors.{AreNumbered}
 use Rattle.sl_course_law.specs.Promises.{CoursesHaveDaemons}
+use Rattle.sl_plain.proofs.Lists.{contains_first, contains_more}
 use Rattle.sl_run.specs.Events.{close_answered, daemon_number, first_change, new_course, next_step, with_entry}
 use Rattle.sl_run.specs.Runs.{Happening}
 use Rattle.sl_run.specs.Safety.{LawfulRun, world_at}
@@ -18,7 +19,6 @@ use Rattle.sl_run_law.proofs.Coursing.{changed_if}
 use Rattle.sl_run_law.proofs.Fates.{every_map}
 use Rattle.sl_run_law.proofs.Tracking.{told}
 use Rattle.sl_run_law.specs.Fates.{Every}
-use Rattle.sl_session_law.proofs.Making.{contains_first, contains_more}
 use Rattle.sl_trace.specs.Traces.{is_ok_answer}
 use Rattle.sl_trace.specs.declared.effects.Call.{Call}
 use Rattle.sl_trace.specs.declared.input.Input.TheVariants.{Answer as Told, Exit, Line, Spawned, Wake}

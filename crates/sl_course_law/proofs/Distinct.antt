@@ -7,6 +7,7 @@ use Rattle.sl_course_law.proofs.Running.{runs_then}
 use Rattle.sl_course_law.proofs.Turning.{Alone, Began, Called, Came_up, Clocked, Crashed, Elsewhere, IsQuiet, Stays, Stepped, Tested, Took, Turned, Went_down, own_quiet}
 use Rattle.sl_course_law.specs.Promises.{CallsAreDistinct}
 use Rattle.sl_front_law.proofs.Going.{fronts_are_lawful, run_after}
+use Rattle.sl_plain.proofs.Lists.{contains_first, next_before}
 use Rattle.sl_run.specs.Events.{after_step, close_answered, daemon_number, first_change, new_course, next_step, with_entry}
 use Rattle.sl_run.specs.Runs.{Happening}
 use Rattle.sl_run.specs.Safety.{LawfulRun, world_at}
@@ -16,7 +17,6 @@ use Rattle.sl_run.specs.declared.header.Header.{Header}
 use Rattle.sl_run_law.proofs.Coursing.{changed_if}
 use Rattle.sl_run_law.proofs.Tracking.{told}
 use Rattle.sl_run_law.specs.Fates.{DistinctAlong, EachDistinct}
-use Rattle.sl_session_law.proofs.Making.{contains_first}
 use Rattle.sl_trace.specs.Traces.{IsTrace, Setting, Submitted, Trace, answered_in, is_ok_answer, mark, new_call, next_call, next_job, submitted}
 use Rattle.sl_trace.specs.declared.effects.Call.{Call}
 use Rattle.sl_trace.specs.declared.effects.Effects.{Effects}
@@ -38,18 +38,18 @@ made_length at reading (c ∷ calls) ms =
     made_length at reading calls (new_call at reading c ∷ ms) in
     omega (arith, rest)
 
-map_length : {A B : Type 0} (f : A → B) (xs : List A) → length (map f xs) ≡ length xs
+pub map_length : {A B : Type 0} (f : A → B) (xs : List A) → length (map f xs) ≡ length xs
 map_length f [] = refl
 map_length f (x ∷ xs) = ap (λ n. suc n) (map_length f xs)
 
-mark_length : (es : Trace) (e : Entry) (i : Input) (ms : List Submitted) → length (mark es e i ms) ≡ length ms
+pub mark_length : (es : Trace) (e : Entry) (i : Input) (ms : List Submitted) → length (mark es e i ms) ≡ length ms
 mark_length es e (Told n answer) ms = map_length (answered_in es e n answer) ms
 mark_length es e (Line text) ms = refl
 mark_length es e (Exit p) ms = refl
 mark_length es e (Spawned p ok) ms = refl
 mark_length es e Wake ms = refl
 
-next_more : (st : Setting) (e : Entry) (es : Trace) → next_call st (e ∷ es) ≡ next_call st es + length e.effects.calls
+pub next_more : (st : Setting) (e : Entry) (es : Trace) → next_call st (e ∷ es) ≡ next_call st es + length e.effects.calls
 next_more st e es =
     let made : length (submitted (e ∷ es)) ≡ length (mark es e e.input (submitted es)) + length e.effects.calls =
     made_length (length es) e.reading e.effects.calls (mark es e e.input (submitted es)) in
@@ -67,7 +67,7 @@ next_is a d is = ap (λ ds. (numbers_in ds).call) (daemons_are a d is)
 abbrev number_of : Machine → ℕ
 number_of a = (next_numbers a).call
 
-nothing_more : (n : ℕ) → n + 0 ≡ n
+pub nothing_more : (n : ℕ) → n + 0 ≡ n
 nothing_more n = omega arith
 
 turned_next : (w : World) (e : Event) (m : ℕ) (a b : Machine) → Turned w e m a b → number_of b ≡ number_of a
@@ -180,16 +180,12 @@ numbered_after p h xs run = machines_keep p h (λ w m. IsNumbered) (first p h) (
 pub each_distinct : (p : Program) (h : Header) (xs : List Happening) → LawfulRun p h xs → EachDistinct (world_at p h xs)
 each_distinct p h xs run m a at = (numbered_after p h xs run m a at).distinct
 
-one_more : (now : List Happening) (x : Happening) (rest : List Happening) → (now ++ x ∷ []) ++ rest ≡ now ++ x ∷ rest
-one_more [] x rest = refl
-one_more (y ∷ now) x rest = ap (λ xs. y ∷ xs) (one_more now x rest)
-
 along : (p : Program) (h : Header) (now rest : List Happening) → LawfulRun p h (now ++ rest) → DistinctAlong (world_at p h now) rest
 along p h now [] run = tt
 along p h now (x ∷ rest) run = (
   each_distinct p h now (fronts_are_lawful p h now (x ∷ rest) run),
   subst (λ w. DistinctAlong w rest) (run_after (world_with p h) now (x ∷ []))
-      (along p h (now ++ x ∷ []) rest (subst (λ xs. LawfulRun p h xs) (sym (one_more now x rest)) run)),
+      (along p h (now ++ x ∷ []) rest (subst (λ xs. LawfulRun p h xs) (sym (next_before now x rest)) run)),
 )
 
 pub calls_are_distinct : CallsAreDistinct

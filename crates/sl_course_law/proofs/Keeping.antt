@@ -1,19 +1,17 @@
 -- What holds of each machine at first and is kept by each event of lawful runs holds of each after all of them.
 use Rattle.sl_area.specs.Layouts.{layout_with}
 use Rattle.sl_course_law.proofs.Turning.{Becomes, becomes}
-use Rattle.sl_front_law.proofs.Going.{last_event, run_after, run_keeps, was_there}
+use Rattle.sl_front_law.proofs.Going.{last_event, run_after, run_keeps, settled_later, was_there}
 use Rattle.sl_front_law.proofs.Having.{in_flat}
 use Rattle.sl_law.specs.Lawful.{Lawful}
+use Rattle.sl_plain.proofs.Lists.{got_inside}
 use Rattle.sl_run.specs.Events.{input_of, may_happen}
-use Rattle.sl_run.specs.Runs.{EachDaemon, Happening, IsRun, own_effects_of}
+use Rattle.sl_run.specs.Runs.{EachDaemon, Happening, own_effects_of}
 use Rattle.sl_run.specs.Safety.{LawfulRun, world_at}
 use Rattle.sl_run.specs.Worlds.{Daemon, Machine, Program, World, daemons_on, machine_at, machine_of_header, world_with}
 use Rattle.sl_run.specs.declared.header.Header.{Header}
-use Rattle.sl_run_law.proofs.Beginnings.{begins_new}
-use Rattle.sl_run_law.proofs.Hosting.{run_hosts}
 use Rattle.sl_run_law.proofs.Walking.{index, number_within}
 use Rattle.sl_run_law.specs.Daemons.{IsSettled}
-use Rattle.sl_session_law.proofs.Owning.{got_inside}
 use Rattle.sl_trace.specs.declared.effects.Effects.{Effects}
 use Rattle.sl_words.proofs.CaseLaws.{none_some, one_value, some_value}
 use Rattle.std.proofs.Common.{ap, arith, subst, sym, ◌∙◌}
@@ -47,12 +45,6 @@ header_machine p h m a at =
     ranged f 1 h.machines (m - 1) a (index (world_with p h) m a at).1 ∙ ap f (number_within (world_with p h) m a at).1
 
 -- ---- each event
-
-settled_later : (p : Program) (h : Header) (xs : List Happening) → IsRun (world_with p h) xs → (m : ℕ) (b : Machine) → machine_at (world_at p h xs) m ≡ Some b → IsSettled b
-settled_later p h xs run m b at =
-    let a = was_there (world_with p h) xs m b at in
-    let go = run_hosts (world_with p h) xs run m a.0 a.1 in
-    subst IsSettled (one_value go.0 b (machine_at (world_at p h xs) m) go.1 at) (go.2 (begins_new p h m a.0 a.1).settled).settled
 
 went_on : (p : Program) (h : Header) (now : List Happening) (x : Happening) → LawfulRun p h (now ++ x ∷ []) → (m : ℕ) (a c : Machine)
     → machine_at (world_at p h now) m ≡ Some a → machine_at (world_at p h (now ++ x ∷ [])) m ≡ Some c → Goes_on p h now x m a c

@@ -5,6 +5,7 @@ use Rattle.sl_course_law.proofs.Keeping.{Goes_on, OfMachines, machines_keep}
 use Rattle.sl_course_law.specs.Mirrors.{IsOfWorld}
 use Rattle.sl_course_law.specs.Promises.{DaemonsAreOfWorld}
 use Rattle.sl_front_law.proofs.Going.{run_after}
+use Rattle.sl_plain.proofs.Numbers.{trans_lt}
 use Rattle.sl_run.specs.Events.{with_entry}
 use Rattle.sl_run.specs.Runs.{Happening}
 use Rattle.sl_run.specs.Safety.{LawfulRun, world_at}
@@ -29,9 +30,6 @@ step_less s t k h = omega (arith, h)
 pub last_step : (p : Program) (h : Header) (now : List Happening) (x : Happening) → (world_at p h now).step < (world_at p h (now ++ x ∷ [])).step
 last_step p h now x = step_less (world_at p h now).step (world_at p h (now ++ x ∷ [])).step (length x.1) (last_goes p h now x).step
 
-pub less_again : (x s t : ℕ) → x < s → s < t → x < t
-less_again x s t g h = omega (arith, g, h)
-
 -- A world that has gone on from another.
 record HasGone (w v : World) : Type 0 where
   header : v.header ≡ w.header
@@ -44,7 +42,7 @@ still_of w v m d g h =
       timing = h.timing ∙ ap (λ (x : Header). x.timing) (sym g.header);
       layout = h.layout ∙ sym g.layout;
       machine = h.machine;
-      begun = less_again d.begun.step w.step v.step h.begun g.step;
+      begun = trans_lt d.begun.step w.step v.step h.begun g.step;
       given = h.given;
     }
 

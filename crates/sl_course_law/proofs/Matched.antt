@@ -1,11 +1,11 @@
 -- A machine's calls of a daemon are those of its trace, in the same order.
 use Rattle.sl_area.specs.Layouts.{layout_with}
-use Rattle.sl_course_law.proofs.Answering.{AllAwait, Awaits, awaits, flight_waits, only_flight}
+use Rattle.sl_course_law.proofs.Answering.{AllAwait, Awaits, awaits, only_flight}
 use Rattle.sl_course_law.proofs.Counting.{IsCountedOn, counted_after, daemon_number_is, daemons_numbered}
 use Rattle.sl_course_law.proofs.Daemons.{all_ended, daemons_are, entry_of, every_each, every_has, first_daemons, step_ended, turned_daemons}
 use Rattle.sl_course_law.proofs.Distinct.{entered, each_distinct, made_calls, running_has, step_calls}
 use Rattle.sl_course_law.proofs.Keeping.{Goes_on, machines_keep}
-use Rattle.sl_course_law.proofs.Matching.{IsEntered, answered_course, changed_course, later_course, less_is_other, made_course, same_is_true}
+use Rattle.sl_course_law.proofs.Matching.{IsEntered, answered_course, changed_course, later_course, made_course}
 use Rattle.sl_course_law.proofs.Pairing.{every_filtered, filter_changed, filter_drops, filter_has, filter_none, pairs_change, pairs_first, pairs_hold, pairs_length}
 use Rattle.sl_course_law.proofs.Running.{daemon_stays, runs_before}
 use Rattle.sl_course_law.proofs.Stamped.{entries_are_stamped}
@@ -13,12 +13,14 @@ use Rattle.sl_course_law.proofs.Turning.{Alone, Began, Called, Came_up, Clocked,
 use Rattle.sl_course_law.specs.Mirrors.{AreNumbered}
 use Rattle.sl_course_law.specs.Promises.{CoursesAreCalls}
 use Rattle.sl_course_law.specs.Stamping.{IsCourseOf, IsStampOf, IsStamped, Pairwise}
+use Rattle.sl_plain.proofs.Numbers.{less_is_other}
 use Rattle.sl_run.specs.Events.{after_step, close_answered, daemon_number, first_change, new_course, next_step, with_entry}
 use Rattle.sl_run.specs.Runs.{Happening}
 use Rattle.sl_run.specs.Safety.{world_at}
 use Rattle.sl_run.specs.Worlds.{Course, Daemon, Machine, Program, Stamp, World, daemons_on, flight_of, machine_at, machine_of_header, new_daemon, next_numbers, setting_of, stamp_now}
 use Rattle.sl_run.specs.declared.event.Event.{Event}
 use Rattle.sl_run.specs.declared.header.Header.{Header}
+use Rattle.sl_run_law.proofs.Answered.{flight_waits}
 use Rattle.sl_run_law.proofs.Coursing.{changed_if}
 use Rattle.sl_run_law.proofs.Fates.{every_map}
 use Rattle.sl_run_law.proofs.Tracking.{told}
@@ -31,6 +33,7 @@ use Rattle.sl_trace.specs.declared.effects.Entry.{Entry}
 use Rattle.sl_trace.specs.declared.input.Input.TheVariants.{Answer as Told, Exit, Line, Spawned, Wake}
 use Rattle.sl_trace.specs.declared.input.Input.{Input}
 use Rattle.std.proofs.Common.{ap, arith, refl, subst, sym, tests, ◌∙◌}
+use Rattle.std.proofs.lemmas.Bool.{eq-eqb}
 use Rattle.std.proofs.lemmas.Bool.Decides.{Decides-eqb}
 use Rattle.std.specs.Prelude.{Bool, List, None, Some, false, filter, fold, length, map, suc, true, [], ℕ, ◌<◌, ◌==◌, ◌∷◌, ◌≡◌}
 
@@ -130,7 +133,7 @@ closed_other d e now Wake b other h k = k
 other_number : (x y : ℕ) → x < y → (y == x) ≡ false
 other_number x y h = grind (arith, tests)
 
-apart : (x y : ℕ) → x < y → y ≡ x → ⊥
+pub apart : (x y : ℕ) → x < y → y ≡ x → ⊥
 apart x y h same = absurd (omega (arith, h, same))
 
 -- The calls of a daemon that has ended.
@@ -171,7 +174,7 @@ made_own d x now cs ms [] is h = h
 made_own d x now cs ms (c ∷ calls) is h =
     made_own d x now (new_course now d.number c ∷ cs) (new_call (length d.trace) x.reading c ∷ ms) calls is
     (subst (λ xs. Pairwise (IsCourseOf (with_entry x now d)) xs (new_call (length d.trace) x.reading c ∷ ms))
-    (sym (filter_has (of_daemon d.number) (new_course now d.number c) cs (same_is_true d.number d.number refl))) (made_course d x now c is, h))
+    (sym (filter_has (of_daemon d.number) (new_course now d.number c) cs (eq-eqb d.number d.number refl))) (made_course d x now c is, h))
 
 step_matched : (now : Stamp) (i : Input) (fx : Effects) (b : Machine) (d : Daemon) → IsEntered d (entry_of i fx b) now → AllAwait d i b.calls → AreNumbered (d ∷ b.ended)
     → Every (CallsOf b.calls) (d ∷ b.ended)

@@ -2,6 +2,7 @@
 use Rattle.sl_course_law.proofs.Answering.{Awaits}
 use Rattle.sl_course_law.proofs.Turning.{KeepsAsking}
 use Rattle.sl_course_law.specs.Stamping.{AnswersAgree, IsAnsweredAs, IsCourseOf, stamp_in}
+use Rattle.sl_plain.proofs.Numbers.{less_is_other}
 use Rattle.sl_run.specs.Events.{new_course, with_entry}
 use Rattle.sl_run.specs.Worlds.{Course, Daemon, Stamp}
 use Rattle.sl_run_law.proofs.Coursing.{changed_if}
@@ -12,7 +13,8 @@ use Rattle.sl_trace.specs.declared.effects.Call.{Call}
 use Rattle.sl_trace.specs.declared.effects.Entry.{Entry}
 use Rattle.sl_trace.specs.declared.input.Answer.{Answer}
 use Rattle.sl_words.proofs.CaseLaws.{no_value, none_some}
-use Rattle.std.proofs.Common.{ap, arith, refl, subst, sym, tests, ◌∙◌}
+use Rattle.std.proofs.Common.{ap, arith, refl, subst, sym, ◌∙◌}
+use Rattle.std.proofs.lemmas.Bool.{eq-eqb}
 use Rattle.std.proofs.lemmas.Bool.Decides.{Decides-eqb}
 use Rattle.std.specs.Option.{option_or}
 use Rattle.std.specs.Prelude.{Bool, List, None, Option, Some, false, length, true, [], ℕ, ◌<◌, ◌==◌, ◌∷◌, ◌≡◌}
@@ -24,15 +26,9 @@ below_by : (s : Stamp) (ss : List Stamp) (i : ℕ) (x : Stamp) (t : Bool) → (i
 below_by s ss i x true is rest h = let same : i ≡ length ss = (Decides-eqb i (length ss)).0 is in omega (arith, same)
 below_by s ss i x false is rest h = let less : i < length ss = rest h in omega (arith, less)
 
-found_below : (ss : List Stamp) (i : ℕ) (x : Stamp) → stamp_in ss i ≡ Some x → i < length ss
+pub found_below : (ss : List Stamp) (i : ℕ) (x : Stamp) → stamp_in ss i ≡ Some x → i < length ss
 found_below [] i x h = absurd (none_some x h)
 found_below (s ∷ ss) i x h = below_by s ss i x (i == length ss) refl (found_below ss i x) h
-
-pub less_is_other : (i n : ℕ) → i < n → (i == n) ≡ false
-less_is_other i n h = grind (arith, tests)
-
-pub same_is_true : (i n : ℕ) → i ≡ n → (i == n) ≡ true
-same_is_true i n h = (Decides-eqb i n).1 h
 
 -- An older stamp stays.
 pub stamp_stays : (s : Stamp) (ss : List Stamp) (i : ℕ) (x : Stamp) → stamp_in ss i ≡ Some x → stamp_in (s ∷ ss) i ≡ Some x
@@ -40,7 +36,7 @@ stamp_stays s ss i x h =
     ap (λ t. elim t as (λ y. Option Stamp) [ true ↦ Some s | false ↦ stamp_in ss i ]) (less_is_other i (length ss) (found_below ss i x h)) ∙ h
 
 pub newest_stamp : (s : Stamp) (ss : List Stamp) (i : ℕ) → i ≡ length ss → stamp_in (s ∷ ss) i ≡ Some s
-newest_stamp s ss i h = ap (λ t. elim t as (λ y. Option Stamp) [ true ↦ Some s | false ↦ stamp_in ss i ]) (same_is_true i (length ss) h)
+newest_stamp s ss i h = ap (λ t. elim t as (λ y. Option Stamp) [ true ↦ Some s | false ↦ stamp_in ss i ]) (eq-eqb i (length ss) h)
 
 -- ---- a course changes and its call does not
 

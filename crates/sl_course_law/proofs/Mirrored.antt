@@ -12,6 +12,8 @@ use Rattle.sl_course_law.proofs.Running.{runs_then}
 use Rattle.sl_course_law.proofs.Turning.{Alone, Began, Called, Came_up, Clocked, Crashed, Elsewhere, IsQuiet, Stays, Stepped, Tested, Took, Turned, Went_down, own_quiet}
 use Rattle.sl_course_law.specs.Mirrors.{AreNumbered, Mirrors, since_restart}
 use Rattle.sl_course_law.specs.Promises.{MachinesMirror}
+use Rattle.sl_plain.proofs.Lists.{contains_cases, contains_first, contains_more, contains_none}
+use Rattle.sl_plain.proofs.Options.{not_some}
 use Rattle.sl_run.specs.Events.{after_effects, after_reset, after_step, first_change, input_at, input_of, machine_of, next_step, own_effects, with_entry}
 use Rattle.sl_run.specs.Runs.{Happening, own_effects_of}
 use Rattle.sl_run.specs.Safety.{world_at}
@@ -20,7 +22,6 @@ use Rattle.sl_run.specs.declared.event.Event.TheVariants.{AnswerCall, Crash, Do,
 use Rattle.sl_run.specs.declared.event.Event.{Event}
 use Rattle.sl_run.specs.declared.header.Header.{Header}
 use Rattle.sl_run.specs.declared.header.SessionLine.{SessionLine}
-use Rattle.sl_session_law.proofs.Making.{contains_cases, contains_first, contains_more, contains_none}
 use Rattle.sl_trace.specs.Connections.{Connection, after_move, connections, given_connection}
 use Rattle.sl_trace.specs.Traces.{held_after, holdings, is_ended_by, no_effects}
 use Rattle.sl_trace.specs.declared.effects.Effects.{Effects}
@@ -35,6 +36,7 @@ use Rattle.sl_words.proofs.CaseLaws.{no_value, none_some, one_value, some_value,
 use Rattle.sl_words.proofs.OptionLaws.{choose_none}
 use Rattle.sl_words.specs.Words.{first_of_list, is_empty}
 use Rattle.std.proofs.Common.{ap, arith, inl, inr, refl, subst, sym, ◌∙◌}
+use Rattle.std.proofs.lemmas.List.{append-nil}
 use Rattle.std.specs.List.{cons_option}
 use Rattle.std.specs.Option.{option_map_or}
 use Rattle.std.specs.Prelude.{Bool, Contains, List, None, Option, Some, false, filter, filter_map, find, fold, if◌then◌else◌, is_some, length, map, not, option_and_then, option_map, true, [], ℕ, ◌&&◌, ◌++◌, ◌<◌, ◌==◌, ◌∷◌, ◌≡◌}
@@ -45,14 +47,10 @@ keeps_all : (gs : List Grant) → filter (λ g. not (is_ended_by [] g)) gs ≡ g
 keeps_all [] = refl
 keeps_all (g ∷ gs) = ap (λ hs. g ∷ hs) (keeps_all gs)
 
-nothing_behind : (gs : List Grant) → gs ++ [] ≡ gs
-nothing_behind [] = refl
-nothing_behind (g ∷ gs) = ap (λ hs. g ∷ hs) (nothing_behind gs)
-
 -- Where none ends and none is granted.
 held_same : (fx : Effects) (gs : List Grant) → fx.ends ≡ [] → fx.grants ≡ [] → held_after fx gs ≡ gs
 held_same fx gs ends grants =
-    ap (λ (hs : List Grant). filter (λ g. not (is_ended_by fx.ends g)) gs ++ hs) grants ∙ nothing_behind (filter (λ g. not (is_ended_by fx.ends g)) gs)
+    ap (λ (hs : List Grant). filter (λ g. not (is_ended_by fx.ends g)) gs ++ hs) grants ∙ append-nil (filter (λ g. not (is_ended_by fx.ends g)) gs)
     ∙ ap (λ (es : List End). filter (λ g. not (is_ended_by es g)) gs) ends ∙ keeps_all gs
 
 filtered_by : (p : Grant → Bool) (x : Grant) (gs : List Grant) (g : Grant) (t : Bool) → Contains (if t then x ∷ filter p gs else filter p gs) g
@@ -72,7 +70,7 @@ was_filtered p (x ∷ gs) g has = filtered_by p x gs g (p x) has (was_filtered p
 was_held : (fx : Effects) (gs : List Grant) (g : Grant) → fx.grants ≡ [] → Contains (held_after fx gs) g → Contains gs g
 was_held fx gs g grants has =
     let p : Grant → Bool = λ x. not (is_ended_by fx.ends x) in
-    let same : held_after fx gs ≡ filter p gs = ap (λ (hs : List Grant). filter p gs ++ hs) grants ∙ nothing_behind (filter p gs) in
+    let same : held_after fx gs ≡ filter p gs = ap (λ (hs : List Grant). filter p gs ++ hs) grants ∙ append-nil (filter p gs) in
     was_filtered p gs g (subst (λ hs. Contains hs g) same has)
 
 -- ---- what the machine does without its daemon
@@ -98,10 +96,6 @@ no_ends w e (Some a) each = each a
 not_start : (n p m : ℕ) (name : _) → ExitOf n p ≡ StartDaemon m name → ⊥
 not_start n p m name e = absurd cc
 
-none_runs : (o : Option Daemon) → is_some o ≡ false → o ≡ None
-none_runs None h = refl
-none_runs (Some d) h = absurd (true_is_false h)
-
 exit_alone : (w : World) (n p m : ℕ) (a b : Machine) (d : Daemon) → a.daemon ≡ None → Turned w (ExitOf n p) m a b → b.daemon ≡ Some d → ⊥
 exit_alone w n p m a b d none (Stays is) runs = none_some d (sym none ∙ sym (ap (λ (x : Machine). x.daemon) is) ∙ runs)
 exit_alone w n p m a b d none (Clocked k is) runs = none_some d (sym none ∙ sym (ap (λ (x : Machine). x.daemon) is) ∙ runs)
@@ -115,7 +109,7 @@ exit_alone w n p m a b d none (Came_up event down is) runs = none_some d (sym no
 exit_ends : (w : World) (n p : ℕ) (a b : Machine) (d : Daemon) → machine_at w n ≡ Some a → input_of w (ExitOf n p) ≡ None → Turned w (ExitOf n p) n a b → b.daemon ≡ Some d → ⊥
 exit_ends w n p a b d at none turned runs =
     let here : input_at w (ExitOf n p) a ≡ None = ap (λ o. option_and_then (input_at w (ExitOf n p)) o) (sym at) ∙ none in
-    exit_alone w n p n a b d (none_runs a.daemon (choose_none (is_some a.daemon) (Exit p) here)) turned runs
+    exit_alone w n p n a b d (not_some a.daemon (choose_none (is_some a.daemon) (Exit p) here)) turned runs
 
 reset_ends : (w : World) (n : ℕ) (a b : Machine) (d : Daemon) → machine_at w n ≡ Some a → machine_at (first_change (Reset n) w) n ≡ Some b → b.daemon ≡ Some d → ⊥
 unfolding first_change

@@ -3,17 +3,18 @@ use Rattle.sl_course_law.proofs.Daemons.{all_ended, every_has}
 use Rattle.sl_course_law.proofs.Resetting.{ResetsBefore, none_after, one_after}
 use Rattle.sl_course_law.proofs.Turning.{Began, Called, Came_up, Clocked, Crashed, Stays, Tested, Turned, Went_down}
 use Rattle.sl_course_law.specs.Mirrors.{AreNumbered, Mirrors, since_restart}
+use Rattle.sl_plain.proofs.Lists.{contains_cases, contains_none}
 use Rattle.sl_run.specs.Events.{after_crash, after_reset, after_restart, after_start}
 use Rattle.sl_run.specs.Worlds.{Course, Daemon, Machine, Stamp, World, daemons_on, new_daemon, next_numbers, resets_after, setting_of, stamp_now}
 use Rattle.sl_run.specs.declared.event.Event.{Event}
 use Rattle.sl_run_law.specs.Daemons.{IsSettled}
 use Rattle.sl_run_law.specs.Fates.{Every}
-use Rattle.sl_session_law.proofs.Making.{contains_cases, contains_none}
 use Rattle.sl_trace.specs.Connections.{connections}
 use Rattle.sl_trace.specs.Traces.{holdings}
-use Rattle.sl_words.proofs.CaseLaws.{no_value, none_some, some_value, true_is_false}
+use Rattle.sl_words.proofs.CaseLaws.{no_value, none_some, some_value}
 use Rattle.sl_words.specs.Words.{first_of_list, is_empty}
 use Rattle.std.proofs.Common.{ap, inl, inr, refl, subst, sym, ◌∙◌}
+use Rattle.std.proofs.lemmas.Bool.{and_from, and_left, and_right}
 use Rattle.std.specs.Prelude.{Bool, Contains, List, None, Option, Some, false, if◌then◌else◌, length, true, [], ℕ, ◌&&◌, ◌<◌, ◌∷◌, ◌≡◌}
 
 -- What is known of the machine before the event beside what it keeps.
@@ -27,17 +28,6 @@ pub record IsKnown (w : World) (a : Machine) : Type 0 where
 pub none_if : {A : Type 0} (t : Bool) (o : Option A) (d : A) → (if t then o else None) ≡ Some d → (t ≡ true) × (o ≡ Some d)
 none_if true o d h = (refl, h)
 none_if false o d h = absurd (none_some d h)
-
-both_true : (s t : Bool) → s ≡ true → t ≡ true → (s && t) ≡ true
-both_true true t h k = k
-both_true false t h k = absurd (true_is_false (sym h))
-
-first_false : (s t : Bool) → s ≡ false → (s && t) ≡ false
-first_false s t h = ap (λ b. b && t) h
-
-second_false : (s t : Bool) → t ≡ false → (s && t) ≡ false
-second_false true t h = h
-second_false false t h = refl
 
 -- None since, where the machine is down or none has begun.
 none_since : (a : Machine) → (a.up && a.used) ≡ false → since_restart a ≡ None
@@ -91,7 +81,7 @@ down_mirrors w a k h =
 
 up_mirrors : (w : World) (a : Machine) → a.up ≡ false → IsSettled a → Mirrors a → Mirrors (after_restart w a)
 up_mirrors w a down s h =
-    let before : since_restart a ≡ None = none_since a (first_false a.up a.used down) in
+    let before : since_restart a ≡ None = none_since a (and_left a.up a.used down) in
     record {
       numbered = h.numbered;
       running = λ d is. absurd (none_some d (sym (s.down down) ∙ is));
@@ -110,9 +100,9 @@ began_mirrors : (w : World) (m : ℕ) (name : List ℕ) (a : Machine) → a.up �
 began_mirrors w m name a up used numbered k h =
     let b : Machine = after_start w m name a in
     let new : Daemon = new_daemon (length (daemons_on a)) (setting_of w.program w.layout w.header m name (next_numbers a) []) (stamp_now w a) in
-    let before : since_restart a ≡ None = none_since a (second_false a.up a.used used) in
+    let before : since_restart a ≡ None = none_since a (and_right a.up a.used used) in
     let nothing = h.none before in
-    let since : since_restart b ≡ Some new = since_is b new a.ended (both_true a.up true up refl) refl in
+    let since : since_restart b ≡ Some new = since_is b new a.ended (and_from a.up true up refl) refl in
     let is_new = λ (d : Daemon) (is : since_restart b ≡ Some d). some_value new d (sym since ∙ is) in
     record {
       numbered = numbered;

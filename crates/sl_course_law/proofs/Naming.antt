@@ -7,6 +7,7 @@ use Rattle.sl_course_law.specs.Mirrors.{NamesAreApart}
 use Rattle.sl_course_law.specs.Promises.{DaemonNamesAreApart}
 use Rattle.sl_front_law.proofs.Going.{run_keeps}
 use Rattle.sl_front_law.proofs.Having.{in_flat}
+use Rattle.sl_plain.proofs.Lists.{contains_cases, contains_first, contains_map, contains_more, contains_none, got_inside}
 use Rattle.sl_run.specs.Events.{first_change, machine_of, next_step, with_entry}
 use Rattle.sl_run.specs.Headers.{GoTogether, IsHeader}
 use Rattle.sl_run.specs.Runs.{Happening}
@@ -18,17 +19,16 @@ use Rattle.sl_run.specs.declared.header.Header.{Header}
 use Rattle.sl_run.specs.declared.header.SessionLine.{SessionLine}
 use Rattle.sl_run_law.proofs.Walking.{index}
 use Rattle.sl_run_law.specs.Daemons.{IsSettled}
-use Rattle.sl_session_law.proofs.Making.{contains_cases, contains_first, contains_more, contains_none}
-use Rattle.sl_session_law.proofs.Owning.{got_inside}
+use Rattle.sl_session_law.proofs.Naming.{same_name}
 use Rattle.sl_trace.specs.Traces.{Setting}
 use Rattle.sl_trace.specs.declared.effects.Effects.{Effects}
 use Rattle.sl_trace.specs.declared.effects.Entry.{Entry}
-use Rattle.sl_words.proofs.CaseLaws.{none_some, not_both, one_value, some_value, true_is_false}
+use Rattle.sl_words.proofs.CaseLaws.{none_some, not_both, one_value, some_value}
 use Rattle.std.proofs.Common.{ap, arith, inl, inr, refl, subst, sym, ◌∙◌}
-use Rattle.std.proofs.lemmas.Slice.Eq.{bytes_eq-Decides}
+use Rattle.std.proofs.lemmas.Bool.{or_left, or_right}
 use Rattle.std.proofs.lemmas.Bool.Decides.{Decides-eqb}
 use Rattle.std.specs.List.{list_any}
-use Rattle.std.specs.Prelude.{AllPairs, Bool, Contains, List, None, Option, Some, bytes_eq, false, find, if◌then◌else◌, length, map, option_map, slice_index_or, suc, true, zero, [], ℕ, ◌++◌, ◌-◌, ◌<◌, ◌==◌, ◌||◌, ◌∷◌, ◌≡◌, ◌⊎◌}
+use Rattle.std.specs.Prelude.{AllPairs, Bool, Contains, List, None, Option, Some, bytes_eq, false, find, if◌then◌else◌, length, map, option_map, slice_index_or, suc, true, zero, [], ℕ, ◌++◌, ◌-◌, ◌<◌, ◌==◌, ◌∷◌, ◌≡◌, ◌⊎◌}
 
 -- ---- where a daemon comes from
 
@@ -121,32 +121,13 @@ origin p h now x m a c d g has =
 
 -- ---- names
 
-or_by : (s t : Bool) → s ≡ true → (s || t) ≡ true
-or_by true t h = refl
-or_by false t h = absurd (true_is_false (sym h))
-
-or_next : (s t : Bool) → t ≡ true → (s || t) ≡ true
-or_next true t h = refl
-or_next false t h = h
-
 any_inside : (p : List ℕ → Bool) (xs : List (List ℕ)) (x : List ℕ) → Contains xs x → p x ≡ true → list_any p xs ≡ true
 any_inside p [] x has is = absurd (contains_none x has)
 any_inside p (y ∷ xs) x has is =
     elim (contains_cases y xs x has) as (λ z. list_any p (y ∷ xs) ≡ true) [
-      | inl same ↦ or_by (p y) (list_any p xs) (ap p same ∙ is)
-      | inr more ↦ or_next (p y) (list_any p xs) (any_inside p xs x more is)
+      | inl same ↦ or_left (p y) (list_any p xs) (ap p same ∙ is)
+      | inr more ↦ or_right (p y) (list_any p xs) (any_inside p xs x more is)
     ]
-
-contains_map : {A B : Type 0} (f : A → B) (xs : List A) (x : A) → Contains xs x → Contains (map f xs) (f x)
-contains_map f [] x has = absurd (contains_none x has)
-contains_map f (y ∷ xs) x has =
-    elim (contains_cases y xs x has) as (λ z. Contains (map f (y ∷ xs)) (f x)) [
-      | inl same ↦ subst (λ z. Contains (f y ∷ map f xs) (f z)) same (contains_first (f y) (map f xs))
-      | inr more ↦ contains_more (f y) (map f xs) (f x) (contains_map f xs x more)
-    ]
-
-same_bytes : (x : List ℕ) → bytes_eq x x ≡ true
-same_bytes x = (bytes_eq-Decides x x).1 refl
 
 -- A name that is fresh is no daemon's.
 fresh_is_new : (w : World) (m : ℕ) (a : Machine) (d : Daemon) (name : List ℕ) → machine_at w m ≡ Some a → Contains (daemons_on a) d
@@ -155,7 +136,7 @@ fresh_is_new w m a d name at has fresh is =
     let inside : Contains (names_of w) d.setting.name =
     in_flat (λ (x : Machine). map (λ (y : Daemon). y.setting.name) (daemons_on x)) w.machines a d.setting.name (got_inside w.machines (m - 1) a (index w m a at).1)
     (contains_map (λ (y : Daemon). y.setting.name) (daemons_on a) d has) in
-    not_both (list_any (bytes_eq name) (names_of w)) (any_inside (bytes_eq name) (names_of w) d.setting.name inside (ap (bytes_eq name) is ∙ same_bytes name)) fresh
+    not_both (list_any (bytes_eq name) (names_of w)) (any_inside (bytes_eq name) (names_of w) d.setting.name inside (ap (bytes_eq name) is ∙ same_name name)) fresh
 
 both_old : (w : World) (m n : ℕ) (a b : Machine) (d e : Daemon) → NamesAreApart w → machine_at w m ≡ Some a → machine_at w n ≡ Some b → WasThere a d → WasThere b e
     → d.setting.name ≡ e.setting.name → (m ≡ n) × (d.number ≡ e.number)

@@ -2,8 +2,9 @@
 use Rattle.sl_area.specs.Layouts.{layout_with}
 use Rattle.sl_course_law.proofs.Daemons.{every_each}
 use Rattle.sl_course_law.proofs.Keeping.{Goes_on, OfMachines, machines_keep}
-use Rattle.sl_course_law.proofs.Made.{last_step, less_again}
+use Rattle.sl_course_law.proofs.Made.{last_step}
 use Rattle.sl_course_law.proofs.Turning.{Alone, Began, Called, Came_up, Clocked, Crashed, Elsewhere, Stays, Stepped, Tested, Took, Turned, Went_down}
+use Rattle.sl_plain.proofs.Numbers.{trans_lt}
 use Rattle.sl_run.specs.Events.{after_step, first_change, next_step}
 use Rattle.sl_run.specs.Runs.{Happening}
 use Rattle.sl_run.specs.Safety.{LawfulRun, world_at}
@@ -16,8 +17,9 @@ use Rattle.sl_trace.specs.declared.input.Input.TheVariants.{Answer as Told, Exit
 use Rattle.sl_trace.specs.declared.input.Input.{Input}
 use Rattle.sl_words.specs.Words.{is_empty}
 use Rattle.std.proofs.Common.{ap, arith, refl, subst, sym, ◌∙◌}
+use Rattle.std.proofs.lemmas.Bool.{lt-ltb}
 use Rattle.std.proofs.lemmas.Bool.Decides.{nat_tests}
-use Rattle.std.specs.Prelude.{List, false, filter, if◌then◌else◌, nat_lt, true, [], ℕ, ◌++◌, ◌<◌, ◌∷◌, ◌≡◌}
+use Rattle.std.specs.Prelude.{List, false, filter, if◌then◌else◌, nat_lt, [], ℕ, ◌++◌, ◌<◌, ◌∷◌, ◌≡◌}
 
 -- What is kept.
 abbrev pub ResetsBefore : World → Machine → Type 0
@@ -33,7 +35,7 @@ turned_resets w e m a b Q new (Crashed event is) h = subst (λ (x : Machine). Ev
 turned_resets w e m a b Q new (Went_down event up is) h = subst (λ (x : Machine). Every Q x.resets) (sym is) (new, h)
 turned_resets w e m a b Q new (Came_up event down is) h = subst (λ (x : Machine). Every Q x.resets) (sym is) h
 
-step_resets : (now : Stamp) (i : Input) (fx : Effects) (a : Machine) → (after_step now i fx a).resets ≡ a.resets
+pub step_resets : (now : Stamp) (i : Input) (fx : Effects) (a : Machine) → (after_step now i fx a).resets ≡ a.resets
 step_resets now (Line text) fx a = refl
 step_resets now (Told n answer) fx a = refl
 step_resets now Wake fx a = refl
@@ -53,7 +55,7 @@ keeps p h now x m a c g was =
     let less : w.step < v.step = last_step p h now x in
     subst (Every (λ (r : Stamp). r.step < v.step)) (sym (stepped_resets w x.0 g.effects m g.becomes.middle c g.becomes.stepped))
     (turned_resets w x.0 m a g.becomes.middle (λ r. r.step < v.step) less g.becomes.turned
-    (every_each (λ r. r.step < w.step) (λ r. r.step < v.step) a.resets (λ r k. less_again r.step w.step v.step k less) was))
+    (every_each (λ r. r.step < w.step) (λ r. r.step < v.step) a.resets (λ r k. trans_lt r.step w.step v.step k less) was))
 
 first : (p : Program) (h : Header) (m : ℕ) → ResetsBefore (world_with p h) (machine_of_header p (layout_with p.digest h.geometry) h m)
 unfolding machine_of_header
@@ -67,9 +69,6 @@ resets_before p h xs run = machines_keep p h (λ w m. ResetsBefore w) (first p h
 not_after : (s r : ℕ) → r < s → nat_lt s r ≡ false
 not_after s r h = grind (arith, nat_tests)
 
-is_after : (s r : ℕ) → s < r → nat_lt s r ≡ true
-is_after s r h = grind (arith, nat_tests)
-
 none_by : (s : ℕ) (rs : List Stamp) → Every (λ r. r.step < s) rs → filter (λ (r : Stamp). nat_lt s r.step) rs ≡ []
 none_by s [] h = refl
 none_by s (r ∷ rs) h =
@@ -82,4 +81,4 @@ none_after w a h = none_by w.step a.resets h
 -- One that comes now came after all before.
 pub one_after : (r : Stamp) (rs : List Stamp) (s : ℕ) → s < r.step → is_empty (filter (λ (x : Stamp). nat_lt s x.step) (r ∷ rs)) ≡ false
 one_after r rs s h =
-    ap (λ t. is_empty (if t then r ∷ filter (λ (x : Stamp). nat_lt s x.step) rs else filter (λ (x : Stamp). nat_lt s x.step) rs)) (is_after s r.step h)
+    ap (λ t. is_empty (if t then r ∷ filter (λ (x : Stamp). nat_lt s x.step) rs else filter (λ (x : Stamp). nat_lt s x.step) rs)) (lt-ltb s r.step h)

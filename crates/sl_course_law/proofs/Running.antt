@@ -1,5 +1,6 @@
 -- Where an event gives an input to a daemon, one runs, before the event and at its step.
 use Rattle.sl_course_law.proofs.Turning.{Began, Called, Came_up, Clocked, Crashed, Stays, Tested, Turned, Went_down}
+use Rattle.sl_plain.proofs.Options.{not_none, some_there}
 use Rattle.sl_run.specs.Events.{event_tests, if_running, input_at, input_of, machine_of, may_happen}
 use Rattle.sl_run.specs.Worlds.{Daemon, Machine, World, machine_at}
 use Rattle.sl_run.specs.declared.event.Event.TheVariants.{AnswerCall, Crash, Do, DropWrite, ExitOf, GiveCommand, Land, Pass, Reset, Restart, Sample, SpawnedOf, StartDaemon, Tear, Test, WakeUp}
@@ -7,33 +8,25 @@ use Rattle.sl_run.specs.declared.event.Event.{Event}
 use Rattle.sl_run_law.proofs.Guards.{on_this, passes}
 use Rattle.sl_trace.specs.declared.input.Input.TheVariants.{Exit, Line, Spawned, Wake}
 use Rattle.sl_trace.specs.declared.input.Input.{Input}
-use Rattle.sl_words.proofs.CaseLaws.{false_is_true, no_value, none_some, true_is_false}
+use Rattle.sl_words.proofs.CaseLaws.{no_value, none_some}
 use Rattle.sl_words.proofs.WordLaws.{choose_some}
 use Rattle.std.proofs.Common.{ap, refl, subst, sym, ◌∙◌}
-use Rattle.std.specs.Prelude.{None, Option, Some, false, is_none, is_some, option_and_then, true, ℕ, ◌≡◌}
+use Rattle.std.specs.Prelude.{None, Option, Some, is_some, option_and_then, true, ℕ, ◌≡◌}
 
 -- A daemon runs.
 abbrev pub Runs : Machine → Type 0
 Runs a = (d : Daemon) × (a.daemon ≡ Some d)
 
-some_runs : (o : Option Daemon) → is_some o ≡ true → (d : Daemon) × (o ≡ Some d)
-some_runs None h = absurd (false_is_true h)
-some_runs (Some d) h = (d, refl)
-
-not_none_runs : (o : Option Daemon) → is_none o ≡ false → (d : Daemon) × (o ≡ Some d)
-not_none_runs None h = absurd (true_is_false h)
-not_none_runs (Some d) h = (d, refl)
-
 if_runs : (a : Machine) (j i : Input) → if_running a j ≡ Some i → Runs a
-if_runs a j i h = some_runs a.daemon (choose_some (is_some a.daemon) j i h).0
+if_runs a j i h = some_there a.daemon (choose_some (is_some a.daemon) j i h).0
 
 answer_runs : (w : World) (m c : ℕ) (ok : _) (a : Machine) → may_happen w (AnswerCall m c ok) ≡ true → machine_at w m ≡ Some a → Runs a
 unfolding event_tests
-answer_runs w m c ok a may h = not_none_runs a.daemon (on_this w m _ a h (passes w (AnswerCall m c ok) may)).0
+answer_runs w m c ok a may h = not_none a.daemon (on_this w m _ a h (passes w (AnswerCall m c ok) may)).0
 
 do_runs : (w : World) (m c : ℕ) (a : Machine) → may_happen w (Do m c) ≡ true → machine_at w m ≡ Some a → Runs a
 unfolding event_tests
-do_runs w m c a may h = not_none_runs a.daemon (on_this w m _ a h (passes w (Do m c) may)).0
+do_runs w m c a may h = not_none a.daemon (on_this w m _ a h (passes w (Do m c) may)).0
 
 runs_at : (e : Event) (w : World) (a : Machine) (i : Input) → may_happen w e ≡ true → machine_at w (machine_of e) ≡ Some a → input_at w e a ≡ Some i → Runs a
 runs_at (AnswerCall m c ok) w a i may at h = answer_runs w m c ok a may at

@@ -14,9 +14,10 @@ use Rattle.sl_trace.specs.declared.effects.Effects.{Effects}
 use Rattle.sl_trace.specs.declared.input.Input.{Input}
 use Rattle.sl_words.proofs.CaseLaws.{true_is_false}
 use Rattle.std.proofs.Common.{refl, subst}
+use Rattle.std.proofs.lemmas.Bool.{not-false}
 use Rattle.std.specs.List.{list_any}
 use Rattle.std.specs.Option.{option_map_or}
-use Rattle.std.specs.Prelude.{Bool, List, None, Option, Some, bytes_eq, false, not, true, [], ℕ, ◌∷◌, ◌≡◌}
+use Rattle.std.specs.Prelude.{Bool, List, None, Option, Some, bytes_eq, false, true, [], ℕ, ◌∷◌, ◌≡◌}
 
 -- A change of a course that leaves what was asked, by whom and when, and whether it is answered.
 pub record KeepsAsking (f : Course → Course) : Type 0 where
@@ -87,13 +88,9 @@ fresh_name : (w : World) (m : ℕ) (name : List ℕ) (a : Machine) → may_happe
 unfolding event_tests
 fresh_name w m name a may h = (on_this w m _ a h (passes w (StartDaemon m name) may)).1.1.0
 
-not_false : (b : Bool) → not b ≡ false → b ≡ true
-not_false true h = refl
-not_false false h = absurd (true_is_false h)
-
 was_up : (w : World) (m : ℕ) (a : Machine) → may_happen w (Reset m) ≡ true → machine_at w m ≡ Some a → a.up ≡ true
 unfolding event_tests
-was_up w m a may h = not_false a.up (on_this w m _ a h (passes w (Reset m) may)).0
+was_up w m a may h = not-false a.up (on_this w m _ a h (passes w (Reset m) may)).0
 
 -- ---- what the event changes
 

@@ -3,8 +3,11 @@ use Rattle.sl_front_law.proofs.Having.{contains_flat, contains_right, in_flat, p
 use Rattle.sl_front_law.specs.Fronts.{EventsHaveOneStep, FrontsAreLawful, HasOneStep}
 use Rattle.sl_law.proofs.LawFacts.{lawful-front}
 use Rattle.sl_law.specs.Lawful.{Lawful}
+use Rattle.sl_plain.proofs.Lists.{contains_cases, contains_first, contains_more, contains_none, got_inside, next_before, same_place_in}
+use Rattle.sl_plain.proofs.Numbers.{one_before}
+use Rattle.sl_plain.proofs.Options.{else_some}
 use Rattle.sl_run.specs.Events.{first_change, happens, input_of, machine_of, may_happen, next_input, next_step, take_step}
-use Rattle.sl_run.specs.Runs.{EachDaemon, Happening, HasSteps, IsRun, daemons_of, own_effects_of, world_after}
+use Rattle.sl_run.specs.Runs.{EachDaemon, Happening, IsRun, own_effects_of, world_after}
 use Rattle.sl_run.specs.Safety.{LawfulRun, world_at}
 use Rattle.sl_run.specs.Worlds.{Daemon, Machine, Program, World, daemons_on, machine_at, world_with}
 use Rattle.sl_run.specs.declared.event.Event.{Event}
@@ -15,13 +18,12 @@ use Rattle.sl_run_law.proofs.Hosting.{run_hosts}
 use Rattle.sl_run_law.proofs.Walking.{index}
 use Rattle.sl_run_law.specs.Courses.{Follow, ListGoes}
 use Rattle.sl_run_law.specs.Daemons.{DaemonGoes, Hosts, IsSettled}
-use Rattle.sl_session_law.proofs.Making.{contains_cases, contains_first, contains_more, contains_none}
-use Rattle.sl_session_law.proofs.Owning.{got_inside}
 use Rattle.sl_trace.specs.declared.effects.Effects.{Effects}
 use Rattle.sl_trace.specs.declared.input.Input.{Input}
-use Rattle.sl_words.proofs.CaseLaws.{false_is_true, none_some, one_value, true_is_false}
+use Rattle.sl_words.proofs.CaseLaws.{false_is_true, none_some, one_value}
 use Rattle.std.proofs.Common.{ap, arith, inl, inr, refl, subst, sym, ◌∙◌}
-use Rattle.std.specs.Prelude.{Bool, Contains, IsSome, IsTrue, List, None, Option, Some, false, if◌then◌else◌, length, slice_get, suc, take, true, zero, [], ℕ, ◌++◌, ◌-◌, ◌<◌, ◌==◌, ◌∷◌, ◌≡◌, ◌≤◌}
+use Rattle.std.proofs.lemmas.List.{append-nil}
+use Rattle.std.specs.Prelude.{Contains, IsSome, IsTrue, List, None, Option, Some, false, length, slice_get, suc, take, [], ℕ, ◌++◌, ◌-◌, ◌<◌, ◌==◌, ◌∷◌, ◌≡◌, ◌≤◌}
 
 -- ---- one step
 
@@ -57,16 +59,6 @@ run_rest w (x ∷ now) rest run = run_rest (happens w x.0 x.1) now rest run.2
 
 -- ---- machines are settled
 
-same_place_in : {A : Type 0} (xs ys : List A) (i : ℕ) (y : A) → length ys ≡ length xs → slice_get ys i ≡ Some y → (x : A) × (slice_get xs i ≡ Some x)
-same_place_in xs [] i y same h = absurd (none_some y h)
-same_place_in [] (z ∷ ys) i y same h = absurd (omega (arith, same))
-same_place_in (x ∷ xs) (z ∷ ys) zero y same h = (x, refl)
-same_place_in (x ∷ xs) (z ∷ ys) (suc i) y same h = same_place_in xs ys i y (omega (arith, same)) h
-
-there_by : (b : Bool) (o : Option Machine) (a : Machine) → b ≡ false → o ≡ Some a → (if b then None else o) ≡ Some a
-there_by true o a h k = absurd (true_is_false h)
-there_by false o a h k = k
-
 -- Each machine of the world at first is settled.
 settled_first : (p : Program) (h : Header) (m : ℕ) (a : Machine) → machine_at (world_with p h) m ≡ Some a → IsSettled a
 settled_first p h m a at = (begins_new p h m a at).settled
@@ -76,7 +68,7 @@ pub was_there : (w : World) (xs : List Happening) (m : ℕ) (b : Machine) → ma
 was_there w xs m b at =
     let p = index (world_after w xs) m b at in
     let q = same_place_in w.machines (world_after w xs).machines (m - 1) b ((run_goes w xs).machines) p.1 in
-    (q.0, there_by (m == 0) (slice_get w.machines (m - 1)) q.0 p.0 q.1)
+    (q.0, else_some (m == 0) (slice_get w.machines (m - 1)) q.0 p.0 q.1)
 
 pub settled_later : (p : Program) (h : Header) (xs : List Happening) → IsRun (world_with p h) xs → (m : ℕ) (b : Machine) → machine_at (world_at p h xs) m ≡ Some b → IsSettled b
 settled_later p h xs run m b at =
@@ -127,14 +119,11 @@ lawful_before : (d e : Daemon) → DaemonGoes d e → Lawful e.setting e.trace �
 lawful_before d e g law =
     subst (λ st. Lawful st d.trace) g.setting (lawful-front e.setting g.trace.newer d.trace (subst (λ t. Lawful e.setting t) g.trace.same law))
 
-less_one : (i : ℕ) → suc i - 1 ≡ i
-less_one i = omega arith
-
-not_zero : (i : ℕ) → (suc i == 0) ≡ false
+pub not_zero : (i : ℕ) → (suc i == 0) ≡ false
 not_zero i = grind arith
 
-number_place : (w : World) (i : ℕ) (a : Machine) → slice_get w.machines i ≡ Some a → machine_at w (suc i) ≡ Some a
-number_place w i a h = there_by (suc i == 0) (slice_get w.machines (suc i - 1)) a (not_zero i) (ap (λ k. slice_get w.machines k) (less_one i) ∙ h)
+pub number_place : (w : World) (i : ℕ) (a : Machine) → slice_get w.machines i ≡ Some a → machine_at w (suc i) ≡ Some a
+number_place w i a h = else_some (suc i == 0) (slice_get w.machines (suc i - 1)) a (not_zero i) (ap (λ k. slice_get w.machines k) (one_before i) ∙ h)
 
 lawful_fronts : (p : Program) (h : Header) (now rest : List Happening) → IsRun (world_with p h) (now ++ rest) → EachDaemon Lawful (world_at p h (now ++ rest))
     → EachDaemon Lawful (world_at p h now)
@@ -164,19 +153,11 @@ pub record IsKeptInRuns (p : Program) (h : Header) (P : List Happening → Type 
   pub first : P []
   pub next : (now : List Happening) (x : Happening) → LawfulRun p h (now ++ x ∷ []) → P now → P (now ++ x ∷ [])
 
-one_more : (now : List Happening) (x : Happening) (rest : List Happening) → (now ++ x ∷ []) ++ rest ≡ now ++ x ∷ rest
-one_more [] x rest = refl
-one_more (y ∷ now) x rest = ap (λ xs. y ∷ xs) (one_more now x rest)
-
-nothing_more : (now : List Happening) → now ++ [] ≡ now
-nothing_more [] = refl
-nothing_more (y ∷ now) = ap (λ xs. y ∷ xs) (nothing_more now)
-
 keeps_on : (p : Program) (h : Header) (P : List Happening → Type 0) → IsKeptInRuns p h P → (now rest : List Happening) → P now → LawfulRun p h (now ++ rest) → P (now ++ rest)
-keeps_on p h P k now [] so run = subst P (sym (nothing_more now)) so
+keeps_on p h P k now [] so run = subst P (sym (append-nil now)) so
 keeps_on p h P k now (x ∷ rest) so run =
-    let run' : LawfulRun p h ((now ++ x ∷ []) ++ rest) = subst (λ xs. LawfulRun p h xs) (sym (one_more now x rest)) run in
-    subst P (one_more now x rest)
+    let run' : LawfulRun p h ((now ++ x ∷ []) ++ rest) = subst (λ xs. LawfulRun p h xs) (sym (next_before now x rest)) run in
+    subst P (next_before now x rest)
     (keeps_on p h P k (now ++ x ∷ []) rest (k.next now x (fronts_are_lawful p h (now ++ x ∷ []) rest run') so) run')
 
 -- It holds after each lawful run.

@@ -1,7 +1,7 @@
 -- What is in a list that is made of others.
-use Rattle.sl_session_law.proofs.Making.{contains_cases, contains_first, contains_more, contains_none}
+use Rattle.sl_plain.proofs.Lists.{contains_cases, contains_first, contains_more, contains_none}
 use Rattle.std.proofs.Common.{inl, inr, refl, subst, sym}
-use Rattle.std.specs.Prelude.{Contains, List, Option, Some, flat_map, slice_get, suc, zero, [], ℕ, ◌++◌, ◌∷◌, ◌≡◌, ◌⊎◌}
+use Rattle.std.specs.Prelude.{Contains, List, Some, flat_map, slice_get, suc, zero, [], ℕ, ◌++◌, ◌∷◌, ◌≡◌, ◌⊎◌}
 
 pub contains_append : {A : Type 0} (xs ys : List A) (d : A) → Contains (xs ++ ys) d → Contains xs d ⊎ Contains ys d
 contains_append [] ys d h = inr h

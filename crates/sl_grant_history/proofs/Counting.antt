@@ -1,6 +1,9 @@
 -- Numbers of calls rise from entry to entry of a trace.
+use Rattle.sl_course_law.proofs.Distinct.{map_length, mark_length, next_more}
 use Rattle.sl_place_law.proofs.Looks.{made_below}
-use Rattle.sl_session_law.proofs.Making.{IsNewCall, contains_none, old_or_new, was_marked}
+use Rattle.sl_plain.proofs.Lists.{contains_none, head_is, tail_is}
+use Rattle.sl_plain.proofs.Numbers.{one_further, plus_zero}
+use Rattle.sl_session_law.proofs.Making.{IsNewCall, old_or_new, was_marked}
 use Rattle.sl_trace.specs.Traces.{IsTrace, Setting, Submitted, Trace, answered_in, mark, new_call, next_call, submitted}
 use Rattle.sl_trace.specs.declared.effects.Call.{Call}
 use Rattle.sl_trace.specs.declared.effects.Entry.{Entry}
@@ -13,53 +16,20 @@ use Rattle.std.specs.Prelude.{Contains, List, Some, [], fold, length, map, slice
 
 -- ---- the next number
 
-pushed_long : (at reading : ℕ) (cs : List Call) (ms : List Submitted) → length (fold (λ (xs : List Submitted) c. new_call at reading c ∷ xs) ms cs) ≡ length ms + length cs
-pushed_long at reading [] ms = let same : length ms ≡ length ms + 0 = omega arith in same
-pushed_long at reading (c ∷ cs) ms = let rest = pushed_long at reading cs (new_call at reading c ∷ ms) in omega (arith, rest)
-
-mapped_long : {A B : Type 0} (f : A → B) (xs : List A) → length (map f xs) ≡ length xs
-mapped_long f [] = refl
-mapped_long f (x ∷ xs) = ap (λ n. suc n) (mapped_long f xs)
-
-marked_long : (es : Trace) (e : Entry) (i : Input) (ms : List Submitted) → length (mark es e i ms) ≡ length ms
-marked_long es e (Told n answer) ms = mapped_long (answered_in es e n answer) ms
-marked_long es e (Line text) ms = refl
-marked_long es e (Exit p) ms = refl
-marked_long es e (Spawned p ok) ms = refl
-marked_long es e Wake ms = refl
-
-next_after : (st : Setting) (e : Entry) (es : Trace) → next_call st (e ∷ es) ≡ next_call st es + length e.effects.calls
-next_after st e es =
-    let made = pushed_long (length es) e.reading e.effects.calls (mark es e e.input (submitted es)) in
-    let marked = marked_long es e e.input (submitted es) in
-    omega (arith, made, marked)
-
 -- ---- numbers of one entry
-
-one_more : (n i : ℕ) → n + 1 + i ≡ n + suc i
-one_more n i = omega arith
-
-nothing_more : (n : ℕ) → n ≡ n + 0
-nothing_more n = omega arith
-
-pub head_same : {A : Type 0} (x y : A) (xs ys : List A) → x ∷ xs ≡ y ∷ ys → x ≡ y
-head_same x y xs ys h = cc
-
-pub tail_same : {A : Type 0} (x y : A) (xs ys : List A) → x ∷ xs ≡ y ∷ ys → xs ≡ ys
-tail_same x y xs ys h = cc
 
 numbered_here : (n : ℕ) (cs : List Call) → map (λ (c : Call). c.number) cs ≡ range_with_len n (length cs) → (i : ℕ) (c : Call) → slice_get cs i ≡ Some c
     → (c.number ≡ n + i) × (i < length cs)
 numbered_here n [] same i c at = absurd (none_some c at)
 numbered_here n (x ∷ cs) same zero c at = (
   ap (λ (y : Call). y.number) (sym (some_value x c at))
-      ∙ head_same x.number n (map (λ (c : Call). c.number) cs) (range_with_len (n + 1) (length cs)) same ∙ nothing_more n,
+      ∙ head_is x.number n (map (λ (c : Call). c.number) cs) (range_with_len (n + 1) (length cs)) same ∙ plus_zero n,
   omega arith,
 )
 numbered_here n (x ∷ cs) same (suc i) c at =
-    let rest = numbered_here (n + 1) cs (tail_same x.number n (map (λ (c : Call). c.number) cs) (range_with_len (n + 1) (length cs)) same) i c at in
+    let rest = numbered_here (n + 1) cs (tail_is x.number n (map (λ (c : Call). c.number) cs) (range_with_len (n + 1) (length cs)) same) i c at in
     let less = rest.1 in
-    (rest.0 ∙ one_more n i, omega (arith, less))
+    (rest.0 ∙ one_further n i, omega (arith, less))
 
 -- ---- below the next
 
@@ -77,10 +47,10 @@ below_next st (e ∷ es) trace m has =
       | inl old ↦
           let w = was_marked es e e.input (submitted es) m old in
           low_old m.call.number w.before.call.number (next_call st es) (length e.effects.calls) (next_call st (e ∷ es)) (ap (λ (c : Call). c.number) w.same.call)
-          (below_next st es trace.1 w.before w.inside) (next_after st e es)
+          (below_next st es trace.1 w.before w.inside) (next_more st e es)
       | inr new ↦
           let n = numbered_here (next_call st es) e.effects.calls trace.0.numbered new.index m.call new.call in
-          low_new m.call.number (next_call st es) new.index (length e.effects.calls) (next_call st (e ∷ es)) n.0 n.1 (next_after st e es)
+          low_new m.call.number (next_call st es) new.index (length e.effects.calls) (next_call st (e ∷ es)) n.0 n.1 (next_more st e es)
     ]
 
 -- ---- from entry to entry

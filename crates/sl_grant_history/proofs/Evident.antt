@@ -1,14 +1,15 @@
 -- What a session counted as over by an entry of its trace it has evidence of by the entry's step, in the history.
+use Rattle.sl_ballot_history.proofs.ReasonEvidence.{at_head, behind, by_step, less_one}
 use Rattle.sl_ballot_history.specs.Endings.{IsEntryAt}
 use Rattle.sl_ballots.specs.History.{Owner as Holder}
 use Rattle.sl_course_law.proofs.Pairing.{pairs_length}
 use Rattle.sl_course_law.proofs.Stamped.{entries_are_stamped}
 use Rattle.sl_course_law.specs.Stamping.{IsStampOf, stamp_in}
 use Rattle.sl_grant_history.proofs.Telling.{whole_of}
-use Rattle.sl_moment_law.proofs.Ordering.{entries_ordered}
+use Rattle.sl_moment_law.proofs.Ordering.{entries_ordered, fall_front, fall_step}
 use Rattle.sl_moment_law.specs.Orders.{Fall}
+use Rattle.sl_plain.proofs.Numbers.{le_itself}
 use Rattle.sl_resource_history.proofs.Calls.{holder_named}
-use Rattle.sl_resource_history.proofs.Steps.{fall_front, fall_step, stamp_there}
 use Rattle.sl_resource_history.specs.Histories.{has_counted_over, trace_by}
 use Rattle.sl_resource_history.specs.Promises.{NamesDiffer, history_of_line}
 use Rattle.sl_resource_history.specs.Sending.{holder_of, is_joined_there}
@@ -20,47 +21,14 @@ use Rattle.sl_run.specs.declared.header.ResourceLine.{ResourceLine}
 use Rattle.sl_sessions.specs.Watching.{counted_over}
 use Rattle.sl_trace.specs.Traces.{Trace}
 use Rattle.sl_trace.specs.declared.effects.Entry.{Entry}
+use Rattle.sl_watchdog_law.proofs.Stamps.{stamp_there}
 use Rattle.sl_words.proofs.CaseLaws.{none_some, some_value}
 use Rattle.sl_words.specs.Words.{some_is}
 use Rattle.std.proofs.Common.{ap, arith, sym, tests, ◌∙◌}
+use Rattle.std.proofs.lemmas.Bool.{lt-leb}
 use Rattle.std.proofs.lemmas.Bool.Decides.{nat_tests}
 use Rattle.std.proofs.lemmas.List.{length-append}
 use Rattle.std.specs.Prelude.{Bool, List, Option, Some, [], false, length, nat_le, suc, true, ℕ, ◌++◌, ◌+◌, ◌<◌, ◌==◌, ◌∷◌, ◌≡◌}
-
-head_place : (n m : ℕ) → suc n ≡ suc m → (m == n) ≡ true
-head_place n m h = grind (arith, tests)
-
-le_itself : (n : ℕ) → nat_le n n ≡ true
-le_itself n = grind (arith, nat_tests)
-
-not_le : (a b : ℕ) → b < a → nat_le a b ≡ false
-not_le a b h = grind (arith, nat_tests)
-
-place_behind : (n m k : ℕ) → suc n ≡ suc (m + suc k) → (k == n) ≡ false
-place_behind n m k h = grind (arith, tests)
-
-less_one : (n m : ℕ) → suc n ≡ suc m → n ≡ m
-less_one n m h = omega (arith, h)
-
-abbrev stamp_or : Bool → Stamp → List Stamp → ℕ → Option Stamp
-stamp_or b s ss i = elim b [ true ↦ Some s | false ↦ stamp_in ss i ]
-
--- The trace by the step of an entry ends with this entry.
-trace_by_entry : (n : ℕ) (ss : List Stamp) (later past : Trace) (e : Entry) (t : Stamp) → Fall n ss → length ss ≡ length (later ++ e ∷ past)
-    → stamp_in ss (length past) ≡ Some t → trace_by ss (later ++ e ∷ past) t.step ≡ e ∷ past
-trace_by_entry n [] later past e t fall even at = absurd (none_some t at)
-trace_by_entry n (s ∷ ss) [] past e t fall even at =
-    let head : (length past == length ss) ≡ true = head_place (length ss) (length past) even in
-    let same : s ≡ t = some_value s t (ap (λ b. stamp_or b s ss (length past)) (sym head) ∙ at) in
-    ap (λ b. elim b as (λ z. Trace) [ true ↦ e ∷ past | false ↦ trace_by ss past t.step ])
-    (ap (λ (y : Stamp). nat_le y.step t.step) same ∙ le_itself t.step)
-trace_by_entry n (s ∷ ss) (y ∷ later) past e t fall even at =
-    let long : length (later ++ e ∷ past) ≡ length later + suc (length past) = length-append later (e ∷ past) in
-    let off : (length past == length ss) ≡ false = place_behind (length ss) (length later) (length past) (even ∙ ap (λ k. suc k) long) in
-    let there : stamp_in ss (length past) ≡ Some t = ap (λ b. stamp_or b s ss (length past)) (sym off) ∙ at in
-    ap (λ b. elim b as (λ z. Trace) [ true ↦ y ∷ (later ++ e ∷ past) | false ↦ trace_by ss (later ++ e ∷ past) t.step ])
-    (not_le s.step t.step (fall_step s.step ss t fall.1 (stamp_there ss (length past) t there)))
-    ∙ trace_by_entry s.step ss later past e t fall.1 (less_one (length ss) (length (later ++ e ∷ past)) even) there
 
 pub trace_by_step : (p : Program) (h : Header) (xs : List Happening) → LawfulRun p h xs → (i : SessionId) (f : Found) → IsSession (world_at p h xs) i f
     → (entry : Entry) (past : Trace) (step : ℕ) → IsEntryAt f entry past step → trace_by f.daemon.stamps (trace_of f) step ≡ entry ∷ past
@@ -72,7 +40,7 @@ trace_by_step p h xs run i f its entry past step e =
     let even : length f.daemon.stamps ≡ length (e.later ++ entry ∷ past) =
     pairs_length IsStampOf f.daemon.stamps (trace_of f) (entries_are_stamped p h xs run i.machine f.machine f.daemon all.at all.has) ∙ ap (λ (t : Trace). length t) e.whole in
     ap (λ n. trace_by f.daemon.stamps (trace_of f) n) (sym e.step_is) ∙ ap (λ (t : Trace). trace_by f.daemon.stamps t e.stamp.step) e.whole
-    ∙ trace_by_entry w.step f.daemon.stamps e.later past entry e.stamp fall even e.stamped
+    ∙ by_step w.step f.daemon.stamps e.later past entry e.stamp fall even e.stamped
 
 pub evidence_by : (p : Program) (h : Header) (xs : List Happening) → LawfulRun p h xs → (r : ResourceLine) → NamesDiffer (world_at p h xs) r.lockspace
     → (i : SessionId) (f : Found) → IsSession (world_at p h xs) i f → is_joined_there (world_at p h xs) r.lockspace i ≡ true

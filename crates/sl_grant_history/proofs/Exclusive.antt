@@ -6,17 +6,21 @@ use Rattle.sl_ballots.specs.Ballots.{BallotEnded}
 use Rattle.sl_ballots.specs.History.{Block as HistoryBlock, History, Owner as Holder}
 use Rattle.sl_grant_history.proofs.Evident.{evidence_by}
 use Rattle.sl_grant_history.proofs.Freeing.{FreeTold, free_told, freed_most}
-use Rattle.sl_grant_history.proofs.Looks.{given_at, is_present, look_shows_host, look_shows_nothing}
+use Rattle.sl_grant_history.proofs.Looks.{is_present, look_shows_host, look_shows_nothing}
 use Rattle.sl_grant_history.proofs.Names.{stood_at}
 use Rattle.sl_grant_history.proofs.Placing.{at_resource, resource_at}
 use Rattle.sl_grant_history.proofs.Stepping.{IsAt, LookThere, block_there, look_there}
 use Rattle.sl_grant_history.proofs.Telling.{IsFront, IsTold, LeaseWas, OfLease, before_in, in_lease, in_order, lease_was, of_lease, told_answer, told_made, whole_of}
 use Rattle.sl_grant_history.specs.Granted.{ExclusiveGrantsAre, GrantedThere, ResourceAt}
+use Rattle.sl_holding_law.proofs.Unfreed.{exclusive_is}
 use Rattle.sl_law.specs.LawfulBlock.{ReadAfter}
 use Rattle.sl_law.specs.LawfulModes.{LawfulExclusiveGrant, NoneShared}
 use Rattle.sl_lease_law.proofs.GrantLaws.{exclusive_follows}
 use Rattle.sl_leases.specs.Leases.{block_of_host, blocks_given, freed, is_free_write, lease_calls}
 use Rattle.sl_place_law.proofs.Looks.{answered_below}
+use Rattle.sl_plain.proofs.Numbers.{below_suc, less_than_suc, lt_up_to, never_below, refl_le}
+use Rattle.sl_plain.proofs.Options.{some_of}
+use Rattle.sl_resource_history.proofs.Above.{own_there}
 use Rattle.sl_resource_history.proofs.Shown.{holder_is}
 use Rattle.sl_resource_history.proofs.Steps.{call_timed}
 use Rattle.sl_resource_history.specs.Histories.{is_host, no_block}
@@ -60,12 +64,6 @@ below_step a b c d e less f = omega (arith, e, less, f)
 up_to : (a b c d : ℕ) → a ≡ b → b ≤ c → c ≡ d → a ≤ d
 up_to a b c d e le f = omega (arith, e, le, f)
 
-within : (a n : ℕ) → a < suc n → a ≤ n
-within a n less = omega (arith, less)
-
-up_one : (a n : ℕ) → a < n → a < suc n
-up_one a n less = omega (arith, less)
-
 -- A free of the history from before the entry is one of the lease there.
 pub free_before : (p : Program) (h : Header) (xs : List Happening) (r : ResourceLine) → LawfulRun p h xs → (i : SessionId) (f : Found) → IsSession (world_at p h xs) i f
     → (entry : Entry) (past : Trace) (step : ℕ) → IsEntryAt f entry past step → (n e : ℕ) → (t : FreeTold p h xs r f n e) → e < step
@@ -74,16 +72,12 @@ free_before p h xs r run i f its entry past step k n e t less =
     let early : t.stamp.step < k.stamp.step = below_step t.stamp.step e step k.stamp.step t.step less k.step_is in
     let place : t.call.at < length past = before_in p h xs run i f its t.call.at (length past) t.stamp k.stamp t.made k.stamped early in
     lease_was (setting_in f) k.later (entry ∷ past) f.session (spot_of_line r) t.call
-    (subst (λ es. OfLease (setting_in f) es f.session (spot_of_line r) t.call) k.whole t.lease) (up_one t.call.at (length past) place)
+    (subst (λ es. OfLease (setting_in f) es f.session (spot_of_line r) t.call) k.whole t.lease) (less_than_suc t.call.at (length past) place)
 
 -- ---- the look
 
 no_mark : (H : History) (e : ℕ) → H.block e ≡ no_block → (H.block e).shared ≡ true → ⊥
 no_mark H e is shared = true_is_false (sym shared ∙ ap (λ (b : HistoryBlock). b.shared) is)
-
-host_known : (o : Option Block) → IsSome o → (b : Block) × (o ≡ Some b)
-host_known None h = absurd (false_is_true h)
-host_known (Some b) h = (b, refl)
 
 is_within : (k n : ℕ) → (nat_le 1 k && nat_le k n) ≡ true → (1 ≤ k) × (k ≤ n)
 is_within k n h = (grind (arith, nat_tests), grind (arith, nat_tests))
@@ -97,9 +91,6 @@ record SawAll (p : Program) (h : Header) (xs : List Happening) (r : ResourceLine
 
 abbrev named_as : ℕ → ℕ → Holder
 named_as k n = record { id = k; generation = n }
-
-same_step : (n : ℕ) → n ≤ n
-same_step n = omega arith
 
 saw_host : (p : Program) (h : Header) (xs : List Happening) (r : ResourceLine) → NamesDiffer (world_at p h xs) r.lockspace → (i : SessionId) (f : Found)
     → (entry : Entry) (past : Trace) (step : ℕ) → IsEntryAt f entry past step → IsAt p h xs r i f (entry ∷ past) → (c : Submitted) (bs : List (Option Block))
@@ -115,17 +106,17 @@ saw_host p h xs r differ i f entry past step e at c bs given l mine none k other
     let st : Setting = setting_in f in
     let all = whole_of p h xs at.front_is.run i f at.front_is.its in
     let range = is_within k w.layout.hosts host in
-    let b = host_known (block_of_host bs k) (none.whole k range.0 (subst (λ (g : Layout). k ≤ g.hosts) (sym all.layout) range.1) other) in
+    let b = some_of (block_of_host bs k) (none.whole k range.0 (subst (λ (g : Layout). k ≤ g.hosts) (sym all.layout) range.1) other) in
     let s = look_shows_host p h xs r i f (entry ∷ past) at c bs given l mine k host b.0 b.1 in
     record {
       whole = s.shows;
       alone = λ shared.
           let marked : b.0.shared ≡ true = ap (λ (y : HistoryBlock). y.shared) (sym s.block) ∙ shared in
-          let counted = none.over b.0 (is_present bs (k - 1) b.0 (given_at bs k b.0 b.1)) (λ same. other (sym s.host ∙ same)) marked in
+          let counted = none.over b.0 (is_present bs (k - 1) b.0 (own_there bs k b.0 b.1)) (λ same. other (sym s.host ∙ same)) marked in
           let evident : H.evidence (holder_of w i) (named_as b.0.host b.0.mode_gen) step ≡ true =
           evidence_by p h xs at.front_is.run r differ i f at.front_is.its at.joined entry past step e (named_as b.0.host b.0.mode_gen) counted in (
             step,
-            same_step step,
+            refl_le step,
             ap (λ n. H.evidence (holder_of w i) (named_as k n) step) (ap (λ (y : HistoryBlock). y.mode_gen) s.block)
                 ∙ ap (λ n. H.evidence (holder_of w i) (named_as n b.0.mode_gen) step) (sym s.host) ∙ evident,
           );
@@ -133,26 +124,16 @@ saw_host p h xs r differ i f entry past step e at c bs given l mine none k other
 
 -- ---- when it began
 
-begun_at : (a b c : ℕ) → a < b → b ≤ c → a ≤ c
-begun_at a b c less le = omega (arith, less, le)
-
 begun_by : (p : Program) (h : Header) (xs : List Happening) (i : SessionId) (f : Found) → LawfulRun p h xs → IsSession (world_at p h xs) i f → (write read : Submitted)
     → (t : IsTold p h xs i f write) (u : IsTold p h xs i f read) → ReadAfter write read → step_of t.sent ≤ step_of u.sent
 begun_by p h xs i f run its write read t u after =
     let heard = told_answer p h xs i f write t after.answer after.answered.0 in
     let all = whole_of p h xs run i f its in
     let timed = call_timed p h xs run i.machine f.machine t.sent.course all.at t.there in
-    begun_at (step_of t.sent) heard.stamp.step (step_of u.sent) (timed.answered heard.stamp heard.answered)
+    lt_up_to (step_of t.sent) heard.stamp.step (step_of u.sent) (timed.answered heard.stamp heard.answered)
     (in_order p h xs run i f its after.answer.at read.at heard.stamp u.sent.course.made heard.entry (told_made p h xs i f read u) after.later)
 
 -- ---- all of it
-
-only_one : (m : Mode) → is_shared m ≡ false → m ≡ Exclusive
-only_one Exclusive h = refl
-only_one Shared h = absurd (true_is_false h)
-
-never : (n m : ℕ) → n ≤ m → m < n → ⊥
-never n m le less = omega (arith, le, less)
 
 abbrev here : (r : ResourceLine) → Spot
 here r = spot_of_line r
@@ -175,7 +156,7 @@ granted_at p h xs given run i f its entry past step e g a unfreed law =
     let named = stood_at p h xs i f front k.front_is (spot_of_line r) law.write wrote in
     let block = block_there p h xs r i f front k law.write wrote law.own law.wrote.2 in
     let look = look_there p h xs r i f front k law.read read law.of_lease.1 law.blocks law.given in
-    let last : look.answered.at ≤ length past = within look.answered.at (length past) (answered_below front law.read read.inside look.answered look.told_as) in
+    let last : look.answered.at ≤ length past = below_suc look.answered.at (length past) (answered_below front law.read read.inside look.answered look.told_as) in
     let holder : holder_of w i ≡ holder_of_found f = holder_is w i f its in
     let own : (n : ℕ) → (n ≡ (holder_of w i).id → ⊥) → n ≡ f.session.id → ⊥ = λ n other same. other (same ∙ sym (ap (λ (o : Holder). o.id) holder)) in
     let saw : (n : ℕ) → (n ≡ (holder_of w i).id → ⊥) → SawAll p h xs r i (step_of look.sent.sent) step n =
@@ -197,7 +178,7 @@ granted_at p h xs given run i f its entry past step e g a unfreed law =
         unfreed = λ l.
             let t = free_told p h xs run r a.there differ i f its a.joined g.lver l.step l.leads l.lver l.owner l.held in
             let was = free_before p h xs r run i f its entry past step e g.lver l.step t l.before in
-            never g.lver (freed (lease_calls st front f.session (spot_of_line r)))
+            never_below g.lver (freed (lease_calls st front f.session (spot_of_line r)))
             (freed_most g.lver (lease_calls st front f.session (spot_of_line r)) was.was (in_lease st front f.session (spot_of_line r) was.was was.lease)
             (ap (λ (c : Call). is_free_write g.lver (new_call 0 0 c)) was.call ∙ t.free))
             unfreed;
@@ -215,7 +196,7 @@ exclusive_grants_are_given given p h xs run i f its entry past step e g has mine
     let st : Setting = setting_in f in
     let front : Trace = entry ∷ past in
     let all = whole_of p h xs run i f its in
-    let mode : g.mode ≡ Exclusive = only_one g.mode exclusive in
+    let mode : g.mode ≡ Exclusive = exclusive_is g.mode exclusive in
     let rests = exclusive_follows st (trace_of f) all.lawful e.later past entry e.whole g has mode f.session
     (ap (λ n. session_numbered st (trace_of f) n) mine ∙ all.known) in
     let law = rests.looked in

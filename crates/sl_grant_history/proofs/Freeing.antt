@@ -1,5 +1,6 @@
 -- A leader in the history that names a session was written by this session: and so was each free of an instance that it won.
 use Rattle.sl_area.specs.Layouts.{Layout}
+use Rattle.sl_ballot_history.proofs.Led.{owner_as}
 use Rattle.sl_ballot_history.specs.Endings.{holder_as}
 use Rattle.sl_ballots.specs.History.{Leader as HistoryLeader, Owner as Holder}
 use Rattle.sl_course_law.specs.Stamping.{stamp_in}
@@ -9,8 +10,9 @@ use Rattle.sl_law.specs.LawfulArea.{is_area_work}
 use Rattle.sl_law.specs.LawfulLeader.{LawfulFreeLeader, LawfulTake}
 use Rattle.sl_leases.specs.Ballots.{owner_of as named_by, same_owner}
 use Rattle.sl_leases.specs.Leases.{Leader_freed, StepKind, freed, freed_by, is_free_write, is_lease_call, is_on, kind_of_step, leader_of_record, leader_written, lease_step, same_kind, spot_of_call}
-use Rattle.sl_place_law.proofs.Finding.{equal_numbers, same_number}
 use Rattle.sl_place_law.proofs.Reading.{call_law}
+use Rattle.sl_plain.proofs.Lists.{contains_cases, contains_none}
+use Rattle.sl_plain.proofs.Options.{some_there}
 use Rattle.sl_resource_history.proofs.Calls.{found_at, found_of, leader_works, made_of, owner_found, owner_layout, worker_joined}
 use Rattle.sl_resource_history.specs.Histories.{history_leader, no_leader}
 use Rattle.sl_resource_history.specs.Promises.{NamesDiffer, history_of_line, spot_of_line}
@@ -22,7 +24,6 @@ use Rattle.sl_run.specs.declared.header.Header.{Header}
 use Rattle.sl_run.specs.declared.header.ResourceLine.{ResourceLine}
 use Rattle.sl_sector.specs.declared.sector.Leader.{Leader}
 use Rattle.sl_sector.specs.declared.sector.Owner.{Owner}
-use Rattle.sl_session_law.proofs.Making.{contains_cases, contains_none}
 use Rattle.sl_session_law.specs.Promises.{front_of, made_as}
 use Rattle.sl_sessions.specs.Sessions.{Session, me}
 use Rattle.sl_trace.specs.Traces.{Setting, Submitted, Trace, record_of}
@@ -34,7 +35,7 @@ use Rattle.sl_words.proofs.CaseLaws.{false_is_true, one_value, true_is_false}
 use Rattle.sl_words.proofs.WordLaws.{and_true}
 use Rattle.sl_words.specs.Words.{some_is}
 use Rattle.std.proofs.Common.{ap, arith, inl, inr, refl, subst, sym, ◌∙◌}
-use Rattle.std.proofs.lemmas.Bool.{and_from}
+use Rattle.std.proofs.lemmas.Bool.{and_from, eq-eqb, eqb-true}
 use Rattle.std.specs.Option.{option_map_or}
 use Rattle.std.specs.Prelude.{Bool, Contains, List, MatchBool, None, Option, Some, [], false, if◌then◌else◌, is_some, max, not, option_and_then, true, ℕ, ◌&&◌, ◌==◌, ◌∷◌, ◌≡◌, ◌≤◌}
 
@@ -48,7 +49,7 @@ free_by n (Some l) h =
   where
     unheld : (b : Bool) → not b ≡ true → n ≤ (if b then 0 else l.lver)
     unheld true k = absurd (false_is_true k)
-    unheld false k = let same : l.lver ≡ n = same_number l.lver n (and_true (l.lver == n) (not l.held) h).0 in omega (arith, same)
+    unheld false k = let same : l.lver ≡ n = eqb-true l.lver n (and_true (l.lver == n) (not l.held) h).0 in omega (arith, same)
 
 most_left : (n a b : ℕ) → n ≤ a → n ≤ max a b
 most_left n a b h = omega (arith, h)
@@ -78,10 +79,6 @@ pub record LeaderThere (p : Program) (h : Header) (xs : List Happening) (r : Res
   pub wrote : leader_of_course sent.course ≡ Some leader
   pub says : (history_of_line p h xs r).leader e ≡ history_leader leader
 
-wrote_some : (o : Option Leader) → is_some o ≡ true → (l : Leader) × (o ≡ Some l)
-wrote_some None h = absurd (false_is_true h)
-wrote_some (Some l) h = (l, refl)
-
 pub leader_there : (p : Program) (h : Header) (xs : List Happening) (r : ResourceLine) (e : ℕ) → (history_of_line p h xs r).leads e ≡ true → LeaderThere p h xs r e
 leader_there p h xs r e leads = by (sent_at (world_at p h xs) (spot_of_line r) writes_leader e) refl leads where
   by : (o : Option Sent) → sent_at (world_at p h xs) (spot_of_line r) writes_leader e ≡ o → is_some o ≡ true → LeaderThere p h xs r e
@@ -89,7 +86,7 @@ leader_there p h xs r e leads = by (sent_at (world_at p h xs) (spot_of_line r) w
   by (Some x) is some =
       let w : World = world_at p h xs in
       let f = found_at w r writes_leader e x is in
-      let l = wrote_some (leader_of_course x.course) f.1 in
+      let l = some_there (leader_of_course x.course) f.1 in
       record {
         sent = x;
         has = f.0.sent;
@@ -125,15 +122,8 @@ freed_step : (st : Setting) (es : Trace) (s : Session) (at : Spot) (c : Submitte
 freed_step st es s at c l true is law = absurd (true_is_false is)
 freed_step st es s at c l false is law = lease_at (lease_step c.call.purpose) Leader_freed law.step
 
--- The leader names who wrote it.
-same_name : (a b : Owner) → same_owner a b ≡ true → holder_as a ≡ holder_as b
-same_name a b h =
-    let both = and_true (a.id == b.id) (a.generation == b.generation) h in
-    ap (λ n. let o : Holder = record { id = n; generation = a.generation } in o) (same_number a.id b.id both.0)
-    ∙ ap (λ n. let o : Holder = record { id = b.id; generation = n } in o) (same_number a.generation b.generation both.1)
-
 is_free : (n : ℕ) (l : Leader) → l.lver ≡ n → l.held ≡ false → (l.lver == n && not l.held) ≡ true
-is_free n l lver held = and_from _ _ (equal_numbers l.lver n lver) (ap not held)
+is_free n l lver held = and_from _ _ (eq-eqb l.lver n lver) (ap not held)
 
 -- A free in the history with the name of a joined session is a call of its lease.
 pub free_told : (p : Program) (h : Header) (xs : List Happening) → LawfulRun p h xs → (r : ResourceLine) → Contains h.resources r → NamesDiffer (world_at p h xs) r.lockspace
@@ -156,7 +146,7 @@ free_told p h xs run r there differ i f its joined n e leads lver owner held =
     let write = law.0.leader.0.writes d.index q.call o.session d.call law.1 l.leader wrote in
     let area : is_area_work q.call.purpose ≡ true = ap (λ (y : Call). is_area_work y.purpose) o.trace.is.call ∙ k.area in
     let sender : holder_of w (sender_of x) ≡ holder_of w i =
-    sym (name_of_sent p h xs run x o area) ∙ sym (same_name (named_by l.leader) (me (front_of d) o.session) write.own)
+    sym (name_of_sent p h xs run x o area) ∙ sym (owner_as (named_by l.leader) (me (front_of d) o.session) write.own)
     ∙ ap (λ (y : HistoryLeader). y.owner) (sym l.says) ∙ owner in
     let same : sender_of x ≡ i = differ (sender_of x) i (worker_joined p h xs r x k) joined sender in
     let found : found_of o ≡ f = one_value (found_of o) f (session_of_world w i) (ap (session_of_world w) (sym same) ∙ owner_found w x o) its in

@@ -15,6 +15,7 @@ use Rattle.sl_holding_law.proofs.Granted.{holdings_are_granted}
 use Rattle.sl_holding_law.proofs.Places.{HeldOn, held_on, on_held}
 use Rattle.sl_holding_law.proofs.Unfreed.{exclusives_are_unfreed}
 use Rattle.sl_holdings.specs.Holdings.{IsKept}
+use Rattle.sl_id_steps.proofs.Alive.{stamp_there}
 use Rattle.sl_leases.specs.Leases.{holdings_on}
 use Rattle.sl_resource_history.specs.Promises.{history_of_line, spot_of_line}
 use Rattle.sl_run.specs.Runs.{Happening}
@@ -31,18 +32,6 @@ use Rattle.std.specs.Prelude.{Bool, Contains, List, Option, Some, [], false, len
 
 -- ---- an entry has its stamp
 
-stamp_by : (s : Stamp) (ss : List Stamp) (i : ℕ) (b : Bool) → (i == length ss) ≡ b → i < suc (length ss) → (i < length ss → (t : Stamp) × (stamp_in ss i ≡ Some t))
-    → (t : Stamp) × (elim b as (λ z. Option Stamp) [ true ↦ Some s | false ↦ stamp_in ss i ] ≡ Some t)
-stamp_by s ss i true is less rest = (s, refl)
-stamp_by s ss i false is less rest = rest (not_last i (length ss) is less)
-  where
-    not_last : (i n : ℕ) → (i == n) ≡ false → i < suc n → i < n
-    not_last i n other less = grind (arith, tests)
-
-has_stamp : (ss : List Stamp) (i : ℕ) → i < length ss → (t : Stamp) × (stamp_in ss i ≡ Some t)
-has_stamp [] i less = absurd (omega (arith, less))
-has_stamp (s ∷ ss) i less = stamp_by s ss i (i == length ss) refl less (has_stamp ss i)
-
 past_within : (later past : Trace) (e : Entry) → length past < length (later ++ e ∷ past)
 past_within [] past e = omega arith
 past_within (x ∷ later) past e = let rest = past_within later past e in omega (arith, rest)
@@ -58,7 +47,7 @@ came_at p h xs run i f its later entry past whole =
     let all = whole_of p h xs run i f its in
     let even : length f.daemon.stamps ≡ length (later ++ entry ∷ past) =
     pairs_length IsStampOf f.daemon.stamps (trace_of f) (entries_are_stamped p h xs run i.machine f.machine f.daemon all.at all.has) ∙ ap (λ (t : Trace). length t) whole in
-    let s = has_stamp f.daemon.stamps (length past) (subst (λ n. length past < n) (sym even) (past_within later past entry)) in
+    let s = stamp_there f.daemon.stamps (length past) (subst (λ n. length past < n) (sym even) (past_within later past entry)) in
     record { step = s.0.step; there = record { later = later; whole = whole; stamp = s.0; stamped = s.1; step_is = refl } }
 
 -- ---- it stands

@@ -6,6 +6,10 @@ use Rattle.sl_ballots.specs.History.{History}
 use Rattle.sl_grant_history.proofs.Stepping.{IsAt, LookThere}
 use Rattle.sl_grant_history.proofs.Telling.{whole_of}
 use Rattle.sl_leases.specs.Leases.{block_of_host, blocks_given}
+use Rattle.sl_plain.proofs.Lists.{contains_first, contains_more}
+use Rattle.sl_resource_history.proofs.Above.{own_there}
+use Rattle.sl_resource_history.proofs.Bases.{shown_none, shown_whole}
+use Rattle.sl_resource_history.proofs.Founding.{shows_if}
 use Rattle.sl_resource_history.proofs.Looking.{IsLook, looked}
 use Rattle.sl_resource_history.proofs.Rising.{block_of_none, look_block}
 use Rattle.sl_resource_history.proofs.Showing.{block_in_is}
@@ -18,7 +22,6 @@ use Rattle.sl_run.specs.Worlds.{Landing, Program, World}
 use Rattle.sl_run.specs.declared.header.Header.{Header}
 use Rattle.sl_run.specs.declared.header.ResourceLine.{ResourceLine}
 use Rattle.sl_sector.specs.declared.sector.Block.{Block}
-use Rattle.sl_session_law.proofs.Making.{contains_first, contains_more}
 use Rattle.sl_trace.specs.Traces.{Submitted, Trace, submitted}
 use Rattle.sl_trace.specs.declared.effects.Spot.{Spot}
 use Rattle.sl_words.proofs.CaseLaws.{false_is_true, none_some, some_value}
@@ -32,31 +35,7 @@ use Rattle.std.specs.Prelude.{Bool, Contains, List, None, Option, Some, [], fals
 
 -- ---- by the landing
 
-shows_whole_by : (w : World) (at : Spot) (k : ℕ) (z : Sent) (b : Bool) → is_host w k ≡ b → (b ≡ true → shows_whole w at k z ≡ true) → shows_by w at k z ≡ true
-shows_whole_by w at k z true host whole =
-    ap (λ b. if b then (if shows_whole w at k z then true else counts_own w at z k) else true) host ∙ ap (λ b. if b then true else counts_own w at z k) (whole refl)
-shows_whole_by w at k z false host whole = ap (λ b. if b then (if shows_whole w at k z then true else counts_own w at z k) else true) host
-
-shown_landing : (w : World) (at : Spot) (k : ℕ) (z : Sent) (l : Landing) → is_host w k ≡ true → landing_shown w at z.course k ≡ Some l → l.whole ≡ true
-    → shown_by w at k z ≡ step_of_landing w l
-shown_landing w at k z l host shown whole =
-    let all : shows_whole w at k z ≡ true = ap (λ o. some_is (λ (y : Landing). y.whole) o) shown ∙ whole in
-    ap (λ b. if b then (if shows_whole w at k z then option_map_or (step_of_landing w) (landing_shown w at z.course k) 0 else option_map_or step_of (own_before w at z) 0) else 0) host
-    ∙ ap (λ b. if b then option_map_or (step_of_landing w) (landing_shown w at z.course k) 0 else option_map_or step_of (own_before w at z) 0) all
-    ∙ ap (λ o. option_map_or (step_of_landing w) o 0) shown
-
-shown_nothing : (w : World) (at : Spot) (k : ℕ) (z : Sent) → is_host w k ≡ false → shown_by w at k z ≡ 0
-shown_nothing w at k z host =
-    ap (λ b. if b then (if shows_whole w at k z then option_map_or (step_of_landing w) (landing_shown w at z.course k) 0 else option_map_or step_of (own_before w at z) 0) else 0) host
-
 -- ---- a host's block among those given
-
-block_got : (o : Option (Option Block)) (b : Block) → unwrap_or o None ≡ Some b → o ≡ Some (Some b)
-block_got None b h = absurd (none_some b h)
-block_got (Some x) b h = ap (λ y. Some y) h
-
-pub given_at : (bs : List (Option Block)) (k : ℕ) (b : Block) → block_of_host bs k ≡ Some b → slice_get bs (k - 1) ≡ Some (Some b)
-given_at bs k b h = block_got (slice_get bs (k - 1)) b h
 
 -- What stands at a place is there.
 pub is_present : {A : Type 0} (xs : List (Option A)) (i : ℕ) (a : A) → slice_get xs i ≡ Some (Some a) → Contains (present xs) a
@@ -100,14 +79,14 @@ look_shows_host p h xs r i f front at c bs given l mine k host b has =
       there = subst (λ y. Contains (submitted (trace_of f)) y) l.now l.sent.inside;
       mine = mine;
     } in
-    let got = given_at bs k b has in
+    let got = own_there bs k b has in
     let s = look_block p h xs r at.there i.machine f.machine f.daemon c look x.course l.sent.there (sym l.sent.call ∙ l.sent.is.call) l.on bs given k host b got in
     let seen = looked p h xs i.machine f.machine f.daemon c look bs given (k - 1) b got in
     let whole : shows_whole w (spot_of_line r) k x ≡ true = ap (λ o. some_is (λ (y : Landing). y.whole) o) s.shown ∙ s.whole in
     record {
-      shows = ap (λ o. some_is (shows_by w (spot_of_line r) k) o) l.found ∙ shows_whole_by w (spot_of_line r) k x true host (λ e. whole);
+      shows = ap (λ o. some_is (shows_by w (spot_of_line r) k) o) l.found ∙ shows_if w (spot_of_line r) k x true host (λ e. whole);
       block = ap (λ o. H.block (option_map_or (shown_by w (spot_of_line r) k) o 0)) l.found
-          ∙ ap (λ n. H.block n) (shown_landing w (spot_of_line r) k x s.landing host s.shown s.whole) ∙ s.block;
+          ∙ ap (λ n. H.block n) (shown_whole w (spot_of_line r) k x s.landing host s.shown s.whole) ∙ s.block;
       host = (block_in_is (k - 1 + 1) (record_in w.layout (sector_of w.layout seen.bytes seen.sector)) b seen.spells).1 ∙ back_up k (host_first w k host);
     }
 
@@ -121,7 +100,7 @@ look_shows_nothing p h xs r i f front at c bs l k host =
     let w : World = world_at p h xs in
     let H : History = history_of_line p h xs r in
     let x : Sent = l.sent.sent in (
-      ap (λ o. some_is (shows_by w (spot_of_line r) k) o) l.found ∙ shows_whole_by w (spot_of_line r) k x false host (λ e. absurd (false_is_true e)),
-      ap (λ o. H.block (option_map_or (shown_by w (spot_of_line r) k) o 0)) l.found ∙ ap (λ n. H.block n) (shown_nothing w (spot_of_line r) k x host)
+      ap (λ o. some_is (shows_by w (spot_of_line r) k) o) l.found ∙ shows_if w (spot_of_line r) k x false host (λ e. absurd (false_is_true e)),
+      ap (λ o. H.block (option_map_or (shown_by w (spot_of_line r) k) o 0)) l.found ∙ ap (λ n. H.block n) (shown_none w (spot_of_line r) k x host)
           ∙ block_of_none p h xs at.front_is.run r,
     )

@@ -30,6 +30,7 @@ use Rattle.sl_trace.specs.declared.effects.Call.{Call}
 use Rattle.sl_trace.specs.declared.effects.Entry.{Entry}
 use Rattle.sl_words.proofs.CaseLaws.{false_is_true}
 use Rattle.std.proofs.Common.{ap, arith, refl, subst, sym, ◌∙◌}
+use Rattle.std.proofs.lemmas.Bool.{or_left}
 use Rattle.std.specs.Prelude.{Bool, Contains, List, false, length, option_and_then, suc, true, ℕ, ◌%◌, ◌++◌, ◌<◌, ◌||◌, ◌∷◌, ◌≡◌, ◌≤◌}
 
 -- ---- where all of it stands
@@ -62,10 +63,6 @@ front_of_run k = k.entry ∷ k.past
 abbrev pub HasMark : Found → Block → Type 0
 HasMark f b = (b.shared ≡ true) × (b.mode_gen ≡ found_generation f)
 
-or_so : (a b : Bool) → a ≡ true → (a || b) ≡ true
-or_so true b h = refl
-or_so false b h = absurd (false_is_true h)
-
 up_long : (n a m : ℕ) → n ≤ a → a ≡ m → n ≤ suc m
 up_long n a m le is = omega (arith, le, is)
 
@@ -96,7 +93,7 @@ marked_by p h xs r i f k e t late older m =
     let held = held_after p h xs r i f k sub.later back sub.whole (up_long (length (front_of_run k)) t.call.at (length sub.past) late place) in
     let at : spot_of_call st.layout t.call ≡ spot_of_line r = spot_is st.layout (spot_of_line r) t.call (aligned p h xs r i f k) t.lease.on in
     let shown : has_shared_on (cut_at sub.place sub.entry ∷ sub.past) s (spot_of_call st.layout t.call) ≡ true = ap (λ z. has_shared_on back s z) at ∙ held in
-    let shared : t.block.shared ≡ true = m.exact.1 (or_so (has_shared_on (cut_at sub.place sub.entry ∷ sub.past) s (spot_of_call st.layout t.call)) (is_at Mode_set t.call) shown) in
+    let shared : t.block.shared ≡ true = m.exact.1 (or_left (has_shared_on (cut_at sub.place sub.entry ∷ sub.past) s (spot_of_call st.layout t.call)) (is_at Mode_set t.call) shown) in
     let whole : IsFront p h xs i f back = record { run = k.run; its = k.its; later = sub.later; whole = sub.whole } in
     let was = lease_was st sub.later back s (spot_of_line r) t.call (subst (λ z. OfLease st z s (spot_of_line r) t.call) sub.whole t.lease)
     (last_in t.call.at (length sub.past) place) in

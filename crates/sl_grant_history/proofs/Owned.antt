@@ -1,10 +1,10 @@
 -- A session's block in the history, back in its trace: the call of its lease that wrote it, and where it was made.
 use Rattle.sl_area.specs.Layouts.{Layout}
 use Rattle.sl_course_law.specs.Stamping.{stamp_in}
-use Rattle.sl_grant_history.proofs.Counting.{head_same, tail_same}
 use Rattle.sl_grant_history.proofs.Telling.{OfLease}
 use Rattle.sl_lease_law.proofs.AgeLaws.{writes}
 use Rattle.sl_leases.specs.Leases.{block_of_record, block_written, is_lease_call, is_on}
+use Rattle.sl_plain.proofs.Lists.{head_is, tail_is}
 use Rattle.sl_resource_history.proofs.Above.{written_at}
 use Rattle.sl_resource_history.proofs.Calls.{block_works, found_of, owner_found, owner_layout, worker_joined}
 use Rattle.sl_resource_history.proofs.Founding.{writer_is}
@@ -86,5 +86,5 @@ ends_within later front [] back same le = (later, sym same, refl)
 ends_within [] front (y ∷ newer) back same le =
     absurd (no_longer (length front) (length newer) (length back) (ap (λ zs. length zs) same ∙ ap (λ n. suc n) (length-append newer back)) le)
 ends_within (x ∷ later) front (y ∷ newer) back same le =
-    let r = ends_within later front newer back (tail_same x y (later ++ front) (newer ++ back) same) le in
-    (r.0, r.1, ap (λ zs. x ∷ zs) r.2 ∙ ap (λ z. z ∷ newer ++ r.0) (head_same x y (later ++ front) (newer ++ back) same))
+    let r = ends_within later front newer back (tail_is x y (later ++ front) (newer ++ back) same) le in
+    (r.0, r.1, ap (λ zs. x ∷ zs) r.2 ∙ ap (λ z. z ∷ newer ++ r.0) (head_is x y (later ++ front) (newer ++ back) same))

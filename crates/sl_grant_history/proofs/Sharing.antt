@@ -25,9 +25,11 @@ use Rattle.sl_holdings.specs.Holdings.{IsSharedTo, SharedGrant}
 use Rattle.sl_law.proofs.LawFacts.{lawful-front}
 use Rattle.sl_law.specs.Lawful.{Lawful}
 use Rattle.sl_law.specs.LawfulModes.{SharedByBallot}
-use Rattle.sl_lease_law.proofs.FrontLaws.{got}
 use Rattle.sl_leases.specs.Leases.{ended_ballot, ended_ballots, has_shared_on, is_free_write, lease_calls}
 use Rattle.sl_place_law.proofs.Looks.{answered_below}
+use Rattle.sl_plain.proofs.Lists.{contains_first, contains_more}
+use Rattle.sl_plain.proofs.Numbers.{equal_is_most, less_is_most, never_below}
+use Rattle.sl_plain.proofs.Options.{some_of}
 use Rattle.sl_resource_history.proofs.Shown.{holder_is}
 use Rattle.sl_resource_history.specs.Promises.{history_of_line, spot_of_line}
 use Rattle.sl_resource_history.specs.Sending.{Sent, holder_of, sent_at, step_of, writes_block}
@@ -37,7 +39,6 @@ use Rattle.sl_run.specs.Worlds.{Program, Stamp, World}
 use Rattle.sl_run.specs.declared.header.Header.{Header}
 use Rattle.sl_run.specs.declared.header.ResourceLine.{ResourceLine}
 use Rattle.sl_sector.specs.declared.sector.Owner.{Owner}
-use Rattle.sl_session_law.proofs.Making.{contains_first, contains_more}
 use Rattle.sl_sessions.specs.Sessions.{me, session_numbered}
 use Rattle.sl_trace.specs.Traces.{Setting, Submitted, Trace, holdings, new_call}
 use Rattle.sl_trace.specs.declared.effects.Call.{Call}
@@ -69,12 +70,6 @@ ended_there g (m ∷ newer) read before x is =
 same_sent : (o : Option Sent) (x y : Sent) → o ≡ Some x → o ≡ Some y → x ≡ y
 same_sent o x y p q = one_value x y o p q
 
-most_same : (a b : ℕ) → a ≡ b → a ≤ b
-most_same a b h = omega (arith, h)
-
-most_less : (a b : ℕ) → a < b → a ≤ b
-most_less a b h = omega (arith, h)
-
 not_most : (a b : ℕ) → a ≤ b → (a ≡ b → ⊥) → a < b
 not_most a b le other =
     elim (cases_lt a b) as (λ z. a < b) [
@@ -101,7 +96,7 @@ from_mark p h xs r i f k m e t early le =
         let one : m.sent.sent ≡ t.sent =
         same_sent (sent_at (world_at p h xs) (spot_of_line r) writes_block e) m.sent.sent t.sent
         (ap (sent_at (world_at p h xs) (spot_of_line r) writes_block) (sym step) ∙ m.found) t.found in
-        most_same k.ballot.mode.call.number t.call.call.number
+        equal_is_most k.ballot.mode.call.number t.call.call.number
         (ap (λ (c : Call). c.number) (sym m.sent.call ∙ m.sent.is.call) ∙ ap (λ (x : Sent). x.course.call.number) one ∙ ap (λ (c : Call). c.number) (sym t.same))
 
     later : step_of m.sent.sent < e → k.ballot.mode.call.number ≤ t.call.call.number
@@ -114,7 +109,7 @@ from_mark p h xs r i f k m e t early le =
         (subst (λ n. step_of m.sent.sent < n) (sym t.step) less) in
         let rise = numbers_rise st (front_of_run k) k.named.lawful.is_trace k.ballot.mode was.was mode.inside was.lease.inside
         (subst (λ n. k.ballot.mode.at < n) (sym was.place) place) in
-        most_less k.ballot.mode.call.number t.call.call.number (subst (λ (c : Call). k.ballot.mode.call.number < c.number) was.call rise)
+        less_is_most k.ballot.mode.call.number t.call.call.number (subst (λ (c : Call). k.ballot.mode.call.number < c.number) was.call rise)
 
 -- Each block of the session from the mark on has it.
 marked : (p : Program) (h : Header) (xs : List Happening) (r : ResourceLine) (i : SessionId) (f : Found) → (k : RunsThere p h xs r i f) → (m : BlockThere p h xs r i f k.ballot.mode k.ballot.block)
@@ -138,9 +133,6 @@ below_most a b c d p q is = omega (arith, p, q, is)
 
 most_three : (a b c d : ℕ) → a ≤ b → b ≤ c → c ≡ d → a ≤ d
 most_three a b c d p q is = omega (arith, p, q, is)
-
-never_below : (a b : ℕ) → a ≤ b → b < a → ⊥
-never_below a b le less = omega (arith, le, less)
 
 freed_after : (p : Program) (h : Header) (xs : List Happening) (r : ResourceLine) (i : SessionId) (f : Found) → (k : RunsThere p h xs r i f) → (stamp : Stamp)
     → stamp_in f.daemon.stamps k.ballot.mode_answer.at ≡ Some stamp → (l : ℕ) → FreeTold p h xs r f k.instance l → stamp.step ≤ l
@@ -188,7 +180,7 @@ shared_to p h xs r i f k alive =
       record { step = k.step; holder = holder_of w i; won = k.instance; mark = step_of m.sent.sent },
       refl,
       record {
-        since = most_less k.step w.step (subst (λ n. n < w.step) k.came.step_is past);
+        since = less_is_most k.step w.step (subst (λ n. n < w.step) k.came.step_is past);
         ballot = subst (λ o. BallotEnded H (holder_of w i) k.instance o k.step) k.named.name
             (k.given.ended p h xs r k.run k.there differ hosts i f k.its k.joined k.entry k.past k.step k.came k.instance (me (front_of_run k) f.session) won);
         writes = m.writes;
@@ -208,7 +200,7 @@ is_placed st es law g has =
     let from = holdings_are_granted es g has in
     let front : Trace = from.entry ∷ from.past in
     let here : Lawful st front = lawful-front st from.later front (subst (λ z. Lawful st z) from.whole law) in
-    let s = got (session_numbered st front g.session) (here.granting.0.owned g from.given) in
+    let s = some_of (session_numbered st front g.session) (here.granting.0.owned g from.given) in
     (here.granting.0.each g s.0 from.given s.1).placed
 
 -- A run of shared holdings began by a grant of the history.

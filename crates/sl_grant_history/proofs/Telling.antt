@@ -5,14 +5,15 @@ use Rattle.sl_course_law.specs.Stamping.{AnswersAgree, IsAnsweredAs, IsCourseOf,
 use Rattle.sl_grant_history.proofs.Growing.{Grown, calls_grow, calls_were}
 use Rattle.sl_law.specs.Lawful.{Lawful}
 use Rattle.sl_leases.specs.Leases.{block_of_record, block_written, is_block_read, is_lease_call, is_on, lease_calls}
-use Rattle.sl_moment_law.proofs.Ordering.{entries_ordered}
+use Rattle.sl_moment_law.proofs.Ordering.{entries_ordered, fall_front, fall_step}
 use Rattle.sl_place_law.proofs.Daemons.{daemons_are_fine, stamp_order}
-use Rattle.sl_place_law.proofs.Finding.{equal_numbers, filtered, partner_of, same_number}
+use Rattle.sl_place_law.proofs.Finding.{partner_of}
 use Rattle.sl_place_law.proofs.Proven.{promised}
 use Rattle.sl_place_law.proofs.Reading.{lawful_daemon, session_inside}
+use Rattle.sl_plain.proofs.Lists.{kept, kept_inside}
+use Rattle.sl_plain.proofs.Numbers.{never_below}
 use Rattle.sl_resource_history.proofs.Calls.{numbers_meant, there_sent}
 use Rattle.sl_resource_history.proofs.Owning.{session_as}
-use Rattle.sl_resource_history.proofs.Steps.{fall_front, fall_step, stamp_there}
 use Rattle.sl_resource_history.specs.Sending.{Sent, all_sent, block_of_course, reads_blocks, sender_of, writes_block}
 use Rattle.sl_run.specs.Runs.{Happening}
 use Rattle.sl_run.specs.Safety.{Found, IsSession, LawfulRun, SessionId, setting_in, trace_of, world_at}
@@ -20,14 +21,14 @@ use Rattle.sl_run.specs.Worlds.{Course, Program, Stamp, World, daemons_on, machi
 use Rattle.sl_run.specs.declared.header.Header.{Header}
 use Rattle.sl_sector.specs.declared.sector.Block.{Block}
 use Rattle.sl_session_law.proofs.Making.{answers_stay}
-use Rattle.sl_session_law.proofs.Naming.{kept}
 use Rattle.sl_sessions.specs.Sessions.{Session, calls_of, is_call_of, session_numbered}
 use Rattle.sl_trace.specs.Traces.{Answered, Setting, Submitted, Trace, new_call, record_of, submitted}
 use Rattle.sl_trace.specs.declared.effects.Call.{Call}
 use Rattle.sl_trace.specs.declared.effects.Spot.{Spot}
+use Rattle.sl_watchdog_law.proofs.Stamps.{stamp_there}
 use Rattle.sl_words.proofs.WordLaws.{and_true}
 use Rattle.std.proofs.Common.{ap, arith, inl, inr, refl, subst, sym, ◌∙◌}
-use Rattle.std.proofs.lemmas.Bool.{and_from, cases_lt}
+use Rattle.std.proofs.lemmas.Bool.{and_from, cases_lt, eq-eqb, eqb-true}
 use Rattle.std.specs.Prelude.{Contains, List, Option, Some, [], is_some, length, option_and_then, true, ℕ, ◌&&◌, ◌++◌, ◌<◌, ◌==◌, ◌∷◌, ◌≡◌, ◌≤◌}
 
 -- A session of a lawful run, at a front of its trace.
@@ -84,12 +85,12 @@ told_from p h xs run i f its c mine g =
     let all = whole_of p h xs run i f its in
     let own = partner_of (IsCourseOf f.daemon) (courses_of f.machine f.daemon.number) (submitted (trace_of f)) g.now
     (courses_are_calls p h xs run i.machine f.machine f.daemon all.at all.has) g.inside in
-    let of_daemon = filtered (λ (x : Course). x.daemon == f.daemon.number) f.machine.calls own.0 own.1 in (
+    let of_daemon = kept_inside (λ (x : Course). x.daemon == f.daemon.number) f.machine.calls own.0 own.1 in (
       record {
         sent = record { machine = i.machine; course = own.0 };
         has = there_sent w i.machine f.machine own.0 all.at of_daemon.0;
         sender = session_as i.machine own.0.daemon own.0.call.session i.machine i.daemon i.number refl
-            (same_number own.0.daemon f.daemon.number of_daemon.1 ∙ all.daemon)
+            (eqb-true own.0.daemon f.daemon.number of_daemon.1 ∙ all.daemon)
             (ap (λ (x : Call). x.session) (sym own.2.call ∙ g.call) ∙ mine ∙ all.number);
         now = g.now;
         inside = g.inside;
@@ -142,14 +143,11 @@ in_order p h xs run i f its m n s t one two le =
 pub by_cases : (m n : ℕ) (P : Type 0) → (m ≤ n → P) → (n < m → P) → P
 by_cases m n P yes_so otherwise = elim (cases_lt n m) as (λ z. P) [ inl less ↦ otherwise less | inr most ↦ yes_so most ]
 
-not_both : (a b : ℕ) → a ≤ b → b < a → ⊥
-not_both a b h k = omega (arith, h, k)
-
 -- Steps in order are entries in order.
 pub before_in : (p : Program) (h : Header) (xs : List Happening) → LawfulRun p h xs → (i : SessionId) (f : Found) → IsSession (world_at p h xs) i f → (m n : ℕ) (s t : Stamp)
     → stamp_in f.daemon.stamps m ≡ Some s → stamp_in f.daemon.stamps n ≡ Some t → s.step < t.step → m < n
 before_in p h xs run i f its m n s t one two less =
-    by_cases n m (m < n) (λ le. absurd (not_both t.step s.step (in_order p h xs run i f its n m t s two one le) less)) (λ it. it)
+    by_cases n m (m < n) (λ le. absurd (never_below t.step s.step (in_order p h xs run i f its n m t s two one le) less)) (λ it. it)
 
 -- Entries come before the world's step.
 pub entry_past : (p : Program) (h : Header) (xs : List Happening) → LawfulRun p h xs → (i : SessionId) (f : Found) → IsSession (world_at p h xs) i f → (n : ℕ) (t : Stamp)
@@ -171,15 +169,15 @@ pub record OfLease (st : Setting) (front : Trace) (s : Session) (at : Spot) (c :
 
 pub of_lease : (st : Setting) (front : Trace) (s : Session) (at : Spot) (c : Submitted) → Contains (lease_calls st front s at) c → OfLease st front s at c
 of_lease st front s at c has =
-    let f = filtered (λ (m : Submitted). is_lease_call m && is_on st.layout at m.call) (calls_of front s) c has in
-    let g = filtered (is_call_of s) (submitted front) c f.0 in
+    let f = kept_inside (λ (m : Submitted). is_lease_call m && is_on st.layout at m.call) (calls_of front s) c has in
+    let g = kept_inside (is_call_of s) (submitted front) c f.0 in
     let both = and_true (is_lease_call c) (is_on st.layout at c.call) f.1 in
-    record { inside = g.0; mine = same_number c.call.session s.number g.1; lease = both.0; on = both.1 }
+    record { inside = g.0; mine = eqb-true c.call.session s.number g.1; lease = both.0; on = both.1 }
 
 pub in_lease : (st : Setting) (front : Trace) (s : Session) (at : Spot) (c : Submitted) → OfLease st front s at c → Contains (lease_calls st front s at) c
 in_lease st front s at c o =
     kept (λ (m : Submitted). is_lease_call m && is_on st.layout at m.call) (calls_of front s) c (and_from _ _ o.lease o.on)
-    (kept (is_call_of s) (submitted front) c (equal_numbers c.call.session s.number o.mine) o.inside)
+    (kept (is_call_of s) (submitted front) c (eq-eqb c.call.session s.number o.mine) o.inside)
 
 -- It is on the area in the world too.
 pub told_on : (p : Program) (h : Header) (xs : List Happening) (i : SessionId) (f : Found) (front : Trace) → IsFront p h xs i f front → (c : Submitted) → (t : IsTold p h xs i f c)

@@ -4,8 +4,8 @@ use Rattle.sl_holding_law.proofs.Places.{place_turned}
 use Rattle.sl_holding_law.specs.Granting.{OneDaemonAgrees}
 use Rattle.sl_law.proofs.LawFacts.{lawful-front}
 use Rattle.sl_law.specs.Lawful.{Lawful}
-use Rattle.sl_lease_law.proofs.FrontLaws.{got}
-use Rattle.sl_session_law.proofs.Making.{contains_none}
+use Rattle.sl_plain.proofs.Lists.{contains_none}
+use Rattle.sl_plain.proofs.Options.{some_of}
 use Rattle.sl_sessions.specs.Sessions.{Session, session_numbered}
 use Rattle.sl_trace.specs.Traces.{Setting, Trace, holdings, is_shared, same_place}
 use Rattle.sl_trace.specs.declared.effects.Entry.{Entry}
@@ -18,7 +18,7 @@ use Rattle.std.specs.Prelude.{Contains, Some, true, [], ◌&&◌, ◌∷◌, ◌
 granted_agrees : (st : Setting) (e : Entry) (past : Trace) → Lawful st (e ∷ past) → (h g : Grant) → Contains (holdings (e ∷ past)) h → Contains e.effects.grants g
     → same_place h.path h.offset g.path g.offset ≡ true → (h.process ≡ g.process → ⊥) → (is_shared h.mode && is_shared g.mode) ≡ true
 granted_agrees st e past law h g held given same differ =
-    let owner : (s : Session) × (session_numbered st (e ∷ past) g.session ≡ Some s) = got (session_numbered st (e ∷ past) g.session) (law.granting.0.owned g given) in
+    let owner : (s : Session) × (session_numbered st (e ∷ past) g.session ≡ Some s) = some_of (session_numbered st (e ∷ past) g.session) (law.granting.0.owned g given) in
     (law.granting.0.each g owner.0 given owner.1).alone h held same differ
 
 pub one_daemon_agrees : OneDaemonAgrees

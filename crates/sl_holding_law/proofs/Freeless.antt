@@ -1,6 +1,8 @@
 -- A session that isn't leaving has written no free: the law of the free asks for a leaving, and a leaving stays.
 use Rattle.sl_law.specs.Lawful.{Lawful}
 use Rattle.sl_law.specs.LawfulDelta.{LawfulDeltaCall, LawfulFree}
+use Rattle.sl_plain.proofs.Lists.{find_inside}
+use Rattle.sl_plain.proofs.Options.{some_there}
 use Rattle.sl_session_law.proofs.Owning.{calls_were_lawful}
 use Rattle.sl_session_law.specs.Promises.{IsSession, WasLawful, front_of, made_as}
 use Rattle.sl_sessions.specs.Sessions.{Session, calls_of, free_write, is_free_purpose, is_joined, leaving_job}
@@ -8,7 +10,7 @@ use Rattle.sl_trace.specs.Traces.{Job, Setting, Submitted, Trace, submitted}
 use Rattle.sl_trace.specs.declared.effects.Entry.{Entry}
 use Rattle.sl_trace.specs.declared.effects.Purpose.TheVariants.{Joining, Lease, Leaving, Renewal, RequestRead, RequestWrite, SeeRequest, Survey, ValueRead, ValueWrite}
 use Rattle.sl_trace.specs.declared.effects.Purpose.{Purpose}
-use Rattle.sl_watchdog_law.proofs.Finding.{call_owner, find_inside}
+use Rattle.sl_watchdog_law.proofs.Finding.{call_owner}
 use Rattle.sl_words.proofs.CaseLaws.{false_is_true, no_value}
 use Rattle.sl_words.proofs.WordLaws.{and_true}
 use Rattle.std.proofs.Common.{refl, subst, sym}
@@ -51,16 +53,12 @@ leaving_stays : (st : Setting) (later es : Trace) (s : Session) (j : Job) → le
 leaving_stays st [] es s j h = h
 leaving_stays st (e ∷ later) es s j h = leaving_more st e (later ++ es) s j (leaving_stays st later es s j h)
 
-value_of : (o : Option Job) → is_some o ≡ true → (j : Job) × (o ≡ Some j)
-value_of None h = absurd (false_is_true h)
-value_of (Some j) h = (j, refl)
-
 pub staying_is_freeless : (st : Setting) (es : Trace) (s : Session) → Lawful st es → IsSession st es s → leaving_job st es s ≡ None → HasNoFree es s
 staying_is_freeless st es s law its stays m there mine frees =
     let w : WasLawful st es s m = calls_were_lawful st es s m law its there mine in
     let f : LawfulFree st (front_of w.made) s (made_as w.made) = free_law st (front_of w.made) s (made_as w.made) m.call.purpose w.lawful frees in
     let leaves : is_some (leaving_job st (w.made.entry ∷ w.made.past) s) ≡ true =
     (and_true (is_joined (front_of w.made) s) (is_some (leaving_job st (w.made.entry ∷ w.made.past) s)) f.leaving).1 in
-    let j = value_of (leaving_job st (w.made.entry ∷ w.made.past) s) leaves in
+    let j = some_there (leaving_job st (w.made.entry ∷ w.made.past) s) leaves in
     no_value j.0 (leaving_job st es s)
     (subst (λ t. leaving_job st t s ≡ Some j.0) (sym w.made.whole) (leaving_stays st w.made.later (w.made.entry ∷ w.made.past) s j.0 j.1)) stays

@@ -1,11 +1,10 @@
 -- A holding after an entry was one before it, or the entry granted it; so each goes back to a grant, without a gap.
 use Rattle.sl_front_law.proofs.Having.{contains_append}
 use Rattle.sl_holding_law.specs.Granting.{GrantedIn, HoldingsAreGranted}
-use Rattle.sl_session_law.proofs.Making.{contains_none}
+use Rattle.sl_plain.proofs.Lists.{contains_none, kept_inside}
 use Rattle.sl_trace.specs.Traces.{Trace, holdings, is_ended_by}
 use Rattle.sl_trace.specs.declared.effects.Entry.{Entry}
 use Rattle.sl_trace.specs.declared.effects.Grant.{Grant}
-use Rattle.sl_watchdog_law.proofs.Finding.{kept_inside}
 use Rattle.sl_words.proofs.CaseLaws.{none_some}
 use Rattle.std.proofs.Common.{ap, inl, inr, refl, subst}
 use Rattle.std.specs.Prelude.{Contains, drop, filter, not, slice_get, [], ◌++◌, ◌∷◌, ◌≡◌, ◌⊎◌}

@@ -5,31 +5,31 @@ use Rattle.sl_course_law.proofs.Mirroring.{none_if}
 use Rattle.sl_course_law.specs.Mirrors.{Mirrors, since_restart}
 use Rattle.sl_front_law.proofs.Having.{contains_flat}
 use Rattle.sl_holding_law.proofs.Agreeing.{one_daemon_agrees}
-use Rattle.sl_holding_law.proofs.Standing.{held_of, holders_stand, known_as}
+use Rattle.sl_holding_law.proofs.Standing.{held_of, holders_stand}
 use Rattle.sl_holding_law.specs.Granting.{HeldUnder}
 use Rattle.sl_holding_law.specs.Holders.{HoldingsAreHeld, OneMachineAgrees}
-use Rattle.sl_landing_law.proofs.Listing.{in_map}
 use Rattle.sl_law.specs.Lawful.{Lawful}
 use Rattle.sl_lease_law.proofs.NumberLaws.{number_is_place}
+use Rattle.sl_plain.proofs.Lists.{contains_cases, contains_none, got_inside, in_map}
+use Rattle.sl_plain.proofs.Numbers.{one_less}
+use Rattle.sl_plain.proofs.Options.{else_some}
 use Rattle.sl_run.specs.Conflicts.{Holding, world_holdings}
 use Rattle.sl_run.specs.Runs.{Happening}
 use Rattle.sl_run.specs.Safety.{Found, LawfulRun, SessionId, free_landed, has_write_in_flight, is_course_of, is_over, session_of_world, was_reset, world_at}
 use Rattle.sl_run.specs.Worlds.{Daemon, Machine, Program, World, daemon_numbered, daemons_on, is_landed, machine_at, resets_after}
 use Rattle.sl_run.specs.declared.header.Header.{Header}
-use Rattle.sl_session_law.proofs.Making.{contains_cases, contains_none}
-use Rattle.sl_session_law.proofs.Owning.{got_inside}
 use Rattle.sl_sessions.specs.Sessions.{Session, calls_of, ended_after, free_write, is_joined, joined_after, refused_after, removed_after, session_numbered}
 use Rattle.sl_trace.specs.Traces.{Submitted, holdings, is_shared, same_place}
 use Rattle.sl_trace.specs.declared.effects.Grant.{Grant}
-use Rattle.sl_watchdog_law.proofs.Finding.{equal_numbers}
-use Rattle.sl_words.proofs.CaseLaws.{false_is_true, is_false, one_value, true_is_false}
+use Rattle.sl_watchdog_law.proofs.Promising.{itself}
+use Rattle.sl_words.proofs.CaseLaws.{false_is_true, is_false, one_value}
 use Rattle.sl_words.proofs.ListLaws.{first_and_others}
 use Rattle.sl_words.proofs.WordLaws.{and_true}
 use Rattle.sl_words.specs.Words.{first_of_list, is_empty, some_is}
 use Rattle.std.proofs.Common.{ap, arith, inl, inr, refl, subst, sym, tests, ◌∙◌}
-use Rattle.std.proofs.lemmas.Bool.{and_from}
+use Rattle.std.proofs.lemmas.Bool.{and_from, eq-eqb}
 use Rattle.std.specs.List.{enumerate_from, list_any}
-use Rattle.std.specs.Prelude.{Bool, Contains, List, None, Option, Some, [], cond, false, find, if◌then◌else◌, is_none, is_some, map, not, option_and_then, option_map, slice_get, suc, true, zero, ℕ, ◌&&◌, ◌+◌, ◌-◌, ◌==◌, ◌||◌, ◌∷◌, ◌≡◌, ◌⊎◌}
+use Rattle.std.specs.Prelude.{Bool, Contains, List, None, Option, Some, [], cond, false, find, is_none, is_some, map, not, option_and_then, option_map, slice_get, suc, true, zero, ℕ, ◌&&◌, ◌+◌, ◌-◌, ◌==◌, ◌||◌, ◌∷◌, ◌≡◌, ◌⊎◌}
 
 -- ---- the machine of a holding
 
@@ -46,16 +46,9 @@ numbered_in k (a ∷ ms) p there = by (λ old. numbered_in (k + 1) ms p old) (co
 not_zero : (i : ℕ) → (1 + i == 0) ≡ false
 not_zero i = grind (arith, tests)
 
-less_one : (i : ℕ) → 1 + i - 1 ≡ i
-less_one i = omega arith
-
-at_by : (b : Bool) (o : Option Machine) (a : Machine) → b ≡ false → o ≡ Some a → (if b then None else o) ≡ Some a
-at_by true o a h is = absurd (true_is_false h)
-at_by false o a h is = is
-
 machine_there : (w : World) (m i : ℕ) (a : Machine) → m ≡ 1 + i → slice_get w.machines i ≡ Some a → machine_at w m ≡ Some a
 machine_there w m i a is at =
-    at_by (m == 0) (slice_get w.machines (m - 1)) a (ap (λ n. n == 0) is ∙ not_zero i) (ap (λ n. slice_get w.machines (n - 1)) is ∙ ap (λ n. slice_get w.machines n) (less_one i) ∙ at)
+    else_some (m == 0) (slice_get w.machines (m - 1)) a (ap (λ n. n == 0) is ∙ not_zero i) (ap (λ n. slice_get w.machines (n - 1)) is ∙ ap (λ n. slice_get w.machines n) (one_less i) ∙ at)
 
 abbrev holding : ℕ → Grant → Holding
 holding m g = record { machine = m; held = g }
@@ -137,7 +130,7 @@ in_world w i a d s here at is =
 first_numbered : (a : Machine) (d : Daemon) (others : List Daemon) → daemons_on a ≡ d ∷ others → daemon_numbered a d.number ≡ Some d
 first_numbered a d others first =
     ap (λ (ds : List Daemon). find (λ (x : Daemon). x.number == d.number) ds) first
-    ∙ ap (λ b. cond b (Some d) (find (λ (x : Daemon). x.number == d.number) others)) (equal_numbers d.number d.number refl)
+    ∙ ap (λ b. cond b (Some d) (find (λ (x : Daemon). x.number == d.number) others)) (eq-eqb d.number d.number refl)
 
 -- ---- which is not over
 
@@ -173,7 +166,7 @@ holdings_are_held p h xs run x there =
     record {
       session = i;
       found = f;
-      is = in_world (world_at p h xs) i o.machine d s o.at (first_numbered o.machine d o.others o.first) (known_as d.setting d.trace x.held.session s u.known);
+      is = in_world (world_at p h xs) i o.machine d s o.at (first_numbered o.machine d o.others o.first) (itself d.setting d.trace x.held.session s u.known);
       machine = refl;
       running = o.running;
       stands = held_of d.trace x.held s (number_is_place d.setting d.trace x.held.session s u.known) o.held;
@@ -198,4 +191,4 @@ one_machine_agrees p h xs run x y one two machines =
     (agree_by (same_place x.held.path x.held.offset y.held.path y.held.offset) (is_shared x.held.mode && is_shared y.held.mode) (x.machine == y.machine && x.held.process == y.held.process)
     (λ place differ.
     one_daemon_agrees o.daemon.setting o.daemon.trace o.lawful x.held y.held o.held held place
-    (λ is. differ (and_from (x.machine == y.machine) (x.held.process == y.held.process) (equal_numbers x.machine y.machine machines) (equal_numbers x.held.process y.held.process is)))))
+    (λ is. differ (and_from (x.machine == y.machine) (x.held.process == y.held.process) (eq-eqb x.machine y.machine machines) (eq-eqb x.held.process y.held.process is)))))

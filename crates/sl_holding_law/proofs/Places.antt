@@ -2,38 +2,33 @@
 use Rattle.sl_area.specs.Layouts.{Layout}
 use Rattle.sl_lease_law.proofs.SpotLaws.{areas_are_apart}
 use Rattle.sl_leases.specs.Leases.{has_shared_on, holdings_on, is_on, spot_of_call}
-use Rattle.sl_session_law.proofs.Joining.{same_number_by}
-use Rattle.sl_session_law.proofs.Making.{contains_cases, contains_none}
-use Rattle.sl_session_law.proofs.Naming.{kept}
+use Rattle.sl_plain.proofs.Lists.{contains_cases, contains_none, find_inside, kept, kept_inside}
+use Rattle.sl_plain.proofs.Numbers.{none_off}
 use Rattle.sl_sessions.specs.Sessions.{Session, holdings_of}
 use Rattle.sl_trace.specs.Traces.{Submitted, Trace, holdings, is_shared, new_call, same_place, spot_of_grant}
 use Rattle.sl_trace.specs.declared.effects.Grant.{Grant}
 use Rattle.sl_trace.specs.declared.effects.Spot.{Spot}
-use Rattle.sl_watchdog_law.proofs.Finding.{equal_numbers, find_inside, kept_inside}
 use Rattle.sl_words.proofs.CaseLaws.{false_is_true, true_is_false}
 use Rattle.sl_words.proofs.WordLaws.{and_true}
-use Rattle.std.proofs.Common.{ap, arith, inl, inr, refl, subst, sym, ◌∙◌}
-use Rattle.std.proofs.lemmas.Bool.{and_from}
+use Rattle.std.proofs.Common.{ap, inl, inr, refl, subst, sym, ◌∙◌}
+use Rattle.std.proofs.lemmas.Bool.{and_from, eq-eqb, eqb-true}
 use Rattle.std.proofs.lemmas.Slice.Eq.{bytes_eq-Decides}
-use Rattle.std.specs.Prelude.{Bool, Contains, List, None, Option, Some, [], bytes_eq, cond, false, find, is_some, true, ℕ, ◌%◌, ◌-◌, ◌==◌, ◌∷◌, ◌≡◌, ◌⊎◌}
+use Rattle.std.specs.Prelude.{Bool, Contains, List, None, Option, Some, [], bytes_eq, cond, false, find, is_some, true, ℕ, ◌%◌, ◌==◌, ◌∷◌, ◌≡◌, ◌⊎◌}
 
 -- ---- places
 
 pub place_is : (path : List ℕ) (offset : ℕ) (path' : List ℕ) (offset' : ℕ) → same_place path offset path' offset' ≡ true → (path ≡ path') × (offset ≡ offset')
 place_is path offset path' offset' h =
-    let both = and_true (offset == offset') (bytes_eq path path') h in ((bytes_eq-Decides path path').0 both.1, same_number_by offset offset' both.0)
+    let both = and_true (offset == offset') (bytes_eq path path') h in ((bytes_eq-Decides path path').0 both.1, eqb-true offset offset' both.0)
 
 pub is_place : (path : List ℕ) (offset : ℕ) (path' : List ℕ) (offset' : ℕ) → path ≡ path' → offset ≡ offset' → same_place path offset path' offset' ≡ true
 is_place path offset path' offset' paths offsets =
-    and_from (offset == offset') (bytes_eq path path') (equal_numbers offset offset' offsets) ((bytes_eq-Decides path path').1 paths)
+    and_from (offset == offset') (bytes_eq path path') (eq-eqb offset offset' offsets) ((bytes_eq-Decides path path').1 paths)
 
 pub place_turned : (a b : Grant) → same_place a.path a.offset b.path b.offset ≡ true → same_place b.path b.offset a.path a.offset ≡ true
 place_turned a b h = let r = place_is a.path a.offset b.path b.offset h in is_place b.path b.offset a.path a.offset (sym r.0) (sym r.1)
 
 -- ---- areas
-
-none_off : (n k : ℕ) → k ≡ 0 → n - k ≡ n
-none_off n k h = omega (arith, h)
 
 -- The area of a call on an area is that.
 pub spot_is : (g : Layout) (at : Spot) (m : Submitted) → at.base % g.area ≡ 0 → is_on g at m.call ≡ true → spot_of_call g m ≡ at
@@ -57,7 +52,7 @@ held_on es s at g h =
     let place = place_is g.path g.offset at.path at.base on.1 in
     record {
       there = its.0;
-      mine = same_number_by g.session s.number its.1;
+      mine = eqb-true g.session s.number its.1;
       spot = ap (λ p. let z : Spot = record { path = p; base = g.offset } in z) place.0 ∙ ap (λ n. let z : Spot = record { path = at.path; base = n } in z) place.1;
     }
 
@@ -65,7 +60,7 @@ pub on_held : (es : Trace) (s : Session) (at : Spot) (g : Grant) → HeldOn es s
 on_held es s at g h =
     kept (λ (x : Grant). same_place x.path x.offset at.path at.base) (holdings_of es s) g
     (is_place g.path g.offset at.path at.base (ap (λ (z : Spot). z.path) h.spot) (ap (λ (z : Spot). z.base) h.spot))
-    (kept (λ (x : Grant). x.session == s.number) (holdings es) g (equal_numbers g.session s.number h.mine) h.there)
+    (kept (λ (x : Grant). x.session == s.number) (holdings es) g (eq-eqb g.session s.number h.mine) h.there)
 
 -- ---- shared ones
 

@@ -4,10 +4,10 @@ use Rattle.sl_holding_law.proofs.Granted.{held_or_given, stands_first, stands_lo
 use Rattle.sl_holding_law.proofs.Places.{HeldOn, held_on, shared_there, the_shared}
 use Rattle.sl_holding_law.proofs.Standing.{stands_behind}
 use Rattle.sl_holding_law.specs.Granting.{SharedHoldingsBegin, SharedRun, SharedRunUnder, SharedRunsBegin}
-use Rattle.sl_session_law.proofs.Making.{contains_none}
 use Rattle.sl_law.proofs.LawFacts.{lawful-front}
 use Rattle.sl_law.specs.Lawful.{Lawful}
 use Rattle.sl_law.specs.LawfulModes.{HoldsSharedUnder, LawfulExclusiveGrant, LawfulSharedGrant, SharedByBallot}
+use Rattle.sl_plain.proofs.Lists.{contains_none}
 use Rattle.sl_session_law.proofs.Owning.{session_more}
 use Rattle.sl_session_law.specs.Promises.{IsSession}
 use Rattle.sl_sessions.specs.Sessions.{Session, session_numbered}

@@ -9,22 +9,23 @@ use Rattle.sl_law.specs.LawfulDelta.{LawfulFree}
 use Rattle.sl_law.specs.LawfulGrant.{LawfulGrantTo}
 use Rattle.sl_law.specs.LawfulRecovery.{MayPart}
 use Rattle.sl_law.specs.Saying.{cut_at}
-use Rattle.sl_lease_law.proofs.FrontLaws.{got}
 use Rattle.sl_lease_law.proofs.NumberLaws.{number_is_place}
 use Rattle.sl_area.specs.Places.{is_base}
-use Rattle.sl_session_law.proofs.Making.{IsNewCall, contains_none, old_or_new, was_marked}
-use Rattle.sl_session_law.proofs.Naming.{kept}
-use Rattle.sl_session_law.proofs.Owning.{got_inside, session_more}
+use Rattle.sl_plain.proofs.Lists.{contains_none, got_inside, kept}
+use Rattle.sl_plain.proofs.Options.{none_is, some_of}
+use Rattle.sl_session_law.proofs.Making.{IsNewCall, old_or_new, was_marked}
+use Rattle.sl_session_law.proofs.Owning.{session_more}
 use Rattle.sl_session_law.specs.Promises.{IsSession}
 use Rattle.sl_sessions.specs.Sessions.{Session, calls_of, free_write, holdings_of, is_free_purpose, is_joined, leaving_job, recovery_of, session_numbered, sessions}
 use Rattle.sl_trace.specs.Traces.{Setting, Submitted, Trace, holdings, mark, new_call, submitted}
 use Rattle.sl_trace.specs.declared.effects.Entry.{Entry}
 use Rattle.sl_trace.specs.declared.effects.Grant.{Grant}
-use Rattle.sl_watchdog_law.proofs.Finding.{equal_numbers, none_is}
+use Rattle.sl_watchdog_law.proofs.Promising.{itself}
 use Rattle.sl_words.proofs.CaseLaws.{no_value}
 use Rattle.sl_words.proofs.WordLaws.{and_true}
 use Rattle.std.proofs.Common.{ap, inl, inr, refl, subst, sym, ◌∙◌}
-use Rattle.std.specs.Prelude.{Bool, Contains, IsTrue, List, Some, false, is_none, length, true, [], ℕ, ◌&&◌, ◌==◌, ◌∷◌, ◌≡◌, ◌⊎◌}
+use Rattle.std.proofs.lemmas.Bool.{eq-eqb}
+use Rattle.std.specs.Prelude.{Bool, Contains, IsTrue, List, Some, false, is_none, length, true, [], ◌&&◌, ◌==◌, ◌∷◌, ◌≡◌, ◌⊎◌}
 
 -- The session under which a process holds, and that the area of the holding is one.
 pub record StandsBehind (st : Setting) (es : Trace) (g : Grant) : Type 0 where
@@ -34,19 +35,15 @@ pub record StandsBehind (st : Setting) (es : Trace) (g : Grant) : Type 0 where
   pub freeless : HasNoFree es session
   pub placed : IsTrue (is_base st.layout g.offset)
 
--- A session is known by its number.
-pub known_as : (st : Setting) (es : Trace) (n : ℕ) (s : Session) → session_numbered st es n ≡ Some s → IsSession st es s
-known_as st es n s known = subst (λ k. session_numbered st es k ≡ Some s) (sym (number_is_place st es n s known)) known
-
 -- The holdings of a session are those with its number.
 pub held_of : (es : Trace) (g : Grant) (s : Session) → s.number ≡ g.session → Contains (holdings es) g → Contains (holdings_of es s) g
-held_of es g s number there = kept (λ (h : Grant). h.session == s.number) (holdings es) g (equal_numbers g.session s.number (sym number)) there
+held_of es g s number there = kept (λ (h : Grant). h.session == s.number) (holdings es) g (eq-eqb g.session s.number (sym number)) there
 
 -- ---- where it is granted
 
 stands_granted : (st : Setting) (e : Entry) (past : Trace) (g : Grant) → Lawful st (e ∷ past) → Contains e.effects.grants g → StandsBehind st (e ∷ past) g
 stands_granted st e past g law given =
-    let owner : (s : Session) × (session_numbered st (e ∷ past) g.session ≡ Some s) = got (session_numbered st (e ∷ past) g.session) (law.granting.0.owned g given) in
+    let owner : (s : Session) × (session_numbered st (e ∷ past) g.session ≡ Some s) = some_of (session_numbered st (e ∷ past) g.session) (law.granting.0.owned g given) in
     let s : Session = owner.0 in
     let l : LawfulGrantTo st (e ∷ past) s g = law.granting.0.each g s given owner.1 in
     let active = and_true (is_joined (e ∷ past) s && is_none (recovery_of st (e ∷ past) s)) (is_none (leaving_job st (e ∷ past) s)) l.active in
@@ -55,7 +52,7 @@ stands_granted st e past g law given =
       session = s;
       known = owner.1;
       joined = well.0;
-      freeless = staying_is_freeless st (e ∷ past) s law (known_as st (e ∷ past) g.session s owner.1) (none_is (leaving_job st (e ∷ past) s) active.1);
+      freeless = staying_is_freeless st (e ∷ past) s law (itself st (e ∷ past) g.session s owner.1) (none_is (leaving_job st (e ∷ past) s) active.1);
       placed = l.placed;
     }
 
@@ -91,11 +88,11 @@ stands_longer st e past g law there r =
     let s : Session = r.session in
     let known : session_numbered st (e ∷ past) g.session ≡ Some s = session_more st e past g.session s r.known in
     let held : Contains (holdings_of (e ∷ past) s) g = held_of (e ∷ past) g s (number_is_place st past g.session s r.known) there in
-    let free : HasNoFree (e ∷ past) s = still_freeless st e past g s law (known_as st (e ∷ past) g.session s known) held r.freeless in
+    let free : HasNoFree (e ∷ past) s = still_freeless st e past g s law (itself st (e ∷ past) g.session s known) held r.freeless in
     record {
       session = s;
       known = known;
-      joined = still_joined st e past g s law (known_as st past g.session s r.known) held free r.joined;
+      joined = still_joined st e past g s law (itself st past g.session s r.known) held free r.joined;
       freeless = free;
       placed = r.placed;
     }

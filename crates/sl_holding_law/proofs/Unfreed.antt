@@ -3,7 +3,7 @@
 use Rattle.sl_area.specs.Places.{is_base}
 use Rattle.sl_holding_law.proofs.Granted.{held_or_given}
 use Rattle.sl_holding_law.proofs.Places.{HeldOn, held_on, on_held, spot_is}
-use Rattle.sl_holding_law.proofs.Standing.{known_as, stands_behind}
+use Rattle.sl_holding_law.proofs.Standing.{stands_behind}
 use Rattle.sl_holding_law.specs.Granting.{ExclusivesAreUnfreed}
 use Rattle.sl_law.proofs.LawFacts.{lawful-front}
 use Rattle.sl_law.specs.Lawful.{Lawful}
@@ -12,10 +12,9 @@ use Rattle.sl_law.specs.LawfulLeader.{LawfulFreeLeader, LawfulLeaderWrite, Lawfu
 use Rattle.sl_law.specs.Saying.{cut_at}
 use Rattle.sl_lease_law.proofs.NumberLaws.{number_is_place}
 use Rattle.sl_leases.specs.Leases.{freed, freed_by, holdings_on, is_free_write, is_lease_call, is_on, leader_written, lease_calls, spot_of_call}
+use Rattle.sl_plain.proofs.Lists.{any_of, contains_cases, contains_none, kept, kept_inside}
 use Rattle.sl_sector.specs.declared.sector.Leader.{Leader}
-use Rattle.sl_session_law.proofs.Joining.{same_number_by}
-use Rattle.sl_session_law.proofs.Making.{IsNewCall, contains_cases, contains_none, old_or_new, was_marked}
-use Rattle.sl_session_law.proofs.Naming.{kept}
+use Rattle.sl_session_law.proofs.Making.{IsNewCall, old_or_new, was_marked}
 use Rattle.sl_session_law.proofs.Owning.{session_more}
 use Rattle.sl_session_law.specs.Promises.{IsSession}
 use Rattle.sl_sessions.specs.Sessions.{Session, calls_of, session_numbered}
@@ -25,14 +24,15 @@ use Rattle.sl_trace.specs.declared.effects.Grant.{Grant}
 use Rattle.sl_trace.specs.declared.effects.Mode.TheVariants.{Exclusive, Shared}
 use Rattle.sl_trace.specs.declared.effects.Mode.{Mode}
 use Rattle.sl_trace.specs.declared.effects.Spot.{Spot}
-use Rattle.sl_watchdog_law.proofs.Finding.{any_of, call_inside, call_owner, equal_numbers, kept_inside}
-use Rattle.sl_words.proofs.CaseLaws.{false_is_true, is_false, one_value, true_is_false}
+use Rattle.sl_watchdog_law.proofs.Finding.{call_inside, call_owner}
+use Rattle.sl_watchdog_law.proofs.Promising.{itself}
+use Rattle.sl_words.proofs.CaseLaws.{is_false, one_value, true_is_false}
 use Rattle.sl_words.proofs.WordLaws.{and_true, some_is_true}
 use Rattle.std.proofs.Common.{ap, arith, inl, inr, refl, subst, sym, ◌∙◌}
 use Rattle.std.proofs.Math.Nat.{le-max_left}
-use Rattle.std.proofs.lemmas.Bool.{and_from}
+use Rattle.std.proofs.lemmas.Bool.{and_from, eq-eqb, eqb-true, not-true}
 use Rattle.std.specs.Option.{option_map_or}
-use Rattle.std.specs.Prelude.{Bool, Contains, IsTrue, List, MatchBool, Some, false, if◌then◌else◌, length, max, nat_lt, not, true, [], ℕ, ◌%◌, ◌&&◌, ◌<◌, ◌==◌, ◌^◌, ◌∷◌, ◌≡◌, ◌≤◌, ◌⊎◌}
+use Rattle.std.specs.Prelude.{Contains, IsTrue, List, MatchBool, Some, false, if◌then◌else◌, length, max, nat_lt, not, true, [], ℕ, ◌%◌, ◌&&◌, ◌<◌, ◌==◌, ◌^◌, ◌∷◌, ◌≡◌, ◌≤◌, ◌⊎◌}
 
 -- ---- frees
 
@@ -43,15 +43,11 @@ record Frees (n : ℕ) (d : Submitted) : Type 0 where
   instance : leader.lver ≡ n
   free : leader.held ≡ false
 
-not_true : (b : Bool) → not b ≡ true → b ≡ false
-not_true true h = absurd (false_is_true h)
-not_true false h = refl
-
 the_free : (n : ℕ) (d : Submitted) → is_free_write n d ≡ true → Frees n d
 the_free n d h =
     let l = some_is_true (λ (x : Leader). x.lver == n && not x.held) (leader_written d) h in
     let both = and_true (l.0.lver == n) (not l.0.held) l.2 in
-    record { leader = l.0; written = l.1; instance = same_number_by l.0.lver n both.0; free = not_true l.0.held both.1 }
+    record { leader = l.0; written = l.1; instance = eqb-true l.0.lver n both.0; free = not-true l.0.held both.1 }
 
 frees_it : (n : ℕ) (d : Submitted) → Frees n d → freed_by d ≡ n
 frees_it n d f =
@@ -72,7 +68,7 @@ FreesNone st es s g =
     (d : Submitted) → Contains (submitted es) d → d.call.session ≡ s.number → (is_lease_call d && is_on st.layout (spot_of_grant g) d.call) ≡ true
     → is_free_write g.lver d ≡ true → ⊥
 
-exclusive_is : (m : Mode) → is_shared m ≡ false → m ≡ Exclusive
+pub exclusive_is : (m : Mode) → is_shared m ≡ false → m ≡ Exclusive
 exclusive_is Exclusive h = refl
 exclusive_is Shared h = absurd (true_is_false h)
 
@@ -95,13 +91,13 @@ refused st t s c g f w spot exclusive held =
     let at : Spot = spot_of_call st.layout c in
     let law : LawfulFreeLeader st t s at c f.leader = subst (λ b. MatchBool b (LawfulTake st t s at c f.leader) (LawfulFreeLeader st t s at c f.leader)) f.free w.ballot in
     let passes : (not (is_shared g.mode) && g.lver == f.leader.lver) ≡ true =
-    and_from (not (is_shared g.mode)) (g.lver == f.leader.lver) (ap (λ b. not b) exclusive) (equal_numbers g.lver f.leader.lver (sym f.instance)) in
+    and_from (not (is_shared g.mode)) (g.lver == f.leader.lver) (ap (λ b. not b) exclusive) (eq-eqb g.lver f.leader.lver (sym f.instance)) in
     true_is_false
     (sym (any_of (λ (h : Grant). not (is_shared h.mode) && h.lver == f.leader.lver) (holdings_on t s at) g passes (subst (λ z. Contains (holdings_on t s z) g) (sym spot) held))
     ∙ law.not_held)
 
 base_is : (g n : ℕ) → (n % g == 0 && nat_lt n (10 ^ 12)) ≡ true → n % g ≡ 0
-base_is g n h = same_number_by (n % g) 0 (and_true (n % g == 0) (nat_lt n (10 ^ 12)) h).0
+base_is g n h = eqb-true (n % g) 0 (and_true (n % g == 0) (nat_lt n (10 ^ 12)) h).0
 
 unfreed_longer : (st : Setting) (e : Entry) (past : Trace) (g : Grant) (s : Session) → Lawful st (e ∷ past) → IsSession st (e ∷ past) s → g.session ≡ s.number
     → Contains (holdings (e ∷ past)) g → is_shared g.mode ≡ false → IsTrue (is_base st.layout g.offset) → FreesNone st past s g → FreesNone st (e ∷ past) s g
@@ -136,7 +132,7 @@ unfreed st (e ∷ past) law g held exclusive s known =
     by rest (inl old) =
         let r = stands_behind st past (lawful-front st (e ∷ []) past law) g old in
         let same : r.session ≡ s = one_value r.session s (session_numbered st (e ∷ past) g.session) (session_more st e past g.session r.session r.known) known in
-        let its : IsSession st (e ∷ past) s = known_as st (e ∷ past) g.session s known in
+        let its : IsSession st (e ∷ past) s = itself st (e ∷ past) g.session s known in
         let number : g.session ≡ s.number = sym (number_is_place st (e ∷ past) g.session s known) in
         unfreed_longer st e past g s law its number held exclusive r.placed (subst (λ x. FreesNone st past x g) same (rest old r.session r.known))
 

@@ -10,13 +10,13 @@ use Rattle.sl_id_state.proofs.Living.{begun_if_joined}
 use Rattle.sl_id_state.proofs.Proven.{grounds}
 use Rattle.sl_law.proofs.LawFacts.{lawful-front}
 use Rattle.sl_law.specs.Lawful.{Lawful}
+use Rattle.sl_plain.proofs.Lists.{contains_cases, contains_first, contains_more}
 use Rattle.sl_run.specs.Runs.{Happening}
 use Rattle.sl_run.specs.Safety.{Found, IsSession, LawfulRun, SessionId, setting_in, trace_of, world_at}
 use Rattle.sl_run.specs.Worlds.{Daemon, Machine, Program, World, daemons_on, new_daemon, next_numbers, setting_of, stamp_now}
 use Rattle.sl_run.specs.declared.event.Event.{Event}
 use Rattle.sl_run.specs.declared.header.Header.{Header}
 use Rattle.sl_run_law.specs.Daemons.{IsSettled}
-use Rattle.sl_session_law.proofs.Making.{contains_cases, contains_first, contains_more}
 use Rattle.sl_session_law.proofs.Owning.{sessions_stay}
 use Rattle.sl_session_law.proofs.Staying.{joined_more, marks_stay}
 use Rattle.sl_session_law.specs.Promises.{IsSession as IsSessionOf}

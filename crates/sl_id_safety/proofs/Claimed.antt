@@ -2,21 +2,21 @@
 use Rattle.sl_course_law.proofs.Distinct.{each_distinct}
 use Rattle.sl_course_law.specs.Stamping.{IsCourseOf}
 use Rattle.sl_front_law.proofs.Having.{contains_left}
-use Rattle.sl_id_safety.proofs.Freed.{standing_joined}
 use Rattle.sl_id_safety.proofs.Seeing.{survey_law}
-use Rattle.sl_id_safety.proofs.Showing.{has_number, shows_number}
-use Rattle.sl_id_safety.proofs.Standing.{given_undecided, joins, no_claim, some_record}
+use Rattle.sl_id_safety.proofs.Showing.{shows_number}
+use Rattle.sl_id_safety.proofs.Standing.{some_record}
 use Rattle.sl_id_safety.specs.Standing.{StandsJoined, sector_offset}
 use Rattle.sl_id_state.proofs.Bridge.{is_there, known}
 use Rattle.sl_id_state.proofs.Keeping.{IsOwnCall, is_place, own_call, step_law}
-use Rattle.sl_id_state.proofs.Listing.{then_some}
 use Rattle.sl_id_state.proofs.Proven.{claims_have_decided, grounds, renewals_have_verified, verify_reads_have_claimed}
+use Rattle.sl_id_state.proofs.Renewing.{given_undecided}
 use Rattle.sl_id_state.proofs.SampleFrames.{join_is}
 use Rattle.sl_id_state.proofs.Tails.{front_at}
 use Rattle.sl_id_state.proofs.Timing.{stamps_order}
 use Rattle.sl_id_state.specs.IdStates.{claim_bytes, comes_before, id_state, index_of, join_course, name_of, own_courses, refused_stamp, said_by, sample_showing, session_at, verifying_sample}
-use Rattle.sl_id_steps.proofs.Alive.{number_is}
+use Rattle.sl_id_steps.proofs.Alive.{joins_at, not_claim}
 use Rattle.sl_id_steps.proofs.ClaimLanding.{landed_here, landing_of_call}
+use Rattle.sl_id_steps.proofs.Seqs.{has_number}
 use Rattle.sl_ids.proofs.StateLaws.{one_place}
 use Rattle.sl_ids.specs.Guards.{terms_of}
 use Rattle.sl_ids.specs.Invariant.{Invariant}
@@ -24,8 +24,10 @@ use Rattle.sl_ids.specs.State.{Session as IdSession, State, shown}
 use Rattle.sl_landing_law.proofs.Listing.{one_call}
 use Rattle.sl_landing_law.proofs.Proven.{landings_are_written}
 use Rattle.sl_landing_law.proofs.Remaining.{landed_are_there}
-use Rattle.sl_place_law.proofs.Finding.{filtered, found_in, partner_of, place_is, same_number}
-use Rattle.sl_place_law.proofs.Looks.{made_below}
+use Rattle.sl_place_law.proofs.Finding.{partner_of, place_is}
+use Rattle.sl_place_law.proofs.Looks.{made_below, stands as standing_joined}
+use Rattle.sl_plain.proofs.Lists.{find_inside, kept, kept_inside}
+use Rattle.sl_plain.proofs.Options.{then_value}
 use Rattle.sl_run.specs.Runs.{Happening}
 use Rattle.sl_run.specs.Safety.{Found, IsSession, LawfulRun, SessionId, setting_in, trace_of, world_at}
 use Rattle.sl_run.specs.Worlds.{Course, Landing, Machine, Program, Sampling, Stamp, World, first_landing, history_of, landed_at, machine_at}
@@ -35,7 +37,6 @@ use Rattle.sl_sample_law.proofs.Numbering.{number_below}
 use Rattle.sl_sample_law.proofs.Proven.{samples_are_landings}
 use Rattle.sl_sample_law.specs.Samples.{IsSampleOf, numbered_landing, sector_place}
 use Rattle.sl_session_law.proofs.Making.{answers_stay}
-use Rattle.sl_session_law.proofs.Naming.{kept}
 use Rattle.sl_session_law.specs.Promises.{IsSession as IsSessionOf}
 use Rattle.sl_sessions.specs.Sessions.{calls_of, is_call_of, is_join_call, is_survey_purpose, session_numbered}
 use Rattle.sl_trace.specs.Traces.{Submitted, new_call, same_place, submitted}
@@ -44,7 +45,7 @@ use Rattle.sl_trace.specs.declared.effects.JoinStep.TheVariants.{ClaimWrite, Fir
 use Rattle.sl_words.proofs.CaseLaws.{no_value, none_some, one_value, some_value, true_is_false}
 use Rattle.sl_words.specs.Words.{choose, first_of_list, some_is}
 use Rattle.std.proofs.Common.{ap, arith, inl, inr, refl, subst, sym, ◌∙◌}
-use Rattle.std.proofs.lemmas.Bool.{cases_lt}
+use Rattle.std.proofs.lemmas.Bool.{cases_lt, eq-eqb, eqb-true}
 use Rattle.std.specs.Option.{option_map_or}
 use Rattle.std.specs.Prelude.{Bool, Contains, List, None, Option, Some, [], bytes_eq, false, is_some, length, slice_get, true, ℕ, ◌&&◌, ◌<◌, ◌∷◌, ◌≡◌, ◌≤◌, ◌⊎◌}
 
@@ -61,7 +62,7 @@ left_early p h xs run m a c at distinct has l there named =
     let machine : k.wrote.machine ≡ a = one_value k.wrote.machine a (machine_at w m) (ap (machine_at w) (sym (ap (λ q. q.0) same)) ∙ k.wrote.at) at in
     let its : k.wrote.course ≡ c =
     one_call a.calls k.wrote.course c distinct (subst (λ (y : Machine). Contains y.calls k.wrote.course) machine k.wrote.has) has
-    (number_is k.wrote.course.call.number c.call.number (k.wrote.number ∙ ap (λ q. q.1) same)) in
+    (eq-eqb k.wrote.course.call.number c.call.number (k.wrote.number ∙ ap (λ q. q.1) same)) in
     subst (λ (x : Course). (s : Stamp) → x.answered ≡ Some s → l.step < s.step) its (λ s is. (k.wrote.before s is).0)
 
 -- The claim's landing came before this step.
@@ -89,10 +90,10 @@ claim_landed p h xs run i f its s inv x is =
     let v : State = id_state w path offset in
     let ls : List Landing = history_of w path offset in
     let at = (is_there w i f its).at in
-    let read = then_some (sample_showing f (claim_bytes w i f)) (join_course i VerifyRead f.machine) x is in
+    let read = then_value (sample_showing f (claim_bytes w i f)) (join_course i VerifyRead f.machine) x is in
     let reads = join_is i VerifyRead f.machine read.0 read.1 in
     let y =
-    then_some (λ (z : Sampling). choose (some_is (λ b. bytes_eq b read.0.sampled) (claim_bytes w i f) && comes_before (refused_stamp f) z) z) (first_of_list read.0.samples) x read.2 in
+    then_value (λ (z : Sampling). choose (some_is (λ b. bytes_eq b read.0.sampled) (claim_bytes w i f) && comes_before (refused_stamp f) z) z) (first_of_list read.0.samples) x read.2 in
     let sample = samples_are_landings p h xs run i.machine f.machine read.0 0 y.0 at reads.has (first_slot read.0.samples y.0 y.1) in
     let made : read.0.made.step < x.step =
     subst (λ (z : Sampling). read.0.made.step < z.step)
@@ -132,10 +133,10 @@ renewed_before w i f c o j job survey =
     (ap (λ (y : Call). is_survey_purpose y.purpose) o.placed.pairs.this.call ∙ survey) o.lawful.law in
     let k = standing_joined (front_at d) f.session law.standing in
     let its : IsSessionOf (setting_in f) (d.entry ∷ d.past) f.session =
-    ap (λ n. session_numbered (setting_in f) (d.entry ∷ d.past) n) (sym (same_number o.placed.pairs.here.call.session f.session.number d.mine)) ∙ o.lawful.its in
-    let join = joins (setting_in f) (d.entry ∷ d.past) f.session o.lawful.lawful its j k.0 job k.1 in
-    let found = found_in (λ (m : Submitted). is_join_call FirstRenewal m.call.purpose) (calls_of (d.entry ∷ d.past) f.session) join.renewal join.first in
-    let mine = filtered (is_call_of f.session) (submitted (d.entry ∷ d.past)) join.renewal found.0 in
+    ap (λ n. session_numbered (setting_in f) (d.entry ∷ d.past) n) (sym (eqb-true o.placed.pairs.here.call.session f.session.number d.mine)) ∙ o.lawful.its in
+    let join = joins_at (setting_in f) (d.entry ∷ d.past) f.session o.lawful.lawful its j k.0 job k.1 in
+    let found = find_inside (λ (m : Submitted). is_join_call FirstRenewal m.call.purpose) (calls_of (d.entry ∷ d.past) f.session) join.renewal join.first in
+    let mine = kept_inside (is_call_of f.session) (submitted (d.entry ∷ d.past)) join.renewal found.0 in
     let inside : Contains (submitted (trace_of f)) join.renewal =
     subst (λ es. Contains (submitted es) join.renewal) (sym d.whole) (answers_stay d.later (d.entry ∷ d.past) join.renewal join.answer mine.0 join.done.0) in
     let r = partner_of (IsCourseOf f.daemon) (own_courses i f.machine) (calls_of (trace_of f) f.session) join.renewal o.known.pairs
@@ -159,7 +160,7 @@ verified_before p h xs run i f its c has survey j job =
     let o = own_call w i f r.0 kn r.1 in
     let law = step_law w i f r.0 o FirstRenewal r.2 in
     let wrote = some_record o.placed.pairs.here.call r.0.call.op (ap (λ (y : Call). y.op) o.placed.pairs.this.call) law.written in
-    by r.0 r.3 (renewals_have_verified p h xs run i f r.0 its r.1 wrote.0 wrote.1 (no_claim r.0.call.purpose r.2)).verified
+    by r.0 r.3 (renewals_have_verified p h xs run i f r.0 its r.1 wrote.0 wrote.1 (not_claim r.0.call.purpose r.2)).verified
   where
     by : (r : Course) → r.made.step ≤ c.made.step → (f.session.job ≡ None) ⊎ ((x : Sampling) × (verifying_sample (world_at p h xs) i f ≡ Some x) × (x.step < r.made.step))
         → (x : Sampling) × (verifying_sample (world_at p h xs) i f ≡ Some x) × (x.step < c.made.step)

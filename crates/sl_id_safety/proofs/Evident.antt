@@ -21,8 +21,9 @@ use Rattle.sl_ids.specs.State.{State}
 use Rattle.sl_ids.specs.Terms.{Terms}
 use Rattle.sl_moment_law.proofs.Following.{kept_past}
 use Rattle.sl_moment_law.specs.Moments.{Of_sample}
-use Rattle.sl_place_law.proofs.Finding.{place_is, same_number}
+use Rattle.sl_place_law.proofs.Finding.{place_is}
 use Rattle.sl_place_law.proofs.Reading.{layout_is}
+use Rattle.sl_plain.proofs.Lists.{any_found, contains_first, contains_more, got_inside}
 use Rattle.sl_run.specs.Runs.{Happening}
 use Rattle.sl_run.specs.Safety.{Found, HasJoined, IsSession, LawfulRun, SessionId, found_generation, is_over, same_lockspace, setting_in, trace_of, world_at}
 use Rattle.sl_run.specs.Worlds.{Program, World, machine_at}
@@ -32,21 +33,18 @@ use Rattle.sl_sample_law.specs.Samples.{sector_place}
 use Rattle.sl_sector.specs.declared.sector.DeltaRec.{DeltaRec}
 use Rattle.sl_sector.specs.declared.sector.DeltaState.TheVariants.{Claimed, Free, Live}
 use Rattle.sl_sector.specs.declared.sector.DeltaState.{DeltaState}
-use Rattle.sl_session_law.proofs.Making.{contains_first, contains_more}
-use Rattle.sl_session_law.proofs.Owning.{got_inside}
 use Rattle.sl_sessions.specs.Sessions.{calls_of, generation_of, joined_after}
 use Rattle.sl_sessions.specs.Watching.{Run, current_run, evidence_in, is_free_among, is_free_state, is_silent, newest_of, seen_records, silence}
 use Rattle.sl_time.specs.Times.{TimingNumbers}
 use Rattle.sl_trace.specs.declared.reply.Evidence.TheVariants.{Freed as FreedIs, Newer as NewerIs, Silent as SilentIs}
 use Rattle.sl_trace.specs.declared.reply.Evidence.{Evidence as TheEvidence}
-use Rattle.sl_watchdog_law.proofs.Finding.{any_found}
 use Rattle.sl_words.proofs.CaseLaws.{true_is_false}
 use Rattle.sl_words.proofs.WordLaws.{and_true}
 use Rattle.sl_words.specs.Words.{choose}
 use Rattle.std.proofs.Common.{ap, arith, inl, inr, refl, subst, sym, ◌∙◌}
 use Rattle.std.proofs.Math.Nat.{mul_comm}
 use Rattle.std.proofs.lemmas.Bool.Decides.{nat_tests}
-use Rattle.std.proofs.lemmas.Bool.{cases_lt}
+use Rattle.std.proofs.lemmas.Bool.{cases_lt, eqb-true, ltb-true}
 use Rattle.std.specs.Prelude.{Bool, Contains, IsTrue, List, None, Option, Some, [], false, is_some, nat_lt, true, ℕ, ◌&&◌, ◌*◌, ◌++◌, ◌+◌, ◌-◌, ◌<◌, ◌==◌, ◌∷◌, ◌≡◌, ◌≤◌, ◌⊎◌}
 
 -- ---- a front where a record that was seen stood
@@ -114,7 +112,7 @@ freed_among : (n : ℕ) (ds : List DeltaRec) → is_free_among n ds ≡ true →
 freed_among n ds is =
     let x = any_found (λ (d : DeltaRec). d.generation == n && is_free_state d.state) ds is in
     let both = and_true (x.0.generation == n) (is_free_state x.0.state) x.2 in
-    (x.0, x.1, inr (free_is x.0.state both.1, same_number x.0.generation n both.0))
+    (x.0, x.1, inr (free_is x.0.state both.1, eqb-true x.0.generation n both.0))
 
 reasons : (a b : Bool) (newest n : ℕ) (s : Option TheEvidence)
     → is_some (elim a as (λ z. Option TheEvidence) [ true ↦ Some (NewerIs newest) | false ↦ elim b as (λ z. Option TheEvidence) [ true ↦ Some (FreedIs n) | false ↦ s ] ]) ≡ true
@@ -134,9 +132,6 @@ silent_by tm n (Some r) is = (r, refl, chosen_by (is_silent tm n r) (SilentIs r.
 counted : (b own : Bool) → elim b as (λ z. Bool) [ true ↦ true | false ↦ own ] ≡ true → (b ≡ true) ⊎ (own ≡ true)
 counted true own is = inl refl
 counted false own is = inr is
-
-lt_is : (m n : ℕ) → nat_lt m n ≡ true → m < n
-lt_is m n is = grind (arith, nat_tests)
 
 -- ---- over, from a front on
 
@@ -213,7 +208,7 @@ evidence_means_over_given reached on silent p h now rest run i k f g j n its cou
         ⊎ (is_some (silence (setting_in f).timing n (current_run (setting_in f).layout j (sightings_of f j))) ≡ true) → is_over k g ≡ true
     seen_by z (inl newer) =
         seen_means_over reached on p h now rest run i k f g j n its also joined same id generation
-        (above n (seen_records (setting_in f).layout j (sightings_of f j)) (lt_is n (newest_of (seen_records (setting_in f).layout j (sightings_of f j))) newer))
+        (above n (seen_records (setting_in f).layout j (sightings_of f j)) (ltb-true n (newest_of (seen_records (setting_in f).layout j (sightings_of f j))) newer))
     seen_by z (inr (inl free)) =
         seen_means_over reached on p h now rest run i k f g j n its also joined same id generation
         (freed_among n (seen_records (setting_in f).layout j (sightings_of f j)) free)
@@ -229,7 +224,7 @@ evidence_means_over_given reached on silent p h now rest run i k f g j n its cou
         let one = and_true (j == f.session.id && nat_lt n (generation_of (trace_of f) f.session)) (is_some (joined_after (trace_of f) f.session)) own in
         let two = and_true (j == f.session.id) (nat_lt n (generation_of (trace_of f) f.session)) one.0 in
         own_means_over reached on p h now rest run i k f g j n its also joined same id generation
-        (same_number j f.session.id two.0, lt_is n (generation_of (trace_of f) f.session) two.1, one.1)
+        (eqb-true j f.session.id two.0, ltb-true n (generation_of (trace_of f) f.session) two.1, one.1)
 
 pub evidences_are_true_given : IdsAreReached → IdsGoOn → SilenceMeansOver → EvidencesAreTrue
 evidences_are_true_given reached on silent p h xs run now rest is i k f g j n evidence also joined same id generation =

@@ -6,11 +6,11 @@ use Rattle.sl_id_state.proofs.Timing.{longer}
 use Rattle.sl_law.specs.Lawful.{Lawful}
 use Rattle.sl_law.specs.LawfulCalls.{may_submit}
 use Rattle.sl_law.specs.LawfulDelta.{LawfulDeltaCall, LawfulFree}
-use Rattle.sl_place_law.proofs.Finding.{filtered, finds, found_in, partner}
-use Rattle.sl_place_law.proofs.Looks.{made_below}
+use Rattle.sl_place_law.proofs.Finding.{finds, partner}
+use Rattle.sl_place_law.proofs.Looks.{made_below, stands as standing_joined}
+use Rattle.sl_plain.proofs.Lists.{contains_cases, contains_none, ends, find_inside, kept, kept_inside}
+use Rattle.sl_session_law.proofs.Freeing.{no_more_by}
 use Rattle.sl_session_law.proofs.Joining.{stage_for}
-use Rattle.sl_session_law.proofs.Making.{contains_cases, contains_none}
-use Rattle.sl_session_law.proofs.Naming.{kept}
 use Rattle.sl_session_law.proofs.Silence.{stage_by}
 use Rattle.sl_session_law.proofs.Staying.{marks_stay}
 use Rattle.sl_session_law.specs.Promises.{IsSession as IsSessionOf}
@@ -29,56 +29,11 @@ use Rattle.std.specs.Prelude.{Bool, Contains, List, None, Option, Some, [], drop
 
 -- ---- lists
 
--- Of two ends of a list the shorter is an end of the longer.
-ends : {A : Type 0} (xs zs ys bs : List A) → xs ++ zs ≡ ys ++ bs → length bs ≤ length zs → (mid : List A) × (zs ≡ mid ++ bs)
-ends [] zs ys bs h le = (ys, h)
-ends (x ∷ xs) zs [] bs h le =
-    absurd (let same : suc (length (xs ++ zs)) ≡ length bs = ap (λ us. length us) h in omega (arith, same, le, longer xs zs))
-ends (x ∷ xs) zs (y ∷ ys) bs h le = ends xs zs ys bs (ap (λ us. drop 1 us) h) le
-
 -- ---- the law of the free
 
 free_law : (st : Setting) (t : Trace) (s : Session) (c : Submitted) (p : Purpose) → is_free_purpose p ≡ true → LawfulDeltaCall st t s c p → LawfulFree st t s c
 free_law st t s c (Leaving j) is law = law
 free_law st t s c p is law = absurd (true_is_false (sym is))
-
-no_more_by : (joined removed refused : Option ℕ) (free : Option Submitted) (joining : Stage) (k : ℕ) → joined ≡ Some k → is_some free ≡ true
-    → may_submit (stage_by joined removed refused free joining) ≡ false
-no_more_by None removed refused free joining k is h = absurd (none_some k is)
-no_more_by (Some j) (Some i) refused free joining k is h = refl
-no_more_by (Some j) None refused (Some m) joining k is h = refl
-no_more_by (Some j) None refused None joining k is h = absurd (true_is_false (sym h))
-
-abbrev is_standing : Stage → Bool
-is_standing Standing = true
-is_standing stage = false
-
-not_by_step : (step : JoinStep) (done : Bool) → is_standing (stage_after step done) ≡ false
-not_by_step FirstRead done = refl
-not_by_step WatchRead done = refl
-not_by_step DecidingRead done = refl
-not_by_step ClaimWrite false = refl
-not_by_step ClaimWrite true = refl
-not_by_step VerifyRead done = refl
-not_by_step FirstRenewal done = refl
-
-not_by_purpose : (p : Purpose) (done : Bool) → is_standing (stage_for p done) ≡ false
-not_by_purpose (Joining j step) done = not_by_step step done
-not_by_purpose p done = refl
-
-not_in : (ms : List Submitted) → is_standing (stage_in ms) ≡ false
-not_in [] = refl
-not_in (m ∷ ms) = not_by_purpose m.call.purpose (is_answered_ok m)
-
-standing_by : (joined removed refused : Option ℕ) (free : Option Submitted) (ms : List Submitted) → is_standing (stage_by joined removed refused free (stage_in ms)) ≡ true
-    → (k : ℕ) × (joined ≡ Some k)
-standing_by (Some k) removed refused free ms is = (k, refl)
-standing_by None removed (Some k) free ms is = absurd (false_is_true is)
-standing_by None removed None free ms is = absurd (true_is_false (sym is ∙ not_in ms))
-
-pub standing_joined : (t : Trace) (s : Session) → stage_of t s ≡ Standing → (k : ℕ) × (joined_after t s ≡ Some k)
-standing_joined t s is =
-    standing_by (joined_after t s) (removed_after t s) (refused_after t s) (free_write (calls_of t s)) (calls_of t s) (ap (λ x. is_standing x) is)
 
 -- ---- nothing is newer than the free
 
@@ -88,7 +43,7 @@ none_newer : (st : Setting) (es : Trace) (s : Session) (m x : Submitted) (older 
 none_newer st es s m x older behind h its d there free e =
     let t : Trace = front_at d in
     let n = partner IsLater older (calls_of t s) x d.prior there in
-    let early = made_below t n.0 (filtered (is_call_of s) (submitted t) n.0 n.1).0 in
+    let early = made_below t n.0 (kept_inside (is_call_of s) (submitted t) n.0 n.1).0 in
     let at : suc (length e.past) ≤ suc (length d.past) = omega (arith, early, n.2.same.at, e.place) in
     let mid = ends d.later (d.entry ∷ d.past) e.later (e.entry ∷ e.past) (sym d.whole ∙ e.whole) at in
     let law = free_law st (front_at e) s (new_call (length e.past) e.entry.reading x.call) x.call.purpose free (lawful_call st es s x behind e h its).law in
@@ -119,7 +74,7 @@ behind_answered st es s x m older h its d free there =
 pub freed_answered : (st : Setting) (es : Trace) (s : Session) → Lawful st es → IsSessionOf st es s → (x : Submitted) → free_write (calls_of es s) ≡ Some x → (m : Submitted)
     → Contains (calls_of es s) m → is_free_purpose m.call.purpose ≡ false → (a : Answered) × (m.answer ≡ Some a)
 freed_answered st es s h its x is m there other =
-    let found = found_in (λ (y : Submitted). is_free_purpose y.call.purpose) (calls_of es s) x is in
+    let found = find_inside (λ (y : Submitted). is_free_purpose y.call.purpose) (calls_of es s) x is in
     let at = stands (calls_of es s) x found.0 in
     by at.newer at.older (subst (λ ms. AreMade es s ms) at.whole (all_made es s)) (subst (λ ms. Contains ms m) at.whole there) found.1
   where

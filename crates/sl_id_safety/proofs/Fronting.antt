@@ -7,15 +7,16 @@ use Rattle.sl_moment_law.proofs.Following.{follows, keeps, kept_before, kept_pas
 use Rattle.sl_moment_law.proofs.Landing.{event_lands}
 use Rattle.sl_moment_law.proofs.Later.{fronts_go}
 use Rattle.sl_moment_law.specs.Moments.{IsKept}
+use Rattle.sl_plain.proofs.Lists.{contains_cases, contains_none}
 use Rattle.sl_run.specs.Events.{first_change, happens, input_of, machine_of, next_step}
 use Rattle.sl_run.specs.Runs.{Happening, world_after}
 use Rattle.sl_run.specs.Safety.{LawfulRun, world_at}
 use Rattle.sl_run.specs.Worlds.{Landing, Program, World, world_with}
 use Rattle.sl_run.specs.declared.header.Header.{Header}
 use Rattle.sl_run_law.proofs.Going.{run_goes}
-use Rattle.sl_session_law.proofs.Making.{contains_cases, contains_none}
 use Rattle.std.proofs.Common.{ap, arith, inl, inr, refl, subst, sym, ◌∙◌}
 use Rattle.std.proofs.lemmas.Bool.{cases_lt}
+use Rattle.std.proofs.lemmas.List.{append-nil}
 use Rattle.std.specs.Prelude.{Contains, List, [], length, ℕ, ◌++◌, ◌+◌, ◌<◌, ◌∷◌, ◌≡◌, ◌≤◌, ◌⊎◌}
 
 -- ---- a front for each step
@@ -39,10 +40,6 @@ step_next p h now x run =
     let one : HasOneStep w x.0 x.1 = one_step w x.0 x.1 last.1 in
     ap (λ (v : World). v.step) (run_after (world_with p h) now (x ∷ []))
     ∙ two_steps w.step (world_after w (x ∷ [])).step (length x.1) (run_goes w (x ∷ [])).step (ap (λ fxs. length fxs) one.one)
-
-nothing_more : (now : List Happening) → now ++ [] ≡ now
-nothing_more [] = refl
-nothing_more (y ∷ now) = ap (λ xs. y ∷ xs) (nothing_more now)
 
 append_more : (now rest : List Happening) (x : Happening) → (now ++ rest) ++ x ∷ [] ≡ now ++ (rest ++ x ∷ [])
 append_more [] rest x = refl
@@ -72,7 +69,7 @@ step_more p h now x run each n le = by (cases_lt (world_at p h now).step n) wher
   by : ((world_at p h now).step < n) ⊎ (n ≤ (world_at p h now).step) → FrontAt p h (now ++ x ∷ []) n
   by (inl above) =
       let next = step_next p h now x run in
-      record { now = now ++ x ∷ []; rest = []; whole = sym (nothing_more (now ++ x ∷ [])); reaches = le; first = omega (arith, next, above) }
+      record { now = now ++ x ∷ []; rest = []; whole = sym (append-nil (now ++ x ∷ [])); reaches = le; first = omega (arith, next, above) }
   by (inr old) = more p h now x n (each n old)
 
 pub front_at : (p : Program) (h : Header) (xs : List Happening) → LawfulRun p h xs → (n : ℕ) → n ≤ (world_at p h xs).step → FrontAt p h xs n

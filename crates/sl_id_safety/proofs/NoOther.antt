@@ -16,7 +16,7 @@ use Rattle.sl_id_safety.proofs.Owning.{own_above}
 use Rattle.sl_id_safety.proofs.Seeing.{IsSeen, seen_look}
 use Rattle.sl_id_safety.proofs.Showing.{StoodAt, stood_at}
 use Rattle.sl_id_safety.proofs.Silence.{freed_by, goes_on, not_reset, over_cases}
-use Rattle.sl_id_safety.proofs.Standing.{joined_stand, some_of}
+use Rattle.sl_id_safety.proofs.Standing.{joined_stand}
 use Rattle.sl_id_safety.specs.Interface.{JoinedReadNoOther}
 use Rattle.sl_id_safety.specs.Standing.{sector_offset}
 use Rattle.sl_id_state.proofs.Bridge.{IsKnown, is_there, known}
@@ -30,12 +30,12 @@ use Rattle.sl_ids.proofs.WholeRuns.{reached_kept}
 use Rattle.sl_ids.specs.Guards.{terms_of}
 use Rattle.sl_ids.specs.State.{Session as IdSession}
 use Rattle.sl_ids.specs.Terms.{Terms}
-use Rattle.sl_landing_law.proofs.Listing.{contains_map}
 use Rattle.sl_law.specs.Lawful.{Lawful}
 use Rattle.sl_moment_law.proofs.Following.{kept_past}
 use Rattle.sl_moment_law.proofs.Stamps.{answer_is_stamp}
 use Rattle.sl_moment_law.specs.Moments.{Of_stamp}
-use Rattle.sl_place_law.proofs.Finding.{equal_numbers, found_in}
+use Rattle.sl_plain.proofs.Lists.{contains_map, find_inside, kept}
+use Rattle.sl_plain.proofs.Options.{some_of}
 use Rattle.sl_run.specs.Runs.{Happening}
 use Rattle.sl_run.specs.Safety.{Found, HasJoined, IsSession, LawfulRun, ReadsNoOther, SessionId, free_landed, has_write_in_flight, is_over, setting_in, trace_of, was_reset, world_at}
 use Rattle.sl_run.specs.Worlds.{Daemon, Machine, Program, World, daemons_on, machine_at}
@@ -44,7 +44,6 @@ use Rattle.sl_sample_law.proofs.Proven.{samples_are_landings}
 use Rattle.sl_sample_law.specs.Samples.{sector_place}
 use Rattle.sl_sector.specs.declared.sector.DeltaRec.{DeltaRec}
 use Rattle.sl_session_law.proofs.Making.{old_stays, same_answered}
-use Rattle.sl_session_law.proofs.Naming.{kept}
 use Rattle.sl_session_law.proofs.Staying.{joined_more}
 use Rattle.sl_sessions.specs.Sessions.{Session, calls_of, ended_after, free_write, generation_of, is_call_of, is_free_purpose, is_joined, is_survey_purpose, joined_after, refused_after, removed_after, shows_other, shows_other_in, survey_in}
 use Rattle.sl_sessions.specs.Watching.{Sighting}
@@ -62,7 +61,7 @@ use Rattle.sl_words.proofs.CaseLaws.{is_false, no_value, none_some, one_value, s
 use Rattle.sl_words.proofs.WordLaws.{and_true}
 use Rattle.sl_words.specs.Words.{choose, some_is}
 use Rattle.std.proofs.Common.{ap, arith, inl, inr, refl, subst, sym, ◌∙◌}
-use Rattle.std.proofs.lemmas.Bool.{and_from}
+use Rattle.std.proofs.lemmas.Bool.{and_from, eq-eqb}
 use Rattle.std.specs.Cmp.Lexicographic.{nat_list_eq_equiv}
 use Rattle.std.specs.Option.{option_or}
 use Rattle.std.specs.Prelude.{Bool, Contains, List, None, Option, Some, [], bytes_eq, false, is_none, is_some, length, not, option_and_then, true, ℕ, ◌&&◌, ◌++◌, ◌+◌, ◌-◌, ◌<◌, ◌==◌, ◌∷◌, ◌≡◌, ◌≤◌, ◌⊎◌}
@@ -178,7 +177,7 @@ asked_waits p h now x i f g past e b t =
     subst (λ (m : Submitted). m.answer ≡ None) (one_value a.0 t.told.asked (call_numbered past t.told.number) a.1.found t.told.found) a.1.waits
 
 asked_there : (st : Setting) (es : Trace) (s : Session) (i : Input) (t : ToldOther st es s i) → Contains (submitted es) t.told.asked × ((t.told.asked.call.number == t.told.number) ≡ true)
-asked_there st es s i t = found_in (λ (m : Submitted). m.call.number == t.told.number) (submitted es) t.told.asked t.told.found
+asked_there st es s i t = find_inside (λ (m : Submitted). m.call.number == t.told.number) (submitted es) t.told.asked t.told.found
 
 kept_so : (f : Found) → (was_reset f ≡ true → ⊥) → was_reset f ≡ false
 kept_so f never = is_false (was_reset f) never
@@ -313,7 +312,7 @@ reads_own reached on p h now x i f g past e b t =
     let host : t.record_read.host ≡ Some (setting_in g).name = own.its ∙ ap (λ y. Some y) (name ∙ ap (λ (st : Setting). st.name) b.setting) in
     let both =
     and_from (t.record_read.generation == generation_of past g.session) (some_is (λ n. bytes_eq n (setting_in g).name) t.record_read.host)
-    (equal_numbers t.record_read.generation (generation_of past g.session) generation)
+    (eq-eqb t.record_read.generation (generation_of past g.session) generation)
     (ap (λ o. some_is (λ n. bytes_eq n (setting_in g).name) o) host ∙ nat_list_eq_equiv.refl (setting_in g).name) in
     true_is_false (sym t.other ∙ ap not both)
 

@@ -15,14 +15,13 @@ use Rattle.sl_ids.specs.Invariant.{Invariant, IsOwnRecord}
 use Rattle.sl_ids.specs.Listed.{no_landing}
 use Rattle.sl_ids.specs.State.{Content, Landing as IdLanding, Session as IdSession, SessionId as IdName, State}
 use Rattle.sl_ids.specs.Terms.{Terms}
-use Rattle.sl_place_law.proofs.Finding.{equal_numbers}
 use Rattle.sl_run.specs.Safety.{world_at}
 use Rattle.sl_run.specs.Worlds.{Landing, World, content, first_landing, history_of}
 use Rattle.sl_sample_law.specs.Samples.{numbered_landing}
 use Rattle.sl_sector.specs.Spelling.{delta_in}
 use Rattle.sl_trace.specs.Traces.{same_place}
 use Rattle.std.proofs.Common.{ap, arith, inl, inr, refl, subst, sym, ◌∙◌}
-use Rattle.std.proofs.lemmas.Bool.{cases_lt}
+use Rattle.std.proofs.lemmas.Bool.{cases_lt, eq-eqb}
 use Rattle.std.specs.Option.{option_map_or}
 use Rattle.std.specs.Prelude.{Bool, List, None, Option, Some, [], cond, false, filter, find, length, option_map, suc, true, ℕ, ◌++◌, ◌<◌, ◌∷◌, ◌≡◌, ◌⊎◌}
 
@@ -51,7 +50,7 @@ pub newest_stands : (w : World) (path : List ℕ) (offset : ℕ) → HasTop (his
 newest_stands w path offset = has_top (λ l. same_place l.path l.offset path offset) w.landings (first_landing w path offset)
 
 pub numbered_top : (l : Landing) (ls : List Landing) → numbered_landing (l ∷ ls) (length ls) ≡ Some l
-numbered_top l ls = ap (λ b. elim b as (λ z. Option Landing) [ true ↦ Some l | false ↦ numbered_landing ls (length ls) ]) (equal_numbers (length ls) (length ls) refl)
+numbered_top l ls = ap (λ b. elim b as (λ z. Option Landing) [ true ↦ Some l | false ↦ numbered_landing ls (length ls) ]) (eq-eqb (length ls) (length ls) refl)
 
 -- ---- the writer of the newest landing
 

@@ -1,9 +1,9 @@
 -- A joined session that has ended, or has written its free, makes no call any more: its calls stay, but for answers.
-use Rattle.sl_id_state.proofs.Listing.{filter_pairs, find_pairs}
+use Rattle.sl_id_state.proofs.Beside.{filter_pairs}
+use Rattle.sl_id_state.proofs.Listing.{find_pairs}
 use Rattle.sl_id_state.proofs.Tails.{AreLater, IsLater, all_again, all_still, marked_later}
 use Rattle.sl_law.proofs.LawFacts.{lawful-front}
 use Rattle.sl_law.specs.Lawful.{Lawful}
-use Rattle.sl_place_law.proofs.Finding.{same_number}
 use Rattle.sl_session_law.proofs.Freeing.{freed_are_silent}
 use Rattle.sl_session_law.proofs.Owning.{sessions_stay}
 use Rattle.sl_session_law.proofs.Silence.{ended_are_silent}
@@ -15,6 +15,7 @@ use Rattle.sl_trace.specs.declared.effects.Call.{Call}
 use Rattle.sl_trace.specs.declared.effects.Entry.{Entry}
 use Rattle.sl_words.proofs.CaseLaws.{is_false}
 use Rattle.std.proofs.Common.{ap, inl, inr, refl, subst, sym, ◌∙◌}
+use Rattle.std.proofs.lemmas.Bool.{eqb-true}
 use Rattle.std.specs.Prelude.{List, Some, [], cond, false, filter, fold, length, slice_get, suc, zero, ℕ, ◌++◌, ◌==◌, ◌∷◌, ◌≡◌, ◌⊎◌}
 
 -- ---- an entry without a call of the session
@@ -56,4 +57,4 @@ quiet_stays st [] es s k h its joined quiet = all_still (calls_of es s)
 quiet_stays st (e ∷ newer) es s k h its joined quiet =
     let rest = quiet_stays st newer es s k (lawful-front st (e ∷ []) (newer ++ es) h) its joined quiet in
     all_again (calls_of (e ∷ newer ++ es) s) (calls_of (newer ++ es) s) (calls_of es s)
-    (entry_apart e (newer ++ es) s (λ j c at. is_false (c.session == s.number) (λ mine. no_call st e newer es s k h its joined quiet rest j c at (same_number c.session s.number mine)))) rest
+    (entry_apart e (newer ++ es) s (λ j c at. is_false (c.session == s.number) (λ mine. no_call st e newer es s k h its joined quiet rest j c at (eqb-true c.session s.number mine)))) rest

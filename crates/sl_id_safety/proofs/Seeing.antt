@@ -6,15 +6,16 @@ use Rattle.sl_course_law.specs.Stamping.{AnswersAgree, IsAnsweredAs, IsCourseOf}
 use Rattle.sl_id_safety.specs.Interface.{sightings_of}
 use Rattle.sl_id_state.proofs.Bridge.{known}
 use Rattle.sl_id_state.proofs.Keeping.{own_call}
-use Rattle.sl_id_state.proofs.Listing.{map_some, then_some}
 use Rattle.sl_id_state.proofs.Proven.{grounds}
 use Rattle.sl_id_state.proofs.Tails.{front_at}
 use Rattle.sl_id_state.specs.IdStates.{content_of, own_courses, said_by}
 use Rattle.sl_landing_law.proofs.Listing.{one_call}
 use Rattle.sl_law.specs.LawfulDelta.{LawfulDeltaCall, LawfulSurvey}
-use Rattle.sl_place_law.proofs.Finding.{equal_numbers, filtered, given_by, partner_of}
+use Rattle.sl_place_law.proofs.Finding.{given_by, partner_of}
 use Rattle.sl_place_law.proofs.Proven.{promised}
 use Rattle.sl_place_law.proofs.Reading.{read_of}
+use Rattle.sl_plain.proofs.Lists.{kept_inside, there_is}
+use Rattle.sl_plain.proofs.Options.{mapped_value, then_value}
 use Rattle.sl_run.specs.Events.{sectors_of}
 use Rattle.sl_run.specs.Runs.{Happening}
 use Rattle.sl_run.specs.Safety.{Found, IsSession, LawfulRun, SessionId, is_course_of, setting_in, trace_of, world_at}
@@ -33,6 +34,7 @@ use Rattle.sl_trace.specs.declared.effects.Purpose.{Purpose}
 use Rattle.sl_words.proofs.CaseLaws.{none_some, some_value, true_is_false}
 use Rattle.sl_words.specs.Words.{choose}
 use Rattle.std.proofs.Common.{ap, arith, refl, subst, sym, ◌∙◌}
+use Rattle.std.proofs.lemmas.Bool.{eq-eqb}
 use Rattle.std.specs.Prelude.{Bool, Contains, List, None, Option, Some, [], false, length, option_and_then, option_map, slice_get, suc, true, zero, ℕ, ◌-◌, ◌<◌, ◌==◌, ◌∷◌, ◌≡◌, ◌≤◌}
 
 -- The sample of a survey of the session that shows the record.
@@ -55,11 +57,6 @@ pub record IsSighted (w : World) (i : SessionId) (f : Found) (j : ℕ) (x : Sigh
   pub stamp : Stamp
   pub answered : seen.course.answered ≡ Some stamp
   pub after : reading_of stamp.clock ≡ x.after
-
-there_is : {A : Type 0} (xs : List A) (k : ℕ) → k < length xs → (x : A) × (slice_get xs k ≡ Some x)
-there_is [] k lt = absurd (omega (arith, lt))
-there_is (x ∷ xs) zero lt = (x, refl)
-there_is (x ∷ xs) (suc k) lt = there_is xs k (omega (arith, lt))
 
 pub survey_law : (st : Setting) (t : Trace) (s : Session) (c : Submitted) (p : Purpose) → is_survey_purpose p ≡ true → LawfulDeltaCall st t s c p → LawfulSurvey st t s c
 survey_law st t s c Survey is law = law
@@ -87,8 +84,8 @@ look_by : (g : Layout) (j : ℕ) (m : Submitted) (x : Sighting) (b : Bool) → i
     → elim b as (λ z. Option Sighting) [ false ↦ None | true ↦ option_and_then (λ a. option_map (look_in g j m a) (bytes_given a.answer)) m.answer ] ≡ Some x → IsLook g j m x
 look_by g j m x false at is = absurd (none_some x is)
 look_by g j m x true at is =
-    let a = then_some (λ a. option_map (look_in g j m a) (bytes_given a.answer)) m.answer x is in
-    let bytes = map_some (look_in g j m a.0) (bytes_given a.0.answer) x a.2 in
+    let a = then_value (λ a. option_map (look_in g j m a) (bytes_given a.answer)) m.answer x is in
+    let bytes = mapped_value (look_in g j m a.0) (bytes_given a.0.answer) x a.2 in
     record {
       survey = at;
       bytes = bytes.0;
@@ -116,11 +113,11 @@ seen_look p h now run i f its j low high m there x look d spells =
     let law = survey_law (setting_in f) (front_at o.placed.made) f.session (new_call (length o.placed.made.past) o.placed.made.entry.reading o.placed.pairs.here.call)
     o.placed.pairs.here.call.purpose (ap (λ (y : Call). is_survey_purpose y.purpose) call ∙ look.survey) o.lawful.law in
     let op : m.call.op ≡ ReadSectors (setting_in f).layout.hosts = ap (λ (y : Call). y.op) (sym call) ∙ law.whole.2 in
-    let read = read_of promised p h now run i.machine f.machine f.daemon kn.there.at kn.there.has m (filtered (is_call_of f.session) (submitted (trace_of f)) m there).0
+    let read = read_of promised p h now run i.machine f.machine f.daemon kn.there.at kn.there.has m (kept_inside (is_call_of f.session) (submitted (trace_of f)) m there).0
     (setting_in f).layout.hosts op look.bytes look.given in
     let same : r.0 ≡ read.course =
-    one_call f.machine.calls r.0 read.course (each_distinct p h now run i.machine f.machine kn.there.at) (filtered (is_course_of i) f.machine.calls r.0 r.1).0 read.has
-    (equal_numbers r.0.call.number read.course.call.number (ap (λ (y : Call). y.number) (sym r.2.call ∙ read.is.call))) in
+    one_call f.machine.calls r.0 read.course (each_distinct p h now run i.machine f.machine kn.there.at) (kept_inside (is_course_of i) f.machine.calls r.0 r.1).0 read.has
+    (eq-eqb r.0.call.number read.course.call.number (ap (λ (y : Call). y.number) (sym r.2.call ∙ read.is.call))) in
     let hosts : length read.course.samples ≡ w.layout.hosts = read.whole ∙ ap sectors_of op ∙ ap (λ (g : Layout). g.hosts) layout in
     let slot = there_is read.course.samples (j - 1) (within j w.layout.hosts (length read.course.samples) low high hosts) in
     let heard : IsAnsweredAs f.daemon read.course look.answer = subst (λ o. AnswersAgree f.daemon read.course o) look.its read.is.answers in
@@ -156,7 +153,7 @@ pub looked : (p : Program) (h : Header) (now : List Happening) → LawfulRun p h
 looked p h now run i f its j low high x there d spells =
     let g : Layout = (setting_in f).layout in
     let m = given_by (look_of g j) (calls_of (trace_of f) f.session) x there in
-    let e = then_some (λ (y : DeltaRec). choose (y.id == j) y) (delta_in (record_in g x.bytes)) d spells in
+    let e = then_value (λ (y : DeltaRec). choose (y.id == j) y) (delta_in (record_in g x.bytes)) d spells in
     seen_look p h now run i f its j low high m.0 m.1 x (look_by g j m.0 x (is_survey_purpose m.0.call.purpose) refl m.2) d
     (e.1 ∙ ap (λ y. Some y) (chosen (e.0.id == j) e.0 d e.2))
 

@@ -8,9 +8,9 @@ use Rattle.sl_id_safety.specs.Interface.{OverAreSettled}
 use Rattle.sl_id_state.proofs.Bridge.{IsKnown}
 use Rattle.sl_id_state.proofs.Frames.{flying_of, is_running, open_while}
 use Rattle.sl_id_state.proofs.Tails.{IsLater}
-use Rattle.sl_id_state.proofs.Timing.{answer_past}
 use Rattle.sl_id_state.specs.IdStates.{own_courses}
-use Rattle.sl_place_law.proofs.Finding.{equal_numbers, filtered, partner, partner_of}
+use Rattle.sl_place_law.proofs.Finding.{partner, partner_of}
+use Rattle.sl_plain.proofs.Lists.{any_of, kept_inside}
 use Rattle.sl_run.specs.Runs.{Happening}
 use Rattle.sl_run.specs.Safety.{Found, LawfulRun, SessionId, free_landed, has_write_in_flight, is_over, setting_in, trace_of, was_reset, world_at}
 use Rattle.sl_run.specs.Worlds.{Course, Daemon, Program, Stamp, World, is_write_course, may_land}
@@ -18,11 +18,11 @@ use Rattle.sl_run.specs.declared.header.Header.{Header}
 use Rattle.sl_sessions.specs.Sessions.{calls_of, ended_after, free_write, is_call_of, is_free_purpose}
 use Rattle.sl_trace.specs.Traces.{Answered, Submitted, is_write, submitted}
 use Rattle.sl_trace.specs.declared.effects.Call.{Call}
-use Rattle.sl_watchdog_law.proofs.Finding.{any_of}
+use Rattle.sl_watchdog_law.proofs.Joins.{answered_within}
 use Rattle.sl_words.proofs.CaseLaws.{none_some, some_value, true_is_false}
 use Rattle.sl_words.specs.Words.{some_is}
 use Rattle.std.proofs.Common.{ap, inl, inr, refl, subst, sym, ◌∙◌}
-use Rattle.std.proofs.lemmas.Bool.{and_from}
+use Rattle.std.proofs.lemmas.Bool.{and_from, eq-eqb}
 use Rattle.std.specs.Prelude.{Contains, List, None, Option, Some, false, is_none, is_some, length, true, ◌&&◌, ◌<◌, ◌==◌, ◌||◌, ◌≡◌, ◌⊎◌}
 
 -- ---- a write of a running daemon's session that is over is answered
@@ -32,7 +32,7 @@ unanswered_flies : (w : World) (i : SessionId) (f : Found) → IsKnown w i f →
 unanswered_flies w i f kn runs n there writes none =
     let r = partner_of (IsCourseOf f.daemon) (own_courses i f.machine) (calls_of (trace_of f) f.session) n kn.pairs there in
     let unmet : r.0.answered ≡ None = subst (λ o. AnswersAgree f.daemon r.0 o) none r.2.answers in
-    let runs' : is_running i.daemon f.machine ≡ true = ap (λ o. some_is (λ (d : Daemon). d.number == i.daemon) o) runs ∙ equal_numbers f.daemon.number i.daemon kn.there.daemon in
+    let runs' : is_running i.daemon f.machine ≡ true = ap (λ o. some_is (λ (d : Daemon). d.number == i.daemon) o) runs ∙ eq-eqb f.daemon.number i.daemon kn.there.daemon in
     let opens : open_while (is_running i.daemon f.machine) r.0 ≡ true =
     ap (λ b. open_while b r.0) runs' ∙ ap (λ o. is_none o && (true || may_land r.0)) unmet in
     flying_of i f.machine
@@ -75,18 +75,18 @@ over_are_settled p h now rest run i f g its also joined over c has writes other 
     let call : n.0.call ≡ c.call = sym n.2.same.call ∙ m.2.call in
     subst (λ (x : Stamp). x.step < (world_at p h now).step) same
     (old_stamp p h now rest run i f g on told.0.at told.2.stamp
-    (by on m.0 (filtered (is_call_of g.session) (submitted (trace_of g)) m.0 m.1).0 told.0 told.1 n.0 n.1 n.2
+    (by on m.0 (kept_inside (is_call_of g.session) (submitted (trace_of g)) m.0 m.1).0 told.0 told.1 n.0 n.1 n.2
     (ap (λ (y : Call). is_write y.op) call ∙ writes) (ap (λ (y : Call). is_free_purpose y.purpose) call ∙ other) on.running) told.2.entry)
   where
     early : (on : GoesOn p h now rest i f g) (m : Submitted) (a : Answered) → m.answer ≡ Some a → (n : Submitted) → Contains (calls_of (trace_of f) f.session) n → IsLater m n
         → (b : Answered) × (n.answer ≡ Some b) → a.at < length (trace_of f)
     early on m a is n there r b =
-        answer_past (trace_of f) n a (filtered (is_call_of f.session) (submitted (trace_of f)) n there).0
+        answered_within (trace_of f) n a (kept_inside (is_call_of f.session) (submitted (trace_of f)) n there).0
         (b.1 ∙ ap (λ y. Some y) (some_value b.0 a (sym (ap (λ (x : Submitted). x.answer) (r.stays b.0 b.1) ∙ b.1) ∙ is)))
 
     by : (on : GoesOn p h now rest i f g) (m : Submitted) → Contains (submitted (trace_of g)) m → (a : Answered) → m.answer ≡ Some a → (n : Submitted)
         → Contains (calls_of (trace_of f) f.session) n → IsLater m n → is_write n.call.op ≡ true → is_free_purpose n.call.purpose ≡ false
         → (f.machine.daemon ≡ Some f.daemon) ⊎ (trace_of g ≡ trace_of f) → a.at < length (trace_of f)
-    by on m inside a is n there r write free (inr same) = subst (λ es. a.at < length es) same (answer_past (trace_of g) m a inside is)
+    by on m inside a is n there r write free (inr same) = subst (λ es. a.at < length es) same (answered_within (trace_of g) m a inside is)
     by on m inside a is n there r write free (inl runs) =
         early on m a is n there r (answered_if_over p h now (fronts_are_lawful p h now rest run) i f on.before runs over n there write free)

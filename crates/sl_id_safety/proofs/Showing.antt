@@ -5,9 +5,10 @@ use Rattle.sl_front_law.proofs.Having.{contains_append, contains_left, contains_
 use Rattle.sl_id_safety.proofs.Fronting.{FrontAt, landed_before, landed_since}
 use Rattle.sl_id_safety.proofs.Owning.{newest_stands, numbered_top}
 use Rattle.sl_id_state.proofs.Keeping.{is_place}
-use Rattle.sl_id_state.proofs.SectorFrames.{at_place, history_grows}
+use Rattle.sl_id_state.proofs.SectorFrames.{at_place, first_same, history_grows}
 use Rattle.sl_id_state.specs.IdStates.{id_state, landing_of, said_by}
 use Rattle.sl_id_state.specs.Promises.{IsIdPlace}
+use Rattle.sl_id_steps.proofs.Seqs.{has_number}
 use Rattle.sl_id_world.specs.Reaching.{IdsAreReached}
 use Rattle.sl_ids.proofs.DerivedLaws.{watchdogs}
 use Rattle.sl_ids.proofs.StateLaws.{one_place}
@@ -17,8 +18,9 @@ use Rattle.sl_ids.specs.Listed.{no_landing}
 use Rattle.sl_ids.specs.State.{Content, IsLast, State, shown}
 use Rattle.sl_moment_law.proofs.Following.{kept_past}
 use Rattle.sl_moment_law.specs.Moments.{Of_landing}
-use Rattle.sl_place_law.proofs.Finding.{filtered, numbered_inside, place_is}
-use Rattle.sl_place_law.proofs.Reading.{header_is, layout_is}
+use Rattle.sl_place_law.proofs.Finding.{numbered_inside, place_is}
+use Rattle.sl_place_law.proofs.Reading.{header_is, in_history, layout_is}
+use Rattle.sl_plain.proofs.Lists.{contains_cases, contains_first, contains_none, kept, kept_inside}
 use Rattle.sl_run.specs.Runs.{Happening}
 use Rattle.sl_run.specs.Safety.{LawfulRun, world_at}
 use Rattle.sl_run.specs.Worlds.{Course, Landing, Program, Sampling, World, first_landing, history_of, landed_at, world_with}
@@ -26,8 +28,6 @@ use Rattle.sl_run.specs.declared.header.Header.{Header}
 use Rattle.sl_run_law.proofs.Going.{run_goes}
 use Rattle.sl_sample_law.proofs.Numbering.{number_below, number_stays}
 use Rattle.sl_sample_law.specs.Samples.{IsSampleOf, numbered_landing, sector_place}
-use Rattle.sl_session_law.proofs.Making.{contains_cases, contains_first, contains_none}
-use Rattle.sl_session_law.proofs.Naming.{kept}
 use Rattle.sl_trace.specs.Traces.{same_place}
 use Rattle.std.proofs.Common.{ap, arith, inl, inr, refl, subst, sym, ◌∙◌}
 use Rattle.std.proofs.lemmas.Bool.{cases_lt}
@@ -36,38 +36,10 @@ use Rattle.std.specs.Prelude.{Contains, List, Some, [], length, ℕ, ◌++◌, �
 
 -- ---- numbers of landings
 
-pub has_number : (ls : List Landing) (l : Landing) → Contains ls l → (j : ℕ) × (numbered_landing ls j ≡ Some l)
-has_number [] l there = absurd (contains_none l there)
-has_number (x ∷ ls) l there =
-    elim (contains_cases x ls l there) as (λ z. (j : ℕ) × (numbered_landing (x ∷ ls) j ≡ Some l)) [
-      | inl here ↦ (length ls, numbered_top x ls ∙ ap (λ y. Some y) here)
-      | inr old ↦ let r = has_number ls l old in (r.0, number_stays (x ∷ []) ls r.0 l r.1)
-    ]
-
 -- What the landing with a number spells, in the state of the id.
 pub shows_number : (w : World) (path : List ℕ) (offset j : ℕ) (l : Landing) → numbered_landing (history_of w path offset) j ≡ Some l
     → shown (id_state w path offset) j ≡ said_by w.layout l.bytes
 shows_number w path offset j l is = ap (λ o. (option_map_or (landing_of w) o no_landing).shown) is
-
-first_same : (w v : World) (path : List ℕ) (offset : ℕ) → v.layout ≡ w.layout → v.header ≡ w.header → first_landing v path offset ≡ first_landing w path offset
-first_same w v path offset layout header =
-    ap (λ g. first_landing (record v { layout = g }) path offset) layout
-    ∙ ap (λ h. first_landing (record v { layout = w.layout; header = h }) path offset) header
-
--- What stands in the history of a place landed there, or stood there at first.
-in_history : (w : World) (path : List ℕ) (offset : ℕ) (x : Landing) → Contains (history_of w path offset) x
-    → ((x.path ≡ path) × (x.offset ≡ offset)) × (Contains w.landings x ⊎ (x ≡ first_landing w path offset))
-in_history w path offset x there = by (contains_append (landed_at w path offset) (first_landing w path offset ∷ []) x there) where
-  by : Contains (landed_at w path offset) x ⊎ Contains (first_landing w path offset ∷ []) x
-      → ((x.path ≡ path) × (x.offset ≡ offset)) × (Contains w.landings x ⊎ (x ≡ first_landing w path offset))
-  by (inl landed) =
-      let its = filtered (λ (l : Landing). same_place l.path l.offset path offset) w.landings x landed in
-      (place_is x.path x.offset path offset its.1, inl its.0)
-  by (inr at_first) =
-      elim (contains_cases (first_landing w path offset) [] x at_first) as (λ z. ((x.path ≡ path) × (x.offset ≡ offset)) × (Contains w.landings x ⊎ (x ≡ first_landing w path offset))) [
-        | inl here ↦ ((ap (λ l. l.path) (sym here), ap (λ l. l.offset) (sym here)), inr (sym here))
-        | inr none ↦ absurd (contains_none x none)
-      ]
 
 -- ---- a world and a later one
 

@@ -6,24 +6,27 @@ use Rattle.sl_course_law.specs.Stamping.{IsCourseOf, IsStamped, IsStampOf, Pairw
 use Rattle.sl_front_law.proofs.Going.{fronts_are_lawful}
 use Rattle.sl_front_law.proofs.Having.{contains_right}
 use Rattle.sl_id_safety.proofs.Quieting.{IsQuiet, quiet_stays}
-use Rattle.sl_id_safety.proofs.Standing.{some_of}
 use Rattle.sl_id_safety.specs.Interface.{OverAreSilent}
 use Rattle.sl_id_state.proofs.Bridge.{IsKnown, known}
 use Rattle.sl_id_state.proofs.LaterFrames.{FoundLater, found_later, numbered_found}
 use Rattle.sl_id_state.proofs.Proven.{grounds}
 use Rattle.sl_id_state.proofs.Tails.{AreLater, IsLater, all_still}
+use Rattle.sl_id_state.proofs.Timing.{stamp_below}
 use Rattle.sl_id_state.specs.IdStates.{own_courses}
 use Rattle.sl_law.specs.Lawful.{Lawful}
 use Rattle.sl_moment_law.specs.Orders.{Fall}
-use Rattle.sl_place_law.proofs.Finding.{filtered, partner}
+use Rattle.sl_place_law.proofs.Finding.{partner}
 use Rattle.sl_place_law.proofs.Looks.{made_below}
+use Rattle.sl_plain.proofs.Lists.{contains_cases, contains_more, kept_inside}
+use Rattle.sl_plain.proofs.Numbers.{less_is_other}
+use Rattle.sl_plain.proofs.Options.{some_of}
 use Rattle.sl_run.specs.Runs.{Happening}
 use Rattle.sl_run.specs.Safety.{Found, HasJoined, IsSession, LawfulRun, SessionId, free_landed, has_write_in_flight, is_over, session_of_world, setting_in, trace_of, was_reset, world_at}
 use Rattle.sl_run.specs.Worlds.{Daemon, Machine, Program, Stamp, daemon_numbered, daemons_on, resets_after}
 use Rattle.sl_run.specs.declared.header.Header.{Header}
-use Rattle.sl_session_law.proofs.Making.{contains_cases, contains_more}
 use Rattle.sl_sessions.specs.Sessions.{calls_of, ended_after, free_write, is_call_of, joined_after}
 use Rattle.sl_trace.specs.Traces.{Submitted, Trace, submitted}
+use Rattle.sl_watchdog_law.proofs.Stamps.{same_length}
 use Rattle.sl_words.proofs.CaseLaws.{none_some, one_value, some_value, true_is_false}
 use Rattle.sl_words.specs.Words.{is_empty, some_is}
 use Rattle.std.proofs.Common.{ap, arith, inl, inr, refl, subst, sym, ◌∙◌}
@@ -141,32 +144,16 @@ calls_stay p h now rest run i f g on joined over = by on.running where
 
 -- ---- stamps
 
-same_length : (ss : List Stamp) (es : Trace) → Pairwise IsStampOf ss es → length ss ≡ length es
-same_length [] [] h = refl
-same_length [] (e ∷ es) h = absurd h
-same_length (s ∷ ss) [] h = absurd h
-same_length (s ∷ ss) (e ∷ es) h = ap (λ n. suc n) (same_length ss es h.1)
-
 longer : (newer ss : List Stamp) (k : ℕ) → k < length ss → k < length (newer ++ ss)
 longer [] ss k lt = lt
 longer (x ∷ newer) ss k lt = omega (arith, longer newer ss k lt)
-
-not_first : (k n : ℕ) → k < n → (k == n) ≡ false
-not_first k n lt = grind (arith, nat_tests)
 
 -- An old entry has an old stamp.
 pub stamp_before : (newer ss : List Stamp) (k : ℕ) → k < length ss → stamp_in (newer ++ ss) k ≡ stamp_in ss k
 stamp_before [] ss k lt = refl
 stamp_before (x ∷ newer) ss k lt =
-    ap (λ b. elim b as (λ z. Option Stamp) [ true ↦ Some x | false ↦ stamp_in (newer ++ ss) k ]) (not_first k (length (newer ++ ss)) (longer newer ss k lt))
+    ap (λ b. elim b as (λ z. Option Stamp) [ true ↦ Some x | false ↦ stamp_in (newer ++ ss) k ]) (less_is_other k (length (newer ++ ss)) (longer newer ss k lt))
     ∙ stamp_before newer ss k lt
-
-stamp_below : (n : ℕ) (ss : List Stamp) (k : ℕ) (s : Stamp) → Fall n ss → stamp_in ss k ≡ Some s → s.step < n
-stamp_below n [] k s h is = absurd (none_some s is)
-stamp_below n (x ∷ ss) k s h is = by (λ at. stamp_below x.step ss k s h.1 at) (k == length ss) is where
-  by : (stamp_in ss k ≡ Some s → s.step < x.step) → (b : Bool) → elim b as (λ z. Option Stamp) [ true ↦ Some x | false ↦ stamp_in ss k ] ≡ Some s → s.step < n
-  by rest true at = subst (λ (y : Stamp). y.step < n) (some_value x s at) h.0
-  by rest false at = omega (arith, rest at, h.0)
 
 -- What an entry of before did later was done before.
 pub old_stamp : (p : Program) (h : Header) (now rest : List Happening) → LawfulRun p h (now ++ rest) → (i : SessionId) (f g : Found) (on : GoesOn p h now rest i f g) (k : ℕ) (s : Stamp)
@@ -184,5 +171,5 @@ over_are_silent p h now rest run i f g its also joined over c has =
     let on = goes_on p h now rest run i f g its also in
     let m = partner (IsCourseOf g.daemon) (own_courses i g.machine) (calls_of (trace_of g) g.session) c on.after.pairs has in
     let n = partner IsLater (calls_of (trace_of g) g.session) (calls_of (trace_of f) f.session) m.0 (calls_stay p h now rest run i f g on joined over) m.1 in
-    let below = made_below (trace_of f) n.0 (filtered (is_call_of f.session) (submitted (trace_of f)) n.0 n.1).0 in
+    let below = made_below (trace_of f) n.0 (kept_inside (is_call_of f.session) (submitted (trace_of f)) n.0 n.1).0 in
     old_stamp p h now rest run i f g on m.0.at c.made (subst (λ k. k < length (trace_of f)) (sym n.2.same.at) below) m.2.made

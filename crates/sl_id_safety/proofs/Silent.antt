@@ -23,8 +23,8 @@ use Rattle.sl_moment_law.proofs.Stamps.{answer_is_stamp, made_is_stamp}
 use Rattle.sl_moment_law.proofs.Waiting.{silences_long}
 use Rattle.sl_moment_law.specs.Moments.{IsKept, Of_sample, point_of, stamps_on}
 use Rattle.sl_moment_law.specs.Waits.{reading_at}
-use Rattle.sl_place_law.proofs.Finding.{same_number}
 use Rattle.sl_place_law.proofs.Reading.{header_is}
+use Rattle.sl_plain.proofs.Lists.{got_inside}
 use Rattle.sl_run.specs.Runs.{Happening}
 use Rattle.sl_run.specs.Safety.{Found, IsSession, LawfulRun, SessionId, setting_in, world_at}
 use Rattle.sl_run.specs.Worlds.{Course, Machine, Program, Sampling, Stamp, World, machine_at}
@@ -34,14 +34,13 @@ use Rattle.sl_sample_law.specs.Samples.{IsSampleOf, sector_place}
 use Rattle.sl_sector.specs.declared.sector.DeltaRec.{DeltaRec}
 use Rattle.sl_sector.specs.declared.sector.DeltaState.TheVariants.{Claimed, Free, Live}
 use Rattle.sl_sector.specs.declared.sector.DeltaState.{DeltaState}
-use Rattle.sl_session_law.proofs.Owning.{got_inside}
 use Rattle.sl_sessions.specs.Watching.{Run, Sighting, is_live_state, is_silent, span}
 use Rattle.sl_time.specs.Times.{TimingNumbers, dead, gone}
 use Rattle.sl_words.proofs.CaseLaws.{true_is_false}
 use Rattle.sl_words.proofs.WordLaws.{and_true}
 use Rattle.std.proofs.Common.{ap, arith, inl, inr, refl, subst, sym, ◌∙◌}
 use Rattle.std.proofs.lemmas.Bool.Decides.{nat_tests}
-use Rattle.std.proofs.lemmas.Bool.{cases_lt}
+use Rattle.std.proofs.lemmas.Bool.{cases_lt, eqb-true, leb-true}
 use Rattle.std.specs.Prelude.{Contains, List, Some, nat_le, true, ℕ, ◌&&◌, ◌++◌, ◌+◌, ◌-◌, ◌<◌, ◌==◌, ◌≡◌, ◌≤◌}
 
 -- ---- what a silent run says
@@ -51,15 +50,12 @@ live_is Live is = refl
 live_is Claimed is = absurd (true_is_false (sym is))
 live_is Free is = absurd (true_is_false (sym is))
 
-le_is : (m n : ℕ) → nat_le m n ≡ true → m ≤ n
-le_is m n is = grind (arith, nat_tests)
-
 -- It is live, of the generation, and long.
 silent_is : (tm : TimingNumbers) (n : ℕ) (r : Run) → is_silent tm n r ≡ true → (dead tm ≤ span r) × (r.spelled.state ≡ Live) × (r.spelled.generation ≡ n)
 silent_is tm n r is =
     let one = and_true (nat_le (dead tm) (span r) && is_live_state r.spelled.state) (r.spelled.generation == n) is in
     let two = and_true (nat_le (dead tm) (span r)) (is_live_state r.spelled.state) one.0 in
-    (le_is (dead tm) (span r) two.0, live_is r.spelled.state two.1, same_number r.spelled.generation n one.1)
+    (leb-true (dead tm) (span r) two.0, live_is r.spelled.state two.1, eqb-true r.spelled.generation n one.1)
 
 apart_by : (d since latest : ℕ) → 1 ≤ d → d ≤ latest - since → since + d ≤ latest
 apart_by d since latest some le = omega (arith, some, le)

@@ -5,25 +5,32 @@ use Rattle.sl_course_law.specs.Stamping.{IsCourseOf}
 use Rattle.sl_id_safety.specs.Standing.{JoinedStand, SameIdsStandTogether, StandingTogetherIsSameId, sector_offset}
 use Rattle.sl_id_state.proofs.Bridge.{IsKnown, known}
 use Rattle.sl_id_state.proofs.Claiming.{record_is}
-use Rattle.sl_id_state.proofs.Keeping.{IsLawfulCall, is_place, lawful_call, own_call, step_is, step_law}
-use Rattle.sl_id_state.proofs.Listing.{every_pair, find_none, then_some}
+use Rattle.sl_id_state.proofs.Keeping.{IsLawfulCall, is_place, lawful_call, own_call, step_law}
+use Rattle.sl_id_state.proofs.Listing.{every_pair, find_none}
 use Rattle.sl_id_state.proofs.Living.{begun_if_joined, has_name, is_joining, joined_not}
 use Rattle.sl_id_state.proofs.Proven.{claims_have_decided, grounds, renewals_have_verified, verify_reads_have_claimed}
+use Rattle.sl_id_state.proofs.Renewing.{all_given_by, given_joined, given_none, given_undecided, not_at, same_record}
+use Rattle.sl_id_state.proofs.Rising.{last_inside, last_none}
+use Rattle.sl_id_state.proofs.Sectors.{one_sector}
+use Rattle.sl_id_state.proofs.Starts.{standing_where}
 use Rattle.sl_id_state.proofs.Steps.{ranks_of}
 use Rattle.sl_id_state.proofs.Tails.{AreMade, IsMadeAfter, all_made, front_at}
 use Rattle.sl_id_state.specs.IdStates.{blank, claim_bytes, deciding_sample, generation_by, has_begun, is_sector_of, join_course, name_of, own_courses, sample_showing, session_at, standing_by, standing_of, verifying_sample, watched_bytes}
 use Rattle.sl_id_state.specs.Promises.{IsIdPlace}
+use Rattle.sl_id_steps.proofs.Alive.{joins_at as joins, not_claim}
 use Rattle.sl_ids.specs.State.{Session as IdSession}
 use Rattle.sl_law.specs.Lawful.{Lawful}
 use Rattle.sl_law.specs.LawfulDelta.{LawfulJoin}
 use Rattle.sl_law.specs.Saying.{cut_at}
 use Rattle.sl_place_law.proofs.Areas.{IsSized, lockspace_aligned}
-use Rattle.sl_place_law.proofs.Finding.{filtered, found_in, partner_of, place_is, same_number}
+use Rattle.sl_place_law.proofs.Finding.{partner_of, place_is}
 use Rattle.sl_place_law.proofs.Homing.{at_home}
-use Rattle.sl_place_law.proofs.Looks.{Look, delta_is_own}
+use Rattle.sl_place_law.proofs.Looks.{Look, delta_is_own, joins_at}
 use Rattle.sl_place_law.proofs.Proven.{promised}
 use Rattle.sl_place_law.proofs.Reading.{layout_is}
 use Rattle.sl_place_law.proofs.Seats.{IsSeated, given_seated, look_seated, sized_in}
+use Rattle.sl_plain.proofs.Lists.{contains_cases, contains_first, contains_more, contains_none, find_inside, got_inside, kept_inside}
+use Rattle.sl_plain.proofs.Options.{some_of, then_value}
 use Rattle.sl_run.specs.Runs.{Happening}
 use Rattle.sl_run.specs.Safety.{Found, IsSession, LawfulRun, SessionId, found_generation, setting_in, trace_of, world_at}
 use Rattle.sl_run.specs.Worlds.{Course, Program, Sampling, World}
@@ -32,8 +39,7 @@ use Rattle.sl_run_law.specs.Fates.{Every}
 use Rattle.sl_sector.specs.declared.sector.DeltaRec.{DeltaRec}
 use Rattle.sl_sector.specs.declared.sector.Rec.TheVariants.{DeltaIs}
 use Rattle.sl_sector.specs.declared.sector.Rec.{Rec}
-use Rattle.sl_session_law.proofs.Making.{contains_cases, contains_first, contains_more, contains_none}
-use Rattle.sl_session_law.proofs.Owning.{got_inside, session_more}
+use Rattle.sl_session_law.proofs.Owning.{session_more}
 use Rattle.sl_session_law.specs.Promises.{IsSession as IsSessionOf}
 use Rattle.sl_sessions.specs.Sessions.{Session, calls_of, delta_of_record, delta_written, given_number, is_call_of, is_join_call, is_join_done, joined_after, last_delta, session_numbered, sessions}
 use Rattle.sl_trace.specs.Traces.{Setting, Submitted, Trace, new_call, record_of, reply_to, submitted}
@@ -44,22 +50,11 @@ use Rattle.sl_trace.specs.declared.effects.Purpose.{Purpose}
 use Rattle.sl_words.proofs.CaseLaws.{is_false, no_value, none_some, some_value, true_is_false}
 use Rattle.sl_words.specs.Words.{choose}
 use Rattle.std.proofs.Common.{ap, arith, inl, inr, refl, subst, sym, ◌∙◌}
+use Rattle.std.proofs.lemmas.Bool.{eqb-true}
 use Rattle.std.specs.Option.{option_map_or}
 use Rattle.std.specs.Prelude.{Bool, Contains, IsSome, List, None, Option, Some, false, is_none, is_some, length, option_and_then, true, [], ℕ, ◌%◌, ◌&&◌, ◌*◌, ◌+◌, ◌-◌, ◌<◌, ◌||◌, ◌∷◌, ◌≡◌, ◌≤◌, ◌⊎◌}
 
-pub some_of : {A : Type 0} (o : Option A) → IsSome o → (x : A) × (o ≡ Some x)
-some_of None is = absurd (true_is_false (sym is))
-some_of (Some x) is = (x, refl)
-
 -- ---- the first renewal of a session that has joined
-
-nothing_joined : (s : Session) (j : ℕ) → s.job ≡ Some j → joined_after [] s ≡ None
-nothing_joined s j job =
-    ap (λ (o : Option ℕ). elim o as (λ z. Option ℕ) [ None ↦ Some 0 | Some y ↦ option_and_then (λ r. choose (is_join_done r.reply) (r.at + 1)) (reply_to [] y) ]) job
-
-pub joins : (st : Setting) (es : Trace) (s : Session) → Lawful st es → IsSessionOf st es s → (j k : ℕ) → s.job ≡ Some j → joined_after es s ≡ Some k → LawfulJoin es s k
-joins st [] s h its j k job joined = absurd (none_some k (sym (nothing_joined s j job) ∙ joined))
-joins st (e ∷ past) s h its j k job joined = h.delta.0.joins s (got_inside (sessions st (e ∷ past)) s.number s its) j k job joined
 
 -- It joined by the answer of its first renewal, which wrote a delta record.
 pub record HasRenewal (i : SessionId) (f : Found) : Type 0 where
@@ -78,16 +73,13 @@ some_record {d} c op same is = (d, record_is c op d same is)
 pub has_renewal : (w : World) (i : SessionId) (f : Found) → IsKnown w i f → (j k : ℕ) → f.session.job ≡ Some j → joined_after (trace_of f) f.session ≡ Some k → HasRenewal i f
 has_renewal w i f kn j k job joined =
     let join = joins (setting_in f) (trace_of f) f.session kn.lawful kn.its j k job joined in
-    let found = found_in (λ (m : Submitted). is_join_call FirstRenewal m.call.purpose) (calls_of (trace_of f) f.session) join.renewal join.first in
+    let found = find_inside (λ (m : Submitted). is_join_call FirstRenewal m.call.purpose) (calls_of (trace_of f) f.session) join.renewal join.first in
     let r = partner_of (IsCourseOf f.daemon) (own_courses i f.machine) (calls_of (trace_of f) f.session) join.renewal kn.pairs found.0 in
     let at : is_join_call FirstRenewal r.0.call.purpose ≡ true = ap (λ (y : Call). is_join_call FirstRenewal y.purpose) (sym r.2.call) ∙ found.1 in
     let o = own_call w i f r.0 kn r.1 in
     let law = step_law w i f r.0 o FirstRenewal at in
     let wrote = some_record o.placed.pairs.here.call r.0.call.op (ap (λ (y : Call). y.op) o.placed.pairs.this.call) law.written in
     record { call = join.renewal; inside = found.0; course = r.0; has = r.1; is = r.2; at = at; delta = wrote.0; writes = wrote.1 }
-
-pub no_claim : (p : Purpose) → is_join_call FirstRenewal p ≡ true → is_join_call ClaimWrite p ≡ false
-no_claim p at = ap (λ q. is_join_call ClaimWrite q) (step_is FirstRenewal p at).1
 
 -- ---- it has begun and verified
 
@@ -106,10 +98,10 @@ decided_by : (p : Program) (h : Header) (xs : List Happening) → LawfulRun p h 
     → verifying_sample (world_at p h xs) i f ≡ Some x → (y : Sampling) × (deciding_sample i f ≡ Some y)
 decided_by p h xs run i f its x is =
     let w : World = world_at p h xs in
-    let v = then_some (sample_showing f (claim_bytes w i f)) (join_course i VerifyRead f.machine) x is in
-    let at = found_in (λ (c : Course). is_join_call VerifyRead c.call.purpose) (own_courses i f.machine) v.0 v.1 in
+    let v = then_value (sample_showing f (claim_bytes w i f)) (join_course i VerifyRead f.machine) x is in
+    let at = find_inside (λ (c : Course). is_join_call VerifyRead c.call.purpose) (own_courses i f.machine) v.0 v.1 in
     let k = verify_reads_have_claimed p h xs run i f v.0 its at.0 at.1 in
-    let claim = found_in (λ (c : Course). is_join_call ClaimWrite c.call.purpose) (own_courses i f.machine) k.claim k.claimed in
+    let claim = find_inside (λ (c : Course). is_join_call ClaimWrite c.call.purpose) (own_courses i f.machine) k.claim k.claimed in
     let d = claims_have_decided p h xs run i f k.claim its claim.0 claim.1 in
     (d.sample, d.decided)
 
@@ -134,7 +126,7 @@ has_begun_by p h xs run i f its k joined None job =
 has_begun_by p h xs run i f its k joined (Some j) job =
     let r = has_renewal (world_at p h xs) i f (known grounds p h xs run i f its) j k job joined in
     begun_by p h xs run i f its r.course
-    (renewals_have_verified p h xs run i f r.course its r.has r.delta r.writes (no_claim r.course.call.purpose r.at)).verified
+    (renewals_have_verified p h xs run i f r.course its r.has r.delta r.writes (not_claim r.course.call.purpose r.at)).verified
 
 -- ---- its place
 
@@ -150,33 +142,13 @@ seated_by p h xs run i f its k joined None job =
 seated_by p h xs run i f its k joined (Some j) job =
     let kn = known grounds p h xs run i f its in
     let r = has_renewal (world_at p h xs) i f kn j k job joined in
-    let mine = filtered (is_call_of f.session) (submitted (trace_of f)) r.call r.inside in
+    let mine = kept_inside (is_call_of f.session) (submitted (trace_of f)) r.call r.inside in
     let writes : delta_written r.call ≡ Some r.delta = ap (λ (y : Call). option_and_then delta_of_record (record_of y.op)) r.is.call ∙ ap (option_and_then delta_of_record) r.writes in
-    let own = delta_is_own (setting_in f) (trace_of f) f.session r.call r.delta kn.lawful kn.its mine.0 (same_number r.call.call.session f.session.number mine.1) writes in
+    let own = delta_is_own (setting_in f) (trace_of f) f.session r.call r.delta kn.lawful kn.its mine.0 (eqb-true r.call.call.session f.session.number mine.1) writes in
     look_seated p h xs promised run i.machine f.machine f.daemon kn.there.at kn.there.has f.session r.call.at r.course.made r.is.made
     (λ x there early. at_home p h xs promised run x there) (look_of f j r.call.at job own.from)
 
 -- ---- its generation
-
-last_inside : (ms : List Submitted) (d : DeltaRec) → last_delta ms ≡ Some d → (m : Submitted) × Contains ms m × (delta_written m ≡ Some d)
-last_inside [] d is = absurd (none_some d is)
-last_inside (m ∷ ms) d is = by (λ more. last_inside ms d more) (delta_written m) refl is where
-  by : (last_delta ms ≡ Some d → (x : Submitted) × Contains ms x × (delta_written x ≡ Some d)) → (o : Option DeltaRec) → delta_written m ≡ o
-      → elim o as (λ z. Option DeltaRec) [ Some e ↦ Some e | None ↦ last_delta ms ] ≡ Some d → (x : Submitted) × Contains (m ∷ ms) x × (delta_written x ≡ Some d)
-  by rest (Some e) its at = (m, contains_first m ms, its ∙ at)
-  by rest None its at = let r = rest at in (r.0, contains_more m ms r.0 r.1, r.2)
-
-last_none : (ms : List Submitted) → last_delta ms ≡ None → (m : Submitted) → Contains ms m → (d : DeltaRec) → delta_written m ≡ Some d → ⊥
-last_none [] none m there d is = contains_none m there
-last_none (x ∷ ms) none m there d is = by (λ rest old. last_none ms rest m old d is) (delta_written x) refl none (contains_cases x ms m there) where
-  by : (last_delta ms ≡ None → Contains ms m → ⊥) → (o : Option DeltaRec) → delta_written x ≡ o
-      → elim o as (λ z. Option DeltaRec) [ Some e ↦ Some e | None ↦ last_delta ms ] ≡ None → (x ≡ m) ⊎ Contains ms m → ⊥
-  by rest (Some e) its at place = none_some e (sym at)
-  by rest None its at (inl here) = no_value d (delta_written m) is (ap (λ (y : Submitted). delta_written y) (sym here) ∙ its)
-  by rest None its at (inr old) = rest at old
-
-same_record : (o : Option Rec) (a b : DeltaRec) → o ≡ Some (DeltaIs a) → o ≡ Some (DeltaIs b) → a ≡ b
-same_record o a b p q = some_value a b (ap (λ x. option_and_then delta_of_record x) (sym p ∙ q))
 
 -- Generations are told by the session's own sector.
 own_place : (w : World) (f : Found) (c : Course) (y : Option Sampling) → is_sector_of w.layout c.call.path c.call.offset f.session ≡ true
@@ -199,35 +171,6 @@ generation_of_course p h xs run i f c its there d writes false at =
     v.generation ∙ own_place w f c (deciding_sample i f) v.own.place
 
 -- ---- a session that was joined at first makes no call of a joining
-
-given_joined : (t : Trace) (s : Session) → s.job ≡ None → joined_after t s ≡ Some 0
-given_joined t s none =
-    ap (λ (o : Option ℕ). elim o as (λ z. Option ℕ) [ None ↦ Some 0 | Some j ↦ option_and_then (λ r. choose (is_join_done r.reply) (r.at + 1)) (reply_to t j) ]) none
-
-given_none : (st : Setting) (es : Trace) (s : Session) (m : Submitted) (older : List Submitted) (d : IsMadeAfter es s m older) → IsLawfulCall st es s m older d → s.job ≡ None
-    → is_joining m.call.purpose ≡ false
-given_none st es s m older d l none =
-    let t : Trace = front_at d in
-    let its : IsSessionOf st (d.entry ∷ d.past) s = ap (λ n. session_numbered st (d.entry ∷ d.past) n) (sym (same_number m.call.session s.number d.mine)) ∙ l.its in
-    let was = begun_if_joined st d.entry d.past s l.lawful its 0 (given_joined (d.entry ∷ d.past) s none) in
-    joined_not st t s (new_call (length d.past) d.entry.reading m.call) 0 m.call.purpose l.law (given_joined t s none)
-    (has_name st t s 0 (got_inside (sessions st t) s.number s (session_more st (cut_at d.index d.entry) d.past s.number s was)) (given_joined t s none) l.alive)
-
-all_given : (st : Setting) (es : Trace) (s : Session) → Lawful st es → IsSessionOf st es s → s.job ≡ None → (ms : List Submitted) → AreMade es s ms
-    → Every (λ (m : Submitted). is_joining m.call.purpose ≡ false) ms
-all_given st es s h its none [] made = tt
-all_given st es s h its none (m ∷ ms) made = (given_none st es s m ms made.0 (lawful_call st es s m ms made.0 h its) none, all_given st es s h its none ms made.1)
-
-not_at : (p : Purpose) → is_joining p ≡ false → is_join_call DecidingRead p ≡ false
-not_at p apart = is_false (is_join_call DecidingRead p) (λ is. true_is_false (sym (ranks_of DecidingRead p is).0 ∙ apart))
-
-pub given_undecided : (w : World) (i : SessionId) (f : Found) → IsKnown w i f → f.session.job ≡ None → deciding_sample i f ≡ None
-given_undecided w i f k none =
-    ap (λ q. option_and_then (sample_showing f (watched_bytes i f)) q)
-    (find_none (λ (c : Course). is_join_call DecidingRead c.call.purpose) (own_courses i f.machine)
-    (every_pair (IsCourseOf f.daemon) (λ (c : Course). is_join_call DecidingRead c.call.purpose ≡ false) (λ (m : Submitted). is_joining m.call.purpose ≡ false)
-    (λ c m r apart. not_at c.call.purpose (ap (λ (x : Call). is_joining x.purpose) (sym r.call) ∙ apart)) (own_courses i f.machine) (calls_of (trace_of f) f.session) k.pairs
-    (all_given (setting_in f) (trace_of f) f.session k.lawful k.its none (calls_of (trace_of f) f.session) (all_made (trace_of f) f.session))))
 
 -- ---- its generation, whether it wrote or not
 
@@ -271,12 +214,6 @@ place_of p h xs f s =
           ∙ ap (λ n. delta_offset (world_at p h []).layout n f.session.id) s.offset;
     }
 
-standing_where : (w : World) (path : List ℕ) (offset : ℕ) (i : SessionId) (f : Found) (b c : Bool) → b ≡ true → c ≡ true
-    → elim (b && c) as (λ z. IdSession) [ false ↦ blank | true ↦ standing_of w path offset i f ] ≡ standing_of w path offset i f
-standing_where w path offset i f true true p q = refl
-standing_where w path offset i f false c p q = absurd (true_is_false (sym p))
-standing_where w path offset i f true false p q = absurd (true_is_false (sym q))
-
 -- A session that has begun stands in its id.
 pub stands_as : (w : World) (i : SessionId) (f : Found) → IsSession w i f → has_begun i f ≡ true
     → session_at w f.session.path (sector_offset w f) (name_of i) ≡ standing_of w f.session.path (sector_offset w f) i f
@@ -309,9 +246,6 @@ pub same_ids_stand_together : SameIdsStandTogether
 same_ids_stand_together w f g same =
     let at = place_is f.session.path f.session.offset g.session.path g.session.offset same.0 in
     (at.0, ap (λ n. delta_offset w.layout n f.session.id) at.1 ∙ ap (λ n. delta_offset w.layout g.session.offset n) same.1)
-
-one_sector : (a b i k : ℕ) → a % 1048576 ≡ 0 → b % 1048576 ≡ 0 → 1 ≤ i → i ≤ 2000 → 1 ≤ k → k ≤ 2000 → a + 512 * (i - 1) ≡ b + 512 * (k - 1) → (a ≡ b) × (i ≡ k)
-one_sector a b i k p q low high low' high' same = (omega (arith, p, q, low, high, low', high', same), omega (arith, p, q, low, high, low', high', same))
 
 sectors_apart : (g : Layout) (a b i k : ℕ) → IsSized g → a % 1048576 ≡ 0 → b % 1048576 ≡ 0 → 1 ≤ i → i ≤ g.hosts → 1 ≤ k → k ≤ g.hosts → delta_offset g a i ≡ delta_offset g b k
     → (a ≡ b) × (i ≡ k)

@@ -1,10 +1,10 @@
 -- A run of sightings: its first and its last spell the same record, and its times are theirs.
 use Rattle.sl_area.specs.Layouts.{Layout, record_in}
-use Rattle.sl_id_state.proofs.Listing.{map_some}
 use Rattle.sl_place_law.proofs.Finding.{same_text}
+use Rattle.sl_plain.proofs.Lists.{contains_first, contains_more}
+use Rattle.sl_plain.proofs.Options.{mapped_value}
 use Rattle.sl_sector.specs.Spelling.{delta_in}
 use Rattle.sl_sector.specs.declared.sector.DeltaRec.{DeltaRec}
-use Rattle.sl_session_law.proofs.Making.{contains_first, contains_more}
 use Rattle.sl_sessions.specs.Watching.{Run, Sighting, current_run, has_seen, new_run, run_with, sighted}
 use Rattle.sl_words.proofs.CaseLaws.{none_some}
 use Rattle.sl_words.specs.Words.{choose}
@@ -65,5 +65,5 @@ ends_by g j s ss d is before (Some q) at = goes_on_by g j s ss d (has_seen ss) q
 pub run_ends : (g : Layout) (j : ℕ) (ss : List Sighting) (r : Run) → current_run g j ss ≡ Some r → RunEnds g j ss r
 run_ends g j [] r is = absurd (none_some r is)
 run_ends g j (s ∷ ss) r is =
-    let d = map_some (λ d. run_with (current_run g j ss) s d (has_seen ss)) (sighted g j s) r is in
+    let d = mapped_value (λ d. run_with (current_run g j ss) s d (has_seen ss)) (sighted g j s) r is in
     subst (λ x. RunEnds g j (s ∷ ss) x) d.2 (ends_by g j s ss d.0 d.1 (run_ends g j ss) (current_run g j ss) refl)

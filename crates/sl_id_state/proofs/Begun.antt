@@ -1,12 +1,13 @@
 -- Sessions of one lockspace of a daemon: the later one begins where the earlier has ended, with no write unanswered.
-use Rattle.sl_place_law.proofs.Finding.{filtered, partner, same_number}
+use Rattle.sl_place_law.proofs.Finding.{partner}
 use Rattle.sl_id_state.proofs.Keeping.{IsLawfulCall, join_law}
 use Rattle.sl_id_state.proofs.Tails.{IsLater, IsMadeAfter, later_again, later_still, marked_later}
 use Rattle.sl_id_state.proofs.Timing.{longer}
 use Rattle.sl_front_law.proofs.Having.{placed_at}
-use Rattle.sl_watchdog_law.proofs.Finding.{any_found, any_of}
+use Rattle.sl_plain.proofs.Lists.{any_found, any_of, ends, got_inside, kept, kept_inside}
+use Rattle.sl_plain.proofs.Options.{some_of}
 use Rattle.sl_watchdog_law.proofs.Numbering.{begun_is, either_place}
-use Rattle.std.proofs.lemmas.Bool.{cases_lt}
+use Rattle.std.proofs.lemmas.Bool.{cases_lt, eqb-true}
 use Rattle.std.proofs.lemmas.Option.{slice_get_within}
 use Rattle.sl_law.proofs.LawFacts.{lawful-front}
 use Rattle.sl_law.specs.Lawful.{Lawful}
@@ -14,8 +15,8 @@ use Rattle.sl_law.specs.LawfulCalls.{may_submit}
 use Rattle.sl_law.specs.Saying.{cut_at}
 use Rattle.sl_session_law.proofs.Growing.{other_next, to_all, to_cut}
 use Rattle.sl_session_law.proofs.Making.{IsNewCall, old_or_new}
-use Rattle.sl_session_law.proofs.Naming.{absent, kept}
-use Rattle.sl_session_law.proofs.Owning.{got_inside, owned, session_more, sessions_stay}
+use Rattle.sl_session_law.proofs.Naming.{absent}
+use Rattle.sl_session_law.proofs.Owning.{owned, session_more, sessions_stay}
 use Rattle.sl_session_law.proofs.Parting.{not_removed}
 use Rattle.sl_session_law.proofs.Silence.{no_more}
 use Rattle.sl_session_law.proofs.Staying.{marks_stay}
@@ -26,19 +27,12 @@ use Rattle.sl_trace.specs.declared.command.LockspaceArg.{LockspaceArg}
 use Rattle.sl_trace.specs.declared.effects.Call.{Call}
 use Rattle.sl_trace.specs.declared.effects.Entry.{Entry}
 use Rattle.sl_trace.specs.declared.effects.JoinStep.TheVariants.{FirstRead}
-use Rattle.sl_words.proofs.CaseLaws.{false_is_true, is_false, no_value, none_some, one_value, true_is_false}
+use Rattle.sl_words.proofs.CaseLaws.{is_false, no_value, none_some, one_value, true_is_false}
 use Rattle.std.proofs.Common.{ap, arith, inl, inr, refl, subst, sym, ◌∙◌}
 use Rattle.std.specs.List.{list_any}
-use Rattle.std.specs.Prelude.{Bool, Contains, IsSome, List, None, Option, Some, [], drop, false, is_none, length, slice_get, suc, true, ℕ, ◌&&◌, ◌++◌, ◌+◌, ◌<◌, ◌==◌, ◌||◌, ◌∷◌, ◌≡◌, ◌≤◌, ◌⊎◌}
+use Rattle.std.specs.Prelude.{Bool, Contains, List, None, Option, Some, [], drop, false, is_none, length, slice_get, suc, true, ℕ, ◌&&◌, ◌++◌, ◌+◌, ◌<◌, ◌==◌, ◌||◌, ◌∷◌, ◌≡◌, ◌≤◌, ◌⊎◌}
 
 -- ---- lists
-
--- Of two ends of a list the shorter is an end of the longer.
-ends : {A : Type 0} (xs zs ys bs : List A) → xs ++ zs ≡ ys ++ bs → length bs ≤ length zs → (mid : List A) × (zs ≡ mid ++ bs)
-ends [] zs ys bs h le = (ys, h)
-ends (x ∷ xs) zs [] bs h le =
-    absurd (let same : suc (length (xs ++ zs)) ≡ length bs = ap (λ us. length us) h in omega (arith, same, le, longer xs zs))
-ends (x ∷ xs) zs (y ∷ ys) bs h le = ends xs zs ys bs (ap (λ us. drop 1 us) h) le
 
 -- ---- where a session began
 
@@ -87,10 +81,6 @@ begins_by : (st : Setting) (es : Trace) (n : ℕ) (b : Bool) (o : Option Lockspa
     → b ≡ true
 begins_by st es n true o s at = refl
 begins_by st es n false o s at = absurd (none_some s at)
-
-some_of : {A : Type 0} (o : Option A) → IsSome o → (x : A) × (o ≡ Some x)
-some_of None h = absurd (false_is_true h)
-some_of (Some x) h = (x, refl)
 
 not_ended : (t : Trace) (s : Session) → may_submit (stage_of t s) ≡ true → (o : Option ℕ) → ended_after t s ≡ o → o ≡ None
 not_ended t s may None is = refl
@@ -147,7 +137,7 @@ quiet_entry : (st : Setting) (e : Entry) (past : Trace) (s : Session) (k : ℕ) 
     → (j : ℕ) (c : Call) → slice_get e.effects.calls j ≡ Some c → (c.session == s.number) ≡ false
 quiet_entry st e past s k h its ended j c at =
     is_false (c.session == s.number) (λ mine.
-    let own = owned st [] e past s h its j c at (same_number c.session s.number mine) in
+    let own = owned st [] e past s h its j c at (eqb-true c.session s.number mine) in
     true_is_false (sym (h.calls.0.alive j c s at own) ∙ no_more (cut_at j e ∷ past) s k ended))
 
 same_cut : (e : Entry) (past : Trace) (s : Session) → ((j : ℕ) (c : Call) → slice_get e.effects.calls j ≡ Some c → (c.session == s.number) ≡ false) → (k : ℕ)
@@ -209,7 +199,7 @@ late_call st es n s m older d l number b = by (cases_lt m.at (length b.past)) wh
   by (inl lt) =
       let mid = ends b.later (b.entry ∷ b.past) d.later (d.entry ∷ d.past) (sym b.whole ∙ d.whole) (omega (arith, lt, d.place)) in
       let its : session_numbered st (d.entry ∷ d.past) s.number ≡ Some s =
-      ap (λ k. session_numbered st (d.entry ∷ d.past) k) (sym (same_number m.call.session s.number d.mine)) ∙ l.its in
+      ap (λ k. session_numbered st (d.entry ∷ d.past) k) (sym (eqb-true m.call.session s.number d.mine)) ∙ l.its in
       let was = late_by st s b.entry b.past mid.0 (d.entry ∷ d.past) mid.1 (omega (arith, lt, d.place)) its in
       absurd (omega (arith, slice_get_within (sessions st b.past) s.number s was, number, b.number))
 
@@ -220,7 +210,7 @@ earlier : (later t : Trace) (s : Session) (m : Submitted) → Contains (calls_of
 earlier [] t s m there lt = (m, there, later_still m)
 earlier (e ∷ later) t s m there lt =
     let rest : Trace = later ++ t in
-    let own = filtered (is_call_of s) (submitted (e ∷ rest)) m there in
+    let own = kept_inside (is_call_of s) (submitted (e ∷ rest)) m there in
     by (λ b inside below. earlier later t s b inside below)
     (old_or_new (length rest) e.reading e.effects.calls (mark rest e e.input (submitted rest)) m own.0) own.1
   where

@@ -2,63 +2,44 @@
 use Rattle.sl_course_law.proofs.Matched.{courses_are_calls}
 use Rattle.sl_course_law.proofs.Mirrored.{machines_mirror}
 use Rattle.sl_course_law.specs.Mirrors.{Mirrors}
-use Rattle.sl_course_law.specs.Stamping.{AnswersAgree, AreCalls, IsCourseOf, Pairwise, courses_of}
+use Rattle.sl_course_law.specs.Stamping.{AreCalls, IsCourseOf, Pairwise, courses_of}
 use Rattle.sl_front_law.proofs.Having.{in_flat}
 use Rattle.sl_id_state.proofs.FindingFrames.{on_machine}
 use Rattle.sl_id_state.specs.IdStates.{join_course, own_courses}
 use Rattle.sl_law.specs.Lawful.{Lawful}
+use Rattle.sl_plain.proofs.Lists.{filter_both, got_inside}
 use Rattle.sl_run.specs.Runs.{Happening}
 use Rattle.sl_run.specs.Safety.{Found, IsSession as IsSessionOf, LawfulRun, SessionId, trace_of, world_at}
 use Rattle.sl_run.specs.Worlds.{Course, Daemon, Machine, Program, World, daemon_numbered, daemons_on, is_write_course, machine_at}
 use Rattle.sl_run.specs.declared.header.Header.{Header}
 use Rattle.sl_run_law.proofs.Walking.{index}
-use Rattle.sl_session_law.proofs.Making.{contains_cases, contains_first, contains_more, contains_none}
-use Rattle.sl_session_law.proofs.Owning.{got_inside}
 use Rattle.sl_session_law.specs.Promises.{IsSession}
 use Rattle.sl_sessions.specs.Sessions.{Session, calls_of, has_open_write, is_call_of, is_join_call, join_call, session_numbered}
-use Rattle.sl_trace.specs.Traces.{Answered, Submitted, is_write, submitted}
+use Rattle.sl_trace.specs.Traces.{Submitted, is_write, submitted}
 use Rattle.sl_trace.specs.declared.effects.Call.{Call}
 use Rattle.sl_trace.specs.declared.effects.JoinStep.{JoinStep}
 use Rattle.sl_watchdog_law.proofs.Finding.{open_write}
 use Rattle.sl_watchdog_law.proofs.Numbering.{number_is}
-use Rattle.sl_words.proofs.CaseLaws.{no_value, none_some, some_value}
-use Rattle.std.proofs.Common.{ap, inl, inr, refl, subst, sym, ◌∙◌}
-use Rattle.std.specs.Prelude.{Bool, Contains, List, None, Option, Some, [], cond, false, filter, find, true, ◌&&◌, ◌-◌, ◌==◌, ◌∷◌, ◌≡◌, ◌⊎◌}
+use Rattle.sl_watchdog_law.proofs.Promising.{pair_of, unanswered_by}
+use Rattle.sl_words.proofs.CaseLaws.{none_some, some_value}
+use Rattle.std.proofs.Common.{ap, refl, subst, sym, ◌∙◌}
+use Rattle.std.specs.Prelude.{Bool, Contains, List, None, Option, Some, [], cond, false, filter, find, true, ◌-◌, ◌==◌, ◌∷◌, ◌≡◌}
 
 -- ---- two lists, element by element
 
-keeps_by : {A : Type 0} (p q : A → Bool) (x : A) (b c : Bool) (rest : List A) → p x ≡ b → q x ≡ c
-    → cond (b && c) (x ∷ filter q rest) (filter q rest) ≡ filter q (cond b (x ∷ rest) rest)
-keeps_by p q x true c rest is its = ap (λ t. cond t (x ∷ filter q rest) (filter q rest)) (sym its)
-keeps_by p q x false c rest is its = refl
-
--- Two tests, one after the other.
-filter_both : {A : Type 0} (p q : A → Bool) (xs : List A) → filter (λ x. p x && q x) xs ≡ filter q (filter p xs)
-filter_both p q [] = refl
-filter_both p q (x ∷ xs) =
-    ap (λ zs. cond (p x && q x) (x ∷ zs) zs) (filter_both p q xs) ∙ keeps_by p q x (p x) (q x) (filter p xs) refl refl
-
-kept_pair : {A B : Type 0} (R : A → B → Type 0) (x : A) (y : B) (xs : List A) (ys : List B) (b c : Bool) → c ≡ b → R x y → Pairwise R xs ys
+pub kept_pair : {A B : Type 0} (R : A → B → Type 0) (x : A) (y : B) (xs : List A) (ys : List B) (b c : Bool) → c ≡ b → R x y → Pairwise R xs ys
     → Pairwise R (cond b (x ∷ xs) xs) (cond c (y ∷ ys) ys)
 kept_pair R x y xs ys true c same r rest = subst (λ t. Pairwise R (x ∷ xs) (cond t (y ∷ ys) ys)) (sym same) (r, rest)
 kept_pair R x y xs ys false c same r rest = subst (λ t. Pairwise R xs (cond t (y ∷ ys) ys)) (sym same) rest
 
 -- Tests that agree leave related lists.
-filter_pairs : {A B : Type 0} (R : A → B → Type 0) (p : A → Bool) (q : B → Bool) → ((a : A) (b : B) → R a b → q b ≡ p a) → (xs : List A) (ys : List B)
+pub filter_pairs : {A B : Type 0} (R : A → B → Type 0) (p : A → Bool) (q : B → Bool) → ((a : A) (b : B) → R a b → q b ≡ p a) → (xs : List A) (ys : List B)
     → Pairwise R xs ys → Pairwise R (filter p xs) (filter q ys)
 filter_pairs R p q agree [] [] h = tt
 filter_pairs R p q agree [] (y ∷ ys) h = absurd h
 filter_pairs R p q agree (x ∷ xs) [] h = absurd h
 filter_pairs R p q agree (x ∷ xs) (y ∷ ys) h =
     kept_pair R x y (filter p xs) (filter q ys) (p x) (q y) (agree x y h.0) h.0 (filter_pairs R p q agree xs ys h.1)
-
-partner : {A B : Type 0} (R : A → B → Type 0) (xs : List A) (ys : List B) (a : A) → Pairwise R xs ys → Contains xs a → (b : B) × Contains ys b × R a b
-partner R [] ys a pairs there = absurd (contains_none a there)
-partner R (x ∷ xs) [] a pairs there = absurd pairs
-partner {A} {B} R (x ∷ xs) (y ∷ ys) a pairs there = by (λ old. partner R xs ys a pairs.1 old) (contains_cases x xs a there) where
-  by : (Contains xs a → (b : B) × Contains ys b × R a b) → (x ≡ a) ⊎ Contains xs a → (b : B) × Contains (y ∷ ys) b × R a b
-  by rest (inl here) = (y, contains_first y ys, subst (λ (z : A). R z y) here pairs.0)
-  by rest (inr old) = let r = rest old in (r.0, contains_more y ys r.0 r.1, r.2)
 
 -- Both are there and related, or neither is.
 abbrev Alike : {A B : Type 0} → (A → B → Type 0) → Option A → Option B → Type 0
@@ -103,7 +84,7 @@ pub record IsBeside (w : World) (i : SessionId) (f : Found) : Type 0 where
   pub mirrors : Mirrors f.machine
   pub pairs : Pairwise (IsCourseOf f.daemon) (own_courses i f.machine) (calls_of (trace_of f) f.session)
 
-own_pairs : (i : SessionId) (a : Machine) (d : Daemon) (s : Session) → d.number ≡ i.daemon → s.number ≡ i.number → AreCalls a d
+pub own_pairs : (i : SessionId) (a : Machine) (d : Daemon) (s : Session) → d.number ≡ i.daemon → s.number ≡ i.number → AreCalls a d
     → Pairwise (IsCourseOf d) (own_courses i a) (calls_of d.trace s)
 own_pairs i a d s daemon number pairs =
     subst (λ cs. Pairwise (IsCourseOf d) cs (calls_of d.trace s))
@@ -150,13 +131,9 @@ pub join_none : (w : World) (i : SessionId) (f : Found) → IsBeside w i f → (
 join_none w i f b step is =
     alike_none (IsCourseOf f.daemon) (join_course i step f.machine) (join_call (calls_of (trace_of f) f.session) step) (join_alike w i f b step) is
 
-unanswered_by : (d : Daemon) (c : Course) (o : Option Answered) → c.answered ≡ None → AnswersAgree d c o → o ≡ None
-unanswered_by d c None none h = refl
-unanswered_by d c (Some a) none h = absurd (no_value h.stamp c.answered h.answered none)
-
 -- A write of the session that is unanswered on the machine is so in the trace.
 pub write_waits : (w : World) (i : SessionId) (f : Found) → IsBeside w i f → (c : Course) → Contains (own_courses i f.machine) c → is_write_course c ≡ true → c.answered ≡ None
     → has_open_write (trace_of f) f.session ≡ true
 write_waits w i f b c there writes none =
-    let m = partner (IsCourseOf f.daemon) (own_courses i f.machine) (calls_of (trace_of f) f.session) c b.pairs there in
+    let m = pair_of (IsCourseOf f.daemon) (own_courses i f.machine) (calls_of (trace_of f) f.session) c b.pairs there in
     open_write (trace_of f) f.session m.0 m.1 (unanswered_by f.daemon c m.0.answer none m.2.answers) (ap (λ (x : Call). is_write x.op) m.2.call ∙ writes)

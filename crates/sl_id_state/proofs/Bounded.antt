@@ -1,7 +1,7 @@
 -- The watchdogs keep an id's bounds: whoever may still land a claim, or has verified one and is not over, may act by its connection.
 use Rattle.sl_course_law.specs.Mirrors.{since_restart}
 use Rattle.sl_id_state.proofs.Beside.{beside, join_none, join_there, write_waits}
-use Rattle.sl_id_state.proofs.Bounding.{IsGuardedAt, acts_at, after_value, by_connection, jobless, kept_since, not_joined, or_first, running_since, stamp_is, then_value}
+use Rattle.sl_id_state.proofs.Bounding.{IsGuardedAt, acts_at, after_value, by_connection, jobless, kept_since, not_joined, running_since, stamp_is, then_value}
 use Rattle.sl_id_state.proofs.JoinOrder.{decided_newest, deciding_registers, verified_newest}
 use Rattle.sl_id_state.specs.Facts.{VerifyReadsHaveClaimed}
 use Rattle.sl_id_state.specs.IdStates.{blank, claim_bytes, claim_may_land, deciding_sample, has_begun, id_state, is_sector_of, join_course, own_courses, renewed_by_now, runs_still, sample_showing, session_named_so, standing_by, standing_of, verifying_sample, watched_bytes}
@@ -9,18 +9,18 @@ use Rattle.sl_id_state.specs.Promises.{IdsAreBounded}
 use Rattle.sl_ids.proofs.DerivedLaws.{watchdogs}
 use Rattle.sl_ids.specs.State.{Session as IdSession}
 use Rattle.sl_law.specs.LawfulWatchdog.{is_covered}
+use Rattle.sl_plain.proofs.Lists.{any_found, any_of, find_inside, kept, kept_inside}
+use Rattle.sl_plain.proofs.Options.{none_is, not_some, some_there}
 use Rattle.sl_run.specs.Runs.{Happening}
 use Rattle.sl_run.specs.Safety.{Found, IsSession as IsSessionOf, LawfulRun, SessionId, free_landed, has_write_in_flight, is_course_of, is_over, session_of_world, trace_of, was_reset, world_at}
 use Rattle.sl_run.specs.Worlds.{Course, Program, Sampling, Stamp, World, is_in_flight, is_of_running, is_open, is_write_course, may_land}
 use Rattle.sl_run.specs.declared.header.Header.{Header}
-use Rattle.sl_session_law.proofs.Naming.{kept}
 use Rattle.sl_session_law.proofs.Ordering.{joinings_are_ordered, open_stage}
 use Rattle.sl_session_law.proofs.Silence.{stage_by}
 use Rattle.sl_sessions.specs.Sessions.{Session, calls_of, ended_after, free_write, has_open_write, is_covered_stage, is_join_call, joined_after, refused_after, removed_after, stage_in, stage_of}
 use Rattle.sl_sessions.specs.declared.stage.Stage.{Stage}
 use Rattle.sl_trace.specs.Traces.{Submitted, Trace}
 use Rattle.sl_trace.specs.declared.effects.JoinStep.TheVariants.{ClaimWrite, DecidingRead, VerifyRead}
-use Rattle.sl_watchdog_law.proofs.Finding.{any_found, any_of, find_inside, kept_inside, none_is}
 use Rattle.sl_watchdog_law.proofs.Proven.{covered_are_connected, writers_may_act}
 use Rattle.sl_watchdog_law.proofs.Standing.{covered_open}
 use Rattle.sl_watchdog_law.specs.Acting.{acting_stamp}
@@ -28,6 +28,7 @@ use Rattle.sl_watchdog_law.specs.Promises.{ActsStill}
 use Rattle.sl_words.proofs.CaseLaws.{false_is_true, no_value, none_some, one_value, true_is_false}
 use Rattle.sl_words.proofs.WordLaws.{and_true, or_true}
 use Rattle.std.proofs.Common.{ap, inl, inr, refl, subst, sym, ◌∙◌}
+use Rattle.std.proofs.lemmas.Bool.{or_left}
 use Rattle.std.specs.Option.{option_map_or}
 use Rattle.std.specs.Prelude.{Bool, Contains, List, None, Option, Some, false, is_none, is_some, not, true, ℕ, ◌&&◌, ◌||◌, ◌≡◌, ◌⊎◌}
 
@@ -116,7 +117,7 @@ decided_acts p h xs run i f is c decides none m =
 
 stage_covers : (es : Trace) (s : Session) → joined_after es s ≡ None → refused_after es s ≡ None → is_covered_stage (stage_in (calls_of es s)) ≡ true → is_covered es s ≡ true
 stage_covers es s none at covers =
-    or_first (is_covered_stage (stage_of es s)) (is_some (refused_after es s) && has_open_write es s)
+    or_left (is_covered_stage (stage_of es s)) (is_some (refused_after es s) && has_open_write es s)
     (ap is_covered_stage (open_stage (joined_after es s) (removed_after es s) (refused_after es s) (free_write (calls_of es s)) (stage_in (calls_of es s)) none at) ∙ covers)
 
 -- Before its claim it is covered.
@@ -172,15 +173,11 @@ standing_covers (Some j) None refused None joining k is gone = refl
 
 joined_covers : (es : Trace) (s : Session) (k : ℕ) → joined_after es s ≡ Some k → removed_after es s ≡ None → is_covered es s ≡ true
 joined_covers es s k joined gone =
-    or_first (is_covered_stage (stage_of es s)) (is_some (refused_after es s) && has_open_write es s)
+    or_left (is_covered_stage (stage_of es s)) (is_some (refused_after es s) && has_open_write es s)
     (standing_covers (joined_after es s) (removed_after es s) (refused_after es s) (free_write (calls_of es s)) (stage_in (calls_of es s)) k joined gone)
 
 abbrev ended_by : Option ℕ → Option ℕ → Option ℕ → Option ℕ
 ended_by joined removed refused = elim joined [ Some k ↦ removed | None ↦ refused ]
-
-none_ended : (o : Option ℕ) → is_some o ≡ false → o ≡ None
-none_ended None h = refl
-none_ended (Some k) h = absurd (true_is_false h)
 
 -- It has joined, or its verify read is there.
 abbrev HasVerify : SessionId → Found → Type 0
@@ -215,7 +212,7 @@ going_acts p h xs run i f is verify over false quiet =
     let w : World = world_at p h xs in
     let n = not_over_by (free_landed i f) (is_some (ended_after (trace_of f) f.session)) (was_reset f) (has_write_in_flight i f.machine) over quiet in
     by_cover p h xs run i f is (kept_since w i f (beside p h xs run i f is) n.1)
-    (going_covers p h xs run i f is verify (none_ended (ended_after (trace_of f) f.session) n.0) (joined_after (trace_of f) f.session) refl)
+    (going_covers p h xs run i f is verify (not_some (ended_after (trace_of f) f.session) n.0) (joined_after (trace_of f) f.session) refl)
 
 abbrev renewed_for : Option ℕ → Option Stamp → Option Sampling → Option Course → ℕ
 renewed_for joined acting verifying read =
@@ -224,10 +221,6 @@ renewed_for joined acting verifying read =
       | None ↦ elim verifying [ None ↦ 0 | Some x ↦ option_map_or (λ c. c.made.moment) read 0 ]
     ]
 
-some_one : {A : Type 0} (o : Option A) → is_some o ≡ true → (a : A) × (o ≡ Some a)
-some_one None h = absurd (false_is_true h)
-some_one (Some a) h = (a, refl)
-
 verify_read : (w : World) (i : SessionId) (f : Found) → (is_none f.session.job || is_some (verifying_sample w i f)) ≡ true → joined_after (trace_of f) f.session ≡ None
     → (x : Sampling) × (verifying_sample w i f ≡ Some x)
 verify_read w i f verified none = by (or_true (is_none f.session.job) (is_some (verifying_sample w i f)) verified) where
@@ -235,7 +228,7 @@ verify_read w i f verified none = by (or_true (is_none f.session.job) (is_some (
   by (inl given) =
       let k = jobless (trace_of f) f.session (none_is f.session.job given) in
       absurd (no_value k.0 (joined_after (trace_of f) f.session) k.1 none)
-  by (inr sampled) = some_one (verifying_sample w i f) sampled
+  by (inr sampled) = some_there (verifying_sample w i f) sampled
 
 read_of : (w : World) (i : SessionId) (f : Found) (x : Sampling) → verifying_sample w i f ≡ Some x → (c : Course) × (join_course i VerifyRead f.machine ≡ Some c)
 read_of w i f x is = then_value (sample_showing f (claim_bytes w i f)) (join_course i VerifyRead f.machine) x is

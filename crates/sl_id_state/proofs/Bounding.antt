@@ -11,14 +11,13 @@ use Rattle.sl_law.specs.Lawful.{Lawful}
 use Rattle.sl_law.specs.LawfulDelta.{LawfulDeciding, LawfulDeltaCall, LawfulFirstRenewal}
 use Rattle.sl_law.specs.LawfulWatchdog.{is_covered}
 use Rattle.sl_moment_law.specs.Moments.{point_of}
+use Rattle.sl_plain.proofs.Lists.{find_fails, find_inside, got_inside}
 use Rattle.sl_run.specs.Safety.{Found, SessionId, trace_of, was_reset}
 use Rattle.sl_run.specs.Worlds.{Course, Daemon, Stamp, World, daemons_on, resets_after}
 use Rattle.sl_run.specs.declared.header.Header.{Header}
 use Rattle.sl_sector.specs.declared.sector.Rec.TheVariants.{DeltaIs}
 use Rattle.sl_session_law.proofs.Fronts.{front_answers_stay}
-use Rattle.sl_session_law.proofs.Joining.{same_number_by}
-use Rattle.sl_session_law.proofs.Making.{contains_cases, contains_none}
-use Rattle.sl_session_law.proofs.Owning.{calls_were_lawful, got_inside}
+use Rattle.sl_session_law.proofs.Owning.{calls_were_lawful}
 use Rattle.sl_session_law.proofs.Silence.{stage_by}
 use Rattle.sl_session_law.specs.Promises.{IsMade, IsSession, front_of, made_as}
 use Rattle.sl_sessions.specs.Sessions.{Session, calls_of, free_write, is_join_call, join_call, joined_after, refused_after, removed_after, sessions, stage_in}
@@ -29,15 +28,16 @@ use Rattle.sl_trace.specs.Traces.{Answered, Setting, Submitted, Trace, bytes_giv
 use Rattle.sl_trace.specs.declared.effects.JoinStep.TheVariants.{DecidingRead, FirstRenewal, VerifyRead}
 use Rattle.sl_trace.specs.declared.effects.Purpose.TheVariants.{Joining}
 use Rattle.sl_trace.specs.declared.effects.Purpose.{Purpose}
-use Rattle.sl_watchdog_law.proofs.Finding.{call_inside, call_owner, equal_numbers, find_inside}
+use Rattle.sl_watchdog_law.proofs.Finding.{call_inside, call_owner}
 use Rattle.sl_watchdog_law.proofs.Machines.{first_by}
 use Rattle.sl_watchdog_law.specs.Acting.{acting_stamp, registering_entry, renewal_entry}
 use Rattle.sl_watchdog_law.specs.Promises.{ActsStill, StandsConnected}
 use Rattle.sl_words.proofs.CaseLaws.{false_is_true, no_value, none_some, not_both, one_value, some_value, true_is_false}
 use Rattle.sl_words.proofs.WordLaws.{some_is_true}
 use Rattle.sl_words.specs.Words.{is_empty}
-use Rattle.std.proofs.Common.{ap, inl, inr, refl, subst, sym, ◌∙◌}
-use Rattle.std.specs.Prelude.{Bool, Contains, List, None, Option, Some, [], cond, false, find, is_some, not, option_and_then, true, ℕ, ◌&&◌, ◌==◌, ◌||◌, ◌∷◌, ◌≡◌, ◌⊎◌}
+use Rattle.std.proofs.Common.{ap, refl, sym, ◌∙◌}
+use Rattle.std.proofs.lemmas.Bool.{eq-eqb, eqb-true}
+use Rattle.std.specs.Prelude.{Bool, List, None, Option, Some, [], cond, false, find, is_some, not, option_and_then, true, ℕ, ◌&&◌, ◌==◌, ◌∷◌, ◌≡◌}
 
 -- ---- options and lists
 
@@ -49,24 +49,6 @@ pub then_value : {A B : Type 0} (f : A → Option B) (o : Option A) (b : B) → 
 then_value f None b h = absurd (none_some b h)
 then_value f (Some a) b h = (a, refl)
 
-find_fails_by : {A : Type 0} (p : A → Bool) (x : A) (xs : List A) (d : A) (b : Bool) → p x ≡ b → cond b (Some x) (find p xs) ≡ None → (x ≡ d) ⊎ Contains xs d
-    → (find p xs ≡ None → Contains xs d → p d ≡ false) → p d ≡ false
-find_fails_by p x xs d true is none there rest = absurd (none_some x (sym none))
-find_fails_by {A} p x xs d false is none (inl here) rest = subst (λ (y : A). p y ≡ false) here is
-find_fails_by p x xs d false is none (inr there) rest = rest none there
-
-find_fails : {A : Type 0} (p : A → Bool) (xs : List A) (d : A) → find p xs ≡ None → Contains xs d → p d ≡ false
-find_fails p [] d none there = absurd (contains_none d there)
-find_fails p (x ∷ xs) d none there = find_fails_by p x xs d (p x) refl none (contains_cases x xs d there) (λ left inside. find_fails p xs d left inside)
-
-pub or_first : (a b : Bool) → a ≡ true → (a || b) ≡ true
-or_first true b h = refl
-or_first false b h = absurd (false_is_true h)
-
-pub both_true : (a b : Bool) → a ≡ true → b ≡ true → (a && b) ≡ true
-both_true true b f g = g
-both_true false b f g = absurd (false_is_true f)
-
 -- ---- the daemon since the last restart
 
 first_is : (b : Bool) (ds : List Daemon) (x d : Daemon) (n : ℕ) → first_by b ds ≡ Some x → x.number ≡ n → find (λ (z : Daemon). z.number == n) ds ≡ Some d → x ≡ d
@@ -74,14 +56,14 @@ first_is false ds x d n first same found = absurd (none_some x first)
 first_is true [] x d n first same found = absurd (none_some x first)
 first_is true (y ∷ ds) x d n first same found =
     let one = some_value y x first in
-    let test : (y.number == n) ≡ true = equal_numbers y.number n (ap (λ (z : Daemon). z.number) one ∙ same) in
+    let test : (y.number == n) ≡ true = eq-eqb y.number n (ap (λ (z : Daemon). z.number) one ∙ same) in
     sym one ∙ some_value y d (sym (ap (λ b. cond b (Some y) (find (λ (z : Daemon). z.number == n) ds)) test) ∙ found)
 
 since_is : (w : World) (i : SessionId) (f : Found) → IsBeside w i f → (x : Daemon) → since_restart f.machine ≡ Some x → (x.number == f.daemon.number) ≡ true
     → since_restart f.machine ≡ Some f.daemon
 since_is w i f b x since same =
     since ∙ ap (λ z. Some z) (first_is (f.machine.up && f.machine.used) (daemons_on f.machine) x f.daemon i.daemon since
-    (same_number_by x.number f.daemon.number same ∙ b.number) b.numbered)
+    (eqb-true x.number f.daemon.number same ∙ b.number) b.numbered)
 
 -- One that runs.
 pub running_since : (w : World) (i : SessionId) (f : Found) → IsBeside w i f → runs_still f ≡ true → since_restart f.machine ≡ Some f.daemon
@@ -102,7 +84,7 @@ kept_since w i f b kept_is = by (since_restart f.machine) refl where
   same : (x : Daemon) → since_restart f.machine ≡ Some x → (t : Bool) → (x.number == f.daemon.number) ≡ t → since_restart f.machine ≡ Some f.daemon
   same x since true is = since_is w i f b x since is
   same x since false is =
-      absurd (lost (λ its. true_is_false (sym (equal_numbers x.number f.daemon.number
+      absurd (lost (λ its. true_is_false (sym (eq-eqb x.number f.daemon.number
       (ap (λ (z : Daemon). z.number) (one_value x f.daemon (since_restart f.machine) since its))) ∙ is)))
 
   by : (o : Option Daemon) → since_restart f.machine ≡ o → since_restart f.machine ≡ Some f.daemon
@@ -147,7 +129,7 @@ jobless es s none = by s.job none refl where
   by None is its = (0, rw its refl)
   by (Some j) is its = absurd (none_some j (sym is))
 
-not_looking : (joined removed refused : Option ℕ) (free : Option Submitted) (joining : Stage) (k : ℕ) → joined ≡ Some k → stage_by joined removed refused free joining ≡ Looking → ⊥
+pub not_looking : (joined removed refused : Option ℕ) (free : Option Submitted) (joining : Stage) (k : ℕ) → joined ≡ Some k → stage_by joined removed refused free joining ≡ Looking → ⊥
 not_looking None removed refused free joining k is at = none_some k is
 not_looking (Some j) (Some i) refused free joining k is at = cc
 not_looking (Some j) None refused (Some m) joining k is at = cc
@@ -177,7 +159,7 @@ gave_answer : (o : Option Answered) (bytes : List ℕ) → option_and_then (λ (
 gave_answer None bytes h = absurd (none_some bytes h)
 gave_answer (Some a) bytes h = (a, refl)
 
-never_joined : (s : Session) (j k : ℕ) → s.job ≡ Some j → joined_after [] s ≡ Some k → ⊥
+pub never_joined : (s : Session) (j k : ℕ) → s.job ≡ Some j → joined_after [] s ≡ Some k → ⊥
 never_joined s j k job joined = by s.job job refl where
   by : (o : Option ℕ) → o ≡ Some j → s.job ≡ o → ⊥
   by None is its = none_some j is

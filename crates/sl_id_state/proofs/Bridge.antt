@@ -1,30 +1,32 @@
 -- A session of a lawful run beside its trace: its calls on its machine are those of its trace, in the same order.
+use Rattle.sl_id_state.proofs.Beside.{own_pairs}
 use Rattle.sl_place_law.proofs.Reading.{lawful_daemon}
 use Rattle.sl_course_law.specs.Mirrors.{IsOfWorld}
 use Rattle.sl_course_law.specs.Promises.{CoursesAreCalls, DaemonsAreOfWorld}
-use Rattle.sl_course_law.specs.Stamping.{AreCalls, IsCourseOf, Pairwise, courses_of}
+use Rattle.sl_course_law.specs.Stamping.{IsCourseOf, Pairwise}
 use Rattle.sl_front_law.proofs.Having.{contains_append}
-use Rattle.sl_id_state.proofs.Listing.{EveryTail, PairsAt, filter_both, filter_pairs, find_pairs, map_some, pairs_at, stands, stands_there, tail_at, then_some}
-use Rattle.sl_place_law.proofs.Finding.{found_in, same_number}
+use Rattle.sl_id_state.proofs.Listing.{EveryTail, PairsAt, find_pairs, pairs_at, stands, stands_there, tail_at}
 use Rattle.sl_place_law.proofs.Numbering.{session_number}
 use Rattle.sl_id_state.proofs.Tails.{IsMadeAfter, all_made}
 use Rattle.sl_id_state.specs.IdStates.{join_course, own_courses}
 use Rattle.sl_landing_law.specs.Landings.{DoneWritesHaveLanded}
 use Rattle.sl_law.specs.Lawful.{Lawful}
-use Rattle.sl_moment_law.proofs.Ordering.{entries_ordered, machines_ordered}
+use Rattle.sl_moment_law.proofs.Ordering.{calls_more, entries_ordered, fall_front, machines_ordered}
 use Rattle.sl_moment_law.specs.Orders.{CallsFall, Fall, IsTimed}
+use Rattle.sl_plain.proofs.Lists.{contains_cases, contains_none, find_inside}
+use Rattle.sl_plain.proofs.Options.{mapped_value, then_value}
 use Rattle.sl_run.specs.Runs.{Happening}
 use Rattle.sl_run.specs.Safety.{Found, IsSession, LawfulRun, SessionId, is_course_of, setting_in, trace_of, world_at}
-use Rattle.sl_run.specs.Worlds.{Course, Daemon, Machine, Program, Stamp, World, daemon_numbered, daemons_on, machine_at}
+use Rattle.sl_run.specs.Worlds.{Course, Daemon, Machine, Program, World, daemon_numbered, daemons_on, machine_at}
 use Rattle.sl_run.specs.declared.header.Header.{Header}
 use Rattle.sl_sample_law.specs.Samples.{DoneReadsAreWhole, SampledAreSectors, SamplesAreLandings}
-use Rattle.sl_session_law.proofs.Making.{contains_cases, contains_none}
 use Rattle.sl_session_law.specs.Promises.{IsSession as IsSessionOf}
-use Rattle.sl_sessions.specs.Sessions.{Session, calls_of, is_call_of, is_join_call, join_call, session_numbered}
-use Rattle.sl_trace.specs.Traces.{Submitted, submitted}
+use Rattle.sl_sessions.specs.Sessions.{Session, calls_of, is_join_call, join_call, session_numbered}
+use Rattle.sl_trace.specs.Traces.{Submitted}
 use Rattle.sl_trace.specs.declared.effects.Call.{Call}
 use Rattle.sl_trace.specs.declared.effects.JoinStep.{JoinStep}
-use Rattle.std.proofs.Common.{ap, arith, inl, inr, subst, sym, ◌∙◌}
+use Rattle.std.proofs.Common.{ap, arith, inl, inr, subst, ◌∙◌}
+use Rattle.std.proofs.lemmas.Bool.{eqb-true}
 use Rattle.std.specs.Prelude.{Bool, Contains, List, Option, Some, [], cond, false, filter, option_and_then, option_map, true, ℕ, ◌++◌, ◌+◌, ◌<◌, ◌==◌, ◌∷◌, ◌≡◌, ◌≤◌, ◌⊎◌}
 
 -- What the crates of calls, landings and samples promise.
@@ -58,15 +60,15 @@ daemons_in i a = option_and_then (sessions_in i a) (daemon_numbered a i.daemon)
 
 pub is_there : (w : World) (i : SessionId) (f : Found) → IsSession w i f → IsThere w i f
 is_there w i f its =
-    let one = then_some (daemons_in i) (machine_at w i.machine) f its in
-    let two = then_some (sessions_in i one.0) (daemon_numbered one.0 i.daemon) f one.2 in
-    let three = map_some (found_as one.0 two.0) (session_numbered two.0.setting two.0.trace i.number) f two.2 in
-    let d = found_in (λ (x : Daemon). x.number == i.daemon) (daemons_on one.0) two.0 two.1 in
+    let one = then_value (daemons_in i) (machine_at w i.machine) f its in
+    let two = then_value (sessions_in i one.0) (daemon_numbered one.0 i.daemon) f one.2 in
+    let three = mapped_value (found_as one.0 two.0) (session_numbered two.0.setting two.0.trace i.number) f two.2 in
+    let d = find_inside (λ (x : Daemon). x.number == i.daemon) (daemons_on one.0) two.0 two.1 in
     subst (λ g. IsThere w i g) three.2 (
     record {
       at = one.1;
       has = d.0;
-      daemon = same_number two.0.number i.daemon d.1;
+      daemon = eqb-true two.0.number i.daemon d.1;
       found = two.1;
       session = three.1;
       number = session_number two.0.setting two.0.trace i.number three.0 three.1;
@@ -75,28 +77,12 @@ is_there w i f its =
 
 -- ---- its calls on the machine and in the trace
 
--- The calls of a daemon's session are those of the session among the daemon's.
-own_are : (i : SessionId) (a : Machine) → own_courses i a ≡ filter (λ c. c.call.session == i.number) (courses_of a i.daemon)
-own_are i a = filter_both (λ (c : Course). c.daemon == i.daemon) (λ (c : Course). c.call.session == i.number) a.calls
-
-pub own_pairs : (i : SessionId) (a : Machine) (d : Daemon) (s : Session) → d.number ≡ i.daemon → s.number ≡ i.number → AreCalls a d
-    → Pairwise (IsCourseOf d) (own_courses i a) (calls_of d.trace s)
-own_pairs i a d s daemon number pairs =
-    subst (λ cs. Pairwise (IsCourseOf d) cs (calls_of d.trace s)) (sym (own_are i a))
-    (filter_pairs (IsCourseOf d) (λ c. c.call.session == i.number) (is_call_of s)
-    (λ c m r. ap (λ (x : Call). x.session == s.number) r.call ∙ ap (λ n. c.call.session == n) number) (courses_of a i.daemon) (submitted d.trace)
-    (subst (λ n. Pairwise (IsCourseOf d) (courses_of a n) (submitted d.trace)) daemon pairs))
-
 -- ---- order
-
-falls_more : (n k : ℕ) (cs : List Course) → n ≤ k → CallsFall n cs → CallsFall k cs
-falls_more n k [] le h = tt
-falls_more n k (c ∷ cs) le h = (omega (arith, le, h.0), h.1, h.2)
 
 falls_kept : (p : Course → Bool) (c : Course) (n : ℕ) (rest : List Course) (b : Bool) → c.made.step < n → IsTimed c → CallsFall (c.made.step + 1) rest
     → CallsFall n (cond b (c ∷ rest) rest)
 falls_kept p c n rest true lt timed h = (lt, timed, h)
-falls_kept p c n rest false lt timed h = falls_more (c.made.step + 1) n rest (omega (arith, lt)) h
+falls_kept p c n rest false lt timed h = calls_more (c.made.step + 1) n rest (omega (arith, lt)) h
 
 falls_filter : (p : Course → Bool) (n : ℕ) (cs : List Course) → CallsFall n cs → CallsFall n (filter p cs)
 falls_filter p n [] h = tt
@@ -141,10 +127,6 @@ falls_at n (x ∷ newer) c older h = falls_at (x.made.step + 1) newer c older h.
 -- What stands behind was not made after.
 behind_is_before : (n : ℕ) (newer : List Course) (c : Course) (older : List Course) (d : Course) → CallsFall n (newer ++ c ∷ older) → Contains older d → d.made.step ≤ c.made.step
 behind_is_before n newer c older d h there = let r = falls_below (c.made.step + 1) older d (falls_at n newer c older h) there in omega (arith, r.0)
-
-fall_front : (n : ℕ) (xs ys : List Stamp) → Fall n (xs ++ ys) → Fall n xs
-fall_front n [] ys h = tt
-fall_front n (x ∷ xs) ys h = (h.0, fall_front x.step xs ys h.1)
 
 -- ---- what is known of a session of a lawful run
 

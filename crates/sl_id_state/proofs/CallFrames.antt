@@ -18,7 +18,8 @@ use Rattle.sl_words.proofs.CaseLaws.{is_false, true_is_false}
 use Rattle.sl_words.proofs.OrderLaws.{same_or_apart}
 use Rattle.sl_words.proofs.WordLaws.{and_true}
 use Rattle.sl_words.specs.Words.{greatest, some_is}
-use Rattle.std.proofs.Common.{ap, arith, inl, inr, refl, subst, sym, tests, ◌∙◌}
+use Rattle.std.proofs.Common.{ap, arith, inl, inr, refl, subst, sym, ◌∙◌}
+use Rattle.std.proofs.lemmas.Bool.{eqb-true}
 use Rattle.std.specs.Option.{option_map_or}
 use Rattle.std.specs.Prelude.{Bool, List, None, Option, Some, false, length, map, option_map, option_and_then, true, [], ℕ, ◌&&◌, ◌++◌, ◌<◌, ◌==◌, ◌∷◌, ◌≡◌}
 
@@ -38,7 +39,7 @@ seq_by v i l false n h = refl
 with_none : (g n : ℕ) (ns : List ℕ) → n ≡ 0 → greatest (g ∷ n ∷ ns) ≡ greatest (g ∷ ns)
 with_none g n ns h = omega (arith, h)
 
-index_other : (p : ℕ × ℕ) (l : Landing) (ls : List Landing) (b : Bool) → b ≡ false
+pub index_other : (p : ℕ × ℕ) (l : Landing) (ls : List Landing) (b : Bool) → b ≡ false
     → elim b as (λ z. ℕ) [ true ↦ length ls | false ↦ index_of p ls ] ≡ index_of p ls
 index_other p l ls true h = absurd (true_is_false h)
 index_other p l ls false h = refl
@@ -96,9 +97,6 @@ pub record ChangesCall (w v : World) (m n : ℕ) (turn : Course → Course) : Ty
 abbrev pub caller : ℕ → Course → SessionId
 caller m c = record { machine = m; daemon = c.daemon; number = c.call.session }
 
-same_numbers : (m n : ℕ) → (m == n) ≡ true → m ≡ n
-same_numbers m n h = grind (arith, tests)
-
 id_by : (i : SessionId) (m d n : ℕ) → i.machine ≡ m → d ≡ i.daemon → n ≡ i.number → i ≡ record { machine = m; daemon = d; number = n }
 id_by i m d n a b c =
     ap (λ x. let y : SessionId = record { machine = x; daemon = i.daemon; number = i.number } in y) a
@@ -109,7 +107,7 @@ id_by i m d n a b c =
 pub not_its_call : (i : SessionId) (m : ℕ) (c : Course) → i.machine ≡ m → (i ≡ caller m c → ⊥) → is_course_of i c ≡ false
 not_its_call i m c same other =
     is_false (is_course_of i c) (λ t. let p = and_true (c.daemon == i.daemon) (c.call.session == i.number) t in
-    other (id_by i m c.daemon c.call.session same (same_numbers c.daemon i.daemon p.0) (same_numbers c.call.session i.number p.1)))
+    other (id_by i m c.daemon c.call.session same (eqb-true c.daemon i.daemon p.0) (eqb-true c.call.session i.number p.1)))
 
 its_call : (i : SessionId) (turn : Course → Course) (c : Course) → ((turn c).daemon ≡ c.daemon) × ((turn c).call ≡ c.call)
     → is_course_of i (turn c) ≡ is_course_of i c

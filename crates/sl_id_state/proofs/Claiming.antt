@@ -1,14 +1,16 @@
 -- What stands behind a claim.
+use Rattle.sl_course_law.proofs.Daemons.{every_has}
+use Rattle.sl_place_law.proofs.Looks.{joins_at}
+use Rattle.sl_plain.proofs.Lists.{kept_inside}
 use Rattle.sl_run_law.specs.Fates.{Every}
-use Rattle.sl_landing_law.proofs.Listing.{every_one}
 use Rattle.sl_place_law.proofs.Reading.{answer_gave}
 use Rattle.sl_area.specs.Layouts.{Layout, record_in}
 use Rattle.sl_area.specs.Places.{delta_offset}
 use Rattle.sl_course_law.specs.Stamping.{IsCourseOf}
 use Rattle.sl_id_state.proofs.Bridge.{Grounds, known}
-use Rattle.sl_id_state.proofs.Keeping.{IsOwnCall, is_at_own, own_call, read_is_own, step_is, step_law}
+use Rattle.sl_id_state.proofs.Keeping.{IsOwnCall, is_at_own, own_call, read_is_own, step_law}
 use Rattle.sl_id_state.proofs.Listing.{EveryTail, tail_at}
-use Rattle.sl_place_law.proofs.Finding.{place_is, filtered, partner}
+use Rattle.sl_place_law.proofs.Finding.{place_is, partner}
 use Rattle.sl_id_state.proofs.Living.{InPlace, Precede, rank}
 use Rattle.sl_id_state.proofs.Steps.{IsSampled, answered_before, before_refusal, is_sampled, only, places, ranks_of, showing}
 use Rattle.sl_id_state.specs.Facts.{ClaimsHaveDecided, HasDecided, WritesOwn, is_reading_step}
@@ -47,7 +49,7 @@ use Rattle.std.specs.Prelude.{Bool, Contains, List, None, Option, Some, [], fals
 
 -- ---- what a write writes
 
-rec_of : (r : Rec) (d : DeltaRec) → delta_of_record r ≡ Some d → r ≡ DeltaIs d
+pub rec_of : (r : Rec) (d : DeltaRec) → delta_of_record r ≡ Some d → r ≡ DeltaIs d
 rec_of (DeltaIs e) d h = ap (λ x. DeltaIs x) (some_value e d h)
 rec_of r d h = absurd (none_some d h)
 
@@ -82,7 +84,7 @@ truth : (p : Purpose) (j : ℕ) (step : JoinStep) → p ≡ Joining j step → (
 truth p j step is = ap (λ q. is_delta_purpose q && not (is_survey_purpose q)) is
 
 pub step_truth : (step : JoinStep) (p : Purpose) → is_join_call step p ≡ true → (is_delta_purpose p && not (is_survey_purpose p)) ≡ true
-step_truth step p is = let r = step_is step p is in truth p r.0 step r.1
+step_truth step p is = let r = joins_at step p is in truth p r.0 step r.1
 
 -- Two calls on the session's own sector are at one place.
 pub one_place : (w : World) (f : Found) (c d : Course) → is_sector_of w.layout c.call.path c.call.offset f.session ≡ true → is_sector_of w.layout d.call.path d.call.offset f.session ≡ true
@@ -130,7 +132,7 @@ every_done [] h = tt
 every_done (m ∷ ms) h = let parts = and_true (fits m && has_reply m) (all_done ms) h in (and_true (fits m) (has_reply m) parts.0, every_done ms parts.1)
 
 pub done_of : (ms : List Submitted) (m : Submitted) → all_done ms ≡ true → Contains ms m → (fits m ≡ true) × (has_reply m ≡ true)
-done_of ms m h there = every_one (λ (x : Submitted). (fits x ≡ true) × (has_reply x ≡ true)) ms m (every_done ms h) there
+done_of ms m h there = every_has (λ (x : Submitted). (fits x ≡ true) × (has_reply x ≡ true)) ms m (every_done ms h) there
 
 pub place_at : (w : World) (i : SessionId) (f : Found) (c : Course) (o : IsOwnCall w i f c) → InPlace o.placed.pairs.here o.placed.pairs.rest
 place_at w i f c o =
@@ -143,7 +145,7 @@ none_written w i f c o is d there =
     let r = ranks_of ClaimWrite x.here.call.purpose (ap (λ (y : Call). is_join_call ClaimWrite y.purpose) x.this.call ∙ is) in
     let place = place_at w i f c o r.0 in
     let m = partner (IsCourseOf f.daemon) o.placed.older x.rest d x.rests there in
-    let low = rank_below x.here m.0 r.1 (every_one (Precede x.here) x.rest m.0 place.below m.1) in
+    let low = rank_below x.here m.0 r.1 (every_has (Precede x.here) x.rest m.0 place.below m.1) in
     no_record d.call.op
     (ap (λ (y : Call). is_write y.op) (sym m.2.call)
     ∙ reads_by m.0.call.purpose (is_write m.0.call.op) (done_of x.rest m.0 place.done m.1).0 low)
@@ -169,9 +171,9 @@ read_step g p h xs run i f c o own step reads r bytes given =
     let b = answered_before w i f c o r told.0 given.0 told.1 in
     let joins : is_join_call step b.course.call.purpose ≡ true = ap (λ (x : Call). is_join_call step x.purpose) (sym b.is.call) ∙ given.1 in
     let oc = own_call w i f b.course o.known b.own in
-    let at = step_is step b.course.call.purpose joins in
+    let at = joins_at step b.course.call.purpose joins in
     let ro = read_is_own w i f b.course oc at.0 step at.1 reads in
-    let read = is_sampled g p h xs run i.machine f.machine b.course o.known.there.at (filtered (is_course_of i) f.machine.calls b.course b.own).0
+    let read = is_sampled g p h xs run i.machine f.machine b.course o.known.there.at (kept_inside (is_course_of i) f.machine.calls b.course b.own).0
     (b.told.done ∙ ap (λ x. is_ok_answer x) told.2) ro.reads in
     record {
       course = b.course;

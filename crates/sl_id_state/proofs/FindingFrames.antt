@@ -1,26 +1,22 @@
 -- Sessions are found where they were found, as events go on.
 use Rattle.sl_id_state.proofs.Frames.{Same, flying_same, is_running}
 use Rattle.sl_id_state.specs.IdStates.{own_courses}
+use Rattle.sl_plain.proofs.Lists.{contains_first, contains_more}
 use Rattle.sl_run.specs.Events.{change_call}
 use Rattle.sl_run.specs.Safety.{Found, SessionId, is_course_of, session_of_world}
 use Rattle.sl_run.specs.Worlds.{Course, Daemon, Machine, World, change_machine, daemon_numbered, daemons_on, flight_of, is_open, machine_at}
 use Rattle.sl_run_law.proofs.Coursing.{changed_if}
-use Rattle.sl_run_law.proofs.Fates.{numbered}
+use Rattle.sl_run_law.proofs.Fates.{every_map, numbered}
 use Rattle.sl_run_law.proofs.Walking.{index}
 use Rattle.sl_run_law.specs.Fates.{AreDistinct, Every}
-use Rattle.sl_session_law.proofs.Making.{contains_first, contains_more}
 use Rattle.sl_sessions.specs.Sessions.{Session, session_numbered}
 use Rattle.sl_words.proofs.CaseLaws.{none_some, not_both, some_value, true_is_false}
 use Rattle.sl_words.specs.Words.{is_empty}
 use Rattle.std.proofs.Common.{ap, arith, refl, subst, sym, tests, ◌∙◌}
+use Rattle.std.proofs.lemmas.Bool.{eqb-true}
 use Rattle.std.specs.Prelude.{Bool, Contains, List, None, Option, Some, cond, false, filter, find, if◌then◌else◌, map, nat_lt, not, option_and_then, option_map, slice_get, slice_set, suc, true, zero, [], ℕ, ◌-◌, ◌==◌, ◌∷◌, ◌≡◌}
 
 -- ---- machines
-
-set_here : (ms : List Machine) (i : ℕ) (x a : Machine) → slice_get ms i ≡ Some a → slice_get (slice_set ms i x) i ≡ Some x
-set_here [] i x a h = absurd (none_some a h)
-set_here (y ∷ ms) zero x a h = refl
-set_here (y ∷ ms) (suc i) x a h = set_here ms i x a h
 
 set_elsewhere : (ms : List Machine) (i j : ℕ) (x : Machine) → (j ≡ i → ⊥) → slice_get (slice_set ms i x) j ≡ slice_get ms j
 set_elsewhere [] i j x h = refl
@@ -29,20 +25,9 @@ set_elsewhere (y ∷ ms) zero (suc j) x h = refl
 set_elsewhere (y ∷ ms) (suc i) zero x h = refl
 set_elsewhere (y ∷ ms) (suc i) (suc j) x h = set_elsewhere ms i j x (λ e. h (ap (λ n. suc n) e))
 
-at_place : (b : Bool) (o : Option Machine) (a : Machine) → b ≡ false → o ≡ Some a → (if b then None else o) ≡ Some a
-at_place true o a h k = absurd (true_is_false h)
-at_place false o a h k = k
-
 -- A machine with this one in place of one of its machines.
 abbrev replaced : World → ℕ → (Machine → Machine) → Option Machine → World
 replaced w m f o = elim o [ None ↦ w | Some a ↦ record w { machines = slice_set w.machines (m - 1) (f a) } ]
-
--- The machine that is changed.
-pub changed_here : (w : World) (m : ℕ) (f : Machine → Machine) (a : Machine) → machine_at w m ≡ Some a → machine_at (change_machine m f w) m ≡ Some (f a)
-changed_here w m f a h =
-    let p = index w m a h in
-    ap (λ o. machine_at (replaced w m f o) m) h
-    ∙ at_place (m == 0) (slice_get (slice_set w.machines (m - 1) (f a)) (m - 1)) (f a) p.0 (set_here w.machines (m - 1) (f a) a p.1)
 
 apart : (m n : ℕ) → (m == 0) ≡ false → (n == 0) ≡ false → (n ≡ m → ⊥) → n - 1 ≡ m - 1 → ⊥
 apart m n h k ne e = ne (grind (arith, tests))
@@ -87,9 +72,6 @@ pub record IsFound (i : SessionId) (a : Machine) (f : Found) : Type 0 where
   pub number : f.daemon.number ≡ i.daemon
   pub has : Contains (daemons_on a) f.daemon
 
-same_numbers : (m n : ℕ) → (m == n) ≡ true → m ≡ n
-same_numbers m n h = grind (arith, tests)
-
 -- What is found passes the test, and is there.
 pub record Passes {A : Type 0} (p : A → Bool) (xs : List A) (x : A) : Type 0 where
   pub test : p x ≡ true
@@ -112,7 +94,7 @@ found_by i a d f None at is h = absurd (none_some f h)
 found_by i a d f (Some s) at is h =
     let x : Found = record { machine = a; daemon = d; session = s } in
     let p = find_passes (λ y. y.number == i.daemon) (daemons_on a) d at in
-    let this : IsFound i a x = record { machine = refl; daemon = at; session = is; number = same_numbers d.number i.daemon p.test; has = p.there } in
+    let this : IsFound i a x = record { machine = refl; daemon = at; session = is; number = eqb-true d.number i.daemon p.test; has = p.there } in
     subst (IsFound i a) (some_value x f h) this
 
 found_in : (i : SessionId) (a : Machine) (f : Found) (o : Option Daemon) → daemon_numbered a i.daemon ≡ o → session_with i a o ≡ Some f → IsFound i a f
@@ -191,16 +173,12 @@ other_number : (i : SessionId) (n : ℕ) (x : Course) (t : Bool) → (x.call.num
 other_number i n x true is free own = absurd (not_both (is_course_of i x) own (free refl))
 other_number i n x false is free own = refl
 
-every_with : (P Q : Course → Type 0) (cs : List Course) → ((c : Course) → P c → Q c) → Every P cs → Every Q cs
-every_with P Q [] f h = tt
-every_with P Q (c ∷ cs) f h = (f c h.0, every_with P Q cs f h.1)
-
 -- A change of a call in flight that is another session's leaves the session's calls.
 pub own_apart : (i : SessionId) (a : Machine) (n : ℕ) (g : Course) (f : Course → Course) → AreDistinct a.calls → flight_of a n ≡ Some g
     → is_course_of i g ≡ false → ((c : Course) → is_course_of i (f c) ≡ is_course_of i c) → own_courses i (change_call n f a) ≡ own_courses i a
 own_apart i a n g f distinct at other stays =
     own_untouched i (λ c. c.call.number == n) f a.calls stays
-    (every_with (λ x. (x.call.number == n) ≡ true → is_course_of i x ≡ false) (λ x. is_course_of i x ≡ true → (x.call.number == n) ≡ false) a.calls
+    (every_map (λ x. (x.call.number == n) ≡ true → is_course_of i x ≡ false) (λ x. is_course_of i x ≡ true → (x.call.number == n) ≡ false) a.calls
     (λ x h own. other_number i n x (x.call.number == n) refl h own)
     (numbered (is_open a) n (λ x. is_course_of i x ≡ false) a.calls g at distinct other))
 

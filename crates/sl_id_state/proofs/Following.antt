@@ -1,15 +1,16 @@
 -- Of a daemon's sessions of one lockspace each is over before the next begins.
+use Rattle.sl_course_law.proofs.Daemons.{every_each, every_has}
+use Rattle.sl_plain.proofs.Lists.{any_found, got_inside, kept, there_is}
+use Rattle.sl_plain.proofs.Options.{mapped_value}
 use Rattle.sl_run_law.specs.Fates.{Every}
-use Rattle.sl_landing_law.proofs.Listing.{every_one}
-use Rattle.sl_sample_law.proofs.Numbering.{every_so}
-use Rattle.sl_watchdog_law.proofs.Finding.{any_found}
+use Rattle.sl_watchdog_law.proofs.Numbering.{given_later}
+use Rattle.std.proofs.lemmas.Bool.{eqb-true}
 use Rattle.std.proofs.lemmas.Option.{slice_get_within}
 use Rattle.sl_course_law.specs.Stamping.{AnswersAgree, IsAnsweredAs}
 use Rattle.sl_id_state.proofs.Begun.{HadEnded, BeganAt, answered_then, began_alone, begun_where, early_call, had_ended, late_call}
 use Rattle.sl_id_state.proofs.Bridge.{Grounds, IsKnown, known}
 use Rattle.sl_id_state.proofs.Keeping.{IsOwnCall, own_call}
-use Rattle.sl_id_state.proofs.Listing.{every_from, map_some, stands_there}
-use Rattle.sl_place_law.proofs.Finding.{same_number}
+use Rattle.sl_id_state.proofs.Listing.{every_from, stands_there}
 use Rattle.sl_id_state.proofs.Timing.{stamps_rise}
 use Rattle.sl_id_state.specs.Facts.{SessionsFollow}
 use Rattle.sl_id_state.specs.IdStates.{own_courses}
@@ -20,8 +21,7 @@ use Rattle.sl_run.specs.Worlds.{Course, Daemon, Machine, Program, Stamp, World, 
 use Rattle.sl_run.specs.declared.header.Header.{Header}
 use Rattle.sl_run.specs.declared.header.LockspaceLine.{LockspaceLine}
 use Rattle.sl_run.specs.declared.header.SessionLine.{SessionLine}
-use Rattle.sl_session_law.proofs.Naming.{kept}
-use Rattle.sl_session_law.proofs.Owning.{got_inside, session_more, sessions_stay}
+use Rattle.sl_session_law.proofs.Owning.{session_more, sessions_stay}
 use Rattle.sl_session_law.proofs.Staying.{marks_stay}
 use Rattle.sl_sessions.specs.Sessions.{Session, ended_after, given_session, session_numbered, sessions}
 use Rattle.sl_trace.specs.Traces.{Answered, Setting, Trace, is_write}
@@ -71,13 +71,13 @@ pairs_mapped : {A B : Type 0} (f : A → Option B) (R : A → A → Type 0) (S :
 pairs_mapped f R S go [] h = tt
 pairs_mapped {A} {B} f R S go (x ∷ xs) h =
     pairs_by f S x xs (f x) refl
-    (λ b is. every_mapped f (S b) xs (every_so (R x) (λ (y : A). (c : B) → f y ≡ Some c → S b c) xs (λ y r c its. go x y b c r is its) h.0))
+    (λ b is. every_mapped f (S b) xs (every_each (R x) (λ (y : A). (c : B) → f y ≡ Some c → S b c) xs (λ y r c its. go x y b c r is its) h.0))
     (pairs_mapped f R S go xs h.1)
 
 pair_at : {A : Type 0} (S : A → A → Type 0) (xs : List A) (i k : ℕ) (b c : A) → Pairs S xs → slice_get xs i ≡ Some b → slice_get xs k ≡ Some c → i < k → S b c
 pair_at S [] i k b c h at to lt = absurd (none_some b at)
 pair_at S (x ∷ xs) i zero b c h at to lt = absurd (omega (arith, lt))
-pair_at {A} S (x ∷ xs) zero (suc k) b c h at to lt = subst (λ (y : A). S y c) (some_value x b at) (every_one (S x) xs c h.0 (got_inside xs k c to))
+pair_at {A} S (x ∷ xs) zero (suc k) b c h at to lt = subst (λ (y : A). S y c) (some_value x b at) (every_has (S x) xs c h.0 (got_inside xs k c to))
 pair_at S (x ∷ xs) (suc i) (suc k) b c h at to lt = pair_at S xs i k b c h.1 at to (omega (arith, lt))
 
 abbrev given_as : SessionLine → Header → LockspaceLine → ℕ → Given
@@ -93,8 +93,8 @@ given_line h m s g is = by (s.machine == m) refl is where
       → (s.machine ≡ m) × (g.lockspace ≡ s.lockspace)
   by false same at = absurd (none_some g at)
   by true same at =
-      let r = map_some (λ l. given_as s h l (clock_reading h m)) (find (λ (l : LockspaceLine). bytes_eq l.name s.lockspace) h.lockspaces) g at in
-      (same_number s.machine m same, ap (λ (x : Given). x.lockspace) (sym r.2))
+      let r = mapped_value (λ l. given_as s h l (clock_reading h m)) (find (λ (l : LockspaceLine). bytes_eq l.name s.lockspace) h.lockspaces) g at in
+      (eqb-true s.machine m same, ap (λ (x : Given). x.lockspace) (sym r.2))
 
 abbrev Apart : Given → Given → Type 0
 Apart a b = a.lockspace ≡ b.lockspace → ⊥
@@ -124,24 +124,15 @@ pairs_given h m gs together (inr some) = subst (λ zs. Pairs Apart zs) (sym some
 
 -- ---- a session that was there already
 
-there_at : {A : Type 0} (xs : List A) (k : ℕ) → k < length xs → (x : A) × (slice_get xs k ≡ Some x)
-there_at [] k lt = absurd (omega (arith, lt))
-there_at (x ∷ xs) zero lt = (x, refl)
-there_at (x ∷ xs) (suc k) lt = there_at xs k (omega (arith, lt))
-
-first_stays : (st : Setting) (es : Trace) (n : ℕ) (s : Session) → session_numbered st [] n ≡ Some s → session_numbered st es n ≡ Some s
-first_stays st [] n s at = at
-first_stays st (e ∷ es) n s at = session_more st e es n s (first_stays st es n s at)
-
 was_first : (st : Setting) (es : Trace) (n : ℕ) (s : Session) → session_numbered st es n ≡ Some s → n < length (sessions st []) → session_numbered st [] n ≡ Some s
 was_first st es n s at lt =
-    let x = there_at (sessions st []) n lt in
-    x.1 ∙ ap (λ y. Some y) (one_value x.0 s (session_numbered st es n) (first_stays st es n x.0 x.1) at)
+    let x = there_is (sessions st []) n lt in
+    x.1 ∙ ap (λ y. Some y) (one_value x.0 s (session_numbered st es n) (given_later st es n x.0 x.1) at)
 
 was_past : (st : Setting) (later : Trace) (e : Entry) (past : Trace) (n : ℕ) (s : Session) → session_numbered st (later ++ e ∷ past) n ≡ Some s → n < length (sessions st past)
     → session_numbered st past n ≡ Some s
 was_past st later e past n s at lt =
-    let x = there_at (sessions st past) n lt in
+    let x = there_is (sessions st past) n lt in
     x.1
     ∙ ap (λ y. Some y)
     (one_value x.0 s (session_numbered st (later ++ e ∷ past) n) (sessions_stay st later (e ∷ past) n x.0 (session_more st e past n x.0 x.1)) at)

@@ -12,7 +12,8 @@ use Rattle.sl_trace.specs.declared.effects.JoinStep.TheVariants.{ClaimWrite, Dec
 use Rattle.sl_watchdog_law.specs.Acting.{acting_stamp}
 use Rattle.sl_words.proofs.WordLaws.{and_true}
 use Rattle.sl_words.specs.Words.{choose, first_of_list, greatest, some_is}
-use Rattle.std.proofs.Common.{ap, arith, refl, sym, tests, ◌∙◌}
+use Rattle.std.proofs.Common.{ap, refl, sym, ◌∙◌}
+use Rattle.std.proofs.lemmas.Bool.{eqb-true}
 use Rattle.std.specs.List.{list_any}
 use Rattle.std.specs.Option.{option_map_or}
 use Rattle.std.specs.Prelude.{Bool, List, None, Option, Some, bytes_eq, cond, false, filter, find, is_none, is_some, map, not, option_and_then, option_map, true, [], ℕ, ◌&&◌, ◌-◌, ◌==◌, ◌||◌, ◌∷◌, ◌≡◌}
@@ -27,12 +28,9 @@ is_running n a = some_is (λ d. d.number == n) a.daemon
 abbrev pub open_while : Bool → Course → Bool
 open_while runs c = is_none c.answered && (runs || may_land c)
 
-same_number : (m n : ℕ) → (m == n) ≡ true → m ≡ n
-same_number m n h = grind (arith, tests)
-
 -- An own call is of the session's daemon.
 pub of_daemon : (i : SessionId) (c : Course) → is_course_of i c ≡ true → c.daemon ≡ i.daemon
-of_daemon i c h = same_number c.daemon i.daemon (and_true (c.daemon == i.daemon) (c.call.session == i.number) h).0
+of_daemon i c h = eqb-true c.daemon i.daemon (and_true (c.daemon == i.daemon) (c.call.session == i.number) h).0
 
 open_same : (i : SessionId) (a : Machine) (c : Course) → is_course_of i c ≡ true → is_open a c ≡ open_while (is_running i.daemon a) c
 open_same i a c h = ap (λ n. is_none c.answered && (some_is (λ d. d.number == n) a.daemon || may_land c)) (of_daemon i c h)

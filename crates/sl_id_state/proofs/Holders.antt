@@ -3,26 +3,27 @@ use Rattle.sl_area.specs.Layouts.{Layout}
 use Rattle.sl_course_law.proofs.Keeping.{header_machine}
 use Rattle.sl_front_law.proofs.Having.{placed_at}
 use Rattle.sl_id_state.proofs.FindingFrames.{find_passes, found_on, on_machine, session_with}
-use Rattle.sl_id_state.proofs.Members.{got_inside, is_daemon, is_first, layout_at}
-use Rattle.sl_id_state.proofs.Sectors.{at_place, one_holder}
+use Rattle.sl_id_state.proofs.Members.{is_daemon, is_first, layout_at}
+use Rattle.sl_id_state.proofs.Sectors.{one_holder}
 use Rattle.sl_id_state.specs.IdStates.{holder_at, holder_in, holder_on, is_sector_of, name_of, session_named_so}
 use Rattle.sl_id_state.specs.Promises.{IsIdPlace}
 use Rattle.sl_ids.specs.State.{SessionId as IdName}
 use Rattle.sl_place_law.proofs.Finding.{finds}
 use Rattle.sl_place_law.proofs.Numbering.{session_number}
+use Rattle.sl_plain.proofs.Lists.{contains_cases, contains_first, contains_more, contains_none, got_inside}
+use Rattle.sl_plain.proofs.Options.{else_some}
 use Rattle.sl_run.specs.Headers.{IsHeader}
 use Rattle.sl_run.specs.Safety.{Found, IsSession, SessionId}
 use Rattle.sl_run.specs.Worlds.{Daemon, Machine, Program, World, daemon_numbered, daemons_on, machine_at, world_with}
 use Rattle.sl_run.specs.declared.header.Header.{Header}
 use Rattle.sl_run_law.proofs.Walking.{index, number_within}
-use Rattle.sl_session_law.proofs.Making.{contains_cases, contains_first, contains_more, contains_none}
 use Rattle.sl_sessions.specs.Sessions.{Session, session_numbered, sessions}
 use Rattle.sl_words.proofs.CaseLaws.{none_some, some_value}
 use Rattle.sl_words.specs.Words.{first_given}
 use Rattle.std.proofs.Common.{ap, arith, inl, inr, refl, subst, sym, ◌∙◌}
 use Rattle.std.proofs.lemmas.Bool.Decides.{nat_tests}
 use Rattle.std.specs.List.{enumerate_from}
-use Rattle.std.specs.Prelude.{Bool, Contains, List, None, Option, Some, [], false, find, if◌then◌else◌, option_and_then, option_map, slice_get, suc, true, zero, ℕ, ◌+◌, ◌-◌, ◌==◌, ◌∷◌, ◌≡◌}
+use Rattle.std.specs.Prelude.{Contains, List, None, Option, Some, [], false, find, option_and_then, option_map, slice_get, suc, true, zero, ℕ, ◌+◌, ◌-◌, ◌==◌, ◌∷◌, ◌≡◌}
 
 -- ---- the first that is given
 
@@ -78,7 +79,7 @@ one_less : (m n : ℕ) → m ≡ 1 + n → n ≡ m - 1
 one_less m n h = omega (arith, h)
 
 at_number : (w : World) (m n : ℕ) (a : Machine) → m ≡ 1 + n → slice_get w.machines n ≡ Some a → machine_at w m ≡ Some a
-at_number w m n a is at = at_place (m == 0) (slice_get w.machines (m - 1)) a (above_none m n is) (subst (λ k. slice_get w.machines k ≡ Some a) (one_less m n is) at)
+at_number w m n a is at = else_some (m == 0) (slice_get w.machines (m - 1)) a (above_none m n is) (subst (λ k. slice_get w.machines k ≡ Some a) (one_less m n is) at)
 
 -- ---- on one machine
 

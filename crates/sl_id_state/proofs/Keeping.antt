@@ -1,7 +1,6 @@
 -- The laws of each call of a session, where it was made.
-use Rattle.sl_session_law.proofs.Joining.{both}
 use Rattle.sl_id_state.proofs.Bridge.{Grounds, IsKnown, IsPlaced, call_at, calls_behind, known, placed}
-use Rattle.sl_place_law.proofs.Finding.{place_is, equal_numbers, same_number}
+use Rattle.sl_place_law.proofs.Finding.{place_is}
 use Rattle.sl_id_state.proofs.Tails.{IsMadeAfter, front_at}
 use Rattle.sl_id_state.specs.Facts.{JoinReadsAreOwn, ReadsOwn, is_reading_step}
 use Rattle.sl_id_state.specs.IdStates.{is_sector_of, own_courses}
@@ -11,6 +10,7 @@ use Rattle.sl_law.proofs.LawFacts.{lawful-front}
 use Rattle.sl_law.specs.Lawful.{Lawful}
 use Rattle.sl_law.specs.LawfulCalls.{may_submit}
 use Rattle.sl_law.specs.LawfulDelta.{LawfulDeltaCall, LawfulJoinStep, is_on_own_sector}
+use Rattle.sl_place_law.proofs.Looks.{joins_at as step_is}
 use Rattle.sl_run.specs.Safety.{Found, SessionId, setting_in, trace_of, world_at}
 use Rattle.sl_run.specs.Worlds.{Course, World}
 use Rattle.sl_session_law.proofs.Owning.{owned}
@@ -26,6 +26,7 @@ use Rattle.sl_trace.specs.declared.effects.Purpose.TheVariants.{Joining}
 use Rattle.sl_trace.specs.declared.effects.Purpose.{Purpose}
 use Rattle.sl_words.proofs.CaseLaws.{false_is_true}
 use Rattle.std.proofs.Common.{ap, refl, subst, sym, ◌∙◌}
+use Rattle.std.proofs.lemmas.Bool.{and_from, eq-eqb, eqb-true}
 use Rattle.std.specs.Cmp.Lexicographic.{nat_list_eq_equiv}
 use Rattle.std.specs.Prelude.{Contains, IsTrue, List, Some, bytes_eq, false, length, not, true, ℕ, ◌&&◌, ◌==◌, ◌∷◌, ◌≡◌}
 
@@ -33,7 +34,7 @@ use Rattle.std.specs.Prelude.{Contains, IsTrue, List, Some, bytes_eq, false, len
 
 pub is_place : (path : List ℕ) (offset : ℕ) (path' : List ℕ) (offset' : ℕ) → path ≡ path' → offset ≡ offset' → same_place path offset path' offset' ≡ true
 is_place path offset path' offset' p o =
-    both (offset == offset') (bytes_eq path path') (equal_numbers offset offset' o) (ap (λ q. bytes_eq path q) (sym p) ∙ nat_list_eq_equiv.refl path)
+    and_from (offset == offset') (bytes_eq path path') (eq-eqb offset offset' o) (ap (λ q. bytes_eq path q) (sym p) ∙ nat_list_eq_equiv.refl path)
 
 -- ---- a call where it was made
 
@@ -52,7 +53,7 @@ pub lawful_call : (st : Setting) (es : Trace) (s : Session) (m : Submitted) (old
 lawful_call st es s m older d h its =
     let whole = subst (λ t. Lawful st t) d.whole h in
     let here = lawful-front st d.later (d.entry ∷ d.past) whole in
-    let own = owned st d.later d.entry d.past s whole (subst (λ t. IsSessionOf st t s) d.whole its) d.index m.call d.call (same_number m.call.session s.number d.mine) in
+    let own = owned st d.later d.entry d.past s whole (subst (λ t. IsSessionOf st t s) d.whole its) d.index m.call d.call (eqb-true m.call.session s.number d.mine) in
     record {
       lawful = here;
       its = own;
@@ -63,19 +64,6 @@ lawful_call st es s m older d h its =
     }
 
 -- ---- steps
-
-same_step_is : (a b : JoinStep) → same_join_step a b ≡ true → a ≡ b
-same_step_is FirstRead FirstRead h = refl
-same_step_is WatchRead WatchRead h = refl
-same_step_is DecidingRead DecidingRead h = refl
-same_step_is ClaimWrite ClaimWrite h = refl
-same_step_is VerifyRead VerifyRead h = refl
-same_step_is FirstRenewal FirstRenewal h = refl
-same_step_is a b h = absurd (false_is_true h)
-
-pub step_is : (step : JoinStep) (p : Purpose) → is_join_call step p ≡ true → (j : ℕ) × (p ≡ Joining j step)
-step_is step (Joining j at) h = (j, ap (λ x. Joining j x) (sym (same_step_is step at h)))
-step_is step p h = absurd (false_is_true h)
 
 pub join_law : (st : Setting) (t : Trace) (s : Session) (c : Submitted) (p : Purpose) (step : JoinStep) → LawfulDeltaCall st t s c p → is_join_call step p ≡ true
     → LawfulJoinStep st t s c step

@@ -12,7 +12,7 @@ use Rattle.std.proofs.Common.{ap, arith, refl, sym, tests, ◌∙◌}
 use Rattle.std.specs.Option.{option_map_or}
 use Rattle.std.specs.Prelude.{Bool, List, Option, Some, false, length, true, [], ℕ, ◌++◌, ◌+◌, ◌<◌, ◌==◌, ◌∷◌, ◌≡◌}
 
-not_newest : (k n : ℕ) → (k == n) ≡ false → k < n + 1 → k < n
+pub not_newest : (k n : ℕ) → (k == n) ≡ false → k < n + 1 → k < n
 not_newest k n h lt = grind (arith, tests)
 
 there_by : (b : Bool) (l : Landing) (ls : List Landing) (k : ℕ) → (k == length ls) ≡ b → k < length ls + 1

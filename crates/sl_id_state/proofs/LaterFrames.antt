@@ -1,36 +1,23 @@
 -- A session that is found is found later, with the same daemon gone on and the same machine gone on.
 use Rattle.sl_course_law.specs.Mirrors.{AreNumbered}
 use Rattle.sl_course_law.specs.Promises.{MachinesMirror}
-use Rattle.sl_front_law.proofs.Going.{daemon_later, run_after, run_rest}
-use Rattle.sl_id_state.proofs.FindingFrames.{IsFound, found_on, on_machine, session_with}
-use Rattle.sl_run.specs.Runs.{Happening, IsRun}
+use Rattle.sl_front_law.proofs.Going.{daemon_later, run_after}
+use Rattle.sl_id_state.proofs.FindingFrames.{found_on, on_machine, session_with}
+use Rattle.sl_plain.proofs.Lists.{contains_cases, contains_none}
+use Rattle.sl_run.specs.Runs.{Happening}
 use Rattle.sl_run.specs.Safety.{Found, LawfulRun, SessionId, session_of_world, world_at}
-use Rattle.sl_run.specs.Worlds.{Daemon, Machine, Program, World, daemon_numbered, daemons_on, machine_at, world_with}
+use Rattle.sl_run.specs.Worlds.{Daemon, Program, World, daemon_numbered, daemons_on, machine_at, world_with}
 use Rattle.sl_run.specs.declared.header.Header.{Header}
 use Rattle.sl_run_law.proofs.Tracking.{run_tracks}
 use Rattle.sl_run_law.specs.Courses.{Continues, Tracks}
 use Rattle.sl_run_law.specs.Daemons.{DaemonGoes}
-use Rattle.sl_session_law.proofs.Making.{contains_cases, contains_none}
 use Rattle.sl_session_law.proofs.Owning.{sessions_stay}
 use Rattle.sl_sessions.specs.Sessions.{Session, session_numbered}
-use Rattle.sl_words.proofs.CaseLaws.{is_false, one_value}
+use Rattle.sl_watchdog_law.proofs.Stepping.{number_below}
+use Rattle.sl_words.proofs.CaseLaws.{one_value}
 use Rattle.std.proofs.Common.{ap, arith, inl, inr, refl, subst, sym, tests, ◌∙◌}
-use Rattle.std.specs.Prelude.{Bool, Contains, List, None, Option, Some, cond, false, find, length, option_map, true, [], ℕ, ◌++◌, ◌<◌, ◌==◌, ◌∷◌, ◌≡◌}
-
-same_numbers : (m n : ℕ) → (m == n) ≡ true → m ≡ n
-same_numbers m n h = grind (arith, tests)
-
-number_is : (m n : ℕ) → m ≡ n → (m == n) ≡ true
-number_is m n h = grind (arith, tests)
-
--- A daemon's number is below how many there are.
-pub number_few : (ds : List Daemon) (d : Daemon) → AreNumbered ds → Contains ds d → d.number < length ds
-number_few [] d numbered has = absurd (contains_none d has)
-number_few (x ∷ ds) d numbered has =
-    elim (contains_cases x ds d has) as (λ z. d.number < length (x ∷ ds)) [
-      | inl e ↦ let number : d.number ≡ length ds = ap (λ y. y.number) (sym e) ∙ numbered.0 in omega (arith, number)
-      | inr more ↦ omega (arith, number_few ds d numbered.1 more)
-    ]
+use Rattle.std.proofs.lemmas.Bool.{eq-eqb}
+use Rattle.std.specs.Prelude.{Contains, List, Some, cond, false, find, length, option_map, [], ℕ, ◌++◌, ◌<◌, ◌==◌, ◌∷◌, ◌≡◌}
 
 first_other : (n m k : ℕ) → n ≡ k → m < k → (n == m) ≡ false
 first_other n m k h lt = grind (arith, tests)
@@ -40,9 +27,9 @@ pub numbered_found : (ds : List Daemon) (d : Daemon) (n : ℕ) → AreNumbered d
 numbered_found [] d n numbered has is = absurd (contains_none d has)
 numbered_found (x ∷ ds) d n numbered has is =
     elim (contains_cases x ds d has) as (λ z. find (λ y. y.number == n) (x ∷ ds) ≡ Some d) [
-      | inl e ↦ ap (λ b. cond b (Some x) (find (λ y. y.number == n) ds)) (number_is x.number n (ap (λ y. y.number) e ∙ is)) ∙ ap (λ y. Some y) e
+      | inl e ↦ ap (λ b. cond b (Some x) (find (λ y. y.number == n) ds)) (eq-eqb x.number n (ap (λ y. y.number) e ∙ is)) ∙ ap (λ y. Some y) e
       | inr more ↦ ap (λ b. cond b (Some x) (find (λ y. y.number == n) ds))
-          (ap (λ k. x.number == k) (sym is) ∙ first_other x.number d.number (length ds) numbered.0 (number_few ds d numbered.1 more))
+          (ap (λ k. x.number == k) (sym is) ∙ first_other x.number d.number (length ds) numbered.0 (number_below ds d numbered.1 more))
           ∙ numbered_found ds d n numbered.1 more is
     ]
 

@@ -1,21 +1,13 @@
 -- Lists side by side: where an element stands, and what is related to it in the other list.
+use Rattle.sl_plain.proofs.Lists.{contains_cases, contains_first, contains_more, contains_none}
 use Rattle.sl_run_law.specs.Fates.{Every}
 use Rattle.sl_course_law.specs.Stamping.{Pairwise}
 use Rattle.sl_front_law.proofs.Having.{contains_right}
-use Rattle.sl_session_law.proofs.Making.{contains_cases, contains_first, contains_more, contains_none}
 use Rattle.sl_words.proofs.CaseLaws.{none_some, some_value}
 use Rattle.std.proofs.Common.{ap, inl, inr, refl, subst, sym, ◌∙◌}
-use Rattle.std.specs.Prelude.{Bool, Contains, List, None, Option, Some, [], cond, false, filter, find, option_and_then, option_map, true, ◌&&◌, ◌++◌, ◌∷◌, ◌≡◌, ◌⊎◌}
+use Rattle.std.specs.Prelude.{Bool, Contains, List, None, Option, Some, [], cond, false, find, true, ◌++◌, ◌∷◌, ◌≡◌, ◌⊎◌}
 
 -- ---- options
-
-pub then_some : {A B : Type 0} (f : A → Option B) (o : Option A) (b : B) → option_and_then f o ≡ Some b → (a : A) × (o ≡ Some a) × (f a ≡ Some b)
-then_some f None b h = absurd (none_some b h)
-then_some f (Some a) b h = (a, refl, h)
-
-pub map_some : {A B : Type 0} (f : A → B) (o : Option A) (b : B) → option_map f o ≡ Some b → (a : A) × (o ≡ Some a) × (f a ≡ b)
-map_some f None b h = absurd (none_some b h)
-map_some f (Some a) b h = (a, refl, some_value (f a) b h)
 
 -- ---- where an element stands
 
@@ -50,17 +42,6 @@ every_from P (x ∷ xs) h = (h x (contains_first x xs), every_from P xs (λ y th
 
 -- ---- filters and finds
 
-keeps_by : {A : Type 0} (p q : A → Bool) (x : A) (b c : Bool) (rest : List A) → p x ≡ b → q x ≡ c
-    → cond (b && c) (x ∷ filter q rest) (filter q rest) ≡ filter q (cond b (x ∷ rest) rest)
-keeps_by p q x true c rest is its = ap (λ t. cond t (x ∷ filter q rest) (filter q rest)) (sym its)
-keeps_by p q x false c rest is its = refl
-
--- Two tests, one after the other.
-pub filter_both : {A : Type 0} (p q : A → Bool) (xs : List A) → filter (λ x. p x && q x) xs ≡ filter q (filter p xs)
-filter_both p q [] = refl
-filter_both p q (x ∷ xs) =
-    ap (λ zs. cond (p x && q x) (x ∷ zs) zs) (filter_both p q xs) ∙ keeps_by p q x (p x) (q x) (filter p xs) refl refl
-
 -- It is found where it stands, if none newer passes.
 pub find_here : {A : Type 0} (p : A → Bool) (newer : List A) (x : A) (older : List A) → Every (λ y. p y ≡ false) newer → p x ≡ true
     → find p (newer ++ x ∷ older) ≡ Some x
@@ -91,20 +72,6 @@ pairs_at R (z ∷ newer) x older [] h = absurd h
 pairs_at R (z ∷ newer) x older (y ∷ ys) h =
     let r = pairs_at R newer x older ys h.1 in
     record { front = y ∷ r.front; here = r.here; rest = r.rest; whole = ap (λ zs. y ∷ zs) r.whole; fronts = (h.0, r.fronts); this = r.this; rests = r.rests }
-
-kept_pair : {A B : Type 0} (R : A → B → Type 0) (x : A) (y : B) (xs : List A) (ys : List B) (b c : Bool) → c ≡ b → R x y → Pairwise R xs ys
-    → Pairwise R (cond b (x ∷ xs) xs) (cond c (y ∷ ys) ys)
-kept_pair R x y xs ys true c same r rest = subst (λ t. Pairwise R (x ∷ xs) (cond t (y ∷ ys) ys)) (sym same) (r, rest)
-kept_pair R x y xs ys false c same r rest = subst (λ t. Pairwise R xs (cond t (y ∷ ys) ys)) (sym same) rest
-
--- Tests that agree leave related lists.
-pub filter_pairs : {A B : Type 0} (R : A → B → Type 0) (p : A → Bool) (q : B → Bool) → ((a : A) (b : B) → R a b → q b ≡ p a) → (xs : List A) (ys : List B)
-    → Pairwise R xs ys → Pairwise R (filter p xs) (filter q ys)
-filter_pairs R p q agree [] [] h = tt
-filter_pairs R p q agree [] (y ∷ ys) h = absurd h
-filter_pairs R p q agree (x ∷ xs) [] h = absurd h
-filter_pairs R p q agree (x ∷ xs) (y ∷ ys) h =
-    kept_pair R x y (filter p xs) (filter q ys) (p x) (q y) (agree x y h.0) h.0 (filter_pairs R p q agree xs ys h.1)
 
 finds_pair : {A B : Type 0} (R : A → B → Type 0) (x : A) (y : B) (o : Option A) (q : Option B) (z : B) (b c : Bool) → c ≡ b → R x y
     → (q ≡ Some z → (u : A) × (o ≡ Some u) × R u z) → cond c (Some y) q ≡ Some z → (u : A) × (cond b (Some x) o ≡ Some u) × R u z

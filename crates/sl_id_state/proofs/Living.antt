@@ -1,10 +1,9 @@
 -- The calls of a session's joining come in its order, also once it has joined: each step but the watch comes once, and what comes
 -- before it is answered.
+use Rattle.sl_plain.proofs.Lists.{find_inside, got_inside, kept_inside}
 use Rattle.sl_run_law.specs.Fates.{Every}
 use Rattle.sl_watchdog_law.proofs.Numbering.{begun_is, either_place}
-use Rattle.sl_session_law.proofs.Joining.{both}
 use Rattle.sl_id_state.proofs.Listing.{EveryTail}
-use Rattle.sl_place_law.proofs.Finding.{filtered, found_in, same_number}
 use Rattle.sl_id_state.proofs.Tails.{AreLater, IsLater, marked_later}
 use Rattle.sl_law.proofs.LawFacts.{lawful-front}
 use Rattle.sl_law.specs.Lawful.{Lawful}
@@ -13,10 +12,10 @@ use Rattle.sl_law.specs.LawfulDelta.{LawfulDeltaCall, LawfulJoin}
 use Rattle.sl_law.specs.Saying.{cut_at}
 use Rattle.sl_session_law.proofs.Covering.{joinings_are_in_turn}
 use Rattle.sl_session_law.proofs.Growing.{mine_marked, mine_next, other_next, to_all}
-use Rattle.sl_session_law.proofs.Making.{IsNewCall, WasOpen, old_or_new, was_marked}
+use Rattle.sl_session_law.proofs.Making.{WasOpen, old_or_new, was_marked}
 use Rattle.sl_session_law.proofs.Naming.{absent}
-use Rattle.sl_session_law.proofs.Ordering.{begun_before, joinings_are_ordered}
-use Rattle.sl_session_law.proofs.Owning.{got_inside, owned, session_more}
+use Rattle.sl_session_law.proofs.Ordering.{begun_before, joinings_are_ordered, old_one}
+use Rattle.sl_session_law.proofs.Owning.{owned, session_more}
 use Rattle.sl_session_law.proofs.Silence.{stage_by}
 use Rattle.sl_session_law.specs.Promises.{IsSession as IsSessionOf, all_done, fits, fits_as, has_reply, is_in_turn, is_ordered, may_come, may_follow}
 use Rattle.sl_sessions.specs.Sessions.{Session, begun_in, calls_of, free_write, has_open_write, is_call_of, is_join_call, joined_after, refused_after, removed_after, session_named, session_numbered, sessions, stage_in, stage_of}
@@ -32,6 +31,7 @@ use Rattle.sl_trace.specs.declared.effects.Purpose.{Purpose}
 use Rattle.sl_words.proofs.CaseLaws.{false_is_true, no_value, none_some, one_value, true_is_false}
 use Rattle.sl_words.proofs.WordLaws.{and_true}
 use Rattle.std.proofs.Common.{ap, arith, inl, inr, refl, subst, sym, ◌∙◌}
+use Rattle.std.proofs.lemmas.Bool.{and_from, eqb-true}
 use Rattle.std.specs.Prelude.{Bool, Contains, List, None, Option, Some, [], false, is_none, is_some, length, slice_get, suc, true, ℕ, ◌&&◌, ◌<◌, ◌==◌, ◌||◌, ◌∷◌, ◌≡◌, ◌≤◌, ◌⊎◌}
 
 -- ---- the place of a step
@@ -104,7 +104,7 @@ done_turn [] h = refl
 done_turn (m ∷ ms) h =
     let parts = and_true (fits m && has_reply m) (all_done ms) h in
     let one = and_true (fits m) (has_reply m) parts.0 in
-    let two = parts.1 in both (fits m) (all_done ms) one.0 two
+    let two = parts.1 in and_from (fits m) (all_done ms) one.0 two
 
 from_order : (ms : List Submitted) → is_in_turn ms ≡ true → is_ordered ms ≡ true → EveryTail InPlace ms
 from_order [] turn h = tt
@@ -137,7 +137,7 @@ done_later (x ∷ ms) [] all h = absurd all
 done_later (x ∷ ms) (y ∷ ns) all h =
     let parts = and_true (fits y && has_reply y) (all_done ns) h in
     let one = and_true (fits y) (has_reply y) parts.0 in
-    both (fits x && has_reply x) (all_done ms) (both (fits x) (has_reply x) (fits_later x y all.0 one.0) (reply_by x y all.0 y.answer refl one.1)) (done_later ms ns all.1 parts.1)
+    and_from (fits x && has_reply x) (all_done ms) (and_from (fits x) (has_reply x) (fits_later x y all.0 one.0) (reply_by x y all.0 y.answer refl one.1)) (done_later ms ns all.1 parts.1)
 
 places_later : (ms ns : List Submitted) → AreLater ms ns → EveryTail InPlace ns → EveryTail InPlace ms
 places_later [] ns all h = tt
@@ -193,24 +193,20 @@ has_name st t s k there joined may none =
 
 -- ---- a joined session had begun before
 
-old_by : (m : Submitted) (at reading : ℕ) (cs : List Call) (ms : List Submitted) → has_reply m ≡ true → Contains ms m ⊎ IsNewCall at reading cs m → Contains ms m
-old_by m at reading cs ms r (inl there) = there
-old_by m at reading cs ms r (inr new) = absurd (false_is_true (sym (ap (λ o. is_some o) new.unmet) ∙ r))
-
 -- A call that is answered after an entry had been made before it.
 pub answered_old : (e : Entry) (past : Trace) (m : Submitted) (a : Answered) → Contains (submitted (e ∷ past)) m → m.answer ≡ Some a → WasOpen (submitted past) m
 answered_old e past m a there is =
     was_marked past e e.input (submitted past) m
-    (old_by m (length past) e.reading e.effects.calls (mark past e e.input (submitted past)) (ap (λ o. is_some o) is)
+    (old_one m (length past) e.reading e.effects.calls (mark past e e.input (submitted past)) (ap (λ o. is_some o) is)
     (old_or_new (length past) e.reading e.effects.calls (mark past e e.input (submitted past)) m there))
 
 joined_renewal : (st : Setting) (e : Entry) (past : Trace) (s : Session) → Lawful st (e ∷ past) → IsSessionOf st (e ∷ past) s → (k : ℕ) → LawfulJoin (e ∷ past) s k
     → IsSessionOf st past s
 joined_renewal st e past s h its k j =
-    let found = found_in (λ (m : Submitted). is_join_call FirstRenewal m.call.purpose) (calls_of (e ∷ past) s) j.renewal j.first in
-    let own = filtered (is_call_of s) (submitted (e ∷ past)) j.renewal found.0 in
+    let found = find_inside (λ (m : Submitted). is_join_call FirstRenewal m.call.purpose) (calls_of (e ∷ past) s) j.renewal j.first in
+    let own = kept_inside (is_call_of s) (submitted (e ∷ past)) j.renewal found.0 in
     let w = answered_old e past j.renewal j.answer own.0 j.done.0 in
-    let number = ap (λ (c : Call). c.session) (sym w.same.call) ∙ same_number j.renewal.call.session s.number own.1 in
+    let number = ap (λ (c : Call). c.session) (sym w.same.call) ∙ eqb-true j.renewal.call.session s.number own.1 in
     ap (λ n. session_numbered st past n) (sym number)
     ∙ begun_before st e past s h (λ x at. one_value x s (session_numbered st (e ∷ past) s.number) at its) w.before w.inside number
 
@@ -232,7 +228,7 @@ place_next : (st : Setting) (e : Entry) (past : Trace) (s : Session) → Lawful 
     → EveryTail InPlace (calls_of (cut_at k e ∷ past) s) → EveryTail InPlace (calls_of (cut_at (suc k) e ∷ past) s)
 place_next st e past s h its was j joined k c at false other old = subst (EveryTail InPlace) (sym (other_next past e s k c at other)) old
 place_next st e past s h its was j joined k c at true mine old =
-    let own = owned st [] e past s h its k c at (same_number c.session s.number mine) in
+    let own = owned st [] e past s h its k c at (eqb-true c.session s.number mine) in
     let t : Trace = cut_at k e ∷ past in
     let none = joined_not st t s (new_call (length past) e.reading c) j c.purpose (h.delta.0.calls k c s at own) joined
     (has_name st t s j (got_inside (sessions st t) s.number s (session_more st (cut_at k e) past s.number s was)) joined (h.calls.0.alive k c s at own)) in

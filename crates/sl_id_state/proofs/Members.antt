@@ -3,7 +3,8 @@ use Rattle.sl_area.specs.Layouts.{Layout, layout_with}
 use Rattle.sl_course_law.proofs.Daemons.{daemon_of_line, every_has, first_daemons}
 use Rattle.sl_course_law.proofs.Keeping.{header_machine}
 use Rattle.sl_id_state.proofs.FindingFrames.{IsFound, find_passes, on_machine}
-use Rattle.sl_place_law.proofs.Finding.{equal_numbers, finds, same_number, same_text}
+use Rattle.sl_place_law.proofs.Finding.{finds, same_text}
+use Rattle.sl_plain.proofs.Lists.{got_index}
 use Rattle.sl_run.specs.Headers.{IsHeader}
 use Rattle.sl_run.specs.Safety.{Found, IsSession, SessionId}
 use Rattle.sl_run.specs.Worlds.{Daemon, Machine, Program, clock_reading, daemons_on, given_of, machine_of_header, world_with}
@@ -13,8 +14,8 @@ use Rattle.sl_run.specs.declared.header.SessionLine.{SessionLine}
 use Rattle.sl_sessions.specs.Sessions.{Session, given_session, session_numbered}
 use Rattle.sl_trace.specs.declared.input.Given.{Given}
 use Rattle.sl_words.proofs.CaseLaws.{none_some, some_value}
-use Rattle.std.proofs.Common.{ap, arith, inl, inr, refl, subst, sym, ◌∙◌}
-use Rattle.std.proofs.lemmas.Bool.{cases_lt}
+use Rattle.std.proofs.Common.{ap, arith, refl, subst, sym, ◌∙◌}
+use Rattle.std.proofs.lemmas.Bool.{eq-eqb, eqb-true}
 use Rattle.std.proofs.lemmas.Option.{slice_get_within}
 use Rattle.std.proofs.lemmas.Slice.Eq.{bytes_eq-Decides}
 use Rattle.std.specs.List.{cons_option, enumerate_from}
@@ -30,25 +31,10 @@ givens h m = filter_map (given_of h m) h.sessions
 
 -- ---- pairs of a list
 
-got_index : {A : Type 0} (xs : List A) (i : ℕ) (x d : A) → slice_get xs i ≡ Some x → slice_index_or xs i d ≡ x
-got_index [] i x d h = absurd (none_some x h)
-got_index (y ∷ xs) zero x d h = some_value y x h
-got_index (y ∷ xs) (suc i) x d h = got_index xs i x d h
-
-pub got_inside : {A : Type 0} (xs : List A) (i : ℕ) (x : A) → slice_get xs i ≡ Some x → Contains xs x
-got_inside xs i x h = (i, slice_get_within xs i x h, got_index xs i x x h)
-
 -- What holds of each two holds of these.
 pub pair_of : {A : Type 0} (R : A → A → Type 0) (xs : List A) (i j : ℕ) (x y : A) → AllPairs R xs → slice_get xs i ≡ Some x → slice_get xs j ≡ Some y → i < j → R x y
 pair_of R xs i j x y all at there less =
     subst (λ z. R z y) (got_index xs i x x at) (subst (R (slice_index_or xs i x)) (got_index xs j y x there) (all i j x less (slice_get_within xs j y there)))
-
-pub one_index : (i j : ℕ) → (i < j → ⊥) → (j < i → ⊥) → i ≡ j
-one_index i j p q =
-    elim (cases_lt i j) [
-      | inl lt ↦ absurd (p lt)
-      | inr ge ↦ elim (cases_lt j i) [ inl gt ↦ absurd (q gt) | inr le ↦ omega (arith, ge, le) ]
-    ]
 
 -- ---- what is given
 
@@ -128,7 +114,7 @@ given_where : (h : Header) (m : ℕ) (s : SessionLine) (g : Given) (b : Bool) �
     ] ≡ Some g → IsGivenOf h m s g
 given_where h m s g false is given = absurd (none_some g given)
 given_where h m s g true is given =
-    given_line h m s g (find (λ (l : LockspaceLine). bytes_eq l.name s.lockspace) h.lockspaces) (same_number s.machine m is) refl given
+    given_line h m s g (find (λ (l : LockspaceLine). bytes_eq l.name s.lockspace) h.lockspaces) (eqb-true s.machine m is) refl given
 
 pub is_given : (h : Header) (m : ℕ) (s : SessionLine) (g : Given) → given_of h m s ≡ Some g → IsGivenOf h m s g
 is_given h m s g given = given_where h m s g (s.machine == m) refl given
@@ -154,7 +140,7 @@ line_gives h s ok there =
     let space = (ok.members s there).lockspace in
     let found = finds (λ (l : LockspaceLine). bytes_eq l.name s.lockspace) h.lockspaces space.0 (equal_texts space.0.name s.lockspace space.2) space.1 in
     gives_where h s (s.machine == s.machine) (find (λ (l : LockspaceLine). bytes_eq l.name s.lockspace) h.lockspaces) found.0
-    (equal_numbers s.machine s.machine refl) found.1
+    (eq-eqb s.machine s.machine refl) found.1
 
 there_by : {A B : Type 0} (f : A → Option B) (y : A) (ys : List A) (b : B) (o : Option B) → f y ≡ o
     → ((n : ℕ) × (slice_get (filter_map f ys) n ≡ Some b)) → (n : ℕ) × (slice_get (cons_option o (filter_map f ys)) n ≡ Some b)

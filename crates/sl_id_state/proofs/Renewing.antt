@@ -1,6 +1,7 @@
 -- What stands behind a renewal or a free.
+use Rattle.sl_course_law.proofs.Daemons.{every_has}
+use Rattle.sl_plain.proofs.Lists.{contains_more, got_inside}
 use Rattle.sl_run_law.specs.Fates.{Every}
-use Rattle.sl_landing_law.proofs.Listing.{every_one}
 use Rattle.sl_area.specs.Layouts.{Layout, sector_with}
 use Rattle.sl_course_law.specs.Stamping.{IsCourseOf}
 use Rattle.sl_front_law.proofs.Having.{contains_right}
@@ -8,7 +9,7 @@ use Rattle.sl_id_state.proofs.Bridge.{Grounds, IsKnown, known}
 use Rattle.sl_id_state.proofs.Claiming.{has_decided, one_place, read_step, record_is, step_truth}
 use Rattle.sl_id_state.proofs.Keeping.{IsLawfulCall, IsOwnCall, is_at_own, lawful_call, own_call, step_law}
 use Rattle.sl_id_state.proofs.Listing.{EveryTail, every_from, every_pair, find_none, stands_there, tail_at}
-use Rattle.sl_place_law.proofs.Finding.{partner, partner_of, same_number}
+use Rattle.sl_place_law.proofs.Finding.{partner, partner_of}
 use Rattle.sl_id_state.proofs.Living.{begun_if_joined, has_name, is_joining, joined_not}
 use Rattle.sl_id_state.proofs.Rising.{ClaimHasGeneration, HasFirst, HasGeneration, HasLess, IsFirst, IsNext, IsShaped, Rises, all_renew, all_rise, all_shaped, claim_behind, joined_behind, one_generation, shape, unique}
 use Rattle.sl_id_state.proofs.Steps.{before_refusal, only, own_behind, places, ranks_of, showing}
@@ -26,8 +27,7 @@ use Rattle.sl_run.specs.declared.header.Header.{Header}
 use Rattle.sl_sector.specs.declared.sector.DeltaRec.{DeltaRec}
 use Rattle.sl_sector.specs.declared.sector.Rec.TheVariants.{DeltaIs}
 use Rattle.sl_sector.specs.declared.sector.Rec.{Rec}
-use Rattle.sl_session_law.proofs.Making.{contains_more}
-use Rattle.sl_session_law.proofs.Owning.{got_inside, session_more}
+use Rattle.sl_session_law.proofs.Owning.{session_more}
 use Rattle.sl_session_law.specs.Promises.{IsSession as IsSessionOf}
 use Rattle.sl_sessions.specs.Sessions.{Session, calls_of, delta_of_record, delta_written, is_join_call, is_join_done, joined_after, session_numbered, sessions}
 use Rattle.sl_trace.specs.Traces.{Setting, Submitted, Trace, new_call, record_of, reply_to}
@@ -37,25 +37,26 @@ use Rattle.sl_trace.specs.declared.effects.Purpose.{Purpose}
 use Rattle.sl_words.proofs.CaseLaws.{is_false, one_value, some_value, true_is_false}
 use Rattle.sl_words.specs.Words.{choose}
 use Rattle.std.proofs.Common.{ap, arith, inl, inr, refl, subst, sym, ◌∙◌}
+use Rattle.std.proofs.lemmas.Bool.{eqb-true}
 use Rattle.std.specs.Option.{option_map_or}
 use Rattle.std.specs.Prelude.{Contains, List, None, Option, Some, [], false, length, option_and_then, option_map, true, ℕ, ◌+◌, ◌<◌, ◌∷◌, ◌≡◌, ◌≤◌, ◌⊎◌}
 
 -- ---- a session that was joined at first makes no call of a joining
 
-given_joined : (t : Trace) (s : Session) → s.job ≡ None → joined_after t s ≡ Some 0
+pub given_joined : (t : Trace) (s : Session) → s.job ≡ None → joined_after t s ≡ Some 0
 given_joined t s none =
     ap (λ (o : Option ℕ). elim o as (λ z. Option ℕ) [ None ↦ Some 0 | Some j ↦ option_and_then (λ r. choose (is_join_done r.reply) (r.at + 1)) (reply_to t j) ]) none
 
-given_none : (st : Setting) (es : Trace) (s : Session) (m : Submitted) (older : List Submitted) (d : IsMadeAfter es s m older) → IsLawfulCall st es s m older d → s.job ≡ None
+pub given_none : (st : Setting) (es : Trace) (s : Session) (m : Submitted) (older : List Submitted) (d : IsMadeAfter es s m older) → IsLawfulCall st es s m older d → s.job ≡ None
     → is_joining m.call.purpose ≡ false
 given_none st es s m older d l none =
     let t : Trace = front_at d in
-    let its : IsSessionOf st (d.entry ∷ d.past) s = ap (λ n. session_numbered st (d.entry ∷ d.past) n) (sym (same_number m.call.session s.number d.mine)) ∙ l.its in
+    let its : IsSessionOf st (d.entry ∷ d.past) s = ap (λ n. session_numbered st (d.entry ∷ d.past) n) (sym (eqb-true m.call.session s.number d.mine)) ∙ l.its in
     let was = begun_if_joined st d.entry d.past s l.lawful its 0 (given_joined (d.entry ∷ d.past) s none) in
     joined_not st t s (new_call (length d.past) d.entry.reading m.call) 0 m.call.purpose l.law (given_joined t s none)
     (has_name st t s 0 (got_inside (sessions st t) s.number s (session_more st (cut_at d.index d.entry) d.past s.number s was)) (given_joined t s none) l.alive)
 
-all_given_by : (st : Setting) (es : Trace) (s : Session) → Lawful st es → IsSessionOf st es s → s.job ≡ None → (ms : List Submitted) → AreMade es s ms
+pub all_given_by : (st : Setting) (es : Trace) (s : Session) → Lawful st es → IsSessionOf st es s → s.job ≡ None → (ms : List Submitted) → AreMade es s ms
     → Every (λ (m : Submitted). is_joining m.call.purpose ≡ false) ms
 all_given_by st es s h its none [] made = tt
 all_given_by st es s h its none (m ∷ ms) made =
@@ -65,10 +66,10 @@ pub none_joining : (w : World) (i : SessionId) (f : Found) → IsKnown w i f →
 none_joining w i f k none =
     all_given_by (setting_in f) (trace_of f) f.session k.lawful k.its none (calls_of (trace_of f) f.session) (all_made (trace_of f) f.session)
 
-not_at : (p : Purpose) → is_joining p ≡ false → is_join_call DecidingRead p ≡ false
+pub not_at : (p : Purpose) → is_joining p ≡ false → is_join_call DecidingRead p ≡ false
 not_at p apart = is_false (is_join_call DecidingRead p) (λ is. true_is_false (sym (ranks_of DecidingRead p is).0 ∙ apart))
 
-given_undecided : (w : World) (i : SessionId) (f : Found) → IsKnown w i f → f.session.job ≡ None → deciding_sample i f ≡ None
+pub given_undecided : (w : World) (i : SessionId) (f : Found) → IsKnown w i f → f.session.job ≡ None → deciding_sample i f ≡ None
 given_undecided w i f k none =
     ap (λ q. option_and_then (sample_showing f (watched_bytes i f)) q)
     (find_none (λ (c : Course). is_join_call DecidingRead c.call.purpose) (own_courses i f.machine)
@@ -184,7 +185,7 @@ generation_is : (w : World) (i : SessionId) (f : Found) (k : IsKnown w i f) (g :
 generation_is w i f k g given claims c o d writes =
     let ms : List Submitted = calls_of (trace_of f) f.session in
     let x = o.placed.pairs in
-    every_one (HasGeneration g) ms x.here
+    every_has (HasGeneration g) ms x.here
     (one_generation f.session g given ms (all_shaped (setting_in f) (trace_of f) f.session k.lawful k.its) (all_renew (setting_in f) (trace_of f) f.session k.lawful k.its) claims)
     (subst (λ zs. Contains zs x.here) (sym x.whole) (stands_there x.front x.here x.rest)) d (written_there w i f c o d writes)
 
@@ -201,9 +202,9 @@ claims_one w i f k first r =
 not_given : (w : World) (i : SessionId) (f : Found) (k : IsKnown w i f) (first : Course) (r : HasRenewed w i f first) → f.session.job ≡ None → ⊥
 not_given w i f k first r none =
     true_is_false (sym (ranks_of ClaimWrite r.call.call.purpose r.call_claims).0
-    ∙ every_one (λ (m : Submitted). is_joining m.call.purpose ≡ false) (calls_of (trace_of f) f.session) r.call (none_joining w i f k none) r.inside)
+    ∙ every_has (λ (m : Submitted). is_joining m.call.purpose ≡ false) (calls_of (trace_of f) f.session) r.call (none_joining w i f k none) r.inside)
 
-same_record : (o : Option Rec) (a b : DeltaRec) → o ≡ Some (DeltaIs a) → o ≡ Some (DeltaIs b) → a ≡ b
+pub same_record : (o : Option Rec) (a b : DeltaRec) → o ≡ Some (DeltaIs a) → o ≡ Some (DeltaIs b) → a ≡ b
 same_record o a b p q = some_value a b (ap (λ x. option_and_then delta_of_record x) (sym p ∙ q))
 
 generation_of_claim : Grounds → (p : Program) (h : Header) (xs : List Happening) → LawfulRun p h xs → (i : SessionId) (f : Found) (c : Course)
@@ -239,7 +240,7 @@ rises_above w i f c o d writes k e has wrote lt =
     let all = all_rise f.session ms (all_shaped (setting_in f) (trace_of f) f.session o.known.lawful o.known.its) (places w i f o.known) in
     let here = tail_at Rises x.pairs.front x.pairs.here x.pairs.rest (subst (λ zs. EveryTail Rises zs) x.pairs.whole all) in
     let m = partner (IsCourseOf f.daemon) x.older x.pairs.rest k x.pairs.rests (x.order k has lt) in
-    every_one (HasLess d.seq) x.pairs.rest m.0 (here d (written_there w i f c o d writes)) m.1 e
+    every_has (HasLess d.seq) x.pairs.rest m.0 (here d (written_there w i f c o d writes)) m.1 e
     (ap (λ (y : Call). option_and_then delta_of_record (record_of y.op)) m.2.call ∙ ap (λ q. option_and_then delta_of_record q) wrote)
 
 -- ---- the law

@@ -1,10 +1,13 @@
 -- The delta records that a session writes: one generation, and each seq above all before.
+use Rattle.sl_course_law.proofs.Daemons.{every_has}
+use Rattle.sl_place_law.proofs.Looks.{stands}
+use Rattle.sl_plain.proofs.Lists.{contains_cases, contains_first, contains_more, contains_none, find_inside, got_inside, kept, kept_inside}
+use Rattle.sl_plain.proofs.Options.{then_value}
 use Rattle.sl_run_law.specs.Fates.{Every}
-use Rattle.sl_landing_law.proofs.Listing.{every_one}
 use Rattle.sl_id_state.proofs.Claiming.{done_of}
 use Rattle.sl_id_state.proofs.Keeping.{IsLawfulCall, lawful_call}
-use Rattle.sl_id_state.proofs.Listing.{EveryTail, every_from, then_some}
-use Rattle.sl_place_law.proofs.Finding.{filtered, found_in, partner_of}
+use Rattle.sl_id_state.proofs.Listing.{EveryTail, every_from}
+use Rattle.sl_place_law.proofs.Finding.{partner_of}
 use Rattle.sl_id_state.proofs.Living.{InPlace, Precede, answered_old, rank, rank_at}
 use Rattle.sl_id_state.proofs.Steps.{ranks_of, twice}
 use Rattle.sl_id_state.proofs.Tails.{AreLater, AreMade, all_made, IsLater, IsMadeAfter, front_at, marked_later}
@@ -16,17 +19,11 @@ use Rattle.sl_sector.specs.declared.sector.DeltaRec.{DeltaRec}
 use Rattle.sl_sector.specs.declared.sector.DeltaState.TheVariants.{Free, Live}
 use Rattle.sl_sector.specs.declared.sector.DeltaState.{DeltaState}
 use Rattle.sl_session_law.proofs.Growing.{mine_marked, mine_next, other_next, to_cut}
-use Rattle.sl_session_law.proofs.Joining.{stage_for}
-use Rattle.sl_session_law.proofs.Making.{contains_cases, contains_first, contains_more, contains_none}
-use Rattle.sl_session_law.proofs.Naming.{kept}
-use Rattle.sl_session_law.proofs.Owning.{got_inside}
-use Rattle.sl_session_law.proofs.Silence.{stage_by}
 use Rattle.sl_session_law.specs.Promises.{IsSession as IsSessionOf, fits_as}
 use Rattle.sl_sessions.specs.Deltas.{claim_of, delta_of_session, delta_record}
-use Rattle.sl_sessions.specs.Sessions.{Session, calls_of, delta_of_record, delta_written, free_write, generation_in, generation_of, given_number, is_call_of, is_delta_purpose, is_free_purpose, is_join_call, is_survey_purpose, join_call, joined_after, last_delta, last_seq, refused_after, removed_after, seq_in, sessions, stage_after, stage_in, stage_of}
+use Rattle.sl_sessions.specs.Sessions.{Session, calls_of, delta_of_record, delta_written, generation_in, generation_of, given_number, is_call_of, is_delta_purpose, is_free_purpose, is_join_call, is_survey_purpose, join_call, last_delta, last_seq, seq_in, sessions, stage_of}
 use Rattle.sl_sessions.specs.declared.stage.Stage.TheVariants.{Standing}
-use Rattle.sl_sessions.specs.declared.stage.Stage.{Stage}
-use Rattle.sl_trace.specs.Traces.{Setting, Submitted, Trace, is_answered_ok, is_write, mark, new_call, record_of, submitted}
+use Rattle.sl_trace.specs.Traces.{Setting, Submitted, Trace, is_write, mark, new_call, record_of, submitted}
 use Rattle.sl_trace.specs.declared.effects.Call.{Call}
 use Rattle.sl_trace.specs.declared.effects.Entry.{Entry}
 use Rattle.sl_trace.specs.declared.effects.JoinStep.TheVariants.{ClaimWrite, DecidingRead, FirstRead, FirstRenewal, VerifyRead, WatchRead}
@@ -123,37 +120,6 @@ shape st t s n d p law is apart = absurd (no_value d (delta_written n) is law)
 
 -- ---- a joined session has its first renewal behind it
 
-abbrev is_standing : Stage → Bool
-is_standing Standing = true
-is_standing stage = false
-
-not_by_step : (step : JoinStep) (done : Bool) → is_standing (stage_after step done) ≡ false
-not_by_step FirstRead done = refl
-not_by_step WatchRead done = refl
-not_by_step DecidingRead done = refl
-not_by_step ClaimWrite false = refl
-not_by_step ClaimWrite true = refl
-not_by_step VerifyRead done = refl
-not_by_step FirstRenewal done = refl
-
-not_by_purpose : (p : Purpose) (done : Bool) → is_standing (stage_for p done) ≡ false
-not_by_purpose (Joining j step) done = not_by_step step done
-not_by_purpose p done = refl
-
-not_in : (ms : List Submitted) → is_standing (stage_in ms) ≡ false
-not_in [] = refl
-not_in (m ∷ ms) = not_by_purpose m.call.purpose (is_answered_ok m)
-
-standing_by : (joined removed refused : Option ℕ) (free : Option Submitted) (ms : List Submitted) → is_standing (stage_by joined removed refused free (stage_in ms)) ≡ true
-    → (k : ℕ) × (joined ≡ Some k)
-standing_by (Some k) removed refused free ms is = (k, refl)
-standing_by None removed (Some k) free ms is = absurd (false_is_true is)
-standing_by None removed None free ms is = absurd (true_is_false (sym is ∙ not_in ms))
-
-pub standing_joined : (t : Trace) (s : Session) → stage_of t s ≡ Standing → (k : ℕ) × (joined_after t s ≡ Some k)
-standing_joined t s is =
-    standing_by (joined_after t s) (removed_after t s) (refused_after t s) (free_write (calls_of t s)) (calls_of t s) (ap (λ x. is_standing x) is)
-
 front_next : (e : Entry) (past : Trace) (s : Session) (r : Submitted) (k : ℕ) (c : Call) → slice_get e.effects.calls k ≡ Some c → (b : Bool) → (c.session == s.number) ≡ b
     → Contains (calls_of (cut_at k e ∷ past) s) r → Contains (calls_of (cut_at (suc k) e ∷ past) s) r
 front_next e past s r k c at false other there = subst (λ ms. Contains ms r) (sym (other_next past e s k c at other)) there
@@ -177,8 +143,8 @@ HasFirst ms = (q : Submitted) × Contains ms q × (is_join_call FirstRenewal q.c
 
 renewal_behind : (es : Trace) (s : Session) (m : Submitted) (older : List Submitted) (d : IsMadeAfter es s m older) (k : ℕ) → LawfulJoin (d.entry ∷ d.past) s k → HasFirst older
 renewal_behind es s m older d k j =
-    let found = found_in (λ (x : Submitted). is_join_call FirstRenewal x.call.purpose) (calls_of (d.entry ∷ d.past) s) j.renewal j.first in
-    let own = filtered (is_call_of s) (submitted (d.entry ∷ d.past)) j.renewal found.0 in
+    let found = find_inside (λ (x : Submitted). is_join_call FirstRenewal x.call.purpose) (calls_of (d.entry ∷ d.past) s) j.renewal j.first in
+    let own = kept_inside (is_call_of s) (submitted (d.entry ∷ d.past)) j.renewal found.0 in
     let w = answered_old d.entry d.past j.renewal j.answer own.0 j.done.0 in
     let mine : is_call_of s w.before ≡ true = ap (λ (x : Call). x.session == s.number) (sym w.same.call) ∙ own.1 in
     let one = at_front d.entry d.past s w.before d.index (kept (is_call_of s) (submitted d.past) w.before mine w.inside) in
@@ -191,7 +157,7 @@ joined_behind st es s m older d l is = by s.job refl where
   by : (job : Option ℕ) → s.job ≡ job → (s.job ≡ None) ⊎ HasFirst older
   by None none = inl none
   by (Some j) job =
-      let k = standing_joined (front_at d) s is in
+      let k = stands (front_at d) s is in
       inr (renewal_behind es s m older d k.0
       (l.lawful.delta.0.joins s (got_inside (sessions st (d.entry ∷ d.past)) m.call.session s l.its) j k.0 job k.1))
 
@@ -221,8 +187,8 @@ pub claim_behind : (es : Trace) (s : Session) (m : Submitted) (older : List Subm
     → claim_of (calls_of (front_at d) s) ≡ Some claim
     → (q : Submitted) × Contains older q × (is_join_call ClaimWrite q.call.purpose ≡ true) × (delta_written q ≡ Some claim)
 claim_behind es s m older d claim is =
-    let one = then_some delta_written (join_call (calls_of (front_at d) s) ClaimWrite) claim is in
-    let there = found_in (λ (x : Submitted). is_join_call ClaimWrite x.call.purpose) (calls_of (front_at d) s) one.0 one.1 in
+    let one = then_value delta_written (join_call (calls_of (front_at d) s) ClaimWrite) claim is in
+    let there = find_inside (λ (x : Submitted). is_join_call ClaimWrite x.call.purpose) (calls_of (front_at d) s) one.0 one.1 in
     let two = partner_of IsLater older (calls_of (front_at d) s) one.0 d.prior there.0 in (
       two.0,
       two.1,
@@ -305,7 +271,7 @@ HasGeneration g m = (d : DeltaRec) → delta_written m ≡ Some d → d.generati
 abbrev pub ClaimHasGeneration : ℕ → Submitted → Type 0
 ClaimHasGeneration g m = is_join_call ClaimWrite m.call.purpose ≡ true → HasGeneration g m
 
-last_inside : (ms : List Submitted) (d : DeltaRec) → last_delta ms ≡ Some d → (m : Submitted) × Contains ms m × (delta_written m ≡ Some d)
+pub last_inside : (ms : List Submitted) (d : DeltaRec) → last_delta ms ≡ Some d → (m : Submitted) × Contains ms m × (delta_written m ≡ Some d)
 last_inside [] d is = absurd (none_some d is)
 last_inside (m ∷ ms) d is = by (λ more. last_inside ms d more) (delta_written m) refl is where
   by : (last_delta ms ≡ Some d → (x : Submitted) × Contains ms x × (delta_written x ≡ Some d)) → (o : Option DeltaRec) → delta_written m ≡ o → last_by o (last_delta ms) ≡ Some d
@@ -313,7 +279,7 @@ last_inside (m ∷ ms) d is = by (λ more. last_inside ms d more) (delta_written
   by rest (Some e) its at = (m, contains_first m ms, its ∙ at)
   by rest None its at = let r = rest at in (r.0, contains_more m ms r.0 r.1, r.2)
 
-last_none : (ms : List Submitted) → last_delta ms ≡ None → (m : Submitted) → Contains ms m → (d : DeltaRec) → delta_written m ≡ Some d → ⊥
+pub last_none : (ms : List Submitted) → last_delta ms ≡ None → (m : Submitted) → Contains ms m → (d : DeltaRec) → delta_written m ≡ Some d → ⊥
 last_none [] none m there d is = contains_none m there
 last_none (x ∷ ms) none m there d is = by (λ rest old. last_none ms rest m old d is) (delta_written x) refl none (contains_cases x ms m there) where
   by : (last_delta ms ≡ None → Contains ms m → ⊥) → (o : Option DeltaRec) → delta_written x ≡ o → last_by o (last_delta ms) ≡ None → (x ≡ m) ⊎ Contains ms m → ⊥
@@ -328,10 +294,10 @@ last_generation : (s : Session) (g : ℕ) (older : List Submitted) → (s.job �
     → generation_in s older ≡ g
 last_generation s g older given renews each joined = by (last_delta older) refl joined where
   by : (o : Option DeltaRec) → last_delta older ≡ o → (s.job ≡ None) ⊎ HasFirst older → option_map_or (λ (e : DeltaRec). e.generation) o (given_number s) ≡ g
-  by (Some e) is j = let r = last_inside older e is in every_one (HasGeneration g) older r.0 each r.1 e r.2
+  by (Some e) is j = let r = last_inside older e is in every_has (HasGeneration g) older r.0 each r.1 e r.2
   by None is (inl none) = given_one s g none (given none)
   by None is (inr first) =
-      let w = every_one Renews older first.0 renews first.1 first.2 in
+      let w = every_has Renews older first.0 renews first.1 first.2 in
       absurd (last_none older is first.0 first.1 w.0 w.1)
 
 pub one_generation : (s : Session) (g : ℕ) → (s.job ≡ None → g ≡ 1) → (ms : List Submitted) → EveryTail (Shaped s) ms → Every Renews ms → Every (ClaimHasGeneration g) ms
@@ -342,7 +308,7 @@ one_generation s g given (m ∷ ms) shaped renews claims =
     (λ d is. by rest d is (is_join_call ClaimWrite m.call.purpose) refl, rest)
   where
     of_kind : Every (HasGeneration g) ms → (d : DeltaRec) → (OfClaim ms d × (is_join_call FirstRenewal m.call.purpose ≡ true)) ⊎ OfLast s ms d → d.generation ≡ g
-    of_kind rest d (inl c) = c.0.generation ∙ every_one (HasGeneration g) ms c.0.call rest c.0.inside c.0.claim c.0.written
+    of_kind rest d (inl c) = c.0.generation ∙ every_has (HasGeneration g) ms c.0.call rest c.0.inside c.0.claim c.0.written
     of_kind rest d (inr l) = l.generation ∙ last_generation s g ms given renews.1 rest l.joined
 
     by : Every (HasGeneration g) ms → (d : DeltaRec) → delta_written m ≡ Some d → (b : Bool) → is_join_call ClaimWrite m.call.purpose ≡ b → d.generation ≡ g
@@ -368,7 +334,7 @@ unique step once (x ∷ xs) places a b there here p q =
     clash y z is behind r t =
         let first : is_join_call step x.call.purpose ≡ true = ap (λ (u : Submitted). is_join_call step u.call.purpose) is ∙ r in
         let k = ranks_of step x.call.purpose first in
-        twice z x (rank_at step) (ranks_of step z.call.purpose t).1 k.1 once (every_one (Precede x) xs z (places.0 k.0).below behind)
+        twice z x (rank_at step) (ranks_of step z.call.purpose t).1 k.1 once (every_has (Precede x) xs z (places.0 k.0).below behind)
 
     by : (Contains xs a → Contains xs b → a ≡ b) → (x ≡ a) ⊎ Contains xs a → (x ≡ b) ⊎ Contains xs b → a ≡ b
     by rest (inl i) (inl j) = sym i ∙ j
@@ -427,7 +393,7 @@ before_claim m ms place at n =
     let p = place k.0 in
     every_from (HasLess n) ms (λ x there e is.
     absurd (early_step x.call.purpose (is_write x.call.op) (done_of ms x p.done there).0
-    (rank_under m x 4 k.1 (λ z. omega (arith, z)) (every_one (Precede m) ms x p.below there)) (writing_by x.call.op e is)))
+    (rank_under m x 4 k.1 (λ z. omega (arith, z)) (every_has (Precede m) ms x p.below there)) (writing_by x.call.op e is)))
 
 -- Only the claim is written before the first renewal.
 before_first : (m : Submitted) (ms : List Submitted) → InPlace m ms → EveryTail InPlace ms → is_join_call FirstRenewal m.call.purpose ≡ true → (d : DeltaRec) → OfClaim ms d
@@ -437,7 +403,7 @@ before_first m ms place places at d c =
     let p = place k.0 in
     every_from (HasLess d.seq) ms (λ x there e is.
     let claims = writer_step x.call.purpose (is_write x.call.op) (done_of ms x p.done there).0
-    (rank_under m x 6 k.1 (λ z. omega (arith, z)) (every_one (Precede m) ms x p.below there)) (writing_by x.call.op e is) in
+    (rank_under m x 6 k.1 (λ z. omega (arith, z)) (every_has (Precede m) ms x p.below there)) (writing_by x.call.op e is) in
     let one = unique ClaimWrite (λ z. omega (arith, z)) ms places x c.call there c.inside claims c.at in
     let same : e.seq ≡ c.claim.seq = ap (λ (y : DeltaRec). y.seq) (one_value e c.claim (delta_written c.call) (ap (λ (y : Submitted). delta_written y) (sym one) ∙ is) c.written) in
     omega (arith, same, c.seq))

@@ -4,40 +4,29 @@ use Rattle.sl_id_state.proofs.CallFrames.{IsThere}
 use Rattle.sl_id_state.proofs.FindingFrames.{find_passes, on_machine}
 use Rattle.sl_id_state.specs.Facts.{JoinReadsAreOwn, ReadsOwn, is_reading_step}
 use Rattle.sl_id_state.specs.IdStates.{claim_bytes, comes_before, deciding_sample, is_sector_of, join_course, own_courses, refused_stamp, sample_showing, verifying_sample, watched_bytes}
+use Rattle.sl_place_law.proofs.Looks.{same_step}
+use Rattle.sl_plain.proofs.Lists.{kept_inside}
+use Rattle.sl_plain.proofs.Numbers.{no_times_more}
 use Rattle.sl_run.specs.Runs.{Happening}
 use Rattle.sl_run.specs.Safety.{Found, LawfulRun, SessionId, is_course_of, session_of_world, world_at}
 use Rattle.sl_run.specs.Worlds.{Course, Machine, Program, Sampling, World, history_of}
 use Rattle.sl_run.specs.declared.header.Header.{Header}
 use Rattle.sl_sample_law.proofs.Numbering.{number_below}
 use Rattle.sl_sample_law.specs.Samples.{IsSampleOf, SamplesAreLandings, sector_place}
-use Rattle.sl_session_law.proofs.Making.{contains_cases, contains_first, contains_more, contains_none}
-use Rattle.sl_sessions.specs.Sessions.{Session, is_join_call, same_join_step}
-use Rattle.sl_trace.specs.declared.effects.JoinStep.TheVariants.{ClaimWrite, DecidingRead, FirstRead, FirstRenewal, VerifyRead, WatchRead}
+use Rattle.sl_sessions.specs.Sessions.{Session, is_join_call}
+use Rattle.sl_trace.specs.declared.effects.JoinStep.TheVariants.{DecidingRead, VerifyRead}
 use Rattle.sl_trace.specs.declared.effects.JoinStep.{JoinStep}
 use Rattle.sl_trace.specs.declared.effects.Purpose.TheVariants.{Joining}
 use Rattle.sl_trace.specs.declared.effects.Purpose.{Purpose}
 use Rattle.sl_words.proofs.CaseLaws.{none_some, true_is_false}
 use Rattle.sl_words.proofs.WordLaws.{and_true, choose_some}
 use Rattle.sl_words.specs.Words.{choose, first_of_list, some_is}
-use Rattle.std.proofs.Common.{ap, arith, inl, inr, refl, subst, sym, tests, ◌∙◌}
+use Rattle.std.proofs.Common.{ap, refl, subst, sym, ◌∙◌}
+use Rattle.std.proofs.lemmas.Bool.{eqb-true}
 use Rattle.std.proofs.lemmas.Slice.Eq.{bytes_eq-Decides}
-use Rattle.std.specs.Prelude.{Bool, Contains, List, None, Option, Some, bytes_eq, cond, false, filter, length, option_and_then, true, [], ℕ, ◌&&◌, ◌*◌, ◌+◌, ◌<◌, ◌==◌, ◌∷◌, ◌≡◌}
+use Rattle.std.specs.Prelude.{Contains, List, None, Option, Some, bytes_eq, length, option_and_then, true, ℕ, ◌&&◌, ◌<◌, ◌==◌, ◌≡◌}
 
 -- ---- own calls
-
-kept_by : {A : Type 0} (p : A → Bool) (y : A) (xs : List A) (x : A) (t : Bool) → p y ≡ t → Contains (cond t (y ∷ filter p xs) (filter p xs)) x
-    → (Contains (filter p xs) x → Contains xs x × (p x ≡ true)) → Contains (y ∷ xs) x × (p x ≡ true)
-kept_by p y xs x true is has rest =
-    elim (contains_cases y (filter p xs) x has) as (λ z. Contains (y ∷ xs) x × (p x ≡ true)) [
-      | inl e ↦ (subst (Contains (y ∷ xs)) e (contains_first y xs), subst (λ z. p z ≡ true) e is)
-      | inr more ↦ let r = rest more in (contains_more y xs x r.0, r.1)
-    ]
-kept_by p y xs x false is has rest = let r = rest has in (contains_more y xs x r.0, r.1)
-
--- What a filter keeps is there, and passes.
-pub kept : {A : Type 0} (p : A → Bool) (xs : List A) (x : A) → Contains (filter p xs) x → Contains xs x × (p x ≡ true)
-kept p [] x has = absurd (contains_none x has)
-kept p (y ∷ xs) x has = kept_by p y xs x (p y) refl has (kept p xs x)
 
 -- An own call at a step of a joining.
 pub record IsJoinCourse (i : SessionId) (step : JoinStep) (a : Machine) (c : Course) : Type 0 where
@@ -49,7 +38,7 @@ pub record IsJoinCourse (i : SessionId) (step : JoinStep) (a : Machine) (c : Cou
 pub join_is : (i : SessionId) (step : JoinStep) (a : Machine) (c : Course) → join_course i step a ≡ Some c → IsJoinCourse i step a c
 join_is i step a c h =
     let p = find_passes (λ x. is_join_call step x.call.purpose) (own_courses i a) c h in
-    let k = kept (is_course_of i) a.calls c p.there in
+    let k = kept_inside (is_course_of i) a.calls c p.there in
     record { own = p.there; has = k.0; its = k.1; joins = p.test }
 
 -- ---- what a sample showed
@@ -94,9 +83,6 @@ verifying_is w i f x h = sampled_by i f VerifyRead (claim_bytes w i f) x (join_c
 
 -- ---- places
 
-same_numbers : (m n : ℕ) → (m == n) ≡ true → m ≡ n
-same_numbers m n h = grind (arith, tests)
-
 -- Two places of one sector are one.
 pub one_sector : (w : World) (s : Session) (path other : List ℕ) (offset at : ℕ) → is_sector_of w.layout path offset s ≡ true
     → is_sector_of w.layout other at s ≡ true → (other ≡ path) × (at ≡ offset)
@@ -105,7 +91,7 @@ one_sector w s path other offset at h k =
     let p = and_true (own == offset) (bytes_eq s.path path) h in
     let q = and_true (own == at) (bytes_eq s.path other) k in (
       sym ((bytes_eq-Decides s.path other).0 q.1) ∙ (bytes_eq-Decides s.path path).0 p.1,
-      sym (same_numbers own at q.0) ∙ same_numbers own offset p.0,
+      sym (eqb-true own at q.0) ∙ eqb-true own offset p.0,
     )
 
 -- ---- steps of a joining
@@ -115,17 +101,8 @@ pub record IsJoining (step : JoinStep) (p : Purpose) : Type 0 where
   pub job : ℕ
   pub joining : p ≡ Joining job step
 
-step_is : (a b : JoinStep) → same_join_step a b ≡ true → b ≡ a
-step_is FirstRead FirstRead h = refl
-step_is WatchRead WatchRead h = refl
-step_is DecidingRead DecidingRead h = refl
-step_is ClaimWrite ClaimWrite h = refl
-step_is VerifyRead VerifyRead h = refl
-step_is FirstRenewal FirstRenewal h = refl
-step_is a b h = absurd (true_is_false (sym h))
-
 pub joining_is : (step : JoinStep) (p : Purpose) → is_join_call step p ≡ true → IsJoining step p
-joining_is step (Joining j at) h = record { job = j; joining = ap (Joining j) (step_is step at h) }
+joining_is step (Joining j at) h = record { job = j; joining = ap (Joining j) (same_step step at h) }
 joining_is step p h = absurd (true_is_false (sym h))
 
 -- A read of a joining is of the session's own sector.
@@ -134,9 +111,6 @@ pub read_is_own : JoinReadsAreOwn → (p : Program) (h : Header) (xs : List Happ
 read_is_own own p h xs run i f step c at reads j =
     let k = joining_is step c.call.purpose j.joins in
     own p h xs run i f c at j.own k.job step k.joining reads
-
-no_more : (n s : ℕ) → n + 0 * s ≡ n
-no_more n s = omega arith
 
 -- Its sample shows a landing of the history of the session's sector.
 pub sample_is : SamplesAreLandings → (p : Program) (h : Header) (xs : List Happening) → LawfulRun p h xs → (i : SessionId) (f : Found) (c : Course) (x : Sampling)
@@ -161,7 +135,7 @@ there_by own samples p h xs run path offset i f at sector (Some x) is =
     let r : ReadsOwn w f d.course = read_is_own own p h xs run i f DecidingRead d.course at refl j in
     let s : IsSampleOf w d.course 0 x = sample_is samples p h xs run i f d.course x at j.has d.showed.sample in
     let e = one_sector w f.session path d.course.call.path offset d.course.call.offset sector r.place in
-    seen_there w path d.course.call.path offset (sector_place w d.course 0) x.index e.0 (no_more d.course.call.offset w.layout.sector ∙ e.1)
+    seen_there w path d.course.call.path offset (sector_place w d.course 0) x.index e.0 (no_times_more d.course.call.offset w.layout.sector ∙ e.1)
     (number_below (history_of w d.course.call.path (sector_place w d.course 0)) x.index s.landing s.seen)
 
 -- The landing on which a session decided is there, at its own sector.

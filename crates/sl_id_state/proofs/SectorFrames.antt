@@ -1,4 +1,5 @@
 -- Where what landed at a sector stays, and who wrote it, so does what a session's state takes from there.
+use Rattle.sl_course_law.proofs.Daemons.{every_each}
 use Rattle.sl_ids.specs.State.{Landing as IdLanding, Session as IdSession, SessionId as IdName}
 use Rattle.sl_id_state.proofs.Frames.{Same, SameThere, begun_same, standing_same}
 use Rattle.sl_id_state.specs.IdStates.{blank, deciding_sample, generation_above, generation_by, has_begun, index_of, is_sector_of, join_course, landing_of, name_of, said_by, same_name, seq_left, session_at, session_named_so, standing_by, standing_of, writer_of}
@@ -30,10 +31,6 @@ mapped_same : {A B : Type 0} (f g : A → B) (xs : List A) → Every (λ x. f x 
 mapped_same f g [] h = refl
 mapped_same f g (x ∷ xs) h = ap (λ y. y ∷ map f xs) h.0 ∙ ap (λ ys. g x ∷ ys) (mapped_same f g xs h.1)
 
-pub every_other : {A : Type 0} (P Q : A → Type 0) (xs : List A) → ((x : A) → P x → Q x) → Every P xs → Every Q xs
-every_other P Q [] f h = tt
-every_other P Q (x ∷ xs) f h = (f x h.0, every_other P Q xs f h.1)
-
 -- The seq of a landing, by its writer.
 abbrev seq_by : World → IdName → Landing → Option IdName → ℕ
 seq_by w n l o = elim (some_is (same_name n) o) [ false ↦ 0 | true ↦ option_map_or (λ x. x.seq) (said_by w.layout l.bytes) 0 ]
@@ -54,7 +51,7 @@ pub seqs_same : (w v : World) (n : IdName) (ls : List Landing) → v.layout ≡ 
     → map (seq_left v n) ls ≡ map (seq_left w n) ls
 seqs_same w v n ls layout h =
     mapped_same (seq_left v n) (seq_left w n) ls
-    (every_other (λ l. writer_of v l ≡ writer_of w l) (λ l. seq_left v n l ≡ seq_left w n l) ls (λ l k. seq_left_same w v n l layout k) h)
+    (every_each (λ l. writer_of v l ≡ writer_of w l) (λ l. seq_left v n l ≡ seq_left w n l) ls (λ l k. seq_left_same w v n l layout k) h)
 
 generation_on : (w v : World) (path : List ℕ) (offset : ℕ) (o : Option Sampling) → v.layout ≡ w.layout → history_of v path offset ≡ history_of w path offset
     → generation_by v path offset o ≡ generation_by w path offset o
@@ -171,7 +168,7 @@ same_still i f =
 
 -- ---- landings that stay where others come in front
 
-first_same : (w v : World) (path : List ℕ) (offset : ℕ) → v.layout ≡ w.layout → v.header ≡ w.header → first_landing v path offset ≡ first_landing w path offset
+pub first_same : (w v : World) (path : List ℕ) (offset : ℕ) → v.layout ≡ w.layout → v.header ≡ w.header → first_landing v path offset ≡ first_landing w path offset
 first_same w v path offset layout header =
     ap (λ g. first_landing (record v { layout = g }) path offset) layout
     ∙ ap (λ h. first_landing (record v { layout = w.layout; header = h }) path offset) header

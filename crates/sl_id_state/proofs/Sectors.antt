@@ -4,11 +4,16 @@ use Rattle.sl_area.specs.Places.{delta_offset}
 use Rattle.sl_course_law.proofs.Daemons.{daemon_of_line}
 use Rattle.sl_front_law.proofs.Having.{placed_at}
 use Rattle.sl_id_state.proofs.FindingFrames.{found_on, session_with}
-use Rattle.sl_id_state.proofs.Members.{IsFirst, IsGivenOf, equal_texts, given_by_line, given_place, givens, got_inside, is_given, layout_at, line_gives, one_given, one_index, pair_of, session_at_place}
+use Rattle.sl_id_state.proofs.Keeping.{is_place}
+use Rattle.sl_id_state.proofs.Members.{IsFirst, IsGivenOf, given_by_line, given_place, givens, is_given, layout_at, line_gives, one_given, pair_of, session_at_place}
 use Rattle.sl_id_state.specs.IdStates.{is_sector_of}
 use Rattle.sl_id_state.specs.Promises.{IsIdPlace}
+use Rattle.sl_landing_law.proofs.Initial.{up_to}
 use Rattle.sl_place_law.proofs.Areas.{IsSized, lockspace_aligned, one_lockspace, sized}
-use Rattle.sl_place_law.proofs.Finding.{equal_numbers, finds, place_is}
+use Rattle.sl_place_law.proofs.Finding.{finds, place_is}
+use Rattle.sl_plain.proofs.Lists.{got_inside}
+use Rattle.sl_plain.proofs.Numbers.{one_again, one_index}
+use Rattle.sl_plain.proofs.Options.{else_some}
 use Rattle.sl_run.specs.Headers.{GoTogether, IsHeader}
 use Rattle.sl_run.specs.Safety.{Found, IsSession, SessionId}
 use Rattle.sl_run.specs.Worlds.{Daemon, Machine, Program, daemon_numbered, given_of, machine_at, machine_of_header, world_with}
@@ -16,14 +21,13 @@ use Rattle.sl_run.specs.declared.header.Header.{Header}
 use Rattle.sl_run.specs.declared.header.LockspaceLine.{LockspaceLine}
 use Rattle.sl_run.specs.declared.header.SessionLine.{SessionLine}
 use Rattle.sl_sessions.specs.Sessions.{Session, given_session}
-use Rattle.sl_trace.specs.Traces.{same_place}
 use Rattle.sl_trace.specs.declared.input.Given.{Given}
 use Rattle.sl_words.proofs.CaseLaws.{one_value}
 use Rattle.std.proofs.Common.{ap, arith, refl, subst, sym, ◌∙◌}
-use Rattle.std.proofs.lemmas.Bool.{and_from}
+use Rattle.std.proofs.lemmas.Bool.{eq-eqb}
 use Rattle.std.proofs.lemmas.Bool.Decides.{nat_tests}
 use Rattle.std.specs.List.{range_with_len}
-use Rattle.std.specs.Prelude.{Bool, Contains, List, None, Option, Some, bytes_eq, false, find, if◌then◌else◌, map, option_map, slice_get, suc, true, zero, [], ℕ, ◌*◌, ◌%◌, ◌+◌, ◌-◌, ◌<◌, ◌==◌, ◌∷◌, ◌≡◌, ◌≤◌}
+use Rattle.std.specs.Prelude.{Contains, List, None, Some, false, find, map, option_map, slice_get, suc, true, zero, [], ℕ, ◌*◌, ◌%◌, ◌+◌, ◌-◌, ◌<◌, ◌==◌, ◌∷◌, ◌≡◌, ◌≤◌}
 
 -- ---- lines are apart
 
@@ -50,16 +54,13 @@ one_of_machine h i j s t ok at there names machines =
 
 -- ---- sectors
 
-one_sector : (a b i k : ℕ) → a % 1048576 ≡ 0 → b % 1048576 ≡ 0 → 1 ≤ i → i ≤ 2000 → 1 ≤ k → k ≤ 2000 → a + 512 * (i - 1) ≡ b + 512 * (k - 1) → (a ≡ b) × (i ≡ k)
+pub one_sector : (a b i k : ℕ) → a % 1048576 ≡ 0 → b % 1048576 ≡ 0 → 1 ≤ i → i ≤ 2000 → 1 ≤ k → k ≤ 2000 → a + 512 * (i - 1) ≡ b + 512 * (k - 1) → (a ≡ b) × (i ≡ k)
 one_sector a b i k p q low high low' high' same = (omega (arith, p, q, low, high, low', high', same), omega (arith, p, q, low, high, low', high', same))
 
 -- Delta sectors of ids are apart.
 sectors_apart : (g : Layout) (a b i k : ℕ) → IsSized g → a % 1048576 ≡ 0 → b % 1048576 ≡ 0 → 1 ≤ i → i ≤ 2000 → 1 ≤ k → k ≤ 2000 → delta_offset g a i ≡ delta_offset g b k → (a ≡ b) × (i ≡ k)
 sectors_apart g a b i k z p q low high low' high' same =
     one_sector a b i k p q low high low' high' (subst (λ n. a + n * (i - 1) ≡ b + n * (k - 1)) z.sector same)
-
-up_to : (a b : ℕ) → a ≤ b → b ≤ 2000 → a ≤ 2000
-up_to a b h k = omega (arith, h, k)
 
 -- Whose line has this lockspace and this id.
 pub record IsLineOf (l : LockspaceLine) (id : ℕ) (s : SessionLine) : Type 0 where
@@ -135,25 +136,18 @@ ranged f k (suc n) (suc i) less =
     let smaller : i < n = omega (arith, less) in
     ranged f (k + 1) n i smaller ∙ ap (λ m. Some (f m)) same
 
-pub at_place : (b : Bool) (o : Option Machine) (a : Machine) → b ≡ false → o ≡ Some a → (if b then None else o) ≡ Some a
-at_place true o a is h = absurd cc
-at_place false o a is h = h
-
 some_number : (m : ℕ) → 1 ≤ m → (m == 0) ≡ false
 some_number m h = grind (arith, nat_tests)
 
 in_range : (m n : ℕ) → 1 ≤ m → m ≤ n → m - 1 < n
 in_range m n low high = omega (arith, low, high)
 
-from_one : (m : ℕ) → 1 ≤ m → 1 + (m - 1) ≡ m
-from_one m h = omega (arith, h)
-
 -- Each machine of the header is there.
 pub machine_there : (p : Program) (h : Header) (m : ℕ) → 1 ≤ m → m ≤ h.machines → machine_at (world_with p h) m ≡ Some (machine_of_header p (layout_at p h) h m)
 machine_there p h m low high =
     let f : ℕ → Machine = machine_of_header p (layout_at p h) h in
-    at_place (m == 0) (slice_get (world_with p h).machines (m - 1)) (f m) (some_number m low)
-    (ranged f 1 h.machines (m - 1) (in_range m h.machines low high) ∙ ap (λ n. Some (f n)) (from_one m low))
+    else_some (m == 0) (slice_get (world_with p h).machines (m - 1)) (f m) (some_number m low)
+    (ranged f 1 h.machines (m - 1) (in_range m h.machines low high) ∙ ap (λ n. Some (f n)) (one_again m low))
 
 -- Its daemon, where a session line is its.
 pub daemon_there : (p : Program) (h : Header) (m : ℕ) (s : SessionLine) → find (λ x. x.machine == m) h.sessions ≡ Some s
@@ -190,7 +184,7 @@ has_session p h s ok there =
     let at = placed_at h.sessions s there in
     let gives = line_gives h s ok there in
     let place = given_place (given_of h s.machine) h.sessions at.0 s gives.0 at.1 gives.1 in
-    let line = finds (λ (x : SessionLine). x.machine == s.machine) h.sessions s (equal_numbers s.machine s.machine refl) there in
+    let line = finds (λ (x : SessionLine). x.machine == s.machine) h.sessions s (eq-eqb s.machine s.machine refl) there in
     record {
       session = record { machine = s.machine; daemon = 0; number = place.0 };
       found = record { machine = machine_of_header p (layout_at p h) h s.machine; daemon = daemon_of_line p (layout_at p h) h s.machine line.0; session = given_session (place.0, gives.0) };
@@ -199,9 +193,6 @@ has_session p h s ok there =
       of_line = is_given h s.machine s gives.0 gives.1;
       shows = refl;
     }
-
-sector_by : (path : List ℕ) (offset : ℕ) (path' : List ℕ) (offset' : ℕ) → path ≡ path' → offset ≡ offset' → same_place path offset path' offset' ≡ true
-sector_by path offset path' offset' paths offsets = and_from (offset == offset') (bytes_eq path path') (equal_numbers offset offset' offsets) (equal_texts path path' paths)
 
 -- It has its sector there, where the line has the lockspace and the id.
 pub has_sector : (p : Program) (h : Header) (path : List ℕ) (offset : ℕ) (s : SessionLine) (x : IsIdPlace p h path offset) → IsHeader h → IsLineOf x.lockspace x.id s
@@ -212,5 +203,5 @@ has_sector p h path offset s x ok its y =
     let given : y.found.session ≡ given_session (y.session.number, given_by_line h s.machine s k) =
     y.shows ∙ ap (λ (g : Given). given_session (y.session.number, g)) y.of_line.is in
     subst (λ (z : Session). is_sector_of (layout_at p h) path offset z ≡ true) (sym given)
-    (sector_by k.path (delta_offset (layout_at p h) k.offset s.id) path offset (ap (λ (l : LockspaceLine). l.path) same ∙ sym x.is_path)
+    (is_place k.path (delta_offset (layout_at p h) k.offset s.id) path offset (ap (λ (l : LockspaceLine). l.path) same ∙ sym x.is_path)
     (ap (λ (l : LockspaceLine). delta_offset (layout_at p h) l.offset s.id) same ∙ ap (λ n. delta_offset (layout_at p h) x.lockspace.offset n) its.same_id ∙ sym x.is_offset))

@@ -5,7 +5,7 @@ use Rattle.sl_course_law.proofs.Daemons.{daemon_of_line}
 use Rattle.sl_front_law.proofs.Having.{placed_at}
 use Rattle.sl_id_state.proofs.FindingFrames.{find_passes}
 use Rattle.sl_id_state.proofs.Holders.{HoldsFirst, holder_holds, holds_is_holder}
-use Rattle.sl_id_state.proofs.Members.{IsFirst, equal_texts, got_inside, is_first, layout_at, pair_of}
+use Rattle.sl_id_state.proofs.Members.{IsFirst, equal_texts, is_first, layout_at, pair_of}
 use Rattle.sl_id_state.proofs.Sectors.{HasSession, IsLineOf, has_sector, has_session, line_of_sector, one_holder, one_of_id}
 use Rattle.sl_id_state.specs.IdStates.{blank, content_of, deciding_sample, has_begun, holder_at, id_state, is_sector_of, name_of, said_by, session_at, session_named_so, standing_by, standing_of}
 use Rattle.sl_id_state.specs.Promises.{IdsStart, IsIdPlace}
@@ -13,8 +13,10 @@ use Rattle.sl_ids.specs.Runs.{HasHolder, Starts_free, Starts_held, StartsWith}
 use Rattle.sl_ids.specs.State.{IsNew, Session as IdSession, SessionId as IdName}
 use Rattle.sl_landing_law.proofs.Initial.{initial_is_record}
 use Rattle.sl_place_law.proofs.Areas.{IsSized, lockspace_aligned, one_lockspace, same_base, sector_fits, sized}
-use Rattle.sl_place_law.proofs.Finding.{equal_numbers, finds, same_number, same_text}
+use Rattle.sl_place_law.proofs.Finding.{finds, same_text}
 use Rattle.sl_place_law.proofs.Seats.{delta_within}
+use Rattle.sl_plain.proofs.Lists.{got_inside}
+use Rattle.sl_plain.proofs.Numbers.{back_again}
 use Rattle.sl_run.specs.Headers.{GoTogether, IsHeader}
 use Rattle.sl_run.specs.Safety.{Found, IsSession, SessionId, session_of_world}
 use Rattle.sl_run.specs.Worlds.{Daemon, Machine, Program, World, initial_bytes, initial_delta, initial_of_lockspace, initial_of_resource, initial_record, machine_of_header, member_delta, world_with}
@@ -34,7 +36,7 @@ use Rattle.sl_words.proofs.WordLaws.{and_true}
 use Rattle.sl_words.specs.Words.{choose}
 use Rattle.std.proofs.Common.{ap, arith, inl, inr, refl, subst, sym, ◌∙◌}
 use Rattle.std.proofs.Math.Nat.{le-max_left}
-use Rattle.std.proofs.lemmas.Bool.{and_from, cases_lt}
+use Rattle.std.proofs.lemmas.Bool.{and_from, cases_lt, eq-eqb, eqb-true}
 use Rattle.std.proofs.lemmas.Bool.Decides.{nat_tests}
 use Rattle.std.specs.Prelude.{Bool, Contains, List, None, Option, Some, bytes_eq, false, find, is_none, is_some, nat_lt, option_map, replicate, slice_get, true, ℕ, ◌&&◌, ◌*◌, ◌+◌, ◌-◌, ◌/◌, ◌<◌, ◌==◌, ◌≡◌, ◌≤◌, ◌||◌}
 
@@ -76,14 +78,11 @@ sector_index g base id z low = subst (λ n. (base + n * (id - 1) - base) / n ≡
 one_less : (id n : ℕ) → 1 ≤ id → id ≤ n → nat_lt (id - 1) n ≡ true
 one_less id n low high = grind (arith, nat_tests)
 
-one_more : (id : ℕ) → 1 ≤ id → id - 1 + 1 ≡ id
-one_more id low = omega (arith, low)
-
 -- The record of the id is in the sector of its place.
 record_of_index : (h : Header) (l : LockspaceLine) (k id : ℕ) → k ≡ id - 1 → 1 ≤ id → id ≤ h.geometry.hosts → initial_of_lockspace h l k ≡ Some (DeltaIs (initial_delta h l id))
 record_of_index h l k id is low high =
     ap (initial_of_lockspace h l) is ∙ ap (λ b. choose b (DeltaIs (initial_delta h l (id - 1 + 1)))) (one_less id h.geometry.hosts low high)
-    ∙ ap (λ n. Some (DeltaIs (initial_delta h l n))) (one_more id low)
+    ∙ ap (λ n. Some (DeltaIs (initial_delta h l n))) (back_again id low)
 
 initial_at : (p : Program) (h : Header) (path : List ℕ) (offset : ℕ) → IsHeader h → (x : IsIdPlace p h path offset)
     → initial_record (layout_at p h) h path offset ≡ Some (DeltaIs (initial_delta h x.lockspace x.id))
@@ -183,7 +182,7 @@ stands_first p h path offset i f x =
     (sym (same_found f (machine_of_header p (layout_at p h) h i.machine) (daemon_of_line p (layout_at p h) h i.machine line) (given_session (i.number, x.given)) x.machine x.daemon.is x.session))
     (stands_by p h path offset i.machine i.number i line x.given)
 
-standing_where : (w : World) (path : List ℕ) (offset : ℕ) (i : SessionId) (f : Found) (b c : Bool) → b ≡ true → c ≡ true
+pub standing_where : (w : World) (path : List ℕ) (offset : ℕ) (i : SessionId) (f : Found) (b c : Bool) → b ≡ true → c ≡ true
     → elim (b && c) as (λ z. IdSession) [ false ↦ blank | true ↦ standing_of w path offset i f ] ≡ standing_of w path offset i f
 standing_where w path offset i f true true p q = refl
 standing_where w path offset i f false c p q = absurd cc
@@ -219,7 +218,7 @@ nobody p h path offset ok x none i f is its =
     let first = is_first p h i f is in
     let line = line_of_sector p h path offset i f x ok first its in
     let test = and_from (bytes_eq first.line.lockspace x.lockspace.name) (first.line.id == x.id) (equal_texts first.line.lockspace x.lockspace.name line.lockspace)
-    (equal_numbers first.line.id x.id line.same_id) in
+    (eq-eqb first.line.id x.id line.same_id) in
     let found = finds (λ (s : SessionLine). bytes_eq s.lockspace x.lockspace.name && s.id == x.id) h.sessions first.line test (got_inside h.sessions first.place first.line first.there) in
     none_some found.0 (sym none ∙ found.1)
 
@@ -253,7 +252,7 @@ daemon_name : (p : Program) (h : Header) (i : SessionId) (f : Found) → IsHeade
 daemon_name p h i f ok x =
     let first = find_passes (λ (y : SessionLine). y.machine == i.machine) h.sessions x.daemon.line x.daemon.found in
     let place = placed_at h.sessions x.daemon.line first.there in
-    name_of_line h place.0 x.place x.daemon.line x.line ok place.1 x.there (same_number x.daemon.line.machine i.machine first.test ∙ sym x.of_line.machine)
+    name_of_line h place.0 x.place x.daemon.line x.line ok place.1 x.there (eqb-true x.daemon.line.machine i.machine first.test ∙ sym x.of_line.machine)
 
 -- The line of a session whose sector it is is that of the id.
 line_is : (p : Program) (h : Header) (path : List ℕ) (offset : ℕ) (i : SessionId) (f : Found) (s : SessionLine) → IsHeader h → (x : IsIdPlace p h path offset)
@@ -307,7 +306,7 @@ held_first : (p : Program) (h : Header) (path : List ℕ) (offset : ℕ) (s : Se
 held_first p h path offset s ok x is =
     let at = find_passes (λ (y : SessionLine). bytes_eq y.lockspace x.lockspace.name && y.id == x.id) h.sessions s is in
     let both = and_true (bytes_eq s.lockspace x.lockspace.name) (s.id == x.id) at.test in
-    let its : IsLineOf x.lockspace x.id s = record { lockspace = same_text s.lockspace x.lockspace.name both.0; same_id = same_number s.id x.id both.1 } in
+    let its : IsLineOf x.lockspace x.id s = record { lockspace = same_text s.lockspace x.lockspace.name both.0; same_id = eqb-true s.id x.id both.1 } in
     let y : HasSession p h s = has_session p h s ok at.there in
     let sector = has_sector p h path offset s x ok its y in
     let first = is_first p h y.session y.found y.is in

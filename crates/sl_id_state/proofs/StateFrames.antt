@@ -4,19 +4,14 @@ use Rattle.sl_ids.specs.Runs.{IsBounded, Later}
 use Rattle.sl_ids.specs.State.{Content, Session as IdSession, SessionId as IdName, State}
 use Rattle.sl_ids.specs.Steps.{ChangesOnly, Lands, Pass, Passes, SameLandings, Step}
 use Rattle.sl_ids.specs.Terms.{Terms}
+use Rattle.sl_plain.proofs.Numbers.{equal_is_least, number_itself}
 use Rattle.sl_words.proofs.CaseLaws.{is_false, not_both, true_is_false}
 use Rattle.sl_words.proofs.WordLaws.{and_true}
-use Rattle.std.proofs.Common.{ap, arith, inl, inr, refl, sym, tests, ◌∙◌}
-use Rattle.std.proofs.lemmas.Bool.{and_from}
-use Rattle.std.specs.Prelude.{Bool, Option, false, true, [], ℕ, ◌&&◌, ◌==◌, ◌∷◌, ◌≡◌, ◌≤◌, ◌⊎◌}
+use Rattle.std.proofs.Common.{ap, inl, inr, refl, sym, ◌∙◌}
+use Rattle.std.proofs.lemmas.Bool.{and_from, eqb-true}
+use Rattle.std.specs.Prelude.{Bool, Option, false, true, [], ◌&&◌, ◌==◌, ◌∷◌, ◌≡◌, ◌⊎◌}
 
 -- ---- names
-
-same_numbers : (m n : ℕ) → (m == n) ≡ true → m ≡ n
-same_numbers m n h = grind (arith, tests)
-
-number_itself : (n : ℕ) → (n == n) ≡ true
-number_itself n = grind (arith, tests)
 
 name_by : (a b : IdName) → a.machine ≡ b.machine → a.daemon ≡ b.daemon → a.number ≡ b.number → a ≡ b
 name_by a b m d n =
@@ -29,7 +24,7 @@ pub name_is : (a b : IdName) → same_name a b ≡ true → a ≡ b
 name_is a b h =
     let p = and_true (a.machine == b.machine && a.daemon == b.daemon) (a.number == b.number) h in
     let q = and_true (a.machine == b.machine) (a.daemon == b.daemon) p.0 in
-    name_by a b (same_numbers a.machine b.machine q.0) (same_numbers a.daemon b.daemon q.1) (same_numbers a.number b.number p.1)
+    name_by a b (eqb-true a.machine b.machine q.0) (eqb-true a.daemon b.daemon q.1) (eqb-true a.number b.number p.1)
 
 pub name_itself : (a : IdName) → same_name a a ≡ true
 name_itself a =
@@ -103,12 +98,9 @@ joined_by w v n s self others j =
       | inr h ↦ others j h ∙ sym (other_session w n j s h)
     ]
 
-not_before : (m n : ℕ) → n ≡ m → m ≤ n
-not_before m n h = omega (arith, h)
-
 -- States that agree are joined by a step in which no time passes.
 pub agrees : (w v : State) → v.now ≡ w.now → SameLandings w v → ((j : IdName) → v.session j ≡ w.session j) → Pass w v
-agrees w v now same sessions = record { later = not_before w.now v.now now; same = same; sessions = sessions }
+agrees w v now same sessions = record { later = equal_is_least w.now v.now now; same = same; sessions = sessions }
 
 -- One step, within the bounds, is a run.
 pub one_step : (r : Terms) (w v : State) → Step r w v → IsBounded r v → Later r w v

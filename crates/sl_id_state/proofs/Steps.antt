@@ -1,16 +1,19 @@
 -- A step of a joining on the machine: it comes once, and what its laws say of answered calls is true of calls of the machine that were
 -- answered before it.
+use Rattle.sl_course_law.proofs.Daemons.{every_has}
+use Rattle.sl_place_law.proofs.Looks.{joins_at}
+use Rattle.sl_place_law.proofs.Reading.{first_whole}
+use Rattle.sl_plain.proofs.Lists.{contains_more, kept_inside}
+use Rattle.sl_plain.proofs.Numbers.{one_times}
 use Rattle.sl_run_law.specs.Fates.{Every}
-use Rattle.sl_landing_law.proofs.Listing.{every_one}
-use Rattle.sl_session_law.proofs.Joining.{both}
 use Rattle.sl_course_law.specs.Stamping.{AnswersAgree, IsAnsweredAs, IsCourseOf}
 use Rattle.sl_id_state.proofs.Bridge.{Grounds, IsKnown, IsPlaced, step_agrees}
-use Rattle.sl_id_state.proofs.Keeping.{IsOwnCall, step_is}
+use Rattle.sl_id_state.proofs.Keeping.{IsOwnCall}
 use Rattle.sl_id_state.proofs.Listing.{EveryTail, every_pair, find_here, stands_there}
-use Rattle.sl_place_law.proofs.Finding.{filtered, partner_of}
+use Rattle.sl_place_law.proofs.Finding.{partner_of}
 use Rattle.sl_id_state.proofs.Living.{InPlace, Precede, in_place, is_joining, rank, rank_at}
 use Rattle.sl_id_state.proofs.Tails.{IsLater, front_at}
-use Rattle.sl_id_state.proofs.Timing.{answer_past, reading_front, refused_after_call, stamps_order, stamps_rise}
+use Rattle.sl_id_state.proofs.Timing.{reading_front, refused_after_call, stamps_order, stamps_rise}
 use Rattle.sl_id_state.specs.IdStates.{comes_before, join_course, own_courses, refused_stamp, sample_showing}
 use Rattle.sl_course_law.specs.Stamping.{stamp_in}
 use Rattle.sl_front_law.proofs.Having.{contains_right}
@@ -21,8 +24,6 @@ use Rattle.sl_run.specs.Worlds.{Course, Machine, Program, Sampling, Stamp, World
 use Rattle.sl_run.specs.declared.header.Header.{Header}
 use Rattle.sl_area.specs.Places.{sector_of}
 use Rattle.sl_sample_law.specs.Samples.{IsSampleOf}
-use Rattle.sl_session_law.proofs.Growing.{all_of_it}
-use Rattle.sl_session_law.proofs.Making.{contains_more}
 use Rattle.sl_sessions.specs.Sessions.{calls_of, is_call_of, is_join_call, refused_after}
 use Rattle.sl_time.specs.Times.{reading_of}
 use Rattle.sl_trace.specs.Traces.{Answered, Submitted, is_write, submitted}
@@ -31,16 +32,18 @@ use Rattle.sl_trace.specs.declared.effects.JoinStep.{JoinStep}
 use Rattle.sl_trace.specs.declared.effects.Op.TheVariants.{ReadSectors}
 use Rattle.sl_trace.specs.declared.effects.Op.{Op}
 use Rattle.sl_trace.specs.declared.effects.Purpose.{Purpose}
+use Rattle.sl_watchdog_law.proofs.Joins.{answered_within}
 use Rattle.sl_words.proofs.CaseLaws.{is_false}
 use Rattle.sl_words.specs.Words.{choose, first_of_list, some_is}
-use Rattle.std.proofs.Common.{ap, arith, inl, inr, refl, subst, sym, tests, ◌∙◌}
+use Rattle.std.proofs.Common.{ap, arith, inl, inr, refl, subst, sym, ◌∙◌}
+use Rattle.std.proofs.lemmas.Bool.{and_from, lt-ltb}
 use Rattle.std.specs.Cmp.Lexicographic.{nat_list_eq_equiv}
-use Rattle.std.specs.Prelude.{Contains, List, None, Option, Some, [], bytes_eq, drop, false, find, length, nat_lt, not, option_and_then, slice_get, suc, take, true, ℕ, ◌&&◌, ◌*◌, ◌++◌, ◌-◌, ◌<◌, ◌∷◌, ◌≡◌, ◌≤◌}
+use Rattle.std.specs.Prelude.{Contains, List, None, Option, Some, [], bytes_eq, false, find, length, not, option_and_then, slice_get, suc, true, ℕ, ◌&&◌, ◌*◌, ◌++◌, ◌-◌, ◌<◌, ◌∷◌, ◌≡◌, ◌≤◌}
 
 -- ---- a step comes once
 
 pub ranks_of : (step : JoinStep) (p : Purpose) → is_join_call step p ≡ true → (is_joining p ≡ true) × (rank p ≡ rank_at step)
-ranks_of step p is = let r = step_is step p is in (ap (λ q. is_joining q) r.1, ap (λ q. rank q) r.1)
+ranks_of step p is = let r = joins_at step p is in (ap (λ q. is_joining q) r.1, ap (λ q. rank q) r.1)
 
 pub twice : (x y : Submitted) (n : ℕ) → rank x.call.purpose ≡ n → rank y.call.purpose ≡ n → (n ≡ 2 → ⊥) → Precede y x → ⊥
 twice x y n a b once (inl lt) = omega (arith, a, b, lt)
@@ -53,7 +56,7 @@ other_steps step (y ∷ front) here rest h is once = (
   is_false (is_join_call step y.call.purpose) (λ same.
       let r = ranks_of step y.call.purpose same in
       twice here y (rank_at step) (ranks_of step here.call.purpose is).1 r.1 once
-      (every_one (Precede y) (front ++ here ∷ rest) here (h.0 r.0).below (stands_there front here rest))),
+      (every_has (Precede y) (front ++ here ∷ rest) here (h.0 r.0).below (stands_there front here rest))),
   other_steps step front here rest h.1 is once,
 )
 
@@ -94,7 +97,7 @@ answered_before w i f c o r a there is =
     let one = partner_of IsLater x.pairs.rest (calls_of (front_at d) f.session) r d.prior there in
     let two = partner_of (IsCourseOf f.daemon) x.older x.pairs.rest r x.pairs.rests (subst (λ m. Contains x.pairs.rest m) (one.2.stays a is) one.1) in
     let told : IsAnsweredAs f.daemon two.0 a = subst (λ q. AnswersAgree f.daemon two.0 q) is two.2.answers in
-    let past : a.at < suc (length d.past) = answer_past (front_at d) r a (filtered (is_call_of f.session) (submitted (front_at d)) r there).0 is in
+    let past : a.at < suc (length d.past) = answered_within (front_at d) r a (kept_inside (is_call_of f.session) (submitted (front_at d)) r there).0 is in
     let le : a.at ≤ x.pairs.here.at = omega (arith, past, d.place) in
     record {
       course = two.0;
@@ -109,7 +112,7 @@ pub read_before : (w : World) (i : SessionId) (f : Found) (c : Course) (o : IsOw
     → r.reading ≤ reading_of c.made.clock
 read_before w i f c o r there =
     let d = o.placed.made in
-    let le = reading_front (setting_in f) d.entry d.past d.index o.lawful.lawful.is_trace r (filtered (is_call_of f.session) (submitted (front_at d)) r there).0 in
+    let le = reading_front (setting_in f) d.entry d.past d.index o.lawful.lawful.is_trace r (kept_inside (is_call_of f.session) (submitted (front_at d)) r there).0 in
     omega (arith, le, d.reading, o.placed.pairs.this.reading)
 
 pub reading_made : (w : World) (i : SessionId) (f : Found) (c : Course) (o : IsOwnCall w i f c) → o.placed.made.entry.reading ≡ reading_of c.made.clock
@@ -128,15 +131,6 @@ one_first : {A : Type 0} (xs : List A) → length xs ≡ 1 → (x : A) × (first
 one_first [] h = absurd (omega (arith, h))
 one_first (x ∷ xs) h = (x, refl, refl)
 
-one_times : (n : ℕ) → 1 * n ≡ n
-one_times n = omega arith
-
-none_before : (n : ℕ) → 0 * n ≡ 0
-none_before n = omega arith
-
-first_whole : (n : ℕ) (bs : List ℕ) → length bs ≡ n → take n (drop (0 * n) bs) ≡ bs
-first_whole n bs h = ap (λ k. take n (drop k bs)) (none_before n) ∙ ap (λ k. take k bs) (sym h) ∙ all_of_it bs
-
 pub is_sampled : Grounds → (p : Program) (h : Header) (xs : List Happening) → LawfulRun p h xs → (m : ℕ) (a : Machine) (c : Course) → machine_at (world_at p h xs) m ≡ Some a
     → Contains a.calls c → c.done ≡ true → c.call.op ≡ ReadSectors 1 → IsSampled (world_at p h xs) c
 is_sampled g p h xs run m a c at has done op =
@@ -153,9 +147,6 @@ is_sampled g p h xs run m a c at has done op =
 
 -- ---- before any refusal
 
-less_is : (a b : ℕ) → a < b → nat_lt a b ≡ true
-less_is a b h = grind (arith, tests)
-
 -- What was sampled before a call of the session came before any refusal.
 pub before_refusal : (w : World) (i : SessionId) (f : Found) (c : Course) → IsOwnCall w i f c → (x : Sampling) → x.step < c.made.step → comes_before (refused_stamp f) x ≡ true
 before_refusal w i f c o x lt = by (refused_after (trace_of f) f.session) refl where
@@ -166,7 +157,7 @@ before_refusal w i f c o x lt = by (refused_after (trace_of f) f.session) refl w
       let later = refused_after_call d.later d.entry d.past d.index f.session k o.lawful.alive (ap (λ t. refused_after t f.session) (sym d.whole) ∙ is) in
       let rise : o.placed.pairs.here.at < k - 1 = omega (arith, later, d.place) in
       let more = stamps_rise w.step f.daemon.stamps o.placed.pairs.here.at (k - 1) c.made r o.known.stamps o.placed.pairs.this.made at rise in
-      less_is x.step r.step (omega (arith, lt, more))
+      lt-ltb x.step r.step (omega (arith, lt, more))
 
   by : (q : Option ℕ) → refused_after (trace_of f) f.session ≡ q → comes_before (option_and_then (λ k. stamp_in f.daemon.stamps (k - 1)) q) x ≡ true
   by None is = refl
@@ -179,4 +170,4 @@ showing f bytes c bs x is same first before =
     let shown : some_is (λ b. bytes_eq b c.sampled) bytes ≡ true =
     ap (λ o. some_is (λ b. bytes_eq b c.sampled) o) is ∙ ap (λ b. bytes_eq b c.sampled) same ∙ nat_list_eq_equiv.refl c.sampled in
     ap (λ o. option_and_then (λ (y : Sampling). choose (some_is (λ b. bytes_eq b c.sampled) bytes && comes_before (refused_stamp f) y) y) o) first
-    ∙ ap (λ b. choose b x) (both (some_is (λ b. bytes_eq b c.sampled) bytes) (comes_before (refused_stamp f) x) shown before)
+    ∙ ap (λ b. choose b x) (and_from (some_is (λ b. bytes_eq b c.sampled) bytes) (comes_before (refused_stamp f) x) shown before)

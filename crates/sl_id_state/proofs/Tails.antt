@@ -3,7 +3,7 @@ use Rattle.sl_course_law.specs.Stamping.{Pairwise}
 use Rattle.sl_id_state.proofs.Listing.{EveryTail}
 use Rattle.sl_law.specs.Saying.{cut_at}
 use Rattle.sl_session_law.proofs.Growing.{mine_marked, mine_next, other_next, to_all}
-use Rattle.sl_session_law.proofs.Making.{SameCall, same_answered}
+use Rattle.sl_session_law.proofs.Making.{SameCall, kept_by, same_answered}
 use Rattle.sl_sessions.specs.Sessions.{Session, calls_of}
 use Rattle.sl_trace.specs.Traces.{Answered, Submitted, Trace, answer_of, answered_in, mark}
 use Rattle.sl_trace.specs.declared.effects.Call.{Call}
@@ -12,7 +12,6 @@ use Rattle.sl_trace.specs.declared.input.Answer.{Answer}
 use Rattle.sl_trace.specs.declared.input.Input.TheVariants.{Answer as Told, Exit, Line, Spawned, Wake}
 use Rattle.sl_trace.specs.declared.input.Input.{Input}
 use Rattle.std.proofs.Common.{ap, refl, subst, sym, ◌∙◌}
-use Rattle.std.specs.Option.{option_or}
 use Rattle.std.specs.Prelude.{Bool, List, Some, [], false, length, map, slice_get, suc, true, ℕ, ◌++◌, ◌==◌, ◌∷◌, ◌≡◌}
 
 -- A call, and the same call earlier: an answer that it had then it has still.
@@ -47,13 +46,9 @@ all_again (m ∷ ms) (n ∷ ns) (r ∷ rs) h k = (later_again m n r h.0 k.0, all
 
 -- ---- an answer
 
-stays_by : (m : Submitted) (a b : Answered) (t : Bool) → m.answer ≡ Some a → elim t as (λ x. Submitted) [ false ↦ m | true ↦ record m { answer = option_or m.answer (Some b) } ] ≡ m
-stays_by m a b false is = refl
-stays_by m a b true is = rw is refl
-
 told_later : (es : Trace) (e : Entry) (n : ℕ) (a : Answer) (m : Submitted) → IsLater (answered_in es e n a m) m
 told_later es e n a m =
-    record { same = same_answered es e n a m; stays = λ w is. stays_by m w (answer_of es e a m.call) (m.call.number == n) is }
+    record { same = same_answered es e n a m; stays = λ w is. kept_by m w (answer_of es e a m.call) (m.call.number == n) is }
 
 told_all : (es : Trace) (e : Entry) (n : ℕ) (a : Answer) (ms : List Submitted) → AreLater (map (answered_in es e n a) ms) ms
 told_all es e n a [] = tt

@@ -1,48 +1,38 @@
 -- When what a trace tells came about: answers and readings of a front are of its past, a refusal is of later, and stamps are in order.
+use Rattle.sl_course_law.proofs.Matching.{found_below}
 use Rattle.sl_course_law.specs.Stamping.{stamp_in}
-use Rattle.sl_id_state.proofs.Listing.{map_some, then_some}
-use Rattle.sl_place_law.proofs.Finding.{same_number}
 use Rattle.sl_law.specs.LawfulCalls.{may_submit}
 use Rattle.sl_law.specs.Saying.{cut_at}
 use Rattle.sl_moment_law.specs.Orders.{Fall}
+use Rattle.sl_plain.proofs.Lists.{contains_none}
+use Rattle.sl_plain.proofs.Options.{mapped_value, then_value}
 use Rattle.sl_run.specs.Worlds.{Stamp}
-use Rattle.sl_session_law.proofs.Making.{IsNewCall, contains_cases, contains_first, contains_more, contains_none, old_or_new, was_marked}
+use Rattle.sl_session_law.proofs.Making.{IsNewCall, old_or_new, was_marked}
 use Rattle.sl_session_law.proofs.Silence.{no_more}
 use Rattle.sl_session_law.proofs.Staying.{refused_apart, refused_more}
 use Rattle.sl_sessions.specs.Sessions.{Session, is_join_done, refused_after, removed_after, stage_of}
-use Rattle.sl_trace.specs.Traces.{Answered, IsTrace, Replied, Setting, Submitted, Trace, answer_of, answered_in, last_reading, mark, reply_in, reply_to, submitted}
+use Rattle.sl_trace.specs.Traces.{IsTrace, Replied, Setting, Submitted, Trace, last_reading, mark, reply_in, reply_to, submitted}
 use Rattle.sl_trace.specs.declared.effects.Entry.{Entry}
 use Rattle.sl_trace.specs.declared.effects.JobReply.{JobReply}
-use Rattle.sl_trace.specs.declared.input.Answer.{Answer}
-use Rattle.sl_trace.specs.declared.input.Input.TheVariants.{Answer as Told, Exit, Line, Spawned, Wake}
-use Rattle.sl_trace.specs.declared.input.Input.{Input}
 use Rattle.sl_words.proofs.CaseLaws.{no_value, none_some, one_value, some_value, true_is_false}
 use Rattle.sl_words.proofs.OrderLaws.{less_or_same}
 use Rattle.sl_words.proofs.WordLaws.{choose_some}
 use Rattle.sl_words.specs.Words.{choose}
 use Rattle.std.proofs.Common.{ap, arith, inl, inr, refl, subst, sym, ◌∙◌}
-use Rattle.std.specs.Option.{option_or}
-use Rattle.std.specs.Prelude.{Bool, Contains, List, None, Option, Some, [], false, find, length, map, not, option_and_then, suc, take, true, ℕ, ◌++◌, ◌+◌, ◌-◌, ◌<◌, ◌==◌, ◌∷◌, ◌≡◌, ◌≤◌, ◌⊎◌}
+use Rattle.std.proofs.lemmas.Bool.{eqb-true}
+use Rattle.std.specs.Prelude.{Bool, Contains, List, None, Option, Some, [], false, find, length, not, option_and_then, take, true, ℕ, ◌++◌, ◌+◌, ◌-◌, ◌<◌, ◌==◌, ◌∷◌, ◌≡◌, ◌≤◌, ◌⊎◌}
 
 -- ---- stamps of a daemon
 
 stamp_by : (x : Stamp) (xs : List Stamp) (i : ℕ) (s : Stamp) (b : Bool) → (i == length xs) ≡ b → elim b as (λ z. Option Stamp) [ true ↦ Some x | false ↦ stamp_in xs i ] ≡ Some s
     → ((i ≡ length xs) × (x ≡ s)) ⊎ (stamp_in xs i ≡ Some s)
-stamp_by x xs i s true is h = inl (same_number i (length xs) is, some_value x s h)
+stamp_by x xs i s true is h = inl (eqb-true i (length xs) is, some_value x s h)
 stamp_by x xs i s false is h = inr h
 
 stamp_cases : (x : Stamp) (xs : List Stamp) (i : ℕ) (s : Stamp) → stamp_in (x ∷ xs) i ≡ Some s → ((i ≡ length xs) × (x ≡ s)) ⊎ (stamp_in xs i ≡ Some s)
 stamp_cases x xs i s h = stamp_by x xs i s (i == length xs) refl h
 
-stamp_within : (ss : List Stamp) (i : ℕ) (s : Stamp) → stamp_in ss i ≡ Some s → i < length ss
-stamp_within [] i s h = absurd (none_some s h)
-stamp_within (x ∷ xs) i s h =
-    elim (stamp_cases x xs i s h) as (λ z. i < suc (length xs)) [
-      | inl here ↦ omega (arith, here.0)
-      | inr more ↦ omega (arith, stamp_within xs i s more)
-    ]
-
-stamp_below : (n : ℕ) (ss : List Stamp) (i : ℕ) (s : Stamp) → Fall n ss → stamp_in ss i ≡ Some s → s.step < n
+pub stamp_below : (n : ℕ) (ss : List Stamp) (i : ℕ) (s : Stamp) → Fall n ss → stamp_in ss i ≡ Some s → s.step < n
 stamp_below n [] i s f h = absurd (none_some s h)
 stamp_below n (x ∷ xs) i s f h =
     elim (stamp_cases x xs i s h) as (λ z. s.step < n) [
@@ -59,7 +49,7 @@ stamps_rise n (x ∷ xs) i j s t f h k lt =
     by : (stamp_in xs i ≡ Some s → stamp_in xs j ≡ Some t → s.step < t.step) → ((i ≡ length xs) × (x ≡ s)) ⊎ (stamp_in xs i ≡ Some s)
         → ((j ≡ length xs) × (x ≡ t)) ⊎ (stamp_in xs j ≡ Some t) → s.step < t.step
     by rest (inl a) (inl b) = absurd (omega (arith, a.0, b.0, lt))
-    by rest (inl a) (inr b) = absurd (omega (arith, a.0, stamp_within xs j t b, lt))
+    by rest (inl a) (inr b) = absurd (omega (arith, a.0, found_below xs j t b, lt))
     by rest (inr a) (inl b) = subst (λ (y : Stamp). s.step < y.step) b.1 (stamp_below x.step xs i s f.1 a)
     by rest (inr a) (inr b) = rest a b
 
@@ -73,53 +63,6 @@ stamps_order n ss i j s t f h k le = by (less_or_same i j le) where
       omega (arith, eq)
 
 -- ---- answers are of the past
-
-mapped : {A B : Type 0} (f : A → B) (xs : List A) (m : B) → Contains (map f xs) m → (x : A) × Contains xs x × (f x ≡ m)
-mapped f [] m there = absurd (contains_none m there)
-mapped {A} f (y ∷ xs) m there =
-    elim (contains_cases (f y) (map f xs) m there) as (λ z. (x : A) × Contains (y ∷ xs) x × (f x ≡ m)) [
-      | inl here ↦ (y, contains_first y xs, here)
-      | inr more ↦ let r = mapped f xs m more in (r.0, contains_more y xs r.0 r.1, r.2)
-    ]
-
-answer_by : (x : Submitted) (w a : Answered) (b : Bool) (o : Option Answered) → x.answer ≡ o
-    → (elim b as (λ z. Submitted) [ false ↦ x | true ↦ record x { answer = option_or x.answer (Some w) } ]).answer ≡ Some a → (x.answer ≡ Some a) ⊎ (w ≡ a)
-answer_by x w a false o is h = inl h
-answer_by x w a true None is h = inr (some_value w a (ap (λ q. option_or q (Some w)) (sym is) ∙ h))
-answer_by x w a true (Some c) is h = inl (is ∙ ap (λ q. option_or q (Some w)) (sym is) ∙ h)
-
-told_answer : (es : Trace) (e : Entry) (n : ℕ) (w : Answer) (ms : List Submitted) (m : Submitted) (a : Answered) → Contains (map (answered_in es e n w) ms) m → m.answer ≡ Some a
-    → ((x : Submitted) × Contains ms x × (x.answer ≡ Some a)) ⊎ (a.at ≡ length es)
-told_answer es e n w ms m a there is =
-    let r = mapped (answered_in es e n w) ms m there in
-    elim (answer_by r.0 (answer_of es e w r.0.call) a (r.0.call.number == n) r.0.answer refl (ap (λ (y : Submitted). y.answer) r.2 ∙ is))
-    as (λ z. ((x : Submitted) × Contains ms x × (x.answer ≡ Some a)) ⊎ (a.at ≡ length es)) [
-      | inl old ↦ inl (r.0, r.1, old)
-      | inr new ↦ inr (ap (λ (y : Answered). y.at) (sym new))
-    ]
-
-marked_answer : (es : Trace) (e : Entry) (i : Input) (ms : List Submitted) (m : Submitted) (a : Answered) → Contains (mark es e i ms) m → m.answer ≡ Some a
-    → ((x : Submitted) × Contains ms x × (x.answer ≡ Some a)) ⊎ (a.at ≡ length es)
-marked_answer es e (Told n w) ms m a there is = told_answer es e n w ms m a there is
-marked_answer es e (Line text) ms m a there is = inl (m, there, is)
-marked_answer es e (Exit p) ms m a there is = inl (m, there, is)
-marked_answer es e (Spawned p ok) ms m a there is = inl (m, there, is)
-marked_answer es e Wake ms m a there is = inl (m, there, is)
-
-pub answer_past : (t : Trace) (m : Submitted) (a : Answered) → Contains (submitted t) m → m.answer ≡ Some a → a.at < length t
-answer_past [] m a there is = absurd (contains_none m there)
-answer_past (e ∷ past) m a there is =
-    by (λ x inside its. answer_past past x a inside its) (old_or_new (length past) e.reading e.effects.calls (mark past e e.input (submitted past)) m there)
-  where
-    marked : ((x : Submitted) → Contains (submitted past) x → x.answer ≡ Some a → a.at < length past)
-        → ((x : Submitted) × Contains (submitted past) x × (x.answer ≡ Some a)) ⊎ (a.at ≡ length past) → a.at < suc (length past)
-    marked rest (inl r) = omega (arith, rest r.0 r.1 r.2)
-    marked rest (inr now) = omega (arith, now)
-
-    by : ((x : Submitted) → Contains (submitted past) x → x.answer ≡ Some a → a.at < length past)
-        → Contains (mark past e e.input (submitted past)) m ⊎ IsNewCall (length past) e.reading e.effects.calls m → a.at < suc (length past)
-    by rest (inl old) = marked rest (marked_answer past e e.input (submitted past) m a old is)
-    by rest (inr new) = absurd (no_value a m.answer is new.unmet)
 
 -- ---- readings rise
 
@@ -155,8 +98,8 @@ refused_now : (e : Entry) (es : Trace) (j k : ℕ) (o : Option Replied) → repl
     → option_and_then if_refused (elim o as (λ z. Option Replied) [ Some r ↦ Some r | None ↦ reply_in j es e ]) ≡ Some k → k ≡ length es + 1
 refused_now e es j k (Some r) is none h = absurd (no_value k (if_refused r) h none)
 refused_now e es j k None is none h =
-    let r = then_some if_refused (reply_in j es e) k h in
-    let a = map_some (replied_as es) (find (λ (x : JobReply). x.job == j) e.effects.replies) r.0 r.1 in
+    let r = then_value if_refused (reply_in j es e) k h in
+    let a = mapped_value (replied_as es) (find (λ (x : JobReply). x.job == j) e.effects.replies) r.0 r.1 in
     let at : r.0.at ≡ length es = ap (λ (x : Replied). x.at) (sym a.2) in
     sym (choose_some (not (is_join_done r.0.reply)) (r.0.at + 1) k r.2).1 ∙ ap (λ n. n + 1) at
 

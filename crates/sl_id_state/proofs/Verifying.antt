@@ -1,13 +1,13 @@
 -- What stands behind a verify read; and that delta records are written one after the other.
-use Rattle.sl_watchdog_law.proofs.Finding.{any_of}
+use Rattle.sl_plain.proofs.Lists.{any_of, find_inside, kept, kept_inside}
 use Rattle.sl_place_law.proofs.Reading.{header_is}
 use Rattle.sl_course_law.specs.Stamping.{AnswersAgree, IsAnsweredAs, IsCourseOf}
 use Rattle.sl_id_state.proofs.Bridge.{Grounds, known}
 use Rattle.sl_id_state.proofs.Keeping.{IsOwnCall, own_call, step_law}
-use Rattle.sl_place_law.proofs.Finding.{filtered, found_in, partner}
+use Rattle.sl_place_law.proofs.Finding.{partner}
 use Rattle.sl_id_state.proofs.Steps.{answered_before, only, reading_made}
 use Rattle.sl_id_state.proofs.Tails.{IsLater, front_at}
-use Rattle.sl_id_state.proofs.Timing.{answer_past, stamps_order}
+use Rattle.sl_id_state.proofs.Timing.{stamps_order}
 use Rattle.sl_id_state.specs.Facts.{DeltaWritesComeInTurn, HasClaimed, VerifyReadsHaveClaimed}
 use Rattle.sl_law.specs.LawfulDelta.{LawfulDeltaCall, LawfulJoinStep}
 use Rattle.sl_run.specs.Runs.{Happening}
@@ -20,7 +20,6 @@ use Rattle.sl_sector.specs.declared.sector.DeltaState.TheVariants.{Claimed}
 use Rattle.sl_sessions.specs.Deltas.{delta_of_session, delta_record}
 use Rattle.sl_sector.specs.declared.sector.Rec.TheVariants.{DeltaIs}
 use Rattle.sl_sector.specs.declared.sector.Rec.{Rec}
-use Rattle.sl_session_law.proofs.Naming.{kept}
 use Rattle.sl_sessions.specs.Sessions.{Session, calls_of, delta_of_record, delta_written, has_open_delta, is_call_of, is_delta_purpose, is_join_call}
 use Rattle.sl_time.specs.Times.{dead, join_max}
 use Rattle.sl_trace.specs.Traces.{Answered, Setting, Submitted, Trace, is_write, new_call, record_of, submitted, unanswered}
@@ -30,6 +29,7 @@ use Rattle.sl_trace.specs.declared.effects.Op.TheVariants.{ReadSectors, WriteRec
 use Rattle.sl_trace.specs.declared.effects.Op.{Op}
 use Rattle.sl_trace.specs.declared.effects.Purpose.TheVariants.{Joining, Leaving, Renewal, Survey}
 use Rattle.sl_trace.specs.declared.effects.Purpose.{Purpose}
+use Rattle.sl_watchdog_law.proofs.Joins.{answered_within}
 use Rattle.sl_words.proofs.CaseLaws.{no_value, none_some, true_is_false}
 use Rattle.std.proofs.Common.{ap, arith, refl, subst, sym, ◌∙◌}
 use Rattle.std.specs.Prelude.{Contains, List, None, Option, Some, false, is_none, length, option_and_then, suc, true, ◌+◌, ◌<◌, ◌≡◌, ◌≤◌}
@@ -53,7 +53,7 @@ has_claimed : Grounds → (p : Program) (h : Header) (xs : List Happening) → L
 has_claimed g p h xs run i f c o is =
     let w : World = world_at p h xs in
     let law = step_law w i f c o VerifyRead is in
-    let there = found_in (λ (m : Submitted). is_join_call ClaimWrite m.call.purpose) (calls_of (front_at o.placed.made) f.session) law.claim law.claimed in
+    let there = find_inside (λ (m : Submitted). is_join_call ClaimWrite m.call.purpose) (calls_of (front_at o.placed.made) f.session) law.claim law.claimed in
     let b = answered_before w i f c o law.claim law.answer there.0 law.answered.0 in
     let oc = own_call w i f b.course o.known b.own in
     let claims : is_join_call ClaimWrite b.course.call.purpose ≡ true = ap (λ (x : Call). is_join_call ClaimWrite x.purpose) (sym b.is.call) ∙ there.1 in
@@ -69,7 +69,7 @@ has_claimed g p h xs run i f c o is =
       only = only w i f c o VerifyRead (λ e. omega (arith, e)) is;
       claim = b.course;
       claimed = only w i f b.course oc ClaimWrite (λ e. omega (arith, e)) claims;
-      landed = g.landed p h xs run i.machine f.machine b.course o.known.there.at (filtered (is_course_of i) f.machine.calls b.course b.own).0
+      landed = g.landed p h xs run i.machine f.machine b.course o.known.there.at (kept_inside (is_course_of i) f.machine.calls b.course b.own).0
           (b.told.done ∙ law.answered.1) writes;
       answer = b.told.stamp;
       answered = (b.told.answered, b.before);
@@ -125,7 +125,7 @@ answered_in_turn w i f c k o mine there its =
     let same : one.0.answer ≡ Some answer.0 = ap (λ (y : Submitted). y.answer) (two.2.stays answer.0 answer.1) ∙ answer.1 in
     let told : IsAnsweredAs f.daemon k answer.0 = subst (λ q. AnswersAgree f.daemon k q) same one.2.answers in
     let past : answer.0.at < suc (length d.past) =
-    answer_past (front_at d) two.0 answer.0 (filtered (is_call_of f.session) (submitted (front_at d)) two.0 two.1).0 answer.1 in
+    answered_within (front_at d) two.0 answer.0 (kept_inside (is_call_of f.session) (submitted (front_at d)) two.0 two.1).0 answer.1 in
     let le : answer.0.at ≤ x.pairs.here.at = omega (arith, past, d.place) in
     (told.stamp, told.answered, stamps_order w.step f.daemon.stamps answer.0.at x.pairs.here.at told.stamp c.made o.known.stamps told.entry x.pairs.this.made le)
 

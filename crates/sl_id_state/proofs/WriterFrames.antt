@@ -1,8 +1,11 @@
 -- Who wrote a landing stays, as calls go on and the first daemons keep the sessions that they were given.
 use Rattle.sl_area.specs.Layouts.{Layout}
+use Rattle.sl_front_law.proofs.Going.{not_zero, number_place}
 use Rattle.sl_id_state.specs.IdStates.{holder_at, holder_in, holder_on, is_sector_of, submitter_of, submitter_on, writer_of}
 use Rattle.sl_ids.specs.State.{SessionId as IdName}
 use Rattle.sl_landing_law.specs.Landings.{HasWriter, LandingsAreWritten}
+use Rattle.sl_plain.proofs.Lists.{contains_cases, contains_first, contains_more, contains_none}
+use Rattle.sl_plain.proofs.Numbers.{number_itself, one_before}
 use Rattle.sl_run.specs.Runs.{Happening}
 use Rattle.sl_run.specs.Safety.{LawfulRun, world_at}
 use Rattle.sl_run.specs.Worlds.{Course, Daemon, Landing, Machine, Program, World, daemon_numbered, first_landing, history_of, landed_at, machine_at}
@@ -10,7 +13,6 @@ use Rattle.sl_run.specs.declared.header.Header.{Header}
 use Rattle.sl_run_law.specs.Courses.{Continues, Follow, ListGoes}
 use Rattle.sl_run_law.specs.Fates.{AreDistinct, EachDistinct, Every}
 use Rattle.sl_run_law.specs.Machines.{EachMachine}
-use Rattle.sl_session_law.proofs.Making.{contains_cases, contains_first, contains_more, contains_none}
 use Rattle.sl_sessions.specs.Sessions.{Session, sessions}
 use Rattle.sl_trace.specs.Traces.{same_place}
 use Rattle.sl_words.proofs.CaseLaws.{none_some, some_value, true_is_false}
@@ -104,9 +106,6 @@ submitter_stays w v m n a b c at after go distinct has =
     ∙ submits_by m (call_of n a.calls) (call_of n b.calls) c has (call_stays n a.calls b.calls go distinct)
     ∙ sym (ap (λ o. option_and_then (submitter_on m n) o) at)
 
-number_itself : (n : ℕ) → (n == n) ≡ true
-number_itself n = grind (arith, tests)
-
 numbered_by : (n : ℕ) (d : Course) (cs : List Course) (t : Bool) → (d.call.number == n) ≡ t → (t ≡ false → (c : Course) × (call_of n cs ≡ Some c))
     → (c : Course) × (cond t (Some d) (call_of n cs) ≡ Some c)
 numbered_by n d cs true is rest = (d, refl)
@@ -160,26 +159,12 @@ first_same g path offset k (a ∷ ms) (b ∷ ns) same each =
     ∙ ap (λ r. elim (holder_on g path offset (k, a)) as (λ z. Option IdName) [ Some n ↦ Some n | None ↦ r ])
     (first_same g path offset (k + 1) ms ns (omega (arith, same)) (λ i. each (suc i)))
 
-at_place : (b : Bool) (o : Option Machine) (a : Machine) → b ≡ false → o ≡ Some a → (if b then None else o) ≡ Some a
-at_place true o a h k = absurd (true_is_false h)
-at_place false o a h k = k
-
 placed : (b : Bool) (o : Option Machine) (a : Machine) → b ≡ false → (if b then None else o) ≡ Some a → o ≡ Some a
 placed true o a h k = absurd (true_is_false h)
 placed false o a h k = k
 
-not_zero : (i : ℕ) → (suc i == 0) ≡ false
-not_zero i = grind arith
-
-less_one : (i : ℕ) → suc i - 1 ≡ i
-less_one i = omega arith
-
--- A machine by its place in the list.
-pub place_of : (w : World) (i : ℕ) (a : Machine) → slice_get w.machines i ≡ Some a → machine_at w (suc i) ≡ Some a
-place_of w i a h = at_place (suc i == 0) (slice_get w.machines (suc i - 1)) a (not_zero i) (ap (slice_get w.machines) (less_one i) ∙ h)
-
 pub in_place : (w : World) (i : ℕ) (a : Machine) → machine_at w (suc i) ≡ Some a → slice_get w.machines i ≡ Some a
-in_place w i a h = sym (ap (slice_get w.machines) (less_one i)) ∙ placed (suc i == 0) (slice_get w.machines (suc i - 1)) a (not_zero i) h
+in_place w i a h = sym (ap (slice_get w.machines) (one_before i)) ∙ placed (suc i == 0) (slice_get w.machines (suc i - 1)) a (not_zero i) h
 
 -- Who held it at first stays.
 pub holder_same : (w v : World) (path : List ℕ) (offset : ℕ) → v.layout ≡ w.layout → length v.machines ≡ length w.machines → EachMachine KeepsGiven w v
@@ -187,7 +172,7 @@ pub holder_same : (w v : World) (path : List ℕ) (offset : ℕ) → v.layout �
 holder_same w v path offset layout machines each =
     ap (λ g. first_given (holder_on g path offset) (enumerate_from 1 v.machines)) layout
     ∙ first_same w.layout path offset 1 w.machines v.machines machines
-    (λ i a h. let p = each (suc i) a (place_of w i a h) in (p.0, in_place v i p.0 p.1, p.2))
+    (λ i a h. let p = each (suc i) a (number_place w i a h) in (p.0, in_place v i p.0 p.1, p.2))
 
 -- ---- who wrote what
 

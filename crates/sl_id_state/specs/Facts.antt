@@ -18,7 +18,7 @@ use Rattle.sl_trace.specs.declared.effects.JoinStep.TheVariants.{ClaimWrite, Dec
 use Rattle.sl_trace.specs.declared.effects.JoinStep.{JoinStep}
 use Rattle.sl_trace.specs.declared.effects.Op.TheVariants.{ReadSectors}
 use Rattle.sl_trace.specs.declared.effects.Purpose.TheVariants.{Joining}
-use Rattle.std.specs.Prelude.{Bool, Contains, IsTrue, List, None, Option, Some, false, true, ℕ, ◌+◌, ◌<◌, ◌≡◌, ◌≤◌, ◌⊎◌}
+use Rattle.std.specs.Prelude.{Bool, Contains, IsTrue, List, None, Some, false, true, ℕ, ◌+◌, ◌<◌, ◌≡◌, ◌≤◌, ◌⊎◌}
 
 -- What is said of each call of each session of a lawful run.
 abbrev pub OfEachCall : (Program → Header → World → SessionId → Found → Course → Type 0) → Type 0

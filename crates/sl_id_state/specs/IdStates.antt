@@ -9,7 +9,7 @@ use Rattle.sl_course_law.specs.Stamping.{stamp_in}
 use Rattle.sl_ids.specs.State.{Claimed as Claim_kind, Content, Free as Free_kind, Kind, Landing as IdLanding, Live as Live_kind, Session as IdSession, SessionId as IdName, State}
 use Rattle.sl_ids.specs.Listed.{no_landing}
 use Rattle.sl_run.specs.Events.{write_bytes}
-use Rattle.sl_run.specs.Safety.{Found, SessionId, is_course_of, is_over, session_of_world, setting_in, trace_of}
+use Rattle.sl_run.specs.Safety.{Found, SessionId, is_course_of, is_over, session_of_world, trace_of}
 use Rattle.sl_run.specs.Worlds.{Course, Daemon, Landing, Machine, Sampling, Stamp, World, daemon_numbered, history_of, is_landed, machine_at, may_land}
 use Rattle.sl_sample_law.specs.Samples.{numbered_landing}
 use Rattle.sl_sector.specs.Spelling.{delta_in}
@@ -17,7 +17,7 @@ use Rattle.sl_sector.specs.declared.sector.DeltaRec.{DeltaRec}
 use Rattle.sl_sector.specs.declared.sector.DeltaState.TheVariants.{Claimed, Free, Live}
 use Rattle.sl_sector.specs.declared.sector.DeltaState.{DeltaState}
 use Rattle.sl_sessions.specs.Sessions.{Session, given_number, is_join_call, joined_after, refused_after, sessions}
-use Rattle.sl_trace.specs.Traces.{Setting, same_place}
+use Rattle.sl_trace.specs.Traces.{same_place}
 use Rattle.sl_trace.specs.declared.effects.JoinStep.TheVariants.{ClaimWrite, DecidingRead, FirstRead, VerifyRead}
 use Rattle.sl_trace.specs.declared.effects.JoinStep.{JoinStep}
 use Rattle.sl_watchdog_law.specs.Acting.{acting_stamp}

@@ -9,7 +9,6 @@ use Rattle.sl_id_steps.proofs.Fates.{landed_same, waits_no_more}
 use Rattle.sl_id_steps.proofs.Fating.{Turns, claim_at, has_landed, pends, seq_at}
 use Rattle.sl_id_steps.proofs.Landed.{RestsOn, lands_on, stands_then}
 use Rattle.sl_id_steps.proofs.Landings.{Here, IsActing, IsTorn, IsWhole, acting, claiming, content_by, generation_here, generation_stays, lands, lands_claim, others, tears_claim}
-use Rattle.sl_id_steps.proofs.OtherSessions.{distinct_one}
 use Rattle.sl_id_steps.proofs.OwnSeqs.{seqs_under}
 use Rattle.sl_id_steps.proofs.OwnWrites.{free_lands}
 use Rattle.sl_id_steps.proofs.Seqs.{first_is_other, index_old, seq_above, seq_torn}
@@ -18,6 +17,8 @@ use Rattle.sl_ids.specs.Runs.{IsBounded, Later}
 use Rattle.sl_ids.specs.State.{Free as Free_kind, Kind, Live as Live_kind, Session as IdSession}
 use Rattle.sl_ids.specs.Steps.{Lands_own, Leaving as Leaving_write, Renewal as Renewal_write, Rises, Torn as Torn_write, Write as IdWrite, after_writing, spelled_by}
 use Rattle.sl_ids.specs.Terms.{Terms}
+use Rattle.sl_landing_law.proofs.Listing.{one_call}
+use Rattle.sl_plain.proofs.Numbers.{number_turned}
 use Rattle.sl_run.specs.Runs.{Happening}
 use Rattle.sl_run.specs.Safety.{Found, SessionId, is_over, world_at}
 use Rattle.sl_run.specs.Worlds.{Course, Fate, Landing, Program, World}
@@ -28,7 +29,7 @@ use Rattle.sl_trace.specs.declared.effects.JoinStep.TheVariants.{ClaimWrite}
 use Rattle.sl_words.proofs.CaseLaws.{is_false, not_both}
 use Rattle.sl_words.proofs.WordLaws.{and_true}
 use Rattle.sl_words.specs.Words.{some_is}
-use Rattle.std.proofs.Common.{ap, arith, inl, inr, refl, subst, sym, tests, ◌∙◌}
+use Rattle.std.proofs.Common.{ap, inl, inr, refl, subst, sym, ◌∙◌}
 use Rattle.std.specs.Prelude.{Bool, Contains, List, None, Option, Some, false, true, [], ℕ, ◌&&◌, ◌<◌, ◌==◌, ◌∷◌, ◌≡◌, ◌⊎◌}
 
 -- ---- the claim stays where it is
@@ -40,11 +41,8 @@ not_this : (p : Program) (h : Header) (now : List Happening) (v : World) (m n : 
 not_this p h now v m n fate y path offset k apart x is same =
     let j = join_is (writer y) ClaimWrite k.caller.found.machine x is in
     let one : x ≡ y.changes.course =
-    distinct_one y.changes.machine.calls x y.changes.course y.changes.distinct (subst (λ a. Contains a.calls x) k.caller.machine j.has) k.caller.inside same in
+    one_call y.changes.machine.calls x y.changes.course y.changes.distinct (subst (λ a. Contains a.calls x) k.caller.machine j.has) k.caller.inside same in
     not_both (is_join_call ClaimWrite x.call.purpose) j.joins (ap (λ z. is_join_call ClaimWrite z.call.purpose) one ∙ apart)
-
-same_number : (a b : ℕ) → (a == b) ≡ true → (b == a) ≡ true
-same_number a b h = grind (arith, tests)
 
 claim_by : (w v : World) (path : List ℕ) (offset : ℕ) (i : SessionId) (l : Landing) (o : Option Course) → Grows w v path offset (l ∷ [])
     → ((x : Course) → o ≡ Some x → is_left_by (i.machine, x.call.number) l ≡ false) → claim_at v path offset i o ≡ claim_at w path offset i o
@@ -64,7 +62,7 @@ claim_stays p h now v m n fate y path offset k apart =
         let a = and_true k.landing.whole (some_is (λ q. q.0 == m && q.1 == x.call.number) k.landing.writer) t in
         let b = and_true (m == m) (y.changes.course.call.number == x.call.number)
         (sym (ap (λ o. some_is (λ q. q.0 == m && q.1 == x.call.number) o) k.named) ∙ a.1) in
-        not_this p h now v m n fate y path offset k apart x is (same_number y.changes.course.call.number x.call.number b.1)
+        not_this p h now v m n fate y path offset k apart x is (number_turned y.changes.course.call.number x.call.number b.1)
 
 -- ---- the step
 

@@ -1,26 +1,29 @@
 -- A session whose joining has a read in flight, that isn't refused and hasn't verified its claim: it isn't over, and hasn't joined.
+use Rattle.sl_course_law.proofs.Daemons.{every_has}
 use Rattle.sl_course_law.proofs.Mirrored.{machines_mirror}
+use Rattle.sl_course_law.proofs.Pairing.{pairs_length}
 use Rattle.sl_course_law.proofs.Stamped.{entries_are_stamped}
-use Rattle.sl_course_law.specs.Stamping.{IsCourseOf, Pairwise, stamp_in}
+use Rattle.sl_course_law.specs.Stamping.{IsCourseOf, stamp_in}
+use Rattle.sl_id_state.proofs.Bounding.{never_joined}
 use Rattle.sl_id_state.proofs.Bridge.{IsKnown, join_pairs, known}
 use Rattle.sl_id_state.proofs.Claiming.{record_is}
 use Rattle.sl_id_state.proofs.Frames.{of_daemon}
 use Rattle.sl_id_state.proofs.Keeping.{own_call}
+use Rattle.sl_id_state.proofs.LandingFrames.{not_newest}
 use Rattle.sl_id_state.proofs.Listing.{every_pair, find_pairs}
 use Rattle.sl_id_state.proofs.Living.{is_joining}
 use Rattle.sl_id_state.proofs.Proven.{grounds, renewals_have_verified}
 use Rattle.sl_id_state.proofs.Renewing.{none_joining}
 use Rattle.sl_id_state.proofs.Rising.{all_renew}
-use Rattle.sl_id_state.proofs.SampleFrames.{join_is, joining_is, kept}
+use Rattle.sl_id_state.proofs.SampleFrames.{join_is, joining_is}
 use Rattle.sl_id_state.proofs.FindingFrames.{find_passes}
 use Rattle.sl_id_state.proofs.Steps.{ranks_of}
 use Rattle.sl_id_state.proofs.Tails.{front_at}
-use Rattle.sl_id_state.proofs.Timing.{refused_by}
+use Rattle.sl_id_state.proofs.Timing.{refused_by, stamp_below}
 use Rattle.sl_id_state.specs.IdStates.{comes_before, own_courses, refused_stamp, runs_still, verifying_sample}
-use Rattle.sl_landing_law.proofs.Listing.{every_one}
 use Rattle.sl_law.specs.Lawful.{Lawful}
 use Rattle.sl_law.specs.LawfulDelta.{LawfulDeltaCall, LawfulJoin}
-use Rattle.sl_moment_law.specs.Orders.{Fall}
+use Rattle.sl_plain.proofs.Lists.{got_inside, kept_inside}
 use Rattle.sl_run.specs.Runs.{Happening}
 use Rattle.sl_run.specs.Safety.{Found, LawfulRun, SessionId, free_landed, has_write_in_flight, is_course_of, is_over, session_of_world, trace_of, was_reset, world_at}
 use Rattle.sl_run.specs.Worlds.{Course, Daemon, Machine, Program, Sampling, Stamp, World, daemon_numbered, flight_of, is_in_flight, is_landed, is_of_running, is_open, is_write_course, may_land, resets_after}
@@ -28,7 +31,6 @@ use Rattle.sl_run.specs.declared.header.Header.{Header}
 use Rattle.sl_run_law.specs.Fates.{Every}
 use Rattle.sl_sector.specs.declared.sector.DeltaRec.{DeltaRec}
 use Rattle.sl_sector.specs.declared.sector.Rec.TheVariants.{DeltaIs}
-use Rattle.sl_session_law.proofs.Owning.{got_inside}
 use Rattle.sl_session_law.proofs.Staying.{refused_more}
 use Rattle.sl_session_law.specs.Promises.{IsSession as IsSessionOf}
 use Rattle.sl_sessions.specs.Sessions.{Session, calls_of, delta_written, free_write, is_free_purpose, is_join_call, joined_after, refused_after, removed_after, sessions}
@@ -38,44 +40,27 @@ use Rattle.sl_trace.specs.declared.effects.JoinStep.TheVariants.{ClaimWrite, Fir
 use Rattle.sl_trace.specs.declared.effects.JoinStep.{JoinStep}
 use Rattle.sl_trace.specs.declared.effects.Purpose.TheVariants.{Joining, Leaving}
 use Rattle.sl_trace.specs.declared.effects.Purpose.{Purpose}
-use Rattle.sl_words.proofs.CaseLaws.{false_is_true, none_some, not_both, one_value, some_value, true_is_false}
+use Rattle.sl_words.proofs.CaseLaws.{false_is_true, none_some, not_both, one_value, true_is_false}
 use Rattle.sl_words.proofs.WordLaws.{and_true}
 use Rattle.sl_words.specs.Words.{is_empty, some_is}
-use Rattle.std.proofs.Common.{ap, arith, inl, inr, refl, subst, sym, tests, ◌∙◌}
+use Rattle.std.proofs.Common.{ap, arith, inl, inr, refl, sym, tests, ◌∙◌}
+use Rattle.std.proofs.lemmas.Bool.{eq-eqb, eqb-true}
 use Rattle.std.specs.List.{list_any}
-use Rattle.std.specs.Prelude.{Bool, Contains, List, None, Option, Some, cond, false, find, is_none, is_some, length, nat_lt, not, option_and_then, suc, true, [], ℕ, ◌&&◌, ◌+◌, ◌-◌, ◌<◌, ◌==◌, ◌||◌, ◌∷◌, ◌≡◌, ◌≤◌}
+use Rattle.std.specs.Prelude.{Bool, Contains, List, None, Option, Some, cond, false, find, is_none, is_some, length, nat_lt, not, option_and_then, true, [], ℕ, ◌&&◌, ◌+◌, ◌-◌, ◌<◌, ◌==◌, ◌||◌, ◌∷◌, ◌≡◌, ◌≤◌}
 
 -- ---- it isn't refused
-
-not_number : (i n : ℕ) → (i == n) ≡ false → i < n + 1 → i < n
-not_number i n h lt = grind (arith, tests)
 
 stamp_by : (b : Bool) (s : Stamp) (ss : List Stamp) (i : ℕ) → (i == length ss) ≡ b → i < length ss + 1 → (i < length ss → (t : Stamp) × (stamp_in ss i ≡ Some t))
     → (t : Stamp) × (elim b as (λ z. Option Stamp) [ true ↦ Some s | false ↦ stamp_in ss i ] ≡ Some t)
 stamp_by true s ss i is lt rest = (s, refl)
-stamp_by false s ss i is lt rest = rest (not_number i (length ss) is lt)
+stamp_by false s ss i is lt rest = rest (not_newest i (length ss) is lt)
 
 one_longer : (s : Stamp) (ss : List Stamp) (i : ℕ) → i < length (s ∷ ss) → i < length ss + 1
 one_longer s ss i h = omega (arith, h)
 
-stamp_there : (ss : List Stamp) (i : ℕ) → i < length ss → (t : Stamp) × (stamp_in ss i ≡ Some t)
+pub stamp_there : (ss : List Stamp) (i : ℕ) → i < length ss → (t : Stamp) × (stamp_in ss i ≡ Some t)
 stamp_there [] i h = absurd (omega (arith, h))
 stamp_there (s ∷ ss) i h = stamp_by (i == length ss) s ss i refl (one_longer s ss i h) (stamp_there ss i)
-
-below_by : (b : Bool) (n : ℕ) (s : Stamp) (ss : List Stamp) (i : ℕ) (t : Stamp) → s.step < n → (stamp_in ss i ≡ Some t → t.step < s.step)
-    → elim b as (λ z. Option Stamp) [ true ↦ Some s | false ↦ stamp_in ss i ] ≡ Some t → t.step < n
-below_by true n s ss i t lt rest h = subst (λ x. x.step < n) (some_value s t h) lt
-below_by false n s ss i t lt rest h = let r = rest h in omega (arith, r, lt)
-
-stamp_below : (n : ℕ) (ss : List Stamp) (i : ℕ) (t : Stamp) → Fall n ss → stamp_in ss i ≡ Some t → t.step < n
-stamp_below n [] i t falls h = absurd (none_some t h)
-stamp_below n (s ∷ ss) i t falls h = below_by (i == length ss) n s ss i t falls.0 (stamp_below s.step ss i t falls.1) h
-
-pairs_long : {A B : Type 0} (R : A → B → Type 0) (xs : List A) (ys : List B) → Pairwise R xs ys → length xs ≡ length ys
-pairs_long R [] [] h = refl
-pairs_long R (x ∷ xs) (y ∷ ys) h = ap (λ n. suc n) (pairs_long R xs ys h.1)
-pairs_long R [] (y ∷ ys) h = absurd h
-pairs_long R (x ∷ xs) [] h = absurd h
 
 never_refused : (s : Session) (k : ℕ) (job : Option ℕ) → s.job ≡ job → refused_after [] s ≡ Some k → ⊥
 never_refused s k None is h =
@@ -109,7 +94,7 @@ unrefused p h xs run i f at x now before = by (refused_after (trace_of f) f.sess
   by (Some k) is =
       let w : World = world_at p h xs in
       let q = known grounds p h xs run i f at in
-      let stamped = pairs_long _ f.daemon.stamps f.daemon.trace (entries_are_stamped p h xs run i.machine f.machine f.daemon q.there.at q.there.has) in
+      let stamped = pairs_length _ f.daemon.stamps f.daemon.trace (entries_are_stamped p h xs run i.machine f.machine f.daemon q.there.at q.there.has) in
       let s = stamp_there f.daemon.stamps (k - 1) (before_now k (length f.daemon.trace) (length f.daemon.stamps) (refused_within f.daemon.trace f.session k is) stamped) in
       let stamp : refused_stamp f ≡ Some s.0 = ap (λ o. option_and_then (λ n. stamp_in f.daemon.stamps (n - 1)) o) is ∙ s.1 in
       absurd (not_less x.step s.0.step w.step now (stamp_below w.step f.daemon.stamps (k - 1) s.0 q.stamps s.1)
@@ -125,12 +110,6 @@ runs_by false c d is h = absurd (false_is_true h)
 never_lands : (c : Course) → is_write_course c ≡ false → may_land c ≡ false
 never_lands c is = ap (λ b. b && is_none c.answered && is_in_flight c.fate) is
 
-pub same_numbers : (m n : ℕ) → (m == n) ≡ true → m ≡ n
-same_numbers m n h = grind (arith, tests)
-
-pub number_is : (m n : ℕ) → m ≡ n → (m == n) ≡ true
-number_is m n h = grind (arith, tests)
-
 -- A read in flight is of the daemon that runs.
 of_running : (a : Machine) (n : ℕ) (c : Course) → flight_of a n ≡ Some c → is_write_course c ≡ false → is_of_running a c ≡ true
 of_running a n c flight reads =
@@ -145,13 +124,13 @@ record IsRunning (f : Found) (d : Daemon) : Type 0 where
 first_is : (a : Machine) (d : Daemon) (n : ℕ) → a.daemon ≡ Some d → d.number ≡ n → daemon_numbered a n ≡ Some d
 first_is a d n runs is =
     ap (λ (o : Option Daemon). find (λ (x : Daemon). x.number == n) (elim o as (λ z. List Daemon) [ None ↦ a.ended | Some y ↦ y ∷ a.ended ])) runs
-    ∙ ap (λ b. cond b (Some d) (find (λ (x : Daemon). x.number == n) a.ended)) (number_is d.number n is)
+    ∙ ap (λ b. cond b (Some d) (find (λ (x : Daemon). x.number == n) a.ended)) (eq-eqb d.number n is)
 
 running_by : (i : SessionId) (f : Found) (o : Option Daemon) → f.machine.daemon ≡ o → daemon_numbered f.machine i.daemon ≡ Some f.daemon
     → some_is (λ (d : Daemon). d.number == i.daemon) o ≡ true → (d : Daemon) × IsRunning f d
 running_by i f None runs found h = absurd (false_is_true h)
 running_by i f (Some d) runs found h =
-    let same = one_value d f.daemon (daemon_numbered f.machine i.daemon) (first_is f.machine d i.daemon runs (same_numbers d.number i.daemon h)) found in
+    let same = one_value d f.daemon (daemon_numbered f.machine i.daemon) (first_is f.machine d i.daemon runs (eqb-true d.number i.daemon h)) found in
     (d, record { runs = runs; same = same })
 
 -- A read of the session in flight.
@@ -165,13 +144,13 @@ pub record IsReading (w : World) (i : SessionId) (f : Found) (n : ℕ) (step : J
 runs_now : (w : World) (i : SessionId) (f : Found) (n : ℕ) (step : JoinStep) (c : Course) → IsReading w i f n step c → (d : Daemon) × IsRunning f d
 runs_now w i f n step c r =
     running_by i f f.machine.daemon refl r.known.there.found
-    (ap (λ k. some_is (λ (d : Daemon). d.number == k) f.machine.daemon) (sym (of_daemon i c (kept (is_course_of i) f.machine.calls c r.own).1))
+    (ap (λ k. some_is (λ (d : Daemon). d.number == k) f.machine.daemon) (sym (of_daemon i c (kept_inside (is_course_of i) f.machine.calls c r.own).1))
     ∙ of_running f.machine n c r.flight r.reads)
 
 pub still_runs : (w : World) (i : SessionId) (f : Found) (n : ℕ) (step : JoinStep) (c : Course) → IsReading w i f n step c → runs_still f ≡ true
 still_runs w i f n step c r =
     let d = runs_now w i f n step c r in
-    ap (λ o. some_is (λ (x : Daemon). x.number == f.daemon.number) o) d.1.runs ∙ number_is d.0.number f.daemon.number (ap (λ x. x.number) d.1.same)
+    ap (λ o. some_is (λ (x : Daemon). x.number == f.daemon.number) o) d.1.runs ∙ eq-eqb d.0.number f.daemon.number (ap (λ x. x.number) d.1.same)
 
 pub not_reset : (p : Program) (h : Header) (xs : List Happening) → LawfulRun p h xs → (i : SessionId) (f : Found) (n : ℕ) (step : JoinStep) (c : Course)
     → IsReading (world_at p h xs) i f n step c → was_reset f ≡ false
@@ -185,7 +164,7 @@ not_reset p h xs run i f n step c r =
 joins_some : (i : SessionId) (f : Found) (cs : List Course) (c : Course) (step : JoinStep) → Every (λ (x : Course). is_joining x.call.purpose ≡ false) cs → Contains cs c
     → is_join_call step c.call.purpose ≡ true → ⊥
 joins_some i f cs c step none has joins =
-    not_both (is_joining c.call.purpose) (ranks_of step c.call.purpose joins).0 (every_one (λ (x : Course). is_joining x.call.purpose ≡ false) cs c none has)
+    not_both (is_joining c.call.purpose) (ranks_of step c.call.purpose joins).0 (every_has (λ (x : Course). is_joining x.call.purpose ≡ false) cs c none has)
 
 has_job_by : (w : World) (i : SessionId) (f : Found) (n : ℕ) (step : JoinStep) (c : Course) → IsReading w i f n step c → (o : Option ℕ) → f.session.job ≡ o
     → (j : ℕ) × (f.session.job ≡ Some j)
@@ -244,14 +223,11 @@ no_free p h xs run i f at j job none =
 
 -- ---- it hasn't joined
 
-never_joined : (s : Session) (j k : ℕ) → s.job ≡ Some j → joined_after [] s ≡ Some k → ⊥
-never_joined s j k job h = none_some k (sym (ap (λ (o : Option ℕ). joined_after [] (record s { job = o })) job) ∙ h)
-
-joins_at : (st : Setting) (es : Trace) (s : Session) → Lawful st es → IsSessionOf st es s → (j k : ℕ) → s.job ≡ Some j → joined_after es s ≡ Some k → LawfulJoin es s k
+pub joins_at : (st : Setting) (es : Trace) (s : Session) → Lawful st es → IsSessionOf st es s → (j k : ℕ) → s.job ≡ Some j → joined_after es s ≡ Some k → LawfulJoin es s k
 joins_at st [] s h its j k job joined = absurd (never_joined s j k job joined)
 joins_at st (e ∷ past) s h its j k job joined = h.delta.0.joins s (got_inside (sessions st (e ∷ past)) s.number s its) j k job joined
 
-not_claim : (p : Purpose) → is_join_call FirstRenewal p ≡ true → is_join_call ClaimWrite p ≡ false
+pub not_claim : (p : Purpose) → is_join_call FirstRenewal p ≡ true → is_join_call ClaimWrite p ≡ false
 not_claim p is = let j = joining_is FirstRenewal p is in ap (λ x. is_join_call ClaimWrite x) j.joining
 
 pub unjoined : (p : Program) (h : Header) (xs : List Happening) → LawfulRun p h xs → (i : SessionId) (f : Found) → session_of_world (world_at p h xs) i ≡ Some f
@@ -266,7 +242,7 @@ unjoined p h xs run i f at j job none = by (joined_after (trace_of f) f.session)
       let x = join_pairs w i f q FirstRenewal l.renewal l.first in
       let there = join_is i FirstRenewal f.machine x.0 x.1 in
       let inside = find_passes (λ (m : Submitted). is_join_call FirstRenewal m.call.purpose) (calls_of (trace_of f) f.session) l.renewal l.first in
-      let e = every_one _ (calls_of (trace_of f) f.session) l.renewal (all_renew f.daemon.setting (trace_of f) f.session q.lawful q.its) inside.there inside.test in
+      let e = every_has _ (calls_of (trace_of f) f.session) l.renewal (all_renew f.daemon.setting (trace_of f) f.session q.lawful q.its) inside.there inside.test in
       absurd (unwritten p h xs run i f at j job none x.0 there.own e.0
       (record_is l.renewal.call x.0.call.op e.0 (ap (λ (y : Call). y.op) x.2.call) e.1) (not_claim x.0.call.purpose there.joins))
 

@@ -11,8 +11,9 @@ use Rattle.sl_id_state.specs.IdStates.{blank, deciding_sample, has_begun, id_sta
 use Rattle.sl_id_state.specs.Promises.{IsIdPlace}
 use Rattle.sl_id_steps.proofs.Outcomes.{one_longer}
 use Rattle.sl_id_steps.proofs.Sampled.{sampled_found, stands_sampled, stands_with}
-use Rattle.sl_id_steps.proofs.Sharing.{begun_name, no_more}
+use Rattle.sl_id_steps.proofs.Sharing.{begun_name}
 use Rattle.sl_ids.specs.State.{Session as IdSession, SessionId as IdName}
+use Rattle.sl_plain.proofs.Numbers.{no_times_more}
 use Rattle.sl_run.specs.Events.{sample_at}
 use Rattle.sl_run.specs.Runs.{Happening}
 use Rattle.sl_run.specs.Safety.{Found, LawfulRun, SessionId, is_over, session_of_world, world_at}
@@ -26,6 +27,7 @@ use Rattle.sl_words.proofs.CaseLaws.{is_false, not_both, true_is_false}
 use Rattle.sl_words.proofs.WordLaws.{and_true}
 use Rattle.sl_words.specs.Words.{greatest, some_is}
 use Rattle.std.proofs.Common.{ap, arith, inl, inr, refl, sym, tests, ◌∙◌}
+use Rattle.std.proofs.lemmas.Bool.{and_from, and_right}
 use Rattle.std.proofs.lemmas.Slice.Eq.{bytes_eq-Decides}
 use Rattle.std.specs.Prelude.{Bool, List, None, Option, Some, bytes_eq, false, is_some, length, map, nat_lt, suc, true, [], ℕ, ◌&&◌, ◌*◌, ◌+◌, ◌<◌, ◌||◌, ◌∷◌, ◌≡◌, ◌⊎◌}
 
@@ -46,27 +48,19 @@ pub blank_if : (b : Bool) (x : IdSession) → b ≡ false → elim b as (λ z. I
 blank_if false x h = refl
 blank_if true x h = absurd (true_is_false h)
 
-pub both_true : (a b : Bool) → a ≡ true → b ≡ true → (a && b) ≡ true
-both_true true b h k = k
-both_true false b h k = h
-
-pub second_false : (a b : Bool) → b ≡ false → (a && b) ≡ false
-second_false true b h = h
-second_false false b h = refl
-
 pub blank_before : (w : World) (path : List ℕ) (offset : ℕ) (i : SessionId) (f : Found) → session_of_world w i ≡ Some f → has_begun i f ≡ false
     → session_at w path offset (name_of i) ≡ blank
 blank_before w path offset i f at none =
     ap (standing_by w path offset i) at
     ∙ blank_if (is_sector_of w.layout path offset f.session && has_begun i f) (standing_of w path offset i f)
-    (second_false (is_sector_of w.layout path offset f.session) (has_begun i f) none)
+    (and_right (is_sector_of w.layout path offset f.session) (has_begun i f) none)
 
 pub stood_before : (w : World) (path : List ℕ) (offset : ℕ) (i : SessionId) (f : Found) → session_of_world w i ≡ Some f
     → is_sector_of w.layout path offset f.session ≡ true → has_begun i f ≡ true → session_at w path offset (name_of i) ≡ standing_of w path offset i f
 stood_before w path offset i f at sector begun =
     ap (standing_by w path offset i) at
     ∙ stood_if (is_sector_of w.layout path offset f.session && has_begun i f) (standing_of w path offset i f)
-    (both_true (is_sector_of w.layout path offset f.session) (has_begun i f) sector begun)
+    (and_from (is_sector_of w.layout path offset f.session) (has_begun i f) sector begun)
 
 pub stood_after : (w v : World) (path : List ℕ) (offset n j : ℕ) (i : SessionId) (f : Found) → SamplesOne w v path offset n j i f
     → is_sector_of w.layout path offset f.session ≡ true → has_begun i (sampled_found w n j f) ≡ true
@@ -157,7 +151,7 @@ pub record IsHere (w : World) (path : List ℕ) (offset : ℕ) (c : Course) : Ty
 
 pub is_here : (w : World) (path : List ℕ) (offset : ℕ) (c : Course) → c.call.path ≡ path → c.call.offset ≡ offset → IsHere w path offset c
 is_here w path offset c a b =
-    let at : c.call.offset + 0 * sector_size w ≡ offset = no_more c.call.offset (sector_size w) ∙ b in
+    let at : c.call.offset + 0 * sector_size w ≡ offset = no_times_more c.call.offset (sector_size w) ∙ b in
     record {
       bytes = ap (λ x. content w x (c.call.offset + 0 * sector_size w)) a ∙ ap (λ o. content w path o) at;
       index = ap (λ x. length (landed_at w x (c.call.offset + 0 * sector_size w))) a ∙ ap (λ o. length (landed_at w path o)) at;

@@ -1,19 +1,20 @@
 -- The bounds of an id hold between an event's first change and its step: that world stands in a lawful run as this world, or as one
 -- before or after an event of its own.
-use Rattle.sl_front_law.proofs.Going.{last_event, run_after, was_there}
+use Rattle.sl_front_law.proofs.Going.{last_event, number_place, run_after, was_there}
 use Rattle.sl_front_law.proofs.Having.{contains_flat, in_flat, placed_at}
-use Rattle.sl_id_state.proofs.WriterFrames.{place_of}
 use Rattle.sl_id_state.specs.IdStates.{id_state, session_at}
 use Rattle.sl_id_state.specs.Promises.{IdsAreBounded}
 use Rattle.sl_id_steps.proofs.CallEvents.{NoneHolds, do_landed_between, do_read_between, do_write_between, land_between, on_flying, on_one, passes, sample_between, with_call}
-use Rattle.sl_id_steps.proofs.Quiet.{LeavesRest, leaves_by}
-use Rattle.sl_id_steps.proofs.Still.{IsStill, StaysStill, still_session}
+use Rattle.sl_id_steps.proofs.Quiet.{LeavesRest, leaves_by, own_still}
+use Rattle.sl_id_steps.proofs.Still.{StaysStill, still_session}
 use Rattle.sl_id_steps.specs.Parts.{BetweenIsBounded, between, state_between}
 use Rattle.sl_ids.specs.Guards.{terms_of}
 use Rattle.sl_ids.specs.Runs.{IsBounded}
 use Rattle.sl_ids.specs.Terms.{Terms}
+use Rattle.sl_landing_law.proofs.Running.{own_by as no_calls_by}
 use Rattle.sl_law.specs.Lawful.{Lawful}
-use Rattle.sl_run.specs.Events.{add_landing, after_effects, change_call, event_tests, fated, first_change, flight_at, happens, input_of, is_placed, is_read_course, is_shaped, machine_of, on_flight, on_machine, may_happen, next_input, next_step, own_effects, sampled_more, sectors_left, take_step, write_bytes}
+use Rattle.sl_plain.proofs.Lists.{got_inside}
+use Rattle.sl_run.specs.Events.{add_landing, after_effects, change_call, event_tests, fated, first_change, flight_at, happens, input_of, is_placed, is_read_course, is_shaped, machine_of, on_flight, on_machine, may_happen, next_input, next_step, sampled_more, sectors_left, take_step, write_bytes}
 use Rattle.sl_run.specs.Runs.{EachDaemon, Happening, HasSteps, IsRun, daemons_of, own_effects_of, world_after}
 use Rattle.sl_run.specs.Safety.{LawfulRun, world_at}
 use Rattle.sl_run.specs.Worlds.{Course, Daemon, Landed, Machine, Program, World, change_machine, daemons_on, first_that, flight_of, is_in_flight, is_of_running, is_torn_fate, is_write_course, machine_at, stamp_now, world_with}
@@ -24,13 +25,9 @@ use Rattle.sl_run.specs.declared.event.Refusal.{Refusal}
 use Rattle.sl_run.specs.declared.header.Header.{Header}
 use Rattle.sl_run_law.proofs.Walking.{each_changed, each_further, each_step, index}
 use Rattle.sl_run_law.specs.Machines.{EachMachine}
-use Rattle.sl_session_law.proofs.Owning.{got_inside}
-use Rattle.sl_trace.specs.Traces.{no_effects}
-use Rattle.sl_trace.specs.declared.effects.Effects.{Effects}
 use Rattle.sl_trace.specs.declared.input.Input.{Input}
 use Rattle.sl_words.proofs.CaseLaws.{none_some, one_value, some_value, true_is_false}
-use Rattle.std.proofs.Common.{ap, arith, inl, refl, subst, sym, tests, ◌∙◌}
-use Rattle.std.specs.Option.{option_map_or}
+use Rattle.std.proofs.Common.{ap, arith, refl, subst, sym, tests, ◌∙◌}
 use Rattle.std.specs.Prelude.{Bool, Contains, IsSome, List, None, Option, Some, [], false, is_none, length, map, nat_lt, not, option_and_then, slice_get, slice_set, suc, take, true, zero, ℕ, ◌++◌, ◌+◌, ◌-◌, ◌<◌, ◌==◌, ◌∷◌, ◌≡◌, ◌≤◌}
 
 -- ---- where nothing but the step passes
@@ -50,52 +47,6 @@ bounded_still r b v path offset s moment k =
           let until : v.moment < (session_at v path offset n).renewed + r.gone = k.acting n (ap (λ x. x.verified) same ∙ verified) (ap (λ x. x.over) same ∙ over) in
           let from : (session_at v path offset n).renewed ≡ (session_at b path offset n).renewed = ap (λ x. x.renewed) same in
           omega (arith, until, from, moment);
-    }
-
-own_calls : (w : World) (e : Event) (a : Machine) → (own_effects w e a).calls ≡ []
-own_calls w (Pass d growths) a = refl
-own_calls w (WakeUp m) a = refl
-own_calls w (GiveCommand m text) a = refl
-own_calls w (Sample m c k) a = refl
-own_calls w (Land m c) a = refl
-own_calls w (Tear m c k bytes) a = refl
-own_calls w (AnswerCall m c ok) a = refl
-own_calls w (Do m c) a = refl
-own_calls w (DropWrite m c) a = refl
-own_calls w (Test m) a = refl
-own_calls w (ExitOf m p) a = refl
-own_calls w (SpawnedOf m p ok) a = refl
-own_calls w (StartDaemon m name) a = refl
-own_calls w (Crash m) a = refl
-own_calls w (Reset m) a = refl
-own_calls w (Restart m) a = refl
-
-no_calls_by : (w : World) (e : Event) (o : Option Machine) → (option_map_or (own_effects w e) o no_effects).calls ≡ []
-no_calls_by w e None = refl
-no_calls_by w e (Some a) = own_calls w e a
-
-still : (m : ℕ) (a : Machine) → IsStill a a
-still m a = record { calls = refl; resets = refl; ended = refl; daemon = inl refl }
-
-own_keeps : (v : World) (fx : Effects) (a : Machine) → fx.calls ≡ [] → IsStill a (after_effects (stamp_now v a) fx a)
-own_keeps v fx a none =
-    record {
-      calls = ap (λ cs. (after_effects (stamp_now v a) (record fx { calls = cs }) a).calls) none;
-      resets = refl;
-      ended = refl;
-      daemon = inl refl;
-    }
-
--- What a machine does by itself leaves the id.
-own_still : (m : ℕ) (fx : Effects) (v : World) → fx.calls ≡ [] → StaysStill v (take_step m None fx v)
-own_still m fx v none =
-    let r : LeavesRest v (take_step m None fx v) = leaves_by m (λ a. after_effects (stamp_now v a) fx a) v (machine_at v m) in
-    record {
-      layout = r.layout;
-      header = r.header;
-      landings = r.landings;
-      machines = r.machines;
-      each = each_step (λ m. IsStill) m None fx v still (λ is a h. own_keeps v fx a none) (λ i is. absurd (none_some i is));
     }
 
 -- An event that no daemon takes: the bounds hold after it.
@@ -210,7 +161,7 @@ lawful_after : (p : Program) (h : Header) (now : List Happening) (x : Happening)
 lawful_after p h now x lawful each d has =
     let on = contains_flat daemons_on (world_at p h (now ++ x ∷ [])).machines d has in
     let place = placed_at (world_at p h (now ++ x ∷ [])).machines on.0 on.1 in
-    lawful_on p h now x (suc place.0) on.0 d lawful each (place_of (world_at p h (now ++ x ∷ [])) place.0 on.0 place.1) on.2
+    lawful_on p h now x (suc place.0) on.0 d lawful each (number_place (world_at p h (now ++ x ∷ [])) place.0 on.0 place.1) on.2
 
 -- A run in which this event comes next.
 pub other_run : (p : Program) (h : Header) (now : List Happening) (e : Event) → LawfulRun p h now → may_happen (world_at p h now) e ≡ true

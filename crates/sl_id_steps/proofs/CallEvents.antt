@@ -1,8 +1,9 @@
 -- The events of calls in flight: that there is such a call, and the world between as one in which it has changed.
+use Rattle.sl_course_law.proofs.Changing.{changed_here}
 use Rattle.sl_id_state.proofs.CallFrames.{ChangesCall}
-use Rattle.sl_id_state.proofs.FindingFrames.{changed_elsewhere, changed_here}
-use Rattle.sl_id_steps.proofs.Quiet.{nothing_lands}
+use Rattle.sl_id_state.proofs.FindingFrames.{changed_elsewhere}
 use Rattle.sl_id_steps.specs.Parts.{between}
+use Rattle.sl_landing_law.proofs.Arriving.{changed_landings}
 use Rattle.sl_run.specs.Events.{add_landing, change_call, complete, event_tests, fated, first_change, flight_at, is_placed, is_read_course, is_shaped, land_torn, land_whole, may_happen, needs_daemon, next_step, on_flight, on_machine, sampled_more, sectors_left, spells_something, torn_bytes, write_bytes}
 use Rattle.sl_run.specs.Worlds.{Course, Dropped, Fate, Landed, Landing, Machine, Torn, World, change_machine, first_that, flight_of, is_in_flight, is_landed, is_of_running, is_torn_fate, is_write_course, machine_at}
 use Rattle.sl_run.specs.declared.event.Event.TheVariants.{AnswerCall, Do, DropWrite, Land, Sample, Tear}
@@ -14,6 +15,7 @@ use Rattle.sl_run_law.specs.Fates.{AreDistinct}
 use Rattle.sl_run_law.specs.Going.{Goes, time_of}
 use Rattle.sl_words.proofs.CaseLaws.{false_is_true, true_is_false}
 use Rattle.std.proofs.Common.{ap, refl, ◌∙◌}
+use Rattle.std.proofs.lemmas.Bool.{not-false, or_parts}
 use Rattle.std.specs.Option.{option_map_or}
 use Rattle.std.specs.Prelude.{Bool, List, None, Option, Some, false, is_none, length, nat_lt, not, option_and_then, slice_set, true, [], ℕ, ◌&&◌, ◌++◌, ◌-◌, ◌||◌, ◌∷◌, ◌≡◌}
 
@@ -79,10 +81,6 @@ pub record Flies (w : World) (m n : ℕ) (P : Machine → Course → Type 0) : T
   pub flight : flight_of machine n ≡ Some course
   pub holds : P machine course
 
-not_false : (b : Bool) → not b ≡ false → b ≡ true
-not_false true h = refl
-not_false false h = absurd (true_is_false h)
-
 abbrev pub IsFlyingWrite : Machine → Course → Type 0
 IsFlyingWrite a c = (is_write_course c ≡ true) × (is_in_flight c.fate ≡ true)
 
@@ -92,7 +90,7 @@ land_flies w m n may =
     let tests : Course → List (Bool × Refusal) = λ f. (not (is_placed w f.call), MissingPlace) ∷ (not (is_in_flight f.fate), MissingFlight) ∷ [] in
     let o = on_one w m (λ a. on_flight a n is_write_course tests) (passes w (Land m n) may) in
     let f = on_flying o.machine n is_write_course tests o.passes in
-    record { machine = o.machine; course = f.course; at = o.at; flight = f.flight; holds = (f.is_kind, not_false (is_in_flight f.course.fate) f.passes.1.0) }
+    record { machine = o.machine; course = f.course; at = o.at; flight = f.flight; holds = (f.is_kind, not-false (is_in_flight f.course.fate) f.passes.1.0) }
 
 -- .. and what it leaves in part spells nothing.
 abbrev pub IsTorn : World → ℕ → List ℕ → Machine → Course → Type 0
@@ -110,24 +108,20 @@ tear_flies w m n k bytes may =
       course = f.course;
       at = o.at;
       flight = f.flight;
-      holds = (f.is_kind, not_false (is_in_flight f.course.fate) f.passes.1.0, f.passes.1.1.0);
+      holds = (f.is_kind, not-false (is_in_flight f.course.fate) f.passes.1.0, f.passes.1.1.0);
     }
 
 -- A write of an ended daemon that is dropped.
 abbrev pub IsDropped : Machine → Course → Type 0
 IsDropped a c = (is_write_course c ≡ true) × (is_in_flight c.fate ≡ true) × (is_of_running a c ≡ false)
 
-neither : (a b : Bool) → (a || b) ≡ false → (a ≡ false) × (b ≡ false)
-neither true b h = absurd (true_is_false h)
-neither false b h = (refl, h)
-
 pub drop_flies : (w : World) (m n : ℕ) → may_happen w (DropWrite m n) ≡ true → Flies w m n IsDropped
 unfolding event_tests
 drop_flies w m n may =
     let o = on_one w m (λ a. on_flight a n is_write_course (λ f. (is_of_running a f || not (is_in_flight f.fate), MissingFlight) ∷ [])) (passes w (DropWrite m n) may) in
     let f = on_flying o.machine n is_write_course (λ f. (is_of_running o.machine f || not (is_in_flight f.fate), MissingFlight) ∷ []) o.passes in
-    let p = neither (is_of_running o.machine f.course) (not (is_in_flight f.course.fate)) f.passes.0 in
-    record { machine = o.machine; course = f.course; at = o.at; flight = f.flight; holds = (f.is_kind, not_false (is_in_flight f.course.fate) p.1, p.0) }
+    let p = or_parts (is_of_running o.machine f.course) (not (is_in_flight f.course.fate)) f.passes.0 in
+    record { machine = o.machine; course = f.course; at = o.at; flight = f.flight; holds = (f.is_kind, not-false (is_in_flight f.course.fate) p.1, p.0) }
 
 -- A read of which so many sectors more may be sampled, on a machine whose daemon runs.
 abbrev pub IsSampling : ℕ → Machine → Course → Type 0
@@ -290,7 +284,7 @@ landing_of_call w m whole bytes f =
     }
 
 lands_by : (w u v : World) (m n : ℕ) (turn : Course → Course) → v ≡ with_call u m n turn → v.landings ≡ u.landings
-lands_by w u v m n turn is = ap (λ x. x.landings) is ∙ nothing_lands m (change_call n turn) u
+lands_by w u v m n turn is = ap (λ x. x.landings) is ∙ changed_landings m (change_call n turn) u
 
 left_by : (m : ℕ) (f : Machine → Machine) (u : World) (o : Option Machine) → (elim o as (λ x. World) [ None ↦ u | Some a ↦ record u { machines = slice_set u.machines (m - 1) (f a) } ]).moment ≡ u.moment
 left_by m f u None = refl

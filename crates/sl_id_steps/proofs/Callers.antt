@@ -1,19 +1,19 @@
 -- The session of a write in flight that lands or is dropped, and all other sessions.
 use Rattle.sl_id_state.proofs.Listing.{every_from}
-use Rattle.sl_place_law.proofs.Finding.{equal_numbers, same_number}
-use Rattle.std.proofs.lemmas.Bool.{and_from}
+use Rattle.sl_landing_law.proofs.Listing.{one_call as distinct_one}
+use Rattle.sl_plain.proofs.Lists.{any_of, kept as keeps, kept_inside}
+use Rattle.sl_plain.proofs.Options.{none_is}
+use Rattle.std.proofs.lemmas.Bool.{and_from, eq-eqb, eqb-true}
 use Rattle.sl_id_state.proofs.CallFrames.{ChangesCall, IsOther, caller, caller_calls, caller_found, not_its_call, others_same, there_grows}
 use Rattle.sl_id_state.proofs.FindingFrames.{find_passes, found_on, moved, on_machine, session_on, session_with}
 use Rattle.sl_id_state.proofs.LandingFrames.{Grows}
-use Rattle.sl_id_state.proofs.SampleFrames.{deciding_there, join_is, kept}
+use Rattle.sl_id_state.proofs.SampleFrames.{deciding_there, join_is}
 use Rattle.sl_id_state.proofs.SectorFrames.{SameSector, sector_same, session_same_if}
 use Rattle.sl_id_state.proofs.StateFrames.{names_apart}
-use Rattle.sl_watchdog_law.proofs.Finding.{any_of}
 use Rattle.sl_id_state.specs.Facts.{JoinReadsAreOwn}
 use Rattle.sl_id_state.specs.IdStates.{blank, has_begun, is_left_by, is_sector_of, join_course, name_of, own_courses, same_name, session_at, session_named_so, standing_by, standing_of, writer_of}
 use Rattle.sl_id_steps.proofs.Fates.{FliesAt}
 use Rattle.sl_id_steps.proofs.Fating.{Turns, begun_turned}
-use Rattle.sl_id_steps.proofs.OtherSessions.{distinct_one}
 use Rattle.sl_ids.specs.State.{Session as IdSession, SessionId as IdName}
 use Rattle.sl_place_law.proofs.Reading.{IsPromised, owner_of, traced}
 use Rattle.sl_run.specs.Events.{change_call, fated}
@@ -24,15 +24,14 @@ use Rattle.sl_run.specs.declared.header.Header.{Header}
 use Rattle.sl_run_law.proofs.Coursing.{changed_if}
 use Rattle.sl_run_law.specs.Fates.{AreDistinct}
 use Rattle.sl_sample_law.specs.Samples.{SamplesAreLandings}
-use Rattle.sl_session_law.proofs.Naming.{kept as keeps}
 use Rattle.sl_sessions.specs.Sessions.{Session, session_numbered}
 use Rattle.sl_trace.specs.declared.effects.Call.{Call}
 use Rattle.sl_trace.specs.declared.effects.JoinStep.TheVariants.{ClaimWrite}
-use Rattle.sl_words.proofs.CaseLaws.{is_false, not_both, one_value, true_is_false}
+use Rattle.sl_words.proofs.CaseLaws.{is_false, not_both, one_value}
 use Rattle.sl_words.proofs.WordLaws.{and_true}
 use Rattle.sl_words.specs.Words.{some_is}
 use Rattle.std.proofs.Common.{ap, refl, subst, sym, ◌∙◌}
-use Rattle.std.specs.Prelude.{Bool, Contains, List, None, Option, Some, false, is_none, map, option_map, true, [], ℕ, ◌&&◌, ◌==◌, ◌||◌, ◌∷◌, ◌≡◌}
+use Rattle.std.specs.Prelude.{Bool, Contains, List, None, Some, false, is_none, map, option_map, true, [], ℕ, ◌&&◌, ◌==◌, ◌||◌, ◌∷◌, ◌≡◌}
 
 -- A write in flight has another fate.
 pub record Write (w v : World) (m n : ℕ) (fate : Fate) : Type 0 where
@@ -88,11 +87,7 @@ writer_found b p h now run m a c at has =
     )
 
 pub calls_own : (m : ℕ) (c : Course) → is_course_of (caller m c) c ≡ true
-calls_own m c = and_from (c.daemon == c.daemon) (c.call.session == c.call.session) (equal_numbers c.daemon c.daemon refl) (equal_numbers c.call.session c.call.session refl)
-
-none_is : {A : Type 0} (o : Option A) → is_none o ≡ true → o ≡ None
-none_is None h = refl
-none_is (Some x) h = absurd (true_is_false (sym h))
+calls_own m c = and_from (c.daemon == c.daemon) (c.call.session == c.call.session) (eq-eqb c.daemon c.daemon refl) (eq-eqb c.call.session c.call.session refl)
 
 one_call : (a : Machine) (c x : Course) (n : ℕ) → AreDistinct a.calls → Contains a.calls c → Contains a.calls x → c.call.number ≡ n → (x.call.number == n) ≡ true → x ≡ c
 one_call a c x n distinct has there is same = distinct_one a.calls x c distinct there has (ap (λ k. x.call.number == k) is ∙ same)
@@ -112,7 +107,7 @@ known_caller w v m n fate y f at =
     let c : Course = y.changes.course in
     let p = find_passes (λ x. x.call.number == n && is_open a x) a.calls c y.changes.flight in
     let q = and_true (c.call.number == n) (is_open a c) p.test in
-    let number = same_number c.call.number n q.0 in
+    let number = eqb-true c.call.number n q.0 in
     let to = caller_found w v m n (fated fate) y.changes (writer y) f refl at in
     record {
       found = f;
@@ -127,7 +122,7 @@ known_caller w v m n fate y f at =
       flying = subst (λ b. FliesAt n (own_courses (writer y) b)) (sym to.0)
           (every_from (λ x. (x.call.number == n) ≡ true → is_in_flight x.fate ≡ true) (own_courses (writer y) a)
           (λ x there same. subst (λ z. is_in_flight z.fate ≡ true)
-          (sym (one_call a c x n y.changes.distinct p.there (kept (is_course_of (writer y)) a.calls x there).0 number same)) y.flies));
+          (sym (one_call a c x n y.changes.distinct p.there (kept_inside (is_course_of (writer y)) a.calls x there).0 number same)) y.flies));
       in_flight = subst (λ b. has_write_in_flight (writer y) b ≡ true) (sym to.0)
           (any_of (λ x. is_course_of (writer y) x && is_write_course x && is_open a x) a.calls c
           (and_from (is_course_of (writer y) c && is_write_course c) (is_open a c) (and_from (is_course_of (writer y) c) (is_write_course c) (calls_own m c) y.writes) q.1)
@@ -198,7 +193,7 @@ left_by_other w v m n fate y i f l other at has named x claim left =
     let q = and_true (m == i.machine) (c.call.number == x.call.number)
     (sym (ap (λ o. some_is (λ z. z.0 == i.machine && z.1 == x.call.number) o) named) ∙ p.1) in
     let on = on_machine w i f at in
-    let machine : i.machine ≡ m = sym (same_number m i.machine q.0) in
+    let machine : i.machine ≡ m = sym (eqb-true m i.machine q.0) in
     let same : f.machine ≡ a = on.2.machine ∙ one_value on.0 a (machine_at w m) (ap (machine_at w) (sym machine) ∙ on.1) y.changes.at in
     let j = join_is i ClaimWrite f.machine x claim in
     let one : c ≡ x = distinct_one a.calls c x y.changes.distinct has (subst (λ b. Contains b.calls x) same j.has) q.1 in

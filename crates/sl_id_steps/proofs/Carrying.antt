@@ -1,5 +1,7 @@
 -- Each session of the daemon that takes an entry goes through it.
+use Rattle.sl_course_law.proofs.Daemons.{every_each}
 use Rattle.sl_course_law.proofs.Pairing.{pairs_length}
+use Rattle.sl_course_law.proofs.Resetting.{step_resets}
 use Rattle.sl_course_law.proofs.Stamped.{entries_are_stamped}
 use Rattle.sl_course_law.specs.Mirrors.{Mirrors}
 use Rattle.sl_course_law.specs.Promises.{MachinesMirror}
@@ -9,17 +11,17 @@ use Rattle.sl_front_law.proofs.Having.{placed_at}
 use Rattle.sl_id_state.proofs.Bridge.{IsKnown, known}
 use Rattle.sl_id_state.proofs.FindingFrames.{found_on, is_found, session_on}
 use Rattle.sl_id_state.proofs.Proven.{grounds}
-use Rattle.sl_id_state.proofs.SectorFrames.{every_other}
 use Rattle.sl_id_steps.proofs.EventFrames.{StayDistinct, after_event, entry_of, step_sector}
 use Rattle.sl_id_steps.proofs.OtherSessions.{IsOfEntry}
 use Rattle.sl_id_steps.proofs.OwnCalls.{IsFresh, Through, fresh_of, own_after}
-use Rattle.sl_id_steps.proofs.StepFrames.{IsEntry, IsNewCourse, entered, own_found, step_resets, step_runs}
+use Rattle.sl_id_steps.proofs.StepFrames.{IsEntry, IsNewCourse, entered, own_found, step_runs}
 use Rattle.sl_id_steps.specs.Parts.{between}
 use Rattle.sl_landing_law.specs.Landings.{LandingsAreWritten}
 use Rattle.sl_moment_law.proofs.Following.{Follows, follows, keeps, kept_before}
 use Rattle.sl_moment_law.proofs.Stamps.{made_is_stamp}
 use Rattle.sl_moment_law.specs.Moments.{IsKept, Of_sample, Of_stamp}
-use Rattle.sl_place_law.proofs.Finding.{filtered}
+use Rattle.sl_plain.proofs.Lists.{kept_inside}
+use Rattle.sl_plain.proofs.Numbers.{number_itself}
 use Rattle.sl_run.specs.Events.{after_step, machine_of}
 use Rattle.sl_run.specs.Runs.{Happening}
 use Rattle.sl_run.specs.Safety.{Found, IsSession, LawfulRun, SessionId, is_course_of, session_of_world, world_at}
@@ -33,7 +35,8 @@ use Rattle.sl_trace.specs.declared.effects.Call.{Call}
 use Rattle.sl_words.proofs.CaseLaws.{is_false, not_both}
 use Rattle.sl_words.proofs.WordLaws.{and_true}
 use Rattle.sl_words.specs.Words.{is_empty, some_is}
-use Rattle.std.proofs.Common.{ap, arith, inl, inr, refl, subst, sym, tests, ◌∙◌}
+use Rattle.std.proofs.Common.{ap, arith, inl, inr, refl, subst, sym, ◌∙◌}
+use Rattle.std.proofs.lemmas.Bool.{eqb-true}
 use Rattle.std.specs.Prelude.{List, Some, false, filter, nat_lt, not, slice_get, true, [], ℕ, ◌++◌, ◌<◌, ◌==◌, ◌∷◌, ◌≡◌}
 
 -- ---- what was kept
@@ -52,12 +55,6 @@ kept_early p h now x run s m is =
     ]
 
 -- ---- calls that aren't made
-
-same_numbers : (m n : ℕ) → (m == n) ≡ true → m ≡ n
-same_numbers m n h = grind (arith, tests)
-
-itself : (n : ℕ) → (n == n) ≡ true
-itself n = grind (arith, tests)
 
 -- A new call of the session.
 abbrev IsNewOwn : SessionId → Stamp → ℕ → List Call → Course → Type 0
@@ -88,7 +85,7 @@ abbrev pub after : {p : Program} {h : Header} {now : List Happening} {x : Happen
 after e s = record { machine = stepped e; daemon = entered (stamp_of e) e.input e.effects e.machine e.daemon; session = s }
 
 running_is : (a : Machine) (d : Daemon) → a.daemon ≡ Some d → some_is (λ x. x.number == d.number) a.daemon ≡ true
-running_is a d runs = ap (λ o. some_is (λ x. x.number == d.number) o) runs ∙ itself d.number
+running_is a d runs = ap (λ o. some_is (λ x. x.number == d.number) o) runs ∙ number_itself d.number
 
 up_by : (a : Machine) (d : Daemon) → Mirrors a → a.daemon ≡ Some d → resets_after a d.begun.step ≡ []
 up_by a d m runs = m.kept d (m.running d runs)
@@ -124,7 +121,7 @@ through_by distinct mirror written p h now x run e i s here had its =
       even = pairs_length IsStampOf d.stamps d.trace stamped.1;
       newer = own.newer;
       calls = own.same;
-      each = every_other (IsNewOwn i (stamp_of e) d.number e.effects.calls) (IsFresh (stamp_of e)) own.newer
+      each = every_each (IsNewOwn i (stamp_of e) d.number e.effects.calls) (IsFresh (stamp_of e)) own.newer
           (λ c n. fresh_of (stamp_of e) d.number e.effects.calls c n.0) own.each;
       ran = running_is a d e.runs;
       runs = running_is b g.daemon still;
@@ -133,15 +130,15 @@ through_by distinct mirror written p h now x run e i s here had its =
       number = k.there.daemon;
       had = had;
       silent = λ n ended j c at. is_false (c.session == s.number) (λ mine.
-          ended_are_silent d.setting (entry_of e.input e.effects a) d.trace s k.lawful k.its n ended j c at (same_numbers c.session s.number mine));
+          ended_are_silent d.setting (entry_of e.input e.effects a) d.trace s k.lawful k.its n ended j c at (eqb-true c.session s.number mine));
       freed = λ n m joined free j c at. is_false (c.session == s.number) (λ mine.
-          freed_are_silent d.setting (entry_of e.input e.effects a) d.trace s k.lawful k.its n joined m free j c at (same_numbers c.session s.number mine));
+          freed_are_silent d.setting (entry_of e.input e.effects a) d.trace s k.lawful k.its n joined m free j c at (eqb-true c.session s.number mine));
       none_new = λ never. none_new i (stamp_of e) d.number e.effects.calls own.newer
           (λ j c at. ap (λ n. c.session == n) (sym k.there.number) ∙ never j c at) own.each;
       older = λ c has. kept_early p h now x run c.made.step c.made.moment
-          (Of_stamp (machine_of x.0) a c.made e.at (made_is_stamp a c (filtered (is_course_of i) a.calls c has).0) refl refl);
+          (Of_stamp (machine_of x.0) a c.made e.at (made_is_stamp a c (kept_inside (is_course_of i) a.calls c has).0) refl refl);
       early = λ c y has in_it. kept_early p h now x run y.step y.moment
-          (Of_sample (machine_of x.0) a c y e.at (filtered (is_course_of i) a.calls c has).0 in_it refl refl);
+          (Of_sample (machine_of x.0) a c y e.at (kept_inside (is_course_of i) a.calls c has).0 in_it refl refl);
     }
   where
     resets_same : (n : ℕ) → resets_after (stepped e) n ≡ resets_after e.machine n

@@ -1,14 +1,13 @@
 -- The landing of a claim that has landed whole: it is the one that the state of an id names, and its bytes are what the claim writes.
 use Rattle.sl_front_law.proofs.Having.{contains_append, contains_left}
-use Rattle.sl_id_state.proofs.SampleFrames.{kept}
 use Rattle.sl_id_state.specs.IdStates.{index_of, is_left_by}
-use Rattle.sl_id_steps.proofs.Alive.{number_is, same_numbers}
-use Rattle.sl_id_steps.proofs.Sharing.{numbered_there}
 use Rattle.sl_landing_law.proofs.Listing.{one_call}
 use Rattle.sl_landing_law.proofs.Proven.{landings_are_written}
 use Rattle.sl_landing_law.proofs.Remaining.{landed_are_there}
 use Rattle.sl_landing_law.specs.Landings.{LeftBy}
 use Rattle.sl_area.specs.Layouts.{sector_with}
+use Rattle.sl_place_law.proofs.Finding.{numbered_inside}
+use Rattle.sl_plain.proofs.Lists.{contains_cases, contains_none, kept as keeps, kept_inside}
 use Rattle.sl_run.specs.Events.{write_bytes}
 use Rattle.sl_run.specs.Runs.{Happening}
 use Rattle.sl_run.specs.Safety.{LawfulRun, world_at}
@@ -18,14 +17,12 @@ use Rattle.sl_run_law.specs.Fates.{AreDistinct}
 use Rattle.sl_sample_law.proofs.Numbering.{newest_number, number_stays}
 use Rattle.sl_sample_law.specs.Samples.{numbered_landing}
 use Rattle.sl_sector.specs.declared.sector.Rec.{Rec}
-use Rattle.sl_session_law.proofs.Making.{contains_cases, contains_none}
-use Rattle.sl_session_law.proofs.Naming.{kept as keeps}
 use Rattle.sl_trace.specs.Traces.{same_place}
 use Rattle.sl_words.proofs.CaseLaws.{false_is_true, not_both, one_value, some_value}
 use Rattle.sl_words.proofs.WordLaws.{and_true}
 use Rattle.sl_words.specs.Words.{some_is}
 use Rattle.std.proofs.Common.{ap, inl, inr, refl, subst, sym, ◌∙◌}
-use Rattle.std.proofs.lemmas.Bool.{and_from}
+use Rattle.std.proofs.lemmas.Bool.{and_from, eq-eqb, eqb-true}
 use Rattle.std.proofs.lemmas.Slice.Eq.{bytes_eq-Decides}
 use Rattle.std.specs.Option.{option_map_or}
 use Rattle.std.specs.Prelude.{Bool, Contains, List, None, Option, Some, bytes_eq, false, length, true, [], ℕ, ◌&&◌, ◌==◌, ◌∷◌, ◌≡◌, ◌≤◌}
@@ -56,13 +53,13 @@ is_by p o = some_is (λ (q : ℕ × ℕ). q.0 == p.0 && q.1 == p.1) o
 left_itself : (p : ℕ × ℕ) (l : Landing) → l.whole ≡ true → l.writer ≡ Some p → is_left_by p l ≡ true
 left_itself p l whole h =
     and_from l.whole (is_by p l.writer) whole
-    (ap (is_by p) h ∙ and_from (p.0 == p.0) (p.1 == p.1) (number_is p.0 p.0 refl) (number_is p.1 p.1 refl))
+    (ap (is_by p) h ∙ and_from (p.0 == p.0) (p.1 == p.1) (eq-eqb p.0 p.0 refl) (eq-eqb p.1 p.1 refl))
 
 writer_by : (p : ℕ × ℕ) (o : Option (ℕ × ℕ)) → some_is (λ (q : ℕ × ℕ). q.0 == p.0 && q.1 == p.1) o ≡ true → o ≡ Some p
 writer_by p None h = absurd (false_is_true h)
 writer_by p (Some q) h =
     let r = and_true (q.0 == p.0) (q.1 == p.1) h in
-    ap (λ a. let z : Option (ℕ × ℕ) = Some (a, q.1) in z) (same_numbers q.0 p.0 r.0) ∙ ap (λ b. let z : Option (ℕ × ℕ) = Some (p.0, b) in z) (same_numbers q.1 p.1 r.1)
+    ap (λ a. let z : Option (ℕ × ℕ) = Some (a, q.1) in z) (eqb-true q.0 p.0 r.0) ∙ ap (λ b. let z : Option (ℕ × ℕ) = Some (p.0, b) in z) (eqb-true q.1 p.1 r.1)
 
 -- ---- a landing of this call
 
@@ -88,7 +85,7 @@ landing_of_call p h xs run m a c at distinct has landed l there named =
     one_value k.wrote.machine a (machine_at w m) (ap (machine_at w) (sym (ap (λ q. q.0) same)) ∙ k.wrote.at) at in
     let its : k.wrote.course ≡ c =
     one_call a.calls k.wrote.course c distinct (subst (λ (y : Machine). Contains y.calls k.wrote.course) machine k.wrote.has) has
-    (number_is k.wrote.course.call.number c.call.number (k.wrote.number ∙ ap (λ q. q.1) same)) in
+    (eq-eqb k.wrote.course.call.number c.call.number (k.wrote.number ∙ ap (λ q. q.1) same)) in
     let fate : is_landed k.wrote.course.fate ≡ true = ap (λ (x : Course). is_landed x.fate) its ∙ landed in
     let writes : write_bytes w k.wrote.course.call ≡ sector_with w.layout k.wrote.record_written = ap (λ o. option_map_or (sector_with w.layout) o []) k.wrote.writes in
     subst (λ (x : Course). IsLandingOf w x l) its
@@ -108,12 +105,12 @@ pub record LandedHere (w : World) (path : List ℕ) (offset m : ℕ) (c : Course
   pub its : IsLandingOf w c landing
 
 at_same : (path other : List ℕ) (offset at : ℕ) → path ≡ other → offset ≡ at → same_place path offset other at ≡ true
-at_same path other offset at a b = and_from (offset == at) (bytes_eq path other) (number_is offset at b) ((bytes_eq-Decides path other).1 a)
+at_same path other offset at a b = and_from (offset == at) (bytes_eq path other) (eq-eqb offset at b) ((bytes_eq-Decides path other).1 a)
 
 not_first : (w : World) (path : List ℕ) (offset : ℕ) (p : ℕ × ℕ) (x : Landing) → Contains (history_of w path offset) x → is_left_by p x ≡ true → Contains w.landings x
 not_first w path offset p x has left =
     elim (contains_append (landed_at w path offset) (first_landing w path offset ∷ []) x has) as (λ z. Contains w.landings x) [
-      | inl landed ↦ (kept (λ l. same_place l.path l.offset path offset) w.landings x landed).0
+      | inl landed ↦ (kept_inside (λ l. same_place l.path l.offset path offset) w.landings x landed).0
       | inr last ↦ elim (contains_cases (first_landing w path offset) [] x last) as (λ z. Contains w.landings x) [
         | inl same ↦ absurd (false_is_true (ap (is_left_by p) same ∙ left))
         | inr none ↦ absurd (contains_none x none)
@@ -137,6 +134,6 @@ landed_here p h xs run path offset m a c at distinct has landed here there =
       landing = k.0;
       seen = k.1;
       its = landing_of_call p h xs run m a c at distinct has landed k.0
-          (not_first w path offset (m, c.call.number) k.0 (numbered_there ls (index_of (m, c.call.number) ls) k.0 k.1) k.2)
+          (not_first w path offset (m, c.call.number) k.0 (numbered_inside ls (index_of (m, c.call.number) ls) k.0 k.1) k.2)
           (writer_by (m, c.call.number) k.0.writer (and_true k.0.whole (is_by (m, c.call.number) k.0.writer) k.2).1);
     }

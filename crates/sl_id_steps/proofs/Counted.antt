@@ -1,7 +1,7 @@
 -- A renewal that counts stands above the session's claim, and is of a session that has verified it.
+use Rattle.sl_id_state.proofs.Claiming.{rec_of}
 use Rattle.sl_id_state.proofs.FindingFrames.{find_passes}
 use Rattle.sl_id_state.proofs.Keeping.{own_call, step_law}
-use Rattle.sl_id_state.proofs.Listing.{then_some}
 use Rattle.sl_id_state.proofs.Proven.{renewals_have_verified, verify_reads_have_claimed}
 use Rattle.sl_id_state.proofs.SampleFrames.{showed}
 use Rattle.sl_id_state.proofs.Tails.{front_at}
@@ -12,14 +12,14 @@ use Rattle.sl_id_steps.proofs.RenewalCalls.{HasLeft, IsNumbered, IsRenewalCall, 
 use Rattle.sl_id_steps.proofs.Seeing.{first_there, verifying_stays}
 use Rattle.sl_landing_law.proofs.Ordering.{come_in_order}
 use Rattle.sl_law.specs.LawfulDelta.{LawfulDeltaCall}
-use Rattle.sl_place_law.proofs.Finding.{filtered}
+use Rattle.sl_plain.proofs.Lists.{kept_inside}
+use Rattle.sl_plain.proofs.Options.{then_value}
 use Rattle.sl_run.specs.Runs.{Happening}
 use Rattle.sl_run.specs.Safety.{Found, SessionId, setting_in, world_at}
 use Rattle.sl_run.specs.Worlds.{Course, Landing, Program, Sampling, World, first_landing, history_of, landed_at}
 use Rattle.sl_run.specs.declared.header.Header.{Header}
 use Rattle.sl_sector.specs.declared.sector.DeltaRec.{DeltaRec}
 use Rattle.sl_sector.specs.declared.sector.Rec.TheVariants.{DeltaIs}
-use Rattle.sl_sector.specs.declared.sector.Rec.{Rec}
 use Rattle.sl_session_law.proofs.Silence.{stage_by}
 use Rattle.sl_sessions.specs.Sessions.{Session, calls_of, delta_of_record, delta_written, free_write, is_join_call, is_renewal, joined_after, refused_after, removed_after, stage_in}
 use Rattle.sl_sessions.specs.declared.stage.Stage.TheVariants.{Deciding}
@@ -28,19 +28,16 @@ use Rattle.sl_trace.specs.Traces.{Setting, Submitted, Trace, new_call, record_of
 use Rattle.sl_trace.specs.declared.effects.JoinStep.TheVariants.{ClaimWrite, FirstRenewal, VerifyRead}
 use Rattle.sl_trace.specs.declared.effects.Purpose.TheVariants.{Joining, Renewal}
 use Rattle.sl_trace.specs.declared.effects.Purpose.{Purpose}
-use Rattle.sl_words.proofs.CaseLaws.{false_is_true, none_some, one_value, some_value, true_is_false}
+use Rattle.sl_words.proofs.CaseLaws.{false_is_true, none_some, one_value}
 use Rattle.sl_words.proofs.WordLaws.{and_true}
 use Rattle.sl_words.specs.Words.{some_is}
-use Rattle.std.proofs.Common.{ap, arith, inl, inr, refl, sym, tests, ◌∙◌}
+use Rattle.std.proofs.Common.{ap, arith, inl, inr, refl, sym, ◌∙◌}
+use Rattle.std.proofs.lemmas.Bool.{eqb-true, or_left, or_right}
 use Rattle.std.proofs.lemmas.List.Kept.{AllPairs-filter}
 use Rattle.std.specs.Option.{option_map_or}
-use Rattle.std.specs.Prelude.{Bool, Contains, List, None, Option, Some, false, is_none, is_some, length, option_and_then, true, ℕ, ◌&&◌, ◌<◌, ◌==◌, ◌||◌, ◌≡◌, ◌≤◌}
+use Rattle.std.specs.Prelude.{Contains, List, None, Option, Some, is_none, is_some, length, option_and_then, true, ℕ, ◌&&◌, ◌<◌, ◌==◌, ◌||◌, ◌≡◌, ◌≤◌}
 
 -- ---- verified
-
-delta_is : (r : Rec) (d : DeltaRec) → delta_of_record r ≡ Some d → r ≡ DeltaIs d
-delta_is (DeltaIs x) d h = ap (λ y. DeltaIs y) (some_value x d h)
-delta_is r d h = absurd (none_some d h)
 
 renewal_writes : (st : Setting) (t : Trace) (s : Session) (n : Submitted) (p : Purpose) → LawfulDeltaCall st t s n p → is_renewal p ≡ true → (d : DeltaRec) × (delta_written n ≡ Some d)
 renewal_writes st t s n Renewal law is = (_, law.written)
@@ -49,7 +46,7 @@ renewal_writes st t s n p law is = absurd (false_is_true is)
 
 writes_delta : (n : Submitted) (d : DeltaRec) → delta_written n ≡ Some d → record_of n.call.op ≡ Some (DeltaIs d)
 writes_delta n d h =
-    let r = then_some delta_of_record (record_of n.call.op) d h in r.1 ∙ ap (λ y. Some y) (delta_is r.0 d r.2)
+    let r = then_value delta_of_record (record_of n.call.op) d h in r.1 ∙ ap (λ y. Some y) (rec_of r.0 d r.2)
 
 -- What stands behind the renewal.
 pub has_verified : {p : Program} {h : Header} {xs : List Happening} {w : World} {i : SessionId} {f g : Found} (t : Through p h xs w i f g) (at : ℕ) (purpose : Purpose)
@@ -63,14 +60,6 @@ has_verified {p = p} {h = h} {xs = xs} {i = i} {g = g} t at purpose renews c r =
     let d = renewal_writes (setting_in g) (front_at o.placed.made) g.session n o.placed.pairs.here.call.purpose o.lawful.law is in
     let writes : record_of c.call.op ≡ Some (DeltaIs d.0) = ap (λ y. record_of y.op) (sym call) ∙ writes_delta n d.0 d.1 in
     (d.0, renewals_have_verified p h xs t.run i g c t.its r.own d.0 writes (ap (λ y. is_join_call ClaimWrite y) r.purpose_is ∙ not_claim purpose renews))
-
-or_left : (a b : Bool) → a ≡ true → (a || b) ≡ true
-or_left true b h = refl
-or_left false b h = absurd (true_is_false (sym h))
-
-or_right : (a b : Bool) → b ≡ true → (a || b) ≡ true
-or_right true b h = refl
-or_right false b h = h
 
 pub verified_by : {p : Program} {h : Header} {xs : List Happening} {w : World} {i : SessionId} {f g : Found} (t : Through p h xs w i f g) (c : Course) (d : DeltaRec)
     → HasVerified (world_at p h xs) i g c d → (is_none f.session.job || is_some (verifying_sample w i f)) ≡ true
@@ -99,19 +88,16 @@ no_claim {p = p} {h = h} {xs = xs} {i = i} {g = g} t none c at =
     not_deciding (joined_after es g.session) (removed_after es g.session) (refused_after es g.session) (free_write (calls_of es g.session))
     (stage_in (calls_of es g.session)) 0 (ap (λ o. joined_after es (record (g.session) { job = o })) none) law.deciding
 
-shown_course : (g : Found) (bytes : Option (List ℕ)) (o : Option Course) (y : Sampling) → option_and_then (sample_showing g bytes) o ≡ Some y
+pub shown_course : (g : Found) (bytes : Option (List ℕ)) (o : Option Course) (y : Sampling) → option_and_then (sample_showing g bytes) o ≡ Some y
     → (c : Course) × (o ≡ Some c) × (sample_showing g bytes c ≡ Some y)
 shown_course g bytes None y h = absurd (none_some y h)
 shown_course g bytes (Some c) y h = (c, refl, h)
-
-same_number : (m n : ℕ) → (m == n) ≡ true → m ≡ n
-same_number m n h = grind (arith, tests)
 
 left_name : (m n : ℕ) (o : Option (ℕ × ℕ)) → some_is (λ (q : ℕ × ℕ). q.0 == m && q.1 == n) o ≡ true → o ≡ Some (m, n)
 left_name m n None h = absurd (false_is_true h)
 left_name m n (Some q) h =
     let b = and_true (q.0 == m) (q.1 == n) h in
-    ap (λ x. let y : Option (ℕ × ℕ) = Some (x, q.1) in y) (same_number q.0 m b.0) ∙ ap (λ x. let y : Option (ℕ × ℕ) = Some (m, x) in y) (same_number q.1 n b.1)
+    ap (λ x. let y : Option (ℕ × ℕ) = Some (x, q.1) in y) (eqb-true q.0 m b.0) ∙ ap (λ x. let y : Option (ℕ × ℕ) = Some (m, x) in y) (eqb-true q.1 n b.1)
 
 -- What its claim left came before the renewal was made.
 claim_before : {p : Program} {h : Header} {xs : List Happening} {w : World} {i : SessionId} {f g : Found} (t : Through p h xs w i f g) (c : Course) (d : DeltaRec)
@@ -145,7 +131,7 @@ claim_lesser {p = p} {h = h} {xs = xs} {i = i} t path offset c d v q n (Some k) 
     lesser (i.machine, k.call.number) (landed_at u path offset) (first_landing u path offset) q.landing n.index n.some n.at
     (AllPairs-filter (λ newer older. (older.step < newer.step) × (older.moment ≤ newer.moment)) (λ (l : Landing). same_place l.path l.offset path offset) u.landings (come_in_order p h xs t.run))
     (λ x has left.
-    let lt = claim_before t c d v k at x (filtered (λ (l : Landing). same_place l.path l.offset path offset) u.landings x has).0 left in
+    let lt = claim_before t c d v k at x (kept_inside (λ (l : Landing). same_place l.path l.offset path offset) u.landings x has).0 left in
     omega (arith, lt, q.after.0))
 
 -- So the landing of a renewal stands above that of the claim.

@@ -35,6 +35,7 @@ use Rattle.sl_watchdog_law.specs.Acting.{acting_stamp}
 use Rattle.sl_words.proofs.CaseLaws.{none_some, true_is_false}
 use Rattle.sl_words.specs.Words.{some_is}
 use Rattle.std.proofs.Common.{ap, inl, inr, refl, subst, sym, ◌∙◌}
+use Rattle.std.proofs.lemmas.Bool.{or_from}
 use Rattle.std.specs.Option.{option_map_or}
 use Rattle.std.specs.Prelude.{Bool, List, None, Option, Some, false, is_none, is_some, length, option_map, true, ℕ, ◌&&◌, ◌+◌, ◌||◌, ◌≡◌, ◌≤◌, ◌⊎◌}
 
@@ -92,10 +93,6 @@ record Known (p : Program) (h : Header) (xs : List Happening) (path : List ℕ) 
   blank_is : session_at (world_at p h xs) path offset (name_of i) ≡ blank
   here : (c.call.path ≡ path) × (c.call.offset ≡ offset)
 
-not_begun : (a b : Bool) → a ≡ false → b ≡ false → (a || b) ≡ false
-not_begun true b h k = h
-not_begun false b h k = k
-
 known_of : (p : Program) (h : Header) (xs : List Happening) (v : World) (path : List ℕ) (offset n j : ℕ) (i : SessionId) (f : Found) (c : Course)
     → DecidesNow p h xs v path offset n j i f c → Known p h xs path offset i f c
 known_of p h xs v path offset n j i f c d =
@@ -116,7 +113,7 @@ known_of p h xs v path offset n j i f c d =
       job = no_job;
       over = not_over p h xs d.run i f d.at n DecidingRead c d.reading unverified free;
       blank_is = blank_before w path offset i f d.at
-          (not_begun (is_none f.session.job) (is_some (deciding_sample i f)) no_job (ap (λ o. is_some o) none));
+          (or_from (is_none f.session.job) (is_some (deciding_sample i f)) no_job (ap (λ o. is_some o) none));
       here = one_sector w f.session path c.call.path offset c.call.offset d.sector r.place;
     }
 

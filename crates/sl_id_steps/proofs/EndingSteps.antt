@@ -1,9 +1,10 @@
 -- An end of a daemon's run, or a reset, as one step of an id.
+use Rattle.sl_course_law.proofs.Changing.{changed_here}
 use Rattle.sl_course_law.specs.Mirrors.{Mirrors, since_restart}
 use Rattle.sl_course_law.specs.Promises.{MachinesMirror}
 use Rattle.sl_front_law.proofs.Going.{last_event}
 use Rattle.sl_id_state.proofs.CallFrames.{elsewhere_same}
-use Rattle.sl_id_state.proofs.FindingFrames.{IsFound, changed_elsewhere, changed_here, found_moves, found_on, is_found, moved, on_machine, session_on, session_with}
+use Rattle.sl_id_state.proofs.FindingFrames.{IsFound, changed_elsewhere, found_moves, found_on, is_found, moved, on_machine, session_on, session_with}
 use Rattle.sl_id_state.proofs.Frames.{Same, SameThere, begun_past, ended, flying_same, is_running, standing_past}
 use Rattle.sl_id_state.proofs.LandingFrames.{same_landings}
 use Rattle.sl_id_state.proofs.SectorFrames.{SameIf, SameSector, history_same, sector_same, session_same_if}
@@ -18,9 +19,9 @@ use Rattle.sl_ids.specs.Terms.{Terms}
 use Rattle.sl_id_steps.proofs.CallEvents.{on_one, passes}
 use Rattle.sl_id_steps.proofs.Endings.{EndsOf, EndsOn, ends_of, last_one, not_running, over_stays, pending_before}
 use Rattle.sl_id_steps.proofs.EventFrames.{StayDistinct, first_writers}
-use Rattle.sl_id_steps.proofs.Quiet.{nothing_lands}
 use Rattle.sl_id_steps.proofs.Turning.{OneTurns, Turns, flags_stay, flags_turn, of_number, one_turns}
 use Rattle.sl_id_steps.specs.Parts.{EndingsGoOn, IsEndingEvent, between, state_between}
+use Rattle.sl_landing_law.proofs.Arriving.{changed_landings}
 use Rattle.sl_landing_law.specs.Landings.{LandingsAreWritten}
 use Rattle.sl_run.specs.Events.{after_crash, after_reset, event_tests, first_change, may_happen, needs_daemon}
 use Rattle.sl_run.specs.Runs.{Happening}
@@ -36,7 +37,8 @@ use Rattle.sl_sessions.specs.Sessions.{sessions}
 use Rattle.sl_words.proofs.CaseLaws.{is_false, not_both, one_value, true_is_false}
 use Rattle.sl_words.proofs.OrderLaws.{same_or_apart}
 use Rattle.sl_words.specs.Words.{is_empty, some_is}
-use Rattle.std.proofs.Common.{ap, arith, inl, inr, refl, subst, sym, tests, ◌∙◌}
+use Rattle.std.proofs.Common.{ap, arith, inl, inr, refl, subst, sym, ◌∙◌}
+use Rattle.std.proofs.lemmas.Bool.{eqb-true}
 use Rattle.std.proofs.lemmas.Option.{slice_get_past}
 use Rattle.std.specs.Option.{option_map_or}
 use Rattle.std.specs.Prelude.{Bool, List, None, Option, Some, cond, false, filter, is_none, is_some, length, nat_lt, not, option_map, true, [], ℕ, ◌&&◌, ◌++◌, ◌+◌, ◌==◌, ◌∷◌, ◌≡◌, ◌≤◌, ◌⊎◌}
@@ -261,11 +263,8 @@ there_is : (a : Machine) (o : Option Daemon) → a.daemon ≡ o → is_none o �
 there_is a None at h = absurd (true_is_false h)
 there_is a (Some d) at h = (d, at)
 
-same_numbers : (m n : ℕ) → (m == n) ≡ true → m ≡ n
-same_numbers m n h = grind (arith, tests)
-
 other_number : (m n : ℕ) → (n ≡ m → ⊥) → (m == n) ≡ false
-other_number m n h = is_false (m == n) (λ t. h (sym (same_numbers m n t)))
+other_number m n h = is_false (m == n) (λ t. h (sym (eqb-true m n t)))
 
 no_time : (n m : ℕ) → m ≡ n + 0 → m ≡ n
 no_time n m h = omega (arith, h)
@@ -372,8 +371,8 @@ ending_lands (Test m) w q = absurd q
 ending_lands (ExitOf m p) w q = absurd q
 ending_lands (SpawnedOf m p ok) w q = absurd q
 ending_lands (StartDaemon m name) w q = absurd q
-ending_lands (Crash m) w q = nothing_lands m after_crash w
-ending_lands (Reset m) w q = nothing_lands m (after_reset w) w
+ending_lands (Crash m) w q = changed_landings m after_crash w
+ending_lands (Reset m) w q = changed_landings m (after_reset w) w
 ending_lands (Restart m) w q = absurd q
 
 -- Where nothing lands the sector stays.

@@ -2,16 +2,16 @@
 use Rattle.sl_id_state.proofs.FindingFrames.{find_passes, moved}
 use Rattle.sl_id_state.proofs.Frames.{SamePast, decides_past, flying_of, free_landed_by, free_of, is_running, join_past, open_while}
 use Rattle.sl_id_state.specs.IdStates.{claim_may_land, deciding_sample, join_course, own_courses, runs_still}
+use Rattle.sl_plain.proofs.Lists.{contains_cases, contains_none}
 use Rattle.sl_run.specs.Safety.{Found, SessionId, free_landed, has_write_in_flight, is_course_of, is_over, trace_of, was_reset}
 use Rattle.sl_run.specs.Worlds.{Course, Daemon, Machine, World, daemons_on, is_in_flight, is_write_course, machine_at, may_land, resets_after}
-use Rattle.sl_session_law.proofs.Making.{contains_cases, contains_none}
 use Rattle.sl_sessions.specs.Sessions.{calls_of, ended_after, free_write, is_join_call, refused_after}
 use Rattle.sl_trace.specs.declared.effects.JoinStep.TheVariants.{ClaimWrite}
 use Rattle.sl_words.proofs.CaseLaws.{is_false, not_both, true_is_false}
 use Rattle.sl_words.proofs.WordLaws.{and_true, or_true}
 use Rattle.sl_words.specs.Words.{is_empty, some_is}
 use Rattle.std.proofs.Common.{ap, inl, inr, refl, sym, ◌∙◌}
-use Rattle.std.proofs.lemmas.Bool.{and_from}
+use Rattle.std.proofs.lemmas.Bool.{and_from, or_left, or_right}
 use Rattle.std.specs.List.{list_any}
 use Rattle.std.specs.Prelude.{Bool, Contains, List, None, Option, Some, false, filter, is_none, is_some, not, true, [], ℕ, ◌&&◌, ◌==◌, ◌||◌, ◌∷◌, ◌≡◌, ◌⊎◌}
 
@@ -35,13 +35,6 @@ pub record EndsOn (w v : World) (m : ℕ) : Type 0 where
       → (is_running d.number before ≡ false) × (is_empty (resets_after after d.begun.step) ≡ is_empty (resets_after before d.begun.step))
 
 -- ---- a session of the machine
-
-or_left : (a b : Bool) → a ≡ true → (a || b) ≡ true
-or_left a b h = ap (λ x. x || b) h
-
-or_right : (a b : Bool) → b ≡ true → (a || b) ≡ true
-or_right true b h = refl
-or_right false b h = h
 
 any_by : (p q : Course → Bool) (c : Course) (cs : List Course) → ((x : Course) → p x ≡ true → q x ≡ true) → (p c ≡ true) ⊎ (list_any p cs ≡ true)
     → (list_any p cs ≡ true → list_any q cs ≡ true) → (q c || list_any q cs) ≡ true

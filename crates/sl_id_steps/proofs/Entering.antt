@@ -18,15 +18,14 @@ use Rattle.sl_id_steps.proofs.StepFrames.{IsEntry, entry_is}
 use Rattle.sl_id_steps.proofs.Turning.{Acts, OneMay, one_acts}
 use Rattle.sl_id_steps.specs.Parts.{EntriesGoOn, between, state_between}
 use Rattle.sl_landing_law.specs.Landings.{LandingsAreWritten}
+use Rattle.sl_plain.proofs.Options.{some_of}
 use Rattle.sl_run.specs.Events.{input_of, machine_of, take_step}
 use Rattle.sl_run.specs.Runs.{Happening}
 use Rattle.sl_run.specs.Safety.{LawfulRun, world_at}
 use Rattle.sl_run.specs.Worlds.{Program, World, daemon_numbered}
 use Rattle.sl_run.specs.declared.header.Header.{Header}
-use Rattle.sl_trace.specs.declared.input.Input.{Input}
-use Rattle.sl_words.proofs.CaseLaws.{true_is_false}
-use Rattle.std.proofs.Common.{ap, arith, refl, sym, tests, ◌∙◌}
-use Rattle.std.specs.Prelude.{IsSome, List, None, Option, Some, false, true, [], ℕ, ◌++◌, ◌==◌, ◌∷◌, ◌≡◌}
+use Rattle.std.proofs.Common.{ap, arith, sym, tests, ◌∙◌}
+use Rattle.std.specs.Prelude.{List, false, true, [], ℕ, ◌++◌, ◌==◌, ◌∷◌, ◌≡◌}
 
 -- What an entry is to a session of the daemon that takes it.
 pub record EntryActs (w : State) (s t : IdSession) : Type 0 where
@@ -46,10 +45,6 @@ numbers_same m n h = grind (arith, tests)
 
 same_numbers : (m n : ℕ) → (n == m) ≡ true → m ≡ n
 same_numbers m n h = grind (arith, tests)
-
-some_input : (o : Option Input) → IsSome o → (j : Input) × (o ≡ Some j)
-some_input None h = absurd (true_is_false (sym h))
-some_input (Some j) h = (j, refl)
 
 entry_turns : StayDistinct → MachinesMirror → LandingsAreWritten → OwnSessionsAct → (p : Program) (h : Header) (now : List Happening) (x : Happening)
     (path : List ℕ) (offset : ℕ) → LawfulRun p h (now ++ x ∷ []) → IsIdPlace p h path offset
@@ -81,7 +76,7 @@ entry_turns distinct mirror written act p h now x path offset run place reached 
 -- So entries are steps of an id, where each session of the daemon acts so.
 pub entries_go_on_by : StayDistinct → MachinesMirror → LandingsAreWritten → OwnSessionsAct → EntriesGoOn
 entries_go_on_by distinct mirror written act p h now x path offset run place some reached bounded =
-    let j = some_input (input_of (world_at p h now) x.0) some in
+    let j = some_of (input_of (world_at p h now) x.0) some in
     let e : IsEntry p h now x = entry_is p h now x run j.0 j.1 in
     one_acts (terms_of h.timing) (state_between p h now x.0 path offset) (id_state (after_event p h now x) path offset) (machine_of x.0) e.daemon.number
     (entry_turns distinct mirror written act p h now x path offset run place reached e) bounded

@@ -5,35 +5,35 @@ use Rattle.sl_id_state.proofs.FindingFrames.{find_passes}
 use Rattle.sl_id_state.proofs.SectorFrames.{SameSector, history_same}
 use Rattle.sl_id_state.proofs.WriterFrames.{HasCall, KeepsGiven, KeepsWriters, call_kept, call_there, calls_of_landings, given_on, writers_kept}
 use Rattle.sl_id_state.specs.IdStates.{writer_of}
-use Rattle.sl_id_steps.proofs.Quiet.{IsOrderly, LeavesRest, begins, leaves_by, nothing_lands, orderly}
+use Rattle.sl_id_steps.proofs.Quiet.{IsOrderly, LeavesRest, begins, leaves_by, orderly}
 use Rattle.sl_id_steps.proofs.Still.{IsStill, given_first, given_stays, with_running}
 use Rattle.sl_id_steps.specs.Parts.{between}
+use Rattle.sl_landing_law.proofs.Arriving.{changed_landings, flies_on}
 use Rattle.sl_landing_law.specs.Landings.{LandingsAreWritten}
+use Rattle.sl_plain.proofs.Lists.{contains_cases}
+use Rattle.sl_plain.proofs.Numbers.{number_itself}
 use Rattle.sl_run.specs.Events.{add_landing, after_crash, after_effects, after_reset, after_restart, after_start, after_step, after_test, change_call, fated, first_change, flight_at, input_of, land_whole, machine_of, may_happen, sampled_more, sectors_left, take_step, torn_bytes, with_entry, write_bytes}
 use Rattle.sl_run.specs.Runs.{Happening}
 use Rattle.sl_run.specs.Safety.{LawfulRun, world_at}
-use Rattle.sl_run.specs.Worlds.{Course, Daemon, Dropped, Landed, Landing, Machine, Program, Stamp, Torn, World, change_machine, flight_of, history_of, is_in_flight, is_open, is_write_course, machine_at, reading_now, stamp_now}
+use Rattle.sl_run.specs.Worlds.{Course, Daemon, Dropped, Landed, Landing, Machine, Program, Stamp, Torn, World, change_machine, history_of, is_in_flight, is_open, is_write_course, machine_at, reading_now, stamp_now}
 use Rattle.sl_run.specs.declared.event.Event.TheVariants.{AnswerCall, Crash, Do, DropWrite, ExitOf, GiveCommand, Land, Pass, Reset, Restart, Sample, SpawnedOf, StartDaemon, Tear, Test, WakeUp}
 use Rattle.sl_run.specs.declared.event.Event.{Event}
 use Rattle.sl_run.specs.declared.header.Header.{Header}
-use Rattle.sl_run_law.proofs.Coursing.{continues_further, continues_still, every_of, none_appended}
 use Rattle.sl_run_law.proofs.Going.{event_goes}
 use Rattle.sl_run_law.proofs.Guards.{starts}
-use Rattle.sl_run_law.proofs.Tracking.{event_tracks, told, tracks_effects, tracks_step, tracks_still}
+use Rattle.sl_run_law.proofs.Tracking.{event_tracks, step_tracks}
 use Rattle.sl_run_law.proofs.Walking.{Asked, each_first, each_step}
 use Rattle.sl_run_law.specs.Courses.{Continues, Follow, ListGoes, Tracks}
 use Rattle.sl_run_law.specs.Fates.{AreDistinct, EachDistinct, Every}
 use Rattle.sl_run_law.specs.Going.{Goes, time_of}
 use Rattle.sl_run_law.specs.Machines.{EachMachine}
-use Rattle.sl_session_law.proofs.Making.{contains_cases}
 use Rattle.sl_trace.specs.declared.effects.Effects.{Effects}
 use Rattle.sl_trace.specs.declared.effects.Entry.{Entry}
 use Rattle.sl_trace.specs.declared.input.Input.TheVariants.{Answer as Told, Exit, Line, Spawned, Wake}
 use Rattle.sl_trace.specs.declared.input.Input.{Input}
-use Rattle.sl_words.proofs.CaseLaws.{none_some}
-use Rattle.std.proofs.Common.{ap, arith, inl, inr, refl, subst, sym, tests, ◌∙◌}
+use Rattle.std.proofs.Common.{ap, inl, inr, refl, subst, sym, ◌∙◌}
 use Rattle.std.specs.Option.{option_map_or}
-use Rattle.std.specs.Prelude.{Bool, Contains, List, None, Option, Some, cond, false, find, length, option_and_then, option_map, true, [], ℕ, ◌&&◌, ◌++◌, ◌==◌, ◌∷◌, ◌≡◌, ◌⊎◌}
+use Rattle.std.specs.Prelude.{Bool, Contains, List, None, Option, Some, cond, false, find, length, option_map, true, [], ℕ, ◌&&◌, ◌++◌, ◌==◌, ◌∷◌, ◌≡◌, ◌⊎◌}
 
 -- ---- what first daemons were given
 
@@ -84,19 +84,6 @@ each_given : (m : ℕ) (o : Option Input) (fx : Effects) (v : World) → EachMac
 each_given m o fx v = each_step KeepsGiven m o fx v still_given (λ is a h. refl) (λ i is a h. step_given (stamp_now v a) i fx a)
 
 -- ---- calls
-
-told_continues : (now : Stamp) (ok : Bool) (c : Course) → Continues c (told now ok c)
-told_continues now ok c = record { call = refl; daemon = refl; made = refl; sampled = none_appended c.sampled; samples = none_appended c.samples }
-
-still_tracks : (m : ℕ) (a : Machine) → Tracks Continues a a
-still_tracks m a = tracks_still Continues a continues_still
-
--- A step goes on with the calls of each machine.
-pub step_tracks : (m : ℕ) (o : Option Input) (fx : Effects) (v : World) → EachMachine (λ m. Tracks Continues) v (take_step m o fx v)
-step_tracks m o fx v =
-    each_step (λ m. Tracks Continues) m o fx v still_tracks (λ none a h. tracks_effects Continues (stamp_now v a) fx a continues_still)
-    (λ i is a h. tracks_step Continues (stamp_now v a) i fx a continues_still continues_further
-    (λ n ok t. every_of (λ c. (c.call.number == n) ≡ true → Continues c (told (stamp_now v a) ok c)) a.calls (λ c q. told_continues (stamp_now v a) ok c)))
 
 -- A change before it does.
 pub first_tracks : (w : World) (e : Event) → EachMachine (λ m. Tracks Continues) w (between w e)
@@ -194,22 +181,10 @@ second_keeps distinct p h now x run =
 
 -- ---- landings have their calls
 
-flight_by : (w : World) (m n : ℕ) (f : Course) (o : Option Machine) → machine_at w m ≡ o → option_and_then (λ a. flight_of a n) o ≡ Some f
-    → (a : Machine) × (machine_at w m ≡ Some a) × (flight_of a n ≡ Some f)
-flight_by w m n f None at h = absurd (none_some f h)
-flight_by w m n f (Some a) at h = (a, at, h)
-
--- A call in flight is one of its machine.
-pub flight_on : (w : World) (m n : ℕ) (f : Course) → flight_at w m n ≡ Some f → (a : Machine) × (machine_at w m ≡ Some a) × (flight_of a n ≡ Some f)
-flight_on w m n f h = flight_by w m n f (machine_at w m) refl h
-
-number_itself : (n : ℕ) → (n == n) ≡ true
-number_itself n = grind (arith, tests)
-
 -- What a call in flight leaves has its call.
 pub left_has_call : (w : World) (m n : ℕ) (f : Course) (l : Landing) → flight_at w m n ≡ Some f → l.writer ≡ Some (m, f.call.number) → HasCall w l
 left_has_call w m n f l flies named =
-    let a = flight_on w m n f flies in
+    let a = flies_on w m n f flies in
     let c = call_there f.call.number a.0.calls f (find_passes (λ c. c.call.number == n && is_open a.0 c) a.0.calls f a.2).there (number_itself f.call.number) in
     record { machine = m; call = f.call.number; named = named; host = a.0; course = c.0; at = a.1; has = c.1 }
 
@@ -232,13 +207,13 @@ left_by : (w : World) (m n : ℕ) (turn : Machine → Machine) (whole : Bool) (b
     → Accounted w (option_map_or (λ (f : Course). change_machine m turn (add_landing m f.call whole (bytes f) w)) o w).landings
 left_by w m n turn whole bytes None flies = old_ones w
 left_by w m n turn whole bytes (Some f) flies =
-    subst (Accounted w) (sym (nothing_lands m turn (add_landing m f.call whole (bytes f) w))) (one_left w m n f whole (bytes f) flies)
+    subst (Accounted w) (sym (changed_landings m turn (add_landing m f.call whole (bytes f) w))) (one_left w m n f whole (bytes f) flies)
 
 whole_accounted : (w : World) (m n : ℕ) → Accounted w (land_whole m n w).landings
 whole_accounted w m n = left_by w m n (change_call n (fated Landed)) true (λ f. write_bytes w f.call) (flight_at w m n) refl
 
 changed_accounted : (w : World) (m : ℕ) (turn : Machine → Machine) → Accounted w (change_machine m turn w).landings
-changed_accounted w m turn = subst (Accounted w) (sym (nothing_lands m turn w)) (old_ones w)
+changed_accounted w m turn = subst (Accounted w) (sym (changed_landings m turn w)) (old_ones w)
 
 done_write : (w : World) (m n : ℕ) (b : Bool) → Accounted w (elim b as (λ z. World) [ true ↦ land_whole m n w | false ↦ w ]).landings
 done_write w m n true = whole_accounted w m n

@@ -1,5 +1,5 @@
 -- A session whose call has another fate: it is over still, waits no longer than before, and has its claim where it had it.
-use Rattle.std.proofs.lemmas.Bool.{and_from}
+use Rattle.std.proofs.lemmas.Bool.{and_from, or_left, or_right}
 use Rattle.sl_id_state.proofs.FindingFrames.{moved}
 use Rattle.sl_id_state.proofs.Frames.{flying_of, free_landed_by, free_of, is_running, landed_as, open_while}
 use Rattle.sl_id_state.specs.IdStates.{claim_may_land, deciding_sample, index_of, join_course, own_courses, runs_still}
@@ -33,13 +33,6 @@ not_landed f h = is_false (is_landed f) (λ l. one_fate f l h)
 -- Each call of this number is in flight.
 abbrev pub FliesAt : ℕ → List Course → Type 0
 FliesAt n cs = Every (λ c. (c.call.number == n) ≡ true → is_in_flight c.fate ≡ true) cs
-
-pub or_left : (a b : Bool) → a ≡ true → (a || b) ≡ true
-or_left a b h = ap (λ x. x || b) h
-
-pub or_right : (a b : Bool) → b ≡ true → (a || b) ≡ true
-or_right true b h = refl
-or_right false b h = h
 
 landed_by : (k : ℕ) (fate : Fate) (c : Course) (t : Bool) → (t ≡ true → is_in_flight c.fate ≡ true) → landed_as k c ≡ true
     → landed_as k (changed_if t (fated fate) c) ≡ true

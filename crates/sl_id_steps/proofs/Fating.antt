@@ -146,7 +146,7 @@ begun_turned i f b n fate t = ap (λ o. is_none f.session.job || is_some o) (dec
 
 -- ---- where it stands
 
-stood : Bool → Bool → Bool → Bool → Bool → Bool → ℕ → ℕ → List ℕ → ℕ → ℕ → ℕ → ℕ → IdSession
+unfoldable pub stood : Bool → Bool → Bool → Bool → Bool → Bool → ℕ → ℕ → List ℕ → ℕ → ℕ → ℕ → ℕ → IdSession
 stood decided pending landed verified joined over base claim name generation seq registered renewed =
     record {
       begun = true;

@@ -5,6 +5,9 @@ use Rattle.sl_id_state.specs.IdStates.{claim_may_land, deciding_sample, join_cou
 use Rattle.sl_id_steps.proofs.Frees.{free_stays, silent_calls_own}
 use Rattle.sl_id_steps.proofs.OwnCalls.{IsFresh, IsKept, IsSilent, JoinGoes, Through, closed, closes, find_mapped, join_goes, kept, knows, step_as}
 use Rattle.sl_id_steps.proofs.Seeing.{deciding_stays}
+use Rattle.sl_plain.proofs.Lists.{any_of}
+use Rattle.sl_plain.proofs.Options.{none_is}
+use Rattle.sl_plain.proofs.Truth.{left_is_false}
 use Rattle.sl_run.specs.Runs.{Happening}
 use Rattle.sl_run.specs.Safety.{Found, SessionId, free_landed, has_write_in_flight, is_over, trace_of, was_reset}
 use Rattle.sl_run.specs.Worlds.{Course, Program, World, is_in_flight, is_write_course, may_land}
@@ -13,7 +16,6 @@ use Rattle.sl_session_law.proofs.Staying.{ended_more, refused_apart, refused_mor
 use Rattle.sl_sessions.specs.Sessions.{Session, ended_after, is_join_call, joined_after, refused_after, removed_after}
 use Rattle.sl_trace.specs.Traces.{Trace}
 use Rattle.sl_trace.specs.declared.effects.JoinStep.TheVariants.{ClaimWrite}
-use Rattle.sl_watchdog_law.proofs.Finding.{any_of, none_is}
 use Rattle.sl_words.proofs.CaseLaws.{is_false, none_some, not_both, true_is_false}
 use Rattle.sl_words.proofs.WordLaws.{and_true}
 use Rattle.std.proofs.Common.{ap, arith, refl, sym, ◌∙◌}
@@ -171,10 +173,6 @@ only_ended false true false h none = (refl, refl)
 only_ended false true true h none = absurd (true_is_false (sym h))
 only_ended false false c h none = absurd (true_is_false (sym h))
 
-left_false : (a b : Bool) → (a || b) ≡ false → a ≡ false
-left_false true b h = absurd (true_is_false h)
-left_false false b h = refl
-
 claim_ends : (i : SessionId) (g : Found) (o : Option Course) → join_course i ClaimWrite g.machine ≡ o
     → elim o as (λ z. Bool) [ None ↦ runs_still g && is_none (refused_after (trace_of g) g.session) | Some c ↦ may_land c ] ≡ true
     → is_running i.daemon g.machine ≡ true → has_write_in_flight i g.machine ≡ false → is_none (refused_after (trace_of g) g.session) ≡ true
@@ -186,7 +184,7 @@ pub last_one : {p : Program} {h : Header} {xs : List Happening} {w : World} {i :
     → is_over i f ≡ false → is_over i g ≡ true → (is_some (joined_after (trace_of g) g.session) ≡ true → ⊥)
     → (is_some (deciding_sample i g) && claim_may_land i g) ≡ true → ⊥
 last_one {i = i} {f = f} {g = g} t alive closed_now out pending =
-    let free : free_landed i g ≡ false = free_stays t ∙ left_false (free_landed i f) ((is_some (ended_after (trace_of f) f.session) || was_reset f) && not (has_write_in_flight i f.machine)) alive in
+    let free : free_landed i g ≡ false = free_stays t ∙ left_is_false (free_landed i f) ((is_some (ended_after (trace_of f) f.session) || was_reset f) && not (has_write_in_flight i f.machine)) alive in
     let e = only_ended (free_landed i g) (is_some (ended_after (trace_of g) g.session)) (has_write_in_flight i g.machine) (sym (over_is i g t.is_up) ∙ closed_now) free in
     let runs : is_running i.daemon g.machine ≡ true = ap (λ n. is_running n g.machine) (sym (knows t).there.daemon) ∙ t.runs in
     ends_not (joined_after (trace_of g) g.session) (removed_after (trace_of g) g.session) (refused_after (trace_of g) g.session)

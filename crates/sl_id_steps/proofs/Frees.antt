@@ -1,23 +1,24 @@
 -- Whether the free of a session has landed stays through an entry.
+use Rattle.sl_course_law.proofs.Daemons.{every_has}
 use Rattle.sl_course_law.specs.Stamping.{IsCourseOf, stamp_in}
 use Rattle.sl_course_law.proofs.Distinct.{each_distinct}
 use Rattle.sl_front_law.proofs.Having.{contains_append}
 use Rattle.sl_id_state.proofs.Frames.{free_landed_by, free_of, landed_as}
 use Rattle.sl_id_state.specs.IdStates.{own_courses}
-use Rattle.sl_id_steps.proofs.OtherSessions.{distinct_one}
 use Rattle.sl_id_steps.proofs.OwnCalls.{IsFresh, IsKept, IsSilent, Through, closed, closes, kept, knows}
-use Rattle.sl_landing_law.proofs.Listing.{every_one, in_map}
+use Rattle.sl_landing_law.proofs.Listing.{one_call}
 use Rattle.sl_law.proofs.LawFacts.{lawful-front}
 use Rattle.sl_law.specs.Lawful.{Lawful}
 use Rattle.sl_law.specs.LawfulDelta.{LawfulDeltaCall}
 use Rattle.sl_law.specs.Saying.{cut_at}
-use Rattle.sl_place_law.proofs.Finding.{filtered, partner_of}
+use Rattle.sl_place_law.proofs.Finding.{partner_of}
+use Rattle.sl_plain.proofs.Lists.{any_found, find_fails, find_inside, in_map, kept_inside}
 use Rattle.sl_run.specs.Runs.{Happening}
 use Rattle.sl_run.specs.Safety.{Found, SessionId, free_landed, is_course_of, setting_in, trace_of}
 use Rattle.sl_run.specs.Worlds.{Course, Program, Stamp, World, is_landed}
 use Rattle.sl_run.specs.declared.header.Header.{Header}
 use Rattle.sl_session_law.proofs.Growing.{mine_marked, other_next, to_all}
-use Rattle.sl_session_law.proofs.Making.{WasOpen, contains_cases, contains_none, old_or_new, same_answered, was_marked}
+use Rattle.sl_session_law.proofs.Making.{WasOpen, old_or_new, same_answered, was_marked}
 use Rattle.sl_session_law.proofs.Owning.{calls_were_lawful}
 use Rattle.sl_session_law.proofs.Silence.{stage_by}
 use Rattle.sl_session_law.proofs.Staying.{marks_stay}
@@ -34,13 +35,13 @@ use Rattle.sl_trace.specs.declared.effects.Purpose.{Purpose}
 use Rattle.sl_trace.specs.declared.input.Answer.{Answer}
 use Rattle.sl_trace.specs.declared.input.Input.TheVariants.{Answer as Told, Exit, Line, Spawned, Wake}
 use Rattle.sl_trace.specs.declared.input.Input.{Input}
-use Rattle.sl_watchdog_law.proofs.Finding.{any_found, call_inside, call_owner, find_inside}
-use Rattle.sl_words.proofs.CaseLaws.{false_is_true, is_false, none_some, not_both, some_value, true_is_false}
+use Rattle.sl_watchdog_law.proofs.Finding.{call_inside, call_owner}
+use Rattle.sl_words.proofs.CaseLaws.{false_is_true, is_false, not_both, some_value, true_is_false}
 use Rattle.sl_words.proofs.WordLaws.{and_true}
 use Rattle.sl_words.specs.Words.{some_is}
 use Rattle.std.proofs.Common.{ap, arith, inl, inr, refl, subst, sym, tests, ◌∙◌}
 use Rattle.std.specs.List.{list_any}
-use Rattle.std.specs.Prelude.{Bool, Contains, List, None, Option, Some, cond, false, find, length, map, option_map, true, [], ℕ, ◌&&◌, ◌++◌, ◌<◌, ◌==◌, ◌||◌, ◌∷◌, ◌≡◌}
+use Rattle.std.specs.Prelude.{Bool, Contains, List, None, Option, Some, cond, false, length, map, option_map, true, [], ℕ, ◌&&◌, ◌++◌, ◌<◌, ◌==◌, ◌||◌, ◌∷◌, ◌≡◌}
 
 -- ---- a session that has written its free had joined
 
@@ -161,19 +162,6 @@ free_silent {i = i} {f = f} {g = g} t silent =
 
 -- ---- a free that the entry makes has not landed
 
-found_if : (b : Bool) (x : Submitted) (o : Option Submitted) → cond b (Some x) o ≡ None → (b ≡ false) × (o ≡ None)
-found_if true x o h = absurd (none_some x (sym h))
-found_if false x o h = (refl, h)
-
-pub none_passes : (p : Submitted → Bool) (ms : List Submitted) (m : Submitted) → find p ms ≡ None → Contains ms m → p m ≡ false
-none_passes p [] m none has = absurd (contains_none m has)
-none_passes p (x ∷ ms) m none has =
-    let r = found_if (p x) x (find p ms) none in
-    elim (contains_cases x ms m has) as (λ z. p m ≡ false) [
-      | inl e ↦ ap p (sym e) ∙ r.0
-      | inr more ↦ none_passes p ms m r.1 more
-    ]
-
 pub not_less : (a b : Stamp) → a ≡ b → a.step < b.step → ⊥
 not_less a b e lt = let same : a.step ≡ b.step = ap (λ (s : Stamp). s.step) e in omega (arith, same, lt)
 
@@ -183,7 +171,7 @@ fresh_flies : {p : Program} {h : Header} {xs : List Happening} {w : World} {i : 
 fresh_flies {i = i} {f = f} t c own now =
     let k : Course → Course = closed t.stamp t.entry.input in
     elim (contains_append t.newer (map k (own_courses i f.machine)) c (subst (λ cs. Contains cs c) t.calls own)) as (λ z. is_landed c.fate ≡ false) [
-      | inl new ↦ ap (λ x. is_landed x) (every_one (IsFresh t.stamp) t.newer c t.each new).fate
+      | inl new ↦ ap (λ x. is_landed x) (every_has (IsFresh t.stamp) t.newer c t.each new).fate
       | inr old ↦ let r = in_map k (own_courses i f.machine) c old in
           let keep : IsKept r.0 (k r.0) = kept t.stamp t.entry.input r.0 in
           absurd (not_less r.0.made t.stamp (sym keep.made ∙ ap (λ x. x.made) r.2 ∙ now) (t.older r.0 r.1))
@@ -208,7 +196,7 @@ new_free {f = f} {g = g} t none m free =
       | inr new ↦ new.place
       | inl old ↦ let o : WasOpen (submitted f.daemon.trace) m = was_marked f.daemon.trace t.entry t.entry.input (submitted f.daemon.trace) m old in
           absurd (not_both (is_free_purpose o.before.call.purpose) (ap (λ c. is_free_purpose c.purpose) (sym o.same.call) ∙ r.1)
-          (none_passes (λ (x : Submitted). is_free_purpose x.call.purpose) (calls_of f.daemon.trace f.session) o.before none
+          (find_fails (λ (x : Submitted). is_free_purpose x.call.purpose) (calls_of f.daemon.trace f.session) o.before none
           (call_inside f.daemon.trace f.session o.before o.inside (ap (λ c. c.session) (sym o.same.call) ∙ own.1))))
     ]
 
@@ -226,8 +214,8 @@ new_flies {p = p} {h = h} {xs = xs} {i = i} {f = f} {g = g} t none m free =
     let d = any_found (landed_as m.call.number) (own_courses i g.machine) any in
     let q = and_true (d.0.call.number == m.call.number) (is_landed d.0.fate) d.2 in
     let one : d.0 ≡ c.0 =
-    distinct_one g.machine.calls d.0 c.0 (each_distinct p h xs t.run i.machine g.machine k.there.at) (filtered (is_course_of i) g.machine.calls d.0 d.1).0
-    (filtered (is_course_of i) g.machine.calls c.0 c.1).0 (ap (λ y. d.0.call.number == y.number) (sym c.2.call) ∙ q.0) in
+    one_call g.machine.calls d.0 c.0 (each_distinct p h xs t.run i.machine g.machine k.there.at) (kept_inside (is_course_of i) g.machine.calls d.0 d.1).0
+    (kept_inside (is_course_of i) g.machine.calls c.0 c.1).0 (ap (λ y. d.0.call.number == y.number) (sym c.2.call) ∙ q.0) in
     not_both (is_landed c.0.fate) (ap (λ y. is_landed y.fate) (sym one) ∙ q.1) (fresh_flies t c.0 c.1 now))
 
 free_by_cases : {p : Program} {h : Header} {xs : List Happening} {w : World} {i : SessionId} {f g : Found} (t : Through p h xs w i f g)

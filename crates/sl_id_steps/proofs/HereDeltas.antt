@@ -1,13 +1,13 @@
 -- What lands at the sector of an id is a delta record, and says what was written.
-use Rattle.sl_place_law.proofs.Finding.{equal_numbers}
 use Rattle.sl_area.specs.Layouts.{Layout, layout_with, record_in, sector_with}
 use Rattle.sl_area.specs.Places.{in_area}
 use Rattle.sl_front_law.proofs.Going.{last_event}
 use Rattle.sl_id_state.specs.IdStates.{content_of, said_by}
 use Rattle.sl_id_state.specs.Promises.{IsIdPlace}
 use Rattle.sl_id_steps.proofs.EventFrames.{StayDistinct, after_event, first_tracks, second_tracks, step_rest}
-use Rattle.sl_id_steps.proofs.OtherSessions.{distinct_one, goes_has}
+use Rattle.sl_id_steps.proofs.OtherSessions.{goes_has}
 use Rattle.sl_id_steps.specs.Parts.{between}
+use Rattle.sl_landing_law.proofs.Listing.{one_call}
 use Rattle.sl_landing_law.specs.Landings.{IsWrittenBy}
 use Rattle.sl_place_law.proofs.Areas.{sector_fits, sized}
 use Rattle.sl_place_law.proofs.Reading.{IsPromised, digest_is, layout_is, traced, writes_record}
@@ -27,6 +27,7 @@ use Rattle.sl_sector.specs.declared.sector.Rec.{Rec}
 use Rattle.sl_trace.specs.Traces.{record_of}
 use Rattle.sl_words.proofs.CaseLaws.{one_value, some_value, true_is_false}
 use Rattle.std.proofs.Common.{ap, refl, subst, sym, ◌∙◌}
+use Rattle.std.proofs.lemmas.Bool.{eq-eqb}
 use Rattle.std.specs.Option.{option_map_or}
 use Rattle.std.specs.Prelude.{Contains, Err, IsTrue, List, None, Ok, Result, Some, false, is_ok, option_map, [], ℕ, ◌++◌, ◌∷◌, ◌≡◌}
 
@@ -55,7 +56,7 @@ call_after distinct p h now x run l m a c at has k n u machine number =
     let same : u.machine ≡ two.0 = one_value u.machine two.0 (machine_at v k) u.at (ap (machine_at v) (sym machine) ∙ two.1) in
     let there : Contains two.0.calls u.course = subst (λ b. Contains b.calls u.course) same u.has in
     let numbers : e.0.call.number ≡ u.course.call.number = ap (λ z. z.number) (e.2.call ∙ d.2.call) ∙ number ∙ sym u.number in
-    let is : e.0 ≡ u.course = distinct_one two.0.calls e.0 u.course (distinct p h (now ++ x ∷ []) run m two.0 two.1) e.1 there (equal_numbers e.0.call.number u.course.call.number numbers) in
+    let is : e.0 ≡ u.course = one_call two.0.calls e.0 u.course (distinct p h (now ++ x ∷ []) run m two.0 two.1) e.1 there (eq-eqb e.0.call.number u.course.call.number numbers) in
     ap (λ z. z.call) (sym is) ∙ e.2.call ∙ d.2.call
 
 -- What a call leaves at the sector of an id is a delta record.

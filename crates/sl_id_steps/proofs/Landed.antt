@@ -1,5 +1,4 @@
 -- Landings as steps of an id, where nothing lands at its sector: its session may lose its claim, or become over.
-use Rattle.sl_place_law.proofs.Finding.{equal_numbers}
 use Rattle.sl_course_law.specs.Promises.{MachinesMirror}
 use Rattle.sl_id_state.proofs.Bridge.{Grounds}
 use Rattle.sl_id_state.proofs.FindingFrames.{moved}
@@ -14,16 +13,17 @@ use Rattle.sl_id_steps.proofs.Ends.{Falls, changed, goes_over}
 use Rattle.sl_id_steps.proofs.EventFrames.{StayDistinct}
 use Rattle.sl_id_steps.proofs.Fates.{IsClaim, claim_same, landed_same, not_landed, over_stays, waits_no_more}
 use Rattle.sl_id_steps.proofs.Fating.{claim_at, has_landed, pends, seq_at, stands_turned, turned_to}
-use Rattle.sl_id_steps.proofs.OtherSessions.{distinct_one}
 use Rattle.sl_id_steps.proofs.OwnWrites.{claims_alone, has_verified}
 use Rattle.sl_ids.specs.Invariant.{Invariant}
 use Rattle.sl_ids.specs.Runs.{IsBounded, Later}
 use Rattle.sl_ids.specs.State.{Content, Session as IdSession, SessionId as IdName, State}
 use Rattle.sl_ids.specs.Steps.{Lands, Loses, SameLandings, after_losing}
 use Rattle.sl_ids.specs.Terms.{Terms}
+use Rattle.sl_landing_law.proofs.Listing.{one_call}
 use Rattle.sl_landing_law.specs.Landings.{LandingsAreWritten}
 use Rattle.sl_place_law.proofs.Reading.{IsPromised}
 use Rattle.sl_place_law.specs.Homes.{LockspacesHoldDeltas}
+use Rattle.sl_plain.proofs.Options.{not_some}
 use Rattle.sl_run.specs.Runs.{Happening}
 use Rattle.sl_run.specs.Safety.{Found, LawfulRun, SessionId, is_over, trace_of, world_at}
 use Rattle.sl_run.specs.Worlds.{Course, Fate, Program, World, is_in_flight, is_landed}
@@ -34,9 +34,10 @@ use Rattle.sl_trace.specs.Traces.{same_place}
 use Rattle.sl_trace.specs.declared.effects.JoinStep.TheVariants.{ClaimWrite}
 use Rattle.sl_id_state.proofs.Keeping.{is_place}
 use Rattle.sl_words.proofs.WordLaws.{and_true}
-use Rattle.sl_words.proofs.CaseLaws.{is_false, not_both, true_is_false}
+use Rattle.sl_words.proofs.CaseLaws.{is_false, not_both}
 use Rattle.std.proofs.Common.{ap, arith, inl, inr, refl, subst, sym, ◌∙◌}
-use Rattle.std.specs.Prelude.{Bool, Contains, List, None, Option, Some, false, is_some, true, ℕ, ◌+◌, ◌<◌, ◌==◌, ◌≡◌}
+use Rattle.std.proofs.lemmas.Bool.{eq-eqb}
+use Rattle.std.specs.Prelude.{Bool, Contains, List, None, Option, Some, false, true, ℕ, ◌+◌, ◌<◌, ◌==◌, ◌≡◌}
 
 -- What the laws of runs promise, and of a session at its own sector.
 pub record RestsOn : Type 0 where
@@ -95,10 +96,6 @@ stands_then w v m n fate y path offset k is generation pending landed claim seq 
 
 -- ---- a pending session writes its claim alone
 
-not_some : {A : Type 0} (o : Option A) → is_some o ≡ false → o ≡ None
-not_some None h = refl
-not_some (Some x) h = absurd (true_is_false h)
-
 -- It has neither verified nor joined.
 pub pending_is : (r : Terms) (w v : World) (m n : ℕ) (fate : Fate) (y : Write w v m n fate) (path : List ℕ) (offset : ℕ) (k : Caller w v m n fate y)
     → Invariant r (id_state w path offset) → counts w path offset (writer y) k.found ≡ true → pends (writer y) k.found ≡ true
@@ -120,7 +117,7 @@ claim_only g r p h now run v m n fate y path offset k inv is pending =
     let w : World = world_at p h now in
     let q = pending_is r w v m n fate y path offset k inv is pending in
     let claim = claims_alone g.grounds g.renewals p h now run (writer y) k.found y.changes.course k.at k.own y.writes q.1 q.0 in
-    (y.changes.course, (g.claims p h now run (writer y) k.found y.changes.course k.at k.own claim).only, equal_numbers y.changes.course.call.number n k.number)
+    (y.changes.course, (g.claims p h now run (writer y) k.found y.changes.course k.at k.own claim).only, eq-eqb y.changes.course.call.number n k.number)
 
 -- ---- nothing lands there
 
@@ -136,7 +133,7 @@ landed_elsewhere g p h now run v m n fate y path offset k sector apart x at is =
 
   same : x ≡ y.changes.course
   same =
-      distinct_one y.changes.machine.calls x y.changes.course y.changes.distinct (subst (λ a. Contains a.calls x) k.machine j.has) k.inside
+      one_call y.changes.machine.calls x y.changes.course y.changes.distinct (subst (λ a. Contains a.calls x) k.machine j.has) k.inside
       (ap (λ z. x.call.number == z) k.number ∙ is)
 
   flies : is_in_flight x.fate ≡ true

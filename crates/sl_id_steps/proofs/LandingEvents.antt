@@ -25,6 +25,8 @@ use Rattle.sl_ids.specs.Invariant.{Invariant}
 use Rattle.sl_ids.specs.Runs.{IsBounded, Later}
 use Rattle.sl_ids.specs.Steps.{Passes, Step}
 use Rattle.sl_ids.specs.Terms.{Terms}
+use Rattle.sl_plain.proofs.Lists.{contains_first}
+use Rattle.sl_plain.proofs.Numbers.{refl_le}
 use Rattle.sl_run.specs.Events.{fated, flight_at, may_happen, next_step, spells_something, torn_bytes, write_bytes}
 use Rattle.sl_run.specs.Runs.{Happening}
 use Rattle.sl_run.specs.Safety.{LawfulRun, world_at}
@@ -34,11 +36,10 @@ use Rattle.sl_run.specs.declared.event.Event.{Event}
 use Rattle.sl_run.specs.declared.header.Header.{Header}
 use Rattle.sl_sector.specs.declared.sector.DeltaRec.{DeltaRec}
 use Rattle.sl_sector.specs.declared.sector.Rec.TheVariants.{DeltaIs}
-use Rattle.sl_session_law.proofs.Making.{contains_first}
 use Rattle.sl_trace.specs.Traces.{record_of, same_place}
 use Rattle.sl_words.proofs.CaseLaws.{true_is_false}
-use Rattle.std.proofs.Common.{ap, arith, inl, inr, refl, subst, sym, ◌∙◌}
-use Rattle.std.specs.Prelude.{Bool, Contains, List, Some, cond, false, option_and_then, true, [], ℕ, ◌&&◌, ◌++◌, ◌==◌, ◌∷◌, ◌≡◌, ◌≤◌, ◌⊎◌}
+use Rattle.std.proofs.Common.{ap, inl, inr, refl, subst, sym, ◌∙◌}
+use Rattle.std.specs.Prelude.{Bool, Contains, List, Some, cond, false, option_and_then, true, [], ℕ, ◌&&◌, ◌++◌, ◌==◌, ◌∷◌, ◌≡◌, ◌⊎◌}
 
 -- ---- the write
 
@@ -229,16 +230,13 @@ still_here w =
       each = λ m a at. (a, at, record { calls = refl; resets = refl; ended = refl; daemon = inl refl });
     }
 
-no_earlier : (n : ℕ) → n ≤ n
-no_earlier n = omega arith
-
 -- A write that has landed is only answered.
 landed_before : (r : Terms) (w v : World) (path : List ℕ) (offset : ℕ) → v ≡ next_step w → IsBounded r (id_state v path offset)
     → Later r (id_state w path offset) (id_state v path offset)
 landed_before r w v path offset is high =
     one_step r (id_state w path offset) (id_state v path offset)
     (subst (λ z. Step r (id_state w path offset) (id_state z path offset)) (sym is)
-    (Passes (still_passes w (next_step w) path offset (no_earlier w.moment) (still_here w)))) high
+    (Passes (still_passes w (next_step w) path offset (refl_le w.moment) (still_here w)))) high
 
 does : RestsOn → (p : Program) (h : Header) (now : List Happening) (x : Happening) (path : List ℕ) (offset : ℕ) → LawfulRun p h (now ++ x ∷ []) → IsIdPlace p h path offset
     → (r : Terms) (m n : ℕ) → x.0 ≡ Do m n → (f : Flies (world_at p h now) m n IsDone) → is_write_course f.course ≡ true → (b : Bool) → is_in_flight f.course.fate ≡ b

@@ -1,11 +1,10 @@
 -- Landings at the sector of an id as its steps: a claim or another write of a session of it, whole or torn.
-use Rattle.sl_place_law.proofs.Finding.{equal_numbers}
-use Rattle.std.proofs.lemmas.Bool.{and_from}
+use Rattle.sl_plain.proofs.Options.{mapped_value}
+use Rattle.std.proofs.lemmas.Bool.{and_from, eq-eqb, or_right}
 use Rattle.sl_id_state.proofs.Bridge.{known}
 use Rattle.sl_id_state.proofs.CallFrames.{generation_grows}
 use Rattle.sl_id_state.proofs.FindingFrames.{moved}
 use Rattle.sl_id_state.proofs.Keeping.{own_call}
-use Rattle.sl_id_state.proofs.Listing.{map_some}
 use Rattle.sl_id_state.proofs.LandingFrames.{Grows, lands_one}
 use Rattle.sl_id_state.proofs.SampleFrames.{deciding_there, join_is, verifying_is}
 use Rattle.sl_id_state.specs.Facts.{HasDecided, HasVerified}
@@ -13,7 +12,7 @@ use Rattle.sl_id_state.specs.IdStates.{claim_bytes, claim_may_land, content_of, 
 use Rattle.sl_id_state.specs.Promises.{IsIdPlace}
 use Rattle.sl_id_steps.proofs.Callers.{Caller, Write, after, counts, now_stands, others_grow, writer}
 use Rattle.sl_id_steps.proofs.Ends.{changed, goes_over}
-use Rattle.sl_id_steps.proofs.Fates.{FliesAt, IsClaim, landed_now, landed_same, not_landed, or_right, over_stays, waits_no_more}
+use Rattle.sl_id_steps.proofs.Fates.{FliesAt, IsClaim, landed_now, landed_same, not_landed, over_stays, waits_no_more}
 use Rattle.sl_id_steps.proofs.Fating.{claim_at, has_landed, pends, seq_at}
 use Rattle.sl_id_steps.proofs.Landed.{RestsOn, lands_on, pending_is, stands_then}
 use Rattle.sl_id_steps.proofs.OwnWrites.{IsFlying, IsRenewing, not_over, verified_is}
@@ -71,7 +70,7 @@ pub record IsTorn (w v : World) (fate : Fate) (l : Landing) : Type 0 where
 pub left_is : (m n : ℕ) (l : Landing) → l.writer ≡ Some (m, n) → l.whole ≡ true → is_left_by (m, n) l ≡ true
 left_is m n l named whole =
     and_from l.whole (some_is (λ q. q.0 == m && q.1 == n) l.writer) whole
-    (ap (λ o. some_is (λ q. q.0 == m && q.1 == n) o) named ∙ and_from (m == m) (n == n) (equal_numbers m m refl) (equal_numbers n n refl))
+    (ap (λ o. some_is (λ q. q.0 == m && q.1 == n) o) named ∙ and_from (m == m) (n == n) (eq-eqb m m refl) (eq-eqb n n refl))
 
 pub not_left : (p : ℕ × ℕ) (l : Landing) → l.whole ≡ false → is_left_by p l ≡ false
 not_left p l torn = ap (λ b. b && some_is (λ q. q.0 == p.0 && q.1 == p.1) l.writer) torn
@@ -195,7 +194,7 @@ claim_says p h now v m n fate y path offset k q =
 claim_is : (p : Program) (h : Header) (now : List Happening) (v : World) (m n : ℕ) (fate : Fate) (y : Write (world_at p h now) v m n fate)
     (path : List ℕ) (offset : ℕ) (k : Here p h now v m n fate y path offset) → IsClaiming p h now v m n fate y path offset k → IsClaim (writer y) k.caller.found n
 claim_is p h now v m n fate y path offset k q =
-    (y.changes.course, q.decided.only, equal_numbers y.changes.course.call.number n k.caller.number)
+    (y.changes.course, q.decided.only, eq-eqb y.changes.course.call.number n k.caller.number)
 
 -- A claim lands whole.
 pub lands_claim : RestsOn → (r : Terms) (p : Program) (h : Header) (now : List Happening) (v : World) (m n : ℕ) (fate : Fate) (y : Write (world_at p h now) v m n fate)
@@ -217,7 +216,7 @@ lands_claim g r p h now v m n fate y path offset k q whole inv low high =
     let last =
     stands_then w v m n fate y path offset k.caller q.counts (generation_stays g p h now v m n fate y path offset k q.here) false true count k.delta.seq
     (waits_no_more i f (after y) n fate k.caller.turns y.ends (λ z. claim_is p h now v m n fate y path offset k q))
-    (landed_now i f (after y) n fate k.caller.turns c q.decided.only (equal_numbers c.call.number n k.caller.number) whole.landed) claim
+    (landed_now i f (after y) n fate k.caller.turns c q.decided.only (eq-eqb c.call.number n k.caller.number) whole.landed) claim
     (seq_first w v path offset k.landing i f (content_of k.delta) k.grows k.wrote whole.says (claim_seq r p h now v m n fate y path offset k q inv)) in
     goes_over r (id_state w path offset) (id_state v path offset) (name_of i) (after_claim count k.delta.seq s) (is_over i (moved (after y) f)) low high
     (record { now = y.moment; others = others g p h now v m n fate y path offset k; idle = refl; acting = λ a b. (a, b, refl) }) last
@@ -286,7 +285,7 @@ begun_by g p h now run i f at n (inr x) =
     let w : World = world_at p h now in
     let s = verifying_is w i f x.0 x.1 in
     let b = some_is_true (λ z. bytes_eq z s.course.sampled) (claim_bytes w i f) s.showed.shows in
-    let c = map_some (λ (z : Course). write_bytes w z.call) (join_course i ClaimWrite f.machine) b.0 b.1 in
+    let c = mapped_value (λ (z : Course). write_bytes w z.call) (join_course i ClaimWrite f.machine) b.0 b.1 in
     let j = join_is i ClaimWrite f.machine c.0 c.1 in
     or_right (is_none f.session.job) (is_some (deciding_sample i f)) (ap (λ o. is_some o) (g.claims p h now run i f c.0 at j.own j.joins).decided)
 

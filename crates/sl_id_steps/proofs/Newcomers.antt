@@ -1,4 +1,5 @@
 -- A session that begins with an entry has done nothing.
+use Rattle.sl_course_law.proofs.Daemons.{every_has}
 use Rattle.sl_course_law.proofs.Pairing.{pairs_length}
 use Rattle.sl_course_law.proofs.Stamped.{entries_are_stamped}
 use Rattle.sl_course_law.specs.Stamping.{IsStampOf, stamp_in}
@@ -9,8 +10,9 @@ use Rattle.sl_id_state.proofs.FindingFrames.{find_passes, found_on, session_on, 
 use Rattle.sl_id_state.proofs.Keeping.{own_call}
 use Rattle.sl_id_state.proofs.Proven.{grounds}
 use Rattle.sl_id_state.proofs.SampleFrames.{showed}
-use Rattle.sl_id_state.specs.IdStates.{blank, deciding_sample, has_begun, is_sector_of, join_course, own_courses, sample_showing, session_named_so, standing_by, standing_of, watched_bytes}
+use Rattle.sl_id_state.specs.IdStates.{blank, deciding_sample, has_begun, is_sector_of, join_course, own_courses, session_named_so, standing_by, standing_of, watched_bytes}
 use Rattle.sl_id_steps.proofs.Carrying.{after, kept_early, stamp_of, stepped}
+use Rattle.sl_id_steps.proofs.Counted.{shown_course}
 use Rattle.sl_id_steps.proofs.EventFrames.{after_event, entry_of}
 use Rattle.sl_id_steps.proofs.Frees.{not_less}
 use Rattle.sl_id_steps.proofs.OtherSessions.{IsOfEntry}
@@ -21,16 +23,14 @@ use Rattle.sl_id_steps.proofs.StepFrames.{IsEntry, IsNewCourse, entered, step_ru
 use Rattle.sl_id_steps.proofs.Still.{with_running}
 use Rattle.sl_id_steps.specs.Parts.{between}
 use Rattle.sl_ids.specs.State.{Session as IdSession}
-use Rattle.sl_landing_law.proofs.Listing.{every_one, in_map}
 use Rattle.sl_moment_law.proofs.Stamps.{made_is_stamp}
 use Rattle.sl_moment_law.specs.Moments.{Of_stamp}
-use Rattle.sl_place_law.proofs.Finding.{filtered}
+use Rattle.sl_plain.proofs.Lists.{contains_none, in_map, kept_inside}
 use Rattle.sl_run.specs.Events.{machine_of}
 use Rattle.sl_run.specs.Runs.{Happening}
 use Rattle.sl_run.specs.Safety.{Found, IsSession, LawfulRun, SessionId, is_course_of, session_of_world, setting_in, trace_of, world_at}
 use Rattle.sl_run.specs.Worlds.{Course, Daemon, Machine, Program, Sampling, Stamp, World, daemon_numbered, machine_at}
 use Rattle.sl_run.specs.declared.header.Header.{Header}
-use Rattle.sl_session_law.proofs.Making.{contains_none}
 use Rattle.sl_sessions.specs.Sessions.{Session, begun_in, is_join_call, session_numbered, sessions}
 use Rattle.sl_trace.specs.Traces.{Setting, Trace}
 use Rattle.sl_trace.specs.declared.effects.Entry.{Entry}
@@ -38,7 +38,7 @@ use Rattle.sl_trace.specs.declared.effects.JoinStep.TheVariants.{DecidingRead}
 use Rattle.sl_watchdog_law.proofs.Numbering.{begun_is, either_place}
 use Rattle.sl_words.proofs.CaseLaws.{none_some, some_value}
 use Rattle.std.proofs.Common.{ap, arith, inl, inr, refl, subst, sym, ◌∙◌}
-use Rattle.std.specs.Prelude.{Bool, Contains, List, None, Option, Some, cond, false, find, is_none, is_some, length, map, option_and_then, option_map, slice_get, true, [], ℕ, ◌&&◌, ◌++◌, ◌+◌, ◌==◌, ◌||◌, ◌∷◌, ◌≡◌, ◌≤◌, ◌⊎◌}
+use Rattle.std.specs.Prelude.{Bool, Contains, List, None, Option, Some, cond, false, find, is_none, is_some, length, map, option_map, slice_get, true, [], ℕ, ◌&&◌, ◌++◌, ◌+◌, ◌==◌, ◌||◌, ◌∷◌, ◌≡◌, ◌≤◌, ◌⊎◌}
 
 -- ---- where it began
 
@@ -80,11 +80,6 @@ late_by s ss k x false is le h = absurd (none_some x (sym (past_none ss k le) �
 late_stamp : (s : Stamp) (ss : List Stamp) (k : ℕ) (x : Stamp) → length ss ≤ k → stamp_in (s ∷ ss) k ≡ Some x → x ≡ s
 late_stamp s ss k x le h = late_by s ss k x (k == length ss) refl le h
 
-decided_course : (g : Found) (bytes : Option (List ℕ)) (o : Option Course) (y : Sampling) → option_and_then (sample_showing g bytes) o ≡ Some y
-    → (c : Course) × (o ≡ Some c) × (sample_showing g bytes c ≡ Some y)
-decided_course g bytes None y h = absurd (none_some y h)
-decided_course g bytes (Some c) y h = (c, refl, h)
-
 -- It has not decided.
 not_decided : (p : Program) (h : Header) (now : List Happening) (x : Happening) (run : LawfulRun p h (now ++ x ∷ [])) (e : IsEntry p h now x) (i : SessionId) (s : Session)
     → i.machine ≡ machine_of x.0 → IsSession (after_event p h now x) i (after e s)
@@ -94,7 +89,7 @@ not_decided p h now x run e i s here its began (Some y) is =
     let v : World = after_event p h now x in
     let g : Found = after e s in
     let k : IsKnown v i g = known grounds p h (now ++ x ∷ []) run i g its in
-    let c = decided_course g (watched_bytes i g) (join_course i DecidingRead g.machine) y is in
+    let c = shown_course g (watched_bytes i g) (join_course i DecidingRead g.machine) y is in
     let first = (showed g (watched_bytes i g) c.0 y c.2).sample in
     let r = find_passes (λ z. is_join_call DecidingRead z.call.purpose) (own_courses i g.machine) c.0 c.1 in
     let o = own_call v i g c.0 k r.there in
@@ -107,13 +102,13 @@ not_decided p h now x run e i s here its began (Some y) is =
     let own = own_after i (stamp_of e) e.input e.effects e.machine e.daemon e.runs in
     let f : Course → Course = closed (stamp_of e) e.input in
     elim (contains_append own.newer (map f (own_courses i e.machine)) c.0 (subst (λ cs. Contains cs c.0) own.same r.there)) as (λ z. Some y ≡ None) [
-      | inl new ↦ let n = every_one (λ z. IsNewCourse (stamp_of e) e.daemon.number e.effects.calls z × (is_course_of i z ≡ true)) own.newer c.0 own.each new in
+      | inl new ↦ let n = every_has (λ z. IsNewCourse (stamp_of e) e.daemon.number e.effects.calls z × (is_course_of i z ≡ true)) own.newer c.0 own.each new in
           absurd (contains_none y (subst (λ ys. Contains ys y) (fresh_of (stamp_of e) e.daemon.number e.effects.calls c.0 n.0).samples (first_there c.0.samples y first)))
       | inr old ↦ let m = in_map f (own_courses i e.machine) c.0 old in
           let keep : IsKept m.0 (f m.0) = kept (stamp_of e) e.input m.0 in
           absurd (not_less m.0.made (stamp_of e) (sym keep.made ∙ ap (λ z. z.made) m.2 ∙ made)
           (kept_early p h now x run m.0.made.step m.0.made.moment
-          (Of_stamp (machine_of x.0) e.machine m.0.made e.at (made_is_stamp e.machine m.0 (filtered (is_course_of i) e.machine.calls m.0 m.1).0) refl refl)))
+          (Of_stamp (machine_of x.0) e.machine m.0.made e.at (made_is_stamp e.machine m.0 (kept_inside (is_course_of i) e.machine.calls m.0 m.1).0) refl refl)))
     ]
 
 -- ---- so it stands blank

@@ -1,4 +1,5 @@
 -- The sessions of other daemons stay as they were through an entry.
+use Rattle.sl_course_law.proofs.Resetting.{step_resets}
 use Rattle.sl_course_law.specs.Promises.{MachinesMirror}
 use Rattle.sl_id_state.proofs.CallFrames.{elsewhere_same}
 use Rattle.sl_id_state.proofs.FindingFrames.{find_passes, found_on, is_found, moved, own_untouched, same_moved, session_on}
@@ -7,11 +8,13 @@ use Rattle.sl_id_state.proofs.SectorFrames.{SameIf, SameSector, sector_same, ses
 use Rattle.sl_id_state.specs.IdStates.{own_courses, session_at, session_named_so}
 use Rattle.sl_id_steps.proofs.CallEvents.{answer_flies, do_flies}
 use Rattle.sl_id_steps.proofs.EventFrames.{StayDistinct, after_event, between_distinct, first_tracks, step_sector}
-use Rattle.sl_id_steps.proofs.StepFrames.{IsEntry, IsNewCourse, other_found, step_resets, step_runs, step_submits}
+use Rattle.sl_id_steps.proofs.StepFrames.{IsEntry, IsNewCourse, other_found, step_runs, step_submits}
 use Rattle.sl_id_steps.specs.Parts.{between}
 use Rattle.sl_ids.specs.State.{SessionId as IdName}
+use Rattle.sl_landing_law.proofs.Listing.{one_call}
 use Rattle.sl_landing_law.specs.Landings.{LandingsAreWritten}
 use Rattle.sl_front_law.proofs.Going.{last_event}
+use Rattle.sl_plain.proofs.Lists.{contains_cases, contains_first, contains_more, contains_none}
 use Rattle.sl_run.specs.Events.{after_step, close_answered, done_input, if_running, input_at, input_of, machine_of, may_happen, new_course, ok_input}
 use Rattle.sl_run.specs.Runs.{Happening}
 use Rattle.sl_run.specs.Safety.{Found, LawfulRun, SessionId, is_course_of, session_of_world, world_at}
@@ -22,7 +25,6 @@ use Rattle.sl_run.specs.declared.header.Header.{Header}
 use Rattle.sl_run_law.proofs.Tracking.{told}
 use Rattle.sl_run_law.specs.Courses.{Continues, Follow, ListGoes}
 use Rattle.sl_run_law.specs.Fates.{AreDistinct, Every}
-use Rattle.sl_session_law.proofs.Making.{contains_cases, contains_first, contains_more, contains_none}
 use Rattle.sl_front_law.proofs.Having.{contains_right}
 use Rattle.sl_trace.specs.Traces.{is_ok_answer}
 use Rattle.sl_trace.specs.declared.effects.Call.{Call}
@@ -38,6 +40,7 @@ use Rattle.sl_words.proofs.OrderLaws.{same_or_apart}
 use Rattle.sl_words.proofs.WordLaws.{and_true}
 use Rattle.sl_words.specs.Words.{choose, some_is}
 use Rattle.std.proofs.Common.{ap, arith, inl, inr, refl, subst, sym, tests, ◌∙◌}
+use Rattle.std.proofs.lemmas.Bool.{eqb-true}
 use Rattle.std.proofs.lemmas.List.Elements.{filter-append}
 use Rattle.std.specs.Prelude.{Bool, Contains, List, None, Option, Some, cond, false, filter, is_some, option_and_then, option_map, true, [], ℕ, ◌&&◌, ◌++◌, ◌==◌, ◌∷◌, ◌≡◌}
 
@@ -77,13 +80,10 @@ nothing_told : (n : ℕ) (y : Answer) (o : Option Machine) → option_and_then (
 nothing_told n y None h = none_some (Told n y) h
 nothing_told n y (Some a) h = none_some (Told n y) h
 
-same_numbers : (m n : ℕ) → (m == n) ≡ true → m ≡ n
-same_numbers m n h = grind (arith, tests)
-
 flying : (a : Machine) (n : ℕ) (f : Course) → flight_of a n ≡ Some f → Contains a.calls f × (f.call.number ≡ n)
 flying a n f h =
     let p = find_passes (λ c. c.call.number == n && is_open a c) a.calls f h in
-    (p.there, same_numbers f.call.number n (and_true (f.call.number == n) (is_open a f) p.test).0)
+    (p.there, eqb-true f.call.number n (and_true (f.call.number == n) (is_open a f) p.test).0)
 
 given_by : (w : World) (e : Event) (i : Input) (a : Machine) → machine_at w (machine_of e) ≡ Some a → input_of w e ≡ Some i → input_at w e a ≡ Some i
 given_by w e i a at h = sym (ap (λ o. option_and_then (input_at w e) o) at) ∙ h
@@ -141,33 +141,6 @@ every_has : (P : Course → Type 0) (cs : List Course) → ((c : Course) → Con
 every_has P [] f = tt
 every_has P (c ∷ cs) f = (f c (contains_first c cs), every_has P cs (λ x has. f x (contains_more c cs x has)))
 
-has_every : (P : Course → Type 0) (cs : List Course) (c : Course) → Every P cs → Contains cs c → P c
-has_every P [] c h has = absurd (contains_none c has)
-has_every P (x ∷ cs) c h has =
-    elim (contains_cases x cs c has) as (λ z. P c) [
-      | inl e ↦ subst P e h.0
-      | inr more ↦ has_every P cs c h.1 more
-    ]
-
-back_number : (m n : ℕ) → (m == n) ≡ true → (n == m) ≡ true
-back_number m n h = grind (arith, tests)
-
--- Calls of one number are one.
-pub distinct_one : (cs : List Course) (x y : Course) → AreDistinct cs → Contains cs x → Contains cs y → (x.call.number == y.call.number) ≡ true → x ≡ y
-distinct_one [] x y d hx hy e = absurd (contains_none x hx)
-distinct_one (c ∷ cs) x y d hx hy e =
-    elim (contains_cases c cs x hx) as (λ z. x ≡ y) [
-      | inl p ↦ elim (contains_cases c cs y hy) as (λ z. x ≡ y) [
-        | inl q ↦ sym p ∙ q
-        | inr more ↦ absurd (has_every (λ k. (k.call.number == c.call.number) ≡ true → ⊥) cs y d.0 more
-            (ap (λ k. y.call.number == k.call.number) p ∙ back_number x.call.number y.call.number e))
-      ]
-      | inr more ↦ elim (contains_cases c cs y hy) as (λ z. x ≡ y) [
-        | inl q ↦ absurd (has_every (λ k. (k.call.number == c.call.number) ≡ true → ⊥) cs x d.0 more (ap (λ k. x.call.number == k.call.number) q ∙ e))
-        | inr less ↦ distinct_one cs x y d.1 more less e
-      ]
-    ]
-
 follow_has : (cs ds : List Course) (c : Course) → Follow Continues cs ds → Contains cs c → (d : Course) × Contains ds d × Continues c d
 follow_has [] ds c f has = absurd (contains_none c has)
 follow_has (x ∷ cs) [] c f has = absurd f
@@ -184,7 +157,7 @@ goes_has cs ds c g has =
     (r.0, subst (λ xs. Contains xs r.0) (sym g.same) (contains_right g.newer g.older r.0 r.1), r.2)
 
 running_number : (a : Machine) (d : Daemon) (c : Course) → a.daemon ≡ Some d → is_of_running a c ≡ true → d.number ≡ c.daemon
-running_number a d c runs h = same_numbers d.number c.daemon (sym (ap (λ o. some_is (λ x. x.number == c.daemon) o) runs) ∙ h)
+running_number a d c runs h = eqb-true d.number c.daemon (sym (ap (λ o. some_is (λ x. x.number == c.daemon) o) runs) ∙ h)
 
 number_is : (n : ℕ) (m : ℕ) → m ≡ n → (m == n) ≡ true
 number_is n m h = grind (arith, tests)
@@ -197,7 +170,7 @@ not_answered_by : (i : SessionId) (n : ℕ) (d : Daemon) (a : Machine) (g : Cour
     → d.number ≡ g.daemon → (d.number == i.daemon) ≡ false → (c : Course) → Contains a.calls c → is_course_of i c ≡ true → (c.call.number == n) ≡ false
 not_answered_by i n d a g distinct has is of other c there own =
     is_false (c.call.number == n) (λ t.
-    let same : c ≡ g = distinct_one a.calls c g distinct there has (ap (λ k. c.call.number == k) is ∙ t) in
+    let same : c ≡ g = one_call a.calls c g distinct there has (ap (λ k. c.call.number == k) is ∙ t) in
     let daemon : d.number ≡ i.daemon = of ∙ ap (λ k. k.daemon) (sym same) ∙ of_daemon i c own in
     not_both (d.number == i.daemon) (number_is i.daemon d.number daemon) other)
 

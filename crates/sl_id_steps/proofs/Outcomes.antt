@@ -1,18 +1,18 @@
 -- What a sample of a call makes of what its session's deciding read and verify read showed: nothing, or the one or the other shows now what
 -- it was to show.
-use Rattle.sl_landing_law.proofs.Listing.{every_one}
+use Rattle.sl_course_law.proofs.Daemons.{every_has}
 use Rattle.sl_id_state.proofs.SampleFrames.{IsJoinCourse, join_is, joining_is}
 use Rattle.sl_id_state.specs.Facts.{HasClaimed, HasWatched, is_reading_step}
 use Rattle.sl_id_state.specs.IdStates.{claim_bytes, comes_before, deciding_sample, join_course, own_courses, refused_stamp, sample_showing, verifying_sample, watched_bytes}
-use Rattle.sl_id_steps.proofs.Alive.{number_is}
 use Rattle.sl_id_steps.proofs.Sampled.{join_sampled, keeps_rest, sampled_found, turned}
 use Rattle.sl_run.specs.Events.{sample_at, sampled_more, sectors_of, write_bytes}
 use Rattle.sl_run.specs.Safety.{Found, SessionId}
 use Rattle.sl_run.specs.Worlds.{Course, Landing, Sampling, Stamp, World, content, first_landing, flight_of, history_of, landed_at, sector_size}
 use Rattle.sl_run.specs.declared.header.Header.{Header}
+use Rattle.sl_run_law.proofs.Answered.{flight_waits}
 use Rattle.sl_run_law.proofs.Coursing.{changed_if}
 use Rattle.sl_run_law.specs.Fates.{AreDistinct, Every}
-use Rattle.sl_sample_law.proofs.Flying.{IsOne, all_one, flies}
+use Rattle.sl_sample_law.proofs.Flying.{IsOne, all_one}
 use Rattle.sl_sample_law.proofs.Numbering.{newest_number}
 use Rattle.sl_sample_law.specs.Samples.{numbered_landing}
 use Rattle.sl_sessions.specs.Sessions.{is_join_call}
@@ -26,6 +26,7 @@ use Rattle.sl_words.proofs.CaseLaws.{is_false, none_some, not_both}
 use Rattle.sl_words.proofs.WordLaws.{and_true}
 use Rattle.sl_words.specs.Words.{choose, first_of_list, some_is}
 use Rattle.std.proofs.Common.{ap, arith, inl, inr, refl, subst, sym, ◌∙◌}
+use Rattle.std.proofs.lemmas.Bool.{eq-eqb}
 use Rattle.std.proofs.lemmas.List.{append-nil}
 use Rattle.std.specs.List.{range_with_len}
 use Rattle.std.specs.Prelude.{Bool, Contains, List, None, Option, Some, bytes_eq, cond, false, filter, find, flat_map, length, map, option_and_then, option_map, suc, true, zero, [], ℕ, ◌&&◌, ◌*◌, ◌++◌, ◌+◌, ◌-◌, ◌==◌, ◌∷◌, ◌≡◌, ◌≤◌, ◌⊎◌}
@@ -155,10 +156,10 @@ pub record IsSampledCall (w : World) (h : Header) (n j : ℕ) (i : SessionId) (f
 -- Each other call stays.
 untouched : (w : World) (n j : ℕ) (a : List Course) (c x : Course) → Every (IsOne n c) a → Contains a x → (x ≡ c → ⊥) → turned w n j x ≡ x
 untouched w n j a c x each has apart =
-    ap (λ b. changed_if b (sampled_more w j) x) (is_false (x.call.number == n) (λ t. apart (every_one (IsOne n c) a x each has t)))
+    ap (λ b. changed_if b (sampled_more w j) x) (is_false (x.call.number == n) (λ t. apart (every_has (IsOne n c) a x each has t)))
 
 touched : (w : World) (n j : ℕ) (c : Course) → c.call.number ≡ n → turned w n j c ≡ sampled_more w j c
-touched w n j c is = ap (λ b. changed_if b (sampled_more w j) c) (number_is c.call.number n is)
+touched w n j c is = ap (λ b. changed_if b (sampled_more w j) c) (eq-eqb c.call.number n is)
 
 join_still : (w : World) (h : Header) (n j : ℕ) (i : SessionId) (f : Found) (c : Course) → IsSampledCall w h n j i f c → (step : JoinStep) (x : Course)
     → join_course i step f.machine ≡ Some x → (x ≡ c → ⊥) → join_course i step (sampled_found w n j f).machine ≡ Some x
@@ -173,7 +174,7 @@ join_none w n j i f step at = join_sampled w n j i step f ∙ ap (λ o. option_m
 join_more : (w : World) (h : Header) (n j : ℕ) (i : SessionId) (f : Found) (c : Course) → IsSampledCall w h n j i f c → (step : JoinStep)
     → join_course i step f.machine ≡ Some c → join_course i step (sampled_found w n j f).machine ≡ Some (sampled_more w j c)
 join_more w h n j i f c k step at =
-    join_sampled w n j i step f ∙ ap (λ o. option_map (turned w n j) o) at ∙ ap (λ y. Some y) (touched w n j c (flies f.machine n c k.flight).0)
+    join_sampled w n j i step f ∙ ap (λ o. option_map (turned w n j) o) at ∙ ap (λ y. Some y) (touched w n j c (flight_waits f.machine n c k.flight).0)
 
 other_step : (i : SessionId) (f : Found) (c x : Course) (step : JoinStep) → is_join_call step c.call.purpose ≡ false → join_course i step f.machine ≡ Some x → x ≡ c → ⊥
 other_step i f c x step apart at same =
@@ -182,7 +183,7 @@ other_step i f c x step apart at same =
 -- An answered call isn't in flight.
 answered_other : (w : World) (h : Header) (n j : ℕ) (i : SessionId) (f : Found) (c : Course) → IsSampledCall w h n j i f c → (x : Course) (s : Stamp)
     → x.answered ≡ Some s → x ≡ c → ⊥
-answered_other w h n j i f c k x s answered same = none_some s (sym (flies f.machine n c k.flight).1 ∙ ap (λ y. y.answered) (sym same) ∙ answered)
+answered_other w h n j i f c k x s answered same = none_some s (sym (flight_waits f.machine n c k.flight).1 ∙ ap (λ y. y.answered) (sym same) ∙ answered)
 
 -- ---- the deciding read
 

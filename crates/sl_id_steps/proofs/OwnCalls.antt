@@ -9,7 +9,7 @@ use Rattle.sl_id_state.proofs.Proven.{grounds}
 use Rattle.sl_id_state.proofs.Steps.{only}
 use Rattle.sl_id_state.specs.IdStates.{join_course, own_courses, runs_still}
 use Rattle.sl_id_steps.proofs.StepFrames.{IsNewCourse, step_submits}
-use Rattle.sl_landing_law.proofs.Listing.{contains_map}
+use Rattle.sl_plain.proofs.Lists.{contains_map}
 use Rattle.sl_run.specs.Events.{after_step, close_answered}
 use Rattle.sl_run.specs.Runs.{Happening}
 use Rattle.sl_run.specs.Safety.{Found, IsSession, LawfulRun, SessionId, is_course_of, was_reset, world_at}

@@ -1,5 +1,8 @@
 -- The seqs of what has landed for a session: each is less than that of a renewal or a free of it in flight.
-use Rattle.std.proofs.lemmas.Bool.{and_from}
+use Rattle.sl_landing_law.proofs.Listing.{one_call}
+use Rattle.sl_landing_law.proofs.Writers.{writer_settled}
+use Rattle.sl_plain.proofs.Lists.{contains_cases, contains_first, contains_more, contains_none, kept, kept_inside}
+use Rattle.std.proofs.lemmas.Bool.{and_from, eq-eqb, eqb-true}
 use Rattle.sl_area.specs.Layouts.{Layout, layout_with, record_in}
 use Rattle.sl_area.specs.Places.{fresh_delta}
 use Rattle.sl_front_law.proofs.Having.{contains_append}
@@ -12,12 +15,10 @@ use Rattle.sl_id_state.specs.IdStates.{content_of, holder_at, name_of, own_cours
 use Rattle.sl_id_state.proofs.Starts.{said_first}
 use Rattle.sl_id_state.specs.Promises.{IsIdPlace}
 use Rattle.sl_id_steps.proofs.Fating.{seq_at}
-use Rattle.sl_id_steps.proofs.OtherSessions.{distinct_one}
 use Rattle.sl_id_steps.proofs.OwnWrites.{IsRenewing, above_given, rises_above}
 use Rattle.sl_ids.specs.State.{Content, SessionId as IdName}
-use Rattle.sl_landing_law.specs.Landings.{HasWriter, LandingsAreWritten, LeftBy}
+use Rattle.sl_landing_law.specs.Landings.{HasWriter, LandingsAreWritten}
 use Rattle.sl_place_law.proofs.Areas.{sector_fits}
-use Rattle.sl_place_law.proofs.Finding.{equal_numbers, filtered, same_number}
 use Rattle.sl_place_law.proofs.Reading.{IsPromised, header_is, layout_is, reads_back}
 use Rattle.sl_place_law.proofs.Seats.{delta_in_is, sized_in}
 use Rattle.sl_run.specs.Runs.{Happening}
@@ -31,8 +32,6 @@ use Rattle.sl_sector.specs.Spelling.{delta_in}
 use Rattle.sl_sector.specs.declared.sector.DeltaRec.{DeltaRec}
 use Rattle.sl_sector.specs.declared.sector.Rec.TheVariants.{DeltaIs}
 use Rattle.sl_sector.specs.declared.sector.Rec.{Rec}
-use Rattle.sl_session_law.proofs.Making.{contains_cases, contains_first, contains_more, contains_none}
-use Rattle.sl_session_law.proofs.Naming.{kept}
 use Rattle.sl_sessions.specs.Sessions.{given_number}
 use Rattle.sl_trace.specs.Traces.{same_place}
 use Rattle.sl_words.proofs.CaseLaws.{none_some, one_value, some_value, true_is_false}
@@ -77,12 +76,12 @@ said g bytes x h = said_delta g bytes (delta_in (record_in g bytes)) x refl h
 -- A call is found by its number.
 pub call_found : (cs : List Course) (c : Course) (n : ℕ) → AreDistinct cs → Contains cs c → c.call.number ≡ n → call_of n cs ≡ Some c
 call_found cs c n distinct has is =
-    let t : (c.call.number == n) ≡ true = ap (λ x. x == n) is ∙ equal_numbers n n refl in
+    let t : (c.call.number == n) ≡ true = ap (λ x. x == n) is ∙ eq-eqb n n refl in
     let d = call_there n cs c has t in
     let q = find_passes (λ (x : Course). x.call.number == n) cs d.0 d.1 in
     let same : d.0 ≡ c =
-    distinct_one cs d.0 c distinct q.there has
-    (ap (λ x. x == c.call.number) (same_number d.0.call.number n q.test) ∙ ap (λ x. x == c.call.number) (sym is) ∙ equal_numbers c.call.number c.call.number refl) in
+    one_call cs d.0 c distinct q.there has
+    (ap (λ x. x == c.call.number) (eqb-true d.0.call.number n q.test) ∙ ap (λ x. x == c.call.number) (sym is) ∙ eq-eqb c.call.number c.call.number refl) in
     d.1 ∙ ap (λ x. Some x) same
 
 -- .. so the session of the call is who submitted it.
@@ -105,12 +104,8 @@ own_by i m c h =
     let e : name_of i ≡ n = name_is (name_of i) n h in (
       ap (λ x. x.machine) e,
       and_from (c.daemon == i.daemon) (c.call.session == i.number)
-          (ap (λ (x : IdName). x.daemon == i.daemon) (sym e) ∙ equal_numbers i.daemon i.daemon refl) (ap (λ (x : IdName). x.number == i.number) (sym e) ∙ equal_numbers i.number i.number refl),
+          (ap (λ (x : IdName). x.daemon == i.daemon) (sym e) ∙ eq-eqb i.daemon i.daemon refl) (ap (λ (x : IdName). x.number == i.number) (sym e) ∙ eq-eqb i.number i.number refl),
     )
-
-landed_fate : (w : World) (l : Landing) (c : Course) (r : Rec) → LeftBy w l c r → is_in_flight c.fate ≡ false
-landed_fate w l c r (inl whole) = ap is_in_flight whole.1
-landed_fate w l c r (inr torn) = ap is_in_flight torn.1
 
 wrote_delta : (k r : Rec) (d : DeltaRec) → k ≡ r → r ≡ DeltaIs d → Some k ≡ Some (DeltaIs d)
 wrote_delta k r d e h = ap (λ x. Some x) (e ∙ h)
@@ -129,7 +124,7 @@ older_seq g b p h xs run distinct i f c d at on y flies l k x says same =
     kept (is_course_of i) f.machine.calls u.course own.1 (subst (λ a. Contains a.calls u.course) machine u.has) in
     let e = said w.layout l.bytes x says in
     let back = reads_back b p h xs run (sector_fits w.layout (sized_in p h xs run)) l k.machine k.call u (DeltaIs e.0) e.1 in
-    let other : c ≡ u.course → ⊥ = λ z. true_is_false (sym flies ∙ ap (λ q. is_in_flight q.fate) z ∙ landed_fate w l u.course u.record_written u.left) in
+    let other : c ≡ u.course → ⊥ = λ z. true_is_false (sym flies ∙ ap (λ q. is_in_flight q.fate) z ∙ writer_settled w l u.course u.record_written u.left) in
     subst (λ (z : Content). z.seq < d.seq) e.2
     (rises_above w i f c d y.flying u.course e.0 (own_call w i f u.course y.flying.own.known there) (u.writes ∙ ap (λ r. Some r) back) other)
 
@@ -197,7 +192,7 @@ seqs_under g b written p h xs run distinct path offset place i f c d at on y fli
     each some above l has =
         let w : World = world_at p h xs in
         elim (contains_append (landed_at w path offset) (first_landing w path offset ∷ []) l has) as (λ z. seq_left w (name_of i) l < d.seq) [
-          | inl old ↦ landed some l (filtered (λ (x : Landing). same_place x.path x.offset path offset) w.landings l old).0
+          | inl old ↦ landed some l (kept_inside (λ (x : Landing). same_place x.path x.offset path offset) w.landings l old).0
           | inr last ↦ elim (contains_cases (first_landing w path offset) [] l last) as (λ z. seq_left w (name_of i) l < d.seq) [
             | inl e ↦
                 subst (λ (z : Landing). seq_left w (name_of i) z < d.seq) e

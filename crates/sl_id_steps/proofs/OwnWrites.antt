@@ -1,5 +1,9 @@
 -- A session's write of a delta record that is in flight: what it wrote before was answered, its free is its last, and its seqs rise.
-use Rattle.std.proofs.lemmas.Bool.{and_from}
+use Rattle.sl_course_law.proofs.Daemons.{every_has}
+use Rattle.sl_id_steps.proofs.Alive.{not_claim as other_step}
+use Rattle.sl_place_law.proofs.Looks.{stands}
+use Rattle.sl_plain.proofs.Lists.{any_of, contains_cases, contains_map, contains_none, find_inside}
+use Rattle.std.proofs.lemmas.Bool.{and_from, eq-eqb, or_left}
 use Rattle.sl_course_law.specs.Stamping.{IsCourseOf}
 use Rattle.sl_id_state.proofs.Bridge.{Grounds, known}
 use Rattle.sl_id_state.proofs.Claiming.{done_of, record_is}
@@ -7,20 +11,18 @@ use Rattle.sl_id_state.proofs.FindingFrames.{moved}
 use Rattle.sl_id_state.proofs.Frames.{free_landed_by, free_of, landed_as}
 use Rattle.sl_id_state.proofs.Keeping.{IsOwnCall, own_call}
 use Rattle.sl_id_state.proofs.Listing.{EveryTail, stands_there, tail_at}
-use Rattle.sl_landing_law.proofs.Listing.{contains_map, every_one}
 use Rattle.sl_run_law.specs.Fates.{Every}
 use Rattle.sl_id_state.proofs.Living.{InPlace, is_joining}
 use Rattle.sl_id_state.proofs.Renewing.{none_joining}
-use Rattle.sl_id_state.proofs.Rising.{HasLess, IsShaped, OfClaim, OfLast, Renews, Rises, Shaped, all_renew, all_rise, all_shaped, shape, standing_joined}
+use Rattle.sl_id_state.proofs.Rising.{HasLess, IsShaped, OfClaim, OfLast, Renews, Rises, Shaped, all_renew, all_rise, all_shaped, shape}
 use Rattle.sl_id_state.proofs.Steps.{places, ranks_of}
 use Rattle.sl_id_state.proofs.Tails.{IsLater, front_at}
 use Rattle.sl_id_state.proofs.Verifying.{answered_in_turn, delta_purpose, written_there}
-use Rattle.sl_watchdog_law.proofs.Finding.{any_of}
 use Rattle.sl_id_state.specs.Facts.{RenewalsHaveVerified}
 use Rattle.sl_id_state.specs.IdStates.{own_courses, verifying_sample}
-use Rattle.sl_id_steps.proofs.Fates.{FliesAt, one_fate, or_left}
+use Rattle.sl_id_steps.proofs.Fates.{FliesAt, one_fate}
 use Rattle.sl_id_steps.proofs.Fating.{Turns, turned}
-use Rattle.sl_place_law.proofs.Finding.{equal_numbers, finds, found_in, partner, partner_of}
+use Rattle.sl_place_law.proofs.Finding.{finds, partner, partner_of}
 use Rattle.sl_run.specs.Events.{fated}
 use Rattle.sl_run.specs.Runs.{Happening}
 use Rattle.sl_run.specs.Safety.{Found, LawfulRun, SessionId, free_landed, has_write_in_flight, is_over, session_of_world, setting_in, trace_of, world_at}
@@ -30,7 +32,6 @@ use Rattle.sl_run_law.proofs.Coursing.{changed_if}
 use Rattle.sl_sector.specs.declared.sector.DeltaRec.{DeltaRec}
 use Rattle.sl_sector.specs.declared.sector.Rec.TheVariants.{DeltaIs}
 use Rattle.sl_session_law.proofs.Covering.{joinings_are_in_turn}
-use Rattle.sl_session_law.proofs.Making.{contains_cases, contains_none}
 use Rattle.sl_session_law.proofs.Silence.{stage_by}
 use Rattle.sl_session_law.specs.Promises.{all_done, fits, fits_as, is_in_turn}
 use Rattle.sl_sessions.specs.Sessions.{Session, calls_of, delta_of_record, delta_written, free_write, given_number, is_delta_purpose, is_free_purpose, is_join_call, joined_after, last_delta, refused_after, removed_after, seq_in, stage_in, stage_of}
@@ -110,7 +111,7 @@ freeing_by (Some j) None refused (Some m) joining k is h = absurd cc
 -- While it stands its free is not written.
 not_freed : (t : Trace) (s : Session) → stage_of t s ≡ Standing → free_write (calls_of t s) ≡ None
 not_freed t s h =
-    let j = standing_joined t s h in
+    let j = stands t s h in
     freeing_by (joined_after t s) (removed_after t s) (refused_after t s) (free_write (calls_of t s)) (stage_in (calls_of t s)) j.0 j.1 h
 
 behind_first : (w : World) (i : SessionId) (f : Found) (c : Course) (o : IsOwnCall w i f c) (m : Submitted) → is_join_call FirstRenewal c.call.purpose ≡ true
@@ -173,7 +174,7 @@ free_only w i f c d y k o free =
 free_number : (w : World) (i : SessionId) (f : Found) (c : Course) (d : DeltaRec) (y : IsRenewing w i f c d) (m : Submitted)
     → free_write (calls_of (trace_of f) f.session) ≡ Some m → c.call ≡ m.call
 free_number w i f c d y m is =
-    let at = found_in (λ (x : Submitted). is_free_purpose x.call.purpose) (calls_of (trace_of f) f.session) m is in
+    let at = find_inside (λ (x : Submitted). is_free_purpose x.call.purpose) (calls_of (trace_of f) f.session) m is in
     let k = partner_of (IsCourseOf f.daemon) (own_courses i f.machine) (calls_of (trace_of f) f.session) m y.flying.own.known.pairs at.0 in
     let free : is_free_purpose k.0.call.purpose ≡ true = ap (λ (x : Call). is_free_purpose x.purpose) (sym k.2.call) ∙ at.1 in
     ap (λ (x : Course). x.call) (free_only w i f c d y k.0 (own_call w i f k.0 y.flying.own.known k.1) free) ∙ sym k.2.call
@@ -225,7 +226,7 @@ free_lands w i f b c d fate y there t lands free =
     let any : list_any (landed_as n) (own_courses i b) ≡ true =
     ap (λ cs. list_any (landed_as n) cs) t.calls
     ∙ any_of (landed_as n) (map (turned n fate) (own_courses i f.machine)) (turned n fate c)
-    (landed_turned n fate c (c.call.number == n) refl (equal_numbers n n refl) lands) (contains_map (turned n fate) (own_courses i f.machine) c there) in
+    (landed_turned n fate c (c.call.number == n) refl (eq-eqb n n refl) lands) (contains_map (turned n fate) (own_courses i f.machine) c there) in
     let freed : free_landed i (moved b f) ≡ true =
     free_of i (moved b f) ∙ ap (free_landed_by (own_courses i b)) some.1
     ∙ ap (λ (z : Call). list_any (landed_as z.number) (own_courses i b)) (sym (free_number w i f c d y some.0 some.1)) ∙ any in
@@ -246,7 +247,7 @@ rises_above w i f c d y k e o wrote other =
     elim (others_behind w i f c d y k o its) as (λ z. e.seq < d.seq) [
       | inl same ↦ absurd (other same)
       | inr there ↦ let m = partner (IsCourseOf f.daemon) x.older x.pairs.rest k x.pairs.rests there in
-          every_one (HasLess d.seq) x.pairs.rest m.0 (here d (written_there w i f c y.own d y.writes)) m.1 e
+          every_has (HasLess d.seq) x.pairs.rest m.0 (here d (written_there w i f c y.own d y.writes)) m.1 e
           (ap (λ (z : Call). option_and_then delta_of_record (record_of z.op)) m.2.call ∙ ap (λ q. option_and_then delta_of_record q) wrote)
     ]
 
@@ -295,7 +296,7 @@ above_by w i f c d y (Some j) is (inr next) =
     let g : given_number f.session ≡ 0 = ap (λ (o : Option ℕ). elim o as (λ z. ℕ) [ None ↦ 1 | Some k ↦ 0 ]) is in omega (arith, g, next.seq)
 above_by w i f c d y None is (inl first) =
     let x = y.flying.own.placed.pairs in
-    let apart = every_one (λ (m : Submitted). is_joining m.call.purpose ≡ false) (calls_of (trace_of f) f.session) x.here (none_joining w i f y.flying.own.known is)
+    let apart = every_has (λ (m : Submitted). is_joining m.call.purpose ≡ false) (calls_of (trace_of f) f.session) x.here (none_joining w i f y.flying.own.known is)
     (subst (λ ms. Contains ms x.here) (sym x.whole) (stands_there x.front x.here x.rest)) in
     absurd (true_is_false (sym (ranks_of FirstRenewal x.here.call.purpose first.1).0 ∙ apart))
 above_by w i f c d y None is (inr next) =
@@ -336,15 +337,6 @@ fits_in (x ∷ ms) m h there =
     let p = and_true (fits x) (all_done ms) h in
     elim (contains_cases x ms m there) as (λ z. fits m ≡ true) [ inl e ↦ subst (λ z. fits z ≡ true) e p.0 | inr more ↦ (done_of ms m p.1 more).0 ]
 
-other_step : (p : Purpose) → is_join_call FirstRenewal p ≡ true → is_join_call ClaimWrite p ≡ false
-other_step (Joining j FirstRenewal) h = refl
-other_step (Joining j FirstRead) h = refl
-other_step (Joining j WatchRead) h = refl
-other_step (Joining j DecidingRead) h = refl
-other_step (Joining j VerifyRead) h = refl
-other_step (Joining j ClaimWrite) h = absurd (false_is_true h)
-other_step p h = refl
-
 -- A session that was joined at first or has verified.
 abbrev pub has_verified : World → SessionId → Found → Bool
 has_verified w i f = is_none f.session.job || is_some (verifying_sample w i f)
@@ -372,7 +364,7 @@ claims_alone g renew p h xs run i f c at there writes none unverified =
     elim (fits_by c.call.purpose (ap (fits_as c.call.purpose) (sym writes) ∙ fit)) as (λ z. is_join_call ClaimWrite c.call.purpose ≡ true) [
       | inl claim ↦ claim
       | inr first ↦
-          let e = every_one Renews (calls_of (trace_of f) f.session) x.here (all_renew (setting_in f) (trace_of f) f.session kn.lawful kn.its) inside
+          let e = every_has Renews (calls_of (trace_of f) f.session) x.here (all_renew (setting_in f) (trace_of f) f.session kn.lawful kn.its) inside
           (ap (λ (z : Call). is_join_call FirstRenewal z.purpose) x.this.call ∙ first) in
           let wrote = record_is x.here.call c.call.op e.0 (ap (λ (z : Call). z.op) x.this.call) e.1 in
           let v = renew p h xs run i f c at there e.0 wrote (other_step c.call.purpose first) in

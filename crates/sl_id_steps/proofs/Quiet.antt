@@ -1,7 +1,7 @@
 -- Quiet events, and what a machine does by itself: nothing of an id changes but the moment.
 use Rattle.sl_course_law.specs.Mirrors.{AreNumbered}
 use Rattle.sl_course_law.specs.Promises.{MachinesMirror}
-use Rattle.sl_front_law.proofs.Going.{last_event, was_there}
+use Rattle.sl_front_law.proofs.Going.{last_event, settled_later}
 use Rattle.sl_id_state.proofs.LandingFrames.{same_landings}
 use Rattle.sl_id_state.proofs.StateFrames.{one_step}
 use Rattle.sl_id_state.specs.IdStates.{id_state}
@@ -9,27 +9,27 @@ use Rattle.sl_id_steps.proofs.Still.{IsStill, StaysStill, still_sector, still_se
 use Rattle.sl_id_steps.specs.Parts.{IsQuietEvent, OwnStepsGoOn, QuietChangesGoOn, between, state_between}
 use Rattle.sl_ids.specs.Guards.{terms_of}
 use Rattle.sl_ids.specs.Steps.{Pass, Passes}
-use Rattle.sl_run.specs.Events.{after_effects, after_restart, after_start, after_test, first_change, machine_of, may_happen, next_step, own_effects, passed, take_step}
-use Rattle.sl_run.specs.Runs.{Happening, IsRun, own_effects_of}
+use Rattle.sl_landing_law.proofs.Arriving.{changed_landings}
+use Rattle.sl_landing_law.proofs.Running.{own_makes_none}
+use Rattle.sl_plain.proofs.Lists.{set_length}
+use Rattle.sl_plain.proofs.Numbers.{equal_is_least}
+use Rattle.sl_run.specs.Events.{after_effects, after_restart, after_start, after_test, first_change, machine_of, may_happen, next_step, passed, take_step}
+use Rattle.sl_run.specs.Runs.{Happening}
 use Rattle.sl_run.specs.Safety.{LawfulRun, world_at}
-use Rattle.sl_run.specs.Worlds.{Daemon, Machine, Program, World, change_machine, daemons_on, machine_at, stamp_now, world_with}
+use Rattle.sl_run.specs.Worlds.{Daemon, Machine, Program, World, daemons_on, machine_at, stamp_now}
 use Rattle.sl_run.specs.declared.event.Event.TheVariants.{AnswerCall, Crash, Do, DropWrite, ExitOf, GiveCommand, Land, Pass as PassOf, Reset, Restart, Sample, SpawnedOf, StartDaemon, Tear, Test, WakeUp}
 use Rattle.sl_run.specs.declared.event.Event.{Event}
 use Rattle.sl_run.specs.declared.header.Header.{Header}
-use Rattle.sl_run_law.proofs.Beginnings.{begins_new}
 use Rattle.sl_run_law.proofs.Going.{event_goes}
 use Rattle.sl_run_law.proofs.Guards.{starts}
-use Rattle.sl_run_law.proofs.Hosting.{run_hosts}
 use Rattle.sl_run_law.proofs.Walking.{Asked, each_first, each_step}
 use Rattle.sl_run_law.specs.Daemons.{IsSettled}
 use Rattle.sl_run_law.specs.Going.{Goes, time_of}
 use Rattle.sl_run_law.specs.Machines.{EachMachine}
-use Rattle.sl_trace.specs.Traces.{no_effects}
 use Rattle.sl_trace.specs.declared.effects.Effects.{Effects}
-use Rattle.sl_words.proofs.CaseLaws.{none_some, one_value}
+use Rattle.sl_words.proofs.CaseLaws.{none_some}
 use Rattle.std.proofs.Common.{ap, arith, inl, inr, refl, subst, sym, ◌∙◌}
-use Rattle.std.specs.Option.{option_map_or}
-use Rattle.std.specs.Prelude.{List, None, Option, Some, length, slice_set, suc, true, zero, [], ℕ, ◌++◌, ◌+◌, ◌-◌, ◌∷◌, ◌≡◌, ◌≤◌}
+use Rattle.std.specs.Prelude.{List, None, Option, Some, length, slice_set, true, [], ℕ, ◌++◌, ◌+◌, ◌-◌, ◌∷◌, ◌≡◌, ◌≤◌}
 
 -- ---- machines
 
@@ -37,7 +37,7 @@ use Rattle.std.specs.Prelude.{List, None, Option, Some, length, slice_set, suc, 
 keeps : (a b : Machine) → b.calls ≡ a.calls → b.resets ≡ a.resets → b.ended ≡ a.ended → b.daemon ≡ a.daemon → IsStill a b
 keeps a b calls resets ended daemon = record { calls = calls; resets = resets; ended = ended; daemon = inl daemon }
 
-still : (m : ℕ) (a : Machine) → IsStill a a
+pub still : (m : ℕ) (a : Machine) → IsStill a a
 still m a = keeps a a refl refl refl refl
 
 none_runs : (a : Machine) → a.daemon ≡ None → daemons_on a ≡ a.ended
@@ -86,14 +86,6 @@ asked w e quiet may o =
 
 -- ---- landings
 
-changed_by : (m : ℕ) (f : Machine → Machine) (w : World) (o : Option Machine)
-    → (elim o as (λ x. World) [ None ↦ w | Some a ↦ record w { machines = slice_set w.machines (m - 1) (f a) } ]).landings ≡ w.landings
-changed_by m f w None = refl
-changed_by m f w (Some a) = refl
-
-pub nothing_lands : (m : ℕ) (f : Machine → Machine) (w : World) → (change_machine m f w).landings ≡ w.landings
-nothing_lands m f w = changed_by m f w (machine_at w m)
-
 quiet_lands : (e : Event) (w : World) → IsQuietEvent w e → (first_change e w).landings ≡ w.landings
 unfolding first_change
 quiet_lands (PassOf d growths) w q = refl
@@ -105,13 +97,13 @@ quiet_lands (Tear m c k bytes) w q = absurd q
 quiet_lands (AnswerCall m c ok) w q = refl
 quiet_lands (Do m c) w q = absurd q
 quiet_lands (DropWrite m c) w q = absurd q
-quiet_lands (Test m) w q = nothing_lands m (after_test w) w
+quiet_lands (Test m) w q = changed_landings m (after_test w) w
 quiet_lands (ExitOf m p) w q = refl
 quiet_lands (SpawnedOf m p ok) w q = refl
-quiet_lands (StartDaemon m name) w q = nothing_lands m (after_start w m name) w
+quiet_lands (StartDaemon m name) w q = changed_landings m (after_start w m name) w
 quiet_lands (Crash m) w q = absurd q
 quiet_lands (Reset m) w q = absurd q
-quiet_lands (Restart m) w q = nothing_lands m (after_restart w) w
+quiet_lands (Restart m) w q = changed_landings m (after_restart w) w
 
 -- ---- quiet events
 
@@ -134,14 +126,6 @@ pub still_passes : (w v : World) (path : List ℕ) (offset : ℕ) → w.moment �
 still_passes w v path offset later s =
     record { later = later; same = same_landings w v path offset (still_sector w v path offset s); sessions = still_session w v path offset s }
 
--- Each machine of a run is settled.
-pub settled_later : (p : Program) (h : Header) (xs : List Happening) → IsRun (world_with p h) xs → (m : ℕ) (b : Machine)
-    → machine_at (world_at p h xs) m ≡ Some b → IsSettled b
-settled_later p h xs run m b at =
-    let a = was_there (world_with p h) xs m b at in
-    let go = run_hosts (world_with p h) xs run m a.0 a.1 in
-    subst IsSettled (one_value go.0 b (machine_at (world_at p h xs) m) go.1 at) (go.2 (begins_new p h m a.0 a.1).settled).settled
-
 pub orderly : MachinesMirror → (p : Program) (h : Header) (now : List Happening) → LawfulRun p h now → IsOrderly (world_at p h now)
 orderly mirror p h now run =
     record { settled = settled_later p h now run.is_run; numbered = λ m a at. (mirror p h now run m a at).numbered }
@@ -157,43 +141,13 @@ quiet_changes_go_on_given mirror p h now x path offset run place quiet reached b
 
 -- ---- what a machine does by itself
 
-own_calls : (w : World) (e : Event) (a : Machine) → (own_effects w e a).calls ≡ []
-own_calls w (PassOf d growths) a = refl
-own_calls w (WakeUp m) a = refl
-own_calls w (GiveCommand m text) a = refl
-own_calls w (Sample m c k) a = refl
-own_calls w (Land m c) a = refl
-own_calls w (Tear m c k bytes) a = refl
-own_calls w (AnswerCall m c ok) a = refl
-own_calls w (Do m c) a = refl
-own_calls w (DropWrite m c) a = refl
-own_calls w (Test m) a = refl
-own_calls w (ExitOf m p) a = refl
-own_calls w (SpawnedOf m p ok) a = refl
-own_calls w (StartDaemon m name) a = refl
-own_calls w (Crash m) a = refl
-own_calls w (Reset m) a = refl
-own_calls w (Restart m) a = refl
-
-no_calls_by : (w : World) (e : Event) (o : Option Machine) → (option_map_or (own_effects w e) o no_effects).calls ≡ []
-no_calls_by w e None = refl
-no_calls_by w e (Some a) = own_calls w e a
-
-no_calls : (w : World) (e : Event) → (own_effects_of w e).calls ≡ []
-no_calls w e = no_calls_by w e (machine_at w (machine_of e))
-
-own_keeps : (v : World) (fx : Effects) (a : Machine) → fx.calls ≡ [] → IsStill a (after_effects (stamp_now v a) fx a)
+pub own_keeps : (v : World) (fx : Effects) (a : Machine) → fx.calls ≡ [] → IsStill a (after_effects (stamp_now v a) fx a)
 own_keeps v fx a none =
     keeps a (after_effects (stamp_now v a) fx a)
     (ap (λ cs. (after_effects (stamp_now v a) (record fx { calls = cs }) a).calls) none) refl refl refl
 
 own_each : (m : ℕ) (fx : Effects) (v : World) → fx.calls ≡ [] → EachMachine (λ m. IsStill) v (take_step m None fx v)
 own_each m fx v none = each_step (λ m. IsStill) m None fx v still (λ is a h. own_keeps v fx a none) (λ i is. absurd (none_some i is))
-
-length_set : (ms : List Machine) (i : ℕ) (a : Machine) → length (slice_set ms i a) ≡ length ms
-length_set [] i a = refl
-length_set (x ∷ ms) zero a = refl
-length_set (x ∷ ms) (suc i) a = ap (λ n. suc n) (length_set ms i a)
 
 -- A change of one machine leaves the rest of a world.
 pub record LeavesRest (w v : World) : Type 0 where
@@ -206,27 +160,24 @@ pub record LeavesRest (w v : World) : Type 0 where
 pub leaves_by : (m : ℕ) (f : Machine → Machine) (w : World) (o : Option Machine)
     → LeavesRest w (next_step (elim o as (λ x. World) [ None ↦ w | Some a ↦ record w { machines = slice_set w.machines (m - 1) (f a) } ]))
 leaves_by m f w None = record { layout = refl; header = refl; landings = refl; machines = refl; moment = refl }
-leaves_by m f w (Some a) = record { layout = refl; header = refl; landings = refl; machines = length_set w.machines (m - 1) (f a); moment = refl }
+leaves_by m f w (Some a) = record { layout = refl; header = refl; landings = refl; machines = set_length w.machines (m - 1) (f a); moment = refl }
 
-own_still : (m : ℕ) (fx : Effects) (v : World) → fx.calls ≡ [] → StaysStill v (take_step m None fx v)
+pub own_still : (m : ℕ) (fx : Effects) (v : World) → fx.calls ≡ [] → StaysStill v (take_step m None fx v)
 own_still m fx v none =
     let r : LeavesRest v (take_step m None fx v) = leaves_by m (λ a. after_effects (stamp_now v a) fx a) v (machine_at v m) in
     record { layout = r.layout; header = r.header; landings = r.landings; machines = r.machines; each = own_each m fx v none }
-
-no_later : (m n : ℕ) → n ≡ m → m ≤ n
-no_later m n h = omega (arith, h)
 
 own_passes : (m : ℕ) (fx : Effects) (v : World) (path : List ℕ) (offset : ℕ) → fx.calls ≡ []
     → Pass (id_state v path offset) (id_state (take_step m None fx v) path offset)
 own_passes m fx v path offset none =
     let r : LeavesRest v (take_step m None fx v) = leaves_by m (λ a. after_effects (stamp_now v a) fx a) v (machine_at v m) in
-    still_passes v (take_step m None fx v) path offset (no_later v.moment (take_step m None fx v).moment r.moment) (own_still m fx v none)
+    still_passes v (take_step m None fx v) path offset (equal_is_least v.moment (take_step m None fx v).moment r.moment) (own_still m fx v none)
 
 pub own_steps_go_on : OwnStepsGoOn
 own_steps_go_on p h now x path offset run place own reached bounded =
     let last = last_event p h now x run in
     let w : World = world_at p h now in
-    let none : last.effects.calls ≡ [] = ap (λ fx. fx.calls) (last.own own) ∙ no_calls w x.0 in
+    let none : last.effects.calls ≡ [] = ap (λ fx. fx.calls) (last.own own) ∙ own_makes_none w x.0 in
     let after : world_at p h (now ++ x ∷ []) ≡ take_step (machine_of x.0) None last.effects (between w x.0) =
     last.after ∙ ap (λ o. take_step (machine_of x.0) o last.effects (between w x.0)) own in
     one_step (terms_of h.timing) (state_between p h now x.0 path offset) (id_state (world_at p h (now ++ x ∷ [])) path offset)

@@ -6,20 +6,20 @@ use Rattle.sl_front_law.proofs.Having.{placed_at}
 use Rattle.sl_id_state.proofs.Keeping.{is_at_own, is_place, own_call}
 use Rattle.sl_id_state.specs.IdStates.{index_of, is_left_by, is_sector_of, own_courses}
 use Rattle.sl_id_steps.proofs.Frees.{trace_calls}
-use Rattle.sl_id_steps.proofs.OtherSessions.{distinct_one}
 use Rattle.sl_id_steps.proofs.OwnCalls.{Through, knows}
-use Rattle.sl_landing_law.proofs.Listing.{contains_map}
+use Rattle.sl_landing_law.proofs.Listing.{one_call}
 use Rattle.sl_landing_law.proofs.Proven.{done_writes_have_landed, landings_are_written}
 use Rattle.sl_landing_law.proofs.Remaining.{landed_are_there}
 use Rattle.sl_landing_law.specs.Landings.{HasWriter}
-use Rattle.sl_place_law.proofs.Finding.{filtered, partner_of, place_is}
+use Rattle.sl_place_law.proofs.Finding.{partner_of, place_is}
+use Rattle.sl_plain.proofs.Lists.{contains_cases, contains_first, contains_map, contains_more, contains_none, find_inside, kept_inside}
 use Rattle.sl_run.specs.Runs.{Happening}
 use Rattle.sl_run.specs.Safety.{Found, SessionId, is_course_of, trace_of, world_at}
 use Rattle.sl_run.specs.Worlds.{Course, Landing, Program, Stamp, World, is_write_course, landed_at, machine_at}
 use Rattle.sl_run.specs.declared.header.Header.{Header}
 use Rattle.sl_sample_law.proofs.Numbering.{newest_number, number_stays}
 use Rattle.sl_sample_law.specs.Samples.{numbered_landing}
-use Rattle.sl_session_law.proofs.Making.{contains_cases, contains_first, contains_more, contains_none, old_stays, same_answered}
+use Rattle.sl_session_law.proofs.Making.{old_stays, same_answered}
 use Rattle.sl_sessions.specs.Sessions.{calls_of, is_delta_purpose, is_join_call, is_renewal, is_survey_purpose}
 use Rattle.sl_trace.specs.Traces.{Answered, Submitted, Trace, answer_of, answered_in, is_write, mark, same_place, submitted}
 use Rattle.sl_trace.specs.declared.effects.Entry.{Entry}
@@ -27,12 +27,13 @@ use Rattle.sl_trace.specs.declared.effects.JoinStep.TheVariants.{ClaimWrite, Fir
 use Rattle.sl_trace.specs.declared.effects.Purpose.TheVariants.{Joining, Renewal}
 use Rattle.sl_trace.specs.declared.effects.Purpose.{Purpose}
 use Rattle.sl_trace.specs.declared.input.Answer.TheVariants.{Written}
-use Rattle.sl_watchdog_law.proofs.Finding.{call_inside, equal_numbers, find_inside}
+use Rattle.sl_watchdog_law.proofs.Finding.{call_inside}
 use Rattle.sl_watchdog_law.proofs.Readings.{Counts, IsTold, NextRenewal, Stays, next_renewal, told}
 use Rattle.sl_watchdog_law.proofs.Renewing.{IsOpenRenewal}
 use Rattle.sl_watchdog_law.specs.Acting.{renewal_in}
 use Rattle.sl_words.proofs.CaseLaws.{false_is_true, no_value, not_both, none_some, one_value, some_value, true_is_false}
 use Rattle.std.proofs.Common.{ap, arith, inl, inr, refl, subst, sym, tests, ◌∙◌}
+use Rattle.std.proofs.lemmas.Bool.{eq-eqb, eqb-true}
 use Rattle.std.proofs.lemmas.Option.{slice_get_within}
 use Rattle.std.specs.Option.{option_map_or, option_or}
 use Rattle.std.specs.Prelude.{AllPairs, Bool, Contains, List, None, Option, Some, cond, false, filter, length, not, slice_get, slice_index_or, suc, true, zero, [], ℕ, ◌&&◌, ◌++◌, ◌<◌, ◌==◌, ◌∷◌, ◌≡◌, ◌≤◌, ◌⊎◌}
@@ -138,9 +139,9 @@ wrote_it {p = p} {h = h} {xs = xs} {i = i} {g = g} t c own l has named =
     let a : x.wrote.machine ≡ g.machine =
     one_value x.wrote.machine g.machine (machine_at v i.machine) (ap (machine_at v) (sym machine) ∙ x.wrote.at) (knows t).there.at in (
       x,
-      distinct_one g.machine.calls x.wrote.course c (each_distinct p h xs t.run i.machine g.machine (knows t).there.at)
-          (subst (λ m. Contains m.calls x.wrote.course) a x.wrote.has) (filtered (is_course_of i) g.machine.calls c own).0
-          (equal_numbers x.wrote.course.call.number c.call.number (x.wrote.number ∙ number)),
+      one_call g.machine.calls x.wrote.course c (each_distinct p h xs t.run i.machine g.machine (knows t).there.at)
+          (subst (λ m. Contains m.calls x.wrote.course) a x.wrote.has) (kept_inside (is_course_of i) g.machine.calls c own).0
+          (eq-eqb x.wrote.course.call.number c.call.number (x.wrote.number ∙ number)),
     )
 
 -- Where a write of the session landed.
@@ -154,7 +155,7 @@ pub renewal_left : {p : Program} {h : Header} {xs : List Happening} {w : World} 
     → IsRenewalCall i g t.stamp at purpose c → HasLeft (world_at p h xs) path offset c
 renewal_left {p = p} {h = h} {xs = xs} {w = w} {i = i} {f = f} {g = g} t path offset sector at purpose renews c r =
     let v : World = world_at p h xs in
-    let has = (filtered (is_course_of i) g.machine.calls c r.own).0 in
+    let has = (kept_inside (is_course_of i) g.machine.calls c r.own).0 in
     let landed = done_writes_have_landed p h xs t.run i.machine g.machine c (knows t).there.at has r.done r.writes in
     let l = landed_are_there p h xs t.run i.machine g.machine c (knows t).there.at has landed in
     let x = wrote_it t c r.own l.0 l.1 l.2 in
@@ -256,9 +257,6 @@ inside_front [] first l k some h = absurd (not_first first l k (k == 0) refl som
 inside_front (x ∷ ls) first l k some h =
     inside_by x l ls (ls ++ first ∷ []) k (k == length (ls ++ first ∷ [])) h (inside_front ls first l k some)
 
-below_here : (k n : ℕ) → (k == n) ≡ true → k ≡ n
-below_here k n h = grind (arith, tests)
-
 lesser_by : (q : ℕ × ℕ) (y l : Landing) (rest : List Landing) (k : ℕ) (a b : Bool) → (k == length rest) ≡ a → is_left_by q y ≡ b → 1 ≤ k
     → elim a as (λ z. Option Landing) [ true ↦ Some y | false ↦ numbered_landing rest k ] ≡ Some l → (is_left_by q y ≡ true → y.step < l.step)
     → (numbered_landing rest k ≡ Some l → l.step < y.step) → (numbered_landing rest k ≡ Some l → index_of q rest < k)
@@ -266,7 +264,7 @@ lesser_by : (q : ℕ × ℕ) (y l : Landing) (rest : List Landing) (k : ℕ) (a 
 lesser_by q y l rest k true true at left some h earlier order more =
     let same : y.step ≡ l.step = ap (λ (z : Landing). z.step) (some_value y l h) in absurd (omega (arith, earlier left, same))
 lesser_by q y l rest k true false at left some h earlier order more =
-    let e : k ≡ length rest = below_here k (length rest) at in omega (arith, e, index_within q rest (omega (arith, some, e)))
+    let e : k ≡ length rest = eqb-true k (length rest) at in omega (arith, e, index_within q rest (omega (arith, some, e)))
 lesser_by q y l rest k false true at left some h earlier order more = absurd (omega (arith, earlier left, order h))
 lesser_by q y l rest k false false at left some h earlier order more = more h
 

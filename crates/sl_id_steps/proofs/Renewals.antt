@@ -14,16 +14,16 @@ use Rattle.sl_ids.specs.Guards.{terms_of}
 use Rattle.sl_ids.specs.Runs.{Reached}
 use Rattle.sl_law.proofs.LawFacts.{lawful-front}
 use Rattle.sl_law.specs.Lawful.{Lawful}
+use Rattle.sl_place_law.proofs.Looks.{made_below}
 use Rattle.sl_run.specs.Runs.{Happening}
 use Rattle.sl_run.specs.Safety.{Found, LawfulRun, SessionId, session_of_world, setting_in, trace_of, world_at}
 use Rattle.sl_run.specs.Worlds.{Course, Program, Sampling, Stamp, World}
 use Rattle.sl_run.specs.declared.header.Header.{Header}
-use Rattle.sl_session_law.proofs.Making.{calls_are_made}
 use Rattle.sl_session_law.proofs.Owning.{session_more}
 use Rattle.sl_session_law.proofs.Staying.{joined_more}
-use Rattle.sl_session_law.specs.Promises.{IsMade, IsSession}
+use Rattle.sl_session_law.specs.Promises.{IsSession}
 use Rattle.sl_sessions.specs.Sessions.{Session, joined_after}
-use Rattle.sl_trace.specs.Traces.{Setting, Submitted, Trace, submitted}
+use Rattle.sl_trace.specs.Traces.{Setting, Submitted, Trace}
 use Rattle.sl_trace.specs.declared.effects.Entry.{Entry}
 use Rattle.sl_trace.specs.declared.effects.JoinStep.TheVariants.{VerifyRead}
 use Rattle.sl_watchdog_law.proofs.Joins.{joins_now}
@@ -33,20 +33,9 @@ use Rattle.sl_watchdog_law.specs.Acting.{acting_stamp, registering_entry, renewa
 use Rattle.sl_words.proofs.CaseLaws.{none_some, some_value}
 use Rattle.std.proofs.Common.{ap, arith, refl, subst, sym, tests, ◌∙◌}
 use Rattle.std.specs.Option.{option_map_or}
-use Rattle.std.specs.Prelude.{Bool, Contains, List, None, Option, Some, false, is_some, length, option_and_then, suc, true, [], ℕ, ◌++◌, ◌<◌, ◌==◌, ◌∷◌, ◌≡◌}
+use Rattle.std.specs.Prelude.{Bool, List, None, Option, Some, false, is_some, length, option_and_then, suc, true, [], ℕ, ◌++◌, ◌<◌, ◌==◌, ◌∷◌, ◌≡◌}
 
 -- ---- the renewal that counts last
-
-below_all : {A : Type 0} (xs : List A) (y : A) (ys : List A) → length ys < length (xs ++ y ∷ ys)
-below_all [] y ys = omega arith
-below_all (x ∷ xs) y ys = omega (arith, below_all xs y ys)
-
-made_within : (es : Trace) (m : Submitted) → Contains (submitted es) m → m.at < length es
-made_within es m has =
-    let d : IsMade es m = calls_are_made es m has in
-    let lt = below_all d.later d.entry d.past in
-    let same : length es ≡ length (d.later ++ d.entry ∷ d.past) = ap (λ t. length t) d.whole in
-    omega (arith, lt, same, d.place)
 
 abbrev entry_by : Option Submitted → Option ℕ → Option ℕ
 entry_by now before = elim now [ Some m ↦ Some m.at | None ↦ before ]
@@ -56,7 +45,7 @@ within_by : (st : Setting) (e : Entry) (past : Trace) (s : Session) (i : ℕ) �
 within_by st e past s i h is rest (Stays none same) = omega (arith, rest (sym (ap (λ o. entry_by o (renewal_entry st past s)) none) ∙ is))
 within_by st e past s i h is rest (Counts m in_it told_is now) =
     let at : m.at ≡ i = some_value m.at i (sym (ap (λ o. entry_by o (renewal_entry st past s)) in_it) ∙ is) in
-    omega (arith, at, made_within past m (told_is_open st e past s m h told_is).inside)
+    omega (arith, at, made_below past m (told_is_open st e past s m h told_is).inside)
 
 -- It was submitted before.
 renewal_within : (st : Setting) (es : Trace) (s : Session) (i : ℕ) → Lawful st es → renewal_entry st es s ≡ Some i → i < length es

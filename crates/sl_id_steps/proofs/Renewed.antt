@@ -9,7 +9,7 @@ use Rattle.sl_id_steps.proofs.Unended.{unended, unfreed, unremoved}
 use Rattle.sl_id_steps.proofs.Counted.{above_claim, has_verified, verified_by}
 use Rattle.sl_id_steps.proofs.EventFrames.{after_event, step_sector}
 use Rattle.sl_id_steps.proofs.Flags.{over_is}
-use Rattle.sl_id_steps.proofs.Frees.{free_stays, none_passes}
+use Rattle.sl_id_steps.proofs.Frees.{free_stays}
 use Rattle.sl_id_steps.proofs.OwnCalls.{Through, join_goes}
 use Rattle.sl_id_steps.proofs.OwnSessions.{One_counts}
 use Rattle.sl_id_steps.proofs.RenewalCalls.{HasLeft, numbered, renewal_call, renewal_left}
@@ -20,13 +20,13 @@ use Rattle.sl_landing_law.proofs.Proven.{landings_are_written}
 use Rattle.sl_law.proofs.LawFacts.{lawful-front}
 use Rattle.sl_law.specs.Lawful.{Lawful}
 use Rattle.sl_law.specs.LawfulRecovery.{MayPart}
+use Rattle.sl_plain.proofs.Lists.{find_fails, find_inside, got_inside}
 use Rattle.sl_run.specs.Runs.{Happening}
 use Rattle.sl_run.specs.Safety.{Found, SessionId, free_landed, has_write_in_flight, is_over, trace_of, world_at}
 use Rattle.sl_run.specs.Worlds.{Program, Stamp, World, first_landing, history_of, landed_at}
 use Rattle.sl_run.specs.declared.header.Header.{Header}
 use Rattle.sl_sample_law.specs.Samples.{numbered_landing}
 use Rattle.sl_session_law.proofs.Making.{WasOpen, old_or_new, was_marked}
-use Rattle.sl_session_law.proofs.Owning.{got_inside}
 use Rattle.sl_session_law.specs.Promises.{IsSession}
 use Rattle.sl_sessions.specs.Sessions.{Begun, Renewing, Session, calls_of, ended_after, free_write, is_free_purpose, is_joined, joined_after, recovery_of, refused_after, removed_after, removed_in, renewed_by, renewing, sessions, shows_other}
 use Rattle.sl_time.specs.Times.{fail}
@@ -34,7 +34,7 @@ use Rattle.sl_trace.specs.Traces.{Setting, Submitted, Trace, mark, submitted}
 use Rattle.sl_trace.specs.Connections.{unregisters}
 use Rattle.sl_trace.specs.declared.effects.Entry.{Entry}
 use Rattle.sl_trace.specs.declared.effects.JoinStep.TheVariants.{ClaimWrite}
-use Rattle.sl_watchdog_law.proofs.Finding.{call_inside, call_owner, find_inside}
+use Rattle.sl_watchdog_law.proofs.Finding.{call_inside, call_owner}
 use Rattle.sl_watchdog_law.proofs.Readings.{after_by, in_by}
 use Rattle.sl_watchdog_law.proofs.Renewing.{IsOpenRenewal}
 use Rattle.sl_watchdog_law.specs.Acting.{renewal_entry, renewal_in, renewal_told}
@@ -70,7 +70,7 @@ new_unmet e es s c none free =
       | inr new ↦ new.unmet
       | inl old ↦ let o : WasOpen (submitted es) c = was_marked es e e.input (submitted es) c old in
           absurd (not_both (is_free_purpose o.before.call.purpose) (ap (λ k. is_free_purpose k.purpose) (sym o.same.call) ∙ r.1)
-          (none_passes (λ (x : Submitted). is_free_purpose x.call.purpose) (calls_of es s) o.before none
+          (find_fails (λ (x : Submitted). is_free_purpose x.call.purpose) (calls_of es s) o.before none
           (call_inside es s o.before o.inside (ap (λ k. k.session) (sym o.same.call) ∙ own.1))))
     ]
 

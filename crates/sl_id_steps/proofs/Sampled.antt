@@ -4,6 +4,7 @@ use Rattle.sl_id_state.proofs.FindingFrames.{moved, own_mapped}
 use Rattle.sl_id_state.proofs.Frames.{claim_index, flying_of, free_landed_by, free_of, is_running, landed_as, landed_seq, open_while}
 use Rattle.sl_id_state.proofs.SectorFrames.{SameSector, sector_same}
 use Rattle.sl_id_state.specs.IdStates.{claim_may_land, deciding_sample, generation_above, generation_by, index_of, join_course, own_courses, runs_still, standing_of, verifying_sample}
+use Rattle.sl_id_steps.proofs.Fating.{stood}
 use Rattle.sl_ids.specs.State.{Session as IdSession}
 use Rattle.sl_run.specs.Events.{change_call, sampled_more}
 use Rattle.sl_run.specs.Safety.{Found, SessionId, free_landed, has_write_in_flight, is_course_of, is_over, trace_of, was_reset}
@@ -174,27 +175,8 @@ generation_still w v path offset s (Some x) =
     ap (λ ls. generation_above v.layout (numbered_landing ls x.index)) s.history
     ∙ ap (λ g. generation_above g (numbered_landing (history_of w path offset) x.index)) s.layout
 
-made_with : Bool → Bool → Bool → Bool → Bool → Bool → ℕ → ℕ → List ℕ → ℕ → ℕ → ℕ → ℕ → IdSession
-made_with a b c d e f g h i j k l m =
-    record {
-      begun = true;
-      decided = a;
-      pending = b;
-      landed = c;
-      verified = d;
-      joined = e;
-      over = f;
-      base = g;
-      claim = h;
-      name = i;
-      generation = j;
-      seq = k;
-      registered = l;
-      renewed = m;
-    }
-
-made_same : (s : IdSession) → s.begun ≡ true → s ≡ made_with s.decided s.pending s.landed s.verified s.joined s.over s.base s.claim s.name s.generation s.seq s.registered s.renewed
-unfolding made_with
+made_same : (s : IdSession) → s.begun ≡ true → s ≡ stood s.decided s.pending s.landed s.verified s.joined s.over s.base s.claim s.name s.generation s.seq s.registered s.renewed
+unfolding stood
 made_same s h =
     ap (λ b. let x : IdSession = record {
       begun = b;
@@ -218,8 +200,8 @@ pub same_parts : (s t : IdSession) → s.begun ≡ true → t.begun ≡ true →
     → t.joined ≡ s.joined → t.over ≡ s.over → t.base ≡ s.base → t.claim ≡ s.claim → t.name ≡ s.name → t.generation ≡ s.generation → t.seq ≡ s.seq
     → t.registered ≡ s.registered → t.renewed ≡ s.renewed → t ≡ s
 same_parts s t x y a b c d e f g h i j k l m =
-    let each : made_with t.decided t.pending t.landed t.verified t.joined t.over t.base t.claim t.name t.generation t.seq t.registered t.renewed
-    ≡ made_with s.decided s.pending s.landed s.verified s.joined s.over s.base s.claim s.name s.generation s.seq s.registered s.renewed = cc in
+    let each : stood t.decided t.pending t.landed t.verified t.joined t.over t.base t.claim t.name t.generation t.seq t.registered t.renewed
+    ≡ stood s.decided s.pending s.landed s.verified s.joined s.over s.base s.claim s.name s.generation s.seq s.registered s.renewed = cc in
     made_same t y ∙ each ∙ sym (made_same s x)
 
 made_still : (w : World) (n j : ℕ) (i : SessionId) (step : JoinStep) (f : Found)

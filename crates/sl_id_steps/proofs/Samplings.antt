@@ -12,7 +12,7 @@ use Rattle.sl_id_state.proofs.SectorFrames.{SameSector, sector_same, session_sam
 use Rattle.sl_id_state.proofs.StateFrames.{agree_on, name_cases, one_step}
 use Rattle.sl_id_state.specs.IdStates.{blank, deciding_sample, has_begun, id_state, is_sector_of, name_of, own_courses, session_at, session_named_so, standing_by, standing_of, verifying_sample}
 use Rattle.sl_id_state.specs.Promises.{IsIdPlace}
-use Rattle.sl_id_steps.proofs.Alive.{IsReading, number_is}
+use Rattle.sl_id_steps.proofs.Alive.{IsReading}
 use Rattle.sl_id_steps.proofs.Around.{SamplesOne}
 use Rattle.sl_id_steps.proofs.CallEvents.{CallEvent, do_flies, do_read_between, flight_is, sample_between, sample_event, sample_flies}
 use Rattle.sl_id_steps.proofs.Deciding.{DecidesNow, decides}
@@ -27,6 +27,8 @@ use Rattle.sl_ids.specs.Runs.{IsBounded, Later}
 use Rattle.sl_ids.specs.State.{Session as IdSession, SessionId as IdName}
 use Rattle.sl_ids.specs.Steps.{Decides, Verifies}
 use Rattle.sl_landing_law.proofs.Proven.{landings_are_written}
+use Rattle.sl_plain.proofs.Lists.{kept}
+use Rattle.sl_plain.proofs.Numbers.{refl_le}
 use Rattle.sl_run.specs.Events.{change_call, may_happen, sampled_more, sectors_left, sectors_of}
 use Rattle.sl_run.specs.Runs.{Happening}
 use Rattle.sl_run.specs.Safety.{Found, LawfulRun, SessionId, is_course_of, session_of_world, world_at}
@@ -36,14 +38,12 @@ use Rattle.sl_run.specs.declared.event.Event.{Event}
 use Rattle.sl_run.specs.declared.header.Header.{Header}
 use Rattle.sl_run_law.specs.Fates.{AreDistinct, EachDistinct}
 use Rattle.sl_sample_law.proofs.Proven.{sampled_are_sectors}
-use Rattle.sl_session_law.proofs.Naming.{kept as keeps}
 use Rattle.sl_sessions.specs.Sessions.{is_join_call}
 use Rattle.sl_trace.specs.declared.effects.JoinStep.TheVariants.{DecidingRead, VerifyRead}
 use Rattle.sl_trace.specs.declared.effects.JoinStep.{JoinStep}
-use Rattle.sl_words.proofs.CaseLaws.{true_is_false}
-use Rattle.std.proofs.Common.{ap, arith, inl, inr, refl, subst, sym, tests, ◌∙◌}
-use Rattle.std.proofs.lemmas.Bool.{and_from}
-use Rattle.std.specs.Prelude.{Bool, Contains, List, None, Option, Some, false, is_none, is_some, length, nat_lt, not, option_map, true, [], ℕ, ◌&&◌, ◌-◌, ◌==◌, ◌||◌, ◌≡◌, ◌≤◌}
+use Rattle.std.proofs.Common.{ap, inl, inr, refl, subst, sym, ◌∙◌}
+use Rattle.std.proofs.lemmas.Bool.{and_from, eq-eqb, ltb-false, not-true}
+use Rattle.std.specs.Prelude.{Bool, Contains, List, None, Option, Some, false, is_none, is_some, length, option_map, true, [], ℕ, ◌&&◌, ◌-◌, ◌==◌, ◌||◌, ◌≡◌, ◌≤◌}
 
 -- ---- the call that is sampled
 
@@ -60,16 +60,6 @@ record SamplingCall (w : World) (e : Event) : Type 0 where
   reads : is_write_course course ≡ false
   few : j ≤ sectors_of course.call.op - length course.samples
 
-not_true : (b : Bool) → not b ≡ true → b ≡ false
-not_true false h = refl
-not_true true h = absurd (true_is_false (sym h))
-
-not_more : (a b : ℕ) → nat_lt a b ≡ false → b ≤ a
-not_more a b h = grind (arith, tests)
-
-same_number : (n : ℕ) → n ≤ n
-same_number n = omega arith
-
 sampling_call : (w : World) (e : Event) → IsSamplingEvent w e → may_happen w e ≡ true → EachDistinct w → SamplingCall w e
 sampling_call w (Sample m n k) kind may distinct =
     let f = sample_flies w m n k may in
@@ -82,8 +72,8 @@ sampling_call w (Sample m n k) kind may distinct =
       event = sample_event w (Sample m n k) m n k f (sample_between w m n k) (distinct m f.machine f.at);
       at = f.at;
       flight = f.flight;
-      reads = not_true (is_write_course f.course) f.holds.1;
-      few = not_more (sectors_left f.course) k f.holds.2;
+      reads = not-true (is_write_course f.course) f.holds.1;
+      few = ltb-false (sectors_left f.course) k f.holds.2;
     }
 sampling_call w (Do m n) kind may distinct =
     let f = do_flies w m n may in
@@ -98,7 +88,7 @@ sampling_call w (Do m n) kind may distinct =
       at = f.at;
       flight = f.flight;
       reads = reads;
-      few = same_number (sectors_left f.course);
+      few = refl_le (sectors_left f.course);
     }
 sampling_call w (Pass d growths) kind may distinct = absurd kind
 sampling_call w (WakeUp m) kind may distinct = absurd kind
@@ -221,8 +211,8 @@ its_of p h now x path offset s f at =
     let flight : flight_of f.machine s.call.n ≡ Some c = ap (λ a. flight_of a s.call.n) machine ∙ s.call.flight in
     let has : Contains f.machine.calls c = (find_passes (λ y. y.call.number == s.call.n && is_open f.machine y) f.machine.calls c flight).there in
     let own : Contains (own_courses i f.machine) c =
-    keeps (is_course_of i) f.machine.calls c
-    (and_from (c.daemon == c.daemon) (c.call.session == c.call.session) (number_is c.daemon c.daemon refl) (number_is c.call.session c.call.session refl)) has in
+    kept (is_course_of i) f.machine.calls c
+    (and_from (c.daemon == c.daemon) (c.call.session == c.call.session) (eq-eqb c.daemon c.daemon refl) (eq-eqb c.call.session c.call.session refl)) has in
     record {
       at = at;
       machine = machine;

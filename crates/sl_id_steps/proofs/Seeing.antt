@@ -1,33 +1,29 @@
 -- Through an entry what the reads of a joining have shown stays.
 use Rattle.sl_course_law.specs.Stamping.{stamp_in}
-use Rattle.sl_id_state.proofs.Listing.{map_some, then_some}
 use Rattle.sl_id_state.proofs.Proven.{deciding_reads_have_watched, verify_reads_have_claimed}
+use Rattle.sl_id_state.proofs.Timing.{refused_by}
 use Rattle.sl_id_state.specs.Facts.{HasClaimed, HasWatched}
 use Rattle.sl_id_state.specs.IdStates.{claim_bytes, comes_before, deciding_sample, join_course, own_courses, refused_stamp, sample_showing, verifying_sample, watched_bytes}
 use Rattle.sl_id_steps.proofs.OwnCalls.{IsFresh, IsKept, JoinGoes, Through, closed, closes, had_step, join_goes, kept}
+use Rattle.sl_plain.proofs.Lists.{contains_first}
 use Rattle.sl_run.specs.Events.{write_bytes}
 use Rattle.sl_run.specs.Runs.{Happening}
 use Rattle.sl_run.specs.Safety.{Found, SessionId, world_at}
 use Rattle.sl_run.specs.Worlds.{Course, Program, Sampling, Stamp, World, is_landed}
 use Rattle.sl_run.specs.declared.header.Header.{Header}
-use Rattle.sl_session_law.proofs.Making.{contains_first}
 use Rattle.sl_session_law.proofs.Staying.{refused_more}
-use Rattle.sl_sessions.specs.Sessions.{Session, is_join_done, refused_after}
-use Rattle.sl_trace.specs.Traces.{Replied, Trace, reply_in, reply_to}
+use Rattle.sl_sessions.specs.Sessions.{Session, refused_after}
+use Rattle.sl_trace.specs.Traces.{Trace}
 use Rattle.sl_trace.specs.declared.effects.Entry.{Entry}
-use Rattle.sl_trace.specs.declared.effects.JobReply.{JobReply}
 use Rattle.sl_trace.specs.declared.effects.JoinStep.TheVariants.{ClaimWrite, DecidingRead, FirstRead, VerifyRead}
 use Rattle.sl_trace.specs.declared.effects.JoinStep.{JoinStep}
-use Rattle.sl_words.proofs.CaseLaws.{no_value, none_some, one_value, some_value, true_is_false}
-use Rattle.sl_words.proofs.WordLaws.{choose_some}
+use Rattle.sl_words.proofs.CaseLaws.{none_some, one_value, some_value, true_is_false}
 use Rattle.sl_words.specs.Words.{choose, first_of_list, some_is}
 use Rattle.std.proofs.Common.{ap, arith, refl, subst, sym, tests, ◌∙◌}
-use Rattle.std.specs.Prelude.{Bool, Contains, List, None, Option, Some, bytes_eq, false, find, length, nat_lt, not, option_and_then, option_map, suc, true, [], ℕ, ◌&&◌, ◌+◌, ◌-◌, ◌<◌, ◌==◌, ◌∷◌, ◌≡◌, ◌≤◌}
+use Rattle.std.proofs.lemmas.Bool.{lt-ltb}
+use Rattle.std.specs.Prelude.{Bool, Contains, List, None, Option, Some, bytes_eq, false, length, option_and_then, option_map, suc, true, [], ℕ, ◌&&◌, ◌+◌, ◌-◌, ◌<◌, ◌==◌, ◌∷◌, ◌≡◌, ◌≤◌}
 
 -- ---- a refusal
-
-less_is : (a b : ℕ) → a < b → nat_lt a b ≡ true
-less_is a b h = grind (arith, tests)
 
 too_far : (k n : ℕ) → suc n ≤ k → (k == n) ≡ true → ⊥
 too_far k n le is = grind (arith, tests)
@@ -47,32 +43,8 @@ reaches k n is = grind (arith, tests)
 later_stamp : (now : Stamp) (ss : List Stamp) (k : ℕ) (y : Sampling) → y.step < now.step → (b : Bool) → (k == length ss) ≡ b
     → comes_before (elim b as (λ z. Option Stamp) [ true ↦ Some now | false ↦ stamp_in ss k ]) y ≡ comes_before (stamp_in ss k) y
 later_stamp now ss k y lt true is =
-    less_is y.step now.step lt ∙ sym (ap (λ o. comes_before o y) (past_none ss k (reaches k (length ss) is)))
+    lt-ltb y.step now.step lt ∙ sym (ap (λ o. comes_before o y) (past_none ss k (reaches k (length ss) is)))
 later_stamp now ss k y lt false is = refl
-
-abbrev if_refused : Replied → Option ℕ
-if_refused r = choose (not (is_join_done r.reply)) (r.at + 1)
-
-abbrev replied_as : Trace → JobReply → Replied
-replied_as es a = record { at = length es; reply = a.reply }
-
-refused_now : (e : Entry) (es : Trace) (j k : ℕ) (o : Option Replied) → reply_to es j ≡ o → option_and_then if_refused o ≡ None
-    → option_and_then if_refused (elim o as (λ z. Option Replied) [ Some r ↦ Some r | None ↦ reply_in j es e ]) ≡ Some k → k ≡ length es + 1
-refused_now e es j k (Some r) is none h = absurd (no_value k (if_refused r) h none)
-refused_now e es j k None is none h =
-    let r = then_some if_refused (reply_in j es e) k h in
-    let a = map_some (replied_as es) (find (λ (x : JobReply). x.job == j) e.effects.replies) r.0 r.1 in
-    let at : r.0.at ≡ length es = ap (λ (x : Replied). x.at) (sym a.2) in
-    sym (choose_some (not (is_join_done r.0.reply)) (r.0.at + 1) k r.2).1 ∙ ap (λ n. n + 1) at
-
--- A refusal that an entry brings is of that entry.
-refused_by : (e : Entry) (es : Trace) (s : Session) (k : ℕ) (job : Option ℕ) → s.job ≡ job → refused_after es s ≡ None → refused_after (e ∷ es) s ≡ Some k → k ≡ length es + 1
-refused_by e es s k None is none h =
-    absurd (none_some k (ap (λ q. elim q as (λ z. Option ℕ) [ None ↦ None | Some j ↦ option_and_then if_refused (reply_to (e ∷ es) j) ]) (sym is) ∙ h))
-refused_by e es s k (Some j) is none h =
-    refused_now e es j k (reply_to es j) refl
-    (ap (λ q. elim q as (λ z. Option ℕ) [ None ↦ None | Some i ↦ option_and_then if_refused (reply_to es i) ]) (sym is) ∙ none)
-    (ap (λ q. elim q as (λ z. Option ℕ) [ None ↦ None | Some i ↦ option_and_then if_refused (reply_to (e ∷ es) i) ]) (sym is) ∙ h)
 
 its_place : (k n m : ℕ) → k ≡ n + 1 → m ≡ n → (k - 1 == m) ≡ true
 its_place k n m is same = grind (arith, tests)
@@ -84,7 +56,7 @@ refusal_by e es s now ss y lt even None None was is = refl
 refusal_by e es s now ss y lt even None (Some k) was is =
     ap (λ b. comes_before (elim b as (λ z. Option Stamp) [ true ↦ Some now | false ↦ stamp_in ss (k - 1) ]) y)
     (its_place k (length es) (length ss) (refused_by e es s k s.job refl was is) even)
-    ∙ less_is y.step now.step lt
+    ∙ lt-ltb y.step now.step lt
 refusal_by e es s now ss y lt even (Some k) None was is = absurd (none_some k (sym is ∙ refused_more e es s k was))
 refusal_by e es s now ss y lt even (Some k) (Some j) was is =
     later_stamp now ss (j - 1) y lt (j - 1 == length ss) refl

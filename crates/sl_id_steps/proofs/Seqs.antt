@@ -1,4 +1,5 @@
 -- What a session takes from the landings at its sector where one more of its own comes.
+use Rattle.sl_id_state.proofs.CallFrames.{index_other}
 use Rattle.sl_id_state.proofs.LandingFrames.{Grows, landing_at}
 use Rattle.sl_id_state.proofs.SectorFrames.{seqs_same}
 use Rattle.sl_id_state.proofs.StateFrames.{name_is, name_itself}
@@ -9,11 +10,11 @@ use Rattle.sl_id_steps.proofs.OwnSeqs.{FirstIsOther}
 use Rattle.sl_ids.specs.Invariant.{HasBase, Invariant}
 use Rattle.sl_ids.specs.State.{Content, SessionId as IdName, State}
 use Rattle.sl_ids.specs.Terms.{Terms}
+use Rattle.sl_plain.proofs.Lists.{contains_cases, contains_first, contains_more, contains_none}
 use Rattle.sl_run.specs.Safety.{Found, SessionId}
 use Rattle.sl_run.specs.Worlds.{Fate, Landing, World, first_landing, history_of, landed_at}
 use Rattle.sl_sample_law.proofs.Numbering.{newest_number, number_below, number_stays}
 use Rattle.sl_sample_law.specs.Samples.{numbered_landing}
-use Rattle.sl_session_law.proofs.Making.{contains_cases, contains_first, contains_more, contains_none}
 use Rattle.sl_sessions.specs.Sessions.{given_number}
 use Rattle.sl_words.proofs.CaseLaws.{none_some, one_value, true_is_false}
 use Rattle.sl_words.proofs.WordLaws.{and_true, some_is_true}
@@ -24,7 +25,7 @@ use Rattle.std.specs.Prelude.{Bool, Contains, List, None, Option, Some, false, i
 
 -- ---- numbers
 
-has_number : (ls : List Landing) (l : Landing) → Contains ls l → (k : ℕ) × (numbered_landing ls k ≡ Some l)
+pub has_number : (ls : List Landing) (l : Landing) → Contains ls l → (k : ℕ) × (numbered_landing ls k ≡ Some l)
 has_number [] l there = absurd (contains_none l there)
 has_number (x ∷ ls) l there =
     elim (contains_cases x ls l there) as (λ z. (k : ℕ) × (numbered_landing (x ∷ ls) k ≡ Some l)) [
@@ -164,10 +165,6 @@ index_left : (p : ℕ × ℕ) (l : Landing) (ls : List Landing) (b : Bool) → b
 index_left p l ls true h = refl
 index_left p l ls false h = absurd (true_is_false (sym h))
 
-index_past : (p : ℕ × ℕ) (l : Landing) (ls : List Landing) (b : Bool) → b ≡ false → elim b as (λ z. ℕ) [ true ↦ length ls | false ↦ index_of p ls ] ≡ index_of p ls
-index_past p l ls true h = absurd (true_is_false h)
-index_past p l ls false h = refl
-
 pub index_new : (w v : World) (path : List ℕ) (offset : ℕ) (p : ℕ × ℕ) (l : Landing) → Grows w v path offset (l ∷ []) → is_left_by p l ≡ true
     → index_of p (history_of v path offset) ≡ length (history_of w path offset)
 index_new w v path offset p l g left =
@@ -176,4 +173,4 @@ index_new w v path offset p l g left =
 pub index_old : (w v : World) (path : List ℕ) (offset : ℕ) (p : ℕ × ℕ) (l : Landing) → Grows w v path offset (l ∷ []) → is_left_by p l ≡ false
     → index_of p (history_of v path offset) ≡ index_of p (history_of w path offset)
 index_old w v path offset p l g left =
-    ap (index_of p) g.history ∙ index_past p l (history_of w path offset) (is_left_by p l) left
+    ap (index_of p) g.history ∙ index_other p l (history_of w path offset) (is_left_by p l) left

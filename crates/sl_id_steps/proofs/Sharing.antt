@@ -5,17 +5,20 @@ use Rattle.sl_area.specs.Places.{delta_offset, in_area}
 use Rattle.sl_front_law.proofs.Having.{contains_append}
 use Rattle.sl_id_state.proofs.Bridge.{known}
 use Rattle.sl_id_state.proofs.Proven.{deciding_reads_have_watched, grounds, join_reads_are_own}
-use Rattle.sl_id_state.proofs.SampleFrames.{deciding_is, join_is, kept, one_sector, read_is_own}
+use Rattle.sl_id_state.proofs.SampleFrames.{deciding_is, join_is, one_sector, read_is_own}
 use Rattle.sl_id_state.proofs.Steps.{is_sampled}
 use Rattle.sl_id_state.specs.Facts.{HasWatched}
 use Rattle.sl_id_state.specs.IdStates.{deciding_sample, has_begun, is_sector_of}
 use Rattle.sl_id_state.specs.Promises.{IsIdPlace}
-use Rattle.sl_id_steps.proofs.Alive.{same_numbers}
 use Rattle.sl_place_law.proofs.Areas.{lockspace_aligned, one_lockspace, same_base}
 use Rattle.sl_place_law.proofs.Beginnings.{In_lockspace, In_resource, IsInitial}
 use Rattle.sl_place_law.proofs.Checks.{shows_its_id}
+use Rattle.sl_place_law.proofs.Finding.{numbered_inside}
 use Rattle.sl_place_law.proofs.Reading.{layout_is}
-use Rattle.sl_place_law.proofs.Seats.{delta_in_is, delta_within, given_seated, initial_in, sized_in}
+use Rattle.sl_place_law.proofs.Seats.{delta_in_is, delta_within, given_seated, initial_in, same_delta, sized_in}
+use Rattle.sl_plain.proofs.Lists.{contains_cases, contains_none, got_inside, kept_inside}
+use Rattle.sl_plain.proofs.Numbers.{no_times_more}
+use Rattle.sl_plain.proofs.Options.{none_is, some_there}
 use Rattle.sl_run.specs.Runs.{Happening}
 use Rattle.sl_run.specs.Safety.{Found, LawfulRun, SessionId, session_of_world, world_at}
 use Rattle.sl_run.specs.Worlds.{Course, Landing, Program, Sampling, World, first_landing, history_of, landed_at}
@@ -25,16 +28,14 @@ use Rattle.sl_sample_law.specs.Samples.{IsSampleOf, numbered_landing, sector_pla
 use Rattle.sl_sector.specs.Spelling.{delta_in}
 use Rattle.sl_sector.specs.declared.sector.DeltaRec.{DeltaRec}
 use Rattle.sl_sector.specs.declared.sector.Rec.TheVariants.{DeltaIs}
-use Rattle.sl_session_law.proofs.Making.{contains_cases, contains_first, contains_more, contains_none}
-use Rattle.sl_session_law.proofs.Owning.{got_inside}
 use Rattle.sl_sessions.specs.Sessions.{sessions}
 use Rattle.sl_trace.specs.Traces.{same_place}
 use Rattle.sl_trace.specs.declared.effects.JoinStep.TheVariants.{DecidingRead, FirstRead}
-use Rattle.sl_words.proofs.CaseLaws.{false_is_true, none_some, some_value}
-use Rattle.sl_words.proofs.WordLaws.{and_true}
-use Rattle.std.proofs.Common.{ap, arith, inl, inr, refl, subst, sym, ◌∙◌}
+use Rattle.sl_words.proofs.WordLaws.{and_true, or_true}
+use Rattle.std.proofs.Common.{ap, inl, inr, refl, subst, sym, ◌∙◌}
+use Rattle.std.proofs.lemmas.Bool.{eqb-true}
 use Rattle.std.proofs.lemmas.Slice.Eq.{bytes_eq-Decides}
-use Rattle.std.specs.Prelude.{Bool, Contains, IsTrue, List, None, Option, Some, bytes_eq, false, is_none, is_some, length, true, [], ℕ, ◌*◌, ◌+◌, ◌==◌, ◌||◌, ◌∷◌, ◌≡◌, ◌≤◌, ◌⊎◌}
+use Rattle.std.specs.Prelude.{Contains, IsTrue, List, None, Some, bytes_eq, is_none, is_some, true, [], ℕ, ◌==◌, ◌∷◌, ◌≡◌, ◌≤◌}
 
 -- ---- the line of the place
 
@@ -63,10 +64,7 @@ one_line p h xs run path offset k l there at inside =
 
 place_is : (path other : List ℕ) (offset at : ℕ) → same_place path offset other at ≡ true → (path ≡ other) × (offset ≡ at)
 place_is path other offset at h =
-    let p = and_true (offset == at) (bytes_eq path other) h in ((bytes_eq-Decides path other).0 p.1, same_numbers offset at p.0)
-
-same_delta : (d e : DeltaRec) → DeltaIs d ≡ DeltaIs e → d ≡ e
-same_delta d e h = cc
+    let p = and_true (offset == at) (bytes_eq path other) h in ((bytes_eq-Decides path other).0 p.1, eqb-true offset at p.0)
 
 first_name : (p : Program) (h : Header) (xs : List Happening) → LawfulRun p h xs → (path : List ℕ) (offset : ℕ) → (k : IsIdPlace p h path offset) → (d : DeltaRec)
     → IsInitial (world_at p h xs).layout h path offset (DeltaIs d) → d.lockspace ≡ k.lockspace.name
@@ -78,7 +76,7 @@ landed_name : (p : Program) (h : Header) (xs : List Happening) → LawfulRun p h
     → delta_in (record_in (world_at p h xs).layout l.bytes) ≡ Some d → Contains (landed_at (world_at p h xs) path offset) l → d.lockspace ≡ k.lockspace.name
 landed_name p h xs run path offset k l d spelled has =
     let w : World = world_at p h xs in
-    let q = kept (λ x. same_place x.path x.offset path offset) w.landings l has in
+    let q = kept_inside (λ x. same_place x.path x.offset path offset) w.landings l has in
     let at = place_is l.path path l.offset offset q.1 in
     let s = shows_its_id p h xs run k.lockspace k.has l q.0 (at.0 ∙ k.is_path)
     (subst (λ o. IsTrue (in_area w.layout k.lockspace.offset o)) (sym at.1) (inside_line p h xs run path offset k)) (DeltaIs d)
@@ -100,15 +98,6 @@ shown_name p h xs run path offset k l d spelled has =
       ]
     ]
 
-numbered_by : (b : Bool) (l : Landing) (ls : List Landing) (k : ℕ) (x : Landing) → (numbered_landing ls k ≡ Some x → Contains ls x)
-    → elim b as (λ z. Option Landing) [ true ↦ Some l | false ↦ numbered_landing ls k ] ≡ Some x → Contains (l ∷ ls) x
-numbered_by true l ls k x rest h = subst (Contains (l ∷ ls)) (some_value l x h) (contains_first l ls)
-numbered_by false l ls k x rest h = contains_more l ls x (rest h)
-
-pub numbered_there : (ls : List Landing) (k : ℕ) (x : Landing) → numbered_landing ls k ≡ Some x → Contains ls x
-numbered_there [] k x h = absurd (none_some x h)
-numbered_there (l ∷ ls) k x h = numbered_by (k == length ls) l ls k x (numbered_there ls k x) h
-
 -- ---- what a first read showed
 
 -- The landing that the first read of a watch showed.
@@ -119,9 +108,6 @@ pub record FirstShown (w : World) (path : List ℕ) (offset : ℕ) (first : Cour
   pub bytes : landing.bytes ≡ first.sampled
   pub shows : IsSampleOf w first 0 sample
   pub moment : landing.moment ≤ sample.moment
-
-pub no_more : (n s : ℕ) → n + 0 * s ≡ n
-no_more n s = omega arith
 
 pub first_shown : (p : Program) (h : Header) (xs : List Happening) → LawfulRun p h xs → (path : List ℕ) (offset : ℕ) (i : SessionId) (f : Found)
     → session_of_world (world_at p h xs) i ≡ Some f → is_sector_of (world_at p h xs).layout path offset f.session ≡ true → (c : Course)
@@ -136,7 +122,7 @@ first_shown p h xs run path offset i f at sector c q =
     record {
       sample = s.sample;
       landing = s.shows.landing;
-      seen = ap (λ n. numbered_landing (history_of w path n) s.sample.index) (sym e.1 ∙ sym (no_more q.first.call.offset w.layout.sector))
+      seen = ap (λ n. numbered_landing (history_of w path n) s.sample.index) (sym e.1 ∙ sym (no_times_more q.first.call.offset w.layout.sector))
           ∙ ap (λ x. numbered_landing (history_of w x (sector_place w q.first 0)) s.sample.index) (sym e.0) ∙ s.shows.seen;
       bytes = sym s.shows.bytes ∙ s.sector;
       shows = s.shows;
@@ -169,29 +155,17 @@ watching_name p h xs run path offset k i f at sector c q =
     let s = first_shown p h xs run path offset i f at sector c q in
     sym q.names.0
     ∙ shown_name p h xs run path offset k s.landing q.found (ap (λ bs. delta_in (record_in w.layout bs)) s.bytes ∙ q.spelled)
-    (numbered_there (history_of w path offset) s.sample.index s.landing s.seen)
-
-either : (a b : Bool) → (a || b) ≡ true → (a ≡ true) ⊎ (b ≡ true)
-either true b h = inl refl
-either false b h = inr h
-
-is_nothing : (o : Option ℕ) → is_none o ≡ true → o ≡ None
-is_nothing None h = refl
-is_nothing (Some n) h = absurd (false_is_true h)
-
-is_there : (o : Option Sampling) → is_some o ≡ true → (x : Sampling) × (o ≡ Some x)
-is_there None h = absurd (false_is_true h)
-is_there (Some x) h = (x, refl)
+    (numbered_inside (history_of w path offset) s.sample.index s.landing s.seen)
 
 -- A session that has begun there is of the lockspace.
 pub begun_name : (p : Program) (h : Header) (xs : List Happening) → LawfulRun p h xs → (path : List ℕ) (offset : ℕ) → (k : IsIdPlace p h path offset) → (i : SessionId) (f : Found)
     → session_of_world (world_at p h xs) i ≡ Some f → is_sector_of (world_at p h xs).layout path offset f.session ≡ true → has_begun i f ≡ true
     → f.session.lockspace ≡ k.lockspace.name
 begun_name p h xs run path offset k i f at sector begun =
-    elim (either (is_none f.session.job) (is_some (deciding_sample i f)) begun) as (λ z. f.session.lockspace ≡ k.lockspace.name) [
-      | inl given ↦ given_name p h xs run path offset k i f at sector (is_nothing f.session.job given)
+    elim (or_true (is_none f.session.job) (is_some (deciding_sample i f)) begun) as (λ z. f.session.lockspace ≡ k.lockspace.name) [
+      | inl given ↦ given_name p h xs run path offset k i f at sector (none_is f.session.job given)
       | inr decided ↦
-          let x = is_there (deciding_sample i f) decided in
+          let x = some_there (deciding_sample i f) decided in
           let d = deciding_is i f x.0 x.1 in
           let j = join_is i DecidingRead f.machine d.course d.at in
           watching_name p h xs run path offset k i f at sector d.course (deciding_reads_have_watched p h xs run i f d.course at j.own j.joins)

@@ -1,36 +1,36 @@
 -- Through an entry a session stands as before, but for whether its claim may land, whether it is over or joined, and since when it acts.
 use Rattle.sl_course_law.proofs.Distinct.{each_distinct}
 use Rattle.sl_front_law.proofs.Having.{contains_append}
+use Rattle.sl_id_state.proofs.Bounding.{not_looking}
 use Rattle.sl_id_state.proofs.FindingFrames.{find_passes}
 use Rattle.sl_id_state.proofs.Keeping.{own_call, step_law}
+use Rattle.sl_id_state.proofs.Renewing.{given_joined}
 use Rattle.sl_id_state.proofs.SectorFrames.{SameSector, sector_same}
 use Rattle.sl_id_state.proofs.Tails.{front_at}
 use Rattle.sl_id_state.specs.IdStates.{claim_may_land, deciding_sample, generation_by, has_begun, index_of, is_left_by, join_course, name_of, own_courses, renewed_by_now, sample_showing, seq_left, standing_of, verifying_sample, watched_bytes}
-use Rattle.sl_id_steps.proofs.OtherSessions.{distinct_one}
 use Rattle.sl_id_steps.proofs.OwnCalls.{IsFresh, IsKept, JoinGoes, Through, closed, closes, join_goes, kept, knows}
 use Rattle.sl_id_steps.proofs.Seeing.{deciding_stays, verifying_stays}
 use Rattle.sl_ids.specs.State.{Session as IdSession}
+use Rattle.sl_landing_law.proofs.Listing.{one_call}
 use Rattle.sl_landing_law.proofs.Proven.{landings_are_written}
-use Rattle.sl_landing_law.specs.Landings.{HasWriter, LeftBy}
-use Rattle.sl_place_law.proofs.Finding.{filtered}
+use Rattle.sl_landing_law.proofs.Writers.{writer_settled}
+use Rattle.sl_landing_law.specs.Landings.{HasWriter}
+use Rattle.sl_plain.proofs.Lists.{contains_cases, contains_first, contains_more, contains_none, kept_inside}
+use Rattle.sl_plain.proofs.Options.{none_is}
 use Rattle.sl_run.specs.Runs.{Happening}
 use Rattle.sl_run.specs.Safety.{Found, SessionId, is_course_of, is_over, trace_of, world_at}
 use Rattle.sl_run.specs.Worlds.{Course, In_flight, Landing, Program, Sampling, World, first_landing, history_of, is_in_flight, is_landed, landed_at, machine_at}
 use Rattle.sl_run.specs.declared.header.Header.{Header}
-use Rattle.sl_sector.specs.declared.sector.Rec.{Rec}
-use Rattle.sl_session_law.proofs.Making.{contains_cases, contains_first, contains_more, contains_none}
-use Rattle.sl_session_law.proofs.Silence.{stage_by}
-use Rattle.sl_sessions.specs.Sessions.{Session, calls_of, free_write, given_number, is_join_call, joined_after, refused_after, removed_after, stage_in}
-use Rattle.sl_sessions.specs.declared.stage.Stage.TheVariants.{Looking}
-use Rattle.sl_sessions.specs.declared.stage.Stage.{Stage}
-use Rattle.sl_trace.specs.Traces.{Submitted, Trace, same_place}
+use Rattle.sl_sessions.specs.Sessions.{calls_of, free_write, given_number, is_join_call, joined_after, refused_after, removed_after, stage_in}
+use Rattle.sl_trace.specs.Traces.{Trace, same_place}
 use Rattle.sl_trace.specs.declared.effects.JoinStep.TheVariants.{ClaimWrite, DecidingRead}
-use Rattle.sl_words.proofs.CaseLaws.{is_false, none_some, one_value, true_is_false}
-use Rattle.sl_words.proofs.WordLaws.{and_true}
+use Rattle.sl_words.proofs.CaseLaws.{is_false, one_value, true_is_false}
+use Rattle.sl_words.proofs.WordLaws.{and_true, or_true}
 use Rattle.sl_words.specs.Words.{greatest, some_is}
-use Rattle.std.proofs.Common.{ap, arith, inl, inr, refl, subst, sym, tests, ◌∙◌}
+use Rattle.std.proofs.Common.{ap, arith, inl, inr, refl, subst, sym, ◌∙◌}
+use Rattle.std.proofs.lemmas.Bool.{eq-eqb, eqb-true}
 use Rattle.std.specs.Option.{option_map_or}
-use Rattle.std.specs.Prelude.{Bool, Contains, List, None, Option, Some, false, is_none, is_some, length, map, option_and_then, true, [], ℕ, ◌&&◌, ◌==◌, ◌||◌, ◌∷◌, ◌≡◌, ◌⊎◌}
+use Rattle.std.specs.Prelude.{Bool, Contains, List, None, Option, Some, false, is_none, is_some, length, map, option_and_then, true, [], ℕ, ◌&&◌, ◌==◌, ◌||◌, ◌∷◌, ◌≡◌}
 
 -- ---- a state by its fields
 
@@ -93,16 +93,6 @@ index_none : (q : ℕ × ℕ) (ls : List Landing) → ((l : Landing) → Contain
 index_none q [] h = refl
 index_none q (l ∷ ls) h = index_by l ls q (h l (contains_first l ls)) (index_none q ls (λ k has. h k (contains_more l ls k has)))
 
-same_numbers : (m n : ℕ) → (m == n) ≡ true → m ≡ n
-same_numbers m n h = grind (arith, tests)
-
-is_number : (m n : ℕ) → m ≡ n → (m == n) ≡ true
-is_number m n h = grind (arith, tests)
-
-left_done : (w : World) (l : Landing) (c : Course) (r : Rec) → LeftBy w l c r → is_in_flight c.fate ≡ false
-left_done w l c r (inl x) = ap (λ y. is_in_flight y) x.1
-left_done w l c r (inr x) = ap (λ y. is_in_flight y) x.1
-
 -- A call in flight has left nothing.
 nothing_left : {p : Program} {h : Header} {xs : List Happening} {w : World} {i : SessionId} {f g : Found} (t : Through p h xs w i f g) (c : Course)
     → Contains (own_courses i g.machine) c → c.fate ≡ In_flight → (l : Landing) → Contains (world_at p h xs).landings l → is_left_by (i.machine, c.call.number) l ≡ true → ⊥
@@ -113,12 +103,12 @@ nothing_left {p = p} {h = h} {xs = xs} {i = i} {g = g} t c own flies l has left 
     sym (ap (λ o. some_is (λ (z : ℕ × ℕ). z.0 == i.machine && z.1 == c.call.number) o) x.named) ∙ (and_true l.whole _ left).1 in
     let both = and_true (x.machine == i.machine) (x.call == c.call.number) named in
     let a : x.wrote.machine ≡ g.machine =
-    one_value x.wrote.machine g.machine (machine_at v i.machine) (ap (machine_at v) (sym (same_numbers x.machine i.machine both.0)) ∙ x.wrote.at) (knows t).there.at in
+    one_value x.wrote.machine g.machine (machine_at v i.machine) (ap (machine_at v) (sym (eqb-true x.machine i.machine both.0)) ∙ x.wrote.at) (knows t).there.at in
     let one : x.wrote.course ≡ c =
-    distinct_one g.machine.calls x.wrote.course c (each_distinct p h xs t.run i.machine g.machine (knows t).there.at)
-    (subst (λ m. Contains m.calls x.wrote.course) a x.wrote.has) (filtered (is_course_of i) g.machine.calls c own).0
-    (is_number x.wrote.course.call.number c.call.number (x.wrote.number ∙ same_numbers x.call c.call.number both.1)) in
-    true_is_false (sym (ap (λ y. is_in_flight y) flies) ∙ sym (ap (λ y. is_in_flight y.fate) one) ∙ left_done v l x.wrote.course x.wrote.record_written x.wrote.left)
+    one_call g.machine.calls x.wrote.course c (each_distinct p h xs t.run i.machine g.machine (knows t).there.at)
+    (subst (λ m. Contains m.calls x.wrote.course) a x.wrote.has) (kept_inside (is_course_of i) g.machine.calls c own).0
+    (eq-eqb x.wrote.course.call.number c.call.number (x.wrote.number ∙ eqb-true x.call c.call.number both.1)) in
+    true_is_false (sym (ap (λ y. is_in_flight y) flies) ∙ sym (ap (λ y. is_in_flight y.fate) one) ∙ writer_settled v l x.wrote.course x.wrote.record_written x.wrote.left)
 
 no_index : {p : Program} {h : Header} {xs : List Happening} {w : World} {i : SessionId} {f g : Found} (t : Through p h xs w i f g) (path : List ℕ) (offset : ℕ) (c : Course)
     → Contains (own_courses i g.machine) c → c.fate ≡ In_flight → index_of (i.machine, c.call.number) (history_of (world_at p h xs) path offset) ≡ 0
@@ -127,7 +117,7 @@ no_index {p = p} {h = h} {xs = xs} {i = i} t path offset c own flies =
     index_none (i.machine, c.call.number) (history_of v path offset) (λ l has.
     elim (contains_append (landed_at v path offset) (first_landing v path offset ∷ []) l has) as (λ z. is_left_by (i.machine, c.call.number) l ≡ false) [
       | inl here ↦ is_false (is_left_by (i.machine, c.call.number) l)
-          (nothing_left t c own flies l (filtered (λ (k : Landing). same_place k.path k.offset path offset) v.landings l here).0)
+          (nothing_left t c own flies l (kept_inside (λ (k : Landing). same_place k.path k.offset path offset) v.landings l here).0)
       | inr first ↦ elim (contains_cases (first_landing v path offset) [] l first) as (λ z. is_left_by (i.machine, c.call.number) l ≡ false) [
         | inl e ↦ ap (λ k. is_left_by (i.machine, c.call.number) k) (sym e)
         | inr more ↦ absurd (contains_none l more)
@@ -152,21 +142,6 @@ index_stays {p = p} {h = h} {xs = xs} {w = w} {i = i} t path offset (Some c) (So
 
 -- ---- its deciding read
 
--- A session that is joined makes no deciding read.
-not_looking : (joined removed refused : Option ℕ) (free : Option Submitted) (joining : Stage) (k : ℕ) → joined ≡ Some k
-    → stage_by joined removed refused free joining ≡ Looking → ⊥
-not_looking None removed refused free joining k is h = none_some k is
-not_looking (Some j) (Some r) refused free joining k is h = absurd cc
-not_looking (Some j) None refused (Some m) joining k is h = absurd cc
-not_looking (Some j) None refused None joining k is h = absurd cc
-
-job_none : (o : Option ℕ) → is_none o ≡ true → o ≡ None
-job_none None h = refl
-job_none (Some j) h = absurd (true_is_false (sym h))
-
-given_joined : (es : Trace) (s : Session) → s.job ≡ None → joined_after es s ≡ Some 0
-given_joined es s none = ap (λ o. joined_after es (record s { job = o })) none
-
 no_deciding : {p : Program} {h : Header} {xs : List Happening} {w : World} {i : SessionId} {f g : Found} (t : Through p h xs w i f g) → f.session.job ≡ None
     → (c : Course) → join_course i DecidingRead g.machine ≡ Some c → ⊥
 no_deciding {p = p} {h = h} {xs = xs} {i = i} {g = g} t none c at =
@@ -190,18 +165,14 @@ registered_by t (Some c) (Some x) goes new =
     let k : IsKept c (closed t.stamp t.entry.input c) = kept t.stamp t.entry.input c in
     ap (λ y. y.made.moment) goes ∙ ap (λ y. y.moment) k.made
 
-begun_cases : (a b : Bool) → (a || b) ≡ true → (a ≡ true) ⊎ (b ≡ true)
-begun_cases true b h = inl refl
-begun_cases false b h = inr h
-
 -- One that has begun makes no other.
 registered_stays : {p : Program} {h : Header} {xs : List Happening} {w : World} {i : SessionId} {f g : Found} (t : Through p h xs w i f g) → has_begun i f ≡ true
     → option_map_or (λ (c : Course). c.made.moment) (join_course i DecidingRead g.machine) 0
     ≡ option_map_or (λ (c : Course). c.made.moment) (join_course i DecidingRead f.machine) 0
 registered_stays {i = i} {f = f} {g = g} t begun =
     registered_by t (join_course i DecidingRead f.machine) (join_course i DecidingRead g.machine) (join_goes t DecidingRead (λ e. absurd (omega (arith, e))))
-    (λ c none at. elim (begun_cases (is_none f.session.job) (is_some (deciding_sample i f)) begun) as (λ z. ⊥) [
-      | inl given ↦ no_deciding t (job_none f.session.job given) c at
+    (λ c none at. elim (or_true (is_none f.session.job) (is_some (deciding_sample i f)) begun) as (λ z. ⊥) [
+      | inl given ↦ no_deciding t (none_is f.session.job given) c at
       | inr decided ↦ has_read f (watched_bytes i f) (join_course i DecidingRead f.machine) decided none
     ])
 

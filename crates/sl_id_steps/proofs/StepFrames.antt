@@ -1,10 +1,14 @@
 -- An entry of a daemon: what its step makes of its machine, and that the sessions of all other daemons stay as they were.
+use Rattle.sl_course_law.proofs.Changing.{changed_here}
+use Rattle.sl_course_law.proofs.Daemons.{daemons_are, step_ended}
 use Rattle.sl_front_law.proofs.Going.{last_event}
-use Rattle.sl_id_state.proofs.FindingFrames.{IsFound, changed_elsewhere, changed_here, is_found, moved, moves_by, session_on, session_with}
+use Rattle.sl_id_state.proofs.FindingFrames.{IsFound, changed_elsewhere, is_found, moved, moves_by, session_on, session_with}
 use Rattle.sl_id_steps.proofs.CallEvents.{answer_flies, do_flies}
 use Rattle.sl_id_steps.proofs.EventFrames.{after_event, entry_of}
 use Rattle.sl_id_steps.proofs.Still.{with_running}
 use Rattle.sl_id_steps.specs.Parts.{between}
+use Rattle.sl_landing_law.proofs.Stepping.{same_daemon}
+use Rattle.sl_plain.proofs.Lists.{contains_first, contains_more}
 use Rattle.sl_run.specs.Events.{after_step, close_answered, daemon_number, if_running, input_at, input_of, machine_of, may_happen, new_course, take_step, with_entry}
 use Rattle.sl_run.specs.Runs.{Happening}
 use Rattle.sl_run.specs.Safety.{Found, LawfulRun, SessionId, world_at}
@@ -15,7 +19,6 @@ use Rattle.sl_run.specs.declared.header.Header.{Header}
 use Rattle.sl_run_law.proofs.Walking.{Asked, each_first}
 use Rattle.sl_run_law.specs.Fates.{Every}
 use Rattle.sl_run_law.specs.Machines.{EachMachine}
-use Rattle.sl_session_law.proofs.Making.{contains_first, contains_more}
 use Rattle.sl_session_law.proofs.Owning.{session_more}
 use Rattle.sl_sessions.specs.Sessions.{session_numbered}
 use Rattle.sl_trace.specs.declared.effects.Call.{Call}
@@ -175,29 +178,12 @@ step_daemon now Wake fx a = refl
 step_daemon now (Exit p) fx a = refl
 step_daemon now (Spawned p ok) fx a = refl
 
-step_ended : (now : Stamp) (i : Input) (fx : Effects) (a : Machine) → (after_step now i fx a).ended ≡ a.ended
-step_ended now (Line text) fx a = refl
-step_ended now (Told n answer) fx a = refl
-step_ended now Wake fx a = refl
-step_ended now (Exit p) fx a = refl
-step_ended now (Spawned p ok) fx a = refl
-
-pub step_resets : (now : Stamp) (i : Input) (fx : Effects) (a : Machine) → (after_step now i fx a).resets ≡ a.resets
-step_resets now (Line text) fx a = refl
-step_resets now (Told n answer) fx a = refl
-step_resets now Wake fx a = refl
-step_resets now (Exit p) fx a = refl
-step_resets now (Spawned p ok) fx a = refl
-
 -- The daemon with its entry.
 abbrev pub entered : Stamp → Input → Effects → Machine → Daemon → Daemon
 entered now i fx a d = with_entry (entry_of i fx a) now d
 
 pub step_runs : (now : Stamp) (i : Input) (fx : Effects) (a : Machine) (d : Daemon) → a.daemon ≡ Some d → (after_step now i fx a).daemon ≡ Some (entered now i fx a d)
 step_runs now i fx a d h = step_daemon now i fx a ∙ ap (option_map (with_entry (entry_of i fx a) now)) h
-
-before_daemons : (a : Machine) (d : Daemon) → a.daemon ≡ Some d → daemons_on a ≡ d ∷ a.ended
-before_daemons a d h = ap (λ o. with_running o a.ended) h
 
 after_daemons : (now : Stamp) (i : Input) (fx : Effects) (a : Machine) (d : Daemon) → a.daemon ≡ Some d
     → daemons_on (after_step now i fx a) ≡ entered now i fx a d ∷ a.ended
@@ -219,7 +205,7 @@ other_found now j fx a d i runs other =
     let b : Machine = after_step now j fx a in
     ap (λ ds. session_with i b (find (λ x. x.number == i.daemon) ds)) (after_daemons now j fx a d runs)
     ∙ ap (session_with i b) (skips i.daemon (entered now j fx a d) a.ended (d.number == i.daemon) refl other ∙ sym (skips i.daemon d a.ended (d.number == i.daemon) refl other)
-    ∙ ap (λ ds. find (λ x. x.number == i.daemon) ds) (sym (before_daemons a d runs)))
+    ∙ ap (λ ds. find (λ x. x.number == i.daemon) ds) (sym (daemons_are a d runs)))
     ∙ moves_by i a b (daemon_numbered a i.daemon)
 
 -- A session of the daemon is found with the daemon's entry.
@@ -230,7 +216,7 @@ own_found now j fx a d i f runs same at =
     let b : Machine = after_step now j fx a in
     let e : Daemon = entered now j fx a d in
     let found : IsFound i a f = is_found i a f at in
-    let before : daemon_numbered a i.daemon ≡ Some d = ap (λ ds. find (λ x. x.number == i.daemon) ds) (before_daemons a d runs) ∙ takes i.daemon d a.ended same in
+    let before : daemon_numbered a i.daemon ≡ Some d = ap (λ ds. find (λ x. x.number == i.daemon) ds) (daemons_are a d runs) ∙ takes i.daemon d a.ended same in
     let is : f.daemon ≡ d = one_value f.daemon d (daemon_numbered a i.daemon) found.daemon before in
     let session : session_numbered e.setting e.trace i.number ≡ Some f.session =
     session_more d.setting (entry_of j fx a) d.trace i.number f.session (subst (λ y. session_numbered y.setting y.trace i.number ≡ Some f.session) is found.session) in (
@@ -276,15 +262,8 @@ submits_by now number before (c ∷ calls) =
           (record { call = c; has = contains_first c calls; is = refl });
     }
 
-closed_daemon : (now : Stamp) (i : Input) (a : Machine) → (close_answered now i a).daemon ≡ a.daemon
-closed_daemon now (Line text) a = refl
-closed_daemon now (Told n answer) a = refl
-closed_daemon now Wake a = refl
-closed_daemon now (Exit p) a = refl
-closed_daemon now (Spawned p ok) a = refl
-
 number_is : (now : Stamp) (i : Input) (a : Machine) (d : Daemon) → a.daemon ≡ Some d → daemon_number (close_answered now i a) ≡ d.number
-number_is now i a d runs = ap (λ o. option_map_or (λ (x : Daemon). x.number) o 0) (closed_daemon now i a ∙ runs)
+number_is now i a d runs = ap (λ o. option_map_or (λ (x : Daemon). x.number) o 0) (same_daemon now i a ∙ runs)
 
 pub step_submits : (now : Stamp) (i : Input) (fx : Effects) (a : Machine) (d : Daemon) → a.daemon ≡ Some d
     → Submits now d.number fx.calls (close_answered now i a).calls (after_step now i fx a).calls

@@ -10,14 +10,15 @@ use Rattle.sl_run.specs.Safety.{Found, SessionId, is_course_of, session_of_world
 use Rattle.sl_run.specs.Worlds.{Daemon, Landing, Machine, World, daemon_numbered, daemons_on, history_of, machine_at}
 use Rattle.sl_run_law.specs.Fates.{Every}
 use Rattle.sl_run_law.specs.Machines.{EachMachine}
-use Rattle.sl_session_law.proofs.Making.{contains_cases, contains_none}
 use Rattle.sl_sessions.specs.Sessions.{Session, given_session, session_numbered, sessions}
+use Rattle.sl_watchdog_law.proofs.Stepping.{number_below}
 use Rattle.sl_words.proofs.CaseLaws.{none_some, true_is_false}
 use Rattle.sl_trace.specs.declared.input.Given.{Given}
 use Rattle.sl_words.specs.Words.{some_is}
-use Rattle.std.proofs.Common.{ap, arith, inl, inr, refl, subst, sym, tests, ◌∙◌}
+use Rattle.std.proofs.Common.{ap, arith, inl, inr, refl, subst, sym, ◌∙◌}
+use Rattle.std.proofs.lemmas.Bool.{eqb-true}
 use Rattle.std.specs.List.{enumerate_from}
-use Rattle.std.specs.Prelude.{Bool, Contains, List, None, Option, Some, cond, false, filter, find, if◌then◌else◌, length, map, option_and_then, option_map, slice_get, suc, true, zero, [], ℕ, ◌-◌, ◌<◌, ◌==◌, ◌∷◌, ◌≡◌, ◌⊎◌}
+use Rattle.std.specs.Prelude.{Bool, List, None, Option, Some, cond, false, filter, find, if◌then◌else◌, length, map, option_and_then, option_map, slice_get, suc, true, zero, [], ℕ, ◌-◌, ◌==◌, ◌∷◌, ◌≡◌, ◌⊎◌}
 
 -- ---- machines
 
@@ -53,22 +54,11 @@ new_daemons a b s ended = ap (λ o. with_running o b.ended) s.begins ∙ ap (λ 
 
 -- ---- numbers of daemons
 
-same_numbers : (m n : ℕ) → (m == n) ≡ true → m ≡ n
-same_numbers m n h = grind (arith, tests)
-
-below : (ds : List Daemon) (d : Daemon) → AreNumbered ds → Contains ds d → d.number < length ds
-below [] d n has = absurd (contains_none d has)
-below (x ∷ ds) d n has =
-    elim (contains_cases x ds d has) as (λ z. d.number < length (x ∷ ds)) [
-      | inl e ↦ let number : d.number ≡ length ds = ap (λ y. y.number) (sym e) ∙ n.0 in omega (arith, number)
-      | inr more ↦ omega (arith, below ds d n.1 more)
-    ]
-
 not_there : (ds : List Daemon) (n : ℕ) (o : Option Daemon) → AreNumbered ds → n ≡ length ds → find (λ d. d.number == n) ds ≡ o → o ≡ None
 not_there ds n None numbered is h = refl
 not_there ds n (Some d) numbered is h =
     let p = find_passes (λ x. x.number == n) ds d h in
-    absurd (omega (arith, below ds d numbered p.there, same_numbers d.number n p.test, is))
+    absurd (omega (arith, number_below ds d numbered p.there, eqb-true d.number n p.test, is))
 
 -- ---- sessions stay
 
@@ -92,7 +82,7 @@ new_by i b d ds false given trace is this = absurd (true_is_false (sym this))
 started_new : (i : SessionId) (a b : Machine) (s : Starts a b) → b.ended ≡ a.ended → (s.daemon.number == i.daemon) ≡ true
     → Stays i a b
 started_new i a b s ended is =
-    let same : i.daemon ≡ length (daemons_on a) = sym (same_numbers s.daemon.number i.daemon is) ∙ s.number ∙ ap (λ ds. length ds) (sym (old_daemons a b s)) in
+    let same : i.daemon ≡ length (daemons_on a) = sym (eqb-true s.daemon.number i.daemon is) ∙ s.number ∙ ap (λ ds. length ds) (sym (old_daemons a b s)) in
     let none : daemon_numbered a i.daemon ≡ None =
     not_there (daemons_on a) i.daemon (daemon_numbered a i.daemon) s.numbered same refl in
     let before : session_on i a ≡ None = ap (session_with i a) none in
@@ -142,7 +132,7 @@ given_by d ds false given is empty = refl
 
 no_length : (ds : List Daemon) (n : ℕ) → n ≡ length ds → (n == 0) ≡ true → ds ≡ []
 no_length [] n h k = refl
-no_length (d ∷ ds) n h k = absurd (omega (arith, h, same_numbers n 0 k))
+no_length (d ∷ ds) n h k = absurd (omega (arith, h, eqb-true n 0 k))
 
 pub given_stays : (a b : Machine) → b.ended ≡ a.ended → (b.daemon ≡ a.daemon) ⊎ Starts a b → given_on b ≡ given_on a
 given_stays a b ended (inl daemon) =

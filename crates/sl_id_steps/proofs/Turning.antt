@@ -9,6 +9,7 @@ use Rattle.sl_words.proofs.CaseLaws.{is_false, not_both, true_is_false, true_or_
 use Rattle.sl_words.proofs.OrderLaws.{same_or_apart}
 use Rattle.sl_words.proofs.WordLaws.{and_true}
 use Rattle.std.proofs.Common.{ap, arith, inl, inr, refl, subst, sym, ◌∙◌}
+use Rattle.std.proofs.lemmas.Bool.{not-true}
 use Rattle.std.specs.Prelude.{Bool, false, not, suc, true, zero, ℕ, ◌&&◌, ◌<◌, ◌≡◌, ◌≤◌, ◌⊎◌}
 
 -- ---- one session
@@ -97,10 +98,6 @@ of_daemon_or_not m d j = daemon_by m d j (same_or_apart j.machine m) (same_or_ap
 abbrev acts : State → ℕ → ℕ → ℕ → Bool
 acts w m d k = (w.session (of_number m d k)).begun && not (w.session (of_number m d k)).over
 
-not_true : (b : Bool) → not b ≡ true → b ≡ false
-not_true true h = absurd (true_is_false (sym h))
-not_true false h = refl
-
 neither : (a b : Bool) → (a && not b) ≡ false → a ≡ true → b ≡ true
 neither true true h k = refl
 neither true false h k = absurd (true_is_false h)
@@ -121,7 +118,7 @@ others_rest w v m d t k acting j apart =
       | inl is ↦ rest_by w v m d t j is (w.session j).begun refl (λ begun.
           elim (t.solo j (of_number m d k) is (refl, refl) apart begun p.0) as (λ z. (w.session j).over ≡ true) [
             | inl closed ↦ closed
-            | inr alive ↦ absurd (not_both (w.session (of_number m d k)).over alive (not_true (w.session (of_number m d k)).over p.1))
+            | inr alive ↦ absurd (not_both (w.session (of_number m d k)).over alive (not-true (w.session (of_number m d k)).over p.1))
           ])
     ]
 
@@ -166,7 +163,7 @@ one_may P r w v m d t bounded step =
     elim (pick (acts w m d) t.count) as (λ z. Later r w v) [
       | inl p ↦ let q = and_true (w.session (of_number m d p.0)).begun (not (w.session (of_number m d p.0)).over) p.2 in
           step (of_number m d p.0) (others_rest w v m d t p.0 p.2)
-          (t.turns (of_number m d p.0) (refl, refl) q.0 (not_true (w.session (of_number m d p.0)).over q.1))
+          (t.turns (of_number m d p.0) (refl, refl) q.0 (not-true (w.session (of_number m d p.0)).over q.1))
       | inr none ↦ agree_on r w v t.now t.same (none_acts w v m d t none) bounded
     ]
 

@@ -3,12 +3,12 @@ use Rattle.sl_id_state.proofs.Keeping.{lawful_call}
 use Rattle.sl_id_state.proofs.Listing.{EveryTail}
 use Rattle.sl_id_state.proofs.Living.{InPlace, in_place, is_joining}
 use Rattle.sl_id_state.proofs.Tails.{IsLater, IsMadeAfter, all_made, front_at}
-use Rattle.sl_id_steps.proofs.Frees.{is_standing, joining_stage, none_passes}
+use Rattle.sl_id_steps.proofs.Frees.{is_standing, joining_stage}
 use Rattle.sl_id_steps.proofs.RenewalCalls.{contains_filtered}
 use Rattle.sl_law.specs.Lawful.{Lawful}
 use Rattle.sl_law.specs.LawfulDelta.{LawfulDeltaCall}
 use Rattle.sl_place_law.proofs.Finding.{partner}
-use Rattle.sl_session_law.proofs.Making.{contains_cases, contains_none}
+use Rattle.sl_plain.proofs.Lists.{contains_cases, contains_none, find_fails, find_inside}
 use Rattle.sl_session_law.proofs.Parting.{not_removed}
 use Rattle.sl_session_law.proofs.Silence.{stage_by}
 use Rattle.sl_session_law.proofs.Staying.{refused_apart, refused_more}
@@ -21,7 +21,7 @@ use Rattle.sl_trace.specs.declared.effects.Entry.{Entry}
 use Rattle.sl_trace.specs.declared.effects.JoinStep.TheVariants.{FirstRenewal}
 use Rattle.sl_trace.specs.declared.effects.Purpose.TheVariants.{Joining, Leaving, Renewal}
 use Rattle.sl_trace.specs.declared.effects.Purpose.{Purpose}
-use Rattle.sl_watchdog_law.proofs.Finding.{call_inside, find_inside, open_write}
+use Rattle.sl_watchdog_law.proofs.Finding.{call_inside, open_write}
 use Rattle.sl_watchdog_law.proofs.Renewing.{IsOpenRenewal}
 use Rattle.sl_words.proofs.CaseLaws.{false_is_true, none_some, not_both, true_is_false}
 use Rattle.sl_words.proofs.WordLaws.{and_true}
@@ -108,7 +108,7 @@ unfreed_by st es s m n h its r free (Is_newer older p has) =
           let none = standing_free (joined_after t s) (removed_after t s) (refused_after t s) (free_write (calls_of t s)) (stage_in (calls_of t s))
           (joining_stage (calls_of t s)) stands in
           not_both (is_free_purpose x.0.call.purpose) (ap (λ c. is_free_purpose c.purpose) (sym x.2.same.call) ∙ free)
-          (none_passes (λ (y : Submitted). is_free_purpose y.call.purpose) (calls_of t s) x.0 none x.1)
+          (find_fails (λ (y : Submitted). is_free_purpose y.call.purpose) (calls_of t s) x.0 none x.1)
       | inr joins ↦ not_both (fits n) (done_has older n (p.1 joins).done has) (not_fits n.call.purpose (is_write n.call.op) free)
     ]
 unfreed_by st es s m n h its r free (Is_older older p has) =

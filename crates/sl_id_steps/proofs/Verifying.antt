@@ -18,6 +18,7 @@ use Rattle.sl_ids.specs.Steps.{Verify, after_verifying}
 use Rattle.sl_moment_law.proofs.Following.{drift_between, kept_past}
 use Rattle.sl_moment_law.proofs.Stamps.{answer_is_stamp, made_is_stamp}
 use Rattle.sl_moment_law.specs.Moments.{Of_stamp, point_of}
+use Rattle.sl_plain.proofs.Numbers.{lt_up_to}
 use Rattle.sl_run.specs.Events.{sample_at, write_bytes}
 use Rattle.sl_run.specs.Runs.{Happening}
 use Rattle.sl_run.specs.Safety.{Found, LawfulRun, SessionId, is_over, session_of_world, trace_of, world_at}
@@ -28,7 +29,7 @@ use Rattle.sl_trace.specs.declared.effects.JoinStep.TheVariants.{ClaimWrite, Ver
 use Rattle.sl_watchdog_law.specs.Acting.{acting_stamp}
 use Rattle.sl_words.proofs.CaseLaws.{none_some}
 use Rattle.sl_words.specs.Words.{some_is}
-use Rattle.std.proofs.Common.{ap, arith, refl, subst, sym, ◌∙◌}
+use Rattle.std.proofs.Common.{ap, refl, subst, sym, ◌∙◌}
 use Rattle.std.specs.Option.{option_map_or}
 use Rattle.std.specs.Prelude.{Bool, List, None, Option, Some, false, is_none, is_some, length, option_map, true, ℕ, ◌+◌, ◌<◌, ◌||◌, ◌≡◌, ◌≤◌}
 
@@ -58,9 +59,6 @@ record Known (p : Program) (h : Header) (xs : List Happening) (path : List ℕ) 
   now : c.made.moment ≤ (world_at p h xs).moment
   order : claimed.claim.made.step ≤ c.made.step
 
-not_later : (a b c : ℕ) → a < b → b ≤ c → a ≤ c
-not_later a b c h k = omega (arith, h, k)
-
 known_of : (p : Program) (h : Header) (xs : List Happening) (v : World) (path : List ℕ) (offset n j : ℕ) (i : SessionId) (f : Found) (c : Course)
     → VerifiesNow p h xs v path offset n j i f c → Known p h xs path offset i f c
 known_of p h xs v path offset n j i f c d =
@@ -86,7 +84,7 @@ known_of p h xs v path offset n j i f c d =
       lands = landed_here p h xs d.run path offset i.machine f.machine q.claim d.reading.known.there.at d.sampled.distinct claim.has q.landed place.0 place.1;
       now = (kept_past p h xs d.run c.made.step c.made.moment
           (Of_stamp i.machine f.machine c.made d.reading.known.there.at (made_is_stamp f.machine c own.has) refl refl)).1;
-      order = not_later q.claim.made.step q.answer.step c.made.step (timed.answered q.answer q.answered.0) q.answered.1;
+      order = lt_up_to q.claim.made.step q.answer.step c.made.step (timed.answered q.answer q.answered.0) q.answered.1;
     }
 
 -- Its claim's landing, in the id.

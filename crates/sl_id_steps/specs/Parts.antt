@@ -11,7 +11,6 @@ use Rattle.sl_run.specs.Worlds.{Course, Machine, Program, World, flight_of, is_w
 use Rattle.sl_run.specs.declared.event.Event.TheVariants.{AnswerCall, Crash, Do, DropWrite, ExitOf, GiveCommand, Land, Pass, Reset, Restart, Sample, SpawnedOf, StartDaemon, Tear, Test, WakeUp}
 use Rattle.sl_run.specs.declared.event.Event.{Event}
 use Rattle.sl_run.specs.declared.header.Header.{Header}
-use Rattle.sl_trace.specs.declared.input.Input.{Input}
 use Rattle.std.specs.Prelude.{IsSome, List, None, Some, false, true, [], ℕ, ◌++◌, ◌∷◌, ◌≡◌}
 
 -- The world between an event's first change and its step.

@@ -11,6 +11,7 @@ use Rattle.sl_ids.specs.Guards.{terms_of}
 use Rattle.sl_ids.specs.Runs.{Later, Reached}
 use Rattle.sl_ids.specs.State.{State}
 use Rattle.sl_ids.specs.Terms.{Terms}
+use Rattle.sl_plain.proofs.Lists.{next_before}
 use Rattle.sl_run.specs.Events.{input_of}
 use Rattle.sl_run.specs.Runs.{Happening}
 use Rattle.sl_run.specs.Safety.{LawfulRun, world_at}
@@ -21,6 +22,7 @@ use Rattle.sl_run.specs.declared.header.Header.{Header}
 use Rattle.sl_trace.specs.declared.input.Input.{Input}
 use Rattle.sl_words.proofs.CaseLaws.{no_value, one_value}
 use Rattle.std.proofs.Common.{ap, refl, subst, sym, ◌∙◌}
+use Rattle.std.proofs.lemmas.List.{append-nil}
 use Rattle.std.specs.Prelude.{Bool, List, None, Option, Some, false, is_some, true, [], ℕ, ◌++◌, ◌∷◌, ◌≡◌}
 
 -- What is known of the events of lawful runs, each kind by itself, and of the bounds.
@@ -131,14 +133,6 @@ ids_are_reached_given k p h xs path offset run place =
     run_keeps p h (λ ys. Reached (terms_of h.timing) (id_after p h path offset ys))
     (record { first = starts k p h path offset (fronts_are_lawful p h [] xs run) place; next = next_reached k p h path offset place }) xs run
 
-one_more : (now : List Happening) (x : Happening) (rest : List Happening) → (now ++ x ∷ []) ++ rest ≡ now ++ x ∷ rest
-one_more [] x rest = refl
-one_more (y ∷ now) x rest = ap (λ xs. y ∷ xs) (one_more now x rest)
-
-nothing_more : (now : List Happening) → now ++ [] ≡ now
-nothing_more [] = refl
-nothing_more (y ∷ now) = ap (λ xs. y ∷ xs) (nothing_more now)
-
 -- Each state is one that comes later.
 stays : (r : Terms) (w v : State) → w ≡ v → Later r w v
 stays r w v same = ([], same)
@@ -146,13 +140,13 @@ stays r w v same = ([], same)
 goes_on : EventsGoOn → (p : Program) (h : Header) (now rest : List Happening) (path : List ℕ) (offset : ℕ) → LawfulRun p h (now ++ rest) → IsIdPlace p h path offset
     → Later (terms_of h.timing) (id_after p h path offset now) (id_after p h path offset (now ++ rest))
 goes_on k p h now [] path offset run place =
-    stays (terms_of h.timing) (id_after p h path offset now) (id_after p h path offset (now ++ [])) (ap (id_after p h path offset) (sym (nothing_more now)))
+    stays (terms_of h.timing) (id_after p h path offset now) (id_after p h path offset (now ++ [])) (ap (id_after p h path offset) (sym (append-nil now)))
 goes_on k p h now (x ∷ rest) path offset run place =
     let r : Terms = terms_of h.timing in
-    let run' : LawfulRun p h ((now ++ x ∷ []) ++ rest) = subst (λ xs. LawfulRun p h xs) (sym (one_more now x rest)) run in
+    let run' : LawfulRun p h ((now ++ x ∷ []) ++ rest) = subst (λ xs. LawfulRun p h xs) (sym (next_before now x rest)) run in
     let front = fronts_are_lawful p h (now ++ x ∷ []) rest run' in
     let one = event_goes_on k p h now x path offset front place (ids_are_reached_given k p h now path offset (fronts_are_lawful p h now (x ∷ rest) run) place) in
-    subst (λ xs. Later r (id_after p h path offset now) (id_after p h path offset xs)) (one_more now x rest)
+    subst (λ xs. Later r (id_after p h path offset now) (id_after p h path offset xs)) (next_before now x rest)
     (go_on.both r (id_after p h path offset now) (id_after p h path offset (now ++ x ∷ [])) (id_after p h path offset ((now ++ x ∷ []) ++ rest)) one
     (goes_on k p h (now ++ x ∷ []) rest path offset run' place))
 

@@ -1,5 +1,7 @@
 -- What an event lands: nothing, or one write that was in flight.
 use Rattle.sl_landing_law.proofs.Guarding.{land_writes, shaped, tear_writes}
+use Rattle.sl_plain.proofs.Lists.{set_here}
+use Rattle.sl_plain.proofs.Options.{else_some}
 use Rattle.sl_run.specs.Events.{add_landing, after_crash, after_reset, after_restart, after_start, after_test, change_call, fated, first_change, flight_at, land_torn, land_whole, may_happen, sampled_more, sectors_left, spells_something, torn_bytes, write_bytes}
 use Rattle.sl_run.specs.Worlds.{Course, Dropped, Fate, Landed, Landing, Machine, Torn, World, change_machine, flight_of, is_in_flight, is_write_course, machine_at, sector_size}
 use Rattle.sl_run.specs.declared.event.Event.TheVariants.{AnswerCall, Crash, Do, DropWrite, ExitOf, GiveCommand, Land, Pass, Reset, Restart, Sample, SpawnedOf, StartDaemon, Tear, Test, WakeUp}
@@ -7,28 +9,19 @@ use Rattle.sl_run.specs.declared.event.Event.{Event}
 use Rattle.sl_run_law.proofs.Guards.{lands, tears}
 use Rattle.sl_run_law.proofs.Walking.{index}
 use Rattle.sl_trace.specs.declared.effects.Call.{Call}
-use Rattle.sl_words.proofs.CaseLaws.{none_some, some_value, true_is_false}
+use Rattle.sl_words.proofs.CaseLaws.{none_some, some_value}
 use Rattle.std.proofs.Common.{ap, arith, inl, inr, refl, subst, sym, tests, ◌∙◌}
 use Rattle.std.specs.Option.{option_map_or}
-use Rattle.std.specs.Prelude.{Bool, List, None, Option, Some, false, if◌then◌else◌, length, nat_le, option_and_then, slice_get, slice_set, suc, true, zero, [], ℕ, ◌+◌, ◌-◌, ◌==◌, ◌∷◌, ◌≡◌, ◌≤◌, ◌⊎◌}
+use Rattle.std.specs.Prelude.{Bool, List, None, Option, Some, false, length, nat_le, option_and_then, slice_get, slice_set, true, ℕ, ◌+◌, ◌-◌, ◌==◌, ◌∷◌, ◌≡◌, ◌≤◌, ◌⊎◌}
 
 -- ---- a machine that is changed
-
-set_here : (ms : List Machine) (i : ℕ) (x a : Machine) → slice_get ms i ≡ Some a → slice_get (slice_set ms i x) i ≡ Some x
-set_here [] i x a h = absurd (none_some a h)
-set_here (y ∷ ms) zero x a h = refl
-set_here (y ∷ ms) (suc i) x a h = set_here ms i x a h
-
-pub at_by : (b : Bool) (o : Option Machine) (a : Machine) → b ≡ false → o ≡ Some a → (if b then None else o) ≡ Some a
-at_by true o a h k = absurd (true_is_false h)
-at_by false o a h k = k
 
 here_by : (m : ℕ) (f : Machine → Machine) (w : World) (a : Machine) (o : Option Machine) → machine_at w m ≡ Some a → o ≡ Some a
     → machine_at (elim o as (λ x. World) [ None ↦ w | Some b ↦ record w { machines = slice_set w.machines (m - 1) (f b) } ]) m ≡ Some (f a)
 here_by m f w a None at is = absurd (none_some a is)
 here_by m f w a (Some b) at is =
     let p = index w m a at in
-    at_by (m == 0) (slice_get (slice_set w.machines (m - 1) (f b)) (m - 1)) (f a) p.0
+    else_some (m == 0) (slice_get (slice_set w.machines (m - 1) (f b)) (m - 1)) (f a) p.0
     (set_here w.machines (m - 1) (f b) a p.1 ∙ ap (λ x. Some (f x)) (some_value b a is))
 
 -- The machine that changes is there, changed.
@@ -87,7 +80,7 @@ abbrev pub landing_of : World → ℕ → Call → Bool → List ℕ → Landing
 landing_of w m c whole bytes =
     record { path = c.path; offset = c.offset; bytes = bytes; whole = whole; writer = Some (m, c.number); step = w.step; moment = w.moment }
 
-flight_by : (w : World) (m c : ℕ) (f : Course) (o : Option Machine) → machine_at w m ≡ o → option_and_then (λ a. flight_of a c) o ≡ Some f
+pub flight_by : (w : World) (m c : ℕ) (f : Course) (o : Option Machine) → machine_at w m ≡ o → option_and_then (λ a. flight_of a c) o ≡ Some f
     → (a : Machine) × (machine_at w m ≡ Some a) × (flight_of a c ≡ Some f)
 flight_by w m c f None is h = absurd (none_some f h)
 flight_by w m c f (Some a) is h = (a, is, h)

@@ -2,14 +2,15 @@
 use Rattle.sl_course_law.specs.Promises.{CallsAreDistinct}
 use Rattle.sl_landing_law.proofs.Arriving.{changed_here, flight_there}
 use Rattle.sl_landing_law.proofs.Guarding.{answer_lands, done_runs}
-use Rattle.sl_landing_law.proofs.Listing.{found_in, in_map, one_call}
-use Rattle.sl_landing_law.proofs.Making.{distinct_at, equal_numbers, fate_kept}
+use Rattle.sl_landing_law.proofs.Listing.{one_call}
+use Rattle.sl_landing_law.proofs.Making.{distinct_at, fate_kept}
 use Rattle.sl_landing_law.proofs.Owning.{EachOwns, Owns, running, run_owns}
 use Rattle.sl_landing_law.proofs.Passing.{world_first, world_keeps, world_then}
 use Rattle.sl_landing_law.proofs.Running.{input_here}
 use Rattle.sl_landing_law.proofs.Stepping.{IsAnswered, IsMade, Step, came}
 use Rattle.sl_landing_law.proofs.Turning.{Turn, do_is, flight_number}
 use Rattle.sl_landing_law.specs.Landings.{DoneWritesHaveLanded}
+use Rattle.sl_plain.proofs.Lists.{contains_none, find_inside, in_map}
 use Rattle.sl_run.specs.Events.{add_landing, change_call, done_input, fated, first_change, input_at, input_of, land_whole, machine_of, may_happen, ok_input, rest_sampled, sectors_left, write_bytes}
 use Rattle.sl_run.specs.Safety.{world_at}
 use Rattle.sl_run.specs.Worlds.{Course, Daemon, Dropped, Fate, In_flight, Landed, Machine, Torn, World, change_machine, flight_of, is_in_flight, is_landed, is_of_running, is_open, is_torn_fate, is_write_course, machine_at, world_with}
@@ -18,7 +19,6 @@ use Rattle.sl_run.specs.declared.event.Event.{Event}
 use Rattle.sl_run_law.proofs.Beginnings.{begins_new}
 use Rattle.sl_run_law.proofs.Coursing.{changed_if}
 use Rattle.sl_run_law.specs.Fates.{AreDistinct, EachDistinct}
-use Rattle.sl_session_law.proofs.Making.{contains_none}
 use Rattle.sl_trace.specs.Traces.{is_ok_answer, is_write}
 use Rattle.sl_trace.specs.declared.effects.Call.{Call}
 use Rattle.sl_trace.specs.declared.effects.Effects.{Effects}
@@ -31,6 +31,7 @@ use Rattle.sl_words.proofs.CaseLaws.{false_is_true, none_some, one_value, some_v
 use Rattle.sl_words.proofs.WordLaws.{choose_some, some_is_true}
 use Rattle.sl_words.specs.Words.{choose}
 use Rattle.std.proofs.Common.{ap, inl, inr, refl, subst, sym, ◌∙◌}
+use Rattle.std.proofs.lemmas.Bool.{eq-eqb}
 use Rattle.std.proofs.lemmas.Bool.Decides.{Decides-eqb}
 use Rattle.std.specs.Option.{option_map_or}
 use Rattle.std.specs.Prelude.{Bool, Contains, List, None, Option, Some, false, is_some, not, option_map, true, [], ℕ, ◌&&◌, ◌++◌, ◌==◌, ◌∷◌, ◌≡◌, ◌⊎◌}
@@ -148,7 +149,7 @@ all_landed : (n : ℕ) (a : Machine) (d : Course) → Contains (change_call n (f
 all_landed n a d has number =
     let p = in_map (λ c. changed_if (c.call.number == n) (fated Landed) c) a.calls d has in
     let same : p.0.call ≡ d.call = sym (same_call_changed (p.0.call.number == n) p.0) ∙ ap (λ (c : Course). c.call) p.2 in
-    let test = equal_numbers p.0.call.number n (ap (λ (c : Call). c.number) same ∙ number) in
+    let test = eq-eqb p.0.call.number n (ap (λ (c : Call). c.number) same ∙ number) in
     ap is_landed (sym (ap (λ (c : Course). c.fate) p.2) ∙ changed_fate p.0 (p.0.call.number == n) test)
 
 lands_here : (w : World) (m n : ℕ) (a : Machine) (f : Course) → machine_at w m ≡ Some a → flight_of a n ≡ Some f
@@ -178,8 +179,8 @@ answered_landed : (w : World) (e : Event) (m : ℕ) (a x : Machine) (c d : Cours
     → machine_at w m ≡ Some a → machine_at (first_change e w) m ≡ Some x → Contains a.calls c → Contains x.calls d → Turn w e m a c d → is_write_course c ≡ true
     → AnswersFlight e a c.call.number → is_landed d.fate ≡ true
 answered_landed w e m a x c d may owns distinct here at there has inside t writes k =
-    let found = found_in (λ y. y.call.number == k.number && is_open a y) a.calls k.flight k.flies in
-    let same : c ≡ k.flight = one_call a.calls c k.flight distinct has found.0 (equal_numbers c.call.number k.flight.call.number (sym k.told)) in
+    let found = find_inside (λ y. y.call.number == k.number && is_open a y) a.calls k.flight k.flies in
+    let same : c ≡ k.flight = one_call a.calls c k.flight distinct has found.0 (eq-eqb c.call.number k.flight.call.number (sym k.told)) in
     let wrote = subst (λ y. is_write_course y ≡ true) same writes in
     elim k.event as (λ z. is_landed d.fate ≡ true) [
       | inl is ↦ landed_kept w e m a c d distinct has t

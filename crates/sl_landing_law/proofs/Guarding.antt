@@ -1,4 +1,5 @@
 -- What more it means that an event may happen.
+use Rattle.sl_plain.proofs.Truth.{left_is_false}
 use Rattle.sl_run.specs.Events.{event_tests, is_placed, is_read_course, is_shaped, may_happen, needs_daemon, on_flight, sectors_left, spells_something, torn_bytes}
 use Rattle.sl_run.specs.Worlds.{Course, Machine, World, first_that, flight_of, is_in_flight, is_landed, is_of_running, is_torn_fate, is_write_course, machine_at}
 use Rattle.sl_run.specs.declared.event.Event.TheVariants.{AnswerCall, Do, DropWrite, Land, Tear}
@@ -71,17 +72,13 @@ answer_lands w m c ok a f may h j =
     let n = (on_this w m (λ b. needs_daemon b ∷ on_flight b c (is_of_running b) (answer_tests ok)) a h (passes w (AnswerCall m c ok) may)).1 in
     (on_course a c (is_of_running a) (answer_tests ok) f j n).1.0
 
-or_first : (a b : Bool) → (a || b) ≡ false → a ≡ false
-or_first true b h = absurd (true_is_false h)
-or_first false b h = refl
-
 -- What is dropped is of a daemon that ended.
 pub drop_ended : (w : World) (m c : ℕ) (a : Machine) (f : Course) → may_happen w (DropWrite m c) ≡ true → machine_at w m ≡ Some a → flight_of a c ≡ Some f
     → is_of_running a f ≡ false
 unfolding event_tests
 drop_ended w m c a f may h j =
     let g : Machine → Course → List (Bool × Refusal) = λ b x. (is_of_running b x || not (is_in_flight x.fate), MissingFlight) ∷ [] in
-    or_first (is_of_running a f) (not (is_in_flight f.fate))
+    left_is_false (is_of_running a f) (not (is_in_flight f.fate))
     (on_course a c is_write_course (g a) f j (on_this w m (λ b. on_flight b c is_write_course (g b)) a h (passes w (DropWrite m c) may))).0
 
 -- A daemon runs where a call is answered.

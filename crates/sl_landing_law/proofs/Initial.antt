@@ -1,7 +1,9 @@
 -- Each record of moment 0 has a spelling, whatever the digest, and so each place a sector's bytes.
 use Rattle.sl_area.specs.Layouts.{IsGeometry, Layout, Sizes, layout_with, sector_with}
 use Rattle.sl_area.specs.Places.{fresh_block, fresh_delta, fresh_leader, in_area, no_request, no_value}
-use Rattle.sl_landing_law.proofs.Listing.{found_in}
+use Rattle.sl_plain.proofs.Lists.{find_inside}
+use Rattle.sl_plain.proofs.Numbers.{one_least, zero_least}
+use Rattle.sl_plain.proofs.Truth.{or_false}
 use Rattle.sl_run.specs.Headers.{IsHeader}
 use Rattle.sl_run.specs.Worlds.{clock_reading, initial_bytes, initial_delta, initial_of_lockspace, initial_of_resource, initial_record, member_delta}
 use Rattle.sl_run.specs.declared.header.FirstReading.{FirstReading}
@@ -24,7 +26,7 @@ use Rattle.std.proofs.lemmas.Bool.Decides.{Decides-eqb, nat_tests}
 use Rattle.std.proofs.lemmas.List.{length-replicate}
 use Rattle.std.specs.Int.{is_in_range}
 use Rattle.std.specs.Option.{option_map_or}
-use Rattle.std.specs.Prelude.{Bool, IsTrue, List, None, Option, Some, bytes_eq, false, find, if◌then◌else◌, length, nat_lt, replicate, true, ℕ, ◌&&◌, ◌*◌, ◌+◌, ◌-◌, ◌/◌, ◌<◌, ◌==◌, ◌^◌, ◌≡◌, ◌≤◌, ◌||◌}
+use Rattle.std.specs.Prelude.{Bool, IsTrue, List, None, Option, Some, bytes_eq, false, find, if◌then◌else◌, length, nat_lt, replicate, true, ℕ, ◌&&◌, ◌*◌, ◌+◌, ◌-◌, ◌/◌, ◌<◌, ◌==◌, ◌^◌, ◌≡◌, ◌≤◌}
 
 -- The layout of a header with this digest.
 abbrev lay : (List ℕ → List ℕ) → Header → Layout
@@ -52,12 +54,8 @@ record HasSizes (s : Sizes) : Type 0 where
   sector : s.sector ≡ 512
   hosts : (1 ≤ s.hosts) × (s.hosts ≤ 2000)
 
-range_is : (n : ℕ) → is_in_range 1 2000 n ≡ true → (1 ≤ n) × (n ≤ 2000)
+pub range_is : (n : ℕ) → is_in_range 1 2000 n ≡ true → (1 ≤ n) × (n ≤ 2000)
 range_is n h = (grind (arith, nat_tests), grind (arith, nat_tests))
-
-or_false : (b : Bool) → (b || false) ≡ true → b ≡ true
-or_false true h = refl
-or_false false h = h
 
 has_sizes : (s : Sizes) → IsGeometry s → HasSizes s
 has_sizes s h =
@@ -68,22 +66,22 @@ has_sizes s h =
 
 -- ---- the records
 
-nothing_less : 0 < 0 → ⊥
+pub nothing_less : 0 < 0 → ⊥
 nothing_less h = omega (arith, h)
 
-one_is_none : (n : ℕ) → n ≡ 1 → n ≡ 0 → ⊥
+pub one_is_none : (n : ℕ) → n ≡ 1 → n ≡ 0 → ⊥
 one_is_none n h k = omega (arith, h, k)
 
-small_number : 1 < 2 ^ 63
+pub small_number : 1 < 2 ^ 63
 small_number = omega arith
 
-no_number : 0 < 2 ^ 63
+pub no_number : 0 < 2 ^ 63
 no_number = omega arith
 
-a_moment : 0 < 10 ^ 15
+pub a_moment : 0 < 10 ^ 15
 a_moment = omega arith
 
-fresh_delta_is : (name : List ℕ) (id : ℕ) → IsTrue (is_name name) → 1 ≤ id → id ≤ 2000 → IsDelta (fresh_delta name id)
+pub fresh_delta_is : (name : List ℕ) (id : ℕ) → IsTrue (is_name name) → 1 ≤ id → id ≤ 2000 → IsDelta (fresh_delta name id)
 fresh_delta_is name id named low high =
     record {
       id = (low, high);
@@ -96,7 +94,7 @@ fresh_delta_is name id named low high =
       used = λ h. absurd (nothing_less h);
     }
 
-member_delta_is : (h : Header) (s : SessionLine) → IsTrue (is_name s.lockspace) → IsTrue (is_name s.name) → 1 ≤ s.id → s.id ≤ 2000
+pub member_delta_is : (h : Header) (s : SessionLine) → IsTrue (is_name s.lockspace) → IsTrue (is_name s.name) → 1 ≤ s.id → s.id ≤ 2000
     → clock_reading h s.machine < 10 ^ 15 → IsDelta (member_delta h s)
 member_delta_is h s space name low high now =
     record {
@@ -110,42 +108,36 @@ member_delta_is h s space name low high now =
       used = λ h. name;
     }
 
-below : (n : ℕ) → n < 10 ^ 12 → n < 10 ^ 15
+pub below : (n : ℕ) → n < 10 ^ 12 → n < 10 ^ 15
 below n h = omega (arith, h)
 
 clock_by : (h : Header) (m : ℕ) (o : Option FirstReading) → clock_of h m ≡ o → IsHeader h → option_map_or (λ (c : FirstReading). c.reading) o 0 < 10 ^ 15
 clock_by h m None is ok = a_moment
-clock_by h m (Some c) is ok = below c.reading (ok.clocks c (found_in (λ c. c.machine == m) h.clocks c is).0).2
+clock_by h m (Some c) is ok = below c.reading (ok.clocks c (find_inside (λ c. c.machine == m) h.clocks c is).0).2
 
-up_to : (a b : ℕ) → a ≤ b → b ≤ 2000 → a ≤ 2000
+pub up_to : (a b : ℕ) → a ≤ b → b ≤ 2000 → a ≤ 2000
 up_to a b h k = omega (arith, h, k)
 
-above_one : (k : ℕ) → 1 ≤ k + 1
-above_one k = omega arith
-
-within : (k n : ℕ) → nat_lt k n ≡ true → n ≤ 2000 → k + 1 ≤ 2000
+pub within : (k n : ℕ) → nat_lt k n ≡ true → n ≤ 2000 → k + 1 ≤ 2000
 within k n h most = grind (arith, nat_tests)
 
 initial_delta_by : (h : Header) (l : LockspaceLine) (id : ℕ) (o : Option SessionLine) → session_of h l.name id ≡ o → IsHeader h → IsTrue (is_name l.name) → 1 ≤ id → id ≤ 2000
     → IsDelta (elim o as (λ x. DeltaRec) [ None ↦ fresh_delta l.name id | Some s ↦ member_delta h s ])
 initial_delta_by h l id None is ok named low high = fresh_delta_is l.name id named low high
 initial_delta_by h l id (Some s) is ok named low high =
-    let at = found_in (λ s. bytes_eq s.lockspace l.name && s.id == id) h.sessions s is in
+    let at = find_inside (λ s. bytes_eq s.lockspace l.name && s.id == id) h.sessions s is in
     let member = ok.members s at.0 in
     let space = member.lockspace in
     let space_named : IsTrue (is_name s.lockspace) = subst (λ n. IsTrue (is_name n)) space.2 (ok.lockspaces space.0 space.1).0 in
     (member_delta_is h s space_named member.name member.id.0 (up_to s.id h.geometry.hosts member.id.1 (has_sizes h.geometry ok.geometry).hosts.1)
     (clock_by h s.machine (clock_of h s.machine) refl ok))
 
-lockspace_by : (h : Header) (l : LockspaceLine) (k : ℕ) (b : Bool) (r : Rec) → nat_lt k h.geometry.hosts ≡ b → IsHeader h → IsTrue (is_name l.name)
+pub lockspace_by : (h : Header) (l : LockspaceLine) (k : ℕ) (b : Bool) (r : Rec) → nat_lt k h.geometry.hosts ≡ b → IsHeader h → IsTrue (is_name l.name)
     → choose b (DeltaIs (initial_delta h l (k + 1))) ≡ Some r → IsRecord r
 lockspace_by h l k false r is ok named eq = absurd (none_some r eq)
 lockspace_by h l k true r is ok named eq =
     subst IsRecord (some_value (DeltaIs (initial_delta h l (k + 1))) r eq)
-    (initial_delta_by h l (k + 1) (session_of h l.name (k + 1)) refl ok named (above_one k) (within k h.geometry.hosts is (has_sizes h.geometry ok.geometry).hosts.1))
-
-at_least_none : (n : ℕ) → 0 ≤ n
-at_least_none n = omega arith
+    (initial_delta_by h l (k + 1) (session_of h l.name (k + 1)) refl ok named (one_least k) (within k h.geometry.hosts is (has_sizes h.geometry ok.geometry).hosts.1))
 
 fresh_leader_is : (digest : List ℕ → List ℕ) (s : Sizes) (space name : List ℕ) → HasSizes s → IsTrue (is_name space) → IsTrue (is_name name) → IsLeader (fresh_leader (layout_with digest s) space name)
 fresh_leader_is digest s space name sizes a b =
@@ -153,37 +145,37 @@ fresh_leader_is digest s space name sizes a b =
       hosts = sizes.hosts;
       lver = no_number;
       generation = no_number;
-      owner = at_least_none s.hosts;
+      owner = zero_least s.hosts;
       lockspace = a;
       resource = b;
       same = ((λ h. refl, λ h. refl), (λ h. refl, λ h. refl));
       unused = λ h. refl;
     }
 
-fresh_block_is : (host : ℕ) → 1 ≤ host → host ≤ 2000 → IsBlock (fresh_block host)
+pub fresh_block_is : (host : ℕ) → 1 ≤ host → host ≤ 2000 → IsBlock (fresh_block host)
 fresh_block_is host low high =
     record {
       host = (low, high);
       lver = no_number;
       mbal = no_number;
-      bal = at_least_none 0;
+      bal = zero_least 0;
       generations = (no_number, no_number);
-      inp = at_least_none 2000;
+      inp = zero_least 2000;
       value = ((λ h. refl, λ h. refl), (λ h. refl, λ h. refl));
       mode = (λ h. refl, λ h. refl);
       unused = λ h. (refl, refl);
     }
 
-no_request_is : IsRequest no_request
-no_request_is = record { force = at_least_none 2; host = at_least_none 2000; lver = no_number; same = (λ h. refl, λ h. refl) }
+pub no_request_is : IsRequest no_request
+no_request_is = record { force = zero_least 2; host = zero_least 2000; lver = no_number; same = (λ h. refl, λ h. refl) }
 
-no_value_is : IsValue no_value
-no_value_is = record { host = at_least_none 2000; lver = no_number; seq = no_number; bytes = (at_least_none 256, refl) }
+pub no_value_is : IsValue no_value
+no_value_is = record { host = zero_least 2000; lver = no_number; seq = no_number; bytes = (zero_least 256, refl) }
 
-block_low : (k : ℕ) → (k == 0) ≡ false → (k == 1) ≡ false → 1 ≤ k - 1
+pub block_low : (k : ℕ) → (k == 0) ≡ false → (k == 1) ≡ false → 1 ≤ k - 1
 block_low k h i = grind (arith, nat_tests)
 
-block_high : (k n : ℕ) → nat_lt k (n + 2) ≡ true → n ≤ 2000 → k - 1 ≤ 2000
+pub block_high : (k n : ℕ) → nat_lt k (n + 2) ≡ true → n ≤ 2000 → k - 1 ≤ 2000
 block_high k n h most = grind (arith, nat_tests)
 
 resource_by : (digest : List ℕ → List ℕ) (h : Header) (l : ResourceLine) (k : ℕ) (leader request block last : Bool) (r : Rec) → (k == 0) ≡ leader → (k == 1) ≡ request
@@ -205,7 +197,7 @@ initial_in_resource : (digest : List ℕ → List ℕ) (h : Header) (path : List
     → elim o as (λ x. Option Rec) [ Some l ↦ initial_of_resource (lay digest h) l ((offset - l.offset) / h.geometry.sector) | None ↦ None ] ≡ Some r → IsRecord r
 initial_in_resource digest h path offset None r is ok eq = absurd (none_some r eq)
 initial_in_resource digest h path offset (Some l) r is ok eq =
-    let at = found_in (λ l. bytes_eq l.path path && in_area (lay digest h) l.offset offset) h.resources l is in
+    let at = find_inside (λ l. bytes_eq l.path path && in_area (lay digest h) l.offset offset) h.resources l is in
     let line = ok.resources l at.0 in
     let space = line.2 in
     let k : ℕ = (offset - l.offset) / h.geometry.sector in
@@ -222,7 +214,7 @@ initial_by : (digest : List ℕ → List ℕ) (h : Header) (path : List ℕ) (of
     ] ≡ Some r → IsRecord r
 initial_by digest h path offset None r is ok eq = initial_in_resource digest h path offset (resource_at digest h path offset) r refl ok eq
 initial_by digest h path offset (Some l) r is ok eq =
-    let at = found_in (λ l. bytes_eq l.path path && in_area (lay digest h) l.offset offset) h.lockspaces l is in
+    let at = find_inside (λ l. bytes_eq l.path path && in_area (lay digest h) l.offset offset) h.lockspaces l is in
     let k : ℕ = (offset - l.offset) / h.geometry.sector in
     lockspace_by h l k (nat_lt k h.geometry.hosts) r refl ok (ok.lockspaces l at.0).0 eq
 
@@ -233,10 +225,10 @@ initial_is_record digest h path offset r ok eq = initial_by digest h path offset
 
 -- ---- lengths
 
-sector_low : (n : ℕ) → n ≡ 512 → 512 ≤ n
+pub sector_low : (n : ℕ) → n ≡ 512 → 512 ≤ n
 sector_low n h = omega (arith, h)
 
-sector_high : (n : ℕ) → n ≡ 512 → n ≤ 4096
+pub sector_high : (n : ℕ) → n ≡ 512 → n ≤ 4096
 sector_high n h = omega (arith, h)
 
 pub is_size : (s : Sizes) → IsGeometry s → IsSectorSize s.sector

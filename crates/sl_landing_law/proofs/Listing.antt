@@ -1,33 +1,17 @@
 -- What is in lists that are changed, made longer or searched.
+use Rattle.sl_course_law.proofs.Daemons.{every_has}
+use Rattle.sl_plain.proofs.Lists.{contains_cases, contains_first, contains_more, contains_none}
+use Rattle.sl_plain.proofs.Numbers.{number_turned}
 use Rattle.sl_run.specs.Events.{new_course}
 use Rattle.sl_run.specs.Worlds.{Course, Stamp}
 use Rattle.sl_run_law.specs.Fates.{AreDistinct, Every}
-use Rattle.sl_session_law.proofs.Making.{contains_cases, contains_first, contains_more, contains_none}
 use Rattle.sl_trace.specs.declared.effects.Call.{Call}
-use Rattle.sl_words.proofs.CaseLaws.{none_some, some_value}
-use Rattle.std.proofs.Common.{ap, arith, inl, inr, refl, subst, sym, tests, ◌∙◌}
+use Rattle.std.proofs.Common.{arith, inl, inr, subst, sym, ◌∙◌}
 use Rattle.std.proofs.lemmas.List.Elements.{All-contains_itself, All-weaker}
 use Rattle.std.proofs.lemmas.List.Kept.{AllPairs-cons}
-use Rattle.std.specs.Prelude.{AllPairs, Bool, Contains, List, Some, false, find, fold, if◌then◌else◌, map, true, [], ℕ, ◌==◌, ◌∷◌, ◌≡◌, ◌⊎◌}
+use Rattle.std.specs.Prelude.{AllPairs, Contains, List, fold, true, [], ℕ, ◌==◌, ◌∷◌, ◌≡◌, ◌⊎◌}
 
 -- ---- changed lists
-
-pub contains_map : {A B : Type 0} (f : A → B) (xs : List A) (x : A) → Contains xs x → Contains (map f xs) (f x)
-contains_map f [] x h = absurd (contains_none x h)
-contains_map f (y ∷ xs) x h =
-    elim (contains_cases y xs x h) as (λ z. Contains (f y ∷ map f xs) (f x)) [
-      | inl e ↦ subst (λ z. Contains (f y ∷ map f xs) (f z)) e (contains_first (f y) (map f xs))
-      | inr more ↦ contains_more (f y) (map f xs) (f x) (contains_map f xs x more)
-    ]
-
--- Where an element of a changed list comes from.
-pub in_map : {A B : Type 0} (f : A → B) (xs : List A) (y : B) → Contains (map f xs) y → (x : A) × Contains xs x × (f x ≡ y)
-in_map f [] y h = absurd (contains_none y h)
-in_map f (x ∷ xs) y h =
-    elim (contains_cases (f x) (map f xs) y h) as (λ z. (x' : _) × Contains (x ∷ xs) x' × (f x' ≡ y)) [
-      | inl e ↦ (x, contains_first x xs, e)
-      | inr more ↦ let r = in_map f xs y more in (r.0, contains_more x xs r.0 r.1, r.2)
-    ]
 
 -- ---- calls that are made
 
@@ -60,38 +44,16 @@ old_or_made now n (c ∷ calls) cs d h = rest_made now n c calls cs d (old_or_ma
 
 -- ---- what is found
 
-found_at : {A : Type 0} (p : A → Bool) (y : A) (ys : List A) (x : A) (b : Bool) → p y ≡ b → (if b then Some y else find p ys) ≡ Some x
-    → (find p ys ≡ Some x → Contains ys x × (p x ≡ true)) → Contains (y ∷ ys) x × (p x ≡ true)
-found_at p y ys x true is h rest =
-    let same = some_value y x h in
-    (subst (λ z. Contains (y ∷ ys) z) same (contains_first y ys), ap p (sym same) ∙ is)
-found_at p y ys x false is h rest = let r = rest h in (contains_more y ys x r.0, r.1)
-
-pub found_in : {A : Type 0} (p : A → Bool) (xs : List A) (x : A) → find p xs ≡ Some x → Contains xs x × (p x ≡ true)
-found_in p [] x h = absurd (none_some x h)
-found_in p (y ∷ ys) x h = found_at p y ys x (p y) refl h (found_in p ys x)
-
 -- ---- distinct calls
-
-pub every_one : {A : Type 0} (P : A → Type 0) (xs : List A) (x : A) → Every P xs → Contains xs x → P x
-every_one P [] x e h = absurd (contains_none x h)
-every_one P (y ∷ xs) x e h =
-    elim (contains_cases y xs x h) as (λ z. P x) [
-      | inl s ↦ subst P s e.0
-      | inr more ↦ every_one P xs x e.1 more
-    ]
-
-turned_test : (a b : ℕ) → (a == b) ≡ true → (b == a) ≡ true
-turned_test a b h = grind (arith, tests)
 
 one_of : (c : Course) (cs : List Course) (x y : Course) → Every (λ d. (d.call.number == c.call.number) ≡ true → ⊥) cs
     → (Contains cs x → Contains cs y → x ≡ y) → (x.call.number == y.call.number) ≡ true → (c ≡ x) ⊎ Contains cs x → (c ≡ y) ⊎ Contains cs y → x ≡ y
 one_of c cs x y apart rest same (inl p) (inl q) = sym p ∙ q
 one_of c cs x y apart rest same (inl p) (inr q) =
-    absurd (every_one (λ d. (d.call.number == c.call.number) ≡ true → ⊥) cs y apart q
-    (subst (λ (z : Course). (y.call.number == z.call.number) ≡ true) (sym p) (turned_test x.call.number y.call.number same)))
+    absurd (every_has (λ d. (d.call.number == c.call.number) ≡ true → ⊥) cs y apart q
+    (subst (λ (z : Course). (y.call.number == z.call.number) ≡ true) (sym p) (number_turned x.call.number y.call.number same)))
 one_of c cs x y apart rest same (inr p) (inl q) =
-    absurd (every_one (λ d. (d.call.number == c.call.number) ≡ true → ⊥) cs x apart p
+    absurd (every_has (λ d. (d.call.number == c.call.number) ≡ true → ⊥) cs x apart p
     (subst (λ (z : Course). (x.call.number == z.call.number) ≡ true) (sym q) same))
 one_of c cs x y apart rest same (inr p) (inr q) = rest p q
 

@@ -1,8 +1,9 @@
 -- Each call was made before now, and of distinct calls only those in flight get a fate.
-use Rattle.sl_landing_law.proofs.Listing.{found_in, one_call}
+use Rattle.sl_landing_law.proofs.Listing.{one_call}
 use Rattle.sl_landing_law.proofs.Passing.{IsLater, event_goes_on, event_later, world_first, world_keeps, world_then}
 use Rattle.sl_landing_law.proofs.Stepping.{IsMade, came}
 use Rattle.sl_landing_law.proofs.Turning.{Turn}
+use Rattle.sl_plain.proofs.Lists.{contains_none, find_inside}
 use Rattle.sl_run.specs.Events.{happens, machine_of, may_happen}
 use Rattle.sl_run.specs.Runs.{Happening, world_after}
 use Rattle.sl_run.specs.Safety.{LawfulRun, world_at}
@@ -12,11 +13,10 @@ use Rattle.sl_run.specs.declared.header.Header.{Header}
 use Rattle.sl_run_law.proofs.Beginnings.{begins_new}
 use Rattle.sl_run_law.proofs.Going.{first_goes}
 use Rattle.sl_run_law.specs.Fates.{AreDistinct, DistinctAlong, EachDistinct}
-use Rattle.sl_session_law.proofs.Making.{contains_none}
 use Rattle.sl_trace.specs.declared.effects.Effects.{Effects}
 use Rattle.sl_words.proofs.CaseLaws.{not_both}
 use Rattle.sl_words.proofs.WordLaws.{and_true}
-use Rattle.std.proofs.Common.{ap, arith, inl, inr, subst, sym, tests, ◌∙◌}
+use Rattle.std.proofs.Common.{ap, arith, inl, inr, subst, sym, ◌∙◌}
 use Rattle.std.specs.Prelude.{Contains, List, Some, false, true, [], ℕ, ◌&&◌, ◌++◌, ◌<◌, ◌==◌, ◌∷◌, ◌≡◌, ◌≤◌}
 
 -- ---- before now
@@ -63,13 +63,10 @@ pub distinct_at : (w : World) (now : List Happening) (x : Happening) → Distinc
 distinct_at w [] x along = along.0
 distinct_at w (y ∷ now) x along = distinct_at (happens w y.0 y.1) now x along.1
 
-pub equal_numbers : (x y : ℕ) → x ≡ y → (x == y) ≡ true
-equal_numbers x y h = grind (arith, tests)
-
 -- The call in flight is the one that has its number.
 pub the_flight : (a : Machine) (c f : Course) → AreDistinct a.calls → Contains a.calls c → flight_of a c.call.number ≡ Some f → c ≡ f
 the_flight a c f d has flies =
-    let p = found_in (λ x. x.call.number == c.call.number && is_open a x) a.calls f flies in
+    let p = find_inside (λ x. x.call.number == c.call.number && is_open a x) a.calls f flies in
     sym (one_call a.calls f c d p.0 has (and_true (f.call.number == c.call.number) (is_open a f) p.1).0)
 
 -- What has a fate keeps it.

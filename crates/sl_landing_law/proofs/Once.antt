@@ -1,11 +1,12 @@
 -- A write lands once: what lands now was in flight, and the writers of what landed before have their fates.
 use Rattle.sl_course_law.specs.Promises.{CallsAreDistinct}
 use Rattle.sl_landing_law.proofs.Arriving.{Arrival, Lands, first_lands}
-use Rattle.sl_landing_law.proofs.Listing.{found_in, one_call, pairs_more, pairs_none}
-use Rattle.sl_landing_law.proofs.Making.{distinct_at, equal_numbers}
+use Rattle.sl_landing_law.proofs.Listing.{one_call, pairs_more, pairs_none}
+use Rattle.sl_landing_law.proofs.Making.{distinct_at}
 use Rattle.sl_landing_law.proofs.Passing.{step_landings, world_first, world_keeps}
 use Rattle.sl_landing_law.proofs.Writers.{are_written_given, writer_settled}
 use Rattle.sl_landing_law.specs.Landings.{HasWriter, IsWrittenBy, WritesLandOnce}
+use Rattle.sl_plain.proofs.Lists.{find_inside}
 use Rattle.sl_run.specs.Events.{first_change, input_of, machine_of}
 use Rattle.sl_run.specs.Safety.{world_at}
 use Rattle.sl_run.specs.Worlds.{Course, Landing, Machine, World, is_in_flight, is_open, machine_at, world_with}
@@ -13,6 +14,7 @@ use Rattle.sl_run.specs.declared.event.Event.{Event}
 use Rattle.sl_run_law.specs.Fates.{EachDistinct}
 use Rattle.sl_words.proofs.CaseLaws.{not_both, one_value, some_value}
 use Rattle.std.proofs.Common.{ap, inl, inr, subst, sym, ◌∙◌}
+use Rattle.std.proofs.lemmas.Bool.{eq-eqb}
 use Rattle.std.specs.Prelude.{AllPairs, Contains, List, [], ℕ, ◌&&◌, ◌++◌, ◌==◌, ◌∷◌, ◌≡◌}
 
 abbrev OtherWriters : List Landing → Type 0
@@ -32,9 +34,9 @@ not_again : (w v : World) (a : Arrival w v) (k : Landing) (m n : ℕ) → EachDi
 not_again w v a k m n distinct by machine number =
     let host : by.machine ≡ a.host = one_value by.machine a.host (machine_at w m) by.at (ap (machine_at w) (sym machine) ∙ a.at) in
     let has = subst (λ (x : Machine). Contains x.calls by.course) host by.has in
-    let inside = (found_in (λ c. c.call.number == a.number && is_open a.host c) a.host.calls a.flight a.flies).0 in
+    let inside = (find_inside (λ c. c.call.number == a.number && is_open a.host c) a.host.calls a.flight a.flies).0 in
     let same : by.course ≡ a.flight = one_call a.host.calls by.course a.flight (distinct a.machine a.host a.at) has inside
-    (equal_numbers by.course.call.number a.flight.call.number (by.number ∙ sym number)) in
+    (eq-eqb by.course.call.number a.flight.call.number (by.number ∙ sym number)) in
     not_both (is_in_flight by.course.fate) (ap (λ (c : Course). is_in_flight c.fate) same ∙ a.waits) (writer_settled w k by.course by.record_written by.left)
 
 other_writer : (w v : World) (a : Arrival w v) (k : Landing) → EachDistinct w → HasWriter w k → a.landing.writer ≡ k.writer → ⊥

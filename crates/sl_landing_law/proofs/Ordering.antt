@@ -3,13 +3,13 @@ use Rattle.sl_landing_law.proofs.Arriving.{Lands, first_lands}
 use Rattle.sl_landing_law.proofs.Listing.{pairs_more, pairs_none}
 use Rattle.sl_landing_law.proofs.Passing.{IsLater, event_later, step_landings, world_first, world_keeps, world_then}
 use Rattle.sl_landing_law.specs.Landings.{LandingsComeInOrder}
+use Rattle.sl_plain.proofs.Lists.{contains_cases, contains_none}
 use Rattle.sl_run.specs.Events.{first_change, input_of, machine_of}
 use Rattle.sl_run.specs.Runs.{Happening}
 use Rattle.sl_run.specs.Safety.{LawfulRun, world_at}
 use Rattle.sl_run.specs.Worlds.{Landing, Program, World}
 use Rattle.sl_run.specs.declared.event.Event.{Event}
 use Rattle.sl_run.specs.declared.header.Header.{Header}
-use Rattle.sl_session_law.proofs.Making.{contains_cases, contains_none}
 use Rattle.sl_trace.specs.declared.effects.Effects.{Effects}
 use Rattle.std.proofs.Common.{arith, inl, inr, subst, sym, ◌∙◌}
 use Rattle.std.specs.Prelude.{AllPairs, Contains, List, ◌<◌, ◌∷◌, ◌≡◌, ◌≤◌}

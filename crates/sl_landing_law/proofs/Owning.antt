@@ -1,12 +1,15 @@
 -- Whose calls are: of daemons that began; and none that was dropped is of the one that runs.
 use Rattle.sl_area.specs.Layouts.{Layout, layout_with}
+use Rattle.sl_course_law.proofs.Matched.{apart as not_the_next}
 use Rattle.sl_course_law.specs.Promises.{CallsAreDistinct}
 use Rattle.sl_front_law.proofs.Going.{was_there}
-use Rattle.sl_landing_law.proofs.Making.{distinct_at, equal_numbers, the_flight}
+use Rattle.sl_landing_law.proofs.Making.{distinct_at, the_flight}
 use Rattle.sl_landing_law.proofs.Passing.{world_first, world_keeps, world_then}
 use Rattle.sl_landing_law.proofs.Running.{input_runs, own_makes_none, stays_running}
 use Rattle.sl_landing_law.proofs.Stepping.{IsMade, Stepped, came}
 use Rattle.sl_landing_law.proofs.Turning.{NewFate, Turn, Turned}
+use Rattle.sl_plain.proofs.Lists.{contains_none}
+use Rattle.sl_plain.proofs.Numbers.{lt_then_le}
 use Rattle.sl_run.specs.Events.{after_start, after_step, daemon_number, first_change, input_of, machine_of, may_happen, take_step, with_entry}
 use Rattle.sl_run.specs.Runs.{Happening, own_effects_of}
 use Rattle.sl_run.specs.Safety.{LawfulRun, world_at}
@@ -21,7 +24,6 @@ use Rattle.sl_run_law.proofs.Walking.{Asked, each_first, each_step, index}
 use Rattle.sl_run_law.specs.Daemons.{IsSettled}
 use Rattle.sl_run_law.specs.Fates.{AreDistinct, EachDistinct}
 use Rattle.sl_run_law.specs.Machines.{EachMachine}
-use Rattle.sl_session_law.proofs.Making.{contains_none}
 use Rattle.sl_trace.specs.declared.effects.Call.{Call}
 use Rattle.sl_trace.specs.declared.effects.Effects.{Effects}
 use Rattle.sl_trace.specs.declared.effects.Entry.{Entry}
@@ -30,6 +32,7 @@ use Rattle.sl_trace.specs.declared.input.Input.{Input}
 use Rattle.sl_words.proofs.CaseLaws.{false_is_true, none_some, not_both, one_value, some_value}
 use Rattle.sl_words.specs.Words.{some_is}
 use Rattle.std.proofs.Common.{ap, arith, inl, inr, refl, subst, sym, ◌∙◌}
+use Rattle.std.proofs.lemmas.Bool.{eq-eqb}
 use Rattle.std.specs.List.{range_with_len}
 use Rattle.std.specs.Option.{option_map_or}
 use Rattle.std.specs.Prelude.{Contains, List, None, Option, Some, false, find, is_some, length, map, option_map, slice_get, suc, true, zero, [], ℕ, ◌++◌, ◌+◌, ◌-◌, ◌<◌, ◌==◌, ◌∷◌, ◌≡◌, ◌≤◌, ◌⊎◌}
@@ -127,7 +130,7 @@ lost_by : (o : Option Daemon) (n k : ℕ) → some_is (λ d. d.number == n) o �
 lost_by None n k h is same = none_some k is
 lost_by (Some d) n k h is same =
     let e : d.number ≡ k = some_value d.number k is in
-    not_both (d.number == n) (equal_numbers d.number n (e ∙ same)) h
+    not_both (d.number == n) (eq-eqb d.number n (e ∙ same)) h
 
 -- What isn't of the running daemon is of no daemon that runs.
 not_running : (a : Machine) (c : Course) → is_of_running a c ≡ false → IsLost a c
@@ -146,12 +149,6 @@ counts_up : (a b : Machine) → Heads a b → count a ≤ count b
 counts_up a b (inl same) = omega (arith, same.1)
 counts_up a b (inr (inl none)) = omega (arith, none.1)
 counts_up a b (inr (inr new)) = omega (arith, new.1)
-
-below_still : (n k j : ℕ) → n < k → k ≤ j → n < j
-below_still n k j h i = omega (arith, h, i)
-
-not_the_next : (n k : ℕ) → n < k → k ≡ n → ⊥
-not_the_next n k h e = omega (arith, h, e)
 
 lost_next : (a b : Machine) (c d : Course) → Heads a b → d.daemon ≡ c.daemon → c.daemon < count a → IsLost a c → IsLost b d
 lost_next a b c d (inl same) daemon below lost k is eq = lost k (sym same.0 ∙ is) (eq ∙ daemon)
@@ -197,7 +194,7 @@ first_owns w e m a x distinct heads t o =
       numbered = numbered_next a x heads o;
       below = λ d has.
           let c = t.back d has in
-          below_still d.daemon (count a) (count x) (subst (λ n. n < count a) (sym c.2.daemon) (o.below c.0 c.1)) (counts_up a x heads);
+          lt_then_le d.daemon (count a) (count x) (subst (λ n. n < count a) (sym c.2.daemon) (o.below c.0 c.1)) (counts_up a x heads);
       dropped = λ d has drop.
           let c = t.back d has in
           lost_next a x c.0 d heads c.2.daemon (o.below c.0 c.1) (turn_lost w e m a c.0 d distinct o c.1 c.2 drop);

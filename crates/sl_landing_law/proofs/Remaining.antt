@@ -4,12 +4,12 @@ use Rattle.sl_landing_law.proofs.Passing.{event_goes_on, step_landings, world_fi
 use Rattle.sl_landing_law.proofs.Stepping.{IsMade, came}
 use Rattle.sl_landing_law.proofs.Turning.{NewFate, Turn}
 use Rattle.sl_landing_law.specs.Landings.{HasLanded, LandedWritesAreThere}
+use Rattle.sl_plain.proofs.Lists.{contains_first, contains_none}
 use Rattle.sl_run.specs.Events.{first_change, input_of, machine_of, may_happen}
 use Rattle.sl_run.specs.Safety.{world_at}
 use Rattle.sl_run.specs.Worlds.{Course, Dropped, Fate, Landing, Machine, Torn, World, is_landed, machine_at}
 use Rattle.sl_run.specs.declared.event.Event.{Event}
 use Rattle.sl_run_law.proofs.Beginnings.{begins_new}
-use Rattle.sl_session_law.proofs.Making.{contains_first, contains_none}
 use Rattle.sl_trace.specs.declared.effects.Call.{Call}
 use Rattle.sl_trace.specs.declared.effects.Effects.{Effects}
 use Rattle.sl_words.proofs.CaseLaws.{false_is_true}

@@ -3,6 +3,7 @@ use Rattle.sl_landing_law.proofs.Arriving.{changed_here}
 use Rattle.sl_landing_law.proofs.Guarding.{answer_runs, do_runs}
 use Rattle.sl_landing_law.proofs.Passing.{world_first, world_then}
 use Rattle.sl_landing_law.proofs.Stepping.{same_daemon}
+use Rattle.sl_plain.proofs.Options.{some_there}
 use Rattle.sl_run.specs.Events.{after_step, first_change, input_at, input_of, machine_of, may_happen, own_effects, take_step, with_entry}
 use Rattle.sl_run.specs.Runs.{own_effects_of}
 use Rattle.sl_run.specs.Worlds.{Daemon, Machine, Stamp, World, machine_at, reading_now, stamp_now}
@@ -108,10 +109,6 @@ pub record HasEntry (w : World) (e : Event) (fx : Effects) (i : Input) : Type 0 
   pub runs : machine.daemon ≡ Some (with_entry entry now daemon)
   pub effects : entry.effects ≡ fx
 
-the_daemon : (o : Option Daemon) → is_some o ≡ true → (d : Daemon) × (o ≡ Some d)
-the_daemon None h = absurd (true_is_false (sym h))
-the_daemon (Some d) h = (d, refl)
-
 stepped_at : (w : World) (e : Event) (fx : Effects) (i : Input) (x : Machine) → input_of w e ≡ Some i → machine_at (world_first w e) (machine_of e) ≡ Some x
     → machine_at (world_then w e fx) (machine_of e) ≡ Some (after_step (stamp_now (world_first w e) x) i fx x)
 stepped_at w e fx i x h at =
@@ -124,7 +121,7 @@ has_entry w e fx i a may at h =
     let first = stays_running w e (machine_of e) a at in
     let x : Machine = first.0 in
     let now : Stamp = stamp_now (world_first w e) x in
-    let d = the_daemon a.daemon (input_runs w e a i may at h) in
+    let d = some_there a.daemon (input_runs w e a i may at h) in
     record {
       machine = after_step now i fx x;
       daemon = d.0;
@@ -155,7 +152,7 @@ own_calls (StartDaemon m name) w a = refl
 own_calls (Crash m) w a = refl
 own_calls (Restart m) w a = refl
 
-own_by : (w : World) (e : Event) (o : Option Machine) → (option_map_or (own_effects w e) o no_effects).calls ≡ []
+pub own_by : (w : World) (e : Event) (o : Option Machine) → (option_map_or (own_effects w e) o no_effects).calls ≡ []
 own_by w e None = refl
 own_by w e (Some a) = own_calls e w a
 

@@ -2,10 +2,10 @@
 use Rattle.sl_area.specs.Layouts.{Layout, layout_with, sector_with}
 use Rattle.sl_landing_law.proofs.Arriving.{Arrival, Lands, first_lands}
 use Rattle.sl_landing_law.proofs.Initial.{initial_sized, is_size}
-use Rattle.sl_landing_law.proofs.Listing.{found_in}
 use Rattle.sl_landing_law.proofs.Passing.{event_goes_on, step_landings, world_first, world_keeps, world_then}
 use Rattle.sl_landing_law.proofs.Spelled.{CallsAreSpelled, IsSpelled, run_spells}
 use Rattle.sl_landing_law.specs.Landings.{LandingsAreSectors}
+use Rattle.sl_plain.proofs.Lists.{contains_cases, contains_none, find_inside}
 use Rattle.sl_run.specs.Events.{first_change, input_of, machine_of, may_happen, torn_bytes, write_bytes}
 use Rattle.sl_run.specs.Headers.{IsHeader}
 use Rattle.sl_run.specs.Runs.{Happening}
@@ -16,7 +16,6 @@ use Rattle.sl_run.specs.declared.header.Header.{Header}
 use Rattle.sl_run_law.proofs.Going.{run_goes}
 use Rattle.sl_sector.proofs.SpellingLaws.{length-spelling}
 use Rattle.sl_sector.specs.Spelling.{IsDigest, IsSectorSize}
-use Rattle.sl_session_law.proofs.Making.{contains_cases, contains_none}
 use Rattle.sl_trace.specs.Traces.{is_write, record_of, same_place}
 use Rattle.sl_trace.specs.declared.effects.Call.{Call}
 use Rattle.sl_trace.specs.declared.effects.Effects.{Effects}
@@ -58,7 +57,7 @@ initial_size w path offset k =
 content_by : (w : World) (path : List ℕ) (offset : ℕ) (o : Option Landing) → last_landing w path offset ≡ o → IsLaid w → AreSized w
     → length (elim o as (λ x. List ℕ) [ Some l ↦ l.bytes | None ↦ initial_bytes w.layout w.header path offset ]) ≡ w.layout.sector
 content_by w path offset None is k so = initial_size w path offset k
-content_by w path offset (Some l) is k so = so l (found_in (λ x. same_place x.path x.offset path offset) w.landings l is).0
+content_by w path offset (Some l) is k so = so l (find_inside (λ x. same_place x.path x.offset path offset) w.landings l is).0
 
 pub content_size : (w : World) (path : List ℕ) (offset : ℕ) → IsLaid w → AreSized w → length (content w path offset) ≡ w.layout.sector
 content_size w path offset k so = content_by w path offset (last_landing w path offset) refl k so
@@ -116,7 +115,7 @@ torn_size w c n middle writes k spelled so fits = torn_by w c n middle c.op refl
 
 flight_spelled : (w v : World) (a : Arrival w v) → CallsAreSpelled w → IsSpelled a.flight.call
 flight_spelled w v a so =
-    so a.machine a.host a.flight a.at (found_in (λ x. x.call.number == a.number && is_open a.host x) a.host.calls a.flight a.flies).0
+    so a.machine a.host a.flight a.at (find_inside (λ x. x.call.number == a.number && is_open a.host x) a.host.calls a.flight a.flies).0
 
 new_size : (w v : World) (a : Arrival w v) → IsLaid w → CallsAreSpelled w → AreSized w → length a.landing.bytes ≡ w.layout.sector
 new_size w v a k spelled so =

@@ -1,9 +1,11 @@
 -- Each call of a machine that writes, writes a record: the law of its daemon's trace says so of the entry that makes it.
+use Rattle.sl_course_law.proofs.Distinct.{running_has}
 use Rattle.sl_front_law.proofs.Having.{in_flat}
 use Rattle.sl_landing_law.proofs.Passing.{world_first, world_keeps, world_then}
 use Rattle.sl_landing_law.proofs.Running.{HasEntry, has_entry, own_makes_none}
 use Rattle.sl_landing_law.proofs.Stepping.{IsMade, came}
 use Rattle.sl_law.specs.Lawful.{Lawful}
+use Rattle.sl_plain.proofs.Lists.{contains_none, got_inside}
 use Rattle.sl_run.specs.Events.{input_of, machine_of, may_happen, with_entry}
 use Rattle.sl_run.specs.Runs.{EachDaemon, Happening, own_effects_of}
 use Rattle.sl_run.specs.Safety.{LawfulRun, world_at}
@@ -14,14 +16,12 @@ use Rattle.sl_run_law.proofs.Beginnings.{begins_new}
 use Rattle.sl_run_law.proofs.Walking.{index}
 use Rattle.sl_sector.specs.Records.{IsRecord}
 use Rattle.sl_sector.specs.declared.sector.Rec.{Rec}
-use Rattle.sl_session_law.proofs.Making.{contains_first, contains_none}
-use Rattle.sl_session_law.proofs.Owning.{got_inside}
 use Rattle.sl_trace.specs.Traces.{record_of}
 use Rattle.sl_trace.specs.declared.effects.Call.{Call}
 use Rattle.sl_trace.specs.declared.effects.Effects.{Effects}
 use Rattle.sl_trace.specs.declared.input.Input.{Input}
 use Rattle.std.proofs.Common.{ap, inl, inr, refl, subst, sym, ◌∙◌}
-use Rattle.std.specs.Prelude.{Contains, List, None, Option, Some, true, ℕ, ◌-◌, ◌∷◌, ◌≡◌}
+use Rattle.std.specs.Prelude.{Contains, List, None, Option, Some, true, ℕ, ◌-◌, ◌≡◌}
 
 -- What the call writes is a record.
 abbrev pub IsSpelled : Call → Type 0
@@ -32,13 +32,9 @@ CallsAreSpelled w = (m : ℕ) (a : Machine) (c : Course) → machine_at w m ≡ 
 
 -- ---- new calls
 
-running_is_on : (a : Machine) (d : Daemon) → a.daemon ≡ Some d → Contains (daemons_on a) d
-running_is_on a d h =
-    subst (λ o. Contains (elim o as (λ x. List Daemon) [ None ↦ a.ended | Some x ↦ x ∷ a.ended ]) d) (sym h) (contains_first d a.ended)
-
 lawful_at : (u : World) (m : ℕ) (a : Machine) (d : Daemon) → EachDaemon Lawful u → machine_at u m ≡ Some a → a.daemon ≡ Some d → Lawful d.setting d.trace
 lawful_at u m a d each at runs =
-    each d (in_flat daemons_on u.machines a d (got_inside u.machines (m - 1) a (index u m a at).1) (running_is_on a d runs))
+    each d (in_flat daemons_on u.machines a d (got_inside u.machines (m - 1) a (index u m a at).1) (running_has a d runs))
 
 by_entry : (w : World) (e : Event) (fx : Effects) (i : Input) (h : HasEntry w e fx i) → EachDaemon Lawful (world_then w e fx)
     → (c : Call) → Contains fx.calls c → IsSpelled c

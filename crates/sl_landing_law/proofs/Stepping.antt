@@ -1,8 +1,9 @@
 -- What a daemon's step makes of its machine's calls: one may be answered, and new ones come. And the event as a whole.
-use Rattle.sl_landing_law.proofs.Arriving.{at_by}
 use Rattle.sl_landing_law.proofs.Listing.{made_calls, old_or_made, stays_made}
 use Rattle.sl_landing_law.proofs.Passing.{event_goes_on, world_first, world_then}
 use Rattle.sl_landing_law.proofs.Turning.{Turn, Turned, first_turns, turned_call, turned_same}
+use Rattle.sl_plain.proofs.Lists.{there_is}
+use Rattle.sl_plain.proofs.Options.{else_some}
 use Rattle.sl_run.specs.Events.{after_effects, after_step, close_answered, daemon_number, input_of, machine_of, may_happen, new_course, take_step}
 use Rattle.sl_run.specs.Worlds.{Course, Machine, Stamp, World, machine_at, stamp_now}
 use Rattle.sl_run.specs.declared.event.Event.{Event}
@@ -17,7 +18,7 @@ use Rattle.sl_trace.specs.declared.input.Input.{Input}
 use Rattle.sl_words.proofs.CaseLaws.{one_value}
 use Rattle.std.proofs.Common.{ap, arith, inl, inr, refl, subst, sym}
 use Rattle.std.proofs.lemmas.Bool.Decides.{Decides-eqb}
-use Rattle.std.specs.Prelude.{Contains, List, Option, Some, length, slice_get, suc, true, zero, [], ℕ, ◌-◌, ◌<◌, ◌==◌, ◌∷◌, ◌≡◌, ◌⊎◌}
+use Rattle.std.specs.Prelude.{Contains, Option, Some, length, slice_get, true, ℕ, ◌-◌, ◌<◌, ◌==◌, ◌≡◌, ◌⊎◌}
 
 -- ---- the step
 
@@ -142,11 +143,6 @@ event_makes w e fx may m a at =
     let q = step_makes (world_first w e) (machine_of e) (input_of w e) fx m p.0 p.1 in
     (q.0, q.1, record { middle = p.0; between = p.1; turned = p.2; stepped = q.2 })
 
-got_at : (ms : List Machine) (i : ℕ) → i < length ms → (a : Machine) × (slice_get ms i ≡ Some a)
-got_at [] i h = absurd (omega (arith, h))
-got_at (a ∷ ms) zero h = (a, refl)
-got_at (a ∷ ms) (suc i) h = got_at ms i (omega (arith, h))
-
 -- Where a machine comes from.
 pub record Came (w : World) (e : Event) (fx : Effects) (m : ℕ) (b : Machine) : Type 0 where
   pub before : Machine
@@ -157,7 +153,7 @@ pub came : (w : World) (e : Event) (fx : Effects) (m : ℕ) (b : Machine) → ma
 came w e fx m b may at =
     let u : World = world_then w e fx in
     let less : m - 1 < length w.machines = omega (arith, (number_within u m b at).0, (event_goes_on w e fx).machines) in
-    let a = got_at w.machines (m - 1) less in
-    let there : machine_at w m ≡ Some a.0 = at_by (m == 0) (slice_get w.machines (m - 1)) a.0 (index u m b at).0 a.1 in
+    let a = there_is w.machines (m - 1) less in
+    let there : machine_at w m ≡ Some a.0 = else_some (m == 0) (slice_get w.machines (m - 1)) a.0 (index u m b at).0 a.1 in
     let p = event_makes w e fx may m a.0 there in
     record { before = a.0; at = there; passage = subst (Passage w e fx m a.0) (one_value p.0 b (machine_at u m) p.1 at) p.2 }

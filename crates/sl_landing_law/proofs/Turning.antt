@@ -1,7 +1,7 @@
 -- What an event makes of a machine's calls before the daemon's step: some are sampled, some get a fate; nothing else of them changes.
 use Rattle.sl_landing_law.proofs.Arriving.{landing_of, flight_there, landed_with}
 use Rattle.sl_landing_law.proofs.Guarding.{drop_ended}
-use Rattle.sl_landing_law.proofs.Listing.{contains_map, found_in, in_map}
+use Rattle.sl_plain.proofs.Lists.{contains_map, find_inside, in_map}
 use Rattle.sl_run.specs.Events.{add_landing, change_call, fated, first_change, flight_at, land_whole, may_happen, sampled_more, sectors_left, write_bytes}
 use Rattle.sl_run.specs.Worlds.{Course, Dropped, Landed, Landing, Machine, Torn, World, change_machine, flight_of, is_in_flight, is_of_running, is_open, is_write_course, machine_at}
 use Rattle.sl_run.specs.declared.event.Event.TheVariants.{Do, Land}
@@ -12,6 +12,7 @@ use Rattle.sl_run_law.proofs.Walking.{Asked, each_first}
 use Rattle.sl_run_law.specs.Machines.{EachMachine}
 use Rattle.sl_words.proofs.WordLaws.{and_true}
 use Rattle.std.proofs.Common.{ap, inl, inr, refl, subst, sym, ◌∙◌}
+use Rattle.std.proofs.lemmas.Bool.{eqb-true}
 use Rattle.std.proofs.lemmas.Bool.Decides.{Decides-eqb}
 use Rattle.std.specs.Option.{option_map_or}
 use Rattle.std.specs.Prelude.{Bool, Contains, None, Option, Some, false, true, ℕ, ◌&&◌, ◌==◌, ◌∷◌, ◌≡◌, ◌⊎◌}
@@ -79,7 +80,7 @@ turn_sampled w e m a k c = record { call = refl; daemon = refl; made = refl; ans
 -- The call that flies has the number.
 pub flight_number : (a : Machine) (n : ℕ) (f : Course) → flight_of a n ≡ Some f → f.call.number ≡ n
 flight_number a n f h =
-    let p = found_in (λ x. x.call.number == n && is_open a x) a.calls f h in
+    let p = find_inside (λ x. x.call.number == n && is_open a x) a.calls f h in
     (Decides-eqb f.call.number n).0 (and_true (f.call.number == n) (is_open a f) p.1).0
 
 -- ---- what lands now
@@ -118,11 +119,8 @@ do_is w m n a f e is at flies writes waits =
 
 -- ---- events
 
-same_number : (x n : ℕ) → (x == n) ≡ true → x ≡ n
-same_number x n h = (Decides-eqb x n).0 h
-
 flies_too : (a : Machine) (x n : ℕ) (f : Course) → (x == n) ≡ true → flight_of a n ≡ Some f → flight_of a x ≡ Some f
-flies_too a x n f same h = subst (λ k. flight_of a k ≡ Some f) (sym (same_number x n same)) h
+flies_too a x n f same h = subst (λ k. flight_of a k ≡ Some f) (sym (eqb-true x n same)) h
 
 turn_fated : (w : World) (e : Event) (m n : ℕ) (a : Machine) (f c : Course) (d : Course) → flight_of a n ≡ Some f → is_in_flight f.fate ≡ true
     → (c.call.number == n) ≡ true → d.call ≡ c.call → d.daemon ≡ c.daemon → d.made ≡ c.made → d.answered ≡ c.answered → d.done ≡ c.done
@@ -151,7 +149,7 @@ turns_landed : (w : World) (e : Event) (m n : ℕ) (a : Machine) (f : Course) �
 turns_landed w e m n a f at flies waits is =
     turned_call (Turn w e m a) n (fated Landed) a (turn_still w e m a)
     (λ c h t. turn_fated w e m n a f c (fated Landed c) flies waits t refl refl refl refl refl
-    (inl (refl, landed_now w m n a f c e at flies (same_number c.call.number n t) is)))
+    (inl (refl, landed_now w m n a f c e at flies (eqb-true c.call.number n t) is)))
 
 turns_torn : (w : World) (e : Event) (m n : ℕ) (a : Machine) (f : Course) → flight_of a n ≡ Some f → is_in_flight f.fate ≡ true
     → Turns w e m a (change_call n (fated Torn) a)

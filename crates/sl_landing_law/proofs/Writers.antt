@@ -2,13 +2,13 @@
 use Rattle.sl_area.specs.Layouts.{Layout, record_in, sector_with}
 use Rattle.sl_course_law.specs.Promises.{CallsAreDistinct}
 use Rattle.sl_landing_law.proofs.Arriving.{Arrival, IsPart, IsWhole, Lands, first_lands}
-use Rattle.sl_landing_law.proofs.Listing.{contains_map, found_in}
-use Rattle.sl_landing_law.proofs.Making.{AreBefore, distinct_at, equal_numbers, fate_kept, run_made_before}
+use Rattle.sl_landing_law.proofs.Making.{AreBefore, distinct_at, fate_kept, run_made_before}
 use Rattle.sl_landing_law.proofs.Ordering.{IsPast, run_orders}
 use Rattle.sl_landing_law.proofs.Passing.{event_later, first_later, step_landings, world_first, world_keeps, world_then}
 use Rattle.sl_landing_law.proofs.Stepping.{Step, event_makes, step_makes}
 use Rattle.sl_landing_law.proofs.Turning.{flight_number}
 use Rattle.sl_landing_law.specs.Landings.{HasWriter, IsWrittenBy, LandingsAreWritten, LeftBy}
+use Rattle.sl_plain.proofs.Lists.{contains_cases, contains_map, contains_none, find_inside}
 use Rattle.sl_run.specs.Events.{change_call, fated, first_change, input_of, machine_of, may_happen, spells_something}
 use Rattle.sl_run.specs.Safety.{world_at}
 use Rattle.sl_run.specs.Worlds.{Course, Fate, Landed, Landing, Machine, Stamp, Torn, World, flight_of, is_in_flight, is_of_running, is_open, machine_at, may_land, stamp_now, world_with}
@@ -16,7 +16,6 @@ use Rattle.sl_run.specs.declared.event.Event.{Event}
 use Rattle.sl_run_law.proofs.Coursing.{changed_if}
 use Rattle.sl_run_law.specs.Fates.{EachDistinct}
 use Rattle.sl_sector.specs.declared.sector.Rec.{Rec}
-use Rattle.sl_session_law.proofs.Making.{contains_cases, contains_none}
 use Rattle.sl_trace.specs.Traces.{is_write, record_of}
 use Rattle.sl_trace.specs.declared.effects.Call.{Call}
 use Rattle.sl_trace.specs.declared.effects.Effects.{Effects}
@@ -26,6 +25,7 @@ use Rattle.sl_trace.specs.declared.input.Input.{Input}
 use Rattle.sl_words.proofs.CaseLaws.{false_is_true, none_some, some_value, true_is_false}
 use Rattle.sl_words.proofs.WordLaws.{and_true}
 use Rattle.std.proofs.Common.{ap, arith, inl, inr, refl, subst, sym, ◌∙◌}
+use Rattle.std.proofs.lemmas.Bool.{eq-eqb}
 use Rattle.std.specs.Option.{option_map_or}
 use Rattle.std.specs.Prelude.{Bool, Contains, List, None, Option, Some, false, is_none, is_ok, true, [], ℕ, ◌&&◌, ◌++◌, ◌<◌, ◌==◌, ◌||◌, ◌∷◌, ◌≡◌, ◌≤◌}
 
@@ -115,7 +115,7 @@ no_answer (Some t) s h is = false_is_true h
 -- What is in flight has no answer.
 unanswered : (a : Machine) (n : ℕ) (f : Course) (s : Stamp) → flight_of a n ≡ Some f → f.answered ≡ Some s → ⊥
 unanswered a n f s h is =
-    let p = found_in (λ x. x.call.number == n && is_open a x) a.calls f h in
+    let p = find_inside (λ x. x.call.number == n && is_open a x) a.calls f h in
     let open_now = (and_true (f.call.number == n) (is_open a f) p.1).1 in
     no_answer f.answered s (and_true (is_none f.answered) (is_of_running a f || may_land f) open_now).0 is
 
@@ -128,8 +128,8 @@ fated_there : (a : Machine) (n : ℕ) (f : Course) (x : Fate) → flight_of a n 
 fated_there a n f x h =
     let g : Course → Course = λ c. changed_if (c.call.number == n) (fated x) c in
     subst (λ c. Contains (change_call n (fated x) a).calls c)
-    (changed_true (fated x) f (f.call.number == n) (equal_numbers f.call.number n (flight_number a n f h)))
-    (contains_map g a.calls f (found_in (λ c. c.call.number == n && is_open a c) a.calls f h).0)
+    (changed_true (fated x) f (f.call.number == n) (eq-eqb f.call.number n (flight_number a n f h)))
+    (contains_map g a.calls f (find_inside (λ c. c.call.number == n && is_open a c) a.calls f h).0)
 
 made_earlier : (w : World) (l : Landing) (c : Course) → (l.step ≡ w.step) × (l.moment ≡ w.moment) → (c.made.step < w.step) × (c.made.moment ≤ w.moment)
     → (c.made.step < l.step) × (c.made.moment ≤ l.moment)
@@ -146,7 +146,7 @@ written_now w e fx a x earlier there left =
     let b = step_makes v (machine_of e) (input_of w e) fx a.machine turned there in
     let d = b.2.forth (fated x a.flight) (fated_there a.host a.number a.flight x a.flies) in
     let r = a_record a.flight.call.op a.writes in
-    let inside = (found_in (λ c. c.call.number == a.number && is_open a.host c) a.host.calls a.flight a.flies).0 in
+    let inside = (find_inside (λ c. c.call.number == a.number && is_open a.host c) a.host.calls a.flight a.flies).0 in
     record {
       machine = b.0;
       course = d.0;

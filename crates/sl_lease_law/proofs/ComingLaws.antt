@@ -30,21 +30,21 @@ own_is_last : (id : ℕ) (o : Option Block) (read : List (Option Block)) (own d 
 own_is_last id None read own d known is = absurd (none_some d is)
 own_is_last id (Some b) read own d known is = some_value d b (sym is) ∙ some_value b own known
 
-found_later : (g : Layout) (id : ℕ) (m : Submitted) (ms : List Submitted) (own : Block) → FoundIn g id ms own → FoundIn g id (m ∷ ms) own
+pub found_later : (g : Layout) (id : ℕ) (m : Submitted) (ms : List Submitted) (own : Block) → FoundIn g id ms own → FoundIn g id (m ∷ ms) own
 found_later g id m ms own f =
     let k : ℕ = f.has.0 in
     record { read = f.read; blocks = f.blocks; has = (suc k, (let less : k < length ms = f.has.1 in omega (arith, less)), f.has.2); given = f.given; block = f.block }
 
-found_here : (g : Layout) (id : ℕ) (m : Submitted) (ms : List Submitted) (own : Block) → (o : Option (List (Option Block))) → blocks_given g m ≡ o
+pub found_here : (g : Layout) (id : ℕ) (m : Submitted) (ms : List Submitted) (own : Block) → (o : Option (List (Option Block))) → blocks_given g m ≡ o
     → block_of_host (elim o as (λ x. List (Option Block)) [ Some bs ↦ bs | None ↦ last_blocks g ms ]) id ≡ Some own
     → (block_of_host (last_blocks g ms) id ≡ Some own → FoundIn g id ms own) → FoundIn g id (m ∷ ms) own
 found_here g id m ms own None gives is later = found_later g id m ms own (later is)
 found_here g id m ms own (Some bs) gives is later = record { read = m; blocks = bs; has = (0, omega arith, refl); given = gives; block = is }
 
-none_there : (own : Block) (k : ℕ) → unwrap_or (slice_get {X = Option Block} [] k) None ≡ Some own → ⊥
+pub none_there : (own : Block) (k : ℕ) → unwrap_or (slice_get {X = Option Block} [] k) None ≡ Some own → ⊥
 none_there own k is = none_some own is
 
-found_read : (g : Layout) (id : ℕ) (ms : List Submitted) (own : Block) → block_of_host (last_blocks g ms) id ≡ Some own → FoundIn g id ms own
+pub found_read : (g : Layout) (id : ℕ) (ms : List Submitted) (own : Block) → block_of_host (last_blocks g ms) id ≡ Some own → FoundIn g id ms own
 found_read g id [] own is = absurd (none_there own (id - 1) is)
 found_read g id (m ∷ ms) own is = found_here g id m ms own (blocks_given g m) refl is (λ h. found_read g id ms own h)
 
@@ -65,7 +65,7 @@ found_last (m ∷ ms) w own found wrote = found_by m ms w own (block_written m) 
 
 -- ---- by the step of the write
 
-at_step : (kind : StepKind) (c : Submitted) (p : Work × LeaseStep) → lease_step c.call.purpose ≡ Some p → same_kind (kind_of_step p.1) kind ≡ true → is_at kind c ≡ true
+pub at_step : (kind : StepKind) (c : Submitted) (p : Work × LeaseStep) → lease_step c.call.purpose ≡ Some p → same_kind (kind_of_step p.1) kind ≡ true → is_at kind c ≡ true
 at_step kind c p is same = ap (λ o. some_is (λ q. same_kind (kind_of_step q.1) kind) o) is ∙ same
 
 -- What stands at the front: the lease's calls there.

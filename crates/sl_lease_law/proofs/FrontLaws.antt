@@ -4,6 +4,8 @@ use Rattle.sl_law.specs.Lawful.{Lawful}
 use Rattle.sl_law.specs.Saying.{cut_at}
 use Rattle.sl_lease_law.specs.Fronts.{Aged, AllAged, LawfulSubmission, Submission}
 use Rattle.sl_lease_law.specs.Promises.{EachWasSubmitted}
+use Rattle.sl_plain.proofs.Lists.{got_before, got_inside, head_is, tail_is}
+use Rattle.sl_plain.proofs.Options.{some_of}
 use Rattle.sl_sessions.specs.Sessions.{Session, begun_in, session_numbered, sessions}
 use Rattle.sl_trace.specs.Traces.{Answered, Setting, Submitted, Trace, answer_of, answered_in, mark, new_call, submitted}
 use Rattle.sl_trace.specs.declared.effects.Call.{Call}
@@ -11,20 +13,12 @@ use Rattle.sl_trace.specs.declared.effects.Entry.{Entry}
 use Rattle.sl_trace.specs.declared.input.Answer.{Answer}
 use Rattle.sl_trace.specs.declared.input.Input.TheVariants.{Answer as Told, Exit, Line, Spawned, Wake}
 use Rattle.sl_trace.specs.declared.input.Input.{Input}
-use Rattle.sl_words.proofs.CaseLaws.{false_is_true, none_some, some_value}
+use Rattle.sl_words.proofs.CaseLaws.{none_some}
 use Rattle.std.proofs.Common.{ap, arith, inl, inr, refl, subst, sym, ◌∙◌}
-use Rattle.std.proofs.lemmas.Option.{get_or_from_slice_get, slice_get_within}
 use Rattle.std.specs.Option.{option_or}
-use Rattle.std.specs.Prelude.{Bool, Contains, IsSome, List, None, Option, Some, drop, false, fold, length, map, slice_get, suc, take, true, zero, [], ℕ, ◌++◌, ◌+◌, ◌==◌, ◌∷◌, ◌≡◌, ◌≤◌, ◌⊎◌}
+use Rattle.std.specs.Prelude.{Bool, List, None, Option, Some, false, fold, length, map, slice_get, suc, take, true, [], ℕ, ◌++◌, ◌+◌, ◌==◌, ◌∷◌, ◌≡◌, ◌≤◌, ◌⊎◌}
 
 -- ---- lists
-
--- The first of a list that is not empty, and the others.
-head_is : {A : Type 0} (x y : A) (xs ys : List A) → x ∷ xs ≡ y ∷ ys → x ≡ y
-head_is x y xs ys h = some_value x y (ap (λ zs. slice_get zs 0) h)
-
-tail_is : {A : Type 0} (x y : A) (xs ys : List A) → x ∷ xs ≡ y ∷ ys → xs ≡ ys
-tail_is x y xs ys h = ap (λ zs. drop 1 zs) h
 
 -- Calls pushed onto others, the newest first.
 abbrev pub pushed : ℕ → ℕ → List Submitted → List Call → List Submitted
@@ -213,23 +207,11 @@ all_submitted (e ∷ es) newer older c h =
 
 -- ---- whose it is
 
-get_more : {A : Type 0} (xs ys : List A) (k : ℕ) (x : A) → slice_get xs k ≡ Some x → slice_get (xs ++ ys) k ≡ Some x
-get_more [] ys k x h = absurd (none_some x h)
-get_more (y ∷ xs) ys zero x h = h
-get_more (y ∷ xs) ys (suc k) x h = get_more xs ys k x h
-
 -- A session keeps its number.
 pub session_stays : (st : Setting) (later es : Trace) (n : ℕ) (s : Session) → session_numbered st es n ≡ Some s → session_numbered st (later ++ es) n ≡ Some s
 session_stays st [] es n s h = h
 session_stays st (e ∷ later) es n s h =
-    get_more (sessions st (later ++ es)) (begun_in st (later ++ es) (length (sessions st (later ++ es))) e) n s (session_stays st later es n s h)
-
-contains_got : {A : Type 0} (xs : List A) (k : ℕ) (x : A) → slice_get xs k ≡ Some x → Contains xs x
-contains_got xs k x h = (k, slice_get_within xs k x h, get_or_from_slice_get xs k x x h)
-
-pub got : {A : Type 0} (o : Option A) → IsSome o → (a : A) × (o ≡ Some a)
-got (Some a) h = (a, refl)
-got None h = absurd (false_is_true h)
+    got_before (sessions st (later ++ es)) (begun_in st (later ++ es) (length (sessions st (later ++ es))) e) n s (session_stays st later es n s h)
 
 -- The laws hold at the front.
 pub lawful_there : (st : Setting) (es : Trace) → Lawful st es → (c : Submitted) (older : List Submitted) → (h : Submission es c older) → Lawful st (h.entry ∷ h.past)
@@ -238,8 +220,8 @@ lawful_there st es law c older h = lawful-front st h.later (h.entry ∷ h.past) 
 pub lawful_submission : (st : Setting) (es : Trace) → Lawful st es → (c : Submitted) (older : List Submitted) → Submission es c older → LawfulSubmission st es c older
 lawful_submission st es law c older h =
     let owner : (s : Session) × (session_numbered st (h.entry ∷ h.past) h.call.session ≡ Some s) =
-    got (session_numbered st (h.entry ∷ h.past) h.call.session)
-    ((lawful_there st es law c older h).calls.0.owned h.call (contains_got h.entry.effects.calls h.place h.call h.there))
+    some_of (session_numbered st (h.entry ∷ h.past) h.call.session)
+    ((lawful_there st es law c older h).calls.0.owned h.call (got_inside h.entry.effects.calls h.place h.call h.there))
     in
     record {
       submission = h;

@@ -5,11 +5,12 @@ use Rattle.sl_law.specs.LawfulModes.{LawfulExclusiveGrant, LawfulMode, LawfulSha
 use Rattle.sl_law.specs.Saying.{cut_at}
 use Rattle.sl_lease_law.proofs.AgeLaws.{writes}
 use Rattle.sl_lease_law.proofs.EndLaws.{ended}
-use Rattle.sl_lease_law.proofs.FrontLaws.{each_was_submitted, got, lawful_there, session_stays}
+use Rattle.sl_lease_law.proofs.FrontLaws.{each_was_submitted, lawful_there, session_stays}
 use Rattle.sl_lease_law.specs.Fronts.{LawfulSubmission, Submission}
 use Rattle.sl_lease_law.specs.Holding.{ExclusiveRests, ModeRests}
 use Rattle.sl_lease_law.specs.Promises.{ExclusiveFollows, ModesFollow, SharedFollows}
 use Rattle.sl_leases.specs.Leases.{Mode_set, has_shared_on, is_at, lease_calls, spot_of_call}
+use Rattle.sl_plain.proofs.Options.{some_of}
 use Rattle.sl_sector.specs.declared.sector.Block.{Block}
 use Rattle.sl_sessions.specs.Sessions.{Session, me, session_numbered}
 use Rattle.sl_trace.specs.Traces.{Setting, Submitted, Trace, is_shared, new_call, spot_of_grant}
@@ -48,7 +49,7 @@ exclusive_rests : (st : Setting) (later past : Trace) (e : Entry) → Lawful st 
     → session_numbered st (later ++ e ∷ past) g.session ≡ Some s → ExclusiveRests st (e ∷ past) s (spot_of_grant g) g
 exclusive_rests st later past e law g granted mode s numbered =
     let here : Lawful st (e ∷ past) = lawful-front st later (e ∷ past) law in
-    let owner : (o : Session) × (session_numbered st (e ∷ past) g.session ≡ Some o) = got (session_numbered st (e ∷ past) g.session) (here.granting.0.owned g granted) in
+    let owner : (o : Session) × (session_numbered st (e ∷ past) g.session ≡ Some o) = some_of (session_numbered st (e ∷ past) g.session) (here.granting.0.owned g granted) in
     let itself : owner.0 ≡ s =
     one_value owner.0 s (session_numbered st (later ++ e ∷ past) g.session) (session_stays st later (e ∷ past) g.session owner.0 owner.1) numbered in
     let known : session_numbered st (e ∷ past) g.session ≡ Some s = owner.1 ∙ ap (λ x. Some x) itself in
@@ -69,7 +70,7 @@ shared_rests : (st : Setting) (later past : Trace) (e : Entry) → Lawful st (la
     → session_numbered st (later ++ e ∷ past) g.session ≡ Some s → LawfulSharedGrant st past (e ∷ past) s (spot_of_grant g) g.lver
 shared_rests st later past e law g granted mode s numbered =
     let here : Lawful st (e ∷ past) = lawful-front st later (e ∷ past) law in
-    let owner : (o : Session) × (session_numbered st (e ∷ past) g.session ≡ Some o) = got (session_numbered st (e ∷ past) g.session) (here.granting.0.owned g granted) in
+    let owner : (o : Session) × (session_numbered st (e ∷ past) g.session ≡ Some o) = some_of (session_numbered st (e ∷ past) g.session) (here.granting.0.owned g granted) in
     let itself : owner.0 ≡ s =
     one_value owner.0 s (session_numbered st (later ++ e ∷ past) g.session) (session_stays st later (e ∷ past) g.session owner.0 owner.1) numbered in
     let known : session_numbered st (e ∷ past) g.session ≡ Some s = owner.1 ∙ ap (λ x. Some x) itself in

@@ -15,7 +15,7 @@ use Rattle.sl_trace.specs.declared.effects.Call.{Call}
 use Rattle.sl_trace.specs.declared.effects.Spot.{Spot}
 use Rattle.sl_words.proofs.CaseLaws.{no_value}
 use Rattle.std.proofs.Common.{ap, arith, inl, inr, refl, sym, ◌∙◌}
-use Rattle.std.proofs.lemmas.Bool.{eq-eqb}
+use Rattle.std.proofs.lemmas.Bool.{and_from, eq-eqb}
 use Rattle.std.specs.Prelude.{Bool, List, None, Option, Some, is_none, length, suc, true, [], ℕ, ◌&&◌, ◌++◌, ◌+◌, ◌<◌, ◌∷◌, ◌≡◌, ◌≤◌, ◌⊎◌}
 
 -- Whether a call of this kind writes, or reads blocks.
@@ -25,9 +25,6 @@ works c = is_block_work (new_call 0 0 c)
 abbrev place : Setting → Call → Spot
 place st c = spot_of_call st.layout (new_call 0 0 c)
 
-both : (a b : Bool) → a ≡ true → b ≡ true → (a && b) ≡ true
-both a b ha hb = ap (λ x. x && b) ha ∙ hb
-
 -- A call that is unanswered at the front would bar the new one.
 bars : (st : Setting) (t : Trace) (s : Session) (at : Spot) (m : Submitted) → Has (submitted t) m → m.call.session ≡ s.number → m.answer ≡ None → works m.call ≡ true
     → is_on st.layout at m.call ≡ true → open_block_work st t s at ≡ [] → ⊥
@@ -35,7 +32,7 @@ bars st t s at m has session waits works_here on none =
     let mine : Has (calls_of t s) m = has_kept (is_call_of s) (submitted t) m has (eq-eqb m.call.session s.number session) in
     let waiting : Has (open_calls_of t s) m = has_kept (λ x. is_none x.answer) (calls_of t s) m mine (ap (λ o. is_none o) waits) in
     let here : Has (open_block_work st t s at) m =
-    has_kept (λ x. is_block_work x && is_on st.layout at x.call) (open_calls_of t s) m waiting (both (is_block_work m) (is_on st.layout at m.call) works_here on)
+    has_kept (λ x. is_block_work x && is_on st.layout at x.call) (open_calls_of t s) m waiting (and_from (is_block_work m) (is_on st.layout at m.call) works_here on)
     in
     has_none m here.newer here.older (sym none ∙ here.is)
 
@@ -63,7 +60,7 @@ turn st es law between older c d l session works_c area works_d on =
     in
     let none : open_block_work st t l.session (place st h.call) ≡ [] =
     (lawful_there st es law c (between ++ d ∷ older) h).area.0.alone h.place h.call l.session h.there l.known
-    (both (works h.call) (is_area_work h.call.purpose) (ap (λ x. works x) (sym called) ∙ works_c) (ap (λ (x : Call). is_area_work x.purpose) (sym called) ∙ area))
+    (and_from (works h.call) (is_area_work h.call.purpose) (ap (λ x. works x) (sym called) ∙ works_c) (ap (λ (x : Call). is_area_work x.purpose) (sym called) ∙ area))
     in
     let on_was : is_on st.layout (place st h.call) w.was.call ≡ true =
     ap (λ x. is_on st.layout (place st x) w.was.call) (sym called) ∙ (ap (λ x. is_on st.layout (place st c.call) x) (sym w.aged.call) ∙ on)

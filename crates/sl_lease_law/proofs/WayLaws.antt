@@ -1,15 +1,15 @@
 -- The three ways, of blocks alone.
 use Rattle.sl_lease_law.specs.Ways.{ByMode, ByPhase1, ByPhase2}
 use Rattle.sl_leases.specs.Ballots.{in_instance, moded_block, next_mbal, number_above, phase1_block, phase2_block}
+use Rattle.sl_plain.proofs.Numbers.{less_is_other}
 use Rattle.sl_sector.specs.declared.sector.Block.{Block}
 use Rattle.sl_sector.specs.declared.sector.Owner.{Owner}
 use Rattle.sl_sessions.specs.Sessions.{Session}
-use Rattle.sl_words.proofs.CaseLaws.{is_false}
 use Rattle.sl_words.specs.Words.{greatest}
 use Rattle.std.proofs.Common.{ap, arith, refl, subst, sym}
 use Rattle.std.proofs.lemmas.Bool.Decides.{nat_tests}
-use Rattle.std.proofs.lemmas.Bool.{eq-eqb, eqb-true}
-use Rattle.std.specs.Prelude.{Bool, List, cond, false, if◌then◌else◌, map, true, ℕ, ◌+◌, ◌<◌, ◌==◌, ◌∷◌, ◌≡◌, ◌≤◌}
+use Rattle.std.proofs.lemmas.Bool.{eq-eqb}
+use Rattle.std.specs.Prelude.{Bool, List, cond, if◌then◌else◌, map, true, ℕ, ◌+◌, ◌<◌, ◌==◌, ◌∷◌, ◌≡◌, ◌≤◌}
 
 number_rises : (hosts id top : ℕ) → 1 ≤ hosts → top < number_above hosts id top
 number_rises hosts id top some = grind (arith, nat_tests)
@@ -36,9 +36,6 @@ phase1_positive self hosts n shared gen own seen some =
     number_rises hosts self.id (greatest (map (λ (x : Block). x.mbal) (in_instance n (own ∷ seen)))) some in
     omega (arith, more)
 
-differ : (m n : ℕ) → m < n → (m == n) ≡ false
-differ m n less = is_false (m == n) (λ same. let is : m ≡ n = eqb-true m n same in omega (arith, is, less))
-
 pub by_phase1 : (s : Session) (self : Owner) (hosts n : ℕ) (shared : Bool) (gen : ℕ) (own : Block) (seen : List Block) → 1 ≤ hosts → self.id ≡ s.id → own.lver ≤ n → 1 ≤ n
     → ByPhase1 s own (phase1_block self hosts n shared gen own seen)
 unfolding phase1_block
@@ -51,7 +48,7 @@ by_phase1 s self hosts n shared gen own seen some named up begun =
       mbal = λ same. phase1_number self hosts n shared gen own seen some same;
       bal = λ same. ap (λ t. if t then own.bal else 0) (eq-eqb own.lver n same);
       inp = λ same. (ap (λ t. if t then own.inp else 0) (eq-eqb own.lver n same), ap (λ t. if t then own.inp_gen else 0) (eq-eqb own.lver n same));
-      anew = λ less. ap (λ t. if t then own.bal else 0) (differ own.lver n less);
+      anew = λ less. ap (λ t. if t then own.bal else 0) (less_is_other own.lver n less);
     }
 
 pub by_phase2 : (self : Owner) (own : Block) (blocks : List Block) (shared : Bool) (gen : ℕ) → ByPhase2 own (moded_block (phase2_block self own blocks) shared gen)

@@ -1,6 +1,7 @@
 -- What each event keeps more on a machine is of now.
 use Rattle.sl_moment_law.proofs.Keeping.{CallsAdd, CourseAdds, From, IsNow, calls_again, calls_changed, calls_same, calls_submitted, from_again, from_both, from_equal, from_new, from_same}
 use Rattle.sl_moment_law.specs.Moments.{stamps_on}
+use Rattle.sl_plain.proofs.Lists.{contains_cases, contains_none}
 use Rattle.sl_run.specs.Events.{after_crash, after_effects, after_reset, after_restart, after_start, after_step, after_test, change_call, close_answered, daemon_number, fated, first_change, happens, machine_of, next_input, next_step, passed, sample_at, sampled_more, sectors_left, take_step, take_steps, with_entry}
 use Rattle.sl_run.specs.Worlds.{Course, Daemon, Dropped, Fate, Landed, Machine, Sampling, Stamp, Torn, World, change_machine, daemons_on, machine_at, new_daemon, next_numbers, reading_now, setting_of, stamp_now}
 use Rattle.sl_run.specs.declared.event.Event.{Event}
@@ -9,7 +10,6 @@ use Rattle.sl_run_law.proofs.Walking.{Asked, each_first, each_further, each_step
 use Rattle.sl_run_law.specs.Going.{time_of}
 use Rattle.sl_run_law.specs.Machines.{EachMachine}
 use Rattle.sl_front_law.proofs.Having.{contains_append, contains_right}
-use Rattle.sl_session_law.proofs.Making.{contains_cases, contains_none}
 use Rattle.sl_trace.specs.Connections.{test_holds}
 use Rattle.sl_trace.specs.Traces.{is_ok_answer}
 use Rattle.sl_trace.specs.declared.effects.Call.{Call}

@@ -3,12 +3,12 @@ use Rattle.sl_area.specs.Layouts.{Layout, layout_with}
 use Rattle.sl_front_law.proofs.Having.{contains_append}
 use Rattle.sl_moment_law.proofs.Adding.{daemon_stamps}
 use Rattle.sl_moment_law.specs.Moments.{At_first, IsKept, Of_landing, Of_sample, Of_stamp, stamps_on}
+use Rattle.sl_plain.proofs.Lists.{contains_cases, contains_none}
 use Rattle.sl_run.specs.Worlds.{Course, Daemon, Machine, Program, Stamp, first_numbers, first_stamp, given_of, machine_at, machine_of_header, new_daemon, setting_of, world_with}
 use Rattle.sl_run.specs.declared.header.Header.{Header}
 use Rattle.sl_run.specs.declared.header.SessionLine.{SessionLine}
 use Rattle.sl_run_law.proofs.Beginnings.{begins_new}
 use Rattle.sl_run_law.proofs.Walking.{index}
-use Rattle.sl_session_law.proofs.Making.{contains_cases, contains_none}
 use Rattle.sl_trace.specs.Traces.{Setting}
 use Rattle.sl_trace.specs.declared.input.Given.{Given}
 use Rattle.sl_words.proofs.CaseLaws.{none_some, some_value}
@@ -47,7 +47,7 @@ one_stamp p g h m = (
 )
 
 -- What each machine of the header is, each machine of the first world is.
-all_are : (P : Machine → Type 0) (f : ℕ → Machine) (k n i : ℕ) (a : Machine) → ((m : ℕ) → P (f m)) → slice_get (map f (range_with_len k n)) i ≡ Some a → P a
+pub all_are : (P : Machine → Type 0) (f : ℕ → Machine) (k n i : ℕ) (a : Machine) → ((m : ℕ) → P (f m)) → slice_get (map f (range_with_len k n)) i ≡ Some a → P a
 all_are P f k zero i a each h = absurd (none_some a h)
 all_are P f k (suc n) zero a each h = subst P (some_value (f k) a h) (each k)
 all_are P f k (suc n) (suc i) a each h = all_are P f (k + 1) n i a each h

@@ -1,9 +1,9 @@
 -- Lists of stamps and of calls that grow by what is kept now, and by nothing else.
 use Rattle.sl_front_law.proofs.Having.{contains_append, contains_left, contains_right}
+use Rattle.sl_plain.proofs.Lists.{contains_cases, contains_first, contains_more, contains_none}
 use Rattle.sl_run.specs.Events.{new_course}
 use Rattle.sl_run.specs.Worlds.{Course, Sampling, Stamp}
 use Rattle.sl_run_law.proofs.Coursing.{changed_if}
-use Rattle.sl_session_law.proofs.Making.{contains_cases, contains_first, contains_more, contains_none}
 use Rattle.sl_trace.specs.declared.effects.Call.{Call}
 use Rattle.std.proofs.Common.{inl, inr, refl, subst, sym, ◌∙◌}
 use Rattle.std.specs.List.{cons_option}

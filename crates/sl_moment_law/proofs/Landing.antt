@@ -1,12 +1,12 @@
 -- What lands in an event lands now.
 use Rattle.sl_moment_law.proofs.Adding.{Between, moved, steps_by_one}
+use Rattle.sl_plain.proofs.Lists.{contains_cases}
 use Rattle.sl_run.specs.Events.{add_landing, after_crash, after_reset, after_restart, after_start, after_test, change_call, fated, first_change, flight_at, happens, land_whole, machine_of, next_input, next_step, sampled_more, sectors_left, take_step, take_steps, torn_bytes, write_bytes}
 use Rattle.sl_run.specs.Worlds.{Course, Dropped, Landed, Landing, Machine, Torn, World, change_machine, is_in_flight, is_write_course}
 use Rattle.sl_run.specs.declared.event.Event.TheVariants.{AnswerCall, Crash, Do, DropWrite, ExitOf, GiveCommand, Land, Pass, Reset, Restart, Sample, SpawnedOf, StartDaemon, Tear, Test, WakeUp}
 use Rattle.sl_run.specs.declared.event.Event.{Event}
 use Rattle.sl_run_law.proofs.Going.{event_goes}
 use Rattle.sl_run_law.specs.Going.{time_of}
-use Rattle.sl_session_law.proofs.Making.{contains_cases}
 use Rattle.sl_trace.specs.declared.effects.Call.{Call}
 use Rattle.sl_trace.specs.declared.effects.Effects.{Effects}
 use Rattle.std.proofs.Common.{arith, inl, inr, refl, subst, ◌∙◌}

@@ -6,6 +6,7 @@ use Rattle.sl_moment_law.proofs.Adding.{steps_by_one}
 use Rattle.sl_moment_law.proofs.Beginning.{first_machines}
 use Rattle.sl_moment_law.proofs.Stamps.{entry_is_stamp}
 use Rattle.sl_moment_law.specs.Orders.{CallsFall, EntriesAreInOrder, EntriesAreWaits, Fall, IsInOrder, IsTimed, MachinesAreInOrder, entry_stamp, life_of}
+use Rattle.sl_plain.proofs.Lists.{contains_cases, contains_first, contains_more, contains_none}
 use Rattle.sl_run.specs.Events.{after_crash, after_effects, after_reset, after_restart, after_start, after_step, after_test, change_call, close_answered, daemon_number, fated, first_change, happens, machine_of, may_happen, new_course, next_input, next_step, passed, sample_at, sampled_more, sectors_left, take_step, take_steps, with_entry}
 use Rattle.sl_run.specs.Runs.{Happening, IsRun, world_after}
 use Rattle.sl_run.specs.Safety.{world_at}
@@ -21,7 +22,6 @@ use Rattle.sl_run_law.proofs.Hosting.{event_hosts}
 use Rattle.sl_run_law.proofs.Walking.{Asked, each_first, each_step, each_still, each_then}
 use Rattle.sl_run_law.specs.Daemons.{IsSettled}
 use Rattle.sl_run_law.specs.Machines.{EachMachine}
-use Rattle.sl_session_law.proofs.Making.{contains_cases, contains_first, contains_more, contains_none}
 use Rattle.sl_trace.specs.Traces.{Setting, is_ok_answer}
 use Rattle.sl_trace.specs.declared.effects.Call.{Call}
 use Rattle.sl_trace.specs.declared.effects.Effects.{Effects}
@@ -36,20 +36,20 @@ use Rattle.std.specs.Prelude.{Bool, Contains, List, None, Option, Some, false, f
 
 -- ---- lists that fall
 
-fall_more : (n k : ℕ) (ss : List Stamp) → n ≤ k → Fall n ss → Fall k ss
+pub fall_more : (n k : ℕ) (ss : List Stamp) → n ≤ k → Fall n ss → Fall k ss
 fall_more n k [] le h = tt
 fall_more n k (s ∷ ss) le h = (omega (arith, h.0), h.1)
 
-fall_front : (n : ℕ) (ss ts : List Stamp) → Fall n (ss ++ ts) → Fall n ss
+pub fall_front : (n : ℕ) (ss ts : List Stamp) → Fall n (ss ++ ts) → Fall n ss
 fall_front n [] ts h = tt
 fall_front n (s ∷ ss) ts h = (h.0, fall_front s.step ss ts h.1)
 
-fall_rest : (n : ℕ) (ss ts : List Stamp) → Fall n (ss ++ ts) → Fall n ts
+pub fall_rest : (n : ℕ) (ss ts : List Stamp) → Fall n (ss ++ ts) → Fall n ts
 fall_rest n [] ts h = h
 fall_rest n (s ∷ ss) ts h = fall_more s.step n ts (omega (arith, h.0)) (fall_rest s.step ss ts h.1)
 
 -- What stands behind came before.
-fall_step : (n : ℕ) (ss : List Stamp) (s : Stamp) → Fall n ss → Contains ss s → s.step < n
+pub fall_step : (n : ℕ) (ss : List Stamp) (s : Stamp) → Fall n ss → Contains ss s → s.step < n
 fall_step n [] s h has = absurd (contains_none s has)
 fall_step n (t ∷ ss) s h has =
     elim (contains_cases t ss s has) as (λ z. s.step < n) [
@@ -101,7 +101,7 @@ fall_numbers n (x ∷ ss) i j s t h le at there =
 
 -- ---- calls
 
-calls_more : (n k : ℕ) (cs : List Course) → n ≤ k → CallsFall n cs → CallsFall k cs
+pub calls_more : (n k : ℕ) (cs : List Course) → n ≤ k → CallsFall n cs → CallsFall k cs
 calls_more n k [] le h = tt
 calls_more n k (c ∷ cs) le h = (omega (arith, h.0), h.1, h.2)
 

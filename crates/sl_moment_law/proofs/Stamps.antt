@@ -2,19 +2,11 @@
 use Rattle.sl_front_law.proofs.Having.{contains_left, contains_right, in_flat}
 use Rattle.sl_moment_law.proofs.Adding.{daemon_stamps}
 use Rattle.sl_moment_law.specs.Moments.{stamps_on}
+use Rattle.sl_plain.proofs.Lists.{contains_cases, contains_first, contains_map, contains_more, contains_none}
 use Rattle.sl_run.specs.Worlds.{Course, Daemon, Machine, Stamp, daemons_on}
-use Rattle.sl_session_law.proofs.Making.{contains_cases, contains_first, contains_more, contains_none}
 use Rattle.std.proofs.Common.{inl, inr, subst, sym}
 use Rattle.std.specs.List.{cons_option}
 use Rattle.std.specs.Prelude.{Contains, List, None, Option, Some, filter_map, map, [], ◌++◌, ◌∷◌, ◌≡◌}
-
-in_map : {A B : Type 0} (f : A → B) (xs : List A) (x : A) → Contains xs x → Contains (map f xs) (f x)
-in_map f [] x h = absurd (contains_none x h)
-in_map f (y ∷ xs) x h =
-    elim (contains_cases y xs x h) as (λ z. Contains (f y ∷ map f xs) (f x)) [
-      | inl e ↦ subst (λ z. Contains (f y ∷ map f xs) (f z)) e (contains_first (f y) (map f xs))
-      | inr more ↦ contains_more (f y) (map f xs) (f x) (in_map f xs x more)
-    ]
 
 behind_option : {B : Type 0} (o : Option B) (ys : List B) (y : B) → Contains ys y → Contains (cons_option o ys) y
 behind_option None ys y h = h
@@ -45,7 +37,7 @@ answer_is_stamp a c s has is =
 pub made_is_stamp : (a : Machine) (c : Course) → Contains a.calls c → Contains (stamps_on a) c.made
 made_is_stamp a c has =
     contains_left (a.kept ∷ (a.resets ++ daemon_stamps (daemons_on a) ++ made_on a)) (answers_on a) c.made
-    (contains_right (a.kept ∷ (a.resets ++ daemon_stamps (daemons_on a))) (made_on a) c.made (in_map (λ x. x.made) a.calls c has))
+    (contains_right (a.kept ∷ (a.resets ++ daemon_stamps (daemons_on a))) (made_on a) c.made (contains_map (λ x. x.made) a.calls c has))
 
 of_daemon : (a : Machine) (d : Daemon) (s : Stamp) → Contains (daemons_on a) d → Contains (d.begun ∷ d.stamps) s → Contains (stamps_on a) s
 of_daemon a d s has h =

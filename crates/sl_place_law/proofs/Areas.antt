@@ -2,20 +2,22 @@
 use Rattle.sl_area.specs.Layouts.{IsGeometry, Layout, Sizes, layout_with}
 use Rattle.sl_area.specs.Places.{in_area, is_base}
 use Rattle.sl_front_law.proofs.Having.{placed_at}
+use Rattle.sl_landing_law.proofs.Initial.{range_is, sector_high, sector_low}
+use Rattle.sl_plain.proofs.Lists.{got_before, got_index}
+use Rattle.sl_plain.proofs.Numbers.{one_index}
+use Rattle.sl_plain.proofs.Truth.{or_false}
 use Rattle.sl_run.specs.Headers.{IsHeader, areas_of}
 use Rattle.sl_run.specs.declared.header.Header.{Header}
 use Rattle.sl_run.specs.declared.header.LockspaceLine.{LockspaceLine}
 use Rattle.sl_run.specs.declared.header.ResourceLine.{ResourceLine}
 use Rattle.sl_sector.specs.Spelling.{IsSectorSize}
-use Rattle.sl_session_law.proofs.Owning.{got_before}
 use Rattle.sl_words.proofs.CaseLaws.{none_some, one_value, some_value}
 use Rattle.sl_words.proofs.WordLaws.{and_true}
-use Rattle.std.proofs.Common.{ap, arith, inl, inr, refl, subst, sym, ◌∙◌}
-use Rattle.std.proofs.lemmas.Bool.{cases_lt}
+use Rattle.std.proofs.Common.{ap, arith, subst, sym, ◌∙◌}
 use Rattle.std.proofs.lemmas.Bool.Decides.{Decides-eqb, nat_tests}
 use Rattle.std.proofs.lemmas.Option.{slice_get_within}
 use Rattle.std.specs.Int.{is_in_range}
-use Rattle.std.specs.Prelude.{AllPairs, Bool, Contains, IsTrue, List, Some, [], false, length, map, nat_le, nat_lt, slice_get, slice_index_or, suc, true, zero, ℕ, ◌%◌, ◌&&◌, ◌++◌, ◌+◌, ◌-◌, ◌<◌, ◌==◌, ◌^◌, ◌||◌, ◌∷◌, ◌≡◌, ◌≤◌}
+use Rattle.std.specs.Prelude.{AllPairs, Contains, IsTrue, List, Some, [], length, map, nat_le, nat_lt, slice_get, suc, true, zero, ℕ, ◌%◌, ◌&&◌, ◌++◌, ◌+◌, ◌-◌, ◌<◌, ◌==◌, ◌^◌, ◌∷◌, ◌≡◌, ◌≤◌}
 
 -- ---- sizes
 
@@ -24,13 +26,6 @@ pub record IsSized (g : Layout) : Type 0 where
   pub area : g.area ≡ 1048576
   pub hosts : (1 ≤ g.hosts) × (g.hosts ≤ 2000)
 
-range_is : (n : ℕ) → is_in_range 1 2000 n ≡ true → (1 ≤ n) × (n ≤ 2000)
-range_is n h = (grind (arith, nat_tests), grind (arith, nat_tests))
-
-or_false : (b : Bool) → (b || false) ≡ true → b ≡ true
-or_false true h = refl
-or_false false h = h
-
 pub sized : (digest : List ℕ → List ℕ) (s : Sizes) → IsGeometry s → IsSized (layout_with digest s)
 sized digest s h =
     let all = or_false (512 == s.sector && 1048576 == s.area && is_in_range 1 2000 s.hosts) h in
@@ -38,14 +33,8 @@ sized digest s h =
     let one = and_true (512 == s.sector) (1048576 == s.area) first.0 in
     record { sector = sym ((Decides-eqb 512 s.sector).0 one.0); area = sym ((Decides-eqb 1048576 s.area).0 one.1); hosts = range_is s.hosts first.1 }
 
-fits_low : (n : ℕ) → n ≡ 512 → 512 ≤ n
-fits_low n h = omega (arith, h)
-
-fits_high : (n : ℕ) → n ≡ 512 → n ≤ 4096
-fits_high n h = omega (arith, h)
-
 pub sector_fits : (g : Layout) → IsSized g → IsSectorSize g.sector
-sector_fits g z = (fits_low g.sector z.sector, fits_high g.sector z.sector)
+sector_fits g z = (sector_low g.sector z.sector, sector_high g.sector z.sector)
 
 -- ---- offsets in an area
 
@@ -86,11 +75,6 @@ base_around g o z = let a = around_by o g.area z.area in is_within g (o - o % g.
 
 -- ---- areas are apart
 
-got_index : {A : Type 0} (xs : List A) (i : ℕ) (x d : A) → slice_get xs i ≡ Some x → slice_index_or xs i d ≡ x
-got_index [] i x d h = absurd (none_some x h)
-got_index (y ∷ xs) zero x d h = some_value y x h
-got_index (y ∷ xs) (suc i) x d h = got_index xs i x d h
-
 got_map : {A B : Type 0} (f : A → B) (xs : List A) (i : ℕ) (x : A) → slice_get xs i ≡ Some x → slice_get (map f xs) i ≡ Some (f x)
 got_map f [] i x h = absurd (none_some x h)
 got_map f (y ∷ xs) zero x h = ap (λ z. Some (f z)) (some_value y x h)
@@ -113,13 +97,6 @@ never_before xs i j a b apart at there paths offsets lt =
     apart i j a lt (slice_get_within xs j b there)
     (ap (λ x. x.0) (got_index xs i a a at) ∙ paths ∙ ap (λ x. x.0) (sym (got_index xs j b a there)))
     (ap (λ x. x.1) (got_index xs i a a at) ∙ offsets ∙ ap (λ x. x.1) (sym (got_index xs j b a there)))
-
-one_index : (i j : ℕ) → (i < j → ⊥) → (j < i → ⊥) → i ≡ j
-one_index i j p q =
-    elim (cases_lt i j) [
-      | inl lt ↦ absurd (p lt)
-      | inr ge ↦ elim (cases_lt j i) [ inl gt ↦ absurd (q gt) | inr le ↦ omega (arith, ge, le) ]
-    ]
 
 one_area : (xs : List Area) (i j : ℕ) (a b : Area) → AllPairs Apart xs → slice_get xs i ≡ Some a → slice_get xs j ≡ Some b → a.0 ≡ b.0 → a.1 ≡ b.1 → i ≡ j
 one_area xs i j a b apart at there paths offsets =

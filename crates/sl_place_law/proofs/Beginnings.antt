@@ -1,17 +1,20 @@
 -- What stands at a place at first: a record of a lockspace's area, or of a resource's, or zeros, which spell nothing.
 use Rattle.sl_area.specs.Layouts.{Layout, layout_with, record_in, sector_with}
 use Rattle.sl_area.specs.Places.{fresh_block, fresh_delta, fresh_leader, in_area, no_request, no_value}
+use Rattle.sl_landing_law.proofs.Initial.{a_moment, below, block_high, block_low, fresh_block_is, fresh_delta_is, member_delta_is, no_number, no_request_is, no_value_is, up_to, within}
 use Rattle.sl_place_law.proofs.Areas.{IsSized, sector_fits, sized}
-use Rattle.sl_place_law.proofs.Finding.{found_in, same_number, same_read, same_text}
+use Rattle.sl_place_law.proofs.Finding.{same_read, same_text}
+use Rattle.sl_plain.proofs.Lists.{find_inside}
+use Rattle.sl_plain.proofs.Numbers.{one_least, zero_least}
 use Rattle.sl_run.specs.Headers.{IsHeader}
-use Rattle.sl_run.specs.Worlds.{clock_reading, initial_bytes, initial_delta, initial_of_lockspace, initial_of_resource, initial_record, member_delta}
+use Rattle.sl_run.specs.Worlds.{initial_bytes, initial_delta, initial_of_lockspace, initial_of_resource, initial_record, member_delta}
 use Rattle.sl_run.specs.declared.header.FirstReading.{FirstReading}
 use Rattle.sl_run.specs.declared.header.Header.{Header}
 use Rattle.sl_run.specs.declared.header.LockspaceLine.{LockspaceLine}
 use Rattle.sl_run.specs.declared.header.ResourceLine.{ResourceLine}
 use Rattle.sl_run.specs.declared.header.SessionLine.{SessionLine}
 use Rattle.sl_sector.proofs.PublicLaws.{spelled_is_read}
-use Rattle.sl_sector.specs.Records.{IsBlock, IsDelta, IsLeader, IsRecord, IsRequest, IsValue}
+use Rattle.sl_sector.specs.Records.{IsDelta, IsLeader, IsRecord}
 use Rattle.sl_sector.specs.Spelling.{IsDigest, decoded, magic}
 use Rattle.sl_sector.specs.declared.sector.DeltaRec.{DeltaRec}
 use Rattle.sl_sector.specs.declared.sector.Leader.{Leader}
@@ -22,73 +25,16 @@ use Rattle.sl_words.proofs.CaseLaws.{none_some, some_value}
 use Rattle.sl_words.proofs.WordLaws.{and_true, choose_some}
 use Rattle.sl_words.specs.Words.{choose}
 use Rattle.std.proofs.Common.{arith, refl, subst, sym}
-use Rattle.std.proofs.lemmas.Bool.Decides.{nat_tests}
+use Rattle.std.proofs.lemmas.Bool.{eqb-true, ltb-true}
 use Rattle.std.specs.Option.{option_map_or}
 use Rattle.std.specs.Prelude.{Bool, Contains, IsTrue, List, None, Ok, Option, Some, bytes_eq, false, find, if◌then◌else◌, nat_lt, replicate, suc, true, zero, ℕ, ◌&&◌, ◌*◌, ◌+◌, ◌-◌, ◌/◌, ◌<◌, ◌==◌, ◌^◌, ◌≡◌, ◌≤◌}
 
 -- ---- the records are records
 
-nothing_less : 0 < 0 → ⊥
-nothing_less h = omega (arith, h)
-
-one_is_none : (n : ℕ) → n ≡ 1 → n ≡ 0 → ⊥
-one_is_none n h k = omega (arith, h, k)
-
-small_number : 1 < 2 ^ 63
-small_number = omega arith
-
-no_number : 0 < 2 ^ 63
-no_number = omega arith
-
-a_moment : 0 < 10 ^ 15
-a_moment = omega arith
-
-fresh_delta_is : (name : List ℕ) (id : ℕ) → IsTrue (is_name name) → 1 ≤ id → id ≤ 2000 → IsDelta (fresh_delta name id)
-fresh_delta_is name id named low high =
-    record {
-      id = (low, high);
-      generation = no_number;
-      seq = no_number;
-      stamp = a_moment;
-      lockspace = named;
-      bitmap = (refl, refl);
-      unused = λ h. (refl, refl, refl, refl, refl);
-      used = λ h. absurd (nothing_less h);
-    }
-
-member_delta_is : (h : Header) (s : SessionLine) → IsTrue (is_name s.lockspace) → IsTrue (is_name s.name) → 1 ≤ s.id → s.id ≤ 2000
-    → clock_reading h s.machine < 10 ^ 15 → IsDelta (member_delta h s)
-member_delta_is h s space name low high now =
-    record {
-      id = (low, high);
-      generation = small_number;
-      seq = small_number;
-      stamp = now;
-      lockspace = space;
-      bitmap = (refl, refl);
-      unused = λ h. absurd (one_is_none 1 refl h);
-      used = λ h. name;
-    }
-
-below : (n : ℕ) → n < 10 ^ 12 → n < 10 ^ 15
-below n h = omega (arith, h)
-
 clock_by : (h : Header) (m : ℕ) (o : Option FirstReading) → find (λ (c : FirstReading). c.machine == m) h.clocks ≡ o → IsHeader h
     → option_map_or (λ (c : FirstReading). c.reading) o 0 < 10 ^ 15
 clock_by h m None is ok = a_moment
-clock_by h m (Some c) is ok = below c.reading (ok.clocks c (found_in (λ (c : FirstReading). c.machine == m) h.clocks c is).0).2
-
-up_to : (a b : ℕ) → a ≤ b → b ≤ 2000 → a ≤ 2000
-up_to a b h k = omega (arith, h, k)
-
-above_one : (k : ℕ) → 1 ≤ k + 1
-above_one k = omega arith
-
-within : (k n : ℕ) → nat_lt k n ≡ true → n ≤ 2000 → k + 1 ≤ 2000
-within k n h most = grind (arith, nat_tests)
-
-is_less : (k n : ℕ) → nat_lt k n ≡ true → k < n
-is_less k n h = grind (arith, nat_tests)
+clock_by h m (Some c) is ok = below c.reading (ok.clocks c (find_inside (λ (c : FirstReading). c.machine == m) h.clocks c is).0).2
 
 most : (h : Header) → IsHeader h → h.geometry.hosts ≤ 2000
 most h ok = (sized (λ bs. bs) h.geometry ok.geometry).hosts.1
@@ -106,7 +52,7 @@ initial_delta_by : (h : Header) (l : LockspaceLine) (id : ℕ) (o : Option Sessi
     → IsDeltaOf (elim o as (λ x. DeltaRec) [ None ↦ fresh_delta l.name id | Some s ↦ member_delta h s ]) l.name id
 initial_delta_by h l id None is ok named low high = record { is = fresh_delta_is l.name id named low high; lockspace = refl; same_id = refl }
 initial_delta_by h l id (Some s) is ok named low high =
-    let at = found_in (λ (s : SessionLine). bytes_eq s.lockspace l.name && s.id == id) h.sessions s is in
+    let at = find_inside (λ (s : SessionLine). bytes_eq s.lockspace l.name && s.id == id) h.sessions s is in
     let both = and_true (bytes_eq s.lockspace l.name) (s.id == id) at.1 in
     let member = ok.members s at.0 in
     let space = member.lockspace in
@@ -115,11 +61,8 @@ initial_delta_by h l id (Some s) is ok named low high =
       is = member_delta_is h s space_named member.name member.id.0 (up_to s.id h.geometry.hosts member.id.1 (most h ok))
           (clock_by h s.machine (find (λ (c : FirstReading). c.machine == s.machine) h.clocks) refl ok);
       lockspace = same_text s.lockspace l.name both.0;
-      same_id = same_number s.id id both.1;
+      same_id = eqb-true s.id id both.1;
     }
-
-at_least_none : (n : ℕ) → 0 ≤ n
-at_least_none n = omega arith
 
 fresh_leader_is : (g : Layout) (space name : List ℕ) → IsSized g → IsTrue (is_name space) → IsTrue (is_name name) → IsLeader (fresh_leader g space name)
 fresh_leader_is g space name sizes a b =
@@ -127,38 +70,12 @@ fresh_leader_is g space name sizes a b =
       hosts = sizes.hosts;
       lver = no_number;
       generation = no_number;
-      owner = at_least_none g.hosts;
+      owner = zero_least g.hosts;
       lockspace = a;
       resource = b;
       same = ((λ h. refl, λ h. refl), (λ h. refl, λ h. refl));
       unused = λ h. refl;
     }
-
-fresh_block_is : (host : ℕ) → 1 ≤ host → host ≤ 2000 → IsBlock (fresh_block host)
-fresh_block_is host low high =
-    record {
-      host = (low, high);
-      lver = no_number;
-      mbal = no_number;
-      bal = at_least_none 0;
-      generations = (no_number, no_number);
-      inp = at_least_none 2000;
-      value = ((λ h. refl, λ h. refl), (λ h. refl, λ h. refl));
-      mode = (λ h. refl, λ h. refl);
-      unused = λ h. (refl, refl);
-    }
-
-no_request_is : IsRequest no_request
-no_request_is = record { force = at_least_none 2; host = at_least_none 2000; lver = no_number; same = (λ h. refl, λ h. refl) }
-
-no_value_is : IsValue no_value
-no_value_is = record { host = at_least_none 2000; lver = no_number; seq = no_number; bytes = (at_least_none 256, refl) }
-
-block_low : (k : ℕ) → (k == 0) ≡ false → (k == 1) ≡ false → 1 ≤ k - 1
-block_low k h i = grind (arith, nat_tests)
-
-block_high : (k n : ℕ) → nat_lt k (n + 2) ≡ true → n ≤ 2000 → k - 1 ≤ 2000
-block_high k n h most = grind (arith, nat_tests)
 
 -- ---- where a record is from
 
@@ -220,7 +137,7 @@ resource_from : (g : Layout) (h : Header) (path : List ℕ) (offset : ℕ) (o : 
     → elim o as (λ x. Option Rec) [ Some x ↦ initial_of_resource g x ((offset - x.offset) / g.sector) | None ↦ None ] ≡ Some r → IsInitial g h path offset r
 resource_from g h path offset None r z is ok eq = absurd (none_some r eq)
 resource_from g h path offset (Some x) r z is ok eq =
-    let at = found_in (λ (x : ResourceLine). bytes_eq x.path path && in_area g x.offset offset) h.resources x is in
+    let at = find_inside (λ (x : ResourceLine). bytes_eq x.path path && in_area g x.offset offset) h.resources x is in
     let both = and_true (bytes_eq x.path path) (in_area g x.offset offset) at.1 in
     let line = ok.resources x at.0 in
     let space = line.2 in
@@ -234,12 +151,12 @@ lockspace_from : (digest : List ℕ → List ℕ) (h : Header) (path : List ℕ)
     → IsInitial (layout_with digest h.geometry) h path offset r
 lockspace_from digest h path offset l r ok is eq =
     let g : Layout = layout_with digest h.geometry in
-    let at = found_in (λ (l : LockspaceLine). bytes_eq l.path path && in_area g l.offset offset) h.lockspaces l is in
+    let at = find_inside (λ (l : LockspaceLine). bytes_eq l.path path && in_area g l.offset offset) h.lockspaces l is in
     let both = and_true (bytes_eq l.path path) (in_area g l.offset offset) at.1 in
     let k : ℕ = (offset - l.offset) / h.geometry.sector in
     let chosen = choose_some (nat_lt k h.geometry.hosts) (DeltaIs (initial_delta h l (k + 1))) r eq in
-    In_lockspace l (initial_delta h l (k + 1)) at.0 (same_text l.path path both.0) both.1 (is_less k h.geometry.hosts chosen.0) (sym chosen.1)
-    (initial_delta_by h l (k + 1) (session_of h l.name (k + 1)) refl ok (ok.lockspaces l at.0).0 (above_one k) (within k h.geometry.hosts chosen.0 (most h ok)))
+    In_lockspace l (initial_delta h l (k + 1)) at.0 (same_text l.path path both.0) both.1 (ltb-true k h.geometry.hosts chosen.0) (sym chosen.1)
+    (initial_delta_by h l (k + 1) (session_of h l.name (k + 1)) refl ok (ok.lockspaces l at.0).0 (one_least k) (within k h.geometry.hosts chosen.0 (most h ok)))
 
 initial_by : (digest : List ℕ → List ℕ) (h : Header) (path : List ℕ) (offset : ℕ) (o : Option LockspaceLine) (r : Rec)
     → line_at (layout_with digest h.geometry) h path offset ≡ o → IsHeader h
@@ -270,11 +187,11 @@ initial_is_record g h path offset r (In_lockspace l d there path_is inside few i
 initial_is_record g h path offset r (In_resource x there path_is inside is no_delta leader) = is
 
 -- Zeros spell nothing.
-no_zeros : (digest : List ℕ → List ℕ) (n : ℕ) (r : Rec) → decoded digest (replicate (suc n) 0) ≡ Ok r → ⊥
+pub no_zeros : (digest : List ℕ → List ℕ) (n : ℕ) (r : Rec) → decoded digest (replicate (suc n) 0) ≡ Ok r → ⊥
 unfolding decoded magic
 no_zeros digest n r h = absurd cc
 
-zeros_at : (digest : List ℕ → List ℕ) (n : ℕ) (r : Rec) → 512 ≤ n → decoded digest (replicate n 0) ≡ Ok r → ⊥
+pub zeros_at : (digest : List ℕ → List ℕ) (n : ℕ) (r : Rec) → 512 ≤ n → decoded digest (replicate n 0) ≡ Ok r → ⊥
 zeros_at digest zero r h e = absurd (omega (arith, h))
 zeros_at digest (suc n) r h e = no_zeros digest n r e
 

@@ -3,7 +3,6 @@ use Rattle.sl_area.specs.Layouts.{Layout, record_in}
 use Rattle.sl_area.specs.Places.{block_offset, delta_offset, in_area}
 use Rattle.sl_law.specs.LawfulArea.{record_offset}
 use Rattle.sl_place_law.proofs.Areas.{IsSized, lockspace_aligned, sector_fits}
-use Rattle.sl_place_law.proofs.Finding.{equal_numbers}
 use Rattle.sl_place_law.proofs.Proven.{lockspaces_hold_deltas, promised}
 use Rattle.sl_place_law.proofs.Reading.{reads_back, session_inside}
 use Rattle.sl_place_law.proofs.Seats.{sized_in}
@@ -24,7 +23,7 @@ use Rattle.sl_trace.specs.Traces.{same_place}
 use Rattle.sl_trace.specs.declared.effects.Spot.{Spot}
 use Rattle.sl_words.proofs.CaseLaws.{some_value}
 use Rattle.std.proofs.Common.{ap, arith, subst, sym, ◌∙◌}
-use Rattle.std.proofs.lemmas.Bool.{and_from}
+use Rattle.std.proofs.lemmas.Bool.{and_from, eq-eqb}
 use Rattle.std.proofs.lemmas.Slice.Eq.{bytes_eq-Decides}
 use Rattle.std.specs.Prelude.{Contains, IsTrue, List, Ok, ℕ, ◌%◌, ◌*◌, ◌+◌, ◌-◌, ◌≡◌, ◌≤◌}
 
@@ -44,7 +43,7 @@ same_slot : (base i j : ℕ) → 1 ≤ i → 1 ≤ j → base + 512 * (i - 1) �
 same_slot base i j p q h = omega (arith, p, q, h)
 
 one_place : (path path' : List ℕ) (offset offset' : ℕ) → path ≡ path' → offset ≡ offset' → IsTrue (same_place path offset path' offset')
-one_place path path' offset offset' paths offsets = and_from _ _ (equal_numbers offset offset' offsets) ((bytes_eq-Decides path path').1 paths)
+one_place path path' offset offset' paths offsets = and_from _ _ (eq-eqb offset offset' offsets) ((bytes_eq-Decides path path').1 paths)
 
 -- Whatever lands at one place is of sessions of one id of one lockspace.
 pub one_id_a_place : (w : World) (l : LockspaceLine) (x y : Landing) → IsSized w.layout → (d : IsDeltaLanding w l x) → (e : IsDeltaLanding w l y) → x.offset ≡ y.offset
@@ -72,7 +71,7 @@ shows_its_id p h xs run l there x landed path inside r read =
 -- ---- of a resource's area
 
 -- Where its record stands, in the layout of the world.
-placed_in_world : (p : Program) (h : Header) (xs : List Happening) → LawfulRun p h xs → (r : ResourceLine) (x : Landing) → (d : IsLeaseLanding (world_at p h xs) r x)
+pub placed_in_world : (p : Program) (h : Header) (xs : List Happening) → LawfulRun p h xs → (r : ResourceLine) (x : Landing) → (d : IsLeaseLanding (world_at p h xs) r x)
     → (setting_in d.written.found).layout ≡ (world_at p h xs).layout
 placed_in_world p h xs run r x d =
     let k = session_inside (world_at p h xs) d.written.session d.written.found d.written.is.0 in
@@ -86,7 +85,7 @@ block_is_at_its_id p h xs run r x d b spells =
     sym (some_value _ x.offset (sym (ap (record_offset (setting_in d.written.found) d.written.found.session at) spells) ∙ d.placed))
     ∙ ap (λ (g : Layout). block_offset g r.offset d.written.found.session.id) (placed_in_world p h xs run r x d)
 
-same_block : (base i j : ℕ) → base + 512 * (i + 1) ≡ base + 512 * (j + 1) → i ≡ j
+pub same_block : (base i j : ℕ) → base + 512 * (i + 1) ≡ base + 512 * (j + 1) → i ≡ j
 same_block base i j h = omega (arith, h)
 
 -- So two blocks at one place are of sessions of one id.
@@ -101,7 +100,7 @@ one_id_a_block p h xs run r x y d e b c one two same =
     sym (block_is_at_its_id p h xs run r x d b one) ∙ same ∙ block_is_at_its_id p h xs run r y e c two in
     same_block r.offset i j (subst (λ n. r.offset + n * (i + 1) ≡ r.offset + n * (j + 1)) (sized_in p h xs run).sector blocks)
 
-behind : (base k : ℕ) → base ≡ base + 512 * (k + 1) → ⊥
+pub behind : (base k : ℕ) → base ≡ base + 512 * (k + 1) → ⊥
 behind base k h = omega (arith, h)
 
 -- .. and none is where the leader stands.

@@ -1,8 +1,11 @@
 -- Of each daemon of a lawful run: each entry came at a later step than the one before, and it is given the header's sessions or none.
 use Rattle.sl_area.specs.Layouts.{Layout, layout_with}
+use Rattle.sl_course_law.proofs.Matching.{found_below}
 use Rattle.sl_course_law.specs.Stamping.{stamp_in}
 use Rattle.sl_front_law.proofs.Going.{IsKeptInRuns, IsLast, last_event, run_keeps}
-use Rattle.sl_place_law.proofs.Finding.{same_number}
+use Rattle.sl_plain.proofs.Lists.{contains_cases, contains_more, contains_none, same_place_in}
+use Rattle.sl_plain.proofs.Numbers.{less_than_next, lt_then_le}
+use Rattle.sl_plain.proofs.Options.{else_some}
 use Rattle.sl_run.specs.Events.{after_effects, after_step, first_change, input_of, machine_of, next_step, take_step, with_entry}
 use Rattle.sl_run.specs.Runs.{Happening}
 use Rattle.sl_run.specs.Safety.{LawfulRun, world_at}
@@ -13,15 +16,15 @@ use Rattle.sl_run.specs.declared.header.SessionLine.{SessionLine}
 use Rattle.sl_run_law.proofs.Going.{first_goes, run_goes}
 use Rattle.sl_run_law.proofs.Walking.{Asked, each_first, each_step, each_then, index, number_within}
 use Rattle.sl_run_law.specs.Machines.{EachMachine}
-use Rattle.sl_session_law.proofs.Making.{contains_cases, contains_more, contains_none}
 use Rattle.sl_trace.specs.declared.effects.Effects.{Effects}
 use Rattle.sl_trace.specs.declared.effects.Entry.{Entry}
 use Rattle.sl_trace.specs.declared.input.Input.TheVariants.{Answer as Told, Exit, Line, Spawned, Wake}
 use Rattle.sl_trace.specs.declared.input.Input.{Input}
-use Rattle.sl_words.proofs.CaseLaws.{none_some, one_value, some_value, true_is_false}
+use Rattle.sl_words.proofs.CaseLaws.{none_some, one_value, some_value}
 use Rattle.std.proofs.Common.{ap, arith, inl, inr, refl, subst, sym, ◌∙◌}
+use Rattle.std.proofs.lemmas.Bool.{eqb-true}
 use Rattle.std.specs.List.{range_with_len}
-use Rattle.std.specs.Prelude.{Bool, Contains, List, None, Option, Some, [], false, filter_map, find, if◌then◌else◌, length, map, option_map, slice_get, slice_set, suc, true, zero, ℕ, ◌++◌, ◌+◌, ◌-◌, ◌<◌, ◌==◌, ◌∷◌, ◌≡◌, ◌≤◌, ◌⊎◌}
+use Rattle.std.specs.Prelude.{Bool, Contains, List, None, Option, Some, [], false, filter_map, find, length, map, option_map, slice_get, slice_set, suc, true, zero, ℕ, ◌++◌, ◌+◌, ◌-◌, ◌<◌, ◌==◌, ◌∷◌, ◌≡◌, ◌≤◌, ◌⊎◌}
 
 -- Stamps that fall from below n, the newest first.
 abbrev pub Falls : ℕ → List Stamp → Type 0
@@ -38,18 +41,12 @@ AllFine h n m a = (d : Daemon) → Contains (daemons_on a) d → IsFine h n m d
 
 -- ---- what keeps it
 
-below_more : (a n k : ℕ) → a < n → n ≤ k → a < k
-below_more a n k p q = omega (arith, p, q)
-
 falls_more : (n k : ℕ) (ss : List Stamp) → n ≤ k → Falls n ss → Falls k ss
 falls_more n k [] le h = tt
-falls_more n k (s ∷ ss) le h = (below_more s.step n k h.0 le, h.1)
+falls_more n k (s ∷ ss) le h = (lt_then_le s.step n k h.0 le, h.1)
 
 one_more : (n : ℕ) → n ≤ n + 1
 one_more n = omega arith
-
-last_below : (n : ℕ) → n < n + 1
-last_below n = omega arith
 
 fine_more : (h : Header) (n m : ℕ) (d : Daemon) → IsFine h n m d → IsFine h (n + 1) m d
 fine_more h n m d f = record { stamps = falls_more n (n + 1) d.stamps (one_more n) f.stamps; given = f.given }
@@ -100,7 +97,7 @@ entered_by h m e now None ds fine d there = fine_more h now.step m d (fine d the
 entered_by h m e now (Some x) ds fine d there =
     elim (contains_cases (with_entry e now x) ds d there) as (λ z. IsFine h (now.step + 1) m d) [
       | inl here ↦ subst (IsFine h (now.step + 1) m) here
-          (let old : IsFine h now.step m x = fine x (zero, omega arith, refl) in record { stamps = (last_below now.step, old.stamps); given = old.given })
+          (let old : IsFine h now.step m x = fine x (zero, omega arith, refl) in record { stamps = (less_than_next now.step, old.stamps); given = old.given })
       | inr old ↦ fine_more h now.step m d (fine d (contains_more x ds d old))
     ]
 
@@ -146,23 +143,13 @@ step_is m (Some i) fx v = ap (λ n. n + 1) (changed_by m (λ a. after_step (stam
 first_step : (e : Event) (w : World) → (first_change e w).step ≡ w.step
 first_step e w = let go = first_goes e w in let more : w.step + 0 ≡ w.step = omega arith in go.step ∙ more
 
-place_of : {A : Type 0} (xs ys : List A) (i : ℕ) (y : A) → length ys ≡ length xs → slice_get ys i ≡ Some y → (x : A) × (slice_get xs i ≡ Some x)
-place_of xs [] i y same h = absurd (none_some y h)
-place_of [] (z ∷ ys) i y same h = absurd (omega (arith, same))
-place_of (x ∷ xs) (z ∷ ys) zero y same h = (x, refl)
-place_of (x ∷ xs) (z ∷ ys) (suc i) y same h = place_of xs ys i y (omega (arith, same)) h
-
-there_by : (b : Bool) (o : Option Machine) (a : Machine) → b ≡ false → o ≡ Some a → (if b then None else o) ≡ Some a
-there_by true o a h k = absurd (true_is_false h)
-there_by false o a h k = k
-
 -- Machines that go on so from one world to another of as many: each of the second was in the first.
 back : (S : ℕ → Machine → Machine → Type 0) (w v : World) → length v.machines ≡ length w.machines → EachMachine S w v → (m : ℕ) (b : Machine) → machine_at v m ≡ Some b
     → (a : Machine) × (machine_at w m ≡ Some a) × S m a b
 back S w v same each m b at =
     let p = index v m b at in
-    let q = place_of w.machines v.machines (m - 1) b same p.1 in
-    let was = there_by (m == 0) (slice_get w.machines (m - 1)) q.0 p.0 q.1 in
+    let q = same_place_in w.machines v.machines (m - 1) b same p.1 in
+    let was = else_some (m == 0) (slice_get w.machines (m - 1)) q.0 p.0 q.1 in
     let go = each m q.0 was in
     (q.0, was, subst (S m q.0) (one_value go.0 b (machine_at v m) go.1 at) go.2)
 
@@ -250,16 +237,6 @@ stamp_below : (n : ℕ) (ss : List Stamp) (i : ℕ) (t : Stamp) → Falls n ss �
 stamp_below n [] i t h is = absurd (none_some t is)
 stamp_below n (s ∷ ss) i t h is = below_by n s ss i t (i == length ss) is h.0 (λ old. stamp_below n ss i t (falls_from n s.step ss h.0 h.1) old)
 
-inside_by : (s : Stamp) (ss : List Stamp) (i : ℕ) (t : Stamp) (b : Bool) → (i == length ss) ≡ b → elim b as (λ z. Option Stamp) [ true ↦ Some s | false ↦ stamp_in ss i ] ≡ Some t
-    → (stamp_in ss i ≡ Some t → i < length ss) → i ≤ length ss
-inside_by s ss i t true e is rest = omega (arith, same_number i (length ss) e)
-inside_by s ss i t false e is rest = omega (arith, rest is)
-
-stamp_inside : (ss : List Stamp) (i : ℕ) (t : Stamp) → stamp_in ss i ≡ Some t → i < length ss
-stamp_inside [] i t is = absurd (none_some t is)
-stamp_inside (s ∷ ss) i t is =
-    let le : i ≤ length ss = inside_by s ss i t (i == length ss) refl is (λ old. stamp_inside ss i t old) in omega (arith, le)
-
 order_by : (n : ℕ) (s : Stamp) (ss : List Stamp) (i j : ℕ) (t u : Stamp) (b c : Bool) → (i == length ss) ≡ b → (j == length ss) ≡ c
     → elim b as (λ z. Option Stamp) [ true ↦ Some s | false ↦ stamp_in ss i ] ≡ Some t
     → elim c as (λ z. Option Stamp) [ true ↦ Some s | false ↦ stamp_in ss j ] ≡ Some u → i ≤ j → Falls s.step ss
@@ -269,7 +246,7 @@ order_by n s ss i j t u true true p q is other le falls rest =
 order_by n s ss i j t u false true p q is other le falls rest =
     let low : t.step < s.step = stamp_below s.step ss i t falls is in omega (arith, low, ap (λ x. x.step) (some_value s u other))
 order_by n s ss i j t u true false p q is other le falls rest =
-    absurd (let lt : j < length ss = stamp_inside ss j u other in omega (arith, le, lt, same_number i (length ss) p))
+    absurd (let lt : j < length ss = found_below ss j u other in omega (arith, le, lt, eqb-true i (length ss) p))
 order_by n s ss i j t u false false p q is other le falls rest = rest is other
 
 -- Of two entries the older came first.

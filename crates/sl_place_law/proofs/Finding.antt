@@ -1,23 +1,18 @@
 -- What is found in a list, and what a test of it says.
 use Rattle.sl_course_law.specs.Stamping.{Pairwise}
+use Rattle.sl_plain.proofs.Lists.{contains_cases, contains_first, contains_more, contains_none}
 use Rattle.sl_sample_law.specs.Samples.{numbered_landing}
 use Rattle.sl_run.specs.Worlds.{Landing}
-use Rattle.sl_session_law.proofs.Making.{contains_cases, contains_first, contains_more, contains_none}
 use Rattle.sl_trace.specs.Traces.{same_place}
 use Rattle.sl_words.proofs.CaseLaws.{none_some, some_value, true_is_false}
 use Rattle.sl_words.proofs.WordLaws.{and_true}
-use Rattle.std.proofs.Common.{ap, arith, inl, inr, refl, subst, sym, tests, ◌∙◌}
+use Rattle.std.proofs.Common.{ap, inl, inr, refl, subst, sym, ◌∙◌}
+use Rattle.std.proofs.lemmas.Bool.{eqb-true}
 use Rattle.std.proofs.lemmas.Slice.Eq.{bytes_eq-Decides}
 use Rattle.std.specs.List.{cons_option}
-use Rattle.std.specs.Prelude.{Bool, Contains, List, None, Option, Some, [], bytes_eq, cond, false, filter, filter_map, find, length, true, ℕ, ◌==◌, ◌∷◌, ◌≡◌, ◌⊎◌, Ok, Result}
+use Rattle.std.specs.Prelude.{Bool, Contains, List, None, Option, Some, [], bytes_eq, cond, false, filter_map, find, length, true, ℕ, ◌==◌, ◌∷◌, ◌≡◌, ◌⊎◌, Ok, Result}
 
 -- ---- tests
-
-pub same_number : (a b : ℕ) → (a == b) ≡ true → a ≡ b
-same_number a b h = grind (arith, tests)
-
-pub equal_numbers : (a b : ℕ) → a ≡ b → (a == b) ≡ true
-equal_numbers a b h = grind (arith, tests)
 
 pub same_text : (a b : List ℕ) → bytes_eq a b ≡ true → a ≡ b
 same_text a b h = (bytes_eq-Decides a b).0 h
@@ -26,38 +21,13 @@ same_text a b h = (bytes_eq-Decides a b).0 h
 pub place_is : (path : List ℕ) (offset : ℕ) (path' : List ℕ) (offset' : ℕ) → same_place path offset path' offset' ≡ true → (path ≡ path') × (offset ≡ offset')
 place_is path offset path' offset' h =
     let both = and_true (offset == offset') (bytes_eq path path') h in
-    (same_text path path' both.1, same_number offset offset' both.0)
+    (same_text path path' both.1, eqb-true offset offset' both.0)
 
 -- One answer is one value.
 pub same_read : {A E : Type 0} (read : Result A E) (r s : A) → read ≡ Ok r → read ≡ Ok s → r ≡ s
 same_read read r s e f = cc
 
 -- ---- what passes a test
-
-filtered_by : {A : Type 0} (p : A → Bool) (x : A) (rest xs : List A) (m : A) (b : Bool) → p x ≡ b → Contains (cond b (x ∷ rest) rest) m
-    → (Contains rest m → Contains xs m × (p m ≡ true)) → Contains (x ∷ xs) m × (p m ≡ true)
-filtered_by p x rest xs m false is there more = let r = more there in (contains_more x xs m r.0, r.1)
-filtered_by {A} p x rest xs m true is there more = by (contains_cases x rest m there) where
-  by : (x ≡ m) ⊎ Contains rest m → Contains (x ∷ xs) m × (p m ≡ true)
-  by (inl here) = (subst (λ (y : A). Contains (x ∷ xs) y) here (contains_first x xs), subst (λ (y : A). p y ≡ true) here is)
-  by (inr old) = let r = more old in (contains_more x xs m r.0, r.1)
-
--- What is left of a list by a test was in it, and passes.
-pub filtered : {A : Type 0} (p : A → Bool) (xs : List A) (m : A) → Contains (filter p xs) m → Contains xs m × (p m ≡ true)
-filtered p [] m there = absurd (contains_none m there)
-filtered p (x ∷ xs) m there = filtered_by p x (filter p xs) xs m (p x) refl there (λ more. filtered p xs m more)
-
-found_by : {A : Type 0} (p : A → Bool) (x : A) (xs : List A) (m : A) (b : Bool) → p x ≡ b → cond b (Some x) (find p xs) ≡ Some m
-    → (find p xs ≡ Some m → Contains xs m × (p m ≡ true)) → Contains (x ∷ xs) m × (p m ≡ true)
-found_by {A} p x xs m true is h rest =
-    let same = some_value x m h in
-    (subst (λ (y : A). Contains (x ∷ xs) y) same (contains_first x xs), subst (λ (y : A). p y ≡ true) same is)
-found_by p x xs m false is h rest = let r = rest h in (contains_more x xs m r.0, r.1)
-
--- What is found in a list is in it, and passes.
-pub found_in : {A : Type 0} (p : A → Bool) (xs : List A) (m : A) → find p xs ≡ Some m → Contains xs m × (p m ≡ true)
-found_in p [] m h = absurd (none_some m h)
-found_in p (x ∷ xs) m h = found_by p x xs m (p x) refl h (λ rest. found_in p xs m rest)
 
 finds_by : {A : Type 0} (p : A → Bool) (x : A) (xs : List A) (d : A) (b : Bool) → p x ≡ b → p d ≡ true → (x ≡ d) ⊎ Contains xs d
     → (Contains xs d → (m : A) × (find p xs ≡ Some m)) → (m : A) × (cond b (Some x) (find p xs) ≡ Some m)

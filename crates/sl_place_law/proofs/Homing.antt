@@ -6,12 +6,12 @@ use Rattle.sl_law.specs.LawfulArea.{HasVerified, LawfulAreaWrite, is_delta_recor
 use Rattle.sl_law.specs.LawfulLeader.{LawfulLeaderWrite}
 use Rattle.sl_leases.specs.Leases.{leader_of_record, leader_written, spot_of_call}
 use Rattle.sl_place_law.proofs.Areas.{IsSized, base_around, lockspace_aligned, never_both, one_lockspace, one_resource, resource_aligned, same_base}
-use Rattle.sl_place_law.proofs.Finding.{equal_numbers}
 use Rattle.sl_place_law.proofs.Leased.{IsLeased, verified_leased}
 use Rattle.sl_place_law.proofs.Looks.{IsOwnDelta, delta_is_own}
 use Rattle.sl_place_law.proofs.Reading.{IsPromised, IsTraced, call_law, owner_of, traced}
 use Rattle.sl_place_law.proofs.Seats.{Delta_home, HomeBefore, IsHome, IsSeated, Lease_home, delta_within, given_seated, home_early, look_seated, sized_in}
 use Rattle.sl_place_law.specs.Homes.{In_lockspace, In_resource, IsAtHome, IsDeltaLanding, IsLeaseLanding, LockspacesHoldDeltas, NothingLandsElsewhere, ResourcesHoldLeases, WrittenBySession}
+use Rattle.sl_plain.proofs.Lists.{got_inside}
 use Rattle.sl_run.specs.Headers.{IsHeader}
 use Rattle.sl_run.specs.Runs.{Happening}
 use Rattle.sl_run.specs.Safety.{Found, LawfulRun, SessionId, is_course_of, session_of_world, world_at}
@@ -24,7 +24,6 @@ use Rattle.sl_sector.specs.declared.sector.Leader.{Leader}
 use Rattle.sl_sector.specs.declared.sector.Rec.TheVariants.{BlockIs, DeltaIs, LeaderIs, RequestIs, ValueIs}
 use Rattle.sl_sector.specs.declared.sector.Rec.{Rec}
 use Rattle.sl_session_law.proofs.Making.{calls_are_made}
-use Rattle.sl_session_law.proofs.Owning.{got_inside}
 use Rattle.sl_session_law.specs.Promises.{IsMade, IsSession, front_of, made_as}
 use Rattle.sl_sessions.specs.Sessions.{Session, delta_of_record, delta_written, session_numbered, sessions}
 use Rattle.sl_trace.specs.Traces.{Setting, Submitted, record_of}
@@ -32,7 +31,7 @@ use Rattle.sl_trace.specs.declared.effects.Spot.{Spot}
 use Rattle.sl_words.proofs.CaseLaws.{none_some}
 use Rattle.sl_words.proofs.OrderLaws.{by_smaller}
 use Rattle.std.proofs.Common.{ap, arith, inl, inr, refl, subst, sym, ◌∙◌}
-use Rattle.std.proofs.lemmas.Bool.{and_from}
+use Rattle.std.proofs.lemmas.Bool.{and_from, eq-eqb}
 use Rattle.std.specs.Prelude.{Contains, IsTrue, List, None, Option, Some, false, option_and_then, option_map, ℕ, ◌%◌, ◌-◌, ◌<◌, ◌≡◌, ◌≤◌}
 
 -- ---- the writer of a landing
@@ -81,8 +80,8 @@ in_world w i a d s here at is =
 
 course_of : {w : World} {x : Landing} (t : IsTold w x) → IsTrue (is_course_of (id_of t) t.wrote.course)
 course_of {w} {x} t =
-    and_from _ _ (equal_numbers t.wrote.course.daemon t.wrote.course.daemon refl)
-    (equal_numbers t.wrote.course.call.session t.session.number (ap (λ c. c.session) (sym t.trace.is.call) ∙ t.mine))
+    and_from _ _ (eq-eqb t.wrote.course.daemon t.wrote.course.daemon refl)
+    (eq-eqb t.wrote.course.call.session t.session.number (ap (λ c. c.session) (sym t.trace.is.call) ∙ t.mine))
 
 abbrev written_by : (w : World) (x : Landing) → IsTold w x → WrittenBySession w x
 written_by w x t =

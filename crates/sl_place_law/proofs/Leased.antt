@@ -7,11 +7,13 @@ use Rattle.sl_law.specs.LawfulArea.{HasVerified, IsRightRead, is_leader_read, le
 use Rattle.sl_place_law.proofs.Areas.{IsSized, base_aligned, resource_aligned, same_base, sector_fits}
 use Rattle.sl_place_law.proofs.Beginnings.{In_lockspace, In_resource, IsInitial}
 use Rattle.sl_place_law.proofs.Daemons.{daemons_are_fine, stamp_order}
-use Rattle.sl_place_law.proofs.Finding.{filtered, given_by, same_text}
+use Rattle.sl_place_law.proofs.Finding.{given_by, same_text}
 use Rattle.sl_place_law.proofs.Looks.{Heard, heard}
 use Rattle.sl_place_law.proofs.Reading.{IsPromised, IsShown, call_law, read_of, reads_back, sector_shown}
-use Rattle.sl_place_law.proofs.Seats.{Delta_home, HomeBefore, IsHome, Lease_home, home_early, initial_in, none_more, sized_in}
+use Rattle.sl_place_law.proofs.Seats.{Delta_home, HomeBefore, IsHome, Lease_home, home_early, initial_in, sized_in}
 use Rattle.sl_leases.specs.Leases.{is_leader_of, is_on, spot_of_call}
+use Rattle.sl_plain.proofs.Lists.{kept_inside}
+use Rattle.sl_plain.proofs.Numbers.{no_times_more}
 use Rattle.sl_run.specs.Events.{sectors_of}
 use Rattle.sl_run.specs.Headers.{IsHeader}
 use Rattle.sl_run.specs.Runs.{Happening}
@@ -53,7 +55,7 @@ record IsBaseRead (at : Spot) (c : Submitted) : Type 0 where
 two : 0 < 2
 two = omega arith
 
-and_two : (n : ℕ) → 0 < n + 2
+pub and_two : (n : ℕ) → 0 < n + 2
 and_two n = omega arith
 
 lease_read : (st : Setting) (at : Spot) (c : Submitted) (work : Work) (step : LeaseStep) → is_leader_read (Lease work step) ≡ true → IsRightRead st at c (Lease work step)
@@ -99,7 +101,7 @@ record IsLeaderPlace (h : Header) (w : World) (path : List ℕ) (offset : ℕ) (
   inside : IsTrue (in_area w.layout line.offset offset)
   names : (l.lockspace ≡ line.lockspace) × (l.resource ≡ line.name)
 
-leader_in_is : (r : Result Rec Bad) (l : Leader) → leader_in r ≡ Some l → r ≡ Ok (LeaderIs l)
+pub leader_in_is : (r : Result Rec Bad) (l : Leader) → leader_in r ≡ Some l → r ≡ Ok (LeaderIs l)
 leader_in_is (Ok (DeltaIs e)) l h = absurd (none_some l h)
 leader_in_is (Ok (LeaderIs e)) l h = ap (λ x. Ok (LeaderIs x)) (some_value e l h)
 leader_in_is (Ok (BlockIs e)) l h = absurd (none_some l h)
@@ -174,7 +176,7 @@ leader_read : (st : Setting) (es : Trace) (s : Session) (at : Spot) (l : Leader)
 leader_read st es s at l there =
     let f = given_by (λ (c : Submitted). option_and_then (leader_of st.layout) (gave c))
     (filter (λ (c : Submitted). is_leader_read c.call.purpose && is_on st.layout at c.call) (calls_of es s)) l there in
-    let inside = filtered (λ (c : Submitted). is_leader_read c.call.purpose && is_on st.layout at c.call) (calls_of es s) f.0 f.1 in
+    let inside = kept_inside (λ (c : Submitted). is_leader_read c.call.purpose && is_on st.layout at c.call) (calls_of es s) f.0 f.1 in
     let both = and_true (is_leader_read f.0.call.purpose) (is_on st.layout at f.0.call) inside.1 in
     let bytes = bytes_of st.layout (gave f.0) l f.2 in
     record { call = f.0; there = inside.0; reads = both.0; on = both.1; bytes = bytes.0; given = bytes.1; spelled = bytes.2 }
@@ -208,7 +210,7 @@ leased_by h w s q rd resource l ok z place path base on names =
       there = place.there;
       path = sym path ∙ sym place.path_is;
       base = same_areas h w place.line rd.call.offset q.call.offset ok z place.there base on
-          (subst (λ o. IsTrue (in_area w.layout place.line.offset o)) (none_more rd.call.offset w.layout.sector) place.inside);
+          (subst (λ o. IsTrue (in_area w.layout place.line.offset o)) (no_times_more rd.call.offset w.layout.sector) place.inside);
       lockspace = sym names.lockspace ∙ place.names.0;
       name = sym names.resource_is ∙ place.names.1;
     }

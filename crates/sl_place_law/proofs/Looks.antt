@@ -3,14 +3,16 @@ use Rattle.sl_area.specs.Layouts.{record_in}
 use Rattle.sl_area.specs.Places.{is_base}
 use Rattle.sl_law.specs.Lawful.{Lawful}
 use Rattle.sl_law.specs.LawfulDelta.{Gave, LawfulClaim, LawfulDeciding, LawfulDeltaCall, LawfulFirstRenewal, LawfulJoin, LawfulJoinStep, LawfulLook, LawfulVerify, is_on_own_sector}
-use Rattle.sl_place_law.proofs.Finding.{filtered, found_in, place_is, same_number}
+use Rattle.sl_place_law.proofs.Finding.{place_is}
 use Rattle.sl_place_law.proofs.Reading.{answer_gave, call_law}
+use Rattle.sl_plain.proofs.Lists.{contains_none, find_inside, got_inside, in_map, kept_inside}
+use Rattle.sl_plain.proofs.Numbers.{below_itself_suc, less_than_suc, refl_le, trans_le}
 use Rattle.sl_sector.specs.Spelling.{delta_in}
 use Rattle.sl_sector.specs.declared.sector.DeltaRec.{DeltaRec}
 use Rattle.sl_sector.specs.declared.sector.DeltaState.{DeltaState}
 use Rattle.sl_session_law.proofs.Fronts.{front_answers_stay}
-use Rattle.sl_session_law.proofs.Making.{answers_stay, calls_are_made, contains_cases, contains_first, contains_more, contains_none, old_or_new}
-use Rattle.sl_session_law.proofs.Owning.{calls_were_lawful, got_inside}
+use Rattle.sl_session_law.proofs.Making.{answers_stay, calls_are_made, old_or_new}
+use Rattle.sl_session_law.proofs.Owning.{calls_were_lawful}
 use Rattle.sl_session_law.proofs.Silence.{stage_by}
 use Rattle.sl_session_law.specs.Promises.{IsMade, IsSession, WasLawful, front_of, made_as}
 use Rattle.sl_sessions.specs.Deltas.{DeltaLease, delta_of_session, delta_record, own_offset}
@@ -30,17 +32,12 @@ use Rattle.sl_trace.specs.declared.input.Input.TheVariants.{Answer as Told, Exit
 use Rattle.sl_trace.specs.declared.input.Input.{Input}
 use Rattle.sl_words.proofs.CaseLaws.{false_is_true, no_value, none_some, some_value}
 use Rattle.std.proofs.Common.{ap, arith, inl, inr, refl, subst, sym, ◌∙◌}
+use Rattle.std.proofs.lemmas.Bool.{eqb-true}
+use Rattle.std.proofs.lemmas.List.{length-append}
 use Rattle.std.specs.Option.{option_or}
-use Rattle.std.specs.Prelude.{Bool, Contains, IsTrue, List, None, Option, Some, [], false, length, map, not, option_and_then, suc, true, ℕ, ◌&&◌, ◌++◌, ◌+◌, ◌<◌, ◌==◌, ◌∷◌, ◌≡◌, ◌≤◌, ◌⊎◌}
+use Rattle.std.specs.Prelude.{Bool, Contains, IsTrue, List, None, Option, Some, [], false, length, map, not, option_and_then, suc, true, ℕ, ◌&&◌, ◌+◌, ◌<◌, ◌==◌, ◌∷◌, ◌≡◌, ◌≤◌, ◌⊎◌}
 
 -- ---- calls and answers are of the trace
-
-mapped : {A B : Type 0} (f : A → B) (xs : List A) (y : B) → Contains (map f xs) y → (x : A) × Contains xs x × (f x ≡ y)
-mapped f [] y there = absurd (contains_none y there)
-mapped {A} {B} f (x ∷ xs) y there = by (λ old. mapped f xs y old) (contains_cases (f x) (map f xs) y there) where
-  by : (Contains (map f xs) y → (z : A) × Contains xs z × (f z ≡ y)) → (f x ≡ y) ⊎ Contains (map f xs) y → (z : A) × Contains (x ∷ xs) z × (f z ≡ y)
-  by rest (inl here) = (x, contains_first x xs, here)
-  by rest (inr old) = let r = rest old in (r.0, contains_more x xs r.0 r.1, r.2)
 
 or_by : (o : Option Answered) (n a : Answered) → option_or o (Some n) ≡ Some a → (o ≡ Some a) ⊎ (n ≡ a)
 or_by None n a h = inr (some_value n a h)
@@ -54,26 +51,20 @@ answer_by x true n a h = or_by x.answer n a h
 abbrev AnsweredBelow : ℕ → List Submitted → Type 0
 AnsweredBelow n ms = (m : Submitted) → Contains ms m → (a : Answered) → m.answer ≡ Some a → a.at < n
 
-later_than : (k n : ℕ) → k < n → k < suc n
-later_than k n h = omega (arith, h)
-
-itself_below : (n : ℕ) → n < suc n
-itself_below n = omega arith
-
 told_below : (es : Trace) (e : Entry) (n : ℕ) (w : Answer) (ms : List Submitted) → AnsweredBelow (length es) ms → AnsweredBelow (suc (length es)) (map (answered_in es e n w) ms)
 told_below es e n w ms below m there a is =
-    let x = mapped (answered_in es e n w) ms m there in
+    let x = in_map (answered_in es e n w) ms m there in
     elim (answer_by x.0 (x.0.call.number == n) (answer_of es e w x.0.call) a (ap (λ y. y.answer) x.2 ∙ is)) as (λ z. a.at < suc (length es)) [
-      | inl old ↦ later_than a.at (length es) (below x.0 x.1 a old)
-      | inr new ↦ subst (λ y. y.at < suc (length es)) new (itself_below (length es))
+      | inl old ↦ less_than_suc a.at (length es) (below x.0 x.1 a old)
+      | inr new ↦ subst (λ y. y.at < suc (length es)) new (below_itself_suc (length es))
     ]
 
 marked_below : (es : Trace) (e : Entry) (i : Input) (ms : List Submitted) → AnsweredBelow (length es) ms → AnsweredBelow (suc (length es)) (mark es e i ms)
 marked_below es e (Told n w) ms below m there a is = told_below es e n w ms below m there a is
-marked_below es e (Line text) ms below m there a is = later_than a.at (length es) (below m there a is)
-marked_below es e (Exit p) ms below m there a is = later_than a.at (length es) (below m there a is)
-marked_below es e (Spawned p ok) ms below m there a is = later_than a.at (length es) (below m there a is)
-marked_below es e Wake ms below m there a is = later_than a.at (length es) (below m there a is)
+marked_below es e (Line text) ms below m there a is = less_than_suc a.at (length es) (below m there a is)
+marked_below es e (Exit p) ms below m there a is = less_than_suc a.at (length es) (below m there a is)
+marked_below es e (Spawned p ok) ms below m there a is = less_than_suc a.at (length es) (below m there a is)
+marked_below es e Wake ms below m there a is = less_than_suc a.at (length es) (below m there a is)
 
 -- An answer came by an entry of the trace.
 pub answered_below : (es : Trace) → AnsweredBelow (length es) (submitted es)
@@ -87,15 +78,11 @@ answered_below (e ∷ es) m there a is =
 within_all : (n k t : ℕ) → t ≡ n → t < k + suc n
 within_all n k t h = omega (arith, h)
 
-length_parts : {A : Type 0} (xs ys : List A) → length (xs ++ ys) ≡ length xs + length ys
-length_parts [] ys = let same : length ys ≡ 0 + length ys = omega arith in same
-length_parts (x ∷ xs) ys = let same : suc (length xs + length ys) ≡ suc (length xs) + length ys = omega arith in ap (λ n. suc n) (length_parts xs ys) ∙ same
-
 -- A call was made by one.
 pub made_below : (es : Trace) (m : Submitted) → Contains (submitted es) m → m.at < length es
 made_below es m there =
     let d = calls_are_made es m there in
-    subst (λ n. m.at < n) (sym (ap (λ t. length t) d.whole ∙ length_parts d.later (d.entry ∷ d.past))) (within_all (length d.past) (length d.later) m.at d.place)
+    subst (λ n. m.at < n) (sym (ap (λ t. length t) d.whole ∙ length-append d.later (d.entry ∷ d.past))) (within_all (length d.past) (length d.later) m.at d.place)
 
 -- ---- what a session had heard
 
@@ -118,11 +105,8 @@ pub record Heard (es : Trace) (s : Session) (at : ℕ) (bytes : List ℕ) (call 
 no_later : (k n t : ℕ) → k < suc n → t ≡ n → k ≤ t
 no_later k n t h e = omega (arith, h, e)
 
-up_to : (a b c : ℕ) → a ≤ b → b ≤ c → a ≤ c
-up_to a b c h k = omega (arith, h, k)
-
 of_session : (t : Trace) (s : Session) (m : Submitted) → Contains (calls_of t s) m → Contains (submitted t) m × (m.call.session ≡ s.number)
-of_session t s m there = let f = filtered (is_call_of s) (submitted t) m there in (f.0, same_number m.call.session s.number f.1)
+of_session t s m there = let f = kept_inside (is_call_of s) (submitted t) m there in (f.0, eqb-true m.call.session s.number f.1)
 
 -- What was read where a call was made.
 pub heard : (es : Trace) (s : Session) (m : Submitted) (d : IsMade es m) (bytes : List ℕ) (r : Submitted) → Contains (calls_of (front_of d) s) r → gave r ≡ Some bytes
@@ -146,7 +130,7 @@ heard_step es s m d step bytes r g =
 answered_step : (es : Trace) (s : Session) (m : Submitted) (d : IsMade es m) (step : JoinStep) (r : Submitted) (a : Answered)
     → join_call (calls_of (front_of d) s) step ≡ Some r → r.answer ≡ Some a → Earlier es s m.at step
 answered_step es s m d step r a found is =
-    let f = found_in (λ (x : Submitted). is_join_call step x.call.purpose) (calls_of (front_of d) s) r found in
+    let f = find_inside (λ (x : Submitted). is_join_call step x.call.purpose) (calls_of (front_of d) s) r found in
     let its = of_session (front_of d) s r f.0 in
     record {
       call = r;
@@ -157,11 +141,11 @@ answered_step es s m d step r a found is =
     }
 
 earlier_too : (es : Trace) (s : Session) (k at : ℕ) (step : JoinStep) → k ≤ at → Earlier es s k step → Earlier es s at step
-earlier_too es s k at step le e = record { call = e.call; inside = e.inside; mine = e.mine; step_is = e.step_is; early = up_to e.call.at k at e.early le }
+earlier_too es s k at step le e = record { call = e.call; inside = e.inside; mine = e.mine; step_is = e.step_is; early = trans_le e.call.at k at e.early le }
 
 -- ---- steps of a joining
 
-same_step : (a b : JoinStep) → same_join_step a b ≡ true → b ≡ a
+pub same_step : (a b : JoinStep) → same_join_step a b ≡ true → b ≡ a
 same_step FirstRead FirstRead h = refl
 same_step WatchRead WatchRead h = refl
 same_step DecidingRead DecidingRead h = refl
@@ -170,7 +154,7 @@ same_step VerifyRead VerifyRead h = refl
 same_step FirstRenewal FirstRenewal h = refl
 same_step a b h = absurd (false_is_true h)
 
-joins_at : (step : JoinStep) (p : Purpose) → is_join_call step p ≡ true → (j : ℕ) × (p ≡ Joining j step)
+pub joins_at : (step : JoinStep) (p : Purpose) → is_join_call step p ≡ true → (j : ℕ) × (p ≡ Joining j step)
 joins_at step (Joining j at) h = (j, ap (λ x. Joining j x) (same_step step at h))
 joins_at step Renewal h = absurd (false_is_true h)
 joins_at step Survey h = absurd (false_is_true h)
@@ -218,7 +202,7 @@ pub record Look (st : Setting) (es : Trace) (s : Session) (at : ℕ) : Type 0 wh
 
 heard_too : (es : Trace) (s : Session) (k at : ℕ) (bytes : List ℕ) (r : Submitted) → k ≤ at → Heard es s k bytes r → Heard es s at bytes r
 heard_too es s k at bytes r le h =
-    record { inside = h.inside; mine = h.mine; early = up_to r.at k at h.early le; given = h.given; answered = λ a is. up_to a.at k at (h.answered a is) le }
+    record { inside = h.inside; mine = h.mine; early = trans_le r.at k at h.early le; given = h.given; answered = λ a is. trans_le a.at k at (h.answered a is) le }
 
 look_too : (st : Setting) (es : Trace) (s : Session) (k at : ℕ) → k ≤ at → Look st es s k → Look st es s at
 look_too st es s k at le l =
@@ -311,7 +295,7 @@ stands_by (Some k) removed refused free ms h = (k, refl)
 stands_by None removed (Some k) free ms h = absurd (false_is_true h)
 stands_by None removed None free ms h = absurd (false_is_true (sym (not_in ms) ∙ h))
 
-stands : (t : Trace) (s : Session) → stage_of t s ≡ Standing → (k : ℕ) × (joined_after t s ≡ Some k)
+pub stands : (t : Trace) (s : Session) → stage_of t s ≡ Standing → (k : ℕ) × (joined_after t s ≡ Some k)
 stands t s h = stands_by (joined_after t s) (removed_after t s) (refused_after t s) (free_write (calls_of t s)) (calls_of t s) (ap is_standing h)
 
 -- A session of a command that had joined where it made a call had looked.
@@ -321,7 +305,7 @@ at_joined st es s m d h its there mine j k job joined =
     let t : Trace = d.entry ∷ d.past in
     let law = call_law st es s m d h its mine in
     let join : LawfulJoin t s k = law.0.delta.0.joins s (got_inside (sessions st t) m.call.session s law.1) j k job joined in
-    let f = found_in (λ (x : Submitted). is_join_call FirstRenewal x.call.purpose) (calls_of t s) join.renewal join.first in
+    let f = find_inside (λ (x : Submitted). is_join_call FirstRenewal x.call.purpose) (calls_of t s) join.renewal join.first in
     let own = of_session t s join.renewal f.0 in
     at_first st es s m.at h its
     (record {
@@ -341,7 +325,7 @@ pub record IsOwnDelta (st : Setting) (es : Trace) (s : Session) (m : Submitted) 
   pub from : (s.job ≡ None) ⊎ Look st es s m.at
 
 -- A read writes nothing.
-reads_none : (m : Submitted) (n : ℕ) (dr : DeltaRec) → m.call.op ≡ ReadSectors n → delta_written m ≡ Some dr → ⊥
+pub reads_none : (m : Submitted) (n : ℕ) (dr : DeltaRec) → m.call.op ≡ ReadSectors n → delta_written m ≡ Some dr → ⊥
 reads_none m n dr reads writes = none_some dr (sym (ap (λ (op : Op). option_and_then delta_of_record (record_of op)) reads) ∙ writes)
 
 named_by : (l : DeltaLease) (state : DeltaState) (generation seq now : ℕ) (bitmap : List ℕ) (o : Option DeltaRec) (dr : DeltaRec) → o ≡ Some (delta_record l state generation seq now bitmap)
@@ -365,13 +349,10 @@ own_delta : (st : Setting) (es : Trace) (s : Session) (m : Submitted) (dr : Delt
     → (dr.lockspace ≡ s.lockspace) × (dr.id ≡ s.id) → (s.job ≡ None) ⊎ Look st es s m.at → IsOwnDelta st es s m dr
 own_delta st es s m dr w purpose names from = record { names = names; own = at_own st s (made_as w.made) (w.placed purpose); from = from }
 
-now_at : (n : ℕ) → n ≤ n
-now_at n = omega arith
-
 itself : (es : Trace) (s : Session) (m : Submitted) (j : ℕ) (step : JoinStep) → Contains (submitted es) m → m.call.session ≡ s.number → m.call.purpose ≡ Joining j step
     → is_join_call step (Joining j step) ≡ true → Earlier es s m.at step
 itself es s m j step there mine is same =
-    record { call = m; inside = there; mine = mine; step_is = ap (is_join_call step) is ∙ same; early = now_at m.at }
+    record { call = m; inside = there; mine = mine; step_is = ap (is_join_call step) is ∙ same; early = refl_le m.at }
 
 joining_delta : (st : Setting) (es : Trace) (s : Session) (m : Submitted) (dr : DeltaRec) (w : WasLawful st es s m) (j : ℕ) (step : JoinStep) → Lawful st es → IsSession st es s
     → Contains (submitted es) m → m.call.session ≡ s.number → m.call.purpose ≡ Joining j step → delta_written m ≡ Some dr

@@ -8,8 +8,11 @@ use Rattle.sl_front_law.proofs.Having.{contains_append, in_flat}
 use Rattle.sl_landing_law.specs.Landings.{IsWrittenBy, LandingsAreWritten, LeftBy}
 use Rattle.sl_law.proofs.LawFacts.{lawful-front}
 use Rattle.sl_law.specs.Lawful.{Lawful}
-use Rattle.sl_place_law.proofs.Finding.{equal_numbers, filtered, finds, found_in, numbered_inside, partner, partner_of, place_is, same_number, same_read}
+use Rattle.sl_place_law.proofs.Finding.{finds, numbered_inside, partner, partner_of, place_is, same_read}
 use Rattle.sl_place_law.proofs.Numbering.{session_number}
+use Rattle.sl_plain.proofs.Lists.{contains_cases, contains_none, find_inside, got_inside, kept, kept_inside, there_is}
+use Rattle.sl_plain.proofs.Numbers.{no_times, one_times}
+use Rattle.sl_plain.proofs.Options.{some_of}
 use Rattle.sl_run.specs.Events.{sectors_of}
 use Rattle.sl_run.specs.Runs.{Happening}
 use Rattle.sl_run.specs.Safety.{Found, LawfulRun, SessionId, session_of_world, world_at}
@@ -23,9 +26,8 @@ use Rattle.sl_sector.specs.Records.{IsRecord}
 use Rattle.sl_sector.specs.Spelling.{IsDigest, IsSectorSize}
 use Rattle.sl_sector.specs.declared.sector.Rec.{Rec}
 use Rattle.sl_session_law.proofs.Growing.{all_of_it}
-use Rattle.sl_session_law.proofs.Making.{calls_are_made, contains_cases, contains_none}
-use Rattle.sl_session_law.proofs.Naming.{kept}
-use Rattle.sl_session_law.proofs.Owning.{got_inside, owned, sessions_stay}
+use Rattle.sl_session_law.proofs.Making.{calls_are_made}
+use Rattle.sl_session_law.proofs.Owning.{owned, sessions_stay}
 use Rattle.sl_session_law.specs.Promises.{IsMade, IsSession}
 use Rattle.sl_sessions.specs.Sessions.{Session, session_numbered}
 use Rattle.sl_trace.specs.Traces.{Answered, Setting, Submitted, Trace, bytes_given, gave, is_ok_answer, is_write, record_of, same_place, submitted}
@@ -33,9 +35,10 @@ use Rattle.sl_trace.specs.declared.effects.Op.TheVariants.{ReadSectors}
 use Rattle.sl_trace.specs.declared.effects.Op.{Op}
 use Rattle.sl_trace.specs.declared.input.Answer.TheVariants.{Failed, Read, Written}
 use Rattle.sl_trace.specs.declared.input.Answer.{Answer}
-use Rattle.sl_words.proofs.CaseLaws.{false_is_true, none_some, some_value, true_is_false}
+use Rattle.sl_words.proofs.CaseLaws.{none_some, some_value, true_is_false}
 use Rattle.std.proofs.Common.{ap, arith, inl, inr, refl, subst, sym, ◌∙◌}
-use Rattle.std.specs.Prelude.{Contains, IsSome, List, drop, take, ◌++◌, ◌-◌, None, Ok, Option, Some, [], is_ok, length, not, option_and_then, option_map, slice_get, suc, true, zero, ℕ, ◌*◌, ◌+◌, ◌<◌, ◌==◌, ◌∷◌, ◌≡◌, ◌⊎◌}
+use Rattle.std.proofs.lemmas.Bool.{eq-eqb, eqb-true}
+use Rattle.std.specs.Prelude.{Contains, List, drop, take, ◌++◌, ◌-◌, None, Ok, Option, Some, [], is_ok, length, not, option_and_then, option_map, true, ℕ, ◌*◌, ◌+◌, ◌<◌, ◌==◌, ◌∷◌, ◌≡◌, ◌⊎◌}
 
 -- What the crates of calls, landings and samples promise.
 pub record IsPromised : Type 0 where
@@ -56,10 +59,6 @@ pub layout_is : (p : Program) (h : Header) (xs : List Happening) → (world_at p
 layout_is p h xs = (run_goes (world_with p h) xs).layout
 
 -- ---- a call in its trace
-
-some_of : {A : Type 0} (o : Option A) → IsSome o → (x : A) × (o ≡ Some x)
-some_of None h = absurd (false_is_true h)
-some_of (Some x) h = (x, refl)
 
 whole_of : (st : Setting) (es : Trace) (m : Submitted) (d : IsMade es m) → Lawful st es → Lawful st (d.later ++ d.entry ∷ d.past)
 whole_of st es m d h = subst (λ t. Lawful st t) d.whole h
@@ -112,9 +111,9 @@ pub traced : IsPromised → (p : Program) (h : Header) (xs : List Happening) →
     → Contains a.calls c → IsTraced a c
 traced b p h xs run m a c at has =
     let some = b.daemons p h xs run m a c at has in
-    let found = finds (λ (d : Daemon). d.number == c.daemon) (daemons_on a) some.0 (equal_numbers some.0.number c.daemon some.2) some.1 in
-    let its = found_in (λ (d : Daemon). d.number == c.daemon) (daemons_on a) found.0 found.1 in
-    let mine : (c.daemon == found.0.number) ≡ true = equal_numbers c.daemon found.0.number (sym (same_number found.0.number c.daemon its.1)) in
+    let found = finds (λ (d : Daemon). d.number == c.daemon) (daemons_on a) some.0 (eq-eqb some.0.number c.daemon some.2) some.1 in
+    let its = find_inside (λ (d : Daemon). d.number == c.daemon) (daemons_on a) found.0 found.1 in
+    let mine : (c.daemon == found.0.number) ≡ true = eq-eqb c.daemon found.0.number (sym (eqb-true found.0.number c.daemon its.1)) in
     let other = partner (IsCourseOf found.0) (courses_of a found.0.number) (submitted found.0.trace) c (b.calls p h xs run m a found.0 at its.0)
     (kept (λ (x : Course). x.daemon == found.0.number) a.calls c mine has) in
     record {
@@ -178,7 +177,7 @@ pub read_of : IsPromised → (p : Program) (h : Header) (xs : List Happening) �
     → IsRead a d q bytes
 read_of b p h xs run m a d at has q there n reads bytes given =
     let own = partner_of (IsCourseOf d) (courses_of a d.number) (submitted d.trace) q (b.calls p h xs run m a d at has) there in
-    let inside = filtered (λ (c : Course). c.daemon == d.number) a.calls own.0 own.1 in
+    let inside = kept_inside (λ (c : Course). c.daemon == d.number) a.calls own.0 own.1 in
     let told = answer_gave q.answer bytes given in
     let heard : IsAnsweredAs d own.0 told.0 = subst (λ o. AnswersAgree d own.0 o) told.1 own.2.answers in
     let done : own.0.done ≡ true = heard.done ∙ ap (λ x. is_ok_answer x) told.2 in
@@ -204,18 +203,13 @@ pub record IsShown (w : World) (path : List ℕ) (offset : ℕ) (bytes : List �
   pub early : landing.step < before
   pub from : Contains w.landings landing ⊎ (landing ≡ first_landing w path offset)
 
-there_is : {A : Type 0} (xs : List A) (k : ℕ) → k < length xs → (x : A) × (slice_get xs k ≡ Some x)
-there_is [] k lt = absurd (omega (arith, lt))
-there_is (x ∷ xs) zero lt = (x, refl)
-there_is (x ∷ xs) (suc k) lt = there_is xs k (omega (arith, lt))
-
-in_history : (w : World) (path : List ℕ) (offset : ℕ) (x : Landing) → Contains (history_of w path offset) x
+pub in_history : (w : World) (path : List ℕ) (offset : ℕ) (x : Landing) → Contains (history_of w path offset) x
     → ((x.path ≡ path) × (x.offset ≡ offset)) × (Contains w.landings x ⊎ (x ≡ first_landing w path offset))
 in_history w path offset x there = by (contains_append (landed_at w path offset) (first_landing w path offset ∷ []) x there) where
   by : Contains (landed_at w path offset) x ⊎ Contains (first_landing w path offset ∷ []) x
       → ((x.path ≡ path) × (x.offset ≡ offset)) × (Contains w.landings x ⊎ (x ≡ first_landing w path offset))
   by (inl landed) =
-      let its = filtered (λ (l : Landing). same_place l.path l.offset path offset) w.landings x landed in
+      let its = kept_inside (λ (l : Landing). same_place l.path l.offset path offset) w.landings x landed in
       (place_is x.path x.offset path offset its.1, inl its.0)
   by (inr at_first) =
       elim (contains_cases (first_landing w path offset) [] x at_first) as (λ z. ((x.path ≡ path) × (x.offset ≡ offset)) × (Contains w.landings x ⊎ (x ≡ first_landing w path offset))) [
@@ -242,14 +236,8 @@ sector_shown b p h xs run m a d at q bytes r k lt =
     subst (λ bs. IsShown w q.call.path (q.call.offset + k * w.layout.sector) (sector_of w.layout bs k) r.stamp.step) (sym r.sampled)
     (subst (λ c. IsShown w c.path (c.offset + k * w.layout.sector) (sector_of w.layout r.course.sampled k) r.stamp.step) (sym r.is.call) shown)
 
-one_times : (n : ℕ) → 1 * n ≡ n
-one_times n = omega arith
-
-none_before : (n : ℕ) → 0 * n ≡ 0
-none_before n = omega arith
-
-first_whole : (n : ℕ) (bs : List ℕ) → length bs ≡ n → take n (drop (0 * n) bs) ≡ bs
-first_whole n bs h = ap (λ k. take n (drop k bs)) (none_before n) ∙ ap (λ k. take k bs) (sym h) ∙ all_of_it bs
+pub first_whole : (n : ℕ) (bs : List ℕ) → length bs ≡ n → take n (drop (0 * n) bs) ≡ bs
+first_whole n bs h = ap (λ k. take n (drop k bs)) (no_times n) ∙ ap (λ k. take k bs) (sym h) ∙ all_of_it bs
 
 -- What a read of one sector gave is that sector.
 pub one_sector : IsPromised → (p : Program) (h : Header) (xs : List Happening) → LawfulRun p h xs → (m : ℕ) (a : Machine) (d : Daemon) → machine_at (world_at p h xs) m ≡ Some a
@@ -281,7 +269,7 @@ inside_machine : (w : World) (i : SessionId) (f : Found) (a : Machine) (o : Opti
     → option_and_then (λ (d : Daemon). option_map (λ (s : Session). found_as a d s) (session_numbered d.setting d.trace i.number)) o ≡ Some f → IsInside w i f
 inside_machine w i f a None at is h = absurd (none_some f h)
 inside_machine w i f a (Some d) at is h =
-    inside_daemon w i f a d (session_numbered d.setting d.trace i.number) at (found_in (λ (x : Daemon). x.number == i.daemon) (daemons_on a) d is).0 refl h
+    inside_daemon w i f a d (session_numbered d.setting d.trace i.number) at (find_inside (λ (x : Daemon). x.number == i.daemon) (daemons_on a) d is).0 refl h
 
 inside_world : (w : World) (i : SessionId) (f : Found) (o : Option Machine) → machine_at w i.machine ≡ o
     → option_and_then (λ (a : Machine). option_and_then (λ (d : Daemon). option_map (λ (s : Session). found_as a d s) (session_numbered d.setting d.trace i.number))

@@ -6,11 +6,13 @@ use Rattle.sl_law.specs.LawfulArea.{is_delta_record}
 use Rattle.sl_place_law.proofs.Areas.{IsSized, is_base_aligned, is_within, lockspace_aligned, same_base, sector_fits, sized}
 use Rattle.sl_place_law.proofs.Beginnings.{In_lockspace, In_resource, IsInitial, read_first}
 use Rattle.sl_place_law.proofs.Daemons.{daemons_are_fine, stamp_order}
-use Rattle.sl_place_law.proofs.Finding.{found_in, given_by, same_text}
+use Rattle.sl_place_law.proofs.Finding.{given_by, same_text}
 use Rattle.sl_place_law.proofs.Looks.{Look}
 use Rattle.sl_place_law.proofs.Numbering.{Of_command, Of_setting, Origin, origin_of}
 use Rattle.sl_place_law.proofs.Reading.{IsPromised, IsShown, header_is, layout_is, one_sector, read_of, reads_back, sector_shown}
 use Rattle.sl_place_law.specs.Homes.{IsDeltaLanding, IsLeaseLanding}
+use Rattle.sl_plain.proofs.Lists.{contains_none, find_inside}
+use Rattle.sl_plain.proofs.Numbers.{at_least_first, next_is_most, no_times_more, one_least}
 use Rattle.sl_run.specs.Events.{sectors_of}
 use Rattle.sl_run.specs.Headers.{IsHeader}
 use Rattle.sl_run.specs.Runs.{Happening}
@@ -25,7 +27,6 @@ use Rattle.sl_sector.specs.declared.sector.Bad.{Bad}
 use Rattle.sl_sector.specs.declared.sector.DeltaRec.{DeltaRec}
 use Rattle.sl_sector.specs.declared.sector.Rec.TheVariants.{BlockIs, DeltaIs, LeaderIs, RequestIs, ValueIs}
 use Rattle.sl_sector.specs.declared.sector.Rec.{Rec}
-use Rattle.sl_session_law.proofs.Making.{contains_none}
 use Rattle.sl_sessions.specs.Sessions.{Session, sessions}
 use Rattle.sl_trace.specs.Traces.{Setting}
 use Rattle.sl_trace.specs.declared.input.Given.{Given}
@@ -74,7 +75,7 @@ given_line : (h : Header) (m : ℕ) (s : SessionLine) (g : Given) (o : Option Lo
     → option_map (λ (l : LockspaceLine). record { lockspace = s.lockspace; id = s.id; path = l.path; offset = l.offset; renewed = clock_reading h m }) o ≡ Some g → IsGivenOf h s g
 given_line h m s g None is given = absurd (none_some g given)
 given_line h m s g (Some l) is given =
-    let f = found_in (λ (l : LockspaceLine). bytes_eq l.name s.lockspace) h.lockspaces l is in
+    let f = find_inside (λ (l : LockspaceLine). bytes_eq l.name s.lockspace) h.lockspaces l is in
     let same : (let x : Given = record { lockspace = s.lockspace; id = s.id; path = l.path; offset = l.offset; renewed = clock_reading h m } in x) ≡ g = some_value _ g given in
     record {
       line = l;
@@ -127,16 +128,13 @@ given_seated p h xs run m a d at has s there none =
 
 -- ---- a session that had looked
 
-offset_low : (base k : ℕ) → base ≤ base + k
-offset_low base k = omega arith
-
 offset_high : (base id hosts : ℕ) → 1 ≤ id → id ≤ hosts → hosts ≤ 2000 → base + 512 * (id - 1) < base + 1048576
 offset_high base id hosts low high most = omega (arith, low, high, most)
 
 -- A delta sector is in its area.
 pub delta_within : (g : Layout) (base id : ℕ) → IsSized g → 1 ≤ id → id ≤ g.hosts → IsTrue (in_area g base (delta_offset g base id))
 delta_within g base id z low high =
-    is_within g base (delta_offset g base id) z (offset_low base (g.sector * (id - 1)))
+    is_within g base (delta_offset g base id) z (at_least_first base (g.sector * (id - 1)))
     (subst (λ n. base + n * (id - 1) < base + 1048576) (sym z.sector) (offset_high base id g.hosts low high z.hosts.1))
 
 -- What a place that shows a delta record is.
@@ -156,7 +154,7 @@ delta_in_is (Ok (RequestIs e)) d h = absurd (none_some d h)
 delta_in_is (Ok (ValueIs e)) d h = absurd (none_some d h)
 delta_in_is (Err bad) d h = absurd (none_some d h)
 
-same_delta : (d e : DeltaRec) → DeltaIs d ≡ DeltaIs e → d ≡ e
+pub same_delta : (d e : DeltaRec) → DeltaIs d ≡ DeltaIs e → d ≡ e
 same_delta d e h = cc
 
 not_other : (b : Bool) → b ≡ true → b ≡ false → ⊥
@@ -184,12 +182,6 @@ at_home p h xs b run x d read (Lease_home r there path inside landing) =
     let back = reads_back b p h xs run (sector_fits w.layout (sized_in p h xs run)) x k.machine k.call k.wrote (DeltaIs d) read in
     absurd (not_other (is_delta_record k.wrote.record_written) (ap is_delta_record back) landing.other)
 
-above_one : (k : ℕ) → 1 ≤ k + 1
-above_one k = omega arith
-
-up_to_hosts : (k n : ℕ) → k < n → k + 1 ≤ n
-up_to_hosts k n h = omega (arith, h)
-
 at_first_by : (h : Header) (w : World) (path : List ℕ) (offset : ℕ) (d : DeltaRec) → IsInitial w.layout h path offset (DeltaIs d) → IsDeltaPlace h w path offset d
 at_first_by h w path offset d (In_resource x there path_is inside is never leader) = absurd (never d refl)
 at_first_by h w path offset d (In_lockspace l e there path_is inside few is its) =
@@ -201,7 +193,7 @@ at_first_by h w path offset d (In_lockspace l e there path_is inside few is its)
       there = there;
       path_is = path_is;
       name = ap (λ x. x.lockspace) same ∙ its.lockspace;
-      id = (subst (λ n. 1 ≤ n) (sym id) (above_one k), subst (λ n. n ≤ w.layout.hosts) (sym id) (up_to_hosts k w.layout.hosts few));
+      id = (subst (λ n. 1 ≤ n) (sym id) (one_least k), subst (λ n. n ≤ w.layout.hosts) (sym id) (next_is_most k w.layout.hosts few));
       inside = inside;
     }
 
@@ -246,9 +238,6 @@ place_seats h w s path offset d ok z base path_is place names k =
       id = id;
     }
 
-pub none_more : (o n : ℕ) → o + 0 * n ≡ o
-none_more o n = omega arith
-
 one_there : (k : ℕ) → k ≡ 1 → 0 < k
 one_there k h = omega (arith, h)
 
@@ -275,4 +264,4 @@ look_seated p h xs b run m a d is has s at made stamped home l =
     let z = sized_in p h xs run in
     let base = is_base_aligned w.layout s.offset z (subst (λ (g : Layout). IsTrue (is_base g s.offset)) layout l.base) in
     place_seats h w s l.first.call.path (l.first.call.offset + 0 * w.layout.sector) l.found run.header z base l.own.0
-    (none_more l.first.call.offset w.layout.sector ∙ l.own.1 ∙ ap (λ (g : Layout). delta_offset g s.offset s.id) layout) l.names k
+    (no_times_more l.first.call.offset w.layout.sector ∙ l.own.1 ∙ ap (λ (g : Layout). delta_offset g s.offset s.id) layout) l.names k

@@ -11,8 +11,9 @@ use Rattle.sl_lease_law.specs.Ways.{BlockComes, FoundIn, Of_mode, Of_phase1, Of_
 use Rattle.sl_leases.specs.Leases.{block_of_host, block_submitted, blocks_given, is_area_read, is_block_read, is_lease_call, is_on, is_phase_read, spot_of_call}
 use Rattle.sl_place_law.proofs.Areas.{resource_aligned}
 use Rattle.sl_place_law.proofs.Daemons.{daemons_are_fine, stamp_order}
-use Rattle.sl_place_law.proofs.Finding.{filtered, same_number}
 use Rattle.sl_place_law.proofs.Seats.{sized_in}
+use Rattle.sl_plain.proofs.Lists.{contains_more, kept_inside}
+use Rattle.sl_plain.proofs.Options.{some_there}
 use Rattle.sl_resource_history.proofs.Calls.{found_at}
 use Rattle.sl_resource_history.proofs.Looking.{By_area, By_phase, Gave, IsLook, given_blocks, look_seen, looked}
 use Rattle.sl_resource_history.proofs.Owning.{block_is_lease, block_told, block_works, layout_at, lease_is_work, number_at, own_written, spot_is, works, written}
@@ -27,16 +28,16 @@ use Rattle.sl_run.specs.Worlds.{Program, Stamp, World}
 use Rattle.sl_run.specs.declared.header.Header.{Header}
 use Rattle.sl_run.specs.declared.header.ResourceLine.{ResourceLine}
 use Rattle.sl_sector.specs.declared.sector.Block.{Block}
-use Rattle.sl_session_law.proofs.Making.{contains_more}
 use Rattle.sl_sessions.specs.Sessions.{Session, is_call_of, session_numbered}
 use Rattle.sl_trace.specs.Traces.{Answered, Setting, Submitted, submitted}
 use Rattle.sl_trace.specs.declared.effects.Spot.{Spot}
-use Rattle.sl_words.proofs.CaseLaws.{false_is_true, none_some, one_value}
+use Rattle.sl_words.proofs.CaseLaws.{none_some, one_value}
 use Rattle.sl_words.proofs.OrderLaws.{by_smaller}
 use Rattle.sl_words.proofs.WordLaws.{and_true}
 use Rattle.std.proofs.Common.{ap, arith, refl, subst, sym, ◌∙◌}
+use Rattle.std.proofs.lemmas.Bool.{eqb-true, or_left, or_right}
 use Rattle.std.specs.Option.{option_map_or}
-use Rattle.std.specs.Prelude.{Bool, Contains, List, None, Option, Some, false, filter, is_some, option_and_then, slice_get, true, unwrap_or, ℕ, ◌%◌, ◌&&◌, ◌++◌, ◌-◌, ◌<◌, ◌||◌, ◌∷◌, ◌≡◌, ◌≤◌}
+use Rattle.std.specs.Prelude.{Contains, List, None, Option, Some, filter, option_and_then, slice_get, true, unwrap_or, ℕ, ◌%◌, ◌&&◌, ◌++◌, ◌-◌, ◌<◌, ◌∷◌, ◌≡◌, ◌≤◌}
 
 -- ---- a resource's area
 
@@ -55,18 +56,10 @@ pub record IsAmong (st : Setting) (s : Session) (at : Spot) (older : List Submit
 
 pub is_among : (st : Setting) (s : Session) (at : Spot) (older : List Submitted) (q : Submitted) → Contains (lease_among st s at older) q → IsAmong st s at older q
 is_among st s at older q has =
-    let one = filtered (λ m. is_lease_call m && is_on st.layout at m.call) (filter (is_call_of s) older) q has in
-    let two = filtered (is_call_of s) older q one.0 in
+    let one = kept_inside (λ m. is_lease_call m && is_on st.layout at m.call) (filter (is_call_of s) older) q has in
+    let two = kept_inside (is_call_of s) older q one.0 in
     let both = and_true (is_lease_call q) (is_on st.layout at q.call) one.1 in
-    record { has = two.0; session = same_number q.call.session s.number two.1; lease = both.0; on = both.1 }
-
-or_right : (a b : Bool) → b ≡ true → (a || b) ≡ true
-or_right true b h = refl
-or_right false b h = h
-
-or_left : (a b : Bool) → a ≡ true → (a || b) ≡ true
-or_left true b h = refl
-or_left false b h = absurd (false_is_true h)
+    record { has = two.0; session = eqb-true q.call.session s.number two.1; lease = both.0; on = both.1 }
 
 pub reads_by : (g : Layout) (q : Submitted) (bs : List (Option Block)) → Gave g q bs → is_block_read q ≡ true
 reads_by g q bs (By_area bytes told is same) = or_left (is_area_read q) (is_phase_read q) is
@@ -122,7 +115,7 @@ host_there bs k b (Some y) is h = is ∙ ap (λ z. Some z) h
 pub own_there : (bs : List (Option Block)) (host : ℕ) (b : Block) → block_of_host bs host ≡ Some b → slice_get bs (host - 1) ≡ Some (Some b)
 own_there bs host b h = host_there bs (host - 1) b (slice_get bs (host - 1)) refl h
 
-seen_by : (w : World) (at : Spot) (b : Block) (n k : ℕ) → n ≤ k → Seen w at b n → Seen w at b k
+pub seen_by : (w : World) (at : Spot) (b : Block) (n k : ℕ) → n ≤ k → Seen w at b n → Seen w at b k
 seen_by w at b n k le (Never h) = Never h
 seen_by w at b n k le (Once z has on is less) = Once z has on is (omega (arith, less, le))
 
@@ -181,7 +174,7 @@ Numbered w at n = (z : Sent) (b : Block) → Contains (all_sent w) z → is_on w
 by_own : (lver mbal lver' mbal' : ℕ) → lver' ≡ lver → mbal' ≡ mbal → (0 < lver → 0 < mbal) → 0 < lver' → 0 < mbal'
 by_own lver mbal lver' mbal' p q h some = let more = h (subst (λ n. 0 < n) p some) in subst (λ n. 0 < n) (sym q) more
 
-nothing_above : (a : ℕ) → a ≡ 0 → 0 < a → ⊥
+pub nothing_above : (a : ℕ) → a ≡ 0 → 0 < a → ⊥
 nothing_above a h k = omega (arith, h, k)
 
 seen_numbered : (w : World) (at : Spot) (own : Block) (n : ℕ) → ((k : ℕ) → k < n → Numbered w at k) → Seen w at own n → 0 < own.lver → 0 < own.mbal
@@ -220,10 +213,6 @@ pub block_by : (o : Option Sent) (x : Sent) (b : Block) → o ≡ Some x → blo
     → option_map_or history_block (option_and_then (λ y. block_of_course y.course) o) no_block ≡ history_block b
 block_by o x b is wrote =
     ap (λ q. option_map_or history_block (option_and_then (λ y. block_of_course y.course) q) no_block) is ∙ ap (λ q. option_map_or history_block q no_block) wrote
-
-some_there : {A : Type 0} (o : Option A) → is_some o ≡ true → (x : A) × (o ≡ Some x)
-some_there None h = absurd (false_is_true h)
-some_there (Some x) h = (x, refl)
 
 pub written_at : (p : Program) (h : Header) (xs : List Happening) (r : ResourceLine) (e : ℕ) → (history_of_line p h xs r).writes e ≡ true → WrittenAt p h xs r e
 written_at p h xs r e writes =

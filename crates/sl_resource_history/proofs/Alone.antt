@@ -3,10 +3,12 @@ use Rattle.sl_law.specs.Lawful.{Lawful}
 use Rattle.sl_law.specs.LawfulDelta.{Gave, LawfulClaim, LawfulDeltaCall, LawfulFirstRenewal, LawfulJoin, LawfulJoinStep, LawfulVerify}
 use Rattle.sl_law.specs.Saying.{cut_at}
 use Rattle.sl_place_law.proofs.Daemons.{daemons_are_fine}
-use Rattle.sl_place_law.proofs.Finding.{filtered, found_in, given_by, same_number}
-use Rattle.sl_place_law.proofs.Looks.{heard}
+use Rattle.sl_place_law.proofs.Finding.{given_by}
+use Rattle.sl_place_law.proofs.Looks.{heard, joins_at}
 use Rattle.sl_place_law.proofs.Reading.{call_law}
 use Rattle.sl_front_law.proofs.Having.{placed_at}
+use Rattle.sl_plain.proofs.Lists.{find_inside, got_inside, there_is}
+use Rattle.sl_plain.proofs.Numbers.{both_ways, lt_then_le}
 use Rattle.sl_run.specs.Headers.{GoTogether, IsHeader}
 use Rattle.sl_run.specs.Runs.{Happening}
 use Rattle.sl_run.specs.Safety.{LawfulRun, world_at}
@@ -16,21 +18,21 @@ use Rattle.sl_run.specs.declared.header.LockspaceLine.{LockspaceLine}
 use Rattle.sl_run.specs.declared.header.SessionLine.{SessionLine}
 use Rattle.sl_session_law.proofs.Apart.{names_are_apart}
 use Rattle.sl_session_law.proofs.Fronts.{front_answers_stay}
-use Rattle.sl_session_law.proofs.Owning.{calls_were_lawful, got_inside, session_more, sessions_stay}
+use Rattle.sl_session_law.proofs.Owning.{calls_were_lawful, session_more, sessions_stay}
 use Rattle.sl_session_law.proofs.Staying.{ended_more, stays}
 use Rattle.sl_session_law.specs.Promises.{IsMade, IsSession, WasLawful, front_of, made_as}
-use Rattle.sl_sessions.specs.Sessions.{Session, begun_in, calls_of, ended_after, is_call_of, is_join_call, is_present, join_call, joined_after, refused_after, removed_after, same_join_step, session_numbered, sessions}
+use Rattle.sl_sessions.specs.Sessions.{Session, begun_in, calls_of, ended_after, is_join_call, is_present, join_call, joined_after, refused_after, removed_after, session_numbered, sessions}
 use Rattle.sl_trace.specs.Traces.{Answered, Setting, Submitted, Trace, submitted}
 use Rattle.sl_trace.specs.declared.effects.Entry.{Entry}
-use Rattle.sl_trace.specs.declared.effects.JoinStep.TheVariants.{ClaimWrite, DecidingRead, FirstRead, FirstRenewal, VerifyRead, WatchRead}
+use Rattle.sl_trace.specs.declared.effects.JoinStep.TheVariants.{ClaimWrite, FirstRead, FirstRenewal, VerifyRead}
 use Rattle.sl_trace.specs.declared.effects.JoinStep.{JoinStep}
-use Rattle.sl_trace.specs.declared.effects.Purpose.TheVariants.{Joining, Lease, Leaving, Renewal, RequestRead, RequestWrite, SeeRequest, Survey, ValueRead, ValueWrite}
 use Rattle.sl_trace.specs.declared.effects.Purpose.{Purpose}
 use Rattle.sl_trace.specs.declared.input.Given.{Given}
+use Rattle.sl_watchdog_law.proofs.Finding.{call_owner}
 use Rattle.sl_watchdog_law.proofs.Numbering.{begun_is, either_place, given_first, given_one}
-use Rattle.sl_words.proofs.CaseLaws.{false_is_true, none_some, one_value, some_value, true_is_false}
+use Rattle.sl_words.proofs.CaseLaws.{none_some, one_value, some_value, true_is_false}
 use Rattle.std.proofs.Common.{ap, arith, inl, inr, refl, subst, sym, ◌∙◌}
-use Rattle.std.proofs.lemmas.Bool.{cases_lt}
+use Rattle.std.proofs.lemmas.Bool.{cases_lt, eqb-true}
 use Rattle.std.proofs.lemmas.Option.{slice_get_within}
 use Rattle.std.specs.List.{cons_option}
 use Rattle.std.specs.Prelude.{AllPairs, Bool, Contains, IsTrue, List, None, Option, Some, [], bytes_eq, false, filter_map, find, is_none, length, option_map, slice_get, slice_index_or, suc, true, zero, ℕ, ◌++◌, ◌+◌, ◌<◌, ◌==◌, ◌||◌, ◌∷◌, ◌≡◌, ◌≤◌, ◌⊎◌}
@@ -43,27 +45,6 @@ record Was (es : Trace) (s : Session) (step : JoinStep) : Type 0 where
   inside : Contains (submitted es) call
   mine : call.call.session ≡ s.number
   step_is : IsTrue (is_join_call step call.call.purpose)
-
-same_step : (a b : JoinStep) → same_join_step a b ≡ true → b ≡ a
-same_step FirstRead FirstRead h = refl
-same_step WatchRead WatchRead h = refl
-same_step DecidingRead DecidingRead h = refl
-same_step ClaimWrite ClaimWrite h = refl
-same_step VerifyRead VerifyRead h = refl
-same_step FirstRenewal FirstRenewal h = refl
-same_step a b h = absurd (false_is_true h)
-
-joins_at : (step : JoinStep) (p : Purpose) → is_join_call step p ≡ true → (j : ℕ) × (p ≡ Joining j step)
-joins_at step (Joining j at) h = (j, ap (λ x. Joining j x) (same_step step at h))
-joins_at step Renewal h = absurd (false_is_true h)
-joins_at step Survey h = absurd (false_is_true h)
-joins_at step (Leaving j) h = absurd (false_is_true h)
-joins_at step (Lease work at) h = absurd (false_is_true h)
-joins_at step (RequestRead j) h = absurd (false_is_true h)
-joins_at step (RequestWrite j o) h = absurd (false_is_true h)
-joins_at step SeeRequest h = absurd (false_is_true h)
-joins_at step (ValueWrite j) h = absurd (false_is_true h)
-joins_at step (ValueRead j) h = absurd (false_is_true h)
 
 -- It was made by the law of its step.
 record Lawfully (st : Setting) (es : Trace) (s : Session) (step : JoinStep) (call : Submitted) : Type 0 where
@@ -79,14 +60,11 @@ lawfully st es s step h its x =
 gave_was : (es : Trace) (s : Session) (m : Submitted) (d : IsMade es m) (step : JoinStep) (bytes : List ℕ) (r : Submitted) → Gave (front_of d) s step bytes r → Was es s step
 gave_was es s m d step bytes r g = let k = heard es s m d bytes r g.0 g.2 in record { call = r; inside = k.inside; mine = k.mine; step_is = g.1 }
 
-of_session : (t : Trace) (s : Session) (m : Submitted) → Contains (calls_of t s) m → Contains (submitted t) m × (m.call.session ≡ s.number)
-of_session t s m there = let f = filtered (is_call_of s) (submitted t) m there in (f.0, same_number m.call.session s.number f.1)
-
 answered_was : (es : Trace) (s : Session) (m : Submitted) (d : IsMade es m) (step : JoinStep) (r : Submitted) (a : Answered)
     → join_call (calls_of (front_of d) s) step ≡ Some r → r.answer ≡ Some a → Was es s step
 answered_was es s m d step r a found is =
-    let f = found_in (λ (x : Submitted). is_join_call step x.call.purpose) (calls_of (front_of d) s) r found in
-    let its = of_session (front_of d) s r f.0 in
+    let f = find_inside (λ (x : Submitted). is_join_call step x.call.purpose) (calls_of (front_of d) s) r found in
+    let its = call_owner (front_of d) s r f.0 in
     record { call = r; inside = front_answers_stay es m d r a its.0 is; mine = its.1; step_is = f.1 }
 
 from_claim : (st : Setting) (es : Trace) (s : Session) → Lawful st es → IsSession st es s → Was es s ClaimWrite → Was es s FirstRead
@@ -118,8 +96,8 @@ looked : (st : Setting) (es : Trace) (s : Session) (j k : ℕ) → Lawful st es 
 looked st [] s j k h its job joined = absurd (not_at_first s j k job joined)
 looked st (e ∷ es) s j k h its job joined =
     let join : LawfulJoin (e ∷ es) s k = h.delta.0.joins s (got_inside (sessions st (e ∷ es)) s.number s its) j k job joined in
-    let f = found_in (λ (x : Submitted). is_join_call FirstRenewal x.call.purpose) (calls_of (e ∷ es) s) join.renewal join.first in
-    let own = of_session (e ∷ es) s join.renewal f.0 in
+    let f = find_inside (λ (x : Submitted). is_join_call FirstRenewal x.call.purpose) (calls_of (e ∷ es) s) join.renewal join.first in
+    let own = call_owner (e ∷ es) s join.renewal f.0 in
     from_renewal st (e ∷ es) s h its (record { call = join.renewal; inside = own.0; mine = own.1; step_is = f.1 })
 
 -- ---- who is there at a first read
@@ -143,11 +121,6 @@ absent_ended t s h = ended_by (ended_after t s) _ h
 
 gone_later : (es : Trace) (s : Session) (m : Submitted) (d : IsMade es m) (k : ℕ) → ended_after (front_of d) s ≡ Some k → ended_after es s ≡ Some k
 gone_later es s m d k h = subst (λ t. ended_after t s ≡ Some k) (sym d.whole) (stays ended_after ended_more d.later (d.entry ∷ d.past) s k h)
-
-there_is : {A : Type 0} (xs : List A) (k : ℕ) → k < length xs → (x : A) × (slice_get xs k ≡ Some x)
-there_is [] k lt = absurd (omega (arith, lt))
-there_is (x ∷ xs) zero lt = (x, refl)
-there_is (x ∷ xs) (suc k) lt = there_is xs k (omega (arith, lt))
 
 -- A session that stands was not yet begun where another of its lockspace made its first read.
 begun_later : (st : Setting) (es : Trace) (s t : Session) → Lawful st es → IsSession st es s → IsSession st es t → s.lockspace ≡ t.lockspace → Stands es s
@@ -205,9 +178,6 @@ longer st (e ∷ es) =
     let b : length (sessions st es) ≤ length (sessions st (e ∷ es)) = grown_by (sessions st es) (begun_in st es (length (sessions st es)) e) in
     omega (arith, a, b)
 
-less_longer : (n a b : ℕ) → n < a → a ≤ b → n < b
-less_longer n a b p q = omega (arith, p, q)
-
 -- A session that was given was there.
 given_before : (st : Setting) (es : Trace) (s t : Session) (j : ℕ) → Lawful st es → IsSession st es s → IsSession st es t → s.lockspace ≡ t.lockspace → Stands es s → Stands es t
     → s.job ≡ None → t.job ≡ Some j → ⊥
@@ -215,7 +185,7 @@ given_before st es s t j h its other name one two none job =
     let x = looked st es t j two.entries h other job two.joined in
     let w = calls_were_lawful st es t x.call h other x.inside x.mine in
     let first : s.number < length (sessions st []) = slice_get_within (sessions st []) s.number s (given_first st es s.number s its none) in
-    begun_later st es s t h its other name one x w (less_longer s.number (length (sessions st [])) (length (sessions st w.made.past)) first (longer st w.made.past))
+    begun_later st es s t h its other name one x w (lt_then_le s.number (length (sessions st [])) (length (sessions st w.made.past)) first (longer st w.made.past))
 
 -- ---- sessions that are given
 
@@ -264,7 +234,7 @@ given_line : (h : Header) (m : ℕ) (s : SessionLine) (g : Given) (b : Bool) →
     ] ≡ Some g → (s.machine ≡ m) × (g.lockspace ≡ s.lockspace)
 given_line h m s g false e is = absurd (none_some g is)
 given_line h m s g true e is =
-    (same_number s.machine m e, given_line_by h m s g (find (λ (l : LockspaceLine). bytes_eq l.name s.lockspace) h.lockspaces) (clock_reading h m) is)
+    (eqb-true s.machine m e, given_line_by h m s g (find (λ (l : LockspaceLine). bytes_eq l.name s.lockspace) h.lockspaces) (clock_reading h m) is)
 
 differ_by : (h : Header) (m : ℕ) (s : SessionLine) (ls : List SessionLine) (o : Option Given) → given_of h m s ≡ o → AllPairs GoTogether (s ∷ ls) → Differ (filter_map (given_of h m) ls)
     → Differ (cons_option o (filter_map (given_of h m) ls))
@@ -293,9 +263,6 @@ pub given_differ : (p : Program) (h : Header) (xs : List Happening) → LawfulRu
 given_differ p h xs run m a d at has = differ_cases h m d.setting.given run.header (daemons_are_fine p h xs run m a d at has).given
 
 -- ---- one session
-
-both_ways : (a b : ℕ) → a ≤ b → b ≤ a → a ≡ b
-both_ways a b p q = omega (arith, p, q)
 
 one_number : (st : Setting) (es : Trace) (s t : Session) → Lawful st es → Differ st.given → IsSession st es s → IsSession st es t → s.lockspace ≡ t.lockspace → Stands es s → Stands es t
     → (o q : Option ℕ) → s.job ≡ o → t.job ≡ q → s.number ≡ t.number

@@ -3,6 +3,7 @@ use Rattle.sl_ballots.specs.History.{History}
 use Rattle.sl_lease_law.specs.Ways.{Of_mode, Of_phase1, Of_phase2, Way, lease_among}
 use Rattle.sl_leases.specs.Leases.{block_submitted, is_on}
 use Rattle.sl_place_law.proofs.Seats.{sized_in}
+use Rattle.sl_plain.proofs.Numbers.{equal_is_least, zero_is_least}
 use Rattle.sl_resource_history.proofs.Above.{comes_at, line_aligned, told_spot, written_at}
 use Rattle.sl_resource_history.proofs.Basing.{read_front}
 use Rattle.sl_resource_history.proofs.Calls.{block_works as block_is_work}
@@ -25,7 +26,7 @@ use Rattle.sl_sessions.specs.Sessions.{Session, session_numbered}
 use Rattle.sl_trace.specs.Traces.{Submitted}
 use Rattle.sl_trace.specs.declared.effects.Spot.{Spot}
 use Rattle.sl_words.specs.Words.{some_is}
-use Rattle.std.proofs.Common.{ap, arith, inl, inr, refl, subst, sym, ◌∙◌}
+use Rattle.std.proofs.Common.{ap, inl, inr, refl, subst, sym, ◌∙◌}
 use Rattle.std.specs.Option.{option_map_or}
 use Rattle.std.specs.Prelude.{Bool, Contains, List, None, Option, Some, false, if◌then◌else◌, is_some, true, ℕ, ◌≡◌, ◌≤◌, ◌⊎◌}
 
@@ -40,7 +41,7 @@ own_host w x s =
 
 -- ---- what a look shows of the own host, as a step
 
-shown_whole : (w : World) (at : Spot) (k : ℕ) (z : Sent) (l : Landing) → is_host w k ≡ true → landing_shown w at z.course k ≡ Some l → l.whole ≡ true
+pub shown_whole : (w : World) (at : Spot) (k : ℕ) (z : Sent) (l : Landing) → is_host w k ≡ true → landing_shown w at z.course k ≡ Some l → l.whole ≡ true
     → shown_by w at k z ≡ step_of_landing w l
 shown_whole w at k z l host shown whole =
     let all : shows_whole w at k z ≡ true = ap (λ o. some_is (λ (y : Landing). y.whole) o) shown ∙ whole in
@@ -48,7 +49,7 @@ shown_whole w at k z l host shown whole =
     ∙ ap (λ b. if b then option_map_or (step_of_landing w) (landing_shown w at z.course k) 0 else option_map_or step_of (own_before w at z) 0) all
     ∙ ap (λ o. option_map_or (step_of_landing w) o 0) shown
 
-shown_none : (w : World) (at : Spot) (k : ℕ) (z : Sent) → is_host w k ≡ false → shown_by w at k z ≡ 0
+pub shown_none : (w : World) (at : Spot) (k : ℕ) (z : Sent) → is_host w k ≡ false → shown_by w at k z ≡ 0
 shown_none w at k z host =
     ap (λ b. if b then (if shows_whole w at k z then option_map_or (step_of_landing w) (landing_shown w at z.course k) 0 else option_map_or step_of (own_before w at z) 0) else 0) host
 
@@ -132,16 +133,10 @@ block_of_base p h xs run r there x s own (Shown f none) =
 
 -- ---- no ballot goes below
 
-same_up : (a b : ℕ) → b ≡ a → a ≤ b
-same_up a b h = omega (arith, h)
-
 way_up : (s : Session) (c : Submitted) (own b : Block) → Way s c own b → own.lver ≤ b.lver
 way_up s c own b (Of_phase1 at h) = h.up
-way_up s c own b (Of_phase2 at h) = same_up own.lver b.lver h.lver
-way_up s c own b (Of_mode at h) = same_up own.lver b.lver h.lver
-
-none_up : (a b : ℕ) → a ≡ 0 → a ≤ b
-none_up a b h = omega (arith, h)
+way_up s c own b (Of_phase2 at h) = equal_is_least own.lver b.lver h.lver
+way_up s c own b (Of_mode at h) = equal_is_least own.lver b.lver h.lver
 
 pub go_up : HistoriesGoUp
 go_up p h xs r run there differ e writes one =
@@ -156,6 +151,6 @@ go_up p h xs r run there differ e writes one =
           subst (λ k. (H.block k).lver ≤ (H.block e).lver) (sym base)
           (subst (λ y. y.lver ≤ (H.block e).lver) (sym own) (subst (λ y. b.own.lver ≤ y.lver) (sym x.shown) (way_up s.session b.call b.own x.block b.way)))
       | inr none ↦
-          none_up (H.block (H.base e)).lver (H.block e).lver
+          zero_is_least (H.block (H.base e)).lver (H.block e).lver
           (ap (λ k. (H.block k).lver) (base ∙ none.0) ∙ ap (λ y. y.lver) (block_of_none p h xs run r))
     ]

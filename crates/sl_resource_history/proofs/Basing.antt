@@ -2,10 +2,11 @@
 use Rattle.sl_law.specs.LawfulBlock.{LawfulBlockStep}
 use Rattle.sl_law.specs.Saying.{cut_at}
 use Rattle.sl_lease_law.proofs.AgeLaws.{aged_block, aged_lease}
+use Rattle.sl_lease_law.proofs.ComingLaws.{at_step}
 use Rattle.sl_lease_law.proofs.WayLaws.{by_mode, by_phase1}
 use Rattle.sl_lease_law.specs.Fronts.{AllAged, Submission}
 use Rattle.sl_lease_law.specs.Ways.{ByMode, ByPhase1, Of_mode, Of_phase1, Way, lease_among}
-use Rattle.sl_leases.specs.Leases.{Mode_cleared, Mode_set, Phase1_write, StepKind, block_of_host, block_submitted, block_written, freed, is_at, kind_of_step, last_blocks, lease_calls, lease_step, own_or_read, same_kind, spot_of_call}
+use Rattle.sl_leases.specs.Leases.{Mode_cleared, Mode_set, Phase1_write, block_of_host, block_submitted, block_written, freed, last_blocks, lease_calls, lease_step, own_or_read, spot_of_call}
 use Rattle.sl_resource_history.proofs.Owning.{front_at}
 use Rattle.sl_resource_history.proofs.Standing.{Standing}
 use Rattle.sl_resource_history.specs.Sending.{Sent, block_of_course}
@@ -18,9 +19,9 @@ use Rattle.sl_trace.specs.declared.effects.LeaseStep.{LeaseStep}
 use Rattle.sl_trace.specs.declared.effects.Spot.{Spot}
 use Rattle.sl_trace.specs.declared.effects.Work.{Work}
 use Rattle.sl_words.proofs.CaseLaws.{none_some}
-use Rattle.sl_words.specs.Words.{present, some_is}
+use Rattle.sl_words.specs.Words.{present}
 use Rattle.std.proofs.Common.{ap, arith, inl, inr, refl, subst, sym, ◌∙◌}
-use Rattle.std.specs.Prelude.{List, None, Option, Some, cond, find, is_some, length, suc, true, [], ℕ, ◌+◌, ◌<◌, ◌∷◌, ◌≡◌, ◌≤◌}
+use Rattle.std.specs.Prelude.{List, None, Option, Some, cond, find, is_some, length, suc, [], ℕ, ◌+◌, ◌<◌, ◌∷◌, ◌≡◌, ◌≤◌}
 
 -- ---- at the front
 
@@ -44,9 +45,6 @@ none_by m w ms (Some b) is none found later = none_some b (sym none)
 none_found : (ms : List Submitted) (w : Submitted) → block_submitted ms ≡ None → find (λ d. is_some (block_written d)) ms ≡ Some w → ⊥
 none_found [] w none found = none_some w found
 none_found (m ∷ ms) w none found = none_by m w ms (block_written m) refl none found (λ n f. none_found ms w n f)
-
-at_step : (kind : StepKind) (c : Submitted) (p : Work × LeaseStep) → lease_step c.call.purpose ≡ Some p → same_kind (kind_of_step p.1) kind ≡ true → is_at kind c ≡ true
-at_step kind c p is same = ap (λ o. some_is (λ q. same_kind (kind_of_step q.1) kind) o) is ∙ same
 
 less_then : (a b : ℕ) → a < b → 1 ≤ b
 less_then a b h = omega (arith, h)

@@ -5,25 +5,27 @@ use Rattle.sl_ballots.specs.History.{Owner as Holder}
 use Rattle.sl_course_law.proofs.Distinct.{each_distinct}
 use Rattle.sl_course_law.specs.Stamping.{AnswersAgree, IsAnsweredAs, IsCourseOf}
 use Rattle.sl_front_law.proofs.Having.{contains_flat, in_flat}
-use Rattle.sl_landing_law.proofs.Arriving.{at_by}
-use Rattle.sl_landing_law.proofs.Listing.{contains_map, in_map, one_call}
+use Rattle.sl_landing_law.proofs.Listing.{one_call}
 use Rattle.sl_law.specs.Lawful.{Lawful}
 use Rattle.sl_law.specs.LawfulArea.{LawfulAreaWrite, is_area_work, is_block_work, is_delta_record}
 use Rattle.sl_lease_law.proofs.TurnLaws.{one_at_a_time}
 use Rattle.sl_lease_law.specs.Promises.{WasAnsweredBy}
 use Rattle.sl_leases.specs.Leases.{block_of_record, is_block_read, is_on, leader_of_record, spot_of_call}
-use Rattle.sl_moment_law.proofs.Ordering.{entries_ordered}
+use Rattle.sl_moment_law.proofs.Ordering.{entries_ordered, fall_front}
 use Rattle.sl_place_law.proofs.Areas.{base_aligned, base_around, one_resource, resource_aligned, same_base}
 use Rattle.sl_place_law.proofs.Daemons.{daemons_are_fine, stamp_order}
-use Rattle.sl_place_law.proofs.Finding.{equal_numbers, finds, found_in, same_number, same_text}
+use Rattle.sl_place_law.proofs.Finding.{finds, same_text}
 use Rattle.sl_place_law.proofs.Homing.{at_home}
 use Rattle.sl_place_law.proofs.Leased.{IsLeased, verified_leased}
 use Rattle.sl_place_law.proofs.Numbering.{session_number}
 use Rattle.sl_place_law.proofs.Proven.{promised}
 use Rattle.sl_place_law.proofs.Reading.{IsTraced, call_law, owner_of, session_inside, traced}
 use Rattle.sl_place_law.proofs.Seats.{sized_in}
+use Rattle.sl_plain.proofs.Lists.{contains_cases, contains_first, contains_map, contains_more, contains_none, find_inside, got_inside, in_map, tail_is}
+use Rattle.sl_plain.proofs.Numbers.{one_less}
+use Rattle.sl_plain.proofs.Options.{else_some}
 use Rattle.sl_resource_history.proofs.Alone.{Stands, given_differ, one_stands}
-use Rattle.sl_resource_history.proofs.Steps.{call_timed, calls_apart, fall_front, one_daemon, one_entry}
+use Rattle.sl_resource_history.proofs.Steps.{call_timed, calls_apart, one_daemon, one_entry}
 use Rattle.sl_resource_history.specs.Promises.{NamesDiffer, spot_of_line}
 use Rattle.sl_resource_history.specs.Sending.{Sent, all_names, all_sent, holder_of, is_counted_read, is_joined_there, names_in, read_at, reads_blocks, same_holder, sender_of, sent_at, session_of_holder, step_of, writes_block, writes_leader}
 use Rattle.sl_run.specs.Runs.{Happening}
@@ -36,8 +38,7 @@ use Rattle.sl_sector.specs.declared.sector.Block.{Block}
 use Rattle.sl_sector.specs.declared.sector.Leader.{Leader}
 use Rattle.sl_sector.specs.declared.sector.Rec.TheVariants.{BlockIs, DeltaIs, LeaderIs, RequestIs, ValueIs}
 use Rattle.sl_sector.specs.declared.sector.Rec.{Rec}
-use Rattle.sl_session_law.proofs.Making.{calls_are_made, contains_cases, contains_first, contains_more, contains_none}
-use Rattle.sl_session_law.proofs.Owning.{got_inside}
+use Rattle.sl_session_law.proofs.Making.{calls_are_made}
 use Rattle.sl_session_law.proofs.Staying.{joined_more, stays}
 use Rattle.sl_session_law.specs.Promises.{IsMade, IsSession, front_of, made_as}
 use Rattle.sl_sessions.specs.Sessions.{Session, is_active, joined_after, leaving_job, recovery_of, removed_after, session_numbered, sessions}
@@ -52,10 +53,11 @@ use Rattle.sl_words.proofs.CaseLaws.{false_is_true, none_some, one_value, some_v
 use Rattle.sl_words.proofs.WordLaws.{and_true, some_is_true}
 use Rattle.sl_words.specs.Words.{some_is}
 use Rattle.std.proofs.Common.{ap, arith, inl, inr, refl, subst, sym, tests, ◌∙◌}
-use Rattle.std.proofs.lemmas.Bool.{and_from}
+use Rattle.std.proofs.lemmas.Bool.{and_from, eq-eqb, eqb-true, or_left, or_right}
+use Rattle.std.proofs.lemmas.List.{length-append}
 use Rattle.std.proofs.lemmas.Slice.Eq.{bytes_eq-Decides}
 use Rattle.std.specs.List.{enumerate_from}
-use Rattle.std.specs.Prelude.{Bool, Contains, IsTrue, List, None, Option, Some, [], bytes_eq, false, find, flat_map, is_none, is_some, length, map, option_and_then, option_map, slice_get, suc, true, zero, ℕ, ◌%◌, ◌&&◌, ◌++◌, ◌+◌, ◌-◌, ◌<◌, ◌==◌, ◌||◌, ◌∷◌, ◌≡◌, ◌≤◌, ◌⊎◌}
+use Rattle.std.specs.Prelude.{Bool, Contains, IsTrue, List, None, Option, Some, [], bytes_eq, false, find, flat_map, is_none, is_some, length, map, option_and_then, option_map, slice_get, suc, true, zero, ℕ, ◌%◌, ◌&&◌, ◌++◌, ◌+◌, ◌-◌, ◌<◌, ◌==◌, ◌∷◌, ◌≡◌, ◌≤◌, ◌⊎◌}
 
 -- ---- all that was sent
 
@@ -86,12 +88,9 @@ sent_by p = map (λ c. let x : Sent = record { machine = p.0; course = c } in x)
 not_zero : (i : ℕ) → (1 + i == 0) ≡ false
 not_zero i = grind (arith, tests)
 
-less_one : (i : ℕ) → 1 + i - 1 ≡ i
-less_one i = omega arith
-
 pub machine_there : (w : World) (m i : ℕ) (a : Machine) → m ≡ 1 + i → slice_get w.machines i ≡ Some a → machine_at w m ≡ Some a
 machine_there w m i a is at =
-    at_by (m == 0) (slice_get w.machines (m - 1)) a (ap (λ n. n == 0) is ∙ not_zero i) (ap (λ n. slice_get w.machines (n - 1)) is ∙ ap (λ n. slice_get w.machines n) (less_one i) ∙ at)
+    else_some (m == 0) (slice_get w.machines (m - 1)) a (ap (λ n. n == 0) is ∙ not_zero i) (ap (λ n. slice_get w.machines (n - 1)) is ∙ ap (λ n. slice_get w.machines n) (one_less i) ∙ at)
 
 -- A call that was sent is one of its machine.
 pub record IsThere (w : World) (x : Sent) : Type 0 where
@@ -229,22 +228,15 @@ stood st es s q d h its mine area =
 
 -- ---- two calls of one entry
 
-length_parts : {A : Type 0} (xs ys : List A) → length (xs ++ ys) ≡ length xs + length ys
-length_parts [] ys = let e : length ys ≡ 0 + length ys = omega arith in e
-length_parts (x ∷ xs) ys = let rest = length_parts xs ys in omega (arith, rest)
-
 not_longer : {A : Type 0} (x : A) (xs fs gs : List A) → fs ≡ (x ∷ xs) ++ gs → length fs ≡ length gs → ⊥
-not_longer x xs fs gs same long = let n : length fs ≡ suc (length xs) + length gs = ap (λ l. length l) same ∙ length_parts (x ∷ xs) gs in omega (arith, n, long)
-
-cons_tail : {A : Type 0} (a b : A) (xs ys : List A) → a ∷ xs ≡ b ∷ ys → xs ≡ ys
-cons_tail a b xs ys h = cc
+not_longer x xs fs gs same long = let n : length fs ≡ suc (length xs) + length gs = ap (λ l. length l) same ∙ length-append (x ∷ xs) gs in omega (arith, n, long)
 
 -- Ends of one list that are as long are one.
 same_ends : {A : Type 0} (xs ys fs gs : List A) → xs ++ fs ≡ ys ++ gs → length fs ≡ length gs → fs ≡ gs
 same_ends [] [] fs gs same long = same
 same_ends [] (y ∷ ys) fs gs same long = absurd (not_longer y ys fs gs same long)
 same_ends (x ∷ xs) [] fs gs same long = absurd (not_longer x xs gs fs (sym same) (sym long))
-same_ends (x ∷ xs) (y ∷ ys) fs gs same long = same_ends xs ys fs gs (cons_tail x y (xs ++ fs) (ys ++ gs) same) long
+same_ends (x ∷ xs) (y ∷ ys) fs gs same long = same_ends xs ys fs gs (tail_is x y (xs ++ fs) (ys ++ gs) same) long
 
 -- The entries of two calls that were made in one are one.
 same_entry : (es : Trace) (q k : Submitted) (d : IsMade es q) (e : IsMade es k) → q.at ≡ k.at → d.entry ∷ d.past ≡ e.entry ∷ e.past
@@ -341,7 +333,7 @@ one_turn p h xs run m a d here has law at c e q k s t one two same name =
     let call : q ≡ k =
     turn_order p h xs run m a d here has law at c e q k s t one two same session (order (submitted es) q k one.inside two.inside) in
     one_call a.calls c e (each_distinct p h xs run m a here) one.has two.has
-    (equal_numbers c.call.number e.call.number (ap (λ x. x.number) (sym one.is.call) ∙ ap (λ (x : Submitted). x.call.number) call ∙ ap (λ x. x.number) two.is.call))
+    (eq-eqb c.call.number e.call.number (ap (λ x. x.number) (sym one.is.call) ∙ ap (λ (x : Submitted). x.call.number) call ∙ ap (λ x. x.number) two.is.call))
 
 pub turn_of : (p : Program) (h : Header) (xs : List Happening) → LawfulRun p h xs → (r : ResourceLine) → Contains h.resources r → (x : Sent) (k : IsWork (world_at p h xs) r x)
     → IsTurn k.owned.there.machine k.owned.trace.daemon (spot_of_line r) x.course k.owned.trace.submitted_as k.owned.session
@@ -394,14 +386,6 @@ steps_name p h xs run r there x y one two same =
 pub write_is : (o : Op) (r : Rec) → record_of o ≡ Some r → is_write o ≡ true
 write_is (ReadSectors n) r h = absurd (none_some r h)
 write_is (WriteRecord s) r h = refl
-
-or_left : (a b : Bool) → a ≡ true → (a || b) ≡ true
-or_left true b h = refl
-or_left false b h = absurd (false_is_true h)
-
-or_right : (a b : Bool) → b ≡ true → (a || b) ≡ true
-or_right true b h = refl
-or_right false b h = h
 
 -- A session that writes on a resource's area is of its lockspace.
 leased_of : (p : Program) (h : Header) (xs : List Happening) → LawfulRun p h xs → (r : ResourceLine) → Contains h.resources r → (x : Sent) (o : IsOwned (world_at p h xs) x)
@@ -507,7 +491,7 @@ read_works p h xs run r x sent on counted =
 pub finds_it : {A : Type 0} (p : A → Bool) (xs : List A) (x : A) → Contains xs x → p x ≡ true → ((y : A) → Contains xs y → p y ≡ true → y ≡ x) → find p xs ≡ Some x
 finds_it p xs x there is only =
     let f = finds p xs x is there in
-    let its = found_in p xs f.0 f.1 in
+    let its = find_inside p xs f.0 f.1 in
     f.1 ∙ ap (λ y. Some y) (only f.0 its.0 its.1)
 
 -- A call that was sent to a resource's area.
@@ -519,18 +503,18 @@ pub record IsSentTo (w : World) (r : ResourceLine) (step : ℕ) (x : Sent) : Typ
 -- What is found at a step.
 pub found_at : (w : World) (r : ResourceLine) (q : Course → Bool) (step : ℕ) (x : Sent) → sent_at w (spot_of_line r) q step ≡ Some x → IsSentTo w r step x × (q x.course ≡ true)
 found_at w r q step x is =
-    let f = found_in (λ (y : Sent). step_of y == step && is_on w.layout (spot_of_line r) y.course.call && q y.course) (all_sent w) x is in
+    let f = find_inside (λ (y : Sent). step_of y == step && is_on w.layout (spot_of_line r) y.course.call && q y.course) (all_sent w) x is in
     let all = and_true (step_of x == step && is_on w.layout (spot_of_line r) x.course.call) (q x.course) f.1 in
     let two = and_true (step_of x == step) (is_on w.layout (spot_of_line r) x.course.call) all.0 in
-    (record { sent = f.0; step_is = same_number (step_of x) step two.0; on = two.1 }, all.1)
+    (record { sent = f.0; step_is = eqb-true (step_of x) step two.0; on = two.1 }, all.1)
 
 pub found_read : (w : World) (r : ResourceLine) (step : ℕ) (x : Sent) → read_at w (spot_of_line r) r.lockspace step ≡ Some x
     → IsSentTo w r step x × (is_counted_read w r.lockspace x ≡ true)
 found_read w r step x is =
-    let f = found_in (λ (y : Sent). step_of y == step && is_on w.layout (spot_of_line r) y.course.call && is_counted_read w r.lockspace y) (all_sent w) x is in
+    let f = find_inside (λ (y : Sent). step_of y == step && is_on w.layout (spot_of_line r) y.course.call && is_counted_read w r.lockspace y) (all_sent w) x is in
     let all = and_true (step_of x == step && is_on w.layout (spot_of_line r) x.course.call) (is_counted_read w r.lockspace x) f.1 in
     let two = and_true (step_of x == step) (is_on w.layout (spot_of_line r) x.course.call) all.0 in
-    (record { sent = f.0; step_is = same_number (step_of x) step two.0; on = two.1 }, all.1)
+    (record { sent = f.0; step_is = eqb-true (step_of x) step two.0; on = two.1 }, all.1)
 
 three : (a b c : Bool) → a ≡ true → b ≡ true → c ≡ true → (a && b && c) ≡ true
 three a b c x y z = and_from _ _ (and_from _ _ x y) z
@@ -542,11 +526,11 @@ only_at : (p : Program) (h : Header) (xs : List Happening) → LawfulRun p h xs 
 only_at p h xs run r there q x sent on is work =
     let w : World = world_at p h xs in
     finds_it (λ (y : Sent). step_of y == step_of x && is_on w.layout (spot_of_line r) y.course.call && q y.course) (all_sent w) x sent
-    (three _ _ _ (equal_numbers (step_of x) (step_of x) refl) on is)
+    (three _ _ _ (eq-eqb (step_of x) (step_of x) refl) on is)
     (λ y inside passes.
     let all = and_true (step_of y == step_of x && is_on w.layout (spot_of_line r) y.course.call) (q y.course) passes in
     let two = and_true (step_of y == step_of x) (is_on w.layout (spot_of_line r) y.course.call) all.0 in
-    steps_name p h xs run r there y x (work y inside two.1 all.1) (work x sent on is) (same_number (step_of y) (step_of x) two.0))
+    steps_name p h xs run r there y x (work y inside two.1 all.1) (work x sent on is) (eqb-true (step_of y) (step_of x) two.0))
 
 -- A block that was sent is the one of its step; and so are a leader and a read.
 pub block_at_step : (p : Program) (h : Header) (xs : List Happening) → LawfulRun p h xs → (r : ResourceLine) → Contains h.resources r → (x : Sent)
@@ -565,11 +549,11 @@ pub read_at_step : (p : Program) (h : Header) (xs : List Happening) → LawfulRu
 read_at_step p h xs run r there x sent on is =
     let w : World = world_at p h xs in
     finds_it (λ (y : Sent). step_of y == step_of x && is_on w.layout (spot_of_line r) y.course.call && is_counted_read w r.lockspace y) (all_sent w) x sent
-    (three _ _ _ (equal_numbers (step_of x) (step_of x) refl) on is)
+    (three _ _ _ (eq-eqb (step_of x) (step_of x) refl) on is)
     (λ y inside passes.
     let all = and_true (step_of y == step_of x && is_on w.layout (spot_of_line r) y.course.call) (is_counted_read w r.lockspace y) passes in
     let two = and_true (step_of y == step_of x) (is_on w.layout (spot_of_line r) y.course.call) all.0 in
-    steps_name p h xs run r there y x (read_works p h xs run r y inside two.1 all.1) (read_works p h xs run r x sent on is) (same_number (step_of y) (step_of x) two.0))
+    steps_name p h xs run r there y x (read_works p h xs run r y inside two.1 all.1) (read_works p h xs run r x sent on is) (eqb-true (step_of y) (step_of x) two.0))
 
 -- ---- who works has joined
 
@@ -595,12 +579,12 @@ worker_joined p h xs r x k =
 daemon_by : (i : SessionId) (f : Found) (a : Machine) (d : Daemon) (o : Option Session) → (d.number == i.daemon) ≡ true → option_map (λ (s : Session). found_as a d s) o ≡ Some f
     → f.daemon.number ≡ i.daemon
 daemon_by i f a d None same is = absurd (none_some f is)
-daemon_by i f a d (Some s) same is = ap (λ (x : Found). x.daemon.number) (sym (some_value (found_as a d s) f is)) ∙ same_number d.number i.daemon same
+daemon_by i f a d (Some s) same is = ap (λ (x : Found). x.daemon.number) (sym (some_value (found_as a d s) f is)) ∙ eqb-true d.number i.daemon same
 
 daemon_of : (i : SessionId) (f : Found) (a : Machine) (o : Option Daemon) → daemon_numbered a i.daemon ≡ o → option_and_then (found_in_daemon a i.number) o ≡ Some f → f.daemon.number ≡ i.daemon
 daemon_of i f a None at is = absurd (none_some f is)
 daemon_of i f a (Some d) at is =
-    daemon_by i f a d (session_numbered d.setting d.trace i.number) (found_in (λ (x : Daemon). x.number == i.daemon) (daemons_on a) d at).1 is
+    daemon_by i f a d (session_numbered d.setting d.trace i.number) (find_inside (λ (x : Daemon). x.number == i.daemon) (daemons_on a) d at).1 is
 
 daemon_in : (i : SessionId) (f : Found) (o : Option Machine) → option_and_then (found_on i.daemon i.number) o ≡ Some f → f.daemon.number ≡ i.daemon
 daemon_in i f None is = absurd (none_some f is)
@@ -637,13 +621,13 @@ joined_name w lockspace i is =
     found_name w i f.0 f.1
 
 holder_same : (o : Holder) → same_holder o o ≡ true
-holder_same o = and_from _ _ (equal_numbers o.id o.id refl) (equal_numbers o.generation o.generation refl)
+holder_same o = and_from _ _ (eq-eqb o.id o.id refl) (eq-eqb o.generation o.generation refl)
 
 holders_are : (o q : Holder) → same_holder o q ≡ true → o ≡ q
 holders_are o q h =
     let both = and_true (o.id == q.id) (o.generation == q.generation) h in
-    ap (λ n. let x : Holder = record { id = n; generation = o.generation } in x) (same_number o.id q.id both.0)
-    ∙ ap (λ n. let x : Holder = record { id = q.id; generation = n } in x) (same_number o.generation q.generation both.1)
+    ap (λ n. let x : Holder = record { id = n; generation = o.generation } in x) (eqb-true o.id q.id both.0)
+    ∙ ap (λ n. let x : Holder = record { id = q.id; generation = n } in x) (eqb-true o.generation q.generation both.1)
 
 -- Where joined sessions have different names the one that is named so is found.
 pub holder_named : (w : World) (lockspace : List ℕ) → NamesDiffer w lockspace → (i : SessionId) → is_joined_there w lockspace i ≡ true

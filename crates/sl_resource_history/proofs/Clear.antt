@@ -2,24 +2,14 @@
 use Rattle.sl_leases.specs.Ballots.{ballot_blocks, block_ahead, block_rival, known_block, stop_among, stop_of, torn_host, whole_blocks, with_own}
 use Rattle.sl_leases.specs.declared.lease.Stop.{Stop}
 use Rattle.sl_leases.specs.declared.lease.Stop.TheVariants.{BlockAhead, BlockRival, BlockTorn}
+use Rattle.sl_plain.proofs.Lists.{contains_first, contains_more, find_fails}
 use Rattle.sl_sector.specs.declared.sector.Block.{Block}
-use Rattle.sl_session_law.proofs.Making.{contains_cases, contains_first, contains_more, contains_none}
 use Rattle.sl_words.proofs.CaseLaws.{none_some, some_value}
-use Rattle.std.proofs.Common.{ap, arith, inl, inr, refl, subst, sym, ◌∙◌}
+use Rattle.std.proofs.Common.{ap, arith, refl, subst, sym, ◌∙◌}
+use Rattle.std.proofs.lemmas.Bool.{ltb-false}
 use Rattle.std.proofs.lemmas.Bool.Decides.{nat_tests}
 use Rattle.std.specs.List.{cons_option}
-use Rattle.std.specs.Prelude.{Bool, Contains, List, None, Option, Some, cond, false, find, nat_lt, option_map, slice_get, suc, true, zero, [], ℕ, ◌&&◌, ◌+◌, ◌==◌, ◌∷◌, ◌≡◌, ◌≤◌, ◌⊎◌}
-
-none_by : {A : Type 0} (p : A → Bool) (x : A) (xs : List A) (y : A) (b : Bool) → p x ≡ b → cond b (Some x) (find p xs) ≡ None → (x ≡ y) ⊎ Contains xs y
-    → (find p xs ≡ None → Contains xs y → p y ≡ false) → p y ≡ false
-none_by p x xs y true is none at rest = absurd (none_some x (sym none))
-none_by p x xs y false is none (inl here) rest = ap p (sym here) ∙ is
-none_by p x xs y false is none (inr more) rest = rest none more
-
--- Where none is found none passes.
-pub none_passes : {A : Type 0} (p : A → Bool) (xs : List A) (y : A) → find p xs ≡ None → Contains xs y → p y ≡ false
-none_passes p [] y none has = absurd (contains_none y has)
-none_passes p (x ∷ xs) y none has = none_by p x xs y (p x) refl none (contains_cases x xs y has) (λ n more. none_passes p xs y n more)
+use Rattle.std.specs.Prelude.{Contains, List, None, Option, Some, false, nat_lt, option_map, slice_get, suc, zero, [], ℕ, ◌&&◌, ◌+◌, ◌==◌, ◌∷◌, ◌≡◌, ◌≤◌}
 
 -- A host's place among the blocks, whole.
 pub record IsWhole (ps : List (ℕ × Option Block)) (p : ℕ × Option Block) : Type 0 where
@@ -66,9 +56,6 @@ pub record IsClear (own : Block) (read : List (Option Block)) : Type 0 where
   pub lver : (b : Block) → Contains (ballot_blocks own read) b → b.lver ≤ own.lver
   pub mbal : (b : Block) → Contains (ballot_blocks own read) b → b.lver ≡ own.lver → b.mbal ≤ own.mbal
 
-not_ahead : (a b : ℕ) → nat_lt a b ≡ false → b ≤ a
-not_ahead a b h = grind (arith, nat_tests)
-
 not_rival : (l m l' m' : ℕ) → (l' == l && nat_lt m m') ≡ false → l' ≡ l → m' ≤ m
 not_rival l m l' m' h same = grind (arith, nat_tests)
 
@@ -88,9 +75,9 @@ clear_by own read None is h =
     let two = among_by own (ballot_blocks own read) (block_ahead own (ballot_blocks own read)) refl h in
     record {
       whole = is;
-      lver = λ b has. not_ahead own.lver b.lver (none_passes (λ (x : Block). nat_lt own.lver x.lver) (ballot_blocks own read) b two.0 has);
+      lver = λ b has. ltb-false own.lver b.lver (find_fails (λ (x : Block). nat_lt own.lver x.lver) (ballot_blocks own read) b two.0 has);
       mbal = λ b has same. not_rival own.lver own.mbal b.lver b.mbal
-          (none_passes (λ (x : Block). x.lver == own.lver && nat_lt own.mbal x.mbal) (ballot_blocks own read) b two.1 has) same;
+          (find_fails (λ (x : Block). x.lver == own.lver && nat_lt own.mbal x.mbal) (ballot_blocks own read) b two.1 has) same;
     }
 clear_by own read (Some host) is h = absurd (none_some (BlockTorn host) (sym h))
 

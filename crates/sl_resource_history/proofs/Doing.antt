@@ -4,8 +4,10 @@ use Rattle.sl_landing_law.proofs.Passing.{world_first, world_keeps, world_then}
 use Rattle.sl_landing_law.proofs.Stepping.{IsMade, Step, came}
 use Rattle.sl_landing_law.proofs.Turning.{Turn}
 use Rattle.sl_moment_law.proofs.Ordering.{entries_ordered}
+use Rattle.sl_plain.proofs.Lists.{contains_first, contains_none}
+use Rattle.sl_plain.proofs.Numbers.{above_zero}
 use Rattle.sl_resource_history.proofs.Calls.{IsOwned}
-use Rattle.sl_resource_history.proofs.Steps.{fall_apart, stamp_there}
+use Rattle.sl_resource_history.proofs.Steps.{fall_apart}
 use Rattle.sl_resource_history.specs.Sending.{Sent, step_of}
 use Rattle.sl_run.specs.Events.{input_of, machine_of}
 use Rattle.sl_run.specs.Runs.{Happening}
@@ -14,10 +16,10 @@ use Rattle.sl_run.specs.Worlds.{Course, Daemon, Machine, Program, Stamp, World, 
 use Rattle.sl_run.specs.declared.event.Event.{Event}
 use Rattle.sl_run.specs.declared.header.Header.{Header}
 use Rattle.sl_run_law.proofs.Beginnings.{begins_new}
-use Rattle.sl_session_law.proofs.Making.{contains_first, contains_none}
 use Rattle.sl_trace.specs.declared.effects.Effects.{Effects}
+use Rattle.sl_watchdog_law.proofs.Stamps.{stamp_there}
 use Rattle.sl_words.proofs.CaseLaws.{false_is_true}
-use Rattle.std.proofs.Common.{ap, arith, inl, inr, subst, sym, ◌∙◌}
+use Rattle.std.proofs.Common.{ap, inl, inr, subst, sym, ◌∙◌}
 use Rattle.std.specs.Prelude.{Contains, List, Some, [], true, ℕ, ◌<◌, ◌∷◌, ◌≡◌}
 
 abbrev IsClosed : Course → Type 0
@@ -56,13 +58,10 @@ done_closed p h xs run =
     world_keeps DoneAreClosed p h (λ m a c at has done. absurd (contains_none c (subst (λ cs. Contains cs c) (begins_new p h m a at).calls has)))
     (λ now x law l so. closed_next p h now x l so) xs run
 
-above : (a b : ℕ) → a < b → 0 < b
-above a b h = omega (arith, h)
-
 -- A call was made at a step above 0.
 pub made_since : (p : Program) (h : Header) (xs : List Happening) → LawfulRun p h xs → (x : Sent) → IsOwned (world_at p h xs) x → 0 < step_of x
 made_since p h xs run x o =
     let d : Daemon = o.trace.daemon in
-    above d.begun.step (step_of x)
+    above_zero d.begun.step (step_of x)
     (fall_apart (world_at p h xs).step d.stamps (d.begun ∷ []) x.course.made d.begun (entries_ordered p h xs run x.machine o.there.machine d o.there.at o.trace.has)
     (stamp_there d.stamps o.trace.submitted_as.at x.course.made o.trace.is.made) (contains_first d.begun []))

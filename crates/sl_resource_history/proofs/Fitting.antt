@@ -1,21 +1,22 @@
 -- Answers fit their calls: a read is answered ok by bytes.
+use Rattle.sl_course_law.proofs.Distinct.{mark_length}
 use Rattle.sl_law.specs.Lawful.{Lawful}
 use Rattle.sl_law.proofs.LawFacts.{lawful-front}
-use Rattle.sl_place_law.proofs.Finding.{filtered, same_number}
-use Rattle.sl_resource_history.proofs.Standing.{mapped}
-use Rattle.sl_session_law.proofs.Making.{contains_cases, contains_first, contains_more, contains_none, old_or_new, same_answered}
+use Rattle.sl_plain.proofs.Lists.{any_found, contains_cases, contains_none, in_map, kept_inside}
+use Rattle.sl_session_law.proofs.Making.{old_or_new, same_answered}
 use Rattle.sl_trace.specs.Traces.{Answered, Setting, Submitted, Trace, answer_of, answered_in, is_answer_for, is_expected, mark, new_call, outstanding, submitted}
 use Rattle.sl_trace.specs.declared.effects.Call.{Call}
 use Rattle.sl_trace.specs.declared.effects.Entry.{Entry}
 use Rattle.sl_trace.specs.declared.input.Answer.{Answer}
 use Rattle.sl_trace.specs.declared.input.Input.TheVariants.{Answer as Told, Exit, Line, Spawned, Wake}
 use Rattle.sl_trace.specs.declared.input.Input.{Input}
-use Rattle.sl_words.proofs.CaseLaws.{false_is_true, no_value, some_value}
+use Rattle.sl_words.proofs.CaseLaws.{no_value, some_value}
 use Rattle.sl_words.proofs.WordLaws.{and_true}
 use Rattle.std.proofs.Common.{ap, arith, inl, inr, refl, subst, sym, ◌∙◌}
-use Rattle.std.specs.List.{list_any, range_with_len}
+use Rattle.std.proofs.lemmas.Bool.{eqb-true}
+use Rattle.std.specs.List.{range_with_len}
 use Rattle.std.specs.Option.{option_or}
-use Rattle.std.specs.Prelude.{Bool, Contains, List, None, Option, Some, false, fold, is_none, length, map, suc, true, [], ℕ, ◌&&◌, ◌+◌, ◌<◌, ◌==◌, ◌||◌, ◌∷◌, ◌≡◌, ◌⊎◌}
+use Rattle.std.specs.Prelude.{Bool, Contains, List, None, Option, Some, false, fold, is_none, length, map, suc, true, [], ℕ, ◌&&◌, ◌+◌, ◌<◌, ◌==◌, ◌∷◌, ◌≡◌, ◌⊎◌}
 
 -- ---- a number names one call
 
@@ -57,18 +58,11 @@ numbers_input k es e (Exit p) ms h = h
 numbers_input k es e (Spawned p ok) ms h = h
 numbers_input k es e Wake ms h = h
 
-input_length : (es : Trace) (e : Entry) (i : Input) (ms : List Submitted) → length (mark es e i ms) ≡ length ms
-input_length es e (Told n a) ms = marked_length es e n a ms
-input_length es e (Line text) ms = refl
-input_length es e (Exit p) ms = refl
-input_length es e (Spawned p ok) ms = refl
-input_length es e Wake ms = refl
-
 are_numbered : (st : Setting) (es : Trace) → Lawful st es → AreNumbered st.first.call (submitted es)
 are_numbered st [] h = tt
 are_numbered st (e ∷ es) h =
     numbers_added st.first.call (length es) e.reading e.effects.calls (mark es e e.input (submitted es))
-    (h.is_trace.0.numbered ∙ ap (λ n. range_with_len (st.first.call + n) (length e.effects.calls)) (sym (input_length es e e.input (submitted es))))
+    (h.is_trace.0.numbered ∙ ap (λ n. range_with_len (st.first.call + n) (length e.effects.calls)) (sym (mark_length es e e.input (submitted es))))
     (numbers_input st.first.call es e e.input (submitted es) (are_numbered st es (lawful-front st (e ∷ []) es h)))
 
 below_all : (k : ℕ) (ms : List Submitted) (m : Submitted) → AreNumbered k ms → Contains ms m → m.call.number < k + length ms
@@ -95,13 +89,6 @@ one_call k (x ∷ ms) m n h has too same = by (λ p q. one_call k ms m n h.1 p q
 
 -- ---- an answer fits
 
-any_of : {A : Type 0} (p : A → Bool) (xs : List A) → list_any p xs ≡ true → (x : A) × Contains xs x × (p x ≡ true)
-any_of p [] h = absurd (false_is_true h)
-any_of {A} p (x ∷ xs) h = by (λ k. any_of p xs k) (p x) refl h where
-  by : (list_any p xs ≡ true → (y : A) × Contains xs y × (p y ≡ true)) → (b : Bool) → p x ≡ b → (b || list_any p xs) ≡ true → (y : A) × Contains (x ∷ xs) y × (p y ≡ true)
-  by rest true is k = (x, contains_first x xs, is)
-  by rest false is k = let r = rest k in (r.0, contains_more x xs r.0 r.1, r.2)
-
 abbrev Fits : Setting → Trace → Type 0
 Fits st es = (q : Submitted) → Contains (submitted es) q → (a : Answered) → q.answer ≡ Some a → is_answer_for st a.answer q.call.op ≡ true
 
@@ -111,7 +98,7 @@ fit_by : (st : Setting) (es : Trace) (e : Entry) (n : ℕ) (w : Answer) (m : Sub
 fit_by st es e n w m a false o is told h old new = old (told ∙ h)
 fit_by st es e n w m a true (Some c) is told h old new = old (told ∙ h)
 fit_by st es e n w m a true None is told h old new =
-    subst (λ (y : Answered). is_answer_for st y.answer m.call.op ≡ true) (some_value (answer_of es e w m.call) a h) (new (same_number m.call.number n is))
+    subst (λ (y : Answered). is_answer_for st y.answer m.call.op ≡ true) (some_value (answer_of es e w m.call) a h) (new (eqb-true m.call.number n is))
 
 answer_in : (es : Trace) (e : Entry) (n : ℕ) (w : Answer) (m : Submitted) (b : Bool)
     → (elim b as (λ z. Submitted) [ false ↦ m | true ↦ record m { answer = option_or m.answer (Some (answer_of es e w m.call)) } ]).answer
@@ -122,16 +109,16 @@ answer_in es e n w m false = refl
 fits_told : (st : Setting) (es : Trace) (e : Entry) (n : ℕ) (w : Answer) → Lawful st es → Fits st es → is_expected st es (Told n w) ≡ true → (q : Submitted)
     → Contains (map (answered_in es e n w) (submitted es)) q → (a : Answered) → q.answer ≡ Some a → is_answer_for st a.answer q.call.op ≡ true
 fits_told st es e n w law old expected q has a told =
-    let m = mapped (answered_in es e n w) (submitted es) q has in
+    let m = in_map (answered_in es e n w) (submitted es) q has in
     let call : q.call ≡ m.0.call = ap (λ (y : Submitted). y.call) (sym m.2) ∙ (same_answered es e n w m.0).call in
-    let x = any_of (λ (y : Submitted). y.call.number == n && is_answer_for st w y.call.op) (outstanding es) expected in
-    let xin = (filtered (λ (y : Submitted). is_none y.answer) (submitted es) x.0 x.1).0 in
+    let x = any_found (λ (y : Submitted). y.call.number == n && is_answer_for st w y.call.op) (outstanding es) expected in
+    let xin = (kept_inside (λ (y : Submitted). is_none y.answer) (submitted es) x.0 x.1).0 in
     let both = and_true (x.0.call.number == n) (is_answer_for st w x.0.call.op) x.2 in
     subst (λ c. is_answer_for st a.answer c.op ≡ true) (sym call)
     (fit_by st es e n w m.0 a (m.0.call.number == n) m.0.answer refl refl
     (sym (answer_in es e n w m.0 (m.0.call.number == n)) ∙ ap (λ (y : Submitted). y.answer) m.2 ∙ told) (λ k. old m.0 m.1 a k)
     (λ k. subst (λ (y : Submitted). is_answer_for st w y.call.op ≡ true)
-    (one_call st.first.call (submitted es) x.0 m.0 (are_numbered st es law) xin m.1 (same_number x.0.call.number n both.0 ∙ sym k)) both.1))
+    (one_call st.first.call (submitted es) x.0 m.0 (are_numbered st es law) xin m.1 (eqb-true x.0.call.number n both.0 ∙ sym k)) both.1))
 
 fits_input : (st : Setting) (es : Trace) (e : Entry) (i : Input) → Lawful st es → Fits st es → is_expected st es i ≡ true → (q : Submitted)
     → Contains (mark es e i (submitted es)) q → (a : Answered) → q.answer ≡ Some a → is_answer_for st a.answer q.call.op ≡ true

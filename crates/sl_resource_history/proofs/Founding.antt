@@ -76,7 +76,7 @@ is_last p h xs run r there differ e x own o =
 
 -- ---- the own block that was read
 
-shows_if : (w : World) (at : Spot) (k : ℕ) (z : Sent) (b : Bool) → is_host w k ≡ b → (b ≡ true → shows_whole w at k z ≡ true) → shows_by w at k z ≡ true
+pub shows_if : (w : World) (at : Spot) (k : ℕ) (z : Sent) (b : Bool) → is_host w k ≡ b → (b ≡ true → shows_whole w at k z ≡ true) → shows_by w at k z ≡ true
 shows_if w at k z true host whole =
     ap (λ b. if b then (if shows_whole w at k z then true else counts_own w at z k) else true) host ∙ ap (λ b. if b then true else counts_own w at z k) (whole refl)
 shows_if w at k z false host whole = ap (λ b. if b then (if shows_whole w at k z then true else counts_own w at z k) else true) host

@@ -9,7 +9,8 @@ use Rattle.sl_lease_law.proofs.TurnLaws.{one_at_a_time}
 use Rattle.sl_lease_law.specs.Promises.{WasAnsweredBy}
 use Rattle.sl_leases.specs.Leases.{is_on}
 use Rattle.sl_place_law.proofs.Daemons.{daemons_are_fine, stamp_order}
-use Rattle.sl_place_law.proofs.Finding.{equal_numbers}
+use Rattle.sl_plain.proofs.Lists.{got_index}
+use Rattle.sl_plain.proofs.Numbers.{below_itself_suc, less_than_suc, lt_then_le, trans_lt, zero_least}
 use Rattle.sl_resource_history.proofs.Calls.{IsThere, IsTurn, IsWork, Newer, Older, Order, Same, block_works, found_of, made_of, order, owner_found, sent_is, sent_there, stood, turn_of}
 use Rattle.sl_resource_history.proofs.Shown.{IsBlockLanding, block_landing, writes_is}
 use Rattle.sl_resource_history.specs.Histories.{is_host, joined_step}
@@ -33,18 +34,12 @@ use Rattle.sl_words.proofs.CaseLaws.{none_some, one_value, some_value}
 use Rattle.sl_words.proofs.WordLaws.{choose_some}
 use Rattle.sl_words.specs.Words.{choose}
 use Rattle.std.proofs.Common.{ap, arith, inl, inr, refl, subst, sym, ◌∙◌}
-use Rattle.std.proofs.lemmas.Bool.{cases_lt}
+use Rattle.std.proofs.lemmas.Bool.{cases_lt, eq-eqb}
 use Rattle.std.proofs.lemmas.Option.{slice_get_within}
 use Rattle.std.specs.Option.{option_map_or}
-use Rattle.std.specs.Prelude.{AllPairs, Bool, Contains, IsTrue, List, None, Option, Some, [], false, find, length, option_and_then, option_map, slice_get, slice_index_or, suc, true, zero, ℕ, ◌++◌, ◌+◌, ◌-◌, ◌<◌, ◌==◌, ◌∷◌, ◌≡◌, ◌≤◌}
+use Rattle.std.specs.Prelude.{AllPairs, Bool, Contains, IsTrue, List, None, Option, Some, [], false, find, length, option_and_then, option_map, slice_get, suc, true, ℕ, ◌++◌, ◌+◌, ◌-◌, ◌<◌, ◌==◌, ◌∷◌, ◌≡◌, ◌≤◌}
 
 -- ---- who works has joined by then
-
-itself_below : (n : ℕ) → n < suc n
-itself_below n = omega arith
-
-later_than : (k n : ℕ) → k < n → k < suc n
-later_than k n h = omega (arith, h)
 
 new_reply : (es : Trace) (e : Entry) (j : ℕ) (r : Replied) → reply_in j es e ≡ Some r → r.at ≡ length es
 new_reply es e j r is = by (find (λ (a : JobReply). a.job == j) e.effects.replies) is where
@@ -54,8 +49,8 @@ new_reply es e j r is = by (find (λ (a : JobReply). a.job == j) e.effects.repli
 
 reply_by : (es : Trace) (e : Entry) (j : ℕ) (r : Replied) (o : Option Replied) → reply_to es j ≡ o → elim o as (λ z. Option Replied) [ Some q ↦ Some q | None ↦ reply_in j es e ] ≡ Some r
     → ((q : Replied) → reply_to es j ≡ Some q → q.at < length es) → r.at < suc (length es)
-reply_by es e j r None was is rest = subst (λ n. n < suc (length es)) (sym (new_reply es e j r is)) (itself_below (length es))
-reply_by es e j r (Some q) was is rest = later_than r.at (length es) (subst (λ (x : Replied). x.at < length es) (some_value q r is) (rest q was))
+reply_by es e j r None was is rest = subst (λ n. n < suc (length es)) (sym (new_reply es e j r is)) (below_itself_suc (length es))
+reply_by es e j r (Some q) was is rest = less_than_suc r.at (length es) (subst (λ (x : Replied). x.at < length es) (some_value q r is) (rest q was))
 
 reply_within : (es : Trace) (j : ℕ) (r : Replied) → reply_to es j ≡ Some r → r.at < length es
 reply_within [] j r is = absurd (none_some r is)
@@ -84,9 +79,6 @@ pub record JoinedBy (w : World) (x : Sent) (f : Found) : Type 0 where
 
 abbrev step_after : List Stamp → ℕ → ℕ
 step_after ss k = elim (k == 0) [ true ↦ 0 | false ↦ option_map_or (λ s. s.step) (stamp_in ss (k - 1)) 0 ]
-
-zero_least : (n : ℕ) → 0 ≤ n
-zero_least n = omega arith
 
 step_by : (ss : List Stamp) (i : ℕ) (n : ℕ) (o : Option Stamp) → stamp_in ss i ≡ o → ((s : Stamp) → stamp_in ss i ≡ Some s → s.step ≤ n) → option_map_or (λ (s : Stamp). s.step) o 0 ≤ n
 step_by ss i n None at rest = zero_least n
@@ -139,7 +131,7 @@ one_sent p h xs run x y this that machine number =
     let same : j.machine ≡ k.machine = one_value j.machine k.machine (machine_at w x.machine) (ap (machine_at w) machine ∙ j.at) k.at in
     sent_is x y machine
     (one_call k.machine.calls x.course y.course (each_distinct p h xs run x.machine k.machine k.at) k.has (subst (λ a. Contains a.calls y.course) same j.has)
-    (equal_numbers x.course.call.number y.course.call.number number))
+    (eq-eqb x.course.call.number y.course.call.number number))
 
 -- What a call left is a block, which it sent.
 pub landed_block : (p : Program) (h : Header) (xs : List Happening) → LawfulRun p h xs → (r : ResourceLine) → Contains h.resources r → (k : ℕ) → is_host (world_at p h xs) k ≡ true
@@ -231,11 +223,6 @@ turns_of p h xs run r there x y this that one two same =
 
 -- ---- in order
 
-got_index : {A : Type 0} (xs : List A) (i : ℕ) (x d : A) → slice_get xs i ≡ Some x → slice_index_or xs i d ≡ x
-got_index [] i x d h = absurd (none_some x h)
-got_index (y ∷ xs) zero x d h = some_value y x h
-got_index (y ∷ xs) (suc i) x d h = got_index xs i x d h
-
 pairs_at : (ls : List Landing) (i j : ℕ) (l m : Landing) → AllPairs (λ a b. a.writer ≡ b.writer → ⊥) ls → slice_get ls i ≡ Some l → slice_get ls j ≡ Some m → l.writer ≡ m.writer → i < j → ⊥
 pairs_at ls i j l m all at there same lt =
     all i j l lt (slice_get_within ls j m there)
@@ -254,17 +241,11 @@ one_writer ls l m all has too same =
       ]
     ]
 
-under : (a b c : ℕ) → a < b → b < c → a < c
-under a b c p q = omega (arith, p, q)
-
 turned : (l m x : ℕ) → l < m → m < x → x < l → ⊥
 turned l m x p q s = omega (arith, p, q, s)
 
 not_itself : (a b : ℕ) → a ≡ b → a < b → ⊥
 not_itself a b e lt = omega (arith, e, lt)
-
-through : (a b c : ℕ) → a < b → b ≤ c → a < c
-through a b c p q = omega (arith, p, q)
 
 never_back : (l m a x : ℕ) → l < m → m < a → a ≤ x → x < l → ⊥
 never_back l m a x p q s t = omega (arith, p, q, s, t)
@@ -274,7 +255,7 @@ by_turns : (p : Program) (h : Header) (xs : List Happening) → LawfulRun p h xs
 by_turns p h xs run r k x y l m at too one two lt (One is) =
     let same : l.writer ≡ m.writer = at.writer ∙ ap (λ (z : Sent). Some (name_of z)) is ∙ sym too.writer in
     absurd (not_itself l.step m.step (ap (λ (z : Landing). z.step) (one_writer (world_at p h xs).landings l m (writes_land_once p h xs run) at.landed too.landed same)) lt)
-by_turns p h xs run r k x y l m at too one two lt (First s told early) = through (step_of x) s.step (step_of y) (under (step_of x) l.step s.step one.after (one.before s told)) early
+by_turns p h xs run r k x y l m at too one two lt (First s told early) = lt_then_le (step_of x) s.step (step_of y) (trans_lt (step_of x) l.step s.step one.after (one.before s told)) early
 by_turns p h xs run r k x y l m at too one two lt (Second s told early) = absurd (never_back l.step m.step s.step (step_of x) lt (two.before s told) early one.after)
 
 -- A session's blocks land in order.
@@ -292,14 +273,14 @@ over_before : (p : Program) (h : Header) (xs : List Happening) → LawfulRun p h
 over_before p h xs run r k x y l at work before =
     let w : World = world_at p h xs in
     let j = joined_then p h xs run r y work in
-    through l.step j.step (step_of y) (before x l at refl (found_of work.owned) j.step (owner_found w y work.owned) j.joined) j.early
+    lt_then_le l.step j.step (step_of y) (before x l at refl (found_of work.owned) j.step (owner_found w y work.owned) j.joined) j.early
 
 pub in_order : BlocksLandInOrder
 in_order p h xs r run there k host x y l m at too (inl same) lt = one_session p h xs r run there k host x y l m at too same lt
 in_order p h xs r run there k host x y l m at too (inr (inl before)) lt =
     let one = is_landed_at p h xs run r there k host x l at in
     let two = is_landed_at p h xs run r there k host y m too in
-    under (step_of x) l.step (step_of y) one.after (over_before p h xs run r k x y l at two.work before)
+    trans_lt (step_of x) l.step (step_of y) one.after (over_before p h xs run r k x y l at two.work before)
 in_order p h xs r run there k host x y l m at too (inr (inr before)) lt =
     let one = is_landed_at p h xs run r there k host x l at in
     absurd (turned l.step m.step (step_of x) lt (over_before p h xs run r k y x m too one.work before) one.after)

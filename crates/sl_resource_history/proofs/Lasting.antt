@@ -3,18 +3,19 @@ use Rattle.sl_course_law.specs.Stamping.{IsCourseOf, Pairwise}
 use Rattle.sl_lease_law.specs.Ways.{lease_among}
 use Rattle.sl_leases.specs.Leases.{block_of_record, block_submitted, is_lease_call, is_on}
 use Rattle.sl_moment_law.specs.Orders.{CallsFall}
+use Rattle.sl_plain.proofs.Lists.{contains_cases, contains_first, contains_more, contains_none}
+use Rattle.sl_plain.proofs.Numbers.{below_next, refl_le}
 use Rattle.sl_resource_history.proofs.Latest.{calls_below}
 use Rattle.sl_resource_history.specs.Sending.{block_of_course, writes_block}
 use Rattle.sl_run.specs.Worlds.{Course, Daemon}
 use Rattle.sl_sector.specs.declared.sector.Block.{Block}
-use Rattle.sl_session_law.proofs.Making.{contains_cases, contains_first, contains_more, contains_none}
 use Rattle.sl_sessions.specs.Sessions.{Session, is_call_of}
 use Rattle.sl_trace.specs.Traces.{Setting, Submitted, new_call, record_of}
 use Rattle.sl_trace.specs.declared.effects.Call.{Call}
 use Rattle.sl_trace.specs.declared.effects.Spot.{Spot}
 use Rattle.sl_words.proofs.CaseLaws.{none_some, true_is_false}
-use Rattle.std.proofs.Common.{ap, arith, inl, inr, refl, subst, sym, ◌∙◌}
-use Rattle.std.specs.Prelude.{Bool, Contains, List, None, Option, Some, cond, false, filter, is_some, option_and_then, true, [], ℕ, ◌&&◌, ◌+◌, ◌<◌, ◌∷◌, ◌≡◌, ◌≤◌}
+use Rattle.std.proofs.Common.{ap, inl, inr, refl, subst, sym, ◌∙◌}
+use Rattle.std.specs.Prelude.{Bool, Contains, List, None, Option, Some, cond, false, filter, is_some, option_and_then, true, [], ℕ, ◌&&◌, ◌+◌, ◌∷◌, ◌≡◌, ◌≤◌}
 
 -- Whether a call is of the session's lease on the area.
 abbrev pub of_lease : Setting → Session → Spot → Call → Bool
@@ -51,12 +52,6 @@ pub record LastBlock (T : Call → Bool) (cs : List Course) (own : Block) : Type
 abbrev writes_of : Call → Option Block
 writes_of c = option_and_then block_of_record (record_of c.op)
 
-refl_le : (n : ℕ) → n ≤ n
-refl_le n = omega arith
-
-no_more : (a b : ℕ) → a < b + 1 → a ≤ b
-no_more a b h = omega (arith, h)
-
 -- A course that passes is not the head, where the head does not.
 not_head : (T : Call → Bool) (c : Course) (cs : List Course) (e : Course) → Contains (c ∷ cs) e → (T c.call ≡ true → writes_block c ≡ true → ⊥) → T e.call ≡ true → writes_block e ≡ true → Contains cs e
 not_head T c cs e has never passes writes =
@@ -84,7 +79,7 @@ head_is T c cs own passes block fall =
       block = block;
       newest = λ e has q writes. elim (contains_cases c cs e has) as (λ z. e.made.step ≤ c.made.step) [
         | inl same ↦ subst (λ (x : Course). x.made.step ≤ c.made.step) same (refl_le c.made.step)
-        | inr more ↦ no_more e.made.step c.made.step (calls_below (c.made.step + 1) cs e fall more)
+        | inr more ↦ below_next e.made.step c.made.step (calls_below (c.made.step + 1) cs e fall more)
       ];
     }
 

@@ -1,19 +1,19 @@
 -- The last block that a session sent before a step is the last: a machine's calls stand by their steps, the newest first.
 use Rattle.sl_front_law.proofs.Having.{contains_append, contains_flat, placed_at}
-use Rattle.sl_landing_law.proofs.Listing.{in_map}
 use Rattle.sl_leases.specs.Leases.{is_on}
 use Rattle.sl_moment_law.proofs.Ordering.{machines_ordered}
 use Rattle.sl_moment_law.specs.Orders.{CallsFall}
-use Rattle.sl_place_law.proofs.Finding.{finds, found_in}
+use Rattle.sl_place_law.proofs.Finding.{finds}
+use Rattle.sl_plain.proofs.Lists.{contains_cases, contains_first, contains_more, contains_none, find_inside, in_map}
 use Rattle.sl_resource_history.proofs.Calls.{machine_there, numbered_in, sent_by}
-use Rattle.sl_resource_history.proofs.Registers.{session_is}
+use Rattle.sl_resource_history.proofs.Latest.{calls_below}
+use Rattle.sl_resource_history.proofs.Owning.{same_is}
 use Rattle.sl_resource_history.specs.Sending.{Sent, all_sent, is_block_before, same_session, sender_of, step_of, writes_block}
 use Rattle.sl_run.specs.Runs.{Happening}
 use Rattle.sl_run.specs.Safety.{LawfulRun, SessionId, world_at}
 use Rattle.sl_run.specs.Worlds.{Course, Machine, Program, World}
 use Rattle.sl_run.specs.declared.header.Header.{Header}
 use Rattle.sl_trace.specs.declared.effects.Spot.{Spot}
-use Rattle.sl_session_law.proofs.Making.{contains_cases, contains_first, contains_more, contains_none}
 use Rattle.sl_words.proofs.CaseLaws.{none_some, some_value, true_is_false}
 use Rattle.sl_words.proofs.WordLaws.{and_true}
 use Rattle.std.proofs.Common.{ap, arith, inl, inr, refl, subst, sym, ◌∙◌}
@@ -22,14 +22,6 @@ use Rattle.std.specs.Prelude.{Bool, Contains, List, None, Some, [], cond, false,
 
 abbrev sent_from : ℕ → Course → Sent
 sent_from m c = record { machine = m; course = c }
-
-calls_below : (n : ℕ) (cs : List Course) (c : Course) → CallsFall n cs → Contains cs c → c.made.step < n
-calls_below n [] c h has = absurd (contains_none c has)
-calls_below n (x ∷ cs) c h has =
-    elim (contains_cases x cs c has) as (λ z. c.made.step < n) [
-      | inl e ↦ subst (λ (y : Course). y.made.step < n) e h.0
-      | inr more ↦ let lt : c.made.step < x.made.step + 1 = calls_below (x.made.step + 1) cs c h.2 more in omega (arith, lt, h.0)
-    ]
 
 last_by : (m : ℕ) (p : Sent → Bool) (x : Course) (cs : List Course) (y : Sent) (c : Course) (n : ℕ) → CallsFall n (x ∷ cs) → (b : Bool) → p (sent_from m x) ≡ b
     → cond b (Some (sent_from m x)) (find p (map (sent_from m) cs)) ≡ Some y → (x ≡ c) ⊎ Contains cs c → p (sent_from m c) ≡ true
@@ -98,7 +90,7 @@ last_all p n k (a ∷ ms) x y falls at there passes same =
         let c = of_first k a x here in
         last_in k p a.calls y x.course n (falls a (contains_first a ms)) first c.1 (ap (λ m. p (sent_from m x.course)) (sym c.0) ∙ passes)
     by rest (inl first) (inr more) =
-        let f = found_in p (sent_by (k, a)) y first in
+        let f = find_inside p (sent_by (k, a)) y first in
         absurd (apart k y.machine x.machine (of_first k a y f.0).0 (from_later k ms x more) same)
     by rest (inr later) (inl here) = absurd (not_found p (sent_by (k, a)) x later.0 here passes)
     by rest (inr later) (inr more) = rest later.1 more
@@ -110,7 +102,7 @@ all_fall p h xs run a has =
 
 sender_before : (w : World) (at : Spot) (i : SessionId) (step : ℕ) (x : Sent) → is_block_before w at i step x ≡ true → i ≡ sender_of x
 sender_before w at i step x h =
-    session_is i (sender_of x) (and_true (nat_lt (step_of x) step && is_on w.layout at x.course.call && writes_block x.course) (same_session i (sender_of x)) h).1
+    same_is i (sender_of x) (and_true (nat_lt (step_of x) step && is_on w.layout at x.course.call && writes_block x.course) (same_session i (sender_of x)) h).1
 
 -- Each block that a session sent before a step was sent by the last of them.
 pub last_is_last : (p : Program) (h : Header) (xs : List Happening) → LawfulRun p h xs → (at : Spot) (i : SessionId) (step : ℕ) (x y : Sent)
@@ -120,5 +112,5 @@ last_is_last p h xs run at i step x y found there passes =
     let w : World = world_at p h xs in
     let test : Sent → Bool = is_block_before w at i step in
     let one = sender_before w at i step x passes in
-    let two = sender_before w at i step y (found_in test (all_sent w) y found).1 in
+    let two = sender_before w at i step y (find_inside test (all_sent w) y found).1 in
     last_all test w.step 1 w.machines x y (all_fall p h xs run) found there passes (ap (λ (s : SessionId). s.machine) (sym one ∙ two))

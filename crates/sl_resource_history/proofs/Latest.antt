@@ -1,9 +1,10 @@
 -- The newest call of a machine that passes a test, and where a call of a world stands.
 use Rattle.sl_moment_law.specs.Orders.{CallsFall}
+use Rattle.sl_plain.proofs.Lists.{contains_cases, contains_none}
+use Rattle.sl_plain.proofs.Numbers.{below_next, equal_is_most}
 use Rattle.sl_resource_history.specs.Sending.{Sent, all_sent, step_of}
 use Rattle.sl_run.specs.Worlds.{Course, Machine, World, machine_at}
 use Rattle.sl_run_law.proofs.Walking.{index}
-use Rattle.sl_session_law.proofs.Making.{contains_cases, contains_none}
 use Rattle.sl_words.proofs.CaseLaws.{is_false, none_some, some_value, true_is_false}
 use Rattle.std.proofs.Common.{ap, arith, inl, inr, refl, subst, sym, tests, ◌∙◌}
 use Rattle.std.specs.List.{enumerate_from}
@@ -28,19 +29,13 @@ calls_below n (d ∷ cs) c fall has =
       | inr more ↦ below_one c.made.step n d.made.step (calls_below (d.made.step + 1) cs c fall.2 more) fall.0
     ]
 
-no_more : (a b : ℕ) → a < b + 1 → a ≤ b
-no_more a b h = omega (arith, h)
-
-at_most : (a b : ℕ) → a ≡ b → a ≤ b
-at_most a b h = omega (arith, h)
-
 here_by : (P : Sent → Bool) (m : ℕ) (d : Course) (cs : List Course) (rest : List Sent) (y : Sent) (c : Course) (b : Bool) → P (sent_as m d) ≡ b
     → CallsFall (d.made.step + 1) cs → (d ≡ c) ⊎ Contains cs c → P (sent_as m c) ≡ true → cond b (Some (sent_as m d)) (find P (map (λ x. sent_as m x) cs ++ rest)) ≡ Some y
     → (Contains cs c → find P (map (λ x. sent_as m x) cs ++ rest) ≡ Some y → c.made.step ≤ step_of y) → c.made.step ≤ step_of y
 here_by P m d cs rest y c true is fall (inl same) pass found later =
-    at_most c.made.step (step_of y) (ap (λ x. x.made.step) (sym same) ∙ ap step_of (some_value (sent_as m d) y found))
+    equal_is_most c.made.step (step_of y) (ap (λ x. x.made.step) (sym same) ∙ ap step_of (some_value (sent_as m d) y found))
 here_by P m d cs rest y c true is fall (inr more) pass found later =
-    subst (λ x. c.made.step ≤ step_of x) (some_value (sent_as m d) y found) (no_more c.made.step d.made.step (calls_below (d.made.step + 1) cs c fall more))
+    subst (λ x. c.made.step ≤ step_of x) (some_value (sent_as m d) y found) (below_next c.made.step d.made.step (calls_below (d.made.step + 1) cs c fall more))
 here_by P m d cs rest y c false is fall (inl same) pass found later = absurd (true_is_false (sym pass ∙ ap (λ x. P (sent_as m x)) (sym same) ∙ is))
 here_by P m d cs rest y c false is fall (inr more) pass found later = later more found
 

@@ -8,6 +8,7 @@ use Rattle.sl_place_law.proofs.Areas.{IsSized}
 use Rattle.sl_place_law.proofs.Proven.{promised}
 use Rattle.sl_place_law.proofs.Reading.{IsRead, IsShown, call_law, read_of, sector_shown}
 use Rattle.sl_place_law.proofs.Seats.{sized_in}
+use Rattle.sl_plain.proofs.Numbers.{both_next, one_further, plus_zero, zero_less}
 use Rattle.sl_resource_history.proofs.Showing.{Seen, area_right, phase_right, sector_seen}
 use Rattle.sl_run.specs.Events.{sectors_of}
 use Rattle.sl_run.specs.Runs.{Happening}
@@ -30,22 +31,10 @@ use Rattle.std.specs.Prelude.{Bool, Contains, List, None, Option, Some, drop, fa
 
 -- ---- the blocks of a list of bytes
 
-less_more : (j n : ℕ) → j < n → suc j < suc n
-less_more j n h = omega (arith, h)
-
-next_number : (a j : ℕ) → a + 1 + j ≡ a + suc j
-next_number a j = omega arith
-
-same_number_at : (a : ℕ) → a ≡ a + 0
-same_number_at a = omega arith
-
-some_more : (n : ℕ) → 0 < suc n
-some_more n = omega arith
-
 ranged : {A : Type 0} (f : ℕ → A) (a n j : ℕ) (y : A) → slice_get (map f (range_with_len a n)) j ≡ Some y → (j < n) × (f (a + j) ≡ y)
 ranged f a zero j y h = absurd (none_some y h)
-ranged f a (suc n) zero y h = (some_more n, ap f (sym (same_number_at a)) ∙ some_value (f a) y h)
-ranged f a (suc n) (suc j) y h = let r = ranged f (a + 1) n j y h in (less_more j n r.0, ap f (sym (next_number a j)) ∙ r.1)
+ranged f a (suc n) zero y h = (zero_less n, ap f (sym (plus_zero a)) ∙ some_value (f a) y h)
+ranged f a (suc n) (suc j) y h = let r = ranged f (a + 1) n j y h in (both_next j n r.0, ap f (sym (one_further a j)) ∙ r.1)
 
 one_on : (j : ℕ) → 1 + j ≡ j + 1
 one_on j = omega arith

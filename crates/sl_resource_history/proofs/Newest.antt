@@ -8,8 +8,10 @@ use Rattle.sl_landing_law.proofs.Remaining.{landed_are_there}
 use Rattle.sl_landing_law.specs.Landings.{HasWriter}
 use Rattle.sl_law.specs.LawfulArea.{LawfulAreaWrite}
 use Rattle.sl_leases.specs.Leases.{is_on, spot_of_call}
-use Rattle.sl_place_law.proofs.Finding.{equal_numbers, filtered, numbered_inside, same_number, same_text}
+use Rattle.sl_place_law.proofs.Finding.{numbered_inside, same_text}
 use Rattle.sl_place_law.proofs.Reading.{call_law}
+use Rattle.sl_plain.proofs.Lists.{contains_cases, contains_first, contains_more, contains_none, kept, kept_inside}
+use Rattle.sl_plain.proofs.Numbers.{equal_is_most, less_is_most}
 use Rattle.sl_resource_history.proofs.Alone.{head_pairs, tail_pairs}
 use Rattle.sl_resource_history.proofs.Calls.{block_sent, found_of, made_of, owned, owner_found, owner_layout, spot_is, there_sent, write_is}
 use Rattle.sl_resource_history.proofs.Landed.{Name, in_order, landed_block, name_of, one_sent}
@@ -26,8 +28,6 @@ use Rattle.sl_run.specs.declared.header.ResourceLine.{ResourceLine}
 use Rattle.sl_sample_law.proofs.Numbering.{newest_number, number_below, number_stays}
 use Rattle.sl_sample_law.specs.Samples.{numbered_landing, sector_place}
 use Rattle.sl_sector.specs.declared.sector.Rec.TheVariants.{BlockIs}
-use Rattle.sl_session_law.proofs.Making.{contains_cases, contains_first, contains_more, contains_none}
-use Rattle.sl_session_law.proofs.Naming.{kept}
 use Rattle.sl_session_law.specs.Promises.{front_of, made_as}
 use Rattle.sl_trace.specs.Traces.{Setting, Submitted, record_of, same_place}
 use Rattle.sl_trace.specs.declared.effects.Call.{Call}
@@ -35,7 +35,7 @@ use Rattle.sl_trace.specs.declared.effects.Spot.{Spot}
 use Rattle.sl_words.proofs.CaseLaws.{none_some, one_value, some_value}
 use Rattle.sl_words.proofs.WordLaws.{and_true}
 use Rattle.std.proofs.Common.{ap, arith, inl, inr, refl, subst, sym, ◌∙◌}
-use Rattle.std.proofs.lemmas.Bool.{and_from, cases_lt}
+use Rattle.std.proofs.lemmas.Bool.{and_from, cases_lt, eq-eqb, eqb-true}
 use Rattle.std.proofs.lemmas.Slice.Eq.{bytes_eq-Decides}
 use Rattle.std.specs.Prelude.{AllPairs, Bool, Contains, List, Option, Some, [], bytes_eq, false, filter, if◌then◌else◌, length, true, ℕ, ◌++◌, ◌<◌, ◌==◌, ◌∷◌, ◌≡◌, ◌≤◌, ◌⊎◌}
 
@@ -55,7 +55,7 @@ descends_of (l ∷ ls) all =
 kept_by : (p : Landing → Bool) (l : Landing) (ls : List Landing) (b : Bool) → p l ≡ b → ((x : Landing) → Contains ls x → x.step < l.step) → Descends (filter p ls)
     → Descends (if b then l ∷ filter p ls else filter p ls)
 kept_by p l ls false is first rest = rest
-kept_by p l ls true is first rest = ((λ x there. first x (filtered p ls x there).0), rest)
+kept_by p l ls true is first rest = ((λ x there. first x (kept_inside p ls x there).0), rest)
 
 descends_kept : (p : Landing → Bool) (ls : List Landing) → Descends ls → Descends (filter p ls)
 descends_kept p [] h = tt
@@ -82,11 +82,11 @@ order_by : (l : Landing) (ls : List Landing) (i j : ℕ) (x y : Landing) (a b : 
 order_by l ls i j x y a true p q first at there lt rest =
     by a p at where
       by : (c : Bool) → (i == length ls) ≡ c → elim c as (λ z. Option Landing) [ true ↦ Some l | false ↦ numbered_landing ls i ] ≡ Some x → x.step < y.step
-      by true same here = absurd (omega (arith, same_number i (length ls) same, same_number j (length ls) q, lt))
+      by true same here = absurd (omega (arith, eqb-true i (length ls) same, eqb-true j (length ls) q, lt))
       by false other here = subst (λ (z : Landing). x.step < z.step) (some_value l y there) (first x (numbered_inside ls i x here))
 order_by l ls i j x y true false p q first at there lt rest =
     let less : j < length ls = number_below ls j y there in
-    absurd (omega (arith, same_number i (length ls) p, less, lt))
+    absurd (omega (arith, eqb-true i (length ls) p, less, lt))
 order_by l ls i j x y false false p q first at there lt rest = rest at there
 
 -- Of two numbers the lesser came first.
@@ -114,7 +114,7 @@ history_descends p h xs run path offset =
     let w : World = world_at p h xs in
     let test : Landing → Bool = λ l. same_place l.path l.offset path offset in
     descends_then (landed_at w path offset) (first_landing w path offset) (descends_kept test w.landings (descends_of w.landings (come_in_order p h xs run)))
-    (λ x there. above_first p h xs run x (filtered test w.landings x there).0)
+    (λ x there. above_first p h xs run x (kept_inside test w.landings x there).0)
 
 -- ---- the landing of a block that was answered ok
 
@@ -176,12 +176,6 @@ has_come p h xs run r there k x b done s told =
 never_missed : (l s z t : ℕ) → l < s → s ≤ z → z < t → t < l → ⊥
 never_missed l s z t p q u v = omega (arith, p, q, u, v)
 
-same_or_more : (a b : ℕ) → a ≡ b → a ≤ b
-same_or_more a b e = omega (arith, e)
-
-less_is : (a b : ℕ) → a < b → a ≤ b
-less_is a b h = omega (arith, h)
-
 above_zero : (a b : ℕ) → a < b → b ≡ 0 → ⊥
 above_zero a b h e = omega (arith, h, e)
 
@@ -201,7 +195,7 @@ later_shown p h xs run r there k host x l at j m numbered lt follow =
           let less : step_of x < step_of b.sent =
           in_order p h xs r run there k host x b.sent l m at (record { sent = b.there; landed = landed; place = (its.0, its.1); writer = b.named })
           (follow b.sent (record { sent = b.there; on = b.on; block = writes_is b.sent.course b.block b.writes; host = b.host })) lt in
-          subst (λ n. step_of x ≤ n) (sym b.step) (less_is (step_of x) (step_of b.sent) less)
+          subst (λ n. step_of x ≤ n) (sym b.step) (less_is_most (step_of x) (step_of b.sent) less)
     ]
 
 -- It is shown itself.
@@ -219,7 +213,7 @@ reads_show_newest p h xs r run there k host x b done s told z read late m shows 
     let i : IsShownOf w r z k m = shown_of p h xs run r there z o read.on read.reads k host m shows in
     let inside : Contains (landed_at w r.path (block_offset w.layout r.offset k)) l =
     kept (λ (y : Landing). same_place y.path y.offset r.path (block_offset w.layout r.offset k)) w.landings l
-    (and_from _ _ (equal_numbers l.offset (block_offset w.layout r.offset k) c.at.place.1) ((bytes_eq-Decides l.path r.path).1 c.at.place.0)) c.at.landed in
+    (and_from _ _ (eq-eqb l.offset (block_offset w.layout r.offset k) c.at.place.1) ((bytes_eq-Decides l.path r.path).1 c.at.place.0)) c.at.landed in
     let n = has_number g l (contains_left (landed_at w r.path (block_offset w.layout r.offset k)) (first_landing w r.path (block_offset w.layout r.offset k) ∷ []) l inside) in
     elim (cases_lt i.sampling.index n.0) as (λ q. step_of x ≤ step_of_landing w m) [
       | inl missed ↦
@@ -235,6 +229,6 @@ reads_show_newest p h xs r run there k host x b done s told z read late m shows 
         | inr older ↦
             let index : n.0 ≡ i.sampling.index = omega (arith, seen, older) in
             let same : l ≡ m = one_value l m (numbered_landing g i.sampling.index) (subst (λ q. numbered_landing g q ≡ Some l) index n.1) i.place in
-            same_or_more (step_of x) (step_of_landing w m) (sym (itself_shown p h xs run r there k host x l c.at) ∙ ap (step_of_landing w) same)
+            equal_is_most (step_of x) (step_of_landing w m) (sym (itself_shown p h xs run r there k host x l c.at) ∙ ap (step_of_landing w) same)
       ]
     ]

@@ -37,7 +37,7 @@ use Rattle.std.specs.Prelude.{Contains, List, None, Option, Some, length, nat_le
 
 -- ---- the law of phase 1 at its front
 
-one_step : (st : Setting) (t : Trace) (s : Session) (at : Spot) (c : Submitted) (b : Block) (step : LeaseStep) → same_kind (kind_of_step step) Phase1_write ≡ true
+pub one_step : (st : Setting) (t : Trace) (s : Session) (at : Spot) (c : Submitted) (b : Block) (step : LeaseStep) → same_kind (kind_of_step step) Phase1_write ≡ true
     → LawfulBlockStep st t s at c b step → LawfulPhase1 st t s at c b
 one_step st t s at c b Phase1Write kind h = h
 one_step st t s at c b Phase2Write kind h = absurd (false_is_true kind)
@@ -50,10 +50,10 @@ one_step st t s at c b Phase2Read kind h = absurd h
 one_step st t s at c b TakeLeader kind h = absurd h
 one_step st t s at c b FreeLeader kind h = absurd h
 
-kind_here : (c : Submitted) (p : Work × LeaseStep) → lease_step c.call.purpose ≡ Some p → is_at Phase1_write c ≡ true → same_kind (kind_of_step p.1) Phase1_write ≡ true
+pub kind_here : (c : Submitted) (p : Work × LeaseStep) → lease_step c.call.purpose ≡ Some p → is_at Phase1_write c ≡ true → same_kind (kind_of_step p.1) Phase1_write ≡ true
 kind_here c p is at = sym (ap (λ o. some_is (λ q. same_kind (kind_of_step q.1) Phase1_write) o) is) ∙ at
 
-one_write : (st : Setting) (t : Trace) (s : Session) (c : Submitted) (b : Block) → is_at Phase1_write c ≡ true → (o : Option (Work × LeaseStep)) → lease_step c.call.purpose ≡ o
+pub one_write : (st : Setting) (t : Trace) (s : Session) (c : Submitted) (b : Block) → is_at Phase1_write c ≡ true → (o : Option (Work × LeaseStep)) → lease_step c.call.purpose ≡ o
     → elim o as (λ x. Type 0) [ None ↦ ⊥ | Some p ↦ LawfulBlockStep st t s (spot_of_call st.layout c) c b p.1 ] → LawfulPhase1 st t s (spot_of_call st.layout c) c b
 one_write st t s c b at None is h = absurd h
 one_write st t s c b at (Some p) is h = one_step st t s (spot_of_call st.layout c) c b p.1 (kind_here c p is at) h

@@ -13,9 +13,11 @@ use Rattle.sl_lease_law.specs.Ways.{BlockFront, lease_among}
 use Rattle.sl_leases.specs.Leases.{block_of_record, block_submitted, block_written, is_block_read, is_lease_call, is_on, lease_step, spot_of_call}
 use Rattle.sl_moment_law.specs.Orders.{CallsFall, IsTimed}
 use Rattle.sl_place_law.proofs.Daemons.{daemons_are_fine, stamp_order}
-use Rattle.sl_place_law.proofs.Finding.{equal_numbers, filtered, finds, found_in, same_number}
+use Rattle.sl_place_law.proofs.Finding.{finds}
 use Rattle.sl_place_law.proofs.Numbering.{session_number}
 use Rattle.sl_place_law.proofs.Proven.{promised}
+use Rattle.sl_plain.proofs.Lists.{contains_cases, contains_more, contains_none, find_inside, kept, kept_inside}
+use Rattle.sl_plain.proofs.Numbers.{lt_then_le, none_off}
 use Rattle.sl_resource_history.proofs.Lasting.{last_block, lease_kept, no_block_there, of_lease}
 use Rattle.sl_resource_history.proofs.Latest.{newest, sent_as}
 use Rattle.sl_resource_history.proofs.Standing.{Standing, machine_of, pair_parts, parts, sent_there, stands_behind, standing}
@@ -26,8 +28,6 @@ use Rattle.sl_run.specs.Safety.{LawfulRun, SessionId, world_at}
 use Rattle.sl_run.specs.Worlds.{Course, Machine, Program, World, machine_at}
 use Rattle.sl_run.specs.declared.header.Header.{Header}
 use Rattle.sl_sector.specs.declared.sector.Block.{Block}
-use Rattle.sl_session_law.proofs.Making.{contains_cases, contains_more, contains_none}
-use Rattle.sl_session_law.proofs.Naming.{kept}
 use Rattle.sl_sessions.specs.Sessions.{Session, is_call_of}
 use Rattle.sl_trace.specs.Traces.{Setting, Submitted, Trace, is_write, new_call, record_of, submitted}
 use Rattle.sl_trace.specs.declared.effects.Call.{Call}
@@ -41,15 +41,11 @@ use Rattle.sl_trace.specs.declared.effects.Work.{Work}
 use Rattle.sl_words.proofs.CaseLaws.{false_is_true, none_some, some_value}
 use Rattle.sl_words.proofs.WordLaws.{and_true}
 use Rattle.std.proofs.Common.{ap, arith, inl, inr, refl, subst, sym, ◌∙◌}
-use Rattle.std.proofs.lemmas.Bool.Decides.{nat_tests}
-use Rattle.std.proofs.lemmas.Bool.{and_from, ltb-true}
+use Rattle.std.proofs.lemmas.Bool.{and_from, eq-eqb, eqb-true, lt-ltb, ltb-true, or_left}
 use Rattle.std.specs.Option.{option_map_or}
-use Rattle.std.specs.Prelude.{Bool, Contains, List, None, Option, Some, false, find, is_some, length, nat_lt, option_and_then, true, [], ℕ, ◌%◌, ◌&&◌, ◌++◌, ◌+◌, ◌-◌, ◌<◌, ◌==◌, ◌||◌, ◌∷◌, ◌≡◌, ◌≤◌}
+use Rattle.std.specs.Prelude.{Bool, Contains, List, None, Option, Some, find, is_some, length, nat_lt, option_and_then, true, [], ℕ, ◌%◌, ◌&&◌, ◌++◌, ◌+◌, ◌<◌, ◌==◌, ◌∷◌, ◌≡◌, ◌≤◌}
 
 -- ---- places
-
-none_off : (n k : ℕ) → k ≡ 0 → n - k ≡ n
-none_off n k h = omega (arith, h)
 
 -- The area of a call on an area is that.
 pub spot_is : (g : Layout) (at : Spot) (m : Submitted) → at.base % g.area ≡ 0 → is_on g at m.call ≡ true → spot_of_call g m ≡ at
@@ -112,7 +108,7 @@ block_is_lease w x s b is =
 
 pub same_itself : (i : SessionId) → same_session i i ≡ true
 same_itself i =
-    and_from _ _ (and_from _ _ (equal_numbers i.machine i.machine refl) (equal_numbers i.daemon i.daemon refl)) (equal_numbers i.number i.number refl)
+    and_from _ _ (and_from _ _ (eq-eqb i.machine i.machine refl) (eq-eqb i.daemon i.daemon refl)) (eq-eqb i.number i.number refl)
 
 pub session_as : (m d n m' d' n' : ℕ) → m ≡ m' → d ≡ d' → n ≡ n' → (let i : SessionId = record { machine = m; daemon = d; number = n } in i) ≡ record { machine = m'; daemon = d'; number = n' }
 session_as m d n m' d' n' p q r =
@@ -123,8 +119,8 @@ pub same_is : (i k : SessionId) → same_session i k ≡ true → i ≡ k
 same_is i k h =
     let both = and_true (i.machine == k.machine && i.daemon == k.daemon) (i.number == k.number) h in
     let first = and_true (i.machine == k.machine) (i.daemon == k.daemon) both.0 in
-    session_as i.machine i.daemon i.number k.machine k.daemon k.number (same_number i.machine k.machine first.0) (same_number i.daemon k.daemon first.1)
-    (same_number i.number k.number both.1)
+    session_as i.machine i.daemon i.number k.machine k.daemon k.number (eqb-true i.machine k.machine first.0) (eqb-true i.daemon k.daemon first.1)
+    (eqb-true i.number k.number both.1)
 
 -- The session's number is that of the call.
 pub number_at : (w : World) (x : Sent) (s : Standing w x) → s.session.number ≡ x.course.call.session
@@ -139,7 +135,7 @@ behind w x s z has same less =
     let inside : Contains s.machine.calls z.course = subst (λ (b : Machine). Contains b.calls z.course) a m.2 in
     let daemon : z.course.daemon ≡ s.daemon.number = ap (λ i. i.daemon) same ∙ sym s.number in
     let mine : Contains (courses_of s.machine s.daemon.number) z.course =
-    kept (λ (c : Course). c.daemon == s.daemon.number) s.machine.calls z.course (equal_numbers z.course.daemon s.daemon.number daemon) inside in
+    kept (λ (c : Course). c.daemon == s.daemon.number) s.machine.calls z.course (eq-eqb z.course.daemon s.daemon.number daemon) inside in
     stands_behind w.step s.after x.course s.before z.course (subst (λ cs. CallsFall w.step cs) s.courses s.fallen) (subst (λ cs. Contains cs z.course) s.courses mine) less
 
 -- .. and the other way: what is behind is of the same daemon.
@@ -147,17 +143,13 @@ pub is_behind : (w : World) (x : Sent) (s : Standing w x) (c : Course) → Conta
 is_behind w x s c has =
     let inside : Contains (courses_of s.machine s.daemon.number) c =
     subst (λ cs. Contains cs c) (sym s.courses) (contains_right s.after (x.course ∷ s.before) c (contains_more x.course s.before c has)) in
-    let f = filtered (λ (d : Course). d.daemon == s.daemon.number) s.machine.calls c inside in
-    (f.0, same_number c.daemon s.daemon.number f.1 ∙ s.number)
+    let f = kept_inside (λ (d : Course). d.daemon == s.daemon.number) s.machine.calls c inside in
+    (f.0, eqb-true c.daemon s.daemon.number f.1 ∙ s.number)
 
 -- ---- turns
 
 abbrev pub works : Call → Bool
 works c = is_block_work (new_call 0 0 c)
-
-or_left : (a b : Bool) → a ≡ true → (a || b) ≡ true
-or_left true b h = refl
-or_left false b h = absurd (false_is_true h)
 
 pub block_works : (c : Course) (b : Block) → block_of_course c ≡ Some b → works c.call ≡ true
 block_works c b is = or_left (is_write c.call.op) (is_block_read (new_call 0 0 c.call)) (writes_write c.call.op b is)
@@ -172,9 +164,6 @@ timed_in n (x ∷ cs) c h has =
       | inl e ↦ subst (λ y. IsTimed y) e h.1
       | inr more ↦ timed_in (x.made.step + 1) cs c h.2 more
     ]
-
-below_too : (a b c : ℕ) → a < b → b ≤ c → a < c
-below_too a b c p q = omega (arith, p, q)
 
 pub layout_at : (p : Program) (h : Header) (xs : List Happening) → LawfulRun p h xs → (x : Sent) (s : Standing (world_at p h xs) x) → (setting_at s).layout ≡ (world_at p h xs).layout
 layout_at p h xs run x s = (promised.of_world p h xs run x.machine s.machine s.daemon s.at s.has).layout
@@ -199,19 +188,16 @@ made_before p h xs run x s c has same work area other on =
     (ap (λ g. is_on g (spot_at g m.call) r.one.call) layout ∙ ap (λ c. is_on w.layout (spot_at w.layout c) r.one.call) one
     ∙ ap (λ c. is_on w.layout (spot_at w.layout x.course.call) c) r.pair.call ∙ on) in
     let k : IsAnsweredAs s.daemon c a.answer = subst (λ o. AnswersAgree s.daemon c o) a.answered r.pair.answers in
-    below_too c.made.step k.stamp.step x.course.made.step ((timed_in (x.course.made.step + 1) s.before c s.fall has).answered k.stamp k.answered)
+    lt_then_le c.made.step k.stamp.step x.course.made.step ((timed_in (x.course.made.step + 1) s.before c s.fall has).answered k.stamp k.answered)
     (stamp_order w.step s.daemon.stamps a.answer.at m.at k.stamp x.course.made (daemons_are_fine p h xs run x.machine s.machine s.daemon s.at s.has).stamps k.entry
     s.told.pair.made a.by)
 
 -- ---- the last block before
 
-pub less_test : (a b : ℕ) → a < b → nat_lt a b ≡ true
-less_test a b h = grind (arith, nat_tests)
-
 pub before_is : (w : World) (at : Spot) (x z : Sent) → step_of z < step_of x → is_on w.layout at z.course.call ≡ true → writes_block z.course ≡ true → sender_of z ≡ sender_of x
     → is_block_before w at (sender_of x) (step_of x) z ≡ true
 before_is w at x z less on writes same =
-    and_from _ _ (and_from _ _ (and_from _ _ (less_test (step_of z) (step_of x) less) on) writes)
+    and_from _ _ (and_from _ _ (and_from _ _ (lt-ltb (step_of z) (step_of x) less) on) writes)
     (subst (λ i. same_session (sender_of x) i ≡ true) (sym same) (same_itself (sender_of x)))
 
 pub record IsBefore (w : World) (at : Spot) (x z : Sent) : Type 0 where
@@ -245,7 +231,7 @@ passes_test p h xs run at x s z has on writes same =
     let w : World = world_at p h xs in
     let k : Standing w z = standing p h xs run z has in
     let b = written z.course writes in
-    and_from _ _ (equal_numbers z.course.call.session s.session.number (ap (λ i. i.number) same ∙ sym (number_at w x s)))
+    and_from _ _ (eq-eqb z.course.call.session s.session.number (ap (λ i. i.number) same ∙ sym (number_at w x s)))
     (and_from _ _ (block_is_lease w z k b.0 b.1) (ap (λ g. is_on g at z.course.call) (layout_at p h xs run x s) ∙ on))
 
 -- The own block of a write, as the session wrote it before.
@@ -282,7 +268,7 @@ own_written p h xs run at zero x there s on b is own found =
     let inside = sent_there w x.machine s.machine l.course s.at i.0 in
     let one = and_true (is_call_of s.session (new_call 0 0 l.course.call)) (is_lease_call (new_call 0 0 l.course.call) && is_on s.daemon.setting.layout at l.course.call) l.passes in
     let two = and_true (is_lease_call (new_call 0 0 l.course.call)) (is_on s.daemon.setting.layout at l.course.call) one.1 in
-    let session : l.course.call.session ≡ x.course.call.session = same_number l.course.call.session s.session.number one.0 ∙ number_at w x s in
+    let session : l.course.call.session ≡ x.course.call.session = eqb-true l.course.call.session s.session.number one.0 ∙ number_at w x s in
     let same : sender_of z ≡ sender_of x =
     session_as x.machine l.course.daemon l.course.call.session x.machine x.course.daemon x.course.call.session refl i.1 session in
     let layout = layout_at p h xs run x s in
@@ -293,7 +279,7 @@ own_written p h xs run at zero x there s on b is own found =
     (ap (λ q. is_on w.layout q l.course.call) spot ∙ on_z) in
     let passes : P z ≡ true = before_is w at x z less on_z (ap (λ o. is_some o) l.block) same in
     let y = finds P (all_sent w) z passes inside in
-    let its = found_in P (all_sent w) y.0 y.1 in
+    let its = find_inside P (all_sent w) y.0 y.1 in
     let g = is_before w at x y.0 its.1 in
     let up : l.course.made.step ≤ step_of y.0 =
     newest P w x.machine w.step s.machine y.0 l.course s.at s.falls (λ v passed. ap (λ k. k.machine) (is_before w at x v passed).sender) i.0 passes y.1 in
@@ -321,7 +307,7 @@ none_before p h xs run at x s none v has on writes same less =
 
 found_none : {A : Type 0} (P : A → Bool) (xs : List A) (o : Option A) → find P xs ≡ o → ((x : A) → Contains xs x → P x ≡ true → ⊥) → o ≡ None
 found_none P xs None is never = refl
-found_none P xs (Some x) is never = let f = found_in P xs x is in absurd (never x f.0 f.1)
+found_none P xs (Some x) is never = let f = find_inside P xs x is in absurd (never x f.0 f.1)
 
 pub last_is_none : (p : Program) (h : Header) (xs : List Happening) → LawfulRun p h xs → (at : Spot) (x : Sent) (s : Standing (world_at p h xs) x)
     → block_submitted (lease_among s.daemon.setting s.session at s.told.older) ≡ None → last_block_before (world_at p h xs) at (sender_of x) (step_of x) ≡ None

@@ -32,7 +32,7 @@ own_is_base p h xs run r there e x s host b =
       | inr none ↦ absurd (true_is_false (sym host ∙ none.1))
     ]
 
-holder_as : (i g i' g' : ℕ) → i ≡ i' → g ≡ g' → (let o : Holder = record { id = i; generation = g } in o) ≡ record { id = i'; generation = g' }
+pub holder_as : (i g i' g' : ℕ) → i ≡ i' → g ≡ g' → (let o : Holder = record { id = i; generation = g } in o) ≡ record { id = i'; generation = g' }
 holder_as i g i' g' p q =
     ap (λ k. let o : Holder = record { id = k; generation = g } in o) p ∙ ap (λ k. let o : Holder = record { id = i'; generation = k } in o) q
 

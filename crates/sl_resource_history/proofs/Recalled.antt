@@ -7,8 +7,10 @@ use Rattle.sl_lease_law.proofs.AgeLaws.{blocks_stay}
 use Rattle.sl_lease_law.specs.Fronts.{Aged}
 use Rattle.sl_lease_law.specs.Promises.{WasAnsweredBy}
 use Rattle.sl_leases.specs.Leases.{Area_read, Phase1_read, Phase2_read, Read_before_free, block_of_host, blocks_given, is_area_read, is_block_read, is_lease_call, is_on, is_phase_read, kind_of_step, last_blocks, lease_step, same_kind, spot_of_call}
-use Rattle.sl_place_law.proofs.Finding.{equal_numbers, finds, found_in, same_number}
+use Rattle.sl_place_law.proofs.Finding.{finds}
 use Rattle.sl_place_law.proofs.Reading.{answer_gave}
+use Rattle.sl_plain.proofs.Lists.{find_inside}
+use Rattle.sl_plain.proofs.Numbers.{both_ways, lt_then_le}
 use Rattle.sl_resource_history.proofs.Above.{IsAmong, answer_step, answered_before, in_older, older_look, reads_by}
 use Rattle.sl_resource_history.proofs.Basing.{ReadFront}
 use Rattle.sl_resource_history.proofs.Calls.{read_at_step}
@@ -41,8 +43,7 @@ use Rattle.sl_words.proofs.CaseLaws.{false_is_true, no_value, none_some, one_val
 use Rattle.sl_words.proofs.WordLaws.{and_true, or_true}
 use Rattle.sl_words.specs.Words.{some_is}
 use Rattle.std.proofs.Common.{ap, arith, inl, inr, refl, subst, sym, ◌∙◌}
-use Rattle.std.proofs.lemmas.Bool.Decides.{nat_tests}
-use Rattle.std.proofs.lemmas.Bool.{and_from, leb-true}
+use Rattle.std.proofs.lemmas.Bool.{and_from, eq-eqb, eqb-true, le-leb, leb-true, or_right}
 use Rattle.std.specs.Prelude.{Bool, Contains, List, None, Option, Some, false, is_some, length, nat_le, option_and_then, true, ℕ, ◌&&◌, ◌+◌, ◌<◌, ◌||◌, ◌≡◌, ◌≤◌, ◌⊎◌}
 
 -- ---- reads of blocks
@@ -91,9 +92,6 @@ gives_blocks g q bytes told reads none =
 
 -- ---- looks
 
-le_test : (a b : ℕ) → a ≤ b → nat_le a b ≡ true
-le_test a b h = grind (arith, nat_tests)
-
 pub record IsLookBefore (w : World) (at : Spot) (x y : Sent) : Type 0 where
   pub stamp : Stamp
   pub closed : y.course.answered ≡ Some stamp
@@ -119,14 +117,14 @@ look_before w at x y h =
 
 look_is : (w : World) (at : Spot) (x y : Sent) → IsLookBefore w at x y → is_look_before w at (sender_of x) (step_of x) y ≡ true
 look_is w at x y l =
-    and_from _ _ (and_from _ _ (and_from _ _ (and_from _ _ (ap (λ o. some_is (λ (s : Stamp). nat_le s.step (step_of x)) o) l.closed ∙ le_test l.stamp.step (step_of x) l.early) l.done) l.reads) l.on)
+    and_from _ _ (and_from _ _ (and_from _ _ (and_from _ _ (ap (λ o. some_is (λ (s : Stamp). nat_le s.step (step_of x)) o) l.closed ∙ le-leb l.stamp.step (step_of x) l.early) l.done) l.reads) l.on)
     (subst (λ i. same_session (sender_of x) i ≡ true) (sym l.sender) (same_itself (sender_of x)))
 
 -- A look passes the test of the lease.
 look_passes : (p : Program) (h : Header) (xs : List Happening) → LawfulRun p h xs → (at : Spot) (x : Sent) (s : Standing (world_at p h xs) x) (y : Sent)
     → IsLookBefore (world_at p h xs) at x y → lease_test s at y.course.call ≡ true
 look_passes p h xs run at x s y l =
-    and_from _ _ (equal_numbers y.course.call.session s.session.number (ap (λ i. i.number) l.sender ∙ sym (number_at (world_at p h xs) x s)))
+    and_from _ _ (eq-eqb y.course.call.session s.session.number (ap (λ i. i.number) l.sender ∙ sym (number_at (world_at p h xs) x s)))
     (and_from _ _ (read_is_lease (new_call 0 0 y.course.call) l.reads) (ap (λ g. is_on g at y.course.call) (layout_at p h xs run x s) ∙ l.on))
 
 -- What passes it is of the lease.
@@ -135,7 +133,7 @@ among_is : (p : Program) (h : Header) (xs : List Happening) (at : Spot) (x : Sen
 among_is p h xs at x s q has passes =
     let one = and_true (is_call_of s.session (new_call 0 0 q.call)) (is_lease_call (new_call 0 0 q.call) && is_on s.daemon.setting.layout at q.call) passes in
     let two = and_true (is_lease_call (new_call 0 0 q.call)) (is_on s.daemon.setting.layout at q.call) one.1 in
-    record { has = has; session = same_number q.call.session s.session.number one.0; lease = two.0; on = two.1 }
+    record { has = has; session = eqb-true q.call.session s.session.number one.0; lease = two.0; on = two.1 }
 
 -- What a write has before it.
 pub record IsWrite (p : Program) (h : Header) (xs : List Happening) (at : Spot) (x : Sent) (s : Standing (world_at p h xs) x) : Type 0 where
@@ -144,14 +142,10 @@ pub record IsWrite (p : Program) (h : Header) (xs : List Happening) (at : Spot) 
   pub area : is_area_work x.course.call.purpose ≡ true
   pub spot : spot_of_call s.daemon.setting.layout s.told.one ≡ at
 
-or_second : (a b : Bool) → b ≡ true → (a || b) ≡ true
-or_second true b h = refl
-or_second false b h = h
-
 turn_is : (p : Program) (h : Header) (xs : List Happening) (at : Spot) (x : Sent) (s : Standing (world_at p h xs) x) → IsWrite p h xs at x s → (q : Submitted)
     → IsAmong s.daemon.setting s.session at s.told.older q → is_block_read q ≡ true → WasAnsweredBy q s.told.one
 turn_is p h xs at x s k q among reads =
-    answered_before p h xs k.run x s k.work k.area q (subst (λ a. IsAmong s.daemon.setting s.session a s.told.older q) (sym k.spot) among) (or_second _ (is_block_read q) reads)
+    answered_before p h xs k.run x s k.work k.area q (subst (λ a. IsAmong s.daemon.setting s.session a s.told.older q) (sym k.spot) among) (or_right _ (is_block_read q) reads)
 
 at_front : (n a b : ℕ) → a ≤ b → b ≡ n → n + 1 ≤ a → ⊥
 at_front n a b p q r = omega (arith, p, q, r)
@@ -211,13 +205,7 @@ pub record LookFound (w : World) (at : Spot) (x : Sent) (s : Standing w x) (own 
   pub given : blocks_given s.daemon.setting.layout told ≡ Some blocks
   pub block : block_of_host blocks s.session.id ≡ Some own
 
-earlier_made : (a b c : ℕ) → a < b → b ≤ c → a < c
-earlier_made a b c p q = omega (arith, p, q)
-
-both_ways : (a b : ℕ) → a ≤ b → b ≤ a → a ≡ b
-both_ways a b p q = omega (arith, p, q)
-
-found_bytes : (g : Layout) (q : Submitted) (bs : List (Option Block)) → Gave g q bs → (bytes : List ℕ) × (gave q ≡ Some bytes)
+pub found_bytes : (g : Layout) (q : Submitted) (bs : List (Option Block)) → Gave g q bs → (bytes : List ℕ) × (gave q ≡ Some bytes)
 found_bytes g q bs (By_area bytes told is same) = (bytes, told)
 found_bytes g q bs (By_phase bytes told alone is same) = (bytes, told)
 
@@ -280,10 +268,10 @@ look_found p h xs r there x s joined k b f =
     let P : Sent → Bool = is_look_before w at (sender_of x) (step_of x) in
     let passes : P z ≡ true = look_is w at x z looks in
     let y = finds P (all_sent w) z passes inside in
-    let its = found_in P (all_sent w) y.0 y.1 in
+    let its = find_inside P (all_sent w) y.0 y.1 in
     let ylook = look_before w at x y.0 its.1 in
     let ystanding = standing p h xs k.run y.0 its.0 in
-    let less : step_of y.0 < step_of x = earlier_made (step_of y.0) ylook.stamp.step (step_of x) (ystanding.timed.answered ylook.stamp ylook.closed) ylook.early in
+    let less : step_of y.0 < step_of x = lt_then_le (step_of y.0) ylook.stamp.step (step_of x) (ystanding.timed.answered ylook.stamp ylook.closed) ylook.early in
     let up : step_of z ≤ step_of y.0 =
     newest P w x.machine w.step s.machine y.0 l.course s.at s.falls (λ v passed. ap (λ q. q.machine) (look_before w at x v passed).sender) i.0 passes y.1 in
     let down : step_of y.0 ≤ step_of z =

@@ -1,19 +1,21 @@
 -- The last read of blocks before a call, in its trace and among its machine's calls.
 use Rattle.sl_area.specs.Layouts.{Layout}
 use Rattle.sl_course_law.specs.Stamping.{IsCourseOf, Pairwise}
+use Rattle.sl_lease_law.proofs.ComingLaws.{none_there}
 use Rattle.sl_lease_law.specs.Fronts.{Aged, AllAged}
 use Rattle.sl_leases.specs.Leases.{block_of_host, blocks_given, last_blocks}
 use Rattle.sl_moment_law.specs.Orders.{CallsFall}
+use Rattle.sl_plain.proofs.Lists.{contains_cases, contains_first, contains_more}
+use Rattle.sl_plain.proofs.Numbers.{below_next, refl_le}
 use Rattle.sl_resource_history.proofs.Lasting.{kept_calls}
 use Rattle.sl_resource_history.proofs.Latest.{calls_below}
 use Rattle.sl_run.specs.Worlds.{Course, Daemon}
 use Rattle.sl_sector.specs.declared.sector.Block.{Block}
-use Rattle.sl_session_law.proofs.Making.{contains_cases, contains_first, contains_more}
 use Rattle.sl_trace.specs.Traces.{Submitted}
 use Rattle.sl_trace.specs.declared.effects.Call.{Call}
-use Rattle.sl_words.proofs.CaseLaws.{none_some, true_is_false}
-use Rattle.std.proofs.Common.{ap, arith, inl, inr, refl, subst, sym, ◌∙◌}
-use Rattle.std.specs.Prelude.{Bool, Contains, List, None, Option, Some, cond, false, slice_get, true, unwrap_or, [], ℕ, ◌+◌, ◌-◌, ◌<◌, ◌∷◌, ◌≡◌, ◌≤◌}
+use Rattle.sl_words.proofs.CaseLaws.{true_is_false}
+use Rattle.std.proofs.Common.{ap, inl, inr, refl, subst, sym, ◌∙◌}
+use Rattle.std.specs.Prelude.{Bool, Contains, List, None, Option, Some, cond, false, true, [], ℕ, ◌+◌, ◌-◌, ◌∷◌, ◌≡◌, ◌≤◌}
 
 -- A call whose front in the trace had given blocks.
 abbrev pub Gives : Layout → Daemon → ℕ → List Submitted → Course → Type 0
@@ -31,12 +33,6 @@ pub record LastRead (g : Layout) (d : Daemon) (n : ℕ) (whole : List Submitted)
   pub passes : T course.call ≡ true
   pub given : blocks_given g was ≡ Some bs
   pub newest : (e : Course) → Contains cs e → T e.call ≡ true → Gives g d n whole e → e.made.step ≤ course.made.step
-
-no_more : (a b : ℕ) → a < b + 1 → a ≤ b
-no_more a b h = omega (arith, h)
-
-refl_le : (n : ℕ) → n ≤ n
-refl_le n = omega arith
 
 one_more : (g : Layout) (d : Daemon) (n : ℕ) (whole : List Submitted) (T : Call → Bool) (c : Course) (cs : List Course) (bs : List (Option Block))
     → (T c.call ≡ true → Gives g d n whole c → ⊥) → LastRead g d n whole T cs bs → LastRead g d n whole T (c ∷ cs) bs
@@ -75,7 +71,7 @@ gave_by g d n whole T c cs was is rest bs (Some x) gives passes inside aged pair
       given = gives ∙ ap (λ y. Some y) found;
       newest = λ e has p k. elim (contains_cases c cs e has) as (λ z. e.made.step ≤ c.made.step) [
         | inl same ↦ subst (λ (y : Course). y.made.step ≤ c.made.step) same (refl_le c.made.step)
-        | inr more ↦ no_more e.made.step c.made.step (calls_below (c.made.step + 1) cs e fall more)
+        | inr more ↦ below_next e.made.step c.made.step (calls_below (c.made.step + 1) cs e fall more)
       ];
     }
 
@@ -86,9 +82,6 @@ last_by g d n whole T c cs was is rest bs false test inside aged pair fall found
     one_more g d n whole T c cs bs (λ p k. true_is_false (sym p ∙ test)) (later found)
 last_by g d n whole T c cs was is rest bs true test inside aged pair fall found later =
     gave_by g d n whole T c cs was is (last_blocks g rest) bs (blocks_given g was) refl test inside aged pair fall found later
-
-none_there : (own : Block) (k : ℕ) → unwrap_or (slice_get {X = Option Block} [] k) None ≡ Some own → ⊥
-none_there own k is = none_some own is
 
 -- What is last read, where it has a block.
 pub last_read : (g : Layout) (d : Daemon) (n : ℕ) (whole : List Submitted) (T : Call → Bool) (k : ℕ) (cs : List Course) (xs older : List Submitted) (bs : List (Option Block)) (host : ℕ) (own : Block)

@@ -1,9 +1,12 @@
 -- A resource's blocks are registers.
 use Rattle.sl_ballots.specs.Disk.{Wrote}
 use Rattle.sl_leases.specs.Leases.{is_on}
-use Rattle.sl_place_law.proofs.Finding.{found_in, same_number}
+use Rattle.sl_plain.proofs.Lists.{find_inside}
+use Rattle.sl_plain.proofs.Numbers.{trans_lt}
+use Rattle.sl_plain.proofs.Options.{some_there}
 use Rattle.sl_resource_history.proofs.Calls.{IsOwned, IsSentTo, block_at_step, found_at, found_read, owned}
 use Rattle.sl_resource_history.proofs.Doing.{done_closed, made_since}
+use Rattle.sl_resource_history.proofs.Owning.{same_is}
 use Rattle.sl_resource_history.proofs.Shown.{IsShownOf, shown_of, stands_there, writes_is}
 use Rattle.sl_resource_history.proofs.Steps.{call_timed}
 use Rattle.sl_resource_history.specs.Histories.{counts_own, history_block, is_host, landing_shown, no_block, own_before, shown_by, shows_by, shows_whole, step_of_landing}
@@ -14,19 +17,15 @@ use Rattle.sl_run.specs.Safety.{LawfulRun, SessionId, world_at}
 use Rattle.sl_run.specs.Worlds.{Course, Landing, Program, Stamp, World}
 use Rattle.sl_run.specs.declared.header.Header.{Header}
 use Rattle.sl_run.specs.declared.header.ResourceLine.{ResourceLine}
-use Rattle.sl_words.proofs.CaseLaws.{false_is_true, none_some, some_value}
+use Rattle.sl_words.proofs.CaseLaws.{none_some, some_value}
 use Rattle.sl_words.proofs.WordLaws.{and_true, some_is_true}
 use Rattle.sl_words.specs.Words.{some_is}
 use Rattle.std.proofs.Common.{ap, arith, inl, inr, refl, subst, sym, ◌∙◌}
-use Rattle.std.proofs.lemmas.Bool.{ltb-true}
+use Rattle.std.proofs.lemmas.Bool.{eqb-true, ltb-true}
 use Rattle.std.specs.Option.{option_map_or}
 use Rattle.std.specs.Prelude.{Bool, Contains, List, None, Option, Some, false, find, if◌then◌else◌, is_some, nat_lt, option_and_then, option_map, true, ℕ, ◌&&◌, ◌<◌, ◌==◌, ◌≡◌, ◌⊎◌}
 
 -- ---- what the history says of one step
-
-some_of : {A : Type 0} (o : Option A) → is_some o ≡ true → (a : A) × (o ≡ Some a)
-some_of None h = absurd (false_is_true h)
-some_of (Some a) h = (a, refl)
 
 -- A block that the history has.
 pub record IsBlockAt (w : World) (r : ResourceLine) (e : ℕ) : Type 0 where
@@ -37,7 +36,7 @@ pub record IsBlockAt (w : World) (r : ResourceLine) (e : ℕ) : Type 0 where
 
 pub block_at : (w : World) (r : ResourceLine) (e : ℕ) → is_some (sent_at w (spot_of_line r) writes_block e) ≡ true → IsBlockAt w r e
 block_at w r e h =
-    let f = some_of (sent_at w (spot_of_line r) writes_block e) h in
+    let f = some_there (sent_at w (spot_of_line r) writes_block e) h in
     let k = found_at w r writes_block e f.0 f.1 in
     record { sent = f.0; found = f.1; is = k.0; block = k.1 }
 
@@ -52,7 +51,7 @@ pub record IsReadAt (w : World) (r : ResourceLine) (e : ℕ) : Type 0 where
 
 pub read_found : (w : World) (r : ResourceLine) (e : ℕ) → is_some (read_at w (spot_of_line r) r.lockspace e) ≡ true → IsReadAt w r e
 read_found w r e h =
-    let f = some_of (read_at w (spot_of_line r) r.lockspace e) h in
+    let f = some_there (read_at w (spot_of_line r) r.lockspace e) h in
     let k = found_read w r e f.0 f.1 in
     let all = and_true (reads_blocks f.0.course && f.0.course.done) (is_joined_there w r.lockspace (sender_of f.0)) k.1 in
     let two = and_true (reads_blocks f.0.course) f.0.course.done all.0 in
@@ -72,7 +71,7 @@ wrote p h xs run r there k x sent on block host =
 
 -- ---- writes
 
-not_at_first : (p : Program) (h : Header) (xs : List Happening) → LawfulRun p h xs → (r : ResourceLine) → (o : Option Sent) → sent_at (world_at p h xs) (spot_of_line r) writes_block 0 ≡ o
+pub not_at_first : (p : Program) (h : Header) (xs : List Happening) → LawfulRun p h xs → (r : ResourceLine) → (o : Option Sent) → sent_at (world_at p h xs) (spot_of_line r) writes_block 0 ≡ o
     → o ≡ None
 not_at_first p h xs run r None is = refl
 not_at_first p h xs run r (Some x) is =
@@ -153,15 +152,6 @@ whole_shows p h xs run r there k host x t told l i =
           (under (step_of b.sent) l.step i.sampling.step t.step b.after seen (i.sample.before t told).0)
     ]
 
--- Two names of one session.
-pub session_is : (i k : SessionId) → same_session i k ≡ true → i ≡ k
-session_is i k h =
-    let all = and_true (i.machine == k.machine && i.daemon == k.daemon) (i.number == k.number) h in
-    let two = and_true (i.machine == k.machine) (i.daemon == k.daemon) all.0 in
-    ap (λ n. let x : SessionId = record { machine = n; daemon = i.daemon; number = i.number } in x) (same_number i.machine k.machine two.0)
-    ∙ ap (λ n. let x : SessionId = record { machine = k.machine; daemon = n; number = i.number } in x) (same_number i.daemon k.daemon two.1)
-    ∙ ap (λ n. let x : SessionId = record { machine = k.machine; daemon = k.daemon; number = n } in x) (same_number i.number k.number all.1)
-
 -- The block that a session sent last before a step.
 pub record IsBefore (w : World) (r : ResourceLine) (i : SessionId) (step : ℕ) (y : Sent) : Type 0 where
   pub sent : Contains (all_sent w) y
@@ -172,22 +162,19 @@ pub record IsBefore (w : World) (r : ResourceLine) (i : SessionId) (step : ℕ) 
 
 pub found_before : (w : World) (r : ResourceLine) (i : SessionId) (step : ℕ) (y : Sent) → find (is_block_before w (spot_of_line r) i step) (all_sent w) ≡ Some y → IsBefore w r i step y
 found_before w r i step y is =
-    let f = found_in (is_block_before w (spot_of_line r) i step) (all_sent w) y is in
+    let f = find_inside (is_block_before w (spot_of_line r) i step) (all_sent w) y is in
     let all = and_true (nat_lt (step_of y) step && is_on w.layout (spot_of_line r) y.course.call && writes_block y.course) (same_session i (sender_of y)) f.1 in
     let three = and_true (nat_lt (step_of y) step && is_on w.layout (spot_of_line r) y.course.call) (writes_block y.course) all.0 in
     let two = and_true (nat_lt (step_of y) step) (is_on w.layout (spot_of_line r) y.course.call) three.0 in
-    record { sent = f.0; early = ltb-true (step_of y) step two.0; on = two.1; block = three.1; sender = session_is i (sender_of y) all.1 }
-
-less_more : (a b c : ℕ) → a < b → b < c → a < c
-less_more a b c p q = omega (arith, p, q)
+    record { sent = f.0; early = ltb-true (step_of y) step two.0; on = two.1; block = three.1; sender = same_is i (sender_of y) all.1 }
 
 own_shows : (w : World) (r : ResourceLine) (k : ℕ) (x : Sent) (before : ℕ) → step_of x < before → counts_own w (spot_of_line r) x k ≡ true
     → (o : Option Sent) → own_before w (spot_of_line r) x ≡ o → Showing w r k (option_map_or step_of o 0) before
 own_shows w r k x before late counts None is = At_first refl
 own_shows w r k x before late counts (Some y) is =
     let b = found_before w r (sender_of x) (step_of x) y is in
-    let host = same_number (holder_of w (sender_of x)).id k (and_true ((holder_of w (sender_of x)).id == k) (is_some (own_before w (spot_of_line r) x)) counts).0 in
-    Of_sent y b.sent b.on b.block (ap (λ i. (holder_of w i).id) (sym b.sender) ∙ host) refl (less_more (step_of y) (step_of x) before b.early late)
+    let host = eqb-true (holder_of w (sender_of x)).id k (and_true ((holder_of w (sender_of x)).id == k) (is_some (own_before w (spot_of_line r) x)) counts).0 in
+    Of_sent y b.sent b.on b.block (ap (λ i. (holder_of w i).id) (sym b.sender) ∙ host) refl (trans_lt (step_of y) (step_of x) before b.early late)
 
 abbrev shown_if : Bool → Bool → Option Landing → (Landing → ℕ) → Option Sent → ℕ
 shown_if host whole l f own = if host then (if whole then option_map_or f l 0 else option_map_or step_of own 0) else 0

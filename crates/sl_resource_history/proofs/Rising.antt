@@ -7,7 +7,9 @@ use Rattle.sl_front_law.proofs.Having.{contains_right}
 use Rattle.sl_landing_law.proofs.Listing.{one_call}
 use Rattle.sl_landing_law.specs.Landings.{LeftBy}
 use Rattle.sl_lease_law.proofs.NumberLaws.{number_is_place}
-use Rattle.sl_session_law.proofs.Making.{contains_first}
+use Rattle.sl_plain.proofs.Lists.{contains_first, there_is}
+use Rattle.sl_plain.proofs.Numbers.{back_again}
+use Rattle.sl_resource_history.proofs.Registers.{not_at_first}
 use Rattle.sl_sessions.specs.Sessions.{session_numbered}
 use Rattle.sl_leases.specs.Leases.{block_of_record, blocks_given, is_area_read, is_on, spot_of_call}
 use Rattle.sl_place_law.proofs.Areas.{sector_fits}
@@ -15,12 +17,11 @@ use Rattle.sl_place_law.proofs.Finding.{same_read, same_text}
 use Rattle.sl_place_law.proofs.Reading.{digest_is, writes_record}
 use Rattle.sl_place_law.proofs.Seats.{sized_in}
 use Rattle.sl_resource_history.proofs.Above.{block_by, line_aligned, older_look, own_there}
-use Rattle.sl_resource_history.proofs.Calls.{block_at_step, found_at, owned}
-use Rattle.sl_resource_history.proofs.Doing.{made_since}
+use Rattle.sl_resource_history.proofs.Calls.{block_at_step, owned}
 use Rattle.sl_resource_history.proofs.Looking.{IsLook, looked}
 use Rattle.sl_resource_history.proofs.Owning.{spot_is}
 use Rattle.sl_resource_history.proofs.Recalled.{LookFound}
-use Rattle.sl_resource_history.proofs.Showing.{block_in_is, first_fresh}
+use Rattle.sl_resource_history.proofs.Showing.{block_in_is, block_or, first_fresh}
 use Rattle.sl_resource_history.proofs.Shown.{stands_there}
 use Rattle.sl_resource_history.proofs.Standing.{Standing}
 use Rattle.sl_resource_history.specs.Histories.{history_block, is_host, landing_shown, no_block, sector_number, step_of_landing}
@@ -44,15 +45,12 @@ use Rattle.sl_trace.specs.declared.effects.Call.{Call}
 use Rattle.sl_trace.specs.declared.effects.Spot.{Spot}
 use Rattle.sl_words.proofs.CaseLaws.{true_is_false}
 use Rattle.sl_words.proofs.WordLaws.{and_true}
-use Rattle.std.proofs.Common.{ap, arith, inl, inr, refl, subst, sym, ◌∙◌}
+use Rattle.std.proofs.Common.{ap, inl, inr, refl, subst, sym, ◌∙◌}
 use Rattle.std.proofs.lemmas.Bool.{eq-eqb, leb-true}
 use Rattle.std.specs.Option.{option_map_or}
-use Rattle.std.specs.Prelude.{Contains, List, None, Ok, Option, Some, bytes_eq, if◌then◌else◌, is_ok, is_some, length, nat_le, option_and_then, slice_get, suc, true, zero, [], ℕ, ◌*◌, ◌+◌, ◌-◌, ◌<◌, ◌∷◌, ◌≡◌, ◌≤◌}
+use Rattle.std.specs.Prelude.{Contains, List, Ok, Option, Some, bytes_eq, if◌then◌else◌, is_ok, is_some, length, nat_le, option_and_then, slice_get, true, ℕ, ◌*◌, ◌+◌, ◌-◌, ◌<◌, ◌∷◌, ◌≡◌, ◌≤◌}
 
 -- ---- the history's blocks
-
-above_none : (n : ℕ) → n ≡ 0 → 0 < n → ⊥
-above_none n h k = omega (arith, h, k)
 
 -- At a step of a block of the resource the history has that block.
 pub block_of_step : (p : Program) (h : Header) (xs : List Happening) → LawfulRun p h xs → (r : ResourceLine) → Contains h.resources r → (z : Sent) (b : Block)
@@ -62,33 +60,16 @@ block_of_step p h xs run r there z b has on is =
     let w : World = world_at p h xs in
     block_by (sent_at w (spot_of_line r) writes_block (step_of z)) z b (block_at_step p h xs run r there z has on (ap (λ o. is_some o) is)) is
 
-none_at : (p : Program) (h : Header) (xs : List Happening) → LawfulRun p h xs → (r : ResourceLine) (o : Option Sent) → sent_at (world_at p h xs) (spot_of_line r) writes_block 0 ≡ o → o ≡ None
-none_at p h xs run r None is = refl
-none_at p h xs run r (Some x) is =
-    let f = found_at (world_at p h xs) r writes_block 0 x is in
-    absurd (above_none (step_of x) f.0.step_is (made_since p h xs run x (owned p h xs run x f.0.sent)))
-
 -- At step 0 it has none.
 pub block_of_none : (p : Program) (h : Header) (xs : List Happening) → LawfulRun p h xs → (r : ResourceLine) → (history_of_line p h xs r).block 0 ≡ no_block
 block_of_none p h xs run r =
     ap (λ q. option_map_or history_block (option_and_then (λ y. block_of_course y.course) q) no_block)
-    (none_at p h xs run r (sent_at (world_at p h xs) (spot_of_line r) writes_block 0) refl)
+    (not_at_first p h xs run r (sent_at (world_at p h xs) (spot_of_line r) writes_block 0) refl)
 
 -- ---- what a look shows of the own host
 
-there_is : {A : Type 0} (xs : List A) (k : ℕ) → k < length xs → (x : A) × (slice_get xs k ≡ Some x)
-there_is [] k lt = absurd (omega (arith, lt))
-there_is (x ∷ xs) zero lt = (x, refl)
-there_is (x ∷ xs) (suc k) lt = there_is xs k (omega (arith, lt))
-
 host_low : (w : World) (k : ℕ) → is_host w k ≡ true → 1 ≤ k
 host_low w k h = leb-true 1 k (and_true (nat_le 1 k) (nat_le k w.layout.hosts) h).0
-
-back_on : (k : ℕ) → 1 ≤ k → k - 1 + 1 ≡ k
-back_on k h = omega (arith, h)
-
-block_or : (a b : Block) → BlockIs a ≡ BlockIs b → a ≡ b
-block_or a b h = cc
 
 -- What a landing spells is the block that left it, whole.
 left_block : (w : World) (l : Landing) (c : Course) (b own : Block) → IsDigest w.layout.digest → IsSectorSize w.layout.sector → IsRecord (BlockIs b) → LeftBy w l c (BlockIs b)
@@ -140,7 +121,7 @@ pub look_block : (p : Program) (h : Header) (xs : List Happening) (r : ResourceL
 look_block p h xs r there m a d q k c inside call on bs given id host own taken =
     let w : World = world_at p h xs in
     let j : ℕ = id - 1 in
-    let on_id : j + 1 ≡ id = back_on id (host_low w id host) in
+    let on_id : j + 1 ≡ id = back_again id (host_low w id host) in
     let l = looked p h xs m a d q k bs given j own taken in
     let same : l.read.course ≡ c =
     one_call a.calls l.read.course c (each_distinct p h xs k.run m a k.at) l.read.has inside

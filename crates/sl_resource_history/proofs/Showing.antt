@@ -5,10 +5,12 @@ use Rattle.sl_landing_law.proofs.Initial.{initial_is_record}
 use Rattle.sl_law.specs.LawfulArea.{IsAreaRead, IsBlockRead, IsLeaseRead, IsRightRead}
 use Rattle.sl_leases.specs.Leases.{block_of_record, is_area_read, is_on, is_phase_read}
 use Rattle.sl_place_law.proofs.Areas.{IsSized, is_within, sector_fits, sized}
-use Rattle.sl_place_law.proofs.Finding.{same_number, same_read}
+use Rattle.sl_place_law.proofs.Beginnings.{zeros_at}
+use Rattle.sl_place_law.proofs.Finding.{same_read}
 use Rattle.sl_place_law.proofs.Proven.{promised}
 use Rattle.sl_place_law.proofs.Reading.{IsShown, header_is, layout_is, reads_back}
 use Rattle.sl_place_law.proofs.Seats.{sized_in}
+use Rattle.sl_plain.proofs.Numbers.{trans_lt}
 use Rattle.sl_resource_history.proofs.Latest.{sent_as}
 use Rattle.sl_resource_history.proofs.Standing.{sent_there}
 use Rattle.sl_resource_history.specs.Histories.{history_block, no_block}
@@ -21,7 +23,7 @@ use Rattle.sl_run.specs.declared.header.Header.{Header}
 use Rattle.sl_run.specs.declared.header.LockspaceLine.{LockspaceLine}
 use Rattle.sl_run.specs.declared.header.ResourceLine.{ResourceLine}
 use Rattle.sl_sector.proofs.PublicLaws.{spelled_is_read}
-use Rattle.sl_sector.specs.Spelling.{IsDigest, block_in, decoded, magic}
+use Rattle.sl_sector.specs.Spelling.{IsDigest, block_in}
 use Rattle.sl_sector.specs.declared.sector.Block.{Block}
 use Rattle.sl_sector.specs.declared.sector.Rec.TheVariants.{BlockIs, DeltaIs, LeaderIs, RequestIs, ValueIs}
 use Rattle.sl_sector.specs.declared.sector.Rec.{Rec}
@@ -38,13 +40,13 @@ use Rattle.sl_words.proofs.CaseLaws.{false_is_true, none_some, some_value}
 use Rattle.sl_words.proofs.WordLaws.{choose_some}
 use Rattle.sl_words.specs.Words.{choose}
 use Rattle.std.proofs.Common.{ap, arith, inl, inr, refl, subst, sym, ◌∙◌}
-use Rattle.std.proofs.lemmas.Bool.{and_from}
+use Rattle.std.proofs.lemmas.Bool.{and_from, eqb-true}
 use Rattle.std.proofs.lemmas.Slice.Eq.{bytes_eq-Decides}
-use Rattle.std.specs.Prelude.{Bool, Contains, List, None, Ok, Err, Option, Result, Some, bytes_eq, false, find, if◌then◌else◌, nat_lt, option_and_then, replicate, suc, true, zero, [], ℕ, ◌&&◌, ◌*◌, ◌+◌, ◌-◌, ◌/◌, ◌<◌, ◌==◌, ◌≡◌, ◌≤◌}
+use Rattle.std.specs.Prelude.{Bool, Contains, List, None, Ok, Err, Option, Result, Some, bytes_eq, false, find, if◌then◌else◌, nat_lt, option_and_then, replicate, true, [], ℕ, ◌&&◌, ◌*◌, ◌+◌, ◌-◌, ◌/◌, ◌<◌, ◌==◌, ◌≡◌, ◌≤◌}
 
 -- ---- what stood there at first
 
-block_or : (a b : Block) → BlockIs a ≡ BlockIs b → a ≡ b
+pub block_or : (a b : Block) → BlockIs a ≡ BlockIs b → a ≡ b
 block_or a b h = cc
 
 of_lockspace : (h : Header) (l : LockspaceLine) (k : ℕ) (b : Block) → initial_of_lockspace h l k ≡ Some (BlockIs b) → ⊥
@@ -77,14 +79,6 @@ unfolding initial_record
 initial_fresh g h path offset b eq =
     initial_by g h offset b (find (λ l. bytes_eq l.path path && in_area g l.offset offset) h.lockspaces)
     (find (λ r. bytes_eq r.path path && in_area g r.offset offset) h.resources) eq
-
-no_zeros : (digest : List ℕ → List ℕ) (n : ℕ) (r : Rec) → decoded digest (replicate (suc n) 0) ≡ Ok r → ⊥
-unfolding decoded magic
-no_zeros digest n r h = absurd cc
-
-zeros_at : (digest : List ℕ → List ℕ) (n : ℕ) (r : Rec) → 512 ≤ n → decoded digest (replicate n 0) ≡ Ok r → ⊥
-zeros_at digest zero r h e = absurd (omega (arith, h))
-zeros_at digest (suc n) r h e = no_zeros digest n r e
 
 first_by : (digest : List ℕ → List ℕ) (h : Header) (path : List ℕ) (offset : ℕ) (o : Option Rec) (b : Block) → IsDigest digest → IsHeader h
     → initial_record (layout_with digest h.geometry) h path offset ≡ o
@@ -119,7 +113,7 @@ block_in_is host (Ok (DeltaIs e)) b h = absurd (none_some b h)
 block_in_is host (Ok (LeaderIs e)) b h = absurd (none_some b h)
 block_in_is host (Ok (BlockIs e)) b h =
     let c = choose_some (e.host == host) e b h in
-    (ap (λ x. Ok (BlockIs x)) c.1, ap (λ x. x.host) (sym c.1) ∙ same_number e.host host c.0)
+    (ap (λ x. Ok (BlockIs x)) c.1, ap (λ x. x.host) (sym c.1) ∙ eqb-true e.host host c.0)
 block_in_is host (Ok (RequestIs e)) b h = absurd (none_some b h)
 block_in_is host (Ok (ValueIs e)) b h = absurd (none_some b h)
 block_in_is host (Err bad) b h = absurd (none_some b h)
@@ -133,9 +127,6 @@ high_block base s j n e lt most = subst (λ x. base + x * (j + 1 + 1) < base + 1
 -- A block's place is in its area.
 pub block_inside : (g : Layout) (base j : ℕ) → IsSized g → j < g.hosts → in_area g base (block_offset g base (j + 1)) ≡ true
 block_inside g base j z lt = is_within g base (block_offset g base (j + 1)) z (low_block base g.sector j) (high_block base g.sector j g.hosts z.sector lt z.hosts.1)
-
-early_too : (a b c : ℕ) → a < b → b < c → a < c
-early_too a b c p q = omega (arith, p, q)
 
 wrote_it : (c : Course) (b : Block) (r : Rec) → record_of c.call.op ≡ Some r → r ≡ BlockIs b → block_of_course c ≡ Some b
 wrote_it c b r is same = ap (λ o. option_and_then block_of_record o) (is ∙ ap (λ x. Some x) same)
@@ -159,7 +150,7 @@ sector_seen p h xs run at j bytes n b lt spells s =
           (and_from _ _ ((bytes_eq-Decides k.wrote.course.call.path at.path).1 path)
           (subst (λ o. in_area w.layout at.base o ≡ true) offset (block_inside w.layout at.base j z lt)))
           (wrote_it k.wrote.course b k.wrote.record_written k.wrote.writes back)
-          (early_too k.wrote.course.made.step s.landing.step n k.wrote.after.0 s.early)
+          (trans_lt k.wrote.course.made.step s.landing.step n k.wrote.after.0 s.early)
       | inr first ↦
           Never (first_fresh p h xs run at.path (block_offset w.layout at.base (j + 1)) b (subst (λ (y : Landing). record_in w.layout y.bytes ≡ Ok (BlockIs b)) first read))
     ]

@@ -8,11 +8,14 @@ use Rattle.sl_landing_law.specs.Landings.{LeftBy}
 use Rattle.sl_law.specs.LawfulArea.{IsAreaRead, IsBlockRead, IsRightRead, record_offset}
 use Rattle.sl_leases.specs.Leases.{block_of_record, is_area_read, is_block_read, is_on, spot_of_call}
 use Rattle.sl_place_law.proofs.Areas.{IsSized, is_within}
-use Rattle.sl_place_law.proofs.Finding.{equal_numbers, filtered, numbered_inside, place_is, same_number, same_text}
-use Rattle.sl_place_law.proofs.Proven.{promised, resources_hold_leases}
-use Rattle.sl_place_law.proofs.Reading.{call_law, session_inside}
+use Rattle.sl_place_law.proofs.Checks.{behind, placed_in_world, same_block}
+use Rattle.sl_place_law.proofs.Finding.{numbered_inside, place_is, same_text}
+use Rattle.sl_place_law.proofs.Proven.{resources_hold_leases}
+use Rattle.sl_place_law.proofs.Reading.{call_law}
 use Rattle.sl_place_law.proofs.Seats.{sized_in}
 use Rattle.sl_place_law.specs.Homes.{IsLeaseLanding}
+use Rattle.sl_plain.proofs.Lists.{contains_cases, contains_none, kept_inside}
+use Rattle.sl_plain.proofs.Numbers.{at_least_first}
 use Rattle.sl_resource_history.proofs.Calls.{IsOwned, finds_it, made_of, name_is, named, owner_layout, spot_is, text_same, there_sent}
 use Rattle.sl_resource_history.specs.Histories.{is_host, landing_shown, sector_number, step_of_landing}
 use Rattle.sl_resource_history.specs.Promises.{spot_of_line}
@@ -27,7 +30,6 @@ use Rattle.sl_sample_law.specs.Samples.{IsSampleOf, numbered_landing, sector_pla
 use Rattle.sl_sector.specs.declared.sector.Block.{Block}
 use Rattle.sl_sector.specs.declared.sector.Rec.TheVariants.{BlockIs, DeltaIs, LeaderIs, RequestIs, ValueIs}
 use Rattle.sl_sector.specs.declared.sector.Rec.{Rec}
-use Rattle.sl_session_law.proofs.Making.{contains_cases, contains_none}
 use Rattle.sl_session_law.specs.Promises.{made_as}
 use Rattle.sl_sessions.specs.Sessions.{Session}
 use Rattle.sl_trace.specs.Traces.{Setting, Submitted, new_call, record_of, same_place}
@@ -42,7 +44,7 @@ use Rattle.sl_trace.specs.declared.effects.Work.{Work}
 use Rattle.sl_words.proofs.CaseLaws.{false_is_true, none_some, one_value, some_value}
 use Rattle.sl_words.proofs.WordLaws.{and_true}
 use Rattle.std.proofs.Common.{ap, arith, inl, inr, refl, subst, sym, ◌∙◌}
-use Rattle.std.proofs.lemmas.Bool.{and_from, leb-true}
+use Rattle.std.proofs.lemmas.Bool.{and_from, eq-eqb, eqb-true, leb-true}
 use Rattle.std.specs.Option.{option_map_or}
 use Rattle.std.specs.Prelude.{Bool, Contains, IsTrue, List, None, Option, Some, [], bytes_eq, false, find, if◌then◌else◌, is_some, nat_le, option_and_then, slice_get, true, ℕ, ◌*◌, ◌+◌, ◌-◌, ◌<◌, ◌==◌, ◌∷◌, ◌≡◌, ◌≤◌, ◌⊎◌}
 
@@ -52,29 +54,20 @@ use Rattle.std.specs.Prelude.{Bool, Contains, IsTrue, List, None, Option, Some, 
 pub host_range : (w : World) (k : ℕ) → is_host w k ≡ true → (1 ≤ k) × (k ≤ w.layout.hosts)
 host_range w k h = let both = and_true (nat_le 1 k) (nat_le k w.layout.hosts) h in (leb-true 1 k both.0, leb-true k w.layout.hosts both.1)
 
-low_place : (base n : ℕ) → base ≤ base + n
-low_place base n = omega arith
-
 high_place : (base k hosts : ℕ) → k ≤ hosts → hosts ≤ 2000 → base + 512 * (k + 1) < base + 1048576
 high_place base k hosts p q = omega (arith, p, q)
 
 -- The place is in the area.
 pub place_within : (w : World) (base k : ℕ) → IsSized w.layout → is_host w k ≡ true → IsTrue (in_area w.layout base (block_offset w.layout base k))
 place_within w base k z host =
-    is_within w.layout base (block_offset w.layout base k) z (low_place base (w.layout.sector * (k + 1)))
+    is_within w.layout base (block_offset w.layout base k) z (at_least_first base (w.layout.sector * (k + 1)))
     (subst (λ n. base + n * (k + 1) < base + 1048576) (sym z.sector) (high_place base k w.layout.hosts (host_range w k host).1 z.hosts.1))
-
-no_leader : (base k : ℕ) → base ≡ base + 512 * (k + 1) → ⊥
-no_leader base k h = omega (arith, h)
 
 no_request : (base k : ℕ) → 1 ≤ k → base + 512 ≡ base + 512 * (k + 1) → ⊥
 no_request base k low h = omega (arith, low, h)
 
 no_value : (base k hosts : ℕ) → k ≤ hosts → hosts ≤ 2000 → base + 1048576 - 512 ≡ base + 512 * (k + 1) → ⊥
 no_value base k hosts p q h = omega (arith, p, q, h)
-
-same_host : (base i k : ℕ) → base + 512 * (i + 1) ≡ base + 512 * (k + 1) → i ≡ k
-same_host base i k h = omega (arith, h)
 
 -- What is written there is a block of that host.
 record IsBlockOf (s : Session) (k : ℕ) (r : Rec) : Type 0 where
@@ -90,12 +83,12 @@ only_blocks : (st : Setting) (w : World) (s : Session) (at : Spot) (k : ℕ) (r 
     → record_offset st s at r ≡ Some o → o ≡ block_offset w.layout at.base k → IsBlockOf s k r
 only_blocks st w s at k (DeltaIs d) o layout z host placed here = absurd (none_some o placed)
 only_blocks st w s at k (LeaderIs d) o layout z host placed here =
-    absurd (no_leader at.base k (subst (λ n. at.base ≡ at.base + n * (k + 1)) z.sector (some_value (leader_offset at.base) o placed ∙ here)))
+    absurd (behind at.base k (subst (λ n. at.base ≡ at.base + n * (k + 1)) z.sector (some_value (leader_offset at.base) o placed ∙ here)))
 only_blocks st w s at k (BlockIs b) o layout z host placed here =
     record {
       block = b;
       is = refl;
-      host = same_host at.base s.id k
+      host = same_block at.base s.id k
           (subst (λ n. at.base + n * (s.id + 1) ≡ at.base + n * (k + 1)) z.sector
           (ap (λ (g : Layout). block_offset g at.base s.id) (sym layout) ∙ some_value (block_offset st.layout at.base s.id) o placed ∙ here));
     }
@@ -151,14 +144,8 @@ sender_is w r l d =
     let its = d.written.is in
     let both = and_true (c.daemon == i.daemon) (c.call.session == i.number) its.2 in
     ap (session_of_world w)
-    (name_is d.written.machine c.daemon c.call.session i.machine i.daemon i.number (sym its.1) (same_number c.daemon i.daemon both.0) (same_number c.call.session i.number both.1))
+    (name_is d.written.machine c.daemon c.call.session i.machine i.daemon i.number (sym its.1) (eqb-true c.daemon i.daemon both.0) (eqb-true c.call.session i.number both.1))
     ∙ its.0
-
-found_layout : (p : Program) (h : Header) (xs : List Happening) → LawfulRun p h xs → (r : ResourceLine) (l : Landing) → (d : IsLeaseLanding (world_at p h xs) r l)
-    → (setting_in d.written.found).layout ≡ (world_at p h xs).layout
-found_layout p h xs run r l d =
-    let k = session_inside (world_at p h xs) d.written.session d.written.found d.written.is.0 in
-    (promised.of_world p h xs run d.written.session.machine d.written.found.machine d.written.found.daemon k.at k.has).layout
 
 pub block_landing : (p : Program) (h : Header) (xs : List Happening) → LawfulRun p h xs → (r : ResourceLine) → Contains h.resources r → (k : ℕ) → is_host (world_at p h xs) k ≡ true
     → (l : Landing) → Contains (world_at p h xs).landings l → l.path ≡ r.path → l.offset ≡ block_offset (world_at p h xs).layout r.offset k → IsBlockLanding (world_at p h xs) r k l
@@ -168,7 +155,7 @@ block_landing p h xs run r there k host l landed path offset =
     let d : IsLeaseLanding w r l =
     resources_hold_leases p h xs run r there l landed path (subst (λ o. IsTrue (in_area w.layout r.offset o)) (sym offset) (place_within w r.offset k z host)) in
     let b : IsBlockOf d.written.found.session k d.written.wrote.record_written =
-    only_blocks (setting_in d.written.found) w d.written.found.session (spot_of_line r) k d.written.wrote.record_written l.offset (found_layout p h xs run r l d) z host d.placed offset in
+    only_blocks (setting_in d.written.found) w d.written.found.session (spot_of_line r) k d.written.wrote.record_written l.offset (placed_in_world p h xs run r l d) z host d.placed offset in
     let wrote = d.written.wrote in
     let c : Course = wrote.course in
     let m : ℕ = d.written.machine in
@@ -183,7 +170,7 @@ block_landing p h xs run r there k host l landed path offset =
       named = number;
       left = subst (λ x. LeftBy w l c x) b.is wrote.left;
       step = step_is w l m c.call.number wrote.machine c number wrote.at
-          (finds_it (λ (x : Course). x.call.number == c.call.number) wrote.machine.calls c wrote.has (equal_numbers c.call.number c.call.number refl)
+          (finds_it (λ (x : Course). x.call.number == c.call.number) wrote.machine.calls c wrote.has (eq-eqb c.call.number c.call.number refl)
           (λ y inside same. one_call wrote.machine.calls y c (each_distinct p h xs run m wrote.machine wrote.at) inside wrote.has same));
       host = ap (λ o. o.id) (holder_is w (named m c.daemon c.call.session) d.written.found (sender_is w r l d)) ∙ b.host;
       after = wrote.after.0;
@@ -199,7 +186,7 @@ in_history w path offset x there = by (contains_append (landed_at w path offset)
   by : Contains (landed_at w path offset) x ⊎ Contains (first_landing w path offset ∷ []) x
       → (x.path ≡ path) × (x.offset ≡ offset) × (Contains w.landings x ⊎ (x ≡ first_landing w path offset))
   by (inl landed) =
-      let its = filtered (λ (l : Landing). same_place l.path l.offset path offset) w.landings x landed in
+      let its = kept_inside (λ (l : Landing). same_place l.path l.offset path offset) w.landings x landed in
       let place = place_is x.path x.offset path offset its.1 in
       (place.0, place.1, inl its.0)
   by (inr at_first) =

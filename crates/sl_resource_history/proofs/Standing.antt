@@ -3,11 +3,13 @@ use Rattle.sl_course_law.proofs.Matched.{courses_are_calls}
 use Rattle.sl_course_law.specs.Stamping.{IsCourseOf, Pairwise, courses_of}
 use Rattle.sl_front_law.proofs.Having.{contains_flat, contains_right, in_flat}
 use Rattle.sl_law.specs.Lawful.{Lawful}
-use Rattle.sl_moment_law.proofs.Ordering.{machines_ordered}
+use Rattle.sl_moment_law.proofs.Ordering.{calls_more, machines_ordered}
 use Rattle.sl_moment_law.specs.Orders.{CallsFall, IsTimed}
-use Rattle.sl_place_law.proofs.Finding.{equal_numbers, found_in, same_number}
 use Rattle.sl_place_law.proofs.Proven.{promised}
 use Rattle.sl_place_law.proofs.Reading.{IsTraced, owner_of, traced}
+use Rattle.sl_plain.proofs.Lists.{contains_cases, contains_first, contains_map, contains_more, contains_none, find_inside, in_map as mapped, kept}
+use Rattle.sl_plain.proofs.Numbers.{next_is_most}
+use Rattle.sl_plain.proofs.Options.{else_some}
 use Rattle.sl_resource_history.proofs.Latest.{calls_below, place_above, sent_as}
 use Rattle.sl_resource_history.specs.Sending.{Sent, all_sent}
 use Rattle.sl_run.specs.Runs.{Happening}
@@ -15,35 +17,18 @@ use Rattle.sl_run.specs.Safety.{LawfulRun, world_at}
 use Rattle.sl_run.specs.Worlds.{Course, Daemon, Machine, Program, World, daemon_numbered, daemons_on, machine_at}
 use Rattle.sl_run.specs.declared.header.Header.{Header}
 use Rattle.sl_run_law.proofs.Walking.{index}
-use Rattle.sl_session_law.proofs.Making.{contains_cases, contains_first, contains_more, contains_none}
-use Rattle.sl_session_law.proofs.Naming.{kept}
 use Rattle.sl_sessions.specs.Sessions.{Session, session_numbered}
 use Rattle.sl_trace.specs.Traces.{submitted}
-use Rattle.sl_words.proofs.CaseLaws.{none_some, some_value, true_is_false}
+use Rattle.sl_words.proofs.CaseLaws.{none_some, some_value}
 use Rattle.std.proofs.Common.{ap, arith, inl, inr, refl, subst, sym, tests, ◌∙◌}
+use Rattle.std.proofs.lemmas.Bool.{eq-eqb, eqb-true}
 use Rattle.std.specs.List.{enumerate_from}
-use Rattle.std.specs.Prelude.{Bool, Contains, List, None, Option, Some, cond, false, filter, if◌then◌else◌, map, slice_get, suc, true, zero, [], ℕ, ◌++◌, ◌+◌, ◌-◌, ◌<◌, ◌==◌, ◌∷◌, ◌≡◌, ◌≤◌}
+use Rattle.std.specs.Prelude.{Bool, Contains, List, Some, cond, false, filter, map, slice_get, suc, true, zero, [], ℕ, ◌++◌, ◌+◌, ◌-◌, ◌<◌, ◌==◌, ◌∷◌, ◌≡◌}
 
 -- ---- which machine
 
 abbrev calls_from : ℕ × Machine → List Sent
 calls_from p = map (λ c. sent_as p.0 c) p.1.calls
-
-pub mapped : {A B : Type 0} (f : A → B) (xs : List A) (b : B) → Contains (map f xs) b → (a : A) × Contains xs a × (f a ≡ b)
-mapped f [] b has = absurd (contains_none b has)
-mapped {A} {B} f (x ∷ xs) b has =
-    elim (contains_cases (f x) (map f xs) b has) as (λ z. (a : A) × Contains (x ∷ xs) a × (f a ≡ b)) [
-      | inl same ↦ (x, contains_first x xs, same)
-      | inr more ↦ let r = mapped f xs b more in (r.0, contains_more x xs r.0 r.1, r.2)
-    ]
-
-pub in_map : {A B : Type 0} (f : A → B) (xs : List A) (a : A) → Contains xs a → Contains (map f xs) (f a)
-in_map f [] a has = absurd (contains_none a has)
-in_map {A} {B} f (x ∷ xs) a has =
-    elim (contains_cases x xs a has) as (λ z. Contains (f x ∷ map f xs) (f a)) [
-      | inl same ↦ subst (λ y. Contains (f x ∷ map f xs) (f y)) same (contains_first (f x) (map f xs))
-      | inr more ↦ contains_more (f x) (map f xs) (f a) (in_map f xs a more)
-    ]
 
 record IsPlace (k : ℕ) (ms : List Machine) (p : ℕ × Machine) : Type 0 where
   place : ℕ
@@ -70,10 +55,6 @@ some_number i m h = grind (arith, tests)
 less_one : (i m : ℕ) → 1 + i ≡ m → i ≡ m - 1
 less_one i m h = omega (arith, h)
 
-at_by : (b : Bool) (o : Option Machine) (a : Machine) → b ≡ false → o ≡ Some a → (if b then None else o) ≡ Some a
-at_by true o a h k = absurd (true_is_false h)
-at_by false o a h k = k
-
 pub machine_of : (w : World) (x : Sent) → Contains (all_sent w) x → (a : Machine) × (machine_at w x.machine ≡ Some a) × Contains a.calls x.course
 machine_of w x has =
     let f = contains_flat calls_from (enumerate_from 1 w.machines) x has in
@@ -81,7 +62,7 @@ machine_of w x has =
     let i = enumerated 1 w.machines q f.1 in
     let c = mapped (λ c. sent_as q.0 c) q.1.calls x f.2 in
     let at : machine_at w q.0 ≡ Some q.1 =
-    at_by (q.0 == 0) (slice_get w.machines (q.0 - 1)) q.1 (some_number i.place q.0 i.number)
+    else_some (q.0 == 0) (slice_get w.machines (q.0 - 1)) q.1 (some_number i.place q.0 i.number)
     (ap (λ n. slice_get w.machines n) (sym (less_one i.place q.0 i.number)) ∙ i.there) in
     (q.1, ap (λ y. machine_at w y.machine) (sym c.2) ∙ at, subst (λ (y : Course). Contains q.1.calls y) (ap (λ y. y.course) c.2) c.1)
 
@@ -98,7 +79,7 @@ sent_there w m a c at has =
     let i = index w m a at in
     in_flat calls_from (enumerate_from 1 w.machines) (m, a) (sent_as m c)
     (subst (λ n. Contains (enumerate_from 1 w.machines) (n, a)) (place_above m i.0) (placed 1 (m - 1) w.machines a i.1))
-    (in_map (λ x. sent_as m x) a.calls c has)
+    (contains_map (λ x. sent_as m x) a.calls c has)
 
 -- ---- lists in parts
 
@@ -136,19 +117,9 @@ pair_parts R (z ∷ newer) x older (y ∷ ys) h =
 below_too : (a b n : ℕ) → a < b + 1 → b < n → a < n
 below_too a b n h k = omega (arith, h, k)
 
-up_one : (b n : ℕ) → b < n → b + 1 ≤ n
-up_one b n h = omega (arith, h)
-
-below_more : (a n k : ℕ) → a < n → n ≤ k → a < k
-below_more a n k p q = omega (arith, p, q)
-
-falls_more : (n k : ℕ) (cs : List Course) → n ≤ k → CallsFall n cs → CallsFall k cs
-falls_more n k [] le h = tt
-falls_more n k (c ∷ cs) le h = (below_more c.made.step n k h.0 le, h.1, h.2)
-
 fall_kept_by : (n : ℕ) (c : Course) (rest : List Course) (b : Bool) → (c.made.step < n) → IsTimed c → CallsFall (c.made.step + 1) rest → CallsFall n (cond b (c ∷ rest) rest)
 fall_kept_by n c rest true lt is h = (lt, is, h)
-fall_kept_by n c rest false lt is h = falls_more (c.made.step + 1) n rest (up_one c.made.step n lt) h
+fall_kept_by n c rest false lt is h = calls_more (c.made.step + 1) n rest (next_is_most c.made.step n lt) h
 
 fall_kept : (p : Course → Bool) (n : ℕ) (cs : List Course) → CallsFall n cs → CallsFall n (filter p cs)
 fall_kept p n [] h = tt
@@ -208,9 +179,9 @@ standing p h xs run x has =
     let m = machine_of w x has in
     let t : IsTraced m.0 x.course = traced promised p h xs run x.machine m.0 x.course m.1 m.2 in
     let number : t.daemon.number ≡ x.course.daemon =
-    same_number t.daemon.number x.course.daemon (found_in (λ (d : Daemon). d.number == x.course.daemon) (daemons_on m.0) t.daemon t.numbered).1 in
+    eqb-true t.daemon.number x.course.daemon (find_inside (λ (d : Daemon). d.number == x.course.daemon) (daemons_on m.0) t.daemon t.numbered).1 in
     let mine : Contains (courses_of m.0 t.daemon.number) x.course =
-    kept (λ (c : Course). c.daemon == t.daemon.number) m.0.calls x.course (equal_numbers x.course.daemon t.daemon.number (sym number)) m.2 in
+    kept (λ (c : Course). c.daemon == t.daemon.number) m.0.calls x.course (eq-eqb x.course.daemon t.daemon.number (sym number)) m.2 in
     let q = parts (courses_of m.0 t.daemon.number) x.course mine in
     let falls : CallsFall w.step m.0.calls = (machines_ordered p h xs run x.machine m.0 m.1).calls in
     let fall : CallsFall w.step (q.newer ++ x.course ∷ q.older) =

@@ -5,8 +5,10 @@ use Rattle.sl_front_law.proofs.Having.{contains_left, in_flat}
 use Rattle.sl_landing_law.proofs.Making.{run_made_before}
 use Rattle.sl_landing_law.proofs.Passing.{first_later, world_first, world_keeps, world_then}
 use Rattle.sl_landing_law.proofs.Stepping.{came}
-use Rattle.sl_moment_law.proofs.Ordering.{machines_ordered}
-use Rattle.sl_moment_law.specs.Orders.{CallsFall, Fall, IsTimed, life_of}
+use Rattle.sl_moment_law.proofs.Ordering.{fall_rest, fall_step, machines_ordered}
+use Rattle.sl_moment_law.specs.Orders.{Fall, IsTimed, life_of}
+use Rattle.sl_plain.proofs.Lists.{contains_cases, contains_none}
+use Rattle.sl_resource_history.proofs.Owning.{timed_in}
 use Rattle.sl_run.specs.Events.{may_happen}
 use Rattle.sl_run.specs.Events.{machine_of}
 use Rattle.sl_run.specs.Runs.{Happening}
@@ -15,11 +17,11 @@ use Rattle.sl_run.specs.Worlds.{Course, Daemon, Machine, Program, Stamp, World, 
 use Rattle.sl_run.specs.declared.event.Event.{Event}
 use Rattle.sl_run.specs.declared.header.Header.{Header}
 use Rattle.sl_run_law.proofs.Beginnings.{begins_new}
-use Rattle.sl_session_law.proofs.Making.{contains_cases, contains_first, contains_more, contains_none}
 use Rattle.sl_trace.specs.declared.effects.Effects.{Effects}
+use Rattle.sl_watchdog_law.proofs.Stamps.{stamp_there}
 use Rattle.sl_words.proofs.CaseLaws.{none_some, some_value}
 use Rattle.std.proofs.Common.{ap, arith, inl, inr, refl, subst, sym, tests, ◌∙◌}
-use Rattle.std.specs.Prelude.{Bool, Contains, List, Option, Some, [], false, flat_map, length, true, ℕ, ◌++◌, ◌+◌, ◌<◌, ◌==◌, ◌∷◌, ◌≡◌, ◌≤◌, ◌⊎◌}
+use Rattle.std.specs.Prelude.{Bool, Contains, List, Option, Some, [], false, flat_map, length, true, ℕ, ◌++◌, ◌<◌, ◌==◌, ◌∷◌, ◌≡◌, ◌⊎◌}
 
 -- ---- machines
 
@@ -69,27 +71,6 @@ calls_apart p h xs run =
 
 -- ---- daemons
 
-fall_more : (n k : ℕ) (ss : List Stamp) → n ≤ k → Fall n ss → Fall k ss
-fall_more n k [] le h = tt
-fall_more n k (s ∷ ss) le h = (omega (arith, h.0), h.1)
-
--- What stands behind came before.
-pub fall_step : (n : ℕ) (ss : List Stamp) (s : Stamp) → Fall n ss → Contains ss s → s.step < n
-fall_step n [] s h has = absurd (contains_none s has)
-fall_step n (t ∷ ss) s h has =
-    elim (contains_cases t ss s has) as (λ z. s.step < n) [
-      | inl e ↦ subst (λ (x : Stamp). x.step < n) e h.0
-      | inr more ↦ omega (arith, h.0, fall_step t.step ss s h.1 more)
-    ]
-
-fall_rest : (n : ℕ) (ss ts : List Stamp) → Fall n (ss ++ ts) → Fall n ts
-fall_rest n [] ts h = h
-fall_rest n (s ∷ ss) ts h = fall_more s.step n ts (omega (arith, h.0)) (fall_rest s.step ss ts h.1)
-
-pub fall_front : (n : ℕ) (ss ts : List Stamp) → Fall n (ss ++ ts) → Fall n ss
-fall_front n [] ts h = tt
-fall_front n (s ∷ ss) ts h = (h.0, fall_front s.step ss ts h.1)
-
 -- Of two lists in one that falls the first is later.
 pub fall_apart : (n : ℕ) (ss ts : List Stamp) (s t : Stamp) → Fall n (ss ++ ts) → Contains ss s → Contains ts t → t.step < s.step
 fall_apart n [] ts s t h has too = absurd (contains_none s has)
@@ -122,16 +103,6 @@ one_life n (x ∷ ds) d e s t h has too p q same = by (λ here there. one_life n
 
 -- ---- entries
 
-stamp_by : (x : Stamp) (ss : List Stamp) (i : ℕ) (s : Stamp) (b : Bool) → elim b as (λ z. Option Stamp) [ true ↦ Some x | false ↦ stamp_in ss i ] ≡ Some s
-    → (stamp_in ss i ≡ Some s → Contains ss s) → Contains (x ∷ ss) s
-stamp_by x ss i s true at rest = subst (λ y. Contains (x ∷ ss) y) (some_value x s at) (contains_first x ss)
-stamp_by x ss i s false at rest = contains_more x ss s (rest at)
-
--- The stamp of an entry is one of the daemon's.
-pub stamp_there : (ss : List Stamp) (i : ℕ) (s : Stamp) → stamp_in ss i ≡ Some s → Contains ss s
-stamp_there [] i s at = absurd (none_some s at)
-stamp_there (x ∷ ss) i s at = stamp_by x ss i s (i == length ss) at (λ old. stamp_there ss i s old)
-
 same_index : (x : Stamp) (ss : List Stamp) (i j : ℕ) (s t : Stamp) (b c : Bool) → (i == length ss) ≡ b → (j == length ss) ≡ c → Fall x.step ss
     → elim b as (λ z. Option Stamp) [ true ↦ Some x | false ↦ stamp_in ss i ] ≡ Some s
     → elim c as (λ z. Option Stamp) [ true ↦ Some x | false ↦ stamp_in ss j ] ≡ Some t → s.step ≡ t.step
@@ -157,14 +128,6 @@ one_daemon p h xs run m a d e at has too i j s t one two same =
     (contains_left d.stamps (d.begun ∷ []) s (stamp_there d.stamps i s one)) (contains_left e.stamps (e.begun ∷ []) t (stamp_there e.stamps j t two)) same
 
 -- ---- calls are timed
-
-timed_in : (n : ℕ) (cs : List Course) (c : Course) → CallsFall n cs → Contains cs c → IsTimed c
-timed_in n [] c h has = absurd (contains_none c has)
-timed_in n (x ∷ cs) c h has =
-    elim (contains_cases x cs c has) as (λ z. IsTimed c) [
-      | inl e ↦ subst (λ y. IsTimed y) e h.1
-      | inr more ↦ timed_in (x.made.step + 1) cs c h.2 more
-    ]
 
 -- A call is sampled and answered after it was made.
 pub call_timed : (p : Program) (h : Header) (xs : List Happening) → LawfulRun p h xs → (m : ℕ) (a : Machine) (c : Course) → machine_at (world_at p h xs) m ≡ Some a

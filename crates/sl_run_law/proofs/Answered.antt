@@ -1,4 +1,5 @@
 -- An answer once given stays.
+use Rattle.sl_plain.proofs.Options.{none_is}
 use Rattle.sl_run.specs.Events.{change_call, fated, first_change, happens, input_at, input_of, machine_of, next_step, ok_input, sampled_more, sectors_left, take_step, take_steps, done_input, rest_sampled}
 use Rattle.sl_run.specs.Runs.{Happening, world_after}
 use Rattle.sl_run.specs.Worlds.{Course, Dropped, Landed, Machine, Stamp, Torn, World, flight_of, is_open, is_of_running, machine_at, may_land, stamp_now}
@@ -19,7 +20,7 @@ use Rattle.sl_trace.specs.declared.effects.Op.{Op}
 use Rattle.sl_trace.specs.declared.input.Answer.TheVariants.{Failed, Read, Written}
 use Rattle.sl_trace.specs.declared.input.Input.TheVariants.{Answer as Told, Exit, Line, Spawned, Wake}
 use Rattle.sl_trace.specs.declared.input.Input.{Input}
-use Rattle.sl_words.proofs.CaseLaws.{false_is_true, none_some, some_value}
+use Rattle.sl_words.proofs.CaseLaws.{none_some, some_value}
 use Rattle.sl_words.proofs.WordLaws.{and_true, choose_some}
 use Rattle.sl_words.specs.Words.{choose}
 use Rattle.std.proofs.Common.{ap, refl, subst, sym, ◌∙◌}
@@ -36,17 +37,13 @@ answer_further c d e g h = record { answered = λ s x. h.answered s (g.answered 
 abbrev NoneAnswered : ℕ → List Course → Type 0
 NoneAnswered n cs = Every (λ c. (c.call.number == n) ≡ true → c.answered ≡ None) cs
 
-is_nothing : (o : Option Stamp) → is_none o ≡ true → o ≡ None
-is_nothing None h = refl
-is_nothing (Some s) h = absurd (false_is_true h)
-
 -- The call in flight isn't answered, and has its number.
-flight_waits : (a : Machine) (c : ℕ) (f : Course) → flight_of a c ≡ Some f → (f.call.number ≡ c) × (f.answered ≡ None)
+pub flight_waits : (a : Machine) (c : ℕ) (f : Course) → flight_of a c ≡ Some f → (f.call.number ≡ c) × (f.answered ≡ None)
 flight_waits a c f h =
     let p : Course → Bool = λ x. x.call.number == c && is_open a x in
     let y = found p (λ x. Unit {0}) a.calls f h (every_of (λ x. Unit {0}) a.calls (λ x. tt)) in
     let q = and_true (f.call.number == c) (is_open a f) y.test in
-    ((Decides-eqb f.call.number c).0 q.0, is_nothing f.answered (and_true (is_none f.answered) (is_of_running a f || may_land f) q.1).0)
+    ((Decides-eqb f.call.number c).0 q.0, none_is f.answered (and_true (is_none f.answered) (is_of_running a f || may_land f) q.1).0)
 
 none_answered : (a : Machine) (c : ℕ) (f : Course) → flight_of a c ≡ Some f → AreDistinct a.calls → NoneAnswered c a.calls
 none_answered a c f h d = numbered (is_open a) c (λ x. x.answered ≡ None) a.calls f h d (flight_waits a c f h).1

@@ -1,6 +1,7 @@
 -- The machines at moment 0.
 use Rattle.sl_area.specs.Layouts.{Layout, layout_with}
-use Rattle.sl_run.specs.Worlds.{Daemon, Machine, Program, machine_at, machine_of_header, world_with}
+use Rattle.sl_plain.proofs.Options.{not_some}
+use Rattle.sl_run.specs.Worlds.{Machine, Program, machine_at, machine_of_header, world_with}
 use Rattle.sl_run.specs.declared.header.Header.{Header}
 use Rattle.sl_run_law.proofs.Walking.{index}
 use Rattle.sl_run_law.specs.Beginnings.{IsNew}
@@ -8,17 +9,13 @@ use Rattle.sl_run_law.specs.Clocks.{IsCounted}
 use Rattle.sl_words.proofs.CaseLaws.{none_some, some_value, true_is_false}
 use Rattle.std.proofs.Common.{ap, refl, subst}
 use Rattle.std.specs.List.{range_with_len}
-use Rattle.std.specs.Prelude.{None, Option, Some, false, is_some, length, map, slice_get, suc, zero, ℕ, ◌+◌, ◌-◌, ◌≡◌}
-
-none_runs : (o : Option Daemon) → is_some o ≡ false → o ≡ None
-none_runs None h = refl
-none_runs (Some d) h = absurd (true_is_false h)
+use Rattle.std.specs.Prelude.{Some, length, map, slice_get, suc, zero, ℕ, ◌+◌, ◌-◌, ◌≡◌}
 
 new_machine : (p : Program) (g : Layout) (h : Header) (m : ℕ) → IsNew (machine_of_header p g h m)
 unfolding machine_of_header
 new_machine p g h m =
     record {
-      settled = record { down = λ e. absurd (true_is_false e); unused = λ e. none_runs _ e };
+      settled = record { down = λ e. absurd (true_is_false e); unused = λ e. not_some _ e };
       calls = refl;
     }
 

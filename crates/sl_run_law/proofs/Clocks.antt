@@ -14,12 +14,11 @@ use Rattle.sl_run_law.specs.Machines.{EachMachine}
 use Rattle.sl_trace.specs.declared.effects.Effects.{Effects}
 use Rattle.sl_trace.specs.declared.input.Input.TheVariants.{Answer as Told, Exit, Line, Spawned, Wake}
 use Rattle.sl_trace.specs.declared.input.Input.{Input}
-use Rattle.sl_words.proofs.CaseLaws.{true_is_false}
 use Rattle.sl_words.proofs.WordLaws.{and_true}
 use Rattle.std.proofs.Common.{ap, arith, refl, subst, sym, ◌∙◌}
-use Rattle.std.proofs.lemmas.Bool.Decides.{nat_tests}
+use Rattle.std.proofs.lemmas.Bool.{leb-true, not-false, or_parts}
 use Rattle.std.specs.List.{list_any, range_with_len}
-use Rattle.std.specs.Prelude.{Bool, List, Option, Some, false, nat_le, not, suc, true, zero, [], ℕ, ◌*◌, ◌++◌, ◌+◌, ◌-◌, ◌<◌, ◌∷◌, ◌≡◌, ◌≤◌, ◌||◌}
+use Rattle.std.specs.Prelude.{Bool, List, Option, Some, false, nat_le, not, suc, true, zero, [], ℕ, ◌*◌, ◌++◌, ◌+◌, ◌-◌, ◌<◌, ◌∷◌, ◌≡◌, ◌≤◌}
 
 -- ---- arithmetic
 
@@ -54,28 +53,20 @@ at_none rho d a b none h = subst (λ n. Drifts rho n a b) (sym none) (drifts_non
 
 -- ---- the guard
 
-or_false : (a b : Bool) → (a || b) ≡ false → (a ≡ false) × (b ≡ false)
-or_false true b h = absurd (true_is_false h)
-or_false false b h = (refl, h)
-
-not_false : (b : Bool) → not b ≡ false → b ≡ true
-not_false true h = refl
-not_false false h = absurd (true_is_false h)
-
 none_in_range : (p : ℕ → Bool) (k n i : ℕ) → list_any p (range_with_len k n) ≡ false → i < n → p (k + i) ≡ false
 none_in_range p k zero i h below = absurd (omega (arith, below))
 none_in_range p k (suc n) zero h below =
     let same : k ≡ k + 0 = omega arith in
-    subst (λ j. p j ≡ false) same (or_false (p k) (list_any p (range_with_len (k + 1) n)) h).0
+    subst (λ j. p j ≡ false) same (or_parts (p k) (list_any p (range_with_len (k + 1) n)) h).0
 none_in_range p k (suc n) (suc i) h below =
     let same : (k + 1) + i ≡ k + suc i = omega arith in
-    subst (λ j. p j ≡ false) same (none_in_range p (k + 1) n i (or_false (p k) (list_any p (range_with_len (k + 1) n)) h).1 (omega (arith, below)))
+    subst (λ j. p j ≡ false) same (none_in_range p (k + 1) n i (or_parts (p k) (list_any p (range_with_len (k + 1) n)) h).1 (omega (arith, below)))
 
 grows_within : (w : World) (d : ℕ) (growths : Option (List ℕ)) → may_happen w (Pass d growths) ≡ true → (i : ℕ) → i < w.header.machines
     → drifts w.header.timing.rho d (growth_of d growths (1 + i)) ≡ true
 unfolding event_tests pass_tests
 grows_within w d growths may i below =
-    not_false (drifts w.header.timing.rho d (growth_of d growths (1 + i)))
+    not-false (drifts w.header.timing.rho d (growth_of d growths (1 + i)))
     (none_in_range (λ m. not (drifts w.header.timing.rho d (growth_of d growths m))) 1 w.header.machines i (passes w (Pass d growths) may).1.0 below)
 
 low_sum : (x y g p : ℕ) → y ≡ x + g → p ≤ g → x + p ≤ y
@@ -84,14 +75,11 @@ low_sum x y g p h k = omega (arith, h, k)
 high_sum : (x y g p : ℕ) → y ≡ x + g → g ≤ p → y ≤ x + p
 high_sum x y g p h k = omega (arith, h, k)
 
-is_most : (x y : ℕ) → nat_le x y ≡ true → x ≤ y
-is_most x y h = grind (arith, nat_tests)
-
 drifts_by : (rho d g : ℕ) (a b : Machine) → b.clock ≡ a.clock + g → drifts rho d g ≡ true → Drifts rho d a b
 drifts_by rho d g a b is h =
     let p = and_true (nat_le ((1000 - rho) * d) g) (nat_le g ((1000 + rho) * d)) h in
-    let low : (1000 - rho) * d ≤ g = is_most ((1000 - rho) * d) g p.0 in
-    let high : g ≤ (1000 + rho) * d = is_most g ((1000 + rho) * d) p.1 in
+    let low : (1000 - rho) * d ≤ g = leb-true ((1000 - rho) * d) g p.0 in
+    let high : g ≤ (1000 + rho) * d = leb-true g ((1000 + rho) * d) p.1 in
     record { least = low_sum a.clock b.clock g ((1000 - rho) * d) is low; most = high_sum a.clock b.clock g ((1000 + rho) * d) is high }
 
 passes_so : (w : World) (d : ℕ) (growths : Option (List ℕ)) → IsCounted w → may_happen w (Pass d growths) ≡ true → (m : ℕ) (a : Machine) → machine_at w m ≡ Some a

@@ -1,4 +1,6 @@
 -- What an event leaves of a world: a walk over all of them.
+use Rattle.sl_plain.proofs.Lists.{set_length}
+use Rattle.sl_plain.proofs.Numbers.{plus_zero}
 use Rattle.sl_run.specs.Events.{add_landing, after_crash, after_effects, after_pass, after_reset, after_restart, after_start, after_step, after_test, change_call, complete, fated, first_change, flight_at, happens, land_whole, next_input, next_step, passed, sampled_more, sectors_left, take_step, take_steps, torn_bytes, write_bytes, machine_of}
 use Rattle.sl_run.specs.Runs.{Happening, world_after}
 use Rattle.sl_run.specs.Worlds.{Course, Dropped, Landed, Machine, Torn, World, change_machine, is_in_flight, is_write_course, machine_at, stamp_now}
@@ -12,7 +14,7 @@ use Rattle.std.proofs.Common.{ap, arith, refl, subst, sym, ◌∙◌}
 use Rattle.std.proofs.lemmas.List.{append_assoc}
 use Rattle.std.specs.List.{enumerate_from}
 use Rattle.std.specs.Option.{option_map_or}
-use Rattle.std.specs.Prelude.{Bool, List, None, Option, Some, false, length, map, slice_set, suc, true, zero, [], ℕ, ◌++◌, ◌+◌, ◌-◌, ◌∷◌, ◌≡◌}
+use Rattle.std.specs.Prelude.{Bool, List, None, Option, Some, false, length, map, slice_set, suc, true, [], ℕ, ◌++◌, ◌+◌, ◌-◌, ◌∷◌, ◌≡◌}
 
 -- ---- one change after another
 
@@ -24,9 +26,6 @@ grown_again a b c g h = record { newer = h.newer ++ g.newer; same = h.same ∙ a
 
 sum_of : (a b c d e : ℕ) → b ≡ a + d → c ≡ b + e → c ≡ a + (d + e)
 sum_of a b c d e h k = omega (arith, h, k)
-
-plus_zero : (n : ℕ) → n ≡ n + 0
-plus_zero n = omega arith
 
 pub stays : (w : World) → Goes 0 0 w w
 stays w =
@@ -53,11 +52,6 @@ goes_again d e k n w v u g h =
     }
 
 -- ---- what one change leaves
-
-set_length : (ms : List Machine) (i : ℕ) (a : Machine) → length (slice_set ms i a) ≡ length ms
-set_length [] i a = refl
-set_length (m ∷ ms) zero a = refl
-set_length (m ∷ ms) (suc i) a = ap (λ n. suc n) (set_length ms i a)
 
 changed_by : (m : ℕ) (f : Machine → Machine) (w : World) (o : Option Machine)
     → Goes 0 0 w (elim o as (λ x. World) [ None ↦ w | Some a ↦ record w { machines = slice_set w.machines (m - 1) (f a) } ])

@@ -7,6 +7,7 @@ use Rattle.sl_run.specs.declared.event.Refusal.TheVariants.{MissingCall, Missing
 use Rattle.sl_run.specs.declared.event.Refusal.{Refusal}
 use Rattle.sl_words.proofs.CaseLaws.{false_is_true, true_is_false}
 use Rattle.std.proofs.Common.{refl, subst}
+use Rattle.std.proofs.lemmas.Bool.{not-false}
 use Rattle.std.specs.Prelude.{Bool, List, None, Option, Some, false, is_none, not, true, [], ℕ, ◌||◌, ◌∷◌, ◌≡◌}
 
 -- None of the tests holds.
@@ -44,10 +45,6 @@ no_course a c p g h n =
       | Some x ↦ elim (p x) as (λ y. List (Bool × Refusal)) [ false ↦ (true, MissingCall) ∷ [] | true ↦ g x ]
     ])) h n).0
 
-not_false : (b : Bool) → not b ≡ false → b ≡ true
-not_false true h = refl
-not_false false h = absurd (true_is_false h)
-
 no_or : (a b : Bool) → (a || b) ≡ false → b ≡ false
 no_or true b h = absurd (true_is_false h)
 no_or false b h = h
@@ -64,7 +61,7 @@ pub starts : (w : World) (m : ℕ) (name : List ℕ) (a : Machine) → may_happe
 unfolding event_tests
 starts w m name a may h =
     let n = on_this w m _ a h (passes w (StartDaemon m name) may) in
-    (not_false a.up n.0, n.1.0)
+    (not-false a.up n.0, n.1.0)
 
 pub restarts : (w : World) (m : ℕ) (a : Machine) → may_happen w (Restart m) ≡ true → machine_at w m ≡ Some a → a.up ≡ false
 unfolding event_tests
@@ -75,7 +72,7 @@ pub lands : (w : World) (m c : ℕ) (a : Machine) (f : Course) → may_happen w 
 unfolding event_tests
 lands w m c a f may h k =
     let g : Course → List (Bool × Refusal) = λ x. (not (is_placed w x.call), MissingPlace) ∷ (not (is_in_flight x.fate), MissingFlight) ∷ [] in
-    not_false (is_in_flight f.fate) (on_course a c is_write_course g f k (on_this w m (λ b. on_flight b c is_write_course g) a h (passes w (Land m c) may))).1.0
+    not-false (is_in_flight f.fate) (on_course a c is_write_course g f k (on_this w m (λ b. on_flight b c is_write_course g) a h (passes w (Land m c) may))).1.0
 
 pub tears : (w : World) (m c k : ℕ) (bytes : List ℕ) (a : Machine) (f : Course) → may_happen w (Tear m c k bytes) ≡ true → machine_at w m ≡ Some a
     → flight_of a c ≡ Some f → is_in_flight f.fate ≡ true
@@ -83,7 +80,7 @@ unfolding event_tests
 tears w m c k bytes a f may h j =
     let g : Course → List (Bool × Refusal) =
     λ x. (not (is_placed w x.call), MissingPlace) ∷ (not (is_in_flight x.fate), MissingFlight) ∷ (spells_something w (torn_bytes w x.call k bytes), PremiseTorn) ∷ [] in
-    not_false (is_in_flight f.fate) (on_course a c is_write_course g f j (on_this w m (λ b. on_flight b c is_write_course g) a h (passes w (Tear m c k bytes) may))).1.0
+    not-false (is_in_flight f.fate) (on_course a c is_write_course g f j (on_this w m (λ b. on_flight b c is_write_course g) a h (passes w (Tear m c k bytes) may))).1.0
 
 pub drops : (w : World) (m c : ℕ) (a : Machine) → may_happen w (DropWrite m c) ≡ true → machine_at w m ≡ Some a
     → (f : Course) × (flight_of a c ≡ Some f) × (is_in_flight f.fate ≡ true)
@@ -92,4 +89,4 @@ drops w m c a may h =
     let g : Course → List (Bool × Refusal) = λ x. (is_of_running a x || not (is_in_flight x.fate), MissingFlight) ∷ [] in
     let n = on_this w m (λ b. on_flight b c is_write_course (λ x. (is_of_running b x || not (is_in_flight x.fate), MissingFlight) ∷ [])) a h
     (passes w (DropWrite m c) may) in
-    dropped_by a c g (flight_of a c) refl n (λ x k. not_false (is_in_flight x.fate) (no_or (is_of_running a x) (not (is_in_flight x.fate)) (on_course a c is_write_course g x k n).0))
+    dropped_by a c g (flight_of a c) refl n (λ x k. not-false (is_in_flight x.fate) (no_or (is_of_running a x) (not (is_in_flight x.fate)) (on_course a c is_write_course g x k n).0))

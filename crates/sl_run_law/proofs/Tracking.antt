@@ -80,7 +80,7 @@ sampled_continues w k c =
 fated_continues : (fate : Fate) (c : Course) → Continues c (fated fate c)
 fated_continues fate c = record { call = refl; daemon = refl; made = refl; sampled = none_appended c.sampled; samples = none_appended c.samples }
 
-told_continues : (now : Stamp) (ok : Bool) (c : Course) → Continues c (told now ok c)
+pub told_continues : (now : Stamp) (ok : Bool) (c : Course) → Continues c (told now ok c)
 told_continues now ok c = record { call = refl; daemon = refl; made = refl; sampled = none_appended c.sampled; samples = none_appended c.samples }
 
 changed_by : (n : ℕ) (f : Course → Course) (a : Machine) → ((c : Course) → Continues c (f c)) → Tracks Continues a (change_call n f a)
@@ -112,10 +112,10 @@ asked w e =
 further : (m : ℕ) (a b c : Machine) → Tracks Continues a b → Tracks Continues b c → Tracks Continues a c
 further m a b c g h = tracks_further Continues a b c continues_further g h
 
-still : (m : ℕ) (a : Machine) → Tracks Continues a a
+pub still : (m : ℕ) (a : Machine) → Tracks Continues a a
 still m a = tracks_still Continues a continues_still
 
-step_tracks : (m : ℕ) (o : Option Input) (fx : Effects) (v : World) → EachMachine (λ m. Tracks Continues) v (take_step m o fx v)
+pub step_tracks : (m : ℕ) (o : Option Input) (fx : Effects) (v : World) → EachMachine (λ m. Tracks Continues) v (take_step m o fx v)
 step_tracks m o fx v =
     each_step (λ m. Tracks Continues) m o fx v still (λ none a h. tracks_effects Continues (stamp_now v a) fx a continues_still)
     (λ i is a h. tracks_step Continues (stamp_now v a) i fx a continues_still continues_further

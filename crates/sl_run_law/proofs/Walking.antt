@@ -1,4 +1,5 @@
 -- A walk over all events: what each changes on a machine is all that changes there.
+use Rattle.sl_plain.proofs.Options.{else_some}
 use Rattle.sl_run.specs.Events.{add_landing, after_crash, after_effects, after_pass, after_reset, after_restart, after_start, after_step, after_test, change_call, fated, first_change, flight_at, land_whole, passed, sampled_more, sectors_left, take_step, torn_bytes, write_bytes}
 use Rattle.sl_run.specs.Worlds.{Course, Dropped, Landed, Machine, Torn, World, change_machine, flight_of, is_in_flight, is_write_course, machine_at, stamp_now}
 use Rattle.sl_run.specs.declared.event.Event.TheVariants.{AnswerCall, Crash, Do, DropWrite, ExitOf, GiveCommand, Land, Pass, Reset, Restart, Sample, SpawnedOf, StartDaemon, Tear, Test, WakeUp}
@@ -37,10 +38,6 @@ index_by false o a h = (refl, h)
 -- The machine's place.
 pub index : (w : World) (m : ℕ) (a : Machine) → machine_at w m ≡ Some a → ((m == 0) ≡ false) × (slice_get w.machines (m - 1) ≡ Some a)
 index w m a h = index_by (m == 0) (slice_get w.machines (m - 1)) a h
-
-at_by : (b : Bool) (o : Option Machine) (a : Machine) → b ≡ false → o ≡ Some a → (if b then None else o) ≡ Some a
-at_by true o a h k = absurd (true_is_false h)
-at_by false o a h k = k
 
 above : (m : ℕ) → (m == 0) ≡ false → 0 < m
 above zero h = absurd (true_is_false h)
@@ -85,11 +82,11 @@ changed_place S f w m n x a still turn h k (inl p) =
     let same : n ≡ m = same_machine m n (index w m x h).0 (index w n a k).0 p.0 in
     let one : x ≡ a = one_value x a (machine_at w m) h (ap (machine_at w) (sym same) ∙ k) in (
       f x,
-      at_by (n == 0) (slice_get (slice_set w.machines (m - 1) (f x)) (n - 1)) (f x) (index w n a k).0 p.1,
+      else_some (n == 0) (slice_get (slice_set w.machines (m - 1) (f x)) (n - 1)) (f x) (index w n a k).0 p.1,
       subst (λ y. S n y (f x)) one (subst (λ j. S j x (f x)) (sym same) turn),
     )
 changed_place S f w m n x a still turn h k (inr q) =
-    (a, at_by (n == 0) (slice_get (slice_set w.machines (m - 1) (f x)) (n - 1)) a (index w n a k).0 q, still n a)
+    (a, else_some (n == 0) (slice_get (slice_set w.machines (m - 1) (f x)) (n - 1)) a (index w n a k).0 q, still n a)
 
 changed_at : (S : ℕ → Machine → Machine → Type 0) (f : Machine → Machine) (w : World) (m : ℕ) (o : Option Machine) → machine_at w m ≡ o → Still S
     → ((a : Machine) → machine_at w m ≡ Some a → S m a (f a))
@@ -126,7 +123,7 @@ each_passed : (S : ℕ → Machine → Machine → Type 0) (d : ℕ) (growths : 
 each_passed S d growths w turn n a k =
     let p = index w n a k in (
       passed d growths n a,
-      at_by (n == 0) (slice_get (map (λ p. passed d growths p.0 p.1) (enumerate_from 1 w.machines)) (n - 1)) (passed d growths n a) p.0
+      else_some (n == 0) (slice_get (map (λ p. passed d growths p.0 p.1) (enumerate_from 1 w.machines)) (n - 1)) (passed d growths n a) p.0
           (passed_place d growths w.machines 1 (n - 1) a p.1 ∙ ap (λ j. Some (passed d growths j a)) (number_of n (above n p.0))),
       turn n a k,
     )

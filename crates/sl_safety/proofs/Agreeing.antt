@@ -13,6 +13,7 @@ use Rattle.sl_grant_history.proofs.Kept.{came_at}
 use Rattle.sl_grant_history.specs.Granted.{ResourceAt}
 use Rattle.sl_leases.specs.Leases.{ended_ballots, lease_calls}
 use Rattle.sl_place_law.proofs.Areas.{one_resource}
+use Rattle.sl_plain.proofs.Lists.{contains_none}
 use Rattle.sl_resource_history.proofs.Shown.{holder_is}
 use Rattle.sl_resource_history.specs.Promises.{history_of_line, spot_of_line}
 use Rattle.sl_resource_history.specs.Sending.{holder_of, is_joined_there}
@@ -24,7 +25,6 @@ use Rattle.sl_run.specs.declared.header.ResourceLine.{ResourceLine}
 use Rattle.sl_safety.proofs.Lawful.{are_lawful}
 use Rattle.sl_sector.specs.declared.sector.Owner.{Owner}
 use Rattle.sl_session_history.proofs.Named.{joined_are_hosts, names_are_apart}
-use Rattle.sl_session_law.proofs.Making.{contains_none}
 use Rattle.sl_sessions.specs.Sessions.{me}
 use Rattle.sl_trace.specs.Traces.{Trace}
 use Rattle.sl_trace.specs.declared.effects.Spot.{Spot}

@@ -7,6 +7,7 @@ use Rattle.sl_holding_law.proofs.Holders.{holdings_are_held, one_machine_agrees}
 use Rattle.sl_holding_law.specs.Holders.{HeldBy}
 use Rattle.sl_holdings.proofs.Holding.{none_shares_beside, one_is_kept}
 use Rattle.sl_place_law.proofs.Finding.{place_is}
+use Rattle.sl_plain.proofs.Lists.{any_found}
 use Rattle.sl_resource_history.specs.Promises.{history_of_line}
 use Rattle.sl_run.specs.Conflicts.{Holding, IsExclusive, conflicts, has_conflict, world_holdings}
 use Rattle.sl_run.specs.Runs.{Happening}
@@ -19,7 +20,6 @@ use Rattle.sl_safety.proofs.Placed.{ExclusiveOf, HoldsAsShared, HoldsExclusive, 
 use Rattle.sl_safety.specs.Histories.{HistoriesKeepInstances}
 use Rattle.sl_session_history.proofs.Named.{names_are_apart}
 use Rattle.sl_trace.specs.Traces.{is_shared, same_place}
-use Rattle.sl_watchdog_law.proofs.Finding.{any_found}
 use Rattle.sl_words.proofs.CaseLaws.{false_is_true, true_or_false}
 use Rattle.sl_words.proofs.WordLaws.{and_true}
 use Rattle.std.proofs.Common.{ap, inl, inr, refl, subst, sym, ◌∙◌}

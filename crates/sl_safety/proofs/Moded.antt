@@ -16,6 +16,7 @@ use Rattle.sl_leases.specs.Leases.{Phase1_write, block_written, is_at, is_on, le
 use Rattle.sl_moment_law.proofs.Following.{kept_past}
 use Rattle.sl_moment_law.proofs.Stamps.{answer_is_stamp}
 use Rattle.sl_moment_law.specs.Moments.{Of_stamp}
+use Rattle.sl_plain.proofs.Lists.{any_found}
 use Rattle.sl_resource_history.proofs.Calls.{block_at_step, sent_there}
 use Rattle.sl_resource_history.proofs.Founding.{writes_at}
 use Rattle.sl_resource_history.proofs.Rising.{block_of_step}
@@ -38,7 +39,6 @@ use Rattle.sl_session_history.proofs.OrderedFronts.{nothing_more}
 use Rattle.sl_trace.specs.Traces.{Setting, Submitted}
 use Rattle.sl_trace.specs.declared.effects.Grant.{Grant}
 use Rattle.sl_trace.specs.declared.effects.Spot.{Spot}
-use Rattle.sl_watchdog_law.proofs.Finding.{any_found}
 use Rattle.sl_words.proofs.CaseLaws.{false_is_true, one_value}
 use Rattle.sl_words.proofs.WordLaws.{and_true}
 use Rattle.sl_words.specs.Words.{some_is}

@@ -9,6 +9,7 @@ use Rattle.sl_id_state.proofs.Keeping.{is_place}
 use Rattle.sl_id_steps.proofs.RenewalCalls.{contains_filtered}
 use Rattle.sl_leases.specs.Leases.{has_shared_on, holdings_on}
 use Rattle.sl_place_law.proofs.Areas.{one_resource}
+use Rattle.sl_plain.proofs.Lists.{contains_cases, contains_none}
 use Rattle.sl_resource_history.specs.Promises.{history_of_line, spot_of_line}
 use Rattle.sl_resource_history.specs.Sending.{holder_of, is_joined_there}
 use Rattle.sl_run.specs.Conflicts.{Holding}
@@ -18,7 +19,6 @@ use Rattle.sl_run.specs.Safety.{LawfulRun, SessionId, trace_of, world_at}
 use Rattle.sl_run.specs.Worlds.{Program, World}
 use Rattle.sl_run.specs.declared.header.Header.{Header}
 use Rattle.sl_run.specs.declared.header.ResourceLine.{ResourceLine}
-use Rattle.sl_session_law.proofs.Making.{contains_cases, contains_none}
 use Rattle.sl_sessions.specs.Sessions.{holdings_of}
 use Rattle.sl_trace.specs.Traces.{is_shared, same_place, spot_of_grant}
 use Rattle.sl_trace.specs.declared.effects.Grant.{Grant}

@@ -17,6 +17,7 @@ use Rattle.sl_place_law.proofs.Areas.{sector_fits}
 use Rattle.sl_place_law.proofs.Proven.{promised}
 use Rattle.sl_place_law.proofs.Reading.{layout_is, reads_back}
 use Rattle.sl_place_law.proofs.Seats.{sized_in}
+use Rattle.sl_plain.proofs.Lists.{contains_cases, contains_first, kept}
 use Rattle.sl_resource_history.proofs.Calls.{there_sent}
 use Rattle.sl_resource_history.proofs.Landed.{Name, in_order, name_of, one_sent}
 use Rattle.sl_resource_history.proofs.Newest.{Descends, HasCome, has_come, history_descends}
@@ -35,8 +36,6 @@ use Rattle.sl_run_law.proofs.Going.{run_goes}
 use Rattle.sl_sector.specs.declared.sector.Block.{Block}
 use Rattle.sl_sector.specs.declared.sector.Rec.TheVariants.{BlockIs}
 use Rattle.sl_sector.specs.declared.sector.Rec.{Rec}
-use Rattle.sl_session_law.proofs.Making.{contains_cases, contains_first}
-use Rattle.sl_session_law.proofs.Naming.{kept}
 use Rattle.sl_trace.specs.Traces.{same_place}
 use Rattle.sl_words.proofs.CaseLaws.{some_value}
 use Rattle.std.proofs.Common.{ap, arith, inl, inr, subst, sym, ◌∙◌}

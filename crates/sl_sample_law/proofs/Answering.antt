@@ -1,14 +1,16 @@
 -- A read that is answered ok has sampled all its sectors by then.
+use Rattle.sl_course_law.proofs.Changing.{changed_here}
+use Rattle.sl_course_law.proofs.Daemons.{every_each}
+use Rattle.sl_landing_law.proofs.Arriving.{flight_there}
 use Rattle.sl_run.specs.Events.{add_landing, change_call, complete, done_input, fated, first_change, input_at, input_of, is_read_course, land_whole, machine_of, may_happen, ok_input, rest_sampled, sample_at, sampled_more, sectors_left, sectors_of, write_bytes}
 use Rattle.sl_run.specs.Worlds.{Course, Landed, Machine, Sampling, World, change_machine, flight_of, is_in_flight, is_open, is_write_course, machine_at}
 use Rattle.sl_run.specs.declared.event.Event.TheVariants.{AnswerCall, Crash, Do, DropWrite, ExitOf, GiveCommand, Land, Pass, Reset, Restart, Sample, SpawnedOf, StartDaemon, Tear, Test, WakeUp}
 use Rattle.sl_run.specs.declared.event.Event.{Event}
+use Rattle.sl_run_law.proofs.Answered.{flight_waits}
 use Rattle.sl_run_law.proofs.Fates.{found}
-use Rattle.sl_run_law.proofs.Walking.{index}
 use Rattle.sl_run_law.specs.Fates.{AreDistinct, Every}
-use Rattle.sl_sample_law.proofs.Flying.{IsOne, all_one, answers_so, every_changed, flies}
-use Rattle.sl_sample_law.proofs.Numbering.{every_so}
-use Rattle.sl_sample_law.proofs.Sampling.{Ground, changed_world, complete_is, completed, flight_is}
+use Rattle.sl_sample_law.proofs.Flying.{IsOne, all_one, answers_so, every_changed}
+use Rattle.sl_sample_law.proofs.Sampling.{Ground, changed_world, complete_is, completed}
 use Rattle.sl_sample_law.proofs.Seeing.{Sees}
 use Rattle.sl_trace.specs.Traces.{is_ok_answer}
 use Rattle.sl_trace.specs.declared.effects.Op.TheVariants.{ReadSectors, WriteRecord}
@@ -16,7 +18,7 @@ use Rattle.sl_trace.specs.declared.effects.Op.{Op}
 use Rattle.sl_trace.specs.declared.input.Answer.TheVariants.{Failed, Read, Written}
 use Rattle.sl_trace.specs.declared.input.Input.TheVariants.{Answer as Told, Exit, Line, Spawned, Wake}
 use Rattle.sl_trace.specs.declared.input.Input.{Input}
-use Rattle.sl_words.proofs.CaseLaws.{false_is_true, none_some, not_both, one_value, some_value, true_is_false}
+use Rattle.sl_words.proofs.CaseLaws.{false_is_true, none_some, not_both, one_value, some_value}
 use Rattle.sl_words.proofs.WordLaws.{choose_some}
 use Rattle.sl_words.specs.Words.{choose}
 use Rattle.std.proofs.Common.{ap, arith, refl, subst, sym, ◌∙◌}
@@ -24,7 +26,7 @@ use Rattle.std.proofs.lemmas.List.{length-append}
 use Rattle.std.proofs.lemmas.List.FromFn.{length-map-range_with_len}
 use Rattle.std.specs.List.{range_with_len}
 use Rattle.std.specs.Option.{option_map_or}
-use Rattle.std.specs.Prelude.{Bool, List, None, Option, Some, false, if◌then◌else◌, is_some, length, map, not, option_and_then, option_map, slice_get, slice_set, suc, true, zero, [], ℕ, ◌&&◌, ◌+◌, ◌-◌, ◌==◌, ◌∷◌, ◌≡◌, ◌≤◌}
+use Rattle.std.specs.Prelude.{Bool, List, None, Option, Some, false, is_some, length, map, not, option_and_then, option_map, true, ℕ, ◌&&◌, ◌+◌, ◌-◌, ◌==◌, ◌≡◌, ◌≤◌}
 
 -- ---- what is ready
 
@@ -58,7 +60,7 @@ one_all : (c : ℕ) (f x : Course) → HasAll f → IsOne c f x → HasAllIf c x
 one_all c f x h one t = subst HasAll (sym (one t)) h
 
 stands_all : (a : Machine) (c : ℕ) (f : Course) → flight_of a c ≡ Some f → AreDistinct a.calls → HasAll f → Every (HasAllIf c) a.calls
-stands_all a c f flight distinct h = every_so (IsOne c f) (HasAllIf c) a.calls (λ x one. one_all c f x h one) (all_one a c f flight distinct)
+stands_all a c f flight distinct h = every_each (IsOne c f) (HasAllIf c) a.calls (λ x one. one_all c f x h one) (all_one a c f flight distinct)
 
 answer_ready : (w : World) (m c : ℕ) (ok : Bool) (a : Machine) (f : Course) → Ground w → Every (Sees w) a.calls → may_happen w (AnswerCall m c ok) ≡ true → machine_at w m ≡ Some a
     → flight_of a c ≡ Some f → IsReady (elim ok as (λ y. Input) [ true ↦ ok_input f | false ↦ Told c Failed ]) a.calls
@@ -66,36 +68,15 @@ answer_ready w m c false a f g sees may at flight = λ ok. absurd (false_is_true
 answer_ready w m c true a f g sees may at flight =
     let few : length f.samples ≤ sectors_of f.call.op = (flight_sees w a c f flight sees).few in
     ready_op f.call.op f.call.number f.sampled a.calls
-    (subst (λ n. Every (HasAllIf n) a.calls) (sym (flies a c f flight).0)
+    (subst (λ n. Every (HasAllIf n) a.calls) (sym (flight_waits a c f flight).0)
     (stands_all a c f flight (g.distinct m a at) (λ reads. answers_so w m c a f may at flight few reads)))
 
 -- ---- a call that is completed
 
-set_there : (ms : List Machine) (i : ℕ) (x y : Machine) → slice_get ms i ≡ Some x → slice_get (slice_set ms i y) i ≡ Some y
-set_there [] i x y h = absurd (none_some x h)
-set_there (m ∷ ms) zero x y h = refl
-set_there (m ∷ ms) (suc i) x y h = set_there ms i x y h
-
-at_by : (b : Bool) (o : Option Machine) (a : Machine) → b ≡ false → o ≡ Some a → (if b then None else o) ≡ Some a
-at_by true o a h k = absurd (true_is_false h)
-at_by false o a h k = k
-
-changed_there_by : (w : World) (m : ℕ) (f : Machine → Machine) (a : Machine) (o : Option Machine) → machine_at w m ≡ o → o ≡ Some a
-    → machine_at (elim o as (λ x. World) [ None ↦ w | Some x ↦ record w { machines = slice_set w.machines (m - 1) (f x) } ]) m ≡ Some (f a)
-changed_there_by w m f a None is h = absurd (none_some a h)
-changed_there_by w m f a (Some x) is h =
-    let p = index w m x is in
-    at_by (m == 0) (slice_get (slice_set w.machines (m - 1) (f x)) (m - 1)) (f a) p.0
-    (set_there w.machines (m - 1) x (f x) p.1 ∙ ap (λ y. Some (f y)) (some_value x a h))
-
--- The machine that was changed is there, changed.
-changed_there : (w : World) (m : ℕ) (f : Machine → Machine) (a : Machine) → machine_at w m ≡ Some a → machine_at (change_machine m f w) m ≡ Some (f a)
-changed_there w m f a h = changed_there_by w m f a (machine_at w m) refl h
-
 -- The calls of a machine that was changed.
 changed_calls : (w : World) (m : ℕ) (f : Machine → Machine) (P : List Course → Type 0) (a b : Machine) → machine_at w m ≡ Some a → machine_at (change_machine m f w) m ≡ Some b → P (f a).calls
     → P b.calls
-changed_calls w m f P a b at is h = subst (λ (x : Machine). P x.calls) (one_value (f a) b (machine_at (change_machine m f w) m) (changed_there w m f a at) is) h
+changed_calls w m f P a b at is h = subst (λ (x : Machine). P x.calls) (one_value (f a) b (machine_at (change_machine m f w) m) (changed_here w m f a at) is) h
 
 full : (a n k : ℕ) → a ≤ n → k ≡ n - a → a + k ≡ n
 full a n k h e = omega (arith, h, e)
@@ -128,7 +109,7 @@ landed_all : (w : World) (m c : ℕ) (a b : Machine) (f : Course) → machine_at
 landed_all w m c a b f at flight distinct write is =
     let v : World = add_landing m f.call true (write_bytes w f.call) w in
     let whole : land_whole m c w ≡ change_machine m (change_call c (fated Landed)) v =
-    ap (λ o. option_map_or (λ (x : Course). change_machine m (change_call c (fated Landed)) (add_landing m x.call true (write_bytes w x.call) w)) o w) (flight_is w m c a f at flight) in
+    ap (λ o. option_map_or (λ (x : Course). change_machine m (change_call c (fated Landed)) (add_landing m x.call true (write_bytes w x.call) w)) o w) (flight_there w m c a f at flight) in
     changed_calls v m (change_call c (fated Landed)) (Every (HasAllIf c)) a b at (ap (λ u. machine_at u m) (sym whole) ∙ is) (written_all a c f flight distinct write)
 
 may_land_all : (w : World) (m c : ℕ) (a b : Machine) (f : Course) (t : Bool) → machine_at w m ≡ Some a → flight_of a c ≡ Some f → AreDistinct a.calls → is_write_course f ≡ true
@@ -148,9 +129,9 @@ done_ready : (w : World) (m c : ℕ) (a b : Machine) (f : Course) → Ground w �
 done_ready w m c a b f g sees at flight is =
     let few : length f.samples ≤ sectors_of f.call.op = (flight_sees w a c f flight sees).few in
     ready_op f.call.op f.call.number (rest_sampled w f (sectors_left f)) b.calls
-    (subst (λ n. Every (HasAllIf n) b.calls) (sym (flies a c f flight).0)
+    (subst (λ n. Every (HasAllIf n) b.calls) (sym (flight_waits a c f flight).0)
     (completed_all w m c a b f (is_write_course f) refl at flight (g.distinct m a at) few
-    (ap (λ v. machine_at v m) (sym (complete_is w m c f (flight_is w m c a f at flight))) ∙ is)))
+    (ap (λ v. machine_at v m) (sym (complete_is w m c f (flight_there w m c a f at flight))) ∙ is)))
 
 -- ---- all events
 

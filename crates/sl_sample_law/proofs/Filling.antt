@@ -1,30 +1,28 @@
 -- Each place has a sector's bytes at moment 0, whatever the digest.
 use Rattle.sl_area.specs.Layouts.{IsGeometry, Layout, Sizes, layout_with, sector_with}
-use Rattle.sl_area.specs.Places.{fresh_block, fresh_delta, fresh_leader, in_area, no_request, no_value}
+use Rattle.sl_area.specs.Places.{fresh_block, fresh_leader, in_area, no_request, no_value}
+use Rattle.sl_landing_law.proofs.Initial.{block_high, block_low, fresh_block_is, is_size, lockspace_by, no_number, no_request_is, no_value_is, range_is}
+use Rattle.sl_plain.proofs.Numbers.{both_next, zero_least, zero_less}
+use Rattle.sl_plain.proofs.Truth.{or_false}
 use Rattle.sl_run.specs.Headers.{IsHeader}
-use Rattle.sl_run.specs.Worlds.{clock_reading, initial_bytes, initial_delta, initial_of_lockspace, initial_of_resource, initial_record, member_delta}
-use Rattle.sl_run.specs.declared.header.FirstReading.{FirstReading}
+use Rattle.sl_run.specs.Worlds.{initial_bytes, initial_of_lockspace, initial_of_resource, initial_record}
 use Rattle.sl_run.specs.declared.header.Header.{Header}
 use Rattle.sl_run.specs.declared.header.LockspaceLine.{LockspaceLine}
 use Rattle.sl_run.specs.declared.header.ResourceLine.{ResourceLine}
-use Rattle.sl_run.specs.declared.header.SessionLine.{SessionLine}
-use Rattle.sl_sample_law.proofs.Numbering.{at_least_none}
 use Rattle.sl_sector.proofs.SpellingLaws.{length-spelling}
-use Rattle.sl_sector.specs.Records.{IsBlock, IsDelta, IsLeader, IsRecord, IsRequest, IsValue}
-use Rattle.sl_sector.specs.Spelling.{IsDigest, IsSectorSize}
-use Rattle.sl_sector.specs.declared.sector.DeltaRec.{DeltaRec}
-use Rattle.sl_sector.specs.declared.sector.Rec.TheVariants.{BlockIs, DeltaIs, LeaderIs, RequestIs, ValueIs}
+use Rattle.sl_sector.specs.Records.{IsLeader, IsRecord}
+use Rattle.sl_sector.specs.Spelling.{IsDigest}
+use Rattle.sl_sector.specs.declared.sector.Rec.TheVariants.{BlockIs, LeaderIs, RequestIs, ValueIs}
 use Rattle.sl_sector.specs.declared.sector.Rec.{Rec}
 use Rattle.sl_text.specs.Names.{is_name}
 use Rattle.sl_words.proofs.CaseLaws.{none_some, some_value}
 use Rattle.sl_words.proofs.WordLaws.{and_true}
 use Rattle.sl_words.specs.Words.{choose}
-use Rattle.std.proofs.Common.{ap, arith, refl, subst, sym, ◌∙◌}
-use Rattle.std.proofs.lemmas.Bool.Decides.{Decides-eqb, nat_tests}
+use Rattle.std.proofs.Common.{ap, refl, subst, sym, ◌∙◌}
+use Rattle.std.proofs.lemmas.Bool.Decides.{Decides-eqb}
 use Rattle.std.proofs.lemmas.List.{length-replicate}
 use Rattle.std.specs.Int.{is_in_range}
-use Rattle.std.specs.Option.{option_map_or}
-use Rattle.std.specs.Prelude.{Bool, Contains, IsTrue, List, None, Option, Some, bytes_eq, false, find, if◌then◌else◌, length, nat_lt, replicate, suc, true, [], ℕ, ◌&&◌, ◌*◌, ◌+◌, ◌-◌, ◌/◌, ◌<◌, ◌==◌, ◌^◌, ◌∷◌, ◌≡◌, ◌≤◌, ◌||◌}
+use Rattle.std.specs.Prelude.{Bool, Contains, IsTrue, List, None, Option, Some, bytes_eq, false, find, if◌then◌else◌, length, nat_lt, replicate, suc, true, [], ℕ, ◌&&◌, ◌*◌, ◌+◌, ◌-◌, ◌/◌, ◌==◌, ◌∷◌, ◌≡◌, ◌≤◌}
 
 -- ---- what is looked for
 
@@ -34,28 +32,16 @@ line_at g h path offset = find (λ l. bytes_eq l.path path && in_area g l.offset
 abbrev resource_at : Layout → Header → List ℕ → ℕ → Option ResourceLine
 resource_at g h path offset = find (λ r. bytes_eq r.path path && in_area g r.offset offset) h.resources
 
-abbrev session_of : Header → List ℕ → ℕ → Option SessionLine
-session_of h lockspace id = find (λ s. bytes_eq s.lockspace lockspace && s.id == id) h.sessions
-
-abbrev clock_of : Header → ℕ → Option FirstReading
-clock_of h m = find (λ c. c.machine == m) h.clocks
-
 -- ---- what is found is there
 
-first_place : (n : ℕ) → 0 < suc n
-first_place n = omega arith
-
-next_place : (k n : ℕ) → k < n → suc k < suc n
-next_place k n h = omega (arith, h)
-
 later : {X : Type 0} (y x : X) (ys : List X) → Contains ys x → Contains (y ∷ ys) x
-later y x ys c = (suc c.0, next_place c.0 (length ys) c.1, c.2)
+later y x ys c = (suc c.0, both_next c.0 (length ys) c.1, c.2)
 
 find_at : {X : Type 0} (p : X → Bool) (y : X) (ys : List X) (x : X) (b : Bool) → p y ≡ b → (if b then Some y else find p ys) ≡ Some x
     → (find p ys ≡ Some x → Contains ys x × (p x ≡ true)) → Contains (y ∷ ys) x × (p x ≡ true)
 find_at p y ys x true is h rest =
     let same : y ≡ x = some_value y x h in
-    ((0, first_place (length ys), same), ap p (sym same) ∙ is)
+    ((0, zero_less (length ys), same), ap p (sym same) ∙ is)
 find_at p y ys x false is h rest = let r = rest h in (later y x ys r.0, r.1)
 
 pub find_some : {X : Type 0} (p : X → Bool) (xs : List X) (x : X) → find p xs ≡ Some x → Contains xs x × (p x ≡ true)
@@ -68,13 +54,6 @@ record HasSizes (s : Sizes) : Type 0 where
   pub sector : s.sector ≡ 512
   pub hosts : (1 ≤ s.hosts) × (s.hosts ≤ 2000)
 
-range_is : (n : ℕ) → is_in_range 1 2000 n ≡ true → (1 ≤ n) × (n ≤ 2000)
-range_is n h = (grind (arith, nat_tests), grind (arith, nat_tests))
-
-or_false : (b : Bool) → (b || false) ≡ true → b ≡ true
-or_false true h = refl
-or_false false h = h
-
 has_sizes : (s : Sizes) → IsGeometry s → HasSizes s
 has_sizes s h =
     let all = or_false (512 == s.sector && 1048576 == s.area && is_in_range 1 2000 s.hosts) h in
@@ -84,120 +63,18 @@ has_sizes s h =
 
 -- ---- the records
 
-nothing_less : 0 < 0 → ⊥
-nothing_less h = omega (arith, h)
-
-one_is_none : (n : ℕ) → n ≡ 1 → n ≡ 0 → ⊥
-one_is_none n h k = omega (arith, h, k)
-
-small_number : 1 < 2 ^ 63
-small_number = omega arith
-
-no_number : 0 < 2 ^ 63
-no_number = omega arith
-
-a_moment : 0 < 10 ^ 15
-a_moment = omega arith
-
-fresh_delta_is : (name : List ℕ) (id : ℕ) → IsTrue (is_name name) → 1 ≤ id → id ≤ 2000 → IsDelta (fresh_delta name id)
-fresh_delta_is name id named low high =
-    record {
-      id = (low, high);
-      generation = no_number;
-      seq = no_number;
-      stamp = a_moment;
-      lockspace = named;
-      bitmap = (refl, refl);
-      unused = λ h. (refl, refl, refl, refl, refl);
-      used = λ h. absurd (nothing_less h);
-    }
-
-member_delta_is : (h : Header) (s : SessionLine) → IsTrue (is_name s.lockspace) → IsTrue (is_name s.name) → 1 ≤ s.id → s.id ≤ 2000
-    → clock_reading h s.machine < 10 ^ 15 → IsDelta (member_delta h s)
-member_delta_is h s space name low high now =
-    record {
-      id = (low, high);
-      generation = small_number;
-      seq = small_number;
-      stamp = now;
-      lockspace = space;
-      bitmap = (refl, refl);
-      unused = λ h. absurd (one_is_none 1 refl h);
-      used = λ h. name;
-    }
-
-below : (n : ℕ) → n < 10 ^ 12 → n < 10 ^ 15
-below n h = omega (arith, h)
-
-clock_by : (h : Header) (m : ℕ) (o : Option FirstReading) → clock_of h m ≡ o → IsHeader h → option_map_or (λ (c : FirstReading). c.reading) o 0 < 10 ^ 15
-clock_by h m None is ok = a_moment
-clock_by h m (Some c) is ok = below c.reading (ok.clocks c (find_some (λ c. c.machine == m) h.clocks c is).0).2
-
-up_to : (a b : ℕ) → a ≤ b → b ≤ 2000 → a ≤ 2000
-up_to a b h k = omega (arith, h, k)
-
-above_one : (k : ℕ) → 1 ≤ k + 1
-above_one k = omega arith
-
-within : (k n : ℕ) → nat_lt k n ≡ true → n ≤ 2000 → k + 1 ≤ 2000
-within k n h most = grind (arith, nat_tests)
-
-initial_delta_by : (h : Header) (l : LockspaceLine) (id : ℕ) (o : Option SessionLine) → session_of h l.name id ≡ o → IsHeader h → IsTrue (is_name l.name) → 1 ≤ id → id ≤ 2000
-    → IsDelta (elim o as (λ x. DeltaRec) [ None ↦ fresh_delta l.name id | Some s ↦ member_delta h s ])
-initial_delta_by h l id None is ok named low high = fresh_delta_is l.name id named low high
-initial_delta_by h l id (Some s) is ok named low high =
-    let at = find_some (λ s. bytes_eq s.lockspace l.name && s.id == id) h.sessions s is in
-    let member = ok.members s at.0 in
-    let space = member.lockspace in
-    let space_named : IsTrue (is_name s.lockspace) = subst (λ n. IsTrue (is_name n)) space.2 (ok.lockspaces space.0 space.1).0 in
-    (member_delta_is h s space_named member.name member.id.0 (up_to s.id h.geometry.hosts member.id.1 (has_sizes h.geometry ok.geometry).hosts.1)
-    (clock_by h s.machine (clock_of h s.machine) refl ok))
-
-lockspace_by : (h : Header) (l : LockspaceLine) (k : ℕ) (b : Bool) (r : Rec) → nat_lt k h.geometry.hosts ≡ b → IsHeader h → IsTrue (is_name l.name)
-    → choose b (DeltaIs (initial_delta h l (k + 1))) ≡ Some r → IsRecord r
-lockspace_by h l k false r is ok named eq = absurd (none_some r eq)
-lockspace_by h l k true r is ok named eq =
-    subst IsRecord (some_value (DeltaIs (initial_delta h l (k + 1))) r eq)
-    (initial_delta_by h l (k + 1) (session_of h l.name (k + 1)) refl ok named (above_one k) (within k h.geometry.hosts is (has_sizes h.geometry ok.geometry).hosts.1))
-
 fresh_leader_is : (digest : List ℕ → List ℕ) (s : Sizes) (space name : List ℕ) → HasSizes s → IsTrue (is_name space) → IsTrue (is_name name) → IsLeader (fresh_leader (layout_with digest s) space name)
 fresh_leader_is digest s space name sizes a b =
     record {
       hosts = sizes.hosts;
       lver = no_number;
       generation = no_number;
-      owner = at_least_none s.hosts;
+      owner = zero_least s.hosts;
       lockspace = a;
       resource = b;
       same = ((λ h. refl, λ h. refl), (λ h. refl, λ h. refl));
       unused = λ h. refl;
     }
-
-fresh_block_is : (host : ℕ) → 1 ≤ host → host ≤ 2000 → IsBlock (fresh_block host)
-fresh_block_is host low high =
-    record {
-      host = (low, high);
-      lver = no_number;
-      mbal = no_number;
-      bal = at_least_none 0;
-      generations = (no_number, no_number);
-      inp = at_least_none 2000;
-      value = ((λ h. refl, λ h. refl), (λ h. refl, λ h. refl));
-      mode = (λ h. refl, λ h. refl);
-      unused = λ h. (refl, refl);
-    }
-
-no_request_is : IsRequest no_request
-no_request_is = record { force = at_least_none 2; host = at_least_none 2000; lver = no_number; same = (λ h. refl, λ h. refl) }
-
-no_value_is : IsValue no_value
-no_value_is = record { host = at_least_none 2000; lver = no_number; seq = no_number; bytes = (at_least_none 256, refl) }
-
-block_low : (k : ℕ) → (k == 0) ≡ false → (k == 1) ≡ false → 1 ≤ k - 1
-block_low k h i = grind (arith, nat_tests)
-
-block_high : (k n : ℕ) → nat_lt k (n + 2) ≡ true → n ≤ 2000 → k - 1 ≤ 2000
-block_high k n h most = grind (arith, nat_tests)
 
 resource_by : (digest : List ℕ → List ℕ) (h : Header) (l : ResourceLine) (k : ℕ) (leader request block last : Bool) (r : Rec) → (k == 0) ≡ leader → (k == 1) ≡ request
     → nat_lt k (h.geometry.hosts + 2) ≡ block → IsHeader h → IsTrue (is_name l.lockspace) → IsTrue (is_name l.name)
@@ -245,15 +122,6 @@ unfolding initial_record
 initial_is_record digest h path offset r ok eq = initial_by digest h path offset (line_at (layout_with digest h.geometry) h path offset) r refl ok eq
 
 -- ---- lengths
-
-sector_low : (n : ℕ) → n ≡ 512 → 512 ≤ n
-sector_low n h = omega (arith, h)
-
-sector_high : (n : ℕ) → n ≡ 512 → n ≤ 4096
-sector_high n h = omega (arith, h)
-
-is_size : (s : Sizes) → IsGeometry s → IsSectorSize s.sector
-is_size s h = let e = (has_sizes s h).sector in (sector_low s.sector e, sector_high s.sector e)
 
 initial_sized_by : (digest : List ℕ → List ℕ) → IsDigest digest → (h : Header) (path : List ℕ) (offset : ℕ) (o : Option Rec) → initial_record (layout_with digest h.geometry) h path offset ≡ o → IsHeader h
     → length (elim o as (λ x. List ℕ) [ None ↦ replicate h.geometry.sector 0 | Some r ↦ sector_with (layout_with digest h.geometry) r ]) ≡ h.geometry.sector

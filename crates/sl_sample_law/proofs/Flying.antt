@@ -1,18 +1,18 @@
 -- The call that an event is about: it is the only one with its number, and no more is sampled than it reads.
+use Rattle.sl_plain.proofs.Truth.{second_is_false}
 use Rattle.sl_run.specs.Events.{event_tests, is_placed, is_read_course, may_happen, needs_daemon, on_flight, sectors_left, sectors_of}
-use Rattle.sl_run.specs.Worlds.{Course, Machine, Stamp, World, flight_of, is_of_running, is_open, is_write_course, machine_at, may_land, is_landed}
+use Rattle.sl_run.specs.Worlds.{Course, Machine, World, flight_of, is_of_running, is_open, is_write_course, machine_at, is_landed}
 use Rattle.sl_run.specs.declared.event.Event.TheVariants.{AnswerCall, Sample}
 use Rattle.sl_run.specs.declared.event.Refusal.TheVariants.{MissingCall, MissingLanding, MissingPlace, MissingSample}
 use Rattle.sl_run.specs.declared.event.Refusal.{Refusal}
-use Rattle.sl_run_law.proofs.Coursing.{changed_if, every_of}
-use Rattle.sl_run_law.proofs.Fates.{found, numbered}
+use Rattle.sl_run_law.proofs.Coursing.{changed_if}
+use Rattle.sl_run_law.proofs.Fates.{numbered}
 use Rattle.sl_run_law.proofs.Guards.{NoneHolds, on_course, on_this, passes}
 use Rattle.sl_run_law.specs.Fates.{AreDistinct, Every}
-use Rattle.sl_words.proofs.CaseLaws.{false_is_true, true_is_false}
-use Rattle.sl_words.proofs.WordLaws.{and_true}
+use Rattle.sl_words.proofs.CaseLaws.{true_is_false}
 use Rattle.std.proofs.Common.{arith, refl}
-use Rattle.std.proofs.lemmas.Bool.Decides.{Decides-eqb, nat_tests}
-use Rattle.std.specs.Prelude.{Bool, List, None, Option, Some, false, is_none, length, map, nat_lt, not, true, [], ℕ, ◌&&◌, ◌-◌, ◌==◌, ◌∷◌, ◌≡◌, ◌≤◌, ◌||◌}
+use Rattle.std.proofs.lemmas.Bool.{ltb-false}
+use Rattle.std.specs.Prelude.{Bool, List, None, Option, Some, false, length, map, nat_lt, not, true, [], ℕ, ◌&&◌, ◌-◌, ◌==◌, ◌∷◌, ◌≡◌, ◌≤◌}
 
 -- ---- calls that are changed by a test
 
@@ -31,18 +31,6 @@ every_both P Q [] h k = tt
 every_both P Q (c ∷ cs) h k = ((h.0, k.0), every_both P Q cs h.1 k.1)
 
 -- ---- the call in flight
-
-is_nothing : (o : Option Stamp) → is_none o ≡ true → o ≡ None
-is_nothing None h = refl
-is_nothing (Some s) h = absurd (false_is_true h)
-
--- It has its number and no answer.
-pub flies : (a : Machine) (c : ℕ) (f : Course) → flight_of a c ≡ Some f → (f.call.number ≡ c) × (f.answered ≡ None)
-flies a c f h =
-    let p : Course → Bool = λ x. x.call.number == c && is_open a x in
-    let y = found p (λ x. Unit {0}) a.calls f h (every_of (λ x. Unit {0}) a.calls (λ x. tt)) in
-    let q = and_true (f.call.number == c) (is_open a f) y.test in
-    ((Decides-eqb f.call.number c).0 q.0, is_nothing f.answered (and_true (is_none f.answered) (is_of_running a f || may_land f) q.1).0)
 
 -- Each call with this number is this one.
 abbrev pub IsOne : ℕ → Course → Course → Type 0
@@ -68,9 +56,6 @@ flight_by a c p g (Some f) is n k = (f, is, on_course a c p g f is n)
 flight_there : (a : Machine) (c : ℕ) (p : Course → Bool) (g : Course → List (Bool × Refusal)) → NoneHolds (on_flight a c p g) → FlightTests a c g
 flight_there a c p g n = flight_by a c p g (flight_of a c) refl n n
 
-not_less : (a b : ℕ) → nat_lt a b ≡ false → b ≤ a
-not_less a b h = grind (arith, nat_tests)
-
 -- A sampling is of sectors that the call hasn't sampled.
 pub samples_so : (w : World) (m c k : ℕ) (a : Machine) → may_happen w (Sample m c k) ≡ true → machine_at w m ≡ Some a
     → (f : Course) × (flight_of a c ≡ Some f) × (k ≤ sectors_left f)
@@ -79,14 +64,10 @@ samples_so w m c k a may at =
     let g : Course → List (Bool × Refusal) = λ f. (not (is_placed w f.call), MissingPlace) ∷ (nat_lt (sectors_left f) k, MissingSample) ∷ [] in
     let n = on_this w m (λ b. needs_daemon b ∷ on_flight b c is_read_course g) a at (passes w (Sample m c k) may) in
     let r = flight_there a c is_read_course g n.1 in
-    (r.0, r.1, not_less (sectors_left r.0) k r.2.1.0)
-
-no_and : (a b : Bool) → (a && b) ≡ false → a ≡ true → b ≡ false
-no_and true b h k = h
-no_and false b h k = absurd (false_is_true k)
+    (r.0, r.1, ltb-false (sectors_left r.0) k r.2.1.0)
 
 none_left : (a n : ℕ) → a ≤ n → nat_lt 0 (n - a) ≡ false → a ≡ n
-none_left a n h k = let less = not_less 0 (n - a) k in omega (arith, h, less)
+none_left a n h k = let less = ltb-false 0 (n - a) k in omega (arith, h, less)
 
 -- A read is answered ok once all is sampled.
 pub answers_so : (w : World) (m c : ℕ) (a : Machine) (f : Course) → may_happen w (AnswerCall m c true) ≡ true → machine_at w m ≡ Some a → flight_of a c ≡ Some f
@@ -97,4 +78,4 @@ answers_so w m c a f may at flight few reads =
     λ x. (true && is_read_course x && nat_lt 0 (sectors_left x), MissingSample) ∷ (true && is_write_course x && not (is_landed x.fate), MissingLanding) ∷ [] in
     let n = on_this w m (λ b. needs_daemon b ∷ on_flight b c (is_of_running b) g) a at (passes w (AnswerCall m c true) may) in
     let r = on_course a c (is_of_running a) g f flight n.1 in
-    none_left (length f.samples) (sectors_of f.call.op) few (no_and (is_read_course f) (nat_lt 0 (sectors_left f)) r.0 reads)
+    none_left (length f.samples) (sectors_of f.call.op) few (second_is_false (is_read_course f) (nat_lt 0 (sectors_left f)) r.0 reads)

@@ -1,4 +1,5 @@
 -- Landings by their numbers, and the sectors of what a read gave.
+use Rattle.sl_plain.proofs.Numbers.{less_is_other, number_itself}
 use Rattle.sl_run.specs.Worlds.{Landing}
 use Rattle.sl_run_law.specs.Fates.{Every}
 use Rattle.sl_sample_law.specs.Samples.{numbered_landing}
@@ -8,21 +9,11 @@ use Rattle.std.proofs.lemmas.Bool.Decides.{nat_tests}
 use Rattle.std.proofs.lemmas.List.{drop-append-le, drop_at, length-append, length-drop, take-append-le, take_all}
 use Rattle.std.specs.Prelude.{Bool, List, Option, Some, drop, false, filter, if◌then◌else◌, length, slice_get, suc, take, true, zero, [], ℕ, ◌*◌, ◌++◌, ◌+◌, ◌<◌, ◌==◌, ◌∷◌, ◌≡◌, ◌≤◌, ◌⊎◌}
 
-pub at_least_none : (n : ℕ) → 0 ≤ n
-at_least_none n = omega arith
-
-pub same : (n : ℕ) → n ≤ n
-same n = omega arith
-
 -- ---- what holds of each
 
 pub every_front : {A : Type 0} (P : A → Type 0) (xs ys : List A) → Every P xs → Every P ys → Every P (xs ++ ys)
 every_front P [] ys h k = k
 every_front P (x ∷ xs) ys h k = (h.0, every_front P xs ys h.1 k)
-
-pub every_so : {A : Type 0} (P Q : A → Type 0) (xs : List A) → ((x : A) → P x → Q x) → Every P xs → Every Q xs
-every_so P Q [] f h = tt
-every_so P Q (x ∷ xs) f h = (f x h.0, every_so P Q xs f h.1)
 
 kept_by : {A : Type 0} (P : A → Type 0) (x : A) (xs : List A) (b : Bool) → P x → Every P xs → Every P (if b then x ∷ xs else xs)
 kept_by P x xs true h k = (h, k)
@@ -34,12 +25,6 @@ every_kept P p (x ∷ xs) h = kept_by P x (filter p xs) (p x) h.0 (every_kept P 
 
 -- ---- numbers
 
-same_number : (n : ℕ) → (n == n) ≡ true
-same_number n = grind (arith, nat_tests)
-
-other_number : (i n : ℕ) → i < n → (i == n) ≡ false
-other_number i n h = grind (arith, nat_tests)
-
 -- A list of landings with one more in front.
 abbrev with_newest : Landing → List Landing → ℕ → Bool → Option Landing
 with_newest l ls i b = elim b [ true ↦ Some l | false ↦ numbered_landing ls i ]
@@ -50,7 +35,7 @@ newest_by l ls i false h = absurd (true_is_false (sym h))
 
 -- The newest landing has the number of those before it.
 pub newest_number : (l : Landing) (ls : List Landing) (i : ℕ) → i ≡ length ls → numbered_landing (l ∷ ls) i ≡ Some l
-newest_number l ls i same = newest_by l ls i (i == length ls) (ap (λ n. n == length ls) same ∙ same_number (length ls))
+newest_number l ls i same = newest_by l ls i (i == length ls) (ap (λ n. n == length ls) same ∙ number_itself (length ls))
 
 older_by : (x l : Landing) (ls : List Landing) (i : ℕ) (b : Bool) → b ≡ false → numbered_landing ls i ≡ Some l → with_newest x ls i b ≡ Some l
 older_by x l ls i true h k = absurd (true_is_false h)
@@ -73,7 +58,7 @@ longer xs ls i h = omega (arith, length-append xs ls, h)
 pub number_stays : (xs ls : List Landing) (i : ℕ) (l : Landing) → numbered_landing ls i ≡ Some l → numbered_landing (xs ++ ls) i ≡ Some l
 number_stays [] ls i l h = h
 number_stays (x ∷ xs) ls i l h =
-    older_by x l (xs ++ ls) i (i == length (xs ++ ls)) (other_number i (length (xs ++ ls)) (longer xs ls i (number_below ls i l h))) (number_stays xs ls i l h)
+    older_by x l (xs ++ ls) i (i == length (xs ++ ls)) (less_is_other i (length (xs ++ ls)) (longer xs ls i (number_below ls i l h))) (number_stays xs ls i l h)
 
 from_by : (P : Landing → Type 0) (x l : Landing) (xs ls : List Landing) (i : ℕ) (b : Bool) → P x → with_newest x (xs ++ ls) i b ≡ Some l
     → (numbered_landing (xs ++ ls) i ≡ Some l → (numbered_landing ls i ≡ Some l) ⊎ P l) → (numbered_landing ls i ≡ Some l) ⊎ P l

@@ -1,10 +1,12 @@
 -- What each event leaves of the disks: at most one landing comes, now.
+use Rattle.sl_course_law.proofs.Daemons.{every_each}
+use Rattle.sl_plain.proofs.Numbers.{at_least_first, refl_le, trans_le}
 use Rattle.sl_run.specs.Events.{add_landing, after_crash, after_effects, after_pass, after_reset, after_restart, after_start, after_step, after_test, change_call, fated, first_change, flight_at, land_whole, next_step, sampled_more, sectors_left, take_step, torn_bytes, write_bytes}
 use Rattle.sl_run.specs.Worlds.{Course, Dropped, Landed, Landing, Machine, Torn, World, change_machine, is_in_flight, is_write_course, machine_at, stamp_now}
 use Rattle.sl_run.specs.declared.event.Event.TheVariants.{AnswerCall, Crash, Do, DropWrite, ExitOf, GiveCommand, Land, Pass, Reset, Restart, Sample, SpawnedOf, StartDaemon, Tear, Test, WakeUp}
 use Rattle.sl_run.specs.declared.event.Event.{Event}
 use Rattle.sl_run_law.specs.Fates.{Every}
-use Rattle.sl_sample_law.proofs.Numbering.{every_front, every_so, same}
+use Rattle.sl_sample_law.proofs.Numbering.{every_front}
 use Rattle.sl_sample_law.proofs.Reading.{HasLandings}
 use Rattle.sl_sample_law.proofs.Seeing.{IsBetween, Onward}
 use Rattle.sl_trace.specs.declared.effects.Call.{Call}
@@ -17,67 +19,61 @@ use Rattle.std.specs.Prelude.{Bool, List, None, Option, Some, false, slice_set, 
 
 -- ---- one change after another
 
-more : (n d : ℕ) → n ≤ n + d
-more n d = omega arith
-
-up_to : (a b c : ℕ) → a ≤ b → b ≤ c → a ≤ c
-up_to a b c h k = omega (arith, h, k)
-
 -- A world with the same disks, later or not.
 pub no_landing : (w v : World) → v.header ≡ w.header → v.layout ≡ w.layout → w.step ≤ v.step → w.moment ≤ v.moment → v.landings ≡ w.landings → Onward w v
 no_landing w v header layout step moment landings =
     record { header = header; layout = layout; step = step; moment = moment; newer = []; landings = landings; each = tt }
 
 pub onward_still : (w : World) → Onward w w
-onward_still w = no_landing w w refl refl (same w.step) (same w.moment) refl
+onward_still w = no_landing w w refl refl (refl_le w.step) (refl_le w.moment) refl
 
 between_longer : (w v u : World) (l : Landing) → Onward v u → IsBetween w v l → IsBetween w u l
-between_longer w v u l o b = record { after = b.after; before = (up_to l.step v.step u.step b.before.0 o.step, up_to l.moment v.moment u.moment b.before.1 o.moment) }
+between_longer w v u l o b = record { after = b.after; before = (trans_le l.step v.step u.step b.before.0 o.step, trans_le l.moment v.moment u.moment b.before.1 o.moment) }
 
 between_sooner : (w v u : World) (l : Landing) → Onward w v → IsBetween v u l → IsBetween w u l
-between_sooner w v u l o b = record { after = (up_to w.step v.step l.step o.step b.after.0, up_to w.moment v.moment l.moment o.moment b.after.1); before = b.before }
+between_sooner w v u l o b = record { after = (trans_le w.step v.step l.step o.step b.after.0, trans_le w.moment v.moment l.moment o.moment b.after.1); before = b.before }
 
 pub onward_again : (w v u : World) → Onward w v → Onward v u → Onward w u
 onward_again w v u g h =
     record {
       header = h.header ∙ g.header;
       layout = h.layout ∙ g.layout;
-      step = up_to w.step v.step u.step g.step h.step;
-      moment = up_to w.moment v.moment u.moment g.moment h.moment;
+      step = trans_le w.step v.step u.step g.step h.step;
+      moment = trans_le w.moment v.moment u.moment g.moment h.moment;
       newer = h.newer ++ g.newer;
       landings = h.landings ∙ ap (λ ls. h.newer ++ ls) g.landings ∙ sym (append_assoc h.newer g.newer w.landings);
       each = every_front (IsBetween w u) h.newer g.newer
-          (every_so (IsBetween v u) (IsBetween w u) h.newer (λ l b. between_sooner w v u l g b) h.each)
-          (every_so (IsBetween w v) (IsBetween w u) g.newer (λ l b. between_longer w v u l h b) g.each);
+          (every_each (IsBetween v u) (IsBetween w u) h.newer (λ l b. between_sooner w v u l g b) h.each)
+          (every_each (IsBetween w v) (IsBetween w u) g.newer (λ l b. between_longer w v u l h b) g.each);
     }
 
 changed_by : (m : ℕ) (f : Machine → Machine) (w : World) (o : Option Machine)
     → Onward w (elim o as (λ x. World) [ None ↦ w | Some a ↦ record w { machines = slice_set w.machines (m - 1) (f a) } ])
 changed_by m f w None = onward_still w
-changed_by m f w (Some a) = no_landing w (record w { machines = slice_set w.machines (m - 1) (f a) }) refl refl (same w.step) (same w.moment) refl
+changed_by m f w (Some a) = no_landing w (record w { machines = slice_set w.machines (m - 1) (f a) }) refl refl (refl_le w.step) (refl_le w.moment) refl
 
 pub onward_changed : (m : ℕ) (f : Machine → Machine) (w : World) → Onward w (change_machine m f w)
 onward_changed m f w = changed_by m f w (machine_at w m)
 
 pub onward_stepped : (w : World) → Onward w (next_step w)
-onward_stepped w = no_landing w (next_step w) refl refl (more w.step 1) (same w.moment) refl
+onward_stepped w = no_landing w (next_step w) refl refl (at_least_first w.step 1) (refl_le w.moment) refl
 
 landed : (m : ℕ) (c : Call) (whole : Bool) (bytes : List ℕ) (w : World) → Onward w (add_landing m c whole bytes w)
 landed m c whole bytes w =
     record {
       header = refl;
       layout = refl;
-      step = same w.step;
-      moment = same w.moment;
+      step = refl_le w.step;
+      moment = refl_le w.moment;
       newer = record { path = c.path; offset = c.offset; bytes = bytes; whole = whole; writer = Some (m, c.number); step = w.step; moment = w.moment } ∷ [];
       landings = refl;
-      each = (record { after = (same w.step, same w.moment); before = (same w.step, same w.moment) }, tt);
+      each = (record { after = (refl_le w.step, refl_le w.moment); before = (refl_le w.step, refl_le w.moment) }, tt);
     }
 
 -- ---- before the daemon
 
 time_passes : (d : ℕ) (growths : Option (List ℕ)) (w : World) → Onward w (after_pass d growths w)
-time_passes d growths w = no_landing w (after_pass d growths w) refl refl (same w.step) (more w.moment d) refl
+time_passes d growths w = no_landing w (after_pass d growths w) refl refl (refl_le w.step) (at_least_first w.moment d) refl
 
 lands_so : (m : ℕ) (c : Call) (whole : Bool) (bytes : List ℕ) (f : Machine → Machine) (w : World) → Onward w (change_machine m f (add_landing m c whole bytes w))
 lands_so m c whole bytes f w =
@@ -158,8 +154,8 @@ landings_over w v o h =
     record {
       begun = later_begun w.step v.step h.begun o.step;
       landed = subst (Every P) (sym o.landings) (every_front P o.newer w.landings
-          (every_so (IsBetween w v) P o.newer (λ l b. new_past w v l b) o.each)
-          (every_so (λ l. (l.step < w.step) × (l.moment ≤ w.moment)) P w.landings (λ l b. old_past w v l o b) h.landed));
+          (every_each (IsBetween w v) P o.newer (λ l b. new_past w v l b) o.each)
+          (every_each (λ l. (l.step < w.step) × (l.moment ≤ w.moment)) P w.landings (λ l b. old_past w v l o b) h.landed));
     }
 
 -- ---- the daemon's step

@@ -1,8 +1,9 @@
 -- A read that samples more sees what it samples.
+use Rattle.sl_plain.proofs.Numbers.{less_than_next, next_is_most, refl_le, zero_least}
 use Rattle.sl_run.specs.Events.{next_step, sample_at, sampled_more, sectors_of}
 use Rattle.sl_run.specs.Worlds.{Course, Landing, Sampling, World, content, first_landing, history_of, landed_at, sector_size}
 use Rattle.sl_run_law.specs.Fates.{Every}
-use Rattle.sl_sample_law.proofs.Numbering.{at_least_none, newest_number, number_below, one_behind, same, sector_behind, sector_stays}
+use Rattle.sl_sample_law.proofs.Numbering.{newest_number, number_below, one_behind, sector_behind, sector_stays}
 use Rattle.sl_sample_law.proofs.Seeing.{Sees}
 use Rattle.sl_sample_law.specs.Samples.{IsSampleOf, numbered_landing}
 use Rattle.sl_trace.specs.Traces.{same_place}
@@ -62,7 +63,7 @@ newest_of first step moment p (x ∷ ls) this each =
 
 newest : (w : World) (path : List ℕ) (offset : ℕ) → HasLandings w → IsNewest w path offset
 newest w path offset h =
-    let n = newest_of (first_landing w path offset) w.step w.moment (λ l. same_place l.path l.offset path offset) w.landings (h.begun, at_least_none w.moment) h.landed in
+    let n = newest_of (first_landing w path offset) w.step w.moment (λ l. same_place l.path l.offset path offset) w.landings (h.begun, zero_least w.moment) h.landed in
     record { landing = n.landing; seen = n.seen; bytes = n.bytes; came = n.came }
 
 nothing_between : (i n m : ℕ) → m ≡ n + 1 → n < i → i < m → ⊥
@@ -96,14 +97,8 @@ one_size a b n m s h k e =
     let all : (n + 1) * s ≡ n * s + s = omega arith in
     omega (arith, h, k, all, ap (λ x. x * s) e)
 
-below_sum : (a n : ℕ) → a < n → a + 1 ≤ n
-below_sum a n h = omega (arith, h)
-
 not_full : (a n : ℕ) → a < n → a ≡ n → ⊥
 not_full a n h k = omega (arith, h, k)
-
-just_below : (n : ℕ) → n < n + 1
-just_below n = omega arith
 
 -- The new sample shows the newest.
 new_shows : (w : World) (c : Course) → MaySample w c → Sees (next_step w) c → IsSampleOf (next_step w) (one_more w c) (length c.samples) (sample_at w c.call (length c.samples))
@@ -143,13 +138,13 @@ sees_one w c may room h =
     record {
       sized = length-append c.sampled bytes
           ∙ one_size (length c.sampled) (length bytes) n (length (c.samples ++ s ∷ [])) w.layout.sector h.sized (may.sized c.call.path (c.call.offset + n * sector_size w)) (longer c.samples s);
-      few = subst (λ m. m ≤ sectors_of c.call.op) (sym (longer c.samples s)) (below_sum n (sectors_of c.call.op) room);
+      few = subst (λ m. m ≤ sectors_of c.call.op) (sym (longer c.samples s)) (next_is_most n (sectors_of c.call.op) room);
       whole = λ done reads. absurd (not_full n (sectors_of c.call.op) room (h.whole done reads));
       made = h.made;
       past = λ k t at.
           elim (one_behind c.samples s k t at) as (λ z. (t.step < w.step + 1) × (t.moment ≤ w.moment)) [
             | inl old ↦ h.past k t old
-            | inr new ↦ subst (λ (x : Sampling). (x.step < w.step + 1) × (x.moment ≤ w.moment)) new.1 (just_below w.step, same w.moment)
+            | inr new ↦ subst (λ (x : Sampling). (x.step < w.step + 1) × (x.moment ≤ w.moment)) new.1 (less_than_next w.step, refl_le w.moment)
           ];
       shows = λ k t at.
           elim (one_behind c.samples s k t at) as (λ z. IsSampleOf (next_step w) (one_more w c) k t) [

@@ -1,21 +1,23 @@
 -- What is kept of each call by what an event changes before the daemon's step.
+use Rattle.sl_landing_law.proofs.Arriving.{flight_there}
+use Rattle.sl_plain.proofs.Numbers.{refl_le}
 use Rattle.sl_run.specs.Events.{change_call, complete, fated, first_change, flight_at, land_whole, may_happen, next_step, sampled_more, sectors_left, sectors_of}
 use Rattle.sl_run.specs.Worlds.{Course, Dropped, Fate, Landed, Machine, Sampling, Torn, World, change_machine, content, flight_of, is_in_flight, is_write_course, machine_at}
 use Rattle.sl_run.specs.declared.event.Event.TheVariants.{Do, Sample}
 use Rattle.sl_run.specs.declared.event.Event.{Event}
+use Rattle.sl_run_law.proofs.Answered.{flight_waits}
 use Rattle.sl_run_law.proofs.Walking.{Asked, each_first, reads}
 use Rattle.sl_run_law.specs.Fates.{EachDistinct, Every}
 use Rattle.sl_run_law.specs.Machines.{EachMachine}
-use Rattle.sl_sample_law.proofs.Flying.{IsOne, all_one, every_both, every_changed, flies, samples_so}
+use Rattle.sl_sample_law.proofs.Flying.{IsOne, all_one, every_both, every_changed, samples_so}
 use Rattle.sl_sample_law.proofs.Passing.{first_onward, no_landing, onward_again, onward_stepped}
-use Rattle.sl_sample_law.proofs.Numbering.{same}
 use Rattle.sl_sample_law.proofs.Reading.{HasLandings, sees_more}
 use Rattle.sl_sample_law.proofs.Seeing.{Onward, Sees, all_later, sees_later}
 use Rattle.sl_sample_law.specs.Samples.{IsSampleOf}
-use Rattle.sl_words.proofs.CaseLaws.{false_is_true}
 use Rattle.std.proofs.Common.{ap, arith, refl, subst, sym, ◌∙◌}
+use Rattle.std.proofs.lemmas.Bool.{not-true}
 use Rattle.std.proofs.lemmas.Bool.Decides.{Decides-eqb}
-use Rattle.std.specs.Prelude.{Bool, List, None, Option, Some, false, length, not, option_and_then, slice_set, true, ℕ, ◌+◌, ◌-◌, ◌==◌, ◌≡◌, ◌≤◌}
+use Rattle.std.specs.Prelude.{Bool, List, None, Option, Some, false, length, slice_set, true, ℕ, ◌+◌, ◌-◌, ◌==◌, ◌≡◌, ◌≤◌}
 
 -- ---- the ground
 
@@ -73,9 +75,9 @@ all_fated w e m n x a at h =
 
 changed_by : (m : ℕ) (f : Machine → Machine) (w : World) (o : Option Machine)
     → Onward (next_step w) (next_step (elim o as (λ x. World) [ None ↦ w | Some a ↦ record w { machines = slice_set w.machines (m - 1) (f a) } ]))
-changed_by m f w None = no_landing (next_step w) (next_step w) refl refl (same (w.step + 1)) (same w.moment) refl
+changed_by m f w None = no_landing (next_step w) (next_step w) refl refl (refl_le (w.step + 1)) (refl_le w.moment) refl
 changed_by m f w (Some a) =
-    no_landing (next_step w) (next_step (record w { machines = slice_set w.machines (m - 1) (f a) })) refl refl (same (w.step + 1)) (same w.moment) refl
+    no_landing (next_step w) (next_step (record w { machines = slice_set w.machines (m - 1) (f a) })) refl refl (refl_le (w.step + 1)) (refl_le w.moment) refl
 
 -- A change of a machine lets nothing land.
 stepped_changed : (m : ℕ) (f : Machine → Machine) (w : World) → Onward (next_step w) (next_step (change_machine m f w))
@@ -95,7 +97,7 @@ room_of a k n h r = omega (arith, h, r)
 
 sampled_so : (w : World) (k n : ℕ) (a : Machine) (f : Course) → Ground w → flight_of a n ≡ Some f → k ≤ sectors_left f → Sees w f → Sees (next_step w) (sampled_more w k f)
 sampled_so w k n a f g flight room h =
-    sees_more w k f (record { landings = g.landings; sized = g.sized; made = h.made; waits = (flies a n f flight).1 })
+    sees_more w k f (record { landings = g.landings; sized = g.sized; made = h.made; waits = (flight_waits a n f flight).1 })
     (room_of (length f.samples) k (sectors_of f.call.op) h.few room) (sees_later w (next_step w) f (onward_stepped w) h)
 
 all_sampled : (w v : World) (m k n : ℕ) (a : Machine) → Ground w → Onward (next_step w) v → machine_at w m ≡ Some a → Samples w a n k → Every (Sees w) a.calls
@@ -117,9 +119,6 @@ sample_keeps w m c k a g may at at' h =
 
 -- ---- a call that is completed
 
-pub flight_is : (w : World) (m c : ℕ) (a : Machine) (f : Course) → machine_at w m ≡ Some a → flight_of a c ≡ Some f → flight_at w m c ≡ Some f
-flight_is w m c a f at flight = ap (λ o. option_and_then (λ b. flight_of b c) o) at ∙ flight
-
 -- What completes the call in flight.
 abbrev pub completed : World → ℕ → ℕ → Course → Bool → World
 completed w m c f b =
@@ -131,19 +130,15 @@ completed w m c f b =
 pub complete_is : (w : World) (m c : ℕ) (f : Course) → flight_at w m c ≡ Some f → complete m c w ≡ completed w m c f (is_write_course f)
 complete_is w m c f h = ap (λ o. elim o as (λ x. World) [ None ↦ w | Some x ↦ completed w m c x (is_write_course x) ]) h
 
-is_no_write : (b : Bool) → not b ≡ true → b ≡ false
-is_no_write true h = absurd (false_is_true h)
-is_no_write false h = refl
-
 done_keeps : (w : World) (m c : ℕ) (a : Machine) (f : Course) → Ground w → machine_at w m ≡ Some a → flight_of a c ≡ Some f → reads f ≡ true
     → Before w (Do m c) m a (change_call c (sampled_more w (sectors_left f)) a)
 unfolding first_change
 done_keeps w m c a f g at flight read at' h =
     let F : Machine → Machine = change_call c (sampled_more w (sectors_left f)) in
     let is : complete m c w ≡ change_machine m F w =
-    complete_is w m c f (flight_is w m c a f at flight) ∙ ap (completed w m c f) (is_no_write (is_write_course f) read) in
+    complete_is w m c f (flight_there w m c a f at flight) ∙ ap (completed w m c f) (not-true (is_write_course f) read) in
     all_sampled w (next_step (complete m c w)) m (sectors_left f) c a g (subst (λ v. Onward (next_step w) (next_step v)) (sym is) (stepped_changed m F w)) at
-    (record { course = f; flight = flight; room = same (sectors_left f) }) h
+    (record { course = f; flight = flight; room = refl_le (sectors_left f) }) h
 
 -- ---- all events
 

@@ -1,11 +1,12 @@
 -- What is kept of each call: its samples are of its first sectors, in order, and each shows what was the newest.
 use Rattle.sl_area.specs.Places.{sector_of}
+use Rattle.sl_course_law.proofs.Daemons.{every_each}
 use Rattle.sl_run.specs.Events.{is_read_course, sectors_of}
 use Rattle.sl_run.specs.Worlds.{Course, Landing, Sampling, World, first_landing, history_of, initial_bytes}
 use Rattle.sl_run.specs.declared.header.Header.{Header}
 use Rattle.sl_area.specs.Layouts.{Layout}
 use Rattle.sl_run_law.specs.Fates.{Every}
-use Rattle.sl_sample_law.proofs.Numbering.{every_kept, every_so, number_from, number_stays}
+use Rattle.sl_sample_law.proofs.Numbering.{every_kept, number_from, number_stays}
 use Rattle.sl_sample_law.specs.Samples.{IsSampleOf, numbered_landing, sector_place}
 use Rattle.sl_trace.specs.Traces.{same_place}
 use Rattle.std.proofs.Common.{ap, arith, inl, inr, sym, ◌∙◌}
@@ -109,4 +110,4 @@ sees_later w v c o h =
     }
 
 pub all_later : (w v : World) (cs : List Course) → Onward w v → Every (Sees w) cs → Every (Sees v) cs
-all_later w v cs o h = every_so (Sees w) (Sees v) cs (λ c s. sees_later w v c o s) h
+all_later w v cs o h = every_each (Sees w) (Sees v) cs (λ c s. sees_later w v c o s) h

@@ -2,16 +2,18 @@
 use Rattle.sl_area.specs.Layouts.{Layout, layout_with}
 use Rattle.sl_course_law.specs.Promises.{CallsAreDistinct}
 use Rattle.sl_front_law.proofs.Going.{IsKeptInRuns, IsLast, last_event, run_after, run_keeps, was_there}
+use Rattle.sl_landing_law.proofs.Making.{distinct_at}
 use Rattle.sl_landing_law.specs.Landings.{LandingsAreSectors}
-use Rattle.sl_run.specs.Events.{first_change, happens, input_of, machine_of, take_step}
-use Rattle.sl_run.specs.Runs.{Happening, world_after}
+use Rattle.sl_plain.proofs.Lists.{contains_cases, contains_none}
+use Rattle.sl_run.specs.Events.{first_change, input_of, machine_of, take_step}
+use Rattle.sl_run.specs.Runs.{Happening}
 use Rattle.sl_run.specs.Safety.{LawfulRun, world_at}
 use Rattle.sl_run.specs.Worlds.{Course, Landing, Machine, Program, World, content, initial_bytes, last_landing, machine_at, world_with}
 use Rattle.sl_run.specs.declared.header.Header.{Header}
 use Rattle.sl_run_law.proofs.Beginnings.{begins_new}
 use Rattle.sl_run_law.proofs.Going.{run_goes}
 use Rattle.sl_run_law.proofs.Walking.{each_then}
-use Rattle.sl_run_law.specs.Fates.{DistinctAlong, EachDistinct, Every}
+use Rattle.sl_run_law.specs.Fates.{Every}
 use Rattle.sl_run_law.specs.Machines.{EachMachine}
 use Rattle.sl_sample_law.proofs.Answering.{ready}
 use Rattle.sl_sample_law.proofs.Filling.{find_some, initial_sized}
@@ -21,7 +23,6 @@ use Rattle.sl_sample_law.proofs.Sampling.{Before, Ground, changed_world, first_k
 use Rattle.sl_sample_law.proofs.Seeing.{Sees}
 use Rattle.sl_sample_law.proofs.Stepping.{Stepping, step_keeps}
 use Rattle.sl_sample_law.specs.Samples.{DoneReadsAreWhole, SampledAreSectors, SamplesAreLandings}
-use Rattle.sl_session_law.proofs.Making.{contains_cases, contains_none}
 use Rattle.sl_trace.specs.Traces.{same_place}
 use Rattle.std.proofs.Common.{ap, arith, inl, inr, refl, subst, sym, ◌∙◌}
 use Rattle.sl_words.proofs.CaseLaws.{one_value}
@@ -37,10 +38,6 @@ record IsSeen (w : World) : Type 0 where
   sees : AllSeen w
 
 -- ---- the ground
-
-distinct_by : (w : World) (now : List Happening) (x : Happening) → DistinctAlong w (now ++ x ∷ []) → EachDistinct (world_after w now)
-distinct_by w [] x along = along.0
-distinct_by w (y ∷ now) x along = distinct_by (happens w y.0 y.1) now x along.1
 
 content_by : (w : World) (path : List ℕ) (offset : ℕ) (o : Option Landing) → last_landing w path offset ≡ o
     → ((l : Landing) → Contains w.landings l → length l.bytes ≡ w.layout.sector) → length (initial_bytes w.layout w.header path offset) ≡ w.layout.sector
@@ -93,7 +90,7 @@ seen_next distinct sectors p h now x run seen =
     let v : World = changed_world x.0 w in
     let u : World = take_step (machine_of x.0) (input_of w x.0) last.effects v in
     let ground : Ground w =
-    record { landings = seen.landings; sized = content_sized sectors p h now last.before; distinct = distinct_by (world_with p h) now x (distinct p h (now ++ x ∷ []) run) } in
+    record { landings = seen.landings; sized = content_sized sectors p h now last.before; distinct = distinct_at (world_with p h) now x (distinct p h (now ++ x ∷ []) run) } in
     let before : EachMachine (Before w x.0) w v = first_keeps w x.0 ground last.may in
     let after : EachMachine (Stepping v u) v u =
     step_keeps (machine_of x.0) (input_of w x.0) last.effects v (λ b i at is. ready w x.0 b i ground seen.sees last.may at is) in

@@ -1,4 +1,5 @@
 -- What is kept of each call by a step of the daemon, or of the machine itself.
+use Rattle.sl_plain.proofs.Numbers.{zero_least}
 use Rattle.sl_run.specs.Events.{change_call, close_answered, daemon_number, new_course, sectors_of, take_step}
 use Rattle.sl_run.specs.Worlds.{Course, Machine, Sampling, Stamp, World, machine_at, stamp_now}
 use Rattle.sl_run_law.proofs.Tracking.{told}
@@ -7,7 +8,6 @@ use Rattle.sl_run_law.specs.Fates.{Every}
 use Rattle.sl_run_law.specs.Machines.{EachMachine}
 use Rattle.sl_sample_law.proofs.Answering.{HasAll, HasAllIf, IsReady}
 use Rattle.sl_sample_law.proofs.Flying.{every_both, every_changed}
-use Rattle.sl_sample_law.proofs.Numbering.{at_least_none}
 use Rattle.sl_sample_law.proofs.Passing.{StepOver, step_over}
 use Rattle.sl_sample_law.proofs.Seeing.{Sees, all_later, sees_later}
 use Rattle.sl_sample_law.specs.Samples.{IsSampleOf}
@@ -30,7 +30,7 @@ new_sees : (u : World) (now : Stamp) (n : ℕ) (c : Call) → (now.step < u.step
 new_sees u now n c made =
     record {
       sized = no_sectors u.layout.sector;
-      few = at_least_none (sectors_of c.op);
+      few = zero_least (sectors_of c.op);
       whole = λ done reads. absurd (false_is_true done);
       made = made;
       past = λ k s at. absurd (none_some s at);

@@ -7,12 +7,12 @@ use Rattle.sl_id_state.proofs.Bridge.{IsKnown, known}
 use Rattle.sl_id_state.proofs.Proven.{grounds}
 use Rattle.sl_law.proofs.LawFacts.{lawful-front}
 use Rattle.sl_law.specs.Lawful.{Lawful}
-use Rattle.sl_moment_law.proofs.Ordering.{entries_ordered}
+use Rattle.sl_moment_law.proofs.Ordering.{entries_ordered, fall_front, fall_step}
 use Rattle.sl_moment_law.specs.Orders.{Fall}
 use Rattle.sl_place_law.proofs.Daemons.{daemons_are_fine, stamp_order}
-use Rattle.sl_place_law.proofs.Finding.{filtered, same_number}
 use Rattle.sl_place_law.proofs.Reading.{owner_of}
-use Rattle.sl_resource_history.proofs.Steps.{fall_front, fall_step, one_entry, stamp_there}
+use Rattle.sl_plain.proofs.Lists.{contains_cases, contains_first, kept_inside}
+use Rattle.sl_resource_history.proofs.Steps.{one_entry}
 use Rattle.sl_resource_history.specs.Histories.{trace_by}
 use Rattle.sl_run.specs.Runs.{Happening}
 use Rattle.sl_run.specs.Safety.{Found, IsSession, LawfulRun, SessionId, world_at}
@@ -23,7 +23,6 @@ use Rattle.sl_session_history.proofs.OrderedFronts.{FrontAt, nothing_more}
 use Rattle.sl_session_history.proofs.OrderedOnce.{stamp_past}
 use Rattle.sl_session_history.proofs.OrderedStood.{Behind, behind}
 use Rattle.sl_session_history.proofs.OrderedTraces.{begun_end, same_length, stamp_newer, stamp_of}
-use Rattle.sl_session_law.proofs.Making.{contains_cases, contains_first}
 use Rattle.sl_session_law.proofs.Owning.{sessions_stay}
 use Rattle.sl_session_law.specs.Promises.{IsSession as IsSessionOf}
 use Rattle.sl_sessions.specs.Sessions.{Session, calls_of, generation_of, is_call_of, joined_after, session_numbered}
@@ -32,11 +31,12 @@ use Rattle.sl_trace.specs.Traces.{Setting, Submitted, Trace, submitted}
 use Rattle.sl_trace.specs.declared.effects.Entry.{Entry}
 use Rattle.sl_trace.specs.declared.reply.Evidence.TheVariants.{Newer}
 use Rattle.sl_trace.specs.declared.reply.Evidence.{Evidence}
+use Rattle.sl_watchdog_law.proofs.Stamps.{stamp_there}
 use Rattle.sl_words.proofs.CaseLaws.{one_value, true_is_false}
 use Rattle.sl_words.proofs.WordLaws.{and_true}
 use Rattle.std.proofs.Common.{ap, arith, inl, inr, refl, subst, sym, ◌∙◌}
 use Rattle.std.proofs.lemmas.Bool.Decides.{nat_tests}
-use Rattle.std.proofs.lemmas.Bool.{cases_lt}
+use Rattle.std.proofs.lemmas.Bool.{cases_lt, eqb-true}
 use Rattle.std.specs.Prelude.{Bool, Contains, List, None, Option, Some, [], drop, false, is_some, length, nat_le, nat_lt, suc, true, ℕ, ◌&&◌, ◌++◌, ◌+◌, ◌<◌, ◌==◌, ◌∷◌, ◌≡◌, ◌≤◌, ◌⊎◌}
 
 -- ---- ends of traces
@@ -140,9 +140,9 @@ counting_begun st newer es s j n h its counts = by (calls_of es s) refl where
       let k = some_entry (joined_after es s) (no_calls_joined st es s j n none counts) in
       begun_end st newer es s k.0 h its k.1
   by (m ∷ ms) is =
-      let mine = filtered (is_call_of s) (submitted es) m (subst (λ xs. Contains xs m) (sym is) (contains_first m ms)) in
+      let mine = kept_inside (is_call_of s) (submitted es) m (subst (λ xs. Contains xs m) (sym is) (contains_first m ms)) in
       let o = owner_of st es m (lawful-front st newer es h) mine.0 in
-      let number : o.0.number ≡ s.number = sym o.2 ∙ same_number m.call.session s.number mine.1 in
+      let number : o.0.number ≡ s.number = sym o.2 ∙ eqb-true m.call.session s.number mine.1 in
       let at : session_numbered st es s.number ≡ Some o.0 = ap (λ k. session_numbered st es k) (sym number) ∙ o.1 in
       at ∙ ap (λ x. Some x) (one_value o.0 s (session_numbered st (newer ++ es) s.number) (sessions_stay st newer es s.number o.0 at) its)
 

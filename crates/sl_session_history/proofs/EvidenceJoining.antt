@@ -7,7 +7,6 @@ use Rattle.sl_course_law.proofs.Mirrored.{machines_mirror}
 use Rattle.sl_course_law.proofs.Turning.{Alone, Elsewhere, Stepped, Took}
 use Rattle.sl_course_law.specs.Stamping.{IsCourseOf, stamp_in}
 use Rattle.sl_front_law.proofs.Having.{contains_append}
-use Rattle.sl_id_safety.proofs.Freed.{standing_joined}
 use Rattle.sl_id_safety.proofs.Silence.{not_reset, over_cases}
 use Rattle.sl_id_state.proofs.Bridge.{IsKnown, known}
 use Rattle.sl_id_state.proofs.Keeping.{lawful_call}
@@ -18,7 +17,9 @@ use Rattle.sl_id_state.specs.IdStates.{own_courses}
 use Rattle.sl_landing_law.proofs.Listing.{one_call}
 use Rattle.sl_law.specs.Lawful.{Lawful}
 use Rattle.sl_place_law.proofs.Daemons.{daemons_are_fine, stamp_order}
-use Rattle.sl_place_law.proofs.Finding.{equal_numbers, filtered, found_in, partner_of, same_number}
+use Rattle.sl_place_law.proofs.Finding.{partner_of}
+use Rattle.sl_place_law.proofs.Looks.{stands as standing_joined}
+use Rattle.sl_plain.proofs.Lists.{any_found, contains_cases, contains_more, find_inside, kept_inside}
 use Rattle.sl_run.specs.Events.{first_change, next_step, with_entry}
 use Rattle.sl_run.specs.Runs.{Happening}
 use Rattle.sl_run.specs.Safety.{Found, IsSession, LawfulRun, SessionId, free_landed, has_write_in_flight, is_course_of, is_over, setting_in, trace_of, was_reset, world_at}
@@ -28,18 +29,17 @@ use Rattle.sl_session_history.proofs.OrderedDaemons.{Came, turned_come}
 use Rattle.sl_session_history.proofs.OrderedOnce.{stamp_past}
 use Rattle.sl_session_history.proofs.OrderedOver.{IsNew, free_stands, new_flies}
 use Rattle.sl_session_history.proofs.OrderedTraces.{joined_within, joins_kept}
-use Rattle.sl_resource_history.proofs.Steps.{stamp_there}
-use Rattle.sl_session_law.proofs.Making.{contains_cases, contains_more}
 use Rattle.sl_session_law.proofs.Staying.{marks_stay}
 use Rattle.sl_session_law.specs.Promises.{IsSession as IsSessionOf}
 use Rattle.sl_sessions.specs.Sessions.{Session, calls_of, ended_after, free_write, is_free_purpose, joined_after, refused_after, removed_after}
 use Rattle.sl_trace.specs.Traces.{Setting, Submitted, Trace}
 use Rattle.sl_trace.specs.declared.effects.Call.{Call}
 use Rattle.sl_trace.specs.declared.effects.Entry.{Entry}
-use Rattle.sl_watchdog_law.proofs.Finding.{any_found}
+use Rattle.sl_watchdog_law.proofs.Stamps.{stamp_there}
 use Rattle.sl_words.proofs.CaseLaws.{one_value, true_is_false}
 use Rattle.sl_words.proofs.WordLaws.{and_true, some_is_true}
 use Rattle.std.proofs.Common.{ap, arith, inl, inr, refl, subst, sym, ◌∙◌}
+use Rattle.std.proofs.lemmas.Bool.{eq-eqb, eqb-true}
 use Rattle.std.specs.List.{list_any}
 use Rattle.std.specs.Prelude.{Contains, List, None, Option, Some, [], false, is_some, length, option_map, suc, true, ℕ, ◌&&◌, ◌++◌, ◌<◌, ◌==◌, ◌∷◌, ◌≡◌, ◌≤◌, ◌⊎◌}
 
@@ -89,7 +89,7 @@ runs_if_new p h now x m a c g d has s there le = by (λ old. old_middle p h now 
 freed_where : (st : Setting) (es : Trace) (s : Session) → Lawful st es → IsSessionOf st es s → (m : Submitted) → free_write (calls_of es s) ≡ Some m
     → Contains (calls_of es s) m × ((k : ℕ) × (joined_after es s ≡ Some k) × (k ≤ suc m.at))
 freed_where st es s h its m is =
-    let found = found_in (λ (y : Submitted). is_free_purpose y.call.purpose) (calls_of es s) m is in
+    let found = find_inside (λ (y : Submitted). is_free_purpose y.call.purpose) (calls_of es s) m is in
     let at = stands (calls_of es s) m found.0 in
     let d : IsMadeAfter es s m at.older = tail_at (IsMadeAfter es s) at.newer m at.older (subst (λ ms. AreMade es s ms) at.whole (all_made es s)) in
     let k = standing_joined (front_at d) s (free_stands st (front_at d) s _ m.call.purpose (lawful_call st es s m at.older d h its).law found.1) in
@@ -126,12 +126,12 @@ not_over_joining p h now x run i f its q s joined long stamp le over =
         let k = freed_where (setting_in f) (trace_of f) f.session kn.lawful kn.its m.0 m.1 in
         let d = any_found (λ (d : Course). is_course_of i d && d.call.number == m.0.call.number && is_landed d.fate) f.machine.calls m.2 in
         let both = and_true (is_course_of i d.0 && d.0.call.number == m.0.call.number) (is_landed d.0.fate) d.2 in
-        let number = same_number d.0.call.number m.0.call.number (and_true (is_course_of i d.0) (d.0.call.number == m.0.call.number) both.0).1 in
+        let number = eqb-true d.0.call.number m.0.call.number (and_true (is_course_of i d.0) (d.0.call.number == m.0.call.number) both.0).1 in
         let c = partner_of (IsCourseOf f.daemon) (own_courses i f.machine) (calls_of (trace_of f) f.session) m.0 kn.pairs k.0 in
-        let there = (filtered (is_course_of i) f.machine.calls c.0 c.1).0 in
+        let there = (kept_inside (is_course_of i) f.machine.calls c.0 c.1).0 in
         let same : d.0 ≡ c.0 =
         one_call f.machine.calls d.0 c.0 (each_distinct p h (now ++ x ∷ []) run i.machine f.machine kn.there.at) d.1 there
-        (equal_numbers d.0.call.number c.0.call.number (number ∙ ap (λ (y : Call). y.number) c.2.call)) in
+        (eq-eqb d.0.call.number c.0.call.number (number ∙ ap (λ (y : Call). y.number) c.2.call)) in
         let entries : k.1.0 ≡ suc q = one_value k.1.0 (suc q) (joined_after (trace_of f) f.session) k.1.1 joined in
         let bound = k.1.2 in
         let before : q ≤ m.0.at = omega (arith, entries, bound) in

@@ -2,6 +2,7 @@
 use Rattle.sl_course_law.proofs.Daemons.{all_ended, daemons_are, entry_of, step_daemon, step_ended}
 use Rattle.sl_course_law.proofs.Keeping.{Goes_on}
 use Rattle.sl_course_law.proofs.Turning.{Alone, Began, Called, Came_up, Clocked, Crashed, Elsewhere, Stays, Stepped, Tested, Took, Turned, Went_down}
+use Rattle.sl_plain.proofs.Lists.{contains_cases, contains_more}
 use Rattle.sl_run.specs.Events.{first_change, next_step}
 use Rattle.sl_run.specs.Runs.{Happening}
 use Rattle.sl_run.specs.Safety.{world_at}
@@ -10,7 +11,6 @@ use Rattle.sl_run.specs.declared.event.Event.{Event}
 use Rattle.sl_run.specs.declared.header.Header.{Header}
 use Rattle.sl_run_law.proofs.Going.{first_goes}
 use Rattle.sl_run_law.specs.Daemons.{IsSettled}
-use Rattle.sl_session_law.proofs.Making.{contains_cases, contains_more}
 use Rattle.sl_trace.specs.Traces.{Trace}
 use Rattle.sl_trace.specs.declared.effects.Effects.{Effects}
 use Rattle.sl_trace.specs.declared.effects.Entry.{Entry}

@@ -3,7 +3,6 @@
 use Rattle.sl_ballots.specs.History.{Owner as Holder}
 use Rattle.sl_id_safety.proofs.Acting.{lockspaces_are_areas}
 use Rattle.sl_law.specs.LawfulArea.{is_area_work}
-use Rattle.sl_place_law.proofs.Finding.{equal_numbers}
 use Rattle.sl_resource_history.proofs.Calls.{IsWork, block_works, sent_there, worker_joined}
 use Rattle.sl_resource_history.proofs.Landed.{landed_block}
 use Rattle.sl_resource_history.proofs.Shown.{writes_is}
@@ -24,7 +23,7 @@ use Rattle.sl_trace.specs.declared.effects.Purpose.TheVariants.{Leaving}
 use Rattle.sl_trace.specs.declared.effects.Purpose.{Purpose}
 use Rattle.sl_words.proofs.CaseLaws.{false_is_true}
 use Rattle.std.proofs.Common.{ap, inl, inr, refl, subst, sym, ◌∙◌}
-use Rattle.std.proofs.lemmas.Bool.{and_from}
+use Rattle.std.proofs.lemmas.Bool.{and_from, eq-eqb}
 use Rattle.std.specs.Prelude.{Contains, List, false, true, ℕ, ◌==◌, ◌≡◌}
 
 -- ---- sessions of a host
@@ -65,8 +64,8 @@ not_free q h = refl
 pub sent_own : (i : SessionId) (x : Sent) → sender_of x ≡ i → is_course_of i x.course ≡ true
 sent_own i x mine =
     subst (λ j. is_course_of j x.course ≡ true) mine
-    (and_from (x.course.daemon == x.course.daemon) (x.course.call.session == x.course.call.session) (equal_numbers x.course.daemon x.course.daemon refl)
-    (equal_numbers x.course.call.session x.course.call.session refl))
+    (and_from (x.course.daemon == x.course.daemon) (x.course.call.session == x.course.call.session) (eq-eqb x.course.daemon x.course.daemon refl)
+    (eq-eqb x.course.call.session x.course.call.session refl))
 
 lands_before : (p : Program) (h : Header) (xs : List Happening) → LawfulRun p h xs → (r : ResourceLine) → Contains h.resources r → (k : ℕ) → is_host (world_at p h xs) k ≡ true
     → (i j : SessionId) → IsOverWhenJoins p h xs i j → LandsBefore (world_at p h xs) r k i j

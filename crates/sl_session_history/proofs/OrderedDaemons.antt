@@ -6,6 +6,7 @@ use Rattle.sl_course_law.proofs.Turning.{Alone, Began, Called, Came_up, Clocked,
 use Rattle.sl_front_law.proofs.Having.{contains_append}
 use Rattle.sl_front_law.proofs.Going.{fronts_are_lawful, run_after}
 use Rattle.sl_landing_law.proofs.Passing.{first_later, world_first}
+use Rattle.sl_plain.proofs.Lists.{contains_cases, contains_first, contains_more, contains_none}
 use Rattle.sl_run.specs.Events.{first_change, machine_of, next_step, with_entry}
 use Rattle.sl_run.specs.Runs.{Happening}
 use Rattle.sl_run.specs.Safety.{LawfulRun, world_at}
@@ -14,7 +15,6 @@ use Rattle.sl_run.specs.declared.event.Event.{Event}
 use Rattle.sl_run.specs.declared.header.Header.{Header}
 use Rattle.sl_run_law.specs.Daemons.{IsSettled}
 use Rattle.sl_session_history.proofs.OrderedFronts.{nothing_more, steps_grow}
-use Rattle.sl_session_law.proofs.Making.{contains_cases, contains_first, contains_more, contains_none}
 use Rattle.sl_trace.specs.Traces.{Setting, Trace}
 use Rattle.sl_trace.specs.declared.effects.Entry.{Entry}
 use Rattle.std.proofs.Common.{ap, arith, inl, inr, refl, subst, sym, ◌∙◌}

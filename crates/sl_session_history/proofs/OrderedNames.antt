@@ -1,7 +1,7 @@
 -- The names of a resource's history: the session that one names, when it joined, and that it has joined at the fronts from there on.
 use Rattle.sl_ballots.specs.History.{Owner as Holder}
-use Rattle.sl_id_state.proofs.Listing.{then_some}
-use Rattle.sl_place_law.proofs.Finding.{found_in, same_number}
+use Rattle.sl_plain.proofs.Lists.{find_inside}
+use Rattle.sl_plain.proofs.Options.{then_value}
 use Rattle.sl_resource_history.specs.Histories.{is_over_in, joined_of, joined_step}
 use Rattle.sl_resource_history.specs.Sending.{all_names, holder_of, holder_of_found, is_joined_there, same_holder, session_of_holder}
 use Rattle.sl_run.specs.Runs.{Happening}
@@ -15,6 +15,7 @@ use Rattle.sl_words.proofs.CaseLaws.{one_value}
 use Rattle.sl_words.proofs.WordLaws.{and_true, some_is_true}
 use Rattle.sl_words.specs.Words.{some_is}
 use Rattle.std.proofs.Common.{ap, arith, inl, inr, subst, sym, ◌∙◌}
+use Rattle.std.proofs.lemmas.Bool.{eqb-true}
 use Rattle.std.specs.Prelude.{List, Some, [], option_and_then, true, ℕ, ◌&&◌, ◌++◌, ◌==◌, ◌≡◌, ◌≤◌, ◌⊎◌}
 
 -- ---- names
@@ -28,12 +29,12 @@ pub record IsNamed (w : World) (lockspace : List ℕ) (o : Holder) (i : SessionI
 pub one_holder : (a b : Holder) → same_holder a b ≡ true → a ≡ b
 one_holder a b is =
     let both = and_true (a.id == b.id) (a.generation == b.generation) is in
-    ap (λ n. let x : Holder = record { id = n; generation = a.generation } in x) (same_number a.id b.id both.0)
-    ∙ ap (λ n. let x : Holder = record { id = b.id; generation = n } in x) (same_number a.generation b.generation both.1)
+    ap (λ n. let x : Holder = record { id = n; generation = a.generation } in x) (eqb-true a.id b.id both.0)
+    ∙ ap (λ n. let x : Holder = record { id = b.id; generation = n } in x) (eqb-true a.generation b.generation both.1)
 
 pub named : (w : World) (lockspace : List ℕ) (o : Holder) (i : SessionId) → session_of_holder w lockspace o ≡ Some i → (f : Found) × IsNamed w lockspace o i f
 named w lockspace o i at =
-    let x = found_in (λ (k : SessionId). is_joined_there w lockspace k && same_holder (holder_of w k) o) (all_names w) i at in
+    let x = find_inside (λ (k : SessionId). is_joined_there w lockspace k && same_holder (holder_of w k) o) (all_names w) i at in
     let both = and_true (is_joined_there w lockspace i) (same_holder (holder_of w i) o) x.1 in
     let m = member_of w lockspace i both.0 in
     (m.0, record { at = at; member = m.1; name = sym (member_name w i m.0 m.1.its) ∙ one_holder (holder_of w i) o both.1 })
@@ -47,8 +48,8 @@ pub record JoinedAs (w : World) (lockspace : List ℕ) (o : Holder) (n : ℕ) : 
 
 pub joined_as : (w : World) (lockspace : List ℕ) (o : Holder) (n : ℕ) → joined_of w lockspace o ≡ Some n → JoinedAs w lockspace o n
 joined_as w lockspace o n is =
-    let i = then_some (λ k. option_and_then joined_step (session_of_world w k)) (session_of_holder w lockspace o) n is in
-    let f = then_some joined_step (session_of_world w i.0) n i.2 in
+    let i = then_value (λ k. option_and_then joined_step (session_of_world w k)) (session_of_holder w lockspace o) n is in
+    let f = then_value joined_step (session_of_world w i.0) n i.2 in
     let x = named w lockspace o i.0 i.1 in
     let same : f.0 ≡ x.0 = one_value f.0 x.0 (session_of_world w i.0) f.1 x.1.member.its in
     record { session = i.0; found = x.0; named = x.1; step = ap joined_step (sym same) ∙ f.2 }

@@ -13,10 +13,11 @@ use Rattle.sl_id_state.proofs.Proven.{grounds}
 use Rattle.sl_landing_law.proofs.Passing.{first_later, world_first}
 use Rattle.sl_law.proofs.LawFacts.{lawful-front}
 use Rattle.sl_law.specs.Lawful.{Lawful}
-use Rattle.sl_moment_law.proofs.Ordering.{entries_ordered}
+use Rattle.sl_moment_law.proofs.Ordering.{entries_ordered, fall_step}
+use Rattle.sl_plain.proofs.Lists.{contains_first, contains_none}
 use Rattle.sl_resource_history.proofs.Alone.{Differ, Stands, given_differ, one_stands}
 use Rattle.sl_resource_history.proofs.Calls.{name_is}
-use Rattle.sl_resource_history.proofs.Steps.{fall_apart, fall_step, one_daemon, one_entry, stamp_there}
+use Rattle.sl_resource_history.proofs.Steps.{fall_apart, one_daemon, one_entry}
 use Rattle.sl_resource_history.specs.Histories.{joined_step}
 use Rattle.sl_run.specs.Runs.{Happening}
 use Rattle.sl_run.specs.Safety.{Found, HasJoined, IsSession, LawfulRun, SessionId, found_generation, setting_in, trace_of, world_at}
@@ -26,11 +27,11 @@ use Rattle.sl_run_law.specs.Fates.{Every}
 use Rattle.sl_session_history.proofs.OrderedDaemons.{Came, IsOfEvent, event_comes}
 use Rattle.sl_session_history.proofs.OrderedStood.{At_first, By_entry, JoinedWhen, joined_stood, joined_when}
 use Rattle.sl_session_history.proofs.OrderedTraces.{begun_end, joined_end, joins_kept}
-use Rattle.sl_session_law.proofs.Making.{contains_first, contains_none}
 use Rattle.sl_session_law.specs.Promises.{IsSession as IsSessionOf}
 use Rattle.sl_sessions.specs.Sessions.{Session, generation_of, given_number, joined_after}
 use Rattle.sl_trace.specs.Traces.{Setting, Trace}
 use Rattle.sl_trace.specs.declared.effects.Entry.{Entry}
+use Rattle.sl_watchdog_law.proofs.Stamps.{stamp_there}
 use Rattle.sl_words.proofs.CaseLaws.{one_value, true_is_false}
 use Rattle.std.proofs.Common.{ap, arith, inl, inr, refl, subst, sym, ◌∙◌}
 use Rattle.std.proofs.lemmas.Bool.{cases_lt}

@@ -3,7 +3,7 @@
 use Rattle.sl_course_law.proofs.Mirrored.{machines_mirror}
 use Rattle.sl_course_law.specs.Stamping.{AnswersAgree, IsAnsweredAs, IsCourseOf}
 use Rattle.sl_front_law.proofs.Going.{IsLast, fronts_are_lawful, last_event}
-use Rattle.sl_id_safety.proofs.Freed.{freed_answered, standing_joined}
+use Rattle.sl_id_safety.proofs.Freed.{freed_answered}
 use Rattle.sl_id_safety.proofs.Quieting.{IsQuiet}
 use Rattle.sl_id_safety.proofs.Silence.{GoesOn, freed_by, goes_on, over_is_quiet}
 use Rattle.sl_id_state.proofs.Bridge.{IsKnown, known}
@@ -16,7 +16,9 @@ use Rattle.sl_landing_law.proofs.Making.{run_made_before}
 use Rattle.sl_landing_law.proofs.Stepping.{came}
 use Rattle.sl_law.specs.Lawful.{Lawful}
 use Rattle.sl_law.specs.LawfulDelta.{LawfulDeltaCall}
-use Rattle.sl_place_law.proofs.Finding.{filtered, found_in, partner}
+use Rattle.sl_place_law.proofs.Finding.{partner}
+use Rattle.sl_place_law.proofs.Looks.{stands as standing_joined}
+use Rattle.sl_plain.proofs.Lists.{any_of, find_inside, kept_inside}
 use Rattle.sl_run.specs.Runs.{Happening}
 use Rattle.sl_run.specs.Safety.{Found, HasJoined, IsSession, LawfulRun, SessionId, free_landed, has_write_in_flight, is_course_of, is_over, setting_in, trace_of, was_reset, world_at}
 use Rattle.sl_run.specs.Worlds.{Course, Dropped, Fate, In_flight, Landed, Machine, Program, Stamp, Torn, World, is_in_flight, is_of_running, is_open, is_write_course, machine_at}
@@ -30,7 +32,6 @@ use Rattle.sl_trace.specs.declared.effects.Call.{Call}
 use Rattle.sl_trace.specs.declared.effects.Purpose.TheVariants.{Leaving}
 use Rattle.sl_trace.specs.declared.effects.Purpose.{Purpose}
 use Rattle.sl_words.proofs.CaseLaws.{no_value, none_some, true_is_false}
-use Rattle.sl_watchdog_law.proofs.Finding.{any_of}
 use Rattle.std.proofs.lemmas.Bool.{cases_lt}
 use Rattle.std.proofs.Common.{ap, arith, inl, inr, refl, subst, sym, ◌∙◌}
 use Rattle.std.specs.Prelude.{Bool, Contains, List, None, Option, Some, [], false, is_none, is_some, not, true, ℕ, ◌&&◌, ◌++◌, ◌<◌, ◌||◌, ◌∷◌, ◌≡◌, ◌≤◌, ◌⊎◌}
@@ -51,7 +52,7 @@ refused_if es s k none is = ap (λ o. ended_by o (removed_after es s) (refused_a
 -- Its free tells that it had joined.
 freed_joined : (st : Setting) (es : Trace) (s : Session) → Lawful st es → IsSessionOf st es s → (m : Submitted) → free_write (calls_of es s) ≡ Some m → (k : ℕ) × (joined_after es s ≡ Some k)
 freed_joined st es s h its m is =
-    let found = found_in (λ (y : Submitted). is_free_purpose y.call.purpose) (calls_of es s) m is in
+    let found = find_inside (λ (y : Submitted). is_free_purpose y.call.purpose) (calls_of es s) m is in
     let at = stands (calls_of es s) m found.0 in
     let d : IsMadeAfter es s m at.older = tail_at (IsMadeAfter es s) at.newer m at.older (subst (λ ms. AreMade es s ms) at.whole (all_made es s)) in
     let k = standing_joined (front_at d) s (free_stands st (front_at d) s _ m.call.purpose (lawful_call st es s m at.older d h its).law found.1) in
@@ -138,14 +139,14 @@ over_none_new p h now x run i f its over c has writes other = by (known grounds 
 
   flies : IsNew c → has_write_in_flight i f.machine ≡ false → ⊥
   flies new none =
-      let mine = filtered (is_course_of i) f.machine.calls c has in
+      let mine = kept_inside (is_course_of i) f.machine.calls c has in
       true_is_false (sym (any_of (λ (y : Course). is_course_of i y && is_write_course y && is_open f.machine y) f.machine.calls c
       (flies_by (is_course_of i c) (is_write_course c) (is_of_running f.machine c) c.answered c.fate mine.1 writes new.answered new.fate) mine.0) ∙ none)
 
   by : IsKnown (world_at p h (now ++ x ∷ [])) i f → (c.made.step < (world_at p h now).step) ⊎ ((world_at p h now).step ≤ c.made.step) → c.made.step < (world_at p h now).step
   by kn (inl lt) = lt
   by kn (inr le) =
-      let new = new_flies p h now x run i.machine f.machine c kn.there.at (filtered (is_course_of i) f.machine.calls c has).0 le in
+      let new = new_flies p h now x run i.machine f.machine c kn.there.at (kept_inside (is_course_of i) f.machine.calls c has).0 le in
       elim (over_or (free_landed i f) (is_some (ended_after (trace_of f) f.session)) (was_reset f) (has_write_in_flight i f.machine) over) as (λ z. c.made.step < (world_at p h now).step) [
         | inl free ↦ absurd (freed kn new free)
         | inr none ↦ absurd (flies new none)

@@ -6,9 +6,10 @@ use Rattle.sl_id_safety.proofs.Silence.{GoesOn, calls_stay, goes_on, over_are_si
 use Rattle.sl_id_state.proofs.Tails.{IsLater}
 use Rattle.sl_id_state.specs.IdStates.{own_courses}
 use Rattle.sl_moment_law.proofs.Ordering.{entries_ordered}
-use Rattle.sl_place_law.proofs.Finding.{filtered, partner, partner_of}
+use Rattle.sl_place_law.proofs.Finding.{partner, partner_of}
 use Rattle.sl_place_law.proofs.Looks.{made_below}
-use Rattle.sl_resource_history.proofs.Steps.{fall_apart, stamp_there}
+use Rattle.sl_plain.proofs.Lists.{contains_first, kept_inside}
+use Rattle.sl_resource_history.proofs.Steps.{fall_apart}
 use Rattle.sl_run.specs.Runs.{Happening}
 use Rattle.sl_run.specs.Safety.{Found, HasJoined, IsSession, LawfulRun, SessionId, is_over, trace_of, world_at}
 use Rattle.sl_run.specs.Worlds.{Course, Program, Stamp, World, is_write_course, world_with}
@@ -16,10 +17,10 @@ use Rattle.sl_run.specs.declared.header.Header.{Header}
 use Rattle.sl_session_history.proofs.OrderedFronts.{Ended, Ends, Nothing, ended, some_steps}
 use Rattle.sl_session_history.proofs.OrderedOver.{over_none_new}
 use Rattle.sl_session_history.proofs.OrderedTraces.{same_length}
-use Rattle.sl_session_law.proofs.Making.{contains_first}
 use Rattle.sl_sessions.specs.Sessions.{calls_of, is_call_of, is_free_purpose}
 use Rattle.sl_trace.specs.Traces.{is_write, submitted}
 use Rattle.sl_trace.specs.declared.effects.Call.{Call}
+use Rattle.sl_watchdog_law.proofs.Stamps.{stamp_there}
 use Rattle.sl_words.proofs.CaseLaws.{one_value}
 use Rattle.std.proofs.Common.{ap, arith, refl, subst, sym, ◌∙◌}
 use Rattle.std.specs.Prelude.{Contains, List, [], false, length, true, ℕ, ◌++◌, ◌+◌, ◌<◌, ◌∷◌, ◌≡◌, ◌≤◌}
@@ -56,7 +57,7 @@ over_wrote_before p h now rest run i f g its also joined over c has writes other
       let call : d.0.call ≡ c.call = sym d.2.call ∙ sym n.2.same.call ∙ m.2.call in
       let here : LawfulRun p h now = fronts_are_lawful p h now rest run in
       let stamped : IsStamped f.daemon = entries_are_stamped p h now here i.machine f.machine f.daemon on.before.there.at on.before.there.has in
-      let below = made_below (trace_of f) n.0 (filtered (is_call_of f.session) (submitted (trace_of f)) n.0 n.1).0 in
+      let below = made_below (trace_of f) n.0 (kept_inside (is_call_of f.session) (submitted (trace_of f)) n.0 n.1).0 in
       let long : n.0.at < length f.daemon.stamps = subst (λ k. n.0.at < k) (sym (same_length f.daemon.stamps (trace_of f) stamped)) below in
       let made : d.0.made ≡ c.made =
       one_value d.0.made c.made (stamp_in f.daemon.stamps n.0.at) d.2.made

@@ -4,8 +4,8 @@ use Rattle.sl_course_law.specs.Stamping.{IsStampOf, Pairwise, stamp_in}
 use Rattle.sl_id_state.proofs.Living.{begun_if_joined}
 use Rattle.sl_law.proofs.LawFacts.{lawful-front}
 use Rattle.sl_law.specs.Lawful.{Lawful}
+use Rattle.sl_plain.proofs.Lists.{contains_first, contains_more}
 use Rattle.sl_run.specs.Worlds.{Stamp}
-use Rattle.sl_session_law.proofs.Making.{contains_first, contains_more}
 use Rattle.sl_session_law.proofs.Staying.{joined_more, marks_stay}
 use Rattle.sl_session_law.specs.Promises.{IsSession as IsSessionOf}
 use Rattle.sl_sessions.specs.Sessions.{Session, is_join_done, joined_after, removed_after}

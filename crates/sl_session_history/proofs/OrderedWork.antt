@@ -3,8 +3,8 @@ use Rattle.sl_id_state.specs.IdStates.{own_courses}
 use Rattle.sl_law.specs.Lawful.{Lawful}
 use Rattle.sl_law.specs.LawfulArea.{is_area_work}
 use Rattle.sl_place_law.proofs.Daemons.{daemons_are_fine, stamp_order}
-use Rattle.sl_place_law.proofs.Finding.{equal_numbers}
 use Rattle.sl_place_law.proofs.Reading.{call_law}
+use Rattle.sl_plain.proofs.Lists.{kept}
 use Rattle.sl_resource_history.proofs.Calls.{IsOwned, IsWork, block_sent, found_of, holder_named, made_of, owner_found, worker_joined, write_is}
 use Rattle.sl_resource_history.specs.Histories.{joined_of, joined_step}
 use Rattle.sl_resource_history.specs.Sending.{Sent, holder_of, sender_of, session_of_holder, step_of, writes_block}
@@ -16,7 +16,6 @@ use Rattle.sl_run.specs.declared.header.ResourceLine.{ResourceLine}
 use Rattle.sl_session_history.proofs.Named.{names_are_apart}
 use Rattle.sl_session_history.proofs.OrderedStood.{At_first, By_entry, JoinedWhen, joined_when, step_by}
 use Rattle.sl_session_history.proofs.OrderedTraces.{joined_within}
-use Rattle.sl_session_law.proofs.Naming.{kept}
 use Rattle.sl_session_law.proofs.Staying.{marks_stay}
 use Rattle.sl_session_law.specs.Promises.{IsMade, IsSession as IsSessionOf, front_of}
 use Rattle.sl_sessions.specs.Sessions.{Session, is_active, is_free_purpose, joined_after, leaving_job, recovery_of, removed_after}
@@ -26,7 +25,7 @@ use Rattle.sl_trace.specs.declared.effects.Purpose.TheVariants.{Leaving}
 use Rattle.sl_trace.specs.declared.effects.Purpose.{Purpose}
 use Rattle.sl_words.proofs.CaseLaws.{false_is_true, one_value}
 use Rattle.std.proofs.Common.{ap, arith, refl, subst, sym, ◌∙◌}
-use Rattle.std.proofs.lemmas.Bool.{and_from}
+use Rattle.std.proofs.lemmas.Bool.{and_from, eq-eqb}
 use Rattle.std.specs.Prelude.{Bool, Contains, List, None, Option, Some, false, is_none, is_some, length, option_and_then, option_map, suc, true, ℕ, ◌&&◌, ◌∷◌, ◌≡◌, ◌≤◌}
 
 -- ---- had joined before
@@ -111,7 +110,7 @@ own_write w r x k is =
     let b = block_sent x.course is in
     record {
       has = kept (is_course_of (sender_of x)) k.owned.there.machine.calls x.course
-          (and_from _ _ (equal_numbers x.course.daemon x.course.daemon refl) (equal_numbers x.course.call.session x.course.call.session refl)) k.owned.there.has;
+          (and_from _ _ (eq-eqb x.course.daemon x.course.daemon refl) (eq-eqb x.course.call.session x.course.call.session refl)) k.owned.there.has;
       writes = write_is x.course.call.op _ b.1;
       other = area_not_free x.course.call.purpose k.area;
     }

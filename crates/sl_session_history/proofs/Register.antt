@@ -5,12 +5,13 @@ use Rattle.sl_ballots.specs.Disk.{Wrote}
 use Rattle.sl_id_safety.proofs.Silence.{over_are_silent}
 use Rattle.sl_id_state.specs.IdStates.{own_courses}
 use Rattle.sl_leases.specs.Leases.{is_on}
-use Rattle.sl_place_law.proofs.Finding.{equal_numbers, same_number}
+use Rattle.sl_plain.proofs.Lists.{kept}
 use Rattle.sl_resource_history.proofs.Calls.{IsWork, block_works, found_of, owner_found, read_works}
 use Rattle.sl_resource_history.proofs.Landed.{joined_then}
 use Rattle.sl_resource_history.proofs.Latest.{newest}
 use Rattle.sl_resource_history.proofs.Newest.{reads_show_newest}
-use Rattle.sl_resource_history.proofs.Registers.{IsBlockAt, IsReadAt, block_at, found_before, ok_is, read_found, session_is}
+use Rattle.sl_resource_history.proofs.Owning.{same_is}
+use Rattle.sl_resource_history.proofs.Registers.{IsBlockAt, IsReadAt, block_at, found_before, ok_is, read_found}
 use Rattle.sl_resource_history.proofs.Standing.{standing}
 use Rattle.sl_resource_history.proofs.Steps.{call_timed}
 use Rattle.sl_resource_history.specs.Histories.{counts_own, is_host, landing_shown, own_before, shown_by, shows_by, shows_whole, step_of_landing}
@@ -25,12 +26,11 @@ use Rattle.sl_run.specs.declared.header.ResourceLine.{ResourceLine}
 use Rattle.sl_session_history.proofs.Following.{IsOverBy, IsOverWhenJoins, Sequel}
 use Rattle.sl_session_history.proofs.FollowingSessions.{host_sequel, sent_own, sessions_follow, worker_is_host, worker_of_host}
 use Rattle.sl_session_history.specs.Promises.{HistoriesShowNewest}
-use Rattle.sl_session_law.proofs.Naming.{kept}
 use Rattle.sl_words.proofs.CaseLaws.{true_is_false}
 use Rattle.sl_words.proofs.WordLaws.{and_true, some_is_true}
 use Rattle.sl_words.specs.Words.{some_is}
 use Rattle.std.proofs.Common.{ap, arith, inl, inr, refl, subst, sym, ◌∙◌}
-use Rattle.std.proofs.lemmas.Bool.{and_from}
+use Rattle.std.proofs.lemmas.Bool.{and_from, eq-eqb, eqb-true}
 use Rattle.std.proofs.lemmas.Bool.Decides.{nat_tests}
 use Rattle.std.specs.Option.{option_map_or}
 use Rattle.std.specs.Prelude.{Bool, Contains, List, None, Option, Some, false, find, if◌then◌else◌, is_some, nat_lt, true, ℕ, ◌&&◌, ◌+◌, ◌<◌, ◌==◌, ◌≡◌, ◌≤◌}
@@ -70,7 +70,7 @@ less_is m n h = grind (arith, nat_tests)
 
 before_sender : (w : World) (r : ResourceLine) (i : SessionId) (step : ℕ) (x : Sent) → is_block_before w (spot_of_line r) i step x ≡ true → i ≡ sender_of x
 before_sender w r i step x is =
-    session_is i (sender_of x) (and_true (nat_lt (step_of x) step && is_on w.layout (spot_of_line r) x.course.call && writes_block x.course) (same_session i (sender_of x)) is).1
+    same_is i (sender_of x) (and_true (nat_lt (step_of x) step && is_on w.layout (spot_of_line r) x.course.call && writes_block x.course) (same_session i (sender_of x)) is).1
 
 on_machine : (w : World) (r : ResourceLine) (i : SessionId) (step : ℕ) (x : Sent) → is_block_before w (spot_of_line r) i step x ≡ true → x.machine ≡ i.machine
 on_machine w r i step x is = ap (λ (j : SessionId). j.machine) (sym (before_sender w r i step x is))
@@ -87,8 +87,8 @@ last_is_newest p h xs run r i n x y sent is found =
 before_is : (w : World) (r : ResourceLine) (k n : ℕ) (x : Sent) → BlockSent w r k x → step_of x < n → is_block_before w (spot_of_line r) (sender_of x) n x ≡ true
 before_is w r k n x b early =
     and_from _ _ (and_from _ _ (and_from _ _ (less_is (step_of x) n early) b.on) b.block)
-    (and_from _ _ (and_from _ _ (equal_numbers x.machine x.machine refl) (equal_numbers x.course.daemon x.course.daemon refl))
-    (equal_numbers x.course.call.session x.course.call.session refl))
+    (and_from _ _ (and_from _ _ (eq-eqb x.machine x.machine refl) (eq-eqb x.course.daemon x.course.daemon refl))
+    (eq-eqb x.course.call.session x.course.call.session refl))
 
 never_after : (z x s : ℕ) → z ≤ x → x < s → s ≤ z → ⊥
 never_after z x s p q t = omega (arith, p, q, t)
@@ -154,7 +154,7 @@ shown_at_least p h xs run r there k x z e work true true is was shows = shown_wh
 shown_at_least p h xs run r there k x z e work true false is was shows =
     let w : World = world_at p h xs in
     let both = and_true ((holder_of w (sender_of z)).id == k) (is_some (own_before w (spot_of_line r) z)) shows in
-    own_by p h xs run r there k x z e work (same_number (holder_of w (sender_of z)).id k both.0) (own_before w (spot_of_line r) z) refl both.1
+    own_by p h xs run r there k x z e work (eqb-true (holder_of w (sender_of z)).id k both.0) (own_before w (spot_of_line r) z) refl both.1
 
 -- ---- the law
 

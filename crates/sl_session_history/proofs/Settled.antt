@@ -1,10 +1,11 @@
 -- Nothing of a session lands once it is over. What lands was in flight right before, and one that is over has no write in flight, or its
 -- free has landed, and that was sent where all its other calls were answered.
-use Rattle.sl_course_law.proofs.Answering.{flight_waits}
 use Rattle.sl_course_law.proofs.Distinct.{each_distinct}
 use Rattle.sl_course_law.proofs.Mirrored.{machines_mirror}
 use Rattle.sl_course_law.specs.Stamping.{AnswersAgree, IsCourseOf}
 use Rattle.sl_front_law.proofs.Going.{fronts_are_lawful, last_event, run_after, run_keeps}
+use Rattle.sl_plain.proofs.Lists.{any_of, contains_cases, contains_none, find_inside, kept}
+use Rattle.sl_run_law.proofs.Answered.{flight_waits}
 use Rattle.sl_run_law.proofs.Tracking.{run_tracks}
 use Rattle.sl_id_safety.proofs.Fronting.{step_next}
 use Rattle.sl_id_safety.proofs.Freed.{freed_answered}
@@ -18,7 +19,7 @@ use Rattle.sl_id_steps.proofs.OtherSessions.{goes_has}
 use Rattle.sl_landing_law.proofs.Arriving.{Arrival, Lands, first_lands}
 use Rattle.sl_landing_law.proofs.Listing.{one_call}
 use Rattle.sl_landing_law.proofs.Passing.{step_landings}
-use Rattle.sl_place_law.proofs.Finding.{equal_numbers, found_in, partner}
+use Rattle.sl_place_law.proofs.Finding.{partner}
 use Rattle.sl_run.specs.Events.{first_change, input_of, machine_of, next_step}
 use Rattle.sl_run.specs.Runs.{Happening}
 use Rattle.sl_run.specs.Safety.{Found, IsSession, LawfulRun, SessionId, free_landed, has_write_in_flight, is_course_of, is_over, setting_in, trace_of, was_reset, world_at}
@@ -27,16 +28,13 @@ use Rattle.sl_run.specs.declared.header.Header.{Header}
 use Rattle.sl_run_law.specs.Courses.{Continues}
 use Rattle.sl_session_history.proofs.Following.{IsOverBy, fronts_compare, steps_rise, append_apart}
 use Rattle.sl_session_history.proofs.FollowingJoins.{append_more}
-use Rattle.sl_session_law.proofs.Making.{contains_cases, contains_none}
-use Rattle.sl_session_law.proofs.Naming.{kept}
 use Rattle.sl_sessions.specs.Sessions.{calls_of, ended_after, free_write, is_free_purpose}
 use Rattle.sl_trace.specs.Traces.{Answered}
 use Rattle.sl_trace.specs.declared.effects.Call.{Call}
-use Rattle.sl_watchdog_law.proofs.Finding.{any_of}
 use Rattle.sl_words.proofs.CaseLaws.{no_value, none_some, one_value, some_value, true_is_false}
 use Rattle.sl_words.proofs.WordLaws.{and_true}
 use Rattle.std.proofs.Common.{ap, arith, inl, inr, refl, subst, sym, ◌∙◌}
-use Rattle.std.proofs.lemmas.Bool.{and_from, cases_lt}
+use Rattle.std.proofs.lemmas.Bool.{and_from, cases_lt, eq-eqb}
 use Rattle.std.specs.Prelude.{Bool, Contains, List, None, Option, Some, [], false, is_some, not, true, ℕ, ◌&&◌, ◌++◌, ◌+◌, ◌<◌, ◌==◌, ◌||◌, ◌∷◌, ◌≡◌, ◌≤◌, ◌⊎◌}
 
 -- ---- what lands was in flight
@@ -140,10 +138,10 @@ not_over : (w : World) (i : SessionId) (f : Found) → IsKnown w i f → (n : �
 not_over w i f kn n c flies writes mine other over = by (either (free_landed i f) (is_some (ended_after (trace_of f) f.session) || was_reset f) (has_write_in_flight i f.machine) over) where
   by : (free_landed i f ≡ true) ⊎ (has_write_in_flight i f.machine ≡ false) → ⊥
   by (inl free) =
-      let there = found_in (λ (y : Course). y.call.number == n && is_open f.machine y) f.machine.calls c flies in
+      let there = find_inside (λ (y : Course). y.call.number == n && is_open f.machine y) f.machine.calls c flies in
       freed w i f kn c (kept (is_course_of i) f.machine.calls c mine there.0) other (flight_waits f.machine n c flies).1 free
   by (inr none) =
-      let there = found_in (λ (y : Course). y.call.number == n && is_open f.machine y) f.machine.calls c flies in
+      let there = find_inside (λ (y : Course). y.call.number == n && is_open f.machine y) f.machine.calls c flies in
       let opens = (and_true (c.call.number == n) (is_open f.machine c) there.1).1 in
       true_is_false
       (sym (any_of (λ (y : Course). is_course_of i y && is_write_course y && is_open f.machine y) f.machine.calls c
@@ -187,11 +185,11 @@ flight_is p h xs run l q m a c at has writer =
     let after : machine_at (world_at p h xs) q.machine ≡ Some t.0 =
     ap (λ ys. machine_at (world_at p h ys) q.machine) q.whole ∙ ap (λ v. machine_at v q.machine) (run_after (world_with p h) q.before q.rest) ∙ t.1 in
     let host : t.0 ≡ a = one_value t.0 a (machine_at (world_at p h xs) m) (ap (λ k. machine_at (world_at p h xs) k) one ∙ after) at in
-    let there = found_in (λ (y : Course). y.call.number == q.number && is_open q.host y) q.host.calls q.flight q.flies in
+    let there = find_inside (λ (y : Course). y.call.number == q.number && is_open q.host y) q.host.calls q.flight q.flies in
     let d = goes_has q.host.calls t.0.calls q.flight t.2.calls there.0 in
     let call : d.0 ≡ c =
     one_call a.calls d.0 c (each_distinct p h xs run m a at) (subst (λ (b : Machine). Contains b.calls d.0) host d.1) has
-    (equal_numbers d.0.call.number c.call.number (ap (λ (y : Call). y.number) d.2.call ∙ ap (λ (y : ℕ × ℕ). y.1) (sym same))) in
+    (eq-eqb d.0.call.number c.call.number (ap (λ (y : Call). y.number) d.2.call ∙ ap (λ (y : ℕ × ℕ). y.1) (sym same))) in
     (one, subst (λ e. Continues q.flight e) call d.2)
 
 own_before : (i : SessionId) (c d : Course) → Continues c d → is_course_of i d ≡ true → is_course_of i c ≡ true

@@ -1,9 +1,10 @@
 -- The connection stands while a write is unanswered.
 use Rattle.sl_law.specs.LawfulWatchdog.{CoveredBy, is_covered}
 use Rattle.sl_law.specs.Lawful.{Lawful}
+use Rattle.sl_plain.proofs.Lists.{got_inside}
+use Rattle.sl_plain.proofs.Truth.{or_false}
 use Rattle.sl_session_law.proofs.Joining.{done_unanswered, in_turn}
 use Rattle.sl_session_law.proofs.Parting.{not_removed}
-use Rattle.sl_session_law.proofs.Owning.{got_inside}
 use Rattle.sl_session_law.proofs.Silence.{stage_by}
 use Rattle.sl_session_law.specs.Promises.{IsSession, JoiningsAreInTurn, WritesAreCovered, all_done, fits, fits_as, is_in_turn}
 use Rattle.sl_sessions.specs.Sessions.{Session, calls_of, free_write, has_open_write, is_covered_stage, joined_after, refused_after, removed_after, sessions, stage_after, stage_in, stage_of}
@@ -40,10 +41,6 @@ by_purpose SeeRequest h = absurd (false_is_true h)
 by_purpose (ValueWrite j) h = absurd (false_is_true h)
 by_purpose (ValueRead j) h = absurd (false_is_true h)
 
-or_false : (a : Bool) → (a || false) ≡ true → a ≡ true
-or_false true h = refl
-or_false false h = absurd (false_is_true h)
-
 abbrev open_with : Submitted → Option Answered → List Submitted → List Submitted
 open_with m o rest = cond (is_none o) (m ∷ rest) rest
 
@@ -52,14 +49,14 @@ covered_by : (m : Submitted) (o : Option Answered) → fits m ≡ true → list_
 covered_by m (Some a) h unmet = absurd (false_is_true unmet)
 covered_by m None h unmet = by_purpose m.call.purpose (ap (λ w. fits_as m.call.purpose w) (sym (or_false (is_write m.call.op) unmet)) ∙ h)
 
-covered_in : (ms : List Submitted) → is_in_turn ms ≡ true → list_any (λ x. is_write x.call.op) (unanswered ms) ≡ true → is_covered_stage (stage_in ms) ≡ true
+pub covered_in : (ms : List Submitted) → is_in_turn ms ≡ true → list_any (λ x. is_write x.call.op) (unanswered ms) ≡ true → is_covered_stage (stage_in ms) ≡ true
 covered_in [] h unmet = absurd (false_is_true unmet)
 covered_in (m ∷ ms) h unmet =
     let parts = and_true (fits m) (all_done ms) h in
     covered_by m m.answer parts.0
     (ap (λ rest. list_any (λ (x : Submitted). is_write x.call.op) (open_with m m.answer rest)) (sym (done_unanswered ms parts.1)) ∙ unmet)
 
-by_stage : (joined removed refused : Option ℕ) (free : Option Submitted) (joining : Stage) → removed ≡ None → (joined ≡ None → is_covered_stage joining ≡ true)
+pub by_stage : (joined removed refused : Option ℕ) (free : Option Submitted) (joining : Stage) → removed ≡ None → (joined ≡ None → is_covered_stage joining ≡ true)
     → (is_covered_stage (stage_by joined removed refused free joining) || is_some refused && true) ≡ true
 by_stage (Some j) (Some i) refused free joining gone h = absurd (no_value i (Some i) refl gone)
 by_stage (Some j) None refused (Some m) joining gone h = refl

@@ -19,7 +19,8 @@ use Rattle.sl_trace.specs.declared.input.Answer.{Answer}
 use Rattle.sl_trace.specs.declared.input.Input.TheVariants.{Answer as Told, Exit, Line, Spawned, Wake}
 use Rattle.sl_trace.specs.declared.input.Input.{Input}
 use Rattle.sl_words.proofs.CaseLaws.{false_is_true, none_some, true_is_false}
-use Rattle.std.proofs.Common.{ap, arith, refl, sym, tests, ◌∙◌}
+use Rattle.std.proofs.Common.{ap, refl, sym, ◌∙◌}
+use Rattle.std.proofs.lemmas.Bool.{eq-eqb}
 use Rattle.std.specs.Prelude.{Bool, List, None, Option, Some, [], cond, false, filter, is_some, length, map, slice_get, suc, true, ℕ, ◌==◌, ◌∷◌, ◌≡◌}
 
 found_by : (b c : Bool) (x y : Submitted) (o p : Option Submitted) → c ≡ b → is_some o ≡ is_some p → is_some (cond c (Some x) o) ≡ is_some (cond b (Some y) p)
@@ -59,7 +60,7 @@ freed_cut e past s k h =
     (ap (λ ms. is_some (free_write ms)) (mine_marked past e s) ∙ freed_marked past (cut_at 0 e) e.input (calls_of past s) ∙ h)
     (λ j c at before. freed_call e past s j c at (c.session == s.number) refl before) k
 
-no_more_by : (joined removed refused : Option ℕ) (free : Option Submitted) (joining : Stage) (k : ℕ) → joined ≡ Some k → is_some free ≡ true
+pub no_more_by : (joined removed refused : Option ℕ) (free : Option Submitted) (joining : Stage) (k : ℕ) → joined ≡ Some k → is_some free ≡ true
     → may_submit (stage_by joined removed refused free joining) ≡ false
 no_more_by None removed refused free joining k is h = absurd (none_some k is)
 no_more_by (Some j) (Some i) refused free joining k is h = refl
@@ -75,13 +76,10 @@ freed_are_silent st e past s h its k joined m freed i c at mine =
 
 -- ---- a request that is seen in a joining
 
-equal_numbers : (a b : ℕ) → a ≡ b → (a == b) ≡ true
-equal_numbers a b h = grind (arith, tests)
-
 pub seeing_sets_back : SeeingSetsBack
 seeing_sets_back es e c s joined refused sees mine =
     let t : Trace = with_call c e ∷ es in
     open_stage (joined_after t s) (removed_after t s) (refused_after t s) (free_write (calls_of t s)) (stage_in (calls_of t s)) joined refused
     ∙ ap (λ ms. stage_in (filter (is_call_of s) ms)) (submitted-push es e c)
-    ∙ ap (λ b. stage_in (cond b (new_call (length es) e.reading c ∷ calls_of (e ∷ es) s) (calls_of (e ∷ es) s))) (equal_numbers c.session s.number mine)
+    ∙ ap (λ b. stage_in (cond b (new_call (length es) e.reading c ∷ calls_of (e ∷ es) s) (calls_of (e ∷ es) s))) (eq-eqb c.session s.number mine)
     ∙ ap (λ p. stage_for p false) sees

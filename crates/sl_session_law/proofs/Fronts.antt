@@ -1,6 +1,7 @@
 -- What was answered where a call was made stays answered; a request seen in a joining sets it back.
 use Rattle.sl_law.specs.Saying.{cut_at}
-use Rattle.sl_session_law.proofs.Making.{answers_stay, contains_more, old_stays}
+use Rattle.sl_plain.proofs.Lists.{contains_more}
+use Rattle.sl_session_law.proofs.Making.{answers_stay, old_stays}
 use Rattle.sl_session_law.specs.Promises.{FrontAnswersStay}
 use Rattle.sl_trace.specs.Traces.{Submitted, Trace, mark, new_call, submitted}
 use Rattle.sl_trace.specs.declared.effects.Call.{Call}

@@ -4,9 +4,10 @@ use Rattle.sl_law.specs.LawfulArea.{is_area_work}
 use Rattle.sl_law.specs.LawfulDelta.{LawfulDeltaCall}
 use Rattle.sl_law.specs.Saying.{cut_at}
 use Rattle.sl_law.proofs.LawFacts.{lawful-front}
+use Rattle.sl_plain.proofs.Lists.{got_inside}
 use Rattle.sl_session_law.proofs.Growing.{mine_marked, mine_next, other_next, to_all}
 use Rattle.sl_session_law.proofs.Making.{same_answered}
-use Rattle.sl_session_law.proofs.Owning.{got_inside, is_the_one, session_more}
+use Rattle.sl_session_law.proofs.Owning.{is_the_one, session_more}
 use Rattle.sl_session_law.proofs.Silence.{stage_by}
 use Rattle.sl_session_law.proofs.Staying.{joined_more}
 use Rattle.sl_session_law.specs.Promises.{all_done, fits, fits_as, has_reply, is_in_turn}
@@ -25,14 +26,11 @@ use Rattle.sl_trace.specs.declared.input.Input.TheVariants.{Answer as Told, Exit
 use Rattle.sl_trace.specs.declared.input.Input.{Input}
 use Rattle.sl_words.proofs.CaseLaws.{false_is_true, no_value, true_is_false}
 use Rattle.sl_words.proofs.WordLaws.{and_true}
-use Rattle.std.proofs.Common.{ap, arith, refl, sym, tests, ◌∙◌}
+use Rattle.std.proofs.Common.{ap, refl, sym, ◌∙◌}
+use Rattle.std.proofs.lemmas.Bool.{and_from, eqb-true, or_left}
 use Rattle.std.specs.List.{list_any}
 use Rattle.std.specs.Option.{option_or}
-use Rattle.std.specs.Prelude.{Bool, IsTrue, List, None, Option, Some, [], cond, false, is_none, is_some, length, map, not, slice_get, suc, true, ℕ, ◌&&◌, ◌==◌, ◌||◌, ◌∷◌, ◌≡◌}
-
-pub both : (a b : Bool) → a ≡ true → b ≡ true → (a && b) ≡ true
-both true b f g = g
-both false b f g = absurd (false_is_true f)
+use Rattle.std.specs.Prelude.{Bool, IsTrue, List, None, Option, Some, [], cond, false, is_none, is_some, length, map, not, slice_get, suc, true, ℕ, ◌&&◌, ◌==◌, ◌∷◌, ◌≡◌}
 
 -- ---- answers keep the order
 
@@ -53,15 +51,15 @@ done_told es e n a [] h = refl
 done_told es e n a (m ∷ ms) h =
     let parts = and_true (fits m && has_reply m) (all_done ms) h in
     let one = and_true (fits m) (has_reply m) parts.0 in
-    both (fits (answered_in es e n a m) && has_reply (answered_in es e n a m)) (all_done (map (answered_in es e n a) ms))
-    (both (fits (answered_in es e n a m)) (has_reply (answered_in es e n a m)) (fits_told es e n a m one.0) (replied_told es e n a m one.1))
+    and_from (fits (answered_in es e n a m) && has_reply (answered_in es e n a m)) (all_done (map (answered_in es e n a) ms))
+    (and_from (fits (answered_in es e n a m)) (has_reply (answered_in es e n a m)) (fits_told es e n a m one.0) (replied_told es e n a m one.1))
     (done_told es e n a ms parts.1)
 
 turn_told : (es : Trace) (e : Entry) (n : ℕ) (a : Answer) (ms : List Submitted) → is_in_turn ms ≡ true → is_in_turn (map (answered_in es e n a) ms) ≡ true
 turn_told es e n a [] h = refl
 turn_told es e n a (m ∷ ms) h =
     let parts = and_true (fits m) (all_done ms) h in
-    both (fits (answered_in es e n a m)) (all_done (map (answered_in es e n a) ms)) (fits_told es e n a m parts.0) (done_told es e n a ms parts.1)
+    and_from (fits (answered_in es e n a m)) (all_done (map (answered_in es e n a) ms)) (fits_told es e n a m parts.0) (done_told es e n a ms parts.1)
 
 pub turn_marked : (es : Trace) (e : Entry) (i : Input) (ms : List Submitted) → is_in_turn ms ≡ true → is_in_turn (mark es e i ms) ≡ true
 turn_marked es e (Told n a) ms h = turn_told es e n a ms h
@@ -84,14 +82,10 @@ fits_delta SeeRequest w h = absurd (false_is_true h)
 fits_delta (ValueWrite j) w h = absurd (false_is_true h)
 fits_delta (ValueRead j) w h = absurd (false_is_true h)
 
-first_true : (a b : Bool) → a ≡ true → (a || b) ≡ true
-first_true true b h = refl
-first_true false b h = absurd (false_is_true h)
-
 done_by : (m : Submitted) (ms : List Submitted) (o : Option Answered) → m.answer ≡ o → fits m ≡ true → list_any (λ x. is_delta_purpose x.call.purpose) (unanswered (m ∷ ms)) ≡ false → is_some o ≡ true
 done_by m ms (Some a) is h none = refl
 done_by m ms None is h none =
-    absurd (true_is_false (sym (first_true (is_delta_purpose m.call.purpose) (list_any (λ x. is_delta_purpose x.call.purpose) (unanswered ms)) (fits_delta m.call.purpose (is_write m.call.op) h))
+    absurd (true_is_false (sym (or_left (is_delta_purpose m.call.purpose) (list_any (λ x. is_delta_purpose x.call.purpose) (unanswered ms)) (fits_delta m.call.purpose (is_write m.call.op) h))
     ∙ sym (ap (λ q. list_any (λ (x : Submitted). is_delta_purpose x.call.purpose) (cond (is_none q) (m ∷ unanswered ms) (unanswered ms))) is) ∙ none))
 
 unanswered_none : (m : Submitted) (ms : List Submitted) (o : Option Answered) → m.answer ≡ o → is_some o ≡ true → unanswered (m ∷ ms) ≡ unanswered ms
@@ -108,7 +102,7 @@ pub turn_done : (ms : List Submitted) → is_in_turn ms ≡ true → list_any (�
 turn_done [] h none = refl
 turn_done (m ∷ ms) h none =
     let parts = and_true (fits m) (all_done ms) h in
-    both (fits m && has_reply m) (all_done ms) (both (fits m) (has_reply m) parts.0 (done_by m ms m.answer refl parts.0 none)) parts.1
+    and_from (fits m && has_reply m) (all_done ms) (and_from (fits m) (has_reply m) parts.0 (done_by m ms m.answer refl parts.0 none)) parts.1
 
 -- ---- which call it may be
 
@@ -186,19 +180,16 @@ pub joined_before : (e : Entry) (past : Trace) (s : Session) (o : Option ℕ) �
 joined_before e past s None is none = refl
 joined_before e past s (Some k) is none = absurd (no_value k (joined_after (e ∷ past) s) (joined_more e past s k is) none)
 
-pub same_number_by : (a b : ℕ) → (a == b) ≡ true → a ≡ b
-same_number_by a b h = grind (arith, tests)
-
 pub turn_call : (st : Setting) (e : Entry) (past : Trace) (s : Session) → Lawful st (e ∷ past)
     → ((x : Session) → session_numbered st (e ∷ past) s.number ≡ Some x → x ≡ s)
     → (k : ℕ) (c : Call) → slice_get e.effects.calls k ≡ Some c → (b : Bool) → (c.session == s.number) ≡ b → InTurn s (cut_at k e ∷ past) → InTurn s (cut_at (suc k) e ∷ past)
 turn_call st e past s h same k c at false other before none = ap (λ ms. is_in_turn ms) (other_next past e s k c at other) ∙ before none
 turn_call st e past s h same k c at true mine before none =
-    let number = same_number_by c.session s.number mine in
+    let number = eqb-true c.session s.number mine in
     let its = is_the_one (session_numbered st (e ∷ past) c.session) s (h.calls.0.owned c (got_inside e.effects.calls k c at))
     (λ x is. same x (ap (λ n. session_numbered st (e ∷ past) n) (sym number) ∙ is)) in
     ap (λ ms. is_in_turn ms) (mine_next past e s k c at mine)
-    ∙ both (fits (new_call (length past) e.reading c)) (all_done (calls_of (cut_at k e ∷ past) s))
+    ∙ and_from (fits (new_call (length past) e.reading c)) (all_done (calls_of (cut_at k e ∷ past) s))
     (fits_new st (cut_at k e ∷ past) s (new_call (length past) e.reading c) c.purpose (h.delta.0.calls k c s at its) (h.area.0.active k c s at its) (h.area.0.sees k c s at its) none)
     (turn_done (calls_of (cut_at k e ∷ past) s) (before none)
     (h.delta.0.alone k c s at its (fits_delta c.purpose (is_write c.op)

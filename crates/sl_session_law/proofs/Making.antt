@@ -1,4 +1,5 @@
 -- Where calls were made, and that their answers stay.
+use Rattle.sl_plain.proofs.Lists.{contains_cases, contains_first, contains_more, contains_none}
 use Rattle.sl_session_law.specs.Promises.{AnswersStay, CallsAreMade, IsMade}
 use Rattle.sl_trace.specs.Traces.{Answered, Submitted, Trace, answer_of, answered_in, mark, new_call, submitted}
 use Rattle.sl_trace.specs.declared.effects.Call.{Call}
@@ -7,27 +8,11 @@ use Rattle.sl_trace.specs.declared.input.Answer.{Answer}
 use Rattle.sl_trace.specs.declared.input.Input.TheVariants.{Answer as Told, Exit, Line, Spawned, Wake}
 use Rattle.sl_trace.specs.declared.input.Input.{Input}
 use Rattle.sl_words.proofs.CaseLaws.{no_value}
-use Rattle.std.proofs.Common.{ap, arith, inl, inr, refl, subst, sym, ◌∙◌}
+use Rattle.std.proofs.Common.{ap, inl, inr, refl, subst, sym, ◌∙◌}
 use Rattle.std.specs.Option.{option_or}
-use Rattle.std.specs.Prelude.{Bool, Contains, List, None, Option, Some, [], false, fold, length, map, slice_get, slice_index_or, suc, true, zero, ℕ, ◌++◌, ◌<◌, ◌==◌, ◌∷◌, ◌≡◌, ◌⊎◌}
+use Rattle.std.specs.Prelude.{Bool, Contains, List, None, Option, Some, [], false, fold, length, map, slice_get, suc, true, zero, ℕ, ◌++◌, ◌==◌, ◌∷◌, ◌≡◌, ◌⊎◌}
 
 -- ---- lists
-
-contains_at : {A : Type 0} (x : A) (xs : List A) (d : A) (k : ℕ) → k < length (x ∷ xs) → slice_index_or (x ∷ xs) k d ≡ d → (x ≡ d) ⊎ Contains xs d
-contains_at x xs d zero lt is = inl is
-contains_at x xs d (suc k) lt is = inr (k, omega (arith, lt), is)
-
-pub contains_cases : {A : Type 0} (x : A) (xs : List A) (d : A) → Contains (x ∷ xs) d → (x ≡ d) ⊎ Contains xs d
-contains_cases x xs d there = contains_at x xs d there.0 there.1 there.2
-
-pub contains_none : {A : Type 0} (d : A) → Contains [] d → ⊥
-contains_none d there = omega (arith, there.1)
-
-pub contains_more : {A : Type 0} (x : A) (xs : List A) (d : A) → Contains xs d → Contains (x ∷ xs) d
-contains_more x xs d there = (suc there.0, omega (arith, there.1), there.2)
-
-pub contains_first : {A : Type 0} (x : A) (xs : List A) → Contains (x ∷ xs) x
-contains_first x xs = (zero, omega arith, refl)
 
 -- ---- the calls of an entry
 
@@ -143,7 +128,7 @@ calls_are_made (e ∷ es) m there = by (λ b inside. calls_are_made es b inside)
 
 -- ---- answered calls stay
 
-kept_by : (m : Submitted) (a b : Answered) (t : Bool) → m.answer ≡ Some a → elim t as (λ x. Submitted) [ false ↦ m | true ↦ record m { answer = option_or m.answer (Some b) } ] ≡ m
+pub kept_by : (m : Submitted) (a b : Answered) (t : Bool) → m.answer ≡ Some a → elim t as (λ x. Submitted) [ false ↦ m | true ↦ record m { answer = option_or m.answer (Some b) } ] ≡ m
 kept_by m a b false is = refl
 kept_by m a b true is = rw is refl
 

@@ -1,5 +1,5 @@
 -- A present session has its lockspace's name.
-use Rattle.sl_session_law.proofs.Making.{contains_cases, contains_first, contains_more, contains_none}
+use Rattle.sl_plain.proofs.Lists.{contains_cases, contains_first, contains_more, contains_none, kept}
 use Rattle.sl_sessions.specs.Sessions.{Session, has_open_write, is_present, joined_after, present_sessions, refused_after, removed_after, session_named, sessions}
 use Rattle.sl_trace.specs.Traces.{Setting, Trace}
 use Rattle.sl_words.proofs.CaseLaws.{none_some, no_value, true_is_false}
@@ -8,7 +8,7 @@ use Rattle.std.proofs.Common.{ap, inl, inr, refl, subst, sym, ◌∙◌}
 use Rattle.std.specs.Cmp.Lexicographic.{nat_list_eq_equiv}
 use Rattle.std.specs.Prelude.{Bool, Contains, List, None, Option, Some, [], bytes_eq, cond, false, filter, find, fold, if◌then◌else◌, is_none, true, ℕ, ◌&&◌, ◌||◌, ◌∷◌, ◌≡◌, ◌⊎◌}
 
-fails_at : {A : Type 0} (p : A → Bool) (x : A) (xs : List A) (d : A) (b : Bool) → p x ≡ b → cond b (Some x) (find p xs) ≡ None → (x ≡ d) ⊎ Contains xs d
+pub fails_at : {A : Type 0} (p : A → Bool) (x : A) (xs : List A) (d : A) (b : Bool) → p x ≡ b → cond b (Some x) (find p xs) ≡ None → (x ≡ d) ⊎ Contains xs d
     → (find p xs ≡ None → Contains xs d → p d ≡ false) → p d ≡ false
 fails_at p x xs d true is none where_is rest = absurd (none_some x (sym none))
 fails_at {A} p x xs d false is none (inl here) rest = subst (λ (y : A). p y ≡ false) here is
@@ -17,22 +17,6 @@ fails_at p x xs d false is none (inr there) rest = rest none there
 fails : {A : Type 0} (p : A → Bool) (xs : List A) → find p xs ≡ None → (d : A) → Contains xs d → p d ≡ false
 fails p [] none d there = absurd (contains_none d there)
 fails p (x ∷ xs) none d there = fails_at p x xs d (p x) refl none (contains_cases x xs d there) (λ left inside. fails p xs left d inside)
-
-kept_at : {A : Type 0} (p : A → Bool) (x : A) (xs : List A) (d : A) (b : Bool) → p x ≡ b → p d ≡ true → (x ≡ d) ⊎ Contains xs d → Contains (filter p xs) d ⊎ (x ≡ d)
-    → Contains (cond b (x ∷ filter p xs) (filter p xs)) d
-kept_at {A} p x xs d true is h at (inr here) = subst (λ (y : A). Contains (x ∷ filter p xs) y) here (contains_first x (filter p xs))
-kept_at p x xs d true is h at (inl rest) = contains_more x (filter p xs) d rest
-kept_at p x xs d false is h at (inl rest) = rest
-kept_at p x xs d false is h at (inr here) = absurd (true_is_false (sym h ∙ ap p (sym here) ∙ is))
-
-by_rest : {A : Type 0} (p : A → Bool) (x : A) (xs : List A) (d : A) → (Contains xs d → Contains (filter p xs) d) → (x ≡ d) ⊎ Contains xs d → Contains (filter p xs) d ⊎ (x ≡ d)
-by_rest p x xs d rest (inl here) = inr here
-by_rest p x xs d rest (inr there) = inl (rest there)
-
-pub kept : {A : Type 0} (p : A → Bool) (xs : List A) (d : A) → p d ≡ true → Contains xs d → Contains (filter p xs) d
-kept p [] d h there = absurd (contains_none d there)
-kept p (x ∷ xs) d h there =
-    kept_at p x xs d (p x) refl h (contains_cases x xs d there) (by_rest p x xs d (λ inside. kept p xs d h inside) (contains_cases x xs d there))
 
 put_first_at : {A : Type 0} (before : A → A → Bool) (x y : A) (ys : List A) (b : Bool) → Contains (put_in before x ys) x → Contains (if b then x ∷ y ∷ ys else y ∷ put_in before x ys) x
 put_first_at before x y ys true rest = contains_first x (y ∷ ys)
@@ -64,7 +48,7 @@ sorted_new {A} before (x ∷ xs) sorted d there = by (λ inside. sorted_new befo
   by rest (inl here) = sorted_old before xs (put_in before x sorted) d (subst (λ (z : A). Contains (put_in before x sorted) z) here (put_first before x sorted))
   by rest (inr inside) = rest inside
 
-same_name : (name : List ℕ) → bytes_eq name name ≡ true
+pub same_name : (name : List ℕ) → bytes_eq name name ≡ true
 same_name name = nat_list_eq_equiv.refl name
 
 present_by : (joined removed refused : Option ℕ) (b : Bool) → joined ≡ None → refused ≡ None

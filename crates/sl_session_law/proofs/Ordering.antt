@@ -4,11 +4,12 @@ use Rattle.sl_law.specs.Lawful.{Lawful}
 use Rattle.sl_law.specs.LawfulCalls.{may_submit}
 use Rattle.sl_law.specs.LawfulDelta.{LawfulDeltaCall}
 use Rattle.sl_law.specs.Saying.{cut_at}
+use Rattle.sl_plain.proofs.Lists.{contains_cases, contains_first, contains_more, contains_none, got_inside}
 use Rattle.sl_session_law.proofs.Growing.{mine_marked, mine_next, other_next, to_all}
-use Rattle.sl_session_law.proofs.Joining.{both, fits_delta, fits_new, joined_before, same_number_by, stage_for, turn_call, turn_done, turn_marked}
-use Rattle.sl_session_law.proofs.Making.{IsNewCall, calls_are_made, contains_first, contains_none, contains_cases, contains_more, old_or_new, same_answered, was_marked}
+use Rattle.sl_session_law.proofs.Joining.{fits_delta, fits_new, joined_before, stage_for, turn_call, turn_done, turn_marked}
+use Rattle.sl_session_law.proofs.Making.{IsNewCall, calls_are_made, old_or_new, same_answered, was_marked}
 use Rattle.sl_session_law.proofs.Naming.{named}
-use Rattle.sl_session_law.proofs.Owning.{got_inside, is_the_one, session_more, sessions_stay}
+use Rattle.sl_session_law.proofs.Owning.{is_the_one, session_more, sessions_stay}
 use Rattle.sl_session_law.proofs.Silence.{stage_by}
 use Rattle.sl_session_law.specs.Promises.{JoiningsAreOrdered, all_done, fits, fits_as, has_reply, is_in_turn, is_ordered, leads_to, looks, may_come, may_follow}
 use Rattle.sl_sessions.specs.Sessions.{Session, calls_of, free_write, is_call_of, joined_after, refused_after, removed_after, session_named, session_numbered, sessions, stage_in, stage_of}
@@ -26,6 +27,7 @@ use Rattle.sl_trace.specs.declared.input.Input.{Input}
 use Rattle.sl_words.proofs.CaseLaws.{false_is_true, no_value, one_value}
 use Rattle.sl_words.proofs.WordLaws.{and_true}
 use Rattle.std.proofs.Common.{ap, inl, inr, refl, subst, sym, ◌∙◌}
+use Rattle.std.proofs.lemmas.Bool.{and_from, eqb-true}
 use Rattle.std.specs.Prelude.{Bool, Contains, List, None, Option, Some, [], cond, false, filter, is_some, length, map, slice_get, suc, take, true, ℕ, ◌&&◌, ◌++◌, ◌==◌, ◌∷◌, ◌≡◌, ◌⊎◌}
 
 -- ---- answers
@@ -38,7 +40,7 @@ ordered_told : (es : Trace) (e : Entry) (n : ℕ) (a : Answer) (ms : List Submit
 ordered_told es e n a [] h = refl
 ordered_told es e n a (m ∷ ms) h =
     let parts = and_true (may_come ms m.call.purpose) (is_ordered ms) h in
-    both (may_come (map (answered_in es e n a) ms) (answered_in es e n a m).call.purpose) (is_ordered (map (answered_in es e n a) ms))
+    and_from (may_come (map (answered_in es e n a) ms) (answered_in es e n a m).call.purpose) (is_ordered (map (answered_in es e n a) ms))
     (ap (λ c. may_come (map (answered_in es e n a) ms) c.purpose) (same_answered es e n a m).call ∙ same_purpose es e n a ms m.call.purpose ∙ parts.0)
     (ordered_told es e n a ms parts.1)
 
@@ -155,7 +157,7 @@ inside : (s : Session) (xs : List Submitted) (m : Submitted) → Contains (filte
 inside s [] m there = absurd (contains_none m there)
 inside s (x ∷ xs) m there = inside_by s x (filter (is_call_of s) xs) xs m (is_call_of s x) refl there (λ more. inside s xs m more)
 
-old_one : (m : Submitted) (at reading : ℕ) (cs : List Call) (ms : List Submitted) → has_reply m ≡ true → Contains ms m ⊎ IsNewCall at reading cs m → Contains ms m
+pub old_one : (m : Submitted) (at reading : ℕ) (cs : List Call) (ms : List Submitted) → has_reply m ≡ true → Contains ms m ⊎ IsNewCall at reading cs m → Contains ms m
 old_one m at reading cs ms r (inl there) = there
 old_one m at reading cs ms r (inr new) = absurd (false_is_true (sym (ap (λ o. is_some o) new.unmet) ∙ r))
 
@@ -168,7 +170,7 @@ begun_by st e past s k h same m there r =
     let w = was_marked past (cut_at k e) e.input (submitted past) m old in
     got_inside (sessions st (cut_at k e ∷ past)) w.before.call.session s
     (session_more st (cut_at k e) past w.before.call.session s
-    (begun_before st e past s h same w.before w.inside (ap (λ c. c.session) (sym w.same.call) ∙ same_number_by m.call.session s.number mine.1)))
+    (begun_before st e past s h same w.before w.inside (ap (λ c. c.session) (sym w.same.call) ∙ eqb-true m.call.session s.number mine.1)))
 
 none_before : (st : Setting) (e : Entry) (past : Trace) (s : Session) (k : ℕ) → Lawful st (e ∷ past) → ((x : Session) → session_numbered st (e ∷ past) s.number ≡ Some x → x ≡ s)
     → joined_after (cut_at k e ∷ past) s ≡ None → refused_after (cut_at k e ∷ past) s ≡ None → (ms : List Submitted) → calls_of (cut_at k e ∷ past) s ≡ ms → all_done ms ≡ true
@@ -192,7 +194,7 @@ order_call st e past s h same k c at false other before none = ap (λ ms. is_ord
 order_call st e past s h same k c at true mine before none =
     let t : Trace = cut_at k e ∷ past in
     let n : Submitted = new_call (length past) e.reading c in
-    let number = same_number_by c.session s.number mine in
+    let number = eqb-true c.session s.number mine in
     let its = is_the_one (session_numbered st (e ∷ past) c.session) s (h.calls.0.owned c (got_inside e.effects.calls k c at))
     (λ x is. same x (ap (λ i. session_numbered st (e ∷ past) i) (sym number) ∙ is)) in
     let law = h.delta.0.calls k c s at its in
@@ -201,7 +203,7 @@ order_call st e past s h same k c at true mine before none =
     let done = turn_done (calls_of t s) turn (h.delta.0.alone k c s at its (fits_delta c.purpose (is_write c.op) f)) in
     let refused = open_refused (joined_after t s) (removed_after t s) (refused_after t s) (free_write (calls_of t s)) (stage_in (calls_of t s)) none (h.calls.0.alive k c s at its) in
     ap (λ ms. is_ordered ms) (mine_next past e s k c at mine)
-    ∙ both (may_come (calls_of t s) c.purpose) (is_ordered (calls_of t s))
+    ∙ and_from (may_come (calls_of t s) c.purpose) (is_ordered (calls_of t s))
     (comes_new st t s n c.purpose (calls_of t s) law f refl
     (open_stage (joined_after t s) (removed_after t s) (refused_after t s) (free_write (calls_of t s)) (stage_in (calls_of t s)) none refused) turn
     (λ p nobody. none_before st e past s k h same none refused (calls_of t s) refl done nobody))

@@ -1,31 +1,16 @@
 -- Whose a call is.
 use Rattle.sl_law.proofs.LawFacts.{lawful-front}
 use Rattle.sl_law.specs.Lawful.{Lawful}
+use Rattle.sl_plain.proofs.Lists.{got_before, got_inside}
 use Rattle.sl_session_law.proofs.Making.{calls_are_made}
 use Rattle.sl_session_law.specs.Promises.{CallsWereLawful, IsMade, IsSession, SessionsStay, WasLawful}
 use Rattle.sl_sessions.specs.Sessions.{Session, begun_in, session_numbered, sessions}
 use Rattle.sl_trace.specs.Traces.{Setting, Submitted, Trace}
 use Rattle.sl_trace.specs.declared.effects.Call.{Call}
 use Rattle.sl_trace.specs.declared.effects.Entry.{Entry}
-use Rattle.sl_words.proofs.CaseLaws.{false_is_true, none_some, one_value}
-use Rattle.std.proofs.Common.{ap, arith, refl, subst, ◌∙◌}
-use Rattle.std.specs.Prelude.{Contains, IsSome, List, None, Option, Some, [], length, slice_get, suc, zero, ℕ, ◌++◌, ◌∷◌, ◌≡◌}
-
-pub got_before : {A : Type 0} (xs ys : List A) (k : ℕ) (x : A) → slice_get xs k ≡ Some x → slice_get (xs ++ ys) k ≡ Some x
-got_before [] ys k x at = absurd (none_some x at)
-got_before (y ∷ xs) ys zero x at = at
-got_before (y ∷ xs) ys (suc k) x at = got_before xs ys k x at
-
-more_inside : {A : Type 0} (y x : A) (xs : List A) → Contains xs x → Contains (y ∷ xs) x
-more_inside y x xs there = (suc there.0, omega (arith, there.1), there.2)
-
-first_inside : {A : Type 0} (y x : A) (xs : List A) → Some y ≡ Some x → Contains (y ∷ xs) x
-first_inside y x xs is = (zero, omega arith, cc)
-
-pub got_inside : {A : Type 0} (xs : List A) (k : ℕ) (x : A) → slice_get xs k ≡ Some x → Contains xs x
-got_inside [] k x at = absurd (none_some x at)
-got_inside (y ∷ xs) zero x at = first_inside y x xs at
-got_inside (y ∷ xs) (suc k) x at = more_inside y x xs (got_inside xs k x at)
+use Rattle.sl_words.proofs.CaseLaws.{false_is_true, one_value}
+use Rattle.std.proofs.Common.{ap, refl, subst, ◌∙◌}
+use Rattle.std.specs.Prelude.{IsSome, None, Option, Some, [], length, slice_get, ℕ, ◌++◌, ◌∷◌, ◌≡◌}
 
 pub session_more : (st : Setting) (e : Entry) (es : Trace) (n : ℕ) (s : Session) → session_numbered st es n ≡ Some s → session_numbered st (e ∷ es) n ≡ Some s
 session_more st e es n s at = got_before (sessions st es) (begun_in st es (length (sessions st es)) e) n s at

@@ -3,11 +3,10 @@ use Rattle.sl_law.proofs.LawFacts.{lawful-front}
 use Rattle.sl_law.specs.Lawful.{Lawful}
 use Rattle.sl_law.specs.LawfulCalls.{may_submit}
 use Rattle.sl_law.specs.Saying.{cut_at}
-use Rattle.sl_session_law.proofs.Joining.{same_number_by}
-use Rattle.sl_session_law.proofs.Making.{IsNewCall, contains_cases, contains_first, contains_more, contains_none, old_or_new, was_marked}
-use Rattle.sl_session_law.proofs.Naming.{kept}
+use Rattle.sl_plain.proofs.Lists.{any_found, any_of, got_inside, kept, kept_inside}
+use Rattle.sl_plain.proofs.Options.{none_is, some_there}
+use Rattle.sl_session_law.proofs.Making.{IsNewCall, old_or_new, was_marked}
 use Rattle.sl_session_law.proofs.Ordering.{begun_before}
-use Rattle.sl_session_law.proofs.Owning.{got_inside}
 use Rattle.sl_session_law.proofs.Silence.{no_more}
 use Rattle.sl_session_law.proofs.Staying.{joined_more}
 use Rattle.sl_session_law.specs.Promises.{IsSession}
@@ -15,32 +14,12 @@ use Rattle.sl_sessions.specs.Sessions.{Session, calls_of, has_open_write, is_cal
 use Rattle.sl_trace.specs.Connections.{unregisters}
 use Rattle.sl_trace.specs.Traces.{Setting, Submitted, Trace, is_write, mark, submitted}
 use Rattle.sl_trace.specs.declared.effects.Entry.{Entry}
-use Rattle.sl_words.proofs.CaseLaws.{false_is_true, none_some, one_value, true_is_false}
+use Rattle.sl_words.proofs.CaseLaws.{none_some, one_value, true_is_false}
 use Rattle.sl_words.proofs.WordLaws.{and_true, choose_some}
-use Rattle.std.proofs.Common.{ap, inl, inr, arith, refl, subst, sym, tests, ◌∙◌}
+use Rattle.std.proofs.Common.{ap, inl, inr, refl, sym, ◌∙◌}
+use Rattle.std.proofs.lemmas.Bool.{eq-eqb, eqb-true}
 use Rattle.std.specs.List.{list_any}
-use Rattle.std.specs.Prelude.{Bool, Contains, List, None, Option, Some, [], cond, false, filter, is_none, is_some, length, true, ℕ, ◌&&◌, ◌+◌, ◌==◌, ◌||◌, ◌∷◌, ◌≡◌, ◌⊎◌}
-
-any_by : {A : Type 0} (p : A → Bool) (x : A) (xs : List A) (b : Bool) → p x ≡ b → (b || list_any p xs) ≡ true → (list_any p xs ≡ true → (y : A) × Contains xs y × (p y ≡ true))
-    → (y : A) × Contains (x ∷ xs) y × (p y ≡ true)
-any_by p x xs true is h rest = (x, contains_first x xs, is)
-any_by p x xs false is h rest = let r = rest h in (r.0, contains_more x xs r.0 r.1, r.2)
-
-any_found : {A : Type 0} (p : A → Bool) (xs : List A) → list_any p xs ≡ true → (y : A) × Contains xs y × (p y ≡ true)
-any_found p [] h = absurd (false_is_true h)
-any_found p (x ∷ xs) h = any_by p x xs (p x) refl h (λ rest. any_found p xs rest)
-
-kept_by : {A : Type 0} (q : A → Bool) (x : A) (rest xs : List A) (m : A) (b : Bool) → q x ≡ b → Contains (cond b (x ∷ rest) rest) m
-    → (Contains rest m → Contains xs m × (q m ≡ true)) → Contains (x ∷ xs) m × (q m ≡ true)
-kept_by q x rest xs m false is there more = let r = more there in (contains_more x xs m r.0, r.1)
-kept_by {A} q x rest xs m true is there more = by (contains_cases x rest m there) where
-  by : (x ≡ m) ⊎ Contains rest m → Contains (x ∷ xs) m × (q m ≡ true)
-  by (inl here) = (subst (λ (y : A). Contains (x ∷ xs) y) here (contains_first x xs), subst (λ (y : A). q y ≡ true) here is)
-  by (inr old) = let r = more old in (contains_more x xs m r.0, r.1)
-
-kept_inside : {A : Type 0} (q : A → Bool) (xs : List A) (m : A) → Contains (filter q xs) m → Contains xs m × (q m ≡ true)
-kept_inside q [] m there = absurd (contains_none m there)
-kept_inside q (x ∷ xs) m there = kept_by q x (filter q xs) xs m (q x) refl there (λ more. kept_inside q xs m more)
+use Rattle.std.specs.Prelude.{Bool, Contains, None, Option, Some, [], false, filter, is_none, is_some, length, true, ℕ, ◌&&◌, ◌+◌, ◌||◌, ◌∷◌, ◌≡◌, ◌⊎◌}
 
 record UnmetWrite (es : Trace) (s : Session) : Type 0 where
   call : Submitted
@@ -49,20 +28,12 @@ record UnmetWrite (es : Trace) (s : Session) : Type 0 where
   unmet : call.answer ≡ None
   writes : is_write call.call.op ≡ true
 
-none_is : {A : Type 0} (o : Option A) → is_none o ≡ true → o ≡ None
-none_is None h = refl
-none_is (Some a) h = absurd (false_is_true h)
-
 unmet_write : (es : Trace) (s : Session) → has_open_write es s ≡ true → UnmetWrite es s
 unmet_write es s h =
     let found = any_found (λ (m : Submitted). is_write m.call.op) (filter (λ (m : Submitted). is_none m.answer) (calls_of es s)) h in
     let waits = kept_inside (λ (m : Submitted). is_none m.answer) (calls_of es s) found.0 found.1 in
     let its = kept_inside (is_call_of s) (submitted es) found.0 waits.0 in
-    record { call = found.0; inside = its.0; mine = same_number_by found.0.call.session s.number its.1; unmet = none_is found.0.answer waits.1; writes = found.2 }
-
-some_is_some : (o : Option ℕ) → is_some o ≡ true → (j : ℕ) × (o ≡ Some j)
-some_is_some None h = absurd (false_is_true h)
-some_is_some (Some j) h = (j, refl)
+    record { call = found.0; inside = its.0; mine = eqb-true found.0.call.session s.number its.1; unmet = none_is found.0.answer waits.1; writes = found.2 }
 
 removal : (past : Trace) (s : Session) (e : Entry) (k : ℕ) → removed_in past s e ≡ Some k → (is_some (joined_after past s) ≡ true) × (list_any (unregisters s.lockspace) e.effects.moves ≡ true)
 removal past s e k is =
@@ -78,7 +49,7 @@ removed_joined (e ∷ past) s k is = by (λ i was. removed_joined past s i was) 
   by : ((i : ℕ) → removed_after past s ≡ Some i → (j : ℕ) × (joined_after past s ≡ Some j)) → (o : Option ℕ) → removed_after past s ≡ o → removed_by o (removed_in past s e) ≡ Some k
       → (j : ℕ) × (joined_after (e ∷ past) s ≡ Some j)
   by more (Some i) was at = let r = more i was in (r.0, joined_more e past s r.0 r.1)
-  by more None was at = let r = some_is_some (joined_after past s) (removal past s e k at).0 in (r.0, joined_more e past s r.0 r.1)
+  by more None was at = let r = some_there (joined_after past s) (removal past s e k at).0 in (r.0, joined_more e past s r.0 r.1)
 
 gone_by : (es : Trace) (s : Session) (j k : ℕ) → joined_after es s ≡ Some j → removed_after es s ≡ Some k → may_submit (stage_of es s) ≡ false
 gone_by es s j k joined gone = no_more es s k (ap (λ o. elim o as (λ x. Option ℕ) [ Some i ↦ removed_after es s | None ↦ refused_after es s ]) joined ∙ gone)
@@ -105,30 +76,18 @@ older_write st e past s k h its gone u (inl old) =
           ∙ begun_before st e past s h (λ x at. one_value x s (session_numbered st (e ∷ past) s.number) at its) w.before w.inside number,
     )
 
-any_at : {A : Type 0} (p : A → Bool) (x : A) (xs : List A) (d : A) → p d ≡ true → (b : Bool) → p x ≡ b → (x ≡ d) ⊎ Contains xs d → (Contains xs d → list_any p xs ≡ true) → (b || list_any p xs) ≡ true
-any_at p x xs d h true is at rest = refl
-any_at p x xs d h false is (inl here) rest = absurd (true_is_false (sym h ∙ ap p (sym here) ∙ is))
-any_at p x xs d h false is (inr there) rest = rest there
-
-any_of : {A : Type 0} (p : A → Bool) (xs : List A) (d : A) → p d ≡ true → Contains xs d → list_any p xs ≡ true
-any_of p [] d h there = absurd (contains_none d there)
-any_of p (x ∷ xs) d h there = any_at p x xs d h (p x) refl (contains_cases x xs d there) (λ more. any_of p xs d h more)
-
-equal_numbers : (a b : ℕ) → a ≡ b → (a == b) ≡ true
-equal_numbers a b h = grind (arith, tests)
-
 write_unmet : (es : Trace) (s : Session) → UnmetWrite es s → has_open_write es s ≡ true
 write_unmet es s u =
     any_of (λ (m : Submitted). is_write m.call.op) (filter (λ (m : Submitted). is_none m.answer) (calls_of es s)) u.call u.writes
     (kept (λ (m : Submitted). is_none m.answer) (calls_of es s) u.call (ap (λ o. is_none o) u.unmet)
-    (kept (is_call_of s) (submitted es) u.call (equal_numbers u.call.call.session s.number u.mine) u.inside))
+    (kept (is_call_of s) (submitted es) u.call (eq-eqb u.call.call.session s.number u.mine) u.inside))
 
 parts_by : (st : Setting) (e : Entry) (past : Trace) (s : Session) (k : ℕ) → Lawful st (e ∷ past) → IsSession st past s → UnmetWrite (e ∷ past) s
     → (o : Option ℕ) → removed_after past s ≡ o → removed_by o (removed_in past s e) ≡ Some k → ((i : ℕ) → removed_after past s ≡ Some i → ⊥) → ⊥
 parts_by st e past s k h its u (Some i) was at rest = rest i was
 parts_by st e past s k h its u None was at rest =
     let r = removal past s e k at in
-    let j = some_is_some (joined_after past s) r.0 in
+    let j = some_there (joined_after past s) r.0 in
     true_is_false (sym (write_unmet (e ∷ past) s u)
     ∙ (h.watchdog.0.removals s (got_inside (sessions st past) s.number s its)
     (present_by (joined_after past s) (removed_after past s) (refused_after past s) (has_open_write past s) j.0 j.1 was) r.1).1)

@@ -4,11 +4,13 @@ use Rattle.sl_law.specs.Lawful.{Lawful}
 use Rattle.sl_law.specs.LawfulDelta.{LawfulDeltaCall}
 use Rattle.sl_law.specs.LawfulWatchdog.{is_covered}
 use Rattle.sl_law.specs.Saying.{cut_at}
+use Rattle.sl_plain.proofs.Lists.{contains_first, got_inside}
+use Rattle.sl_plain.proofs.Options.{some_there}
 use Rattle.sl_session_law.proofs.Growing.{mine_marked, mine_next, other_next, to_all}
-use Rattle.sl_session_law.proofs.Joining.{joined_before, same_number_by, stage_for}
-use Rattle.sl_session_law.proofs.Making.{IsNewCall, contains_first, old_or_new}
+use Rattle.sl_session_law.proofs.Joining.{joined_before, stage_for}
+use Rattle.sl_session_law.proofs.Making.{IsNewCall, old_or_new}
 use Rattle.sl_session_law.proofs.Ordering.{begun_before, open_stage}
-use Rattle.sl_session_law.proofs.Owning.{got_inside, is_the_one}
+use Rattle.sl_session_law.proofs.Owning.{is_the_one}
 use Rattle.sl_session_law.proofs.Silence.{no_more, stage_by}
 use Rattle.sl_session_law.proofs.Staying.{refused_more}
 use Rattle.sl_session_law.specs.Promises.{IsSession}
@@ -33,13 +35,14 @@ use Rattle.sl_words.proofs.CaseLaws.{false_is_true, no_value, none_some, one_val
 use Rattle.sl_words.proofs.WordLaws.{and_true, or_true}
 use Rattle.sl_words.specs.Words.{some_is}
 use Rattle.std.proofs.Common.{ap, inl, inr, refl, sym, ◌∙◌}
+use Rattle.std.proofs.lemmas.Bool.{eqb-true, or_left}
 use Rattle.std.specs.List.{list_any}
 use Rattle.std.specs.Option.{option_or}
 use Rattle.std.specs.Prelude.{Bool, Contains, List, None, Option, Some, [], bytes_eq, false, is_some, length, slice_get, suc, true, ℕ, ◌&&◌, ◌==◌, ◌||◌, ◌∷◌, ◌≡◌, ◌⊎◌}
 
 -- ---- an answer makes no stage covered
 
-less_by_step : (step : JoinStep) (done : Bool) → is_covered_stage (stage_after step done) ≡ true → is_covered_stage (stage_after step false) ≡ true
+pub less_by_step : (step : JoinStep) (done : Bool) → is_covered_stage (stage_after step done) ≡ true → is_covered_stage (stage_after step false) ≡ true
 less_by_step FirstRead done h = h
 less_by_step WatchRead done h = h
 less_by_step DecidingRead done h = h
@@ -48,7 +51,7 @@ less_by_step ClaimWrite false h = h
 less_by_step VerifyRead done h = h
 less_by_step FirstRenewal done h = h
 
-less_covered : (p : Purpose) (done : Bool) → is_covered_stage (stage_for p done) ≡ true → is_covered_stage (stage_for p false) ≡ true
+pub less_covered : (p : Purpose) (done : Bool) → is_covered_stage (stage_for p done) ≡ true → is_covered_stage (stage_for p false) ≡ true
 less_covered (Joining j step) done h = less_by_step step done h
 less_covered Renewal done h = h
 less_covered Survey done h = h
@@ -67,13 +70,13 @@ covered_before_by : (p : Purpose) (o : Option Answered) (a : Answered) → is_co
 covered_before_by p None a h = less_covered p (is_ok_answer a.answer) h
 covered_before_by p (Some b) a h = h
 
-covered_told : (es : Trace) (e : Entry) (m : Submitted) (a : Answer) (t : Bool)
+pub covered_told : (es : Trace) (e : Entry) (m : Submitted) (a : Answer) (t : Bool)
     → is_covered_stage (stage_in (elim t as (λ x. Submitted) [ false ↦ m | true ↦ record m { answer = option_or m.answer (Some (answer_of es e a m.call)) } ] ∷ [])) ≡ true
     → is_covered_stage (stage_in (m ∷ [])) ≡ true
 covered_told es e m a false h = h
 covered_told es e m a true h = covered_before_by m.call.purpose m.answer (answer_of es e a m.call) h
 
-covered_marked : (es : Trace) (e : Entry) (i : Input) (ms : List Submitted) → is_covered_stage (stage_in (mark es e i ms)) ≡ true → is_covered_stage (stage_in ms) ≡ true
+pub covered_marked : (es : Trace) (e : Entry) (i : Input) (ms : List Submitted) → is_covered_stage (stage_in (mark es e i ms)) ≡ true → is_covered_stage (stage_in ms) ≡ true
 covered_marked es e (Told n a) [] h = h
 covered_marked es e (Told n a) (m ∷ ms) h = covered_told es e m a (m.call.number == n) h
 covered_marked es e (Line text) ms h = h
@@ -83,12 +86,12 @@ covered_marked es e Wake ms h = h
 
 -- ---- nor does a call, but the two that are submitted with a registering
 
-with_registers : (name : List ℕ) (x : ℕ) (m : Move) → registers_with name x m ≡ true → registers name m ≡ true
+pub with_registers : (name : List ℕ) (x : ℕ) (m : Move) → registers_with name x m ≡ true → registers name m ≡ true
 with_registers name x (Register n y) h = (and_true (bytes_eq n name) (y == x) h).0
 with_registers name x (Renew n y) h = absurd (false_is_true h)
 with_registers name x (Unregister n) h = absurd (false_is_true h)
 
-any_more : (p q : Move → Bool) (ms : List Move) → ((m : Move) → p m ≡ true → q m ≡ true) → list_any p ms ≡ true → list_any q ms ≡ true
+pub any_more : (p q : Move → Bool) (ms : List Move) → ((m : Move) → p m ≡ true → q m ≡ true) → list_any p ms ≡ true → list_any q ms ≡ true
 any_more p q [] more h = absurd (false_is_true h)
 any_more p q (m ∷ ms) more h = any_two (p m) (q m) (list_any p ms) (list_any q ms) (more m) h (λ rest. any_more p q ms more rest)
   where
@@ -131,7 +134,7 @@ covered_call st e past s h its none refused quiet k c at false other before is =
     before (ap (λ ms. is_covered_stage (stage_in ms)) (sym (other_next past e s k c at other)) ∙ is)
 covered_call st e past s h its none refused quiet k c at true mine before is =
     let t : Trace = cut_at k e ∷ past in
-    let number = same_number_by c.session s.number mine in
+    let number = eqb-true c.session s.number mine in
     let here = is_the_one (session_numbered st (e ∷ past) c.session) s (h.calls.0.owned c (got_inside e.effects.calls k c at))
     (λ x is. one_value x s (session_numbered st (e ∷ past) s.number) (ap (λ n. session_numbered st (e ∷ past) n) (sym number) ∙ is) its) in
     before (new_covered st e past k s (new_call (length past) e.reading c) c.purpose (h.delta.0.calls k c s at here)
@@ -152,19 +155,15 @@ pub record WasSo (st : Setting) (past : Trace) (s : Session) : Type 0 where
   pub its : IsSession st past s
   pub covered : is_covered past s ≡ true
 
-some_call : (ms : List Submitted) → is_covered_stage (stage_in ms) ≡ true → (m : Submitted) × Contains ms m
+pub some_call : (ms : List Submitted) → is_covered_stage (stage_in ms) ≡ true → (m : Submitted) × Contains ms m
 some_call [] h = absurd (false_is_true h)
 some_call (m ∷ ms) h = (m, contains_first m ms)
 
-or_first : (a b : Bool) → a ≡ true → (a || b) ≡ true
-or_first true b h = refl
-or_first false b h = absurd (false_is_true h)
-
-refused_before : (e : Entry) (past : Trace) (s : Session) (o : Option ℕ) → refused_after past s ≡ o → refused_after (e ∷ past) s ≡ None → o ≡ None
+pub refused_before : (e : Entry) (past : Trace) (s : Session) (o : Option ℕ) → refused_after past s ≡ o → refused_after (e ∷ past) s ≡ None → o ≡ None
 refused_before e past s None is none = refl
 refused_before e past s (Some k) is none = absurd (no_value k (refused_after (e ∷ past) s) (refused_more e past s k is) none)
 
-by_joining : (st : Setting) (e : Entry) (past : Trace) (s : Session) → Lawful st (e ∷ past) → IsSession st (e ∷ past) s → joined_after (e ∷ past) s ≡ None → refused_after (e ∷ past) s ≡ None
+pub by_joining : (st : Setting) (e : Entry) (past : Trace) (s : Session) → Lawful st (e ∷ past) → IsSession st (e ∷ past) s → joined_after (e ∷ past) s ≡ None → refused_after (e ∷ past) s ≡ None
     → is_covered_stage (stage_in (calls_of past s)) ≡ true → WasSo st past s
 by_joining st e past s h its none refused is =
     let m = some_call (calls_of past s) is in
@@ -174,13 +173,13 @@ by_joining st e past s h its none refused is =
     record {
       its = ap (λ n. session_numbered st past n) (sym o.1)
           ∙ begun_before st e past s h (λ x at. one_value x s (session_numbered st (e ∷ past) s.number) at its) m.0 o.0 o.1;
-      covered = or_first (is_covered_stage (stage_of past s)) (is_some (refused_after past s) && has_open_write past s) (ap is_covered_stage stage ∙ is);
+      covered = or_left (is_covered_stage (stage_of past s)) (is_some (refused_after past s) && has_open_write past s) (ap is_covered_stage stage ∙ is);
     }
 
 abbrev ended_by : Option ℕ → Option ℕ → Option ℕ → Option ℕ
 ended_by joined removed refused = elim joined [ Some k ↦ removed | None ↦ refused ]
 
-by_write : (st : Setting) (e : Entry) (past : Trace) (s : Session) (k : ℕ) → Lawful st (e ∷ past) → IsSession st (e ∷ past) s → joined_after (e ∷ past) s ≡ None
+pub by_write : (st : Setting) (e : Entry) (past : Trace) (s : Session) (k : ℕ) → Lawful st (e ∷ past) → IsSession st (e ∷ past) s → joined_after (e ∷ past) s ≡ None
     → refused_after (e ∷ past) s ≡ Some k → (u : OpenWrite (e ∷ past) s) → Contains (mark past e e.input (submitted past)) u.call ⊎ IsNewCall (length past) e.reading e.effects.calls u.call
     → WasSo st past s
 by_write st e past s k h its none refused u (inl old) =
@@ -193,15 +192,11 @@ by_write st e past s k h its none refused u (inr new) =
     absurd (true_is_false (sym (h.calls.0.alive new.index u.call.call s new.call (ap (λ n. session_numbered st (e ∷ past) n) u.mine ∙ its))
     ∙ no_more t s k (ap (λ o. ended_by o (removed_after t s) (refused_after t s)) none ∙ refused)))
 
-covered_stage_by : (joined removed refused : Option ℕ) (free : Option Submitted) (joining : Stage) → joined ≡ None → is_covered_stage (stage_by joined removed refused free joining) ≡ true
+pub covered_stage_by : (joined removed refused : Option ℕ) (free : Option Submitted) (joining : Stage) → joined ≡ None → is_covered_stage (stage_by joined removed refused free joining) ≡ true
     → (refused ≡ None) × (is_covered_stage joining ≡ true)
 covered_stage_by (Some k) removed refused free joining none h = absurd (none_some k (sym none))
 covered_stage_by None removed (Some k) free joining none h = absurd (false_is_true h)
 covered_stage_by None removed None free joining none h = (refl, h)
-
-some_is_some : (o : Option ℕ) → is_some o ≡ true → (j : ℕ) × (o ≡ Some j)
-some_is_some None h = absurd (false_is_true h)
-some_is_some (Some j) h = (j, refl)
 
 -- Where no entry registers its name, a session that isn't joined and needs its connection needed it before.
 pub was_covered : (st : Setting) (e : Entry) (past : Trace) (s : Session) → Lawful st (e ∷ past) → IsSession st (e ∷ past) s → joined_after (e ∷ past) s ≡ None
@@ -214,7 +209,7 @@ was_covered st e past s h its none is quiet =
           by_joining st e past s h its none r.0 (covered_entry st e past s h its none r.0 quiet r.1)
       | inr also ↦
           let b = and_true (is_some (refused_after t s)) (has_open_write t s) also in
-          let k = some_is_some (refused_after t s) b.0 in
+          let k = some_there (refused_after t s) b.0 in
           let u = the_open_write t s b.1 in
           by_write st e past s k.0 h its none k.1 u (old_or_new (length past) e.reading e.effects.calls (mark past e e.input (submitted past)) u.call u.inside)
     ]

@@ -1,11 +1,12 @@
 -- At moment 0 each machine is watched.
 use Rattle.sl_area.specs.Layouts.{Layout, layout_with}
+use Rattle.sl_moment_law.proofs.Beginning.{all_are}
+use Rattle.sl_plain.proofs.Lists.{contains_none}
 use Rattle.sl_run.specs.Worlds.{Daemon, Machine, Program, clock_reading, first_numbers, first_stamp, given_of, machine_at, machine_of_header, new_daemon, setting_of, world_with}
 use Rattle.sl_run.specs.declared.header.Header.{Header}
 use Rattle.sl_run.specs.declared.header.LockspaceLine.{LockspaceLine}
 use Rattle.sl_run.specs.declared.header.SessionLine.{SessionLine}
 use Rattle.sl_run_law.proofs.Walking.{index}
-use Rattle.sl_session_law.proofs.Making.{contains_none}
 use Rattle.sl_sessions.specs.Sessions.{Session}
 use Rattle.sl_time.specs.Times.{IsTiming, reading_of}
 use Rattle.sl_trace.specs.Connections.{given_connection}
@@ -16,8 +17,8 @@ use Rattle.sl_watchdog_law.proofs.Numbering.{given_one}
 use Rattle.sl_watchdog_law.proofs.Stamps.{GivenNow}
 use Rattle.sl_words.proofs.CaseLaws.{none_some, some_value}
 use Rattle.std.proofs.Common.{ap, arith, refl, subst, sym, ◌∙◌}
-use Rattle.std.specs.List.{cons_option, range_with_len}
-use Rattle.std.specs.Prelude.{Bool, List, None, Option, Some, [], bytes_eq, false, filter_map, find, is_some, map, option_map, slice_get, suc, true, zero, ℕ, ◌*◌, ◌+◌, ◌-◌, ◌==◌, ◌∷◌, ◌≡◌}
+use Rattle.std.specs.List.{cons_option}
+use Rattle.std.specs.Prelude.{Bool, List, None, Option, Some, [], bytes_eq, false, filter_map, find, is_some, map, option_map, slice_get, suc, true, zero, ℕ, ◌*◌, ◌-◌, ◌==◌, ◌∷◌, ◌≡◌}
 
 filtered_by : (f : SessionLine → Option Given) (x : SessionLine) (xs : List SessionLine) (n : ℕ) (g : Given) (o : Option Given) → f x ≡ o
     → slice_get (cons_option o (filter_map f xs)) n ≡ Some g
@@ -107,12 +108,7 @@ begins_watched : (p : Program) (g : Layout) (h : Header) (m : ℕ) → IsTiming 
 unfolding machine_of_header
 begins_watched p g h m timing = begins_by p g h m (find (λ (s : SessionLine). s.machine == m) h.sessions) timing
 
-all_begin : (P : Machine → Type 0) (f : ℕ → Machine) (k n i : ℕ) (a : Machine) → ((m : ℕ) → P (f m)) → slice_get (map f (range_with_len k n)) i ≡ Some a → P a
-all_begin P f k zero i a each h = absurd (none_some a h)
-all_begin P f k (suc n) zero a each h = subst P (some_value (f k) a h) (each k)
-all_begin P f k (suc n) (suc i) a each h = all_begin P f (k + 1) n i a each h
-
 pub watched_first : (p : Program) (h : Header) (m : ℕ) (a : Machine) → IsTiming h.timing → machine_at (world_with p h) m ≡ Some a → IsWatched h.timing 0 1 a
 watched_first p h m a timing at =
     let g : Layout = layout_with p.digest h.geometry in
-    all_begin (IsWatched h.timing 0 1) (machine_of_header p g h) 1 h.machines (m - 1) a (λ n. begins_watched p g h n timing) (index (world_with p h) m a at).1
+    all_are (IsWatched h.timing 0 1) (machine_of_header p g h) 1 h.machines (m - 1) a (λ n. begins_watched p g h n timing) (index (world_with p h) m a at).1

@@ -2,9 +2,8 @@
 use Rattle.sl_law.proofs.LawFacts.{lawful-front}
 use Rattle.sl_law.specs.Lawful.{Lawful}
 use Rattle.sl_law.specs.LawfulWatchdog.{acts_until, is_covered}
+use Rattle.sl_plain.proofs.Lists.{contains_first, contains_more, find_inside, got_inside}
 use Rattle.sl_session_law.proofs.Joining.{joined_before}
-use Rattle.sl_session_law.proofs.Making.{contains_first, contains_more}
-use Rattle.sl_session_law.proofs.Owning.{got_inside}
 use Rattle.sl_session_law.proofs.Silence.{stage_by}
 use Rattle.sl_session_law.proofs.Staying.{refused_apart, removed_more}
 use Rattle.sl_session_law.specs.Promises.{IsSession}
@@ -17,15 +16,16 @@ use Rattle.sl_trace.specs.Traces.{Setting, Submitted, Trace}
 use Rattle.sl_trace.specs.declared.effects.Entry.{Entry}
 use Rattle.sl_trace.specs.declared.input.Given.{Given}
 use Rattle.sl_watchdog_law.proofs.Becoming.{was_covered}
-use Rattle.sl_watchdog_law.proofs.Finding.{call_inside, find_inside, none_of, open_write}
+use Rattle.sl_watchdog_law.proofs.Finding.{call_inside, none_of, open_write}
 use Rattle.sl_watchdog_law.proofs.Joins.{joins_now, was_session}
 use Rattle.sl_watchdog_law.proofs.Numbering.{given_jobless, given_one}
 use Rattle.sl_watchdog_law.proofs.Renewing.{renewal_grows}
 use Rattle.sl_watchdog_law.proofs.Standing.{covered_open, written_after}
 use Rattle.sl_words.proofs.CaseLaws.{false_is_true, no_value, none_some}
-use Rattle.std.proofs.Common.{ap, arith, refl, subst, sym, tests}
+use Rattle.std.proofs.Common.{ap, arith, refl, subst, sym}
+use Rattle.std.proofs.lemmas.Bool.{leb-false, not-true}
 use Rattle.std.specs.List.{list_any}
-use Rattle.std.specs.Prelude.{Bool, Contains, List, None, Option, Some, [], bytes_eq, false, is_some, map, nat_le, not, slice_get, suc, true, zero, ℕ, ◌&&◌, ◌+◌, ◌<◌, ◌||◌, ◌∷◌, ◌≡◌, ◌≤◌}
+use Rattle.std.specs.Prelude.{Bool, Contains, List, None, Option, Some, [], bytes_eq, false, is_some, map, nat_le, slice_get, suc, true, zero, ℕ, ◌&&◌, ◌+◌, ◌<◌, ◌||◌, ◌∷◌, ◌≡◌, ◌≤◌}
 
 -- ---- a session that is joined
 
@@ -158,15 +158,8 @@ nothing_covered s none is = covered_none (joined_after [] s) (removed_after [] s
 
 -- ---- a test
 
-not_true : (b : Bool) → not b ≡ true → b ≡ false
-not_true true h = absurd (false_is_true h)
-not_true false h = refl
-
-above : (x y : ℕ) → nat_le x y ≡ false → y < x
-above x y h = grind (arith, tests)
-
 unexpired : (cs : List Connection) (now : ℕ) (c : Connection) → test_holds cs now ≡ true → Contains cs c → now < c.expiry
-unexpired cs now c h there = above c.expiry now (none_of (λ (x : Connection). nat_le x.expiry now) cs c (not_true (list_any (λ (x : Connection). nat_le x.expiry now) cs) h) there)
+unexpired cs now c h there = leb-false c.expiry now (none_of (λ (x : Connection). nat_le x.expiry now) cs c (not-true (list_any (λ (x : Connection). nat_le x.expiry now) cs) h) there)
 
 given_connected : (t : TimingNumbers) (gs : List Given) (n : ℕ) (g : Given) → slice_get gs n ≡ Some g → Contains (map (given_connection t) gs) (given_connection t g)
 given_connected t [] n g at = absurd (none_some g at)

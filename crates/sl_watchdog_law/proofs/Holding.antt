@@ -2,10 +2,11 @@
 use Rattle.sl_clocks.specs.Points.{Precedes}
 use Rattle.sl_course_law.specs.Mirrors.{since_restart}
 use Rattle.sl_law.specs.LawfulWatchdog.{is_covered}
+use Rattle.sl_moment_law.proofs.Stamps.{kept_is_stamp}
 use Rattle.sl_moment_law.specs.Moments.{point_of, stamps_on}
 use Rattle.sl_front_law.proofs.Having.{contains_left, contains_right, in_flat}
+use Rattle.sl_plain.proofs.Lists.{contains_more}
 use Rattle.sl_run.specs.Worlds.{Course, Daemon, Machine, Stamp, daemons_on}
-use Rattle.sl_session_law.proofs.Making.{contains_first, contains_more}
 use Rattle.sl_session_law.specs.Promises.{IsSession}
 use Rattle.sl_sessions.specs.Sessions.{Session}
 use Rattle.sl_time.specs.Times.{TimingNumbers, fail}
@@ -30,15 +31,12 @@ stamp_on a d s there has =
     (contains_left (a.resets ++ flat_map stamps_of (daemons_on a)) made s
     (contains_right a.resets (flat_map stamps_of (daemons_on a)) s (in_flat stamps_of (daemons_on a) d s there has))))
 
-kept_on : (a : Machine) → Contains (stamps_on a) a.kept
-kept_on a = contains_first a.kept _
-
 either_order : (t : TimingNumbers) (a : Machine) (s : Stamp) → IsKnown t a → Contains (stamps_on a) s
     → Precedes t.rho (point_of a.kept) (point_of s) ⊎ Precedes t.rho (point_of s) (point_of a.kept)
 either_order t a s k there =
     elim (cases_lt s.step a.kept.step) as (λ z. Precedes t.rho (point_of a.kept) (point_of s) ⊎ Precedes t.rho (point_of s) (point_of a.kept)) [
-      | inl before ↦ inr (k.drift s a.kept there (kept_on a) (omega (arith, before)))
-      | inr after ↦ inl (k.drift a.kept s (kept_on a) there after)
+      | inl before ↦ inr (k.drift s a.kept there (kept_is_stamp a) (omega (arith, before)))
+      | inr after ↦ inl (k.drift a.kept s (kept_is_stamp a) there after)
     ]
 
 is_up : (up used : Bool) (ds : List Daemon) (d : Daemon) → first_by (up && used) ds ≡ Some d → up ≡ true

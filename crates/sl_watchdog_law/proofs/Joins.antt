@@ -1,9 +1,9 @@
 -- A session joins by the answer of its first renewal: from that entry on the renewal counts.
 use Rattle.sl_law.proofs.LawFacts.{lawful-front}
 use Rattle.sl_law.specs.Lawful.{Lawful}
-use Rattle.sl_session_law.proofs.Joining.{joined_before, same_number_by}
-use Rattle.sl_session_law.proofs.Making.{SameCall, contains_cases, contains_first, contains_more, contains_none, old_or_new, same_answered}
-use Rattle.sl_session_law.proofs.Owning.{got_inside}
+use Rattle.sl_plain.proofs.Lists.{contains_cases, contains_first, contains_more, contains_none, find_inside, got_inside}
+use Rattle.sl_session_law.proofs.Joining.{joined_before}
+use Rattle.sl_session_law.proofs.Making.{SameCall, old_or_new, same_answered}
 use Rattle.sl_session_law.specs.Promises.{IsSession}
 use Rattle.sl_sessions.specs.Sessions.{Begun, Renewing, Session, calls_of, is_call_of, is_join_call, is_join_done, is_joined, is_renewal, joined_after, last_renewal, recovery_of, removed_after, renewed_by, renewing, sessions, shows_other}
 use Rattle.sl_time.specs.Times.{fail}
@@ -17,7 +17,7 @@ use Rattle.sl_trace.specs.declared.input.Answer.TheVariants.{Written}
 use Rattle.sl_trace.specs.declared.input.Answer.{Answer}
 use Rattle.sl_trace.specs.declared.input.Input.TheVariants.{Answer as Told, Exit, Line, Spawned, Wake}
 use Rattle.sl_trace.specs.declared.input.Input.{Input}
-use Rattle.sl_watchdog_law.proofs.Finding.{call_owner, equal_numbers, find_inside}
+use Rattle.sl_watchdog_law.proofs.Finding.{call_owner}
 use Rattle.sl_watchdog_law.proofs.Numbering.{call_found, given_first, given_later}
 use Rattle.sl_watchdog_law.proofs.Readings.{Counts, NextRenewal, Stays, after_by, in_by, next_renewal}
 use Rattle.sl_watchdog_law.proofs.Renewing.{IsOpenRenewal, told_is_open}
@@ -27,6 +27,7 @@ use Rattle.sl_words.proofs.CaseLaws.{false_is_true, no_value, none_some, one_val
 use Rattle.sl_words.proofs.WordLaws.{choose_some}
 use Rattle.sl_words.specs.Words.{choose}
 use Rattle.std.proofs.Common.{ap, arith, inl, inr, refl, subst, sym, ◌∙◌}
+use Rattle.std.proofs.lemmas.Bool.{and_left, eq-eqb, eqb-true}
 use Rattle.std.specs.Option.{option_or}
 use Rattle.std.specs.Prelude.{Bool, Contains, List, None, Option, Some, [], false, find, is_none, is_some, length, map, nat_le, option_and_then, option_map, suc, true, ℕ, ◌&&◌, ◌+◌, ◌<◌, ◌==◌, ◌∷◌, ◌≡◌, ◌⊎◌}
 
@@ -64,7 +65,7 @@ brought_by past e n w x a ms i there true is None was h same =
       before = x;
       inside = there;
       same = same;
-      told = i ∙ ap (λ k. Told k w) (sym (same_number_by x.call.number n is)) ∙ ap (λ (b : Answered). Told x.call.number b.answer) now;
+      told = i ∙ ap (λ k. Told k w) (sym (eqb-true x.call.number n is)) ∙ ap (λ (b : Answered). Told x.call.number b.answer) now;
       place = ap (λ (b : Answered). b.at) (sym now);
     })
 
@@ -204,10 +205,6 @@ was_session st e past s k h its joined = was_by st e past s k h its joined s.job
 
 -- ---- no recovery before
 
-and_false : (a b : Bool) → a ≡ false → (a && b) ≡ false
-and_false true b h = absurd (true_is_false h)
-and_false false b h = refl
-
 recovery_by : (es : Trace) (e : Entry) (r : Renewing) (begun : Option Begun) (late other : Bool) (told : Option ℕ) → begun ≡ None → late ≡ false → other ≡ false → r.recovery ≡ None
     → (after_by es e r begun late other told).recovery ≡ None
 recovery_by es e r (Some b) late other told is f g h = absurd (none_some b (sym is))
@@ -226,8 +223,8 @@ unrecovered st (e ∷ es) s none =
     let rest = unrecovered st es s before in
     recovery_by es e (renewing st es s) (recovery_of st es s) (is_joined es s && nat_le ((renewing st es s).last + fail st.timing) e.reading)
     (is_joined es s && shows_other st es s e.input) (renewed_by es s e.input) rest
-    (and_false (is_joined es s) (nat_le ((renewing st es s).last + fail st.timing) e.reading) out)
-    (and_false (is_joined es s) (shows_other st es s e.input) out) rest
+    (and_left (is_joined es s) (nat_le ((renewing st es s).last + fail st.timing) e.reading) out)
+    (and_left (is_joined es s) (shows_other st es s e.input) out) rest
 
 in_told : (begun : Option Begun) (late other : Bool) (told : Option Submitted) → begun ≡ None → late ≡ false → other ≡ false → in_by begun late other told ≡ told
 in_told (Some b) late other told is f g = absurd (none_some b (sym is))
@@ -240,7 +237,7 @@ renewal_is st past s e none =
     let out = not_joined past s none in
     in_told (recovery_of st past s) (is_joined past s && nat_le (last_renewal st past s + fail st.timing) e.reading) (is_joined past s && shows_other st past s e.input)
     (renewal_told past s e.input) (unrecovered st past s none)
-    (and_false (is_joined past s) (nat_le (last_renewal st past s + fail st.timing) e.reading) out) (and_false (is_joined past s) (shows_other st past s e.input) out)
+    (and_left (is_joined past s) (nat_le (last_renewal st past s + fail st.timing) e.reading) out) (and_left (is_joined past s) (shows_other st past s e.input) out)
 
 -- ---- the entry by which it joins
 
@@ -278,7 +275,7 @@ now_by st e past s k h none at f (inr b) =
     let told_is : renewal_told past s e.input ≡ Some b.before =
     ap (renewal_told past s) (b.told ∙ ap (λ a. Told n a) f.ok)
     ∙ told_so past s n b.before (call_found st past b.before h.is_trace.1 b.inside)
-    (equal_numbers b.before.call.session s.number (ap (λ x. x.session) (sym b.same.call) ∙ f.mine)) (ap is_renewal c ∙ f.renews) in
+    (eq-eqb b.before.call.session s.number (ap (λ x. x.session) (sym b.same.call) ∙ f.mine)) (ap is_renewal c ∙ f.renews) in
     let entry = renewal_is st past s e none ∙ told_is in
     record {
       renewal = b.before;

@@ -3,30 +3,21 @@ use Rattle.sl_clocks.specs.Points.{Precedes}
 use Rattle.sl_course_law.specs.Mirrors.{Mirrors}
 use Rattle.sl_course_law.specs.Promises.{DaemonsAreOfWorld, EntriesAreStamped, MachinesMirror}
 use Rattle.sl_course_law.specs.Stamping.{IsStamped}
-use Rattle.sl_front_law.proofs.Going.{was_there}
+use Rattle.sl_front_law.proofs.Going.{settled_later}
 use Rattle.sl_front_law.proofs.Having.{in_flat}
 use Rattle.sl_law.specs.Lawful.{Lawful}
 use Rattle.sl_moment_law.specs.Moments.{StampsDrift, point_of, stamps_on}
-use Rattle.sl_run.specs.Runs.{Happening, IsRun}
+use Rattle.sl_plain.proofs.Lists.{got_inside}
+use Rattle.sl_run.specs.Runs.{Happening}
 use Rattle.sl_run.specs.Safety.{LawfulRun, world_at}
 use Rattle.sl_run.specs.Worlds.{Daemon, Machine, Program, Stamp, World, daemons_on, machine_at, world_with}
 use Rattle.sl_run.specs.declared.header.Header.{Header}
-use Rattle.sl_run_law.proofs.Beginnings.{begins_new}
 use Rattle.sl_run_law.proofs.Going.{run_goes}
-use Rattle.sl_run_law.proofs.Hosting.{run_hosts}
 use Rattle.sl_run_law.proofs.Walking.{index}
 use Rattle.sl_run_law.specs.Daemons.{IsSettled}
-use Rattle.sl_session_law.proofs.Owning.{got_inside}
 use Rattle.sl_time.specs.Times.{TimingNumbers}
-use Rattle.sl_words.proofs.CaseLaws.{one_value}
-use Rattle.std.proofs.Common.{ap, subst, ◌∙◌}
+use Rattle.std.proofs.Common.{ap, ◌∙◌}
 use Rattle.std.specs.Prelude.{Contains, List, Some, ℕ, ◌-◌, ◌≡◌, ◌≤◌}
-
-settled_later : (p : Program) (h : Header) (xs : List Happening) → IsRun (world_with p h) xs → (m : ℕ) (b : Machine) → machine_at (world_at p h xs) m ≡ Some b → IsSettled b
-settled_later p h xs run m b at =
-    let a = was_there (world_with p h) xs m b at in
-    let go = run_hosts (world_with p h) xs run m a.0 a.1 in
-    subst IsSettled (one_value go.0 b (machine_at (world_at p h xs) m) go.1 at) (go.2 (begins_new p h m a.0 a.1).settled).settled
 
 -- The promises that this rests on.
 pub record RestsOn : Type 0 where

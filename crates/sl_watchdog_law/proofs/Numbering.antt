@@ -1,6 +1,7 @@
 -- Numbers of sessions and of calls in a trace.
-use Rattle.sl_session_law.proofs.Joining.{same_number_by}
-use Rattle.sl_session_law.proofs.Making.{contains_cases, contains_none, same_answered}
+use Rattle.sl_plain.proofs.Lists.{any_found, contains_cases, contains_none, head_is, kept_inside, tail_is}
+use Rattle.sl_plain.proofs.Options.{none_is}
+use Rattle.sl_session_law.proofs.Making.{same_answered}
 use Rattle.sl_session_law.proofs.Owning.{session_more}
 use Rattle.sl_sessions.specs.Sessions.{Session, added_by, begun_in, given_session, is_join_call, joining_session, session_numbered, sessions}
 use Rattle.sl_trace.specs.Traces.{IsTrace, Setting, Submitted, Trace, answered_in, call_numbered, is_answer_for, is_expected, mark, new_call, next_call, next_job, outstanding, submitted}
@@ -12,10 +13,11 @@ use Rattle.sl_trace.specs.declared.input.Answer.{Answer}
 use Rattle.sl_trace.specs.declared.input.Given.{Given}
 use Rattle.sl_trace.specs.declared.input.Input.TheVariants.{Answer as Told, Exit, Line, Spawned, Wake}
 use Rattle.sl_trace.specs.declared.input.Input.{Input}
-use Rattle.sl_watchdog_law.proofs.Finding.{any_found, equal_numbers, kept_inside, none_is, numbers_apart}
+use Rattle.sl_watchdog_law.proofs.Finding.{numbers_apart}
 use Rattle.sl_words.proofs.CaseLaws.{none_some, some_value}
 use Rattle.sl_words.proofs.WordLaws.{and_true}
 use Rattle.std.proofs.Common.{ap, arith, inl, inr, refl, subst, sym, ◌∙◌}
+use Rattle.std.proofs.lemmas.Bool.{eq-eqb, eqb-true}
 use Rattle.std.specs.List.{enumerate_from, list_any, range_with_len}
 use Rattle.std.specs.Prelude.{Bool, Contains, List, None, Option, Some, [], cond, false, find, fold, is_none, length, map, slice_get, suc, true, zero, ℕ, ◌&&◌, ◌++◌, ◌+◌, ◌<◌, ◌==◌, ◌∷◌, ◌≡◌, ◌⊎◌}
 
@@ -129,12 +131,6 @@ counted_marked es e (Exit p) first ms h = (h, refl)
 counted_marked es e (Spawned p ok) first ms h = (h, refl)
 counted_marked es e Wake first ms h = (h, refl)
 
-head_is : (x y : ℕ) (xs ys : List ℕ) → x ∷ xs ≡ y ∷ ys → x ≡ y
-head_is x y xs ys h = cc
-
-tail_is : (x y : ℕ) (xs ys : List ℕ) → x ∷ xs ≡ y ∷ ys → xs ≡ ys
-tail_is x y xs ys h = cc
-
 abbrev called : ℕ → ℕ → List Submitted → Call → List Submitted
 called at reading ms c = new_call at reading c ∷ ms
 
@@ -165,7 +161,7 @@ number_below first (x ∷ ms) m h there =
 
 found_here : (x : Submitted) (ms : List Submitted) (m : Submitted) → x ≡ m → find (λ (y : Submitted). y.call.number == m.call.number) (x ∷ ms) ≡ Some m
 found_here x ms m here =
-    ap (λ b. cond b (Some x) (find (λ (y : Submitted). y.call.number == m.call.number) ms)) (equal_numbers x.call.number m.call.number (ap (λ (y : Submitted). y.call.number) here))
+    ap (λ b. cond b (Some x) (find (λ (y : Submitted). y.call.number == m.call.number) ms)) (eq-eqb x.call.number m.call.number (ap (λ (y : Submitted). y.call.number) here))
     ∙ ap (λ y. Some y) here
 
 found_later : (first : ℕ) (x : Submitted) (ms : List Submitted) (m : Submitted) → AreCounted first (x ∷ ms) → m.call.number < first + length ms
@@ -204,7 +200,7 @@ answered_call st es e n a h is =
       record {
         inside = w.0;
         waits = none_is r.0.answer w.1;
-        found = subst (λ k. call_numbered es k ≡ Some r.0) (same_number_by r.0.call.number n b.0) (call_found st es r.0 h.1 w.0);
+        found = subst (λ k. call_numbered es k ≡ Some r.0) (eqb-true r.0.call.number n b.0) (call_found st es r.0 h.1 w.0);
         kind = b.1;
       },
     )

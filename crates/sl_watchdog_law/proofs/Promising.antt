@@ -6,22 +6,22 @@ use Rattle.sl_course_law.specs.Stamping.{AnswersAgree, AreCalls, IsCourseOf, Pai
 use Rattle.sl_law.proofs.LawFacts.{lawful-front}
 use Rattle.sl_law.specs.Lawful.{Lawful}
 use Rattle.sl_moment_law.specs.Moments.{StampsDrift, point_of}
+use Rattle.sl_plain.proofs.Lists.{any_found, contains_cases, contains_first, contains_more, contains_none, find_inside, got_inside, kept}
+use Rattle.sl_plain.proofs.Options.{mapped_value, none_is, some_of, then_value}
 use Rattle.sl_run.specs.Safety.{Found, IsSession as IsSessionOf, SessionId, WasResetLately, is_course_of, world_at}
 use Rattle.sl_run.specs.Worlds.{Course, Daemon, Machine, Stamp, World, daemon_numbered, daemons_on, is_of_running, is_open, is_write_course, machine_at, may_land, resets_after, world_with}
 use Rattle.sl_run.specs.declared.header.Header.{Header}
 use Rattle.sl_run_law.proofs.Going.{run_goes}
-use Rattle.sl_session_law.proofs.Joining.{both, same_number_by}
 use Rattle.sl_session_law.proofs.Covering.{writes_are_covered}
-use Rattle.sl_session_law.proofs.Making.{calls_are_made, contains_cases, contains_first, contains_more, contains_none}
-use Rattle.sl_session_law.proofs.Naming.{kept}
-use Rattle.sl_session_law.proofs.Owning.{got_inside, sessions_stay}
+use Rattle.sl_session_law.proofs.Making.{calls_are_made}
+use Rattle.sl_session_law.proofs.Owning.{sessions_stay}
 use Rattle.sl_session_law.specs.Promises.{IsSession}
 use Rattle.sl_sessions.specs.Sessions.{Session, has_open_write, session_numbered}
 use Rattle.sl_time.specs.Times.{TimingNumbers}
 use Rattle.sl_trace.specs.Connections.{connection_named}
 use Rattle.sl_trace.specs.Traces.{Answered, Setting, Submitted, Trace, is_write, submitted}
 use Rattle.sl_trace.specs.declared.effects.Call.{Call}
-use Rattle.sl_watchdog_law.proofs.Finding.{any_found, call_inside, equal_numbers, find_inside, none_is, numbers_apart, open_write}
+use Rattle.sl_watchdog_law.proofs.Finding.{call_inside, numbers_apart, open_write}
 use Rattle.sl_watchdog_law.proofs.Holding.{held}
 use Rattle.sl_watchdog_law.proofs.Knowing.{IsKnown, RestsOn, known}
 use Rattle.sl_watchdog_law.proofs.Machines.{IsWatched, WasLost, either_daemon, lost_daemons}
@@ -30,21 +30,14 @@ use Rattle.sl_watchdog_law.proofs.Standing.{covered_open}
 use Rattle.sl_watchdog_law.proofs.Stepping.{by_false, lost_running, number_below}
 use Rattle.sl_watchdog_law.proofs.Watching.{all_watched}
 use Rattle.sl_watchdog_law.specs.Promises.{ActsStill, CoveredAreConnected, WritersMayAct, WritesInFlightAreCovered}
-use Rattle.sl_words.proofs.CaseLaws.{false_is_true, no_value, none_some, some_value}
+use Rattle.sl_words.proofs.CaseLaws.{no_value}
 use Rattle.sl_words.proofs.WordLaws.{and_true, some_is_true}
 use Rattle.sl_words.specs.Words.{is_empty}
-use Rattle.std.proofs.Common.{ap, arith, inl, inr, refl, subst, sym, tests, ◌∙◌}
-use Rattle.std.specs.Prelude.{Bool, Contains, IsSome, IsTrue, List, None, Option, Some, [], cond, false, find, is_none, is_some, nat_lt, option_and_then, option_map, true, ℕ, ◌&&◌, ◌++◌, ◌+◌, ◌<◌, ◌==◌, ◌||◌, ◌∷◌, ◌≡◌, ◌≤◌, ◌⊎◌}
+use Rattle.std.proofs.Common.{ap, arith, inl, inr, refl, subst, sym, ◌∙◌}
+use Rattle.std.proofs.lemmas.Bool.{and_from, eq-eqb, eqb-true, lt-ltb}
+use Rattle.std.specs.Prelude.{Bool, Contains, IsSome, IsTrue, List, None, Option, Some, [], cond, false, find, is_none, is_some, nat_lt, option_and_then, option_map, true, ℕ, ◌&&◌, ◌++◌, ◌+◌, ◌==◌, ◌||◌, ◌∷◌, ◌≡◌, ◌≤◌, ◌⊎◌}
 
 -- ---- a session of a world
-
-after_value : {A B : Type 0} (f : A → Option B) (o : Option A) (b : B) → option_and_then f o ≡ Some b → (a : A) × (o ≡ Some a) × (f a ≡ Some b)
-after_value f None b h = absurd (none_some b h)
-after_value f (Some a) b h = (a, refl, h)
-
-mapped_value : {A B : Type 0} (f : A → B) (o : Option A) (b : B) → option_map f o ≡ Some b → (a : A) × (o ≡ Some a) × (f a ≡ b)
-mapped_value f None b h = absurd (none_some b h)
-mapped_value f (Some a) b h = (a, refl, some_value (f a) b h)
 
 -- Where the session is found.
 record IsFound (w : World) (i : SessionId) (f : Found) : Type 0 where
@@ -56,19 +49,19 @@ found_in : (w : World) (i : SessionId) (a : Machine) (d : Daemon) (s : Session) 
     → session_numbered d.setting d.trace i.number ≡ Some s → record { machine = a; daemon = d; session = s } ≡ f → IsFound w i f
 found_in w i a d s f at numbered session is =
     let there = find_inside (λ (x : Daemon). x.number == i.daemon) (daemons_on a) d numbered in
-    subst (λ (x : Found). IsFound w i x) is (record { at = at; daemon = (there.0, same_number_by d.number i.daemon there.1); session = session })
+    subst (λ (x : Found). IsFound w i x) is (record { at = at; daemon = (there.0, eqb-true d.number i.daemon there.1); session = session })
 
 is_found : (w : World) (i : SessionId) (f : Found) → IsSessionOf w i f → IsFound w i f
 is_found w i f h =
-    let a = after_value (λ (a : Machine). option_and_then (λ (d : Daemon). option_map (λ (s : Session). record { machine = a; daemon = d; session = s })
+    let a = then_value (λ (a : Machine). option_and_then (λ (d : Daemon). option_map (λ (s : Session). record { machine = a; daemon = d; session = s })
     (session_numbered d.setting d.trace i.number)) (daemon_numbered a i.daemon)) (machine_at w i.machine) f h in
-    let d = after_value (λ (d : Daemon). option_map (λ (s : Session). record { machine = a.0; daemon = d; session = s }) (session_numbered d.setting d.trace i.number))
+    let d = then_value (λ (d : Daemon). option_map (λ (s : Session). record { machine = a.0; daemon = d; session = s }) (session_numbered d.setting d.trace i.number))
     (daemon_numbered a.0 i.daemon) f a.2 in
     let s = mapped_value (λ (s : Session). record { machine = a.0; daemon = d.0; session = s }) (session_numbered d.0.setting d.0.trace i.number) f d.2 in
     found_in w i a.0 d.0 s.0 f a.1 d.1 s.1 s.2
 
 -- It is a session of its trace.
-itself : (st : Setting) (es : Trace) (n : ℕ) (s : Session) → session_numbered st es n ≡ Some s → IsSession st es s
+pub itself : (st : Setting) (es : Trace) (n : ℕ) (s : Session) → session_numbered st es n ≡ Some s → IsSession st es s
 itself st es n s at = ap (λ k. session_numbered st es k) (number_is st es n s at) ∙ at
 
 -- ---- covered sessions
@@ -86,7 +79,7 @@ covered_are_connected_given mirror stamped of_world drift = stands (record { mir
 
 -- ---- calls of a machine and of its daemon's trace
 
-pair_of : {A B : Type 0} (R : A → B → Type 0) (xs : List A) (ys : List B) (x : A) → Pairwise R xs ys → Contains xs x → (y : B) × Contains ys y × R x y
+pub pair_of : {A B : Type 0} (R : A → B → Type 0) (xs : List A) (ys : List B) (x : A) → Pairwise R xs ys → Contains xs x → (y : B) × Contains ys y × R x y
 pair_of R [] ys x h there = absurd (contains_none x there)
 pair_of R (z ∷ xs) [] x h there = absurd h
 pair_of R (z ∷ xs) (y ∷ ys) x h there =
@@ -95,7 +88,7 @@ pair_of R (z ∷ xs) (y ∷ ys) x h there =
       | inr more ↦ let r = pair_of R xs ys x h.1 more in (r.0, contains_more y ys r.0 r.1, r.2)
     ]
 
-unanswered_by : (d : Daemon) (c : Course) (o : Option Answered) → c.answered ≡ None → AnswersAgree d c o → o ≡ None
+pub unanswered_by : (d : Daemon) (c : Course) (o : Option Answered) → c.answered ≡ None → AnswersAgree d c o → o ≡ None
 unanswered_by d c None none h = refl
 unanswered_by d c (Some a) none h = absurd (no_value h.stamp c.answered h.answered none)
 
@@ -110,7 +103,7 @@ record IsOpenWrite (a : Machine) (c : Course) (d : Daemon) : Type 0 where
 open_write_of : (a : Machine) (c : Course) (d : Daemon) → AreCalls a d → Contains a.calls c → c.daemon ≡ d.number → is_write_course c ≡ true → c.answered ≡ None → IsOpenWrite a c d
 open_write_of a c d calls there its writes none =
     let r = pair_of (IsCourseOf d) (courses_of a d.number) (submitted d.trace) c calls
-    (kept (λ (x : Course). x.daemon == d.number) a.calls c (equal_numbers c.daemon d.number its) there) in
+    (kept (λ (x : Course). x.daemon == d.number) a.calls c (eq-eqb c.daemon d.number its) there) in
     record {
       call = r.0;
       inside = r.1;
@@ -136,7 +129,7 @@ not_running : (t : TimingNumbers) (a : Machine) (c : Course) (d : Daemon) → Is
 not_running t a c d k there its runs =
     let x = some_is_true (λ (y : Daemon). y.number == c.daemon) a.daemon runs in
     apart_by a d x.0 k.mirrors.numbered x.1 (by_false a.up (λ down. no_value x.0 a.daemon x.1 (k.settled.down down)))
-    (by_false a.used (λ unused. no_value x.0 a.daemon x.1 (k.settled.unused unused))) there (same_number_by x.0.number c.daemon x.2 ∙ its)
+    (by_false a.used (λ unused. no_value x.0 a.daemon x.1 (k.settled.unused unused))) there (eqb-true x.0.number c.daemon x.2 ∙ its)
 
 or_second : (a b : Bool) → (a ≡ true → ⊥) → (a || b) ≡ true → b ≡ true
 or_second true b never h = absurd (never refl)
@@ -146,13 +139,10 @@ it_may_land : (t : TimingNumbers) (a : Machine) (c : Course) (d : Daemon) → Is
 it_may_land t a c d k there its open_is =
     or_second (is_of_running a c) (may_land c) (not_running t a c d k there its) (and_true (is_none c.answered) (is_of_running a c || may_land c) open_is).1
 
-is_less : (x y : ℕ) → x < y → nat_lt x y ≡ true
-is_less x y h = grind (arith, tests)
-
 -- The reset came after it.
 reset_after : (t : TimingNumbers) (a : Machine) (c : Course) (d : Daemon) → (l : WasLost t a.resets a.calls d) → Contains a.calls c → c.daemon ≡ d.number → Contains (resets_after a c.made.step) l.reset
 reset_after t a c d l there its =
-    kept (λ (x : Stamp). nat_lt c.made.step x.step) a.resets l.reset (is_less c.made.step l.reset.step (l.after c there its)) l.there
+    kept (λ (x : Stamp). nat_lt c.made.step x.step) a.resets l.reset (lt-ltb c.made.step l.reset.step (l.after c there its)) l.there
 
 -- ---- writers
 
@@ -182,9 +172,9 @@ writers on calls p h xs run i f is flies =
     let kind = and_true (is_course_of i c) (is_write_course c) b.0 in
     let whose = and_true (c.daemon == i.daemon) (c.call.session == i.number) kind.0 in
     let there = g.daemon.0 in
-    let mine = same_number_by c.daemon i.daemon whose.0 ∙ sym g.daemon.1 in
+    let mine = eqb-true c.daemon i.daemon whose.0 ∙ sym g.daemon.1 in
     let its = itself f.daemon.setting f.daemon.trace i.number f.session g.session in
-    let number = same_number_by c.call.session i.number whose.1 ∙ sym (number_is f.daemon.setting f.daemon.trace i.number f.session g.session) in
+    let number = eqb-true c.call.session i.number whose.1 ∙ sym (number_is f.daemon.setting f.daemon.trace i.number f.session g.session) in
     let none = none_is c.answered (and_true (is_none c.answered) (is_of_running f.machine c || may_land c) b.1).0 in
     let o = open_write_of f.machine c f.daemon (calls p h xs run i.machine f.machine f.daemon g.at there) found.1 mine kind.1 none in
     acts_by h w f c (known on p h xs run i.machine f.machine g.at) (all_watched on p h xs run i.machine f.machine g.at) its found.1 mine b.1 there
@@ -194,10 +184,6 @@ pub writers_may_act_given : CoursesAreCalls → MachinesMirror → EntriesAreSta
 writers_may_act_given calls mirror stamped of_world drift = writers (record { mirror = mirror; stamped = stamped; of_world = of_world; drift = drift }) calls
 
 -- ---- writes in flight
-
-some_of : (o : Option Session) → IsSome o → (s : Session) × (o ≡ Some s)
-some_of None h = absurd (false_is_true h)
-some_of (Some s) h = (s, refl)
 
 -- A call of a lawful trace is some session's.
 session_of_call : (st : Setting) (es : Trace) (m : Submitted) → Lawful st es → Contains (submitted es) m → (s : Session) × (session_numbered st es m.call.session ≡ Some s)
@@ -214,7 +200,7 @@ daemon_found [] d h there = absurd (contains_none d there)
 daemon_found (x ∷ ds) d h there =
     elim (contains_cases x ds d there) as (λ z. cond (x.number == d.number) (Some x) (find (λ (y : Daemon). y.number == d.number) ds) ≡ Some d) [
       | inl same ↦
-          ap (λ b. cond b (Some x) (find (λ (y : Daemon). y.number == d.number) ds)) (equal_numbers x.number d.number (ap (λ (y : Daemon). y.number) same))
+          ap (λ b. cond b (Some x) (find (λ (y : Daemon). y.number == d.number) ds)) (eq-eqb x.number d.number (ap (λ (y : Daemon). y.number) same))
           ∙ ap (λ y. Some y) same
       | inr old ↦
           let below = number_below ds d h.1 old in
@@ -250,7 +236,7 @@ by_connection t w m a c d s at k there its session waits since =
       record { machine = a; daemon = d; session = s },
       is_session w m c.call.session a d s at k.mirrors.numbered there session,
       refl,
-      both (c.daemon == d.number) (c.call.session == c.call.session) (equal_numbers c.daemon d.number its) (equal_numbers c.call.session c.call.session refl),
+      and_from (c.daemon == d.number) (c.call.session == c.call.session) (eq-eqb c.daemon d.number its) (eq-eqb c.call.session c.call.session refl),
       ap (λ cs. is_some (connection_named cs s.lockspace)) (k.mirrors.connected d since) ∙ ap (λ o. is_some o) covered.registered,
     )
 

@@ -1,5 +1,6 @@
 -- Nothing in a trace has a later reading than its newest entry.
-use Rattle.sl_session_law.proofs.Making.{contains_none, old_or_new, was_marked}
+use Rattle.sl_plain.proofs.Lists.{contains_none, find_inside}
+use Rattle.sl_session_law.proofs.Making.{old_or_new, was_marked}
 use Rattle.sl_sessions.specs.Sessions.{Begun, Renewing, Session, begun_in, is_call_of, is_joined, is_renewal, last_renewal, recovers, renewed_by, renewing, session_numbered, sessions, shows_other}
 use Rattle.sl_time.specs.Times.{fail}
 use Rattle.sl_trace.specs.Connections.{last_registering, registers}
@@ -10,7 +11,6 @@ use Rattle.sl_trace.specs.declared.input.Given.{Given}
 use Rattle.sl_trace.specs.declared.input.Input.TheVariants.{Answer as Told, Exit, Line, Spawned, Wake}
 use Rattle.sl_trace.specs.declared.input.Input.{Input}
 use Rattle.sl_watchdog_law.specs.Acting.{renewal_in, renewal_told}
-use Rattle.sl_watchdog_law.proofs.Finding.{find_inside}
 use Rattle.sl_watchdog_law.proofs.Numbering.{begun_is, either_place, given_one}
 use Rattle.sl_words.proofs.CaseLaws.{none_some}
 use Rattle.sl_words.proofs.WordLaws.{and_true, choose_some}

@@ -2,10 +2,10 @@
 use Rattle.sl_law.proofs.LawFacts.{lawful-front}
 use Rattle.sl_law.specs.Lawful.{Lawful}
 use Rattle.sl_law.specs.Saying.{cut_at}
-use Rattle.sl_session_law.proofs.Joining.{same_number_by}
+use Rattle.sl_plain.proofs.Lists.{contains_cases, contains_none, got_inside}
 use Rattle.sl_session_law.proofs.Growing.{mine_marked, mine_next, other_next, to_all}
-use Rattle.sl_session_law.proofs.Making.{contains_cases, contains_none, old_or_new, was_marked}
-use Rattle.sl_session_law.proofs.Owning.{got_inside, is_the_one, session_more}
+use Rattle.sl_session_law.proofs.Making.{old_or_new, was_marked}
+use Rattle.sl_session_law.proofs.Owning.{is_the_one, session_more}
 use Rattle.sl_session_law.specs.Promises.{IsSession}
 use Rattle.sl_sessions.specs.Sessions.{Session, calls_of, is_delta_purpose, is_renewal, last_renewal, session_numbered}
 use Rattle.sl_trace.specs.Traces.{Setting, Submitted, Trace, call_numbered, is_answer_for, is_write, mark, new_call, submitted}
@@ -23,6 +23,7 @@ use Rattle.sl_watchdog_law.proofs.Standing.{older_call}
 use Rattle.sl_watchdog_law.specs.Acting.{renewal_told}
 use Rattle.sl_words.proofs.CaseLaws.{false_is_true, one_value, true_is_false}
 use Rattle.std.proofs.Common.{ap, arith, inl, inr, refl, subst, sym, ◌∙◌}
+use Rattle.std.proofs.lemmas.Bool.{eqb-true}
 use Rattle.std.specs.Prelude.{Bool, Contains, List, None, Some, [], false, length, slice_get, suc, true, ℕ, ◌==◌, ◌∷◌, ◌≡◌, ◌≤◌, ◌⊎◌}
 
 -- ---- one open call on a delta sector
@@ -58,7 +59,7 @@ one_call : (st : Setting) (e : Entry) (past : Trace) (s : Session) → Lawful st
     → (k : ℕ) (c : Call) → slice_get e.effects.calls k ≡ Some c → (b : Bool) → (c.session == s.number) ≡ b → OneOpen (calls_of (cut_at k e ∷ past) s) → OneOpen (calls_of (cut_at (suc k) e ∷ past) s)
 one_call st e past s h same k c at false other one = subst OneOpen (sym (other_next past e s k c at other)) one
 one_call st e past s h same k c at true mine one =
-    let number = same_number_by c.session s.number mine in
+    let number = eqb-true c.session s.number mine in
     let its = is_the_one (session_numbered st (e ∷ past) c.session) s (h.calls.0.owned c (got_inside e.effects.calls k c at))
     (λ x is. same x (ap (λ n. session_numbered st (e ∷ past) n) (sym number) ∙ is)) in
     subst OneOpen (sym (mine_next past e s k c at mine))
@@ -107,7 +108,7 @@ told_is_open st e past s m h is =
     let same : asked.0 ≡ m = one_value asked.0 m (call_numbered past w.number) asked.1.found w.found in
     record {
       inside = subst (λ x. Contains (submitted past) x) same asked.1.inside;
-      mine = same_number_by m.call.session s.number w.its;
+      mine = eqb-true m.call.session s.number w.its;
       renews = w.renews;
       waits = subst (λ (x : Submitted). x.answer ≡ None) same asked.1.waits;
       writes = subst (λ (x : Submitted). is_write x.call.op ≡ true) same (written_by st asked.0.call.op asked.1.kind);

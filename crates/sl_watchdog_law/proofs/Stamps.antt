@@ -1,11 +1,13 @@
 -- The stamp from which a session's connection counts, and its reading.
+use Rattle.sl_course_law.proofs.Matching.{newest_stamp, stamp_stays}
 use Rattle.sl_course_law.specs.Stamping.{IsStampOf, IsStamped, Pairwise, stamp_in}
 use Rattle.sl_law.proofs.LawFacts.{lawful-front}
 use Rattle.sl_law.specs.Lawful.{Lawful}
 use Rattle.sl_law.specs.LawfulWatchdog.{acts_until, is_covered}
+use Rattle.sl_plain.proofs.Lists.{contains_first, contains_more, contains_none, find_inside}
 use Rattle.sl_run.specs.Worlds.{Daemon, Stamp}
 use Rattle.sl_session_law.proofs.Joining.{joined_before}
-use Rattle.sl_session_law.proofs.Making.{contains_first, contains_more, contains_none, old_or_new, was_marked}
+use Rattle.sl_session_law.proofs.Making.{old_or_new, was_marked}
 use Rattle.sl_session_law.specs.Promises.{IsSession}
 use Rattle.sl_sessions.specs.Sessions.{Session, joined_after, last_renewal}
 use Rattle.sl_time.specs.Times.{fail, reading_of}
@@ -14,20 +16,19 @@ use Rattle.sl_trace.specs.Traces.{Setting, Submitted, Trace, mark, submitted}
 use Rattle.sl_trace.specs.declared.effects.Entry.{Entry}
 use Rattle.sl_trace.specs.declared.input.Given.{Given}
 use Rattle.sl_watchdog_law.proofs.Becoming.{was_covered}
-use Rattle.sl_watchdog_law.proofs.Finding.{equal_numbers, find_inside}
 use Rattle.sl_watchdog_law.proofs.Freshness.{acts_joined, acts_joining, nothing_covered}
 use Rattle.sl_watchdog_law.proofs.Joins.{has_renewal}
 use Rattle.sl_watchdog_law.proofs.Numbering.{given_first, given_one}
 use Rattle.sl_watchdog_law.proofs.Readings.{Counts, NextRenewal, Stays, next_renewal, told}
 use Rattle.sl_watchdog_law.specs.Acting.{acting_stamp, registering_entry, renewal_entry}
 use Rattle.sl_words.proofs.CaseLaws.{false_is_true, none_some, some_value}
-use Rattle.std.proofs.Common.{ap, arith, inl, inr, refl, subst, sym, tests, ◌∙◌}
+use Rattle.std.proofs.Common.{ap, inl, inr, refl, subst, sym, ◌∙◌}
 use Rattle.std.specs.List.{list_any}
-use Rattle.std.specs.Prelude.{Bool, Contains, List, None, Option, Some, [], false, is_some, length, option_and_then, slice_get, suc, true, ℕ, ◌+◌, ◌<◌, ◌==◌, ◌∷◌, ◌≡◌}
+use Rattle.std.specs.Prelude.{Bool, Contains, List, None, Option, Some, [], false, is_some, length, option_and_then, slice_get, suc, true, ℕ, ◌+◌, ◌==◌, ◌∷◌, ◌≡◌}
 
 -- ---- stamps of entries
 
-same_length : (ss : List Stamp) (es : Trace) → Pairwise IsStampOf ss es → length ss ≡ length es
+pub same_length : (ss : List Stamp) (es : Trace) → Pairwise IsStampOf ss es → length ss ≡ length es
 same_length [] [] h = refl
 same_length [] (e ∷ es) h = absurd h
 same_length (s ∷ ss) [] h = absurd h
@@ -36,28 +37,11 @@ same_length (s ∷ ss) (e ∷ es) h = ap (λ n. suc n) (same_length ss es h.1)
 abbrev stamp_by : Bool → Stamp → Option Stamp → Option Stamp
 stamp_by b s o = elim b [ true ↦ Some s | false ↦ o ]
 
-stamp_within_by : (ss : List Stamp) (i : ℕ) (s t : Stamp) (b : Bool) → (i == length ss) ≡ b → stamp_by b s (stamp_in ss i) ≡ Some t → (stamp_in ss i ≡ Some t → i < length ss) → i < suc (length ss)
-stamp_within_by ss i s t true is h rest = let e : i ≡ length ss = grind (arith, tests) in omega (arith, e)
-stamp_within_by ss i s t false is h rest = let r = rest h in omega (arith, r)
-
-stamp_within : (ss : List Stamp) (i : ℕ) (t : Stamp) → stamp_in ss i ≡ Some t → i < length ss
-stamp_within [] i t h = absurd (none_some t h)
-stamp_within (s ∷ ss) i t h = stamp_within_by ss i s t (i == length ss) refl h (λ rest. stamp_within ss i t rest)
-
-not_same : (i n : ℕ) → i < n → (i == n) ≡ false
-not_same i n h = grind (arith, tests)
-
-stamp_more : (s : Stamp) (ss : List Stamp) (i : ℕ) (t : Stamp) → stamp_in ss i ≡ Some t → stamp_in (s ∷ ss) i ≡ Some t
-stamp_more s ss i t h = ap (λ b. stamp_by b s (stamp_in ss i)) (not_same i (length ss) (stamp_within ss i t h)) ∙ h
-
-stamp_first : (s : Stamp) (ss : List Stamp) (i : ℕ) → i ≡ length ss → stamp_in (s ∷ ss) i ≡ Some s
-stamp_first s ss i h = ap (λ b. stamp_by b s (stamp_in ss i)) (equal_numbers i (length ss) h)
-
 stamp_there_by : (ss : List Stamp) (i : ℕ) (s t : Stamp) (b : Bool) → stamp_by b s (stamp_in ss i) ≡ Some t → (stamp_in ss i ≡ Some t → Contains ss t) → Contains (s ∷ ss) t
 stamp_there_by ss i s t true h rest = subst (λ x. Contains (s ∷ ss) x) (some_value s t h) (contains_first s ss)
 stamp_there_by ss i s t false h rest = contains_more s ss t (rest h)
 
-stamp_there : (ss : List Stamp) (i : ℕ) (t : Stamp) → stamp_in ss i ≡ Some t → Contains ss t
+pub stamp_there : (ss : List Stamp) (i : ℕ) (t : Stamp) → stamp_in ss i ≡ Some t → Contains ss t
 stamp_there [] i t h = absurd (none_some t h)
 stamp_there (s ∷ ss) i t h = stamp_there_by ss i s t (i == length ss) h (λ rest. stamp_there ss i t rest)
 
@@ -68,7 +52,7 @@ record HasStamp (ss : List Stamp) (i r : ℕ) : Type 0 where
   shows : reading_of stamp.clock ≡ r
 
 has_more : (s : Stamp) (ss : List Stamp) (i r : ℕ) → HasStamp ss i r → HasStamp (s ∷ ss) i r
-has_more s ss i r h = record { stamp = h.stamp; at = stamp_more s ss i h.stamp h.at; shows = h.shows }
+has_more s ss i r h = record { stamp = h.stamp; at = stamp_stays s ss i h.stamp h.at; shows = h.shows }
 
 -- ---- of registerings
 
@@ -83,7 +67,7 @@ registering_by : (s : Stamp) (ss : List Stamp) (e : Entry) (es : Trace) (name : 
     → HasStamp (s ∷ ss) i (reading_by b e.reading (last_registering es name))
 registering_by s ss e es name i h true is rest =
     let at : i ≡ length ss = sym (some_value (length es) i is) ∙ sym (same_length ss es h.1) in
-    record { stamp = s; at = stamp_first s ss i at; shows = h.0 }
+    record { stamp = s; at = newest_stamp s ss i at; shows = h.0 }
 registering_by s ss e es name i h false is rest = has_more s ss i (last_registering es name) (rest is)
 
 registering_stamp : (ss : List Stamp) (es : Trace) (name : List ℕ) (i : ℕ) → Pairwise IsStampOf ss es → registering_entry es name ≡ Some i → HasStamp ss i (last_registering es name)
@@ -99,7 +83,7 @@ call_stamp ss [] m h there = absurd (contains_none m there)
 call_stamp [] (e ∷ es) m h there = absurd h
 call_stamp (s ∷ ss) (e ∷ es) m h there =
     elim (old_or_new (length es) e.reading e.effects.calls (mark es e e.input (submitted es)) m there) as (λ z. HasStamp (s ∷ ss) m.at m.reading) [
-      | inr new ↦ record { stamp = s; at = stamp_first s ss m.at (new.place ∙ sym (same_length ss es h.1)); shows = h.0 ∙ sym new.reading_is }
+      | inr new ↦ record { stamp = s; at = newest_stamp s ss m.at (new.place ∙ sym (same_length ss es h.1)); shows = h.0 ∙ sym new.reading_is }
       | inl old ↦
           let w = was_marked es e e.input (submitted es) m old in
           has_more s ss m.at m.reading

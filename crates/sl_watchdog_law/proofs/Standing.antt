@@ -2,76 +2,26 @@
 use Rattle.sl_law.proofs.LawFacts.{lawful-front}
 use Rattle.sl_law.specs.Lawful.{Lawful}
 use Rattle.sl_law.specs.LawfulWatchdog.{is_covered}
-use Rattle.sl_session_law.proofs.Joining.{done_unanswered, in_turn, stage_for}
-use Rattle.sl_session_law.proofs.Making.{contains_none, old_or_new, was_marked}
+use Rattle.sl_plain.proofs.Lists.{contains_none, got_inside}
+use Rattle.sl_session_law.proofs.Covering.{by_stage, covered_in}
+use Rattle.sl_session_law.proofs.Joining.{in_turn}
+use Rattle.sl_session_law.proofs.Making.{old_or_new, was_marked}
 use Rattle.sl_session_law.proofs.Ordering.{begun_before}
-use Rattle.sl_session_law.proofs.Owning.{got_inside}
 use Rattle.sl_session_law.proofs.Parting.{not_removed}
-use Rattle.sl_session_law.proofs.Silence.{stage_by}
-use Rattle.sl_session_law.specs.Promises.{IsSession, all_done, fits, fits_as, is_in_turn}
+use Rattle.sl_session_law.specs.Promises.{IsSession}
 use Rattle.sl_sessions.specs.Sessions.{Session, calls_of, free_write, has_open_write, is_covered_stage, joined_after, refused_after, removed_after, session_numbered, sessions, stage_in, stage_of}
-use Rattle.sl_sessions.specs.declared.stage.Stage.{Stage}
 use Rattle.sl_trace.specs.Connections.{last_registering, registers, unregisters}
-use Rattle.sl_trace.specs.Traces.{Answered, Setting, Submitted, Trace, is_ok_answer, is_write, mark, submitted, unanswered}
+use Rattle.sl_trace.specs.Traces.{Setting, Submitted, Trace, is_write, mark, submitted}
 use Rattle.sl_trace.specs.declared.effects.Entry.{Entry}
-use Rattle.sl_trace.specs.declared.effects.JoinStep.TheVariants.{ClaimWrite, DecidingRead, FirstRead, FirstRenewal, VerifyRead, WatchRead}
 use Rattle.sl_trace.specs.declared.effects.Move.{Move}
-use Rattle.sl_trace.specs.declared.effects.Purpose.TheVariants.{RequestRead, RequestWrite, Joining, Lease, Leaving, Renewal, SeeRequest, Survey, ValueRead, ValueWrite}
-use Rattle.sl_trace.specs.declared.effects.Purpose.{Purpose}
 use Rattle.sl_watchdog_law.proofs.Finding.{call_inside, open_write}
 use Rattle.sl_watchdog_law.proofs.Readings.{registering_reading}
-use Rattle.sl_words.proofs.CaseLaws.{false_is_true, no_value, one_value, true_is_false}
-use Rattle.sl_words.proofs.WordLaws.{and_true}
-use Rattle.sl_words.specs.Words.{some_is}
+use Rattle.sl_words.proofs.CaseLaws.{one_value, true_is_false}
 use Rattle.std.proofs.Common.{ap, arith, inl, inr, refl, subst, sym, ◌∙◌}
 use Rattle.std.specs.List.{list_any}
-use Rattle.std.specs.Prelude.{Bool, Contains, List, None, Option, Some, [], cond, false, is_none, is_some, length, true, ℕ, ◌&&◌, ◌||◌, ◌∷◌, ◌≡◌, ◌≤◌}
+use Rattle.std.specs.Prelude.{Bool, Contains, List, None, [], false, is_some, length, true, ℕ, ◌&&◌, ◌||◌, ◌∷◌, ◌≡◌, ◌≤◌}
 
 -- ---- covered
-
-by_purpose : (p : Purpose) → fits_as p true ≡ true → is_covered_stage (stage_for p false) ≡ true
-by_purpose (Joining j ClaimWrite) h = refl
-by_purpose (Joining j FirstRenewal) h = refl
-by_purpose (Joining j FirstRead) h = absurd (false_is_true h)
-by_purpose (Joining j WatchRead) h = absurd (false_is_true h)
-by_purpose (Joining j DecidingRead) h = refl
-by_purpose (Joining j VerifyRead) h = refl
-by_purpose Renewal h = absurd (false_is_true h)
-by_purpose Survey h = absurd (false_is_true h)
-by_purpose (Leaving j) h = absurd (false_is_true h)
-by_purpose (Lease work step) h = absurd (false_is_true h)
-by_purpose (RequestRead j) h = absurd (false_is_true h)
-by_purpose (RequestWrite j o) h = absurd (false_is_true h)
-by_purpose SeeRequest h = absurd (false_is_true h)
-by_purpose (ValueWrite j) h = absurd (false_is_true h)
-by_purpose (ValueRead j) h = absurd (false_is_true h)
-
-or_false : (a : Bool) → (a || false) ≡ true → a ≡ true
-or_false true h = refl
-or_false false h = absurd (false_is_true h)
-
-abbrev open_with : Submitted → Option Answered → List Submitted → List Submitted
-open_with m o rest = cond (is_none o) (m ∷ rest) rest
-
-covered_by : (m : Submitted) (o : Option Answered) → fits m ≡ true → list_any (λ x. is_write x.call.op) (open_with m o []) ≡ true
-    → is_covered_stage (stage_for m.call.purpose (some_is (λ a. is_ok_answer a.answer) o)) ≡ true
-covered_by m (Some a) h unmet = absurd (false_is_true unmet)
-covered_by m None h unmet = by_purpose m.call.purpose (ap (λ w. fits_as m.call.purpose w) (sym (or_false (is_write m.call.op) unmet)) ∙ h)
-
-covered_in : (ms : List Submitted) → is_in_turn ms ≡ true → list_any (λ x. is_write x.call.op) (unanswered ms) ≡ true → is_covered_stage (stage_in ms) ≡ true
-covered_in [] h unmet = absurd (false_is_true unmet)
-covered_in (m ∷ ms) h unmet =
-    let parts = and_true (fits m) (all_done ms) h in
-    covered_by m m.answer parts.0
-    (ap (λ rest. list_any (λ (x : Submitted). is_write x.call.op) (open_with m m.answer rest)) (sym (done_unanswered ms parts.1)) ∙ unmet)
-
-by_stage : (joined removed refused : Option ℕ) (free : Option Submitted) (joining : Stage) → removed ≡ None → (joined ≡ None → is_covered_stage joining ≡ true)
-    → (is_covered_stage (stage_by joined removed refused free joining) || is_some refused && true) ≡ true
-by_stage (Some j) (Some i) refused free joining gone h = absurd (no_value i (Some i) refl gone)
-by_stage (Some j) None refused (Some m) joining gone h = refl
-by_stage (Some j) None refused None joining gone h = refl
-by_stage None removed (Some k) free joining gone h = refl
-by_stage None removed None free joining gone h = ap (λ b. b || false && true) (h refl)
 
 -- The connection of a session with an open write must stand.
 pub covered_open : (st : Setting) (es : Trace) (s : Session) → Lawful st es → IsSession st es s → has_open_write es s ≡ true → is_covered es s ≡ true
@@ -81,10 +31,6 @@ covered_open st es s h its waits =
     (λ none. covered_in (calls_of es s) (in_turn st es s h (λ x at. one_value x s _ at its) none) waits)
 
 -- ---- no registering
-
-or_split : (a b : Bool) → (a || b) ≡ false → a ≡ false
-or_split true b h = absurd (true_is_false h)
-or_split false b h = refl
 
 any_less : (p q : Move → Bool) (ms : List Move) → list_any (λ m. p m || q m) ms ≡ false → list_any p ms ≡ false
 any_less p q [] h = refl

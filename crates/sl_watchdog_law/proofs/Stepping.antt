@@ -1,11 +1,10 @@
 -- A step of a machine's daemon, or of the machine itself, leaves it watched.
 use Rattle.sl_course_law.specs.Mirrors.{AreNumbered, since_restart}
 use Rattle.sl_law.specs.Lawful.{Lawful}
+use Rattle.sl_plain.proofs.Lists.{contains_cases, contains_first, contains_none, kept_inside}
 use Rattle.sl_run.specs.Events.{after_effects, after_step, daemon_number, new_course, with_entry}
 use Rattle.sl_run.specs.Worlds.{Course, Daemon, Machine, Stamp, daemons_on, may_land, reading_now, resets_after}
 use Rattle.sl_run_law.proofs.Tracking.{told}
-use Rattle.sl_session_law.proofs.Joining.{both}
-use Rattle.sl_session_law.proofs.Making.{contains_cases, contains_first, contains_none}
 use Rattle.sl_time.specs.Times.{IsTiming, TimingNumbers, fail, reading_of}
 use Rattle.sl_trace.specs.Connections.{Connection, after_move}
 use Rattle.sl_trace.specs.Traces.{held_after, is_ok_answer}
@@ -16,13 +15,13 @@ use Rattle.sl_trace.specs.declared.effects.Grant.{Grant}
 use Rattle.sl_trace.specs.declared.input.Input.TheVariants.{Answer as Told, Exit, Line, Spawned, Wake}
 use Rattle.sl_trace.specs.declared.input.Input.{Input}
 use Rattle.sl_watchdog_law.proofs.Changing.{if_changed, told_goes}
-use Rattle.sl_watchdog_law.proofs.Finding.{kept_inside}
 use Rattle.sl_watchdog_law.proofs.Freshness.{IsFresh, some_fail, stays_fresh}
 use Rattle.sl_watchdog_law.proofs.Knowing.{IsKnown}
 use Rattle.sl_watchdog_law.proofs.Machines.{GoesOn, IsWatched, first_by, goes_mapped, goes_same, lately_still, lost_by, lost_daemons, steps_keep}
 use Rattle.sl_watchdog_law.proofs.Stamps.{GivenNow}
 use Rattle.sl_words.proofs.CaseLaws.{no_value, none_some, some_value}
 use Rattle.std.proofs.Common.{ap, arith, inl, inr, refl, subst, sym, tests, ◌∙◌}
+use Rattle.std.proofs.lemmas.Bool.{and_from}
 use Rattle.std.specs.Option.{option_map_or}
 use Rattle.std.specs.Prelude.{Bool, Contains, List, None, Option, Some, [], false, fold, length, map, nat_lt, option_map, true, ℕ, ◌&&◌, ◌+◌, ◌<◌, ◌==◌, ◌∷◌, ◌≡◌, ◌≤◌, ◌⊎◌}
 
@@ -33,10 +32,10 @@ daemons_by o ds = elim o [ None ↦ ds | Some d ↦ d ∷ ds ]
 
 since_running : (b : Machine) (d : Daemon) → b.daemon ≡ Some d → b.up ≡ true → b.used ≡ true → since_restart b ≡ Some d
 since_running b d runs up used =
-    ap (λ t. first_by t (daemons_on b)) (both b.up b.used up used) ∙ ap (λ o. first_by true (daemons_by o b.ended)) runs
+    ap (λ t. first_by t (daemons_on b)) (and_from b.up b.used up used) ∙ ap (λ o. first_by true (daemons_by o b.ended)) runs
 
 pub lost_running : (b : Machine) (d : Daemon) → b.daemon ≡ Some d → b.up ≡ true → b.used ≡ true → lost_daemons b ≡ b.ended
-lost_running b d runs up used = ap (λ t. lost_by t (daemons_on b)) (both b.up b.used up used) ∙ ap (λ o. lost_by true (daemons_by o b.ended)) runs
+lost_running b d runs up used = ap (λ t. lost_by t (daemons_on b)) (and_from b.up b.used up used) ∙ ap (λ o. lost_by true (daemons_by o b.ended)) runs
 
 first_is : (t : Bool) (x : Daemon) (ds : List Daemon) (d : Daemon) → first_by t (x ∷ ds) ≡ Some d → x ≡ d
 first_is true x ds d h = some_value x d h
@@ -115,7 +114,7 @@ entered t moment step b d e now xs cs gs s each w =
           (stays_fresh d.setting e d.trace y (reading_of b.kept.clock) s.lawful s.some (kept_before b.kept.clock b.clock e.reading w.past s.reading)
           (w.fresh d y (since_running b d s.runs s.up s.used)));
       lost = λ x there.
-          let old : Contains b.ended x = subst (λ ds. Contains ds x) (ap (λ q. lost_by q (with_entry e now d ∷ b.ended)) (both b.up b.used s.up s.used)) there in
+          let old : Contains b.ended x = subst (λ ds. Contains ds x) (ap (λ q. lost_by q (with_entry e now d ∷ b.ended)) (and_from b.up b.used s.up s.used)) there in
           let l = w.lost x (subst (λ ds. Contains ds x) (sym (lost_running b d s.runs s.up s.used)) old) in
           record {
             reset = l.reset;

@@ -1,5 +1,8 @@
 -- Whatever happens in a lawful run, each machine stays watched.
 use Rattle.sl_front_law.proofs.Going.{last_event, run_after, run_keeps, was_there}
+use Rattle.sl_plain.proofs.Lists.{got_inside}
+use Rattle.sl_plain.proofs.Options.{not_none, some_there}
+use Rattle.sl_plain.proofs.Truth.{second_is_false}
 use Rattle.sl_run.specs.Events.{after_effects, after_step, change_call, event_tests, fated, first_change, if_running, input_at, input_of, is_late_landing, machine_of, may_happen, next_step, own_effects, pass_tests, passed, sampled_more, sectors_left, take_step}
 use Rattle.sl_run.specs.Runs.{Happening}
 use Rattle.sl_run.specs.Safety.{LawfulRun, world_at}
@@ -12,7 +15,6 @@ use Rattle.sl_run_law.proofs.Guards.{on_this, passes, restarts, starts}
 use Rattle.sl_run_law.proofs.Walking.{Asked, each_first, each_step, index}
 use Rattle.sl_run_law.specs.Going.{time_of}
 use Rattle.sl_run_law.specs.Machines.{EachMachine}
-use Rattle.sl_session_law.proofs.Owning.{got_inside}
 use Rattle.sl_time.specs.Times.{IsTiming, TimingNumbers}
 use Rattle.sl_trace.specs.Traces.{no_effects}
 use Rattle.sl_trace.specs.declared.effects.Effects.{Effects}
@@ -23,21 +25,15 @@ use Rattle.sl_watchdog_law.proofs.Finding.{none_of}
 use Rattle.sl_watchdog_law.proofs.Knowing.{IsKnown, RestsOn, known}
 use Rattle.sl_watchdog_law.proofs.Machines.{GoesOn, IsWatched, steps_keep}
 use Rattle.sl_watchdog_law.proofs.Stepping.{own_keeps, step_keeps, stepping}
-use Rattle.sl_words.proofs.CaseLaws.{false_is_true, none_some, one_value, true_is_false}
+use Rattle.sl_words.proofs.CaseLaws.{false_is_true, none_some, one_value}
 use Rattle.sl_words.proofs.WordLaws.{choose_some}
-use Rattle.std.proofs.Common.{ap, arith, refl, subst, sym, tests, ◌∙◌}
+use Rattle.std.proofs.Common.{ap, arith, refl, subst, sym, ◌∙◌}
+use Rattle.std.proofs.lemmas.Bool.{ltb-false}
 use Rattle.std.specs.List.{list_any}
 use Rattle.std.specs.Option.{option_map_or}
-use Rattle.std.specs.Prelude.{Bool, List, None, Option, Some, [], false, is_none, is_some, nat_lt, option_and_then, slice_set, true, ℕ, ◌&&◌, ◌++◌, ◌+◌, ◌-◌, ◌∷◌, ◌≡◌, ◌≤◌}
+use Rattle.std.specs.Prelude.{Bool, List, None, Option, Some, [], false, is_some, nat_lt, option_and_then, slice_set, true, ℕ, ◌&&◌, ◌++◌, ◌+◌, ◌-◌, ◌∷◌, ◌≡◌}
 
 -- ---- guards
-
-not_less : (x y : ℕ) → nat_lt x y ≡ false → y ≤ x
-not_less x y h = grind (arith, tests)
-
-up_by : (up b : Bool) → (up && b) ≡ false → up ≡ true → b ≡ false
-up_by true b h up = h
-up_by false b h up = absurd (false_is_true up)
 
 late_by : (may late : Bool) → elim may as (λ x. Bool) [ false ↦ false | true ↦ late ] ≡ false → may ≡ true → late ≡ false
 late_by true late h is = h
@@ -54,23 +50,15 @@ may_pass w d growths may m a at =
     let quick = none_of (λ (x : Machine). x.up && nat_lt (x.kept.moment + t.fire) (w.moment + d)) w.machines a n.1.1.0 there in
     let soon = none_of (λ (x : Machine). list_any (is_late_landing t.land (w.moment + d) x) x.calls) w.machines a n.1.1.1.0 there in
     record {
-      fires = λ up. not_less (a.kept.moment + t.fire) (w.moment + d) (up_by a.up (nat_lt (a.kept.moment + t.fire) (w.moment + d)) quick up);
+      fires = λ up. ltb-false (a.kept.moment + t.fire) (w.moment + d) (second_is_false a.up (nat_lt (a.kept.moment + t.fire) (w.moment + d)) quick up);
       lands = λ c inside lands r after.
           let none = late_by (may_land c) (list_any (λ (x : Stamp). nat_lt (x.moment + t.land) (w.moment + d)) (resets_after a c.made.step))
           (none_of (is_late_landing t.land (w.moment + d) a) a.calls c soon inside) lands in
-          not_less (r.moment + t.land) (w.moment + d) (none_of (λ (x : Stamp). nat_lt (x.moment + t.land) (w.moment + d)) (resets_after a c.made.step) r none after);
+          ltb-false (r.moment + t.land) (w.moment + d) (none_of (λ (x : Stamp). nat_lt (x.moment + t.land) (w.moment + d)) (resets_after a c.made.step) r none after);
     }
 
-it_runs : (o : Option Daemon) → is_none o ≡ false → (d : Daemon) × (o ≡ Some d)
-it_runs None h = absurd (true_is_false h)
-it_runs (Some d) h = (d, refl)
-
-it_runs_by : (o : Option Daemon) → is_some o ≡ true → (d : Daemon) × (o ≡ Some d)
-it_runs_by None h = absurd (false_is_true h)
-it_runs_by (Some d) h = (d, refl)
-
 running : (a : Machine) (x i : Input) → if_running a x ≡ Some i → (d : Daemon) × (a.daemon ≡ Some d)
-running a x i h = it_runs_by a.daemon (choose_some (is_some a.daemon) x i h).0
+running a x i h = some_there a.daemon (choose_some (is_some a.daemon) x i h).0
 
 -- Only where a daemon runs is an input taken.
 runs_by : (w : World) (e : Event) (a : Machine) (i : Input) → may_happen w e ≡ true → machine_at w (machine_of e) ≡ Some a → input_at w e a ≡ Some i
@@ -80,8 +68,8 @@ runs_by w (WakeUp m) a i may at is = running a _ i is
 runs_by w (GiveCommand m text) a i may at is = running a _ i is
 runs_by w (ExitOf m p) a i may at is = running a _ i is
 runs_by w (SpawnedOf m p ok) a i may at is = running a _ i is
-runs_by w (AnswerCall m c ok) a i may at is = it_runs a.daemon (on_this w m _ a at (passes w (AnswerCall m c ok) may)).0
-runs_by w (Do m c) a i may at is = it_runs a.daemon (on_this w m _ a at (passes w (Do m c) may)).0
+runs_by w (AnswerCall m c ok) a i may at is = not_none a.daemon (on_this w m _ a at (passes w (AnswerCall m c ok) may)).0
+runs_by w (Do m c) a i may at is = not_none a.daemon (on_this w m _ a at (passes w (Do m c) may)).0
 runs_by w (Pass d growths) a i may at is = absurd (none_some i is)
 runs_by w (Sample m c k) a i may at is = absurd (none_some i is)
 runs_by w (Land m c) a i may at is = absurd (none_some i is)
@@ -98,7 +86,7 @@ input_is w e a o at is = ap (option_and_then (input_at w e)) (sym at) ∙ is
 
 -- ---- the machine itself submits nothing
 
-own_by : (w : World) (e : Event) (a : Machine) → (own_effects w e a).calls ≡ []
+pub own_by : (w : World) (e : Event) (a : Machine) → (own_effects w e a).calls ≡ []
 own_by w (Pass d growths) a = refl
 own_by w (WakeUp m) a = refl
 own_by w (GiveCommand m text) a = refl

@@ -12,7 +12,7 @@ use Rattle.sl_trace.specs.declared.input.Input.TheVariants.{Answer as Told}
 use Rattle.sl_trace.specs.declared.input.Input.{Input}
 use Rattle.sl_words.specs.Words.{choose}
 use Rattle.std.specs.List.{list_any}
-use Rattle.std.specs.Prelude.{List, None, Option, Some, false, length, nat_le, option_and_then, option_map, true, [], ℕ, ◌&&◌, ◌+◌, ◌∷◌}
+use Rattle.std.specs.Prelude.{List, None, Option, Some, false, length, nat_le, option_and_then, true, [], ℕ, ◌&&◌, ◌+◌, ◌∷◌}
 
 -- The entry that last registered this name, by its place in the trace.
 abbrev pub registering_entry : Trace → List ℕ → Option ℕ

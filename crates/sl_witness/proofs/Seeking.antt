@@ -1,6 +1,6 @@
 -- Searches for proofs: a function that gives a proof of its claim, or nothing where it didn't find one. A search that computes to a
 -- proof has proved its claim; the leaves are lemmas that stay closed, so that nothing of a proof is computed but that it is there.
-use Rattle.sl_session_law.proofs.Making.{contains_cases, contains_first, contains_more, contains_none}
+use Rattle.sl_plain.proofs.Lists.{contains_cases, contains_first, contains_more, contains_none}
 use Rattle.sl_words.proofs.CaseLaws.{false_is_true, none_some}
 use Rattle.std.proofs.Common.{eq-or-lt_of_le, eqb-true, inl, inr, leb-true, ltb-true, refl, subst, sym}
 use Rattle.std.proofs.lemmas.List.Elements.{All-cons, All-nil}

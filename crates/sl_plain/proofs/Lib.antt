@@ -1,0 +1,4 @@
+pub mod Truth
+pub mod Numbers
+pub mod Lists
+pub mod Options
