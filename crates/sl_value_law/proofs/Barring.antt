@@ -12,9 +12,10 @@ use Rattle.sl_lease_law.proofs.FrontLaws.{each_was_submitted, lawful_there}
 use Rattle.sl_lease_law.proofs.HavingLaws.{Has, was_among}
 use Rattle.sl_lease_law.specs.Fronts.{Aged}
 use Rattle.sl_leases.specs.Leases.{is_on, spot_of_call}
-use Rattle.sl_place_law.proofs.Finding.{equal_numbers, place_is}
+use Rattle.sl_place_law.proofs.Finding.{place_is}
 use Rattle.sl_place_law.proofs.Looks.{made_below}
 use Rattle.sl_place_law.proofs.Reading.{layout_is}
+use Rattle.sl_plain.proofs.Lists.{any_of, contains_first, contains_none, kept}
 use Rattle.sl_resource_history.proofs.Calls.{IsOwned, Newer, Older, Order, Same, found_of, order, owned, owner_found, there_sent, write_is}
 use Rattle.sl_resource_history.specs.Sending.{Sent, sender_of}
 use Rattle.sl_run.specs.Runs.{Happening}
@@ -24,8 +25,6 @@ use Rattle.sl_run.specs.declared.header.Header.{Header}
 use Rattle.sl_sector.specs.declared.sector.Rec.TheVariants.{ValueIs}
 use Rattle.sl_sector.specs.declared.sector.Rec.{Rec}
 use Rattle.sl_sector.specs.declared.sector.ValueRec.{ValueRec}
-use Rattle.sl_session_law.proofs.Making.{contains_first, contains_none}
-use Rattle.sl_session_law.proofs.Naming.{kept}
 use Rattle.sl_sessions.specs.Sessions.{Session, calls_of, is_call_of, session_numbered}
 use Rattle.sl_trace.specs.Traces.{Answered, Setting, Submitted, Trace, is_write, new_call, record_of, submitted}
 use Rattle.sl_trace.specs.declared.effects.Call.{Call}
@@ -42,11 +41,10 @@ use Rattle.sl_value_law.proofs.Reading.{Reader, is_own}
 use Rattle.sl_value_law.proofs.Standing.{open_waits}
 use Rattle.sl_value_law.proofs.Taking.{on_own}
 use Rattle.sl_value_law.specs.Writing.{HoldersKeepValues, WritesValue}
-use Rattle.sl_watchdog_law.proofs.Finding.{any_of}
 use Rattle.sl_words.proofs.CaseLaws.{is_false, none_some, one_value, true_is_false}
 use Rattle.std.proofs.Common.{ap, arith, inl, inr, refl, subst, sym, ◌∙◌}
 use Rattle.std.proofs.lemmas.Bool.Decides.{nat_tests}
-use Rattle.std.proofs.lemmas.Bool.{and_from}
+use Rattle.std.proofs.lemmas.Bool.{and_from, eq-eqb}
 use Rattle.std.specs.Prelude.{Contains, List, None, Option, Some, is_none, length, nat_le, suc, true, ℕ, ◌&&◌, ◌++◌, ◌<◌, ◌∷◌, ◌≡◌, ◌≤◌}
 
 -- ---- a write in flight at a front
@@ -116,7 +114,7 @@ not_older p h now i g c d o q area job purpose writes waits newer between older 
     let at : Spot = spot_of_call st.layout (new_call 0 0 u.call) in
     let none : a.was.answer ≡ None = aged_open _ a.was q.call a.aged (no_answer q.call.answer (unanswered p h now i g d q waits)) in
     let mine : is_call_of s.session a.was ≡ true =
-    equal_numbers a.was.call.session s.session.number
+    eq-eqb a.was.call.session s.session.number
     (ap (λ (z : Call). z.session) (sym a.aged.call) ∙ q.mine ∙ ap (λ (z : Session). z.number) (sym session)) in
     let on : is_on st.layout at a.was.call ≡ true =
     subst (λ z. is_on st.layout z a.was.call ≡ true) (sym spot) (ap (λ z. is_on st.layout (area_of q) z) (sym a.aged.call) ∙ on_own p h now i g d q) in
@@ -150,7 +148,7 @@ since_calm p h xs now at i f c v stamp R t d q area writes late =
     let n = calls_grow t.mid (trace_of t.found) q.call q.inside in
     let inside : Contains (submitted (R.entry ∷ R.past)) n.now = subst (λ es. Contains (submitted es) n.now) (sym t.ends) n.inside in
     let mine : is_call_of f.session n.now ≡ true =
-    equal_numbers n.now.call.session f.session.number (ap (λ (z : Call). z.session) n.call ∙ q.mine ∙ ap (λ (s : Session). s.number) (sym t.session)) in
+    eq-eqb n.now.call.session f.session.number (ap (λ (z : Call). z.session) n.call ∙ q.mine ∙ ap (λ (s : Session). s.number) (sym t.session)) in
     let on : is_on st.layout at n.now.call ≡ true =
     ap (λ (g : Setting). is_on g.layout at n.now.call) t.setting ∙ ap (λ z. is_on (setting_in t.found).layout at z) n.call
     ∙ subst (λ z. is_on (setting_in t.found).layout z q.call.call ≡ true) area (on_own p h now i t.found d q) in

@@ -8,8 +8,8 @@ use Rattle.sl_holding_law.proofs.Freeless.{staying_is_freeless}
 use Rattle.sl_id_safety.proofs.Silence.{GoesOn, goes_on, old_stamp, over_is_quiet, stamp_before}
 use Rattle.sl_law.specs.LawfulValue.{held_since}
 use Rattle.sl_leases.specs.Leases.{holdings_on}
-use Rattle.sl_place_law.proofs.Finding.{filtered, found_in, same_number}
 use Rattle.sl_place_law.proofs.Looks.{made_below}
+use Rattle.sl_plain.proofs.Lists.{contains_first, find_inside, kept_inside}
 use Rattle.sl_resource_history.proofs.Calls.{IsOwned, found_of, owned, owner_found, there_sent}
 use Rattle.sl_resource_history.proofs.Owning.{session_as}
 use Rattle.sl_resource_history.proofs.Steps.{one_entry}
@@ -19,7 +19,6 @@ use Rattle.sl_run.specs.Safety.{Found, IsSession, LawfulRun, SessionId, is_cours
 use Rattle.sl_run.specs.Worlds.{Course, Program, Stamp, World}
 use Rattle.sl_run.specs.declared.header.Header.{Header}
 use Rattle.sl_sector.specs.declared.sector.ValueRec.{ValueRec}
-use Rattle.sl_session_law.proofs.Making.{contains_first}
 use Rattle.sl_session_law.proofs.Staying.{marks_stay}
 use Rattle.sl_sessions.specs.Sessions.{Session, calls_of, ended_after, is_active, is_call_of, is_free_purpose, is_joined, joined_after, leaving_job, recovery_of, refused_after, removed_after}
 use Rattle.sl_trace.specs.Traces.{Setting, Submitted, Trace, submitted}
@@ -34,7 +33,7 @@ use Rattle.sl_words.proofs.CaseLaws.{false_is_true, none_some}
 use Rattle.sl_words.proofs.WordLaws.{and_true}
 use Rattle.std.proofs.Common.{ap, arith, inl, inr, refl, subst, sym, ◌∙◌}
 use Rattle.std.proofs.lemmas.Bool.Decides.{nat_tests}
-use Rattle.std.proofs.lemmas.Bool.{cases_lt}
+use Rattle.std.proofs.lemmas.Bool.{cases_lt, eqb-true}
 use Rattle.std.specs.Prelude.{Bool, Contains, List, None, Option, Some, [], false, is_none, is_some, length, nat_le, nat_lt, not, suc, true, ℕ, ◌&&◌, ◌++◌, ◌<◌, ◌==◌, ◌||◌, ◌∷◌, ◌≡◌, ◌≤◌, ◌⊎◌}
 
 -- ---- lists and traces
@@ -149,11 +148,11 @@ alive_there p h xs now rest at i f g c v stamp R run on short mid whole over = b
             (ap (λ (s : Session). ended_after (R.entry ∷ R.past) s) on.session ∙ ap (λ t. ended_after t g.session) whole ∙ marks_stay.ended mid (trace_of g) g.session ended.0 ended.1)
         | inr free ↦
             let m : Submitted = free.0 in
-            let found = found_in (λ (y : Submitted). is_free_purpose y.call.purpose) (calls_of (trace_of g) g.session) m free.1 in
-            let mine = filtered (is_call_of g.session) (submitted (trace_of g)) m found.0 in
+            let found = find_inside (λ (y : Submitted). is_free_purpose y.call.purpose) (calls_of (trace_of g) g.session) m free.1 in
+            let mine = kept_inside (is_call_of g.session) (submitted (trace_of g)) m found.0 in
             let grown = calls_grow mid (trace_of g) m mine.0 in
             staying_is_freeless st (R.entry ∷ R.past) f.session R.lawful R.its active.staying grown.now (subst (λ t. Contains (submitted t) grown.now) (sym whole) grown.inside)
-            (ap (λ (y : Call). y.session) grown.call ∙ same_number m.call.session g.session.number mine.1 ∙ ap (λ (s : Session). s.number) (sym on.session))
+            (ap (λ (y : Call). y.session) grown.call ∙ eqb-true m.call.session g.session.number mine.1 ∙ ap (λ (s : Session). s.number) (sym on.session))
             (ap (λ (y : Call). is_free_purpose y.purpose) grown.call ∙ found.1)
       ]
 
@@ -169,7 +168,7 @@ reader_by p h xs now rest at i f c v stamp R whole late b =
     ap (λ d. d == i.daemon && b.course.call.session == i.number) (sym b.daemon) ∙ ap (λ (y : Call). c.daemon == i.daemon && y.session == i.number) (sym b.call) ∙ R.own.own in
     let both = and_true (b.course.daemon == i.daemon) (b.course.call.session == i.number) mine in
     let sender : sender_of x ≡ i =
-    session_as i.machine b.course.daemon b.course.call.session i.machine i.daemon i.number refl (same_number b.course.daemon i.daemon both.0) (same_number b.course.call.session i.number both.1) in
+    session_as i.machine b.course.daemon b.course.call.session i.machine i.daemon i.number refl (eqb-true b.course.daemon i.daemon both.0) (eqb-true b.course.call.session i.number both.1) in
     let g : Found = found_of k in
     let its : IsSession w i g = ap (session_of_world w) (sym sender) ∙ owner_found w x k in
     let o : OwnCall p h now i g b.course = own_call p h now front i g its b.course k.there.has mine in

@@ -6,6 +6,7 @@ use Rattle.sl_law.specs.LawfulArea.{is_area_work}
 use Rattle.sl_law.specs.LawfulLeader.{open_writes_on}
 use Rattle.sl_law.specs.Saying.{cut_at}
 use Rattle.sl_leases.specs.Leases.{holdings_on, spot_of_call, value_of_record}
+use Rattle.sl_plain.proofs.Lists.{find_inside}
 use Rattle.sl_run.specs.Runs.{Happening}
 use Rattle.sl_run.specs.Safety.{Found, SessionId, setting_in, trace_of}
 use Rattle.sl_run.specs.Worlds.{Course, Program}
@@ -20,7 +21,6 @@ use Rattle.sl_trace.specs.declared.effects.Entry.{Entry}
 use Rattle.sl_trace.specs.declared.effects.Grant.{Grant}
 use Rattle.sl_trace.specs.declared.effects.Spot.{Spot}
 use Rattle.sl_value_law.proofs.Owning.{OwnCall}
-use Rattle.sl_watchdog_law.proofs.Finding.{find_inside}
 use Rattle.sl_words.proofs.CaseLaws.{false_is_true, some_value}
 use Rattle.std.proofs.Common.{ap, inl, inr, refl, subst, sym, ◌∙◌}
 use Rattle.std.specs.Prelude.{Bool, Contains, List, Some, [], false, length, not, option_and_then, true, ◌++◌, ◌∷◌, ◌≡◌, ◌⊎◌}

@@ -2,12 +2,13 @@
 use Rattle.sl_area.specs.Places.{value_offset}
 use Rattle.sl_front_law.proofs.Having.{contains_append, contains_left, placed_at}
 use Rattle.sl_id_state.proofs.Keeping.{is_place}
-use Rattle.sl_id_safety.proofs.Showing.{has_number}
+use Rattle.sl_id_steps.proofs.Seqs.{has_number}
 use Rattle.sl_landing_law.proofs.Ordering.{come_in_order}
 use Rattle.sl_landing_law.proofs.Proven.{done_writes_have_landed, landings_are_written}
 use Rattle.sl_landing_law.proofs.Remaining.{landed_are_there}
 use Rattle.sl_landing_law.specs.Landings.{HasWriter}
-use Rattle.sl_place_law.proofs.Finding.{filtered, numbered_inside, place_is, same_number}
+use Rattle.sl_place_law.proofs.Finding.{numbered_inside, place_is}
+use Rattle.sl_plain.proofs.Lists.{contains_cases, contains_first, contains_more, contains_none, kept, kept_inside}
 use Rattle.sl_resource_history.proofs.Alone.{head_pairs, tail_pairs}
 use Rattle.sl_resource_history.proofs.Calls.{there_sent, write_is}
 use Rattle.sl_resource_history.proofs.Landed.{Name, name_of, one_sent}
@@ -21,12 +22,11 @@ use Rattle.sl_sample_law.proofs.Numbering.{number_below}
 use Rattle.sl_sample_law.specs.Samples.{numbered_landing}
 use Rattle.sl_sector.specs.declared.sector.Rec.TheVariants.{ValueIs}
 use Rattle.sl_sector.specs.declared.sector.ValueRec.{ValueRec}
-use Rattle.sl_session_law.proofs.Making.{contains_cases, contains_first, contains_more, contains_none}
-use Rattle.sl_session_law.proofs.Naming.{kept}
 use Rattle.sl_trace.specs.Traces.{record_of, same_place}
 use Rattle.sl_trace.specs.declared.effects.Spot.{Spot}
 use Rattle.sl_words.proofs.CaseLaws.{none_some, some_value}
 use Rattle.std.proofs.Common.{ap, arith, inl, inr, refl, subst, sym, ◌∙◌}
+use Rattle.std.proofs.lemmas.Bool.{eqb-true}
 use Rattle.std.specs.Prelude.{AllPairs, Bool, Contains, List, Option, Some, [], false, filter, if◌then◌else◌, length, true, ℕ, ◌++◌, ◌<◌, ◌==◌, ◌∷◌, ◌≡◌, ◌≤◌}
 
 -- ---- what a place has held comes in order
@@ -45,7 +45,7 @@ descends_of (l ∷ ls) all =
 kept_by : (p : Landing → Bool) (l : Landing) (ls : List Landing) (b : Bool) → p l ≡ b → ((x : Landing) → Contains ls x → x.step < l.step) → Descends (filter p ls)
     → Descends (if b then l ∷ filter p ls else filter p ls)
 kept_by p l ls false is first rest = rest
-kept_by p l ls true is first rest = ((λ x there. first x (filtered p ls x there).0), rest)
+kept_by p l ls true is first rest = ((λ x there. first x (kept_inside p ls x there).0), rest)
 
 descends_kept : (p : Landing → Bool) (ls : List Landing) → Descends ls → Descends (filter p ls)
 descends_kept p [] h = tt
@@ -69,12 +69,12 @@ order_by : (l : Landing) (ls : List Landing) (i j : ℕ) (x y : Landing) (a b : 
     → elim a as (λ z. Option Landing) [ true ↦ Some l | false ↦ numbered_landing ls i ] ≡ Some x
     → elim b as (λ z. Option Landing) [ true ↦ Some l | false ↦ numbered_landing ls j ] ≡ Some y → i < j
     → (numbered_landing ls i ≡ Some x → numbered_landing ls j ≡ Some y → x.step < y.step) → x.step < y.step
-order_by l ls i j x y true true p q first at there lt rest = absurd (omega (arith, same_number i (length ls) p, same_number j (length ls) q, lt))
+order_by l ls i j x y true true p q first at there lt rest = absurd (omega (arith, eqb-true i (length ls) p, eqb-true j (length ls) q, lt))
 order_by l ls i j x y false true p q first at there lt rest =
     subst (λ (z : Landing). x.step < z.step) (some_value l y there) (first x (numbered_inside ls i x at))
 order_by l ls i j x y true false p q first at there lt rest =
     let less : j < length ls = number_below ls j y there in
-    absurd (omega (arith, same_number i (length ls) p, less, lt))
+    absurd (omega (arith, eqb-true i (length ls) p, less, lt))
 order_by l ls i j x y false false p q first at there lt rest = rest at there
 
 numbers_order : (ls : List Landing) (i j : ℕ) (x y : Landing) → Descends ls → numbered_landing ls i ≡ Some x → numbered_landing ls j ≡ Some y → i < j → x.step < y.step
@@ -90,7 +90,7 @@ history_descends p h xs run path offset =
     let w : World = world_at p h xs in
     let test : Landing → Bool = λ l. same_place l.path l.offset path offset in
     descends_then (landed_at w path offset) (first_landing w path offset) (descends_kept test w.landings (descends_of w.landings (come_in_order p h xs run)))
-    (λ x there. above_first p h xs run x (filtered test w.landings x there).0)
+    (λ x there. above_first p h xs run x (kept_inside test w.landings x there).0)
 
 -- Of a place's landings those with lesser numbers came first.
 pub places_order : (p : Program) (h : Header) (xs : List Happening) → LawfulRun p h xs → (path : List ℕ) (offset i j : ℕ) (x y : Landing)

@@ -12,7 +12,7 @@ use Rattle.sl_landing_law.proofs.Listing.{one_call}
 use Rattle.sl_law.specs.LawfulArea.{is_area_work, is_block_work}
 use Rattle.sl_leases.specs.Leases.{is_block_read, is_on}
 use Rattle.sl_place_law.proofs.Areas.{IsSized, one_resource}
-use Rattle.sl_place_law.proofs.Finding.{equal_numbers, place_is}
+use Rattle.sl_place_law.proofs.Finding.{place_is}
 use Rattle.sl_place_law.proofs.Seats.{sized_in}
 use Rattle.sl_resource_history.proofs.Calls.{order, write_is}
 use Rattle.sl_resource_history.specs.Promises.{history_of_line, spot_of_line}
@@ -38,6 +38,7 @@ use Rattle.sl_value_law.proofs.Taking.{After, Before, OnArea, One, Turn, on_own,
 use Rattle.sl_value_law.specs.Writing.{HoldersKeepValues, OneWritesValue, WritesValue}
 use Rattle.sl_words.proofs.CaseLaws.{one_value, true_or_false}
 use Rattle.std.proofs.Common.{ap, arith, inl, inr, subst, sym, ◌∙◌}
+use Rattle.std.proofs.lemmas.Bool.{eq-eqb}
 use Rattle.std.specs.Prelude.{Contains, List, None, Some, true, ℕ, ◌%◌, ◌+◌, ◌-◌, ◌≡◌}
 
 -- What this rests on.
@@ -118,7 +119,7 @@ by_turn : (p : Program) (h : Header) (xs : List Happening) (i : SessionId) (f : 
     → Turn o.call q.call → c ≡ d
 by_turn p h xs i f c d o q first second (One same) =
     one_call f.machine.calls c d (each_distinct p h xs o.run i.machine f.machine o.known.there.at) o.there q.there
-    (equal_numbers c.call.number d.call.number
+    (eq-eqb c.call.number d.call.number
     (ap (λ (y : Call). y.number) (sym o.is.call) ∙ ap (λ (m : Submitted). m.call.number) same ∙ ap (λ (y : Call). y.number) q.is.call))
 by_turn p h xs i f c d o q first second (Before told) = absurd (unanswered p h xs i f c o first told.answer told.answered)
 by_turn p h xs i f c d o q first second (After told) = absurd (unanswered p h xs i f d q second told.answer told.answered)

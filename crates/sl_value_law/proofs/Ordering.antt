@@ -6,7 +6,7 @@ use Rattle.sl_id_safety.proofs.Fronting.{landed_before}
 use Rattle.sl_landing_law.proofs.Listing.{one_call}
 use Rattle.sl_landing_law.proofs.Proven.{writes_land_once}
 use Rattle.sl_landing_law.proofs.Remaining.{landed_are_there}
-use Rattle.sl_place_law.proofs.Finding.{equal_numbers, found_in}
+use Rattle.sl_plain.proofs.Lists.{contains_cases, contains_none, find_inside}
 use Rattle.sl_resource_history.proofs.Alone.{head_pairs, tail_pairs}
 use Rattle.sl_resource_history.proofs.Calls.{IsThere, sent_there, write_is}
 use Rattle.sl_resource_history.proofs.Landed.{Name, name_of}
@@ -20,7 +20,6 @@ use Rattle.sl_sector.specs.declared.sector.Rec.TheVariants.{ValueIs}
 use Rattle.sl_sector.specs.declared.sector.ValueRec.{ValueRec}
 use Rattle.sl_session_history.proofs.OrderedFronts.{front_order}
 use Rattle.sl_session_history.proofs.Settled.{WasInFlight, was_in_flight}
-use Rattle.sl_session_law.proofs.Making.{contains_cases, contains_none}
 use Rattle.sl_trace.specs.Traces.{record_of}
 use Rattle.sl_trace.specs.declared.effects.Call.{Call}
 use Rattle.sl_trace.specs.declared.effects.Spot.{Spot}
@@ -32,7 +31,7 @@ use Rattle.sl_value_law.specs.Writing.{OneWritesValue}
 use Rattle.sl_words.proofs.CaseLaws.{one_value, some_value, true_or_false}
 use Rattle.sl_words.proofs.WordLaws.{and_true}
 use Rattle.std.proofs.Common.{ap, arith, inl, inr, refl, subst, sym, ◌∙◌}
-use Rattle.std.proofs.lemmas.Bool.{and_from}
+use Rattle.std.proofs.lemmas.Bool.{and_from, eq-eqb}
 use Rattle.std.specs.Prelude.{AllPairs, Bool, Contains, List, None, Some, [], false, is_none, true, ℕ, ◌&&◌, ◌++◌, ◌+◌, ◌<◌, ◌==◌, ◌||◌, ◌∷◌, ◌≡◌, ◌≤◌, ◌⊎◌}
 
 -- ---- the front before a landing
@@ -54,11 +53,11 @@ open_by p h xs y l writer q run b =
     let its : Name = (q.machine, q.flight.call.number) in
     let names : its ≡ name_of y = some_value its (name_of y) (sym q.writer ∙ writer) in
     let host : q.host ≡ b.machine = one_value q.host b.machine (machine_at w y.machine) (ap (λ (n : Name). machine_at w n.0) (sym names) ∙ q.at) b.at in
-    let found = found_in (λ (c : Course). c.call.number == q.number && is_open q.host c) q.host.calls q.flight q.flies in
+    let found = find_inside (λ (c : Course). c.call.number == q.number && is_open q.host c) q.host.calls q.flight q.flies in
     let opens = (and_true (q.flight.call.number == q.number) (is_open q.host q.flight) found.1).1 in
     let same : q.flight ≡ b.course =
     one_call b.machine.calls q.flight b.course (each_distinct p h q.before run y.machine b.machine b.at) (subst (λ (a : Machine). Contains a.calls q.flight) host found.0) b.has
-    (equal_numbers q.flight.call.number b.course.call.number (ap (λ (n : Name). n.1) names ∙ ap (λ (c : Call). c.number) b.call)) in
+    (eq-eqb q.flight.call.number b.course.call.number (ap (λ (n : Name). n.1) names ∙ ap (λ (c : Call). c.number) b.call)) in
     subst (λ (c : Course). is_open b.machine c ≡ true) same (subst (λ (a : Machine). is_open a q.flight ≡ true) host opens)
 
 not_both : (a b : ℕ) → a < b → b < a → ⊥

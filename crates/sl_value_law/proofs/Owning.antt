@@ -4,18 +4,19 @@ use Rattle.sl_id_state.proofs.Bridge.{IsKnown, known}
 use Rattle.sl_id_state.proofs.Proven.{grounds}
 use Rattle.sl_id_state.specs.IdStates.{own_courses}
 use Rattle.sl_law.specs.Lawful.{Lawful}
-use Rattle.sl_place_law.proofs.Finding.{filtered, partner, same_number}
+use Rattle.sl_place_law.proofs.Finding.{partner}
 use Rattle.sl_place_law.proofs.Reading.{call_law}
+use Rattle.sl_plain.proofs.Lists.{kept, kept_inside}
 use Rattle.sl_run.specs.Runs.{Happening}
 use Rattle.sl_run.specs.Safety.{Found, IsSession, LawfulRun, SessionId, is_course_of, setting_in, trace_of, world_at}
 use Rattle.sl_run.specs.Worlds.{Course, Program}
 use Rattle.sl_run.specs.declared.header.Header.{Header}
 use Rattle.sl_session_law.proofs.Making.{calls_are_made}
-use Rattle.sl_session_law.proofs.Naming.{kept}
 use Rattle.sl_session_law.specs.Promises.{IsMade}
 use Rattle.sl_sessions.specs.Sessions.{calls_of, is_call_of, session_numbered}
 use Rattle.sl_trace.specs.Traces.{Answered, Submitted, submitted}
 use Rattle.sl_words.proofs.CaseLaws.{no_value, none_some}
+use Rattle.std.proofs.lemmas.Bool.{eqb-true}
 use Rattle.std.specs.Prelude.{Contains, List, None, Option, Some, true, ◌∷◌, ◌≡◌}
 
 pub record OwnCall (p : Program) (h : Header) (xs : List Happening) (i : SessionId) (f : Found) (c : Course) : Type 0 where
@@ -38,8 +39,8 @@ pub own_call : (p : Program) (h : Header) (xs : List Happening) → LawfulRun p 
 own_call p h xs run i f its c there own =
     let kn = known grounds p h xs run i f its in
     let m = partner (IsCourseOf f.daemon) (own_courses i f.machine) (calls_of (trace_of f) f.session) c kn.pairs (kept (is_course_of i) f.machine.calls c own there) in
-    let g = filtered (is_call_of f.session) (submitted (trace_of f)) m.0 m.1 in
-    let mine = same_number m.0.call.session f.session.number g.1 in
+    let g = kept_inside (is_call_of f.session) (submitted (trace_of f)) m.0 m.1 in
+    let mine = eqb-true m.0.call.session f.session.number g.1 in
     let d = calls_are_made (trace_of f) m.0 g.0 in
     let law = call_law (setting_in f) (trace_of f) f.session m.0 d kn.lawful kn.its mine in
     record {

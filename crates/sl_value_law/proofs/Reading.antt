@@ -10,7 +10,8 @@ use Rattle.sl_law.proofs.LawFacts.{lawful-front}
 use Rattle.sl_law.specs.Lawful.{Lawful}
 use Rattle.sl_law.specs.LawfulValue.{held_since, writes_since}
 use Rattle.sl_leases.specs.Leases.{spot_of_call}
-use Rattle.sl_place_law.proofs.Finding.{equal_numbers, filtered, found_in, partner_of, place_is, same_number}
+use Rattle.sl_place_law.proofs.Finding.{partner_of, place_is}
+use Rattle.sl_plain.proofs.Lists.{find_inside, kept_inside}
 use Rattle.sl_resource_history.proofs.Calls.{found_of, owned, owner_found, there_sent}
 use Rattle.sl_resource_history.proofs.Steps.{one_entry}
 use Rattle.sl_resource_history.specs.Sending.{Sent, sender_of}
@@ -37,7 +38,7 @@ use Rattle.sl_value_law.proofs.Owning.{OwnCall, own_call}
 use Rattle.sl_value_law.proofs.Replying.{AnsweredBy, answered_by, one_answered, replied_by}
 use Rattle.sl_words.proofs.CaseLaws.{one_value}
 use Rattle.std.proofs.Common.{ap, refl, subst, sym, ◌∙◌}
-use Rattle.std.proofs.lemmas.Bool.{and_from}
+use Rattle.std.proofs.lemmas.Bool.{and_from, eq-eqb, eqb-true}
 use Rattle.std.specs.Prelude.{Contains, IsSomeAnd, List, None, Option, Some, false, length, true, ℕ, ◌++◌, ◌==◌, ◌∷◌, ◌≡◌}
 
 pub record Reader (p : Program) (h : Header) (xs : List Happening) (at : Spot) (i : SessionId) (f : Found) (c : Course) (v : ValueRec) (stamp : Stamp) : Type 0 where
@@ -72,11 +73,11 @@ found_told es n at m there number (Some b) was is =
 numbered_told : (es : Trace) (n at : ℕ) (o : Option Submitted) → call_numbered es n ≡ o → IsSomeAnd o (λ m. IsSomeAnd m.answer (λ b. b.at ≡ at)) → AnsweredBy es n at
 numbered_told es n at None was is = absurd is
 numbered_told es n at (Some m) was is =
-    let f = found_in (λ (x : Submitted). x.call.number == n) (submitted es) m was in
-    found_told es n at m f.0 (same_number m.call.number n f.1) m.answer refl is
+    let f = find_inside (λ (x : Submitted). x.call.number == n) (submitted es) m was in
+    found_told es n at m f.0 (eqb-true m.call.number n f.1) m.answer refl is
 
 pub is_own : (c : Course) (m : ℕ) → is_course_of (sender_of (record { machine = m; course = c })) c ≡ true
-is_own c m = and_from (c.daemon == c.daemon) (c.call.session == c.call.session) (equal_numbers c.daemon c.daemon refl) (equal_numbers c.call.session c.call.session refl)
+is_own c m = and_from (c.daemon == c.daemon) (c.call.session == c.call.session) (eq-eqb c.daemon c.daemon refl) (eq-eqb c.call.session c.call.session refl)
 
 -- The law of a reply, of the call that it is of.
 reader_by : (p : Program) (h : Header) (xs : List Happening) (at : Spot) (i : SessionId) (f : Found) (c : Course) (v : ValueRec) → (o : OwnCall p h xs i f c) → (job n : ℕ)
@@ -90,7 +91,7 @@ reader_by p h xs at i f c v o job n purpose reply answered path offset =
     let law : Lawful st (R.entry ∷ R.past) = lawful-front st R.later (R.entry ∷ R.past) (subst (λ t. Lawful st t) R.whole o.known.lawful) in
     let lr = law.values.0.replies R.reply v.lver v.seq v.bytes R.given R.says in
     let call : Submitted = lr.call in
-    let f1 = filtered (is_call_of lr.session) (submitted (R.entry ∷ R.past)) call lr.of_session.0 in
+    let f1 = kept_inside (is_call_of lr.session) (submitted (R.entry ∷ R.past)) call lr.of_session.0 in
     let a : Answered = lr.told.0.0 in
     let inside : Contains (submitted es) call = subst (λ t. Contains (submitted t) call) (sym R.whole) (answers_stay R.later (R.entry ∷ R.past) call a f1.0 lr.told.0.1) in
     let number : call.call.number ≡ c.call.number =
@@ -98,10 +99,10 @@ reader_by p h xs at i f c v o job n purpose reply answered path offset =
     (subst (λ k. AnsweredBy es c.call.number k) R.place answered) in
     let pair = partner_of (IsCourseOf f.daemon) (courses_of f.machine f.daemon.number) (submitted es) call
     (courses_are_calls p h xs o.run i.machine f.machine f.daemon o.known.there.at o.known.there.has) inside in
-    let course = filtered (λ (x : Course). x.daemon == f.daemon.number) f.machine.calls pair.0 pair.1 in
+    let course = kept_inside (λ (x : Course). x.daemon == f.daemon.number) f.machine.calls pair.0 pair.1 in
     let one : pair.0 ≡ c =
     one_call f.machine.calls pair.0 c (each_distinct p h xs o.run i.machine f.machine o.known.there.at) course.0 o.there
-    (equal_numbers pair.0.call.number c.call.number (ap (λ (y : Call). y.number) (sym pair.2.call) ∙ number)) in
+    (eq-eqb pair.0.call.number c.call.number (ap (λ (y : Call). y.number) (sym pair.2.call) ∙ number)) in
     let k : IsCourseOf f.daemon c call = subst (λ (y : Course). IsCourseOf f.daemon y call) one pair.2 in
     let ans : IsAnsweredAs f.daemon c a = subst (λ q. AnswersAgree f.daemon c q) lr.told.0.1 k.answers in
     let place : call.at ≡ o.call.at = one_entry w.step f.daemon.stamps call.at o.call.at c.made c.made o.known.stamps k.made o.is.made refl in

@@ -1,15 +1,15 @@
 -- Which entry brought a reply, and which an answer: an entry answers one call at most.
-use Rattle.sl_landing_law.proofs.Listing.{in_map}
-use Rattle.sl_session_law.proofs.Making.{contains_none, old_or_new}
+use Rattle.sl_plain.proofs.Lists.{contains_none, find_inside, in_map}
+use Rattle.sl_session_law.proofs.Making.{old_or_new}
 use Rattle.sl_trace.specs.Traces.{Answered, Replied, Submitted, Trace, answer_of, answered_in, mark, reply_in, reply_to, submitted}
 use Rattle.sl_trace.specs.declared.effects.Entry.{Entry}
 use Rattle.sl_trace.specs.declared.effects.JobReply.{JobReply}
 use Rattle.sl_trace.specs.declared.input.Answer.{Answer}
 use Rattle.sl_trace.specs.declared.input.Input.TheVariants.{Answer as Told, Exit, Line, Spawned, Wake}
 use Rattle.sl_trace.specs.declared.input.Input.{Input}
-use Rattle.sl_place_law.proofs.Finding.{found_in, same_number}
 use Rattle.sl_words.proofs.CaseLaws.{no_value, none_some, some_value}
 use Rattle.std.proofs.Common.{ap, arith, inl, inr, refl, subst, sym, ◌∙◌}
+use Rattle.std.proofs.lemmas.Bool.{eqb-true}
 use Rattle.std.specs.Option.{option_or}
 use Rattle.std.specs.Prelude.{Bool, Contains, List, None, Option, Some, [], false, find, length, map, option_map, suc, true, ℕ, ◌++◌, ◌+◌, ◌==◌, ◌∷◌, ◌≡◌, ◌⊎◌}
 
@@ -34,7 +34,7 @@ replied_now : (e : Entry) (es : Trace) (job : ℕ) (r : Replied) (o : Option Job
     → option_map (λ (a : JobReply). let q : Replied = record { at = length es; reply = a.reply } in q) o ≡ Some r → RepliedBy (e ∷ es) job r
 replied_now e es job r None was is = absurd (none_some r is)
 replied_now e es job r (Some a) was is =
-    let f = found_in (λ (x : JobReply). x.job == job) e.effects.replies a was in
+    let f = find_inside (λ (x : JobReply). x.job == job) e.effects.replies a was in
     let q : Replied = record { at = length es; reply = a.reply } in
     let same : q ≡ r = some_value q r is in
     record {
@@ -45,7 +45,7 @@ replied_now e es job r (Some a) was is =
       place = ap (λ (x : Replied). x.at) (sym same);
       reply = a;
       given = f.0;
-      job_is = same_number a.job job f.1;
+      job_is = eqb-true a.job job f.1;
       says = ap (λ (x : Replied). x.reply) same;
     }
 
@@ -90,7 +90,7 @@ marked_with es e n w ms x a i there true is (Some b) was h =
     inl (x, there, refl, was ∙ sym (ap (λ q. option_or q (Some (answer_of es e w x.call))) was) ∙ h)
 marked_with es e n w ms x a i there true is None was h =
     let now : answer_of es e w x.call ≡ a = some_value (answer_of es e w x.call) a (sym (ap (λ q. option_or q (Some (answer_of es e w x.call))) was) ∙ h) in
-    inr (w, i ∙ ap (λ k. Told k w) (sym (same_number x.call.number n is)), ap (λ (b : Answered). b.at) (sym now))
+    inr (w, i ∙ ap (λ k. Told k w) (sym (eqb-true x.call.number n is)), ap (λ (b : Answered). b.at) (sym now))
 
 marked_told : (es : Trace) (e : Entry) (n : ℕ) (w : Answer) (ms : List Submitted) (m : Submitted) (a : Answered) → e.input ≡ Told n w
     → Contains (map (answered_in es e n w) ms) m → m.answer ≡ Some a → MarkedBy es e ms m a

@@ -1,6 +1,7 @@
 -- A session with a write in flight, other than its free, is not over: the free is sent where all its other calls are answered.
 use Rattle.sl_id_safety.proofs.Freed.{freed_answered}
 use Rattle.sl_id_safety.proofs.Silence.{freed_by}
+use Rattle.sl_plain.proofs.Lists.{any_of}
 use Rattle.sl_run.specs.Runs.{Happening}
 use Rattle.sl_run.specs.Safety.{Found, SessionId, free_landed, has_write_in_flight, is_course_of, is_over, setting_in, trace_of, was_reset}
 use Rattle.sl_run.specs.Worlds.{Course, Program, is_of_running, is_open, is_write_course, may_land}
@@ -8,7 +9,6 @@ use Rattle.sl_run.specs.declared.header.Header.{Header}
 use Rattle.sl_sessions.specs.Sessions.{calls_of, ended_after, free_write, is_free_purpose}
 use Rattle.sl_trace.specs.declared.effects.Call.{Call}
 use Rattle.sl_value_law.proofs.Owning.{OwnCall, unanswered}
-use Rattle.sl_watchdog_law.proofs.Finding.{any_of}
 use Rattle.sl_words.proofs.CaseLaws.{false_is_true, true_is_false}
 use Rattle.sl_words.proofs.WordLaws.{and_true}
 use Rattle.std.proofs.Common.{ap, inl, inr, refl, sym, ◌∙◌}
