@@ -1,9 +1,8 @@
--- What a lawful run promises of the history of each resource, by itself: its blocks are registers, and hosts keep ballots. (What it owes
--- to the ids of its lockspace, that an id's sessions follow one another, and that evidence means over, is asked of them apart.)
-use Rattle.sl_ballots.specs.Ballots.{GoesUp, KeepsBallots, NumbersArePositive}
+-- What a lawful run promises of the history of each resource by itself: its blocks are registers, ballots go up, and their numbers are above 0.
+-- (What it owes to the ids of its lockspace, and what it keeps of ballots, stands in crates above.)
+use Rattle.sl_ballots.specs.Ballots.{GoesUp, NumbersArePositive}
 use Rattle.sl_ballots.specs.Disk.{IsRegister}
 use Rattle.sl_ballots.specs.History.{History}
-use Rattle.sl_ballots.specs.Instances.{LeadersHaveWon}
 use Rattle.sl_resource_history.specs.Histories.{history_in}
 use Rattle.sl_resource_history.specs.Sending.{holder_of, is_joined_there}
 use Rattle.sl_run.specs.Runs.{Happening}
@@ -36,10 +35,6 @@ OfEachHistory P = (p : Program) (h : Header) (xs : List Happening) (r : Resource
 abbrev pub HistoriesAreRegisters : Type 0
 HistoriesAreRegisters = OfEachHistory (λ h y. IsRegister y)
 
--- Each write is one of a ballot.
-abbrev pub HistoriesKeepBallots : Type 0
-HistoriesKeepBallots = OfEachHistory (λ h y. KeepsBallots y)
-
 -- No ballot goes below the own block.
 abbrev pub HistoriesGoUp : Type 0
 HistoriesGoUp = OfEachHistory (λ h y. GoesUp y)
@@ -47,7 +42,3 @@ HistoriesGoUp = OfEachHistory (λ h y. GoesUp y)
 -- Numbers of ballots are above 0.
 abbrev pub HistoriesNumberAbove : Type 0
 HistoriesNumberAbove = OfEachHistory (λ h y. NumbersArePositive y)
-
--- Leaders are written by winners.
-abbrev pub HistoriesAreLedByWinners : Type 0
-HistoriesAreLedByWinners = OfEachHistory (λ h y. LeadersHaveWon y)
