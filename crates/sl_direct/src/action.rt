@@ -37,10 +37,17 @@ impl Action {
         ensures { result ≡ path_of self.now }
     {
         match self {
-            Action::InitLockspace { lockspace, hosts: _ } => lockspace.path,
+            Action::InitLockspace {
+                lockspace,
+                hosts: _,
+            } => lockspace.path,
             Action::InitResource { resource, hosts: _ } => resource.path,
             Action::ReadLeader { resource } => resource.path,
-            Action::Dump { path, offset: _, size: _ } => *path,
+            Action::Dump {
+                path,
+                offset: _,
+                size: _,
+            } => *path,
         }
     }
 }
