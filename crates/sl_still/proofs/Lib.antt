@@ -1,0 +1,5 @@
+pub mod Lists
+pub mod Calls
+pub mod Lone
+pub mod Sessions
+pub mod Known
