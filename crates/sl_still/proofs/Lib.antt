@@ -3,3 +3,4 @@ pub mod Calls
 pub mod Lone
 pub mod Sessions
 pub mod Known
+pub mod Stillness
