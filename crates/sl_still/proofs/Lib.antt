@@ -4,3 +4,5 @@ pub mod Lone
 pub mod Sessions
 pub mod Known
 pub mod Stillness
+pub mod Leases
+pub mod Busy
