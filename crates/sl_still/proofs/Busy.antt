@@ -69,7 +69,7 @@ pub record HoldingOf (st : Setting) (T : Table) (x : Grant) : Type 0 where
   pub holds : (T lease).phase ≡ Holds process lver
   pub its : lease_grant lease (T lease).resource process lver ≡ x
 
-held_by : (l : StillLease) (r : ResourceArg) (phase : Phase) (x : Grant) → Contains (lease_held l r phase) x → (p : ℕ) × (lver : ℕ) × (phase ≡ Holds p lver) × (lease_grant l r p lver ≡ x)
+pub held_by : (l : StillLease) (r : ResourceArg) (phase : Phase) (x : Grant) → Contains (lease_held l r phase) x → (p : ℕ) × (lver : ℕ) × (phase ≡ Holds p lver) × (lease_grant l r p lver ≡ x)
 held_by l r Idle x there = absurd (contains_none x there)
 held_by l r (Holds p lver) x there =
     elim (contains_cases (lease_grant l r p lver) [] x there) as (λ z. (q : ℕ) × (n : ℕ) × (Holds p lver ≡ Holds q n) × (lease_grant l r q n ≡ x)) [

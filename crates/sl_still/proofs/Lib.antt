@@ -6,3 +6,6 @@ pub mod Known
 pub mod Stillness
 pub mod Leases
 pub mod Busy
+pub mod Quiet
+pub mod Deciding
+pub mod Comes
