@@ -9,3 +9,5 @@ pub mod Busy
 pub mod Quiet
 pub mod Deciding
 pub mod Comes
+pub mod Growing
+pub mod Numbering
