@@ -11,3 +11,4 @@ pub mod Deciding
 pub mod Comes
 pub mod Growing
 pub mod Numbering
+pub mod Dues
