@@ -14,3 +14,4 @@ pub mod Numbering
 pub mod Dues
 pub mod Told
 pub mod Leading
+pub mod Frames
