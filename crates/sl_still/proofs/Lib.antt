@@ -15,3 +15,5 @@ pub mod Dues
 pub mod Told
 pub mod Leading
 pub mod Frames
+pub mod Entered
+pub mod Begun
