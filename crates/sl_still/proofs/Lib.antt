@@ -17,3 +17,4 @@ pub mod Leading
 pub mod Frames
 pub mod Entered
 pub mod Begun
+pub mod LineStands
