@@ -18,3 +18,4 @@ pub mod Frames
 pub mod Entered
 pub mod Begun
 pub mod LineStands
+pub mod ToldEntered
