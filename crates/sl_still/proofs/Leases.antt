@@ -159,3 +159,11 @@ grant_of_lease st x h =
       is = record { there = g.1; based = parts.based };
       its = rw (same_number x.session, same_number x.offset) ((bytes_eq-Decides x.path x.path).1 refl);
     }
+
+-- A holding is one under one lease.
+pub one_holder : (st : Setting) (l k : StillLease) → IsLease st l → IsLease st k → (x : Grant) → is_its_grant l x ≡ true → is_its_grant k x ≡ true → l ≡ k
+one_holder st l k is its x h i =
+    let a = and_true (x.session == l.number) (same_place x.path x.offset l.at.path l.at.base) h in
+    let b = and_true (x.session == k.number) (same_place x.path x.offset k.at.path k.at.base) i in
+    lease_is st l k is its (sym (number_same x.session l.number a.0) ∙ number_same x.session k.number b.0)
+    (sym (spot_same (record { path = x.path; base = x.offset }) l.at a.1) ∙ spot_same (record { path = x.path; base = x.offset }) k.at b.1)

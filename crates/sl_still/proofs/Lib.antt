@@ -19,3 +19,4 @@ pub mod Entered
 pub mod Begun
 pub mod LineStands
 pub mod ToldEntered
+pub mod ToldStands
