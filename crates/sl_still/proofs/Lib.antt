@@ -20,3 +20,5 @@ pub mod Begun
 pub mod LineStands
 pub mod ToldEntered
 pub mod ToldStands
+pub mod ToldShapes
+pub mod Beginning
