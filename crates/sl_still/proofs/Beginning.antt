@@ -1,5 +1,4 @@
 -- Before the first entry each lease is idle.
-use Rattle.sl_first.proofs.Growth.{same_number}
 use Rattle.sl_first.specs.FirstPath.{Doing}
 use Rattle.sl_first.specs.FirstSteps.{Idle, Works}
 use Rattle.sl_still.specs.Promises.{StillBegins}

@@ -2,45 +2,35 @@
 -- of the leader.
 use Rattle.sl_due.specs.Due.{IsHostTrace}
 use Rattle.sl_first.proofs.Entries.{runs_on}
-use Rattle.sl_first.proofs.FirstLaws.{leader_within, on_area}
 use Rattle.sl_first.proofs.Growth.{same_number}
-use Rattle.sl_first.proofs.Standing.{held_stays}
-use Rattle.sl_first.specs.FirstPath.{Doing, first_effects, next_doing, open_kept}
-use Rattle.sl_first.specs.FirstSteps.{Course, Freeing, Holds, Idle, OnCourse, Phase, Reading_area, Works, work_in}
-use Rattle.sl_leases.specs.Leases.{holdings_on, is_on, lease_calls, lease_step, spot_of}
+use Rattle.sl_first.specs.FirstPath.{Doing, first_effects, next_doing}
+use Rattle.sl_first.specs.FirstSteps.{Course, Holds, Idle, Phase, Works}
+use Rattle.sl_leases.specs.Leases.{holdings_on, lease_calls}
 use Rattle.sl_sessions.specs.Sessions.{delta_written}
-use Rattle.sl_still.proofs.Dues.{ended_self, holder_calls, nothing_left}
-use Rattle.sl_still.proofs.Entered.{begun_entered, its_call, job_below, line_next, made_still, next_line}
+use Rattle.sl_still.proofs.Entered.{begun_entered, job_below, made_still, next_line}
 use Rattle.sl_still.proofs.Frames.{IsMoved, moved}
-use Rattle.sl_still.proofs.Growing.{calls_more, held_grown}
-use Rattle.sl_still.proofs.Leases.{is_its_call, is_its_grant, one_lease}
+use Rattle.sl_still.proofs.Growing.{calls_more}
+use Rattle.sl_still.proofs.Leases.{is_its_call, one_lease}
 use Rattle.sl_still.proofs.Lists.{list_all_of}
-use Rattle.sl_still.specs.StillLeases.{AsksFor, For_acquire, For_release, IsWorking, LeaseStands, LeaseState, PhaseStands, StillStands, Table, is_idle, lease_held, put}
-use Rattle.sl_still.specs.StillPath.{IsLease, IsOf, IsStill, StillLease, lease_grant, lease_session, lone, still_entry}
-use Rattle.sl_still.specs.StillSteps.{area_read, free_write, line_work}
+use Rattle.sl_still.specs.StillLeases.{AsksFor, IsWorking, LeaseStands, LeaseState, PhaseStands, StillStands, Table, is_idle, put}
+use Rattle.sl_still.specs.StillPath.{IsLease, IsOf, IsStill, StillLease, lease_session, lone, still_entry}
+use Rattle.sl_still.specs.StillSteps.{line_work}
 use Rattle.sl_session_law.proofs.Making.{contains_first, contains_more}
-use Rattle.sl_trace.specs.Traces.{Job, Setting, Submitted, Trace, end_of, holdings, is_ended_by, is_running, job_numbered, jobs, new_call, next_call, next_job, reply_to, same_place, submitted}
-use Rattle.sl_trace.specs.declared.command.Command.TheVariants.{Acquire, Release}
+use Rattle.sl_trace.specs.Traces.{Job, Setting, Trace, job_numbered, jobs, new_call, next_call, next_job}
 use Rattle.sl_trace.specs.declared.command.Command.{Command}
 use Rattle.sl_trace.specs.declared.command.ResourceArg.{ResourceArg}
 use Rattle.sl_trace.specs.declared.effects.Call.{Call}
 use Rattle.sl_trace.specs.declared.effects.End.{End}
 use Rattle.sl_trace.specs.declared.effects.Entry.{Entry}
-use Rattle.sl_trace.specs.declared.effects.Grant.{Grant}
-use Rattle.sl_trace.specs.declared.effects.LeaseStep.TheVariants.{FreeLeader, ReadArea}
 use Rattle.sl_trace.specs.declared.effects.LeaseStep.{LeaseStep}
 use Rattle.sl_trace.specs.declared.effects.Purpose.TheVariants.{Lease}
-use Rattle.sl_trace.specs.declared.effects.Spot.{Spot}
 use Rattle.sl_trace.specs.declared.effects.Work.TheVariants.{ForJob}
 use Rattle.sl_trace.specs.declared.input.Input.TheVariants.{Line}
-use Rattle.sl_words.proofs.CaseLaws.{is_false, some_value, true_is_false}
-use Rattle.sl_words.proofs.WordLaws.{and_true}
+use Rattle.sl_words.proofs.CaseLaws.{is_false, true_is_false}
 use Rattle.std.proofs.Common.{ap, arith, refl, subst, sym, tests, ◌∙◌}
-use Rattle.std.proofs.lemmas.List.{append-nil}
 use Rattle.std.proofs.lemmas.List.Folds.{find-append}
-use Rattle.std.specs.List.{list_all}
 use Rattle.std.specs.Option.{option_or}
-use Rattle.std.specs.Prelude.{Bool, Contains, List, None, Ok, Option, Some, [], bytes_eq, false, filter, find, if◌then◌else◌, is_none, is_some, length, nat_lt, not, true, ℕ, ◌&&◌, ◌++◌, ◌+◌, ◌<◌, ◌==◌, ◌∷◌, ◌≡◌, ◌≤◌}
+use Rattle.std.specs.Prelude.{Bool, Contains, List, None, Ok, Option, Some, [], false, find, if◌then◌else◌, is_none, length, nat_lt, true, ℕ, ◌<◌, ◌==◌, ◌∷◌, ◌≡◌}
 
 -- ---- the new job
 

@@ -3,18 +3,17 @@ use Rattle.sl_first.specs.FirstPath.{Doing, has_answer, open_kept}
 use Rattle.sl_first.specs.FirstSteps.{Holds, Idle, Phase, Works, work_in}
 use Rattle.sl_session_law.proofs.Making.{contains_cases, contains_first, contains_none}
 use Rattle.sl_session_law.proofs.Naming.{kept}
-use Rattle.sl_leases.specs.Leases.{holdings_on, lease_calls}
-use Rattle.sl_still.proofs.Leases.{CallOf, GrantOf, call_of, calls_filtered, grant_of_lease, held_filtered, is_its_call, is_its_grant}
+use Rattle.sl_still.proofs.Leases.{call_of, calls_filtered, grant_of_lease, held_filtered, is_its_call, is_its_grant}
 use Rattle.sl_still.proofs.Lists.{filtered, list_all_of}
 use Rattle.sl_still.specs.StillLeases.{LeaseStands, LeaseState, StillStands, Table, lease_held}
-use Rattle.sl_still.specs.StillPath.{IsLease, IsStill, StillLease, is_still_call, is_still_grant, lease_grant, lease_session}
+use Rattle.sl_still.specs.StillPath.{IsLease, IsStill, StillLease, is_still_call, is_still_grant, lease_grant}
 use Rattle.sl_trace.specs.Traces.{Setting, Submitted, Trace, holdings, submitted}
 use Rattle.sl_trace.specs.declared.command.ResourceArg.{ResourceArg}
 use Rattle.sl_trace.specs.declared.effects.Grant.{Grant}
 use Rattle.sl_words.proofs.CaseLaws.{false_is_true}
 use Rattle.std.proofs.Common.{ap, inl, inr, refl, subst, sym, ◌∙◌}
 use Rattle.std.specs.List.{list_all}
-use Rattle.std.specs.Prelude.{Contains, List, None, Option, Some, [], filter, is_some, true, ℕ, ◌++◌, ◌∷◌, ◌≡◌, ◌⊎◌}
+use Rattle.std.specs.Prelude.{Contains, List, None, Option, [], is_some, true, ℕ, ◌++◌, ◌∷◌, ◌≡◌}
 
 -- ---- calls
 

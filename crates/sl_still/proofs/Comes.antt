@@ -2,14 +2,14 @@
 use Rattle.sl_due.specs.DueCommands.{Decision, Gives_up, Reads_area, Replies, busy_refusal, decided, holding_of, limit_refusal, pending_refusal, process_refusal, session_refusal, unless_refused, with_session}
 use Rattle.sl_first.specs.FirstSteps.{Holds}
 use Rattle.sl_leases.specs.Leases.{holdings_on, spot_of}
-use Rattle.sl_session_law.proofs.Making.{contains_cases, contains_first, contains_more, contains_none}
+use Rattle.sl_session_law.proofs.Making.{contains_cases, contains_none}
 use Rattle.sl_sessions.specs.Sessions.{Session, session_named}
 use Rattle.sl_still.proofs.Busy.{held_by}
 use Rattle.sl_still.proofs.Deciding.{IsFree, Named, Passes, Refuses, Verdict, busy_reply, free_by, limit_reply, named_lease, nothing_held, nothing_open, pending_reply, process_reply, unrefused, verdict}
 use Rattle.sl_still.proofs.Leases.{number_same}
 use Rattle.sl_still.proofs.Lists.{found_in}
 use Rattle.sl_still.proofs.Quiet.{quiet_on, quiet_session}
-use Rattle.sl_still.specs.StillLeases.{StillStands, Table, lease_held}
+use Rattle.sl_still.specs.StillLeases.{StillStands, Table}
 use Rattle.sl_still.specs.StillPath.{IsLease, IsOf, IsStill, IsStillCommand, IsStillResource, StillLease, before_next, lease_grant, lease_session}
 use Rattle.sl_still.specs.StillSteps.{IsRefused, Is_refused, Says_nothing, is_line_reply}
 use Rattle.sl_trace.specs.Traces.{Setting, Trace}
@@ -20,13 +20,13 @@ use Rattle.sl_trace.specs.declared.effects.Grant.{Grant}
 use Rattle.sl_trace.specs.declared.effects.Spot.{Spot}
 use Rattle.sl_trace.specs.declared.reply.Reply.TheVariants.{NoSession, NotHeld}
 use Rattle.sl_trace.specs.declared.reply.Reply.{Reply}
-use Rattle.sl_words.proofs.CaseLaws.{none_some, some_value}
+use Rattle.sl_words.proofs.CaseLaws.{none_some}
 use Rattle.sl_words.proofs.WordLaws.{and_true, choose_some}
 use Rattle.sl_words.specs.Words.{choose}
 use Rattle.std.proofs.Common.{ap, inl, inr, refl, subst, sym, ◌∙◌}
 use Rattle.std.specs.List.{AllByRecursion}
 use Rattle.std.specs.Option.{option_map_or}
-use Rattle.std.specs.Prelude.{Bool, Contains, Err, List, None, Ok, Option, Result, Some, false, find, is_none, true, [], ℕ, ◌&&◌, ◌==◌, ◌∷◌, ◌≡◌, ◌⊎◌}
+use Rattle.std.specs.Prelude.{Bool, Contains, Err, List, None, Ok, Option, Result, Some, false, is_none, true, [], ℕ, ◌&&◌, ◌==◌, ◌∷◌, ◌≡◌}
 
 -- What a line comes to.
 pub data LineComes (st : Setting) (now : ℕ) (T : Table) (es : Trace) (text : List ℕ) : Type 0 where

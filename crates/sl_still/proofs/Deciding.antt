@@ -1,41 +1,38 @@
 -- The refusals of a command, in order: the first that holds is its answer; where none holds nothing is in its way.
-use Rattle.sl_due.specs.DueCommands.{Decision, Gives_up, Reads_area, Replies, busy_refusal, decided, holding_of, limit_refusal, pending_refusal, process_refusal, session_refusal, unless_refused, with_session}
-use Rattle.sl_first.specs.FirstPath.{Doing}
+use Rattle.sl_due.specs.DueCommands.{Decision, Replies, busy_refusal, limit_refusal, pending_refusal, process_refusal, session_refusal, unless_refused}
 use Rattle.sl_first.specs.FirstSteps.{Holds, Idle, Phase, Works}
-use Rattle.sl_leases.specs.Counts.{busy_among, busy_process, child_count, held_here, holder_count, limit_met, may_act, pending_call, resource_count}
-use Rattle.sl_leases.specs.Leases.{holdings_on, is_on, lease_spots, lease_step, open_on, spot_of}
-use Rattle.sl_session_law.proofs.Making.{contains_cases, contains_first, contains_more, contains_none}
+use Rattle.sl_leases.specs.Counts.{busy_process, child_count, held_here, holder_count, limit_met, may_act, pending_call, resource_count}
+use Rattle.sl_leases.specs.Leases.{is_on, lease_spots, lease_step, open_on, spot_of}
+use Rattle.sl_session_law.proofs.Making.{contains_first, contains_more, contains_none}
 use Rattle.sl_session_law.proofs.Naming.{kept}
-use Rattle.sl_sessions.specs.Sessions.{Session, given_session, is_active, is_joined, is_present, last_renewal, present_sessions, session_named, sessions}
-use Rattle.sl_still.proofs.Busy.{held_by, holding_there, work_there}
+use Rattle.sl_sessions.specs.Sessions.{Session, given_session, is_active, is_present, last_renewal, present_sessions, session_named, sessions}
+use Rattle.sl_still.proofs.Busy.{holding_there, work_there}
 use Rattle.sl_still.proofs.Known.{given_place}
-use Rattle.sl_still.proofs.Leases.{number_same, spot_self}
+use Rattle.sl_still.proofs.Leases.{spot_self}
 use Rattle.sl_still.proofs.Lists.{filtered, found_in, ordered, place_of}
-use Rattle.sl_still.proofs.Quiet.{quiet_held, quiet_on, quiet_session}
+use Rattle.sl_still.proofs.Quiet.{quiet_held}
 use Rattle.sl_still.proofs.Sessions.{sessions_still}
-use Rattle.sl_still.specs.StillLeases.{LeaseStands, LeaseState, PhaseStands, StillStands, Table, is_idle, lease_held}
+use Rattle.sl_still.specs.StillLeases.{LeaseStands, LeaseState, PhaseStands, Table, is_idle}
 use Rattle.sl_still.specs.StillPath.{IsLease, IsOf, IsStill, IsStillResource, SessionStands, StillLease, before_next, lease_grant, lease_session}
-use Rattle.sl_still.specs.StillSteps.{IsRefused, Is_refused, Says_nothing, is_line_reply, is_still_limit}
+use Rattle.sl_still.specs.StillSteps.{is_line_reply, is_still_limit}
 use Rattle.sl_trace.specs.Limits.{most_children, most_holders, most_resources}
 use Rattle.sl_trace.specs.Traces.{Setting, Submitted, Trace, holdings, is_shared, outstanding, same_place, same_spot, submitted}
-use Rattle.sl_trace.specs.declared.command.Command.TheVariants.{Acquire, Release}
-use Rattle.sl_trace.specs.declared.command.Command.{Command}
 use Rattle.sl_trace.specs.declared.command.ResourceArg.{ResourceArg}
 use Rattle.sl_trace.specs.declared.effects.Grant.{Grant}
 use Rattle.sl_trace.specs.declared.effects.Spot.{Spot}
 use Rattle.sl_trace.specs.declared.reply.Limited.TheVariants.{Children, Holders, Resources}
 use Rattle.sl_trace.specs.declared.reply.Limited.{Limited}
-use Rattle.sl_trace.specs.declared.reply.Reply.TheVariants.{BadCommand as Misread, Busy, Joining as StillJoining, Limit as LimitReached, NoProcess, NoSession, NotHeld, Pending, Recovering}
+use Rattle.sl_trace.specs.declared.reply.Reply.TheVariants.{Busy, Joining as StillJoining, Limit as LimitReached, NoProcess, Pending, Recovering}
 use Rattle.sl_trace.specs.declared.reply.Reply.{Reply}
-use Rattle.sl_words.proofs.CaseLaws.{none_some, some_value, true_or_false}
+use Rattle.sl_words.proofs.CaseLaws.{none_some, some_value}
 use Rattle.sl_words.proofs.WordLaws.{and_true, choose_some}
 use Rattle.sl_words.specs.Orders.{is_text_before}
 use Rattle.sl_words.specs.Words.{choose, least}
-use Rattle.std.proofs.Common.{ap, arith, inl, inr, refl, subst, sym, ◌∙◌}
+use Rattle.std.proofs.Common.{ap, arith, refl, subst, sym, ◌∙◌}
 use Rattle.std.proofs.lemmas.Slice.Eq.{bytes_eq-Decides}
 use Rattle.std.specs.List.{AllByRecursion, enumerate_from, list_any}
-use Rattle.std.specs.Option.{option_map_or, option_or}
-use Rattle.std.specs.Prelude.{Bool, Contains, Err, IsTrue, List, None, Ok, Option, Result, Some, bytes_eq, false, filter, find, if◌then◌else◌, is_none, is_some, map, min, nat_le, not, option_and_then, option_map, true, [], ℕ, ◌&&◌, ◌+◌, ◌==◌, ◌∷◌, ◌≡◌, ◌⊎◌}
+use Rattle.std.specs.Option.{option_or}
+use Rattle.std.specs.Prelude.{Bool, Contains, List, None, Option, Some, bytes_eq, false, filter, if◌then◌else◌, is_none, is_some, map, min, nat_le, not, option_and_then, option_map, true, [], ℕ, ◌&&◌, ◌==◌, ◌∷◌, ◌≡◌}
 
 -- ---- refusals in order
 

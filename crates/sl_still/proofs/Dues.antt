@@ -17,7 +17,7 @@ use Rattle.sl_still.proofs.Stillness.{nothing_after, nothing_before}
 use Rattle.sl_still.specs.StillLeases.{LeaseStands, LeaseState, StillStands, Table, lease_held}
 use Rattle.sl_still.specs.StillPath.{IsLease, IsOf, IsStill, IsStillCalm, StillLease, before_next, lease_grant, lease_session, lone, still_entry}
 use Rattle.sl_still.specs.StillSteps.{IsRefused, Is_refused, Says_nothing, area_read, free_write}
-use Rattle.sl_trace.specs.Traces.{Setting, Submitted, Trace, end_of, is_ended_by, next_call, next_job}
+use Rattle.sl_trace.specs.Traces.{Setting, Trace, end_of, is_ended_by, next_job}
 use Rattle.sl_trace.specs.declared.command.Command.TheVariants.{Acquire, Release}
 use Rattle.sl_trace.specs.declared.command.Command.{Command}
 use Rattle.sl_trace.specs.declared.command.ResourceArg.{ResourceArg}
@@ -34,9 +34,9 @@ use Rattle.sl_sessions.specs.Sessions.{Session}
 use Rattle.sl_trace.specs.declared.reply.Reply.TheVariants.{BadCommand as Misread, Done}
 use Rattle.sl_trace.specs.declared.reply.Reply.{Reply}
 use Rattle.sl_words.specs.Results.{◌>>=◌}
-use Rattle.std.proofs.Common.{ap, refl, sym, ◌∙◌}
+use Rattle.std.proofs.Common.{ap, refl, ◌∙◌}
 use Rattle.std.proofs.lemmas.Slice.Eq.{bytes_eq-Decides}
-use Rattle.std.specs.Prelude.{Bool, Err, List, Ok, Result, [], false, filter, if◌then◌else◌, not, true, ℕ, ◌++◌, ◌∷◌, ◌≡◌}
+use Rattle.std.specs.Prelude.{Err, List, Ok, Result, [], false, filter, if◌then◌else◌, not, true, ℕ, ◌++◌, ◌∷◌, ◌≡◌}
 
 -- The step once its line is seen.
 abbrev line_step : Setting → ℕ → Trace → List ℕ → Effects → Step

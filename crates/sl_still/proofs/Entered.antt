@@ -1,10 +1,10 @@
 -- What a line's entry is to the daemon as a whole.
 use Rattle.sl_due.specs.Due.{IsHostTrace}
-use Rattle.sl_first.proofs.Entries.{list_all-append, not_next, old_more, other_reply, running_answered, running_begun, runs_on, unanswered_more}
+use Rattle.sl_first.proofs.Entries.{list_all-append, not_next, old_more, other_reply, running_answered, running_begun, unanswered_more}
 use Rattle.sl_first.proofs.Growth.{is_running_more, same_number}
 use Rattle.sl_first.proofs.Standing.{held_stays}
 use Rattle.sl_first.specs.FirstPath.{first_effects, one_reply}
-use Rattle.sl_leases.specs.Leases.{holdings_on, is_lease_call, is_on, lease_step, spot_of, spot_of_call}
+use Rattle.sl_leases.specs.Leases.{holdings_on, is_on, lease_step, spot_of}
 use Rattle.sl_sessions.specs.Sessions.{delta_written}
 use Rattle.sl_still.proofs.Frames.{IsEntered}
 use Rattle.sl_still.proofs.Leases.{is_its_call, on_spot}
@@ -12,7 +12,7 @@ use Rattle.sl_still.proofs.Lists.{found_in, list_all-filter, list_all_of}
 use Rattle.sl_still.specs.StillLeases.{StillStands, Table, is_called_for}
 use Rattle.sl_still.specs.StillPath.{IsLease, IsOf, StillLease, is_still_call, is_still_grant, lease_session, still_entry}
 use Rattle.sl_still.specs.StillSteps.{refused_entry}
-use Rattle.sl_trace.specs.Traces.{Job, Setting, Submitted, Trace, child_after, holdings, is_ended_by, is_of_job, is_running, job_numbered, job_of, jobs, new_call, next_job, outstanding, reply_to, running_jobs, same_place, submitted}
+use Rattle.sl_trace.specs.Traces.{Job, Setting, Submitted, Trace, child_after, holdings, is_ended_by, is_of_job, is_running, job_numbered, job_of, jobs, new_call, next_job, outstanding, running_jobs, same_place}
 use Rattle.sl_area.specs.Places.{is_base}
 use Rattle.sl_words.specs.Words.{some_is}
 use Rattle.sl_trace.specs.declared.effects.Call.{Call}
@@ -27,11 +27,11 @@ use Rattle.sl_trace.specs.declared.effects.Work.TheVariants.{ForJob}
 use Rattle.sl_trace.specs.declared.input.Input.TheVariants.{Line}
 use Rattle.sl_trace.specs.declared.reply.Reply.{Reply}
 use Rattle.sl_words.proofs.WordLaws.{and_true}
-use Rattle.std.proofs.Common.{ap, arith, refl, subst, sym, tests, ◌∙◌}
+use Rattle.std.proofs.Common.{ap, arith, refl, subst, tests, ◌∙◌}
 use Rattle.std.proofs.lemmas.List.{append-nil}
 use Rattle.std.proofs.lemmas.Option.{slice_get_within}
 use Rattle.std.specs.List.{list_all}
-use Rattle.std.specs.Prelude.{Bool, List, None, Option, Some, [], bytes_eq, false, filter, find, if◌then◌else◌, is_none, is_some, length, map, nat_lt, not, true, ℕ, ◌&&◌, ◌++◌, ◌+◌, ◌<◌, ◌==◌, ◌∷◌, ◌≡◌, ◌≤◌}
+use Rattle.std.specs.Prelude.{Bool, List, None, Option, Some, [], false, filter, find, if◌then◌else◌, is_none, is_some, length, map, nat_lt, not, true, ℕ, ◌&&◌, ◌++◌, ◌+◌, ◌<◌, ◌==◌, ◌∷◌, ◌≡◌, ◌≤◌}
 
 -- ---- jobs
 

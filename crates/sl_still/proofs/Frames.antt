@@ -7,15 +7,15 @@ use Rattle.sl_leases.specs.Leases.{holdings_on, lease_calls}
 use Rattle.sl_still.proofs.Leases.{lease_same, lease_self}
 use Rattle.sl_still.specs.StillLeases.{IsWorking, LeaseStands, LeaseState, PhaseStands, StillStands, Table, is_called_for, is_idle, put}
 use Rattle.sl_still.specs.StillPath.{IsLease, IsStillCalm, StillLease, is_still_call, is_still_grant, lease_session, same_lease}
-use Rattle.sl_trace.specs.Traces.{Job, Setting, Submitted, Trace, children, holdings, is_running, job_numbered, jobs, next_call, next_job, reply_to, running_jobs, submitted}
+use Rattle.sl_trace.specs.Traces.{Job, Setting, Trace, children, holdings, is_running, jobs, next_call, next_job, reply_to, running_jobs, submitted}
 use Rattle.sl_trace.specs.declared.command.ResourceArg.{ResourceArg}
 use Rattle.sl_trace.specs.declared.effects.Entry.{Entry}
-use Rattle.sl_words.proofs.CaseLaws.{true_is_false, true_or_false}
-use Rattle.std.proofs.Common.{ap, arith, inl, inr, refl, subst, sym, ◌∙◌}
+use Rattle.sl_words.proofs.CaseLaws.{true_is_false}
+use Rattle.std.proofs.Common.{ap, arith, refl, subst, sym, ◌∙◌}
 use Rattle.std.proofs.lemmas.List.Folds.{find-append}
 use Rattle.std.specs.List.{list_all}
 use Rattle.std.specs.Option.{option_or}
-use Rattle.std.specs.Prelude.{Bool, List, None, Option, Some, [], false, find, nat_lt, true, ℕ, ◌++◌, ◌<◌, ◌==◌, ◌∷◌, ◌≡◌, ◌≤◌, ◌⊎◌}
+use Rattle.std.specs.Prelude.{Bool, List, None, Some, [], false, find, nat_lt, true, ℕ, ◌++◌, ◌==◌, ◌∷◌, ◌≡◌, ◌≤◌}
 
 -- ---- the table
 

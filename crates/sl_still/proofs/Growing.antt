@@ -1,12 +1,11 @@
 -- How a lease's calls and holdings change by one more entry.
-use Rattle.sl_first.proofs.Growth.{filter_agrees, filter_both}
+use Rattle.sl_first.proofs.Growth.{filter_both}
 use Rattle.sl_leases.specs.Leases.{holdings_on, lease_calls}
 use Rattle.sl_still.proofs.Leases.{calls_filtered, held_filtered, is_its_call, is_its_grant}
 use Rattle.sl_still.specs.StillPath.{StillLease, lease_session}
-use Rattle.sl_trace.specs.Traces.{Setting, Submitted, Trace, answered_in, held_after, holdings, is_ended_by, mark, new_call, submitted}
+use Rattle.sl_trace.specs.Traces.{Setting, Submitted, Trace, answered_in, holdings, is_ended_by, mark, new_call, submitted}
 use Rattle.sl_trace.specs.declared.effects.Call.{Call}
 use Rattle.sl_trace.specs.declared.effects.Entry.{Entry}
-use Rattle.sl_trace.specs.declared.effects.Grant.{Grant}
 use Rattle.sl_trace.specs.declared.input.Answer.{Answer}
 use Rattle.sl_trace.specs.declared.input.Input.TheVariants.{Answer as Told, Exit, Line, Spawned, Wake}
 use Rattle.sl_trace.specs.declared.input.Input.{Input}

@@ -2,15 +2,15 @@
 use Rattle.sl_area.specs.Layouts.{Layout}
 use Rattle.sl_first.proofs.CalmRenewal.{leases_first, survey_none}
 use Rattle.sl_first.specs.FirstSteps.{first_known, first_over, first_self}
-use Rattle.sl_leases.specs.Leases.{exclusive_on, has_shared_on, holdings_on, is_lease_call, known, known_of, lease_calls}
+use Rattle.sl_leases.specs.Leases.{exclusive_on, has_shared_on, is_lease_call, known, known_of, lease_calls}
 use Rattle.sl_sector.specs.declared.sector.DeltaRec.{DeltaRec}
 use Rattle.sl_session_law.proofs.Naming.{absent}
-use Rattle.sl_sessions.specs.Sessions.{Begun, Renewing, Session, calls_of, generation_of, given_session, is_active, is_call_of, is_present, leaving_job, present_sessions, recovery_of, session_named, sessions}
-use Rattle.sl_sessions.specs.Watching.{counts_over, evidence, evidence_in, look_of, sightings}
+use Rattle.sl_sessions.specs.Sessions.{Renewing, Session, calls_of, generation_of, given_session, is_active, is_call_of, is_present, leaving_job, present_sessions, recovery_of, session_named, sessions}
+use Rattle.sl_sessions.specs.Watching.{counts_over, evidence, look_of, sightings}
 use Rattle.sl_still.proofs.Calls.{no_delta_among}
 use Rattle.sl_still.proofs.Lists.{filtered, found_in, inside_at, list_all-filter, ordered, place_of}
 use Rattle.sl_still.proofs.Lone.{lease_given}
-use Rattle.sl_still.proofs.Sessions.{calm_of, enumerated, joined_still, numbered_still, renewing_still, sessions_still, staying_still, unremoved_still}
+use Rattle.sl_still.proofs.Sessions.{calm_of, joined_still, numbered_still, renewing_still, sessions_still, staying_still, unremoved_still}
 use Rattle.sl_still.specs.Promises.{LeasesAreKnown, SessionsStand}
 use Rattle.sl_still.specs.StillPath.{IsLease, IsStill, IsStillCalm, SessionStands, StillLease, is_still_call, lease_session, lone}
 use Rattle.sl_time.specs.Times.{TimingNumbers}
@@ -24,11 +24,11 @@ use Rattle.sl_words.proofs.WordLaws.{and_true}
 use Rattle.sl_words.specs.Orders.{is_text_before}
 use Rattle.std.proofs.Common.{ap, arith, inl, inr, refl, subst, suc, sym, tests, zero, ◌∙◌}
 use Rattle.std.proofs.Math.Path.{fun_ext}
-use Rattle.std.proofs.lemmas.Option.{get_or_from_slice_get, slice_get-map, slice_get_within}
+use Rattle.std.proofs.lemmas.Option.{get_or_from_slice_get, slice_get_within}
 use Rattle.std.proofs.lemmas.Slice.Eq.{bytes_eq-Decides}
 use Rattle.std.specs.List.{enumerate_from, list_all}
 use Rattle.std.specs.Option.{option_map_or}
-use Rattle.std.specs.Prelude.{Bool, IsTrue, Contains, List, None, Option, Some, bytes_eq, false, filter, find, is_none, is_some, length, map, nat_lt, not, option_map, get_or, slice_get, true, [], ℕ, ◌&&◌, ◌+◌, ◌<◌, ◌==◌, ◌∷◌, ◌≡◌, ◌⊎◌}
+use Rattle.std.specs.Prelude.{Bool, Contains, List, None, Option, Some, bytes_eq, false, filter, find, is_none, is_some, map, nat_lt, not, option_map, get_or, slice_get, true, [], ℕ, ◌&&◌, ◌+◌, ◌<◌, ◌==◌, ◌∷◌, ◌≡◌, ◌⊎◌}
 
 -- ---- its name
 

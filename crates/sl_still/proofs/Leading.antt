@@ -4,14 +4,13 @@ use Rattle.sl_due.specs.DueLease.{carry_lease, grant_for}
 use Rattle.sl_due.specs.Steps.{Step, seen, with_some}
 use Rattle.sl_first.proofs.Courses.{course_live}
 use Rattle.sl_first.specs.FirstPath.{Doing, first_effects, one_reply}
-use Rattle.sl_first.specs.FirstSteps.{Begins_phase1, Begins_phase2, Course, Goes_on_phase1, Goes_on_phase2, Grants, IsNamed, Live, OnCourse, Replies_late, Takes, Works, first_known, process_of}
+use Rattle.sl_first.specs.FirstSteps.{Begins_phase1, Begins_phase2, Goes_on_phase1, Goes_on_phase2, Grants, IsNamed, Live, OnCourse, Replies_late, Takes, first_known, process_of}
 use Rattle.sl_first_ballot.specs.Ways.{ballot_place}
 use Rattle.sl_leases.specs.Leases.{lver_written, spot_of}
 use Rattle.sl_leases.specs.declared.lease.LeaseNext.TheVariants.{AnswerJob, GrantJob, ReadFor, WriteBlock, WriteLeader}
 use Rattle.sl_leases.specs.declared.lease.LeaseNext.{LeaseNext}
 use Rattle.sl_sector.specs.declared.sector.Block.{Block}
 use Rattle.sl_sector.specs.declared.sector.Leader.{Leader}
-use Rattle.sl_sessions.specs.Sessions.{Session}
 use Rattle.sl_still.proofs.Lone.{lone_first}
 use Rattle.sl_still.proofs.Told.{AtWork, command_said, number_told, resource_of, told_due, told_step, work_of}
 use Rattle.sl_still.specs.StillLeases.{AsksFor, For_acquire, For_release, Table}
@@ -32,7 +31,7 @@ use Rattle.sl_trace.specs.declared.reply.Reply.TheVariants.{Granted}
 use Rattle.sl_trace.specs.declared.reply.Reply.{Reply}
 use Rattle.sl_words.proofs.CaseLaws.{true_is_false}
 use Rattle.std.proofs.Common.{ap, refl, subst, sym, ◌∙◌}
-use Rattle.std.specs.Prelude.{Bool, List, Some, [], false, true, ℕ, ◌∷◌, ◌≡◌}
+use Rattle.std.specs.Prelude.{Bool, List, [], false, true, ℕ, ◌∷◌, ◌≡◌}
 
 -- What may come next for a lease, by its calls once the work's call is answered.
 abbrev pub MayCome : Setting → StillLease → ResourceArg → List Submitted → Command → LeaseNext → Type 0

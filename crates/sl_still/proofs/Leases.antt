@@ -1,12 +1,10 @@
 -- Which calls and which holdings are a lease's; each call and each holding is those of one lease.
-use Rattle.sl_area.specs.Layouts.{Layout}
 use Rattle.sl_area.specs.Places.{in_area, is_base}
 use Rattle.sl_first.proofs.Growth.{filter_both, same_number}
 use Rattle.sl_first.proofs.FirstLaws.{leader_within}
 use Rattle.sl_first.proofs.Spots.{base_of, is_even}
 use Rattle.sl_leases.specs.Leases.{holdings_on, is_on, lease_calls, lease_step, spot_of_call}
-use Rattle.sl_session_law.proofs.Naming.{kept}
-use Rattle.sl_still.proofs.Calls.{CallParts, GrantParts, call_parts, grant_parts}
+use Rattle.sl_still.proofs.Calls.{call_parts, grant_parts}
 use Rattle.sl_still.specs.StillPath.{IsLease, IsStill, StillLease, is_still_call, is_still_grant, lease_session, same_lease}
 use Rattle.sl_trace.specs.Traces.{Setting, Submitted, Trace, holdings, same_place, same_spot, submitted}
 use Rattle.sl_trace.specs.declared.effects.Call.{Call}
@@ -15,11 +13,10 @@ use Rattle.sl_trace.specs.declared.effects.Spot.{Spot}
 use Rattle.sl_trace.specs.declared.input.Given.{Given}
 use Rattle.sl_words.proofs.CaseLaws.{one_value}
 use Rattle.sl_words.proofs.WordLaws.{and_true}
-use Rattle.std.proofs.Common.{ap, arith, mod-lt, refl, subst, suc, sym, tests, zero, ◌∙◌}
+use Rattle.std.proofs.Common.{ap, arith, mod-lt, refl, suc, sym, tests, zero, ◌∙◌}
 use Rattle.std.proofs.Math.Nat.{mod-le}
-use Rattle.std.proofs.lemmas.Option.{slice_get-get_or}
 use Rattle.std.proofs.lemmas.Slice.Eq.{bytes_eq-Decides}
-use Rattle.std.specs.Prelude.{Bool, Contains, IsTrue, List, Option, Some, bytes_eq, filter, get_or, is_some, length, nat_le, nat_lt, slice_get, true, [], ℕ, ◌%◌, ◌&&◌, ◌*◌, ◌+◌, ◌-◌, ◌/◌, ◌<◌, ◌==◌, ◌∷◌, ◌≡◌, ◌≤◌}
+use Rattle.std.specs.Prelude.{Bool, IsTrue, List, Some, bytes_eq, filter, is_some, length, nat_le, nat_lt, slice_get, true, [], ℕ, ◌%◌, ◌&&◌, ◌+◌, ◌-◌, ◌<◌, ◌==◌, ◌∷◌, ◌≡◌, ◌≤◌}
 
 -- ---- places
 

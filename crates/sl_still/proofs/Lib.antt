@@ -22,3 +22,5 @@ pub mod ToldEntered
 pub mod ToldStands
 pub mod ToldShapes
 pub mod Beginning
+pub mod Shapes
+pub mod Places

@@ -3,7 +3,7 @@ use Rattle.sl_due.specs.Due.{IsHostTrace}
 use Rattle.sl_first.proofs.FirstLaws.{leader_within, on_area}
 use Rattle.sl_first.proofs.Standing.{held_stays}
 use Rattle.sl_first.specs.FirstPath.{first_effects, open_kept}
-use Rattle.sl_first.specs.FirstSteps.{Freeing, Holds, Idle, IsNamed, OnCourse, Phase, Reading_area, Works, work_in}
+use Rattle.sl_first.specs.FirstSteps.{Freeing, Holds, Idle, OnCourse, Phase, Reading_area, Works, work_in}
 use Rattle.sl_leases.specs.Leases.{holdings_on, spot_of}
 use Rattle.sl_still.proofs.Begun.{LineMoves, line_moves, line_state}
 use Rattle.sl_still.proofs.Deciding.{IsFree}
@@ -13,23 +13,20 @@ use Rattle.sl_still.proofs.Frames.{unmoved}
 use Rattle.sl_still.proofs.Growing.{held_grown}
 use Rattle.sl_still.proofs.Leases.{spot_same}
 use Rattle.sl_still.proofs.Lone.{lease_given}
-use Rattle.sl_still.specs.StillLeases.{For_acquire, For_release, LeaseStands, LeaseState, PhaseStands, StillStands, Table, is_idle, lease_held, put}
+use Rattle.sl_still.specs.StillLeases.{For_acquire, For_release, PhaseStands, StillStands, Table, is_idle, lease_held, put}
 use Rattle.sl_still.specs.StillPath.{IsLease, IsOf, IsStill, StillLease, lease_grant, lease_session, lone, still_entry}
 use Rattle.sl_still.specs.StillSteps.{area_read, free_write, refused_entry}
 use Rattle.sl_trace.specs.Traces.{Setting, Trace, end_of, holdings, is_ended_by, same_place}
 use Rattle.sl_trace.specs.declared.command.Command.TheVariants.{Acquire, Release}
 use Rattle.sl_trace.specs.declared.command.ResourceArg.{ResourceArg}
-use Rattle.sl_trace.specs.declared.effects.End.{End}
 use Rattle.sl_trace.specs.declared.effects.Grant.{Grant}
 use Rattle.sl_trace.specs.declared.effects.LeaseStep.TheVariants.{FreeLeader, ReadArea}
-use Rattle.sl_trace.specs.declared.effects.Spot.{Spot}
 use Rattle.sl_trace.specs.declared.input.Input.TheVariants.{Line}
 use Rattle.sl_trace.specs.declared.reply.Reply.{Reply}
 use Rattle.sl_words.proofs.CaseLaws.{false_is_true, is_false, true_is_false}
-use Rattle.sl_words.proofs.WordLaws.{and_true, or_true}
-use Rattle.std.proofs.Common.{ap, arith, inl, inr, refl, subst, sym, ◌∙◌}
-use Rattle.std.proofs.lemmas.List.{append-nil}
-use Rattle.std.specs.Prelude.{Bool, List, Ok, [], bytes_eq, false, filter, if◌then◌else◌, not, true, ℕ, ◌&&◌, ◌++◌, ◌==◌, ◌∷◌, ◌≡◌, ◌≤◌, ◌||◌, ◌⊎◌}
+use Rattle.sl_words.proofs.WordLaws.{and_true}
+use Rattle.std.proofs.Common.{ap, arith, refl, subst, sym, ◌∙◌}
+use Rattle.std.specs.Prelude.{Bool, List, Ok, [], false, filter, if◌then◌else◌, not, true, ℕ, ◌&&◌, ◌++◌, ◌==◌, ◌∷◌, ◌≡◌, ◌||◌}
 
 -- ---- a line that is refused
 

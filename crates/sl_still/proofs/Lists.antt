@@ -3,9 +3,9 @@ use Rattle.sl_session_law.proofs.Making.{contains_cases, contains_first, contain
 use Rattle.sl_words.proofs.CaseLaws.{none_some, some_value}
 use Rattle.sl_words.proofs.WordLaws.{and_true}
 use Rattle.sl_words.specs.Orders.{in_order, put_in}
-use Rattle.std.proofs.Common.{ap, arith, inl, inr, refl, subst, suc, sym, zero, ◌∙◌}
-use Rattle.std.specs.List.{AllByRecursion, list_all, list_any}
-use Rattle.std.specs.Prelude.{Bool, Contains, List, None, Option, Some, false, filter, find, fold, if◌then◌else◌, nat_lt, length, slice_get, true, [], ℕ, ◌&&◌, ◌∷◌, ◌≡◌, ◌⊎◌, ◌<◌}
+use Rattle.std.proofs.Common.{ap, inl, inr, refl, subst, suc, sym, zero, ◌∙◌}
+use Rattle.std.specs.List.{AllByRecursion, list_all}
+use Rattle.std.specs.Prelude.{Bool, Contains, List, Some, false, filter, find, fold, if◌then◌else◌, slice_get, true, [], ℕ, ◌∷◌, ◌≡◌, ◌⊎◌}
 
 -- ---- what stands at a place
 

@@ -8,10 +8,9 @@ use Rattle.sl_still.specs.StillPath.{IsLease, IsOf, IsStill, IsStillGiven, Still
 use Rattle.sl_trace.specs.Traces.{Setting}
 use Rattle.sl_trace.specs.declared.command.ResourceArg.{ResourceArg}
 use Rattle.sl_trace.specs.declared.effects.Spot.{Spot}
-use Rattle.sl_trace.specs.declared.input.Given.{Given}
 use Rattle.sl_words.specs.Bounds.{moments}
 use Rattle.std.proofs.Common.{ap, arith, refl, subst, sym, ◌∙◌}
-use Rattle.std.specs.Prelude.{AllPairs, IsFalse, IsTrue, bytes_eq, true, ℕ, ◌<◌, ◌≡◌}
+use Rattle.std.specs.Prelude.{ℕ, ◌<◌}
 
 -- Its session is as it must be.
 pub lease_given : (st : Setting) (now : ℕ) → IsStill st now → (l : StillLease) → IsLease st l → IsStillGiven st now l.given

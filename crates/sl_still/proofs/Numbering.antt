@@ -8,9 +8,9 @@ use Rattle.sl_trace.specs.declared.effects.Entry.{Entry}
 use Rattle.sl_trace.specs.declared.input.Answer.{Answer}
 use Rattle.sl_trace.specs.declared.input.Input.TheVariants.{Answer as Told, Exit, Line, Spawned, Wake}
 use Rattle.sl_trace.specs.declared.input.Input.{Input}
-use Rattle.std.proofs.Common.{ap, arith, inl, inr, refl, subst, suc, sym, tests, ◌∙◌}
+use Rattle.std.proofs.Common.{ap, arith, inl, inr, refl, suc, sym, tests, ◌∙◌}
 use Rattle.std.specs.List.{range_with_len}
-use Rattle.std.specs.Prelude.{Bool, Contains, List, None, Option, Some, [], false, find, fold, if◌then◌else◌, length, map, true, ℕ, ◌+◌, ◌<◌, ◌==◌, ◌∷◌, ◌≡◌, ◌⊎◌}
+use Rattle.std.specs.Prelude.{Contains, List, Some, [], false, find, fold, if◌then◌else◌, length, map, ℕ, ◌+◌, ◌<◌, ◌==◌, ◌∷◌, ◌≡◌}
 
 told_numbered : (st : Setting) (es : Trace) (e : Entry) (n : ℕ) (a : Answer) (ms : List Submitted) → Numbered st ms
     → Numbered st (map (answered_in es e n a) ms) × (length (map (answered_in es e n a) ms) ≡ length ms)

@@ -2,9 +2,9 @@
 use Rattle.sl_first.proofs.CalmRenewal.{leases_first, survey_none}
 use Rattle.sl_first.specs.FirstPath.{IsCalm}
 use Rattle.sl_leases.specs.Leases.{is_lease_call, lease_step}
-use Rattle.sl_sessions.specs.Sessions.{Renewing, Session, added, added_by, begun_in, generation_of, given_session, is_call_of, is_join_call, is_joined, is_renewal, is_survey_purpose, joining_session, leaves, leaving_in, leaving_job, recovers, removed_after, removed_in, renewed_by, renewing, renewing_after, session_numbered, sessions, shows_other, shows_other_in, with_begun}
+use Rattle.sl_sessions.specs.Sessions.{Renewing, Session, added, added_by, begun_in, generation_of, given_session, is_call_of, is_join_call, is_joined, is_renewal, is_survey_purpose, joining_session, leaves, leaving_in, leaving_job, recovers, removed_after, removed_in, renewed_by, renewing, renewing_after, session_numbered, sessions, shows_other, shows_other_in}
 use Rattle.sl_still.proofs.Lists.{found_in, list_all_of}
-use Rattle.sl_still.specs.StillPath.{IsLease, IsStill, IsStillCalm, IsStillCommand, IsStillEntry, StillLease, lease_session}
+use Rattle.sl_still.specs.StillPath.{IsLease, IsStill, IsStillCalm, IsStillCommand, StillLease, lease_session}
 use Rattle.sl_time.specs.Times.{fail}
 use Rattle.sl_trace.specs.Connections.{unregisters}
 use Rattle.sl_trace.specs.Traces.{Setting, Submitted, Trace, call_numbered, next_job, submitted}
@@ -25,7 +25,7 @@ use Rattle.std.proofs.Math.Bool.{and-false}
 use Rattle.std.proofs.lemmas.List.{append-nil}
 use Rattle.std.proofs.lemmas.Option.{slice_get-map}
 use Rattle.std.specs.List.{enumerate_from, list_all, list_any}
-use Rattle.std.specs.Prelude.{Bool, Err, List, None, Ok, Option, Result, Some, false, find, is_some, length, map, nat_le, option_and_then, option_map, slice_get, true, unwrap_or, [], ℕ, ◌&&◌, ◌*◌, ◌++◌, ◌+◌, ◌<◌, ◌==◌, ◌∷◌, ◌≡◌}
+use Rattle.std.specs.Prelude.{Bool, Err, List, None, Ok, Option, Result, Some, false, is_some, length, map, nat_le, option_and_then, option_map, slice_get, true, unwrap_or, [], ℕ, ◌&&◌, ◌*◌, ◌++◌, ◌+◌, ◌<◌, ◌==◌, ◌∷◌, ◌≡◌}
 
 -- ---- which sessions there are
 

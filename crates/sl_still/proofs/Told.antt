@@ -12,8 +12,7 @@ use Rattle.sl_first.specs.FirstPath.{Doing, heeded_call, open_kept}
 use Rattle.sl_first.specs.FirstSteps.{Works, first_aim, first_known, work_in}
 use Rattle.sl_leases.specs.Jobs.{aim_of, aim_of_command, command_numbered, command_of}
 use Rattle.sl_leases.specs.LeaseWork.{lease_next, lease_place}
-use Rattle.sl_leases.specs.Leases.{holdings_on, is_on, known, lease_calls, lease_step, lver_written, spot_of_call}
-use Rattle.sl_leases.specs.declared.lease.Aim.{Aim}
+use Rattle.sl_leases.specs.Leases.{is_on, known, lease_calls, lease_step, lver_written, spot_of_call}
 use Rattle.sl_session_law.proofs.Making.{same_answered}
 use Rattle.sl_sessions.specs.Sessions.{Session, is_present, session_numbered}
 use Rattle.sl_still.proofs.Busy.{work_there}
@@ -24,16 +23,15 @@ use Rattle.sl_still.proofs.Leases.{number_same, on_spot}
 use Rattle.sl_still.proofs.Numbering.{call_found, marked_length}
 use Rattle.sl_still.proofs.Sessions.{numbered_still}
 use Rattle.sl_still.proofs.Stillness.{nothing_after, nothing_before, quiet_calm}
-use Rattle.sl_still.specs.StillLeases.{AsksFor, For_acquire, For_release, IsWorking, LeaseStands, LeaseState, PhaseStands, StillStands, Table, lease_held}
-use Rattle.sl_still.specs.StillPath.{IsLease, IsOf, IsStill, IsStillCalm, StillLease, before_next, lease_session, lone, still_entry}
+use Rattle.sl_still.specs.StillLeases.{AsksFor, For_acquire, For_release, IsWorking, PhaseStands, StillStands, Table, lease_held}
+use Rattle.sl_still.specs.StillPath.{IsLease, IsOf, IsStill, IsStillCalm, StillLease, lease_session, lone, still_entry}
 use Rattle.sl_still.specs.StillSteps.{lease_comes, told_calls}
-use Rattle.sl_trace.specs.Traces.{Job, Setting, Submitted, Trace, answer_of, answered_in, call_numbered, holdings, is_going_on, is_refused_before_input, is_running, job_of, jobs, next_call, no_effects, same_place, submitted}
+use Rattle.sl_trace.specs.Traces.{Setting, Submitted, Trace, answer_of, answered_in, call_numbered, holdings, is_going_on, is_refused_before_input, is_running, job_of, jobs, next_call, no_effects, same_place, submitted}
 use Rattle.sl_trace.specs.declared.command.Command.{Command}
 use Rattle.sl_trace.specs.declared.command.ResourceArg.{ResourceArg}
 use Rattle.sl_trace.specs.declared.effects.Effects.{Effects}
 use Rattle.sl_trace.specs.declared.effects.Entry.{Entry}
 use Rattle.sl_trace.specs.declared.effects.Grant.{Grant}
-use Rattle.sl_trace.specs.declared.effects.Purpose.{Purpose}
 use Rattle.sl_trace.specs.declared.effects.Work.TheVariants.{ForJob}
 use Rattle.sl_trace.specs.declared.input.Answer.{Answer}
 use Rattle.sl_trace.specs.declared.input.Given.{Given}

@@ -10,20 +10,20 @@ use Rattle.sl_still.proofs.Busy.{WorkOf, open_is_work}
 use Rattle.sl_still.proofs.Leases.{lease_same, lease_self, number_same}
 use Rattle.sl_still.proofs.Lists.{filtered, found_in, list_all_from, list_all_of}
 use Rattle.sl_still.proofs.Told.{AtWork}
-use Rattle.sl_still.specs.StillLeases.{LeaseStands, LeaseState, PhaseStands, StillStands, Table, is_called_for}
+use Rattle.sl_still.specs.StillLeases.{PhaseStands, Table, is_called_for}
 use Rattle.sl_still.specs.StillPath.{IsLease, StillLease, lease_session, same_lease}
 use Rattle.sl_trace.specs.Traces.{Job, Setting, Submitted, Trace, answer_of, answered_in, is_of_job, is_running, job_of, jobs, mark, outstanding, running_jobs, submitted, waiting_call}
 use Rattle.sl_trace.specs.declared.effects.Entry.{Entry}
 use Rattle.sl_trace.specs.declared.input.Answer.{Answer}
 use Rattle.sl_trace.specs.declared.input.Input.TheVariants.{Answer as Told}
-use Rattle.sl_words.proofs.CaseLaws.{false_is_true, is_false, none_some, true_or_false}
+use Rattle.sl_words.proofs.CaseLaws.{false_is_true, is_false}
 use Rattle.sl_words.proofs.WordLaws.{and_true}
 use Rattle.sl_words.specs.Words.{some_is}
 use Rattle.std.proofs.Common.{ap, inl, inr, refl, subst, sym, ◌∙◌}
 use Rattle.std.proofs.lemmas.List.{append-nil}
 use Rattle.std.specs.List.{list_all}
 use Rattle.std.specs.Option.{option_or}
-use Rattle.std.specs.Prelude.{Bool, Contains, List, None, Option, Some, [], false, filter, find, if◌then◌else◌, is_none, is_some, map, true, ℕ, ◌&&◌, ◌++◌, ◌==◌, ◌∷◌, ◌≡◌, ◌⊎◌}
+use Rattle.std.specs.Prelude.{Bool, Contains, List, None, Option, Some, [], false, find, if◌then◌else◌, is_none, is_some, map, true, ℕ, ◌++◌, ◌==◌, ◌∷◌, ◌≡◌, ◌⊎◌}
 
 -- ---- the calls of others
 

@@ -15,12 +15,11 @@ use Rattle.sl_still.proofs.Leading.{MayCome}
 use Rattle.sl_still.proofs.Leases.{is_its_grant, spot_self}
 use Rattle.sl_still.proofs.Lone.{lease_given}
 use Rattle.sl_still.proofs.Told.{AtWork, resource_of}
-use Rattle.sl_still.proofs.ToldStands.{EndsWith, GoesOnWith, end_stands, on_stands}
+use Rattle.sl_still.proofs.ToldStands.{GoesOnWith, end_stands, on_stands}
 use Rattle.sl_still.specs.StillLeases.{LeaseState, StillStands, Table, put}
-use Rattle.sl_still.specs.StillPath.{IsLease, IsOf, IsStill, StillLease, is_still_grant, lease_grant, lone, still_entry}
-use Rattle.sl_still.specs.StillSteps.{lease_comes, lease_effects, lease_phase, of_session, told_calls}
+use Rattle.sl_still.specs.StillPath.{IsLease, IsOf, StillLease, is_still_grant, lease_grant, lone, still_entry}
+use Rattle.sl_still.specs.StillSteps.{lease_effects, lease_phase, of_session, told_calls}
 use Rattle.sl_trace.specs.Traces.{Setting, Trace, is_before_input, next_call, same_spot}
-use Rattle.sl_trace.specs.declared.command.Command.TheVariants.{Acquire}
 use Rattle.sl_trace.specs.declared.command.Command.{Command}
 use Rattle.sl_trace.specs.declared.command.ResourceArg.{ResourceArg}
 use Rattle.sl_trace.specs.declared.effects.LeaseStep.TheVariants.{Phase1Read, Phase1Write, Phase2Read, Phase2Write, TakeLeader}
@@ -36,7 +35,7 @@ use Rattle.sl_words.proofs.CaseLaws.{false_is_true}
 use Rattle.std.proofs.Common.{ap, arith, refl, subst, sym, tests, ◌∙◌}
 use Rattle.std.proofs.Math.Nat.{mul-le-mul_left}
 use Rattle.std.proofs.lemmas.Option.{slice_get_within}
-use Rattle.std.specs.Prelude.{Bool, IsTrue, [], false, length, nat_lt, true, ℕ, ◌&&◌, ◌*◌, ◌+◌, ◌<◌, ◌==◌, ◌∷◌, ◌≡◌, ◌≤◌}
+use Rattle.std.specs.Prelude.{[], false, length, nat_lt, true, ℕ, ◌*◌, ◌+◌, ◌<◌, ◌∷◌, ◌≡◌, ◌≤◌}
 
 -- Work on a lease ends by no reply that stops it before the input.
 pub lease_late : (why : Reply) → is_lease_reply why ≡ true → is_before_input why ≡ false

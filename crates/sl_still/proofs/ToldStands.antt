@@ -2,8 +2,8 @@
 use Rattle.sl_due.specs.Due.{IsHostTrace}
 use Rattle.sl_first.proofs.Entries.{list_all-append, other_reply, runs_on, unanswered_more}
 use Rattle.sl_first.proofs.Growth.{is_running_more, same_number}
-use Rattle.sl_first.specs.FirstPath.{Doing, first_effects, has_answer, one_reply, open_kept}
-use Rattle.sl_first.specs.FirstSteps.{Course, Holds, Idle, OnCourse, Phase, Works, goes_on_with, work_in}
+use Rattle.sl_first.specs.FirstPath.{Doing, first_effects, one_reply, open_kept}
+use Rattle.sl_first.specs.FirstSteps.{Course, OnCourse, Phase, Works, goes_on_with, work_in}
 use Rattle.sl_leases.specs.Leases.{holdings_on, lease_calls, lease_step}
 use Rattle.sl_session_law.proofs.Making.{contains_first, contains_more}
 use Rattle.sl_sessions.specs.Sessions.{delta_written}
@@ -17,10 +17,10 @@ use Rattle.sl_still.proofs.Lists.{list_all-filter, list_all_of}
 use Rattle.sl_still.proofs.Numbering.{marked_length}
 use Rattle.sl_still.proofs.Told.{AtWork, resource_of, told_lease, work_of}
 use Rattle.sl_still.proofs.ToldEntered.{called_by, others_told, told_busy}
-use Rattle.sl_still.specs.StillLeases.{IsWorking, LeaseStands, LeaseState, PhaseStands, StillStands, Table, is_idle, lease_held, put}
-use Rattle.sl_still.specs.StillPath.{IsLease, StillLease, is_still_call, is_still_grant, lease_session, lone, still_entry}
+use Rattle.sl_still.specs.StillLeases.{IsWorking, LeaseState, PhaseStands, StillStands, Table, is_idle, lease_held, put}
+use Rattle.sl_still.specs.StillPath.{StillLease, is_still_grant, lease_session, lone, still_entry}
 use Rattle.sl_still.specs.StillSteps.{told_calls}
-use Rattle.sl_trace.specs.Traces.{Setting, Submitted, Trace, answered_in, child_after, holdings, is_before_input, is_ended_by, is_of_job, is_refused_before_input, is_running, Job, job_of, jobs, new_call, next_call, next_job, submitted}
+use Rattle.sl_trace.specs.Traces.{Setting, Submitted, Trace, answered_in, child_after, holdings, is_before_input, is_running, Job, job_of, jobs, new_call, next_call, next_job, submitted}
 use Rattle.sl_trace.specs.declared.effects.Call.{Call}
 use Rattle.sl_trace.specs.declared.effects.Entry.{Entry}
 use Rattle.sl_trace.specs.declared.effects.Grant.{Grant}
@@ -37,7 +37,7 @@ use Rattle.sl_words.specs.Words.{some_is}
 use Rattle.std.proofs.Common.{ap, arith, refl, subst, sym, tests, ◌∙◌}
 use Rattle.std.proofs.lemmas.List.{append-nil}
 use Rattle.std.specs.List.{list_all, list_any}
-use Rattle.std.specs.Prelude.{Bool, Contains, List, None, Option, Some, [], false, filter, find, if◌then◌else◌, is_none, is_some, length, map, nat_lt, not, true, ℕ, ◌&&◌, ◌++◌, ◌+◌, ◌<◌, ◌==◌, ◌∷◌, ◌≡◌, ◌≤◌, ◌||◌}
+use Rattle.std.specs.Prelude.{Bool, Contains, List, None, Some, [], false, filter, find, if◌then◌else◌, is_none, is_some, length, map, nat_lt, true, ℕ, ◌&&◌, ◌++◌, ◌+◌, ◌<◌, ◌==◌, ◌∷◌, ◌≡◌, ◌≤◌, ◌||◌}
 
 -- ---- lists
 
