@@ -10,8 +10,8 @@ use Rattle.std.specs.Prelude.{◌≡◌}
 pub idle_works : (d : Doing) → Idle ≡ Works d → ⊥
 idle_works d h = true_is_false (ap (λ q. is_idle q) h)
 
-pub still_begins : StillBegins
-still_begins st now f s =
+pub begins_idle : StillBegins
+begins_idle st now f s =
     record {
       calm = tt;
       mine = refl;

@@ -139,8 +139,8 @@ session_stands st now f es c mine l is =
       over = over_still st now es c mine l same;
     }
 
-pub sessions_stand : SessionsStand
-sessions_stand = record { all = sessions_still; each = session_stands }
+pub each_session_stands : SessionsStand
+each_session_stands = record { all = sessions_still; each = session_stands }
 
 -- ---- what is known of a lease
 

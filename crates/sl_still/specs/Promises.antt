@@ -22,13 +22,13 @@ use Rattle.std.specs.Prelude.{IsTrue, List, map, true, [], ℕ, ◌∷◌, ◌�
 
 -- ---- sessions
 
--- On a calm trace each given session stands, and there is no other. (Not proved yet.).
+-- On a calm trace each given session stands, and there is no other.
 pub record SessionsStand : Type 0 where
   pub all : (st : Setting) (now : ℕ) → IsStill st now → (es : Trace) → sessions st es ≡ map given_session (enumerate_from 0 st.given)
   pub each : (st : Setting) (now : ℕ) → IsStill st now → (es : Trace) → IsStillCalm now es → list_all (is_still_call st) (submitted es) ≡ true →
       (l : StillLease) → IsLease st l → SessionStands st l es
 
--- What is known of a lease under which nothing is held is what its calls tell a daemon of that session alone. (Not proved yet.).
+-- What is known of a lease under which nothing is held is what its calls tell a daemon of that session alone.
 abbrev pub LeasesAreKnown : Type 0
 LeasesAreKnown =
     (st : Setting) (now : ℕ) → IsStill st now → (es : Trace) → IsStillCalm now es → list_all (is_still_call st) (submitted es) ≡ true →
@@ -37,7 +37,7 @@ LeasesAreKnown =
 
 -- ---- what is due
 
--- Before the first entry each lease is idle. (Not proved yet.).
+-- Before the first entry each lease is idle.
 abbrev pub StillBegins : Type 0
 StillBegins = (st : Setting) (now : ℕ) → IsStill st now → IsSetting st → StillStands st now idle_table []
 
@@ -47,14 +47,13 @@ pub record ShapedEntry (st : Setting) (now : ℕ) (T : Table) (es : Trace) (e : 
   pub shape : EntryShape st now T es e after
   pub stands : StillStands st now after (e ∷ es)
 
--- Each entry that does what is due and hears a line or an answer has. (Not proved yet.).
+-- Each entry that does what is due and hears a line or an answer has.
 abbrev pub EntriesAreShaped : Type 0
 EntriesAreShaped =
     (st : Setting) (now : ℕ) → IsStill st now → IsSetting st → (T : Table) (es : Trace) → StillStands st now T es → (e : Entry) → FollowsTrace st es e → IsDue st es e →
     e.reading ≡ now → IsTrue (is_line_or_answer e.input) → ShapedEntry st now T es e
 
--- Where a lease's move makes a call, all stands as it is to be at a call, and the lease's calls before it are the answered ones. (Not
--- proved yet.).
+-- Where a lease's move makes a call, all stands as it is to be at a call, and the lease's calls before it are the answered ones.
 abbrev pub MovesFindTheirPlace : Type 0
 MovesFindTheirPlace =
     (st : Setting) (now : ℕ) → IsStill st now → (T : Table) (es : Trace) → StillStands st now T es → (l : StillLease) → IsLease st l →
