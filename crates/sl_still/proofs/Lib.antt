@@ -24,3 +24,4 @@ pub mod ToldShapes
 pub mod Beginning
 pub mod Shapes
 pub mod Places
+pub mod Whole
