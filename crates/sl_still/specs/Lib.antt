@@ -1,0 +1,5 @@
+pub mod StillPath
+pub mod StillLeases
+pub mod StillSteps
+pub mod StillWhole
+pub mod Promises
