@@ -32,7 +32,7 @@ ways_begin st g r f = record { numbered = tt; newest = tt }
 number_next : (st : Setting) (es : Trace) (call : ℕ) (ms : List Submitted) → submitted es ≡ ms → st.first.call + length (submitted es) ≡ call → call ≡ st.first.call + length ms
 number_next st es call ms calls is = sym is ∙ ap (λ (xs : List Submitted). st.first.call + length xs) calls
 
-same_itself : (k : StepKind) → same_kind k k ≡ true
+pub same_itself : (k : StepKind) → same_kind k k ≡ true
 same_itself Area_read = refl
 same_itself Phase1_write = refl
 same_itself Phase1_read = refl

@@ -20,7 +20,7 @@ acquire_keeps st g r call job answered es text p (Holds q lver) n = n
 acquire_keeps st g r call job answered es text p (Works d) n = n
 
 -- The leader that a release frees is of the own block's instance.
-given_up : (st : Setting) (g : Given) (r : ResourceArg) → IsFirst st g r → IsSetting st → (call job : ℕ) (answered : List Submitted) (es : Trace) (text : List ℕ) (p q lver : ℕ) → IsNamed st g r answered
+pub given_up : (st : Setting) (g : Given) (r : ResourceArg) → IsFirst st g r → IsSetting st → (call job : ℕ) (answered : List Submitted) (es : Trace) (text : List ℕ) (p q lver : ℕ) → IsNamed st g r answered
     → NumbersStand st g r answered (Holds q lver) → (same : Bool) → NumbersStand st g r answered (release_by st g r call job answered es text p q lver same).phase
 given_up st g r f s call job answered es text p q lver named n false = n
 given_up st g r f s call job answered es text p q lver named n true =

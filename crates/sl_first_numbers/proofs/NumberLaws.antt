@@ -56,7 +56,7 @@ still_named st g r es a m answered j for named =
     ∙ named
 
 -- By the step at which the call is.
-step_keeps : (st : Setting) (g : Given) (r : ResourceArg) → IsFirst st g r → IsSetting st → (es : Trace) (answered : List Submitted) (m : Submitted) (j call : ℕ) (command : Command) (step : LeaseStep) (op : Op)
+pub step_keeps : (st : Setting) (g : Given) (r : ResourceArg) → IsFirst st g r → IsSetting st → (es : Trace) (answered : List Submitted) (m : Submitted) (j call : ℕ) (command : Command) (step : LeaseStep) (op : Op)
     → Course st g r answered command step op → m.call.op ≡ op → m.call.purpose ≡ Lease (ForJob j) step → (a : Answer) → is_answer_for st a op ≡ true → MaySubmit answered op
     → AreKept (heeded_call es g a m ∷ answered)
     → NextKeeps st g r (heeded_call es g a m ∷ answered) (lease_next (first_place st g) (first_known st g (heeded_call es g a m ∷ answered)) (first_aim command) call (lver_written m) step a)

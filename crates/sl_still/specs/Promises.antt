@@ -62,11 +62,11 @@ MovesFindTheirPlace =
 
 -- ---- numbers and ways
 
--- At first they are true of each lease. (Not proved yet.).
+-- At first they are true of each lease.
 abbrev pub LeasesBeginWhole : Type 0
 LeasesBeginWhole = (st : Setting) (now : ℕ) → IsStill st now → IsSetting st → (l : StillLease) → IsLease st l → LeaseWhole st l (idle_table l)
 
--- Each move of a lease keeps them. (Not proved yet.).
+-- Each move of a lease keeps them.
 abbrev pub MovesKeepWhole : Type 0
 MovesKeepWhole =
     (st : Setting) (now : ℕ) → IsStill st now → IsSetting st → (T : Table) (es : Trace) → StillStands st now T es → (l : StillLease) → IsLease st l →

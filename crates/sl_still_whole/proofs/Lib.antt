@@ -1,0 +1,4 @@
+pub mod Fresh
+pub mod MoveNumbers
+pub mod MoveWays
+pub mod Moves
