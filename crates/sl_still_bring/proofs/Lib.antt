@@ -1,2 +1,4 @@
 pub mod Facts
 pub mod Reasons
+pub mod Beginning
+pub mod Steps
