@@ -6,3 +6,6 @@ pub mod Falling
 pub mod Grants
 pub mod Quiet
 pub mod Verified
+pub mod Phase2
+pub mod Leaders
+pub mod Blocks
