@@ -105,7 +105,7 @@ same_taken st g ms lver h numbered =
 
 -- ---- the calls of the ballot are among the lease's
 
-pub inside : (ms : List Submitted) (m : Submitted) (rest : List Submitted) (x : Submitted) → ms ≡ m ∷ rest → Contains rest x → Contains ms x
+inside : (ms : List Submitted) (m : Submitted) (rest : List Submitted) (x : Submitted) → ms ≡ m ∷ rest → Contains rest x → Contains ms x
 inside ms m rest x is there = subst (λ xs. Contains xs x) (sym is) (inside_more m rest x there)
 
 pub newest_inside : (ms : List Submitted) (m : Submitted) (rest : List Submitted) → ms ≡ m ∷ rest → Contains ms m

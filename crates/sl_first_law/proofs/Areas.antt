@@ -53,7 +53,7 @@ pub inside_first : {A : Type 0} (xs : List A) (x : A) → Contains (x ∷ xs) x
 inside_first xs x = (zero, omega arith, refl)
 
 -- A read that verified the name.
-abbrev pub Verifies : Layout → List ℕ → List ℕ → Submitted → Purpose → Option Leader → Type 0
+abbrev Verifies : Layout → List ℕ → List ℕ → Submitted → Purpose → Option Leader → Type 0
 Verifies g lockspace name m p o = (l : Leader) × (o ≡ Some l) × (is_leader_of g lockspace name l ≡ true) × (is_leader_read p ≡ true)
 
 named_by_leader : (g : Layout) (lockspace name sought : List ℕ) (m : Submitted) (p : Purpose) (o : Option Leader) → is_leader_read p ≡ true
@@ -91,7 +91,7 @@ abbrev pub leader_given : Layout → Submitted → Option Leader
 leader_given g m = option_and_then (leader_of g) (gave m)
 
 -- The leaders read among these calls.
-abbrev pub read_among : Setting → Spot → List Submitted → List Leader
+abbrev read_among : Setting → Spot → List Submitted → List Leader
 read_among st at ms = filter_map (leader_given st.layout) (filter (λ c. is_leader_read c.call.purpose && is_on st.layout at c.call) ms)
 
 abbrev pub Read_among : Setting → Given → Spot → List ℕ → List Submitted → Type 0

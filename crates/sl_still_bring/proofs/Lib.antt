@@ -9,3 +9,5 @@ pub mod Verified
 pub mod Phase2
 pub mod Leaders
 pub mod Blocks
+pub mod Moves
+pub mod MoveLaws

@@ -1,5 +1,4 @@
 -- A lease's phase 2 is lawful where it is written and read.
-use Rattle.sl_first.specs.FirstSteps.{first_self}
 use Rattle.sl_first_ballot.proofs.Newest.{block_is, last_write_of}
 use Rattle.sl_first_ballot.proofs.Phase2.{block_same, clear_inside}
 use Rattle.sl_first_ballot.proofs.Stages.{asked2_last, clear_last}

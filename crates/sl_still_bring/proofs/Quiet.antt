@@ -11,7 +11,7 @@ use Rattle.sl_still.specs.StillPath.{StillLease, is_still_call, lease_session}
 use Rattle.sl_trace.specs.Traces.{Answered, Setting, Submitted, Trace, is_write, submitted}
 use Rattle.sl_words.proofs.CaseLaws.{false_is_true}
 use Rattle.sl_words.proofs.WordLaws.{and_true}
-use Rattle.std.proofs.Common.{ap, refl, subst, sym, ◌∙◌}
+use Rattle.std.proofs.Common.{ap, refl, ◌∙◌}
 use Rattle.std.specs.List.{list_all}
 use Rattle.std.specs.Prelude.{Contains, List, None, Option, Some, is_none, is_some, true, [], ◌&&◌, ◌∷◌, ◌≡◌}
 
