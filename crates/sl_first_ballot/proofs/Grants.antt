@@ -32,7 +32,7 @@ use Rattle.std.specs.Prelude.{Bool, Contains, IsTrue, List, None, Option, Some, 
 
 -- ---- numbers rise
 
-below : (st : Setting) (ms : List Submitted) → Numbered st ms → (d : Submitted) → Contains ms d → d.call.number < st.first.call + length ms
+pub below : (st : Setting) (ms : List Submitted) → Numbered st ms → (d : Submitted) → Contains ms d → d.call.number < st.first.call + length ms
 below st [] h d there = absurd (contains_none d there)
 below st (m ∷ ms) h d there =
     elim (contains_cases m ms d there) [
@@ -41,10 +41,10 @@ below st (m ∷ ms) h d there =
     ]
 
 -- Each block written from this number on has this mbal.
-abbrev SameFrom : ℕ → ℕ → List Submitted → Type 0
+abbrev pub SameFrom : ℕ → ℕ → List Submitted → Type 0
 SameFrom n mbal ms = (d : Submitted) (b : Block) → Contains ms d → block_written d ≡ Some b → n ≤ d.call.number → b.mbal ≡ mbal
 
-same_more : (n mbal : ℕ) (m : Submitted) (ms : List Submitted) → ((b : Block) → block_written m ≡ Some b → b.mbal ≡ mbal) → SameFrom n mbal ms → SameFrom n mbal (m ∷ ms)
+pub same_more : (n mbal : ℕ) (m : Submitted) (ms : List Submitted) → ((b : Block) → block_written m ≡ Some b → b.mbal ≡ mbal) → SameFrom n mbal ms → SameFrom n mbal (m ∷ ms)
 same_more n mbal m ms here rest d b there writes le =
     elim (contains_cases m ms d there) [
       | inl is ↦ here b (subst (λ x. block_written x ≡ Some b) (sym is) writes)
@@ -54,10 +54,10 @@ same_more n mbal m ms here rest d b there writes le =
 same_below : (st : Setting) (n mbal : ℕ) (ms : List Submitted) → Numbered st ms → n ≡ st.first.call + length ms → SameFrom n mbal ms
 same_below st n mbal ms h is d b there writes le = (let lt : d.call.number < st.first.call + length ms = below st ms h d there in absurd (omega (arith, lt, is, le)))
 
-no_block : (m : Submitted) (mbal : ℕ) → block_written m ≡ None → (b : Block) → block_written m ≡ Some b → b.mbal ≡ mbal
+pub no_block : (m : Submitted) (mbal : ℕ) → block_written m ≡ None → (b : Block) → block_written m ≡ Some b → b.mbal ≡ mbal
 no_block m mbal none b writes = absurd (no_value b (block_written m) writes none)
 
-one_block : (m : Submitted) (own : Block) (mbal : ℕ) → block_written m ≡ Some own → own.mbal ≡ mbal → (b : Block) → block_written m ≡ Some b → b.mbal ≡ mbal
+pub one_block : (m : Submitted) (own : Block) (mbal : ℕ) → block_written m ≡ Some own → own.mbal ≡ mbal → (b : Block) → block_written m ≡ Some b → b.mbal ≡ mbal
 one_block m own mbal wrote is b writes = ap (λ (x : Block). x.mbal) (sym (block_same m own b wrote writes)) ∙ is
 
 numbered_rest : (st : Setting) (ms : List Submitted) (m : Submitted) (rest : List Submitted) → ms ≡ m ∷ rest → Numbered st ms → (m.call.number ≡ st.first.call + length rest) × Numbered st rest
@@ -93,7 +93,7 @@ same_won st g ms own blocks h numbered =
     (same2 st g h.read h.rest own blocks h.asked n.1))
 
 -- The read of phase 1 that the grant goes by.
-abbrev cleared_by : (st : Setting) (g : Given) (ms : List Submitted) (lver : ℕ) → (h : HasLeader st g ms lver) → IsClear st g h.takes.won.asked.rest h.own h.blocks
+abbrev pub cleared_by : (st : Setting) (g : Given) (ms : List Submitted) (lver : ℕ) → (h : HasLeader st g ms lver) → IsClear st g h.takes.won.asked.rest h.own h.blocks
 cleared_by st g ms lver h = h.takes.won.asked.wrote.cleared
 
 same_taken : (st : Setting) (g : Given) (ms : List Submitted) (lver : ℕ) → (h : HasLeader st g ms lver) → Numbered st ms → SameFrom (cleared_by st g ms lver h).asked.write.call.number h.own.mbal ms
@@ -108,7 +108,7 @@ same_taken st g ms lver h numbered =
 inside : (ms : List Submitted) (m : Submitted) (rest : List Submitted) (x : Submitted) → ms ≡ m ∷ rest → Contains rest x → Contains ms x
 inside ms m rest x is there = subst (λ xs. Contains xs x) (sym is) (inside_more m rest x there)
 
-newest_inside : (ms : List Submitted) (m : Submitted) (rest : List Submitted) → ms ≡ m ∷ rest → Contains ms m
+pub newest_inside : (ms : List Submitted) (m : Submitted) (rest : List Submitted) → ms ≡ m ∷ rest → Contains ms m
 newest_inside ms m rest is = subst (λ xs. Contains xs m) (sym is) (inside_first rest m)
 
 -- From phase 1's read on, inside all of them.
@@ -118,12 +118,12 @@ since_clear st g ms lver h x there =
     (inside h.rest h.takes.won.read h.takes.won.rest x h.takes.won.before
     (inside h.takes.won.rest h.takes.won.asked.write h.takes.won.asked.rest x h.takes.won.asked.before there))
 
-read_inside : (st : Setting) (g : Given) (ms : List Submitted) (lver : ℕ) → (h : HasLeader st g ms lver) → Contains ms (cleared_by st g ms lver h).read
+pub read_inside : (st : Setting) (g : Given) (ms : List Submitted) (lver : ℕ) → (h : HasLeader st g ms lver) → Contains ms (cleared_by st g ms lver h).read
 read_inside st g ms lver h =
     let c = cleared_by st g ms lver h in
     since_clear st g ms lver h c.read (newest_inside h.takes.won.asked.rest c.read c.rest c.before)
 
-write_inside : (st : Setting) (g : Given) (ms : List Submitted) (lver : ℕ) → (h : HasLeader st g ms lver) → Contains ms (cleared_by st g ms lver h).asked.write
+pub write_inside : (st : Setting) (g : Given) (ms : List Submitted) (lver : ℕ) → (h : HasLeader st g ms lver) → Contains ms (cleared_by st g ms lver h).asked.write
 write_inside st g ms lver h =
     let c = cleared_by st g ms lver h in
     since_clear st g ms lver h c.asked.write
@@ -134,7 +134,7 @@ one_of_three : (a b c : Bool) → b ≡ true → (a || (b || c)) ≡ true
 one_of_three true b c is = refl
 one_of_three false b c is = ap (λ t. t || c) is
 
-reads_blocks : (m : Submitted) → is_at Phase1_read m ≡ true → IsTrue (is_block_read m)
+pub reads_blocks : (m : Submitted) → is_at Phase1_read m ≡ true → IsTrue (is_block_read m)
 reads_blocks m is = one_of_three (is_area_read m) (is_at Phase1_read m) (is_at Phase2_read m) is
 
 -- ---- the grant

@@ -29,7 +29,7 @@ use Rattle.std.specs.Prelude.{Contains, IsTrue, List, Some, [], false, filter, n
 
 -- ---- what stands at a call
 
-self_same : (g : Given) → same_owner (first_self g) (first_self g) ≡ true
+pub self_same : (g : Given) → same_owner (first_self g) (first_self g) ≡ true
 self_same g = rw (same_number g.id) refl
 
 own_name : (st : Setting) (g : Given) (r : ResourceArg) (t : Trace) → AtCall st g r t → IsTrue (same_owner (first_self g) (me t (first_session g)))

@@ -32,7 +32,7 @@ me_first st g r t mine =
 pub block_same : (c : Submitted) (a b : Block) → block_written c ≡ Some a → block_written c ≡ Some b → a ≡ b
 block_same c a b is was = some_value a b (sym is ∙ was)
 
-clear_inside : (st : Setting) (g : Given) (ms : List Submitted) (own : Block) (blocks : List (Option Block)) → (h : IsClear st g ms own blocks) → Contains ms h.read
+pub clear_inside : (st : Setting) (g : Given) (ms : List Submitted) (own : Block) (blocks : List (Option Block)) → (h : IsClear st g ms own blocks) → Contains ms h.read
 clear_inside st g ms own blocks h = subst (λ xs. Contains xs h.read) (sym h.before) (inside_first h.rest h.read)
 
 write_lawful : (st : Setting) (g : Given) (r : ResourceArg) (t : Trace) → AtCall st g r t → (ms : List Submitted) → submitted t ≡ ms → (c : Submitted) (own : Block) (blocks : List (Option Block))

@@ -63,7 +63,7 @@ named_by_leader g lockspace name sought m p (Some l) reads h =
     let c = choose_some (is_leader_of g lockspace sought l) sought name h in
     (l, refl, subst (λ n. is_leader_of g lockspace n l ≡ true) c.1 c.0, reads)
 
-verifies : (g : Layout) (lockspace name : List ℕ) (m : Submitted) (p : Purpose) (o : Option Leader)
+pub verifies : (g : Layout) (lockspace name : List ℕ) (m : Submitted) (p : Purpose) (o : Option Leader)
     → elim (name_sought p) as (λ x. Option (List ℕ)) [ None ↦ None | Some n ↦ elim o as (λ x. Option (List ℕ)) [ None ↦ None | Some l ↦ choose (is_leader_of g lockspace n l) n ] ] ≡ Some name
     → Verifies g lockspace name m p o
 verifies g lockspace name m (Lease work (ReadArea n)) o h = named_by_leader g lockspace name n m (Lease work (ReadArea n)) o refl h
@@ -87,29 +87,29 @@ verifies g lockspace name m (ValueWrite j) o h = absurd (none_some name h)
 verifies g lockspace name m (ValueRead j) o h = absurd (none_some name h)
 
 -- The leader that a call read.
-abbrev leader_given : Layout → Submitted → Option Leader
+abbrev pub leader_given : Layout → Submitted → Option Leader
 leader_given g m = option_and_then (leader_of g) (gave m)
 
 -- The leaders read among these calls.
 abbrev read_among : Setting → Spot → List Submitted → List Leader
 read_among st at ms = filter_map (leader_given st.layout) (filter (λ c. is_leader_read c.call.purpose && is_on st.layout at c.call) ms)
 
-abbrev Read_among : Setting → Given → Spot → List ℕ → List Submitted → Type 0
+abbrev pub Read_among : Setting → Given → Spot → List ℕ → List Submitted → Type 0
 Read_among st g at name ms = (l : Leader) × Contains (read_among st at ms) l × (is_leader_of st.layout g.lockspace name l ≡ true)
 
 -- A call that is passed over leaves them.
-passed_over : (st : Setting) (at : Spot) (m : Submitted) (ms : List Submitted) (q : Bool) (o : Option Leader) (l : Leader)
+pub passed_over : (st : Setting) (at : Spot) (m : Submitted) (ms : List Submitted) (q : Bool) (o : Option Leader) (l : Leader)
     → (is_leader_read m.call.purpose && is_on st.layout at m.call) ≡ q → leader_given st.layout m ≡ o → Contains (read_among st at ms) l → Contains (read_among st at (m ∷ ms)) l
 passed_over st at m ms false o l is given there = rw is there
 passed_over st at m ms true None l is given there = rw (is, given) there
 passed_over st at m ms true (Some k) l is given there = rw (is, given) (inside_more k (read_among st at ms) l there)
 
 -- A call that reads the leader gives it.
-gives_leader : (st : Setting) (at : Spot) (m : Submitted) (ms : List Submitted) (l : Leader)
+pub gives_leader : (st : Setting) (at : Spot) (m : Submitted) (ms : List Submitted) (l : Leader)
     → (is_leader_read m.call.purpose && is_on st.layout at m.call) ≡ true → leader_given st.layout m ≡ Some l → Contains (read_among st at (m ∷ ms)) l
 gives_leader st at m ms l is given = rw (is, given) (inside_first (read_among st at ms) l)
 
-not_a_name : (name : List ℕ) → IsTrue (is_name name) → [] ≡ name → ⊥
+pub not_a_name : (name : List ℕ) → IsTrue (is_name name) → [] ≡ name → ⊥
 not_a_name name h is = false_is_true (subst (λ n. IsTrue (is_name n)) (sym is) h)
 
 has_read_at : (st : Setting) (g : Given) (r : ResourceArg) (m : Submitted) (ms : List Submitted) (o : Option (List ℕ)) → verified_by st.layout g.lockspace m ≡ o

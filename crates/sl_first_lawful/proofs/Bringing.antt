@@ -70,7 +70,7 @@ leader_brings st g r answered t d command step op (Taking p k named) is before w
 leader_brings st g r answered t d command step op (Freeing p k named) is before w l writes = w.leader (subst (λ ms. IsNamed st g r ms) (sym before) named) l writes
 
 -- The step of phase 2's read is that read.
-phase2_step : (step : LeaseStep) → same_kind (kind_of_step step) Phase2_read ≡ true → step ≡ Phase2Read
+pub phase2_step : (step : LeaseStep) → same_kind (kind_of_step step) Phase2_read ≡ true → step ≡ Phase2Read
 phase2_step (ReadArea name) h = absurd (false_is_true h)
 phase2_step ReadBeforeFree h = absurd (false_is_true h)
 phase2_step Phase1Write h = absurd (false_is_true h)

@@ -35,7 +35,7 @@ pub self_at : (st : Setting) (g : Given) (r : ResourceArg) (t : Trace) → AtCal
 self_at st g r t h = ap (λ n. record { id = g.id; generation = n }) (generation_first st g r t h.mine)
 
 -- Whom the session counts as over now, it has counted so.
-counted_now : (st : Setting) (t : Trace) (s : Session) (j n : ℕ) → counts_over st t s j n ≡ true → counted_over st t s j n ≡ true
+pub counted_now : (st : Setting) (t : Trace) (s : Session) (j n : ℕ) → counts_over st t s j n ≡ true → counted_over st t s j n ≡ true
 counted_now st [] s j n h = h
 counted_now st (e ∷ es) s j n h = ap (λ b. elim b as (λ x. Bool) [ true ↦ true | false ↦ counted_over st es s j n ]) h
 
@@ -44,22 +44,22 @@ over_at st g r t h j n is = counted_now st t (first_session g) j n (ap (λ (f : 
 
 -- ---- words on tests
 
-held_over : (held over : Bool) → elim held as (λ x. Bool) [ false ↦ false | true ↦ over ] ≡ true → over ≡ true
+pub held_over : (held over : Bool) → elim held as (λ x. Bool) [ false ↦ false | true ↦ over ] ≡ true → over ≡ true
 held_over true over h = h
 held_over false over h = absurd (false_is_true h)
 
-not_true : (b : Bool) → not b ≡ true → b ≡ false
+pub not_true : (b : Bool) → not b ≡ true → b ≡ false
 not_true true h = absurd (false_is_true h)
 not_true false h = refl
 
-is_kept : (b rest : Bool) → (not b || rest) ≡ false → (b ≡ true) × (rest ≡ false)
+pub is_kept : (b rest : Bool) → (not b || rest) ≡ false → (b ≡ true) × (rest ≡ false)
 is_kept true rest h = (refl, h)
 is_kept false rest h = absurd (true_is_false h)
 
-freed_at : (freed lver : ℕ) → (nat_lt 0 freed && nat_le lver freed) ≡ true → (0 < freed) × (lver ≤ freed)
+pub freed_at : (freed lver : ℕ) → (nat_lt 0 freed && nat_le lver freed) ≡ true → (0 < freed) × (lver ≤ freed)
 freed_at freed lver h = (grind (arith, tests), grind (arith, tests))
 
-unfreed : (freed lver : ℕ) → (nat_lt 0 freed && nat_le lver freed) ≡ false → max lver freed ≡ lver
+pub unfreed : (freed lver : ℕ) → (nat_lt 0 freed && nat_le lver freed) ≡ false → max lver freed ≡ lver
 unfreed freed lver h = grind (arith, tests)
 
 apart : (freed lver n : ℕ) → 1 ≤ lver → (nat_lt 0 freed && nat_le lver freed) ≡ false → n ≡ max lver freed → freed < n

@@ -67,7 +67,7 @@ all_whole [] h = refl
 all_whole (o ∷ xs) h = whole_at o xs (not (is_none o)) refl h (all_whole xs)
 
 -- No block is torn.
-none_torn : (read : List (Option Block)) → position is_none read ≡ None → list_all is_some read ≡ true
+pub none_torn : (read : List (Option Block)) → position is_none read ≡ None → list_all is_some read ≡ true
 none_torn read h = all_whole read (cond_none (nat_lt (prefix_len (λ o. not (is_none o)) read) (length read)) (prefix_len (λ o. not (is_none o)) read) h)
 
 -- What the read of the area shows.

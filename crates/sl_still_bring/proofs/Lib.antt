@@ -1,0 +1,13 @@
+pub mod Facts
+pub mod Reasons
+pub mod Beginning
+pub mod Steps
+pub mod Falling
+pub mod Grants
+pub mod Quiet
+pub mod Verified
+pub mod Phase2
+pub mod Leaders
+pub mod Blocks
+pub mod Moves
+pub mod MoveLaws
