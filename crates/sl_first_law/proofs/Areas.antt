@@ -53,7 +53,7 @@ pub inside_first : {A : Type 0} (xs : List A) (x : A) → Contains (x ∷ xs) x
 inside_first xs x = (zero, omega arith, refl)
 
 -- A read that verified the name.
-abbrev Verifies : Layout → List ℕ → List ℕ → Submitted → Purpose → Option Leader → Type 0
+abbrev pub Verifies : Layout → List ℕ → List ℕ → Submitted → Purpose → Option Leader → Type 0
 Verifies g lockspace name m p o = (l : Leader) × (o ≡ Some l) × (is_leader_of g lockspace name l ≡ true) × (is_leader_read p ≡ true)
 
 named_by_leader : (g : Layout) (lockspace name sought : List ℕ) (m : Submitted) (p : Purpose) (o : Option Leader) → is_leader_read p ≡ true
@@ -63,7 +63,7 @@ named_by_leader g lockspace name sought m p (Some l) reads h =
     let c = choose_some (is_leader_of g lockspace sought l) sought name h in
     (l, refl, subst (λ n. is_leader_of g lockspace n l ≡ true) c.1 c.0, reads)
 
-verifies : (g : Layout) (lockspace name : List ℕ) (m : Submitted) (p : Purpose) (o : Option Leader)
+pub verifies : (g : Layout) (lockspace name : List ℕ) (m : Submitted) (p : Purpose) (o : Option Leader)
     → elim (name_sought p) as (λ x. Option (List ℕ)) [ None ↦ None | Some n ↦ elim o as (λ x. Option (List ℕ)) [ None ↦ None | Some l ↦ choose (is_leader_of g lockspace n l) n ] ] ≡ Some name
     → Verifies g lockspace name m p o
 verifies g lockspace name m (Lease work (ReadArea n)) o h = named_by_leader g lockspace name n m (Lease work (ReadArea n)) o refl h
@@ -87,7 +87,7 @@ verifies g lockspace name m (ValueWrite j) o h = absurd (none_some name h)
 verifies g lockspace name m (ValueRead j) o h = absurd (none_some name h)
 
 -- The leader that a call read.
-abbrev leader_given : Layout → Submitted → Option Leader
+abbrev pub leader_given : Layout → Submitted → Option Leader
 leader_given g m = option_and_then (leader_of g) (gave m)
 
 -- The leaders read among these calls.
@@ -109,7 +109,7 @@ gives_leader : (st : Setting) (at : Spot) (m : Submitted) (ms : List Submitted) 
     → (is_leader_read m.call.purpose && is_on st.layout at m.call) ≡ true → leader_given st.layout m ≡ Some l → Contains (read_among st at (m ∷ ms)) l
 gives_leader st at m ms l is given = rw (is, given) (inside_first (read_among st at ms) l)
 
-not_a_name : (name : List ℕ) → IsTrue (is_name name) → [] ≡ name → ⊥
+pub not_a_name : (name : List ℕ) → IsTrue (is_name name) → [] ≡ name → ⊥
 not_a_name name h is = false_is_true (subst (λ n. IsTrue (is_name n)) (sym is) h)
 
 has_read_at : (st : Setting) (g : Given) (r : ResourceArg) (m : Submitted) (ms : List Submitted) (o : Option (List ℕ)) → verified_by st.layout g.lockspace m ≡ o
