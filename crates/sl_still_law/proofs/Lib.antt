@@ -4,3 +4,6 @@ pub mod Recovering
 pub mod Entries
 pub mod Verified
 pub mod LeaseCalls
+pub mod CallPlaces
+pub mod CallShapes
+pub mod GrantShapes
