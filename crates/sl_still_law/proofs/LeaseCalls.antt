@@ -1,5 +1,4 @@
 -- The one call of a lease's move keeps all laws of a call, by what the move brings.
-use Rattle.sl_first.proofs.Spots.{is_even, spot_first}
 use Rattle.sl_first.specs.FirstPath.{has_answer}
 use Rattle.sl_first_law.specs.Keeping.{PlacedCall}
 use Rattle.sl_first_lawful.specs.Bringing.{LawfulBlockAt}
@@ -15,6 +14,7 @@ use Rattle.sl_session_law.proofs.Naming.{kept}
 use Rattle.sl_sessions.specs.Sessions.{Session, calls_of, delta_written, is_call_of, is_delta_purpose, is_survey_purpose, open_calls_of}
 use Rattle.sl_still.proofs.Calls.{call_parts}
 use Rattle.sl_still.proofs.Known.{sessions_stand}
+use Rattle.sl_still.proofs.Leases.{on_spot}
 use Rattle.sl_still.proofs.Lists.{filtered, list_all_of}
 use Rattle.sl_still_law.proofs.GivenSessions.{may_call, not_leaving, not_recovering}
 use Rattle.sl_still_law.proofs.Verified.{has_verified}
@@ -31,7 +31,7 @@ use Rattle.sl_words.proofs.CaseLaws.{false_is_true, none_some}
 use Rattle.sl_words.proofs.WordLaws.{and_true}
 use Rattle.std.proofs.Common.{ap, refl, subst, sym, ◌∙◌}
 use Rattle.std.specs.List.{list_all}
-use Rattle.std.specs.Prelude.{Bool, Contains, IsTrue, List, None, Option, Some, is_none, is_some, nat_lt, not, true, [], ℕ, ◌%◌, ◌&&◌, ◌==◌, ◌^◌, ◌∷◌, ◌≡◌}
+use Rattle.std.specs.Prelude.{Bool, Contains, IsTrue, List, None, Option, Some, is_none, is_some, not, true, [], ℕ, ◌&&◌, ◌∷◌, ◌≡◌}
 
 -- The call: for the lease, on its area, of no other record.
 pub record LeaseCall (st : Setting) (l : StillLease) (job : ℕ) (step : LeaseStep) (c : Submitted) : Type 0 where
@@ -39,18 +39,6 @@ pub record LeaseCall (st : Setting) (l : StillLease) (job : ℕ) (step : LeaseSt
   pub on : is_on st.layout l.at c.call ≡ true
   pub bare : delta_written c ≡ None
   pub valueless : value_written c ≡ None
-
--- ---- its area
-
--- A call on the lease's area has that as its spot: which session makes it plays no part.
-pub spot_here : (st : Setting) (l : StillLease) → IsLease st l → (r : ResourceArg) → IsOf l r → (c : Submitted) → is_on st.layout l.at c.call ≡ true → delta_written c ≡ None
-    → l.at ≡ spot_of_call st.layout c
-spot_here st l is r of c on bare =
-    let d : Submitted = record c { call = record c.call { session = 0 } } in
-    let even : r.offset % st.layout.area ≡ 0 = is_even r.offset st.layout.area (nat_lt r.offset (10 ^ 12)) (ap (λ (at : Spot). at.base % st.layout.area == 0 && nat_lt at.base (10 ^ 12)) of.there ∙ is.based) in
-    let here : is_on st.layout (spot_of r) c.call ≡ true = ap (λ at. is_on st.layout at c.call) of.there ∙ on in
-    sym of.there
-    ∙ sym (spot_first st r d even (ap (λ b. b && is_none (delta_written c)) here ∙ ap (λ (o : Option _). is_none o) bare))
 
 -- ---- nothing else is at work there
 
@@ -104,7 +92,7 @@ pub call_lawful : (st : Setting) (now : ℕ) → IsStill st now → (l : StillLe
 call_lawful st now f l is r of answered t h job step c one at brings =
     let s : Session = lease_session l in
     let stands : SessionStands st l t = sessions_stand.each st now f t h.calm h.mine l is in
-    let spot : l.at ≡ spot_of_call st.layout c = spot_here st l is r of c one.on one.bare in
+    let spot : l.at ≡ spot_of_call st.layout c = sym (on_spot st l.at c is.based one.on) in
     let work : IsTrue (is_area_work c.call.purpose) = subst (λ p. IsTrue (is_area_work p)) (sym one.for_job) refl in
     record {
       alive = may_call st l t stands h.mine;

@@ -7,3 +7,6 @@ pub mod LeaseCalls
 pub mod CallPlaces
 pub mod CallShapes
 pub mod GrantShapes
+pub mod Moves
+pub mod Lines
+pub mod Keeping
