@@ -13,6 +13,7 @@ use Rattle.sl_sessions.specs.Sessions.{Session, calls_of, is_call_of, session_nu
 use Rattle.sl_still.proofs.Calls.{call_parts}
 use Rattle.sl_still.proofs.Known.{sessions_stand}
 use Rattle.sl_still.proofs.Lists.{filtered, list_all_of}
+use Rattle.sl_still_law.proofs.CallTraces.{calling_entry}
 use Rattle.sl_still_law.proofs.LeaseCalls.{LeaseCall, call_lawful}
 use Rattle.sl_still.specs.StillLeases.{LeaseStands, StillStands, Table}
 use Rattle.sl_still.specs.StillPath.{IsLease, IsStill, StillLease, is_still_call, lease_session, lone, still_entry}
@@ -68,10 +69,6 @@ call_there st now l r d answered t mine h none =
       bare = (call_parts st d.call (list_all_of (is_still_call st) (submitted t) d.call mine made.0)).bare;
       valueless = none;
     }
-
--- The entry in which it is made.
-abbrev pub calling_entry : ℕ → Input → List End → Call → Entry
-calling_entry now i ends c = still_entry now i (first_effects ends [] [] (c ∷ []))
 
 pub call_shape : (st : Setting) (now : ℕ) → IsStill st now → (U : Table) (es : Trace) (l : StillLease) → IsLease st l → (r : ResourceArg) (d : Doing) (answered : List Submitted) (i : Input) (ends : List End) (c : Call)
     → StillStands st now U (calling_entry now i ends c ∷ es)

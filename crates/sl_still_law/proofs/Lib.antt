@@ -5,6 +5,7 @@ pub mod Entries
 pub mod Verified
 pub mod LeaseCalls
 pub mod CallPlaces
+pub mod CallTraces
 pub mod CallShapes
 pub mod GrantShapes
 pub mod Moves

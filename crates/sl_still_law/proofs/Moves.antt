@@ -15,9 +15,9 @@ use Rattle.sl_still.proofs.Leases.{lease_self}
 use Rattle.sl_still.proofs.Lone.{lease_given}
 use Rattle.sl_still_law.proofs.CallPlaces.{own_placed, taken_placed}
 use Rattle.sl_still_law.proofs.CallShapes.{call_shape, reply_shape}
+use Rattle.sl_still_law.proofs.CallTraces.{at_call, calling_entry}
 use Rattle.sl_still_law.proofs.Entries.{entry_keeps}
 use Rattle.sl_still_law.proofs.GrantShapes.{grant_shape}
-use Rattle.sl_still.specs.Promises.{MovesFindTheirPlace}
 use Rattle.sl_still.specs.StillLeases.{LeaseStands, LeaseState, StillStands, Table, put}
 use Rattle.sl_still.specs.StillPath.{IsLease, IsStill, StillLease, lone, still_entry}
 use Rattle.sl_still.specs.StillSteps.{Begins, Gives_back, Goes_on, LeaseMove, area_read, free_write, lease_effects, lease_phase, of_session, told_calls}
@@ -43,18 +43,17 @@ pub record Moved (st : Setting) (now : ℕ) (U : Table) (es : Trace) (l : StillL
   pub after : StillStands st now U (still_entry now i fx ∷ es)
   pub here : U l ≡ y
   pub stands : LeaseStands st now l y (still_entry now i fx ∷ es)
-  pub place : (d : Doing) → y.phase ≡ Works d → AtLeaseCall st now l y.answered (cut_at 0 (still_entry now i fx) ∷ es)
   pub brings : LeaseBrings st now l y (still_entry now i fx ∷ es)
 
 -- The lease goes on with one call.
 works_on : (st : Setting) (now : ℕ) (U : Table) (es : Trace) (l : StillLease) (r : ResourceArg) (d : Doing) (answered : List Submitted) (i : Input) (ends : List End) (c : Call)
-    → Moved st now U es l i (record { ends = ends; signals = []; moves = []; grants = []; starts = []; replies = []; calls = c ∷ [] }) (record { resource = r; phase = Works d; answered = answered })
+    → Moved st now U es l i (first_effects ends [] [] (c ∷ [])) (record { resource = r; phase = Works d; answered = answered })
     → c.session ≡ l.number → d.call ≡ new_call (length es) l.given.renewed c → value_written d.call ≡ None → PlacedCall (lone st l.given) l.given r answered d.step d.call
-    → EntryIsLawful st es (still_entry now i (first_effects ends [] [] (c ∷ [])))
+    → EntryIsLawful st es (calling_entry now i ends c)
 works_on st now U es l r d answered i ends c m own made none placed =
-    let at : AtLeaseCall st now l answered (cut_at 0 (still_entry now i (first_effects ends [] [] (c ∷ []))) ∷ es) = m.place d refl in
-    call_shape st now m.still U es l m.is r d answered i ends c m.after m.stands at (m.brings.call d refl _ at) own
-    (made ∙ ap (λ n. new_call (length es) n c) (lease_given st now m.still l m.is).renewed) none placed
+    let made_now : d.call ≡ new_call (length es) now c = made ∙ ap (λ n. new_call (length es) n c) (lease_given st now m.still l m.is).renewed in
+    let at : AtLeaseCall st now l answered (cut_at 0 (calling_entry now i ends c) ∷ es) = at_call st now U es l r d answered i ends c m.after m.stands made_now in
+    call_shape st now m.still U es l m.is r d answered i ends c m.after m.stands at (m.brings.call d refl _ at) own made_now none placed
 
 -- ---- answers
 
@@ -105,10 +104,10 @@ move_keeps st now U es l x i fx y was (Goes_on r d answered a next fits comes li
 put_here : (l : StillLease) (y : LeaseState) (T : Table) → put l y T l ≡ y
 put_here l y T = rw (put, lease_self l) refl
 
-pub moves_keep_laws : MovesFindTheirPlace → (st : Setting) (now : ℕ) → IsStill st now → (T : Table) (es : Trace) → StillStands st now T es → Lawful st es → (l : StillLease) → IsLease st l
+pub moves_keep_laws : (st : Setting) (now : ℕ) → IsStill st now → (T : Table) (es : Trace) → StillStands st now T es → Lawful st es → (l : StillLease) → IsLease st l
     → (i : Input) (fx : Effects) (y : LeaseState) → LeaseMove st l es (T l) i fx y → StillStands st now (put l y T) (still_entry now i fx ∷ es)
     → LeaseBrings st now l y (still_entry now i fx ∷ es) → Lawful st (still_entry now i fx ∷ es)
-moves_keep_laws places_given st now f T es h before l is i fx y move after brings =
+moves_keep_laws st now f T es h before l is i fx y move after brings =
     entry_keeps st now f (put l y T) es (still_entry now i fx) after before
     (move_keeps st now (put l y T) es l (T l) i fx y (h.leases l is) move
     (record {
@@ -117,6 +116,5 @@ moves_keep_laws places_given st now f T es h before l is i fx y move after bring
       after = after;
       here = put_here l y T;
       stands = subst (λ x. LeaseStands st now l x (still_entry now i fx ∷ es)) (put_here l y T) (after.leases l is);
-      place = places_given st now f T es h l is i fx y move after;
       brings = brings;
     }))
