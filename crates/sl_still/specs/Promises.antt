@@ -53,8 +53,7 @@ EntriesAreShaped =
     (st : Setting) (now : ℕ) → IsStill st now → IsSetting st → (T : Table) (es : Trace) → StillStands st now T es → (e : Entry) → FollowsTrace st es e → IsDue st es e →
     e.reading ≡ now → IsTrue (is_line_or_answer e.input) → ShapedEntry st now T es e
 
--- Where a lease's move makes a call, all stands as it is to be at a call, and the lease's calls before it are the answered ones. (Not
--- proved yet.).
+-- Where a lease's move makes a call, all stands as it is to be at a call, and the lease's calls before it are the answered ones.
 abbrev pub MovesFindTheirPlace : Type 0
 MovesFindTheirPlace =
     (st : Setting) (now : ℕ) → IsStill st now → (T : Table) (es : Trace) → StillStands st now T es → (l : StillLease) → IsLease st l →

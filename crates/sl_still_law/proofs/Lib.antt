@@ -11,3 +11,4 @@ pub mod GrantShapes
 pub mod Moves
 pub mod Lines
 pub mod Keeping
+pub mod MovePlaces

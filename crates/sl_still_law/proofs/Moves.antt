@@ -101,7 +101,7 @@ move_keeps st now U es l x i fx y was (Gives_back r q p lver answered text reads
 move_keeps st now U es l x i fx y was (Goes_on r d answered a next fits comes live) m = told_keeps st now U es l r d answered a d.command next m live
 
 -- The lease's state after its move.
-put_here : (l : StillLease) (y : LeaseState) (T : Table) → put l y T l ≡ y
+pub put_here : (l : StillLease) (y : LeaseState) (T : Table) → put l y T l ≡ y
 put_here l y T = rw (put, lease_self l) refl
 
 pub moves_keep_laws : (st : Setting) (now : ℕ) → IsStill st now → (T : Table) (es : Trace) → StillStands st now T es → Lawful st es → (l : StillLease) → IsLease st l
