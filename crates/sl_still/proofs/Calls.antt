@@ -6,13 +6,15 @@ use Rattle.sl_sessions.specs.Sessions.{delta_written, last_delta}
 use Rattle.sl_still.proofs.Lists.{filtered, list_all_of}
 use Rattle.sl_still.specs.StillPath.{is_still_call, is_still_grant}
 use Rattle.sl_session_law.proofs.Making.{contains_first, contains_more}
-use Rattle.sl_trace.specs.Traces.{Setting, Submitted, is_shared}
+use Rattle.sl_trace.specs.Traces.{Setting, Submitted, Trace, answered_in, is_shared}
+use Rattle.sl_trace.specs.declared.effects.Entry.{Entry}
+use Rattle.sl_trace.specs.declared.input.Answer.{Answer}
 use Rattle.sl_trace.specs.declared.effects.Grant.{Grant}
 use Rattle.sl_words.proofs.CaseLaws.{false_is_true}
 use Rattle.sl_words.proofs.WordLaws.{and_true}
 use Rattle.std.proofs.Common.{ap, refl, ◌∙◌}
 use Rattle.std.specs.List.{list_all}
-use Rattle.std.specs.Prelude.{Bool, Contains, List, None, Option, Some, false, filter, is_none, length, nat_lt, not, true, [], ℕ, ◌&&◌, ◌∷◌, ◌≡◌}
+use Rattle.std.specs.Prelude.{Bool, Contains, List, None, Option, Some, false, filter, is_none, length, map, nat_lt, not, true, [], ℕ, ◌&&◌, ◌==◌, ◌∷◌, ◌≡◌}
 
 -- The parts of a call's test.
 pub record CallParts (st : Setting) (m : Submitted) : Type 0 where
@@ -57,3 +59,16 @@ no_delta (m ∷ ms) none =
 
 pub no_delta_among : (st : Setting) (p : Submitted → Bool) (ms : List Submitted) → list_all (is_still_call st) ms ≡ true → last_delta (filter p ms) ≡ None
 no_delta_among st p ms h = no_delta (filter p ms) (λ m there. (call_parts st m (list_all_of (is_still_call st) ms m h (filtered p ms m there).0)).bare)
+
+-- ---- after one more entry
+
+-- An answer changes nothing of what a call is.
+still_marked : (st : Setting) (es : Trace) (e : Entry) (n : ℕ) (a : Answer) (m : Submitted) (b : Bool) → (m.call.number == n) ≡ b → is_still_call st (answered_in es e n a m) ≡ is_still_call st m
+still_marked st es e n a m true h = rw (answered_in, h) refl
+still_marked st es e n a m false h = rw (answered_in, h) refl
+
+pub mine_told : (st : Setting) (es : Trace) (e : Entry) (n : ℕ) (a : Answer) (ms : List Submitted) → list_all (is_still_call st) ms ≡ true → list_all (is_still_call st) (map (answered_in es e n a) ms) ≡ true
+mine_told st es e n a [] h = refl
+mine_told st es e n a (m ∷ ms) h =
+    let both = and_true (is_still_call st m) (list_all (is_still_call st) ms) h in
+    rw (still_marked st es e n a m (m.call.number == n) refl, both.0) (mine_told st es e n a ms both.1)

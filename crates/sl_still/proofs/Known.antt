@@ -65,7 +65,7 @@ its_session st now f es l is s there same =
     let its : l.given ≡ g.0 = one_value l.given g.0 (slice_get st.given at.0) (ap (λ n. slice_get st.given n) (sym number) ∙ is.there) g.1 in
     ap (λ n. given_session (n, l.given)) (number ∙ omega arith) ∙ ap (λ x. given_session (0 + at.0, x)) its ∙ g.2
 
-present_still : (now : ℕ) (l : StillLease) (es : Trace) → IsStillCalm now es → is_present es (lease_session l) ≡ true
+pub present_still : (now : ℕ) (l : StillLease) (es : Trace) → IsStillCalm now es → is_present es (lease_session l) ≡ true
 present_still now l es c = rw (unremoved_still now l es c) refl
 
 its_place : (st : Setting) (now : ℕ) → IsStill st now → (es : Trace) (l : StillLease) → IsLease st l → Contains (sessions st es) (lease_session l)

@@ -12,3 +12,6 @@ pub mod Comes
 pub mod Growing
 pub mod Numbering
 pub mod Dues
+pub mod Told
+pub mod Leading
+pub mod Frames
