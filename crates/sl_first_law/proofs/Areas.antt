@@ -53,7 +53,7 @@ pub inside_first : {A : Type 0} (xs : List A) (x : A) → Contains (x ∷ xs) x
 inside_first xs x = (zero, omega arith, refl)
 
 -- A read that verified the name.
-abbrev Verifies : Layout → List ℕ → List ℕ → Submitted → Purpose → Option Leader → Type 0
+abbrev pub Verifies : Layout → List ℕ → List ℕ → Submitted → Purpose → Option Leader → Type 0
 Verifies g lockspace name m p o = (l : Leader) × (o ≡ Some l) × (is_leader_of g lockspace name l ≡ true) × (is_leader_read p ≡ true)
 
 named_by_leader : (g : Layout) (lockspace name sought : List ℕ) (m : Submitted) (p : Purpose) (o : Option Leader) → is_leader_read p ≡ true

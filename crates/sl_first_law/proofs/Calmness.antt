@@ -78,7 +78,7 @@ free_no SeeRequest h = refl
 free_no (ValueWrite j) h = refl
 free_no (ValueRead j) h = refl
 
-no_free : (ms : List Submitted) → list_all is_lease_call ms ≡ true → free_write ms ≡ None
+pub no_free : (ms : List Submitted) → list_all is_lease_call ms ≡ true → free_write ms ≡ None
 no_free [] h = refl
 no_free (m ∷ ms) h =
     let both = and_true (is_lease_call m) (list_all is_lease_call ms) h in

@@ -26,7 +26,7 @@ use Rattle.std.proofs.Common.{refl, subst}
 use Rattle.std.specs.Prelude.{List, false, length, true, [], ℕ, ◌+◌, ◌∷◌, ◌≡◌}
 
 -- Work on a lease ends by no reply that tells a value.
-lease_plain : (why : Reply) → is_lease_reply why ≡ true → is_value_reply why ≡ false
+pub lease_plain : (why : Reply) → is_lease_reply why ≡ true → is_value_reply why ≡ false
 lease_plain Done q = refl
 lease_plain (Generation g) q = refl
 lease_plain (Granted l) q = refl

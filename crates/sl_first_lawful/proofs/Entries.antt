@@ -17,10 +17,10 @@ use Rattle.sl_trace.specs.declared.input.Given.{Given}
 use Rattle.std.specs.List.{list_all}
 use Rattle.std.specs.Prelude.{true, ◌∷◌, ◌≡◌}
 
-keeps_calls : (st : Setting) (es : Trace) (e : Entry) → EntryIsLawful st es e → LawfulCalls st es e
+pub keeps_calls : (st : Setting) (es : Trace) (e : Entry) → EntryIsLawful st es e → LawfulCalls st es e
 keeps_calls st es e h = record { owned = h.owned; alive = λ k c s at is. (h.calls k c s at is).alive; spelled = h.spelled }
 
-keeps_area : (st : Setting) (es : Trace) (e : Entry) → EntryIsLawful st es e → LawfulArea st es e
+pub keeps_area : (st : Setting) (es : Trace) (e : Entry) → EntryIsLawful st es e → LawfulArea st es e
 keeps_area st es e h =
     record {
       active = λ k c s at is. (h.calls k c s at is).active;
@@ -30,16 +30,16 @@ keeps_area st es e h =
       sees = λ k c s at is. (h.calls k c s at is).sees;
     }
 
-keeps_block : (st : Setting) (es : Trace) (e : Entry) → EntryIsLawful st es e → LawfulBlock st es e
+pub keeps_block : (st : Setting) (es : Trace) (e : Entry) → EntryIsLawful st es e → LawfulBlock st es e
 keeps_block st es e h = record { writes = λ k c s at is. (h.calls k c s at is).block; reads = λ k c s at is. (h.calls k c s at is).phase2 }
 
-keeps_leader : (st : Setting) (es : Trace) (e : Entry) → EntryIsLawful st es e → LawfulLeader st es e
+pub keeps_leader : (st : Setting) (es : Trace) (e : Entry) → EntryIsLawful st es e → LawfulLeader st es e
 keeps_leader st es e h = record { writes = λ k c s at is. (h.calls k c s at is).leader }
 
-keeps_modes : (st : Setting) (es : Trace) (e : Entry) → EntryIsLawful st es e → LawfulModes st es e
+pub keeps_modes : (st : Setting) (es : Trace) (e : Entry) → EntryIsLawful st es e → LawfulModes st es e
 keeps_modes st es e h = record { grants = h.modes; blocks = λ k c s at is. (h.calls k c s at is).mode }
 
-keeps_values : (st : Setting) (es : Trace) (e : Entry) → EntryIsLawful st es e → LawfulValue st es e
+pub keeps_values : (st : Setting) (es : Trace) (e : Entry) → EntryIsLawful st es e → LawfulValue st es e
 keeps_values st es e h =
     record { writes = λ k c s at is. (h.calls k c s at is).value; reads = λ k c s at is. (h.calls k c s at is).value_read; replies = h.replies }
 

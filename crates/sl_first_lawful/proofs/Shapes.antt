@@ -37,7 +37,7 @@ use Rattle.std.specs.Prelude.{Contains, IsSome, List, None, Some, false, length,
 
 -- ---- no grant
 
-no_grants : (st : Setting) (es : Trace) (e : Entry) → e.effects.grants ≡ [] → LawfulGrant st es e
+pub no_grants : (st : Setting) (es : Trace) (e : Entry) → e.effects.grants ≡ [] → LawfulGrant st es e
 no_grants st es e none =
     record { owned = λ x there. absurd (no_reply e.effects.grants x none there); each = λ x s there is. absurd (no_reply e.effects.grants x none there) }
 

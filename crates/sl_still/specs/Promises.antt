@@ -83,7 +83,7 @@ MovesBring =
 -- ---- the laws
 
 -- Before the first entry the trace is lawful; a line that is answered at once keeps it so, and so does a lease's move that brings what the
--- laws ask. (Not proved yet.).
+-- laws ask.
 pub record EntriesKeepLaws : Type 0 where
   pub begins : (st : Setting) → Lawful st []
   pub line : (st : Setting) (now : ℕ) → IsStill st now → IsSetting st → (T : Table) (es : Trace) → StillStands st now T es → Lawful st es →

@@ -1,0 +1,14 @@
+pub mod GivenSessions
+pub mod Watching
+pub mod Recovering
+pub mod Entries
+pub mod Verified
+pub mod LeaseCalls
+pub mod CallPlaces
+pub mod CallTraces
+pub mod CallShapes
+pub mod GrantShapes
+pub mod Moves
+pub mod Lines
+pub mod Keeping
+pub mod MovePlaces
