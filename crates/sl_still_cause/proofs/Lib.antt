@@ -1,2 +1,6 @@
 pub mod Refusals
 pub mod LineReplies
+pub mod LeaseHearing
+pub mod BallotLimits
+pub mod AreaReplies
+pub mod PhaseReplies

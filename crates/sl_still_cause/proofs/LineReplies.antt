@@ -22,11 +22,11 @@ use Rattle.sl_trace.specs.declared.effects.Grant.{Grant}
 use Rattle.sl_trace.specs.declared.effects.Spot.{Spot}
 use Rattle.sl_trace.specs.declared.reply.Limited.TheVariants.{Holders, Resources}
 use Rattle.sl_trace.specs.declared.reply.Limited.{Limited}
-use Rattle.sl_trace.specs.declared.reply.Reply.TheVariants.{BadCommand as Misread, Busy, Limit as LimitReached, NoProcess, NoSession, NotHeld, Pending}
+use Rattle.sl_trace.specs.declared.reply.Reply.TheVariants.{Busy, Limit as LimitReached, NoProcess, NoSession, NotHeld, Pending}
 use Rattle.sl_trace.specs.declared.reply.Reply.{Reply}
 use Rattle.sl_words.proofs.CaseLaws.{false_is_true, some_value, true_is_false}
 use Rattle.std.proofs.Common.{ap, arith, inl, inr, refl, subst, sym, ◌∙◌}
-use Rattle.std.specs.Prelude.{Bool, Contains, Err, IsFalse, IsSome, IsSomeAnd, IsTrue, List, None, Ok, Option, Result, Some, false, find, length, nat_lt, option_and_then, true, [], ℕ, ◌&&◌, ◌==◌, ◌∷◌, ◌≡◌, ◌⊎◌}
+use Rattle.std.specs.Prelude.{Contains, Err, IsFalse, IsSome, IsSomeAnd, IsTrue, List, None, Ok, Option, Result, Some, false, find, length, nat_lt, option_and_then, true, ℕ, ◌&&◌, ◌==◌, ◌∷◌, ◌≡◌, ◌⊎◌}
 
 -- ---- the line's job
 

@@ -17,7 +17,7 @@ use Rattle.sl_words.proofs.WordLaws.{choose_some}
 use Rattle.sl_words.specs.Words.{choose}
 use Rattle.std.proofs.Common.{ap, inl, inr, refl, subst, sym, ◌∙◌}
 use Rattle.std.specs.Option.{option_map_or}
-use Rattle.std.specs.Prelude.{Bool, List, None, Option, Some, false, if◌then◌else◌, is_none, not, option_and_then, option_map, true, [], ℕ, ◌∷◌, ◌≡◌, ◌⊎◌}
+use Rattle.std.specs.Prelude.{Bool, List, None, Option, Some, false, if◌then◌else◌, is_none, not, option_map, true, [], ℕ, ◌∷◌, ◌≡◌, ◌⊎◌}
 
 -- What a refused acquire or release of the resource for the process stands on.
 pub data RefusedFor (st : Setting) (t : Trace) (c : Command) (r : ResourceArg) (p : ℕ) : Reply → Type 0 where
