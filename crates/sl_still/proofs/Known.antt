@@ -49,7 +49,7 @@ one_place st now f m n g h at there same (inl is) = is
 one_place st now f m n g h at there same (inr (inr more)) = absurd (apart_below st now f n m h g there at (sym same) more)
 
 -- The place of a session among the given.
-given_place : (gs : List Given) (n k : ℕ) (s : Session) → slice_get (map given_session (enumerate_from n gs)) k ≡ Some s
+pub given_place : (gs : List Given) (n k : ℕ) (s : Session) → slice_get (map given_session (enumerate_from n gs)) k ≡ Some s
     → (g : Given) × (slice_get gs k ≡ Some g) × (given_session (n + k, g) ≡ s)
 given_place [] n k s is = absurd (none_some s is)
 given_place (g ∷ gs) n zero s is = (g, refl, ap (λ m. given_session (m, g)) (omega arith) ∙ some_value (given_session (n, g)) s is)

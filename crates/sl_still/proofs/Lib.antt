@@ -3,3 +3,9 @@ pub mod Calls
 pub mod Lone
 pub mod Sessions
 pub mod Known
+pub mod Stillness
+pub mod Leases
+pub mod Busy
+pub mod Quiet
+pub mod Deciding
+pub mod Comes
