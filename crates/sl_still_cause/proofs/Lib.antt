@@ -4,3 +4,4 @@ pub mod LeaseHearing
 pub mod BallotLimits
 pub mod AreaReplies
 pub mod PhaseReplies
+pub mod LeaseReplies

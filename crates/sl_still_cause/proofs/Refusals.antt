@@ -3,6 +3,7 @@ use Rattle.sl_due.specs.DueCommands.{Decision, Gives_up, Reads_area, Replies, ac
 use Rattle.sl_leases.specs.Counts.{busy_process, limit_met, may_act, pending_call}
 use Rattle.sl_leases.specs.Leases.{spot_of}
 use Rattle.sl_sessions.specs.Sessions.{Session, is_active, is_joined, last_renewal, session_named}
+use Rattle.sl_still.proofs.Calls.{none_is}
 use Rattle.sl_still.specs.StillSteps.{is_line_reply}
 use Rattle.sl_trace.specs.Traces.{Setting, Trace}
 use Rattle.sl_trace.specs.declared.command.Command.TheVariants.{Acquire, Release}
@@ -46,10 +47,6 @@ first_or_rest (Some w) rest why h = inl (ap (λ x. Some x) (replied w why h))
 mapped : {A B : Type 0} (f : A → B) (o : Option A) (b : B) → option_map f o ≡ Some b → (a : A) × (o ≡ Some a) × (f a ≡ b)
 mapped f None b h = absurd (none_some b h)
 mapped f (Some a) b h = (a, refl, some_value (f a) b h)
-
-absent_of : {A : Type 0} (o : Option A) → is_none o ≡ true → o ≡ None
-absent_of None h = refl
-absent_of (Some a) h = absurd (false_is_true h)
 
 not_true : (b : Bool) → not b ≡ true → b ≡ false
 not_true true h = absurd (false_is_true h)
@@ -136,7 +133,7 @@ by_nothing : (st : Setting) (t : Trace) (s : Session) (r : ResourceArg) (p : ℕ
     → choose (is_none (holding_of t s (spot_of r) p (λ g. true))) NotHeld ≡ Some why → RefusedFor st t (Release r p) r p why
 by_nothing st t s r p why named h =
     let both = choose_some (is_none (holding_of t s (spot_of r) p (λ g. true))) NotHeld why h in
-    subst (λ w. RefusedFor st t (Release r p) r p w) both.1 (For_nothing_held s refl named (absent_of (holding_of t s (spot_of r) p (λ g. true)) both.0))
+    subst (λ w. RefusedFor st t (Release r p) r p w) both.1 (For_nothing_held s refl named (none_is (holding_of t s (spot_of r) p (λ g. true)) both.0))
 
 -- What a release comes to, where this is held.
 abbrev given_up : Session → Option Grant → Decision
