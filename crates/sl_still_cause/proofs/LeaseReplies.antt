@@ -1,7 +1,7 @@
 -- What the job of a lease is answered with has its cause: the answer to its call shows it, with what the session knew of the lease.
 use Rattle.sl_first.proofs.Courses.{first_place}
 use Rattle.sl_first.specs.FirstPath.{Doing, heeded_call, one_reply, open_kept}
-use Rattle.sl_first.specs.FirstSteps.{Course, Freeing, Phase, Reading_area, Reading_phase1, Reading_phase2, Taking, Works, Writing_phase1, Writing_phase2, first_aim, first_known, process_of, work_in}
+use Rattle.sl_first.specs.FirstSteps.{Course, Freeing, Phase, Reading_area, Reading_phase1, Reading_phase2, Taking, Writing_phase1, Writing_phase2, first_aim, first_known, work_in}
 use Rattle.sl_first.proofs.Growth.{same_number}
 use Rattle.sl_first_cause.proofs.Hearing.{IsWell}
 use Rattle.sl_first_cause.proofs.Replied.{none_well, one_well}
@@ -44,7 +44,7 @@ use Rattle.sl_words.specs.Words.{some_is}
 use Rattle.std.proofs.Common.{ap, refl, subst, sym, ◌∙◌}
 use Rattle.std.proofs.lemmas.List.{append-nil}
 use Rattle.std.specs.List.{list_all}
-use Rattle.std.specs.Prelude.{Bool, Contains, Err, List, None, Ok, Option, Result, Some, false, find, length, option_and_then, true, [], ℕ, ◌&&◌, ◌++◌, ◌==◌, ◌∷◌, ◌≡◌}
+use Rattle.std.specs.Prelude.{Contains, Err, List, None, Ok, Option, Result, false, find, length, option_and_then, true, [], ℕ, ◌&&◌, ◌++◌, ◌==◌, ◌∷◌, ◌≡◌}
 
 -- ---- by the step at which the job is
 

@@ -5,3 +5,4 @@ pub mod BallotLimits
 pub mod AreaReplies
 pub mod PhaseReplies
 pub mod LeaseReplies
+pub mod Idling

@@ -81,8 +81,7 @@ session_at st now es text why c r p reads names =
 no_session : (st : Setting) (now : ℕ) (es : Trace) (text : List ℕ) (c : Command) (r : ResourceArg) (p : ℕ) → st.read text ≡ Ok c → Names c r p
     → session_named st (before_next now es) r.lockspace ≡ None → LineIsCaused st now es text NoSession
 no_session st now es text c r p reads names none =
-    let x : Answering = at_line st now es text NoSession in
-    (
+    let x : Answering = at_line st now es text NoSession in (
       refl,
       with_command x c
           (λ c. IsFalse (is_joining_command c) × IsSome (lockspace_named c)
@@ -99,8 +98,7 @@ holder_there : (st : Setting) (now : ℕ) (es : Trace) (text : List ℕ) (r : Re
     → busy_process (before_next now es) (spot_of r) (Some p) false ≡ Some q → LineIsCaused st now es text (Busy q)
 holder_there st now es text r p q reads busy =
     let x : Answering = at_line st now es text (Busy q) in
-    let t : Trace = before_next now es in
-    (
+    let t : Trace = before_next now es in (
       refl,
       with_command x (Acquire r false p) (λ c. IsTrue (is_asking_lease c) × WithSpot x (λ b at. busy_process t at (process_named c) (wants_shared c) ≡ Some q)) reads
           (refl, with_spot x (Acquire r false p) r (λ b at. busy_process t at (Some p) false ≡ Some q) reads refl busy),
@@ -120,16 +118,14 @@ limit_there : (st : Setting) (now : ℕ) (es : Trace) (text : List ℕ) (r : Res
     → session_named st (before_next now es) r.lockspace ≡ Some s → (which : Limited) → is_still_limit which ≡ true → limit_met st (before_next now es) s (spot_of r) false ≡ Some which
     → LineIsCaused st now es text (LimitReached which)
 limit_there st now es text r p s reads named Resources fits met =
-    let x : Answering = at_line st now es text (LimitReached Resources) in
-    (
+    let x : Answering = at_line st now es text (LimitReached Resources) in (
       refl,
       with_session x s (LimitThere st now es Resources x) (session_at st now es text (LimitReached Resources) (Acquire r false p) r p reads (acquire_names r p) ∙ named)
           (with_command x (Acquire r false p) (λ c. IsTrue (is_asking_lease c) × WithSpot x (λ r at. limit_met st (before_next now es) s at (is_program c) ≡ Some Resources)) reads
           (refl, with_spot x (Acquire r false p) r (λ b at. limit_met st (before_next now es) s at false ≡ Some Resources) reads refl met)),
     )
 limit_there st now es text r p s reads named Holders fits met =
-    let x : Answering = at_line st now es text (LimitReached Holders) in
-    (
+    let x : Answering = at_line st now es text (LimitReached Holders) in (
       refl,
       with_session x s (LimitThere st now es Holders x) (session_at st now es text (LimitReached Holders) (Acquire r false p) r p reads (acquire_names r p) ∙ named)
           (with_command x (Acquire r false p) (λ c. IsTrue (is_asking_lease c) × WithSpot x (λ r at. limit_met st (before_next now es) s at (is_program c) ≡ Some Holders)) reads
@@ -154,8 +150,7 @@ nothing_held : (st : Setting) (now : ℕ) (es : Trace) (text : List ℕ) (r : Re
     → session_named st (before_next now es) r.lockspace ≡ Some s → holding_of (before_next now es) s (spot_of r) p (λ g. true) ≡ None → LineIsCaused st now es text NotHeld
 nothing_held st now es text r p s reads named none =
     let x : Answering = at_line st now es text NotHeld in
-    let t : Trace = before_next now es in
-    (
+    let t : Trace = before_next now es in (
       refl,
       with_session x s (λ s. job_command x (λ c. IsTrue (is_holders_command c) × WithSpot x (HoldsNothing t s c)))
           (session_at st now es text NotHeld (Release r p) r p reads (release_names r p) ∙ named)

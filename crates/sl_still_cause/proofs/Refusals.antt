@@ -95,13 +95,13 @@ acquire_late st t s r p why named h =
     as (λ z. RefusedFor st t (Acquire r false p) r p why) [
       | inl busy ↦ by_holder st t r p why busy
       | inr late ↦ elim (first_or_rest (pending_refusal st t (spot_of r)) (unless_refused (limit_refusal st t s (spot_of r) false ∷ []) (acquiring t s r false)) why late)
-      as (λ z. RefusedFor st t (Acquire r false p) r p why) [
-        | inl pending ↦ by_call st t (Acquire r false p) r p why pending
-        | inr last ↦ elim (first_or_rest (limit_refusal st t s (spot_of r) false) (acquiring t s r false) why last) as (λ z. RefusedFor st t (Acquire r false p) r p why) [
-          | inl limited ↦ by_limit st t s r p why named limited
-          | inr begins ↦ absurd (not_replied (Reads_area s r) why refl begins)
-        ]
-      ]
+          as (λ z. RefusedFor st t (Acquire r false p) r p why) [
+            | inl pending ↦ by_call st t (Acquire r false p) r p why pending
+            | inr last ↦ elim (first_or_rest (limit_refusal st t s (spot_of r) false) (acquiring t s r false) why last) as (λ z. RefusedFor st t (Acquire r false p) r p why) [
+              | inl limited ↦ by_limit st t s r p why named limited
+              | inr begins ↦ absurd (not_replied (Reads_area s r) why refl begins)
+            ]
+          ]
     ]
 
 acquire_early : (st : Setting) (t : Trace) (s : Session) (r : ResourceArg) (p : ℕ) (why : Reply) → is_line_reply why ≡ true → session_named st t r.lockspace ≡ Some s
