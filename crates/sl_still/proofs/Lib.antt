@@ -9,3 +9,6 @@ pub mod Busy
 pub mod Quiet
 pub mod Deciding
 pub mod Comes
+pub mod Growing
+pub mod Numbering
+pub mod Dues
