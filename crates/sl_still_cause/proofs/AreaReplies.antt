@@ -1,4 +1,4 @@
--- The cause of what a read of the area is answered with.
+-- The cause of what a lease's read of the area is answered with.
 use Rattle.sl_area.specs.Places.{area_blocks, leader_of}
 use Rattle.sl_first.proofs.Courses.{first_place}
 use Rattle.sl_still.specs.StillPath.{StillLease, lease_session}

@@ -1,4 +1,4 @@
--- Why a ballot does not begin: its instance or its number would pass the limit.
+-- Why a lease's ballot does not begin: its instance or its number would pass the limit.
 use Rattle.sl_still.specs.StillPath.{StillLease, lease_session}
 use Rattle.sl_first.specs.FirstSteps.{first_known}
 use Rattle.sl_first_cause.proofs.Hearing.{IsWell}

@@ -1,4 +1,4 @@
--- The cause of what the reads of a ballot's two phases are answered with.
+-- The cause of what the reads of the two phases of a lease's ballot are answered with.
 use Rattle.sl_area.specs.Places.{blocks_in}
 use Rattle.sl_first.proofs.Courses.{first_place}
 use Rattle.sl_still.specs.StillPath.{StillLease, lease_session}

@@ -4,6 +4,7 @@ use Rattle.sl_leases.specs.Counts.{busy_process, limit_met, may_act, pending_cal
 use Rattle.sl_leases.specs.Leases.{spot_of}
 use Rattle.sl_sessions.specs.Sessions.{Session, is_active, is_joined, last_renewal, session_named}
 use Rattle.sl_still.proofs.Calls.{none_is}
+use Rattle.sl_still.proofs.Deciding.{mapped_some}
 use Rattle.sl_still.specs.StillSteps.{is_line_reply}
 use Rattle.sl_trace.specs.Traces.{Setting, Trace}
 use Rattle.sl_trace.specs.declared.command.Command.TheVariants.{Acquire, Release}
@@ -17,8 +18,9 @@ use Rattle.sl_words.proofs.CaseLaws.{false_is_true, none_some, some_value}
 use Rattle.sl_words.proofs.WordLaws.{choose_some}
 use Rattle.sl_words.specs.Words.{choose}
 use Rattle.std.proofs.Common.{ap, inl, inr, refl, subst, sym, ◌∙◌}
+use Rattle.std.proofs.lemmas.Bool.{not-true}
 use Rattle.std.specs.Option.{option_map_or}
-use Rattle.std.specs.Prelude.{Bool, List, None, Option, Some, false, if◌then◌else◌, is_none, not, option_map, true, [], ℕ, ◌∷◌, ◌≡◌, ◌⊎◌}
+use Rattle.std.specs.Prelude.{Bool, List, None, Option, Some, false, if◌then◌else◌, is_none, not, true, [], ℕ, ◌∷◌, ◌≡◌, ◌⊎◌}
 
 -- What a refused acquire or release of the resource for the process stands on.
 pub data RefusedFor (st : Setting) (t : Trace) (c : Command) (r : ResourceArg) (p : ℕ) : Reply → Type 0 where
@@ -44,14 +46,6 @@ first_or_rest : (o : Option Reply) (rest : Decision) (why : Reply) → elim o as
 first_or_rest None rest why h = inr h
 first_or_rest (Some w) rest why h = inl (ap (λ x. Some x) (replied w why h))
 
-mapped : {A B : Type 0} (f : A → B) (o : Option A) (b : B) → option_map f o ≡ Some b → (a : A) × (o ≡ Some a) × (f a ≡ b)
-mapped f None b h = absurd (none_some b h)
-mapped f (Some a) b h = (a, refl, some_value (f a) b h)
-
-not_true : (b : Bool) → not b ≡ true → b ≡ false
-not_true true h = absurd (false_is_true h)
-not_true false h = refl
-
 -- What a session's state refuses is no refusal of such a line.
 state_refuses : (joined active : Bool) (n : ℕ) (why : Reply) → (if not joined then Some StillJoining else choose (not active) (Recovering n)) ≡ Some why → is_line_reply why ≡ true → ⊥
 state_refuses false active n why h line = false_is_true (ap (λ w. is_line_reply w) (some_value StillJoining why h) ∙ line)
@@ -63,24 +57,24 @@ state_refuses true false n why h line = false_is_true (ap (λ w. is_line_reply w
 by_process : (st : Setting) (t : Trace) (c : Command) (r : ResourceArg) (p : ℕ) (why : Reply) → process_refusal t p ≡ Some why → RefusedFor st t c r p why
 by_process st t c r p why h =
     let both = choose_some (not (may_act t p)) (NoProcess p) why h in
-    subst (λ w. RefusedFor st t c r p w) both.1 (For_process (not_true (may_act t p) both.0))
+    subst (λ w. RefusedFor st t c r p w) both.1 (For_process (not-true (may_act t p) both.0))
 
 by_call : (st : Setting) (t : Trace) (c : Command) (r : ResourceArg) (p : ℕ) (why : Reply) → pending_refusal st t (spot_of r) ≡ Some why → RefusedFor st t c r p why
 by_call st t c r p why h =
-    let some = mapped (λ n. Pending n) (pending_call st t (spot_of r)) why h in
+    let some = mapped_some (λ n. Pending n) (pending_call st t (spot_of r)) why h in
     subst (λ w. RefusedFor st t c r p w) some.2 (For_call some.0 some.1)
 
 -- ---- an acquire
 
 by_holder : (st : Setting) (t : Trace) (r : ResourceArg) (p : ℕ) (why : Reply) → busy_refusal t (spot_of r) (Some p) false ≡ Some why → RefusedFor st t (Acquire r false p) r p why
 by_holder st t r p why h =
-    let some = mapped (λ n. Busy n) (busy_process t (spot_of r) (Some p) false) why h in
+    let some = mapped_some (λ n. Busy n) (busy_process t (spot_of r) (Some p) false) why h in
     subst (λ w. RefusedFor st t (Acquire r false p) r p w) some.2 (For_holder some.0 refl some.1)
 
 by_limit : (st : Setting) (t : Trace) (s : Session) (r : ResourceArg) (p : ℕ) (why : Reply) → session_named st t r.lockspace ≡ Some s → limit_refusal st t s (spot_of r) false ≡ Some why
     → RefusedFor st t (Acquire r false p) r p why
 by_limit st t s r p why named h =
-    let some = mapped (λ l. LimitReached l) (limit_met st t s (spot_of r) false) why h in
+    let some = mapped_some (λ l. LimitReached l) (limit_met st t s (spot_of r) false) why h in
     subst (λ w. RefusedFor st t (Acquire r false p) r p w) some.2 (For_limit s some.0 refl named some.1)
 
 -- What is left of the refusals of an acquire once some are passed.
