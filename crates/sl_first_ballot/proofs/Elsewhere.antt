@@ -32,7 +32,7 @@ fails_at {A} p x xs d false is none (inl here) rest = subst (λ (y : A). p y ≡
 fails_at p x xs d false is none (inr there) rest = rest none there
 
 -- Where none is found each fails.
-fails : {A : Type 0} (p : A → Bool) (xs : List A) → find p xs ≡ None → (d : A) → Contains xs d → p d ≡ false
+pub fails : {A : Type 0} (p : A → Bool) (xs : List A) → find p xs ≡ None → (d : A) → Contains xs d → p d ≡ false
 fails p [] none d there = absurd (contains_none d there)
 fails p (x ∷ xs) none d there = fails_at p x xs d (p x) refl none (contains_cases x xs d there) (λ left inside. fails p xs left d inside)
 

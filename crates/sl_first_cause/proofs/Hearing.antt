@@ -53,7 +53,7 @@ abbrev pub is_at_in : StepKind → Purpose → Bool
 is_at_in kind p = some_is (λ q. same_kind (kind_of_step q.1) kind) (lease_step p)
 
 -- The blocks that these bytes give to a call with this purpose.
-abbrev blocks_by : Layout → Option (List ℕ) → Purpose → Option (List (Option Block))
+abbrev pub blocks_by : Layout → Option (List ℕ) → Purpose → Option (List (Option Block))
 blocks_by l o p =
     elim o [
       | None ↦ None

@@ -28,16 +28,16 @@ use Rattle.std.specs.Prelude.{Bool, List, None, Option, Some, false, map, nat_lt
 not_below : (n m : ℕ) → nat_lt n m ≡ false → m ≤ n
 not_below n m h = grind (arith, tests)
 
-not_number : (n : ℕ) → is_number n ≡ false → record_numbers ≤ n
+pub not_number : (n : ℕ) → is_number n ≡ false → record_numbers ≤ n
 not_number n h = not_below n record_numbers h
 
 -- The block of phase 1 names the instance.
-instance_in : (k : LeaseKnown) (hosts n : ℕ) (own : Block) (seen : List Block) → (phase1_block k.self hosts n k.shared (mode_gen_of k) own seen).lver ≡ n
+pub instance_in : (k : LeaseKnown) (hosts n : ℕ) (own : Block) (seen : List Block) → (phase1_block k.self hosts n k.shared (mode_gen_of k) own seen).lver ≡ n
 unfolding phase1_block
 instance_in k hosts n own seen = refl
 
 -- .. and has the next number.
-number_in : (st : Setting) (g : Given) (k : LeaseKnown) (n : ℕ) (own : Block) (seen : List Block) → k.self.id ≡ g.id
+pub number_in : (st : Setting) (g : Given) (k : LeaseKnown) (n : ℕ) (own : Block) (seen : List Block) → k.self.id ≡ g.id
     → (phase1_block k.self st.layout.hosts n k.shared (mode_gen_of k) own seen).mbal ≡ next_number st (first_session g) n own seen
 unfolding phase1_block
 number_in st g k n own seen same = ap (λ id. next_mbal st.layout.hosts id (map (λ (b : Block). b.mbal) (in_instance n (own ∷ seen)))) same
@@ -62,7 +62,7 @@ phase1_well g x c answered bytes step command h blocks own given is n begun b lv
     (n, begun, not_number (next_number x.setting (first_session g) n own (present blocks)) (ap (λ m. is_number m) (sym mbal) ∙ few))
 phase1_well g x c answered bytes step command h blocks own given is n begun b lver mbal true low true few = tt
 
-abbrev began : Setting → LeaseKnown → ℕ → Block → LeaseNext
+abbrev pub began : Setting → LeaseKnown → ℕ → Block → LeaseNext
 began st k n own = phase1_next (Acquires Exclusive) (phase1_block k.self st.layout.hosts n k.shared (mode_gen_of k) own (present k.read))
 
 -- Where the read shows that a ballot begins in n.

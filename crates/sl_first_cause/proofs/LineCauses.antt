@@ -31,13 +31,13 @@ use Rattle.std.specs.Prelude.{Bool, Contains, Err, IsTrue, List, None, Ok, Optio
 
 -- ---- the line's job
 
-found_last : {A : Type 0} (p q : A → Bool) (xs : List A) (x : A) → list_all q xs ≡ true → ((y : A) → q y ≡ true → p y ≡ false) → p x ≡ true → find p (xs ++ x ∷ []) ≡ Some x
+pub found_last : {A : Type 0} (p q : A → Bool) (xs : List A) (x : A) → list_all q xs ≡ true → ((y : A) → q y ≡ true → p y ≡ false) → p x ≡ true → find p (xs ++ x ∷ []) ≡ Some x
 found_last p q [] x h none is = rw is refl
 found_last p q (y ∷ ys) x h none is =
     let both = and_true (q y) (list_all q ys) h in
     rw (none y both.0) (found_last p q ys x both.1 none is)
 
-other_number : (n next : ℕ) → nat_lt n next ≡ true → (n == next) ≡ false
+pub other_number : (n next : ℕ) → nat_lt n next ≡ true → (n == next) ≡ false
 other_number n next h = grind (arith, tests)
 
 -- The job of a line after these entries.

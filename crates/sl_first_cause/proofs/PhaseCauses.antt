@@ -34,7 +34,7 @@ use Rattle.std.specs.Option.{option_map_or}
 use Rattle.std.specs.Prelude.{Bool, IsFalse, IsTrue, List, None, Option, Some, false, true, ℕ, ◌+◌, ◌∷◌, ◌≡◌, ◌⊎◌}
 
 -- The own block is that which was last submitted.
-own_is : (g : Given) (x : Answering) (ms : List Submitted) (own : Block) → block_submitted ms ≡ Some own → own_block x.setting.layout g.id ms ≡ Some own
+pub own_is : (g : Given) (x : Answering) (ms : List Submitted) (own : Block) → block_submitted ms ≡ Some own → own_block x.setting.layout g.id ms ≡ Some own
 own_is g x ms own is = ap (λ o. own_or_read g.id o (last_blocks x.setting.layout ms)) is
 
 -- ---- what stops a ballot

@@ -95,7 +95,7 @@ pub record EntriesKeepLaws : Type 0 where
 
 -- ---- the causes
 
--- Each reply of an entry has its cause: where a line is answered at once, and where a lease moves. (Not proved yet.).
+-- Each reply of an entry has its cause: where a line is answered at once, and where a lease moves.
 pub record EntriesAreCaused : Type 0 where
   pub line : (st : Setting) (now : ℕ) → IsStill st now → IsSetting st → (T : Table) (es : Trace) → StillStands st now T es →
       (text : List ℕ) (why : Reply) → IsRefused st now es text why → StillStands st now T (refused_entry st now es text why ∷ es) →
@@ -104,7 +104,7 @@ pub record EntriesAreCaused : Type 0 where
       (i : Input) (fx : Effects) (y : LeaseState) → LeaseMove st l es (T l) i fx y → StillStands st now (put l y T) (still_entry now i fx ∷ es) →
       AnswersWell st es (still_entry now i fx)
 
--- No job of it is ever left idle. (Not proved yet.).
+-- No job of it is ever left idle.
 abbrev pub NobodyIsIdle : Type 0
 NobodyIsIdle = (st : Setting) (now : ℕ) (T : Table) (es : Trace) → StillStands st now T es → NoIdleJob st es
 
