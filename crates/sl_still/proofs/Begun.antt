@@ -6,6 +6,7 @@ use Rattle.sl_first.proofs.Growth.{same_number}
 use Rattle.sl_first.specs.FirstPath.{Doing, first_effects, next_doing}
 use Rattle.sl_first.specs.FirstSteps.{Course, Holds, Idle, Phase, Works}
 use Rattle.sl_leases.specs.Leases.{holdings_on, lease_calls}
+use Rattle.sl_plain.proofs.Lists.{contains_first, contains_more}
 use Rattle.sl_sessions.specs.Sessions.{delta_written}
 use Rattle.sl_still.proofs.Entered.{begun_entered, job_below, made_still, next_line}
 use Rattle.sl_still.proofs.Frames.{IsMoved, moved}
@@ -15,7 +16,6 @@ use Rattle.sl_still.proofs.Lists.{list_all_of}
 use Rattle.sl_still.specs.StillLeases.{AsksFor, IsWorking, LeaseStands, LeaseState, PhaseStands, StillStands, Table, is_idle, put}
 use Rattle.sl_still.specs.StillPath.{IsLease, IsOf, IsStill, StillLease, lease_session, lone, still_entry}
 use Rattle.sl_still.specs.StillSteps.{line_work}
-use Rattle.sl_session_law.proofs.Making.{contains_first, contains_more}
 use Rattle.sl_trace.specs.Traces.{Job, Setting, Trace, job_numbered, jobs, new_call, next_call, next_job}
 use Rattle.sl_trace.specs.declared.command.Command.{Command}
 use Rattle.sl_trace.specs.declared.command.ResourceArg.{ResourceArg}

@@ -1,8 +1,7 @@
 -- What is open and what is held is so by a lease's state: each unanswered call is that of a lease's work, each holding that of a lease.
 use Rattle.sl_first.specs.FirstPath.{Doing, has_answer, open_kept}
 use Rattle.sl_first.specs.FirstSteps.{Holds, Idle, Phase, Works, work_in}
-use Rattle.sl_session_law.proofs.Making.{contains_cases, contains_first, contains_none}
-use Rattle.sl_session_law.proofs.Naming.{kept}
+use Rattle.sl_plain.proofs.Lists.{contains_cases, contains_first, contains_none, kept}
 use Rattle.sl_still.proofs.Leases.{call_of, calls_filtered, grant_of_lease, held_filtered, is_its_call, is_its_grant}
 use Rattle.sl_still.proofs.Lists.{filtered, list_all_of}
 use Rattle.sl_still.specs.StillLeases.{LeaseStands, LeaseState, StillStands, Table, lease_held}

@@ -1,11 +1,11 @@
 -- What a call and a holding of such a daemon are.
 use Rattle.sl_area.specs.Places.{is_base}
 use Rattle.sl_leases.specs.Leases.{is_lease_call, spot_of_call}
+use Rattle.sl_plain.proofs.Lists.{contains_first, contains_more}
 use Rattle.sl_sector.specs.declared.sector.DeltaRec.{DeltaRec}
 use Rattle.sl_sessions.specs.Sessions.{delta_written, last_delta}
 use Rattle.sl_still.proofs.Lists.{filtered, list_all_of}
 use Rattle.sl_still.specs.StillPath.{is_still_call, is_still_grant}
-use Rattle.sl_session_law.proofs.Making.{contains_first, contains_more}
 use Rattle.sl_trace.specs.Traces.{Setting, Submitted, Trace, answered_in, is_shared}
 use Rattle.sl_trace.specs.declared.effects.Entry.{Entry}
 use Rattle.sl_trace.specs.declared.input.Answer.{Answer}

@@ -4,7 +4,7 @@ use Rattle.sl_first.specs.FirstPath.{Doing, first_effects}
 use Rattle.sl_first.specs.FirstSteps.{Holds, Idle, Phase, Works}
 use Rattle.sl_first_cause.specs.Promises.{is_line_or_answer}
 use Rattle.sl_leases.specs.declared.lease.LeaseNext.{LeaseNext}
-use Rattle.sl_session_law.proofs.Making.{contains_first, contains_more}
+use Rattle.sl_plain.proofs.Lists.{contains_first, contains_more}
 use Rattle.sl_still.proofs.Begun.{line_state}
 use Rattle.sl_still.proofs.Busy.{WorkOf, open_is_work}
 use Rattle.sl_still.proofs.Comes.{Comes_begins, Comes_gives, Comes_refused, LineComes, line_comes}

@@ -4,6 +4,7 @@ use Rattle.sl_due.specs.DueDelta.{carry_delta}
 use Rattle.sl_due.specs.DueFirst.{begin_recoveries, begin_recovery, begins_now, is_kill_due, is_overdue, kill_holders, kills, kills_holders, refuse, signal_and_refuse, signal_holders, time_out, time_outs}
 use Rattle.sl_due.specs.DueWake.{end_if_done, finish, finish_session, free_if_done}
 use Rattle.sl_due.specs.Steps.{Step, begin_step, for_each, seen, when, with_some}
+use Rattle.sl_plain.proofs.Lists.{contains_first, contains_more}
 use Rattle.sl_sessions.specs.Deltas.{DeltaKnown, DeltaLease, delta_known, delta_of_session, next_free}
 use Rattle.sl_sessions.specs.Sessions.{Renewing, Session, given_session, holdings_of, is_joined, is_present, leaving_of, open_calls_of, present_sessions, recovery_of, sessions}
 use Rattle.sl_sessions.specs.declared.delta.DeltaNext.TheVariants.{Nothing}
@@ -11,7 +12,6 @@ use Rattle.sl_still.proofs.Known.{given_place}
 use Rattle.sl_still.proofs.Lists.{filtered, found_in, given_at, list_all_of, ordered, place_of}
 use Rattle.sl_still.proofs.Sessions.{joined_still, renewing_still, sessions_still, staying_still}
 use Rattle.sl_still.specs.StillPath.{IsStill, IsStillCalm, IsStillGiven, StillLease, before_next, lease_session}
-use Rattle.sl_session_law.proofs.Making.{contains_first, contains_more}
 use Rattle.sl_trace.specs.Traces.{Job, Setting, Submitted, Trace, answered_in, is_of_job, mark, new_call, outstanding, running_jobs, submitted, waiting_call}
 use Rattle.sl_trace.specs.declared.effects.Call.{Call}
 use Rattle.sl_trace.specs.declared.effects.Entry.{Entry}

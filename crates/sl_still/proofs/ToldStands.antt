@@ -5,7 +5,7 @@ use Rattle.sl_first.proofs.Growth.{is_running_more, same_number}
 use Rattle.sl_first.specs.FirstPath.{Doing, first_effects, one_reply, open_kept}
 use Rattle.sl_first.specs.FirstSteps.{Course, OnCourse, Phase, Works, goes_on_with, work_in}
 use Rattle.sl_leases.specs.Leases.{holdings_on, lease_calls, lease_step}
-use Rattle.sl_session_law.proofs.Making.{contains_first, contains_more}
+use Rattle.sl_plain.proofs.Lists.{contains_first, contains_more}
 use Rattle.sl_sessions.specs.Sessions.{delta_written}
 use Rattle.sl_still.proofs.Begun.{works_is}
 use Rattle.sl_still.proofs.Calls.{mine_told}

@@ -4,11 +4,11 @@ use Rattle.sl_first.specs.FirstSteps.{Course, Freeing, IsNamed, OnCourse, Readin
 use Rattle.sl_first_ballot.proofs.Newest.{read_writes_no_leader}
 use Rattle.sl_first_numbers.specs.Numbers.{MaySubmit, PhaseKeeps}
 use Rattle.sl_leases.specs.Leases.{is_lease_call, is_on, leader_written, lease_calls, spot_of_call}
+use Rattle.sl_plain.proofs.Lists.{contains_first}
 use Rattle.sl_sector.specs.Records.{IsRecord}
 use Rattle.sl_sector.specs.declared.sector.Leader.{Leader}
 use Rattle.sl_sector.specs.declared.sector.Rec.TheVariants.{BlockIs, DeltaIs, LeaderIs, RequestIs, ValueIs}
 use Rattle.sl_sector.specs.declared.sector.Rec.{Rec}
-use Rattle.sl_session_law.proofs.Making.{contains_first}
 use Rattle.sl_sessions.specs.Sessions.{calls_of}
 use Rattle.sl_still.proofs.Leases.{lease_self, on_spot}
 use Rattle.sl_still.proofs.Lists.{filtered}

@@ -2,8 +2,7 @@
 use Rattle.sl_first.specs.FirstPath.{has_answer}
 use Rattle.sl_law.specs.LawfulLeader.{open_writes_on}
 use Rattle.sl_leases.specs.Leases.{is_lease_call, is_on, lease_calls}
-use Rattle.sl_session_law.proofs.Making.{contains_first}
-use Rattle.sl_session_law.proofs.Naming.{kept}
+use Rattle.sl_plain.proofs.Lists.{contains_first, kept}
 use Rattle.sl_sessions.specs.Sessions.{calls_of, is_call_of, open_calls_of}
 use Rattle.sl_still.proofs.Calls.{call_parts}
 use Rattle.sl_still.proofs.Lists.{filtered, list_all_of}

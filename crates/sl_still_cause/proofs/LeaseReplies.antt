@@ -11,7 +11,7 @@ use Rattle.sl_leases.specs.LeaseWork.{lease_next}
 use Rattle.sl_leases.specs.Leases.{block_submitted, holdings_on, is_lease_call, is_on, known, lease_calls, lver_written, spot_of_call}
 use Rattle.sl_leases.specs.declared.lease.LeaseNext.TheVariants.{AnswerJob, GrantJob, Nothing, ReadFor, WriteBlock, WriteLeader}
 use Rattle.sl_leases.specs.declared.lease.LeaseNext.{LeaseNext}
-use Rattle.sl_session_law.proofs.Making.{contains_first}
+use Rattle.sl_plain.proofs.Lists.{contains_first}
 use Rattle.sl_sessions.specs.Sessions.{Session, calls_of, is_call_of, session_named}
 use Rattle.sl_still.proofs.Calls.{none_is}
 use Rattle.sl_still.proofs.Known.{leases_known, named_still, session_stands}

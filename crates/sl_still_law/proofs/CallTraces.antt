@@ -4,7 +4,7 @@ use Rattle.sl_first.specs.FirstPath.{Doing, first_effects}
 use Rattle.sl_first.specs.FirstSteps.{Works}
 use Rattle.sl_law.specs.Saying.{cut_at}
 use Rattle.sl_leases.specs.Leases.{lease_calls}
-use Rattle.sl_session_law.proofs.Making.{contains_first}
+use Rattle.sl_plain.proofs.Lists.{contains_first}
 use Rattle.sl_still.proofs.Growing.{calls_more, calls_stay}
 use Rattle.sl_still.proofs.Leases.{calls_filtered, is_its_call}
 use Rattle.sl_still.proofs.Lists.{filtered}

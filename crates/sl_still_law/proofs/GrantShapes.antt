@@ -9,8 +9,7 @@ use Rattle.sl_first_lawful.specs.Keeping.{CallIsLawful, EntryIsLawful}
 use Rattle.sl_law.specs.LawfulGrant.{HasTaken, LawfulGrantTo}
 use Rattle.sl_law.specs.LawfulModes.{LawfulExclusiveGrant, LawfulModeGrant}
 use Rattle.sl_leases.specs.Leases.{freed, holdings_on, lease_calls, spot_of}
-use Rattle.sl_session_law.proofs.Making.{contains_none}
-use Rattle.sl_session_law.proofs.Naming.{kept}
+use Rattle.sl_plain.proofs.Lists.{contains_none, kept}
 use Rattle.sl_sessions.specs.Sessions.{Session, session_numbered}
 use Rattle.sl_still.proofs.Known.{sessions_stand}
 use Rattle.sl_still.proofs.Leases.{grant_of_lease, held_filtered, is_its_grant, spot_same}
