@@ -23,7 +23,7 @@ pub record CallParts (st : Setting) (m : Submitted) : Type 0 where
   pub based : is_base st.layout (spot_of_call st.layout m).base ≡ true
   pub bare : delta_written m ≡ None
 
-none_is : {A : Type 0} (o : Option A) → is_none o ≡ true → o ≡ None
+pub none_is : {A : Type 0} (o : Option A) → is_none o ≡ true → o ≡ None
 none_is None h = refl
 none_is (Some a) h = absurd (false_is_true h)
 
