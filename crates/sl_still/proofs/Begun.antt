@@ -11,7 +11,7 @@ use Rattle.sl_sessions.specs.Sessions.{delta_written}
 use Rattle.sl_still.proofs.Entered.{begun_entered, job_below, made_still, next_line}
 use Rattle.sl_still.proofs.Frames.{IsMoved, moved}
 use Rattle.sl_still.proofs.Growing.{calls_more}
-use Rattle.sl_still.proofs.Leases.{is_its_call, one_lease}
+use Rattle.sl_still.proofs.Leases.{below_is, is_its_call, one_lease}
 use Rattle.sl_still.proofs.Lists.{list_all_of}
 use Rattle.sl_still.specs.StillLeases.{AsksFor, IsWorking, LeaseStands, LeaseState, PhaseStands, StillStands, Table, is_idle, put}
 use Rattle.sl_still.specs.StillPath.{IsLease, IsOf, IsStill, StillLease, lease_session, lone, still_entry}
@@ -64,11 +64,8 @@ doing_or d (Works w) = w
 pub works_is : (d w : Doing) → Works d ≡ Works w → d ≡ w
 works_is d w h = ap (λ q. doing_or d q) h
 
-not_below : (n m k : ℕ) → n ≡ m → n ≡ k → m < k → ⊥
+pub not_below : (n m k : ℕ) → n ≡ m → n ≡ k → m < k → ⊥
 not_below n m k same is lt = omega (arith, same, is, lt)
-
-below_is : (n m : ℕ) → nat_lt n m ≡ true → n < m
-below_is n m h = grind (arith, tests)
 
 -- ---- a line whose job goes to work
 

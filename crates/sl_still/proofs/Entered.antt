@@ -7,7 +7,7 @@ use Rattle.sl_first.specs.FirstPath.{first_effects, one_reply}
 use Rattle.sl_leases.specs.Leases.{holdings_on, is_on, lease_step, spot_of}
 use Rattle.sl_sessions.specs.Sessions.{delta_written}
 use Rattle.sl_still.proofs.Frames.{IsEntered}
-use Rattle.sl_still.proofs.Leases.{is_its_call, on_spot}
+use Rattle.sl_still.proofs.Leases.{is_its_call, number_same, on_spot}
 use Rattle.sl_still.proofs.Lists.{found_in, list_all-filter, list_all_of}
 use Rattle.sl_still.specs.StillLeases.{StillStands, Table, is_called_for}
 use Rattle.sl_still.specs.StillPath.{IsLease, IsOf, StillLease, is_still_call, is_still_grant, lease_session, still_entry}
@@ -35,14 +35,11 @@ use Rattle.std.specs.Prelude.{Bool, List, None, Option, Some, [], false, filter,
 
 -- ---- jobs
 
-is_number : (n m : ℕ) → (n == m) ≡ true → n ≡ m
-is_number n m h = grind (arith, tests)
-
 -- A job that is there has a number below the next.
 pub job_below : (st : Setting) (now : ℕ) (T : Table) (es : Trace) → StillStands st now T es → (n : ℕ) (j : Job) → job_numbered st es n ≡ Some j → nat_lt n (next_job st es) ≡ true
 job_below st now T es h n j is =
     let found = found_in (λ (i : Job). i.number == n) (jobs st es) j is in
-    subst (λ k. nat_lt k (next_job st es) ≡ true) (is_number j.number n found.1) (list_all_of (λ i. nat_lt i.number (next_job st es)) (jobs st es) j h.old found.0)
+    subst (λ k. nat_lt k (next_job st es) ≡ true) (number_same j.number n found.1) (list_all_of (λ i. nat_lt i.number (next_job st es)) (jobs st es) j h.old found.0)
 
 length_more : {A : Type 0} (xs : List A) (x : A) → length (xs ++ x ∷ []) ≡ length xs + 1
 length_more [] x = refl
@@ -112,7 +109,7 @@ made_still st l is at reading c its bare =
     let parts = and_true (c.session == l.number) (is_some (lease_step c.purpose) && is_on st.layout l.at c) its in
     let both = and_true (is_some (lease_step c.purpose)) (is_on st.layout l.at c) parts.1 in
     rw (
-      session_below c.session l.number (length st.given) (is_number c.session l.number parts.0) (slice_get_within st.given l.number l.given is.there),
+      session_below c.session l.number (length st.given) (number_same c.session l.number parts.0) (slice_get_within st.given l.number l.given is.there),
       both.0,
       ap (λ (s : Spot). is_base st.layout s.base) (on_spot st l.at (new_call at reading c) is.based both.1) ∙ is.based,
       bare,

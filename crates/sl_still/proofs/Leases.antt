@@ -94,7 +94,7 @@ on_own st m room = rw ((bytes_eq-Decides m.call.path m.call.path).1 refl) (start
 abbrev pub lease_of_call : Setting → Given → Submitted → StillLease
 lease_of_call st g m = record { number = m.call.session; given = g; at = spot_of_call st.layout m }
 
-below_is : (n m : ℕ) → nat_lt n m ≡ true → n < m
+pub below_is : (n m : ℕ) → nat_lt n m ≡ true → n < m
 below_is n m h = grind (arith, tests)
 
 there_is : {A : Type 0} (xs : List A) (n : ℕ) → n < length xs → (x : A) × (slice_get xs n ≡ Some x)

@@ -16,6 +16,7 @@ use Rattle.sl_still.proofs.Lists.{filtered}
 use Rattle.sl_still.proofs.Lone.{lease_given}
 use Rattle.sl_still.proofs.Told.{AtWork}
 use Rattle.sl_still.proofs.ToldShapes.{live_stands, told_state}
+use Rattle.sl_still.proofs.Calls.{none_is}
 use Rattle.sl_still.specs.Promises.{EntriesAreShaped, ShapedEntry}
 use Rattle.sl_still.specs.StillLeases.{LeaseState, PhaseStands, StillStands, Table}
 use Rattle.sl_still.specs.StillPath.{IsOf, IsStill, StillLease, lease_grant, still_entry}
@@ -33,7 +34,7 @@ use Rattle.sl_words.proofs.CaseLaws.{false_is_true}
 use Rattle.sl_words.proofs.WordLaws.{and_true, or_true}
 use Rattle.std.proofs.Common.{ap, inl, inr, refl, subst, sym, ◌∙◌}
 use Rattle.std.specs.List.{list_any}
-use Rattle.std.specs.Prelude.{Bool, Contains, List, None, Ok, Option, Some, [], false, is_none, true, ℕ, ◌&&◌, ◌==◌, ◌∷◌, ◌≡◌}
+use Rattle.std.specs.Prelude.{Bool, Contains, List, Ok, [], false, is_none, true, ℕ, ◌&&◌, ◌==◌, ◌∷◌, ◌≡◌}
 
 -- ---- an entry that does what is due
 
@@ -127,10 +128,6 @@ any_found p (y ∷ ys) h =
       | inl here ↦ (y, contains_first y ys, here)
       | inr more ↦ let r = any_found p ys more in (r.0, contains_more y ys r.0 r.1, r.2)
     ]
-
-none_is : {A : Type 0} (o : Option A) → is_none o ≡ true → o ≡ None
-none_is None h = refl
-none_is (Some a) h = absurd (false_is_true h)
 
 told_by : (st : Setting) (now : ℕ) (T : Table) (es : Trace) (e : Entry) → Heard st now T es e → (n : ℕ) (a : Answer) → e.input ≡ Told n a → (m : Submitted) → m.call.number ≡ n
     → is_answer_for st a m.call.op ≡ true → (w : WorkOf st T m) → ShapedEntry st now T es e

@@ -10,6 +10,7 @@ use Rattle.sl_still.proofs.Busy.{WorkOf, open_is_work}
 use Rattle.sl_still.proofs.Leases.{lease_same, lease_self, number_same}
 use Rattle.sl_still.proofs.Lists.{filtered, found_in, list_all_from, list_all_of}
 use Rattle.sl_still.proofs.Told.{AtWork}
+use Rattle.sl_still.proofs.Calls.{none_is}
 use Rattle.sl_still.specs.StillLeases.{PhaseStands, Table, is_called_for}
 use Rattle.sl_still.specs.StillPath.{IsLease, StillLease, lease_session, same_lease}
 use Rattle.sl_trace.specs.Traces.{Job, Setting, Submitted, Trace, answer_of, answered_in, is_of_job, is_running, job_of, jobs, mark, outstanding, running_jobs, submitted, waiting_call}
@@ -69,10 +70,6 @@ find_some p (y ∷ ys) x there h = find_some_at p y ys x (p y) refl h (contains_
 pub called_by : (t : Trace) (n : ℕ) (m : Submitted) → Contains (submitted t) m → m.answer ≡ None → is_of_job n m ≡ true → is_called_for t n ≡ true
 called_by t n m there none of =
     find_some (is_of_job n) (outstanding t) m (kept (λ (c : Submitted). is_none c.answer) (submitted t) m (ap (λ (o : Option _). is_none o) none) there) of
-
-none_is : {A : Type 0} (o : Option A) → is_none o ≡ true → o ≡ None
-none_is None h = refl
-none_is (Some a) h = absurd (false_is_true h)
 
 -- The unanswered call of a job.
 pub record CallFor (t : Trace) (n : ℕ) : Type 0 where

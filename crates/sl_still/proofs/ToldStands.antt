@@ -7,7 +7,7 @@ use Rattle.sl_first.specs.FirstSteps.{Course, OnCourse, Phase, Works, goes_on_wi
 use Rattle.sl_leases.specs.Leases.{holdings_on, lease_calls, lease_step}
 use Rattle.sl_plain.proofs.Lists.{contains_first, contains_more}
 use Rattle.sl_sessions.specs.Sessions.{delta_written}
-use Rattle.sl_still.proofs.Begun.{works_is}
+use Rattle.sl_still.proofs.Begun.{not_below, works_is}
 use Rattle.sl_still.proofs.Calls.{mine_told}
 use Rattle.sl_still.proofs.Entered.{job_below, made_still}
 use Rattle.sl_still.proofs.Frames.{IsEntered, IsMoved, moved, working_later}
@@ -37,7 +37,7 @@ use Rattle.sl_words.specs.Words.{some_is}
 use Rattle.std.proofs.Common.{ap, arith, refl, subst, sym, tests, ◌∙◌}
 use Rattle.std.proofs.lemmas.List.{append-nil}
 use Rattle.std.specs.List.{list_all, list_any}
-use Rattle.std.specs.Prelude.{Bool, Contains, List, None, Some, [], false, filter, find, if◌then◌else◌, is_none, is_some, length, map, nat_lt, true, ℕ, ◌&&◌, ◌++◌, ◌+◌, ◌<◌, ◌==◌, ◌∷◌, ◌≡◌, ◌≤◌, ◌||◌}
+use Rattle.std.specs.Prelude.{Bool, Contains, List, None, Some, [], false, filter, find, if◌then◌else◌, is_none, is_some, length, map, nat_lt, true, ℕ, ◌&&◌, ◌++◌, ◌+◌, ◌==◌, ◌∷◌, ◌≡◌, ◌≤◌, ◌||◌}
 
 -- ---- lists
 
@@ -54,9 +54,6 @@ filter_none p [] h = refl
 filter_none p (x ∷ xs) h = rw (h x (contains_first x xs)) (filter_none p xs (λ y there. h y (contains_more x xs y there)))
 
 -- ---- numbers
-
-not_below : (n m k : ℕ) → n ≡ m → n ≡ k → m < k → ⊥
-not_below n m k same is lt = omega (arith, same, is, lt)
 
 not_later : (j next n : ℕ) → nat_lt j next ≡ true → next ≤ n → (j == n) ≡ false
 not_later j next n lt le = grind (arith, tests)
