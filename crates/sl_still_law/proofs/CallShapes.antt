@@ -11,7 +11,7 @@ use Rattle.sl_leases.specs.Leases.{is_lease_call, is_on, lease_calls, value_writ
 use Rattle.sl_plain.proofs.Lists.{contains_first}
 use Rattle.sl_sessions.specs.Sessions.{Session, calls_of, is_call_of, session_numbered}
 use Rattle.sl_still.proofs.Calls.{call_parts}
-use Rattle.sl_still.proofs.Known.{sessions_stand}
+use Rattle.sl_still.proofs.Known.{session_stands}
 use Rattle.sl_still.proofs.Lists.{filtered, list_all_of}
 use Rattle.sl_still_law.proofs.CallTraces.{calling_entry}
 use Rattle.sl_still_law.proofs.LeaseCalls.{LeaseCall, call_lawful}
@@ -80,7 +80,7 @@ call_shape st now f U es l is r d answered i ends c after stands at brings own m
     let e : Entry = calling_entry now i ends c in
     let t : Trace = cut_at 0 e ∷ es in
     let numbered : session_numbered st (e ∷ es) c.session ≡ Some (lease_session l) =
-    ap (λ n. session_numbered st (e ∷ es) n) own ∙ (sessions_stand.each st now f (e ∷ es) after.calm after.mine l is).numbered in
+    ap (λ n. session_numbered st (e ∷ es) n) own ∙ (session_stands st now f (e ∷ es) after.calm after.mine l is).numbered in
     let lawful : CallIsLawful st t (lease_session l) d.call =
     call_lawful st now f l is r stands.stands.0 answered t at d.job.number d.step d.call (call_there st now l r d answered (e ∷ es) after.mine stands none) placed brings in
     record {

@@ -11,7 +11,7 @@ use Rattle.sl_law.specs.LawfulModes.{LawfulExclusiveGrant, LawfulModeGrant}
 use Rattle.sl_leases.specs.Leases.{freed, holdings_on, lease_calls, spot_of}
 use Rattle.sl_plain.proofs.Lists.{contains_none, kept}
 use Rattle.sl_sessions.specs.Sessions.{Session, session_numbered}
-use Rattle.sl_still.proofs.Known.{sessions_stand}
+use Rattle.sl_still.proofs.Known.{session_stands}
 use Rattle.sl_still.proofs.Leases.{grant_of_lease, held_filtered, is_its_grant, spot_same}
 use Rattle.sl_still.proofs.Lists.{list_all_of}
 use Rattle.sl_still_law.proofs.CallShapes.{no_call}
@@ -65,7 +65,7 @@ grant_lawful : (st : Setting) (now : ℕ) → IsStill st now → (U : Table) (t 
 grant_lawful st now f U t after l is r p lver answered here stands brings =
     let s : Session = lease_session l in
     record {
-      active = (sessions_stand.each st now f t after.calm after.mine l is).active;
+      active = (session_stands st now f t after.calm after.mine l is).active;
       lockspace = stands.stands.space;
       placed = ap (λ (at : Spot). is_base st.layout at.base) stands.stands.there ∙ is.based;
       alone = λ h there same other. absurd (other (held_alone st now U t after l is r p lver answered here stands h there same));
@@ -93,7 +93,7 @@ grant_shape st now f U es l is r p lver answered i job after here stands brings 
     let e : Entry = granting_entry now i l r p lver job in
     let g : Grant = lease_grant l r p lver in
     let s : Session = lease_session l in
-    let numbered : session_numbered st (e ∷ es) l.number ≡ Some s = (sessions_stand.each st now f (e ∷ es) after.calm after.mine l is).numbered in
+    let numbered : session_numbered st (e ∷ es) l.number ≡ Some s = (session_stands st now f (e ∷ es) after.calm after.mine l is).numbered in
     record {
       owned = λ x there. absurd (no_reply [] x refl there);
       spelled = λ x w there writes. absurd (no_reply [] x refl there);

@@ -12,7 +12,7 @@ use Rattle.sl_plain.proofs.Lists.{contains_first, kept}
 use Rattle.sl_sector.specs.declared.sector.Rec.{Rec}
 use Rattle.sl_sessions.specs.Sessions.{Session, calls_of, delta_written, is_call_of, is_delta_purpose, is_survey_purpose, open_calls_of}
 use Rattle.sl_still.proofs.Calls.{call_parts}
-use Rattle.sl_still.proofs.Known.{sessions_stand}
+use Rattle.sl_still.proofs.Known.{session_stands}
 use Rattle.sl_still.proofs.Leases.{on_spot}
 use Rattle.sl_still.proofs.Lists.{filtered, list_all_of}
 use Rattle.sl_still_law.proofs.GivenSessions.{may_call, not_leaving, not_recovering}
@@ -90,7 +90,7 @@ pub call_lawful : (st : Setting) (now : ℕ) → IsStill st now → (l : StillLe
     → LeaseCallBrings st l t c → CallIsLawful st t (lease_session l) c
 call_lawful st now f l is r of answered t h job step c one at brings =
     let s : Session = lease_session l in
-    let stands : SessionStands st l t = sessions_stand.each st now f t h.calm h.mine l is in
+    let stands : SessionStands st l t = session_stands st now f t h.calm h.mine l is in
     let spot : l.at ≡ spot_of_call st.layout c = sym (on_spot st l.at c is.based one.on) in
     let work : IsTrue (is_area_work c.call.purpose) = subst (λ p. IsTrue (is_area_work p)) (sym one.for_job) refl in
     record {

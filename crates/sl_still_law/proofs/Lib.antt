@@ -11,4 +11,3 @@ pub mod GrantShapes
 pub mod Moves
 pub mod Lines
 pub mod Keeping
-pub mod MovePlaces

@@ -3,7 +3,7 @@ use Rattle.sl_law.specs.LawfulDelta.{LawfulDelta, LawfulDeltaCall, LawfulJoin, i
 use Rattle.sl_law.specs.LawfulRecovery.{KillsAfter, LawfulRecovery, MayPart, StopsSession, is_leaving_write}
 use Rattle.sl_law.specs.Saying.{EachCall}
 use Rattle.sl_sessions.specs.Sessions.{Begun, has_open_delta, is_delta_purpose, is_joined, is_leaving, is_recovering, is_survey_purpose, joined_after, leaving_job, leaving_of, recovery_of}
-use Rattle.sl_still.proofs.Known.{sessions_stand}
+use Rattle.sl_still.proofs.Known.{session_stands}
 use Rattle.sl_still_law.proofs.GivenSessions.{each_given, leaves_never, never_freed, recovers_never}
 use Rattle.sl_still.specs.StillPath.{IsStill, IsStillCalm, SessionStands, StillLease, is_still_call, lease_session}
 use Rattle.sl_trace.specs.Traces.{Job, Setting, Trace, is_write, submitted}
@@ -22,7 +22,7 @@ pub keeps_recovery : (st : Setting) (now : ℕ) → IsStill st now → (past : T
     → EachCall st (λ es s c. IsTrue (is_leaving st es s) → is_write c.call.op ≡ true → IsTrue (is_leaving_write c.call.purpose)) past e
     → LawfulRecovery st past e
 keeps_recovery st now f past e c mine quiet few =
-    let stands = sessions_stand.each st now f (e ∷ past) c mine in
+    let stands = session_stands st now f (e ∷ past) c mine in
     record {
       recovers = each_given st now f past (λ s. (b : Begun) → recovery_of st (e ∷ past) s ≡ Some b → b.at ≡ length past → StopsSession st past e s None)
           (λ l is b begun at. absurd (none_some b (sym (recovers_never st l (e ∷ past) (stands l is)) ∙ begun)));

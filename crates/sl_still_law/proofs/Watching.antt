@@ -3,7 +3,7 @@
 use Rattle.sl_first.proofs.Decisions.{same_text}
 use Rattle.sl_law.specs.LawfulWatchdog.{CoveredBy, LawfulWatchdog, is_covered}
 use Rattle.sl_sessions.specs.Sessions.{Renewing, holdings_of, has_open_write, is_present, last_renewal}
-use Rattle.sl_still.proofs.Known.{sessions_stand}
+use Rattle.sl_still.proofs.Known.{session_stands}
 use Rattle.sl_still.proofs.Lists.{given_at}
 use Rattle.sl_still_law.proofs.GivenSessions.{each_given}
 use Rattle.sl_still.specs.StillPath.{IsLease, IsStill, IsStillCalm, IsStillGiven, SessionStands, StillLease, is_still_call, lease_session}
@@ -69,7 +69,7 @@ pub keeps_watchdog : (st : Setting) (now : ℕ) → IsStill st now → (past : T
 keeps_watchdog st now f past e c mine =
     record {
       stands = each_given st now f (e ∷ past) (λ s. IsTrue (is_covered (e ∷ past) s) → CoveredBy st (e ∷ past) s)
-          (λ l is h. covered st now f (e ∷ past) c l is (sessions_stand.each st now f (e ∷ past) c mine l is));
+          (λ l is h. covered st now f (e ∷ past) c l is (session_stands st now f (e ∷ past) c mine l is));
       lasting = each_given st now f past
           (λ s. IsTrue (is_covered past s) → IsTrue (is_covered (e ∷ past) s) → list_any (λ m. registers s.lockspace m || unregisters s.lockspace m) e.effects.moves ≡ false)
           (λ l is before after. ap (λ ms. list_any (λ m. registers l.given.lockspace m || unregisters l.given.lockspace m) ms) c.0.unmoved);

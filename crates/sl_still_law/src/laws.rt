@@ -1,11 +1,6 @@
 //! A daemon of several given sessions and any resources keeps all laws of safety, where each lease's move brings what they ask.
 
-ghost use Rattle.sl_still.specs.Promises.{EntriesKeepLaws, MovesFindTheirPlace};
-
-/// Where a lease's move makes a call, the lease's calls before it are the answered ones, and nothing is held under it.
-pub fn moves_find_their_place()
-    ensures { MovesFindTheirPlace }
-{}
+ghost use Rattle.sl_still.specs.Promises.{EntriesKeepLaws};
 
 /// Before the first entry the trace is lawful; a line that is answered at once keeps it so, and so does a lease's move that brings what the
 /// laws ask.
