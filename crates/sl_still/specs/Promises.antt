@@ -73,7 +73,7 @@ MovesKeepWhole =
     (i : Input) (fx : Effects) (y : LeaseState) → LeaseMove st l es (T l) i fx y → StillStands st now (put l y T) (still_entry now i fx ∷ es) →
     LeaseWhole st l (T l) → LeaseWhole st l y
 
--- And each brings what the laws of ballots, leaders, modes and grants ask of its call or its grant..
+-- And each brings what the laws of ballots, leaders, modes and grants ask of its call or its grant.
 abbrev pub MovesBring : Type 0
 MovesBring =
     (st : Setting) (now : ℕ) → IsStill st now → IsSetting st → (T : Table) (es : Trace) → StillStands st now T es → (l : StillLease) → IsLease st l →
@@ -111,7 +111,7 @@ NobodyIsIdle = (st : Setting) (now : ℕ) (T : Table) (es : Trace) → StillStan
 -- ---- the whole
 
 -- In each trace that does what is due and hears only lines and answers, on a clock that stands still, such a daemon keeps all laws, each of
--- its replies has its cause, and no job of it is idle..
+-- its replies has its cause, and no job of it is idle.
 abbrev pub StillTracesAreLawful : Type 0
 StillTracesAreLawful =
     (st : Setting) (now : ℕ) → IsStill st now → IsSetting st → (es : Trace) → IsHostTrace st es → HearsStill now es → Lawful st es × IsCaused st es × NoIdleJob st es
