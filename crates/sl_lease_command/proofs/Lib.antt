@@ -1,0 +1,2 @@
+pub mod LeaseForms
+pub mod LeaseTexts
