@@ -9,7 +9,6 @@ use Rattle.sl_lease_command.specs.declared.command.LeaseCommand.{LeaseCommand}
 use Rattle.sl_plain.proofs.Lists.{contains_map, find_inside, in_map}
 use Rattle.sl_run.specs.Headers.{GoTogether, IsArea, IsHeader}
 use Rattle.sl_run.specs.Worlds.{clock_reading, given_of, mebibyte}
-use Rattle.sl_run.specs.declared.header.Disk.{Disk}
 use Rattle.sl_run.specs.declared.header.FirstReading.{FirstReading}
 use Rattle.sl_run.specs.declared.header.Header.{Header}
 use Rattle.sl_run.specs.declared.header.LockspaceLine.{LockspaceLine}
@@ -28,14 +27,14 @@ use Rattle.sl_trace.specs.declared.command.Command.{Command}
 use Rattle.sl_trace.specs.declared.input.Given.{Given}
 use Rattle.sl_words.proofs.CaseLaws.{is_false, some_value}
 use Rattle.sl_words.specs.Bounds.{moments}
-use Rattle.std.proofs.Common.{Bool, List, None, Option, Some, [], ap, arith, false, inl, inr, length, map, refl, subst, sym, true, ℕ, ◌%◌, ◌*◌, ◌+◌, ◌<◌, ◌^◌, ◌∙◌, ◌∷◌, ◌≡◌, ◌≤◌}
+use Rattle.std.proofs.Common.{Bool, List, None, Option, Some, ap, arith, false, inl, inr, length, map, refl, subst, sym, true, ℕ, ◌%◌, ◌*◌, ◌+◌, ◌<◌, ◌^◌, ◌∙◌, ◌≡◌, ◌≤◌}
 use Rattle.std.proofs.lemmas.Bool.{and_from, eq-eqb, eqb-true, le-leb, lt-ltb}
 use Rattle.std.proofs.lemmas.Bool.Decides.{nat_tests}
 use Rattle.std.proofs.lemmas.List.Elements.{Contains-get_or, recursion_from_All}
 use Rattle.std.proofs.lemmas.List.{length-map}
 use Rattle.std.proofs.lemmas.Slice.Eq.{bytes_eq-Decides}
 use Rattle.std.specs.Int.{is_in_range}
-use Rattle.std.specs.List.{AllByRecursion, AllPairs, Contains, filter_map, find}
+use Rattle.std.specs.List.{AllPairs, Contains, filter_map, find}
 use Rattle.std.specs.Option.{option_map, option_map_or}
 use Rattle.std.specs.Prelude.{Err, IsFalse, IsTrue, Ok, Result, bytes_eq, ◌==◌, ◌≢◌, ◌⊎◌}
 
@@ -191,8 +190,8 @@ is_still h still s =
     let sector : h.geometry.sector ≡ 512 = still.sector in
     record {
       each = recursion_from_All (IsStillGiven (still_setting h s) (clock_reading h 1)) (given h) (λ k d inside.
-      let one = each_given h still _ (Contains-get_or (given h) k d inside) in
-      record { host = within 1 h.geometry.hosts _ one.host.0 one.host.1; renewed = one.renewed; based = one.base });
+          let one = each_given h still _ (Contains-get_or (given h) k d inside) in
+          record { host = within 1 h.geometry.hosts _ one.host.0 one.host.1; renewed = one.renewed; based = one.base });
       different = different_given h head;
       io = omega (arith, head.timing.io.0);
       below = reading_below h head;
@@ -216,8 +215,8 @@ is_setting h still s has =
       numbers = (omega arith, omega arith, omega arith, omega arith);
       few = few_given h still;
       each = recursion_from_All (IsGiven (still_setting h s)) (given h) (λ k d inside.
-      let one = each_given h still _ (Contains-get_or (given h) k d inside) in
-      record { id = one.host; base = one.base; renewed = subst (λ (n : ℕ). n < moments) (sym one.renewed) (reading_below h head); lockspace = one.lockspace });
+          let one = each_given h still _ (Contains-get_or (given h) k d inside) in
+          record { id = one.host; base = one.base; renewed = subst (λ (n : ℕ). n < moments) (sym one.renewed) (reading_below h head); lockspace = one.lockspace });
       different = different_given h head;
     }
 
