@@ -14,7 +14,7 @@ use Rattle.sl_run.specs.Worlds.{World, world_with}
 use Rattle.sl_run.specs.declared.event.Event.{Event}
 use Rattle.sl_run.specs.declared.event.Refusal.{Refusal}
 use Rattle.std.proofs.Common.{ap, refl, subst, sym, ◌∙◌}
-use Rattle.std.specs.Prelude.{Err, List, None, Ok, Option, Some, [], ℕ, ◌∷◌, ◌≡◌}
+use Rattle.std.specs.Prelude.{Err, List, None, Ok, Option, Some, suc, zero, [], ℕ, ◌∷◌, ◌≡◌}
 
 -- ---- the ending
 
@@ -59,7 +59,7 @@ does_what_is_due w ((n, Ok e) ∷ ls) =
 -- ---- the status
 
 -- The status by what is read of the header.
-abbrev status_by : Language → HeaderReading → ℕ
+abbrev pub status_by : Language → HeaderReading → ℕ
 status_by lang o =
     elim o [
       | Header_refused number why ↦ 1
@@ -72,7 +72,7 @@ ends_well lang source a =
     ap (status_by lang) a.is_read
     ∙ ap status_of (ends_so (world_with lang.program a.header) (event_lines_of lang a.header a.rest) a.run At_end a.follows a.does)
 
-one_is_none : 1 ≡ 0 → ⊥
+one_is_none : suc zero ≡ zero → ⊥
 one_is_none h = absurd cc
 
 is_the_end : (end : Ending) → status_of end ≡ 0 → end ≡ At_end

@@ -3,7 +3,7 @@
 -- What is due is said of the traces at the end of the run. Each step's entry stands in a trace from then on, with those before it behind
 -- it: so the step had the effects that were due when it was made.
 use Rattle.sl_due.specs.Due.{IsDue, IsHostTrace, due}
-use Rattle.sl_first_run.proofs.Accepting.{ends_so}
+use Rattle.sl_first_run.proofs.Accepting.{ends_so, status_by}
 use Rattle.sl_first_run.proofs.Changing.{complete_keeps, seen_of}
 use Rattle.sl_first_run.specs.Accepted.{DoesWhatIsDue}
 use Rattle.sl_first_run.specs.Promises.{RunsHaveOneStatus}
@@ -228,5 +228,8 @@ sound_does : (p : Program) (h : Header) (xs : List Happening) → SoundRun p h x
 sound_does p h xs sound = does_from p h [] xs sound.is_run sound.is_due
 
 pub runs_have_one_status : RunsHaveOneStatus
-runs_have_one_status lang source written status (In_header number why is text) = ?
-runs_have_one_status lang source written status (In_events h rest xs end is follows sound text ends) = ?
+runs_have_one_status lang source written status (In_header number why is text) = sym (ap (status_by lang) is)
+runs_have_one_status lang source written status (In_events h rest xs end is follows sound text ends) =
+    ends
+    ∙ ap status_of (sym (ends_so (world_with lang.program h) (event_lines_of lang h rest) xs end follows (sound_does lang.program h xs sound)))
+    ∙ sym (ap (status_by lang) is)
