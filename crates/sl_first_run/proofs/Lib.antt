@@ -1,10 +1,12 @@
 pub mod Reported
 pub mod Changing
-pub mod Running
 pub mod Ended
-pub mod Moving
 pub mod Holding
+pub mod Spelled
+pub mod Running
+pub mod Moving
 pub mod Soundness
+pub mod Idling
 pub mod Reports
 pub mod CutLines
 pub mod CutReadings
@@ -12,4 +14,3 @@ pub mod Cutting
 pub mod Headlines
 pub mod Accepting
 pub mod OneStatus
-pub mod Idling

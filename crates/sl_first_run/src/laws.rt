@@ -18,7 +18,7 @@ pub fn reports_are_runs()
     ensures { ReportsAreRuns }
 {}
 
-/// The run of a schedule of one machine is sound, where its daemon does what is due and keeps the laws.
+/// The run of a schedule of one machine whose clock stands still is sound, where its daemon does what is due and keeps the laws.
 pub fn first_runs_are_sound<C: DaemonClaim>()
     ensures { FirstRunsAreSound C.holds }
 {}
