@@ -10,8 +10,7 @@ use Rattle.sl_report.specs.Schedules.{EventLine}
 use Rattle.sl_run.proofs.FirstWorld.{nothing_is_held_at_first}
 use Rattle.sl_run.specs.Events.{happens, refusal_of}
 use Rattle.sl_run.specs.Runs.{AfterEachFront, EachDaemon, Happening, daemons_of}
-use Rattle.sl_run.specs.Safety.{world_at}
-use Rattle.sl_run.specs.Worlds.{Daemon, World, daemons_on, machine_of_header, new_daemon, setting_of, first_numbers, first_stamp, given_of, world_with}
+use Rattle.sl_run.specs.Worlds.{Daemon, World, daemons_on, machine_of_header, new_daemon, first_stamp, world_with}
 use Rattle.sl_run.specs.declared.event.Event.{Event}
 use Rattle.sl_run.specs.declared.event.Refusal.{Refusal}
 use Rattle.sl_run.specs.declared.header.Header.{Header}
@@ -26,7 +25,7 @@ use Rattle.sl_world.specs.FirstEvents.{is_first_event}
 use Rattle.sl_world.specs.Idle.{IsIdleWorld, idle_refusal}
 use Rattle.std.proofs.Common.{ap, refl, subst, sym, ◌∙◌}
 use Rattle.std.specs.List.{range_with_len}
-use Rattle.std.specs.Prelude.{Contains, Err, List, None, Ok, Option, Some, find, flat_map, map, option_map, true, [], ℕ, ◌++◌, ◌==◌, ◌∷◌, ◌≡◌}
+use Rattle.std.specs.Prelude.{Contains, Err, List, None, Ok, Option, Some, flat_map, map, option_map, true, [], ◌++◌, ◌∷◌, ◌≡◌}
 
 -- ---- nothing happens
 

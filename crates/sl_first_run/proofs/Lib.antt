@@ -13,4 +13,4 @@ pub mod CutReadings
 pub mod Cutting
 pub mod Headlines
 pub mod Accepting
-pub mod OneStatus
+pub mod OneReport

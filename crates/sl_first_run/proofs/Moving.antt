@@ -21,7 +21,7 @@ use Rattle.sl_world.specs.Changes.{after_complete, after_land, flight_landed, fl
 use Rattle.sl_world.specs.FirstEvents.{answer_refusal, at_flight, done_refusal, flight_left, flight_numbered, flight_writes, is_first_event, land_refusal, refusal_in, sample_refusal}
 use Rattle.sl_world.specs.Kept.{FlightState, IsDisk, KeptState}
 use Rattle.std.proofs.Common.{ap, refl, subst, sym, ◌∙◌}
-use Rattle.std.specs.Prelude.{Bool, List, None, Option, Some, false, nat_lt, true, ℕ, ◌≡◌}
+use Rattle.std.specs.Prelude.{Bool, None, Option, Some, false, nat_lt, true, ℕ, ◌≡◌}
 
 -- ---- what an event leaves before a step
 

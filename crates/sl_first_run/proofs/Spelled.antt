@@ -5,7 +5,7 @@ use Rattle.sl_world.specs.Changes.{change_flight, flights_after, flights_without
 use Rattle.sl_world.specs.Daemons.{IsSpelled}
 use Rattle.sl_world.specs.FirstEvents.{flight_numbered}
 use Rattle.sl_world.specs.Kept.{FlightState}
-use Rattle.std.proofs.Common.{inl, inr, refl, subst, sym}
+use Rattle.std.proofs.Common.{inl, inr, subst, sym}
 use Rattle.std.specs.List.{AllByRecursion}
 use Rattle.std.specs.Prelude.{Bool, Contains, List, None, Option, Some, false, if◌then◌else◌, not, true, [], ℕ, ◌==◌, ◌∷◌, ◌≡◌}
 
