@@ -13,8 +13,9 @@ use Rattle.sl_run.specs.declared.event.Refusal.TheVariants.{MissingCall, Syntax}
 use Rattle.sl_run.specs.declared.event.Refusal.{Refusal}
 use Rattle.sl_trace.specs.Traces.{Setting, Trace, holdings, is_write, no_effects}
 use Rattle.sl_trace.specs.declared.input.Input.TheVariants.{Line}
+use Rattle.sl_world.proofs.Completing.{done_is_taken}
 use Rattle.sl_world.proofs.DiskLaws.{is_sized}
-use Rattle.sl_world.proofs.FirstWorld.{Quiet, answer_is_taken, command_taken, done_is_taken, land_quiet, refuses, sample_quiet}
+use Rattle.sl_world.proofs.FirstWorld.{Quiet, answer_is_taken, command_taken, land_quiet, refuses, sample_quiet}
 use Rattle.sl_world.proofs.Passing.{is_on_first, land_passes, some_none}
 use Rattle.sl_world.proofs.Solo.{still_held}
 use Rattle.sl_world.specs.Changes.{after_complete, after_land, flight_landed, flight_sampled, kept_after, kept_complete, kept_landed, kept_sampled, told_done, told_ok}
