@@ -10,6 +10,7 @@ use Rattle.sl_still.proofs.Leases.{number_same}
 use Rattle.sl_still.proofs.Lists.{filtered}
 use Rattle.sl_still.specs.StillLeases.{PhaseStands, StillStands, Table}
 use Rattle.sl_still.specs.StillPath.{IsLease, IsStill, StillLease}
+use Rattle.sl_still_step.proofs.Plain.{one_truth}
 use Rattle.sl_still_step.specs.Promises.{AnsweredLease, AnswersFindTheirLease}
 use Rattle.sl_trace.specs.Traces.{Answered, Setting, Submitted, Trace, is_answer_for, is_expected, outstanding, submitted}
 use Rattle.sl_trace.specs.declared.input.Answer.{Answer}
@@ -57,16 +58,11 @@ found_fits st now T es h call a l is d works number x =
     let one : x.doing ≡ d = works_is x.doing d (sym x.works ∙ ap (λ (k : StillLease). (T k).phase) same ∙ works) in
     ap (λ (w : Doing). is_answer_for st a w.call.call.op) (sym one) ∙ x.fits
 
-same_truth : (a b : Bool) → (a ≡ true → b ≡ true) → (b ≡ true → a ≡ true) → a ≡ b
-same_truth true b h i = sym (h refl)
-same_truth false true h i = i refl
-same_truth false false h i = refl
-
 pub answers_find : AnswersFindTheirLease
 answers_find = record {
   finds = λ st now f T es h call a expected. answer_found st now f T es h call a expected;
   there = λ st now f T es h call a l is d works number.
-      same_truth (is_expected st es (Told call a)) (is_answer_for st a d.call.call.op)
+      one_truth (is_expected st es (Told call a)) (is_answer_for st a d.call.call.op)
       (λ expected. found_fits st now T es h call a l is d works number (answer_found st now f T es h call a expected))
       (λ fits. subst (λ n. is_expected st es (Told n a) ≡ true) number (work_expected st now T es h l is d works a fits));
   nowhere = λ st now f T es h call a none.

@@ -45,7 +45,7 @@ open_apart st now T es h =
 
 -- ---- holdings
 
-holder_of : Phase → Option ℕ
+abbrev holder_of : Phase → Option ℕ
 holder_of (Holds p lver) = Some p
 holder_of q = None
 
@@ -67,7 +67,7 @@ not_other machine p q same other =
 pub holdings_agree : HoldingsAgree
 holdings_agree st now T es h a b there also =
     is_false (conflicts (record { machine = 1; held = a }) (record { machine = 1; held = b })) (λ both.
-    let parts = and_true (same_place a.path a.offset b.path b.offset) (not (is_shared a.mode && is_shared b.mode) && not (1 == 1 && a.process == b.process)) both in
-    let other = (and_true (not (is_shared a.mode && is_shared b.mode)) (not (1 == 1 && a.process == b.process)) parts.1).1 in
+    let parts = and_true (same_place a.path a.offset b.path b.offset && not (is_shared a.mode && is_shared b.mode)) (not (1 == 1 && a.process == b.process)) both in
+    let near = (and_true (same_place a.path a.offset b.path b.offset) (not (is_shared a.mode && is_shared b.mode)) parts.0).0 in
     not_other 1 a.process b.process
-    (one_process st now T es h (spot_of_grant b) a b (holder_on st now T es h (spot_of_grant b) a there parts.0) (holder_on st now T es h (spot_of_grant b) b also (spot_self (spot_of_grant b)))) other)
+    (one_process st now T es h (spot_of_grant b) a b (holder_on st now T es h (spot_of_grant b) a there near) (holder_on st now T es h (spot_of_grant b) b also (spot_self (spot_of_grant b)))) parts.1)

@@ -147,7 +147,7 @@ release_found st t now r p o is =
     ap (λ o. with_session o (λ s. unless_refused (release_refusals st t s r p (its_holding t s r p)) (gives_up s (its_holding t s r p)))) is
 
 -- Of what the lease holds, what the process holds.
-held_of : StillLease → ResourceArg → Phase → ℕ → Option Grant
+abbrev held_of : StillLease → ResourceArg → Phase → ℕ → Option Grant
 held_of l r q p = find (λ (g : Grant). g.process == p && true) (lease_held l r q)
 
 its_held : (st : Setting) (now : ℕ) (T : Table) (es : Trace) → StillStands st now T es → (l : StillLease) → IsLease st l → (r : ResourceArg) (p : ℕ) → IsOf l r

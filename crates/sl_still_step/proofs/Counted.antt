@@ -11,13 +11,13 @@ use Rattle.sl_still.proofs.Quiet.{quiet_children, quiet_held}
 use Rattle.sl_still.proofs.Sessions.{joined_still, sessions_still}
 use Rattle.sl_still.proofs.Stillness.{quiet_calm, session_is}
 use Rattle.sl_still.specs.StillLeases.{StillStands, Table}
-use Rattle.sl_still.specs.StillPath.{IsLease, IsStill, IsStillCalm, StillLease, before_next, lease_session}
-use Rattle.sl_still_step.proofs.Filters.{filter_each}
+use Rattle.sl_still.specs.StillPath.{IsLease, IsStill, IsStillCalm, StillLease, before_next, lease_session, still_entry}
+use Rattle.sl_still_step.proofs.Plain.{filter_each, one_truth}
 use Rattle.sl_still_step.specs.StillAreas.{is_unused}
-use Rattle.sl_trace.specs.Traces.{Child, Job, Setting, Submitted, Trace, children, holdings, jobs, running_jobs, same_spot}
+use Rattle.sl_trace.specs.Traces.{Child, Job, Setting, Submitted, Trace, children, holdings, jobs, no_effects, running_jobs, same_spot}
 use Rattle.sl_trace.specs.declared.effects.Grant.{Grant}
 use Rattle.sl_trace.specs.declared.effects.Spot.{Spot}
-use Rattle.sl_words.proofs.CaseLaws.{false_is_true}
+use Rattle.sl_trace.specs.declared.input.Input.TheVariants.{Wake}
 use Rattle.sl_words.specs.Orders.{put_in}
 use Rattle.sl_words.specs.Words.{is_empty, some_is}
 use Rattle.std.proofs.Common.{ap, refl, subst, sym, ◌∙◌}
@@ -27,13 +27,14 @@ use Rattle.std.specs.Prelude.{Bool, Contains, IsTrue, List, [], count_by, false,
 
 -- ---- the areas of a session's calls
 
-or_turned : (a b c : Bool) → (a || b || c) ≡ (b || a || c)
+or_turned : (a b c : Bool) → (a || (b || c)) ≡ (b || (a || c))
 or_turned true true c = refl
 or_turned true false c = refl
-or_turned false b c = refl
+or_turned false true c = refl
+or_turned false false c = refl
 
 any_put_at : {A : Type 0} (p : A → Bool) (before : A → A → Bool) (x y : A) (ys : List A) (b : Bool) → list_any p (put_in before x ys) ≡ (p x || list_any p ys)
-    → list_any p (if b then x ∷ y ∷ ys else y ∷ put_in before x ys) ≡ (p x || p y || list_any p ys)
+    → list_any p (if b then x ∷ y ∷ ys else y ∷ put_in before x ys) ≡ (p x || (p y || list_any p ys))
 any_put_at p before x y ys true rest = refl
 any_put_at p before x y ys false rest = ap (λ t. p y || t) rest ∙ or_turned (p y) (p x) (list_any p ys)
 
@@ -54,15 +55,10 @@ any_with_at at s spots false there = any_put (same_spot at) is_spot_before s spo
 any_with : (at s : Spot) (spots : List Spot) → list_any (same_spot at) (with_spot s spots) ≡ (same_spot at s || list_any (same_spot at) spots)
 any_with at s spots = any_with_at at s spots (list_any (same_spot s) spots) refl
 
-both_or_none : (a b : Bool) → (a ≡ true → b ≡ true) → (b ≡ true → a ≡ true) → a ≡ b
-both_or_none true b h i = sym (h refl)
-both_or_none false true h i = i refl
-both_or_none false false h i = refl
-
 -- A call is on an area just where its area is that.
 on_is_same : (st : Setting) (at : Spot) (m : Submitted) → IsTrue (is_base st.layout at.base) → 0 < st.layout.area → same_spot at (spot_of_call st.layout m) ≡ is_on st.layout at m.call
 on_is_same st at m based room =
-    both_or_none (same_spot at (spot_of_call st.layout m)) (is_on st.layout at m.call)
+    one_truth (same_spot at (spot_of_call st.layout m)) (is_on st.layout at m.call)
     (λ same. subst (λ (z : Spot). is_on st.layout z m.call ≡ true) (sym (spot_same at (spot_of_call st.layout m) same)) (on_own st m room))
     (λ on. subst (λ (z : Spot). same_spot at z ≡ true) (sym (on_spot st at m based on)) (spot_self at))
 
@@ -114,12 +110,12 @@ quiet_resources st now f es calm =
     (all_joined st now f (before_next now es) (quiet_calm now es calm) ∙ sessions_still st now f (before_next now es)
     ∙ sym (all_joined st now f es calm ∙ sessions_still st now f es))
 
-ungranted_among : List Child → List Job → ℕ
+abbrev ungranted_among : List Child → List Job → ℕ
 ungranted_among ks js = count_by (λ (j : Job). is_command_that is_asking_lease j && not (is_some (option_map (λ (k : Child). k.process) (find (λ (k : Child). some_is (λ i. i == j.number) k.job) ks)))) js
 
 pub quiet_holders : (st : Setting) (now : ℕ) (T : Table) (es : Trace) → StillStands st now T es → holder_count st (before_next now es) ≡ holder_count st es
 quiet_holders st now T es h =
     let t : Trace = before_next now es in
     ap (λ (gs : List Grant). length gs + ungranted_among (children t) (running_jobs st t)) (quiet_held now es)
-    ∙ ap (λ js. length (holdings es) + ungranted_among (children t) js) (running_stays st es _ (append-nil (jobs st es)) refl)
+    ∙ ap (λ js. length (holdings es) + ungranted_among (children t) js) (running_stays st es (still_entry now Wake no_effects) (append-nil (jobs st es)) refl)
     ∙ ap (λ ks. length (holdings es) + ungranted_among ks (running_jobs st es)) (quiet_children now es h.childless ∙ sym h.childless)

@@ -8,7 +8,7 @@ use Rattle.sl_still.proofs.Busy.{holding_is_held}
 use Rattle.sl_still.proofs.Leases.{spot_same}
 use Rattle.sl_still.specs.StillLeases.{PhaseStands, StillStands, Table, is_idle, lease_held}
 use Rattle.sl_still.specs.StillPath.{IsLease, IsOf, StillLease, lease_grant}
-use Rattle.sl_still_step.proofs.Filters.{filter_none, filter_through}
+use Rattle.sl_still_step.proofs.Plain.{filter_none, filter_through}
 use Rattle.sl_trace.specs.Traces.{Setting, Trace, holdings, same_place}
 use Rattle.sl_trace.specs.declared.effects.Grant.{Grant}
 use Rattle.sl_trace.specs.declared.effects.Spot.{Spot}
@@ -66,7 +66,8 @@ one_held st now T es h at k is here p lver holds =
     ∙ ap (λ (a : Spot). filter (λ (g : Grant). same_place g.path g.offset a.path a.base) (filter (λ (g : Grant). g.session == k.number) (holdings es))) (sym here)
     ∙ (h.leases k is).held ∙ ap (λ q. lease_held k (T k).resource q) holds
 
-holds_no_work : (phase : Phase) (p lver : ℕ) (d : Doing) → phase ≡ Holds p lver → phase ≡ Works d → ⊥
+-- What holds is not worked for.
+pub holds_no_work : (phase : Phase) (p lver : ℕ) (d : Doing) → phase ≡ Holds p lver → phase ≡ Works d → ⊥
 holds_no_work phase p lver d holds works = none_some d (ap (λ q. work_in q) (sym holds ∙ works))
 
 pub none_held : (st : Setting) (now : ℕ) (T : Table) (es : Trace) → StillStands st now T es → (at : Spot) (k : StillLease) → IsLease st k → k.at ≡ at → (d : Doing) → (T k).phase ≡ Works d

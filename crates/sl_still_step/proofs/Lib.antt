@@ -1,4 +1,4 @@
-pub mod Filters
+pub mod Plain
 pub mod Holders
 pub mod Openings
 pub mod Counted

@@ -26,7 +26,7 @@ use Rattle.std.specs.Prelude.{Bool, Err, List, None, Ok, Option, Result, Some, [
 
 -- ---- what was read
 
-command_in : Result Command ℕ → Option Command
+abbrev command_in : Result Command ℕ → Option Command
 command_in (Ok c) = Some c
 command_in (Err column) = None
 
@@ -37,7 +37,7 @@ one_command r c d is also = some_value c d (ap (λ x. command_in x) (sym is ∙ 
 says_nothing : (r : Result Command ℕ) (column : ℕ) (c : Command) → r ≡ Err column → r ≡ Ok c → ⊥
 says_nothing r column c is also = none_some c (ap (λ x. command_in x) (sym is ∙ also))
 
-acquired : Command → Option ResourceArg
+abbrev acquired : Command → Option ResourceArg
 acquired (Acquire r shared p) = Some r
 acquired c = None
 
@@ -47,7 +47,7 @@ one_resource q r n p same = some_value q r (ap (λ c. acquired c) same)
 not_both_commands : (q r : ResourceArg) (n p : ℕ) → Release q n ≡ Acquire r false p → ⊥
 not_both_commands q r n p same = none_some r (ap (λ c. acquired c) same)
 
-is_reply : Decision → Bool
+abbrev is_reply : Decision → Bool
 is_reply (Replies why) = true
 is_reply d = false
 

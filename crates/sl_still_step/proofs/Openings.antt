@@ -10,7 +10,8 @@ use Rattle.sl_still.proofs.Leases.{calls_filtered, is_its_call, on_spot}
 use Rattle.sl_still.proofs.Lists.{filtered, list_all_of}
 use Rattle.sl_still.specs.StillLeases.{PhaseStands, StillStands, Table, is_idle}
 use Rattle.sl_still.specs.StillPath.{IsLease, IsStill, StillLease}
-use Rattle.sl_still_step.proofs.Filters.{filter_none, filter_through}
+use Rattle.sl_still_step.proofs.Holders.{holds_no_work}
+use Rattle.sl_still_step.proofs.Plain.{filter_none, filter_through}
 use Rattle.sl_trace.specs.Traces.{Answered, Setting, Submitted, Trace, outstanding, submitted}
 use Rattle.sl_trace.specs.declared.effects.Spot.{Spot}
 use Rattle.sl_words.proofs.CaseLaws.{false_is_true, is_false, none_some, true_is_false}
@@ -59,9 +60,6 @@ free_open st now T es f h at based idle =
     let y = work_on st now T es f h at based m there on in
     true_is_false (sym (idle y.lease y.is y.here) ∙ ap (λ q. is_idle q) y.works)))
 
-works_hold_none : (phase : Phase) (p lver : ℕ) (d : Doing) → phase ≡ Holds p lver → phase ≡ Works d → ⊥
-works_hold_none phase p lver d holds works = none_some d (ap (λ q. work_in q) (sym holds ∙ works))
-
 -- Where a lease on the area holds or is worked for, no other on it is worked for.
 pub worker_is : (st : Setting) (now : ℕ) (T : Table) (es : Trace) → StillStands st now T es → (at : Spot) (m : Submitted) → (y : WorkOn st T at m) → (k : StillLease) → IsLease st k → k.at ≡ at
     → is_idle (T k).phase ≡ false → y.lease ≡ k
@@ -73,7 +71,7 @@ held_open st now T es f h at based k is here p lver holds =
     filter_none (λ (m : Submitted). is_on st.layout at m.call) (outstanding es) (λ m there.
     is_false (is_on st.layout at m.call) (λ on.
     let y = work_on st now T es f h at based m there on in
-    works_hold_none (T k).phase p lver y.doing holds
+    holds_no_work (T k).phase p lver y.doing holds
     (ap (λ (l : StillLease). (T l).phase) (sym (worker_is st now T es h at m y k is here (ap (λ q. is_idle q) holds))) ∙ y.works)))
 
 -- ---- one open call

@@ -1,8 +1,18 @@
--- What is kept of lists: none, all, or what was kept before.
+-- Plain facts: of truths, and of what is kept of lists.
 use Rattle.sl_plain.proofs.Lists.{contains_first, contains_more}
 use Rattle.std.proofs.Common.{ap, refl, sym, ◌∙◌}
 use Rattle.sl_words.proofs.CaseLaws.{true_is_false}
 use Rattle.std.specs.Prelude.{Bool, Contains, List, false, filter, if◌then◌else◌, true, [], ◌∷◌, ◌≡◌}
+
+-- ---- truths
+
+-- Two truths are one where each follows from the other.
+pub one_truth : (a b : Bool) → (a ≡ true → b ≡ true) → (b ≡ true → a ≡ true) → a ≡ b
+one_truth true b h i = sym (h refl)
+one_truth false true h i = i refl
+one_truth false false h i = refl
+
+-- ---- lists
 
 -- Where none passes none is kept.
 pub filter_none : {A : Type 0} (p : A → Bool) (xs : List A) → ((x : A) → Contains xs x → p x ≡ false) → filter p xs ≡ []
