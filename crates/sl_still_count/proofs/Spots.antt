@@ -1,13 +1,12 @@
 -- The areas that a session has used: one more call adds its area, unless it is there already, and an answer adds none.
 use Rattle.sl_area.specs.Layouts.{Layout}
-use Rattle.sl_leases.specs.Leases.{is_lease_call, is_on, is_spot_before, lease_step, spot_of_call, spots_in, with_spot}
+use Rattle.sl_leases.specs.Leases.{is_lease_call, is_on, is_spot_before, lease_spots, lease_step, spot_of_call, spots_in, with_spot}
 use Rattle.sl_session_law.proofs.Making.{same_answered}
 use Rattle.sl_sessions.specs.Sessions.{calls_of}
 use Rattle.sl_still.proofs.Leases.{area_room, on_own, on_spot, spot_same, spot_self}
 use Rattle.sl_still.specs.StillPath.{IsLease, IsStill, StillLease, lease_session}
 use Rattle.sl_still_count.proofs.Sums.{one_truth}
 use Rattle.sl_still_count.specs.Counted.{some_call, used}
-use Rattle.sl_leases.specs.Leases.{lease_spots}
 use Rattle.sl_trace.specs.Traces.{Setting, Submitted, Trace, answered_in, mark, same_spot}
 use Rattle.sl_trace.specs.declared.effects.Call.{Call}
 use Rattle.sl_trace.specs.declared.effects.Entry.{Entry}
