@@ -12,7 +12,7 @@ use Rattle.sl_trace.specs.declared.effects.Effects.{Effects}
 use Rattle.sl_trace.specs.declared.effects.LeaseStep.TheVariants.{FreeLeader, ReadArea}
 use Rattle.sl_trace.specs.declared.input.Answer.{Answer}
 use Rattle.sl_world.specs.Daemons.{IsSmallStep}
-use Rattle.std.specs.Prelude.{List, [], ℕ, ◌∷◌, ◌≡◌}
+use Rattle.std.specs.Prelude.{List, [], false, ℕ, ◌∷◌, ◌≡◌}
 
 -- An acquire of this resource by this process begins with a read of the area.
 pub record BeginsAt (h after : LeaseHostState) (st : Setting) (es : Trace) (x : LeaseState) (text : List ℕ) (r : ResourceArg) (p : ℕ) (fx : Effects) : Type 0 where

@@ -48,8 +48,9 @@ impl LeaseHost {
         let rooms = Rooms::new(self.alloc)?;
         self.site.renamed(resource);
         let effects = rooms.call(self.site.first_read(call, job));
+        let next = LeaseNext::ReadFor(self.site.first_step());
+        submits(&mut self.lease, &next);
         let step = self.site.first_step();
-        submits(&mut self.lease, &LeaseNext::ReadFor(step));
         self.phase = Phase::Works(Doing {
             job,
             command: JobCommand::Acquire { process },
@@ -142,12 +143,12 @@ impl LeaseHost {
         &mut self,
         doing: &Doing,
         answer: &Answer,
-        next_call: u64,
+        number: u64,
     ) -> Result<Effects, AllocError>
         requires works { self.old.phase ≡ Works doing.now }
         requires fits { IsTrue (is_answer_by self.old.sizes doing.now.sectors answer.now) }
         ensures goes_on { IfOk result (λ fx. (st : Setting) (now : ℕ) (T : Table) (es : Trace) (d : Work) → KeepsAt self.old st now T es
-            → (T (lease_of self.old)).phase ≡ Working d → next_call ≡ next_call st es
+            → (T (lease_of self.old)).phase ≡ Working d → number ≡ next_call st es
             → GoesOnAt self.old self.new st es (T (lease_of self.old)) d answer.now fx) }
         ensures same { lease_of self.new ≡ lease_of self.old }
         ensures sizes { self.new.sizes ≡ self.old.sizes }
@@ -156,12 +157,12 @@ impl LeaseHost {
     {
         let rooms = Rooms::new(self.alloc)?;
         let next = take_answer(&mut self.lease, self.alloc, &self.site, doing, answer)?;
-        self.phase = doing.phase_after(self.site.geometry().hosts(), next_call, &next);
+        self.phase = doing.phase_after(self.site.geometry().hosts(), number, &next);
         let process = doing.command.process();
         Ok(told_effects(
             &self.site,
             rooms,
-            next_call,
+            number,
             doing.job,
             process,
             next,
