@@ -5,8 +5,8 @@ use Rattle.sl_first.specs.FirstSteps.{Holds as Held_by, Idle as Resting, IsNamed
 use Rattle.sl_lease_host.proofs.PhaseLaws.{shows_held, shows_idle}
 use Rattle.sl_lease_host.proofs.SmallLaws.{leader_is, named_space, reads_only, small_call, spells}
 use Rattle.sl_lease_host.proofs.TakeLaws.{of_next}
-use Rattle.sl_lease_host.specs.LeaseHosts.{IsKnownOf, KeepsAt, KeepsLease, LeaseHostState, lease_of, site_of}
-use Rattle.sl_lease_host.specs.Moves.{BeginsAt, GivesBackAt}
+use Rattle.sl_lease_host.specs.LeaseHosts.{IsKnownOf, KeepsAt, KeepsLease, LeaseHostState, is_held, lease_of, site_of}
+use Rattle.sl_lease_host.specs.Moves.{BeginsAt, GivesBackAt, IsBegun, IsGivenBack}
 use Rattle.sl_lease_host.specs.Phases.{IsPhaseOf}
 use Rattle.sl_lease_host.specs.Sites.{IsLaidOut, IsSite, SiteState, freed_leader}
 use Rattle.sl_lease_host.specs.Submits.{IsCallOf, MayFollow, after_next}
@@ -33,13 +33,16 @@ use Rattle.sl_trace.specs.declared.effects.Call.{Call}
 use Rattle.sl_trace.specs.declared.effects.Effects.{Effects}
 use Rattle.sl_trace.specs.declared.effects.End.{End}
 use Rattle.sl_trace.specs.declared.effects.LeaseStep.TheVariants.{FreeLeader, ReadArea}
+use Rattle.sl_trace.specs.declared.effects.LeaseStep.{LeaseStep}
 use Rattle.sl_trace.specs.declared.effects.Op.TheVariants.{ReadSectors}
 use Rattle.sl_trace.specs.declared.effects.Work.TheVariants.{ForJob}
 use Rattle.sl_words.proofs.CaseLaws.{false_is_true}
 use Rattle.sl_words.proofs.WordLaws.{and_true}
 use Rattle.sl_world.specs.Daemons.{IsSmallStep}
 use Rattle.std.proofs.Common.{List, None, Option, Some, ap, false, is_some, refl, subst, sym, true, unwrap_or, [], length, ℕ, ◌+◌, ◌++◌, ◌∙◌, ◌∷◌, ◌≡◌}
+use Rattle.std.proofs.lemmas.Bool.{eqb-true}
 use Rattle.std.specs.List.{list_all}
+use Rattle.std.specs.Prelude.{IfOk, Result}
 
 -- ---- what is known between jobs
 
@@ -69,13 +72,13 @@ Submits before after next =
 
 -- ---- an acquire
 
--- The host of the lease once the acquire has begun.
+-- Where the lease stands once the acquire has begun.
+abbrev acquiring : ℕ → ℕ → LeaseStep → ℕ → ℕ → Phase
+acquiring job p step call hosts = Works (record { job = job; command = Acquires p; step = step; call = call; lver = 0; sectors = Some (hosts + 2) })
+
+-- Its host then.
 abbrev host_acquiring : LeaseHostState → ResourceArg → ℕ → ℕ → ℕ → ℕ → LeaseState → LeaseHostState
-host_acquiring h r p call job hosts after = record h {
-  resource = r;
-  phase = Works (record { job = job; command = Acquires p; step = ReadArea r.name; call = call; lver = 0; sectors = Some (hosts + 2) });
-  lease = after;
-}
+host_acquiring h r p call job hosts after = record h { resource = r; phase = acquiring job p (ReadArea r.name) call hosts; lease = after }
 
 acquire_keeps : (h : LeaseHostState) (r : ResourceArg) (p : ℕ) (after : LeaseState) → h.phase ≡ Idle → Submits h.lease after (ReadFor (ReadArea r.name))
     → (st : Setting) (now : ℕ) (T : Table) (es : Trace) (text : List ℕ) → KeepsAt h st now T es
@@ -103,23 +106,31 @@ acquire_keeps h r p after idle submits st now T es text at =
           });
     }
 
+-- The host of a lease with these parts.
+abbrev host_of : SiteState → Phase → LeaseState → LeaseHostState
+host_of s phase lease = record { sizes = s.sizes; session = s.session; given = s.given; resource = s.resource; phase = phase; lease = lease }
+
 -- What the acquire of a lease with these parts does.
-pub acquire_made : (h inside last : LeaseHostState) (r : ResourceArg) (p call job hosts : ℕ) (after : LeaseState) (c : Call) (fx : Effects) → h ≡ inside → h.phase ≡ Idle
-    → ((v : Setting) → v.layout ≡ layout_of inside.sizes → c ≡ of_session inside.session (first_read v r call job)) → fx ≡ first_effects [] [] [] (c ∷ [])
-    → hosts ≡ inside.sizes.hosts → Submits inside.lease after (ReadFor (ReadArea r.name)) → last ≡ host_acquiring inside r p call job hosts after
-    → (st : Setting) (now : ℕ) (T : Table) (es : Trace) (text : List ℕ) → KeepsAt h st now T es → call ≡ next_call st es → job ≡ next_job st es
-    → BeginsAt h last st es (T (lease_of h)) text r p fx
-acquire_made h inside last r p call job hosts after c fx is idle reads effects hosts_are submits last_is st now T es text at numbered jobbed =
+pub acquire_made : (h inside : LeaseHostState) (site : SiteState) (r : ResourceArg) (p call job hosts : ℕ) (first step : LeaseStep) (after : LeaseState) (c : Call) (fx : Effects) → h ≡ inside → h.phase ≡ Idle
+    → site ≡ record (site_of inside) { resource = r }
+    → ((v : Setting) → IsLaidOut v site → c ≡ of_session site.session (first_read v site.resource call job)) → fx ≡ first_effects [] [] [] (c ∷ [])
+    → first ≡ ReadArea site.resource.name → step ≡ ReadArea site.resource.name → hosts ≡ site.sizes.hosts → Submits inside.lease after (ReadFor first)
+    → IsBegun h (host_of site (acquiring job p step call hosts) after) r p call job fx
+acquire_made h inside site r p call job hosts first step after c fx is idle renamed reads effects first_is step_is hosts_are submits st now T es text at numbered jobbed =
     let kept : KeepsAt inside st now T es = subst (λ (x : LeaseHostState). KeepsAt x st now T es) is at in
     let l = lease_of inside in
-    let made : fx ≡ first_effects [] [] [] (area_read st l r es ∷ []) = effects ∙ (λ i. first_effects [] [] [] (reads st kept.keeps.laid i ∷ []))
-    ∙ (λ i. first_effects [] [] [] (of_session inside.session (first_read st r (numbered i) (jobbed i)) ∷ [])) in
-    subst (λ (x : LeaseHostState). BeginsAt x last st es (T (lease_of x)) text r p fx) (sym is)
+    let laid : IsLaidOut st site = subst (λ (s : SiteState). IsLaidOut st s) (sym renamed) kept.keeps.laid in
+    let made : fx ≡ first_effects [] [] [] (area_read st l r es ∷ []) = effects ∙ (λ i. first_effects [] [] [] (reads st laid i ∷ []))
+    ∙ (λ i. first_effects [] [] [] (of_session (renamed i).session (first_read st (renamed i).resource (numbered i) (jobbed i)) ∷ [])) in
+    let named : ReadArea site.resource.name ≡ ReadArea r.name = ap (λ (s : SiteState). ReadArea s.resource.name) renamed in
+    let begun : StillState = record { resource = r; phase = line_work st l es text (Acquire r false p) (ReadArea r.name) (area_read st l r es); answered = (T l).answered } in
+    subst (λ (x : LeaseHostState). BeginsAt x (host_of site (acquiring job p step call hosts) after) st es (T (lease_of x)) text r p fx) (sym is)
     (record {
       effects = made;
       small = subst IsSmallStep (sym made) (small_call [] (area_read st l r es) (reads_only (area_read st l r es) (st.layout.hosts + 2) refl));
-      keeps = subst (λ (x : LeaseHostState). KeepsLease x st _) (sym (last_is ∙ (λ i. host_acquiring inside r p (numbered i) (jobbed i) (hosts_are i) after)))
-          (acquire_keeps inside r p after (ap (λ x. x.phase) (sym is) ∙ idle) submits st now T es text kept);
+      keeps = subst (λ (x : LeaseHostState). KeepsLease x st begun)
+          (λ i. host_of (sym renamed i) (acquiring (sym jobbed i) p (sym (step_is ∙ named) i) (sym numbered i) (sym (hosts_are ∙ ap (λ (s : SiteState). s.sizes.hosts) renamed) i)) after)
+          (acquire_keeps inside r p after (ap (λ x. x.phase) (sym is) ∙ idle) (subst (λ s. Submits inside.lease after (ReadFor s)) (first_is ∙ named) submits) st now T es text kept);
     })
 
 -- ---- a release
@@ -222,20 +233,19 @@ release_begins h p n after fx site granted submits st now T es text w made =
     }
 
 -- What the release of a lease with these parts does.
-pub release_made : (h inside last : LeaseHostState) (p m n call job : ℕ) (after : LeaseState) (w : Leader) (end : End) (c : Call) (fx : Effects) → h ≡ inside → IsSite (site_of inside) → h.phase ≡ Holds p m
+pub release_made : (h inside : LeaseHostState) (p m call job : ℕ) (after : LeaseState) (w : Leader) (end : End) (c : Call) (fx : Effects) → h ≡ inside → IsSite (site_of inside) → h.phase ≡ Holds p m
     → c ≡ of_session h.session (leader_write h.resource call job FreeLeader (freed_leader (site_of h) m))
     → ((lver : ℕ) → end ≡ end_of (lease_grant (lease_of inside) inside.resource p lver)) → fx ≡ first_effects (end ∷ []) [] [] (c ∷ [])
-    → w ≡ freed_leader (site_of inside) m → IsGranted w → Submits inside.lease after (WriteLeader FreeLeader w) → last ≡ host_releasing inside p m call job after
-    → (st : Setting) (now : ℕ) (T : Table) (es : Trace) (text : List ℕ) → KeepsAt h st now T es → (T (lease_of h)).phase ≡ Held_by p n → call ≡ next_call st es → job ≡ next_job st es
-    → GivesBackAt h last st es (T (lease_of h)) text p n fx
-release_made h inside last p m n call job after w end c fx is site held call_is ends effects leader granted submits last_is st now T es text at holds numbered jobbed =
+    → w ≡ freed_leader (site_of inside) m → IsGranted w → Submits inside.lease after (WriteLeader FreeLeader w)
+    → IsGivenBack h (host_releasing inside p m call job after) p call job fx
+release_made h inside p m call job after w end c fx is site held call_is ends effects leader granted submits st now T es text n at holds numbered jobbed =
     let same : m ≡ n = instance_of (shows_held h.resource h.phase (T (lease_of h)).phase p m at.keeps.phase held) holds in
     let written : c ≡ of_session inside.session (leader_write inside.resource (next_call st es) (next_job st es) FreeLeader (freed_leader (site_of inside) n))
     = call_is ∙ (λ i. of_session (is i).session (leader_write (is i).resource (numbered i) (jobbed i) FreeLeader (freed_leader (site_of (is i)) (same i)))) in
     let lead : w ≡ freed_leader (site_of inside) n = leader ∙ ap (λ x. freed_leader (site_of inside) x) same in
-    subst (λ (x : LeaseHostState). GivesBackAt x last st es (T (lease_of x)) text p n fx) (sym is)
+    subst (λ (x : LeaseHostState). GivesBackAt x (host_releasing inside p m call job after) st es (T (lease_of x)) text p n fx) (sym is)
     (subst (λ (x : LeaseHostState). GivesBackAt inside x st es (T (lease_of inside)) text p n fx)
-    (sym (last_is ∙ (λ i. host_releasing inside p (same i) (numbered i) (jobbed i) after)))
+    (λ i. host_releasing inside p (sym same i) (sym numbered i) (sym jobbed i) after)
     (release_begins inside p n after fx site (subst IsGranted lead granted) (subst (λ x. Submits inside.lease after (WriteLeader FreeLeader x)) lead submits) st now T es text
     (record {
       at = subst (λ (x : LeaseHostState). KeepsAt x st now T es) is at;
@@ -249,3 +259,9 @@ release_made h inside last p m n call job after w end c fx is site held call_is 
 
   instance_of : {stand : Stand} {p m n : ℕ} → stand ≡ Held_by p m → stand ≡ Held_by p n → m ≡ n
   instance_of a b = ap lver_in (sym a ∙ b)
+
+-- Who holds is the one who gives back.
+pub given_back : {E : Type 0} (h after : LeaseHostState) (holder process lver call job : ℕ) (r : Result Effects E) → h.phase ≡ Holds holder lver → is_held h.phase process ≡ true
+    → IfOk r (λ fx. IsGivenBack h after holder call job fx) → IfOk r (λ fx. IsGivenBack h after process call job fx)
+given_back h after holder process lver call job r is held gives =
+    subst (λ q. IfOk r (λ fx. IsGivenBack h after q call job fx)) (eqb-true holder process (ap (λ q. is_held q process) (sym is) ∙ held)) gives

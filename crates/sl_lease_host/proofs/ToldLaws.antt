@@ -5,7 +5,7 @@ use Rattle.sl_first.specs.FirstSteps.{Works as Working, blocks_read, first_aim, 
 use Rattle.sl_lease_host.proofs.PhaseLaws.{aims, answer_by, doing_of, phases, process_kept}
 use Rattle.sl_lease_host.proofs.SmallLaws.{IsNextOf, named_space, next_of, told_small}
 use Rattle.sl_lease_host.specs.LeaseHosts.{IsFitPhase, IsKnownOf, KeepsAt, KeepsLease, LeaseHostState, lease_of, site_of}
-use Rattle.sl_lease_host.specs.Moves.{GoesOnAt}
+use Rattle.sl_lease_host.specs.Moves.{GoesOnAt, IsGoingOn}
 use Rattle.sl_lease_host.specs.Phases.{IsDoingOf, aim_in, is_answer_by, phase_after, process_in}
 use Rattle.sl_lease_host.specs.Sites.{IsLaidOut, IsSite}
 use Rattle.sl_lease_host.specs.Taken.{IsTaken, IsToNewest, answered_call}
@@ -183,8 +183,7 @@ pub told_made : (h inside : LeaseHostState) (kept : Doing) (a : Answer) (after :
     → h ≡ inside → IsSite (site_of inside) → h.phase ≡ Works kept → is_answer_by h.sizes kept.sectors a ≡ true → IsTaken inside.given kept a inside.lease after next
     → hosts ≡ inside.sizes.hosts → phase ≡ phase_after hosts kept call next → process ≡ process_in kept.command
     → ((v : Setting) (d : Work) → IsLaidOut v (site_of inside) → d.job.number ≡ kept.job → process_of d.command ≡ process → fx ≡ lease_effects v (lease_of inside) inside.resource call d next)
-    → (st : Setting) (now : ℕ) (T : Table) (es : Trace) (d : Work) → KeepsAt h st now T es → (T (lease_of h)).phase ≡ Working d → call ≡ next_call st es
-    → GoesOnAt h (record inside { phase = phase; lease = after }) st es (T (lease_of h)) d a fx
+    → IsGoingOn h (record inside { phase = phase; lease = after }) a call fx
 told_made h inside kept a after next hosts call process phase fx is site kept_so fits t hosts_are phase_is process_is effects st now T es d at works numbered =
     subst (λ (x : LeaseHostState). GoesOnAt x (record inside { phase = phase; lease = after }) st es (T (lease_of x)) d a fx) (sym is)
     (subst (λ (x : LeaseHostState). GoesOnAt inside x st es (T (lease_of inside)) d a fx)
@@ -198,19 +197,3 @@ told_made h inside kept a after next hosts call process phase fx is site kept_so
     let k = doing_at inside st now T es kept d a w in
     goes_on inside st now T es kept d a after next fx site w t
     (effects st d w.at.keeps.laid k.job (process_kept inside.resource kept d k ∙ sym process_is) ∙ ap (λ n. lease_effects st (lease_of inside) inside.resource n d next) numbered)))
-
--- ---- what is kept fits
-
--- What it keeps can stand in a record.
-pub fit_after : (hosts : ℕ) (kept : Doing) (call : ℕ) (next : LeaseNext) → IsFitNext next → IsFitPhase (phase_after hosts kept call next)
-fit_after hosts kept call Nothing fit = tt
-fit_after hosts kept call (ReadFor step) fit = λ e. absurd (none_some hosts (sym e))
-fit_after hosts kept call (WriteBlock step b) fit = λ e. (fit.1.begun.0, fit.1.block.lver)
-fit_after hosts kept call (WriteLeader step l) fit = λ e. fit.1.lver
-fit_after hosts kept call (AnswerJob why) fit = tt
-fit_after hosts kept call (GrantJob mode lver) fit = fit
-
--- What a call writes that is done.
-pub written_fits : (z : Sizes) (sectors : Option ℕ) (lver : ℕ) (a : Answer) → is_answer_by z sectors a ≡ true → (sectors ≡ None → IsInstance lver) → a ≡ Written → IsInstance lver
-written_fits z None lver a fits keeps e = keeps refl
-written_fits z (Some n) lver a fits keeps e = absurd (false_is_true (subst (λ x. is_answer_by z (Some n) x ≡ true) e fits))

@@ -1,20 +1,17 @@
 //! The moves of a lease. In each the effects are made, and room for them is taken, before anything changes, so where memory is wanted the
 //! lease is as it was.
 ghost use Rattle.sl_area.specs.Layouts.{layout_of};
-ghost use Rattle.sl_first.specs.FirstPath.{Doing as Work};
-ghost use Rattle.sl_first.specs.FirstSteps.{Holds as Held_by, Works as Working, leader_write};
-ghost use Rattle.sl_lease_host.specs.LeaseHosts.{KeepsAt, is_awaited, is_held, lease_of, site_of};
-ghost use Rattle.sl_lease_host.specs.Moves.{BeginsAt, GivesBackAt, GoesOnAt};
+ghost use Rattle.sl_first.specs.FirstSteps.{leader_write};
+ghost use Rattle.sl_lease_host.specs.LeaseHosts.{is_awaited, is_held, lease_of, site_of};
+ghost use Rattle.sl_lease_host.specs.Moves.{IsBegun, IsGivenBack, IsGoingOn};
 ghost use Rattle.sl_lease_host.specs.Phases.{is_answer_by};
 ghost use Rattle.sl_lease_host.specs.Sites.{freed_leader};
 ghost use Rattle.sl_lease_host.specs.declared.phase.Phase.TheVariants.{Holds, Idle, Works};
-ghost use Rattle.sl_still.specs.StillLeases.{Table};
 ghost use Rattle.sl_still.specs.StillPath.{IsOf};
 ghost use Rattle.sl_still.specs.StillSteps.{of_session};
 ghost use Rattle.sl_trace.specs.Commands.{IsResourceArg};
-ghost use Rattle.sl_trace.specs.Traces.{Setting, Trace, next_call, next_job};
 ghost use Rattle.sl_trace.specs.declared.effects.LeaseStep.TheVariants.{FreeLeader};
-ghost use Rattle.std.specs.Prelude.{IfOk, IsTrue, List, OnErr, length, ℕ, ◌≡◌, ◌≤◌};
+ghost use Rattle.std.specs.Prelude.{IfOk, IsTrue, OnErr, length, ◌≡◌, ◌≤◌};
 
 use crate::effects::Rooms;
 use crate::host::LeaseHost;
@@ -38,8 +35,7 @@ impl LeaseHost {
         requires phase { self.old.phase ≡ Idle }
         requires named { IsResourceArg (layout_of self.old.sizes) resource }
         requires its { IsOf (lease_of self.old) resource }
-        ensures begins { IfOk result (λ fx. (st : Setting) (now : ℕ) (T : Table) (es : Trace) (text : List ℕ) → KeepsAt self.old st now T es
-            → call ≡ next_call st es → job ≡ next_job st es → BeginsAt self.old self.new st es (T (lease_of self.old)) text resource process fx) }
+        ensures begins { IfOk result (λ fx. IsBegun self.old self.new resource process call job fx) }
         ensures same { lease_of self.new ≡ lease_of self.old }
         ensures sizes { self.new.sizes ≡ self.old.sizes }
         ensures few { IfOk result (λ fx. length fx.calls ≤ 1) }
@@ -80,9 +76,7 @@ impl LeaseHost {
         job: u64,
     ) -> Result<Effects, AllocError>
         requires { self.old.phase ≡ Holds process lver }
-        ensures gives_back { IfOk result (λ fx. (st : Setting) (now : ℕ) (T : Table) (es : Trace) (text : List ℕ) (n : ℕ) → KeepsAt self.old st now T es
-            → (T (lease_of self.old)).phase ≡ Held_by process n → call ≡ next_call st es → job ≡ next_job st es
-            → GivesBackAt self.old self.new st es (T (lease_of self.old)) text process n fx) }
+        ensures gives_back { IfOk result (λ fx. IsGivenBack self.old self.new process call job fx) }
         ensures same { lease_of self.new ≡ lease_of self.old }
         ensures sizes { self.new.sizes ≡ self.old.sizes }
         ensures few { IfOk result (λ fx. length fx.calls ≤ 1) }
@@ -120,9 +114,7 @@ impl LeaseHost {
         job: u64,
     ) -> Result<Effects, AllocError>
         requires { IsTrue (is_held self.old.phase process) }
-        ensures gives_back { IfOk result (λ fx. (st : Setting) (now : ℕ) (T : Table) (es : Trace) (text : List ℕ) (n : ℕ) → KeepsAt self.old st now T es
-            → (T (lease_of self.old)).phase ≡ Held_by process n → call ≡ next_call st es → job ≡ next_job st es
-            → GivesBackAt self.old self.new st es (T (lease_of self.old)) text process n fx) }
+        ensures gives_back { IfOk result (λ fx. IsGivenBack self.old self.new process call job fx) }
         ensures same { lease_of self.new ≡ lease_of self.old }
         ensures sizes { self.new.sizes ≡ self.old.sizes }
         ensures few { IfOk result (λ fx. length fx.calls ≤ 1) }
@@ -147,9 +139,7 @@ impl LeaseHost {
     ) -> Result<Effects, AllocError>
         requires works { self.old.phase ≡ Works doing.now }
         requires fits { IsTrue (is_answer_by self.old.sizes doing.now.sectors answer.now) }
-        ensures goes_on { IfOk result (λ fx. (st : Setting) (now : ℕ) (T : Table) (es : Trace) (d : Work) → KeepsAt self.old st now T es
-            → (T (lease_of self.old)).phase ≡ Working d → number ≡ next_call st es
-            → GoesOnAt self.old self.new st es (T (lease_of self.old)) d answer.now fx) }
+        ensures goes_on { IfOk result (λ fx. IsGoingOn self.old self.new answer.now number fx) }
         ensures same { lease_of self.new ≡ lease_of self.old }
         ensures sizes { self.new.sizes ≡ self.old.sizes }
         ensures few { IfOk result (λ fx. length fx.calls ≤ 1) }
@@ -178,9 +168,7 @@ impl LeaseHost {
         next: u64,
     ) -> Result<Effects, AllocError>
         requires { IsTrue (is_awaited self.old.sizes self.old.phase call answer.now) }
-        ensures goes_on { IfOk result (λ fx. (st : Setting) (now : ℕ) (T : Table) (es : Trace) (d : Work) → KeepsAt self.old st now T es
-            → (T (lease_of self.old)).phase ≡ Working d → next ≡ next_call st es
-            → GoesOnAt self.old self.new st es (T (lease_of self.old)) d answer.now fx) }
+        ensures goes_on { IfOk result (λ fx. IsGoingOn self.old self.new answer.now next fx) }
         ensures same { lease_of self.new ≡ lease_of self.old }
         ensures sizes { self.new.sizes ≡ self.old.sizes }
         ensures few { IfOk result (λ fx. length fx.calls ≤ 1) }
