@@ -253,12 +253,12 @@ release_made h inside p m call job after w end c fx is site held call_is ends ef
       held = subst (λ (x : LeaseHostState). (T (lease_of x)).phase ≡ Held_by p n) is holds;
     })
     (effects ∙ (λ i. first_effects (ends n i ∷ []) [] [] (written i ∷ []))))) where
-  lver_in : Stand → ℕ
-  lver_in (Held_by q k) = k
-  lver_in stand = 0
+      lver_in : Stand → ℕ
+      lver_in (Held_by q k) = k
+      lver_in stand = 0
 
-  instance_of : {stand : Stand} {p m n : ℕ} → stand ≡ Held_by p m → stand ≡ Held_by p n → m ≡ n
-  instance_of a b = ap lver_in (sym a ∙ b)
+      instance_of : {stand : Stand} {p m n : ℕ} → stand ≡ Held_by p m → stand ≡ Held_by p n → m ≡ n
+      instance_of a b = ap lver_in (sym a ∙ b)
 
 -- Who holds is the one who gives back.
 pub given_back : {E : Type 0} (h after : LeaseHostState) (holder process lver call job : ℕ) (r : Result Effects E) → h.phase ≡ Holds holder lver → is_held h.phase process ≡ true

@@ -22,5 +22,5 @@ mod told;
 pub use host::LeaseHost;
 pub use phase::{Doing, JobCommand, Phase};
 
-
-
+#[cfg(test)]
+mod tests;

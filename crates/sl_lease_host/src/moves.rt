@@ -68,13 +68,7 @@ impl LeaseHost {
     }
 
     /// The holder of this instance releases it. An `Err` is want of memory, and changes nothing.
-    fn frees(
-        &mut self,
-        process: u32,
-        lver: u64,
-        call: u64,
-        job: u64,
-    ) -> Result<Effects, AllocError>
+    fn frees(&mut self, process: u32, lver: u64, call: u64, job: u64) -> Result<Effects, AllocError>
         requires { self.old.phase ≡ Holds process lver }
         ensures gives_back { IfOk result (λ fx. IsGivenBack self.old self.new process call job fx) }
         ensures same { lease_of self.new ≡ lease_of self.old }
@@ -107,12 +101,7 @@ impl LeaseHost {
 
     /// A release by this process, which holds: the holding ends, and the leader is freed. The call and the job have these numbers. An
     /// `Err` is want of memory, and changes nothing.
-    pub fn gives_back(
-        &mut self,
-        process: u32,
-        call: u64,
-        job: u64,
-    ) -> Result<Effects, AllocError>
+    pub fn gives_back(&mut self, process: u32, call: u64, job: u64) -> Result<Effects, AllocError>
         requires { IsTrue (is_held self.old.phase process) }
         ensures gives_back { IfOk result (λ fx. IsGivenBack self.old self.new process call job fx) }
         ensures same { lease_of self.new ≡ lease_of self.old }
@@ -149,24 +138,12 @@ impl LeaseHost {
         let next = take_answer(&mut self.lease, self.alloc, &self.site, doing, answer)?;
         self.phase = doing.phase_after(self.site.geometry().hosts(), number, &next);
         let process = doing.command.process();
-        Ok(told_effects(
-            &self.site,
-            rooms,
-            number,
-            doing.job,
-            process,
-            next,
-        ))
+        Ok(told_effects(&self.site, rooms, number, doing.job, process, next))
     }
 
     /// The answer to this call, which the lease awaits: it goes on with the call of this number, is granted, or answers its job. An `Err`
     /// is want of memory, and changes nothing.
-    pub fn told(
-        &mut self,
-        call: u64,
-        answer: &Answer,
-        next: u64,
-    ) -> Result<Effects, AllocError>
+    pub fn told(&mut self, call: u64, answer: &Answer, next: u64) -> Result<Effects, AllocError>
         requires { IsTrue (is_awaited self.old.sizes self.old.phase call answer.now) }
         ensures goes_on { IfOk result (λ fx. IsGoingOn self.old self.new answer.now next fx) }
         ensures same { lease_of self.new ≡ lease_of self.old }

@@ -41,12 +41,7 @@ impl Model for Site {
 
 impl Site {
     /// The site of this session and this resource.
-    pub(crate) fn new(
-        geometry: Geometry,
-        session: u64,
-        given: Given,
-        resource: ResourceArg,
-    ) -> Site
+    pub(crate) fn new(geometry: Geometry, session: u64, given: Given, resource: ResourceArg) -> Site
         requires { IsSite (record { sizes = geometry; session = session; given = given; resource = resource }) }
         ensures { result ≡ record { sizes = geometry; session = session; given = given; resource = resource } }
     {
