@@ -1,7 +1,8 @@
 //! A host of several given sessions and any resources, on a clock that stands still.
 #![tactic(auto)]
 
+mod deciding;
+mod leases;
 mod refusal;
-mod sessions;
 
 pub use refusal::Refusal;
