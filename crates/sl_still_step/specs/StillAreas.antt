@@ -8,16 +8,16 @@ use Rattle.sl_leases.specs.Leases.{lease_calls}
 use Rattle.sl_still.specs.StillLeases.{LeaseState, Table, is_idle}
 use Rattle.sl_still.specs.StillPath.{IsLease, StillLease, lease_grant, lease_session}
 use Rattle.sl_trace.specs.Limits.{most_holders, most_processes, most_resources}
-use Rattle.sl_trace.specs.Traces.{Setting, Submitted, Trace}
+use Rattle.sl_trace.specs.Traces.{Setting, Trace}
 use Rattle.sl_trace.specs.declared.command.ResourceArg.{ResourceArg}
 use Rattle.sl_trace.specs.declared.effects.Spot.{Spot}
 use Rattle.sl_trace.specs.declared.reply.Limited.TheVariants.{Holders, Resources}
 use Rattle.sl_trace.specs.declared.reply.Limited.{Limited}
 use Rattle.sl_trace.specs.declared.reply.Reply.TheVariants.{Busy, Limit as LimitReached, NoProcess, NotHeld, Pending}
 use Rattle.sl_trace.specs.declared.reply.Reply.{Reply}
-use Rattle.sl_words.specs.Words.{choose}
+use Rattle.sl_words.specs.Words.{choose, is_empty}
 use Rattle.std.specs.Option.{option_or}
-use Rattle.std.specs.Prelude.{Bool, List, None, Option, Some, false, nat_le, nat_lt, not, option_map, true, [], ℕ, ◌&&◌, ◌==◌, ◌∷◌, ◌≡◌}
+use Rattle.std.specs.Prelude.{Bool, None, Option, Some, false, nat_le, nat_lt, not, option_map, true, [], ℕ, ◌&&◌, ◌==◌, ◌∷◌, ◌≡◌}
 
 -- ---- an area
 
@@ -36,14 +36,9 @@ in_the_way (Is_worked_on k is here d works) = Some (Pending d.call.call.number)
 
 -- ---- an acquire
 
--- Whether there is none.
-abbrev pub is_none_called : List Submitted → Bool
-is_none_called [] = true
-is_none_called (m ∷ ms) = false
-
 -- Whether the lease has made no call so far.
 abbrev pub is_unused : Setting → Trace → StillLease → Bool
-is_unused st es l = is_none_called (lease_calls st es (lease_session l) l.at)
+is_unused st es l = is_empty (lease_calls st es (lease_session l) l.at)
 
 -- The limit that one more acquire of the lease would pass: one more lease where it is unused, and one more holder.
 abbrev pub still_limit : Setting → Trace → StillLease → Option Limited
