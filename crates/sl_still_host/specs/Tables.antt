@@ -43,9 +43,13 @@ is_in_the_way at x = is_on x at && is_some (way_of x.phase)
 abbrev pub way_on : Spot → List LeaseHostState → Option Refusal
 way_on at hs = option_and_then (λ x. way_of x.phase) (find (is_in_the_way at) hs)
 
--- How many hold, or may come to.
+-- Whether the lease counts as a holder: it holds, or may come to.
+unfoldable pub is_holder : LeaseHostState → Bool
+is_holder x = counts_holder x.phase
+
+-- How many do.
 abbrev pub holders_in : List LeaseHostState → ℕ
-holders_in hs = count_by (λ x. counts_holder x.phase) hs
+holders_in hs = count_by is_holder hs
 
 -- ---- what it stands for
 

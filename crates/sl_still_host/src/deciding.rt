@@ -9,7 +9,7 @@ ghost use Rattle.sl_still_host.specs.declared.refusal.Refusal.TheVariants.{Limit
 ghost use Rattle.sl_trace.specs.Limits.{most_holders, most_resources};
 ghost use Rattle.sl_trace.specs.declared.reply.Limited.TheVariants.{Holders, Resources};
 ghost use Rattle.sl_still_host.specs.Tables.{holders_in, way_on};
-ghost use Rattle.std.specs.Prelude.{bytes_eq, length, nat_le, ◌&&◌, ◌≡◌};
+ghost use Rattle.std.specs.Prelude.{bytes_eq, length, nat_le, position, ◌&&◌, ◌≡◌};
 
 use crate::leases::Leases;
 use crate::refusal::Refusal;
@@ -49,14 +49,20 @@ fn is_of_space(session: &Given, lockspace: &Name) -> bool
     session.lockspace.as_slice() == lockspace.as_slice()
 }
 
-/// The number of the session of this lockspace: its place among the given ones.
+/// The place of the session of this lockspace among the given ones.
+fn place_of_space(given: &[Given], lockspace: &Name) -> Option<usize>
+    ensures { result ≡ position (λ g. bytes_eq g.lockspace lockspace.now) given.now }
+{
+    given
+        .iter()
+        .position(|session| is_of_space(session, lockspace))
+}
+
+/// The number of the session of this lockspace.
 fn session_in(given: &[Given], lockspace: &Name) -> Result<usize, Refusal>
     ensures { result ≡ session_in given.now lockspace.now }
 {
-    match given
-        .iter()
-        .position(|session| is_of_space(session, lockspace))
-    {
+    match place_of_space(given, lockspace) {
         Some(number) => Ok(number),
         None => Err(Refusal::NoSession),
     }

@@ -7,9 +7,9 @@ ghost use Rattle.sl_lease_host.specs.LeaseHosts.{LeaseHostState, is_awaited, is_
 ghost use Rattle.sl_lease_host.specs.declared.phase.Phase.TheVariants.{Idle};
 ghost use Rattle.sl_still.specs.StillPath.{IsOf};
 ghost use Rattle.sl_still_host.specs.Moves.{Begins, GivesBack, GoesOn, MovedAt, MovedFirst};
-ghost use Rattle.sl_still_host.specs.Tables.{awaiting_place, held_place, holders_in, is_in_the_way, place_of, way_of, way_on};
+ghost use Rattle.sl_still_host.specs.Tables.{awaiting_place, held_place, holders_in, is_holder, is_in_the_way, place_of, way_of, way_on};
 ghost use Rattle.sl_trace.specs.Commands.{IsResourceArg};
-ghost use Rattle.std.specs.Prelude.{IfOk, IsTrue, OnErr, Some, [], length, slice_get, ◌&&◌, ◌<◌, ◌≡◌, ◌≤◌};
+ghost use Rattle.std.specs.Prelude.{IfOk, IsTrue, OnErr, Some, [], find, length, option_map, slice_get, ◌&&◌, ◌<◌, ◌≡◌, ◌≤◌};
 
 use crate::refusal::Refusal;
 use sl_lease_host::LeaseHost;
@@ -52,11 +52,39 @@ fn is_in_the_way(lease: &LeaseHost, spot: &Spot) -> bool
     lease.is_on(spot) && way_of(lease).is_some()
 }
 
+/// The first lease that keeps acquires away from this area: there is one at most.
+fn in_the_way<'a>(leases: &'a [LeaseHost], spot: &Spot) -> Option<&'a LeaseHost>
+    ensures { option_map (λ x. x.now) result ≡ find (is_in_the_way spot.now) leases.entry.now }
+{
+    leases.iter().find(|lease| is_in_the_way(lease, spot))
+}
+
 /// Whether it is the lease of this session on this area, and this process holds under it.
 fn is_held(lease: &LeaseHost, session: u64, spot: &Spot, process: u32) -> bool
     ensures { result ≡ (is_of lease.now session spot.now && is_held lease.now.phase process) }
 {
     lease.is_of(session, spot) && lease.is_held_by(process)
+}
+
+/// Whether it counts as a holder.
+#[tactic(auto, unfolding(crate::specs::Tables::is_holder))]
+fn is_holder(lease: &LeaseHost) -> bool
+    ensures { result ≡ is_holder lease.now }
+{
+    lease.counts_holder()
+}
+
+/// How many of these count as holders.
+fn holders_in(leases: &[LeaseHost]) -> usize
+    ensures { result ≡ holders_in leases.now }
+{
+    let mut count = 0;
+    for lease in leases {
+        if is_holder(lease) {
+            count += 1;
+        }
+    }
+    count
 }
 
 impl Leases {
@@ -80,10 +108,7 @@ impl Leases {
     pub(crate) fn holders(&self) -> usize
         ensures { result ≡ holders_in self.now }
     {
-        self.items
-            .iter()
-            .filter(|lease| lease.counts_holder())
-            .count()
+        holders_in(&self.items)
     }
 
     /// The place of the lease of this session on this area.
@@ -117,11 +142,10 @@ impl Leases {
     pub(crate) fn way_on(&self, spot: &Spot) -> Option<Refusal>
         ensures { result ≡ way_on spot.now self.now }
     {
-        let lease = self
-            .items
-            .iter()
-            .find(|lease| is_in_the_way(lease, spot))?;
-        way_of(lease)
+        match in_the_way(&self.items, spot) {
+            Some(lease) => way_of(lease),
+            None => None,
+        }
     }
 
     /// An acquire begins under the lease at this place, which is idle; the call and the job have these numbers. An `Err` is want of
