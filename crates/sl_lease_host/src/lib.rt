@@ -21,3 +21,6 @@ mod told;
 
 pub use host::LeaseHost;
 pub use phase::{Doing, JobCommand, Phase};
+
+#[cfg(test)]
+mod tests;

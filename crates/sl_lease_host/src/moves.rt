@@ -1,20 +1,17 @@
 //! The moves of a lease. In each the effects are made, and room for them is taken, before anything changes, so where memory is wanted the
 //! lease is as it was.
 ghost use Rattle.sl_area.specs.Layouts.{layout_of};
-ghost use Rattle.sl_first.specs.FirstPath.{Doing as Work};
-ghost use Rattle.sl_first.specs.FirstSteps.{Holds as Held_by, Works as Working, leader_write};
-ghost use Rattle.sl_lease_host.specs.LeaseHosts.{KeepsAt, is_awaited, is_held, lease_of, site_of};
-ghost use Rattle.sl_lease_host.specs.Moves.{BeginsAt, GivesBackAt, GoesOnAt};
+ghost use Rattle.sl_first.specs.FirstSteps.{leader_write};
+ghost use Rattle.sl_lease_host.specs.LeaseHosts.{is_awaited, is_held, lease_of, site_of};
+ghost use Rattle.sl_lease_host.specs.Moves.{IsBegun, IsGivenBack, IsGoingOn};
 ghost use Rattle.sl_lease_host.specs.Phases.{is_answer_by};
 ghost use Rattle.sl_lease_host.specs.Sites.{freed_leader};
 ghost use Rattle.sl_lease_host.specs.declared.phase.Phase.TheVariants.{Holds, Idle, Works};
-ghost use Rattle.sl_still.specs.StillLeases.{Table};
 ghost use Rattle.sl_still.specs.StillPath.{IsOf};
 ghost use Rattle.sl_still.specs.StillSteps.{of_session};
 ghost use Rattle.sl_trace.specs.Commands.{IsResourceArg};
-ghost use Rattle.sl_trace.specs.Traces.{Setting, Trace, next_call, next_job};
 ghost use Rattle.sl_trace.specs.declared.effects.LeaseStep.TheVariants.{FreeLeader};
-ghost use Rattle.std.specs.Prelude.{IfOk, IsTrue, List, OnErr, length, ℕ, ◌≡◌, ◌≤◌};
+ghost use Rattle.std.specs.Prelude.{IfOk, IsTrue, OnErr, length, ◌≡◌, ◌≤◌};
 
 use crate::effects::Rooms;
 use crate::host::LeaseHost;
@@ -38,8 +35,7 @@ impl LeaseHost {
         requires phase { self.old.phase ≡ Idle }
         requires named { IsResourceArg (layout_of self.old.sizes) resource }
         requires its { IsOf (lease_of self.old) resource }
-        ensures begins { IfOk result (λ fx. (st : Setting) (now : ℕ) (T : Table) (es : Trace) (text : List ℕ) → KeepsAt self.old st now T es
-            → call ≡ next_call st es → job ≡ next_job st es → BeginsAt self.old self.new st es (T (lease_of self.old)) text resource process fx) }
+        ensures begins { IfOk result (λ fx. IsBegun self.old self.new resource process call job fx) }
         ensures same { lease_of self.new ≡ lease_of self.old }
         ensures sizes { self.new.sizes ≡ self.old.sizes }
         ensures few { IfOk result (λ fx. length fx.calls ≤ 1) }
@@ -48,8 +44,9 @@ impl LeaseHost {
         let rooms = Rooms::new(self.alloc)?;
         self.site.renamed(resource);
         let effects = rooms.call(self.site.first_read(call, job));
+        let next = LeaseNext::ReadFor(self.site.first_step());
+        submits(&mut self.lease, &next);
         let step = self.site.first_step();
-        submits(&mut self.lease, &LeaseNext::ReadFor(step));
         self.phase = Phase::Works(Doing {
             job,
             command: JobCommand::Acquire { process },
@@ -71,17 +68,9 @@ impl LeaseHost {
     }
 
     /// The holder of this instance releases it. An `Err` is want of memory, and changes nothing.
-    fn frees(
-        &mut self,
-        process: u32,
-        lver: u64,
-        call: u64,
-        job: u64,
-    ) -> Result<Effects, AllocError>
+    fn frees(&mut self, process: u32, lver: u64, call: u64, job: u64) -> Result<Effects, AllocError>
         requires { self.old.phase ≡ Holds process lver }
-        ensures gives_back { IfOk result (λ fx. (st : Setting) (now : ℕ) (T : Table) (es : Trace) (text : List ℕ) (n : ℕ) → KeepsAt self.old st now T es
-            → (T (lease_of self.old)).phase ≡ Held_by process n → call ≡ next_call st es → job ≡ next_job st es
-            → GivesBackAt self.old self.new st es (T (lease_of self.old)) text process n fx) }
+        ensures gives_back { IfOk result (λ fx. IsGivenBack self.old self.new process call job fx) }
         ensures same { lease_of self.new ≡ lease_of self.old }
         ensures sizes { self.new.sizes ≡ self.old.sizes }
         ensures few { IfOk result (λ fx. length fx.calls ≤ 1) }
@@ -112,16 +101,9 @@ impl LeaseHost {
 
     /// A release by this process, which holds: the holding ends, and the leader is freed. The call and the job have these numbers. An
     /// `Err` is want of memory, and changes nothing.
-    pub fn gives_back(
-        &mut self,
-        process: u32,
-        call: u64,
-        job: u64,
-    ) -> Result<Effects, AllocError>
+    pub fn gives_back(&mut self, process: u32, call: u64, job: u64) -> Result<Effects, AllocError>
         requires { IsTrue (is_held self.old.phase process) }
-        ensures gives_back { IfOk result (λ fx. (st : Setting) (now : ℕ) (T : Table) (es : Trace) (text : List ℕ) (n : ℕ) → KeepsAt self.old st now T es
-            → (T (lease_of self.old)).phase ≡ Held_by process n → call ≡ next_call st es → job ≡ next_job st es
-            → GivesBackAt self.old self.new st es (T (lease_of self.old)) text process n fx) }
+        ensures gives_back { IfOk result (λ fx. IsGivenBack self.old self.new process call job fx) }
         ensures same { lease_of self.new ≡ lease_of self.old }
         ensures sizes { self.new.sizes ≡ self.old.sizes }
         ensures few { IfOk result (λ fx. length fx.calls ≤ 1) }
@@ -142,13 +124,11 @@ impl LeaseHost {
         &mut self,
         doing: &Doing,
         answer: &Answer,
-        next_call: u64,
+        number: u64,
     ) -> Result<Effects, AllocError>
         requires works { self.old.phase ≡ Works doing.now }
         requires fits { IsTrue (is_answer_by self.old.sizes doing.now.sectors answer.now) }
-        ensures goes_on { IfOk result (λ fx. (st : Setting) (now : ℕ) (T : Table) (es : Trace) (d : Work) → KeepsAt self.old st now T es
-            → (T (lease_of self.old)).phase ≡ Working d → next_call ≡ next_call st es
-            → GoesOnAt self.old self.new st es (T (lease_of self.old)) d answer.now fx) }
+        ensures goes_on { IfOk result (λ fx. IsGoingOn self.old self.new answer.now number fx) }
         ensures same { lease_of self.new ≡ lease_of self.old }
         ensures sizes { self.new.sizes ≡ self.old.sizes }
         ensures few { IfOk result (λ fx. length fx.calls ≤ 1) }
@@ -156,30 +136,16 @@ impl LeaseHost {
     {
         let rooms = Rooms::new(self.alloc)?;
         let next = take_answer(&mut self.lease, self.alloc, &self.site, doing, answer)?;
-        self.phase = doing.phase_after(self.site.geometry().hosts(), next_call, &next);
+        self.phase = doing.phase_after(self.site.geometry().hosts(), number, &next);
         let process = doing.command.process();
-        Ok(told_effects(
-            &self.site,
-            rooms,
-            next_call,
-            doing.job,
-            process,
-            next,
-        ))
+        Ok(told_effects(&self.site, rooms, number, doing.job, process, next))
     }
 
     /// The answer to this call, which the lease awaits: it goes on with the call of this number, is granted, or answers its job. An `Err`
     /// is want of memory, and changes nothing.
-    pub fn told(
-        &mut self,
-        call: u64,
-        answer: &Answer,
-        next: u64,
-    ) -> Result<Effects, AllocError>
+    pub fn told(&mut self, call: u64, answer: &Answer, next: u64) -> Result<Effects, AllocError>
         requires { IsTrue (is_awaited self.old.sizes self.old.phase call answer.now) }
-        ensures goes_on { IfOk result (λ fx. (st : Setting) (now : ℕ) (T : Table) (es : Trace) (d : Work) → KeepsAt self.old st now T es
-            → (T (lease_of self.old)).phase ≡ Working d → next ≡ next_call st es
-            → GoesOnAt self.old self.new st es (T (lease_of self.old)) d answer.now fx) }
+        ensures goes_on { IfOk result (λ fx. IsGoingOn self.old self.new answer.now next fx) }
         ensures same { lease_of self.new ≡ lease_of self.old }
         ensures sizes { self.new.sizes ≡ self.old.sizes }
         ensures few { IfOk result (λ fx. length fx.calls ≤ 1) }

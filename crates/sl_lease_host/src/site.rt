@@ -41,12 +41,7 @@ impl Model for Site {
 
 impl Site {
     /// The site of this session and this resource.
-    pub(crate) fn new(
-        geometry: Geometry,
-        session: u64,
-        given: Given,
-        resource: ResourceArg,
-    ) -> Site
+    pub(crate) fn new(geometry: Geometry, session: u64, given: Given, resource: ResourceArg) -> Site
         requires { IsSite (record { sizes = geometry; session = session; given = given; resource = resource }) }
         ensures { result ≡ record { sizes = geometry; session = session; given = given; resource = resource } }
     {
@@ -105,55 +100,64 @@ impl Site {
         }
     }
 
+    /// A call of the session on the resource's disk.
+    fn call(&self, number: u64, purpose: Purpose, offset: u64, op: Op) -> Call
+        ensures { result ≡ record { number = number; session = self.now.session; purpose = purpose; path = self.now.resource.path; offset = offset; op = op } }
+    {
+        let session = self.session;
+        let path = self.resource.path;
+        Call {
+            number,
+            session,
+            purpose,
+            path,
+            offset,
+            op,
+        }
+    }
+
     /// The read of leader, request and blocks with which an acquire begins.
     pub(crate) fn first_read(&self, number: u64, job: u64) -> Call
         ensures { (st : Setting) → IsLaidOut st self.now → result ≡ of_session self.now.session (first_read st self.now.resource number job) }
     {
-        Call {
+        let sectors = self.geometry.hosts() + 2;
+        let purpose = for_job(job, self.first_step());
+        self.call(
             number,
-            session: self.session,
-            purpose: for_job(job, self.first_step()),
-            path: self.resource.path,
-            offset: self.resource.offset,
-            op: Op::ReadSectors {
-                sectors: self.geometry.hosts() + 2,
-            },
-        }
+            purpose,
+            self.resource.offset,
+            Op::ReadSectors { sectors },
+        )
     }
 
     /// A read of all hosts' blocks.
     pub(crate) fn blocks_read(&self, number: u64, job: u64, step: LeaseStep) -> Call
         ensures { (st : Setting) → IsLaidOut st self.now → result ≡ of_session self.now.session (blocks_read st self.now.resource number job step) }
     {
-        Call {
+        let place = self.geometry.block_place(self.resource.offset, 1);
+        let sectors = self.geometry.hosts();
+        self.call(
             number,
-            session: self.session,
-            purpose: for_job(job, step),
-            path: self.resource.path,
-            offset: self.geometry.block_place(self.resource.offset, 1).offset(),
-            op: Op::ReadSectors {
-                sectors: self.geometry.hosts(),
-            },
-        }
+            for_job(job, step),
+            place.offset(),
+            Op::ReadSectors { sectors },
+        )
     }
 
     /// A write of the own block.
     pub(crate) fn own_write(&self, number: u64, job: u64, step: LeaseStep, block: Block) -> Call
         ensures { (st : Setting) → IsLaidOut st self.now → result ≡ of_session self.now.session (own_write st self.now.given self.now.resource number job step block) }
     {
-        Call {
+        let place = self
+            .geometry
+            .block_place(self.resource.offset, self.given.id);
+        let record = Rec::BlockIs(block);
+        self.call(
             number,
-            session: self.session,
-            purpose: for_job(job, step),
-            path: self.resource.path,
-            offset: self
-                .geometry
-                .block_place(self.resource.offset, self.given.id)
-                .offset(),
-            op: Op::WriteRecord {
-                record: Rec::BlockIs(block),
-            },
-        }
+            for_job(job, step),
+            place.offset(),
+            Op::WriteRecord { record },
+        )
     }
 
     /// A write of the leader.
@@ -166,16 +170,14 @@ impl Site {
     ) -> Call
         ensures { result ≡ of_session self.now.session (leader_write self.now.resource number job step leader) }
     {
-        Call {
+        let place = self.geometry.leader_place(self.resource.offset);
+        let record = Rec::LeaderIs(leader);
+        self.call(
             number,
-            session: self.session,
-            purpose: for_job(job, step),
-            path: self.resource.path,
-            offset: self.geometry.leader_place(self.resource.offset).offset(),
-            op: Op::WriteRecord {
-                record: Rec::LeaderIs(leader),
-            },
-        }
+            for_job(job, step),
+            place.offset(),
+            Op::WriteRecord { record },
+        )
     }
 
     /// The leader that a release writes: of this instance, and free.
