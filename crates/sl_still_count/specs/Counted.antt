@@ -1,12 +1,11 @@
 -- What one lease adds to the two counts that limits are set on. A host that keeps a table of its leases counts over the table; were its
 -- numbers other than the trace's, it would refuse an acquire that is due, or begin one past a limit.
-use Rattle.sl_first.specs.FirstPath.{Doing}
 use Rattle.sl_first.specs.FirstSteps.{Holds, Idle, Phase, Works}
 use Rattle.sl_leases.specs.Jobs.{is_asking_lease}
 use Rattle.sl_leases.specs.Leases.{lease_calls}
 use Rattle.sl_still.specs.StillPath.{StillLease, lease_session}
 use Rattle.sl_trace.specs.Traces.{Setting, Submitted, Trace}
-use Rattle.std.specs.Prelude.{Bool, List, [], if◌then◌else◌, ℕ, ◌∷◌}
+use Rattle.std.specs.Prelude.{List, [], if◌then◌else◌, ℕ, ◌∷◌}
 
 -- 1 where the lease holds, or works for what may come to hold; else 0, as where it works for a release.
 abbrev pub counted : Phase → ℕ
