@@ -1,0 +1,6 @@
+pub mod Deciding
+pub mod Expected
+pub mod Hosts
+pub mod Moves
+pub mod Refusals
+pub mod Tables
