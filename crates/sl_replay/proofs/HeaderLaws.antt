@@ -136,16 +136,10 @@ stops_by ls next l rest (Some said) none reads others =
 
 -- ---- the first of the lines that are left
 
--- It is refused before it is read.
-pub unread_at : (ls : List HeaderLine) (next : ℕ) (lines rest : List NumberedLine) (l : NumberedLine) (why : Refusal) → Some l ≡ first_of_list lines → Some why ≡ line_refusal l
-    → Header_refused l.number why ≡ read_header still_language ls next lines
-unread_at ls next lines rest l why first refused =
-    sym (ap (read_header still_language ls next) (first_and_others lines l (sym first)) ∙ ap (by_whole_line ls l (drop 1 lines)) (sym refused))
-
 -- It is of other machines.
-pub others_at : (ls : List HeaderLine) (next : ℕ) (lines rest : List NumberedLine) (l : NumberedLine) (b : Bool) → Some l ≡ first_of_list lines → None ≡ line_refusal l
+pub others_at : (ls : List HeaderLine) (next : ℕ) (lines : List NumberedLine) (l : NumberedLine) (b : Bool) → Some l ≡ first_of_list lines → None ≡ line_refusal l
     → b ≡ says_others (header_line_in whole_language default_area l.text) → b ≡ true → Header_refused l.number Syntax ≡ read_header still_language ls next lines
-others_at ls next lines rest l b first none is others =
+others_at ls next lines l b first none is others =
     sym (ap (read_header still_language ls next) (first_and_others lines l (sym first))
     ∙ stops_by ls next l (drop 1 lines) (header_line_in whole_language default_area l.text) (sym none) refl (sym is ∙ others))
 

@@ -13,9 +13,9 @@ use Rattle.sl_trace.specs.declared.input.Input.{Input}
 use Rattle.sl_words.proofs.CaseLaws.{false_is_true, none_some, some_value}
 use Rattle.sl_world.specs.FirstEvents.{is_first_event}
 use Rattle.sl_world.specs.Kept.{KeptState, WorldStands}
-use Rattle.std.proofs.Common.{ap, refl, sym, ◌∙◌}
+use Rattle.std.proofs.Common.{ap, arith, refl, sym, ◌∙◌}
 use Rattle.std.specs.Option.{option_map_or}
-use Rattle.std.specs.Prelude.{Bool, List, None, Option, Some, false, if◌then◌else◌, map, nat_lt, slice_get, slice_set, suc, true, zero, [], ℕ, ◌-◌, ◌==◌, ◌∷◌, ◌≡◌}
+use Rattle.std.specs.Prelude.{Bool, List, None, Option, Some, false, if◌then◌else◌, map, nat_lt, not, slice_get, slice_set, suc, true, zero, [], ℕ, ◌-◌, ◌==◌, ◌∷◌, ◌≡◌}
 
 -- What each machine holds.
 abbrev pub held_in_world : World → List (List Grant)
@@ -160,10 +160,18 @@ holds_after w a e fx alone one first =
 some_is_none : (r : Refusal) → Some r ≡ None → ⊥
 some_is_none r h = absurd cc
 
+one_place : (i : ℕ) (a b : Machine) → slice_get (a ∷ []) i ≡ Some b → i ≡ 0
+one_place zero a b h = refl
+one_place (suc i) a b h = absurd (none_some b h)
+
+first_by : (below : Bool) (m : ℕ) (a b : Machine) → (m == 0) ≡ below → (if below then None else slice_get (a ∷ []) (m - 1)) ≡ Some b → m ≡ 1
+first_by true m a b is h = absurd (none_some b h)
+first_by false m a b is h =
+    let first : m - 1 ≡ 0 = one_place (m - 1) a b h in
+    let above : m ≡ 0 → ⊥ = λ e. false_is_true (sym is ∙ ap (λ n. n == 0) e) in omega (arith, first, above)
+
 first_of_one : (m : ℕ) (a b : Machine) → (if m == 0 then None else slice_get (a ∷ []) (m - 1)) ≡ Some b → m ≡ 1
-first_of_one zero a b h = absurd (none_some b h)
-first_of_one (suc zero) a b h = refl
-first_of_one (suc (suc m)) a b h = absurd (none_some b h)
+first_of_one m a b h = first_by (m == 0) m a b refl h
 
 -- A test on a machine passes only on machine 1.
 on_one : (m : ℕ) (w : World) (a : Machine) (shaped : Bool) (tests : Machine → List (Bool × Refusal)) (o : Option Machine) → w.machines ≡ a ∷ [] → machine_at w m ≡ o

@@ -99,6 +99,10 @@ adds_nothing h w k l ls out total end a nothing =
 
 -- ---- a line whose event happens
 
+pub none_is : (o : Option Refusal) → is_none o ≡ true → o ≡ None
+none_is None h = refl
+none_is (Some r) h = absurd (false_is_true h)
+
 gone_by : {A : Type 0} (o : Option Refusal) (stop : Refusal → A) (go : A) → is_none o ≡ true → elim o as (λ x. A) [ Some r ↦ stop r | None ↦ go ] ≡ go
 gone_by None stop go h = refl
 gone_by (Some r) stop go h = absurd (false_is_true h)
@@ -159,6 +163,15 @@ taken_after : {D : Type 0} (stands : D → Setting → Trace → Type 0) (h : He
 taken_after stands h w now then k after l ls out more total end None a reads x = passed_after stands h w now then k after l ls out more total end a reads x
 taken_after stands h w now then k after l ls out more total end (Some (Err r)) a reads x = absurd x
 taken_after stands h w now then k after l ls out more total end (Some (Ok e)) a reads x = owed_after stands h w now then k after l ls out more total end e a reads x
+
+-- What a line says may be told otherwise.
+pub taken_as : {D : Type 0} (stands : D → Setting → Trace → Type 0) (w : World) (read same : Option (Result Event Refusal)) (kept : KeptState) (host : D) (k now : Counts)
+    (out new : List ℕ) (refused : Option Refusal) → read ≡ same → LineTaken stands w read kept host k now out new refused
+    → LineTaken stands w same kept host k now out new refused
+taken_as stands w read same kept host k now out new refused is t = subst (λ r. LineTaken stands w r kept host k now out new refused) is t
+
+pub refused_as : (w : World) (read same : Option (Result Event Refusal)) (why : Refusal) → read ≡ same → IsRefusedFor w read why → IsRefusedFor w same why
+refused_as w read same why is refused = subst (λ r. IsRefusedFor w r why) is refused
 
 -- ---- the lines that are left
 
