@@ -1,5 +1,5 @@
 -- The counts after an event are those of the definitions.
-use Rattle.sl_first_sound.proofs.Holdings.{kept_holds, on_machine_one}
+use Rattle.sl_replay.proofs.Holdings.{kept_holds, on_machine_one}
 use Rattle.sl_replay.specs.Counting.{counts_with, excludes, leaves_conflict, on_first}
 use Rattle.sl_report.specs.Reports.{Counts, conflicts_after, conflicts_of, count_event, event_lines, held_by_others}
 use Rattle.sl_run.specs.Conflicts.{Holding, conflicts, has_conflict, world_holdings}
@@ -111,7 +111,7 @@ pub counted_are : {D : Type 0} (stands : D → Setting → Trace → Type 0) (k 
 counted_are stands k new host after w e fx held counts s t first none few told =
     let now : held ≡ t.machine.holdings =
     sym (subst (λ o. IfSome o (λ (a : Machine). a.holdings ≡ held)) (first_machine (happens w e (fx ∷ [])) t.machine t.tells.alone) told) in
-    counts_are w e s.machine fx held counts s.tells.alone (first_machine w s.machine s.tells.alone) (on_machine_one k w s.machine s.daemon e s.tells first none) few
+    counts_are w e s.machine fx held counts s.tells.alone (first_machine w s.machine s.tells.alone) (on_machine_one w s.machine e s.tells.alone first none) few
     (now ∙ t.tells.held ∙ kept_holds stands k new host after w e fx s t first none ∙ ap (held_after fx) (sym s.tells.held))
 
 -- ---- an event's lines
@@ -122,10 +122,10 @@ first_lines w (GiveCommand m text) fx first = append-nil _ ∙ append-nil (effec
 first_lines w (Sample m c n) fx first = append-nil _ ∙ append-nil (effect_lines m fx)
 first_lines w (Land m c) fx first = append-nil _ ∙ append-nil (effect_lines m fx)
 first_lines w (AnswerCall m c ok) fx first = append-nil _ ∙ append-nil (effect_lines m fx)
+first_lines w (Do m c) fx first = append-nil _ ∙ append-nil (effect_lines m fx)
 first_lines w (Pass d g) fx first = absurd (false_is_true first)
 first_lines w (WakeUp m) fx first = absurd (false_is_true first)
 first_lines w (Tear m c k bytes) fx first = absurd (false_is_true first)
-first_lines w (Do m c) fx first = absurd (false_is_true first)
 first_lines w (DropWrite m c) fx first = absurd (false_is_true first)
 first_lines w (Test m) fx first = absurd (false_is_true first)
 first_lines w (ExitOf m p) fx first = absurd (false_is_true first)

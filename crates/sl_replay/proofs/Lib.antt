@@ -1,3 +1,4 @@
+pub mod Holdings
 pub mod ReportLaws
 pub mod HeaderLaws
 pub mod CountLaws

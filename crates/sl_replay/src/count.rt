@@ -3,6 +3,7 @@
 //! A conflict is counted from what is held, and not concluded: the count would show a fault of the host.
 
 ghost use Rattle.sl_run.specs.Conflicts.{conflicts};
+ghost use Rattle.sl_report.specs.Reports.{no_counts};
 ghost use Rattle.sl_replay.specs.Counting.{IsCounted, counts_with, excludes, on_first};
 ghost use Rattle.sl_world.specs.Daemons.{IsSmallStep};
 ghost use Rattle.sl_trace.specs.EffectTexts.{is_ok_reply};
@@ -12,6 +13,19 @@ ghost use Rattle.std.specs.Prelude.{count_by, length, not, ◌<◌, ◌-◌, ◌
 
 use sl_schedule::Counts;
 use sl_trace::{Effects, Grant, JobReply, Mode, Reply};
+
+/// All counts at 0.
+pub fn no_counts() -> Counts
+    ensures { result ≡ no_counts }
+{
+    Counts {
+        events: 0,
+        calls: 0,
+        grants: 0,
+        refusals: 0,
+        conflicts: 0,
+    }
+}
 
 /// Whether the answer's text begins with `ok`.
 fn is_ok(reply: &Reply) -> bool

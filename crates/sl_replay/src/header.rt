@@ -1,79 +1,68 @@
-//! The header of the schedules that are read so far: one line of each kind, but none of clocks.
+//! The header of a schedule of one machine.
 //!
-//! A header is read as the whole language has it, and each line must besides be of the kind that comes next. So what is refused here and
-//! not by the whole language is refused at the first line of another kind.
+//! A header is read as the whole language has it; a line that gives the run more machines is refused besides, as one that can't be read.
+//! Each line is told by its own refusal: were a refusal told otherwise, two readers of a schedule would report it differently.
 
-ghost use Rattle.sl_first_schedule.specs.FirstLanguage.{first_language, is_first_line};
-ghost use Rattle.sl_report.specs.Schedules.{read_header};
-ghost use Rattle.sl_schedule.specs.HeaderReads.{header_seen};
-ghost use Rattle.sl_schedule.specs.Lines.{line_seen};
-ghost use Rattle.sl_replay.specs.FirstLines.{IsHeaderRead, is_next_line};
-ghost use Rattle.sl_first_schedule.specs.FirstOrder.{rank_behind};
-ghost use Rattle.std.specs.Prelude.{IfOk, [], ◌≡◌};
+ghost use Rattle.sl_report.specs.Languages.{whole_language};
+ghost use Rattle.sl_report.specs.ReadingLines.{header_line_in};
+ghost use Rattle.sl_report.specs.Schedules.{default_area, read_header};
+ghost use Rattle.sl_schedule.specs.Lines.{header_reading};
+ghost use Rattle.sl_still_schedule.specs.StillLanguage.{is_still_line, still_language};
+ghost use Rattle.sl_words.specs.Words.{some_is};
+ghost use Rattle.std.specs.Prelude.{not, IfOk, OnErr, [], ◌≡◌};
 
-use sl_run::Header;
+use sl_run::{Header, Refusal};
 use sl_schedule::header_line::{HeaderLine, header_line};
-use sl_schedule::{Added, HeaderReader, Line, Lines, rank};
+use sl_schedule::{Added, HeaderReader, Lines};
 use std::alloc::{AllocError, Global};
 
-/// The ranks of a header's lines: one of each, but the clocks'.
-const RANKS: [u32; 9] = [0, 1, 2, 3, 5, 6, 7, 8, 9];
-
-/// The rank of the line that must follow so many lines.
-fn rank_behind(taken: usize) -> u32
-    ensures { result ≡ rank_behind taken }
+/// Whether the line gives the run another number of machines than one.
+fn has_other_machines(text: &[u8]) -> bool
+    ensures { result ≡ some_is (λ l. not (is_still_line l)) (header_line_in whole_language default_area text.now) }
 {
-    match RANKS.get(taken) {
-        Some(rank) => *rank,
-        None => 9,
+    match header_line(text) {
+        Some(HeaderLine::Machines(machines)) => machines != 1,
+        _ => false,
     }
 }
 
-/// Whether the line says what one machine has.
-fn is_first_line(line: &HeaderLine) -> bool
-    ensures { result ≡ is_first_line (header_seen line.now) }
-{
-    match line {
-        HeaderLine::Machines(machines) => *machines == 1,
-        HeaderLine::Clock(_) => false,
-        _ => true,
-    }
-}
-
-/// Whether the line is the one that must follow so many lines.
-fn is_next_line(taken: usize, line: &Line) -> bool
-    ensures { result ≡ is_next_line taken (line_seen line.now) }
-{
-    if line.refusal().is_some() {
-        return false;
-    }
-    match header_line(line.text) {
-        Some(read) => rank(&read) == rank_behind(taken) && is_first_line(&read),
-        None => false,
-    }
-}
-
-/// The header that a source's lines begin with, passing its lines; or the number of the line that is refused. An `Err` is want of memory.
-pub fn read_first_header(
+/// The header that the lines begin with, passing its lines.
+fn pass_header(
     alloc: Global,
     lines: &mut Lines,
-) -> Result<Result<Header, u64>, AllocError>
-    ensures { IfOk result (λ read. IsHeaderRead read lines.new (read_header first_language [] 1 lines.old)) }
+) -> Result<Result<Header, (u64, Refusal)>, AllocError>
+    ensures { IfOk result (λ read. header_reading read lines.new ≡ read_header still_language [] 1 lines.old) }
 {
     let mut reader = HeaderReader::new(alloc);
-    let mut taken = 0;
     let mut next = 1;
     while let Some(line) = lines.next_line() {
-        if !is_next_line(taken, &line) {
-            return Ok(Err(line.number));
+        if let Some(why) = line.refusal() {
+            return Ok(Err((line.number, why)));
+        }
+        if has_other_machines(line.text) {
+            return Ok(Err((line.number, Refusal::Syntax)));
         }
         match reader.add(line.text)? {
             Added::More => {}
             Added::Begun(header) => return Ok(Ok(header)),
-            Added::Refused(_why) => return Ok(Err(line.number)),
+            Added::Refused(why) => return Ok(Err((line.number, why))),
         }
-        taken += 1;
         next = line.number + 1;
     }
-    Ok(Err(next))
+    Ok(Err((next, Refusal::Syntax)))
+}
+
+/// The header of one machine that a source's lines begin with, passing its lines; or the number of the line that is refused, and why.
+/// After an `Err`, which is want of memory, no line is passed.
+pub fn read_still_header(
+    alloc: Global,
+    lines: &mut Lines,
+) -> Result<Result<Header, (u64, Refusal)>, AllocError>
+    ensures exact { IfOk result (λ read. header_reading read lines.new ≡ read_header still_language [] 1 lines.old) }
+    ensures err { OnErr result (lines.new ≡ lines.old) }
+{
+    let mut ahead = lines.copied();
+    let read = pass_header(alloc, &mut ahead)?;
+    *lines = ahead;
+    Ok(read)
 }

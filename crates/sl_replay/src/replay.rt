@@ -1,24 +1,23 @@
 //! The events of a schedule, run in the executed world.
 
 ghost use Rattle.sl_replay.specs.Counting.{IsCounted};
-ghost use Rattle.sl_replay.specs.Reports.{Happened, LineTaken, Owes, line_read};
+ghost use Rattle.sl_replay.specs.Reports.{LineTaken, Owes, line_read};
 ghost use Rattle.sl_report.specs.Headline.{IsFrontOf};
-ghost use Rattle.sl_report.specs.Reports.{no_counts};
+ghost use Rattle.sl_report.specs.Reports as reports;
 ghost use Rattle.sl_run.specs.Events as events;
 ghost use Rattle.sl_run.specs.Worlds.{World as WorldOf};
 ghost use Rattle.sl_run.specs.declared.header.Header.{Header as HeaderOf};
 ghost use Rattle.sl_schedule.specs.Lines.{line_seen};
 ghost use Rattle.sl_world.specs.FirstEvents as first_events;
 ghost use Rattle.sl_world.specs.Kept.{StandsForSome, WorldStands};
-ghost use Rattle.std.specs.Option.{IfSome};
-ghost use Rattle.std.specs.Result.{result_ok};
-ghost use Rattle.std.specs.Prelude.{IfOk, IsSome, IsTrue, List, MatchBool, OnErr, OnOk, length, ℕ, ◌+◌, ◌++◌, ◌-◌, ◌<◌, ◌^◌, ◌≡◌, ◌≤◌};
+ghost use Rattle.std.specs.Prelude.{IfOk, IsTrue, List, Ok, OnErr, Some, length, ℕ, ◌+◌, ◌-◌, ◌<◌, ◌^◌, ◌≡◌, ◌≤◌};
 
-use crate::count::counted;
+use crate::count::{counted, no_counts};
+use crate::line::read_line;
 use sl_command::push_effect_lines;
 use sl_run::{Event, Refusal};
-use sl_schedule::{Counts, Line, Lines, next_event, push_end_line, push_refusal_line};
-use sl_world::{ApplyError, Daemon, World, is_first_event};
+use sl_schedule::{Counts, Line, Lines, push_end_line, push_refusal_line};
+use sl_world::{ApplyError, Daemon, World};
 use std::alloc::{AllocError, Global};
 
 /// How a replay ended.
@@ -51,6 +50,7 @@ fn machine_of(event: &Event) -> u32
             sectors: _,
         } => *machine,
         Event::Land { machine, call: _ } => *machine,
+        Event::Do { machine, call: _ } => *machine,
         Event::AnswerCall {
             machine,
             call: _,
@@ -60,55 +60,28 @@ fn machine_of(event: &Event) -> u32
     }
 }
 
-/// The event that a line says; None where the line is refused. An `Err` is want of memory.
-fn read_event(alloc: Global, sector: u32, line: &Line) -> Result<Option<Event>, AllocError>
-    ensures exact { (h : HeaderOf) → h.machines ≡ 1 → h.geometry.sector ≡ sector
-        → IfOk result (λ event. event ≡ result_ok (line_read h (line_seen line.now))) }
-    ensures first { IfOk result (λ event. IfSome event (λ e. IsTrue (first_events.is_first_event e))) }
-{
-    if line.refusal().is_some() {
-        return Ok(None);
-    }
-    match next_event(alloc, 1, sector, line.text)? {
-        Some(event) => {
-            if is_first_event(&event) {
-                Ok(Some(event))
-            } else {
-                Ok(None)
-            }
-        }
-        None => Ok(None),
-    }
-}
-
 impl<D: Daemon> Replay<D> {
     /// The replay of a schedule in this world, whose disks have sectors of so many bytes.
     pub fn new(world: World<D>, sector: u32) -> Replay<D>
-        ensures { result ≡ record { world = world; counts = no_counts; sector = sector } }
+        ensures { result ≡ record { world = world; counts = reports.no_counts; sector = sector } }
     {
         Replay {
             world,
-            counts: Counts {
-                events: 0,
-                calls: 0,
-                grants: 0,
-                refusals: 0,
-                conflicts: 0,
-            },
+            counts: no_counts(),
             sector,
         }
     }
 
-    /// The event happens and its lines are written, or it is refused (false) and nothing has changed. After an `Err`, which is want of
+    /// The event happens and its lines are written, or it is refused, and nothing has changed: why. After an `Err`, which is want of
     /// memory, nothing more was written.
-    fn happen(&mut self, out: &mut Vec<u8>, event: Event) -> Result<bool, AllocError>
+    fn happen(&mut self, out: &mut Vec<u8>, event: Event) -> Result<Option<Refusal>, AllocError>
         requires first { IsTrue (first_events.is_first_event event) }
         requires stands { StandsForSome D.stands self.old.world.kept self.old.world.host }
         requires counted { IsCounted self.old.counts }
         requires room { self.old.counts.events < 2 ^ 64 - 1 }
-        ensures exact { (w : WorldOf) → WorldStands D.stands self.old.world.kept self.old.world.host w → IfOk result (λ happened. MatchBool happened
-            (Happened D.stands w event self.new.world.kept self.new.world.host self.old.counts self.new.counts out.old.items out.new.items)
-            (IsSome (events.refusal_of w event) × (out.new.items ≡ out.old.items))) }
+        ensures exact { (w : WorldOf) → WorldStands D.stands self.old.world.kept self.old.world.host w
+            → IfOk result (LineTaken D.stands w (Some (Ok event)) self.new.world.kept self.new.world.host
+            self.old.counts self.new.counts out.old.items out.new.items) }
         ensures stays { StandsForSome D.stands self.new.world.kept self.new.world.host }
         ensures counted { IsCounted self.new.counts }
         ensures one { self.new.counts.events ≤ self.old.counts.events + 1 }
@@ -120,37 +93,38 @@ impl<D: Daemon> Replay<D> {
             Ok(effects) => {
                 push_effect_lines(out, machine, &effects)?;
                 self.counts = counted(&self.counts, &effects, self.world.holdings());
-                Ok(true)
+                Ok(None)
             }
-            Err(ApplyError::Refused(_)) => Ok(false),
+            Err(ApplyError::Refused(why)) => Ok(Some(why)),
             Err(ApplyError::OutOfMemory) => Err(AllocError),
         }
     }
 
-    /// The line's event happens and its lines are written, or the line is refused (false). After an `Err`, which is want of memory,
-    /// nothing more was written.
+    /// The line's event happens and its lines are written, or it says nothing; or the line is refused, and nothing has changed: why. After
+    /// an `Err`, which is want of memory, nothing more was written.
     fn take_line(
         &mut self,
         alloc: Global,
         out: &mut Vec<u8>,
         line: &Line,
-    ) -> Result<bool, AllocError>
+    ) -> Result<Option<Refusal>, AllocError>
         requires stands { StandsForSome D.stands self.old.world.kept self.old.world.host }
         requires counted { IsCounted self.old.counts }
         requires room { self.old.counts.events < 2 ^ 64 - 1 }
         ensures exact { (h : HeaderOf) (w : WorldOf) → h.machines ≡ 1 → h.geometry.sector ≡ self.old.sector
             → WorldStands D.stands self.old.world.kept self.old.world.host w
-            → IfOk result (λ happened. LineTaken D.stands w (line_read h (line_seen line.now)) self.new.world.kept self.new.world.host
-            self.old.counts self.new.counts out.old.items out.new.items happened) }
+            → IfOk result (LineTaken D.stands w (line_read h (line_seen line.now)) self.new.world.kept self.new.world.host
+            self.old.counts self.new.counts out.old.items out.new.items) }
         ensures stays { StandsForSome D.stands self.new.world.kept self.new.world.host }
         ensures counted { IsCounted self.new.counts }
         ensures one { self.new.counts.events ≤ self.old.counts.events + 1 }
         ensures sector { self.new.sector ≡ self.old.sector }
         ensures err { OnErr result (out.new.items ≡ out.old.items) }
     {
-        match read_event(alloc, self.sector, line)? {
-            Some(event) => Ok(self.happen(out, event)?),
-            None => Ok(false),
+        match read_line(alloc, self.sector, line)? {
+            Some(Ok(event)) => Ok(self.happen(out, event)?),
+            Some(Err(why)) => Ok(Some(why)),
+            None => Ok(None),
         }
     }
 
@@ -173,8 +147,8 @@ impl<D: Daemon> Replay<D> {
         ensures sector { self.new.sector ≡ self.old.sector }
     {
         while let Some(line) = lines.next_line() {
-            if !self.take_line(alloc, out, &line)? {
-                push_refusal_line(out, line.number, Refusal::Syntax)?;
+            if let Some(why) = self.take_line(alloc, out, &line)? {
+                push_refusal_line(out, line.number, why)?;
                 return Ok(Ended::AtLine);
             }
         }

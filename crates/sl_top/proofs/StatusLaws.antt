@@ -8,16 +8,20 @@ use Rattle.sl_direct.specs.declared.action.Action.TheVariants.{ReadLeader}
 use Rattle.sl_direct.specs.declared.action.Action.{Action}
 use Rattle.sl_direct.specs.declared.action.Directed.TheVariants as directed
 use Rattle.sl_direct.specs.declared.action.Directed.{Directed}
-use Rattle.sl_first_schedule.specs.FirstLanguage.{first_language}
-use Rattle.sl_report.specs.Headline.{ReplayHeadline, SoundRun}
-use Rattle.sl_top.specs.Laws.{CausesHaveStatuses, HasItsCause, IsNotTheLeader, StatusesHaveCauses, has_leader}
+use Rattle.sl_first_run.proofs.Accepting.{accepted_schedules_end_well as accepted_runs}
+use Rattle.sl_first_run.specs.Accepted.{IsAccepted}
+use Rattle.sl_first_run.specs.Readings.{replay_status}
+use Rattle.sl_report.specs.Headline.{MayHaveBeen, ReplayHeadline, SoundRun, is_whole_status}
+use Rattle.sl_still_schedule.specs.StillLanguage.{still_language}
+use Rattle.sl_top.specs.Laws.{AcceptedSchedulesEndWell, CausesHaveStatuses, HasItsCause, IsNotTheLeader, NothingFailed, StatusesHaveCauses, has_leader}
 use Rattle.sl_top.specs.Runs.{ActsOn, IsCutShort, IsWritten, Outside, PutsOut, Replays, bad_words_text}
 use Rattle.sl_top.specs.Statuses.{code, status_after}
 use Rattle.sl_top.specs.declared.status.Status.TheVariants.{AreaFault, BadWords, Done, NoMemory, NotTheLeader, ReadFault, Refused, WriteFault}
 use Rattle.sl_top.specs.declared.status.Status.{Status}
 use Rattle.sl_trace.specs.declared.command.ResourceArg.{ResourceArg}
 use Rattle.sl_words.specs.Causes.{Rose}
-use Rattle.std.proofs.Common.{Bool, IsTrue, List, None, Option, Some, ap, arith, false, inl, inr, refl, subst, sym, true, ℕ, ◌<◌, ◌∙◌, ◌≡◌}
+use Rattle.std.proofs.Common.{Bool, IsTrue, List, None, Option, Some, ap, append-nil, arith, false, inl, inr, refl, subst, sym, true, ℕ, ◌++◌, ◌<◌, ◌∙◌, ◌≡◌}
+use Rattle.std.specs.Io.KnownBytes.{Consumes, IsAtEnd}
 use Rattle.std.specs.Prelude.{◌⊎◌}
 
 -- ---- a text that is put out
@@ -58,9 +62,9 @@ bad_caused x y s put =
 -- ---- a replay
 
 -- No other status tells of a report.
-outside : (ended : Bool) (read written : List ℕ) (s t : Status) → ReplayHeadline SoundRun first_language ended read written (code s) → s ≡ t
-    → (ReplayHeadline SoundRun first_language ended read written (code t) → ⊥) → ⊥
-outside ended read written s t headline is never = never (subst (λ u. ReplayHeadline SoundRun first_language ended read written (code u)) is headline)
+outside : (ended : Bool) (read written : List ℕ) (s t : Status) → ReplayHeadline SoundRun still_language ended read written (code s) → s ≡ t
+    → (ReplayHeadline SoundRun still_language ended read written (code t) → ⊥) → ⊥
+outside ended read written s t headline is never = never (subst (λ u. ReplayHeadline SoundRun still_language ended read written (code u)) is headline)
 
 replay_caused : (x y : Outside) (s : Status) → Replays x.left y.left x.source_faults y.source_faults x.taken y.taken x.sink_faults y.sink_faults s → HasItsCause (Some Replay) x y s
 replay_caused x y s run =
@@ -182,4 +186,48 @@ causes_have_statuses =
       not_the_leader = λ r content x y s run told other.
           leader_found r content (y.disks r.path) run.counted x.taken y.taken x.sink_faults y.sink_faults run.ended s
           (subst (λ c. Directs (ReadLeader r) c (y.disks r.path) 0 run.counted x.taken y.taken x.sink_faults y.sink_faults run.ended) told run.directs) run.status other;
+    }
+
+-- ---- accepted schedules
+
+-- What was told of the source may have been all of it.
+consumed : (source read : List ℕ) (after : Option (List ℕ)) → Consumes (Some source) after read → (ended : Bool) → (IsTrue ended → IsAtEnd after) → MayHaveBeen ended read source
+consumed source read None reads ended at_end = absurd reads
+consumed source read (Some rest) reads true at_end = reads ∙ ap (λ v. read ++ v) (at_end refl) ∙ append-nil read
+consumed source read (Some rest) reads false at_end = (rest, reads)
+
+told_source : (source : List ℕ) (x y : Outside) (s : Status) → x.left ≡ Some source
+    → (run : Replays x.left y.left x.source_faults y.source_faults x.taken y.taken x.sink_faults y.sink_faults s) → MayHaveBeen run.ended run.read source
+told_source source x y s told run = consumed source run.read y.left (subst (λ o. Consumes o y.left run.read) told run.reads) run.ended run.at_end
+
+-- A whole report's status is the schedule's.
+own_status : (source : List ℕ) (x y : Outside) (s : Status) → x.left ≡ Some source
+    → Replays x.left y.left x.source_faults y.source_faults x.taken y.taken x.sink_faults y.sink_faults s → IsTrue (is_whole_status (code s))
+    → code s ≡ replay_status still_language source
+own_status source x y s told run whole = run.own whole source (told_source source x y s told run)
+
+zero_is_one : (n : ℕ) → 1 ≡ n → n ≡ 0 → ⊥
+zero_is_one n one zero = omega (arith, one, zero)
+
+ends_well : (source : List ℕ) (x y : Outside) (s : Status) → Replays x.left y.left x.source_faults y.source_faults x.taken y.taken x.sink_faults y.sink_faults s
+    → x.left ≡ Some source → replay_status still_language source ≡ 0 → NothingFailed x y → (s ≡ Done) ⊎ (s ≡ NoMemory)
+ends_well source x y Done run told zero none = inl refl
+ends_well source x y Refused run told zero none = absurd (zero_is_one (replay_status still_language source) (own_status source x y Refused told run refl) zero)
+ends_well source x y BadWords run told zero none = absurd (outside run.ended run.read run.written BadWords BadWords run.headline refl (λ h. let no : false ≡ true = h.0 in absurd cc))
+ends_well source x y ReadFault run told zero none = absurd (none.source (run.read_fault refl))
+ends_well source x y WriteFault run told zero none = absurd (none.sink (run.write_fault refl))
+ends_well source x y NoMemory run told zero none = inr refl
+ends_well source x y AreaFault run told zero none = absurd (outside run.ended run.read run.written AreaFault AreaFault run.headline refl (λ h. let no : false ≡ true = h.0 in absurd cc))
+ends_well source x y NotTheLeader run told zero none = absurd (outside run.ended run.read run.written NotTheLeader NotTheLeader run.headline refl (λ h. let no : false ≡ true = h.0 in absurd cc))
+
+ends_at_zero : (source : List ℕ) (x y : Outside) (s : Status) → Replays x.left y.left x.source_faults y.source_faults x.taken y.taken x.sink_faults y.sink_faults s
+    → x.left ≡ Some source → s ≡ Done → replay_status still_language source ≡ 0
+ends_at_zero source x y s run told done =
+    sym (own_status source x y s told run (ap (λ t. is_whole_status (code t)) done)) ∙ ap code done
+
+pub accepted_schedules_end_well : AcceptedSchedulesEndWell
+accepted_schedules_end_well =
+    record {
+      well = λ source x y s run told accepted none. ends_well source x y s run told (accepted_runs.well still_language source accepted) none;
+      only = λ source x y s run told done. accepted_runs.only still_language source (ends_at_zero source x y s run told done);
     }

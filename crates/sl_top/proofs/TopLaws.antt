@@ -1,99 +1,99 @@
 -- What is read is reported: how a source begins, and what is put out of its report.
-use Rattle.sl_first_schedule.proofs.Daemon.{begins_first}
-use Rattle.sl_first_schedule.proofs.Headers.{header_of_source}
-use Rattle.sl_first_schedule.specs.FirstHeaders.{FirstHeader}
-use Rattle.sl_first_schedule.specs.FirstLanguage.{arg_of, first_commands, first_language, first_program}
-use Rattle.sl_first_schedule.specs.FirstWorld.{BeginsFirst, given_first}
-use Rattle.sl_host.specs.Hosts.{HostStands, HostState, IsSettingOf}
-use Rattle.sl_host.specs.Sites.{IsSite}
-use Rattle.sl_replay.specs.FirstLines.{IsHeaderRead}
-use Rattle.sl_replay.specs.Reports.{Owes, ending_from, ending_of, rest_text}
+use Rattle.sl_replay.specs.Reports.{Adds, Owes, ending_from, ending_of, rest_text}
 use Rattle.sl_replay.specs.declared.replay.Ended.TheVariants.{AtLine, Whole}
 use Rattle.sl_replay.specs.declared.replay.Ended.{Ended}
 use Rattle.sl_report.specs.Headline.{IsFrontOf}
-use Rattle.sl_report.specs.Reports.{Counts, no_counts}
-use Rattle.sl_report.specs.ScheduleLines.{HeaderLine, refusal_line}
-use Rattle.sl_run.specs.declared.event.Refusal.TheVariants.{Syntax}
-use Rattle.sl_report.specs.Schedules.{replay_from}
-use Rattle.sl_text.specs.Forms.{as_bytes}
-use Rattle.sl_report.specs.Schedules.{HeaderReading, Header_read, Header_refused, NumberedLine, event_lines_of, header_line_refusal, is_begin, line_refusal, numbered_from, numbered_lines, read_header, with_line}
+use Rattle.sl_report.specs.Languages.{is_skipped}
 use Rattle.sl_report.specs.ReadingLines.{header_line_in}
-use Rattle.sl_report.specs.Schedules.{default_area, default_sector}
-use Rattle.sl_report.specs.ScheduleLines.{header_of}
-use Rattle.sl_run.specs.Worlds.{first_numbers, world_with}
+use Rattle.sl_report.specs.Reports.{Counts, no_counts}
+use Rattle.sl_report.specs.ScheduleLines.{HeaderLine, header_of, refusal_line}
+use Rattle.sl_report.specs.Schedules.{HeaderReading, Header_read, Header_refused, NumberedLine, default_area, default_sector, event_lines_of, header_line_refusal, is_begin, line_refusal, numbered_from, numbered_lines, read_header, replay_from, with_line}
+use Rattle.sl_run.specs.Worlds.{World, world_with}
 use Rattle.sl_run.specs.declared.event.Refusal.{Refusal}
 use Rattle.sl_run.specs.declared.header.Header.{Header}
 use Rattle.sl_run.specs.declared.header.SessionLine.{SessionLine}
-use Rattle.sl_text.specs.Forms.{lines_of, pieces, without_empty_last}
+use Rattle.sl_schedule.specs.Lines.{header_reading}
+use Rattle.sl_still_schedule.proofs.Headers.{headers_are_still}
+use Rattle.sl_still_schedule.proofs.Beginning.{still_headers_begin}
+use Rattle.sl_still_schedule.specs.StillHeaders.{IsStillHeader}
+use Rattle.sl_still_schedule.specs.StillLanguage.{still_commands, still_language, still_program}
+use Rattle.sl_still_schedule.specs.StillWorld.{BeginsStill, IsIdleHeader}
+use Rattle.sl_text.specs.Forms.{as_bytes, lines_of, pieces, without_empty_last}
 use Rattle.sl_top.specs.Runs.{PutsOut, report_text}
 use Rattle.sl_top.specs.Statuses.{status_of}
 use Rattle.sl_top.specs.declared.status.Status.TheVariants.{NoMemory, WriteFault}
 use Rattle.sl_top.specs.declared.status.Status.{Status}
-use Rattle.sl_trace.specs.Traces.{Setting}
-use Rattle.sl_trace.specs.declared.command.ResourceArg.{ResourceArg}
-use Rattle.sl_trace.specs.declared.input.Given.{Given}
-use Rattle.sl_trace.specs.declared.input.Numbers.{Numbers}
+use Rattle.sl_trace.specs.Traces.{Setting, Trace}
+use Rattle.sl_words.proofs.CaseLaws.{false_is_true, no_value}
 use Rattle.sl_words.specs.Causes.{Rose}
 use Rattle.sl_words.specs.Words.{some_is}
-use Rattle.std.specs.Io.KnownBytes.{Appends}
-use Rattle.sl_world.specs.Beginning.{IsFirstHeader, first_setting}
+use Rattle.sl_world.proofs.Idle.{idle_headers_begin}
+use Rattle.sl_world.specs.Idle.{IsIdleWorld}
 use Rattle.sl_world.specs.Kept.{KeptState, WorldStands}
-use Rattle.std.proofs.Common.{Bool, List, None, Option, Some, [], ap, arith, drop, false, inl, inr, length, refl, subst, sym, take, true, ℕ, ◌+◌, ◌++◌, ◌-◌, ◌<◌, ◌==◌, ◌^◌, ◌∙◌, ◌∷◌, ◌≡◌, ◌≤◌, append-nil, append_assoc}
+use Rattle.std.proofs.Common.{Bool, List, None, Option, Some, [], ap, append-nil, append_assoc, arith, drop, false, inl, inr, length, refl, subst, sym, take, true, ℕ, ◌+◌, ◌++◌, ◌-◌, ◌<◌, ◌==◌, ◌^◌, ◌∙◌, ◌∷◌, ◌≡◌, ◌≤◌}
 use Rattle.std.proofs.lemmas.List.Splits.{length-slice_split}
 use Rattle.std.proofs.lemmas.List.Sums.{count_by-le-length}
 use Rattle.std.proofs.lemmas.List.{take-append-drop}
-use Rattle.std.specs.Prelude.{Err, IfOk, Ok, OnErr, Result}
+use Rattle.std.specs.Io.KnownBytes.{Appends}
+use Rattle.std.specs.Prelude.{Err, IfOk, Ok, OnErr, Result, find, is_some, ◌⊎◌}
 
--- ---- the world of a header
+-- ---- what a header begins with
 
-pub site_of : (h : Header) (f : FirstHeader h) (g : Given) (r : ResourceArg) → g ≡ given_first f.space f.member → r ≡ arg_of f.lease
-    → IsSite (record { sizes = h.geometry; session = g; resource = r })
-site_of h f g r is that =
-    subst (λ x. IsSite (record { sizes = h.geometry; session = x; resource = r })) (sym is)
-    (subst (λ y. IsSite (record { sizes = h.geometry; session = given_first f.space f.member; resource = y })) (sym that)
-    (record { least = f.member_id.0; most = f.member_id.1; resource = (begins_first h f).daemon.lease }))
+-- The session of machine 1.
+abbrev pub first_session : Header → Option SessionLine
+first_session h = find (λ s. s.machine == 1) h.sessions
 
-abbrev pub begins_here : (h : Header) → FirstHeader h → IsFirstHeader h
-begins_here h f = (begins_first h f).begins
+some_said : (o : Option SessionLine) → o ≡ None → is_some o ≡ true → ⊥
+some_said o none some = false_is_true (ap is_some (sym none) ∙ some)
 
--- The host stands for the daemon's setting before its first entry.
-pub host_begins : (h : Header) (f : FirstHeader h) (g : Given) (r : ResourceArg) (first : Numbers) (host : HostState) → g ≡ given_first f.space f.member → r ≡ arg_of f.lease
-    → first ≡ first_numbers
-    → ((st : Setting) → IsSettingOf st (record { sizes = h.geometry; session = g; resource = r }) → st.first ≡ first → HostStands host st [])
-    → HostStands host (first_setting first_commands h (begins_here h f).session) []
-host_begins h f g r first host is that numbers stands =
-    let b : BeginsFirst h f = begins_first h f in
-    let st : Setting = first_setting first_commands h f.member in
-    let fits : IsSettingOf st (record { sizes = h.geometry; session = given_first f.space f.member; resource = arg_of f.lease }) =
-    record { first = b.daemon.first; laid = b.daemon.layout; reads = b.daemon.reads } in
-    let here : IsSettingOf st (record { sizes = h.geometry; session = g; resource = r }) =
-    subst (λ x. IsSettingOf st (record { sizes = h.geometry; session = x; resource = r })) (sym is)
-    (subst (λ y. IsSettingOf st (record { sizes = h.geometry; session = given_first f.space f.member; resource = y })) (sym that) fits) in
-    subst (λ (s : SessionLine). HostStands host (first_setting first_commands h s) []) (sym b.session)
-    (stands st here (b.daemon.numbers ∙ sym numbers))
+none_said : (o : Option SessionLine) (s : SessionLine) → o ≡ Some s → is_some o ≡ false → ⊥
+none_said o s some none = false_is_true (sym none ∙ ap is_some some)
+
+begins_by : (h : Header) → BeginsStill h ⊎ IsIdleHeader h → is_some (first_session h) ≡ true → BeginsStill h
+begins_by h (inl b) some = b
+begins_by h (inr idle) some = absurd (some_said (first_session h) idle.nobody some)
+
+-- With a session a daemon begins.
+pub daemon_begins : (h : Header) → IsStillHeader h → is_some (first_session h) ≡ true → BeginsStill h
+daemon_begins h still some = begins_by h (still_headers_begin h still) some
+
+idle_by : (h : Header) → BeginsStill h ⊎ IsIdleHeader h → is_some (first_session h) ≡ false → IsIdleWorld (world_with still_program h)
+idle_by h (inl b) none = absurd (none_said (first_session h) b.first.session b.first.runs none)
+idle_by h (inr idle) none = idle_headers_begin still_commands h (record { header = idle.header; machines = idle.machines; nobody = idle.nobody })
+
+-- Without one nothing runs.
+pub nothing_begins : (h : Header) → IsStillHeader h → is_some (first_session h) ≡ false → IsIdleWorld (world_with still_program h)
+nothing_begins h still none = idle_by h (still_headers_begin h still) none
 
 -- ---- how many lines are left
 
-rest_by : (number : ℕ) (unread why : Option Refusal) (begin : Bool) (h k : Header) (next : HeaderReading) (after rest : List NumberedLine)
+rest_by : (number : ℕ) (unread : Option Refusal) (skipped : Bool) (why : Option Refusal) (begin : Bool) (h k : Header) (passed next : HeaderReading) (after rest : List NumberedLine)
     → elim unread as (λ x. HeaderReading) [
       | Some r ↦ Header_refused number r
-      | None ↦ elim why as (λ x. HeaderReading) [ Some r ↦ Header_refused number r | None ↦ elim begin as (λ x. HeaderReading) [ true ↦ Header_read k after | false ↦ next ] ]
+      | None ↦ elim skipped as (λ x. HeaderReading) [
+        | true ↦ passed
+        | false ↦ elim why as (λ x. HeaderReading) [
+          | Some r ↦ Header_refused number r
+          | None ↦ elim begin as (λ x. HeaderReading) [ true ↦ Header_read k after | false ↦ next ]
+        ]
+      ]
     ] ≡ Header_read h rest
-    → (next ≡ Header_read h rest → length rest ≤ length after) → length rest ≤ length after
-rest_by number (Some r) why begin h k next after rest e go = absurd cc
-rest_by number None (Some r) begin h k next after rest e go = absurd cc
-rest_by number None None true h k next after rest e go = let same : after ≡ rest = cc in omega (arith, ap (λ v. length v) same)
-rest_by number None None false h k next after rest e go = go e
+    → (passed ≡ Header_read h rest → length rest ≤ length after) → (next ≡ Header_read h rest → length rest ≤ length after) → length rest ≤ length after
+rest_by number (Some r) skipped why begin h k passed next after rest e pass go = absurd cc
+rest_by number None true why begin h k passed next after rest e pass go = pass e
+rest_by number None false (Some r) begin h k passed next after rest e pass go = absurd cc
+rest_by number None false None true h k passed next after rest e pass go = let same : after ≡ rest = cc in omega (arith, ap (λ v. length v) same)
+rest_by number None false None false h k passed next after rest e pass go = go e
 
 rest_shorter : (lines : List NumberedLine) (ls : List HeaderLine) (next : ℕ) (h : Header) (rest : List NumberedLine)
-    → read_header first_language ls next lines ≡ Header_read h rest → length rest ≤ length lines
+    → read_header still_language ls next lines ≡ Header_read h rest → length rest ≤ length lines
 rest_shorter [] ls next h rest e = absurd cc
 rest_shorter (l ∷ lines) ls next h rest e =
-    let read : Option HeaderLine = header_line_in first_language default_area l.text in
+    let read : Option HeaderLine = header_line_in still_language default_area l.text in
     let less : length rest ≤ length lines =
-    rest_by l.number (line_refusal l) (header_line_refusal first_language ls read) (some_is is_begin read) h (header_of default_sector default_area ls)
-    (read_header first_language (with_line ls read) (l.number + 1) lines) lines rest e
-    (rest_shorter lines (with_line ls read) (l.number + 1) h rest) in
+    rest_by l.number (line_refusal l) (is_skipped l.text) (header_line_refusal still_language ls read) (some_is is_begin read) h (header_of default_sector default_area ls)
+    (read_header still_language ls (l.number + 1) lines) (read_header still_language (with_line ls read) (l.number + 1) lines) lines rest e
+    (rest_shorter lines ls (l.number + 1) h rest) (rest_shorter lines (with_line ls read) (l.number + 1) h rest) in
     omega (arith, less)
 
 few_lines : (ls : List (List ℕ)) → length (without_empty_last ls) ≤ length ls
@@ -113,49 +113,54 @@ lines_few source =
     omega (arith, as_many (length source) 0 1 (lines_of source), few_lines (pieces 10 source), length-slice_split (λ b. b == 10) source, count_by-le-length (λ b. b == 10) source)
 
 -- Behind the header of a source, each line can be counted.
-pub room_for : (source : List ℕ) (h : Header) (rest : List NumberedLine) (k : Counts) → length source < 2 ^ 63 → read_header first_language [] 1 (numbered_lines source) ≡ Header_read h rest
-    → k ≡ no_counts → k.events + length rest ≤ 2 ^ 64 - 1
-room_for source h rest k small read is =
-    omega (arith, ap (λ c. c.events) is, rest_shorter (numbered_lines source) [] 1 h rest read, lines_few source, small)
+pub room_for : (source : List ℕ) (h : Header) (rest : List NumberedLine) → length source < 2 ^ 63 → read_header still_language [] 1 (numbered_lines source) ≡ Header_read h rest
+    → length rest ≤ 2 ^ 64 - 1
+room_for source h rest small read = omega (arith, rest_shorter (numbered_lines source) [] 1 h rest read, lines_few source, small)
 
 -- ---- what is owed before the first event
 
-pub owed_first : (source : List ℕ) (h : Header) (rest : List NumberedLine) (kept : KeptState) (host : HostState) (k : Counts) (out : List ℕ)
-    → read_header first_language [] 1 (numbered_lines source) ≡ Header_read h rest → WorldStands HostStands kept host (world_with first_program h) → k ≡ no_counts → out ≡ []
-    → Owes HostStands h kept host k rest out (report_text source) (ending_of source)
-owed_first source h rest kept host k out read stands is empty =
+-- The report of what is read of a header.
+abbrev text_by : HeaderReading → List ℕ
+text_by r =
+    as_bytes (elim r as (λ x. List (List ℕ)) [
+      | Header_refused number why ↦ refusal_line number why ∷ []
+      | Header_read g more ↦ replay_from still_language (world_with still_program g) no_counts (event_lines_of still_language g more)
+    ])
+
+-- .. and how it ends.
+abbrev end_by : HeaderReading → Ended
+end_by r =
+    elim r as (λ x. Ended) [
+      | Header_refused number why ↦ AtLine
+      | Header_read g more ↦ ending_from (world_with still_program g) (event_lines_of still_language g more)
+    ]
+
+-- Behind the header, what the lines add is all of the report.
+pub adds_all : (source : List ℕ) (h : Header) (rest : List NumberedLine) (out : List ℕ) → read_header still_language [] 1 (numbered_lines source) ≡ Header_read h rest → out ≡ []
+    → Adds h (world_with still_program h) no_counts rest out (report_text source) (ending_of source)
+adds_all source h rest out read empty =
     record {
-      world = world_with first_program h;
-      tells = stands;
-      text =
-          ap (λ r. as_bytes (elim r as (λ x. List (List ℕ)) [
-            | Header_refused number why ↦ refusal_line number Syntax ∷ []
-            | Header_read g more ↦ replay_from first_language (world_with first_program g) no_counts (event_lines_of first_language g more)
-          ])) read
-          ∙ ap (λ c. rest_text h (world_with first_program h) c rest) (sym is)
-          ∙ ap (λ v. v ++ rest_text h (world_with first_program h) k rest) (sym empty);
-      ends = ap (λ r. elim r as (λ x. Ended) [
-        | Header_refused number why ↦ AtLine
-        | Header_read g more ↦ ending_from (world_with first_program g) (event_lines_of first_language g more)
-      ]) read;
+      text = ap text_by read ∙ ap (λ v. v ++ rest_text h (world_with still_program h) no_counts rest) (sym empty);
+      ends = ap end_by read;
     }
 
--- A header that is refused is all that the report tells.
-pub refused_first : (source : List ℕ) (number : ℕ) (rest : List NumberedLine) → IsHeaderRead (Err number) rest (read_header first_language [] 1 (numbered_lines source))
-    → (report_text source ≡ as_bytes (refusal_line number Syntax ∷ [])) × (ending_of source ≡ AtLine)
-refused_first source number rest read = (
-  ap (λ r. as_bytes (elim r as (λ x. List (List ℕ)) [
-    | Header_refused number why ↦ refusal_line number Syntax ∷ []
-    | Header_read g more ↦ replay_from first_language (world_with first_program g) no_counts (event_lines_of first_language g more)
-  ])) read.1,
-  ap (λ r. elim r as (λ x. Ended) [
-    | Header_refused number why ↦ AtLine
-    | Header_read g more ↦ ending_from (world_with first_program g) (event_lines_of first_language g more)
-  ]) read.1,
-)
+-- It is owed by a host that stands for the header's world.
+pub owed_first : {D : Type 0} (stands : D → Setting → Trace → Type 0) (h : Header) (rest : List NumberedLine) (kept : KeptState) (host : D) (k : Counts) (out total : List ℕ) (end : Ended)
+    → WorldStands stands kept host (world_with still_program h) → k ≡ no_counts → Adds h (world_with still_program h) no_counts rest out total end
+    → Owes stands h kept host k rest out total end
+owed_first stands h rest kept host k out total end tells none adds =
+    record { world = world_with still_program h; tells = tells; adds = subst (λ c. Adds h (world_with still_program h) c rest out total end) (sym none) adds }
 
-pub first_header : (source : List ℕ) (h : Header) (rest : List NumberedLine) → read_header first_language [] 1 (numbered_lines source) ≡ Header_read h rest → FirstHeader h
-first_header source h rest read = header_of_source source h rest read
+pub written_before : (h : Header) (w : World) (k : Counts) (rest : List NumberedLine) (out new total : List ℕ) (end : Ended) → Adds h w k rest out total end → new ≡ out → IsFrontOf new total
+written_before h w k rest out new total end a same = (rest_text h w k rest, a.text ∙ ap (λ v. v ++ rest_text h w k rest) (sym same))
+
+-- A header that is refused is all that the report tells.
+pub refused_first : (source : List ℕ) (number : ℕ) (why : Refusal) → read_header still_language [] 1 (numbered_lines source) ≡ Header_refused number why
+    → (report_text source ≡ as_bytes (refusal_line number why ∷ [])) × (ending_of source ≡ AtLine)
+refused_first source number why read = (ap text_by read, ap end_by read)
+
+pub still_header : (source : List ℕ) (h : Header) (rest : List NumberedLine) → read_header still_language [] 1 (numbered_lines source) ≡ Header_read h rest → IsStillHeader h
+still_header source h rest read = headers_are_still source h rest read
 
 -- ---- fronts
 
@@ -203,8 +208,7 @@ broken_put taken now faults later n out text whole appends front rose =
 
 -- ---- the header as it was read
 
-pub header_is : (read : Result Header ℕ) (h : Header) (rest lines : List NumberedLine) (source : List ℕ) → IsHeaderRead read rest (read_header first_language [] 1 lines)
-    → read ≡ Ok h → lines ≡ numbered_lines source → read_header first_language [] 1 (numbered_lines source) ≡ Header_read h rest
-header_is read h rest lines source is ok here =
-    subst (λ ls. read_header first_language [] 1 ls ≡ Header_read h rest) here
-    (subst (λ r. IsHeaderRead r rest (read_header first_language [] 1 lines)) ok is)
+pub header_is : (read : Result Header (ℕ × Refusal)) (rest lines : List NumberedLine) (source : List ℕ) (reading : HeaderReading)
+    → header_reading read rest ≡ read_header still_language [] 1 lines → lines ≡ numbered_lines source → header_reading read rest ≡ reading
+    → read_header still_language [] 1 (numbered_lines source) ≡ reading
+header_is read rest lines source reading is here that = ap (read_header still_language [] 1) (sym here) ∙ sym is ∙ that

@@ -4,8 +4,10 @@ use Rattle.sl_cli.specs.declared.reading.Words.{Words}
 use Rattle.sl_direct.specs.Laws.{sector_at}
 use Rattle.sl_direct.specs.Lines.{is_its_leader, leader_in_sector}
 use Rattle.sl_direct.specs.declared.action.Action.TheVariants.{ReadLeader}
+use Rattle.sl_first_run.specs.Accepted.{IsAccepted}
+use Rattle.sl_still_schedule.specs.StillLanguage.{still_language}
 use Rattle.sl_top.specs.Runs.{IsCutShort, IsDirect, Outside, Owes}
-use Rattle.sl_top.specs.declared.status.Status.TheVariants.{AreaFault, BadWords, NotTheLeader, ReadFault, Refused, WriteFault}
+use Rattle.sl_top.specs.declared.status.Status.TheVariants.{AreaFault, BadWords, Done, NoMemory, NotTheLeader, ReadFault, Refused, WriteFault}
 use Rattle.sl_top.specs.declared.status.Status.{Status}
 use Rattle.sl_trace.specs.declared.command.ResourceArg.{ResourceArg}
 use Rattle.sl_words.specs.Causes.{Rose}
@@ -38,3 +40,14 @@ pub record CausesHaveStatuses : Type 0 where
   pub bad_words : (x y : Outside) (s : Status) → Owes None x y s → (s ≡ BadWords) ⊎ IsCutShort s
   pub not_the_leader : (r : ResourceArg) (content : List ℕ) (x y : Outside) (s : Status) → Owes (Some (Direct (ReadLeader r))) x y s → x.disks r.path ≡ Some content
       → has_leader r content ≡ false → (s ≡ NotTheLeader) ⊎ (s ≡ AreaFault) ⊎ IsCutShort s
+
+-- Nothing failed: neither the source nor the sink counts more faults than before.
+pub record NothingFailed (x y : Outside) : Type 0 where
+  pub source : Rose x.source_faults y.source_faults → ⊥
+  pub sink : Rose x.sink_faults y.sink_faults → ⊥
+
+-- A schedule that is read and allowed from its first line to its last is done, if nothing fails and memory lasts; and no other schedule is.
+pub record AcceptedSchedulesEndWell : Type 0 where
+  pub well : (source : List ℕ) (x y : Outside) (s : Status) → Owes (Some Replay) x y s → x.left ≡ Some source → IsAccepted still_language source → NothingFailed x y
+      → (s ≡ Done) ⊎ (s ≡ NoMemory)
+  pub only : (source : List ℕ) (x y : Outside) (s : Status) → Owes (Some Replay) x y s → x.left ≡ Some source → s ≡ Done → IsAccepted still_language source

@@ -6,9 +6,10 @@ use Rattle.sl_cli.specs.declared.texts.TheConstants.{HELP, VERSION}
 use Rattle.sl_direct.specs.Actions.{Directs, path_of}
 use Rattle.sl_direct.specs.declared.action.Action.{Action}
 use Rattle.sl_direct.specs.declared.action.Directed.{Directed}
-use Rattle.sl_first_schedule.specs.FirstLanguage.{first_language}
-use Rattle.sl_report.specs.Headline.{IsFrontOf, ReplayHeadline, SoundRun}
+use Rattle.sl_first_run.specs.Readings.{replay_status}
+use Rattle.sl_report.specs.Headline.{IsFrontOf, MayHaveBeen, ReplayHeadline, SoundRun, is_whole_status}
 use Rattle.sl_report.specs.Schedules.{replay_lines}
+use Rattle.sl_still_schedule.specs.StillLanguage.{still_language}
 use Rattle.sl_text.specs.Forms.{as_bytes}
 use Rattle.sl_top.specs.Disks.{CountsBack, Disks, KeepsAllBut}
 use Rattle.sl_top.specs.Statuses.{code, status_after}
@@ -25,7 +26,7 @@ said words = said_in (map string_bytes words)
 
 -- The report of a source.
 abbrev pub report_text : List ℕ → List ℕ
-report_text source = as_bytes (replay_lines first_language source)
+report_text source = as_bytes (replay_lines still_language source)
 
 -- The line that words print which say nothing.
 abbrev pub bad_words_text : List ℕ
@@ -56,7 +57,9 @@ pub record Replays (left after : Option (List ℕ)) (faults later : ℕ) (taken 
   pub at_end : IsTrue ended → IsAtEnd after
   pub writes : Appends taken now written
   -- the bytes written are the report of a sound run
-  pub headline : ReplayHeadline SoundRun first_language ended read written (code s)
+  pub headline : ReplayHeadline SoundRun still_language ended read written (code s)
+  -- a status that tells of a whole report is the source's own
+  pub own : IsTrue (is_whole_status (code s)) → (source : List ℕ) → MayHaveBeen ended read source → code s ≡ replay_status still_language source
   -- a fault is told only where one was counted
   pub read_fault : s ≡ ReadFault → Rose faults later
   pub write_fault : s ≡ WriteFault → Rose sink_faults sink_later

@@ -1,68 +1,107 @@
-//! The world of a header, with the host of its one daemon.
+//! The world of a header, with the host of its daemon.
+//!
+//! A header of one machine may give it sessions, and then a daemon runs there that has all of them. Without a session none runs.
 
-ghost use Rattle.sl_first_schedule.specs.FirstHeaders.{FirstHeader};
-ghost use Rattle.sl_first_schedule.specs.FirstLanguage.{arg_of, first_program};
-ghost use Rattle.sl_first_schedule.specs.FirstWorld.{given_first};
-ghost use Rattle.sl_host.specs.Hosts.{HostStands};
 ghost use Rattle.sl_report.specs.Reports.{no_counts};
-ghost use Rattle.sl_run.specs.Worlds.{world_with};
+ghost use Rattle.sl_run.specs.Worlds.{clock_reading, given_of, world_with};
+ghost use Rattle.sl_still_host.specs.Hosts.{HostStands};
+ghost use Rattle.sl_still_schedule.specs.StillLanguage.{still_program};
+ghost use Rattle.sl_still_schedule.specs.StillWorld.{BeginsStill};
 ghost use Rattle.sl_world.specs.Kept.{WorldStands};
-ghost use Rattle.std.specs.Prelude.{IfOk, ◌≡◌};
+ghost use Rattle.std.specs.Option.{option_copied};
+ghost use Rattle.std.specs.Prelude.{bytes_eq, filter_map, find, is_some, IfOk, ◌==◌, ◌≡◌};
 
-use sl_host::Host;
 use sl_replay::Replay;
-use sl_run::Header;
-use sl_trace::{Given, Numbers, ResourceArg};
+use sl_run::{FirstReading, Header, LockspaceLine, SessionLine};
+use sl_still_host::Host;
+use sl_text::{Name, Seq};
+use sl_trace::{Given, Numbers};
 use sl_world::World;
 use std::alloc::{AllocError, Global};
 
-/// The session that the header gives its one daemon; its clock begins at 0.
-fn session_of(header: &Header) -> Given
-    requires { FirstHeader header.now }
-    ensures { (f : FirstHeader header.now) → result ≡ given_first f.space f.member }
+/// The line of the machine's clock.
+fn clock_of(header: &Header) -> Option<&FirstReading>
+    ensures { option_copied result ≡ find (λ c. c.machine == 1) header.now.clocks }
 {
-    match (header.sessions.get(0), header.lockspaces.get(0)) {
-        (Some(session), Some(lockspace)) => Given {
-            lockspace: session.lockspace,
-            id: session.id,
-            path: lockspace.path,
-            offset: lockspace.offset,
-            renewed: 0,
-        },
-        _ => unreachable!(),
+    header
+        .clocks
+        .as_slice()
+        .iter()
+        .find(|clock| clock.machine == 1)
+}
+
+/// The machine's first reading: that of its line, else 0.
+fn first_reading(header: &Header) -> u64
+    ensures { result ≡ clock_reading header.now 1 }
+{
+    match clock_of(header) {
+        Some(clock) => clock.reading,
+        None => 0,
     }
 }
 
-/// The header's resource, as commands name it.
-fn resource_of(header: &Header) -> ResourceArg
-    requires { FirstHeader header.now }
-    ensures { (f : FirstHeader header.now) → result ≡ arg_of f.lease }
+/// The line of the lockspace with this name.
+fn lockspace_of(header: &Header, name: Name) -> Option<&LockspaceLine>
+    ensures { option_copied result ≡ find (λ l. bytes_eq l.name name) header.now.lockspaces }
 {
-    match header.resources.get(0) {
-        Some(resource) => ResourceArg {
-            lockspace: resource.lockspace,
-            name: resource.name,
-            path: resource.path,
-            offset: resource.offset,
-        },
-        None => unreachable!(),
+    header
+        .lockspaces
+        .as_slice()
+        .iter()
+        .find(|line| line.name == name)
+}
+
+/// The session as the daemon is given it, if it is the machine's: it was renewed when the clock began.
+fn given_of(header: &Header, session: &SessionLine) -> Option<Given>
+    ensures { result ≡ given_of header.now 1 session.now }
+{
+    if session.machine != 1 {
+        return None;
     }
+    let lockspace = lockspace_of(header, session.lockspace)?;
+    Some(Given {
+        lockspace: session.lockspace,
+        id: session.id,
+        path: lockspace.path,
+        offset: lockspace.offset,
+        renewed: first_reading(header),
+    })
+}
+
+/// The sessions that the header gives the daemon.
+fn sessions_of(alloc: Global, header: &Header) -> Result<Seq<Given>, AllocError>
+    ensures { IfOk result (λ given. given ≡ filter_map (given_of header.now 1) header.now.sessions) }
+{
+    let mut given = Vec::new(alloc);
+    for session in header.sessions.as_slice() {
+        if let Some(session) = given_of(header, session) {
+            given.push(session)?;
+        }
+    }
+    Ok(Seq::new(given))
+}
+
+/// Whether a daemon runs on the machine: it has a session.
+pub(crate) fn has_daemon(header: &Header) -> bool
+    ensures { result ≡ is_some (find (λ s. s.machine == 1) header.now.sessions) }
+{
+    header
+        .sessions
+        .as_slice()
+        .iter()
+        .find(|session| session.machine == 1)
+        .is_some()
 }
 
 /// The replay of a schedule with this header, before its first event. An `Err` is want of memory.
 pub(crate) fn first_run(alloc: Global, header: Header) -> Result<Replay<Host>, AllocError>
-    requires { FirstHeader header }
-    ensures world { IfOk result (λ r. WorldStands HostStands r.world.kept r.world.host (world_with first_program header)) }
+    requires { BeginsStill header }
+    ensures world { IfOk result (λ r. WorldStands HostStands r.world.kept r.world.host (world_with still_program header)) }
     ensures counts { IfOk result (λ r. (r.counts ≡ no_counts) × (r.sector ≡ header.geometry.sector)) }
 {
     let first = Numbers { call: 1, job: 1 };
-    let host = Host::new(
-        alloc,
-        header.geometry,
-        session_of(&header),
-        resource_of(&header),
-        first,
-    )?;
+    let given = sessions_of(alloc, &header)?;
+    let host = Host::new(alloc, header.geometry, given, first_reading(&header), first);
     let sector = header.geometry.sector();
     let world = World::new(alloc, header, host);
     Ok(Replay::new(world, sector))

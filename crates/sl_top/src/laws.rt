@@ -1,6 +1,6 @@
 //! What each status tells of a run: laws of the definitions that `run` and `run_offline` cite.
 
-ghost use Rattle.sl_top.specs.Laws.{CausesHaveStatuses, StatusesHaveCauses};
+ghost use Rattle.sl_top.specs.Laws.{AcceptedSchedulesEndWell, CausesHaveStatuses, StatusesHaveCauses};
 
 /// Each status but `Done` and want of memory comes only with its cause.
 pub fn statuses_have_causes()
@@ -10,4 +10,9 @@ pub fn statuses_have_causes()
 /// Words that say nothing end with `BadWords`, and a look at another leader with `NotTheLeader`, if nothing cuts the run short.
 pub fn causes_have_statuses()
     ensures { CausesHaveStatuses }
+{}
+
+/// A schedule that is read and allowed to its end is done, unless something fails or memory lacks; no other is.
+pub fn accepted_schedules_end_well()
+    ensures { AcceptedSchedulesEndWell }
 {}

@@ -5,22 +5,26 @@
 //! and gives the disk back.
 
 ghost use Rattle.sl_direct.specs.Actions.{IsAction};
-ghost use Rattle.sl_replay.specs.Reports.{ending_of};
+ghost use Rattle.sl_replay.specs.Reports.{Adds, ending_of};
 ghost use Rattle.sl_report.specs.Headline.{IsFrontOf};
+ghost use Rattle.sl_report.specs.Reports.{no_counts};
+ghost use Rattle.sl_run.specs.Worlds.{world_with};
+ghost use Rattle.sl_still_schedule.specs.StillHeaders.{IsStillHeader};
+ghost use Rattle.sl_still_schedule.specs.StillLanguage.{still_program};
 ghost use Rattle.sl_top.specs.Runs.{ActsOn, IsDirect, IsReplay, Owes, PutsOut, Replays, report_text, said};
 ghost use Rattle.sl_top.specs.Statuses.{status_of};
 ghost use Rattle.sl_top.specs.declared.status.Status.TheVariants.{WriteFault};
-ghost use Rattle.std.specs.Prelude.{IfOk, OnErr, [], length, ◌<◌, ◌^◌, ◌≡◌, ◌≢◌};
+ghost use Rattle.std.specs.Prelude.{IfOk, List, OnErr, [], length, ℕ, ◌-◌, ◌<◌, ◌^◌, ◌≡◌, ◌≢◌, ◌≤◌};
 
 use crate::devices::Devices;
-use crate::first::first_run;
+use crate::first::{first_run, has_daemon};
 use crate::status::{Status, status_after, status_of};
 use sl_area::Area;
 use sl_cli::{HELP, VERSION, Words, WordsError, read_words};
 use sl_direct::{Action, run_direct};
 use sl_io::{ReadAll, ReadAllError, Sink, Source, read_all, write_all};
-use sl_replay::{Ended, read_first_header};
-use sl_run::Refusal;
+use sl_replay::{Ended, read_still_header, run_idle};
+use sl_run::Header;
 use sl_schedule::{Lines, push_refusal_line};
 use std::alloc::{AllocError, Global};
 
@@ -35,6 +39,28 @@ fn bytes_of(source: &[u8]) -> usize
     source.len()
 }
 
+/// Writes what the lines behind a header add to the report, where this was written of it. After an `Err`, which is want of memory, a front
+/// of the report was written.
+fn push_run(
+    alloc: Global,
+    header: Header,
+    out: &mut Vec<u8>,
+    lines: &mut Lines,
+) -> Result<Ended, AllocError>
+    requires header { IsStillHeader header }
+    requires room { length lines.old ≤ 2 ^ 64 - 1 }
+    ensures exact { (total : List ℕ) (end : Ended) → Adds header (world_with still_program header) no_counts lines.old out.old.items total end
+        → IfOk result (λ ended. (ended ≡ end) × (out.new.items ≡ total)) }
+    ensures front { (total : List ℕ) (end : Ended) → Adds header (world_with still_program header) no_counts lines.old out.old.items total end
+        → OnErr result (IsFrontOf out.new.items total) }
+{
+    if !has_daemon(&header) {
+        return run_idle(alloc, header.geometry.sector(), out, lines);
+    }
+    let mut replay = first_run(alloc, header)?;
+    replay.run(alloc, out, lines)
+}
+
 /// Writes the report of a source. After an `Err`, which is want of memory, a front of it was written.
 fn push_report(alloc: Global, source: &[u8], out: &mut Vec<u8>) -> Result<Ended, AllocError>
     requires { out.old.items ≡ [] }
@@ -43,14 +69,10 @@ fn push_report(alloc: Global, source: &[u8], out: &mut Vec<u8>) -> Result<Ended,
 {
     let _bytes = bytes_of(source);
     let mut lines = Lines::new(source);
-    match read_first_header(alloc, &mut lines)? {
-        Ok(header) => {
-            let mut replay = first_run(alloc, header)?;
-            let ended = replay.run(alloc, out, &mut lines)?;
-            Ok(ended)
-        }
-        Err(number) => {
-            push_refusal_line(out, number, Refusal::Syntax)?;
+    match read_still_header(alloc, &mut lines)? {
+        Ok(header) => push_run(alloc, header, out, &mut lines),
+        Err((number, why)) => {
+            push_refusal_line(out, number, why)?;
             Ok(Ended::AtLine)
         }
     }

@@ -4,7 +4,8 @@ use Rattle.sl_replay.proofs.replay.Replay.happen.Goals as goal
 use Rattle.sl_run.specs.Events.{happens, machine_of}
 use Rattle.sl_text.specs.Forms.{as_bytes}
 use Rattle.sl_trace.specs.EffectTexts.{effect_lines}
-use Rattle.std.proofs.Common.{ap, sym, [], ◌++◌, ◌∙◌, ◌∷◌}
+use Rattle.std.proofs.Common.{ap, refl, sym, [], ◌++◌, ◌∙◌, ◌∷◌}
+use Rattle.std.specs.Prelude.{Err}
 
 pub returns-in_err-push_effect_lines-in-Ok-clause-stays : goal.returns-in_err-push_effect_lines-in-Ok-clause-stays
 returns-in_err-push_effect_lines-in-Ok-clause-stays g c =
@@ -36,3 +37,6 @@ returns-in_ok-push_effect_lines-in-Ok-clause-exact g c = λ w s.
           ∙ ap (λ m. c.args.out.now.items ++ as_bytes (effect_lines m c.in-Ok.effects)) c.machine_of-machine.ensures
           ∙ ap (λ ls. c.args.out.now.items ++ as_bytes ls) (sym (first_lines w c.args.event c.in-Ok.effects c.requires.first));
     }
+
+pub returns-in-Err-Refused-clause-exact : goal.returns-in-Err-Refused-clause-exact
+returns-in-Err-Refused-clause-exact g c = λ w s. (c.in-Err-Refused.ensures.only w s c.in-Err-Refused.why (ap (λ x. Err x) c.in-Err-Refused.field-0-is), refl)
