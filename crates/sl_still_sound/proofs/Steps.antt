@@ -6,8 +6,9 @@ use Rattle.sl_law.specs.Lawful.{IsSetting}
 use Rattle.sl_leases.specs.declared.lease.LeaseNext.TheVariants.{AnswerJob, GrantJob, Nothing, ReadFor, WriteBlock, WriteLeader}
 use Rattle.sl_leases.specs.declared.lease.LeaseNext.{LeaseNext}
 use Rattle.sl_still.proofs.Comes.{Comes_begins, Comes_gives, Comes_refused, LineComes, line_comes}
+use Rattle.sl_still.proofs.Lists.{given_at, place_of}
 use Rattle.sl_still.specs.StillLeases.{StillStands, Table, put}
-use Rattle.sl_still.specs.StillPath.{HearsStill, IsStill, StillLease, still_entry}
+use Rattle.sl_still.specs.StillPath.{HearsStill, IsStill, IsStillGiven, StillLease, still_entry}
 use Rattle.sl_still.specs.StillSteps.{lease_comes, lease_effects, refused_entry}
 use Rattle.sl_still_lawful.proofs.Whole.{traces_are_lawful}
 use Rattle.sl_still_sound.specs.StillDaemons.{IsStillDaemon}
@@ -26,7 +27,6 @@ use Rattle.sl_words.proofs.CaseLaws.{false_is_true}
 use Rattle.sl_world.proofs.SmallLaws.{none_few, one_few}
 use Rattle.sl_world.specs.Daemons.{IsCalmInput, IsSmall, entry_of}
 use Rattle.std.proofs.Common.{refl, subst, sym, ◌∙◌}
-use Rattle.std.specs.List.{AllByRecursion}
 use Rattle.std.specs.Prelude.{Contains, IsTrue, List, length, true, ℕ, ◌∷◌, ◌≡◌, ◌≤◌}
 
 -- ---- what a step does is little
@@ -90,8 +90,11 @@ answer_steps st es x number a at =
 
 -- ---- an input
 
-renewed_there : (now : ℕ) (given : List Given) → AllByRecursion (λ (g : Given). g.renewed ≡ now) given → (g : Given) → Contains given g → g.renewed ≡ now
-renewed_there now given all g there = ?
+-- Each given session was renewed at the reading where the clock stands.
+renewed_at : (st : Setting) (now : ℕ) → IsStill st now → (g : Given) → Contains st.given g → g.renewed ≡ now
+renewed_at st now f g there =
+    let at = place_of st.given g there in
+    (given_at (IsStillGiven st now) st.given at.0 g f.each at.1).renewed
 
 -- The clock stands at the renewal of each session that is given.
 reading_is : (st : Setting) (es : Trace) (x : IsStillDaemon st es) (now : ℕ) (i : Input) → IsCalmInput st es now i → x.now ≡ now
