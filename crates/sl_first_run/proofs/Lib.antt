@@ -1,4 +1,5 @@
 pub mod Reported
+pub mod Changing
 pub mod Running
 pub mod Ended
 pub mod Moving
@@ -9,3 +10,6 @@ pub mod CutLines
 pub mod CutReadings
 pub mod Cutting
 pub mod Headlines
+pub mod Accepting
+pub mod OneStatus
+pub mod Idling

@@ -15,7 +15,7 @@ use Rattle.sl_trace.specs.declared.effects.Grant.{Grant}
 use Rattle.sl_trace.specs.declared.input.Given.{Given}
 use Rattle.sl_world.specs.Daemons.{IsSmallStep}
 use Rattle.std.specs.List.{list_any, list_all}
-use Rattle.std.specs.Prelude.{Bool, Contains, List, None, Option, Some, bytes_eq, false, filter, find, is_none, length, map, nat_le, option_to_list, true, [], ℕ, ◌&&◌, ◌*◌, ◌+◌, ◌-◌, ◌∷◌, ◌≡◌, ◌≤◌, ◌==◌}
+use Rattle.std.specs.Prelude.{AllPairs, Bool, Contains, List, None, Option, Some, bytes_eq, false, filter, find, is_none, length, map, nat_le, true, [], ℕ, ◌&&◌, ◌*◌, ◌+◌, ◌-◌, ◌∷◌, ◌≡◌, ◌≢◌, ◌≤◌, ◌==◌}
 
 -- What was written at a place.
 pub record WrittenState : Type 0 where
@@ -28,7 +28,7 @@ pub record DiskState : Type 0 where
   pub header : Header
   pub written : List WrittenState
 
--- The call without an answer: what it has sampled so far, of how many sectors, and whether its write has landed.
+-- A call without an answer: what it has sampled so far, of how many sectors, and whether its write has landed.
 pub record FlightState : Type 0 where
   pub call : Call
   pub sampled : List ℕ
@@ -39,7 +39,8 @@ pub record FlightState : Type 0 where
 pub record KeptState : Type 0 where
   pub disk : DiskState
   pub reading : ℕ
-  pub flight : Option FlightState
+  -- the calls without an answer, the newest first
+  pub flights : List FlightState
   pub held : List Grant
 
 -- Whether something was written at this place.
@@ -93,7 +94,7 @@ abbrev pub fate_of : Bool → Fate
 fate_of false = In_flight
 fate_of true = Landed
 
--- Of the call that is kept: the machine's first daemon made it.
+-- Of a call that is kept: the machine's first daemon made it.
 abbrev pub shown_of : FlightState → Shown
 shown_of f = record { call = f.call; sampled = f.sampled; sectors = f.sectors; fate = fate_of f.landed; daemon = 0 }
 
@@ -120,13 +121,15 @@ pub record Tells (k : KeptState) (w : World) (a : Machine) (d : Daemon) : Type 0
   pub first : d.number ≡ 0
   pub resets : a.resets ≡ []
   pub reading : reading_now a ≡ k.reading
-  pub calls : map shown (waiting a) ≡ map shown_of (option_to_list k.flight)
-  pub flight : (f : FlightState) → k.flight ≡ Some f → IsFlight (kept_sector k.disk) f
+  pub calls : map shown (waiting a) ≡ map shown_of k.flights
+  pub flight : (f : FlightState) → Contains k.flights f → IsFlight (kept_sector k.disk) f
+  -- what happens to the call of a number happens to one
+  pub apart : AllPairs (λ f g. f.call.number ≢ g.call.number) k.flights
   pub held : a.holdings ≡ k.held
   pub connections : a.connections ≡ connections d.setting d.trace
   pub places : (path : List ℕ) (offset : ℕ) → content w path offset ≡ kept_content k.disk path offset
   -- the trace has the same calls open
-  pub outstanding : map (λ m. m.call) (outstanding d.trace) ≡ map (λ f. f.call) (option_to_list k.flight)
+  pub outstanding : map (λ m. m.call) (outstanding d.trace) ≡ map (λ f. f.call) k.flights
   pub sizes : d.setting.layout ≡ w.layout
   pub still : (g : Given) → Contains d.setting.given g → g.renewed ≡ k.reading
 

@@ -1,0 +1,98 @@
+-- A schedule has status 0 where it is read and allowed to its end, and nowhere else.
+use Rattle.sl_first_run.proofs.Reported.{follows}
+use Rattle.sl_first_run.specs.Accepted.{DoesWhatIsDue, IsAccepted}
+use Rattle.sl_first_run.specs.Followed.{followed_end, followed_run}
+use Rattle.sl_first_run.specs.Promises.{AcceptedSchedulesEndWell}
+use Rattle.sl_first_run.specs.Readings.{replay_status}
+use Rattle.sl_plain.proofs.Options.{none_is}
+use Rattle.sl_report.specs.Languages.{Language}
+use Rattle.sl_report.specs.Replay.{effects_of}
+use Rattle.sl_report.specs.Schedules.{At_end, At_line, Ending, EventLine, Follows, HeaderReading, Header_read, Header_refused, event_lines_of, numbered_lines, read_header, status_of}
+use Rattle.sl_run.specs.Events.{happens, refusal_of}
+use Rattle.sl_run.specs.Runs.{Happening}
+use Rattle.sl_run.specs.Worlds.{World, world_with}
+use Rattle.sl_run.specs.declared.event.Event.{Event}
+use Rattle.sl_run.specs.declared.event.Refusal.{Refusal}
+use Rattle.std.proofs.Common.{ap, refl, subst, sym, ◌∙◌}
+use Rattle.std.specs.Prelude.{Err, List, None, Ok, Option, Some, [], ℕ, ◌∷◌, ◌≡◌}
+
+-- ---- the ending
+
+-- The ending of one event's line, by whether it is refused.
+abbrev ends_by : ℕ → Option Refusal → Ending → Ending
+ends_by n o rest = elim o [ Some r ↦ At_line n r | None ↦ rest ]
+
+same_line : (n m : ℕ) (r s : Refusal) → m ≡ n → s ≡ r → At_line n r ≡ At_line m s
+same_line n m r s number why = ap (λ k. At_line k r) (sym number) ∙ ap (At_line m) (sym why)
+
+-- A run of a schedule in which each daemon does what is due ends as the schedule does.
+pub ends_so : (w : World) (ls : List EventLine) (xs : List Happening) (end : Ending) → Follows w ls xs end → DoesWhatIsDue w xs → followed_end w ls ≡ end
+ends_so w [] [] At_end f d = refl
+ends_so w [] [] (At_line number why) f d = absurd f
+ends_so w [] (x ∷ xs) end f d = absurd f
+ends_so w ((n, Err r) ∷ ls) [] At_end f d = absurd f
+ends_so w ((n, Err r) ∷ ls) [] (At_line number why) f d = same_line n number r why f.0 f.1
+ends_so w ((n, Err r) ∷ ls) (x ∷ xs) end f d = absurd f
+ends_so w ((n, Ok e) ∷ ls) [] At_end f d = absurd f
+ends_so w ((n, Ok e) ∷ ls) [] (At_line number why) f d =
+    ap (λ o. ends_by n o (followed_end (happens w e (effects_of w e)) ls)) f.1 ∙ same_line n number why why f.0 refl
+ends_so w ((n, Ok e) ∷ ls) (x ∷ xs) end f d =
+    ap (λ y. followed_end w ((n, Ok y) ∷ ls)) f.0
+    ∙ ap (λ o. ends_by n o (followed_end (happens w x.0 (effects_of w x.0)) ls)) (subst (λ y. refusal_of w y ≡ None) f.0 (none_is (refusal_of w e) f.1))
+    ∙ ap (λ fxs. followed_end (happens w x.0 fxs) ls) (sym d.0)
+    ∙ ends_so (happens w x.0 x.1) ls xs end f.2 d.1
+
+-- ---- the run that is followed
+
+does_at : (w : World) (e : Event) (xs : List Happening) (o : Option Refusal) → DoesWhatIsDue (happens w e (effects_of w e)) xs
+    → DoesWhatIsDue w (elim o as (λ x. List Happening) [ Some r ↦ [] | None ↦ (e, effects_of w e) ∷ xs ])
+does_at w e xs None rest = (refl, rest)
+does_at w e xs (Some r) rest = tt
+
+does_what_is_due : (w : World) (ls : List EventLine) → DoesWhatIsDue w (followed_run w ls)
+does_what_is_due w [] = tt
+does_what_is_due w ((n, Err r) ∷ ls) = tt
+does_what_is_due w ((n, Ok e) ∷ ls) =
+    let v : World = happens w e (effects_of w e) in
+    does_at w e (followed_run v ls) (refusal_of w e) (does_what_is_due v ls)
+
+-- ---- the status
+
+-- The status by what is read of the header.
+abbrev status_by : Language → HeaderReading → ℕ
+status_by lang o =
+    elim o [
+      | Header_refused number why ↦ 1
+      | Header_read h rest ↦ status_of (followed_end (world_with lang.program h) (event_lines_of lang h rest))
+    ]
+
+-- What is accepted ends well.
+ends_well : (lang : Language) (source : List ℕ) → IsAccepted lang source → replay_status lang source ≡ 0
+ends_well lang source a =
+    ap (status_by lang) a.is_read
+    ∙ ap status_of (ends_so (world_with lang.program a.header) (event_lines_of lang a.header a.rest) a.run At_end a.follows a.does)
+
+one_is_none : 1 ≡ 0 → ⊥
+one_is_none h = absurd cc
+
+is_the_end : (end : Ending) → status_of end ≡ 0 → end ≡ At_end
+is_the_end At_end h = refl
+is_the_end (At_line number why) h = absurd (one_is_none h)
+
+accepted_by : (lang : Language) (source : List ℕ) (o : HeaderReading) → read_header lang [] 1 (numbered_lines source) ≡ o → status_by lang o ≡ 0 → IsAccepted lang source
+accepted_by lang source (Header_refused number why) is h = absurd (one_is_none h)
+accepted_by lang source (Header_read h rest) is well =
+    let w : World = world_with lang.program h in
+    let ls : List EventLine = event_lines_of lang h rest in
+    record {
+      header = h;
+      rest = rest;
+      run = followed_run w ls;
+      is_read = is;
+      follows = subst (Follows w ls (followed_run w ls)) (is_the_end (followed_end w ls) well) (follows w ls);
+      does = does_what_is_due w ls;
+    }
+
+pub accepted_schedules_end_well : AcceptedSchedulesEndWell
+accepted_schedules_end_well =
+    record { well = ends_well; only = λ lang source h. accepted_by lang source (read_header lang [] 1 (numbered_lines source)) refl h }

@@ -1,0 +1,1 @@
+-- Where no daemon runs, nothing happens.
