@@ -1,0 +1,5 @@
+pub mod StillLanguage
+pub mod StillHeaders
+pub mod StillWorld
+pub mod StillWhole
+pub mod Promises
