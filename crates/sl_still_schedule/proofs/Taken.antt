@@ -11,6 +11,7 @@ use Rattle.sl_still_schedule.proofs.Lists.{first_stays, given_of_one, pairs_none
 use Rattle.sl_still_schedule.proofs.Made.{IsWellFormed, well_formed}
 use Rattle.sl_still_schedule.specs.StillLanguage.{is_still_line, still_language}
 use Rattle.sl_text.specs.Forms.{made_by}
+use Rattle.sl_words.proofs.CaseLaws.{some_value}
 use Rattle.sl_words.proofs.ListLaws.{list_all_place}
 use Rattle.sl_words.proofs.WordLaws.{and_true, choose_some}
 use Rattle.sl_words.specs.Words.{choose, first_of_list}
@@ -97,6 +98,9 @@ order_of : (ls : List HeaderLine) (k : ℕ) → is_in_order still_language ls k 
     → (list_all (λ j. nat_le (least_lines j) (count_of_rank ls j)) (range_with_len 0 k) ≡ true) × (is_room_for still_language ls k ≡ true)
 order_of ls k h = order_parts (list_all (λ l. nat_le (rank l) k) ls) (list_all (λ j. nat_le (least_lines j) (count_of_rank ls j)) (range_with_len 0 k)) (is_room_for still_language ls k) h
 
+none_and : (n : ℕ) → 0 + n ≡ n
+none_and n = omega arith
+
 -- Before a line as many of each lesser rank stand as must.
 pub stand_before : (ls : List HeaderLine) (l : HeaderLine) → IsLineBehind ls l → (j : ℕ) → j < rank l → least_lines j ≤ count_of_rank ls j
 stand_before ls l h j before =
@@ -104,7 +108,7 @@ stand_before ls l h j before =
     let P : ℕ → Bool = λ j. nat_le (least_lines j) (count_of_rank ls j) in
     let there : j < length (range_with_len 0 (rank l)) = subst (λ (n : ℕ). j < n) (sym (length-range_with_len 0 (rank l))) before in
     leb-true (least_lines j) (count_of_rank ls j)
-    (subst (λ (n : ℕ). P n ≡ true) (get_or-range_with_len 0 (rank l) j 0 before) (list_all_place P (range_with_len 0 (rank l)) j 0 each there))
+    (subst (λ (n : ℕ). P n ≡ true) (get_or-range_with_len 0 (rank l) j 0 before ∙ none_and j) (list_all_place P (range_with_len 0 (rank l)) j 0 each there))
 
 -- ---- kinds of lines
 
@@ -113,10 +117,13 @@ pub record IsKind {A : Type 0} (line : A → HeaderLine) (pick : HeaderLine → 
   pub back : (l : HeaderLine) (x : A) → pick l ≡ Some x → l ≡ line x
   pub ranked : (l : HeaderLine) → is_some (pick l) ≡ (rank l == k)
 
+one_and : (n : ℕ) → suc n ≡ 1 + n
+one_and n = omega arith
+
 counted : {A : Type 0} (pick : HeaderLine → Option A) (l : HeaderLine) (ls : List HeaderLine) (o : Option A) (b : Bool) → is_some o ≡ b
     → length (cons_option o (filter_map pick ls)) ≡ cond b (1 + length (filter_map pick ls)) (length (filter_map pick ls))
 counted pick l ls None b h = ap (λ c. cond c (1 + length (filter_map pick ls)) (length (filter_map pick ls))) h
-counted pick l ls (Some x) b h = ap (λ c. cond c (1 + length (filter_map pick ls)) (length (filter_map pick ls))) h
+counted pick l ls (Some x) b h = one_and (length (filter_map pick ls)) ∙ ap (λ c. cond c (1 + length (filter_map pick ls)) (length (filter_map pick ls))) h
 
 -- As many are picked as lines of the rank stand there.
 pub how_many : {A : Type 0} (line : A → HeaderLine) (pick : HeaderLine → Option A) (k : ℕ) → IsKind line pick k → (ls : List HeaderLine)
@@ -278,7 +285,7 @@ few_by pick ls n (Some x) few room = let less = room refl in omega (arith, less,
 
 room_in : (ls : List HeaderLine) (k n : ℕ) (most : Option ℕ) → most ≡ Some n → elim most [ None ↦ true | Some m ↦ nat_lt (count_of_rank ls k) m ] ≡ true → count_of_rank ls k < n
 room_in ls k n None is room = absurd cc
-room_in ls k n (Some m) is room = let less = ltb-true (count_of_rank ls k) m room in subst (λ (i : ℕ). count_of_rank ls k < i) cc less
+room_in ls k n (Some m) is room = let less = ltb-true (count_of_rank ls k) m room in subst (λ (i : ℕ). count_of_rank ls k < i) (some_value m n is) less
 
 room_for : (ls : List HeaderLine) (l : HeaderLine) (k n : ℕ) → IsLineBehind ls l → rank l ≡ k → most_lines k ≡ Some n → count_of_rank ls k < n
 room_for ls l k n behind is most =
