@@ -9,7 +9,30 @@ use Rattle.std.proofs.Common.{ap, refl, sym, ◌∙◌}
 use Rattle.std.specs.Option.{option_map_or}
 use Rattle.std.specs.Prelude.{Bool, List, None, Option, Some, false, if◌then◌else◌, map, slice_get, slice_set, suc, true, zero, [], ℕ, ◌-◌, ◌==◌, ◌∷◌, ◌≡◌}
 
--- What is seen of each machine.
+-- What is true of five kinds of events is true of each that comes while the clock stands still.
+pub each_first : (P : Event → Type 0) → ((m : ℕ) (text : List ℕ) → P (GiveCommand m text)) → ((m c n : ℕ) → P (Sample m c n)) → ((m c : ℕ) → P (Land m c))
+    → ((m c : ℕ) → P (AnswerCall m c true)) → ((m c : ℕ) → P (Do m c)) → (e : Event) → is_first_event e ≡ true → P e
+each_first P command sample land answer complete (GiveCommand m text) first = command m text
+each_first P command sample land answer complete (Sample m c n) first = sample m c n
+each_first P command sample land answer complete (Land m c) first = land m c
+each_first P command sample land answer complete (AnswerCall m c true) first = answer m c
+each_first P command sample land answer complete (AnswerCall m c false) first = absurd (false_is_true first)
+each_first P command sample land answer complete (Do m c) first = complete m c
+each_first P command sample land answer complete (Pass a b) first = absurd (false_is_true first)
+each_first P command sample land answer complete (WakeUp m) first = absurd (false_is_true first)
+each_first P command sample land answer complete (Tear m c n b) first = absurd (false_is_true first)
+each_first P command sample land answer complete (DropWrite m c) first = absurd (false_is_true first)
+each_first P command sample land answer complete (Test m) first = absurd (false_is_true first)
+each_first P command sample land answer complete (ExitOf m p) first = absurd (false_is_true first)
+each_first P command sample land answer complete (SpawnedOf m p b) first = absurd (false_is_true first)
+each_first P command sample land answer complete (StartDaemon m n) first = absurd (false_is_true first)
+each_first P command sample land answer complete (Crash m) first = absurd (false_is_true first)
+each_first P command sample land answer complete (Reset m) first = absurd (false_is_true first)
+each_first P command sample land answer complete (Restart m) first = absurd (false_is_true first)
+
+-- ---- what is seen of machines
+
+-- Of each machine.
 abbrev pub seen_of : {X : Type 0} → (Machine → X) → World → List X
 seen_of g w = map g w.machines
 
@@ -79,19 +102,7 @@ complete_keeps g still m c w = complete_by g still m c w (flight_at w m c)
 
 pub first_keeps : {X : Type 0} (g : Machine → X) → IgnoresCalls g → (e : Event) (w : World) → is_first_event e ≡ true → seen_of g (first_change e w) ≡ seen_of g w
 unfolding first_change
-first_keeps g still (GiveCommand m text) w first = refl
-first_keeps g still (Sample m c n) w first = change_keeps g m (change_call c (sampled_more w n)) w (still c (sampled_more w n))
-first_keeps g still (Land m c) w first = land_by g still m c w (flight_at w m c)
-first_keeps g still (AnswerCall m c ok) w first = refl
-first_keeps g still (Do m c) w first = complete_keeps g still m c w
-first_keeps g still (Pass x y) w first = absurd (false_is_true first)
-first_keeps g still (WakeUp m) w first = absurd (false_is_true first)
-first_keeps g still (Tear m c n b) w first = absurd (false_is_true first)
-first_keeps g still (DropWrite m c) w first = absurd (false_is_true first)
-first_keeps g still (Test m) w first = absurd (false_is_true first)
-first_keeps g still (ExitOf m p) w first = absurd (false_is_true first)
-first_keeps g still (SpawnedOf m p b) w first = absurd (false_is_true first)
-first_keeps g still (StartDaemon m n) w first = absurd (false_is_true first)
-first_keeps g still (Crash m) w first = absurd (false_is_true first)
-first_keeps g still (Reset m) w first = absurd (false_is_true first)
-first_keeps g still (Restart m) w first = absurd (false_is_true first)
+first_keeps g still e w first =
+    each_first (λ e. seen_of g (first_change e w) ≡ seen_of g w) (λ m text. refl)
+    (λ m c n. change_keeps g m (change_call c (sampled_more w n)) w (still c (sampled_more w n))) (λ m c. land_by g still m c w (flight_at w m c)) (λ m c. refl)
+    (λ m c. complete_keeps g still m c w) e first

@@ -63,7 +63,7 @@ alone_held w a alone = ap (filter (λ h. not (h.machine == 1))) (holdings_are w 
 
 uncounted : (b : Bool) (rest : ℕ) → b ≡ false → rest ≡ 0 → (if b then 1 else 0) + rest ≡ 0
 uncounted true rest h k = absurd (false_is_true (sym h))
-uncounted false rest h k = k
+uncounted false rest h k = omega (arith, k)
 
 -- The holdings after each grant are among those after the last.
 no_grant_conflicts : (held gs : List Grant) → Agree (held ++ gs) → conflicts_after no_holdings 1 held gs ≡ 0

@@ -1,34 +1,38 @@
--- A sound run does what is due, so it ends as its schedule does.
+-- A sound run does what is due, so it is the one that its schedule tells: a source has one report, and one status.
 --
 -- What is due is said of the traces at the end of the run. Each step's entry stands in a trace from then on, with those before it behind
 -- it: so the step had the effects that were due when it was made.
 use Rattle.sl_due.specs.Due.{IsDue, IsHostTrace, due}
-use Rattle.sl_first_run.proofs.Accepting.{ends_so}
+use Rattle.sl_first_run.proofs.Accepting.{IsFollowed, follows_so, status_by}
 use Rattle.sl_first_run.proofs.Changing.{complete_keeps, seen_of}
+use Rattle.sl_first_run.proofs.Reported.{reported}
 use Rattle.sl_first_run.specs.Accepted.{DoesWhatIsDue}
-use Rattle.sl_first_run.specs.Promises.{RunsHaveOneStatus}
-use Rattle.sl_first_run.specs.Readings.{replay_status}
-use Rattle.sl_front_law.proofs.Going.{Later, daemon_later, one_step, run_after, run_front, run_rest}
+use Rattle.sl_first_run.specs.Followed.{followed_end}
+use Rattle.sl_first_run.specs.Promises.{RunsHaveOneReport, RunsHaveOneStatus}
+use Rattle.sl_front_law.proofs.Going.{Later, daemon_later, one_step, run_after, run_rest}
 use Rattle.sl_front_law.proofs.Having.{in_flat}
 use Rattle.sl_front_law.specs.Fronts.{HasOneStep}
 use Rattle.sl_plain.proofs.Lists.{contains_first, got_inside, head_is, next_before, set_here, tail_is}
-use Rattle.sl_plain.proofs.Options.{else_some, not_some, some_there, then_value}
-use Rattle.sl_report.specs.Headline.{In_events, In_header, ReplayOf, SoundRun}
+use Rattle.sl_plain.proofs.Options.{else_some, some_there, then_value}
+use Rattle.sl_report.specs.Headline.{Headline, In_events, In_header, ReplayOf, SoundRun}
 use Rattle.sl_report.specs.Languages.{Language}
 use Rattle.sl_report.specs.Replay.{due_at, effects_of}
-use Rattle.sl_report.specs.Schedules.{event_lines_of, status_of}
-use Rattle.sl_run.specs.Events.{after_step, event_tests, first_change, happens, input_at, input_of, machine_of, may_happen, needs_daemon, next_step, take_step, with_entry}
+use Rattle.sl_report.specs.Reports.{no_counts, run_counts, run_lines}
+use Rattle.sl_report.specs.ScheduleLines.{refusal_line}
+use Rattle.sl_report.specs.Schedules.{Ending, EventLine, Follows, HeaderReading, Header_read, Header_refused, NumberedLine, event_lines_of, last_lines, replay_from, replay_lines, report_of, status_of}
+use Rattle.sl_run.specs.Events.{after_step, event_tests, first_change, happens, input_at, input_of, machine_of, may_happen, next_step, take_step, with_entry}
 use Rattle.sl_run.specs.Runs.{EachDaemon, Happening, IsRun, own_effects_of}
 use Rattle.sl_run.specs.Safety.{world_at}
 use Rattle.sl_run.specs.Worlds.{Daemon, Machine, Program, Stamp, World, change_machine, daemons_on, machine_at, reading_now, stamp_now, world_with}
 use Rattle.sl_run.specs.declared.event.Event.TheVariants.{AnswerCall, Crash, Do, DropWrite, ExitOf, GiveCommand, Land, Pass, Reset, Restart, Sample, SpawnedOf, StartDaemon, Tear, Test, WakeUp}
 use Rattle.sl_run.specs.declared.event.Event.{Event}
 use Rattle.sl_run.specs.declared.header.Header.{Header}
-use Rattle.sl_run_law.proofs.Guards.{NoneHolds, on_this, passes}
+use Rattle.sl_run_law.proofs.Guards.{on_this, passes}
 use Rattle.sl_run_law.proofs.Walking.{index}
+use Rattle.sl_text.specs.Forms.{as_bytes}
 use Rattle.sl_time.specs.Times.{reading_of}
 use Rattle.sl_trace.proofs.TraceFacts.{each_entry-front}
-use Rattle.sl_trace.specs.Traces.{Setting, Trace, no_effects}
+use Rattle.sl_trace.specs.Traces.{Trace, no_effects}
 use Rattle.sl_trace.specs.declared.effects.Effects.{Effects}
 use Rattle.sl_trace.specs.declared.effects.Entry.{Entry}
 use Rattle.sl_trace.specs.declared.input.Input.TheVariants.{Answer as Told, Exit, Line, Spawned, Wake}
@@ -37,7 +41,7 @@ use Rattle.sl_words.proofs.CaseLaws.{none_some, some_value, true_is_false}
 use Rattle.sl_words.proofs.WordLaws.{choose_some}
 use Rattle.std.proofs.Common.{ap, refl, subst, sym, ◌∙◌}
 use Rattle.std.specs.Option.{option_map_or}
-use Rattle.std.specs.Prelude.{Bool, Contains, IsTrue, List, None, Option, Some, false, is_none, is_some, map, option_map, slice_get, slice_set, suc, true, zero, [], ℕ, ◌++◌, ◌-◌, ◌==◌, ◌∷◌, ◌≡◌}
+use Rattle.std.specs.Prelude.{Contains, List, None, Option, Some, false, is_none, is_some, map, option_map, slice_get, slice_set, suc, true, zero, [], ℕ, ◌++◌, ◌-◌, ◌==◌, ◌∷◌, ◌≡◌}
 
 -- ---- the machine that takes a step
 
@@ -227,6 +231,45 @@ does_from p h now (x ∷ rest) run host =
 sound_does : (p : Program) (h : Header) (xs : List Happening) → SoundRun p h xs → DoesWhatIsDue (world_with p h) xs
 sound_does p h xs sound = does_from p h [] xs sound.is_run sound.is_due
 
+-- It is the run that the schedule tells.
+sound_so : (lang : Language) (h : Header) (rest : List NumberedLine) (xs : List Happening) (end : Ending)
+    → Follows (world_with lang.program h) (event_lines_of lang h rest) xs end → SoundRun lang.program h xs
+    → IsFollowed (world_with lang.program h) (event_lines_of lang h rest) xs end
+sound_so lang h rest xs end follows sound =
+    follows_so (world_with lang.program h) (event_lines_of lang h rest) xs end follows (sound_does lang.program h xs sound)
+
+-- ---- what is written of it
+
 pub runs_have_one_status : RunsHaveOneStatus
-runs_have_one_status lang source written status (In_header number why is text) = ?
-runs_have_one_status lang source written status (In_events h rest xs end is follows sound text ends) = ?
+runs_have_one_status lang source written status (In_header number why is text) = sym (ap (status_by lang) is)
+runs_have_one_status lang source written status (In_events h rest xs end is follows sound text ends) =
+    ends ∙ ap status_of (sym (sound_so lang h rest xs end follows sound).ends) ∙ sym (ap (status_by lang) is)
+
+-- The report by what is read of the header.
+abbrev report_by : Language → HeaderReading → List (List ℕ)
+report_by lang o =
+    elim o [
+      | Header_refused number why ↦ refusal_line number (lang.told why) ∷ []
+      | Header_read h rest ↦ replay_from lang (world_with lang.program h) no_counts (event_lines_of lang h rest)
+    ]
+
+followed_report : (lang : Language) (h : Header) (ls : List EventLine) (xs : List Happening) (end : Ending) → IsFollowed (world_with lang.program h) ls xs end
+    → replay_from lang (world_with lang.program h) no_counts ls ≡ report_of lang h xs end
+followed_report lang h ls xs end f =
+    let w : World = world_with lang.program h in
+    reported lang w no_counts ls ∙ ap (λ ys. run_lines w ys ++ last_lines lang (run_counts w no_counts ys) (followed_end w ls)) f.run
+    ∙ ap (λ s. run_lines w xs ++ last_lines lang (run_counts w no_counts xs) s) f.ends
+
+sound_report : (lang : Language) (source written : List ℕ) (status : ℕ) → ReplayOf SoundRun lang source written status → written ≡ as_bytes (replay_lines lang source)
+sound_report lang source written status (In_header number why is text) = text ∙ ap as_bytes (sym (ap (report_by lang) is))
+sound_report lang source written status (In_events h rest xs end is follows sound text ends) =
+    text
+    ∙ ap as_bytes (sym (followed_report lang h (event_lines_of lang h rest) xs end (sound_so lang h rest xs end follows sound)) ∙ sym (ap (report_by lang) is))
+
+good_report : (lang : Language) → Headline lang
+good_report lang source status written (In_header number why is text) = sound_report lang source written status (In_header number why is text)
+good_report lang source status written (In_events h rest xs end is follows good text ends) =
+    sound_report lang source written status (In_events h rest xs end is follows good.sound text ends)
+
+pub runs_have_one_report : RunsHaveOneReport
+runs_have_one_report = record { sound = sound_report; good = good_report }
