@@ -7,7 +7,7 @@ use Rattle.sl_still.specs.StillPath.{IsStill}
 use Rattle.sl_still_lawful.proofs.Whole.{traces_are_lawful}
 use Rattle.sl_still_sound.proofs.Steps.{steps_on}
 use Rattle.sl_still_sound.specs.StillDaemons.{IsStillDaemon}
-use Rattle.sl_still_step.proofs.Open.{holdings_agree}
+use Rattle.sl_still_step.proofs.Apart.{holdings_agree}
 use Rattle.sl_trace.specs.Traces.{Setting, Trace}
 use Rattle.sl_trace.specs.declared.input.Given.{Given}
 use Rattle.std.specs.Prelude.{Contains, [], ℕ}

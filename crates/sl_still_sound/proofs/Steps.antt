@@ -12,9 +12,10 @@ use Rattle.sl_still.specs.StillPath.{HearsStill, IsStill, IsStillGiven, StillLea
 use Rattle.sl_still.specs.StillSteps.{lease_comes, lease_effects, refused_entry}
 use Rattle.sl_still_lawful.proofs.Whole.{traces_are_lawful}
 use Rattle.sl_still_sound.specs.StillDaemons.{IsStillDaemon}
-use Rattle.sl_still_step.proofs.Answers.{answers_find, answers_step}
-use Rattle.sl_still_step.proofs.Lines.{lines_step}
-use Rattle.sl_still_step.proofs.Open.{calls_apart}
+use Rattle.sl_still_step.proofs.AnswerSteps.{answers_step}
+use Rattle.sl_still_step.proofs.Answered.{answers_find}
+use Rattle.sl_still_step.proofs.LineSteps.{lines_step}
+use Rattle.sl_still_step.proofs.Apart.{open_apart}
 use Rattle.sl_still_step.specs.Promises.{AnsweredLease, StepsTo}
 use Rattle.sl_trace.specs.Traces.{Setting, Trace, is_expected, next_call}
 use Rattle.sl_trace.specs.declared.command.ResourceArg.{ResourceArg}
@@ -57,7 +58,7 @@ with_effects st es x i fx U kind is few stands =
     let lawful = (traces_are_lawful st x.now x.still x.setting (still_entry x.now i fx ∷ es) stands.due_so_far hears).0 in
     subst (λ y. IsSmall es (entry_of x.now i y) × IsStillDaemon st (entry_of x.now i y ∷ es)) (sym is) (
       record {
-        apart = calls_apart st x.now U (still_entry x.now i fx ∷ es) stands;
+        apart = open_apart st x.now U (still_entry x.now i fx ∷ es) stands;
         step = record { calls = few.calls; grants = few.grants; replies = few.replies; spelled = λ c there w writes. lawful.calls.0.spelled c w there writes };
       },
       record { now = x.now; still = x.still; setting = x.setting; given = x.given; table = U; stands = stands; hears = hears },
