@@ -1,6 +1,8 @@
 -- A daemon of several given sessions keeps all that a run asks of it.
+use Rattle.sl_due.specs.Due.{NoIdleJob}
 use Rattle.sl_first_run.specs.PureDaemons.{PureDaemon}
-use Rattle.sl_law.specs.Lawful.{IsSetting}
+use Rattle.sl_law.specs.Caused.{IsCaused}
+use Rattle.sl_law.specs.Lawful.{IsSetting, Lawful}
 use Rattle.sl_still.proofs.Beginning.{begins_idle}
 use Rattle.sl_still.specs.StillLeases.{idle_table}
 use Rattle.sl_still.specs.StillPath.{IsStill}
@@ -17,7 +19,7 @@ pub begins : (st : Setting) (now : ℕ) → IsStill st now → IsSetting st → 
 begins st now f s g there =
     record { now = now; still = f; setting = s; given = (g, there); table = idle_table; stands = begins_idle st now f s; hears = tt }
 
-laws_of : (st : Setting) (es : Trace) (x : IsStillDaemon st es) → _
+laws_of : (st : Setting) (es : Trace) → IsStillDaemon st es → Lawful st es × IsCaused st es × NoIdleJob st es
 laws_of st es x = traces_are_lawful st x.now x.still x.setting es x.stands.due_so_far x.hears
 
 pub still_daemon_is_pure : PureDaemon IsStillDaemon
