@@ -28,7 +28,7 @@ still_daemon_is_pure =
       steps = steps_on;
       is_due = λ st es x. x.stands.due_so_far;
       lawful = λ st es x. (laws_of st es x).0;
-      caused = λ st es x. (laws_of st es x).1.0;
-      busy = λ st es x. (laws_of st es x).1.1;
+      caused = λ st es x. (laws_of st es x).1;
+      busy = λ st es x. (laws_of st es x).2;
       agree = λ st es x. holdings_agree st x.now x.table es x.stands;
     }
