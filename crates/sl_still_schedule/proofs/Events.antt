@@ -7,13 +7,13 @@ use Rattle.sl_run.specs.declared.event.Refusal.{Refusal}
 use Rattle.sl_run.specs.declared.header.Header.{Header}
 use Rattle.sl_still_schedule.specs.Promises.{EventsAreWhole}
 use Rattle.sl_still_schedule.specs.StillLanguage.{still_language}
-use Rattle.sl_still_schedule.specs.StillWhole.{first_event_line, take_first}
+use Rattle.sl_still_schedule.specs.StillWhole.{first_event_line}
 use Rattle.sl_words.specs.Words.{choose}
 use Rattle.sl_world.specs.FirstEvents.{is_first_event}
 use Rattle.std.proofs.Common.{Bool, List, None, Option, Some, [], ap, false, map, refl, true, ℕ, ◌∙◌, ◌∷◌, ◌≡◌}
-use Rattle.std.specs.List.{cons_option, filter_map}
+use Rattle.std.specs.List.{cons_option}
 use Rattle.std.specs.Option.{option_map}
-use Rattle.std.specs.Prelude.{Err, Ok, Result, if◌then◌else◌}
+use Rattle.std.specs.Prelude.{Err, Ok, if◌then◌else◌}
 use Rattle.sl_run.specs.declared.event.Refusal.TheVariants.{Syntax}
 
 -- ---- a line

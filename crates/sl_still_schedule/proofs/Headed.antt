@@ -1,9 +1,9 @@
 -- The header of lines that were taken is one of one machine that a world may begin with.
 use Rattle.sl_area.specs.Layouts.{Sizes, is_geometry}
 use Rattle.sl_plain.proofs.Lists.{any_found, in_map}
-use Rattle.sl_report.specs.ScheduleLines.{AreaLine, BeginLine, ClockLine, DiskLine, HeaderLine, HostsLine, IdsLine, LeaseLine, MemberLine, area_line, clock_line, disk_line, first_line, header_of, hosts_line, ids_line, is_on_disk, lease_line, member_line, no_timing, rank, timing_line}
+use Rattle.sl_report.specs.ScheduleLines.{AreaLine, BeginLine, ClockLine, DiskLine, HeaderLine, HostsLine, IdsLine, LeaseLine, MemberLine, area_line, clock_line, disk_line, first_line, header_of, hosts_line, ids_line, is_on_disk, lease_line, member_line, no_timing, timing_line}
 use Rattle.sl_report.specs.Schedules.{Header_read, NumberedLine, default_area, default_sector, numbered_lines, read_header}
-use Rattle.sl_run.specs.Headers.{GoTogether, IsArea, IsHeader, IsMember, areas_of}
+use Rattle.sl_run.specs.Headers.{GoTogether, IsArea, IsHeader, IsMember}
 use Rattle.sl_run.specs.Worlds.{mebibyte}
 use Rattle.sl_run.specs.declared.header.Disk.{Disk}
 use Rattle.sl_run.specs.declared.header.FirstReading.{FirstReading}
@@ -20,15 +20,15 @@ use Rattle.sl_still_schedule.specs.Promises.{HeadersAreStill}
 use Rattle.sl_still_schedule.specs.StillHeaders.{IsStillHeader}
 use Rattle.sl_still_schedule.specs.StillLanguage.{still_language}
 use Rattle.sl_text.specs.Names.{is_name, is_path}
-use Rattle.sl_time.specs.Times.{IsTiming, TimingNumbers}
+use Rattle.sl_time.specs.Times.{IsTiming}
 use Rattle.sl_words.proofs.CaseLaws.{not_both}
 use Rattle.sl_words.proofs.WordLaws.{and_true}
-use Rattle.std.proofs.Common.{Bool, List, None, Option, Some, [], ap, arith, false, length, map, not, refl, subst, sym, true, ℕ, ◌%◌, ◌&&◌, ◌*◌, ◌++◌, ◌+◌, ◌<◌, ◌^◌, ◌∙◌, ◌∷◌, ◌≡◌, ◌≤◌}
+use Rattle.std.proofs.Common.{Bool, List, Option, Some, [], arith, false, length, map, not, refl, subst, sym, true, ℕ, ◌%◌, ◌&&◌, ◌*◌, ◌++◌, ◌+◌, ◌<◌, ◌^◌, ◌≡◌, ◌≤◌}
 use Rattle.std.proofs.lemmas.Bool.Decides.{nat_tests}
 use Rattle.std.proofs.lemmas.Bool.{eq-eqb, eqb-true, leb-true, or_parts}
 use Rattle.std.proofs.lemmas.Slice.Eq.{bytes_eq-Decides}
 use Rattle.std.specs.List.{AllPairs, Contains, filter_map, list_any}
-use Rattle.std.specs.Prelude.{IsTrue, bytes_eq, nat_le, ◌==◌, ◌||◌, ◌≢◌, ◌↔◌}
+use Rattle.std.specs.Prelude.{IsTrue, bytes_eq, nat_le, ◌==◌, ◌||◌, ◌≢◌}
 
 -- ---- texts and numbers
 

@@ -6,3 +6,5 @@ pub mod Taken
 pub mod Reading
 pub mod LineKinds
 pub mod Headed
+pub mod Daemon
+pub mod Example

@@ -10,12 +10,12 @@ use Rattle.sl_run.specs.declared.header.SessionLine.{SessionLine}
 use Rattle.sl_still_schedule.proofs.Taken.{EachFails, IsKind, IsLineBehind, sure, unrefused}
 use Rattle.sl_time.specs.Times.{IsTiming, TimingNumbers}
 use Rattle.sl_words.proofs.CaseLaws.{some_value}
-use Rattle.std.proofs.Common.{Bool, List, None, Option, Some, ap, arith, false, not, refl, subst, sym, true, ℕ, ◌&&◌, ◌*◌, ◌+◌, ◌∙◌, ◌∷◌, ◌≡◌, ◌≤◌}
+use Rattle.std.proofs.Common.{List, Some, ap, arith, false, not, refl, subst, true, ℕ, ◌&&◌, ◌≡◌, ◌≤◌}
 use Rattle.std.proofs.lemmas.Bool.Decides.{nat_tests}
 use Rattle.std.proofs.lemmas.Bool.{ltb-false, or_parts}
 use Rattle.std.specs.Int.{is_in_range}
 use Rattle.std.specs.List.{filter_map, list_any}
-use Rattle.std.specs.Prelude.{bytes_eq, is_some, nat_le, nat_lt, ◌==◌, ◌||◌}
+use Rattle.std.specs.Prelude.{bytes_eq, is_some, nat_lt, ◌==◌, ◌||◌}
 
 -- ---- kinds
 

@@ -1,7 +1,7 @@
 -- A header that was read is that of lines each of which was taken behind those before it, the last one being `begin`.
 use Rattle.sl_report.specs.ReadingLines.{header_line_in}
 use Rattle.sl_report.specs.ScheduleLines.{BeginLine, HeaderLine, header_of}
-use Rattle.sl_report.specs.Schedules.{HeaderReading, Header_read, Header_refused, NumberedLine, default_area, default_sector, header_line_refusal, is_begin, line_refusal, read_header}
+use Rattle.sl_report.specs.Schedules.{HeaderReading, Header_read, NumberedLine, default_area, default_sector, header_line_refusal, is_begin, line_refusal, read_header}
 use Rattle.sl_run.specs.declared.event.Refusal.TheVariants.{Syntax}
 use Rattle.sl_run.specs.declared.event.Refusal.{Refusal}
 use Rattle.sl_run.specs.declared.header.Header.{Header}

@@ -7,13 +7,13 @@ use Rattle.sl_report.specs.Schedules.{default_area, default_sector}
 use Rattle.sl_run.specs.Worlds.{first_that}
 use Rattle.sl_run.specs.declared.event.Refusal.TheVariants.{Syntax}
 use Rattle.sl_run.specs.declared.event.Refusal.{Refusal}
-use Rattle.sl_still_schedule.proofs.Lists.{first_stays, given_of_one, pairs_none}
+use Rattle.sl_still_schedule.proofs.Lists.{first_stays, pairs_none}
 use Rattle.sl_still_schedule.proofs.Made.{IsWellFormed, well_formed}
 use Rattle.sl_still_schedule.specs.StillLanguage.{is_still_line, still_language}
 use Rattle.sl_text.specs.Forms.{made_by}
 use Rattle.sl_words.proofs.CaseLaws.{some_value}
 use Rattle.sl_words.proofs.ListLaws.{list_all_place}
-use Rattle.sl_words.proofs.WordLaws.{and_true, choose_some}
+use Rattle.sl_words.proofs.WordLaws.{choose_some}
 use Rattle.sl_words.specs.Words.{choose, first_of_list}
 use Rattle.std.proofs.Common.{Bool, List, None, Option, Some, [], ap, append_assoc, arith, cond, false, inl, inr, length, length-append, not, refl, subst, suc, sym, true, ℕ, ◌&&◌, ◌++◌, ◌+◌, ◌<◌, ◌∙◌, ◌∷◌, ◌≡◌, ◌≤◌}
 use Rattle.std.proofs.lemmas.Bool.{eqb-true, leb-true, ltb-true}
@@ -22,7 +22,7 @@ use Rattle.std.proofs.lemmas.List.FromFn.{get_or-range_with_len, length-range_wi
 use Rattle.std.proofs.lemmas.List.Quantifiers.{all_pairs_push}
 use Rattle.std.proofs.lemmas.List.Recursion.{is_count_by}
 use Rattle.std.proofs.lemmas.List.{append-nil}
-use Rattle.std.specs.List.{AllPairs, Contains, cons_option, count_by, filter_map, list_all, range_with_len}
+use Rattle.std.specs.List.{AllPairs, Contains, cons_option, filter_map, list_all, range_with_len}
 use Rattle.std.specs.Option.{option_and_then}
 use Rattle.std.specs.Prelude.{is_some, nat_le, nat_lt, unwrap_or, ◌==◌, ◌⊎◌}
 

@@ -144,6 +144,8 @@ read_whole (l ∷ after) ls next h rest e =
 pub still_whole : StillIsWhole
 still_whole =
     record {
+      skipped = λ text. refl;
+      told = λ why. refl;
       said = λ area text. refl;
       refusals = λ sector area ls l. refl;
       lines = each_line;
