@@ -19,7 +19,7 @@ use Rattle.sl_text.specs.Forms.{Form}
 use Rattle.sl_trace.specs.Traces.{Setting, Trace}
 use Rattle.sl_trace.specs.declared.command.Command.{Command}
 use Rattle.sl_words.proofs.WordLaws.{and_true}
-use Rattle.sl_world.proofs.Idling.{idle_headers_begin, idle_refuses}
+use Rattle.sl_world.proofs.IdleLaws.{idle_headers_begin, idle_refuses}
 use Rattle.sl_world.specs.Beginning.{IsIdleHeader, first_setting, program_of}
 use Rattle.sl_world.specs.FirstEvents.{is_first_event}
 use Rattle.sl_world.specs.Idle.{IsIdleWorld, idle_refusal}

@@ -13,9 +13,10 @@ use Rattle.sl_run.specs.declared.event.Refusal.TheVariants.{MissingCall, Syntax}
 use Rattle.sl_run.specs.declared.event.Refusal.{Refusal}
 use Rattle.sl_trace.specs.Traces.{Setting, Trace, holdings, is_write, no_effects}
 use Rattle.sl_trace.specs.declared.input.Input.TheVariants.{Line}
+use Rattle.sl_world.proofs.Completing.{done_is_taken}
 use Rattle.sl_world.proofs.DiskLaws.{is_sized}
-use Rattle.sl_world.proofs.FirstWorld.{Quiet, answer_is_taken, command_taken, done_is_taken, land_quiet, refuses, sample_quiet}
-use Rattle.sl_world.proofs.Passing.{is_on_first, land_passes, some_none}
+use Rattle.sl_world.proofs.FirstWorld.{Quiet, answer_is_taken, command_taken, land_quiet, refuses, sample_quiet}
+use Rattle.sl_world.proofs.Passing.{is_found, is_on_first, land_passes, some_none}
 use Rattle.sl_world.proofs.Solo.{still_held}
 use Rattle.sl_world.specs.Changes.{after_complete, after_land, flight_landed, flight_sampled, kept_after, kept_complete, kept_landed, kept_sampled, told_done, told_ok}
 use Rattle.sl_world.specs.FirstEvents.{answer_refusal, at_flight, done_refusal, flight_left, flight_numbered, flight_writes, is_first_event, land_refusal, refusal_in, sample_refusal}
@@ -98,19 +99,18 @@ quiet_moves P d w k x e r first q l =
 -- ---- events that it takes
 
 answer_moves : (P : Setting → Trace → Type 0) (d : PureDaemon P) (w : World) (k : KeptState) (x : Standing) (m c : ℕ) → Runs P w k x
-    → refusal_in k (AnswerCall m c true) ≡ None → (o : Option FlightState) → flight_numbered k.flights c ≡ o → Moves P w k (AnswerCall m c true)
-answer_moves P d w k x m c r h None is = absurd (some_none MissingCall
-    (ap (λ o. at_flight o answer_refusal) (sym is) ∙ (is_on_first m (at_flight (flight_numbered k.flights c) answer_refusal) h).1))
-answer_moves P d w k x m c r h (Some f) is =
-    taking_moves P d w k x (AnswerCall m c true) (told_ok f) r (answer_is_taken (Is P) k x w m c f r.stands is h) refl (same_leaves P w k x r)
+    → refusal_in k (AnswerCall m c true) ≡ None → Moves P w k (AnswerCall m c true)
+answer_moves P d w k x m c r h =
+    let there = is_found k.flights c answer_refusal (is_on_first m (at_flight (flight_numbered k.flights c) answer_refusal) h).1 in
+    taking_moves P d w k x (AnswerCall m c true) (told_ok there.flight) r (answer_is_taken (Is P) k x w m c there.flight r.stands there.is h) refl
+    (same_leaves P w k x r)
 
 done_moves : (P : Setting → Trace → Type 0) (d : PureDaemon P) (w : World) (k : KeptState) (x : Standing) (m c : ℕ) → Runs P w k x → refusal_in k (Do m c) ≡ None
-    → (o : Option FlightState) → flight_numbered k.flights c ≡ o → Moves P w k (Do m c)
-done_moves P d w k x m c r h None is = absurd (some_none MissingCall
-    (ap (λ o. at_flight o (done_refusal k.disk)) (sym is) ∙ (is_on_first m (at_flight (flight_numbered k.flights c) (done_refusal k.disk)) h).1))
-done_moves P d w k x m c r h (Some f) is =
-    taking_moves P d w k x (Do m c) (told_done k.disk f) r (done_is_taken (Is P) k x w m c f r.stands (is_sized k.disk r.disk) is h) refl
-    (complete_leaves k c r.disk r.spelled)
+    → Moves P w k (Do m c)
+done_moves P d w k x m c r h =
+    let there = is_found k.flights c (done_refusal k.disk) (is_on_first m (at_flight (flight_numbered k.flights c) (done_refusal k.disk)) h).1 in
+    taking_moves P d w k x (Do m c) (told_done k.disk there.flight) r
+    (done_is_taken (Is P) k x w m c there.flight r.stands (is_sized k.disk r.disk) there.is h) refl (complete_leaves k c r.disk r.spelled)
 
 -- ---- each event
 
@@ -122,7 +122,7 @@ moves_by P d w k x r e first =
     (λ m c n h. quiet_moves P d w k x (Sample m c n) r refl (sample_quiet (Is P) k x w m c n r.stands (is_sized k.disk r.disk) h)
     (sample_leaves k c n r.disk r.spelled))
     (λ m c h. quiet_moves P d w k x (Land m c) r refl (land_quiet (Is P) k x w m c r.stands h) (land_leaves k m c h r.disk r.spelled))
-    (λ m c h. answer_moves P d w k x m c r h (flight_numbered k.flights c) refl) (λ m c h. done_moves P d w k x m c r h (flight_numbered k.flights c) refl) e first
+    (λ m c h. answer_moves P d w k x m c r h) (λ m c h. done_moves P d w k x m c r h) e first
 
 -- An event that may happen.
 pub moves : (P : Setting → Trace → Type 0) (d : PureDaemon P) (w : World) (k : KeptState) (x : Standing) (e : Event) → Runs P w k x → is_first_event e ≡ true

@@ -17,7 +17,7 @@ use Rattle.sl_world.specs.Kept.{DiskState, FlightState, KeptState, WrittenState,
 use Rattle.sl_words.specs.Words.{choose}
 use Rattle.std.specs.List.{position, range_with_len}
 use Rattle.std.specs.Option.{option_map_or}
-use Rattle.std.specs.Prelude.{List, length, None, Option, Some, false, filter, flat_map, fold, not, option_map, slice_set, true, [], ℕ, ◌*◌, ◌++◌, ◌+◌, ◌<◌, ◌==◌, ◌^◌, ◌∷◌, ◌≤◌, ◌&&◌}
+use Rattle.std.specs.Prelude.{List, length, None, Option, Some, false, filter, flat_map, fold, if◌then◌else◌, not, option_map, slice_set, true, [], ℕ, ◌*◌, ◌++◌, ◌+◌, ◌<◌, ◌==◌, ◌^◌, ◌∷◌, ◌≤◌, ◌&&◌}
 
 -- These places with this one: in place of what was written there, or behind all others.
 abbrev pub put_written : WrittenState → List WrittenState → List WrittenState
@@ -42,7 +42,7 @@ written_by d c = record { path = c.path; offset = c.offset; bytes = option_map_o
 -- The calls with the one of this number changed.
 abbrev pub change_flight : ℕ → (FlightState → FlightState) → List FlightState → List FlightState
 change_flight number g [] = []
-change_flight number g (f ∷ fs) = elim (f.call.number == number) [ true ↦ g f ∷ fs | false ↦ f ∷ change_flight number g fs ]
+change_flight number g (f ∷ fs) = if f.call.number == number then g f ∷ fs else f ∷ change_flight number g fs
 
 -- The calls without the one of this number.
 abbrev pub flights_without : ℕ → List FlightState → List FlightState

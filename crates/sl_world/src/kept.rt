@@ -43,7 +43,7 @@ pub struct Room {
 
 impl Model for Room {
     ghost use Rattle.sl_world.specs.Changes.{RoomState};
-    ghost use Rattle.std.specs.Prelude.{[], ◌×◌, ◌≡◌};
+    ghost use Rattle.std.specs.Prelude.{[], ◌≡◌};
     ghost use Rattle.std.specs.Vec.{vec_capacity};
 
     ghost Value = { RoomState };
