@@ -12,7 +12,7 @@ use Rattle.sl_run.specs.declared.event.Event.{Event}
 use Rattle.sl_run.specs.declared.header.Header.{Header}
 use Rattle.sl_run.specs.declared.header.LockspaceLine.{LockspaceLine}
 use Rattle.sl_run.specs.declared.header.SessionLine.{SessionLine}
-use Rattle.sl_still_schedule.proofs.Begins.{headers_begin}
+use Rattle.sl_still_schedule.proofs.Daemon.{headers_begin}
 use Rattle.sl_still_schedule.proofs.Headed.{headers_are_still}
 use Rattle.sl_still_schedule.specs.StillHeaders.{IsStillHeader}
 use Rattle.sl_still_schedule.specs.StillLanguage.{still_commands, still_language}
