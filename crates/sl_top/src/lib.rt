@@ -23,4 +23,8 @@ pub use status::Status;
 pub use top::{run, run_offline};
 
 #[cfg(test)]
+mod machine_tests;
+#[cfg(test)]
+mod refusal_tests;
+#[cfg(test)]
 mod tests;

@@ -8,7 +8,8 @@ use std::alloc::{AllocError, Global};
 use std::fs;
 use std::test::Fail;
 
-const HEADER: [&str; 9] = [
+/// A header of one machine.
+pub(crate) const HEADER: [&str; 9] = [
     "sanlock 1",
     "time 100 600 100 0 300",
     "hosts 1",
@@ -21,7 +22,7 @@ const HEADER: [&str; 9] = [
 ];
 
 /// Process 7 acquires.
-const ACQUIRE: [&str; 13] = [
+pub(crate) const ACQUIRE: [&str; 13] = [
     "command 1 acquire -r ls:r:/d:1048576 -p 7",
     "sample 1 1 4",
     "answer 1 1 ok",
@@ -37,7 +38,7 @@ const ACQUIRE: [&str; 13] = [
     "answer 1 6 ok",
 ];
 
-const GRANTED: [&str; 8] = [
+pub(crate) const GRANTED: [&str; 8] = [
     "1 call 1 read /d 1048576 4",
     "1 call 2 write /d 1049600 block 1 lver 1 mbal 1 bal 0 inp 0 0 mode 0 0",
     "1 call 3 read /d 1049600 2",
@@ -63,7 +64,7 @@ const RELEASED: [&str; 4] = [
 ];
 
 /// The lines, each with its line feed.
-fn text(alloc: Global, parts: &[&[&str]]) -> Result<Vec<u8>, AllocError> {
+pub(crate) fn text(alloc: Global, parts: &[&[&str]]) -> Result<Vec<u8>, AllocError> {
     let mut out = Vec::new(alloc);
     for part in parts {
         for line in *part {
@@ -89,7 +90,7 @@ fn no_devices(alloc: Global) -> MemDevices {
 }
 
 /// What a replay of the source puts out, and its status.
-fn replayed(alloc: Global, source: Vec<u8>) -> Result<(Status, Vec<u8>), AllocError> {
+pub(crate) fn replayed(alloc: Global, source: Vec<u8>) -> Result<(Status, Vec<u8>), AllocError> {
     let words = words(alloc, &["replay"])?;
     let mut source = MemSource::new(source, Vec::new(alloc), Vec::new(alloc));
     let mut sink = MemSink::new(alloc, 4096, Vec::new(alloc), Vec::new(alloc))?;
@@ -114,125 +115,6 @@ fn nothing_after_begin(rt: HostRuntime) -> Result<(), Fail> {
     let due = b"end events 0 calls 0 grants 0 refusals 0 conflicts 0\n".as_slice();
     assert_eq!(rt; report.as_slice(), due);
     assert_eq!(rt; status, Status::Done);
-    Ok(())
-}
-
-#[test]
-fn lines_that_are_refused(rt: HostRuntime) -> Result<(), Fail> {
-    let alloc = rt.alloc();
-    for (lines, due) in [
-        ([].as_slice(), "line 1 syntax\n"),
-        (&HEADER[..8], "line 9 syntax\n"),
-        (&["sanlock 2"], "line 1 syntax\n"),
-        (&["sanlock 1", "hosts 1"], "line 2 syntax\n"),
-        (&["sanlock 1", "", "# a comment"], "line 4 syntax\n"),
-        (&["sanlock 1", "time 0 600 100 0 300"], "line 2 limit io\n"),
-        (
-            &["sanlock 1", "", "time 100 600 100 0 300", "hosts 2"],
-            "line 4 syntax\n",
-        ),
-    ] {
-        let (status, report) = replayed(alloc, text(alloc, &[lines])?)?;
-        assert_eq!(rt; report.as_slice(), due.as_bytes());
-        assert_eq!(rt; status, Status::Refused);
-    }
-    Ok(())
-}
-
-#[test]
-fn events_that_are_refused(rt: HostRuntime) -> Result<(), Fail> {
-    let alloc = rt.alloc();
-    for (line, due) in [
-        ("pass 1", "line 13 syntax"),
-        ("answer 1 1 failed", "line 13 syntax"),
-        ("answer 1 1 ok", "line 13 missing sample"),
-        ("do 1 2", "line 13 missing call"),
-        ("land 1 1", "line 13 missing call"),
-        ("sample 1 2 1", "line 13 missing call"),
-        ("sample 1 1 5", "line 13 missing sample"),
-        ("command 2 acquire", "line 13 missing machine"),
-        ("command 1", "line 13 syntax"),
-    ] {
-        let source = text(
-            alloc,
-            &[&HEADER, &[ACQUIRE[0], "", "# a comment", line, "do 1 1"]],
-        )?;
-        let (status, report) = replayed(alloc, source)?;
-        let due = text(alloc, &[&["1 call 1 read /d 1048576 4"], &[due]])?;
-        assert_eq!(rt; report.as_slice(), due.as_slice(), "at {line}");
-        assert_eq!(rt; status, Status::Refused);
-    }
-    Ok(())
-}
-
-/// Two sessions, each with a resource; what has no session is refused.
-const TWO: [&str; 21] = [
-    "sanlock 1",
-    "time 100 600 100 0 300",
-    "hosts 1",
-    "ids 2",
-    "clock 1 5",
-    "disk /d 4",
-    "disk /e 2",
-    "lockspace ls /d 0",
-    "lockspace ms /e 0",
-    "resource ls r /d 1048576",
-    "resource ms q /e 1048576",
-    "session 1 ls 1 a",
-    "session 1 ms 2 a",
-    "begin",
-    "",
-    "# both at once",
-    "command 1 acquire -r ls:r:/d:1048576 -p 7",
-    "command 1 acquire -r ms:q:/e:1048576 -p 8",
-    "command 1 acquire -r other:q:/e:0 -p 8",
-    "do 1 2",
-    "do 1 1",
-];
-
-#[test]
-fn two_sessions_at_once(rt: HostRuntime) -> Result<(), Fail> {
-    let alloc = rt.alloc();
-    let (status, report) = replayed(alloc, text(alloc, &[&TWO])?)?;
-    let due = text(
-        alloc,
-        &[&[
-            "1 call 1 read /d 1048576 4",
-            "1 call 2 read /e 1048576 4",
-            "1 reply 3 NoSession",
-            "1 call 3 write /e 1050112 block 2 lver 1 mbal 2 bal 0 inp 0 0 mode 0 0",
-            "1 call 4 write /d 1049600 block 1 lver 1 mbal 1 bal 0 inp 0 0 mode 0 0",
-            "end events 5 calls 4 grants 0 refusals 1 conflicts 0",
-        ]],
-    )?;
-    assert_eq!(rt; report.as_slice(), due.as_slice());
-    assert_eq!(rt; status, Status::Done);
-    Ok(())
-}
-
-#[test]
-fn no_session(rt: HostRuntime) -> Result<(), Fail> {
-    let alloc = rt.alloc();
-    for (line, due, ends) in [
-        (
-            "# nothing",
-            "end events 0 calls 0 grants 0 refusals 0 conflicts 0\n",
-            Status::Done,
-        ),
-        (
-            "command 1 acquire",
-            "line 10 missing daemon\n",
-            Status::Refused,
-        ),
-        ("command 2 acquire", "line 10 missing machine\n", Status::Refused),
-        ("land 1 1", "line 10 missing call\n", Status::Refused),
-        ("pass 1", "line 10 syntax\n", Status::Refused),
-    ] {
-        let source = text(alloc, &[&HEADER[..7], &["begin", "", line]])?;
-        let (status, report) = replayed(alloc, source)?;
-        assert_eq!(rt; report.as_slice(), due.as_bytes(), "at {line}");
-        assert_eq!(rt; status, ends);
-    }
     Ok(())
 }
 
@@ -272,6 +154,14 @@ fn commands_that_are_refused(rt: HostRuntime) -> Result<(), Fail> {
         ),
         ("command 1 acquire", "1 reply 2 BadCommand 8"),
         ("command 1 status", "1 reply 2 BadCommand 1"),
+        (
+            "command 1 acquire -r l2:r:/d:1048576 -p 8",
+            "1 reply 2 NoSession",
+        ),
+        (
+            "command 1 acquire -r ls:r:/d:1048576 -p 1000009",
+            "1 reply 2 NoProcess 1000009",
+        ),
     ] {
         let (status, report) = replayed(alloc, text(alloc, &[&HEADER, &ACQUIRE, &[command]])?)?;
         let last = "end events 14 calls 6 grants 1 refusals 1 conflicts 0";
