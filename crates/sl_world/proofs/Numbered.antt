@@ -1,8 +1,7 @@
 -- Calls by their numbers, of which no two are the same.
 use Rattle.sl_plain.proofs.Lists.{contains_cases, contains_first, contains_more, contains_none, find_inside, got_index, there_is}
-use Rattle.sl_plain.proofs.Numbers.{number_itself}
 use Rattle.sl_words.proofs.CaseLaws.{is_false, none_some, some_value}
-use Rattle.sl_world.specs.Changes.{change_flight, flight_sampled, flights_without}
+use Rattle.sl_world.specs.Changes.{change_flight, flights_without}
 use Rattle.sl_world.specs.FirstEvents.{flight_numbered}
 use Rattle.sl_world.specs.Kept.{FlightState, flight_numbers}
 use Rattle.std.proofs.Common.{ap, arith, inl, inr, refl, subst, sym, ◌∙◌}
@@ -12,7 +11,7 @@ use Rattle.std.proofs.lemmas.List.Folds.{find_at}
 use Rattle.std.proofs.lemmas.List.Kept.{AllPairs-cons}
 use Rattle.std.proofs.lemmas.List.Quantifiers.{position-Some}
 use Rattle.std.specs.List.{list_any, position, position_or_len}
-use Rattle.std.specs.Prelude.{All, AllPairs, Bool, Contains, List, None, Option, Some, cond, false, filter, find, if◌then◌else◌, length, map, nat_lt, not, slice_get, slice_index_or, slice_set, suc, true, zero, [], ℕ, ◌&&◌, ◌<◌, ◌==◌, ◌∷◌, ◌≡◌, ◌≢◌, ◌||◌}
+use Rattle.std.specs.Prelude.{All, AllPairs, Bool, Contains, List, None, Some, cond, false, filter, find, if◌then◌else◌, length, map, nat_lt, slice_get, slice_index_or, slice_set, suc, true, zero, [], ℕ, ◌<◌, ◌==◌, ◌∷◌, ◌≡◌, ◌≢◌, ◌||◌}
 
 -- ---- apart
 
@@ -35,8 +34,17 @@ pairs_mapped f R (x ∷ xs) h =
 
 none_past : {A : Type 0} (p : A → Bool) (xs : List A) → position p xs ≡ None → slice_get xs (position_or_len p xs) ≡ None
 none_past {A = A} p xs h = at (nat_lt (position_or_len p xs) (length xs)) refl h where
+  first_there : (n : ℕ) → nat_lt 0 (suc n) ≡ false → ⊥
+  first_there n low = grind (arith, nat_tests)
+
+  one_less : (i n : ℕ) → nat_lt (suc i) (suc n) ≡ false → nat_lt i n ≡ false
+  one_less i n low = grind (arith, nat_tests)
+
   past : (ys : List A) (i : ℕ) → nat_lt i (length ys) ≡ false → slice_get ys i ≡ None
-  past ys i low = grind (arith, nat_tests)
+  past [] i low = refl
+  past (y ∷ ys) zero low = absurd (first_there (length ys) low)
+  past (y ∷ ys) (suc i) low = past ys i (one_less i (length ys) low)
+
   at : (b : Bool) → nat_lt (position_or_len p xs) (length xs) ≡ b → cond b (Some (position_or_len p xs)) None ≡ None → slice_get xs (position_or_len p xs) ≡ None
   at true is k = absurd (none_some (position_or_len p xs) (sym k))
   at false is k = past xs (position_or_len p xs) is
