@@ -97,7 +97,7 @@ completed_by k w a d c f false landed t sized at reads is =
       flight = flight_sampled k.disk (flight_left f) f;
       at = changed_found c (flight_sampled k.disk (flight_left f)) (λ g. refl) k.flights f at;
       told = refl;
-      passes = read_passes f _ reads;
+      passes = read_passes f (flight_sampled k.disk (flight_left f) f).sampled reads;
       left = change_leaves c (flight_sampled k.disk (flight_left f)) (λ g. refl) k.flights;
       reading = refl;
     }

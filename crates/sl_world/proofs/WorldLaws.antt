@@ -117,6 +117,6 @@ pub settled : (k new stepped : KeptState) (fx : Effects) (m c : ℕ) (o : Option
     → o ≡ option_and_then (landing_of k.disk) (flight_numbered k.flights c) → new ≡ record stepped { disk = disk_with o stepped.disk }
     → new ≡ stepped_kept (Do m c) fx k
 settled k new stepped fx m c o is landed then =
-    then ∙ ap (λ x. record x { disk = disk_with o x.disk }) is
+    then ∙ ap (λ (x : KeptState). record x { disk = disk_with o x.disk }) is
     ∙ ap (λ p. record (after_own_step fx (flights_without c k.flights) k) { disk = disk_with p k.disk }) landed
     ∙ settled_at k fx c (flight_numbered k.flights c)

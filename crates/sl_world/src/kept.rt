@@ -306,8 +306,9 @@ impl Kept {
         let _header = self.disks.header();
         match self.flight_index(number) {
             Some(index) => {
-                let _left = self.flights[index].left();
-                self.flights[index].sample(&self.disks, n)
+                let flight = &mut self.flights[index];
+                let _left = flight.left();
+                flight.sample(&self.disks, n)
             }
             None => Ok(()),
         }
