@@ -1,5 +1,5 @@
 -- Each schedule of one machine whose clock stands still is one of such a daemon, or of none.
-use Rattle.core.specs.Option.{cons_option}
+use Rattle.std.specs.List.{cons_option}
 use Rattle.sl_first_run.proofs.Headlines.{first_headlines}
 use Rattle.sl_first_run.proofs.Reports.{first_reports_are_sound}
 use Rattle.sl_first_run.specs.Promises.{FirstHeadlines}
