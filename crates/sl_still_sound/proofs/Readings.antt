@@ -1,5 +1,5 @@
 -- Each schedule of one machine whose clock stands still is one of such a daemon, or of none.
-use Rattle.core.specs.Option.{cons_option}
+use Rattle.std.specs.List.{cons_option}
 use Rattle.sl_first_run.proofs.Headlines.{first_headlines}
 use Rattle.sl_first_run.proofs.Reports.{first_reports_are_sound}
 use Rattle.sl_first_run.specs.Promises.{FirstHeadlines}
@@ -38,20 +38,20 @@ events_are_known (Some x) e is =
 
 -- ---- the daemon has a session
 
-made_by : {A B : Type 0} (f : A → Option B) (x : A) (xs : List A) (b : B) (o : Option B) → f x ≡ o → (x ∷ xs ≡ x ∷ xs) → o ≡ Some b ⊎ Contains (filter_map f xs) b
+made_by : {A B : Type 0} (f : A → Option B) (x : A) (xs : List A) (b : B) (o : Option B) → f x ≡ o → o ≡ Some b ⊎ Contains (filter_map f xs) b
     → Contains (cons_option o (filter_map f xs)) b
-made_by f x xs b None is all (inl one) = absurd (none_some b one)
-made_by f x xs b None is all (inr more) = more
-made_by f x xs b (Some c) is all (inl one) = subst (λ y. Contains (y ∷ filter_map f xs) b) (sym (some_value c b one)) (contains_first b (filter_map f xs))
-made_by f x xs b (Some c) is all (inr more) = contains_more c (filter_map f xs) b more
+made_by f x xs b None is (inl one) = absurd (none_some b one)
+made_by f x xs b None is (inr more) = more
+made_by f x xs b (Some c) is (inl one) = subst (λ y. Contains (y ∷ filter_map f xs) b) (sym (some_value c b one)) (contains_first b (filter_map f xs))
+made_by f x xs b (Some c) is (inr more) = contains_more c (filter_map f xs) b more
 
 -- What is made of a member is among what is made of all.
 made_inside : {A B : Type 0} (f : A → Option B) (xs : List A) (x : A) (b : B) → Contains xs x → f x ≡ Some b → Contains (filter_map f xs) b
 made_inside f [] x b there is = absurd (contains_none x there)
 made_inside f (y ∷ ys) x b there is =
     elim (contains_cases y ys x there) as (λ z. Contains (filter_map f (y ∷ ys)) b) [
-      | inl same ↦ made_by f y ys b (f y) refl refl (inl (ap f same ∙ is))
-      | inr more ↦ made_by f y ys b (f y) refl refl (inr (made_inside f ys x b more is))
+      | inl same ↦ made_by f y ys b (f y) refl (inl (ap f same ∙ is))
+      | inr more ↦ made_by f y ys b (f y) refl (inr (made_inside f ys x b more is))
     ]
 
 found_by : (ls : List LockspaceLine) (l : LockspaceLine) (name : List ℕ) → Contains ls l → l.name ≡ name → (o : Option LockspaceLine)
@@ -74,7 +74,7 @@ some_given : (h : Header) → IsHeader h → (b : BeginsStill h) → (g : Given)
 some_given h is b =
     let found = find_inside (λ (s : SessionLine). s.machine == 1) h.sessions b.first.session b.first.runs in
     let member : IsMember h b.first.session = is.members b.first.session found.0 in
-    let space = found_by h.lockspaces member.lockspace.0 b.first.session.lockspace member.lockspace.1.0 member.lockspace.1.1
+    let space = found_by h.lockspaces member.lockspace.0 b.first.session.lockspace member.lockspace.1 member.lockspace.2
     (find (λ m. bytes_eq m.name b.first.session.lockspace) h.lockspaces) refl in
     let given = given_is h 1 b.first.session space.0 (b.first.session.machine == 1) refl found.1 space.1 in
     (given.0, subst (λ gs. Contains gs given.0) (sym b.given) (made_inside (given_of h 1) h.sessions b.first.session given.0 found.0 given.1))

@@ -2,12 +2,11 @@
 use Rattle.sl_due.specs.Due.{due}
 use Rattle.sl_first.specs.FirstPath.{Doing}
 use Rattle.sl_first_cause.specs.Promises.{is_line_or_answer}
-use Rattle.sl_law.specs.Lawful.{IsSetting}
 use Rattle.sl_leases.specs.declared.lease.LeaseNext.TheVariants.{AnswerJob, GrantJob, Nothing, ReadFor, WriteBlock, WriteLeader}
 use Rattle.sl_leases.specs.declared.lease.LeaseNext.{LeaseNext}
 use Rattle.sl_still.proofs.Comes.{Comes_begins, Comes_gives, Comes_refused, LineComes, line_comes}
 use Rattle.sl_still.proofs.Lists.{given_at, place_of}
-use Rattle.sl_still.specs.StillLeases.{StillStands, Table, put}
+use Rattle.sl_still.specs.StillLeases.{StillStands, Table}
 use Rattle.sl_still.specs.StillPath.{HearsStill, IsStill, IsStillGiven, StillLease, still_entry}
 use Rattle.sl_still.specs.StillSteps.{lease_comes, lease_effects, refused_entry}
 use Rattle.sl_still_lawful.proofs.Whole.{traces_are_lawful}
@@ -16,8 +15,8 @@ use Rattle.sl_still_step.proofs.AnswerSteps.{answers_step}
 use Rattle.sl_still_step.proofs.Answered.{answers_find}
 use Rattle.sl_still_step.proofs.LineSteps.{lines_step}
 use Rattle.sl_still_step.proofs.Apart.{open_apart}
-use Rattle.sl_still_step.specs.Promises.{AnsweredLease, StepsTo}
-use Rattle.sl_trace.specs.Traces.{Setting, Trace, is_expected, next_call}
+use Rattle.sl_still_step.specs.Promises.{AnsweredLease}
+use Rattle.sl_trace.specs.Traces.{Setting, Trace, next_call}
 use Rattle.sl_trace.specs.declared.command.ResourceArg.{ResourceArg}
 use Rattle.sl_trace.specs.declared.effects.Effects.{Effects}
 use Rattle.sl_trace.specs.declared.input.Answer.{Answer}
@@ -28,7 +27,7 @@ use Rattle.sl_words.proofs.CaseLaws.{false_is_true}
 use Rattle.sl_world.proofs.SmallLaws.{none_few, one_few}
 use Rattle.sl_world.specs.Daemons.{IsCalmInput, IsSmall, entry_of}
 use Rattle.std.proofs.Common.{refl, subst, sym, ◌∙◌}
-use Rattle.std.specs.Prelude.{Contains, IsTrue, List, length, true, ℕ, ◌∷◌, ◌≡◌, ◌≤◌}
+use Rattle.std.specs.Prelude.{Contains, IsTrue, List, length, ℕ, ◌∷◌, ◌≡◌, ◌≤◌}
 
 -- ---- what a step does is little
 
