@@ -14,9 +14,10 @@ use Rattle.sl_trace.specs.declared.input.Input.TheVariants.{Answer as Told, Line
 use Rattle.sl_trace.specs.declared.input.Input.{Input}
 use Rattle.sl_world.specs.FirstEvents.{flight_left, flight_numbered, flight_writes}
 use Rattle.sl_world.specs.Kept.{DiskState, FlightState, KeptState, WrittenState, is_written_at, kept_content, kept_sector, first_disk}
+use Rattle.sl_words.specs.Words.{choose}
 use Rattle.std.specs.List.{position, range_with_len}
 use Rattle.std.specs.Option.{option_map_or}
-use Rattle.std.specs.Prelude.{List, None, Option, Some, false, filter, flat_map, fold, not, option_map, slice_set, true, [], ℕ, ◌*◌, ◌++◌, ◌+◌, ◌<◌, ◌==◌, ◌^◌, ◌∷◌}
+use Rattle.std.specs.Prelude.{List, length, None, Option, Some, false, filter, flat_map, fold, if◌then◌else◌, not, option_map, slice_set, true, [], ℕ, ◌*◌, ◌++◌, ◌+◌, ◌<◌, ◌==◌, ◌^◌, ◌∷◌, ◌≤◌, ◌&&◌}
 
 -- These places with this one: in place of what was written there, or behind all others.
 abbrev pub put_written : WrittenState → List WrittenState → List WrittenState
@@ -41,7 +42,7 @@ written_by d c = record { path = c.path; offset = c.offset; bytes = option_map_o
 -- The calls with the one of this number changed.
 abbrev pub change_flight : ℕ → (FlightState → FlightState) → List FlightState → List FlightState
 change_flight number g [] = []
-change_flight number g (f ∷ fs) = elim (f.call.number == number) [ true ↦ g f ∷ fs | false ↦ f ∷ change_flight number g fs ]
+change_flight number g (f ∷ fs) = if f.call.number == number then g f ∷ fs else f ∷ change_flight number g fs
 
 -- The calls without the one of this number.
 abbrev pub flights_without : ℕ → List FlightState → List FlightState
@@ -92,6 +93,25 @@ still_waiting (Some number) fs = flights_without number fs
 -- What is kept after a step with these effects, where these calls were without an answer when they came.
 abbrev pub after_own_step : Effects → List FlightState → KeptState → KeptState
 after_own_step fx fs k = record k { flights = flights_after fx.calls fs; held = held_after fx k.held }
+
+-- Room for so many holdings and so many calls.
+pub record RoomState : Type 0 where
+  pub held : ℕ
+  pub flights : ℕ
+
+-- There is room for one more of each.
+pub record HasRoomForStep (k : KeptState) (r : RoomState) : Type 0 where
+  pub held : length k.held + 1 ≤ r.held
+  pub flights : length k.flights + 1 ≤ r.flights
+
+-- What lands where the call is done whole: a write, if it hasn't landed.
+abbrev pub landing_of : DiskState → FlightState → Option WrittenState
+landing_of d f = choose (flight_writes f && not f.landed) (written_by d f.call)
+
+-- The disk once this has landed, if something does.
+abbrev pub disk_with : Option WrittenState → DiskState → DiskState
+disk_with None d = d
+disk_with (Some s) d = put_sector s d
 
 -- The answer ok of a call.
 abbrev pub ok_answer : FlightState → Answer

@@ -14,7 +14,7 @@ use Rattle.sl_trace.specs.declared.effects.Call.{Call}
 use Rattle.sl_trace.specs.declared.effects.Grant.{Grant}
 use Rattle.sl_trace.specs.declared.input.Given.{Given}
 use Rattle.sl_world.specs.Daemons.{IsSmallStep}
-use Rattle.std.specs.List.{list_any, list_all}
+use Rattle.std.specs.List.{list_any, list_all, position}
 use Rattle.std.specs.Prelude.{AllPairs, Bool, Contains, List, None, Option, Some, bytes_eq, false, filter, find, is_none, length, map, nat_le, true, [], ℕ, ◌&&◌, ◌*◌, ◌+◌, ◌-◌, ◌∷◌, ◌≡◌, ◌≢◌, ◌≤◌, ◌==◌}
 
 -- What was written at a place.
@@ -22,6 +22,11 @@ pub record WrittenState : Type 0 where
   pub path : List ℕ
   pub offset : ℕ
   pub bytes : List ℕ
+
+-- A sector that is about to be written, with room for so many.
+pub record LandingState : Type 0 where
+  pub written : WrittenState
+  pub room : ℕ
 
 -- The header, and for each place that was written what stands there now.
 pub record DiskState : Type 0 where
@@ -42,6 +47,10 @@ pub record KeptState : Type 0 where
   -- the calls without an answer, the newest first
   pub flights : List FlightState
   pub held : List Grant
+
+-- Their numbers.
+abbrev pub flight_numbers : List FlightState → List ℕ
+flight_numbers fs = map (λ f. f.call.number) fs
 
 -- Whether something was written at this place.
 abbrev pub is_written_at : List ℕ → ℕ → WrittenState → Bool
@@ -70,6 +79,11 @@ IsSized d = (path : List ℕ) (offset : ℕ) → length (kept_content d path off
 pub record IsDisk (h : Header) (written : List WrittenState) : Type 0 where
   pub header : IsHeader h
   pub sized : list_all (λ s. length s.bytes == h.geometry.sector) written ≡ true
+
+-- The sector may be written on these disks: it is a whole one, and if its place wasn't written yet there is room for one more.
+pub record MayLand (d : DiskState) (l : LandingState) : Type 0 where
+  pub sized : length l.written.bytes ≡ kept_sector d
+  pub room : position (is_written_at l.written.path l.written.offset) d.written ≡ None → length d.written + 1 ≤ l.room
 
 -- The disks at moment 0.
 abbrev pub first_disk : Header → DiskState
@@ -124,7 +138,7 @@ pub record Tells (k : KeptState) (w : World) (a : Machine) (d : Daemon) : Type 0
   pub calls : map shown (waiting a) ≡ map shown_of k.flights
   pub flight : (f : FlightState) → Contains k.flights f → IsFlight (kept_sector k.disk) f
   -- what happens to the call of a number happens to one
-  pub apart : AllPairs (λ f g. f.call.number ≢ g.call.number) k.flights
+  pub apart : AllPairs (λ m n. m ≢ n) (flight_numbers k.flights)
   pub held : a.holdings ≡ k.held
   pub connections : a.connections ≡ connections d.setting d.trace
   pub places : (path : List ℕ) (offset : ℕ) → content w path offset ≡ kept_content k.disk path offset
