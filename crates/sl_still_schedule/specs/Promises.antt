@@ -3,6 +3,7 @@ use Rattle.sl_report.specs.Languages.{whole_language}
 use Rattle.sl_report.specs.ReadingLines.{header_line_in, header_refusal}
 use Rattle.sl_report.specs.ScheduleLines.{HeaderLine}
 use Rattle.sl_report.specs.Schedules.{Header_read, NumberedLine, event_line, event_lines_of, numbered_lines, read_header}
+use Rattle.sl_run.specs.declared.event.Refusal.{Refusal}
 use Rattle.sl_run.specs.declared.header.Header.{Header}
 use Rattle.sl_still_schedule.specs.StillHeaders.{IsStillHeader}
 use Rattle.sl_still_schedule.specs.StillLanguage.{is_still_line, still_language}
@@ -21,9 +22,11 @@ HeadersAreStill = (source : List ℕ) (h : Header) (rest : List NumberedLine) �
 abbrev pub StillHeadersBegin : Type 0
 StillHeadersBegin = (h : Header) → IsStillHeader h → BeginsStill h ⊎ IsIdleHeader h
 
--- A header's lines go together with the whole language: a line is refused for what the whole language refuses it, unless it is one of
--- another number of machines; and each header that is read the whole language reads too.
+-- A header's lines go together with the whole language: the same lines are passed over, a line is refused for what the whole language
+-- refuses it, unless it is one of another number of machines, and that is told; and each header that is read the whole language reads too.
 pub record StillIsWhole : Type 0 where
+  pub skipped : (text : List ℕ) → still_language.skips text ≡ whole_language.skips text
+  pub told : (why : Refusal) → still_language.told why ≡ whole_language.told why
   pub said : (area : ℕ) (text : List ℕ) →
       header_line_in still_language area text ≡ option_and_then (λ l. choose (is_still_line l) l) (header_line_in whole_language area text)
   pub refusals : (sector area : ℕ) (ls : List HeaderLine) (l : HeaderLine) →
