@@ -1,4 +1,5 @@
 -- The plain program's report of a source is that of a sound run.
+use Rattle.sl_first_run.proofs.Idling.{idle_runs_are_sound}
 use Rattle.sl_first_run.proofs.Reported.{follows, reported}
 use Rattle.sl_first_run.proofs.Soundness.{first_runs_are_sound}
 use Rattle.sl_first_run.specs.FirstLines.{are_first}
@@ -17,10 +18,11 @@ use Rattle.sl_run.specs.declared.event.Refusal.{Refusal}
 use Rattle.sl_run.specs.declared.header.Header.{Header}
 use Rattle.sl_text.specs.Forms.{as_bytes}
 use Rattle.sl_trace.specs.Traces.{Setting, Trace}
+use Rattle.sl_world.specs.Beginning.{IsFirstHeader, IsIdleHeader, first_setting, program_of}
 use Rattle.sl_world.specs.FirstEvents.{is_first_event}
-use Rattle.std.proofs.Common.{ap, refl, subst, sym}
+use Rattle.std.proofs.Common.{ap, inl, inr, refl, subst, sym}
 use Rattle.std.specs.List.{cons_option}
-use Rattle.std.specs.Prelude.{Bool, Err, List, None, Option, Some, false, true, [], ℕ, ◌∷◌, ◌≡◌}
+use Rattle.std.specs.Prelude.{Bool, Err, List, None, Option, Some, false, true, [], ℕ, ◌∷◌, ◌≡◌, ◌⊎◌}
 
 -- ---- the events that are read
 
@@ -44,6 +46,13 @@ lines_are_first lang h each (l ∷ ls) =
 
 -- ---- the report
 
+-- The run is sound, whether a daemon runs or none.
+run_is_sound : (P : Setting → Trace → Type 0) (lang : Language) (r : IsFirstReading lang P) (h : Header) (ls : List EventLine) → are_first ls ≡ true
+    → ((first : IsFirstHeader h) × P (first_setting r.commands h first.session) []) ⊎ IsIdleHeader h
+    → SoundRun (program_of r.commands) h (followed_run (world_with (program_of r.commands) h) ls)
+run_is_sound P lang r h ls first (inl runs) = first_runs_are_sound P r.daemon r.commands h runs.0 runs.1 ls first
+run_is_sound P lang r h ls first (inr idle) = (idle_runs_are_sound r.commands h idle ls first).1
+
 sound_by : (P : Setting → Trace → Type 0) (lang : Language) (r : IsFirstReading lang P) (source : List ℕ) (o : HeaderReading)
     → read_header lang [] 1 (numbered_lines source) ≡ o
     → ReplayOf SoundRun lang source
@@ -58,10 +67,9 @@ sound_by P lang r source (Header_refused number why) is = In_header number why i
 sound_by P lang r source (Header_read h rest) is =
     let w : World = world_with lang.program h in
     let ls : List EventLine = event_lines_of lang h rest in
-    let first = r.headers source h rest is in
     let sound : SoundRun lang.program h (followed_run w ls) =
     subst (λ (p : Program). SoundRun p h (followed_run (world_with p h) ls)) (sym r.program)
-    (first_runs_are_sound P r.daemon r.commands h first.0 first.1 ls (lines_are_first lang h r.events rest)) in
+    (run_is_sound P lang r h ls (lines_are_first lang h r.events rest) (r.headers source h rest is)) in
     In_events h rest (followed_run w ls) (followed_end w ls) is (follows w ls) sound (ap as_bytes (reported lang w no_counts ls)) refl
 
 pub first_reports_are_sound : (P : Setting → Trace → Type 0) → FirstReportsAreSound P

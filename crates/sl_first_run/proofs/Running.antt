@@ -1,10 +1,16 @@
 -- What is true of the world while one daemon runs in it, and how it stays so at a step.
+--
+-- Beside what the world tells of its daemon the disk must stay one of whole sectors, since a read of a torn place would be no answer that
+-- the daemon expects: so each write without an answer must spell a record.
 use Rattle.sl_area.specs.Layouts.{IsGeometry, Sizes, layout_of, program_digest, sector_with}
 use Rattle.sl_due.specs.Due.{due}
+use Rattle.sl_first_run.proofs.Ended.{ended_in, ends_none}
+use Rattle.sl_first_run.proofs.Holding.{Agree}
+use Rattle.sl_first_run.proofs.Spelled.{AllSpelled, new_spelled, waiting_spelled}
 use Rattle.sl_first_run.specs.PureDaemons.{PureDaemon}
 use Rattle.sl_report.specs.Replay.{effects_of}
 use Rattle.sl_run.specs.Events.{happens}
-use Rattle.sl_run.specs.Worlds.{Daemon, World}
+use Rattle.sl_run.specs.Worlds.{World}
 use Rattle.sl_run.specs.declared.event.Event.{Event}
 use Rattle.sl_run.specs.declared.header.Header.{Header}
 use Rattle.sl_sector.proofs.SpellingLaws.{length-spelling}
@@ -12,24 +18,24 @@ use Rattle.sl_sector.proofs.WrittenBytes.{sha256_is_digest}
 use Rattle.sl_sector.specs.Records.{IsRecord}
 use Rattle.sl_sector.specs.declared.sector.Rec.{Rec}
 use Rattle.sl_trace.specs.Traces.{Setting, Trace, held_after, holdings, is_write, record_of}
-use Rattle.sl_trace.specs.declared.effects.Call.{Call}
 use Rattle.sl_trace.specs.declared.effects.Effects.{Effects}
 use Rattle.sl_trace.specs.declared.effects.Op.TheVariants.{ReadSectors, WriteRecord}
 use Rattle.sl_trace.specs.declared.effects.Op.{Op}
 use Rattle.sl_trace.specs.declared.input.Input.{Input}
-use Rattle.sl_words.proofs.CaseLaws.{false_is_true, some_value}
+use Rattle.sl_words.proofs.CaseLaws.{false_is_true}
 use Rattle.sl_words.proofs.WordLaws.{and_true}
 use Rattle.sl_world.proofs.DiskLaws.{is_disk_set}
 use Rattle.sl_world.proofs.FirstWorld.{Taking}
-use Rattle.sl_world.proofs.InitialLaws.{first_place, is_size}
-use Rattle.sl_world.specs.Changes.{after_land, flight_after, flight_past, new_flight, stepped_kept, written_by}
+use Rattle.sl_world.proofs.InitialLaws.{is_size}
+use Rattle.sl_world.specs.Changes.{after_land, answered_by, kept_after, still_waiting, stepped_kept, written_by}
+use Rattle.sl_world.specs.FirstEvents.{is_first_event}
 use Rattle.sl_world.specs.Daemons.{IsSpelled, entry_of}
 use Rattle.sl_world.specs.Kept.{FlightState, IsDisk, KeptState, WorldStands, WrittenState, is_written_at}
 use Rattle.std.proofs.Common.{ap, refl, subst, sym, ◌∙◌}
 use Rattle.std.proofs.lemmas.Bool.Decides.{Decides-eqb}
 use Rattle.std.specs.List.{list_all, position}
 use Rattle.std.specs.Option.{option_map_or}
-use Rattle.std.specs.Prelude.{Bool, Contains, List, None, Option, Some, length, map, slice_set, true, [], ℕ, ◌++◌, ◌==◌, ◌∷◌, ◌≡◌, ◌≤◌}
+use Rattle.std.specs.Prelude.{Bool, List, None, Option, Some, length, slice_set, true, [], ℕ, ◌++◌, ◌==◌, ◌∷◌, ◌≡◌}
 
 -- A daemon by its setting and trace.
 pub record Standing : Type 0 where
@@ -42,17 +48,13 @@ pub record Is (P : Setting → Trace → Type 0) (x : Standing) (st : Setting) (
   pub trace : es ≡ x.trace
   pub keeps : P st es
 
--- What a machine ran before.
-abbrev pub ended_in : World → List (List Daemon)
-ended_in w = map (λ a. a.ended) w.machines
-
 -- The world of one machine whose one daemon keeps P, with what is kept of it.
 pub record Runs (P : Setting → Trace → Type 0) (w : World) (k : KeptState) (x : Standing) : Type 0 where
   pub stands : WorldStands (Is P) k x w
   pub held : k.held ≡ holdings x.trace
   pub ended : ended_in w ≡ [] ∷ []
   pub disk : IsDisk k.disk.header k.disk.written
-  pub spelled : (f : FlightState) → k.flight ≡ Some f → IsSpelled f.call
+  pub spelled : AllSpelled k.flights
 
 -- ---- the disk
 
@@ -75,37 +77,34 @@ written_sized s (ReadSectors n) is writes spelled = absurd (false_is_true writes
 written_sized s (WriteRecord r) is writes spelled = length-spelling program_digest sha256_is_digest s.sector r (is_size s is) (spelled r refl)
 
 -- What a landing leaves is again a disk of whole sectors.
-pub landed_is_disk : (k : KeptState) (f : FlightState) → IsDisk k.disk.header k.disk.written → is_write f.call.op ≡ true → IsSpelled f.call
-    → IsDisk (after_land f k).disk.header (after_land f k).disk.written
-landed_is_disk k f is writes spelled =
+pub landed_is_disk : (k : KeptState) (number : ℕ) (f : FlightState) → IsDisk k.disk.header k.disk.written → is_write f.call.op ≡ true → IsSpelled f.call
+    → IsDisk (after_land number f k).disk.header (after_land number f k).disk.written
+landed_is_disk k number f is writes spelled =
     let s : WrittenState = written_by k.disk f.call in
     put_by k.disk.header k.disk.written s (position (is_written_at s.path s.offset) k.disk.written) is
     (written_sized k.disk.header.geometry f.call.op is.header.geometry writes spelled)
 
 -- ---- a step that the daemon takes
 
--- The call that then waits writes a record.
-spelled_after : (cs : List Call) (o : Option FlightState) → ((c : Call) → Contains cs c → IsSpelled c)
-    → ((f : FlightState) → o ≡ Some f → IsSpelled f.call) → (f : FlightState) → flight_after cs o ≡ Some f → IsSpelled f.call
-spelled_after [] o each kept f is = kept f is
-spelled_after (c ∷ cs) o each kept f is =
-    subst (λ (g : FlightState). IsSpelled g.call) (some_value (new_flight c) f is) (each c (0, first_place (length cs), refl))
+-- What an event leaves before the step, if the daemon takes one: the holdings, a disk of whole sectors, and calls that write records.
+pub record Leaves (k new : KeptState) : Type 0 where
+  pub held : new.held ≡ k.held
+  pub disk : IsDisk new.disk.header new.disk.written
+  pub spelled : AllSpelled new.flights
 
--- An event of the run, with its effects: what is then true of the world, and that the step leaves one holding at most.
+-- An event of the run, with its effects: what is then true of the world, and that the step leaves holdings that agree.
 pub record Moves (P : Setting → Trace → Type 0) (w : World) (k : KeptState) (e : Event) : Type 0 where
   pub effects : Effects
   pub kept : KeptState
   pub then : Standing
   pub due : effects_of w e ≡ effects ∷ []
   pub runs : Runs P (happens w e (effects ∷ [])) kept then
-  pub few : length (held_after effects k.held) ≤ 1
+  pub agree : Agree (held_after effects k.held)
 
 pub taking_moves : (P : Setting → Trace → Type 0) (d : PureDaemon P) (w : World) (k : KeptState) (x : Standing) (e : Event) (i : Input) (r : Runs P w k x)
-    → Taking (Is P) k w e i r.stands.daemon.setting r.stands.daemon.trace
-    → ((fx : Effects) → ended_in (happens w e (fx ∷ [])) ≡ ended_in w)
-    → ((f : FlightState) → flight_past e k ≡ Some f → IsSpelled f.call)
-    → Moves P w k e
-taking_moves P d w k x e i r t ends spelled =
+    → Taking (Is P) k w e i r.stands.daemon.setting r.stands.daemon.trace → is_first_event e ≡ true
+    → Leaves k (kept_after e k) → Moves P w k e
+taking_moves P d w k x e i r t first l =
     let st : Setting = r.stands.daemon.setting in
     let es : Trace = r.stands.daemon.trace in
     let fx : Effects = due st es k.reading i in
@@ -119,10 +118,11 @@ taking_moves P d w k x e i r t ends spelled =
       due = t.effects;
       runs = record {
         stands = t.stays then fx step.0 (record { setting = refl; trace = refl; keeps = step.1 });
-        held = held;
-        ended = ends fx ∙ r.ended;
-        disk = r.disk;
-        spelled = spelled_after fx.calls (flight_past e k) step.0.step.spelled spelled;
+        held = ap (held_after fx) l.held ∙ held;
+        ended = ends_none w e fx first ∙ r.ended;
+        disk = l.disk;
+        spelled = new_spelled fx.calls (still_waiting (answered_by e) k.flights) step.0.step.spelled
+            (waiting_spelled (answered_by e) k.flights r.spelled);
       };
-      few = subst (λ hs. length hs ≤ 1) (sym held) (d.few st then.trace step.1);
+      agree = subst Agree (sym held) (d.agree st then.trace step.1);
     }

@@ -1,8 +1,9 @@
 -- The run of a schedule of one daemon is sound.
-use Rattle.sl_first_run.proofs.Holding.{exclusive, no_conflict}
+use Rattle.sl_first_run.proofs.Holding.{Agree, exclusive, no_conflict}
 use Rattle.sl_first_run.proofs.Moving.{moves, on_one}
 use Rattle.sl_first_run.proofs.Reported.{is_run}
-use Rattle.sl_first_run.proofs.Running.{Is, Moves, Runs, Standing, ended_in}
+use Rattle.sl_first_run.proofs.Ended.{ended_in}
+use Rattle.sl_first_run.proofs.Running.{Is, Moves, Runs, Standing}
 use Rattle.sl_first_run.specs.FirstLines.{are_first}
 use Rattle.sl_first_run.specs.Followed.{followed_run}
 use Rattle.sl_first_run.specs.Promises.{FirstRunsAreSound}
@@ -11,7 +12,6 @@ use Rattle.sl_area.specs.Layouts.{layout_of}
 use Rattle.sl_due.specs.Due.{IsHostTrace, NoIdleJob}
 use Rattle.sl_law.specs.Caused.{IsCaused}
 use Rattle.sl_law.specs.Lawful.{Lawful}
-use Rattle.sl_words.proofs.CaseLaws.{none_some}
 use Rattle.sl_report.specs.Replay.{effects_of}
 use Rattle.sl_report.specs.Reports.{Counts, count_event, no_counts, run_counts}
 use Rattle.sl_report.specs.Schedules.{EventLine}
@@ -34,7 +34,7 @@ use Rattle.sl_world.specs.Kept.{KeptState}
 use Rattle.std.proofs.Common.{ap, arith, refl, subst, sym, ◌∙◌}
 use Rattle.std.proofs.lemmas.List.{append-nil}
 use Rattle.std.specs.List.{range_with_len}
-use Rattle.std.specs.Prelude.{Contains, Err, List, None, Ok, Option, Some, flat_map, length, map, suc, true, zero, [], ℕ, ◌++◌, ◌<◌, ◌∷◌, ◌≡◌, ◌≤◌}
+use Rattle.std.specs.Prelude.{Contains, Err, List, None, Ok, Option, Some, flat_map, map, suc, true, zero, [], ℕ, ◌++◌, ◌<◌, ◌∷◌, ◌≡◌}
 
 -- ---- what is true of each world on the way
 
@@ -80,7 +80,7 @@ moved P d w e r first h =
       then = subst (λ fxs. Running P (happens w e fxs)) (sym m.due) (record { kept = m.kept; then = m.then; runs = m.runs });
       uncounted = λ c. ap (λ fxs. (count_event w e fxs c).conflicts) m.due
           ∙ no_conflict w r.runs.stands.machine e m.effects c t.alone (on_one P w k r.then e r.runs first h)
-          (subst (λ hs. length (held_after m.effects hs) ≤ 1) (sym t.held) m.few);
+          (subst (λ hs. Agree (held_after m.effects hs)) (sym t.held) m.agree);
     }
 
 -- ---- the run
@@ -154,7 +154,7 @@ is_exclusive : (P : Setting → Trace → Type 0) (d : PureDaemon P) (w : World)
 is_exclusive P d w r =
     let s = r.runs.stands in
     let held : s.machine.holdings ≡ holdings s.daemon.trace = s.tells.held ∙ r.runs.held ∙ ap holdings (sym s.runs.trace) in
-    exclusive w s.machine s.tells.alone (subst (λ hs. length hs ≤ 1) (sym held) (d.few s.daemon.setting s.daemon.trace s.runs.keeps))
+    exclusive w s.machine s.tells.alone (subst Agree (sym held) (d.agree s.daemon.setting s.daemon.trace s.runs.keeps))
 
 -- ---- from moment 0 on
 
@@ -172,7 +172,7 @@ starts P commands h first keeps =
         held = refl;
         ended = ap (λ n. map (λ (a : Machine). a.ended) (map (machine_of_header (program_of commands) (layout_of h.geometry) h) (range_with_len 1 n))) first.machines;
         disk = record { header = first.header; sized = refl };
-        spelled = λ f eq. absurd (none_some f eq);
+        spelled = tt;
       };
     }
 

@@ -2,5 +2,6 @@ pub mod Followed
 pub mod FirstLines
 pub mod PureDaemons
 pub mod Readings
+pub mod Accepted
 pub mod Cuts
 pub mod Promises

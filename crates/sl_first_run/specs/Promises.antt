@@ -1,9 +1,10 @@
 -- What is promised of the run in which each daemon does what is due.
+use Rattle.sl_first_run.specs.Accepted.{IsAccepted}
 use Rattle.sl_first_run.specs.FirstLines.{are_first}
 use Rattle.sl_first_run.specs.Followed.{followed}
 use Rattle.sl_first_run.specs.PureDaemons.{PureDaemon}
 use Rattle.sl_first_run.specs.Readings.{IsFirstReading, replay_status}
-use Rattle.sl_report.specs.Headline.{IsFrontOf, Promise, ReplayHeadline, ReplayOf, SoundRun}
+use Rattle.sl_report.specs.Headline.{Headline, IsFrontOf, Promise, ReplayHeadline, ReplayOf, SoundRun}
 use Rattle.sl_report.specs.Languages.{Language}
 use Rattle.sl_report.specs.Reports.{Counts, run_counts, run_lines}
 use Rattle.sl_report.specs.Schedules.{EventLine, Follows, greatest_source, last_lines, replay_from, replay_lines}
@@ -13,7 +14,7 @@ use Rattle.sl_run.specs.declared.header.Header.{Header}
 use Rattle.sl_text.specs.Forms.{Form, as_bytes}
 use Rattle.sl_trace.specs.Traces.{Setting, Trace}
 use Rattle.sl_trace.specs.declared.command.Command.{Command}
-use Rattle.sl_world.specs.Beginning.{IsFirstHeader, first_setting, program_of}
+use Rattle.sl_world.specs.Beginning.{IsFirstHeader, IsIdleHeader, first_setting, program_of}
 use Rattle.std.specs.Int.{is_in_range}
 use Rattle.std.specs.Prelude.{Bool, IsTrue, List, length, true, [], ℕ, ◌++◌, ◌<◌, ◌≡◌, ◌⊎◌}
 
@@ -25,18 +26,40 @@ pub record ReportsAreRuns : Type 0 where
   pub reported : (lang : Language) (w : World) (k : Counts) (ls : List EventLine) →
       replay_from lang w k ls ≡ run_lines w (followed w ls).0 ++ last_lines lang (run_counts w k (followed w ls).0) (followed w ls).1
 
--- Where one daemon runs that keeps P, the run of a schedule of the first path is sound.
+-- Where one daemon runs that keeps P, the run of a schedule whose events all belong to a clock that stands still is sound.
 abbrev pub FirstRunsAreSound : (Setting → Trace → Type 0) → Type 0
 FirstRunsAreSound P =
     PureDaemon P → (commands : Header → List (Form Command)) (h : Header) (first : IsFirstHeader h) →
     P (first_setting commands h first.session) [] → (ls : List EventLine) → are_first ls ≡ true →
     SoundRun (program_of commands) h (followed (world_with (program_of commands) h) ls).0
 
+-- Where no daemon runs, each such event is refused: nothing happens, and that is sound.
+abbrev pub IdleRunsAreSound : Type 0
+IdleRunsAreSound =
+    (commands : Header → List (Form Command)) (h : Header) → IsIdleHeader h → (ls : List EventLine) → are_first ls ≡ true →
+    ((followed (world_with (program_of commands) h) ls).0 ≡ []) × SoundRun (program_of commands) h (followed (world_with (program_of commands) h) ls).0
+
 -- The plain program's report of each source is that of a sound run, and its status is that of the run's ending.
 abbrev pub FirstReportsAreSound : (Setting → Trace → Type 0) → Type 0
 FirstReportsAreSound P =
     (lang : Language) → IsFirstReading lang P → (source : List ℕ) →
     ReplayOf SoundRun lang source (as_bytes (replay_lines lang source)) (replay_status lang source)
+
+-- A schedule has status 0 where it is read and allowed to its end, and nowhere else.
+pub record AcceptedSchedulesEndWell : Type 0 where
+  pub well : (lang : Language) (source : List ℕ) → IsAccepted lang source → replay_status lang source ≡ 0
+  pub only : (lang : Language) (source : List ℕ) → replay_status lang source ≡ 0 → IsAccepted lang source
+
+-- In a sound run each daemon does what is due, so whoever reports one gives the schedule's own status.
+abbrev pub RunsHaveOneStatus : Type 0
+RunsHaveOneStatus =
+    (lang : Language) (source written : List ℕ) (status : ℕ) → ReplayOf SoundRun lang source written status → status ≡ replay_status lang source
+
+-- .. and writes the plain program's report: a source has one.
+pub record RunsHaveOneReport : Type 0 where
+  pub sound : (lang : Language) (source written : List ℕ) (status : ℕ) → ReplayOf SoundRun lang source written status →
+      written ≡ as_bytes (replay_lines lang source)
+  pub good : (lang : Language) → Headline lang
 
 -- A source of which more is read than the limit has one report, and one status, whatever comes behind what is read.
 pub record CutsAreReported : Type 0 where

@@ -1,4 +1,4 @@
--- Languages whose schedules one daemon runs.
+-- Languages whose schedules run on one machine whose clock stands still.
 use Rattle.sl_first_run.specs.Followed.{followed}
 use Rattle.sl_first_run.specs.PureDaemons.{PureDaemon}
 use Rattle.sl_report.specs.Languages.{Language}
@@ -9,18 +9,19 @@ use Rattle.sl_run.specs.declared.header.Header.{Header}
 use Rattle.sl_text.specs.Forms.{Form}
 use Rattle.sl_trace.specs.Traces.{Setting, Trace}
 use Rattle.sl_trace.specs.declared.command.Command.{Command}
-use Rattle.sl_world.specs.Beginning.{IsFirstHeader, first_setting, program_of}
+use Rattle.sl_world.specs.Beginning.{IsFirstHeader, IsIdleHeader, first_setting, program_of}
 use Rattle.sl_world.specs.FirstEvents.{is_first_event}
-use Rattle.std.specs.Prelude.{List, Option, Some, true, [], ℕ, ◌≡◌}
+use Rattle.std.specs.Prelude.{List, Option, Some, true, [], ℕ, ◌≡◌, ◌⊎◌}
 
--- It reads events of the first path alone, and headers of one machine, whose daemon keeps P from its beginning on.
+-- It reads commands, samples, landings, answers ok and calls done whole alone, and headers of one machine: its daemon keeps P from its
+-- beginning on, or none ever runs.
 pub record IsFirstReading (lang : Language) (P : Setting → Trace → Type 0) : Type 0 where
   pub commands : Header → List (Form Command)
   pub program : lang.program ≡ program_of commands
   pub events : (o : Option Event) (e : Event) → lang.event o ≡ Some e → is_first_event e ≡ true
   pub daemon : PureDaemon P
   pub headers : (source : List ℕ) (h : Header) (rest : List NumberedLine) → read_header lang [] 1 (numbered_lines source) ≡ Header_read h rest →
-      (first : IsFirstHeader h) × P (first_setting commands h first.session) []
+      ((first : IsFirstHeader h) × P (first_setting commands h first.session) []) ⊎ IsIdleHeader h
 
 -- The status of a source's report: 0 where all lines are followed to the end, else 1.
 abbrev pub replay_status : Language → List ℕ → ℕ

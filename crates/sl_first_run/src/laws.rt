@@ -1,6 +1,6 @@
 //! What is promised of the run in which each daemon does what is due.
 
-ghost use Rattle.sl_first_run.specs.Promises.{CutsAreReplayed, CutsAreReported, FirstHeadlines, FirstReportsAreSound, FirstRunsAreSound, ReportsAreRuns};
+ghost use Rattle.sl_first_run.specs.Promises.{AcceptedSchedulesEndWell, CutsAreReplayed, CutsAreReported, FirstHeadlines, FirstReportsAreSound, FirstRunsAreSound, IdleRunsAreSound, ReportsAreRuns, RunsHaveOneReport, RunsHaveOneStatus};
 ghost use Rattle.sl_run.specs.Runs.{Happening};
 ghost use Rattle.sl_run.specs.Worlds.{Program};
 ghost use Rattle.sl_run.specs.declared.header.Header.{Header};
@@ -18,13 +18,33 @@ pub fn reports_are_runs()
     ensures { ReportsAreRuns }
 {}
 
-/// The run of a schedule of one machine is sound, where its daemon does what is due and keeps the laws.
+/// The run of a schedule of one machine whose clock stands still is sound, where its daemon does what is due and keeps the laws.
 pub fn first_runs_are_sound<C: DaemonClaim>()
     ensures { FirstRunsAreSound C.holds }
 {}
 
-/// The report of a source is that of a sound run, where the language reads schedules of one machine whose daemon does what is due and
-/// keeps the laws.
+/// Where no daemon runs nothing happens.
+pub fn idle_runs_are_sound()
+    ensures { IdleRunsAreSound }
+{}
+
+/// A schedule that is read and allowed to its end has status 0, and no other has.
+pub fn accepted_schedules_end_well()
+    ensures { AcceptedSchedulesEndWell }
+{}
+
+/// All reports of sound runs of one source have one status.
+pub fn runs_have_one_status()
+    ensures { RunsHaveOneStatus }
+{}
+
+/// .. and one text.
+pub fn runs_have_one_report()
+    ensures { RunsHaveOneReport }
+{}
+
+/// The report of a source is that of a sound run, where the language reads schedules of one machine, whose daemon, if there is one, does
+/// what is due and keeps the laws.
 pub fn first_reports_are_sound<C: DaemonClaim>()
     ensures { FirstReportsAreSound C.holds }
 {}
