@@ -9,8 +9,9 @@ use Rattle.std.proofs.Common.{List, length, ℕ, ◌≡◌}
 
 abbrev pub invariant-loop-line : goal.invariant-loop-line
 invariant-loop-line l =
-    (h : Header) (w : World) (total : List ℕ) (end : Ended) → h.machines ≡ 1 → h.geometry.sector ≡ l.sector → IsIdleWorld w
-    → Adds h w no_counts l.fn.lines l.fn.out.items total end → Adds h w no_counts l.lines l.out.items total end
+    (l.out.items ≡ l.fn.out.items)
+    × ((h : Header) (w : World) (total : List ℕ) (end : Ended) → h.machines ≡ 1 → h.geometry.sector ≡ l.sector → IsIdleWorld w
+    → Adds h w no_counts l.fn.lines l.fn.out.items total end → Adds h w no_counts l.lines l.out.items total end)
 
 abbrev pub decreases-loop-line : goal.decreases-loop-line
 decreases-loop-line l = length l.lines
