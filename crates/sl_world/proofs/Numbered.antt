@@ -37,12 +37,15 @@ none_past : {A : Type 0} (p : A → Bool) (xs : List A) → position p xs ≡ No
 none_past {A = A} p xs h = at (nat_lt (position_or_len p xs) (length xs)) refl h where
   first_there : (n : ℕ) → nat_lt 0 (suc n) ≡ false → ⊥
   first_there n low = grind (arith, nat_tests)
+
   one_less : (i n : ℕ) → nat_lt (suc i) (suc n) ≡ false → nat_lt i n ≡ false
   one_less i n low = grind (arith, nat_tests)
+
   past : (ys : List A) (i : ℕ) → nat_lt i (length ys) ≡ false → slice_get ys i ≡ None
   past [] i low = refl
   past (y ∷ ys) zero low = absurd (first_there (length ys) low)
   past (y ∷ ys) (suc i) low = past ys i (one_less i (length ys) low)
+
   at : (b : Bool) → nat_lt (position_or_len p xs) (length xs) ≡ b → cond b (Some (position_or_len p xs)) None ≡ None → slice_get xs (position_or_len p xs) ≡ None
   at true is k = absurd (none_some (position_or_len p xs) (sym k))
   at false is k = past xs (position_or_len p xs) is

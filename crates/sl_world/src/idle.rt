@@ -21,11 +21,9 @@ fn on_only(machine: u32, refusal: Refusal) -> Refusal
     }
 }
 
-/// Why the event may not happen in a world whose one machine runs no daemon.
-pub fn idle_refusal(event: &Event) -> Refusal
-    requires { IsTrue (is_first_event event.now) }
-    ensures exact { result ≡ idle.idle_refusal event.now }
-    ensures refused { (w : World) → IsIdleWorld w → refusal_of w event.now ≡ Some result }
+/// Why the event may not happen: the first reason that holds.
+fn reason(event: &Event) -> Refusal
+    ensures { result ≡ idle.idle_refusal event.now }
 {
     match event {
         Event::Sample {
@@ -49,4 +47,13 @@ pub fn idle_refusal(event: &Event) -> Refusal
         Event::Do { machine, call: _ } => on_only(*machine, Refusal::MissingDaemon),
         _ => Refusal::Syntax,
     }
+}
+
+/// Why the event may not happen in a world whose one machine runs no daemon.
+pub fn idle_refusal(event: &Event) -> Refusal
+    requires { IsTrue (is_first_event event.now) }
+    ensures exact { result ≡ idle.idle_refusal event.now }
+    ensures refused { (w : World) → IsIdleWorld w → refusal_of w event.now ≡ Some result }
+{
+    reason(event)
 }
