@@ -1,5 +1,5 @@
 -- What a world's one machine holds after an event that is run here: what its step leaves of what it held.
-use Rattle.sl_run.specs.Events.{add_landing, after_effects, after_step, change_call, close_answered, complete, event_tests, fated, first_change, flight_at, happens, input_of, is_shaped, land_whole, machine_of, next_step, on_machine, refusal_of, sampled_more, sectors_left, take_step, write_bytes}
+use Rattle.sl_run.specs.Events.{add_landing, after_effects, after_step, change_call, close_answered, complete, event_tests, fated, first_change, flight_at, happens, input_of, land_whole, machine_of, next_step, on_machine, refusal_of, sampled_more, sectors_left, take_step, write_bytes}
 use Rattle.sl_run.specs.Worlds.{Course, Landed, Machine, Stamp, World, change_machine, first_that, is_in_flight, is_write_course, machine_at, stamp_now}
 use Rattle.sl_run.specs.declared.event.Event.TheVariants.{AnswerCall, Crash, Do, DropWrite, ExitOf, GiveCommand, Land, Pass, Reset, Restart, Sample, SpawnedOf, StartDaemon, Tear, Test, WakeUp}
 use Rattle.sl_run.specs.declared.event.Event.{Event}
