@@ -27,7 +27,7 @@ spelled_found fs c f is all = spelled_one fs f all (find_inside (λ g. g.call.nu
 -- ---- what becomes of them
 
 changed_by : (g : FlightState → FlightState) (f : FlightState) (fs hs : List FlightState) (b : Bool) → (g f).call ≡ f.call → IsSpelled f.call → AllSpelled fs → AllSpelled hs
-    → AllSpelled (elim b as (λ x. List FlightState) [ true ↦ g f ∷ fs | false ↦ f ∷ hs ])
+    → AllSpelled (if b then g f ∷ fs else f ∷ hs)
 changed_by g f fs hs true same is all rest = (subst IsSpelled (sym same) is, all)
 changed_by g f fs hs false same is all rest = (is, rest)
 
