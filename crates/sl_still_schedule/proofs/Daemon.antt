@@ -19,7 +19,7 @@ use Rattle.sl_still.specs.StillPath.{IsStill, IsStillCommand, IsStillGiven}
 use Rattle.sl_still_schedule.proofs.Lists.{given_of_one, no_more, pairs_given, pairs_map}
 use Rattle.sl_still_schedule.specs.Promises.{StillHeadersBegin}
 use Rattle.sl_still_schedule.specs.StillHeaders.{IsStillHeader}
-use Rattle.sl_still_schedule.specs.StillWorld.{BeginsStill, IsIdleHeader, still_setting}
+use Rattle.sl_still_schedule.specs.StillWorld.{BeginsStill, still_setting}
 use Rattle.sl_text.specs.Names.{is_name}
 use Rattle.sl_trace.specs.Commands.{command_in}
 use Rattle.sl_trace.specs.Traces.{Setting}
@@ -27,6 +27,7 @@ use Rattle.sl_trace.specs.declared.command.Command.{Command}
 use Rattle.sl_trace.specs.declared.input.Given.{Given}
 use Rattle.sl_words.proofs.CaseLaws.{is_false, some_value}
 use Rattle.sl_words.specs.Bounds.{moments}
+use Rattle.sl_world.specs.Beginning.{IsIdleHeader}
 use Rattle.std.proofs.Common.{Bool, List, None, Option, Some, ap, arith, false, inl, inr, length, map, refl, subst, sym, true, ℕ, ◌%◌, ◌*◌, ◌+◌, ◌<◌, ◌^◌, ◌∙◌, ◌≡◌, ◌≤◌}
 use Rattle.std.proofs.lemmas.Bool.{and_from, eq-eqb, eqb-true, le-leb, lt-ltb}
 use Rattle.std.proofs.lemmas.Bool.Decides.{nat_tests}

@@ -8,9 +8,10 @@ use Rattle.sl_run.specs.declared.header.Header.{Header}
 use Rattle.sl_still_schedule.specs.StillHeaders.{IsStillHeader}
 use Rattle.sl_still_schedule.specs.StillLanguage.{is_still_line, still_language}
 use Rattle.sl_still_schedule.specs.StillWhole.{SaysOtherMachines, SaysTheSame, first_event_line}
-use Rattle.sl_still_schedule.specs.StillWorld.{BeginsStill, IsIdleHeader}
+use Rattle.sl_still_schedule.specs.StillWorld.{BeginsStill}
 use Rattle.sl_text.specs.Forms.{as_bytes}
 use Rattle.sl_words.specs.Words.{choose}
+use Rattle.sl_world.specs.Beginning.{IsIdleHeader}
 use Rattle.std.specs.Prelude.{List, codes, length, map, option_and_then, option_map, [], ℕ, ◌∷◌, ◌≡◌, ◌⊎◌}
 
 -- Each header that is read is one of one machine that a world may begin with.

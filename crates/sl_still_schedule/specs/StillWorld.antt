@@ -1,8 +1,7 @@
--- What a header begins with: a daemon on a clock that stands still, or, where no session is given, nothing that runs.
+-- What a header with a session begins with: a daemon on a clock that stands still.
 use Rattle.sl_area.specs.Layouts.{layout_of}
 use Rattle.sl_law.specs.Lawful.{IsSetting}
 use Rattle.sl_lease_command.specs.LeaseWords.{lease_forms}
-use Rattle.sl_run.specs.Headers.{IsHeader}
 use Rattle.sl_run.specs.Worlds.{clock_reading, first_numbers, given_of}
 use Rattle.sl_run.specs.declared.header.Header.{Header}
 use Rattle.sl_run.specs.declared.header.SessionLine.{SessionLine}
@@ -11,7 +10,7 @@ use Rattle.sl_still_schedule.specs.StillLanguage.{still_commands}
 use Rattle.sl_trace.specs.Commands.{command_in}
 use Rattle.sl_trace.specs.Traces.{Setting}
 use Rattle.sl_world.specs.Beginning.{IsFirstHeader, first_setting}
-use Rattle.std.specs.Prelude.{List, None, filter_map, find, ℕ, ◌==◌, ◌≡◌}
+use Rattle.std.specs.Prelude.{List, filter_map, ℕ, ◌≡◌}
 
 -- The setting of the daemon that a header begins with.
 abbrev pub still_setting : Header → SessionLine → Setting
@@ -27,9 +26,3 @@ pub record BeginsStill (h : Header) : Type 0 where
   pub given : (still_setting h first.session).given ≡ filter_map (given_of h 1) h.sessions
   pub numbers : (still_setting h first.session).first ≡ first_numbers
   pub reads : (text : List ℕ) → (still_setting h first.session).read text ≡ command_in (lease_forms (layout_of h.geometry)) text
-
--- A header of one machine, on which no daemon begins.
-pub record IsIdleHeader (h : Header) : Type 0 where
-  pub header : IsHeader h
-  pub machines : h.machines ≡ 1
-  pub nobody : find (λ s. s.machine == 1) h.sessions ≡ None
