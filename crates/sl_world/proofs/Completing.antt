@@ -1,6 +1,6 @@
 -- A call that is done whole: what its answer ok needs happens, and the daemon takes the answer. In the end it is as if the answer alone had
 -- come to the world with the rest sampled, or with the write landed.
-use Rattle.sl_run.specs.Events.{change_call, complete, done_input, fated, first_change, happens, land_whole, next_step, ok_input, sampled_more, sectors_left, sectors_of, take_step}
+use Rattle.sl_run.specs.Events.{change_call, complete, done_input, fated, first_change, happens, land_whole, next_step, sampled_more, sectors_left, sectors_of, take_step}
 use Rattle.sl_run.specs.Worlds.{Course, Daemon, Landed, Machine, World, flight_of, is_in_flight}
 use Rattle.sl_run.specs.declared.event.Event.TheVariants.{Do}
 use Rattle.sl_report.specs.Replay.{effects_of}
@@ -20,13 +20,13 @@ use Rattle.sl_world.proofs.Numbered.{change_leaves, changed_found, numbered_as}
 use Rattle.sl_world.proofs.Passing.{is_on_first}
 use Rattle.sl_world.proofs.Samples.{sample_shows, sampled_tells, sampled_world}
 use Rattle.sl_world.proofs.Solo.{solo, solo_is}
-use Rattle.sl_world.specs.Changes.{after_complete, after_land, after_own_step, flight_landed, flight_sampled, flights_without, kept_complete, kept_sampled, stepped_kept, told_done, told_ok}
+use Rattle.sl_world.specs.Changes.{after_complete, after_land, after_own_step, flight_landed, flight_sampled, flights_without, kept_sampled, stepped_kept, told_done, told_ok}
 use Rattle.sl_world.specs.Daemons.{IsCalmInput, IsSmall, entry_of}
 use Rattle.sl_world.specs.FirstEvents.{answer_refusal, at_flight, done_refusal, flight_left, flight_numbered, flight_writes, refusal_in}
 use Rattle.sl_world.specs.Kept.{FlightState, IsSized, KeptState, Shown, Tells, WorldStands, fate_of, shown, shown_of}
 use Rattle.std.proofs.Common.{ap, arith, refl, subst, sym, ◌∙◌}
 use Rattle.std.proofs.lemmas.Bool.Decides.{nat_tests}
-use Rattle.std.specs.Prelude.{Bool, List, None, Option, Some, false, nat_lt, option_map, true, [], ℕ, ◌+◌, ◌-◌, ◌∷◌, ◌≡◌}
+use Rattle.std.specs.Prelude.{Bool, List, None, Some, false, nat_lt, option_map, true, [], ℕ, ◌+◌, ◌-◌, ◌∷◌, ◌≡◌}
 
 -- ---- the world before the daemon's step
 

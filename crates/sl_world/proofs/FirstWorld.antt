@@ -31,7 +31,7 @@ use Rattle.sl_world.specs.FirstEvents.{answer_refusal, at_flight, flight_numbere
 use Rattle.sl_world.specs.Kept.{FlightState, IsSized, KeptState, Shown, Tells, WorldStands, shown, shown_of}
 use Rattle.std.proofs.Common.{ap, refl, subst, sym, ◌∙◌}
 use Rattle.std.specs.Option.{option_map_or}
-use Rattle.std.specs.Prelude.{Bool, List, None, Option, Some, false, is_some, nat_lt, option_map, true, [], ℕ, ◌+◌, ◌==◌, ◌∷◌, ◌≡◌}
+use Rattle.std.specs.Prelude.{Bool, List, None, Option, Some, false, is_some, nat_lt, option_map, true, [], ℕ, ◌+◌, ◌∷◌, ◌≡◌}
 
 -- ---- events that give the daemon nothing
 

@@ -1,6 +1,5 @@
 -- The calls without an answer, among all that a machine ever made.
 use Rattle.sl_plain.proofs.Lists.{head_is, tail_is}
-use Rattle.sl_plain.proofs.Numbers.{number_itself}
 use Rattle.sl_plain.proofs.Options.{mapped_value}
 use Rattle.sl_run.specs.Worlds.{Course, Daemon, Machine, World, flight_of, is_of_running, is_open, machine_at, may_land}
 use Rattle.sl_words.proofs.CaseLaws.{none_some}
@@ -8,7 +7,7 @@ use Rattle.sl_words.specs.Words.{choose}
 use Rattle.sl_world.proofs.Numbered.{changed}
 use Rattle.sl_world.specs.FirstEvents.{flight_numbered}
 use Rattle.sl_world.specs.Kept.{FlightState, Shown, is_waiting, shown, shown_of, waiting}
-use Rattle.std.proofs.Common.{ap, arith, refl, subst, sym, tests, ◌∙◌}
+use Rattle.std.proofs.Common.{ap, arith, refl, sym, tests, ◌∙◌}
 use Rattle.std.specs.Prelude.{Bool, List, None, Option, Some, false, filter, find, if◌then◌else◌, map, option_map, slice_get, suc, true, zero, [], ℕ, ◌&&◌, ◌-◌, ◌==◌, ◌||◌, ◌∷◌, ◌≡◌}
 
 cons_is_nil : {A : Type 0} (x : A) (xs : List A) → x ∷ xs ≡ [] → ⊥

@@ -19,7 +19,7 @@ use Rattle.sl_world.specs.Idle.{IsIdleWorld, idle_refusal, on_only}
 use Rattle.sl_world.specs.Promises.{IdleHeadersBegin}
 use Rattle.std.proofs.Common.{ap, arith, refl, ◌∙◌}
 use Rattle.std.proofs.lemmas.Bool.Decides.{nat_tests}
-use Rattle.std.specs.Prelude.{Bool, List, None, Option, Some, false, find, is_none, nat_lt, not, option_map, true, [], ℕ, ◌&&◌, ◌==◌, ◌∷◌, ◌≡◌}
+use Rattle.std.specs.Prelude.{Bool, List, None, Option, Some, false, find, nat_lt, not, option_map, true, [], ℕ, ◌&&◌, ◌==◌, ◌∷◌, ◌≡◌}
 
 -- ---- why an event may not happen
 

@@ -1,8 +1,7 @@
 -- Calls by their numbers, of which no two are the same.
 use Rattle.sl_plain.proofs.Lists.{contains_cases, contains_first, contains_more, contains_none, find_inside, got_index, there_is}
-use Rattle.sl_plain.proofs.Numbers.{number_itself}
 use Rattle.sl_words.proofs.CaseLaws.{is_false, none_some, some_value}
-use Rattle.sl_world.specs.Changes.{change_flight, flight_sampled, flights_without}
+use Rattle.sl_world.specs.Changes.{change_flight, flights_without}
 use Rattle.sl_world.specs.FirstEvents.{flight_numbered}
 use Rattle.sl_world.specs.Kept.{FlightState, flight_numbers}
 use Rattle.std.proofs.Common.{ap, arith, inl, inr, refl, subst, sym, ◌∙◌}
@@ -12,7 +11,7 @@ use Rattle.std.proofs.lemmas.List.Folds.{find_at}
 use Rattle.std.proofs.lemmas.List.Kept.{AllPairs-cons}
 use Rattle.std.proofs.lemmas.List.Quantifiers.{position-Some}
 use Rattle.std.specs.List.{list_any, position, position_or_len}
-use Rattle.std.specs.Prelude.{All, AllPairs, Bool, Contains, List, None, Option, Some, cond, false, filter, find, if◌then◌else◌, length, map, nat_lt, not, slice_get, slice_index_or, slice_set, suc, true, zero, [], ℕ, ◌&&◌, ◌<◌, ◌==◌, ◌∷◌, ◌≡◌, ◌≢◌, ◌||◌}
+use Rattle.std.specs.Prelude.{All, AllPairs, Bool, Contains, List, None, Some, cond, false, filter, find, if◌then◌else◌, length, map, nat_lt, slice_get, slice_index_or, slice_set, suc, true, zero, [], ℕ, ◌<◌, ◌==◌, ◌∷◌, ◌≡◌, ◌≢◌, ◌||◌}
 
 -- ---- apart
 

@@ -16,7 +16,7 @@ use Rattle.sl_world.proofs.Flights.{Flying, flying, machine_is, no_flight}
 use Rattle.sl_world.specs.FirstEvents.{answer_refusal, at_flight, done_refusal, flight_left, flight_numbered, flight_writes, is_first_event, land_refusal, on_first, refusal_in, sample_refusal}
 use Rattle.sl_world.specs.Kept.{FlightState, KeptState, Shown, Tells, fate_of, is_on_disk, shown, shown_of}
 use Rattle.std.proofs.Common.{ap, refl, ◌∙◌}
-use Rattle.std.specs.Prelude.{Bool, List, None, Option, Some, false, map, nat_lt, not, true, [], ℕ, ◌&&◌, ◌-◌, ◌==◌, ◌∷◌, ◌≡◌, bytes_eq, nat_le, ◌+◌, ◌*◌}
+use Rattle.std.specs.Prelude.{Bool, List, None, Option, Some, false, nat_lt, not, true, [], ℕ, ◌&&◌, ◌-◌, ◌==◌, ◌∷◌, ◌≡◌, bytes_eq, nat_le, ◌+◌, ◌*◌}
 
 -- ---- the tests one after another
 

@@ -7,7 +7,7 @@ use Rattle.sl_world.proofs.Flights.{changed_course}
 use Rattle.sl_world.specs.Kept.{KeptState, Tells, is_waiting}
 use Rattle.std.proofs.Common.{ap, refl, subst, sym, ◌∙◌}
 use Rattle.std.proofs.lemmas.List.{append-nil}
-use Rattle.std.specs.Prelude.{Bool, List, None, false, filter, if◌then◌else◌, map, true, [], ℕ, ◌+◌, ◌==◌, ◌∷◌, ◌≡◌}
+use Rattle.std.specs.Prelude.{Bool, List, None, false, filter, if◌then◌else◌, map, true, [], ℕ, ◌==◌, ◌∷◌, ◌≡◌}
 
 -- The world with this machine alone.
 abbrev pub solo : World → Machine → World

@@ -15,7 +15,7 @@ use Rattle.sl_trace.specs.declared.effects.Grant.{Grant}
 use Rattle.sl_trace.specs.declared.input.Given.{Given}
 use Rattle.sl_world.specs.Daemons.{IsSmallStep}
 use Rattle.std.specs.List.{list_any, list_all, position}
-use Rattle.std.specs.Prelude.{AllPairs, Bool, Contains, List, None, Option, Some, bytes_eq, false, filter, find, is_none, length, map, nat_le, true, [], ℕ, ◌&&◌, ◌*◌, ◌+◌, ◌-◌, ◌∷◌, ◌≡◌, ◌≢◌, ◌≤◌, ◌==◌}
+use Rattle.std.specs.Prelude.{AllPairs, Bool, Contains, List, None, Some, bytes_eq, false, filter, find, is_none, length, map, nat_le, true, [], ℕ, ◌&&◌, ◌*◌, ◌+◌, ◌-◌, ◌∷◌, ◌≡◌, ◌≢◌, ◌≤◌, ◌==◌}
 
 -- What was written at a place.
 pub record WrittenState : Type 0 where

@@ -28,4 +28,6 @@ pub use kept::is_first_event;
 pub use world::{ApplyError, World};
 
 #[cfg(test)]
+mod done_tests;
+#[cfg(test)]
 mod tests;
