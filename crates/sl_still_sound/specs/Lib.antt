@@ -1,0 +1,2 @@
+pub mod StillDaemons
+pub mod Promises

@@ -1,0 +1,11 @@
+pub mod Plain
+pub mod Holders
+pub mod Openings
+pub mod Counted
+pub mod Refusals
+pub mod Commands
+pub mod Following
+pub mod LineSteps
+pub mod AnswerSteps
+pub mod Answered
+pub mod Apart

@@ -1,0 +1,2 @@
+pub mod StillAreas
+pub mod Promises
