@@ -17,7 +17,7 @@ use Rattle.sl_still_schedule.proofs.Headed.{headers_are_still}
 use Rattle.sl_still_schedule.proofs.Daemon.{headers_begin}
 use Rattle.sl_still_schedule.specs.StillHeaders.{IsStillHeader}
 use Rattle.sl_still_schedule.specs.StillLanguage.{still_commands, still_language, still_program}
-use Rattle.sl_still_schedule.specs.StillWorld.{BeginsStill, IsIdleHeader}
+use Rattle.sl_still_schedule.specs.StillWorld.{BeginsStill}
 use Rattle.sl_text.specs.Forms.{as_bytes, lines_of, pieces, without_empty_last}
 use Rattle.sl_top.specs.Runs.{PutsOut, report_text}
 use Rattle.sl_top.specs.Statuses.{status_of}
@@ -28,6 +28,7 @@ use Rattle.sl_words.proofs.CaseLaws.{false_is_true, no_value}
 use Rattle.sl_words.specs.Causes.{Rose}
 use Rattle.sl_words.specs.Words.{some_is}
 use Rattle.sl_world.proofs.IdleLaws.{idle_headers_begin}
+use Rattle.sl_world.specs.Beginning.{IsIdleHeader}
 use Rattle.sl_world.specs.Idle.{IsIdleWorld}
 use Rattle.sl_world.specs.Kept.{KeptState, WorldStands}
 use Rattle.std.proofs.Common.{Bool, List, None, Option, Some, [], ap, append-nil, append_assoc, arith, drop, false, inl, inr, length, refl, subst, sym, take, true, ℕ, ◌+◌, ◌++◌, ◌-◌, ◌<◌, ◌==◌, ◌^◌, ◌∙◌, ◌∷◌, ◌≡◌, ◌≤◌}
@@ -59,7 +60,7 @@ daemon_begins h still some = begins_by h (headers_begin h still) some
 
 idle_by : (h : Header) → BeginsStill h ⊎ IsIdleHeader h → is_some (first_session h) ≡ false → IsIdleWorld (world_with still_program h)
 idle_by h (inl b) none = absurd (none_said (first_session h) b.first.session b.first.runs none)
-idle_by h (inr idle) none = idle_headers_begin still_commands h (record { header = idle.header; machines = idle.machines; nobody = idle.nobody })
+idle_by h (inr idle) none = idle_headers_begin still_commands h idle
 
 -- Without one nothing runs.
 pub nothing_begins : (h : Header) → IsStillHeader h → is_some (first_session h) ≡ false → IsIdleWorld (world_with still_program h)
