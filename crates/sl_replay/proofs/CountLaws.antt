@@ -2,20 +2,19 @@
 use Rattle.sl_replay.proofs.Holdings.{kept_holds, on_machine_one}
 use Rattle.sl_replay.specs.Counting.{counts_with, excludes, leaves_conflict, on_first}
 use Rattle.sl_report.specs.Reports.{Counts, conflicts_after, conflicts_of, count_event, event_lines, held_by_others}
-use Rattle.sl_run.specs.Conflicts.{Holding, conflicts, has_conflict, world_holdings}
+use Rattle.sl_run.specs.Conflicts.{Holding, conflicts, has_conflict}
 use Rattle.sl_run.specs.Events.{happens, machine_of, refusal_of}
-use Rattle.sl_run.specs.Worlds.{Daemon, Machine, World, machine_at}
+use Rattle.sl_run.specs.Worlds.{Machine, World, machine_at}
 use Rattle.sl_run.specs.declared.event.Event.TheVariants.{AnswerCall, Crash, Do, DropWrite, ExitOf, GiveCommand, Land, Pass, Reset, Restart, Sample, SpawnedOf, StartDaemon, Tear, Test, WakeUp}
 use Rattle.sl_run.specs.declared.event.Event.{Event}
-use Rattle.sl_run.specs.declared.event.Refusal.{Refusal}
 use Rattle.sl_trace.specs.EffectTexts.{effect_lines, is_ok_reply}
 use Rattle.sl_trace.specs.Traces.{Setting, Trace, held_after, is_ended_by}
 use Rattle.sl_trace.specs.declared.effects.Effects.{Effects}
 use Rattle.sl_trace.specs.declared.effects.Grant.{Grant}
 use Rattle.sl_words.proofs.CaseLaws.{false_is_true}
 use Rattle.sl_world.specs.FirstEvents.{is_first_event}
-use Rattle.sl_world.specs.Kept.{KeptState, Tells, WorldStands}
-use Rattle.std.proofs.Common.{Bool, List, None, Option, Some, ap, append-nil, arith, false, length, map, nat_lt, not, refl, subst, sym, true, [], ℕ, ◌&&◌, ◌||◌, ◌+◌, ◌++◌, ◌==◌, ◌∙◌, ◌∷◌, ◌≡◌, ◌≤◌}
+use Rattle.sl_world.specs.Kept.{KeptState, WorldStands}
+use Rattle.std.proofs.Common.{Bool, List, None, Some, ap, append-nil, arith, length, map, nat_lt, not, refl, subst, sym, true, [], ℕ, ◌&&◌, ◌||◌, ◌+◌, ◌++◌, ◌==◌, ◌∙◌, ◌∷◌, ◌≡◌, ◌≤◌}
 use Rattle.std.specs.List.{enumerate_from, list_any}
 use Rattle.std.specs.Option.{IfSome, option_map_or}
 use Rattle.std.specs.Prelude.{count_by, filter, flat_map, if◌then◌else◌, slice_get}

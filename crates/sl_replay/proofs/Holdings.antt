@@ -1,5 +1,5 @@
 -- What a world's one machine holds after an event that is run here: what its step leaves of what it held.
-use Rattle.sl_run.specs.Events.{add_landing, after_effects, after_step, change_call, close_answered, complete, event_tests, fated, first_change, flight_at, happens, input_of, is_shaped, land_whole, machine_of, next_step, refusal_of, sampled_more, sectors_left, take_step, write_bytes}
+use Rattle.sl_run.specs.Events.{add_landing, after_effects, after_step, change_call, close_answered, complete, event_tests, fated, first_change, flight_at, happens, input_of, land_whole, machine_of, next_step, on_machine, refusal_of, sampled_more, sectors_left, take_step, write_bytes}
 use Rattle.sl_run.specs.Worlds.{Course, Landed, Machine, Stamp, World, change_machine, first_that, is_in_flight, is_write_course, machine_at, stamp_now}
 use Rattle.sl_run.specs.declared.event.Event.TheVariants.{AnswerCall, Crash, Do, DropWrite, ExitOf, GiveCommand, Land, Pass, Reset, Restart, Sample, SpawnedOf, StartDaemon, Tear, Test, WakeUp}
 use Rattle.sl_run.specs.declared.event.Event.{Event}
@@ -10,10 +10,14 @@ use Rattle.sl_trace.specs.declared.effects.Effects.{Effects}
 use Rattle.sl_trace.specs.declared.effects.Grant.{Grant}
 use Rattle.sl_trace.specs.declared.input.Input.TheVariants.{Answer as Told, Exit, Line, Spawned, Wake}
 use Rattle.sl_trace.specs.declared.input.Input.{Input}
+use Rattle.sl_words.specs.Words.{choose}
 use Rattle.sl_words.proofs.CaseLaws.{false_is_true, none_some, some_value}
+use Rattle.sl_world.proofs.Flights.{machine_is}
+use Rattle.sl_world.proofs.Passing.{some_none}
 use Rattle.sl_world.specs.FirstEvents.{is_first_event}
 use Rattle.sl_world.specs.Kept.{KeptState, WorldStands}
-use Rattle.std.proofs.Common.{ap, arith, refl, sym, ◌∙◌}
+use Rattle.std.proofs.Common.{ap, refl, sym, ◌∙◌}
+use Rattle.std.proofs.lemmas.Bool.{eqb-true}
 use Rattle.std.specs.Option.{option_map_or}
 use Rattle.std.specs.Prelude.{Bool, List, None, Option, Some, false, if◌then◌else◌, map, nat_lt, not, slice_get, slice_set, suc, true, zero, [], ℕ, ◌-◌, ◌==◌, ◌∷◌, ◌≡◌}
 
@@ -157,39 +161,30 @@ holds_after w a e fx alone one first =
 
 -- ---- an event that may happen
 
-some_is_none : (r : Refusal) → Some r ≡ None → ⊥
-some_is_none r h = absurd cc
-
-one_place : (i : ℕ) (a b : Machine) → slice_get (a ∷ []) i ≡ Some b → i ≡ 0
-one_place zero a b h = refl
-one_place (suc i) a b h = absurd (none_some b h)
-
-first_by : (below : Bool) (m : ℕ) (a b : Machine) → (m == 0) ≡ below → (if below then None else slice_get (a ∷ []) (m - 1)) ≡ Some b → m ≡ 1
-first_by true m a b is h = absurd (none_some b h)
-first_by false m a b is h =
-    let first : m - 1 ≡ 0 = one_place (m - 1) a b h in
-    let above : m ≡ 0 → ⊥ = λ e. false_is_true (sym is ∙ ap (λ n. n == 0) e) in omega (arith, first, above)
-
-first_of_one : (m : ℕ) (a b : Machine) → (if m == 0 then None else slice_get (a ∷ []) (m - 1)) ≡ Some b → m ≡ 1
-first_of_one m a b h = first_by (m == 0) m a b refl h
-
 -- A test on a machine passes only on machine 1.
-on_one : (m : ℕ) (w : World) (a : Machine) (shaped : Bool) (tests : Machine → List (Bool × Refusal)) (o : Option Machine) → w.machines ≡ a ∷ [] → machine_at w m ≡ o
-    → first_that ((not shaped, Syntax) ∷ elim o as (λ x. List (Bool × Refusal)) [ None ↦ (true, MissingMachine) ∷ [] | Some b ↦ tests b ]) ≡ None → m ≡ 1
-on_one m w a shaped tests (Some b) alone is passes = first_of_one m a b (ap (λ ms. if m == 0 then None else slice_get ms (m - 1)) (sym alone) ∙ is)
-on_one m w a true tests None alone is passes = absurd (some_is_none MissingMachine passes)
-on_one m w a false tests None alone is passes = absurd (some_is_none Syntax passes)
+on_one : (one : Bool) (a : Machine) (shaped : Bool) (tests : Machine → List (Bool × Refusal))
+    → first_that ((not shaped, Syntax) ∷ elim (choose one a) as (λ x. List (Bool × Refusal)) [ None ↦ (true, MissingMachine) ∷ [] | Some b ↦ tests b ]) ≡ None → one ≡ true
+on_one true a shaped tests passes = refl
+on_one false a true tests passes = absurd (some_none MissingMachine passes)
+on_one false a false tests passes = absurd (some_none Syntax passes)
+
+tested_on_one : (m : ℕ) (w : World) (a : Machine) (shaped : Bool) (tests : Machine → List (Bool × Refusal)) → w.machines ≡ a ∷ []
+    → first_that ((not shaped, Syntax) ∷ on_machine w m tests) ≡ None → m ≡ 1
+tested_on_one m w a shaped tests alone passes =
+    eqb-true m 1 (on_one (m == 1) a shaped tests
+    (ap (λ o. first_that ((not shaped, Syntax) ∷ elim o as (λ x. List (Bool × Refusal)) [ None ↦ (true, MissingMachine) ∷ [] | Some b ↦ tests b ])) (sym (machine_is w a m alone))
+    ∙ passes))
 
 -- It is on machine 1.
 pub on_machine_one : (w : World) (a : Machine) (e : Event) → w.machines ≡ a ∷ [] → is_first_event e ≡ true → refusal_of w e ≡ None → machine_of e ≡ 1
 unfolding event_tests
 on_machine_one w a e alone first passes =
     each_first (λ e. refusal_of w e ≡ None → machine_of e ≡ 1)
-    (λ m text may. on_one m w a true _ (machine_at w m) alone refl may)
-    (λ m c n may. on_one m w a (nat_lt 0 n) _ (machine_at w m) alone refl may)
-    (λ m c may. on_one m w a true _ (machine_at w m) alone refl may)
-    (λ m c ok may. on_one m w a true _ (machine_at w m) alone refl may)
-    (λ m c may. on_one m w a true _ (machine_at w m) alone refl may) e first passes
+    (λ m text may. tested_on_one m w a true _ alone may)
+    (λ m c n may. tested_on_one m w a (nat_lt 0 n) _ alone may)
+    (λ m c may. tested_on_one m w a true _ alone may)
+    (λ m c ok may. tested_on_one m w a true _ alone may)
+    (λ m c may. tested_on_one m w a true _ alone may) e first passes
 
 same_machine : (a b : Machine) (ms : List Machine) → ms ≡ a ∷ [] → ms ≡ b ∷ [] → a ≡ b
 same_machine a b ms h k = cc

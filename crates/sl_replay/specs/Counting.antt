@@ -5,7 +5,7 @@ use Rattle.sl_trace.specs.EffectTexts.{is_ok_reply}
 use Rattle.sl_trace.specs.declared.effects.Effects.{Effects}
 use Rattle.sl_trace.specs.declared.effects.Grant.{Grant}
 use Rattle.std.specs.List.{list_any}
-use Rattle.std.specs.Prelude.{Bool, List, count_by, if◌then◌else◌, length, nat_lt, not, ℕ, ◌&&◌, ◌+◌, ◌≤◌}
+use Rattle.std.specs.Prelude.{Bool, List, count_by, if◌then◌else◌, length, nat_lt, not, ◌&&◌, ◌+◌, ◌≤◌}
 
 -- What the one machine holds.
 abbrev pub on_first : Grant → Holding

@@ -4,8 +4,8 @@ use Rattle.sl_replay.specs.declared.replay.Ended.{Ended}
 use Rattle.sl_report.specs.Languages.{is_skipped}
 use Rattle.sl_report.specs.ReadingLines.{event_in}
 use Rattle.sl_report.specs.Replay.{effects_of}
-use Rattle.sl_report.specs.Reports.{Counts, count_event, event_lines, no_counts}
-use Rattle.sl_report.specs.Schedules.{EventLine, HeaderReading, Header_read, Header_refused, NumberedLine, event_lines_of, event_or_syntax, line_refusal, numbered_lines, read_header, replay_from}
+use Rattle.sl_report.specs.Reports.{Counts, count_event, event_lines}
+use Rattle.sl_report.specs.Schedules.{EventLine, Header_read, Header_refused, NumberedLine, event_lines_of, event_or_syntax, line_refusal, numbered_lines, read_header, replay_from}
 use Rattle.sl_run.specs.Events.{happens, may_happen, refusal_of}
 use Rattle.sl_run.specs.Worlds.{World, world_with}
 use Rattle.sl_run.specs.declared.event.Event.{Event}

@@ -1,3 +1,4 @@
+pub mod SessionLaws
 pub mod TopLaws
 pub mod RunLaws
 pub mod DirectLaws

@@ -13,11 +13,11 @@ use Rattle.sl_run.specs.declared.event.Refusal.{Refusal}
 use Rattle.sl_run.specs.declared.header.Header.{Header}
 use Rattle.sl_run.specs.declared.header.SessionLine.{SessionLine}
 use Rattle.sl_schedule.specs.Lines.{header_reading}
-use Rattle.sl_still_schedule.proofs.Headers.{headers_are_still}
-use Rattle.sl_still_schedule.proofs.Beginning.{still_headers_begin}
+use Rattle.sl_still_schedule.proofs.Headed.{headers_are_still}
+use Rattle.sl_still_schedule.proofs.Daemon.{headers_begin}
 use Rattle.sl_still_schedule.specs.StillHeaders.{IsStillHeader}
 use Rattle.sl_still_schedule.specs.StillLanguage.{still_commands, still_language, still_program}
-use Rattle.sl_still_schedule.specs.StillWorld.{BeginsStill, IsIdleHeader}
+use Rattle.sl_still_schedule.specs.StillWorld.{BeginsStill}
 use Rattle.sl_text.specs.Forms.{as_bytes, lines_of, pieces, without_empty_last}
 use Rattle.sl_top.specs.Runs.{PutsOut, report_text}
 use Rattle.sl_top.specs.Statuses.{status_of}
@@ -27,7 +27,8 @@ use Rattle.sl_trace.specs.Traces.{Setting, Trace}
 use Rattle.sl_words.proofs.CaseLaws.{false_is_true, no_value}
 use Rattle.sl_words.specs.Causes.{Rose}
 use Rattle.sl_words.specs.Words.{some_is}
-use Rattle.sl_world.proofs.Idle.{idle_headers_begin}
+use Rattle.sl_world.proofs.IdleLaws.{idle_headers_begin}
+use Rattle.sl_world.specs.Beginning.{IsIdleHeader}
 use Rattle.sl_world.specs.Idle.{IsIdleWorld}
 use Rattle.sl_world.specs.Kept.{KeptState, WorldStands}
 use Rattle.std.proofs.Common.{Bool, List, None, Option, Some, [], ap, append-nil, append_assoc, arith, drop, false, inl, inr, length, refl, subst, sym, take, true, ℕ, ◌+◌, ◌++◌, ◌-◌, ◌<◌, ◌==◌, ◌^◌, ◌∙◌, ◌∷◌, ◌≡◌, ◌≤◌}
@@ -55,15 +56,15 @@ begins_by h (inr idle) some = absurd (some_said (first_session h) idle.nobody so
 
 -- With a session a daemon begins.
 pub daemon_begins : (h : Header) → IsStillHeader h → is_some (first_session h) ≡ true → BeginsStill h
-daemon_begins h still some = begins_by h (still_headers_begin h still) some
+daemon_begins h still some = begins_by h (headers_begin h still) some
 
 idle_by : (h : Header) → BeginsStill h ⊎ IsIdleHeader h → is_some (first_session h) ≡ false → IsIdleWorld (world_with still_program h)
 idle_by h (inl b) none = absurd (none_said (first_session h) b.first.session b.first.runs none)
-idle_by h (inr idle) none = idle_headers_begin still_commands h (record { header = idle.header; machines = idle.machines; nobody = idle.nobody })
+idle_by h (inr idle) none = idle_headers_begin still_commands h idle
 
 -- Without one nothing runs.
 pub nothing_begins : (h : Header) → IsStillHeader h → is_some (first_session h) ≡ false → IsIdleWorld (world_with still_program h)
-nothing_begins h still none = idle_by h (still_headers_begin h still) none
+nothing_begins h still none = idle_by h (headers_begin h still) none
 
 -- ---- how many lines are left
 
@@ -178,10 +179,15 @@ pub on_err : {T E : Type 0} (r : Result T E) (P : Type 0) → P → OnErr r P
 on_err (Ok t) P p = tt
 on_err (Err e) P p = p
 
+-- What holds after an `Err` may be told otherwise.
+pub err_then : {T E : Type 0} (r : Result T E) (P Q : Type 0) → OnErr r P → (P → Q) → OnErr r Q
+err_then (Ok t) P Q h f = tt
+err_then (Err e) P Q h f = f h
+
 -- Whether it was written whole or not, what is written is a front.
-pub front_of : {E : Type 0} (r : Result Ended E) (out text : List ℕ) (end : Ended) → IfOk r (λ ended. (out ≡ text) × (ended ≡ end)) → OnErr r (IsFrontOf out text)
+pub front_of : {E : Type 0} (r : Result Ended E) (out text : List ℕ) (end : Ended) → IfOk r (λ ended. (ended ≡ end) × (out ≡ text)) → OnErr r (IsFrontOf out text)
     → IsFrontOf out text
-front_of (Ok e) out text end whole front = same_front out text whole.0
+front_of (Ok e) out text end whole front = same_front out text whole.1
 front_of (Err e) out text end whole front = front
 
 -- ---- what is put out

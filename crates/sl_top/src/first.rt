@@ -8,8 +8,8 @@ ghost use Rattle.sl_still_host.specs.Hosts.{HostStands};
 ghost use Rattle.sl_still_schedule.specs.StillLanguage.{still_program};
 ghost use Rattle.sl_still_schedule.specs.StillWorld.{BeginsStill};
 ghost use Rattle.sl_world.specs.Kept.{WorldStands};
-ghost use Rattle.std.specs.Option.{option_copied};
-ghost use Rattle.std.specs.Prelude.{bytes_eq, filter_map, find, is_some, IfOk, ◌==◌, ◌≡◌};
+ghost use Rattle.std.specs.Option.{option_copied, option_to_list};
+ghost use Rattle.std.specs.Prelude.{bytes_eq, filter_map, find, is_some, IfOk, OnOk, ◌++◌, ◌==◌, ◌≡◌};
 
 use sl_replay::Replay;
 use sl_run::{FirstReading, Header, LockspaceLine, SessionLine};
@@ -68,29 +68,50 @@ fn given_of(header: &Header, session: &SessionLine) -> Option<Given>
     })
 }
 
+/// Puts the session behind these, if it is the machine's.
+fn push_given(
+    given: &mut Vec<Given>,
+    header: &Header,
+    session: &SessionLine,
+) -> Result<(), AllocError>
+    ensures { OnOk result (given.new.items ≡ given.old.items ++ option_to_list (given_of header.now 1 session.now)) }
+{
+    if let Some(session) = given_of(header, session) {
+        given.push(session)?;
+    }
+    Ok(())
+}
+
 /// The sessions that the header gives the daemon.
 fn sessions_of(alloc: Global, header: &Header) -> Result<Seq<Given>, AllocError>
     ensures { IfOk result (λ given. given ≡ filter_map (given_of header.now 1) header.now.sessions) }
 {
     let mut given = Vec::new(alloc);
     for session in header.sessions.as_slice() {
-        if let Some(session) = given_of(header, session) {
-            given.push(session)?;
-        }
+        push_given(&mut given, header, session)?;
     }
     Ok(Seq::new(given))
 }
 
-/// Whether a daemon runs on the machine: it has a session.
-pub(crate) fn has_daemon(header: &Header) -> bool
-    ensures { result ≡ is_some (find (λ s. s.machine == 1) header.now.sessions) }
+/// The line of the machine's first session.
+fn first_session(header: &Header) -> Option<&SessionLine>
+    ensures { option_copied result ≡ find (λ s. s.machine == 1) header.now.sessions }
 {
     header
         .sessions
         .as_slice()
         .iter()
         .find(|session| session.machine == 1)
-        .is_some()
+}
+
+/// Whether a daemon runs on the machine: it has a session.
+pub(crate) fn has_daemon(header: &Header) -> bool
+    ensures { result ≡ is_some (find (λ s. s.machine == 1) header.now.sessions) }
+{
+    match first_session(header) {
+        Some(_session) => true,
+        None => false,
+    }
 }
 
 /// The replay of a schedule with this header, before its first event. An `Err` is want of memory.

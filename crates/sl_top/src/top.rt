@@ -64,7 +64,7 @@ fn push_run(
 /// Writes the report of a source. After an `Err`, which is want of memory, a front of it was written.
 fn push_report(alloc: Global, source: &[u8], out: &mut Vec<u8>) -> Result<Ended, AllocError>
     requires { out.old.items ≡ [] }
-    ensures whole { IfOk result (λ ended. (out.new.items ≡ report_text source.now) × (ended ≡ ending_of source.now)) }
+    ensures whole { IfOk result (λ ended. (ended ≡ ending_of source.now) × (out.new.items ≡ report_text source.now)) }
     ensures front { OnErr result (IsFrontOf out.new.items (report_text source.now)) }
 {
     let _bytes = bytes_of(source);

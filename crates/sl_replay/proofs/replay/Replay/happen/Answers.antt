@@ -1,7 +1,7 @@
 use Rattle.sl_replay.proofs.CountLaws.{counted_are, first_lines}
 use Rattle.sl_replay.proofs.ReportLaws.{none_is}
 use Rattle.sl_replay.proofs.replay.Replay.happen.Goals as goal
-use Rattle.sl_run.specs.Events.{happens, machine_of}
+use Rattle.sl_run.specs.Events.{happens}
 use Rattle.sl_text.specs.Forms.{as_bytes}
 use Rattle.sl_trace.specs.EffectTexts.{effect_lines}
 use Rattle.std.proofs.Common.{ap, refl, sym, [], ◌++◌, ◌∙◌, ◌∷◌}
