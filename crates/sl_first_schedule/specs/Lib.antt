@@ -1,5 +1,0 @@
-pub mod FirstLanguage
-pub mod FirstOrder
-pub mod FirstHeaders
-pub mod FirstWorld
-pub mod Promises

@@ -1,4 +1,0 @@
-//! The schedules that the program reads so far, and what their headers are.
-#![tactic(auto)]
-
-pub mod laws;

@@ -1,4 +1,0 @@
-pub mod Steps
-pub mod Daemons
-pub mod Readings
-pub mod Holdings

@@ -1,5 +1,0 @@
-use Rattle.sl_first_sound.proofs.Readings.{first_schedules_are_reported}
-use Rattle.sl_first_sound.proofs.laws.first_schedules_are_reported.Goals as goal
-
-pub returns : goal.returns
-returns c = first_schedules_are_reported

@@ -1,2 +1,0 @@
-pub mod FirstDaemons
-pub mod Promises

@@ -1,4 +1,0 @@
-//! A daemon of the first path is lawful.
-#![tactic(auto)]
-
-pub mod laws;
