@@ -93,7 +93,7 @@ fn no_devices(alloc: Global) -> MemDevices {
 pub(crate) fn replayed(alloc: Global, source: Vec<u8>) -> Result<(Status, Vec<u8>), AllocError> {
     let words = words(alloc, &["replay"])?;
     let mut source = MemSource::new(source, Vec::new(alloc), Vec::new(alloc));
-    let mut sink = MemSink::new(alloc, 4096, Vec::new(alloc), Vec::new(alloc))?;
+    let mut sink = MemSink::new(alloc, 16_384, Vec::new(alloc), Vec::new(alloc))?;
     let (status, _devices) = run(alloc, &words, &mut source, &mut sink, no_devices(alloc));
     Ok((status, sink.into_taken()))
 }
