@@ -1,12 +1,12 @@
 -- A sample that may be made has room, and so has what a landing writes.
+use Rattle.sl_plain.proofs.Lists.{any_found}
 use Rattle.sl_run.specs.Headers.{IsHeader}
 use Rattle.sl_run.specs.Events.{sectors_of}
 use Rattle.sl_run.specs.Worlds.{mebibyte}
 use Rattle.sl_run.specs.declared.header.Disk.{Disk}
-use Rattle.sl_words.proofs.CaseLaws.{false_is_true}
 use Rattle.sl_words.proofs.WordLaws.{and_true}
 use Rattle.sl_words.specs.Words.{choose}
-use Rattle.sl_world.proofs.InitialLaws.{later, first_place, has_sizes}
+use Rattle.sl_world.proofs.InitialLaws.{has_sizes}
 use Rattle.sl_world.proofs.Numbered.{none_changes, none_placed, placed_found, set_is_change}
 use Rattle.sl_world.proofs.Passing.{done_passes, land_passes, sample_room_passes}
 use Rattle.sl_world.specs.Changes.{HasRoom, after_land, change_flight, disk_with, flight_landed, flight_sampled, kept_landed, kept_sampled, landing_of, written_by}
@@ -14,22 +14,8 @@ use Rattle.sl_world.specs.FirstEvents.{done_refusal, flight_left, flight_numbere
 use Rattle.sl_world.specs.Kept.{DiskState, FlightState, KeptState, WrittenState, is_on_disk, kept_sector}
 use Rattle.std.proofs.Common.{ap, arith, refl, subst, sym, ◌∙◌}
 use Rattle.std.proofs.lemmas.Bool.Decides.{nat_tests}
-use Rattle.std.specs.List.{list_any, position}
-use Rattle.std.specs.Prelude.{Bool, Contains, List, None, Option, bytes_eq, false, length, nat_le, nat_lt, not, option_and_then, slice_index_or, slice_set, true, [], ℕ, ◌&&◌, ◌*◌, ◌+◌, ◌-◌, ◌<◌, ◌==◌, ◌^◌, ◌||◌, ◌∷◌, ◌≡◌, ◌≤◌, Some}
-
--- One of them passes.
-pub record Passes {X : Type 0} (p : X → Bool) (xs : List X) : Type 0 where
-  pub element : X
-  pub there : Contains xs element
-  pub passes : p element ≡ true
-
-passes_at : {X : Type 0} (p : X → Bool) (x : X) (xs : List X) (b : Bool) → p x ≡ b → (b || list_any p xs) ≡ true → (list_any p xs ≡ true → Passes p xs) → Passes p (x ∷ xs)
-passes_at p x xs true is h rest = record { element = x; there = (0, first_place (length xs), refl); passes = is }
-passes_at p x xs false is h rest = let r = rest h in record { element = r.element; there = later x r.element xs r.there; passes = r.passes }
-
-passes_any : {X : Type 0} (p : X → Bool) (xs : List X) → list_any p xs ≡ true → Passes p xs
-passes_any p [] h = absurd (false_is_true h)
-passes_any p (x ∷ xs) h = passes_at p x xs (p x) refl h (passes_any p xs)
+use Rattle.std.specs.List.{position}
+use Rattle.std.specs.Prelude.{None, Option, bytes_eq, false, nat_le, nat_lt, not, option_and_then, slice_index_or, slice_set, true, ℕ, ◌&&◌, ◌*◌, ◌+◌, ◌-◌, ◌<◌, ◌==◌, ◌^◌, ◌≡◌, ◌≤◌, Some}
 
 le_is : (a b : ℕ) → nat_le a b ≡ true → a ≤ b
 le_is a b h = grind (arith, nat_tests)
@@ -51,12 +37,12 @@ more_within has all n some few = grind (arith, nat_tests)
 placed_room : (d : DiskState) (f : FlightState) (n : ℕ) → IsHeader d.header → is_on_disk d.header f.call ≡ true → f.sectors + n ≤ sectors_of f.call.op
     → f.call.offset + (f.sectors + n) * kept_sector d < 2 ^ 64
 placed_room d f n h placed within =
-    let disk = passes_any (λ (k : Disk). bytes_eq k.path f.call.path
+    let disk = any_found (λ (k : Disk). bytes_eq k.path f.call.path
     && nat_le (f.call.offset + (sectors_of f.call.op - 1) * d.header.geometry.sector + d.header.geometry.sector) (k.mebibytes * mebibyte)) d.header.disks placed in
-    let fits = and_true (bytes_eq disk.element.path f.call.path)
-    (nat_le (f.call.offset + (sectors_of f.call.op - 1) * d.header.geometry.sector + d.header.geometry.sector) (disk.element.mebibytes * mebibyte)) disk.passes in
-    few_bytes f.call.offset (sectors_of f.call.op) f.sectors n d.header.geometry.sector disk.element.mebibytes (has_sizes d.header.geometry h.geometry).sector
-    (le_is _ _ fits.1) (h.disks disk.element disk.there).2 within
+    let fits = and_true (bytes_eq disk.0.path f.call.path)
+    (nat_le (f.call.offset + (sectors_of f.call.op - 1) * d.header.geometry.sector + d.header.geometry.sector) (disk.0.mebibytes * mebibyte)) disk.2 in
+    few_bytes f.call.offset (sectors_of f.call.op) f.sectors n d.header.geometry.sector disk.0.mebibytes (has_sizes d.header.geometry h.geometry).sector
+    (le_is _ _ fits.1) (h.disks disk.0 disk.1).2 within
 
 -- A sample that may be made has room.
 pub sample_has_room : (d : DiskState) (n : ℕ) (f : FlightState) → IsHeader d.header → nat_lt 0 n ≡ true → sectors_of f.call.op < 2 ^ 32 → sample_refusal d n f ≡ None

@@ -73,24 +73,24 @@ comes_taking stands k host w e i s first loud h t then new fx x is =
     }
 
 -- The input of an answer is what the world gives its daemon.
-pub answer_ready : {D : Type 0} (stands : D → Setting → Trace → Type 0) (k : KeptState) (host : D) (w : World) (m c : ℕ) (i : Input) (s : WorldStands stands k host w)
-    → refusal_in k (AnswerCall m c true) ≡ None → Some i ≡ option_map told_ok (flight_numbered k.flights c)
+pub answer_ready : {D : Type 0} (stands : D → Setting → Trace → Type 0) (k : KeptState) (host : D) (w : World) (m c : ℕ) (o : Option Input) (i : Input) (s : WorldStands stands k host w)
+    → refusal_in k (AnswerCall m c true) ≡ None → o ≡ Some i → o ≡ option_map told_ok (flight_numbered k.flights c)
     → Taking stands k w (AnswerCall m c true) i s.daemon.setting s.daemon.trace
-answer_ready stands k host w m c i s h is =
+answer_ready stands k host w m c o i s h at is =
     let one = is_on_first m (at_flight (flight_numbered k.flights c) answer_refusal) h in
     let x = is_found k.flights c answer_refusal one.1 in
-    let same : i ≡ told_ok x.flight = some_value i (told_ok x.flight) (is ∙ ap (option_map told_ok) x.is) in
+    let same : i ≡ told_ok x.flight = some_value i (told_ok x.flight) (sym at ∙ is ∙ ap (option_map told_ok) x.is) in
     let P : Input → Type 0 = λ j. Taking stands k w (AnswerCall m c true) j s.daemon.setting s.daemon.trace in
     subst P (sym same) (answer_is_taken stands k host w m c x.flight s x.is h)
 
 -- .. and so is that of a call done whole.
-pub done_ready : {D : Type 0} (stands : D → Setting → Trace → Type 0) (k : KeptState) (host : D) (w : World) (m c : ℕ) (i : Input) (s : WorldStands stands k host w)
-    → IsSized k.disk → refusal_in k (Do m c) ≡ None → Some i ≡ option_map (told_done k.disk) (flight_numbered k.flights c)
+pub done_ready : {D : Type 0} (stands : D → Setting → Trace → Type 0) (k : KeptState) (host : D) (w : World) (m c : ℕ) (o : Option Input) (i : Input) (s : WorldStands stands k host w)
+    → IsSized k.disk → refusal_in k (Do m c) ≡ None → o ≡ Some i → o ≡ option_map (told_done k.disk) (flight_numbered k.flights c)
     → Taking stands k w (Do m c) i s.daemon.setting s.daemon.trace
-done_ready stands k host w m c i s sized h is =
+done_ready stands k host w m c o i s sized h at is =
     let one = is_on_first m (at_flight (flight_numbered k.flights c) (done_refusal k.disk)) h in
     let x = is_found k.flights c (done_refusal k.disk) one.1 in
-    let same : i ≡ told_done k.disk x.flight = some_value i (told_done k.disk x.flight) (is ∙ ap (option_map (told_done k.disk)) x.is) in
+    let same : i ≡ told_done k.disk x.flight = some_value i (told_done k.disk x.flight) (sym at ∙ is ∙ ap (option_map (told_done k.disk)) x.is) in
     let P : Input → Type 0 = λ j. Taking stands k w (Do m c) j s.daemon.setting s.daemon.trace in
     subst P (sym same) (done_is_taken stands k host w m c x.flight s sized x.is h)
 

@@ -6,7 +6,7 @@ use Rattle.sl_run.specs.declared.event.Refusal.TheVariants.{MissingCall, Missing
 use Rattle.sl_run.specs.declared.event.Refusal.{Refusal}
 use Rattle.std.specs.Prelude.{None, false, true, [], ℕ, ◌==◌, ◌∷◌, ◌≡◌}
 
--- One machine, up, that no daemon ever ran on.
+-- One machine, up, on which no daemon runs and no call ever was.
 pub record IsIdleWorld (w : World) : Type 0 where
   pub machine : Machine
   pub alone : w.machines ≡ machine ∷ []
