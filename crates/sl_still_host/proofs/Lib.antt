@@ -7,3 +7,4 @@ pub mod Decided
 pub mod Stepping
 pub mod LineLaws
 pub mod AnswerLaws
+pub mod HostLaws

@@ -5,9 +5,12 @@ ghost use Rattle.sl_area.specs.Layouts.{layout_of};
 ghost use Rattle.sl_first.specs.FirstPath.{first_effects, one_reply};
 ghost use Rattle.sl_still_host.specs.Deciding.{acquire_place, release_place};
 ghost use Rattle.sl_still_host.specs.Hosts.{HostStands, IsSameSite, Steps};
+ghost use Rattle.sl_lease_host.specs.LeaseHosts.{KeepsLease};
 ghost use Rattle.sl_lease_host.specs.Sites.{IsSite};
+ghost use Rattle.sl_still.specs.StillLeases.{LeaseState};
 ghost use Rattle.sl_still_host.specs.Firsts.{first_state, site_at};
 ghost use Rattle.sl_still_host.specs.Refusals.{reply_of};
+ghost use Rattle.sl_still_host.specs.Tables.{IsFresh};
 ghost use Rattle.sl_trace.specs.declared.input.Given.{Given as Session};
 ghost use Rattle.sl_trace.specs.Commands.{IsResourceArg};
 ghost use Rattle.sl_trace.specs.Traces.{Setting, Trace};
@@ -73,6 +76,7 @@ impl Host {
         requires there { place.session < length self.now.given }
         requires fits { (g : Session) → slice_get self.now.given place.session ≡ Some g → IsSite (site_at self.now.sizes place.session g resource.now) }
         ensures state { (g : Session) → slice_get self.now.given place.session ≡ Some g → result ≡ first_state self.now.sizes place.session g resource.now }
+        ensures keeps { (st : Setting) (y : LeaseState) → st.layout ≡ layout_of self.now.sizes → IsFresh y → KeepsLease result st y }
     {
         let session = &self.given.as_slice()[place.session];
         LeaseHost::new(
