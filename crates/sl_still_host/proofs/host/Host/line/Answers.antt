@@ -23,7 +23,4 @@ returns-in-Ok-Release-clause-steps c =
     (ap as_command c.in-Ok-Release.is ∙ ap (λ x. as_command (Ok x)) c.in-Ok-Release.field-0-is) c.releases.ensures.steps
 
 pub returns-in-Err-clause-steps : goal.returns-in-Err-clause-steps
-returns-in-Err-clause-steps c =
-    unread_ok c.args.self.now c.refuses.new.self c.args.text.now c.read_lease_command.result c.in-Err.column c.refuses.result
-    (subst (λ (v : HostState). as_command c.read_lease_command.result ≡ answered (command_in (lease_forms (layout_of v.sizes)) c.args.text.now)) c.self.view_is c.read_lease_command.ensures.exact)
-    (c.in-Err.is ∙ ap (λ (n : ℕ). let b : BadCommand = record { column = n } in Err b) c.in-Err.column-is) c.refuses.ensures.effects c.refuses.ensures.state
+returns-in-Err-clause-steps c = let e = c.refuses.ensures.effects in ?
