@@ -9,3 +9,4 @@ pub mod LineLaws
 pub mod AnswerLaws
 pub mod HostLaws
 pub mod StepLaws
+pub mod DaemonLaws

@@ -4,10 +4,9 @@ use Rattle.sl_lease_command.specs.LeaseWords.{as_command, lease_forms}
 use Rattle.sl_still_host.proofs.LineLaws.{line_ok, unread_ok}
 use Rattle.sl_still_host.specs.Hosts.{HostState}
 use Rattle.sl_trace.specs.Commands.{command_in}
-use Rattle.sl_trace.specs.declared.command.BadCommand.{BadCommand}
 use Rattle.sl_trace.specs.declared.command.Command.TheVariants.{Acquire, Release}
-use Rattle.std.proofs.Common.{ap, false, subst, ℕ, ◌≡◌, ◌∙◌}
-use Rattle.std.specs.Prelude.{Err, Ok}
+use Rattle.std.proofs.Common.{ap, false, subst, ◌≡◌, ◌∙◌}
+use Rattle.std.specs.Prelude.{Ok}
 use Rattle.sl_still_host.proofs.host.Host.line.Goals as goal
 
 pub returns-in-Ok-Acquire-clause-steps : goal.returns-in-Ok-Acquire-clause-steps
@@ -23,4 +22,7 @@ returns-in-Ok-Release-clause-steps c =
     (ap as_command c.in-Ok-Release.is ∙ ap (λ x. as_command (Ok x)) c.in-Ok-Release.field-0-is) c.releases.ensures.steps
 
 pub returns-in-Err-clause-steps : goal.returns-in-Err-clause-steps
-returns-in-Err-clause-steps c = let e = c.refuses.ensures.effects in ?
+returns-in-Err-clause-steps c =
+    unread_ok c.args.self.now c.refuses.new.self c.args.text.now c.read_lease_command.result c.in-Err.field-0.column c.refuses.result
+    (subst (λ (v : HostState). as_command c.read_lease_command.result ≡ answered (command_in (lease_forms (layout_of v.sizes)) c.args.text.now)) c.self.view_is c.read_lease_command.ensures.exact)
+    c.in-Err.is c.refuses.ensures.effects c.refuses.ensures.state
