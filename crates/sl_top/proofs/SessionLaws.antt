@@ -7,7 +7,7 @@ use Rattle.sl_run.specs.declared.header.LockspaceLine.{LockspaceLine}
 use Rattle.sl_run.specs.declared.header.SessionLine.{SessionLine}
 use Rattle.sl_still.proofs.Lists.{given_at}
 use Rattle.sl_still.specs.StillPath.{IsStillGiven}
-use Rattle.sl_still_host.specs.Hosts.{AreSessions, HostStands, HostState, IsSettingOf}
+use Rattle.sl_host.specs.Hosts.{AreSessions, HostStands, HostState, IsSettingOf}
 use Rattle.sl_still_schedule.specs.StillLanguage.{still_commands}
 use Rattle.sl_still_schedule.specs.StillWorld.{BeginsStill, still_setting}
 use Rattle.sl_trace.specs.Traces.{Setting}

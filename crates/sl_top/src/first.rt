@@ -4,7 +4,7 @@
 
 ghost use Rattle.sl_report.specs.Reports.{no_counts};
 ghost use Rattle.sl_run.specs.Worlds.{clock_reading, given_of, world_with};
-ghost use Rattle.sl_still_host.specs.Hosts.{HostStands};
+ghost use Rattle.sl_host.specs.Hosts.{HostStands};
 ghost use Rattle.sl_still_schedule.specs.StillLanguage.{still_program};
 ghost use Rattle.sl_still_schedule.specs.StillWorld.{BeginsStill};
 ghost use Rattle.sl_world.specs.Kept.{WorldStands};
@@ -13,7 +13,7 @@ ghost use Rattle.std.specs.Prelude.{bytes_eq, filter_map, find, is_some, IfOk, O
 
 use sl_replay::Replay;
 use sl_run::{FirstReading, Header, LockspaceLine, SessionLine};
-use sl_still_host::Host;
+use sl_host::Host;
 use sl_text::{Name, Seq};
 use sl_trace::{Given, Numbers};
 use sl_world::World;

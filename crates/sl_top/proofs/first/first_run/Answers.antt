@@ -1,5 +1,5 @@
 use Rattle.sl_run.specs.Worlds.{world_with}
-use Rattle.sl_still_host.specs.Hosts.{HostStands}
+use Rattle.sl_host.specs.Hosts.{HostStands}
 use Rattle.sl_still_schedule.specs.StillLanguage.{still_commands, still_program}
 use Rattle.sl_top.proofs.SessionLaws.{are_sessions, host_begins}
 use Rattle.sl_top.proofs.first.first_run.Goals as goal
