@@ -1,6 +1,6 @@
 //! One run of a host of two sessions, worked out by hand: lockspaces `ls` and `ms`, disk `/d`, two hosts. Three leases are at work at once;
 //! then the first has its ballot. The sectors' bytes are from the layout, and their digests from another program.
-ghost use Rattle.std.specs.Prelude.{length, ◌≤◌};
+ghost use Rattle.std.specs.Prelude.{length, ◌≡◌, ◌≤◌};
 
 use crate::Host;
 use crate::refusal::Refusal;
@@ -287,7 +287,8 @@ fn says(reply: &Reply, why: Refusal) -> bool {
         Refusal::Busy { process } => {
             matches!(reply, Reply::Busy { process: told } if *told == process)
         }
-        Refusal::Pending { call } => matches!(reply, Reply::Pending { call: told } if *told == call),
+        Refusal::Pending { call } =>
+            matches!(reply, Reply::Pending { call: told } if *told == call),
         Refusal::Limit { which: _ } => false,
         Refusal::NotHeld => matches!(reply, Reply::NotHeld),
     }
