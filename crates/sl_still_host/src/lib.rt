@@ -21,3 +21,6 @@ mod step;
 
 pub use host::Host;
 pub use refusal::Refusal;
+
+#[cfg(test)]
+mod tests;
