@@ -5,12 +5,18 @@ ghost use Rattle.sl_area.specs.Layouts.{layout_of};
 ghost use Rattle.sl_first.specs.FirstPath.{first_effects, one_reply};
 ghost use Rattle.sl_still_host.specs.Deciding.{acquire_place, release_place};
 ghost use Rattle.sl_still_host.specs.Hosts.{HostStands, IsSameSite, Steps};
+ghost use Rattle.sl_lease_host.specs.LeaseHosts.{KeepsLease};
+ghost use Rattle.sl_lease_host.specs.Sites.{IsSite};
+ghost use Rattle.sl_still.specs.StillLeases.{LeaseState};
+ghost use Rattle.sl_still_host.specs.Firsts.{first_state, site_at};
 ghost use Rattle.sl_still_host.specs.Refusals.{reply_of};
+ghost use Rattle.sl_still_host.specs.Tables.{IsFresh};
+ghost use Rattle.sl_trace.specs.declared.input.Given.{Given as Session};
 ghost use Rattle.sl_trace.specs.Commands.{IsResourceArg};
 ghost use Rattle.sl_trace.specs.Traces.{Setting, Trace};
 ghost use Rattle.sl_trace.specs.declared.command.Command.TheVariants.{Acquire as To_acquire, Release as To_release};
 ghost use Rattle.sl_trace.specs.declared.input.Input.TheVariants.{Line};
-ghost use Rattle.std.specs.Prelude.{IfOk, List, None, Ok, OnErr, OnOk, Some, [], false, ℕ, ◌+◌, ◌<◌, ◌^◌, ◌≡◌};
+ghost use Rattle.std.specs.Prelude.{IfOk, List, None, Ok, OnErr, OnOk, Some, [], false, length, slice_get, ℕ, ◌+◌, ◌<◌, ◌^◌, ◌≡◌};
 
 use crate::deciding::{Place, acquire_place, release_place};
 use crate::effects::reply_alone;
@@ -40,22 +46,22 @@ impl Host {
         &mut self,
         place: Place,
         lease: usize,
-        resource: ResourceArg,
+        resource: &ResourceArg,
         process: u32,
     ) -> Result<Effects, AllocError>
-        requires placed { acquire_place self.old.given self.old.leases resource process ≡ Ok place }
+        requires placed { acquire_place self.old.given self.old.leases resource.now process ≡ Ok place }
         requires there { place.lease ≡ Some lease }
-        requires named { IsResourceArg (layout_of self.old.sizes) resource }
+        requires named { IsResourceArg (layout_of self.old.sizes) resource.now }
         requires call { self.old.next_call < 2 ^ 63 }
         requires job { self.old.next_job < 2 ^ 63 }
         ensures steps { IfOk result (λ fx. (st : Setting) (es : Trace) (text : List ℕ) → HostStands self.old st es
-            → st.read text ≡ Ok (To_acquire resource false process) → Steps self.old self.new st es (Line text) fx) }
+            → st.read text ≡ Ok (To_acquire resource.now false process) → Steps self.old self.new st es (Line text) fx) }
         ensures site { IsSameSite self.old self.new }
         ensures kept { OnErr result (self.new ≡ self.old) }
     {
         let effects = self.leases.begins(
             lease,
-            resource,
+            *resource,
             process,
             self.next_call,
             self.next_job,
@@ -65,34 +71,44 @@ impl Host {
         Ok(effects)
     }
 
+    /// The lease with which the acquire begins, which the table doesn't have.
+    fn first_lease(&self, place: Place, resource: &ResourceArg) -> LeaseHost
+        requires there { place.session < length self.now.given }
+        requires fits { (g : Session) → slice_get self.now.given place.session ≡ Some g → IsSite (site_at self.now.sizes place.session g resource.now) }
+        ensures state { (g : Session) → slice_get self.now.given place.session ≡ Some g → result ≡ first_state self.now.sizes place.session g resource.now }
+        ensures keeps { (st : Setting) (y : LeaseState) → st.layout ≡ layout_of self.now.sizes → IsFresh y → KeepsLease result st y }
+    {
+        let session = &self.given.as_slice()[place.session];
+        LeaseHost::new(
+            self.alloc,
+            self.geometry,
+            place.session as u64,
+            *session,
+            *resource,
+        )
+    }
+
     /// An acquire begins under a lease that had no call before. An `Err` is want of memory, and changes nothing.
     fn begins_first(
         &mut self,
         place: Place,
-        resource: ResourceArg,
+        resource: &ResourceArg,
         process: u32,
     ) -> Result<Effects, AllocError>
-        requires placed { acquire_place self.old.given self.old.leases resource process ≡ Ok place }
+        requires placed { acquire_place self.old.given self.old.leases resource.now process ≡ Ok place }
         requires absent { place.lease ≡ None }
-        requires named { IsResourceArg (layout_of self.old.sizes) resource }
+        requires named { IsResourceArg (layout_of self.old.sizes) resource.now }
         requires call { self.old.next_call < 2 ^ 63 }
         requires job { self.old.next_job < 2 ^ 63 }
         ensures steps { IfOk result (λ fx. (st : Setting) (es : Trace) (text : List ℕ) → HostStands self.old st es
-            → st.read text ≡ Ok (To_acquire resource false process) → Steps self.old self.new st es (Line text) fx) }
+            → st.read text ≡ Ok (To_acquire resource.now false process) → Steps self.old self.new st es (Line text) fx) }
         ensures site { IsSameSite self.old self.new }
         ensures kept { OnErr result (self.new ≡ self.old) }
     {
-        let session = self.given.as_slice()[place.session];
-        let lease = LeaseHost::new(
-            self.alloc,
-            self.geometry,
-            place.session as u64,
-            session,
-            resource,
-        );
+        let lease = self.first_lease(place, resource);
         let effects = self.leases.begins_first(
             lease,
-            resource,
+            *resource,
             process,
             self.next_call,
             self.next_job,
@@ -106,15 +122,15 @@ impl Host {
     fn begins(
         &mut self,
         place: Place,
-        resource: ResourceArg,
+        resource: &ResourceArg,
         process: u32,
     ) -> Result<Effects, AllocError>
-        requires placed { acquire_place self.old.given self.old.leases resource process ≡ Ok place }
-        requires named { IsResourceArg (layout_of self.old.sizes) resource }
+        requires placed { acquire_place self.old.given self.old.leases resource.now process ≡ Ok place }
+        requires named { IsResourceArg (layout_of self.old.sizes) resource.now }
         requires call { self.old.next_call < 2 ^ 63 }
         requires job { self.old.next_job < 2 ^ 63 }
         ensures steps { IfOk result (λ fx. (st : Setting) (es : Trace) (text : List ℕ) → HostStands self.old st es
-            → st.read text ≡ Ok (To_acquire resource false process) → Steps self.old self.new st es (Line text) fx) }
+            → st.read text ≡ Ok (To_acquire resource.now false process) → Steps self.old self.new st es (Line text) fx) }
         ensures site { IsSameSite self.old self.new }
         ensures kept { OnErr result (self.new ≡ self.old) }
     {
@@ -125,16 +141,16 @@ impl Host {
     }
 
     /// An acquire of this resource by this process. An `Err` is want of memory, and changes nothing.
-    fn acquires(&mut self, resource: ResourceArg, process: u32) -> Result<Effects, AllocError>
-        requires named { IsResourceArg (layout_of self.old.sizes) resource }
+    fn acquires(&mut self, resource: &ResourceArg, process: u32) -> Result<Effects, AllocError>
+        requires named { IsResourceArg (layout_of self.old.sizes) resource.now }
         requires call { self.old.next_call < 2 ^ 63 }
         requires job { self.old.next_job < 2 ^ 63 }
         ensures steps { IfOk result (λ fx. (st : Setting) (es : Trace) (text : List ℕ) → HostStands self.old st es
-            → st.read text ≡ Ok (To_acquire resource false process) → Steps self.old self.new st es (Line text) fx) }
+            → st.read text ≡ Ok (To_acquire resource.now false process) → Steps self.old self.new st es (Line text) fx) }
         ensures site { IsSameSite self.old self.new }
         ensures kept { OnErr result (self.new ≡ self.old) }
     {
-        match acquire_place(self.given.as_slice(), &self.leases, &resource, process) {
+        match acquire_place(self.given.as_slice(), &self.leases, resource, process) {
             Ok(place) => self.begins(place, resource, process),
             Err(why) => self.refuses(why),
         }
@@ -189,7 +205,7 @@ impl Host {
         ensures kept { OnErr result (self.new ≡ self.old) }
     {
         match read_lease_command(self.geometry, text) {
-            Ok(LeaseCommand::Acquire { resource, process }) => self.acquires(resource, process),
+            Ok(LeaseCommand::Acquire { resource, process }) => self.acquires(&resource, process),
             Ok(LeaseCommand::Release { resource, process }) => self.releases(&resource, process),
             Err(BadCommand { column }) => self.refuses(Refusal::BadCommand { column }),
         }
