@@ -1,5 +1,6 @@
 //! Runs of a host, worked out by hand: a run of two hosts, in which this one is host 1 in lockspace `ls` and host 2 in lockspace `l2`. The
 //! sectors' bytes are from the layout, and their digests from another program.
+ghost use Rattle.std.specs.Prelude.{IfOk, ◌≡◌};
 
 use crate::Host;
 use Comes::{Area, Blocks, Failed, Line, Written, Zeros};
@@ -185,7 +186,9 @@ fn input(alloc: Global, comes: Comes) -> Result<Input, AllocError> {
 }
 
 /// A session of this lockspace, whose own area is on this disk.
-fn session(lockspace: &[u8], id: u32, path: &[u8]) -> Result<Given, Fail> {
+fn session(lockspace: &[u8], id: u32, path: &[u8]) -> Result<Given, Fail>
+    ensures { IfOk result (λ g. g.id ≡ id) }
+{
     Ok(Given {
         lockspace: Name::new(lockspace).ok_or("it is a name")?,
         id,
