@@ -7,7 +7,6 @@ use Rattle.sl_lease_host.proofs.SmallLaws.{leader_is, named_space, reads_only, s
 use Rattle.sl_lease_host.proofs.TakeLaws.{of_next}
 use Rattle.sl_lease_host.specs.LeaseHosts.{IsKnownOf, KeepsAt, KeepsLease, LeaseHostState, is_held, lease_of, site_of}
 use Rattle.sl_lease_host.specs.Moves.{BeginsAt, GivesBackAt, IsBegun, IsGivenBack}
-use Rattle.sl_lease_host.specs.Phases.{IsPhaseOf}
 use Rattle.sl_lease_host.specs.Sites.{IsLaidOut, IsSite, SiteState, freed_leader}
 use Rattle.sl_lease_host.specs.Submits.{IsCallOf, MayFollow, after_next}
 use Rattle.sl_lease_host.specs.declared.phase.JobCommand.TheVariants.{Acquire as Acquires, Release as Releases}
@@ -23,7 +22,7 @@ use Rattle.sl_resource.specs.declared.deed.Deed.{Deed}
 use Rattle.sl_sector.specs.declared.sector.Leader.{Leader}
 use Rattle.sl_sector.specs.declared.sector.Rec.TheVariants.{LeaderIs}
 use Rattle.sl_still.specs.StillLeases.{LeaseState as StillState, Table, is_idle}
-use Rattle.sl_still.specs.StillPath.{IsOf, StillLease, lease_grant, lone}
+use Rattle.sl_still.specs.StillPath.{lease_grant, lone}
 use Rattle.sl_still.specs.StillSteps.{area_read, free_write, line_work, of_session}
 use Rattle.sl_text.specs.Names.{is_name}
 use Rattle.sl_trace.specs.Traces.{Setting, Submitted, Trace, end_of, new_call, next_call, next_job}

@@ -1,6 +1,6 @@
 -- What the phase that is kept tells of where the lease stands.
 use Rattle.sl_first.specs.FirstPath.{Doing as Work}
-use Rattle.sl_first.specs.FirstSteps.{Holds as Held_by, Idle as Resting, Phase as Stand, Works as Working, blocks_read, first_aim, leader_write, own_write, process_of}
+use Rattle.sl_first.specs.FirstSteps.{Holds as Held_by, Idle as Resting, Phase as Stand, Works as Working, first_aim, process_of}
 use Rattle.sl_area.specs.Layouts.{Sizes, layout_of}
 use Rattle.sl_lease_host.specs.Phases.{IsDoingOf, IsPhaseOf, aim_in, command_of, is_answer_by, phase_after, process_in, sectors_asked}
 use Rattle.sl_lease_host.specs.declared.phase.Doing.{Doing}
@@ -18,7 +18,7 @@ use Rattle.sl_trace.specs.declared.effects.Op.TheVariants.{ReadSectors, WriteRec
 use Rattle.sl_trace.specs.declared.effects.Op.{Op}
 use Rattle.sl_trace.specs.declared.input.Answer.TheVariants.{Failed, Read, Written}
 use Rattle.sl_trace.specs.declared.input.Answer.{Answer}
-use Rattle.std.proofs.Common.{Some, ap, length, refl, subst, sym, ℕ, ◌*◌, ◌==◌, ◌∙◌, ◌≡◌}
+use Rattle.std.proofs.Common.{Some, ap, length, refl, subst, ℕ, ◌*◌, ◌==◌, ◌∙◌, ◌≡◌}
 
 -- ---- one phase shows the other
 

@@ -1,10 +1,10 @@
 -- An answer: what the lease does is what comes next for it, and then it stands for its lease.
-use Rattle.sl_area.specs.Layouts.{Sizes, layout_of}
+use Rattle.sl_area.specs.Layouts.{layout_of}
 use Rattle.sl_first.specs.FirstPath.{Doing as Work, heeded_call, open_kept}
-use Rattle.sl_first.specs.FirstSteps.{Works as Working, blocks_read, first_aim, first_over, first_self, leader_write, own_write, process_of, work_in}
+use Rattle.sl_first.specs.FirstSteps.{Works as Working, blocks_read, first_aim, first_over, leader_write, own_write, process_of, work_in}
 use Rattle.sl_lease_host.proofs.PhaseLaws.{aims, answer_by, doing_of, phases, process_kept}
 use Rattle.sl_lease_host.proofs.SmallLaws.{IsNextOf, named_space, next_of, told_small}
-use Rattle.sl_lease_host.specs.LeaseHosts.{IsFitPhase, IsKnownOf, KeepsAt, KeepsLease, LeaseHostState, lease_of, site_of}
+use Rattle.sl_lease_host.specs.LeaseHosts.{IsKnownOf, KeepsAt, KeepsLease, LeaseHostState, lease_of, site_of}
 use Rattle.sl_lease_host.specs.Moves.{GoesOnAt, IsGoingOn}
 use Rattle.sl_lease_host.specs.Phases.{IsDoingOf, aim_in, is_answer_by, phase_after, process_in}
 use Rattle.sl_lease_host.specs.Sites.{IsLaidOut, IsSite}
@@ -17,8 +17,6 @@ use Rattle.sl_leases.specs.Leases.{known_of}
 use Rattle.sl_leases.specs.declared.lease.LeaseNext.TheVariants.{AnswerJob, GrantJob, Nothing, ReadFor, WriteBlock, WriteLeader}
 use Rattle.sl_leases.specs.declared.lease.LeaseNext.{LeaseNext}
 use Rattle.sl_resource.proofs.GoingOn.{work_goes_on}
-use Rattle.sl_resource.specs.Bounds.{IsInstance}
-use Rattle.sl_resource.specs.Calls.{IsFitNext}
 use Rattle.sl_resource.specs.Stands.{IsTold, LeaseStands, LeaseState}
 use Rattle.sl_still.proofs.Leading.{comes_live}
 use Rattle.sl_still.proofs.Lone.{lease_given}
@@ -29,15 +27,12 @@ use Rattle.sl_still.specs.StillSteps.{lease_comes, lease_effects, lease_phase, o
 use Rattle.sl_trace.specs.Traces.{Answered, Setting, Submitted, Trace, is_answer_for, new_call, next_call}
 use Rattle.sl_trace.specs.declared.command.ResourceArg.{ResourceArg}
 use Rattle.sl_trace.specs.declared.effects.Effects.{Effects}
-use Rattle.sl_trace.specs.declared.effects.LeaseStep.{LeaseStep}
 use Rattle.sl_trace.specs.declared.effects.Op.TheVariants.{ReadSectors}
 use Rattle.sl_trace.specs.declared.effects.Purpose.TheVariants.{Lease}
 use Rattle.sl_trace.specs.declared.effects.Work.TheVariants.{ForJob}
-use Rattle.sl_trace.specs.declared.input.Answer.TheVariants.{Written}
 use Rattle.sl_trace.specs.declared.input.Answer.{Answer}
-use Rattle.sl_words.proofs.CaseLaws.{false_is_true, none_some}
 use Rattle.sl_world.specs.Daemons.{IsSmallStep}
-use Rattle.std.proofs.Common.{List, None, Option, Some, ap, false, length, refl, subst, sym, true, ℕ, ◌+◌, ◌++◌, ◌∙◌, ◌∷◌, ◌≡◌}
+use Rattle.std.proofs.Common.{List, None, ap, false, length, refl, subst, sym, true, ℕ, ◌+◌, ◌++◌, ◌∙◌, ◌∷◌, ◌≡◌}
 use Rattle.std.specs.Prelude.{if◌then◌else◌}
 
 -- ---- what is known of the calls

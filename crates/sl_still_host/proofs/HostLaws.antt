@@ -81,6 +81,14 @@ behind_of z gs hs x y of its same k w (Came at is) =
     subst (λ (v : LeaseHostState). (v.sizes ≡ z) × (slice_get gs v.session ≡ Some v.given)) (sym is) (same_of z gs x y same its)
 behind_of z gs hs x y of its same k w (Stood is) = of k w is
 
+-- ---- the value and its fields
+
+pub placed_inside : (h inside : HostState) → inside ≡ h → (r : ResourceArg) (p : ℕ) (place : Place) → acquire_place h.given h.leases r p ≡ Ok place → acquire_place inside.given inside.leases r p ≡ Ok place
+placed_inside h inside view r p place placed = subst (λ (v : HostState). acquire_place v.given v.leases r p ≡ Ok place) (sym view) placed
+
+pub named_inside : (h inside : HostState) → inside ≡ h → (r : ResourceArg) → IsResourceArg (layout_of h.sizes) r → IsResourceArg (layout_of inside.sizes) r
+named_inside h inside view r named = subst (λ (v : HostState). IsResourceArg (layout_of v.sizes) r) (sym view) named
+
 -- ---- an acquire under a lease of the table
 
 -- What its lease is.
@@ -94,8 +102,8 @@ pub record IsAgain (z : Sizes) (hs : List LeaseHostState) (r : ResourceArg) (lea
 pub again_is : (h inside : HostState) → inside ≡ h → AreOf inside.sizes inside.given inside.leases → (r : ResourceArg) (p : ℕ) (place : Place) (lease : ℕ) → IsResourceArg (layout_of h.sizes) r
     → acquire_place h.given h.leases r p ≡ Ok place → place.lease ≡ Some lease → IsAgain inside.sizes inside.leases r lease
 again_is h inside view of r p place lease named placed at =
-    let b : IsPlaced inside.given inside.leases r place = placed_by inside.given inside.leases r p place (subst (λ (v : HostState). acquire_place v.given v.leases r p ≡ Ok place) (sym view) placed) in
-    let name : IsResourceArg (layout_of inside.sizes) r = subst (λ (v : HostState). IsResourceArg (layout_of v.sizes) r) (sym view) named in
+    let b : IsPlaced inside.given inside.leases r place = placed_by inside.given inside.leases r p place (placed_inside h inside view r p place placed) in
+    let name : IsResourceArg (layout_of inside.sizes) r = named_inside h inside view r named in
     let f = place_found inside.leases place.session (spot_of r) lease (sym b.lease ∙ at) in
     record {
       item = f.item;
@@ -128,8 +136,7 @@ pub again_made : (h inside : HostState) (hs : List LeaseHostState) (calls : ℕ)
 again_made h inside hs calls r p place lease fx view number a named placed at moved st es text k says =
     subst (λ (v : HostState). Steps v (record inside { next_call = inside.next_call + calls; next_job = inside.next_job + 1; leases = hs }) st es (Line text) fx) view
     (subst (λ n. Steps inside (record inside { next_call = inside.next_call + n; next_job = inside.next_job + 1; leases = hs }) st es (Line text) fx) (sym number)
-    (begins_again inside hs r p place lease a.item fx (subst (λ (v : HostState). IsResourceArg (layout_of v.sizes) r) (sym view) named)
-      (subst (λ (v : HostState). acquire_place v.given v.leases r p ≡ Ok place) (sym view) placed) at a.there (moved a.item a.there)
+    (begins_again inside hs r p place lease a.item fx (named_inside h inside view r named) (placed_inside h inside view r p place placed) at a.there (moved a.item a.there)
       st es text (subst (λ (v : HostState). HostStands v st es) (sym view) k) says))
 
 -- ---- an acquire under a lease that the table doesn't have
@@ -137,10 +144,9 @@ again_made h inside hs calls r p place lease fx view number a named placed at mo
 pub first_there : (h : HostState) (r : ResourceArg) (p : ℕ) (place : Place) → acquire_place h.given h.leases r p ≡ Ok place → place.session < length h.given
 first_there h r p place placed = let b = placed_by h.given h.leases r p place placed in got_below h.given place.session b.session.given b.session.there
 
-pub first_fits : (h inside : HostState) → inside ≡ h → AreSessions inside.sizes inside.given → (r : ResourceArg) (p : ℕ) (place : Place) → IsResourceArg (layout_of h.sizes) r
+pub first_fits : (h : HostState) → AreSessions h.sizes h.given → (r : ResourceArg) (p : ℕ) (place : Place) → IsResourceArg (layout_of h.sizes) r
     → acquire_place h.given h.leases r p ≡ Ok place → (g : Given) → slice_get h.given place.session ≡ Some g → IsSite (site_at h.sizes place.session g r)
-first_fits h inside view fit r p place named placed g there =
-    site_fits h.sizes h.given r place.session g (subst (λ (v : HostState). AreSessions v.sizes v.given) view fit) (placed_by h.given h.leases r p place placed).session named there
+first_fits h fit r p place named placed g there = site_fits h.sizes h.given r place.session g fit (placed_by h.given h.leases r p place placed).session named there
 
 -- What the lease is.
 pub record IsFirst (h : HostState) (r : ResourceArg) (place : Place) (x : LeaseHostState) : Type 0 where
@@ -164,31 +170,25 @@ first_named h r place x f named = subst (λ (v : LeaseHostState). IsResourceArg 
 pub first_its : (h : HostState) (r : ResourceArg) (place : Place) (x : LeaseHostState) → IsFirst h r place x → IsResourceArg (layout_of h.sizes) r → IsOf (lease_of x) r
 first_its h r place x f named = subst (λ (v : LeaseHostState). IsOf (lease_of v) r) (sym f.is) (record { space = sym f.space; there = refl; named = named.named })
 
-pub first_of : (P : LeaseHostState → Type 0) (h inside : HostState) (after : List LeaseHostState) (r : ResourceArg) (place : Place) (x : LeaseHostState) → inside ≡ h
-    → AreOf inside.sizes inside.given inside.leases → IsFirst h r place x → (y : LeaseHostState) × MovedFirst inside.leases after x y × P y → AreOf inside.sizes inside.given after
-first_of P h inside after r place x view of f moved = λ k w is.
+pub first_of : (P : LeaseHostState → Type 0) (h : HostState) (after : List LeaseHostState) (r : ResourceArg) (place : Place) (x : LeaseHostState) → AreOf h.sizes h.given h.leases
+    → IsFirst h r place x → (y : LeaseHostState) × MovedFirst h.leases after x y × P y → AreOf h.sizes h.given after
+first_of P h after r place x of f moved = λ k w is.
     let its : (x.sizes ≡ h.sizes) × (slice_get h.given x.session ≡ Some x.given) =
       subst (λ (v : LeaseHostState). (v.sizes ≡ h.sizes) × (slice_get h.given v.session ≡ Some v.given)) (sym f.is) (refl, f.there) in
-    let its' : (x.sizes ≡ inside.sizes) × (slice_get inside.given x.session ≡ Some x.given) =
-      subst (λ (v : HostState). (x.sizes ≡ v.sizes) × (slice_get v.given x.session ≡ Some x.given)) (sym view) its in
-    behind_of inside.sizes inside.given inside.leases x moved.0 of its' moved.1.same k w
-    (placed_behind inside.leases moved.0 k w (ap (λ l. slice_get l k) (sym moved.1.there) ∙ is))
+    behind_of h.sizes h.given h.leases x moved.0 of its moved.1.same k w (placed_behind h.leases moved.0 k w (ap (λ l. slice_get l k) (sym moved.1.there) ∙ is))
 
 pub first_made : (h inside : HostState) (hs : List LeaseHostState) (calls : ℕ) (r : ResourceArg) (p : ℕ) (place : Place) (x : LeaseHostState) (fx : Effects) → inside ≡ h → calls ≡ length fx.calls
     → IsResourceArg (layout_of h.sizes) r → acquire_place h.given h.leases r p ≡ Ok place → place.lease ≡ None
-    → ((g : Given) → slice_get h.given place.session ≡ Some g → x ≡ first_state h.sizes place.session g r)
-    → ((st : Setting) (y : LeaseState) → st.layout ≡ layout_of h.sizes → IsFresh y → KeepsLease x st y)
+    → ((g : Given) → slice_get inside.given place.session ≡ Some g → x ≡ first_state inside.sizes place.session g r)
+    → ((st : Setting) (y : LeaseState) → st.layout ≡ layout_of inside.sizes → IsFresh y → KeepsLease x st y)
     → (y : LeaseHostState) × MovedFirst inside.leases hs x y × Begins x y r p inside.next_call inside.next_job fx
     → (st : Setting) (es : Trace) (text : List ℕ) → HostStands h st es → st.read text ≡ Ok (Acquire r false p)
     → Steps h (record inside { next_call = inside.next_call + calls; next_job = inside.next_job + 1; leases = hs }) st es (Line text) fx
 first_made h inside hs calls r p place x fx view number named placed at state keeps moved st es text k says =
     subst (λ (v : HostState). Steps v (record inside { next_call = inside.next_call + calls; next_job = inside.next_job + 1; leases = hs }) st es (Line text) fx) view
     (subst (λ n. Steps inside (record inside { next_call = inside.next_call + n; next_job = inside.next_job + 1; leases = hs }) st es (Line text) fx) (sym number)
-    (begins_first inside hs r p place x fx (subst (λ (v : HostState). IsResourceArg (layout_of v.sizes) r) (sym view) named)
-      (subst (λ (v : HostState). acquire_place v.given v.leases r p ≡ Ok place) (sym view) placed) at
-      (λ g there. (ap lease_of (state g (ap (λ (v : HostState). slice_get v.given place.session) (sym view) ∙ there)),
-        λ st' y laid. keeps st' y (laid ∙ ap (λ (v : HostState). layout_of v.sizes) view)))
-      moved st es text (subst (λ (v : HostState). HostStands v st es) (sym view) k) says))
+    (begins_first inside hs r p place x fx (named_inside h inside view r named) (placed_inside h inside view r p place placed) at
+      (λ g there. (ap lease_of (state g there), keeps)) moved st es text (subst (λ (v : HostState). HostStands v st es) (sym view) k) says))
 
 -- ---- a release
 

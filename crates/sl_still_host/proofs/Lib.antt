@@ -8,3 +8,5 @@ pub mod Stepping
 pub mod LineLaws
 pub mod AnswerLaws
 pub mod HostLaws
+pub mod StepLaws
+pub mod DaemonLaws

@@ -7,10 +7,11 @@
 //!
 //! The host keeps no trace, but stands for each trace that led to it (`HostStands`): what it does in a step is what is due by that trace,
 //! and with the step's entry it stands for the longer one. Were it to do more, or less, or with another number, an audit of the trace would
-//! find it. So it is a daemon that a world may run: a step makes at most one call, grants at most one holding and answers at most one job,
+//! find it. So it is a daemon that a world may run (`daemon`): a step makes at most one call, grants at most one holding and answers at most one job,
 //! and what it writes are records.
 #![tactic(auto)]
 
+mod daemon;
 mod deciding;
 mod effects;
 mod host;
@@ -20,7 +21,6 @@ mod refusal;
 mod step;
 
 pub use host::Host;
-pub use refusal::Refusal;
 
 #[cfg(test)]
 mod tests;

@@ -22,10 +22,34 @@ use crate::deciding::{Place, acquire_place, release_place};
 use crate::effects::reply_alone;
 use crate::host::Host;
 use crate::refusal::Refusal;
+use sl_area::Geometry;
 use sl_lease_command::{LeaseCommand, read_lease_command};
 use sl_lease_host::LeaseHost;
-use sl_trace::{BadCommand, Effects, ResourceArg};
-use std::alloc::AllocError;
+use sl_trace::{BadCommand, Effects, Given, ResourceArg};
+use std::alloc::{AllocError, Global};
+
+/// The lease with which an acquire begins that the table doesn't have one for.
+fn first_lease(
+    alloc: Global,
+    geometry: Geometry,
+    given: &[Given],
+    place: Place,
+    resource: &ResourceArg,
+) -> LeaseHost
+    requires there { place.session < length given.now }
+    requires fits { (g : Session) → slice_get given.now place.session ≡ Some g → IsSite (site_at geometry place.session g resource.now) }
+    ensures state { (g : Session) → slice_get given.now place.session ≡ Some g → result ≡ first_state geometry place.session g resource.now }
+    ensures keeps { (st : Setting) (y : LeaseState) → st.layout ≡ layout_of geometry → IsFresh y → KeepsLease result st y }
+{
+    let session = &given[place.session];
+    LeaseHost::new(
+        alloc,
+        geometry,
+        place.session as u64,
+        *session,
+        *resource,
+    )
+}
 
 impl Host {
     /// The line is answered at once. An `Err` is want of memory, and changes nothing.
@@ -71,23 +95,6 @@ impl Host {
         Ok(effects)
     }
 
-    /// The lease with which the acquire begins, which the table doesn't have.
-    fn first_lease(&self, place: Place, resource: &ResourceArg) -> LeaseHost
-        requires there { place.session < length self.now.given }
-        requires fits { (g : Session) → slice_get self.now.given place.session ≡ Some g → IsSite (site_at self.now.sizes place.session g resource.now) }
-        ensures state { (g : Session) → slice_get self.now.given place.session ≡ Some g → result ≡ first_state self.now.sizes place.session g resource.now }
-        ensures keeps { (st : Setting) (y : LeaseState) → st.layout ≡ layout_of self.now.sizes → IsFresh y → KeepsLease result st y }
-    {
-        let session = &self.given.as_slice()[place.session];
-        LeaseHost::new(
-            self.alloc,
-            self.geometry,
-            place.session as u64,
-            *session,
-            *resource,
-        )
-    }
-
     /// An acquire begins under a lease that had no call before. An `Err` is want of memory, and changes nothing.
     fn begins_first(
         &mut self,
@@ -105,7 +112,13 @@ impl Host {
         ensures site { IsSameSite self.old self.new }
         ensures kept { OnErr result (self.new ≡ self.old) }
     {
-        let lease = self.first_lease(place, resource);
+        let lease = first_lease(
+            self.alloc,
+            self.geometry,
+            self.given.as_slice(),
+            place,
+            resource,
+        );
         let effects = self.leases.begins_first(
             lease,
             *resource,

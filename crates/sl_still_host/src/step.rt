@@ -12,6 +12,13 @@ use sl_trace::{Answer, Effects, Input};
 use std::alloc::AllocError;
 
 impl Host {
+    /// Whether a lease waits for an answer to this call, and may be answered so.
+    fn is_awaited(&self, call: u64, answer: &Answer) -> bool
+        ensures { result ≡ is_some (awaiting_place call answer.now self.now.leases) }
+    {
+        self.leases.awaiting_place(call, answer).is_some()
+    }
+
     /// Whether the host takes the input: each line, and each answer to a call that it has made and that has none, by as many bytes as the
     /// call asks.
     pub fn expects(&self, input: &Input) -> bool
@@ -21,7 +28,7 @@ impl Host {
     {
         match input {
             Input::Line(_) => true,
-            Input::Answer { call, answer } => self.leases.awaiting_place(*call, answer).is_some(),
+            Input::Answer { call, answer } => self.is_awaited(*call, answer),
             Input::Wake => false,
             Input::Exit { process: _ } => false,
             Input::Spawned { process: _, ok: _ } => false,

@@ -1,5 +1,7 @@
 -- What is kept at first tells of the world at moment 0.
 use Rattle.sl_area.specs.Layouts.{layout_of}
+use Rattle.sl_plain.proofs.Lists.{contains_none}
+use Rattle.sl_plain.proofs.Numbers.{number_itself}
 use Rattle.sl_run.specs.Worlds.{clock_reading, first_stamp, given_of, machine_of_header, new_daemon, world_with}
 use Rattle.sl_run.specs.declared.header.Header.{Header}
 use Rattle.sl_run.specs.declared.header.LockspaceLine.{LockspaceLine}
@@ -9,16 +11,15 @@ use Rattle.sl_time.specs.Times.{reading_of}
 use Rattle.sl_trace.specs.Traces.{Setting, Trace}
 use Rattle.sl_trace.specs.declared.command.Command.{Command}
 use Rattle.sl_trace.specs.declared.input.Given.{Given}
-use Rattle.sl_words.proofs.CaseLaws.{none_some}
 use Rattle.sl_words.proofs.ListLaws.{list_all_place}
-use Rattle.sl_world.proofs.Flights.{same_number}
+use Rattle.sl_world.proofs.Numbered.{no_pairs}
 use Rattle.sl_world.specs.Beginning.{IsFirstHeader, first_setting, program_of}
 use Rattle.sl_world.specs.Changes.{first_kept}
 use Rattle.sl_world.specs.Kept.{Tells, WorldStands}
 use Rattle.std.proofs.Common.{ap, arith, refl, sym, ◌∙◌}
 use Rattle.std.proofs.lemmas.Bool.Decides.{Decides-eqb}
 use Rattle.std.specs.List.{list_all, range_with_len, cons_option}
-use Rattle.std.specs.Prelude.{Bool, Contains, List, None, Option, Some, bytes_eq, false, filter_map, find, map, option_map, true, [], ℕ, ◌*◌, ◌==◌, ◌∷◌, ◌≡◌}
+use Rattle.std.specs.Prelude.{Bool, Contains, List, None, Option, Some, bytes_eq, false, filter_map, find, map, option_map, true, [], ℕ, ◌*◌, ◌==◌, ◌∷◌, ◌≡◌, ◌≢◌}
 
 reading_is : (n : ℕ) → reading_of (1000 * n) ≡ n
 reading_is n = omega arith
@@ -33,7 +34,7 @@ given_at : (h : Header) (s : SessionLine) (gs : List Given) (here : Bool) (o : O
     (cons_option (elim here as (λ x. Option Given) [ false ↦ None | true ↦ option_map (given_with h s) o ]) gs) ≡ true
 given_at h s gs false o rest = rest
 given_at h s gs true None rest = rest
-given_at h s gs true (Some l) rest = rw (same_number (clock_reading h 1)) rest
+given_at h s gs true (Some l) rest = rw (number_itself (clock_reading h 1)) rest
 
 given_all : (h : Header) (ss : List SessionLine) → list_all (λ (g : Given). g.renewed == clock_reading h 1) (filter_map (given_of h 1) ss) ≡ true
 given_all h [] = refl
@@ -46,7 +47,7 @@ still_given h g c =
 
 -- ---- the world
 
-first_machines : (commands : Header → List (Form Command)) (h : Header) → h.machines ≡ 1
+pub first_machines : (commands : Header → List (Form Command)) (h : Header) → h.machines ≡ 1
     → (world_with (program_of commands) h).machines ≡ machine_of_header (program_of commands) (layout_of h.geometry) h 1 ∷ []
 first_machines commands h one = ap (λ n. map (machine_of_header (program_of commands) (layout_of h.geometry) h) (range_with_len 1 n)) one
 
@@ -65,7 +66,8 @@ first_tells commands h f =
       resets = refl;
       reading = reading_is (clock_reading h 1);
       calls = refl;
-      flight = λ g eq. absurd (none_some g eq);
+      flight = λ g there. absurd (contains_none g there);
+      apart = no_pairs (λ m n. m ≢ n);
       held = refl;
       connections = refl;
       places = λ path offset. refl;

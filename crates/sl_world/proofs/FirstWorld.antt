@@ -1,8 +1,8 @@
--- What is kept, and the host, stand for the world after each event of the first path.
+-- What is kept, and the host, stand for the world after each event but a call done whole.
 use Rattle.sl_run.specs.declared.event.Refusal.TheVariants.{Syntax}
 use Rattle.sl_due.specs.Due.{due}
 use Rattle.sl_report.specs.Replay.{due_at, effects_of}
-use Rattle.sl_run.specs.Events.{first_change, happens, next_step, ok_input, take_step, refusal_of}
+use Rattle.sl_run.specs.Events.{first_change, happens, next_step, ok_input, refusal_of, take_step, with_entry}
 use Rattle.sl_run.specs.Worlds.{Course, Daemon, Machine, Stamp, World, flight_of, reading_now}
 use Rattle.sl_run.specs.declared.event.Event.TheVariants.{AnswerCall, GiveCommand, Land, Sample}
 use Rattle.sl_run.specs.declared.event.Event.{Event}
@@ -15,23 +15,23 @@ use Rattle.sl_trace.specs.declared.input.Answer.TheVariants.{Read, Written}
 use Rattle.sl_trace.specs.declared.input.Answer.{Answer}
 use Rattle.sl_trace.specs.declared.input.Input.TheVariants.{Answer as Told, Line}
 use Rattle.sl_trace.specs.declared.input.Input.{Input}
-use Rattle.sl_words.proofs.CaseLaws.{some_value}
 use Rattle.sl_words.specs.Words.{choose}
 use Rattle.sl_world.proofs.Answers.{answer_expected, answer_is_ok, answer_taken, closed_by}
-use Rattle.sl_world.proofs.Flights.{Flying, flying, the_flight}
+use Rattle.sl_world.proofs.Flights.{Flying, flying}
+use Rattle.sl_world.proofs.Numbered.{numbered_as}
 use Rattle.sl_world.proofs.Landings.{land_tells}
-use Rattle.sl_world.proofs.Passing.{answer_passes, is_found, is_on_first, sample_passes, some_none}
+use Rattle.sl_world.proofs.Passing.{answer_passes, is_found, is_on_first, passes_found, sample_passes, some_none}
 use Rattle.sl_world.proofs.Refusals.{refusal_is}
 use Rattle.sl_world.proofs.Samples.{sample_tells}
 use Rattle.sl_world.proofs.Solo.{solo, solo_is}
 use Rattle.sl_world.proofs.Steps.{step_tells, stepped}
-use Rattle.sl_world.specs.Changes.{kept_after, ok_answer, stepped_kept, told_ok, after_sample, after_land}
+use Rattle.sl_world.specs.Changes.{after_land, after_own_step, flights_without, kept_after, ok_answer, stepped_kept, told_ok}
 use Rattle.sl_world.specs.Daemons.{IsCalmInput, IsSmall, entry_of}
 use Rattle.sl_world.specs.FirstEvents.{answer_refusal, at_flight, flight_numbered, is_first_event, land_refusal, refusal_in, sample_refusal}
-use Rattle.sl_world.specs.Kept.{FlightState, KeptState, Shown, Tells, WorldStands, shown, shown_of, IsSized}
+use Rattle.sl_world.specs.Kept.{FlightState, IsSized, KeptState, Shown, Tells, WorldStands, shown, shown_of}
 use Rattle.std.proofs.Common.{ap, refl, subst, sym, ◌∙◌}
 use Rattle.std.specs.Option.{option_map_or}
-use Rattle.std.specs.Prelude.{Bool, List, None, Option, Some, false, is_some, map, nat_lt, option_map, option_to_list, true, [], ℕ, ◌+◌, ◌==◌, ◌∷◌, ◌≡◌}
+use Rattle.std.specs.Prelude.{Bool, List, None, Option, Some, false, is_some, nat_lt, option_map, true, [], ℕ, ◌+◌, ◌∷◌, ◌≡◌}
 
 -- ---- events that give the daemon nothing
 
@@ -41,31 +41,30 @@ pub record Quiet {D : Type 0} (stands : D → Setting → Trace → Type 0) (k :
   pub stays : WorldStands stands (kept_after e k) host (happens w e (no_effects ∷ []))
 
 sample_quiet_at : {D : Type 0} (stands : D → Setting → Trace → Type 0) (k : KeptState) (host : D) (w : World) (c n : ℕ) → WorldStands stands k host w → IsSized k.disk
-    → at_flight (flight_numbered k.flight c) (sample_refusal k.disk n) ≡ None → Quiet stands k host w (Sample 1 c n)
+    → at_flight (flight_numbered k.flights c) (sample_refusal k.disk n) ≡ None → Quiet stands k host w (Sample 1 c n)
 sample_quiet_at stands k host w c n s sized h =
-    let x = is_found k.flight c (sample_refusal k.disk n) h in
-    let P : KeptState → Type 0 = λ v. WorldStands stands v host (happens w (Sample 1 c n) (no_effects ∷ [])) in
+    let x = is_found k.flights c (sample_refusal k.disk n) h in
     record {
       effects = ap (λ v. effects_of v (Sample 1 c n)) (sym (solo_is w s.machine s.tells.alone));
-      stays = subst P (sym (ap (λ o. elim o as (λ x. KeptState) [ None ↦ k | Some f ↦ after_sample n f k ]) x.is)) (record {
+      stays = record {
         machine = _;
         daemon = s.daemon;
-        tells = sample_tells k w s.machine s.daemon c n x.flight s.tells sized x.is x.number (sample_passes k.disk n x.flight x.passes).1;
+        tells = sample_tells k w s.machine s.daemon c n x.flight s.tells sized x.is (sample_passes k.disk n x.flight x.passes).1;
         runs = s.runs;
-      });
+      };
     }
 
 land_quiet_at : {D : Type 0} (stands : D → Setting → Trace → Type 0) (k : KeptState) (host : D) (w : World) (c : ℕ) → WorldStands stands k host w
-    → at_flight (flight_numbered k.flight c) (land_refusal k.disk) ≡ None → Quiet stands k host w (Land 1 c)
+    → at_flight (flight_numbered k.flights c) (land_refusal k.disk) ≡ None → Quiet stands k host w (Land 1 c)
 land_quiet_at stands k host w c s h =
-    let x = is_found k.flight c (land_refusal k.disk) h in
+    let x = is_found k.flights c (land_refusal k.disk) h in
     let P : KeptState → Type 0 = λ v. WorldStands stands v host (happens w (Land 1 c) (no_effects ∷ [])) in
     record {
       effects = ap (λ v. effects_of v (Land 1 c)) (sym (solo_is w s.machine s.tells.alone));
-      stays = subst P (sym (ap (λ o. elim o as (λ x. KeptState) [ None ↦ k | Some f ↦ after_land f k ]) x.is)) (record {
+      stays = subst P (sym (ap (λ o. elim o as (λ x. KeptState) [ None ↦ k | Some f ↦ after_land c f k ]) x.is)) (record {
         machine = _;
         daemon = s.daemon;
-        tells = land_tells k w s.machine s.daemon c x.flight s.tells x.is x.number;
+        tells = land_tells k w s.machine s.daemon c x.flight s.tells x.is;
         runs = s.runs;
       });
     }
@@ -78,7 +77,7 @@ shaped_passes false r h = absurd (some_none Syntax h)
 pub sample_quiet : {D : Type 0} (stands : D → Setting → Trace → Type 0) (k : KeptState) (host : D) (w : World) (m c n : ℕ) → WorldStands stands k host w → IsSized k.disk
     → refusal_in k (Sample m c n) ≡ None → Quiet stands k host w (Sample m c n)
 sample_quiet stands k host w m c n s sized h =
-    let one = is_on_first m (at_flight (flight_numbered k.flight c) (sample_refusal k.disk n)) (shaped_passes (nat_lt 0 n) _ h) in
+    let one = is_on_first m (at_flight (flight_numbered k.flights c) (sample_refusal k.disk n)) (shaped_passes (nat_lt 0 n) _ h) in
     let P : ℕ → Type 0 = λ i. Quiet stands k host w (Sample i c n) in
     subst P (sym one.0) (sample_quiet_at stands k host w c n s sized one.1)
 
@@ -86,7 +85,7 @@ sample_quiet stands k host w m c n s sized h =
 pub land_quiet : {D : Type 0} (stands : D → Setting → Trace → Type 0) (k : KeptState) (host : D) (w : World) (m c : ℕ) → WorldStands stands k host w
     → refusal_in k (Land m c) ≡ None → Quiet stands k host w (Land m c)
 land_quiet stands k host w m c s h =
-    let one = is_on_first m (at_flight (flight_numbered k.flight c) (land_refusal k.disk)) h in
+    let one = is_on_first m (at_flight (flight_numbered k.flights c) (land_refusal k.disk)) h in
     let P : ℕ → Type 0 = λ i. Quiet stands k host w (Land i c) in
     subst P (sym one.0) (land_quiet_at stands k host w c s one.1)
 
@@ -108,13 +107,34 @@ due_is k w a d i t =
 abbrev step_stamp : World → Machine → Stamp
 step_stamp w a = record { step = w.step + 1; moment = w.moment; clock = a.clock }
 
-abbrev stepped_world : World → Machine → Input → Effects → List Course → World
-stepped_world w a i fx closed = record w { machines = stepped (step_stamp w a) i fx closed a ∷ []; step = w.step + 1 + 1 }
+-- What is kept once the daemon has taken a command.
+line_tells : (k : KeptState) (w : World) (a : Machine) (d : Daemon) (text : List ℕ) (fx : Effects) → Tells k w a d
+    → IsSmall d.trace (entry_of k.reading (Line text) fx)
+    → Tells (after_own_step fx k.flights k) (take_step 1 (Some (Line text)) fx (next_step w)) (stepped (step_stamp w a) (Line text) fx a.calls a)
+    (with_entry (entry_of k.reading (Line text) fx) (step_stamp w a) d)
+line_tells k w a d text fx t small =
+    let P : World → Type 0 = λ v. Tells (after_own_step fx k.flights k) (take_step 1 (Some (Line text)) fx (next_step v))
+    (stepped (step_stamp w a) (Line text) fx a.calls a) (with_entry (entry_of k.reading (Line text) fx) (step_stamp w a) d) in
+    subst P (solo_is w a t.alone) (step_tells k w a d (step_stamp w a) (w.step + 1 + 1) (Line text) fx a.calls k.flights t
+    (record { calls = t.calls; out = t.outstanding; flight = t.flight }) small.apart)
+
+-- .. or the answer ok to a call.
+answer_tells : (k : KeptState) (w : World) (a : Machine) (d : Daemon) (f : FlightState) (fx : Effects) → Tells k w a d
+    → IsSmall d.trace (entry_of k.reading (told_ok f) fx)
+    → Tells (after_own_step fx (flights_without f.call.number k.flights) k) (take_step 1 (Some (told_ok f)) fx (next_step w))
+    (stepped (step_stamp w a) (told_ok f) fx (closed_by (step_stamp w a) f.call.number (ok_answer f) a.calls) a)
+    (with_entry (entry_of k.reading (told_ok f) fx) (step_stamp w a) d)
+answer_tells k w a d f fx t small =
+    let closed : List Course = closed_by (step_stamp w a) f.call.number (ok_answer f) a.calls in
+    let P : World → Type 0 = λ v. Tells (after_own_step fx (flights_without f.call.number k.flights) k) (take_step 1 (Some (told_ok f)) fx (next_step v))
+    (stepped (step_stamp w a) (told_ok f) fx closed a) (with_entry (entry_of k.reading (told_ok f) fx) (step_stamp w a) d) in
+    subst P (solo_is w a t.alone) (step_tells k w a d (step_stamp w a) (w.step + 1 + 1) (told_ok f) fx closed (flights_without f.call.number k.flights) t
+    (answer_taken k w a d (step_stamp w a) fx f.call.number (ok_answer f) t) small.apart)
 
 command_makes : (w : World) (a : Machine) (d : Daemon) (text : List ℕ) (fx : Effects) → a.daemon ≡ Some d
-    → happens (solo w a) (GiveCommand 1 text) (fx ∷ []) ≡ stepped_world w a (Line text) fx a.calls
+    → take_step 1 (Some (Line text)) fx (next_step (solo w a)) ≡ happens (solo w a) (GiveCommand 1 text) (fx ∷ [])
 unfolding first_change
-command_makes w a d text fx runs = ap (λ o. take_step 1 (choose (is_some o) (Line text)) fx (next_step (solo w a))) runs
+command_makes w a d text fx runs = sym (ap (λ o. take_step 1 (choose (is_some o) (Line text)) fx (next_step (solo w a))) runs)
 
 command_due : (k : KeptState) (w : World) (a : Machine) (d : Daemon) (text : List ℕ) → Tells k w a d
     → effects_of (solo w a) (GiveCommand 1 text) ≡ due d.setting d.trace k.reading (Line text) ∷ []
@@ -133,13 +153,9 @@ command_taking stands k host w text s =
       effects = ap (λ v. effects_of v (GiveCommand 1 text)) (sym (solo_is w a t.alone)) ∙ command_due k w a d text t;
       stays = λ host' fx small then.
           let P : World → Type 0 = λ v. WorldStands stands (stepped_kept (GiveCommand 1 text) fx k) host' v in
-          subst P (sym (command_makes w a d text fx t.runs) ∙ ap (λ v. happens v (GiveCommand 1 text) (fx ∷ [])) (solo_is w a t.alone)) (record {
-            machine = _;
-            daemon = _;
-            tells = step_tells k w a d (step_stamp w a) (w.step + 1 + 1) (Line text) fx a.calls k.flight t
-                (record { calls = t.calls; out = t.outstanding; flight = t.flight }) small.calls;
-            runs = then;
-          });
+          subst P (ap (λ v. take_step 1 (Some (Line text)) fx (next_step v)) (sym (solo_is w a t.alone)) ∙ command_makes w a d text fx t.runs
+          ∙ ap (λ v. happens v (GiveCommand 1 text) (fx ∷ [])) (solo_is w a t.alone))
+          (record { machine = _; daemon = _; tells = line_tells k w a d text fx t small; runs = then });
     }
 
 -- A command.
@@ -155,62 +171,68 @@ ok_input_by : (x : Course) (o : Op)
 ok_input_by x (ReadSectors n) = refl
 ok_input_by x (WriteRecord r) = refl
 
-ok_input_is : (f : FlightState) (x : Course) → shown x ≡ shown_of f → ok_input x ≡ told_ok f
+pub ok_input_is : (f : FlightState) (x : Course) → shown x ≡ shown_of f → ok_input x ≡ told_ok f
 ok_input_is f x shows =
     ok_input_by x x.call.op
     ∙ ap (λ (z : Shown). Told z.call.number (elim z.call.op as (λ y. Answer) [ ReadSectors n ↦ Read z.sampled | WriteRecord r ↦ Written ])) shows
 
-answer_comes : (a : Machine) (c : ℕ) (f : FlightState) (y : Flying a f) → (f.call.number == c) ≡ true
-    → option_map ok_input (flight_of a c) ≡ Some (told_ok f)
-answer_comes a c f y number =
-    ap (option_map ok_input) (the_flight a f y c) ∙ ap (λ b. option_map ok_input (choose b y.course)) number
-    ∙ ap (λ i. Some i) (ok_input_is f y.course y.shows)
+answer_comes : (a : Machine) (c : ℕ) (f : FlightState) (y : Flying a c f) → option_map ok_input (flight_of a c) ≡ Some (told_ok f)
+answer_comes a c f y = ap (option_map ok_input) y.found ∙ ap (λ i. Some i) (ok_input_is f y.course y.shows)
 
-answer_makes : (w : World) (a : Machine) (c : ℕ) (f : FlightState) (y : Flying a f) (fx : Effects) → (f.call.number == c) ≡ true
-    → happens (solo w a) (AnswerCall 1 c true) (fx ∷ [])
-    ≡ stepped_world w a (told_ok f) fx (closed_by (step_stamp w a) f.call.number (ok_answer f) a.calls)
+answer_makes : (w : World) (a : Machine) (c : ℕ) (f : FlightState) (y : Flying a c f) (fx : Effects)
+    → take_step 1 (Some (told_ok f)) fx (next_step (solo w a)) ≡ happens (solo w a) (AnswerCall 1 c true) (fx ∷ [])
 unfolding first_change
-answer_makes w a c f y fx number = ap (λ o. take_step 1 o fx (next_step (solo w a))) (answer_comes a c f y number)
+answer_makes w a c f y fx = sym (ap (λ o. take_step 1 o fx (next_step (solo w a))) (answer_comes a c f y))
 
-answer_due : (k : KeptState) (w : World) (a : Machine) (d : Daemon) (c : ℕ) (f : FlightState) (y : Flying a f) → Tells k w a d → (f.call.number == c) ≡ true
+-- What is due at an input that comes.
+pub due_of : (k : KeptState) (w : World) (a : Machine) (d : Daemon) (o : Option Input) (i : Input) → Tells k w a d → o ≡ Some i
+    → elim o as (λ x. List Effects) [ None ↦ no_effects ∷ [] | Some j ↦ due_at a j ∷ [] ] ≡ due d.setting d.trace k.reading i ∷ []
+due_of k w a d o i t is =
+    ap (λ p. elim p as (λ x. List Effects) [ None ↦ no_effects ∷ [] | Some j ↦ due_at a j ∷ [] ]) is ∙ ap (λ fx. fx ∷ []) (due_is k w a d i t)
+
+answer_due : (k : KeptState) (w : World) (a : Machine) (d : Daemon) (c : ℕ) (f : FlightState) (y : Flying a c f) → Tells k w a d
     → effects_of (solo w a) (AnswerCall 1 c true) ≡ due d.setting d.trace k.reading (told_ok f) ∷ []
-answer_due k w a d c f y t number =
-    ap (λ o. elim o as (λ x. List Effects) [ None ↦ no_effects ∷ [] | Some i ↦ due_at a i ∷ [] ]) (answer_comes a c f y number)
-    ∙ ap (λ fx. fx ∷ []) (due_is k w a d (told_ok f) t)
+answer_due k w a d c f y t = due_of k w a d (option_map ok_input (flight_of a c)) (told_ok f) t (answer_comes a c f y)
+
+-- What a world does that takes the answer ok to this call in its next step.
+pub answered_stands : {D : Type 0} (stands : D → Setting → Trace → Type 0) (k : KeptState) (w : World) (a : Machine) (d : Daemon) (f : FlightState) (host : D) (fx : Effects)
+    → Tells k w a d → IsSmall d.trace (entry_of k.reading (told_ok f) fx) → stands host d.setting (entry_of k.reading (told_ok f) fx ∷ d.trace)
+    → WorldStands stands (after_own_step fx (flights_without f.call.number k.flights) k) host (take_step 1 (Some (told_ok f)) fx (next_step w))
+answered_stands stands k w a d f host fx t small then =
+    record { machine = _; daemon = _; tells = answer_tells k w a d f fx t small; runs = then }
+
+pub answer_calm : (k : KeptState) (w : World) (a : Machine) (d : Daemon) (c : ℕ) (f : FlightState) → Tells k w a d → flight_numbered k.flights c ≡ Some f
+    → answer_refusal f ≡ None → IsCalmInput d.setting d.trace k.reading (told_ok f)
+answer_calm k w a d c f t is passes =
+    record { still = t.still; calm = answer_is_ok f; expected = answer_expected k w a d c f t is (answer_passes f passes).0 }
 
 answer_taking : {D : Type 0} (stands : D → Setting → Trace → Type 0) (k : KeptState) (host : D) (w : World) (c : ℕ) (f : FlightState) (s : WorldStands stands k host w)
-    → k.flight ≡ Some f → (f.call.number == c) ≡ true → answer_refusal f ≡ None
+    → flight_numbered k.flights c ≡ Some f → c ≡ f.call.number → answer_refusal f ≡ None
     → Taking stands k w (AnswerCall 1 c true) (told_ok f) s.daemon.setting s.daemon.trace
 answer_taking stands k host w c f s is number passes =
     let a : Machine = s.machine in
     let d : Daemon = s.daemon in
     let t : Tells k w a d = s.tells in
-    let y : Flying a f = flying a d f t.runs t.first (t.calls ∙ ap (λ o. map shown_of (option_to_list o)) is) in
+    let y : Flying a c f = flying a d c k.flights f t.runs t.first t.calls is in
     record {
-      calm = record { still = t.still; calm = answer_is_ok f; expected = answer_expected k w a d f t is (answer_passes f passes).0 };
-      effects = ap (λ v. effects_of v (AnswerCall 1 c true)) (sym (solo_is w a t.alone)) ∙ answer_due k w a d c f y t number;
+      calm = answer_calm k w a d c f t is passes;
+      effects = ap (λ v. effects_of v (AnswerCall 1 c true)) (sym (solo_is w a t.alone)) ∙ answer_due k w a d c f y t;
       stays = λ host' fx small then.
           let P : World → Type 0 = λ v. WorldStands stands (stepped_kept (AnswerCall 1 c true) fx k) host' v in
-          let closed : List Course = closed_by (step_stamp w a) f.call.number (ok_answer f) a.calls in
-          subst P (sym (answer_makes w a c f y fx number) ∙ ap (λ v. happens v (AnswerCall 1 c true) (fx ∷ [])) (solo_is w a t.alone)) (record {
-            machine = _;
-            daemon = _;
-            tells = step_tells k w a d (step_stamp w a) (w.step + 1 + 1) (told_ok f) fx closed None t (answer_taken k w a d (step_stamp w a) fx f y t is) small.calls;
-            runs = then;
-          });
+          let Q : ℕ → Type 0 = λ n. WorldStands stands (after_own_step fx (flights_without n k.flights) k) host' (take_step 1 (Some (told_ok f)) fx (next_step w)) in
+          subst P (ap (λ v. take_step 1 (Some (told_ok f)) fx (next_step v)) (sym (solo_is w a t.alone)) ∙ answer_makes w a c f y fx
+          ∙ ap (λ v. happens v (AnswerCall 1 c true) (fx ∷ [])) (solo_is w a t.alone))
+          (subst Q (sym number) (answered_stands stands k w a d f host' fx t small then));
     }
 
 -- An answer ok.
 pub answer_is_taken : {D : Type 0} (stands : D → Setting → Trace → Type 0) (k : KeptState) (host : D) (w : World) (m c : ℕ) (f : FlightState) (s : WorldStands stands k host w)
-    → k.flight ≡ Some f → refusal_in k (AnswerCall m c true) ≡ None
+    → flight_numbered k.flights c ≡ Some f → refusal_in k (AnswerCall m c true) ≡ None
     → Taking stands k w (AnswerCall m c true) (told_ok f) s.daemon.setting s.daemon.trace
 answer_is_taken stands k host w m c f s is h =
-    let one = is_on_first m (at_flight (flight_numbered k.flight c) answer_refusal) h in
-    let x = is_found k.flight c answer_refusal one.1 in
-    let same : x.flight ≡ f = some_value x.flight f (sym x.is ∙ is) in
+    let one = is_on_first m (at_flight (flight_numbered k.flights c) answer_refusal) h in
     let P : ℕ → Type 0 = λ i. Taking stands k w (AnswerCall i c true) (told_ok f) s.daemon.setting s.daemon.trace in
-    subst P (sym one.0) (answer_taking stands k host w c f s is (ap (λ (g : FlightState). g.call.number == c) (sym same) ∙ x.number)
-    (ap answer_refusal (sym same) ∙ x.passes))
+    subst P (sym one.0) (answer_taking stands k host w c f s is (numbered_as k.flights c f is) (passes_found k.flights c answer_refusal one.1 f is))
 
 -- Why an event may not happen.
 pub refuses : {D : Type 0} (stands : D → Setting → Trace → Type 0) (k : KeptState) (host : D) (w : World) (e : Event) → WorldStands stands k host w

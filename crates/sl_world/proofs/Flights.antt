@@ -1,106 +1,127 @@
--- The one call without an answer among all that a machine ever made.
-use Rattle.sl_run.specs.Worlds.{Course, Daemon, Machine, World, flight_of, is_of_running, machine_at, may_land}
+-- The calls without an answer, among all that a machine ever made.
+use Rattle.sl_plain.proofs.Lists.{head_is, tail_is}
+use Rattle.sl_plain.proofs.Options.{mapped_value}
+use Rattle.sl_run.specs.Worlds.{Course, Daemon, Machine, World, flight_of, is_of_running, is_open, machine_at, may_land}
+use Rattle.sl_words.proofs.CaseLaws.{none_some}
 use Rattle.sl_words.specs.Words.{choose}
+use Rattle.sl_world.proofs.Numbered.{changed}
+use Rattle.sl_world.specs.FirstEvents.{flight_numbered}
 use Rattle.sl_world.specs.Kept.{FlightState, Shown, is_waiting, shown, shown_of, waiting}
-use Rattle.std.proofs.Common.{ap, arith, refl, tests, sym, ◌∙◌}
-use Rattle.std.specs.Prelude.{Bool, List, None, Some, false, filter, find, if◌then◌else◌, map, slice_get, suc, true, zero, [], ℕ, ◌&&◌, ◌-◌, ◌==◌, ◌||◌, ◌∷◌, ◌≡◌}
-
--- ---- lists of one
+use Rattle.std.proofs.Common.{ap, arith, refl, sym, tests, ◌∙◌}
+use Rattle.std.specs.Prelude.{Bool, List, None, Option, Some, false, filter, find, if◌then◌else◌, map, option_map, slice_get, suc, true, zero, [], ℕ, ◌&&◌, ◌-◌, ◌==◌, ◌||◌, ◌∷◌, ◌≡◌}
 
 cons_is_nil : {A : Type 0} (x : A) (xs : List A) → x ∷ xs ≡ [] → ⊥
 cons_is_nil x xs h = cc
 
-pub none_mapped : {A B : Type 0} (f : A → B) (xs : List A) → map f xs ≡ [] → xs ≡ []
-none_mapped f [] h = refl
-none_mapped f (x ∷ xs) h = absurd (cons_is_nil (f x) (map f xs) h)
+-- ---- the call of a number
 
-heads : {A : Type 0} (x y : A) (xs ys : List A) → x ∷ xs ≡ y ∷ ys → x ≡ y
-heads x y xs ys h = cc
-
-tails : {A : Type 0} (x y : A) (xs ys : List A) → x ∷ xs ≡ y ∷ ys → xs ≡ ys
-tails x y xs ys h = cc
-
--- A list that is mapped to one element has one.
-pub record One {A B : Type 0} (f : A → B) (xs : List A) (y : B) : Type 0 where
-  pub element : A
-  pub is : xs ≡ element ∷ []
-  pub image : f element ≡ y
-
-pub one_mapped : {A B : Type 0} (f : A → B) (xs : List A) (y : B) → map f xs ≡ y ∷ [] → One f xs y
-one_mapped f [] y h = absurd (cons_is_nil y [] (sym h))
-one_mapped f (x ∷ xs) y h =
-    record { element = x; is = ap (λ zs. x ∷ zs) (none_mapped f xs (tails (f x) y (map f xs) [] h)); image = heads (f x) y (map f xs) [] h }
-
--- ---- the call in flight
+-- Whether the call has the number and is in flight.
+abbrev opens : Machine → ℕ → Course → Bool
+opens a number c = c.call.number == number && is_open a c
 
 skip_rest : (a b : Bool) → (a && (false && b)) ≡ false
 skip_rest true b = refl
 skip_rest false b = refl
 
-none_found_at : (p r q : Course → Bool) (c : Course) (cs : List Course) (b : Bool) → r c ≡ b → (if b then c ∷ filter r cs else filter r cs) ≡ []
-    → (filter r cs ≡ [] → find (λ x. p x && (r x && q x)) cs ≡ None) → find (λ x. p x && (r x && q x)) (c ∷ cs) ≡ None
-none_found_at p r q c cs true is h rest = absurd (cons_is_nil c (filter r cs) h)
-none_found_at p r q c cs false is h rest = rw (is, skip_rest (p c) (q c)) (rest h)
+alike_rests : (a : Machine) (number : ℕ) (c : Course) (cs : List Course) (o : Option Shown) → is_waiting c ≡ false
+    → option_map shown (find (opens a number) cs) ≡ o → option_map shown (find (opens a number) (c ∷ cs)) ≡ o
+alike_rests a number c cs o rests rest = rw (rests, skip_rest (c.call.number == number) (is_of_running a c || may_land c)) rest
 
--- Where none waits none is found.
-pub none_found : (p r q : Course → Bool) (cs : List Course) → filter r cs ≡ [] → find (λ c. p c && (r c && q c)) cs ≡ None
-none_found p r q [] h = refl
-none_found p r q (c ∷ cs) h = none_found_at p r q c cs (r c) refl h (none_found p r q cs)
-
-all_three : (a b c : Bool) → b ≡ true → c ≡ true → (a && (b && c)) ≡ a
-all_three true b c h k = rw (h, k) refl
-all_three false b c h k = refl
-
-found_here : (p r q : Course → Bool) (c : Course) (cs : List Course) (b : Bool) → p c ≡ b → r c ≡ true → q c ≡ true → filter r cs ≡ []
-    → find (λ x. p x && (r x && q x)) (c ∷ cs) ≡ choose b c
-found_here p r q c cs true is waits may none = rw (is, waits, may) refl
-found_here p r q c cs false is waits may none = rw is (none_found p r q cs none)
-
-one_found_at : (p r q : Course → Bool) (x c : Course) (cs : List Course) (b : Bool) → r c ≡ b → (if b then c ∷ filter r cs else filter r cs) ≡ x ∷ [] → q x ≡ true
-    → (filter r cs ≡ x ∷ [] → find (λ y. p y && (r y && q y)) cs ≡ choose (p x) x) → find (λ y. p y && (r y && q y)) (c ∷ cs) ≡ choose (p x) x
-one_found_at p r q x c cs true is h may rest =
-    let same : c ≡ x = heads c x (filter r cs) [] h in
-    found_here p r q c cs (p c) refl is (ap q same ∙ may) (tails c x (filter r cs) [] h) ∙ ap (λ y. choose (p y) y) same
-one_found_at p r q x c cs false is h may rest = rw (is, skip_rest (p c) (q c)) (rest h)
-
--- Where one waits it is found, if it passes.
-pub one_found : (p r q : Course → Bool) (x : Course) (cs : List Course) → filter r cs ≡ x ∷ [] → q x ≡ true
-    → find (λ c. p c && (r c && q c)) cs ≡ choose (p x) x
-one_found p r q x [] h may = absurd (cons_is_nil x [] (sym h))
-one_found p r q x (c ∷ cs) h may = one_found_at p r q x c cs (r c) refl h may (λ none. one_found p r q x cs none may)
-
--- ---- on the machine
-
-pub same_number : (n : ℕ) → (n == n) ≡ true
-same_number n = grind (arith, tests)
+alike_waits : (a : Machine) (number : ℕ) (c : Course) (cs : List Course) (f : FlightState) (fs : List FlightState) (b : Bool) → is_waiting c ≡ true
+    → is_of_running a c ≡ true → shown c ≡ shown_of f → (c.call.number == number) ≡ b
+    → option_map shown (find (opens a number) cs) ≡ option_map shown_of (flight_numbered fs number)
+    → option_map shown (find (opens a number) (c ∷ cs)) ≡ option_map shown_of (flight_numbered (f ∷ fs) number)
+alike_waits a number c cs f fs true waits runs shows is rest =
+    let here : (f.call.number == number) ≡ true = sym (ap (λ (s : Shown). s.call.number == number) shows) ∙ is in
+    rw (is, waits, runs, here) (ap (λ s. Some s) shows)
+alike_waits a number c cs f fs false waits runs shows is rest =
+    let here : (f.call.number == number) ≡ false = sym (ap (λ (s : Shown). s.call.number == number) shows) ∙ is in
+    rw (is, here) rest
 
 running_by : (a : Machine) (d : Daemon) (c : Course) → a.daemon ≡ Some d → d.number ≡ 0 → c.daemon ≡ 0 → is_of_running a c ≡ true
 running_by a d c runs first of = rw (runs, first, of) refl
 
-may_by : (a b : Bool) → a ≡ true → (a || b) ≡ true
-may_by a b h = rw h refl
+alike_at : (a : Machine) (d : Daemon) (number : ℕ) (c : Course) (cs : List Course) (fs : List FlightState) (b : Bool) → a.daemon ≡ Some d → d.number ≡ 0
+    → is_waiting c ≡ b → map shown (if b then c ∷ filter is_waiting cs else filter is_waiting cs) ≡ map shown_of fs
+    → ((gs : List FlightState) → map shown (filter is_waiting cs) ≡ map shown_of gs
+    → option_map shown (find (opens a number) cs) ≡ option_map shown_of (flight_numbered gs number))
+    → option_map shown (find (opens a number) (c ∷ cs)) ≡ option_map shown_of (flight_numbered fs number)
+alike_at a d number c cs [] true runs first is h rest = absurd (cons_is_nil (shown c) (map shown (filter is_waiting cs)) h)
+alike_at a d number c cs (f ∷ fs) true runs first is h rest =
+    let shows : shown c ≡ shown_of f = head_is (shown c) (shown_of f) (map shown (filter is_waiting cs)) (map shown_of fs) h in
+    alike_waits a number c cs f fs (c.call.number == number) is (running_by a d c runs first (ap (λ (s : Shown). s.daemon) shows)) shows refl
+    (rest fs (tail_is (shown c) (shown_of f) (map shown (filter is_waiting cs)) (map shown_of fs) h))
+alike_at a d number c cs fs false runs first is h rest = alike_rests a number c cs (option_map shown_of (flight_numbered fs number)) is (rest fs h)
 
--- The course of the call that is kept.
-pub record Flying (a : Machine) (f : FlightState) : Type 0 where
+alike_in : (a : Machine) (d : Daemon) (number : ℕ) (cs : List Course) (fs : List FlightState) → a.daemon ≡ Some d → d.number ≡ 0
+    → map shown (filter is_waiting cs) ≡ map shown_of fs → option_map shown (find (opens a number) cs) ≡ option_map shown_of (flight_numbered fs number)
+alike_in a d number [] [] runs first h = refl
+alike_in a d number [] (f ∷ fs) runs first h = absurd (cons_is_nil (shown_of f) (map shown_of fs) (sym h))
+alike_in a d number (c ∷ cs) fs runs first h =
+    alike_at a d number c cs fs (is_waiting c) runs first refl h (λ gs same. alike_in a d number cs gs runs first same)
+
+-- The call in flight with this number is seen as the one that is kept.
+alike : (a : Machine) (d : Daemon) (number : ℕ) (fs : List FlightState) → a.daemon ≡ Some d → d.number ≡ 0 → map shown (waiting a) ≡ map shown_of fs
+    → option_map shown (flight_of a number) ≡ option_map shown_of (flight_numbered fs number)
+alike a d number fs runs first h = alike_in a d number a.calls fs runs first h
+
+-- The course of a call that is kept.
+pub record Flying (a : Machine) (number : ℕ) (f : FlightState) : Type 0 where
   pub course : Course
-  pub alone : waiting a ≡ course ∷ []
+  pub found : flight_of a number ≡ Some course
   pub shows : shown course ≡ shown_of f
   pub runs : is_of_running a course ≡ true
 
-pub flying : (a : Machine) (d : Daemon) (f : FlightState) → a.daemon ≡ Some d → d.number ≡ 0 → map shown (waiting a) ≡ map shown_of (f ∷ []) → Flying a f
-flying a d f runs first h =
-    let o = one_mapped shown (waiting a) (shown_of f) h in
-    record { course = o.element; alone = o.is; shows = o.image; runs = running_by a d o.element runs first (ap (λ (s : Shown). s.daemon) o.image) }
+pub flying : (a : Machine) (d : Daemon) (number : ℕ) (fs : List FlightState) (f : FlightState) → a.daemon ≡ Some d → d.number ≡ 0
+    → map shown (waiting a) ≡ map shown_of fs → flight_numbered fs number ≡ Some f → Flying a number f
+flying a d number fs f runs first h is =
+    let x = mapped_value shown (flight_of a number) (shown_of f) (alike a d number fs runs first h ∙ ap (option_map shown_of) is) in
+    record {
+      course = x.0;
+      found = x.1;
+      shows = x.2;
+      runs = running_by a d x.0 runs first (ap (λ (s : Shown). s.daemon) x.2);
+    }
 
--- No call in flight.
-pub no_flight : (a : Machine) (number : ℕ) → map shown (waiting a) ≡ [] → flight_of a number ≡ None
-no_flight a number h = none_found (λ c. c.call.number == number) is_waiting (λ c. is_of_running a c || may_land c) a.calls (none_mapped shown (waiting a) h)
+mapped_none : {A B : Type 0} (f : A → B) (o : Option A) → option_map f o ≡ None → o ≡ None
+mapped_none f None h = refl
+mapped_none f (Some x) h = absurd (none_some (f x) (sym h))
 
--- The call in flight, if it has this number.
-pub the_flight : (a : Machine) (f : FlightState) (y : Flying a f) (number : ℕ) → flight_of a number ≡ choose (f.call.number == number) y.course
-the_flight a f y number =
-    one_found (λ c. c.call.number == number) is_waiting (λ c. is_of_running a c || may_land c) y.course a.calls y.alone (may_by (is_of_running a y.course) (may_land y.course) y.runs)
-    ∙ ap (λ (s : Shown). choose (s.call.number == number) y.course) y.shows
+-- No call in flight has the number.
+pub no_flight : (a : Machine) (d : Daemon) (number : ℕ) (fs : List FlightState) → a.daemon ≡ Some d → d.number ≡ 0
+    → map shown (waiting a) ≡ map shown_of fs → flight_numbered fs number ≡ None → flight_of a number ≡ None
+no_flight a d number fs runs first h none =
+    mapped_none shown (flight_of a number) (alike a d number fs runs first h ∙ ap (option_map shown_of) none)
+
+-- ---- a change of the calls of a number
+
+-- This course, if it has the number.
+abbrev pub changed_course : ℕ → (Course → Course) → Course → Course
+changed_course number g c = elim (c.call.number == number) [ true ↦ g c | false ↦ c ]
+
+same_change : (number : ℕ) (g : Course → Course) (h : FlightState → FlightState) (c : Course) (f : FlightState) (b : Bool) → (c.call.number == number) ≡ b
+    → shown c ≡ shown_of f → shown (g c) ≡ shown_of (h f) → shown (changed_course number g c) ≡ shown_of (changed number h f)
+same_change number g h c f true is shows same =
+    let here : (f.call.number == number) ≡ true = sym (ap (λ (s : Shown). s.call.number == number) shows) ∙ is in
+    rw (changed_course, is, here) same
+same_change number g h c f false is shows same =
+    let here : (f.call.number == number) ≡ false = sym (ap (λ (s : Shown). s.call.number == number) shows) ∙ is in
+    rw (changed_course, is, here) shows
+
+both_heads : {A : Type 0} (x y : A) (xs ys : List A) → x ≡ y → xs ≡ ys → x ∷ xs ≡ y ∷ ys
+both_heads x y xs ys h k = cc
+
+-- What is seen alike is seen alike after a change that is.
+pub changed_alike : (number : ℕ) (g : Course → Course) (h : FlightState → FlightState) → ((c : Course) (f : FlightState) → shown c ≡ shown_of f → shown (g c) ≡ shown_of (h f))
+    → (cs : List Course) (fs : List FlightState) → map shown cs ≡ map shown_of fs
+    → map shown (map (changed_course number g) cs) ≡ map shown_of (map (changed number h) fs)
+changed_alike number g h same [] [] is = refl
+changed_alike number g h same [] (f ∷ fs) is = absurd (cons_is_nil (shown_of f) (map shown_of fs) (sym is))
+changed_alike number g h same (c ∷ cs) [] is = absurd (cons_is_nil (shown c) (map shown cs) is)
+changed_alike number g h same (c ∷ cs) (f ∷ fs) is =
+    let shows : shown c ≡ shown_of f = head_is (shown c) (shown_of f) (map shown cs) (map shown_of fs) is in
+    both_heads _ _ _ _ (same_change number g h c f (c.call.number == number) refl shows (same c f shows))
+    (changed_alike number g h same cs fs (tail_is (shown c) (shown_of f) (map shown cs) (map shown_of fs) is))
 
 -- ---- the machine
 

@@ -1,40 +1,36 @@
 -- What is kept tells of the world after a landing.
 use Rattle.sl_area.specs.Layouts.{Layout, layout_of, sector_with}
-use Rattle.sl_run.specs.Events.{add_landing, change_call, fated, first_change, happens, next_step, take_step, write_bytes}
+use Rattle.sl_run.specs.Events.{add_landing, change_call, fated, first_change, happens, land_whole, next_step, take_step, write_bytes}
 use Rattle.sl_run.specs.Worlds.{Course, Daemon, Landed, Landing, Machine, World, change_machine, content, flight_of, initial_bytes}
 use Rattle.sl_run.specs.declared.event.Event.TheVariants.{Land}
-use Rattle.sl_trace.specs.Traces.{held_after, no_effects, record_of, same_place}
+use Rattle.sl_plain.proofs.Lists.{find_inside}
+use Rattle.sl_trace.specs.Traces.{no_effects, record_of, same_place}
 use Rattle.sl_trace.specs.declared.effects.Call.{Call}
-use Rattle.sl_words.proofs.CaseLaws.{some_value}
-use Rattle.sl_words.specs.Words.{choose}
-use Rattle.sl_world.proofs.Flights.{Flying, flying, the_flight}
+use Rattle.sl_world.proofs.Flights.{Flying, changed_alike, flying}
+use Rattle.sl_world.proofs.Numbered.{change_holds, change_is_each, change_keeps}
 use Rattle.sl_world.proofs.Places.{put_content}
-use Rattle.sl_world.proofs.Solo.{solo, solo_is, still_held, waiting_changed}
-use Rattle.sl_world.specs.Changes.{after_land, put_sector, written_by}
+use Rattle.sl_world.proofs.Solo.{quiet_machine, quiet_tells, solo, solo_is, waiting_changed}
+use Rattle.sl_world.specs.Changes.{after_land, change_flight, flight_landed, put_sector, written_by}
+use Rattle.sl_world.specs.FirstEvents.{flight_numbered}
 use Rattle.sl_world.specs.Kept.{FlightState, IsFlight, KeptState, Shown, Tells, kept_content, kept_sector, shown, shown_of, waiting}
 use Rattle.std.proofs.Common.{ap, refl, subst, sym, ◌∙◌}
 use Rattle.std.specs.Option.{option_map_or}
-use Rattle.std.specs.Prelude.{Bool, List, None, Option, Some, false, find, if◌then◌else◌, map, option_to_list, true, [], ℕ, ◌+◌, ◌==◌, ◌∷◌, ◌≡◌}
-
--- The machine after it.
-abbrev pub landed_machine : ℕ → Machine → Machine
-landed_machine c a = let b : Machine = change_call c (fated Landed) a in record b { holdings = held_after no_effects a.holdings }
+use Rattle.std.specs.Prelude.{AllPairs, Bool, List, None, Option, Some, false, find, if◌then◌else◌, map, true, [], ℕ, ◌==◌, ◌∷◌, ◌≡◌, ◌≢◌}
 
 -- What lands.
 abbrev landing_of : World → Call → List ℕ → Landing
 landing_of w c bytes =
     record { path = c.path; offset = c.offset; bytes = bytes; whole = true; writer = Some (1, c.number); step = w.step; moment = w.moment }
 
--- The world after it.
-abbrev landed_world : World → Machine → ℕ → Call → World
+-- The world with it.
+abbrev pub landed_world : World → Machine → ℕ → Call → World
 landed_world w a c call =
-    record w { machines = landed_machine c a ∷ []; step = w.step + 1 + 1; landings = landing_of w call (write_bytes w call) ∷ w.landings }
+    record w { machines = change_call c (fated Landed) a ∷ []; landings = landing_of w call (write_bytes w call) ∷ w.landings }
 
-land_makes : (w : World) (a : Machine) (c : ℕ) (x : Course) → flight_of a c ≡ Some x → happens (solo w a) (Land 1 c) (no_effects ∷ []) ≡ landed_world w a c x.call
-unfolding first_change
+pub land_makes : (w : World) (a : Machine) (c : ℕ) (x : Course) → flight_of a c ≡ Some x → land_whole 1 c (solo w a) ≡ landed_world w a c x.call
 land_makes w a c x h =
-    ap (λ o. take_step 1 None no_effects (next_step (option_map_or
-    (λ (f : Course). change_machine 1 (change_call c (fated Landed)) (add_landing 1 f.call true (write_bytes (solo w a) f.call) (solo w a))) o (solo w a)))) h
+    ap (λ o. option_map_or (λ (f : Course). change_machine 1 (change_call c (fated Landed)) (add_landing 1 f.call true (write_bytes (solo w a) f.call) (solo w a)))
+    o (solo w a)) h
 
 -- ---- the places
 
@@ -59,24 +55,24 @@ land_places k w a d c f t path offset =
     (t.places path offset)
     ∙ sym (put_content (written_by k.disk f.call) k.disk path offset)
 
--- ---- the call
+-- ---- the calls
 
-land_shows : (f : FlightState) (x : Course) → shown x ≡ shown_of f → shown (fated Landed x) ≡ shown_of (record f { landed = true })
-land_shows f x shows = ap (λ (s : Shown). record s { fate = Landed }) shows
+land_shows : (x : Course) (f : FlightState) → shown x ≡ shown_of f → shown (fated Landed x) ≡ shown_of (flight_landed f)
+land_shows x f shows = ap (λ (s : Shown). record s { fate = Landed }) shows
 
-land_calls : (a : Machine) (c : ℕ) (f : FlightState) (y : Flying a f) → (f.call.number == c) ≡ true
-    → map shown (waiting (change_call c (fated Landed) a)) ≡ shown_of (record f { landed = true }) ∷ []
-land_calls a c f y number =
+land_calls : (k : KeptState) (w : World) (a : Machine) (d : Daemon) (c : ℕ) → Tells k w a d
+    → map shown (waiting (change_call c (fated Landed) a)) ≡ map shown_of (change_flight c flight_landed k.flights)
+land_calls k w a d c t =
     ap (map shown) (waiting_changed c (fated Landed) (λ x. refl) a.calls)
-    ∙ ap (λ cs. map shown (map (λ x. elim (x.call.number == c) as (λ x. Course) [ true ↦ fated Landed x | false ↦ x ]) cs)) y.alone
-    ∙ ap (λ b. shown (elim b as (λ x. Course) [ true ↦ fated Landed y.course | false ↦ y.course ]) ∷ []) (ap (λ (s : Shown). s.call.number == c) y.shows ∙ number)
-    ∙ ap (λ s. s ∷ []) (land_shows f y.course y.shows)
+    ∙ changed_alike c (fated Landed) flight_landed land_shows (waiting a) k.flights t.calls
+    ∙ ap (map shown_of) (sym (change_is_each c flight_landed k.flights t.apart))
 
 -- ---- the world
 
-landed_tells : (k : KeptState) (w : World) (a : Machine) (d : Daemon) (c : ℕ) (f : FlightState) (y : Flying a f) → Tells k w a d
-    → k.flight ≡ Some f → (f.call.number == c) ≡ true → Tells (after_land f k) (landed_world w a c f.call) (landed_machine c a) d
-landed_tells k w a d c f y t is number =
+-- What is kept with the landing.
+pub landed_tells : (k : KeptState) (w : World) (a : Machine) (d : Daemon) (c : ℕ) (f : FlightState) → Tells k w a d → flight_numbered k.flights c ≡ Some f
+    → Tells (after_land c f k) (landed_world w a c f.call) (change_call c (fated Landed) a) d
+landed_tells k w a d c f t is =
     record {
       header = t.header;
       layout = t.layout;
@@ -86,27 +82,36 @@ landed_tells k w a d c f y t is number =
       first = t.first;
       resets = t.resets;
       reading = t.reading;
-      calls = land_calls a c f y number;
-      flight = λ g eq. subst (IsFlight (kept_sector k.disk)) (some_value _ _ eq) (record { whole = (t.flight f is).whole; few = (t.flight f is).few });
-      held = still_held a.holdings ∙ t.held;
+      calls = land_calls k w a d c t;
+      flight = change_holds (IsFlight (kept_sector k.disk)) c flight_landed k.flights t.flight
+          (λ y at. let whole = t.flight y (find_inside (λ (g : FlightState). g.call.number == c) k.flights y at).0 in
+          record { whole = whole.whole; few = whole.few });
+      apart = subst (AllPairs (λ m n. m ≢ n)) (sym (change_keeps c flight_landed (λ g. g.call.number) (λ g. refl) k.flights)) t.apart;
+      held = t.held;
       connections = t.connections;
       places = land_places k w a d c f t;
-      outstanding = t.outstanding ∙ ap (λ o. map (λ (g : FlightState). g.call) (option_to_list o)) is;
+      outstanding = t.outstanding ∙ sym (change_keeps c flight_landed (λ g. g.call) (λ g. refl) k.flights);
       sizes = t.sizes;
       still = t.still;
     }
 
-chosen : (b : Bool) (x : Course) → b ≡ true → choose b x ≡ Some x
-chosen b x h = rw h refl
+-- The world with the landing of the call that is kept.
+pub lands_so : (k : KeptState) (w : World) (a : Machine) (d : Daemon) (c : ℕ) (f : FlightState) → Tells k w a d → flight_numbered k.flights c ≡ Some f
+    → landed_world w a c f.call ≡ land_whole 1 c (solo w a)
+lands_so k w a d c f t is =
+    let y : Flying a c f = flying a d c k.flights f t.runs t.first t.calls is in
+    ap (λ (s : Shown). landed_world w a c s.call) (sym y.shows) ∙ sym (land_makes w a c y.course y.found)
+
+land_happens : (w : World) (a : Machine) (c : ℕ)
+    → take_step 1 None no_effects (next_step (land_whole 1 c (solo w a))) ≡ happens (solo w a) (Land 1 c) (no_effects ∷ [])
+unfolding first_change
+land_happens w a c = refl
 
 -- What is kept after a landing.
-pub land_tells : (k : KeptState) (w : World) (a : Machine) (d : Daemon) (c : ℕ) (f : FlightState) → Tells k w a d
-    → k.flight ≡ Some f → (f.call.number == c) ≡ true → Tells (after_land f k) (happens w (Land 1 c) (no_effects ∷ [])) (landed_machine c a) d
-land_tells k w a d c f t is number =
-    let y : Flying a f = flying a d f t.runs t.first (t.calls ∙ ap (λ o. map shown_of (option_to_list o)) is) in
-    let P : World → Type 0 = λ v. Tells (after_land f k) v (landed_machine c a) d in
-    let found : flight_of a c ≡ Some y.course = the_flight a f y c ∙ chosen (f.call.number == c) y.course number in
-    let made : landed_world w a c f.call ≡ happens w (Land 1 c) (no_effects ∷ []) =
-    ap (λ (s : Shown). landed_world w a c s.call) (sym y.shows) ∙ sym (land_makes w a c y.course found)
-    ∙ ap (λ v. happens v (Land 1 c) (no_effects ∷ [])) (solo_is w a t.alone) in
-    subst P made (landed_tells k w a d c f y t is number)
+pub land_tells : (k : KeptState) (w : World) (a : Machine) (d : Daemon) (c : ℕ) (f : FlightState) → Tells k w a d → flight_numbered k.flights c ≡ Some f
+    → Tells (after_land c f k) (happens w (Land 1 c) (no_effects ∷ [])) (quiet_machine (change_call c (fated Landed) a)) d
+land_tells k w a d c f t is =
+    let P : World → Type 0 = λ v. Tells (after_land c f k) v (quiet_machine (change_call c (fated Landed) a)) d in
+    subst P (ap (λ v. take_step 1 None no_effects (next_step v)) (lands_so k w a d c f t is) ∙ land_happens w a c
+    ∙ ap (λ v. happens v (Land 1 c) (no_effects ∷ [])) (solo_is w a t.alone))
+    (quiet_tells (after_land c f k) (landed_world w a c f.call) (change_call c (fated Landed) a) d (landed_tells k w a d c f t is))

@@ -1,3 +1,4 @@
+pub mod Numbered
 pub mod Flights
 pub mod Refusals
 pub mod Places
@@ -8,9 +9,11 @@ pub mod Landings
 pub mod Steps
 pub mod Answers
 pub mod FirstWorld
+pub mod Completing
 pub mod InitialLaws
 pub mod DiskLaws
 pub mod KeptLaws
 pub mod SmallLaws
 pub mod WorldLaws
 pub mod FirstMoment
+pub mod IdleLaws

@@ -1,14 +1,14 @@
 -- What it means that nothing is refused.
+use Rattle.sl_plain.proofs.Lists.{find_inside}
 use Rattle.sl_run.specs.Worlds.{first_that}
 use Rattle.sl_run.specs.declared.event.Refusal.TheVariants.{MissingCall, MissingFlight, MissingLanding, MissingMachine, MissingPlace, MissingSample}
 use Rattle.sl_run.specs.declared.event.Refusal.{Refusal}
 use Rattle.sl_words.proofs.CaseLaws.{false_is_true}
-use Rattle.sl_words.specs.Words.{choose}
-use Rattle.sl_world.specs.FirstEvents.{answer_refusal, at_flight, flight_left, flight_numbered, flight_writes, land_refusal, on_first, sample_refusal}
+use Rattle.sl_world.specs.FirstEvents.{answer_refusal, at_flight, done_refusal, flight_left, flight_numbered, flight_writes, land_refusal, on_first, sample_refusal}
 use Rattle.sl_world.specs.Kept.{DiskState, FlightState, is_on_disk}
-use Rattle.std.proofs.Common.{refl, sym}
+use Rattle.std.proofs.Common.{ap, refl, sym, ◌∙◌}
 use Rattle.std.proofs.lemmas.Bool.Decides.{Decides-eqb}
-use Rattle.std.specs.Prelude.{Bool, None, Option, Some, false, is_none, is_some, nat_lt, not, true, [], ℕ, ◌&&◌, ◌==◌, ◌∷◌, ◌≡◌}
+use Rattle.std.specs.Prelude.{Bool, Contains, List, None, Option, Some, false, is_none, is_some, nat_lt, not, true, [], ℕ, ◌&&◌, ◌==◌, ◌∷◌, ◌≡◌}
 
 pub some_none : (r : Refusal) → Some r ≡ None → ⊥
 some_none r h = cc
@@ -30,20 +30,27 @@ pub is_on_first : (m : ℕ) (r : Option Refusal) → on_first m r ≡ None → (
 is_on_first m r h = passes_machine m r (m == 1) refl h
 
 -- A call is in flight, has this number, and passes.
-pub record Found (o : Option FlightState) (c : ℕ) (refusal : FlightState → Option Refusal) : Type 0 where
+pub record Found (fs : List FlightState) (c : ℕ) (refusal : FlightState → Option Refusal) : Type 0 where
   pub flight : FlightState
-  pub is : o ≡ Some flight
+  pub is : flight_numbered fs c ≡ Some flight
+  pub there : Contains fs flight
   pub number : (flight.call.number == c) ≡ true
   pub passes : refusal flight ≡ None
 
-found_by : (f : FlightState) (c : ℕ) (refusal : FlightState → Option Refusal) (b : Bool) → (f.call.number == c) ≡ b → at_flight (choose b f) refusal ≡ None
-    → Found (Some f) c refusal
-found_by f c refusal true is h = record { flight = f; is = refl; number = is; passes = h }
-found_by f c refusal false is h = absurd (some_none MissingCall h)
+found_by : (fs : List FlightState) (c : ℕ) (refusal : FlightState → Option Refusal) (o : Option FlightState) → flight_numbered fs c ≡ o → at_flight o refusal ≡ None
+    → Found fs c refusal
+found_by fs c refusal None is h = absurd (some_none MissingCall h)
+found_by fs c refusal (Some f) is h =
+    let x = find_inside (λ (g : FlightState). g.call.number == c) fs f is in
+    record { flight = f; is = is; there = x.0; number = x.1; passes = h }
 
-pub is_found : (o : Option FlightState) (c : ℕ) (refusal : FlightState → Option Refusal) → at_flight (flight_numbered o c) refusal ≡ None → Found o c refusal
-is_found None c refusal h = absurd (some_none MissingCall h)
-is_found (Some f) c refusal h = found_by f c refusal (f.call.number == c) refl h
+pub is_found : (fs : List FlightState) (c : ℕ) (refusal : FlightState → Option Refusal) → at_flight (flight_numbered fs c) refusal ≡ None → Found fs c refusal
+is_found fs c refusal h = found_by fs c refusal (flight_numbered fs c) refl h
+
+-- It passes where nothing refuses a call of this number.
+pub passes_found : (fs : List FlightState) (c : ℕ) (refusal : FlightState → Option Refusal) → at_flight (flight_numbered fs c) refusal ≡ None
+    → (f : FlightState) → flight_numbered fs c ≡ Some f → refusal f ≡ None
+passes_found fs c refusal h f is = sym (ap (λ o. at_flight o refusal) is) ∙ h
 
 -- Two tests, and neither holds.
 neither : (a b : Bool) (r s : Refusal) → first_that ((a, r) ∷ (b, s) ∷ []) ≡ None → (a ≡ false) × (b ≡ false)
@@ -84,3 +91,10 @@ land_passes d f h = write_passes (flight_writes f) (is_on_disk d.header f.call) 
 
 pub answer_passes : (f : FlightState) → answer_refusal f ≡ None → ((not (flight_writes f) && nat_lt 0 (flight_left f)) ≡ false) × ((flight_writes f && not f.landed) ≡ false)
 answer_passes f h = neither (not (flight_writes f) && nat_lt 0 (flight_left f)) (flight_writes f && not f.landed) MissingSample MissingLanding h
+
+placed_by : (b : Bool) → first_that ((not b, MissingPlace) ∷ []) ≡ None → b ≡ true
+placed_by true h = refl
+placed_by false h = absurd (some_none MissingPlace h)
+
+pub done_passes : (d : DiskState) (f : FlightState) → done_refusal d f ≡ None → is_on_disk d.header f.call ≡ true
+done_passes d f h = placed_by (is_on_disk d.header f.call) h

@@ -2,7 +2,7 @@
 use Rattle.std.specs.List.{list_any}
 use Rattle.sl_area.specs.Layouts.{Layout, layout_of}
 use Rattle.sl_run.specs.Events.{event_tests, is_placed, on_flight, refusal_of, sectors_left, sectors_of, needs_daemon, on_machine, is_read_course}
-use Rattle.sl_run.specs.Worlds.{Course, Daemon, Machine, World, first_that, flight_of, is_in_flight, is_landed, is_of_running, is_write_course, machine_at, mebibyte}
+use Rattle.sl_run.specs.Worlds.{Course, Daemon, Machine, World, first_that, flight_of, is_in_flight, is_landed, is_of_running, is_torn_fate, is_write_course, machine_at, mebibyte}
 use Rattle.sl_run.specs.declared.event.Event.TheVariants.{AnswerCall, Crash, Do, DropWrite, ExitOf, GiveCommand, Land, Pass, Reset, Restart, Sample, SpawnedOf, StartDaemon, Tear, Test, WakeUp}
 use Rattle.sl_run.specs.declared.event.Event.{Event}
 use Rattle.sl_run.specs.declared.event.Refusal.TheVariants.{MissingCall, MissingFlight, MissingLanding, MissingMachine, MissingPlace, MissingSample, Syntax}
@@ -12,19 +12,19 @@ use Rattle.sl_trace.specs.Traces.{is_write}
 use Rattle.sl_trace.specs.declared.effects.Call.{Call}
 use Rattle.sl_words.proofs.CaseLaws.{false_is_true}
 use Rattle.sl_words.specs.Words.{choose}
-use Rattle.sl_world.proofs.Flights.{Flying, flying, machine_is, no_flight, the_flight}
-use Rattle.sl_world.specs.FirstEvents.{answer_refusal, at_flight, flight_left, flight_numbered, flight_writes, is_first_event, land_refusal, on_first, refusal_in, sample_refusal}
+use Rattle.sl_world.proofs.Flights.{Flying, flying, machine_is, no_flight}
+use Rattle.sl_world.specs.FirstEvents.{answer_refusal, at_flight, done_refusal, flight_left, flight_numbered, flight_writes, is_first_event, land_refusal, on_first, refusal_in, sample_refusal}
 use Rattle.sl_world.specs.Kept.{FlightState, KeptState, Shown, Tells, fate_of, is_on_disk, shown, shown_of}
 use Rattle.std.proofs.Common.{ap, refl, ◌∙◌}
-use Rattle.std.specs.Prelude.{Bool, List, None, Option, Some, false, map, nat_lt, not, option_to_list, true, [], ℕ, ◌&&◌, ◌-◌, ◌==◌, ◌∷◌, ◌≡◌, bytes_eq, nat_le, ◌+◌, ◌*◌}
+use Rattle.std.specs.Prelude.{Bool, List, None, Option, Some, false, nat_lt, not, true, [], ℕ, ◌&&◌, ◌-◌, ◌==◌, ◌∷◌, ◌≡◌, bytes_eq, nat_le, ◌+◌, ◌*◌}
 
 -- ---- the tests one after another
 
-first_shape : (b : Bool) (ts : List (Bool × Refusal)) → first_that ((not b, Syntax) ∷ ts) ≡ elim b as (λ x. Option Refusal) [ false ↦ Some Syntax | true ↦ first_that ts ]
+pub first_shape : (b : Bool) (ts : List (Bool × Refusal)) → first_that ((not b, Syntax) ∷ ts) ≡ elim b as (λ x. Option Refusal) [ false ↦ Some Syntax | true ↦ first_that ts ]
 first_shape true ts = refl
 first_shape false ts = refl
 
-on_chosen : (o : Option Machine) (t : Bool) (a : Machine) (f : Machine → List (Bool × Refusal)) → o ≡ choose t a
+pub on_chosen : (o : Option Machine) (t : Bool) (a : Machine) (f : Machine → List (Bool × Refusal)) → o ≡ choose t a
     → first_that (elim o as (λ x. List (Bool × Refusal)) [ None ↦ (true, MissingMachine) ∷ [] | Some b ↦ f b ])
     ≡ elim t as (λ x. Option Refusal) [ false ↦ Some MissingMachine | true ↦ first_that (f a) ]
 on_chosen o true a f h = rw h refl
@@ -37,13 +37,12 @@ with_daemon a d ts h = rw h refl
 abbrev of_kind : Bool → List (Bool × Refusal) → List (Bool × Refusal)
 of_kind b ts = elim b [ false ↦ (true, MissingCall) ∷ [] | true ↦ ts ]
 
-on_course : (o : Option Course) (t : Bool) (x : Course) (f : FlightState) (p : Course → Bool) (ts : Course → List (Bool × Refusal)) (refusal : FlightState → Option Refusal)
-    → o ≡ choose t x → first_that (of_kind (p x) (ts x)) ≡ refusal f
-    → first_that (elim o as (λ x. List (Bool × Refusal)) [ None ↦ (true, MissingCall) ∷ [] | Some c ↦ of_kind (p c) (ts c) ]) ≡ at_flight (choose t f) refusal
-on_course o true x f p ts refusal h same = rw h same
-on_course o false x f p ts refusal h same = rw h refl
+on_course : (o : Option Course) (x : Course) (f : FlightState) (p : Course → Bool) (ts : Course → List (Bool × Refusal)) (refusal : FlightState → Option Refusal)
+    → o ≡ Some x → first_that (of_kind (p x) (ts x)) ≡ refusal f
+    → first_that (elim o as (λ x. List (Bool × Refusal)) [ None ↦ (true, MissingCall) ∷ [] | Some c ↦ of_kind (p c) (ts c) ]) ≡ refusal f
+on_course o x f p ts refusal h same = rw h same
 
-on_no_course : (o : Option Course) (p : Course → Bool) (ts : Course → List (Bool × Refusal)) → o ≡ None
+pub on_no_course : (o : Option Course) (p : Course → Bool) (ts : Course → List (Bool × Refusal)) → o ≡ None
     → first_that (elim o as (λ x. List (Bool × Refusal)) [ None ↦ (true, MissingCall) ∷ [] | Some c ↦ of_kind (p c) (ts c) ]) ≡ Some MissingCall
 on_no_course o p ts h = rw h refl
 
@@ -119,18 +118,38 @@ answer_is f x runs is shows =
     rw is (ap answer_by shows
     ∙ ap (λ p. first_that ((not (flight_writes f) && nat_lt 0 (flight_left f), MissingSample) ∷ (flight_writes f && not p, MissingLanding) ∷ [])) (landed_is f.landed))
 
+-- ---- a call done whole
+
+not_torn : (b : Bool) → is_torn_fate (fate_of b) ≡ false
+not_torn true = refl
+not_torn false = refl
+
+place_alone : (b : Bool) → first_that ((b, MissingPlace) ∷ (false, MissingLanding) ∷ []) ≡ first_that ((b, MissingPlace) ∷ [])
+place_alone true = refl
+place_alone false = refl
+
+abbrev done_by : World → Shown → Option Refusal
+done_by w s = first_that ((not (is_placed w s.call), MissingPlace) ∷ (is_torn_fate s.fate, MissingLanding) ∷ [])
+
+done_is : (k : KeptState) (w : World) (a : Machine) (d : Daemon) (f : FlightState) (x : Course) (runs : Bool) → Tells k w a d → runs ≡ true → shown x ≡ shown_of f
+    → first_that (of_kind runs ((not (is_placed w x.call), MissingPlace) ∷ (is_torn_fate x.fate, MissingLanding) ∷ [])) ≡ done_refusal k.disk f
+done_is k w a d f x runs t is shows =
+    rw is (ap (done_by w) shows
+    ∙ ap (λ b. first_that ((not (is_placed w f.call), MissingPlace) ∷ (b, MissingLanding) ∷ [])) (not_torn f.landed)
+    ∙ place_alone (not (is_placed w f.call))
+    ∙ ap (λ b. first_that ((not b, MissingPlace) ∷ [])) (placed_is w k.disk.header f.call t.header t.layout))
+
 -- ---- the events
 
--- Tests on the call in flight, whatever they are.
+-- Tests on the call in flight with this number, whatever they are.
 at_machine : (k : KeptState) (w : World) (a : Machine) (d : Daemon) (c : ℕ) (o : Option FlightState) (p : Course → Bool) (ts : Course → List (Bool × Refusal))
-    (refusal : FlightState → Option Refusal) → Tells k w a d → k.flight ≡ o
-    → ((f : FlightState) (y : Flying a f) → first_that (of_kind (p y.course) (ts y.course)) ≡ refusal f)
-    → first_that (on_flight a c p ts) ≡ at_flight (flight_numbered o c) refusal
-at_machine k w a d c None p ts refusal t is same =
-    on_no_course (flight_of a c) p ts (no_flight a c (t.calls ∙ ap (λ o. map shown_of (option_to_list o)) is))
+    (refusal : FlightState → Option Refusal) → Tells k w a d → flight_numbered k.flights c ≡ o
+    → ((f : FlightState) (y : Flying a c f) → first_that (of_kind (p y.course) (ts y.course)) ≡ refusal f)
+    → first_that (on_flight a c p ts) ≡ at_flight o refusal
+at_machine k w a d c None p ts refusal t is same = on_no_course (flight_of a c) p ts (no_flight a d c k.flights t.runs t.first t.calls is)
 at_machine k w a d c (Some f) p ts refusal t is same =
-    let y = flying a d f t.runs t.first (t.calls ∙ ap (λ o. map shown_of (option_to_list o)) is) in
-    on_course (flight_of a c) (f.call.number == c) y.course f p ts refusal (the_flight a f y c) (same f y)
+    let y : Flying a c f = flying a d c k.flights f t.runs t.first t.calls is in
+    on_course (flight_of a c) y.course f p ts refusal y.found (same f y)
 
 -- What is kept refuses what the world refuses.
 pub refusal_is : (k : KeptState) (w : World) (a : Machine) (d : Daemon) (e : Event) → Tells k w a d → is_first_event e ≡ true → refusal_of w e ≡ refusal_in k e
@@ -144,22 +163,27 @@ refusal_is k w a d (Sample m c n) t first =
     ∙ ap (λ r. elim (nat_lt 0 n) as (λ x. Option Refusal) [ false ↦ Some Syntax | true ↦ r ])
     (on_chosen (machine_at w m) (m == 1) a (λ b. needs_daemon b ∷ on_flight b c is_read_course ts) (machine_is w a m t.alone)
     ∙ ap (λ r. on_first m r) (with_daemon a d (on_flight a c is_read_course ts) t.runs
-    ∙ at_machine k w a d c k.flight is_read_course ts (sample_refusal k.disk n) t refl (λ f y. sample_is k w a d n f y.course t y.shows)))
+    ∙ at_machine k w a d c (flight_numbered k.flights c) is_read_course ts (sample_refusal k.disk n) t refl (λ f y. sample_is k w a d n f y.course t y.shows)))
 refusal_is k w a d (Land m c) t first =
     let ts : Course → List (Bool × Refusal) = λ f. (not (is_placed w f.call), MissingPlace) ∷ (not (is_in_flight f.fate), MissingFlight) ∷ [] in
     on_chosen (machine_at w m) (m == 1) a (λ b. on_flight b c is_write_course ts) (machine_is w a m t.alone)
-    ∙ ap (λ r. on_first m r) (at_machine k w a d c k.flight is_write_course ts (land_refusal k.disk) t refl (λ f y. land_is k w a d f y.course t y.shows))
+    ∙ ap (λ r. on_first m r) (at_machine k w a d c (flight_numbered k.flights c) is_write_course ts (land_refusal k.disk) t refl (λ f y. land_is k w a d f y.course t y.shows))
 refusal_is k w a d (AnswerCall m c true) t first =
     let ts : Course → List (Bool × Refusal) =
     λ f. (true && is_read_course f && nat_lt 0 (sectors_left f), MissingSample) ∷ (true && is_write_course f && not (is_landed f.fate), MissingLanding) ∷ [] in
     on_chosen (machine_at w m) (m == 1) a (λ b. needs_daemon b ∷ on_flight b c (is_of_running b) ts) (machine_is w a m t.alone)
     ∙ ap (λ r. on_first m r) (with_daemon a d (on_flight a c (is_of_running a) ts) t.runs
-    ∙ at_machine k w a d c k.flight (is_of_running a) ts answer_refusal t refl (λ f y. answer_is f y.course (is_of_running a y.course) y.runs y.shows))
+    ∙ at_machine k w a d c (flight_numbered k.flights c) (is_of_running a) ts answer_refusal t refl (λ f y. answer_is f y.course (is_of_running a y.course) y.runs y.shows))
 refusal_is k w a d (AnswerCall m c false) t first = absurd (false_is_true first)
+refusal_is k w a d (Do m c) t first =
+    let ts : Course → List (Bool × Refusal) = λ f. (not (is_placed w f.call), MissingPlace) ∷ (is_torn_fate f.fate, MissingLanding) ∷ [] in
+    on_chosen (machine_at w m) (m == 1) a (λ b. needs_daemon b ∷ on_flight b c (is_of_running b) ts) (machine_is w a m t.alone)
+    ∙ ap (λ r. on_first m r) (with_daemon a d (on_flight a c (is_of_running a) ts) t.runs
+    ∙ at_machine k w a d c (flight_numbered k.flights c) (is_of_running a) ts (done_refusal k.disk) t refl
+    (λ f y. done_is k w a d f y.course (is_of_running a y.course) t y.runs y.shows))
 refusal_is k w a d (Pass x y) t first = absurd (false_is_true first)
 refusal_is k w a d (WakeUp m) t first = absurd (false_is_true first)
 refusal_is k w a d (Tear m c n b) t first = absurd (false_is_true first)
-refusal_is k w a d (Do m c) t first = absurd (false_is_true first)
 refusal_is k w a d (DropWrite m c) t first = absurd (false_is_true first)
 refusal_is k w a d (Test m) t first = absurd (false_is_true first)
 refusal_is k w a d (ExitOf m p) t first = absurd (false_is_true first)

@@ -1,22 +1,24 @@
 -- What is kept tells of the world after a sample.
-use Rattle.sl_words.proofs.CaseLaws.{some_value}
+use Rattle.sl_plain.proofs.Lists.{find_inside}
+use Rattle.sl_words.proofs.CaseLaws.{one_value}
 use Rattle.sl_area.specs.Layouts.{Layout}
-use Rattle.sl_run.specs.Events.{change_call, happens, rest_sampled, sampled_more, sample_at}
+use Rattle.sl_run.specs.Events.{change_call, first_change, happens, next_step, rest_sampled, sample_at, sampled_more, take_step}
 use Rattle.sl_run.specs.Worlds.{Course, Daemon, Machine, World, content}
 use Rattle.sl_run.specs.declared.event.Event.TheVariants.{Sample}
 use Rattle.sl_trace.specs.Traces.{no_effects}
 use Rattle.sl_trace.specs.declared.effects.Call.{Call}
-use Rattle.sl_world.proofs.Flights.{Flying, flying}
-use Rattle.sl_world.proofs.Solo.{sample_makes, sampled_machine, solo_is, still_held, waiting_changed}
-use Rattle.sl_world.specs.Changes.{after_sample, flight_sampled, sectors_from}
-use Rattle.sl_world.specs.FirstEvents.{flight_left}
+use Rattle.sl_world.proofs.Flights.{changed_alike}
+use Rattle.sl_world.proofs.Numbered.{change_holds, change_is_each, change_keeps}
+use Rattle.sl_world.proofs.Solo.{quiet_machine, quiet_tells, solo, solo_is, waiting_changed}
+use Rattle.sl_world.specs.Changes.{change_flight, flight_sampled, kept_sampled, sectors_from}
+use Rattle.sl_world.specs.FirstEvents.{flight_left, flight_numbered}
 use Rattle.sl_world.specs.Kept.{DiskState, FlightState, IsFlight, KeptState, Shown, Tells, kept_content, kept_sector, shown, shown_of, waiting, IsSized}
 use Rattle.std.proofs.Common.{ap, arith, length-append, refl, subst, sym, ◌∙◌}
 use Rattle.std.proofs.Math.Path.{fun_ext}
 use Rattle.std.proofs.lemmas.Bool.Decides.{nat_tests}
 use Rattle.std.proofs.lemmas.List.FromFn.{length-map-range_with_len, length-range_with_len}
 use Rattle.std.specs.List.{range_with_len}
-use Rattle.std.specs.Prelude.{List, Some, false, flat_map, length, map, nat_lt, option_to_list, true, [], ℕ, ◌*◌, ◌++◌, ◌+◌, ◌-◌, ◌==◌, ◌∷◌, ◌≡◌, ◌≤◌}
+use Rattle.std.specs.Prelude.{AllPairs, List, None, Some, false, flat_map, length, map, nat_lt, [], ℕ, ◌*◌, ◌++◌, ◌+◌, ◌-◌, ◌==◌, ◌∷◌, ◌≡◌, ◌≢◌, ◌≤◌}
 
 -- ---- lengths
 
@@ -72,27 +74,31 @@ shown_more w n x = ap (λ m. record (shown x) { sampled = rest_sampled w x n; se
 same_contents : (k : KeptState) (w : World) (a : Machine) (d : Daemon) → Tells k w a d → content w ≡ kept_content k.disk
 same_contents k w a d t = fun_ext (λ (path : List ℕ). fun_ext (λ (offset : ℕ). t.places path offset))
 
-sample_shows : (k : KeptState) (w : World) (a : Machine) (d : Daemon) (n : ℕ) (f : FlightState) (x : Course) → Tells k w a d → shown x ≡ shown_of f
+pub sample_shows : (k : KeptState) (w : World) (a : Machine) (d : Daemon) (n : ℕ) (f : FlightState) (x : Course) → Tells k w a d → shown x ≡ shown_of f
     → shown (sampled_more w n x) ≡ shown_of (flight_sampled k.disk n f)
 sample_shows k w a d n f x t shows =
     shown_more w n x ∙ ap (sampled_shown (content w) w.layout.sector n) shows
     ∙ ap (λ (g : Layout). sampled_shown (content w) g.sector n (shown_of f)) t.layout
     ∙ ap (λ contents. sampled_shown contents (kept_sector k.disk) n (shown_of f)) (same_contents k w a d t)
 
-sample_calls : (k : KeptState) (w : World) (a : Machine) (d : Daemon) (c n : ℕ) (f : FlightState) (y : Flying a f) → Tells k w a d → (f.call.number == c) ≡ true
-    → map shown (waiting (change_call c (sampled_more w n) a)) ≡ shown_of (flight_sampled k.disk n f) ∷ []
-sample_calls k w a d c n f y t number =
-    ap (map shown) (waiting_changed c (sampled_more w n) (λ x. refl) a.calls)
-    ∙ ap (λ cs. map shown (map (λ x. elim (x.call.number == c) as (λ x. Course) [ true ↦ sampled_more w n x | false ↦ x ]) cs)) y.alone
-    ∙ ap (λ b. shown (elim b as (λ x. Course) [ true ↦ sampled_more w n y.course | false ↦ y.course ]) ∷ []) (ap (λ (s : Shown). s.call.number == c) y.shows ∙ number)
-    ∙ ap (λ s. s ∷ []) (sample_shows k w a d n f y.course t y.shows)
-
 -- ---- the world
 
-sampled_tells : (k : KeptState) (w : World) (a : Machine) (d : Daemon) (c n step : ℕ) (f : FlightState) (y : Flying a f) → Tells k w a d → IsSized k.disk
-    → k.flight ≡ Some f → (f.call.number == c) ≡ true → nat_lt (flight_left f) n ≡ false
-    → Tells (after_sample n f k) (record w { machines = sampled_machine w c n a ∷ []; step = step }) (sampled_machine w c n a) d
-sampled_tells k w a d c n step f y t sized is number few =
+-- The world with the sample.
+abbrev pub sampled_world : World → Machine → ℕ → ℕ → World
+sampled_world w a c n = record w { machines = change_call c (sampled_more w n) a ∷ [] }
+
+sample_calls : (k : KeptState) (w : World) (a : Machine) (d : Daemon) (c n : ℕ) → Tells k w a d
+    → map shown (waiting (change_call c (sampled_more w n) a)) ≡ map shown_of (change_flight c (flight_sampled k.disk n) k.flights)
+sample_calls k w a d c n t =
+    ap (map shown) (waiting_changed c (sampled_more w n) (λ x. refl) a.calls)
+    ∙ changed_alike c (sampled_more w n) (flight_sampled k.disk n) (λ x f shows. sample_shows k w a d n f x t shows) (waiting a) k.flights t.calls
+    ∙ ap (map shown_of) (sym (change_is_each c (flight_sampled k.disk n) k.flights t.apart))
+
+-- What is kept with so many sectors more of a call that has so many left.
+pub sampled_tells : (k : KeptState) (w : World) (a : Machine) (d : Daemon) (c n : ℕ) (f : FlightState) → Tells k w a d → IsSized k.disk
+    → flight_numbered k.flights c ≡ Some f → nat_lt (flight_left f) n ≡ false
+    → Tells (kept_sampled c n k) (sampled_world w a c n) (change_call c (sampled_more w n) a) d
+sampled_tells k w a d c n f t sized is few =
     record {
       header = t.header;
       layout = t.layout;
@@ -102,22 +108,29 @@ sampled_tells k w a d c n step f y t sized is number few =
       first = t.first;
       resets = t.resets;
       reading = t.reading;
-      calls = sample_calls k w a d c n f y t number;
-      flight = λ g eq. subst (IsFlight (kept_sector k.disk)) (some_value _ _ eq) (sampled_is_flight k.disk n f sized (t.flight f is) few);
-      held = still_held a.holdings ∙ t.held;
+      calls = sample_calls k w a d c n t;
+      flight = change_holds (IsFlight (kept_sector k.disk)) c (flight_sampled k.disk n) k.flights t.flight
+          (λ y at. sampled_is_flight k.disk n y sized (t.flight y (find_inside (λ (g : FlightState). g.call.number == c) k.flights y at).0)
+          (subst (λ (g : FlightState). nat_lt (flight_left g) n ≡ false) (one_value f y (flight_numbered k.flights c) is at) few));
+      apart = subst (AllPairs (λ m n. m ≢ n)) (sym (change_keeps c (flight_sampled k.disk n) (λ g. g.call.number) (λ g. refl) k.flights)) t.apart;
+      held = t.held;
       connections = t.connections;
       places = t.places;
-      outstanding = t.outstanding ∙ ap (λ o. map (λ (g : FlightState). g.call) (option_to_list o)) is;
+      outstanding = t.outstanding ∙ sym (change_keeps c (flight_sampled k.disk n) (λ g. g.call) (λ g. refl) k.flights);
       sizes = t.sizes;
       still = t.still;
     }
 
+sample_makes : (w : World) (a : Machine) (c n : ℕ)
+    → take_step 1 None no_effects (next_step (sampled_world w a c n)) ≡ happens (solo w a) (Sample 1 c n) (no_effects ∷ [])
+unfolding first_change
+sample_makes w a c n = refl
+
 -- What is kept after a sample of so many sectors.
 pub sample_tells : (k : KeptState) (w : World) (a : Machine) (d : Daemon) (c n : ℕ) (f : FlightState) → Tells k w a d → IsSized k.disk
-    → k.flight ≡ Some f → (f.call.number == c) ≡ true → nat_lt (flight_left f) n ≡ false
-    → Tells (after_sample n f k) (happens w (Sample 1 c n) (no_effects ∷ [])) (sampled_machine w c n a) d
-sample_tells k w a d c n f t sized is number few =
-    let y : Flying a f = flying a d f t.runs t.first (t.calls ∙ ap (λ o. map shown_of (option_to_list o)) is) in
-    let P : World → Type 0 = λ v. Tells (after_sample n f k) v (sampled_machine w c n a) d in
-    subst P (sym (sample_makes w a c n) ∙ ap (λ v. happens v (Sample 1 c n) (no_effects ∷ [])) (solo_is w a t.alone))
-    (sampled_tells k w a d c n (w.step + 1 + 1) f y t sized is number few)
+    → flight_numbered k.flights c ≡ Some f → nat_lt (flight_left f) n ≡ false
+    → Tells (kept_sampled c n k) (happens w (Sample 1 c n) (no_effects ∷ [])) (quiet_machine (change_call c (sampled_more w n) a)) d
+sample_tells k w a d c n f t sized is few =
+    let P : World → Type 0 = λ v. Tells (kept_sampled c n k) v (quiet_machine (change_call c (sampled_more w n) a)) d in
+    subst P (sample_makes w a c n ∙ ap (λ v. happens v (Sample 1 c n) (no_effects ∷ [])) (solo_is w a t.alone))
+    (quiet_tells (kept_sampled c n k) (sampled_world w a c n) (change_call c (sampled_more w n) a) d (sampled_tells k w a d c n f t sized is few))

@@ -1,4 +1,5 @@
 -- What is kept tells of the world after a step of the daemon.
+use Rattle.sl_plain.proofs.Lists.{contains_cases}
 use Rattle.sl_run.specs.Events.{daemon_number, new_course, with_entry}
 use Rattle.sl_run.specs.Worlds.{Course, Daemon, Machine, Stamp, World, reading_now}
 use Rattle.sl_trace.specs.Connections.{after_move}
@@ -7,14 +8,13 @@ use Rattle.sl_trace.specs.declared.effects.Call.{Call}
 use Rattle.sl_trace.specs.declared.effects.Effects.{Effects}
 use Rattle.sl_trace.specs.declared.effects.Entry.{Entry}
 use Rattle.sl_trace.specs.declared.input.Input.{Input}
-use Rattle.sl_words.proofs.CaseLaws.{some_value}
-use Rattle.sl_world.specs.Changes.{after_own_step, flight_after, new_flight}
+use Rattle.sl_world.proofs.Numbered.{pairs_mapped}
+use Rattle.sl_world.specs.Changes.{after_own_step, flights_after, new_flight}
 use Rattle.sl_world.specs.Daemons.{entry_of}
-use Rattle.sl_world.specs.Kept.{FlightState, IsFlight, KeptState, Shown, Tells, is_waiting, kept_sector, shown, shown_of}
-use Rattle.std.proofs.Common.{ap, arith, refl, subst, sym, ◌∙◌}
-use Rattle.std.proofs.lemmas.List.{length-map}
+use Rattle.sl_world.specs.Kept.{FlightState, IsFlight, KeptState, Shown, Tells, flight_numbers, is_waiting, kept_sector, shown, shown_of}
+use Rattle.std.proofs.Common.{ap, arith, inl, inr, refl, subst, sym, ◌∙◌}
 use Rattle.std.specs.Option.{option_map_or}
-use Rattle.std.specs.Prelude.{Bool, List, None, Option, Some, false, filter, fold, is_none, length, map, option_map, option_to_list, suc, true, [], ℕ, ◌*◌, ◌+◌, ◌∷◌, ◌≡◌, ◌≤◌}
+use Rattle.std.specs.Prelude.{AllPairs, Bool, Contains, List, Some, false, filter, fold, is_none, length, map, option_map, true, [], ℕ, ◌*◌, ◌∷◌, ◌≡◌, ◌≢◌, ◌≤◌, ◌⊎◌}
 
 -- ---- new calls on top of the others
 
@@ -30,34 +30,11 @@ piled r g mk waits (c ∷ cs) xs =
     piled r g mk waits cs (mk c ∷ xs)
     ∙ ap (λ zs. fold (λ zs c. g (mk c) ∷ zs) zs cs) (pile_at r g (mk c) xs (r (mk c)) refl (waits c))
 
-pile_counts : (n a m : ℕ) → m ≡ suc n + a → m ≡ n + suc a
-pile_counts n a m h = omega (arith, h)
-
-plus_none : (n : ℕ) → n ≡ n + 0
-plus_none n = omega arith
-
-pile_length : (cs : List Call) (xs : List Call) → length (fold (λ ys c. c ∷ ys) xs cs) ≡ length xs + length cs
-pile_length [] xs = plus_none (length xs)
-pile_length (c ∷ cs) xs = pile_counts (length xs) (length cs) _ (pile_length cs (c ∷ xs))
-
--- ---- at most one waits
-
-two_at_most : (n : ℕ) → n + suc (suc 0) ≤ 1 → ⊥
-two_at_most n h = omega (arith, h)
-
-too_many : (n a : ℕ) → n + suc (suc a) ≤ 1 → ⊥
-too_many n a h = omega (arith, h)
-
-one_besides : suc 0 + suc 0 ≤ 1 → ⊥
-one_besides h = omega (arith, h)
-
--- The one that waits then.
-pub top_is : {B : Type 0} (g : FlightState → B) (cs : List Call) (o : Option FlightState) → length (option_to_list o) + length cs ≤ 1
-    → fold (λ zs c. g (new_flight c) ∷ zs) (map g (option_to_list o)) cs ≡ map g (option_to_list (flight_after cs o))
-top_is g [] o few = refl
-top_is g (c ∷ []) None few = refl
-top_is g (c ∷ []) (Some f) few = absurd (one_besides few)
-top_is g (c ∷ b ∷ cs) o few = absurd (too_many (length (option_to_list o)) (length cs) few)
+-- .. each seen as that which is kept.
+mapped_pile : {B : Type 0} (g : FlightState → B) (cs : List Call) (fs : List FlightState)
+    → fold (λ zs c. g (new_flight c) ∷ zs) (map g fs) cs ≡ map g (flights_after cs fs)
+mapped_pile g [] fs = refl
+mapped_pile g (c ∷ cs) fs = mapped_pile g cs (new_flight c ∷ fs)
 
 -- ---- the trace
 
@@ -65,16 +42,17 @@ out_piled : (es : Trace) (e : Entry) → map (λ m. m.call) (outstanding (e ∷ 
     ≡ fold (λ zs c. c ∷ zs) (map (λ m. m.call) (unanswered (mark es e e.input (submitted es)))) e.effects.calls
 out_piled es e = piled (λ (m : Submitted). is_none m.answer) (λ m. m.call) (new_call (length es) e.reading) (λ c. refl) e.effects.calls (mark es e e.input (submitted es))
 
-few_of : (es : Trace) (e : Entry) (o : Option FlightState)
-    → map (λ m. m.call) (unanswered (mark es e e.input (submitted es))) ≡ map (λ f. f.call) (option_to_list o)
-    → length (outstanding (e ∷ es)) ≤ 1 → length (option_to_list o) + length e.effects.calls ≤ 1
-few_of es e o out small =
-    let counted : length (outstanding (e ∷ es)) ≡ length (option_to_list o) + length e.effects.calls =
-    sym (length-map (outstanding (e ∷ es)) (λ m. m.call)) ∙ ap length (out_piled es e)
-    ∙ pile_length e.effects.calls (map (λ m. m.call) (unanswered (mark es e e.input (submitted es))))
-    ∙ ap (λ cs. length cs + length e.effects.calls) out
-    ∙ ap (λ n. n + length e.effects.calls) (length-map (option_to_list o) (λ (f : FlightState). f.call)) in
-    subst (λ n. n ≤ 1) counted small
+numbers_of : {A : Type 0} (v : A → Call) (xs : List A) → map (λ x. (v x).number) xs ≡ map (λ c. c.number) (map v xs)
+numbers_of v [] = refl
+numbers_of v (x ∷ xs) = ap (λ ns. (v x).number ∷ ns) (numbers_of v xs)
+
+-- Calls that are apart in the trace are apart where they are kept.
+apart_by : (ms : List Submitted) (fs : List FlightState) → map (λ m. m.call) ms ≡ map (λ f. f.call) fs → AllPairs (λ m n. m.call.number ≢ n.call.number) ms
+    → AllPairs (λ m n. m ≢ n) (flight_numbers fs)
+apart_by ms fs same apart =
+    let is : map (λ (m : Submitted). m.call.number) ms ≡ flight_numbers fs =
+    numbers_of (λ (m : Submitted). m.call) ms ∙ ap (map (λ (c : Call). c.number)) same ∙ sym (numbers_of (λ (f : FlightState). f.call) fs) in
+    subst (AllPairs (λ m n. m ≢ n)) is (pairs_mapped (λ (m : Submitted). m.call.number) (λ m n. m ≢ n) ms apart)
 
 -- ---- the machine
 
@@ -104,24 +82,31 @@ at_least_none n = omega arith
 new_is_flight : (s : ℕ) (c : Call) → IsFlight s (new_flight c)
 new_is_flight s c = record { whole = no_sectors s; few = at_least_none _ }
 
-flight_after_is : (s : ℕ) (cs : List Call) (o : Option FlightState) → ((f : FlightState) → o ≡ Some f → IsFlight s f)
-    → (f : FlightState) → flight_after cs o ≡ Some f → IsFlight s f
-flight_after_is s [] o each f h = each f h
-flight_after_is s (c ∷ cs) o each f h = subst (IsFlight s) (some_value _ _ h) (new_is_flight s c)
+top_is : (s : ℕ) (c : Call) (fs : List FlightState) (f : FlightState) → (new_flight c ≡ f) ⊎ Contains fs f → ((g : FlightState) → Contains fs g → IsFlight s g) → IsFlight s f
+top_is s c fs f (inl new) each = subst (IsFlight s) new (new_is_flight s c)
+top_is s c fs f (inr old) each = each f old
+
+flights_after_are : (s : ℕ) (cs : List Call) (fs : List FlightState) → ((f : FlightState) → Contains fs f → IsFlight s f)
+    → (f : FlightState) → Contains (flights_after cs fs) f → IsFlight s f
+flights_after_are s [] fs each f there = each f there
+flights_after_are s (c ∷ cs) fs each f there =
+    flights_after_are s cs (new_flight c ∷ fs) (λ g in_it. top_is s c fs g (contains_cases (new_flight c) fs g in_it) each) f there
 
 -- What is true once the input is taken: these calls wait, in the machine and in the trace.
-pub record Taken (k : KeptState) (d : Daemon) (i : Input) (fx : Effects) (closed : List Course) (o : Option FlightState) : Type 0 where
-  pub calls : map shown (filter is_waiting closed) ≡ map shown_of (option_to_list o)
-  pub out : map (λ m. m.call) (unanswered (mark d.trace (entry_of k.reading i fx) i (submitted d.trace))) ≡ map (λ f. f.call) (option_to_list o)
-  pub flight : (f : FlightState) → o ≡ Some f → IsFlight (kept_sector k.disk) f
+pub record Taken (k : KeptState) (d : Daemon) (i : Input) (fx : Effects) (closed : List Course) (fs : List FlightState) : Type 0 where
+  pub calls : map shown (filter is_waiting closed) ≡ map shown_of fs
+  pub out : map (λ m. m.call) (unanswered (mark d.trace (entry_of k.reading i fx) i (submitted d.trace))) ≡ map (λ f. f.call) fs
+  pub flight : (f : FlightState) → Contains fs f → IsFlight (kept_sector k.disk) f
 
 -- What is kept after the step.
 pub step_tells : (k : KeptState) (w : World) (a : Machine) (d : Daemon) (now : Stamp) (step : ℕ) (i : Input) (fx : Effects) (closed : List Course)
-    (o : Option FlightState) → Tells k w a d → Taken k d i fx closed o → length (outstanding (entry_of k.reading i fx ∷ d.trace)) ≤ 1
-    → Tells (after_own_step fx o k) (record w { machines = stepped now i fx closed a ∷ []; step = step }) (stepped now i fx closed a)
+    (fs : List FlightState) → Tells k w a d → Taken k d i fx closed fs
+    → AllPairs (λ m n. m.call.number ≢ n.call.number) (outstanding (entry_of k.reading i fx ∷ d.trace))
+    → Tells (after_own_step fx fs k) (record w { machines = stepped now i fx closed a ∷ []; step = step }) (stepped now i fx closed a)
     (with_entry (entry_of k.reading i fx) now d)
-step_tells k w a d now step i fx closed o t x small =
-    let few : length (option_to_list o) + length fx.calls ≤ 1 = few_of d.trace (entry_of k.reading i fx) o x.out small in
+step_tells k w a d now step i fx closed fs t x apart =
+    let open_now : map (λ m. m.call) (outstanding (entry_of k.reading i fx ∷ d.trace)) ≡ map (λ f. f.call) (flights_after fx.calls fs) =
+    out_piled d.trace (entry_of k.reading i fx) ∙ ap (λ zs. fold (λ zs c. c ∷ zs) zs fx.calls) x.out ∙ mapped_pile (λ f. f.call) fx.calls fs in
     record {
       header = t.header;
       layout = t.layout;
@@ -135,13 +120,13 @@ step_tells k w a d now step i fx closed o t x small =
       calls = piled is_waiting shown (new_course now (daemon_number a)) (λ c. refl) fx.calls closed
           ∙ new_shown now (daemon_number a) fx.calls (map shown (filter is_waiting closed)) (number_is a d t.runs t.first)
           ∙ ap (λ zs. fold (λ zs c. shown_of (new_flight c) ∷ zs) zs fx.calls) x.calls
-          ∙ top_is shown_of fx.calls o few;
-      flight = flight_after_is (kept_sector k.disk) fx.calls o x.flight;
+          ∙ mapped_pile shown_of fx.calls fs;
+      flight = flights_after_are (kept_sector k.disk) fx.calls fs x.flight;
+      apart = apart_by (outstanding (entry_of k.reading i fx ∷ d.trace)) (flights_after fx.calls fs) open_now apart;
       held = ap (held_after fx) t.held;
       connections = ap (λ cs. fold after_move cs fx.moves) t.connections;
       places = t.places;
-      outstanding = out_piled d.trace (entry_of k.reading i fx) ∙ ap (λ zs. fold (λ zs c. c ∷ zs) zs fx.calls) x.out
-          ∙ top_is (λ f. f.call) fx.calls o few;
+      outstanding = open_now;
       sizes = t.sizes;
       still = t.still;
     }

@@ -8,7 +8,7 @@ use Rattle.sl_trace.specs.declared.effects.Entry.{Entry}
 use Rattle.sl_trace.specs.declared.input.Given.{Given}
 use Rattle.sl_trace.specs.declared.input.Input.TheVariants.{Answer as Told, Line}
 use Rattle.sl_trace.specs.declared.input.Input.{Input}
-use Rattle.std.specs.Prelude.{Bool, Contains, IsTrue, Some, false, length, true, ℕ, ◌∷◌, ◌≡◌, ◌≤◌}
+use Rattle.std.specs.Prelude.{AllPairs, Bool, Contains, IsTrue, Some, false, length, true, ℕ, ◌∷◌, ◌≡◌, ◌≢◌, ◌≤◌}
 
 -- A command line, or an answer ok.
 abbrev pub is_calm : Input → Bool
@@ -43,6 +43,6 @@ pub record IsSmallStep (fx : Effects) : Type 0 where
 
 -- What an entry of such a daemon never exceeds.
 pub record IsSmall (es : Trace) (e : Entry) : Type 0 where
-  -- a second call without an answer would have to be kept beside the first
-  pub calls : length (outstanding (e ∷ es)) ≤ 1
+  -- an answer names its call by the number alone: of two calls with one number it couldn't be told which is answered
+  pub apart : AllPairs (λ m n. m.call.number ≢ n.call.number) (outstanding (e ∷ es))
   pub step : IsSmallStep e.effects

@@ -1,27 +1,26 @@
--- The events of the first path, and why one may not happen, by what is kept.
+-- The events of a machine whose clock stands still, and why one may not happen, by what is kept.
 use Rattle.sl_run.specs.Events.{sectors_of}
 use Rattle.sl_run.specs.Worlds.{first_that}
-use Rattle.sl_run.specs.declared.event.Event.TheVariants.{AnswerCall, GiveCommand, Land, Sample}
+use Rattle.sl_run.specs.declared.event.Event.TheVariants.{AnswerCall, Do, GiveCommand, Land, Sample}
 use Rattle.sl_run.specs.declared.event.Event.{Event}
 use Rattle.sl_run.specs.declared.event.Refusal.TheVariants.{MissingCall, MissingFlight, MissingLanding, MissingMachine, MissingPlace, MissingSample, Syntax}
 use Rattle.sl_run.specs.declared.event.Refusal.{Refusal}
 use Rattle.sl_trace.specs.Traces.{is_write}
-use Rattle.sl_words.specs.Words.{choose}
 use Rattle.sl_world.specs.Kept.{DiskState, FlightState, KeptState, is_on_disk}
-use Rattle.std.specs.Prelude.{Bool, None, Option, Some, false, nat_lt, not, true, [], ℕ, ◌&&◌, ◌-◌, ◌==◌, ◌∷◌}
+use Rattle.std.specs.Prelude.{Bool, List, None, Option, Some, false, find, nat_lt, not, true, [], ℕ, ◌&&◌, ◌-◌, ◌==◌, ◌∷◌}
 
--- Whether the event is one of these: a command, sampling, a landing, an answer ok.
+-- Whether the event is one of these: a command, sampling, a landing, an answer ok, a call done whole.
 abbrev pub is_first_event : Event → Bool
 is_first_event (GiveCommand m text) = true
 is_first_event (Sample m c n) = true
 is_first_event (Land m c) = true
 is_first_event (AnswerCall m c ok) = ok
+is_first_event (Do m c) = true
 is_first_event e = false
 
--- The call without an answer, if it has this number.
-abbrev pub flight_numbered : Option FlightState → ℕ → Option FlightState
-flight_numbered None number = None
-flight_numbered (Some f) number = choose (f.call.number == number) f
+-- The call with this number.
+abbrev pub flight_numbered : List FlightState → ℕ → Option FlightState
+flight_numbered fs number = find (λ f. f.call.number == number) fs
 
 -- How many sectors it hasn't sampled.
 abbrev pub flight_left : FlightState → ℕ
@@ -52,6 +51,10 @@ abbrev pub answer_refusal : FlightState → Option Refusal
 answer_refusal f =
     first_that ((not (flight_writes f) && nat_lt 0 (flight_left f), MissingSample) ∷ (flight_writes f && not f.landed, MissingLanding) ∷ [])
 
+-- Why the call may not be done whole. A write of a running daemon is never torn.
+abbrev pub done_refusal : DiskState → FlightState → Option Refusal
+done_refusal d f = first_that ((not (is_on_disk d.header f.call), MissingPlace) ∷ [])
+
 -- A refusal for the call with this number.
 abbrev pub at_flight : Option FlightState → (FlightState → Option Refusal) → Option Refusal
 at_flight None refusal = Some MissingCall
@@ -65,7 +68,8 @@ on_first m refusal = elim (m == 1) [ false ↦ Some MissingMachine | true ↦ re
 abbrev pub refusal_in : KeptState → Event → Option Refusal
 refusal_in k (GiveCommand m text) = on_first m None
 refusal_in k (Sample m c n) =
-    elim (nat_lt 0 n) [ false ↦ Some Syntax | true ↦ on_first m (at_flight (flight_numbered k.flight c) (sample_refusal k.disk n)) ]
-refusal_in k (Land m c) = on_first m (at_flight (flight_numbered k.flight c) (land_refusal k.disk))
-refusal_in k (AnswerCall m c ok) = on_first m (at_flight (flight_numbered k.flight c) answer_refusal)
+    elim (nat_lt 0 n) [ false ↦ Some Syntax | true ↦ on_first m (at_flight (flight_numbered k.flights c) (sample_refusal k.disk n)) ]
+refusal_in k (Land m c) = on_first m (at_flight (flight_numbered k.flights c) (land_refusal k.disk))
+refusal_in k (AnswerCall m c ok) = on_first m (at_flight (flight_numbered k.flights c) answer_refusal)
+refusal_in k (Do m c) = on_first m (at_flight (flight_numbered k.flights c) (done_refusal k.disk))
 refusal_in k e = None

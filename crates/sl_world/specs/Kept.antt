@@ -14,8 +14,8 @@ use Rattle.sl_trace.specs.declared.effects.Call.{Call}
 use Rattle.sl_trace.specs.declared.effects.Grant.{Grant}
 use Rattle.sl_trace.specs.declared.input.Given.{Given}
 use Rattle.sl_world.specs.Daemons.{IsSmallStep}
-use Rattle.std.specs.List.{list_any, list_all}
-use Rattle.std.specs.Prelude.{Bool, Contains, List, None, Option, Some, bytes_eq, false, filter, find, is_none, length, map, nat_le, option_to_list, true, [], ℕ, ◌&&◌, ◌*◌, ◌+◌, ◌-◌, ◌∷◌, ◌≡◌, ◌≤◌, ◌==◌}
+use Rattle.std.specs.List.{list_any, list_all, position}
+use Rattle.std.specs.Prelude.{AllPairs, Bool, Contains, List, None, Some, bytes_eq, false, filter, find, is_none, length, map, nat_le, true, [], ℕ, ◌&&◌, ◌*◌, ◌+◌, ◌-◌, ◌∷◌, ◌≡◌, ◌≢◌, ◌≤◌, ◌==◌}
 
 -- What was written at a place.
 pub record WrittenState : Type 0 where
@@ -23,12 +23,17 @@ pub record WrittenState : Type 0 where
   pub offset : ℕ
   pub bytes : List ℕ
 
+-- A sector that is about to be written, with room for so many.
+pub record LandingState : Type 0 where
+  pub written : WrittenState
+  pub room : ℕ
+
 -- The header, and for each place that was written what stands there now.
 pub record DiskState : Type 0 where
   pub header : Header
   pub written : List WrittenState
 
--- The call without an answer: what it has sampled so far, of how many sectors, and whether its write has landed.
+-- A call without an answer: what it has sampled so far, of how many sectors, and whether its write has landed.
 pub record FlightState : Type 0 where
   pub call : Call
   pub sampled : List ℕ
@@ -39,8 +44,13 @@ pub record FlightState : Type 0 where
 pub record KeptState : Type 0 where
   pub disk : DiskState
   pub reading : ℕ
-  pub flight : Option FlightState
+  -- the calls without an answer, the newest first
+  pub flights : List FlightState
   pub held : List Grant
+
+-- Their numbers.
+abbrev pub flight_numbers : List FlightState → List ℕ
+flight_numbers fs = map (λ f. f.call.number) fs
 
 -- Whether something was written at this place.
 abbrev pub is_written_at : List ℕ → ℕ → WrittenState → Bool
@@ -70,6 +80,11 @@ pub record IsDisk (h : Header) (written : List WrittenState) : Type 0 where
   pub header : IsHeader h
   pub sized : list_all (λ s. length s.bytes == h.geometry.sector) written ≡ true
 
+-- The sector may be written on these disks: it is a whole one, and if its place wasn't written yet there is room for one more.
+pub record MayLand (d : DiskState) (l : LandingState) : Type 0 where
+  pub sized : length l.written.bytes ≡ kept_sector d
+  pub room : position (is_written_at l.written.path l.written.offset) d.written ≡ None → length d.written + 1 ≤ l.room
+
 -- The disks at moment 0.
 abbrev pub first_disk : Header → DiskState
 first_disk h = record { header = h; written = [] }
@@ -93,7 +108,7 @@ abbrev pub fate_of : Bool → Fate
 fate_of false = In_flight
 fate_of true = Landed
 
--- Of the call that is kept: the machine's first daemon made it.
+-- Of a call that is kept: the machine's first daemon made it.
 abbrev pub shown_of : FlightState → Shown
 shown_of f = record { call = f.call; sampled = f.sampled; sectors = f.sectors; fate = fate_of f.landed; daemon = 0 }
 
@@ -120,13 +135,15 @@ pub record Tells (k : KeptState) (w : World) (a : Machine) (d : Daemon) : Type 0
   pub first : d.number ≡ 0
   pub resets : a.resets ≡ []
   pub reading : reading_now a ≡ k.reading
-  pub calls : map shown (waiting a) ≡ map shown_of (option_to_list k.flight)
-  pub flight : (f : FlightState) → k.flight ≡ Some f → IsFlight (kept_sector k.disk) f
+  pub calls : map shown (waiting a) ≡ map shown_of k.flights
+  pub flight : (f : FlightState) → Contains k.flights f → IsFlight (kept_sector k.disk) f
+  -- what happens to the call of a number happens to one
+  pub apart : AllPairs (λ m n. m ≢ n) (flight_numbers k.flights)
   pub held : a.holdings ≡ k.held
   pub connections : a.connections ≡ connections d.setting d.trace
   pub places : (path : List ℕ) (offset : ℕ) → content w path offset ≡ kept_content k.disk path offset
   -- the trace has the same calls open
-  pub outstanding : map (λ m. m.call) (outstanding d.trace) ≡ map (λ f. f.call) (option_to_list k.flight)
+  pub outstanding : map (λ m. m.call) (outstanding d.trace) ≡ map (λ f. f.call) k.flights
   pub sizes : d.setting.layout ≡ w.layout
   pub still : (g : Given) → Contains d.setting.given g → g.renewed ≡ k.reading
 

@@ -4,3 +4,5 @@ pub mod FirstEvents
 pub mod Changes
 pub mod Initial
 pub mod Beginning
+pub mod Idle
+pub mod Promises

@@ -9,12 +9,13 @@ ghost use Rattle.sl_run.specs.Headers.{IsHeader};
 ghost use Rattle.sl_run.specs.Worlds.{initial_bytes, mebibyte};
 ghost use Rattle.sl_sector.specs.Records.{IsRecord};
 ghost use Rattle.sl_world.specs.Changes.{put_sector, sectors_from};
-ghost use Rattle.sl_world.specs.Kept.{IsDisk, IsSized, first_disk, is_on_disk, is_written_at, kept_content, kept_sector};
+ghost use Rattle.sl_world.specs.Kept.{IsDisk, IsSized, MayLand, first_disk, is_on_disk, is_written_at, kept_content, kept_sector};
 ghost use Rattle.std.specs.List.{position};
 ghost use Rattle.std.specs.Option.{option_copied};
 ghost use Rattle.std.specs.Prelude.{IfOk, OnErr, OnOk, find, length, ◌≡◌, ◌≤◌, ◌+◌, ◌*◌, ◌<◌, ◌^◌, ◌++◌, bytes_eq, nat_le, ◌&&◌};
 
 use crate::initial::initial_record;
+use crate::room::{append_within, push_within};
 use sl_area::Geometry;
 use sl_run::{Disk as DiskLine, Header};
 use sl_sector::Rec;
@@ -46,6 +47,25 @@ impl Written {
     {
         self.offset == offset && self.path == path
     }
+}
+
+/// A sector that is about to be written, with the room that its place needs among those written.
+#[derive(Drop)]
+pub struct Landing {
+    written: Written,
+    room: Vec<Written>,
+}
+
+impl Model for Landing {
+    ghost use Rattle.sl_world.specs.Kept.{LandingState};
+    ghost use Rattle.std.specs.Prelude.{[], ◌≡◌};
+    ghost use Rattle.std.specs.Vec.{vec_capacity};
+
+    ghost Value = { LandingState };
+
+    ghost view = { λ l. record { written = l.written; room = vec_capacity l.room } };
+
+    ghost invariant = { λ l. l.room.items ≡ [] };
 }
 
 /// The disks: the header of their world, and each place that was written.
@@ -215,26 +235,45 @@ impl Disks {
             .position(|written| written.is_at(path, offset))
     }
 
-    /// Writes a sector at a place. An `Err` is want of memory, and then nothing has changed.
-    #[tactic(auto, using(crate::proofs::DiskLaws::is_disk_set))]
-    pub fn put(&mut self, path: FilePath, offset: u64, bytes: Vec<u8>) -> Result<(), AllocError>
-        requires { length bytes.items ≡ kept_sector self.old }
-        ensures ok { OnOk result (self.new ≡ put_sector (record { path = path; offset = offset; bytes = bytes.items }) self.old) }
-        ensures err { OnErr result (self.new ≡ self.old) }
+    /// Takes the memory that writing a sector at a place needs. An `Err` is want of memory.
+    pub fn prepare(
+        &self,
+        alloc: Global,
+        path: FilePath,
+        offset: u64,
+        bytes: Vec<u8>,
+    ) -> Result<Landing, AllocError>
+        requires { length bytes.items ≡ kept_sector self.now }
+        ensures written { IfOk result (λ landing. landing.written ≡ record { path = path; offset = offset; bytes = bytes.items }) }
+        ensures may { IfOk result (λ landing. MayLand self.now landing) }
     {
-        let written = Written {
-            path,
-            offset,
-            bytes,
+        let room = match self.index_of(path, offset) {
+            Some(_) => Vec::new(alloc),
+            None => Vec::with_capacity(alloc, self.written.len() + 1)?,
         };
-        match self.index_of(path, offset) {
-            Some(index) => {
-                self.written[index] = written;
-                Ok(())
-            }
+        Ok(Landing {
+            written: Written {
+                path,
+                offset,
+                bytes,
+            },
+            room,
+        })
+    }
+
+    /// Writes a sector at its place. It takes no memory.
+    #[tactic(auto, using(crate::proofs::DiskLaws::is_disk_set))]
+    pub fn land(&mut self, landing: Landing)
+        requires { MayLand self.old landing }
+        ensures { self.new ≡ put_sector landing.written self.old }
+    {
+        let Landing { written, mut room } = landing;
+        match self.index_of(written.path, written.offset) {
+            Some(index) => self.written[index] = written,
             None => {
-                self.written.push(written)?;
-                Ok(())
+                append_within(&mut room, &mut self.written);
+                push_within(&mut room, written);
+                self.written = room;
             }
         }
     }

@@ -1,15 +1,15 @@
-//! The call that waits for its answer.
+//! A call that waits for its answer.
 
 ghost use Rattle.std.specs.Option.{option_map_or};
 ghost use Rattle.sl_area.specs.Layouts.{layout_of, sector_with};
 ghost use Rattle.sl_run.specs.Events as events;
 ghost use Rattle.sl_sector.specs.Records.{IsRecord};
 ghost use Rattle.sl_trace.specs.Traces.{is_write, record_of};
-ghost use Rattle.sl_world.specs.Changes.{flight_sampled, new_flight, ok_answer, told_ok, written_by};
+ghost use Rattle.sl_world.specs.Changes.{flight_landed, flight_sampled, new_flight, ok_answer, sectors_from, told_done, told_ok, written_by};
 ghost use Rattle.sl_world.specs.Daemons.{IsSpelled};
 ghost use Rattle.sl_world.specs.FirstEvents.{flight_left, flight_writes};
 ghost use Rattle.sl_world.specs.Kept.{kept_sector};
-ghost use Rattle.std.specs.Prelude.{IfOk, OnErr, OnOk, ◌*◌, ◌+◌, ◌<◌, ◌^◌, ◌≡◌, ◌≤◌, [], ◌==◌, true, length};
+ghost use Rattle.std.specs.Prelude.{IfOk, OnErr, OnOk, ◌*◌, ◌+◌, ◌<◌, ◌^◌, ◌≡◌, ◌≤◌, [], ◌==◌, ◌++◌, true, length};
 
 use crate::disk::{Disks, sectors_of, spelled};
 use sl_area::Geometry;
@@ -18,7 +18,7 @@ use sl_trace::{Answer, Call, Input, Op};
 use std::alloc::{AllocError, Global};
 use std::marker::Model;
 
-/// The call that waits for its answer: what it has sampled so far, of how many sectors, and whether its write has landed. What it writes
+/// A call that waits for its answer: what it has sampled so far, of how many sectors, and whether its write has landed. What it writes
 /// is a record; other bytes would land as a torn write.
 #[derive(Drop)]
 pub struct Flight {
@@ -114,7 +114,7 @@ impl Flight {
 
     /// The write has landed.
     pub fn land(&mut self)
-        ensures { self.new ≡ record self.old { landed = true } }
+        ensures { self.new ≡ flight_landed self.old }
     {
         self.landed = true;
     }
@@ -139,6 +139,35 @@ impl Flight {
                 alloc,
                 &self.sampled,
             )?),
+            Op::WriteRecord { record: _ } => Answer::Written,
+        };
+        Ok(Input::Answer {
+            call: self.call.number,
+            answer,
+        })
+    }
+
+    /// All that it has read once it samples the rest now. An `Err` is want of memory.
+    fn whole(&self, alloc: Global, disks: &Disks) -> Result<Vec<u8>, AllocError>
+        requires { 0 < flight_left self.now → self.now.call.offset + (self.now.sectors + flight_left self.now) * kept_sector disks.now < 2 ^ 64 }
+        ensures { IfOk result (λ bytes. bytes.items ≡ self.now.sampled ++ sectors_from disks.now self.now.call self.now.sectors (flight_left self.now)) }
+    {
+        let mut bytes = Vec::from_slice(alloc, &self.sampled)?;
+        let left = self.left();
+        if left > 0 {
+            let rest = disks.sectors(alloc, &self.call, self.sectors, left)?;
+            bytes.extend_from_slice(&rest)?;
+        }
+        Ok(bytes)
+    }
+
+    /// Its answer ok where it is done whole now. An `Err` is want of memory.
+    pub fn whole_answer(&self, alloc: Global, disks: &Disks) -> Result<Input, AllocError>
+        requires { 0 < flight_left self.now → self.now.call.offset + (self.now.sectors + flight_left self.now) * kept_sector disks.now < 2 ^ 64 }
+        ensures { IfOk result (λ input. input ≡ told_done disks.now self.now) }
+    {
+        let answer = match self.call.op {
+            Op::ReadSectors { sectors: _ } => Answer::Read(Bytes::new(self.whole(alloc, disks)?)),
             Op::WriteRecord { record: _ } => Answer::Written,
         };
         Ok(Input::Answer {

@@ -1,20 +1,24 @@
-//! What is kept of a world beside its host: the disks, the clock's reading, the call that waits, and what is held.
+//! What is kept of a world beside its host: the disks, the clock's reading, the calls that wait, and what is held.
+//!
+//! A call is named by its number, and whatever happens to one leaves the others as they are: a write that landed by another's number would
+//! land twice or never.
 
 ghost use Rattle.std.specs.Vec.{vec_capacity, vec_len};
-ghost use Rattle.sl_world.specs.FirstEvents.{flight_writes};
 ghost use Rattle.std.specs.Option.{option_copied};
+ghost use Rattle.std.specs.List.{position};
 ghost use Rattle.sl_area.specs.Layouts.{layout_of};
 ghost use Rattle.sl_run.specs.Headers.{IsHeader};
 ghost use Rattle.sl_trace.specs.Traces.{held_after, is_ended_by, no_effects, same_place};
-ghost use Rattle.sl_world.specs.Changes.{after_land, after_own_step, after_sample, flight_after, HasRoom, first_kept, kept_sampled, kept_landed, still_waiting, told_ok};
+ghost use Rattle.sl_world.specs.Changes.{HasRoomForStep, after_own_step, change_flight, disk_with, first_kept, flight_landed, flights_after, flights_without, kept_landed, kept_sampled, landing_of, still_waiting, told_done, told_ok};
 ghost use Rattle.sl_world.specs.Daemons.{IsSpelled};
 ghost use Rattle.sl_world.specs.FirstEvents as first_events;
-ghost use Rattle.sl_world.specs.Kept.{IsSized, kept_sector, FlightState};
-ghost use Rattle.std.specs.Prelude.{Contains, IsTrue, None, OnErr, OnOk, Option, Some, length, false, true, ◌*◌, ◌+◌, ◌<◌, ◌^◌, ◌≡◌, ◌≤◌, ◌==◌, ◌&&◌, [], ◌++◌, ◌∷◌, filter, not, IfOk, option_map};
+ghost use Rattle.sl_world.specs.Kept.{FlightState, IsSized, MayLand, kept_sector};
+ghost use Rattle.std.specs.Prelude.{Contains, IfOk, IfSome, IsTrue, None, OnErr, OnOk, Option, Some, [], filter, find, length, not, option_and_then, option_map, ◌&&◌, ◌+◌, ◌++◌, ◌<◌, ◌==◌, ◌∷◌, ◌≡◌, ◌≤◌};
 
-use crate::disk::Disks;
+use crate::disk::{Disks, Landing};
 use crate::flight::Flight;
 use crate::initial::clock_reading;
+use crate::room::{append_within, push_within};
 use sl_run::{Event, Header, Refusal};
 use sl_text::Seq;
 use sl_trace::{Call, Effects, End, Grant, Input};
@@ -26,8 +30,27 @@ use std::marker::Model;
 pub struct Kept {
     disks: Disks,
     reading: u64,
-    flight: Option<Flight>,
+    flights: Vec<Flight>,
     held: Vec<Grant>,
+}
+
+/// Room for what a step may add: a holding and a call more than there are.
+#[derive(Drop)]
+pub struct Room {
+    held: Vec<Grant>,
+    flights: Vec<Flight>,
+}
+
+impl Model for Room {
+    ghost use Rattle.sl_world.specs.Changes.{RoomState};
+    ghost use Rattle.std.specs.Prelude.{[], ◌≡◌};
+    ghost use Rattle.std.specs.Vec.{vec_capacity};
+
+    ghost Value = { RoomState };
+
+    ghost view = { λ r. record { held = vec_capacity r.held; flights = vec_capacity r.flights } };
+
+    ghost invariant = { λ r. (r.held.items ≡ []) × (r.flights.items ≡ []) };
 }
 
 impl Model for Kept {
@@ -35,10 +58,10 @@ impl Model for Kept {
 
     ghost Value = { KeptState };
 
-    ghost view = { λ k. record { disk = k.disks; reading = k.reading; flight = k.flight; held = k.held.items } };
+    ghost view = { λ k. record { disk = k.disks; reading = k.reading; flights = k.flights.items; held = k.held.items } };
 }
 
-/// Whether the event is one that this world knows: a command, a sample, a landing, an answer ok.
+/// Whether the event is one that this world knows: a command, a sample, a landing, an answer ok, a call done whole.
 pub fn is_first_event(event: &Event) -> bool
     ensures { result ≡ first_events.is_first_event event.now }
 {
@@ -61,6 +84,10 @@ pub fn is_first_event(event: &Event) -> bool
             call: _,
             ok,
         } => *ok,
+        Event::Do {
+            machine: _,
+            call: _,
+        } => true,
         _ => false,
     }
 }
@@ -123,26 +150,39 @@ fn answer_refusal(flight: &Flight) -> Option<Refusal>
     }
 }
 
+/// Why the call may not be done whole.
+fn done_refusal(disks: &Disks, flight: &Flight) -> Option<Refusal>
+    ensures { result ≡ first_events.done_refusal disks.now flight.now }
+{
+    if disks.has_place(flight.call()) {
+        None
+    } else {
+        Some(Refusal::MissingPlace)
+    }
+}
+
 impl Kept {
-    /// The call that waits, if it has this number.
+    /// The call with this number, if one waits.
     fn flight_numbered(&self, number: u64) -> Option<&Flight>
-        ensures { option_copied result ≡ first_events.flight_numbered self.now.flight number }
+        ensures { option_copied result ≡ first_events.flight_numbered self.now.flights number }
     {
-        match &self.flight {
-            Some(flight) => {
-                if flight.is_numbered(number) {
-                    Some(flight)
-                } else {
-                    None
-                }
-            }
-            None => None,
-        }
+        self.flights
+            .iter()
+            .find(|flight| flight.is_numbered(number))
+    }
+
+    /// Its place among the calls.
+    fn flight_index(&self, number: u64) -> Option<usize>
+        ensures { result ≡ position (λ f. f.call.number == number) self.now.flights }
+    {
+        self.flights
+            .iter()
+            .position(|flight| flight.is_numbered(number))
     }
 
     /// Why so many sectors of the call with this number may not be sampled.
     fn refuses_sample(&self, number: u64, n: u64) -> Option<Refusal>
-        ensures { result ≡ first_events.at_flight (first_events.flight_numbered self.now.flight number) (first_events.sample_refusal self.now.disk n) }
+        ensures { result ≡ first_events.at_flight (first_events.flight_numbered self.now.flights number) (first_events.sample_refusal self.now.disk n) }
     {
         match self.flight_numbered(number) {
             Some(flight) => sample_refusal(&self.disks, flight, n),
@@ -152,7 +192,7 @@ impl Kept {
 
     /// Why the call with this number may not land.
     fn refuses_landing(&self, number: u64) -> Option<Refusal>
-        ensures { result ≡ first_events.at_flight (first_events.flight_numbered self.now.flight number) (first_events.land_refusal self.now.disk) }
+        ensures { result ≡ first_events.at_flight (first_events.flight_numbered self.now.flights number) (first_events.land_refusal self.now.disk) }
     {
         match self.flight_numbered(number) {
             Some(flight) => land_refusal(&self.disks, flight),
@@ -162,10 +202,20 @@ impl Kept {
 
     /// Why the call with this number may not be answered ok.
     fn refuses_answer(&self, number: u64) -> Option<Refusal>
-        ensures { result ≡ first_events.at_flight (first_events.flight_numbered self.now.flight number) first_events.answer_refusal }
+        ensures { result ≡ first_events.at_flight (first_events.flight_numbered self.now.flights number) first_events.answer_refusal }
     {
         match self.flight_numbered(number) {
             Some(flight) => answer_refusal(flight),
+            None => Some(Refusal::MissingCall),
+        }
+    }
+
+    /// Why the call with this number may not be done whole.
+    fn refuses_completion(&self, number: u64) -> Option<Refusal>
+        ensures { result ≡ first_events.at_flight (first_events.flight_numbered self.now.flights number) (first_events.done_refusal self.now.disk) }
+    {
+        match self.flight_numbered(number) {
+            Some(flight) => done_refusal(&self.disks, flight),
             None => Some(Refusal::MissingCall),
         }
     }
@@ -197,6 +247,7 @@ impl Kept {
                 call,
                 ok: _,
             } => on_first(*machine, self.refuses_answer(*call)),
+            Event::Do { machine, call } => on_first(*machine, self.refuses_completion(*call)),
             _ => None,
         }
     }
@@ -210,7 +261,7 @@ impl Kept {
         Kept {
             disks: Disks::new(alloc, header),
             reading,
-            flight: None,
+            flights: Vec::new(alloc),
             held: Vec::new(alloc),
         }
     }
@@ -245,16 +296,17 @@ impl Kept {
         &self.held
     }
 
-    /// Samples so many sectors more of the call that waits. An `Err` is want of memory, and then nothing has changed.
-    pub fn sample(&mut self, n: u64) -> Result<(), AllocError>
+    /// Samples so many sectors more of the call with this number. An `Err` is want of memory, and then nothing has changed.
+    pub fn sample(&mut self, number: u64, n: u64) -> Result<(), AllocError>
         requires some { 0 < n }
-        requires passes { (f : FlightState) → self.old.flight ≡ Some f → first_events.sample_refusal self.old.disk n f ≡ None }
-        ensures ok { OnOk result (self.new ≡ kept_sampled n self.old) }
+        requires passes { (f : FlightState) → first_events.flight_numbered self.old.flights number ≡ Some f → first_events.sample_refusal self.old.disk n f ≡ None }
+        ensures ok { OnOk result (self.new ≡ kept_sampled number n self.old) }
         ensures err { OnErr result (self.new ≡ self.old) }
     {
         let _header = self.disks.header();
-        match &mut self.flight {
-            Some(flight) => {
+        match self.flight_index(number) {
+            Some(index) => {
+                let flight = &mut self.flights[index];
                 let _left = flight.left();
                 flight.sample(&self.disks, n)
             }
@@ -262,59 +314,139 @@ impl Kept {
         }
     }
 
-    /// The write that waits lands. An `Err` is want of memory, and then nothing has changed.
-    pub fn land(&mut self) -> Result<(), AllocError>
-        requires { (f : FlightState) → self.old.flight ≡ Some f → flight_writes f ≡ true }
-        ensures ok { OnOk result (self.new ≡ kept_landed self.old) }
-        ensures err { OnErr result (self.new ≡ self.old) }
+    /// What lands where the call with this number is done whole, if something does. An `Err` is want of memory.
+    pub fn landing(&self, number: u64) -> Result<Option<Landing>, AllocError>
+        ensures exact { IfOk result (λ landing. option_map (λ l. l.written) landing ≡ option_and_then (landing_of self.now.disk) (first_events.flight_numbered self.now.flights number)) }
+        ensures may { IfOk result (λ landing. IfSome landing (λ l. MayLand self.now.disk l)) }
     {
-        let geometry = self.disks.header().geometry;
-        match &mut self.flight {
-            Some(flight) => {
-                let bytes = flight.sector(*self.held.allocator(), geometry)?;
-                let call = *flight.call();
-                self.disks.put(call.path, call.offset, bytes)?;
-                flight.land();
-                Ok(())
-            }
-            None => Ok(()),
+        match self.flight_numbered(number) {
+            Some(flight) => self.landing_of(flight),
+            None => Ok(None),
         }
     }
 
-    /// Room for what is held, and one holding more. An `Err` is want of memory.
-    pub fn room(&self) -> Result<Vec<Grant>, AllocError>
-        ensures empty { IfOk result (λ room. room.items ≡ []) }
-        ensures room { IfOk result (λ room. length self.now.held + 1 ≤ vec_capacity room) }
+    /// What lands where this call is done whole.
+    fn landing_of(&self, flight: &Flight) -> Result<Option<Landing>, AllocError>
+        ensures exact { IfOk result (λ landing. option_map (λ l. l.written) landing ≡ landing_of self.now.disk flight.now) }
+        ensures may { IfOk result (λ landing. IfSome landing (λ l. MayLand self.now.disk l)) }
     {
-        Vec::with_capacity(*self.held.allocator(), self.held.len() + 1)
+        if !flight.writes() || flight.has_landed() {
+            return Ok(None);
+        }
+        let alloc = *self.held.allocator();
+        let bytes = flight.sector(alloc, self.disks.header().geometry)?;
+        let call = *flight.call();
+        let landing = self.disks.prepare(alloc, call.path, call.offset, bytes)?;
+        Ok(Some(landing))
     }
 
-    /// The answer ok of the call that waits, if one does. An `Err` is want of memory.
-    pub fn answer(&self) -> Result<Option<Input>, AllocError>
-        ensures { IfOk result (λ input. input ≡ option_map told_ok self.now.flight) }
+    /// It lands, if something does. It takes no memory.
+    pub fn settle(&mut self, landing: Option<Landing>)
+        requires { IfSome landing (λ l. MayLand self.old.disk l) }
+        ensures { self.new ≡ record self.old { disk = disk_with (option_map (λ l. l.written) landing) self.old.disk } }
     {
-        match &self.flight {
+        if let Some(landing) = landing {
+            self.disks.land(landing);
+        }
+    }
+
+    /// The write with this number has landed.
+    fn mark_landed(&mut self, number: u64)
+        ensures { self.new ≡ record self.old { flights = change_flight number flight_landed self.old.flights } }
+    {
+        if let Some(index) = self.flight_index(number) {
+            self.flights[index].land();
+        }
+    }
+
+    /// The write with this number lands. An `Err` is want of memory, and then nothing has changed.
+    pub fn land(&mut self, number: u64) -> Result<(), AllocError>
+        requires { (f : FlightState) → first_events.flight_numbered self.old.flights number ≡ Some f → first_events.land_refusal self.old.disk f ≡ None }
+        ensures ok { OnOk result (self.new ≡ kept_landed number self.old) }
+        ensures err { OnErr result (self.new ≡ self.old) }
+    {
+        let landing = self.landing(number)?;
+        self.settle(landing);
+        self.mark_landed(number);
+        Ok(())
+    }
+
+    /// Room for what a step adds. An `Err` is want of memory.
+    pub fn room(&self) -> Result<Room, AllocError>
+        ensures { IfOk result (λ room. HasRoomForStep self.now room) }
+    {
+        let alloc = *self.held.allocator();
+        Ok(Room {
+            held: Vec::with_capacity(alloc, self.held.len() + 1)?,
+            flights: Vec::with_capacity(alloc, self.flights.len() + 1)?,
+        })
+    }
+
+    /// The answer ok of the call with this number, if one waits. An `Err` is want of memory.
+    pub fn answer(&self, number: u64) -> Result<Option<Input>, AllocError>
+        ensures { IfOk result (λ input. input ≡ option_map told_ok (first_events.flight_numbered self.now.flights number)) }
+    {
+        match self.flight_numbered(number) {
             Some(flight) => Ok(Some(flight.answer(*self.held.allocator())?)),
             None => Ok(None),
         }
     }
 
-    /// Takes what a step did: what is held then is put into the room, and a new call waits. It takes no memory.
-    pub fn take(&mut self, effects: &Effects, room: Vec<Grant>, answered: bool)
-        requires calls { (c : Call) → Contains effects.now.calls c → IsSpelled c }
-        requires empty { room.items ≡ [] }
-        requires room { length self.old.held + length effects.now.grants ≤ vec_capacity room }
-        ensures { self.new ≡ after_own_step effects.now (still_waiting answered self.old.flight) self.old }
+    /// The answer ok of the call with this number where it is done whole now. An `Err` is want of memory.
+    pub fn whole_answer(&self, number: u64) -> Result<Option<Input>, AllocError>
+        requires { (f : FlightState) → first_events.flight_numbered self.now.flights number ≡ Some f → first_events.done_refusal self.now.disk f ≡ None }
+        ensures { IfOk result (λ input. input ≡ option_map (told_done self.now.disk) (first_events.flight_numbered self.now.flights number)) }
     {
-        let alloc = *self.held.allocator();
-        self.held = held_after(&self.held, effects, room);
-        if answered {
-            self.flight = None;
-        }
-        if let Some(call) = effects.calls.as_slice().first() {
-            self.flight = Some(Flight::new(alloc, *call));
+        let _header = self.disks.header();
+        match self.flight_numbered(number) {
+            Some(flight) => {
+                let _left = flight.left();
+                let answer = flight.whole_answer(*self.held.allocator(), &self.disks)?;
+                Ok(Some(answer))
+            }
+            None => Ok(None),
         }
     }
+
+    /// Takes what a step did: the call with the number that was answered waits no more, a new one does, and what is held then is put into
+    /// the room. It takes no memory.
+    pub fn take(&mut self, effects: &Effects, room: Room, answered: Option<u64>)
+        requires calls { (c : Call) → Contains effects.now.calls c → IsSpelled c }
+        requires few { (length effects.now.calls ≤ 1) × (length effects.now.grants ≤ 1) }
+        requires room { HasRoomForStep self.old room }
+        ensures { self.new ≡ after_own_step effects.now (still_waiting answered self.old.flights) self.old }
+    {
+        let Room { held, flights } = room;
+        self.held = held_after(&self.held, effects, held);
+        if let Some(number) = answered {
+            keep_others(&mut self.flights, number);
+        }
+        self.flights = with_calls(effects.calls.as_slice(), &mut self.flights, flights);
+    }
+}
+
+/// Lets the call with this number go.
+fn keep_others(flights: &mut Vec<Flight>, number: u64)
+    ensures items { flights.new.items ≡ flights_without number flights.old.items }
+    ensures few { length flights.new.items ≤ length flights.old.items }
+{
+    flights.retain(|flight| !flight.is_numbered(number));
+}
+
+/// The calls that wait after a step that makes one of these, or none, put into the room.
+fn with_calls(calls: &[Call], flights: &mut Vec<Flight>, mut room: Vec<Flight>) -> Vec<Flight>
+    requires spelled { (c : Call) → Contains calls.now c → IsSpelled c }
+    requires few { length calls.now ≤ 1 }
+    requires empty { room.items ≡ [] }
+    requires room { length flights.old.items + 1 ≤ vec_capacity room }
+    ensures { result.items ≡ flights_after calls.now flights.old.items }
+{
+    if let Some(call) = calls.first() {
+        let alloc = *flights.allocator();
+        push_within(&mut room, Flight::new(alloc, *call));
+    }
+    append_within(&mut room, flights);
+    room
 }
 
 /// Whether this is the end of the holding: its process and its place.
@@ -329,18 +461,6 @@ fn is_ended_by(ends: &[End], grant: &Grant) -> bool
     ensures { result ≡ is_ended_by ends.now grant.now }
 {
     ends.iter().any(|end| ends_holding(end, grant))
-}
-
-/// Adds a holding where there is room.
-fn push_within(held: &mut Vec<Grant>, grant: Grant)
-    requires { vec_len held.old < vec_capacity held.old }
-    ensures items { held.new.items ≡ held.old.items ++ grant ∷ [] }
-    ensures room { vec_capacity held.old ≤ vec_capacity held.new }
-{
-    match held.push(grant) {
-        Ok(()) => {}
-        Err(_) => unreachable!(),
-    }
 }
 
 /// Puts the holdings that no end ends behind those in the room.

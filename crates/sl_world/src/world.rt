@@ -1,4 +1,7 @@
-//! The executed world: what is kept, and the host that runs in it.
+//! The executed world of one machine: what is kept, and the host that runs in it.
+//!
+//! Its events are commands, samples, landings, answers ok, and calls done whole; any number of calls may wait for their answers. All memory
+//! that an event needs is taken before the daemon takes its step, since what a host has done can't be taken back.
 //!
 //! The definitions of a world keep all that ever happened. This one keeps what its next event asks for, and stands for each world of
 //! which that tells. Whatever happens to it happens to those: it refuses what they refuse, and after an event it stands for what the
@@ -13,7 +16,7 @@ ghost use Rattle.sl_due.specs.Due.{due};
 ghost use Rattle.sl_report.specs.Replay.{effects_of};
 ghost use Rattle.sl_run.specs.Events as events;
 ghost use Rattle.sl_run.specs.Worlds as worlds;
-ghost use Rattle.sl_run.specs.declared.event.Event.TheVariants.{AnswerCall, GiveCommand, Land, Sample};
+ghost use Rattle.sl_run.specs.declared.event.Event.TheVariants.{AnswerCall, Do, GiveCommand, Land, Sample};
 ghost use Rattle.sl_trace.specs.Traces as traces;
 ghost use Rattle.sl_world.specs.Changes.{after_own_step, still_waiting, HasRoom};
 ghost use Rattle.sl_world.specs.Daemons.{IsCalmInput, IsSmall, entry_of};
@@ -105,12 +108,12 @@ impl<D: Daemon> World<D> {
     }
 
     /// One step of the daemon. An `Err` is want of memory or of numbers, and then nothing has changed.
-    fn step(&mut self, input: Input, answered: bool) -> Result<Effects, AllocError>
+    fn step(&mut self, input: Input, answered: Option<u64>) -> Result<Effects, AllocError>
         requires { (st : traces.Setting) × (es : traces.Trace) × D.stands self.old.host st es × IsCalmInput st es self.old.kept.reading input }
         ensures done { (st : traces.Setting) → (es : traces.Trace) → D.stands self.old.host st es → IsCalmInput st es self.old.kept.reading input
             → IfOk result (λ fx. (fx ≡ due st es self.old.kept.reading input) × IsSmall es (entry_of self.old.kept.reading input fx)
             × D.stands self.new.host st (entry_of self.old.kept.reading input fx ∷ es)) }
-        ensures kept { IfOk result (λ fx. self.new.kept ≡ after_own_step fx (still_waiting answered self.old.kept.flight) self.old.kept) }
+        ensures kept { IfOk result (λ fx. self.new.kept ≡ after_own_step fx (still_waiting answered self.old.kept.flights) self.old.kept) }
         ensures err { OnErr result (self.new ≡ self.old) }
     {
         let room = self.kept.room()?;
@@ -127,10 +130,10 @@ impl<D: Daemon> World<D> {
             → IfOk result (λ fx. Comes D.stands w (GiveCommand machine text) fx self.new.kept self.new.host) }
         ensures err { OnErr result (self.new ≡ self.old) }
     {
-        self.step(Input::Line(text), false)
+        self.step(Input::Line(text), None)
     }
 
-    /// The call that waits is answered ok.
+    /// A call is answered ok.
     fn answer(&mut self, machine: u32, call: u64) -> Result<Effects, AllocError>
         requires stands { StandsForSome D.stands self.old.kept self.old.host }
         requires passes { first_events.refusal_in self.old.kept (AnswerCall machine call true) ≡ None }
@@ -138,13 +141,33 @@ impl<D: Daemon> World<D> {
             → IfOk result (λ fx. Comes D.stands w (AnswerCall machine call true) fx self.new.kept self.new.host) }
         ensures err { OnErr result (self.new ≡ self.old) }
     {
-        match self.kept.answer()? {
-            Some(input) => self.step(input, true),
+        match self.kept.answer(call)? {
+            Some(input) => self.step(input, Some(call)),
             None => unreachable!(),
         }
     }
 
-    /// The call that waits samples so many sectors more.
+    /// A call is done whole: a read samples the rest, or a write that hasn't landed lands, and it is answered ok.
+    fn complete(&mut self, machine: u32, call: u64) -> Result<Effects, AllocError>
+        requires stands { StandsForSome D.stands self.old.kept self.old.host }
+        requires passes { first_events.refusal_in self.old.kept (Do machine call) ≡ None }
+        requires sized { IsSized self.old.kept.disk }
+        ensures ok { (w : worlds.World) → WorldStands D.stands self.old.kept self.old.host w
+            → IfOk result (λ fx. Comes D.stands w (Do machine call) fx self.new.kept self.new.host) }
+        ensures err { OnErr result (self.new ≡ self.old) }
+    {
+        let landing = self.kept.landing(call)?;
+        match self.kept.whole_answer(call)? {
+            Some(input) => {
+                let effects = self.step(input, Some(call))?;
+                self.kept.settle(landing);
+                Ok(effects)
+            }
+            None => unreachable!(),
+        }
+    }
+
+    /// A read samples so many sectors more.
     fn sample(&mut self, machine: u32, call: u64, n: u64) -> Result<(), AllocError>
         requires passes { first_events.refusal_in self.old.kept (Sample machine call n) ≡ None }
         requires sized { IsSized self.old.kept.disk }
@@ -152,17 +175,17 @@ impl<D: Daemon> World<D> {
             → OnOk result (Comes D.stands w (Sample machine call n) traces.no_effects self.new.kept self.new.host) }
         ensures err { OnErr result (self.new ≡ self.old) }
     {
-        self.kept.sample(n)
+        self.kept.sample(call, n)
     }
 
-    /// The write that waits lands.
+    /// A write lands.
     fn land(&mut self, machine: u32, call: u64) -> Result<(), AllocError>
         requires { first_events.refusal_in self.old.kept (Land machine call) ≡ None }
         ensures ok { (w : worlds.World) → WorldStands D.stands self.old.kept self.old.host w
             → OnOk result (Comes D.stands w (Land machine call) traces.no_effects self.new.kept self.new.host) }
         ensures err { OnErr result (self.new ≡ self.old) }
     {
-        self.kept.land()
+        self.kept.land(call)
     }
 
     /// The event happens.
@@ -194,6 +217,7 @@ impl<D: Daemon> World<D> {
                 call,
                 ok: _,
             } => self.answer(machine, call),
+            Event::Do { machine, call } => self.complete(machine, call),
             _ => unreachable!(),
         }
     }
