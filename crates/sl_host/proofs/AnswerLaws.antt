@@ -1,28 +1,26 @@
 -- What may come, and what an answer makes the host do.
-use Rattle.sl_due.specs.Due.{due}
 use Rattle.sl_first.specs.FirstPath.{Doing}
-use Rattle.sl_first.specs.FirstSteps.{Holds as Held_by, Idle as Resting, Phase as Stand, Works as Working}
-use Rattle.sl_lease_host.proofs.PhaseLaws.{answer_by, doing_of, shows_work}
+use Rattle.sl_first.specs.FirstSteps.{Works as Working}
+use Rattle.sl_lease_host.proofs.PhaseLaws.{answer_by, shows_work}
 use Rattle.sl_lease_host.specs.LeaseHosts.{KeepsLease, LeaseHostState, is_awaited, lease_of}
-use Rattle.sl_lease_host.specs.Phases.{IsDoingOf, IsPhaseOf, is_answer_by, sectors_asked}
+use Rattle.sl_lease_host.specs.Phases.{IsPhaseOf, is_answer_by}
 use Rattle.sl_lease_host.specs.declared.phase.Doing.{Doing as Kept}
 use Rattle.sl_lease_host.specs.declared.phase.Phase.TheVariants.{Holds, Idle, Works}
 use Rattle.sl_lease_host.specs.declared.phase.Phase.{Phase}
 use Rattle.sl_area.specs.Layouts.{Sizes, layout_of}
 use Rattle.sl_still.proofs.Beginning.{idle_works}
 use Rattle.sl_still.proofs.Leases.{number_same}
-use Rattle.sl_still.specs.StillLeases.{LeaseState, StillStands, Table}
-use Rattle.sl_still.specs.StillPath.{IsLease, StillLease}
-use Rattle.sl_still.specs.StillSteps.{lease_comes}
+use Rattle.sl_still.specs.StillLeases.{Table}
+use Rattle.sl_still.specs.StillPath.{StillLease}
 use Rattle.sl_host.proofs.Decided.{Absent, InTable, There, in_table, kept_of}
-use Rattle.sl_host.proofs.Places.{FoundAt, position_found, position_none}
+use Rattle.sl_host.proofs.Places.{position_found, position_none}
 use Rattle.sl_host.proofs.Stepping.{after_move, keeps_at, moved_steps, told_next}
 use Rattle.sl_host.specs.Hosts.{HostStands, HostState, Steps}
 use Rattle.sl_host.specs.Moves.{GoesOn, MovedAt}
 use Rattle.sl_host.specs.Tables.{awaiting_place}
 use Rattle.sl_still_step.proofs.AnswerSteps.{answers_step}
 use Rattle.sl_still_step.proofs.Answered.{answers_find}
-use Rattle.sl_still_step.specs.Promises.{AnsweredLease, StepsTo, told_state}
+use Rattle.sl_still_step.specs.Promises.{AnsweredLease}
 use Rattle.sl_trace.specs.Traces.{Setting, Trace, is_answer_for, is_expected, next_job}
 use Rattle.sl_trace.specs.declared.command.ResourceArg.{ResourceArg}
 use Rattle.sl_trace.specs.declared.effects.Effects.{Effects}
@@ -32,7 +30,7 @@ use Rattle.sl_words.proofs.CaseLaws.{false_is_true, one_value}
 use Rattle.sl_words.proofs.WordLaws.{and_true}
 use Rattle.sl_plain.proofs.Numbers.{number_itself}
 use Rattle.std.proofs.Common.{ap, arith, refl, subst, sym, ◌∙◌}
-use Rattle.std.specs.Prelude.{Bool, List, None, Option, Some, false, is_some, length, slice_get, true, [], ℕ, ◌&&◌, ◌+◌, ◌==◌, ◌∷◌, ◌≡◌}
+use Rattle.std.specs.Prelude.{Bool, List, None, Option, Some, false, is_some, slice_get, true, ℕ, ◌&&◌, ◌+◌, ◌==◌, ◌≡◌}
 
 -- ---- the lease that waits
 
@@ -85,7 +83,7 @@ nowhere : (h : HostState) (st : Setting) (es : Trace) → (k : HostStands h st e
 nowhere h st es k call a none w (Absent absent) = idle_works w.doing (sym (k.leases.others w.lease w.is absent).idle ∙ w.works)
 nowhere h st es k call a none w (There j x there same) =
     let shown : IsPhaseOf x.resource x.phase (Working w.doing) =
-      subst (IsPhaseOf x.resource x.phase) w.works (kept_of st k.table es h.leases k.leases w.lease w.is j x there same) in
+    subst (IsPhaseOf x.resource x.phase) w.works (kept_of st k.table es h.leases k.leases w.lease w.is j x there same) in
     false_is_true (sym (position_none (λ (y : LeaseHostState). is_awaited y.sizes y.phase call a) h.leases j x none there)
     ∙ awaited_back st x.sizes x.resource x.phase w.doing call a (k.leases.kept j x there).keeps.laid shown w.number w.fits)
 
@@ -121,8 +119,8 @@ told_at h st es k after place x a fx there d works fits moved =
     let on = moved.2 st h.reading k.table es d (keeps_at h st es k place x there) works k.next_call in
     moved_steps h st es k (Told d.call.call.number a) fx _ _ place x moved.0 after 0 there moved.1 on.effects step on.keeps refl on.small
     (told_next st h.reading es d.call.call.number a fx ∙ plain (next_job st es)) where
-  plain : (n : ℕ) → n ≡ n + 0
-  plain n = omega arith
+      plain : (n : ℕ) → n ≡ n + 0
+      plain n = omega arith
 
 -- The lease that waits goes on.
 pub told_steps : (h : HostState) (after : List LeaseHostState) (place call : ℕ) (a : Answer) (x : LeaseHostState) (fx : Effects) → awaiting_place call a h.leases ≡ Some place

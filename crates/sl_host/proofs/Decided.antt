@@ -2,52 +2,48 @@
 use Rattle.sl_area.specs.Layouts.{layout_of}
 use Rattle.sl_area.specs.Places.{is_base}
 use Rattle.sl_due.specs.DueCommands.{Decision, Gives_up, Reads_area, Replies, decided, unless_refused}
-use Rattle.sl_first.specs.FirstPath.{Doing}
 use Rattle.sl_first.specs.FirstSteps.{Holds as Held_by, Idle as Resting, Phase as Stand, Works as Working}
 use Rattle.sl_lease_host.proofs.PhaseLaws.{shows_held, shows_idle, shows_work}
 use Rattle.sl_lease_host.specs.LeaseHosts.{LeaseHostState, is_held, is_on, lease_of}
 use Rattle.sl_lease_host.specs.Phases.{IsPhaseOf}
-use Rattle.sl_lease_host.specs.declared.phase.Doing.{Doing as Kept}
 use Rattle.sl_lease_host.specs.declared.phase.Phase.TheVariants.{Holds, Idle, Works}
 use Rattle.sl_lease_host.specs.declared.phase.Phase.{Phase}
 use Rattle.sl_leases.specs.Counts.{holder_count, resource_count}
 use Rattle.sl_leases.specs.Leases.{lease_calls, spot_of}
 use Rattle.sl_plain.proofs.Lists.{find_fails, find_inside, got_inside}
-use Rattle.sl_still.proofs.Leases.{lease_is, lease_same, number_same, spot_same, spot_self}
-use Rattle.sl_still.specs.StillLeases.{LeaseState, StillStands, Table, is_idle}
+use Rattle.sl_still.proofs.Leases.{lease_is, lease_same, number_same, spot_same}
+use Rattle.sl_still.specs.StillLeases.{StillStands, Table, is_idle}
 use Rattle.sl_still.specs.StillPath.{IsLease, IsOf, IsStillResource, StillLease, before_next, lease_grant, lease_session, same_lease}
 use Rattle.sl_still_count.specs.Counted.{some_call, used}
-use Rattle.sl_host.proofs.Lookups.{IsSession, contains_at, held_found, held_none, idle_by, is_named, lease_at, lease_placed, place_found, place_none, session_found, session_none}
+use Rattle.sl_host.proofs.Lookups.{contains_at, held_found, held_none, idle_by, is_named, lease_at, lease_placed, place_found, place_none, session_found, session_none}
 use Rattle.sl_host.proofs.Places.{position_found, position_none}
 use Rattle.sl_host.proofs.Refusing.{acquire_comes, comes, limit_in, release_comes}
 use Rattle.sl_host.proofs.TableLaws.{fresh_unused}
 use Rattle.sl_host.specs.Deciding.{acquire_lease, acquire_place, release_lease, release_place}
 use Rattle.sl_host.specs.Hosts.{HostStands, HostState}
 use Rattle.sl_host.specs.Refusals.{else_refuse, reply_of}
-use Rattle.sl_host.specs.Tables.{IsAbsent, IsFresh, IsKept, TableStands, held_place, holders_in, is_in_the_way, place_of, way_of, way_on}
+use Rattle.sl_host.specs.Tables.{IsAbsent, TableStands, held_place, holders_in, is_in_the_way, place_of, way_of, way_on}
 use Rattle.sl_host.specs.declared.deciding.Place.{Place}
 use Rattle.sl_host.specs.declared.refusal.Refusal.TheVariants.{NoSession as Unjoined}
 use Rattle.sl_host.specs.declared.refusal.Refusal.{Refusal}
 use Rattle.sl_still_step.proofs.Commands.{acquires_are_decided, releases_are_decided}
-use Rattle.sl_still_step.specs.StillAreas.{Is_free, Is_held, Is_worked_on, OnArea, acquire_decision, given_up, in_the_way, is_held_by, is_unused, no_process, release_decision, still_limit}
+use Rattle.sl_still_step.specs.StillAreas.{Is_free, Is_held, Is_worked_on, OnArea, acquire_decision, given_up, in_the_way, is_held_by, is_unused, no_process, still_limit}
 use Rattle.sl_trace.specs.Commands.{IsResourceArg}
 use Rattle.sl_trace.specs.Limits.{most_holders, most_resources}
-use Rattle.sl_trace.specs.Traces.{Setting, Submitted, Trace, same_spot}
+use Rattle.sl_trace.specs.Traces.{Setting, Submitted, Trace}
 use Rattle.sl_trace.specs.declared.command.Command.TheVariants.{Acquire, Release}
 use Rattle.sl_trace.specs.declared.command.ResourceArg.{ResourceArg}
 use Rattle.sl_trace.specs.declared.effects.Spot.{Spot}
 use Rattle.sl_trace.specs.declared.input.Given.{Given}
 use Rattle.sl_trace.specs.declared.reply.Limited.TheVariants.{Holders, Resources}
-use Rattle.sl_trace.specs.declared.reply.Limited.{Limited}
-use Rattle.sl_trace.specs.declared.reply.Reply.TheVariants.{Busy, Limit as LimitReached, Pending}
-use Rattle.sl_trace.specs.declared.reply.Reply.{Reply}
+use Rattle.sl_trace.specs.declared.reply.Reply.TheVariants.{Limit as LimitReached, Pending}
 use Rattle.sl_words.proofs.CaseLaws.{false_is_true, one_value}
 use Rattle.sl_words.proofs.WordLaws.{and_true}
 use Rattle.sl_words.specs.Results.{◌>>=◌}
 use Rattle.sl_words.specs.Words.{choose, is_empty}
-use Rattle.std.proofs.Common.{ap, arith, inl, inr, refl, subst, sym, ◌∙◌}
+use Rattle.std.proofs.Common.{ap, arith, refl, subst, sym, ◌∙◌}
 use Rattle.std.specs.Option.{option_or}
-use Rattle.std.specs.Prelude.{Bool, Contains, Err, IsTrue, List, None, Ok, Option, Result, Some, false, find, is_none, is_some, length, nat_le, not, option_and_then, option_map, position, slice_get, true, [], ℕ, ◌&&◌, ◌==◌, ◌∷◌, ◌≡◌}
+use Rattle.std.specs.Prelude.{Err, List, None, Ok, Option, Some, false, find, is_none, is_some, length, nat_le, not, option_and_then, option_map, position, slice_get, true, [], ℕ, ◌&&◌, ◌==◌, ◌∷◌, ◌≡◌}
 
 -- ---- a lease by the table
 
@@ -134,7 +130,7 @@ limit_is : (st : Setting) (now : ℕ) (T : Table) (es : Trace) (hs : List LeaseH
     → IsLease st (lease_at n g r) → still_limit st es (lease_at n g r) ≡ limit_in (is_none (place_of n (spot_of r) hs)) (length hs) (holders_in hs)
 limit_is st now T es hs n g r h t is =
     ap (λ b. option_or (choose (b && nat_le most_resources (resource_count st es)) Resources) (choose (nat_le most_holders (holder_count st es)) Holders))
-      (unused_by st now T es hs n g r h t is (place_of n (spot_of r) hs) refl)
+    (unused_by st now T es hs n g r h t is (place_of n (spot_of r) hs) refl)
     ∙ ap (λ c. option_or (choose (is_none (place_of n (spot_of r) hs) && nat_le most_resources c) Resources) (choose (nat_le most_holders (holder_count st es)) Holders)) t.resources
     ∙ ap (λ c. option_or (choose (is_none (place_of n (spot_of r) hs) && nat_le most_resources (length hs)) Resources) (choose (nat_le most_holders c) Holders)) t.holders
 
@@ -168,7 +164,7 @@ acquire_named h st es k r named p n g there space =
     acquires_are_decided.named st h.reading k.setting.still k.table es k.stands r p l is (resource_its h r named n g space) area.area
     ∙ ap (λ w. acquire_decision st es l r p w) area.way_is
     ∙ ap (λ which. unless_refused (no_process p ∷ option_map reply_of (way_on (spot_of r) h.leases) ∷ option_map (λ w. LimitReached w) which ∷ []) d)
-      (limit_is st h.reading k.table es h.leases n g r k.stands k.leases is)
+    (limit_is st h.reading k.table es h.leases n g r k.stands k.leases is)
     ∙ acquire_comes (λ place. d) h.leases r p n d refl
 
 acquire_refused_by : (h : HostState) (st : Setting) (es : Trace) → HostStands h st es → (r : ResourceArg) → IsResourceArg (layout_of h.sizes) r → (p : ℕ) (why : Refusal) → (o : Option ℕ)
@@ -244,7 +240,7 @@ held_at h st es k r p n g is place found =
     let q = k.leases.kept place f.item f.there in
     let one : lease_of f.item ≡ lease_at n g r = lease_is st (lease_of f.item) (lease_at n g r) q.is is f.number f.spot in
     held_shown f.item.resource f.item.phase (k.table (lease_at n g r)).phase p
-      (subst (λ l. IsPhaseOf f.item.resource f.item.phase (k.table l).phase) one q.keeps.phase)
+    (subst (λ l. IsPhaseOf f.item.resource f.item.phase (k.table l).phase) one q.keeps.phase)
     ∙ f.held
 
 -- What it comes to.
@@ -258,8 +254,8 @@ release_named h st es k r named p n g there space =
     let x = k.table l in
     releases_are_decided.named st h.reading k.setting.still k.table es k.stands r p l is (resource_its h r named n g space)
     ∙ release_comes (λ place. given_up l x.resource x.phase) h.leases r p n (not (is_held_by x.phase p)) (given_up l x.resource x.phase)
-      (λ none. ap not (unheld_by h st es k r p n g is none (in_table h.leases l)))
-      (λ place found. (ap not (held_at h st es k r p n g is place found), refl))
+    (λ none. ap not (unheld_by h st es k r p n g is none (in_table h.leases l)))
+    (λ place found. (ap not (held_at h st es k r p n g is place found), refl))
 
 release_refused_by : (h : HostState) (st : Setting) (es : Trace) → HostStands h st es → (r : ResourceArg) → IsResourceArg (layout_of h.sizes) r → (p : ℕ) (why : Refusal) → (o : Option ℕ)
     → position (is_named r.lockspace) h.given ≡ o → (else_refuse o Unjoined >>= release_lease h.leases r p) ≡ Err why

@@ -4,16 +4,15 @@ use Rattle.sl_area.specs.Layouts.{Sizes, layout_of}
 use Rattle.sl_lease_host.specs.LeaseHosts.{KeepsLease, LeaseHostState, is_awaited, is_held, lease_of}
 use Rattle.sl_lease_host.specs.Sites.{IsSite}
 use Rattle.sl_lease_host.specs.declared.phase.Phase.TheVariants.{Idle}
-use Rattle.sl_law.specs.Lawful.{IsSetting}
 use Rattle.sl_leases.specs.Leases.{spot_of}
 use Rattle.sl_still.proofs.Beginning.{begins_idle}
 use Rattle.sl_still.specs.StillLeases.{LeaseState, idle_table}
-use Rattle.sl_still.specs.StillPath.{IsLease, IsOf, StillLease}
+use Rattle.sl_still.specs.StillPath.{IsOf, StillLease}
 use Rattle.sl_still_count.proofs.Moves.{counts_are_none}
 use Rattle.sl_host.proofs.AnswerLaws.{told_steps}
 use Rattle.sl_host.proofs.LineLaws.{begins_again, begins_first, gives_back}
-use Rattle.sl_host.proofs.Lookups.{IsPlaced, IsReleased, held_found, idle_there, its_resource, lease_at, place_found, placed_by, released_by, site_fits}
-use Rattle.sl_host.proofs.Places.{Came, FoundAt, PlacedAt, PlacedBehind, Replaced, Stayed, Stood, got_below, placed, placed_behind, position_found}
+use Rattle.sl_host.proofs.Lookups.{IsPlaced, held_found, idle_there, its_resource, place_found, placed_by, released_by, site_fits}
+use Rattle.sl_host.proofs.Places.{Came, PlacedAt, PlacedBehind, Replaced, Stayed, Stood, got_below, placed, placed_behind, position_found}
 use Rattle.sl_host.specs.Deciding.{acquire_place, release_place}
 use Rattle.sl_host.specs.Firsts.{first_state, site_at}
 use Rattle.sl_host.specs.Hosts.{AreOf, AreSessions, HostStands, HostState, IsSettingOf, Steps}
@@ -137,7 +136,7 @@ again_made h inside hs calls r p place lease fx view number a named placed at mo
     subst (λ (v : HostState). Steps v (record inside { next_call = inside.next_call + calls; next_job = inside.next_job + 1; leases = hs }) st es (Line text) fx) view
     (subst (λ n. Steps inside (record inside { next_call = inside.next_call + n; next_job = inside.next_job + 1; leases = hs }) st es (Line text) fx) (sym number)
     (begins_again inside hs r p place lease a.item fx (named_inside h inside view r named) (placed_inside h inside view r p place placed) at a.there (moved a.item a.there)
-      st es text (subst (λ (v : HostState). HostStands v st es) (sym view) k) says))
+    st es text (subst (λ (v : HostState). HostStands v st es) (sym view) k) says))
 
 -- ---- an acquire under a lease that the table doesn't have
 
@@ -174,7 +173,7 @@ pub first_of : (P : LeaseHostState → Type 0) (h : HostState) (after : List Lea
     → IsFirst h r place x → (y : LeaseHostState) × MovedFirst h.leases after x y × P y → AreOf h.sizes h.given after
 first_of P h after r place x of f moved = λ k w is.
     let its : (x.sizes ≡ h.sizes) × (slice_get h.given x.session ≡ Some x.given) =
-      subst (λ (v : LeaseHostState). (v.sizes ≡ h.sizes) × (slice_get h.given v.session ≡ Some v.given)) (sym f.is) (refl, f.there) in
+    subst (λ (v : LeaseHostState). (v.sizes ≡ h.sizes) × (slice_get h.given v.session ≡ Some v.given)) (sym f.is) (refl, f.there) in
     behind_of h.sizes h.given h.leases x moved.0 of its moved.1.same k w (placed_behind h.leases moved.0 k w (ap (λ l. slice_get l k) (sym moved.1.there) ∙ is))
 
 pub first_made : (h inside : HostState) (hs : List LeaseHostState) (calls : ℕ) (r : ResourceArg) (p : ℕ) (place : Place) (x : LeaseHostState) (fx : Effects) → inside ≡ h → calls ≡ length fx.calls
@@ -188,7 +187,7 @@ first_made h inside hs calls r p place x fx view number named placed at state ke
     subst (λ (v : HostState). Steps v (record inside { next_call = inside.next_call + calls; next_job = inside.next_job + 1; leases = hs }) st es (Line text) fx) view
     (subst (λ n. Steps inside (record inside { next_call = inside.next_call + n; next_job = inside.next_job + 1; leases = hs }) st es (Line text) fx) (sym number)
     (begins_first inside hs r p place x fx (named_inside h inside view r named) (placed_inside h inside view r p place placed) at
-      (λ g there. (ap lease_of (state g there), keeps)) moved st es text (subst (λ (v : HostState). HostStands v st es) (sym view) k) says))
+    (λ g there. (ap lease_of (state g there), keeps)) moved st es text (subst (λ (v : HostState). HostStands v st es) (sym view) k) says))
 
 -- ---- a release
 
@@ -224,8 +223,8 @@ release_made h inside hs calls r p place fx view number named placed moved st es
     subst (λ (v : HostState). Steps v (record inside { next_call = inside.next_call + calls; next_job = inside.next_job + 1; leases = hs }) st es (Line text) fx) view
     (subst (λ n. Steps inside (record inside { next_call = inside.next_call + n; next_job = inside.next_job + 1; leases = hs }) st es (Line text) fx) (sym number)
     (gives_back inside hs r p place t.0 fx (subst (λ (v : HostState). IsResourceArg (layout_of v.sizes) r) (sym view) named)
-      (subst (λ (v : HostState). release_place v.given v.leases r p ≡ Ok place) (sym view) placed) t.1 (moved t.0 t.1)
-      st es text (subst (λ (v : HostState). HostStands v st es) (sym view) k) says))
+    (subst (λ (v : HostState). release_place v.given v.leases r p ≡ Ok place) (sym view) placed) t.1 (moved t.0 t.1)
+    st es text (subst (λ (v : HostState). HostStands v st es) (sym view) k) says))
 
 -- ---- an answer
 
@@ -250,4 +249,4 @@ told_made h inside hs calls call a place fx view number found moved st es k =
     (subst (λ n. Steps inside (record inside { next_call = inside.next_call + n; leases = hs }) st es (Told call a) fx) (sym number)
     (subst (λ n. Steps inside (record inside { next_call = inside.next_call + length fx.calls; next_job = n; leases = hs }) st es (Told call a) fx) (sym (plain inside.next_job))
     (told_steps inside hs place call a t.0 fx (ap (λ (v : HostState). awaiting_place call a v.leases) view ∙ found) t.1 (moved t.0 t.1)
-      st es (subst (λ (v : HostState). HostStands v st es) (sym view) k))))
+    st es (subst (λ (v : HostState). HostStands v st es) (sym view) k))))

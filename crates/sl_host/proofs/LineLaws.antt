@@ -1,27 +1,27 @@
 -- What a line makes the host do.
 use Rattle.sl_area.specs.Layouts.{layout_of}
 use Rattle.sl_command.specs.Verbs.{answered}
-use Rattle.sl_due.specs.DueCommands.{Gives_up, Reads_area, Replies, decided}
+use Rattle.sl_due.specs.DueCommands.{Gives_up, Reads_area}
 use Rattle.sl_first.specs.FirstPath.{first_effects, one_reply}
 use Rattle.sl_first.specs.FirstSteps.{Holds as Held_by}
 use Rattle.sl_lease_command.specs.LeaseWords.{as_command, lease_forms}
 use Rattle.sl_lease_command.specs.declared.command.LeaseCommand.{LeaseCommand}
-use Rattle.sl_lease_host.specs.LeaseHosts.{KeepsAt, KeepsLease, LeaseHostState, lease_of}
+use Rattle.sl_lease_host.specs.LeaseHosts.{KeepsLease, LeaseHostState, lease_of}
 use Rattle.sl_leases.specs.Leases.{spot_of}
 use Rattle.sl_still.proofs.Entered.{line_next}
 use Rattle.sl_still.proofs.Leases.{lease_is}
-use Rattle.sl_still.specs.StillLeases.{LeaseState, Table}
-use Rattle.sl_still.specs.StillPath.{IsLease, IsOf, StillLease, before_next, lease_grant, lease_session}
-use Rattle.sl_still.specs.StillSteps.{IsRefused, Is_refused, Says_nothing, area_read}
+use Rattle.sl_still.specs.StillLeases.{LeaseState}
+use Rattle.sl_still.specs.StillPath.{IsLease, IsOf, lease_grant, lease_session}
+use Rattle.sl_still.specs.StillSteps.{IsRefused, Is_refused, Says_nothing}
 use Rattle.sl_host.proofs.Decided.{acquire_begins, acquire_refused, held_as, held_at, lease_there, release_begins, release_refused, resource_its}
-use Rattle.sl_host.proofs.Lookups.{IsPlaced, IsReleased, held_found, lease_at, place_found, place_none, placed_by, released_by}
+use Rattle.sl_host.proofs.Lookups.{held_found, lease_at, place_found, place_none, placed_by, released_by}
 use Rattle.sl_host.proofs.Refusing.{acquire_line, release_line}
 use Rattle.sl_host.proofs.Stepping.{after_move, after_refusal, first_steps, keeps_at, moved_steps, refused_steps}
 use Rattle.sl_host.specs.Deciding.{acquire_place, release_place}
 use Rattle.sl_host.specs.Hosts.{HostStands, HostState, Steps}
 use Rattle.sl_host.specs.Moves.{Begins, GivesBack, MovedAt, MovedFirst}
 use Rattle.sl_host.specs.Refusals.{reply_of}
-use Rattle.sl_host.specs.Tables.{IsAbsent, IsFresh, place_of}
+use Rattle.sl_host.specs.Tables.{IsAbsent, IsFresh}
 use Rattle.sl_host.specs.declared.deciding.Place.{Place}
 use Rattle.sl_host.specs.declared.refusal.Refusal.TheVariants.{BadCommand as Unread}
 use Rattle.sl_host.specs.declared.refusal.Refusal.{Refusal}
@@ -37,7 +37,7 @@ use Rattle.sl_trace.specs.declared.input.Given.{Given}
 use Rattle.sl_trace.specs.declared.input.Input.TheVariants.{Line}
 use Rattle.sl_words.proofs.CaseLaws.{one_value}
 use Rattle.std.proofs.Common.{ap, refl, subst, sym, ◌∙◌}
-use Rattle.std.specs.Prelude.{Err, IfOk, List, None, Ok, OnOk, Result, Some, false, length, slice_get, [], ℕ, ◌∷◌, ◌+◌, ◌≡◌}
+use Rattle.std.specs.Prelude.{Err, IfOk, List, None, Ok, OnOk, Result, Some, false, slice_get, [], ℕ, ◌≡◌}
 
 -- ---- a line that is refused
 
@@ -78,7 +78,7 @@ begins_again h after q p place lease x fx named placed at there moved st es text
     let f = place_found h.leases place.session (spot_of q) lease (sym b.lease ∙ at) in
     let same : f.item ≡ x = one_value f.item x (slice_get h.leases lease) f.there there in
     let of_x : lease_of x ≡ l =
-      lease_is st (lease_of x) l (k.leases.kept lease x there).is is (ap (λ (v : LeaseHostState). v.session) (sym same) ∙ f.number) (ap (λ (v : LeaseHostState). spot_of v.resource) (sym same) ∙ f.spot) in
+    lease_is st (lease_of x) l (k.leases.kept lease x there).is is (ap (λ (v : LeaseHostState). v.session) (sym same) ∙ f.number) (ap (λ (v : LeaseHostState). spot_of v.resource) (sym same) ∙ f.spot) in
     let its : IsOf (lease_of x) q = subst (λ m. IsOf m q) (sym of_x) (resource_its h q named place.session g b.session.space) in
     let is_x = (k.leases.kept lease x there).is in
     let due = acquire_begins h st es k q named p place g b.session.there placed ∙ ap (λ m. Reads_area (lease_session m) q) (sym of_x) in
@@ -90,7 +90,7 @@ begins_again h after q p place lease x fx named placed at there moved st es text
 pub begins_first : (h : HostState) (after : List LeaseHostState) (q : ResourceArg) (p : ℕ) (place : Place) (x : LeaseHostState) (fx : Effects) → IsResourceArg (layout_of h.sizes) q
     → acquire_place h.given h.leases q p ≡ Ok place → place.lease ≡ None
     → ((g : Given) → slice_get h.given place.session ≡ Some g → (lease_of x ≡ lease_at place.session g q)
-        × ((st : Setting) (y : LeaseState) → st.layout ≡ layout_of h.sizes → IsFresh y → KeepsLease x st y))
+    × ((st : Setting) (y : LeaseState) → st.layout ≡ layout_of h.sizes → IsFresh y → KeepsLease x st y))
     → (z : LeaseHostState) × MovedFirst h.leases after x z × Begins x z q p h.next_call h.next_job fx
     → (st : Setting) (es : Trace) (text : List ℕ) → HostStands h st es → st.read text ≡ Ok (Acquire q false p) → Steps h (after_move h after fx 1) st es (Line text) fx
 begins_first h after q p place x fx named placed at first moved st es text k says =
@@ -123,12 +123,12 @@ gives_back h after q p place x fx named placed there moved st es text k says =
     let same : f.item ≡ x = one_value f.item x (slice_get h.leases place) f.there there in
     let is_x = (k.leases.kept place x there).is in
     let of_x : lease_of x ≡ l =
-      lease_is st (lease_of x) l is_x is (ap (λ (v : LeaseHostState). v.session) (sym same) ∙ f.number) (ap (λ (v : LeaseHostState). spot_of v.resource) (sym same) ∙ f.spot) in
+    lease_is st (lease_of x) l is_x is (ap (λ (v : LeaseHostState). v.session) (sym same) ∙ f.number) (ap (λ (v : LeaseHostState). spot_of v.resource) (sym same) ∙ f.spot) in
     let its : IsOf (lease_of x) q = subst (λ m. IsOf m q) (sym of_x) (resource_its h q named b.number g b.session.space) in
     let held = held_as (k.table l).phase p (held_at h st es k q p b.number g is place b.found) in
     let holds : (k.table (lease_of x)).phase ≡ Held_by p held.0 = ap (λ m. (k.table m).phase) of_x ∙ held.1 in
     let due = release_begins h st es k q named p b.number g b.session.there b.session.space place held.0 b.lease held.1
-      ∙ ap (λ m. Gives_up (lease_session m) (lease_grant m (k.table m).resource p held.0)) (sym of_x) in
+    ∙ ap (λ m. Gives_up (lease_session m) (lease_grant m (k.table m).resource p held.0)) (sym of_x) in
     let step = lines_step.gives_back st h.reading k.setting.still k.table es k.stands text (lease_of x) is_x q p held.0 says its holds due in
     let given = moved.2 st h.reading k.table es text held.0 (keeps_at h st es k place x there) holds k.next_call k.next_job in
     moved_steps h st es k (Line text) fx _ _ place x moved.0 after 1 there moved.1 given.effects step given.keeps refl given.small (line_next st h.reading es text fx)

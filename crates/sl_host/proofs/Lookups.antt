@@ -8,10 +8,9 @@ use Rattle.sl_leases.specs.Leases.{spot_of}
 use Rattle.sl_plain.proofs.Lists.{find_fails, find_inside, got_index, got_inside, there_is}
 use Rattle.sl_plain.proofs.Numbers.{number_itself}
 use Rattle.sl_still.proofs.Leases.{number_same, spot_same, spot_self}
-use Rattle.sl_still.specs.StillLeases.{Table}
-use Rattle.sl_still.specs.StillPath.{IsLease, IsOf, StillLease, same_lease}
-use Rattle.sl_host.proofs.Places.{FoundAt, got_below, position_found, position_none}
-use Rattle.sl_host.specs.Deciding.{acquire_lease, acquire_place, has_room, may_hold, release_lease, release_place, session_in}
+use Rattle.sl_still.specs.StillPath.{IsOf, StillLease, same_lease}
+use Rattle.sl_host.proofs.Places.{position_found, position_none}
+use Rattle.sl_host.specs.Deciding.{acquire_lease, acquire_place, has_room, release_lease, release_place}
 use Rattle.sl_host.specs.Firsts.{site_at}
 use Rattle.sl_host.specs.Hosts.{AreOf, AreSessions}
 use Rattle.sl_host.specs.Refusals.{else_refuse, refuse_by, refuse_where}
@@ -26,12 +25,12 @@ use Rattle.sl_trace.specs.declared.command.ResourceArg.{ResourceArg}
 use Rattle.sl_trace.specs.declared.effects.Spot.{Spot}
 use Rattle.sl_trace.specs.declared.input.Given.{Given}
 use Rattle.sl_trace.specs.declared.reply.Limited.TheVariants.{Holders, Resources}
-use Rattle.sl_words.proofs.CaseLaws.{false_is_true, none_some, one_value, some_value, true_is_false}
+use Rattle.sl_words.proofs.CaseLaws.{false_is_true, none_some, one_value, true_is_false}
 use Rattle.sl_words.proofs.WordLaws.{and_true}
 use Rattle.sl_words.specs.Results.{◌>>=◌}
-use Rattle.std.proofs.Common.{ap, arith, refl, subst, sym, ◌∙◌}
+use Rattle.std.proofs.Common.{ap, refl, subst, sym, ◌∙◌}
 use Rattle.std.proofs.lemmas.Slice.Eq.{bytes_eq-Decides}
-use Rattle.std.specs.Prelude.{Bool, Contains, Err, List, None, Ok, Option, Result, Some, bytes_eq, false, find, is_none, is_some, length, nat_le, nat_lt, option_and_then, position, slice_get, true, [], ℕ, ◌&&◌, ◌<◌, ◌==◌, ◌≡◌}
+use Rattle.std.specs.Prelude.{Bool, Contains, Err, List, None, Ok, Option, Result, Some, bytes_eq, false, find, is_none, is_some, length, nat_le, nat_lt, option_and_then, position, slice_get, true, ℕ, ◌&&◌, ◌==◌, ◌≡◌}
 
 -- ---- a session
 

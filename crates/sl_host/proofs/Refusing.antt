@@ -5,7 +5,7 @@ use Rattle.sl_lease_host.specs.declared.phase.Phase.TheVariants.{Holds, Idle, Wo
 use Rattle.sl_lease_host.specs.declared.phase.Phase.{Phase}
 use Rattle.sl_leases.specs.Leases.{spot_of}
 use Rattle.sl_still.specs.StillSteps.{is_line_reply}
-use Rattle.sl_host.specs.Deciding.{acquire_lease, acquire_place, has_room, may_hold, release_lease, release_place, session_in}
+use Rattle.sl_host.specs.Deciding.{acquire_lease, acquire_place, has_room, release_lease, release_place}
 use Rattle.sl_host.specs.Refusals.{else_refuse, refuse_by, refuse_where, reply_of}
 use Rattle.sl_host.specs.Tables.{held_place, holders_in, is_in_the_way, place_of, way_of, way_on}
 use Rattle.sl_host.specs.declared.deciding.Place.{Place}
@@ -14,7 +14,6 @@ use Rattle.sl_host.specs.declared.refusal.Refusal.{Refusal}
 use Rattle.sl_still_step.specs.StillAreas.{no_process}
 use Rattle.sl_trace.specs.Limits.{most_holders, most_processes, most_resources}
 use Rattle.sl_trace.specs.declared.command.ResourceArg.{ResourceArg}
-use Rattle.sl_trace.specs.declared.effects.Spot.{Spot}
 use Rattle.sl_trace.specs.declared.input.Given.{Given}
 use Rattle.sl_trace.specs.declared.reply.Limited.TheVariants.{Holders, Resources}
 use Rattle.sl_trace.specs.declared.reply.Limited.{Limited}
@@ -22,7 +21,7 @@ use Rattle.sl_trace.specs.declared.reply.Reply.TheVariants.{Limit as LimitReache
 use Rattle.sl_trace.specs.declared.reply.Reply.{Reply}
 use Rattle.sl_words.specs.Results.{◌>>=◌}
 use Rattle.sl_words.specs.Words.{choose}
-use Rattle.std.proofs.Common.{ap, refl, subst, sym, ◌∙◌}
+use Rattle.std.proofs.Common.{ap, refl, subst, ◌∙◌}
 use Rattle.std.specs.Option.{option_or}
 use Rattle.std.specs.Prelude.{Bool, Err, List, None, Ok, Option, Result, Some, bytes_eq, false, find, is_none, length, nat_le, nat_lt, option_and_then, option_map, position, true, [], ℕ, ◌&&◌, ◌∷◌, ◌≡◌}
 
@@ -65,7 +64,7 @@ room_comes f first leases holders rs d next h = both_limits f (first && nat_le m
 pub acquire_comes : (f : Place → Decision) (hs : List LeaseHostState) (r : ResourceArg) (p n : ℕ) (d : Decision)
     → d ≡ f (record { session = n; lease = place_of n (spot_of r) hs })
     → unless_refused (no_process p ∷ option_map reply_of (way_on (spot_of r) hs)
-        ∷ option_map (λ which. LimitReached which) (limit_in (is_none (place_of n (spot_of r) hs)) (length hs) (holders_in hs)) ∷ []) d
+    ∷ option_map (λ which. LimitReached which) (limit_in (is_none (place_of n (spot_of r) hs)) (length hs) (holders_in hs)) ∷ []) d
     ≡ comes f (acquire_lease hs r p n)
 acquire_comes f hs r p n d is =
     let limit : Option Reply = option_map (λ which. LimitReached which) (limit_in (is_none (place_of n (spot_of r) hs)) (length hs) (holders_in hs)) in

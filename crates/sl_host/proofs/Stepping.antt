@@ -1,22 +1,19 @@
 -- A step of the host is what is due, and it then stands for the trace with the step's entry: a line that is answered at once, a lease that
 -- begins, gives back or goes on.
-use Rattle.sl_area.specs.Layouts.{layout_of}
-use Rattle.sl_due.specs.Due.{due}
-use Rattle.sl_due.specs.DueCommands.{Gives_up, Reads_area, Replies, decided}
 use Rattle.sl_first.specs.FirstPath.{first_effects, one_reply}
 use Rattle.sl_first_cause.specs.Promises.{is_line_or_answer}
 use Rattle.sl_lease_host.specs.LeaseHosts.{KeepsAt, KeepsLease, LeaseHostState, lease_of}
 use Rattle.sl_plain.proofs.Lists.{contains_none}
 use Rattle.sl_still.proofs.Entered.{line_next}
 use Rattle.sl_still.proofs.Numbering.{marked_length}
-use Rattle.sl_still.specs.StillLeases.{LeaseState, StillStands, Table, put}
+use Rattle.sl_still.specs.StillLeases.{LeaseState, put}
 use Rattle.sl_still.specs.StillPath.{IsLease, StillLease, still_entry}
-use Rattle.sl_still.specs.StillSteps.{IsRefused, LeaseMove, refused_entry}
+use Rattle.sl_still.specs.StillSteps.{IsRefused, refused_entry}
 use Rattle.sl_still_count.proofs.Moves.{moves_change, refused_lines_keep}
 use Rattle.sl_still_count.specs.Promises.{CountsMoved}
-use Rattle.sl_host.proofs.TableLaws.{IsMove, push_table, same_table, set_table}
+use Rattle.sl_host.proofs.TableLaws.{push_table, same_table, set_table}
 use Rattle.sl_host.specs.Hosts.{HostStands, HostState, Steps}
-use Rattle.sl_host.specs.Moves.{IsSameLease, MovedAt, MovedFirst}
+use Rattle.sl_host.specs.Moves.{MovedAt, MovedFirst}
 use Rattle.sl_host.specs.Refusals.{reply_of}
 use Rattle.sl_host.specs.Tables.{IsAbsent, TableStands}
 use Rattle.sl_host.specs.declared.refusal.Refusal.{Refusal}
@@ -34,7 +31,7 @@ use Rattle.sl_world.proofs.SmallLaws.{none_few, one_few}
 use Rattle.sl_world.specs.Daemons.{IsSmallStep}
 use Rattle.std.proofs.Common.{ap, arith, refl, subst, sym, ◌∙◌}
 use Rattle.std.proofs.lemmas.List.{append-nil}
-use Rattle.std.specs.Prelude.{Bool, IsTrue, List, Some, fold, length, slice_get, slice_set, true, [], ℕ, ◌++◌, ◌+◌, ◌∷◌, ◌≡◌}
+use Rattle.std.specs.Prelude.{List, Some, fold, length, slice_get, true, [], ℕ, ◌+◌, ◌∷◌, ◌≡◌}
 
 -- ---- the next numbers
 
@@ -81,8 +78,8 @@ refused_at h st es k text why is =
         leases = same_table st k.table es (e ∷ es) h.leases k.leases (refused_lines_keep st h.reading k.setting.still k.table es k.stands text (reply_of why) is step.1);
       };
     } where
-  plain : (n : ℕ) → n ≡ n + 0
-  plain n = omega arith
+      plain : (n : ℕ) → n ≡ n + 0
+      plain n = omega arith
 
 -- The host answers it with the number of its next job.
 pub refused_steps : (h : HostState) (st : Setting) (es : Trace) → HostStands h st es → (text : List ℕ) (why : Refusal) → IsRefused st h.reading es text (reply_of why)
@@ -128,7 +125,7 @@ moved_steps h st es k i fx made y place x z after jobs there moved is step keeps
     let step' : StepsTo st h.reading k.table es (lease_of x) i fx y = subst (λ f. StepsTo st h.reading k.table es (lease_of x) i f y) (sym is) step in
     let e = still_entry h.reading i fx in
     let table = set_table st k.table es (e ∷ es) h.leases place x z (lease_of x) y k.leases there refl
-      (record { is = q.is; its = moved.same.lease; keeps = keeps; counts = counted_move h st es k i fx (lease_of x) y q.is step' }) in
+    (record { is = q.is; its = moved.same.lease; keeps = keeps; counts = counted_move h st es k i fx (lease_of x) y q.is step' }) in
     move_stands h st es k i fx (lease_of x) y after jobs step' heard small number (subst (TableStands st (put (lease_of x) y k.table) (e ∷ es)) (sym moved.there) table)
 
 -- A lease that the table doesn't have.
@@ -139,7 +136,7 @@ first_steps h st es k i fx made l y x z after jobs its one absent moved is step 
     let step' : StepsTo st h.reading k.table es l i fx y = subst (λ f. StepsTo st h.reading k.table es l i f y) (sym is) step in
     let e = still_entry h.reading i fx in
     let table = push_table st h.reading k.table es (e ∷ es) h.leases z l y k.stands k.leases absent
-      (record { is = its; its = moved.same.lease ∙ one; keeps = keeps; counts = counted_move h st es k i fx l y its step' }) in
+    (record { is = its; its = moved.same.lease ∙ one; keeps = keeps; counts = counted_move h st es k i fx l y its step' }) in
     move_stands h st es k i fx l y after jobs step' heard small number (subst (TableStands st (put l y k.table) (e ∷ es)) (sym moved.there) table)
 
 -- A lease's own host stands for its lease.

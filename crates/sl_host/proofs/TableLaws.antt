@@ -8,8 +8,6 @@ use Rattle.sl_lease_host.specs.declared.phase.JobCommand.TheVariants.{Acquire as
 use Rattle.sl_lease_host.specs.declared.phase.JobCommand.{JobCommand}
 use Rattle.sl_lease_host.specs.declared.phase.Phase.TheVariants.{Holds, Idle, Works}
 use Rattle.sl_lease_host.specs.declared.phase.Phase.{Phase}
-use Rattle.sl_leases.specs.Counts.{holder_count, resource_count}
-use Rattle.sl_leases.specs.Jobs.{is_asking_lease}
 use Rattle.sl_leases.specs.Leases.{lease_calls}
 use Rattle.sl_plain.proofs.Lists.{got_before, set_here, set_length}
 use Rattle.sl_plain.proofs.Numbers.{number_itself}
@@ -19,14 +17,13 @@ use Rattle.sl_still.specs.StillPath.{IsLease, StillLease, lease_session, same_le
 use Rattle.sl_still_count.specs.Counted.{counted, some_call, used}
 use Rattle.sl_still_count.specs.Promises.{CountsKept, CountsMoved}
 use Rattle.sl_host.proofs.Places.{Came, PlacedAt, PlacedBehind, Replaced, Stayed, Stood, count_push, count_set, last_there, one_if, placed, placed_behind, stays_at}
-use Rattle.sl_host.specs.Moves.{IsSameLease, MovedAt, MovedFirst}
-use Rattle.sl_host.specs.Tables.{IsAbsent, IsFresh, IsKept, TableStands, holders_in, is_holder}
-use Rattle.sl_trace.specs.Traces.{Setting, Submitted, Trace}
+use Rattle.sl_host.specs.Tables.{IsAbsent, IsFresh, IsKept, TableStands, is_holder}
+use Rattle.sl_trace.specs.Traces.{Setting, Trace}
 use Rattle.sl_trace.specs.declared.command.ResourceArg.{ResourceArg}
 use Rattle.sl_words.proofs.CaseLaws.{is_false, one_value, true_is_false}
 use Rattle.std.proofs.Common.{ap, arith, inl, inr, refl, subst, sym, ◌∙◌}
 use Rattle.std.proofs.lemmas.List.{length_push}
-use Rattle.std.specs.Prelude.{Bool, List, Some, cond, count_by, false, if◌then◌else◌, length, slice_get, slice_set, true, [], ℕ, ◌++◌, ◌+◌, ◌<◌, ◌==◌, ◌∷◌, ◌≡◌, ◌⊎◌}
+use Rattle.std.specs.Prelude.{Bool, List, Some, false, length, slice_get, slice_set, true, [], ℕ, ◌++◌, ◌+◌, ◌==◌, ◌∷◌, ◌≡◌, ◌⊎◌}
 
 -- ---- what a lease counts for
 
@@ -168,8 +165,8 @@ set_table st T es after hs place x z l y t there its move =
       kept = λ k w is. set_kept st T es after hs place x z l y t there its move k w (placed hs place z k w is);
       apart = λ j k v w is also. set_apart st T es hs place x z t there same j k v w (placed hs place z j v is) (placed hs place z k w also);
       others = λ k is absent.
-        other_fresh l y T k (subst (λ u. same_lease u k ≡ false) move.its (absent place z (set_here hs place z x there)))
-        (t.others k is (set_absent hs place x z k there same absent));
+          other_fresh l y T k (subst (λ u. same_lease u k ≡ false) move.its (absent place z (set_here hs place z x there)))
+          (t.others k is (set_absent hs place x z k there same absent));
       resources = omega arith;
       holders = omega arith;
     }
@@ -211,8 +208,8 @@ push_table st now T es after hs z l y stands t absent move =
       kept = λ k w is. push_kept st T es after hs z l y t absent move k w (placed_behind hs z k w is);
       apart = λ j k v w is also. push_apart st T es hs z l move.is t absent move.its j k v w (placed_behind hs z j v is) (placed_behind hs z k w also);
       others = λ k is none.
-        other_fresh l y T k (subst (λ u. same_lease u k ≡ false) move.its (none (length hs) z (last_there hs z)))
-        (t.others k is (λ j v there. none j v (got_before hs (z ∷ []) j v there)));
+          other_fresh l y T k (subst (λ u. same_lease u k ≡ false) move.its (none (length hs) z (last_there hs z)))
+          (t.others k is (λ j v there. none j v (got_before hs (z ∷ []) j v there)));
       resources = omega arith;
       holders = omega arith;
     }

@@ -1,10 +1,10 @@
 -- A lease of the table moved: what its own host says of it, said at its place.
 use Rattle.sl_lease_host.specs.LeaseHosts.{LeaseHostState, lease_of}
 use Rattle.sl_plain.proofs.Lists.{got_index}
-use Rattle.sl_host.specs.Moves.{MovedAt, MovedFirst}
+use Rattle.sl_host.specs.Moves.{MovedAt}
 use Rattle.sl_trace.specs.declared.effects.Effects.{Effects}
-use Rattle.std.proofs.Common.{ap, get_or, sym, subst, ◌∙◌}
-use Rattle.std.specs.Prelude.{Err, IfOk, List, Ok, Result, Some, slice_get, slice_set, [], ℕ, ◌++◌, ◌∷◌, ◌≡◌}
+use Rattle.std.proofs.Common.{ap, get_or, subst, ◌∙◌}
+use Rattle.std.specs.Prelude.{Err, IfOk, List, Ok, Result, Some, slice_get, slice_set, ℕ, ◌≡◌}
 
 pub moved_ok : {E : Type 0} (P : LeaseHostState → LeaseHostState → Effects → Type 0) (hs inside : List LeaseHostState) (place : ℕ) (old new : LeaseHostState) (r : Result Effects E)
     → inside ≡ hs → old ≡ get_or inside place old → lease_of new ≡ lease_of old → new.sizes ≡ old.sizes → IfOk r (λ fx. P old new fx)

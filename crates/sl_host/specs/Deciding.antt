@@ -11,7 +11,7 @@ use Rattle.sl_trace.specs.declared.command.ResourceArg.{ResourceArg}
 use Rattle.sl_trace.specs.declared.input.Given.{Given}
 use Rattle.sl_trace.specs.declared.reply.Limited.TheVariants.{Holders, Resources}
 use Rattle.sl_words.specs.Results.{◌>>=◌}
-use Rattle.std.specs.Prelude.{Bool, List, Ok, Option, Result, bytes_eq, is_none, length, nat_le, nat_lt, position, ℕ, ◌&&◌}
+use Rattle.std.specs.Prelude.{Bool, List, Ok, Result, bytes_eq, is_none, length, nat_le, nat_lt, position, ℕ, ◌&&◌}
 
 -- The session of this lockspace.
 abbrev pub session_in : List Given → List ℕ → Result ℕ Refusal

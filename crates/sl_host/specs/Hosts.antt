@@ -34,11 +34,6 @@ pub record AreSessions (z : Sizes) (gs : List Given) : Type 0 where
 abbrev pub AreOf : Sizes → List Given → List LeaseHostState → Type 0
 AreOf z gs hs = (k : ℕ) (x : LeaseHostState) → slice_get hs k ≡ Some x → (x.sizes ≡ z) × (slice_get gs x.session ≡ Some x.given)
 
--- Of every host.
-pub record IsFit (h : HostState) : Type 0 where
-  pub sessions : AreSessions h.sizes h.given
-  pub leases : AreOf h.sizes h.given h.leases
-
 -- The setting is a daemon's on a clock that stands still at this reading, of these sizes and sessions, that reads texts by the forms of
 -- leases.
 pub record IsSettingOf (z : Sizes) (gs : List Given) (reading : ℕ) (st : Setting) : Type 0 where

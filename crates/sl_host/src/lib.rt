@@ -21,4 +21,6 @@ mod refusal;
 mod step;
 
 pub use host::Host;
-pub use refusal::Refusal;
+
+#[cfg(test)]
+mod tests;

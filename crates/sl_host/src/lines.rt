@@ -42,13 +42,7 @@ fn first_lease(
     ensures keeps { (st : Setting) (y : LeaseState) → st.layout ≡ layout_of geometry → IsFresh y → KeepsLease result st y }
 {
     let session = &given[place.session];
-    LeaseHost::new(
-        alloc,
-        geometry,
-        place.session as u64,
-        *session,
-        *resource,
-    )
+    LeaseHost::new(alloc, geometry, place.session as u64, *session, *resource)
 }
 
 impl Host {
@@ -83,13 +77,9 @@ impl Host {
         ensures site { IsSameSite self.old self.new }
         ensures kept { OnErr result (self.new ≡ self.old) }
     {
-        let effects = self.leases.begins(
-            lease,
-            *resource,
-            process,
-            self.next_call,
-            self.next_job,
-        )?;
+        let effects = self
+            .leases
+            .begins(lease, *resource, process, self.next_call, self.next_job)?;
         self.next_call += effects.calls.len() as u64;
         self.next_job += 1;
         Ok(effects)
@@ -119,13 +109,9 @@ impl Host {
             place,
             resource,
         );
-        let effects = self.leases.begins_first(
-            lease,
-            *resource,
-            process,
-            self.next_call,
-            self.next_job,
-        )?;
+        let effects = self
+            .leases
+            .begins_first(lease, *resource, process, self.next_call, self.next_job)?;
         self.next_call += effects.calls.len() as u64;
         self.next_job += 1;
         Ok(effects)

@@ -4,9 +4,9 @@ ghost use Rattle.std.specs.Prelude.{◌≡◌};
 
 use sl_trace::{Limited, Reply};
 
-/// Why a line begins no work. (Definitions call two variants `Misread` and `LimitReached`.)
+/// Why a line begins no work.
 #[derive(Clone, Copy)]
-pub enum Refusal {
+pub(crate) enum Refusal {
     /// The text says no command.
     BadCommand { column: u64 },
     /// The host has no session of that lockspace.

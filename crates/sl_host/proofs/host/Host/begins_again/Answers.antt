@@ -25,10 +25,11 @@ invariant_of-self c =
 
 pub invariant_of-self-2 : goal.invariant_of-self-2
 invariant_of-self-2 c =
-    let inside : HostState = record { sizes = c.self.inside.geometry; given = c.self.inside.given; reading = c.self.inside.reading; next_call = c.self.inside.next_call; next_job = c.self.inside.next_job; leases = c.self.inside.leases } in
-    (c.self.invariant.0,
+    let inside : HostState = record { sizes = c.self.inside.geometry; given = c.self.inside.given; reading = c.self.inside.reading; next_call = c.self.inside.next_call; next_job = c.self.inside.next_job; leases = c.self.inside.leases } in (
+      c.self.invariant.0,
       again_of (λ x y. Begins x y c.args.resource.now c.args.process c.self.inside.next_call c.self.inside.next_job c.in_ok-effects.effects) inside.sizes inside.given inside.leases c.begins.new.self
-      c.args.resource.now c.args.lease c.self.invariant.1 (again_is c.args.self.now inside c.self.view_is c.self.invariant.1 c.args.resource.now c.args.process c.args.place c.args.lease c.requires.named c.requires.placed c.requires.there) c.in_ok-effects.ensures.moved)
+          c.args.resource.now c.args.lease c.self.invariant.1 (again_is c.args.self.now inside c.self.view_is c.self.invariant.1 c.args.resource.now c.args.process c.args.place c.args.lease c.requires.named c.requires.placed c.requires.there) c.in_ok-effects.ensures.moved,
+    )
 
 pub returns-clause-steps : goal.returns-clause-steps
 returns-clause-steps c =

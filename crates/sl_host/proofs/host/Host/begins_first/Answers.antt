@@ -18,19 +18,19 @@ pub begins_first-requires-clause-idle : goal.begins_first-requires-clause-idle
 begins_first-requires-clause-idle c =
     let inside : HostState = record { sizes = c.self.inside.geometry; given = c.self.inside.given; reading = c.self.inside.reading; next_call = c.self.inside.next_call; next_job = c.self.inside.next_job; leases = c.self.inside.leases } in
     first_idle inside c.args.resource.now c.args.place c.first_lease-lease.result (first_is inside c.args.resource.now c.args.process c.args.place c.first_lease-lease.result (placed_inside c.args.self.now inside c.self.view_is c.args.resource.now c.args.process c.args.place c.requires.placed)
-      (λ g there. c.first_lease-lease.ensures.state g (ap (λ gs. slice_get gs c.args.place.session) c.as_slice.ensures ∙ there)))
+    (λ g there. c.first_lease-lease.ensures.state g (ap (λ gs. slice_get gs c.args.place.session) c.as_slice.ensures ∙ there)))
 
 pub begins_first-requires-clause-named : goal.begins_first-requires-clause-named
 begins_first-requires-clause-named c =
     let inside : HostState = record { sizes = c.self.inside.geometry; given = c.self.inside.given; reading = c.self.inside.reading; next_call = c.self.inside.next_call; next_job = c.self.inside.next_job; leases = c.self.inside.leases } in
     first_named inside c.args.resource.now c.args.place c.first_lease-lease.result (first_is inside c.args.resource.now c.args.process c.args.place c.first_lease-lease.result (placed_inside c.args.self.now inside c.self.view_is c.args.resource.now c.args.process c.args.place c.requires.placed)
-      (λ g there. c.first_lease-lease.ensures.state g (ap (λ gs. slice_get gs c.args.place.session) c.as_slice.ensures ∙ there))) (named_inside c.args.self.now inside c.self.view_is c.args.resource.now c.requires.named)
+    (λ g there. c.first_lease-lease.ensures.state g (ap (λ gs. slice_get gs c.args.place.session) c.as_slice.ensures ∙ there))) (named_inside c.args.self.now inside c.self.view_is c.args.resource.now c.requires.named)
 
 pub begins_first-requires-clause-its : goal.begins_first-requires-clause-its
 begins_first-requires-clause-its c =
     let inside : HostState = record { sizes = c.self.inside.geometry; given = c.self.inside.given; reading = c.self.inside.reading; next_call = c.self.inside.next_call; next_job = c.self.inside.next_job; leases = c.self.inside.leases } in
     first_its inside c.args.resource.now c.args.place c.first_lease-lease.result (first_is inside c.args.resource.now c.args.process c.args.place c.first_lease-lease.result (placed_inside c.args.self.now inside c.self.view_is c.args.resource.now c.args.process c.args.place c.requires.placed)
-      (λ g there. c.first_lease-lease.ensures.state g (ap (λ gs. slice_get gs c.args.place.session) c.as_slice.ensures ∙ there))) (named_inside c.args.self.now inside c.self.view_is c.args.resource.now c.requires.named)
+    (λ g there. c.first_lease-lease.ensures.state g (ap (λ gs. slice_get gs c.args.place.session) c.as_slice.ensures ∙ there))) (named_inside c.args.self.now inside c.self.view_is c.args.resource.now c.requires.named)
 
 pub invariant_of-self : goal.invariant_of-self
 invariant_of-self c =
@@ -38,11 +38,12 @@ invariant_of-self c =
 
 pub invariant_of-self-2 : goal.invariant_of-self-2
 invariant_of-self-2 c =
-    let inside : HostState = record { sizes = c.self.inside.geometry; given = c.self.inside.given; reading = c.self.inside.reading; next_call = c.self.inside.next_call; next_job = c.self.inside.next_job; leases = c.self.inside.leases } in
-    (c.self.invariant.0,
+    let inside : HostState = record { sizes = c.self.inside.geometry; given = c.self.inside.given; reading = c.self.inside.reading; next_call = c.self.inside.next_call; next_job = c.self.inside.next_job; leases = c.self.inside.leases } in (
+      c.self.invariant.0,
       first_of (λ y. Begins c.first_lease-lease.result y c.args.resource.now c.args.process c.self.inside.next_call c.self.inside.next_job c.in_ok-effects.effects) inside c.begins_first.new.self
-      c.args.resource.now c.args.place c.first_lease-lease.result c.self.invariant.1
-      (first_is inside c.args.resource.now c.args.process c.args.place c.first_lease-lease.result (placed_inside c.args.self.now inside c.self.view_is c.args.resource.now c.args.process c.args.place c.requires.placed) (λ g there. c.first_lease-lease.ensures.state g (ap (λ gs. slice_get gs c.args.place.session) c.as_slice.ensures ∙ there))) c.in_ok-effects.ensures.moved)
+          c.args.resource.now c.args.place c.first_lease-lease.result c.self.invariant.1
+          (first_is inside c.args.resource.now c.args.process c.args.place c.first_lease-lease.result (placed_inside c.args.self.now inside c.self.view_is c.args.resource.now c.args.process c.args.place c.requires.placed) (λ g there. c.first_lease-lease.ensures.state g (ap (λ gs. slice_get gs c.args.place.session) c.as_slice.ensures ∙ there))) c.in_ok-effects.ensures.moved,
+    )
 
 pub returns-clause-steps : goal.returns-clause-steps
 returns-clause-steps c =

@@ -20,10 +20,11 @@ invariant_of-self c =
 
 pub invariant_of-self-2 : goal.invariant_of-self-2
 invariant_of-self-2 c =
-    let inside : HostState = record { sizes = c.self.inside.geometry; given = c.self.inside.given; reading = c.self.inside.reading; next_call = c.self.inside.next_call; next_job = c.self.inside.next_job; leases = c.self.inside.leases } in
-    (c.self.invariant.0,
+    let inside : HostState = record { sizes = c.self.inside.geometry; given = c.self.inside.given; reading = c.self.inside.reading; next_call = c.self.inside.next_call; next_job = c.self.inside.next_job; leases = c.self.inside.leases } in (
+      c.self.invariant.0,
       there_of (λ x y. GivesBack x y c.args.process c.self.inside.next_call c.self.inside.next_job c.in_ok-effects.effects) inside.sizes inside.given inside.leases c.gives_back.new.self c.args.place
-      c.self.invariant.1 (held_there c.args.self.now inside c.self.view_is c.args.resource.now c.args.process c.args.place c.requires.placed) c.in_ok-effects.ensures.moved)
+          c.self.invariant.1 (held_there c.args.self.now inside c.self.view_is c.args.resource.now c.args.process c.args.place c.requires.placed) c.in_ok-effects.ensures.moved,
+    )
 
 pub returns-clause-steps : goal.returns-clause-steps
 returns-clause-steps c =

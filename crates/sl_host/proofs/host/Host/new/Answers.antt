@@ -1,5 +1,5 @@
 use Rattle.sl_host.proofs.HostLaws.{host_begins}
-use Rattle.sl_host.specs.Hosts.{HostStands, HostState}
+use Rattle.sl_host.specs.Hosts.{HostStands}
 use Rattle.std.proofs.Common.{subst, sym}
 use Rattle.std.specs.Prelude.{[]}
 use Rattle.sl_host.proofs.host.Host.new.Goals as goal
