@@ -1,28 +1,26 @@
 -- What an answer to the call of a lease's work does.
 use Rattle.sl_first.specs.FirstPath.{Doing}
-use Rattle.sl_first.specs.FirstSteps.{Phase, Works}
+use Rattle.sl_first.specs.FirstSteps.{Works}
 use Rattle.sl_leases.specs.declared.lease.LeaseNext.TheVariants.{AnswerJob, GrantJob, Nothing, ReadFor, WriteBlock, WriteLeader}
 use Rattle.sl_leases.specs.declared.lease.LeaseNext.{LeaseNext}
 use Rattle.sl_still.proofs.Leading.{comes_live, live_due}
 use Rattle.sl_still.proofs.Lone.{lease_given}
 use Rattle.sl_still.proofs.Told.{AtWork}
 use Rattle.sl_still.proofs.ToldShapes.{live_stands}
-use Rattle.sl_still.specs.StillLeases.{LeaseState, StillStands, Table}
-use Rattle.sl_still.specs.StillPath.{IsLease, IsStill, StillLease}
+use Rattle.sl_still.specs.StillPath.{StillLease}
 use Rattle.sl_still.specs.StillSteps.{Goes_on, LeaseMove, lease_comes, lease_effects}
 use Rattle.sl_still_step.proofs.Answered.{work_expected}
 use Rattle.sl_still_step.proofs.Following.{host_more}
 use Rattle.sl_still_step.proofs.LineSteps.{state_is}
-use Rattle.sl_still_step.specs.Promises.{AnswersStep, StepsTo, told_state}
-use Rattle.sl_trace.specs.Traces.{Setting, Trace, is_answer_for, next_call}
+use Rattle.sl_still_step.specs.Promises.{AnswersStep, told_state}
+use Rattle.sl_trace.specs.Traces.{Setting, next_call}
 use Rattle.sl_trace.specs.declared.command.ResourceArg.{ResourceArg}
 use Rattle.sl_trace.specs.declared.effects.Call.{Call}
 use Rattle.sl_trace.specs.declared.effects.Effects.{Effects}
-use Rattle.sl_trace.specs.declared.input.Answer.{Answer}
 use Rattle.sl_trace.specs.declared.input.Input.TheVariants.{Answer as Told}
 use Rattle.std.proofs.Common.{refl, subst}
 use Rattle.std.specs.List.{range_with_len}
-use Rattle.std.specs.Prelude.{length, map, true, ℕ, ◌≡◌}
+use Rattle.std.specs.Prelude.{length, map, ℕ, ◌≡◌}
 
 -- What comes next makes one call at most, of the next number.
 next_numbered : (st : Setting) (l : StillLease) (r : ResourceArg) (n : ℕ) (d : Doing) (next : LeaseNext)

@@ -17,9 +17,8 @@ use Rattle.sl_trace.specs.declared.input.Answer.{Answer}
 use Rattle.sl_trace.specs.declared.input.Input.TheVariants.{Answer as Told}
 use Rattle.sl_words.proofs.CaseLaws.{is_false}
 use Rattle.sl_words.proofs.WordLaws.{and_true}
-use Rattle.std.proofs.Common.{ap, refl, subst, sym, ◌∙◌}
-use Rattle.std.specs.List.{list_any}
-use Rattle.std.specs.Prelude.{Bool, Contains, List, Option, false, is_none, true, ℕ, ◌&&◌, ◌==◌, ◌≡◌}
+use Rattle.std.proofs.Common.{ap, subst, sym, ◌∙◌}
+use Rattle.std.specs.Prelude.{Contains, Option, is_none, true, ℕ, ◌&&◌, ◌==◌, ◌≡◌}
 
 answer_found : (st : Setting) (now : ℕ) → IsStill st now → (T : Table) (es : Trace) → StillStands st now T es → (call : ℕ) (a : Answer) → is_expected st es (Told call a) ≡ true → AnsweredLease st T call a
 answer_found st now f T es h call a expected =

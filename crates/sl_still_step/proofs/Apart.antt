@@ -2,21 +2,21 @@
 use Rattle.sl_first.proofs.Growth.{same_number}
 use Rattle.sl_first.specs.FirstSteps.{Holds, Phase}
 use Rattle.sl_first_ballot.specs.Ways.{Numbered}
-use Rattle.sl_run.specs.Conflicts.{Holding, conflicts}
+use Rattle.sl_run.specs.Conflicts.{conflicts}
 use Rattle.sl_still.proofs.Leases.{spot_self}
 use Rattle.sl_still.proofs.Numbering.{calls_numbered}
 use Rattle.sl_still.specs.StillLeases.{StillStands, Table, is_idle}
 use Rattle.sl_still.specs.StillPath.{StillLease}
 use Rattle.sl_still_step.proofs.Holders.{HolderOn, holder_on}
 use Rattle.sl_still_step.specs.Promises.{HoldingsAgree, OpenCallsAreApart}
-use Rattle.sl_trace.specs.Traces.{Setting, Submitted, Trace, holdings, is_shared, same_place, spot_of_grant, submitted}
+use Rattle.sl_trace.specs.Traces.{Setting, Submitted, Trace, is_shared, same_place, spot_of_grant, submitted}
 use Rattle.sl_trace.specs.declared.effects.Grant.{Grant}
 use Rattle.sl_trace.specs.declared.effects.Spot.{Spot}
 use Rattle.sl_words.proofs.CaseLaws.{is_false, some_value, true_is_false}
 use Rattle.sl_words.proofs.WordLaws.{and_true}
-use Rattle.std.proofs.Common.{ap, arith, refl, suc, sym, zero, ◌∙◌}
+use Rattle.std.proofs.Common.{ap, arith, suc, sym, zero, ◌∙◌}
 use Rattle.std.proofs.lemmas.List.Kept.{AllPairs-filter}
-use Rattle.std.specs.Prelude.{AllPairs, Bool, Contains, List, None, Option, Some, [], false, is_none, length, not, slice_index_or, true, ℕ, ◌&&◌, ◌+◌, ◌<◌, ◌==◌, ◌∷◌, ◌≡◌, ◌≢◌}
+use Rattle.std.specs.Prelude.{AllPairs, List, None, Option, Some, [], is_none, length, not, slice_index_or, true, ℕ, ◌&&◌, ◌+◌, ◌<◌, ◌==◌, ◌∷◌, ◌≡◌, ◌≢◌}
 
 -- ---- calls
 

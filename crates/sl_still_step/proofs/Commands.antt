@@ -1,8 +1,6 @@
 -- What an acquire and a release come to, by the table of the leases.
 use Rattle.sl_area.specs.Places.{is_base}
 use Rattle.sl_due.specs.DueCommands.{Decision, Gives_up, Reads_area, Replies, busy_refusal, decided, holding_of, limit_refusal, pending_refusal, process_refusal, session_refusal, unless_refused, with_session}
-use Rattle.sl_first.proofs.Growth.{same_number}
-use Rattle.sl_first.specs.FirstPath.{Doing}
 use Rattle.sl_first.specs.FirstSteps.{Holds, Idle, Phase, Works}
 use Rattle.sl_leases.specs.Leases.{holdings_on, spot_of}
 use Rattle.sl_plain.proofs.Lists.{find_fails}
@@ -10,7 +8,7 @@ use Rattle.sl_sessions.specs.Sessions.{Session, session_named}
 use Rattle.sl_still.proofs.Deciding.{named_lease, unrefused}
 use Rattle.sl_still.proofs.Lists.{inside_at}
 use Rattle.sl_still.proofs.Quiet.{quiet_on, quiet_session}
-use Rattle.sl_still.specs.StillLeases.{LeaseState, StillStands, Table, lease_held}
+use Rattle.sl_still.specs.StillLeases.{StillStands, Table, lease_held}
 use Rattle.sl_still.specs.StillPath.{IsLease, IsOf, IsStill, IsStillResource, StillLease, before_next, lease_grant, lease_session}
 use Rattle.sl_still_step.proofs.Holders.{free_held, none_held}
 use Rattle.sl_still_step.proofs.Openings.{free_open, held_open, one_open}
@@ -23,14 +21,14 @@ use Rattle.sl_trace.specs.declared.command.ResourceArg.{ResourceArg}
 use Rattle.sl_trace.specs.declared.effects.Grant.{Grant}
 use Rattle.sl_trace.specs.declared.effects.Spot.{Spot}
 use Rattle.sl_trace.specs.declared.input.Given.{Given}
-use Rattle.sl_trace.specs.declared.reply.Reply.TheVariants.{Busy, Limit as LimitReached, NoSession, NotHeld, Pending}
+use Rattle.sl_trace.specs.declared.reply.Reply.TheVariants.{Busy, Limit as LimitReached, NotHeld, Pending}
 use Rattle.sl_trace.specs.declared.reply.Reply.{Reply}
 use Rattle.sl_words.proofs.CaseLaws.{true_is_false}
 use Rattle.sl_words.specs.Words.{choose}
-use Rattle.std.proofs.Common.{ap, refl, subst, sym, ◌∙◌}
+use Rattle.std.proofs.Common.{ap, refl, sym, ◌∙◌}
 use Rattle.std.proofs.lemmas.Slice.Eq.{bytes_eq-Decides}
 use Rattle.std.specs.Option.{option_map_or}
-use Rattle.std.specs.Prelude.{Bool, Contains, IsTrue, List, None, Option, Some, [], bytes_eq, false, find, if◌then◌else◌, is_none, not, option_map, true, ℕ, ◌&&◌, ◌==◌, ◌∷◌, ◌≡◌}
+use Rattle.std.specs.Prelude.{Bool, IsTrue, List, None, Option, Some, [], bytes_eq, false, find, if◌then◌else◌, is_none, not, option_map, true, ℕ, ◌&&◌, ◌==◌, ◌∷◌, ◌≡◌}
 
 -- ---- the session
 

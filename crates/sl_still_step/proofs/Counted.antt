@@ -4,7 +4,7 @@ use Rattle.sl_area.specs.Places.{is_base}
 use Rattle.sl_first.proofs.Entries.{running_stays}
 use Rattle.sl_leases.specs.Counts.{holder_count, resource_count}
 use Rattle.sl_leases.specs.Jobs.{is_asking_lease, is_command_that}
-use Rattle.sl_leases.specs.Leases.{is_lease_call, is_on, is_spot_before, lease_calls, lease_spots, spot_of_call, spots_in, with_spot}
+use Rattle.sl_leases.specs.Leases.{is_lease_call, is_on, is_spot_before, lease_spots, spot_of_call, spots_in, with_spot}
 use Rattle.sl_sessions.specs.Sessions.{Session, calls_of, is_joined, sessions}
 use Rattle.sl_still.proofs.Leases.{area_room, on_own, on_spot, spot_same, spot_self}
 use Rattle.sl_still.proofs.Quiet.{quiet_children, quiet_held}
@@ -23,7 +23,7 @@ use Rattle.sl_words.specs.Words.{is_empty, some_is}
 use Rattle.std.proofs.Common.{ap, refl, subst, sym, ◌∙◌}
 use Rattle.std.proofs.lemmas.List.{append-nil}
 use Rattle.std.specs.List.{list_any}
-use Rattle.std.specs.Prelude.{Bool, Contains, IsTrue, List, [], count_by, false, filter, find, if◌then◌else◌, is_some, length, not, option_map, sum_by, true, ℕ, ◌&&◌, ◌+◌, ◌<◌, ◌==◌, ◌∷◌, ◌≡◌, ◌||◌}
+use Rattle.std.specs.Prelude.{Bool, IsTrue, List, [], count_by, false, filter, find, if◌then◌else◌, is_some, length, not, option_map, sum_by, true, ℕ, ◌&&◌, ◌+◌, ◌<◌, ◌==◌, ◌∷◌, ◌≡◌, ◌||◌}
 
 -- ---- the areas of a session's calls
 

@@ -2,7 +2,7 @@
 use Rattle.sl_due.specs.Due.{IsHostTrace, due}
 use Rattle.sl_still.specs.StillLeases.{StillStands, Table}
 use Rattle.sl_still.specs.StillPath.{IsStill, IsStillCalm, IsStillGiven, still_entry}
-use Rattle.sl_trace.specs.Traces.{FollowsTrace, Setting, Trace, is_expected, last_reading, next_call}
+use Rattle.sl_trace.specs.Traces.{Setting, Trace, is_expected, last_reading, next_call}
 use Rattle.sl_trace.specs.declared.effects.Call.{Call}
 use Rattle.sl_trace.specs.declared.effects.Effects.{Effects}
 use Rattle.sl_trace.specs.declared.input.Given.{Given}

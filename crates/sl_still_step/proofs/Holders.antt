@@ -13,8 +13,8 @@ use Rattle.sl_trace.specs.Traces.{Setting, Trace, holdings, same_place}
 use Rattle.sl_trace.specs.declared.effects.Grant.{Grant}
 use Rattle.sl_trace.specs.declared.effects.Spot.{Spot}
 use Rattle.sl_words.proofs.CaseLaws.{is_false, none_some, true_is_false}
-use Rattle.std.proofs.Common.{ap, refl, subst, sym, ◌∙◌}
-use Rattle.std.specs.Prelude.{Contains, List, None, Some, [], false, filter, true, ℕ, ◌==◌, ◌∷◌, ◌≡◌}
+use Rattle.std.proofs.Common.{ap, subst, sym, ◌∙◌}
+use Rattle.std.specs.Prelude.{Contains, [], false, filter, true, ℕ, ◌==◌, ◌∷◌, ◌≡◌}
 
 -- The lease that holds it, on that area.
 pub record HolderOn (st : Setting) (T : Table) (at : Spot) (x : Grant) : Type 0 where

@@ -10,7 +10,7 @@ use Rattle.sl_still.proofs.Dues.{begins_due, gives_due, refused_due}
 use Rattle.sl_still.proofs.LineStands.{begins_stands, gives_stands, idle_is, refused_stands}
 use Rattle.sl_still.specs.StillLeases.{LeaseState, PhaseStands, StillStands, Table}
 use Rattle.sl_still.specs.StillPath.{IsLease, IsOf, IsStill, StillLease, before_next, lease_grant, lease_session}
-use Rattle.sl_still.specs.StillSteps.{Begins, Gives_back, IsRefused, Is_refused, LeaseMove, Says_nothing, area_read, free_write, refused_entry}
+use Rattle.sl_still.specs.StillSteps.{Begins, Gives_back, Is_refused, LeaseMove, Says_nothing, area_read, free_write, refused_entry}
 use Rattle.sl_still_step.proofs.Following.{host_more}
 use Rattle.sl_still_step.specs.Promises.{LinesStep, StepsTo, begun_state}
 use Rattle.sl_trace.specs.Traces.{Setting, Trace, end_of}
@@ -19,7 +19,6 @@ use Rattle.sl_trace.specs.declared.command.Command.{Command}
 use Rattle.sl_trace.specs.declared.command.ResourceArg.{ResourceArg}
 use Rattle.sl_trace.specs.declared.effects.LeaseStep.TheVariants.{FreeLeader, ReadArea}
 use Rattle.sl_trace.specs.declared.input.Input.TheVariants.{Line}
-use Rattle.sl_trace.specs.declared.reply.Reply.{Reply}
 use Rattle.sl_words.proofs.CaseLaws.{none_some, some_value, true_is_false}
 use Rattle.std.proofs.Common.{ap, refl, subst, sym, ◌∙◌}
 use Rattle.std.specs.Prelude.{Bool, Err, List, None, Ok, Option, Result, Some, [], false, true, ℕ, ◌∷◌, ◌≡◌}

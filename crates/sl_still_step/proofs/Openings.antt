@@ -1,7 +1,7 @@
 -- Which calls on an area are open, by where the area stands.
 use Rattle.sl_area.specs.Places.{is_base}
 use Rattle.sl_first.specs.FirstPath.{Doing, has_answer, open_kept}
-use Rattle.sl_first.specs.FirstSteps.{Holds, Phase, Works, work_in}
+use Rattle.sl_first.specs.FirstSteps.{Holds, Works, work_in}
 use Rattle.sl_leases.specs.Leases.{is_on, lease_step, open_on, spot_of_call}
 use Rattle.sl_plain.proofs.Lists.{filter_both, kept}
 use Rattle.sl_still.proofs.Busy.{open_is_work, work_there}
@@ -14,11 +14,11 @@ use Rattle.sl_still_step.proofs.Holders.{holds_no_work}
 use Rattle.sl_still_step.proofs.Plain.{filter_none, filter_through}
 use Rattle.sl_trace.specs.Traces.{Answered, Setting, Submitted, Trace, outstanding, submitted}
 use Rattle.sl_trace.specs.declared.effects.Spot.{Spot}
-use Rattle.sl_words.proofs.CaseLaws.{false_is_true, is_false, none_some, true_is_false}
+use Rattle.sl_words.proofs.CaseLaws.{false_is_true, is_false, true_is_false}
 use Rattle.sl_words.proofs.WordLaws.{and_true}
-use Rattle.std.proofs.Common.{ap, refl, subst, sym, ◌∙◌}
+use Rattle.std.proofs.Common.{ap, subst, sym, ◌∙◌}
 use Rattle.std.specs.List.{list_all}
-use Rattle.std.specs.Prelude.{Bool, Contains, IsTrue, List, None, Option, Some, [], false, filter, if◌then◌else◌, is_none, is_some, true, ℕ, ◌&&◌, ◌++◌, ◌==◌, ◌∷◌, ◌≡◌}
+use Rattle.std.specs.Prelude.{Bool, Contains, IsTrue, List, None, Option, [], false, filter, if◌then◌else◌, is_none, is_some, true, ℕ, ◌&&◌, ◌++◌, ◌==◌, ◌∷◌, ◌≡◌}
 
 -- The lease whose work made the call, on that area.
 pub record WorkOn (st : Setting) (T : Table) (at : Spot) (m : Submitted) : Type 0 where

@@ -1,29 +1,26 @@
 -- Each refusal of a command, by the table of the leases.
 use Rattle.sl_due.specs.DueCommands.{busy_refusal, limit_refusal, pending_refusal, process_refusal}
-use Rattle.sl_first.specs.FirstPath.{Doing}
-use Rattle.sl_first.specs.FirstSteps.{Holds, Works}
-use Rattle.sl_leases.specs.Counts.{busy_among, child_count, held_here, holder_count, resource_count}
+use Rattle.sl_first.specs.FirstSteps.{Holds}
+use Rattle.sl_leases.specs.Counts.{busy_among, held_here, holder_count, resource_count}
 use Rattle.sl_leases.specs.Leases.{open_on}
 use Rattle.sl_still.proofs.Leases.{number_same}
 use Rattle.sl_still.proofs.Quiet.{quiet_children, quiet_held}
-use Rattle.sl_still.specs.StillLeases.{StillStands, Table, is_idle}
-use Rattle.sl_still.specs.StillPath.{IsLease, IsStill, StillLease, before_next, lease_grant, lease_session}
+use Rattle.sl_still.specs.StillLeases.{StillStands, Table}
+use Rattle.sl_still.specs.StillPath.{IsLease, IsStill, StillLease, before_next, lease_session}
 use Rattle.sl_still_step.proofs.Counted.{new_unused, quiet_holders, quiet_resources}
-use Rattle.sl_still_step.proofs.Holders.{free_held, none_held, one_held}
-use Rattle.sl_still_step.proofs.Openings.{free_open, held_open, one_open}
+use Rattle.sl_still_step.proofs.Holders.{one_held}
 use Rattle.sl_still_step.specs.StillAreas.{is_unused, no_process, still_limit}
-use Rattle.sl_trace.specs.Limits.{most_children, most_holders, most_processes, most_resources}
+use Rattle.sl_trace.specs.Limits.{most_holders, most_processes, most_resources}
 use Rattle.sl_trace.specs.Traces.{Child, Setting, Submitted, Trace, same_place}
 use Rattle.sl_trace.specs.declared.effects.Grant.{Grant}
 use Rattle.sl_trace.specs.declared.effects.Spot.{Spot}
-use Rattle.sl_trace.specs.declared.reply.Limited.TheVariants.{Children, Holders, Resources}
+use Rattle.sl_trace.specs.declared.reply.Limited.TheVariants.{Holders, Resources}
 use Rattle.sl_trace.specs.declared.reply.Limited.{Limited}
 use Rattle.sl_trace.specs.declared.reply.Reply.TheVariants.{Busy, Limit as LimitReached, NoProcess, Pending}
-use Rattle.sl_trace.specs.declared.reply.Reply.{Reply}
 use Rattle.sl_words.specs.Words.{choose, least, some_is}
 use Rattle.std.proofs.Common.{ap, arith, refl, sym, tests, ◌∙◌}
 use Rattle.std.specs.Option.{option_or}
-use Rattle.std.specs.Prelude.{Bool, IsTrue, List, None, Option, Some, [], false, filter, find, is_none, map, nat_le, nat_lt, not, option_map, true, ℕ, ◌&&◌, ◌==◌, ◌∷◌, ◌≡◌, ◌||◌}
+use Rattle.std.specs.Prelude.{Bool, List, None, Option, Some, [], false, filter, find, map, nat_le, nat_lt, not, option_map, true, ℕ, ◌&&◌, ◌==◌, ◌∷◌, ◌≡◌, ◌||◌}
 
 -- ---- processes
 

@@ -1,6 +1,6 @@
 -- What such a daemon does next, forward: from where its leases stand to what is decided, what is due, and where they stand then.
 use Rattle.sl_due.specs.Due.{due}
-use Rattle.sl_due.specs.DueCommands.{Decision, Gives_up, Reads_area, Replies, decided}
+use Rattle.sl_due.specs.DueCommands.{Gives_up, Reads_area, Replies, decided}
 use Rattle.sl_first.specs.FirstPath.{Doing, first_effects}
 use Rattle.sl_first.specs.FirstSteps.{Holds, Works}
 use Rattle.sl_leases.specs.declared.lease.LeaseNext.{LeaseNext}
@@ -23,7 +23,7 @@ use Rattle.sl_trace.specs.declared.input.Input.TheVariants.{Answer as Told, Line
 use Rattle.sl_trace.specs.declared.input.Input.{Input}
 use Rattle.sl_trace.specs.declared.reply.Reply.TheVariants.{NoSession}
 use Rattle.sl_trace.specs.declared.reply.Reply.{Reply}
-use Rattle.std.specs.Prelude.{AllPairs, Bool, Contains, List, None, Ok, bytes_eq, false, find, true, [], ℕ, ◌∷◌, ◌≡◌, ◌≢◌}
+use Rattle.std.specs.Prelude.{AllPairs, Contains, List, None, Ok, bytes_eq, false, find, true, [], ℕ, ◌∷◌, ◌≡◌, ◌≢◌}
 
 -- ---- commands
 

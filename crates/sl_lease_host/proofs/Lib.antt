@@ -1,0 +1,5 @@
+pub mod BeginLaws
+pub mod PhaseLaws
+pub mod SmallLaws
+pub mod TakeLaws
+pub mod ToldLaws

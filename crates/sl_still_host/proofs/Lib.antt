@@ -1,0 +1,12 @@
+pub mod Places
+pub mod TableMoves
+pub mod TableLaws
+pub mod Refusing
+pub mod Lookups
+pub mod Decided
+pub mod Stepping
+pub mod LineLaws
+pub mod AnswerLaws
+pub mod HostLaws
+pub mod StepLaws
+pub mod DaemonLaws
