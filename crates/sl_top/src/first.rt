@@ -11,9 +11,9 @@ ghost use Rattle.sl_world.specs.Kept.{WorldStands};
 ghost use Rattle.std.specs.Option.{option_copied, option_to_list};
 ghost use Rattle.std.specs.Prelude.{bytes_eq, filter_map, find, is_some, IfOk, OnOk, ◌++◌, ◌==◌, ◌≡◌};
 
+use sl_host::Host;
 use sl_replay::Replay;
 use sl_run::{FirstReading, Header, LockspaceLine, SessionLine};
-use sl_host::Host;
 use sl_text::{Name, Seq};
 use sl_trace::{Given, Numbers};
 use sl_world::World;

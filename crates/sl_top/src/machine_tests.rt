@@ -139,7 +139,9 @@ fn many(alloc: Global, count: u64) -> Result<(Vec<u8>, Vec<u8>), AllocError> {
     let reply = format!(in alloc; "1 reply {count} Limit resources 256\n")?;
     due.extend_from_slice(reply.as_bytes())?;
     let (events, calls) = (count, count.saturating_sub(1));
-    let last = format!(in alloc; "end events {events} calls {calls} grants 0 refusals 1 conflicts 0\n")?;
+    let last = format!(in alloc;
+        "end events {events} calls {calls} grants 0 refusals 1 conflicts 0\n"
+    )?;
     due.extend_from_slice(last.as_bytes())?;
     Ok((source, due))
 }

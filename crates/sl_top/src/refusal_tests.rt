@@ -124,7 +124,10 @@ const WRITE_LINES: [(&[&str], &str); 7] = [
     (&["land 1 1"], "line 12 missing call"),
     (&["answer 1 2 ok"], "line 12 missing landing"),
     (&["land 1 2", "land 1 2"], "line 13 missing flight"),
-    (&["land 1 2", "answer 1 2 ok", "land 1 2"], "line 14 missing call"),
+    (
+        &["land 1 2", "answer 1 2 ok", "land 1 2"],
+        "line 14 missing call",
+    ),
     (&["# a comment", "", "do 1 1"], "line 14 missing call"),
 ];
 
@@ -218,7 +221,11 @@ fn places_outside_the_disks(rt: HostRuntime) -> Result<(), Fail> {
         ("/e 0", "sample 1 1 1"),
         ("/d 4194304", "do 1 1"),
     ] {
-        let named = if place.len() == 4 { "/e:0" } else { "/d:4194304" };
+        let named = if place.len() == 4 {
+            "/e:0"
+        } else {
+            "/d:4194304"
+        };
         let command = format!(in alloc; "command 1 acquire -r ls:r:{named} -p 7")?;
         let source = text(alloc, &[&HEADER, &[command.as_str(), last]])?;
         let (status, report) = replayed(alloc, source)?;
