@@ -1,3 +1,3 @@
 mod Steps
 mod Daemons
-mod Readings
+pub mod Readings
