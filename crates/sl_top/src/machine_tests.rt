@@ -125,11 +125,11 @@ fn a_place_that_was_never_initialised(rt: HostRuntime) -> Result<(), Fail> {
 }
 
 /// So many resources are asked for, one behind another, and what the report has of it, the last one being refused.
-fn many(alloc: Global, count: u64) -> Result<(Vec<u8>, Vec<u8>), AllocError> {
+fn many(alloc: Global, count: u32) -> Result<(Vec<u8>, Vec<u8>), AllocError> {
     let mut source = text(alloc, &[&HEADER])?;
     let mut due = Vec::new(alloc);
     for number in 1..count {
-        let at = number * 1_048_576;
+        let at = u64::from(number) * 1_048_576;
         let line = format!(in alloc; "command 1 acquire -r ls:r{number}:/d:{at} -p 7\n")?;
         source.extend_from_slice(line.as_bytes())?;
         let call = format!(in alloc; "1 call {number} read /d {at} 4\n")?;

@@ -117,18 +117,43 @@ const READ_LINES: [(&str, &str); 25] = [
     ("begin", "syntax"),
 ];
 
-/// Lines that are refused while its first write is on its way, and behind the write's landing.
-const WRITE_LINES: [(&[&str], &str); 7] = [
-    (&["sample 1 2 1"], "line 12 missing call"),
-    (&["do 1 1"], "line 12 missing call"),
-    (&["land 1 1"], "line 12 missing call"),
-    (&["answer 1 2 ok"], "line 12 missing landing"),
-    (&["land 1 2", "land 1 2"], "line 13 missing flight"),
+/// Lines while its first write is on its way, and behind the write's landing, and what the report has of them.
+const WRITE_LINES: [(&[&str], &[&str]); 7] = [
+    (&["sample 1 2 1"], &["line 12 missing call"]),
+    (&["do 1 1"], &["line 12 missing call"]),
+    (&["land 1 1"], &["line 12 missing call"]),
+    (&["answer 1 2 ok"], &["line 12 missing landing"]),
+    (&["land 1 2", "land 1 2"], &["line 13 missing flight"]),
     (
         &["land 1 2", "answer 1 2 ok", "land 1 2"],
-        "line 14 missing call",
+        &["1 call 3 read /d 1049600 2", "line 14 missing call"],
     ),
-    (&["# a comment", "", "do 1 1"], "line 14 missing call"),
+    (&["# a comment", "", "do 1 1"], &["line 14 missing call"]),
+];
+
+/// The first two calls of an acquire.
+const FIRST_CALLS: [&str; 2] = [
+    "1 call 1 read /d 1048576 4",
+    "1 call 2 write /d 1049600 block 1 lver 1 mbal 1 bal 0 inp 0 0 mode 0 0",
+];
+
+/// Commands on places outside the disks, what the report has of them, and lines that are refused behind them.
+const OUTSIDE: [(&str, &str, &str); 3] = [
+    (
+        "command 1 acquire -r ls:r:/e:0 -p 7",
+        "1 call 1 read /e 0 4",
+        "do 1 1",
+    ),
+    (
+        "command 1 acquire -r ls:r:/e:0 -p 7",
+        "1 call 1 read /e 0 4",
+        "sample 1 1 1",
+    ),
+    (
+        "command 1 acquire -r ls:r:/d:4194304 -p 7",
+        "1 call 1 read /d 4194304 4",
+        "do 1 1",
+    ),
 ];
 
 /// Lines that are refused where no daemon runs.
@@ -148,18 +173,24 @@ const IDLE_LINES: [(&str, &str); 8] = [
 
 /// The refusal of the line behind so many.
 fn refusal(alloc: Global, lines: usize, why: &str) -> Result<Vec<u8>, AllocError> {
-    let line = format!(in alloc; "line {} {why}", lines + 1)?;
+    let number = lines.saturating_add(1);
+    let line = format!(in alloc; "line {number} {why}")?;
     text(alloc, &[&[line.as_str()]])
 }
 
 #[test]
 fn header_lines(rt: HostRuntime) -> Result<(), Fail> {
     let alloc = rt.alloc();
-    for (lines, line, why) in &HEADER_LINES {
-        let (status, report) = replayed(alloc, text(alloc, &[&WIDE[..*lines], &[line]])?)?;
-        let due = refusal(alloc, *lines, why)?;
-        assert_eq!(rt; report.as_slice(), due.as_slice(), "at {line}");
-        assert_eq!(rt; status, Status::Refused);
+    for lines in 0..15 {
+        for (behind, line, why) in &HEADER_LINES {
+            if *behind == lines {
+                let source = text(alloc, &[&WIDE[..lines], &[line]])?;
+                let (status, report) = replayed(alloc, source)?;
+                let due = refusal(alloc, lines, why)?;
+                assert_eq!(rt; report.as_slice(), due.as_slice(), "at {line}");
+                assert_eq!(rt; status, Status::Refused);
+            }
+        }
     }
     Ok(())
 }
@@ -193,21 +224,11 @@ fn events_of_a_read(rt: HostRuntime) -> Result<(), Fail> {
 #[test]
 fn events_of_a_write(rt: HostRuntime) -> Result<(), Fail> {
     let alloc = rt.alloc();
-    for (lines, refusal) in &WRITE_LINES {
+    for (lines, last) in &WRITE_LINES {
         let source = text(alloc, &[&HEADER, &[ACQUIRE[0], "do 1 1"], lines])?;
         let (status, report) = replayed(alloc, source)?;
-        let mut due = text(
-            alloc,
-            &[&[
-                "1 call 1 read /d 1048576 4",
-                "1 call 2 write /d 1049600 block 1 lver 1 mbal 1 bal 0 inp 0 0 mode 0 0",
-            ]],
-        )?;
-        if lines.len() == 3 && lines[1].len() > 0 {
-            due.extend_from_slice(b"1 call 3 read /d 1049600 2\n")?;
-        }
-        due.extend_from_slice(&text(alloc, &[&[refusal]])?)?;
-        assert_eq!(rt; report.as_slice(), due.as_slice(), "at {refusal}");
+        let due = text(alloc, &[&FIRST_CALLS, last])?;
+        assert_eq!(rt; report.as_slice(), due.as_slice());
         assert_eq!(rt; status, Status::Refused);
     }
     Ok(())
@@ -216,22 +237,11 @@ fn events_of_a_write(rt: HostRuntime) -> Result<(), Fail> {
 #[test]
 fn places_outside_the_disks(rt: HostRuntime) -> Result<(), Fail> {
     let alloc = rt.alloc();
-    for (place, last) in [
-        ("/e 0", "do 1 1"),
-        ("/e 0", "sample 1 1 1"),
-        ("/d 4194304", "do 1 1"),
-    ] {
-        let named = if place.len() == 4 {
-            "/e:0"
-        } else {
-            "/d:4194304"
-        };
-        let command = format!(in alloc; "command 1 acquire -r ls:r:{named} -p 7")?;
-        let source = text(alloc, &[&HEADER, &[command.as_str(), last]])?;
+    for (command, call, last) in &OUTSIDE {
+        let source = text(alloc, &[&HEADER, &[command, last]])?;
         let (status, report) = replayed(alloc, source)?;
-        let call = format!(in alloc; "1 call 1 read {place} 4")?;
-        let due = text(alloc, &[&[call.as_str(), "line 11 missing place"]])?;
-        assert_eq!(rt; report.as_slice(), due.as_slice());
+        let due = text(alloc, &[&[call, "line 11 missing place"]])?;
+        assert_eq!(rt; report.as_slice(), due.as_slice(), "at {command}");
         assert_eq!(rt; status, Status::Refused);
     }
     Ok(())
