@@ -1,10 +1,10 @@
 -- What an input makes due.
 use Rattle.sl_due.specs.DueAnswers.{after_answer}
 use Rattle.sl_due.specs.DueCommands.{on_line}
-use Rattle.sl_due.specs.Steps.{Step, add_end, add_reply, for_each, seen, when, with_input}
+use Rattle.sl_due.specs.Steps.{Step, add_end, add_grant, add_reply, for_each, seen, when, with_input}
 use Rattle.sl_leases.specs.Jobs.{is_job_of_process, job_of_start}
 use Rattle.sl_sessions.specs.Sessions.{is_present}
-use Rattle.sl_trace.specs.Traces.{Trace, end_of, holdings, is_running, running_jobs}
+use Rattle.sl_trace.specs.Traces.{Trace, end_of, holdings, is_running, orphans_left, running_jobs}
 use Rattle.sl_trace.specs.declared.input.Input.TheVariants.{Answer as Told, Exit, Line, Spawned, Wake}
 use Rattle.sl_trace.specs.declared.input.Input.{Input}
 use Rattle.sl_trace.specs.declared.reply.Reply.TheVariants.{NoProcess, SpawnFault, Started}
@@ -22,9 +22,13 @@ end_holdings p x = for_each (filter (λ g. g.process == p) (holdings (seen x))) 
 abbrev pub refuse_jobs_of : ℕ → Step → Step
 refuse_jobs_of p x = for_each (filter (is_job_of_process (seen x) p) (running_jobs x.setting (seen x))) (λ j. add_reply j.number (NoProcess p)) x
 
--- A process has exited: its holdings end, its jobs are refused.
+-- The holdings of the process end, and the persistent ones are from here on the machine's orphans, whatever their session's state.
+unfoldable pub leave_holdings : ℕ → Step → Step
+leave_holdings p x = for_each (orphans_left p (holdings (seen x))) add_grant (end_holdings p x)
+
+-- A process has exited: its holdings end or become orphans, its jobs are refused.
 unfoldable pub on_exit : ℕ → Step → Step
-on_exit p x = refuse_jobs_of p (end_holdings p x)
+on_exit p x = refuse_jobs_of p (leave_holdings p x)
 
 -- The reply to a command whose child was started.
 abbrev pub started_reply : Trace → ℕ → Reply

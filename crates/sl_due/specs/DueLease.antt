@@ -12,7 +12,7 @@ use Rattle.sl_sector.specs.declared.sector.Leader.{Leader}
 use Rattle.sl_sector.specs.declared.sector.Rec.TheVariants.{BlockIs, LeaderIs}
 use Rattle.sl_sessions.specs.Sessions.{Session, is_active}
 use Rattle.sl_trace.specs.Traces.{Setting, Submitted, Trace, is_running, next_child, work_job}
-use Rattle.sl_trace.specs.declared.command.Command.TheVariants.{Acquire, RunProgram}
+use Rattle.sl_trace.specs.declared.command.Command.TheVariants.{Acquire, RunProgram, TakeOver}
 use Rattle.sl_trace.specs.declared.command.Command.{Command}
 use Rattle.sl_trace.specs.declared.command.ResourceArg.{ResourceArg}
 use Rattle.sl_trace.specs.declared.effects.Grant.{Grant}
@@ -58,8 +58,8 @@ write_leader s at work step l x = lease_call s at work step (leader_offset at.ba
 -- ---- grants
 
 -- A grant under the session, with the names of the command.
-abbrev pub grant_of : Session → ResourceArg → ℕ → Mode → ℕ → Grant
-grant_of s r p mode lver =
+abbrev pub grant_of : Session → ResourceArg → ℕ → Mode → ℕ → Bool → Grant
+grant_of s r p mode lver persistent =
     record {
       process = p;
       session = s.number;
@@ -69,17 +69,22 @@ grant_of s r p mode lver =
       offset = r.offset;
       mode = mode;
       lver = lver;
-      persistent = false;
+      persistent = persistent;
     }
 
 -- A program is started for the job, and holds the resource from here on.
 abbrev pub start_for : Session → ℕ → ResourceArg → List ℕ → Mode → ℕ → ℕ → Step → Step
 start_for s j r path mode lver child x =
-    add_start (record { process = child; program = path; job = Some j }) (add_grant (grant_of s r child mode lver) x)
+    add_start (record { process = child; program = path; job = Some j }) (add_grant (grant_of s r child mode lver false) x)
+
+-- The job's process is granted the resource, and the job is answered.
+abbrev pub grant_process : Session → ℕ → ResourceArg → ℕ → Mode → ℕ → Bool → Step → Step
+grant_process s j r p mode lver persistent x = add_reply j (Granted lver) (add_grant (grant_of s r p mode lver persistent) x)
 
 -- An acquire is answered at once; a command starts its program.
 abbrev pub grant_for : Session → ℕ → Command → Mode → ℕ → Step → Step
-grant_for s j (Acquire r shared p) mode lver x = add_reply j (Granted lver) (add_grant (grant_of s r p mode lver) x)
+grant_for s j (Acquire r shared p persistent) mode lver x = grant_process s j r p mode lver persistent x
+grant_for s j (TakeOver r shared p persistent) mode lver x = grant_process s j r p mode lver persistent x
 grant_for s j (RunProgram r shared path) mode lver x = start_for s j r path mode lver (next_child (seen x)) x
 grant_for s j c mode lver x = x
 

@@ -3,9 +3,9 @@ use Rattle.sl_area.specs.Layouts.{record_in, sector_with}
 use Rattle.sl_area.specs.Places.{area_blocks, leader_of, read_at}
 use Rattle.sl_law.specs.Saying.{IsAnsweredAt}
 use Rattle.sl_leases.specs.Ballots.{in_instance, next_mbal, stop_of, value_of}
-use Rattle.sl_leases.specs.Counts.{busy_process, limit_met, may_act, next_value_seq, pending_call}
+use Rattle.sl_leases.specs.Counts.{busy_process, holds_already, limit_met, may_act, next_value_seq, pending_call}
 use Rattle.sl_leases.specs.Jobs.{is_asking_lease, is_job_of_process, is_program, job_of_start, lockspace_named, process_named, resource_named, wants_shared}
-use Rattle.sl_leases.specs.Leases.{Area_read, LeaseKnown, Phase1_read, Phase2_read, blocks_given, exclusive_on, holdings_on, instance_for, is_at, is_leader_of, is_phase_read, known, lease_calls, own_block, shared_elsewhere, spot_of, spot_of_call}
+use Rattle.sl_leases.specs.Leases.{Area_read, LeaseKnown, Phase1_read, Phase2_read, blocks_given, exclusive_on, holdings_on, instance_for, is_at, is_leader_of, is_phase_read, known, lease_calls, orphan_on, own_block, shared_elsewhere, spot_of, spot_of_call}
 use Rattle.sl_leases.specs.declared.lease.Instance.TheVariants.{Begins, HeldAlready}
 use Rattle.sl_leases.specs.declared.lease.Instance.{Instance}
 use Rattle.sl_leases.specs.declared.lease.Stop.TheVariants.{BlockAhead, BlockRival, BlockTorn}
@@ -18,13 +18,13 @@ use Rattle.sl_sector.specs.declared.sector.Leader.{Leader}
 use Rattle.sl_sector.specs.declared.sector.Owner.{Owner}
 use Rattle.sl_sector.specs.declared.sector.Rec.TheVariants.{DeltaIs}
 use Rattle.sl_sessions.specs.Deltas.{claim_of, delta_of_session, first_bytes, id_lost, version_in}
-use Rattle.sl_sessions.specs.Sessions.{Session, calls_of, generation_of, is_active, is_join_call, is_joined, is_session_arg, join_call, last_renewal, last_seq, present_sessions, session_named, session_of_job}
+use Rattle.sl_sessions.specs.Sessions.{Session, calls_of, generation_of, holdings_of, is_active, is_join_call, is_joined, is_session_arg, join_call, last_renewal, last_seq, present_sessions, session_named, session_of_job}
 use Rattle.sl_sessions.specs.Watching.{counts_over}
 use Rattle.sl_time.specs.Times.{join_max}
 use Rattle.sl_trace.specs.EffectTexts.{is_ok_reply}
 use Rattle.sl_trace.specs.Limits.{most_lockspaces}
-use Rattle.sl_trace.specs.Traces.{EachEntry, Job, Setting, Submitted, Trace, gave, is_of_job, is_shared, is_before_input, job_numbered, no_effects, reply_to, submitted, waiting_call}
-use Rattle.sl_trace.specs.declared.command.Command.TheVariants.{AddLockspace, GetLvb, HostStatus, InqLockspace, Release, RemLockspace, Request, SetLvb}
+use Rattle.sl_trace.specs.Traces.{EachEntry, Job, Setting, Submitted, Trace, gave, is_of_job, is_orphan, is_shared, is_before_input, job_numbered, no_effects, no_process, reply_to, submitted, waiting_call}
+use Rattle.sl_trace.specs.declared.command.Command.TheVariants.{AddLockspace, GetLvb, HostStatus, InqLockspace, Release, ReleaseOrphan, RemLockspace, Request, SetLvb, TakeOver}
 use Rattle.sl_trace.specs.declared.command.Command.{Command}
 use Rattle.sl_trace.specs.declared.command.LockspaceArg.{LockspaceArg}
 use Rattle.sl_trace.specs.declared.command.ResourceArg.{ResourceArg}
@@ -42,10 +42,11 @@ use Rattle.sl_trace.specs.declared.input.Input.TheVariants.{Exit, Spawned, Wake}
 use Rattle.sl_trace.specs.declared.reply.DeltaVersion.{DeltaVersion}
 use Rattle.sl_trace.specs.declared.reply.Limited.TheVariants.{Children, Gen as GenLimit, Holders, Lockspaces, Lver as LverLimit, Mbal as MbalLimit, Resources, Seq as SeqLimit}
 use Rattle.sl_trace.specs.declared.reply.Limited.{Limited}
-use Rattle.sl_trace.specs.declared.reply.Reply.TheVariants.{Ahead, BadCommand as Misread, Busy, Held as HeldBy, IdHeld, IdLate, IdLost, IoFault, IoTimeout, Joined, Joining as StillJoining, Limit as LimitReached, NoProcess, NoSession, NotHeld, Pending, Recovering, RequestOld, Rival, Shared as SharedBy, SpawnFault, TornBlock, TornDelta, TornLeader, ValueTorn, WrongArea, WrongDelta}
+use Rattle.sl_trace.specs.declared.reply.Reply.TheVariants.{Ahead, BadCommand as Misread, Busy, Held as HeldBy, IdHeld, IdLate, IdLost, IoFault, IoTimeout, Joined, Joining as StillJoining, Limit as LimitReached, NoOrphan, NoProcess, NoSession, NotHeld, Pending, Recovering, RequestOld, Rival, Shared as SharedBy, SpawnFault, TornBlock, TornDelta, TornLeader, ValueTorn, WrongArea, WrongDelta}
 use Rattle.sl_trace.specs.declared.reply.Reply.{Reply}
 use Rattle.sl_words.specs.Bounds.{record_numbers}
 use Rattle.sl_words.specs.Words.{present}
+use Rattle.std.specs.List.{list_any}
 use Rattle.std.specs.Prelude.{AllPairs, Bool, Contains, Err, IsFalse, IsSome, IsSomeAnd, IsTrue, List, None, Ok, Option, Some, bytes_eq, false, filter, is_none, length, map, option_and_then, option_map, position, true, ℕ, ◌&&◌, ◌++◌, ◌+◌, ◌<◌, ◌==◌, ◌∷◌, ◌≡◌, ◌≢◌, ◌≤◌, ◌⊎◌}
 
 -- Where a reply is given: the trace before its entry, the entry, the job.
@@ -113,6 +114,16 @@ is_holders_command (Release r p) = true
 is_holders_command (GetLvb r p) = true
 is_holders_command (SetLvb r p bytes) = true
 is_holders_command c = false
+
+-- Whether a command takes an orphan over.
+abbrev pub is_taking_over : Command → Bool
+is_taking_over (TakeOver r shared p persistent) = true
+is_taking_over c = false
+
+-- Whether a command is one on an orphan.
+abbrev pub is_orphan_command : Command → Bool
+is_orphan_command (ReleaseOrphan r) = true
+is_orphan_command c = is_taking_over c
 
 -- None of that name, or one with another id, path or offset.
 abbrev pub IsNoSession : Answering → Type 0
@@ -265,6 +276,13 @@ IsWrongDelta x lockspace id =
 abbrev pub IsExited : Answering → ℕ → Type 0
 IsExited x p = (x.entry.input ≡ Exit p) × IsTrue (is_job_of_process x.past p x.job)
 
+-- A process stands in the way: of a lease that is asked for, of a take-over by itself, or of a leaving by an orphan.
+abbrev pub IsBusy : Answering → ℕ → Type 0
+IsBusy x process =
+    job_command x (λ c. IsTrue (is_asking_lease c) × WithSpot x (λ r at. busy_process (before_entry x) at (process_named c) (wants_shared c) ≡ Some process))
+    ⊎ job_command x (λ c. IsTrue (is_taking_over c) × (process_named c ≡ Some process) × WithSpot x (λ r at. holds_already (before_entry x) at process ≡ Some process))
+    ⊎ WithSession x (λ s. (a : LockspaceArg) × job_command x (λ c. c ≡ RemLockspace a) × IsTrue (list_any is_orphan (holdings_of (before_entry x) s)) × (process ≡ no_process))
+
 -- The cause of each reply; an ok needs none here, for what is due says when it comes.
 abbrev pub CausedBy : Answering → Reply → Type 0
 CausedBy x NoSession = IsAtCommand x × IsNoSession x
@@ -286,8 +304,9 @@ CausedBy x (IoTimeout call from to) =
 CausedBy x (IoFault call) = (c : Submitted) × AnswersCall x c Failed × (c.call.number ≡ call)
 CausedBy x (Pending call) =
     IsAtCommand x × WithSpot x (λ r at. pending_call x.setting (before_entry x) at ≡ Some call)
-CausedBy x (Busy process) =
-    IsAtCommand x × job_command x (λ c. IsTrue (is_asking_lease c) × WithSpot x (λ r at. busy_process (before_entry x) at (process_named c) (wants_shared c) ≡ Some process))
+CausedBy x (Busy process) = IsAtCommand x × IsBusy x process
+CausedBy x NoOrphan = IsAtCommand x × WithSession x (λ s. job_command x (λ c. IsTrue (is_orphan_command c) × WithSpot x (λ r at.
+    (g : Grant) → orphan_on (before_entry x) s at ≡ Some g → IsTrue (is_taking_over c) × (is_shared g.mode ≢ wants_shared c))))
 CausedBy x NotHeld = IsAtCommand x × WithSession x (λ s. job_command x (λ c. IsTrue (is_holders_command c) × WithSpot x (λ r at.
     (g : Grant) → Contains (holdings_on (before_entry x) s at) g → process_named c ≡ Some g.process →
     (p : ℕ) × (bytes : List ℕ) × (c ≡ SetLvb r p bytes) × IsTrue (is_shared g.mode))))

@@ -14,7 +14,7 @@ use Rattle.sl_trace.specs.declared.reply.Limited.{Limited}
 use Rattle.sl_words.specs.Words.{choose, least}
 use Rattle.std.specs.List.{list_any}
 use Rattle.std.specs.Option.{option_map_or, option_or}
-use Rattle.std.specs.Prelude.{Bool, List, Option, count_by, filter, filter_map, find, length, map, nat_le, nat_lt, not, option_and_then, sum_by, ℕ, ◌&&◌, ◌+◌, ◌==◌, ◌||◌}
+use Rattle.std.specs.Prelude.{Bool, List, Option, count_by, filter, filter_map, find, length, map, nat_le, not, option_and_then, sum_by, ℕ, ◌&&◌, ◌+◌, ◌==◌, ◌||◌}
 
 -- The daemon's holdings on the area, of whatever session.
 abbrev pub held_here : Trace → Spot → List Grant
@@ -29,6 +29,10 @@ busy_among here asking shared =
 -- The process that stands in the way on the area.
 abbrev pub busy_process : Trace → Spot → Option ℕ → Bool → Option ℕ
 busy_process es at asking shared = busy_among (held_here es at) asking shared
+
+-- The process, where it holds on the area itself: it can't take the orphan's place beside its own.
+abbrev pub holds_already : Trace → Spot → ℕ → Option ℕ
+holds_already es at p = choose (list_any (λ g. g.process == p) (held_here es at)) p
 
 -- The least unanswered call of the daemon on the area.
 abbrev pub pending_call : Setting → Trace → Spot → Option ℕ

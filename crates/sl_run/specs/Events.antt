@@ -8,7 +8,7 @@ use Rattle.sl_run.specs.declared.event.Refusal.{Refusal}
 use Rattle.sl_run.specs.declared.header.Header.{Header}
 use Rattle.sl_time.specs.Times.{reading_of}
 use Rattle.sl_trace.specs.Connections.{after_move, test_holds}
-use Rattle.sl_trace.specs.Traces.{end_of, held_after, is_ok_answer, is_starting, no_effects, record_of}
+use Rattle.sl_trace.specs.Traces.{end_of, held_after, is_ok_answer, is_starting, no_effects, orphans_left, record_of}
 use Rattle.sl_trace.specs.declared.effects.Call.{Call}
 use Rattle.sl_trace.specs.declared.effects.Effects.{Effects}
 use Rattle.sl_trace.specs.declared.effects.Entry.{Entry}
@@ -210,7 +210,7 @@ machine_of (Restart m) = m
 abbrev pub input_of : World → Event → Option Input
 input_of w e = option_and_then (input_at w e) (machine_at w (machine_of e))
 
--- ---- what the machine itself does, where no daemon takes the event: holdings end
+-- ---- what the machine itself does, where no daemon takes the event: holdings end, and some become orphans
 
 -- These holdings end.
 abbrev pub ends_of : List Grant → Effects
@@ -218,7 +218,7 @@ ends_of gs = record no_effects { ends = map end_of gs }
 
 -- What a machine does without its daemon: at an exit, and at a reset.
 abbrev pub own_effects : World → Event → Machine → Effects
-own_effects w (ExitOf m p) a = ends_of (filter (λ g. g.process == p) a.holdings)
+own_effects w (ExitOf m p) a = record (ends_of (filter (λ g. g.process == p) a.holdings)) { grants = orphans_left p a.holdings }
 own_effects w (Reset m) a = ends_of a.holdings
 own_effects w e a = no_effects
 

@@ -49,7 +49,8 @@ pub record QuietStart (w : World) (m : ℕ) (text : List ℕ) (r : ResourceArg) 
   pub session : Session
   pub leader : Leader
   pub runs : (machine_at w m ≡ Some machine) × (machine.daemon ≡ Some daemon)
-  pub line : daemon.setting.read text ≡ Ok (Acquire r shared p)
+  pub persistent : Bool
+  pub line : daemon.setting.read text ≡ Ok (Acquire r shared p persistent)
   pub process : IsTrue (may_act daemon.trace p)
   pub named : session_named daemon.setting (before_command daemon (reading_now machine)) r.lockspace ≡ Some session
   -- joined, and recovery isn't due at this reading

@@ -9,7 +9,7 @@ use Rattle.sl_sessions.specs.declared.stage.Stage.TheVariants.{Claiming, Decidin
 use Rattle.sl_sessions.specs.declared.stage.Stage.{Stage}
 use Rattle.sl_time.specs.Times.{fail}
 use Rattle.sl_trace.specs.Connections.{unregisters}
-use Rattle.sl_trace.specs.Traces.{Job, Setting, Submitted, Trace, call_numbered, holdings, is_answered_ok, is_write, line_in, next_job, record_of, reply_to, same_place, submitted, unanswered}
+use Rattle.sl_trace.specs.Traces.{Job, Setting, Submitted, Trace, call_numbered, holdings, is_answered_ok, is_orphan, is_write, line_in, next_job, record_of, reply_to, same_place, submitted, unanswered}
 use Rattle.sl_trace.specs.declared.command.Command.TheVariants.{AddLockspace, RemLockspace}
 use Rattle.sl_trace.specs.declared.command.Command.{Command}
 use Rattle.sl_trace.specs.declared.command.LockspaceArg.{LockspaceArg}
@@ -410,6 +410,6 @@ is_covered_stage stage = false
 abbrev pub holdings_of : Trace → Session → List Grant
 holdings_of es s = filter (λ g. g.session == s.number) (holdings es)
 
--- The processes that hold under the session, in rising order.
+-- The processes that hold under the session, in rising order. An orphan has none: nobody can be signalled for it.
 abbrev pub holders_of : Trace → Session → List ℕ
-holders_of es s = rising (map (λ g. g.process) (holdings_of es s))
+holders_of es s = rising (map (λ g. g.process) (filter (λ g. not (is_orphan g)) (holdings_of es s)))

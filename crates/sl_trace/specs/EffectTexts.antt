@@ -24,7 +24,7 @@ use Rattle.sl_trace.specs.declared.reply.HostState.TheVariants.{Dead, Failing, F
 use Rattle.sl_trace.specs.declared.reply.HostState.{HostState}
 use Rattle.sl_trace.specs.declared.reply.Limited.TheVariants.{Children, Gen as GenLimit, Holders, Lockspaces, Lver as LverLimit, Mbal as MbalLimit, Resources, Seq as SeqLimit}
 use Rattle.sl_trace.specs.declared.reply.Limited.{Limited}
-use Rattle.sl_trace.specs.declared.reply.Reply.TheVariants.{Ahead, BadCommand as Misread, Busy, Done, Generation, Granted, Held as HeldBy, Hosts, IdHeld, IdLate, IdLost, IoFault, IoTimeout, Joined, Joining as StillJoining, Limit as LimitReached, NoProcess, NoSession, NotHeld, Pending, Recovering, RequestOld, Rival, Sessions, Shared as SharedBy, SpawnFault, Started, TornBlock, TornDelta, TornLeader, Value, ValueTorn, WrongArea, WrongDelta}
+use Rattle.sl_trace.specs.declared.reply.Reply.TheVariants.{Ahead, BadCommand as Misread, Busy, Done, Generation, Granted, Held as HeldBy, Hosts, IdHeld, IdLate, IdLost, IoFault, IoTimeout, Joined, Joining as StillJoining, Limit as LimitReached, NoOrphan, NoProcess, NoSession, NotHeld, Pending, Recovering, RequestOld, Rival, Sessions, Shared as SharedBy, SpawnFault, Started, TornBlock, TornDelta, TornLeader, Value, ValueTorn, WrongArea, WrongDelta}
 use Rattle.sl_trace.specs.declared.reply.Reply.{Reply}
 use Rattle.sl_words.specs.Bounds.{record_numbers}
 use Rattle.std.specs.Prelude.{Bool, List, None, Option, Some, codes, decimal, false, filter, map, not, true, [], ℕ, ◌++◌, ◌-◌, ◌∷◌}
@@ -105,6 +105,7 @@ reply_words (IoTimeout call from to) = codes "IoTimeout" ∷ decimal call ∷ de
 reply_words (IoFault call) = codes "IoFault" ∷ decimal call ∷ []
 reply_words (Pending call) = codes "Pending" ∷ decimal call ∷ []
 reply_words (Busy process) = codes "Busy" ∷ decimal process ∷ []
+reply_words NoOrphan = codes "NoOrphan" ∷ []
 reply_words NotHeld = codes "NotHeld" ∷ []
 reply_words SpawnFault = codes "SpawnFault" ∷ []
 reply_words ValueTorn = codes "ValueTorn" ∷ []

@@ -291,6 +291,32 @@ holdings (e ∷ es) = held_after e.effects (holdings es)
 abbrev pub end_of : Grant → End
 end_of g = record { process = g.process; lockspace = g.lockspace; resource = g.resource; path = g.path; offset = g.offset }
 
+-- ---- orphans: holdings that have outlived their process
+
+-- The number that stands for no process: its holdings are the machine's orphans.
+abbrev pub no_process : ℕ
+no_process = 0
+
+-- Whether the holding is an orphan.
+abbrev pub is_orphan : Grant → Bool
+is_orphan g = g.process == no_process
+
+-- What a persistent holding becomes when its process exits: the same in mode and instance, of no process.
+abbrev pub orphan_of : Grant → Grant
+orphan_of g = record g { process = no_process }
+
+-- Whether one of these holdings is the orphan of the grant's place.
+abbrev pub has_orphan_of : List Grant → Grant → Bool
+has_orphan_of held g = list_any (λ h. is_orphan h && same_place h.path h.offset g.path g.offset) held
+
+-- Whether the process's holding becomes an orphan: it is persistent, and there is none of its place yet.
+abbrev pub leaves_orphan : List Grant → ℕ → Grant → Bool
+leaves_orphan held p g = g.process == p && g.persistent && not (has_orphan_of held g)
+
+-- The orphans that the exit of a process makes of these holdings, in the order of their grants.
+abbrev pub orphans_left : ℕ → List Grant → List Grant
+orphans_left p held = map orphan_of (filter (leaves_orphan held p) held)
+
 -- ---- children
 
 -- A child that was to be started, for which job if any, how its start was answered, and whether it has exited since.

@@ -103,7 +103,8 @@ pub struct Spot {
     pub base: u64,
 }
 
-/// A process begins to hold a resource, for the session with this place; a persistent holding outlives its process.
+/// A process begins to hold a resource, for the session with this place; a persistent holding outlives its process. Process 0 stands for
+/// none: its holdings are the machine's orphans.
 #[derive(Clone, Copy)]
 pub struct Grant {
     pub process: u32,

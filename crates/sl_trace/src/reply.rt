@@ -127,6 +127,7 @@ pub enum Reply {
     Busy {
         process: u32,
     },
+    NoOrphan,
     NotHeld,
     SpawnFault,
     ValueTorn,
