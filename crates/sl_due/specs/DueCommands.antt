@@ -3,8 +3,9 @@ use Rattle.sl_area.specs.Places.{delta_offset, value_offset}
 use Rattle.sl_due.specs.DueFirst.{signal_and_refuse}
 use Rattle.sl_due.specs.DueLease.{carry_lease, grant_for, read_area}
 use Rattle.sl_due.specs.Steps.{Step, add_call_at, add_call_of, add_end, add_reply, seen, with_input}
-use Rattle.sl_leases.specs.Counts.{busy_process, holds_already, limit_met, may_act, next_value_seq, pending_call}
-use Rattle.sl_leases.specs.LeaseWork.{lease_place, release_next}
+use Rattle.sl_leases.specs.Counts.{busy_process, holds_already, limit_met, may_act, next_value_seq, other_holder, pending_call}
+use Rattle.sl_leases.specs.Jobs.{wanted_mode}
+use Rattle.sl_leases.specs.LeaseWork.{convert_next, lease_place, release_next}
 use Rattle.sl_leases.specs.Leases.{holdings_on, known, orphan_on, shared_on, spot_of}
 use Rattle.sl_sector.specs.declared.sector.Rec.TheVariants.{ValueIs}
 use Rattle.sl_sector.specs.declared.sector.ValueRec.{ValueRec}
@@ -12,7 +13,7 @@ use Rattle.sl_sessions.specs.Sessions.{Session, generation_of, holdings_of, is_a
 use Rattle.sl_sessions.specs.Watching.{states_seen}
 use Rattle.sl_trace.specs.Limits.{most_lockspaces}
 use Rattle.sl_trace.specs.Traces.{Setting, Trace, end_of, is_orphan, is_shared, next_job, no_process, spot_of_grant}
-use Rattle.sl_trace.specs.declared.command.Command.TheVariants.{Acquire, AddLockspace, GetLvb, HostStatus, InqLockspace, Release, ReleaseOrphan, RemLockspace, Request, RunProgram, SetLvb, Status, TakeOver}
+use Rattle.sl_trace.specs.declared.command.Command.TheVariants.{Acquire, AddLockspace, Convert, GetLvb, HostStatus, InqLockspace, Release, ReleaseOrphan, RemLockspace, Request, RunProgram, SetLvb, Status, TakeOver}
 use Rattle.sl_trace.specs.declared.command.Command.{Command}
 use Rattle.sl_trace.specs.declared.command.LockspaceArg.{LockspaceArg}
 use Rattle.sl_trace.specs.declared.command.ResourceArg.{ResourceArg}
@@ -20,13 +21,14 @@ use Rattle.sl_trace.specs.declared.effects.Grant.{Grant}
 use Rattle.sl_trace.specs.declared.effects.JoinStep.TheVariants.{FirstRead}
 use Rattle.sl_trace.specs.declared.effects.LeaseStep.TheVariants.{ReadArea}
 use Rattle.sl_trace.specs.declared.effects.Mode.TheVariants.{Shared}
+use Rattle.sl_trace.specs.declared.effects.Mode.{Mode}
 use Rattle.sl_trace.specs.declared.effects.Op.TheVariants.{ReadSectors, WriteRecord}
 use Rattle.sl_trace.specs.declared.effects.Purpose.TheVariants.{RequestRead, Joining, ValueRead, ValueWrite}
 use Rattle.sl_trace.specs.declared.effects.Spot.{Spot}
 use Rattle.sl_trace.specs.declared.effects.Work.TheVariants.{ForJob}
 use Rattle.sl_trace.specs.declared.input.Input.TheVariants.{Line}
 use Rattle.sl_trace.specs.declared.reply.Limited.TheVariants.{Lockspaces, Seq as SeqLimit}
-use Rattle.sl_trace.specs.declared.reply.Reply.TheVariants.{BadCommand as Misread, Busy, Done, Generation, Hosts, Joined, Joining as StillJoining, Limit as LimitReached, NoOrphan, NoProcess, NoSession, NotHeld, Pending, Recovering, Sessions}
+use Rattle.sl_trace.specs.declared.reply.Reply.TheVariants.{BadCommand as Misread, Busy, Done, Generation, Granted, Hosts, Joined, Joining as StillJoining, Limit as LimitReached, NoOrphan, NoProcess, NoSession, NotHeld, Pending, Recovering, Sessions}
 use Rattle.sl_trace.specs.declared.reply.Reply.{Reply}
 use Rattle.sl_trace.specs.declared.reply.SessionOf.{SessionOf}
 use Rattle.sl_words.specs.Bounds.{is_number}
@@ -52,6 +54,8 @@ pub data Decision : Type 0 where
   Gives_up : Session → Grant → Decision
   -- the orphan ends, and its place is the asking process's
   Takes_over : Session → Grant → Decision
+  -- a holding of the resource is converted to a mode
+  Converts_to : Session → ResourceArg → Mode → Decision
   -- a request begins with a read of leader and request
   Requests : Session → ResourceArg → Decision
   -- the value is written
@@ -126,6 +130,20 @@ decide_holder st es r p serves f =
     ∷ process_refusal es p
     ∷ choose (is_none (holding_of es s (spot_of r) p serves)) NotHeld
     ∷ pending_refusal st es (spot_of r) ∷ []) (option_map_or (f s) (holding_of es s (spot_of r) p serves) (Replies NotHeld)))
+
+-- A holding that has the mode already is answered at once.
+abbrev pub converting : Session → ResourceArg → Mode → Grant → Decision
+converting s r mode g = elim (same_truth (is_shared mode) (is_shared g.mode)) [ true ↦ Replies (Granted g.lver) | false ↦ Converts_to s r mode ]
+
+-- A conversion of what the process holds; to exclusive no other process may hold the resource.
+abbrev pub decide_convert : Setting → Trace → ResourceArg → ℕ → Mode → Decision
+decide_convert st es r p mode =
+    with_session (session_named st es r.lockspace) (λ s.
+    unless_refused (session_refusal st es s
+    ∷ process_refusal es p
+    ∷ choose (is_none (holding_of es s (spot_of r) p (λ g. true))) NotHeld
+    ∷ option_and_then (λ q. choose (not (is_shared mode)) (Busy q)) (other_holder es (spot_of r) p)
+    ∷ pending_refusal st es (spot_of r) ∷ []) (option_map_or (converting s r mode) (holding_of es s (spot_of r) p (λ g. true)) (Replies NotHeld)))
 
 -- The orphan of the resource, in a mode that serves.
 abbrev pub serving_orphan : Trace → Session → Spot → (Grant → Bool) → Option Grant
@@ -210,6 +228,7 @@ decided st es now (TakeOver r shared p persistent) = decide_take_over st es r p 
 decided st es now (RunProgram r shared path) = decide_acquire st es r None shared true
 decided st es now (Release r p) = decide_holder st es r p (λ g. true) (λ s g. Gives_up s g)
 decided st es now (ReleaseOrphan r) = decide_orphan st es r None (λ g. true) [] (λ s g. Gives_up s g)
+decided st es now (Convert r shared p) = decide_convert st es r p (wanted_mode (Convert r shared p))
 decided st es now (Request r lver how) = decide_request st es r
 decided st es now (GetLvb r p) = decide_holder st es r p (λ g. true) (λ s g. Gets_value s (spot_of r))
 decided st es now (SetLvb r p bytes) =
@@ -236,6 +255,8 @@ carry_decision j c (Reads_area s r) x = read_area s (spot_of r) (ForJob j) (Read
 carry_decision j c (Shares s lver) x = grant_for s j c Shared lver x
 carry_decision j c (Gives_up s g) x = after_end s (spot_of_grant g) j g (add_end (end_of g) x)
 carry_decision j c (Takes_over s g) x = grant_for s j c g.mode g.lver (add_end (end_of g) x)
+carry_decision j c (Converts_to s r mode) x =
+    carry_lease s (spot_of r) (ForJob j) (convert_next (known x.setting (seen x) s (spot_of r)) mode r.name) x
 carry_decision j c (Requests s r) x = add_call_at s r.path (RequestRead j) r.offset (ReadSectors 2) x
 carry_decision j c (Sets_value s at v) x =
     add_call_at s at.path (ValueWrite j) (value_offset x.setting.layout at.base) (WriteRecord (ValueIs v)) x

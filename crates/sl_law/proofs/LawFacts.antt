@@ -5,6 +5,7 @@ use Rattle.sl_law.specs.LawfulArea.{LawfulArea}
 use Rattle.sl_law.specs.LawfulBlock.{LawfulBlock}
 use Rattle.sl_law.specs.LawfulCalls.{LawfulCalls}
 use Rattle.sl_law.specs.LawfulDelta.{LawfulDelta}
+use Rattle.sl_law.specs.LawfulEnd.{LawfulEnd}
 use Rattle.sl_law.specs.LawfulGrant.{LawfulGrant}
 use Rattle.sl_law.specs.LawfulLeader.{LawfulLeader}
 use Rattle.sl_law.specs.LawfulModes.{LawfulModes}
@@ -27,6 +28,7 @@ lawful-front st later es h =
       modes = each_entry-front (LawfulModes st) later es h.modes;
       watchdog = each_entry-front (LawfulWatchdog st) later es h.watchdog;
       granting = each_entry-front (LawfulGrant st) later es h.granting;
+      ends = each_entry-front (LawfulEnd st) later es h.ends;
       recovery = each_entry-front (LawfulRecovery st) later es h.recovery;
       values = each_entry-front (LawfulValue st) later es h.values;
     }

@@ -3,7 +3,7 @@ use Rattle.sl_area.specs.Layouts.{record_in, sector_with}
 use Rattle.sl_area.specs.Places.{area_blocks, leader_of, read_at}
 use Rattle.sl_law.specs.Saying.{IsAnsweredAt}
 use Rattle.sl_leases.specs.Ballots.{in_instance, next_mbal, stop_of, value_of}
-use Rattle.sl_leases.specs.Counts.{busy_process, holds_already, limit_met, may_act, next_value_seq, pending_call}
+use Rattle.sl_leases.specs.Counts.{busy_process, holds_already, limit_met, may_act, next_value_seq, other_holder, pending_call}
 use Rattle.sl_leases.specs.Jobs.{is_asking_lease, is_job_of_process, is_program, job_of_start, lockspace_named, process_named, resource_named, wants_shared}
 use Rattle.sl_leases.specs.Leases.{Area_read, LeaseKnown, Phase1_read, Phase2_read, blocks_given, exclusive_on, holdings_on, instance_for, is_at, is_leader_of, is_phase_read, known, lease_calls, orphan_on, own_block, shared_elsewhere, spot_of, spot_of_call}
 use Rattle.sl_leases.specs.declared.lease.Instance.TheVariants.{Begins, HeldAlready}
@@ -24,7 +24,7 @@ use Rattle.sl_time.specs.Times.{join_max}
 use Rattle.sl_trace.specs.EffectTexts.{is_ok_reply}
 use Rattle.sl_trace.specs.Limits.{most_lockspaces}
 use Rattle.sl_trace.specs.Traces.{EachEntry, Job, Setting, Submitted, Trace, gave, is_of_job, is_orphan, is_shared, is_before_input, job_numbered, no_effects, no_process, reply_to, submitted, waiting_call}
-use Rattle.sl_trace.specs.declared.command.Command.TheVariants.{AddLockspace, GetLvb, HostStatus, InqLockspace, Release, ReleaseOrphan, RemLockspace, Request, SetLvb, TakeOver}
+use Rattle.sl_trace.specs.declared.command.Command.TheVariants.{AddLockspace, Convert, GetLvb, HostStatus, InqLockspace, Release, ReleaseOrphan, RemLockspace, Request, SetLvb, TakeOver}
 use Rattle.sl_trace.specs.declared.command.Command.{Command}
 use Rattle.sl_trace.specs.declared.command.LockspaceArg.{LockspaceArg}
 use Rattle.sl_trace.specs.declared.command.ResourceArg.{ResourceArg}
@@ -111,6 +111,7 @@ is_joining_command c = false
 -- Whether a command is one of a process that holds a resource.
 abbrev pub is_holders_command : Command → Bool
 is_holders_command (Release r p) = true
+is_holders_command (Convert r shared p) = true
 is_holders_command (GetLvb r p) = true
 is_holders_command (SetLvb r p bytes) = true
 is_holders_command c = false
@@ -276,11 +277,13 @@ IsWrongDelta x lockspace id =
 abbrev pub IsExited : Answering → ℕ → Type 0
 IsExited x p = (x.entry.input ≡ Exit p) × IsTrue (is_job_of_process x.past p x.job)
 
--- A process stands in the way: of a lease that is asked for, of a take-over by itself, or of a leaving by an orphan.
+-- A process stands in the way: of a lease that is asked for, of a take-over by itself, of a conversion to exclusive, or of a leaving by
+-- an orphan.
 abbrev pub IsBusy : Answering → ℕ → Type 0
 IsBusy x process =
     job_command x (λ c. IsTrue (is_asking_lease c) × WithSpot x (λ r at. busy_process (before_entry x) at (process_named c) (wants_shared c) ≡ Some process))
     ⊎ job_command x (λ c. IsTrue (is_taking_over c) × (process_named c ≡ Some process) × WithSpot x (λ r at. holds_already (before_entry x) at process ≡ Some process))
+    ⊎ job_command x (λ c. (r : ResourceArg) × (p : ℕ) × (c ≡ Convert r false p) × (other_holder (before_entry x) (spot_of r) p ≡ Some process))
     ⊎ WithSession x (λ s. (a : LockspaceArg) × job_command x (λ c. c ≡ RemLockspace a) × IsTrue (list_any is_orphan (holdings_of (before_entry x) s)) × (process ≡ no_process))
 
 -- The cause of each reply; an ok needs none here, for what is due says when it comes.

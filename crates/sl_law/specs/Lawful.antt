@@ -5,6 +5,7 @@ use Rattle.sl_law.specs.LawfulArea.{LawfulArea}
 use Rattle.sl_law.specs.LawfulBlock.{LawfulBlock}
 use Rattle.sl_law.specs.LawfulCalls.{LawfulCalls}
 use Rattle.sl_law.specs.LawfulDelta.{LawfulDelta}
+use Rattle.sl_law.specs.LawfulEnd.{LawfulEnd}
 use Rattle.sl_law.specs.LawfulGrant.{LawfulGrant}
 use Rattle.sl_law.specs.LawfulLeader.{LawfulLeader}
 use Rattle.sl_law.specs.LawfulModes.{LawfulModes}
@@ -32,6 +33,7 @@ pub record Lawful (st : Setting) (es : Trace) : Type 0 where
   pub modes : EachEntry (LawfulModes st) es
   pub watchdog : EachEntry (LawfulWatchdog st) es
   pub granting : EachEntry (LawfulGrant st) es
+  pub ends : EachEntry (LawfulEnd st) es
   pub recovery : EachEntry (LawfulRecovery st) es
   pub values : EachEntry (LawfulValue st) es
 

@@ -34,6 +34,10 @@ busy_process es at asking shared = busy_among (held_here es at) asking shared
 abbrev pub holds_already : Trace → Spot → ℕ → Option ℕ
 holds_already es at p = choose (list_any (λ g. g.process == p) (held_here es at)) p
 
+-- The least other process that holds on the area, in whatever mode.
+abbrev pub other_holder : Trace → Spot → ℕ → Option ℕ
+other_holder es at p = least (map (λ g. g.process) (filter (λ g. not (g.process == p)) (held_here es at)))
+
 -- The least unanswered call of the daemon on the area.
 abbrev pub pending_call : Setting → Trace → Spot → Option ℕ
 pending_call st es at = least (map (λ m. m.call.number) (open_on st es at))

@@ -1,9 +1,9 @@
 -- What jobs are about: the lockspace, the process and the resource that their commands name.
-use Rattle.sl_leases.specs.declared.lease.Aim.TheVariants.{Acquires, Releases, Settles}
+use Rattle.sl_leases.specs.declared.lease.Aim.TheVariants.{Acquires, Converts, Releases, Settles}
 use Rattle.sl_leases.specs.declared.lease.Aim.{Aim}
 use Rattle.sl_sessions.specs.Sessions.{Session}
 use Rattle.sl_trace.specs.Traces.{Job, Setting, Trace, child_numbered, children, job_numbered, running_jobs}
-use Rattle.sl_trace.specs.declared.command.Command.TheVariants.{Acquire, AddLockspace, GetLvb, HostStatus, InqLockspace, Release, ReleaseOrphan, RemLockspace, Request, RunProgram, SetLvb, Status, TakeOver}
+use Rattle.sl_trace.specs.declared.command.Command.TheVariants.{Acquire, AddLockspace, Convert, GetLvb, HostStatus, InqLockspace, Release, ReleaseOrphan, RemLockspace, Request, RunProgram, SetLvb, Status, TakeOver}
 use Rattle.sl_trace.specs.declared.command.Command.{Command}
 use Rattle.sl_trace.specs.declared.command.ResourceArg.{ResourceArg}
 use Rattle.sl_trace.specs.declared.effects.Mode.TheVariants.{Exclusive, Shared}
@@ -23,6 +23,7 @@ lockspace_named (Acquire r shared p persistent) = Some r.lockspace
 lockspace_named (TakeOver r shared p persistent) = Some r.lockspace
 lockspace_named (Release r p) = Some r.lockspace
 lockspace_named (ReleaseOrphan r) = Some r.lockspace
+lockspace_named (Convert r shared p) = Some r.lockspace
 lockspace_named (RunProgram r shared path) = Some r.lockspace
 lockspace_named (Request r lver force) = Some r.lockspace
 lockspace_named (GetLvb r p) = Some r.lockspace
@@ -34,6 +35,7 @@ abbrev pub process_named : Command → Option ℕ
 process_named (Acquire r shared p persistent) = Some p
 process_named (TakeOver r shared p persistent) = Some p
 process_named (Release r p) = Some p
+process_named (Convert r shared p) = Some p
 process_named (GetLvb r p) = Some p
 process_named (SetLvb r p bytes) = Some p
 process_named c = None
@@ -44,16 +46,18 @@ resource_named (Acquire r shared p persistent) = Some r
 resource_named (TakeOver r shared p persistent) = Some r
 resource_named (Release r p) = Some r
 resource_named (ReleaseOrphan r) = Some r
+resource_named (Convert r shared p) = Some r
 resource_named (RunProgram r shared path) = Some r
 resource_named (Request r lver force) = Some r
 resource_named (GetLvb r p) = Some r
 resource_named (SetLvb r p bytes) = Some r
 resource_named c = None
 
--- Whether it asks for the shared mode.
+-- Whether it asks for the shared mode, or converts to it.
 abbrev pub wants_shared : Command → Bool
 wants_shared (Acquire r shared p persistent) = shared
 wants_shared (TakeOver r shared p persistent) = shared
+wants_shared (Convert r shared p) = shared
 wants_shared (RunProgram r shared path) = shared
 wants_shared c = false
 
@@ -97,6 +101,7 @@ wanted_mode c = elim (wants_shared c) [ true ↦ Shared | false ↦ Exclusive ]
 -- To what end a job with this command works on a lease.
 abbrev pub aim_of_command : Command → Option Aim
 aim_of_command (Acquire r shared p persistent) = Some (Acquires (wanted_mode (Acquire r shared p persistent)))
+aim_of_command (Convert r shared p) = Some (Converts (wanted_mode (Convert r shared p)))
 aim_of_command (RunProgram r shared path) = Some (Acquires (wanted_mode (RunProgram r shared path)))
 aim_of_command (Release r p) = Some Releases
 aim_of_command (ReleaseOrphan r) = Some Releases

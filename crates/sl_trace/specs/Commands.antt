@@ -5,7 +5,7 @@ use Rattle.sl_text.specs.Forms.{Form, bad_column, coloned, exactly, made_by, pie
 use Rattle.sl_text.specs.Names.{is_name, is_path}
 use Rattle.sl_text.specs.Numbers.{hex_bytes, hex_text, is_hex_word, is_number_that, number_of}
 use Rattle.sl_trace.specs.Limits.{most_children, most_processes}
-use Rattle.sl_trace.specs.declared.command.Command.TheVariants.{Acquire, AddLockspace, GetLvb, HostStatus, InqLockspace, Release, ReleaseOrphan, RemLockspace, Request, RunProgram, SetLvb, Status, TakeOver}
+use Rattle.sl_trace.specs.declared.command.Command.TheVariants.{Acquire, AddLockspace, Convert, GetLvb, HostStatus, InqLockspace, Release, ReleaseOrphan, RemLockspace, Request, RunProgram, SetLvb, Status, TakeOver}
 use Rattle.sl_trace.specs.declared.command.Command.{Command}
 use Rattle.sl_trace.specs.declared.command.LockspaceArg.{LockspaceArg}
 use Rattle.sl_trace.specs.declared.command.ResourceArg.{ResourceArg}
@@ -104,6 +104,14 @@ forms g =
       make = λ ws. ReleaseOrphan (resource_of_word (word_at ws 2));
     }
     ∷ record {
+      words = exactly (codes "convert") ∷ exactly (codes "-r") ∷ is_resource_word g ∷ exactly (codes "-p") ∷ is_process_word ∷ [];
+      make = λ ws. Convert (resource_of_word (word_at ws 2)) false (number_of (word_at ws 4));
+    }
+    ∷ record {
+      words = exactly (codes "convert") ∷ exactly (codes "-r") ∷ is_shared_word g ∷ exactly (codes "-p") ∷ is_process_word ∷ [];
+      make = λ ws. Convert (resource_of_word (word_at ws 2)) true (number_of (word_at ws 4));
+    }
+    ∷ record {
       words = exactly (codes "command") ∷ exactly (codes "-r") ∷ is_resource_word g ∷ exactly (codes "-c") ∷ is_path ∷ [];
       make = λ ws. RunProgram (resource_of_word (word_at ws 2)) false (word_at ws 4);
     }
@@ -174,6 +182,7 @@ command_words (TakeOver r shared p persistent) =
     ∷ words_of_option persistent (codes "-P") ++ words_of_option true (codes "-O")
 command_words (Release r p) = codes "release" ∷ codes "-r" ∷ moded_word r false ∷ codes "-p" ∷ decimal p ∷ []
 command_words (ReleaseOrphan r) = codes "release" ∷ codes "-r" ∷ moded_word r false ∷ words_of_option true (codes "-O")
+command_words (Convert r shared p) = codes "convert" ∷ codes "-r" ∷ moded_word r shared ∷ codes "-p" ∷ decimal p ∷ []
 command_words (RunProgram r shared path) = codes "command" ∷ codes "-r" ∷ moded_word r shared ∷ codes "-c" ∷ path ∷ []
 command_words (Request r lver force) = codes "request" ∷ codes "-r" ∷ coloned (resource_parts r ++ decimal lver ∷ []) ∷ codes "-f" ∷ decimal force ∷ []
 command_words (GetLvb r p) = codes "get_lvb" ∷ codes "-r" ∷ moded_word r false ∷ codes "-p" ∷ decimal p ∷ []
@@ -223,6 +232,7 @@ IsCommand g (Acquire r shared p persistent) = IsResourceArg g r × IsProcess p
 IsCommand g (TakeOver r shared p persistent) = IsResourceArg g r × IsProcess p
 IsCommand g (Release r p) = IsResourceArg g r × IsProcess p
 IsCommand g (ReleaseOrphan r) = IsResourceArg g r
+IsCommand g (Convert r shared p) = IsResourceArg g r × IsProcess p
 IsCommand g (RunProgram r shared path) = IsResourceArg g r × IsTrue (is_path path)
 IsCommand g (Request r lver force) = IsResourceArg g r × IsRequestArg lver force
 IsCommand g (GetLvb r p) = IsResourceArg g r × IsProcess p
