@@ -3,7 +3,7 @@ use Rattle.sl_area.specs.Places.{delta_offset, value_offset}
 use Rattle.sl_due.specs.DueFirst.{signal_and_refuse}
 use Rattle.sl_due.specs.DueLease.{carry_lease, grant_for, read_area}
 use Rattle.sl_due.specs.Steps.{Step, add_call_at, add_call_of, add_end, add_reply, seen, with_input}
-use Rattle.sl_leases.specs.Counts.{busy_process, holds_already, limit_met, may_act, next_value_seq, other_holder, pending_call}
+use Rattle.sl_leases.specs.Counts.{busy_process, holds_already, is_killpath_limit, limit_met, may_act, next_value_seq, other_holder, pending_call}
 use Rattle.sl_leases.specs.Jobs.{wanted_mode}
 use Rattle.sl_leases.specs.LeaseWork.{convert_next, lease_place, release_next}
 use Rattle.sl_leases.specs.Leases.{holdings_on, known, orphan_on, shared_on, spot_of}
@@ -13,7 +13,7 @@ use Rattle.sl_sessions.specs.Sessions.{Session, generation_of, holdings_of, is_a
 use Rattle.sl_sessions.specs.Watching.{states_seen}
 use Rattle.sl_trace.specs.Limits.{most_lockspaces}
 use Rattle.sl_trace.specs.Traces.{Setting, Trace, end_of, is_orphan, is_shared, next_job, no_process, spot_of_grant}
-use Rattle.sl_trace.specs.declared.command.Command.TheVariants.{Acquire, AddLockspace, Convert, GetLvb, HostStatus, InqLockspace, Release, ReleaseOrphan, RemLockspace, Request, RunProgram, SetLvb, Status, TakeOver}
+use Rattle.sl_trace.specs.declared.command.Command.TheVariants.{Acquire, AddLockspace, Convert, GetLvb, HostStatus, InqLockspace, Release, ReleaseOrphan, RemLockspace, Request, RunProgram, SetKillpath, SetLvb, Status, TakeOver}
 use Rattle.sl_trace.specs.declared.command.Command.{Command}
 use Rattle.sl_trace.specs.declared.command.LockspaceArg.{LockspaceArg}
 use Rattle.sl_trace.specs.declared.command.ResourceArg.{ResourceArg}
@@ -27,7 +27,7 @@ use Rattle.sl_trace.specs.declared.effects.Purpose.TheVariants.{RequestRead, Joi
 use Rattle.sl_trace.specs.declared.effects.Spot.{Spot}
 use Rattle.sl_trace.specs.declared.effects.Work.TheVariants.{ForJob}
 use Rattle.sl_trace.specs.declared.input.Input.TheVariants.{Line}
-use Rattle.sl_trace.specs.declared.reply.Limited.TheVariants.{Lockspaces, Seq as SeqLimit}
+use Rattle.sl_trace.specs.declared.reply.Limited.TheVariants.{Killpaths, Lockspaces, Seq as SeqLimit}
 use Rattle.sl_trace.specs.declared.reply.Reply.TheVariants.{BadCommand as Misread, Busy, Done, Generation, Granted, Hosts, Joined, Joining as StillJoining, Limit as LimitReached, NoOrphan, NoProcess, NoSession, NotHeld, Pending, Recovering, Sessions}
 use Rattle.sl_trace.specs.declared.reply.Reply.{Reply}
 use Rattle.sl_trace.specs.declared.reply.SessionOf.{SessionOf}
@@ -215,6 +215,12 @@ abbrev pub session_words : Setting → Trace → List SessionOf
 session_words st es =
     map (λ s. record { lockspace = s.lockspace; id = s.id; generation = generation_of es s }) (filter (is_joined es) (present_sessions st es))
 
+-- ---- kill programs
+
+-- A `set_killpath`.
+abbrev pub decide_killpath : Setting → Trace → ℕ → Decision
+decide_killpath st es p = unless_refused (process_refusal es p ∷ choose (is_killpath_limit st es p) (LimitReached Killpaths) ∷ []) (Replies Done)
+
 -- ---- all commands
 
 -- What a command comes to at this reading, on the trace before its line.
@@ -233,6 +239,7 @@ decided st es now (Request r lver how) = decide_request st es r
 decided st es now (GetLvb r p) = decide_holder st es r p (λ g. true) (λ s g. Gets_value s (spot_of r))
 decided st es now (SetLvb r p bytes) =
     decide_holder st es r p (λ g. not (is_shared g.mode)) (λ s g. setting_value s (spot_of r) g (next_value_seq st es s (spot_of r) g.lver) bytes)
+decided st es now (SetKillpath p path) = decide_killpath st es p
 decided st es now Status = Replies (Sessions (session_words st es))
 
 -- ---- carried out

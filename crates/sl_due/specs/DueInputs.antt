@@ -1,10 +1,11 @@
 -- What an input makes due.
 use Rattle.sl_due.specs.DueAnswers.{after_answer}
 use Rattle.sl_due.specs.DueCommands.{on_line}
-use Rattle.sl_due.specs.Steps.{Step, add_end, add_grant, add_reply, for_each, seen, when, with_input}
+use Rattle.sl_due.specs.Steps.{Step, add_end, add_grant, add_reply, add_signal, for_each, seen, when, with_input, with_some}
 use Rattle.sl_leases.specs.Jobs.{is_job_of_process, job_of_start}
 use Rattle.sl_sessions.specs.Sessions.{is_present}
-use Rattle.sl_trace.specs.Traces.{Trace, end_of, holdings, is_running, orphans_left, running_jobs}
+use Rattle.sl_trace.specs.Traces.{Trace, end_of, holdings, is_running, orphans_left, running_jobs, stands_for}
+use Rattle.sl_trace.specs.declared.effects.Signal.TheVariants.{Term}
 use Rattle.sl_trace.specs.declared.input.Input.TheVariants.{Answer as Told, Exit, Line, Spawned, Wake}
 use Rattle.sl_trace.specs.declared.input.Input.{Input}
 use Rattle.sl_trace.specs.declared.reply.Reply.TheVariants.{NoProcess, SpawnFault, Started}
@@ -39,10 +40,14 @@ abbrev pub when_running : Option ℕ → Reply → Step → Step
 when_running None r x = x
 when_running (Some j) r x = when (is_running (seen x) j) (add_reply j r) x
 
+-- The term for which a kill program stood that was not started, also where its process has exited since.
+abbrev pub signal_instead : ℕ → Step → Step
+signal_instead p x = with_some (stands_for (seen x) p) (λ q. add_signal q Term) x
+
 -- A child was started, or not.
 unfoldable pub on_spawned : ℕ → Bool → Step → Step
 on_spawned p true x = when_running (job_of_start (seen x) p) (started_reply (seen x) p) x
-on_spawned p false x = when_running (job_of_start (seen x) p) SpawnFault (end_holdings p x)
+on_spawned p false x = signal_instead p (when_running (job_of_start (seen x) p) SpawnFault (end_holdings p x))
 
 -- ---- the input
 

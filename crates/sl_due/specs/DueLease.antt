@@ -29,7 +29,7 @@ use Rattle.sl_trace.specs.declared.effects.Work.{Work}
 use Rattle.sl_trace.specs.declared.input.Answer.{Answer}
 use Rattle.sl_trace.specs.declared.reply.Reply.TheVariants.{Granted}
 use Rattle.sl_words.specs.Words.{same_truth}
-use Rattle.std.specs.Prelude.{Bool, List, Option, Some, false, find, not, true, ℕ, ◌&&◌, ◌+◌, ◌==◌}
+use Rattle.std.specs.Prelude.{Bool, List, None, Option, Some, false, find, not, true, ℕ, ◌&&◌, ◌+◌, ◌==◌}
 
 -- A call for a lease.
 abbrev pub lease_call : Session → Spot → Work → LeaseStep → ℕ → Op → Step → Step
@@ -77,7 +77,7 @@ grant_of s r p mode lver persistent =
 -- A program is started for the job, and holds the resource from here on.
 abbrev pub start_for : Session → ℕ → ResourceArg → List ℕ → Mode → ℕ → ℕ → Step → Step
 start_for s j r path mode lver child x =
-    add_start (record { process = child; program = path; job = Some j }) (add_grant (grant_of s r child mode lver false) x)
+    add_start (record { process = child; program = path; job = Some j; stands_for = None }) (add_grant (grant_of s r child mode lver false) x)
 
 -- The job's process is granted the resource, and the job is answered.
 abbrev pub grant_process : Session → ℕ → ResourceArg → ℕ → Mode → ℕ → Bool → Step → Step

@@ -1,7 +1,8 @@
 -- What the calls on requests and values make due.
 use Rattle.sl_area.specs.Layouts.{Layout, record_in}
 use Rattle.sl_area.specs.Places.{leader_of, read_at, request_offset}
-use Rattle.sl_due.specs.Steps.{Step, add_call_at, add_reply, add_signal, seen, when, with_some}
+use Rattle.sl_due.specs.DueFirst.{send}
+use Rattle.sl_due.specs.Steps.{Step, add_call_at, add_reply, seen, when, with_some}
 use Rattle.sl_leases.specs.Leases.{exclusive_on, is_leader_of, spot_of_call}
 use Rattle.sl_request.specs.Requests.{check_request}
 use Rattle.sl_sector.specs.Bitmaps.{bitmap_of}
@@ -86,11 +87,11 @@ abbrev pub signal_of_request : Layout → List ℕ → Grant → Option Signal
 signal_of_request g bytes held =
     option_and_then (λ q. choose (nat_lt held.lver q.lver) (signal_of_force q.force)) (request_in (record_in g bytes))
 
--- After the read of a request under an exclusive holding: its holder is signalled where it asks for more. It does nothing to an orphan.
+-- After the read of a request under an exclusive holding: its holder is signalled, or told to stop, where it asks for more. It does nothing to an orphan.
 unfoldable pub after_see_request : Session → Submitted → List ℕ → Step → Step
 after_see_request s m bytes x =
     with_some (exclusive_on (seen x) s (spot_of_call x.setting.layout m)) (λ g.
-    when (not (is_orphan g)) (with_some (signal_of_request x.setting.layout bytes g) (add_signal g.process))) x
+    when (not (is_orphan g)) (with_some (signal_of_request x.setting.layout bytes g) (send g.process))) x
 
 -- The reply by a value's sector.
 abbrev pub value_reply : Layout → List ℕ → Reply

@@ -3,7 +3,7 @@ use Rattle.sl_area.specs.Layouts.{record_in, sector_with}
 use Rattle.sl_area.specs.Places.{area_blocks, leader_of, read_at}
 use Rattle.sl_law.specs.Saying.{IsAnsweredAt}
 use Rattle.sl_leases.specs.Ballots.{in_instance, next_mbal, stop_of, value_of}
-use Rattle.sl_leases.specs.Counts.{busy_process, holds_already, limit_met, may_act, next_value_seq, other_holder, pending_call}
+use Rattle.sl_leases.specs.Counts.{busy_process, holds_already, is_killpath_limit, limit_met, may_act, next_value_seq, other_holder, pending_call}
 use Rattle.sl_leases.specs.Jobs.{is_asking_lease, is_job_of_process, is_program, job_of_start, lockspace_named, process_named, resource_named, wants_shared}
 use Rattle.sl_leases.specs.Leases.{Area_read, LeaseKnown, Phase1_read, Phase2_read, blocks_given, exclusive_on, holdings_on, instance_for, is_at, is_leader_of, is_phase_read, known, lease_calls, orphan_on, own_block, shared_elsewhere, spot_of, spot_of_call}
 use Rattle.sl_leases.specs.declared.lease.Instance.TheVariants.{Begins, HeldAlready}
@@ -24,7 +24,7 @@ use Rattle.sl_time.specs.Times.{join_max}
 use Rattle.sl_trace.specs.EffectTexts.{is_ok_reply}
 use Rattle.sl_trace.specs.Limits.{most_lockspaces}
 use Rattle.sl_trace.specs.Traces.{EachEntry, Job, Setting, Submitted, Trace, gave, is_of_job, is_orphan, is_shared, is_before_input, job_numbered, no_effects, no_process, reply_to, submitted, waiting_call}
-use Rattle.sl_trace.specs.declared.command.Command.TheVariants.{AddLockspace, Convert, GetLvb, HostStatus, InqLockspace, Release, ReleaseOrphan, RemLockspace, Request, SetLvb, TakeOver}
+use Rattle.sl_trace.specs.declared.command.Command.TheVariants.{AddLockspace, Convert, GetLvb, HostStatus, InqLockspace, Release, ReleaseOrphan, RemLockspace, Request, SetKillpath, SetLvb, TakeOver}
 use Rattle.sl_trace.specs.declared.command.Command.{Command}
 use Rattle.sl_trace.specs.declared.command.LockspaceArg.{LockspaceArg}
 use Rattle.sl_trace.specs.declared.command.ResourceArg.{ResourceArg}
@@ -40,7 +40,7 @@ use Rattle.sl_trace.specs.declared.input.Answer.TheVariants.{Failed, Read}
 use Rattle.sl_trace.specs.declared.input.Answer.{Answer}
 use Rattle.sl_trace.specs.declared.input.Input.TheVariants.{Exit, Spawned, Wake}
 use Rattle.sl_trace.specs.declared.reply.DeltaVersion.{DeltaVersion}
-use Rattle.sl_trace.specs.declared.reply.Limited.TheVariants.{Children, Gen as GenLimit, Holders, Lockspaces, Lver as LverLimit, Mbal as MbalLimit, Resources, Seq as SeqLimit}
+use Rattle.sl_trace.specs.declared.reply.Limited.TheVariants.{Children, Gen as GenLimit, Holders, Killpaths, Lockspaces, Lver as LverLimit, Mbal as MbalLimit, Resources, Seq as SeqLimit}
 use Rattle.sl_trace.specs.declared.reply.Limited.{Limited}
 use Rattle.sl_trace.specs.declared.reply.Reply.TheVariants.{Ahead, BadCommand as Misread, Busy, Held as HeldBy, IdHeld, IdLate, IdLost, IoFault, IoTimeout, Joined, Joining as StillJoining, Limit as LimitReached, NoOrphan, NoProcess, NoSession, NotHeld, Pending, Recovering, RequestOld, Rival, Shared as SharedBy, SpawnFault, TornBlock, TornDelta, TornLeader, ValueTorn, WrongArea, WrongDelta}
 use Rattle.sl_trace.specs.declared.reply.Reply.{Reply}
@@ -237,6 +237,8 @@ IsLimit x Lockspaces =
 IsLimit x Resources = MeetsLimit x Resources
 IsLimit x Holders = MeetsLimit x Holders
 IsLimit x Children = MeetsLimit x Children
+IsLimit x Killpaths =
+    IsAtCommand x × job_command x (λ c. (p : ℕ) × (path : List ℕ) × (c ≡ SetKillpath p path) × IsTrue (is_killpath_limit x.setting (before_entry x) p))
 IsLimit x GenLimit =
     JoinRead x DecidingRead (λ s bytes. (d : DeltaRec) × (delta_in (record_in x.setting.layout bytes) ≡ Some d) × (record_numbers ≤ d.generation + 1))
 IsLimit x SeqLimit =

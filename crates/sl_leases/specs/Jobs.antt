@@ -3,7 +3,7 @@ use Rattle.sl_leases.specs.declared.lease.Aim.TheVariants.{Acquires, Converts, R
 use Rattle.sl_leases.specs.declared.lease.Aim.{Aim}
 use Rattle.sl_sessions.specs.Sessions.{Session}
 use Rattle.sl_trace.specs.Traces.{Job, Setting, Trace, child_numbered, children, job_numbered, running_jobs}
-use Rattle.sl_trace.specs.declared.command.Command.TheVariants.{Acquire, AddLockspace, Convert, GetLvb, HostStatus, InqLockspace, Release, ReleaseOrphan, RemLockspace, Request, RunProgram, SetLvb, Status, TakeOver}
+use Rattle.sl_trace.specs.declared.command.Command.TheVariants.{Acquire, AddLockspace, Convert, GetLvb, HostStatus, InqLockspace, Release, ReleaseOrphan, RemLockspace, Request, RunProgram, SetKillpath, SetLvb, Status, TakeOver}
 use Rattle.sl_trace.specs.declared.command.Command.{Command}
 use Rattle.sl_trace.specs.declared.command.ResourceArg.{ResourceArg}
 use Rattle.sl_trace.specs.declared.effects.Mode.TheVariants.{Exclusive, Shared}
@@ -28,6 +28,7 @@ lockspace_named (RunProgram r shared path) = Some r.lockspace
 lockspace_named (Request r lver force) = Some r.lockspace
 lockspace_named (GetLvb r p) = Some r.lockspace
 lockspace_named (SetLvb r p bytes) = Some r.lockspace
+lockspace_named (SetKillpath p path) = None
 lockspace_named Status = None
 
 -- The process for which a command is given.
@@ -38,6 +39,7 @@ process_named (Release r p) = Some p
 process_named (Convert r shared p) = Some p
 process_named (GetLvb r p) = Some p
 process_named (SetLvb r p bytes) = Some p
+process_named (SetKillpath p path) = Some p
 process_named c = None
 
 -- The resource that a command is about.

@@ -5,7 +5,7 @@ use Rattle.sl_text.specs.Forms.{Form, bad_column, coloned, exactly, made_by, pie
 use Rattle.sl_text.specs.Names.{is_name, is_path}
 use Rattle.sl_text.specs.Numbers.{hex_bytes, hex_text, is_hex_word, is_number_that, number_of}
 use Rattle.sl_trace.specs.Limits.{most_children, most_processes}
-use Rattle.sl_trace.specs.declared.command.Command.TheVariants.{Acquire, AddLockspace, Convert, GetLvb, HostStatus, InqLockspace, Release, ReleaseOrphan, RemLockspace, Request, RunProgram, SetLvb, Status, TakeOver}
+use Rattle.sl_trace.specs.declared.command.Command.TheVariants.{Acquire, AddLockspace, Convert, GetLvb, HostStatus, InqLockspace, Release, ReleaseOrphan, RemLockspace, Request, RunProgram, SetKillpath, SetLvb, Status, TakeOver}
 use Rattle.sl_trace.specs.declared.command.Command.{Command}
 use Rattle.sl_trace.specs.declared.command.LockspaceArg.{LockspaceArg}
 use Rattle.sl_trace.specs.declared.command.ResourceArg.{ResourceArg}
@@ -137,6 +137,10 @@ forms g =
           ∷ exactly (codes "-d") ∷ is_hex_word 2 512 ∷ [];
       make = λ ws. SetLvb (resource_of_word (word_at ws 2)) (number_of (word_at ws 4)) (hex_bytes (word_at ws 6));
     }
+    ∷ record {
+      words = exactly (codes "set_killpath") ∷ exactly (codes "-p") ∷ is_process_word ∷ exactly (codes "-c") ∷ is_path ∷ [];
+      make = λ ws. SetKillpath (number_of (word_at ws 2)) (word_at ws 4);
+    }
     ∷ record { words = exactly (codes "status") ∷ []; make = λ ws. Status }
     ∷ []
 
@@ -187,6 +191,7 @@ command_words (RunProgram r shared path) = codes "command" ∷ codes "-r" ∷ mo
 command_words (Request r lver force) = codes "request" ∷ codes "-r" ∷ coloned (resource_parts r ++ decimal lver ∷ []) ∷ codes "-f" ∷ decimal force ∷ []
 command_words (GetLvb r p) = codes "get_lvb" ∷ codes "-r" ∷ moded_word r false ∷ codes "-p" ∷ decimal p ∷ []
 command_words (SetLvb r p bytes) = codes "set_lvb" ∷ codes "-r" ∷ moded_word r false ∷ codes "-p" ∷ decimal p ∷ codes "-d" ∷ hex_text bytes ∷ []
+command_words (SetKillpath p path) = codes "set_killpath" ∷ codes "-p" ∷ decimal p ∷ codes "-c" ∷ path ∷ []
 command_words Status = codes "status" ∷ []
 
 -- ---- what a command may name
@@ -237,6 +242,7 @@ IsCommand g (RunProgram r shared path) = IsResourceArg g r × IsTrue (is_path pa
 IsCommand g (Request r lver force) = IsResourceArg g r × IsRequestArg lver force
 IsCommand g (GetLvb r p) = IsResourceArg g r × IsProcess p
 IsCommand g (SetLvb r p bytes) = IsResourceArg g r × IsProcess p × IsValueArg bytes
+IsCommand g (SetKillpath p path) = IsProcess p × IsTrue (is_path path)
 IsCommand g Status = Unit {0}
 
 -- The text is the command's: it may name what it does, and its words stand with one space between them.

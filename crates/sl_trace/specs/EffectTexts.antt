@@ -2,7 +2,7 @@
 use Rattle.sl_sector.specs.RecordTexts.{dash_for_none, record_words}
 use Rattle.sl_text.specs.Forms.{coloned, spaced}
 use Rattle.sl_text.specs.Numbers.{hex_text}
-use Rattle.sl_trace.specs.Limits.{most_children, most_holders, most_lockspaces, most_resources}
+use Rattle.sl_trace.specs.Limits.{most_children, most_holders, most_killpaths, most_lockspaces, most_resources}
 use Rattle.sl_trace.specs.declared.effects.Call.{Call}
 use Rattle.sl_trace.specs.declared.effects.Effects.{Effects}
 use Rattle.sl_trace.specs.declared.effects.End.{End}
@@ -22,7 +22,7 @@ use Rattle.sl_trace.specs.declared.reply.DeltaOwner.{DeltaOwner}
 use Rattle.sl_trace.specs.declared.reply.DeltaVersion.{DeltaVersion}
 use Rattle.sl_trace.specs.declared.reply.HostState.TheVariants.{Dead, Failing, Free as LooksFree, Live as LooksLive, Unknown}
 use Rattle.sl_trace.specs.declared.reply.HostState.{HostState}
-use Rattle.sl_trace.specs.declared.reply.Limited.TheVariants.{Children, Gen as GenLimit, Holders, Lockspaces, Lver as LverLimit, Mbal as MbalLimit, Resources, Seq as SeqLimit}
+use Rattle.sl_trace.specs.declared.reply.Limited.TheVariants.{Children, Gen as GenLimit, Holders, Killpaths, Lockspaces, Lver as LverLimit, Mbal as MbalLimit, Resources, Seq as SeqLimit}
 use Rattle.sl_trace.specs.declared.reply.Limited.{Limited}
 use Rattle.sl_trace.specs.declared.reply.Reply.TheVariants.{Ahead, BadCommand as Misread, Busy, Done, Generation, Granted, Held as HeldBy, Hosts, IdHeld, IdLate, IdLost, IoFault, IoTimeout, Joined, Joining as StillJoining, Limit as LimitReached, NoOrphan, NoProcess, NoSession, NotHeld, Pending, Recovering, RequestOld, Rival, Sessions, Shared as SharedBy, SpawnFault, Started, TornBlock, TornDelta, TornLeader, Value, ValueTorn, WrongArea, WrongDelta}
 use Rattle.sl_trace.specs.declared.reply.Reply.{Reply}
@@ -54,6 +54,7 @@ limit_words Lockspaces = codes "lockspaces" ∷ decimal most_lockspaces ∷ []
 limit_words Resources = codes "resources" ∷ decimal most_resources ∷ []
 limit_words Holders = codes "holders" ∷ decimal most_holders ∷ []
 limit_words Children = codes "children" ∷ decimal most_children ∷ []
+limit_words Killpaths = codes "killpaths" ∷ decimal most_killpaths ∷ []
 limit_words GenLimit = codes "gen" ∷ greatest_number ∷ []
 limit_words SeqLimit = codes "seq" ∷ greatest_number ∷ []
 limit_words LverLimit = codes "lver" ∷ greatest_number ∷ []

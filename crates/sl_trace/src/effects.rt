@@ -143,12 +143,13 @@ pub enum Move {
     Unregister { lockspace: Name },
 }
 
-/// A child program to start, and the job that it is for.
+/// A child program to start: for a job, or as the kill program that stands for the term to a process.
 #[derive(Clone, Copy)]
 pub struct Start {
     pub process: u32,
     pub program: FilePath,
     pub job: Option<u64>,
+    pub stands_for: Option<u32>,
 }
 
 /// A reply with its job.

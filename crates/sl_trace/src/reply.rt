@@ -35,6 +35,7 @@ pub enum Limited {
     Resources,
     Holders,
     Children,
+    Killpaths,
     Gen,
     Seq,
     Lver,
