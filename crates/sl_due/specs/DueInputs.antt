@@ -6,7 +6,7 @@ use Rattle.sl_leases.specs.Jobs.{is_job_of_process, job_of_start}
 use Rattle.sl_sessions.specs.Sessions.{is_present}
 use Rattle.sl_trace.specs.Traces.{Trace, end_of, holdings, is_running, orphans_left, running_jobs, stands_for}
 use Rattle.sl_trace.specs.declared.effects.Signal.TheVariants.{Term}
-use Rattle.sl_trace.specs.declared.input.Input.TheVariants.{Answer as Told, Exit, Line, Spawned, Wake}
+use Rattle.sl_trace.specs.declared.input.Input.TheVariants.{Answer as Told, Exit, Line, Number, Spawned, Wake}
 use Rattle.sl_trace.specs.declared.input.Input.{Input}
 use Rattle.sl_trace.specs.declared.reply.Reply.TheVariants.{NoProcess, SpawnFault, Started}
 use Rattle.sl_trace.specs.declared.reply.Reply.{Reply}
@@ -54,6 +54,7 @@ on_spawned p false x = signal_instead p (when_running (job_of_start (seen x) p) 
 -- What the input makes due; a wake is looked at afterwards.
 unfoldable pub take_input : Input → Step → Step
 take_input (Line text) x = on_line text x
+take_input (Number text) x = with_input (Number text) x
 take_input (Told call answer) x = after_answer (is_present (seen x)) call answer (with_input (Told call answer) x)
 take_input (Exit p) x = on_exit p (with_input (Exit p) x)
 take_input (Spawned p ok) x = on_spawned p ok (with_input (Spawned p ok) x)

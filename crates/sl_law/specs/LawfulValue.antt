@@ -13,10 +13,10 @@ use Rattle.sl_trace.specs.declared.effects.Entry.{Entry}
 use Rattle.sl_trace.specs.declared.effects.Grant.{Grant}
 use Rattle.sl_trace.specs.declared.effects.JobReply.{JobReply}
 use Rattle.sl_trace.specs.declared.effects.Op.TheVariants.{ReadSectors}
-use Rattle.sl_trace.specs.declared.effects.Purpose.TheVariants.{ValueRead}
+use Rattle.sl_trace.specs.declared.effects.Purpose.TheVariants.{ValueRead, ValueWrite}
 use Rattle.sl_trace.specs.declared.effects.Spot.{Spot}
-use Rattle.sl_trace.specs.declared.input.Answer.TheVariants.{Read}
-use Rattle.sl_trace.specs.declared.reply.Reply.TheVariants.{Value}
+use Rattle.sl_trace.specs.declared.input.Answer.TheVariants.{Read, Written}
+use Rattle.sl_trace.specs.declared.reply.Reply.TheVariants.{Value, ValueSet}
 use Rattle.std.specs.List.{list_any}
 use Rattle.std.specs.Prelude.{Bool, Contains, IsTrue, List, Some, false, length, nat_le, nat_lt, not, true, [], ℕ, ◌&&◌, ◌||◌, ◌∷◌, ◌≡◌, ◌≤◌}
 
@@ -66,9 +66,19 @@ pub record LawfulValueReply (st : Setting) (past : Trace) (e : Entry) (job lver 
   -- else the own newer value could be missed
   pub calm : writes_since st call.at (e ∷ past) session (spot_of_call st.layout call) ≡ false
 
+-- The answer ok to a writer: it tells what was written.
+pub record LawfulSetReply (past : Trace) (e : Entry) (job lver seq : ℕ) : Type 0 where
+  pub session : Session
+  pub call : Submitted
+  pub value : ValueRec
+  pub of_session : Contains (calls_of (e ∷ past) session) call × (call.call.purpose ≡ ValueWrite job)
+  -- another version would be taken for the newest
+  pub told : IsAnsweredAt (length past) call Written × (value_written call ≡ Some value) × (value.lver ≡ lver) × (value.seq ≡ seq)
+
 -- Lawful values.
 pub record LawfulValue (st : Setting) (past : Trace) (e : Entry) : Type 0 where
   pub writes : EachCall st (λ es s c. (v : ValueRec) → value_written c ≡ Some v → LawfulValueWrite st es s (spot_of_call st.layout c) v) past e
   pub reads : EachCall st (λ es s c. (j : ℕ) → c.call.purpose ≡ ValueRead j → LawfulValueRead st es s (spot_of_call st.layout c) c) past e
   pub replies : (a : JobReply) (lver seq : ℕ) (bytes : List ℕ) → Contains e.effects.replies a → a.reply ≡ Value lver seq bytes →
       LawfulValueReply st past e a.job lver seq bytes
+  pub sets : (a : JobReply) (lver seq : ℕ) → Contains e.effects.replies a → a.reply ≡ ValueSet lver seq → LawfulSetReply past e a.job lver seq

@@ -2,7 +2,7 @@
 use Rattle.sl_run.specs.Worlds.{mebibyte}
 use Rattle.sl_run.specs.declared.event.Event.TheVariants.{AnswerCall, Crash, Do, DropWrite, ExitOf, Land, Pass, Reset, Restart, Sample, SpawnedOf, StartDaemon, Tear, Test, WakeUp}
 use Rattle.sl_run.specs.declared.event.Event.{Event}
-use Rattle.sl_run.specs.declared.event.Refusal.TheVariants.{LimitBytes, LimitFire, LimitGrace, LimitIo, LimitLand, LimitMoment, LimitRho, MissingCall, MissingDaemon, MissingDisk, MissingDown, MissingFlight, MissingFree, MissingLanding, MissingLockspace, MissingMachine, MissingPlace, MissingReset, MissingSample, MissingSpawn, MissingUp, PremiseDrift, PremiseLanding, PremiseName, PremiseTorn, PremiseWatchdog, Syntax}
+use Rattle.sl_run.specs.declared.event.Refusal.TheVariants.{LimitBytes, LimitFire, LimitGrace, LimitIo, LimitLand, LimitMoment, LimitRho, MissingCall, MissingDaemon, MissingDisk, MissingDown, MissingFlight, MissingFree, MissingLanding, MissingLockspace, MissingLvm, MissingMachine, MissingPlace, MissingReset, MissingSample, MissingSpawn, MissingUp, PremiseDrift, PremiseLanding, PremiseName, PremiseTorn, PremiseWatchdog, Syntax}
 use Rattle.sl_run.specs.declared.event.Refusal.{Refusal}
 use Rattle.sl_run.specs.declared.header.Disk.{Disk}
 use Rattle.sl_run.specs.declared.header.FirstReading.{FirstReading}
@@ -33,6 +33,7 @@ pub data HeaderLine : Type 0 where
   TimeLine : (io fire land rho grace : ℕ) → HeaderLine
   HostsLine : ℕ → HeaderLine
   IdsLine : ℕ → HeaderLine
+  LvmLine : ℕ → HeaderLine
   ClockLine : FirstReading → HeaderLine
   DiskLine : Disk → HeaderLine
   AreaLine : LockspaceLine → HeaderLine
@@ -50,6 +51,7 @@ header_forms area =
     }
     ∷ record { words = exactly (codes "hosts") ∷ is_number_that (is_in_range 1 16) ∷ []; make = λ ws. HostsLine (number_of (word_at ws 1)) }
     ∷ record { words = exactly (codes "ids") ∷ is_number_that (is_in_range 1 2000) ∷ []; make = λ ws. IdsLine (number_of (word_at ws 1)) }
+    ∷ record { words = exactly (codes "lvm") ∷ is_number_that (λ n. nat_le n 8) ∷ []; make = λ ws. LvmLine (number_of (word_at ws 1)) }
     ∷ record {
       words = exactly (codes "clock") ∷ is_positive_word ∷ is_number_that (λ n. nat_lt n (10 ^ 12)) ∷ [];
       make = λ ws. ClockLine (record { machine = capped_short (word_at ws 1); reading = number_of (word_at ws 2) });
@@ -79,12 +81,13 @@ rank VersionLine = 0
 rank (TimeLine io fire land rho grace) = 1
 rank (HostsLine m) = 2
 rank (IdsLine n) = 3
-rank (ClockLine c) = 4
-rank (DiskLine d) = 5
-rank (AreaLine l) = 6
-rank (LeaseLine r) = 7
-rank (MemberLine s) = 8
-rank BeginLine = 9
+rank (LvmLine n) = 4
+rank (ClockLine c) = 5
+rank (DiskLine d) = 6
+rank (AreaLine l) = 7
+rank (LeaseLine r) = 8
+rank (MemberLine s) = 9
+rank BeginLine = 10
 
 -- How many lines of a rank there are.
 abbrev pub count_of_rank : List HeaderLine → ℕ → ℕ
@@ -106,6 +109,11 @@ hosts_line l = None
 abbrev pub ids_line : HeaderLine → Option ℕ
 ids_line (IdsLine n) = Some n
 ids_line l = None
+
+-- What the lvm line gives.
+abbrev pub retries_line : HeaderLine → Option ℕ
+retries_line (LvmLine n) = Some n
+retries_line l = None
 
 -- What a clock line gives.
 abbrev pub clock_line : HeaderLine → Option FirstReading
@@ -148,6 +156,7 @@ header_of sector area ls =
       grace = (first_line timing_line (no_timing, 0) ls).1;
       machines = first_line hosts_line 0 ls;
       geometry = record { sector = sector; area = area; hosts = first_line ids_line 0 ls };
+      retries = first_line retries_line 0 ls;
       clocks = filter_map clock_line ls;
       disks = filter_map disk_line ls;
       lockspaces = filter_map area_line ls;
@@ -178,6 +187,7 @@ header_tests h (TimeLine io fire land rho grace) =
     ∷ (nat_lt 100 rho, LimitRho) ∷ (nat_lt 600000 grace, LimitGrace) ∷ []
 header_tests h (HostsLine m) = []
 header_tests h (IdsLine n) = []
+header_tests h (LvmLine n) = []
 header_tests h (ClockLine c) = (nat_lt h.machines c.machine, MissingMachine) ∷ (list_any (λ d. d.machine == c.machine) h.clocks, MissingFree) ∷ []
 header_tests h (DiskLine d) = (list_any (λ e. bytes_eq e.path d.path) h.disks, MissingFree) ∷ []
 header_tests h (AreaLine l) =
@@ -287,6 +297,7 @@ refusal_words MissingUp = codes "missing" ∷ codes "up" ∷ []
 refusal_words MissingDown = codes "missing" ∷ codes "down" ∷ []
 refusal_words MissingReset = codes "missing" ∷ codes "reset" ∷ []
 refusal_words MissingDaemon = codes "missing" ∷ codes "daemon" ∷ []
+refusal_words MissingLvm = codes "missing" ∷ codes "lvm" ∷ []
 refusal_words MissingCall = codes "missing" ∷ codes "call" ∷ []
 refusal_words MissingPlace = codes "missing" ∷ codes "place" ∷ []
 refusal_words MissingSample = codes "missing" ∷ codes "sample" ∷ []

@@ -1,5 +1,7 @@
 -- What holds of holdings over time, beside safety.
 use Rattle.sl_law.specs.LawfulEnd.{gives_up}
+use Rattle.sl_lvm.specs.LockNames.{group_path}
+use Rattle.sl_lvm.specs.Lvm.{HeldLock, lock_process}
 use Rattle.sl_run.specs.Events.{happens, input_of, machine_of}
 use Rattle.sl_run.specs.Runs.{Happening}
 use Rattle.sl_run.specs.Safety.{LawfulRun, world_at}
@@ -9,7 +11,9 @@ use Rattle.sl_run.specs.declared.event.Event.{Event}
 use Rattle.sl_run.specs.declared.header.Header.{Header}
 use Rattle.sl_trace.specs.Traces.{line_in, same_place}
 use Rattle.sl_trace.specs.declared.effects.Grant.{Grant}
-use Rattle.std.specs.Prelude.{Contains, IsTrue, List, Some, false, filter, length, option_and_then, true, ℕ, ◌&&◌, ◌++◌, ◌<◌, ◌==◌, ◌∷◌, ◌≡◌, ◌⊎◌}
+use Rattle.sl_trace.specs.declared.effects.Mode.TheVariants.{Shared}
+use Rattle.sl_trace.specs.declared.effects.Mode.{Mode}
+use Rattle.std.specs.Prelude.{Contains, IsTrue, List, Some, false, filter, length, option_and_then, true, ℕ, ◌&&◌, ◌*◌, ◌++◌, ◌<◌, ◌==◌, ◌∷◌, ◌≡◌, ◌⊎◌}
 
 -- ---- persistent holdings
 
@@ -54,3 +58,28 @@ ConversionTheorem =
     HolderStays (world_at program h before) x
     × ((m : ℕ) (a : Machine) (g : Grant) → machine_at (world_at program h before) m ≡ Some a → Contains a.holdings g →
     length (held_by a g.process g.path g.offset) ≡ 1)
+
+-- ---- logical volumes
+
+-- A logical volume of a group is active on a machine in a mode: lvmlockd's process holds its lock. It does so from the ok reply of an
+-- `activate` until a `deactivate` ends the holding, the process exits, or the machine is reset.
+abbrev pub IsActiveVolume : Machine → ℕ → List ℕ → ℕ → Mode → Type 0
+IsActiveVolume a area group number mode =
+    (g : Grant) × Contains a.holdings g × (g.process ≡ lock_process) × IsTrue (same_place g.path g.offset (group_path group) (number * area)) × (g.mode ≡ mode)
+
+-- Of two machines on which one is active, both have it shared.
+abbrev pub VolumesAreExclusive : World → Type 0
+VolumesAreExclusive w =
+    (m k : ℕ) (a b : Machine) (group : List ℕ) (number : ℕ) (mode other : Mode) → machine_at w m ≡ Some a → machine_at w k ≡ Some b → (m ≡ k → ⊥) →
+    IsActiveVolume a w.layout.area group number mode → IsActiveVolume b w.layout.area group number other → (mode ≡ Shared) × (other ≡ Shared)
+
+-- A lock that lvmlockd's lines hold is held by its process, while its daemon runs.
+abbrev pub LocksAreHeld : World → Type 0
+LocksAreHeld w =
+    (m : ℕ) (a : Machine) (d : Daemon) (h : HeldLock) → machine_at w m ≡ Some a → a.daemon ≡ Some d → Contains a.locks.lvm.held h →
+    IsActiveVolume a w.layout.area h.lock.group h.lock.number h.mode
+
+-- So it is after every event of every lawful run.
+abbrev pub VolumeTheorem : Type 0
+VolumeTheorem =
+    (program : Program) (h : Header) (xs : List Happening) → LawfulRun program h xs → VolumesAreExclusive (world_at program h xs)

@@ -24,7 +24,7 @@ use Rattle.sl_trace.specs.declared.reply.HostState.TheVariants.{Dead, Failing, F
 use Rattle.sl_trace.specs.declared.reply.HostState.{HostState}
 use Rattle.sl_trace.specs.declared.reply.Limited.TheVariants.{Children, Gen as GenLimit, Holders, Killpaths, Lockspaces, Lver as LverLimit, Mbal as MbalLimit, Resources, Seq as SeqLimit}
 use Rattle.sl_trace.specs.declared.reply.Limited.{Limited}
-use Rattle.sl_trace.specs.declared.reply.Reply.TheVariants.{Ahead, BadCommand as Misread, Busy, Done, Generation, Granted, Held as HeldBy, Hosts, IdHeld, IdLate, IdLost, IoFault, IoTimeout, Joined, Joining as StillJoining, Limit as LimitReached, NoOrphan, NoProcess, NoSession, NotHeld, Pending, Recovering, RequestOld, Rival, Sessions, Shared as SharedBy, SpawnFault, Started, TornBlock, TornDelta, TornLeader, Value, ValueTorn, WrongArea, WrongDelta}
+use Rattle.sl_trace.specs.declared.reply.Reply.TheVariants.{Ahead, BadCommand as Misread, Busy, Done, Generation, Granted, Held as HeldBy, Hosts, IdHeld, IdLate, IdLost, IoFault, IoTimeout, Joined, Joining as StillJoining, Limit as LimitReached, NoOrphan, NoProcess, NoSession, NotHeld, Pending, Recovering, RequestOld, Rival, Sessions, Shared as SharedBy, SpawnFault, Started, TornBlock, TornDelta, TornLeader, Value, ValueSet, ValueTorn, WrongArea, WrongDelta}
 use Rattle.sl_trace.specs.declared.reply.Reply.{Reply}
 use Rattle.sl_words.specs.Bounds.{record_numbers}
 use Rattle.std.specs.Prelude.{Bool, List, None, Option, Some, codes, decimal, false, filter, map, not, true, [], ℕ, ◌++◌, ◌-◌, ◌∷◌}
@@ -85,6 +85,7 @@ reply_words (Generation g) = codes "ok" ∷ decimal g ∷ []
 reply_words (Granted lver) = codes "ok" ∷ decimal lver ∷ []
 reply_words (Started lver process) = codes "ok" ∷ decimal lver ∷ decimal process ∷ []
 reply_words (Value lver seq bytes) = codes "ok" ∷ decimal lver ∷ decimal seq ∷ dash_for_none (hex_text bytes) ∷ []
+reply_words (ValueSet lver seq) = codes "ok" ∷ []
 reply_words (Hosts states) =
     codes "ok" ∷ map (λ s. coloned (decimal s.id ∷ state_word s.state ∷ [])) (filter (λ s. not (is_free_host s.state)) states)
 reply_words (Sessions sessions) =
@@ -129,6 +130,7 @@ is_ok_reply (Generation g) = true
 is_ok_reply (Granted lver) = true
 is_ok_reply (Started lver process) = true
 is_ok_reply (Value lver seq bytes) = true
+is_ok_reply (ValueSet lver seq) = true
 is_ok_reply (Hosts states) = true
 is_ok_reply (Sessions sessions) = true
 is_ok_reply r = false

@@ -24,7 +24,7 @@ use Rattle.sl_trace.specs.declared.effects.Work.{Work}
 use Rattle.sl_trace.specs.declared.input.Answer.TheVariants.{Failed, Read, Written}
 use Rattle.sl_trace.specs.declared.input.Answer.{Answer}
 use Rattle.sl_trace.specs.declared.input.Given.{Given}
-use Rattle.sl_trace.specs.declared.input.Input.TheVariants.{Answer as Told, Exit, Line, Spawned}
+use Rattle.sl_trace.specs.declared.input.Input.TheVariants.{Answer as Told, Exit, Line, Number, Spawned}
 use Rattle.sl_trace.specs.declared.input.Input.{Input}
 use Rattle.sl_trace.specs.declared.input.Numbers.{Numbers}
 use Rattle.sl_trace.specs.declared.reply.Reply.TheVariants.{Done, IoTimeout, Recovering}
@@ -90,11 +90,26 @@ job_in st es number e =
       | Some text ↦ record { number = number; at = length es; reading = e.reading; command = st.read text } ∷ []
     ]
 
+-- Whether an input takes a job's number: a command line, or another line, which is no job.
+abbrev pub takes_number : Input → Bool
+takes_number (Line text) = true
+takes_number (Number text) = true
+takes_number i = false
+
+-- How many numbers were taken.
+abbrev pub numbers_taken : Trace → ℕ
+numbers_taken [] = 0
+numbers_taken (e ∷ es) = elim (takes_number e.input) [ true ↦ numbers_taken es + 1 | false ↦ numbers_taken es ]
+
+-- The number of the next line.
+abbrev pub next_job : Setting → Trace → ℕ
+next_job st es = st.first.job + numbers_taken es
+
 -- These jobs with that of the entry after those before it, if it has a command line: it has the next number.
 abbrev pub with_job : Setting → Trace → List Job → Entry → List Job
-with_job st es js e = js ++ job_in st es (st.first.job + length js) e
+with_job st es js e = js ++ job_in st es (next_job st es) e
 
--- All jobs, by their numbers: the k-th command line has the k-th number.
+-- All jobs, by their numbers.
 abbrev pub jobs : Setting → Trace → List Job
 jobs st [] = []
 jobs st (e ∷ es) = with_job st es (jobs st es) e
@@ -119,10 +134,6 @@ running_jobs st es = filter (λ j. is_running es j.number) (jobs st es)
 -- The job with this number.
 abbrev pub job_numbered : Setting → Trace → ℕ → Option Job
 job_numbered st es number = find (λ j. j.number == number) (jobs st es)
-
--- The number of the next command line.
-abbrev pub next_job : Setting → Trace → ℕ
-next_job st es = st.first.job + length (jobs st es)
 
 -- The job on whose account work is done, if any.
 abbrev pub work_job : Work → Option ℕ

@@ -75,6 +75,11 @@ pub enum Reply {
         seq: u64,
         bytes: Data,
     },
+    /// A value was written with this version; the text doesn't tell it.
+    ValueSet {
+        lver: u64,
+        seq: u64,
+    },
     Hosts(Seq<StateOf>),
     Sessions(Seq<SessionOf>),
     NoSession,
