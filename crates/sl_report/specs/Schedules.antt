@@ -87,7 +87,7 @@ read_header lang ls next (l ∷ rest) =
       | None ↦ elim (lang.skips l.text) [
         | true ↦ read_header lang ls (l.number + 1) rest
         | false ↦
-            let read : Option HeaderLine = header_line_in lang default_area l.text in
+            let read : Option HeaderLine = header_line_in lang (header_of default_sector default_area ls).geometry.area l.text in
             elim (header_line_refusal lang ls read) [
               | Some r ↦ Header_refused l.number r
               | None ↦ elim (some_is is_begin read) [
