@@ -69,7 +69,7 @@ process_small verb r make ws h = small (word_at ws 4) (fifth _ _ _ _ is_first_pr
 made : (r : ResourceArg) (ws : List (List ℕ)) (column : ℕ) (first second : Bool)
     → (first ≡ true → number_of (word_at ws 4) ≤ most_processes) → (second ≡ true → number_of (word_at ws 4) ≤ most_processes)
     → IsFirstCommand r (command_or (option_map (λ (f : Form Command). f.make ws)
-    (if first then Some (first_form (codes "acquire") r (λ p. Acquire r false p)) else (if second then Some (first_form (codes "release") r (λ p. Release r p)) else None))) column)
+    (if first then Some (first_form (codes "acquire") r (λ p. Acquire r false p false)) else (if second then Some (first_form (codes "release") r (λ p. Release r p)) else None))) column)
 made r ws column true second a b = (number_of (word_at ws 4), a refl, inl refl)
 made r ws column false true a b = (number_of (word_at ws 4), b refl, inr refl)
 made r ws column false false a b = tt
@@ -77,5 +77,5 @@ made r ws column false false a b = tt
 pub reads_first : (r : ResourceArg) (text : List ℕ) → IsFirstCommand r (command_in (first_forms r) text)
 reads_first r text =
     let ws : List (List ℕ) = words_of text in
-    made r ws (bad_column (first_forms r) ws) (fits_whole (first_form (codes "acquire") r (λ p. Acquire r false p)).words ws) (fits_whole (first_form (codes "release") r (λ p. Release r p)).words ws)
-    (λ h. process_small (codes "acquire") r (λ p. Acquire r false p) ws h) (λ h. process_small (codes "release") r (λ p. Release r p) ws h)
+    made r ws (bad_column (first_forms r) ws) (fits_whole (first_form (codes "acquire") r (λ p. Acquire r false p false)).words ws) (fits_whole (first_form (codes "release") r (λ p. Release r p)).words ws)
+    (λ h. process_small (codes "acquire") r (λ p. Acquire r false p false) ws h) (λ h. process_small (codes "release") r (λ p. Release r p) ws h)

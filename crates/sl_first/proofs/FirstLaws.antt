@@ -181,7 +181,7 @@ told_reply st g r f call job d answered es h a fits why comes late =
 
 -- The resource is granted.
 told_grant : (st : Setting) (g : Given) (r : ResourceArg) → IsFirst st g r → (call job : ℕ) (d : Doing) (answered : List Submitted) (es : Trace) → FirstStands st g r call job (Works d) answered es
-    → (a : Answer) → is_answer_for st a d.call.call.op ≡ true → (p lver : ℕ) → d.command ≡ Acquire r false p → first_next st g es d answered (first_aim d.command) a ≡ GrantJob Exclusive lver
+    → (a : Answer) → is_answer_for st a d.call.call.op ≡ true → (p lver : ℕ) → d.command ≡ Acquire r false p false → first_next st g es d answered (first_aim d.command) a ≡ GrantJob Exclusive lver
     → IsNamed st g r (heeded_call es g a d.call ∷ answered) → ToldFirst st g r call job d answered es a (GrantJob Exclusive lver)
 told_grant st g r f call job d answered es h a fits p lver is comes named =
     record {
@@ -196,21 +196,21 @@ told_grant st g r f call job d answered es h a fits p lver is comes named =
     }
 
 told_phase1 : (st : Setting) (g : Given) (r : ResourceArg) → IsFirst st g r → (call job : ℕ) (d : Doing) (answered : List Submitted) (es : Trace) → FirstStands st g r call job (Works d) answered es
-    → (a : Answer) → is_answer_for st a d.call.call.op ≡ true → (p : ℕ) (b : Block) → d.command ≡ Acquire r false p → first_next st g es d answered (first_aim d.command) a ≡ next_of (Writes_block Phase1Write b)
+    → (a : Answer) → is_answer_for st a d.call.call.op ≡ true → (p : ℕ) (b : Block) → d.command ≡ Acquire r false p false → first_next st g es d answered (first_aim d.command) a ≡ next_of (Writes_block Phase1Write b)
     → IsNamed st g r (heeded_call es g a d.call ∷ answered) → ToldFirst st g r call job d answered es a (next_of (Writes_block Phase1Write b))
 told_phase1 st g r f call job d answered es h a fits p b is comes named =
     told_further st g r f call job d answered es h a fits (Writes_block Phase1Write b) comes
     (subst (λ c. Course st g r (heeded_call es g a d.call ∷ answered) c Phase1Write (WriteRecord (BlockIs b))) (sym is) (Writing_phase1 p b named))
 
 told_phase2 : (st : Setting) (g : Given) (r : ResourceArg) → IsFirst st g r → (call job : ℕ) (d : Doing) (answered : List Submitted) (es : Trace) → FirstStands st g r call job (Works d) answered es
-    → (a : Answer) → is_answer_for st a d.call.call.op ≡ true → (p : ℕ) (b : Block) → d.command ≡ Acquire r false p → first_next st g es d answered (first_aim d.command) a ≡ next_of (Writes_block Phase2Write b)
+    → (a : Answer) → is_answer_for st a d.call.call.op ≡ true → (p : ℕ) (b : Block) → d.command ≡ Acquire r false p false → first_next st g es d answered (first_aim d.command) a ≡ next_of (Writes_block Phase2Write b)
     → IsNamed st g r (heeded_call es g a d.call ∷ answered) → ToldFirst st g r call job d answered es a (next_of (Writes_block Phase2Write b))
 told_phase2 st g r f call job d answered es h a fits p b is comes named =
     told_further st g r f call job d answered es h a fits (Writes_block Phase2Write b) comes
     (subst (λ c. Course st g r (heeded_call es g a d.call ∷ answered) c Phase2Write (WriteRecord (BlockIs b))) (sym is) (Writing_phase2 p b named))
 
 told_take : (st : Setting) (g : Given) (r : ResourceArg) → IsFirst st g r → (call job : ℕ) (d : Doing) (answered : List Submitted) (es : Trace) → FirstStands st g r call job (Works d) answered es
-    → (a : Answer) → is_answer_for st a d.call.call.op ≡ true → (p : ℕ) (l : Leader) → d.command ≡ Acquire r false p → first_next st g es d answered (first_aim d.command) a ≡ next_of (Writes_leader TakeLeader l)
+    → (a : Answer) → is_answer_for st a d.call.call.op ≡ true → (p : ℕ) (l : Leader) → d.command ≡ Acquire r false p false → first_next st g es d answered (first_aim d.command) a ≡ next_of (Writes_leader TakeLeader l)
     → IsNamed st g r (heeded_call es g a d.call ∷ answered) → ToldFirst st g r call job d answered es a (next_of (Writes_leader TakeLeader l))
 told_take st g r f call job d answered es h a fits p l is comes named =
     told_further st g r f call job d answered es h a fits (Writes_leader TakeLeader l) comes

@@ -45,13 +45,13 @@ write_placed : (st : Setting) (g : Given) (r : ResourceArg) → IsFirst st g r �
 write_placed st g r f number job lver ms = rw (on_area st r r.offset (omega arith) (leader_within st.layout.sector st.layout.hosts st.layout.area r.offset f.sector f.roomy)) refl
 
 pub acquire_first : (st : Setting) (g : Given) (r : ResourceArg) → IsFirst st g r → (call job : ℕ) (phase : Phase) (answered : List Submitted) (es : Trace) → FirstStands st g r call job phase answered es
-    → (text : List ℕ) (p : ℕ) → p ≤ most_processes → st.read text ≡ Ok (Acquire r false p)
+    → (text : List ℕ) (p : ℕ) → p ≤ most_processes → st.read text ≡ Ok (Acquire r false p false)
     → LineFirst st g r job answered es text (acquire_line st g r call job es text p phase)
 acquire_first st g r f call job Idle answered es h text p small reads =
     record {
       due_is = acquire_due st g r (kept_in g r call job Idle answered) es f h.stands refl refl text p small reads;
       stands = record {
-        stands = line_begun st g r (kept_in g r call job Idle answered) es h.stands refl text (Acquire r false p) reads [] (ReadArea r.name) (first_read st r call job)
+        stands = line_begun st g r (kept_in g r call job Idle answered) es h.stands refl text (Acquire r false p false) reads [] (ReadArea r.name) (first_read st r call job)
             (record { numbered = refl; placed = read_placed st g r f call job; for_job = refl });
         course = Reading_area p;
         due_so_far = line_trace st g r f call job Idle answered es h text (first_effects [] [] [] (first_read st r call job ∷ [])) (one_numbered st es (first_read st r call job) (sym h.stands.call_number))
@@ -60,12 +60,12 @@ acquire_first st g r f call job Idle answered es h text p small reads =
     }
 acquire_first st g r f call job (Holds q lver) answered es h text p small reads =
     line_told st g r f call job (Holds q lver) answered es h text (Busy q)
-    (replied st g r (kept_in g r call job (Holds q lver) answered) es f h.stands text (Acquire r false p) (Busy q) reads
+    (replied st g r (kept_in g r call job (Holds q lver) answered) es f h.stands text (Acquire r false p false) (Busy q) reads
     (acquire_held st g r (kept_in g r call job (Holds q lver) answered) (first_entry g Wake no_effects ∷ es) f (quiet_stands st g r (kept_in g r call job (Holds q lver) answered) es h.stands) q lver refl g.renewed p small))
 acquire_first st g r f call job (Works d) answered es h text p small reads =
     let w = quiet_stands st g r (kept_in g r call job (Works d) answered) es h.stands in
     line_told st g r f call job (Works d) answered es h text (Pending d.call.call.number)
-    (replied st g r (kept_in g r call job (Works d) answered) es f h.stands text (Acquire r false p) (Pending d.call.call.number) reads
+    (replied st g r (kept_in g r call job (Works d) answered) es f h.stands text (Acquire r false p false) (Pending d.call.call.number) reads
     (acquire_pending st g r (kept_in g r call job (Works d) answered) (first_entry g Wake no_effects ∷ es) f w d refl w.work refl g.renewed p small))
 
 release_same : (st : Setting) (g : Given) (r : ResourceArg) → IsFirst st g r → (call job q lver : ℕ) (answered : List Submitted) (es : Trace) → FirstStands st g r call job (Holds q lver) answered es

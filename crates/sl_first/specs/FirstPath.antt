@@ -30,7 +30,7 @@ use Rattle.std.specs.Prelude.{is_none, ◌*◌, ◌+◌, Bool, Err, IsTrue, List
 -- What a text may say: an exclusive acquire or a release of this resource, for a process that is no child.
 abbrev pub IsFirstCommand : ResourceArg → Result Command ℕ → Type 0
 IsFirstCommand r (Err column) = Unit {0}
-IsFirstCommand r (Ok c) = (p : ℕ) × (p ≤ most_processes) × ((c ≡ Acquire r false p) ⊎ (c ≡ Release r p))
+IsFirstCommand r (Ok c) = (p : ℕ) × (p ≤ most_processes) × ((c ≡ Acquire r false p false) ⊎ (c ≡ Release r p))
 
 -- A daemon of the first path.
 pub record IsFirst (st : Setting) (g : Given) (r : ResourceArg) : Type 0 where

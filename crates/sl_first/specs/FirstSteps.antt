@@ -175,14 +175,14 @@ first_aim c = unwrap_or (aim_of_command c) Releases
 -- At which step a job may be, and for what: an acquire reads the area, writes and reads in the two phases and takes the leader; a release
 -- frees the leader. After the read of the area the name is verified; from phase 1's write on the own block is known.
 pub data Course (st : Setting) (g : Given) (r : ResourceArg) (answered : List Submitted) : Command → LeaseStep → Op → Type 0 where
-  Reading_area : (p : ℕ) → Course st g r answered (Acquire r false p) (ReadArea r.name) (ReadSectors (st.layout.hosts + 2))
-  Writing_phase1 : (p : ℕ) (b : Block) → IsNamed st g r answered → Course st g r answered (Acquire r false p) Phase1Write (WriteRecord (BlockIs b))
+  Reading_area : (p : ℕ) → Course st g r answered (Acquire r false p false) (ReadArea r.name) (ReadSectors (st.layout.hosts + 2))
+  Writing_phase1 : (p : ℕ) (b : Block) → IsNamed st g r answered → Course st g r answered (Acquire r false p false) Phase1Write (WriteRecord (BlockIs b))
   Reading_phase1 : (p : ℕ) (b : Block) → IsNamed st g r answered → block_submitted answered ≡ Some b →
-      Course st g r answered (Acquire r false p) Phase1Read (ReadSectors st.layout.hosts)
-  Writing_phase2 : (p : ℕ) (b : Block) → IsNamed st g r answered → Course st g r answered (Acquire r false p) Phase2Write (WriteRecord (BlockIs b))
+      Course st g r answered (Acquire r false p false) Phase1Read (ReadSectors st.layout.hosts)
+  Writing_phase2 : (p : ℕ) (b : Block) → IsNamed st g r answered → Course st g r answered (Acquire r false p false) Phase2Write (WriteRecord (BlockIs b))
   Reading_phase2 : (p : ℕ) (b : Block) → IsNamed st g r answered → block_submitted answered ≡ Some b →
-      Course st g r answered (Acquire r false p) Phase2Read (ReadSectors st.layout.hosts)
-  Taking : (p : ℕ) (l : Leader) → IsNamed st g r answered → Course st g r answered (Acquire r false p) TakeLeader (WriteRecord (LeaderIs l))
+      Course st g r answered (Acquire r false p false) Phase2Read (ReadSectors st.layout.hosts)
+  Taking : (p : ℕ) (l : Leader) → IsNamed st g r answered → Course st g r answered (Acquire r false p false) TakeLeader (WriteRecord (LeaderIs l))
   Freeing : (p : ℕ) (l : Leader) → IsNamed st g r answered → Course st g r answered (Release r p) FreeLeader (WriteRecord (LeaderIs l))
 
 -- Whether a reply is one that work on a lease may end with.
@@ -211,15 +211,15 @@ pub data WhyBegins (place : LeasePlace) (k : LeaseKnown) (own : Block) : ℕ →
 -- What an answer may lead to, by what is known after these calls: a call that goes on with the job, a reply, or the grant. But for a reply
 -- the name is verified.
 pub data Live (place : LeasePlace) (k : LeaseKnown) (ms : List Submitted) (named : Type 0) (r : ResourceArg) : Command → LeaseNext → Type 0 where
-  Goes_on_phase1 : (p : ℕ) (b : Block) → named → block_submitted ms ≡ Some b → Live place k ms named r (Acquire r false p) (ReadFor Phase1Read)
-  Goes_on_phase2 : (p : ℕ) (b : Block) → named → block_submitted ms ≡ Some b → Live place k ms named r (Acquire r false p) (ReadFor Phase2Read)
+  Goes_on_phase1 : (p : ℕ) (b : Block) → named → block_submitted ms ≡ Some b → Live place k ms named r (Acquire r false p false) (ReadFor Phase1Read)
+  Goes_on_phase2 : (p : ℕ) (b : Block) → named → block_submitted ms ≡ Some b → Live place k ms named r (Acquire r false p false) (ReadFor Phase2Read)
   Begins_phase1 : (p n : ℕ) (own : Block) → named → own_known k ≡ Some own → WhyBegins place k own n →
-      Live place k ms named r (Acquire r false p) (WriteBlock Phase1Write (phase1_block k.self place.layout.hosts n k.shared (mode_gen_of k) own (present k.read)))
+      Live place k ms named r (Acquire r false p false) (WriteBlock Phase1Write (phase1_block k.self place.layout.hosts n k.shared (mode_gen_of k) own (present k.read)))
   Begins_phase2 : (p : ℕ) (own : Block) (read : List (Option Block)) → named → k.own ≡ Some own → stop_of own read ≡ None → shared_elsewhere k read ≡ None →
-      Live place k ms named r (Acquire r false p) (WriteBlock Phase2Write (moded_block (phase2_block k.self own (ballot_blocks own read)) k.shared (mode_gen_of k)))
+      Live place k ms named r (Acquire r false p false) (WriteBlock Phase2Write (moded_block (phase2_block k.self own (ballot_blocks own read)) k.shared (mode_gen_of k)))
   Takes : (p : ℕ) (own : Block) (read : List (Option Block)) → named → k.own ≡ Some own → stop_of own read ≡ None → same_owner (value_of own) k.self ≡ true →
-      Live place k ms named r (Acquire r false p) (WriteLeader TakeLeader (leader_for place k true own.lver))
-  Grants : (p lver : ℕ) → named → Live place k ms named r (Acquire r false p) (GrantJob Exclusive lver)
+      Live place k ms named r (Acquire r false p false) (WriteLeader TakeLeader (leader_for place k true own.lver))
+  Grants : (p lver : ℕ) → named → Live place k ms named r (Acquire r false p false) (GrantJob Exclusive lver)
   Replies_late : (c : Command) (why : Reply) → is_lease_reply why ≡ true → Live place k ms named r c (AnswerJob why)
 
 -- What is true of the step at which the host is.
@@ -294,7 +294,7 @@ begins st g es text call command step ends c =
 
 -- An acquire.
 abbrev pub acquire_line : Setting → Given → ResourceArg → ℕ → ℕ → Trace → List ℕ → ℕ → Phase → LineStep
-acquire_line st g r call job es text p Idle = begins st g es text call (Acquire r false p) (ReadArea r.name) [] (first_read st r call job)
+acquire_line st g r call job es text p Idle = begins st g es text call (Acquire r false p false) (ReadArea r.name) [] (first_read st r call job)
 acquire_line st g r call job es text p (Holds q lver) = answers call job (Holds q lver) (Busy q)
 acquire_line st g r call job es text p (Works d) = answers call job (Works d) (Pending d.call.call.number)
 

@@ -88,7 +88,7 @@ pub acquire_ways : (st : Setting) (g : Given) (r : ResourceArg) → IsFirst st g
     → FirstStands st g r call job phase answered es → WaysStand st g answered phase → (text : List ℕ) (p : ℕ)
     → WaysStand st g answered (acquire_line st g r call job es text p phase).phase
 acquire_ways st g r f call job Idle answered es h w text p =
-    begun_ways st g r call job Idle answered es h h.stands.calls w.numbered text (Acquire r false p) (ReadArea r.name) (first_read st r call job) refl refl (st.layout.hosts + 2, refl)
+    begun_ways st g r call job Idle answered es h h.stands.calls w.numbered text (Acquire r false p false) (ReadArea r.name) (first_read st r call job) refl refl (st.layout.hosts + 2, refl)
 acquire_ways st g r f call job (Holds q lver) answered es h w text p = w
 acquire_ways st g r f call job (Works d) answered es h w text p = w
 

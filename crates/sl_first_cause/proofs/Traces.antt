@@ -57,7 +57,7 @@ line_by st g r f es b e text now is does (Err column) reads command =
     line_goes st g r b.job b.answered es text (answers b.call b.job b.phase (Misread column)) (misread_first st g r f b.call b.job b.phase b.answered es b.stands text column reads)
     (misread_caused st g r f b.call b.job b.phase b.answered es b.stands text column reads) b.caused e now is does
 line_by st g r f es b e text now is does (Ok c) reads (p, small, inl acquires) =
-    let says : st.read text ≡ Ok (Acquire r false p) = reads ∙ ap (λ d. Ok d) acquires in
+    let says : st.read text ≡ Ok (Acquire r false p false) = reads ∙ ap (λ d. Ok d) acquires in
     line_goes st g r b.job b.answered es text (acquire_line st g r b.call b.job es text p b.phase) (acquire_first st g r f b.call b.job b.phase b.answered es b.stands text p small says)
     (acquire_caused st g r f b.call b.job b.phase b.answered es b.stands text p says) b.caused e now is does
 line_by st g r f es b e text now is does (Ok c) reads (p, small, inr releases) =

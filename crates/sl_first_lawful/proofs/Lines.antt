@@ -38,7 +38,7 @@ acquire_by st g r f call job (Holds q lver) answered es text p h = line_answered
 acquire_by st g r f call job (Works d) answered es text p h = line_answered st g r f call job (Works d) answered es text (Pending d.call.call.number) h refl
 
 pub acquire_keeps : (st : Setting) (g : Given) (r : ResourceArg) → IsFirst st g r → (call job : ℕ) (phase : Phase) (answered : List Submitted) (es : Trace) → FirstStands st g r call job phase answered es
-    → (text : List ℕ) (p : ℕ) → p ≤ most_processes → st.read text ≡ Ok (Acquire r false p) → KeepsLaws st g r es (Line text) (acquire_line st g r call job es text p phase).effects
+    → (text : List ℕ) (p : ℕ) → p ≤ most_processes → st.read text ≡ Ok (Acquire r false p false) → KeepsLaws st g r es (Line text) (acquire_line st g r call job es text p phase).effects
 acquire_keeps st g r f call job phase answered es h text p small reads =
     acquire_by st g r f call job phase answered es text p (acquire_first st g r f call job phase answered es h text p small reads)
 

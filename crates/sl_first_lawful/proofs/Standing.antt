@@ -92,7 +92,7 @@ misread_stays st g r f call job phase answered es h text column reads was cause 
     record { lawful = misread_keeps st g r f call job phase answered es h text column reads was.lawful (record { calls = tt; grants = tt }); caused = (cause, was.caused) }
 
 pub acquire_stays : (st : Setting) (g : Given) (r : ResourceArg) → IsFirst st g r → (call job : ℕ) (phase : Phase) (answered : List Submitted) (es : Trace) → FirstStands st g r call job phase answered es
-    → (text : List ℕ) (p : ℕ) → p ≤ most_processes → st.read text ≡ Ok (Acquire r false p)
+    → (text : List ℕ) (p : ℕ) → p ≤ most_processes → st.read text ≡ Ok (Acquire r false p false)
     → StaysLawful st g r answered phase answered (acquire_line st g r call job es text p phase).phase es (Line text) (acquire_line st g r call job es text p phase).effects
 acquire_stays st g r f call job phase answered es h text p small reads was cause =
     record { lawful = acquire_keeps st g r f call job phase answered es h text p small reads was.lawful (acquire_brings st g r call job es text p phase); caused = (cause, was.caused) }

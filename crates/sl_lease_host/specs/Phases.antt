@@ -25,7 +25,7 @@ use Rattle.std.specs.Prelude.{Bool, None, Option, Some, false, length, true, ℕ
 
 -- The command on this resource.
 abbrev pub command_of : ResourceArg → JobCommand → Command
-command_of r (Acquires p) = Acquire r false p
+command_of r (Acquires p) = Acquire r false p false
 command_of r (Releases p) = Release r p
 
 -- The process that it is for.

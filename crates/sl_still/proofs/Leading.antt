@@ -82,18 +82,18 @@ replies : (st : Setting) (now : ℕ) (T : Table) (es : Trace) (l : StillLease) (
 unfolding carry_lease
 replies st now T es l d w a why = refl
 
-granted_by : (l : StillLease) (r : ResourceArg) (said command : Command) (p j lver : ℕ) (x : Step) → AsksFor l r said command → command ≡ Acquire r false p
-    → grant_for (lease_session l) j said Exclusive lver x ≡ grant_for (lease_session l) j (Acquire r false p) Exclusive lver x
+granted_by : (l : StillLease) (r : ResourceArg) (said command : Command) (p j lver : ℕ) (x : Step) → AsksFor l r said command → command ≡ Acquire r false p false
+    → grant_for (lease_session l) j said Exclusive lver x ≡ grant_for (lease_session l) j (Acquire r false p false) Exclusive lver x
 granted_by l r said command p j lver x (For_acquire q) is = ap (λ c. grant_for (lease_session l) j c Exclusive lver x) is
 granted_by l r said command p j lver x (For_release q n of) is = absurd (not_acquired r n p is) where
   is_release : Command → Bool
   is_release (Release r p) = true
   is_release c = false
 
-  not_acquired : (r : ResourceArg) (n p : ℕ) → Release r n ≡ Acquire r false p → ⊥
+  not_acquired : (r : ResourceArg) (n p : ℕ) → Release r n ≡ Acquire r false p false → ⊥
   not_acquired r n p is = true_is_false (ap (λ c. is_release c) is)
 
-grants : (st : Setting) (now : ℕ) (T : Table) (es : Trace) (l : StillLease) (d : Doing) → AtWork st now T es l d → (a : Answer) (p lver : ℕ) → d.command ≡ Acquire (T l).resource false p
+grants : (st : Setting) (now : ℕ) (T : Table) (es : Trace) (l : StillLease) (d : Doing) → AtWork st now T es l d → (a : Answer) (p lver : ℕ) → d.command ≡ Acquire (T l).resource false p false
     → carried st now T es l d a (GrantJob Exclusive lver)
 unfolding carry_lease
 grants st now T es l d w a p lver is =

@@ -52,8 +52,8 @@ held_kept now es text c k =
     ap (λ gs. filter (λ (x : Grant). same_place x.path x.offset k.at.path k.at.base) (filter (λ (x : Grant). x.session == k.number) gs)) (held_stays (holdings es) [] (c ∷ []))
 
 begins_moves : (st : Setting) (now : ℕ) (T : Table) (es : Trace) → IsStill st now → StillStands st now T es → (text : List ℕ) (l : StillLease) → IsLease st l → (r : ResourceArg) (p : ℕ)
-    → st.read text ≡ Ok (Acquire r false p) → IsOf l r → IsFree st T l.at
-    → LineMoves st now T es text l r (Acquire r false p) (Acquire r false p) (ReadArea r.name) [] (area_read st l r es)
+    → st.read text ≡ Ok (Acquire r false p false) → IsOf l r → IsFree st T l.at
+    → LineMoves st now T es text l r (Acquire r false p false) (Acquire r false p false) (ReadArea r.name) [] (area_read st l r es)
 begins_moves st now T es f h text l is r p says of free =
     let stands = h.leases l is in
     let idle : (T l).phase ≡ Idle = idle_is (T l).phase (free l is refl) in
@@ -76,11 +76,11 @@ begins_moves st now T es f h text l is r p says of free =
     }
 
 pub begins_stands : (st : Setting) (now : ℕ) (T : Table) (es : Trace) → IsStill st now → StillStands st now T es → (text : List ℕ) (l : StillLease) → IsLease st l → (r : ResourceArg) (p : ℕ)
-    → st.read text ≡ Ok (Acquire r false p) → IsOf l r → IsFree st T l.at
+    → st.read text ≡ Ok (Acquire r false p false) → IsOf l r → IsFree st T l.at
     → IsHostTrace st (still_entry now (Line text) (first_effects [] [] [] (area_read st l r es ∷ [])) ∷ es)
-    → StillStands st now (put l (line_state st T es text l r (Acquire r false p) (ReadArea r.name) (area_read st l r es)) T) (still_entry now (Line text) (first_effects [] [] [] (area_read st l r es ∷ [])) ∷ es)
+    → StillStands st now (put l (line_state st T es text l r (Acquire r false p false) (ReadArea r.name) (area_read st l r es)) T) (still_entry now (Line text) (first_effects [] [] [] (area_read st l r es ∷ [])) ∷ es)
 begins_stands st now T es f h text l is r p says of free does =
-    line_moves st now T es text l r (Acquire r false p) (Acquire r false p) (ReadArea r.name) [] (area_read st l r es) (begins_moves st now T es f h text l is r p says of free) refl does
+    line_moves st now T es text l r (Acquire r false p false) (Acquire r false p false) (ReadArea r.name) [] (area_read st l r es) (begins_moves st now T es f h text l is r p says of free) refl does
 
 -- ---- a release that ends the holding
 

@@ -68,10 +68,10 @@ state_is x phase is = ap (λ q. record { resource = x.resource; phase = q; answe
 
 -- ---- lines
 
-begins_move : (st : Setting) (T : Table) (es : Trace) (text : List ℕ) (l : StillLease) (r : ResourceArg) (p : ℕ) → st.read text ≡ Ok (Acquire r false p) → IsOf l r → (T l).phase ≡ Idle
-    → LeaseMove st l es (T l) (Line text) (first_effects [] [] [] (area_read st l r es ∷ [])) (line_state st T es text l r (Acquire r false p) (ReadArea r.name) (area_read st l r es))
+begins_move : (st : Setting) (T : Table) (es : Trace) (text : List ℕ) (l : StillLease) (r : ResourceArg) (p : ℕ) → st.read text ≡ Ok (Acquire r false p false) → IsOf l r → (T l).phase ≡ Idle
+    → LeaseMove st l es (T l) (Line text) (first_effects [] [] [] (area_read st l r es ∷ [])) (line_state st T es text l r (Acquire r false p false) (ReadArea r.name) (area_read st l r es))
 begins_move st T es text l r p says of idle =
-    subst (λ z. LeaseMove st l es z (Line text) (first_effects [] [] [] (area_read st l r es ∷ [])) (line_state st T es text l r (Acquire r false p) (ReadArea r.name) (area_read st l r es)))
+    subst (λ z. LeaseMove st l es z (Line text) (first_effects [] [] [] (area_read st l r es ∷ [])) (line_state st T es text l r (Acquire r false p false) (ReadArea r.name) (area_read st l r es)))
     (state_is (T l) Idle idle) (Begins (T l).resource (T l).answered text r p says of)
 
 gives_move : (st : Setting) (T : Table) (es : Trace) (text : List ℕ) (l : StillLease) (q : ResourceArg) (p lver : ℕ) → st.read text ≡ Ok (Release q p) → IsOf l q → (T l).phase ≡ Holds p lver

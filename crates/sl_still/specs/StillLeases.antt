@@ -45,7 +45,7 @@ lease_held l r (Works d) = []
 -- What a job's command makes a lease work for, under the resource's name as the lease has it: a release may name another resource at
 -- the same place.
 pub data AsksFor (l : StillLease) (r : ResourceArg) : Command → Command → Type 0 where
-  For_acquire : (p : ℕ) → AsksFor l r (Acquire r false p) (Acquire r false p)
+  For_acquire : (p : ℕ) → AsksFor l r (Acquire r false p false) (Acquire r false p false)
   For_release : (q : ResourceArg) (p : ℕ) → IsOf l q → AsksFor l r (Release q p) (Release r p)
 
 -- The command of a running job makes a lease work for this.

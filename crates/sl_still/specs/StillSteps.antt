@@ -101,9 +101,9 @@ free_write st l r es lver answered = of_session l.number (last_write st l.given 
 -- How a lease moves: from its state, by the input, with the effects, to its state after the entry.
 pub data LeaseMove (st : Setting) (l : StillLease) (es : Trace) : LeaseState → Input → Effects → LeaseState → Type 0 where
   -- an acquire of an idle lease reads the area
-  Begins : (was : ResourceArg) (answered : List Submitted) (text : List ℕ) (r : ResourceArg) (p : ℕ) → st.read text ≡ Ok (Acquire r false p) → IsOf l r →
+  Begins : (was : ResourceArg) (answered : List Submitted) (text : List ℕ) (r : ResourceArg) (p : ℕ) → st.read text ≡ Ok (Acquire r false p false) → IsOf l r →
       LeaseMove st l es (record { resource = was; phase = Idle; answered = answered }) (Line text) (first_effects [] [] [] (area_read st l r es ∷ []))
-      (record { resource = r; phase = line_work st l es text (Acquire r false p) (ReadArea r.name) (area_read st l r es); answered = answered })
+      (record { resource = r; phase = line_work st l es text (Acquire r false p false) (ReadArea r.name) (area_read st l r es); answered = answered })
   -- a release by the holder ends the holding and frees the leader, under the names of the holding
   Gives_back : (r q : ResourceArg) (p lver : ℕ) (answered : List Submitted) (text : List ℕ) → st.read text ≡ Ok (Release q p) → IsOf l q →
       LeaseMove st l es (record { resource = r; phase = Holds p lver; answered = answered }) (Line text)

@@ -51,7 +51,7 @@ use Rattle.std.specs.Prelude.{Contains, Err, List, None, Ok, Option, Result, fal
 -- What an answer at the job's step leads to has its cause; what was read is asked of an acquire alone.
 step_well : (lease : StillLease) (r : ResourceArg) (x : Answering) (c : Submitted) (answered : List Submitted) → r.lockspace ≡ lease.given.lockspace → (command : Command) (step : LeaseStep) (op : Op)
     → Course (lone x.setting lease.given) lease.given r answered command step op → (a : Answer) → is_answer_for x.setting a op ≡ true → AnswersCall x c a
-    → ((p : ℕ) → command ≡ Acquire r false p → Hears lease x c answered a step command) → (call lver : ℕ) → c.call.number ≡ call
+    → ((p : ℕ) → command ≡ Acquire r false p false → Hears lease x c answered a step command) → (call lver : ℕ) → c.call.number ≡ call
     → IsWell x (lease_next (first_place x.setting lease.given) (first_known x.setting lease.given (c ∷ answered)) (first_aim command) call lver step a)
 unfolding lease_next
 step_well lease r x c answered space command step op (Reading_area p) (Read bytes) fits told hears call lver number = area_well lease r x c answered bytes p space (hears p refl)
@@ -79,7 +79,7 @@ step_well lease r x c answered space command step op (Freeing p l named) Failed 
 -- ---- what stands where the answer is told
 
 -- An acquire is asked for under its own names.
-asked_acquire : (l : StillLease) (r : ResourceArg) (said command : Command) → AsksFor l r said command → (p : ℕ) → command ≡ Acquire r false p → said ≡ command
+asked_acquire : (l : StillLease) (r : ResourceArg) (said command : Command) → AsksFor l r said command → (p : ℕ) → command ≡ Acquire r false p false → said ≡ command
 asked_acquire l r said command (For_acquire q) p is = refl
 asked_acquire l r said command (For_release q n of) p is = absurd (false_is_true (ap (λ c. is_asking_lease c) is))
 
@@ -122,7 +122,7 @@ answers_call st now l is r es d work answered a fx calls =
 
 -- Where the job's command is an acquire, all stands as it is heard.
 hears : (st : Setting) (now : ℕ) → IsStill st now → (es : Trace) → IsStillCalm now es → (l : StillLease) → IsLease st l → (r : ResourceArg) → IsOf l r → (d : Doing) → IsWorking st now l r es d
-    → (answered : List Submitted) (a : Answer) (fx : Effects) → HasTold st now l (told_calls l es d answered a) (told_entry now d a fx ∷ es) → (p : ℕ) → d.command ≡ Acquire r false p
+    → (answered : List Submitted) (a : Answer) (fx : Effects) → HasTold st now l (told_calls l es d answered a) (told_entry now d a fx ∷ es) → (p : ℕ) → d.command ≡ Acquire r false p false
     → IsStillCalm now (before_entry (at_told st now es d a fx)) → Hears l (at_told st now es d a fx) (heeded_call es l.given a d.call) answered a d.step d.command
 hears st now f es calm l is r of d work answered a fx told p acquires quiet =
     let x : Answering = at_told st now es d a fx in

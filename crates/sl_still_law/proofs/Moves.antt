@@ -93,7 +93,7 @@ told_keeps st now U es l r d answered a command next m (Replies_late c why late)
 move_keeps : (st : Setting) (now : ℕ) (U : Table) (es : Trace) (l : StillLease) (x : LeaseState) (i : Input) (fx : Effects) (y : LeaseState)
     → LeaseStands st now l x es → LeaseMove st l es x i fx y → Moved st now U es l i fx y → EntryIsLawful st es (still_entry now i fx)
 move_keeps st now U es l x i fx y was (Begins r0 answered text r p reads of) m =
-    works_on st now U es l r (next_doing st l.given es text (Acquire r false p) (ReadArea r.name) (area_read st l r es)) answered (Line text) [] (area_read st l r es) m refl refl refl
+    works_on st now U es l r (next_doing st l.given es text (Acquire r false p false) (ReadArea r.name) (area_read st l r es)) answered (Line text) [] (area_read st l r es) m refl refl refl
     (read_placed (lone st l.given) l.given r answered (ReadArea r.name) (length es) l.given.renewed (area_read st l r es) refl (refl, refl))
 move_keeps st now U es l x i fx y was (Gives_back r q p lver answered text reads of) m =
     works_on st now U es l r (next_doing st l.given es text (Release r p) FreeLeader (free_write st l r es lver answered)) answered (Line text) _ (free_write st l r es lver answered) m refl refl refl

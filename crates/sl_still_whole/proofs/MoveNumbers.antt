@@ -25,7 +25,7 @@ use Rattle.std.specs.Prelude.{List, false, true, ℕ, ◌≡◌}
 
 -- A read of the area may always be submitted.
 pub begun_numbers : (st : Setting) (l : StillLease) (was r : ResourceArg) (answered : List Submitted) (es : Trace) (text : List ℕ) (p : ℕ) → NumbersStand (lone st l.given) l.given was answered Idle
-    → NumbersStand (lone st l.given) l.given r answered (line_work st l es text (Acquire r false p) (ReadArea r.name) (area_read st l r es))
+    → NumbersStand (lone st l.given) l.given r answered (line_work st l es text (Acquire r false p false) (ReadArea r.name) (area_read st l r es))
 begun_numbers st l was r answered es text p n = record { begun = n.begun; frees = n.frees; standing = tt }
 
 -- The leader that a release frees is of the own block's instance.

@@ -25,7 +25,7 @@ use Rattle.std.specs.Prelude.{List, false, true, ℕ, ◌+◌, ◌≡◌}
 -- ---- lines
 
 pub begun_ways : (st : Setting) (l : StillLease) (r : ResourceArg) (answered : List Submitted) (es : Trace) (text : List ℕ) (p : ℕ)
-    → LeaseWays st l answered (line_work st l es text (Acquire r false p) (ReadArea r.name) (area_read st l r es))
+    → LeaseWays st l answered (line_work st l es text (Acquire r false p false) (ReadArea r.name) (area_read st l r es))
 begun_ways st l r answered es text p = record { for_job = refl; stands = (st.layout.hosts + 2, refl) }
 
 pub freed_ways : (st : Setting) (l : StillLease) (r : ResourceArg) (p lver : ℕ) (answered : List Submitted) (es : Trace) (text : List ℕ) → HasLeader (lone st l.given) l.given answered lver
