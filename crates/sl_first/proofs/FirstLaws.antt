@@ -27,7 +27,7 @@ use Rattle.sl_trace.specs.declared.effects.Op.{Op}
 use Rattle.sl_trace.specs.declared.input.Answer.{Answer}
 use Rattle.sl_trace.specs.declared.input.Given.{Given}
 use Rattle.sl_trace.specs.declared.input.Input.TheVariants.{Answer as Told}
-use Rattle.sl_trace.specs.declared.reply.Reply.TheVariants.{Ahead, BadCommand as Misread, Busy, Done, Generation, Granted, Held as HeldBy, Hosts, IdHeld, IdLate, IdLost, IoFault, IoTimeout, Joined, Joining as StillJoining, Limit as LimitReached, NoProcess, NoSession, NotHeld, Pending, Recovering, RequestOld, Rival, Sessions, Shared as SharedBy, SpawnFault, Started, TornBlock, TornDelta, TornLeader, Value, ValueTorn, WrongArea, WrongDelta}
+use Rattle.sl_trace.specs.declared.reply.Reply.TheVariants.{Ahead, BadCommand as Misread, Busy, Done, Generation, Granted, Held as HeldBy, Hosts, IdHeld, IdLate, IdLost, IoFault, IoTimeout, Joined, Joining as StillJoining, Limit as LimitReached, NoOrphan, NoProcess, NoSession, NotHeld, Pending, Recovering, RequestOld, Rival, Sessions, Shared as SharedBy, SpawnFault, Started, TornBlock, TornDelta, TornLeader, Value, ValueSet, ValueTorn, WrongArea, WrongDelta}
 use Rattle.sl_trace.specs.declared.reply.Reply.{Reply}
 use Rattle.sl_words.proofs.CaseLaws.{false_is_true}
 use Rattle.std.proofs.Common.{ap, arith, refl, subst, sym, tests, ◌∙◌}
@@ -139,6 +139,7 @@ lease_late (Generation g) q = absurd (false_is_true q)
 lease_late (Granted l) q = absurd (false_is_true q)
 lease_late (Started l p) q = absurd (false_is_true q)
 lease_late (Value l s b) q = absurd (false_is_true q)
+lease_late (ValueSet l s) q = absurd (false_is_true q)
 lease_late (Hosts x) q = absurd (false_is_true q)
 lease_late (Sessions x) q = absurd (false_is_true q)
 lease_late NoSession q = absurd (false_is_true q)
@@ -159,6 +160,7 @@ lease_late (IoFault c) q = refl
 lease_late (Pending c) q = absurd (false_is_true q)
 lease_late (Busy p) q = absurd (false_is_true q)
 lease_late NotHeld q = absurd (false_is_true q)
+lease_late NoOrphan q = absurd (false_is_true q)
 lease_late SpawnFault q = absurd (false_is_true q)
 lease_late ValueTorn q = absurd (false_is_true q)
 lease_late (Misread c) q = absurd (false_is_true q)

@@ -113,7 +113,7 @@ pub quiet_stands : (st : Setting) (g : Given) (r : ResourceArg) (k : Kept) (es :
 quiet_stands st g r k es h =
     let e : Entry = first_entry g Wake no_effects in
     let same : jobs st (e ∷ es) ≡ jobs st es = append-nil (jobs st es) in
-    let next : next_job st (e ∷ es) ≡ next_job st es = ap (λ (js : List Job). st.first.job + length js) same in
+    let next : next_job st (e ∷ es) ≡ next_job st es = refl in
     record {
       calm = (record { still = refl; unmoved = refl; leases = refl }, h.calm);
       calls = h.calls;
@@ -269,7 +269,7 @@ pub told_more : (st : Setting) (g : Given) (r : ResourceArg) (k : Kept) (es : Tr
 told_more st g r k es h d busy doing a step c is =
     let e : Entry = first_entry g (Told d.call.call.number a) (first_effects [] [] [] (c ∷ [])) in
     let same : jobs st (e ∷ es) ≡ jobs st es = append-nil (jobs st es) in
-    let next : next_job st (e ∷ es) ≡ next_job st es = ap (λ (js : List Job). st.first.job + length js) same in
+    let next : next_job st (e ∷ es) ≡ next_job st es = refl in
     let calls : submitted (e ∷ es) ≡ new_call (length es) g.renewed c ∷ heeded_call es g a d.call ∷ k.answered
     = ap (λ ms. new_call (length es) g.renewed c ∷ ms) (told_calls st g r k es h d busy doing a (first_effects [] [] [] (c ∷ [])) refl) in
     record {
@@ -299,7 +299,7 @@ pub told_done : (st : Setting) (g : Given) (r : ResourceArg) (k : Kept) (es : Tr
 told_done st g r k es h d busy doing a grants why late =
     let e : Entry = first_entry g (Told d.call.call.number a) (first_effects [] grants (one_reply d.job.number why) []) in
     let same : jobs st (e ∷ es) ≡ jobs st es = append-nil (jobs st es) in
-    let next : next_job st (e ∷ es) ≡ next_job st es = ap (λ (js : List Job). st.first.job + length js) same in
+    let next : next_job st (e ∷ es) ≡ next_job st es = refl in
     let calls : submitted (e ∷ es) ≡ heeded_call es g a d.call ∷ k.answered
     = told_calls st g r k es h d busy doing a (first_effects [] grants (one_reply d.job.number why) []) (rw (same_number d.job.number, late) refl) in
     record {

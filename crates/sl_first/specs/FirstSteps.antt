@@ -10,7 +10,7 @@ use Rattle.sl_leases.specs.Leases.{LeaseKnown, block_submitted, instance_for, is
 use Rattle.sl_leases.specs.declared.lease.Aim.TheVariants.{Releases}
 use Rattle.sl_leases.specs.declared.lease.Aim.{Aim}
 use Rattle.sl_leases.specs.declared.lease.Instance.TheVariants.{Begins}
-use Rattle.sl_leases.specs.declared.lease.LeaseNext.TheVariants.{AnswerJob, GrantJob, Nothing, ReadFor, WriteBlock, WriteLeader}
+use Rattle.sl_leases.specs.declared.lease.LeaseNext.TheVariants.{AnswerJob, BecomeExclusive, BecomeShared, GrantJob, Nothing, ReadFor, WriteBlock, WriteLeader}
 use Rattle.sl_leases.specs.declared.lease.LeaseNext.{LeaseNext}
 use Rattle.sl_sector.specs.declared.sector.Block.{Block}
 use Rattle.sl_sector.specs.declared.sector.Leader.{Leader}
@@ -53,7 +53,7 @@ work_in (Works d) = Some d
 
 -- A holding of the resource.
 abbrev pub first_grant : Given → ResourceArg → ℕ → ℕ → Grant
-first_grant g r p lver = grant_of (first_session g) r p Exclusive lver
+first_grant g r p lver = grant_of (first_session g) r p Exclusive lver false
 
 -- What is held.
 abbrev pub held_in : Given → ResourceArg → Phase → List Grant
@@ -242,6 +242,8 @@ process_of c = unwrap_or (process_named c) 0
 -- What the host does once the work's call is answered, by what comes next for the lease.
 abbrev pub told_effects : Setting → Given → ResourceArg → ℕ → Doing → LeaseNext → Effects
 told_effects st g r number d Nothing = no_effects
+told_effects st g r number d (BecomeExclusive _ _) = no_effects
+told_effects st g r number d (BecomeShared _ _) = no_effects
 told_effects st g r number d (ReadFor step) = first_effects [] [] [] (blocks_read st r number d.job.number step ∷ [])
 told_effects st g r number d (WriteBlock step b) = first_effects [] [] [] (own_write st g r number d.job.number step b ∷ [])
 told_effects st g r number d (WriteLeader step l) = first_effects [] [] [] (leader_write r number d.job.number step l ∷ [])
@@ -256,6 +258,8 @@ goes_on_with g es d step c = Works (record d { step = step; call = new_call (len
 -- Where the host stands then.
 abbrev pub told_phase : Setting → Given → ResourceArg → ℕ → Trace → Doing → LeaseNext → Phase
 told_phase st g r number es d Nothing = Idle
+told_phase st g r number es d (BecomeExclusive _ _) = Idle
+told_phase st g r number es d (BecomeShared _ _) = Idle
 told_phase st g r number es d (ReadFor step) = goes_on_with g es d step (blocks_read st r number d.job.number step)
 told_phase st g r number es d (WriteBlock step b) = goes_on_with g es d step (own_write st g r number d.job.number step b)
 told_phase st g r number es d (WriteLeader step l) = goes_on_with g es d step (leader_write r number d.job.number step l)
@@ -265,6 +269,8 @@ told_phase st g r number es d (GrantJob mode lver) = Holds (process_of d.command
 -- The number of its next call then.
 abbrev pub told_number : ℕ → LeaseNext → ℕ
 told_number number Nothing = number
+told_number number (BecomeExclusive _ _) = number
+told_number number (BecomeShared _ _) = number
 told_number number (ReadFor step) = number + 1
 told_number number (WriteBlock step b) = number + 1
 told_number number (WriteLeader step l) = number + 1

@@ -17,7 +17,7 @@ use Rattle.sl_law.specs.Caused.{Answering, AnswersWell, CausedBy, before_entry}
 use Rattle.sl_leases.specs.Jobs.{command_of, lockspace_named}
 use Rattle.sl_leases.specs.LeaseWork.{lease_next}
 use Rattle.sl_leases.specs.Leases.{block_submitted, known, lease_calls, lver_written, spot_of, spot_of_call}
-use Rattle.sl_leases.specs.declared.lease.LeaseNext.TheVariants.{AnswerJob, GrantJob, Nothing, ReadFor, WriteBlock, WriteLeader}
+use Rattle.sl_leases.specs.declared.lease.LeaseNext.TheVariants.{AnswerJob, BecomeExclusive, BecomeShared, GrantJob, Nothing, ReadFor, WriteBlock, WriteLeader}
 use Rattle.sl_leases.specs.declared.lease.LeaseNext.{LeaseNext}
 use Rattle.sl_sessions.specs.Sessions.{Session, session_named}
 use Rattle.sl_trace.specs.Traces.{Job, Replied, Setting, Submitted, Trace, is_answer_for, job_numbered, job_of, jobs, reply_to}
@@ -174,6 +174,8 @@ next_well : (st : Setting) (g : Given) (r : ResourceArg) → IsFirst st g r → 
     → ((e : Entry) → Hears g (record { setting = st; past = es; entry = e; job = j }) (heeded_call es g a d.call) answered a d.step d.command → IsWell (record { setting = st; past = es; entry = e; job = j }) next)
     → AnswersWell st es (first_entry g (Told d.call.call.number a) (told_effects st g r call d next))
 next_well st g r f call job d answered es h a j is Nothing told well = none_well st es _ refl
+next_well st g r f call job d answered es h a j is (BecomeExclusive _ _) told well = none_well st es _ refl
+next_well st g r f call job d answered es h a j is (BecomeShared _ _) told well = none_well st es _ refl
 next_well st g r f call job d answered es h a j is (ReadFor step) told well = none_well st es _ refl
 next_well st g r f call job d answered es h a j is (WriteBlock step b) told well = none_well st es _ refl
 next_well st g r f call job d answered es h a j is (WriteLeader step l) told well = none_well st es _ refl

@@ -19,7 +19,7 @@ use Rattle.sl_trace.specs.declared.effects.Effects.{Effects}
 use Rattle.sl_trace.specs.declared.effects.Entry.{Entry}
 use Rattle.sl_trace.specs.declared.input.Answer.{Answer}
 use Rattle.sl_trace.specs.declared.input.Given.{Given}
-use Rattle.sl_trace.specs.declared.input.Input.TheVariants.{Answer as Told, Exit, Line, Spawned, Wake}
+use Rattle.sl_trace.specs.declared.input.Input.TheVariants.{Answer as Told, Exit, Line, Number, Spawned, Wake}
 use Rattle.sl_trace.specs.declared.input.Input.{Input}
 use Rattle.sl_trace.specs.declared.reply.Reply.TheVariants.{BadCommand as Misread}
 use Rattle.sl_words.proofs.CaseLaws.{false_is_true}
@@ -110,6 +110,7 @@ entry_goes st g r f es b e follows does now (Line text) is kind = line_by st g r
 entry_goes st g r f es b e follows does now (Told n a) is kind =
     told_by st g r f b.call b.job b.phase b.answered es b.stands b.caused e n a now is does (subst (λ i. is_expected st es i ≡ true) is follows.expected)
 entry_goes st g r f es b e follows does now (Exit p) is kind = absurd (false_is_true kind)
+entry_goes st g r f es b e follows does now (Number p) is kind = absurd (false_is_true kind)
 entry_goes st g r f es b e follows does now (Spawned p ok) is kind = absurd (false_is_true kind)
 entry_goes st g r f es b e follows does now Wake is kind = absurd (false_is_true kind)
 

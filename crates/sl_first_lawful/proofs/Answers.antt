@@ -19,7 +19,7 @@ use Rattle.sl_trace.specs.declared.effects.LeaseStep.TheVariants.{Phase1Read, Ph
 use Rattle.sl_trace.specs.declared.input.Answer.{Answer}
 use Rattle.sl_trace.specs.declared.input.Given.{Given}
 use Rattle.sl_trace.specs.declared.input.Input.TheVariants.{Answer as Told}
-use Rattle.sl_trace.specs.declared.reply.Reply.TheVariants.{Ahead, BadCommand as Misread, Busy, Done, Generation, Granted, Held as HeldBy, Hosts, IdHeld, IdLate, IdLost, IoFault, IoTimeout, Joined, Joining as StillJoining, Limit as LimitReached, NoProcess, NoSession, NotHeld, Pending, Recovering, RequestOld, Rival, Sessions, Shared as SharedBy, SpawnFault, Started, TornBlock, TornDelta, TornLeader, Value, ValueTorn, WrongArea, WrongDelta}
+use Rattle.sl_trace.specs.declared.reply.Reply.TheVariants.{Ahead, BadCommand as Misread, Busy, Done, Generation, Granted, Held as HeldBy, Hosts, IdHeld, IdLate, IdLost, IoFault, IoTimeout, Joined, Joining as StillJoining, Limit as LimitReached, NoOrphan, NoProcess, NoSession, NotHeld, Pending, Recovering, RequestOld, Rival, Sessions, Shared as SharedBy, SpawnFault, Started, TornBlock, TornDelta, TornLeader, Value, ValueSet, ValueTorn, WrongArea, WrongDelta}
 use Rattle.sl_trace.specs.declared.reply.Reply.{Reply}
 use Rattle.sl_words.proofs.CaseLaws.{false_is_true}
 use Rattle.std.proofs.Common.{refl, subst}
@@ -32,6 +32,7 @@ lease_plain (Generation g) q = refl
 lease_plain (Granted l) q = refl
 lease_plain (Started l p) q = refl
 lease_plain (Value l s b) q = absurd (false_is_true q)
+lease_plain (ValueSet l s) q = absurd (false_is_true q)
 lease_plain (Hosts x) q = refl
 lease_plain (Sessions x) q = refl
 lease_plain NoSession q = refl
@@ -52,6 +53,7 @@ lease_plain (IoFault c) q = refl
 lease_plain (Pending c) q = refl
 lease_plain (Busy p) q = refl
 lease_plain NotHeld q = refl
+lease_plain NoOrphan q = refl
 lease_plain SpawnFault q = refl
 lease_plain ValueTorn q = refl
 lease_plain (Misread c) q = refl

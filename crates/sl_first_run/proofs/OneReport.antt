@@ -35,7 +35,7 @@ use Rattle.sl_trace.proofs.TraceFacts.{each_entry-front}
 use Rattle.sl_trace.specs.Traces.{Trace, no_effects}
 use Rattle.sl_trace.specs.declared.effects.Effects.{Effects}
 use Rattle.sl_trace.specs.declared.effects.Entry.{Entry}
-use Rattle.sl_trace.specs.declared.input.Input.TheVariants.{Answer as Told, Exit, Line, Spawned, Wake}
+use Rattle.sl_trace.specs.declared.input.Input.TheVariants.{Answer as Told, Exit, Line, Number, Spawned, Wake}
 use Rattle.sl_trace.specs.declared.input.Input.{Input}
 use Rattle.sl_words.proofs.CaseLaws.{none_some, some_value, true_is_false}
 use Rattle.sl_words.proofs.WordLaws.{choose_some}
@@ -124,6 +124,7 @@ step_daemon now (Line text) fx a = refl
 step_daemon now (Told n answer) fx a = refl
 step_daemon now Wake fx a = refl
 step_daemon now (Exit p) fx a = refl
+step_daemon now (Number p) fx a = refl
 step_daemon now (Spawned p ok) fx a = refl
 
 -- A daemon with one entry more than another, made at this reading.

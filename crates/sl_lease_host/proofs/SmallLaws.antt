@@ -2,7 +2,7 @@
 use Rattle.sl_first.specs.FirstPath.{Doing, first_effects, one_reply}
 use Rattle.sl_first.specs.FirstSteps.{Begins_phase1, Begins_phase2, Goes_on_phase1, Goes_on_phase2, Grants, Replies_late, Takes, blocks_read, leader_write, own_write}
 use Rattle.sl_lease_host.specs.Sites.{IsSite, SiteState}
-use Rattle.sl_leases.specs.declared.lease.LeaseNext.TheVariants.{AnswerJob, GrantJob, Nothing, ReadFor, WriteBlock, WriteLeader}
+use Rattle.sl_leases.specs.declared.lease.LeaseNext.TheVariants.{AnswerJob, BecomeExclusive, BecomeShared, GrantJob, Nothing, ReadFor, WriteBlock, WriteLeader}
 use Rattle.sl_leases.specs.declared.lease.LeaseNext.{LeaseNext}
 use Rattle.sl_resource.specs.Bounds.{IsGranted}
 use Rattle.sl_resource.specs.Calls.{IsFitNext, reads_area}
@@ -102,6 +102,8 @@ next_of st l r ms command next (Replies_late c why late) = tt
 pub told_small : (st : Setting) (l : StillLease) (r : ResourceArg) (number : ℕ) (d : Doing) → IsTrue (is_name l.given.lockspace) → IsTrue (is_name r.name) → (next : LeaseNext)
     → IsFitNext next → IsNextOf l.given r next → IsSmallStep (lease_effects st l r number d next)
 told_small st l r number d space name Nothing fit named = small_nothing
+told_small st l r number d space name (BecomeExclusive _ _) fit named = small_nothing
+told_small st l r number d space name (BecomeShared _ _) fit named = small_nothing
 told_small st l r number d space name (ReadFor step) fit named =
     let c = of_session l.number (blocks_read st r number d.job.number step) in small_call [] c (reads_only c st.layout.hosts refl)
 told_small st l r number d space name (WriteBlock step b) fit named =

@@ -1,6 +1,6 @@
 -- The call that follows for a lease, as its lease is told of it.
 use Rattle.sl_area.specs.Layouts.{Sizes}
-use Rattle.sl_leases.specs.declared.lease.LeaseNext.TheVariants.{AnswerJob, GrantJob, Nothing, ReadFor, WriteBlock, WriteLeader}
+use Rattle.sl_leases.specs.declared.lease.LeaseNext.TheVariants.{AnswerJob, BecomeExclusive, BecomeShared, GrantJob, Nothing, ReadFor, WriteBlock, WriteLeader}
 use Rattle.sl_leases.specs.declared.lease.LeaseNext.{LeaseNext}
 use Rattle.sl_resource.specs.Calls.{IsBlockWrite, IsLeaderWrite, IsReading}
 use Rattle.sl_resource.specs.Stands.{LeaseState, MayCall}
@@ -10,6 +10,8 @@ use Rattle.sl_trace.specs.Traces.{Submitted}
 -- The lease after what comes next.
 abbrev pub after_next : LeaseNext → LeaseState → LeaseState
 after_next Nothing s = s
+after_next (BecomeExclusive _ _) s = s
+after_next (BecomeShared _ _) s = s
 after_next (ReadFor step) s = after_reading step s
 after_next (WriteBlock step b) s = after_block step b s
 after_next (WriteLeader step l) s = after_leader step l s

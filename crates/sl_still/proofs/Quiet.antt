@@ -22,7 +22,7 @@ pub quiet_children : (now : ℕ) (es : Trace) → children es ≡ [] → childre
 quiet_children now es none = ap (λ ks. map (child_after Wake) ks ++ []) none
 
 pub quiet_job : (st : Setting) (now : ℕ) (es : Trace) → next_job st (before_next now es) ≡ next_job st es
-quiet_job st now es = ap (λ (js : List Job). st.first.job + length js) (append-nil (jobs st es))
+quiet_job st now es = refl
 
 pub quiet_session : (st : Setting) (now : ℕ) → IsStill st now → (T : Table) (es : Trace) → StillStands st now T es → (l : StillLease) → IsLease st l → SessionStands st l (before_next now es)
 quiet_session st now f T es h l is = session_stands st now f (before_next now es) (quiet_calm now es h.calm) h.mine l is

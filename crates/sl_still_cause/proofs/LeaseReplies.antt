@@ -9,7 +9,7 @@ use Rattle.sl_law.specs.Caused.{Answering, AnswersCall, AnswersWell, CausedBy, a
 use Rattle.sl_leases.specs.Jobs.{is_asking_lease, lockspace_named}
 use Rattle.sl_leases.specs.LeaseWork.{lease_next}
 use Rattle.sl_leases.specs.Leases.{block_submitted, holdings_on, is_lease_call, is_on, known, lease_calls, lver_written, spot_of_call}
-use Rattle.sl_leases.specs.declared.lease.LeaseNext.TheVariants.{AnswerJob, GrantJob, Nothing, ReadFor, WriteBlock, WriteLeader}
+use Rattle.sl_leases.specs.declared.lease.LeaseNext.TheVariants.{AnswerJob, BecomeExclusive, BecomeShared, GrantJob, Nothing, ReadFor, WriteBlock, WriteLeader}
 use Rattle.sl_leases.specs.declared.lease.LeaseNext.{LeaseNext}
 use Rattle.sl_plain.proofs.Lists.{contains_first}
 use Rattle.sl_sessions.specs.Sessions.{Session, calls_of, is_call_of, session_named}
@@ -167,6 +167,8 @@ next_well : (st : Setting) (now : ℕ) → IsStill st now → (es : Trace) → I
     → (after : IsStillCalm now (next_entry st now l r es d a next ∷ es)) → list_all (is_still_call st) (submitted (next_entry st now l r es d a next ∷ es)) ≡ true
     → LeaseStands st now l y (next_entry st now l r es d a next ∷ es) → AnswersWell st es (next_entry st now l r es d a next)
 next_well st now f es calm l is r of d work answered course a fits Nothing comes y at told after mine stands = none_well st es _ refl
+next_well st now f es calm l is r of d work answered course a fits (BecomeExclusive _ _) comes y at told after mine stands = none_well st es _ refl
+next_well st now f es calm l is r of d work answered course a fits (BecomeShared _ _) comes y at told after mine stands = none_well st es _ refl
 next_well st now f es calm l is r of d work answered course a fits (ReadFor step) comes y at told after mine stands = none_well st es _ refl
 next_well st now f es calm l is r of d work answered course a fits (WriteBlock step b) comes y at told after mine stands = none_well st es _ refl
 next_well st now f es calm l is r of d work answered course a fits (WriteLeader step w) comes y at told after mine stands = none_well st es _ refl

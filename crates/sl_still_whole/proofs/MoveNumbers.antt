@@ -7,7 +7,7 @@ use Rattle.sl_first_numbers.proofs.LineNumbers.{given_up}
 use Rattle.sl_first_numbers.proofs.NumberLaws.{step_keeps}
 use Rattle.sl_first_numbers.specs.Numbers.{NumbersStand, PhaseKeeps}
 use Rattle.sl_law.specs.Lawful.{IsSetting}
-use Rattle.sl_leases.specs.declared.lease.LeaseNext.TheVariants.{AnswerJob, GrantJob, Nothing, ReadFor, WriteBlock, WriteLeader}
+use Rattle.sl_leases.specs.declared.lease.LeaseNext.TheVariants.{AnswerJob, BecomeExclusive, BecomeShared, GrantJob, Nothing, ReadFor, WriteBlock, WriteLeader}
 use Rattle.sl_leases.specs.declared.lease.LeaseNext.{LeaseNext}
 use Rattle.sl_still.proofs.Lone.{lone_first, lone_setting}
 use Rattle.sl_still.specs.StillLeases.{LeaseStands}
@@ -46,6 +46,8 @@ told_kept st l r es d answered a n = kept_more es l.given a d.call answered n.be
 phase_numbers : (st : Setting) (l : StillLease) (r : ResourceArg) (ms : List Submitted) (call : ℕ) (es : Trace) (d : Doing) (next : LeaseNext) → NextKeeps (lone st l.given) l.given r ms next
     → PhaseKeeps ms (lease_phase st l r call es d next)
 phase_numbers st l r ms call es d Nothing keeps = tt
+phase_numbers st l r ms call es d (BecomeExclusive _ _) keeps = tt
+phase_numbers st l r ms call es d (BecomeShared _ _) keeps = tt
 phase_numbers st l r ms call es d (ReadFor step) keeps = tt
 phase_numbers st l r ms call es d (WriteBlock step b) keeps = keeps.0
 phase_numbers st l r ms call es d (WriteLeader step w) keeps = keeps

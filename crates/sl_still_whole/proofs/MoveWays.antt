@@ -7,7 +7,7 @@ use Rattle.sl_first_ballot.proofs.WaysLaws.{same_itself}
 use Rattle.sl_first_ballot.specs.Ways.{HasLeader, ballot_place}
 use Rattle.sl_first_numbers.proofs.Keeps.{AreKept}
 use Rattle.sl_leases.specs.Leases.{kind_of_step}
-use Rattle.sl_leases.specs.declared.lease.LeaseNext.TheVariants.{AnswerJob, GrantJob, Nothing, ReadFor, WriteBlock, WriteLeader}
+use Rattle.sl_leases.specs.declared.lease.LeaseNext.TheVariants.{AnswerJob, BecomeExclusive, BecomeShared, GrantJob, Nothing, ReadFor, WriteBlock, WriteLeader}
 use Rattle.sl_leases.specs.declared.lease.LeaseNext.{LeaseNext}
 use Rattle.sl_still.specs.StillLeases.{LeaseStands}
 use Rattle.sl_still.specs.StillPath.{StillLease, lone}
@@ -37,6 +37,8 @@ freed_ways st l r p lver answered es text held = record { for_job = refl; stands
 phase_ways : (st : Setting) (l : StillLease) (r : ResourceArg) (ms : List Submitted) (call : ℕ) (es : Trace) (d : Doing) (next : LeaseNext) → NextStands (lone st l.given) l.given es ms next
     → LeaseWays st l ms (lease_phase st l r call es d next)
 phase_ways st l r ms call es d Nothing h = tt
+phase_ways st l r ms call es d (BecomeExclusive _ _) h = tt
+phase_ways st l r ms call es d (BecomeShared _ _) h = tt
 phase_ways st l r ms call es d (ReadFor step) h = record { for_job = refl; stands = h _ refl (same_itself (kind_of_step step)) refl }
 phase_ways st l r ms call es d (WriteBlock step b) h = record { for_job = refl; stands = h _ (same_itself (kind_of_step step)) refl }
 phase_ways st l r ms call es d (WriteLeader step w) h = record { for_job = refl; stands = h _ (same_itself (kind_of_step step)) refl }
