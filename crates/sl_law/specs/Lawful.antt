@@ -6,9 +6,11 @@ use Rattle.sl_law.specs.LawfulBlock.{LawfulBlock}
 use Rattle.sl_law.specs.LawfulCalls.{LawfulCalls}
 use Rattle.sl_law.specs.LawfulDelta.{LawfulDelta}
 use Rattle.sl_law.specs.LawfulEnd.{LawfulEnd}
+use Rattle.sl_law.specs.LawfulExit.{LawfulExit}
 use Rattle.sl_law.specs.LawfulGrant.{LawfulGrant}
 use Rattle.sl_law.specs.LawfulLeader.{LawfulLeader}
 use Rattle.sl_law.specs.LawfulModes.{LawfulModes}
+use Rattle.sl_law.specs.LawfulParting.{LawfulParting}
 use Rattle.sl_law.specs.LawfulRecovery.{LawfulRecovery}
 use Rattle.sl_law.specs.LawfulValue.{LawfulValue}
 use Rattle.sl_law.specs.LawfulWatchdog.{LawfulWatchdog}
@@ -23,8 +25,9 @@ use Rattle.sl_words.specs.Bounds.{moments}
 use Rattle.std.specs.List.{AllByRecursion}
 use Rattle.std.specs.Prelude.{AllPairs, IsFalse, IsTrue, List, Ok, bytes_eq, ℕ, ◌<◌, ◌≡◌, ◌≤◌}
 
--- A lawful trace. Safety rests on these alone; none of them names what a host does, only what it may.
-pub record Lawful (st : Setting) (es : Trace) : Type 0 where
+-- An orderly trace: what holds at each moment of a step, whatever of it is still to come. Safety rests on this alone; none of these
+-- laws names what a host does, only what it may.
+pub record Orderly (st : Setting) (es : Trace) : Type 0 where
   pub is_trace : IsTrace st es
   pub calls : EachEntry (LawfulCalls st) es
   pub delta : EachEntry (LawfulDelta st) es
@@ -35,8 +38,14 @@ pub record Lawful (st : Setting) (es : Trace) : Type 0 where
   pub watchdog : EachEntry (LawfulWatchdog st) es
   pub granting : EachEntry (LawfulGrant st) es
   pub ends : EachEntry (LawfulEnd st) es
-  pub recovery : EachEntry (LawfulRecovery st) es
+  pub parting : EachEntry (LawfulParting st) es
   pub values : EachEntry (LawfulValue st) es
+
+-- A lawful trace: it is orderly, and by the end of each entry is done what must be.
+pub record Lawful (st : Setting) (es : Trace) : Type 0 where
+  pub orderly : Orderly st es
+  pub exits : EachEntry LawfulExit es
+  pub recovery : EachEntry (LawfulRecovery st) es
 
 -- A session that a daemon may begin with.
 pub record IsGiven (st : Setting) (g : Given) : Type 0 where
