@@ -17,3 +17,4 @@ pub mod FirstLaws
 pub mod LineLaws
 pub mod Beginning
 pub mod FirstForms
+pub mod Commanded

@@ -27,10 +27,10 @@ use Rattle.std.specs.Int.{is_in_range}
 use Rattle.std.specs.List.{list_all}
 use Rattle.std.specs.Prelude.{is_none, ◌*◌, ◌+◌, Bool, Err, IsTrue, List, None, Ok, Option, Result, Some, [], false, is_some, length, nat_lt, true, ℕ, ◌&&◌, ◌++◌, ◌<◌, ◌==◌, ◌∷◌, ◌≡◌, ◌≤◌, ◌⊎◌}
 
--- What a text may say: an exclusive acquire or a release of this resource, for a process that is no child.
+-- What a text may say: an exclusive acquire or a release of this resource, for a process that is no child. (Process 0 is none.)
 abbrev pub IsFirstCommand : ResourceArg → Result Command ℕ → Type 0
 IsFirstCommand r (Err column) = Unit {0}
-IsFirstCommand r (Ok c) = (p : ℕ) × (p ≤ most_processes) × ((c ≡ Acquire r false p false) ⊎ (c ≡ Release r p))
+IsFirstCommand r (Ok c) = (p : ℕ) × ((1 ≤ p) × (p ≤ most_processes)) × ((c ≡ Acquire r false p false) ⊎ (c ≡ Release r p))
 
 -- A daemon of the first path.
 pub record IsFirst (st : Setting) (g : Given) (r : ResourceArg) : Type 0 where
