@@ -1,5 +1,7 @@
 //! Places of a run, the memory area with each call failing in turn, and the file area on files of the system.
 
+ghost use Rattle.std.specs.Prelude.{◌≡◌};
+
 use crate::{Area, FileArea, Geometry, MemArea};
 use std::fs;
 use std::test::Fail;
@@ -39,7 +41,11 @@ fn refused_sizes(rt: HostRuntime) {
         (512, 1_048_576, 0),
         (512, 1_048_576, 2001),
         (512, 2_097_152, 2),
-        (4096, 1_048_576, 2),
+        (4096, 1_048_576, 251),
+        (4096, 2_097_152, 501),
+        (4096, 4_194_304, 1001),
+        (4096, 8_388_608, 2001),
+        (1024, 1_048_576, 2),
         (0, 0, 1),
     ] {
         assert!(rt;
@@ -47,11 +53,36 @@ fn refused_sizes(rt: HostRuntime) {
             "{sector} {area} {hosts}"
         );
     }
-    assert!(rt; Geometry::new(512, 1_048_576, 1).is_ok());
+    for (sector, area, hosts) in [
+        (512, 1_048_576, 1),
+        (4096, 1_048_576, 250),
+        (4096, 2_097_152, 500),
+        (4096, 4_194_304, 1000),
+        (4096, 8_388_608, 2000),
+    ] {
+        assert!(rt;
+            Geometry::new(sector, area, hosts).is_ok(),
+            "{sector} {area} {hosts}"
+        );
+    }
+}
+
+#[test]
+fn places_of_large_sectors(rt: HostRuntime) -> Result<(), Fail> {
+    let run = Geometry::new(4096, 8_388_608, 2000)?;
+    let base = 8_388_608;
+    assert!(rt; run.is_base(base) && !run.is_base(1_048_576));
+    assert_eq!(rt; run.delta_place(0, 2000).offset(), 8_187_904);
+    assert_eq!(rt; run.block_place(base, 2000).offset(), 16_584_704);
+    assert_eq!(rt; run.value_place(base).offset(), 16_773_120);
+    assert_eq!(rt; run.value_place(base).size(), 4096);
+    Ok(())
 }
 
 /// Writes two sectors and reads both back, and answers how many of the three calls went well.
-fn round(area: &mut impl Area, run: Geometry) -> (u32, [u8; 1024]) {
+fn round(area: &mut impl Area, run: Geometry) -> (u32, [u8; 1024])
+    requires { run.sector ≡ 512 }
+{
     let mut read = [9; 1024];
     let mut done = 0;
     if area.write(run.request_place(0), &[1; 512]).is_ok() {
