@@ -1,5 +1,10 @@
 //! How the sectors of a run lie: laws that hold of the places of every geometry. The functions do nothing; each one's contract is the law.
-ghost use Rattle.sl_area.specs.Roles.{AreasAreApart, DeltasAreApart, RolesAreApart};
+ghost use Rattle.sl_area.specs.Roles.{AreasAreApart, DeltasAreApart, PlacesLieInArea, RolesAreApart};
+
+/// Each sector of a lockspace's area and of a resource's area lies in it.
+pub fn places_lie_in_area()
+    ensures { PlacesLieInArea }
+{}
 
 /// The delta sectors of two ids share no byte.
 pub fn deltas_are_apart()
