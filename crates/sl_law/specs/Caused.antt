@@ -48,7 +48,7 @@ use Rattle.sl_trace.specs.declared.reply.Reply.{Reply}
 use Rattle.sl_words.specs.Bounds.{record_numbers}
 use Rattle.sl_words.specs.Words.{present}
 use Rattle.std.specs.List.{list_any}
-use Rattle.std.specs.Prelude.{AllPairs, Bool, Contains, Err, IsFalse, IsSome, IsSomeAnd, IsTrue, List, None, Ok, Option, Some, bytes_eq, false, filter, is_none, length, map, not, option_and_then, option_map, position, true, ℕ, ◌&&◌, ◌++◌, ◌+◌, ◌<◌, ◌==◌, ◌∷◌, ◌≡◌, ◌≢◌, ◌≤◌, ◌⊎◌}
+use Rattle.std.specs.Prelude.{AllPairs, Bool, Contains, Err, IsFalse, IsSome, IsSomeAnd, IsTrue, List, None, Ok, Option, Some, bytes_eq, false, filter, is_none, is_some, length, map, not, option_and_then, option_map, position, true, ℕ, ◌&&◌, ◌++◌, ◌+◌, ◌<◌, ◌==◌, ◌∷◌, ◌≡◌, ◌≢◌, ◌≤◌, ◌⊎◌}
 
 -- Where a reply is given: the trace before its entry, the entry, the job.
 pub record Answering : Type 0 where
@@ -61,14 +61,15 @@ pub record Answering : Type 0 where
 abbrev pub after_entry : Answering → Trace
 after_entry x = x.entry ∷ x.past
 
--- What the trace is where the entry's input is looked at: the jobs that the step has stopped before it are stopped.
+-- What the trace is where the entry's input is looked at: the jobs that the step has stopped before it are stopped, and the kill programs
+-- that it has started by then are children. (Where a command is answered at once, all such starts of its entry came before it.)
 abbrev pub before_entry : Answering → Trace
 before_entry x =
     let fx : Effects = x.entry.effects in
     record {
       reading = x.entry.reading;
       input = Wake;
-      effects = record no_effects { replies = filter (λ a. is_before_input a.reply) fx.replies };
+      effects = record no_effects { starts = filter (λ s. is_some s.stands_for) fx.starts; replies = filter (λ a. is_before_input a.reply) fx.replies };
     } ∷ x.past
 
 -- The entry answers this call of the job.
