@@ -6,3 +6,4 @@ pub mod Areas
 pub mod Keeps
 pub mod InstanceWays
 pub mod Finding
+pub mod Heard
