@@ -231,7 +231,7 @@ told_by st g r f call job d answered es h a fits command next is comes (Goes_on_
 told_by st g r f call job d answered es h a fits command next is comes (Begins_phase1 p n own named known why) = told_phase1 st g r f call job d answered es h a fits p _ is comes named
 told_by st g r f call job d answered es h a fits command next is comes (Begins_phase2 p own read named known clear none) = told_phase2 st g r f call job d answered es h a fits p _ is comes named
 told_by st g r f call job d answered es h a fits command next is comes (Takes p own read named known clear won) = told_take st g r f call job d answered es h a fits p _ is comes named
-told_by st g r f call job d answered es h a fits command next is comes (Grants p lver named) = told_grant st g r f call job d answered es h a fits p lver is comes named
+told_by st g r f call job d answered es h a fits command next is comes (Grants p lver named taken) = told_grant st g r f call job d answered es h a fits p lver is comes named
 told_by st g r f call job d answered es h a fits command next is comes (Replies_late c why late) = told_reply st g r f call job d answered es h a fits why comes late
 
 -- Any answer that fits the work's call.
@@ -240,4 +240,4 @@ pub told_first : (st : Setting) (g : Given) (r : ResourceArg) → IsFirst st g r
     → ToldFirst st g r call job d answered es a (first_next st g es d answered (first_aim d.command) a)
 told_first st g r f call job d answered es h a fits =
     told_by st g r f call job d answered es h a fits d.command (first_next st g es d answered (first_aim d.command) a) refl refl
-    (course_live st g r f es answered d.call d.job.number d.call.call.number (lver_written d.call) d.command d.step d.call.call.op h.course refl h.stands.work.for_job a fits)
+    (course_live st g r f es answered d.call d.job.number d.call.call.number (lver_written d.call) d.command d.step d.call.call.op h.course refl h.stands.work.for_job refl a fits)

@@ -18,3 +18,5 @@ pub mod LineLaws
 pub mod Beginning
 pub mod FirstForms
 pub mod Commanded
+pub mod Ending
+pub mod Granting

@@ -6,7 +6,7 @@ use Rattle.sl_first.specs.FirstPath.{Doing, Kept, Stands, first_effects, first_e
 use Rattle.sl_leases.specs.Ballots.{ballot_blocks, moded_block, phase1_block, phase2_block, same_owner, stop_of, value_of}
 use Rattle.sl_leases.specs.Jobs.{aim_of_command, process_named}
 use Rattle.sl_leases.specs.LeaseWork.{LeasePlace, leader_for, lease_next}
-use Rattle.sl_leases.specs.Leases.{LeaseKnown, block_submitted, instance_for, is_leader_of, known_of, lver_written, mode_gen_of, own_known, shared_elsewhere, verified_name}
+use Rattle.sl_leases.specs.Leases.{LeaseKnown, Leader_taken, block_submitted, instance_for, is_at, is_leader_of, known_of, lver_written, mode_gen_of, own_known, shared_elsewhere, verified_name}
 use Rattle.sl_leases.specs.declared.lease.Aim.TheVariants.{Releases}
 use Rattle.sl_leases.specs.declared.lease.Aim.{Aim}
 use Rattle.sl_leases.specs.declared.lease.Instance.TheVariants.{Begins}
@@ -31,13 +31,14 @@ use Rattle.sl_trace.specs.declared.effects.Op.TheVariants.{ReadSectors, WriteRec
 use Rattle.sl_trace.specs.declared.effects.Op.{Op}
 use Rattle.sl_trace.specs.declared.effects.Purpose.TheVariants.{Lease}
 use Rattle.sl_trace.specs.declared.effects.Work.TheVariants.{ForJob}
+use Rattle.sl_trace.specs.declared.input.Answer.TheVariants.{Written}
 use Rattle.sl_trace.specs.declared.input.Answer.{Answer}
 use Rattle.sl_trace.specs.declared.input.Given.{Given}
 use Rattle.sl_trace.specs.declared.input.Input.TheVariants.{Answer as Told, Line}
 use Rattle.sl_trace.specs.declared.reply.Reply.TheVariants.{Ahead, Busy, Done, Granted, Held as HeldBy, IoFault, Limit as LimitReached, NotHeld, Pending, Rival, Shared as SharedBy, TornBlock, TornLeader, WrongArea}
 use Rattle.sl_trace.specs.declared.reply.Reply.{Reply}
 use Rattle.sl_words.specs.Words.{present}
-use Rattle.std.specs.Prelude.{Bool, List, None, Option, Some, [], false, is_none, length, nat_lt, position, true, unwrap_or, ℕ, ◌&&◌, ◌+◌, ◌==◌, ◌∷◌, ◌≡◌}
+use Rattle.std.specs.Prelude.{Bool, List, None, Option, Some, [], false, is_none, length, nat_lt, option_map, position, true, unwrap_or, ℕ, ◌&&◌, ◌+◌, ◌==◌, ◌∷◌, ◌≡◌}
 
 -- Where the host stands.
 pub data Phase : Type 0 where
@@ -208,6 +209,15 @@ pub data WhyBegins (place : LeasePlace) (k : LeaseKnown) (own : Block) : ℕ →
   Other_is_over : (read : List (Option Block)) → stop_of own read ≡ None → same_owner (value_of own) k.self ≡ false →
       k.over own.inp own.inp_gen ≡ true → WhyBegins place k own (own.lver + 1)
 
+-- The newest of these calls wrote the leader of the instance as held, and was answered ok.
+pub record IsTaken (ms : List Submitted) (lver : ℕ) : Type 0 where
+  pub call : Submitted
+  pub rest : List Submitted
+  pub newest : ms ≡ call ∷ rest
+  pub step : is_at Leader_taken call ≡ true
+  pub under : lver_written call ≡ lver
+  pub wrote : option_map (λ a. a.answer) call.answer ≡ Some Written
+
 -- What an answer may lead to, by what is known after these calls: a call that goes on with the job, a reply, or the grant. But for a reply
 -- the name is verified.
 pub data Live (place : LeasePlace) (k : LeaseKnown) (ms : List Submitted) (named : Type 0) (r : ResourceArg) : Command → LeaseNext → Type 0 where
@@ -219,7 +229,7 @@ pub data Live (place : LeasePlace) (k : LeaseKnown) (ms : List Submitted) (named
       Live place k ms named r (Acquire r false p false) (WriteBlock Phase2Write (moded_block (phase2_block k.self own (ballot_blocks own read)) k.shared (mode_gen_of k)))
   Takes : (p : ℕ) (own : Block) (read : List (Option Block)) → named → k.own ≡ Some own → stop_of own read ≡ None → same_owner (value_of own) k.self ≡ true →
       Live place k ms named r (Acquire r false p false) (WriteLeader TakeLeader (leader_for place k true own.lver))
-  Grants : (p lver : ℕ) → named → Live place k ms named r (Acquire r false p false) (GrantJob Exclusive lver)
+  Grants : (p lver : ℕ) → named → IsTaken ms lver → Live place k ms named r (Acquire r false p false) (GrantJob Exclusive lver)
   Replies_late : (c : Command) (why : Reply) → is_lease_reply why ≡ true → Live place k ms named r c (AnswerJob why)
 
 -- What is true of the step at which the host is.
