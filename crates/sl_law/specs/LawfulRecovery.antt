@@ -1,7 +1,9 @@
 -- What recovery and leaving do to a session's holders and jobs, and how they end it.
 use Rattle.sl_law.specs.Saying.{EachCall, EachSession, IsAnsweredAt}
 use Rattle.sl_leases.specs.Jobs.{jobs_of_session}
-use Rattle.sl_sessions.specs.Sessions.{Begun, Session, calls_of, free_write, has_open_write, holders_of, holdings_of, is_joined, is_leaving, is_recovering, leaving_job, leaving_of, recovery_of}
+use Rattle.sl_sessions.specs.Sessions.{calls_of, free_write, has_open_write, holders_of, holdings_of, is_joined, is_leaving, is_recovering, leaving_job, leaving_of, recovery_of}
+use Rattle.sl_sessions.specs.declared.session.Begun.{Begun}
+use Rattle.sl_sessions.specs.declared.session.Session.{Session}
 use Rattle.sl_trace.specs.EffectTexts.{is_ok_reply}
 use Rattle.sl_trace.specs.Traces.{Job, Setting, Submitted, Trace, is_write, kill_program_of, last_reading, stands_for}
 use Rattle.sl_trace.specs.declared.effects.Entry.{Entry}
