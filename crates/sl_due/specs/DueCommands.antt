@@ -10,7 +10,6 @@ use Rattle.sl_leases.specs.Jobs.{wanted_mode}
 use Rattle.sl_leases.specs.LeaseWork.{convert_next, lease_place, release_next}
 use Rattle.sl_leases.specs.Leases.{holdings_on, known, orphan_on, shared_on, spot_of}
 use Rattle.sl_sector.specs.declared.sector.Rec.TheVariants.{ValueIs}
-use Rattle.sl_sector.specs.declared.sector.ValueRec.{ValueRec}
 use Rattle.sl_sessions.specs.Sessions.{generation_of, holdings_of, is_active, is_joined, is_session_arg, last_renewal, last_seq, present_sessions, session_named, sessions}
 use Rattle.sl_sessions.specs.Watching.{states_seen}
 use Rattle.sl_sessions.specs.declared.session.Session.{Session}
