@@ -202,7 +202,7 @@ course_live st g r f es answered m j call lver command step op (Reading_phase2 p
 course_live st g r f es answered m j call lver command step op (Reading_phase2 p b named own) is for under Written fits = absurd (false_is_true fits)
 course_live st g r f es answered m j call lver command step op (Reading_phase2 p b named own) is for under Failed fits = Replies_late (Acquire r false p false) (IoFault call) refl
 course_live st g r f es answered m j call lver command step op (Taking p l named) is for under (Read bytes) fits = absurd (false_is_true fits)
-course_live st g r f es answered m j call lver command step op (Taking p l named) is for under Written fits = 
+course_live st g r f es answered m j call lver command step op (Taking p l named) is for under Written fits =
     Grants p lver (still_named st g r es Written m answered j TakeLeader for refl named)
     (record {
       call = heeded_call es g Written m;

@@ -13,28 +13,28 @@ use Rattle.std.proofs.Common.{ap, arith, refl, subst, sym, tests, ◌∙◌}
 use Rattle.std.specs.List.{list_any}
 use Rattle.std.specs.Prelude.{Bool, Err, IsTrue, List, None, Ok, Option, Result, Some, false, length, nat_lt, slice_get, suc, true, ℕ, ◌&&◌, ◌+◌, ◌-◌, ◌<◌, ◌==◌, ◌∷◌, ◌≡◌}
 
-is_less : (n : ℕ) → nat_lt n (n + 1) ≡ true
+is_less : (n : ℕ) → nat_lt n (suc n) ≡ true
 is_less n = grind (arith, tests)
 
-first_place : (n : ℕ) → n + 1 - 1 - n ≡ 0
+first_place : (n : ℕ) → suc n - 1 - n ≡ 0
 first_place n = omega arith
 
 pub entry_now : (es : Trace) (e : Entry) → entry_at (e ∷ es) (length es) ≡ Some e
 entry_now es e =
-    ap (λ b. elim b as (λ z. Option Entry) [ false ↦ None | true ↦ slice_get (e ∷ es) (length es + 1 - 1 - length es) ]) (is_less (length es))
+    ap (λ b. elim b as (λ z. Option Entry) [ false ↦ None | true ↦ slice_get (e ∷ es) (length (e ∷ es) - 1 - length es) ]) (is_less (length es))
     ∙ ap (λ n. slice_get (e ∷ es) n) (first_place (length es))
 
-less_more : (n m : ℕ) → nat_lt n m ≡ true → nat_lt n (m + 1) ≡ true
+less_more : (n m : ℕ) → nat_lt n m ≡ true → nat_lt n (suc m) ≡ true
 less_more n m h = grind (arith, tests)
 
-next_place : (n m : ℕ) → nat_lt n m ≡ true → m + 1 - 1 - n ≡ suc (m - 1 - n)
+next_place : (n m : ℕ) → nat_lt n m ≡ true → suc m - 1 - n ≡ suc (m - 1 - n)
 next_place n m h = grind (arith, tests)
 
 later_by : (es : Trace) (e x : Entry) (i : ℕ) (b : Bool) → nat_lt i (length es) ≡ b → elim b as (λ z. Option Entry) [ false ↦ None | true ↦ slice_get es (length es - 1 - i) ] ≡ Some x
     → entry_at (e ∷ es) i ≡ Some x
 later_by es e x i false is h = absurd (none_some x h)
 later_by es e x i true is h =
-    ap (λ b. elim b as (λ z. Option Entry) [ false ↦ None | true ↦ slice_get (e ∷ es) (length es + 1 - 1 - i) ]) (less_more i (length es) is)
+    ap (λ b. elim b as (λ z. Option Entry) [ false ↦ None | true ↦ slice_get (e ∷ es) (length (e ∷ es) - 1 - i) ]) (less_more i (length es) is)
     ∙ ap (λ n. slice_get (e ∷ es) n) (next_place i (length es) is) ∙ h
 
 pub entry_later : (es : Trace) (e x : Entry) (i : ℕ) → entry_at es i ≡ Some x → entry_at (e ∷ es) i ≡ Some x

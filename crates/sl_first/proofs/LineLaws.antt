@@ -21,7 +21,7 @@ use Rattle.std.proofs.Common.{arith, refl, subst, sym}
 use Rattle.sl_first.proofs.Decisions.{here}
 use Rattle.sl_first.proofs.Ending.{acquire_ends, release_ends}
 use Rattle.std.specs.List.{list_any}
-use Rattle.std.specs.Prelude.{Bool, Err, List, Ok, Some, false, true, [], ℕ, ◌+◌, ◌==◌, ◌∷◌, ◌≡◌, ◌≤◌, ◌&&◌}
+use Rattle.std.specs.Prelude.{Bool, Err, List, Ok, Some, false, true, [], ℕ, ◌+◌, ◌==◌, ◌∷◌, ◌≡◌, ◌≤◌, ◌&&◌, length}
 
 -- The trace with the line's entry is one of a host that does what is due.
 line_trace : (st : Setting) (g : Given) (r : ResourceArg) → IsFirst st g r → (call job : ℕ) (phase : Phase) (answered : List Submitted) (es : Trace) → FirstStands st g r call job phase answered es
@@ -55,7 +55,7 @@ acquire_first st g r f call job Idle answered es h text p small reads =
       due_is = acquire_due st g r (kept_in g r call job Idle answered) es f h.stands refl refl text p small reads;
       stands = record {
         stands = line_begun st g r (kept_in g r call job Idle answered) es h.stands refl text (Acquire r false p false) reads [] (ReadArea r.name) (first_read st r call job)
-            (record { numbered = refl; placed = read_placed st g r f call job; for_job = refl }) (acquire_ends _ _ (st.read text) r p reads);
+            (record { numbered = refl; placed = read_placed st g r f call job; for_job = refl }) (acquire_ends (first_entry g (Line text) (first_effects [] [] [] (first_read st r call job ∷ [])) ∷ es) (length es) (st.read text) r p reads);
         course = Reading_area p;
         due_so_far = line_trace st g r f call job Idle answered es h text (first_effects [] [] [] (first_read st r call job ∷ [])) (one_numbered st es (first_read st r call job) (sym h.stands.call_number))
             (acquire_due st g r (kept_in g r call job Idle answered) es f h.stands refl refl text p small reads);

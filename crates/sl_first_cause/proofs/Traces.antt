@@ -58,11 +58,11 @@ line_by st g r f es b e text now is does (Err column) reads command =
     (misread_caused st g r f b.call b.job b.phase b.answered es b.stands text column reads) b.caused e now is does
 line_by st g r f es b e text now is does (Ok c) reads (p, small, inl acquires) =
     let says : st.read text ≡ Ok (Acquire r false p false) = reads ∙ ap (λ d. Ok d) acquires in
-    line_goes st g r b.job b.answered es text (acquire_line st g r b.call b.job es text p b.phase) (acquire_first st g r f b.call b.job b.phase b.answered es b.stands text p small says)
+    line_goes st g r b.job b.answered es text (acquire_line st g r b.call b.job es text p b.phase) (acquire_first st g r f b.call b.job b.phase b.answered es b.stands text p small.1 says)
     (acquire_caused st g r f b.call b.job b.phase b.answered es b.stands text p says) b.caused e now is does
 line_by st g r f es b e text now is does (Ok c) reads (p, small, inr releases) =
     let says : st.read text ≡ Ok (Release r p) = reads ∙ ap (λ d. Ok d) releases in
-    line_goes st g r b.job b.answered es text (release_line st g r b.call b.job b.answered es text p b.phase) (release_first st g r f b.call b.job b.phase b.answered es b.stands text p small says)
+    line_goes st g r b.job b.answered es text (release_line st g r b.call b.job b.answered es text p b.phase) (release_first st g r f b.call b.job b.phase b.answered es b.stands text p small.1 says)
     (release_caused st g r f b.call b.job b.phase b.answered es b.stands text p says) b.caused e now is does
 
 -- ---- an answer

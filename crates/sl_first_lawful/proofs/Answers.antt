@@ -104,7 +104,7 @@ told_keeps st g r f call job d answered es a command next living t (Goes_on_phas
 told_keeps st g r f call job d answered es a command next living t (Begins_phase1 p n own named known why) = block_keeps st g r f call job d answered es a _ t named
 told_keeps st g r f call job d answered es a command next living t (Begins_phase2 p own read named known clear none) = block2_keeps st g r f call job d answered es a _ t named
 told_keeps st g r f call job d answered es a command next living t (Takes p own read named known clear won) = take_keeps st g r f call job d answered es a _ t named
-told_keeps st g r f call job d answered es a command next living t (Grants p lver named) =
+told_keeps st g r f call job d answered es a command next living t (Grants p lver named taken) =
     grant_shape st g r f call job (process_of d.command) lver (told_so es g a d answered) es (Told d.call.call.number a) d.job.number t.stands refl living
 told_keeps st g r f call job d answered es a command next living t (Replies_late c why late) =
     reply_shape st g r f call job _ (told_so es g a d answered) es (Told d.call.call.number a) d.job.number why t.stands (lease_plain why late) refl
@@ -117,4 +117,4 @@ answer_keeps st g r f call job d answered es h a fits next is =
     told_keeps st g r f call job d answered es a d.command next (for_process st g r f es d.job.number d.command h.stands.work.commanded)
     (subst (λ n. ToldFirst st g r call job d answered es a n) is (told_first st g r f call job d answered es h a fits))
     (subst (λ n. Live (first_place st g) (first_known st g (told_so es g a d answered)) (told_so es g a d answered) (IsNamed st g r (told_so es g a d answered)) r d.command n) is
-    (course_live st g r f es answered d.call d.job.number d.call.call.number (lver_written d.call) d.command d.step d.call.call.op h.course refl h.stands.work.for_job a fits))
+    (course_live st g r f es answered d.call d.job.number d.call.call.number (lver_written d.call) d.command d.step d.call.call.op h.course refl h.stands.work.for_job refl a fits))

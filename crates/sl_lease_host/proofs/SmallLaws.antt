@@ -95,7 +95,7 @@ next_of st l r ms command next (Goes_on_phase2 p b named own) = refl
 next_of st l r ms command next (Begins_phase1 p n own named known why) = tt
 next_of st l r ms command next (Begins_phase2 p own read named known clear none) = tt
 next_of st l r ms command next (Takes p own read named known clear won) = (refl, named)
-next_of st l r ms command next (Grants p lver named) = tt
+next_of st l r ms command next (Grants p lver named taken) = tt
 next_of st l r ms command next (Replies_late c why late) = tt
 
 -- What the lease does then.

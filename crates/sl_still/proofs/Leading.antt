@@ -44,7 +44,7 @@ pub comes_live : (st : Setting) (now : ℕ) (T : Table) (es : Trace) (l : StillL
 comes_live st now T es l d w a fits =
     let work = work_of st now T es l d w in
     course_live (lone st l.given) l.given (T l).resource (lone_first st now w.f l w.is (T l).resource (resource_of st now T es l d w)) es (T l).answered d.call d.job.number d.call.call.number (lver_written d.call)
-    d.command d.step d.call.call.op (subst (λ q. OnCourse (lone st l.given) l.given (T l).resource (T l).answered q) w.works (w.h.leases l w.is).course) refl work.for_job a fits
+    d.command d.step d.call.call.op (subst (λ q. OnCourse (lone st l.given) l.given (T l).resource (T l).answered q) w.works (w.h.leases l w.is).course) refl work.for_job refl a fits
 
 -- The step in which this comes next.
 abbrev carried : Setting → ℕ → Table → Trace → StillLease → Doing → Answer → LeaseNext → Type 0
@@ -123,7 +123,7 @@ live_due st now T es l d w a command next is comes (Begins_phase2 p own read nam
 live_due st now T es l d w a command next is comes (Takes p own read named known clear won) =
     told_due st now T es l d w a _ (ap (λ n. carry_lease (lease_session l) l.at (ForJob d.job.number) n (told_step st now es d a no_effects)) comes ∙ writes_leader st now T es l d w a TakeLeader _)
     (record { still = refl; unmoved = refl; unsignalled = refl; unstarted = refl; leases = refl }, w.h.calm)
-live_due st now T es l d w a command next is comes (Grants p lver named) =
+live_due st now T es l d w a command next is comes (Grants p lver named taken) =
     told_due st now T es l d w a _ (ap (λ n. carry_lease (lease_session l) l.at (ForJob d.job.number) n (told_step st now es d a no_effects)) comes ∙ grants st now T es l d w a p lver is)
     (record { still = refl; unmoved = refl; unsignalled = refl; unstarted = refl; leases = refl }, w.h.calm)
 live_due st now T es l d w a command next is comes (Replies_late c why late) =

@@ -233,7 +233,7 @@ told st now T es l r d answered a command next m (Goes_on_phase2 p b named own) 
 told st now T es l r d answered a command next m (Begins_phase1 p n own named known why) = goes_on st now T es l r d answered (told_calls l es d answered a) a _ _ refl refl m
 told st now T es l r d answered a command next m (Begins_phase2 p own read named known clear none) = goes_on st now T es l r d answered (told_calls l es d answered a) a _ _ refl refl m
 told st now T es l r d answered a command next m (Takes p own read named known clear won) = goes_on st now T es l r d answered (told_calls l es d answered a) a _ _ refl refl m
-told st now T es l r d answered a command next m (Grants p lver named) =
+told st now T es l r d answered a command next m (Grants p lver named taken) =
     ends_with st now T es l r d answered answered _ a (lease_grant l r (process_of d.command) lver ∷ []) (Granted lver) (Holds (process_of d.command) lver) 1 refl refl
     (with_nothing _ (length (holdings es)) 1 (held_more (holdings es) (lease_grant l r (process_of d.command) lver) (one_reply d.job.number (Granted lver)) [])) m
 told st now T es l r d answered a command next m (Replies_late c why late) =

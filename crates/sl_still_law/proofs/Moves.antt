@@ -83,7 +83,7 @@ told_keeps st now U es l r d answered a command next m (Begins_phase2 p own read
 told_keeps st now U es l r d answered a command next m (Takes p own read named known clear won) =
     works_on st now U es l r _ (told_calls l es d answered a) (Told d.call.call.number a) [] (of_session l.number (leader_write r (next_call st es) d.job.number TakeLeader _)) m refl refl refl
     (taken_placed st l r (told_calls l es d answered a) TakeLeader (length es) l.given.renewed (next_call st es) d.job.number _ named refl)
-told_keeps st now U es l r d answered a command next m (Grants p lver named) =
+told_keeps st now U es l r d answered a command next m (Grants p lver named taken) =
     grant_shape st now m.still U es l m.is r (process_of d.command) lver (told_calls l es d answered a) (Told d.call.call.number a) d.job.number m.after m.here m.stands
     (m.brings.grant (process_of d.command) lver refl)
 told_keeps st now U es l r d answered a command next m (Replies_late c why late) = reply_shape st now es (Told d.call.call.number a) d.job.number why (lease_plain why late)
