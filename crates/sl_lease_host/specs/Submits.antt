@@ -21,6 +21,8 @@ after_next (GrantJob mode lver) s = s
 -- What comes next is a call, and this one.
 abbrev pub IsCallOf : Sizes → LeaseNext → Submitted → Type 0
 IsCallOf z Nothing m = ⊥
+IsCallOf z (BecomeExclusive _ _) m = ⊥
+IsCallOf z (BecomeShared _ _) m = ⊥
 IsCallOf z (ReadFor step) m = IsReading z step m
 IsCallOf z (WriteBlock step b) m = IsBlockWrite step b m
 IsCallOf z (WriteLeader step l) m = IsLeaderWrite step l m
@@ -30,6 +32,8 @@ IsCallOf z (GrantJob mode lver) m = ⊥
 -- It is a call that may be made.
 abbrev pub MayFollow : LeaseState → LeaseNext → Type 0
 MayFollow s Nothing = ⊥
+MayFollow s (BecomeExclusive _ _) = ⊥
+MayFollow s (BecomeShared _ _) = ⊥
 MayFollow s (ReadFor step) = MayCall s step
 MayFollow s (WriteBlock step b) = MayCall s step
 MayFollow s (WriteLeader step l) = MayCall s step

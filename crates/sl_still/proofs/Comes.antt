@@ -160,9 +160,9 @@ line_by : (st : Setting) (now : ℕ) (T : Table) (es : Trace) → IsStill st now
     → IsStillCommand st res → LineComes st now T es text
 line_by st now T es f h text (Err column) says command = Comes_refused _ (Says_nothing column says)
 line_by st now T es f h text (Ok c) says (r, p, names, inl acquires) =
-    acquire_named st now T es f h text r p names (says ∙ ap (λ d. Ok d) acquires) (session_named st (before_next now es) r.lockspace) refl
+    acquire_named st now T es f h text r p names.0 (says ∙ ap (λ d. Ok d) acquires) (session_named st (before_next now es) r.lockspace) refl
 line_by st now T es f h text (Ok c) says (r, p, names, inr releases) =
-    release_named st now T es f h text r p names (says ∙ ap (λ d. Ok d) releases) (session_named st (before_next now es) r.lockspace) refl
+    release_named st now T es f h text r p names.0 (says ∙ ap (λ d. Ok d) releases) (session_named st (before_next now es) r.lockspace) refl
 
 pub line_comes : (st : Setting) (now : ℕ) (T : Table) (es : Trace) → IsStill st now → StillStands st now T es → (text : List ℕ) → LineComes st now T es text
 line_comes st now T es f h text = line_by st now T es f h text (st.read text) refl (f.reads text)

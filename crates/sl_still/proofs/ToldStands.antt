@@ -123,6 +123,7 @@ on_working st now T es l d a step c g =
       for_job = g.for;
       below = (let n = g.number in omega (arith, n, long));
       known = later.known;
+      ended = later.ended;
       runs = later.runs;
       asked = record { said = work.asked.said; says = work.asked.says; asks = work.asked.asks };
     }

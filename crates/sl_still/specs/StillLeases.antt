@@ -1,7 +1,7 @@
 -- Where a lease stands, and that a daemon stands for its trace: each of its leases stands, at most one on an area is busy, and the works
 -- of its leases are its running jobs.
 use Rattle.sl_due.specs.Due.{IsHostTrace}
-use Rattle.sl_first.specs.FirstPath.{Doing, has_answer, open_kept}
+use Rattle.sl_first.specs.FirstPath.{Doing, has_answer, open_kept, HasEnded}
 use Rattle.sl_first.specs.FirstSteps.{Holds, Idle, OnCourse, Phase, Works, work_in}
 use Rattle.sl_leases.specs.Leases.{holdings_on, lease_calls}
 use Rattle.sl_still.specs.StillPath.{IsLease, IsOf, IsStillCalm, StillLease, is_still_call, is_still_grant, lease_grant, lease_session, lone, same_lease}
@@ -61,6 +61,7 @@ pub record IsWorking (st : Setting) (now : ℕ) (l : StillLease) (r : ResourceAr
   pub for_job : d.call.call.purpose ≡ Lease (ForJob d.job.number) d.step
   pub below : d.call.call.number < next_call st es
   pub known : job_numbered st es d.job.number ≡ Some d.job
+  pub ended : HasEnded es d.job.at d.job.command
   pub runs : is_running es d.job.number ≡ true
   pub asked : IsAsked l r d
 
