@@ -6,7 +6,7 @@ use Rattle.sl_text.proofs.HexLaws.{IsBytes-hex_bytes, hex_text-hex_bytes, hex_wo
 use Rattle.sl_text.specs.Forms.{Form, coloned, exactly, fits_whole, fitting, made_by, word_at}
 use Rattle.sl_text.specs.Names.{is_path}
 use Rattle.sl_text.specs.Numbers.{IsBytes, hex_bytes, hex_text, is_hex_word, is_number_that, number_of}
-use Rattle.sl_trace.specs.Commands.{IsCommand, IsLockspaceArg, IsProcess, IsResourceArg, IsValueArg, acquire_form, acquire_forms, asked_of_word, command_words, forms, is_asked_word, is_lockspace_word, is_process_word, is_resource_word, is_shared_word, lockspace_form, lockspace_of_word, lockspace_word, moded_word, option_words, resource_of_word, resource_parts}
+use Rattle.sl_trace.specs.Commands.{IsCommand, IsLockspaceArg, IsProcess, IsResourceArg, IsValueArg, acquire_form, asked_of_word, command_words, forms, is_asked_word, is_lockspace_word, is_process_word, is_resource_word, is_shared_word, lockspace_form, lockspace_of_word, lockspace_word, moded_word, option_words, resource_of_word, resource_parts}
 use Rattle.sl_trace.specs.declared.command.Command.TheVariants.{Acquire, AddLockspace, Convert, GetLvb, HostStatus, InqLockspace, Release, ReleaseOrphan, RemLockspace, Request, RunProgram, SetKillpath, SetLvb, Status, TakeOver}
 use Rattle.sl_trace.specs.declared.command.Command.{Command}
 use Rattle.sl_trace.specs.declared.command.LockspaceArg.{LockspaceArg}
@@ -225,24 +225,27 @@ killpath_words g =
     let process = process_read c hc in
     ((process.0, he), five_same _ _ _ _ _ _ _ _ _ _ (word_is (codes "set_killpath") a ha) (word_is (codes "-p") b hb) process.1 (word_is (codes "-c") d hd) refl))
 
--- The forms of acquires, which come first.
-abbrev WithAcquires : Layout → (List ℕ → Bool) → Bool → List (Form Command) → Type 0
-WithAcquires g q shared fs = AllAgree g fs → AllAgree g (acquire_forms q shared ++ fs)
+-- The four forms of an acquire in a mode.
+abbrev ReadsMode : Layout → (List ℕ → Bool) → Bool → Type 0
+ReadsMode g q shared = (w : List ℕ) → q w ≡ true → IsResourceArg g (resource_of_word w) × (moded_word (resource_of_word w) shared ≡ w)
 
-acquires_agree : (g : Layout) (q : List ℕ → Bool) (shared : Bool) (fs : List (Form Command))
-    → ((w : List ℕ) → q w ≡ true → IsResourceArg g (resource_of_word w) × (moded_word (resource_of_word w) shared ≡ w)) → WithAcquires g q shared fs
-acquires_agree g q shared fs reads all =
-    let persistent : List (List ℕ) = codes "-P" ∷ codes "1" ∷ [] in
-    let orphan : List (List ℕ) = codes "-O" ∷ codes "1" ∷ [] in (
-      acquire_agrees g q shared [] (λ r p. Acquire r shared p false) reads (λ r p is h. (is, h)) (λ r p. refl),
-      (
-        acquire_agrees g q shared persistent (λ r p. Acquire r shared p true) reads (λ r p is h. (is, h)) (λ r p. refl),
-        (
-          acquire_agrees g q shared orphan (λ r p. TakeOver r shared p false) reads (λ r p is h. (is, h)) (λ r p. refl),
-          (acquire_agrees g q shared (persistent ++ orphan) (λ r p. TakeOver r shared p true) reads (λ r p is h. (is, h)) (λ r p. refl), all),
-        ),
-      ),
-    )
+plain_acquire : (g : Layout) (q : List ℕ → Bool) (shared : Bool) → ReadsMode g q shared → Agrees g (acquire_form q [] (λ r p. Acquire r shared p false))
+plain_acquire g q shared reads = acquire_agrees g q shared [] (λ r p. Acquire r shared p false) reads (λ r p is h. (is, h)) (λ r p. refl)
+
+persistent_acquire : (g : Layout) (q : List ℕ → Bool) (shared : Bool) → ReadsMode g q shared
+    → Agrees g (acquire_form q (option_words (codes "-P")) (λ r p. Acquire r shared p true))
+persistent_acquire g q shared reads =
+    acquire_agrees g q shared (codes "-P" ∷ codes "1" ∷ []) (λ r p. Acquire r shared p true) reads (λ r p is h. (is, h)) (λ r p. refl)
+
+plain_take_over : (g : Layout) (q : List ℕ → Bool) (shared : Bool) → ReadsMode g q shared
+    → Agrees g (acquire_form q (option_words (codes "-O")) (λ r p. TakeOver r shared p false))
+plain_take_over g q shared reads =
+    acquire_agrees g q shared (codes "-O" ∷ codes "1" ∷ []) (λ r p. TakeOver r shared p false) reads (λ r p is h. (is, h)) (λ r p. refl)
+
+persistent_take_over : (g : Layout) (q : List ℕ → Bool) (shared : Bool) → ReadsMode g q shared
+    → Agrees g (acquire_form q (option_words (codes "-P") ++ option_words (codes "-O")) (λ r p. TakeOver r shared p true))
+persistent_take_over g q shared reads =
+    acquire_agrees g q shared (codes "-P" ∷ codes "1" ∷ codes "-O" ∷ codes "1" ∷ []) (λ r p. TakeOver r shared p true) reads (λ r p is h. (is, h)) (λ r p. refl)
 
 -- The forms of what a process does with a resource, in one mode or in either.
 process_agrees : (g : Layout) (verb : List ℕ) (q : List ℕ → Bool) (shared : Bool) (make : ResourceArg → ℕ → Command)
@@ -258,9 +261,9 @@ process_agrees g verb q shared make reads may says =
 -- The form of a program that runs under a resource.
 program_agrees : (g : Layout) (q : List ℕ → Bool) (shared : Bool) → ((w : List ℕ) → q w ≡ true → IsResourceArg g (resource_of_word w) × (moded_word (resource_of_word w) shared ≡ w))
     → Agrees g (record {
-  words = exactly (codes "command") ∷ exactly (codes "-r") ∷ q ∷ exactly (codes "-c") ∷ is_path ∷ [];
-  make = λ ws. RunProgram (resource_of_word (word_at ws 2)) shared (word_at ws 4);
-})
+      words = exactly (codes "command") ∷ exactly (codes "-r") ∷ q ∷ exactly (codes "-c") ∷ is_path ∷ [];
+      make = λ ws. RunProgram (resource_of_word (word_at ws 2)) shared (word_at ws 4);
+    })
 program_agrees g q shared reads =
     resource_agrees g (codes "command") (codes "-c") q is_path (λ ws. RunProgram (resource_of_word (word_at ws 2)) shared (word_at ws 4)) (λ a b c d e hc he.
     let r = reads c hc in ((r.0, he), five_same _ _ _ _ _ _ _ _ _ _ refl refl r.1 refl refl))
@@ -273,30 +276,83 @@ orphan_agrees g =
     resource_agrees g (codes "release") (codes "-O") (is_resource_word g) (exactly (codes "1")) (λ ws. ReleaseOrphan (resource_of_word (word_at ws 2))) (λ a b c d e hc he.
     let r = resource_read g c hc in (r.0, five_same _ _ _ _ _ _ _ _ _ _ refl refl r.1 refl (word_is (codes "1") e he)))
 
--- One form more.
-and_then : (g : Layout) (f : Form Command) (fs : List (Form Command)) → Agrees g f → AllAgree g fs → AllAgree g (f ∷ fs)
-and_then g f fs one rest = (one, rest)
-
 all_agree : (g : Layout) → g.hosts < 2 ^ 64 → AllAgree g (forms g)
 unfolding forms
-all_agree g few =
-    acquires_agree g (is_resource_word g) false _ (resource_read g) (acquires_agree g (is_shared_word g) true _ (shared_read g)
-    (and_then g _ _ (lockspace_agrees g (codes "add_lockspace") (λ a. AddLockspace a) few (λ a is. is) (λ a. refl))
-    (and_then g _ _ (lockspace_agrees g (codes "rem_lockspace") (λ a. RemLockspace a) few (λ a is. is) (λ a. refl))
-    (and_then g _ _ (lockspace_agrees g (codes "inq_lockspace") (λ a. InqLockspace a) few (λ a is. is) (λ a. refl))
-    (and_then g _ _ (lockspace_agrees g (codes "host_status") (λ a. HostStatus a) few (λ a is. is) (λ a. refl))
-    (and_then g _ _ (process_agrees g (codes "release") (is_resource_word g) false (λ r p. Release r p) (resource_read g) (λ r p is h. (is, h)) (λ r p. refl))
-    (and_then g _ _ (orphan_agrees g)
-    (and_then g _ _ (process_agrees g (codes "convert") (is_resource_word g) false (λ r p. Convert r false p) (resource_read g) (λ r p is h. (is, h)) (λ r p. refl))
-    (and_then g _ _ (process_agrees g (codes "convert") (is_shared_word g) true (λ r p. Convert r true p) (shared_read g) (λ r p is h. (is, h)) (λ r p. refl))
-    (and_then g _ _ (program_agrees g (is_resource_word g) false (resource_read g))
-    (and_then g _ _ (program_agrees g (is_shared_word g) true (shared_read g))
-    (and_then g _ _ (resource_agrees g (codes "request") (codes "-f") (is_asked_word (λ n. n == 0) g) (exactly (codes "0")) (λ ws. Request (resource_of_word (word_at ws 2)) 0 0)
-    (λ a b c d e hc he. clearing_read g c e hc he))
-    (and_then g _ _ (resource_agrees g (codes "request") (codes "-f") (is_asked_word (λ n. is_in_range 1 (2 ^ 63 - 1) n) g) (is_number_that (is_in_range 1 2))
-    (λ ws. Request (resource_of_word (word_at ws 2)) (asked_of_word (word_at ws 2)) (number_of (word_at ws 4))) (λ a b c d e hc he. asking_read g c e hc he))
-    (and_then g _ _ (process_agrees g (codes "get_lvb") (is_resource_word g) false (λ r p. GetLvb r p) (resource_read g) (λ r p is h. (is, h)) (λ r p. refl))
-    (and_then g _ _ (set_value_words g) (and_then g _ _ (killpath_words g) (and_then g _ _ (status_words g) tt)))))))))))))))))
+all_agree g few = (
+  plain_acquire g (is_resource_word g) false (resource_read g),
+  (
+    persistent_acquire g (is_resource_word g) false (resource_read g),
+    (
+      plain_take_over g (is_resource_word g) false (resource_read g),
+      (
+        persistent_take_over g (is_resource_word g) false (resource_read g),
+        (
+          plain_acquire g (is_shared_word g) true (shared_read g),
+          (
+            persistent_acquire g (is_shared_word g) true (shared_read g),
+            (
+              plain_take_over g (is_shared_word g) true (shared_read g),
+              (
+                persistent_take_over g (is_shared_word g) true (shared_read g),
+                (
+                  lockspace_agrees g (codes "add_lockspace") (λ a. AddLockspace a) few (λ a is. is) (λ a. refl),
+                  (
+                    lockspace_agrees g (codes "rem_lockspace") (λ a. RemLockspace a) few (λ a is. is) (λ a. refl),
+                    (
+                      lockspace_agrees g (codes "inq_lockspace") (λ a. InqLockspace a) few (λ a is. is) (λ a. refl),
+                      (
+                        lockspace_agrees g (codes "host_status") (λ a. HostStatus a) few (λ a is. is) (λ a. refl),
+                        (
+                          process_agrees g (codes "release") (is_resource_word g) false (λ r p. Release r p) (resource_read g) (λ r p is h. (is, h)) (λ r p. refl),
+                          (
+                            orphan_agrees g,
+                            (
+                              process_agrees g (codes "convert") (is_resource_word g) false (λ r p. Convert r false p) (resource_read g) (λ r p is h. (is, h)) (λ r p. refl),
+                              (
+                                process_agrees g (codes "convert") (is_shared_word g) true (λ r p. Convert r true p) (shared_read g) (λ r p is h. (is, h)) (λ r p. refl),
+                                (
+                                  program_agrees g (is_resource_word g) false (resource_read g),
+                                  (
+                                    program_agrees g (is_shared_word g) true (shared_read g),
+                                    (
+                                      resource_agrees g (codes "request") (codes "-f") (is_asked_word (λ n. n == 0) g) (exactly (codes "0")) (λ ws. Request (resource_of_word (word_at ws 2)) 0 0)
+                                          (λ a b c d e hc he. clearing_read g c e hc he),
+                                      (
+                                        resource_agrees g (codes "request") (codes "-f") (is_asked_word (λ n. is_in_range 1 (2 ^ 63 - 1) n) g) (is_number_that (is_in_range 1 2))
+                                            (λ ws. Request (resource_of_word (word_at ws 2)) (asked_of_word (word_at ws 2)) (number_of (word_at ws 4))) (λ a b c d e hc he. asking_read g c e hc he),
+                                        (
+                                          process_agrees g (codes "get_lvb") (is_resource_word g) false (λ r p. GetLvb r p) (resource_read g) (λ r p is h. (is, h)) (λ r p. refl),
+                                          (
+                                            set_value_words g,
+                                            (
+                                              killpath_words g,
+                                              (
+                                                status_words g,
+                                                tt,
+                                              ),
+                                            ),
+                                          ),
+                                        ),
+                                      ),
+                                    ),
+                                  ),
+                                ),
+                              ),
+                            ),
+                          ),
+                        ),
+                      ),
+                    ),
+                  ),
+                ),
+              ),
+            ),
+          ),
+        ),
+      ),
+    ),
+  ),
+)
 
 -- What forms that agree make of words is a command of those words.
 made_agrees : (g : Layout) (fs : List (Form Command)) → AllAgree g fs → (ws : List (List ℕ)) (c : Command) → made_by fs ws ≡ Some c → IsCommand g c × (command_words c ≡ ws)

@@ -16,7 +16,7 @@ use Rattle.sl_words.proofs.CaseLaws.{is_false, not_both}
 use Rattle.sl_words.proofs.WordLaws.{and_true}
 use Rattle.sl_words.specs.Results.{◌>>=◌}
 use Rattle.sl_words.specs.Words.{is_empty}
-use Rattle.std.proofs.Common.{Bool, List, [], ap, arith, eqb, false, length, map, refl, subst, sym, true, ℕ, ◌&&◌, ◌++◌, ◌||◌, ◌-◌, ◌^◌, ◌≡◌, ◌∙◌, ◌∷◌}
+use Rattle.std.proofs.Common.{Bool, List, [], ap, arith, eqb, false, length, map, refl, subst, sym, true, ℕ, ◌&&◌, ◌++◌, ◌-◌, ◌^◌, ◌≡◌, ◌∙◌, ◌∷◌}
 use Rattle.std.proofs.lemmas.Bool.{eqb-true}
 use Rattle.std.proofs.lemmas.Bool.Decides.{nat_tests}
 use Rattle.std.proofs.lemmas.Slice.Eq.{bytes_eq-Decides}

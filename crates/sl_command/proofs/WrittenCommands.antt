@@ -24,7 +24,7 @@ use Rattle.std.proofs.lemmas.Bool.{and_from, le-leb, leb-true, ltb-true, ne_eqb,
 use Rattle.std.proofs.lemmas.Fmt.{decimal_digit}
 use Rattle.std.specs.Int.{is_in_range}
 use Rattle.std.specs.List.{list_all}
-use Rattle.std.specs.Prelude.{Err, None, Ok, Option, Result, Some, codes, decimal, if◌then◌else◌, not, ◌==◌}
+use Rattle.std.specs.Prelude.{Err, None, Ok, Result, Some, codes, decimal, if◌then◌else◌, not, ◌==◌}
 
 -- ---- words that pass
 

@@ -1,11 +1,11 @@
 -- What stands behind a command's verb, as it is read.
 use Rattle.sl_area.specs.Layouts.{Layout}
 use Rattle.sl_command.specs.Arguments.{is_moded_word, is_request_word, moded_of_word, request_of_word}
-use Rattle.sl_text.specs.Forms.{Form, exactly, word_at}
+use Rattle.sl_text.specs.Forms.{exactly, word_at}
 use Rattle.sl_text.specs.Names.{is_path}
 use Rattle.sl_text.specs.Numbers.{hex_bytes, is_hex_word, is_number_that, number_of}
 use Rattle.sl_text.specs.Walks.{Unread, at_end, next_as, next_passes, past_word, past_words, read_each}
-use Rattle.sl_trace.specs.Commands.{is_lockspace_word, is_process_word, is_resource_word, lockspace_of_word, option_words, resource_of_word}
+use Rattle.sl_trace.specs.Commands.{is_lockspace_word, is_process_word, is_resource_word, lockspace_of_word, resource_of_word}
 use Rattle.sl_trace.specs.declared.command.BadCommand.{BadCommand}
 use Rattle.sl_trace.specs.declared.command.Command.TheVariants.{Acquire, Convert, Release, ReleaseOrphan, Request, RunProgram, SetKillpath, SetLvb, TakeOver}
 use Rattle.sl_trace.specs.declared.command.Command.{Command}
@@ -13,7 +13,7 @@ use Rattle.sl_trace.specs.declared.command.LockspaceArg.{LockspaceArg}
 use Rattle.sl_trace.specs.declared.command.ResourceArg.{ResourceArg}
 use Rattle.sl_words.specs.Results.{◌>>=◌}
 use Rattle.std.specs.Int.{is_in_range}
-use Rattle.std.specs.Prelude.{Bool, Err, List, None, Ok, Option, Result, Some, codes, false, true, if◌then◌else◌, [], ℕ, ◌++◌, ◌==◌, ◌∷◌}
+use Rattle.std.specs.Prelude.{Bool, Err, List, None, Ok, Option, Result, Some, codes, false, true, if◌then◌else◌, [], ℕ, ◌==◌, ◌∷◌}
 
 -- `-s` and a lockspace.
 abbrev pub lockspace_behind : Layout → Unread → Result LockspaceArg ℕ

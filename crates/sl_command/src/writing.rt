@@ -117,11 +117,7 @@ fn push_release_orphan(out: &mut Vec<u8>, resource: &ResourceArg) -> Result<(), 
 }
 
 /// Adds a command that sets a kill program.
-fn push_set_killpath(
-    out: &mut Vec<u8>,
-    process: u32,
-    program: &FilePath,
-) -> Result<(), AllocError>
+fn push_set_killpath(out: &mut Vec<u8>, process: u32, program: &FilePath) -> Result<(), AllocError>
     ensures { OnOk result (out.new.items ≡ out.old.items ++ spaced (commands.command_words (SetKillpath process program.now))) }
 {
     let text = format!(in *out.allocator(); "set_killpath -p {process} -c {program}")?;
