@@ -130,14 +130,14 @@ ends_plain column (w ∷ ws) h =
     let left : eqb (suc (length ws)) 0 ≡ false = ne_eqb (suc (length ws)) 0 (λ e. omega arith) in
     let bad : Err column ≡ Ok tt = sym (ap (λ t. ensure t column) left) ∙ h in absurd cc
 
-plain_steps : (s t : Bool) (column next : ℕ) (flag w : List ℕ) (end : Result (Unit {0}) ℕ) (options : Result (Bool × Bool) ℕ) (p : ℕ)
+plain_steps : (s t : Bool) (column next : ℕ) (done : Unit {0}) (flag w : List ℕ) (end : Result (Unit {0}) ℕ) (options : Result (Bool × Bool) ℕ) (p : ℕ)
     → (end ≡ Ok tt → options ≡ Ok (wanted false false))
     → ((if s then Ok flag else Err column) >>= λ _. (if t then Ok w else Err next) >>= λ x. end >>= λ _. Ok (number_of x)) ≡ Ok p
-    → ((if s then Ok tt else Err column) >>= λ _. (if t then Ok (number_of w) else Err next) >>= λ n. options >>= λ o. Ok (held_by n o)) ≡ Ok (held_by p (wanted false false))
-plain_steps false t column next flag w end options p plain h = absurd cc
-plain_steps true false column next flag w end options p plain h = absurd cc
-plain_steps true true column next flag w (Err i) options p plain h = absurd cc
-plain_steps true true column next flag w (Ok done) options p plain h =
+    → ((if s then Ok done else Err column) >>= λ _. (if t then Ok (number_of w) else Err next) >>= λ n. options >>= λ o. Ok (held_by n o)) ≡ Ok (held_by p (wanted false false))
+plain_steps false t column next done flag w end options p plain h = absurd cc
+plain_steps true false column next done flag w end options p plain h = absurd cc
+plain_steps true true column next done flag w (Err i) options p plain h = absurd cc
+plain_steps true true column next done flag w (Ok end) options p plain h =
     let same : number_of w ≡ p = cc in
     ap (λ o. o >>= λ x. Ok (held_by (number_of w) x)) (plain refl) ∙ ap (λ n. Ok (held_by n (wanted false false))) same
 
@@ -146,7 +146,7 @@ process_holds : (u : Unread) (p : ℕ) → process_behind u ≡ Ok p → holder_
 process_holds u p h =
     let v : Unread = past_word u in
     let x : Unread = past_word v in
-    plain_steps (next_passes (exactly (codes "-p")) u) (next_passes is_process_word v) u.column v.column (word_at u.words 0) (word_at v.words 0) (at_end x) (options_read x) p
+    plain_steps (next_passes (exactly (codes "-p")) u) (next_passes is_process_word v) u.column v.column tt (word_at u.words 0) (word_at v.words 0) (at_end x) (options_read x) p
     (ends_plain x.column x.words) h
 
 process_releases : (column : ℕ) (ws : List (List ℕ)) (p : ℕ) → let u : Unread = record { column = column; words = ws } in process_behind u ≡ Ok p → releaser_behind u ≡ Ok (Some p)
