@@ -9,8 +9,9 @@ use Rattle.sl_leases.specs.LeaseWork.{convert_next, lease_place, release_next}
 use Rattle.sl_leases.specs.Leases.{holdings_on, known, orphan_on, shared_on, spot_of}
 use Rattle.sl_sector.specs.declared.sector.Rec.TheVariants.{ValueIs}
 use Rattle.sl_sector.specs.declared.sector.ValueRec.{ValueRec}
-use Rattle.sl_sessions.specs.Sessions.{Session, generation_of, holdings_of, is_active, is_joined, is_session_arg, last_renewal, last_seq, present_sessions, session_named, sessions}
+use Rattle.sl_sessions.specs.Sessions.{generation_of, holdings_of, is_active, is_joined, is_session_arg, last_renewal, last_seq, present_sessions, session_named, sessions}
 use Rattle.sl_sessions.specs.Watching.{sessions_seen, states_seen}
+use Rattle.sl_sessions.specs.declared.session.Session.{Session}
 use Rattle.sl_trace.specs.Limits.{most_lockspaces}
 use Rattle.sl_trace.specs.Traces.{Setting, Trace, end_of, is_orphan, is_shared, next_job, no_process, spot_of_grant}
 use Rattle.sl_trace.specs.declared.command.Command.TheVariants.{Acquire, AddLockspace, Convert, GetLvb, HostStatus, InqLockspace, Release, ReleaseOrphan, RemLockspace, Request, RunProgram, SetKillpath, SetLvb, Status, TakeOver}

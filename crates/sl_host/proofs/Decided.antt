@@ -1,7 +1,9 @@
 -- What a line comes to by the table is what it comes to on the trace.
 use Rattle.sl_area.specs.Layouts.{layout_of}
 use Rattle.sl_area.specs.Places.{is_base}
-use Rattle.sl_due.specs.DueCommands.{Decision, Gives_up, Reads_area, Replies, decided, unless_refused}
+use Rattle.sl_due.specs.DueCommands.{decided, unless_refused}
+use Rattle.sl_due.specs.declared.decision.Decision.TheVariants.{GivesUp as Gives_up, ReadsArea as Reads_area, Replies}
+use Rattle.sl_due.specs.declared.decision.Decision.{Decision}
 use Rattle.sl_first.specs.FirstSteps.{Holds as Held_by, Idle as Resting, Phase as Stand, Works as Working}
 use Rattle.sl_lease_host.proofs.PhaseLaws.{shows_held, shows_idle, shows_work}
 use Rattle.sl_lease_host.specs.LeaseHosts.{LeaseHostState, is_held, is_on, lease_of}

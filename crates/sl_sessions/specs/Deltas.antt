@@ -9,10 +9,11 @@ use Rattle.sl_sector.specs.declared.sector.DeltaRec.{DeltaRec}
 use Rattle.sl_sector.specs.declared.sector.DeltaState.TheVariants.{Claimed, Free, Live}
 use Rattle.sl_sector.specs.declared.sector.DeltaState.{DeltaState}
 use Rattle.sl_sector.specs.declared.sector.Rec.TheVariants.{DeltaIs}
-use Rattle.sl_sessions.specs.Sessions.{Session, calls_of, delta_written, free_write, generation_of, has_open_delta, join_call, last_renewal_submitted, last_seq, leaving_job, recovery_of}
+use Rattle.sl_sessions.specs.Sessions.{calls_of, delta_written, free_write, generation_of, has_open_delta, join_call, last_renewal_submitted, last_seq, leaving_job, recovery_of}
 use Rattle.sl_sessions.specs.Watching.{is_free_state}
 use Rattle.sl_sessions.specs.declared.delta.DeltaNext.TheVariants.{Disconnect, Join, EndLeaving, MoveConnection, ReadOwn, RegisterAndRead, RefuseJoin, Nothing, WriteClaim, WriteFirst, WriteFree, WriteRenewal}
 use Rattle.sl_sessions.specs.declared.delta.DeltaNext.{DeltaNext}
+use Rattle.sl_sessions.specs.declared.session.Session.{Session}
 use Rattle.sl_time.specs.Times.{TimingNumbers, dead, join_max, renew, take_over}
 use Rattle.sl_trace.specs.Traces.{Setting, Submitted, Trace, gave}
 use Rattle.sl_trace.specs.declared.effects.JoinStep.TheVariants.{ClaimWrite, DecidingRead, FirstRead, FirstRenewal, VerifyRead, WatchRead}

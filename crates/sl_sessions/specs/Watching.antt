@@ -6,7 +6,8 @@ use Rattle.sl_sector.specs.Spelling.{delta_in}
 use Rattle.sl_sector.specs.declared.sector.DeltaRec.{DeltaRec}
 use Rattle.sl_sector.specs.declared.sector.DeltaState.TheVariants.{Free, Live}
 use Rattle.sl_sector.specs.declared.sector.DeltaState.{DeltaState}
-use Rattle.sl_sessions.specs.Sessions.{Session, calls_of, generation_of, is_joined, is_survey_purpose, joined_after, present_sessions}
+use Rattle.sl_sessions.specs.Sessions.{calls_of, generation_of, is_joined, is_survey_purpose, joined_after, present_sessions}
+use Rattle.sl_sessions.specs.declared.session.Session.{Session}
 use Rattle.sl_time.specs.Times.{TimingNumbers, dead, fail}
 use Rattle.sl_trace.specs.Traces.{Setting, Submitted, Trace, bytes_given}
 use Rattle.sl_trace.specs.declared.reply.Evidence.TheVariants.{Freed, Newer, Silent}
