@@ -17,6 +17,7 @@ mod header_tests;
 mod lines;
 mod parts;
 mod schedule;
+mod sizes;
 mod writing;
 
 pub use events::next_event;
