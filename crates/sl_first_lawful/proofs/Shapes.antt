@@ -19,7 +19,7 @@ use Rattle.sl_law.specs.LawfulModes.{LawfulModeGrant}
 use Rattle.sl_law.specs.Saying.{cut_at}
 use Rattle.sl_sessions.specs.Sessions.{session_numbered}
 use Rattle.sl_sessions.specs.declared.session.Session.{Session}
-use Rattle.sl_trace.specs.Traces.{Setting, Submitted, Trace, holdings, new_call, record_of}
+use Rattle.sl_trace.specs.Traces.{Setting, Submitted, Trace, holdings, new_call, record_of, held_by}
 use Rattle.sl_trace.specs.declared.command.ResourceArg.{ResourceArg}
 use Rattle.sl_trace.specs.declared.effects.Call.{Call}
 use Rattle.sl_trace.specs.declared.effects.End.{End}
@@ -35,6 +35,8 @@ use Rattle.sl_trace.specs.declared.reply.Reply.{Reply}
 use Rattle.sl_words.proofs.CaseLaws.{some_value}
 use Rattle.sl_words.proofs.WordLaws.{and_true}
 use Rattle.std.proofs.Common.{ap, arith, refl, subst, sym, tests, ◌∙◌}
+use Rattle.sl_first.proofs.Decisions.{here}
+use Rattle.sl_first.proofs.Growth.{same_number}
 use Rattle.std.specs.Prelude.{Contains, IsSome, List, None, Some, false, length, true, [], ℕ, ◌==◌, ◌∷◌, ◌≡◌, ◌≤◌}
 
 -- ---- no grant
@@ -117,6 +119,9 @@ granting_entry g r i p lver job = first_entry g i (first_effects [] (first_grant
 held_alone : (g : Given) (r : ResourceArg) (p lver : ℕ) (t : Trace) → holdings t ≡ first_grant g r p lver ∷ [] → (h : Grant) → Contains (holdings t) h → h.process ≡ p
 held_alone g r p lver t is h there = ap (λ (x : Grant). x.process) (sym (only (first_grant g r p lver) h (subst (λ hs. Contains hs h) is there)))
 
+held_once : (g : Given) (r : ResourceArg) (p lver : ℕ) → length (held_by (first_grant g r p lver ∷ []) p r.path r.offset) ≡ 1
+held_once g r p lver = rw (same_number p, here r) refl
+
 grant_lawful : (st : Setting) (g : Given) (r : ResourceArg) → IsFirst st g r → (p lver : ℕ) (t : Trace) → IsCalm g t → holdings t ≡ first_grant g r p lver ∷ [] → GrantBrings st g r t lver
     → LawfulGrantTo st t (first_session g) (first_grant g r p lver)
 grant_lawful st g r f p lver t calm held brings =
@@ -125,6 +130,7 @@ grant_lawful st g r f p lver t calm held brings =
       lockspace = f.space;
       placed = f.base;
       alone = λ h there same other. absurd (other (held_alone g r p lver t held h there));
+      single = ap (λ hs. length (held_by hs p r.path r.offset)) held ∙ held_once g r p lver;
       taken = λ exclusive. brings.taken;
       not_freed = λ exclusive. brings.not_freed;
     }
