@@ -2,8 +2,8 @@
 use Rattle.sl_law.specs.Caused.{IsCaused}
 use Rattle.sl_law.specs.Lawful.{Lawful}
 use Rattle.sl_law.specs.LawfulEnd.{gives_up, takes_over}
-use Rattle.sl_lvm.specs.LockNames.{group_path}
-use Rattle.sl_lvm.specs.Lvm.{Acquiring, HeldLock, Lock, lock_process}
+use Rattle.sl_lvm.specs.LockNames.{Lock, group_path}
+use Rattle.sl_lvm.specs.Lvm.{Acquiring, HeldLock, lock_process}
 use Rattle.sl_run.specs.Events.{happens, input_of, machine_of}
 use Rattle.sl_run.specs.Runs.{EachDaemon, Happening}
 use Rattle.sl_run.specs.Safety.{LawfulRun, world_at}
