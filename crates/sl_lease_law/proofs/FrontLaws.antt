@@ -11,7 +11,7 @@ use Rattle.sl_trace.specs.Traces.{Answered, Setting, Submitted, Trace, answer_of
 use Rattle.sl_trace.specs.declared.effects.Call.{Call}
 use Rattle.sl_trace.specs.declared.effects.Entry.{Entry}
 use Rattle.sl_trace.specs.declared.input.Answer.{Answer}
-use Rattle.sl_trace.specs.declared.input.Input.TheVariants.{Answer as Told, Exit, Line, Spawned, Wake}
+use Rattle.sl_trace.specs.declared.input.Input.TheVariants.{Answer as Told, Exit, Line, Number, Spawned, Wake}
 use Rattle.sl_trace.specs.declared.input.Input.{Input}
 use Rattle.sl_words.proofs.CaseLaws.{none_some}
 use Rattle.std.proofs.Common.{ap, arith, inl, inr, refl, subst, sym, ◌∙◌}
@@ -101,6 +101,7 @@ all_answered_by es e number a n late (x ∷ xs) (m ∷ ms) h =
 -- An answer marks the calls before alike, whatever calls its entry makes.
 marked_alike : (es : Trace) (e : Entry) (k : ℕ) (i : Input) (ms : List Submitted) → mark es e i ms ≡ mark es (cut_at k e) i ms
 marked_alike es e k (Line text) ms = refl
+marked_alike es e k (Number text) ms = refl
 marked_alike es e k (Told n a) ms = refl
 marked_alike es e k (Exit p) ms = refl
 marked_alike es e k (Spawned p ok) ms = refl
@@ -190,6 +191,7 @@ marked_submission e es (Told number a) all newer older c h =
     subst (λ x. Submission (e ∷ es) x older) m.itself
     (subst (λ xs. Submission (e ∷ es) (answered_in es e number a m.was) xs) m.others (later_told e es number a m.was m.rest (all m.newer m.rest m.was m.is)))
 marked_submission e es (Line text) all newer older c h = later_same e es c older (all newer older c h)
+marked_submission e es (Number text) all newer older c h = later_same e es c older (all newer older c h)
 marked_submission e es (Exit p) all newer older c h = later_same e es c older (all newer older c h)
 marked_submission e es (Spawned p ok) all newer older c h = later_same e es c older (all newer older c h)
 marked_submission e es Wake all newer older c h = later_same e es c older (all newer older c h)

@@ -1,9 +1,9 @@
 -- The calls of a joining: each is answered before the next is made, and only its claim and its first renewal write.
+use Rattle.sl_law.proofs.LawFacts.{lawful-front}
 use Rattle.sl_law.specs.Lawful.{Lawful}
 use Rattle.sl_law.specs.LawfulArea.{is_area_work}
 use Rattle.sl_law.specs.LawfulDelta.{LawfulDeltaCall}
 use Rattle.sl_law.specs.Saying.{cut_at}
-use Rattle.sl_law.proofs.LawFacts.{lawful-front}
 use Rattle.sl_plain.proofs.Lists.{got_inside}
 use Rattle.sl_session_law.proofs.Growing.{mine_marked, mine_next, other_next, to_all}
 use Rattle.sl_session_law.proofs.Making.{same_answered}
@@ -22,7 +22,7 @@ use Rattle.sl_trace.specs.declared.effects.JoinStep.{JoinStep}
 use Rattle.sl_trace.specs.declared.effects.Purpose.TheVariants.{RequestRead, RequestWrite, Joining, Lease, Leaving, Renewal, SeeRequest, Survey, ValueRead, ValueWrite}
 use Rattle.sl_trace.specs.declared.effects.Purpose.{Purpose}
 use Rattle.sl_trace.specs.declared.input.Answer.{Answer}
-use Rattle.sl_trace.specs.declared.input.Input.TheVariants.{Answer as Told, Exit, Line, Spawned, Wake}
+use Rattle.sl_trace.specs.declared.input.Input.TheVariants.{Answer as Told, Exit, Line, Number, Spawned, Wake}
 use Rattle.sl_trace.specs.declared.input.Input.{Input}
 use Rattle.sl_words.proofs.CaseLaws.{false_is_true, no_value, true_is_false}
 use Rattle.sl_words.proofs.WordLaws.{and_true}
@@ -64,6 +64,7 @@ turn_told es e n a (m ∷ ms) h =
 pub turn_marked : (es : Trace) (e : Entry) (i : Input) (ms : List Submitted) → is_in_turn ms ≡ true → is_in_turn (mark es e i ms) ≡ true
 turn_marked es e (Told n a) ms h = turn_told es e n a ms h
 turn_marked es e (Line text) ms h = h
+turn_marked es e (Number text) ms h = h
 turn_marked es e (Exit p) ms h = h
 turn_marked es e (Spawned p ok) ms h = h
 turn_marked es e Wake ms h = h

@@ -22,7 +22,7 @@ use Rattle.sl_trace.specs.declared.effects.JoinStep.{JoinStep}
 use Rattle.sl_trace.specs.declared.effects.Purpose.TheVariants.{RequestRead, RequestWrite, Joining, Lease, Leaving, Renewal, SeeRequest, Survey, ValueRead, ValueWrite}
 use Rattle.sl_trace.specs.declared.effects.Purpose.{Purpose}
 use Rattle.sl_trace.specs.declared.input.Answer.{Answer}
-use Rattle.sl_trace.specs.declared.input.Input.TheVariants.{Answer as Told, Exit, Line, Spawned, Wake}
+use Rattle.sl_trace.specs.declared.input.Input.TheVariants.{Answer as Told, Exit, Line, Number, Spawned, Wake}
 use Rattle.sl_trace.specs.declared.input.Input.{Input}
 use Rattle.sl_words.proofs.CaseLaws.{false_is_true, no_value, one_value}
 use Rattle.sl_words.proofs.WordLaws.{and_true}
@@ -47,6 +47,7 @@ ordered_told es e n a (m ∷ ms) h =
 ordered_marked : (es : Trace) (e : Entry) (i : Input) (ms : List Submitted) → is_ordered ms ≡ true → is_ordered (mark es e i ms) ≡ true
 ordered_marked es e (Told n a) ms h = ordered_told es e n a ms h
 ordered_marked es e (Line text) ms h = h
+ordered_marked es e (Number text) ms h = h
 ordered_marked es e (Exit p) ms h = h
 ordered_marked es e (Spawned p ok) ms h = h
 ordered_marked es e Wake ms h = h
