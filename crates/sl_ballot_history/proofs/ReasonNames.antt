@@ -23,7 +23,7 @@ use Rattle.sl_trace.specs.declared.effects.JoinStep.{JoinStep}
 use Rattle.sl_trace.specs.declared.effects.Purpose.TheVariants.{Joining, Lease, Leaving, Renewal, RequestRead, RequestWrite, SeeRequest, Survey, ValueRead, ValueWrite}
 use Rattle.sl_trace.specs.declared.effects.Purpose.{Purpose}
 use Rattle.sl_trace.specs.declared.input.Answer.{Answer}
-use Rattle.sl_trace.specs.declared.input.Input.TheVariants.{Answer as Told, Exit, Line, Spawned, Wake}
+use Rattle.sl_trace.specs.declared.input.Input.TheVariants.{Answer as Told, Exit, Line, Number, Spawned, Wake}
 use Rattle.sl_trace.specs.declared.input.Input.{Input}
 use Rattle.sl_words.proofs.CaseLaws.{none_some, one_value}
 use Rattle.std.proofs.Common.{ap, refl, sym, ◌∙◌}
@@ -113,6 +113,7 @@ told_delta es e n a (m ∷ ms) =
 marked_delta : (es : Trace) (e : Entry) (i : Input) (ms : List Submitted) → last_delta (mark es e i ms) ≡ last_delta ms
 marked_delta es e (Told n a) ms = told_delta es e n a ms
 marked_delta es e (Line text) ms = refl
+marked_delta es e (Number text) ms = refl
 marked_delta es e (Exit p) ms = refl
 marked_delta es e (Spawned p ok) ms = refl
 marked_delta es e Wake ms = refl

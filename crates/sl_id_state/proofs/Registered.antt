@@ -20,7 +20,7 @@ use Rattle.sl_trace.specs.declared.effects.Entry.{Entry}
 use Rattle.sl_trace.specs.declared.effects.JoinStep.TheVariants.{ClaimWrite, DecidingRead, FirstRead, FirstRenewal, VerifyRead, WatchRead}
 use Rattle.sl_trace.specs.declared.effects.Purpose.TheVariants.{RequestRead, RequestWrite, Joining, Lease, Leaving, Renewal, SeeRequest, Survey, ValueRead, ValueWrite}
 use Rattle.sl_trace.specs.declared.effects.Purpose.{Purpose}
-use Rattle.sl_trace.specs.declared.input.Input.TheVariants.{Answer as Told, Exit, Line, Spawned, Wake}
+use Rattle.sl_trace.specs.declared.input.Input.TheVariants.{Answer as Told, Exit, Line, Number, Spawned, Wake}
 use Rattle.sl_trace.specs.declared.input.Input.{Input}
 use Rattle.sl_watchdog_law.proofs.Becoming.{WasSo, any_more, by_joining, by_write, covered_marked, covered_stage_by, with_registers}
 use Rattle.sl_watchdog_law.proofs.Finding.{the_open_write}
@@ -115,6 +115,7 @@ found_marked : (es : Trace) (e : Entry) (i : Input) (ms : List Submitted) (m : S
 found_marked es e (Told n a) ms m h =
     found_mapped (answered_in es e n a) (λ x. ((same_answered es e n a x).call, (same_answered es e n a x).at)) ms m h
 found_marked es e (Line text) ms m h = (m, h, refl)
+found_marked es e (Number text) ms m h = (m, h, refl)
 found_marked es e (Exit p) ms m h = (m, h, refl)
 found_marked es e (Spawned p ok) ms m h = (m, h, refl)
 found_marked es e Wake ms m h = (m, h, refl)

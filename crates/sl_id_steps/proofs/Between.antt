@@ -18,7 +18,7 @@ use Rattle.sl_run.specs.Events.{add_landing, after_effects, change_call, event_t
 use Rattle.sl_run.specs.Runs.{EachDaemon, Happening, HasSteps, IsRun, daemons_of, own_effects_of, world_after}
 use Rattle.sl_run.specs.Safety.{LawfulRun, world_at}
 use Rattle.sl_run.specs.Worlds.{Course, Daemon, Landed, Machine, Program, World, change_machine, daemons_on, first_that, flight_of, is_in_flight, is_of_running, is_torn_fate, is_write_course, machine_at, stamp_now, world_with}
-use Rattle.sl_run.specs.declared.event.Event.TheVariants.{AnswerCall, Crash, Do, DropWrite, ExitOf, GiveCommand, Land, Pass, Reset, Restart, Sample, SpawnedOf, StartDaemon, Tear, Test, WakeUp}
+use Rattle.sl_run.specs.declared.event.Event.TheVariants.{AnswerCall, Crash, Do, DropWrite, ExitOf, GiveAsk, GiveCommand, GiveLvm, Land, Pass, Reset, Restart, Sample, SpawnedOf, StartDaemon, Tear, Test, WakeUp}
 use Rattle.sl_run.specs.declared.event.Event.{Event}
 use Rattle.sl_run.specs.declared.event.Refusal.TheVariants.{MissingCall, MissingDaemon, MissingFlight, MissingLanding, MissingMachine, MissingPlace, MissingSample, Syntax}
 use Rattle.sl_run.specs.declared.event.Refusal.{Refusal}
@@ -78,6 +78,8 @@ first_stays : (e : Event) (w : World) (i : Input) → input_of w e ≡ Some i �
 unfolding first_change
 first_stays (WakeUp m) w i is other = refl
 first_stays (GiveCommand m text) w i is other = refl
+first_stays (GiveLvm m line) w i is other = refl
+first_stays (GiveAsk m) w i is other = refl
 first_stays (AnswerCall m c ok) w i is other = refl
 first_stays (ExitOf m p) w i is other = refl
 first_stays (SpawnedOf m p ok) w i is other = refl

@@ -33,7 +33,7 @@ use Rattle.sl_trace.specs.declared.effects.JoinStep.{JoinStep}
 use Rattle.sl_trace.specs.declared.effects.Purpose.TheVariants.{Joining, Leaving}
 use Rattle.sl_trace.specs.declared.effects.Purpose.{Purpose}
 use Rattle.sl_trace.specs.declared.input.Answer.{Answer}
-use Rattle.sl_trace.specs.declared.input.Input.TheVariants.{Answer as Told, Exit, Line, Spawned, Wake}
+use Rattle.sl_trace.specs.declared.input.Input.TheVariants.{Answer as Told, Exit, Line, Number, Spawned, Wake}
 use Rattle.sl_trace.specs.declared.input.Input.{Input}
 use Rattle.sl_watchdog_law.proofs.Finding.{call_inside, call_owner}
 use Rattle.sl_words.proofs.CaseLaws.{false_is_true, is_false, not_both, some_value, true_is_false}
@@ -107,6 +107,7 @@ number_told es e n a (m ∷ ms) =
 number_marked : (es : Trace) (e : Entry) (i : Input) (ms : List Submitted) → number_of (free_write (mark es e i ms)) ≡ number_of (free_write ms)
 number_marked es e (Told n a) ms = number_told es e n a ms
 number_marked es e (Line text) ms = refl
+number_marked es e (Number text) ms = refl
 number_marked es e (Exit p) ms = refl
 number_marked es e (Spawned p ok) ms = refl
 number_marked es e Wake ms = refl

@@ -15,7 +15,7 @@ use Rattle.sl_trace.specs.Traces.{is_ok_answer}
 use Rattle.sl_trace.specs.declared.effects.Call.{Call}
 use Rattle.sl_trace.specs.declared.effects.Effects.{Effects}
 use Rattle.sl_trace.specs.declared.effects.Entry.{Entry}
-use Rattle.sl_trace.specs.declared.input.Input.TheVariants.{Answer as Told, Exit, Line, Spawned, Wake}
+use Rattle.sl_trace.specs.declared.input.Input.TheVariants.{Answer as Told, Exit, Line, Number, Spawned, Wake}
 use Rattle.sl_trace.specs.declared.input.Input.{Input}
 use Rattle.std.proofs.Common.{ap, arith, inl, inr, refl, subst, sym, ◌∙◌}
 use Rattle.std.specs.Prelude.{Bool, Contains, List, None, Option, Some, false, filter_map, flat_map, if◌then◌else◌, length, map, option_map, slice_set, true, [], ℕ, ◌++◌, ◌+◌, ◌-◌, ◌<◌, ◌==◌, ◌∷◌, ◌≡◌, ◌≤◌, ◌⊎◌}
@@ -144,6 +144,7 @@ effects_add N now fx a is = calls_alone N a (after_effects now fx a) refl refl r
 
 closed_adds : (N : ℕ → ℕ → Type 0) (now : Stamp) (i : Input) (a : Machine) → IsNow N a.clock now → AddsStill N a (close_answered now i a)
 closed_adds N now (Line text) a is = same_still N 0 a
+closed_adds N now (Number text) a is = same_still N 0 a
 closed_adds N now (Told n answer) a is =
     record { adds = call_changes N n (λ c. record c { answered = Some now; done = is_ok_answer answer }) a (λ c. told_adds N a.clock now (is_ok_answer answer) c is); clock = refl }
 closed_adds N now Wake a is = same_still N 0 a

@@ -28,7 +28,7 @@ use Rattle.sl_trace.specs.declared.effects.Op.{Op}
 use Rattle.sl_trace.specs.declared.effects.Purpose.TheVariants.{Joining, Lease, Leaving, Renewal, RequestRead, RequestWrite, SeeRequest, Survey, ValueRead, ValueWrite}
 use Rattle.sl_trace.specs.declared.effects.Purpose.{Purpose}
 use Rattle.sl_trace.specs.declared.input.Answer.{Answer}
-use Rattle.sl_trace.specs.declared.input.Input.TheVariants.{Answer as Told, Exit, Line, Spawned, Wake}
+use Rattle.sl_trace.specs.declared.input.Input.TheVariants.{Answer as Told, Exit, Line, Number, Spawned, Wake}
 use Rattle.sl_trace.specs.declared.input.Input.{Input}
 use Rattle.sl_words.proofs.CaseLaws.{false_is_true, no_value, none_some, some_value}
 use Rattle.std.proofs.Common.{ap, arith, inl, inr, refl, subst, sym, ◌∙◌}
@@ -62,6 +62,7 @@ told_below es e n w ms below m there a is =
 marked_below : (es : Trace) (e : Entry) (i : Input) (ms : List Submitted) → AnsweredBelow (length es) ms → AnsweredBelow (suc (length es)) (mark es e i ms)
 marked_below es e (Told n w) ms below m there a is = told_below es e n w ms below m there a is
 marked_below es e (Line text) ms below m there a is = less_than_suc a.at (length es) (below m there a is)
+marked_below es e (Number text) ms below m there a is = less_than_suc a.at (length es) (below m there a is)
 marked_below es e (Exit p) ms below m there a is = less_than_suc a.at (length es) (below m there a is)
 marked_below es e (Spawned p ok) ms below m there a is = less_than_suc a.at (length es) (below m there a is)
 marked_below es e Wake ms below m there a is = less_than_suc a.at (length es) (below m there a is)

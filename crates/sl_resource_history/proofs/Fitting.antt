@@ -8,7 +8,7 @@ use Rattle.sl_trace.specs.Traces.{Answered, Setting, Submitted, Trace, answer_of
 use Rattle.sl_trace.specs.declared.effects.Call.{Call}
 use Rattle.sl_trace.specs.declared.effects.Entry.{Entry}
 use Rattle.sl_trace.specs.declared.input.Answer.{Answer}
-use Rattle.sl_trace.specs.declared.input.Input.TheVariants.{Answer as Told, Exit, Line, Spawned, Wake}
+use Rattle.sl_trace.specs.declared.input.Input.TheVariants.{Answer as Told, Exit, Line, Number, Spawned, Wake}
 use Rattle.sl_trace.specs.declared.input.Input.{Input}
 use Rattle.sl_words.proofs.CaseLaws.{no_value, some_value}
 use Rattle.sl_words.proofs.WordLaws.{and_true}
@@ -54,6 +54,7 @@ numbers_added k at reading (c ∷ cs) ms is h =
 numbers_input : (k : ℕ) (es : Trace) (e : Entry) (i : Input) (ms : List Submitted) → AreNumbered k ms → AreNumbered k (mark es e i ms)
 numbers_input k es e (Told n a) ms h = numbers_marked k es e n a ms h
 numbers_input k es e (Line text) ms h = h
+numbers_input k es e (Number text) ms h = h
 numbers_input k es e (Exit p) ms h = h
 numbers_input k es e (Spawned p ok) ms h = h
 numbers_input k es e Wake ms h = h
@@ -124,6 +125,7 @@ fits_input : (st : Setting) (es : Trace) (e : Entry) (i : Input) → Lawful st e
     → Contains (mark es e i (submitted es)) q → (a : Answered) → q.answer ≡ Some a → is_answer_for st a.answer q.call.op ≡ true
 fits_input st es e (Told n w) law old expected q has a told = fits_told st es e n w law old expected q has a told
 fits_input st es e (Line text) law old expected q has a told = old q has a told
+fits_input st es e (Number text) law old expected q has a told = old q has a told
 fits_input st es e (Exit p) law old expected q has a told = old q has a told
 fits_input st es e (Spawned p ok) law old expected q has a told = old q has a told
 fits_input st es e Wake law old expected q has a told = old q has a told

@@ -27,7 +27,7 @@ use Rattle.sl_trace.specs.declared.effects.Move.{Move}
 use Rattle.sl_trace.specs.declared.effects.Purpose.TheVariants.{RequestRead, RequestWrite, Joining, Lease, Leaving, Renewal, SeeRequest, Survey, ValueRead, ValueWrite}
 use Rattle.sl_trace.specs.declared.effects.Purpose.{Purpose}
 use Rattle.sl_trace.specs.declared.input.Answer.{Answer}
-use Rattle.sl_trace.specs.declared.input.Input.TheVariants.{Answer as Told, Exit, Line, Spawned, Wake}
+use Rattle.sl_trace.specs.declared.input.Input.TheVariants.{Answer as Told, Exit, Line, Number, Spawned, Wake}
 use Rattle.sl_trace.specs.declared.input.Input.{Input}
 use Rattle.sl_watchdog_law.proofs.Finding.{OpenWrite, call_inside, call_owner, open_write, the_open_write}
 use Rattle.sl_watchdog_law.proofs.Standing.{covered_open, older_call}
@@ -80,6 +80,7 @@ pub covered_marked : (es : Trace) (e : Entry) (i : Input) (ms : List Submitted) 
 covered_marked es e (Told n a) [] h = h
 covered_marked es e (Told n a) (m ∷ ms) h = covered_told es e m a (m.call.number == n) h
 covered_marked es e (Line text) ms h = h
+covered_marked es e (Number text) ms h = h
 covered_marked es e (Exit p) ms h = h
 covered_marked es e (Spawned p ok) ms h = h
 covered_marked es e Wake ms h = h

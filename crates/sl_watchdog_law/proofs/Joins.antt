@@ -15,7 +15,7 @@ use Rattle.sl_trace.specs.declared.effects.Purpose.TheVariants.{RequestRead, Req
 use Rattle.sl_trace.specs.declared.effects.Purpose.{Purpose}
 use Rattle.sl_trace.specs.declared.input.Answer.TheVariants.{Written}
 use Rattle.sl_trace.specs.declared.input.Answer.{Answer}
-use Rattle.sl_trace.specs.declared.input.Input.TheVariants.{Answer as Told, Exit, Line, Spawned, Wake}
+use Rattle.sl_trace.specs.declared.input.Input.TheVariants.{Answer as Told, Exit, Line, Number, Spawned, Wake}
 use Rattle.sl_trace.specs.declared.input.Input.{Input}
 use Rattle.sl_watchdog_law.proofs.Finding.{call_owner}
 use Rattle.sl_watchdog_law.proofs.Numbering.{call_found, given_first, given_later}
@@ -88,6 +88,7 @@ brought_told past e n w (x ∷ ms) m a i there h =
 brought_in : (past : Trace) (e : Entry) (i : Input) (ms : List Submitted) (m : Submitted) (a : Answered) → e.input ≡ i → Contains (mark past e i ms) m → m.answer ≡ Some a → Brought past e ms m a
 brought_in past e (Told n w) ms m a is there h = brought_told past e n w ms m a is there h
 brought_in past e (Line text) ms m a is there h = inl (record { before = m; inside = there; was = h })
+brought_in past e (Number text) ms m a is there h = inl (record { before = m; inside = there; was = h })
 brought_in past e (Exit p) ms m a is there h = inl (record { before = m; inside = there; was = h })
 brought_in past e (Spawned p ok) ms m a is there h = inl (record { before = m; inside = there; was = h })
 brought_in past e Wake ms m a is there h = inl (record { before = m; inside = there; was = h })

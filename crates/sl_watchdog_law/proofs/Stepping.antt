@@ -12,7 +12,7 @@ use Rattle.sl_trace.specs.declared.effects.Call.{Call}
 use Rattle.sl_trace.specs.declared.effects.Effects.{Effects}
 use Rattle.sl_trace.specs.declared.effects.Entry.{Entry}
 use Rattle.sl_trace.specs.declared.effects.Grant.{Grant}
-use Rattle.sl_trace.specs.declared.input.Input.TheVariants.{Answer as Told, Exit, Line, Spawned, Wake}
+use Rattle.sl_trace.specs.declared.input.Input.TheVariants.{Answer as Told, Exit, Line, Number, Spawned, Wake}
 use Rattle.sl_trace.specs.declared.input.Input.{Input}
 use Rattle.sl_watchdog_law.proofs.Changing.{if_changed, told_goes}
 use Rattle.sl_watchdog_law.proofs.Freshness.{IsFresh, some_fail, stays_fresh}
@@ -163,6 +163,7 @@ step_keeps t moment step b d (Told n a) fx now s w =
     (λ c there. goes_mapped (λ (c : Course). elim (c.call.number == n) as (λ x. Course) [ true ↦ told now (is_ok_answer a) c | false ↦ c ]) b.calls c
     (λ x. if_changed (told now (is_ok_answer a)) x (x.call.number == n) (told_goes now (is_ok_answer a) x)) there) w
 step_keeps t moment step b d (Line text) fx now s w = stepped t moment step b d (Line text) fx now b.calls s (λ c there. goes_same b.calls c there) w
+step_keeps t moment step b d (Number text) fx now s w = stepped t moment step b d (Number text) fx now b.calls s (λ c there. goes_same b.calls c there) w
 step_keeps t moment step b d (Exit p) fx now s w = stepped t moment step b d (Exit p) fx now b.calls s (λ c there. goes_same b.calls c there) w
 step_keeps t moment step b d (Spawned p ok) fx now s w = stepped t moment step b d (Spawned p ok) fx now b.calls s (λ c there. goes_same b.calls c there) w
 step_keeps t moment step b d Wake fx now s w = stepped t moment step b d Wake fx now b.calls s (λ c there. goes_same b.calls c there) w
@@ -205,6 +206,7 @@ pub record StepLeaves (now : Stamp) (i : Input) (fx : Effects) (b : Machine) : T
 step_leaves : (now : Stamp) (i : Input) (fx : Effects) (b : Machine) → StepLeaves now i fx b
 step_leaves now (Told n a) fx b = record { up = refl; used = refl; ended = refl; daemon = refl }
 step_leaves now (Line text) fx b = record { up = refl; used = refl; ended = refl; daemon = refl }
+step_leaves now (Number text) fx b = record { up = refl; used = refl; ended = refl; daemon = refl }
 step_leaves now (Exit p) fx b = record { up = refl; used = refl; ended = refl; daemon = refl }
 step_leaves now (Spawned p ok) fx b = record { up = refl; used = refl; ended = refl; daemon = refl }
 step_leaves now Wake fx b = record { up = refl; used = refl; ended = refl; daemon = refl }
