@@ -1,12 +1,13 @@
--- A session that holds a resource shared has done so without a gap since a ballot of its own: a grant that rests on no ballot stands beside
--- a shared holding that the session had before the step, under its instance. So each holding goes back to a ballot of its own instance.
+-- A session that holds a resource shared has done so without a gap since a ballot of its own or a conversion: a grant that rests on neither
+-- stands beside a shared holding that the session had before the step, under its instance. So each holding goes back to a ballot or a
+-- conversion of its own instance.
 use Rattle.sl_holding_law.proofs.Granted.{held_or_given, stands_first, stands_longer}
 use Rattle.sl_holding_law.proofs.Places.{HeldOn, held_on, shared_there, the_shared}
 use Rattle.sl_holding_law.proofs.Standing.{stands_behind}
 use Rattle.sl_holding_law.specs.Granting.{SharedHoldingsBegin, SharedRun, SharedRunUnder, SharedRunsBegin}
 use Rattle.sl_law.proofs.LawFacts.{lawful-front}
 use Rattle.sl_law.specs.Lawful.{Lawful}
-use Rattle.sl_law.specs.LawfulModes.{HoldsSharedUnder, LawfulExclusiveGrant, LawfulSharedGrant, SharedByBallot}
+use Rattle.sl_law.specs.LawfulModes.{HoldsSharedUnder, LawfulExclusiveGrant, LawfulSharedGrant, SharedByBallot, SharedByConversion}
 use Rattle.sl_plain.proofs.Lists.{contains_none}
 use Rattle.sl_session_law.proofs.Owning.{session_more}
 use Rattle.sl_session_law.specs.Promises.{IsSession}
@@ -29,9 +30,9 @@ was_session st e past g s law its held mine =
     let same : r.session ≡ s = one_value r.session s (session_numbered st (e ∷ past) g.session) (session_more st e past g.session r.session r.known) known in
     ap (λ n. session_numbered st past n) (sym mine) ∙ r.known ∙ ap (λ x. Some x) same
 
-run_now : (st : Setting) (e : Entry) (past : Trace) (s : Session) (at : Spot) (n : ℕ) → has_shared_on (e ∷ past) s at ≡ true → SharedByBallot st (e ∷ past) s at n
-    → SharedRunUnder st (e ∷ past) s at n
-run_now st e past s at n shared ballot =
+run_now : (st : Setting) (e : Entry) (past : Trace) (s : Session) (at : Spot) (n : ℕ) → has_shared_on (e ∷ past) s at ≡ true
+    → SharedByBallot st (e ∷ past) s at n ⊎ SharedByConversion st past (e ∷ past) s at n → SharedRunUnder st (e ∷ past) s at n
+run_now st e past s at n shared rests =
     record {
       run = record {
         later = [];
@@ -39,7 +40,7 @@ run_now st e past s at n shared ballot =
         past = past;
         whole = refl;
         instance = n;
-        ballot = ballot;
+        rests = rests;
         stood = stands_first (λ older. IsTrue (has_shared_on (older ++ e ∷ past) s at)) shared;
       };
       under = refl;
@@ -56,7 +57,7 @@ run_before st e past s at k n shared same u =
         past = r.past;
         whole = ap (λ zs. e ∷ zs) r.whole;
         instance = r.instance;
-        ballot = r.ballot;
+        rests = r.rests;
         stood = stands_longer (λ older. IsTrue (has_shared_on (older ++ r.entry ∷ r.past) s at)) e r.later
             (subst (λ t. has_shared_on (e ∷ t) s at ≡ true) r.whole shared) r.stood;
       };
@@ -66,7 +67,7 @@ run_before st e past s at k n shared same u =
 run_granted : (st : Setting) (e : Entry) (past : Trace) (s : Session) (at : Spot) → has_shared_on (e ∷ past) s at ≡ true
     → ((h : Grant) → HeldOn past s at h → is_shared h.mode ≡ true → SharedRunUnder st past s at h.lver) → (n : ℕ) → LawfulSharedGrant st past (e ∷ past) s at n
     → SharedRunUnder st (e ∷ past) s at n
-run_granted st e past s at shared before n (inr ballot) = run_now st e past s at n shared ballot
+run_granted st e past s at shared before n (inr rests) = run_now st e past s at n shared rests
 run_granted st e past s at shared before n (inl beside) =
     let h : HoldsSharedUnder past s at n = beside in run_before st e past s at h.0.lver n shared h.3 (before h.0 (held_on past s at h.0 h.1) h.2)
 

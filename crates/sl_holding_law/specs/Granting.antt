@@ -1,13 +1,13 @@
 -- How a holding of a trace came about: by a grant, after which it stood without a gap.
 use Rattle.sl_law.specs.Lawful.{Lawful}
-use Rattle.sl_law.specs.LawfulModes.{SharedByBallot}
+use Rattle.sl_law.specs.LawfulModes.{SharedByBallot, SharedByConversion}
 use Rattle.sl_leases.specs.Leases.{has_shared_on, holdings_on, is_free_write, lease_calls}
 use Rattle.sl_sessions.specs.Sessions.{Session, calls_of, free_write, is_joined, session_numbered}
 use Rattle.sl_trace.specs.Traces.{Setting, Submitted, Trace, holdings, is_shared, same_place}
 use Rattle.sl_trace.specs.declared.effects.Entry.{Entry}
 use Rattle.sl_trace.specs.declared.effects.Grant.{Grant}
 use Rattle.sl_trace.specs.declared.effects.Spot.{Spot}
-use Rattle.std.specs.Prelude.{Contains, IsFalse, IsTrue, None, Some, ℕ, ◌&&◌, ◌++◌, ◌∷◌, ◌≡◌}
+use Rattle.std.specs.Prelude.{Contains, IsFalse, IsTrue, None, Some, ℕ, ◌&&◌, ◌++◌, ◌∷◌, ◌≡◌, ◌⊎◌}
 
 -- The entry that granted it, from which on it stood.
 pub record GrantedIn (es : Trace) (g : Grant) : Type 0 where
@@ -37,14 +37,15 @@ ExclusivesAreUnfreed = (st : Setting) (es : Trace) → Lawful st es → (s : Ses
     → Contains (holdings_on es s at) g → IsFalse (is_shared g.mode) → (d : Submitted) → Contains (lease_calls st es s at) d
     → IsFalse (is_free_write g.lver d)
 
--- A session that holds a resource shared has done so without a gap since a grant that came by a ballot of its own.
+-- A session that holds a resource shared has done so without a gap since a grant that came by a ballot of its own, or by the conversion of
+-- what it held exclusive.
 pub record SharedRun (st : Setting) (es : Trace) (s : Session) (at : Spot) : Type 0 where
   pub later : Trace
   pub entry : Entry
   pub past : Trace
   pub whole : es ≡ later ++ entry ∷ past
   pub instance : ℕ
-  pub ballot : SharedByBallot st (entry ∷ past) s at instance
+  pub rests : SharedByBallot st (entry ∷ past) s at instance ⊎ SharedByConversion st past (entry ∷ past) s at instance
   pub stood : (newer older : Trace) → later ≡ newer ++ older → IsTrue (has_shared_on (older ++ entry ∷ past) s at)
 
 abbrev pub SharedRunsBegin : Type 0
