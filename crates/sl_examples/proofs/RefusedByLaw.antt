@@ -14,7 +14,7 @@ use Rattle.sl_examples.specs.Cheap.{cheap_digest}
 use Rattle.sl_examples.specs.Making.{block, leader, quiet_entry, reads, with_calls, with_moves, writes}
 use Rattle.sl_law.specs.LawfulArea.{LawfulArea, open_block_work}
 use Rattle.sl_law.specs.LawfulDelta.{LawfulDelta, LawfulRenewal}
-use Rattle.sl_law.specs.LawfulRecovery.{LawfulRecovery, MayPart}
+use Rattle.sl_law.specs.LawfulParting.{LawfulParting, MayPart}
 use Rattle.sl_law.specs.Saying.{cut_at}
 use Rattle.sl_leases.specs.Ballots.{instance_of, phase1_block, phase2_block, stop_of}
 use Rattle.sl_leases.specs.LeaseWork.{area_next, begin_next, lease_next, settle_next}
@@ -108,7 +108,7 @@ unfolding after_answer after_answer_of after_end after_free after_input after_jo
 no_reason (inl r) = let wrong : ◌≡◌ {A = Bool} false true = r.0 in absurd cc
 no_reason (inr r) = let wrong : ◌≡◌ {A = Option Submitted} None (Some r.0) = r.2 in absurd cc
 
-pub not_parted : LawfulRecovery st [] removing → ⊥
+pub not_parted : LawfulParting st [] removing → ⊥
 unfolding after_answer after_answer_of after_end after_free after_input after_join_answer after_lease_answer after_renewal after_request_read after_see_request after_survey after_value_read area_next before_input begin_next begin_recoveries begin_recovery begins block_rules carry_decision carry_delta carry_lease checked_part count_event decided decoded delta_rules digits due due_step event_forms event_tests field_bytes fields_of finish finish_session first_change forms goes_on_with header_forms header_of header_tests initial_record instance_of join_on_wake kill_holders kills known leader_rules lease_next leave_holdings locks_after lvm_forms lvm_turn machine_of_header magic next_after_deciding next_after_first next_after_verify next_after_watch next_in_joining next_on_wake next_renewal on_exit on_line on_spawned on_wake padded_text pass_tests phase1_block phase2_block refuse renew_on_wake reply_words request_refusal request_rules see_requests settle settle_next settle_on_wake settlings signal_and_refuse spelling stop_of take_input time_out time_outs told_effects u32_at u32_bytes u64_at u64_bytes value_rules
 not_parted h = no_reason (h.parts_well session_a (0, omega arith, refl) refl refl)
 

@@ -7,7 +7,8 @@ use Rattle.sl_law.specs.LawfulDelta.{is_on_own_sector}
 use Rattle.sl_law.specs.LawfulEnd.{gives_up}
 use Rattle.sl_law.specs.LawfulLeader.{holds_under, open_writes_on}
 use Rattle.sl_law.specs.LawfulModes.{shared_since}
-use Rattle.sl_law.specs.LawfulRecovery.{is_leaving_write, was_killed}
+use Rattle.sl_law.specs.LawfulParting.{is_leaving_write}
+use Rattle.sl_law.specs.LawfulRecovery.{was_killed}
 use Rattle.sl_law.specs.LawfulValue.{held_since, writes_since}
 use Rattle.sl_law.specs.LawfulWatchdog.{acts_until, is_covered}
 use Rattle.sl_law.specs.Saying.{cut_at, newest_moves, older}

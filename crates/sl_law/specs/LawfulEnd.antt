@@ -1,5 +1,5 @@
 -- When a holding may end. Safety asks nothing of it; that a holder keeps what it was granted rests on it.
-use Rattle.sl_trace.specs.Traces.{Setting, Trace, end_of, holdings, is_ended_by, is_orphan, line_in, same_place}
+use Rattle.sl_trace.specs.Traces.{Setting, Trace, end_of, holdings, is_orphan, line_in, same_place}
 use Rattle.sl_trace.specs.declared.command.Command.TheVariants.{Release, ReleaseOrphan}
 use Rattle.sl_trace.specs.declared.command.Command.{Command}
 use Rattle.sl_trace.specs.declared.effects.End.{End}
@@ -37,5 +37,3 @@ pub record LawfulEnding (st : Setting) (past : Trace) (e : Entry) (x : End) : Ty
 -- Lawful ends.
 pub record LawfulEnd (st : Setting) (past : Trace) (e : Entry) : Type 0 where
   pub each : (x : End) → Contains e.effects.ends x → LawfulEnding st past e x
-  -- what nobody uses any more would be held for ever
-  pub all : (g : Grant) → Contains (holdings past) g → e.input ≡ Exit g.process → IsTrue (is_ended_by e.effects.ends g)

@@ -1,7 +1,7 @@
--- What holds after every event of a run whose traces are lawful.
+-- What holds after every event of a run whose traces are orderly.
 use Rattle.sl_area.specs.Layouts.{record_in}
 use Rattle.sl_area.specs.Places.{block_offset, is_base}
-use Rattle.sl_law.specs.Lawful.{Lawful}
+use Rattle.sl_law.specs.Lawful.{Orderly}
 use Rattle.sl_leases.specs.Leases.{Phase1_write, block_written, ended_ballots, holdings_on, is_at, lease_calls}
 use Rattle.sl_run.specs.Conflicts.{IsExclusive}
 use Rattle.sl_run.specs.Headers.{IsHeader}
@@ -30,12 +30,13 @@ use Rattle.std.specs.Prelude.{Bool, Contains, IsFalse, IsSome, IsTrue, List, Opt
 abbrev pub world_at : Program → Header → List Happening → World
 world_at program h xs = world_after (world_with program h) xs
 
--- A run whose daemons all have lawful traces. Nothing is asked of the program but that its digest has 32 bytes.
+-- A run that is lawful so far as safety asks: its daemons all have orderly traces. Nothing is asked of the program but that its digest
+-- has 32 bytes.
 pub record LawfulRun (program : Program) (h : Header) (xs : List Happening) : Type 0 where
   pub header : IsHeader h
   pub digest : IsDigest program.digest
   pub is_run : IsRun (world_with program h) xs
-  pub lawful : EachDaemon Lawful (world_at program h xs)
+  pub lawful : EachDaemon Orderly (world_at program h xs)
 
 -- ---- the sessions of a world
 
