@@ -22,8 +22,8 @@ use Rattle.sl_holding_law.proofs.Places.{held_on, on_held, the_shared}
 use Rattle.sl_holding_law.proofs.Sharing.{shared_holdings_begin}
 use Rattle.sl_holding_law.specs.Granting.{SharedRun}
 use Rattle.sl_holdings.specs.Holdings.{IsSharedTo, SharedGrant}
-use Rattle.sl_law.proofs.LawFacts.{lawful-front}
-use Rattle.sl_law.specs.Lawful.{Lawful}
+use Rattle.sl_law.proofs.LawFacts.{orderly-front}
+use Rattle.sl_law.specs.Lawful.{Orderly}
 use Rattle.sl_law.specs.LawfulModes.{SharedByBallot}
 use Rattle.sl_leases.specs.Leases.{ended_ballot, ended_ballots, has_shared_on, is_free_write, lease_calls}
 use Rattle.sl_place_law.proofs.Looks.{answered_below}
@@ -195,11 +195,11 @@ shared_to p h xs r i f k alive =
       refl,
     )
 
-is_placed : (st : Setting) (es : Trace) → Lawful st es → (g : Grant) → Contains (holdings es) g → is_base st.layout g.offset ≡ true
+is_placed : (st : Setting) (es : Trace) → Orderly st es → (g : Grant) → Contains (holdings es) g → is_base st.layout g.offset ≡ true
 is_placed st es law g has =
     let from = holdings_are_granted es g has in
     let front : Trace = from.entry ∷ from.past in
-    let here : Lawful st front = lawful-front st from.later front (subst (λ z. Lawful st z) from.whole law) in
+    let here : Orderly st front = orderly-front st from.later front (subst (λ z. Orderly st z) from.whole law) in
     let s = some_of (session_numbered st front g.session) (here.granting.0.owned g from.given) in
     (here.granting.0.each g s.0 from.given s.1).placed
 

@@ -8,7 +8,7 @@ use Rattle.sl_holding_law.proofs.Agreeing.{one_daemon_agrees}
 use Rattle.sl_holding_law.proofs.Standing.{held_of, holders_stand}
 use Rattle.sl_holding_law.specs.Granting.{HeldUnder}
 use Rattle.sl_holding_law.specs.Holders.{HeldBy, HoldingsAreHeld, OneMachineAgrees, RestsOn}
-use Rattle.sl_law.specs.Lawful.{Lawful}
+use Rattle.sl_law.specs.Lawful.{Orderly}
 use Rattle.sl_lease_law.proofs.NumberLaws.{number_is_place}
 use Rattle.sl_plain.proofs.Lists.{contains_cases, contains_none, got_inside, in_map}
 use Rattle.sl_plain.proofs.Numbers.{one_less}
@@ -80,7 +80,7 @@ record IsOfDaemon (w : World) (x : Holding) : Type 0 where
   running : since_restart machine ≡ Some daemon
   others : List Daemon
   first : daemons_on machine ≡ daemon ∷ others
-  lawful : Lawful daemon.setting daemon.trace
+  lawful : Orderly daemon.setting daemon.trace
   has : Contains machine.holdings x.held
   left : IsLeft (holdings daemon.trace) machine.holdings x.held
 
@@ -186,7 +186,7 @@ pub holdings_are_held : HoldingsAreHeld
 holdings_are_held p h xs run x there = let o : IsOfDaemon (world_at p h xs) x = of_daemon p h xs run x there in rests_by p h xs run x o o.left
 
 -- Of what is left, as of what was held: an orphan stands for the holding of its process, which holds nothing else any more.
-left_agree : (st : Setting) (es : Trace) → Lawful st es → (now : List Grant) (a b : Grant) → Contains now a → Contains now b → IsLeft (holdings es) now a
+left_agree : (st : Setting) (es : Trace) → Orderly st es → (now : List Grant) (a b : Grant) → Contains now a → Contains now b → IsLeft (holdings es) now a
     → IsLeft (holdings es) now b → same_place a.path a.offset b.path b.offset ≡ true → (a.process ≡ b.process → ⊥) → (is_shared a.mode && is_shared b.mode) ≡ true
 left_agree st es law now a b one two (Held_on x) (Held_on y) same differ = one_daemon_agrees st es law a b x y same differ
 left_agree st es law now a b one two (Held_on x) (Orphaned k y persistent is gone) same differ =

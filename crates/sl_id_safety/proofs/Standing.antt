@@ -19,7 +19,7 @@ use Rattle.sl_id_state.specs.IdStates.{blank, claim_bytes, deciding_sample, gene
 use Rattle.sl_id_state.specs.Promises.{IsIdPlace}
 use Rattle.sl_id_steps.proofs.Alive.{joins_at as joins, not_claim}
 use Rattle.sl_ids.specs.State.{Session as IdSession}
-use Rattle.sl_law.specs.Lawful.{Lawful}
+use Rattle.sl_law.specs.Lawful.{Orderly}
 use Rattle.sl_law.specs.LawfulDelta.{LawfulJoin}
 use Rattle.sl_law.specs.Saying.{cut_at}
 use Rattle.sl_place_law.proofs.Areas.{IsSized, lockspace_aligned}

@@ -1,6 +1,6 @@
 -- Each call of a trace has its front.
-use Rattle.sl_law.proofs.LawFacts.{lawful-front}
-use Rattle.sl_law.specs.Lawful.{Lawful}
+use Rattle.sl_law.proofs.LawFacts.{orderly-front}
+use Rattle.sl_law.specs.Lawful.{Orderly}
 use Rattle.sl_law.specs.Saying.{cut_at}
 use Rattle.sl_lease_law.specs.Fronts.{Aged, AllAged, LawfulSubmission, Submission}
 use Rattle.sl_lease_law.specs.Promises.{EachWasSubmitted}
@@ -216,10 +216,10 @@ session_stays st (e ∷ later) es n s h =
     got_before (sessions st (later ++ es)) (begun_in st (later ++ es) (length (sessions st (later ++ es))) e) n s (session_stays st later es n s h)
 
 -- The laws hold at the front.
-pub lawful_there : (st : Setting) (es : Trace) → Lawful st es → (c : Submitted) (older : List Submitted) → (h : Submission es c older) → Lawful st (h.entry ∷ h.past)
-lawful_there st es law c older h = lawful-front st h.later (h.entry ∷ h.past) (subst (λ t. Lawful st t) h.whole law)
+pub lawful_there : (st : Setting) (es : Trace) → Orderly st es → (c : Submitted) (older : List Submitted) → (h : Submission es c older) → Orderly st (h.entry ∷ h.past)
+lawful_there st es law c older h = orderly-front st h.later (h.entry ∷ h.past) (subst (λ t. Orderly st t) h.whole law)
 
-pub lawful_submission : (st : Setting) (es : Trace) → Lawful st es → (c : Submitted) (older : List Submitted) → Submission es c older → LawfulSubmission st es c older
+pub lawful_submission : (st : Setting) (es : Trace) → Orderly st es → (c : Submitted) (older : List Submitted) → Submission es c older → LawfulSubmission st es c older
 lawful_submission st es law c older h =
     let owner : (s : Session) × (session_numbered st (h.entry ∷ h.past) h.call.session ≡ Some s) =
     some_of (session_numbered st (h.entry ∷ h.past) h.call.session)

@@ -2,7 +2,7 @@
 use Rattle.sl_area.specs.Layouts.{Layout, record_in}
 use Rattle.sl_area.specs.Places.{in_area, leader_of, sector_of}
 use Rattle.sl_course_law.specs.Stamping.{stamp_in}
-use Rattle.sl_law.specs.Lawful.{Lawful}
+use Rattle.sl_law.specs.Lawful.{Orderly}
 use Rattle.sl_law.specs.LawfulArea.{HasVerified, IsRightRead, is_leader_read, leaders_read}
 use Rattle.sl_place_law.proofs.Areas.{IsSized, base_aligned, resource_aligned, same_base, sector_fits}
 use Rattle.sl_place_law.proofs.Beginnings.{In_lockspace, In_resource, IsInitial}
@@ -83,7 +83,7 @@ base_read st at c SeeRequest h law = absurd (false_is_true h)
 base_read st at c (ValueWrite j) h law = absurd (false_is_true h)
 base_read st at c (ValueRead j) h law = absurd (false_is_true h)
 
-right_read : (st : Setting) (es : Trace) (s : Session) (q : Submitted) → Lawful st es → IsSession st es s → Contains (submitted es) q → q.call.session ≡ s.number
+right_read : (st : Setting) (es : Trace) (s : Session) (q : Submitted) → Orderly st es → IsSession st es s → Contains (submitted es) q → q.call.session ≡ s.number
     → is_leader_read q.call.purpose ≡ true → IsBaseRead (spot_of_call st.layout q) q
 right_read st es s q h its there mine reads =
     let d = calls_are_made es q there in
@@ -217,7 +217,7 @@ leased_by h w s q rd resource l ok z place path base on names =
 
 -- A session that had verified the area of its call, where the landings before the call are at home.
 pub verified_leased : (p : Program) (h : Header) (xs : List Happening) → IsPromised → LawfulRun p h xs → (m : ℕ) (a : Machine) (d : Daemon) → machine_at (world_at p h xs) m ≡ Some a
-    → Contains (daemons_on a) d → Lawful d.setting d.trace → (s : Session) → IsSession d.setting d.trace s → (q : Submitted) (k : IsMade d.trace q) (made : Stamp)
+    → Contains (daemons_on a) d → Orderly d.setting d.trace → (s : Session) → IsSession d.setting d.trace s → (q : Submitted) (k : IsMade d.trace q) (made : Stamp)
     → stamp_in d.stamps q.at ≡ Some made → HomeBefore h (world_at p h xs) made.step → (resource : List ℕ)
     → HasVerified d.setting (front_of k) s (spot_of_call d.setting.layout (made_as k)) resource → IsLeased h (world_at p h xs) s q resource
 verified_leased p h xs b run m a d is has law s its q k made stamped home resource verified =

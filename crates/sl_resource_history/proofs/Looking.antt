@@ -1,7 +1,7 @@
 -- A read of blocks that was answered: the blocks that it gave were written on the area before, or are fresh.
 use Rattle.sl_area.specs.Layouts.{Layout, record_in}
 use Rattle.sl_area.specs.Places.{area_blocks, block_offset, blocks_in, read_at, sector_of}
-use Rattle.sl_law.specs.Lawful.{Lawful}
+use Rattle.sl_law.specs.Lawful.{Orderly}
 use Rattle.sl_law.specs.LawfulArea.{IsAreaRead, IsBlockRead}
 use Rattle.sl_leases.specs.Leases.{blocks_given, is_area_read, is_phase_read, spot_of_call}
 use Rattle.sl_place_law.proofs.Areas.{IsSized}
@@ -88,7 +88,7 @@ pub record IsLook (p : Program) (h : Header) (xs : List Happening) (m : ℕ) (a 
   pub run : LawfulRun p h xs
   pub at : machine_at (world_at p h xs) m ≡ Some a
   pub has : Contains (daemons_on a) d
-  pub lawful : Lawful d.setting d.trace
+  pub lawful : Orderly d.setting d.trace
   pub session : Session
   pub its : IsSession d.setting d.trace session
   pub there : Contains (submitted d.trace) q

@@ -1,6 +1,6 @@
 -- A step of a machine's daemon, or of the machine itself, leaves it watched.
 use Rattle.sl_course_law.specs.Mirrors.{AreNumbered, since_restart}
-use Rattle.sl_law.specs.Lawful.{Lawful}
+use Rattle.sl_law.specs.Lawful.{Orderly}
 use Rattle.sl_plain.proofs.Lists.{contains_cases, contains_first, contains_none, kept_inside}
 use Rattle.sl_run.specs.Events.{after_effects, after_step, daemon_number, new_course, with_entry}
 use Rattle.sl_run.specs.Worlds.{Course, Daemon, Machine, Stamp, daemons_on, may_land, reading_now, resets_after}
@@ -70,7 +70,7 @@ pub record IsStepping (t : TimingNumbers) (step : ℕ) (b : Machine) (d : Daemon
   pub used : b.used ≡ true
   pub now_is : now.step ≡ step
   pub reading : e.reading ≡ reading_of b.clock
-  pub lawful : Lawful d.setting (e ∷ d.trace)
+  pub lawful : Orderly d.setting (e ∷ d.trace)
   pub some : 0 < fail d.setting.timing
   pub apart : (x : Daemon) → Contains b.ended x → x.number ≡ d.number → ⊥
 
