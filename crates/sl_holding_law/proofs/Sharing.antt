@@ -22,7 +22,7 @@ use Rattle.std.proofs.Common.{ap, inl, inr, refl, subst, sym, ◌∙◌}
 use Rattle.std.specs.Prelude.{Contains, IsTrue, MatchBool, Some, true, [], ℕ, ◌++◌, ◌∷◌, ◌≡◌, ◌⊎◌}
 
 -- A holder's session was one before the entry.
-was_session : (st : Setting) (e : Entry) (past : Trace) (g : Grant) (s : Session) → Orderly st past → IsSession st (e ∷ past) s → Contains (holdings past) g → g.session ≡ s.number
+pub was_session : (st : Setting) (e : Entry) (past : Trace) (g : Grant) (s : Session) → Orderly st past → IsSession st (e ∷ past) s → Contains (holdings past) g → g.session ≡ s.number
     → IsSession st past s
 was_session st e past g s law its held mine =
     let r = stands_behind st past law g held in
