@@ -4,7 +4,7 @@ use Rattle.sl_area.specs.Places.{area_blocks, block_offset, is_base, leader_of, 
 use Rattle.sl_law.specs.LawfulArea.{is_area_work, is_block_work, is_delta_record, leaders_read, open_block_work, record_offset}
 use Rattle.sl_law.specs.LawfulCalls.{may_submit}
 use Rattle.sl_law.specs.LawfulDelta.{is_on_own_sector}
-use Rattle.sl_law.specs.LawfulEnd.{gives_up}
+use Rattle.sl_law.specs.LawfulEnd.{gives_up, takes_over}
 use Rattle.sl_law.specs.LawfulLeader.{holds_under, open_writes_on}
 use Rattle.sl_law.specs.LawfulModes.{shared_since}
 use Rattle.sl_law.specs.LawfulParting.{is_leaving_write}
@@ -465,21 +465,22 @@ abbrev pub grant_test : Setting → Trace → Entry → Bool
 grant_test st past e =
     each_grant st (grant_to_test st (e ∷ past)) past e
     && list_all (λ g. implies (is_orphan g) (orphan_test past e g)) e.effects.grants
-    && list_all (λ h. implies (some_is (λ p. p == h.process) (exited_by e.input) && h.persistent) (has_orphan_of (holdings (e ∷ past)) h)) (holdings past)
+    && list_all (λ h. implies (not (is_orphan h) && some_is (λ p. p == h.process) (exited_by e.input) && h.persistent) (has_orphan_of (holdings (e ∷ past)) h)) (holdings past)
 
 -- Why a holding ends.
 abbrev pub end_reason_test : Setting → Entry → Grant → Bool
 end_reason_test st e g =
-    some_is (λ p. p == g.process) (exited_by e.input)
+    not (is_orphan g) && some_is (λ p. p == g.process) (exited_by e.input)
     || elim e.input [ Spawned p ok ↦ p == g.process && not ok | _ ↦ false ]
     || some_is (λ text. gives_up g (st.read text)) (line_in e.input)
-    || list_any (λ h. same_place h.path h.offset g.path g.offset && (h.process == g.process || is_orphan g)) e.effects.grants
+    || list_any (λ h. same_place h.path h.offset g.path g.offset
+    && (h.process == g.process && same_truth h.persistent g.persistent || some_is (λ text. takes_over g h (st.read text)) (line_in e.input))) e.effects.grants
 
 -- The law of ends.
 abbrev pub end_test : Setting → Trace → Entry → Bool
 end_test st past e =
     list_all (λ x. list_any (λ g. g.process == x.process && same_place g.path g.offset x.path x.offset && end_reason_test st e g) (holdings past)) e.effects.ends
-    && list_all (λ g. implies (some_is (λ p. p == g.process) (exited_by e.input)) (is_ended_by e.effects.ends g)) (holdings past)
+    && list_all (λ g. implies (not (is_orphan g) && some_is (λ p. p == g.process) (exited_by e.input)) (is_ended_by e.effects.ends g)) (holdings past)
 
 -- ---- watchdog, recovery, values
 
