@@ -3,6 +3,7 @@ use Rattle.sl_moment_law.proofs.Keeping.{CallsAdd, CourseAdds, From, IsNow, call
 use Rattle.sl_moment_law.specs.Moments.{stamps_on}
 use Rattle.sl_plain.proofs.Lists.{contains_cases, contains_none}
 use Rattle.sl_run.specs.Events.{after_crash, after_effects, after_reset, after_restart, after_start, after_step, after_test, change_call, close_answered, daemon_number, fated, first_change, happens, machine_of, next_input, next_step, passed, sample_at, sampled_more, sectors_left, take_step, take_steps, with_entry}
+use Rattle.sl_run.specs.Locks.{Locks}
 use Rattle.sl_run.specs.Worlds.{Course, Daemon, Dropped, Fate, Landed, Machine, Sampling, Stamp, Torn, World, change_machine, daemons_on, machine_at, new_daemon, next_numbers, reading_now, setting_of, stamp_now}
 use Rattle.sl_run.specs.declared.event.Event.{Event}
 use Rattle.sl_run_law.proofs.Going.{event_goes, first_goes}
@@ -151,9 +152,10 @@ closed_adds N now Wake a is = same_still N 0 a
 closed_adds N now (Exit p) a is = same_still N 0 a
 closed_adds N now (Spawned p ok) a is = same_still N 0 a
 
--- The running daemon has one more entry.
-enters : (N : ℕ → ℕ → Type 0) (e : Entry) (now : Stamp) (a : Machine) → IsNow N a.clock now → AddsStill N a (record a { daemon = option_map (with_entry e now) a.daemon })
-enters N e now a is =
+-- The running daemon has one more entry, whatever lvmlockd's locks.
+enters : (N : ℕ → ℕ → Type 0) (e : Entry) (now : Stamp) (locks : Locks) (a : Machine) → IsNow N a.clock now
+    → AddsStill N a (record a { daemon = option_map (with_entry e now) a.daemon; locks = locks })
+enters N e now locks a is =
     record {
       adds = record {
         kept = from_same N a.clock (a.kept ∷ []);
@@ -172,7 +174,7 @@ step_adds N now i fx a is =
     let here : IsNow N b.clock now = (is.0, is.1 ∙ sym closed.clock) in
     let went : AddsStill N b c = record { adds = effects_add N now fx b here; clock = refl } in
     let e : Entry = record { reading = reading_now a; input = i; effects = fx } in
-    still_again N a c (after_step now i fx a) (still_again N a b c closed went) (enters N e now c here)
+    still_again N a c (after_step now i fx a) (still_again N a b c closed went) (enters N e now (after_step now i fx a).locks c here)
 
 reset_adds : (N : ℕ → ℕ → Type 0) (w : World) (a : Machine) → N w.step w.moment → Adds N a (after_reset w a)
 reset_adds N w a now =

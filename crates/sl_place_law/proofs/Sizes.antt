@@ -5,7 +5,7 @@ use Rattle.sl_sector.specs.Spelling.{IsSectorSize}
 use Rattle.sl_words.proofs.CaseLaws.{false_is_true}
 use Rattle.sl_words.proofs.WordLaws.{and_true, or_true}
 use Rattle.std.proofs.Common.{ap, arith, inl, inr, refl, subst, sym, ◌∙◌}
-use Rattle.std.proofs.Math.Nat.{add-sub_cancel_left, mod-le, mul-div_cancel_left, mul-mod_left}
+use Rattle.std.proofs.Math.Nat.{add-sub_cancel_left, mod-le, mul-div_cancel_left, mul-le-mul_left, mul-mod_left}
 use Rattle.std.proofs.lemmas.Bool.Decides.{Decides-eqb}
 use Rattle.std.proofs.lemmas.Nat.{div-add-mod', div-mul-add, mod_below}
 use Rattle.std.specs.Int.{is_in_range}
@@ -116,7 +116,7 @@ number_of_slot s base k some = ap (λ n. n / s) (add-sub_cancel_left base (s * k
 -- Below the room of the area.
 pub slot_below : (s base k n area : ℕ) → 0 < s → k ≤ n + 2 → s * (n + 3) ≤ area → base + s * k < base + area
 slot_below s base k n area some most fits =
-    let upto : s * k ≤ s * (n + 2) = grind (arith, most) in
+    let upto : s * k ≤ s * (n + 2) = mul-le-mul_left s most in
     let more : s * (n + 3) ≡ s * (n + 2) + s = grind arith in
     omega (arith, some, upto, more, fits)
 

@@ -45,6 +45,7 @@ use Rattle.sl_trace.specs.declared.effects.Work.{Work}
 use Rattle.sl_words.proofs.CaseLaws.{false_is_true, none_some, one_value, some_value}
 use Rattle.sl_words.proofs.WordLaws.{and_true}
 use Rattle.std.proofs.Common.{ap, arith, inl, inr, refl, subst, sym, ◌∙◌}
+use Rattle.std.proofs.Math.Nat.{mul-le-mul_left}
 use Rattle.std.proofs.lemmas.Bool.{and_from, eq-eqb, eqb-true, leb-true}
 use Rattle.std.specs.Option.{option_map_or}
 use Rattle.std.specs.Prelude.{Bool, Contains, IsTrue, List, None, Option, Some, [], bytes_eq, false, find, if◌then◌else◌, is_some, nat_le, option_and_then, slice_get, true, ℕ, ◌*◌, ◌+◌, ◌-◌, ◌<◌, ◌==◌, ◌∷◌, ◌≡◌, ◌≤◌, ◌⊎◌}
@@ -67,13 +68,16 @@ place_within w base k z host =
 no_request : (base s k : ℕ) → 0 < s → 1 ≤ k → base + s ≡ base + s * (k + 1) → ⊥
 no_request base s k some low h =
     let more : s * (k + 1) ≡ s * k + s = grind arith in
-    let most : s * 1 ≤ s * k = grind (arith, low) in
+    let most : s * 1 ≤ s * k = mul-le-mul_left s low in
     let one : s * 1 ≡ s = grind arith in
     omega (arith, some, h, more, most, one)
 
+one_more : (k hosts : ℕ) → k ≤ hosts → k + 1 ≤ hosts + 1
+one_more k hosts high = omega (arith, high)
+
 no_value : (base s area k hosts : ℕ) → 0 < s → k ≤ hosts → s * (hosts + 3) ≤ area → base + area - s ≡ base + s * (k + 1) → ⊥
 no_value base s area k hosts some high room h =
-    let most : s * (k + 1) ≤ s * (hosts + 1) = grind (arith, high) in
+    let most : s * (k + 1) ≤ s * (hosts + 1) = mul-le-mul_left s (one_more k hosts high) in
     let more : s * (hosts + 3) ≡ s * (hosts + 1) + s * 2 = grind arith in
     let two : s * 2 ≡ s + s = grind arith in
     omega (arith, some, most, more, two, room, h)
