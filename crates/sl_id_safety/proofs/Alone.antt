@@ -9,7 +9,7 @@ use Rattle.sl_id_safety.specs.Standing.{StandsJoined, sector_offset}
 use Rattle.sl_id_state.proofs.Bridge.{known}
 use Rattle.sl_id_state.proofs.Members.{pair_of}
 use Rattle.sl_id_state.proofs.Proven.{grounds}
-use Rattle.sl_id_state.specs.IdStates.{id_state, index_of, is_left_by, join_course, landing_of, name_of, own_courses, submitter_of, submitter_on, writer_of}
+use Rattle.sl_id_state.specs.IdStates.{holder_at, id_state, index_of, is_left_by, join_course, landing_of, name_of, own_courses, submitter_of, submitter_on, writer_of}
 use Rattle.sl_id_steps.proofs.Counted.{left_name}
 use Rattle.sl_id_steps.proofs.RenewalCalls.{IsNumbered, lesser, numbered}
 use Rattle.sl_id_world.specs.Reaching.{IdsAreReached}
@@ -52,7 +52,7 @@ own_of_writer p h xs run i f its l there wrote =
     let w : World = world_at p h xs in
     let k = landings_are_written p h xs run l there in
     let named : submitter_of w (k.machine, k.call) ≡ Some (name_of i) =
-    sym (ap (λ o. elim o as (λ z. Option IdName) [ None ↦ _ | Some q ↦ submitter_of w q ]) k.named) ∙ wrote in
+    sym (ap (λ o. elim o as (λ z. Option IdName) [ None ↦ holder_at w l.path l.offset | Some q ↦ submitter_of w q ]) k.named) ∙ wrote in
     let on : submitter_on k.machine k.call k.wrote.machine ≡ Some (name_of i) =
     sym (ap (λ o. option_and_then (submitter_on k.machine k.call) o) k.wrote.at) ∙ named in
     let c = mapped_value (λ (c : Course). let n : IdName = record { machine = k.machine; daemon = c.daemon; number = c.call.session } in n)
@@ -62,10 +62,12 @@ own_of_writer p h xs run i f its l there wrote =
     let same : k.wrote.machine ≡ f.machine =
     one_value k.wrote.machine f.machine (machine_at w i.machine) (subst (λ m. machine_at w m ≡ Some k.wrote.machine) machine k.wrote.at) (session_inside w i f its).at in (
       c.0,
-      subst (λ (a : Machine). Contains a.calls c.0) same found.0,
-      same_numbers k.machine c.0.daemon c.0.call.session i.machine i.daemon i.number machine (ap (λ (n : IdName). n.daemon) c.2) (ap (λ (n : IdName). n.number) c.2),
-      k.named ∙ ap (λ m. let q : Option (ℕ × ℕ) = Some (m, k.call) in q) machine
-          ∙ ap (λ n. let q : Option (ℕ × ℕ) = Some (i.machine, n) in q) (sym (eqb-true c.0.call.number k.call found.1)),
+      (
+        subst (λ (a : Machine). Contains a.calls c.0) same found.0,
+        same_numbers k.machine c.0.daemon c.0.call.session i.machine i.daemon i.number machine (ap (λ (n : IdName). n.daemon) c.2) (ap (λ (n : IdName). n.number) c.2),
+        k.named ∙ ap (λ m. let q : Option (ℕ × ℕ) = Some (m, k.call) in q) machine
+            ∙ ap (λ n. let q : Option (ℕ × ℕ) = Some (i.machine, n) in q) (sym (eqb-true c.0.call.number k.call found.1)),
+      ),
     )
 
 -- ---- landings of one step
@@ -126,7 +128,7 @@ above_is_own reached p h xs i f l k above =
     let landing : v.landing k.number.index ≡ landing_of w l = ap (λ o. option_map_or (landing_of w) o no_landing) k.number.at in
     own_of_writer p h xs k.run i f k.its l (landed_there w path offset l k.there) (sym (ap (λ (x : IdLanding). x.writer) landing) ∙ writer)
 
-IsAlone : World → SessionId → Found → Landing → Type 0
+abbrev IsAlone : World → SessionId → Found → Landing → Type 0
 IsAlone w i f l = ((c : Course) × IsOwnLanding i f c l) ⊎ CameBeforeClaim w i f l
 
 -- Whether a landing was left by this call, and no earlier than at this step.

@@ -300,7 +300,7 @@ not_answered p h xs run m a d here has at c e q k s t one two same by =
 answered_before : (d : Daemon) (a : Machine) (at : Spot) (c e : Course) (q k : Submitted) (s t : Session) → Orderly d.setting d.trace → IsTurn a d at c q s → IsTurn a d at e k t
     → s ≡ t → (newer between older : List Submitted) → submitted d.trace ≡ newer ++ q ∷ (between ++ k ∷ older) → WasAnsweredBy k q
 answered_before d a at c e q k s t law one two same newer between older is =
-    one_at_a_time d.setting d.trace law newer between older q k is (one.mine ∙ ap (λ (x : Session). x.number) same ∙ sym two.mine) one.work one.area two.work
+    one_at_a_time d.setting d.trace law newer between older q k is (one.mine ∙ ap (λ (x : Session). x.number) same ∙ sym two.mine) one.work one.area two.work two.area
     (subst (λ y. IsTrue (is_on d.setting.layout y k.call)) (sym one.spot) two.on)
 
 turn_order : (p : Program) (h : Header) (xs : List Happening) → LawfulRun p h xs → (m : ℕ) (a : Machine) (d : Daemon) → machine_at (world_at p h xs) m ≡ Some a

@@ -176,7 +176,7 @@ answered_first p h xs run m a d here has c e q k one two by =
 turns : (d : Daemon) (a : Machine) (at : Spot) (c e : Course) (q k : Submitted) (s t : Session) → Orderly d.setting d.trace → IsTurn a d at c q s → IsTurn a d at e k t
     → q.call.session ≡ k.call.session → (newer between older : List Submitted) → submitted d.trace ≡ newer ++ q ∷ (between ++ k ∷ older) → WasAnsweredBy k q
 turns d a at c e q k s t law one two same newer between older is =
-    one_at_a_time d.setting d.trace law newer between older q k is same one.work one.area two.work
+    one_at_a_time d.setting d.trace law newer between older q k is same one.work one.area two.work two.area
     (subst (λ y. IsTrue (is_on d.setting.layout y k.call)) (sym one.spot) two.on)
 
 -- The second of two calls of a session was made after the first was answered.
