@@ -9,9 +9,9 @@ use Rattle.sl_id_steps.proofs.OtherSessions.{goes_has}
 use Rattle.sl_id_steps.specs.Parts.{between}
 use Rattle.sl_landing_law.proofs.Listing.{one_call}
 use Rattle.sl_landing_law.specs.Landings.{IsWrittenBy}
-use Rattle.sl_place_law.proofs.Areas.{sector_fits, sized}
 use Rattle.sl_place_law.proofs.Reading.{IsPromised, digest_is, layout_is, traced, writes_record}
 use Rattle.sl_place_law.proofs.Seats.{delta_within, sized_in}
+use Rattle.sl_place_law.proofs.Sizes.{sector_fits, sized}
 use Rattle.sl_place_law.specs.Homes.{IsDeltaLanding, LockspacesHoldDeltas}
 use Rattle.sl_run.specs.Events.{input_of, machine_of, spells_something, write_bytes}
 use Rattle.sl_run.specs.Runs.{Happening}

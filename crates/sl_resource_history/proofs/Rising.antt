@@ -7,12 +7,12 @@ use Rattle.sl_front_law.proofs.Having.{contains_right}
 use Rattle.sl_landing_law.proofs.Listing.{one_call}
 use Rattle.sl_landing_law.specs.Landings.{LeftBy}
 use Rattle.sl_lease_law.proofs.NumberLaws.{number_is_place}
+use Rattle.sl_place_law.proofs.Sizes.{sector_fits}
 use Rattle.sl_plain.proofs.Lists.{contains_first, there_is}
 use Rattle.sl_plain.proofs.Numbers.{back_again}
 use Rattle.sl_resource_history.proofs.Registers.{not_at_first}
 use Rattle.sl_sessions.specs.Sessions.{session_numbered}
 use Rattle.sl_leases.specs.Leases.{block_of_record, blocks_given, is_area_read, is_on, spot_of_call}
-use Rattle.sl_place_law.proofs.Areas.{sector_fits}
 use Rattle.sl_place_law.proofs.Finding.{same_read, same_text}
 use Rattle.sl_place_law.proofs.Reading.{digest_is, writes_record}
 use Rattle.sl_place_law.proofs.Seats.{sized_in}

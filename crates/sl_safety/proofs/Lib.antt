@@ -1,4 +1,4 @@
-pub mod Lawful
+pub mod Orderly
 pub mod Placed
 pub mod Excluding
 pub mod Agreeing

@@ -13,10 +13,10 @@ use Rattle.sl_id_state.proofs.Keeping.{is_place}
 use Rattle.sl_landing_law.proofs.Proven.{landings_are_written}
 use Rattle.sl_landing_law.specs.Landings.{HasWriter}
 use Rattle.sl_leases.specs.Leases.{block_of_record}
-use Rattle.sl_place_law.proofs.Areas.{sector_fits}
 use Rattle.sl_place_law.proofs.Proven.{promised}
 use Rattle.sl_place_law.proofs.Reading.{layout_is, reads_back}
 use Rattle.sl_place_law.proofs.Seats.{sized_in}
+use Rattle.sl_place_law.proofs.Sizes.{sector_fits}
 use Rattle.sl_plain.proofs.Lists.{contains_cases, contains_first, kept}
 use Rattle.sl_resource_history.proofs.Calls.{there_sent}
 use Rattle.sl_resource_history.proofs.Landed.{Name, in_order, name_of, one_sent}

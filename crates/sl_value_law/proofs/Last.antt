@@ -7,11 +7,11 @@ use Rattle.sl_id_state.proofs.Proven.{grounds}
 use Rattle.sl_id_state.proofs.Steps.{IsSampled, is_sampled}
 use Rattle.sl_landing_law.proofs.Proven.{landings_are_written}
 use Rattle.sl_landing_law.specs.Landings.{HasWriter, LeftBy}
-use Rattle.sl_place_law.proofs.Areas.{sector_fits}
 use Rattle.sl_place_law.proofs.Finding.{numbered_inside, place_is}
 use Rattle.sl_place_law.proofs.Proven.{promised}
 use Rattle.sl_place_law.proofs.Reading.{reads_back}
 use Rattle.sl_place_law.proofs.Seats.{sized_in}
+use Rattle.sl_place_law.proofs.Sizes.{sector_fits}
 use Rattle.sl_resource_history.proofs.Landed.{Name, name_of, one_sent}
 use Rattle.sl_resource_history.proofs.Shown.{in_history}
 use Rattle.sl_resource_history.specs.Sending.{Sent, step_of}
