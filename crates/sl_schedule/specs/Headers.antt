@@ -138,6 +138,15 @@ is_in_place r k = nat_le r.last k && list_all (has_least r) (range_with_len 0 k)
 abbrev pub refusal_now : HeaderSoFar → HeaderLine → Option Refusal
 refusal_now r l = first_that ((not (is_in_place r (rank l)), Syntax) ∷ header_tests (header_now r) l)
 
+-- The row of the table of sizes for sectors of these bytes and areas of so many mebibytes.
+abbrev pub row_for : ℕ → ℕ → Option (ℕ × ℕ × ℕ)
+row_for sector mebibytes =
+    if sector == 512 && mebibytes == 1 then Some (512, 1048576, 2000)
+    else (if sector == 4096 && mebibytes == 1 then Some (4096, 1048576, 250)
+    else (if sector == 4096 && mebibytes == 2 then Some (4096, 2097152, 500)
+    else (if sector == 4096 && mebibytes == 4 then Some (4096, 4194304, 1000)
+    else (if sector == 4096 && mebibytes == 8 then Some (4096, 8388608, 2000) else None))))
+
 -- Sizes of these bytes for so many hosts, where there are such.
 abbrev pub sizes_of : ℕ → ℕ → ℕ → Option Sizes
 sizes_of sector area hosts = choose (is_geometry (sizes sector area hosts)) (sizes sector area hosts)

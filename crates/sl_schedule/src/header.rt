@@ -291,8 +291,8 @@ impl HeaderReader {
         }
     }
 
-    /// The bytes of an area so far.
-    fn area_now(&self) -> u64
+    /// The bytes of an area so far, by which the next line is read.
+    pub fn area_now(&self) -> u64
         ensures exact { result ≡ (headers.sizes_now self.now).area }
         ensures some { 0 < result }
     {

@@ -11,10 +11,9 @@ use sl_area::Geometry;
 /// The bytes of a mebibyte.
 const MEBIBYTE: u64 = 1_048_576;
 
-/// The areas that a line gives, if there are such: bytes of a sector, bytes of an area, most hosts.
-#[tactic(auto, using(crate::proofs::SizeLaws::rows))]
-pub fn row_of(areas: &AreaSizes) -> Option<(u32, u64, u32)>
-    ensures { result ≡ find (λ row. row.0 == areas.now.sector && row.1 == areas.now.mebibytes * mebibyte) geometries }
+/// The row of a line's numbers.
+fn row_for(areas: &AreaSizes) -> Option<(u32, u64, u32)>
+    ensures { result ≡ headers.row_for areas.now.sector areas.now.mebibytes }
 {
     if areas.sector == 512 && areas.mebibytes == 1 {
         return Some((512, MEBIBYTE, 2000));
@@ -32,6 +31,13 @@ pub fn row_of(areas: &AreaSizes) -> Option<(u32, u64, u32)>
         return Some((4096, 8 * MEBIBYTE, 2000));
     }
     None
+}
+
+/// The areas that a line gives, if there are such: bytes of a sector, bytes of an area, most hosts.
+pub fn row_of(areas: &AreaSizes) -> Option<(u32, u64, u32)>
+    ensures { result ≡ find (λ row. row.0 == areas.now.sector && row.1 == areas.now.mebibytes * mebibyte) geometries }
+{
+    row_for(areas)
 }
 
 /// The sizes of a run with such areas and so many hosts, if there are such.
