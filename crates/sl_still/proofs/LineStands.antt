@@ -30,6 +30,7 @@ use Rattle.sl_first.proofs.Ending.{acquire_ends, release_ends}
 use Rattle.sl_first.proofs.Decisions.{here}
 use Rattle.std.specs.List.{list_any}
 use Rattle.sl_trace.specs.declared.effects.Spot.{Spot}
+use Rattle.sl_first.proofs.Growth.{same_number}
 use Rattle.std.specs.Prelude.{Bool, List, Ok, [], false, filter, if◌then◌else◌, not, true, ℕ, ◌&&◌, ◌++◌, ◌==◌, ◌∷◌, ◌≡◌, ◌||◌, length}
 
 -- ---- a line that is refused

@@ -8,7 +8,7 @@ use Rattle.sl_still.specs.StillPath.{IsLease, IsStill, SessionStands, StillLease
 use Rattle.sl_trace.specs.Traces.{Job, Setting, Trace, child_after, children, holdings, jobs, next_job, same_place}
 use Rattle.sl_trace.specs.declared.effects.Grant.{Grant}
 use Rattle.sl_trace.specs.declared.input.Input.TheVariants.{Wake}
-use Rattle.std.proofs.Common.{ap}
+use Rattle.std.proofs.Common.{ap, refl}
 use Rattle.std.proofs.lemmas.List.{append-nil}
 use Rattle.std.specs.Prelude.{List, [], filter, length, map, ℕ, ◌++◌, ◌+◌, ◌==◌, ◌≡◌}
 

@@ -102,8 +102,8 @@ holder_there st now es text r p q reads busy =
     let x : Answering = at_line st now es text (Busy q) in
     let t : Trace = before_next now es in (
       refl,
-      with_command x (Acquire r false p false) (λ c. IsTrue (is_asking_lease c) × WithSpot x (λ b at. busy_process t at (process_named c) (wants_shared c) ≡ Some q)) reads
-          (refl, with_spot x (Acquire r false p false) r (λ b at. busy_process t at (Some p) false ≡ Some q) reads refl busy),
+      inl (with_command x (Acquire r false p false) (λ c. IsTrue (is_asking_lease c) × WithSpot x (λ b at. busy_process t at (process_named c) (wants_shared c) ≡ Some q)) reads
+          (refl, with_spot x (Acquire r false p false) r (λ b at. busy_process t at (Some p) false ≡ Some q) reads refl busy)),
     )
 
 call_there : (st : Setting) (now : ℕ) (es : Trace) (text : List ℕ) (c : Command) (r : ResourceArg) (p n : ℕ) → st.read text ≡ Ok c → Names c r p
