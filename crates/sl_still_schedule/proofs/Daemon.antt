@@ -21,7 +21,7 @@ use Rattle.sl_still_schedule.specs.Promises.{StillHeadersBegin}
 use Rattle.sl_still_schedule.specs.StillHeaders.{IsStillHeader}
 use Rattle.sl_still_schedule.specs.StillWorld.{BeginsStill, still_setting}
 use Rattle.sl_text.specs.Names.{is_name}
-use Rattle.sl_trace.specs.Commands.{command_in}
+use Rattle.sl_trace.specs.Commands.{command_in, IsCommand}
 use Rattle.sl_trace.specs.Traces.{Setting}
 use Rattle.sl_trace.specs.declared.command.Command.{Command}
 use Rattle.sl_trace.specs.declared.input.Given.{Given}

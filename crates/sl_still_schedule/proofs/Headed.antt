@@ -1,7 +1,7 @@
 -- The header of lines that were taken is one of one machine that a world may begin with.
 use Rattle.sl_area.specs.Layouts.{Sizes, is_geometry}
 use Rattle.sl_plain.proofs.Lists.{any_found, in_map}
-use Rattle.sl_report.specs.ScheduleLines.{AreaLine, BeginLine, ClockLine, DiskLine, HeaderLine, HostsLine, IdsLine, LeaseLine, MemberLine, area_line, clock_line, disk_line, first_line, header_of, hosts_line, ids_line, is_on_disk, lease_line, member_line, no_timing, timing_line}
+use Rattle.sl_report.specs.ScheduleLines.{AreaLine, BeginLine, ClockLine, DiskLine, HeaderLine, HostsLine, IdsLine, LeaseLine, MemberLine, area_line, clock_line, disk_line, first_line, header_of, hosts_line, ids_line, is_on_disk, lease_line, member_line, no_timing, timing_line, geometry_line, retries_line}
 use Rattle.sl_report.specs.Schedules.{Header_read, NumberedLine, default_area, default_sector, numbered_lines, read_header}
 use Rattle.sl_run.specs.Headers.{GoTogether, IsArea, IsHeader, IsMember}
 use Rattle.sl_run.specs.Worlds.{mebibyte}
@@ -11,11 +11,11 @@ use Rattle.sl_run.specs.declared.header.Header.{Header}
 use Rattle.sl_run.specs.declared.header.LockspaceLine.{LockspaceLine}
 use Rattle.sl_run.specs.declared.header.ResourceLine.{ResourceLine}
 use Rattle.sl_run.specs.declared.header.SessionLine.{SessionLine}
-use Rattle.sl_still_schedule.proofs.LineKinds.{area_fits, area_kind, clock_fits, clock_kind, disk_fits, disk_kind, hosts_kind, ids_kind, lease_fits, lease_kind, line_of_times, member_fits, member_kind, times_fit, times_kind}
+use Rattle.sl_still_schedule.proofs.LineKinds.{area_fits, area_kind, clock_fits, clock_kind, disk_fits, disk_kind, hosts_kind, ids_kind, lease_fits, lease_kind, line_of_times, member_fits, member_kind, times_fit, times_kind, ids_fit, area_so_far}
 use Rattle.sl_still_schedule.proofs.Lists.{first_inside, none_passes, pairs_append, pairs_map}
 use Rattle.sl_still_schedule.proofs.Made.{IsOffset}
 use Rattle.sl_still_schedule.proofs.Reading.{IsOfLines, read_lines}
-use Rattle.sl_still_schedule.proofs.Taken.{AreStillLines, GoesAcross, IsKind, IsLineBehind, StandsIn, across_stand, each_stands, few_stand, formed, of_one_machine, one_before, pairs_stand, picked_later, same_first}
+use Rattle.sl_still_schedule.proofs.Taken.{AreStillLines, GoesAcross, IsKind, IsLineBehind, StandsIn, across_stand, each_stands, few_stand, formed, of_one_machine, one_before, pairs_stand, picked_later, same_first, no_retries, no_sizes, still_before}
 use Rattle.sl_still_schedule.specs.Promises.{HeadersAreStill}
 use Rattle.sl_still_schedule.specs.StillHeaders.{IsStillHeader}
 use Rattle.sl_still_schedule.specs.StillLanguage.{still_language}
@@ -23,7 +23,7 @@ use Rattle.sl_text.specs.Names.{is_name, is_path}
 use Rattle.sl_time.specs.Times.{IsTiming}
 use Rattle.sl_words.proofs.CaseLaws.{not_both}
 use Rattle.sl_words.proofs.WordLaws.{and_true}
-use Rattle.std.proofs.Common.{Bool, List, Option, Some, [], arith, false, length, map, not, refl, subst, sym, true, ℕ, ◌%◌, ◌&&◌, ◌*◌, ◌++◌, ◌+◌, ◌<◌, ◌^◌, ◌≡◌, ◌≤◌}
+use Rattle.std.proofs.Common.{Bool, List, Option, Some, [], arith, false, length, map, not, refl, subst, sym, true, ℕ, ◌%◌, ◌&&◌, ◌*◌, ◌++◌, ◌+◌, ◌<◌, ◌^◌, ◌≡◌, ◌≤◌, ap}
 use Rattle.std.proofs.lemmas.Bool.Decides.{nat_tests}
 use Rattle.std.proofs.lemmas.Bool.{eq-eqb, eqb-true, leb-true, or_parts}
 use Rattle.std.proofs.lemmas.Slice.Eq.{bytes_eq-Decides}

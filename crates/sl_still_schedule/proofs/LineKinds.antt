@@ -1,5 +1,5 @@
 -- The kinds of a header's lines, and what each line's tests say of the lines before it.
-use Rattle.sl_report.specs.ScheduleLines.{AreaLine, BeginLine, ClockLine, DiskLine, HeaderLine, HostsLine, IdsLine, LeaseLine, MemberLine, TimeLine, VersionLine, area_line, clock_line, disk_line, first_line, header_of, header_tests, hosts_line, ids_line, is_known_lockspace, is_on_disk, is_taken_place, lease_line, member_line, rank, timing_line}
+use Rattle.sl_report.specs.ScheduleLines.{AreaLine, BeginLine, ClockLine, DiskLine, HeaderLine, HostsLine, IdsLine, LeaseLine, MemberLine, TimeLine, VersionLine, area_line, clock_line, disk_line, first_line, header_of, header_tests, hosts_line, ids_line, is_known_lockspace, is_on_disk, is_taken_place, lease_line, member_line, rank, timing_line, GeometryLine, LvmLine, geometry_line}
 use Rattle.sl_report.specs.Schedules.{default_area, default_sector}
 use Rattle.sl_run.specs.Worlds.{mebibyte}
 use Rattle.sl_run.specs.declared.header.Disk.{Disk}
@@ -15,7 +15,8 @@ use Rattle.std.proofs.lemmas.Bool.Decides.{nat_tests}
 use Rattle.std.proofs.lemmas.Bool.{ltb-false, or_parts}
 use Rattle.std.specs.Int.{is_in_range}
 use Rattle.std.specs.List.{filter_map, list_any}
-use Rattle.std.specs.Prelude.{bytes_eq, is_some, nat_lt, ◌==◌, ◌||◌}
+use Rattle.sl_area.specs.Layouts.{most_ids_of_all}
+use Rattle.std.specs.Prelude.{bytes_eq, is_some, nat_lt, ◌==◌, ◌||◌, ℕ}
 
 -- ---- kinds
 

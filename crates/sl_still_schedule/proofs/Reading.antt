@@ -1,14 +1,15 @@
 -- A header that was read is that of lines each of which was taken behind those before it, the last one being `begin`.
 use Rattle.sl_report.specs.ReadingLines.{header_line_in}
-use Rattle.sl_report.specs.ScheduleLines.{BeginLine, HeaderLine, header_of}
+use Rattle.sl_report.specs.ScheduleLines.{BeginLine, HeaderLine, header_of, header_forms}
 use Rattle.sl_report.specs.Schedules.{HeaderReading, Header_read, NumberedLine, default_area, default_sector, header_line_refusal, is_begin, line_refusal, read_header}
 use Rattle.sl_run.specs.declared.event.Refusal.TheVariants.{Syntax}
 use Rattle.sl_run.specs.declared.event.Refusal.{Refusal}
 use Rattle.sl_run.specs.declared.header.Header.{Header}
-use Rattle.sl_still_schedule.proofs.Taken.{AreStillLines, IsLineBehind, one_more}
+use Rattle.sl_still_schedule.proofs.Taken.{AreStillLines, IsLineBehind, one_more, no_sizes}
 use Rattle.sl_still_schedule.proofs.Whole.{after_line, no_header}
 use Rattle.sl_still_schedule.specs.StillLanguage.{still_language}
-use Rattle.sl_text.specs.Forms.{words_of}
+use Rattle.sl_text.specs.Forms.{words_of, made_by}
+use Rattle.std.specs.Prelude.{◌×◌}
 use Rattle.std.proofs.Common.{Bool, List, None, Option, Some, [], false, refl, subst, sym, true, ℕ, ◌++◌, ◌+◌, ◌∷◌, ◌≡◌}
 
 pub record IsOfLines (h : Header) : Type 0 where

@@ -1,7 +1,7 @@
 -- Lines of a header that were taken one behind the other, and what holds of them because it holds of each behind those before it.
 use Rattle.sl_plain.proofs.Lists.{contains_none}
 use Rattle.sl_report.specs.ReadingLines.{header_refusal, is_in_order, is_room_for}
-use Rattle.sl_report.specs.ScheduleLines.{HeaderLine, count_of_rank, first_line, header_forms, header_of, header_tests, rank}
+use Rattle.sl_report.specs.ScheduleLines.{HeaderLine, count_of_rank, first_line, header_forms, header_of, header_tests, rank, GeometryLine, LvmLine, geometry_line, retries_line}
 use Rattle.sl_report.specs.Languages.{least_lines, most_lines}
 use Rattle.sl_report.specs.Schedules.{default_area, default_sector}
 use Rattle.sl_run.specs.Worlds.{first_that}

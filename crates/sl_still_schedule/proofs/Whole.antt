@@ -1,14 +1,14 @@
 -- Line by line, and as a whole, a header goes together with the whole language.
 use Rattle.sl_report.specs.Languages.{Language, whole_language}
 use Rattle.sl_report.specs.ReadingLines.{header_line_in}
-use Rattle.sl_report.specs.ScheduleLines.{AreaLine, BeginLine, ClockLine, DiskLine, HeaderLine, HostsLine, IdsLine, LeaseLine, MemberLine, TimeLine, VersionLine, header_of}
+use Rattle.sl_report.specs.ScheduleLines.{AreaLine, BeginLine, ClockLine, DiskLine, HeaderLine, HostsLine, IdsLine, LeaseLine, MemberLine, TimeLine, VersionLine, header_of, GeometryLine, LvmLine}
 use Rattle.sl_report.specs.Schedules.{HeaderReading, Header_read, Header_refused, NumberedLine, default_area, default_sector, header_line_refusal, is_begin, line_refusal, read_header, with_line}
 use Rattle.sl_run.specs.declared.event.Refusal.TheVariants.{Syntax}
 use Rattle.sl_run.specs.declared.event.Refusal.{Refusal}
 use Rattle.sl_run.specs.declared.header.Header.{Header}
 use Rattle.sl_still_schedule.specs.Promises.{StillIsWhole}
 use Rattle.sl_still_schedule.specs.StillLanguage.{is_still_line, still_language}
-use Rattle.sl_still_schedule.specs.StillWhole.{SaysOtherMachines, SaysTheSame}
+use Rattle.sl_still_schedule.specs.StillWhole.{SaysTheSame, IsMore, More_machines, Other_sizes, SaysMore, Some_retries}
 use Rattle.sl_words.proofs.CaseLaws.{not_both}
 use Rattle.sl_words.proofs.OptionLaws.{choose_at_false, choose_at_true}
 use Rattle.sl_words.specs.Words.{choose, some_is}

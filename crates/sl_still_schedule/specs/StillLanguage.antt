@@ -3,7 +3,7 @@
 use Rattle.sl_area.specs.Layouts.{layout_of}
 use Rattle.sl_lease_command.specs.LeaseWords.{lease_forms}
 use Rattle.sl_report.specs.Languages.{Language, is_skipped, least_lines, most_lines}
-use Rattle.sl_report.specs.ScheduleLines.{HeaderLine, HostsLine}
+use Rattle.sl_report.specs.ScheduleLines.{HeaderLine, HostsLine, GeometryLine, LvmLine}
 use Rattle.sl_run.specs.Worlds.{Program}
 use Rattle.sl_run.specs.declared.header.Header.{Header}
 use Rattle.sl_text.specs.Forms.{Form}
