@@ -7,3 +7,7 @@ pub mod Keeps
 pub mod InstanceWays
 pub mod Finding
 pub mod Heard
+pub mod Cause
+pub mod Numbers
+pub mod Ballot
+pub mod Lawfully

@@ -5,7 +5,7 @@ use Rattle.sl_first.specs.FirstPath.{first_effects, one_reply}
 use Rattle.sl_first.specs.FirstSteps.{Holds, Idle, Phase, Works}
 use Rattle.sl_first_law.proofs.Calmness.{only}
 use Rattle.sl_first_law.proofs.Values.{no_reply, no_value_reply, no_set_reply}
-use Rattle.sl_first_lawful.specs.Keeping.{CallIsLawful, EntryIsLawful}
+use Rattle.sl_first_law.specs.Lawfully.Keeping.{CallIsLawful, EntryIsLawful}
 use Rattle.sl_law.specs.LawfulGrant.{HasTaken, LawfulGrantTo}
 use Rattle.sl_law.specs.LawfulModes.{LawfulExclusiveGrant, LawfulModeGrant}
 use Rattle.sl_leases.specs.Leases.{freed, holdings_on, lease_calls, spot_of}
@@ -30,7 +30,7 @@ use Rattle.sl_words.proofs.CaseLaws.{some_value}
 use Rattle.sl_words.proofs.WordLaws.{and_true}
 use Rattle.std.proofs.Common.{ap, refl, subst, sym, ◌∙◌, arith, tests}
 use Rattle.sl_first_law.specs.Keeping.{is_heard}
-use Rattle.sl_first_lawful.proofs.Shapes.{no_orphan}
+use Rattle.sl_first_law.proofs.Lawfully.Shapes.{no_orphan}
 use Rattle.std.proofs.Math.Bool.{and-false}
 use Rattle.std.specs.Prelude.{Contains, IsSome, List, Some, false, true, [], ℕ, ◌<◌, ◌==◌, ◌∷◌, ◌≡◌, Bool, length, filter, if◌then◌else◌, ◌&&◌, ◌≤◌}
 
