@@ -20,3 +20,4 @@ pub use naming::default_name;
 pub use reading::parse_command;
 pub use replies::push_reply_text;
 pub use writing::push_command_text;
+

@@ -11,3 +11,4 @@ mod reading;
 
 pub use command::LeaseCommand;
 pub use reading::read_lease_command;
+

@@ -24,3 +24,4 @@ mod updates;
 pub use deed::Deed;
 pub use evidence::{Evidence, Held};
 pub use lease::Lease;
+

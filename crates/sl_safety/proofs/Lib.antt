@@ -1,4 +1,4 @@
-pub mod Orderly
+pub mod Lawful
 pub mod Placed
 pub mod Excluding
 pub mod Agreeing

@@ -5,4 +5,3 @@ pub mod EventLaws
 pub mod HeaderReadLaws
 pub mod HeaderLaws
 pub mod ScheduleLaws
-pub mod SizeLaws

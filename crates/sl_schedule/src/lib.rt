@@ -17,7 +17,6 @@ mod header_tests;
 mod lines;
 mod parts;
 mod schedule;
-mod sizes;
 mod writing;
 
 pub use events::next_event;

@@ -40,7 +40,7 @@ use Rattle.sl_safety.specs.Value.Writing.{HoldersKeepValues, OneWritesValue, Wri
 use Rattle.sl_words.proofs.CaseLaws.{one_value, true_or_false}
 use Rattle.std.proofs.Common.{ap, arith, inl, inr, subst, sym, ◌∙◌}
 use Rattle.std.proofs.lemmas.Bool.{eq-eqb}
-use Rattle.std.specs.Prelude.{Contains, List, None, Some, true, ℕ, ◌%◌, ◌+◌, ◌-◌, ◌≡◌}
+use Rattle.std.specs.Prelude.{Contains, List, None, Some, true, ℕ, ◌%◌, ◌+◌, ◌-◌, ◌≡◌, ◌≤◌}
 
 -- What this rests on.
 pub record Grounds : Type 0 where
