@@ -7,12 +7,12 @@ use Rattle.sl_run.specs.declared.event.Refusal.{Refusal}
 use Rattle.sl_schedule.specs.HeaderReads.{IsHosts}
 use Rattle.sl_schedule.specs.Headers.{row_for, sizes_of}
 use Rattle.sl_words.specs.Words.{choose, some_is}
-use Rattle.std.proofs.Common.{Bool, Err, List, None, Ok, Option, Result, Some, [], ap, arith, cond, eqb, false, length, refl, subst, sym, true, ℕ, ◌*◌, ◌&&◌, ◌∙◌, ◌∷◌, ◌≡◌, ◌≤◌, ◌||◌}
+use Rattle.std.proofs.Common.{Bool, Err, List, None, Ok, Option, Result, Some, [], ap, arith, cond, eqb, false, length, refl, sym, true, ℕ, ◌*◌, ◌&&◌, ◌∙◌, ◌∷◌, ◌≡◌, ◌≤◌, ◌||◌}
 use Rattle.std.proofs.lemmas.Bool.Decides.{Decides-eqb, nat_tests}
 use Rattle.std.specs.Int.{is_in_range}
 use Rattle.std.specs.List.{find, list_any}
 use Rattle.std.specs.Option.{IfSome, option_map, option_to_list}
-use Rattle.std.specs.Prelude.{IfOk, IsOk, is_none, nat_le, nat_lt, not, if◌then◌else◌, ◌==◌, ◌↔◌}
+use Rattle.std.specs.Prelude.{IfOk, IsOk, is_none, nat_le, nat_lt, ◌==◌, ◌↔◌}
 use Rattle.std.specs.Result.{result_ok}
 use Rattle.sl_words.proofs.WordLaws.{and_true}
 

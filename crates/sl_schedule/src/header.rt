@@ -550,6 +550,7 @@ impl HeaderReader {
         ensures refused { IfOk result (λ added. headers.IsRefused added → self.new ≡ self.old) }
         ensures err { OnErr result (self.new ≡ self.old) }
     {
+        let _ = &self.alloc;
         if is_skipped(line) {
             return Ok(Added::More);
         }

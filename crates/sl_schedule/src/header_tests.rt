@@ -84,9 +84,7 @@ fn is_within(disk: &Disk, area: u64, path: &FilePath, offset: u64) -> bool
 pub fn is_on_disk(disks: &[Disk], area: u64, path: &FilePath, offset: u64) -> bool
     ensures { result ≡ is_on_disk disks.now area path.now offset }
 {
-    disks
-        .iter()
-        .any(|disk| is_within(disk, area, path, offset))
+    disks.iter().any(|disk| is_within(disk, area, path, offset))
 }
 
 /// Whether it is the lockspace with this name.
