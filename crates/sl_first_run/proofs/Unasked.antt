@@ -22,7 +22,7 @@ use Rattle.sl_words.specs.Words.{choose}
 use Rattle.sl_world.proofs.LockLaws.{answer_leaves, line_leaves}
 use Rattle.sl_world.specs.FirstEvents.{is_first_event}
 use Rattle.sl_world.specs.Kept.{AreIdle}
-use Rattle.std.proofs.Common.{ap, refl, subst, sym, ◌∙◌}
+use Rattle.std.proofs.Common.{ap, refl, subst, sym}
 use Rattle.std.specs.List.{enumerate_from, range_with_len}
 use Rattle.std.specs.Prelude.{Bool, IsSomeAnd, List, None, Option, Some, find, if◌then◌else◌, is_some, map, option_and_then, option_map, slice_get, slice_set, suc, true, false, zero, [], ℕ, ◌++◌, ◌-◌, ◌==◌, ◌∷◌, ◌≡◌}
 
