@@ -21,7 +21,7 @@ use Rattle.sl_trace.specs.declared.effects.LeaseStep.{LeaseStep}
 use Rattle.sl_trace.specs.declared.input.Answer.TheVariants.{Failed, Read, Written}
 use Rattle.sl_trace.specs.declared.input.Answer.{Answer}
 use Rattle.sl_trace.specs.declared.input.Given.{Given}
-use Rattle.sl_words.proofs.CaseLaws.{false_is_true, none_some, true_is_false}
+use Rattle.sl_words.proofs.CaseLaws.{none_some, true_is_false}
 use Rattle.std.specs.Prelude.{nat_lt, ◌&&◌, ◌==◌}
 use Rattle.std.proofs.Common.{Bool, IsTrue, List, None, Option, Some, false, is_some, refl, subst, sym, true, ℕ, ◌||◌, ◌∙◌, ◌∷◌, ◌≡◌}
 
