@@ -40,7 +40,7 @@ use Rattle.std.proofs.Common.{ap, refl, subst, sym, ◌∙◌}
 use Rattle.sl_lease_command.specs.declared.command.LeaseCommand.TheVariants.{Acquire as Acquires, Release as Releases}
 use Rattle.sl_lvm.specs.Lvm.{lock_process}
 use Rattle.sl_run.specs.Events.{is_for_locks}
-use Rattle.std.specs.Prelude.{Err, IfOk, List, None, Ok, OnOk, Result, Some, false, slice_get, [], ℕ, ◌≡◌, Bool}
+use Rattle.std.specs.Prelude.{Bool, Err, IfOk, List, None, Ok, OnOk, Result, Some, false, slice_get, [], ℕ, ◌==◌, ◌≡◌}
 
 -- ---- a line that is refused
 

@@ -19,7 +19,7 @@ use Rattle.sl_host.specs.Tables.{IsAbsent, TableStands}
 use Rattle.sl_host.specs.declared.refusal.Refusal.{Refusal}
 use Rattle.sl_still_step.proofs.LineSteps.{lines_step}
 use Rattle.sl_still_step.specs.Promises.{StepsTo}
-use Rattle.sl_trace.specs.Traces.{Job, Setting, Submitted, Trace, jobs, mark, new_call, next_call, next_job, submitted}
+use Rattle.sl_trace.specs.Traces.{Setting, Submitted, Trace, jobs, mark, new_call, next_call, next_job, submitted}
 use Rattle.sl_trace.specs.declared.effects.Call.{Call}
 use Rattle.sl_trace.specs.declared.effects.Effects.{Effects}
 use Rattle.sl_trace.specs.declared.effects.Entry.{Entry}
@@ -30,7 +30,6 @@ use Rattle.sl_trace.specs.declared.reply.Reply.{Reply}
 use Rattle.sl_world.proofs.SmallLaws.{none_few, one_few}
 use Rattle.sl_world.specs.Daemons.{IsSmallStep}
 use Rattle.std.proofs.Common.{ap, arith, refl, subst, sym, ◌∙◌}
-use Rattle.std.proofs.lemmas.List.{append-nil}
 use Rattle.std.specs.Prelude.{List, Some, fold, length, slice_get, true, [], ℕ, ◌+◌, ◌∷◌, ◌≡◌}
 
 -- ---- the next numbers
