@@ -5,14 +5,14 @@ use Rattle.sl_leases.specs.Counts.{ungranted}
 use Rattle.sl_leases.specs.Jobs.{is_asking_lease, is_command_that}
 use Rattle.sl_plain.proofs.Lists.{filter_both}
 use Rattle.sl_still.proofs.Growing.{filter_swap}
-use Rattle.sl_trace.specs.Traces.{Child, Job, Setting, Trace, children, is_running, job_in, job_numbered, jobs, line_in, running_jobs, next_job, numbers_taken, takes_number}
+use Rattle.sl_trace.specs.Traces.{Child, Job, Setting, Trace, children, is_running, job_numbered, jobs, line_in, running_jobs, next_job, numbers_taken, takes_number}
 use Rattle.sl_trace.specs.declared.command.Command.{Command}
 use Rattle.sl_trace.specs.declared.effects.Entry.{Entry}
 use Rattle.sl_trace.specs.declared.effects.JobReply.{JobReply}
 use Rattle.sl_trace.specs.declared.reply.Reply.{Reply}
 use Rattle.sl_words.proofs.CaseLaws.{none_some, some_value}
 use Rattle.sl_words.specs.Words.{some_is}
-use Rattle.std.proofs.Common.{ap, arith, refl, subst, sym, tests, ◌∙◌}
+use Rattle.std.proofs.Common.{ap, arith, refl, sym, tests, ◌∙◌}
 use Rattle.std.proofs.Math.Bool.{and-true}
 use Rattle.std.proofs.Math.Path.{fun_ext}
 use Rattle.std.proofs.lemmas.List.Filters.{length-filter_both}
@@ -20,7 +20,7 @@ use Rattle.std.proofs.lemmas.List.Sums.{length-filter, sum_by_push}
 use Rattle.std.specs.List.{count_by}
 use Rattle.sl_trace.specs.declared.input.Input.TheVariants.{Answer as Told, Exit, Line, Number, Spawned, Wake}
 use Rattle.sl_trace.specs.declared.input.Input.{Input}
-use Rattle.std.specs.Prelude.{Bool, List, None, Option, Some, [], false, filter, find, if◌then◌else◌, is_none, is_some, length, not, option_map, true, ℕ, ◌&&◌, ◌++◌, ◌+◌, ◌<◌, ◌==◌, ◌∷◌, ◌≡◌, ◌≤◌}
+use Rattle.std.specs.Prelude.{Bool, List, None, Some, [], false, filter, find, if◌then◌else◌, is_none, is_some, length, not, option_map, true, ℕ, ◌&&◌, ◌++◌, ◌+◌, ◌<◌, ◌==◌, ◌∷◌, ◌≡◌, ◌≤◌}
 
 -- ---- their numbers
 
