@@ -5,4 +5,5 @@ pub mod Agreeing
 pub mod Standing
 pub mod Marked
 pub mod Moded
+pub mod Volumes
 pub mod Whole
