@@ -22,7 +22,7 @@ use Rattle.sl_run.specs.Worlds.{Daemon, Machine, Program, World, daemons_on, mac
 use Rattle.sl_run.specs.declared.event.Event.{Event}
 use Rattle.sl_run.specs.declared.header.Header.{Header}
 use Rattle.sl_sessions.specs.Sessions.{session_numbered}
-use Rattle.sl_trace.specs.Traces.{Setting, Trace, has_orphan_of, held_after, held_by, holdings, is_ended_by, is_orphan, leaves_orphan, no_effects, no_process, orphan_of, orphans_left, same_place}
+use Rattle.sl_trace.specs.Traces.{Setting, Trace, has_orphan_of, held_after, holdings, is_ended_by, is_orphan, leaves_orphan, no_effects, no_process, orphan_of, orphans_left, same_place}
 use Rattle.sl_trace.specs.declared.effects.Effects.{Effects}
 use Rattle.sl_trace.specs.declared.effects.Entry.{Entry}
 use Rattle.sl_trace.specs.declared.effects.Grant.{Grant}
@@ -30,9 +30,10 @@ use Rattle.sl_words.proofs.CaseLaws.{is_false, true_is_false}
 use Rattle.sl_words.proofs.WordLaws.{and_true}
 use Rattle.std.proofs.Common.{ap, arith, inl, inr, refl, subst, sym, ◌∙◌}
 use Rattle.std.proofs.lemmas.Bool.{and_from, eq-eqb, eqb-true, not-true}
-use Rattle.std.proofs.lemmas.List.{append-nil, filter-append, length-append}
+use Rattle.std.proofs.lemmas.List.{append-nil, length-append}
+use Rattle.std.proofs.lemmas.List.Elements.{filter-append}
 use Rattle.std.specs.Option.{option_map_or}
-use Rattle.std.specs.Prelude.{Bool, Contains, List, None, Option, Some, [], cond, false, filter, length, map, not, option_map, suc, true, zero, ℕ, ◌&&◌, ◌++◌, ◌+◌, ◌==◌, ◌∷◌, ◌≡◌, ◌≤◌, ◌⊎◌}
+use Rattle.std.specs.Prelude.{Bool, Contains, List, Some, [], cond, false, filter, length, map, not, option_map, suc, true, zero, ℕ, ◌&&◌, ◌++◌, ◌+◌, ◌==◌, ◌∷◌, ◌≡◌, ◌≤◌, ◌⊎◌}
 
 -- ---- no two of one process and one place
 
@@ -134,10 +135,10 @@ once_append (x ∷ xs) ys one two apart = (
 
 once_filter : (q : Grant → Bool) (gs : List Grant) → Once gs → Once (filter q gs)
 once_filter q [] once = tt
-once_filter q (g ∷ gs) once = by (q g) where
-  by : (b : Bool) → Once (cond b (g ∷ filter q gs) (filter q gs))
-  by true = (λ h has is. once.0 h (kept_inside q gs h has).0 is, once_filter q gs once.1)
-  by false = once_filter q gs once.1
+once_filter q (g ∷ gs) once = by (q g) (once_filter q gs once.1) where
+  by : (b : Bool) → Once (filter q gs) → Once (cond b (g ∷ filter q gs) (filter q gs))
+  by true rest = (λ h has is. once.0 h (kept_inside q gs h has).0 is, rest)
+  by false rest = rest
 
 -- ---- in a trace
 
