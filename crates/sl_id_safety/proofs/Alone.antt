@@ -193,9 +193,12 @@ by_claim reached p h xs i f l k (Some c) at = by (find (left_since q l.step) ls)
           of_claim = (own.1, own.2);
           before = less;
         })
-        | inr most ↦ inl (c, subst (λ (y : Landing). IsOwnLanding i f c y)
-            (one_step p h xs k.run x l (landed_there w f.session.path (sector_offset w f) x found.0) (landed_there w f.session.path (sector_offset w f) l k.there)
-            (same_step x.step l.step most (leb-true l.step x.step both.1))) own.0)
+        | inr most ↦ inl (
+          c,
+          subst (λ (y : Landing). IsOwnLanding i f c y)
+              (one_step p h xs k.run x l (landed_there w f.session.path (sector_offset w f) x found.0) (landed_there w f.session.path (sector_offset w f) l k.there)
+              (same_step x.step l.step most (leb-true l.step x.step both.1))) own.0,
+        )
       ]
 
 pub sectors_are_alone_given : IdsAreReached → SectorsAreAlone

@@ -5,7 +5,7 @@ use Rattle.sl_id_state.proofs.Holders.{has_number}
 use Rattle.sl_lvm.specs.LockNames.{group_path}
 use Rattle.sl_plain.proofs.Lists.{any_of, contains_map}
 use Rattle.sl_run.specs.Conflicts.{Holding, IsExclusive, conflicts, world_holdings}
-use Rattle.sl_run.specs.Reach.{IsActiveVolume, VolumesAreExclusive}
+use Rattle.sl_run.specs.Reach.{VolumesAreExclusive}
 use Rattle.sl_run.specs.Safety.{Safety, world_at}
 use Rattle.sl_run.specs.Worlds.{Machine, World, machine_at}
 use Rattle.sl_safety.specs.Volumes.{VolumesExclude}
@@ -19,7 +19,7 @@ use Rattle.std.proofs.Common.{ap, arith, inl, inr, refl, subst, sym, ◌∙◌}
 use Rattle.std.proofs.lemmas.Bool.Decides.{nat_tests}
 use Rattle.std.proofs.lemmas.Bool.{ne_eqb}
 use Rattle.std.specs.List.{enumerate_from, list_any}
-use Rattle.std.specs.Prelude.{Bool, Contains, List, None, Option, Some, false, if◌then◌else◌, map, not, slice_get, true, ℕ, ◌&&◌, ◌*◌, ◌+◌, ◌-◌, ◌==◌, ◌≡◌}
+use Rattle.std.specs.Prelude.{Bool, Contains, List, None, Some, false, if◌then◌else◌, map, not, slice_get, true, ℕ, ◌&&◌, ◌*◌, ◌+◌, ◌-◌, ◌==◌, ◌≡◌}
 
 -- ---- a holding of a machine is one of the world
 
