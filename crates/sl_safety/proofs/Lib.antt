@@ -7,3 +7,7 @@ pub mod Marked
 pub mod Moded
 pub mod Volumes
 pub mod Whole
+pub mod Holding
+pub mod Ballot
+pub mod Grant
+pub mod Value
