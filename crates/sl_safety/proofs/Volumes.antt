@@ -1,9 +1,8 @@
 -- Of two machines on which a logical volume is active both have it shared: the holdings of its lock are of one place, and don't conflict.
 use Rattle.sl_run_law.proofs.Front.Having.{in_flat}
 use Rattle.sl_safety.proofs.Holding.Places.{is_place, place_is}
-use Rattle.sl_id_safety.proofs.State.Holders.{has_number}
 use Rattle.sl_lvm.specs.LockNames.{group_path}
-use Rattle.sl_plain.proofs.Lists.{any_of, contains_map}
+use Rattle.sl_plain.proofs.Lists.{any_of, contains_first, contains_map, contains_more}
 use Rattle.sl_run.specs.Conflicts.{Holding, IsExclusive, conflicts, world_holdings}
 use Rattle.sl_run.specs.Reach.{VolumesAreExclusive}
 use Rattle.sl_run.specs.Safety.{Safety, world_at}
@@ -13,13 +12,13 @@ use Rattle.sl_trace.specs.Traces.{is_shared, same_place}
 use Rattle.sl_trace.specs.declared.effects.Grant.{Grant}
 use Rattle.sl_trace.specs.declared.effects.Mode.TheVariants.{Exclusive, Shared}
 use Rattle.sl_trace.specs.declared.effects.Mode.{Mode}
-use Rattle.sl_words.proofs.CaseLaws.{none_some, true_is_false, true_or_false}
+use Rattle.sl_words.proofs.CaseLaws.{none_some, some_value, true_is_false, true_or_false}
 use Rattle.sl_words.proofs.WordLaws.{and_true}
 use Rattle.std.proofs.Common.{ap, arith, inl, inr, refl, subst, sym, ◌∙◌}
 use Rattle.std.proofs.lemmas.Bool.Decides.{nat_tests}
 use Rattle.std.proofs.lemmas.Bool.{ne_eqb}
 use Rattle.std.specs.List.{enumerate_from, list_any}
-use Rattle.std.specs.Prelude.{Bool, Contains, List, None, Some, false, if◌then◌else◌, map, not, slice_get, true, ℕ, ◌&&◌, ◌*◌, ◌+◌, ◌-◌, ◌==◌, ◌≡◌}
+use Rattle.std.specs.Prelude.{Bool, Contains, List, None, Some, false, if◌then◌else◌, map, not, slice_get, suc, true, zero, [], ℕ, ◌&&◌, ◌*◌, ◌+◌, ◌-◌, ◌==◌, ◌∷◌, ◌≡◌}
 
 -- ---- a holding of a machine is one of the world
 
@@ -31,6 +30,16 @@ place_by : (m : ℕ) (ms : List Machine) (a : Machine) (b : Bool) → (m == 0) �
 place_by m ms a true is h = absurd (none_some a h)
 place_by m ms a false is h = (m - 1, after_zero m is, h)
 
+numbered_there : (k : ℕ) (ms : List Machine) (n : ℕ) (a : Machine) → slice_get ms n ≡ Some a → Contains (enumerate_from k ms) (k + n, a)
+numbered_there k [] n a at = absurd (none_some a at)
+numbered_there k (b ∷ ms) zero a at =
+    let same : k ≡ k + 0 = omega arith in
+    subst (λ x. Contains ((k, b) ∷ enumerate_from (k + 1) ms) (x, a)) same
+    (subst (λ x. Contains ((k, b) ∷ enumerate_from (k + 1) ms) (k, x)) (some_value b a at) (contains_first (k, b) (enumerate_from (k + 1) ms)))
+numbered_there k (b ∷ ms) (suc n) a at =
+    let same : (k + 1) + n ≡ k + suc n = omega arith in
+    subst (λ x. Contains ((k, b) ∷ enumerate_from (k + 1) ms) (x, a)) same (contains_more (k, b) (enumerate_from (k + 1) ms) ((k + 1) + n, a) (numbered_there (k + 1) ms n a at))
+
 abbrev holding : ℕ → Grant → Holding
 holding m g = record { machine = m; held = g }
 
@@ -38,7 +47,7 @@ in_world : (w : World) (m : ℕ) (a : Machine) (g : Grant) → machine_at w m �
 in_world w m a g at has =
     let n = place_by m w.machines a (m == 0) refl at in
     in_flat (λ (p : ℕ × Machine). map (holding p.0) p.1.holdings) (enumerate_from 1 w.machines) (m, a) (holding m g)
-    (subst (λ k. Contains (enumerate_from 1 w.machines) (k, a)) (sym n.1) (has_number 1 w.machines n.0 a n.2)) (contains_map (holding m) a.holdings g has)
+    (subst (λ k. Contains (enumerate_from 1 w.machines) (k, a)) (sym n.1) (numbered_there 1 w.machines n.0 a n.2)) (contains_map (holding m) a.holdings g has)
 
 -- ---- of two, neither conflicts with the other
 

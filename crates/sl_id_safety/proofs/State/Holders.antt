@@ -63,7 +63,7 @@ numbered k (a ∷ ms) q there =
       | inr more ↦ let r = numbered (k + 1) ms q more in let same : (k + 1) + r.0 ≡ k + suc r.0 = omega arith in (suc r.0, r.1, r.2 ∙ same)
     ]
 
-pub has_number : (k : ℕ) (ms : List Machine) (n : ℕ) (a : Machine) → slice_get ms n ≡ Some a → Contains (enumerate_from k ms) (k + n, a)
+has_number : (k : ℕ) (ms : List Machine) (n : ℕ) (a : Machine) → slice_get ms n ≡ Some a → Contains (enumerate_from k ms) (k + n, a)
 has_number k [] n a at = absurd (none_some a at)
 has_number k (b ∷ ms) zero a at =
     let same : k ≡ k + 0 = omega arith in

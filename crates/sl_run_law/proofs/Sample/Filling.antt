@@ -1,9 +1,10 @@
 -- Each place has a sector's bytes at moment 0, whatever the digest.
 use Rattle.sl_area.proofs.SizeLaws.{HasRoom, has_room}
-use Rattle.sl_area.specs.Layouts.{Layout, Sizes, layout_with, sector_with}
+use Rattle.sl_area.specs.Layouts.{IsGeometry, Layout, Sizes, layout_with, sector_with}
 use Rattle.sl_area.specs.Places.{fresh_block, fresh_leader, in_area, no_request, no_value}
 use Rattle.sl_run_law.proofs.Landing.Initial.{block_high, block_low, fresh_block_is, is_size, lockspace_by, no_number, no_request_is, no_value_is}
 use Rattle.sl_plain.proofs.Numbers.{both_next, zero_least, zero_less}
+use Rattle.sl_plain.proofs.Truth.{or_false}
 use Rattle.sl_run.specs.Headers.{IsHeader}
 use Rattle.sl_run.specs.Worlds.{initial_bytes, initial_of_lockspace, initial_of_resource, initial_record}
 use Rattle.sl_run.specs.declared.header.Header.{Header}
@@ -16,10 +17,13 @@ use Rattle.sl_sector.specs.declared.sector.Rec.TheVariants.{BlockIs, LeaderIs, R
 use Rattle.sl_sector.specs.declared.sector.Rec.{Rec}
 use Rattle.sl_text.specs.Names.{is_name}
 use Rattle.sl_words.proofs.CaseLaws.{none_some, some_value}
+use Rattle.sl_words.proofs.WordLaws.{and_true}
 use Rattle.sl_words.specs.Words.{choose}
 use Rattle.std.proofs.Common.{ap, refl, subst, sym, ◌∙◌}
+use Rattle.std.proofs.lemmas.Bool.Decides.{Decides-eqb}
 use Rattle.std.proofs.lemmas.List.{length-replicate}
-use Rattle.std.specs.Prelude.{Bool, Contains, IsTrue, List, None, Option, Some, bytes_eq, false, find, if◌then◌else◌, length, nat_lt, replicate, suc, true, [], ℕ, ◌&&◌, ◌*◌, ◌+◌, ◌-◌, ◌/◌, ◌==◌, ◌∷◌, ◌≡◌}
+use Rattle.std.specs.Int.{is_in_range}
+use Rattle.std.specs.Prelude.{Bool, Contains, IsTrue, List, None, Option, Some, bytes_eq, false, find, if◌then◌else◌, length, nat_lt, replicate, suc, true, [], ℕ, ◌&&◌, ◌*◌, ◌+◌, ◌-◌, ◌/◌, ◌==◌, ◌∷◌, ◌≡◌, ◌≤◌}
 
 -- ---- what is looked for
 
