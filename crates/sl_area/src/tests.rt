@@ -1,57 +1,15 @@
-//! Places of a run, the memory area with each call failing in turn, and the file area on files of the system.
+//! The memory area with each call failing in turn, and the file area on files of the system.
+
+ghost use Rattle.std.specs.Prelude.{◌≡◌};
 
 use crate::{Area, FileArea, Geometry, MemArea};
 use std::fs;
 use std::test::Fail;
 
-#[test]
-fn worked_places(rt: HostRuntime) -> Result<(), Fail> {
-    let run = Geometry::new(512, 1_048_576, 2000)?;
-    assert_eq!(rt;
-        (run.sector(), run.area(), run.hosts()),
-        (512, 1_048_576, 2000)
-    );
-    assert_eq!(rt; run.delta_place(0, 1).offset(), 0);
-    assert_eq!(rt; run.delta_place(0, 2000).offset(), 1_023_488);
-    assert_eq!(rt; run.leader_place(1_048_576).offset(), 1_048_576);
-    assert_eq!(rt; run.request_place(1_048_576).offset(), 1_049_088);
-    assert_eq!(rt; run.block_place(1_048_576, 1).offset(), 1_049_600);
-    assert_eq!(rt; run.block_place(1_048_576, 2000).offset(), 2_073_088);
-    assert_eq!(rt; run.value_place(1_048_576).offset(), 2_096_640);
-    assert_eq!(rt; run.value_place(1_048_576).size(), 512);
-    assert_eq!(rt; run.place(1_024).map(|place| place.offset()), Some(1_024));
-    assert_eq!(rt; run.place(1_000), None);
-    for (offset, is) in [
-        (0, true),
-        (512, false),
-        (1_048_576, true),
-        (999_999_668_224, true),
-        (1_000_000_716_800, false),
-    ] {
-        assert_eq!(rt; run.is_base(offset), is, "at {offset}");
-    }
-    Ok(())
-}
-
-#[test]
-fn refused_sizes(rt: HostRuntime) {
-    for (sector, area, hosts) in [
-        (512, 1_048_576, 0),
-        (512, 1_048_576, 2001),
-        (512, 2_097_152, 2),
-        (4096, 1_048_576, 2),
-        (0, 0, 1),
-    ] {
-        assert!(rt;
-            Geometry::new(sector, area, hosts).is_err(),
-            "{sector} {area} {hosts}"
-        );
-    }
-    assert!(rt; Geometry::new(512, 1_048_576, 1).is_ok());
-}
-
 /// Writes two sectors and reads both back, and answers how many of the three calls went well.
-fn round(area: &mut impl Area, run: Geometry) -> (u32, [u8; 1024]) {
+fn round(area: &mut impl Area, run: Geometry) -> (u32, [u8; 1024])
+    requires { run.sector ≡ 512 }
+{
     let mut read = [9; 1024];
     let mut done = 0;
     if area.write(run.request_place(0), &[1; 512]).is_ok() {

@@ -28,5 +28,3 @@ pub use phases::{
 };
 pub use reads::{stop_of, value_after_read};
 
-#[cfg(test)]
-mod tests;

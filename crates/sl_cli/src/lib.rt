@@ -22,5 +22,3 @@ mod texts;
 pub use reading::{Words, WordsError, read_words};
 pub use texts::{HELP, VERSION};
 
-#[cfg(test)]
-mod tests;

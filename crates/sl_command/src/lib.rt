@@ -21,5 +21,3 @@ pub use reading::parse_command;
 pub use replies::push_reply_text;
 pub use writing::push_command_text;
 
-#[cfg(test)]
-mod tests;

@@ -37,5 +37,3 @@ mod looks;
 pub use action::{Action, Directed};
 pub use direct::run_direct;
 
-#[cfg(test)]
-mod tests;

@@ -10,7 +10,7 @@ use Rattle.sl_leases.specs.Leases.{holdings_on, known, orphan_on, shared_on, spo
 use Rattle.sl_sector.specs.declared.sector.Rec.TheVariants.{ValueIs}
 use Rattle.sl_sector.specs.declared.sector.ValueRec.{ValueRec}
 use Rattle.sl_sessions.specs.Sessions.{Session, generation_of, holdings_of, is_active, is_joined, is_session_arg, last_renewal, last_seq, present_sessions, session_named, sessions}
-use Rattle.sl_sessions.specs.Watching.{states_seen}
+use Rattle.sl_sessions.specs.Watching.{sessions_seen, states_seen}
 use Rattle.sl_trace.specs.Limits.{most_lockspaces}
 use Rattle.sl_trace.specs.Traces.{Setting, Trace, end_of, is_orphan, is_shared, next_job, no_process, spot_of_grant}
 use Rattle.sl_trace.specs.declared.command.Command.TheVariants.{Acquire, AddLockspace, Convert, GetLvb, HostStatus, InqLockspace, Release, ReleaseOrphan, RemLockspace, Request, RunProgram, SetKillpath, SetLvb, Status, TakeOver}
@@ -30,13 +30,12 @@ use Rattle.sl_trace.specs.declared.input.Input.TheVariants.{Line}
 use Rattle.sl_trace.specs.declared.reply.Limited.TheVariants.{Killpaths, Lockspaces, Seq as SeqLimit}
 use Rattle.sl_trace.specs.declared.reply.Reply.TheVariants.{BadCommand as Misread, Busy, Done, Generation, Granted, Hosts, Joined, Joining as StillJoining, Limit as LimitReached, NoOrphan, NoProcess, NoSession, NotHeld, Pending, Recovering, Sessions}
 use Rattle.sl_trace.specs.declared.reply.Reply.{Reply}
-use Rattle.sl_trace.specs.declared.reply.SessionOf.{SessionOf}
 use Rattle.sl_words.specs.Bounds.{is_number}
 use Rattle.sl_words.specs.Results.{◌>>=◌}
 use Rattle.sl_words.specs.Words.{choose, same_truth}
 use Rattle.std.specs.List.{list_any}
 use Rattle.std.specs.Option.{option_map_or, option_or}
-use Rattle.std.specs.Prelude.{Bool, Err, List, None, Ok, Option, Result, Some, false, filter, find, if◌then◌else◌, is_none, length, map, nat_le, not, option_and_then, option_map, true, [], ℕ, ◌&&◌, ◌++◌, ◌+◌, ◌==◌, ◌∷◌}
+use Rattle.std.specs.Prelude.{Bool, Err, List, None, Ok, Option, Result, Some, false, find, if◌then◌else◌, is_none, length, nat_le, not, option_and_then, option_map, true, [], ℕ, ◌&&◌, ◌++◌, ◌+◌, ◌==◌, ◌∷◌}
 
 -- What a command comes to.
 pub data Decision : Type 0 where
@@ -210,11 +209,6 @@ abbrev pub decide_report : Setting → Trace → LockspaceArg → (Session → R
 decide_report st es a answer =
     with_session (matching_session st es a) (λ s. unless_refused (session_refusal st es s ∷ []) (Replies (answer s)))
 
--- The joined sessions, by lockspace name.
-abbrev pub session_words : Setting → Trace → List SessionOf
-session_words st es =
-    map (λ s. record { lockspace = s.lockspace; id = s.id; generation = generation_of es s }) (filter (is_joined es) (present_sessions st es))
-
 -- ---- kill programs
 
 -- A `set_killpath`.
@@ -240,7 +234,7 @@ decided st es now (GetLvb r p) = decide_holder st es r p (λ g. true) (λ s g. G
 decided st es now (SetLvb r p bytes) =
     decide_holder st es r p (λ g. not (is_shared g.mode)) (λ s g. setting_value s (spot_of r) g (next_value_seq st es s (spot_of r) g.lver) bytes)
 decided st es now (SetKillpath p path) = decide_killpath st es p
-decided st es now Status = Replies (Sessions (session_words st es))
+decided st es now Status = Replies (Sessions (sessions_seen st es))
 
 -- ---- carried out
 

@@ -4,14 +4,14 @@ use Rattle.sl_due.specs.DueCommands.{on_line}
 use Rattle.sl_due.specs.Steps.{Step, add_end, add_grant, add_reply, add_signal, for_each, seen, when, with_input, with_some}
 use Rattle.sl_leases.specs.Jobs.{is_job_of_process, job_of_start}
 use Rattle.sl_sessions.specs.Sessions.{is_present}
-use Rattle.sl_trace.specs.Traces.{Trace, end_of, holdings, is_running, orphans_left, running_jobs, stands_for}
+use Rattle.sl_trace.specs.Traces.{Trace, end_of, holdings, is_running, no_process, orphans_left, running_jobs, stands_for}
 use Rattle.sl_trace.specs.declared.effects.Signal.TheVariants.{Term}
 use Rattle.sl_trace.specs.declared.input.Input.TheVariants.{Answer as Told, Exit, Line, Number, Spawned, Wake}
 use Rattle.sl_trace.specs.declared.input.Input.{Input}
 use Rattle.sl_trace.specs.declared.reply.Reply.TheVariants.{NoProcess, SpawnFault, Started}
 use Rattle.sl_trace.specs.declared.reply.Reply.{Reply}
 use Rattle.std.specs.Option.{option_map_or}
-use Rattle.std.specs.Prelude.{Bool, None, Option, Some, false, filter, find, true, ℕ, ◌==◌}
+use Rattle.std.specs.Prelude.{Bool, None, Option, Some, false, filter, find, not, true, ℕ, ◌==◌}
 
 -- ---- exits and starts
 
@@ -27,9 +27,9 @@ refuse_jobs_of p x = for_each (filter (is_job_of_process (seen x) p) (running_jo
 unfoldable pub leave_holdings : ℕ → Step → Step
 leave_holdings p x = for_each (orphans_left p (holdings (seen x))) add_grant (end_holdings p x)
 
--- A process has exited: its holdings end or become orphans, its jobs are refused.
+-- A process has exited: its holdings end or become orphans, its jobs are refused. (No process has the number of none.).
 unfoldable pub on_exit : ℕ → Step → Step
-on_exit p x = refuse_jobs_of p (leave_holdings p x)
+on_exit p x = when (not (p == no_process)) (λ y. refuse_jobs_of p (leave_holdings p y)) x
 
 -- The reply to a command whose child was started.
 abbrev pub started_reply : Trace → ℕ → Reply

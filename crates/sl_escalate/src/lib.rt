@@ -19,5 +19,3 @@ pub mod recovery;
 
 pub use recovery::Recovery;
 
-#[cfg(test)]
-mod tests;

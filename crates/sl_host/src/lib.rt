@@ -22,5 +22,3 @@ mod step;
 
 pub use host::Host;
 
-#[cfg(test)]
-mod tests;

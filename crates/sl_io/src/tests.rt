@@ -1,57 +1,13 @@
-//! The loops over the memory forms in several pieces and with failing calls, and the adapters over files and over a reader and a
-//! writer that misbehave.
+//! Each call of the loops failing in turn, and the adapters over files and over a reader and a writer that misbehave.
 
 use crate::{
-    MemSink, MemSource, ReadAll, ReadAllError, ReadSource, Sink, Source, WriteSink, fill, read_all,
+    MemSink, MemSource, ReadAll, ReadAllError, ReadSource, Sink, Source, WriteSink, read_all,
     write_all,
 };
 use std::fs::File;
 use std::io;
 use std::io::{ErrorKind, Read, Write};
 use std::test::Fail;
-
-#[test]
-fn reads_to_the_end_in_any_pieces(rt: HostRuntime) -> Result<(), Fail> {
-    let alloc = rt.alloc();
-    for piece in [0, 1, 3, 100] {
-        let bytes = b"lease".to_vec(alloc)?;
-        let mut source = MemSource::new(bytes, vec![in alloc; 2, piece]?, vec![in alloc]?);
-        match read_all(alloc, &mut source, 5)? {
-            ReadAll::Whole(read) => assert_eq!(rt; read.as_slice(), b"lease".as_slice()),
-            ReadAll::Longer(_) => assert!(rt; false, "five bytes are not above five"),
-        }
-        assert_eq!(rt; source.left().len(), 0);
-        assert_eq!(rt; source.faults(), 0);
-    }
-    Ok(())
-}
-
-#[test]
-fn reads_one_byte_past_the_limit(rt: HostRuntime) -> Result<(), Fail> {
-    let alloc = rt.alloc();
-    let mut source = MemSource::new(b"lease".to_vec(alloc)?, vec![in alloc]?, vec![in alloc]?);
-    match read_all(alloc, &mut source, 3)? {
-        ReadAll::Whole(_) => assert!(rt; false, "five bytes are above three"),
-        ReadAll::Longer(read) => assert_eq!(rt; read.as_slice(), b"leas".as_slice()),
-    }
-    assert_eq!(rt; source.left(), b"e".as_slice());
-    Ok(())
-}
-
-#[test]
-fn fills_a_buffer(rt: HostRuntime) -> Result<(), Fail> {
-    let alloc = rt.alloc();
-    let bytes = b"lease".to_vec(alloc)?;
-    let mut source = MemSource::new(bytes, vec![in alloc; 1]?, vec![in alloc; 5]?);
-    let mut buffer = [0; 4];
-    assert!(rt; fill(&mut source, &mut buffer)?);
-    assert_eq!(rt; &buffer, b"leas");
-    assert!(rt; fill(&mut source, &mut buffer).is_err());
-    assert_eq!(rt; source.faults(), 1);
-    assert!(rt; !fill(&mut source, &mut buffer)?);
-    assert_eq!(rt; source.left().len(), 0);
-    Ok(())
-}
 
 #[test]
 fn each_read_fails_in_turn(rt: HostRuntime) -> Result<(), Fail> {

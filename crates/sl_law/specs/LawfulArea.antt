@@ -61,9 +61,10 @@ pub record LawfulAreaWrite (st : Setting) (es : Trace) (s : Session) (c : Submit
   -- another place is another record's, or another host's
   pub placed : record_offset st s (spot_of_call st.layout c) r ≡ Some c.call.offset
 
--- The session's unanswered calls on the area that write, or read its blocks.
+-- The session's unanswered work on the area that writes, or reads its blocks. (Where a command names the place of the
+-- session's own lockspace, its delta calls lie there too, and are no part of that work.).
 abbrev pub open_block_work : Setting → Trace → Session → Spot → List Submitted
-open_block_work st es s at = filter (λ c. is_block_work c && is_on st.layout at c.call) (open_calls_of es s)
+open_block_work st es s at = filter (λ c. is_area_work c.call.purpose && (is_block_work c && is_on st.layout at c.call)) (open_calls_of es s)
 
 -- Whether the record is a delta record.
 abbrev pub is_delta_record : Rec → Bool

@@ -53,6 +53,3 @@ pub record LawfulGrant (st : Setting) (past : Trace) (e : Entry) : Type 0 where
   pub owned : (g : Grant) → Contains e.effects.grants g → IsSome (session_numbered st (e ∷ past) g.session)
   pub each : (g : Grant) (s : Session) → Contains e.effects.grants g → session_numbered st (e ∷ past) g.session ≡ Some s → LawfulGrantTo st (e ∷ past) s g
   pub orphans : (g : Grant) → Contains e.effects.grants g → IsTrue (is_orphan g) → LawfulOrphan past e g
-  -- a persistent holding that ended with its process would leave the resource to others while what it guards is still in use
-  pub kept : (h : Grant) → Contains (holdings past) h → e.input ≡ Exit h.process → h.persistent ≡ true →
-      IsTrue (has_orphan_of (holdings (e ∷ past)) h)

@@ -1,6 +1,7 @@
 -- When a session may write and read a resource's value, and what it may answer.
 use Rattle.sl_area.specs.Layouts.{record_in}
 use Rattle.sl_area.specs.Places.{value_offset}
+use Rattle.sl_law.specs.LawfulArea.{is_area_work}
 use Rattle.sl_law.specs.LawfulLeader.{open_writes_on}
 use Rattle.sl_law.specs.Saying.{EachCall, IsAnsweredAt}
 use Rattle.sl_leases.specs.Counts.{next_value_seq}
@@ -43,9 +44,10 @@ abbrev pub held_since : ℕ → Trace → Session → Spot → Bool
 held_since since [] s at = true
 held_since since (e ∷ es) s at = (not (nat_le since (length es)) || nat_lt 0 (length (holdings_on (e ∷ es) s at))) && held_since since es s at
 
--- Whether the session submitted a write on the area from entry number `since` on.
+-- Whether the session submitted a write on the area, but of a delta record, from entry number `since` on.
 abbrev pub writes_since : Setting → ℕ → Trace → Session → Spot → Bool
-writes_since st since es s at = list_any (λ c. nat_le since c.at && is_write c.call.op && is_on st.layout at c.call) (calls_of es s)
+writes_since st since es s at =
+    list_any (λ c. is_area_work c.call.purpose && (nat_le since c.at && (is_write c.call.op && is_on st.layout at c.call))) (calls_of es s)
 
 -- The answer ok to a reader.
 pub record LawfulValueReply (st : Setting) (past : Trace) (e : Entry) (job lver seq : ℕ) (bytes : List ℕ) : Type 0 where

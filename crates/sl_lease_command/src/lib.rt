@@ -12,5 +12,3 @@ mod reading;
 pub use command::LeaseCommand;
 pub use reading::read_lease_command;
 
-#[cfg(test)]
-mod tests;

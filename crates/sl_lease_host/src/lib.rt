@@ -22,5 +22,3 @@ mod told;
 pub use host::LeaseHost;
 pub use phase::{Doing, JobCommand, Phase};
 
-#[cfg(test)]
-mod tests;

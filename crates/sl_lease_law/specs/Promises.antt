@@ -43,7 +43,7 @@ pub record WasAnsweredBy (d c : Submitted) : Type 0 where
 abbrev pub OneAtATime : Type 0
 OneAtATime = (st : Setting) (es : Trace) → Lawful st es → (newer between older : List Submitted) (c d : Submitted)
     → submitted es ≡ newer ++ c ∷ (between ++ d ∷ older) → c.call.session ≡ d.call.session
-    → IsTrue (is_block_work c) → IsTrue (is_area_work c.call.purpose) → IsTrue (is_block_work d) → IsTrue (is_on st.layout (spot_of_call st.layout c) d.call)
+    → IsTrue (is_block_work c) → IsTrue (is_area_work c.call.purpose) → IsTrue (is_block_work d) → IsTrue (is_area_work d.call.purpose) → IsTrue (is_on st.layout (spot_of_call st.layout c) d.call)
     → WasAnsweredBy d c
 
 -- Each block comes from the own block by one of three ways. (With no hosts there are no numbers.)

@@ -13,5 +13,3 @@ pub mod laws;
 pub use bitmap::Bitmap;
 pub use check::{Act, RequestOld, check_request};
 
-#[cfg(test)]
-mod tests;

@@ -25,5 +25,3 @@ pub use deed::Deed;
 pub use evidence::{Evidence, Held};
 pub use lease::Lease;
 
-#[cfg(test)]
-mod tests;

@@ -25,5 +25,3 @@ pub use lines::{Line, Lines, line_refusal};
 pub use schedule::{EventLine, event_line, next_event_line, read_header};
 pub use writing::{Counts, push_end_line, push_refusal_line, push_test_line};
 
-#[cfg(test)]
-mod tests;

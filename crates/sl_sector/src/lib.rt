@@ -28,5 +28,3 @@ pub use sector::{
 };
 pub use texts::{push_bad_text, push_record_text};
 
-#[cfg(test)]
-mod tests;

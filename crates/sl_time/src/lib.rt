@@ -8,5 +8,3 @@ pub mod timing;
 pub use clock::{Clock, MemClock};
 pub use timing::{Timing, TimingBad};
 
-#[cfg(test)]
-mod tests;

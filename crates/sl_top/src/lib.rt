@@ -22,9 +22,3 @@ pub use mem_devices::{LentDisk, MemDevices, MemDisk};
 pub use status::Status;
 pub use top::{run, run_offline};
 
-#[cfg(test)]
-mod machine_tests;
-#[cfg(test)]
-mod refusal_tests;
-#[cfg(test)]
-mod tests;

@@ -10,5 +10,3 @@ mod value;
 
 pub use value::{Value, Version, get, next_seq, set};
 
-#[cfg(test)]
-mod tests;

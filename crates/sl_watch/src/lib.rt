@@ -16,5 +16,3 @@ pub mod watch;
 
 pub use watch::Watch;
 
-#[cfg(test)]
-mod tests;

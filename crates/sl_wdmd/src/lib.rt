@@ -20,5 +20,3 @@ pub mod wdmd;
 
 pub use wdmd::Wdmd;
 
-#[cfg(test)]
-mod tests;

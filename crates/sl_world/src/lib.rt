@@ -27,7 +27,3 @@ pub use idle::idle_refusal;
 pub use kept::is_first_event;
 pub use world::{ApplyError, World};
 
-#[cfg(test)]
-mod done_tests;
-#[cfg(test)]
-mod tests;
