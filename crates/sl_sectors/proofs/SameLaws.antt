@@ -11,11 +11,11 @@ use Rattle.sl_sector.specs.declared.sector.ValueRec.{ValueRec}
 use Rattle.sl_sectors.specs.Same.{same_block, same_delta, same_host, same_leader, same_record, same_request, same_state, same_value}
 use Rattle.sl_words.proofs.CaseLaws.{false_is_true}
 use Rattle.sl_words.specs.Words.{same_truth}
-use Rattle.std.proofs.Common.{ap, refl, ◌∙◌}
+use Rattle.std.proofs.Common.{ap, refl}
 use Rattle.std.proofs.lemmas.Bool.Decides.{Decides-and, Decides-eqb, Decides-like}
 use Rattle.std.proofs.lemmas.Slice.Eq.{bytes_eq-Decides}
 use Rattle.std.specs.Bool.{Decides}
-use Rattle.std.specs.Prelude.{Bool, List, None, Option, Some, bytes_eq, false, true, ℕ, ◌&&◌, ◌==◌, ◌≡◌}
+use Rattle.std.specs.Prelude.{Bool, List, None, Option, Some, false, true, ℕ, ◌≡◌}
 
 -- ---- fields
 
@@ -46,42 +46,94 @@ host_decides None None = (λ _. refl, λ _. refl)
 
 delta_decides : (a b : DeltaRec) → Decides (same_delta a b) (a ≡ b)
 delta_decides a b =
-    Decides-like _ together (λ h. (ap (λ x. x.state) h, ap (λ x. x.id) h, ap (λ x. x.generation) h, ap (λ x. x.seq) h, ap (λ x. x.stamp) h, ap (λ x. x.lockspace) h, ap (λ x. x.host) h, ap (λ x. x.bitmap) h))
-    (Decides-and _ _ (state_decides a.state b.state) (Decides-and _ _ (Decides-eqb a.id b.id) (Decides-and _ _ (Decides-eqb a.generation b.generation)
-    (Decides-and _ _ (Decides-eqb a.seq b.seq) (Decides-and _ _ (Decides-eqb a.stamp b.stamp) (Decides-and _ _ (bytes_eq-Decides a.lockspace b.lockspace)
-    (Decides-and _ _ (host_decides a.host b.host) (bytes_eq-Decides a.bitmap b.bitmap))))))))
+    Decides-like _ (λ h. made_same h.0.0.0.0.0.0.0 h.0.0.0.0.0.0.1 h.0.0.0.0.0.1 h.0.0.0.0.1 h.0.0.0.1 h.0.0.1 h.0.1 h.1)
+    (λ h. (((((((ap (λ x. x.state) h, ap (λ x. x.id) h), ap (λ x. x.generation) h), ap (λ x. x.seq) h), ap (λ x. x.stamp) h), ap (λ x. x.lockspace) h), ap (λ x. x.host) h), ap (λ x. x.bitmap) h))
+    (Decides-and _ _ (Decides-and _ _ (Decides-and _ _ (Decides-and _ _ (Decides-and _ _ (Decides-and _ _ (Decides-and _ _ (state_decides a.state b.state)
+    (Decides-eqb a.id b.id)) (Decides-eqb a.generation b.generation)) (Decides-eqb a.seq b.seq)) (Decides-eqb a.stamp b.stamp))
+    (bytes_eq-Decides a.lockspace b.lockspace)) (host_decides a.host b.host)) (bytes_eq-Decides a.bitmap b.bitmap))
   where
     made : DeltaState → ℕ → ℕ → ℕ → ℕ → List ℕ → Option (List ℕ) → List ℕ → DeltaRec
     made s i g q t l h m = record { state = s; id = i; generation = g; seq = q; stamp = t; lockspace = l; host = h; bitmap = m }
-    together : (a.state ≡ b.state) × (a.id ≡ b.id) × (a.generation ≡ b.generation) × (a.seq ≡ b.seq) × (a.stamp ≡ b.stamp) × (a.lockspace ≡ b.lockspace)
-        × (a.host ≡ b.host) × (a.bitmap ≡ b.bitmap) → a ≡ b
-    together h =
-        ap (λ x. made x a.id a.generation a.seq a.stamp a.lockspace a.host a.bitmap) h.0 ∙ ap (λ x. made b.state x a.generation a.seq a.stamp a.lockspace a.host a.bitmap) h.1
-        ∙ ap (λ x. made b.state b.id x a.seq a.stamp a.lockspace a.host a.bitmap) h.2 ∙ ap (λ x. made b.state b.id b.generation x a.stamp a.lockspace a.host a.bitmap) h.3
-        ∙ ap (λ x. made b.state b.id b.generation b.seq x a.lockspace a.host a.bitmap) h.4 ∙ ap (λ x. made b.state b.id b.generation b.seq b.stamp x a.host a.bitmap) h.5
-        ∙ ap (λ x. made b.state b.id b.generation b.seq b.stamp b.lockspace x a.bitmap) h.6 ∙ ap (λ x. made b.state b.id b.generation b.seq b.stamp b.lockspace b.host x) h.7
+
+    made_same : {s s' : DeltaState} {i i' g g' q q' t t' : ℕ} {l l' : List ℕ} {h h' : Option (List ℕ)} {m m' : List ℕ} → s ≡ s' → i ≡ i' → g ≡ g' → q ≡ q' → t ≡ t'
+        → l ≡ l' → h ≡ h' → m ≡ m' → made s i g q t l h m ≡ made s' i' g' q' t' l' h' m'
+    made_same e1 e2 e3 e4 e5 e6 e7 e8 = cc
 
 leader_decides : (a b : Leader) → Decides (same_leader a b) (a ≡ b)
 leader_decides a b =
-    Decides-like _ together (λ h. (ap (λ x. x.held) h, ap (λ x. x.num_hosts) h, ap (λ x. x.lver) h, ap (λ x. x.generation) h, ap (λ x. x.owner) h, ap (λ x. x.lockspace) h, ap (λ x. x.resource) h))
-    (Decides-and _ _ (truth_decides a.held b.held) (Decides-and _ _ (Decides-eqb a.num_hosts b.num_hosts) (Decides-and _ _ (Decides-eqb a.lver b.lver)
-    (Decides-and _ _ (Decides-eqb a.generation b.generation) (Decides-and _ _ (Decides-eqb a.owner b.owner)
-    (Decides-and _ _ (bytes_eq-Decides a.lockspace b.lockspace) (bytes_eq-Decides a.resource b.resource)))))))
+    Decides-like _ (λ h. made_same h.0.0.0.0.0.0 h.0.0.0.0.0.1 h.0.0.0.0.1 h.0.0.0.1 h.0.0.1 h.0.1 h.1)
+    (λ h. ((((((ap (λ x. x.held) h, ap (λ x. x.num_hosts) h), ap (λ x. x.lver) h), ap (λ x. x.generation) h), ap (λ x. x.owner) h), ap (λ x. x.lockspace) h), ap (λ x. x.resource) h))
+    (Decides-and _ _ (Decides-and _ _ (Decides-and _ _ (Decides-and _ _ (Decides-and _ _ (Decides-and _ _ (truth_decides a.held b.held)
+    (Decides-eqb a.num_hosts b.num_hosts)) (Decides-eqb a.lver b.lver)) (Decides-eqb a.generation b.generation)) (Decides-eqb a.owner b.owner))
+    (bytes_eq-Decides a.lockspace b.lockspace)) (bytes_eq-Decides a.resource b.resource))
   where
-    together : (a.held ≡ b.held) × (a.num_hosts ≡ b.num_hosts) × (a.lver ≡ b.lver) × (a.generation ≡ b.generation) × (a.owner ≡ b.owner)
-        × (a.lockspace ≡ b.lockspace) × (a.resource ≡ b.resource) → a ≡ b
-    together h = cc
+    made : Bool → ℕ → ℕ → ℕ → ℕ → List ℕ → List ℕ → Leader
+    made d n v g o l r = record { held = d; num_hosts = n; lver = v; generation = g; owner = o; lockspace = l; resource = r }
+
+    made_same : {d d' : Bool} {n n' v v' g g' o o' : ℕ} {l l' r r' : List ℕ} → d ≡ d' → n ≡ n' → v ≡ v' → g ≡ g' → o ≡ o' → l ≡ l' → r ≡ r'
+        → made d n v g o l r ≡ made d' n' v' g' o' l' r'
+    made_same e1 e2 e3 e4 e5 e6 e7 = cc
 
 block_decides : (a b : Block) → Decides (same_block a b) (a ≡ b)
-block_decides a b = ?
+block_decides a b =
+    Decides-like _ (λ h. made_same h.0.0.0.0.0.0.0 h.0.0.0.0.0.0.1 h.0.0.0.0.0.1 h.0.0.0.0.1 h.0.0.0.1 h.0.0.1 h.0.1 h.1)
+    (λ h. (((((((ap (λ x. x.host) h, ap (λ x. x.shared) h), ap (λ x. x.lver) h), ap (λ x. x.mbal) h), ap (λ x. x.bal) h), ap (λ x. x.inp_gen) h), ap (λ x. x.mode_gen) h), ap (λ x. x.inp) h))
+    (Decides-and _ _ (Decides-and _ _ (Decides-and _ _ (Decides-and _ _ (Decides-and _ _ (Decides-and _ _ (Decides-and _ _ (Decides-eqb a.host b.host)
+    (truth_decides a.shared b.shared)) (Decides-eqb a.lver b.lver)) (Decides-eqb a.mbal b.mbal)) (Decides-eqb a.bal b.bal))
+    (Decides-eqb a.inp_gen b.inp_gen)) (Decides-eqb a.mode_gen b.mode_gen)) (Decides-eqb a.inp b.inp))
+  where
+    made : ℕ → Bool → ℕ → ℕ → ℕ → ℕ → ℕ → ℕ → Block
+    made h s v m b g o i = record { host = h; shared = s; lver = v; mbal = m; bal = b; inp_gen = g; mode_gen = o; inp = i }
+
+    made_same : {h h' : ℕ} {s s' : Bool} {v v' m m' b b' g g' o o' i i' : ℕ} → h ≡ h' → s ≡ s' → v ≡ v' → m ≡ m' → b ≡ b' → g ≡ g' → o ≡ o' → i ≡ i'
+        → made h s v m b g o i ≡ made h' s' v' m' b' g' o' i'
+    made_same e1 e2 e3 e4 e5 e6 e7 e8 = cc
 
 request_decides : (a b : Request) → Decides (same_request a b) (a ≡ b)
-request_decides a b = ?
+request_decides a b =
+    Decides-like _ (λ h. made_same h.0.0 h.0.1 h.1) (λ h. ((ap (λ x. x.force) h, ap (λ x. x.host) h), ap (λ x. x.lver) h))
+    (Decides-and _ _ (Decides-and _ _ (Decides-eqb a.force b.force) (Decides-eqb a.host b.host)) (Decides-eqb a.lver b.lver))
+  where
+    made : ℕ → ℕ → ℕ → Request
+    made f h v = record { force = f; host = h; lver = v }
+
+    made_same : {f f' h h' v v' : ℕ} → f ≡ f' → h ≡ h' → v ≡ v' → made f h v ≡ made f' h' v'
+    made_same e1 e2 e3 = cc
 
 value_decides : (a b : ValueRec) → Decides (same_value a b) (a ≡ b)
-value_decides a b = ?
+value_decides a b =
+    Decides-like _ (λ h. made_same h.0.0.0 h.0.0.1 h.0.1 h.1) (λ h. (((ap (λ x. x.host) h, ap (λ x. x.lver) h), ap (λ x. x.seq) h), ap (λ x. x.bytes) h))
+    (Decides-and _ _ (Decides-and _ _ (Decides-and _ _ (Decides-eqb a.host b.host) (Decides-eqb a.lver b.lver)) (Decides-eqb a.seq b.seq)) (bytes_eq-Decides a.bytes b.bytes))
+  where
+    made : ℕ → ℕ → ℕ → List ℕ → ValueRec
+    made h v q b = record { host = h; lver = v; seq = q; bytes = b }
+
+    made_same : {h h' v v' q q' : ℕ} {b b' : List ℕ} → h ≡ h' → v ≡ v' → q ≡ q' → b ≡ b' → made h v q b ≡ made h' v' q' b'
+    made_same e1 e2 e3 e4 = cc
 
 pub record_decides : (r s : Rec) → Decides (same_record r s) (r ≡ s)
 record_decides (DeltaIs a) (DeltaIs b) = Decides-like _ (λ h. ap DeltaIs h) (λ h. cc) (delta_decides a b)
+record_decides (DeltaIs a) (LeaderIs b) = (λ h. absurd (false_is_true h), λ h. cc)
+record_decides (DeltaIs a) (BlockIs b) = (λ h. absurd (false_is_true h), λ h. cc)
+record_decides (DeltaIs a) (RequestIs b) = (λ h. absurd (false_is_true h), λ h. cc)
+record_decides (DeltaIs a) (ValueIs b) = (λ h. absurd (false_is_true h), λ h. cc)
+record_decides (LeaderIs a) (DeltaIs b) = (λ h. absurd (false_is_true h), λ h. cc)
 record_decides (LeaderIs a) (LeaderIs b) = Decides-like _ (λ h. ap LeaderIs h) (λ h. cc) (leader_decides a b)
-record_decides r s = ?
+record_decides (LeaderIs a) (BlockIs b) = (λ h. absurd (false_is_true h), λ h. cc)
+record_decides (LeaderIs a) (RequestIs b) = (λ h. absurd (false_is_true h), λ h. cc)
+record_decides (LeaderIs a) (ValueIs b) = (λ h. absurd (false_is_true h), λ h. cc)
+record_decides (BlockIs a) (DeltaIs b) = (λ h. absurd (false_is_true h), λ h. cc)
+record_decides (BlockIs a) (LeaderIs b) = (λ h. absurd (false_is_true h), λ h. cc)
+record_decides (BlockIs a) (BlockIs b) = Decides-like _ (λ h. ap BlockIs h) (λ h. cc) (block_decides a b)
+record_decides (BlockIs a) (RequestIs b) = (λ h. absurd (false_is_true h), λ h. cc)
+record_decides (BlockIs a) (ValueIs b) = (λ h. absurd (false_is_true h), λ h. cc)
+record_decides (RequestIs a) (DeltaIs b) = (λ h. absurd (false_is_true h), λ h. cc)
+record_decides (RequestIs a) (LeaderIs b) = (λ h. absurd (false_is_true h), λ h. cc)
+record_decides (RequestIs a) (BlockIs b) = (λ h. absurd (false_is_true h), λ h. cc)
+record_decides (RequestIs a) (RequestIs b) = Decides-like _ (λ h. ap RequestIs h) (λ h. cc) (request_decides a b)
+record_decides (RequestIs a) (ValueIs b) = (λ h. absurd (false_is_true h), λ h. cc)
+record_decides (ValueIs a) (DeltaIs b) = (λ h. absurd (false_is_true h), λ h. cc)
+record_decides (ValueIs a) (LeaderIs b) = (λ h. absurd (false_is_true h), λ h. cc)
+record_decides (ValueIs a) (BlockIs b) = (λ h. absurd (false_is_true h), λ h. cc)
+record_decides (ValueIs a) (RequestIs b) = (λ h. absurd (false_is_true h), λ h. cc)
+record_decides (ValueIs a) (ValueIs b) = Decides-like _ (λ h. ap ValueIs h) (λ h. cc) (value_decides a b)

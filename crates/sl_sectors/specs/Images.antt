@@ -7,7 +7,8 @@ use Rattle.sl_sector.specs.declared.sector.Rec.{Rec}
 use Rattle.sl_sectors.specs.Same.{same_record}
 use Rattle.sl_sectors.specs.declared.image.Content.TheVariants.{Raw, Spelled}
 use Rattle.sl_sectors.specs.declared.image.Content.{Content}
-use Rattle.std.specs.Prelude.{Bool, Err, IfOk, List, Ok, Result, bytes_eq, false, length, [], ℕ, ◌&&◌, ◌==◌, ◌≡◌}
+use Rattle.sl_words.specs.Words.{choose}
+use Rattle.std.specs.Prelude.{Bool, Err, IfOk, List, Ok, Option, Result, bytes_eq, drop, false, length, nat_lt, take, [], ℕ, ◌*◌, ◌≡◌}
 
 -- ---- one sector
 
@@ -48,3 +49,7 @@ same_found p q x y = false
 pub record Run : Type 0 where
   pub size : ℕ
   pub bytes : List ℕ
+
+-- What sector k spells, if there are so many.
+abbrev pub record_at : Run → ℕ → Option (Result Rec Bad)
+record_at s k = choose (nat_lt (k * s.size) (length s.bytes)) (decoded sha256 (take s.size (drop (k * s.size) s.bytes)))

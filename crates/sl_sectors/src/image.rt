@@ -4,7 +4,7 @@ ghost use Rattle.sha2.specs.Sha256.{sha256};
 ghost use Rattle.sl_sector.specs.Records.{IsRecord};
 ghost use Rattle.sl_sector.specs.Spelling.{IsSectorSize, decoded, spelling};
 ghost use Rattle.sl_sectors.specs.Images.{found_of, raw_of, same_found};
-ghost use Rattle.std.specs.Prelude.{bytes_eq, length, OnErr, OnOk, ◌++◌, ◌≡◌};
+ghost use Rattle.std.specs.Prelude.{bytes_eq, length, OnErr, OnOk, ◌&&◌, ◌++◌, ◌==◌, ◌≡◌};
 
 use crate::same::is_same_record;
 use sl_sector::{Bad, Rec, decode};
@@ -18,7 +18,10 @@ pub(crate) enum Content {
     /// The sector that spells this record.
     Spelled(Rec),
     /// These bytes, and what they spell.
-    Raw { bytes: Bytes, found: Result<Rec, Bad> },
+    Raw {
+        bytes: Bytes,
+        found: Result<Rec, Bad>,
+    },
 }
 
 /// A sector, seen as its bytes.
@@ -49,14 +52,14 @@ impl Image {
     }
 
     /// The sector that spells a record. It takes no memory, and nothing is hashed.
-    pub fn of_record(size: u32, record: Rec) -> Image
+    pub fn of_record(size: u32, spelled: Rec) -> Image
         requires sized { IsSectorSize size }
-        requires rules { IsRecord record }
-        ensures { result ≡ spelling sha256 size record }
+        requires rules { IsRecord spelled }
+        ensures { result ≡ spelling sha256 size spelled }
     {
         Image {
             size,
-            content: Content::Spelled(record),
+            content: Content::Spelled(spelled),
         }
     }
 
@@ -101,7 +104,7 @@ impl Image {
     pub fn is_same(&self, other: &Image) -> bool
         ensures { result ≡ bytes_eq self.now other.now }
     {
-        self.size == other.size && is_same_content(&self.content, &other.content)
+        is_same_sector(self.size, &self.content, other.size, &other.content)
     }
 }
 
@@ -135,4 +138,11 @@ fn is_same_content(a: &Content, b: &Content) -> bool
         (Ok(_), Err(_)) => false,
         (Err(_), Ok(_)) => false,
     }
+}
+
+/// Whether two sectors are the same.
+fn is_same_sector(size: u32, a: &Content, other: u32, b: &Content) -> bool
+    ensures { result ≡ (size == other && same_found (found_of a.now) (found_of b.now) (raw_of a.now) (raw_of b.now)) }
+{
+    size == other && is_same_content(a, b)
 }

@@ -1,11 +1,9 @@
 //! Sectors one after another, as a read gives them.
 
-ghost use Rattle.sha2.specs.Sha256.{sha256};
-ghost use Rattle.sl_sector.specs.Spelling.{decoded};
-ghost use Rattle.sl_sectors.specs.Images.{Run};
-ghost use Rattle.sl_words.specs.Words.{choose};
+ghost use Rattle.sl_sector.specs.Spelling.{IsSectorSize};
+ghost use Rattle.sl_sectors.specs.Images.{record_at};
 ghost use Rattle.std.specs.Arc.{arc_value};
-ghost use Rattle.std.specs.Prelude.{drop, flat_map, length, nat_lt, take, OnErr, OnOk, [], ◌*◌, ◌++◌, ◌≡◌};
+ghost use Rattle.std.specs.Prelude.{flat_map, length, OnErr, OnOk, [], ◌*◌, ◌++◌, ◌≡◌};
 
 use crate::image::Image;
 use sl_sector::{Bad, Rec};
@@ -21,6 +19,7 @@ pub struct Images {
 }
 
 impl Model for Images {
+    ghost use Rattle.sl_sector.specs.Spelling.{IsSectorSize};
     ghost use Rattle.sl_sectors.specs.Images.{Run};
     ghost use Rattle.std.specs.Arc.{arc_value};
     ghost use Rattle.std.specs.List.{list_all};
@@ -30,12 +29,13 @@ impl Model for Images {
 
     ghost view = { λ s. record { size = s.size; bytes = flat_map (λ m. arc_value m) s.items.items } };
 
-    ghost invariant = { λ s. list_all (λ m. length (arc_value m) == s.size) s.items.items ≡ true };
+    ghost invariant = { λ s. IsSectorSize s.size × (list_all (λ m. length (arc_value m) == s.size) s.items.items ≡ true) };
 }
 
 impl Images {
     /// No sectors, of this size.
     pub fn new(alloc: Global, size: u32) -> Images
+        requires { IsSectorSize size }
         ensures { result ≡ record { size = size; bytes = [] } }
     {
         Images {
@@ -59,15 +59,17 @@ impl Images {
     pub fn len(&self) -> usize
         ensures { result * self.now.size ≡ length self.now.bytes }
     {
-        self.items.len()
+        count(&self.items)
     }
 
     /// What sector k spells, or why it spells nothing, if there are so many. Nothing is hashed.
     pub fn record(&self, k: usize) -> Option<Result<Rec, Bad>>
-        ensures { result ≡ choose (nat_lt (k * self.now.size) (length self.now.bytes)) (decoded sha256 (take self.now.size (drop (k * self.now.size) self.now.bytes))) }
+        ensures { result ≡ record_at self.now k }
     {
-        let image = self.items.get(k)?;
-        Some(image.record())
+        match self.items.get(k) {
+            None => None,
+            Some(image) => Some(image.record()),
+        }
     }
 
     /// The sectors, to be read or shared.
@@ -81,9 +83,17 @@ impl Images {
     pub fn push_bytes(&self, out: &mut Vec<u8>) -> Result<(), AllocError>
         ensures { OnOk result (out.new.items ≡ out.old.items ++ self.now.bytes) }
     {
-        for image in &self.items {
+        let images = self.as_slice();
+        for image in images {
             image.push_bytes(out)?;
         }
         Ok(())
     }
+}
+
+/// How many there are.
+fn count(items: &Vec<Arc<Image>>) -> usize
+    ensures { result ≡ length items.now.items }
+{
+    items.len()
 }

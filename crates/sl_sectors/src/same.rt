@@ -91,7 +91,10 @@ fn is_same_request(a: &Request, b: &Request) -> bool
 fn is_same_value(a: &ValueRec, b: &ValueRec) -> bool
     ensures { result ≡ same.same_value a.now b.now }
 {
-    a.host == b.host && a.lver == b.lver && a.seq == b.seq && a.bytes.as_slice() == b.bytes.as_slice()
+    a.host == b.host
+        && a.lver == b.lver
+        && a.seq == b.seq
+        && a.bytes.as_slice() == b.bytes.as_slice()
 }
 
 /// Whether two records are one.
