@@ -8,7 +8,7 @@ use Rattle.sl_request.specs.Requests.{check_request}
 use Rattle.sl_sector.specs.Bitmaps.{bitmap_of}
 use Rattle.sl_sector.specs.Spelling.{request_in, value_in}
 use Rattle.sl_sector.specs.declared.sector.Rec.TheVariants.{RequestIs}
-use Rattle.sl_sessions.specs.Sessions.{Session}
+use Rattle.sl_sessions.specs.declared.session.Session.{Session}
 use Rattle.sl_time.specs.Times.{fail}
 use Rattle.sl_trace.specs.Traces.{Setting, Submitted, is_ok_answer, is_orphan}
 use Rattle.sl_trace.specs.declared.command.Command.TheVariants.{Request}

@@ -33,7 +33,7 @@ use Rattle.sl_sector.specs.declared.sector.DeltaRec.{DeltaRec}
 use Rattle.sl_sector.specs.declared.sector.DeltaState.TheVariants.{Live}
 use Rattle.sl_sector.specs.declared.sector.Rec.TheVariants.{DeltaIs, RequestIs}
 use Rattle.sl_sessions.specs.Deltas.{next_after_deciding, next_after_first, next_after_verify, next_after_watch, next_in_joining, next_on_wake, next_renewal}
-use Rattle.sl_sessions.specs.Sessions.{Session}
+use Rattle.sl_sessions.specs.declared.session.Session.{Session}
 use Rattle.sl_text.specs.Names.{padded_text}
 use Rattle.sl_trace.specs.Commands.{command_in, forms}
 use Rattle.sl_trace.specs.EffectTexts.{reply_words}

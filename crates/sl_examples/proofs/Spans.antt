@@ -26,7 +26,8 @@ use Rattle.sl_sector.specs.declared.sector.DeltaState.TheVariants.{Claimed, Live
 use Rattle.sl_sector.specs.declared.sector.DeltaState.{DeltaState}
 use Rattle.sl_sector.specs.declared.sector.Rec.TheVariants.{DeltaIs}
 use Rattle.sl_sessions.specs.Deltas.{next_after_deciding, next_after_first, next_after_verify, next_after_watch, next_in_joining, next_on_wake, next_renewal}
-use Rattle.sl_sessions.specs.Watching.{Sighting, evidence, host_state}
+use Rattle.sl_sessions.specs.Watching.{evidence, host_state}
+use Rattle.sl_sessions.specs.declared.sighting.Sighting.{Sighting}
 use Rattle.sl_text.specs.Names.{padded_text}
 use Rattle.sl_time.specs.Times.{TimingNumbers}
 use Rattle.sl_trace.specs.Commands.{forms}

@@ -20,8 +20,9 @@ use Rattle.sl_sector.specs.declared.sector.Rec.TheVariants.{DeltaIs, RequestIs}
 use Rattle.sl_sector.specs.declared.sector.Request.{Request as RequestRec}
 use Rattle.sl_sector.specs.declared.sector.ValueRec.{ValueRec}
 use Rattle.sl_sessions.specs.Deltas.{claim_of, delta_of_session, first_bytes, id_lost, version_in}
-use Rattle.sl_sessions.specs.Sessions.{Session, calls_of, generation_of, holdings_of, is_active, is_join_call, is_joined, is_session_arg, join_call, last_renewal, last_seq, present_sessions, session_named, session_of_job}
+use Rattle.sl_sessions.specs.Sessions.{calls_of, generation_of, holdings_of, is_active, is_join_call, is_joined, is_session_arg, join_call, last_renewal, last_seq, present_sessions, session_named, session_of_job}
 use Rattle.sl_sessions.specs.Watching.{counts_over, sessions_seen, states_seen}
+use Rattle.sl_sessions.specs.declared.session.Session.{Session}
 use Rattle.sl_time.specs.Times.{join_max}
 use Rattle.sl_trace.specs.Limits.{most_lockspaces}
 use Rattle.sl_trace.specs.Traces.{EachEntry, Job, Setting, Submitted, Trace, entry_at, gave, is_of_job, is_orphan, is_shared, is_before_input, job_numbered, no_effects, no_process, record_of, reply_to, same_place, submitted, waiting_call}

@@ -5,7 +5,8 @@ use Rattle.sl_leases.specs.Leases.{is_block_read, is_leader_of, is_on, spot_of_c
 use Rattle.sl_sector.specs.declared.sector.Leader.{Leader}
 use Rattle.sl_sector.specs.declared.sector.Rec.TheVariants.{BlockIs, DeltaIs, LeaderIs, RequestIs, ValueIs}
 use Rattle.sl_sector.specs.declared.sector.Rec.{Rec}
-use Rattle.sl_sessions.specs.Sessions.{Session, calls_of, delta_of_record, is_active, joined_after, open_calls_of}
+use Rattle.sl_sessions.specs.Sessions.{calls_of, delta_of_record, is_active, joined_after, open_calls_of}
+use Rattle.sl_sessions.specs.declared.session.Session.{Session}
 use Rattle.sl_trace.specs.Traces.{Setting, Submitted, Trace, gave, is_write, record_of}
 use Rattle.sl_trace.specs.declared.effects.Entry.{Entry}
 use Rattle.sl_trace.specs.declared.effects.LeaseStep.TheVariants.{Phase1Read, Phase2Read, ReadArea, ReadBeforeFree}

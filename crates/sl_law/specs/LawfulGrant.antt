@@ -2,7 +2,8 @@
 use Rattle.sl_area.specs.Places.{is_base}
 use Rattle.sl_leases.specs.Leases.{freed, leader_written, lease_calls}
 use Rattle.sl_sector.specs.declared.sector.Leader.{Leader}
-use Rattle.sl_sessions.specs.Sessions.{Session, is_active, session_numbered}
+use Rattle.sl_sessions.specs.Sessions.{is_active, session_numbered}
+use Rattle.sl_sessions.specs.declared.session.Session.{Session}
 use Rattle.sl_trace.specs.Traces.{Setting, Submitted, Trace, has_orphan_of, holdings, is_answered_ok, is_orphan, is_shared, orphan_of, same_place, spot_of_grant}
 use Rattle.sl_trace.specs.declared.effects.Entry.{Entry}
 use Rattle.sl_trace.specs.declared.effects.Grant.{Grant}

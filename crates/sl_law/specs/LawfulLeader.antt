@@ -4,7 +4,8 @@ use Rattle.sl_law.specs.Saying.{EachCall}
 use Rattle.sl_leases.specs.Ballots.{owner_of, same_owner}
 use Rattle.sl_leases.specs.Leases.{Leader_freed, Leader_taken, ended_ballots, freed, holdings_on, is_at, is_on, leader_written, lease_calls, spot_of_call}
 use Rattle.sl_sector.specs.declared.sector.Leader.{Leader}
-use Rattle.sl_sessions.specs.Sessions.{Session, me, open_calls_of}
+use Rattle.sl_sessions.specs.Sessions.{me, open_calls_of}
+use Rattle.sl_sessions.specs.declared.session.Session.{Session}
 use Rattle.sl_trace.specs.Traces.{Setting, Submitted, Trace, is_shared, is_write}
 use Rattle.sl_trace.specs.declared.effects.Entry.{Entry}
 use Rattle.sl_trace.specs.declared.effects.Spot.{Spot}

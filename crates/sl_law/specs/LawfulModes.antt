@@ -4,8 +4,9 @@ use Rattle.sl_law.specs.LawfulLeader.{HasWon}
 use Rattle.sl_law.specs.Saying.{EachCall, IsAnsweredAt}
 use Rattle.sl_leases.specs.Leases.{Mode_set, Phase1_write, block_of_host, block_written, blocks_given, ended_ballot, exclusive_on, has_shared_on, holdings_on, is_at, is_block_read, is_free_write, lease_calls, spot_of_call}
 use Rattle.sl_sector.specs.declared.sector.Block.{Block}
-use Rattle.sl_sessions.specs.Sessions.{Session, generation_of, me, session_numbered}
+use Rattle.sl_sessions.specs.Sessions.{generation_of, me, session_numbered}
 use Rattle.sl_sessions.specs.Watching.{counted_over}
+use Rattle.sl_sessions.specs.declared.session.Session.{Session}
 use Rattle.sl_trace.specs.Traces.{Answered, Setting, Submitted, Trace, is_shared, spot_of_grant}
 use Rattle.sl_trace.specs.declared.effects.Entry.{Entry}
 use Rattle.sl_trace.specs.declared.effects.Grant.{Grant}

@@ -2,7 +2,9 @@
 use Rattle.sl_law.specs.LawfulParting.{MayPart}
 use Rattle.sl_law.specs.Saying.{EachSession}
 use Rattle.sl_leases.specs.Jobs.{jobs_of_session}
-use Rattle.sl_sessions.specs.Sessions.{Begun, Session, holders_of, is_joined, leaving_job, leaving_of, recovery_of}
+use Rattle.sl_sessions.specs.Sessions.{holders_of, is_joined, leaving_job, leaving_of, recovery_of}
+use Rattle.sl_sessions.specs.declared.session.Begun.{Begun}
+use Rattle.sl_sessions.specs.declared.session.Session.{Session}
 use Rattle.sl_trace.specs.EffectTexts.{is_ok_reply}
 use Rattle.sl_trace.specs.Traces.{Job, Setting, Trace, kill_program_of, last_reading, stands_for}
 use Rattle.sl_trace.specs.declared.effects.Entry.{Entry}

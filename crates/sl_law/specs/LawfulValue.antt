@@ -8,7 +8,8 @@ use Rattle.sl_leases.specs.Counts.{next_value_seq}
 use Rattle.sl_leases.specs.Leases.{exclusive_on, holdings_on, is_on, spot_of_call, value_written}
 use Rattle.sl_sector.specs.Spelling.{value_in}
 use Rattle.sl_sector.specs.declared.sector.ValueRec.{ValueRec}
-use Rattle.sl_sessions.specs.Sessions.{Session, calls_of, is_active, session_numbered}
+use Rattle.sl_sessions.specs.Sessions.{calls_of, is_active, session_numbered}
+use Rattle.sl_sessions.specs.declared.session.Session.{Session}
 use Rattle.sl_trace.specs.Traces.{Setting, Submitted, Trace, is_write}
 use Rattle.sl_trace.specs.declared.effects.Entry.{Entry}
 use Rattle.sl_trace.specs.declared.effects.Grant.{Grant}

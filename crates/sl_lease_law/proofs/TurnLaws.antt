@@ -9,7 +9,8 @@ use Rattle.sl_lease_law.proofs.NumberLaws.{number_is_place}
 use Rattle.sl_lease_law.specs.Fronts.{Aged, LawfulSubmission, Submission}
 use Rattle.sl_lease_law.specs.Promises.{OneAtATime, WasAnsweredBy}
 use Rattle.sl_leases.specs.Leases.{is_on, spot_of_call}
-use Rattle.sl_sessions.specs.Sessions.{Session, calls_of, is_call_of, open_calls_of}
+use Rattle.sl_sessions.specs.Sessions.{calls_of, is_call_of, open_calls_of}
+use Rattle.sl_sessions.specs.declared.session.Session.{Session}
 use Rattle.sl_trace.specs.Traces.{Answered, Setting, Submitted, Trace, new_call, submitted}
 use Rattle.sl_trace.specs.declared.effects.Call.{Call}
 use Rattle.sl_trace.specs.declared.effects.Spot.{Spot}

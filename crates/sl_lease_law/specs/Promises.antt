@@ -19,8 +19,9 @@ use Rattle.sl_lease_law.specs.Holding.{ExclusiveRests, ModeRests}
 use Rattle.sl_lease_law.specs.Ways.{BlockComes, BlockFront, LeaderRests, Phase2ReadRests, Phase2Rests}
 use Rattle.sl_sector.specs.declared.sector.Block.{Block}
 use Rattle.sl_sector.specs.declared.sector.Leader.{Leader}
-use Rattle.sl_sessions.specs.Sessions.{Session, session_numbered}
+use Rattle.sl_sessions.specs.Sessions.{session_numbered}
 use Rattle.sl_leases.specs.Leases.{Phase2_read, Phase2_write, block_written, is_at, is_on, leader_written, spot_of_call}
+use Rattle.sl_sessions.specs.declared.session.Session.{Session}
 use Rattle.sl_trace.specs.Traces.{Answered, Setting, Submitted, Trace, spot_of_grant, submitted}
 use Rattle.sl_trace.specs.declared.effects.Entry.{Entry}
 use Rattle.sl_trace.specs.declared.effects.Grant.{Grant}

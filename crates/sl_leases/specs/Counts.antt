@@ -3,7 +3,8 @@ use Rattle.sl_area.specs.Layouts.{Layout}
 use Rattle.sl_leases.specs.Jobs.{is_asking_lease, is_command_that, is_granted_job, is_program}
 use Rattle.sl_leases.specs.Leases.{is_on, lease_spots, open_on, value_written}
 use Rattle.sl_sector.specs.declared.sector.ValueRec.{ValueRec}
-use Rattle.sl_sessions.specs.Sessions.{Session, calls_of, is_joined, sessions}
+use Rattle.sl_sessions.specs.Sessions.{calls_of, is_joined, sessions}
+use Rattle.sl_sessions.specs.declared.session.Session.{Session}
 use Rattle.sl_trace.specs.Limits.{most_children, most_holders, most_killpaths, most_processes, most_resources}
 use Rattle.sl_trace.specs.Traces.{Setting, Submitted, Trace, children, holdings, is_child, is_shared, kill_program_of, kill_programs, running_jobs, same_place, same_spot}
 use Rattle.sl_trace.specs.declared.command.Command.{Command}

@@ -1,7 +1,7 @@
 -- What jobs are about: the lockspace, the process and the resource that their commands name.
 use Rattle.sl_leases.specs.declared.lease.Aim.TheVariants.{Acquires, Converts, Releases, Settles}
 use Rattle.sl_leases.specs.declared.lease.Aim.{Aim}
-use Rattle.sl_sessions.specs.Sessions.{Session}
+use Rattle.sl_sessions.specs.declared.session.Session.{Session}
 use Rattle.sl_trace.specs.Traces.{Job, Setting, Trace, child_numbered, children, job_numbered, running_jobs}
 use Rattle.sl_trace.specs.declared.command.Command.TheVariants.{Acquire, AddLockspace, Convert, GetLvb, HostStatus, InqLockspace, Release, ReleaseOrphan, RemLockspace, Request, RunProgram, SetKillpath, SetLvb, Status, TakeOver}
 use Rattle.sl_trace.specs.declared.command.Command.{Command}

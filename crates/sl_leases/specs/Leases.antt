@@ -13,8 +13,9 @@ use Rattle.sl_sector.specs.declared.sector.Owner.{Owner}
 use Rattle.sl_sector.specs.declared.sector.Rec.TheVariants.{BlockIs, LeaderIs, ValueIs}
 use Rattle.sl_sector.specs.declared.sector.Rec.{Rec}
 use Rattle.sl_sector.specs.declared.sector.ValueRec.{ValueRec}
-use Rattle.sl_sessions.specs.Sessions.{Session, calls_of, holdings_of, me}
+use Rattle.sl_sessions.specs.Sessions.{calls_of, holdings_of, me}
 use Rattle.sl_sessions.specs.Watching.{counts_over}
+use Rattle.sl_sessions.specs.declared.session.Session.{Session}
 use Rattle.sl_trace.specs.Traces.{Setting, Submitted, Trace, gave, is_answered_ok, is_heeded, is_orphan, is_shared, outstanding, record_of, same_place, same_spot}
 use Rattle.sl_trace.specs.declared.command.ResourceArg.{ResourceArg}
 use Rattle.sl_trace.specs.declared.effects.Call.{Call}

@@ -13,8 +13,9 @@ use Rattle.sl_sector.specs.declared.sector.Block.{Block}
 use Rattle.sl_sector.specs.declared.sector.DeltaRec.{DeltaRec}
 use Rattle.sl_sector.specs.declared.sector.Owner.{Owner}
 use Rattle.sl_sessions.specs.Deltas.{own_offset}
-use Rattle.sl_sessions.specs.Sessions.{Session, calls_of, ended_after, free_write, generation_of, is_join_call, is_joined, joined_after, me, session_numbered, shows_other}
+use Rattle.sl_sessions.specs.Sessions.{calls_of, ended_after, free_write, generation_of, is_join_call, is_joined, joined_after, me, session_numbered, shows_other}
 use Rattle.sl_sessions.specs.Watching.{counts_over}
+use Rattle.sl_sessions.specs.declared.session.Session.{Session}
 use Rattle.sl_trace.specs.Connections.{connection_named}
 use Rattle.sl_trace.specs.Traces.{Setting, Trace, is_shared, same_place}
 use Rattle.sl_trace.specs.declared.effects.Entry.{Entry}
