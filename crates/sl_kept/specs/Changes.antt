@@ -86,14 +86,21 @@ completed_in m c k =
 abbrev pub started_machine : Header → MachineState → MachineState
 started_machine h s = record s { runs = true; used = true; starting = []; locks = fresh_locks h }
 
+-- A call whose daemon has ended.
+abbrev pub disowned : FlightState → FlightState
+disowned f = record f { own = false }
+
 -- A daemon has ended: its writes stay in flight.
 abbrev pub crashed_machine : MachineState → MachineState
-crashed_machine s = record s { runs = false; starting = []; flights = map (λ f. record f { own = false }) (filter lands s.flights) }
+crashed_machine s = record s { runs = false; starting = []; flights = map disowned (filter lands s.flights) }
 
 -- With one more reset, the newest.
 abbrev pub first_cut : ℕ → Option ℕ → Option ℕ
 first_cut moment None = Some moment
 first_cut moment (Some r) = Some r
+
+abbrev pub cut_flight : ℕ → FlightState → FlightState
+cut_flight moment f = record f { own = false; cut = first_cut moment f.cut }
 
 -- The machine has gone down: each of its writes has a moment from which on it may not land for ever.
 abbrev pub reset_machine : ℕ → MachineState → MachineState
@@ -104,7 +111,7 @@ reset_machine moment s =
       runs = false;
       starting = [];
       held = [];
-      flights = map (λ f. record f { own = false; cut = first_cut moment f.cut }) (filter lands s.flights);
+      flights = map (cut_flight moment) (filter lands s.flights);
     }
 
 abbrev pub restarted_machine : ℕ → MachineState → MachineState

@@ -16,7 +16,7 @@ use Rattle.sl_words.specs.Bounds.{moments}
 use Rattle.sl_words.specs.Words.{some_is}
 use Rattle.std.specs.Int.{is_in_range}
 use Rattle.std.specs.List.{enumerate_from, list_any}
-use Rattle.std.specs.Prelude.{Bool, List, None, Option, Some, bytes_eq, drop, false, is_none, is_ok, is_some, length, nat_le, nat_lt, not, take, true, unwrap_or, [], ℕ, ◌&&◌, ◌*◌, ◌++◌, ◌+◌, ◌-◌, ◌==◌, ◌||◌, ◌∷◌}
+use Rattle.std.specs.Prelude.{Bool, List, None, Option, Some, bytes_eq, drop, false, is_none, is_ok, is_some, length, nat_le, nat_lt, not, take, true, [], ℕ, ◌&&◌, ◌++◌, ◌+◌, ◌-◌, ◌==◌, ◌||◌, ◌∷◌}
 
 -- ---- time
 

@@ -11,7 +11,7 @@ use Rattle.sl_trace.specs.Commands.{command_in}
 use Rattle.sl_trace.specs.Traces.{Setting, Trace, children, last_reading, outstanding}
 use Rattle.sl_trace.specs.declared.command.Command.{Command}
 use Rattle.sl_words.specs.Bounds.{moments}
-use Rattle.std.specs.Prelude.{AllPairs, Contains, IsTrue, List, None, Option, Some, filter, is_some, length, map, slice_get, true, ℕ, ◌*◌, ◌+◌, ◌<◌, ◌≡◌, ◌≢◌, ◌≤◌}
+use Rattle.std.specs.Prelude.{AllPairs, Contains, List, None, Option, Some, filter, length, map, slice_get, true, ℕ, ◌*◌, ◌+◌, ◌<◌, ◌≡◌, ◌≢◌, ◌≤◌}
 
 -- A machine.
 pub record IsSaneMachine (w : World) (a : Machine) : Type 0 where

@@ -14,7 +14,7 @@ use Rattle.sl_trace.specs.declared.effects.Effects.{Effects}
 use Rattle.sl_trace.specs.declared.input.Input.TheVariants.{Answer as Told, Spawned}
 use Rattle.sl_trace.specs.declared.input.Input.{Input}
 use Rattle.sl_trace.specs.declared.input.Numbers.{Numbers}
-use Rattle.std.specs.Prelude.{Bool, List, None, Option, Some, false, filter, fold, if◌then◌else◌, length, map, not, true, [], ℕ, ◌++◌, ◌+◌, ◌==◌, ◌∷◌}
+use Rattle.std.specs.Prelude.{Bool, None, Option, Some, false, filter, fold, if◌then◌else◌, length, map, not, true, [], ℕ, ◌++◌, ◌+◌, ◌==◌, ◌∷◌}
 
 -- A call that was just made.
 abbrev pub new_flight : Header → Call → FlightState
