@@ -4,3 +4,10 @@ pub mod Sectors
 pub mod Starts
 pub mod Tests
 pub mod RefusalCases
+pub mod Changing
+pub mod Flights
+pub mod NextNumbers
+pub mod Stepping
+pub mod PassedTime
+pub mod DaemonLives
+pub mod Allowed
