@@ -1,5 +1,10 @@
 //! What a lawful run promises of the sessions of each id.
 
+pub mod state;
+pub mod steps;
+pub mod reached;
+
+
 ghost use Rattle.sl_id_safety.specs.Interface.{EvidenceMeansOver, EvidencesAreTrue, GenerationsNameOne, IdsAreSafe, JoinedReadNoOther, JoinedStays, JoinersFindOver, JoinersRise, LockspacesAreAreas, OneActsForEachId, OverAreSettled, OverAreSilent, OverStays, SectorsStand};
 ghost use Rattle.sl_id_safety.specs.Standing.{JoinedStand, SameIdsStandTogether, StandingTogetherIsSameId};
 

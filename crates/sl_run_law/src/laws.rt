@@ -1,5 +1,14 @@
 //! What stays and what only grows in a world.
 
+pub mod front;
+pub mod course;
+pub mod moment;
+pub mod watchdog;
+pub mod landing;
+pub mod sample;
+pub mod place;
+
+
 ghost use Rattle.sl_run_law.specs.Answered.{AnswersStay, AnswersStayInRuns};
 ghost use Rattle.sl_run_law.specs.Beginnings.{BeginsCounted, BeginsNew};
 ghost use Rattle.sl_run_law.specs.Clocks.{ClocksDrift, ClocksDriftInRuns};
