@@ -37,7 +37,7 @@ use Rattle.sl_sessions.specs.declared.stage.Stage.{Stage}
 use Rattle.sl_time.specs.Times.{dead, fail, join_max, take_over}
 use Rattle.sl_trace.specs.Connections.{connection_named, connections, is_registered, registers, registers_with, unregisters}
 use Rattle.sl_trace.specs.EffectTexts.{is_ok_reply}
-use Rattle.sl_trace.specs.Traces.{end_of, exited_by, gave, has_orphan_of, holdings, is_answered_ok, is_ended_by, is_ok_answer, is_orphan, is_shared, is_write, last_reading, line_in, new_call, record_of, same_place, Setting, spot_of_grant, Submitted, submitted, Trace}
+use Rattle.sl_trace.specs.Traces.{exited_by, gave, has_orphan_of, held_by, holdings, is_answered_ok, is_ended_by, is_ok_answer, is_orphan, is_shared, is_write, last_reading, line_in, new_call, record_of, same_place, Setting, spot_of_grant, Submitted, submitted, Trace}
 use Rattle.sl_trace.specs.declared.effects.Entry.{Entry}
 use Rattle.sl_trace.specs.declared.effects.Grant.{Grant}
 use Rattle.sl_trace.specs.declared.effects.JoinStep.TheVariants.{ClaimWrite, DecidingRead, FirstRead, FirstRenewal, VerifyRead, WatchRead}
@@ -453,6 +453,7 @@ abbrev pub grant_to_test : Setting → Trace → Session → Grant → Bool
 grant_to_test st es s g =
     (is_orphan g || is_active st es s) && bytes_eq g.lockspace s.lockspace && is_base st.layout g.offset
     && list_all (λ h. not (same_place h.path h.offset g.path g.offset) || h.process == g.process || is_shared h.mode && is_shared g.mode) (holdings es)
+    && length (held_by (holdings es) g.process g.path g.offset) == 1
     && (is_shared g.mode || taken_test st es s (spot_of_grant g) g.lver && nat_lt (freed (lease_calls st es s (spot_of_grant g))) g.lver)
 
 -- An orphan.

@@ -1,6 +1,7 @@
 pub mod Standing
 pub mod Acting
 pub mod Owning
+pub mod Alone
 pub mod Quieting
 pub mod Silence
 pub mod Freed

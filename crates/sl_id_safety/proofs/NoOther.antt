@@ -30,7 +30,7 @@ use Rattle.sl_ids.proofs.WholeRuns.{reached_kept}
 use Rattle.sl_ids.specs.Guards.{terms_of}
 use Rattle.sl_ids.specs.State.{Session as IdSession}
 use Rattle.sl_ids.specs.Terms.{Terms}
-use Rattle.sl_law.specs.Lawful.{Lawful}
+use Rattle.sl_law.specs.Lawful.{Orderly}
 use Rattle.sl_run_law.proofs.Moment.Following.{kept_past}
 use Rattle.sl_run_law.proofs.Moment.Stamps.{answer_is_stamp}
 use Rattle.sl_run_law.specs.Moment.Moments.{Of_stamp}
@@ -173,7 +173,7 @@ asked_waits : (p : Program) (h : Header) (now : List Happening) (x : Happening) 
     → (t : ToldOther (setting_in g) past g.session e.input) → t.told.asked.answer ≡ None
 asked_waits p h now x i f g past e b t =
     let kn = known grounds p h (now ++ x ∷ []) b.run i g b.also in
-    let lawful : Lawful (setting_in g) (e ∷ past) = subst (λ es. Lawful (setting_in g) es) b.after kn.lawful in
+    let lawful : Orderly (setting_in g) (e ∷ past) = subst (λ es. Orderly (setting_in g) es) b.after kn.lawful in
     let a = answered_call (setting_in g) past e t.told.number (Read t.bytes) lawful.is_trace t.told.input in
     subst (λ (m : Submitted). m.answer ≡ None) (one_value a.0 t.told.asked (call_numbered past t.told.number) a.1.found t.told.found) a.1.waits
 

@@ -13,7 +13,7 @@ use Rattle.sl_id_safety.proofs.State.Proven.{grounds}
 use Rattle.sl_id_safety.proofs.State.Tails.{AreLater, IsLater, all_still}
 use Rattle.sl_id_safety.proofs.State.Timing.{stamp_below}
 use Rattle.sl_id_safety.specs.State.IdStates.{own_courses}
-use Rattle.sl_law.specs.Lawful.{Lawful}
+use Rattle.sl_law.specs.Lawful.{Orderly}
 use Rattle.sl_run_law.specs.Moment.Orders.{Fall}
 use Rattle.sl_run_law.proofs.Place.Finding.{partner}
 use Rattle.sl_run_law.proofs.Place.Looks.{made_below}
@@ -138,7 +138,7 @@ calls_stay p h now rest run i f g on joined over = by on.running where
   by (inl runs) =
       let k = some_of (joined_after (trace_of f) f.session) joined in
       let quiet = over_is_quiet i f (machines_mirror p h now (fronts_are_lawful p h now rest run) i.machine f.machine on.before.there.at) runs over in
-      let lawful : Lawful (setting_in f) (on.newer ++ trace_of f) = subst (λ st. Lawful st (on.newer ++ trace_of f)) on.setting (subst (λ es. Lawful (setting_in g) es) on.trace on.after.lawful) in
+      let lawful : Orderly (setting_in f) (on.newer ++ trace_of f) = subst (λ st. Orderly st (on.newer ++ trace_of f)) on.setting (subst (λ es. Orderly (setting_in g) es) on.trace on.after.lawful) in
       subst (λ ms. AreLater ms (calls_of (trace_of f) f.session)) (ap (λ es. calls_of es f.session) (sym on.trace) ∙ ap (λ s. calls_of (trace_of g) s) (sym on.session))
       (quiet_stays (setting_in f) on.newer (trace_of f) f.session k.0 lawful on.before.its k.1 quiet)
 

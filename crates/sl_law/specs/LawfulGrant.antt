@@ -4,13 +4,13 @@ use Rattle.sl_leases.specs.Leases.{freed, leader_written, lease_calls}
 use Rattle.sl_sector.specs.declared.sector.Leader.{Leader}
 use Rattle.sl_sessions.specs.Sessions.{is_active, session_numbered}
 use Rattle.sl_sessions.specs.declared.session.Session.{Session}
-use Rattle.sl_trace.specs.Traces.{Setting, Submitted, Trace, has_orphan_of, holdings, is_answered_ok, is_orphan, is_shared, orphan_of, same_place, spot_of_grant}
+use Rattle.sl_trace.specs.Traces.{Setting, Submitted, Trace, has_orphan_of, held_by, holdings, is_answered_ok, is_orphan, is_shared, orphan_of, same_place, spot_of_grant}
 use Rattle.sl_trace.specs.declared.effects.Entry.{Entry}
 use Rattle.sl_trace.specs.declared.effects.Grant.{Grant}
 use Rattle.sl_trace.specs.declared.effects.Mode.TheVariants.{Exclusive}
 use Rattle.sl_trace.specs.declared.effects.Spot.{Spot}
 use Rattle.sl_trace.specs.declared.input.Input.TheVariants.{Exit}
-use Rattle.std.specs.Prelude.{Contains, IsFalse, IsSome, IsTrue, Some, true, ℕ, ◌&&◌, ◌<◌, ◌∷◌, ◌≡◌}
+use Rattle.std.specs.Prelude.{Contains, IsFalse, IsSome, IsTrue, Some, length, true, ℕ, ◌&&◌, ◌<◌, ◌∷◌, ◌≡◌}
 
 -- The session's write of this leader as held was answered ok.
 pub record HasTaken (st : Setting) (es : Trace) (s : Session) (at : Spot) (n : ℕ) : Type 0 where
@@ -31,6 +31,8 @@ pub record LawfulGrantTo (st : Setting) (es : Trace) (s : Session) (g : Grant) :
   -- two processes of one machine conflict as those of two do; what ended in this step doesn't count
   pub alone : (h : Grant) → Contains (holdings es) h → IsTrue (same_place h.path h.offset g.path g.offset) →
       (h.process ≡ g.process → ⊥) → IsTrue (is_shared h.mode && is_shared g.mode)
+  -- one end would end two holdings of one process
+  pub single : length (held_by (holdings es) g.process g.path g.offset) ≡ 1
   -- others must find the leader held
   pub taken : g.mode ≡ Exclusive → HasTaken st es s (spot_of_grant g) g.lver
   -- whoever saw the free may have begun the next

@@ -149,6 +149,17 @@ Follows w ((n, Ok e) ∷ ls) (x ∷ xs) s =
       | None ↦ (e ≡ x.0) × IsTrue (may_happen w e) × Follows (happens w x.0 x.1) ls xs s
     ]
 
+-- These happenings are events of the lines, from the first on, each with the asks that follow it; further events and asks may be to come.
+abbrev pub FollowsSoFar : World → List EventLine → List Happening → Type 0
+FollowsSoFar w ls [] = Unit {0}
+FollowsSoFar w [] (x ∷ xs) = IsAskOf w x × FollowsSoFar (happens w x.0 x.1) [] xs
+FollowsSoFar w ((n, Err r) ∷ ls) (x ∷ xs) = IsAskOf w x × FollowsSoFar (happens w x.0 x.1) ((n, Err r) ∷ ls) xs
+FollowsSoFar w ((n, Ok e) ∷ ls) (x ∷ xs) =
+    elim (asking w) [
+      | Some m ↦ IsAskOf w x × FollowsSoFar (happens w x.0 x.1) ((n, Ok e) ∷ ls) xs
+      | None ↦ (e ≡ x.0) × IsTrue (may_happen w e) × FollowsSoFar (happens w x.0 x.1) ls xs
+    ]
+
 -- ---- the report of a run that stops there
 
 -- The last line of a report.

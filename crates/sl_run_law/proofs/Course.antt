@@ -15,4 +15,5 @@ pub mod Made
 pub mod Naming
 pub mod Resetting
 pub mod Mirroring
+pub mod Exiting
 pub mod Mirrored

@@ -1,6 +1,7 @@
 pub mod Finding
 pub mod Numbering
 pub mod Reading
+pub mod Sizes
 pub mod Areas
 pub mod Beginnings
 pub mod Daemons

@@ -1,13 +1,12 @@
 //! What stays and what only grows in a world.
 
-pub mod front;
 pub mod course;
-pub mod moment;
-pub mod watchdog;
+pub mod front;
 pub mod landing;
-pub mod sample;
+pub mod moment;
 pub mod place;
-
+pub mod sample;
+pub mod watchdog;
 
 ghost use Rattle.sl_run_law.specs.Answered.{AnswersStay, AnswersStayInRuns};
 ghost use Rattle.sl_run_law.specs.Beginnings.{BeginsCounted, BeginsNew};

@@ -11,6 +11,7 @@ pub mod Counting
 pub mod Alive
 pub mod Kept
 pub mod Owned
+pub mod Backing
 pub mod Marks
 pub mod Sharing
 pub mod Proven

@@ -13,10 +13,10 @@ use Rattle.sl_id_safety.proofs.State.Keeping.{is_place}
 use Rattle.sl_run_law.proofs.Landing.Proven.{landings_are_written}
 use Rattle.sl_run_law.specs.Landing.Landings.{HasWriter}
 use Rattle.sl_leases.specs.Leases.{block_of_record}
-use Rattle.sl_run_law.proofs.Place.Areas.{sector_fits}
 use Rattle.sl_run_law.proofs.Place.Proven.{promised}
 use Rattle.sl_run_law.proofs.Place.Reading.{layout_is, reads_back}
 use Rattle.sl_run_law.proofs.Place.Seats.{sized_in}
+use Rattle.sl_run_law.proofs.Place.Sizes.{sector_fits}
 use Rattle.sl_plain.proofs.Lists.{contains_cases, contains_first, kept}
 use Rattle.sl_history.proofs.Resources.Calls.{there_sent}
 use Rattle.sl_history.proofs.Resources.Landed.{Name, in_order, name_of, one_sent}

@@ -299,6 +299,10 @@ abbrev pub holdings : Trace → List Grant
 holdings [] = []
 holdings (e ∷ es) = held_after e.effects (holdings es)
 
+-- What a process has of a place, among these holdings.
+abbrev pub held_by : List Grant → ℕ → List ℕ → ℕ → List Grant
+held_by held p path offset = filter (λ g. g.process == p && same_place g.path g.offset path offset) held
+
 -- The end of a holding: it tells the names of the grant.
 abbrev pub end_of : Grant → End
 end_of g = record { process = g.process; lockspace = g.lockspace; resource = g.resource; path = g.path; offset = g.offset }

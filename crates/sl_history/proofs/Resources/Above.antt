@@ -80,7 +80,8 @@ answered_before p h xs run x s work area q among other =
     let whole : submitted s.daemon.trace ≡ s.told.newer ++ m ∷ (r.newer ++ q ∷ r.older) = s.told.is ∙ ap (λ ms. s.told.newer ++ m ∷ ms) r.is in
     let one : m.call ≡ x.course.call = s.told.pair.call in
     one_at_a_time s.daemon.setting s.daemon.trace s.lawful s.told.newer r.newer r.older m q whole
-    (ap (λ c. c.session) one ∙ sym (number_at (world_at p h xs) x s) ∙ sym among.session) (ap works one ∙ work) (ap (λ c. is_area_work c.purpose) one ∙ area) other among.on
+    (ap (λ c. c.session) one ∙ sym (number_at (world_at p h xs) x s) ∙ sym among.session) (ap works one ∙ work) (ap (λ c. is_area_work c.purpose) one ∙ area) other
+    (lease_is_work q.call.purpose among.lease) among.on
 
 -- .. so at a step not later than that of the other.
 pub answer_step : (p : Program) (h : Header) (xs : List Happening) → LawfulRun p h xs → (x : Sent) (s : Standing (world_at p h xs) x) → (q : Submitted)

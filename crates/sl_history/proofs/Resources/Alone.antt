@@ -1,5 +1,5 @@
 -- Of one lockspace at most one session of a daemon stands: joined, and not removed.
-use Rattle.sl_law.specs.Lawful.{Lawful}
+use Rattle.sl_law.specs.Lawful.{Orderly}
 use Rattle.sl_law.specs.LawfulDelta.{Gave, LawfulClaim, LawfulDeltaCall, LawfulFirstRenewal, LawfulJoin, LawfulJoinStep, LawfulVerify}
 use Rattle.sl_law.specs.Saying.{cut_at}
 use Rattle.sl_run_law.proofs.Place.Daemons.{daemons_are_fine}
@@ -52,7 +52,7 @@ record Lawfully (st : Setting) (es : Trace) (s : Session) (step : JoinStep) (cal
   was : WasLawful st es s call
   law : LawfulJoinStep st (front_of was.made) s (made_as was.made) step
 
-lawfully : (st : Setting) (es : Trace) (s : Session) (step : JoinStep) → Lawful st es → IsSession st es s → (x : Was es s step) → Lawfully st es s step x.call
+lawfully : (st : Setting) (es : Trace) (s : Session) (step : JoinStep) → Orderly st es → IsSession st es s → (x : Was es s step) → Lawfully st es s step x.call
 lawfully st es s step h its x =
     let w = calls_were_lawful st es s x.call h its x.inside x.mine in
     let p = joins_at step x.call.call.purpose x.step_is in
@@ -68,19 +68,19 @@ answered_was es s m d step r a found is =
     let its = call_owner (front_of d) s r f.0 in
     record { call = r; inside = front_answers_stay es m d r a its.0 is; mine = its.1; step_is = f.1 }
 
-from_claim : (st : Setting) (es : Trace) (s : Session) → Lawful st es → IsSession st es s → Was es s ClaimWrite → Was es s FirstRead
+from_claim : (st : Setting) (es : Trace) (s : Session) → Orderly st es → IsSession st es s → Was es s ClaimWrite → Was es s FirstRead
 from_claim st es s h its x =
     let l = lawfully st es s ClaimWrite h its x in
     let law : LawfulClaim st (front_of l.was.made) s (made_as l.was.made) = l.law in
     gave_was es s x.call l.was.made FirstRead law.bytes law.first law.watched
 
-from_verify : (st : Setting) (es : Trace) (s : Session) → Lawful st es → IsSession st es s → Was es s VerifyRead → Was es s FirstRead
+from_verify : (st : Setting) (es : Trace) (s : Session) → Orderly st es → IsSession st es s → Was es s VerifyRead → Was es s FirstRead
 from_verify st es s h its x =
     let l = lawfully st es s VerifyRead h its x in
     let law : LawfulVerify st (front_of l.was.made) s (made_as l.was.made) = l.law in
     from_claim st es s h its (answered_was es s x.call l.was.made ClaimWrite law.claim law.answer law.claimed law.answered.0)
 
-from_renewal : (st : Setting) (es : Trace) (s : Session) → Lawful st es → IsSession st es s → Was es s FirstRenewal → Was es s FirstRead
+from_renewal : (st : Setting) (es : Trace) (s : Session) → Orderly st es → IsSession st es s → Was es s FirstRenewal → Was es s FirstRead
 from_renewal st es s h its x =
     let l = lawfully st es s FirstRenewal h its x in
     let law : LawfulFirstRenewal st (front_of l.was.made) s (made_as l.was.made) = l.law in
@@ -93,7 +93,7 @@ not_at_first s j k job joined = by s.job job joined where
   by (Some i) is at = none_some k at
 
 -- A session that a command began and that has joined made a first read.
-looked : (st : Setting) (es : Trace) (s : Session) (j k : ℕ) → Lawful st es → IsSession st es s → s.job ≡ Some j → joined_after es s ≡ Some k → Was es s FirstRead
+looked : (st : Setting) (es : Trace) (s : Session) (j k : ℕ) → Orderly st es → IsSession st es s → s.job ≡ Some j → joined_after es s ≡ Some k → Was es s FirstRead
 looked st [] s j k h its job joined = absurd (not_at_first s j k job joined)
 looked st (e ∷ es) s j k h its job joined =
     let join : LawfulJoin (e ∷ es) s k = h.delta.0.joins s (got_inside (sessions st (e ∷ es)) s.number s its) j k job joined in
@@ -124,7 +124,7 @@ gone_later : (es : Trace) (s : Session) (m : Submitted) (d : IsMade es m) (k : �
 gone_later es s m d k h = subst (λ t. ended_after t s ≡ Some k) (sym d.whole) (stays ended_after ended_more d.later (d.entry ∷ d.past) s k h)
 
 -- A session that stands was not yet begun where another of its lockspace made its first read.
-begun_later : (st : Setting) (es : Trace) (s t : Session) → Lawful st es → IsSession st es s → IsSession st es t → s.lockspace ≡ t.lockspace → Stands es s
+begun_later : (st : Setting) (es : Trace) (s t : Session) → Orderly st es → IsSession st es s → IsSession st es t → s.lockspace ≡ t.lockspace → Stands es s
     → (x : Was es t FirstRead) (w : WasLawful st es t x.call) → s.number < length (sessions st w.made.past) → ⊥
 begun_later st es s t h its other name stands x w lt =
     let d = w.made in
@@ -158,7 +158,7 @@ up_to a b n low never =
     ]
 
 -- So it is not before the other.
-not_before : (st : Setting) (es : Trace) (s t : Session) (j : ℕ) → Lawful st es → IsSession st es s → IsSession st es t → s.lockspace ≡ t.lockspace → Stands es s → Stands es t
+not_before : (st : Setting) (es : Trace) (s t : Session) (j : ℕ) → Orderly st es → IsSession st es s → IsSession st es t → s.lockspace ≡ t.lockspace → Stands es s → Stands es t
     → t.job ≡ Some j → t.number ≤ s.number
 not_before st es s t j h its other name one two job =
     let x = looked st es t j two.entries h other job two.joined in
@@ -180,7 +180,7 @@ longer st (e ∷ es) =
     omega (arith, a, b)
 
 -- A session that was given was there.
-given_before : (st : Setting) (es : Trace) (s t : Session) (j : ℕ) → Lawful st es → IsSession st es s → IsSession st es t → s.lockspace ≡ t.lockspace → Stands es s → Stands es t
+given_before : (st : Setting) (es : Trace) (s t : Session) (j : ℕ) → Orderly st es → IsSession st es s → IsSession st es t → s.lockspace ≡ t.lockspace → Stands es s → Stands es t
     → s.job ≡ None → t.job ≡ Some j → ⊥
 given_before st es s t j h its other name one two none job =
     let x = looked st es t j two.entries h other job two.joined in
@@ -265,7 +265,7 @@ given_differ p h xs run m a d at has = differ_cases h m d.setting.given run.head
 
 -- ---- one session
 
-one_number : (st : Setting) (es : Trace) (s t : Session) → Lawful st es → Differ st.given → IsSession st es s → IsSession st es t → s.lockspace ≡ t.lockspace → Stands es s → Stands es t
+one_number : (st : Setting) (es : Trace) (s t : Session) → Orderly st es → Differ st.given → IsSession st es s → IsSession st es t → s.lockspace ≡ t.lockspace → Stands es s → Stands es t
     → (o q : Option ℕ) → s.job ≡ o → t.job ≡ q → s.number ≡ t.number
 one_number st es s t h differ its other name one two None None job work = given_apart st es s t differ its other name job work
 one_number st es s t h differ its other name one two None (Some j) job work = absurd (given_before st es s t j h its other name one two job work)
@@ -274,7 +274,7 @@ one_number st es s t h differ its other name one two (Some i) (Some j) job work 
     both_ways s.number t.number (not_before st es t s i h other its (sym name) two one job) (not_before st es s t j h its other name one two work)
 
 -- Two sessions of one lockspace that stand in one trace are one.
-pub one_stands : (st : Setting) (es : Trace) (s t : Session) → Lawful st es → Differ st.given → IsSession st es s → IsSession st es t → s.lockspace ≡ t.lockspace → Stands es s → Stands es t → s ≡ t
+pub one_stands : (st : Setting) (es : Trace) (s t : Session) → Orderly st es → Differ st.given → IsSession st es s → IsSession st es t → s.lockspace ≡ t.lockspace → Stands es s → Stands es t → s ≡ t
 one_stands st es s t h differ its other name one two =
     one_value s t (session_numbered st es t.number)
     (subst (λ n. session_numbered st es n ≡ Some s) (one_number st es s t h differ its other name one two s.job t.job refl refl) its) other

@@ -6,7 +6,7 @@ use Rattle.sl_run_law.proofs.Course.Distinct.{each_distinct}
 use Rattle.sl_run_law.specs.Course.Stamping.{AnswersAgree, IsAnsweredAs, IsCourseOf}
 use Rattle.sl_run_law.proofs.Front.Having.{contains_flat, in_flat}
 use Rattle.sl_run_law.proofs.Landing.Listing.{one_call}
-use Rattle.sl_law.specs.Lawful.{Lawful}
+use Rattle.sl_law.specs.Lawful.{Orderly}
 use Rattle.sl_law.specs.LawfulArea.{LawfulAreaWrite, is_area_work, is_block_work, is_delta_record}
 use Rattle.sl_trace_law.proofs.Leases.TurnLaws.{one_at_a_time}
 use Rattle.sl_trace_law.specs.Leases.Promises.{WasAnsweredBy}
@@ -220,7 +220,7 @@ active_stands st t s h =
     record { entries = r.0; joined = r.1; kept = r.2 }
 
 -- Where a session made a call on an area it stood.
-pub stood : (st : Setting) (es : Trace) (s : Session) (q : Submitted) (d : IsMade es q) → Lawful st es → IsSession st es s → q.call.session ≡ s.number → is_area_work q.call.purpose ≡ true
+pub stood : (st : Setting) (es : Trace) (s : Session) (q : Submitted) (d : IsMade es q) → Orderly st es → IsSession st es s → q.call.session ≡ s.number → is_area_work q.call.purpose ≡ true
     → Stands (d.entry ∷ d.past) s
 stood st es s q d h its mine area =
     let law = call_law st es s q d h its mine in
@@ -297,14 +297,14 @@ not_answered p h xs run m a d here has at c e q k s t one two same by =
     stamp_order (world_at p h xs).step d.stamps by.answer.at q.at told.stamp c.made (daemons_are_fine p h xs run m a d here has).stamps told.entry one.is.made by.by in
     late_by c.made.step e.made.step told.stamp.step same le ((call_timed p h xs run m a e here two.has).answered told.stamp told.answered)
 
-answered_before : (d : Daemon) (a : Machine) (at : Spot) (c e : Course) (q k : Submitted) (s t : Session) → Lawful d.setting d.trace → IsTurn a d at c q s → IsTurn a d at e k t
+answered_before : (d : Daemon) (a : Machine) (at : Spot) (c e : Course) (q k : Submitted) (s t : Session) → Orderly d.setting d.trace → IsTurn a d at c q s → IsTurn a d at e k t
     → s ≡ t → (newer between older : List Submitted) → submitted d.trace ≡ newer ++ q ∷ (between ++ k ∷ older) → WasAnsweredBy k q
 answered_before d a at c e q k s t law one two same newer between older is =
-    one_at_a_time d.setting d.trace law newer between older q k is (one.mine ∙ ap (λ (x : Session). x.number) same ∙ sym two.mine) one.work one.area two.work
+    one_at_a_time d.setting d.trace law newer between older q k is (one.mine ∙ ap (λ (x : Session). x.number) same ∙ sym two.mine) one.work one.area two.work two.area
     (subst (λ y. IsTrue (is_on d.setting.layout y k.call)) (sym one.spot) two.on)
 
 turn_order : (p : Program) (h : Header) (xs : List Happening) → LawfulRun p h xs → (m : ℕ) (a : Machine) (d : Daemon) → machine_at (world_at p h xs) m ≡ Some a
-    → Contains (daemons_on a) d → Lawful d.setting d.trace → (at : Spot) (c e : Course) (q k : Submitted) (s t : Session) → IsTurn a d at c q s → IsTurn a d at e k t → c.made.step ≡ e.made.step
+    → Contains (daemons_on a) d → Orderly d.setting d.trace → (at : Spot) (c e : Course) (q k : Submitted) (s t : Session) → IsTurn a d at c q s → IsTurn a d at e k t → c.made.step ≡ e.made.step
     → s ≡ t → Order (submitted d.trace) q k → q ≡ k
 turn_order p h xs run m a d here has law at c e q k s t one two same session (Same is) = is
 turn_order p h xs run m a d here has law at c e q k s t one two same session (Newer newer between older is) =
@@ -314,7 +314,7 @@ turn_order p h xs run m a d here has law at c e q k s t one two same session (Ol
 
 -- Two calls of a daemon on one area, made at one step for sessions of one lockspace, are one.
 one_turn : (p : Program) (h : Header) (xs : List Happening) → LawfulRun p h xs → (m : ℕ) (a : Machine) (d : Daemon) → machine_at (world_at p h xs) m ≡ Some a
-    → Contains (daemons_on a) d → Lawful d.setting d.trace → (at : Spot) (c e : Course) (q k : Submitted) (s t : Session) → IsTurn a d at c q s → IsTurn a d at e k t → c.made.step ≡ e.made.step
+    → Contains (daemons_on a) d → Orderly d.setting d.trace → (at : Spot) (c e : Course) (q k : Submitted) (s t : Session) → IsTurn a d at c q s → IsTurn a d at e k t → c.made.step ≡ e.made.step
     → s.lockspace ≡ t.lockspace → c ≡ e
 one_turn p h xs run m a d here has law at c e q k s t one two same name =
     let es : Trace = d.trace in

@@ -1,14 +1,14 @@
 -- Answers fit their calls: a read is answered ok by bytes.
 use Rattle.sl_run_law.proofs.Course.Distinct.{mark_length}
-use Rattle.sl_law.specs.Lawful.{Lawful}
-use Rattle.sl_law.proofs.LawFacts.{lawful-front}
+use Rattle.sl_law.specs.Lawful.{Orderly}
+use Rattle.sl_law.proofs.LawFacts.{orderly-front}
 use Rattle.sl_plain.proofs.Lists.{any_found, contains_cases, contains_none, in_map, kept_inside}
 use Rattle.sl_trace_law.proofs.Sessions.Making.{old_or_new, same_answered}
 use Rattle.sl_trace.specs.Traces.{Answered, Setting, Submitted, Trace, answer_of, answered_in, is_answer_for, is_expected, mark, new_call, outstanding, submitted}
 use Rattle.sl_trace.specs.declared.effects.Call.{Call}
 use Rattle.sl_trace.specs.declared.effects.Entry.{Entry}
 use Rattle.sl_trace.specs.declared.input.Answer.{Answer}
-use Rattle.sl_trace.specs.declared.input.Input.TheVariants.{Answer as Told, Exit, Line, Spawned, Wake}
+use Rattle.sl_trace.specs.declared.input.Input.TheVariants.{Answer as Told, Exit, Line, Number, Spawned, Wake}
 use Rattle.sl_trace.specs.declared.input.Input.{Input}
 use Rattle.sl_words.proofs.CaseLaws.{no_value, some_value}
 use Rattle.sl_words.proofs.WordLaws.{and_true}
@@ -54,16 +54,17 @@ numbers_added k at reading (c ∷ cs) ms is h =
 numbers_input : (k : ℕ) (es : Trace) (e : Entry) (i : Input) (ms : List Submitted) → AreNumbered k ms → AreNumbered k (mark es e i ms)
 numbers_input k es e (Told n a) ms h = numbers_marked k es e n a ms h
 numbers_input k es e (Line text) ms h = h
+numbers_input k es e (Number text) ms h = h
 numbers_input k es e (Exit p) ms h = h
 numbers_input k es e (Spawned p ok) ms h = h
 numbers_input k es e Wake ms h = h
 
-are_numbered : (st : Setting) (es : Trace) → Lawful st es → AreNumbered st.first.call (submitted es)
+are_numbered : (st : Setting) (es : Trace) → Orderly st es → AreNumbered st.first.call (submitted es)
 are_numbered st [] h = tt
 are_numbered st (e ∷ es) h =
     numbers_added st.first.call (length es) e.reading e.effects.calls (mark es e e.input (submitted es))
     (h.is_trace.0.numbered ∙ ap (λ n. range_with_len (st.first.call + n) (length e.effects.calls)) (sym (mark_length es e e.input (submitted es))))
-    (numbers_input st.first.call es e e.input (submitted es) (are_numbered st es (lawful-front st (e ∷ []) es h)))
+    (numbers_input st.first.call es e e.input (submitted es) (are_numbered st es (orderly-front st (e ∷ []) es h)))
 
 below_all : (k : ℕ) (ms : List Submitted) (m : Submitted) → AreNumbered k ms → Contains ms m → m.call.number < k + length ms
 below_all k [] m h has = absurd (contains_none m has)
@@ -106,7 +107,7 @@ answer_in : (es : Trace) (e : Entry) (n : ℕ) (w : Answer) (m : Submitted) (b :
 answer_in es e n w m true = refl
 answer_in es e n w m false = refl
 
-fits_told : (st : Setting) (es : Trace) (e : Entry) (n : ℕ) (w : Answer) → Lawful st es → Fits st es → is_expected st es (Told n w) ≡ true → (q : Submitted)
+fits_told : (st : Setting) (es : Trace) (e : Entry) (n : ℕ) (w : Answer) → Orderly st es → Fits st es → is_expected st es (Told n w) ≡ true → (q : Submitted)
     → Contains (map (answered_in es e n w) (submitted es)) q → (a : Answered) → q.answer ≡ Some a → is_answer_for st a.answer q.call.op ≡ true
 fits_told st es e n w law old expected q has a told =
     let m = in_map (answered_in es e n w) (submitted es) q has in
@@ -120,19 +121,20 @@ fits_told st es e n w law old expected q has a told =
     (λ k. subst (λ (y : Submitted). is_answer_for st w y.call.op ≡ true)
     (one_call st.first.call (submitted es) x.0 m.0 (are_numbered st es law) xin m.1 (eqb-true x.0.call.number n both.0 ∙ sym k)) both.1))
 
-fits_input : (st : Setting) (es : Trace) (e : Entry) (i : Input) → Lawful st es → Fits st es → is_expected st es i ≡ true → (q : Submitted)
+fits_input : (st : Setting) (es : Trace) (e : Entry) (i : Input) → Orderly st es → Fits st es → is_expected st es i ≡ true → (q : Submitted)
     → Contains (mark es e i (submitted es)) q → (a : Answered) → q.answer ≡ Some a → is_answer_for st a.answer q.call.op ≡ true
 fits_input st es e (Told n w) law old expected q has a told = fits_told st es e n w law old expected q has a told
 fits_input st es e (Line text) law old expected q has a told = old q has a told
+fits_input st es e (Number text) law old expected q has a told = old q has a told
 fits_input st es e (Exit p) law old expected q has a told = old q has a told
 fits_input st es e (Spawned p ok) law old expected q has a told = old q has a told
 fits_input st es e Wake law old expected q has a told = old q has a told
 
 -- Each answer is one for its call.
-pub answers_fit : (st : Setting) (es : Trace) → Lawful st es → Fits st es
+pub answers_fit : (st : Setting) (es : Trace) → Orderly st es → Fits st es
 answers_fit st [] law q has a told = absurd (contains_none q has)
 answers_fit st (e ∷ es) law q has a told =
-    let front = lawful-front st (e ∷ []) es law in
+    let front = orderly-front st (e ∷ []) es law in
     elim (old_or_new (length es) e.reading e.effects.calls (mark es e e.input (submitted es)) q has) as (λ z. is_answer_for st a.answer q.call.op ≡ true) [
       | inl old ↦ fits_input st es e e.input front (answers_fit st es front) law.is_trace.0.expected q old a told
       | inr new ↦ absurd (no_value a q.answer told new.unmet)

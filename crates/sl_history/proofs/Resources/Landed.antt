@@ -4,7 +4,7 @@ use Rattle.sl_run_law.specs.Course.Stamping.{AnswersAgree, IsAnsweredAs, IsCours
 use Rattle.sl_run_law.proofs.Front.Having.{placed_at}
 use Rattle.sl_run_law.proofs.Landing.Listing.{one_call}
 use Rattle.sl_run_law.proofs.Landing.Proven.{writes_land_once}
-use Rattle.sl_law.specs.Lawful.{Lawful}
+use Rattle.sl_law.specs.Lawful.{Orderly}
 use Rattle.sl_trace_law.proofs.Leases.TurnLaws.{one_at_a_time}
 use Rattle.sl_trace_law.specs.Leases.Promises.{WasAnsweredBy}
 use Rattle.sl_leases.specs.Leases.{is_on}
@@ -173,10 +173,10 @@ answered_first p h xs run m a d here has c e q k one two by =
       stamp_order (world_at p h xs).step d.stamps by.answer.at q.at told.stamp c.made (daemons_are_fine p h xs run m a d here has).stamps told.entry one.made by.by,
     )
 
-turns : (d : Daemon) (a : Machine) (at : Spot) (c e : Course) (q k : Submitted) (s t : Session) → Lawful d.setting d.trace → IsTurn a d at c q s → IsTurn a d at e k t
+turns : (d : Daemon) (a : Machine) (at : Spot) (c e : Course) (q k : Submitted) (s t : Session) → Orderly d.setting d.trace → IsTurn a d at c q s → IsTurn a d at e k t
     → q.call.session ≡ k.call.session → (newer between older : List Submitted) → submitted d.trace ≡ newer ++ q ∷ (between ++ k ∷ older) → WasAnsweredBy k q
 turns d a at c e q k s t law one two same newer between older is =
-    one_at_a_time d.setting d.trace law newer between older q k is same one.work one.area two.work
+    one_at_a_time d.setting d.trace law newer between older q k is same one.work one.area two.work two.area
     (subst (λ y. IsTrue (is_on d.setting.layout y k.call)) (sym one.spot) two.on)
 
 -- The second of two calls of a session was made after the first was answered.
@@ -186,7 +186,7 @@ data Turns (x y : Sent) : Type 0 where
   Second : (s : Stamp) → y.course.answered ≡ Some s → s.step ≤ step_of x → Turns x y
 
 turns_by : (p : Program) (h : Header) (xs : List Happening) → LawfulRun p h xs → (x y : Sent) → Contains (all_sent (world_at p h xs)) x → Contains (all_sent (world_at p h xs)) y
-    → x.machine ≡ y.machine → (a : Machine) (d : Daemon) → machine_at (world_at p h xs) x.machine ≡ Some a → Contains (daemons_on a) d → Lawful d.setting d.trace → (at : Spot)
+    → x.machine ≡ y.machine → (a : Machine) (d : Daemon) → machine_at (world_at p h xs) x.machine ≡ Some a → Contains (daemons_on a) d → Orderly d.setting d.trace → (at : Spot)
     → (q k : Submitted) (s t : Session) → IsTurn a d at x.course q s → IsTurn a d at y.course k t → q.call.session ≡ k.call.session → Order (submitted d.trace) q k → Turns x y
 turns_by p h xs run x y this that machine a d here has law at q k s t one two same (Same is) =
     One (one_sent p h xs run x y this that machine (ap (λ (c : Call). c.number) (sym one.is.call) ∙ ap (λ (m : Submitted). m.call.number) is ∙ ap (λ (c : Call). c.number) two.is.call))

@@ -1,10 +1,9 @@
 -- A read of blocks that was answered: the blocks that it gave were written on the area before, or are fresh.
 use Rattle.sl_area.specs.Layouts.{Layout, record_in}
 use Rattle.sl_area.specs.Places.{area_blocks, block_offset, blocks_in, read_at, sector_of}
-use Rattle.sl_law.specs.Lawful.{Lawful}
+use Rattle.sl_law.specs.Lawful.{Orderly}
 use Rattle.sl_law.specs.LawfulArea.{IsAreaRead, IsBlockRead}
 use Rattle.sl_leases.specs.Leases.{blocks_given, is_area_read, is_phase_read, spot_of_call}
-use Rattle.sl_run_law.proofs.Place.Areas.{IsSized}
 use Rattle.sl_run_law.proofs.Place.Proven.{promised}
 use Rattle.sl_run_law.proofs.Place.Reading.{IsRead, IsShown, call_law, read_of, sector_shown}
 use Rattle.sl_run_law.proofs.Place.Seats.{sized_in}
@@ -50,11 +49,11 @@ block_there g bytes j b h =
       ap (λ k. block_in (j + 1) (record_in g (sector_of g bytes k))) (sym (one_back j)) ∙ ap (λ k. block_in k (read_at g bytes (k - 1))) (sym (one_on j)) ∙ r.1,
     )
 
-two_on : (s j : ℕ) → s ≡ 512 → 2 * s + j * s ≡ (j + 2) * s
-two_on s j h = subst (λ x. 2 * x + j * x ≡ (j + 2) * x) (sym h) (omega arith)
+two_on : (s j : ℕ) → 2 * s + j * s ≡ (j + 2) * s
+two_on s j = grind arith
 
-behind_two : (g : Layout) (bytes : List ℕ) (j : ℕ) → g.sector ≡ 512 → sector_of g (drop (2 * g.sector) bytes) j ≡ sector_of g bytes (j + 2)
-behind_two g bytes j h = ap (λ l. take g.sector l) (drop-drop (j * g.sector) (2 * g.sector) bytes ∙ ap (λ n. drop n bytes) (two_on g.sector j h))
+behind_two : (g : Layout) (bytes : List ℕ) (j : ℕ) → sector_of g (drop (2 * g.sector) bytes) j ≡ sector_of g bytes (j + 2)
+behind_two g bytes j = ap (λ l. take g.sector l) (drop-drop (j * g.sector) (2 * g.sector) bytes ∙ ap (λ n. drop n bytes) (two_on g.sector j))
 
 -- ---- what a read gave
 
@@ -88,7 +87,7 @@ pub record IsLook (p : Program) (h : Header) (xs : List Happening) (m : ℕ) (a 
   pub run : LawfulRun p h xs
   pub at : machine_at (world_at p h xs) m ≡ Some a
   pub has : Contains (daemons_on a) d
-  pub lawful : Lawful d.setting d.trace
+  pub lawful : Orderly d.setting d.trace
   pub session : Session
   pub its : IsSession d.setting d.trace session
   pub there : Contains (submitted d.trace) q
@@ -126,11 +125,17 @@ pub record Looked (p : Program) (h : Header) (xs : List Happening) (m : ℕ) (a 
   pub place : q.call.offset + sector * (world_at p h xs).layout.sector
       ≡ block_offset (world_at p h xs).layout (spot_of_call (world_at p h xs).layout q).base (j + 1)
 
-area_offset : (o base s j : ℕ) → o ≡ base → s ≡ 512 → o + (j + 2) * s ≡ base + s * (j + 1 + 1)
-area_offset o base s j e h = subst (λ x. o + (j + 2) * x ≡ base + x * (j + 1 + 1)) (sym h) (omega (arith, e))
+two_further : (base s j : ℕ) → base + (j + 2) * s ≡ base + s * (j + 1 + 1)
+two_further base s j = grind arith
 
-phase_offset : (o base s j : ℕ) → o ≡ base + s * (1 + 1) → s ≡ 512 → o + j * s ≡ base + s * (j + 1 + 1)
-phase_offset o base s j e h = subst (λ x. o ≡ base + x * (1 + 1) → o + j * x ≡ base + x * (j + 1 + 1)) (sym h) (λ k. omega (arith, k)) e
+area_offset : (o base s j : ℕ) → o ≡ base → o + (j + 2) * s ≡ base + s * (j + 1 + 1)
+area_offset o base s j e = ap (λ n. n + (j + 2) * s) e ∙ two_further base s j
+
+behind_first : (base s j : ℕ) → base + s * (1 + 1) + j * s ≡ base + s * (j + 1 + 1)
+behind_first base s j = grind arith
+
+phase_offset : (o base s j : ℕ) → o ≡ base + s * (1 + 1) → o + j * s ≡ base + s * (j + 1 + 1)
+phase_offset o base s j e = ap (λ n. n + j * s) e ∙ behind_first base s j
 
 two_of : (j : ℕ) → j + 2 ≡ j + 1 + 1
 two_of j = omega arith
@@ -142,7 +147,6 @@ looked_by : (p : Program) (h : Header) (xs : List Happening) (m : ℕ) (a : Mach
     → Gave (world_at p h xs).layout q bs → (j : ℕ) (b : Block) → slice_get bs j ≡ Some (Some b) → Looked p h xs m a d q j b
 looked_by p h xs m a d q k bs (By_area bytes told is same) j b there =
     let w : World = world_at p h xs in
-    let z : IsSized w.layout = sized_in p h xs k.run in
     let layout = look_layout p h xs m a d q k in
     let right : IsAreaRead d.setting (spot_of_call d.setting.layout q) q = area_place p h xs m a d q k is in
     let op : q.call.op ≡ ReadSectors (w.layout.hosts + 2) = right.1 ∙ ap (λ g. ReadSectors (g.hosts + 2)) layout in
@@ -154,13 +158,12 @@ looked_by p h xs m a d q k bs (By_area bytes told is same) j b there =
       sector = j + 2;
       number = two_of j ∙ ap (λ (b : Bool). if b then j + 1 + 1 else j + 1 - 1) (sym is);
       below = t.0;
-      spells = ap (λ l. block_in (j + 1) (record_in w.layout l)) (sym (behind_two w.layout bytes j z.sector)) ∙ t.1;
+      spells = ap (λ l. block_in (j + 1) (record_in w.layout l)) (sym (behind_two w.layout bytes j)) ∙ t.1;
       within = subst (λ o. j + 2 < sectors_of o) (sym op) (two_more j w.layout.hosts t.0);
-      place = area_offset q.call.offset (spot_of_call w.layout q).base w.layout.sector j offset z.sector;
+      place = area_offset q.call.offset (spot_of_call w.layout q).base w.layout.sector j offset;
     }
 looked_by p h xs m a d q k bs (By_phase bytes told alone is same) j b there =
     let w : World = world_at p h xs in
-    let z : IsSized w.layout = sized_in p h xs k.run in
     let layout = look_layout p h xs m a d q k in
     let right : IsBlockRead d.setting (spot_of_call d.setting.layout q) q = phase_place p h xs m a d q k is in
     let op : q.call.op ≡ ReadSectors w.layout.hosts = right.1 ∙ ap (λ g. ReadSectors g.hosts) layout in
@@ -174,7 +177,7 @@ looked_by p h xs m a d q k bs (By_phase bytes told alone is same) j b there =
       below = t.0;
       spells = t.1;
       within = subst (λ o. j < sectors_of o) (sym op) t.0;
-      place = phase_offset q.call.offset (spot_of_call w.layout q).base w.layout.sector j offset z.sector;
+      place = phase_offset q.call.offset (spot_of_call w.layout q).base w.layout.sector j offset;
     }
 
 pub looked : (p : Program) (h : Header) (xs : List Happening) (m : ℕ) (a : Machine) (d : Daemon) (q : Submitted) (k : IsLook p h xs m a d q) (bs : List (Option Block))

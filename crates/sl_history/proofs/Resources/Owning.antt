@@ -172,8 +172,8 @@ layout_at p h xs run x s = (promised.of_world p h xs run x.machine s.machine s.d
 -- What a session wrote or read on an area before was answered by then, so it was made at an earlier step.
 pub made_before : (p : Program) (h : Header) (xs : List Happening) → LawfulRun p h xs → (x : Sent) (s : Standing (world_at p h xs) x) (c : Course) → Contains s.before c
     → c.call.session ≡ x.course.call.session → works x.course.call ≡ true → is_area_work x.course.call.purpose ≡ true → works c.call ≡ true
-    → is_on (world_at p h xs).layout (spot_at (world_at p h xs).layout x.course.call) c.call ≡ true → c.made.step < x.course.made.step
-made_before p h xs run x s c has same work area other on =
+    → is_area_work c.call.purpose ≡ true → is_on (world_at p h xs).layout (spot_at (world_at p h xs).layout x.course.call) c.call ≡ true → c.made.step < x.course.made.step
+made_before p h xs run x s c has same work area other also on =
     let w : World = world_at p h xs in
     let st : Setting = setting_at s in
     let m : Submitted = s.told.one in
@@ -185,7 +185,7 @@ made_before p h xs run x s c has same work area other on =
     let a : WasAnsweredBy r.one m =
     one_at_a_time st s.daemon.trace s.lawful s.told.newer r.newer r.older m r.one whole
     (ap (λ c. c.session) one ∙ sym same ∙ ap (λ c. c.session) (sym r.pair.call)) (ap works one ∙ work) (ap (λ c. is_area_work c.purpose) one ∙ area)
-    (ap works r.pair.call ∙ other)
+    (ap works r.pair.call ∙ other) (ap (λ c. is_area_work c.purpose) r.pair.call ∙ also)
     (ap (λ g. is_on g (spot_at g m.call) r.one.call) layout ∙ ap (λ c. is_on w.layout (spot_at w.layout c) r.one.call) one
     ∙ ap (λ c. is_on w.layout (spot_at w.layout x.course.call) c) r.pair.call ∙ on) in
     let k : IsAnsweredAs s.daemon c a.answer = subst (λ o. AnswersAgree s.daemon c o) a.answered r.pair.answers in
@@ -277,7 +277,7 @@ own_written p h xs run at zero x there s on b is own found =
     let spot : spot_at w.layout x.course.call ≡ at = spot_is w.layout at (new_call 0 0 x.course.call) zero on in
     let less : l.course.made.step < x.course.made.step =
     made_before p h xs run x s l.course l.has session (block_works x.course b is) (lease_is_work x.course.call.purpose (block_is_lease w x s b is)) (block_works l.course own l.block)
-    (ap (λ q. is_on w.layout q l.course.call) spot ∙ on_z) in
+    (lease_is_work l.course.call.purpose two.0) (ap (λ q. is_on w.layout q l.course.call) spot ∙ on_z) in
     let passes : P z ≡ true = before_is w at x z less on_z (ap (λ o. is_some o) l.block) same in
     let y = finds P (all_sent w) z passes inside in
     let its = find_inside P (all_sent w) y.0 y.1 in

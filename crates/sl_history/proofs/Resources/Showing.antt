@@ -1,15 +1,16 @@
 -- What a read of blocks shows: each block that it gives was written before, or is a fresh one.
-use Rattle.sl_area.specs.Layouts.{Layout, layout_with, record_in, sector_with}
+use Rattle.sl_area.specs.Layouts.{Layout, Sizes, layout_with, record_in, sector_with}
 use Rattle.sl_area.specs.Places.{block_offset, fresh_block, fresh_leader, in_area, no_request, no_value}
 use Rattle.sl_run_law.proofs.Landing.Initial.{initial_is_record}
 use Rattle.sl_law.specs.LawfulArea.{IsAreaRead, IsBlockRead, IsLeaseRead, IsRightRead}
 use Rattle.sl_leases.specs.Leases.{block_of_record, is_area_read, is_on, is_phase_read}
-use Rattle.sl_run_law.proofs.Place.Areas.{IsSized, is_within, sector_fits, sized}
+use Rattle.sl_run_law.proofs.Place.Areas.{is_within}
 use Rattle.sl_run_law.proofs.Place.Beginnings.{zeros_at}
 use Rattle.sl_run_law.proofs.Place.Finding.{same_read}
 use Rattle.sl_run_law.proofs.Place.Proven.{promised}
 use Rattle.sl_run_law.proofs.Place.Reading.{IsShown, header_is, layout_is, reads_back}
 use Rattle.sl_run_law.proofs.Place.Seats.{sized_in}
+use Rattle.sl_run_law.proofs.Place.Sizes.{IsSized, sector_fits, sector_has_bytes, sized, slot_below}
 use Rattle.sl_plain.proofs.Numbers.{trans_lt}
 use Rattle.sl_history.proofs.Resources.Latest.{sent_as}
 use Rattle.sl_history.proofs.Resources.Standing.{sent_there}
@@ -121,12 +122,14 @@ block_in_is host (Err bad) b h = absurd (none_some b h)
 low_block : (base s j : ℕ) → base ≤ base + s * (j + 1 + 1)
 low_block base s j = let k : ℕ = s * (j + 1 + 1) in omega arith
 
-high_block : (base s j n : ℕ) → s ≡ 512 → j < n → n ≤ 2000 → base + s * (j + 1 + 1) < base + 1048576
-high_block base s j n e lt most = subst (λ x. base + x * (j + 1 + 1) < base + 1048576) (sym e) (omega (arith, lt, most))
+two_above : (j n : ℕ) → j < n → j + 1 + 1 ≤ n + 2
+two_above j n lt = omega (arith, lt)
 
 -- A block's place is in its area.
-pub block_inside : (g : Layout) (base j : ℕ) → IsSized g → j < g.hosts → in_area g base (block_offset g base (j + 1)) ≡ true
-block_inside g base j z lt = is_within g base (block_offset g base (j + 1)) z (low_block base g.sector j) (high_block base g.sector j g.hosts z.sector lt z.hosts.1)
+pub block_inside : {s : Sizes} (g : Layout) (base j : ℕ) → IsSized s g → j < g.hosts → in_area g base (block_offset g base (j + 1)) ≡ true
+block_inside g base j z lt =
+    is_within g base (block_offset g base (j + 1)) (low_block base g.sector j)
+    (slot_below g.sector base (j + 1 + 1) g.hosts g.area (sector_has_bytes g z) (two_above j g.hosts lt) z.room)
 
 wrote_it : (c : Course) (b : Block) (r : Rec) → record_of c.call.op ≡ Some r → r ≡ BlockIs b → block_of_course c ≡ Some b
 wrote_it c b r is same = ap (λ o. option_and_then block_of_record o) (is ∙ ap (λ x. Some x) same)

@@ -1,5 +1,5 @@
 -- What stands at a host's place of a resource's area, and what a read shows of it.
-use Rattle.sl_area.specs.Layouts.{Layout}
+use Rattle.sl_area.specs.Layouts.{Layout, Sizes}
 use Rattle.sl_area.specs.Places.{block_offset, in_area, leader_offset, request_offset, value_offset}
 use Rattle.sl_run_law.proofs.Course.Distinct.{each_distinct}
 use Rattle.sl_run_law.proofs.Front.Having.{contains_append}
@@ -7,15 +7,16 @@ use Rattle.sl_run_law.proofs.Landing.Listing.{one_call}
 use Rattle.sl_run_law.specs.Landing.Landings.{LeftBy}
 use Rattle.sl_law.specs.LawfulArea.{IsAreaRead, IsBlockRead, IsRightRead, record_offset}
 use Rattle.sl_leases.specs.Leases.{block_of_record, is_area_read, is_block_read, is_on, spot_of_call}
-use Rattle.sl_run_law.proofs.Place.Areas.{IsSized, is_within}
+use Rattle.sl_run_law.proofs.Place.Areas.{is_within}
 use Rattle.sl_run_law.proofs.Place.Checks.{behind, placed_in_world, same_block}
 use Rattle.sl_run_law.proofs.Place.Finding.{numbered_inside, place_is, same_text}
 use Rattle.sl_run_law.proofs.Place.Proven.{resources_hold_leases}
 use Rattle.sl_run_law.proofs.Place.Reading.{call_law}
 use Rattle.sl_run_law.proofs.Place.Seats.{sized_in}
+use Rattle.sl_run_law.proofs.Place.Sizes.{IsSized, sector_has_bytes, slot_below}
 use Rattle.sl_run_law.specs.Place.Homes.{IsLeaseLanding}
 use Rattle.sl_plain.proofs.Lists.{contains_cases, contains_none, kept_inside}
-use Rattle.sl_plain.proofs.Numbers.{at_least_first}
+use Rattle.sl_plain.proofs.Numbers.{at_least_first, back_again}
 use Rattle.sl_history.proofs.Resources.Calls.{IsOwned, finds_it, made_of, name_is, named, owner_layout, spot_is, text_same, there_sent}
 use Rattle.sl_history.specs.Resources.Histories.{is_host, landing_shown, sector_number, step_of_landing}
 use Rattle.sl_history.specs.Resources.Promises.{spot_of_line}
@@ -44,6 +45,7 @@ use Rattle.sl_trace.specs.declared.effects.Work.{Work}
 use Rattle.sl_words.proofs.CaseLaws.{false_is_true, none_some, one_value, some_value}
 use Rattle.sl_words.proofs.WordLaws.{and_true}
 use Rattle.std.proofs.Common.{ap, arith, inl, inr, refl, subst, sym, ◌∙◌}
+use Rattle.std.proofs.Math.Nat.{mul-le-mul_left}
 use Rattle.std.proofs.lemmas.Bool.{and_from, eq-eqb, eqb-true, leb-true}
 use Rattle.std.specs.Option.{option_map_or}
 use Rattle.std.specs.Prelude.{Bool, Contains, IsTrue, List, None, Option, Some, [], bytes_eq, false, find, if◌then◌else◌, is_some, nat_le, option_and_then, slice_get, true, ℕ, ◌*◌, ◌+◌, ◌-◌, ◌<◌, ◌==◌, ◌∷◌, ◌≡◌, ◌≤◌, ◌⊎◌}
@@ -54,20 +56,31 @@ use Rattle.std.specs.Prelude.{Bool, Contains, IsTrue, List, None, Option, Some, 
 pub host_range : (w : World) (k : ℕ) → is_host w k ≡ true → (1 ≤ k) × (k ≤ w.layout.hosts)
 host_range w k h = let both = and_true (nat_le 1 k) (nat_le k w.layout.hosts) h in (leb-true 1 k both.0, leb-true k w.layout.hosts both.1)
 
-high_place : (base k hosts : ℕ) → k ≤ hosts → hosts ≤ 2000 → base + 512 * (k + 1) < base + 1048576
-high_place base k hosts p q = omega (arith, p, q)
+one_above : (k hosts : ℕ) → k ≤ hosts → k + 1 ≤ hosts + 2
+one_above k hosts high = omega (arith, high)
 
 -- The place is in the area.
-pub place_within : (w : World) (base k : ℕ) → IsSized w.layout → is_host w k ≡ true → IsTrue (in_area w.layout base (block_offset w.layout base k))
+pub place_within : {s : Sizes} (w : World) (base k : ℕ) → IsSized s w.layout → is_host w k ≡ true → IsTrue (in_area w.layout base (block_offset w.layout base k))
 place_within w base k z host =
-    is_within w.layout base (block_offset w.layout base k) z (at_least_first base (w.layout.sector * (k + 1)))
-    (subst (λ n. base + n * (k + 1) < base + 1048576) (sym z.sector) (high_place base k w.layout.hosts (host_range w k host).1 z.hosts.1))
+    is_within w.layout base (block_offset w.layout base k) (at_least_first base (w.layout.sector * (k + 1)))
+    (slot_below w.layout.sector base (k + 1) w.layout.hosts w.layout.area (sector_has_bytes w.layout z) (one_above k w.layout.hosts (host_range w k host).1) z.room)
 
-no_request : (base k : ℕ) → 1 ≤ k → base + 512 ≡ base + 512 * (k + 1) → ⊥
-no_request base k low h = omega (arith, low, h)
+no_request : (base s k : ℕ) → 0 < s → 1 ≤ k → base + s ≡ base + s * (k + 1) → ⊥
+no_request base s k some low h =
+    let more : s * (k + 1) ≡ s * k + s = grind arith in
+    let most : s * 1 ≤ s * k = mul-le-mul_left s low in
+    let one : s * 1 ≡ s = grind arith in
+    omega (arith, some, h, more, most, one)
 
-no_value : (base k hosts : ℕ) → k ≤ hosts → hosts ≤ 2000 → base + 1048576 - 512 ≡ base + 512 * (k + 1) → ⊥
-no_value base k hosts p q h = omega (arith, p, q, h)
+one_more : (k hosts : ℕ) → k ≤ hosts → k + 1 ≤ hosts + 1
+one_more k hosts high = omega (arith, high)
+
+no_value : (base s area k hosts : ℕ) → 0 < s → k ≤ hosts → s * (hosts + 3) ≤ area → base + area - s ≡ base + s * (k + 1) → ⊥
+no_value base s area k hosts some high room h =
+    let most : s * (k + 1) ≤ s * (hosts + 1) = mul-le-mul_left s (one_more k hosts high) in
+    let more : s * (hosts + 3) ≡ s * (hosts + 1) + s * 2 = grind arith in
+    let two : s * 2 ≡ s + s = grind arith in
+    omega (arith, some, most, more, two, room, h)
 
 -- What is written there is a block of that host.
 record IsBlockOf (s : Session) (k : ℕ) (r : Rec) : Type 0 where
@@ -75,29 +88,23 @@ record IsBlockOf (s : Session) (k : ℕ) (r : Rec) : Type 0 where
   is : r ≡ BlockIs block
   host : s.id ≡ k
 
-value_apart : (base sector area k hosts : ℕ) → sector ≡ 512 → area ≡ 1048576 → k ≤ hosts → hosts ≤ 2000 → base + area - sector ≡ base + sector * (k + 1) → ⊥
-value_apart base sector area k hosts p q low high h =
-    no_value base k hosts low high (subst (λ n. base + 1048576 - n ≡ base + n * (k + 1)) p (subst (λ n. base + n - sector ≡ base + sector * (k + 1)) q h))
-
-only_blocks : (st : Setting) (w : World) (s : Session) (at : Spot) (k : ℕ) (r : Rec) (o : ℕ) → st.layout ≡ w.layout → IsSized w.layout → is_host w k ≡ true
+only_blocks : {sizes : Sizes} (st : Setting) (w : World) (s : Session) (at : Spot) (k : ℕ) (r : Rec) (o : ℕ) → st.layout ≡ w.layout → IsSized sizes w.layout → is_host w k ≡ true
     → record_offset st s at r ≡ Some o → o ≡ block_offset w.layout at.base k → IsBlockOf s k r
 only_blocks st w s at k (DeltaIs d) o layout z host placed here = absurd (none_some o placed)
 only_blocks st w s at k (LeaderIs d) o layout z host placed here =
-    absurd (behind at.base k (subst (λ n. at.base ≡ at.base + n * (k + 1)) z.sector (some_value (leader_offset at.base) o placed ∙ here)))
+    absurd (behind w.layout at.base k z (some_value (leader_offset at.base) o placed ∙ here))
 only_blocks st w s at k (BlockIs b) o layout z host placed here =
     record {
       block = b;
       is = refl;
-      host = same_block at.base s.id k
-          (subst (λ n. at.base + n * (s.id + 1) ≡ at.base + n * (k + 1)) z.sector
-          (ap (λ (g : Layout). block_offset g at.base s.id) (sym layout) ∙ some_value (block_offset st.layout at.base s.id) o placed ∙ here));
+      host = same_block w.layout at.base s.id k z
+          (ap (λ (g : Layout). block_offset g at.base s.id) (sym layout) ∙ some_value (block_offset st.layout at.base s.id) o placed ∙ here);
     }
 only_blocks st w s at k (RequestIs d) o layout z host placed here =
-    absurd (no_request at.base k (host_range w k host).0
-    (subst (λ n. at.base + n ≡ at.base + n * (k + 1)) z.sector
-    (ap (λ (g : Layout). request_offset g at.base) (sym layout) ∙ some_value (request_offset st.layout at.base) o placed ∙ here)))
+    absurd (no_request at.base w.layout.sector k (sector_has_bytes w.layout z) (host_range w k host).0
+    (ap (λ (g : Layout). request_offset g at.base) (sym layout) ∙ some_value (request_offset st.layout at.base) o placed ∙ here))
 only_blocks st w s at k (ValueIs d) o layout z host placed here =
-    absurd (value_apart at.base w.layout.sector w.layout.area k w.layout.hosts z.sector z.area (host_range w k host).1 z.hosts.1
+    absurd (no_value at.base w.layout.sector w.layout.area k w.layout.hosts (sector_has_bytes w.layout z) (host_range w k host).1 z.room
     (ap (λ (g : Layout). value_offset g at.base) (sym layout) ∙ some_value (value_offset st.layout at.base) o placed ∙ here))
 
 -- ---- what landed there
@@ -264,26 +271,29 @@ read_placed p h xs run r there x o on reads =
     placed_for st (spot_of_line r) (made_as d) q.call.purpose refl (ap (λ (c : Call). is_block_read (new_call 0 0 c)) o.trace.is.call ∙ reads)
     (subst (λ at. IsRightRead st at (made_as d) q.call.purpose) spot (law.0.area.0.reads d.index q.call o.session d.call law.1))
 
-place_of_area : (base n k : ℕ) → n ≡ 512 → base + (k + 1) * n ≡ base + n * (k + 1)
-place_of_area base n k h = subst (λ m. base + (k + 1) * m ≡ base + m * (k + 1)) (sym h) (omega arith)
+place_of_area : (base n k : ℕ) → base + (k + 1) * n ≡ base + n * (k + 1)
+place_of_area base n k = grind arith
 
-place_of_block : (base n k : ℕ) → n ≡ 512 → 1 ≤ k → base + n * (1 + 1) + (k - 1) * n ≡ base + n * (k + 1)
-place_of_block base n k h low = subst (λ m. base + m * (1 + 1) + (k - 1) * m ≡ base + m * (k + 1)) (sym h) (omega (arith, low))
+behind_first : (base n j : ℕ) → base + n * (1 + 1) + j * n ≡ base + n * (j + 1 + 1)
+behind_first base n j = grind arith
+
+place_of_block : (base n k : ℕ) → 1 ≤ k → base + n * (1 + 1) + (k - 1) * n ≡ base + n * (k + 1)
+place_of_block base n k low = behind_first base n (k - 1) ∙ ap (λ j. base + n * (j + 1)) (back_again k low)
 
 sector_if : (b : Bool) (is : Bool) (k : ℕ) → is ≡ b → (if is then k + 1 else k - 1) ≡ (if b then k + 1 else k - 1)
 sector_if b is k h = ap (λ (x : Bool). if x then k + 1 else k - 1) h
 
-place_by : (st : Setting) (w : World) (r : ResourceLine) (c : Course) (q : Submitted) (k : ℕ) → st.layout ≡ w.layout → IsSized w.layout → is_host w k ≡ true → q.call ≡ c.call
+place_by : {sizes : Sizes} (st : Setting) (w : World) (r : ResourceLine) (c : Course) (q : Submitted) (k : ℕ) → st.layout ≡ w.layout → IsSized sizes w.layout → is_host w k ≡ true → q.call ≡ c.call
     → IsPlaced st (spot_of_line r) q → sector_place w c (sector_number c k) ≡ block_offset w.layout r.offset k
 place_by st w r c q k layout z host call (inl area) =
     let kind : is_area_read (new_call 0 0 c.call) ≡ true = ap (λ (y : Call). is_area_read (new_call 0 0 y)) (sym call) ∙ area.0 in
     ap (λ n. c.call.offset + n * w.layout.sector) (sector_if true (is_area_read (new_call 0 0 c.call)) k kind)
-    ∙ ap (λ n. n + (k + 1) * w.layout.sector) (ap (λ (y : Call). y.offset) (sym call) ∙ area.1.0) ∙ place_of_area r.offset w.layout.sector k z.sector
+    ∙ ap (λ n. n + (k + 1) * w.layout.sector) (ap (λ (y : Call). y.offset) (sym call) ∙ area.1.0) ∙ place_of_area r.offset w.layout.sector k
 place_by st w r c q k layout z host call (inr alone) =
     let kind : is_area_read (new_call 0 0 c.call) ≡ false = ap (λ (y : Call). is_area_read (new_call 0 0 y)) (sym call) ∙ alone.0 in
     ap (λ n. c.call.offset + n * w.layout.sector) (sector_if false (is_area_read (new_call 0 0 c.call)) k kind)
     ∙ ap (λ n. n + (k - 1) * w.layout.sector) (ap (λ (y : Call). y.offset) (sym call) ∙ alone.1.0 ∙ ap (λ (g : Layout). block_offset g r.offset 1) layout)
-    ∙ place_of_block r.offset w.layout.sector k z.sector (host_range w k host).0
+    ∙ place_of_block r.offset w.layout.sector k (host_range w k host).0
 
 -- The sector of a host's block in a read is the host's place.
 pub sector_is : (p : Program) (h : Header) (xs : List Happening) → LawfulRun p h xs → (r : ResourceLine) → Contains h.resources r → (x : Sent) (o : IsOwned (world_at p h xs) x)

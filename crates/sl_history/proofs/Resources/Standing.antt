@@ -2,7 +2,7 @@
 use Rattle.sl_run_law.proofs.Course.Matched.{courses_are_calls}
 use Rattle.sl_run_law.specs.Course.Stamping.{IsCourseOf, Pairwise, courses_of}
 use Rattle.sl_run_law.proofs.Front.Having.{contains_flat, contains_right, in_flat}
-use Rattle.sl_law.specs.Lawful.{Lawful}
+use Rattle.sl_law.specs.Lawful.{Orderly}
 use Rattle.sl_run_law.proofs.Moment.Ordering.{calls_more, machines_ordered}
 use Rattle.sl_run_law.specs.Moment.Orders.{CallsFall, IsTimed}
 use Rattle.sl_run_law.proofs.Place.Proven.{promised}
@@ -163,7 +163,7 @@ pub record Standing (w : World) (x : Sent) : Type 0 where
   pub has : Contains (daemons_on machine) daemon
   pub numbered : daemon_numbered machine x.course.daemon ≡ Some daemon
   pub number : daemon.number ≡ x.course.daemon
-  pub lawful : Lawful daemon.setting daemon.trace
+  pub lawful : Orderly daemon.setting daemon.trace
   pub after : List Course
   pub before : List Course
   pub courses : courses_of machine daemon.number ≡ after ++ x.course ∷ before

@@ -41,7 +41,7 @@ use Rattle.sl_sessions.specs.Sessions.{joined_after}
 use Rattle.sl_sessions.specs.Watching.{counts_over}
 use Rattle.sl_sessions.specs.declared.session.Session.{Session}
 use Rattle.sl_trace.specs.Traces.{Setting, Trace, same_place}
-use Rattle.sl_law.specs.Lawful.{Lawful}
+use Rattle.sl_law.specs.Lawful.{Orderly}
 use Rattle.sl_words.proofs.CaseLaws.{one_value, true_is_false}
 use Rattle.sl_words.proofs.WordLaws.{some_is_true}
 use Rattle.sl_words.specs.Words.{some_is}
@@ -141,7 +141,7 @@ entry_evident p h xs run i g its j n t newer past whole counts q s long at le =
     let d : Daemon = b.0.came.daemon in
     let same : d.trace ≡ past = same_ends b.0.came.newer newer d.trace past (sym b.0.came.trace ∙ whole) (b.1 ∙ sym long) in
     let begun : IsSessionOf (setting_in g) past g.session =
-    counting_begun (setting_in g) newer past g.session j n (subst (λ es. Lawful (setting_in g) es) whole kn.lawful) (subst (λ es. IsSessionOf (setting_in g) es g.session) whole kn.its) counts in
+    counting_begun (setting_in g) newer past g.session j n (subst (λ es. Orderly (setting_in g) es) whole kn.lawful) (subst (λ es. IsSessionOf (setting_in g) es g.session) whole kn.its) counts in
     let found : Found = found_with b.0.machine d g.session in
     record {
       now = f.now;
@@ -225,7 +225,7 @@ alive_at p h xs run k later also q s joined at f x its over =
     let there : joined_after d.trace later.session ≡ Some (suc q) =
     joined_end b.0.came.newer d.trace later.session (suc q) (subst (λ es. joined_after es later.session ≡ Some (suc q)) b.0.came.trace joined) (omega (arith, b.1)) in
     let begun : IsSessionOf (setting_in later) d.trace later.session =
-    begun_end (setting_in later) b.0.came.newer d.trace later.session (suc q) (subst (λ es. Lawful (setting_in later) es) b.0.came.trace kn.lawful)
+    begun_end (setting_in later) b.0.came.newer d.trace later.session (suc q) (subst (λ es. Orderly (setting_in later) es) b.0.came.trace kn.lawful)
     (subst (λ es. IsSessionOf (setting_in later) es later.session) b.0.came.trace kn.its) there in
     let y : Found = found_with b.0.machine d later.session in
     let stands : IsSession (world_at p h f.now) k y = stood_with p h f.now f.rest f.run k later (subst (λ ys. IsSession (world_at p h ys) k later) f.whole also) b.0 begun in

@@ -5,8 +5,8 @@ use Rattle.sl_run_law.proofs.Front.Going.{fronts_are_lawful}
 use Rattle.sl_id_safety.proofs.Silence.{stamp_before}
 use Rattle.sl_id_safety.proofs.State.Bridge.{IsKnown, known}
 use Rattle.sl_id_safety.proofs.State.Proven.{grounds}
-use Rattle.sl_law.proofs.LawFacts.{lawful-front}
-use Rattle.sl_law.specs.Lawful.{Lawful}
+use Rattle.sl_law.proofs.LawFacts.{orderly-front}
+use Rattle.sl_law.specs.Lawful.{Orderly}
 use Rattle.sl_run_law.proofs.Moment.Ordering.{entries_ordered, fall_front, fall_step}
 use Rattle.sl_run_law.specs.Moment.Orders.{Fall}
 use Rattle.sl_run_law.proofs.Place.Daemons.{daemons_are_fine, stamp_order}
@@ -134,7 +134,7 @@ some_entry : (o : Option ℕ) → is_some o ≡ true → (k : ℕ) × (o ≡ Som
 some_entry None some = absurd (true_is_false (sym some))
 some_entry (Some k) some = (k, refl)
 
-pub counting_begun : (st : Setting) (newer es : Trace) (s : Session) (j n : ℕ) → Lawful st (newer ++ es) → IsSessionOf st (newer ++ es) s → counts_over st es s j n ≡ true → IsSessionOf st es s
+pub counting_begun : (st : Setting) (newer es : Trace) (s : Session) (j n : ℕ) → Orderly st (newer ++ es) → IsSessionOf st (newer ++ es) s → counts_over st es s j n ≡ true → IsSessionOf st es s
 counting_begun st newer es s j n h its counts = by (calls_of es s) refl where
   by : (ms : List Submitted) → calls_of es s ≡ ms → IsSessionOf st es s
   by [] none =
@@ -142,7 +142,7 @@ counting_begun st newer es s j n h its counts = by (calls_of es s) refl where
       begun_end st newer es s k.0 h its k.1
   by (m ∷ ms) is =
       let mine = kept_inside (is_call_of s) (submitted es) m (subst (λ xs. Contains xs m) (sym is) (contains_first m ms)) in
-      let o = owner_of st es m (lawful-front st newer es h) mine.0 in
+      let o = owner_of st es m (orderly-front st newer es h) mine.0 in
       let number : o.0.number ≡ s.number = sym o.2 ∙ eqb-true m.call.session s.number mine.1 in
       let at : session_numbered st es s.number ≡ Some o.0 = ap (λ k. session_numbered st es k) (sym number) ∙ o.1 in
       at ∙ ap (λ x. Some x) (one_value o.0 s (session_numbered st (newer ++ es) s.number) (sessions_stay st newer es s.number o.0 at) its)

@@ -15,7 +15,7 @@ use Rattle.sl_id_safety.proofs.State.Proven.{grounds}
 use Rattle.sl_id_safety.proofs.State.Tails.{AreMade, IsMadeAfter, all_made, front_at}
 use Rattle.sl_id_safety.specs.State.IdStates.{own_courses}
 use Rattle.sl_run_law.proofs.Landing.Listing.{one_call}
-use Rattle.sl_law.specs.Lawful.{Lawful}
+use Rattle.sl_law.specs.Lawful.{Orderly}
 use Rattle.sl_run_law.proofs.Place.Daemons.{daemons_are_fine, stamp_order}
 use Rattle.sl_run_law.proofs.Place.Finding.{partner_of}
 use Rattle.sl_run_law.proofs.Place.Looks.{stands as standing_joined}
@@ -87,7 +87,7 @@ runs_if_new p h now x m a c g d has s there le = by (λ old. old_middle p h now 
 
 -- ---- a free is written where the session has joined
 
-freed_where : (st : Setting) (es : Trace) (s : Session) → Lawful st es → IsSessionOf st es s → (m : Submitted) → free_write (calls_of es s) ≡ Some m
+freed_where : (st : Setting) (es : Trace) (s : Session) → Orderly st es → IsSessionOf st es s → (m : Submitted) → free_write (calls_of es s) ≡ Some m
     → Contains (calls_of es s) m × ((k : ℕ) × (joined_after es s ≡ Some k) × (k ≤ suc m.at))
 freed_where st es s h its m is =
     let found = find_inside (λ (y : Submitted). is_free_purpose y.call.purpose) (calls_of es s) m is in

@@ -11,8 +11,8 @@ use Rattle.sl_id_safety.proofs.Silence.{goes_on}
 use Rattle.sl_id_safety.proofs.State.Bridge.{IsKnown, is_there, known}
 use Rattle.sl_id_safety.proofs.State.Proven.{grounds}
 use Rattle.sl_run_law.proofs.Landing.Passing.{first_later, world_first}
-use Rattle.sl_law.proofs.LawFacts.{lawful-front}
-use Rattle.sl_law.specs.Lawful.{Lawful}
+use Rattle.sl_law.proofs.LawFacts.{orderly-front}
+use Rattle.sl_law.specs.Lawful.{Orderly}
 use Rattle.sl_run_law.proofs.Moment.Ordering.{entries_ordered, fall_step}
 use Rattle.sl_plain.proofs.Lists.{contains_first, contains_none}
 use Rattle.sl_history.proofs.Resources.Alone.{Differ, Stands, given_differ, one_stands}
@@ -136,14 +136,14 @@ stands_at es s q k joined =
     record { entries = suc q; joined = at; kept = joins_kept k.entry k.past s (at ∙ ap (λ n. Some n) (sym place)) }
 
 -- Two sessions of a lockspace that one entry joins are one.
-one_joins : (st : Setting) (es : Trace) (s t : Session) (q : ℕ) → Lawful st es → Differ st.given → IsSessionOf st es s → IsSessionOf st es t → s.lockspace ≡ t.lockspace → q < length es
+one_joins : (st : Setting) (es : Trace) (s t : Session) (q : ℕ) → Orderly st es → Differ st.given → IsSessionOf st es s → IsSessionOf st es t → s.lockspace ≡ t.lockspace → q < length es
     → joined_after es s ≡ Some (suc q) → joined_after es t ≡ Some (suc q) → s ≡ t
 one_joins st es s t q h differ its also name lt one two =
     let k = entry_at es q lt in
     let a = stands_at es s q k one in
     let b = stands_at es t q k two in
-    let here : Lawful st (k.newer ++ k.entry ∷ k.past) = subst (λ u. Lawful st u) k.whole h in
-    one_stands st (k.entry ∷ k.past) s t (lawful-front st k.newer (k.entry ∷ k.past) here) differ
+    let here : Orderly st (k.newer ++ k.entry ∷ k.past) = subst (λ u. Orderly st u) k.whole h in
+    one_stands st (k.entry ∷ k.past) s t (orderly-front st k.newer (k.entry ∷ k.past) here) differ
     (begun_end st k.newer (k.entry ∷ k.past) s a.entries here (subst (λ u. IsSessionOf st u s) k.whole its) a.joined)
     (begun_end st k.newer (k.entry ∷ k.past) t b.entries here (subst (λ u. IsSessionOf st u t) k.whole also) b.joined) name a b
 

@@ -14,7 +14,7 @@ use Rattle.sl_id_safety.proofs.State.Tails.{AreMade, IsMadeAfter, all_made, fron
 use Rattle.sl_id_safety.specs.State.IdStates.{own_courses}
 use Rattle.sl_run_law.proofs.Landing.Making.{run_made_before}
 use Rattle.sl_run_law.proofs.Landing.Stepping.{came}
-use Rattle.sl_law.specs.Lawful.{Lawful}
+use Rattle.sl_law.specs.Lawful.{Orderly}
 use Rattle.sl_law.specs.LawfulDelta.{LawfulDeltaCall}
 use Rattle.sl_run_law.proofs.Place.Finding.{partner}
 use Rattle.sl_run_law.proofs.Place.Looks.{stands as standing_joined}
@@ -51,7 +51,7 @@ refused_if : (es : Trace) (s : Session) (k : ℕ) → joined_after es s ≡ None
 refused_if es s k none is = ap (λ o. ended_by o (removed_after es s) (refused_after es s)) (sym none) ∙ is
 
 -- Its free tells that it had joined.
-freed_joined : (st : Setting) (es : Trace) (s : Session) → Lawful st es → IsSessionOf st es s → (m : Submitted) → free_write (calls_of es s) ≡ Some m → (k : ℕ) × (joined_after es s ≡ Some k)
+freed_joined : (st : Setting) (es : Trace) (s : Session) → Orderly st es → IsSessionOf st es s → (m : Submitted) → free_write (calls_of es s) ≡ Some m → (k : ℕ) × (joined_after es s ≡ Some k)
 freed_joined st es s h its m is =
     let found = find_inside (λ (y : Submitted). is_free_purpose y.call.purpose) (calls_of es s) m is in
     let at = stands (calls_of es s) m found.0 in
@@ -62,7 +62,7 @@ freed_joined st es s h its m is =
 not_joined : (o : Option ℕ) → o ≡ None → is_some o ≡ true → ⊥
 not_joined o none some = true_is_false (sym some ∙ ap is_some none)
 
-quiet_joined : (st : Setting) (newer es : Trace) (s : Session) → Lawful st es → IsSessionOf st es s → IsQuiet es s → is_some (joined_after (newer ++ es) s) ≡ true → joined_after es s ≡ None → ⊥
+quiet_joined : (st : Setting) (newer es : Trace) (s : Session) → Orderly st es → IsSessionOf st es s → IsQuiet es s → is_some (joined_after (newer ++ es) s) ≡ true → joined_after es s ≡ None → ⊥
 quiet_joined st newer es s h its (inl ended) later none =
     not_joined (joined_after (newer ++ es) s) (refused_apart (newer ++ es) s ended.0 (marks_stay.refused newer es s ended.0 (refused_if es s ended.0 none ended.1))) later
 quiet_joined st newer es s h its (inr freed) later none = let k = freed_joined st es s h its freed.0 freed.1 in no_value k.0 (joined_after es s) k.1 none

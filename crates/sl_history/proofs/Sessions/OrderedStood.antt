@@ -8,7 +8,7 @@ use Rattle.sl_id_safety.proofs.State.Bridge.{IsKnown, known}
 use Rattle.sl_id_safety.proofs.State.FindingFrames.{found_on, session_with}
 use Rattle.sl_id_safety.proofs.State.LaterFrames.{numbered_found}
 use Rattle.sl_id_safety.proofs.State.Proven.{grounds}
-use Rattle.sl_law.specs.Lawful.{Lawful}
+use Rattle.sl_law.specs.Lawful.{Orderly}
 use Rattle.sl_history.specs.Resources.Histories.{joined_step}
 use Rattle.sl_run.specs.Runs.{Happening}
 use Rattle.sl_run.specs.Safety.{Found, HasJoined, IsSession, LawfulRun, SessionId, setting_in, trace_of, world_at}
@@ -104,12 +104,12 @@ stood_with p h now rest run i g its b begun =
     found_on w i b.machine b.at ∙ ap (session_with i b.machine) there ∙ ap (λ q. option_map (found_with b.machine d) q) session
 
 -- A daemon that was given no session has none without a job.
-pub none_given : (st : Setting) (es : Trace) (s : Session) → Lawful st es → IsSessionOf st es s → st.given ≡ [] → joined_after es s ≡ Some 0 → ⊥
+pub none_given : (st : Setting) (es : Trace) (s : Session) → Orderly st es → IsSessionOf st es s → st.given ≡ [] → joined_after es s ≡ Some 0 → ⊥
 none_given st es s h its given joined =
     let first = joined_first es s joined in
     let at : joined_after [] s ≡ Some 0 = ap (λ o. elim o as (λ z. Option ℕ) [ None ↦ Some 0 | Some j ↦ None ]) first in
     let whole : es ++ [] ≡ es = nothing_more es in
-    let begun : IsSessionOf st [] s = begun_end st es [] s 0 (subst (λ t. Lawful st t) (sym whole) h) (subst (λ t. IsSessionOf st t s) (sym whole) its) at in
+    let begun : IsSessionOf st [] s = begun_end st es [] s 0 (subst (λ t. Orderly st t) (sym whole) h) (subst (λ t. IsSessionOf st t s) (sym whole) its) at in
     none_some s (sym (ap (λ (gs : List Given). slice_get (map given_session (enumerate_from 0 gs)) s.number) given) ∙ begun)
 
 -- ---- joined at a front
@@ -131,7 +131,7 @@ joined_stood p h now rest run i g its n is past =
     stands kn k joined b le =
         let d : Daemon = b.came.daemon in
         let at = joined_end b.came.newer d.trace g.session k (subst (λ t. joined_after t g.session ≡ Some k) b.came.trace joined) le in
-        let begun = begun_end (setting_in g) b.came.newer d.trace g.session k (subst (λ t. Lawful (setting_in g) t) b.came.trace kn.lawful)
+        let begun = begun_end (setting_in g) b.came.newer d.trace g.session k (subst (λ t. Orderly (setting_in g) t) b.came.trace kn.lawful)
         (subst (λ t. IsSessionOf (setting_in g) t g.session) b.came.trace kn.its) at in
         (found_with b.machine d g.session, stood_with p h now rest run i g its b begun, some_joins (joined_after d.trace g.session) k at)
 

@@ -2,8 +2,8 @@
 -- stamps are of which entries.
 use Rattle.sl_run_law.specs.Course.Stamping.{IsStampOf, Pairwise, stamp_in}
 use Rattle.sl_id_safety.proofs.State.Living.{begun_if_joined}
-use Rattle.sl_law.proofs.LawFacts.{lawful-front}
-use Rattle.sl_law.specs.Lawful.{Lawful}
+use Rattle.sl_law.proofs.LawFacts.{orderly-front}
+use Rattle.sl_law.specs.Lawful.{Orderly}
 use Rattle.sl_plain.proofs.Lists.{contains_first, contains_more}
 use Rattle.sl_run.specs.Worlds.{Stamp}
 use Rattle.sl_trace_law.proofs.Sessions.Staying.{joined_more, marks_stay}
@@ -80,10 +80,10 @@ joined_end (e ∷ newer) es s k is le = by (joined_after (newer ++ es) s) refl (
   by (Some i) was rest = rest (was ∙ ap (λ n. Some n) (one_value i k (joined_after (e ∷ newer ++ es) s) (joined_more e (newer ++ es) s i was) is))
 
 -- .. and begun.
-pub begun_end : (st : Setting) (newer es : Trace) (s : Session) (k : ℕ) → Lawful st (newer ++ es) → IsSessionOf st (newer ++ es) s → joined_after es s ≡ Some k → IsSessionOf st es s
+pub begun_end : (st : Setting) (newer es : Trace) (s : Session) (k : ℕ) → Orderly st (newer ++ es) → IsSessionOf st (newer ++ es) s → joined_after es s ≡ Some k → IsSessionOf st es s
 begun_end st [] es s k h its joined = its
 begun_end st (e ∷ newer) es s k h its joined =
-    begun_end st newer es s k (lawful-front st (e ∷ []) (newer ++ es) h)
+    begun_end st newer es s k (orderly-front st (e ∷ []) (newer ++ es) h)
     (begun_if_joined st e (newer ++ es) s h its k (marks_stay.joined (e ∷ newer) es s k joined)) joined
 
 -- One that joined by no entry has no job.

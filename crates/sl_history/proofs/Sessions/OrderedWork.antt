@@ -1,6 +1,6 @@
 -- Work on the blocks of a resource: its session had joined before, and has a name in the history.
 use Rattle.sl_id_safety.specs.State.IdStates.{own_courses}
-use Rattle.sl_law.specs.Lawful.{Lawful}
+use Rattle.sl_law.specs.Lawful.{Orderly}
 use Rattle.sl_law.specs.LawfulArea.{is_area_work}
 use Rattle.sl_run_law.proofs.Place.Daemons.{daemons_are_fine, stamp_order}
 use Rattle.sl_run_law.proofs.Place.Reading.{call_law}
@@ -39,7 +39,7 @@ active_joined : (st : Setting) (t : Trace) (s : Session) → is_active st t s �
 active_joined st t s h = active_by (joined_after t s) (removed_after t s) (is_none (recovery_of st t s)) (is_none (leaving_job st t s)) h
 
 -- Where a session made a call on an area it had joined.
-worker_had_joined : (st : Setting) (es : Trace) (s : Session) (q : Submitted) (d : IsMade es q) → Lawful st es → IsSessionOf st es s → q.call.session ≡ s.number → is_area_work q.call.purpose ≡ true
+worker_had_joined : (st : Setting) (es : Trace) (s : Session) (q : Submitted) (d : IsMade es q) → Orderly st es → IsSessionOf st es s → q.call.session ≡ s.number → is_area_work q.call.purpose ≡ true
     → (k : ℕ) × (joined_after (d.entry ∷ d.past) s ≡ Some k)
 worker_had_joined st es s q d h its mine area =
     let law = call_law st es s q d h its mine in

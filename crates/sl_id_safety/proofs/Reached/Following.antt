@@ -16,7 +16,7 @@ use Rattle.sl_run.specs.Events.{input_of}
 use Rattle.sl_run.specs.Runs.{Happening}
 use Rattle.sl_run.specs.Safety.{LawfulRun, world_at}
 use Rattle.sl_run.specs.Worlds.{Course, Machine, Program, World, flight_of, is_write_course, machine_at}
-use Rattle.sl_run.specs.declared.event.Event.TheVariants.{AnswerCall, Crash, Do, DropWrite, ExitOf, GiveCommand, Land, Pass, Reset, Restart, Sample, SpawnedOf, StartDaemon, Tear, Test, WakeUp}
+use Rattle.sl_run.specs.declared.event.Event.TheVariants.{AnswerCall, Crash, Do, DropWrite, ExitOf, GiveAsk, GiveCommand, GiveLvm, Land, Pass, Reset, Restart, Sample, SpawnedOf, StartDaemon, Tear, Test, WakeUp}
 use Rattle.sl_run.specs.declared.event.Event.{Event}
 use Rattle.sl_run.specs.declared.header.Header.{Header}
 use Rattle.sl_trace.specs.declared.input.Input.{Input}
@@ -74,6 +74,8 @@ kind_of_event w (Reset m) = Ends tt
 kind_of_event w (Pass d growths) = Keeps tt
 kind_of_event w (WakeUp m) = Keeps tt
 kind_of_event w (GiveCommand m text) = Keeps tt
+kind_of_event w (GiveLvm m line) = Keeps tt
+kind_of_event w (GiveAsk m) = Keeps tt
 kind_of_event w (AnswerCall m n ok) = Keeps tt
 kind_of_event w (Test m) = Keeps tt
 kind_of_event w (ExitOf m process) = Keeps tt

@@ -9,8 +9,8 @@ use Rattle.sl_plain.proofs.Options.{some_of}
 use Rattle.sl_run_law.proofs.Watchdog.Numbering.{begun_is, either_place}
 use Rattle.std.proofs.lemmas.Bool.{cases_lt, eqb-true}
 use Rattle.std.proofs.lemmas.Option.{slice_get_within}
-use Rattle.sl_law.proofs.LawFacts.{lawful-front}
-use Rattle.sl_law.specs.Lawful.{Lawful}
+use Rattle.sl_law.proofs.LawFacts.{orderly-front}
+use Rattle.sl_law.specs.Lawful.{Orderly}
 use Rattle.sl_law.specs.LawfulCalls.{may_submit}
 use Rattle.sl_law.specs.Saying.{cut_at}
 use Rattle.sl_trace_law.proofs.Sessions.Growing.{other_next, to_all, to_cut}
@@ -92,13 +92,13 @@ alive_present t s may = ap (λ o. is_none o || is_none (joined_after t s) && has
 
 -- Where a session began nobody had its lockspace's name.
 pub record BeganAlone (st : Setting) (es : Trace) (n : ℕ) (s : Session) (b : BeganAt st es n s) : Type 0 where
-  pub lawful : Lawful st (b.entry ∷ b.past)
+  pub lawful : Orderly st (b.entry ∷ b.past)
   pub index : ℕ
   pub nobody : session_named st (cut_at index b.entry ∷ b.past) s.lockspace ≡ None
 
-pub began_alone : (st : Setting) (es : Trace) (n : ℕ) (s : Session) (b : BeganAt st es n s) → Lawful st es → BeganAlone st es n s b
+pub began_alone : (st : Setting) (es : Trace) (n : ℕ) (s : Session) (b : BeganAt st es n s) → Orderly st es → BeganAlone st es n s b
 began_alone st es n s b h =
-    let here = lawful-front st b.later (b.entry ∷ b.past) (subst (λ t. Lawful st t) b.whole h) in
+    let here = orderly-front st b.later (b.entry ∷ b.past) (subst (λ t. Orderly st t) b.whole h) in
     let count : ℕ = length (sessions st b.past) in
     let reads = any_found (λ (c : Call). is_join_call FirstRead c.purpose) b.entry.effects.calls
     (begins_by st b.past count (list_any (λ c. is_join_call FirstRead c.purpose) b.entry.effects.calls) (added_by st b.entry.input) s b.begun) in
@@ -134,7 +134,7 @@ present_cases None joined b h = absurd (true_is_false h)
 present_cases (Some k) None b h = ((k, refl), λ none. h)
 present_cases (Some k) (Some j) b h = ((k, refl), λ none. absurd (none_some j (sym none)))
 
-quiet_entry : (st : Setting) (e : Entry) (past : Trace) (s : Session) (k : ℕ) → Lawful st (e ∷ past) → IsSessionOf st (e ∷ past) s → ended_after (e ∷ past) s ≡ Some k
+quiet_entry : (st : Setting) (e : Entry) (past : Trace) (s : Session) (k : ℕ) → Orderly st (e ∷ past) → IsSessionOf st (e ∷ past) s → ended_after (e ∷ past) s ≡ Some k
     → (j : ℕ) (c : Call) → slice_get e.effects.calls j ≡ Some c → (c.session == s.number) ≡ false
 quiet_entry st e past s k h its ended j c at =
     is_false (c.session == s.number) (λ mine.
@@ -148,7 +148,7 @@ same_cut e past s quiet k =
     let all = to_all (λ t. calls_of t s ≡ calls_of (cut_at 0 e ∷ past) s) e past refl (λ j c at old. other_next past e s j c at (quiet j c at) ∙ old) in
     all ∙ sym cut
 
-closed_by : (st : Setting) (e : Entry) (past : Trace) (s : Session) (i k : ℕ) → Lawful st (e ∷ past) → IsSessionOf st (e ∷ past) s → ended_after (e ∷ past) s ≡ Some k
+closed_by : (st : Setting) (e : Entry) (past : Trace) (s : Session) (i k : ℕ) → Orderly st (e ∷ past) → IsSessionOf st (e ∷ past) s → ended_after (e ∷ past) s ≡ Some k
     → (joined_after (e ∷ past) s ≡ None → has_open_write (cut_at i e ∷ past) s ≡ false) → (o : Option ℕ) → joined_after (e ∷ past) s ≡ o → has_open_write (e ∷ past) s ≡ false
 closed_by st e past s i k h its ended shut None is =
     ap (λ ms. list_any (λ (m : Submitted). is_write m.call.op) (unanswered ms)) (same_cut e past s (quiet_entry st e past s k h its ended) i) ∙ shut is

@@ -6,7 +6,7 @@ use Rattle.sl_run_law.specs.Course.Stamping.{AreCalls, IsCourseOf, Pairwise, cou
 use Rattle.sl_run_law.proofs.Front.Having.{in_flat}
 use Rattle.sl_id_safety.proofs.State.FindingFrames.{on_machine}
 use Rattle.sl_id_safety.specs.State.IdStates.{join_course, own_courses}
-use Rattle.sl_law.specs.Lawful.{Lawful}
+use Rattle.sl_law.specs.Lawful.{Orderly}
 use Rattle.sl_plain.proofs.Lists.{filter_both, got_inside}
 use Rattle.sl_run.specs.Runs.{Happening}
 use Rattle.sl_run.specs.Safety.{Found, IsSession as IsSessionOf, LawfulRun, SessionId, trace_of, world_at}
@@ -80,7 +80,7 @@ pub record IsBeside (w : World) (i : SessionId) (f : Found) : Type 0 where
   pub has : Contains (daemons_on f.machine) f.daemon
   pub numbered : daemon_numbered f.machine i.daemon ≡ Some f.daemon
   pub number : f.daemon.number ≡ i.daemon
-  pub lawful : Lawful f.daemon.setting (trace_of f)
+  pub lawful : Orderly f.daemon.setting (trace_of f)
   pub its : IsSession f.daemon.setting (trace_of f) f.session
   pub mirrors : Mirrors f.machine
   pub pairs : Pairwise (IsCourseOf f.daemon) (own_courses i f.machine) (calls_of (trace_of f) f.session)

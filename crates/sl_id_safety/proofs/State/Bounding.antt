@@ -7,7 +7,7 @@ use Rattle.sl_run_law.specs.Course.Stamping.{IsCourseOf, stamp_in}
 use Rattle.sl_id_safety.proofs.State.Beside.{IsBeside}
 use Rattle.sl_id_safety.proofs.State.Registered.{registered, registering_call}
 use Rattle.sl_id_safety.specs.State.IdStates.{runs_still}
-use Rattle.sl_law.specs.Lawful.{Lawful}
+use Rattle.sl_law.specs.Lawful.{Orderly}
 use Rattle.sl_law.specs.LawfulDelta.{LawfulDeciding, LawfulDeltaCall, LawfulFirstRenewal}
 use Rattle.sl_law.specs.LawfulWatchdog.{is_covered}
 use Rattle.sl_run_law.specs.Moment.Moments.{point_of}
@@ -146,7 +146,7 @@ renewal_law st t s c (Joining j FirstRenewal) law is = law
 renewal_law st t s c p law is = absurd (false_is_true is)
 
 -- A session that is given makes no deciding read.
-given_not_deciding : (st : Setting) (es : Trace) (s : Session) (m : Submitted) → Lawful st es → IsSession st es s → s.job ≡ None → join_call (calls_of es s) DecidingRead ≡ Some m → ⊥
+given_not_deciding : (st : Setting) (es : Trace) (s : Session) (m : Submitted) → Orderly st es → IsSession st es s → s.job ≡ None → join_call (calls_of es s) DecidingRead ≡ Some m → ⊥
 given_not_deciding st es s m h its job found =
     let there = find_inside (λ (x : Submitted). is_join_call DecidingRead x.call.purpose) (calls_of es s) m found in
     let own = call_owner es s m there.0 in
@@ -177,7 +177,7 @@ renewal_after st es s m c made law none =
     (find_fails (λ (x : Submitted). is_join_call VerifyRead x.call.purpose) (calls_of es s) law.read none (call_inside es s law.read inside read.1))
 
 -- One that has joined by a job has made its verify read.
-joined_has_verified : (st : Setting) (es : Trace) (s : Session) (j k : ℕ) → Lawful st es → IsSession st es s → s.job ≡ Some j → joined_after es s ≡ Some k
+joined_has_verified : (st : Setting) (es : Trace) (s : Session) (j k : ℕ) → Orderly st es → IsSession st es s → s.job ≡ Some j → joined_after es s ≡ Some k
     → join_call (calls_of es s) VerifyRead ≡ None → ⊥
 joined_has_verified st [] s j k h its job joined none = never_joined s j k job joined
 joined_has_verified st (e ∷ past) s j k h its job joined none =

@@ -10,7 +10,7 @@ use Rattle.sl_run_law.proofs.Place.Numbering.{session_number}
 use Rattle.sl_id_safety.proofs.State.Tails.{IsMadeAfter, all_made}
 use Rattle.sl_id_safety.specs.State.IdStates.{join_course, own_courses}
 use Rattle.sl_run_law.specs.Landing.Landings.{DoneWritesHaveLanded}
-use Rattle.sl_law.specs.Lawful.{Lawful}
+use Rattle.sl_law.specs.Lawful.{Orderly}
 use Rattle.sl_run_law.proofs.Moment.Ordering.{calls_more, entries_ordered, fall_front, machines_ordered}
 use Rattle.sl_run_law.specs.Moment.Orders.{CallsFall, Fall, IsTimed}
 use Rattle.sl_plain.proofs.Lists.{contains_cases, contains_none, find_inside}
@@ -133,7 +133,7 @@ behind_is_before n newer c older d h there = let r = falls_below (c.made.step + 
 
 pub record IsKnown (w : World) (i : SessionId) (f : Found) : Type 0 where
   pub there : IsThere w i f
-  pub lawful : Lawful (setting_in f) (trace_of f)
+  pub lawful : Orderly (setting_in f) (trace_of f)
   pub its : IsSessionOf (setting_in f) (trace_of f) f.session
   pub pairs : Pairwise (IsCourseOf f.daemon) (own_courses i f.machine) (calls_of (trace_of f) f.session)
   pub of_world : IsOfWorld w i.machine f.daemon

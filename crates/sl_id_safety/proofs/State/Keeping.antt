@@ -6,8 +6,8 @@ use Rattle.sl_id_safety.specs.State.Facts.{JoinReadsAreOwn, ReadsOwn, is_reading
 use Rattle.sl_id_safety.specs.State.IdStates.{is_sector_of, own_courses}
 use Rattle.sl_area.specs.Layouts.{Layout}
 use Rattle.sl_area.specs.Places.{delta_offset}
-use Rattle.sl_law.proofs.LawFacts.{lawful-front}
-use Rattle.sl_law.specs.Lawful.{Lawful}
+use Rattle.sl_law.proofs.LawFacts.{orderly-front}
+use Rattle.sl_law.specs.Lawful.{Orderly}
 use Rattle.sl_law.specs.LawfulCalls.{may_submit}
 use Rattle.sl_law.specs.LawfulDelta.{LawfulDeltaCall, LawfulJoinStep, is_on_own_sector}
 use Rattle.sl_run_law.proofs.Place.Looks.{joins_at as step_is}
@@ -41,7 +41,7 @@ is_place path offset path' offset' p o =
 
 -- What the laws of its entry say of a call.
 pub record IsLawfulCall (st : Setting) (es : Trace) (s : Session) (m : Submitted) (older : List Submitted) (d : IsMadeAfter es s m older) : Type 0 where
-  pub lawful : Lawful st (d.entry ∷ d.past)
+  pub lawful : Orderly st (d.entry ∷ d.past)
   pub its : session_numbered st (d.entry ∷ d.past) m.call.session ≡ Some s
   pub law : LawfulDeltaCall st (front_at d) s (new_call (length d.past) d.entry.reading m.call) m.call.purpose
   pub placed : IsTrue (is_delta_purpose m.call.purpose && not (is_survey_purpose m.call.purpose))
@@ -49,11 +49,11 @@ pub record IsLawfulCall (st : Setting) (es : Trace) (s : Session) (m : Submitted
   pub alone : IsTrue (is_delta_purpose m.call.purpose) → has_open_delta (front_at d) s ≡ false
   pub alive : IsTrue (may_submit (stage_of (front_at d) s))
 
-pub lawful_call : (st : Setting) (es : Trace) (s : Session) (m : Submitted) (older : List Submitted) (d : IsMadeAfter es s m older) → Lawful st es → IsSessionOf st es s
+pub lawful_call : (st : Setting) (es : Trace) (s : Session) (m : Submitted) (older : List Submitted) (d : IsMadeAfter es s m older) → Orderly st es → IsSessionOf st es s
     → IsLawfulCall st es s m older d
 lawful_call st es s m older d h its =
-    let whole = subst (λ t. Lawful st t) d.whole h in
-    let here = lawful-front st d.later (d.entry ∷ d.past) whole in
+    let whole = subst (λ t. Orderly st t) d.whole h in
+    let here = orderly-front st d.later (d.entry ∷ d.past) whole in
     let own = owned st d.later d.entry d.past s whole (subst (λ t. IsSessionOf st t s) d.whole its) d.index m.call d.call (eqb-true m.call.session s.number d.mine) in
     record {
       lawful = here;

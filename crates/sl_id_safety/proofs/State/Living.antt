@@ -5,8 +5,8 @@ use Rattle.sl_run_law.specs.Fates.{Every}
 use Rattle.sl_run_law.proofs.Watchdog.Numbering.{begun_is, either_place}
 use Rattle.sl_id_safety.proofs.State.Listing.{EveryTail}
 use Rattle.sl_id_safety.proofs.State.Tails.{AreLater, IsLater, marked_later}
-use Rattle.sl_law.proofs.LawFacts.{lawful-front}
-use Rattle.sl_law.specs.Lawful.{Lawful}
+use Rattle.sl_law.proofs.LawFacts.{orderly-front}
+use Rattle.sl_law.specs.Lawful.{Orderly}
 use Rattle.sl_law.specs.LawfulCalls.{may_submit}
 use Rattle.sl_law.specs.LawfulDelta.{LawfulDeltaCall, LawfulJoin}
 use Rattle.sl_law.specs.Saying.{cut_at}
@@ -201,7 +201,7 @@ answered_old e past m a there is =
     (old_one m (length past) e.reading e.effects.calls (mark past e e.input (submitted past)) (ap (λ o. is_some o) is)
     (old_or_new (length past) e.reading e.effects.calls (mark past e e.input (submitted past)) m there))
 
-joined_renewal : (st : Setting) (e : Entry) (past : Trace) (s : Session) → Lawful st (e ∷ past) → IsSessionOf st (e ∷ past) s → (k : ℕ) → LawfulJoin (e ∷ past) s k
+joined_renewal : (st : Setting) (e : Entry) (past : Trace) (s : Session) → Orderly st (e ∷ past) → IsSessionOf st (e ∷ past) s → (k : ℕ) → LawfulJoin (e ∷ past) s k
     → IsSessionOf st past s
 joined_renewal st e past s h its k j =
     let found = find_inside (λ (m : Submitted). is_join_call FirstRenewal m.call.purpose) (calls_of (e ∷ past) s) j.renewal j.first in
@@ -211,7 +211,7 @@ joined_renewal st e past s h its k j =
     ap (λ n. session_numbered st past n) (sym number)
     ∙ begun_before st e past s h (λ x at. one_value x s (session_numbered st (e ∷ past) s.number) at its) w.before w.inside number
 
-pub begun_if_joined : (st : Setting) (e : Entry) (past : Trace) (s : Session) → Lawful st (e ∷ past) → IsSessionOf st (e ∷ past) s → (k : ℕ) → joined_after (e ∷ past) s ≡ Some k
+pub begun_if_joined : (st : Setting) (e : Entry) (past : Trace) (s : Session) → Orderly st (e ∷ past) → IsSessionOf st (e ∷ past) s → (k : ℕ) → joined_after (e ∷ past) s ≡ Some k
     → IsSessionOf st past s
 begun_if_joined st e past s h its k joined = by s.job refl where
   by : (job : Option ℕ) → s.job ≡ job → IsSessionOf st past s
@@ -224,7 +224,7 @@ begun_if_joined st e past s h its k joined = by s.job refl where
 
 -- ---- along the trace
 
-place_next : (st : Setting) (e : Entry) (past : Trace) (s : Session) → Lawful st (e ∷ past) → IsSessionOf st (e ∷ past) s → IsSessionOf st past s
+place_next : (st : Setting) (e : Entry) (past : Trace) (s : Session) → Orderly st (e ∷ past) → IsSessionOf st (e ∷ past) s → IsSessionOf st past s
     → (j : ℕ) → joined_after (e ∷ past) s ≡ Some j → (k : ℕ) (c : Call) → slice_get e.effects.calls k ≡ Some c → (b : Bool) → (c.session == s.number) ≡ b
     → EveryTail InPlace (calls_of (cut_at k e ∷ past) s) → EveryTail InPlace (calls_of (cut_at (suc k) e ∷ past) s)
 place_next st e past s h its was j joined k c at false other old = subst (EveryTail InPlace) (sym (other_next past e s k c at other)) old
@@ -235,9 +235,9 @@ place_next st e past s h its was j joined k c at true mine old =
     (has_name st t s j (got_inside (sessions st t) s.number s (session_more st (cut_at k e) past s.number s was)) joined (h.calls.0.alive k c s at own)) in
     subst (EveryTail InPlace) (sym (mine_next past e s k c at mine)) (λ joins. absurd (true_is_false (sym joins ∙ none)), old)
 
-pub in_place : (st : Setting) (es : Trace) (s : Session) → Lawful st es → IsSessionOf st es s → EveryTail InPlace (calls_of es s)
+pub in_place : (st : Setting) (es : Trace) (s : Session) → Orderly st es → IsSessionOf st es s → EveryTail InPlace (calls_of es s)
 in_place st [] s h its = tt
-in_place st (e ∷ past) s h its = by (λ was. in_place st past s (lawful-front st (e ∷ []) past h) was) (joined_after (e ∷ past) s) refl where
+in_place st (e ∷ past) s h its = by (λ was. in_place st past s (orderly-front st (e ∷ []) past h) was) (joined_after (e ∷ past) s) refl where
   by : (IsSessionOf st past s → EveryTail InPlace (calls_of past s)) → (o : Option ℕ) → joined_after (e ∷ past) s ≡ o → EveryTail InPlace (calls_of (e ∷ past) s)
   by rest None none = from_order (calls_of (e ∷ past) s) (joinings_are_in_turn st (e ∷ past) s h its none) (joinings_are_ordered st (e ∷ past) s h its none)
   by rest (Some j) joined =

@@ -1,6 +1,6 @@
 -- Which entry last registered the connection of a joining session that needs it: that of its newest call that is made with a registering.
-use Rattle.sl_law.proofs.LawFacts.{lawful-front}
-use Rattle.sl_law.specs.Lawful.{Lawful}
+use Rattle.sl_law.proofs.LawFacts.{orderly-front}
+use Rattle.sl_law.specs.Lawful.{Orderly}
 use Rattle.sl_law.specs.LawfulDelta.{LawfulDeltaCall}
 use Rattle.sl_law.specs.LawfulWatchdog.{is_covered}
 use Rattle.sl_law.specs.Saying.{cut_at}
@@ -21,7 +21,7 @@ use Rattle.sl_trace.specs.declared.effects.Entry.{Entry}
 use Rattle.sl_trace.specs.declared.effects.JoinStep.TheVariants.{ClaimWrite, DecidingRead, FirstRead, FirstRenewal, VerifyRead, WatchRead}
 use Rattle.sl_trace.specs.declared.effects.Purpose.TheVariants.{RequestRead, RequestWrite, Joining, Lease, Leaving, Renewal, SeeRequest, Survey, ValueRead, ValueWrite}
 use Rattle.sl_trace.specs.declared.effects.Purpose.{Purpose}
-use Rattle.sl_trace.specs.declared.input.Input.TheVariants.{Answer as Told, Exit, Line, Spawned, Wake}
+use Rattle.sl_trace.specs.declared.input.Input.TheVariants.{Answer as Told, Exit, Line, Number, Spawned, Wake}
 use Rattle.sl_trace.specs.declared.input.Input.{Input}
 use Rattle.sl_run_law.proofs.Watchdog.Becoming.{WasSo, any_more, by_joining, by_write, covered_marked, covered_stage_by, with_registers}
 use Rattle.sl_run_law.proofs.Watchdog.Finding.{the_open_write}
@@ -116,6 +116,7 @@ found_marked : (es : Trace) (e : Entry) (i : Input) (ms : List Submitted) (m : S
 found_marked es e (Told n a) ms m h =
     found_mapped (answered_in es e n a) (λ x. ((same_answered es e n a x).call, (same_answered es e n a x).at)) ms m h
 found_marked es e (Line text) ms m h = (m, h, refl)
+found_marked es e (Number text) ms m h = (m, h, refl)
 found_marked es e (Exit p) ms m h = (m, h, refl)
 found_marked es e (Spawned p ok) ms m h = (m, h, refl)
 found_marked es e Wake ms m h = (m, h, refl)
@@ -170,7 +171,7 @@ either_mine st e past s k c none law same false is before m h =
     either_quiet st e past s k c m none law is same
     (before m (sym (ap (λ ms. registering_call ms) same ∙ ap (λ b. cond b (Some (new_call (length past) e.reading c)) (registering_call (calls_of (cut_at k e ∷ past) s))) is) ∙ h))
 
-either_call : (st : Setting) (e : Entry) (past : Trace) (s : Session) → Lawful st (e ∷ past) → IsSession st (e ∷ past) s → joined_after (e ∷ past) s ≡ None
+either_call : (st : Setting) (e : Entry) (past : Trace) (s : Session) → Orderly st (e ∷ past) → IsSession st (e ∷ past) s → joined_after (e ∷ past) s ≡ None
     → (k : ℕ) (c : Call) → slice_get e.effects.calls k ≡ Some c → (b : Bool) → (c.session == s.number) ≡ b
     → Either e past s (cut_at k e ∷ past) → Either e past s (cut_at (suc k) e ∷ past)
 either_call st e past s h its none k c at false other before = λ m found.
@@ -181,14 +182,14 @@ either_call st e past s h its none k c at true mine before =
     (λ x is. one_value x s (session_numbered st (e ∷ past) s.number) (ap (λ n. session_numbered st (e ∷ past) n) (sym number) ∙ is) its) in
     either_mine st e past s k c none (h.delta.0.calls k c s at here) (mine_next past e s k c at mine) (is_registering c.purpose) refl before
 
-either_entry : (st : Setting) (e : Entry) (past : Trace) (s : Session) → Lawful st (e ∷ past) → IsSession st (e ∷ past) s → joined_after (e ∷ past) s ≡ None
+either_entry : (st : Setting) (e : Entry) (past : Trace) (s : Session) → Orderly st (e ∷ past) → IsSession st (e ∷ past) s → joined_after (e ∷ past) s ≡ None
     → Either e past s (e ∷ past)
 either_entry st e past s h its none =
     to_all (Either e past s) e past (either_first e past s) (λ k c at before. either_call st e past s h its none k c at (c.session == s.number) refl before)
 
 -- ---- whether the connection was needed before
 
-was_so : (st : Setting) (e : Entry) (past : Trace) (s : Session) (m : Submitted) → Lawful st (e ∷ past) → IsSession st (e ∷ past) s → joined_after (e ∷ past) s ≡ None
+was_so : (st : Setting) (e : Entry) (past : Trace) (s : Session) (m : Submitted) → Orderly st (e ∷ past) → IsSession st (e ∷ past) s → joined_after (e ∷ past) s ≡ None
     → is_covered (e ∷ past) s ≡ true → IsOlder past s (e ∷ past) m → WasSo st past s
 was_so st e past s m h its none is o =
     let t : Trace = e ∷ past in
@@ -208,7 +209,7 @@ was_so st e past s m h its none is o =
 abbrev entry_by : Bool → ℕ → Option ℕ → Option ℕ
 entry_by b now before = elim b [ true ↦ Some now | false ↦ before ]
 
-registered_by : (st : Setting) (e : Entry) (past : Trace) (s : Session) (m : Submitted) → Lawful st (e ∷ past) → IsSession st (e ∷ past) s → joined_after (e ∷ past) s ≡ None
+registered_by : (st : Setting) (e : Entry) (past : Trace) (s : Session) (m : Submitted) → Orderly st (e ∷ past) → IsSession st (e ∷ past) s → joined_after (e ∷ past) s ≡ None
     → is_covered (e ∷ past) s ≡ true → IsNow e past s m ⊎ IsOlder past s (e ∷ past) m
     → ((b : Submitted) → WasSo st past s → registering_call (calls_of past s) ≡ Some b → registering_entry past s.lockspace ≡ Some b.at)
     → registering_entry (e ∷ past) s.lockspace ≡ Some m.at
@@ -220,9 +221,9 @@ registered_by st e past s m h its none is (inr o) rest =
     ap (λ b. entry_by b (length past) (registering_entry past s.lockspace)) quiet ∙ rest o.before was o.found ∙ ap (λ n. Some n) o.same
 
 -- A session that isn't joined and needs its connection has it from the entry of its newest such call.
-pub registered : (st : Setting) (es : Trace) (s : Session) → Lawful st es → IsSession st es s → joined_after es s ≡ None → is_covered es s ≡ true → (m : Submitted)
+pub registered : (st : Setting) (es : Trace) (s : Session) → Orderly st es → IsSession st es s → joined_after es s ≡ None → is_covered es s ≡ true → (m : Submitted)
     → registering_call (calls_of es s) ≡ Some m → registering_entry es s.lockspace ≡ Some m.at
 registered st [] s h its none is m found = absurd (none_some m found)
 registered st (e ∷ past) s h its none is m found =
     registered_by st e past s m h its none is (either_entry st e past s h its none m found)
-    (λ b was there. registered st past s (lawful-front st (e ∷ []) past h) was.its (joined_before e past s (joined_after past s) refl none) was.covered b there)
+    (λ b was there. registered st past s (orderly-front st (e ∷ []) past h) was.its (joined_before e past s (joined_after past s) refl none) was.covered b there)

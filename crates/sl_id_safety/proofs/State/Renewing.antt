@@ -17,7 +17,7 @@ use Rattle.sl_id_safety.proofs.State.Tails.{AreMade, IsMadeAfter, all_made, fron
 use Rattle.sl_id_safety.proofs.State.Verifying.{written_there}
 use Rattle.sl_id_safety.specs.State.Facts.{HasVerified, RenewalsHaveVerified}
 use Rattle.sl_id_safety.specs.State.IdStates.{claim_bytes, deciding_sample, generation_by, is_sector_of, own_courses, sample_showing, verifying_sample, watched_bytes}
-use Rattle.sl_law.specs.Lawful.{Lawful}
+use Rattle.sl_law.specs.Lawful.{Orderly}
 use Rattle.sl_law.specs.Saying.{cut_at}
 use Rattle.sl_run.specs.Events.{write_bytes}
 use Rattle.sl_run.specs.Runs.{Happening}
@@ -57,7 +57,7 @@ given_none st es s m older d l none =
     joined_not st t s (new_call (length d.past) d.entry.reading m.call) 0 m.call.purpose l.law (given_joined t s none)
     (has_name st t s 0 (got_inside (sessions st t) s.number s (session_more st (cut_at d.index d.entry) d.past s.number s was)) (given_joined t s none) l.alive)
 
-pub all_given_by : (st : Setting) (es : Trace) (s : Session) → Lawful st es → IsSessionOf st es s → s.job ≡ None → (ms : List Submitted) → AreMade es s ms
+pub all_given_by : (st : Setting) (es : Trace) (s : Session) → Orderly st es → IsSessionOf st es s → s.job ≡ None → (ms : List Submitted) → AreMade es s ms
     → Every (λ (m : Submitted). is_joining m.call.purpose ≡ false) ms
 all_given_by st es s h its none [] made = tt
 all_given_by st es s h its none (m ∷ ms) made =

@@ -11,7 +11,7 @@ use Rattle.sl_run_law.proofs.Place.Finding.{partner_of}
 use Rattle.sl_id_safety.proofs.State.Living.{InPlace, Precede, answered_old, rank, rank_at}
 use Rattle.sl_id_safety.proofs.State.Steps.{ranks_of, twice}
 use Rattle.sl_id_safety.proofs.State.Tails.{AreLater, AreMade, all_made, IsLater, IsMadeAfter, front_at, marked_later}
-use Rattle.sl_law.specs.Lawful.{Lawful}
+use Rattle.sl_law.specs.Lawful.{Orderly}
 use Rattle.sl_law.specs.LawfulDelta.{LawfulDeltaCall, LawfulFirstRenewal, LawfulJoin}
 use Rattle.sl_law.specs.Saying.{cut_at}
 use Rattle.sl_sector.specs.Bitmaps.{no_bits}
@@ -224,7 +224,7 @@ of_last st es s m older x d l n =
       joined = joined_behind st es s m older x l n.standing;
     }
 
-shaped_at : (st : Setting) (es : Trace) (s : Session) → Lawful st es → IsSessionOf st es s → (m : Submitted) (older : List Submitted) → IsMadeAfter es s m older → Shaped s m older
+shaped_at : (st : Setting) (es : Trace) (s : Session) → Orderly st es → IsSessionOf st es s → (m : Submitted) (older : List Submitted) → IsMadeAfter es s m older → Shaped s m older
 shaped_at st es s h its m older x d is apart =
     let l = lawful_call st es s m older x h its in
     let k = shape st (front_at x) s (new_call (length x.past) x.entry.reading m.call) d m.call.purpose l.law is apart in
@@ -233,11 +233,11 @@ shaped_at st es s h its m older x d is apart =
       | inr next ↦ inr (of_last st es s m older x d l next)
     ]
 
-all_shaped_by : (st : Setting) (es : Trace) (s : Session) → Lawful st es → IsSessionOf st es s → (ms : List Submitted) → AreMade es s ms → EveryTail (Shaped s) ms
+all_shaped_by : (st : Setting) (es : Trace) (s : Session) → Orderly st es → IsSessionOf st es s → (ms : List Submitted) → AreMade es s ms → EveryTail (Shaped s) ms
 all_shaped_by st es s h its [] made = tt
 all_shaped_by st es s h its (m ∷ ms) made = (shaped_at st es s h its m ms made.0, all_shaped_by st es s h its ms made.1)
 
-pub all_shaped : (st : Setting) (es : Trace) (s : Session) → Lawful st es → IsSessionOf st es s → EveryTail (Shaped s) (calls_of es s)
+pub all_shaped : (st : Setting) (es : Trace) (s : Session) → Orderly st es → IsSessionOf st es s → EveryTail (Shaped s) (calls_of es s)
 all_shaped st es s h its = all_shaped_by st es s h its (calls_of es s) (all_made es s)
 
 -- A first renewal writes.
@@ -254,14 +254,14 @@ renews_by st t s n (Joining j ClaimWrite) law is = absurd (false_is_true is)
 renews_by st t s n (Joining j VerifyRead) law is = absurd (false_is_true is)
 renews_by st t s n p law is = absurd (false_is_true is)
 
-all_renew_by : (st : Setting) (es : Trace) (s : Session) → Lawful st es → IsSessionOf st es s → (ms : List Submitted) → AreMade es s ms → Every Renews ms
+all_renew_by : (st : Setting) (es : Trace) (s : Session) → Orderly st es → IsSessionOf st es s → (ms : List Submitted) → AreMade es s ms → Every Renews ms
 all_renew_by st es s h its [] made = tt
 all_renew_by st es s h its (m ∷ ms) made = (
   λ is. renews_by st (front_at made.0) s (new_call (length made.0.past) made.0.entry.reading m.call) m.call.purpose (lawful_call st es s m ms made.0 h its).law is,
   all_renew_by st es s h its ms made.1,
 )
 
-pub all_renew : (st : Setting) (es : Trace) (s : Session) → Lawful st es → IsSessionOf st es s → Every Renews (calls_of es s)
+pub all_renew : (st : Setting) (es : Trace) (s : Session) → Orderly st es → IsSessionOf st es s → Every Renews (calls_of es s)
 all_renew st es s h its = all_renew_by st es s h its (calls_of es s) (all_made es s)
 
 -- ---- one generation

@@ -1,6 +1,6 @@
 -- Whose sector a place of an id is in the header's world: that of the session whose line has its lockspace and id, and of no other.
-use Rattle.sl_area.specs.Layouts.{Layout}
-use Rattle.sl_area.specs.Places.{delta_offset}
+use Rattle.sl_area.specs.Layouts.{Layout, Sizes}
+use Rattle.sl_area.specs.Places.{delta_offset, in_area}
 use Rattle.sl_run_law.proofs.Course.Daemons.{daemon_of_line}
 use Rattle.sl_run_law.proofs.Front.Having.{placed_at}
 use Rattle.sl_id_safety.proofs.State.FindingFrames.{found_on, session_with}
@@ -9,8 +9,11 @@ use Rattle.sl_id_safety.proofs.State.Members.{IsFirst, IsGivenOf, given_by_line,
 use Rattle.sl_id_safety.specs.State.IdStates.{is_sector_of}
 use Rattle.sl_id_safety.specs.State.Promises.{IsIdPlace}
 use Rattle.sl_run_law.proofs.Landing.Initial.{up_to}
-use Rattle.sl_run_law.proofs.Place.Areas.{IsSized, lockspace_aligned, one_lockspace, sized}
+use Rattle.sl_run_law.proofs.Place.Areas.{lockspace_aligned, one_lockspace, same_base}
+use Rattle.sl_run_law.proofs.Place.Checks.{same_slot}
 use Rattle.sl_run_law.proofs.Place.Finding.{finds, place_is}
+use Rattle.sl_run_law.proofs.Place.Seats.{delta_within}
+use Rattle.sl_run_law.proofs.Place.Sizes.{IsSized, sized}
 use Rattle.sl_plain.proofs.Lists.{got_inside}
 use Rattle.sl_plain.proofs.Numbers.{one_again, one_index}
 use Rattle.sl_plain.proofs.Options.{else_some}
@@ -28,7 +31,7 @@ use Rattle.std.proofs.Common.{ap, arith, refl, subst, sym, ◌∙◌}
 use Rattle.std.proofs.lemmas.Bool.{eq-eqb}
 use Rattle.std.proofs.lemmas.Bool.Decides.{nat_tests}
 use Rattle.std.specs.List.{range_with_len}
-use Rattle.std.specs.Prelude.{Contains, List, None, Some, false, find, map, option_map, slice_get, suc, true, zero, [], ℕ, ◌*◌, ◌%◌, ◌+◌, ◌-◌, ◌<◌, ◌==◌, ◌∷◌, ◌≡◌, ◌≤◌}
+use Rattle.std.specs.Prelude.{Contains, IsTrue, List, None, Some, false, find, map, option_map, slice_get, suc, true, zero, [], ℕ, ◌*◌, ◌%◌, ◌+◌, ◌-◌, ◌<◌, ◌==◌, ◌∷◌, ◌≡◌, ◌≤◌}
 
 -- ---- lines are apart
 
@@ -55,13 +58,13 @@ one_of_machine h i j s t ok at there names machines =
 
 -- ---- sectors
 
-pub one_sector : (a b i k : ℕ) → a % 1048576 ≡ 0 → b % 1048576 ≡ 0 → 1 ≤ i → i ≤ 2000 → 1 ≤ k → k ≤ 2000 → a + 512 * (i - 1) ≡ b + 512 * (k - 1) → (a ≡ b) × (i ≡ k)
-one_sector a b i k p q low high low' high' same = (omega (arith, p, q, low, high, low', high', same), omega (arith, p, q, low, high, low', high', same))
-
 -- Delta sectors of ids are apart.
-sectors_apart : (g : Layout) (a b i k : ℕ) → IsSized g → a % 1048576 ≡ 0 → b % 1048576 ≡ 0 → 1 ≤ i → i ≤ 2000 → 1 ≤ k → k ≤ 2000 → delta_offset g a i ≡ delta_offset g b k → (a ≡ b) × (i ≡ k)
+pub sectors_apart : {s : Sizes} (g : Layout) (a b i k : ℕ) → IsSized s g → a % s.area ≡ 0 → b % s.area ≡ 0 → 1 ≤ i → i ≤ g.hosts → 1 ≤ k → k ≤ g.hosts
+    → delta_offset g a i ≡ delta_offset g b k → (a ≡ b) × (i ≡ k)
 sectors_apart g a b i k z p q low high low' high' same =
-    one_sector a b i k p q low high low' high' (subst (λ n. a + n * (i - 1) ≡ b + n * (k - 1)) z.sector same)
+    let base : a ≡ b =
+    same_base g a b (delta_offset g a i) z p q (delta_within g a i z low high) (subst (λ o. IsTrue (in_area g b o)) (sym same) (delta_within g b k z low' high')) in
+    (base, same_slot g b i k z low low' (ap (λ n. n + g.sector * (i - 1)) (sym base) ∙ same))
 
 -- Whose line has this lockspace and this id.
 pub record IsLineOf (l : LockspaceLine) (id : ℕ) (s : SessionLine) : Type 0 where
@@ -79,7 +82,7 @@ sector_of_given p h path offset m s g x ok has of_line paths offsets =
     let there : delta_offset (layout_at p h) k.offset s.id ≡ delta_offset (layout_at p h) x.lockspace.offset x.id =
     ap (λ o. delta_offset (layout_at p h) o s.id) (sym base) ∙ ap (λ n. delta_offset (layout_at p h) g.offset n) (sym id) ∙ offsets ∙ x.is_offset in
     let both = sectors_apart (layout_at p h) k.offset x.lockspace.offset s.id x.id z (lockspace_aligned h k ok of_line.there) (lockspace_aligned h x.lockspace ok x.has) member.id.0
-    (up_to s.id h.geometry.hosts member.id.1 z.hosts.1) x.range.0 (up_to x.id h.geometry.hosts x.range.1 z.hosts.1) there in
+    member.id.1 x.range.0 x.range.1 there in
     let same : k ≡ x.lockspace =
     one_lockspace h k x.lockspace ok of_line.there x.has (ap (λ (y : Given). y.path) (sym of_line.is) ∙ paths ∙ x.is_path) both.0 in
     record { lockspace = sym of_line.name ∙ ap (λ (y : LockspaceLine). y.name) same; same_id = both.1 }

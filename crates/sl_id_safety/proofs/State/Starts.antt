@@ -1,5 +1,5 @@
 -- At first one whole record stands at the place of an id: a free one, or that of the header's session of this id.
-use Rattle.sl_area.specs.Layouts.{Layout, sector_with}
+use Rattle.sl_area.specs.Layouts.{Layout, Sizes, sector_with}
 use Rattle.sl_area.specs.Places.{delta_offset, fresh_delta, in_area}
 use Rattle.sl_run_law.proofs.Course.Daemons.{daemon_of_line}
 use Rattle.sl_run_law.proofs.Front.Having.{placed_at}
@@ -12,9 +12,10 @@ use Rattle.sl_id_safety.specs.State.Promises.{IdsStart, IsIdPlace}
 use Rattle.sl_ids.specs.Runs.{HasHolder, Starts_free, Starts_held, StartsWith}
 use Rattle.sl_ids.specs.State.{IsNew, Session as IdSession, SessionId as IdName}
 use Rattle.sl_run_law.proofs.Landing.Initial.{initial_is_record}
-use Rattle.sl_run_law.proofs.Place.Areas.{IsSized, lockspace_aligned, one_lockspace, same_base, sector_fits, sized}
+use Rattle.sl_run_law.proofs.Place.Areas.{lockspace_aligned, one_lockspace, same_base}
 use Rattle.sl_run_law.proofs.Place.Finding.{finds, same_text}
 use Rattle.sl_run_law.proofs.Place.Seats.{delta_within}
+use Rattle.sl_run_law.proofs.Place.Sizes.{IsSized, number_of_slot, sector_fits, sector_has_bytes, sized}
 use Rattle.sl_plain.proofs.Lists.{got_inside}
 use Rattle.sl_plain.proofs.Numbers.{back_again}
 use Rattle.sl_run.specs.Headers.{GoTogether, IsHeader}
@@ -70,11 +71,8 @@ lockspace_found p h path offset ok x =
     let f = finds (λ (y : LockspaceLine). bytes_eq y.path path && in_area g y.offset offset) h.lockspaces x.lockspace test x.has in
     f.1 ∙ ap (λ y. Some y) (found_is p h path offset f.0 ok x f.1)
 
-index_by : (base id : ℕ) → 1 ≤ id → (base + 512 * (id - 1) - base) / 512 ≡ id - 1
-index_by base id low = omega (arith, low)
-
-sector_index : (g : Layout) (base id : ℕ) → IsSized g → 1 ≤ id → (delta_offset g base id - base) / g.sector ≡ id - 1
-sector_index g base id z low = subst (λ n. (base + n * (id - 1) - base) / n ≡ id - 1) (sym z.sector) (index_by base id low)
+sector_index : {s : Sizes} (g : Layout) (base id : ℕ) → IsSized s g → (delta_offset g base id - base) / g.sector ≡ id - 1
+sector_index g base id z = number_of_slot g.sector base (id - 1) (sector_has_bytes g z)
 
 one_less : (id n : ℕ) → 1 ≤ id → id ≤ n → nat_lt (id - 1) n ≡ true
 one_less id n low high = grind (arith, nat_tests)
@@ -91,7 +89,7 @@ unfolding initial_record
 initial_at p h path offset ok x =
     let g : Layout = layout_at p h in
     let k : ℕ = (offset - x.lockspace.offset) / g.sector in
-    let index : k ≡ x.id - 1 = ap (λ o. (o - x.lockspace.offset) / g.sector) x.is_offset ∙ sector_index g x.lockspace.offset x.id (sized p.digest h.geometry ok.geometry) x.range.0 in
+    let index : k ≡ x.id - 1 = ap (λ o. (o - x.lockspace.offset) / g.sector) x.is_offset ∙ sector_index g x.lockspace.offset x.id (sized p.digest h.geometry ok.geometry) in
     ap (λ o. elim o as (λ z. Option Rec) [
       | Some l ↦ initial_of_lockspace h l ((offset - l.offset) / g.sector)
       | None ↦ elim (find (λ (r : ResourceLine). bytes_eq r.path path && in_area g r.offset offset) h.resources) as (λ z. Option Rec) [

@@ -10,7 +10,7 @@ use Rattle.sl_trace.specs.Traces.{Answered, Submitted, Trace, answer_of, answere
 use Rattle.sl_trace.specs.declared.effects.Call.{Call}
 use Rattle.sl_trace.specs.declared.effects.Entry.{Entry}
 use Rattle.sl_trace.specs.declared.input.Answer.{Answer}
-use Rattle.sl_trace.specs.declared.input.Input.TheVariants.{Answer as Told, Exit, Line, Spawned, Wake}
+use Rattle.sl_trace.specs.declared.input.Input.TheVariants.{Answer as Told, Exit, Line, Number, Spawned, Wake}
 use Rattle.sl_trace.specs.declared.input.Input.{Input}
 use Rattle.std.proofs.Common.{ap, refl, subst, sym, ◌∙◌}
 use Rattle.std.specs.Prelude.{Bool, List, Some, [], false, length, map, slice_get, suc, true, ℕ, ◌++◌, ◌==◌, ◌∷◌, ◌≡◌}
@@ -58,6 +58,7 @@ told_all es e n a (m ∷ ms) = (told_later es e n a m, told_all es e n a ms)
 pub marked_later : (es : Trace) (e : Entry) (i : Input) (ms : List Submitted) → AreLater (mark es e i ms) ms
 marked_later es e (Told n a) ms = told_all es e n a ms
 marked_later es e (Line text) ms = all_still ms
+marked_later es e (Number text) ms = all_still ms
 marked_later es e (Exit p) ms = all_still ms
 marked_later es e (Spawned p ok) ms = all_still ms
 marked_later es e Wake ms = all_still ms

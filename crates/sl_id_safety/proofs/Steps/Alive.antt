@@ -21,7 +21,7 @@ use Rattle.sl_id_safety.proofs.State.Steps.{ranks_of}
 use Rattle.sl_id_safety.proofs.State.Tails.{front_at}
 use Rattle.sl_id_safety.proofs.State.Timing.{refused_by, stamp_below}
 use Rattle.sl_id_safety.specs.State.IdStates.{comes_before, own_courses, refused_stamp, runs_still, verifying_sample}
-use Rattle.sl_law.specs.Lawful.{Lawful}
+use Rattle.sl_law.specs.Lawful.{Orderly}
 use Rattle.sl_law.specs.LawfulDelta.{LawfulDeltaCall, LawfulJoin}
 use Rattle.sl_plain.proofs.Lists.{got_inside, kept_inside}
 use Rattle.sl_run.specs.Runs.{Happening}
@@ -224,7 +224,7 @@ no_free p h xs run i f at j job none =
 
 -- ---- it hasn't joined
 
-pub joins_at : (st : Setting) (es : Trace) (s : Session) → Lawful st es → IsSessionOf st es s → (j k : ℕ) → s.job ≡ Some j → joined_after es s ≡ Some k → LawfulJoin es s k
+pub joins_at : (st : Setting) (es : Trace) (s : Session) → Orderly st es → IsSessionOf st es s → (j k : ℕ) → s.job ≡ Some j → joined_after es s ≡ Some k → LawfulJoin es s k
 joins_at st [] s h its j k job joined = absurd (never_joined s j k job joined)
 joins_at st (e ∷ past) s h its j k job joined = h.delta.0.joins s (got_inside (sessions st (e ∷ past)) s.number s its) j k job joined
 

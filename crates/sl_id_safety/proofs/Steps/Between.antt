@@ -12,13 +12,13 @@ use Rattle.sl_ids.specs.Guards.{terms_of}
 use Rattle.sl_ids.specs.Runs.{IsBounded}
 use Rattle.sl_ids.specs.Terms.{Terms}
 use Rattle.sl_run_law.proofs.Landing.Running.{own_by as no_calls_by}
-use Rattle.sl_law.specs.Lawful.{Lawful}
+use Rattle.sl_law.specs.Lawful.{Orderly}
 use Rattle.sl_plain.proofs.Lists.{got_inside}
 use Rattle.sl_run.specs.Events.{add_landing, after_effects, change_call, event_tests, fated, first_change, flight_at, happens, input_of, is_placed, is_read_course, is_shaped, machine_of, on_flight, on_machine, may_happen, next_input, next_step, sampled_more, sectors_left, take_step, write_bytes}
 use Rattle.sl_run.specs.Runs.{EachDaemon, Happening, HasSteps, IsRun, daemons_of, own_effects_of, world_after}
 use Rattle.sl_run.specs.Safety.{LawfulRun, world_at}
 use Rattle.sl_run.specs.Worlds.{Course, Daemon, Landed, Machine, Program, World, change_machine, daemons_on, first_that, flight_of, is_in_flight, is_of_running, is_torn_fate, is_write_course, machine_at, stamp_now, world_with}
-use Rattle.sl_run.specs.declared.event.Event.TheVariants.{AnswerCall, Crash, Do, DropWrite, ExitOf, GiveCommand, Land, Pass, Reset, Restart, Sample, SpawnedOf, StartDaemon, Tear, Test, WakeUp}
+use Rattle.sl_run.specs.declared.event.Event.TheVariants.{AnswerCall, Crash, Do, DropWrite, ExitOf, GiveAsk, GiveCommand, GiveLvm, Land, Pass, Reset, Restart, Sample, SpawnedOf, StartDaemon, Tear, Test, WakeUp}
 use Rattle.sl_run.specs.declared.event.Event.{Event}
 use Rattle.sl_run.specs.declared.event.Refusal.TheVariants.{MissingCall, MissingDaemon, MissingFlight, MissingLanding, MissingMachine, MissingPlace, MissingSample, Syntax}
 use Rattle.sl_run.specs.declared.event.Refusal.{Refusal}
@@ -78,6 +78,8 @@ first_stays : (e : Event) (w : World) (i : Input) → input_of w e ≡ Some i �
 unfolding first_change
 first_stays (WakeUp m) w i is other = refl
 first_stays (GiveCommand m text) w i is other = refl
+first_stays (GiveLvm m line) w i is other = refl
+first_stays (GiveAsk m) w i is other = refl
 first_stays (AnswerCall m c ok) w i is other = refl
 first_stays (ExitOf m p) w i is other = refl
 first_stays (SpawnedOf m p ok) w i is other = refl
@@ -149,15 +151,15 @@ on_each : (w v : World) (m : ℕ) (a b : Machine) (d : Daemon) → EachMachine S
     → Contains (daemons_of w) d
 on_each w v m a b d each old at has = let new = each m a old in was_on w v m a b new.0 d old at new.1 new.2 has
 
-lawful_on : (p : Program) (h : Header) (now : List Happening) (x : Happening) (m : ℕ) (b : Machine) (d : Daemon) → EachDaemon Lawful (world_at p h now)
+lawful_on : (p : Program) (h : Header) (now : List Happening) (x : Happening) (m : ℕ) (b : Machine) (d : Daemon) → EachDaemon Orderly (world_at p h now)
     → EachMachine SameDaemons (world_at p h now) (world_at p h (now ++ x ∷ [])) → machine_at (world_at p h (now ++ x ∷ [])) m ≡ Some b → Contains (daemons_on b) d
-    → Lawful d.setting d.trace
+    → Orderly d.setting d.trace
 lawful_on p h now x m b d lawful each at has =
     let old = was_there (world_at p h now) (x ∷ []) m b (ap (λ u. machine_at u m) (sym (run_after (world_with p h) now (x ∷ []))) ∙ at) in
     lawful d (on_each (world_at p h now) (world_at p h (now ++ x ∷ [])) m old.0 b d each old.1 at has)
 
-lawful_after : (p : Program) (h : Header) (now : List Happening) (x : Happening) → EachDaemon Lawful (world_at p h now)
-    → EachMachine SameDaemons (world_at p h now) (world_at p h (now ++ x ∷ [])) → EachDaemon Lawful (world_at p h (now ++ x ∷ []))
+lawful_after : (p : Program) (h : Header) (now : List Happening) (x : Happening) → EachDaemon Orderly (world_at p h now)
+    → EachMachine SameDaemons (world_at p h now) (world_at p h (now ++ x ∷ [])) → EachDaemon Orderly (world_at p h (now ++ x ∷ []))
 lawful_after p h now x lawful each d has =
     let on = contains_flat daemons_on (world_at p h (now ++ x ∷ [])).machines d has in
     let place = placed_at (world_at p h (now ++ x ∷ [])).machines on.0 on.1 in

@@ -94,7 +94,7 @@ pub shown_course : (g : Found) (bytes : Option (List ℕ)) (o : Option Course) (
 shown_course g bytes None y h = absurd (none_some y h)
 shown_course g bytes (Some c) y h = (c, refl, h)
 
-left_name : (m n : ℕ) (o : Option (ℕ × ℕ)) → some_is (λ (q : ℕ × ℕ). q.0 == m && q.1 == n) o ≡ true → o ≡ Some (m, n)
+pub left_name : (m n : ℕ) (o : Option (ℕ × ℕ)) → some_is (λ (q : ℕ × ℕ). q.0 == m && q.1 == n) o ≡ true → o ≡ Some (m, n)
 left_name m n None h = absurd (false_is_true h)
 left_name m n (Some q) h =
     let b = and_true (q.0 == m) (q.1 == n) h in

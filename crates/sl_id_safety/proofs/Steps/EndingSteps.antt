@@ -27,7 +27,7 @@ use Rattle.sl_run.specs.Events.{after_crash, after_reset, event_tests, first_cha
 use Rattle.sl_run.specs.Runs.{Happening}
 use Rattle.sl_run.specs.Safety.{Found, LawfulRun, SessionId, is_course_of, is_over, session_of_world, world_at}
 use Rattle.sl_run.specs.Worlds.{Daemon, Machine, Program, Stamp, World, daemon_numbered, machine_at, resets_after, stamp_now}
-use Rattle.sl_run.specs.declared.event.Event.TheVariants.{AnswerCall, Crash, Do, DropWrite, ExitOf, GiveCommand, Land, Pass as PassOf, Reset, Restart, Sample, SpawnedOf, StartDaemon, Tear, Test, WakeUp}
+use Rattle.sl_run.specs.declared.event.Event.TheVariants.{AnswerCall, Crash, Do, DropWrite, ExitOf, GiveAsk, GiveCommand, GiveLvm, Land, Pass as PassOf, Reset, Restart, Sample, SpawnedOf, StartDaemon, Tear, Test, WakeUp}
 use Rattle.sl_run.specs.declared.event.Event.{Event}
 use Rattle.sl_run.specs.declared.event.Refusal.TheVariants.{MissingUp}
 use Rattle.sl_run.specs.declared.header.Header.{Header}
@@ -342,6 +342,8 @@ ends_on : (w : World) (e : Event) → IsEndingEvent w e → may_happen w e ≡ t
 ends_on w (PassOf d growths) q may mirrors = absurd q
 ends_on w (WakeUp m) q may mirrors = absurd q
 ends_on w (GiveCommand m text) q may mirrors = absurd q
+ends_on w (GiveLvm m line) q may mirrors = absurd q
+ends_on w (GiveAsk m) q may mirrors = absurd q
 ends_on w (Sample m c k) q may mirrors = absurd q
 ends_on w (Land m c) q may mirrors = absurd q
 ends_on w (Tear m c k bytes) q may mirrors = absurd q
@@ -361,6 +363,8 @@ unfolding first_change
 ending_lands (PassOf d growths) w q = absurd q
 ending_lands (WakeUp m) w q = absurd q
 ending_lands (GiveCommand m text) w q = absurd q
+ending_lands (GiveLvm m line) w q = absurd q
+ending_lands (GiveAsk m) w q = absurd q
 ending_lands (Sample m c k) w q = absurd q
 ending_lands (Land m c) w q = absurd q
 ending_lands (Tear m c k bytes) w q = absurd q

@@ -16,7 +16,7 @@ use Rattle.sl_run.specs.Events.{add_landing, after_crash, after_effects, after_r
 use Rattle.sl_run.specs.Runs.{Happening}
 use Rattle.sl_run.specs.Safety.{LawfulRun, world_at}
 use Rattle.sl_run.specs.Worlds.{Course, Daemon, Dropped, Landed, Landing, Machine, Program, Stamp, Torn, World, change_machine, history_of, is_in_flight, is_open, is_write_course, machine_at, reading_now, stamp_now}
-use Rattle.sl_run.specs.declared.event.Event.TheVariants.{AnswerCall, Crash, Do, DropWrite, ExitOf, GiveCommand, Land, Pass, Reset, Restart, Sample, SpawnedOf, StartDaemon, Tear, Test, WakeUp}
+use Rattle.sl_run.specs.declared.event.Event.TheVariants.{AnswerCall, Crash, Do, DropWrite, ExitOf, GiveAsk, GiveCommand, GiveLvm, Land, Pass, Reset, Restart, Sample, SpawnedOf, StartDaemon, Tear, Test, WakeUp}
 use Rattle.sl_run.specs.declared.event.Event.{Event}
 use Rattle.sl_run.specs.declared.header.Header.{Header}
 use Rattle.sl_run_law.proofs.Going.{event_goes}
@@ -29,7 +29,7 @@ use Rattle.sl_run_law.specs.Going.{Goes, time_of}
 use Rattle.sl_run_law.specs.Machines.{EachMachine}
 use Rattle.sl_trace.specs.declared.effects.Effects.{Effects}
 use Rattle.sl_trace.specs.declared.effects.Entry.{Entry}
-use Rattle.sl_trace.specs.declared.input.Input.TheVariants.{Answer as Told, Exit, Line, Spawned, Wake}
+use Rattle.sl_trace.specs.declared.input.Input.TheVariants.{Answer as Told, Exit, Line, Number, Spawned, Wake}
 use Rattle.sl_trace.specs.declared.input.Input.{Input}
 use Rattle.std.proofs.Common.{ap, inl, inr, refl, subst, sym, ◌∙◌}
 use Rattle.std.specs.Option.{option_map_or}
@@ -75,6 +75,7 @@ entry_of i fx a = record { reading = reading_now a; input = i; effects = fx }
 
 step_given : (now : Stamp) (i : Input) (fx : Effects) (a : Machine) → given_on (after_step now i fx a) ≡ given_on a
 step_given now (Line text) fx a = entered (entry_of (Line text) fx a) now a.daemon a.ended
+step_given now (Number text) fx a = entered (entry_of (Number text) fx a) now a.daemon a.ended
 step_given now (Told n answer) fx a = entered (entry_of (Told n answer) fx a) now a.daemon a.ended
 step_given now Wake fx a = entered (entry_of Wake fx a) now a.daemon a.ended
 step_given now (Exit p) fx a = entered (entry_of (Exit p) fx a) now a.daemon a.ended
@@ -241,6 +242,8 @@ unfolding first_change
 accounted (Pass d growths) w = old_ones w
 accounted (WakeUp m) w = old_ones w
 accounted (GiveCommand m text) w = old_ones w
+accounted (GiveLvm m line) w = old_ones w
+accounted (GiveAsk m) w = old_ones w
 accounted (Sample m c k) w = changed_accounted w m (change_call c (sampled_more w k))
 accounted (Land m c) w = whole_accounted w m c
 accounted (Tear m c k bytes) w = left_by w m c (change_call c (fated Torn)) false (λ f. torn_bytes w f.call k bytes) (flight_at w m c) refl

@@ -7,8 +7,8 @@ use Rattle.sl_id_safety.proofs.State.Frames.{free_landed_by, free_of, landed_as}
 use Rattle.sl_id_safety.specs.State.IdStates.{own_courses}
 use Rattle.sl_id_safety.proofs.Steps.OwnCalls.{IsFresh, IsKept, IsSilent, Through, closed, closes, kept, knows}
 use Rattle.sl_run_law.proofs.Landing.Listing.{one_call}
-use Rattle.sl_law.proofs.LawFacts.{lawful-front}
-use Rattle.sl_law.specs.Lawful.{Lawful}
+use Rattle.sl_law.proofs.LawFacts.{orderly-front}
+use Rattle.sl_law.specs.Lawful.{Orderly}
 use Rattle.sl_law.specs.LawfulDelta.{LawfulDeltaCall}
 use Rattle.sl_law.specs.Saying.{cut_at}
 use Rattle.sl_run_law.proofs.Place.Finding.{partner_of}
@@ -34,7 +34,7 @@ use Rattle.sl_trace.specs.declared.effects.JoinStep.{JoinStep}
 use Rattle.sl_trace.specs.declared.effects.Purpose.TheVariants.{Joining, Leaving}
 use Rattle.sl_trace.specs.declared.effects.Purpose.{Purpose}
 use Rattle.sl_trace.specs.declared.input.Answer.{Answer}
-use Rattle.sl_trace.specs.declared.input.Input.TheVariants.{Answer as Told, Exit, Line, Spawned, Wake}
+use Rattle.sl_trace.specs.declared.input.Input.TheVariants.{Answer as Told, Exit, Line, Number, Spawned, Wake}
 use Rattle.sl_trace.specs.declared.input.Input.{Input}
 use Rattle.sl_run_law.proofs.Watchdog.Finding.{call_inside, call_owner}
 use Rattle.sl_words.proofs.CaseLaws.{false_is_true, is_false, not_both, some_value, true_is_false}
@@ -77,7 +77,7 @@ free_stands : (st : Setting) (t : Trace) (s : Session) (n : Submitted) (p : Purp
 free_stands st t s n (Leaving j) law is = law.standing
 free_stands st t s n p law is = absurd (false_is_true is)
 
-freed_joined : (st : Setting) (es : Trace) (s : Session) (m : Submitted) → Lawful st es → IsSession st es s → free_write (calls_of es s) ≡ Some m
+freed_joined : (st : Setting) (es : Trace) (s : Session) (m : Submitted) → Orderly st es → IsSession st es s → free_write (calls_of es s) ≡ Some m
     → (k : ℕ) × (joined_after es s ≡ Some k)
 freed_joined st es s m h its free =
     let r = find_inside (λ (x : Submitted). is_free_purpose x.call.purpose) (calls_of es s) m free in
@@ -108,6 +108,7 @@ number_told es e n a (m ∷ ms) =
 number_marked : (es : Trace) (e : Entry) (i : Input) (ms : List Submitted) → number_of (free_write (mark es e i ms)) ≡ number_of (free_write ms)
 number_marked es e (Told n a) ms = number_told es e n a ms
 number_marked es e (Line text) ms = refl
+number_marked es e (Number text) ms = refl
 number_marked es e (Exit p) ms = refl
 number_marked es e (Spawned p ok) ms = refl
 number_marked es e Wake ms = refl
@@ -231,10 +232,10 @@ free_stays_by {i = i} {f = f} {g = g} t None is =
     free_of i g ∙ free_by_cases t is (free_write (calls_of (trace_of g) g.session)) refl
     ∙ sym (ap (λ o. free_landed_by (own_courses i f.machine) o) is) ∙ sym (free_of i f)
 free_stays_by {f = f} {g = g} t (Some m) is =
-    let lawful : Lawful f.daemon.setting (t.entry ∷ f.daemon.trace) =
-    subst (λ st. Lawful st (t.entry ∷ f.daemon.trace)) t.setting (subst (λ es. Lawful (setting_in g) es) t.trace (knows t).lawful) in
+    let lawful : Orderly f.daemon.setting (t.entry ∷ f.daemon.trace) =
+    subst (λ st. Orderly st (t.entry ∷ f.daemon.trace)) t.setting (subst (λ es. Orderly (setting_in g) es) t.trace (knows t).lawful) in
     let j = freed_joined f.daemon.setting f.daemon.trace f.session m
-    (lawful-front f.daemon.setting (t.entry ∷ []) f.daemon.trace lawful) t.had is in
+    (orderly-front f.daemon.setting (t.entry ∷ []) f.daemon.trace lawful) t.had is in
     free_silent t (t.freed j.0 m j.1 is)
 
 -- So whether it has landed stays.

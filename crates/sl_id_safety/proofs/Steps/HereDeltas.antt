@@ -9,9 +9,9 @@ use Rattle.sl_id_safety.proofs.Steps.OtherSessions.{goes_has}
 use Rattle.sl_id_safety.specs.Steps.Parts.{between}
 use Rattle.sl_run_law.proofs.Landing.Listing.{one_call}
 use Rattle.sl_run_law.specs.Landing.Landings.{IsWrittenBy}
-use Rattle.sl_run_law.proofs.Place.Areas.{sector_fits, sized}
 use Rattle.sl_run_law.proofs.Place.Reading.{IsPromised, digest_is, layout_is, traced, writes_record}
 use Rattle.sl_run_law.proofs.Place.Seats.{delta_within, sized_in}
+use Rattle.sl_run_law.proofs.Place.Sizes.{sector_fits, sized}
 use Rattle.sl_run_law.specs.Place.Homes.{IsDeltaLanding, LockspacesHoldDeltas}
 use Rattle.sl_run.specs.Events.{input_of, machine_of, spells_something, write_bytes}
 use Rattle.sl_run.specs.Runs.{Happening}

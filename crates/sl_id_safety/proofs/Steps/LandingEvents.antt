@@ -31,7 +31,7 @@ use Rattle.sl_run.specs.Events.{fated, flight_at, may_happen, next_step, spells_
 use Rattle.sl_run.specs.Runs.{Happening}
 use Rattle.sl_run.specs.Safety.{LawfulRun, world_at}
 use Rattle.sl_run.specs.Worlds.{Course, Dropped, Fate, Landed, Landing, Machine, Program, Torn, World, flight_of, history_of, is_in_flight, is_landed, is_open, is_write_course, machine_at}
-use Rattle.sl_run.specs.declared.event.Event.TheVariants.{AnswerCall, Crash, Do, DropWrite, ExitOf, GiveCommand, Land, Pass, Reset, Restart, Sample, SpawnedOf, StartDaemon, Tear, Test, WakeUp}
+use Rattle.sl_run.specs.declared.event.Event.TheVariants.{AnswerCall, Crash, Do, DropWrite, ExitOf, GiveAsk, GiveCommand, GiveLvm, Land, Pass, Reset, Restart, Sample, SpawnedOf, StartDaemon, Tear, Test, WakeUp}
 use Rattle.sl_run.specs.declared.event.Event.{Event}
 use Rattle.sl_run.specs.declared.header.Header.{Header}
 use Rattle.sl_sector.specs.declared.sector.DeltaRec.{DeltaRec}
@@ -291,6 +291,8 @@ lands_event g p h now x path offset run place r (Do m n) is kind inv low high =
 lands_event g p h now x path offset run place r (Pass d growths) is kind inv low high = absurd kind
 lands_event g p h now x path offset run place r (WakeUp m) is kind inv low high = absurd kind
 lands_event g p h now x path offset run place r (GiveCommand m text) is kind inv low high = absurd kind
+lands_event g p h now x path offset run place r (GiveLvm m line) is kind inv low high = absurd kind
+lands_event g p h now x path offset run place r (GiveAsk m) is kind inv low high = absurd kind
 lands_event g p h now x path offset run place r (Sample m n k) is kind inv low high = absurd kind
 lands_event g p h now x path offset run place r (AnswerCall m n ok) is kind inv low high = absurd kind
 lands_event g p h now x path offset run place r (Test m) is kind inv low high = absurd kind

@@ -15,11 +15,12 @@ use Rattle.sl_run_law.proofs.Landing.Listing.{one_call}
 use Rattle.sl_run_law.specs.Landing.Landings.{LandingsAreWritten}
 use Rattle.sl_run_law.proofs.Front.Going.{last_event}
 use Rattle.sl_plain.proofs.Lists.{contains_cases, contains_first, contains_more, contains_none}
+use Rattle.sl_plain.proofs.Options.{then_value}
 use Rattle.sl_run.specs.Events.{after_step, close_answered, done_input, if_running, input_at, input_of, machine_of, may_happen, new_course, ok_input}
 use Rattle.sl_run.specs.Runs.{Happening}
 use Rattle.sl_run.specs.Safety.{Found, LawfulRun, SessionId, is_course_of, session_of_world, world_at}
 use Rattle.sl_run.specs.Worlds.{Course, Daemon, Machine, Program, Stamp, World, flight_of, is_of_running, is_open, machine_at, stamp_now}
-use Rattle.sl_run.specs.declared.event.Event.TheVariants.{AnswerCall, Crash, Do, DropWrite, ExitOf, GiveCommand, Land, Pass, Reset, Restart, Sample, SpawnedOf, StartDaemon, Tear, Test, WakeUp}
+use Rattle.sl_run.specs.declared.event.Event.TheVariants.{AnswerCall, Crash, Do, DropWrite, ExitOf, GiveAsk, GiveCommand, GiveLvm, Land, Pass, Reset, Restart, Sample, SpawnedOf, StartDaemon, Tear, Test, WakeUp}
 use Rattle.sl_run.specs.declared.event.Event.{Event}
 use Rattle.sl_run.specs.declared.header.Header.{Header}
 use Rattle.sl_run_law.proofs.Tracking.{told}
@@ -33,7 +34,7 @@ use Rattle.sl_trace.specs.declared.effects.Op.TheVariants.{ReadSectors, WriteRec
 use Rattle.sl_trace.specs.declared.effects.Op.{Op}
 use Rattle.sl_trace.specs.declared.input.Answer.TheVariants.{Failed, Read, Written}
 use Rattle.sl_trace.specs.declared.input.Answer.{Answer}
-use Rattle.sl_trace.specs.declared.input.Input.TheVariants.{Answer as Told, Exit, Line, Spawned, Wake}
+use Rattle.sl_trace.specs.declared.input.Input.TheVariants.{Answer as Told, Exit, Line, Number, Spawned, Wake}
 use Rattle.sl_trace.specs.declared.input.Input.{Input}
 use Rattle.sl_words.proofs.CaseLaws.{is_false, none_some, not_both, one_value, some_value}
 use Rattle.sl_words.proofs.OrderLaws.{same_or_apart}
@@ -76,6 +77,13 @@ running_told : (i : Input) (n : ℕ) (y : Answer) (o : Option Machine) → (i �
 running_told i n y None other h = none_some (Told n y) h
 running_told i n y (Some a) other h = not_told i (is_some a.daemon) n y other h
 
+-- An ask is a line.
+asking_told : (n : ℕ) (y : Answer) (o : Option Machine) → option_and_then (λ a. option_and_then (λ text. if_running a (Line text)) a.locks.due) o ≡ Some (Told n y) → ⊥
+asking_told n y None h = none_some (Told n y) h
+asking_told n y (Some a) h =
+    let x = then_value (λ text. if_running a (Line text)) a.locks.due (Told n y) h in
+    not_told (Line x.0) (is_some a.daemon) n y (λ e. absurd cc) x.2
+
 nothing_told : (n : ℕ) (y : Answer) (o : Option Machine) → option_and_then (λ (a : Machine). let x : Option Input = None in x) o ≡ Some (Told n y) → ⊥
 nothing_told n y None h = none_some (Told n y) h
 nothing_told n y (Some a) h = none_some (Told n y) h
@@ -93,6 +101,8 @@ pub answering : (w : World) (e : Event) (n : ℕ) (y : Answer) → may_happen w 
 answering w (Pass d growths) n y may h = absurd (nothing_told n y (machine_at w 0) h)
 answering w (WakeUp m) n y may h = absurd (running_told Wake n y (machine_at w m) (λ e. absurd cc) h)
 answering w (GiveCommand m text) n y may h = absurd (running_told (Line text) n y (machine_at w m) (λ e. absurd cc) h)
+answering w (GiveLvm m line) n y may h = absurd (running_told (Number line) n y (machine_at w m) (λ e. absurd cc) h)
+answering w (GiveAsk m) n y may h = absurd (asking_told n y (machine_at w m) h)
 answering w (Sample m c k) n y may h = absurd (nothing_told n y (machine_at w m) h)
 answering w (Land m c) n y may h = absurd (nothing_told n y (machine_at w m) h)
 answering w (Tear m c k bytes) n y may h = absurd (nothing_told n y (machine_at w m) h)
@@ -189,6 +199,7 @@ none_own i now number calls (x ∷ xs) h each =
 closed_calls : (i : SessionId) (now : Stamp) (j : Input) (a : Machine) → NotAnswered i j a.calls
     → filter (is_course_of i) (close_answered now j a).calls ≡ own_courses i a
 closed_calls i now (Line text) a free = refl
+closed_calls i now (Number text) a free = refl
 closed_calls i now (Told n y) a free =
     own_untouched i (λ c. c.call.number == n) (told now (is_ok_answer y)) a.calls (λ c. refl) (free n y refl)
 closed_calls i now Wake a free = refl

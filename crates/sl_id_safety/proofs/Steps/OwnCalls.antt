@@ -25,7 +25,7 @@ use Rattle.sl_trace.specs.declared.effects.Call.{Call}
 use Rattle.sl_trace.specs.declared.effects.Effects.{Effects}
 use Rattle.sl_trace.specs.declared.effects.Entry.{Entry}
 use Rattle.sl_trace.specs.declared.effects.JoinStep.{JoinStep}
-use Rattle.sl_trace.specs.declared.input.Input.TheVariants.{Answer as Told, Exit, Line, Spawned, Wake}
+use Rattle.sl_trace.specs.declared.input.Input.TheVariants.{Answer as Told, Exit, Line, Number, Spawned, Wake}
 use Rattle.sl_trace.specs.declared.input.Input.{Input}
 use Rattle.sl_words.proofs.CaseLaws.{none_some, some_value}
 use Rattle.std.proofs.Common.{ap, refl, subst, sym, ◌∙◌}
@@ -49,6 +49,7 @@ fresh_of now number calls c n =
 abbrev pub closed : Stamp → Input → Course → Course
 closed now (Told n y) c = changed_if (c.call.number == n) (told now (is_ok_answer y)) c
 closed now (Line text) c = c
+closed now (Number text) c = c
 closed now Wake c = c
 closed now (Exit p) c = c
 closed now (Spawned p ok) c = c
@@ -82,6 +83,7 @@ kept_if false now ok c = kept_same c
 pub kept : (now : Stamp) (j : Input) (c : Course) → IsKept c (closed now j c)
 kept now (Told n y) c = kept_if (c.call.number == n) now (is_ok_answer y) c
 kept now (Line text) c = kept_same c
+kept now (Number text) c = kept_same c
 kept now Wake c = kept_same c
 kept now (Exit p) c = kept_same c
 kept now (Spawned p ok) c = kept_same c
@@ -95,6 +97,7 @@ map_still f (c ∷ cs) h = ap (λ x. x ∷ map f cs) (h c) ∙ ap (λ xs. c ∷ 
 closed_all : (now : Stamp) (j : Input) (a : Machine) → (close_answered now j a).calls ≡ map (closed now j) a.calls
 closed_all now (Told n y) a = refl
 closed_all now (Line text) a = sym (map_still (closed now (Line text)) a.calls (λ c. refl))
+closed_all now (Number text) a = sym (map_still (closed now (Number text)) a.calls (λ c. refl))
 closed_all now Wake a = sym (map_still (closed now Wake) a.calls (λ c. refl))
 closed_all now (Exit p) a = sym (map_still (closed now (Exit p)) a.calls (λ c. refl))
 closed_all now (Spawned p ok) a = sym (map_still (closed now (Spawned p ok)) a.calls (λ c. refl))

@@ -1,6 +1,7 @@
 -- The seqs of what has landed for a session: each is less than that of a renewal or a free of it in flight.
 use Rattle.sl_run_law.proofs.Landing.Listing.{one_call}
 use Rattle.sl_run_law.proofs.Landing.Writers.{writer_settled}
+use Rattle.sl_run_law.proofs.Place.Sizes.{sector_fits}
 use Rattle.sl_plain.proofs.Lists.{contains_cases, contains_first, contains_more, contains_none, kept, kept_inside}
 use Rattle.std.proofs.lemmas.Bool.{and_from, eq-eqb, eqb-true}
 use Rattle.sl_area.specs.Layouts.{Layout, layout_with, record_in}
@@ -18,7 +19,6 @@ use Rattle.sl_id_safety.proofs.Steps.Fating.{seq_at}
 use Rattle.sl_id_safety.proofs.Steps.OwnWrites.{IsRenewing, above_given, rises_above}
 use Rattle.sl_ids.specs.State.{Content, SessionId as IdName}
 use Rattle.sl_run_law.specs.Landing.Landings.{HasWriter, LandingsAreWritten}
-use Rattle.sl_run_law.proofs.Place.Areas.{sector_fits}
 use Rattle.sl_run_law.proofs.Place.Reading.{IsPromised, header_is, layout_is, reads_back}
 use Rattle.sl_run_law.proofs.Place.Seats.{delta_in_is, sized_in}
 use Rattle.sl_run.specs.Runs.{Happening}

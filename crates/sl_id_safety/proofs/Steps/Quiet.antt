@@ -17,7 +17,7 @@ use Rattle.sl_run.specs.Events.{after_effects, after_restart, after_start, after
 use Rattle.sl_run.specs.Runs.{Happening}
 use Rattle.sl_run.specs.Safety.{LawfulRun, world_at}
 use Rattle.sl_run.specs.Worlds.{Daemon, Machine, Program, World, daemons_on, machine_at, stamp_now}
-use Rattle.sl_run.specs.declared.event.Event.TheVariants.{AnswerCall, Crash, Do, DropWrite, ExitOf, GiveCommand, Land, Pass as PassOf, Reset, Restart, Sample, SpawnedOf, StartDaemon, Tear, Test, WakeUp}
+use Rattle.sl_run.specs.declared.event.Event.TheVariants.{AnswerCall, Crash, Do, DropWrite, ExitOf, GiveAsk, GiveCommand, GiveLvm, Land, Pass as PassOf, Reset, Restart, Sample, SpawnedOf, StartDaemon, Tear, Test, WakeUp}
 use Rattle.sl_run.specs.declared.event.Event.{Event}
 use Rattle.sl_run.specs.declared.header.Header.{Header}
 use Rattle.sl_run_law.proofs.Going.{event_goes}
@@ -91,6 +91,8 @@ unfolding first_change
 quiet_lands (PassOf d growths) w q = refl
 quiet_lands (WakeUp m) w q = refl
 quiet_lands (GiveCommand m text) w q = refl
+quiet_lands (GiveLvm m line) w q = refl
+quiet_lands (GiveAsk m) w q = refl
 quiet_lands (Sample m c k) w q = absurd q
 quiet_lands (Land m c) w q = absurd q
 quiet_lands (Tear m c k bytes) w q = absurd q

@@ -12,8 +12,8 @@ use Rattle.sl_id_safety.proofs.Steps.StepFrames.{IsEntry}
 use Rattle.sl_id_safety.specs.Steps.Parts.{between, state_between}
 use Rattle.sl_ids.specs.Guards.{terms_of}
 use Rattle.sl_ids.specs.Runs.{Reached}
-use Rattle.sl_law.proofs.LawFacts.{lawful-front}
-use Rattle.sl_law.specs.Lawful.{Lawful}
+use Rattle.sl_law.proofs.LawFacts.{orderly-front}
+use Rattle.sl_law.specs.Lawful.{Orderly}
 use Rattle.sl_run_law.proofs.Place.Looks.{made_below}
 use Rattle.sl_run.specs.Runs.{Happening}
 use Rattle.sl_run.specs.Safety.{Found, LawfulRun, SessionId, session_of_world, setting_in, trace_of, world_at}
@@ -41,7 +41,7 @@ use Rattle.std.specs.Prelude.{Bool, List, None, Option, Some, false, is_some, le
 abbrev entry_by : Option Submitted → Option ℕ → Option ℕ
 entry_by now before = elim now [ Some m ↦ Some m.at | None ↦ before ]
 
-within_by : (st : Setting) (e : Entry) (past : Trace) (s : Session) (i : ℕ) → Lawful st (e ∷ past) → renewal_entry st (e ∷ past) s ≡ Some i
+within_by : (st : Setting) (e : Entry) (past : Trace) (s : Session) (i : ℕ) → Orderly st (e ∷ past) → renewal_entry st (e ∷ past) s ≡ Some i
     → (renewal_entry st past s ≡ Some i → i < length past) → NextRenewal st past s e → i < suc (length past)
 within_by st e past s i h is rest (Stays none same) = omega (arith, rest (sym (ap (λ o. entry_by o (renewal_entry st past s)) none) ∙ is))
 within_by st e past s i h is rest (Counts m in_it told_is now) =
@@ -49,10 +49,10 @@ within_by st e past s i h is rest (Counts m in_it told_is now) =
     omega (arith, at, made_below past m (told_is_open st e past s m h told_is).inside)
 
 -- It was submitted before.
-renewal_within : (st : Setting) (es : Trace) (s : Session) (i : ℕ) → Lawful st es → renewal_entry st es s ≡ Some i → i < length es
+renewal_within : (st : Setting) (es : Trace) (s : Session) (i : ℕ) → Orderly st es → renewal_entry st es s ≡ Some i → i < length es
 renewal_within st [] s i h is = absurd (none_some i is)
 renewal_within st (e ∷ past) s i h is =
-    within_by st e past s i h is (λ was. renewal_within st past s i (lawful-front st (e ∷ []) past h) was) (next_renewal st past s e)
+    within_by st e past s i h is (λ was. renewal_within st past s i (orderly-front st (e ∷ []) past h) was) (next_renewal st past s e)
 
 -- ---- of a session that is joined
 
@@ -75,7 +75,7 @@ since_by now ss begun None within = refl
 since_by now ss begun (Some i) within =
     ap (λ (q : Option Stamp). option_map_or (λ (x : Stamp). x.moment) q 0) (stamp_by now ss i (i == length ss) refl (within i refl))
 
-since_same : (st : Setting) (now : Stamp) (ss : List Stamp) (e : Entry) (es : Trace) (s : Session) (begun : Stamp) → Lawful st es → length ss ≡ length es
+since_same : (st : Setting) (now : Stamp) (ss : List Stamp) (e : Entry) (es : Trace) (s : Session) (begun : Stamp) → Orderly st es → length ss ≡ length es
     → renewal_in st es s e ≡ None → since_in st (now ∷ ss) (e ∷ es) s begun ≡ since_in st ss es s begun
 since_same st now ss e es s begun h even none =
     ap (λ o. option_map_or (λ (x : Stamp). x.moment)
@@ -103,9 +103,9 @@ joined_on {f = f} {g = g} t = ap (λ es. joined_after es g.session) t.trace ∙ 
 
 -- The lawful trace.
 pub lawful_on : {p : Program} {h : Header} {xs : List Happening} {w : World} {i : SessionId} {f g : Found} (t : Through p h xs w i f g)
-    → Lawful f.daemon.setting (t.entry ∷ f.daemon.trace)
+    → Orderly f.daemon.setting (t.entry ∷ f.daemon.trace)
 lawful_on {f = f} {g = g} t =
-    subst (λ st. Lawful st (t.entry ∷ f.daemon.trace)) t.setting (subst (λ es. Lawful (setting_in g) es) t.trace (knows t).lawful)
+    subst (λ st. Orderly st (t.entry ∷ f.daemon.trace)) t.setting (subst (λ es. Orderly (setting_in g) es) t.trace (knows t).lawful)
 
 still_joined : {p : Program} {h : Header} {xs : List Happening} {w : World} {i : SessionId} {f g : Found} (t : Through p h xs w i f g) (path : List ℕ) (offset : ℕ) (k : ℕ)
     → joined_after (trace_of f) f.session ≡ Some k → renewal_in f.daemon.setting f.daemon.trace f.session t.entry ≡ None
@@ -123,7 +123,7 @@ still_joined {p = p} {h = h} {xs = xs} {w = w} {i = i} {f = f} {g = g} t path of
     ∙ ap (λ x. since_in st ss es x g.daemon.begun) t.session
     ∙ ap (λ x. since_in st ss es f.session x) t.began
     ∙ since_same st t.stamp f.daemon.stamps t.entry f.daemon.trace f.session f.daemon.begun
-    (lawful-front st (t.entry ∷ []) f.daemon.trace (lawful_on t)) t.even none
+    (orderly-front st (t.entry ∷ []) f.daemon.trace (lawful_on t)) t.even none
     ∙ sym (since_joined w i f k joined))
 
 -- ---- of a session that isn't

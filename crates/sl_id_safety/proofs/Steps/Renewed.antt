@@ -17,9 +17,9 @@ use Rattle.sl_id_safety.proofs.Steps.Renewals.{CountedRenew, lawful_on, since_in
 use Rattle.sl_id_safety.proofs.Steps.Standing.{index_stays}
 use Rattle.sl_id_safety.specs.Steps.Parts.{between}
 use Rattle.sl_run_law.proofs.Landing.Proven.{landings_are_written}
-use Rattle.sl_law.proofs.LawFacts.{lawful-front}
-use Rattle.sl_law.specs.Lawful.{Lawful}
-use Rattle.sl_law.specs.LawfulRecovery.{MayPart}
+use Rattle.sl_law.proofs.LawFacts.{orderly-front}
+use Rattle.sl_law.specs.Lawful.{Orderly}
+use Rattle.sl_law.specs.LawfulParting.{MayPart}
 use Rattle.sl_plain.proofs.Lists.{find_fails, find_inside, got_inside}
 use Rattle.sl_run.specs.Runs.{Happening}
 use Rattle.sl_run.specs.Safety.{Found, SessionId, free_landed, has_write_in_flight, is_over, trace_of, world_at}
@@ -81,7 +81,7 @@ part_not : (st : Setting) (e : Entry) (es : Trace) (s : Session) (m : Submitted)
 part_not st e es s m counts none (inl r) = true_is_false (sym r.0 ∙ ap (λ o. is_some o) (no_recovery st es s e m counts))
 part_not st e es s m counts none (inr r) = none_some r.3.0 (sym (new_unmet e es s r.0 none r.2) ∙ r.3.1)
 
-removed_by : (st : Setting) (e : Entry) (es : Trace) (s : Session) (m : Submitted) → Lawful st (e ∷ es) → IsSession st es s → renewal_in st es s e ≡ Some m
+removed_by : (st : Setting) (e : Entry) (es : Trace) (s : Session) (m : Submitted) → Orderly st (e ∷ es) → IsSession st es s → renewal_in st es s e ≡ Some m
     → free_write (calls_of es s) ≡ None → removed_after es s ≡ None → (k : ℕ) → joined_after (e ∷ es) s ≡ Some k
     → (o : Option ℕ) → removed_in es s e ≡ o → removed_after (e ∷ es) s ≡ None
 removed_by st e es s m h its counts none stays k joined None is =
@@ -94,7 +94,7 @@ removed_by st e es s m h its counts none stays k joined (Some r) is =
     let gone : removed_after (e ∷ es) s ≡ Some r = ap (λ q. elim q as (λ z. Option ℕ) [ Some n ↦ Some n | None ↦ removed_in es s e ]) stays ∙ is in
     let out : is_joined (e ∷ es) s ≡ false =
     ap (λ o. is_some o && is_none (removed_after (e ∷ es) s)) joined ∙ ap (λ o. is_none o) gone in
-    absurd (part_not st e es s m counts none (h.recovery.0.parts_well s (got_inside (sessions st es) s.number s its) was out))
+    absurd (part_not st e es s m counts none (h.parting.0.parts_well s (got_inside (sessions st es) s.number s its) was out))
 
 -- ---- it is not over
 
@@ -107,8 +107,8 @@ no_free : {p : Program} {h : Header} {xs : List Happening} {w : World} {i : Sess
     → free_write (calls_of f.daemon.trace f.session) ≡ None → free_landed i f ≡ false
 no_free {i = i} {f = f} t none = free_of i f ∙ ap (λ o. free_landed_by (own_courses i f.machine) o) none
 
-front_on : {p : Program} {h : Header} {xs : List Happening} {w : World} {i : SessionId} {f g : Found} (t : Through p h xs w i f g) → Lawful f.daemon.setting f.daemon.trace
-front_on {f = f} t = lawful-front f.daemon.setting (t.entry ∷ []) f.daemon.trace (lawful_on t)
+front_on : {p : Program} {h : Header} {xs : List Happening} {w : World} {i : SessionId} {f g : Found} (t : Through p h xs w i f g) → Orderly f.daemon.setting f.daemon.trace
+front_on {f = f} t = orderly-front f.daemon.setting (t.entry ∷ []) f.daemon.trace (lawful_on t)
 
 joined_in : {p : Program} {h : Header} {xs : List Happening} {w : World} {i : SessionId} {f g : Found} (t : Through p h xs w i f g) (k : ℕ)
     → joined_after (trace_of g) g.session ≡ Some k → joined_after (t.entry ∷ f.daemon.trace) f.session ≡ Some k

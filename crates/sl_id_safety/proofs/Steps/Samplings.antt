@@ -33,7 +33,7 @@ use Rattle.sl_run.specs.Events.{change_call, may_happen, sampled_more, sectors_l
 use Rattle.sl_run.specs.Runs.{Happening}
 use Rattle.sl_run.specs.Safety.{Found, LawfulRun, SessionId, is_course_of, session_of_world, world_at}
 use Rattle.sl_run.specs.Worlds.{Course, Machine, Program, World, flight_of, is_open, is_write_course, machine_at}
-use Rattle.sl_run.specs.declared.event.Event.TheVariants.{AnswerCall, Crash, Do, DropWrite, ExitOf, GiveCommand, Land, Pass, Reset, Restart, Sample, SpawnedOf, StartDaemon, Tear, Test, WakeUp}
+use Rattle.sl_run.specs.declared.event.Event.TheVariants.{AnswerCall, Crash, Do, DropWrite, ExitOf, GiveAsk, GiveCommand, GiveLvm, Land, Pass, Reset, Restart, Sample, SpawnedOf, StartDaemon, Tear, Test, WakeUp}
 use Rattle.sl_run.specs.declared.event.Event.{Event}
 use Rattle.sl_run.specs.declared.header.Header.{Header}
 use Rattle.sl_run_law.specs.Fates.{AreDistinct, EachDistinct}
@@ -93,6 +93,8 @@ sampling_call w (Do m n) kind may distinct =
 sampling_call w (Pass d growths) kind may distinct = absurd kind
 sampling_call w (WakeUp m) kind may distinct = absurd kind
 sampling_call w (GiveCommand m text) kind may distinct = absurd kind
+sampling_call w (GiveLvm m line) kind may distinct = absurd kind
+sampling_call w (GiveAsk m) kind may distinct = absurd kind
 sampling_call w (Land m n) kind may distinct = absurd kind
 sampling_call w (Tear m n k bytes) kind may distinct = absurd kind
 sampling_call w (AnswerCall m n ok) kind may distinct = absurd kind

@@ -9,11 +9,12 @@ use Rattle.sl_id_safety.proofs.Steps.Still.{with_running}
 use Rattle.sl_id_safety.specs.Steps.Parts.{between}
 use Rattle.sl_run_law.proofs.Landing.Stepping.{same_daemon}
 use Rattle.sl_plain.proofs.Lists.{contains_first, contains_more}
+use Rattle.sl_plain.proofs.Options.{then_value}
 use Rattle.sl_run.specs.Events.{after_step, close_answered, daemon_number, if_running, input_at, input_of, machine_of, may_happen, new_course, take_step, with_entry}
 use Rattle.sl_run.specs.Runs.{Happening}
 use Rattle.sl_run.specs.Safety.{Found, LawfulRun, SessionId, world_at}
 use Rattle.sl_run.specs.Worlds.{Course, Daemon, Machine, Program, Stamp, World, daemon_numbered, daemons_on, machine_at, stamp_now}
-use Rattle.sl_run.specs.declared.event.Event.TheVariants.{AnswerCall, Crash, Do, DropWrite, ExitOf, GiveCommand, Land, Pass, Reset, Restart, Sample, SpawnedOf, StartDaemon, Tear, Test, WakeUp}
+use Rattle.sl_run.specs.declared.event.Event.TheVariants.{AnswerCall, Crash, Do, DropWrite, ExitOf, GiveAsk, GiveCommand, GiveLvm, Land, Pass, Reset, Restart, Sample, SpawnedOf, StartDaemon, Tear, Test, WakeUp}
 use Rattle.sl_run.specs.declared.event.Event.{Event}
 use Rattle.sl_run.specs.declared.header.Header.{Header}
 use Rattle.sl_run_law.proofs.Walking.{Asked, each_first}
@@ -23,7 +24,7 @@ use Rattle.sl_trace_law.proofs.Sessions.Owning.{session_more}
 use Rattle.sl_sessions.specs.Sessions.{session_numbered}
 use Rattle.sl_trace.specs.declared.effects.Call.{Call}
 use Rattle.sl_trace.specs.declared.effects.Effects.{Effects}
-use Rattle.sl_trace.specs.declared.input.Input.TheVariants.{Answer as Told, Exit, Line, Spawned, Wake}
+use Rattle.sl_trace.specs.declared.input.Input.TheVariants.{Answer as Told, Exit, Line, Number, Spawned, Wake}
 use Rattle.sl_trace.specs.declared.input.Input.{Input}
 use Rattle.sl_words.proofs.CaseLaws.{none_some, one_value, true_is_false}
 use Rattle.sl_words.specs.Words.{choose}
@@ -57,6 +58,13 @@ running_by : (w : World) (m : ℕ) (i j : Input) (o : Option Machine) → machin
 running_by w m i j None at h = absurd (none_some j h)
 running_by w m i j (Some a) at h = runs_by w m a a.daemon at refl (chosen (is_some a.daemon) i j h)
 
+asked_by : (w : World) (m : ℕ) (j : Input) (o : Option Machine) → machine_at w m ≡ o
+    → option_and_then (λ a. option_and_then (λ text. if_running a (Line text)) a.locks.due) o ≡ Some j → Runs w m
+asked_by w m j None at h = absurd (none_some j h)
+asked_by w m j (Some a) at h =
+    let x = then_value (λ text. if_running a (Line text)) a.locks.due j h in
+    runs_by w m a a.daemon at refl (chosen (is_some a.daemon) (Line x.0) j x.2)
+
 nothing_given : (j : Input) (o : Option Machine) → option_and_then (λ (a : Machine). let x : Option Input = None in x) o ≡ Some j → ⊥
 nothing_given j None h = none_some j h
 nothing_given j (Some a) h = none_some j h
@@ -66,6 +74,8 @@ pub entry_runs : (w : World) (e : Event) (j : Input) → may_happen w e ≡ true
 entry_runs w (Pass d growths) j may h = absurd (nothing_given j (machine_at w 0) h)
 entry_runs w (WakeUp m) j may h = running_by w m Wake j (machine_at w m) refl h
 entry_runs w (GiveCommand m text) j may h = running_by w m (Line text) j (machine_at w m) refl h
+entry_runs w (GiveLvm m line) j may h = running_by w m (Number line) j (machine_at w m) refl h
+entry_runs w (GiveAsk m) j may h = asked_by w m j (machine_at w m) refl h
 entry_runs w (Sample m c k) j may h = absurd (nothing_given j (machine_at w m) h)
 entry_runs w (Land m c) j may h = absurd (nothing_given j (machine_at w m) h)
 entry_runs w (Tear m c k bytes) j may h = absurd (nothing_given j (machine_at w m) h)
@@ -173,6 +183,7 @@ entry_is p h now x run j gives =
 
 step_daemon : (now : Stamp) (i : Input) (fx : Effects) (a : Machine) → (after_step now i fx a).daemon ≡ option_map (with_entry (entry_of i fx a) now) a.daemon
 step_daemon now (Line text) fx a = refl
+step_daemon now (Number text) fx a = refl
 step_daemon now (Told n answer) fx a = refl
 step_daemon now Wake fx a = refl
 step_daemon now (Exit p) fx a = refl

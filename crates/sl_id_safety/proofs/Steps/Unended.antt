@@ -5,7 +5,7 @@ use Rattle.sl_id_safety.proofs.State.Living.{InPlace, in_place, is_joining}
 use Rattle.sl_id_safety.proofs.State.Tails.{IsLater, IsMadeAfter, all_made, front_at}
 use Rattle.sl_id_safety.proofs.Steps.Frees.{is_standing, joining_stage}
 use Rattle.sl_id_safety.proofs.Steps.RenewalCalls.{contains_filtered}
-use Rattle.sl_law.specs.Lawful.{Lawful}
+use Rattle.sl_law.specs.Lawful.{Orderly}
 use Rattle.sl_law.specs.LawfulDelta.{LawfulDeltaCall}
 use Rattle.sl_run_law.proofs.Place.Finding.{partner}
 use Rattle.sl_plain.proofs.Lists.{contains_cases, contains_none, find_fails, find_inside}
@@ -97,7 +97,7 @@ open_by m n later none (Some a) is = absurd (none_some a (sym none ∙ ap (λ y.
 abbrev Placed : Trace → Session → Submitted → List Submitted → Type 0
 Placed es s m older = IsMadeAfter es s m older × InPlace m older
 
-unfreed_by : (st : Setting) (es : Trace) (s : Session) (m n : Submitted) → Lawful st es → IsSession st es s → IsOpenRenewal es s m → is_free_purpose n.call.purpose ≡ true
+unfreed_by : (st : Setting) (es : Trace) (s : Session) (m n : Submitted) → Orderly st es → IsSession st es s → IsOpenRenewal es s m → is_free_purpose n.call.purpose ≡ true
     → Order (Placed es s) m n → ⊥
 unfreed_by st es s m n h its r free (Is_same e) = renewal_not_free n.call.purpose (ap (λ y. is_renewal y.call.purpose) (sym e) ∙ r.renews) free
 unfreed_by st es s m n h its r free (Is_newer older p has) =
@@ -121,7 +121,7 @@ unfreed_by st es s m n h its r free (Is_older older p has) =
     contains_none x.0 (subst (λ ms. Contains ms x.0) none (contains_filtered (λ (y : Submitted). is_none y.answer) (calls_of t s) x.0 x.1
     (ap (λ o. is_none o) (open_by m x.0 x.2 r.waits x.0.answer refl))))
 
-unfreed_in : (st : Setting) (es : Trace) (s : Session) (m : Submitted) → Lawful st es → IsSession st es s → IsOpenRenewal es s m
+unfreed_in : (st : Setting) (es : Trace) (s : Session) (m : Submitted) → Orderly st es → IsSession st es s → IsOpenRenewal es s m
     → (o : Option Submitted) → free_write (calls_of es s) ≡ o → o ≡ None
 unfreed_in st es s m h its r None is = refl
 unfreed_in st es s m h its r (Some n) is =
@@ -129,12 +129,12 @@ unfreed_in st es s m h its r (Some n) is =
     absurd (unfreed_by st es s m n h its r x.1 (order_in (Placed es s) (calls_of es s)
     (both_tails (IsMadeAfter es s) InPlace (calls_of es s) (all_made es s) (in_place st es s h its)) m n (call_inside es s m r.inside r.mine) x.0))
 
-pub unfreed : (st : Setting) (es : Trace) (s : Session) (m : Submitted) → Lawful st es → IsSession st es s → IsOpenRenewal es s m → free_write (calls_of es s) ≡ None
+pub unfreed : (st : Setting) (es : Trace) (s : Session) (m : Submitted) → Orderly st es → IsSession st es s → IsOpenRenewal es s m → free_write (calls_of es s) ≡ None
 unfreed st es s m h its r = unfreed_in st es s m h its r (free_write (calls_of es s)) refl
 
 -- ---- it has not ended
 
-pub unremoved : (st : Setting) (es : Trace) (s : Session) (m : Submitted) → Lawful st es → IsSession st es s → IsOpenRenewal es s m → removed_after es s ≡ None
+pub unremoved : (st : Setting) (es : Trace) (s : Session) (m : Submitted) → Orderly st es → IsSession st es s → IsOpenRenewal es s m → removed_after es s ≡ None
 unremoved st es s m h its r = not_removed st es s h its (open_write es s m (call_inside es s m r.inside r.mine) r.waits r.writes)
 
 unrefused_by : (e : Entry) (es : Trace) (s : Session) (k : ℕ) → joined_after (e ∷ es) s ≡ Some k → (o : Option ℕ) → refused_after es s ≡ o → o ≡ None
@@ -146,7 +146,7 @@ not_ended : (joined removed refused : Option ℕ) → removed ≡ None → refus
 not_ended (Some k) removed refused a b = a
 not_ended None removed refused a b = b
 
-pub unended : (st : Setting) (e : Entry) (es : Trace) (s : Session) (m : Submitted) (k : ℕ) → Lawful st es → IsSession st es s → IsOpenRenewal es s m
+pub unended : (st : Setting) (e : Entry) (es : Trace) (s : Session) (m : Submitted) (k : ℕ) → Orderly st es → IsSession st es s → IsOpenRenewal es s m
     → joined_after (e ∷ es) s ≡ Some k → ended_after es s ≡ None
 unended st e es s m k h its r joined =
     not_ended (joined_after es s) (removed_after es s) (refused_after es s) (unremoved st es s m h its r) (unrefused_by e es s k joined (refused_after es s) refl)

@@ -8,7 +8,7 @@ use Rattle.sl_run.specs.Events.{first_change, input_of, next_step}
 use Rattle.sl_run.specs.Runs.{Happening}
 use Rattle.sl_run.specs.Safety.{LawfulRun, world_at}
 use Rattle.sl_run.specs.Worlds.{Course, Machine, Program, World, flight_of, is_write_course, machine_at}
-use Rattle.sl_run.specs.declared.event.Event.TheVariants.{AnswerCall, Crash, Do, DropWrite, ExitOf, GiveCommand, Land, Pass, Reset, Restart, Sample, SpawnedOf, StartDaemon, Tear, Test, WakeUp}
+use Rattle.sl_run.specs.declared.event.Event.TheVariants.{AnswerCall, Crash, Do, DropWrite, ExitOf, GiveAsk, GiveCommand, GiveLvm, Land, Pass, Reset, Restart, Sample, SpawnedOf, StartDaemon, Tear, Test, WakeUp}
 use Rattle.sl_run.specs.declared.event.Event.{Event}
 use Rattle.sl_run.specs.declared.header.Header.{Header}
 use Rattle.std.specs.Prelude.{IsSome, List, None, Some, false, true, [], ℕ, ◌++◌, ◌∷◌, ◌≡◌}
@@ -73,6 +73,8 @@ abbrev pub IsQuietEvent : World → Event → Type 0
 IsQuietEvent w (Pass d growths) = Unit {0}
 IsQuietEvent w (WakeUp m) = Unit {0}
 IsQuietEvent w (GiveCommand m text) = Unit {0}
+IsQuietEvent w (GiveLvm m line) = Unit {0}
+IsQuietEvent w (GiveAsk m) = Unit {0}
 IsQuietEvent w (AnswerCall m n ok) = Unit {0}
 IsQuietEvent w (Test m) = Unit {0}
 IsQuietEvent w (ExitOf m process) = Unit {0}

@@ -4,9 +4,10 @@ use Rattle.sl_run_law.proofs.Course.Changing.{answer_changes_none, read_complete
 use Rattle.sl_run_law.proofs.Course.Counting.{turned_each}
 use Rattle.sl_run_law.proofs.Course.Running.{input_there}
 use Rattle.sl_run_law.proofs.Course.Turning.{KeepsAsking, Turned, flies}
+use Rattle.sl_plain.proofs.Options.{then_value}
 use Rattle.sl_run.specs.Events.{change_call, done_input, event_tests, first_change, if_running, input_at, input_of, machine_of, may_happen, ok_input, rest_sampled, sampled_more, sectors_left}
 use Rattle.sl_run.specs.Worlds.{Course, Daemon, Machine, World, flight_of, is_of_running, is_open, is_write_course, machine_at}
-use Rattle.sl_run.specs.declared.event.Event.TheVariants.{AnswerCall, Crash, Do, DropWrite, ExitOf, GiveCommand, Land, Pass, Reset, Restart, Sample, SpawnedOf, StartDaemon, Tear, Test, WakeUp}
+use Rattle.sl_run.specs.declared.event.Event.TheVariants.{AnswerCall, Crash, Do, DropWrite, ExitOf, GiveAsk, GiveCommand, GiveLvm, Land, Pass, Reset, Restart, Sample, SpawnedOf, StartDaemon, Tear, Test, WakeUp}
 use Rattle.sl_run.specs.declared.event.Event.{Event}
 use Rattle.sl_run_law.proofs.Answered.{flight_waits}
 use Rattle.sl_run_law.proofs.Coursing.{changed_if}
@@ -18,7 +19,7 @@ use Rattle.sl_trace.specs.declared.effects.Op.TheVariants.{ReadSectors, WriteRec
 use Rattle.sl_trace.specs.declared.effects.Op.{Op}
 use Rattle.sl_trace.specs.declared.input.Answer.TheVariants.{Failed, Read, Written}
 use Rattle.sl_trace.specs.declared.input.Answer.{Answer}
-use Rattle.sl_trace.specs.declared.input.Input.TheVariants.{Answer as Told, Exit, Line, Spawned, Wake}
+use Rattle.sl_trace.specs.declared.input.Input.TheVariants.{Answer as Told, Exit, Line, Number, Spawned, Wake}
 use Rattle.sl_trace.specs.declared.input.Input.{Input}
 use Rattle.sl_trace.specs.Traces.{is_write}
 use Rattle.sl_words.proofs.CaseLaws.{false_is_true, none_some, one_value, some_value}
@@ -194,6 +195,9 @@ awaits_at (AnswerCall m c ok) w a b d i may at later turned runs distinct h = an
 awaits_at (Do m c) w a b d i may at later turned runs distinct h = do_awaits w m c a b d i may at later turned runs distinct h
 awaits_at (WakeUp m) w a b d i may at later turned runs distinct h = if_awaits a d Wake i b.calls tt h
 awaits_at (GiveCommand m text) w a b d i may at later turned runs distinct h = if_awaits a d (Line text) i b.calls tt h
+awaits_at (GiveLvm m line) w a b d i may at later turned runs distinct h = if_awaits a d (Number line) i b.calls tt h
+awaits_at (GiveAsk m) w a b d i may at later turned runs distinct h =
+    let x = then_value (λ text. if_running a (Line text)) a.locks.due i h in if_awaits a d (Line x.0) i b.calls tt x.2
 awaits_at (ExitOf m p) w a b d i may at later turned runs distinct h = if_awaits a d (Exit p) i b.calls tt h
 awaits_at (SpawnedOf m p ok) w a b d i may at later turned runs distinct h = if_awaits a d (Spawned p ok) i b.calls tt h
 awaits_at (Pass x g) w a b d i may at later turned runs distinct h = absurd (none_some i h)

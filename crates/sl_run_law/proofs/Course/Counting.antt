@@ -21,7 +21,7 @@ use Rattle.sl_run_law.proofs.Tracking.{told}
 use Rattle.sl_run_law.specs.Fates.{Every}
 use Rattle.sl_trace.specs.Traces.{is_ok_answer}
 use Rattle.sl_trace.specs.declared.effects.Call.{Call}
-use Rattle.sl_trace.specs.declared.input.Input.TheVariants.{Answer as Told, Exit, Line, Spawned, Wake}
+use Rattle.sl_trace.specs.declared.input.Input.TheVariants.{Answer as Told, Exit, Line, Number, Spawned, Wake}
 use Rattle.sl_trace.specs.declared.input.Input.{Input}
 use Rattle.sl_words.proofs.OrderLaws.{below_or_last}
 use Rattle.std.proofs.Common.{ap, arith, inl, inr, refl, subst, sym, ◌∙◌}
@@ -58,6 +58,7 @@ closed_each : (Q : Course → Type 0) (now : Stamp) (i : Input) (a : Machine) �
     → Every Q (close_answered now i a).calls
 closed_each Q now (Told k answer) a keep h = every_changed Q (λ c. c.call.number == k) (told now (is_ok_answer answer)) a.calls (keep (is_ok_answer answer)) h
 closed_each Q now (Line text) a keep h = h
+closed_each Q now (Number text) a keep h = h
 closed_each Q now (Exit p) a keep h = h
 closed_each Q now (Spawned p ok) a keep h = h
 closed_each Q now Wake a keep h = h

@@ -12,7 +12,7 @@ use Rattle.sl_run_law.specs.Fates.{Every}
 use Rattle.sl_time.specs.Times.{reading_of}
 use Rattle.sl_trace.specs.declared.effects.Effects.{Effects}
 use Rattle.sl_trace.specs.declared.effects.Entry.{Entry}
-use Rattle.sl_trace.specs.declared.input.Input.TheVariants.{Answer as Told, Exit, Line, Spawned, Wake}
+use Rattle.sl_trace.specs.declared.input.Input.TheVariants.{Answer as Told, Exit, Line, Number, Spawned, Wake}
 use Rattle.sl_trace.specs.declared.input.Input.{Input}
 use Rattle.std.proofs.Common.{ap, inl, inr, refl, subst, sym, ◌∙◌}
 use Rattle.std.specs.List.{list_any}
@@ -67,6 +67,7 @@ entry_of i fx a = record { reading = reading_now a; input = i; effects = fx }
 
 pub step_daemon : (now : Stamp) (i : Input) (fx : Effects) (a : Machine) → (after_step now i fx a).daemon ≡ option_map (with_entry (entry_of i fx a) now) a.daemon
 step_daemon now (Line text) fx a = refl
+step_daemon now (Number text) fx a = refl
 step_daemon now (Told n answer) fx a = refl
 step_daemon now Wake fx a = refl
 step_daemon now (Exit p) fx a = refl
@@ -74,6 +75,7 @@ step_daemon now (Spawned p ok) fx a = refl
 
 pub step_ended : (now : Stamp) (i : Input) (fx : Effects) (a : Machine) → (after_step now i fx a).ended ≡ a.ended
 step_ended now (Line text) fx a = refl
+step_ended now (Number text) fx a = refl
 step_ended now (Told n answer) fx a = refl
 step_ended now Wake fx a = refl
 step_ended now (Exit p) fx a = refl

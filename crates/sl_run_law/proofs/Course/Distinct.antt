@@ -21,7 +21,7 @@ use Rattle.sl_trace.specs.Traces.{IsTrace, Setting, Submitted, Trace, answered_i
 use Rattle.sl_trace.specs.declared.effects.Call.{Call}
 use Rattle.sl_trace.specs.declared.effects.Effects.{Effects}
 use Rattle.sl_trace.specs.declared.effects.Entry.{Entry}
-use Rattle.sl_trace.specs.declared.input.Input.TheVariants.{Answer as Told, Exit, Line, Spawned, Wake}
+use Rattle.sl_trace.specs.declared.input.Input.TheVariants.{Answer as Told, Exit, Line, Number, Spawned, Wake}
 use Rattle.sl_trace.specs.declared.input.Input.{Input}
 use Rattle.sl_trace.specs.declared.input.Numbers.{Numbers}
 use Rattle.sl_words.specs.Words.{first_of_list}
@@ -45,6 +45,7 @@ map_length f (x ∷ xs) = ap (λ n. suc n) (map_length f xs)
 pub mark_length : (es : Trace) (e : Entry) (i : Input) (ms : List Submitted) → length (mark es e i ms) ≡ length ms
 mark_length es e (Told n answer) ms = map_length (answered_in es e n answer) ms
 mark_length es e (Line text) ms = refl
+mark_length es e (Number text) ms = refl
 mark_length es e (Exit p) ms = refl
 mark_length es e (Spawned p ok) ms = refl
 mark_length es e Wake ms = refl
@@ -106,6 +107,7 @@ closed_calls n now (Told k answer) a h =
     numbered_called n (λ c. changed_if (c.call.number == k) (told now (is_ok_answer answer)) c)
     (λ c. same_call_if (c.call.number == k) (told now (is_ok_answer answer)) c refl) a.calls h
 closed_calls n now (Line text) a h = h
+closed_calls n now (Number text) a h = h
 closed_calls n now (Exit p) a h = h
 closed_calls n now (Spawned p ok) a h = h
 closed_calls n now Wake a h = h
@@ -116,6 +118,7 @@ made_calls now d cs calls = fold (λ xs c. new_course now d c ∷ xs) cs calls
 pub step_calls : (now : Stamp) (i : Input) (fx : Effects) (a : Machine) → (after_step now i fx a).calls ≡ made_calls now (daemon_number a) (close_answered now i a).calls fx.calls
 step_calls now (Told k answer) fx a = refl
 step_calls now (Line text) fx a = refl
+step_calls now (Number text) fx a = refl
 step_calls now (Exit p) fx a = refl
 step_calls now (Spawned p ok) fx a = refl
 step_calls now Wake fx a = refl

@@ -3,7 +3,7 @@ use Rattle.sl_area.specs.Layouts.{layout_with}
 use Rattle.sl_run_law.proofs.Course.Turning.{Becomes, becomes}
 use Rattle.sl_run_law.proofs.Front.Going.{last_event, run_after, run_keeps, settled_later, was_there}
 use Rattle.sl_run_law.proofs.Front.Having.{in_flat}
-use Rattle.sl_law.specs.Lawful.{Lawful}
+use Rattle.sl_law.specs.Lawful.{Orderly}
 use Rattle.sl_plain.proofs.Lists.{got_inside}
 use Rattle.sl_run.specs.Events.{input_of, may_happen}
 use Rattle.sl_run.specs.Runs.{EachDaemon, Happening, own_effects_of}
@@ -91,5 +91,5 @@ machines_keep p h P first next xs run =
     }) xs run
 
 -- The traces of a machine's daemons are lawful.
-pub lawful_on : (w : World) (m : ℕ) (a : Machine) (d : Daemon) → EachDaemon Lawful w → machine_at w m ≡ Some a → Contains (daemons_on a) d → Lawful d.setting d.trace
+pub lawful_on : (w : World) (m : ℕ) (a : Machine) (d : Daemon) → EachDaemon Orderly w → machine_at w m ≡ Some a → Contains (daemons_on a) d → Orderly d.setting d.trace
 lawful_on w m a d each at has = each d (in_flat daemons_on w.machines a d (got_inside w.machines (m - 1) a (index w m a at).1) has)

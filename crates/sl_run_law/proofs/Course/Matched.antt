@@ -30,7 +30,7 @@ use Rattle.sl_trace.specs.Traces.{Submitted, answered_in, is_ok_answer, mark, ne
 use Rattle.sl_trace.specs.declared.effects.Call.{Call}
 use Rattle.sl_trace.specs.declared.effects.Effects.{Effects}
 use Rattle.sl_trace.specs.declared.effects.Entry.{Entry}
-use Rattle.sl_trace.specs.declared.input.Input.TheVariants.{Answer as Told, Exit, Line, Spawned, Wake}
+use Rattle.sl_trace.specs.declared.input.Input.TheVariants.{Answer as Told, Exit, Line, Number, Spawned, Wake}
 use Rattle.sl_trace.specs.declared.input.Input.{Input}
 use Rattle.std.proofs.Common.{ap, arith, refl, subst, sym, tests, ◌∙◌}
 use Rattle.std.proofs.lemmas.Bool.{eq-eqb}
@@ -126,6 +126,7 @@ closed_other d e now (Told n answer) b other h k =
       untouched c m true no_one r = absurd (no_one refl)
       untouched c m false no_one r = r
 closed_other d e now (Line text) b other h k = k
+closed_other d e now (Number text) b other h k = k
 closed_other d e now (Exit p) b other h k = k
 closed_other d e now (Spawned p ok) b other h k = k
 closed_other d e now Wake b other h k = k
@@ -157,6 +158,8 @@ closed_own d x now (Told n answer) b is h k =
     (filter (of_daemon d.number) b.calls) (submitted d.trace) (λ c m q r. answered_course d x now n answer c m is q.0 r)
     (every_filtered Q (of_daemon d.number) b.calls h) k)
 closed_own d x now (Line text) b is h k =
+    pairs_hold (IsCourseOf d) (IsCourseOf (with_entry x now d)) (filter (of_daemon d.number) b.calls) (submitted d.trace) (later_course d x now) k
+closed_own d x now (Number text) b is h k =
     pairs_hold (IsCourseOf d) (IsCourseOf (with_entry x now d)) (filter (of_daemon d.number) b.calls) (submitted d.trace) (later_course d x now) k
 closed_own d x now (Exit p) b is h k =
     pairs_hold (IsCourseOf d) (IsCourseOf (with_entry x now d)) (filter (of_daemon d.number) b.calls) (submitted d.trace) (later_course d x now) k

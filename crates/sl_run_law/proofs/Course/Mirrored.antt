@@ -3,6 +3,7 @@ use Rattle.sl_area.specs.Layouts.{Layout, layout_with}
 use Rattle.sl_run_law.proofs.Course.Changing.{changed_here}
 use Rattle.sl_run_law.proofs.Course.Counting.{daemons_numbered}
 use Rattle.sl_run_law.proofs.Course.Daemons.{daemon_of_line, daemons_are, entry_of, every_has, stepped_daemons, turned_daemons}
+use Rattle.sl_run_law.proofs.Course.Exiting.{GrantsOrphans, own_grants, still_left, still_nothing}
 use Rattle.sl_run_law.proofs.Course.Keeping.{Goes_on, machines_keep}
 use Rattle.sl_run_law.proofs.Course.Made.{begun_before}
 use Rattle.sl_run_law.proofs.Course.Matched.{all_less}
@@ -10,15 +11,16 @@ use Rattle.sl_run_law.proofs.Course.Mirroring.{IsKnown, none_if, since_is, turne
 use Rattle.sl_run_law.proofs.Course.Resetting.{resets_before}
 use Rattle.sl_run_law.proofs.Course.Running.{runs_then}
 use Rattle.sl_run_law.proofs.Course.Turning.{Alone, Began, Called, Came_up, Clocked, Crashed, Elsewhere, IsQuiet, Stays, Stepped, Tested, Took, Turned, Went_down, own_quiet}
-use Rattle.sl_run_law.specs.Course.Mirrors.{AreNumbered, Mirrors, since_restart}
+use Rattle.sl_run_law.specs.Course.Mirrors.{AreNumbered, Held_on, Mirrors, since_restart}
 use Rattle.sl_run_law.specs.Course.Promises.{MachinesMirror}
 use Rattle.sl_plain.proofs.Lists.{contains_cases, contains_first, contains_more, contains_none}
 use Rattle.sl_plain.proofs.Options.{not_some}
 use Rattle.sl_run.specs.Events.{after_effects, after_reset, after_step, first_change, input_at, input_of, machine_of, next_step, own_effects, with_entry}
+use Rattle.sl_run.specs.Locks.{Locks, fresh_locks}
 use Rattle.sl_run.specs.Runs.{Happening, own_effects_of}
 use Rattle.sl_run.specs.Safety.{world_at}
 use Rattle.sl_run.specs.Worlds.{Course, Daemon, Machine, Program, Stamp, World, daemons_on, first_stamp, given_of, machine_at, machine_of_header, resets_after, stamp_now}
-use Rattle.sl_run.specs.declared.event.Event.TheVariants.{AnswerCall, Crash, Do, DropWrite, ExitOf, GiveCommand, Land, Pass, Reset, Restart, Sample, SpawnedOf, StartDaemon, Tear, Test, WakeUp}
+use Rattle.sl_run.specs.declared.event.Event.TheVariants.{AnswerCall, Crash, Do, DropWrite, ExitOf, GiveAsk, GiveCommand, GiveLvm, Land, Pass, Reset, Restart, Sample, SpawnedOf, StartDaemon, Tear, Test, WakeUp}
 use Rattle.sl_run.specs.declared.event.Event.{Event}
 use Rattle.sl_run.specs.declared.header.Header.{Header}
 use Rattle.sl_run.specs.declared.header.SessionLine.{SessionLine}
@@ -30,7 +32,7 @@ use Rattle.sl_trace.specs.declared.effects.Entry.{Entry}
 use Rattle.sl_trace.specs.declared.effects.Grant.{Grant}
 use Rattle.sl_trace.specs.declared.effects.Move.{Move}
 use Rattle.sl_trace.specs.declared.input.Given.{Given}
-use Rattle.sl_trace.specs.declared.input.Input.TheVariants.{Answer as Told, Exit, Line, Spawned, Wake}
+use Rattle.sl_trace.specs.declared.input.Input.TheVariants.{Answer as Told, Exit, Line, Number, Spawned, Wake}
 use Rattle.sl_trace.specs.declared.input.Input.{Input}
 use Rattle.sl_words.proofs.CaseLaws.{no_value, none_some, one_value, some_value, true_is_false}
 use Rattle.sl_words.proofs.OptionLaws.{choose_none}
@@ -48,50 +50,29 @@ keeps_all [] = refl
 keeps_all (g ∷ gs) = ap (λ hs. g ∷ hs) (keeps_all gs)
 
 -- Where none ends and none is granted.
-held_same : (fx : Effects) (gs : List Grant) → fx.ends ≡ [] → fx.grants ≡ [] → held_after fx gs ≡ gs
-held_same fx gs ends grants =
-    ap (λ (hs : List Grant). filter (λ g. not (is_ended_by fx.ends g)) gs ++ hs) grants ∙ append-nil (filter (λ g. not (is_ended_by fx.ends g)) gs)
-    ∙ ap (λ (es : List End). filter (λ g. not (is_ended_by es g)) gs) ends ∙ keeps_all gs
-
-filtered_by : (p : Grant → Bool) (x : Grant) (gs : List Grant) (g : Grant) (t : Bool) → Contains (if t then x ∷ filter p gs else filter p gs) g
-    → (Contains (filter p gs) g → Contains gs g) → Contains (x ∷ gs) g
-filtered_by p x gs g false has rest = contains_more x gs g (rest has)
-filtered_by p x gs g true has rest =
-    elim (contains_cases x (filter p gs) g has) as (λ z. Contains (x ∷ gs) g) [
-      | inl same ↦ subst (λ y. Contains (x ∷ gs) y) same (contains_first x gs)
-      | inr more ↦ contains_more x gs g (rest more)
-    ]
-
-was_filtered : (p : Grant → Bool) (gs : List Grant) (g : Grant) → Contains (filter p gs) g → Contains gs g
-was_filtered p [] g has = absurd (contains_none g has)
-was_filtered p (x ∷ gs) g has = filtered_by p x gs g (p x) has (was_filtered p gs g)
-
--- Where none is granted, what is held was held.
-was_held : (fx : Effects) (gs : List Grant) (g : Grant) → fx.grants ≡ [] → Contains (held_after fx gs) g → Contains gs g
-was_held fx gs g grants has =
-    let p : Grant → Bool = λ x. not (is_ended_by fx.ends x) in
-    let same : held_after fx gs ≡ filter p gs = ap (λ (hs : List Grant). filter p gs ++ hs) grants ∙ append-nil (filter p gs) in
-    was_filtered p gs g (subst (λ hs. Contains hs g) same has)
+nothing_ends : (gs : List Grant) → held_after no_effects gs ≡ gs
+nothing_ends gs = append-nil (filter (λ g. not (is_ended_by [] g)) gs) ∙ keeps_all gs
 
 -- ---- what the machine does without its daemon
 
-alone_mirrors : (now : Stamp) (fx : Effects) (b : Machine) → IsQuiet fx → ((d : Daemon) → b.daemon ≡ Some d → fx.ends ≡ []) → Mirrors b → Mirrors (after_effects now fx b)
-alone_mirrors now fx b quiet ends h =
+alone_mirrors : (now : Stamp) (fx : Effects) (b : Machine) → IsQuiet fx → GrantsOrphans b.holdings fx → ((d : Daemon) → b.daemon ≡ Some d → fx ≡ no_effects) → Mirrors b
+    → Mirrors (after_effects now fx b)
+alone_mirrors now fx b quiet own nothing h =
     let same : fold after_move b.connections fx.moves ≡ b.connections = ap (λ (ms : List Move). fold after_move b.connections ms) quiet.moves in
     record {
       numbered = h.numbered;
       running = h.running;
       connected = λ d is. same ∙ h.connected d is;
-      held = λ d is. held_same fx b.holdings (ends d is) quiet.grants ∙ h.held d is;
-      left = λ d g is has. h.left d g is (was_held fx b.holdings g quiet.grants has);
-      none = λ is. (same ∙ (h.none is).0, ap (held_after fx) (h.none is).1 ∙ quiet.grants);
+      held = λ d is. ap (λ (x : Effects). held_after x b.holdings) (nothing d is) ∙ nothing_ends b.holdings ∙ h.held d is;
+      left = λ d g is has. still_left (holdings d.trace) b.holdings fx g (λ k there. h.left d k is there) own has;
+      none = λ is. (same ∙ (h.none is).0, still_nothing b.holdings fx (h.none is).1 own);
       kept = h.kept;
       lost = h.lost;
     }
 
-no_ends : (w : World) (e : Event) (o : Option Machine) → ((a : Machine) → (own_effects w e a).ends ≡ []) → (option_map_or (own_effects w e) o no_effects).ends ≡ []
-no_ends w e None each = refl
-no_ends w e (Some a) each = each a
+none_own : (w : World) (e : Event) (o : Option Machine) → ((a : Machine) → own_effects w e a ≡ no_effects) → option_map_or (own_effects w e) o no_effects ≡ no_effects
+none_own w e None each = refl
+none_own w e (Some a) each = each a
 
 not_start : (n p m : ℕ) (name : _) → ExitOf n p ≡ StartDaemon m name → ⊥
 not_start n p m name e = absurd cc
@@ -117,42 +98,45 @@ reset_ends w n a b d at between runs =
     let same : after_reset w a ≡ b = one_value (after_reset w a) b (machine_at (first_change (Reset n) w) n) (changed_here w n (after_reset w) a at) between in
     none_some d (ap (λ (x : Machine). x.daemon) same ∙ runs)
 
--- A machine ends holdings itself only where no daemon runs.
-own_ends_at : (e : Event) (w : World) (a b : Machine) (d : Daemon) → machine_at w (machine_of e) ≡ Some a → machine_at (first_change e w) (machine_of e) ≡ Some b
-    → input_of w e ≡ None → Turned w e (machine_of e) a b → b.daemon ≡ Some d → (own_effects_of w e).ends ≡ []
-own_ends_at (Pass x g) w a b d at between none turned runs = no_ends w (Pass x g) (machine_at w 0) (λ y. refl)
-own_ends_at (WakeUp m) w a b d at between none turned runs = no_ends w (WakeUp m) (machine_at w m) (λ y. refl)
-own_ends_at (GiveCommand m text) w a b d at between none turned runs = no_ends w (GiveCommand m text) (machine_at w m) (λ y. refl)
-own_ends_at (Sample m c k) w a b d at between none turned runs = no_ends w (Sample m c k) (machine_at w m) (λ y. refl)
-own_ends_at (Land m c) w a b d at between none turned runs = no_ends w (Land m c) (machine_at w m) (λ y. refl)
-own_ends_at (Tear m c k bytes) w a b d at between none turned runs = no_ends w (Tear m c k bytes) (machine_at w m) (λ y. refl)
-own_ends_at (AnswerCall m c ok) w a b d at between none turned runs = no_ends w (AnswerCall m c ok) (machine_at w m) (λ y. refl)
-own_ends_at (Do m c) w a b d at between none turned runs = no_ends w (Do m c) (machine_at w m) (λ y. refl)
-own_ends_at (DropWrite m c) w a b d at between none turned runs = no_ends w (DropWrite m c) (machine_at w m) (λ y. refl)
-own_ends_at (Test m) w a b d at between none turned runs = no_ends w (Test m) (machine_at w m) (λ y. refl)
-own_ends_at (ExitOf m p) w a b d at between none turned runs = absurd (exit_ends w m p a b d at none turned runs)
-own_ends_at (SpawnedOf m p ok) w a b d at between none turned runs = no_ends w (SpawnedOf m p ok) (machine_at w m) (λ y. refl)
-own_ends_at (StartDaemon m name) w a b d at between none turned runs = no_ends w (StartDaemon m name) (machine_at w m) (λ y. refl)
-own_ends_at (Crash m) w a b d at between none turned runs = no_ends w (Crash m) (machine_at w m) (λ y. refl)
-own_ends_at (Reset m) w a b d at between none turned runs = absurd (reset_ends w m a b d at between runs)
-own_ends_at (Restart m) w a b d at between none turned runs = no_ends w (Restart m) (machine_at w m) (λ y. refl)
+-- A machine does something to its holdings itself only where no daemon runs.
+own_nothing_at : (e : Event) (w : World) (a b : Machine) (d : Daemon) → machine_at w (machine_of e) ≡ Some a → machine_at (first_change e w) (machine_of e) ≡ Some b
+    → input_of w e ≡ None → Turned w e (machine_of e) a b → b.daemon ≡ Some d → own_effects_of w e ≡ no_effects
+own_nothing_at (Pass x g) w a b d at between none turned runs = none_own w (Pass x g) (machine_at w 0) (λ y. refl)
+own_nothing_at (WakeUp m) w a b d at between none turned runs = none_own w (WakeUp m) (machine_at w m) (λ y. refl)
+own_nothing_at (GiveCommand m text) w a b d at between none turned runs = none_own w (GiveCommand m text) (machine_at w m) (λ y. refl)
+own_nothing_at (GiveLvm m line) w a b d at between none turned runs = none_own w (GiveLvm m line) (machine_at w m) (λ y. refl)
+own_nothing_at (GiveAsk m) w a b d at between none turned runs = none_own w (GiveAsk m) (machine_at w m) (λ y. refl)
+own_nothing_at (Sample m c k) w a b d at between none turned runs = none_own w (Sample m c k) (machine_at w m) (λ y. refl)
+own_nothing_at (Land m c) w a b d at between none turned runs = none_own w (Land m c) (machine_at w m) (λ y. refl)
+own_nothing_at (Tear m c k bytes) w a b d at between none turned runs = none_own w (Tear m c k bytes) (machine_at w m) (λ y. refl)
+own_nothing_at (AnswerCall m c ok) w a b d at between none turned runs = none_own w (AnswerCall m c ok) (machine_at w m) (λ y. refl)
+own_nothing_at (Do m c) w a b d at between none turned runs = none_own w (Do m c) (machine_at w m) (λ y. refl)
+own_nothing_at (DropWrite m c) w a b d at between none turned runs = none_own w (DropWrite m c) (machine_at w m) (λ y. refl)
+own_nothing_at (Test m) w a b d at between none turned runs = none_own w (Test m) (machine_at w m) (λ y. refl)
+own_nothing_at (ExitOf m p) w a b d at between none turned runs = absurd (exit_ends w m p a b d at none turned runs)
+own_nothing_at (SpawnedOf m p ok) w a b d at between none turned runs = none_own w (SpawnedOf m p ok) (machine_at w m) (λ y. refl)
+own_nothing_at (StartDaemon m name) w a b d at between none turned runs = none_own w (StartDaemon m name) (machine_at w m) (λ y. refl)
+own_nothing_at (Crash m) w a b d at between none turned runs = none_own w (Crash m) (machine_at w m) (λ y. refl)
+own_nothing_at (Reset m) w a b d at between none turned runs = absurd (reset_ends w m a b d at between runs)
+own_nothing_at (Restart m) w a b d at between none turned runs = none_own w (Restart m) (machine_at w m) (λ y. refl)
 
-own_ends : (w : World) (e : Event) (m : ℕ) (a b : Machine) (d : Daemon) → machine_at w m ≡ Some a → machine_at (first_change e w) m ≡ Some b → m ≡ machine_of e
-    → input_of w e ≡ None → Turned w e m a b → b.daemon ≡ Some d → (own_effects_of w e).ends ≡ []
-own_ends w e m a b d at between same none turned runs =
-    own_ends_at e w a b d (subst (λ k. machine_at w k ≡ Some a) same at) (subst (λ k. machine_at (first_change e w) k ≡ Some b) same between) none
+own_nothing : (w : World) (e : Event) (m : ℕ) (a b : Machine) (d : Daemon) → machine_at w m ≡ Some a → machine_at (first_change e w) m ≡ Some b → m ≡ machine_of e
+    → input_of w e ≡ None → Turned w e m a b → b.daemon ≡ Some d → own_effects_of w e ≡ no_effects
+own_nothing w e m a b d at between same none turned runs =
+    own_nothing_at e w a b d (subst (λ k. machine_at w k ≡ Some a) same at) (subst (λ k. machine_at (first_change e w) k ≡ Some b) same between) none
     (subst (λ k. Turned w e k a b) same turned) runs
 
 -- ---- a step of the daemon
 
--- What a step leaves, whatever the calls.
-abbrev stepped_machine : Machine → List Course → Effects → Entry → Stamp → Machine
-stepped_machine b cs fx e now =
+-- What a step leaves, whatever the calls and lvmlockd's locks.
+abbrev stepped_machine : Machine → List Course → Locks → Effects → Entry → Stamp → Machine
+stepped_machine b cs locks fx e now =
     record b {
       connections = fold after_move b.connections fx.moves;
       calls = cs;
       holdings = held_after fx b.holdings;
       daemon = option_map (with_entry e now) b.daemon;
+      locks = locks;
     }
 
 not_among : (ds : List Daemon) (d : Daemon) → AreNumbered ds → Contains ds d → d.number ≡ length ds → ⊥
@@ -160,10 +144,10 @@ not_among ds d numbered has same =
     let less : d.number < length ds = every_has (λ (x : Daemon). x.number < length ds) ds d (all_less ds numbered) has in
     absurd (omega (arith, less, same))
 
-took_mirrors : (b : Machine) (cs : List Course) (fx : Effects) (e : Entry) (now : Stamp) (d : Daemon) → b.daemon ≡ Some d → e.effects ≡ fx
-    → AreNumbered (daemons_on (stepped_machine b cs fx e now)) → Mirrors b → Mirrors (stepped_machine b cs fx e now)
-took_mirrors b cs fx e now d runs effects numbered h =
-    let c : Machine = stepped_machine b cs fx e now in
+took_mirrors : (b : Machine) (cs : List Course) (locks : Locks) (fx : Effects) (e : Entry) (now : Stamp) (d : Daemon) → b.daemon ≡ Some d → e.effects ≡ fx
+    → AreNumbered (daemons_on (stepped_machine b cs locks fx e now)) → Mirrors b → Mirrors (stepped_machine b cs locks fx e now)
+took_mirrors b cs locks fx e now d runs effects numbered h =
+    let c : Machine = stepped_machine b cs locks fx e now in
     let after : Daemon = with_entry e now d in
     let was : since_restart b ≡ Some d = h.running d runs in
     let up : (b.up && b.used) ≡ true = (none_if (b.up && b.used) (first_of_list (daemons_on b)) d was).0 in
@@ -181,7 +165,7 @@ took_mirrors b cs fx e now d runs effects numbered h =
       running = λ y is. since ∙ sym is_running ∙ is;
       connected = λ y is. subst (λ (z : Daemon). fold after_move b.connections fx.moves ≡ connections z.setting z.trace) (is_after y is) connected;
       held = λ y is. subst (λ (z : Daemon). held_after fx b.holdings ≡ holdings z.trace) (some_value after y (sym is_running ∙ is)) held;
-      left = λ y g is has. subst (λ (z : Daemon). Contains (holdings z.trace) g) (is_after y is) (subst (λ gs. Contains gs g) held has);
+      left = λ y g is has. Held_on (subst (λ (z : Daemon). Contains (holdings z.trace) g) (is_after y is) (subst (λ gs. Contains gs g) held has));
       none = λ is. absurd (no_value after (since_restart c) since is);
       kept = λ y is. subst (λ (z : Daemon). resets_after b z.begun.step ≡ []) (is_after y is) (h.kept d was);
       lost = λ y has other.
@@ -192,8 +176,9 @@ took_mirrors b cs fx e now d runs effects numbered h =
           ];
     }
 
-step_machine : (now : Stamp) (i : Input) (fx : Effects) (b : Machine) → after_step now i fx b ≡ stepped_machine b (after_step now i fx b).calls fx (entry_of i fx b) now
+step_machine : (now : Stamp) (i : Input) (fx : Effects) (b : Machine) → after_step now i fx b ≡ stepped_machine b (after_step now i fx b).calls (after_step now i fx b).locks fx (entry_of i fx b) now
 step_machine now (Line text) fx b = refl
+step_machine now (Number text) fx b = refl
 step_machine now (Told n answer) fx b = refl
 step_machine now Wake fx b = refl
 step_machine now (Exit p) fx b = refl
@@ -206,16 +191,19 @@ stepped_mirrors p h now x m a c g b between t (Elsewhere is) numbered k = subst 
 stepped_mirrors p h now x m a c g b between t (Alone none same is) numbered k =
     let w : World = world_at p h now in
     let quiet : IsQuiet g.effects = subst IsQuiet (sym (g.own none)) (own_quiet w x.0) in
-    let ends : (d : Daemon) → b.daemon ≡ Some d → g.effects.ends ≡ [] =
-    λ d runs. ap (λ (fx : Effects). fx.ends) (g.own none) ∙ own_ends w x.0 m a b d g.at between same none t runs in
-    subst Mirrors (sym is) (alone_mirrors (stamp_now (next_step (first_change x.0 w)) b) g.effects b quiet ends k)
+    let nothing : (d : Daemon) → b.daemon ≡ Some d → g.effects ≡ no_effects =
+    λ d runs. g.own none ∙ own_nothing w x.0 m a b d g.at between same none t runs in
+    let itself : own_effects_of w x.0 ≡ own_effects w x.0 a = ap (λ o. option_map_or (own_effects w x.0) o no_effects) (subst (λ n. machine_at w n ≡ Some a) same g.at) in
+    let grants : GrantsOrphans b.holdings g.effects = subst (GrantsOrphans b.holdings) (sym (g.own none ∙ itself)) (own_grants w x.0 m a b t) in
+    subst Mirrors (sym is) (alone_mirrors (stamp_now (next_step (first_change x.0 w)) b) g.effects b quiet grants nothing k)
 stepped_mirrors p h now x m a c g b between t (Took i has same is) numbered k =
     let w : World = world_at p h now in
     let stamp : Stamp = stamp_now (next_step (first_change x.0 w)) b in
     let d = runs_then w x.0 m a b i g.may g.at same has t in
-    let whole : c ≡ stepped_machine b (after_step stamp i g.effects b).calls g.effects (entry_of i g.effects b) stamp = is ∙ step_machine stamp i g.effects b in
+    let y : Machine = after_step stamp i g.effects b in
+    let whole : c ≡ stepped_machine b y.calls y.locks g.effects (entry_of i g.effects b) stamp = is ∙ step_machine stamp i g.effects b in
     subst Mirrors (sym whole)
-    (took_mirrors b (after_step stamp i g.effects b).calls g.effects (entry_of i g.effects b) stamp d.0 d.1 refl (subst (λ (y : Machine). AreNumbered (daemons_on y)) whole numbered) k)
+    (took_mirrors b y.calls y.locks g.effects (entry_of i g.effects b) stamp d.0 d.1 refl (subst (λ (z : Machine). AreNumbered (daemons_on z)) whole numbered) k)
 
 keeps : (p : Program) (h : Header) (now : List Happening) (x : Happening) (m : ℕ) (a c : Machine) → Goes_on p h now x m a c → Mirrors a → Mirrors c
 keeps p h now x m a c g was =
@@ -260,6 +248,7 @@ machine_of_line p g h m o =
       calls = [];
       holdings = [];
       resets = [];
+      locks = fresh_locks h;
     }
 
 first_by : (p : Program) (g : Layout) (h : Header) (m : ℕ) (o : Option SessionLine) → find (λ (x : SessionLine). x.machine == m) h.sessions ≡ o

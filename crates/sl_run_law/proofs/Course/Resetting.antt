@@ -13,7 +13,7 @@ use Rattle.sl_run.specs.declared.event.Event.{Event}
 use Rattle.sl_run.specs.declared.header.Header.{Header}
 use Rattle.sl_run_law.specs.Fates.{Every}
 use Rattle.sl_trace.specs.declared.effects.Effects.{Effects}
-use Rattle.sl_trace.specs.declared.input.Input.TheVariants.{Answer as Told, Exit, Line, Spawned, Wake}
+use Rattle.sl_trace.specs.declared.input.Input.TheVariants.{Answer as Told, Exit, Line, Number, Spawned, Wake}
 use Rattle.sl_trace.specs.declared.input.Input.{Input}
 use Rattle.sl_words.specs.Words.{is_empty}
 use Rattle.std.proofs.Common.{ap, arith, refl, subst, sym, ◌∙◌}
@@ -37,6 +37,7 @@ turned_resets w e m a b Q new (Came_up event down is) h = subst (λ (x : Machine
 
 pub step_resets : (now : Stamp) (i : Input) (fx : Effects) (a : Machine) → (after_step now i fx a).resets ≡ a.resets
 step_resets now (Line text) fx a = refl
+step_resets now (Number text) fx a = refl
 step_resets now (Told n answer) fx a = refl
 step_resets now Wake fx a = refl
 step_resets now (Exit p) fx a = refl

@@ -1,12 +1,12 @@
 -- Where an event gives an input to a daemon, one runs, before the event and at its step.
 use Rattle.sl_run_law.proofs.Course.Turning.{Began, Called, Came_up, Clocked, Crashed, Stays, Tested, Turned, Went_down}
-use Rattle.sl_plain.proofs.Options.{not_none, some_there}
+use Rattle.sl_plain.proofs.Options.{not_none, some_there, then_value}
 use Rattle.sl_run.specs.Events.{event_tests, if_running, input_at, input_of, machine_of, may_happen}
 use Rattle.sl_run.specs.Worlds.{Daemon, Machine, World, machine_at}
-use Rattle.sl_run.specs.declared.event.Event.TheVariants.{AnswerCall, Crash, Do, DropWrite, ExitOf, GiveCommand, Land, Pass, Reset, Restart, Sample, SpawnedOf, StartDaemon, Tear, Test, WakeUp}
+use Rattle.sl_run.specs.declared.event.Event.TheVariants.{AnswerCall, Crash, Do, DropWrite, ExitOf, GiveAsk, GiveCommand, GiveLvm, Land, Pass, Reset, Restart, Sample, SpawnedOf, StartDaemon, Tear, Test, WakeUp}
 use Rattle.sl_run.specs.declared.event.Event.{Event}
 use Rattle.sl_run_law.proofs.Guards.{on_this, passes}
-use Rattle.sl_trace.specs.declared.input.Input.TheVariants.{Exit, Line, Spawned, Wake}
+use Rattle.sl_trace.specs.declared.input.Input.TheVariants.{Exit, Line, Number, Spawned, Wake}
 use Rattle.sl_trace.specs.declared.input.Input.{Input}
 use Rattle.sl_words.proofs.CaseLaws.{no_value, none_some}
 use Rattle.sl_words.proofs.WordLaws.{choose_some}
@@ -33,6 +33,8 @@ runs_at (AnswerCall m c ok) w a i may at h = answer_runs w m c ok a may at
 runs_at (Do m c) w a i may at h = do_runs w m c a may at
 runs_at (WakeUp m) w a i may at h = if_runs a Wake i h
 runs_at (GiveCommand m text) w a i may at h = if_runs a (Line text) i h
+runs_at (GiveLvm m line) w a i may at h = if_runs a (Number line) i h
+runs_at (GiveAsk m) w a i may at h = let x = then_value (λ text. if_running a (Line text)) a.locks.due i h in if_runs a (Line x.0) i x.2
 runs_at (ExitOf m p) w a i may at h = if_runs a (Exit p) i h
 runs_at (SpawnedOf m p ok) w a i may at h = if_runs a (Spawned p ok) i h
 runs_at (Pass x g) w a i may at h = absurd (none_some i h)

@@ -2,7 +2,7 @@
 use Rattle.sl_run.specs.Events.{after_crash, after_effects, after_reset, after_restart, after_start, after_step, change_call, event_tests, fated, first_change, input_of, is_read_course, machine_of, may_happen, next_step, on_flight, own_effects, sampled_more, sectors_left, take_step}
 use Rattle.sl_run.specs.Runs.{own_effects_of}
 use Rattle.sl_run.specs.Worlds.{Course, Dropped, Fate, Landed, Machine, Stamp, Torn, World, flight_of, machine_at, names_of, stamp_now}
-use Rattle.sl_run.specs.declared.event.Event.TheVariants.{AnswerCall, Crash, Do, DropWrite, ExitOf, GiveCommand, Land, Pass, Reset, Restart, Sample, SpawnedOf, StartDaemon, Tear, Test, WakeUp}
+use Rattle.sl_run.specs.declared.event.Event.TheVariants.{AnswerCall, Crash, Do, DropWrite, ExitOf, GiveAsk, GiveCommand, GiveLvm, Land, Pass, Reset, Restart, Sample, SpawnedOf, StartDaemon, Tear, Test, WakeUp}
 use Rattle.sl_run.specs.declared.event.Event.{Event}
 use Rattle.sl_run.specs.declared.event.Refusal.TheVariants.{MissingCall}
 use Rattle.sl_run.specs.declared.event.Refusal.{Refusal}
@@ -133,32 +133,33 @@ becomes w e fx may m a at =
 
 -- ---- what the machine itself does
 
--- Effects that make no call, no move and no grant.
+-- Effects that make no call and no move.
 pub record IsQuiet (fx : Effects) : Type 0 where
   pub calls : fx.calls ≡ []
   pub moves : fx.moves ≡ []
-  pub grants : fx.grants ≡ []
 
 own_quiet_at : (w : World) (e : Event) (a : Machine) → IsQuiet (own_effects w e a)
-own_quiet_at w (Pass d growths) a = record { calls = refl; moves = refl; grants = refl }
-own_quiet_at w (WakeUp m) a = record { calls = refl; moves = refl; grants = refl }
-own_quiet_at w (GiveCommand m text) a = record { calls = refl; moves = refl; grants = refl }
-own_quiet_at w (Sample m c k) a = record { calls = refl; moves = refl; grants = refl }
-own_quiet_at w (Land m c) a = record { calls = refl; moves = refl; grants = refl }
-own_quiet_at w (Tear m c k bytes) a = record { calls = refl; moves = refl; grants = refl }
-own_quiet_at w (AnswerCall m c ok) a = record { calls = refl; moves = refl; grants = refl }
-own_quiet_at w (Do m c) a = record { calls = refl; moves = refl; grants = refl }
-own_quiet_at w (DropWrite m c) a = record { calls = refl; moves = refl; grants = refl }
-own_quiet_at w (Test m) a = record { calls = refl; moves = refl; grants = refl }
-own_quiet_at w (ExitOf m p) a = record { calls = refl; moves = refl; grants = refl }
-own_quiet_at w (SpawnedOf m p ok) a = record { calls = refl; moves = refl; grants = refl }
-own_quiet_at w (StartDaemon m name) a = record { calls = refl; moves = refl; grants = refl }
-own_quiet_at w (Crash m) a = record { calls = refl; moves = refl; grants = refl }
-own_quiet_at w (Reset m) a = record { calls = refl; moves = refl; grants = refl }
-own_quiet_at w (Restart m) a = record { calls = refl; moves = refl; grants = refl }
+own_quiet_at w (Pass d growths) a = record { calls = refl; moves = refl }
+own_quiet_at w (WakeUp m) a = record { calls = refl; moves = refl }
+own_quiet_at w (GiveCommand m text) a = record { calls = refl; moves = refl }
+own_quiet_at w (GiveLvm m line) a = record { calls = refl; moves = refl }
+own_quiet_at w (GiveAsk m) a = record { calls = refl; moves = refl }
+own_quiet_at w (Sample m c k) a = record { calls = refl; moves = refl }
+own_quiet_at w (Land m c) a = record { calls = refl; moves = refl }
+own_quiet_at w (Tear m c k bytes) a = record { calls = refl; moves = refl }
+own_quiet_at w (AnswerCall m c ok) a = record { calls = refl; moves = refl }
+own_quiet_at w (Do m c) a = record { calls = refl; moves = refl }
+own_quiet_at w (DropWrite m c) a = record { calls = refl; moves = refl }
+own_quiet_at w (Test m) a = record { calls = refl; moves = refl }
+own_quiet_at w (ExitOf m p) a = record { calls = refl; moves = refl }
+own_quiet_at w (SpawnedOf m p ok) a = record { calls = refl; moves = refl }
+own_quiet_at w (StartDaemon m name) a = record { calls = refl; moves = refl }
+own_quiet_at w (Crash m) a = record { calls = refl; moves = refl }
+own_quiet_at w (Reset m) a = record { calls = refl; moves = refl }
+own_quiet_at w (Restart m) a = record { calls = refl; moves = refl }
 
 own_quiet_by : (w : World) (e : Event) (o : Option Machine) → IsQuiet (option_map_or (own_effects w e) o no_effects)
-own_quiet_by w e None = record { calls = refl; moves = refl; grants = refl }
+own_quiet_by w e None = record { calls = refl; moves = refl }
 own_quiet_by w e (Some a) = own_quiet_at w e a
 
 pub own_quiet : (w : World) (e : Event) → IsQuiet (own_effects_of w e)

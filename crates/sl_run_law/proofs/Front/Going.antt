@@ -1,8 +1,8 @@
 -- Runs go on from their fronts, and what each event of lawful runs keeps is kept.
 use Rattle.sl_run_law.proofs.Front.Having.{contains_flat, contains_right, in_flat, placed_at}
 use Rattle.sl_run_law.specs.Front.Fronts.{EventsHaveOneStep, FrontsAreLawful, HasOneStep}
-use Rattle.sl_law.proofs.LawFacts.{lawful-front}
-use Rattle.sl_law.specs.Lawful.{Lawful}
+use Rattle.sl_law.proofs.LawFacts.{orderly-front}
+use Rattle.sl_law.specs.Lawful.{Orderly}
 use Rattle.sl_plain.proofs.Lists.{contains_cases, contains_first, contains_more, contains_none, got_inside, next_before, same_place_in}
 use Rattle.sl_plain.proofs.Numbers.{one_before}
 use Rattle.sl_plain.proofs.Options.{else_some}
@@ -115,9 +115,9 @@ daemon_later p h now rest run m a d at has =
       goes = r.2;
     }
 
-lawful_before : (d e : Daemon) → DaemonGoes d e → Lawful e.setting e.trace → Lawful d.setting d.trace
+lawful_before : (d e : Daemon) → DaemonGoes d e → Orderly e.setting e.trace → Orderly d.setting d.trace
 lawful_before d e g law =
-    subst (λ st. Lawful st d.trace) g.setting (lawful-front e.setting g.trace.newer d.trace (subst (λ t. Lawful e.setting t) g.trace.same law))
+    subst (λ st. Orderly st d.trace) g.setting (orderly-front e.setting g.trace.newer d.trace (subst (λ t. Orderly e.setting t) g.trace.same law))
 
 pub not_zero : (i : ℕ) → (suc i == 0) ≡ false
 not_zero i = grind arith
@@ -125,8 +125,8 @@ not_zero i = grind arith
 pub number_place : (w : World) (i : ℕ) (a : Machine) → slice_get w.machines i ≡ Some a → machine_at w (suc i) ≡ Some a
 number_place w i a h = else_some (suc i == 0) (slice_get w.machines (suc i - 1)) a (not_zero i) (ap (λ k. slice_get w.machines k) (one_before i) ∙ h)
 
-lawful_fronts : (p : Program) (h : Header) (now rest : List Happening) → IsRun (world_with p h) (now ++ rest) → EachDaemon Lawful (world_at p h (now ++ rest))
-    → EachDaemon Lawful (world_at p h now)
+lawful_fronts : (p : Program) (h : Header) (now rest : List Happening) → IsRun (world_with p h) (now ++ rest) → EachDaemon Orderly (world_at p h (now ++ rest))
+    → EachDaemon Orderly (world_at p h now)
 lawful_fronts p h now rest run each d has =
     let w : World = world_at p h now in
     let on = contains_flat daemons_on w.machines d has in

@@ -4,7 +4,7 @@ use Rattle.sl_plain.proofs.Lists.{set_here}
 use Rattle.sl_plain.proofs.Options.{else_some}
 use Rattle.sl_run.specs.Events.{add_landing, after_crash, after_reset, after_restart, after_start, after_test, change_call, fated, first_change, flight_at, land_torn, land_whole, may_happen, sampled_more, sectors_left, spells_something, torn_bytes, write_bytes}
 use Rattle.sl_run.specs.Worlds.{Course, Dropped, Fate, Landed, Landing, Machine, Torn, World, change_machine, flight_of, is_in_flight, is_write_course, machine_at, sector_size}
-use Rattle.sl_run.specs.declared.event.Event.TheVariants.{AnswerCall, Crash, Do, DropWrite, ExitOf, GiveCommand, Land, Pass, Reset, Restart, Sample, SpawnedOf, StartDaemon, Tear, Test, WakeUp}
+use Rattle.sl_run.specs.declared.event.Event.TheVariants.{AnswerCall, Crash, Do, DropWrite, ExitOf, GiveAsk, GiveCommand, GiveLvm, Land, Pass, Reset, Restart, Sample, SpawnedOf, StartDaemon, Tear, Test, WakeUp}
 use Rattle.sl_run.specs.declared.event.Event.{Event}
 use Rattle.sl_run_law.proofs.Guards.{lands, tears}
 use Rattle.sl_run_law.proofs.Walking.{index}
@@ -201,6 +201,8 @@ unfolding first_change
 first_lands (Pass d growths) w may = inl refl
 first_lands (WakeUp m) w may = inl refl
 first_lands (GiveCommand m text) w may = inl refl
+first_lands (GiveLvm m line) w may = inl refl
+first_lands (GiveAsk m) w may = inl refl
 first_lands (Sample m c k) w may = inl (changed_landings m (change_call c (sampled_more w k)) w)
 first_lands (Land m c) w may = land_lands w m c (flight_at w m c) refl may
 first_lands (Tear m c k bytes) w may = tear_lands w m c k bytes (flight_at w m c) refl may

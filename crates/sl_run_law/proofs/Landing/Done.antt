@@ -11,10 +11,11 @@ use Rattle.sl_run_law.proofs.Landing.Stepping.{IsAnswered, IsMade, Step, came}
 use Rattle.sl_run_law.proofs.Landing.Turning.{Turn, do_is, flight_number}
 use Rattle.sl_run_law.specs.Landing.Landings.{DoneWritesHaveLanded}
 use Rattle.sl_plain.proofs.Lists.{contains_none, find_inside, in_map}
-use Rattle.sl_run.specs.Events.{add_landing, change_call, done_input, fated, first_change, input_at, input_of, land_whole, machine_of, may_happen, ok_input, rest_sampled, sectors_left, write_bytes}
+use Rattle.sl_plain.proofs.Options.{then_value}
+use Rattle.sl_run.specs.Events.{add_landing, change_call, done_input, fated, first_change, if_running, input_at, input_of, land_whole, machine_of, may_happen, ok_input, rest_sampled, sectors_left, write_bytes}
 use Rattle.sl_run.specs.Safety.{world_at}
 use Rattle.sl_run.specs.Worlds.{Course, Daemon, Dropped, Fate, In_flight, Landed, Machine, Torn, World, change_machine, flight_of, is_in_flight, is_landed, is_of_running, is_open, is_torn_fate, is_write_course, machine_at, world_with}
-use Rattle.sl_run.specs.declared.event.Event.TheVariants.{AnswerCall, Crash, Do, DropWrite, ExitOf, GiveCommand, Land, Pass, Reset, Restart, Sample, SpawnedOf, StartDaemon, Tear, Test, WakeUp}
+use Rattle.sl_run.specs.declared.event.Event.TheVariants.{AnswerCall, Crash, Do, DropWrite, ExitOf, GiveAsk, GiveCommand, GiveLvm, Land, Pass, Reset, Restart, Sample, SpawnedOf, StartDaemon, Tear, Test, WakeUp}
 use Rattle.sl_run.specs.declared.event.Event.{Event}
 use Rattle.sl_run_law.proofs.Beginnings.{begins_new}
 use Rattle.sl_run_law.proofs.Coursing.{changed_if}
@@ -25,7 +26,7 @@ use Rattle.sl_trace.specs.declared.effects.Effects.{Effects}
 use Rattle.sl_trace.specs.declared.effects.Op.TheVariants.{ReadSectors, WriteRecord}
 use Rattle.sl_trace.specs.declared.effects.Op.{Op}
 use Rattle.sl_trace.specs.declared.input.Answer.TheVariants.{Failed, Read, Written}
-use Rattle.sl_trace.specs.declared.input.Input.TheVariants.{Answer as Told, Exit, Line, Spawned, Wake}
+use Rattle.sl_trace.specs.declared.input.Input.TheVariants.{Answer as Told, Exit, Line, Number, Spawned, Wake}
 use Rattle.sl_trace.specs.declared.input.Input.{Input}
 use Rattle.sl_words.proofs.CaseLaws.{false_is_true, none_some, one_value, some_value, true_is_false}
 use Rattle.sl_words.proofs.WordLaws.{choose_some, some_is_true}
@@ -82,6 +83,9 @@ answers_at (Do m c) w a i n h t =
     }
 answers_at (WakeUp m) w a i n h t = absurd (chosen (is_some a.daemon) Wake i n h t)
 answers_at (GiveCommand m text) w a i n h t = absurd (chosen (is_some a.daemon) (Line text) i n h t)
+answers_at (GiveLvm m line) w a i n h t = absurd (chosen (is_some a.daemon) (Number line) i n h t)
+answers_at (GiveAsk m) w a i n h t =
+    let x = then_value (λ text. if_running a (Line text)) a.locks.due i h in absurd (chosen (is_some a.daemon) (Line x.0) i n x.2 t)
 answers_at (ExitOf m p) w a i n h t = absurd (chosen (is_some a.daemon) (Exit p) i n h t)
 answers_at (SpawnedOf m p ok) w a i n h t = absurd (chosen (is_some a.daemon) (Spawned p ok) i n h t)
 answers_at (Pass x g) w a i n h t = absurd (none_some i h)

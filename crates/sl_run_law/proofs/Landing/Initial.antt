@@ -1,4 +1,5 @@
 -- Each record of moment 0 has a spelling, whatever the digest, and so each place a sector's bytes.
+use Rattle.sl_area.proofs.SizeLaws.{HasRoom, has_room}
 use Rattle.sl_area.specs.Layouts.{IsGeometry, Layout, Sizes, layout_with, sector_with}
 use Rattle.sl_area.specs.Places.{fresh_block, fresh_delta, fresh_leader, in_area, no_request, no_value}
 use Rattle.sl_plain.proofs.Lists.{find_inside}
@@ -47,22 +48,6 @@ session_of h lockspace id = find (λ s. bytes_eq s.lockspace lockspace && s.id =
 -- The line of a machine's clock.
 abbrev clock_of : Header → ℕ → Option FirstReading
 clock_of h m = find (λ c. c.machine == m) h.clocks
-
--- ---- sizes
-
-record HasSizes (s : Sizes) : Type 0 where
-  sector : s.sector ≡ 512
-  hosts : (1 ≤ s.hosts) × (s.hosts ≤ 2000)
-
-pub range_is : (n : ℕ) → is_in_range 1 2000 n ≡ true → (1 ≤ n) × (n ≤ 2000)
-range_is n h = (grind (arith, nat_tests), grind (arith, nat_tests))
-
-has_sizes : (s : Sizes) → IsGeometry s → HasSizes s
-has_sizes s h =
-    let all = or_false (512 == s.sector && 1048576 == s.area && is_in_range 1 2000 s.hosts) h in
-    let first = and_true (512 == s.sector && 1048576 == s.area) (is_in_range 1 2000 s.hosts) all in
-    let one = and_true (512 == s.sector) (1048576 == s.area) first.0 in
-    record { sector = sym ((Decides-eqb 512 s.sector).0 one.0); hosts = range_is s.hosts first.1 }
 
 -- ---- the records
 
@@ -129,7 +114,7 @@ initial_delta_by h l id (Some s) is ok named low high =
     let member = ok.members s at.0 in
     let space = member.lockspace in
     let space_named : IsTrue (is_name s.lockspace) = subst (λ n. IsTrue (is_name n)) space.2 (ok.lockspaces space.0 space.1).0 in
-    (member_delta_is h s space_named member.name member.id.0 (up_to s.id h.geometry.hosts member.id.1 (has_sizes h.geometry ok.geometry).hosts.1)
+    (member_delta_is h s space_named member.name member.id.0 (up_to s.id h.geometry.hosts member.id.1 (has_room h.geometry ok.geometry).hosts.1)
     (clock_by h s.machine (clock_of h s.machine) refl ok))
 
 pub lockspace_by : (h : Header) (l : LockspaceLine) (k : ℕ) (b : Bool) (r : Rec) → nat_lt k h.geometry.hosts ≡ b → IsHeader h → IsTrue (is_name l.name)
@@ -137,9 +122,9 @@ pub lockspace_by : (h : Header) (l : LockspaceLine) (k : ℕ) (b : Bool) (r : Re
 lockspace_by h l k false r is ok named eq = absurd (none_some r eq)
 lockspace_by h l k true r is ok named eq =
     subst IsRecord (some_value (DeltaIs (initial_delta h l (k + 1))) r eq)
-    (initial_delta_by h l (k + 1) (session_of h l.name (k + 1)) refl ok named (one_least k) (within k h.geometry.hosts is (has_sizes h.geometry ok.geometry).hosts.1))
+    (initial_delta_by h l (k + 1) (session_of h l.name (k + 1)) refl ok named (one_least k) (within k h.geometry.hosts is (has_room h.geometry ok.geometry).hosts.1))
 
-fresh_leader_is : (digest : List ℕ → List ℕ) (s : Sizes) (space name : List ℕ) → HasSizes s → IsTrue (is_name space) → IsTrue (is_name name) → IsLeader (fresh_leader (layout_with digest s) space name)
+fresh_leader_is : (digest : List ℕ → List ℕ) (s : Sizes) (space name : List ℕ) → HasRoom s → IsTrue (is_name space) → IsTrue (is_name name) → IsLeader (fresh_leader (layout_with digest s) space name)
 fresh_leader_is digest s space name sizes a b =
     record {
       hosts = sizes.hosts;
@@ -185,11 +170,11 @@ resource_by : (digest : List ℕ → List ℕ) (h : Header) (l : ResourceLine) (
     else (if block then Some (BlockIs (fresh_block (k - 1)))
     else choose last (ValueIs no_value)))) ≡ Some r → IsRecord r
 resource_by digest h l k true request block last r a b c ok space name eq =
-    subst IsRecord (some_value _ r eq) (fresh_leader_is digest h.geometry l.lockspace l.name (has_sizes h.geometry ok.geometry) space name)
+    subst IsRecord (some_value _ r eq) (fresh_leader_is digest h.geometry l.lockspace l.name (has_room h.geometry ok.geometry) space name)
 resource_by digest h l k false true block last r a b c ok space name eq = subst IsRecord (some_value (RequestIs no_request) r eq) no_request_is
 resource_by digest h l k false false true last r a b c ok space name eq =
     subst IsRecord (some_value (BlockIs (fresh_block (k - 1))) r eq)
-    (fresh_block_is (k - 1) (block_low k a b) (block_high k h.geometry.hosts c (has_sizes h.geometry ok.geometry).hosts.1))
+    (fresh_block_is (k - 1) (block_low k a b) (block_high k h.geometry.hosts c (has_room h.geometry ok.geometry).hosts.1))
 resource_by digest h l k false false false true r a b c ok space name eq = subst IsRecord (some_value (ValueIs no_value) r eq) no_value_is
 resource_by digest h l k false false false false r a b c ok space name eq = absurd (none_some r eq)
 
@@ -225,14 +210,8 @@ initial_is_record digest h path offset r ok eq = initial_by digest h path offset
 
 -- ---- lengths
 
-pub sector_low : (n : ℕ) → n ≡ 512 → 512 ≤ n
-sector_low n h = omega (arith, h)
-
-pub sector_high : (n : ℕ) → n ≡ 512 → n ≤ 4096
-sector_high n h = omega (arith, h)
-
 pub is_size : (s : Sizes) → IsGeometry s → IsSectorSize s.sector
-is_size s h = let e = (has_sizes s h).sector in (sector_low s.sector e, sector_high s.sector e)
+is_size s h = (has_room s h).sector
 
 initial_sized_by : (digest : List ℕ → List ℕ) (h : Header) (path : List ℕ) (offset : ℕ) (o : Option Rec) → IsDigest digest → initial_record (lay digest h) h path offset ≡ o → IsHeader h
     → length (elim o as (λ x. List ℕ) [ None ↦ replicate h.geometry.sector 0 | Some r ↦ sector_with (lay digest h) r ]) ≡ h.geometry.sector

@@ -27,7 +27,7 @@ use Rattle.sl_run_law.specs.Machines.{EachMachine}
 use Rattle.sl_trace.specs.declared.effects.Call.{Call}
 use Rattle.sl_trace.specs.declared.effects.Effects.{Effects}
 use Rattle.sl_trace.specs.declared.effects.Entry.{Entry}
-use Rattle.sl_trace.specs.declared.input.Input.TheVariants.{Answer as Told, Exit, Line, Spawned, Wake}
+use Rattle.sl_trace.specs.declared.input.Input.TheVariants.{Answer as Told, Exit, Line, Number, Spawned, Wake}
 use Rattle.sl_trace.specs.declared.input.Input.{Input}
 use Rattle.sl_words.proofs.CaseLaws.{false_is_true, none_some, not_both, one_value, some_value}
 use Rattle.sl_words.specs.Words.{some_is}
@@ -106,6 +106,7 @@ entered_by x now (Some d) ds = (refl, refl)
 
 step_stays : (now : Stamp) (i : Input) (fx : Effects) (a : Machine) (m : ℕ) → StayHeads m a (after_step now i fx a)
 step_stays now (Line text) fx a m = entered_by _ now a.daemon a.ended
+step_stays now (Number text) fx a m = entered_by _ now a.daemon a.ended
 step_stays now (Told n answer) fx a m = entered_by _ now a.daemon a.ended
 step_stays now Wake fx a m = entered_by _ now a.daemon a.ended
 step_stays now (Exit p) fx a m = entered_by _ now a.daemon a.ended

@@ -3,18 +3,18 @@ use Rattle.sl_run_law.proofs.Landing.Arriving.{changed_here}
 use Rattle.sl_run_law.proofs.Landing.Guarding.{answer_runs, do_runs}
 use Rattle.sl_run_law.proofs.Landing.Passing.{world_first, world_then}
 use Rattle.sl_run_law.proofs.Landing.Stepping.{same_daemon}
-use Rattle.sl_plain.proofs.Options.{some_there}
-use Rattle.sl_run.specs.Events.{after_step, first_change, input_at, input_of, machine_of, may_happen, own_effects, take_step, with_entry}
+use Rattle.sl_plain.proofs.Options.{some_there, then_value}
+use Rattle.sl_run.specs.Events.{after_step, first_change, if_running, input_at, input_of, machine_of, may_happen, own_effects, take_step, with_entry}
 use Rattle.sl_run.specs.Runs.{own_effects_of}
 use Rattle.sl_run.specs.Worlds.{Daemon, Machine, Stamp, World, machine_at, reading_now, stamp_now}
-use Rattle.sl_run.specs.declared.event.Event.TheVariants.{AnswerCall, Crash, Do, DropWrite, ExitOf, GiveCommand, Land, Pass, Reset, Restart, Sample, SpawnedOf, StartDaemon, Tear, Test, WakeUp}
+use Rattle.sl_run.specs.declared.event.Event.TheVariants.{AnswerCall, Crash, Do, DropWrite, ExitOf, GiveAsk, GiveCommand, GiveLvm, Land, Pass, Reset, Restart, Sample, SpawnedOf, StartDaemon, Tear, Test, WakeUp}
 use Rattle.sl_run.specs.declared.event.Event.{Event}
 use Rattle.sl_run_law.proofs.Walking.{Asked, each_first}
 use Rattle.sl_run_law.specs.Machines.{EachMachine}
 use Rattle.sl_trace.specs.Traces.{no_effects}
 use Rattle.sl_trace.specs.declared.effects.Effects.{Effects}
 use Rattle.sl_trace.specs.declared.effects.Entry.{Entry}
-use Rattle.sl_trace.specs.declared.input.Input.TheVariants.{Exit, Line, Spawned, Wake}
+use Rattle.sl_trace.specs.declared.input.Input.TheVariants.{Exit, Line, Number, Spawned, Wake}
 use Rattle.sl_trace.specs.declared.input.Input.{Input}
 use Rattle.sl_words.proofs.CaseLaws.{none_some, true_is_false}
 use Rattle.sl_words.proofs.WordLaws.{choose_some}
@@ -32,6 +32,9 @@ runs_at : (e : Event) (w : World) (a : Machine) (i : Input) → may_happen w e �
     → is_some a.daemon ≡ true
 runs_at (WakeUp m) w a i may at h = (choose_some (is_some a.daemon) Wake i h).0
 runs_at (GiveCommand m text) w a i may at h = (choose_some (is_some a.daemon) (Line text) i h).0
+runs_at (GiveLvm m line) w a i may at h = (choose_some (is_some a.daemon) (Number line) i h).0
+runs_at (GiveAsk m) w a i may at h =
+    let x = then_value (λ text. if_running a (Line text)) a.locks.due i h in (choose_some (is_some a.daemon) (Line x.0) i x.2).0
 runs_at (AnswerCall m c ok) w a i may at h = is_there a.daemon (answer_runs w m c ok a may at)
 runs_at (Do m c) w a i may at h = is_there a.daemon (do_runs w m c a may at)
 runs_at (ExitOf m p) w a i may at h = (choose_some (is_some a.daemon) (Exit p) i h).0
@@ -139,6 +142,8 @@ own_calls (ExitOf m p) w a = refl
 own_calls (Reset m) w a = refl
 own_calls (WakeUp m) w a = refl
 own_calls (GiveCommand m text) w a = refl
+own_calls (GiveLvm m line) w a = refl
+own_calls (GiveAsk m) w a = refl
 own_calls (AnswerCall m c ok) w a = refl
 own_calls (Do m c) w a = refl
 own_calls (SpawnedOf m p ok) w a = refl

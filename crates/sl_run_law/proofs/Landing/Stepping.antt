@@ -13,7 +13,7 @@ use Rattle.sl_trace.specs.Traces.{is_ok_answer}
 use Rattle.sl_trace.specs.declared.effects.Call.{Call}
 use Rattle.sl_trace.specs.declared.effects.Effects.{Effects}
 use Rattle.sl_trace.specs.declared.input.Answer.{Answer}
-use Rattle.sl_trace.specs.declared.input.Input.TheVariants.{Answer as Told, Exit, Line, Spawned, Wake}
+use Rattle.sl_trace.specs.declared.input.Input.TheVariants.{Answer as Told, Exit, Line, Number, Spawned, Wake}
 use Rattle.sl_trace.specs.declared.input.Input.{Input}
 use Rattle.sl_words.proofs.CaseLaws.{one_value}
 use Rattle.std.proofs.Common.{ap, arith, inl, inr, refl, subst, sym}
@@ -95,6 +95,7 @@ told_step v m n answer a c number =
 
 closed : (v : World) (m : ℕ) (i : Input) (a : Machine) → Turned (Step v m (Some i) m a) a (close_answered (stamp_now v a) i a)
 closed v m (Line text) a = turned_same (Step v m (Some (Line text)) m a) a a (step_still v m (Some (Line text)) m a) refl
+closed v m (Number text) a = turned_same (Step v m (Some (Number text)) m a) a a (step_still v m (Some (Number text)) m a) refl
 closed v m (Told n answer) a =
     turned_call (Step v m (Some (Told n answer)) m a) n (told (stamp_now v a) answer) a (step_still v m (Some (Told n answer)) m a)
     (λ c h t. told_step v m n answer a c t)
@@ -104,6 +105,7 @@ closed v m (Spawned p ok) a = turned_same (Step v m (Some (Spawned p ok)) m a) a
 
 pub same_daemon : (now : Stamp) (i : Input) (a : Machine) → (close_answered now i a).daemon ≡ a.daemon
 same_daemon now (Line text) a = refl
+same_daemon now (Number text) a = refl
 same_daemon now (Told n answer) a = refl
 same_daemon now Wake a = refl
 same_daemon now (Exit p) a = refl
@@ -111,6 +113,7 @@ same_daemon now (Spawned p ok) a = refl
 
 same_number : (now : Stamp) (i : Input) (a : Machine) → daemon_number (close_answered now i a) ≡ daemon_number a
 same_number now (Line text) a = refl
+same_number now (Number text) a = refl
 same_number now (Told n answer) a = refl
 same_number now Wake a = refl
 same_number now (Exit p) a = refl

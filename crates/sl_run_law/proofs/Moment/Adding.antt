@@ -3,6 +3,7 @@ use Rattle.sl_run_law.proofs.Moment.Keeping.{CallsAdd, CourseAdds, From, IsNow, 
 use Rattle.sl_run_law.specs.Moment.Moments.{stamps_on}
 use Rattle.sl_plain.proofs.Lists.{contains_cases, contains_none}
 use Rattle.sl_run.specs.Events.{after_crash, after_effects, after_reset, after_restart, after_start, after_step, after_test, change_call, close_answered, daemon_number, fated, first_change, happens, machine_of, next_input, next_step, passed, sample_at, sampled_more, sectors_left, take_step, take_steps, with_entry}
+use Rattle.sl_run.specs.Locks.{Locks}
 use Rattle.sl_run.specs.Worlds.{Course, Daemon, Dropped, Fate, Landed, Machine, Sampling, Stamp, Torn, World, change_machine, daemons_on, machine_at, new_daemon, next_numbers, reading_now, setting_of, stamp_now}
 use Rattle.sl_run.specs.declared.event.Event.{Event}
 use Rattle.sl_run_law.proofs.Going.{event_goes, first_goes}
@@ -15,7 +16,7 @@ use Rattle.sl_trace.specs.Traces.{is_ok_answer}
 use Rattle.sl_trace.specs.declared.effects.Call.{Call}
 use Rattle.sl_trace.specs.declared.effects.Effects.{Effects}
 use Rattle.sl_trace.specs.declared.effects.Entry.{Entry}
-use Rattle.sl_trace.specs.declared.input.Input.TheVariants.{Answer as Told, Exit, Line, Spawned, Wake}
+use Rattle.sl_trace.specs.declared.input.Input.TheVariants.{Answer as Told, Exit, Line, Number, Spawned, Wake}
 use Rattle.sl_trace.specs.declared.input.Input.{Input}
 use Rattle.std.proofs.Common.{ap, arith, inl, inr, refl, subst, sym, ◌∙◌}
 use Rattle.std.specs.Prelude.{Bool, Contains, List, None, Option, Some, false, filter_map, flat_map, if◌then◌else◌, length, map, option_map, slice_set, true, [], ℕ, ◌++◌, ◌+◌, ◌-◌, ◌<◌, ◌==◌, ◌∷◌, ◌≡◌, ◌≤◌, ◌⊎◌}
@@ -144,15 +145,17 @@ effects_add N now fx a is = calls_alone N a (after_effects now fx a) refl refl r
 
 closed_adds : (N : ℕ → ℕ → Type 0) (now : Stamp) (i : Input) (a : Machine) → IsNow N a.clock now → AddsStill N a (close_answered now i a)
 closed_adds N now (Line text) a is = same_still N 0 a
+closed_adds N now (Number text) a is = same_still N 0 a
 closed_adds N now (Told n answer) a is =
     record { adds = call_changes N n (λ c. record c { answered = Some now; done = is_ok_answer answer }) a (λ c. told_adds N a.clock now (is_ok_answer answer) c is); clock = refl }
 closed_adds N now Wake a is = same_still N 0 a
 closed_adds N now (Exit p) a is = same_still N 0 a
 closed_adds N now (Spawned p ok) a is = same_still N 0 a
 
--- The running daemon has one more entry.
-enters : (N : ℕ → ℕ → Type 0) (e : Entry) (now : Stamp) (a : Machine) → IsNow N a.clock now → AddsStill N a (record a { daemon = option_map (with_entry e now) a.daemon })
-enters N e now a is =
+-- The running daemon has one more entry, whatever lvmlockd's locks.
+enters : (N : ℕ → ℕ → Type 0) (e : Entry) (now : Stamp) (locks : Locks) (a : Machine) → IsNow N a.clock now
+    → AddsStill N a (record a { daemon = option_map (with_entry e now) a.daemon; locks = locks })
+enters N e now locks a is =
     record {
       adds = record {
         kept = from_same N a.clock (a.kept ∷ []);
@@ -171,7 +174,7 @@ step_adds N now i fx a is =
     let here : IsNow N b.clock now = (is.0, is.1 ∙ sym closed.clock) in
     let went : AddsStill N b c = record { adds = effects_add N now fx b here; clock = refl } in
     let e : Entry = record { reading = reading_now a; input = i; effects = fx } in
-    still_again N a c (after_step now i fx a) (still_again N a b c closed went) (enters N e now c here)
+    still_again N a c (after_step now i fx a) (still_again N a b c closed went) (enters N e now (after_step now i fx a).locks c here)
 
 reset_adds : (N : ℕ → ℕ → Type 0) (w : World) (a : Machine) → N w.step w.moment → Adds N a (after_reset w a)
 reset_adds N w a now =

@@ -3,7 +3,7 @@ use Rattle.sl_run_law.proofs.Moment.Adding.{Between, moved, steps_by_one}
 use Rattle.sl_plain.proofs.Lists.{contains_cases}
 use Rattle.sl_run.specs.Events.{add_landing, after_crash, after_reset, after_restart, after_start, after_test, change_call, fated, first_change, flight_at, happens, land_whole, machine_of, next_input, next_step, sampled_more, sectors_left, take_step, take_steps, torn_bytes, write_bytes}
 use Rattle.sl_run.specs.Worlds.{Course, Dropped, Landed, Landing, Machine, Torn, World, change_machine, is_in_flight, is_write_course}
-use Rattle.sl_run.specs.declared.event.Event.TheVariants.{AnswerCall, Crash, Do, DropWrite, ExitOf, GiveCommand, Land, Pass, Reset, Restart, Sample, SpawnedOf, StartDaemon, Tear, Test, WakeUp}
+use Rattle.sl_run.specs.declared.event.Event.TheVariants.{AnswerCall, Crash, Do, DropWrite, ExitOf, GiveAsk, GiveCommand, GiveLvm, Land, Pass, Reset, Restart, Sample, SpawnedOf, StartDaemon, Tear, Test, WakeUp}
 use Rattle.sl_run.specs.declared.event.Event.{Event}
 use Rattle.sl_run_law.proofs.Going.{event_goes}
 use Rattle.sl_run_law.specs.Going.{time_of}
@@ -76,6 +76,8 @@ unfolding first_change
 first_lands N (Pass d growths) w now = λ l h. inl h
 first_lands N (WakeUp m) w now = nothing_lands N w
 first_lands N (GiveCommand m text) w now = nothing_lands N w
+first_lands N (GiveLvm m line) w now = nothing_lands N w
+first_lands N (GiveAsk m) w now = nothing_lands N w
 first_lands N (Sample m c k) w now = turns N m (change_call c (sampled_more w k)) w
 first_lands N (Land m c) w now = whole_by N m c w (flight_at w m c) (now refl)
 first_lands N (Tear m c k bytes) w now = torn_by N m c k bytes w (flight_at w m c) (now refl)

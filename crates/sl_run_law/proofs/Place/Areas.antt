@@ -2,7 +2,7 @@
 use Rattle.sl_area.specs.Layouts.{IsGeometry, Layout, Sizes, layout_with}
 use Rattle.sl_area.specs.Places.{in_area, is_base}
 use Rattle.sl_run_law.proofs.Front.Having.{placed_at}
-use Rattle.sl_run_law.proofs.Landing.Initial.{range_is, sector_high, sector_low}
+use Rattle.sl_run_law.proofs.Place.Sizes.{IsSized, area_has_bytes, around_base, is_multiple, one_base}
 use Rattle.sl_plain.proofs.Lists.{got_before, got_index}
 use Rattle.sl_plain.proofs.Numbers.{one_index}
 use Rattle.sl_plain.proofs.Truth.{or_false}
@@ -19,59 +19,33 @@ use Rattle.std.proofs.lemmas.Option.{slice_get_within}
 use Rattle.std.specs.Int.{is_in_range}
 use Rattle.std.specs.Prelude.{AllPairs, Contains, IsTrue, List, Some, [], length, map, nat_le, nat_lt, slice_get, suc, true, zero, ℕ, ◌%◌, ◌&&◌, ◌++◌, ◌+◌, ◌-◌, ◌<◌, ◌==◌, ◌^◌, ◌∷◌, ◌≡◌, ◌≤◌}
 
--- ---- sizes
-
-pub record IsSized (g : Layout) : Type 0 where
-  pub sector : g.sector ≡ 512
-  pub area : g.area ≡ 1048576
-  pub hosts : (1 ≤ g.hosts) × (g.hosts ≤ 2000)
-
-pub sized : (digest : List ℕ → List ℕ) (s : Sizes) → IsGeometry s → IsSized (layout_with digest s)
-sized digest s h =
-    let all = or_false (512 == s.sector && 1048576 == s.area && is_in_range 1 2000 s.hosts) h in
-    let first = and_true (512 == s.sector && 1048576 == s.area) (is_in_range 1 2000 s.hosts) all in
-    let one = and_true (512 == s.sector) (1048576 == s.area) first.0 in
-    record { sector = sym ((Decides-eqb 512 s.sector).0 one.0); area = sym ((Decides-eqb 1048576 s.area).0 one.1); hosts = range_is s.hosts first.1 }
-
-pub sector_fits : (g : Layout) → IsSized g → IsSectorSize g.sector
-sector_fits g z = (sector_low g.sector z.sector, sector_high g.sector z.sector)
-
 -- ---- offsets in an area
 
-in_by : (base o area : ℕ) → (nat_le base o && nat_lt o (base + area)) ≡ true → area ≡ 1048576 → (base ≤ o) × (o < base + 1048576)
-in_by base o area h is = (grind (arith, nat_tests), grind (arith, nat_tests))
+in_by : (base o area : ℕ) → (nat_le base o && nat_lt o (base + area)) ≡ true → (base ≤ o) × (o < base + area)
+in_by base o area h = (grind (arith, nat_tests), grind (arith, nat_tests))
 
-within_area : (g : Layout) (base o : ℕ) → IsSized g → IsTrue (in_area g base o) → (base ≤ o) × (o < base + 1048576)
-within_area g base o z h = in_by base o g.area h z.area
+within_area : (g : Layout) (base o : ℕ) → IsTrue (in_area g base o) → (base ≤ o) × (o < base + g.area)
+within_area g base o h = in_by base o g.area h
 
-by_bounds : (base o area : ℕ) → base ≤ o → o < base + 1048576 → area ≡ 1048576 → (nat_le base o && nat_lt o (base + area)) ≡ true
-by_bounds base o area low high is = grind (arith, nat_tests)
+by_bounds : (base o area : ℕ) → base ≤ o → o < base + area → (nat_le base o && nat_lt o (base + area)) ≡ true
+by_bounds base o area low high = grind (arith, nat_tests)
 
-pub is_within : (g : Layout) (base o : ℕ) → IsSized g → base ≤ o → o < base + 1048576 → IsTrue (in_area g base o)
-is_within g base o z low high = by_bounds base o g.area low high z.area
+pub is_within : (g : Layout) (base o : ℕ) → base ≤ o → o < base + g.area → IsTrue (in_area g base o)
+is_within g base o low high = by_bounds base o g.area low high
 
 -- Two bases whose areas meet are one.
-one_base : (a b o : ℕ) → a % 1048576 ≡ 0 → b % 1048576 ≡ 0 → a ≤ o → o < a + 1048576 → b ≤ o → o < b + 1048576 → a ≡ b
-one_base a b o p q low high low' high' = omega (arith, p, q, low, high, low', high')
-
-pub same_base : (g : Layout) (a b o : ℕ) → IsSized g → a % 1048576 ≡ 0 → b % 1048576 ≡ 0 → IsTrue (in_area g a o) → IsTrue (in_area g b o) → a ≡ b
+pub same_base : {s : Sizes} (g : Layout) (a b o : ℕ) → IsSized s g → a % s.area ≡ 0 → b % s.area ≡ 0 → IsTrue (in_area g a o) → IsTrue (in_area g b o) → a ≡ b
 same_base g a b o z p q h k =
-    let one = within_area g a o z h in
-    let two = within_area g b o z k in
-    one_base a b o p q one.0 one.1 two.0 two.1
-
-down : (o area : ℕ) → area ≡ 1048576 → (o - o % area) % 1048576 ≡ 0
-down o area is = subst (λ n. (o - o % n) % 1048576 ≡ 0) (sym is) (omega arith)
+    let one = within_area g a o h in
+    let two = within_area g b o k in
+    one_base g.area a b o (subst (λ n. a % n ≡ 0) (sym z.area) p) (subst (λ n. b % n ≡ 0) (sym z.area) q) one.0 one.1 two.0 two.1
 
 -- The base of an offset is a multiple, and its area has the offset.
-pub base_aligned : (g : Layout) (o : ℕ) → IsSized g → (o - o % g.area) % 1048576 ≡ 0
-base_aligned g o z = down o g.area z.area
+pub base_aligned : {s : Sizes} (g : Layout) (o : ℕ) → IsSized s g → (o - o % g.area) % s.area ≡ 0
+base_aligned g o z = subst (λ n. (o - o % g.area) % n ≡ 0) z.area (is_multiple g.area o)
 
-around_by : (o area : ℕ) → area ≡ 1048576 → (o - o % area ≤ o) × (o < o - o % area + 1048576)
-around_by o area is = subst (λ n. (o - o % n ≤ o) × (o < o - o % n + 1048576)) (sym is) (omega arith, omega arith)
-
-pub base_around : (g : Layout) (o : ℕ) → IsSized g → IsTrue (in_area g (o - o % g.area) o)
-base_around g o z = let a = around_by o g.area z.area in is_within g (o - o % g.area) o z a.0 a.1
+pub base_around : {s : Sizes} (g : Layout) (o : ℕ) → IsSized s g → IsTrue (in_area g (o - o % g.area) o)
+base_around g o z = let a = around_base g.area o (area_has_bytes g z) in is_within g (o - o % g.area) o a.0 a.1
 
 -- ---- areas are apart
 
@@ -147,17 +121,12 @@ never_both h l r ok this that paths offsets =
 
 -- ---- their bases
 
-to_numeral : (base area : ℕ) → base % area ≡ 0 → area ≡ 1048576 → base % 1048576 ≡ 0
-to_numeral base area h is = subst (λ n. base % n ≡ 0) is h
+pub lockspace_aligned : (h : Header) (l : LockspaceLine) → IsHeader h → Contains h.lockspaces l → l.offset % h.geometry.area ≡ 0
+lockspace_aligned h l ok there = (ok.lockspaces l there).1.aligned
 
-pub lockspace_aligned : (h : Header) (l : LockspaceLine) → IsHeader h → Contains h.lockspaces l → l.offset % 1048576 ≡ 0
-lockspace_aligned h l ok there =
-    to_numeral l.offset h.geometry.area (ok.lockspaces l there).1.aligned (sized (λ bs. bs) h.geometry ok.geometry).area
-
-pub resource_aligned : (h : Header) (r : ResourceLine) → IsHeader h → Contains h.resources r → r.offset % 1048576 ≡ 0
-resource_aligned h r ok there =
-    to_numeral r.offset h.geometry.area (ok.resources r there).1.aligned (sized (λ bs. bs) h.geometry ok.geometry).area
+pub resource_aligned : (h : Header) (r : ResourceLine) → IsHeader h → Contains h.resources r → r.offset % h.geometry.area ≡ 0
+resource_aligned h r ok there = (ok.resources r there).1.aligned
 
 -- What passes the test of a base is a multiple of the area's size.
-pub is_base_aligned : (g : Layout) (o : ℕ) → IsSized g → IsTrue (is_base g o) → o % 1048576 ≡ 0
-is_base_aligned g o z h = to_numeral o g.area ((Decides-eqb (o % g.area) 0).0 (and_true (o % g.area == 0) (nat_lt o (10 ^ 12)) h).0) z.area
+pub is_base_aligned : {s : Sizes} (g : Layout) (o : ℕ) → IsSized s g → IsTrue (is_base g o) → o % s.area ≡ 0
+is_base_aligned g o z h = subst (λ n. o % n ≡ 0) z.area ((Decides-eqb (o % g.area) 0).0 (and_true (o % g.area == 0) (nat_lt o (10 ^ 12)) h).0)

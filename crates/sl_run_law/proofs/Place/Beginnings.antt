@@ -1,9 +1,9 @@
 -- What stands at a place at first: a record of a lockspace's area, or of a resource's, or zeros, which spell nothing.
-use Rattle.sl_area.specs.Layouts.{Layout, layout_with, record_in, sector_with}
+use Rattle.sl_area.specs.Layouts.{Layout, Sizes, layout_with, record_in, sector_with}
 use Rattle.sl_area.specs.Places.{fresh_block, fresh_delta, fresh_leader, in_area, no_request, no_value}
 use Rattle.sl_run_law.proofs.Landing.Initial.{a_moment, below, block_high, block_low, fresh_block_is, fresh_delta_is, member_delta_is, no_number, no_request_is, no_value_is, up_to, within}
-use Rattle.sl_run_law.proofs.Place.Areas.{IsSized, sector_fits, sized}
 use Rattle.sl_run_law.proofs.Place.Finding.{same_read, same_text}
+use Rattle.sl_run_law.proofs.Place.Sizes.{IsSized, sector_fits, sized}
 use Rattle.sl_plain.proofs.Lists.{find_inside}
 use Rattle.sl_plain.proofs.Numbers.{one_least, zero_least}
 use Rattle.sl_run.specs.Headers.{IsHeader}
@@ -64,7 +64,7 @@ initial_delta_by h l id (Some s) is ok named low high =
       same_id = eqb-true s.id id both.1;
     }
 
-fresh_leader_is : (g : Layout) (space name : List ℕ) → IsSized g → IsTrue (is_name space) → IsTrue (is_name name) → IsLeader (fresh_leader g space name)
+fresh_leader_is : {s : Sizes} (g : Layout) (space name : List ℕ) → IsSized s g → IsTrue (is_name space) → IsTrue (is_name name) → IsLeader (fresh_leader g space name)
 fresh_leader_is g space name sizes a b =
     record {
       hosts = sizes.hosts;
@@ -101,7 +101,7 @@ record IsOfResource (g : Layout) (x : ResourceLine) (r : Rec) : Type 0 where
 same_leader : (a b : Leader) → LeaderIs a ≡ LeaderIs b → b ≡ a
 same_leader a b e = cc
 
-leader_of_resource : (g : Layout) (x : ResourceLine) → IsSized g → IsTrue (is_name x.lockspace) → IsTrue (is_name x.name)
+leader_of_resource : {s : Sizes} (g : Layout) (x : ResourceLine) → IsSized s g → IsTrue (is_name x.lockspace) → IsTrue (is_name x.name)
     → IsOfResource g x (LeaderIs (fresh_leader g x.lockspace x.name))
 leader_of_resource g x z space name =
     record {
@@ -119,7 +119,7 @@ block_of_resource g x k low high = record { is = fresh_block_is k low high; no_d
 value_of_resource : (g : Layout) (x : ResourceLine) → IsOfResource g x (ValueIs no_value)
 value_of_resource g x = record { is = no_value_is; no_delta = λ d e. absurd cc; leader = λ l e. absurd cc }
 
-resource_by : (g : Layout) (x : ResourceLine) (k : ℕ) (leader request block last : Bool) (r : Rec) → IsSized g → (k == 0) ≡ leader → (k == 1) ≡ request
+resource_by : {s : Sizes} (g : Layout) (x : ResourceLine) (k : ℕ) (leader request block last : Bool) (r : Rec) → IsSized s g → (k == 0) ≡ leader → (k == 1) ≡ request
     → nat_lt k (g.hosts + 2) ≡ block → IsTrue (is_name x.lockspace) → IsTrue (is_name x.name)
     → (if leader then Some (LeaderIs (fresh_leader g x.lockspace x.name))
     else (if request then Some (RequestIs no_request)
@@ -133,7 +133,7 @@ resource_by g x k false false true last r z a b c space name eq =
 resource_by g x k false false false true r z a b c space name eq = subst (IsOfResource g x) (some_value (ValueIs no_value) r eq) (value_of_resource g x)
 resource_by g x k false false false false r z a b c space name eq = absurd (none_some r eq)
 
-resource_from : (g : Layout) (h : Header) (path : List ℕ) (offset : ℕ) (o : Option ResourceLine) (r : Rec) → IsSized g → resource_at g h path offset ≡ o → IsHeader h
+resource_from : {s : Sizes} (g : Layout) (h : Header) (path : List ℕ) (offset : ℕ) (o : Option ResourceLine) (r : Rec) → IsSized s g → resource_at g h path offset ≡ o → IsHeader h
     → elim o as (λ x. Option Rec) [ Some x ↦ initial_of_resource g x ((offset - x.offset) / g.sector) | None ↦ None ] ≡ Some r → IsInitial g h path offset r
 resource_from g h path offset None r z is ok eq = absurd (none_some r eq)
 resource_from g h path offset (Some x) r z is ok eq =

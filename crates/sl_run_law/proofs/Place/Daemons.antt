@@ -18,7 +18,7 @@ use Rattle.sl_run_law.proofs.Walking.{Asked, each_first, each_step, each_then, i
 use Rattle.sl_run_law.specs.Machines.{EachMachine}
 use Rattle.sl_trace.specs.declared.effects.Effects.{Effects}
 use Rattle.sl_trace.specs.declared.effects.Entry.{Entry}
-use Rattle.sl_trace.specs.declared.input.Input.TheVariants.{Answer as Told, Exit, Line, Spawned, Wake}
+use Rattle.sl_trace.specs.declared.input.Input.TheVariants.{Answer as Told, Exit, Line, Number, Spawned, Wake}
 use Rattle.sl_trace.specs.declared.input.Input.{Input}
 use Rattle.sl_words.proofs.CaseLaws.{none_some, one_value, some_value}
 use Rattle.std.proofs.Common.{ap, arith, inl, inr, refl, subst, sym, ◌∙◌}
@@ -112,6 +112,7 @@ entry_of i fx a = record { reading = reading_now a; input = i; effects = fx }
 
 steps_fine : (h : Header) (m : ℕ) (now : Stamp) (i : Input) (fx : Effects) (a : Machine) → AllFine h now.step m a → AllFine h (now.step + 1) m (after_step now i fx a)
 steps_fine h m now (Line text) fx a = entered h m (entry_of (Line text) fx a) now a (after_step now (Line text) fx a) refl refl
+steps_fine h m now (Number text) fx a = entered h m (entry_of (Number text) fx a) now a (after_step now (Number text) fx a) refl refl
 steps_fine h m now (Told n answer) fx a = entered h m (entry_of (Told n answer) fx a) now a (after_step now (Told n answer) fx a) refl refl
 steps_fine h m now Wake fx a = entered h m (entry_of Wake fx a) now a (after_step now Wake fx a) refl refl
 steps_fine h m now (Exit p) fx a = entered h m (entry_of (Exit p) fx a) now a (after_step now (Exit p) fx a) refl refl

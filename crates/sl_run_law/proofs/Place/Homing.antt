@@ -5,11 +5,12 @@ use Rattle.sl_run_law.specs.Landing.Landings.{HasWriter, IsWrittenBy}
 use Rattle.sl_law.specs.LawfulArea.{HasVerified, LawfulAreaWrite, is_delta_record, record_offset}
 use Rattle.sl_law.specs.LawfulLeader.{LawfulLeaderWrite}
 use Rattle.sl_leases.specs.Leases.{leader_of_record, leader_written, spot_of_call}
-use Rattle.sl_run_law.proofs.Place.Areas.{IsSized, base_around, lockspace_aligned, never_both, one_lockspace, one_resource, resource_aligned, same_base}
+use Rattle.sl_run_law.proofs.Place.Areas.{base_around, lockspace_aligned, never_both, one_lockspace, one_resource, resource_aligned, same_base}
 use Rattle.sl_run_law.proofs.Place.Leased.{IsLeased, verified_leased}
 use Rattle.sl_run_law.proofs.Place.Looks.{IsOwnDelta, delta_is_own}
 use Rattle.sl_run_law.proofs.Place.Reading.{IsPromised, IsTraced, call_law, owner_of, traced}
 use Rattle.sl_run_law.proofs.Place.Seats.{Delta_home, HomeBefore, IsHome, IsSeated, Lease_home, delta_within, given_seated, home_early, look_seated, sized_in}
+use Rattle.sl_run_law.proofs.Place.Sizes.{IsSized}
 use Rattle.sl_run_law.specs.Place.Homes.{In_lockspace, In_resource, IsAtHome, IsDeltaLanding, IsLeaseLanding, LockspacesHoldDeltas, NothingLandsElsewhere, ResourcesHoldLeases, WrittenBySession}
 use Rattle.sl_plain.proofs.Lists.{got_inside}
 use Rattle.sl_run.specs.Headers.{IsHeader}
@@ -246,7 +247,7 @@ at_home p h xs b run x there = by_smaller (HomeAt h (world_at p h xs)) (home_ste
 
 -- ---- what it says of areas
 
-of_lockspace : (h : Header) (w : World) → IsHeader h → IsSized w.layout → (l : LockspaceLine) → Contains h.lockspaces l → (x : Landing) → x.path ≡ l.path
+of_lockspace : (h : Header) (w : World) → IsHeader h → IsSized h.geometry w.layout → (l : LockspaceLine) → Contains h.lockspaces l → (x : Landing) → x.path ≡ l.path
     → IsTrue (in_area w.layout l.offset x.offset) → IsHome h w x → IsDeltaLanding w l x
 of_lockspace h w ok z l there x path inside (Delta_home k here way within landing) =
     let base = same_base w.layout k.offset l.offset x.offset z (lockspace_aligned h k ok here) (lockspace_aligned h l ok there) within inside in
@@ -260,7 +261,7 @@ pub lockspaces_hold_deltas_given : IsPromised → LockspacesHoldDeltas
 lockspaces_hold_deltas_given b p h xs run l there x landed path inside =
     of_lockspace h (world_at p h xs) run.header (sized_in p h xs run) l there x path inside (at_home p h xs b run x landed)
 
-of_resource : (h : Header) (w : World) → IsHeader h → IsSized w.layout → (r : ResourceLine) → Contains h.resources r → (x : Landing) → x.path ≡ r.path
+of_resource : (h : Header) (w : World) → IsHeader h → IsSized h.geometry w.layout → (r : ResourceLine) → Contains h.resources r → (x : Landing) → x.path ≡ r.path
     → IsTrue (in_area w.layout r.offset x.offset) → IsHome h w x → IsLeaseLanding w r x
 of_resource h w ok z r there x path inside (Delta_home l here way within landing) =
     let base = same_base w.layout l.offset r.offset x.offset z (lockspace_aligned h l ok here) (resource_aligned h r ok there) within inside in

@@ -2,9 +2,9 @@
 use Rattle.sl_area.specs.Layouts.{Layout, record_in}
 use Rattle.sl_area.specs.Places.{in_area, leader_of, sector_of}
 use Rattle.sl_run_law.specs.Course.Stamping.{stamp_in}
-use Rattle.sl_law.specs.Lawful.{Lawful}
+use Rattle.sl_law.specs.Lawful.{Orderly}
 use Rattle.sl_law.specs.LawfulArea.{HasVerified, IsRightRead, is_leader_read, leaders_read}
-use Rattle.sl_run_law.proofs.Place.Areas.{IsSized, base_aligned, resource_aligned, same_base, sector_fits}
+use Rattle.sl_run_law.proofs.Place.Areas.{base_aligned, resource_aligned, same_base}
 use Rattle.sl_run_law.proofs.Place.Beginnings.{In_lockspace, In_resource, IsInitial}
 use Rattle.sl_run_law.proofs.Place.Daemons.{daemons_are_fine, stamp_order}
 use Rattle.sl_run_law.proofs.Place.Finding.{given_by, same_text}
@@ -12,6 +12,7 @@ use Rattle.sl_run_law.proofs.Place.Looks.{Heard, heard}
 use Rattle.sl_run_law.proofs.Place.Reading.{IsPromised, IsShown, call_law, read_of, reads_back, sector_shown}
 use Rattle.sl_run_law.proofs.Place.Seats.{Delta_home, HomeBefore, IsHome, Lease_home, home_early, initial_in, sized_in}
 use Rattle.sl_leases.specs.Leases.{is_leader_of, is_on, spot_of_call}
+use Rattle.sl_run_law.proofs.Place.Sizes.{IsSized, sector_fits}
 use Rattle.sl_plain.proofs.Lists.{kept_inside}
 use Rattle.sl_plain.proofs.Numbers.{no_times_more}
 use Rattle.sl_run.specs.Events.{sectors_of}
@@ -84,7 +85,7 @@ base_read st at c SeeRequest h law = absurd (false_is_true h)
 base_read st at c (ValueWrite j) h law = absurd (false_is_true h)
 base_read st at c (ValueRead j) h law = absurd (false_is_true h)
 
-right_read : (st : Setting) (es : Trace) (s : Session) (q : Submitted) → Lawful st es → IsSession st es s → Contains (submitted es) q → q.call.session ≡ s.number
+right_read : (st : Setting) (es : Trace) (s : Session) (q : Submitted) → Orderly st es → IsSession st es s → Contains (submitted es) q → q.call.session ≡ s.number
     → is_leader_read q.call.purpose ≡ true → IsBaseRead (spot_of_call st.layout q) q
 right_read st es s q h its there mine reads =
     let d = calls_are_made es q there in
@@ -186,7 +187,7 @@ reads_some : (n k : ℕ) → k ≡ n → 0 < n → 0 < k
 reads_some n k e h = omega (arith, e, h)
 
 -- The resource's area, and that of the call, are the area of the read.
-same_areas : (h : Header) (w : World) (line : ResourceLine) (read call : ℕ) → IsHeader h → IsSized w.layout → Contains h.resources line → read ≡ read - read % w.layout.area
+same_areas : (h : Header) (w : World) (line : ResourceLine) (read call : ℕ) → IsHeader h → IsSized h.geometry w.layout → Contains h.resources line → read ≡ read - read % w.layout.area
     → IsTrue (in_area w.layout (call - call % w.layout.area) read) → IsTrue (in_area w.layout line.offset read) → call - call % w.layout.area ≡ line.offset
 same_areas h w line read call ok z there base on inside =
     same_base w.layout (call - call % w.layout.area) line.offset read z (base_aligned w.layout call z) (resource_aligned h line ok there) on inside
@@ -202,7 +203,7 @@ named g s resource l h =
     record { lockspace = same_text l.lockspace s.lockspace one.0; resource_is = same_text l.resource resource one.1 }
 
 -- What the read that was verified says of the call's area.
-leased_by : (h : Header) (w : World) (s : Session) (q rd : Submitted) (resource : List ℕ) (l : Leader) → IsHeader h → IsSized w.layout
+leased_by : (h : Header) (w : World) (s : Session) (q rd : Submitted) (resource : List ℕ) (l : Leader) → IsHeader h → IsSized h.geometry w.layout
     → IsLeaderPlace h w rd.call.path (rd.call.offset + 0 * w.layout.sector) l → rd.call.path ≡ q.call.path → rd.call.offset ≡ rd.call.offset - rd.call.offset % w.layout.area
     → IsTrue (in_area w.layout (q.call.offset - q.call.offset % w.layout.area) rd.call.offset) → AreNamed s resource l → IsLeased h w s q resource
 leased_by h w s q rd resource l ok z place path base on names =
@@ -218,13 +219,13 @@ leased_by h w s q rd resource l ok z place path base on names =
 
 -- A session that had verified the area of its call, where the landings before the call are at home.
 pub verified_leased : (p : Program) (h : Header) (xs : List Happening) → IsPromised → LawfulRun p h xs → (m : ℕ) (a : Machine) (d : Daemon) → machine_at (world_at p h xs) m ≡ Some a
-    → Contains (daemons_on a) d → Lawful d.setting d.trace → (s : Session) → IsSession d.setting d.trace s → (q : Submitted) (k : IsMade d.trace q) (made : Stamp)
+    → Contains (daemons_on a) d → Orderly d.setting d.trace → (s : Session) → IsSession d.setting d.trace s → (q : Submitted) (k : IsMade d.trace q) (made : Stamp)
     → stamp_in d.stamps q.at ≡ Some made → HomeBefore h (world_at p h xs) made.step → (resource : List ℕ)
     → HasVerified d.setting (front_of k) s (spot_of_call d.setting.layout (made_as k)) resource → IsLeased h (world_at p h xs) s q resource
 verified_leased p h xs b run m a d is has law s its q k made stamped home resource verified =
     let w : World = world_at p h xs in
     let layout : d.setting.layout ≡ w.layout = (b.of_world p h xs run m a d is has).layout in
-    let z : IsSized w.layout = sized_in p h xs run in
+    let z : IsSized h.geometry w.layout = sized_in p h xs run in
     let l : Leader = verified.0 in
     let rd = leader_read d.setting (front_of k) s (spot_of_call d.setting.layout (made_as k)) l verified.1 in
     let told : Heard d.trace s q.at rd.bytes rd.call = heard d.trace s q k rd.bytes rd.call rd.there rd.given in

@@ -1,7 +1,7 @@
 -- A session that writes its sector was given, or had looked at the sector before: its first read gave a record of its lockspace and id.
 use Rattle.sl_area.specs.Layouts.{record_in}
 use Rattle.sl_area.specs.Places.{is_base}
-use Rattle.sl_law.specs.Lawful.{Lawful}
+use Rattle.sl_law.specs.Lawful.{Orderly}
 use Rattle.sl_law.specs.LawfulDelta.{Gave, LawfulClaim, LawfulDeciding, LawfulDeltaCall, LawfulFirstRenewal, LawfulJoin, LawfulJoinStep, LawfulLook, LawfulVerify, is_on_own_sector}
 use Rattle.sl_run_law.proofs.Place.Finding.{place_is}
 use Rattle.sl_run_law.proofs.Place.Reading.{answer_gave, call_law}
@@ -29,7 +29,7 @@ use Rattle.sl_trace.specs.declared.effects.Op.{Op}
 use Rattle.sl_trace.specs.declared.effects.Purpose.TheVariants.{Joining, Lease, Leaving, Renewal, RequestRead, RequestWrite, SeeRequest, Survey, ValueRead, ValueWrite}
 use Rattle.sl_trace.specs.declared.effects.Purpose.{Purpose}
 use Rattle.sl_trace.specs.declared.input.Answer.{Answer}
-use Rattle.sl_trace.specs.declared.input.Input.TheVariants.{Answer as Told, Exit, Line, Spawned, Wake}
+use Rattle.sl_trace.specs.declared.input.Input.TheVariants.{Answer as Told, Exit, Line, Number, Spawned, Wake}
 use Rattle.sl_trace.specs.declared.input.Input.{Input}
 use Rattle.sl_words.proofs.CaseLaws.{false_is_true, no_value, none_some, some_value}
 use Rattle.std.proofs.Common.{ap, arith, inl, inr, refl, subst, sym, ◌∙◌}
@@ -63,6 +63,7 @@ told_below es e n w ms below m there a is =
 marked_below : (es : Trace) (e : Entry) (i : Input) (ms : List Submitted) → AnsweredBelow (length es) ms → AnsweredBelow (suc (length es)) (mark es e i ms)
 marked_below es e (Told n w) ms below m there a is = told_below es e n w ms below m there a is
 marked_below es e (Line text) ms below m there a is = less_than_suc a.at (length es) (below m there a is)
+marked_below es e (Number text) ms below m there a is = less_than_suc a.at (length es) (below m there a is)
 marked_below es e (Exit p) ms below m there a is = less_than_suc a.at (length es) (below m there a is)
 marked_below es e (Spawned p ok) ms below m there a is = less_than_suc a.at (length es) (below m there a is)
 marked_below es e Wake ms below m there a is = less_than_suc a.at (length es) (below m there a is)
@@ -179,7 +180,7 @@ at_own st s c h = place_is c.call.path c.call.offset s.path (own_offset st s) h
 joins_own : (j : ℕ) (step : JoinStep) (p : Purpose) → p ≡ Joining j step → IsTrue (is_delta_purpose p && not (is_survey_purpose p))
 joins_own j step p is = subst (λ x. IsTrue (is_delta_purpose x && not (is_survey_purpose x))) (sym is) refl
 
-lawfully : (st : Setting) (es : Trace) (s : Session) (at : ℕ) (step : JoinStep) → Lawful st es → IsSession st es s → (e : Earlier es s at step) → Lawfully st es s step e.call
+lawfully : (st : Setting) (es : Trace) (s : Session) (at : ℕ) (step : JoinStep) → Orderly st es → IsSession st es s → (e : Earlier es s at step) → Lawfully st es s step e.call
 lawfully st es s at step h its e =
     let w = calls_were_lawful st es s e.call h its e.inside e.mine in
     let p = joins_at step e.call.call.purpose e.step_is in
@@ -219,7 +220,7 @@ look_too st es s k at le l =
       names = l.names;
     }
 
-at_deciding : (st : Setting) (es : Trace) (s : Session) (at : ℕ) → Lawful st es → IsSession st es s → Earlier es s at DecidingRead → Look st es s at
+at_deciding : (st : Setting) (es : Trace) (s : Session) (at : ℕ) → Orderly st es → IsSession st es s → Earlier es s at DecidingRead → Look st es s at
 at_deciding st es s at h its e =
     let l = lawfully st es s at DecidingRead h its e in
     let law : LawfulDeciding st (front_of l.was.made) s (made_as l.was.made) = l.law in
@@ -237,20 +238,20 @@ at_deciding st es s at h its e =
       names = (law.spelled.1, law.spelled.2);
     })
 
-at_claim : (st : Setting) (es : Trace) (s : Session) (at : ℕ) → Lawful st es → IsSession st es s → Earlier es s at ClaimWrite → Look st es s at
+at_claim : (st : Setting) (es : Trace) (s : Session) (at : ℕ) → Orderly st es → IsSession st es s → Earlier es s at ClaimWrite → Look st es s at
 at_claim st es s at h its e =
     let l = lawfully st es s at ClaimWrite h its e in
     let law : LawfulClaim st (front_of l.was.made) s (made_as l.was.made) = l.law in
     at_deciding st es s at h its (earlier_too es s e.call.at at DecidingRead e.early (heard_step es s e.call l.was.made DecidingRead law.bytes law.read law.decided))
 
-at_verify : (st : Setting) (es : Trace) (s : Session) (at : ℕ) → Lawful st es → IsSession st es s → Earlier es s at VerifyRead → Look st es s at
+at_verify : (st : Setting) (es : Trace) (s : Session) (at : ℕ) → Orderly st es → IsSession st es s → Earlier es s at VerifyRead → Look st es s at
 at_verify st es s at h its e =
     let l = lawfully st es s at VerifyRead h its e in
     let law : LawfulVerify st (front_of l.was.made) s (made_as l.was.made) = l.law in
     at_claim st es s at h its
     (earlier_too es s e.call.at at ClaimWrite e.early (answered_step es s e.call l.was.made ClaimWrite law.claim law.answer law.claimed law.answered.0))
 
-at_first : (st : Setting) (es : Trace) (s : Session) (at : ℕ) → Lawful st es → IsSession st es s → Earlier es s at FirstRenewal → Look st es s at
+at_first : (st : Setting) (es : Trace) (s : Session) (at : ℕ) → Orderly st es → IsSession st es s → Earlier es s at FirstRenewal → Look st es s at
 at_first st es s at h its e =
     let l = lawfully st es s at FirstRenewal h its e in
     let law : LawfulFirstRenewal st (front_of l.was.made) s (made_as l.was.made) = l.law in
@@ -300,7 +301,7 @@ pub stands : (t : Trace) (s : Session) → stage_of t s ≡ Standing → (k : �
 stands t s h = stands_by (joined_after t s) (removed_after t s) (refused_after t s) (free_write (calls_of t s)) (calls_of t s) (ap is_standing h)
 
 -- A session of a command that had joined where it made a call had looked.
-at_joined : (st : Setting) (es : Trace) (s : Session) (m : Submitted) (d : IsMade es m) → Lawful st es → IsSession st es s → Contains (submitted es) m → m.call.session ≡ s.number
+at_joined : (st : Setting) (es : Trace) (s : Session) (m : Submitted) (d : IsMade es m) → Orderly st es → IsSession st es s → Contains (submitted es) m → m.call.session ≡ s.number
     → (j k : ℕ) → s.job ≡ Some j → joined_after (front_of d) s ≡ Some k → Look st es s m.at
 at_joined st es s m d h its there mine j k job joined =
     let t : Trace = d.entry ∷ d.past in
@@ -335,7 +336,7 @@ named_by l state generation seq now bitmap o dr is was =
     let same = some_value dr (delta_record l state generation seq now bitmap) (sym was ∙ is) in
     (ap (λ d. d.lockspace) same, ap (λ d. d.id) same)
 
-was_given : (st : Setting) (es : Trace) (s : Session) (m : Submitted) (d : IsMade es m) → Lawful st es → IsSession st es s → Contains (submitted es) m → m.call.session ≡ s.number
+was_given : (st : Setting) (es : Trace) (s : Session) (m : Submitted) (d : IsMade es m) → Orderly st es → IsSession st es s → Contains (submitted es) m → m.call.session ≡ s.number
     → stage_of (front_of d) s ≡ Standing → (o : Option ℕ) → s.job ≡ o → (s.job ≡ None) ⊎ Look st es s m.at
 was_given st es s m d h its there mine standing None job = inl job
 was_given st es s m d h its there mine standing (Some j) job =
@@ -355,7 +356,7 @@ itself : (es : Trace) (s : Session) (m : Submitted) (j : ℕ) (step : JoinStep) 
 itself es s m j step there mine is same =
     record { call = m; inside = there; mine = mine; step_is = ap (is_join_call step) is ∙ same; early = refl_le m.at }
 
-joining_delta : (st : Setting) (es : Trace) (s : Session) (m : Submitted) (dr : DeltaRec) (w : WasLawful st es s m) (j : ℕ) (step : JoinStep) → Lawful st es → IsSession st es s
+joining_delta : (st : Setting) (es : Trace) (s : Session) (m : Submitted) (dr : DeltaRec) (w : WasLawful st es s m) (j : ℕ) (step : JoinStep) → Orderly st es → IsSession st es s
     → Contains (submitted es) m → m.call.session ≡ s.number → m.call.purpose ≡ Joining j step → delta_written m ≡ Some dr
     → LawfulJoinStep st (front_of w.made) s (made_as w.made) step → IsOwnDelta st es s m dr
 joining_delta st es s m dr w j FirstRead h its there mine is writes law = absurd (reads_none m 1 dr law.reads writes)
@@ -372,7 +373,7 @@ joining_delta st es s m dr w j FirstRenewal h its there mine is writes law =
 no_delta : (m : Submitted) (dr : DeltaRec) → delta_written m ≡ None → delta_written m ≡ Some dr → ⊥
 no_delta m dr none some = none_some dr (sym none ∙ some)
 
-delta_by : (st : Setting) (es : Trace) (s : Session) (m : Submitted) (dr : DeltaRec) (w : WasLawful st es s m) → Lawful st es → IsSession st es s → Contains (submitted es) m
+delta_by : (st : Setting) (es : Trace) (s : Session) (m : Submitted) (dr : DeltaRec) (w : WasLawful st es s m) → Orderly st es → IsSession st es s → Contains (submitted es) m
     → m.call.session ≡ s.number → delta_written m ≡ Some dr → (p : Purpose) → m.call.purpose ≡ p → LawfulDeltaCall st (front_of w.made) s (made_as w.made) p → IsOwnDelta st es s m dr
 delta_by st es s m dr w h its there mine writes (Joining j step) is law = joining_delta st es s m dr w j step h its there mine is writes law
 delta_by st es s m dr w h its there mine writes Renewal is law =
@@ -389,7 +390,7 @@ delta_by st es s m dr w h its there mine writes SeeRequest is law = absurd (no_d
 delta_by st es s m dr w h its there mine writes (ValueWrite j) is law = absurd (no_delta m dr law writes)
 delta_by st es s m dr w h its there mine writes (ValueRead j) is law = absurd (no_delta m dr law writes)
 
-pub delta_is_own : (st : Setting) (es : Trace) (s : Session) (m : Submitted) (dr : DeltaRec) → Lawful st es → IsSession st es s → Contains (submitted es) m
+pub delta_is_own : (st : Setting) (es : Trace) (s : Session) (m : Submitted) (dr : DeltaRec) → Orderly st es → IsSession st es s → Contains (submitted es) m
     → m.call.session ≡ s.number → delta_written m ≡ Some dr → IsOwnDelta st es s m dr
 delta_is_own st es s m dr h its there mine writes =
     let w = calls_were_lawful st es s m h its there mine in

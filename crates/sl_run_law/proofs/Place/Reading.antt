@@ -6,8 +6,8 @@ use Rattle.sl_run_law.specs.Course.Promises.{CoursesAreCalls, CoursesHaveDaemons
 use Rattle.sl_run_law.specs.Course.Stamping.{AnswersAgree, IsAnsweredAs, IsCourseOf, courses_of, stamp_in}
 use Rattle.sl_run_law.proofs.Front.Having.{contains_append, in_flat}
 use Rattle.sl_run_law.specs.Landing.Landings.{IsWrittenBy, LandingsAreWritten, LeftBy}
-use Rattle.sl_law.proofs.LawFacts.{lawful-front}
-use Rattle.sl_law.specs.Lawful.{Lawful}
+use Rattle.sl_law.proofs.LawFacts.{orderly-front}
+use Rattle.sl_law.specs.Lawful.{Orderly}
 use Rattle.sl_run_law.proofs.Place.Finding.{finds, numbered_inside, partner, partner_of, place_is, same_read}
 use Rattle.sl_run_law.proofs.Place.Numbering.{session_number}
 use Rattle.sl_plain.proofs.Lists.{contains_cases, contains_none, find_inside, got_inside, kept, kept_inside, there_is}
@@ -61,14 +61,14 @@ layout_is p h xs = (run_goes (world_with p h) xs).layout
 
 -- ---- a call in its trace
 
-whole_of : (st : Setting) (es : Trace) (m : Submitted) (d : IsMade es m) → Lawful st es → Lawful st (d.later ++ d.entry ∷ d.past)
-whole_of st es m d h = subst (λ t. Lawful st t) d.whole h
+whole_of : (st : Setting) (es : Trace) (m : Submitted) (d : IsMade es m) → Orderly st es → Orderly st (d.later ++ d.entry ∷ d.past)
+whole_of st es m d h = subst (λ t. Orderly st t) d.whole h
 
 -- Each call is some session's.
-pub owner_of : (st : Setting) (es : Trace) (m : Submitted) → Lawful st es → Contains (submitted es) m → (s : Session) × IsSession st es s × (m.call.session ≡ s.number)
+pub owner_of : (st : Setting) (es : Trace) (m : Submitted) → Orderly st es → Contains (submitted es) m → (s : Session) × IsSession st es s × (m.call.session ≡ s.number)
 owner_of st es m h there =
     let d = calls_are_made es m there in
-    let here = lawful-front st d.later (d.entry ∷ d.past) (whole_of st es m d h) in
+    let here = orderly-front st d.later (d.entry ∷ d.past) (whole_of st es m d h) in
     let its = some_of (session_numbered st (d.entry ∷ d.past) m.call.session) (here.calls.0.owned m.call (got_inside d.entry.effects.calls d.index m.call d.call)) in
     let later : session_numbered st es m.call.session ≡ Some its.0 =
     subst (λ t. session_numbered st t m.call.session ≡ Some its.0) (sym d.whole) (sessions_stay st d.later (d.entry ∷ d.past) m.call.session its.0 its.1) in
@@ -76,19 +76,19 @@ owner_of st es m h there =
     (its.0, ap (λ n. session_numbered st es n) number ∙ later, sym number)
 
 -- A session's call where it was made: the laws of its entry speak of it.
-pub call_law : (st : Setting) (es : Trace) (s : Session) (m : Submitted) (d : IsMade es m) → Lawful st es → IsSession st es s → m.call.session ≡ s.number
-    → Lawful st (d.entry ∷ d.past) × (session_numbered st (d.entry ∷ d.past) m.call.session ≡ Some s)
+pub call_law : (st : Setting) (es : Trace) (s : Session) (m : Submitted) (d : IsMade es m) → Orderly st es → IsSession st es s → m.call.session ≡ s.number
+    → Orderly st (d.entry ∷ d.past) × (session_numbered st (d.entry ∷ d.past) m.call.session ≡ Some s)
 call_law st es s m d h its mine =
     let whole = whole_of st es m d h in (
-      lawful-front st d.later (d.entry ∷ d.past) whole,
+      orderly-front st d.later (d.entry ∷ d.past) whole,
       owned st d.later d.entry d.past s whole (subst (λ t. IsSession st t s) d.whole its) d.index m.call d.call mine,
     )
 
 -- What a call writes is a record.
-pub writes_record : (st : Setting) (es : Trace) (m : Submitted) (r : Rec) → Lawful st es → Contains (submitted es) m → record_of m.call.op ≡ Some r → IsRecord r
+pub writes_record : (st : Setting) (es : Trace) (m : Submitted) (r : Rec) → Orderly st es → Contains (submitted es) m → record_of m.call.op ≡ Some r → IsRecord r
 writes_record st es m r h there is =
     let d = calls_are_made es m there in
-    (lawful-front st d.later (d.entry ∷ d.past) (whole_of st es m d h)).calls.0.spelled m.call r (got_inside d.entry.effects.calls d.index m.call d.call) is
+    (orderly-front st d.later (d.entry ∷ d.past) (whole_of st es m d h)).calls.0.spelled m.call r (got_inside d.entry.effects.calls d.index m.call d.call) is
 
 -- ---- a machine's call in its daemon's trace
 
@@ -96,14 +96,14 @@ pub record IsTraced (a : Machine) (c : Course) : Type 0 where
   pub daemon : Daemon
   pub has : Contains (daemons_on a) daemon
   pub numbered : daemon_numbered a c.daemon ≡ Some daemon
-  pub lawful : Lawful daemon.setting daemon.trace
+  pub lawful : Orderly daemon.setting daemon.trace
   pub submitted_as : Submitted
   pub inside : Contains (submitted daemon.trace) submitted_as
   pub is : IsCourseOf daemon c submitted_as
 
 -- A daemon of a lawful run has a lawful trace.
 pub lawful_daemon : (p : Program) (h : Header) (xs : List Happening) → LawfulRun p h xs → (m : ℕ) (a : Machine) (d : Daemon) → machine_at (world_at p h xs) m ≡ Some a
-    → Contains (daemons_on a) d → Lawful d.setting d.trace
+    → Contains (daemons_on a) d → Orderly d.setting d.trace
 lawful_daemon p h xs run m a d at has =
     let w : World = world_at p h xs in
     run.lawful d (in_flat daemons_on w.machines a d (got_inside w.machines (m - 1) a (index w m a at).1) has)

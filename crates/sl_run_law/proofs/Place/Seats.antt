@@ -1,15 +1,16 @@
 -- Where a landing is at home, and where a session is: one that writes its sector has the area of its lockspace.
-use Rattle.sl_area.specs.Layouts.{Layout, record_in}
+use Rattle.sl_area.specs.Layouts.{Layout, Sizes, record_in}
 use Rattle.sl_area.specs.Places.{delta_offset, in_area, is_base, sector_of}
 use Rattle.sl_run_law.specs.Course.Stamping.{stamp_in}
 use Rattle.sl_law.specs.LawfulArea.{is_delta_record}
-use Rattle.sl_run_law.proofs.Place.Areas.{IsSized, is_base_aligned, is_within, lockspace_aligned, same_base, sector_fits, sized}
+use Rattle.sl_run_law.proofs.Place.Areas.{is_base_aligned, is_within, lockspace_aligned, same_base}
 use Rattle.sl_run_law.proofs.Place.Beginnings.{In_lockspace, In_resource, IsInitial, read_first}
 use Rattle.sl_run_law.proofs.Place.Daemons.{daemons_are_fine, stamp_order}
 use Rattle.sl_run_law.proofs.Place.Finding.{given_by, same_text}
 use Rattle.sl_run_law.proofs.Place.Looks.{Look}
 use Rattle.sl_run_law.proofs.Place.Numbering.{Of_command, Of_setting, Origin, origin_of}
 use Rattle.sl_run_law.proofs.Place.Reading.{IsPromised, IsShown, header_is, layout_is, one_sector, read_of, reads_back, sector_shown}
+use Rattle.sl_run_law.proofs.Place.Sizes.{IsSized, sector_fits, sector_has_bytes, sized, slot_below}
 use Rattle.sl_run_law.specs.Place.Homes.{IsDeltaLanding, IsLeaseLanding}
 use Rattle.sl_plain.proofs.Lists.{contains_none, find_inside}
 use Rattle.sl_plain.proofs.Numbers.{at_least_first, next_is_most, no_times_more, one_least}
@@ -59,8 +60,8 @@ pub record IsSeated (h : Header) (w : World) (s : Session) : Type 0 where
 
 -- ---- the layout of a run
 
-pub sized_in : (p : Program) (h : Header) (xs : List Happening) → LawfulRun p h xs → IsSized (world_at p h xs).layout
-sized_in p h xs run = subst IsSized (sym (layout_is p h xs)) (sized p.digest h.geometry run.header.geometry)
+pub sized_in : (p : Program) (h : Header) (xs : List Happening) → LawfulRun p h xs → IsSized h.geometry (world_at p h xs).layout
+sized_in p h xs run = subst (IsSized h.geometry) (sym (layout_is p h xs)) (sized p.digest h.geometry run.header.geometry)
 
 -- ---- a session that is given
 
@@ -129,14 +130,14 @@ given_seated p h xs run m a d at has s there none =
 
 -- ---- a session that had looked
 
-offset_high : (base id hosts : ℕ) → 1 ≤ id → id ≤ hosts → hosts ≤ 2000 → base + 512 * (id - 1) < base + 1048576
-offset_high base id hosts low high most = omega (arith, low, high, most)
+one_off : (id hosts : ℕ) → id ≤ hosts → id - 1 ≤ hosts + 2
+one_off id hosts high = omega (arith, high)
 
 -- A delta sector is in its area.
-pub delta_within : (g : Layout) (base id : ℕ) → IsSized g → 1 ≤ id → id ≤ g.hosts → IsTrue (in_area g base (delta_offset g base id))
+pub delta_within : {s : Sizes} (g : Layout) (base id : ℕ) → IsSized s g → 1 ≤ id → id ≤ g.hosts → IsTrue (in_area g base (delta_offset g base id))
 delta_within g base id z low high =
-    is_within g base (delta_offset g base id) z (at_least_first base (g.sector * (id - 1)))
-    (subst (λ n. base + n * (id - 1) < base + 1048576) (sym z.sector) (offset_high base id g.hosts low high z.hosts.1))
+    is_within g base (delta_offset g base id) (at_least_first base (g.sector * (id - 1)))
+    (slot_below g.sector base (id - 1) g.hosts g.area (sector_has_bytes g z) (one_off id g.hosts high) z.room)
 
 -- What a place that shows a delta record is.
 record IsDeltaPlace (h : Header) (w : World) (path : List ℕ) (offset : ℕ) (d : DeltaRec) : Type 0 where
@@ -225,7 +226,7 @@ shown_place p h xs b run path offset bytes n d home read s =
     ]
 
 -- Areas begin at bases, so a session whose sector is in the area of a line has its own area there.
-place_seats : (h : Header) (w : World) (s : Session) (path : List ℕ) (offset : ℕ) (d : DeltaRec) → IsHeader h → IsSized w.layout → s.offset % 1048576 ≡ 0 → path ≡ s.path
+place_seats : (h : Header) (w : World) (s : Session) (path : List ℕ) (offset : ℕ) (d : DeltaRec) → IsHeader h → IsSized h.geometry w.layout → s.offset % h.geometry.area ≡ 0 → path ≡ s.path
     → offset ≡ delta_offset w.layout s.offset s.id → (d.lockspace ≡ s.lockspace) × (d.id ≡ s.id) → IsDeltaPlace h w path offset d → IsSeated h w s
 place_seats h w s path offset d ok z base path_is place names k =
     let id : (1 ≤ s.id) × (s.id ≤ w.layout.hosts) = subst (λ n. (1 ≤ n) × (n ≤ w.layout.hosts)) names.1 k.id in

@@ -2,9 +2,10 @@
 use Rattle.sl_run_law.proofs.Course.Changing.{changed_here}
 use Rattle.sl_run_law.proofs.Course.Daemons.{every_each}
 use Rattle.sl_run_law.proofs.Landing.Arriving.{flight_there}
-use Rattle.sl_run.specs.Events.{add_landing, change_call, complete, done_input, fated, first_change, input_at, input_of, is_read_course, land_whole, machine_of, may_happen, ok_input, rest_sampled, sample_at, sampled_more, sectors_left, sectors_of, write_bytes}
+use Rattle.sl_plain.proofs.Options.{then_value}
+use Rattle.sl_run.specs.Events.{add_landing, change_call, complete, done_input, fated, first_change, if_running, input_at, input_of, is_read_course, land_whole, machine_of, may_happen, ok_input, rest_sampled, sample_at, sampled_more, sectors_left, sectors_of, write_bytes}
 use Rattle.sl_run.specs.Worlds.{Course, Landed, Machine, Sampling, World, change_machine, flight_of, is_in_flight, is_open, is_write_course, machine_at}
-use Rattle.sl_run.specs.declared.event.Event.TheVariants.{AnswerCall, Crash, Do, DropWrite, ExitOf, GiveCommand, Land, Pass, Reset, Restart, Sample, SpawnedOf, StartDaemon, Tear, Test, WakeUp}
+use Rattle.sl_run.specs.declared.event.Event.TheVariants.{AnswerCall, Crash, Do, DropWrite, ExitOf, GiveAsk, GiveCommand, GiveLvm, Land, Pass, Reset, Restart, Sample, SpawnedOf, StartDaemon, Tear, Test, WakeUp}
 use Rattle.sl_run.specs.declared.event.Event.{Event}
 use Rattle.sl_run_law.proofs.Answered.{flight_waits}
 use Rattle.sl_run_law.proofs.Fates.{found}
@@ -16,7 +17,7 @@ use Rattle.sl_trace.specs.Traces.{is_ok_answer}
 use Rattle.sl_trace.specs.declared.effects.Op.TheVariants.{ReadSectors, WriteRecord}
 use Rattle.sl_trace.specs.declared.effects.Op.{Op}
 use Rattle.sl_trace.specs.declared.input.Answer.TheVariants.{Failed, Read, Written}
-use Rattle.sl_trace.specs.declared.input.Input.TheVariants.{Answer as Told, Exit, Line, Spawned, Wake}
+use Rattle.sl_trace.specs.declared.input.Input.TheVariants.{Answer as Told, Exit, Line, Number, Spawned, Wake}
 use Rattle.sl_trace.specs.declared.input.Input.{Input}
 use Rattle.sl_words.proofs.CaseLaws.{false_is_true, none_some, not_both, one_value, some_value}
 use Rattle.sl_words.proofs.WordLaws.{choose_some}
@@ -42,6 +43,7 @@ HasAllIf n c = (c.call.number == n) ≡ true → HasAll c
 abbrev pub IsReady : Input → List Course → Type 0
 IsReady (Told n answer) cs = is_ok_answer answer ≡ true → Every (HasAllIf n) cs
 IsReady (Line text) cs = Unit {0}
+IsReady (Number text) cs = Unit {0}
 IsReady Wake cs = Unit {0}
 IsReady (Exit p) cs = Unit {0}
 IsReady (Spawned p ok) cs = Unit {0}
@@ -155,6 +157,9 @@ ready_at w (Do m c) a b i g sees may at is h =
     by_flight a c (done_input w) i b.calls (flight_of a c) refl h (λ f flight. done_ready w m c a b f g sees at flight is)
 ready_at w (WakeUp m) a b i g sees may at is h = no_answer (is_some a.daemon) Wake i b.calls h tt
 ready_at w (GiveCommand m text) a b i g sees may at is h = no_answer (is_some a.daemon) (Line text) i b.calls h tt
+ready_at w (GiveLvm m line) a b i g sees may at is h = no_answer (is_some a.daemon) (Number line) i b.calls h tt
+ready_at w (GiveAsk m) a b i g sees may at is h =
+    let x = then_value (λ text. if_running a (Line text)) a.locks.due i h in no_answer (is_some a.daemon) (Line x.0) i b.calls x.2 tt
 ready_at w (ExitOf m p) a b i g sees may at is h = no_answer (is_some a.daemon) (Exit p) i b.calls h tt
 ready_at w (SpawnedOf m p ok) a b i g sees may at is h = no_answer (is_some a.daemon) (Spawned p ok) i b.calls h tt
 ready_at w (Pass x growths) a b i g sees may at is h = absurd (none_some i h)

@@ -1,7 +1,8 @@
 -- Each place has a sector's bytes at moment 0, whatever the digest.
+use Rattle.sl_area.proofs.SizeLaws.{HasRoom, has_room}
 use Rattle.sl_area.specs.Layouts.{IsGeometry, Layout, Sizes, layout_with, sector_with}
 use Rattle.sl_area.specs.Places.{fresh_block, fresh_leader, in_area, no_request, no_value}
-use Rattle.sl_run_law.proofs.Landing.Initial.{block_high, block_low, fresh_block_is, is_size, lockspace_by, no_number, no_request_is, no_value_is, range_is}
+use Rattle.sl_run_law.proofs.Landing.Initial.{block_high, block_low, fresh_block_is, is_size, lockspace_by, no_number, no_request_is, no_value_is}
 use Rattle.sl_plain.proofs.Numbers.{both_next, zero_least, zero_less}
 use Rattle.sl_plain.proofs.Truth.{or_false}
 use Rattle.sl_run.specs.Headers.{IsHeader}
@@ -48,22 +49,9 @@ pub find_some : {X : Type 0} (p : X → Bool) (xs : List X) (x : X) → find p x
 find_some p [] x h = absurd (none_some x h)
 find_some p (y ∷ ys) x h = find_at p y ys x (p y) refl h (find_some p ys x)
 
--- ---- sizes
-
-record HasSizes (s : Sizes) : Type 0 where
-  pub sector : s.sector ≡ 512
-  pub hosts : (1 ≤ s.hosts) × (s.hosts ≤ 2000)
-
-has_sizes : (s : Sizes) → IsGeometry s → HasSizes s
-has_sizes s h =
-    let all = or_false (512 == s.sector && 1048576 == s.area && is_in_range 1 2000 s.hosts) h in
-    let first = and_true (512 == s.sector && 1048576 == s.area) (is_in_range 1 2000 s.hosts) all in
-    let one = and_true (512 == s.sector) (1048576 == s.area) first.0 in
-    record { sector = sym ((Decides-eqb 512 s.sector).0 one.0); hosts = range_is s.hosts first.1 }
-
 -- ---- the records
 
-fresh_leader_is : (digest : List ℕ → List ℕ) (s : Sizes) (space name : List ℕ) → HasSizes s → IsTrue (is_name space) → IsTrue (is_name name) → IsLeader (fresh_leader (layout_with digest s) space name)
+fresh_leader_is : (digest : List ℕ → List ℕ) (s : Sizes) (space name : List ℕ) → HasRoom s → IsTrue (is_name space) → IsTrue (is_name name) → IsLeader (fresh_leader (layout_with digest s) space name)
 fresh_leader_is digest s space name sizes a b =
     record {
       hosts = sizes.hosts;
@@ -83,11 +71,11 @@ resource_by : (digest : List ℕ → List ℕ) (h : Header) (l : ResourceLine) (
     else (if block then Some (BlockIs (fresh_block (k - 1)))
     else choose last (ValueIs no_value)))) ≡ Some r → IsRecord r
 resource_by digest h l k true request block last r a b c ok space name eq =
-    subst IsRecord (some_value _ r eq) (fresh_leader_is digest h.geometry l.lockspace l.name (has_sizes h.geometry ok.geometry) space name)
+    subst IsRecord (some_value _ r eq) (fresh_leader_is digest h.geometry l.lockspace l.name (has_room h.geometry ok.geometry) space name)
 resource_by digest h l k false true block last r a b c ok space name eq = subst IsRecord (some_value (RequestIs no_request) r eq) no_request_is
 resource_by digest h l k false false true last r a b c ok space name eq =
     subst IsRecord (some_value (BlockIs (fresh_block (k - 1))) r eq)
-    (fresh_block_is (k - 1) (block_low k a b) (block_high k h.geometry.hosts c (has_sizes h.geometry ok.geometry).hosts.1))
+    (fresh_block_is (k - 1) (block_low k a b) (block_high k h.geometry.hosts c (has_room h.geometry ok.geometry).hosts.1))
 resource_by digest h l k false false false true r a b c ok space name eq = subst IsRecord (some_value (ValueIs no_value) r eq) no_value_is
 resource_by digest h l k false false false false r a b c ok space name eq = absurd (none_some r eq)
 

@@ -3,7 +3,7 @@ use Rattle.sl_run_law.proofs.Course.Daemons.{every_each}
 use Rattle.sl_plain.proofs.Numbers.{at_least_first, refl_le, trans_le}
 use Rattle.sl_run.specs.Events.{add_landing, after_crash, after_effects, after_pass, after_reset, after_restart, after_start, after_step, after_test, change_call, fated, first_change, flight_at, land_whole, next_step, sampled_more, sectors_left, take_step, torn_bytes, write_bytes}
 use Rattle.sl_run.specs.Worlds.{Course, Dropped, Landed, Landing, Machine, Torn, World, change_machine, is_in_flight, is_write_course, machine_at, stamp_now}
-use Rattle.sl_run.specs.declared.event.Event.TheVariants.{AnswerCall, Crash, Do, DropWrite, ExitOf, GiveCommand, Land, Pass, Reset, Restart, Sample, SpawnedOf, StartDaemon, Tear, Test, WakeUp}
+use Rattle.sl_run.specs.declared.event.Event.TheVariants.{AnswerCall, Crash, Do, DropWrite, ExitOf, GiveAsk, GiveCommand, GiveLvm, Land, Pass, Reset, Restart, Sample, SpawnedOf, StartDaemon, Tear, Test, WakeUp}
 use Rattle.sl_run.specs.declared.event.Event.{Event}
 use Rattle.sl_run_law.specs.Fates.{Every}
 use Rattle.sl_run_law.proofs.Sample.Numbering.{every_front}
@@ -122,6 +122,8 @@ unfolding first_change
 first_onward (Pass d growths) w = time_passes d growths w
 first_onward (WakeUp m) w = onward_still w
 first_onward (GiveCommand m text) w = onward_still w
+first_onward (GiveLvm m line) w = onward_still w
+first_onward (GiveAsk m) w = onward_still w
 first_onward (Sample m c k) w = onward_changed m (change_call c (sampled_more w k)) w
 first_onward (Land m c) w = lands m c w
 first_onward (Tear m c k bytes) w = torn_by m c k bytes w (flight_at w m c)

@@ -15,7 +15,7 @@ use Rattle.sl_trace.specs.Traces.{is_ok_answer}
 use Rattle.sl_trace.specs.declared.effects.Call.{Call}
 use Rattle.sl_trace.specs.declared.effects.Effects.{Effects}
 use Rattle.sl_trace.specs.declared.input.Answer.{Answer}
-use Rattle.sl_trace.specs.declared.input.Input.TheVariants.{Answer as Told, Exit, Line, Spawned, Wake}
+use Rattle.sl_trace.specs.declared.input.Input.TheVariants.{Answer as Told, Exit, Line, Number, Spawned, Wake}
 use Rattle.sl_trace.specs.declared.input.Input.{Input}
 use Rattle.sl_words.proofs.CaseLaws.{false_is_true, none_some, some_value}
 use Rattle.std.proofs.Common.{arith, refl, subst, sym}
@@ -86,6 +86,7 @@ closed_keeps : (v u : World) (now : Stamp) (i : Input) (a : Machine) → StepOve
     → Every (Sees u) (close_answered now i a).calls
 closed_keeps v u now (Told n answer) a o step moment ready h = answered_keeps v u now n answer a (is_ok_answer answer) refl o step moment ready h
 closed_keeps v u now (Line text) a o step moment ready h = all_later v u a.calls o.onward h
+closed_keeps v u now (Number text) a o step moment ready h = all_later v u a.calls o.onward h
 closed_keeps v u now Wake a o step moment ready h = all_later v u a.calls o.onward h
 closed_keeps v u now (Exit p) a o step moment ready h = all_later v u a.calls o.onward h
 closed_keeps v u now (Spawned p ok) a o step moment ready h = all_later v u a.calls o.onward h

@@ -1,6 +1,6 @@
 -- A session that isn't joined comes to need its connection by an entry that registers it.
-use Rattle.sl_law.proofs.LawFacts.{lawful-front}
-use Rattle.sl_law.specs.Lawful.{Lawful}
+use Rattle.sl_law.proofs.LawFacts.{orderly-front}
+use Rattle.sl_law.specs.Lawful.{Orderly}
 use Rattle.sl_law.specs.LawfulDelta.{LawfulDeltaCall}
 use Rattle.sl_law.specs.LawfulWatchdog.{is_covered}
 use Rattle.sl_law.specs.Saying.{cut_at}
@@ -28,7 +28,7 @@ use Rattle.sl_trace.specs.declared.effects.Move.{Move}
 use Rattle.sl_trace.specs.declared.effects.Purpose.TheVariants.{RequestRead, RequestWrite, Joining, Lease, Leaving, Renewal, SeeRequest, Survey, ValueRead, ValueWrite}
 use Rattle.sl_trace.specs.declared.effects.Purpose.{Purpose}
 use Rattle.sl_trace.specs.declared.input.Answer.{Answer}
-use Rattle.sl_trace.specs.declared.input.Input.TheVariants.{Answer as Told, Exit, Line, Spawned, Wake}
+use Rattle.sl_trace.specs.declared.input.Input.TheVariants.{Answer as Told, Exit, Line, Number, Spawned, Wake}
 use Rattle.sl_trace.specs.declared.input.Input.{Input}
 use Rattle.sl_run_law.proofs.Watchdog.Finding.{OpenWrite, call_inside, call_owner, open_write, the_open_write}
 use Rattle.sl_run_law.proofs.Watchdog.Standing.{covered_open, older_call}
@@ -81,6 +81,7 @@ pub covered_marked : (es : Trace) (e : Entry) (i : Input) (ms : List Submitted) 
 covered_marked es e (Told n a) [] h = h
 covered_marked es e (Told n a) (m ∷ ms) h = covered_told es e m a (m.call.number == n) h
 covered_marked es e (Line text) ms h = h
+covered_marked es e (Number text) ms h = h
 covered_marked es e (Exit p) ms h = h
 covered_marked es e (Spawned p ok) ms h = h
 covered_marked es e Wake ms h = h
@@ -128,7 +129,7 @@ new_covered st e past k s c (ValueRead j) law stage none h = absurd (false_is_tr
 abbrev WasCovered : Trace → Session → Trace → Type 0
 WasCovered past s t = is_covered_stage (stage_in (calls_of t s)) ≡ true → is_covered_stage (stage_in (calls_of past s)) ≡ true
 
-covered_call : (st : Setting) (e : Entry) (past : Trace) (s : Session) → Lawful st (e ∷ past) → IsSession st (e ∷ past) s → joined_after (e ∷ past) s ≡ None → refused_after (e ∷ past) s ≡ None
+covered_call : (st : Setting) (e : Entry) (past : Trace) (s : Session) → Orderly st (e ∷ past) → IsSession st (e ∷ past) s → joined_after (e ∷ past) s ≡ None → refused_after (e ∷ past) s ≡ None
     → list_any (registers s.lockspace) e.effects.moves ≡ false → (k : ℕ) (c : Call) → slice_get e.effects.calls k ≡ Some c → (b : Bool) → (c.session == s.number) ≡ b
     → WasCovered past s (cut_at k e ∷ past) → WasCovered past s (cut_at (suc k) e ∷ past)
 covered_call st e past s h its none refused quiet k c at false other before is =
@@ -142,7 +143,7 @@ covered_call st e past s h its none refused quiet k c at true mine before is =
     (open_stage (joined_after t s) (removed_after t s) (refused_after t s) (free_write (calls_of t s)) (stage_in (calls_of t s)) none refused) quiet
     (ap (λ ms. is_covered_stage (stage_in ms)) (sym (mine_next past e s k c at mine)) ∙ is))
 
-covered_entry : (st : Setting) (e : Entry) (past : Trace) (s : Session) → Lawful st (e ∷ past) → IsSession st (e ∷ past) s → joined_after (e ∷ past) s ≡ None → refused_after (e ∷ past) s ≡ None
+covered_entry : (st : Setting) (e : Entry) (past : Trace) (s : Session) → Orderly st (e ∷ past) → IsSession st (e ∷ past) s → joined_after (e ∷ past) s ≡ None → refused_after (e ∷ past) s ≡ None
     → list_any (registers s.lockspace) e.effects.moves ≡ false → WasCovered past s (e ∷ past)
 covered_entry st e past s h its none refused quiet =
     to_all (WasCovered past s) e past
@@ -164,7 +165,7 @@ pub refused_before : (e : Entry) (past : Trace) (s : Session) (o : Option ℕ) �
 refused_before e past s None is none = refl
 refused_before e past s (Some k) is none = absurd (no_value k (refused_after (e ∷ past) s) (refused_more e past s k is) none)
 
-pub by_joining : (st : Setting) (e : Entry) (past : Trace) (s : Session) → Lawful st (e ∷ past) → IsSession st (e ∷ past) s → joined_after (e ∷ past) s ≡ None → refused_after (e ∷ past) s ≡ None
+pub by_joining : (st : Setting) (e : Entry) (past : Trace) (s : Session) → Orderly st (e ∷ past) → IsSession st (e ∷ past) s → joined_after (e ∷ past) s ≡ None → refused_after (e ∷ past) s ≡ None
     → is_covered_stage (stage_in (calls_of past s)) ≡ true → WasSo st past s
 by_joining st e past s h its none refused is =
     let m = some_call (calls_of past s) is in
@@ -180,14 +181,14 @@ by_joining st e past s h its none refused is =
 abbrev ended_by : Option ℕ → Option ℕ → Option ℕ → Option ℕ
 ended_by joined removed refused = elim joined [ Some k ↦ removed | None ↦ refused ]
 
-pub by_write : (st : Setting) (e : Entry) (past : Trace) (s : Session) (k : ℕ) → Lawful st (e ∷ past) → IsSession st (e ∷ past) s → joined_after (e ∷ past) s ≡ None
+pub by_write : (st : Setting) (e : Entry) (past : Trace) (s : Session) (k : ℕ) → Orderly st (e ∷ past) → IsSession st (e ∷ past) s → joined_after (e ∷ past) s ≡ None
     → refused_after (e ∷ past) s ≡ Some k → (u : OpenWrite (e ∷ past) s) → Contains (mark past e e.input (submitted past)) u.call ⊎ IsNewCall (length past) e.reading e.effects.calls u.call
     → WasSo st past s
 by_write st e past s k h its none refused u (inl old) =
     let w = older_call st e past s u.call h its old u.mine in
     let number = ap (λ c. c.session) (sym w.call) ∙ u.mine in
     let waits = open_write past s w.before (call_inside past s w.before w.inside number) (w.unmet u.waits) (ap (λ c. is_write c.op) (sym w.call) ∙ u.writes) in
-    record { its = w.its; covered = covered_open st past s (lawful-front st (e ∷ []) past h) w.its waits }
+    record { its = w.its; covered = covered_open st past s (orderly-front st (e ∷ []) past h) w.its waits }
 by_write st e past s k h its none refused u (inr new) =
     let t : Trace = cut_at new.index e ∷ past in
     absurd (true_is_false (sym (h.calls.0.alive new.index u.call.call s new.call (ap (λ n. session_numbered st (e ∷ past) n) u.mine ∙ its))
@@ -200,7 +201,7 @@ covered_stage_by None removed (Some k) free joining none h = absurd (false_is_tr
 covered_stage_by None removed None free joining none h = (refl, h)
 
 -- Where no entry registers its name, a session that isn't joined and needs its connection needed it before.
-pub was_covered : (st : Setting) (e : Entry) (past : Trace) (s : Session) → Lawful st (e ∷ past) → IsSession st (e ∷ past) s → joined_after (e ∷ past) s ≡ None
+pub was_covered : (st : Setting) (e : Entry) (past : Trace) (s : Session) → Orderly st (e ∷ past) → IsSession st (e ∷ past) s → joined_after (e ∷ past) s ≡ None
     → is_covered (e ∷ past) s ≡ true → list_any (registers s.lockspace) e.effects.moves ≡ false → WasSo st past s
 was_covered st e past s h its none is quiet =
     let t : Trace = e ∷ past in

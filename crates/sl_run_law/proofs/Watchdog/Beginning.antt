@@ -2,6 +2,7 @@
 use Rattle.sl_area.specs.Layouts.{Layout, layout_with}
 use Rattle.sl_run_law.proofs.Moment.Beginning.{all_are}
 use Rattle.sl_plain.proofs.Lists.{contains_none}
+use Rattle.sl_run.specs.Locks.{fresh_locks}
 use Rattle.sl_run.specs.Worlds.{Daemon, Machine, Program, clock_reading, first_numbers, first_stamp, given_of, machine_at, machine_of_header, new_daemon, setting_of, world_with}
 use Rattle.sl_run.specs.declared.header.Header.{Header}
 use Rattle.sl_run.specs.declared.header.LockspaceLine.{LockspaceLine}
@@ -79,6 +80,7 @@ begins_by : (p : Program) (g : Layout) (h : Header) (m : ℕ) (o : Option Sessio
   calls = [];
   holdings = [];
   resets = [];
+  locks = fresh_locks h;
 })
 begins_by p g h m None timing =
     record {

@@ -1,6 +1,6 @@
 -- What keeps the reading of the last keepalive below that until which a session may act.
-use Rattle.sl_law.proofs.LawFacts.{lawful-front}
-use Rattle.sl_law.specs.Lawful.{Lawful}
+use Rattle.sl_law.proofs.LawFacts.{orderly-front}
+use Rattle.sl_law.specs.Lawful.{Orderly}
 use Rattle.sl_law.specs.LawfulWatchdog.{acts_until, is_covered}
 use Rattle.sl_plain.proofs.Lists.{contains_first, contains_more, find_inside, got_inside}
 use Rattle.sl_trace_law.proofs.Sessions.Joining.{joined_before}
@@ -89,7 +89,7 @@ pub registered_by : (e : Entry) (past : Trace) (name : List ℕ) (b : Bool) → 
     → last_registering (e ∷ past) name ≡ elim b as (λ x. ℕ) [ true ↦ e.reading | false ↦ last_registering past name ]
 registered_by e past name b is = ap (λ t. elim t as (λ x. ℕ) [ true ↦ e.reading | false ↦ last_registering past name ]) is
 
-joining_fresh : (st : Setting) (e : Entry) (past : Trace) (s : Session) (r : ℕ) → Lawful st (e ∷ past) → IsSession st (e ∷ past) s → is_covered (e ∷ past) s ≡ true → 0 < fail st.timing
+joining_fresh : (st : Setting) (e : Entry) (past : Trace) (s : Session) (r : ℕ) → Orderly st (e ∷ past) → IsSession st (e ∷ past) s → is_covered (e ∷ past) s ≡ true → 0 < fail st.timing
     → r ≤ e.reading → IsFresh st past s r → joined_after (e ∷ past) s ≡ None → (b : Bool) → list_any (registers s.lockspace) e.effects.moves ≡ b → r < acts_until st (e ∷ past) s
 joining_fresh st e past s r h its is some now before none true at =
     let until = acts_joining st (e ∷ past) s none in
@@ -103,7 +103,7 @@ joining_fresh st e past s r h its is some now before none false at =
     let old = before w.its w.covered in
     omega (arith, until, last, then, old)
 
-joined_fresh : (st : Setting) (e : Entry) (past : Trace) (s : Session) (r k : ℕ) → Lawful st (e ∷ past) → IsSession st (e ∷ past) s → is_covered (e ∷ past) s ≡ true
+joined_fresh : (st : Setting) (e : Entry) (past : Trace) (s : Session) (r k : ℕ) → Orderly st (e ∷ past) → IsSession st (e ∷ past) s → is_covered (e ∷ past) s ≡ true
     → IsFresh st past s r → joined_after (e ∷ past) s ≡ Some k → (o : Option ℕ) → joined_after past s ≡ o → r < acts_until st (e ∷ past) s
 joined_fresh st e past s r k h its is before joined (Some j) was =
     let here = was_session st e past s k h its joined in
@@ -114,7 +114,7 @@ joined_fresh st e past s r k h its is before joined (Some j) was =
     omega (arith, until, then, old, grows)
 joined_fresh st e past s r k h its is before joined None was =
     let here = was_session st e past s k h its joined in
-    let front = lawful-front st (e ∷ []) past h in
+    let front = orderly-front st (e ∷ []) past h in
     let j = joins_now st e past s k h its was joined in
     let u = j.unmet in
     let covered = covered_open st past s front here (open_write past s j.renewal (call_inside past s j.renewal u.inside u.mine) u.waits u.writes) in
@@ -125,14 +125,14 @@ joined_fresh st e past s r k h its is before joined None was =
     let counts = j.counts in
     omega (arith, until, then, old, after, counts)
 
-entry_fresh : (st : Setting) (e : Entry) (past : Trace) (s : Session) (r : ℕ) → Lawful st (e ∷ past) → 0 < fail st.timing → r ≤ e.reading → IsFresh st past s r
+entry_fresh : (st : Setting) (e : Entry) (past : Trace) (s : Session) (r : ℕ) → Orderly st (e ∷ past) → 0 < fail st.timing → r ≤ e.reading → IsFresh st past s r
     → (o : Option ℕ) → joined_after (e ∷ past) s ≡ o → IsFresh st (e ∷ past) s r
 entry_fresh st e past s r h some now before None none its is =
     joining_fresh st e past s r h its is some now before none (list_any (registers s.lockspace) e.effects.moves) refl
 entry_fresh st e past s r h some now before (Some k) joined its is = joined_fresh st e past s r k h its is before joined (joined_after past s) refl
 
 -- An entry leaves each connection unexpired.
-pub stays_fresh : (st : Setting) (e : Entry) (past : Trace) (s : Session) (r : ℕ) → Lawful st (e ∷ past) → 0 < fail st.timing → r ≤ e.reading → IsFresh st past s r
+pub stays_fresh : (st : Setting) (e : Entry) (past : Trace) (s : Session) (r : ℕ) → Orderly st (e ∷ past) → 0 < fail st.timing → r ≤ e.reading → IsFresh st past s r
     → IsFresh st (e ∷ past) s r
 stays_fresh st e past s r h some now before = entry_fresh st e past s r h some now before (joined_after (e ∷ past) s) refl
 
@@ -171,7 +171,7 @@ given_connected t (x ∷ gs) (suc n) g at =
     contains_more (given_connection t x) (map (given_connection t) gs) (given_connection t g) (given_connected t gs n g at)
 
 -- A test that holds finds each connection unexpired.
-pub test_finds : (st : Setting) (es : Trace) (s : Session) (now : ℕ) → Lawful st es → test_holds (connections st es) now ≡ true → IsFresh st es s now
+pub test_finds : (st : Setting) (es : Trace) (s : Session) (now : ℕ) → Orderly st es → test_holds (connections st es) now ≡ true → IsFresh st es s now
 test_finds st [] s now h holds its is =
     let g = given_one st s.number s its in
     let early = unexpired (connections st []) now (given_connection st.timing g.0) holds (given_connected st.timing st.given s.number g.0 g.1) in

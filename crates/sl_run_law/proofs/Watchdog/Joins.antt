@@ -1,6 +1,6 @@
 -- A session joins by the answer of its first renewal: from that entry on the renewal counts.
-use Rattle.sl_law.proofs.LawFacts.{lawful-front}
-use Rattle.sl_law.specs.Lawful.{Lawful}
+use Rattle.sl_law.proofs.LawFacts.{orderly-front}
+use Rattle.sl_law.specs.Lawful.{Orderly}
 use Rattle.sl_plain.proofs.Lists.{contains_cases, contains_first, contains_more, contains_none, find_inside, got_inside}
 use Rattle.sl_trace_law.proofs.Sessions.Joining.{joined_before}
 use Rattle.sl_trace_law.proofs.Sessions.Making.{SameCall, old_or_new, same_answered}
@@ -18,7 +18,7 @@ use Rattle.sl_trace.specs.declared.effects.Purpose.TheVariants.{RequestRead, Req
 use Rattle.sl_trace.specs.declared.effects.Purpose.{Purpose}
 use Rattle.sl_trace.specs.declared.input.Answer.TheVariants.{Written}
 use Rattle.sl_trace.specs.declared.input.Answer.{Answer}
-use Rattle.sl_trace.specs.declared.input.Input.TheVariants.{Answer as Told, Exit, Line, Spawned, Wake}
+use Rattle.sl_trace.specs.declared.input.Input.TheVariants.{Answer as Told, Exit, Line, Number, Spawned, Wake}
 use Rattle.sl_trace.specs.declared.input.Input.{Input}
 use Rattle.sl_run_law.proofs.Watchdog.Finding.{call_owner}
 use Rattle.sl_run_law.proofs.Watchdog.Numbering.{call_found, given_first, given_later}
@@ -91,6 +91,7 @@ brought_told past e n w (x ∷ ms) m a i there h =
 brought_in : (past : Trace) (e : Entry) (i : Input) (ms : List Submitted) (m : Submitted) (a : Answered) → e.input ≡ i → Contains (mark past e i ms) m → m.answer ≡ Some a → Brought past e ms m a
 brought_in past e (Told n w) ms m a is there h = brought_told past e n w ms m a is there h
 brought_in past e (Line text) ms m a is there h = inl (record { before = m; inside = there; was = h })
+brought_in past e (Number text) ms m a is there h = inl (record { before = m; inside = there; was = h })
 brought_in past e (Exit p) ms m a is there h = inl (record { before = m; inside = there; was = h })
 brought_in past e (Spawned p ok) ms m a is there h = inl (record { before = m; inside = there; was = h })
 brought_in past e Wake ms m a is there h = inl (record { before = m; inside = there; was = h })
@@ -178,7 +179,7 @@ record FirstDone (t : Trace) (s : Session) (k : ℕ) : Type 0 where
   ok : answer.answer ≡ Written
   place : answer.at + 1 ≡ k
 
-first_done : (st : Setting) (e : Entry) (past : Trace) (s : Session) (j k : ℕ) → Lawful st (e ∷ past) → IsSession st (e ∷ past) s → s.job ≡ Some j → joined_after (e ∷ past) s ≡ Some k
+first_done : (st : Setting) (e : Entry) (past : Trace) (s : Session) (j k : ℕ) → Orderly st (e ∷ past) → IsSession st (e ∷ past) s → s.job ≡ Some j → joined_after (e ∷ past) s ≡ Some k
     → FirstDone (e ∷ past) s k
 first_done st e past s j k h its job joined =
     let l = h.delta.0.joins s (got_inside (sessions st (e ∷ past)) s.number s its) j k job joined in
@@ -196,14 +197,14 @@ first_done st e past s j k h its job joined =
     }
 
 -- A session that has joined had begun before.
-was_by : (st : Setting) (e : Entry) (past : Trace) (s : Session) (k : ℕ) → Lawful st (e ∷ past) → IsSession st (e ∷ past) s → joined_after (e ∷ past) s ≡ Some k
+was_by : (st : Setting) (e : Entry) (past : Trace) (s : Session) (k : ℕ) → Orderly st (e ∷ past) → IsSession st (e ∷ past) s → joined_after (e ∷ past) s ≡ Some k
     → (job : Option ℕ) → s.job ≡ job → IsSession st past s
 was_by st e past s k h its joined None job = given_later st past s.number s (given_first st (e ∷ past) s.number s its job)
 was_by st e past s k h its joined (Some j) job =
     let f = first_done st e past s j k h its job joined in
     (older_call st e past s f.call h its (brought past e f.call f.answer f.inside f.answered).0 f.mine).its
 
-pub was_session : (st : Setting) (e : Entry) (past : Trace) (s : Session) (k : ℕ) → Lawful st (e ∷ past) → IsSession st (e ∷ past) s → joined_after (e ∷ past) s ≡ Some k → IsSession st past s
+pub was_session : (st : Setting) (e : Entry) (past : Trace) (s : Session) (k : ℕ) → Orderly st (e ∷ past) → IsSession st (e ∷ past) s → joined_after (e ∷ past) s ≡ Some k → IsSession st past s
 was_session st e past s k h its joined = was_by st e past s k h its joined s.job refl
 
 -- ---- no recovery before
@@ -266,7 +267,7 @@ counts_by st past s e m is (Stays none same) = absurd (no_value m (renewal_in st
 counts_by st past s e m is (Counts n in_it told_is now) =
     now ∙ ap (λ (x : Submitted). x.reading) (one_value n m (renewal_in st past s e) in_it is)
 
-now_by : (st : Setting) (e : Entry) (past : Trace) (s : Session) (k : ℕ) → Lawful st (e ∷ past) → joined_after past s ≡ None → k ≡ length past + 1 → (f : FirstDone (e ∷ past) s k)
+now_by : (st : Setting) (e : Entry) (past : Trace) (s : Session) (k : ℕ) → Orderly st (e ∷ past) → joined_after past s ≡ None → k ≡ length past + 1 → (f : FirstDone (e ∷ past) s k)
     → Brought past e (submitted past) f.call f.answer → JoinsNow st past s e
 now_by st e past s k h none at f (inl b) =
     let r = answered_within past b.before f.answer b.inside b.was in
@@ -287,7 +288,7 @@ now_by st e past s k h none at f (inr b) =
       counts = counts_by st past s e b.before entry (next_renewal st past s e);
     }
 
-pub joins_now : (st : Setting) (e : Entry) (past : Trace) (s : Session) (k : ℕ) → Lawful st (e ∷ past) → IsSession st (e ∷ past) s → joined_after past s ≡ None
+pub joins_now : (st : Setting) (e : Entry) (past : Trace) (s : Session) (k : ℕ) → Orderly st (e ∷ past) → IsSession st (e ∷ past) s → joined_after past s ≡ None
     → joined_after (e ∷ past) s ≡ Some k → JoinsNow st past s e
 joins_now st e past s k h its none joined =
     let j = job_of_joining past s none in
@@ -303,12 +304,12 @@ still_entry : (now : Option Submitted) (before : Option ℕ) → is_some before 
 still_entry None before h = h
 still_entry (Some m) before h = refl
 
-pub has_renewal : (st : Setting) (es : Trace) (s : Session) (j k : ℕ) → Lawful st es → IsSession st es s → s.job ≡ Some j → joined_after es s ≡ Some k
+pub has_renewal : (st : Setting) (es : Trace) (s : Session) (j k : ℕ) → Orderly st es → IsSession st es s → s.job ≡ Some j → joined_after es s ≡ Some k
     → is_some (renewal_entry st es s) ≡ true
 has_renewal st [] s j k h its job joined = absurd (none_some k (sym (ap (joined_with []) job) ∙ joined))
 has_renewal st (e ∷ past) s j k h its job joined =
     has_by (joined_after past s) refl
-    (λ i was. has_renewal st past s j i (lawful-front st (e ∷ []) past h) (was_session st e past s k h its joined) job was)
+    (λ i was. has_renewal st past s j i (orderly-front st (e ∷ []) past h) (was_session st e past s k h its joined) job was)
   where
     has_by : (o : Option ℕ) → joined_after past s ≡ o → ((i : ℕ) → joined_after past s ≡ Some i → is_some (renewal_entry st past s) ≡ true) → is_some (renewal_entry st (e ∷ past) s) ≡ true
     has_by (Some i) is more = still_entry (renewal_in st past s e) (renewal_entry st past s) (more i is)

@@ -5,7 +5,7 @@ use Rattle.sl_run_law.specs.Course.Promises.{DaemonsAreOfWorld, EntriesAreStampe
 use Rattle.sl_run_law.specs.Course.Stamping.{IsStamped}
 use Rattle.sl_run_law.proofs.Front.Going.{settled_later}
 use Rattle.sl_run_law.proofs.Front.Having.{in_flat}
-use Rattle.sl_law.specs.Lawful.{Lawful}
+use Rattle.sl_law.specs.Lawful.{Orderly}
 use Rattle.sl_run_law.specs.Moment.Moments.{StampsDrift, point_of, stamps_on}
 use Rattle.sl_plain.proofs.Lists.{got_inside}
 use Rattle.sl_run.specs.Runs.{Happening}
@@ -30,7 +30,7 @@ pub record RestsOn : Type 0 where
 pub record IsKnown (t : TimingNumbers) (a : Machine) : Type 0 where
   pub mirrors : Mirrors a
   pub settled : IsSettled a
-  pub lawful : (d : Daemon) → Contains (daemons_on a) d → Lawful d.setting d.trace
+  pub lawful : (d : Daemon) → Contains (daemons_on a) d → Orderly d.setting d.trace
   pub timing : (d : Daemon) → Contains (daemons_on a) d → d.setting.timing ≡ t
   pub stamped : (d : Daemon) → Contains (daemons_on a) d → IsStamped d
   pub drift : (s r : Stamp) → Contains (stamps_on a) s → Contains (stamps_on a) r → s.step ≤ r.step → Precedes t.rho (point_of s) (point_of r)

@@ -12,7 +12,7 @@ use Rattle.sl_trace.specs.declared.effects.Entry.{Entry}
 use Rattle.sl_trace.specs.declared.effects.JoinStep.TheVariants.{FirstRead}
 use Rattle.sl_trace.specs.declared.input.Answer.{Answer}
 use Rattle.sl_trace.specs.declared.input.Given.{Given}
-use Rattle.sl_trace.specs.declared.input.Input.TheVariants.{Answer as Told, Exit, Line, Spawned, Wake}
+use Rattle.sl_trace.specs.declared.input.Input.TheVariants.{Answer as Told, Exit, Line, Number, Spawned, Wake}
 use Rattle.sl_trace.specs.declared.input.Input.{Input}
 use Rattle.sl_run_law.proofs.Watchdog.Finding.{numbers_apart}
 use Rattle.sl_words.proofs.CaseLaws.{none_some, some_value}
@@ -128,6 +128,7 @@ counted_marked : (es : Trace) (e : Entry) (i : Input) (first : ℕ) (ms : List S
     → AreCounted first (mark es e i ms) × (length (mark es e i ms) ≡ length ms)
 counted_marked es e (Told n a) first ms h = counted_told es e n a first ms h
 counted_marked es e (Line text) first ms h = (h, refl)
+counted_marked es e (Number text) first ms h = (h, refl)
 counted_marked es e (Exit p) first ms h = (h, refl)
 counted_marked es e (Spawned p ok) first ms h = (h, refl)
 counted_marked es e Wake first ms h = (h, refl)

@@ -3,8 +3,8 @@ use Rattle.sl_clocks.specs.Watchdog.{Connected, Lately_reset}
 use Rattle.sl_run_law.specs.Course.Mirrors.{AreNumbered, since_restart}
 use Rattle.sl_run_law.specs.Course.Promises.{CoursesAreCalls, CoursesHaveDaemons, DaemonsAreOfWorld, EntriesAreStamped, MachinesMirror}
 use Rattle.sl_run_law.specs.Course.Stamping.{AnswersAgree, AreCalls, IsCourseOf, Pairwise, courses_of}
-use Rattle.sl_law.proofs.LawFacts.{lawful-front}
-use Rattle.sl_law.specs.Lawful.{Lawful}
+use Rattle.sl_law.proofs.LawFacts.{orderly-front}
+use Rattle.sl_law.specs.Lawful.{Orderly}
 use Rattle.sl_run_law.specs.Moment.Moments.{StampsDrift, point_of}
 use Rattle.sl_plain.proofs.Lists.{any_found, contains_cases, contains_first, contains_more, contains_none, find_inside, got_inside, kept}
 use Rattle.sl_plain.proofs.Options.{mapped_value, none_is, some_of, then_value}
@@ -187,11 +187,11 @@ writers_may_act_given calls mirror stamped of_world drift = writers (record { mi
 -- ---- writes in flight
 
 -- A call of a lawful trace is some session's.
-session_of_call : (st : Setting) (es : Trace) (m : Submitted) → Lawful st es → Contains (submitted es) m → (s : Session) × (session_numbered st es m.call.session ≡ Some s)
+session_of_call : (st : Setting) (es : Trace) (m : Submitted) → Orderly st es → Contains (submitted es) m → (s : Session) × (session_numbered st es m.call.session ≡ Some s)
 session_of_call st es m h there =
     let d = calls_are_made es m there in
-    let whole : Lawful st (d.later ++ d.entry ∷ d.past) = subst (λ x. Lawful st x) d.whole h in
-    let law = lawful-front st d.later (d.entry ∷ d.past) whole in
+    let whole : Orderly st (d.later ++ d.entry ∷ d.past) = subst (λ x. Orderly st x) d.whole h in
+    let law = orderly-front st d.later (d.entry ∷ d.past) whole in
     let s = some_of (session_numbered st (d.entry ∷ d.past) m.call.session) (law.calls.0.owned m.call (got_inside d.entry.effects.calls d.index m.call d.call)) in
     (s.0, subst (λ x. session_numbered st x m.call.session ≡ Some s.0) (sym d.whole) (sessions_stay st d.later (d.entry ∷ d.past) m.call.session s.0 s.1))
 

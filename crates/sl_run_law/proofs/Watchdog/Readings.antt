@@ -11,7 +11,7 @@ use Rattle.sl_trace.specs.Traces.{IsTrace, Setting, Submitted, Trace, call_numbe
 use Rattle.sl_trace.specs.declared.effects.Entry.{Entry}
 use Rattle.sl_trace.specs.declared.input.Answer.TheVariants.{Failed, Read, Written}
 use Rattle.sl_trace.specs.declared.input.Given.{Given}
-use Rattle.sl_trace.specs.declared.input.Input.TheVariants.{Answer as Told, Exit, Line, Spawned, Wake}
+use Rattle.sl_trace.specs.declared.input.Input.TheVariants.{Answer as Told, Exit, Line, Number, Spawned, Wake}
 use Rattle.sl_trace.specs.declared.input.Input.{Input}
 use Rattle.sl_run_law.specs.Watchdog.Acting.{renewal_in, renewal_told}
 use Rattle.sl_run_law.proofs.Watchdog.Numbering.{begun_is, either_place, given_one}
@@ -90,6 +90,7 @@ told es s (Told n Written) m h = told_by es s n m (call_numbered es n) refl h
 told es s (Told n (Read bytes)) m h = absurd (none_some m h)
 told es s (Told n Failed) m h = absurd (none_some m h)
 told es s (Line text) m h = absurd (none_some m h)
+told es s (Number text) m h = absurd (none_some m h)
 told es s (Exit p) m h = absurd (none_some m h)
 told es s (Spawned p ok) m h = absurd (none_some m h)
 told es s Wake m h = absurd (none_some m h)
@@ -108,6 +109,7 @@ same_told es s (Told n Written) = same_told_by s (call_numbered es n)
 same_told es s (Told n (Read bytes)) = refl
 same_told es s (Told n Failed) = refl
 same_told es s (Line text) = refl
+same_told es s (Number text) = refl
 same_told es s (Exit p) = refl
 same_told es s (Spawned p ok) = refl
 same_told es s Wake = refl

@@ -1,6 +1,6 @@
 -- Renewals: one is open at a time, so the last that counts moves on.
-use Rattle.sl_law.proofs.LawFacts.{lawful-front}
-use Rattle.sl_law.specs.Lawful.{Lawful}
+use Rattle.sl_law.proofs.LawFacts.{orderly-front}
+use Rattle.sl_law.specs.Lawful.{Orderly}
 use Rattle.sl_law.specs.Saying.{cut_at}
 use Rattle.sl_plain.proofs.Lists.{contains_cases, contains_none, got_inside}
 use Rattle.sl_trace_law.proofs.Sessions.Growing.{mine_marked, mine_next, other_next, to_all}
@@ -56,7 +56,7 @@ one_by x ms m n one alone (inr a) (inr b) p q none unmet = one m n a b p q none 
 one_next : (x : Submitted) (ms : List Submitted) → OneOpen ms → (is_delta_purpose x.call.purpose ≡ true → NoneOpen ms) → OneOpen (x ∷ ms)
 one_next x ms one alone m n a b p q none unmet = one_by x ms m n one alone (contains_cases x ms m a) (contains_cases x ms n b) p q none unmet
 
-one_call : (st : Setting) (e : Entry) (past : Trace) (s : Session) → Lawful st (e ∷ past) → ((x : Session) → session_numbered st (e ∷ past) s.number ≡ Some x → x ≡ s)
+one_call : (st : Setting) (e : Entry) (past : Trace) (s : Session) → Orderly st (e ∷ past) → ((x : Session) → session_numbered st (e ∷ past) s.number ≡ Some x → x ≡ s)
     → (k : ℕ) (c : Call) → slice_get e.effects.calls k ≡ Some c → (b : Bool) → (c.session == s.number) ≡ b → OneOpen (calls_of (cut_at k e ∷ past) s) → OneOpen (calls_of (cut_at (suc k) e ∷ past) s)
 one_call st e past s h same k c at false other one = subst OneOpen (sym (other_next past e s k c at other)) one
 one_call st e past s h same k c at true mine one =
@@ -67,13 +67,13 @@ one_call st e past s h same k c at true mine one =
     (one_next (new_call (length past) e.reading c) (calls_of (cut_at k e ∷ past) s) one
     (λ is m there p none. true_is_false (sym (open_delta (cut_at k e ∷ past) s m there none p) ∙ h.delta.0.alone k c s at its is)))
 
-one_open : (st : Setting) (es : Trace) (s : Session) → Lawful st es → ((x : Session) → session_numbered st es s.number ≡ Some x → x ≡ s) → OneOpen (calls_of es s)
+one_open : (st : Setting) (es : Trace) (s : Session) → Orderly st es → ((x : Session) → session_numbered st es s.number ≡ Some x → x ≡ s) → OneOpen (calls_of es s)
 one_open st [] s h same = λ m n a b p q none unmet. absurd (contains_none m a)
 one_open st (e ∷ past) s h same =
     to_all (λ t. OneOpen (calls_of t s)) e past
     (subst OneOpen (sym (mine_marked past e s))
     (one_marked past (cut_at 0 e) (calls_of past s)
-    (one_open st past s (lawful-front st (e ∷ []) past h) (λ x at. same x (session_more st e past s.number x at)))))
+    (one_open st past s (orderly-front st (e ∷ []) past h) (λ x at. same x (session_more st e past s.number x at)))))
     (λ k c at one. one_call st e past s h same k c at (c.session == s.number) refl one)
 
 -- ---- the renewal that an entry answers
@@ -102,7 +102,7 @@ pub record IsOpenRenewal (es : Trace) (s : Session) (m : Submitted) : Type 0 whe
   pub waits : m.answer ≡ None
   pub writes : is_write m.call.op ≡ true
 
-pub told_is_open : (st : Setting) (e : Entry) (past : Trace) (s : Session) (m : Submitted) → Lawful st (e ∷ past) → renewal_told past s e.input ≡ Some m → IsOpenRenewal past s m
+pub told_is_open : (st : Setting) (e : Entry) (past : Trace) (s : Session) (m : Submitted) → Orderly st (e ∷ past) → renewal_told past s e.input ≡ Some m → IsOpenRenewal past s m
 told_is_open st e past s m h is =
     let w = told past s e.input m is in
     let asked = answered_call st past e w.number Written h.is_trace w.told in
@@ -117,16 +117,16 @@ told_is_open st e past s m h is =
 
 -- ---- an open renewal came after the last that counts
 
-renewed_by_next : (st : Setting) (e : Entry) (past : Trace) (s : Session) (m b : Submitted) → Lawful st (e ∷ past) → IsSession st past s → Contains (submitted past) b → b.call.session ≡ s.number
+renewed_by_next : (st : Setting) (e : Entry) (past : Trace) (s : Session) (m b : Submitted) → Orderly st (e ∷ past) → IsSession st past s → Contains (submitted past) b → b.call.session ≡ s.number
     → is_renewal b.call.purpose ≡ true → b.answer ≡ None → m.reading ≡ b.reading → last_renewal st past s ≤ b.reading → NextRenewal st past s e → last_renewal st (e ∷ past) s ≤ m.reading
 renewed_by_next st e past s m b h its there mine renews waits same before (Stays none is) = omega (arith, same, before, is)
 renewed_by_next st e past s m b h its there mine renews waits same before (Counts n is told_is now) =
     let o = told_is_open st e past s n h told_is in
-    let one = one_open st past s (lawful-front st (e ∷ []) past h) (λ x at. one_value x s (session_numbered st past s.number) at its) n b (call_inside past s n o.inside o.mine)
+    let one = one_open st past s (orderly-front st (e ∷ []) past h) (λ x at. one_value x s (session_numbered st past s.number) at its) n b (call_inside past s n o.inside o.mine)
     (call_inside past s b there mine) (delta_by n.call.purpose o.renews) (delta_by b.call.purpose renews) o.waits waits in
     omega (arith, same, one, now)
 
-pub renewed_after : (st : Setting) (es : Trace) (s : Session) (m : Submitted) → Lawful st es → IsSession st es s → Contains (submitted es) m → m.call.session ≡ s.number
+pub renewed_after : (st : Setting) (es : Trace) (s : Session) (m : Submitted) → Orderly st es → IsSession st es s → Contains (submitted es) m → m.call.session ≡ s.number
     → is_renewal m.call.purpose ≡ true → m.answer ≡ None → last_renewal st es s ≤ m.reading
 renewed_after st [] s m h its there mine renews waits = absurd (contains_none m there)
 renewed_after st (e ∷ past) s m h its there mine renews waits =
@@ -139,17 +139,17 @@ renewed_after st (e ∷ past) s m h its there mine renews waits =
           let w = older_call st e past s m h its old mine in
           let number = ap (λ c. c.session) (sym w.call) ∙ mine in
           let also = ap (λ c. is_renewal c.purpose) (sym w.call) ∙ renews in
-          let before = renewed_after st past s w.before (lawful-front st (e ∷ []) past h) w.its w.inside number also (w.unmet waits) in
+          let before = renewed_after st past s w.before (orderly-front st (e ∷ []) past h) w.its w.inside number also (w.unmet waits) in
           renewed_by_next st e past s m w.before h w.its w.inside number also (w.unmet waits) w.reading before (next_renewal st past s e)
     ]
 
-grows_by : (st : Setting) (e : Entry) (past : Trace) (s : Session) → Lawful st (e ∷ past) → IsSession st past s → NextRenewal st past s e → last_renewal st past s ≤ last_renewal st (e ∷ past) s
+grows_by : (st : Setting) (e : Entry) (past : Trace) (s : Session) → Orderly st (e ∷ past) → IsSession st past s → NextRenewal st past s e → last_renewal st past s ≤ last_renewal st (e ∷ past) s
 grows_by st e past s h its (Stays none is) = omega (arith, is)
 grows_by st e past s h its (Counts n is told_is now) =
     let o = told_is_open st e past s n h told_is in
-    let before = renewed_after st past s n (lawful-front st (e ∷ []) past h) its o.inside o.mine o.renews o.waits in
+    let before = renewed_after st past s n (orderly-front st (e ∷ []) past h) its o.inside o.mine o.renews o.waits in
     omega (arith, before, now)
 
 -- The last renewal that counts moves on.
-pub renewal_grows : (st : Setting) (e : Entry) (past : Trace) (s : Session) → Lawful st (e ∷ past) → IsSession st past s → last_renewal st past s ≤ last_renewal st (e ∷ past) s
+pub renewal_grows : (st : Setting) (e : Entry) (past : Trace) (s : Session) → Orderly st (e ∷ past) → IsSession st past s → last_renewal st past s ≤ last_renewal st (e ∷ past) s
 renewal_grows st e past s h its = grows_by st e past s h its (next_renewal st past s e)

@@ -1,8 +1,8 @@
 -- The stamp from which a session's connection counts, and its reading.
 use Rattle.sl_run_law.proofs.Course.Matching.{newest_stamp, stamp_stays}
 use Rattle.sl_run_law.specs.Course.Stamping.{IsStampOf, IsStamped, Pairwise, stamp_in}
-use Rattle.sl_law.proofs.LawFacts.{lawful-front}
-use Rattle.sl_law.specs.Lawful.{Lawful}
+use Rattle.sl_law.proofs.LawFacts.{orderly-front}
+use Rattle.sl_law.specs.Lawful.{Orderly}
 use Rattle.sl_law.specs.LawfulWatchdog.{acts_until, is_covered}
 use Rattle.sl_plain.proofs.Lists.{contains_first, contains_more, contains_none, find_inside}
 use Rattle.sl_run.specs.Worlds.{Daemon, Stamp}
@@ -123,13 +123,13 @@ renewal_none st (e ∷ es) x is = by (next_renewal st es x e) (λ rest. renewal_
 
 -- ---- a covered session that isn't joined has registered
 
-has_registered : (st : Setting) (es : Trace) (s : Session) → Lawful st es → IsSession st es s → joined_after es s ≡ None → is_covered es s ≡ true
+has_registered : (st : Setting) (es : Trace) (s : Session) → Orderly st es → IsSession st es s → joined_after es s ≡ None → is_covered es s ≡ true
     → (i : ℕ) × (registering_entry es s.lockspace ≡ Some i)
 has_registered st [] s h its none is = absurd (nothing_covered s none is)
 has_registered st (e ∷ past) s h its none is =
     by (list_any (registers s.lockspace) e.effects.moves) refl
     (λ quiet. let w = was_covered st e past s h its none is quiet in
-    has_registered st past s (lawful-front st (e ∷ []) past h) w.its (joined_before e past s (joined_after past s) refl none) w.covered)
+    has_registered st past s (orderly-front st (e ∷ []) past h) w.its (joined_before e past s (joined_after past s) refl none) w.covered)
   where
     by : (b : Bool) → list_any (registers s.lockspace) e.effects.moves ≡ b → (list_any (registers s.lockspace) e.effects.moves ≡ false → (i : ℕ) × (registering_entry past s.lockspace ≡ Some i))
         → (i : ℕ) × (registering_entry (e ∷ past) s.lockspace ≡ Some i)
@@ -158,7 +158,7 @@ stamp_for d joined renewal registering =
 abbrev pub GivenNow : Daemon → Type 0
 GivenNow d = (n : ℕ) (g : Given) → slice_get d.setting.given n ≡ Some g → g.renewed ≡ reading_of d.begun.clock
 
-counts_joined : (d : Daemon) (s : Session) (k : ℕ) → IsStamped d → Lawful d.setting d.trace → IsSession d.setting d.trace s → GivenNow d → joined_after d.trace s ≡ Some k
+counts_joined : (d : Daemon) (s : Session) (k : ℕ) → IsStamped d → Orderly d.setting d.trace → IsSession d.setting d.trace s → GivenNow d → joined_after d.trace s ≡ Some k
     → (o : Option ℕ) → renewal_entry d.setting d.trace s ≡ o → CountsFrom d s
 counts_joined d s k stamped h its given joined (Some i) is =
     let r = renewal_stamp d.setting d.stamps d.trace s i stamped is in
@@ -186,7 +186,7 @@ counts_joined d s k stamped h its given joined None is =
     no_job None job = job
     no_job (Some j) job = absurd (false_is_true (sym (ap (λ o. is_some o) is) ∙ has_renewal d.setting d.trace s j k h its job joined))
 
-counts_by : (d : Daemon) (s : Session) → IsStamped d → Lawful d.setting d.trace → IsSession d.setting d.trace s → GivenNow d → is_covered d.trace s ≡ true
+counts_by : (d : Daemon) (s : Session) → IsStamped d → Orderly d.setting d.trace → IsSession d.setting d.trace s → GivenNow d → is_covered d.trace s ≡ true
     → (o : Option ℕ) → joined_after d.trace s ≡ o → CountsFrom d s
 counts_by d s stamped h its given is (Some k) joined = counts_joined d s k stamped h its given joined (renewal_entry d.setting d.trace s) refl
 counts_by d s stamped h its given is None none =
@@ -200,5 +200,5 @@ counts_by d s stamped h its given is None none =
       until = ap (λ n. n + fail d.setting.timing) r.shows ∙ sym (acts_joining d.setting d.trace s none);
     }
 
-pub counts_from : (d : Daemon) (s : Session) → IsStamped d → Lawful d.setting d.trace → IsSession d.setting d.trace s → GivenNow d → is_covered d.trace s ≡ true → CountsFrom d s
+pub counts_from : (d : Daemon) (s : Session) → IsStamped d → Orderly d.setting d.trace → IsSession d.setting d.trace s → GivenNow d → is_covered d.trace s ≡ true → CountsFrom d s
 counts_from d s stamped h its given is = counts_by d s stamped h its given is (joined_after d.trace s) refl

@@ -1,6 +1,6 @@
 -- A session's connection stands while a write of it is unanswered, and nothing registers its name meanwhile.
-use Rattle.sl_law.proofs.LawFacts.{lawful-front}
-use Rattle.sl_law.specs.Lawful.{Lawful}
+use Rattle.sl_law.proofs.LawFacts.{orderly-front}
+use Rattle.sl_law.specs.Lawful.{Orderly}
 use Rattle.sl_law.specs.LawfulWatchdog.{is_covered}
 use Rattle.sl_plain.proofs.Lists.{contains_none, got_inside}
 use Rattle.sl_trace_law.proofs.Sessions.Covering.{by_stage, covered_in}
@@ -25,7 +25,7 @@ use Rattle.std.specs.Prelude.{Bool, Contains, List, None, [], false, is_some, le
 -- ---- covered
 
 -- The connection of a session with an open write must stand.
-pub covered_open : (st : Setting) (es : Trace) (s : Session) → Lawful st es → IsSession st es s → has_open_write es s ≡ true → is_covered es s ≡ true
+pub covered_open : (st : Setting) (es : Trace) (s : Session) → Orderly st es → IsSession st es s → has_open_write es s ≡ true → is_covered es s ≡ true
 covered_open st es s h its waits =
     ap (λ w. is_covered_stage (stage_of es s) || is_some (refused_after es s) && w) waits
     ∙ by_stage (joined_after es s) (removed_after es s) (refused_after es s) (free_write (calls_of es s)) (stage_in (calls_of es s)) (not_removed st es s h its waits)
@@ -43,7 +43,7 @@ any_less p q (m ∷ ms) h = any_two (p m) (q m) (list_any p ms) (list_any (λ x.
     any_two false false c d h rest = rest h
 
 -- While its connection must stand, no entry registers its name.
-pub not_registered : (st : Setting) (e : Entry) (past : Trace) (s : Session) → Lawful st (e ∷ past) → IsSession st past s → is_covered past s ≡ true → is_covered (e ∷ past) s ≡ true
+pub not_registered : (st : Setting) (e : Entry) (past : Trace) (s : Session) → Orderly st (e ∷ past) → IsSession st past s → is_covered past s ≡ true → is_covered (e ∷ past) s ≡ true
     → list_any (registers s.lockspace) e.effects.moves ≡ false
 not_registered st e past s h its was is =
     any_less (registers s.lockspace) (unregisters s.lockspace) e.effects.moves (h.watchdog.0.lasting s (got_inside (sessions st past) s.number s its) was is)
@@ -61,7 +61,7 @@ pub record WasThere (st : Setting) (past : Trace) (s : Session) (m : Submitted) 
   pub its : IsSession st past s
 
 -- An older call of a session: it was there, and the session too.
-pub older_call : (st : Setting) (e : Entry) (past : Trace) (s : Session) (m : Submitted) → Lawful st (e ∷ past) → IsSession st (e ∷ past) s
+pub older_call : (st : Setting) (e : Entry) (past : Trace) (s : Session) (m : Submitted) → Orderly st (e ∷ past) → IsSession st (e ∷ past) s
     → Contains (mark past e e.input (submitted past)) m → m.call.session ≡ s.number → WasThere st past s m
 older_call st e past s m h its there mine =
     let w = was_marked past e e.input (submitted past) m there in
@@ -85,7 +85,7 @@ registering_kept true now before r h le = absurd (true_is_false h)
 registering_kept false now before r h le = le
 
 -- An open write of a session was submitted after the last registering of its name.
-pub written_after : (st : Setting) (es : Trace) (s : Session) (m : Submitted) → Lawful st es → IsSession st es s → Contains (submitted es) m → m.call.session ≡ s.number
+pub written_after : (st : Setting) (es : Trace) (s : Session) (m : Submitted) → Orderly st es → IsSession st es s → Contains (submitted es) m → m.call.session ≡ s.number
     → m.answer ≡ None → is_write m.call.op ≡ true → last_registering es s.lockspace ≤ m.reading
 written_after st [] s m h its there mine waits writes = absurd (contains_none m there)
 written_after st (e ∷ past) s m h its there mine waits writes =
@@ -93,7 +93,7 @@ written_after st (e ∷ past) s m h its there mine waits writes =
       | inr new ↦ let r = new.reading_is in let below = registering_reading st (e ∷ past) s.lockspace h.is_trace in omega (arith, r, below)
       | inl old ↦
           let w = older_call st e past s m h its old mine in
-          let front = lawful-front st (e ∷ []) past h in
+          let front = orderly-front st (e ∷ []) past h in
           let number = ap (λ c. c.session) (sym w.call) ∙ mine in
           let wrote = ap (λ c. is_write c.op) (sym w.call) ∙ writes in
           let was = covered_open st past s front w.its (open_write past s w.before (call_inside past s w.before w.inside number) (w.unmet waits) wrote) in

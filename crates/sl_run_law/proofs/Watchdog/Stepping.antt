@@ -1,8 +1,9 @@
 -- A step of a machine's daemon, or of the machine itself, leaves it watched.
 use Rattle.sl_run_law.specs.Course.Mirrors.{AreNumbered, since_restart}
-use Rattle.sl_law.specs.Lawful.{Lawful}
+use Rattle.sl_law.specs.Lawful.{Orderly}
 use Rattle.sl_plain.proofs.Lists.{contains_cases, contains_first, contains_none, kept_inside}
 use Rattle.sl_run.specs.Events.{after_effects, after_step, daemon_number, new_course, with_entry}
+use Rattle.sl_run.specs.Locks.{Locks}
 use Rattle.sl_run.specs.Worlds.{Course, Daemon, Machine, Stamp, daemons_on, may_land, reading_now, resets_after}
 use Rattle.sl_run_law.proofs.Tracking.{told}
 use Rattle.sl_time.specs.Times.{IsTiming, TimingNumbers, fail, reading_of}
@@ -12,7 +13,7 @@ use Rattle.sl_trace.specs.declared.effects.Call.{Call}
 use Rattle.sl_trace.specs.declared.effects.Effects.{Effects}
 use Rattle.sl_trace.specs.declared.effects.Entry.{Entry}
 use Rattle.sl_trace.specs.declared.effects.Grant.{Grant}
-use Rattle.sl_trace.specs.declared.input.Input.TheVariants.{Answer as Told, Exit, Line, Spawned, Wake}
+use Rattle.sl_trace.specs.declared.input.Input.TheVariants.{Answer as Told, Exit, Line, Number, Spawned, Wake}
 use Rattle.sl_trace.specs.declared.input.Input.{Input}
 use Rattle.sl_run_law.proofs.Watchdog.Changing.{if_changed, told_goes}
 use Rattle.sl_run_law.proofs.Watchdog.Freshness.{IsFresh, some_fail, stays_fresh}
@@ -70,7 +71,7 @@ pub record IsStepping (t : TimingNumbers) (step : ℕ) (b : Machine) (d : Daemon
   pub used : b.used ≡ true
   pub now_is : now.step ≡ step
   pub reading : e.reading ≡ reading_of b.clock
-  pub lawful : Lawful d.setting (e ∷ d.trace)
+  pub lawful : Orderly d.setting (e ∷ d.trace)
   pub some : 0 < fail d.setting.timing
   pub apart : (x : Daemon) → Contains b.ended x → x.number ≡ d.number → ⊥
 
@@ -140,32 +141,50 @@ each_of_step b d now calls cs runs each c there =
       | inr new ↦ inr (new.0, new.1 ∙ ap (λ o. option_map_or (λ (x : Daemon). x.number) o 0) runs)
     ]
 
-stepped : (t : TimingNumbers) (moment step : ℕ) (b : Machine) (d : Daemon) (i : Input) (fx : Effects) (now : Stamp) (cs : List Course) → IsStepping t step b d (entry_of i fx b) now
+-- Nothing is said of lvmlockd's locks.
+locks_keep : (t : TimingNumbers) (moment step : ℕ) (b : Machine) (locks : Locks) → IsWatched t moment step b → IsWatched t moment step (record b { locks = locks })
+locks_keep t moment step b locks w =
+    record {
+      past = w.past;
+      fires = w.fires;
+      resets = w.resets;
+      made = w.made;
+      lately = w.lately;
+      given = w.given;
+      fresh = w.fresh;
+      lost = w.lost;
+    }
+
+stepped : (t : TimingNumbers) (moment step : ℕ) (b : Machine) (d : Daemon) (i : Input) (fx : Effects) (now : Stamp) (cs : List Course) (locks : Locks) → IsStepping t step b d (entry_of i fx b) now
     → ((c : Course) → Contains cs c → GoesOn b.calls c) → IsWatched t moment step b
     → IsWatched t moment (step + 1) (record b {
       connections = fold after_move b.connections fx.moves;
       calls = fold (λ (xs : List Course) (x : Call). new_course now (daemon_number b) x ∷ xs) cs fx.calls;
       holdings = held_after fx b.holdings;
       daemon = option_map (with_entry (entry_of i fx b) now) b.daemon;
+      locks = locks;
     })
-stepped t moment step b d i fx now cs s each w =
+stepped t moment step b d i fx now cs locks s each w =
     let xs : List Connection = fold after_move b.connections fx.moves in
     let new : List Course = fold (λ (xs : List Course) (x : Call). new_course now (daemon_number b) x ∷ xs) cs fx.calls in
     let gs : List Grant = held_after fx b.holdings in
-    subst (λ o. IsWatched t moment (step + 1) (record b { connections = xs; calls = new; holdings = gs; daemon = o })) (sym (ap (option_map (with_entry (entry_of i fx b) now)) s.runs))
-    (entered t moment step b d (entry_of i fx b) now xs new gs s (each_of_step b d now fx.calls cs s.runs each) w)
+    subst (λ o. IsWatched t moment (step + 1) (record b { connections = xs; calls = new; holdings = gs; daemon = o; locks = locks })) (sym (ap (option_map (with_entry (entry_of i fx b) now)) s.runs))
+    (locks_keep t moment (step + 1) (record b { connections = xs; calls = new; holdings = gs; daemon = Some (with_entry (entry_of i fx b) now d) }) locks
+    (entered t moment step b d (entry_of i fx b) now xs new gs s (each_of_step b d now fx.calls cs s.runs each) w))
 
 -- A step of the running daemon.
 pub step_keeps : (t : TimingNumbers) (moment step : ℕ) (b : Machine) (d : Daemon) (i : Input) (fx : Effects) (now : Stamp) → IsStepping t step b d (entry_of i fx b) now
     → IsWatched t moment step b → IsWatched t moment (step + 1) (after_step now i fx b)
 step_keeps t moment step b d (Told n a) fx now s w =
-    stepped t moment step b d (Told n a) fx now (map (λ (c : Course). elim (c.call.number == n) as (λ x. Course) [ true ↦ told now (is_ok_answer a) c | false ↦ c ]) b.calls) s
+    stepped t moment step b d (Told n a) fx now (map (λ (c : Course). elim (c.call.number == n) as (λ x. Course) [ true ↦ told now (is_ok_answer a) c | false ↦ c ]) b.calls)
+    (after_step now (Told n a) fx b).locks s
     (λ c there. goes_mapped (λ (c : Course). elim (c.call.number == n) as (λ x. Course) [ true ↦ told now (is_ok_answer a) c | false ↦ c ]) b.calls c
     (λ x. if_changed (told now (is_ok_answer a)) x (x.call.number == n) (told_goes now (is_ok_answer a) x)) there) w
-step_keeps t moment step b d (Line text) fx now s w = stepped t moment step b d (Line text) fx now b.calls s (λ c there. goes_same b.calls c there) w
-step_keeps t moment step b d (Exit p) fx now s w = stepped t moment step b d (Exit p) fx now b.calls s (λ c there. goes_same b.calls c there) w
-step_keeps t moment step b d (Spawned p ok) fx now s w = stepped t moment step b d (Spawned p ok) fx now b.calls s (λ c there. goes_same b.calls c there) w
-step_keeps t moment step b d Wake fx now s w = stepped t moment step b d Wake fx now b.calls s (λ c there. goes_same b.calls c there) w
+step_keeps t moment step b d (Line text) fx now s w = stepped t moment step b d (Line text) fx now b.calls (after_step now (Line text) fx b).locks s (λ c there. goes_same b.calls c there) w
+step_keeps t moment step b d (Number text) fx now s w = stepped t moment step b d (Number text) fx now b.calls (after_step now (Number text) fx b).locks s (λ c there. goes_same b.calls c there) w
+step_keeps t moment step b d (Exit p) fx now s w = stepped t moment step b d (Exit p) fx now b.calls (after_step now (Exit p) fx b).locks s (λ c there. goes_same b.calls c there) w
+step_keeps t moment step b d (Spawned p ok) fx now s w = stepped t moment step b d (Spawned p ok) fx now b.calls (after_step now (Spawned p ok) fx b).locks s (λ c there. goes_same b.calls c there) w
+step_keeps t moment step b d Wake fx now s w = stepped t moment step b d Wake fx now b.calls (after_step now Wake fx b).locks s (λ c there. goes_same b.calls c there) w
 
 -- What the machine does itself submits nothing.
 others_keep : (t : TimingNumbers) (moment step : ℕ) (b : Machine) (xs : List Connection) (gs : List Grant) → IsWatched t moment step b
@@ -205,6 +224,7 @@ pub record StepLeaves (now : Stamp) (i : Input) (fx : Effects) (b : Machine) : T
 step_leaves : (now : Stamp) (i : Input) (fx : Effects) (b : Machine) → StepLeaves now i fx b
 step_leaves now (Told n a) fx b = record { up = refl; used = refl; ended = refl; daemon = refl }
 step_leaves now (Line text) fx b = record { up = refl; used = refl; ended = refl; daemon = refl }
+step_leaves now (Number text) fx b = record { up = refl; used = refl; ended = refl; daemon = refl }
 step_leaves now (Exit p) fx b = record { up = refl; used = refl; ended = refl; daemon = refl }
 step_leaves now (Spawned p ok) fx b = record { up = refl; used = refl; ended = refl; daemon = refl }
 step_leaves now Wake fx b = record { up = refl; used = refl; ended = refl; daemon = refl }

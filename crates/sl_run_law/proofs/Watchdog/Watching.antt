@@ -1,13 +1,13 @@
 -- Whatever happens in a lawful run, each machine stays watched.
 use Rattle.sl_run_law.proofs.Front.Going.{last_event, run_after, run_keeps, was_there}
 use Rattle.sl_plain.proofs.Lists.{got_inside}
-use Rattle.sl_plain.proofs.Options.{not_none, some_there}
+use Rattle.sl_plain.proofs.Options.{not_none, some_there, then_value}
 use Rattle.sl_plain.proofs.Truth.{second_is_false}
 use Rattle.sl_run.specs.Events.{after_effects, after_step, change_call, event_tests, fated, first_change, if_running, input_at, input_of, is_late_landing, machine_of, may_happen, next_step, own_effects, pass_tests, passed, sampled_more, sectors_left, take_step}
 use Rattle.sl_run.specs.Runs.{Happening}
 use Rattle.sl_run.specs.Safety.{LawfulRun, world_at}
 use Rattle.sl_run.specs.Worlds.{Course, Daemon, Dropped, Landed, Machine, Program, Stamp, Torn, World, machine_at, may_land, resets_after, stamp_now, world_with}
-use Rattle.sl_run.specs.declared.event.Event.TheVariants.{AnswerCall, Crash, Do, DropWrite, ExitOf, GiveCommand, Land, Pass, Reset, Restart, Sample, SpawnedOf, StartDaemon, Tear, Test, WakeUp}
+use Rattle.sl_run.specs.declared.event.Event.TheVariants.{AnswerCall, Crash, Do, DropWrite, ExitOf, GiveAsk, GiveCommand, GiveLvm, Land, Pass, Reset, Restart, Sample, SpawnedOf, StartDaemon, Tear, Test, WakeUp}
 use Rattle.sl_run.specs.declared.event.Event.{Event}
 use Rattle.sl_run.specs.declared.header.Header.{Header}
 use Rattle.sl_run_law.proofs.Going.{first_goes, run_goes}
@@ -19,6 +19,7 @@ use Rattle.sl_time.specs.Times.{IsTiming, TimingNumbers}
 use Rattle.sl_trace.specs.Traces.{no_effects}
 use Rattle.sl_trace.specs.declared.effects.Effects.{Effects}
 use Rattle.sl_trace.specs.declared.input.Input.{Input}
+use Rattle.sl_trace.specs.declared.input.Input.TheVariants.{Line}
 use Rattle.sl_run_law.proofs.Watchdog.Beginning.{watched_first}
 use Rattle.sl_run_law.proofs.Watchdog.Changing.{MayPass, call_keeps, crash_keeps, fated_goes, pass_keeps, reset_keeps, restart_keeps, sampled_goes, start_keeps, test_keeps}
 use Rattle.sl_run_law.proofs.Watchdog.Finding.{none_of}
@@ -66,6 +67,8 @@ runs_by : (w : World) (e : Event) (a : Machine) (i : Input) → may_happen w e �
 unfolding event_tests
 runs_by w (WakeUp m) a i may at is = running a _ i is
 runs_by w (GiveCommand m text) a i may at is = running a _ i is
+runs_by w (GiveLvm m line) a i may at is = running a _ i is
+runs_by w (GiveAsk m) a i may at is = let x = then_value (λ text. if_running a (Line text)) a.locks.due i is in running a _ i x.2
 runs_by w (ExitOf m p) a i may at is = running a _ i is
 runs_by w (SpawnedOf m p ok) a i may at is = running a _ i is
 runs_by w (AnswerCall m c ok) a i may at is = not_none a.daemon (on_this w m _ a at (passes w (AnswerCall m c ok) may)).0
@@ -90,6 +93,8 @@ pub own_by : (w : World) (e : Event) (a : Machine) → (own_effects w e a).calls
 own_by w (Pass d growths) a = refl
 own_by w (WakeUp m) a = refl
 own_by w (GiveCommand m text) a = refl
+own_by w (GiveLvm m line) a = refl
+own_by w (GiveAsk m) a = refl
 own_by w (Sample m c k) a = refl
 own_by w (Land m c) a = refl
 own_by w (Tear m c k bytes) a = refl

@@ -1,10 +1,10 @@
 -- What a machine keeps beside its daemons: which of them is the one since the last restart, and what of its trace the machine has too.
 use Rattle.sl_run.specs.Worlds.{Daemon, Machine, World, daemons_on, machine_at, resets_after}
 use Rattle.sl_trace.specs.Connections.{connections}
-use Rattle.sl_trace.specs.Traces.{holdings}
+use Rattle.sl_trace.specs.Traces.{holdings, is_orphan, orphan_of}
 use Rattle.sl_trace.specs.declared.effects.Grant.{Grant}
 use Rattle.sl_words.specs.Words.{first_of_list, is_empty}
-use Rattle.std.specs.Prelude.{Contains, List, None, Option, Some, false, if◌then◌else◌, length, [], ℕ, ◌&&◌, ◌<◌, ◌∷◌, ◌≡◌}
+use Rattle.std.specs.Prelude.{Contains, IsTrue, List, None, Option, Some, false, if◌then◌else◌, length, true, [], ℕ, ◌&&◌, ◌<◌, ◌∷◌, ◌≡◌}
 
 -- The daemon that the machine has had since its last restart, whether it runs or has ended.
 abbrev pub since_restart : Machine → Option Daemon
@@ -15,6 +15,13 @@ abbrev pub AreNumbered : List Daemon → Type 0
 AreNumbered [] = Unit {0}
 AreNumbered (d ∷ ds) = (d.number ≡ length ds) × AreNumbered ds
 
+-- Why the machine holds this, where its last daemon's trace holds these and the machine now those: it is one of the trace's, or the orphan
+-- of a persistent one of it, whose process has exited since and holds nothing any more.
+pub data IsLeft (held now : List Grant) (g : Grant) : Type 0 where
+  Held_on : Contains held g → IsLeft held now g
+  Orphaned : (h : Grant) → Contains held h → h.persistent ≡ true → g ≡ orphan_of h
+      → ((k : Grant) → Contains now k → k.process ≡ h.process → IsTrue (is_orphan k)) → IsLeft held now g
+
 -- The machine beside its daemons.
 pub record Mirrors (a : Machine) : Type 0 where
   pub numbered : AreNumbered (daemons_on a)
@@ -22,9 +29,9 @@ pub record Mirrors (a : Machine) : Type 0 where
   pub running : (d : Daemon) → a.daemon ≡ Some d → since_restart a ≡ Some d
   -- connections outlive a daemon that ended, and no reset
   pub connected : (d : Daemon) → since_restart a ≡ Some d → a.connections ≡ connections d.setting d.trace
-  -- a running daemon's holdings are the machine's; after its end processes may exit
+  -- a running daemon's holdings are the machine's; after its end processes may exit, and leave orphans
   pub held : (d : Daemon) → a.daemon ≡ Some d → a.holdings ≡ holdings d.trace
-  pub left : (d : Daemon) (g : Grant) → since_restart a ≡ Some d → Contains a.holdings g → Contains (holdings d.trace) g
+  pub left : (d : Daemon) (g : Grant) → since_restart a ≡ Some d → Contains a.holdings g → IsLeft (holdings d.trace) a.holdings g
   pub none : since_restart a ≡ None → (a.connections ≡ []) × (a.holdings ≡ [])
   -- no reset has come since that daemon began, and one since each other began
   pub kept : (d : Daemon) → since_restart a ≡ Some d → resets_after a d.begun.step ≡ []

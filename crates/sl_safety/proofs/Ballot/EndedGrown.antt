@@ -11,7 +11,7 @@ use Rattle.sl_trace.specs.declared.effects.Call.{Call}
 use Rattle.sl_trace.specs.declared.effects.Entry.{Entry}
 use Rattle.sl_trace.specs.declared.effects.Spot.{Spot}
 use Rattle.sl_trace.specs.declared.input.Answer.{Answer}
-use Rattle.sl_trace.specs.declared.input.Input.TheVariants.{Answer as Told, Exit, Line, Spawned, Wake}
+use Rattle.sl_trace.specs.declared.input.Input.TheVariants.{Answer as Told, Exit, Line, Number, Spawned, Wake}
 use Rattle.sl_trace.specs.declared.input.Input.{Input}
 use Rattle.sl_sector.specs.declared.sector.Block.{Block}
 use Rattle.sl_words.proofs.CaseLaws.{none_some, some_value}
@@ -50,6 +50,7 @@ all_told es e n w (x ∷ xs) (m ∷ ms) h = (alike_told es e n w x m h.0, all_to
 all_marked : (es : Trace) (e : Entry) (i : Input) (xs ms : List Submitted) → Pairwise Alike xs ms → Pairwise Alike xs (mark es e i ms)
 all_marked es e (Told n w) xs ms h = all_told es e n w xs ms h
 all_marked es e (Line text) xs ms h = h
+all_marked es e (Number text) xs ms h = h
 all_marked es e (Exit p) xs ms h = h
 all_marked es e (Spawned p ok) xs ms h = h
 all_marked es e Wake xs ms h = h
@@ -57,6 +58,7 @@ all_marked es e Wake xs ms h = h
 marked_parts : (es : Trace) (e : Entry) (i : Input) (xs ys : List Submitted) → mark es e i (xs ++ ys) ≡ mark es e i xs ++ mark es e i ys
 marked_parts es e (Told n w) xs ys = map-append (answered_in es e n w) xs ys
 marked_parts es e (Line text) xs ys = refl
+marked_parts es e (Number text) xs ys = refl
 marked_parts es e (Exit p) xs ys = refl
 marked_parts es e (Spawned p ok) xs ys = refl
 marked_parts es e Wake xs ys = refl

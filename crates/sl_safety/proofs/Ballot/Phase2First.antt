@@ -2,10 +2,11 @@
 use Rattle.sl_area.specs.Layouts.{Layout, record_in, sector_with}
 use Rattle.sl_area.specs.Places.{block_offset, fresh_block, fresh_leader, in_area, no_request, no_value}
 use Rattle.sl_run_law.proofs.Landing.Initial.{initial_is_record}
-use Rattle.sl_run_law.proofs.Place.Areas.{IsSized, lockspace_aligned, never_both, one_resource, resource_aligned, same_base, sector_fits}
+use Rattle.sl_run_law.proofs.Place.Areas.{lockspace_aligned, never_both, one_resource, resource_aligned, same_base}
 use Rattle.sl_run_law.proofs.Place.Finding.{finds, same_text}
 use Rattle.sl_run_law.proofs.Place.Reading.{digest_is, header_is, layout_is}
 use Rattle.sl_run_law.proofs.Place.Seats.{sized_in}
+use Rattle.sl_run_law.proofs.Place.Sizes.{IsSized, number_of_slot, sector_fits, sector_has_bytes}
 use Rattle.sl_plain.proofs.Lists.{find_inside}
 use Rattle.sl_history.proofs.Resources.Calls.{text_same}
 use Rattle.sl_history.proofs.Resources.Shown.{place_within}
@@ -54,10 +55,7 @@ at_place g r n k is low high =
     ap (λ b. record_by g r n b (n == 1) (nat_lt n (g.hosts + 2))) (some_place n k is) ∙ ap (λ b. record_by g r n false b (nat_lt n (g.hosts + 2))) (no_request_there n k is low)
     ∙ ap (λ b. record_by g r n false false b) (among_hosts n k g.hosts is high) ∙ ap (λ i. Some (BlockIs (fresh_block i))) (one_back n k is)
 
-place_number : (base s k : ℕ) → s ≡ 512 → (base + s * (k + 1) - base) / s ≡ k + 1
-place_number base s k h = subst (λ n. (base + n * (k + 1) - base) / n ≡ k + 1) (sym h) (omega arith)
-
-record_there : (g : Layout) (h : Header) (r : ResourceLine) (k : ℕ) → IsHeader h → IsSized g → Contains h.resources r → 1 ≤ k → k ≤ g.hosts
+record_there : (g : Layout) (h : Header) (r : ResourceLine) (k : ℕ) → IsHeader h → IsSized h.geometry g → Contains h.resources r → 1 ≤ k → k ≤ g.hosts
     → in_area g r.offset (block_offset g r.offset k) ≡ true → (o : Option LockspaceLine) (q : Option ResourceLine)
     → find (λ (l : LockspaceLine). bytes_eq l.path r.path && in_area g l.offset (block_offset g r.offset k)) h.lockspaces ≡ o
     → find (λ (x : ResourceLine). bytes_eq x.path r.path && in_area g x.offset (block_offset g r.offset k)) h.resources ≡ q
@@ -80,9 +78,9 @@ record_there g h r k ok z there low high inside None (Some x) at at_too =
     one_resource h x r ok f.0 there (same_text x.path r.path both.0)
     (same_base g x.offset r.offset (block_offset g r.offset k) z (resource_aligned h x ok f.0) (resource_aligned h r ok there) both.1 inside) in
     ap (λ (y : ResourceLine). initial_of_resource g y ((block_offset g r.offset k - y.offset) / g.sector)) same
-    ∙ at_place g r ((block_offset g r.offset k - r.offset) / g.sector) k (place_number r.offset g.sector k z.sector) low high
+    ∙ at_place g r ((block_offset g r.offset k - r.offset) / g.sector) k (number_of_slot g.sector r.offset (k + 1) (sector_has_bytes g z)) low high
 
-first_record : (g : Layout) (h : Header) (r : ResourceLine) (k : ℕ) → IsHeader h → IsSized g → Contains h.resources r → 1 ≤ k → k ≤ g.hosts
+first_record : (g : Layout) (h : Header) (r : ResourceLine) (k : ℕ) → IsHeader h → IsSized h.geometry g → Contains h.resources r → 1 ≤ k → k ≤ g.hosts
     → in_area g r.offset (block_offset g r.offset k) ≡ true → initial_record g h r.path (block_offset g r.offset k) ≡ Some (BlockIs (fresh_block k))
 unfolding initial_record
 first_record g h r k ok z there low high inside =

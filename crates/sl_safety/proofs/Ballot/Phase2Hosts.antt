@@ -1,6 +1,6 @@
 -- Each block names the host of its session: it comes from phase 1, or from a block of the session, or from one that a read showed at the
 -- host's place.
-use Rattle.sl_law.specs.Lawful.{Lawful}
+use Rattle.sl_law.specs.Lawful.{Orderly}
 use Rattle.sl_trace_law.proofs.Leases.ComingLaws.{blocks_come}
 use Rattle.sl_trace_law.proofs.Leases.NumberLaws.{number_is_place}
 use Rattle.sl_trace_law.specs.Leases.Ways.{BlockComes, Of_mode, Of_phase1, Of_phase2, Way, lease_among}
@@ -71,7 +71,7 @@ own_names st es s reads newer rest c is b k old (Some d) found =
     let among = is_among st s (spot_of_call st.layout c) rest w.0 w.1 in
     ap (λ (x : Block). x.host) (sym (k.last d found)) ∙ old w.0 among.has among.session d w.2
 
-hosts_named : (st : Setting) (es : Trace) → Lawful st es → 1 ≤ st.layout.hosts → (s : Session) → session_numbered st es s.number ≡ Some s → ReadsName st es s
+hosts_named : (st : Setting) (es : Trace) → Orderly st es → 1 ≤ st.layout.hosts → (s : Session) → session_numbered st es s.number ≡ Some s → ReadsName st es s
     → (newer ms : List Submitted) → submitted es ≡ newer ++ ms → Names s ms
 hosts_named st es law some s known reads newer [] is c has mine b wrote = absurd (contains_none c has)
 hosts_named st es law some s known reads newer (x ∷ ms) is c has mine b wrote =

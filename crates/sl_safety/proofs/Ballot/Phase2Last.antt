@@ -11,7 +11,7 @@ use Rattle.sl_history.proofs.Resources.Above.{line_aligned}
 use Rattle.sl_history.proofs.Resources.Calls.{block_at_step}
 use Rattle.sl_history.proofs.Resources.Lasting.{kept_calls, lease_kept}
 use Rattle.sl_history.proofs.Resources.Latest.{calls_below, newest, sent_as}
-use Rattle.sl_history.proofs.Resources.Owning.{before_is, behind, is_before, is_behind, layout_at, lease_test, made_before, number_at, passes_test, session_as, spot_at, spot_is, works, writes_write}
+use Rattle.sl_history.proofs.Resources.Owning.{before_is, behind, is_before, is_behind, layout_at, lease_is_work, lease_test, made_before, number_at, passes_test, session_as, spot_at, spot_is, works, writes_write}
 use Rattle.sl_history.proofs.Resources.Standing.{Standing, sent_there}
 use Rattle.sl_history.specs.Resources.Promises.{spot_of_line}
 use Rattle.sl_history.specs.Resources.Sending.{Sent, all_sent, is_block_before, last_block_before, sender_of, sent_at, step_of, writes_block}
@@ -154,7 +154,8 @@ own_last p h xs run r there x s on work area write found =
     let on_z : is_on w.layout at l.course.call ≡ true = ap (λ g. is_on g at l.course.call) (sym layout) ∙ two.1 in
     let spot : spot_at w.layout x.course.call ≡ at = spot_is w.layout at (new_call 0 0 x.course.call) (line_aligned p h xs run r there) on in
     let less : l.course.made.step < x.course.made.step =
-    made_before p h xs run x s l.course l.has session work area (block_is_work l.course l.writes) (ap (λ q. is_on w.layout q l.course.call) spot ∙ on_z) in
+    made_before p h xs run x s l.course l.has session work area (block_is_work l.course l.writes) (lease_is_work l.course.call.purpose two.0)
+    (ap (λ q. is_on w.layout q l.course.call) spot ∙ on_z) in
     let passes : P z ≡ true = before_is w at x z less on_z l.writes same in
     let y = finds P (all_sent w) z passes inside in
     let its = find_inside P (all_sent w) y.0 y.1 in

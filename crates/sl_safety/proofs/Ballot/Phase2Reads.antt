@@ -7,9 +7,9 @@ use Rattle.sl_run_law.proofs.Course.Distinct.{nothing_more}
 use Rattle.sl_run_law.specs.Course.Stamping.{AnswersAgree, IsAnsweredAs}
 use Rattle.sl_run_law.specs.Landing.Landings.{LeftBy}
 use Rattle.sl_leases.specs.Leases.{block_of_record, blocks_given, is_area_read, is_block_read, is_on}
-use Rattle.sl_run_law.proofs.Place.Areas.{sector_fits}
 use Rattle.sl_run_law.proofs.Place.Reading.{answer_gave, digest_is, writes_record}
 use Rattle.sl_run_law.proofs.Place.Seats.{sized_in}
+use Rattle.sl_run_law.proofs.Place.Sizes.{sector_fits}
 use Rattle.sl_plain.proofs.Numbers.{one_again, one_further}
 use Rattle.sl_history.proofs.Resources.Above.{reads_by}
 use Rattle.sl_history.proofs.Resources.Bases.{own_host}
@@ -91,11 +91,17 @@ ranged_at f a (suc n) (suc j) lt = ranged_at f (a + 1) n j (less_one j n lt) ∙
 below_hosts : (k n : ℕ) → 1 ≤ k → k ≤ n → k - 1 < n
 below_hosts k n low high = omega (arith, low, high)
 
-two_on : (s k : ℕ) → s ≡ 512 → 1 ≤ k → 2 * s + (k - 1) * s ≡ (k + 1) * s
-two_on s k h low = subst (λ x. 2 * x + (k - 1) * x ≡ (k + 1) * x) (sym h) (omega (arith, low))
+two_before : (k : ℕ) → 1 ≤ k → 2 + (k - 1) ≡ k + 1
+two_before k low = omega (arith, low)
 
-behind_two : (g : Layout) (bytes : List ℕ) (k : ℕ) → g.sector ≡ 512 → 1 ≤ k → sector_of g (drop (2 * g.sector) bytes) (k - 1) ≡ sector_of g bytes (k + 1)
-behind_two g bytes k h low = ap (λ l. take g.sector l) (drop-drop ((k - 1) * g.sector) (2 * g.sector) bytes ∙ ap (λ n. drop n bytes) (two_on g.sector k h low))
+two_and : (s j : ℕ) → 2 * s + j * s ≡ (2 + j) * s
+two_and s j = grind arith
+
+two_on : (s k : ℕ) → 1 ≤ k → 2 * s + (k - 1) * s ≡ (k + 1) * s
+two_on s k low = two_and s (k - 1) ∙ ap (λ n. n * s) (two_before k low)
+
+behind_two : (g : Layout) (bytes : List ℕ) (k : ℕ) → 1 ≤ k → sector_of g (drop (2 * g.sector) bytes) (k - 1) ≡ sector_of g bytes (k + 1)
+behind_two g bytes k low = ap (λ l. take g.sector l) (drop-drop ((k - 1) * g.sector) (2 * g.sector) bytes ∙ ap (λ n. drop n bytes) (two_on g.sector k low))
 
 block_there : (g : Layout) (bytes : List ℕ) (k : ℕ) → 1 ≤ k → k ≤ g.hosts
     → slice_get (blocks_in g bytes) (k - 1) ≡ Some (block_in k (record_in g (sector_of g bytes (k - 1))))
@@ -107,13 +113,13 @@ abbrev number_if : Bool → ℕ → ℕ
 number_if area k = if area then k + 1 else k - 1
 
 -- What was given of a host is what its sector spells.
-given_of : (g : Layout) (q : Submitted) (bs : List (Option Block)) (k : ℕ) → g.sector ≡ 512 → 1 ≤ k → k ≤ g.hosts → Gave g q bs → (bytes : List ℕ) → gave q ≡ Some bytes
+given_of : (g : Layout) (q : Submitted) (bs : List (Option Block)) (k : ℕ) → 1 ≤ k → k ≤ g.hosts → Gave g q bs → (bytes : List ℕ) → gave q ≡ Some bytes
     → slice_get bs (k - 1) ≡ Some (block_in k (record_in g (sector_of g bytes (number_if (is_area_read q) k))))
-given_of g q bs k size low high (By_area some told is same) bytes gives =
+given_of g q bs k low high (By_area some told is same) bytes gives =
     let one : some ≡ bytes = some_value some bytes (sym told ∙ gives) in
-    ap (λ l. slice_get l (k - 1)) same ∙ block_there g (drop (2 * g.sector) some) k low high ∙ ap (λ l. Some (block_in k (record_in g l))) (behind_two g some k size low)
+    ap (λ l. slice_get l (k - 1)) same ∙ block_there g (drop (2 * g.sector) some) k low high ∙ ap (λ l. Some (block_in k (record_in g l))) (behind_two g some k low)
     ∙ ap (λ l. Some (block_in k (record_in g (sector_of g l (k + 1))))) one ∙ ap (λ b. Some (block_in k (record_in g (sector_of g bytes (number_if b k))))) (sym is)
-given_of g q bs k size low high (By_phase some told alone is same) bytes gives =
+given_of g q bs k low high (By_phase some told alone is same) bytes gives =
     let one : some ≡ bytes = some_value some bytes (sym told ∙ gives) in
     ap (λ l. slice_get l (k - 1)) same ∙ block_there g some k low high
     ∙ ap (λ l. Some (block_in k (record_in g (sector_of g l (k - 1))))) one ∙ ap (λ b. Some (block_in k (record_in g (sector_of g bytes (number_if b k))))) (sym alone)
@@ -128,7 +134,7 @@ given_at p h xs run z s bs t k host =
     let w : World = world_at p h xs in
     let range = host_range w k host in
     record {
-      given = given_of w.layout s.told.one bs k (sized_in p h xs run).sector range.0 range.1 (subst (λ g. Gave g s.told.one bs) (layout_at p h xs run z s) t.by) t.bytes t.gave_is
+      given = given_of w.layout s.told.one bs k range.0 range.1 (subst (λ g. Gave g s.told.one bs) (layout_at p h xs run z s) t.by) t.bytes t.gave_is
           ∙ ap (λ (c : Call). Some (block_in k (record_in w.layout (sector_of w.layout t.bytes (number_if (is_area_read (new_call 0 0 c)) k))))) s.told.pair.call
           ∙ ap (λ l. Some (block_in k (record_in w.layout (sector_of w.layout l (sector_number z.course k))))) t.sampled;
     }

@@ -2,7 +2,7 @@
 use Rattle.sl_run_law.proofs.Course.Matched.{courses_are_calls}
 use Rattle.sl_run_law.specs.Course.Stamping.{IsCourseOf, Pairwise, courses_of}
 use Rattle.sl_run_law.proofs.Front.Having.{contains_right}
-use Rattle.sl_law.specs.Lawful.{Lawful}
+use Rattle.sl_law.specs.Lawful.{Orderly}
 use Rattle.sl_run_law.specs.Moment.Orders.{CallsFall}
 use Rattle.sl_plain.proofs.Lists.{contains_first, kept_inside}
 use Rattle.sl_history.proofs.Resources.Latest.{sent_as}
@@ -56,7 +56,7 @@ pub record StandsAt (w : World) (m : ℕ) (a : Machine) (d : Daemon) (q : Submit
   pub session : stands.session ≡ s
 
 pub stands_at : (p : Program) (h : Header) (xs : List Happening) → LawfulRun p h xs → (m : ℕ) (a : Machine) (d : Daemon) → machine_at (world_at p h xs) m ≡ Some a
-    → Contains (daemons_on a) d → Lawful d.setting d.trace → (newer older : List Submitted) (q : Submitted) → submitted d.trace ≡ newer ++ q ∷ older → (s : Session)
+    → Contains (daemons_on a) d → Orderly d.setting d.trace → (newer older : List Submitted) (q : Submitted) → submitted d.trace ≡ newer ++ q ∷ older → (s : Session)
     → session_numbered d.setting d.trace q.call.session ≡ Some s → StandsAt (world_at p h xs) m a d q older s
 stands_at p h xs run m a d at has law newer older q is s known =
     let w : World = world_at p h xs in

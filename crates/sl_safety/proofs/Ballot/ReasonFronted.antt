@@ -4,7 +4,7 @@ use Rattle.sl_safety.proofs.Ballot.ReasonEvidence.{found_of_standing}
 use Rattle.sl_safety.proofs.Ballot.ReasonNames.{cut_keeps, generation_stays}
 use Rattle.sl_safety.specs.Ballot.Endings.{holder_as}
 use Rattle.sl_ballots.specs.History.{Owner as Holder}
-use Rattle.sl_law.specs.Lawful.{Lawful}
+use Rattle.sl_law.specs.Lawful.{Orderly}
 use Rattle.sl_law.specs.LawfulArea.{is_area_work}
 use Rattle.sl_law.specs.Saying.{cut_at}
 use Rattle.sl_trace_law.proofs.Leases.FrontLaws.{lawful_there}
@@ -28,7 +28,7 @@ use Rattle.std.specs.Prelude.{Some, is_none, is_some, length, true, ℕ, ◌&&�
 
 -- The entry of a call, with its session joined.
 pub record Fronted (w : World) (x : Sent) (s : Standing w x) (h : Submission s.daemon.trace s.told.one s.told.older) : Type 0 where
-  pub lawful : Lawful s.daemon.setting (h.entry ∷ h.past)
+  pub lawful : Orderly s.daemon.setting (h.entry ∷ h.past)
   pub its : IsSession s.daemon.setting (h.entry ∷ h.past) s.session
   pub joined : ℕ
   pub joins : joined_after (h.entry ∷ h.past) s.session ≡ Some joined
@@ -48,7 +48,7 @@ fronted w x s h area =
     let mine : h.call.session ≡ s.session.number = ap (λ c. c.session) (sym h.itself.call) ∙ sym n in
     let its : IsSession st s.daemon.trace s.session = ap (λ k. session_numbered st s.daemon.trace k) n ∙ s.known in
     let own : session_numbered st (h.entry ∷ h.past) h.call.session ≡ Some s.session =
-    owned st h.later h.entry h.past s.session (subst (λ t. Lawful st t) h.whole s.lawful) (subst (λ t. IsSession st t s.session) h.whole its) h.place h.call h.there mine in
+    owned st h.later h.entry h.past s.session (subst (λ t. Orderly st t) h.whole s.lawful) (subst (λ t. IsSession st t s.session) h.whole its) h.place h.call h.there mine in
     let active = lawful.area.0.active h.place h.call s.session h.there own (ap (λ c. is_area_work c.purpose) (sym h.itself.call ∙ s.told.pair.call) ∙ area) in
     let j = active_joined st (cut_at h.place h.entry ∷ h.past) s.session active in
     record {
@@ -68,7 +68,7 @@ name_at_front w x s h f =
     let st : Setting = s.daemon.setting in
     let now : generation_of s.daemon.trace s.session ≡ generation_of (h.entry ∷ h.past) s.session =
     ap (λ (t : Trace). generation_of t s.session) h.whole
-    ∙ generation_stays st h.later (h.entry ∷ h.past) s.session f.joined (subst (λ t. Lawful st t) h.whole s.lawful) f.its f.joins in
+    ∙ generation_stays st h.later (h.entry ∷ h.past) s.session f.joined (subst (λ t. Orderly st t) h.whole s.lawful) f.its f.joins in
     let same : generation_of s.daemon.trace s.session ≡ generation_of (cut_at h.place h.entry ∷ h.past) s.session =
     now ∙ cut_keeps st h.entry h.past s.session f.joined f.lawful f.its f.joins h.place in
     ap (λ n. let o : Holder = record { id = s.session.id; generation = n } in o) (sym same) ∙ sym (holder_is w (sender_of x) (found_of_standing s) (sender_found w x s))

@@ -2,7 +2,7 @@
 -- call of an entry as after the whole entry.
 use Rattle.sl_area.specs.Layouts.{Layout}
 use Rattle.sl_safety.proofs.Ballot.ReasonNames.{cut_keeps}
-use Rattle.sl_law.specs.Lawful.{Lawful}
+use Rattle.sl_law.specs.Lawful.{Orderly}
 use Rattle.sl_law.specs.Saying.{cut_at}
 use Rattle.sl_leases.specs.Leases.{Phase2_read, block_submitted, blocks_given, ended_ballot, ended_ballots, is_at, is_lease_call, is_on, lease_calls, value_in_end}
 use Rattle.sl_leases.specs.Ballots.{stop_of}
@@ -51,7 +51,7 @@ sighting_next : (g : Layout) (id at reading : ℕ) (c : Call) (ms : List Submitt
 sighting_next g id at reading c ms = ap (λ o. cons_option o (sightings g id ms)) (look_none g id at reading c (is_survey_purpose c.purpose) refl)
 
 -- What a joined session counts as over before a call of an entry it counts as over after it.
-pub counts_alike : (st : Setting) (e : Entry) (past : Trace) (s : Session) (i : ℕ) → Lawful st (e ∷ past) → IsSession st (e ∷ past) s → joined_after (e ∷ past) s ≡ Some i → (k j h : ℕ)
+pub counts_alike : (st : Setting) (e : Entry) (past : Trace) (s : Session) (i : ℕ) → Orderly st (e ∷ past) → IsSession st (e ∷ past) s → joined_after (e ∷ past) s ≡ Some i → (k j h : ℕ)
     → counts_over st (e ∷ past) s j h ≡ counts_over st (cut_at k e ∷ past) s j h
 counts_alike st e past s i law its joined k j h =
     ap (λ ss. elim (is_some (evidence st.timing st.layout j h ss)) as (λ z. Bool) [
@@ -63,7 +63,7 @@ counts_alike st e past s i law its joined k j h =
       | false ↦ j == s.id && nat_lt h n && is_some (joined_after (e ∷ past) s)
     ]) (cut_keeps st e past s i law its joined k)
 
-pub counted_alike : (st : Setting) (e : Entry) (past : Trace) (s : Session) (i : ℕ) → Lawful st (e ∷ past) → IsSession st (e ∷ past) s → joined_after (e ∷ past) s ≡ Some i → (k j h : ℕ)
+pub counted_alike : (st : Setting) (e : Entry) (past : Trace) (s : Session) (i : ℕ) → Orderly st (e ∷ past) → IsSession st (e ∷ past) s → joined_after (e ∷ past) s ≡ Some i → (k j h : ℕ)
     → counted_over st (e ∷ past) s j h ≡ counted_over st (cut_at k e ∷ past) s j h
 counted_alike st e past s i law its joined k j h =
     ap (λ b. elim b as (λ z. Bool) [ true ↦ true | false ↦ counted_over st past s j h ]) (counts_alike st e past s i law its joined k j h)

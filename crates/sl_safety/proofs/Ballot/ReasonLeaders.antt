@@ -4,13 +4,14 @@ use Rattle.sl_area.specs.Places.{fresh_block, fresh_leader, in_area, leader_of, 
 use Rattle.sl_run_law.proofs.Landing.Initial.{initial_is_record}
 use Rattle.sl_law.specs.LawfulArea.{IsAreaRead}
 use Rattle.sl_leases.specs.Leases.{is_area_read, is_on, leader_of_record, spot_of_call}
-use Rattle.sl_run_law.proofs.Place.Areas.{is_within, sector_fits, sized}
+use Rattle.sl_run_law.proofs.Place.Areas.{is_within}
 use Rattle.sl_run_law.proofs.Place.Beginnings.{zeros_at}
 use Rattle.sl_run_law.proofs.Place.Finding.{same_read}
 use Rattle.sl_run_law.proofs.Place.Leased.{and_two, leader_in_is}
 use Rattle.sl_run_law.proofs.Place.Proven.{promised}
 use Rattle.sl_run_law.proofs.Place.Reading.{IsRead, IsShown, header_is, layout_is, read_of, reads_back, sector_shown}
 use Rattle.sl_run_law.proofs.Place.Seats.{sized_in}
+use Rattle.sl_run_law.proofs.Place.Sizes.{area_has_bytes, sector_fits, sized}
 use Rattle.sl_plain.proofs.Numbers.{no_times_more, refl_le, trans_lt}
 use Rattle.sl_history.proofs.Resources.Latest.{sent_as}
 use Rattle.sl_history.proofs.Resources.Looking.{IsLook, area_place, look_layout}
@@ -110,8 +111,8 @@ pub data LeaderSeen (w : World) (at : Spot) (l : Leader) (n : ℕ) : Type 0 wher
   Unled : IsUnled l → LeaderSeen w at l n
   Led : (z : Sent) → Contains (all_sent w) z → is_on w.layout at z.course.call ≡ true → leader_of_course z.course ≡ Some l → step_of z < n → LeaderSeen w at l n
 
-within_here : (n : ℕ) → n < n + 1048576
-within_here n = omega arith
+within_here : (n area : ℕ) → 0 < area → n < n + area
+within_here n area some = omega (arith, some)
 
 wrote_it : (c : Course) (l : Leader) (r : Rec) → record_of c.call.op ≡ Some r → r ≡ LeaderIs l → leader_of_course c ≡ Some l
 wrote_it c l r is same = ap (λ o. option_and_then leader_of_record o) (is ∙ ap (λ x. Some x) same)
@@ -131,7 +132,7 @@ leader_shown p h xs run at bytes n l spells s =
           let offset : at.base ≡ k.wrote.course.call.offset = sym s.place.1 ∙ sym k.wrote.place.1 in
           Led (sent_as k.machine k.wrote.course) (sent_there w k.machine k.wrote.machine k.wrote.course k.wrote.at k.wrote.has)
           (and_from _ _ ((bytes_eq-Decides k.wrote.course.call.path at.path).1 path)
-          (subst (λ o. in_area w.layout at.base o ≡ true) offset (is_within w.layout at.base at.base z (refl_le at.base) (within_here at.base))))
+          (subst (λ o. in_area w.layout at.base o ≡ true) offset (is_within w.layout at.base at.base (refl_le at.base) (within_here at.base w.layout.area (area_has_bytes w.layout z)))))
           (wrote_it k.wrote.course l k.wrote.record_written k.wrote.writes back)
           (trans_lt k.wrote.course.made.step s.landing.step n k.wrote.after.0 s.early)
       | inr first ↦

@@ -1,7 +1,7 @@
 -- A joined session keeps its generation: each delta record that it writes from then on has it. So whoever it was at the front of one of
 -- its calls it still is, and its name in ballots stays.
-use Rattle.sl_law.proofs.LawFacts.{lawful-front}
-use Rattle.sl_law.specs.Lawful.{Lawful}
+use Rattle.sl_law.proofs.LawFacts.{orderly-front}
+use Rattle.sl_law.specs.Lawful.{Orderly}
 use Rattle.sl_law.specs.LawfulDelta.{LawfulDeltaCall, LawfulJoinStep}
 use Rattle.sl_law.specs.Saying.{cut_at}
 use Rattle.sl_run_law.proofs.Place.Looks.{reads_none}
@@ -24,7 +24,7 @@ use Rattle.sl_trace.specs.declared.effects.JoinStep.{JoinStep}
 use Rattle.sl_trace.specs.declared.effects.Purpose.TheVariants.{Joining, Lease, Leaving, Renewal, RequestRead, RequestWrite, SeeRequest, Survey, ValueRead, ValueWrite}
 use Rattle.sl_trace.specs.declared.effects.Purpose.{Purpose}
 use Rattle.sl_trace.specs.declared.input.Answer.{Answer}
-use Rattle.sl_trace.specs.declared.input.Input.TheVariants.{Answer as Told, Exit, Line, Spawned, Wake}
+use Rattle.sl_trace.specs.declared.input.Input.TheVariants.{Answer as Told, Exit, Line, Number, Spawned, Wake}
 use Rattle.sl_trace.specs.declared.input.Input.{Input}
 use Rattle.sl_words.proofs.CaseLaws.{none_some, one_value}
 use Rattle.std.proofs.Common.{ap, refl, sym, ◌∙◌}
@@ -82,7 +82,7 @@ call_keeps s ms (Some d) g was own = own d refl
 mine_keeps : (s : Session) (m : Submitted) (ms : List Submitted) (g : ℕ) → generation_in s ms ≡ g → ((d : DeltaRec) → delta_written m ≡ Some d → d.generation ≡ g) → generation_in s (m ∷ ms) ≡ g
 mine_keeps s m ms g was own = call_keeps s ms (delta_written m) g was own
 
-next_keeps : (st : Setting) (e : Entry) (past : Trace) (s : Session) (j : ℕ) → Lawful st (e ∷ past) → IsSession st (e ∷ past) s → joined_after (e ∷ past) s ≡ Some j → (k : ℕ) (c : Call)
+next_keeps : (st : Setting) (e : Entry) (past : Trace) (s : Session) (j : ℕ) → Orderly st (e ∷ past) → IsSession st (e ∷ past) s → joined_after (e ∷ past) s ≡ Some j → (k : ℕ) (c : Call)
     → slice_get e.effects.calls k ≡ Some c → (g : ℕ) → generation_of (cut_at k e ∷ past) s ≡ g → (b : Bool) → (c.session == s.number) ≡ b → generation_of (cut_at (suc k) e ∷ past) s ≡ g
 next_keeps st e past s j law its joined k c at g was true mine =
     let new : Submitted = new_call (length past) e.reading c in
@@ -93,7 +93,7 @@ next_keeps st e past s j law its joined k c at g was true mine =
 next_keeps st e past s j law its joined k c at g was false other = ap (λ ms. generation_in s ms) (other_next past e s k c at other) ∙ was
 
 -- Within the entry of a joined session's call its generation stays.
-pub cut_keeps : (st : Setting) (e : Entry) (past : Trace) (s : Session) (j : ℕ) → Lawful st (e ∷ past) → IsSession st (e ∷ past) s → joined_after (e ∷ past) s ≡ Some j → (k : ℕ)
+pub cut_keeps : (st : Setting) (e : Entry) (past : Trace) (s : Session) (j : ℕ) → Orderly st (e ∷ past) → IsSession st (e ∷ past) s → joined_after (e ∷ past) s ≡ Some j → (k : ℕ)
     → generation_of (e ∷ past) s ≡ generation_of (cut_at k e ∷ past) s
 cut_keeps st e past s j law its joined k =
     let g : ℕ = generation_of (cut_at 0 e ∷ past) s in
@@ -114,6 +114,7 @@ told_delta es e n a (m ∷ ms) =
 marked_delta : (es : Trace) (e : Entry) (i : Input) (ms : List Submitted) → last_delta (mark es e i ms) ≡ last_delta ms
 marked_delta es e (Told n a) ms = told_delta es e n a ms
 marked_delta es e (Line text) ms = refl
+marked_delta es e (Number text) ms = refl
 marked_delta es e (Exit p) ms = refl
 marked_delta es e (Spawned p ok) ms = refl
 marked_delta es e Wake ms = refl
@@ -124,10 +125,10 @@ head_keeps e past s =
     ∙ ap (λ o. option_map_or (λ (d : DeltaRec). d.generation) o (given_number s)) (marked_delta past (cut_at 0 e) e.input (calls_of past s))
 
 -- A joined session keeps its generation.
-pub generation_stays : (st : Setting) (later es : Trace) (s : Session) (j : ℕ) → Lawful st (later ++ es) → IsSession st es s → joined_after es s ≡ Some j
+pub generation_stays : (st : Setting) (later es : Trace) (s : Session) (j : ℕ) → Orderly st (later ++ es) → IsSession st es s → joined_after es s ≡ Some j
     → generation_of (later ++ es) s ≡ generation_of es s
 generation_stays st [] es s j law its joined = refl
 generation_stays st (e ∷ later) es s j law its joined =
     let past : Trace = later ++ es in
     cut_keeps st e past s j law (sessions_stay st (e ∷ later) es s.number s its) (stays joined_after joined_more (e ∷ later) es s j joined) 0
-    ∙ head_keeps e past s ∙ generation_stays st later es s j (lawful-front st (e ∷ []) past law) its joined
+    ∙ head_keeps e past s ∙ generation_stays st later es s j (orderly-front st (e ∷ []) past law) its joined

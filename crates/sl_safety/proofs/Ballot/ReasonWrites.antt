@@ -6,12 +6,12 @@ use Rattle.sl_run_law.specs.Course.Stamping.{IsCourseOf}
 use Rattle.sl_law.specs.LawfulArea.{is_area_work}
 use Rattle.sl_trace_law.proofs.Leases.AgeLaws.{aged_lease, became}
 use Rattle.sl_trace_law.specs.Leases.Fronts.{AllAged}
-use Rattle.sl_leases.specs.Leases.{is_block_read, is_free_write, is_on, leader_of_record, leader_written, lease_calls}
+use Rattle.sl_leases.specs.Leases.{is_block_read, is_free_write, is_lease_call, is_on, leader_of_record, leader_written, lease_calls}
 use Rattle.sl_run_law.proofs.Place.Finding.{partner_of}
 use Rattle.sl_history.proofs.Resources.Above.{is_among}
 use Rattle.sl_history.proofs.Resources.Calls.{leader_at_step}
 use Rattle.sl_history.proofs.Resources.Latest.{sent_as}
-use Rattle.sl_history.proofs.Resources.Owning.{is_behind, layout_at, made_before, number_at, spot_at, spot_is, works}
+use Rattle.sl_history.proofs.Resources.Owning.{is_behind, layout_at, lease_is_work, made_before, number_at, spot_at, spot_is, works}
 use Rattle.sl_history.proofs.Resources.Standing.{Standing, sent_there}
 use Rattle.sl_history.specs.Resources.Histories.{history_leader, no_leader}
 use Rattle.sl_history.specs.Resources.Promises.{history_of_line, spot_of_line}
@@ -103,7 +103,7 @@ free_before p h xs run at zero x s on work area n front aged q has m is =
       wrote = wrote;
       less = made_before p h xs run x s c.0 c.1 session work area
           (or_left (is_write c.0.call.op) (is_block_read (new_call 0 0 c.0.call)) (leader_writes c.0.call.op l.0 wrote))
-          (ap (λ a. is_on w.layout a c.0.call) spot ∙ on_c);
+          (lease_is_work c.0.call.purpose (ap (λ (y : Call). is_lease_call (new_call 0 0 y)) (sym c.2.call) ∙ among.lease)) (ap (λ a. is_on w.layout a c.0.call) spot ∙ on_c);
       lver = eqb-true l.0.lver m both.0;
       free = not-true l.0.held both.1;
     }

@@ -32,7 +32,7 @@ use Rattle.std.specs.Prelude.{Bool, Contains, List, Option, Some, [], false, len
 
 -- ---- an entry has its stamp
 
-past_within : (later past : Trace) (e : Entry) → length past < length (later ++ e ∷ past)
+pub past_within : (later past : Trace) (e : Entry) → length past < length (later ++ e ∷ past)
 past_within [] past e = omega arith
 past_within (x ∷ later) past e = let rest = past_within later past e in omega (arith, rest)
 

@@ -3,12 +3,12 @@
 use Rattle.sl_area.specs.Layouts.{Layout}
 use Rattle.sl_safety.proofs.Ballot.ReasonNames.{cut_keeps}
 use Rattle.sl_safety.specs.Ballot.Endings.{IsEntryAt}
+use Rattle.sl_safety.proofs.Grant.Backing.{IsBacked}
 use Rattle.sl_safety.proofs.Grant.Exclusive.{IsToldOf}
 use Rattle.sl_safety.proofs.Grant.Names.{StoodAt, stood_at}
 use Rattle.sl_safety.proofs.Grant.Owned.{BlockTold, ends_within}
 use Rattle.sl_safety.proofs.Grant.Stepping.{IsAt}
 use Rattle.sl_safety.proofs.Grant.Telling.{IsFront, OfLease, in_lease, lease_was, whole_of}
-use Rattle.sl_law.specs.LawfulModes.{SharedByBallot}
 use Rattle.sl_law.specs.Saying.{cut_at}
 use Rattle.sl_trace_law.proofs.Leases.GrantLaws.{modes_follow}
 use Rattle.sl_trace_law.specs.Leases.Holding.{ModeRests}
@@ -50,7 +50,7 @@ pub record RunsThere (p : Program) (h : Header) (xs : List Happening) (r : Resou
   pub step : ℕ
   pub came : IsEntryAt f entry past step
   pub instance : ℕ
-  pub ballot : SharedByBallot (setting_in f) (entry ∷ past) f.session (spot_of_line r) instance
+  pub backed : IsBacked (setting_in f) (entry ∷ past) f.session (spot_of_line r) instance
   pub stood : (newer older : Trace) → later ≡ newer ++ older → has_shared_on (older ++ entry ∷ past) f.session (spot_of_line r) ≡ true
   pub at : IsAt p h xs r i f (entry ∷ past)
   pub named : StoodAt p h xs i f (entry ∷ past)
@@ -115,12 +115,12 @@ marked_after p h xs r i f k e t late =
 
 -- Before it: by what the grant says of the blocks from its mark on.
 pub marked_before : (p : Program) (h : Header) (xs : List Happening) (r : ResourceLine) (i : SessionId) (f : Found) → (k : RunsThere p h xs r i f) → (e : ℕ) (t : BlockTold p h xs r f e)
-    → t.call.at < length (front_of_run k) → k.ballot.mode.call.number ≤ t.call.call.number → HasMark f t.block
+    → t.call.at < length (front_of_run k) → k.backed.mode.call.number ≤ t.call.call.number → HasMark f t.block
 marked_before p h xs r i f k e t early most =
     let st : Setting = setting_in f in
     let was = lease_was st k.later (front_of_run k) f.session (spot_of_line r) t.call
     (subst (λ z. OfLease st z f.session (spot_of_line r) t.call) k.whole t.lease) early in
-    let mark = k.ballot.kept was.was t.block (in_lease st (front_of_run k) f.session (spot_of_line r) was.was was.lease)
-    (subst (λ (c : Call). k.ballot.mode.call.number ≤ c.number) (sym was.call) most)
+    let mark = k.backed.kept was.was t.block (in_lease st (front_of_run k) f.session (spot_of_line r) was.was was.lease)
+    (subst (λ (c : Call). k.backed.mode.call.number ≤ c.number) (sym was.call) most)
     (ap (λ (c : Call). option_and_then block_of_record (record_of c.op)) was.call ∙ t.wrote) in
     (mark.0, mark.1 ∙ k.named.generation)

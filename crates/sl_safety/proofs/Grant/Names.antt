@@ -3,8 +3,8 @@ use Rattle.sl_safety.proofs.Ballot.ReasonNames.{cut_keeps, generation_stays}
 use Rattle.sl_safety.specs.Ballot.Endings.{holder_as}
 use Rattle.sl_ballots.specs.History.{Owner as Holder}
 use Rattle.sl_safety.proofs.Grant.Telling.{IsFront, OfLease, whole_of}
-use Rattle.sl_law.proofs.LawFacts.{lawful-front}
-use Rattle.sl_law.specs.Lawful.{Lawful}
+use Rattle.sl_law.proofs.LawFacts.{orderly-front}
+use Rattle.sl_law.specs.Lawful.{Orderly}
 use Rattle.sl_law.specs.LawfulArea.{is_area_work}
 use Rattle.sl_run_law.proofs.Place.Reading.{call_law, owner_of}
 use Rattle.sl_history.proofs.Resources.Calls.{IsOwned, found_of, made_of, owner_found, stood}
@@ -28,7 +28,7 @@ use Rattle.std.specs.Prelude.{List, Some, true, ℕ, ◌++◌, ◌∷◌, ◌≡
 
 -- What it is at the front.
 pub record StoodAt (p : Program) (h : Header) (xs : List Happening) (i : SessionId) (f : Found) (front : Trace) : Type 0 where
-  pub lawful : Lawful (setting_in f) front
+  pub lawful : Orderly (setting_in f) front
   pub known : session_numbered (setting_in f) front f.session.number ≡ Some f.session
   pub entries : ℕ
   pub joined : joined_after front f.session ≡ Some entries
@@ -46,8 +46,8 @@ pub stood_at : (p : Program) (h : Header) (xs : List Happening) (i : SessionId) 
 stood_at p h xs i f front k at c o =
     let st : Setting = setting_in f in
     let all = whole_of p h xs k.run i f k.its in
-    let whole : Lawful st (k.later ++ front) = subst (λ t. Lawful st t) k.whole all.lawful in
-    let lawful : Lawful st front = lawful-front st k.later front whole in
+    let whole : Orderly st (k.later ++ front) = subst (λ t. Orderly st t) k.whole all.lawful in
+    let lawful : Orderly st front = orderly-front st k.later front whole in
     let its = owner_of st front c lawful o.inside in
     let number : its.0.number ≡ f.session.number = sym its.2 ∙ o.mine in
     let there : session_numbered st front f.session.number ≡ Some its.0 = ap (λ n. session_numbered st front n) (sym number) ∙ its.1 in
@@ -85,7 +85,7 @@ name_of_sent p h xs run x o area =
     let known : session_numbered st (d.entry ∷ d.past) o.session.number ≡ Some o.session =
     ap (λ n. session_numbered st (d.entry ∷ d.past) n) (sym o.mine) ∙ law.1 in
     let stands = stood st es o.session q d o.trace.lawful o.its o.mine area in
-    let whole : Lawful st (d.later ++ d.entry ∷ d.past) = subst (λ t. Lawful st t) d.whole o.trace.lawful in
+    let whole : Orderly st (d.later ++ d.entry ∷ d.past) = subst (λ t. Orderly st t) d.whole o.trace.lawful in
     name_by p h xs (sender_of x) (found_of o) (owner_found (world_at p h xs) x o) (front_of d)
     (sym (cut_keeps st d.entry d.past o.session stands.entries law.0 known stands.joined d.index)
     ∙ sym (generation_stays st d.later (d.entry ∷ d.past) o.session stands.entries whole known stands.joined)

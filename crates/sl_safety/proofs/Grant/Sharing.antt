@@ -1,15 +1,15 @@
--- A shared holding of a session that is not over has stood since a grant of the history: the ballot that was won, its mark, and that each
--- later block of the session has the mark too.
-use Rattle.sl_area.specs.Layouts.{Layout}
+-- A shared holding of a session that is not over has stood since a grant of the history, by a ballot or by conversion: the ballot that was
+-- won, its mark, and that each later block of the session has the mark too.
 use Rattle.sl_area.specs.Places.{is_base}
 use Rattle.sl_ballots.specs.Ballots.{BallotEnded}
 use Rattle.sl_ballots.specs.History.{Block as HistoryBlock, History, Owner as Holder}
 use Rattle.sl_run_law.specs.Course.Stamping.{stamp_in}
 use Rattle.sl_safety.proofs.Grant.Alive.{alive_by}
+use Rattle.sl_safety.proofs.Grant.Backing.{IsBacked, is_backed, mode_of}
 use Rattle.sl_safety.proofs.Grant.Counting.{numbers_rise}
 use Rattle.sl_safety.proofs.Grant.Exclusive.{IsToldOf}
 use Rattle.sl_safety.proofs.Grant.Freeing.{FreeTold, free_told}
-use Rattle.sl_safety.proofs.Grant.Kept.{came_at}
+use Rattle.sl_safety.proofs.Grant.Kept.{came_at, past_within}
 use Rattle.sl_safety.proofs.Grant.Marks.{HasMark, RunsThere, front_of_run, marked_after, marked_before}
 use Rattle.sl_safety.proofs.Grant.Names.{stood_at}
 use Rattle.sl_safety.proofs.Grant.Owned.{BlockTold, block_told}
@@ -22,13 +22,11 @@ use Rattle.sl_safety.proofs.Holding.Places.{held_on, on_held, the_shared}
 use Rattle.sl_safety.proofs.Holding.Sharing.{shared_holdings_begin}
 use Rattle.sl_safety.specs.Holding.Granting.{SharedRun}
 use Rattle.sl_holdings.specs.Holdings.{IsSharedTo, SharedGrant}
-use Rattle.sl_law.proofs.LawFacts.{lawful-front}
-use Rattle.sl_law.specs.Lawful.{Lawful}
-use Rattle.sl_law.specs.LawfulModes.{SharedByBallot}
-use Rattle.sl_leases.specs.Leases.{ended_ballot, ended_ballots, has_shared_on, is_free_write, lease_calls}
+use Rattle.sl_law.proofs.LawFacts.{orderly-front}
+use Rattle.sl_law.specs.Lawful.{Orderly}
+use Rattle.sl_leases.specs.Leases.{has_shared_on, is_free_write}
 use Rattle.sl_run_law.proofs.Place.Looks.{answered_below}
-use Rattle.sl_plain.proofs.Lists.{contains_first, contains_more}
-use Rattle.sl_plain.proofs.Numbers.{equal_is_most, less_is_most, never_below}
+use Rattle.sl_plain.proofs.Numbers.{below_suc, equal_is_most, less_is_most, trans_le}
 use Rattle.sl_plain.proofs.Options.{some_of}
 use Rattle.sl_history.proofs.Resources.Shown.{holder_is}
 use Rattle.sl_history.specs.Resources.Promises.{history_of_line, spot_of_line}
@@ -38,32 +36,63 @@ use Rattle.sl_run.specs.Safety.{Found, IsSession, LawfulRun, SessionId, is_over,
 use Rattle.sl_run.specs.Worlds.{Program, Stamp, World}
 use Rattle.sl_run.specs.declared.header.Header.{Header}
 use Rattle.sl_run.specs.declared.header.ResourceLine.{ResourceLine}
-use Rattle.sl_sector.specs.declared.sector.Owner.{Owner}
 use Rattle.sl_sessions.specs.Sessions.{me, session_numbered}
 use Rattle.sl_trace.specs.Traces.{Setting, Submitted, Trace, holdings, new_call}
 use Rattle.sl_trace.specs.declared.effects.Call.{Call}
 use Rattle.sl_trace.specs.declared.effects.Grant.{Grant}
 use Rattle.sl_trace.specs.declared.effects.Spot.{Spot}
 use Rattle.sl_words.proofs.CaseLaws.{one_value}
-use Rattle.std.proofs.Common.{ap, arith, inl, inr, refl, subst, sym, ◌∙◌}
+use Rattle.std.proofs.Common.{ap, append_assoc, arith, inl, inr, refl, subst, sym, ◌∙◌}
 use Rattle.std.proofs.lemmas.Bool.{cases_lt}
 use Rattle.std.specs.Prelude.{Contains, List, None, Option, Some, [], false, length, suc, true, ℕ, ◌++◌, ◌<◌, ◌∷◌, ◌≡◌, ◌≤◌}
 
 -- ---- the ballot
 
-kept_end : (g : Layout) (m : Submitted) (ms : List Submitted) (x : ℕ × Owner) (o : Option (ℕ × Owner)) → Contains (ended_ballots g ms) x
-    → Contains (elim o as (λ z. List (ℕ × Owner)) [ None ↦ ended_ballots g ms | Some q ↦ q ∷ ended_ballots g ms ]) x
-kept_end g m ms x None has = has
-kept_end g m ms x (Some q) has = contains_more q (ended_ballots g ms) x has
+-- What has ended by a step has ended by each later one.
+ended_later : (H : History) (s v : Holder) (n t u : ℕ) → t ≤ u → BallotEnded H s n v t → BallotEnded H s n v u
+ended_later H s v n t u le b =
+    record {
+      write = b.write;
+      writes = b.writes;
+      writer = b.writer;
+      two = b.two;
+      lver = b.lver;
+      value = b.value;
+      ack = b.ack;
+      acked = b.acked;
+      read = b.read;
+      reads = b.reads;
+      after = b.after;
+      answer = trans_le (H.answer b.read) t u b.answer le;
+      clean = b.clean;
+    }
 
--- A ballot that a read ended is among those that ended.
-ended_there : (g : Layout) (newer : List Submitted) (read : Submitted) (before : List Submitted) (x : ℕ × Owner) → ended_ballot g read before ≡ Some x
-    → Contains (ended_ballots g (newer ++ read ∷ before)) x
-ended_there g [] read before x is =
-    subst (λ o. Contains (elim o as (λ z. List (ℕ × Owner)) [ None ↦ ended_ballots g before | Some q ↦ q ∷ ended_ballots g before ]) x) (sym is)
-    (contains_first x (ended_ballots g before))
-ended_there g (m ∷ newer) read before x is =
-    kept_end g m (newer ++ read ∷ before) x (ended_ballot g m (newer ++ read ∷ before)) (ended_there g newer read before x is)
+same_steps : (a b c d : ℕ) → a ≤ b → a ≡ c → b ≡ d → c ≤ d
+same_steps a b c d le is also = omega (arith, le, is, also)
+
+-- It had ended when the run began.
+ballot_ended : (p : Program) (h : Header) (xs : List Happening) (r : ResourceLine) (i : SessionId) (f : Found) → (k : RunsThere p h xs r i f)
+    → BallotEnded (history_of_line p h xs r) (holder_of (world_at p h xs) i) k.instance (holder_of (world_at p h xs) i) k.step
+ballot_ended p h xs r i f k =
+    let w : World = world_at p h xs in
+    let H : History = history_of_line p h xs r in
+    let st : Setting = setting_in f in
+    let b = k.backed.ballot in
+    let front : Trace = b.entry ∷ b.past in
+    let later : Trace = k.later ++ b.later in
+    let whole : trace_of f ≡ later ++ front = k.whole ∙ ap (λ t. k.later ++ t) b.whole ∙ sym (append_assoc k.later b.later front) in
+    let at : IsFront p h xs i f front = record { run = k.run; its = k.its; later = later; whole = whole } in
+    let c = came_at p h xs k.run i f k.its later b.entry b.past whole in
+    let named = stood_at p h xs i f front at (spot_of_line r) b.call (of_lease st front f.session (spot_of_line r) b.call b.of_lease) in
+    let differ = k.given.names p h xs r k.run k.there in
+    let hosts = k.given.hosts p h xs r k.run k.there in
+    let most : length b.past ≤ length k.past =
+    below_suc (length b.past) (length k.past) (subst (λ (t : Trace). length b.past < length t) (sym b.whole) (past_within b.later b.past b.entry)) in
+    ended_later H (holder_of w i) (holder_of w i) k.instance c.step k.step
+    (same_steps c.there.stamp.step k.came.stamp.step c.step k.step
+    (in_order p h xs k.run i f k.its (length b.past) (length k.past) c.there.stamp k.came.stamp c.there.stamped k.came.stamped most) c.there.step_is k.came.step_is)
+    (subst (λ o. BallotEnded H (holder_of w i) k.instance o c.step) named.name
+    (k.given.ended p h xs r k.run k.there differ hosts i f k.its k.joined b.entry b.past c.step c.there k.instance (me front f.session) b.won))
 
 -- ---- from the mark on
 
@@ -79,40 +108,40 @@ not_most a b le other =
 
 -- The mark, as the history has it.
 abbrev mark_of : (p : Program) (h : Header) (xs : List Happening) (r : ResourceLine) (i : SessionId) (f : Found) → (k : RunsThere p h xs r i f)
-    → BlockThere p h xs r i f k.ballot.mode k.ballot.block
+    → BlockThere p h xs r i f k.backed.mode k.backed.block
 mark_of p h xs r i f k =
-    block_there p h xs r i f (front_of_run k) k.at k.ballot.mode
-    (of_lease (setting_in f) (front_of_run k) f.session (spot_of_line r) k.ballot.mode k.ballot.of_lease.0) k.ballot.block k.ballot.moded.2
+    block_there p h xs r i f (front_of_run k) k.at k.backed.mode
+    (of_lease (setting_in f) (front_of_run k) f.session (spot_of_line r) k.backed.mode k.backed.of_lease) k.backed.block k.backed.wrote
 
 -- A block from the mark's step on has no smaller number.
-from_mark : (p : Program) (h : Header) (xs : List Happening) (r : ResourceLine) (i : SessionId) (f : Found) → (k : RunsThere p h xs r i f) → (m : BlockThere p h xs r i f k.ballot.mode k.ballot.block)
-    → (e : ℕ) (t : BlockTold p h xs r f e) → t.call.at < length (front_of_run k) → step_of m.sent.sent ≤ e → k.ballot.mode.call.number ≤ t.call.call.number
+from_mark : (p : Program) (h : Header) (xs : List Happening) (r : ResourceLine) (i : SessionId) (f : Found) → (k : RunsThere p h xs r i f) → (m : BlockThere p h xs r i f k.backed.mode k.backed.block)
+    → (e : ℕ) (t : BlockTold p h xs r f e) → t.call.at < length (front_of_run k) → step_of m.sent.sent ≤ e → k.backed.mode.call.number ≤ t.call.call.number
 from_mark p h xs r i f k m e t early le =
-    by_cases e (step_of m.sent.sent) (k.ballot.mode.call.number ≤ t.call.call.number) same later
+    by_cases e (step_of m.sent.sent) (k.backed.mode.call.number ≤ t.call.call.number) same later
   where
-    same : e ≤ step_of m.sent.sent → k.ballot.mode.call.number ≤ t.call.call.number
+    same : e ≤ step_of m.sent.sent → k.backed.mode.call.number ≤ t.call.call.number
     same also =
         let step : step_of m.sent.sent ≡ e = omega (arith, le, also) in
         let one : m.sent.sent ≡ t.sent =
         same_sent (sent_at (world_at p h xs) (spot_of_line r) writes_block e) m.sent.sent t.sent
         (ap (sent_at (world_at p h xs) (spot_of_line r) writes_block) (sym step) ∙ m.found) t.found in
-        equal_is_most k.ballot.mode.call.number t.call.call.number
+        equal_is_most k.backed.mode.call.number t.call.call.number
         (ap (λ (c : Call). c.number) (sym m.sent.call ∙ m.sent.is.call) ∙ ap (λ (x : Sent). x.course.call.number) one ∙ ap (λ (c : Call). c.number) (sym t.same))
 
-    later : step_of m.sent.sent < e → k.ballot.mode.call.number ≤ t.call.call.number
+    later : step_of m.sent.sent < e → k.backed.mode.call.number ≤ t.call.call.number
     later less =
         let st : Setting = setting_in f in
-        let mode = of_lease st (front_of_run k) f.session (spot_of_line r) k.ballot.mode k.ballot.of_lease.0 in
+        let mode = of_lease st (front_of_run k) f.session (spot_of_line r) k.backed.mode k.backed.of_lease in
         let was = lease_was st k.later (front_of_run k) f.session (spot_of_line r) t.call (subst (λ z. OfLease st z f.session (spot_of_line r) t.call) k.whole t.lease) early in
-        let place : k.ballot.mode.at < t.call.at =
-        before_in p h xs k.run i f k.its k.ballot.mode.at t.call.at m.sent.sent.course.made t.sent.course.made (told_made p h xs i f k.ballot.mode m.sent) t.made
+        let place : k.backed.mode.at < t.call.at =
+        before_in p h xs k.run i f k.its k.backed.mode.at t.call.at m.sent.sent.course.made t.sent.course.made (told_made p h xs i f k.backed.mode m.sent) t.made
         (subst (λ n. step_of m.sent.sent < n) (sym t.step) less) in
-        let rise = numbers_rise st (front_of_run k) k.named.lawful.is_trace k.ballot.mode was.was mode.inside was.lease.inside
-        (subst (λ n. k.ballot.mode.at < n) (sym was.place) place) in
-        less_is_most k.ballot.mode.call.number t.call.call.number (subst (λ (c : Call). k.ballot.mode.call.number < c.number) was.call rise)
+        let rise = numbers_rise st (front_of_run k) k.named.lawful.is_trace k.backed.mode was.was mode.inside was.lease.inside
+        (subst (λ n. k.backed.mode.at < n) (sym was.place) place) in
+        less_is_most k.backed.mode.call.number t.call.call.number (subst (λ (c : Call). k.backed.mode.call.number < c.number) was.call rise)
 
 -- Each block of the session from the mark on has it.
-marked : (p : Program) (h : Header) (xs : List Happening) (r : ResourceLine) (i : SessionId) (f : Found) → (k : RunsThere p h xs r i f) → (m : BlockThere p h xs r i f k.ballot.mode k.ballot.block)
+marked : (p : Program) (h : Header) (xs : List Happening) (r : ResourceLine) (i : SessionId) (f : Found) → (k : RunsThere p h xs r i f) → (m : BlockThere p h xs r i f k.backed.mode k.backed.block)
     → (e : ℕ) → step_of m.sent.sent ≤ e → (history_of_line p h xs r).writes e ≡ true → (history_of_line p h xs r).writer e ≡ holder_of (world_at p h xs) i
     → (((history_of_line p h xs r).block e).shared ≡ true) × (((history_of_line p h xs r).block e).mode_gen ≡ (holder_of (world_at p h xs) i).generation)
 marked p h xs r i f k m e le writes writer =
@@ -131,34 +160,26 @@ marked p h xs r i f k m e le writes writer =
 below_most : (a b c d : ℕ) → a < suc b → suc b ≤ c → c ≡ d → a ≤ d
 below_most a b c d p q is = omega (arith, p, q, is)
 
-most_three : (a b c d : ℕ) → a ≤ b → b ≤ c → c ≡ d → a ≤ d
-most_three a b c d p q is = omega (arith, p, q, is)
-
 freed_after : (p : Program) (h : Header) (xs : List Happening) (r : ResourceLine) (i : SessionId) (f : Found) → (k : RunsThere p h xs r i f) → (stamp : Stamp)
-    → stamp_in f.daemon.stamps k.ballot.mode_answer.at ≡ Some stamp → (l : ℕ) → FreeTold p h xs r f k.instance l → stamp.step ≤ l
+    → stamp_in f.daemon.stamps k.backed.answer.at ≡ Some stamp → (l : ℕ) → FreeTold p h xs r f k.instance l → stamp.step ≤ l
 freed_after p h xs r i f k stamp answered l t =
     subst (λ n. stamp.step ≤ n) t.step
-    (in_order p h xs k.run i f k.its k.ballot.mode_answer.at t.call.at stamp t.stamp answered t.made
-    (by_cases (length (front_of_run k)) t.call.at (k.ballot.mode_answer.at ≤ t.call.at) late early))
+    (in_order p h xs k.run i f k.its k.backed.answer.at t.call.at stamp t.stamp answered t.made
+    (by_cases (length (front_of_run k)) t.call.at (k.backed.answer.at ≤ t.call.at) late early))
   where
-    mode : OfLease (setting_in f) (front_of_run k) f.session (spot_of_line r) k.ballot.mode
-    mode = of_lease (setting_in f) (front_of_run k) f.session (spot_of_line r) k.ballot.mode k.ballot.of_lease.0
+    mode : OfLease (setting_in f) (front_of_run k) f.session (spot_of_line r) k.backed.mode
+    mode = of_lease (setting_in f) (front_of_run k) f.session (spot_of_line r) k.backed.mode k.backed.of_lease
 
-    late : length (front_of_run k) ≤ t.call.at → k.ballot.mode_answer.at ≤ t.call.at
-    late le = below_most k.ballot.mode_answer.at (length k.past) t.call.at t.call.at (answered_below (front_of_run k) k.ballot.mode mode.inside k.ballot.mode_answer k.ballot.moded.6.0) le refl
+    late : length (front_of_run k) ≤ t.call.at → k.backed.answer.at ≤ t.call.at
+    late le = below_most k.backed.answer.at (length k.past) t.call.at t.call.at (answered_below (front_of_run k) k.backed.mode mode.inside k.backed.answer k.backed.done.0) le refl
 
-    early : t.call.at < length (front_of_run k) → k.ballot.mode_answer.at ≤ t.call.at
+    early : t.call.at < length (front_of_run k) → k.backed.answer.at ≤ t.call.at
     early less =
         let was = lease_was (setting_in f) k.later (front_of_run k) f.session (spot_of_line r) t.call
         (subst (λ z. OfLease (setting_in f) z f.session (spot_of_line r) t.call) k.whole t.lease) less in
-        let free = of_lease (setting_in f) (front_of_run k) f.session (spot_of_line r) k.ballot.free k.ballot.of_lease.1 in
-        let first = k.ballot.first was.was (in_lease (setting_in f) (front_of_run k) f.session (spot_of_line r) was.was was.lease)
-        (ap (λ (c : Call). is_free_write k.instance (new_call 0 0 c)) was.call ∙ t.free) in
-        most_three k.ballot.mode_answer.at k.ballot.free.at was.was.at t.call.at k.ballot.freed.0
-        (by_cases k.ballot.free.at was.was.at (k.ballot.free.at ≤ was.was.at) (λ le. le)
-        (λ below. absurd (never_below k.ballot.free.call.number was.was.call.number first
-        (numbers_rise (setting_in f) (front_of_run k) k.named.lawful.is_trace was.was k.ballot.free was.lease.inside free.inside below))))
-        was.place
+        subst (λ n. k.backed.answer.at ≤ n) was.place
+        (k.backed.unfreed was.was (in_lease (setting_in f) (front_of_run k) f.session (spot_of_line r) was.was was.lease)
+        (ap (λ (c : Call). is_free_write k.instance (new_call 0 0 c)) was.call ∙ t.free))
 
 -- ---- all of it
 
@@ -168,21 +189,17 @@ shared_to p h xs r i f k alive =
     let w : World = world_at p h xs in
     let H : History = history_of_line p h xs r in
     let st : Setting = setting_in f in
-    let b = k.ballot in
+    let b = k.backed in
     let differ = k.given.names p h xs r k.run k.there in
     let hosts = k.given.hosts p h xs r k.run k.there in
     let m : BlockThere p h xs r i f b.mode b.block = mark_of p h xs r i f k in
-    let a : AnsweredThere p h xs r f b.mode_answer (step_of m.sent.sent) = block_answered p h xs r i f b.mode b.block m b.mode_answer b.moded.6.0 b.moded.6.1 in
-    let won : Contains (ended_ballots st.layout (lease_calls st (front_of_run k) f.session (spot_of_line r))) (k.instance, me (front_of_run k) f.session) =
-    subst (λ ms. Contains (ended_ballots st.layout ms) (k.instance, me (front_of_run k) f.session)) (sym b.split)
-    (ended_there st.layout b.after b.read b.before (k.instance, me (front_of_run k) f.session) b.won.1) in
+    let a : AnsweredThere p h xs r f b.answer (step_of m.sent.sent) = block_answered p h xs r i f b.mode b.block m b.answer b.done.0 b.done.1 in
     let past : k.came.stamp.step < w.step = entry_past p h xs k.run i f k.its (length k.past) k.came.stamp k.came.stamped in (
       record { step = k.step; holder = holder_of w i; won = k.instance; mark = step_of m.sent.sent },
       refl,
       record {
         since = less_is_most k.step w.step (subst (λ n. n < w.step) k.came.step_is past);
-        ballot = subst (λ o. BallotEnded H (holder_of w i) k.instance o k.step) k.named.name
-            (k.given.ended p h xs r k.run k.there differ hosts i f k.its k.joined k.entry k.past k.step k.came k.instance (me (front_of_run k) f.session) won);
+        ballot = ballot_ended p h xs r i f k;
         writes = m.writes;
         writer = m.writer;
         ack = a.stamp.step;
@@ -195,11 +212,11 @@ shared_to p h xs r i f k alive =
       refl,
     )
 
-is_placed : (st : Setting) (es : Trace) → Lawful st es → (g : Grant) → Contains (holdings es) g → is_base st.layout g.offset ≡ true
+is_placed : (st : Setting) (es : Trace) → Orderly st es → (g : Grant) → Contains (holdings es) g → is_base st.layout g.offset ≡ true
 is_placed st es law g has =
     let from = holdings_are_granted es g has in
     let front : Trace = from.entry ∷ from.past in
-    let here : Lawful st front = lawful-front st from.later front (subst (λ z. Lawful st z) from.whole law) in
+    let here : Orderly st front = orderly-front st from.later front (subst (λ z. Orderly st z) from.whole law) in
     let s = some_of (session_numbered st front g.session) (here.granting.0.owned g from.given) in
     (here.granting.0.each g s.0 from.given s.1).placed
 
@@ -212,8 +229,10 @@ run_began given p h xs run i f its alive at placed q =
     let front : Trace = q.entry ∷ q.past in
     let k : IsFront p h xs i f front = record { run = run; its = its; later = q.later; whole = q.whole } in
     let c = came_at p h xs run i f its q.later q.entry q.past q.whole in
-    let a : ResourceAt p h xs i at = resource_at p h xs i f front k at placed q.ballot.mode q.ballot.of_lease.0 q.ballot.block q.ballot.moded.2 in
-    let mode = of_lease st front f.session at q.ballot.mode q.ballot.of_lease.0 in
+    let mode = mode_of st q.past front f.session at q.instance q.rests in
+    let named = stood_at p h xs i f front k at mode.0 (of_lease st front f.session at mode.0 mode.1) in
+    let backed : IsBacked st front f.session at q.instance = is_backed st q.entry q.past named.lawful f.session named.known at q.instance q.rests in
+    let a : ResourceAt p h xs i at = resource_at p h xs i f front k at placed backed.mode backed.of_lease backed.block backed.wrote in
     let s = shared_to p h xs a.resource i f
     (record {
       given = given;
@@ -228,10 +247,10 @@ run_began given p h xs run i f its alive at placed q =
       step = c.step;
       came = c.there;
       instance = q.instance;
-      ballot = at_resource p h xs i at a (λ z. SharedByBallot st front f.session z q.instance) q.ballot;
+      backed = at_resource p h xs i at a (λ z. IsBacked st front f.session z q.instance) backed;
       stood = λ newer older same. at_resource p h xs i at a (λ z. has_shared_on (older ++ front) f.session z ≡ true) (q.stood newer older same);
       at = record { front_is = k; there = a.there; joined = a.joined };
-      named = stood_at p h xs i f front k at q.ballot.mode mode;
+      named = named;
     }) alive in
     (record { place = a; grant = s.0; holder = s.1; shared = s.2 }, s.3)
 

@@ -3,7 +3,7 @@ use Rattle.sl_area.specs.Layouts.{Layout}
 use Rattle.sl_run_law.proofs.Course.Matched.{courses_are_calls}
 use Rattle.sl_run_law.specs.Course.Stamping.{AnswersAgree, IsAnsweredAs, IsCourseOf, courses_of, stamp_in}
 use Rattle.sl_safety.proofs.Grant.Growing.{Grown, calls_grow, calls_were}
-use Rattle.sl_law.specs.Lawful.{Lawful}
+use Rattle.sl_law.specs.Lawful.{Orderly}
 use Rattle.sl_leases.specs.Leases.{block_of_record, block_written, is_block_read, is_lease_call, is_on, lease_calls}
 use Rattle.sl_run_law.proofs.Moment.Ordering.{entries_ordered, fall_front, fall_step}
 use Rattle.sl_run_law.proofs.Place.Daemons.{daemons_are_fine, stamp_order}
@@ -43,7 +43,7 @@ pub record IsFront (p : Program) (h : Header) (xs : List Happening) (i : Session
 pub record IsWhole (p : Program) (h : Header) (xs : List Happening) (i : SessionId) (f : Found) : Type 0 where
   pub at : machine_at (world_at p h xs) i.machine ≡ Some f.machine
   pub has : Contains (daemons_on f.machine) f.daemon
-  pub lawful : Lawful (setting_in f) (trace_of f)
+  pub lawful : Orderly (setting_in f) (trace_of f)
   pub layout : (setting_in f).layout ≡ (world_at p h xs).layout
   pub daemon : f.daemon.number ≡ i.daemon
   pub number : f.session.number ≡ i.number

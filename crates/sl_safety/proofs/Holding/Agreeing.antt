@@ -2,8 +2,8 @@
 use Rattle.sl_safety.proofs.Holding.Granted.{held_or_given}
 use Rattle.sl_safety.proofs.Holding.Places.{place_turned}
 use Rattle.sl_safety.specs.Holding.Granting.{OneDaemonAgrees}
-use Rattle.sl_law.proofs.LawFacts.{lawful-front}
-use Rattle.sl_law.specs.Lawful.{Lawful}
+use Rattle.sl_law.proofs.LawFacts.{orderly-front}
+use Rattle.sl_law.specs.Lawful.{Orderly}
 use Rattle.sl_plain.proofs.Lists.{contains_none}
 use Rattle.sl_plain.proofs.Options.{some_of}
 use Rattle.sl_sessions.specs.Sessions.{session_numbered}
@@ -16,7 +16,7 @@ use Rattle.std.proofs.Math.Bool.{and_comm}
 use Rattle.std.specs.Prelude.{Contains, Some, true, [], ◌&&◌, ◌∷◌, ◌≡◌, ◌⊎◌}
 
 -- A grant agrees with what else is held after its entry.
-granted_agrees : (st : Setting) (e : Entry) (past : Trace) → Lawful st (e ∷ past) → (h g : Grant) → Contains (holdings (e ∷ past)) h → Contains e.effects.grants g
+granted_agrees : (st : Setting) (e : Entry) (past : Trace) → Orderly st (e ∷ past) → (h g : Grant) → Contains (holdings (e ∷ past)) h → Contains e.effects.grants g
     → same_place h.path h.offset g.path g.offset ≡ true → (h.process ≡ g.process → ⊥) → (is_shared h.mode && is_shared g.mode) ≡ true
 granted_agrees st e past law h g held given same differ =
     let owner : (s : Session) × (session_numbered st (e ∷ past) g.session ≡ Some s) = some_of (session_numbered st (e ∷ past) g.session) (law.granting.0.owned g given) in
@@ -25,7 +25,7 @@ granted_agrees st e past law h g held given same differ =
 pub one_daemon_agrees : OneDaemonAgrees
 one_daemon_agrees st [] law a b one two same differ = absurd (contains_none a one)
 one_daemon_agrees st (e ∷ past) law a b one two same differ =
-    by (λ x y. one_daemon_agrees st past (lawful-front st (e ∷ []) past law) a b x y same differ) (held_or_given e past a one) (held_or_given e past b two)
+    by (λ x y. one_daemon_agrees st past (orderly-front st (e ∷ []) past law) a b x y same differ) (held_or_given e past a one) (held_or_given e past b two)
   where
     by : (Contains (holdings past) a → Contains (holdings past) b → (is_shared a.mode && is_shared b.mode) ≡ true) → Contains (holdings past) a ⊎ Contains e.effects.grants a
         → Contains (holdings past) b ⊎ Contains e.effects.grants b → (is_shared a.mode && is_shared b.mode) ≡ true

@@ -1,5 +1,5 @@
 -- A session that isn't leaving has written no free: the law of the free asks for a leaving, and a leaving stays.
-use Rattle.sl_law.specs.Lawful.{Lawful}
+use Rattle.sl_law.specs.Lawful.{Orderly}
 use Rattle.sl_law.specs.LawfulDelta.{LawfulDeltaCall, LawfulFree}
 use Rattle.sl_plain.proofs.Lists.{find_inside}
 use Rattle.sl_plain.proofs.Options.{some_there}
@@ -54,7 +54,7 @@ leaving_stays : (st : Setting) (later es : Trace) (s : Session) (j : Job) → le
 leaving_stays st [] es s j h = h
 leaving_stays st (e ∷ later) es s j h = leaving_more st e (later ++ es) s j (leaving_stays st later es s j h)
 
-pub staying_is_freeless : (st : Setting) (es : Trace) (s : Session) → Lawful st es → IsSession st es s → leaving_job st es s ≡ None → HasNoFree es s
+pub staying_is_freeless : (st : Setting) (es : Trace) (s : Session) → Orderly st es → IsSession st es s → leaving_job st es s ≡ None → HasNoFree es s
 staying_is_freeless st es s law its stays m there mine frees =
     let w : WasLawful st es s m = calls_were_lawful st es s m law its there mine in
     let f : LawfulFree st (front_of w.made) s (made_as w.made) = free_law st (front_of w.made) s (made_as w.made) m.call.purpose w.lawful frees in

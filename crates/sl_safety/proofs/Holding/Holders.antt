@@ -1,14 +1,14 @@
--- Whose the holdings of a world are: each is one of its machine's daemon since the last restart, whose trace is lawful.
+-- Whose the holdings of a world are: each is one of its machine's daemon since the last restart, whose trace is lawful, or the orphan of one.
 use Rattle.sl_run_law.proofs.Course.Keeping.{lawful_on}
 use Rattle.sl_run_law.proofs.Course.Mirrored.{machines_mirror}
 use Rattle.sl_run_law.proofs.Course.Mirroring.{none_if}
-use Rattle.sl_run_law.specs.Course.Mirrors.{Mirrors, since_restart}
+use Rattle.sl_run_law.specs.Course.Mirrors.{Held_on, IsLeft, Mirrors, Orphaned, since_restart}
 use Rattle.sl_run_law.proofs.Front.Having.{contains_flat}
 use Rattle.sl_safety.proofs.Holding.Agreeing.{one_daemon_agrees}
 use Rattle.sl_safety.proofs.Holding.Standing.{held_of, holders_stand}
 use Rattle.sl_safety.specs.Holding.Granting.{HeldUnder}
-use Rattle.sl_safety.specs.Holding.Holders.{HoldingsAreHeld, OneMachineAgrees}
-use Rattle.sl_law.specs.Lawful.{Lawful}
+use Rattle.sl_safety.specs.Holding.Holders.{HeldBy, HoldingsAreHeld, OneMachineAgrees, RestsOn}
+use Rattle.sl_law.specs.Lawful.{Orderly}
 use Rattle.sl_trace_law.proofs.Leases.NumberLaws.{number_is_place}
 use Rattle.sl_plain.proofs.Lists.{contains_cases, contains_none, got_inside, in_map}
 use Rattle.sl_plain.proofs.Numbers.{one_less}
@@ -20,7 +20,7 @@ use Rattle.sl_run.specs.Worlds.{Daemon, Machine, Program, World, daemon_numbered
 use Rattle.sl_run.specs.declared.header.Header.{Header}
 use Rattle.sl_sessions.specs.Sessions.{calls_of, ended_after, free_write, is_joined, joined_after, refused_after, removed_after, session_numbered}
 use Rattle.sl_sessions.specs.declared.session.Session.{Session}
-use Rattle.sl_trace.specs.Traces.{Submitted, holdings, is_shared, same_place}
+use Rattle.sl_trace.specs.Traces.{Setting, Submitted, Trace, holdings, is_shared, no_process, same_place}
 use Rattle.sl_trace.specs.declared.effects.Grant.{Grant}
 use Rattle.sl_run_law.proofs.Watchdog.Promising.{itself}
 use Rattle.sl_words.proofs.CaseLaws.{false_is_true, is_false, one_value}
@@ -28,7 +28,7 @@ use Rattle.sl_words.proofs.ListLaws.{first_and_others}
 use Rattle.sl_words.proofs.WordLaws.{and_true}
 use Rattle.sl_words.specs.Words.{first_of_list, is_empty, some_is}
 use Rattle.std.proofs.Common.{ap, arith, inl, inr, refl, subst, sym, tests, ◌∙◌}
-use Rattle.std.proofs.lemmas.Bool.{and_from, eq-eqb}
+use Rattle.std.proofs.lemmas.Bool.{and_from, eq-eqb, eqb-true}
 use Rattle.std.specs.List.{enumerate_from, list_any}
 use Rattle.std.specs.Prelude.{Bool, Contains, List, None, Option, Some, [], cond, false, find, is_none, is_some, map, not, option_and_then, option_map, slice_get, suc, true, zero, ℕ, ◌&&◌, ◌+◌, ◌-◌, ◌==◌, ◌||◌, ◌∷◌, ◌≡◌, ◌⊎◌}
 
@@ -81,8 +81,9 @@ record IsOfDaemon (w : World) (x : Holding) : Type 0 where
   running : since_restart machine ≡ Some daemon
   others : List Daemon
   first : daemons_on machine ≡ daemon ∷ others
-  lawful : Lawful daemon.setting daemon.trace
-  held : Contains (holdings daemon.trace) x.held
+  lawful : Orderly daemon.setting daemon.trace
+  has : Contains machine.holdings x.held
+  left : IsLeft (holdings daemon.trace) machine.holdings x.held
 
 of_daemon : (p : Program) (h : Header) (xs : List Happening) → LawfulRun p h xs → (x : Holding) → Contains (world_holdings (world_at p h xs)) x → IsOfDaemon (world_at p h xs) x
 of_daemon p h xs run x there = by (since_restart a) refl where
@@ -108,7 +109,8 @@ of_daemon p h xs run x there = by (since_restart a) refl where
         others = _;
         first = first_and_others (daemons_on a) d first;
         lawful = lawful_on (world_at p h xs) x.machine a d run.lawful k.at (got_inside (daemons_on a) 0 d first);
-        held = mirrors.left d x.held is k.has;
+        has = k.has;
+        left = mirrors.left d x.held is k.has;
       }
 
 -- ---- its session
@@ -156,24 +158,48 @@ not_over i f unfreed joined kept =
 
 -- ---- the laws
 
-pub holdings_are_held : HoldingsAreHeld
-holdings_are_held p h xs run x there =
-    let o : IsOfDaemon (world_at p h xs) x = of_daemon p h xs run x there in
+held_by : (p : Program) (h : Header) (xs : List Happening) → LawfulRun p h xs → (x : Holding) → (o : IsOfDaemon (world_at p h xs) x) → (g : Grant)
+    → Contains (holdings o.daemon.trace) g → HeldBy (world_at p h xs) (holding x.machine g)
+held_by p h xs run x o g held =
     let d : Daemon = o.daemon in
-    let u : HeldUnder d.setting d.trace x.held = holders_stand d.setting d.trace o.lawful x.held o.held in
+    let u : HeldUnder d.setting d.trace g = holders_stand d.setting d.trace o.lawful g held in
     let s : Session = u.session in
     let i : SessionId = record { machine = x.machine; daemon = d.number; number = s.number } in
     let f : Found = found_as o.machine d s in
     record {
       session = i;
       found = f;
-      is = in_world (world_at p h xs) i o.machine d s o.at (first_numbered o.machine d o.others o.first) (itself d.setting d.trace x.held.session s u.known);
+      is = in_world (world_at p h xs) i o.machine d s o.at (first_numbered o.machine d o.others o.first) (itself d.setting d.trace g.session s u.known);
       machine = refl;
       running = o.running;
-      stands = held_of d.trace x.held s (number_is_place d.setting d.trace x.held.session s u.known) o.held;
+      stands = held_of d.trace g s (number_is_place d.setting d.trace g.session s u.known) held;
       joined = (and_true (is_some (joined_after d.trace s)) (is_none (removed_after d.trace s)) u.joined).0;
       alive = not_over i f u.unfreed u.joined (o.mirrors.kept d o.running);
     }
+
+rests_by : (p : Program) (h : Header) (xs : List Happening) → LawfulRun p h xs → (x : Holding) → (o : IsOfDaemon (world_at p h xs) x)
+    → IsLeft (holdings o.daemon.trace) o.machine.holdings x.held → RestsOn (world_at p h xs) x
+rests_by p h xs run x o (Held_on there) = record { before = x; held = held_by p h xs run x o x.held there; follows = inl refl }
+rests_by p h xs run x o (Orphaned g there persistent is gone) =
+    record { before = holding x.machine g; held = held_by p h xs run x o g there; follows = inr (ap (λ k. holding x.machine k) is) }
+
+pub holdings_are_held : HoldingsAreHeld
+holdings_are_held p h xs run x there = let o : IsOfDaemon (world_at p h xs) x = of_daemon p h xs run x there in rests_by p h xs run x o o.left
+
+-- Of what is left, as of what was held: an orphan stands for the holding of its process, which holds nothing else any more.
+left_agree : (st : Setting) (es : Trace) → Orderly st es → (now : List Grant) (a b : Grant) → Contains now a → Contains now b → IsLeft (holdings es) now a
+    → IsLeft (holdings es) now b → same_place a.path a.offset b.path b.offset ≡ true → (a.process ≡ b.process → ⊥) → (is_shared a.mode && is_shared b.mode) ≡ true
+left_agree st es law now a b one two (Held_on x) (Held_on y) same differ = one_daemon_agrees st es law a b x y same differ
+left_agree st es law now a b one two (Held_on x) (Orphaned k y persistent is gone) same differ =
+    ap (λ (g : Grant). is_shared a.mode && is_shared g.mode) is
+    ∙ one_daemon_agrees st es law a k x y (ap (λ (g : Grant). same_place a.path a.offset g.path g.offset) (sym is) ∙ same)
+    (λ e. differ (eqb-true a.process no_process (gone a one e) ∙ sym (ap (λ (g : Grant). g.process) is)))
+left_agree st es law now a b one two (Orphaned k x persistent is gone) (Held_on y) same differ =
+    ap (λ (g : Grant). is_shared g.mode && is_shared b.mode) is
+    ∙ one_daemon_agrees st es law k b x y (ap (λ (g : Grant). same_place g.path g.offset b.path b.offset) (sym is) ∙ same)
+    (λ e. differ (ap (λ (g : Grant). g.process) is ∙ sym (eqb-true b.process no_process (gone b two (sym e)))))
+left_agree st es law now a b one two (Orphaned k x persistent is gone) (Orphaned j y other was left) same differ =
+    absurd (differ (ap (λ (g : Grant). g.process) is ∙ sym (ap (λ (g : Grant). g.process) was)))
 
 agree_by : (same both one : Bool) → (same ≡ true → (one ≡ true → ⊥) → both ≡ true) → (same && not both && not one) ≡ true → ⊥
 agree_by true true one agrees h = false_is_true h
@@ -187,9 +213,12 @@ one_machine_agrees p h xs run x y one two machines =
     let q : IsOfDaemon (world_at p h xs) y = of_daemon p h xs run y two in
     let same : o.machine ≡ q.machine = one_value o.machine q.machine (machine_at (world_at p h xs) x.machine) o.at (ap (λ m. machine_at (world_at p h xs) m) machines ∙ q.at) in
     let daemons : q.daemon ≡ o.daemon = one_value q.daemon o.daemon (since_restart o.machine) (ap (λ a. since_restart a) same ∙ q.running) o.running in
-    let held : Contains (holdings o.daemon.trace) y.held = subst (λ (d : Daemon). Contains (holdings d.trace) y.held) daemons q.held in
+    let has : Contains o.machine.holdings y.held = subst (λ (a : Machine). Contains a.holdings y.held) (sym same) q.has in
+    let left : IsLeft (holdings o.daemon.trace) o.machine.holdings y.held =
+    subst (λ (a : Machine). IsLeft (holdings o.daemon.trace) a.holdings y.held) (sym same)
+    (subst (λ (d : Daemon). IsLeft (holdings d.trace) q.machine.holdings y.held) daemons q.left) in
     is_false _
     (agree_by (same_place x.held.path x.held.offset y.held.path y.held.offset) (is_shared x.held.mode && is_shared y.held.mode) (x.machine == y.machine && x.held.process == y.held.process)
     (λ place differ.
-    one_daemon_agrees o.daemon.setting o.daemon.trace o.lawful x.held y.held o.held held place
+    left_agree o.daemon.setting o.daemon.trace o.lawful o.machine.holdings x.held y.held o.has has o.left left place
     (λ is. differ (and_from (x.machine == y.machine) (x.held.process == y.held.process) (eq-eqb x.machine y.machine machines) (eq-eqb x.held.process y.held.process is)))))

@@ -1,13 +1,13 @@
--- The session of a holding is joined, and has written no free. Where it is granted the session is active; later an end, a removal and a
--- free each ask that the session holds nothing.
+-- The session of a holding is joined, and has written no free. Where it is granted the session is active, or the grant is the orphan of what
+-- the session held before; later an end, a removal and a free each ask that the session holds nothing.
 use Rattle.sl_safety.proofs.Holding.Freeless.{HasNoFree, free_law, nothing_freed, staying_is_freeless}
 use Rattle.sl_safety.proofs.Holding.Granted.{held_or_given}
 use Rattle.sl_safety.specs.Holding.Granting.{HoldersStand}
-use Rattle.sl_law.proofs.LawFacts.{lawful-front}
-use Rattle.sl_law.specs.Lawful.{Lawful}
+use Rattle.sl_law.proofs.LawFacts.{orderly-front}
+use Rattle.sl_law.specs.Lawful.{Orderly}
 use Rattle.sl_law.specs.LawfulDelta.{LawfulFree}
-use Rattle.sl_law.specs.LawfulGrant.{LawfulGrantTo}
-use Rattle.sl_law.specs.LawfulRecovery.{MayPart}
+use Rattle.sl_law.specs.LawfulGrant.{LawfulGrantTo, LawfulOrphan}
+use Rattle.sl_law.specs.LawfulParting.{MayPart}
 use Rattle.sl_law.specs.Saying.{cut_at}
 use Rattle.sl_trace_law.proofs.Leases.NumberLaws.{number_is_place}
 use Rattle.sl_area.specs.Places.{is_base}
@@ -18,7 +18,7 @@ use Rattle.sl_trace_law.proofs.Sessions.Owning.{session_more}
 use Rattle.sl_trace_law.specs.Sessions.Promises.{IsSession}
 use Rattle.sl_sessions.specs.Sessions.{calls_of, free_write, holdings_of, is_free_purpose, is_joined, leaving_job, recovery_of, session_numbered, sessions}
 use Rattle.sl_sessions.specs.declared.session.Session.{Session}
-use Rattle.sl_trace.specs.Traces.{Setting, Submitted, Trace, holdings, mark, new_call, submitted}
+use Rattle.sl_trace.specs.Traces.{Setting, Submitted, Trace, holdings, is_orphan, mark, new_call, orphan_of, submitted}
 use Rattle.sl_trace.specs.declared.effects.Entry.{Entry}
 use Rattle.sl_trace.specs.declared.effects.Grant.{Grant}
 use Rattle.sl_run_law.proofs.Watchdog.Promising.{itself}
@@ -42,12 +42,12 @@ held_of es g s number there = kept (λ (h : Grant). h.session == s.number) (hold
 
 -- ---- where it is granted
 
-stands_granted : (st : Setting) (e : Entry) (past : Trace) (g : Grant) → Lawful st (e ∷ past) → Contains e.effects.grants g → StandsBehind st (e ∷ past) g
-stands_granted st e past g law given =
+stands_granted : (st : Setting) (e : Entry) (past : Trace) (g : Grant) → Orderly st (e ∷ past) → Contains e.effects.grants g → is_orphan g ≡ false → StandsBehind st (e ∷ past) g
+stands_granted st e past g law given other =
     let owner : (s : Session) × (session_numbered st (e ∷ past) g.session ≡ Some s) = some_of (session_numbered st (e ∷ past) g.session) (law.granting.0.owned g given) in
     let s : Session = owner.0 in
     let l : LawfulGrantTo st (e ∷ past) s g = law.granting.0.each g s given owner.1 in
-    let active = and_true (is_joined (e ∷ past) s && is_none (recovery_of st (e ∷ past) s)) (is_none (leaving_job st (e ∷ past) s)) l.active in
+    let active = and_true (is_joined (e ∷ past) s && is_none (recovery_of st (e ∷ past) s)) (is_none (leaving_job st (e ∷ past) s)) (l.active other) in
     let well = and_true (is_joined (e ∷ past) s) (is_none (recovery_of st (e ∷ past) s)) active.0 in
     record {
       session = s;
@@ -59,7 +59,7 @@ stands_granted st e past g law given =
 
 -- ---- while it stands
 
-still_freeless : (st : Setting) (e : Entry) (past : Trace) (g : Grant) (s : Session) → Lawful st (e ∷ past) → IsSession st (e ∷ past) s → Contains (holdings_of (e ∷ past) s) g
+still_freeless : (st : Setting) (e : Entry) (past : Trace) (g : Grant) (s : Session) → Orderly st (e ∷ past) → IsSession st (e ∷ past) s → Contains (holdings_of (e ∷ past) s) g
     → HasNoFree past s → HasNoFree (e ∷ past) s
 still_freeless st e past g s law its held before m there mine frees = by (old_or_new (length past) e.reading e.effects.calls (mark past e e.input (submitted past)) m there) where
   by : Contains (mark past e e.input (submitted past)) m ⊎ IsNewCall (length past) e.reading e.effects.calls m → ⊥
@@ -73,7 +73,7 @@ still_freeless st e past g s law its held before m there mine frees = by (old_or
       free_law st t s c m.call.purpose (law.delta.0.calls new.index m.call s new.call (ap (λ n. session_numbered st (e ∷ past) n) mine ∙ its)) frees in
       contains_none g (subst (λ (xs : List Grant). Contains xs g) f.no_holding held)
 
-still_joined : (st : Setting) (e : Entry) (past : Trace) (g : Grant) (s : Session) → Lawful st (e ∷ past) → IsSession st past s → Contains (holdings_of (e ∷ past) s) g
+still_joined : (st : Setting) (e : Entry) (past : Trace) (g : Grant) (s : Session) → Orderly st (e ∷ past) → IsSession st past s → Contains (holdings_of (e ∷ past) s) g
     → HasNoFree (e ∷ past) s → is_joined past s ≡ true → is_joined (e ∷ past) s ≡ true
 still_joined st e past g s law its held free joined = by (is_joined (e ∷ past) s) refl where
   parts : MayPart st past e s → ⊥
@@ -82,9 +82,9 @@ still_joined st e past g s law its held free joined = by (is_joined (e ∷ past)
 
   by : (b : Bool) → is_joined (e ∷ past) s ≡ b → b ≡ true
   by true is = refl
-  by false is = absurd (parts (law.recovery.0.parts_well s (got_inside (sessions st past) s.number s its) joined is))
+  by false is = absurd (parts (law.parting.0.parts_well s (got_inside (sessions st past) s.number s its) joined is))
 
-stands_longer : (st : Setting) (e : Entry) (past : Trace) (g : Grant) → Lawful st (e ∷ past) → Contains (holdings (e ∷ past)) g → StandsBehind st past g → StandsBehind st (e ∷ past) g
+stands_longer : (st : Setting) (e : Entry) (past : Trace) (g : Grant) → Orderly st (e ∷ past) → Contains (holdings (e ∷ past)) g → StandsBehind st past g → StandsBehind st (e ∷ past) g
 stands_longer st e past g law there r =
     let s : Session = r.session in
     let known : session_numbered st (e ∷ past) g.session ≡ Some s = session_more st e past g.session s r.known in
@@ -98,14 +98,34 @@ stands_longer st e past g law there r =
       placed = r.placed;
     }
 
-pub stands_behind : (st : Setting) (es : Trace) → Lawful st es → (g : Grant) → Contains (holdings es) g → StandsBehind st es g
+-- An orphan's session is that of the holding that it was.
+orphan_stands : (st : Setting) (past : Trace) (left g : Grant) → g ≡ orphan_of left → StandsBehind st past left → StandsBehind st past g
+orphan_stands st past left g is r =
+    record {
+      session = r.session;
+      known = ap (λ (h : Grant). session_numbered st past h.session) is ∙ r.known;
+      joined = r.joined;
+      freeless = r.freeless;
+      placed = subst (λ (h : Grant). IsTrue (is_base st.layout h.offset)) (sym is) r.placed;
+    }
+
+given_stands : (st : Setting) (e : Entry) (past : Trace) (g : Grant) → Orderly st (e ∷ past) → Contains (holdings (e ∷ past)) g → Contains e.effects.grants g
+    → ((h : Grant) → Contains (holdings past) h → StandsBehind st past h) → StandsBehind st (e ∷ past) g
+given_stands st e past g law there given before = by (is_orphan g) refl where
+  by : (b : Bool) → is_orphan g ≡ b → StandsBehind st (e ∷ past) g
+  by false is = stands_granted st e past g law given is
+  by true is =
+      let o : LawfulOrphan past e g = law.granting.0.orphans g given is in
+      stands_longer st e past g law there (orphan_stands st past o.left g o.becomes (before o.left o.held))
+
+pub stands_behind : (st : Setting) (es : Trace) → Orderly st es → (g : Grant) → Contains (holdings es) g → StandsBehind st es g
 stands_behind st [] law g there = absurd (contains_none g there)
 stands_behind st (e ∷ past) law g there =
-    by (λ old. stands_behind st past (lawful-front st (e ∷ []) past law) g old) (held_or_given e past g there)
+    by (λ h old. stands_behind st past (orderly-front st (e ∷ []) past law) h old) (held_or_given e past g there)
   where
-    by : (Contains (holdings past) g → StandsBehind st past g) → Contains (holdings past) g ⊎ Contains e.effects.grants g → StandsBehind st (e ∷ past) g
-    by rest (inl old) = stands_longer st e past g law there (rest old)
-    by rest (inr new) = stands_granted st e past g law new
+    by : ((h : Grant) → Contains (holdings past) h → StandsBehind st past h) → Contains (holdings past) g ⊎ Contains e.effects.grants g → StandsBehind st (e ∷ past) g
+    by rest (inl old) = stands_longer st e past g law there (rest g old)
+    by rest (inr new) = given_stands st e past g law there new rest
 
 pub holders_stand : HoldersStand
 holders_stand st es law g there =

@@ -5,8 +5,8 @@ use Rattle.sl_safety.proofs.Holding.Granted.{held_or_given}
 use Rattle.sl_safety.proofs.Holding.Places.{HeldOn, held_on, on_held, spot_is}
 use Rattle.sl_safety.proofs.Holding.Standing.{stands_behind}
 use Rattle.sl_safety.specs.Holding.Granting.{ExclusivesAreUnfreed}
-use Rattle.sl_law.proofs.LawFacts.{lawful-front}
-use Rattle.sl_law.specs.Lawful.{Lawful}
+use Rattle.sl_law.proofs.LawFacts.{orderly-front}
+use Rattle.sl_law.specs.Lawful.{Orderly}
 use Rattle.sl_law.specs.LawfulGrant.{LawfulGrantTo}
 use Rattle.sl_law.specs.LawfulLeader.{LawfulFreeLeader, LawfulLeaderWrite, LawfulTake}
 use Rattle.sl_law.specs.Saying.{cut_at}
@@ -73,7 +73,7 @@ pub exclusive_is : (m : Mode) → is_shared m ≡ false → m ≡ Exclusive
 exclusive_is Exclusive h = refl
 exclusive_is Shared h = absurd (true_is_false h)
 
-unfreed_granted : (st : Setting) (e : Entry) (past : Trace) (g : Grant) (s : Session) → Lawful st (e ∷ past) → Contains e.effects.grants g → is_shared g.mode ≡ false
+unfreed_granted : (st : Setting) (e : Entry) (past : Trace) (g : Grant) (s : Session) → Orderly st (e ∷ past) → Contains e.effects.grants g → is_shared g.mode ≡ false
     → session_numbered st (e ∷ past) g.session ≡ Some s → FreesNone st (e ∷ past) s g
 unfreed_granted st e past g s law given exclusive known d there mine on frees =
     let l : LawfulGrantTo st (e ∷ past) s g = law.granting.0.each g s given known in
@@ -100,7 +100,7 @@ refused st t s c g f w spot exclusive held =
 base_is : (g n : ℕ) → (n % g == 0 && nat_lt n (10 ^ 12)) ≡ true → n % g ≡ 0
 base_is g n h = eqb-true (n % g) 0 (and_true (n % g == 0) (nat_lt n (10 ^ 12)) h).0
 
-unfreed_longer : (st : Setting) (e : Entry) (past : Trace) (g : Grant) (s : Session) → Lawful st (e ∷ past) → IsSession st (e ∷ past) s → g.session ≡ s.number
+unfreed_longer : (st : Setting) (e : Entry) (past : Trace) (g : Grant) (s : Session) → Orderly st (e ∷ past) → IsSession st (e ∷ past) s → g.session ≡ s.number
     → Contains (holdings (e ∷ past)) g → is_shared g.mode ≡ false → IsTrue (is_base st.layout g.offset) → FreesNone st past s g → FreesNone st (e ∷ past) s g
 unfreed_longer st e past g s law its number held exclusive placed before d there mine on frees =
     by (old_or_new (length past) e.reading e.effects.calls (mark past e e.input (submitted past)) d there)
@@ -121,17 +121,17 @@ unfreed_longer st e past g s law its number held exclusive placed before d there
         refused st t s c g f w (spot_is st.layout (spot_of_grant g) c (base_is st.layout.area g.offset placed) here) exclusive
         (on_held (e ∷ past) s (spot_of_grant g) g (record { there = held; mine = number; spot = refl }))
 
-unfreed : (st : Setting) (es : Trace) → Lawful st es → (g : Grant) → Contains (holdings es) g → is_shared g.mode ≡ false → (s : Session)
+unfreed : (st : Setting) (es : Trace) → Orderly st es → (g : Grant) → Contains (holdings es) g → is_shared g.mode ≡ false → (s : Session)
     → session_numbered st es g.session ≡ Some s → FreesNone st es s g
 unfreed st [] law g held exclusive s known = absurd (contains_none g held)
 unfreed st (e ∷ past) law g held exclusive s known =
-    by (λ old x was. unfreed st past (lawful-front st (e ∷ []) past law) g old exclusive x was) (held_or_given e past g held)
+    by (λ old x was. unfreed st past (orderly-front st (e ∷ []) past law) g old exclusive x was) (held_or_given e past g held)
   where
     by : (Contains (holdings past) g → (x : Session) → session_numbered st past g.session ≡ Some x → FreesNone st past x g)
         → Contains (holdings past) g ⊎ Contains e.effects.grants g → FreesNone st (e ∷ past) s g
     by rest (inr new) = unfreed_granted st e past g s law new exclusive known
     by rest (inl old) =
-        let r = stands_behind st past (lawful-front st (e ∷ []) past law) g old in
+        let r = stands_behind st past (orderly-front st (e ∷ []) past law) g old in
         let same : r.session ≡ s = one_value r.session s (session_numbered st (e ∷ past) g.session) (session_more st e past g.session r.session r.known) known in
         let its : IsSession st (e ∷ past) s = itself st (e ∷ past) g.session s known in
         let number : g.session ≡ s.number = sym (number_is_place st (e ∷ past) g.session s known) in

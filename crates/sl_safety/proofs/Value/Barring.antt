@@ -5,6 +5,7 @@ use Rattle.sl_area.specs.Places.{value_offset}
 use Rattle.sl_run_law.proofs.Front.Having.{contains_right}
 use Rattle.sl_safety.proofs.Grant.Growing.{calls_grow}
 use Rattle.sl_id_safety.proofs.State.Keeping.{is_place}
+use Rattle.sl_law.specs.LawfulArea.{is_area_work}
 use Rattle.sl_law.specs.LawfulLeader.{open_writes_on}
 use Rattle.sl_law.specs.LawfulValue.{writes_since}
 use Rattle.sl_law.specs.Saying.{cut_at}
@@ -99,9 +100,9 @@ le_test a b h = grind (arith, nat_tests)
 
 -- An unanswered write there is no older than the reader's call.
 not_older : (p : Program) (h : Header) (now : List Happening) (i : SessionId) (g : Found) (c d : Course) (o : OwnCall p h now i g c) (q : OwnCall p h now i g d) → area_of o ≡ area_of q
-    → (job : ℕ) → c.call.purpose ≡ ValueRead job → is_write q.call.call.op ≡ true → d.answered ≡ None → (newer between older : List Submitted)
+    → (job : ℕ) → c.call.purpose ≡ ValueRead job → is_write q.call.call.op ≡ true → is_area_work q.call.call.purpose ≡ true → d.answered ≡ None → (newer between older : List Submitted)
     → submitted (trace_of g) ≡ newer ++ o.call ∷ (between ++ q.call ∷ older) → ⊥
-not_older p h now i g c d o q area job purpose writes waits newer between older is =
+not_older p h now i g c d o q area job purpose writes work waits newer between older is =
     let st : Setting = setting_in g in
     let s = each_was_submitted st (trace_of g) o.known.lawful newer (between ++ q.call ∷ older) o.call is in
     let u = s.submission in
@@ -120,8 +121,9 @@ not_older p h now i g c d o q area job purpose writes waits newer between older 
     let on : is_on st.layout at a.was.call ≡ true =
     subst (λ z. is_on st.layout z a.was.call ≡ true) (sym spot) (ap (λ z. is_on st.layout (area_of q) z) (sym a.aged.call) ∙ on_own p h now i g d q) in
     let inside : Contains (open_writes_on st front s.session at) a.was =
-    kept (λ (m : Submitted). is_write m.call.op && is_on st.layout at m.call) _ a.was (and_from (is_write a.was.call.op) (is_on st.layout at a.was.call)
-    (ap (λ (z : Call). is_write z.op) (sym a.aged.call) ∙ writes) on)
+    kept (λ (m : Submitted). is_area_work m.call.purpose && (is_write m.call.op && is_on st.layout at m.call)) _ a.was
+    (and_from (is_area_work a.was.call.purpose) (is_write a.was.call.op && is_on st.layout at a.was.call) (ap (λ (z : Call). is_area_work z.purpose) (sym a.aged.call) ∙ work)
+    (and_from (is_write a.was.call.op) (is_on st.layout at a.was.call) (ap (λ (z : Call). is_write z.op) (sym a.aged.call) ∙ writes) on))
     (kept (λ (m : Submitted). is_none m.answer) (calls_of front s.session) a.was (ap (λ (z : Option Answered). is_none z) none)
     (kept (is_call_of s.session) (submitted front) a.was mine (has_it (submitted front) a.was a.has))) in
     contains_none a.was (subst (λ ms. Contains ms a.was) law.alone inside)
@@ -143,8 +145,9 @@ no_earlier p h now i g c d o q newer between older is =
 
 -- Since the reader's call its session made no write there.
 since_calm : (p : Program) (h : Header) (xs now : List Happening) (at : Spot) (i : SessionId) (f : Found) (c : Course) (v : ValueRec) (stamp : Stamp) (R : Reader p h xs at i f c v stamp)
-    → (t : ReaderThere p h xs now at i f c v stamp R) (d : Course) (q : OwnCall p h now i t.found d) → area_of q ≡ at → is_write q.call.call.op ≡ true → t.own.call.at ≤ q.call.at → ⊥
-since_calm p h xs now at i f c v stamp R t d q area writes late =
+    → (t : ReaderThere p h xs now at i f c v stamp R) (d : Course) (q : OwnCall p h now i t.found d) → area_of q ≡ at → is_write q.call.call.op ≡ true → is_area_work q.call.call.purpose ≡ true
+    → t.own.call.at ≤ q.call.at → ⊥
+since_calm p h xs now at i f c v stamp R t d q area writes work late =
     let st : Setting = setting_in f in
     let n = calls_grow t.mid (trace_of t.found) q.call q.inside in
     let inside : Contains (submitted (R.entry ∷ R.past)) n.now = subst (λ es. Contains (submitted es) n.now) (sym t.ends) n.inside in
@@ -155,9 +158,12 @@ since_calm p h xs now at i f c v stamp R t d q area writes late =
     ∙ subst (λ z. is_on (setting_in t.found).layout z q.call.call ≡ true) area (on_own p h now i t.found d q) in
     let le : nat_le R.own.call.at n.now.at ≡ true = le_test R.own.call.at n.now.at (subst (λ k. R.own.call.at ≤ k) (sym n.at) (subst (λ k. k ≤ q.call.at) t.index late)) in
     let some : writes_since st R.own.call.at (R.entry ∷ R.past) f.session at ≡ true =
-    any_of (λ (m : Submitted). nat_le R.own.call.at m.at && is_write m.call.op && is_on st.layout at m.call) (calls_of (R.entry ∷ R.past) f.session) n.now
-    (and_from (nat_le R.own.call.at n.now.at && is_write n.now.call.op) (is_on st.layout at n.now.call)
-    (and_from (nat_le R.own.call.at n.now.at) (is_write n.now.call.op) le (ap (λ (z : Call). is_write z.op) n.call ∙ writes)) on)
+    any_of (λ (m : Submitted). is_area_work m.call.purpose && (nat_le R.own.call.at m.at && (is_write m.call.op && is_on st.layout at m.call)))
+    (calls_of (R.entry ∷ R.past) f.session) n.now
+    (and_from (is_area_work n.now.call.purpose) (nat_le R.own.call.at n.now.at && (is_write n.now.call.op && is_on st.layout at n.now.call))
+    (ap (λ (z : Call). is_area_work z.purpose) n.call ∙ work)
+    (and_from (nat_le R.own.call.at n.now.at) (is_write n.now.call.op && is_on st.layout at n.now.call) le
+    (and_from (is_write n.now.call.op) (is_on st.layout at n.now.call) (ap (λ (z : Call). is_write z.op) n.call ∙ writes) on)))
     (kept (is_call_of f.session) (submitted (R.entry ∷ R.past)) n.now mine inside) in
     true_is_false (sym some ∙ R.calm)
 
@@ -167,15 +173,15 @@ not_read c q u reads writes same =
     none_some r (ap (λ (o : Op). record_of o) (sym reads) ∙ ap (λ (m : Submitted). record_of m.call.op) same ∙ writes)
 
 own_bars : (p : Program) (h : Header) (xs now : List Happening) (at : Spot) (i : SessionId) (f : Found) (c : Course) (v : ValueRec) (stamp : Stamp) (R : Reader p h xs at i f c v stamp)
-    → (t : ReaderThere p h xs now at i f c v stamp R) (d : Course) (q : OwnCall p h now i t.found d) (u : ValueRec) → record_of q.call.call.op ≡ Some (ValueIs u) → area_of q ≡ at
-    → area_of t.own ≡ at → d.answered ≡ None → Order (submitted (trace_of t.found)) t.own.call q.call → ⊥
-own_bars p h xs now at i f c v stamp R t d q u says area reads waits (Same is) =
+    → (t : ReaderThere p h xs now at i f c v stamp R) (d : Course) (q : OwnCall p h now i t.found d) (u : ValueRec) → record_of q.call.call.op ≡ Some (ValueIs u) → is_area_work q.call.call.purpose ≡ true
+    → area_of q ≡ at → area_of t.own ≡ at → d.answered ≡ None → Order (submitted (trace_of t.found)) t.own.call q.call → ⊥
+own_bars p h xs now at i f c v stamp R t d q u says work area reads waits (Same is) =
     not_read t.own.call q.call u (ap (λ (z : Call). z.op) (t.own.is.call ∙ sym t.call) ∙ R.read) says is
-own_bars p h xs now at i f c v stamp R t d q u says area reads waits (Newer newer between older is) =
-    not_older p h now i t.found t.course d t.own q (reads ∙ sym area) R.job (ap (λ (z : Call). z.purpose) (sym t.call) ∙ R.purpose) (write_is q.call.call.op (ValueIs u) says) waits
+own_bars p h xs now at i f c v stamp R t d q u says work area reads waits (Newer newer between older is) =
+    not_older p h now i t.found t.course d t.own q (reads ∙ sym area) R.job (ap (λ (z : Call). z.purpose) (sym t.call) ∙ R.purpose) (write_is q.call.call.op (ValueIs u) says) work waits
     newer between older is
-own_bars p h xs now at i f c v stamp R t d q u says area reads waits (Older newer between older is) =
-    since_calm p h xs now at i f c v stamp R t d q area (write_is q.call.call.op (ValueIs u) says) (no_earlier p h now i t.found t.course d t.own q newer between older is)
+own_bars p h xs now at i f c v stamp R t d q u says work area reads waits (Older newer between older is) =
+    since_calm p h xs now at i f c v stamp R t d q area (write_is q.call.call.op (ValueIs u) says) work (no_earlier p h now i t.found t.course d t.own q newer between older is)
 
 -- ---- none at all
 
@@ -191,11 +197,13 @@ none_between keep p h xs now at i f c v stamp R t path offset k g d writes =
     let layout : (world_at p h xs).layout ≡ w.layout = layout_is p h xs ∙ sym (layout_is p h now) in
     let place = place_is d.call.path d.call.offset at.path (value_offset w.layout at.base) writes.place in
     let says : record_of q.call.call.op ≡ Some (ValueIs writes.value) = ap (λ (z : Call). record_of z.op) q.is.call ∙ writes.writes in
-    let area : area_of q ≡ at = meant_by p h now i t.found at d q (value_held p h now i t.found d q writes.value writes.writes).place place.0 place.1 in
+    let held = value_held p h now i t.found d q writes.value writes.writes in
+    let work : is_area_work q.call.call.purpose ≡ true = ap (λ (z : Call). is_area_work z.purpose) q.is.call ∙ held.work in
+    let area : area_of q ≡ at = meant_by p h now i t.found at d q held.place place.0 place.1 in
     let purpose : t.course.call.purpose ≡ ValueRead R.job = ap (λ (z : Call). z.purpose) (sym t.call) ∙ R.purpose in
     let law = t.own.lawful.values.0.reads t.own.made.index t.own.call.call t.found.session t.own.made.call t.own.its R.job (ap (λ (z : Call). z.purpose) t.own.is.call ∙ purpose) in
     let reads : area_of t.own ≡ at =
     meant_by p h now i t.found at t.course t.own (sym law.whole.0 ∙ ap (λ (z : Call). z.offset) t.own.is.call) (ap (λ (z : Call). z.path) (sym t.call) ∙ path)
     (ap (λ (z : Call). z.offset) (sym t.call) ∙ offset ∙ ap (λ (l : Layout). value_offset l at.base) layout) in
     let opens = open_waits g d writes.flies in
-    own_bars p h xs now at i f c v stamp R t d q writes.value says area reads opens (order (submitted (trace_of t.found)) t.own.call q.call t.own.inside q.inside)
+    own_bars p h xs now at i f c v stamp R t d q writes.value says work area reads opens (order (submitted (trace_of t.found)) t.own.call q.call t.own.inside q.inside)

@@ -12,7 +12,7 @@ use Rattle.sl_safety.proofs.Holding.Places.{on_held}
 use Rattle.sl_safety.proofs.Holding.Standing.{holders_stand}
 use Rattle.sl_safety.proofs.Holding.Unfreed.{exclusives_are_unfreed}
 use Rattle.sl_holdings.specs.Holdings.{IsKept}
-use Rattle.sl_law.proofs.LawFacts.{lawful-front}
+use Rattle.sl_law.proofs.LawFacts.{orderly-front}
 use Rattle.sl_law.specs.LawfulArea.{is_area_work}
 use Rattle.sl_trace_law.specs.Leases.Promises.{WasAnsweredBy}
 use Rattle.sl_leases.specs.Leases.{is_block_read, is_free_write, is_on, leader_of_record}
@@ -101,7 +101,7 @@ not_freed : (p : Program) (h : Header) (xs : List Happening) (i : SessionId) (f 
 not_freed p h xs i f c o v r e area x b held =
     let st : Setting = setting_in f in
     let d = o.made in
-    let law = lawful-front st (d.entry ∷ []) d.past o.lawful in
+    let law = orderly-front st (d.entry ∷ []) d.past o.lawful in
     let on = holding_of p h xs i f c o v in
     let mine = on.mine in
     let spot = on.spot in

@@ -7,11 +7,11 @@ use Rattle.sl_id_safety.proofs.State.Proven.{grounds}
 use Rattle.sl_id_safety.proofs.State.Steps.{IsSampled, is_sampled}
 use Rattle.sl_run_law.proofs.Landing.Proven.{landings_are_written}
 use Rattle.sl_run_law.specs.Landing.Landings.{HasWriter, LeftBy}
-use Rattle.sl_run_law.proofs.Place.Areas.{sector_fits}
 use Rattle.sl_run_law.proofs.Place.Finding.{numbered_inside, place_is}
 use Rattle.sl_run_law.proofs.Place.Proven.{promised}
 use Rattle.sl_run_law.proofs.Place.Reading.{reads_back}
 use Rattle.sl_run_law.proofs.Place.Seats.{sized_in}
+use Rattle.sl_run_law.proofs.Place.Sizes.{sector_fits}
 use Rattle.sl_history.proofs.Resources.Landed.{Name, name_of, one_sent}
 use Rattle.sl_history.proofs.Resources.Shown.{in_history}
 use Rattle.sl_history.specs.Resources.Sending.{Sent, step_of}

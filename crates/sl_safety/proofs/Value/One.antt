@@ -11,9 +11,10 @@ use Rattle.sl_holdings.proofs.Holding.{none_shares_beside, one_is_kept}
 use Rattle.sl_run_law.proofs.Landing.Listing.{one_call}
 use Rattle.sl_law.specs.LawfulArea.{is_area_work, is_block_work}
 use Rattle.sl_leases.specs.Leases.{is_block_read, is_on}
-use Rattle.sl_run_law.proofs.Place.Areas.{IsSized, one_resource}
+use Rattle.sl_run_law.proofs.Place.Areas.{one_resource}
 use Rattle.sl_run_law.proofs.Place.Finding.{place_is}
 use Rattle.sl_run_law.proofs.Place.Seats.{sized_in}
+use Rattle.sl_run_law.proofs.Place.Sizes.{IsSized, sector_in_area}
 use Rattle.sl_history.proofs.Resources.Calls.{order, write_is}
 use Rattle.sl_history.specs.Resources.Promises.{history_of_line, spot_of_line}
 use Rattle.sl_run.specs.Headers.{IsHeader}
@@ -39,7 +40,7 @@ use Rattle.sl_safety.specs.Value.Writing.{HoldersKeepValues, OneWritesValue, Wri
 use Rattle.sl_words.proofs.CaseLaws.{one_value, true_or_false}
 use Rattle.std.proofs.Common.{ap, arith, inl, inr, subst, sym, ◌∙◌}
 use Rattle.std.proofs.lemmas.Bool.{eq-eqb}
-use Rattle.std.specs.Prelude.{Contains, List, None, Some, true, ℕ, ◌%◌, ◌+◌, ◌-◌, ◌≡◌}
+use Rattle.std.specs.Prelude.{Contains, List, None, Some, true, ℕ, ◌%◌, ◌+◌, ◌-◌, ◌≡◌, ◌≤◌}
 
 -- What this rests on.
 pub record Grounds : Type 0 where
@@ -67,8 +68,8 @@ one_area p h xs i k f g c d o q paths offsets =
     let l : Layout = (world_at p h xs).layout in
     area_is p h xs i f c o ∙ ap (λ y. spot_there l y c.call.offset) paths ∙ ap (λ n. spot_there l d.call.path n) offsets ∙ sym (area_is p h xs k g d q)
 
-same_by : (a b area sector : ℕ) → area ≡ 1048576 → sector ≡ 512 → a + area - sector ≡ b + area - sector → a ≡ b
-same_by a b area sector z le same = omega (arith, z, le, same)
+same_by : (a b area sector : ℕ) → sector ≤ area → a + area - sector ≡ b + area - sector → a ≡ b
+same_by a b area sector le same = omega (arith, le, same)
 
 spots_are : (s t : Spot) → s.path ≡ t.path → s.base ≡ t.base → s ≡ t
 spots_are s t paths bases = ap (λ y. let z : Spot = record { path = y; base = s.base } in z) paths ∙ ap (λ n. let z : Spot = record { path = t.path; base = n } in z) bases
@@ -172,10 +173,10 @@ pub meant_by : (p : Program) (h : Header) (xs : List Happening) (i : SessionId) 
     → value_offset (setting_in f).layout (area_of o).base ≡ c.call.offset → c.call.path ≡ at.path → c.call.offset ≡ value_offset (world_at p h xs).layout at.base → area_of o ≡ at
 meant_by p h xs i f at c o place paths offsets =
     let w : World = world_at p h xs in
-    let z : IsSized w.layout = sized_in p h xs o.run in
+    let z : IsSized h.geometry w.layout = sized_in p h xs o.run in
     let placed : value_offset w.layout (area_of o).base ≡ value_offset w.layout at.base =
     ap (λ (l : Layout). value_offset l (area_of o).base) (sym o.known.of_world.layout) ∙ place ∙ offsets in
-    spots_are (area_of o) at (ap (λ (y : Call). y.path) o.is.call ∙ paths) (same_by (area_of o).base at.base w.layout.area w.layout.sector z.area z.sector placed)
+    spots_are (area_of o) at (ap (λ (y : Call). y.path) o.is.call ∙ paths) (same_by (area_of o).base at.base w.layout.area w.layout.sector (sector_in_area w.layout z) placed)
 
 meant : (p : Program) (h : Header) (xs : List Happening) (i : SessionId) (f : Found) (at : Spot) (c : Course) (o : OwnCall p h xs i f c) → WritesValue (world_at p h xs) i f at c → area_of o ≡ at
 meant p h xs i f at c o x =

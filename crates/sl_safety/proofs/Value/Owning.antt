@@ -3,7 +3,7 @@ use Rattle.sl_run_law.specs.Course.Stamping.{AnswersAgree, IsCourseOf}
 use Rattle.sl_id_safety.proofs.State.Bridge.{IsKnown, known}
 use Rattle.sl_id_safety.proofs.State.Proven.{grounds}
 use Rattle.sl_id_safety.specs.State.IdStates.{own_courses}
-use Rattle.sl_law.specs.Lawful.{Lawful}
+use Rattle.sl_law.specs.Lawful.{Orderly}
 use Rattle.sl_run_law.proofs.Place.Finding.{partner}
 use Rattle.sl_run_law.proofs.Place.Reading.{call_law}
 use Rattle.sl_plain.proofs.Lists.{kept, kept_inside}
@@ -31,7 +31,7 @@ pub record OwnCall (p : Program) (h : Header) (xs : List Happening) (i : Session
   pub mine : call.call.session ≡ f.session.number
   pub is : IsCourseOf f.daemon c call
   pub made : IsMade (trace_of f) call
-  pub lawful : Lawful (setting_in f) (made.entry ∷ made.past)
+  pub lawful : Orderly (setting_in f) (made.entry ∷ made.past)
   pub its : session_numbered (setting_in f) (made.entry ∷ made.past) call.call.session ≡ Some f.session
 
 pub own_call : (p : Program) (h : Header) (xs : List Happening) → LawfulRun p h xs → (i : SessionId) (f : Found) → IsSession (world_at p h xs) i f → (c : Course)

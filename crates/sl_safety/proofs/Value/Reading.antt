@@ -6,8 +6,8 @@ use Rattle.sl_run_law.proofs.Course.Distinct.{each_distinct}
 use Rattle.sl_run_law.proofs.Course.Matched.{courses_are_calls}
 use Rattle.sl_run_law.specs.Course.Stamping.{AnswersAgree, IsAnsweredAs, IsCourseOf, courses_of, stamp_in}
 use Rattle.sl_run_law.proofs.Landing.Listing.{one_call}
-use Rattle.sl_law.proofs.LawFacts.{lawful-front}
-use Rattle.sl_law.specs.Lawful.{Lawful}
+use Rattle.sl_law.proofs.LawFacts.{orderly-front}
+use Rattle.sl_law.specs.Lawful.{Orderly}
 use Rattle.sl_law.specs.LawfulValue.{held_since, writes_since}
 use Rattle.sl_leases.specs.Leases.{spot_of_call}
 use Rattle.sl_run_law.proofs.Place.Finding.{partner_of, place_is}
@@ -48,7 +48,7 @@ pub record Reader (p : Program) (h : Header) (xs : List Happening) (at : Spot) (
   pub entry : Entry
   pub past : Trace
   pub whole : trace_of f ≡ later ++ entry ∷ past
-  pub lawful : Lawful (setting_in f) (entry ∷ past)
+  pub lawful : Orderly (setting_in f) (entry ∷ past)
   pub its : session_numbered (setting_in f) (entry ∷ past) f.session.number ≡ Some f.session
   pub answered : c.answered ≡ Some stamp
   pub stamped : stamp_in f.daemon.stamps (length past) ≡ Some stamp
@@ -89,7 +89,7 @@ reader_by p h xs at i f c v o job n purpose reply answered path offset =
     let st : Setting = setting_in f in
     let es : Trace = trace_of f in
     let R = replied_by es job (record { at = n; reply = Value v.lver v.seq v.bytes }) reply in
-    let law : Lawful st (R.entry ∷ R.past) = lawful-front st R.later (R.entry ∷ R.past) (subst (λ t. Lawful st t) R.whole o.known.lawful) in
+    let law : Orderly st (R.entry ∷ R.past) = orderly-front st R.later (R.entry ∷ R.past) (subst (λ t. Orderly st t) R.whole o.known.lawful) in
     let lr = law.values.0.replies R.reply v.lver v.seq v.bytes R.given R.says in
     let call : Submitted = lr.call in
     let f1 = kept_inside (is_call_of lr.session) (submitted (R.entry ∷ R.past)) call lr.of_session.0 in

@@ -5,7 +5,7 @@ use Rattle.sl_trace.specs.Traces.{Answered, Replied, Submitted, Trace, answer_of
 use Rattle.sl_trace.specs.declared.effects.Entry.{Entry}
 use Rattle.sl_trace.specs.declared.effects.JobReply.{JobReply}
 use Rattle.sl_trace.specs.declared.input.Answer.{Answer}
-use Rattle.sl_trace.specs.declared.input.Input.TheVariants.{Answer as Told, Exit, Line, Spawned, Wake}
+use Rattle.sl_trace.specs.declared.input.Input.TheVariants.{Answer as Told, Exit, Line, Number, Spawned, Wake}
 use Rattle.sl_trace.specs.declared.input.Input.{Input}
 use Rattle.sl_words.proofs.CaseLaws.{no_value, none_some, some_value}
 use Rattle.std.proofs.Common.{ap, arith, inl, inr, refl, subst, sym, ◌∙◌}
@@ -102,6 +102,7 @@ marked_told es e n w ms m a i there h =
 marked_by : (es : Trace) (e : Entry) (i : Input) (ms : List Submitted) (m : Submitted) (a : Answered) → e.input ≡ i → Contains (mark es e i ms) m → m.answer ≡ Some a → MarkedBy es e ms m a
 marked_by es e (Told n w) ms m a is there h = marked_told es e n w ms m a is there h
 marked_by es e (Line text) ms m a is there h = inl (m, there, refl, h)
+marked_by es e (Number text) ms m a is there h = inl (m, there, refl, h)
 marked_by es e (Exit p) ms m a is there h = inl (m, there, refl, h)
 marked_by es e (Spawned p ok) ms m a is there h = inl (m, there, refl, h)
 marked_by es e Wake ms m a is there h = inl (m, there, refl, h)

@@ -45,9 +45,9 @@ pub turns : (p : Program) (h : Header) (xs : List Happening) (i : SessionId) (f 
     → (k : Submitted) → OnArea p h xs i f c o k → Order (submitted (trace_of f)) o.call k → Turn o.call k
 turns p h xs i f c o works work k a (Same is) = One is
 turns p h xs i f c o works work k a (Newer newer between older is) =
-    After (one_at_a_time (setting_in f) (trace_of f) o.known.lawful newer between older o.call k is (sym a.mine) works work a.works a.on)
+    After (one_at_a_time (setting_in f) (trace_of f) o.known.lawful newer between older o.call k is (sym a.mine) works work a.works a.work a.on)
 turns p h xs i f c o works work k a (Older newer between older is) =
     let same = areas_are_apart (setting_in f).layout o.call k a.on in
     Before
-    (one_at_a_time (setting_in f) (trace_of f) o.known.lawful newer between older k o.call is a.mine a.works a.work works
+    (one_at_a_time (setting_in f) (trace_of f) o.known.lawful newer between older k o.call is a.mine a.works a.work works work
     (subst (λ z. is_on (setting_in f).layout z o.call.call ≡ true) (sym same) (on_own p h xs i f c o)))

@@ -5,7 +5,7 @@ use Rattle.sl_trace.specs.Traces.{Answered, Submitted, Trace, answer_of, answere
 use Rattle.sl_trace.specs.declared.effects.Call.{Call}
 use Rattle.sl_trace.specs.declared.effects.Entry.{Entry}
 use Rattle.sl_trace.specs.declared.input.Answer.{Answer}
-use Rattle.sl_trace.specs.declared.input.Input.TheVariants.{Answer as Told, Exit, Line, Spawned, Wake}
+use Rattle.sl_trace.specs.declared.input.Input.TheVariants.{Answer as Told, Exit, Line, Number, Spawned, Wake}
 use Rattle.sl_trace.specs.declared.input.Input.{Input}
 use Rattle.sl_words.proofs.CaseLaws.{none_some, some_value}
 use Rattle.std.proofs.Common.{arith, refl, subst}
@@ -40,6 +40,7 @@ all_marked_within es e number a (m ∷ ms) h = (marked_within es e number a m h.
 mark_within : (es : Trace) (e : Entry) (i : Input) (ms : List Submitted) → AllWithin (length es) ms → AllWithin (suc (length es)) (mark es e i ms)
 mark_within es e (Told number a) ms h = all_marked_within es e number a ms h
 mark_within es e (Line text) ms h = wider (length es) ms h
+mark_within es e (Number text) ms h = wider (length es) ms h
 mark_within es e (Exit p) ms h = wider (length es) ms h
 mark_within es e (Spawned p ok) ms h = wider (length es) ms h
 mark_within es e Wake ms h = wider (length es) ms h

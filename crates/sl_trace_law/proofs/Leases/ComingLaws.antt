@@ -1,6 +1,6 @@
 -- Each block comes from the own block.
 use Rattle.sl_area.specs.Layouts.{Layout}
-use Rattle.sl_law.specs.Lawful.{Lawful}
+use Rattle.sl_law.specs.Lawful.{Orderly}
 use Rattle.sl_law.specs.LawfulBlock.{LawfulBlockStep, LawfulBlockWrite}
 use Rattle.sl_law.specs.Saying.{cut_at}
 use Rattle.sl_trace_law.proofs.Leases.AgeLaws.{aged_block, aged_lease, found_stays, writes}
@@ -133,7 +133,7 @@ same_way s c d own b is (Of_mode (inr at) h) = Of_mode (inr (ap (λ x. is_at Mod
 abbrev place : Setting → Call → Spot
 place st c = spot_of_call st.layout (new_call 0 0 c)
 
-comes : (st : Setting) (es : Trace) → Lawful st es → 1 ≤ st.layout.hosts → (c : Submitted) (older : List Submitted) (b : Block) → LawfulSubmission st es c older
+comes : (st : Setting) (es : Trace) → Orderly st es → 1 ≤ st.layout.hosts → (c : Submitted) (older : List Submitted) (b : Block) → LawfulSubmission st es c older
     → block_written c ≡ Some b → (s : Session) → session_numbered st es c.call.session ≡ Some s → BlockComes st s (spot_of_call st.layout c) older c b
 comes st es law some c older b l wrote s numbered =
     let h : Submission es c older = l.submission in

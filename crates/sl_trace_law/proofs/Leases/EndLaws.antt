@@ -1,6 +1,6 @@
 -- Ballots that ended, and the leaders that follow them.
 use Rattle.sl_area.specs.Layouts.{Layout}
-use Rattle.sl_law.specs.Lawful.{Lawful}
+use Rattle.sl_law.specs.Lawful.{Orderly}
 use Rattle.sl_law.specs.LawfulLeader.{HasWon, LawfulFreeLeader, LawfulLeaderWrite, LawfulTake}
 use Rattle.sl_law.specs.Saying.{cut_at}
 use Rattle.sl_trace_law.proofs.Leases.AgeLaws.{aged_block, aged_lease, blocks_stay, kind_stays}
@@ -160,7 +160,7 @@ leader_rests st es s at older c l h w =
       not_freed = λ held. subst (λ k. k < l.lver) (aged_freed n (lease_calls st t s at) (lease_among st s at older) aged) (taken_above st t s at new l l.held w.ballot held);
     }
 
-follow : (st : Setting) (es : Trace) → Lawful st es → (older : List Submitted) (c : Submitted) (l : Leader) → LawfulSubmission st es c older
+follow : (st : Setting) (es : Trace) → Orderly st es → (older : List Submitted) (c : Submitted) (l : Leader) → LawfulSubmission st es c older
     → leader_written c ≡ Some l → (s : Session) → session_numbered st es c.call.session ≡ Some s → LeaderRests st es s (place st c.call) older c l
 follow st es law older c l known_as wrote s numbered =
     let h : Submission es c older = known_as.submission in

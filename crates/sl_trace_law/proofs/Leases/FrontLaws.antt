@@ -1,6 +1,6 @@
 -- Each call of a trace has its front.
-use Rattle.sl_law.proofs.LawFacts.{lawful-front}
-use Rattle.sl_law.specs.Lawful.{Lawful}
+use Rattle.sl_law.proofs.LawFacts.{orderly-front}
+use Rattle.sl_law.specs.Lawful.{Orderly}
 use Rattle.sl_law.specs.Saying.{cut_at}
 use Rattle.sl_trace_law.specs.Leases.Fronts.{Aged, AllAged, LawfulSubmission, Submission}
 use Rattle.sl_trace_law.specs.Leases.Promises.{EachWasSubmitted}
@@ -12,7 +12,7 @@ use Rattle.sl_trace.specs.Traces.{Answered, Setting, Submitted, Trace, answer_of
 use Rattle.sl_trace.specs.declared.effects.Call.{Call}
 use Rattle.sl_trace.specs.declared.effects.Entry.{Entry}
 use Rattle.sl_trace.specs.declared.input.Answer.{Answer}
-use Rattle.sl_trace.specs.declared.input.Input.TheVariants.{Answer as Told, Exit, Line, Spawned, Wake}
+use Rattle.sl_trace.specs.declared.input.Input.TheVariants.{Answer as Told, Exit, Line, Number, Spawned, Wake}
 use Rattle.sl_trace.specs.declared.input.Input.{Input}
 use Rattle.sl_words.proofs.CaseLaws.{none_some}
 use Rattle.std.proofs.Common.{ap, arith, inl, inr, refl, subst, sym, ◌∙◌}
@@ -102,6 +102,7 @@ all_answered_by es e number a n late (x ∷ xs) (m ∷ ms) h =
 -- An answer marks the calls before alike, whatever calls its entry makes.
 marked_alike : (es : Trace) (e : Entry) (k : ℕ) (i : Input) (ms : List Submitted) → mark es e i ms ≡ mark es (cut_at k e) i ms
 marked_alike es e k (Line text) ms = refl
+marked_alike es e k (Number text) ms = refl
 marked_alike es e k (Told n a) ms = refl
 marked_alike es e k (Exit p) ms = refl
 marked_alike es e k (Spawned p ok) ms = refl
@@ -191,6 +192,7 @@ marked_submission e es (Told number a) all newer older c h =
     subst (λ x. Submission (e ∷ es) x older) m.itself
     (subst (λ xs. Submission (e ∷ es) (answered_in es e number a m.was) xs) m.others (later_told e es number a m.was m.rest (all m.newer m.rest m.was m.is)))
 marked_submission e es (Line text) all newer older c h = later_same e es c older (all newer older c h)
+marked_submission e es (Number text) all newer older c h = later_same e es c older (all newer older c h)
 marked_submission e es (Exit p) all newer older c h = later_same e es c older (all newer older c h)
 marked_submission e es (Spawned p ok) all newer older c h = later_same e es c older (all newer older c h)
 marked_submission e es Wake all newer older c h = later_same e es c older (all newer older c h)
@@ -215,10 +217,10 @@ session_stays st (e ∷ later) es n s h =
     got_before (sessions st (later ++ es)) (begun_in st (later ++ es) (length (sessions st (later ++ es))) e) n s (session_stays st later es n s h)
 
 -- The laws hold at the front.
-pub lawful_there : (st : Setting) (es : Trace) → Lawful st es → (c : Submitted) (older : List Submitted) → (h : Submission es c older) → Lawful st (h.entry ∷ h.past)
-lawful_there st es law c older h = lawful-front st h.later (h.entry ∷ h.past) (subst (λ t. Lawful st t) h.whole law)
+pub lawful_there : (st : Setting) (es : Trace) → Orderly st es → (c : Submitted) (older : List Submitted) → (h : Submission es c older) → Orderly st (h.entry ∷ h.past)
+lawful_there st es law c older h = orderly-front st h.later (h.entry ∷ h.past) (subst (λ t. Orderly st t) h.whole law)
 
-pub lawful_submission : (st : Setting) (es : Trace) → Lawful st es → (c : Submitted) (older : List Submitted) → Submission es c older → LawfulSubmission st es c older
+pub lawful_submission : (st : Setting) (es : Trace) → Orderly st es → (c : Submitted) (older : List Submitted) → Submission es c older → LawfulSubmission st es c older
 lawful_submission st es law c older h =
     let owner : (s : Session) × (session_numbered st (h.entry ∷ h.past) h.call.session ≡ Some s) =
     some_of (session_numbered st (h.entry ∷ h.past) h.call.session)

@@ -1,6 +1,6 @@
 -- Modes and grants.
-use Rattle.sl_law.proofs.LawFacts.{lawful-front}
-use Rattle.sl_law.specs.Lawful.{Lawful}
+use Rattle.sl_law.proofs.LawFacts.{orderly-front}
+use Rattle.sl_law.specs.Lawful.{Orderly}
 use Rattle.sl_law.specs.LawfulModes.{LawfulExclusiveGrant, LawfulMode, LawfulSharedGrant}
 use Rattle.sl_law.specs.Saying.{cut_at}
 use Rattle.sl_trace_law.proofs.Leases.AgeLaws.{writes}
@@ -27,7 +27,7 @@ use Rattle.std.specs.Prelude.{Contains, IsTrue, List, MatchBool, Some, length, t
 abbrev place : Setting → Call → Spot
 place st c = spot_of_call st.layout (new_call 0 0 c)
 
-mode_rests : (st : Setting) (es : Trace) → Lawful st es → (older : List Submitted) (c : Submitted) (b : Block) → LawfulSubmission st es c older
+mode_rests : (st : Setting) (es : Trace) → Orderly st es → (older : List Submitted) (c : Submitted) (b : Block) → LawfulSubmission st es c older
     → writes c.call ≡ Some b → (s : Session) → session_numbered st es c.call.session ≡ Some s → ModeRests es s (place st c.call) older c b
 mode_rests st es law older c b l wrote s numbered =
     let h : Submission es c older = l.submission in
@@ -46,10 +46,10 @@ mode_rests st es law older c b l wrote s numbered =
 pub modes_follow : ModesFollow
 modes_follow st es law newer older c b h wrote s numbered = mode_rests st es law older c b (each_was_submitted st es law newer older c h) wrote s numbered
 
-exclusive_rests : (st : Setting) (later past : Trace) (e : Entry) → Lawful st (later ++ e ∷ past) → (g : Grant) → Contains e.effects.grants g → g.mode ≡ Exclusive → (s : Session)
+exclusive_rests : (st : Setting) (later past : Trace) (e : Entry) → Orderly st (later ++ e ∷ past) → (g : Grant) → Contains e.effects.grants g → g.mode ≡ Exclusive → (s : Session)
     → session_numbered st (later ++ e ∷ past) g.session ≡ Some s → ExclusiveRests st (e ∷ past) s (spot_of_grant g) g
 exclusive_rests st later past e law g granted mode s numbered =
-    let here : Lawful st (e ∷ past) = lawful-front st later (e ∷ past) law in
+    let here : Orderly st (e ∷ past) = orderly-front st later (e ∷ past) law in
     let owner : (o : Session) × (session_numbered st (e ∷ past) g.session ≡ Some o) = some_of (session_numbered st (e ∷ past) g.session) (here.granting.0.owned g granted) in
     let itself : owner.0 ≡ s =
     one_value owner.0 s (session_numbered st (later ++ e ∷ past) g.session) (session_stays st later (e ∷ past) g.session owner.0 owner.1) numbered in
@@ -65,12 +65,12 @@ exclusive_rests st later past e law g granted mode s numbered =
 
 pub exclusive_follows : ExclusiveFollows
 exclusive_follows st es law later past e is g granted mode s numbered =
-    exclusive_rests st later past e (subst (λ t. Lawful st t) is law) g granted mode s (subst (λ t. session_numbered st t g.session ≡ Some s) is numbered)
+    exclusive_rests st later past e (subst (λ t. Orderly st t) is law) g granted mode s (subst (λ t. session_numbered st t g.session ≡ Some s) is numbered)
 
-shared_rests : (st : Setting) (later past : Trace) (e : Entry) → Lawful st (later ++ e ∷ past) → (g : Grant) → Contains e.effects.grants g → g.mode ≡ Shared → (s : Session)
+shared_rests : (st : Setting) (later past : Trace) (e : Entry) → Orderly st (later ++ e ∷ past) → (g : Grant) → Contains e.effects.grants g → g.mode ≡ Shared → (s : Session)
     → session_numbered st (later ++ e ∷ past) g.session ≡ Some s → LawfulSharedGrant st past (e ∷ past) s (spot_of_grant g) g.lver
 shared_rests st later past e law g granted mode s numbered =
-    let here : Lawful st (e ∷ past) = lawful-front st later (e ∷ past) law in
+    let here : Orderly st (e ∷ past) = orderly-front st later (e ∷ past) law in
     let owner : (o : Session) × (session_numbered st (e ∷ past) g.session ≡ Some o) = some_of (session_numbered st (e ∷ past) g.session) (here.granting.0.owned g granted) in
     let itself : owner.0 ≡ s =
     one_value owner.0 s (session_numbered st (later ++ e ∷ past) g.session) (session_stays st later (e ∷ past) g.session owner.0 owner.1) numbered in
@@ -80,4 +80,4 @@ shared_rests st later past e law g granted mode s numbered =
 
 pub shared_follows : SharedFollows
 shared_follows st es law later past e is g granted mode s numbered =
-    shared_rests st later past e (subst (λ t. Lawful st t) is law) g granted mode s (subst (λ t. session_numbered st t g.session ≡ Some s) is numbered)
+    shared_rests st later past e (subst (λ t. Orderly st t) is law) g granted mode s (subst (λ t. session_numbered st t g.session ≡ Some s) is numbered)

@@ -1,5 +1,5 @@
 -- What phase 2 and its read rest on, as it stands now.
-use Rattle.sl_law.specs.Lawful.{Lawful}
+use Rattle.sl_law.specs.Lawful.{Orderly}
 use Rattle.sl_law.specs.LawfulBlock.{LawfulBlockStep, LawfulBlockWrite, LawfulPhase2, LawfulPhase2Read}
 use Rattle.sl_law.specs.Saying.{cut_at}
 use Rattle.sl_trace_law.proofs.Leases.AgeLaws.{Became, BecameLast, after_stays, aged_lease, became, became_last, block_stays, blocks_stay, kind_stays, writes}
@@ -71,7 +71,7 @@ rests st es s at older c b h two =
       written = two.written;
     }
 
-follows : (st : Setting) (es : Trace) → Lawful st es → (older : List Submitted) (c : Submitted) (b : Block) → LawfulSubmission st es c older
+follows : (st : Setting) (es : Trace) → Orderly st es → (older : List Submitted) (c : Submitted) (b : Block) → LawfulSubmission st es c older
     → block_written c ≡ Some b → is_at Phase2_write c ≡ true → (s : Session) → session_numbered st es c.call.session ≡ Some s → Phase2Rests st es s (place st c.call) older c b
 follows st es law older c b l wrote at s numbered =
     let h : Submission es c older = l.submission in
@@ -105,7 +105,7 @@ read_rests st es s at older c h two =
       ordered = after_stays n 0 two.write (new_call (length h.past) h.entry.reading h.call) w.now c w.aged h.itself.at two.ordered;
     }
 
-is_read : (st : Setting) (es : Trace) → Lawful st es → (older : List Submitted) (c : Submitted) → LawfulSubmission st es c older
+is_read : (st : Setting) (es : Trace) → Orderly st es → (older : List Submitted) (c : Submitted) → LawfulSubmission st es c older
     → is_at Phase2_read c ≡ true → (s : Session) → session_numbered st es c.call.session ≡ Some s → Phase2ReadRests st s (place st c.call) older c
 is_read st es law older c l at s numbered =
     let h : Submission es c older = l.submission in
@@ -122,7 +122,7 @@ phase2_is_read st es law newer older c h at s numbered = is_read st es law older
 
 -- ---- every block
 
-front_of : (st : Setting) (es : Trace) → Lawful st es → (older : List Submitted) (c : Submitted) (b : Block) → LawfulSubmission st es c older
+front_of : (st : Setting) (es : Trace) → Orderly st es → (older : List Submitted) (c : Submitted) (b : Block) → LawfulSubmission st es c older
     → block_written c ≡ Some b → (s : Session) → session_numbered st es c.call.session ≡ Some s → BlockFront st es s older c b
 front_of st es law older c b l wrote s numbered =
     let h : Submission es c older = l.submission in

@@ -1,6 +1,6 @@
 -- A session's calls on an area take turns.
 use Rattle.sl_law.specs.LawfulArea.{is_area_work, is_block_work, open_block_work}
-use Rattle.sl_law.specs.Lawful.{Lawful}
+use Rattle.sl_law.specs.Lawful.{Orderly}
 use Rattle.sl_law.specs.Saying.{cut_at}
 use Rattle.sl_trace_law.proofs.Leases.AnswerLaws.{answers_within}
 use Rattle.sl_trace_law.proofs.Leases.FrontLaws.{each_was_submitted, lawful_there}
@@ -48,7 +48,7 @@ answered_now : (n : ℕ) (was d c : Submitted) → Aged (n + 1) was d → c.at �
 answered_now n was d c aged at within None is stands = absurd (stands refl)
 answered_now n was d c aged at within (Some a) is stands = record { answer = a; answered = still n was d a is aged.answer; by = let less : a.at < suc n = within a is in omega (arith, less, at) }
 
-turn : (st : Setting) (es : Trace) → Lawful st es → (between older : List Submitted) (c d : Submitted) → LawfulSubmission st es c (between ++ d ∷ older)
+turn : (st : Setting) (es : Trace) → Orderly st es → (between older : List Submitted) (c d : Submitted) → LawfulSubmission st es c (between ++ d ∷ older)
     → c.call.session ≡ d.call.session → works c.call ≡ true → is_area_work c.call.purpose ≡ true → works d.call ≡ true → is_area_work d.call.purpose ≡ true
     → is_on st.layout (place st c.call) d.call ≡ true → WasAnsweredBy d c
 turn st es law between older c d l session works_c area works_d area_d on =

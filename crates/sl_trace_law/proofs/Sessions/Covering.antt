@@ -1,6 +1,6 @@
 -- The connection stands while a write is unanswered.
 use Rattle.sl_law.specs.LawfulWatchdog.{CoveredBy, is_covered}
-use Rattle.sl_law.specs.Lawful.{Lawful}
+use Rattle.sl_law.specs.Lawful.{Orderly}
 use Rattle.sl_plain.proofs.Lists.{got_inside}
 use Rattle.sl_plain.proofs.Truth.{or_false}
 use Rattle.sl_trace_law.proofs.Sessions.Joining.{done_unanswered, in_turn}
@@ -65,13 +65,13 @@ by_stage (Some j) None refused None joining gone h = refl
 by_stage None removed (Some k) free joining gone h = refl
 by_stage None removed None free joining gone h = ap (λ b. b || false && true) (h refl)
 
-covered : (st : Setting) (es : Trace) (s : Session) → Lawful st es → IsSession st es s → removed_after es s ≡ None → has_open_write es s ≡ true → is_covered es s ≡ true
+covered : (st : Setting) (es : Trace) (s : Session) → Orderly st es → IsSession st es s → removed_after es s ≡ None → has_open_write es s ≡ true → is_covered es s ≡ true
 covered st es s h its gone unmet =
     ap (λ w. is_covered_stage (stage_of es s) || is_some (refused_after es s) && w) unmet
     ∙ by_stage (joined_after es s) (removed_after es s) (refused_after es s) (free_write (calls_of es s)) (stage_in (calls_of es s)) gone
     (λ none. covered_in (calls_of es s) (in_turn st es s h (λ x at. one_value x s _ at its) none) unmet)
 
-stands_at : (st : Setting) (es : Trace) (s : Session) → Lawful st es → IsSession st es s → has_open_write es s ≡ true → is_covered es s ≡ true → CoveredBy st es s
+stands_at : (st : Setting) (es : Trace) (s : Session) → Orderly st es → IsSession st es s → has_open_write es s ≡ true → is_covered es s ≡ true → CoveredBy st es s
 stands_at st [] s h its unmet is = absurd (false_is_true unmet)
 stands_at st (e ∷ past) s h its unmet is = h.watchdog.0.stands s (got_inside (sessions st (e ∷ past)) s.number s its) is
 

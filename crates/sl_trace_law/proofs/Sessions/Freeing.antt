@@ -17,7 +17,7 @@ use Rattle.sl_trace.specs.Traces.{Submitted, Trace, answered_in, mark, new_call}
 use Rattle.sl_trace.specs.declared.effects.Call.{Call}
 use Rattle.sl_trace.specs.declared.effects.Entry.{Entry}
 use Rattle.sl_trace.specs.declared.input.Answer.{Answer}
-use Rattle.sl_trace.specs.declared.input.Input.TheVariants.{Answer as Told, Exit, Line, Spawned, Wake}
+use Rattle.sl_trace.specs.declared.input.Input.TheVariants.{Answer as Told, Exit, Line, Number, Spawned, Wake}
 use Rattle.sl_trace.specs.declared.input.Input.{Input}
 use Rattle.sl_words.proofs.CaseLaws.{false_is_true, none_some, true_is_false}
 use Rattle.std.proofs.Common.{ap, refl, sym, ◌∙◌}
@@ -37,6 +37,7 @@ freed_told es e n a (m ∷ ms) =
 freed_marked : (es : Trace) (e : Entry) (i : Input) (ms : List Submitted) → is_some (free_write (mark es e i ms)) ≡ is_some (free_write ms)
 freed_marked es e (Told n a) ms = freed_told es e n a ms
 freed_marked es e (Line text) ms = refl
+freed_marked es e (Number text) ms = refl
 freed_marked es e (Exit p) ms = refl
 freed_marked es e (Spawned p ok) ms = refl
 freed_marked es e Wake ms = refl

@@ -6,7 +6,7 @@ use Rattle.sl_trace_law.specs.Sessions.Promises.{FrontAnswersStay}
 use Rattle.sl_trace.specs.Traces.{Submitted, Trace, mark, new_call, submitted}
 use Rattle.sl_trace.specs.declared.effects.Call.{Call}
 use Rattle.sl_trace.specs.declared.effects.Entry.{Entry}
-use Rattle.sl_trace.specs.declared.input.Input.TheVariants.{Answer as Told, Exit, Line, Spawned, Wake}
+use Rattle.sl_trace.specs.declared.input.Input.TheVariants.{Answer as Told, Exit, Line, Number, Spawned, Wake}
 use Rattle.sl_trace.specs.declared.input.Input.{Input}
 use Rattle.std.proofs.Common.{refl, subst, sym}
 use Rattle.std.specs.Prelude.{Contains, List, [], fold, length, suc, take, zero, ℕ, ◌∷◌, ◌≡◌}
@@ -23,6 +23,7 @@ in_all at reading (c ∷ cs) (suc k) ms m there = in_all at reading cs k (new_ca
 marked_whole : (es : Trace) (e : Entry) (k : ℕ) (i : Input) (ms : List Submitted) → mark es (cut_at k e) i ms ≡ mark es e i ms
 marked_whole es e k (Told n a) ms = refl
 marked_whole es e k (Line text) ms = refl
+marked_whole es e k (Number text) ms = refl
 marked_whole es e k (Exit p) ms = refl
 marked_whole es e k (Spawned p ok) ms = refl
 marked_whole es e k Wake ms = refl

@@ -9,7 +9,7 @@ use Rattle.sl_trace.specs.declared.effects.Call.{Call}
 use Rattle.sl_trace.specs.declared.effects.Effects.{Effects}
 use Rattle.sl_trace.specs.declared.effects.Entry.{Entry}
 use Rattle.sl_trace.specs.declared.input.Answer.{Answer}
-use Rattle.sl_trace.specs.declared.input.Input.TheVariants.{Answer as Told, Exit, Line, Spawned, Wake}
+use Rattle.sl_trace.specs.declared.input.Input.TheVariants.{Answer as Told, Exit, Line, Number, Spawned, Wake}
 use Rattle.sl_trace.specs.declared.input.Input.{Input}
 use Rattle.sl_words.proofs.CaseLaws.{none_some, some_value}
 use Rattle.std.proofs.Common.{ap, refl, subst, sym, ◌∙◌}
@@ -52,6 +52,7 @@ to_all P e past first next = subst (λ cs. P (with_calls e cs ∷ past)) (all_of
 marked_alike : (es : Trace) (e : Entry) (j k : ℕ) (i : Input) (ms : List Submitted) → mark es (cut_at j e) i ms ≡ mark es (cut_at k e) i ms
 marked_alike es e j k (Told n a) ms = refl
 marked_alike es e j k (Line text) ms = refl
+marked_alike es e j k (Number text) ms = refl
 marked_alike es e j k (Exit p) ms = refl
 marked_alike es e j k (Spawned p ok) ms = refl
 marked_alike es e j k Wake ms = refl
@@ -94,6 +95,7 @@ filter_told es e n a s (x ∷ ms) =
 filter_marked : (es : Trace) (e : Entry) (i : Input) (s : Session) (ms : List Submitted) → filter (is_call_of s) (mark es e i ms) ≡ mark es e i (filter (is_call_of s) ms)
 filter_marked es e (Told n a) s ms = filter_told es e n a s ms
 filter_marked es e (Line text) s ms = refl
+filter_marked es e (Number text) s ms = refl
 filter_marked es e (Exit p) s ms = refl
 filter_marked es e (Spawned p ok) s ms = refl
 filter_marked es e Wake s ms = refl

@@ -1,9 +1,9 @@
 -- The calls of a joining: each is answered before the next is made, and only its claim and its first renewal write.
-use Rattle.sl_law.specs.Lawful.{Lawful}
+use Rattle.sl_law.proofs.LawFacts.{orderly-front}
+use Rattle.sl_law.specs.Lawful.{Orderly}
 use Rattle.sl_law.specs.LawfulArea.{is_area_work}
 use Rattle.sl_law.specs.LawfulDelta.{LawfulDeltaCall}
 use Rattle.sl_law.specs.Saying.{cut_at}
-use Rattle.sl_law.proofs.LawFacts.{lawful-front}
 use Rattle.sl_plain.proofs.Lists.{got_inside}
 use Rattle.sl_trace_law.proofs.Sessions.Growing.{mine_marked, mine_next, other_next, to_all}
 use Rattle.sl_trace_law.proofs.Sessions.Making.{same_answered}
@@ -23,7 +23,7 @@ use Rattle.sl_trace.specs.declared.effects.JoinStep.{JoinStep}
 use Rattle.sl_trace.specs.declared.effects.Purpose.TheVariants.{RequestRead, RequestWrite, Joining, Lease, Leaving, Renewal, SeeRequest, Survey, ValueRead, ValueWrite}
 use Rattle.sl_trace.specs.declared.effects.Purpose.{Purpose}
 use Rattle.sl_trace.specs.declared.input.Answer.{Answer}
-use Rattle.sl_trace.specs.declared.input.Input.TheVariants.{Answer as Told, Exit, Line, Spawned, Wake}
+use Rattle.sl_trace.specs.declared.input.Input.TheVariants.{Answer as Told, Exit, Line, Number, Spawned, Wake}
 use Rattle.sl_trace.specs.declared.input.Input.{Input}
 use Rattle.sl_words.proofs.CaseLaws.{false_is_true, no_value, true_is_false}
 use Rattle.sl_words.proofs.WordLaws.{and_true}
@@ -65,6 +65,7 @@ turn_told es e n a (m ∷ ms) h =
 pub turn_marked : (es : Trace) (e : Entry) (i : Input) (ms : List Submitted) → is_in_turn ms ≡ true → is_in_turn (mark es e i ms) ≡ true
 turn_marked es e (Told n a) ms h = turn_told es e n a ms h
 turn_marked es e (Line text) ms h = h
+turn_marked es e (Number text) ms h = h
 turn_marked es e (Exit p) ms h = h
 turn_marked es e (Spawned p ok) ms h = h
 turn_marked es e Wake ms h = h
@@ -181,7 +182,7 @@ pub joined_before : (e : Entry) (past : Trace) (s : Session) (o : Option ℕ) �
 joined_before e past s None is none = refl
 joined_before e past s (Some k) is none = absurd (no_value k (joined_after (e ∷ past) s) (joined_more e past s k is) none)
 
-pub turn_call : (st : Setting) (e : Entry) (past : Trace) (s : Session) → Lawful st (e ∷ past)
+pub turn_call : (st : Setting) (e : Entry) (past : Trace) (s : Session) → Orderly st (e ∷ past)
     → ((x : Session) → session_numbered st (e ∷ past) s.number ≡ Some x → x ≡ s)
     → (k : ℕ) (c : Call) → slice_get e.effects.calls k ≡ Some c → (b : Bool) → (c.session == s.number) ≡ b → InTurn s (cut_at k e ∷ past) → InTurn s (cut_at (suc k) e ∷ past)
 turn_call st e past s h same k c at false other before none = ap (λ ms. is_in_turn ms) (other_next past e s k c at other) ∙ before none
@@ -196,7 +197,7 @@ turn_call st e past s h same k c at true mine before none =
     (h.delta.0.alone k c s at its (fits_delta c.purpose (is_write c.op)
     (fits_new st (cut_at k e ∷ past) s (new_call (length past) e.reading c) c.purpose (h.delta.0.calls k c s at its) (h.area.0.active k c s at its) (h.area.0.sees k c s at its) none))))
 
-turn_entry : (st : Setting) (e : Entry) (past : Trace) (s : Session) → Lawful st (e ∷ past)
+turn_entry : (st : Setting) (e : Entry) (past : Trace) (s : Session) → Orderly st (e ∷ past)
     → ((x : Session) → session_numbered st (e ∷ past) s.number ≡ Some x → x ≡ s) → InTurn s past → InTurn s (e ∷ past)
 turn_entry st e past s h same before =
     to_all (InTurn s) e past
@@ -204,8 +205,8 @@ turn_entry st e past s h same before =
     ∙ turn_marked past (cut_at 0 e) e.input (calls_of past s) (before (joined_before (cut_at 0 e) past s (joined_after past s) refl none)))
     (λ k c at old. turn_call st e past s h same k c at (c.session == s.number) refl old)
 
-pub in_turn : (st : Setting) (es : Trace) (s : Session) → Lawful st es → ((x : Session) → session_numbered st es s.number ≡ Some x → x ≡ s) → InTurn s es
+pub in_turn : (st : Setting) (es : Trace) (s : Session) → Orderly st es → ((x : Session) → session_numbered st es s.number ≡ Some x → x ≡ s) → InTurn s es
 in_turn st [] s h same = λ none. refl
 in_turn st (e ∷ past) s h same =
     turn_entry st e past s h same
-    (in_turn st past s (lawful-front st (e ∷ []) past h) (λ x at. same x (session_more st e past s.number x at)))
+    (in_turn st past s (orderly-front st (e ∷ []) past h) (λ x at. same x (session_more st e past s.number x at)))

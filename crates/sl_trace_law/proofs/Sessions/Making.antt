@@ -5,7 +5,7 @@ use Rattle.sl_trace.specs.Traces.{Answered, Submitted, Trace, answer_of, answere
 use Rattle.sl_trace.specs.declared.effects.Call.{Call}
 use Rattle.sl_trace.specs.declared.effects.Entry.{Entry}
 use Rattle.sl_trace.specs.declared.input.Answer.{Answer}
-use Rattle.sl_trace.specs.declared.input.Input.TheVariants.{Answer as Told, Exit, Line, Spawned, Wake}
+use Rattle.sl_trace.specs.declared.input.Input.TheVariants.{Answer as Told, Exit, Line, Number, Spawned, Wake}
 use Rattle.sl_trace.specs.declared.input.Input.{Input}
 use Rattle.sl_words.proofs.CaseLaws.{no_value}
 use Rattle.std.proofs.Common.{ap, inl, inr, refl, subst, sym, ◌∙◌}
@@ -97,6 +97,7 @@ itself ms m there = record { before = m; inside = there; same = record { at = re
 pub was_marked : (es : Trace) (e : Entry) (i : Input) (ms : List Submitted) (m : Submitted) → Contains (mark es e i ms) m → WasOpen ms m
 was_marked es e (Told n a) ms m there = was_told es e n a ms m there
 was_marked es e (Line text) ms m there = itself ms m there
+was_marked es e (Number text) ms m there = itself ms m there
 was_marked es e (Exit p) ms m there = itself ms m there
 was_marked es e (Spawned p ok) ms m there = itself ms m there
 was_marked es e Wake ms m there = itself ms m there
@@ -145,6 +146,7 @@ told_stays es e n w (x ∷ ms) m a there is = by (λ rest. told_stays es e n w m
 marked_stays : (es : Trace) (e : Entry) (i : Input) (ms : List Submitted) (m : Submitted) (a : Answered) → Contains ms m → m.answer ≡ Some a → Contains (mark es e i ms) m
 marked_stays es e (Told n w) ms m a there is = told_stays es e n w ms m a there is
 marked_stays es e (Line text) ms m a there is = there
+marked_stays es e (Number text) ms m a there is = there
 marked_stays es e (Exit p) ms m a there is = there
 marked_stays es e (Spawned p ok) ms m a there is = there
 marked_stays es e Wake ms m a there is = there

@@ -1,6 +1,6 @@
 -- The calls of a joining come in its order.
-use Rattle.sl_law.proofs.LawFacts.{lawful-front}
-use Rattle.sl_law.specs.Lawful.{Lawful}
+use Rattle.sl_law.proofs.LawFacts.{orderly-front}
+use Rattle.sl_law.specs.Lawful.{Orderly}
 use Rattle.sl_law.specs.LawfulCalls.{may_submit}
 use Rattle.sl_law.specs.LawfulDelta.{LawfulDeltaCall}
 use Rattle.sl_law.specs.Saying.{cut_at}
@@ -23,7 +23,7 @@ use Rattle.sl_trace.specs.declared.effects.JoinStep.{JoinStep}
 use Rattle.sl_trace.specs.declared.effects.Purpose.TheVariants.{RequestRead, RequestWrite, Joining, Lease, Leaving, Renewal, SeeRequest, Survey, ValueRead, ValueWrite}
 use Rattle.sl_trace.specs.declared.effects.Purpose.{Purpose}
 use Rattle.sl_trace.specs.declared.input.Answer.{Answer}
-use Rattle.sl_trace.specs.declared.input.Input.TheVariants.{Answer as Told, Exit, Line, Spawned, Wake}
+use Rattle.sl_trace.specs.declared.input.Input.TheVariants.{Answer as Told, Exit, Line, Number, Spawned, Wake}
 use Rattle.sl_trace.specs.declared.input.Input.{Input}
 use Rattle.sl_words.proofs.CaseLaws.{false_is_true, no_value, one_value}
 use Rattle.sl_words.proofs.WordLaws.{and_true}
@@ -48,6 +48,7 @@ ordered_told es e n a (m ∷ ms) h =
 ordered_marked : (es : Trace) (e : Entry) (i : Input) (ms : List Submitted) → is_ordered ms ≡ true → is_ordered (mark es e i ms) ≡ true
 ordered_marked es e (Told n a) ms h = ordered_told es e n a ms h
 ordered_marked es e (Line text) ms h = h
+ordered_marked es e (Number text) ms h = h
 ordered_marked es e (Exit p) ms h = h
 ordered_marked es e (Spawned p ok) ms h = h
 ordered_marked es e Wake ms h = h
@@ -133,12 +134,12 @@ comes_new st t s c (ValueRead j) ms law f is stage turn first = absurd (false_is
 -- ---- a first read comes before all others
 
 -- A call of an earlier entry is one of a session that had begun.
-pub begun_before : (st : Setting) (e : Entry) (past : Trace) (s : Session) → Lawful st (e ∷ past) → ((x : Session) → session_numbered st (e ∷ past) s.number ≡ Some x → x ≡ s)
+pub begun_before : (st : Setting) (e : Entry) (past : Trace) (s : Session) → Orderly st (e ∷ past) → ((x : Session) → session_numbered st (e ∷ past) s.number ≡ Some x → x ≡ s)
     → (m : Submitted) → Contains (submitted past) m → m.call.session ≡ s.number → session_numbered st past m.call.session ≡ Some s
 begun_before st e past s h same m there mine =
     let d = calls_are_made past m there in
-    let hp = subst (λ t. Lawful st t) d.whole (lawful-front st (e ∷ []) past h) in
-    let law = lawful-front st d.later (d.entry ∷ d.past) hp in
+    let hp = subst (λ t. Orderly st t) d.whole (orderly-front st (e ∷ []) past h) in
+    let law = orderly-front st d.later (d.entry ∷ d.past) hp in
     subst (λ t. session_numbered st t m.call.session ≡ Some s) (sym d.whole)
     (sessions_stay st d.later (d.entry ∷ d.past) m.call.session s
     (is_the_one (session_numbered st (d.entry ∷ d.past) m.call.session) s (law.calls.0.owned m.call (got_inside d.entry.effects.calls d.index m.call d.call))
@@ -162,7 +163,7 @@ pub old_one : (m : Submitted) (at reading : ℕ) (cs : List Call) (ms : List Sub
 old_one m at reading cs ms r (inl there) = there
 old_one m at reading cs ms r (inr new) = absurd (false_is_true (sym (ap (λ o. is_some o) new.unmet) ∙ r))
 
-begun_by : (st : Setting) (e : Entry) (past : Trace) (s : Session) (k : ℕ) → Lawful st (e ∷ past) → ((x : Session) → session_numbered st (e ∷ past) s.number ≡ Some x → x ≡ s)
+begun_by : (st : Setting) (e : Entry) (past : Trace) (s : Session) (k : ℕ) → Orderly st (e ∷ past) → ((x : Session) → session_numbered st (e ∷ past) s.number ≡ Some x → x ≡ s)
     → (m : Submitted) → Contains (calls_of (cut_at k e ∷ past) s) m → has_reply m ≡ true → Contains (sessions st (cut_at k e ∷ past)) s
 begun_by st e past s k h same m there r =
     let mine = inside s (submitted (cut_at k e ∷ past)) m there in
@@ -173,7 +174,7 @@ begun_by st e past s k h same m there r =
     (session_more st (cut_at k e) past w.before.call.session s
     (begun_before st e past s h same w.before w.inside (ap (λ c. c.session) (sym w.same.call) ∙ eqb-true m.call.session s.number mine.1)))
 
-none_before : (st : Setting) (e : Entry) (past : Trace) (s : Session) (k : ℕ) → Lawful st (e ∷ past) → ((x : Session) → session_numbered st (e ∷ past) s.number ≡ Some x → x ≡ s)
+none_before : (st : Setting) (e : Entry) (past : Trace) (s : Session) (k : ℕ) → Orderly st (e ∷ past) → ((x : Session) → session_numbered st (e ∷ past) s.number ≡ Some x → x ≡ s)
     → joined_after (cut_at k e ∷ past) s ≡ None → refused_after (cut_at k e ∷ past) s ≡ None → (ms : List Submitted) → calls_of (cut_at k e ∷ past) s ≡ ms → all_done ms ≡ true
     → session_named st (cut_at k e ∷ past) s.lockspace ≡ None → ms ≡ []
 none_before st e past s k h same none at [] is done nobody = refl
@@ -187,7 +188,7 @@ none_before st e past s k h same none at (m ∷ ms) is done nobody =
 abbrev InOrder : Session → Trace → Type 0
 InOrder s t = joined_after t s ≡ None → (is_in_turn (calls_of t s) ≡ true) × (is_ordered (calls_of t s) ≡ true)
 
-order_call : (st : Setting) (e : Entry) (past : Trace) (s : Session) → Lawful st (e ∷ past)
+order_call : (st : Setting) (e : Entry) (past : Trace) (s : Session) → Orderly st (e ∷ past)
     → ((x : Session) → session_numbered st (e ∷ past) s.number ≡ Some x → x ≡ s)
     → (k : ℕ) (c : Call) → slice_get e.effects.calls k ≡ Some c → (b : Bool) → (c.session == s.number) ≡ b → InOrder s (cut_at k e ∷ past)
     → joined_after (cut_at (suc k) e ∷ past) s ≡ None → is_ordered (calls_of (cut_at (suc k) e ∷ past) s) ≡ true
@@ -210,7 +211,7 @@ order_call st e past s h same k c at true mine before none =
     (λ p nobody. none_before st e past s k h same none refused (calls_of t s) refl done nobody))
     (before none).1
 
-order_entry : (st : Setting) (e : Entry) (past : Trace) (s : Session) → Lawful st (e ∷ past)
+order_entry : (st : Setting) (e : Entry) (past : Trace) (s : Session) → Orderly st (e ∷ past)
     → ((x : Session) → session_numbered st (e ∷ past) s.number ≡ Some x → x ≡ s) → InOrder s past → InOrder s (e ∷ past)
 order_entry st e past s h same before =
     to_all (InOrder s) e past
@@ -223,11 +224,11 @@ order_entry st e past s h same before =
       order_call st e past s h same k c at (c.session == s.number) refl old none,
     ))
 
-in_order_all : (st : Setting) (es : Trace) (s : Session) → Lawful st es → ((x : Session) → session_numbered st es s.number ≡ Some x → x ≡ s) → InOrder s es
+in_order_all : (st : Setting) (es : Trace) (s : Session) → Orderly st es → ((x : Session) → session_numbered st es s.number ≡ Some x → x ≡ s) → InOrder s es
 in_order_all st [] s h same = λ none. (refl, refl)
 in_order_all st (e ∷ past) s h same =
     order_entry st e past s h same
-    (in_order_all st past s (lawful-front st (e ∷ []) past h) (λ x at. same x (session_more st e past s.number x at)))
+    (in_order_all st past s (orderly-front st (e ∷ []) past h) (λ x at. same x (session_more st e past s.number x at)))
 
 pub joinings_are_ordered : JoiningsAreOrdered
 joinings_are_ordered st es s h its none = (in_order_all st es s h (λ x at. one_value x s _ at its) none).1

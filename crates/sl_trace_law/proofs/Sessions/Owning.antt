@@ -1,6 +1,6 @@
 -- Whose a call is.
-use Rattle.sl_law.proofs.LawFacts.{lawful-front}
-use Rattle.sl_law.specs.Lawful.{Lawful}
+use Rattle.sl_law.proofs.LawFacts.{orderly-front}
+use Rattle.sl_law.specs.Lawful.{Orderly}
 use Rattle.sl_plain.proofs.Lists.{got_before, got_inside}
 use Rattle.sl_trace_law.proofs.Sessions.Making.{calls_are_made}
 use Rattle.sl_trace_law.specs.Sessions.Promises.{CallsWereLawful, IsMade, IsSession, SessionsStay, WasLawful}
@@ -25,18 +25,18 @@ is_the_one None s some same = absurd (false_is_true some)
 is_the_one (Some x) s some same = ap (λ y. Some y) (same x refl)
 
 -- The session of a call made by any entry of the trace is the one that has its number in the end.
-pub owned : (st : Setting) (later : Trace) (e : Entry) (past : Trace) (s : Session) → Lawful st (later ++ e ∷ past) → IsSession st (later ++ e ∷ past) s
+pub owned : (st : Setting) (later : Trace) (e : Entry) (past : Trace) (s : Session) → Orderly st (later ++ e ∷ past) → IsSession st (later ++ e ∷ past) s
     → (i : ℕ) (c : Call) → slice_get e.effects.calls i ≡ Some c → c.session ≡ s.number → session_numbered st (e ∷ past) c.session ≡ Some s
 owned st later e past s h its i c at mine =
-    is_the_one (session_numbered st (e ∷ past) c.session) s ((lawful-front st later (e ∷ past) h).calls.0.owned c (got_inside e.effects.calls i c at))
+    is_the_one (session_numbered st (e ∷ past) c.session) s ((orderly-front st later (e ∷ past) h).calls.0.owned c (got_inside e.effects.calls i c at))
     (λ x is. one_value x s (session_numbered st (later ++ e ∷ past) c.session)
     (sessions_stay st later (e ∷ past) c.session x is)
     (ap (λ n. session_numbered st (later ++ e ∷ past) n) mine ∙ its))
 
-was_lawful : (st : Setting) (es : Trace) (s : Session) (m : Submitted) (d : IsMade es m) → Lawful st (d.later ++ d.entry ∷ d.past)
+was_lawful : (st : Setting) (es : Trace) (s : Session) (m : Submitted) (d : IsMade es m) → Orderly st (d.later ++ d.entry ∷ d.past)
     → session_numbered st (d.entry ∷ d.past) m.call.session ≡ Some s → WasLawful st es s m
 was_lawful st es s m d h its =
-    let law = (lawful-front st d.later (d.entry ∷ d.past) h).delta.0 in
+    let law = (orderly-front st d.later (d.entry ∷ d.past) h).delta.0 in
     record {
       made = d;
       lawful = law.calls d.index m.call s d.call its;
@@ -47,5 +47,5 @@ was_lawful st es s m d h its =
 pub calls_were_lawful : CallsWereLawful
 calls_were_lawful st es s m h its there mine =
     let d = calls_are_made es m there in
-    let whole = subst (λ t. Lawful st t) d.whole h in
+    let whole = subst (λ t. Orderly st t) d.whole h in
     was_lawful st es s m d whole (owned st d.later d.entry d.past s whole (subst (λ t. IsSession st t s) d.whole its) d.index m.call d.call mine)

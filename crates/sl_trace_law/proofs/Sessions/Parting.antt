@@ -1,6 +1,6 @@
 -- A session whose write is unanswered is not removed.
-use Rattle.sl_law.proofs.LawFacts.{lawful-front}
-use Rattle.sl_law.specs.Lawful.{Lawful}
+use Rattle.sl_law.proofs.LawFacts.{orderly-front}
+use Rattle.sl_law.specs.Lawful.{Orderly}
 use Rattle.sl_law.specs.LawfulCalls.{may_submit}
 use Rattle.sl_law.specs.Saying.{cut_at}
 use Rattle.sl_plain.proofs.Lists.{any_found, any_of, got_inside, kept, kept_inside}
@@ -62,7 +62,7 @@ present_by (Some k) None refused b j is gone = refl
 present_by (Some k) (Some i) refused b j is gone = absurd (none_some i (sym gone))
 
 -- The write was submitted before the entry.
-older_write : (st : Setting) (e : Entry) (past : Trace) (s : Session) (k : ℕ) → Lawful st (e ∷ past) → IsSession st (e ∷ past) s → removed_after (e ∷ past) s ≡ Some k
+older_write : (st : Setting) (e : Entry) (past : Trace) (s : Session) (k : ℕ) → Orderly st (e ∷ past) → IsSession st (e ∷ past) s → removed_after (e ∷ past) s ≡ Some k
     → (u : UnmetWrite (e ∷ past) s) → Contains (mark past e e.input (submitted past)) u.call ⊎ IsNewCall (length past) e.reading e.effects.calls u.call
     → UnmetWrite past s × IsSession st past s
 older_write st e past s k h its gone u (inr new) =
@@ -83,7 +83,7 @@ write_unmet es s u =
     (kept (λ (m : Submitted). is_none m.answer) (calls_of es s) u.call (ap (λ o. is_none o) u.unmet)
     (kept (is_call_of s) (submitted es) u.call (eq-eqb u.call.call.session s.number u.mine) u.inside))
 
-parts_by : (st : Setting) (e : Entry) (past : Trace) (s : Session) (k : ℕ) → Lawful st (e ∷ past) → IsSession st past s → UnmetWrite (e ∷ past) s
+parts_by : (st : Setting) (e : Entry) (past : Trace) (s : Session) (k : ℕ) → Orderly st (e ∷ past) → IsSession st past s → UnmetWrite (e ∷ past) s
     → (o : Option ℕ) → removed_after past s ≡ o → removed_by o (removed_in past s e) ≡ Some k → ((i : ℕ) → removed_after past s ≡ Some i → ⊥) → ⊥
 parts_by st e past s k h its u (Some i) was at rest = rest i was
 parts_by st e past s k h its u None was at rest =
@@ -93,16 +93,16 @@ parts_by st e past s k h its u None was at rest =
     ∙ (h.watchdog.0.removals s (got_inside (sessions st past) s.number s its)
     (present_by (joined_after past s) (removed_after past s) (refused_after past s) (has_open_write past s) j.0 j.1 was) r.1).1)
 
-quiet : (st : Setting) (es : Trace) (s : Session) → Lawful st es → IsSession st es s → (k : ℕ) → removed_after es s ≡ Some k → UnmetWrite es s → ⊥
+quiet : (st : Setting) (es : Trace) (s : Session) → Orderly st es → IsSession st es s → (k : ℕ) → removed_after es s ≡ Some k → UnmetWrite es s → ⊥
 quiet st [] s h its k gone u = none_some k gone
 quiet st (e ∷ past) s h its k gone u =
     let old = older_write st e past s k h its gone u (old_or_new (length past) e.reading e.effects.calls (mark past e e.input (submitted past)) u.call u.inside) in
     parts_by st e past s k h old.1 u (removed_after past s) refl gone
-    (λ i was. quiet st past s (lawful-front st (e ∷ []) past h) old.1 i was old.0)
+    (λ i was. quiet st past s (orderly-front st (e ∷ []) past h) old.1 i was old.0)
 
 none_by : (o : Option ℕ) → ((k : ℕ) → o ≡ Some k → ⊥) → o ≡ None
 none_by None never = refl
 none_by (Some k) never = absurd (never k refl)
 
-pub not_removed : (st : Setting) (es : Trace) (s : Session) → Lawful st es → IsSession st es s → has_open_write es s ≡ true → removed_after es s ≡ None
+pub not_removed : (st : Setting) (es : Trace) (s : Session) → Orderly st es → IsSession st es s → has_open_write es s ≡ true → removed_after es s ≡ None
 not_removed st es s h its waits = none_by (removed_after es s) (λ k gone. quiet st es s h its k gone (unmet_write es s waits))

@@ -7,7 +7,7 @@
 --   a time (its `alone`); nothing after the free (FreedAreSilent).
 -- End: nothing is submitted from there on (EndedAreSilent); marks don't change (MarksStay).
 -- Bounds: a write in flight has its connection, with a bounded expiry (WritesAreCovered, WritersStay).
-use Rattle.sl_law.specs.Lawful.{Lawful}
+use Rattle.sl_law.specs.Lawful.{Orderly}
 use Rattle.sl_law.specs.LawfulDelta.{LawfulDeltaCall, is_on_own_sector}
 use Rattle.sl_law.specs.LawfulWatchdog.{CoveredBy}
 use Rattle.sl_law.specs.Saying.{cut_at}
@@ -64,7 +64,7 @@ IsSession st es s = session_numbered st es s.number ≡ Some s
 -- A session that has ended, or was refused, submits nothing more.
 abbrev pub EndedAreSilent : Type 0
 EndedAreSilent =
-    (st : Setting) (e : Entry) (past : Trace) (s : Session) → Lawful st (e ∷ past) → IsSession st (e ∷ past) s → (k : ℕ) → ended_after past s ≡ Some k
+    (st : Setting) (e : Entry) (past : Trace) (s : Session) → Orderly st (e ∷ past) → IsSession st (e ∷ past) s → (k : ℕ) → ended_after past s ≡ Some k
     → (i : ℕ) (c : Call) → slice_get e.effects.calls i ≡ Some c → c.session ≡ s.number → ⊥
 
 -- A session keeps its number.
@@ -90,7 +90,7 @@ pub record WasLawful (st : Setting) (es : Trace) (s : Session) (m : Submitted) :
 -- Each call of a session did.
 abbrev pub CallsWereLawful : Type 0
 CallsWereLawful =
-    (st : Setting) (es : Trace) (s : Session) (m : Submitted) → Lawful st es → IsSession st es s → Contains (submitted es) m → m.call.session ≡ s.number
+    (st : Setting) (es : Trace) (s : Session) (m : Submitted) → Orderly st es → IsSession st es s → Contains (submitted es) m → m.call.session ≡ s.number
     → WasLawful st es s m
 
 -- Whether a joining may make a call for this, that writes or not.
@@ -117,12 +117,12 @@ is_in_turn (m ∷ ms) = fits m && all_done ms
 -- The calls of a session that isn't joined are in turn.
 abbrev pub JoiningsAreInTurn : Type 0
 JoiningsAreInTurn =
-    (st : Setting) (es : Trace) (s : Session) → Lawful st es → IsSession st es s → joined_after es s ≡ None → is_in_turn (calls_of es s) ≡ true
+    (st : Setting) (es : Trace) (s : Session) → Orderly st es → IsSession st es s → joined_after es s ≡ None → is_in_turn (calls_of es s) ≡ true
 
 -- While a write of a session is unanswered its connection stands, and ends in time.
 abbrev pub WritesAreCovered : Type 0
 WritesAreCovered =
-    (st : Setting) (es : Trace) (s : Session) → Lawful st es → IsSession st es s → has_open_write es s ≡ true → CoveredBy st es s
+    (st : Setting) (es : Trace) (s : Session) → Orderly st es → IsSession st es s → has_open_write es s ≡ true → CoveredBy st es s
 
 -- What a call's laws say of reads and writes that were answered when it was made is true of them ever after.
 abbrev pub FrontAnswersStay : Type 0
@@ -166,12 +166,12 @@ is_ordered (m ∷ ms) = may_come ms m.call.purpose && is_ordered ms
 -- The calls of a session that isn't joined are in the order of a joining; so it decides once, claims once, verifies once.
 abbrev pub JoiningsAreOrdered : Type 0
 JoiningsAreOrdered =
-    (st : Setting) (es : Trace) (s : Session) → Lawful st es → IsSession st es s → joined_after es s ≡ None → is_ordered (calls_of es s) ≡ true
+    (st : Setting) (es : Trace) (s : Session) → Orderly st es → IsSession st es s → joined_after es s ≡ None → is_ordered (calls_of es s) ≡ true
 
 -- Once its free is submitted a joined session submits nothing more.
 abbrev pub FreedAreSilent : Type 0
 FreedAreSilent =
-    (st : Setting) (e : Entry) (past : Trace) (s : Session) → Lawful st (e ∷ past) → IsSession st (e ∷ past) s → (k : ℕ) → joined_after past s ≡ Some k
+    (st : Setting) (e : Entry) (past : Trace) (s : Session) → Orderly st (e ∷ past) → IsSession st (e ∷ past) s → (k : ℕ) → joined_after past s ≡ Some k
     → (m : Submitted) → free_write (calls_of past s) ≡ Some m → (i : ℕ) (c : Call) → slice_get e.effects.calls i ≡ Some c → c.session ≡ s.number → ⊥
 
 -- Why the laws let only a joined session see a request: wherever a joining stands, a request that it sees sets it back to its watch.
@@ -182,7 +182,7 @@ SeeingSetsBack =
 
 -- A session is not removed while a write of it is unanswered.
 abbrev pub WritersStay : Type 0
-WritersStay = (st : Setting) (es : Trace) (s : Session) → Lawful st es → IsSession st es s → has_open_write es s ≡ true → removed_after es s ≡ None
+WritersStay = (st : Setting) (es : Trace) (s : Session) → Orderly st es → IsSession st es s → has_open_write es s ≡ true → removed_after es s ≡ None
 
 -- Where a session makes its first read, no session of its lockspace's name is present: each has ended, with no write unanswered.
 abbrev pub NamesAreApart : Type 0
