@@ -6,18 +6,13 @@ use Rattle.sl_sector.proofs.WrittenBytes.{sha256_is_digest}
 use Rattle.sl_sector.specs.Spelling.{Spells, decoded, spelling}
 use Rattle.sl_sector.specs.declared.sector.Bad.{Bad}
 use Rattle.sl_sector.specs.declared.sector.Rec.{Rec}
-use Rattle.sl_sectors.proofs.SameLaws.{record_decides}
-use Rattle.sl_sectors.specs.Images.{IsImage, bytes_of, found_of, raw_of, same_found}
+use Rattle.sl_sectors.specs.Images.{IsImage, IsSameFound, bytes_of, found_of, raw_of}
 use Rattle.sl_sectors.specs.declared.image.Content.TheVariants.{Raw, Spelled}
 use Rattle.sl_sectors.specs.declared.image.Content.{Content}
-use Rattle.sl_words.proofs.CaseLaws.{false_is_true}
-use Rattle.sl_words.proofs.WordLaws.{and_true}
 use Rattle.std.proofs.Common.{ap, refl, subst, sym, ◌∙◌}
-use Rattle.std.proofs.lemmas.Bool.{and_from}
-use Rattle.std.proofs.lemmas.Bool.Decides.{Decides-eqb}
 use Rattle.std.proofs.lemmas.Slice.Eq.{bytes_eq-Decides}
 use Rattle.std.specs.Bool.{Decides}
-use Rattle.std.specs.Prelude.{Bool, Err, IfOk, Ok, Result, bytes_eq, false, length, true, ℕ, ◌&&◌, ◌==◌, ◌≡◌}
+use Rattle.std.specs.Prelude.{Bool, Err, IfOk, IsTrue, Ok, Result, bytes_eq, false, length, true, ℕ, ◌↔◌, ◌≡◌}
 
 abbrev as_found : Rec → Result Rec Bad
 as_found r = Ok r
@@ -54,27 +49,25 @@ raw_by n (Spelled r) bad found = absurd (apart r bad found)
 raw_by n (Raw bytes found) bad at = refl
 
 from_found : (n m : ℕ) (c d : Content) → IsImage n c → IsImage m d → n ≡ m → (p q : Result Rec Bad) → found_of c ≡ p → found_of d ≡ q
-    → same_found p q (raw_of c) (raw_of d) ≡ true → bytes_of n c ≡ bytes_of m d
+    → IsSameFound p q (raw_of c) (raw_of d) → bytes_of n c ≡ bytes_of m d
 from_found n m c d is it size (Ok r) (Ok s) a b same =
-    spelled_by n c r is a ∙ ap (λ k. spelling sha256 k r) size ∙ ap (λ x. spelling sha256 m x) ((record_decides r s).0 same) ∙ sym (spelled_by m d s it b)
-from_found n m c d is it size (Err e) (Err f) a b same =
-    sym (raw_by n c e a) ∙ (bytes_eq-Decides (raw_of c) (raw_of d)).0 same ∙ raw_by m d f b
-from_found n m c d is it size (Ok r) (Err f) a b same = absurd (false_is_true same)
-from_found n m c d is it size (Err e) (Ok s) a b same = absurd (false_is_true same)
+    spelled_by n c r is a ∙ ap (λ k. spelling sha256 k r) size ∙ ap (λ x. spelling sha256 m x) same ∙ sym (spelled_by m d s it b)
+from_found n m c d is it size (Err e) (Err f) a b same = sym (raw_by n c e a) ∙ same ∙ raw_by m d f b
+from_found n m c d is it size (Ok r) (Err f) a b same = absurd same
+from_found n m c d is it size (Err e) (Ok s) a b same = absurd same
 
 to_found : (n m : ℕ) (c d : Content) → bytes_of n c ≡ bytes_of m d → (p q : Result Rec Bad) → found_of c ≡ p → found_of d ≡ q → p ≡ q
-    → same_found p q (raw_of c) (raw_of d) ≡ true
-to_found n m c d bytes (Ok r) (Ok s) a b same = (record_decides r s).1 (one r s same)
+    → IsSameFound p q (raw_of c) (raw_of d)
+to_found n m c d bytes (Ok r) (Ok s) a b same = one r s same
   where
     one : (k r : Rec) → as_found k ≡ as_found r → k ≡ r
     one k r h = cc
-to_found n m c d bytes (Err e) (Err f) a b same =
-    (bytes_eq-Decides (raw_of c) (raw_of d)).1 (raw_by n c e a ∙ bytes ∙ sym (raw_by m d f b))
-to_found n m c d bytes (Ok r) (Err f) a b same = absurd (apart r f same)
+to_found n m c d bytes (Err e) (Err f) a b same = raw_by n c e a ∙ bytes ∙ sym (raw_by m d f b)
+to_found n m c d bytes (Ok r) (Err f) a b same = apart r f same
   where
     apart : (r : Rec) (bad : Bad) → as_found r ≡ as_refused bad → ⊥
     apart r bad h = cc
-to_found n m c d bytes (Err e) (Ok s) a b same = absurd (apart s e same)
+to_found n m c d bytes (Err e) (Ok s) a b same = apart s e same
   where
     apart : (r : Rec) (bad : Bad) → as_refused bad ≡ as_found r → ⊥
     apart r bad h = cc
@@ -85,15 +78,15 @@ one_test true q d k = sym (k.1 (d.0 refl))
 one_test false true d k = d.1 (k.0 refl)
 one_test false false d k = refl
 
-pub is_same : (n m : ℕ) (c d : Content) → IsImage n c → IsImage m d
-    → (n == m && same_found (found_of c) (found_of d) (raw_of c) (raw_of d)) ≡ bytes_eq (bytes_of n c) (bytes_of m d)
-is_same n m c d is it = one_test _ _ tells (bytes_eq-Decides (bytes_of n c) (bytes_of m d))
+pub is_same : (n m : ℕ) (c d : Content) (same : Bool) → IsImage n c → IsImage m d
+    → IsTrue same ↔ ((n ≡ m) × IsSameFound (found_of c) (found_of d) (raw_of c) (raw_of d)) → same ≡ bytes_eq (bytes_of n c) (bytes_of m d)
+is_same n m c d same is it told = one_test _ _ tells (bytes_eq-Decides (bytes_of n c) (bytes_of m d))
   where
-    tells : Decides (n == m && same_found (found_of c) (found_of d) (raw_of c) (raw_of d)) (bytes_of n c ≡ bytes_of m d)
+    tells : Decides same (bytes_of n c ≡ bytes_of m d)
     tells = (
-      λ h.
-          let both = and_true (n == m) (same_found (found_of c) (found_of d) (raw_of c) (raw_of d)) h in
-          from_found n m c d is it ((Decides-eqb n m).0 both.0) (found_of c) (found_of d) refl refl both.1,
-      λ h. and_from _ _ ((Decides-eqb n m).1 (sym (is_long n c is) ∙ ap (λ bytes. length bytes) h ∙ is_long m d it))
-          (to_found n m c d h (found_of c) (found_of d) refl refl (is_found n c is ∙ ap (decoded sha256) h ∙ sym (is_found m d it))),
+      λ h. let both = told.0 h in from_found n m c d is it both.0 (found_of c) (found_of d) refl refl both.1,
+      λ h. told.1 (
+        sym (is_long n c is) ∙ ap (λ bytes. length bytes) h ∙ is_long m d it,
+        to_found n m c d h (found_of c) (found_of d) refl refl (is_found n c is ∙ ap (decoded sha256) h ∙ sym (is_found m d it)),
+      ),
     )

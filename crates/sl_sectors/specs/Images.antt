@@ -4,11 +4,10 @@ use Rattle.sl_sector.specs.Records.{IsRecord}
 use Rattle.sl_sector.specs.Spelling.{IsSectorSize, Spells, decoded, spelling}
 use Rattle.sl_sector.specs.declared.sector.Bad.{Bad}
 use Rattle.sl_sector.specs.declared.sector.Rec.{Rec}
-use Rattle.sl_sectors.specs.Same.{same_record}
 use Rattle.sl_sectors.specs.declared.image.Content.TheVariants.{Raw, Spelled}
 use Rattle.sl_sectors.specs.declared.image.Content.{Content}
 use Rattle.sl_words.specs.Words.{choose}
-use Rattle.std.specs.Prelude.{Bool, Err, IfOk, List, Ok, Option, Result, bytes_eq, drop, false, length, nat_lt, take, [], ℕ, ◌*◌, ◌≡◌}
+use Rattle.std.specs.Prelude.{Err, IfOk, List, Ok, Option, Result, drop, length, nat_lt, take, [], ℕ, ◌*◌, ◌≡◌}
 
 -- ---- one sector
 
@@ -38,10 +37,11 @@ raw_of (Spelled r) = []
 raw_of (Raw bytes found) = bytes
 
 -- Two sectors of one size are the same where they spell the same record, or where neither spells any and the bytes are the same.
-abbrev pub same_found : Result Rec Bad → Result Rec Bad → List ℕ → List ℕ → Bool
-same_found (Ok r) (Ok s) x y = same_record r s
-same_found (Err a) (Err b) x y = bytes_eq x y
-same_found p q x y = false
+abbrev pub IsSameFound : Result Rec Bad → Result Rec Bad → List ℕ → List ℕ → Type 0
+IsSameFound (Ok r) (Ok s) x y = r ≡ s
+IsSameFound (Err a) (Err b) x y = x ≡ y
+IsSameFound (Ok r) (Err b) x y = ⊥
+IsSameFound (Err a) (Ok s) x y = ⊥
 
 -- ---- sectors one after another
 

@@ -3,11 +3,10 @@
 ghost use Rattle.sha2.specs.Sha256.{sha256};
 ghost use Rattle.sl_sector.specs.Records.{IsRecord};
 ghost use Rattle.sl_sector.specs.Spelling.{IsSectorSize, decoded, spelling};
-ghost use Rattle.sl_sectors.specs.Images.{found_of, raw_of, same_found};
-ghost use Rattle.std.specs.Prelude.{bytes_eq, length, OnErr, OnOk, ◌&&◌, ◌++◌, ◌==◌, ◌≡◌};
+ghost use Rattle.sl_sectors.specs.Images.{IsSameFound, found_of, raw_of};
+ghost use Rattle.std.specs.Prelude.{bytes_eq, length, IsTrue, OnErr, OnOk, ◌++◌, ◌↔◌, ◌≡◌};
 
-use crate::same::is_same_record;
-use sl_sector::{Bad, Rec, decode};
+use sl_sector::{Bad, Rec, decode, same_record};
 use sl_text::Bytes;
 use std::alloc::AllocError;
 use std::marker::Model;
@@ -100,7 +99,6 @@ impl Image {
 
     /// Whether two sectors have the same bytes. Nothing is hashed: sectors of one size that spell a record are the same where the
     /// records are, and only where neither spells one are bytes compared.
-    #[tactic(auto, using(crate::proofs::ImageLaws::is_same))]
     pub fn is_same(&self, other: &Image) -> bool
         ensures { result ≡ bytes_eq self.now other.now }
     {
@@ -130,10 +128,10 @@ fn raw_in(content: &Content) -> &[u8]
 
 /// Whether two sectors of one size are the same.
 fn is_same_content(a: &Content, b: &Content) -> bool
-    ensures { result ≡ same_found (found_of a.now) (found_of b.now) (raw_of a.now) (raw_of b.now) }
+    ensures { IsTrue result ↔ IsSameFound (found_of a.now) (found_of b.now) (raw_of a.now) (raw_of b.now) }
 {
     match (found_in(a), found_in(b)) {
-        (Ok(mine), Ok(other)) => is_same_record(&mine, &other),
+        (Ok(mine), Ok(other)) => same_record(&mine, &other),
         (Err(_), Err(_)) => raw_in(a) == raw_in(b),
         (Ok(_), Err(_)) => false,
         (Err(_), Ok(_)) => false,
@@ -142,7 +140,7 @@ fn is_same_content(a: &Content, b: &Content) -> bool
 
 /// Whether two sectors are the same.
 fn is_same_sector(size: u32, a: &Content, other: u32, b: &Content) -> bool
-    ensures { result ≡ (size == other && same_found (found_of a.now) (found_of b.now) (raw_of a.now) (raw_of b.now)) }
+    ensures { IsTrue result ↔ ((size ≡ other) × IsSameFound (found_of a.now) (found_of b.now) (raw_of a.now) (raw_of b.now)) }
 {
     size == other && is_same_content(a, b)
 }

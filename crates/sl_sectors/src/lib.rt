@@ -7,7 +7,6 @@
 
 mod image;
 mod images;
-mod same;
 
 pub use image::Image;
 pub use images::Images;
