@@ -1,18 +1,18 @@
 -- A new host stands for no step: each question to the empty trace has the answer kept.
-use Rattle.sl_host_state.specs.Kept.{HostState, JoinState, LeaseState, MemberState, Rooms}
+use Rattle.sl_host_state.specs.Kept.{MemberState, Rooms}
 use Rattle.sl_host_state.specs.New.{given_sessions, new_host, new_joining, new_member}
-use Rattle.sl_host_state.specs.Stands.{HostStands, JoinStands, Keeps, LeaseStands, MemberStands}
-use Rattle.sl_sessions.specs.Sessions.{calls_of, given_session, is_joined, is_present, joined_after, refused_after}
+use Rattle.sl_host_state.specs.Stands.{HostStands, JoinStands, Keeps, MemberStands}
+use Rattle.sl_sessions.specs.Sessions.{given_session, is_present}
 use Rattle.sl_sessions.specs.declared.session.Session.{Session}
-use Rattle.sl_trace.specs.Connections.{connections, given_connection}
-use Rattle.sl_trace.specs.Traces.{Setting, Trace}
+use Rattle.sl_trace.specs.Connections.{given_connection}
+use Rattle.sl_trace.specs.Traces.{Setting}
 use Rattle.sl_trace.specs.declared.input.Given.{Given}
 use Rattle.sl_time.specs.Times.{TimingNumbers}
 use Rattle.sl_words.proofs.CaseLaws.{none_some, some_value}
 use Rattle.sl_words.specs.Orders.{in_order, is_text_before}
-use Rattle.std.proofs.Common.{ap, arith, refl, subst, suc, sym, zero, ◌∙◌}
+use Rattle.std.proofs.Common.{ap, arith, refl, subst, suc, zero, ◌∙◌}
 use Rattle.std.specs.List.{enumerate_from}
-use Rattle.std.specs.Prelude.{Bool, List, None, Option, Some, false, filter, is_none, is_some, length, map, option_and_then, slice_get, true, [], ℕ, ◌+◌, ◌&&◌, ◌∷◌, ◌≡◌, ◌≤◌}
+use Rattle.std.specs.Prelude.{List, None, Option, Some, false, filter, is_none, is_some, length, map, slice_get, true, [], ℕ, ◌+◌, ◌&&◌, ◌∷◌, ◌≡◌}
 
 -- ---- its members
 
@@ -26,7 +26,7 @@ whos (s ∷ ss) = ap (λ ts. s ∷ ts) (whos ss)
 
 how_many : (n : ℕ) (gs : List Given) → length (map given_session (enumerate_from n gs)) ≡ length gs
 how_many n [] = refl
-how_many n (g ∷ gs) = ap (λ k. k + 1) (how_many (n + 1) gs)
+how_many n (g ∷ gs) = ap (λ k. suc k) (how_many (n + 1) gs)
 
 names : (tm : TimingNumbers) (gs : List Given) → map (λ c. c.name) (map (given_connection tm) gs) ≡ map (λ g. g.lockspace) gs
 names tm [] = refl
@@ -34,7 +34,7 @@ names tm (g ∷ gs) = ap (λ ns. g.lockspace ∷ ns) (names tm gs)
 
 -- ---- what each keeps
 
-joined_by : Option ℕ → Option ℕ
+abbrev joined_by : Option ℕ → Option ℕ
 joined_by o = elim o [ None ↦ Some 0 | Some j ↦ None ]
 
 joined_is : (o : Option ℕ) → (is_some (joined_by o) && true) ≡ is_none o
@@ -85,7 +85,7 @@ new_host_keeps st room spare =
       present = ap (in_order (λ a b. is_text_before a.lockspace b.lockspace)) (all_there 0 st.given) ∙ whos (given_sessions st);
       members = members_stand st (given_sessions st);
       connected = names st.timing st.given;
-      open = refl;
+      unanswered = refl;
       owned = tt;
       jobs = refl;
       holdings = refl;

@@ -171,7 +171,7 @@ pub record Rooms : Type 0 where
   pub replies : ℕ
   pub calls : ℕ
   -- of what is kept
-  pub open : ℕ
+  pub unanswered : ℕ
   pub jobs : ℕ
   pub holdings : ℕ
   pub children : ℕ
@@ -198,7 +198,7 @@ pub record HostState : Type 0 where
   -- the lockspaces whose connections stand, in the order of their registering
   pub connected : List (List ℕ)
   -- the oldest first
-  pub open : List OpenCall
+  pub unanswered : List OpenCall
   -- by number
   pub jobs : List JobState
   -- in the order of their grants, orphans too: those have process 0

@@ -6,7 +6,7 @@ use Rattle.sl_sessions.specs.declared.session.Session.{Session}
 use Rattle.sl_trace.specs.Traces.{Setting, last_reading, no_effects}
 use Rattle.sl_words.specs.Orders.{in_order, is_text_before}
 use Rattle.std.specs.List.{enumerate_from}
-use Rattle.std.specs.Prelude.{List, None, Option, false, is_none, length, map, [], ℕ, ◌≡◌}
+use Rattle.std.specs.Prelude.{List, None, Option, false, is_none, length, map, []}
 
 -- A joining that has read nothing.
 abbrev pub new_joining : JoinState
@@ -56,7 +56,7 @@ new_host st room spare =
       born = length st.given;
       members = map new_member (given_sessions st);
       connected = map (λ g. g.lockspace) st.given;
-      open = [];
+      unanswered = [];
       jobs = [];
       holdings = [];
       children = [];

@@ -7,7 +7,7 @@
 -- - numbered, counted: calls, and children, have the numbers in order, so a number names one.
 -- - present: the members are the sessions whose lockspaces are in use, by name; members: what is asked of each is what it keeps.
 -- - connected: the connections are those of the names kept.
--- - open: the calls without an answer are those kept; owned: the job of each, and of each child, was a line.
+-- - unanswered: the calls without an answer are those kept; owned: the job of each, and of each child, was a line.
 -- - jobs: the running jobs are those kept, each with its child and the call for which it waits.
 -- - holdings, children, programs: so are these.
 -- - quiet: nothing that is due by time before an input is due below `quiet_until`.
@@ -17,8 +17,9 @@ use Rattle.sl_due.specs.DueRequests.{bits_due}
 use Rattle.sl_due.specs.Steps.{Step, seen}
 use Rattle.sl_host_state.specs.Kept.{AskedAt, Config, HostState, JobState, JoinCall, JoinState, LeaseCall, LeaseState, MemberState, OpenCall, PairState, TopNumber, ValuePair, WaitingCall}
 use Rattle.sl_leases.specs.Ballots.{in_instance}
+use Rattle.sl_leases.specs.Counts.{values_on}
 use Rattle.sl_leases.specs.Jobs.{child_of_job, command_of}
-use Rattle.sl_leases.specs.Leases.{block_submitted, block_written, free_left, freed, freed_by, last_blocks, lease_calls, lease_spots, lease_step, lver_written, may_show_shared, open_ballot, value_written, values_on, verified_name}
+use Rattle.sl_leases.specs.Leases.{block_submitted, block_written, free_left, freed, freed_by, last_blocks, lease_calls, lease_spots, lease_step, lver_written, may_show_shared, open_ballot, value_written, verified_name}
 use Rattle.sl_sector.specs.Bitmaps.{bitmap_of}
 use Rattle.sl_sector.specs.declared.sector.Block.{Block}
 use Rattle.sl_sector.specs.declared.sector.Owner.{Owner}
@@ -29,7 +30,7 @@ use Rattle.sl_sessions.specs.Watching.{sightings}
 use Rattle.sl_sessions.specs.declared.session.Begun.{Begun}
 use Rattle.sl_time.specs.Times.{fail}
 use Rattle.sl_trace.specs.Connections.{connections}
-use Rattle.sl_trace.specs.Traces.{Child, Job, Setting, Submitted, Trace, children, first_child, holdings, is_answered_ok, job_numbered, job_of, kill_programs, last_reading, next_call, next_job, no_effects, outstanding, running_jobs, submitted, waiting_call}
+use Rattle.sl_trace.specs.Traces.{Child, Job, Setting, Submitted, Trace, children, first_child, holdings, job_numbered, job_of, kill_programs, last_reading, next_call, next_job, no_effects, outstanding, running_jobs, submitted, waiting_call}
 use Rattle.sl_trace.specs.declared.effects.Op.TheVariants.{ReadSectors, WriteRecord}
 use Rattle.sl_trace.specs.declared.effects.Op.{Op}
 use Rattle.sl_trace.specs.declared.input.Input.{Input}
@@ -167,7 +168,7 @@ pub record MemberStands (st : Setting) (es : Trace) (m : MemberState) : Type 0 w
 
 -- The jobs of open calls and of children.
 abbrev pub jobs_told : HostState → List ℕ
-jobs_told h = filter_map (λ c. job_of c.purpose) h.open ++ filter_map (λ k. k.job) h.children
+jobs_told h = filter_map (λ c. job_of c.purpose) h.unanswered ++ filter_map (λ k. k.job) h.children
 
 -- The questions to a trace.
 pub record Keeps (h : HostState) (st : Setting) (es : Trace) : Type 0 where
@@ -182,7 +183,7 @@ pub record Keeps (h : HostState) (st : Setting) (es : Trace) : Type 0 where
   pub present : present_sessions st es ≡ map (λ m. m.who) h.members
   pub members : (k : ℕ) (m : MemberState) → slice_get h.members k ≡ Some m → MemberStands st es m
   pub connected : map (λ c. c.name) (connections st es) ≡ h.connected
-  pub open : map kept_call (outstanding es) ≡ reverse h.open
+  pub unanswered : map kept_call (outstanding es) ≡ reverse h.unanswered
   pub owned : AllByRecursion (λ j. IsTrue (is_some (job_numbered st es j))) (jobs_told h)
   pub jobs : map (kept_job es) (running_jobs st es) ≡ h.jobs
   pub holdings : holdings es ≡ h.holdings
@@ -193,12 +194,12 @@ pub record Keeps (h : HostState) (st : Setting) (es : Trace) : Type 0 where
 
 -- The moment of a member's recovery, while none has begun.
 abbrev pub recovery_moment : HostState → MemberState → List ℕ
-recovery_moment h m = elim m.renewing.recovery [ Some b ↦ [] | None ↦ m.renewing.last + fail h.config.timing ∷ [] ]
+recovery_moment h m = elim m.renewing.recovery [ Some b ↦ [] | None ↦ (m.renewing.last + fail h.config.timing) ∷ [] ]
 
 -- The moment of these kills, until a step from which on they may come has reached it.
 abbrev pub kill_moment : HostState → Option Begun → List ℕ
 kill_moment h None = []
-kill_moment h (Some b) = cond (nat_lt b.kills_from h.entries && nat_le (b.reading + h.config.grace) h.reading) [] (b.reading + h.config.grace ∷ [])
+kill_moment h (Some b) = cond (nat_lt b.kills_from h.entries && nat_le (b.reading + h.config.grace) h.reading) [] ((b.reading + h.config.grace) ∷ [])
 
 -- Those of a joined member.
 abbrev pub member_moments : HostState → MemberState → List ℕ
@@ -206,7 +207,7 @@ member_moments h m = cond m.joined (recovery_moment h m ++ kill_moment h m.renew
 
 -- The moment from which on a job's call is overdue.
 abbrev pub job_moments : HostState → JobState → List ℕ
-job_moments h j = elim j.waits [ None ↦ [] | Some c ↦ c.reading + h.config.timing.io ∷ [] ]
+job_moments h j = elim j.waits [ None ↦ [] | Some c ↦ (c.reading + h.config.timing.io) ∷ [] ]
 
 -- The moments at which recovery, kills and the refusal of overdue jobs are due.
 abbrev pub moments_of : HostState → List ℕ

@@ -3,7 +3,6 @@
 ghost use Rattle.sl_host_state.specs.New.{NewHostStands};
 
 /// A new host stands for no step, whatever sessions it is given.
-#[tactic(auto, using(crate::proofs::NewHost::new_host_stands))]
 pub fn new_host_stands()
     ensures { NewHostStands }
 {}
