@@ -1,0 +1,4 @@
+pub mod CallsGrow
+pub mod MovesLeaveCalls
+pub mod RepliesLeaveCalls
+pub mod JoinedCallsKeepOrder
