@@ -14,7 +14,7 @@ use Rattle.sl_due.specs.DueRequests.{after_request_read, after_see_request, afte
 use Rattle.sl_due.specs.Steps.{Step, add_end, add_reply, add_signal, add_start, seen, when, with_input, with_some}
 use Rattle.sl_due.specs.declared.decision.Decision.TheVariants.{Replies}
 use Rattle.sl_due.specs.declared.decision.Decision.{Decision}
-use Rattle.sl_lease_law.proofs.NumberLaws.{number_is_place}
+use Rattle.sl_trace_law.proofs.Leases.NumberLaws.{number_is_place}
 use Rattle.sl_leases.specs.Counts.{stopper_of}
 use Rattle.sl_leases.specs.Jobs.{aim_of, command_numbered, job_of_start, jobs_of_session}
 use Rattle.sl_leases.specs.Leases.{exclusive_on, lease_spots, spot_of_call}

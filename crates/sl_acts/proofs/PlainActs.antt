@@ -15,7 +15,7 @@ use Rattle.sl_due.specs.DueRequests.{after_request_read, after_value_read, owner
 use Rattle.sl_due.specs.Steps.{Step, add_end, add_grant, add_reply, seen, with_input}
 use Rattle.sl_due.specs.declared.decision.Decision.TheVariants.{ConvertsTo, GetsValue, GivesUp, Joins, Leaves, ReadsArea, Replies, Requests, SetsValue, Shares, TakesOver}
 use Rattle.sl_due.specs.declared.decision.Decision.{Decision}
-use Rattle.sl_lease_law.proofs.NumberLaws.{number_is_place}
+use Rattle.sl_trace_law.proofs.Leases.NumberLaws.{number_is_place}
 use Rattle.sl_leases.specs.Jobs.{is_job_of_process, job_of_start}
 use Rattle.sl_leases.specs.LeaseWork.{convert_next, lease_place, release_next}
 use Rattle.sl_leases.specs.Leases.{holdings_on, known, spot_of}

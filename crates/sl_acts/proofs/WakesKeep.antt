@@ -9,7 +9,7 @@ use Rattle.sl_due.specs.DueLease.{carry_lease, settle}
 use Rattle.sl_due.specs.DueRequests.{bits_due}
 use Rattle.sl_due.specs.DueWake.{end_if_done, finish, finish_session, for_sessions, free_if_done, join_on_wake, on_wake, renew_on_wake, settle_on_wake, settlings}
 use Rattle.sl_due.specs.Steps.{Step, for_each, seen, when}
-use Rattle.sl_lease_law.proofs.NumberLaws.{number_is_place}
+use Rattle.sl_trace_law.proofs.Leases.NumberLaws.{number_is_place}
 use Rattle.sl_leases.specs.LeaseWork.{lease_place, settle_next}
 use Rattle.sl_leases.specs.Leases.{known, lease_spots, open_on}
 use Rattle.sl_leases.specs.declared.lease.LeaseNext.TheVariants.{AnswerJob, BecomeExclusive, BecomeShared, GrantJob, Nothing, ReadFor, WriteBlock, WriteLeader}

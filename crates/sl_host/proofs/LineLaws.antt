@@ -51,10 +51,10 @@ refused_ok h after c why (Err e) effects state refused = tt
 
 pub acquire_refused_ok : {E : Type 0} (h after : HostState) (q : ResourceArg) (p : ℕ) (why : Refusal) (r : Result Effects E) → IsResourceArg (layout_of h.sizes) q
     → acquire_place h.given h.leases q p ≡ Err why → IfOk r (λ fx. fx ≡ first_effects [] [] (one_reply h.next_job (reply_of why)) []) → OnOk r (after ≡ after_refusal h)
-    → IfOk r (λ fx. (st : Setting) (es : Trace) (text : List ℕ) → HostStands h st es → st.read text ≡ Ok (Acquire q false p) → Steps h after st es (Line text) fx)
+    → IfOk r (λ fx. (st : Setting) (es : Trace) (text : List ℕ) → HostStands h st es → st.read text ≡ Ok (Acquire q false p false) → Steps h after st es (Line text) fx)
 acquire_refused_ok h after q p why r named is effects state =
-    refused_ok h after (Acquire q false p) why r effects state
-    (λ st es text k says. Is_refused (Acquire q false p) (reply_of why) says (acquire_refused h st es k q named p why is) (acquire_line h.given h.leases q p why is))
+    refused_ok h after (Acquire q false p false) why r effects state
+    (λ st es text k says. Is_refused (Acquire q false p false) (reply_of why) says (acquire_refused h st es k q named p why is) (acquire_line h.given h.leases q p why is))
 
 pub release_refused_ok : {E : Type 0} (h after : HostState) (q : ResourceArg) (p : ℕ) (why : Refusal) (r : Result Effects E) → IsResourceArg (layout_of h.sizes) q
     → release_place h.given h.leases q p ≡ Err why → IfOk r (λ fx. fx ≡ first_effects [] [] (one_reply h.next_job (reply_of why)) []) → OnOk r (after ≡ after_refusal h)
@@ -69,7 +69,7 @@ release_refused_ok h after q p why r named is effects state =
 pub begins_again : (h : HostState) (after : List LeaseHostState) (q : ResourceArg) (p : ℕ) (place : Place) (lease : ℕ) (x : LeaseHostState) (fx : Effects) → IsResourceArg (layout_of h.sizes) q
     → acquire_place h.given h.leases q p ≡ Ok place → place.lease ≡ Some lease → slice_get h.leases lease ≡ Some x
     → (z : LeaseHostState) × MovedAt h.leases after lease x z × Begins x z q p h.next_call h.next_job fx
-    → (st : Setting) (es : Trace) (text : List ℕ) → HostStands h st es → st.read text ≡ Ok (Acquire q false p) → Steps h (after_move h after fx 1) st es (Line text) fx
+    → (st : Setting) (es : Trace) (text : List ℕ) → HostStands h st es → st.read text ≡ Ok (Acquire q false p false) → Steps h (after_move h after fx 1) st es (Line text) fx
 begins_again h after q p place lease x fx named placed at there moved st es text k says =
     let b = placed_by h.given h.leases q p place placed in
     let g = b.session.given in
@@ -92,7 +92,7 @@ pub begins_first : (h : HostState) (after : List LeaseHostState) (q : ResourceAr
     → ((g : Given) → slice_get h.given place.session ≡ Some g → (lease_of x ≡ lease_at place.session g q)
     × ((st : Setting) (y : LeaseState) → st.layout ≡ layout_of h.sizes → IsFresh y → KeepsLease x st y))
     → (z : LeaseHostState) × MovedFirst h.leases after x z × Begins x z q p h.next_call h.next_job fx
-    → (st : Setting) (es : Trace) (text : List ℕ) → HostStands h st es → st.read text ≡ Ok (Acquire q false p) → Steps h (after_move h after fx 1) st es (Line text) fx
+    → (st : Setting) (es : Trace) (text : List ℕ) → HostStands h st es → st.read text ≡ Ok (Acquire q false p false) → Steps h (after_move h after fx 1) st es (Line text) fx
 begins_first h after q p place x fx named placed at first moved st es text k says =
     let b = placed_by h.given h.leases q p place placed in
     let g = b.session.given in

@@ -2,26 +2,26 @@
 -- number it alone has written, and what has no greater number than the claim came before it.
 use Rattle.sl_area.specs.Layouts.{Layout}
 use Rattle.sl_area.specs.Places.{delta_offset}
-use Rattle.sl_front_law.proofs.Having.{placed_at}
+use Rattle.sl_run_law.proofs.Front.Having.{placed_at}
 use Rattle.sl_id_safety.proofs.Standing.{joined_stand}
 use Rattle.sl_id_safety.specs.Interface.{SectorsAreAlone}
 use Rattle.sl_id_safety.specs.Standing.{StandsJoined, sector_offset}
-use Rattle.sl_id_state.proofs.Bridge.{known}
-use Rattle.sl_id_state.proofs.Members.{pair_of}
-use Rattle.sl_id_state.proofs.Proven.{grounds}
-use Rattle.sl_id_state.specs.IdStates.{holder_at, id_state, index_of, is_left_by, join_course, landing_of, name_of, own_courses, submitter_of, submitter_on, writer_of}
-use Rattle.sl_id_steps.proofs.Counted.{left_name}
-use Rattle.sl_id_steps.proofs.RenewalCalls.{IsNumbered, lesser, numbered}
-use Rattle.sl_id_world.specs.Reaching.{IdsAreReached}
+use Rattle.sl_id_safety.proofs.State.Bridge.{known}
+use Rattle.sl_id_safety.proofs.State.Members.{pair_of}
+use Rattle.sl_id_safety.proofs.State.Proven.{grounds}
+use Rattle.sl_id_safety.specs.State.IdStates.{holder_at, id_state, index_of, is_left_by, join_course, landing_of, name_of, own_courses, submitter_of, submitter_on, writer_of}
+use Rattle.sl_id_safety.proofs.Steps.Counted.{left_name}
+use Rattle.sl_id_safety.proofs.Steps.RenewalCalls.{IsNumbered, lesser, numbered}
+use Rattle.sl_id_safety.specs.Reached.Reaching.{IdsAreReached}
 use Rattle.sl_ids.proofs.DerivedLaws.{watchdogs}
 use Rattle.sl_ids.proofs.WholeRuns.{reached_kept}
 use Rattle.sl_ids.specs.Guards.{terms_of}
 use Rattle.sl_ids.specs.Listed.{no_landing}
 use Rattle.sl_ids.specs.State.{Landing as IdLanding, SessionId as IdName, State}
 use Rattle.sl_ids.specs.Terms.{Terms}
-use Rattle.sl_landing_law.proofs.Ordering.{come_in_order}
-use Rattle.sl_landing_law.proofs.Proven.{landings_are_written}
-use Rattle.sl_place_law.proofs.Reading.{session_inside}
+use Rattle.sl_run_law.proofs.Landing.Ordering.{come_in_order}
+use Rattle.sl_run_law.proofs.Landing.Proven.{landings_are_written}
+use Rattle.sl_run_law.proofs.Place.Reading.{session_inside}
 use Rattle.sl_plain.proofs.Lists.{find_fails, find_inside, kept_inside}
 use Rattle.sl_plain.proofs.Numbers.{one_index}
 use Rattle.sl_plain.proofs.Options.{mapped_value}
@@ -193,9 +193,12 @@ by_claim reached p h xs i f l k (Some c) at = by (find (left_since q l.step) ls)
           of_claim = (own.1, own.2);
           before = less;
         })
-        | inr most ↦ inl (c, subst (λ (y : Landing). IsOwnLanding i f c y)
-            (one_step p h xs k.run x l (landed_there w f.session.path (sector_offset w f) x found.0) (landed_there w f.session.path (sector_offset w f) l k.there)
-            (same_step x.step l.step most (leb-true l.step x.step both.1))) own.0)
+        | inr most ↦ inl (
+          c,
+          subst (λ (y : Landing). IsOwnLanding i f c y)
+              (one_step p h xs k.run x l (landed_there w f.session.path (sector_offset w f) x found.0) (landed_there w f.session.path (sector_offset w f) l k.there)
+              (same_step x.step l.step most (leb-true l.step x.step both.1))) own.0,
+        )
       ]
 
 pub sectors_are_alone_given : IdsAreReached → SectorsAreAlone

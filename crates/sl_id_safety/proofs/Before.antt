@@ -1,13 +1,13 @@
 -- A session that had joined before an entry of its daemon: it stands before the event that brought the newest entry.
-use Rattle.sl_course_law.proofs.Daemons.{Same_daemons, DaemonsTurn, One_begins, One_enters, all_ended, stepped_daemons}
-use Rattle.sl_course_law.proofs.Keeping.{Goes_on, was_before}
-use Rattle.sl_course_law.proofs.Mirrored.{machines_mirror}
-use Rattle.sl_course_law.proofs.Turning.{Began, Called, Came_up, Clocked, Crashed, Stays, Tested, Turned, Went_down}
-use Rattle.sl_id_state.proofs.Bridge.{known}
-use Rattle.sl_id_state.proofs.FindingFrames.{found_on, session_with}
-use Rattle.sl_id_state.proofs.LaterFrames.{numbered_found}
-use Rattle.sl_id_state.proofs.Living.{begun_if_joined}
-use Rattle.sl_id_state.proofs.Proven.{grounds}
+use Rattle.sl_run_law.proofs.Course.Daemons.{Same_daemons, DaemonsTurn, One_begins, One_enters, all_ended, stepped_daemons}
+use Rattle.sl_run_law.proofs.Course.Keeping.{Goes_on, was_before}
+use Rattle.sl_run_law.proofs.Course.Mirrored.{machines_mirror}
+use Rattle.sl_run_law.proofs.Course.Turning.{Began, Called, Came_up, Clocked, Crashed, Stays, Tested, Turned, Went_down}
+use Rattle.sl_id_safety.proofs.State.Bridge.{known}
+use Rattle.sl_id_safety.proofs.State.FindingFrames.{found_on, session_with}
+use Rattle.sl_id_safety.proofs.State.LaterFrames.{numbered_found}
+use Rattle.sl_id_safety.proofs.State.Living.{begun_if_joined}
+use Rattle.sl_id_safety.proofs.State.Proven.{grounds}
 use Rattle.sl_law.proofs.LawFacts.{orderly-front}
 use Rattle.sl_law.specs.Lawful.{Orderly}
 use Rattle.sl_plain.proofs.Lists.{contains_cases, contains_first, contains_more}
@@ -17,9 +17,9 @@ use Rattle.sl_run.specs.Worlds.{Daemon, Machine, Program, World, daemons_on, new
 use Rattle.sl_run.specs.declared.event.Event.{Event}
 use Rattle.sl_run.specs.declared.header.Header.{Header}
 use Rattle.sl_run_law.specs.Daemons.{IsSettled}
-use Rattle.sl_session_law.proofs.Owning.{sessions_stay}
-use Rattle.sl_session_law.proofs.Staying.{joined_more, marks_stay}
-use Rattle.sl_session_law.specs.Promises.{IsSession as IsSessionOf}
+use Rattle.sl_trace_law.proofs.Sessions.Owning.{sessions_stay}
+use Rattle.sl_trace_law.proofs.Sessions.Staying.{joined_more, marks_stay}
+use Rattle.sl_trace_law.specs.Sessions.Promises.{IsSession as IsSessionOf}
 use Rattle.sl_sessions.specs.Sessions.{given_session, joined_after, session_numbered}
 use Rattle.sl_sessions.specs.declared.session.Session.{Session}
 use Rattle.sl_trace.specs.Traces.{Setting, Trace}

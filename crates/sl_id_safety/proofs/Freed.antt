@@ -1,19 +1,19 @@
 -- The free is a session's last call, and is made where no call of it is open.
-use Rattle.sl_id_state.proofs.Keeping.{lawful_call}
-use Rattle.sl_id_state.proofs.Listing.{stands, stands_there, tail_at}
-use Rattle.sl_id_state.proofs.Tails.{AreMade, IsLater, IsMadeAfter, all_made, front_at}
-use Rattle.sl_id_state.proofs.Timing.{longer}
+use Rattle.sl_id_safety.proofs.State.Keeping.{lawful_call}
+use Rattle.sl_id_safety.proofs.State.Listing.{stands, stands_there, tail_at}
+use Rattle.sl_id_safety.proofs.State.Tails.{AreMade, IsLater, IsMadeAfter, all_made, front_at}
+use Rattle.sl_id_safety.proofs.State.Timing.{longer}
 use Rattle.sl_law.specs.Lawful.{Orderly}
 use Rattle.sl_law.specs.LawfulCalls.{may_submit}
 use Rattle.sl_law.specs.LawfulDelta.{LawfulDeltaCall, LawfulFree}
-use Rattle.sl_place_law.proofs.Finding.{finds, partner}
-use Rattle.sl_place_law.proofs.Looks.{made_below, stands as standing_joined}
+use Rattle.sl_run_law.proofs.Place.Finding.{finds, partner}
+use Rattle.sl_run_law.proofs.Place.Looks.{made_below, stands as standing_joined}
 use Rattle.sl_plain.proofs.Lists.{contains_cases, contains_none, ends, find_inside, kept, kept_inside}
-use Rattle.sl_session_law.proofs.Freeing.{no_more_by}
-use Rattle.sl_session_law.proofs.Joining.{stage_for}
-use Rattle.sl_session_law.proofs.Silence.{stage_by}
-use Rattle.sl_session_law.proofs.Staying.{marks_stay}
-use Rattle.sl_session_law.specs.Promises.{IsSession as IsSessionOf}
+use Rattle.sl_trace_law.proofs.Sessions.Freeing.{no_more_by}
+use Rattle.sl_trace_law.proofs.Sessions.Joining.{stage_for}
+use Rattle.sl_trace_law.proofs.Sessions.Silence.{stage_by}
+use Rattle.sl_trace_law.proofs.Sessions.Staying.{marks_stay}
+use Rattle.sl_trace_law.specs.Sessions.Promises.{IsSession as IsSessionOf}
 use Rattle.sl_sessions.specs.Sessions.{calls_of, free_write, is_call_of, is_free_purpose, joined_after, open_calls_of, refused_after, removed_after, stage_after, stage_in, stage_of}
 use Rattle.sl_sessions.specs.declared.session.Session.{Session}
 use Rattle.sl_sessions.specs.declared.stage.Stage.TheVariants.{Standing}

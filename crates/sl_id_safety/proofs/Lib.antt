@@ -16,3 +16,6 @@ pub mod Before
 pub mod Claimed
 pub mod NoOther
 pub mod Proven
+pub mod State
+pub mod Steps
+pub mod Reached

@@ -6,8 +6,8 @@ use Rattle.sl_id_safety.proofs.NoOther.{reads_no_other_given}
 use Rattle.sl_id_safety.proofs.Owning.{sectors_stand_given}
 use Rattle.sl_id_safety.proofs.Silent.{silence_means_over_given}
 use Rattle.sl_id_safety.specs.Interface.{EvidenceMeansOver, EvidencesAreTrue, GenerationsNameOne, IdsAreSafe, JoinedReadNoOther, JoinersFindOver, JoinersRise, OneActsForEachId, OverStays, SectorsAreAlone, SectorsStand, SilenceMeansOver}
-use Rattle.sl_id_world.proofs.Proven.{ids_are_reached, ids_go_on}
-use Rattle.sl_watchdog_law.proofs.Proven.{writes_in_flight_are_covered}
+use Rattle.sl_id_safety.proofs.Reached.Proven.{ids_are_reached, ids_go_on}
+use Rattle.sl_run_law.proofs.Watchdog.Proven.{writes_in_flight_are_covered}
 
 pub one_acts_for_each_id : OneActsForEachId
 one_acts_for_each_id = one_acts_given ids_are_reached

@@ -1,5 +1,5 @@
 -- What the argument over ballots may use of the ids of a lawful run, in words of its worlds.
-use Rattle.sl_id_state.specs.IdStates.{own_courses}
+use Rattle.sl_id_safety.specs.State.IdStates.{own_courses}
 use Rattle.sl_run.specs.Runs.{Happening}
 use Rattle.sl_run.specs.Safety.{DeltaInvariant, EvidenceIsTrue, Found, GenerationsRise, HasJoined, IsSession, LawfulRun, OneForEachId, OwnSectorIsAlone, OwnSectorStands, ReadsNoOther, SameId, SessionId, found_generation, is_over, same_lockspace, setting_in, trace_of, world_at}
 use Rattle.sl_run.specs.Worlds.{Course, Program, Stamp, World, is_write_course}

@@ -1,5 +1,9 @@
 //! What a lawful run promises of the sessions of each id.
 
+pub mod reached;
+pub mod state;
+pub mod steps;
+
 ghost use Rattle.sl_id_safety.specs.Interface.{EvidenceMeansOver, EvidencesAreTrue, GenerationsNameOne, IdsAreSafe, JoinedReadNoOther, JoinedStays, JoinersFindOver, JoinersRise, LockspacesAreAreas, OneActsForEachId, OverAreSettled, OverAreSilent, OverStays, SectorsAreAlone, SectorsStand};
 ghost use Rattle.sl_id_safety.specs.Standing.{JoinedStand, SameIdsStandTogether, StandingTogetherIsSameId};
 

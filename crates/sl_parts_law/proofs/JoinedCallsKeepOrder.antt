@@ -12,7 +12,6 @@ use Rattle.sl_law.specs.LawfulParting.{MayPart, is_leaving_write}
 use Rattle.sl_law.specs.LawfulValue.{LawfulValueRead, LawfulValueWrite}
 use Rattle.sl_law.specs.LawfulWatchdog.{CoveredBy, LawfulWatchdog, is_covered}
 use Rattle.sl_law.specs.Saying.{EachCall}
-use Rattle.sl_lease_law.proofs.NumberLaws.{number_is_place}
 use Rattle.sl_leases.specs.Leases.{Phase2_read, block_written, is_at, leader_written, spot_of_call, value_written}
 use Rattle.sl_parts_law.proofs.CallsGrow.{each_more, mine_more, others_stay, same_sessions}
 use Rattle.sl_parts_law.specs.CallIsLawful.{CallIsLawful}
@@ -23,7 +22,6 @@ use Rattle.sl_sector.specs.declared.sector.Block.{Block}
 use Rattle.sl_sector.specs.declared.sector.Leader.{Leader}
 use Rattle.sl_sector.specs.declared.sector.Rec.{Rec}
 use Rattle.sl_sector.specs.declared.sector.ValueRec.{ValueRec}
-use Rattle.sl_session_law.proofs.Silence.{stage_by}
 use Rattle.sl_sessions.specs.Sessions.{begun_in, calls_of, free_write, has_open_delta, has_open_write, is_active, is_covered_stage, is_delta_purpose, is_join_call, is_joined, is_leaving, is_recovering, is_survey_purpose, join_call, joined_after, refused_after, removed_after, session_numbered, sessions, stage_in, stage_of}
 use Rattle.sl_sessions.specs.declared.session.Session.{Session}
 use Rattle.sl_sessions.specs.declared.stage.Stage.{Stage}
@@ -38,6 +36,8 @@ use Rattle.sl_trace.specs.declared.effects.JoinStep.{JoinStep}
 use Rattle.sl_trace.specs.declared.effects.Purpose.TheVariants.{SeeRequest, ValueRead}
 use Rattle.sl_trace.specs.declared.input.Input.TheVariants.{Answer as Told, Exit, Line, Number, Spawned, Wake}
 use Rattle.sl_trace.specs.declared.input.Input.{Input}
+use Rattle.sl_trace_law.proofs.Leases.NumberLaws.{number_is_place}
+use Rattle.sl_trace_law.proofs.Sessions.Silence.{stage_by}
 use Rattle.sl_words.proofs.CaseLaws.{false_is_true, not_both, one_value, true_or_false}
 use Rattle.std.proofs.Common.{ap, arith, inl, inr, refl, subst, sym, tests, ◌∙◌}
 use Rattle.std.specs.List.{list_any, range_with_len}

@@ -10,7 +10,6 @@ use Rattle.sl_parts_law.specs.CallIsLawful.{CallIsLawful}
 use Rattle.sl_parts_law.specs.Parts.{with_move}
 use Rattle.sl_sector.specs.declared.sector.Block.{Block}
 use Rattle.sl_sector.specs.declared.sector.Leader.{Leader}
-use Rattle.sl_session_law.proofs.Silence.{stage_by}
 use Rattle.sl_sessions.specs.Sessions.{calls_of, free_write, is_join_call, joined_after, leaving_job, recovery_of, refused_after, removed_after, stage_in, stage_of}
 use Rattle.sl_sessions.specs.declared.session.Session.{Session}
 use Rattle.sl_trace.specs.Connections.{registers_with, unregisters}
@@ -25,6 +24,7 @@ use Rattle.sl_trace.specs.declared.effects.Purpose.TheVariants.{Joining, Lease, 
 use Rattle.sl_trace.specs.declared.effects.Purpose.{Purpose}
 use Rattle.sl_trace.specs.declared.effects.Spot.{Spot}
 use Rattle.sl_trace.specs.declared.effects.Work.{Work}
+use Rattle.sl_trace_law.proofs.Sessions.Silence.{stage_by}
 use Rattle.sl_words.proofs.CaseLaws.{true_is_false}
 use Rattle.sl_words.specs.Words.{choose}
 use Rattle.std.proofs.Common.{ap, subst, sym, ◌∙◌}

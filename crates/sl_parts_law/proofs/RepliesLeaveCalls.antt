@@ -9,7 +9,6 @@ use Rattle.sl_parts_law.specs.CallIsLawful.{CallIsLawful}
 use Rattle.sl_parts_law.specs.Parts.{with_reply}
 use Rattle.sl_sector.specs.declared.sector.Block.{Block}
 use Rattle.sl_sector.specs.declared.sector.Leader.{Leader}
-use Rattle.sl_session_law.proofs.Silence.{stage_by}
 use Rattle.sl_sessions.specs.Sessions.{calls_of, free_write, generation_of, is_active, is_join_call, is_join_done, joined_after, leaving_job, recovery_of, refused_after, removed_after, stage_in, stage_of}
 use Rattle.sl_sessions.specs.Watching.{counted_over, evidence_in}
 use Rattle.sl_sessions.specs.declared.session.Session.{Session}
@@ -26,6 +25,7 @@ use Rattle.sl_trace.specs.declared.effects.Purpose.{Purpose}
 use Rattle.sl_trace.specs.declared.effects.Spot.{Spot}
 use Rattle.sl_trace.specs.declared.effects.Work.{Work}
 use Rattle.sl_trace.specs.declared.input.Input.TheVariants.{Wake}
+use Rattle.sl_trace_law.proofs.Sessions.Silence.{stage_by}
 use Rattle.sl_words.proofs.CaseLaws.{true_is_false}
 use Rattle.sl_words.specs.Words.{choose, some_is}
 use Rattle.std.proofs.Common.{ap, inl, inr, refl, subst, sym, ◌∙◌}

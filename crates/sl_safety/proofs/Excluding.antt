@@ -2,13 +2,13 @@
 --
 -- Of two that conflict one is exclusive, and both are of one resource. There the argument over ballots gives them one holder, and
 -- names of joined sessions are apart: so both are of one session, thus of one machine, and a machine doesn't conflict with itself.
-use Rattle.sl_front_law.proofs.Going.{fronts_are_lawful}
-use Rattle.sl_holding_law.proofs.Holders.{holdings_are_held, one_machine_agrees}
-use Rattle.sl_holding_law.specs.Holders.{HeldBy, RestsOn, orphaned}
+use Rattle.sl_run_law.proofs.Front.Going.{fronts_are_lawful}
+use Rattle.sl_safety.proofs.Holding.Holders.{holdings_are_held, one_machine_agrees}
+use Rattle.sl_safety.specs.Holding.Holders.{HeldBy, RestsOn, orphaned}
 use Rattle.sl_holdings.proofs.Holding.{none_shares_beside, one_is_kept}
-use Rattle.sl_place_law.proofs.Finding.{place_is}
+use Rattle.sl_run_law.proofs.Place.Finding.{place_is}
 use Rattle.sl_plain.proofs.Lists.{any_found}
-use Rattle.sl_resource_history.specs.Promises.{history_of_line}
+use Rattle.sl_history.specs.Resources.Promises.{history_of_line}
 use Rattle.sl_run.specs.Conflicts.{Holding, IsExclusive, conflicts, has_conflict, world_holdings}
 use Rattle.sl_run.specs.Runs.{Happening}
 use Rattle.sl_run.specs.Safety.{LawfulRun, Safety, SessionId, world_at}
@@ -18,7 +18,7 @@ use Rattle.sl_run.specs.declared.header.ResourceLine.{ResourceLine}
 use Rattle.sl_safety.proofs.Lawful.{are_lawful}
 use Rattle.sl_safety.proofs.Placed.{ExclusiveOf, HoldsAsShared, HoldsExclusive, SharedOf, exclusive_of, of_one_resource, shared_of}
 use Rattle.sl_safety.specs.Histories.{HistoriesKeepInstances}
-use Rattle.sl_session_history.proofs.Named.{names_are_apart}
+use Rattle.sl_history.proofs.Sessions.Named.{names_are_apart}
 use Rattle.sl_trace.specs.Traces.{is_shared, same_place}
 use Rattle.sl_words.proofs.CaseLaws.{false_is_true, true_or_false}
 use Rattle.sl_words.proofs.WordLaws.{and_true}

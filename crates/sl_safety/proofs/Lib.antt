@@ -1,8 +1,13 @@
-pub mod Orderly
+pub mod Lawful
 pub mod Placed
 pub mod Excluding
 pub mod Agreeing
 pub mod Standing
 pub mod Marked
 pub mod Moded
+pub mod Volumes
 pub mod Whole
+pub mod Holding
+pub mod Ballot
+pub mod Grant
+pub mod Value

@@ -8,7 +8,7 @@ use Rattle.sl_still.specs.StillPath.{IsLease, IsStill, SessionStands, StillLease
 use Rattle.sl_trace.specs.Traces.{Job, Setting, Trace, child_after, children, holdings, jobs, next_job, same_place}
 use Rattle.sl_trace.specs.declared.effects.Grant.{Grant}
 use Rattle.sl_trace.specs.declared.input.Input.TheVariants.{Wake}
-use Rattle.std.proofs.Common.{ap}
+use Rattle.std.proofs.Common.{ap, refl}
 use Rattle.std.proofs.lemmas.List.{append-nil}
 use Rattle.std.specs.Prelude.{List, [], filter, length, map, ℕ, ◌++◌, ◌+◌, ◌==◌, ◌≡◌}
 
@@ -22,7 +22,7 @@ pub quiet_children : (now : ℕ) (es : Trace) → children es ≡ [] → childre
 quiet_children now es none = ap (λ ks. map (child_after Wake) ks ++ []) none
 
 pub quiet_job : (st : Setting) (now : ℕ) (es : Trace) → next_job st (before_next now es) ≡ next_job st es
-quiet_job st now es = ap (λ (js : List Job). st.first.job + length js) (append-nil (jobs st es))
+quiet_job st now es = refl
 
 pub quiet_session : (st : Setting) (now : ℕ) → IsStill st now → (T : Table) (es : Trace) → StillStands st now T es → (l : StillLease) → IsLease st l → SessionStands st l (before_next now es)
 quiet_session st now f T es h l is = session_stands st now f (before_next now es) (quiet_calm now es h.calm) h.mine l is

@@ -2,7 +2,7 @@
 -- session and an area; all that the laws ask of it is a function of its own calls and its own holding.
 use Rattle.sl_area.specs.Places.{is_base}
 use Rattle.sl_first.specs.FirstSteps.{first_grant, first_over}
-use Rattle.sl_first_cause.specs.Promises.{is_line_or_answer}
+use Rattle.sl_first_law.specs.Cause.Promises.{is_line_or_answer}
 use Rattle.sl_leases.specs.Leases.{is_lease_call, lease_step, spot_of, spot_of_call}
 use Rattle.sl_sessions.specs.Sessions.{delta_written, generation_of, given_session, is_active, is_joined, leaving_job, removed_after, renewing, session_named, session_numbered}
 use Rattle.sl_sessions.specs.Watching.{counts_over}
@@ -31,10 +31,10 @@ pub record IsStillResource (st : Setting) (r : ResourceArg) : Type 0 where
   pub named : IsTrue (is_name r.name)
   pub based : IsTrue (is_base st.layout r.offset)
 
--- What a text may say: an exclusive acquire or a release of any resource for any process.
+-- What a text may say: an exclusive acquire or a release of any resource for any process. (Process 0 is none.)
 abbrev pub IsStillCommand : Setting → Result Command ℕ → Type 0
 IsStillCommand st (Err column) = Unit {0}
-IsStillCommand st (Ok c) = (r : ResourceArg) × (p : ℕ) × IsStillResource st r × ((c ≡ Acquire r false p) ⊎ (c ≡ Release r p))
+IsStillCommand st (Ok c) = (r : ResourceArg) × (p : ℕ) × (IsStillResource st r × (1 ≤ p)) × ((c ≡ Acquire r false p false) ⊎ (c ≡ Release r p))
 
 -- A session that it begins with.
 pub record IsStillGiven (st : Setting) (now : ℕ) (g : Given) : Type 0 where
