@@ -5,15 +5,17 @@ use Rattle.sl_sessions.specs.Sessions.{calls_of, is_call_of, is_join_call, sessi
 use Rattle.sl_sessions.specs.declared.session.Session.{Session}
 use Rattle.sl_trace.proofs.TraceFacts.{submitted-push}
 use Rattle.sl_trace.specs.TraceLaws.{with_call}
-use Rattle.sl_trace.specs.Traces.{Setting, Submitted, Trace, new_call}
+use Rattle.sl_trace.specs.Traces.{Setting, Submitted, Trace, answered_in, mark, new_call, next_call, submitted}
 use Rattle.sl_trace.specs.declared.effects.Call.{Call}
 use Rattle.sl_trace.specs.declared.effects.Effects.{Effects}
 use Rattle.sl_trace.specs.declared.effects.Entry.{Entry}
 use Rattle.sl_trace.specs.declared.effects.JoinStep.TheVariants.{FirstRead}
+use Rattle.sl_trace.specs.declared.input.Input.TheVariants.{Answer as Told, Exit, Line, Number, Spawned, Wake}
+use Rattle.sl_trace.specs.declared.input.Input.{Input}
 use Rattle.sl_words.proofs.CaseLaws.{none_some, some_value}
-use Rattle.std.proofs.Common.{ap, inl, inr, refl, subst, sym, ◌∙◌}
+use Rattle.std.proofs.Common.{ap, arith, inl, inr, refl, subst, sym, ◌∙◌}
 use Rattle.std.specs.List.{list_any}
-use Rattle.std.specs.Prelude.{Bool, List, Some, cond, false, filter, length, slice_get, suc, take, true, zero, [], ℕ, ◌++◌, ◌==◌, ◌||◌, ◌∷◌, ◌≡◌, ◌⊎◌}
+use Rattle.std.specs.Prelude.{Bool, List, Some, cond, false, filter, fold, length, map, slice_get, suc, take, true, zero, [], ℕ, ◌++◌, ◌+◌, ◌==◌, ◌||◌, ◌∷◌, ◌≡◌, ◌⊎◌}
 
 -- ---- the last of a list
 
@@ -79,3 +81,29 @@ pub others_stay : (e : Entry) (past : Trace) (c : Call) (s : Session) → (c.ses
 others_stay e past c s other =
     ap (λ ms. filter (is_call_of s) ms) (submitted-push past e c)
     ∙ ap (λ b. cond b (new_call (length past) e.reading c ∷ calls_of (e ∷ past) s) (calls_of (e ∷ past) s)) other
+
+-- ---- how many there are
+
+map_length : {A B : Type 0} (f : A → B) (xs : List A) → length (map f xs) ≡ length xs
+map_length f [] = refl
+map_length f (x ∷ xs) = ap (λ n. suc n) (map_length f xs)
+
+mark_length : (es : Trace) (e : Entry) (i : Input) (ms : List Submitted) → length (mark es e i ms) ≡ length ms
+mark_length es e (Told n answer) ms = map_length (answered_in es e n answer) ms
+mark_length es e (Line text) ms = refl
+mark_length es e (Number text) ms = refl
+mark_length es e (Exit p) ms = refl
+mark_length es e (Spawned p ok) ms = refl
+mark_length es e Wake ms = refl
+
+made_length : (at reading : ℕ) (cs : List Call) (ms : List Submitted) → length (fold (λ ns c. new_call at reading c ∷ ns) ms cs) ≡ length ms + length cs
+made_length at reading [] ms = omega arith
+made_length at reading (c ∷ cs) ms =
+    let rest : length (fold (λ ns d. new_call at reading d ∷ ns) (new_call at reading c ∷ ms) cs) ≡ length (new_call at reading c ∷ ms) + length cs = made_length at reading cs (new_call at reading c ∷ ms) in
+    omega (arith, rest)
+
+pub next_more : (st : Setting) (e : Entry) (past : Trace) → next_call st (e ∷ past) ≡ next_call st past + length e.effects.calls
+next_more st e past =
+    let made : length (submitted (e ∷ past)) ≡ length (mark past e e.input (submitted past)) + length e.effects.calls = made_length (length past) e.reading e.effects.calls (mark past e e.input (submitted past)) in
+    let marked : length (mark past e e.input (submitted past)) ≡ length (submitted past) = mark_length past e e.input (submitted past) in
+    omega (arith, made, marked)

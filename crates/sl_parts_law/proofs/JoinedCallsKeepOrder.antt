@@ -13,7 +13,7 @@ use Rattle.sl_law.specs.LawfulValue.{LawfulValueRead, LawfulValueWrite}
 use Rattle.sl_law.specs.LawfulWatchdog.{CoveredBy, LawfulWatchdog, is_covered}
 use Rattle.sl_law.specs.Saying.{EachCall}
 use Rattle.sl_leases.specs.Leases.{Phase2_read, block_written, is_at, leader_written, spot_of_call, value_written}
-use Rattle.sl_parts_law.proofs.CallsGrow.{each_more, mine_more, others_stay, same_sessions}
+use Rattle.sl_parts_law.proofs.CallsGrow.{each_more, mine_more, next_more, others_stay, same_sessions}
 use Rattle.sl_parts_law.specs.CallIsLawful.{CallIsLawful}
 use Rattle.sl_parts_law.specs.Parts.{JoinedCall}
 use Rattle.sl_plain.proofs.Lists.{contains_more, contains_none, got_before, got_inside, head_is, tail_is}
@@ -27,21 +27,19 @@ use Rattle.sl_sessions.specs.declared.session.Session.{Session}
 use Rattle.sl_sessions.specs.declared.stage.Stage.{Stage}
 use Rattle.sl_trace.specs.Connections.{unregisters}
 use Rattle.sl_trace.specs.TraceLaws.{with_call}
-use Rattle.sl_trace.specs.Traces.{FollowsTrace, Setting, Submitted, Trace, answered_in, is_write, mark, new_call, next_call, record_of, submitted, unanswered}
+use Rattle.sl_trace.specs.Traces.{FollowsTrace, Setting, Submitted, Trace, is_write, new_call, next_call, record_of, unanswered}
 use Rattle.sl_trace.specs.declared.effects.Call.{Call}
 use Rattle.sl_trace.specs.declared.effects.Entry.{Entry}
 use Rattle.sl_trace.specs.declared.effects.Grant.{Grant}
 use Rattle.sl_trace.specs.declared.effects.JoinStep.TheVariants.{FirstRenewal}
 use Rattle.sl_trace.specs.declared.effects.JoinStep.{JoinStep}
 use Rattle.sl_trace.specs.declared.effects.Purpose.TheVariants.{SeeRequest, ValueRead}
-use Rattle.sl_trace.specs.declared.input.Input.TheVariants.{Answer as Told, Exit, Line, Number, Spawned, Wake}
-use Rattle.sl_trace.specs.declared.input.Input.{Input}
 use Rattle.sl_trace_law.proofs.Leases.NumberLaws.{number_is_place}
 use Rattle.sl_trace_law.proofs.Sessions.Silence.{stage_by}
 use Rattle.sl_words.proofs.CaseLaws.{false_is_true, not_both, one_value, true_or_false}
 use Rattle.std.proofs.Common.{ap, arith, inl, inr, refl, subst, sym, tests, ◌∙◌}
 use Rattle.std.specs.List.{list_any, range_with_len}
-use Rattle.std.specs.Prelude.{Bool, Contains, IsFalse, IsSome, IsTrue, List, None, Option, Some, cond, false, fold, is_none, is_some, length, map, not, slice_get, suc, true, [], ℕ, ◌&&◌, ◌++◌, ◌+◌, ◌==◌, ◌||◌, ◌∷◌, ◌≡◌, ◌⊎◌}
+use Rattle.std.specs.Prelude.{Bool, Contains, IsFalse, IsSome, IsTrue, List, None, Option, Some, cond, false, is_none, is_some, length, map, not, slice_get, true, [], ℕ, ◌&&◌, ◌++◌, ◌+◌, ◌==◌, ◌||◌, ◌∷◌, ◌≡◌, ◌⊎◌}
 
 same_number : (a b : ℕ) → (a == b) ≡ true → a ≡ b
 same_number a b h = grind (arith, tests)
@@ -163,24 +161,6 @@ numbers_on (d ∷ cs) c n old next =
     let rest : map (λ (b : Call). b.number) cs ≡ range_with_len (n + 1) (length cs) = tail_is d.number n (map (λ (b : Call). b.number) cs) (range_with_len (n + 1) (length cs)) old in
     ap (λ k. k ∷ map (λ (b : Call). b.number) (cs ++ c ∷ [])) first ∙ ap (λ ks. n ∷ ks) (numbers_on cs c (n + 1) rest (next ∙ omega arith))
 
-map_length : {A B : Type 0} (f : A → B) (xs : List A) → length (map f xs) ≡ length xs
-map_length f [] = refl
-map_length f (x ∷ xs) = ap (λ n. suc n) (map_length f xs)
-
-mark_length : (es : Trace) (e : Entry) (i : Input) (ms : List Submitted) → length (mark es e i ms) ≡ length ms
-mark_length es e (Told n answer) ms = map_length (answered_in es e n answer) ms
-mark_length es e (Line text) ms = refl
-mark_length es e (Number text) ms = refl
-mark_length es e (Exit p) ms = refl
-mark_length es e (Spawned p ok) ms = refl
-mark_length es e Wake ms = refl
-
-made_length : (at reading : ℕ) (cs : List Call) (ms : List Submitted) → length (fold (λ ns c. new_call at reading c ∷ ns) ms cs) ≡ length ms + length cs
-made_length at reading [] ms = omega arith
-made_length at reading (c ∷ cs) ms =
-    let rest : length (fold (λ ns d. new_call at reading d ∷ ns) (new_call at reading c ∷ ms) cs) ≡ length (new_call at reading c ∷ ms) + length cs = made_length at reading cs (new_call at reading c ∷ ms) in
-    omega (arith, rest)
-
 -- ---- the whole
 
 pub joined_calls_keep_order : (st : Setting) (past : Trace) (e : Entry) (c : Call) (s : Session) → JoinedCall st past e c s → Orderly st (e ∷ past) → Orderly st (with_call c e ∷ past)
@@ -262,11 +242,8 @@ joined_calls_keep_order st past e c s j h =
       follows : FollowsTrace st past e
       follows = h.is_trace.0
 
-      marked : length (submitted (e ∷ past)) ≡ length (mark past e e.input (submitted past)) + length e.effects.calls
-      marked = made_length (length past) e.reading e.effects.calls (mark past e e.input (submitted past))
-
       next : c.number ≡ next_call st past + length e.effects.calls
-      next = let stays : length (mark past e e.input (submitted past)) ≡ length (submitted past) = mark_length past e e.input (submitted past) in let is : c.number ≡ st.first.call + length (submitted (e ∷ past)) = j.numbered in omega (arith, marked, stays, is)
+      next = j.numbered ∙ next_more st e past
 
       each : (P : Trace → Session → Submitted → Type 0) → EachCall st P past e
           → ((x : Session) → CallIsLawful st (e ∷ past) x (new_call (length past) e.reading c) → P (e ∷ past) x (new_call (length past) e.reading c)) → EachCall st P past (with_call c e)

@@ -8,13 +8,28 @@ use Rattle.sl_trace.specs.Connections.{unregisters}
 use Rattle.sl_trace.specs.Traces.{Setting, Trace, new_call, next_call, record_of}
 use Rattle.sl_trace.specs.declared.effects.Call.{Call}
 use Rattle.sl_trace.specs.declared.effects.Effects.{Effects}
+use Rattle.sl_trace.specs.declared.effects.End.{End}
 use Rattle.sl_trace.specs.declared.effects.Entry.{Entry}
+use Rattle.sl_trace.specs.declared.effects.Grant.{Grant}
 use Rattle.sl_trace.specs.declared.effects.JobReply.{JobReply}
 use Rattle.sl_trace.specs.declared.effects.JoinStep.TheVariants.{FirstRead, FirstRenewal}
 use Rattle.sl_trace.specs.declared.effects.Move.{Move}
+use Rattle.sl_trace.specs.declared.effects.Start.{Start}
 use Rattle.sl_trace.specs.declared.reply.Reply.TheVariants.{Value}
 use Rattle.std.specs.List.{list_any}
 use Rattle.std.specs.Prelude.{Contains, List, Some, false, length, true, [], ℕ, ◌++◌, ◌∷◌, ◌≡◌}
+
+-- The entry with one more end.
+abbrev pub with_end : End → Entry → Entry
+with_end x e = let fx : Effects = e.effects in record e { effects = record fx { ends = fx.ends ++ x ∷ [] } }
+
+-- The entry with one more grant.
+abbrev pub with_grant : Grant → Entry → Entry
+with_grant g e = let fx : Effects = e.effects in record e { effects = record fx { grants = fx.grants ++ g ∷ [] } }
+
+-- The entry with one more start.
+abbrev pub with_start : Start → Entry → Entry
+with_start x e = let fx : Effects = e.effects in record e { effects = record fx { starts = fx.starts ++ x ∷ [] } }
 
 -- The entry with one more move.
 abbrev pub with_move : Move → Entry → Entry

@@ -1,6 +1,11 @@
 //! What effects leave of the laws.
 
-ghost use Rattle.sl_parts_law.specs.Promises.{JoinedCallsKeepOrder, MovesLeaveCalls, RepliesLeaveCalls};
+ghost use Rattle.sl_parts_law.specs.Promises.{EffectsAreTold, JoinedCallsKeepOrder, MovesLeaveCalls, RepliesLeaveCalls};
+
+/// What each question to a trace becomes by one more effect of its newest entry.
+pub fn effects_are_told()
+    ensures { EffectsAreTold }
+{}
 
 /// A move that comes after a call, and doesn't remove its session's connection, leaves the call lawful.
 pub fn moves_leave_calls()
