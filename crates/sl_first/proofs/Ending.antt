@@ -9,9 +9,9 @@ use Rattle.sl_trace.specs.declared.effects.End.{End}
 use Rattle.sl_trace.specs.declared.effects.Entry.{Entry}
 use Rattle.sl_words.proofs.CaseLaws.{false_is_true, none_some}
 use Rattle.sl_words.specs.Words.{some_is}
-use Rattle.std.proofs.Common.{ap, arith, refl, subst, sym, tests, ◌∙◌}
+use Rattle.std.proofs.Common.{ap, arith, refl, sym, tests, ◌∙◌}
 use Rattle.std.specs.List.{list_any}
-use Rattle.std.specs.Prelude.{Bool, Err, IsTrue, List, None, Ok, Option, Result, Some, false, length, nat_lt, slice_get, suc, true, ℕ, ◌&&◌, ◌+◌, ◌-◌, ◌<◌, ◌==◌, ◌∷◌, ◌≡◌}
+use Rattle.std.specs.Prelude.{Bool, Err, List, None, Ok, Option, Result, Some, false, length, nat_lt, slice_get, suc, true, ℕ, ◌&&◌, ◌-◌, ◌==◌, ◌∷◌, ◌≡◌}
 
 is_less : (n : ℕ) → nat_lt n (suc n) ≡ true
 is_less n = grind (arith, tests)

@@ -10,8 +10,7 @@ use Rattle.sl_trace.specs.declared.command.Command.{Command}
 use Rattle.sl_trace.specs.declared.command.ResourceArg.{ResourceArg}
 use Rattle.sl_trace.specs.declared.effects.Mode.{Mode}
 use Rattle.sl_trace.specs.declared.input.Answer.TheVariants.{Written}
-use Rattle.sl_trace.specs.declared.input.Answer.{Answer}
-use Rattle.sl_words.proofs.CaseLaws.{false_is_true, some_value}
+use Rattle.sl_words.proofs.CaseLaws.{false_is_true}
 use Rattle.std.proofs.Common.{ap, refl, subst, sym, ◌∙◌}
 use Rattle.std.specs.Prelude.{Bool, List, Some, [], false, option_map, true, ℕ, ◌∷◌, ◌≡◌}
 

@@ -5,12 +5,11 @@ use Rattle.sl_still.proofs.Known.{session_stands}
 use Rattle.sl_still.proofs.Stillness.{quiet_calm}
 use Rattle.sl_still.specs.StillLeases.{StillStands, Table}
 use Rattle.sl_still.specs.StillPath.{IsLease, IsStill, SessionStands, StillLease, before_next, lease_session}
-use Rattle.sl_trace.specs.Traces.{Job, Setting, Trace, child_after, children, holdings, jobs, next_job, same_place}
+use Rattle.sl_trace.specs.Traces.{Setting, Trace, child_after, children, holdings, next_job, same_place}
 use Rattle.sl_trace.specs.declared.effects.Grant.{Grant}
 use Rattle.sl_trace.specs.declared.input.Input.TheVariants.{Wake}
 use Rattle.std.proofs.Common.{ap, refl}
-use Rattle.std.proofs.lemmas.List.{append-nil}
-use Rattle.std.specs.Prelude.{List, [], filter, length, map, ℕ, ◌++◌, ◌+◌, ◌==◌, ◌≡◌}
+use Rattle.std.specs.Prelude.{[], filter, map, ℕ, ◌++◌, ◌==◌, ◌≡◌}
 
 pub quiet_held : (now : ℕ) (es : Trace) → holdings (before_next now es) ≡ holdings es
 quiet_held now es = held_stays (holdings es) [] []
