@@ -54,8 +54,18 @@ fn acts(read: Result<LeaseCommand, BadCommand>) -> bool
     ensures exact { result ≡ acts_in read }
 {
     match read {
-        Ok(LeaseCommand::Acquire { resource: _, process }) => process == LOCK_PROCESS,
-        Ok(LeaseCommand::Release { resource: _, process }) => process == LOCK_PROCESS,
+        Ok(
+            LeaseCommand::Acquire {
+                resource: _,
+                process,
+            },
+        ) => process == LOCK_PROCESS,
+        Ok(
+            LeaseCommand::Release {
+                resource: _,
+                process,
+            },
+        ) => process == LOCK_PROCESS,
         Err(_) => false,
     }
 }
