@@ -1,7 +1,7 @@
 -- The header of lines that were taken is one of one machine that a world may begin with.
 use Rattle.sl_area.specs.Layouts.{Sizes, is_geometry}
 use Rattle.sl_plain.proofs.Lists.{any_found, in_map}
-use Rattle.sl_report.specs.ScheduleLines.{AreaLine, BeginLine, ClockLine, DiskLine, HeaderLine, HostsLine, IdsLine, LeaseLine, MemberLine, area_line, clock_line, disk_line, first_line, header_of, hosts_line, ids_line, is_on_disk, lease_line, member_line, no_timing, timing_line, geometry_line, retries_line}
+use Rattle.sl_report.specs.ScheduleLines.{AreaLine, BeginLine, ClockLine, DiskLine, HeaderLine, HostsLine, IdsLine, LeaseLine, MemberLine, area_line, clock_line, disk_line, first_line, header_of, hosts_line, ids_line, is_on_disk, lease_line, member_line, no_timing, timing_line}
 use Rattle.sl_report.specs.Schedules.{Header_read, NumberedLine, default_area, default_sector, numbered_lines, read_header}
 use Rattle.sl_run.specs.Headers.{GoTogether, IsArea, IsHeader, IsMember}
 use Rattle.sl_run.specs.Worlds.{mebibyte}

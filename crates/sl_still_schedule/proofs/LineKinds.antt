@@ -1,7 +1,6 @@
 -- The kinds of a header's lines, and what each line's tests say of the lines before it.
 use Rattle.sl_report.specs.ScheduleLines.{AreaLine, BeginLine, ClockLine, DiskLine, HeaderLine, HostsLine, IdsLine, LeaseLine, MemberLine, TimeLine, VersionLine, area_line, clock_line, disk_line, first_line, header_of, header_tests, hosts_line, ids_line, is_known_lockspace, is_on_disk, is_taken_place, lease_line, member_line, rank, timing_line, GeometryLine, LvmLine, geometry_line}
 use Rattle.sl_report.specs.Schedules.{default_area, default_sector}
-use Rattle.sl_run.specs.Worlds.{mebibyte}
 use Rattle.sl_run.specs.declared.header.Disk.{Disk}
 use Rattle.sl_run.specs.declared.header.FirstReading.{FirstReading}
 use Rattle.sl_run.specs.declared.header.LockspaceLine.{LockspaceLine}

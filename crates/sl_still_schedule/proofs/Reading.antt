@@ -9,8 +9,7 @@ use Rattle.sl_still_schedule.proofs.Taken.{AreStillLines, IsLineBehind, one_more
 use Rattle.sl_still_schedule.proofs.Whole.{after_line, no_header}
 use Rattle.sl_still_schedule.specs.StillLanguage.{still_language}
 use Rattle.sl_text.specs.Forms.{words_of, made_by}
-use Rattle.std.specs.Prelude.{◌×◌}
-use Rattle.std.proofs.Common.{Bool, List, None, Option, Some, [], false, refl, subst, sym, true, ℕ, ◌++◌, ◌+◌, ◌∷◌, ◌≡◌}
+use Rattle.std.proofs.Common.{ap, Bool, List, None, Option, Some, [], false, refl, subst, sym, true, ℕ, ◌++◌, ◌+◌, ◌∙◌, ◌∷◌, ◌≡◌}
 
 pub record IsOfLines (h : Header) : Type 0 where
   pub lines : List HeaderLine

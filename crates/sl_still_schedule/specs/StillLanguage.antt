@@ -11,7 +11,7 @@ use Rattle.sl_trace.specs.declared.command.Command.{Command}
 use Rattle.sl_words.specs.Words.{choose}
 use Rattle.sl_world.specs.Beginning.{program_of}
 use Rattle.sl_world.specs.FirstEvents.{is_first_event}
-use Rattle.std.specs.Prelude.{Bool, List, option_and_then, true, ◌==◌}
+use Rattle.std.specs.Prelude.{Bool, List, false, option_and_then, true, ◌==◌}
 
 -- The commands that are read: those on leases at the header's geometry.
 abbrev pub still_commands : Header → List (Form Command)
