@@ -138,4 +138,4 @@ accepted_by lang first source (Header_read h rest) is well =
 
 pub accepted_schedules_end_well : AcceptedSchedulesEndWell
 accepted_schedules_end_well =
-    record { well = ends_well; only = λ lang source h. accepted_by lang first source (read_header lang [] 1 (numbered_lines source)) refl h }
+    record { well = ends_well; only = λ lang first source h. accepted_by lang first source (read_header lang [] 1 (numbered_lines source)) refl h }

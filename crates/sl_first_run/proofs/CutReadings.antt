@@ -46,7 +46,7 @@ header_alike lang ls l xs ys None false None false a b c d alike skipped more = 
 -- A header whose next line is this one.
 abbrev header_at : Language → List HeaderLine → NumberedLine → List NumberedLine → HeaderReading
 header_at lang ls l rest =
-    let read : Option HeaderLine = header_line_in lang default_area l.text in
+    let read : Option HeaderLine = header_line_in lang (header_of default_sector default_area ls).geometry.area l.text in
     header_by lang ls l rest (line_refusal l) (lang.skips l.text) (header_line_refusal lang ls read) (some_is is_begin read)
     (read_header lang ls (l.number + 1) rest) (read_header lang (with_line ls read) (l.number + 1) rest)
 
@@ -56,7 +56,7 @@ header_is lang ls next l rest = refl
 refused_is : (lang : Language) (ls : List HeaderLine) (next : ℕ) (l : NumberedLine) (rest : List NumberedLine) (r : Refusal) → line_refusal l ≡ Some r
     → read_header lang ls next (l ∷ rest) ≡ Header_refused l.number r
 refused_is lang ls next l rest r is =
-    let read : Option HeaderLine = header_line_in lang default_area l.text in
+    let read : Option HeaderLine = header_line_in lang (header_of default_sector default_area ls).geometry.area l.text in
     ap (λ o. header_by lang ls l rest o (lang.skips l.text) (header_line_refusal lang ls read) (some_is is_begin read)
     (read_header lang ls (l.number + 1) rest) (read_header lang (with_line ls read) (l.number + 1) rest)) is
 

@@ -15,7 +15,7 @@ use Rattle.sl_trace.specs.Traces.{no_effects}
 use Rattle.sl_trace.specs.declared.effects.Effects.{Effects}
 use Rattle.sl_trace.specs.declared.input.Input.{Input}
 use Rattle.std.proofs.Common.{ap, arith, refl, sym, ◌∙◌, subst}
-use Rattle.std.proofs.lemmas.List.{append_assoc}
+use Rattle.std.proofs.lemmas.List.{append_assoc, append-nil}
 use Rattle.std.specs.Option.{option_map_or}
 use Rattle.sl_first_run.specs.Unasked.{IsUnasked}
 use Rattle.sl_first_run.proofs.Unasked.{stays_unasked, unasked}
@@ -116,6 +116,8 @@ reported lang w k ((n, Ok e) ∷ ls) idle first =
       | Some r ↦ refusal_line n (lang.told r) ∷ []
       | None ↦ event_lines w e (effects_of w e) ++ p.lines ++ replay_from lang p.world p.counts ls
     ]) (nothing_played many_asks v c (unasked v still))
+    ∙ ap (λ ms. elim (refusal_of w e) as (λ x. List (List ℕ)) [ Some r ↦ refusal_line n (lang.told r) ∷ [] | None ↦ ms ++ replay_from lang v c ls ])
+    (append-nil (event_lines w e (effects_of w e)))
     ∙ reported_at lang w k n e (followed_run v ls) (followed_end v ls) (replay_from lang v c ls) (refusal_of w e) (reported lang v c ls still both.1)
 
 pub reports_are_runs : ReportsAreRuns

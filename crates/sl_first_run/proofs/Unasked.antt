@@ -2,10 +2,10 @@
 use Rattle.sl_first_run.proofs.Changing.{each_first, first_keeps}
 use Rattle.sl_first_run.specs.Unasked.{AllIdle, IsUnasked}
 use Rattle.sl_report.specs.Schedules.{IsAskOf}
-use Rattle.sl_run.specs.Events.{after_effects, after_step, asking, change_machine, first_change, happens, input_at, input_of, machine_of, next_input, next_step, number_of_step, take_step, take_steps}
+use Rattle.sl_run.specs.Events.{after_effects, after_step, asking, first_change, happens, input_at, input_of, machine_of, next_input, next_step, number_of_step, take_step, take_steps}
 use Rattle.sl_run.specs.Locks.{Locks, Told as Answered, locks_after}
 use Rattle.sl_run.specs.Runs.{Happening}
-use Rattle.sl_run.specs.Worlds.{Course, Machine, Program, World, machine_at, machine_of_header, stamp_now, world_with}
+use Rattle.sl_run.specs.Worlds.{Course, Machine, Program, World, change_machine, machine_at, machine_of_header, stamp_now, world_with}
 use Rattle.sl_run.specs.declared.event.Event.TheVariants.{GiveAsk}
 use Rattle.sl_run.specs.declared.event.Event.{Event}
 use Rattle.sl_run.specs.declared.header.Header.{Header}
@@ -22,18 +22,18 @@ use Rattle.sl_words.specs.Words.{choose}
 use Rattle.sl_world.proofs.LockLaws.{answer_leaves, line_leaves}
 use Rattle.sl_world.specs.FirstEvents.{is_first_event}
 use Rattle.sl_world.specs.Kept.{AreIdle}
-use Rattle.std.proofs.Common.{ap, refl, subst, sym, ◌∙◌}
+use Rattle.std.proofs.Common.{ap, refl, subst, sym}
 use Rattle.std.specs.List.{enumerate_from, range_with_len}
 use Rattle.std.specs.Prelude.{Bool, IsSomeAnd, List, None, Option, Some, find, if◌then◌else◌, is_some, map, option_and_then, option_map, slice_get, slice_set, suc, true, false, zero, [], ℕ, ◌++◌, ◌-◌, ◌==◌, ◌∷◌, ◌≡◌}
 
 -- ---- no ask is due
 
-none_due : (n : ℕ) (ms : List Machine) → AllIdle (map (λ a. a.locks) ms) → find (λ (p : ℕ × Machine). is_some p.1.locks.due) (enumerate_from n ms) ≡ None
-none_due n [] idle = refl
-none_due n (a ∷ ms) idle = rw idle.0.due (none_due _ ms idle.1)
+none_due : (ms : List Machine) (n : ℕ) → AllIdle (map (λ a. a.locks) ms) → find (λ (p : ℕ × Machine). is_some p.1.locks.due) (enumerate_from n ms) ≡ None
+none_due [] n idle = refl
+none_due (a ∷ ms) n idle = rw idle.0.due (none_due ms _ idle.1)
 
 pub unasked : (w : World) → IsUnasked w → asking w ≡ None
-unasked w idle = ap (λ (o : Option (ℕ × Machine)). option_map (λ p. p.0) o) (none_due 1 w.machines idle)
+unasked w idle = ap (λ (o : Option (ℕ × Machine)). option_map (λ p. p.0) o) (none_due w.machines 1 idle)
 
 -- So nothing is one.
 pub no_ask : (w : World) (x : Happening) → IsUnasked w → IsAskOf w x → ⊥

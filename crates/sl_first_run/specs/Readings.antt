@@ -4,15 +4,13 @@ use Rattle.sl_first_run.specs.PureDaemons.{PureDaemon}
 use Rattle.sl_report.specs.Languages.{Language}
 use Rattle.sl_report.specs.Schedules.{Header_read, Header_refused, NumberedLine, event_lines_of, numbered_lines, read_header, status_of}
 use Rattle.sl_run.specs.Worlds.{world_with}
-use Rattle.sl_run.specs.declared.event.Event.{Event}
 use Rattle.sl_run.specs.declared.header.Header.{Header}
 use Rattle.sl_text.specs.Forms.{Form}
 use Rattle.sl_trace.specs.Traces.{Setting, Trace}
 use Rattle.sl_trace.specs.declared.command.Command.{Command}
 use Rattle.sl_world.specs.Beginning.{IsFirstHeader, IsIdleHeader, first_setting, program_of}
-use Rattle.sl_world.specs.FirstEvents.{is_first_event}
 use Rattle.sl_first_run.specs.Unasked.{ReadsFirst}
-use Rattle.std.specs.Prelude.{List, Option, Some, true, [], ℕ, ◌≡◌, ◌⊎◌}
+use Rattle.std.specs.Prelude.{List, [], ℕ, ◌≡◌, ◌⊎◌}
 
 -- It reads commands, samples, landings, answers ok and calls done whole alone, and headers of one machine: its daemon keeps P from its
 -- beginning on, or none ever runs.

@@ -83,8 +83,8 @@ small_grant grant job why = record { calls = none_few; grants = one_few; replies
 -- A read that comes next is one of the blocks; a leader that comes next has the names of the session's lockspace and of the resource.
 abbrev pub IsNextOf : Given → ResourceArg → LeaseNext → Type 0
 IsNextOf g r Nothing = Unit {0}
-IsNextOf g r (BecomeExclusive _ _) = Unit {0}
-IsNextOf g r (BecomeShared _ _) = Unit {0}
+IsNextOf g r (BecomeExclusive _ _) = ⊥
+IsNextOf g r (BecomeShared _ _) = ⊥
 IsNextOf g r (ReadFor step) = reads_area step ≡ false
 IsNextOf g r (WriteBlock step b) = Unit {0}
 IsNextOf g r (WriteLeader step l) = (l.lockspace ≡ g.lockspace) × (l.resource ≡ r.name)
