@@ -11,3 +11,5 @@ pub mod Stepping
 pub mod PassedTime
 pub mod DaemonLives
 pub mod Allowed
+pub mod GivenInputs
+pub mod ChangedCalls

@@ -81,20 +81,19 @@ place_known h c true is =
     found (Some n) at d = refl
     found None at d = absurd (true_is_false (sym d.path ∙ position_none (λ (x : Disk). bytes_eq x.path c.path) h.disks d.index d.disk at d.there))
 
--- Two disks of one path are one.
-same_index : (xs : List Disk) (i j : ℕ) (x y : Disk) → AllPairs (λ a b. a.path ≢ b.path) xs → slice_get xs i ≡ Some x → slice_get xs j ≡ Some y → x.path ≡ y.path
-    → i < j → ⊥
-same_index xs i j x y apart at there same less =
-    apart i j x less (slice_get_within xs j y there)
-    (ap (λ (d : Disk). d.path) (got_index xs i x x at) ∙ same ∙ sym (ap (λ (d : Disk). d.path) (got_index xs j y x there)))
+-- Two elements that differ in nothing by which all differ are one.
+same_index : {A B : Type 0} (f : A → B) (xs : List A) (i j : ℕ) (x y : A) → AllPairs (λ a b. f a ≢ f b) xs → slice_get xs i ≡ Some x → slice_get xs j ≡ Some y
+    → f x ≡ f y → i < j → ⊥
+same_index f xs i j x y apart at there same less =
+    apart i j x less (slice_get_within xs j y there) (ap f (got_index xs i x x at) ∙ same ∙ sym (ap f (got_index xs j y x there)))
 
-one_index : (xs : List Disk) (i j : ℕ) (x y : Disk) → AllPairs (λ a b. a.path ≢ b.path) xs → slice_get xs i ≡ Some x → slice_get xs j ≡ Some y → x.path ≡ y.path
-    → i ≡ j
-one_index xs i j x y apart at there same =
+pub one_index : {A B : Type 0} (f : A → B) (xs : List A) (i j : ℕ) (x y : A) → AllPairs (λ a b. f a ≢ f b) xs → slice_get xs i ≡ Some x → slice_get xs j ≡ Some y
+    → f x ≡ f y → i ≡ j
+one_index f xs i j x y apart at there same =
     elim (cases_lt i j) [
-      | inl less ↦ absurd (same_index xs i j x y apart at there same less)
+      | inl less ↦ absurd (same_index f xs i j x y apart at there same less)
       | inr more ↦ elim (cases_lt j i) [
-        | inl less ↦ absurd (same_index xs j i y x apart there at (sym same) less)
+        | inl less ↦ absurd (same_index f xs j i y x apart there at (sym same) less)
         | inr least ↦ omega (arith, more, least)
       ]
     ]
@@ -175,7 +174,7 @@ sector_there k w t is c i on whole within = go (position (λ (x : Disk). bytes_e
     go None at = absurd (true_is_false (sym d.path ∙ position_none (λ (x : Disk). bytes_eq x.path c.path) w.header.disks d.index d.disk at d.there))
     go (Some n) at =
         let e = position_found (λ (x : Disk). bytes_eq x.path c.path) w.header.disks n at in
-        let one : d.index ≡ n = one_index w.header.disks d.index n d.disk e.item is.header.one_disk d.there e.there
+        let one : d.index ≡ n = one_index (λ (x : Disk). x.path) w.header.disks d.index n d.disk e.item is.header.one_disk d.there e.there
         ((bytes_eq-Decides d.disk.path c.path).0 d.path ∙ sym ((bytes_eq-Decides e.item.path c.path).0 e.passes)) in
         let there : slice_get w.header.disks n ≡ Some d.disk = subst (λ j. slice_get w.header.disks j ≡ Some d.disk) one d.there in
         at_sector ∙ sym (sector_of_disk k w t n (c.offset / s + i) d.disk there inside)

@@ -1,3 +1,4 @@
 pub mod Refusals
 pub mod Steps
 pub mod Changes
+pub mod Inputs

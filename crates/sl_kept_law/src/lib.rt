@@ -2,5 +2,6 @@
 #![tactic(auto)]
 
 pub mod changes;
+pub mod inputs;
 pub mod refusals;
 pub mod steps;
