@@ -13,3 +13,4 @@ pub mod DaemonLives
 pub mod Allowed
 pub mod GivenInputs
 pub mod ChangedCalls
+pub mod Landings

@@ -2,3 +2,4 @@ pub mod Refusals
 pub mod Steps
 pub mod Changes
 pub mod Inputs
+pub mod Flights
