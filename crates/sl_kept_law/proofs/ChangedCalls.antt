@@ -1,17 +1,15 @@
 -- A call changes: what a machine shows then.
-use Rattle.sl_kept.specs.Changes.{change_flight, dropped_flight, landed_flight, sampled_flight, stays_open, torn_flight}
-use Rattle.sl_kept.specs.Kept.{FlightState, KeptState, MachineState}
-use Rattle.sl_kept.specs.Refusing.{lands}
+use Rattle.sl_kept.specs.Changes.{change_flight, dropped_flight, landed_flight, stays_open, torn_flight}
+use Rattle.sl_kept.specs.Kept.{FlightState}
 use Rattle.sl_kept.specs.Showing.{flight_of_course, shown, write_in}
 use Rattle.sl_kept_law.proofs.Flights.{dropped_first, kept_first, shows}
 use Rattle.sl_plain.proofs.Lists.{contains_first, contains_more}
 use Rattle.sl_run.specs.Events.{change_call, fated}
-use Rattle.sl_run.specs.Worlds.{Course, Dropped, Fate, Landed, Machine, Torn, is_in_flight, is_of_running, is_open, is_write_course, may_land}
+use Rattle.sl_run.specs.Worlds.{Course, Dropped, Landed, Machine, Torn, is_in_flight, is_of_running, is_open, is_write_course}
 use Rattle.sl_run.specs.declared.header.Header.{Header}
 use Rattle.sl_trace.specs.Traces.{is_write}
 use Rattle.sl_trace.specs.declared.effects.Op.TheVariants.{ReadSectors, WriteRecord}
 use Rattle.sl_trace.specs.declared.effects.Op.{Op}
-use Rattle.sl_words.proofs.CaseLaws.{true_is_false}
 use Rattle.sl_words.proofs.WordLaws.{and_true}
 use Rattle.std.proofs.Common.{ap, ap₂, refl, sym, ◌∙◌}
 use Rattle.std.specs.Prelude.{Bool, Contains, List, cond, false, filter, is_none, is_some, map, true, [], ℕ, ◌&&◌, ◌==◌, ◌∷◌, ◌≡◌, ◌||◌}
@@ -60,25 +58,25 @@ one_changed h a n g q x cs ds is rest true true num still =
     ap (λ z. shows h a ((elim z as (λ y. Course) [ true ↦ g x | false ↦ x ]) ∷ ds)) num
     ∙ map_cond (flight_of_course h a) (is_open a (g x)) (g x) (filter (is_open a) ds)
     ∙ ap (λ z. cond z (flight_of_course h a (g x) ∷ shows h a ds) (shows h a ds))
-      (open_is h a (g x) ∙ ap (λ z. z && stays_open (flight_of_course h a (g x)))
-      (is.answered x ∙ (and_true (is_none x.answered) (stays_open (flight_of_course h a x)) (sym (open_is h a x) ∙ still)).0))
+    (open_is h a (g x) ∙ ap (λ z. z && stays_open (flight_of_course h a (g x)))
+    (is.answered x ∙ (and_true (is_none x.answered) (stays_open (flight_of_course h a x)) (sym (open_is h a x) ∙ still)).0))
     ∙ ap₂ (λ y ys. cond (stays_open y) (y ∷ ys) ys) (is.same x (contains_first x cs) num still) rest
     ∙ sym (ap (λ ys. filter stays_open (map (changed_flight n q) ys)) (kept_first (flight_of_course h a) (is_open a) x cs still)
-      ∙ ap (λ z. filter stays_open ((elim z as (λ y. FlightState) [ true ↦ q (flight_of_course h a x) | false ↦ flight_of_course h a x ])
-        ∷ map (changed_flight n q) (shows h a cs))) num)
+    ∙ ap (λ z. filter stays_open ((elim z as (λ y. FlightState) [ true ↦ q (flight_of_course h a x) | false ↦ flight_of_course h a x ])
+    ∷ map (changed_flight n q) (shows h a cs))) num)
 one_changed h a n g q x cs ds is rest false true num still =
     ap (λ z. shows h a ((elim z as (λ y. Course) [ true ↦ g x | false ↦ x ]) ∷ ds)) num
     ∙ kept_first (flight_of_course h a) (is_open a) x ds still ∙ ap (λ ys. flight_of_course h a x ∷ ys) rest
     ∙ sym (ap (λ z. cond z (flight_of_course h a x ∷ filter stays_open (map (changed_flight n q) (shows h a cs))) (filter stays_open (map (changed_flight n q) (shows h a cs))))
-      (and_true (is_none x.answered) (stays_open (flight_of_course h a x)) (sym (open_is h a x) ∙ still)).1)
+    (and_true (is_none x.answered) (stays_open (flight_of_course h a x)) (sym (open_is h a x) ∙ still)).1)
     ∙ sym (ap (λ ys. filter stays_open (map (changed_flight n q) ys)) (kept_first (flight_of_course h a) (is_open a) x cs still)
-      ∙ ap (λ z. filter stays_open ((elim z as (λ y. FlightState) [ true ↦ q (flight_of_course h a x) | false ↦ flight_of_course h a x ])
-        ∷ map (changed_flight n q) (shows h a cs))) num)
+    ∙ ap (λ z. filter stays_open ((elim z as (λ y. FlightState) [ true ↦ q (flight_of_course h a x) | false ↦ flight_of_course h a x ])
+    ∷ map (changed_flight n q) (shows h a cs))) num)
 one_changed h a n g q x cs ds is rest true false num still =
     ap (λ z. shows h a ((elim z as (λ y. Course) [ true ↦ g x | false ↦ x ]) ∷ ds)) num
     ∙ dropped_first (flight_of_course h a) (is_open a) (g x) ds
-      (open_is h a (g x) ∙ ap (λ z. z && stays_open (flight_of_course h a (g x))) (is.answered x)
-      ∙ closed_still (is_none x.answered) (stays_open (flight_of_course h a x)) (stays_open (flight_of_course h a (g x))) (sym (open_is h a x) ∙ still) (is.gone x))
+    (open_is h a (g x) ∙ ap (λ z. z && stays_open (flight_of_course h a (g x))) (is.answered x)
+    ∙ closed_still (is_none x.answered) (stays_open (flight_of_course h a x)) (stays_open (flight_of_course h a (g x))) (sym (open_is h a x) ∙ still) (is.gone x))
     ∙ rest ∙ sym (ap (λ ys. filter stays_open (map (changed_flight n q) ys)) (dropped_first (flight_of_course h a) (is_open a) x cs still))
 one_changed h a n g q x cs ds is rest false false num still =
     ap (λ z. shows h a ((elim z as (λ y. Course) [ true ↦ g x | false ↦ x ]) ∷ ds)) num

@@ -1,5 +1,5 @@
 -- The input that an event gives, and what a machine does itself.
-use Rattle.sl_kept.specs.Inputs.{done_in, input_for, input_in, ok_in, own_for, own_in, rest_in}
+use Rattle.sl_kept.specs.Inputs.{done_in, input_for, input_in, ok_in, own_for, rest_in}
 use Rattle.sl_kept.specs.Kept.{FlightState, KeptState, MachineState, flight_in, sector_of_call}
 use Rattle.sl_kept.specs.Refusing.{left_in}
 use Rattle.sl_kept.specs.Sane.{IsSane}
@@ -10,17 +10,15 @@ use Rattle.sl_kept_law.proofs.Sectors.{placed_is, sector_there}
 use Rattle.sl_kept_law.proofs.Tests.{Tests}
 use Rattle.sl_kept_law.specs.Inputs.{InputsAreKept, OwnEffectsAreKept}
 use Rattle.sl_plain.proofs.Numbers.{refl_le}
-use Rattle.sl_run.specs.Events.{done_input, event_tests, input_at, input_of, is_placed, machine_of, may_happen, ok_input, on_flight, own_effects, rest_sampled, sectors_left, sectors_of}
-use Rattle.sl_run.specs.Runs.{own_effects_of}
-use Rattle.sl_run.specs.Worlds.{Course, Machine, World, content, first_that, flight_of, is_of_running, is_torn_fate, machine_at, sector_size}
-use Rattle.sl_run.specs.declared.event.Event.TheVariants.{AnswerCall, Crash, Do, DropWrite, ExitOf, GiveAsk, GiveCommand, GiveLvm, Land, Pass, Reset, Restart, Sample, SpawnedOf, StartDaemon, Tear, Test, WakeUp}
+use Rattle.sl_run.specs.Events.{done_input, event_tests, input_at, input_of, is_placed, machine_of, may_happen, ok_input, on_flight, own_effects, rest_sampled, sectors_left}
+use Rattle.sl_run.specs.Worlds.{Course, Machine, World, content, flight_of, is_of_running, is_torn_fate, machine_at, sector_size}
+use Rattle.sl_run.specs.declared.event.Event.TheVariants.{AnswerCall, Do, ExitOf, Reset}
 use Rattle.sl_run.specs.declared.event.Event.{Event}
 use Rattle.sl_run.specs.declared.event.Refusal.TheVariants.{MissingDaemon, MissingLanding, MissingPlace}
 use Rattle.sl_run.specs.declared.header.Header.{Header}
 use Rattle.sl_text.specs.Forms.{Form}
 use Rattle.sl_trace.specs.Traces.{no_effects}
 use Rattle.sl_trace.specs.declared.command.Command.{Command}
-use Rattle.sl_trace.specs.declared.effects.Effects.{Effects}
 use Rattle.sl_trace.specs.declared.effects.Op.TheVariants.{ReadSectors, WriteRecord}
 use Rattle.sl_trace.specs.declared.effects.Op.{Op}
 use Rattle.sl_trace.specs.declared.input.Answer.TheVariants.{Failed, Read, Written}
@@ -30,7 +28,7 @@ use Rattle.sl_words.proofs.CaseLaws.{true_is_false}
 use Rattle.std.proofs.Common.{ap, ap₂, arith, refl, suc, sym, zero, ◌∙◌}
 use Rattle.std.specs.List.{range_with_len}
 use Rattle.std.specs.Option.{option_map_or}
-use Rattle.std.specs.Prelude.{Bool, List, None, Option, Some, false, flat_map, is_none, length, not, option_and_then, option_map, true, [], ℕ, ◌%◌, ◌*◌, ◌++◌, ◌+◌, ◌-◌, ◌<◌, ◌∷◌, ◌≡◌, ◌≤◌}
+use Rattle.std.specs.Prelude.{Bool, List, None, Option, Some, false, flat_map, is_none, length, not, option_and_then, option_map, true, [], ℕ, ◌*◌, ◌++◌, ◌+◌, ◌-◌, ◌<◌, ◌∷◌, ◌≡◌, ◌≤◌}
 
 -- ---- the rest of a read
 
@@ -53,6 +51,7 @@ rest_here k w t is m a at c x there placed n few =
   where
     on : is_placed_in w.header x.call ≡ true
     on = sym (placed_is k w t x.call) ∙ not_false (is_placed w x.call) placed
+
     same : (i : ℕ) → length x.samples ≤ i → i < length x.samples + n
         → content w x.call.path (x.call.offset + i * sector_size w) ≡ sector_of_call k.disks (place_in w.header x.call) i
     same i low high =
@@ -84,6 +83,7 @@ done_here k w t is m a at c x there placed = same x.call.op
   where
     rest : rest_sampled w x (sectors_left x) ≡ rest_in k (flight_of_course w.header a x) (left_in (flight_of_course w.header a x))
     rest = rest_here k w t is m a at c x there placed (sectors_left x) (refl_le (sectors_left x))
+
     same : (op : Op) → (elim op as (λ z. Input) [ ReadSectors n ↦ Told x.call.number (Read (rest_sampled w x (sectors_left x))) | WriteRecord r ↦ Told x.call.number Written ])
         ≡ (elim (write_in w.header op) as (λ z. Input) [
           | None ↦ Told x.call.number (Read (rest_in k (flight_of_course w.header a x) (left_in (flight_of_course w.header a x))))

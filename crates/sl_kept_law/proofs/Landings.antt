@@ -1,9 +1,9 @@
 -- A write takes effect: what stands on the disks then.
 use Rattle.sl_kept.specs.Changes.{write_at, write_sector}
-use Rattle.sl_kept.specs.Kept.{KeptState, Place}
+use Rattle.sl_kept.specs.Kept.{KeptState}
 use Rattle.sl_kept.specs.Sane.{IsSane}
 use Rattle.sl_kept.specs.Showing.{Tells, disks_of, is_placed_in, place_in, sectors_of_disk}
-use Rattle.sl_kept_law.proofs.Sectors.{LiesOn, bytes_before, lies_on, one_index, range_at, sector_is}
+use Rattle.sl_kept_law.proofs.Sectors.{LiesOn, lies_on, one_index, range_at, sector_is}
 use Rattle.sl_run.specs.Events.{add_landing, sectors_of}
 use Rattle.sl_run.specs.Worlds.{Landing, World, content, initial_bytes, mebibyte, sector_size}
 use Rattle.sl_run.specs.declared.header.Disk.{Disk}
@@ -16,13 +16,13 @@ use Rattle.sl_words.proofs.CaseLaws.{is_false, none_some, some_value}
 use Rattle.sl_words.proofs.WordLaws.{and_true}
 use Rattle.std.proofs.Common.{ap, ap₂, arith, refl, subst, suc, sym, zero, ◌∙◌}
 use Rattle.std.proofs.Math.Nat.{div-add-mod, mul-div_cancel}
-use Rattle.std.proofs.lemmas.Bool.Decides.{Decides-eqb, nat_tests}
+use Rattle.std.proofs.lemmas.Bool.Decides.{Decides-eqb}
 use Rattle.std.proofs.lemmas.Bool.{and_from}
 use Rattle.std.proofs.lemmas.List.FromFn.{length-range_with_len}
 use Rattle.std.proofs.lemmas.Option.{slice_get-map, slice_get_within}
 use Rattle.std.proofs.lemmas.Slice.Eq.{bytes_eq-Decides}
 use Rattle.std.specs.List.{range_with_len}
-use Rattle.std.specs.Prelude.{Bool, List, None, Option, Some, bytes_eq, cond, false, find, length, map, option_map, slice_get, slice_set, true, [], ℕ, ◌%◌, ◌&&◌, ◌*◌, ◌+◌, ◌-◌, ◌/◌, ◌<◌, ◌==◌, ◌∷◌, ◌≡◌}
+use Rattle.std.specs.Prelude.{Bool, List, None, Option, Some, bytes_eq, cond, false, find, map, option_map, slice_get, slice_set, true, [], ℕ, ◌%◌, ◌*◌, ◌+◌, ◌/◌, ◌<◌, ◌==◌, ◌∷◌, ◌≡◌}
 
 -- ---- what stands at a place
 
@@ -33,6 +33,7 @@ content_after w m c whole bytes path offset true is =
   where
     landed : Landing
     landed = record { path = c.path; offset = c.offset; bytes = bytes; whole = whole; writer = Some (m, c.number); step = w.step; moment = w.moment }
+
     held : Option Landing → List ℕ
     held o = elim o [ Some l ↦ l.bytes | None ↦ initial_bytes w.layout w.header path offset ]
 content_after w m c whole bytes path offset false is =
@@ -40,6 +41,7 @@ content_after w m c whole bytes path offset false is =
   where
     landed : Landing
     landed = record { path = c.path; offset = c.offset; bytes = bytes; whole = whole; writer = Some (m, c.number); step = w.step; moment = w.moment }
+
     held : Option Landing → List ℕ
     held o = elim o [ Some l ↦ l.bytes | None ↦ initial_bytes w.layout w.header path offset ]
 
@@ -84,25 +86,32 @@ own_disk k w t m c whole bytes one l =
   where
     s : ℕ
     s = w.header.geometry.sector
+
     at : ℕ
     at = c.offset / w.header.geometry.sector
+
     count : ℕ
     count = l.disk.mebibytes * mebibyte / sector_size w
+
     inside : at < count
     inside =
         subst (λ z. at < l.disk.mebibytes * mebibyte / z) (sym (sector_is k w t))
         (let first = l.within 0 (omega (arith, one)) in omega (arith, first))
+
     begins : c.offset ≡ (0 + at) * sector_size w
     begins = at_bytes s c.offset l.even ∙ sym (ap (λ z. (0 + at) * z) (sector_is k w t))
+
     here : content (add_landing m c whole bytes w) l.disk.path ((0 + at) * sector_size w) ≡ bytes
     here =
         content_after w m c whole bytes l.disk.path ((0 + at) * sector_size w) true
         (and_from (c.offset == (0 + at) * sector_size w) (bytes_eq c.path l.disk.path) ((Decides-eqb c.offset ((0 + at) * sector_size w)).1 begins)
         ((bytes_eq-Decides c.path l.disk.path).1 (sym l.path)))
+
     one_place : (n : ℕ) → same_place c.path c.offset l.disk.path (n * sector_size w) ≡ true → at ≡ n
     one_place n h =
         let same = (Decides-eqb c.offset (n * sector_size w)).0 (and_true (c.offset == n * sector_size w) (bytes_eq c.path l.disk.path) h).0 in
         ap (λ z. z / w.header.geometry.sector) (same ∙ ap (λ z. n * z) (sector_is k w t)) ∙ mul-div_cancel n l.some
+
     others : (j n : ℕ) → slice_get (range_with_len 0 count) j ≡ Some n → (j ≡ at → ⊥)
         → content (add_landing m c whole bytes w) l.disk.path (n * sector_size w) ≡ content w l.disk.path (n * sector_size w)
     others j n there apart =

@@ -14,3 +14,4 @@ pub mod Allowed
 pub mod GivenInputs
 pub mod ChangedCalls
 pub mod Landings
+pub mod FlightEvents

@@ -162,18 +162,22 @@ lies_on k w t is c on whole = go (position (λ (x : Disk). bytes_eq x.path c.pat
   where
     s : ℕ
     s = w.header.geometry.sector
+
     d : OnDisk w.header c
     d = on_disk w.header c on
+
     even : c.offset % s ≡ 0
     even = subst (λ z. c.offset % z ≡ 0) (sector_is k w t) whole
+
     some : 0 < s
     some = let r = (has_room w.header.geometry is.header.geometry).sector in omega (arith, r.0)
+
     go : (o : Option ℕ) → position (λ (x : Disk). bytes_eq x.path c.path) w.header.disks ≡ o → LiesOn w c
     go None at = absurd (true_is_false (sym d.path ∙ position_none (λ (x : Disk). bytes_eq x.path c.path) w.header.disks d.index d.disk at d.there))
     go (Some n) at =
         let e = position_found (λ (x : Disk). bytes_eq x.path c.path) w.header.disks n at in
         let one : d.index ≡ n = one_index (λ (x : Disk). x.path) w.header.disks d.index n d.disk e.item is.header.one_disk d.there e.there
-            ((bytes_eq-Decides d.disk.path c.path).0 d.path ∙ sym ((bytes_eq-Decides e.item.path c.path).0 e.passes)) in
+        ((bytes_eq-Decides d.disk.path c.path).0 d.path ∙ sym ((bytes_eq-Decides e.item.path c.path).0 e.passes)) in
         record {
           index = n;
           disk = d.disk;
