@@ -15,3 +15,4 @@ pub mod GivenInputs
 pub mod ChangedCalls
 pub mod Landings
 pub mod FlightEvents
+pub mod WholeEvents

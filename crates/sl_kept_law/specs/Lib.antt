@@ -3,3 +3,4 @@ pub mod Steps
 pub mod Changes
 pub mod Inputs
 pub mod Flights
+pub mod Events
