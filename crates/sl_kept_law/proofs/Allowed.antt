@@ -6,7 +6,7 @@ use Rattle.sl_run.specs.Worlds.{Course, Machine, World, first_that, flight_of, m
 use Rattle.sl_run.specs.declared.event.Event.{Event}
 use Rattle.sl_run.specs.declared.event.Refusal.TheVariants.{MissingCall, MissingMachine}
 use Rattle.sl_run.specs.declared.event.Refusal.{Refusal}
-use Rattle.std.proofs.Common.{refl}
+use Rattle.std.proofs.Common.{ap, refl, sym, ◌∙◌}
 use Rattle.std.specs.Prelude.{Bool, None, Option, Some, false, not, true, [], ℕ, ◌∷◌, ◌≡◌}
 
 abbrev some_reason : Refusal → Option Refusal
@@ -45,3 +45,12 @@ flight_found a c p f h =
 -- Each test of the event fails.
 pub allowed : (w : World) (e : Event) → may_happen w e ≡ true → first_that (event_tests w e) ≡ None
 allowed w e may = (open_test (not (is_shaped w e)) _ (event_tests w e) (none_is (refusal_of w e) may)).1
+
+-- The same of a machine and a call that are known.
+pub machine_allowed : (w : World) (m : ℕ) (f : Machine → Tests) (a : Machine) → first_that (on_machine w m f) ≡ None → machine_at w m ≡ Some a → first_that (f a) ≡ None
+machine_allowed w m f a h at = sym (ap (λ o. first_that (tests_at MissingMachine f o)) at) ∙ h
+
+pub flight_allowed : (a : Machine) (c : ℕ) (p : Course → Bool) (f : Course → Tests) (x : Course) → first_that (on_flight a c p f) ≡ None → flight_of a c ≡ Some x
+    → (p x ≡ true) × (first_that (f x) ≡ None)
+flight_allowed a c p f x h at =
+    kind (p x) (f x) (sym (ap (λ o. first_that (tests_at MissingCall (λ y. elim (p y) as (λ z. Tests) [ false ↦ (true, MissingCall) ∷ [] | true ↦ f y ]) o)) at) ∙ h)

@@ -11,3 +11,8 @@ pub mod Stepping
 pub mod PassedTime
 pub mod DaemonLives
 pub mod Allowed
+pub mod GivenInputs
+pub mod ChangedCalls
+pub mod Landings
+pub mod FlightEvents
+pub mod WholeEvents

@@ -91,7 +91,7 @@ nowhere : (k : KeptState) (w : World) → Tells k w → (a : Machine) (x : Cours
 nowhere k w t a x = ap not (placed_is k w t x.call) ∙ place_known w.header x.call (is_placed_in w.header x.call) refl
 
 -- What a torn write leaves.
-torn_here : {commands : Header → List (Form Command)} → (k : KeptState) (w : World) → Tells k w → IsSane commands w → (m : ℕ) (a : Machine) → machine_at w m ≡ Some a
+pub torn_here : {commands : Header → List (Form Command)} → (k : KeptState) (w : World) → Tells k w → IsSane commands w → (m : ℕ) (a : Machine) → machine_at w m ≡ Some a
     → (c : ℕ) (x : Course) → flight_of a c ≡ Some x → is_write_course x ≡ true → not (is_placed w x.call) ≡ false → (n : ℕ) (bytes : List ℕ)
     → torn_bytes w x.call n bytes ≡ torn_in k (flight_of_course w.header a x) n bytes
 torn_here k w t is m a at c x there writes placed n bytes = go x.call.op refl

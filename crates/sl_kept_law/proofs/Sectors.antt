@@ -81,27 +81,26 @@ place_known h c true is =
     found (Some n) at d = refl
     found None at d = absurd (true_is_false (sym d.path ∙ position_none (λ (x : Disk). bytes_eq x.path c.path) h.disks d.index d.disk at d.there))
 
--- Two disks of one path are one.
-same_index : (xs : List Disk) (i j : ℕ) (x y : Disk) → AllPairs (λ a b. a.path ≢ b.path) xs → slice_get xs i ≡ Some x → slice_get xs j ≡ Some y → x.path ≡ y.path
-    → i < j → ⊥
-same_index xs i j x y apart at there same less =
-    apart i j x less (slice_get_within xs j y there)
-    (ap (λ (d : Disk). d.path) (got_index xs i x x at) ∙ same ∙ sym (ap (λ (d : Disk). d.path) (got_index xs j y x there)))
+-- Two elements that differ in nothing by which all differ are one.
+same_index : {A B : Type 0} (f : A → B) (xs : List A) (i j : ℕ) (x y : A) → AllPairs (λ a b. f a ≢ f b) xs → slice_get xs i ≡ Some x → slice_get xs j ≡ Some y
+    → f x ≡ f y → i < j → ⊥
+same_index f xs i j x y apart at there same less =
+    apart i j x less (slice_get_within xs j y there) (ap f (got_index xs i x x at) ∙ same ∙ sym (ap f (got_index xs j y x there)))
 
-one_index : (xs : List Disk) (i j : ℕ) (x y : Disk) → AllPairs (λ a b. a.path ≢ b.path) xs → slice_get xs i ≡ Some x → slice_get xs j ≡ Some y → x.path ≡ y.path
-    → i ≡ j
-one_index xs i j x y apart at there same =
+pub one_index : {A B : Type 0} (f : A → B) (xs : List A) (i j : ℕ) (x y : A) → AllPairs (λ a b. f a ≢ f b) xs → slice_get xs i ≡ Some x → slice_get xs j ≡ Some y
+    → f x ≡ f y → i ≡ j
+one_index f xs i j x y apart at there same =
     elim (cases_lt i j) [
-      | inl less ↦ absurd (same_index xs i j x y apart at there same less)
+      | inl less ↦ absurd (same_index f xs i j x y apart at there same less)
       | inr more ↦ elim (cases_lt j i) [
-        | inl less ↦ absurd (same_index xs j i y x apart there at (sym same) less)
+        | inl less ↦ absurd (same_index f xs j i y x apart there at (sym same) less)
         | inr least ↦ omega (arith, more, least)
       ]
     ]
 
 -- ---- its sectors
 
-range_at : (i n m : ℕ) → m < n → slice_get (range_with_len i n) m ≡ Some (i + m)
+pub range_at : (i n m : ℕ) → m < n → slice_get (range_with_len i n) m ≡ Some (i + m)
 range_at i zero m lt = absurd (omega (arith, lt))
 range_at i (suc n) zero lt = ap Some (none_more i)
   where
@@ -113,7 +112,7 @@ range_at i (suc n) (suc m) lt = range_at (i + 1) n m (omega (arith, lt)) ∙ ap 
     one_more i m = omega arith
 
 -- A sector number counts so many bytes.
-bytes_before : (s offset i : ℕ) → offset % s ≡ 0 → (offset / s + i) * s ≡ offset + i * s
+pub bytes_before : (s offset i : ℕ) → offset % s ≡ 0 → (offset / s + i) * s ≡ offset + i * s
 bytes_before s offset i whole = let d = div-add-mod offset s in omega (arith, whole, d)
 
 sector_within : (s offset i n bytes : ℕ) → 0 < s → offset % s ≡ 0 → i < n → offset + (n - 1) * s + s ≤ bytes → offset / s + i < bytes / s
@@ -144,12 +143,22 @@ sector_of_disk k w t n m d at within =
     none_first : (m : ℕ) → 0 + m ≡ m
     none_first m = omega arith
 
--- Sector i of a call that lies on a disk, at whole sectors.
-pub sector_there : {commands : Header → List (Form Command)} → (k : KeptState) (w : World) → Tells k w → IsSane commands w → (c : Call) (i : ℕ)
-    → is_placed_in w.header c ≡ true → c.offset % sector_size w ≡ 0 → i < sectors_of c.op
-    → content w c.path (c.offset + i * sector_size w) ≡ sector_of_call k.disks (place_in w.header c) i
+-- Where a call lies: on which disk, and that all its sectors are the disk's.
+pub record LiesOn (w : World) (c : Call) : Type 0 where
+  pub index : ℕ
+  pub disk : Disk
+  pub there : slice_get w.header.disks index ≡ Some disk
+  pub path : disk.path ≡ c.path
+  pub place : place_in w.header c ≡ Some (record { disk = index; sector = c.offset / w.header.geometry.sector })
+  pub some : 0 < w.header.geometry.sector
+  pub even : c.offset % w.header.geometry.sector ≡ 0
+  pub within : (i : ℕ) → i < sectors_of c.op → c.offset / w.header.geometry.sector + i < disk.mebibytes * mebibyte / w.header.geometry.sector
+
+-- A call that lies on a disk, at whole sectors.
+pub lies_on : {commands : Header → List (Form Command)} → (k : KeptState) (w : World) → Tells k w → IsSane commands w → (c : Call) → is_placed_in w.header c ≡ true
+    → c.offset % sector_size w ≡ 0 → LiesOn w c
 unfolding place_in
-sector_there k w t is c i on whole within = go (position (λ (x : Disk). bytes_eq x.path c.path) w.header.disks) refl
+lies_on k w t is c on whole = go (position (λ (x : Disk). bytes_eq x.path c.path) w.header.disks) refl
   where
     s : ℕ
     s = w.header.geometry.sector
@@ -160,24 +169,38 @@ sector_there k w t is c i on whole within = go (position (λ (x : Disk). bytes_e
     even : c.offset % s ≡ 0
     even = subst (λ z. c.offset % z ≡ 0) (sector_is k w t) whole
 
-    at_sector : content w c.path (c.offset + i * sector_size w) ≡ content w d.disk.path ((c.offset / s + i) * s)
-    at_sector =
-        ap (λ z. content w c.path (c.offset + i * z)) (sector_is k w t)
-        ∙ ap₂ (λ path n. content w path n) (sym ((bytes_eq-Decides d.disk.path c.path).0 d.path)) (sym (bytes_before s c.offset i even))
+    some : 0 < s
+    some = let r = (has_room w.header.geometry is.header.geometry).sector in omega (arith, r.0)
 
-    inside : c.offset / s + i < d.disk.mebibytes * mebibyte / s
-    inside =
-        let some : 0 < s = (let r = (has_room w.header.geometry is.header.geometry).sector in omega (arith, r.0)) in
-        sector_within s c.offset i (sectors_of c.op) (d.disk.mebibytes * mebibyte) some even within d.fits
-
-    go : (o : Option ℕ) → position (λ (x : Disk). bytes_eq x.path c.path) w.header.disks ≡ o
-        → content w c.path (c.offset + i * sector_size w) ≡ sector_of_call k.disks (place_in w.header c) i
+    go : (o : Option ℕ) → position (λ (x : Disk). bytes_eq x.path c.path) w.header.disks ≡ o → LiesOn w c
     go None at = absurd (true_is_false (sym d.path ∙ position_none (λ (x : Disk). bytes_eq x.path c.path) w.header.disks d.index d.disk at d.there))
     go (Some n) at =
         let e = position_found (λ (x : Disk). bytes_eq x.path c.path) w.header.disks n at in
-        let one : d.index ≡ n = one_index w.header.disks d.index n d.disk e.item is.header.one_disk d.there e.there
+        let one : d.index ≡ n = one_index (λ (x : Disk). x.path) w.header.disks d.index n d.disk e.item is.header.one_disk d.there e.there
         ((bytes_eq-Decides d.disk.path c.path).0 d.path ∙ sym ((bytes_eq-Decides e.item.path c.path).0 e.passes)) in
-        let there : slice_get w.header.disks n ≡ Some d.disk = subst (λ j. slice_get w.header.disks j ≡ Some d.disk) one d.there in
-        at_sector ∙ sym (sector_of_disk k w t n (c.offset / s + i) d.disk there inside)
-        ∙ sym (ap (λ (z : Bool). sector_of_call k.disks (elim z as (λ x. Option Place) [ false ↦ None | true ↦ place_at w.header c.path c.offset ]) i) on
-        ∙ ap (λ (o : Option ℕ). sector_of_call k.disks (option_map (λ j. record { disk = j; sector = c.offset / s }) o) i) at)
+        record {
+          index = n;
+          disk = d.disk;
+          there = subst (λ j. slice_get w.header.disks j ≡ Some d.disk) one d.there;
+          path = (bytes_eq-Decides d.disk.path c.path).0 d.path;
+          place = ap (λ (z : Bool). elim z as (λ x. Option Place) [ false ↦ None | true ↦ place_at w.header c.path c.offset ]) on
+              ∙ ap (λ (o : Option ℕ). option_map (λ j. place_of j) o) at;
+          some = some;
+          even = even;
+          within = λ i less. sector_within s c.offset i (sectors_of c.op) (d.disk.mebibytes * mebibyte) some even less d.fits;
+        }
+      where
+        place_of : ℕ → Place
+        place_of j = record { disk = j; sector = c.offset / w.header.geometry.sector }
+
+-- Sector i of such a call.
+pub sector_there : {commands : Header → List (Form Command)} → (k : KeptState) (w : World) → Tells k w → IsSane commands w → (c : Call) (i : ℕ)
+    → is_placed_in w.header c ≡ true → c.offset % sector_size w ≡ 0 → i < sectors_of c.op
+    → content w c.path (c.offset + i * sector_size w) ≡ sector_of_call k.disks (place_in w.header c) i
+sector_there k w t is c i on whole within =
+    let l = lies_on k w t is c on whole in
+    let s : ℕ = w.header.geometry.sector in
+    ap (λ z. content w c.path (c.offset + i * z)) (sector_is k w t)
+    ∙ ap₂ (λ path n. content w path n) (sym l.path) (sym (bytes_before s c.offset i l.even))
+    ∙ sym (sector_of_disk k w t l.index (c.offset / s + i) l.disk l.there (l.within i within))
+    ∙ sym (ap (λ o. sector_of_call k.disks o i) l.place)

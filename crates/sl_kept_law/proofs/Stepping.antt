@@ -4,7 +4,6 @@ use Rattle.sl_kept.specs.Showing.{shown, starting_of}
 use Rattle.sl_kept.specs.Steps.{is_answered_by, is_spawned_by, new_flight, numbers_after, owned_machine, stepped_machine}
 use Rattle.sl_kept_law.proofs.Changing.{names_on, tells_change, tells_next}
 use Rattle.sl_kept_law.proofs.Flights.{answered_at, closes, made, same_shows, shows}
-use Rattle.sl_kept_law.proofs.Lookups.{machine_place}
 use Rattle.sl_kept_law.proofs.NextNumbers.{calls_next, jobs_next, starting_next}
 use Rattle.sl_kept_law.specs.Steps.{OwnIsKept, StepsAreKept}
 use Rattle.sl_run.specs.Events.{after_effects, after_step, daemon_number, new_course, number_of_step, with_entry}
@@ -21,11 +20,11 @@ use Rattle.sl_trace.specs.declared.input.Input.{Input}
 use Rattle.sl_trace.specs.declared.input.Numbers.{Numbers}
 use Rattle.sl_words.proofs.CaseLaws.{one_value}
 use Rattle.sl_words.specs.Words.{first_of_list}
-use Rattle.std.proofs.Common.{ap, ap₂, arith, refl, sym, ◌∙◌}
+use Rattle.std.proofs.Common.{ap, ap₂, subst, arith, refl, sym, ◌∙◌}
 use Rattle.std.proofs.lemmas.Bool.Decides.{nat_tests}
 use Rattle.std.specs.List.{list_any}
 use Rattle.std.specs.Option.{option_map_or}
-use Rattle.std.specs.Prelude.{Contains, List, None, Option, Some, bytes_eq, false, filter, fold, is_some, length, map, nat_lt, not, option_map, [], ℕ, ◌++◌, ◌-◌, ◌∷◌, ◌≡◌}
+use Rattle.std.specs.Prelude.{Contains, List, None, Option, Some, bytes_eq, false, filter, fold, is_some, length, map, nat_lt, not, option_map, [], ℕ, ◌++◌, ◌∷◌, ◌≡◌}
 
 -- ---- a machine, once the answered call is closed
 
@@ -146,14 +145,14 @@ shows_own h now fx a no_calls =
 -- ---- the world
 
 pub steps_are_kept : StepsAreKept
-steps_are_kept commands k w t is m a d at runs i fx =
+steps_are_kept k w t m a d at runs old i fx =
     tells_next _ _ (tells_change k w t m (λ b. after_step (stamp_now w b) i fx b) (stepped_machine k.header i fx) here named)
   where
     here : (b : Machine) → machine_at w m ≡ Some b → shown w.header (after_step (stamp_now w b) i fx b) ≡ stepped_machine k.header i fx (shown w.header b)
     here b there =
         let same : a ≡ b = one_value a b (machine_at w m) at there in
         shows_step w.header (stamp_now w b) i fx b d (ap (λ (x : Machine). x.daemon) (sym same) ∙ runs)
-        (λ r inside. let older = ((is.sane (m - 1) b (machine_place w m b there)).resets r inside).0 in grind (arith, nat_tests, older))
+        (λ r inside. let older = old r (subst (λ (x : Machine). Contains x.resets r) (sym same) inside) in grind (arith, nat_tests, older))
         ∙ ap (λ h. stepped_machine h i fx (shown w.header b)) t.header
 
     named : (b : Machine) (name : List ℕ) → machine_at w m ≡ Some b

@@ -2,5 +2,7 @@
 #![tactic(auto)]
 
 pub mod changes;
+pub mod events;
+pub mod inputs;
 pub mod refusals;
 pub mod steps;
