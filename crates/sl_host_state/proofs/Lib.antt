@@ -1,1 +1,2 @@
 pub mod NewHost
+pub mod Passing

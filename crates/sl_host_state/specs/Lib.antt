@@ -1,3 +1,5 @@
 pub mod Kept
 pub mod Stands
 pub mod New
+pub mod Makes
+pub mod Passes

@@ -1,8 +1,14 @@
-//! What a new host stands for.
+//! What a new host stands for, and how parts of a step are put together.
 
 ghost use Rattle.sl_host_state.specs.New.{NewHostStands};
+ghost use Rattle.sl_host_state.specs.Passes.{PartsAreTaken};
 
 /// A new host stands for no step, whatever sessions it is given.
 pub fn new_host_stands()
     ensures { NewHostStands }
+{}
+
+/// Parts that are taken one by one are taken together: in sequence, where a test holds, in a pass over a list.
+pub fn parts_are_taken()
+    ensures { PartsAreTaken }
 {}
