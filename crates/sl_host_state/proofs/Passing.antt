@@ -10,7 +10,7 @@ use Rattle.sl_trace.specs.declared.effects.Grant.{Grant}
 use Rattle.sl_trace.specs.declared.effects.Spot.{Spot}
 use Rattle.sl_words.proofs.CaseLaws.{none_some, some_value}
 use Rattle.std.proofs.Common.{ap, arith, refl, subst, suc, sym, zero, ◌∙◌}
-use Rattle.std.specs.Prelude.{Bool, List, None, Some, false, length, map, slice_get, take, true, [], ℕ, ◌+◌, ◌∷◌, ◌≡◌}
+use Rattle.std.specs.Prelude.{Bool, List, Some, false, length, map, slice_get, take, true, [], ℕ, ◌+◌, ◌∷◌, ◌≡◌}
 
 one_each : {A : Type 0} (f : A → Step → Step) (xs : List A) (k : ℕ) (s : A) (x : Step) → slice_get xs k ≡ Some s → for_each (take (suc k) xs) f x ≡ f s (for_each (take k xs) f x)
 one_each f [] k s x there = absurd (none_some s there)

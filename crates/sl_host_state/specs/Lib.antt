@@ -2,4 +2,5 @@ pub mod Kept
 pub mod Stands
 pub mod New
 pub mod Makes
+pub mod Hears
 pub mod Passes

@@ -1,14 +1,14 @@
 -- What an effect makes of the kept state: for each function of `sl_due` that adds one to a step, the function of states that follows
 -- it. A law says that it does; a method of a host says that it makes this change.
 use Rattle.sl_area.specs.Layouts.{Layout}
-use Rattle.sl_host_state.specs.Kept.{HostState, JobState, JoinState, LeaseCall, LeaseState, MemberState, OpenCall, ValuePair}
+use Rattle.sl_host_state.specs.Kept.{HostState, JobState, JoinState, LeaseCall, LeaseState, MemberState}
 use Rattle.sl_host_state.specs.New.{new_member}
-use Rattle.sl_host_state.specs.Stands.{is_joining, kept_call, kept_waiting, newest_of, no_pair, pair_of}
+use Rattle.sl_host_state.specs.Stands.{free_written, is_joining, kept_call, kept_waiting, newest_of, no_pair, pair_of}
 use Rattle.sl_leases.specs.Leases.{block_written, freed_by, is_at, is_lease_call, is_on, is_spot_before, lease_step, spot_of_call, value_written, Phase2_write}
-use Rattle.sl_sector.specs.declared.sector.Block.{Block}
 use Rattle.sl_sessions.specs.Sessions.{delta_written, is_delta_purpose, is_free_purpose, is_join_call, is_join_done, is_renewal, joining_session}
 use Rattle.sl_sessions.specs.declared.delta.DeltaKnown.{DeltaKnown}
-use Rattle.sl_trace.specs.Traces.{Submitted, is_of_job, new_call, new_child, same_place, same_spot}
+use Rattle.sl_time.specs.Times.{fail}
+use Rattle.sl_trace.specs.Traces.{Submitted, is_of_job, job_of, new_call, new_child, same_place, same_spot}
 use Rattle.sl_trace.specs.declared.command.LockspaceArg.{LockspaceArg}
 use Rattle.sl_trace.specs.declared.effects.Call.{Call}
 use Rattle.sl_trace.specs.declared.effects.Effects.{Effects}
@@ -27,7 +27,11 @@ use Rattle.sl_words.specs.Orders.{is_text_before, put_in}
 use Rattle.sl_words.specs.Words.{choose, some_is}
 use Rattle.std.specs.List.{list_any}
 use Rattle.std.specs.Option.{option_map_or, option_or}
-use Rattle.std.specs.Prelude.{Bool, List, None, Option, Some, bytes_eq, cond, false, filter, flat_map, if◌then◌else◌, is_none, is_some, length, map, max, not, option_and_then, option_map, true, [], ℕ, ◌&&◌, ◌++◌, ◌+◌, ◌-◌, ◌==◌, ◌||◌, ◌∷◌}
+use Rattle.std.specs.Prelude.{Bool, List, None, Option, Some, bytes_eq, cond, false, filter, flat_map, fold, is_none, is_some, length, map, max, min, not, option_and_then, option_map, true, [], ℕ, ◌&&◌, ◌++◌, ◌+◌, ◌-◌, ◌==◌, ◌||◌, ◌∷◌}
+
+-- Below which reading nothing is due, where something has begun that is due at a moment.
+abbrev pub lowered : Bool → ℕ → HostState → ℕ
+lowered begins moment h = cond begins (min h.quiet_until moment) h.quiet_until
 
 -- ---- ends, grants, signals, starts
 
@@ -102,6 +106,11 @@ member_answered h r m =
 abbrev pub member_replying : HostState → ℕ → Reply → MemberState → List MemberState
 member_replying h job r m = cond (is_joining m && some_is (λ j. j == job) m.who.job) (member_answered h r m) (m ∷ [])
 
+-- The moments of recovery of those that a reply joins.
+abbrev pub joined_moments : HostState → ℕ → Reply → List ℕ
+joined_moments h job r =
+    cond (is_join_done r) (map (λ m. m.renewing.last + fail h.config.timing) (filter (λ m. some_is (λ j. j == job) m.who.job) h.members)) []
+
 -- One more reply, to a job that began in an earlier step or by this step's line.
 abbrev pub with_reply : ℕ → Reply → HostState → HostState
 with_reply job r h =
@@ -110,6 +119,7 @@ with_reply job r h =
       made = record fx { replies = fx.replies ++ record { job = job; reply = r } ∷ [] };
       jobs = filter (λ j. not (j.number == job)) h.jobs;
       members = flat_map (member_replying h job r) h.members;
+      quiet_until = fold (λ q now. min q now) h.quiet_until (joined_moments h job r);
     }
 
 -- ---- calls
@@ -152,7 +162,7 @@ joining_calling m j =
 abbrev pub kept_lease_call : Submitted → Option LeaseCall
 kept_lease_call m =
     option_map
-    (λ p. record { number = m.call.number; work = p.0; step = p.1; frees = freed_by m; clears = some_is (λ b. not b.shared) (block_written m) })
+    (λ p. record { number = m.call.number; work = p.0; step = p.1; frees = free_written m; clears = some_is (λ b. not b.shared) (block_written m) })
     (lease_step m.call.purpose)
 
 -- The open ballot after a call: phase 2 opens one, a block of another instance ends it.
@@ -224,6 +234,7 @@ calling m h =
       unanswered = h.unanswered ++ kept_call m ∷ [];
       jobs = map (job_calling m) h.jobs;
       members = map (member_calling h.config.layout m) h.members;
+      quiet_until = lowered (is_some (job_of m.call.purpose)) (m.reading + h.config.timing.io) h;
     }
 
 -- One more call, of a session that is there.
