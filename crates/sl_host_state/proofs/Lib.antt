@@ -1,2 +1,3 @@
 pub mod NewHost
 pub mod Passing
+pub mod Others

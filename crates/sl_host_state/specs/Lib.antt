@@ -4,3 +4,4 @@ pub mod New
 pub mod Makes
 pub mod Hears
 pub mod Passes
+pub mod Effects

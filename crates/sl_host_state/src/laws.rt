@@ -1,5 +1,6 @@
 //! What a new host stands for, and how parts of a step are put together.
 
+ghost use Rattle.sl_host_state.specs.Effects.{EffectsAreTaken};
 ghost use Rattle.sl_host_state.specs.New.{NewHostStands};
 ghost use Rattle.sl_host_state.specs.Passes.{PartsAreTaken};
 
@@ -11,4 +12,9 @@ pub fn new_host_stands()
 /// Parts that are taken one by one are taken together: in sequence, where a test holds, in a pass over a list.
 pub fn parts_are_taken()
     ensures { PartsAreTaken }
+{}
+
+/// A signal, an end and a grant are taken by what the state makes of them.
+pub fn effects_are_taken()
+    ensures { EffectsAreTaken }
 {}
