@@ -5,3 +5,4 @@ pub mod Makes
 pub mod Hears
 pub mod Passes
 pub mod Effects
+pub mod Resting
