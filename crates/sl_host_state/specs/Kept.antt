@@ -82,8 +82,8 @@ pub record LeaseCall : Type 0 where
   pub number : ℕ
   pub work : Work
   pub step : LeaseStep
-  -- the instance of the free that it writes, and 0
-  pub frees : ℕ
+  -- the instance of the free that it writes, if it does
+  pub frees : Option ℕ
   -- whether it writes a block without the shared mode
   pub clears : Bool
 
@@ -185,7 +185,7 @@ pub record HostState : Type 0 where
   pub before : ℕ
   -- the steps so far, with that in progress
   pub entries : ℕ
-  -- below this reading nothing is due before an input
+  -- below this reading nothing is due before an input: a lower bound, so what ends needs no change of it, and what begins lowers it
   pub quiet_until : ℕ
   -- the number of the step's first call
   pub first_call : ℕ

@@ -19,7 +19,7 @@ use Rattle.sl_host_state.specs.Kept.{AskedAt, Config, HostState, JobState, JoinC
 use Rattle.sl_leases.specs.Ballots.{in_instance}
 use Rattle.sl_leases.specs.Counts.{values_on}
 use Rattle.sl_leases.specs.Jobs.{child_of_job, command_of}
-use Rattle.sl_leases.specs.Leases.{block_submitted, block_written, free_left, freed, freed_by, last_blocks, lease_calls, lease_spots, lease_step, lver_written, may_show_shared, open_ballot, value_written, verified_name}
+use Rattle.sl_leases.specs.Leases.{block_submitted, block_written, free_left, freed, last_blocks, leader_written, lease_calls, lease_spots, lease_step, lver_written, may_show_shared, open_ballot, value_written, verified_name}
 use Rattle.sl_sector.specs.Bitmaps.{bitmap_of}
 use Rattle.sl_sector.specs.declared.sector.Block.{Block}
 use Rattle.sl_sector.specs.declared.sector.Owner.{Owner}
@@ -34,9 +34,9 @@ use Rattle.sl_trace.specs.Traces.{Child, Job, Setting, Submitted, Trace, childre
 use Rattle.sl_trace.specs.declared.effects.Op.TheVariants.{ReadSectors, WriteRecord}
 use Rattle.sl_trace.specs.declared.effects.Op.{Op}
 use Rattle.sl_trace.specs.declared.input.Input.{Input}
-use Rattle.sl_words.specs.Words.{greatest, present, some_is}
+use Rattle.sl_words.specs.Words.{choose, greatest, present, some_is}
 use Rattle.std.specs.List.{AllByRecursion, list_any, range_with_len}
-use Rattle.std.specs.Prelude.{Bool, IsTrue, List, None, Option, Some, cond, filter, filter_map, flat_map, is_none, is_some, length, map, nat_le, nat_lt, not, option_map, reverse, slice_get, true, [], ℕ, ◌&&◌, ◌++◌, ◌+◌, ◌==◌, ◌||◌, ◌∷◌, ◌≡◌, ◌≤◌}
+use Rattle.std.specs.Prelude.{Bool, IsTrue, List, None, Option, Some, cond, filter, filter_map, flat_map, is_none, is_some, length, map, nat_le, nat_lt, not, option_and_then, option_map, reverse, slice_get, true, [], ℕ, ◌&&◌, ◌++◌, ◌+◌, ◌==◌, ◌||◌, ◌∷◌, ◌≡◌, ◌≤◌}
 
 -- ---- what is kept of what a trace has
 
@@ -83,17 +83,21 @@ is_there k = is_none k.answer || some_is (λ ok. ok) k.answer && not k.exited
 
 -- ---- a lease
 
--- What is kept of the newest call, if it has no answer.
-abbrev pub newest_open : Submitted → LeaseCall → Type 0
-newest_open m c =
-    (m.answer ≡ None) × (m.call.number ≡ c.number) × (lease_step m.call.purpose ≡ Some (c.work, c.step)) × (freed_by m ≡ c.frees)
+-- The instance of the free that a call writes, if it does.
+abbrev pub free_written : Submitted → Option ℕ
+free_written m = option_and_then (λ l. choose (not l.held) l.lver) (leader_written m)
+
+-- The call has no answer, and this is kept of it.
+abbrev pub IsKeptCall : Submitted → LeaseCall → Type 0
+IsKeptCall m c =
+    (m.answer ≡ None) × (m.call.number ≡ c.number) × (lease_step m.call.purpose ≡ Some (c.work, c.step)) × (free_written m ≡ c.frees)
     × (some_is (λ b. not b.shared) (block_written m) ≡ c.clears)
 
 -- At most the newest call has no answer, and this is what is kept of it.
 abbrev pub IsWaiting : Option LeaseCall → List Submitted → Type 0
 IsWaiting None ms = AllByRecursion (λ m. IsTrue (is_some m.answer)) ms
 IsWaiting (Some c) [] = ⊥
-IsWaiting (Some c) (m ∷ ms) = newest_open m c × AllByRecursion (λ m. IsTrue (is_some m.answer)) ms
+IsWaiting (Some c) (m ∷ ms) = IsKeptCall m c × AllByRecursion (λ m. IsTrue (is_some m.answer)) ms
 
 -- The greatest `mbal` among these blocks in an instance.
 abbrev pub top_mbal : ℕ → List (Option Block) → ℕ
