@@ -1,7 +1,6 @@
 //! Ballots.
 ghost use Rattle.std.specs.Prelude.{IsTrue, ◌×◌, ◌<◌, ◌^◌, ◌≤◌};
 
-
 use crate::word::{number_at, number_of, part, short_at, short_of, word};
 use sl_ballot::{
     Ballot, BallotStep, Limit, ballot_run, instance_of, next_mbal, stop_of, value_after_read,
@@ -41,14 +40,26 @@ fn blocks_of(alloc: Global, text: &str) -> Result<Vec<Block>, AllocError> {
 fn read_of(alloc: Global, text: &str) -> Result<Vec<Option<Block>>, AllocError> {
     let mut blocks = Vec::new(alloc);
     for block in text.split(',') {
-        blocks.push(if block == "-" { None } else { Some(block_of(block)) })?;
+        blocks.push(if block == "-" {
+            None
+        } else {
+            Some(block_of(block))
+        })?;
     }
     Ok(blocks)
 }
 
 /// A block as these texts write it, and its value's generation.
 fn block_text(alloc: Global, block: Block) -> Result<String, AllocError> {
-    let Block { host, lver, mbal, bal, inp, inp_gen, .. } = block;
+    let Block {
+        host,
+        lver,
+        mbal,
+        bal,
+        inp,
+        inp_gen,
+        ..
+    } = block;
     format!(in alloc; "{host}/{lver}/{mbal}/{bal}/{inp} gen {inp_gen}")
 }
 
@@ -72,7 +83,10 @@ fn outcome(alloc: Global, step: Result<BallotStep, Limit>) -> Result<String, All
     match step {
         Ok(BallotStep::Go(block)) => block_text(alloc, block),
         Ok(BallotStep::Won) => format!(in alloc; "won"),
-        Ok(BallotStep::Lost(owner)) => format!(in alloc; "lost to {} {}", owner.id, owner.generation),
+        Ok(BallotStep::Lost(owner)) => format!(in alloc;
+            "lost to {} {}",
+            owner.id, owner.generation
+        ),
         Ok(BallotStep::Rival { host, mbal }) => format!(in alloc; "rival {host} {mbal}"),
         Ok(BallotStep::Ahead { host, lver }) => format!(in alloc; "ahead {host} {lver}"),
         Err(Limit) => format!(in alloc; "limit"),
@@ -139,7 +153,12 @@ pub fn stop(alloc: Global, text: &str) -> Result<String, AllocError> {
 /// The value that a session proposes in an instance, with this own block, after this read.
 pub fn accepted(alloc: Global, text: &str) -> Result<String, AllocError> {
     let read = read_of(alloc, word(text, 4))?;
-    let value = value_after_read(session(text), number_at(text, 2), &block_of(word(text, 3)), &read);
+    let value = value_after_read(
+        session(text),
+        number_at(text, 2),
+        &block_of(word(text, 3)),
+        &read,
+    );
     format!(in alloc; "{} {}", value.id, value.generation)
 }
 
@@ -171,7 +190,13 @@ pub fn instance(alloc: Global, text: &str) -> Result<String, AllocError> {
         id: 2,
         generation: 1,
     };
-    match instance_of(word(text, 0) == "over", me, &leader, freed, number_at(text, 4)) {
+    match instance_of(
+        word(text, 0) == "over",
+        me,
+        &leader,
+        freed,
+        number_at(text, 4),
+    ) {
         Instance::Begins { instance } => format!(in alloc; "begins {instance}"),
         Instance::HeldAlready { lver, owner } => format!(in alloc; "held {lver} {}", owner.id),
     }

@@ -3,7 +3,8 @@
 use crate::word::{number_at, short_at, shown, word};
 use sl_run::{Event, Refusal};
 use sl_schedule::{
-    Lines, line_refusal, next_event, next_event_line, push_refusal_line, push_test_line, read_header,
+    Lines, line_refusal, next_event, next_event_line, push_refusal_line, push_test_line,
+    read_header,
 };
 use std::alloc::{AllocError, Global};
 
@@ -15,12 +16,21 @@ fn line_text(alloc: Global, line: &[u8]) -> Result<String, AllocError> {
 /// An event that names a call.
 fn call_event(alloc: Global, event: &Event) -> Result<Option<String>, AllocError> {
     let told = match event {
-        Event::Sample { machine, call, sectors } => format!(in alloc; "sample {machine} {call} {sectors}")?,
+        Event::Sample {
+            machine,
+            call,
+            sectors,
+        } => format!(in alloc; "sample {machine} {call} {sectors}")?,
         Event::Land { machine, call } => format!(in alloc; "land {machine} {call}")?,
-        Event::Tear { machine, call, kept, bytes } => {
-            format!(in alloc; "tear {machine} {call} {kept} {:?}", bytes.as_slice())?
-        }
-        Event::AnswerCall { machine, call, ok } => format!(in alloc; "answer {machine} {call} {ok}")?,
+        Event::Tear {
+            machine,
+            call,
+            kept,
+            bytes,
+        } => { format!(in alloc; "tear {machine} {call} {kept} {:?}", bytes.as_slice())? }
+        Event::AnswerCall { machine, call, ok } => format!(in alloc;
+            "answer {machine} {call} {ok}"
+        )?,
         Event::Do { machine, call } => format!(in alloc; "do {machine} {call}")?,
         Event::DropWrite { machine, call } => format!(in alloc; "drop {machine} {call}")?,
         _ => return Ok(None),
@@ -38,7 +48,11 @@ fn machine_event(alloc: Global, event: &Event) -> Result<Option<String>, AllocEr
         }
         Event::Test { machine } => format!(in alloc; "test {machine}")?,
         Event::ExitOf { machine, process } => format!(in alloc; "exit {machine} {process}")?,
-        Event::SpawnedOf { machine, process, ok } => format!(in alloc; "spawned {machine} {process} {ok}")?,
+        Event::SpawnedOf {
+            machine,
+            process,
+            ok,
+        } => format!(in alloc; "spawned {machine} {process} {ok}")?,
         Event::StartDaemon { machine, name } => format!(in alloc; "start {machine} {name}")?,
         Event::Crash { machine } => format!(in alloc; "crash {machine}")?,
         Event::Reset { machine } => format!(in alloc; "reset {machine}")?,
@@ -88,11 +102,14 @@ pub fn header(alloc: Global, text: &str) -> Result<String, AllocError> {
     let (io, grace, hosts) = (header.timing.io(), header.grace, header.geometry.hosts());
     let (disks, sessions) = (header.disks.len(), header.sessions.len());
     let mut told = format!(in alloc;
-        "io {io} grace {grace} hosts {} ids {hosts} disks {disks} sessions {sessions}", header.machines
+        "io {io} grace {grace} hosts {} ids {hosts} disks {disks} sessions {sessions}",
+        header.machines
     )?;
     for _ in text.split('|') {
         match next_event_line(alloc, &header, &mut lines)? {
-            Some((number, Ok(_))) => told.push_str(format!(in alloc; ", event {number}")?.as_str())?,
+            Some((number, Ok(_))) => told.push_str(format!(in alloc;
+                ", event {number}"
+            )?.as_str())?,
             Some((number, Err(why))) => {
                 told.push_str(", ")?;
                 told.push_str(refusal(alloc, number, why)?.as_str())?;
@@ -106,7 +123,11 @@ pub fn header(alloc: Global, text: &str) -> Result<String, AllocError> {
 /// Whether a line that starts so far from the source's first byte and has so many bytes is refused, where the source goes on past its limit
 /// or doesn't.
 pub fn line(alloc: Global, text: &str) -> Result<String, AllocError> {
-    let refusal = line_refusal(number_at(text, 0), number_at(text, 1) as usize, word(text, 2) == "past");
+    let refusal = line_refusal(
+        number_at(text, 0),
+        number_at(text, 1) as usize,
+        word(text, 2) == "past",
+    );
     format!(in alloc; "refused {}", refusal.is_some())
 }
 

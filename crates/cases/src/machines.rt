@@ -10,10 +10,20 @@ use std::alloc::{AllocError, Global};
 
 /// The times that four numbers make: io, fire, land and rho.
 pub fn timing(alloc: Global, text: &str) -> Result<String, AllocError> {
-    match Timing::new(number_at(text, 0), number_at(text, 1), number_at(text, 2), number_at(text, 3)) {
+    match Timing::new(
+        number_at(text, 0),
+        number_at(text, 1),
+        number_at(text, 2),
+        number_at(text, 3),
+    ) {
         Ok(timing) => format!(in alloc;
             "renew {} fail {} gone {} dead {} join_max {} take {}",
-            timing.renew(), timing.fail(), timing.gone(), timing.dead(), timing.join_max(), timing.take()
+            timing.renew(),
+            timing.fail(),
+            timing.gone(),
+            timing.dead(),
+            timing.join_max(),
+            timing.take()
         ),
         Err(TimingBad::Io) => format!(in alloc; "bad io"),
         Err(TimingBad::Fire) => format!(in alloc; "bad fire"),
@@ -76,8 +86,18 @@ pub fn wdmd(alloc: Global, text: &str) -> Result<String, AllocError> {
 /// A signal with its process.
 fn signal(alloc: Global, sent: Option<Sent>) -> Result<String, AllocError> {
     match sent {
-        Some(Sent { process, signal: Signal::Term }) => format!(in alloc; "term {process}"),
-        Some(Sent { process, signal: Signal::Kill }) => format!(in alloc; "kill {process}"),
+        Some(
+            Sent {
+                process,
+                signal: Signal::Term,
+            },
+        ) => format!(in alloc; "term {process}"),
+        Some(
+            Sent {
+                process,
+                signal: Signal::Kill,
+            },
+        ) => format!(in alloc; "kill {process}"),
         None => format!(in alloc; "-"),
     }
 }

@@ -25,7 +25,11 @@ fn put(sector: &mut [u8; 512], at: u64, digits: &str) {
 pub fn sector_of(text: &str) -> [u8; 512] {
     let mut sector = [0; 512];
     for span in text.split(',') {
-        put(&mut sector, number_of(part(span, ':', 0)), part(span, ':', 1));
+        put(
+            &mut sector,
+            number_of(part(span, ':', 0)),
+            part(span, ':', 1),
+        );
     }
     sector
 }
@@ -75,7 +79,10 @@ pub fn value(alloc: Global, text: &str) -> Result<String, AllocError> {
     let mut digits = Vec::new(alloc);
     push_hex(&mut digits, value.bytes.as_slice())?;
     let digits = shown(alloc, &digits)?;
-    format!(in alloc; "lver {} seq {} bytes {digits}", value.version.lver, value.version.seq)
+    format!(in alloc;
+        "lver {} seq {} bytes {digits}",
+        value.version.lver, value.version.seq
+    )
 }
 
 /// The seq of the next value under an instance, behind a version, lver and seq, or behind none.
@@ -108,7 +115,10 @@ pub fn places(alloc: Global, text: &str) -> Result<String, AllocError> {
     if !run.is_base(base) || id < 1 || run.hosts() < id {
         return format!(in alloc; "none");
     }
-    let (delta, block) = (run.delta_place(base, id).offset(), run.block_place(base, id).offset());
+    let (delta, block) = (
+        run.delta_place(base, id).offset(),
+        run.block_place(base, id).offset(),
+    );
     let leader = run.leader_place(base).offset();
     let request = run.request_place(base).offset();
     let value = run.value_place(base).offset();

@@ -159,7 +159,10 @@ pub fn reply(alloc: Global, case: &str) -> Result<String, AllocError> {
         "value_of_no_bytes" => named("value", name, none),
         _ => plain(case).or(refused(case)).or(named(case, name, bytes)),
     };
-    match (reply_text(alloc, reply)?, reply_text(alloc, listed(alloc, case, name)?)?) {
+    match (
+        reply_text(alloc, reply)?,
+        reply_text(alloc, listed(alloc, case, name)?)?,
+    ) {
         (Some(text), _) => Ok(text),
         (None, Some(text)) => Ok(text),
         (None, None) => format!(in alloc; "no reply"),

@@ -2,7 +2,9 @@
 
 use crate::word::{number_at, shown, word};
 use sl_text::hex::{push_hex, read_hex, read_hex_bytes};
-use sl_text::number::{is_multiple, push_number, read_number, read_number_within, read_short_number};
+use sl_text::number::{
+    is_multiple, push_number, read_number, read_number_within, read_short_number,
+};
 use sl_text::words::Words;
 use sl_text::{FilePath, Name};
 use std::alloc::{AllocError, Global};
@@ -29,7 +31,10 @@ fn written(alloc: Global, number: u64) -> Result<String, AllocError> {
 
 /// The number, and the short number.
 pub fn number(alloc: Global, text: &str) -> Result<String, AllocError> {
-    match (read_number(text.as_bytes()), read_short_number(text.as_bytes())) {
+    match (
+        read_number(text.as_bytes()),
+        read_short_number(text.as_bytes()),
+    ) {
         (Some(number), Some(short)) => {
             let number = written(alloc, number)?;
             format!(in alloc; "{number}, short {short}")
@@ -49,7 +54,10 @@ fn number_or_none(alloc: Global, number: Option<u64>) -> Result<String, AllocErr
 /// The number within the bounds that stand in front of it.
 pub fn within(alloc: Global, text: &str) -> Result<String, AllocError> {
     let (low, high) = (number_at(text, 0), number_at(text, 1));
-    number_or_none(alloc, read_number_within(word(text, 2).as_bytes(), low, high))
+    number_or_none(
+        alloc,
+        read_number_within(word(text, 2).as_bytes(), low, high),
+    )
 }
 
 /// Whether a number is a multiple of the one in front of it.
@@ -103,7 +111,12 @@ pub fn path(alloc: Global, text: &str) -> Result<String, AllocError> {
 /// Whether the first of two words comes before the second, as names and as paths.
 pub fn before(alloc: Global, text: &str) -> Result<String, AllocError> {
     let (first, second) = (word(text, 0).as_bytes(), word(text, 1).as_bytes());
-    match (Name::new(first), Name::new(second), FilePath::new(first), FilePath::new(second)) {
+    match (
+        Name::new(first),
+        Name::new(second),
+        FilePath::new(first),
+        FilePath::new(second),
+    ) {
         (Some(first), Some(second), _, _) => format!(in alloc; "name {}", first.is_before(&second)),
         (_, _, Some(first), Some(second)) => format!(in alloc; "path {}", first.is_before(&second)),
         _ => format!(in alloc; "none"),

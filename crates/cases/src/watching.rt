@@ -38,7 +38,13 @@ impl Pair {
     }
 
     /// Takes a look at an id's sector.
-    fn saw(&mut self, before: u64, after: u64, id: u32, sector: &[u8; 512]) -> Result<(), AllocError> {
+    fn saw(
+        &mut self,
+        before: u64,
+        after: u64,
+        id: u32,
+        sector: &[u8; 512],
+    ) -> Result<(), AllocError> {
         if 1 <= id && id <= 2 {
             return self.watch.saw(before, after, id, sector);
         }
@@ -47,17 +53,29 @@ impl Pair {
 
     /// Why a generation of an id counts as over.
     fn over(&self, id: u32, generation: u64) -> Option<Evidence> {
-        if 1 <= id && id <= 2 { self.watch.over(id, generation) } else { None }
+        if 1 <= id && id <= 2 {
+            self.watch.over(id, generation)
+        } else {
+            None
+        }
     }
 
     /// How long an id stood still.
     fn unchanged(&self, id: u32) -> u64 {
-        if 1 <= id && id <= 2 { self.watch.unchanged_for(id) } else { 0 }
+        if 1 <= id && id <= 2 {
+            self.watch.unchanged_for(id)
+        } else {
+            0
+        }
     }
 
     /// What an id looks like.
     fn status(&self, id: u32, now: u64) -> HostState {
-        if 1 <= id && id <= 2 { self.watch.status(id, now) } else { HostState::Unknown }
+        if 1 <= id && id <= 2 {
+            self.watch.status(id, now)
+        } else {
+            HostState::Unknown
+        }
     }
 }
 
@@ -98,12 +116,20 @@ fn told(alloc: Global, pair: &mut Pair, text: &str, word: &str) -> Result<String
     match part(word, ':', 0) {
         "saw" => {
             let sector = sector_named(text, part(word, ':', 4));
-            pair.saw(number_of(first), number_of(second), short_of(part(word, ':', 3)), &sector)?;
+            pair.saw(
+                number_of(first),
+                number_of(second),
+                short_of(part(word, ':', 3)),
+                &sector,
+            )?;
             format!(in alloc; "")
         }
         "over" => evidence(alloc, pair.over(short_of(first), number_of(second))),
         "still" => format!(in alloc; "{}", pair.unchanged(short_of(first))),
-        "status" => format!(in alloc; "{}", state(pair.status(short_of(first), number_of(second)))),
+        "status" => format!(in alloc;
+            "{}",
+            state(pair.status(short_of(first), number_of(second)))
+        ),
         _ => format!(in alloc; ""),
     }
 }

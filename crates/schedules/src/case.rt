@@ -2,9 +2,8 @@
 
 use sl_text::line::split_line;
 use std::alloc::{AllocError, Global};
-use std::fs;
-use std::io;
 use std::rt::Files;
+use std::{fs, io};
 
 /// What the program is run on.
 #[derive(Drop)]
@@ -60,7 +59,12 @@ fn file<R: Files + AllocGlobal>(rt: &R, name: &str, kind: &str) -> io::Result<Ve
 }
 
 /// So many lines of a schedule, and a line behind them.
-fn behind<R: Files + AllocGlobal>(rt: &R, count: u64, name: &str, line: &str) -> io::Result<Vec<u8>> {
+fn behind<R: Files + AllocGlobal>(
+    rt: &R,
+    count: u64,
+    name: &str,
+    line: &str,
+) -> io::Result<Vec<u8>> {
     let whole = file(rt, name, "schedule")?;
     let mut source = Vec::from_slice(rt.alloc(), front(&whole, count))?;
     source.extend_from_slice(line.as_bytes())?;
@@ -76,11 +80,19 @@ fn parts<R: Files + AllocGlobal>(
     let alloc = rt.alloc();
     if let Some(name) = line.strip_prefix("schedule ") {
         let due = file(rt, name, "report")?;
-        return Ok((words(alloc, "replay")?, file(rt, name, "schedule")?, Some(due)));
+        return Ok((
+            words(alloc, "replay")?,
+            file(rt, name, "schedule")?,
+            Some(due),
+        ));
     }
     if let (Some(count), rest) = option(line, "behind") {
         let (name, text) = rest.split_once(' ').unwrap_or((rest, ""));
-        return Ok((words(alloc, "replay")?, behind(rt, count, name, text)?, None));
+        return Ok((
+            words(alloc, "replay")?,
+            behind(rt, count, name, text)?,
+            None,
+        ));
     }
     Ok((words(alloc, line)?, Vec::new(alloc), None))
 }
