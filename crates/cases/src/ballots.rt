@@ -1,5 +1,5 @@
 //! Ballots.
-ghost use Rattle.std.specs.Prelude.{IsTrue, ◌×◌, ◌<◌, ◌^◌, ◌≤◌};
+ghost use Rattle.std.specs.Prelude.{IsTrue, ◌<◌, ◌^◌, ◌≤◌};
 
 use crate::word::{number_at, number_of, part, short_at, short_of, word};
 use sl_ballot::{

@@ -1,6 +1,6 @@
 //! A watch over two ids, with io 100, fire 600, land 100 and rho 0.
 
-ghost use Rattle.std.specs.Prelude.{IfSome, ◌×◌, ◌≡◌};
+ghost use Rattle.std.specs.Prelude.{◌≡◌};
 
 use crate::records::sector_of;
 use crate::word::{number_of, part, short_of};
@@ -19,7 +19,7 @@ struct Pair {
 
 impl Model for Pair {
     ghost use Rattle.sl_watch.specs.Seen.{Watched};
-    ghost use Rattle.std.specs.Prelude.{◌×◌, ◌≡◌};
+    ghost use Rattle.std.specs.Prelude.{◌≡◌};
 
     ghost Value = { Watched };
 
