@@ -3,9 +3,10 @@ use Rattle.sha2.specs.Sha256.{sha256}
 use Rattle.sl_sector.specs.Spelling.{decoded, spelling}
 use Rattle.sl_sector.specs.declared.sector.Bad.{Bad}
 use Rattle.sl_sector.specs.declared.sector.Rec.{Rec}
+use Rattle.sl_words.specs.Words.{greatest}
 use Rattle.std.specs.Int.{is_in_range}
 use Rattle.std.specs.List.{list_any}
-use Rattle.std.specs.Prelude.{Bool, IsTrue, List, Result, [], ℕ, ◌&&◌, ◌==◌, ◌∷◌}
+use Rattle.std.specs.Prelude.{Bool, IsTrue, List, Option, Result, find, map, option_map, [], ℕ, ◌&&◌, ◌==◌, ◌∷◌}
 
 -- Bytes of a sector, bytes of an area, and the number of hosts of the run.
 pub record Sizes : Type 0 where
@@ -39,7 +40,16 @@ layout_of s = layout_with program_digest s
 
 -- The areas that there may be: bytes of a sector, bytes of an area, most hosts.
 abbrev pub geometries : List (ℕ × ℕ × ℕ)
-geometries = (512, 1048576, 2000) ∷ []
+geometries =
+    (512, 1048576, 2000) ∷ (4096, 1048576, 250) ∷ (4096, 2097152, 500) ∷ (4096, 4194304, 1000) ∷ (4096, 8388608, 2000) ∷ []
+
+-- The most hosts for sectors and areas of these bytes, if there are such areas.
+abbrev pub most_ids : ℕ → ℕ → Option ℕ
+most_ids sector area = option_map (λ row. row.2) (find (λ row. row.0 == sector && row.1 == area) geometries)
+
+-- The most hosts of any areas.
+abbrev pub most_ids_of_all : ℕ
+most_ids_of_all = greatest (map (λ row. row.2) geometries)
 
 -- Whether a run may have these sizes.
 abbrev pub is_geometry : Sizes → Bool

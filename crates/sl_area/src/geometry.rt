@@ -37,7 +37,13 @@ impl Model for Geometry {
 pub struct BadGeometry;
 
 /// The areas that there may be: bytes of a sector, bytes of an area, most hosts.
-const GEOMETRIES: [(u32, u64, u32); 1] = [(512, 1_048_576, 2000)];
+const GEOMETRIES: [(u32, u64, u32); 5] = [
+    (512, 1_048_576, 2000),
+    (4096, 1_048_576, 250),
+    (4096, 2_097_152, 500),
+    (4096, 4_194_304, 1000),
+    (4096, 8_388_608, 2000),
+];
 
 /// Whether a run may have these sizes.
 fn is_geometry(sector: u32, area: u64, hosts: u32) -> bool

@@ -1,11 +1,15 @@
 //! The memory area with each call failing in turn, and the file area on files of the system.
 
+ghost use Rattle.std.specs.Prelude.{◌≡◌};
+
 use crate::{Area, FileArea, Geometry, MemArea};
 use std::fs;
 use std::test::Fail;
 
 /// Writes two sectors and reads both back, and answers how many of the three calls went well.
-fn round(area: &mut impl Area, run: Geometry) -> (u32, [u8; 1024]) {
+fn round(area: &mut impl Area, run: Geometry) -> (u32, [u8; 1024])
+    requires { run.sector ≡ 512 }
+{
     let mut read = [9; 1024];
     let mut done = 0;
     if area.write(run.request_place(0), &[1; 512]).is_ok() {

@@ -22,7 +22,8 @@ use Rattle.sl_run.specs.Safety.{Found, setting_in, trace_of, world_at}
 use Rattle.sl_run.specs.Worlds.{World}
 use Rattle.sl_sector.specs.declared.sector.Block.{Block}
 use Rattle.sl_sector.specs.declared.sector.Owner.{Owner}
-use Rattle.sl_sessions.specs.Sessions.{Session, calls_of, is_call_of}
+use Rattle.sl_sessions.specs.Sessions.{calls_of, is_call_of}
+use Rattle.sl_sessions.specs.declared.session.Session.{Session}
 use Rattle.sl_trace.specs.Traces.{Answered, Setting, Submitted, Trace, new_call, submitted}
 use Rattle.sl_trace.specs.declared.effects.Call.{Call}
 use Rattle.sl_trace.specs.declared.effects.Spot.{Spot}

@@ -5,7 +5,7 @@ use Rattle.sl_lease_law.specs.Ways.{lease_among}
 use Rattle.sl_leases.specs.Leases.{block_of_record, block_submitted, block_written}
 use Rattle.sl_resource_history.proofs.Lasting.{kept_calls, lease_kept, of_lease}
 use Rattle.sl_session_law.proofs.Making.{same_answered}
-use Rattle.sl_sessions.specs.Sessions.{Session}
+use Rattle.sl_sessions.specs.declared.session.Session.{Session}
 use Rattle.sl_trace.specs.Traces.{Answered, Setting, Submitted, Trace, answer_of, answered_in, mark, new_call, record_of, submitted}
 use Rattle.sl_trace.specs.declared.effects.Call.{Call}
 use Rattle.sl_trace.specs.declared.effects.Entry.{Entry}

@@ -29,7 +29,8 @@ use Rattle.sl_sector.specs.declared.sector.Block.{Block}
 use Rattle.sl_sector.specs.declared.sector.Leader.{Leader}
 use Rattle.sl_sector.specs.declared.sector.Owner.{Owner}
 use Rattle.sl_front_law.proofs.Having.{contains_right}
-use Rattle.sl_sessions.specs.Sessions.{Session, is_call_of, me}
+use Rattle.sl_sessions.specs.Sessions.{is_call_of, me}
+use Rattle.sl_sessions.specs.declared.session.Session.{Session}
 use Rattle.sl_trace.specs.Traces.{Setting, Submitted, record_of, submitted}
 use Rattle.sl_trace.specs.declared.effects.Call.{Call}
 use Rattle.sl_trace.specs.declared.effects.Spot.{Spot}

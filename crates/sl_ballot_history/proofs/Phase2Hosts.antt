@@ -21,7 +21,8 @@ use Rattle.sl_run.specs.Worlds.{Daemon, Machine, Program, World}
 use Rattle.sl_run.specs.declared.header.Header.{Header}
 use Rattle.sl_sector.specs.declared.sector.Block.{Block}
 use Rattle.sl_front_law.proofs.Having.{contains_right}
-use Rattle.sl_sessions.specs.Sessions.{Session, session_numbered}
+use Rattle.sl_sessions.specs.Sessions.{session_numbered}
+use Rattle.sl_sessions.specs.declared.session.Session.{Session}
 use Rattle.sl_trace.specs.Traces.{Setting, Submitted, Trace, submitted}
 use Rattle.sl_words.proofs.CaseLaws.{none_some}
 use Rattle.sl_words.proofs.WordLaws.{and_true}

@@ -17,7 +17,8 @@ use Rattle.sl_resource_history.specs.Sending.{Sent, holder_of, sender_of}
 use Rattle.sl_run.specs.Worlds.{World}
 use Rattle.sl_session_law.proofs.Owning.{owned}
 use Rattle.sl_session_law.specs.Promises.{IsSession}
-use Rattle.sl_sessions.specs.Sessions.{Session, generation_of, is_active, joined_after, leaving_job, me, recovery_of, removed_after, session_numbered}
+use Rattle.sl_sessions.specs.Sessions.{generation_of, is_active, joined_after, leaving_job, me, recovery_of, removed_after, session_numbered}
+use Rattle.sl_sessions.specs.declared.session.Session.{Session}
 use Rattle.sl_trace.specs.Traces.{Setting, Trace}
 use Rattle.sl_words.proofs.WordLaws.{and_true}
 use Rattle.std.proofs.Common.{ap, subst, sym, ◌∙◌}

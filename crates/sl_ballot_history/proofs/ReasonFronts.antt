@@ -10,8 +10,10 @@ use Rattle.sl_sector.specs.declared.sector.Block.{Block}
 use Rattle.sl_sector.specs.declared.sector.Owner.{Owner}
 use Rattle.sl_session_law.proofs.Growing.{mine_next, other_next, to_all, to_cut}
 use Rattle.sl_session_law.specs.Promises.{IsSession}
-use Rattle.sl_sessions.specs.Sessions.{Session, calls_of, generation_of, is_survey_purpose, joined_after}
-use Rattle.sl_sessions.specs.Watching.{Sighting, counted_over, counts_over, evidence, evidence_in, look_of, sightings}
+use Rattle.sl_sessions.specs.Sessions.{calls_of, generation_of, is_survey_purpose, joined_after}
+use Rattle.sl_sessions.specs.Watching.{counted_over, counts_over, evidence, evidence_in, look_of, sightings}
+use Rattle.sl_sessions.specs.declared.session.Session.{Session}
+use Rattle.sl_sessions.specs.declared.sighting.Sighting.{Sighting}
 use Rattle.sl_trace.specs.Traces.{Setting, Submitted, Trace, new_call}
 use Rattle.sl_trace.specs.declared.effects.Call.{Call}
 use Rattle.sl_trace.specs.declared.effects.Entry.{Entry}

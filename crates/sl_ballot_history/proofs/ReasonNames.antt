@@ -12,7 +12,8 @@ use Rattle.sl_session_law.proofs.Owning.{sessions_stay}
 use Rattle.sl_session_law.proofs.Silence.{stage_by}
 use Rattle.sl_session_law.proofs.Staying.{joined_more, stays}
 use Rattle.sl_session_law.specs.Promises.{IsSession}
-use Rattle.sl_sessions.specs.Sessions.{Session, calls_of, delta_of_record, delta_written, free_write, generation_in, generation_of, given_number, joined_after, last_delta, refused_after, removed_after, session_numbered, stage_in}
+use Rattle.sl_sessions.specs.Sessions.{calls_of, delta_of_record, delta_written, free_write, generation_in, generation_of, given_number, joined_after, last_delta, refused_after, removed_after, session_numbered, stage_in}
+use Rattle.sl_sessions.specs.declared.session.Session.{Session}
 use Rattle.sl_sessions.specs.declared.stage.Stage.TheVariants.{Deciding, Verifying}
 use Rattle.sl_sessions.specs.declared.stage.Stage.{Stage}
 use Rattle.sl_trace.specs.Traces.{Setting, Submitted, Trace, answered_in, mark, new_call, record_of}

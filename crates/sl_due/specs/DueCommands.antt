@@ -3,16 +3,19 @@ use Rattle.sl_area.specs.Places.{delta_offset, value_offset}
 use Rattle.sl_due.specs.DueFirst.{signal_and_refuse}
 use Rattle.sl_due.specs.DueLease.{carry_lease, grant_for, read_area}
 use Rattle.sl_due.specs.Steps.{Step, add_call_at, add_call_of, add_end, add_reply, seen, with_input}
-use Rattle.sl_leases.specs.Counts.{busy_process, limit_met, may_act, next_value_seq, pending_call}
-use Rattle.sl_leases.specs.LeaseWork.{lease_place, release_next}
-use Rattle.sl_leases.specs.Leases.{holdings_on, known, shared_on, spot_of}
+use Rattle.sl_due.specs.declared.decision.Decision.TheVariants.{ConvertsTo, GetsValue, GivesUp, Joins, Leaves, ReadsArea, Replies, Requests, SetsValue, Shares, TakesOver}
+use Rattle.sl_due.specs.declared.decision.Decision.{Decision}
+use Rattle.sl_leases.specs.Counts.{busy_process, holds_already, is_killpath_limit, limit_met, may_act, next_value_seq, other_holder, pending_call}
+use Rattle.sl_leases.specs.Jobs.{wanted_mode}
+use Rattle.sl_leases.specs.LeaseWork.{convert_next, lease_place, release_next}
+use Rattle.sl_leases.specs.Leases.{holdings_on, known, orphan_on, shared_on, spot_of}
 use Rattle.sl_sector.specs.declared.sector.Rec.TheVariants.{ValueIs}
-use Rattle.sl_sector.specs.declared.sector.ValueRec.{ValueRec}
-use Rattle.sl_sessions.specs.Sessions.{Session, generation_of, is_active, is_joined, is_session_arg, last_renewal, last_seq, present_sessions, session_named, sessions}
-use Rattle.sl_sessions.specs.Watching.{states_seen}
+use Rattle.sl_sessions.specs.Sessions.{generation_of, holdings_of, is_active, is_joined, is_session_arg, last_renewal, last_seq, present_sessions, session_named, sessions}
+use Rattle.sl_sessions.specs.Watching.{sessions_seen, states_seen}
+use Rattle.sl_sessions.specs.declared.session.Session.{Session}
 use Rattle.sl_trace.specs.Limits.{most_lockspaces}
-use Rattle.sl_trace.specs.Traces.{Setting, Trace, end_of, is_shared, next_job, spot_of_grant}
-use Rattle.sl_trace.specs.declared.command.Command.TheVariants.{Acquire, AddLockspace, GetLvb, HostStatus, InqLockspace, Release, RemLockspace, Request, RunProgram, SetLvb, Status}
+use Rattle.sl_trace.specs.Traces.{Setting, Trace, end_of, is_orphan, is_shared, next_job, no_process, spot_of_grant}
+use Rattle.sl_trace.specs.declared.command.Command.TheVariants.{Acquire, AddLockspace, Convert, GetLvb, HostStatus, InqLockspace, Release, ReleaseOrphan, RemLockspace, Request, RunProgram, SetKillpath, SetLvb, Status, TakeOver}
 use Rattle.sl_trace.specs.declared.command.Command.{Command}
 use Rattle.sl_trace.specs.declared.command.LockspaceArg.{LockspaceArg}
 use Rattle.sl_trace.specs.declared.command.ResourceArg.{ResourceArg}
@@ -20,41 +23,21 @@ use Rattle.sl_trace.specs.declared.effects.Grant.{Grant}
 use Rattle.sl_trace.specs.declared.effects.JoinStep.TheVariants.{FirstRead}
 use Rattle.sl_trace.specs.declared.effects.LeaseStep.TheVariants.{ReadArea}
 use Rattle.sl_trace.specs.declared.effects.Mode.TheVariants.{Shared}
+use Rattle.sl_trace.specs.declared.effects.Mode.{Mode}
 use Rattle.sl_trace.specs.declared.effects.Op.TheVariants.{ReadSectors, WriteRecord}
 use Rattle.sl_trace.specs.declared.effects.Purpose.TheVariants.{RequestRead, Joining, ValueRead, ValueWrite}
 use Rattle.sl_trace.specs.declared.effects.Spot.{Spot}
 use Rattle.sl_trace.specs.declared.effects.Work.TheVariants.{ForJob}
 use Rattle.sl_trace.specs.declared.input.Input.TheVariants.{Line}
-use Rattle.sl_trace.specs.declared.reply.Limited.TheVariants.{Lockspaces, Seq as SeqLimit}
-use Rattle.sl_trace.specs.declared.reply.Reply.TheVariants.{BadCommand as Misread, Busy, Done, Generation, Hosts, Joined, Joining as StillJoining, Limit as LimitReached, NoProcess, NoSession, NotHeld, Pending, Recovering, Sessions}
+use Rattle.sl_trace.specs.declared.reply.Limited.TheVariants.{Killpaths, Lockspaces, Seq as SeqLimit}
+use Rattle.sl_trace.specs.declared.reply.Reply.TheVariants.{BadCommand as Misread, Busy, Done, Generation, Granted, Hosts, Joined, Joining as StillJoining, Limit as LimitReached, NoOrphan, NoProcess, NoSession, NotHeld, Pending, Recovering, Sessions}
 use Rattle.sl_trace.specs.declared.reply.Reply.{Reply}
-use Rattle.sl_trace.specs.declared.reply.SessionOf.{SessionOf}
 use Rattle.sl_words.specs.Bounds.{is_number}
 use Rattle.sl_words.specs.Results.{◌>>=◌}
-use Rattle.sl_words.specs.Words.{choose}
+use Rattle.sl_words.specs.Words.{choose, same_truth}
+use Rattle.std.specs.List.{list_any}
 use Rattle.std.specs.Option.{option_map_or, option_or}
-use Rattle.std.specs.Prelude.{Bool, Err, List, None, Ok, Option, Result, Some, false, filter, find, if◌then◌else◌, is_none, length, map, nat_le, not, option_and_then, option_map, true, [], ℕ, ◌&&◌, ◌+◌, ◌==◌, ◌∷◌}
-
--- What a command comes to.
-pub data Decision : Type 0 where
-  -- it is answered at once
-  Replies : Reply → Decision
-  -- a session of this number begins with the read of its id's sector
-  Joins : ℕ → LockspaceArg → Decision
-  -- the session is left
-  Leaves : Session → Decision
-  -- work on the lease begins with a read of the area
-  Reads_area : Session → ResourceArg → Decision
-  -- granted at once beside a shared holding, under its instance
-  Shares : Session → ℕ → Decision
-  -- the holding ends
-  Gives_up : Session → Grant → Decision
-  -- a request begins with a read of leader and request
-  Requests : Session → ResourceArg → Decision
-  -- the value is written
-  Sets_value : Session → Spot → ValueRec → Decision
-  -- the value is read
-  Gets_value : Session → Spot → Decision
+use Rattle.std.specs.Prelude.{Bool, Err, List, None, Ok, Option, Result, Some, false, find, if◌then◌else◌, is_none, length, nat_le, not, option_and_then, option_map, true, [], ℕ, ◌&&◌, ◌++◌, ◌+◌, ◌==◌, ◌∷◌}
 
 -- ---- refusals
 
@@ -99,7 +82,7 @@ limit_refusal st es s at program = option_map (λ l. LimitReached l) (limit_met 
 -- Work on the lease begins, or the grant is given at once where the session has a shared holding.
 abbrev pub acquiring : Trace → Session → ResourceArg → Bool → Decision
 acquiring es s r shared =
-    elim shared [ false ↦ Reads_area s r | true ↦ elim (shared_on es s (spot_of r)) [ None ↦ Reads_area s r | Some g ↦ Shares s g.lver ] ]
+    elim shared [ false ↦ ReadsArea s r | true ↦ elim (shared_on es s (spot_of r)) [ None ↦ ReadsArea s r | Some g ↦ Shares s g.lver ] ]
 
 -- An acquire of a process, or a command's, whose process comes later.
 abbrev pub decide_acquire : Setting → Trace → ResourceArg → Option ℕ → Bool → Bool → Decision
@@ -124,12 +107,45 @@ decide_holder st es r p serves f =
     ∷ choose (is_none (holding_of es s (spot_of r) p serves)) NotHeld
     ∷ pending_refusal st es (spot_of r) ∷ []) (option_map_or (f s) (holding_of es s (spot_of r) p serves) (Replies NotHeld)))
 
+-- A holding that has the mode already is answered at once.
+abbrev pub converting : Session → ResourceArg → Mode → Grant → Decision
+converting s r mode g = elim (same_truth (is_shared mode) (is_shared g.mode)) [ true ↦ Replies (Granted g.lver) | false ↦ ConvertsTo s r mode ]
+
+-- A conversion of what the process holds; to exclusive no other process may hold the resource.
+abbrev pub decide_convert : Setting → Trace → ResourceArg → ℕ → Mode → Decision
+decide_convert st es r p mode =
+    with_session (session_named st es r.lockspace) (λ s.
+    unless_refused (session_refusal st es s
+    ∷ process_refusal es p
+    ∷ choose (is_none (holding_of es s (spot_of r) p (λ g. true))) NotHeld
+    ∷ option_and_then (λ q. choose (not (is_shared mode)) (Busy q)) (other_holder es (spot_of r) p)
+    ∷ pending_refusal st es (spot_of r) ∷ []) (option_map_or (converting s r mode) (holding_of es s (spot_of r) p (λ g. true)) (Replies NotHeld)))
+
+-- The orphan of the resource, in a mode that serves.
+abbrev pub serving_orphan : Trace → Session → Spot → (Grant → Bool) → Option Grant
+serving_orphan es s at serves = option_and_then (λ g. choose (serves g) g) (orphan_on es s at)
+
+-- A command on the orphan in a mode that serves, with what it is refused for after that.
+abbrev pub decide_orphan : Setting → Trace → ResourceArg → Option ℕ → (Grant → Bool) → List (Option Reply) → (Session → Grant → Decision) → Decision
+decide_orphan st es r asking serves refusals f =
+    with_session (session_named st es r.lockspace) (λ s.
+    unless_refused (session_refusal st es s
+    ∷ option_and_then (process_refusal es) asking
+    ∷ choose (is_none (serving_orphan es s (spot_of r) serves)) NoOrphan
+    ∷ refusals ++ pending_refusal st es (spot_of r) ∷ []) (option_map_or (f s) (serving_orphan es s (spot_of r) serves) (Replies NoOrphan)))
+
+-- A take-over, in the orphan's mode: no process that holds the resource itself may take it. It makes no call and meets no limit.
+abbrev pub decide_take_over : Setting → Trace → ResourceArg → ℕ → Bool → Decision
+decide_take_over st es r p shared =
+    decide_orphan st es r (Some p) (λ g. same_truth shared (is_shared g.mode)) (option_map (λ q. Busy q) (holds_already es (spot_of r) p) ∷ [])
+    (λ s g. TakesOver s g)
+
 -- The value is written with the next seq, unless that would pass its limit.
 abbrev pub setting_value : Session → Spot → Grant → ℕ → List ℕ → Decision
 setting_value s at g seq bytes =
     elim (is_number seq) [
       | false ↦ Replies (LimitReached SeqLimit)
-      | true ↦ Sets_value s at (record { host = s.id; lver = g.lver; seq = seq; bytes = bytes })
+      | true ↦ SetsValue s at (record { host = s.id; lver = g.lver; seq = seq; bytes = bytes })
     ]
 
 -- A request.
@@ -155,20 +171,26 @@ decide_add st es a =
 abbrev pub leave_refusal : Trace → Session → Option Reply
 leave_refusal es s = choose (not (is_number (last_seq es s + 1))) (LimitReached SeqLimit)
 
+-- An orphan under the session: nobody could be told to give it up.
+abbrev pub orphan_refusal : Trace → Session → Option Reply
+orphan_refusal es s = choose (list_any is_orphan (holdings_of es s)) (Busy no_process)
+
 -- A `rem_lockspace`.
 abbrev pub decide_leave : Setting → Trace → LockspaceArg → Decision
 decide_leave st es a =
-    with_session (matching_session st es a) (λ s. unless_refused (session_refusal st es s ∷ leave_refusal es s ∷ []) (Leaves s))
+    with_session (matching_session st es a) (λ s.
+    unless_refused (session_refusal st es s ∷ orphan_refusal es s ∷ leave_refusal es s ∷ []) (Leaves s))
 
 -- A command that only tells of a session.
 abbrev pub decide_report : Setting → Trace → LockspaceArg → (Session → Reply) → Decision
 decide_report st es a answer =
     with_session (matching_session st es a) (λ s. unless_refused (session_refusal st es s ∷ []) (Replies (answer s)))
 
--- The joined sessions, by lockspace name.
-abbrev pub session_words : Setting → Trace → List SessionOf
-session_words st es =
-    map (λ s. record { lockspace = s.lockspace; id = s.id; generation = generation_of es s }) (filter (is_joined es) (present_sessions st es))
+-- ---- kill programs
+
+-- A `set_killpath`.
+abbrev pub decide_killpath : Setting → Trace → ℕ → Decision
+decide_killpath st es p = unless_refused (process_refusal es p ∷ choose (is_killpath_limit st es p) (LimitReached Killpaths) ∷ []) (Replies Done)
 
 -- ---- all commands
 
@@ -178,14 +200,18 @@ decided st es now (AddLockspace a) = decide_add st es a
 decided st es now (RemLockspace a) = decide_leave st es a
 decided st es now (InqLockspace a) = decide_report st es a (λ s. Generation (generation_of es s))
 decided st es now (HostStatus a) = decide_report st es a (λ s. Hosts (states_seen st es s now))
-decided st es now (Acquire r shared p) = decide_acquire st es r (Some p) shared false
+decided st es now (Acquire r shared p persistent) = decide_acquire st es r (Some p) shared false
+decided st es now (TakeOver r shared p persistent) = decide_take_over st es r p shared
 decided st es now (RunProgram r shared path) = decide_acquire st es r None shared true
-decided st es now (Release r p) = decide_holder st es r p (λ g. true) (λ s g. Gives_up s g)
+decided st es now (Release r p) = decide_holder st es r p (λ g. true) (λ s g. GivesUp s g)
+decided st es now (ReleaseOrphan r) = decide_orphan st es r None (λ g. true) [] (λ s g. GivesUp s g)
+decided st es now (Convert r shared p) = decide_convert st es r p (wanted_mode (Convert r shared p))
 decided st es now (Request r lver how) = decide_request st es r
-decided st es now (GetLvb r p) = decide_holder st es r p (λ g. true) (λ s g. Gets_value s (spot_of r))
+decided st es now (GetLvb r p) = decide_holder st es r p (λ g. true) (λ s g. GetsValue s (spot_of r))
 decided st es now (SetLvb r p bytes) =
     decide_holder st es r p (λ g. not (is_shared g.mode)) (λ s g. setting_value s (spot_of r) g (next_value_seq st es s (spot_of r) g.lver) bytes)
-decided st es now Status = Replies (Sessions (session_words st es))
+decided st es now (SetKillpath p path) = decide_killpath st es p
+decided st es now Status = Replies (Sessions (sessions_seen st es))
 
 -- ---- carried out
 
@@ -203,13 +229,16 @@ carry_decision j c (Replies r) x = x
 carry_decision j c (Joins number a) x =
     add_call_of number a.path (Joining j FirstRead) (delta_offset x.setting.layout a.offset a.id) (ReadSectors 1) x
 carry_decision j c (Leaves s) x = signal_and_refuse s (Some j) x
-carry_decision j c (Reads_area s r) x = read_area s (spot_of r) (ForJob j) (ReadArea r.name) x
+carry_decision j c (ReadsArea s r) x = read_area s (spot_of r) (ForJob j) (ReadArea r.name) x
 carry_decision j c (Shares s lver) x = grant_for s j c Shared lver x
-carry_decision j c (Gives_up s g) x = after_end s (spot_of_grant g) j g (add_end (end_of g) x)
+carry_decision j c (GivesUp s g) x = after_end s (spot_of_grant g) j g (add_end (end_of g) x)
+carry_decision j c (TakesOver s g) x = grant_for s j c g.mode g.lver (add_end (end_of g) x)
+carry_decision j c (ConvertsTo s r mode) x =
+    carry_lease s (spot_of r) (ForJob j) (convert_next (known x.setting (seen x) s (spot_of r)) mode r.name) x
 carry_decision j c (Requests s r) x = add_call_at s r.path (RequestRead j) r.offset (ReadSectors 2) x
-carry_decision j c (Sets_value s at v) x =
+carry_decision j c (SetsValue s at v) x =
     add_call_at s at.path (ValueWrite j) (value_offset x.setting.layout at.base) (WriteRecord (ValueIs v)) x
-carry_decision j c (Gets_value s at) x = add_call_at s at.path (ValueRead j) (value_offset x.setting.layout at.base) (ReadSectors 1) x
+carry_decision j c (GetsValue s at) x = add_call_at s at.path (ValueRead j) (value_offset x.setting.layout at.base) (ReadSectors 1) x
 
 -- The reply of a command that is answered at once.
 abbrev pub reply_at_once : Decision → Option Reply

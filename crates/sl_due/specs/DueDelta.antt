@@ -7,9 +7,11 @@ use Rattle.sl_sector.specs.Bitmaps.{is_bit_set}
 use Rattle.sl_sector.specs.declared.sector.DeltaRec.{DeltaRec}
 use Rattle.sl_sector.specs.declared.sector.Rec.TheVariants.{DeltaIs}
 use Rattle.sl_sessions.specs.Deltas.{delta_of_session, next_after_free, next_after_renewal, next_in_joining, own_offset}
-use Rattle.sl_sessions.specs.Sessions.{Begun, Session, calls_of, generation_of, is_joined, recovery_of}
+use Rattle.sl_sessions.specs.Sessions.{calls_of, generation_of, is_joined, recovery_of}
 use Rattle.sl_sessions.specs.declared.delta.DeltaNext.TheVariants.{Disconnect, Join, EndLeaving, MoveConnection, ReadOwn, RegisterAndRead, RefuseJoin, Nothing, WriteClaim, WriteFirst, WriteFree, WriteRenewal}
 use Rattle.sl_sessions.specs.declared.delta.DeltaNext.{DeltaNext}
+use Rattle.sl_sessions.specs.declared.session.Begun.{Begun}
+use Rattle.sl_sessions.specs.declared.session.Session.{Session}
 use Rattle.sl_time.specs.Times.{fail}
 use Rattle.sl_trace.specs.Traces.{Setting, Submitted, Trace, is_running}
 use Rattle.sl_trace.specs.declared.effects.Grant.{Grant}

@@ -1,20 +1,37 @@
 -- What a step does before its input: recovery that is due, kills whose grace has passed, calls that took too long.
-use Rattle.sl_due.specs.Steps.{Step, add_move, add_reply, add_signal, for_each, seen, when, with_some}
+use Rattle.sl_due.specs.Steps.{Step, add_move, add_reply, add_signal, add_start, for_each, seen, when, with_some}
+use Rattle.sl_leases.specs.Counts.{stopper_of}
 use Rattle.sl_leases.specs.Jobs.{jobs_of_session}
-use Rattle.sl_sessions.specs.Sessions.{Begun, Session, has_open_write, holders_of, is_joined, last_renewal, leaving_of, present_sessions, recovery_of, refused_after, session_of_job}
+use Rattle.sl_sessions.specs.Sessions.{has_open_write, holders_of, is_joined, last_renewal, leaving_of, present_sessions, recovery_of, refused_after, session_of_job}
+use Rattle.sl_sessions.specs.declared.session.Begun.{Begun}
+use Rattle.sl_sessions.specs.declared.session.Session.{Session}
 use Rattle.sl_trace.specs.Connections.{is_registered}
-use Rattle.sl_trace.specs.Traces.{Job, Setting, Submitted, Trace, last_reading, running_jobs, waiting_call}
+use Rattle.sl_trace.specs.Traces.{Job, Setting, Submitted, Trace, last_reading, next_child, running_jobs, waiting_call}
 use Rattle.sl_trace.specs.declared.effects.Move.TheVariants.{Unregister}
 use Rattle.sl_trace.specs.declared.effects.Signal.TheVariants.{Kill, Term}
 use Rattle.sl_trace.specs.declared.effects.Signal.{Signal}
 use Rattle.sl_trace.specs.declared.reply.Reply.TheVariants.{IoTimeout, Recovering}
 use Rattle.sl_trace.specs.declared.reply.Reply.{Reply}
 use Rattle.sl_words.specs.Words.{some_is}
-use Rattle.std.specs.Prelude.{Bool, List, None, Option, false, filter, is_some, length, nat_le, nat_lt, not, [], ℕ, ◌&&◌, ◌+◌, ◌==◌, ◌||◌, ◌∷◌}
+use Rattle.std.specs.Prelude.{Bool, List, None, Option, Some, false, filter, is_some, length, nat_le, nat_lt, not, [], ℕ, ◌&&◌, ◌+◌, ◌==◌, ◌||◌, ◌∷◌}
 
--- Each holder is sent this signal, by number.
+-- A process is told to stop: its kill program is started as a child that holds nothing; where it has none, or no child number is left,
+-- it is sent term.
+abbrev pub tell_to_stop : ℕ → Step → Step
+tell_to_stop p x =
+    elim (stopper_of x.setting (seen x) p) [
+      | None ↦ add_signal p Term x
+      | Some program ↦ add_start (record { process = next_child (seen x); program = program; job = None; stands_for = Some p }) x
+    ]
+
+-- A process is sent this signal, or told to stop.
+abbrev pub send : ℕ → Signal → Step → Step
+send p Term x = tell_to_stop p x
+send p Kill x = add_signal p Kill x
+
+-- Each holder is sent this signal, or told to stop, by number.
 abbrev pub signal_holders : Signal → Session → Step → Step
-signal_holders signal s x = for_each (holders_of (seen x) s) (λ p. add_signal p signal) x
+signal_holders signal s x = for_each (holders_of (seen x) s) (λ p. send p signal) x
 
 -- Each running job of the session but `kept` is refused, by number.
 abbrev pub refuse_jobs : Session → Option ℕ → Step → Step
@@ -22,7 +39,7 @@ refuse_jobs s kept x =
     for_each (filter (λ j. not (some_is (λ k. k == j.number) kept)) (jobs_of_session x.setting (seen x) s))
     (λ j. add_reply j.number (Recovering (last_renewal x.setting (seen x) s))) x
 
--- A recovery or a leaving begins: the session's holders are sent term, its running jobs refused but one that is kept.
+-- A recovery or a leaving begins: the session's holders are told to stop, its running jobs refused but one that is kept.
 unfoldable pub signal_and_refuse : Session → Option ℕ → Step → Step
 signal_and_refuse s kept x = refuse_jobs s kept (signal_holders Term s x)
 

@@ -1,23 +1,25 @@
 -- How a session does what one of its leases decided.
 use Rattle.sl_area.specs.Places.{block_offset, leader_offset}
-use Rattle.sl_due.specs.Steps.{Step, add_call_at, add_grant, add_reply, add_start, seen, with_some}
-use Rattle.sl_leases.specs.Jobs.{aim_of, command_numbered}
+use Rattle.sl_due.specs.Steps.{Step, add_call_at, add_end, add_grant, add_reply, add_start, seen, with_some}
+use Rattle.sl_leases.specs.Jobs.{aim_of, command_numbered, process_named}
 use Rattle.sl_leases.specs.LeaseWork.{lease_next, lease_place, settle_next}
-use Rattle.sl_leases.specs.Leases.{known, lver_written, spot_of_call}
+use Rattle.sl_leases.specs.Leases.{holdings_on, known, lver_written, spot_of_call}
 use Rattle.sl_leases.specs.declared.lease.Aim.{Aim}
-use Rattle.sl_leases.specs.declared.lease.LeaseNext.TheVariants.{AnswerJob, GrantJob, ReadFor, Nothing, WriteBlock, WriteLeader}
+use Rattle.sl_leases.specs.declared.lease.LeaseNext.TheVariants.{AnswerJob, BecomeExclusive, BecomeShared, GrantJob, ReadFor, Nothing, WriteBlock, WriteLeader}
 use Rattle.sl_leases.specs.declared.lease.LeaseNext.{LeaseNext}
 use Rattle.sl_sector.specs.declared.sector.Block.{Block}
 use Rattle.sl_sector.specs.declared.sector.Leader.{Leader}
 use Rattle.sl_sector.specs.declared.sector.Rec.TheVariants.{BlockIs, LeaderIs}
-use Rattle.sl_sessions.specs.Sessions.{Session, is_active}
-use Rattle.sl_trace.specs.Traces.{Setting, Submitted, Trace, is_running, next_child, work_job}
-use Rattle.sl_trace.specs.declared.command.Command.TheVariants.{Acquire, RunProgram}
+use Rattle.sl_sessions.specs.Sessions.{is_active}
+use Rattle.sl_sessions.specs.declared.session.Session.{Session}
+use Rattle.sl_trace.specs.Traces.{Setting, Submitted, Trace, end_of, is_running, is_shared, next_child, work_job}
+use Rattle.sl_trace.specs.declared.command.Command.TheVariants.{Acquire, RunProgram, TakeOver}
 use Rattle.sl_trace.specs.declared.command.Command.{Command}
 use Rattle.sl_trace.specs.declared.command.ResourceArg.{ResourceArg}
 use Rattle.sl_trace.specs.declared.effects.Grant.{Grant}
-use Rattle.sl_trace.specs.declared.effects.LeaseStep.TheVariants.{ReadArea, ReadBeforeFree}
+use Rattle.sl_trace.specs.declared.effects.LeaseStep.TheVariants.{ClearMode, FreeLeader, ReadArea, ReadBeforeFree}
 use Rattle.sl_trace.specs.declared.effects.LeaseStep.{LeaseStep}
+use Rattle.sl_trace.specs.declared.effects.Mode.TheVariants.{Exclusive, Shared}
 use Rattle.sl_trace.specs.declared.effects.Mode.{Mode}
 use Rattle.sl_trace.specs.declared.effects.Op.TheVariants.{ReadSectors, WriteRecord}
 use Rattle.sl_trace.specs.declared.effects.Op.{Op}
@@ -27,7 +29,8 @@ use Rattle.sl_trace.specs.declared.effects.Work.TheVariants.{ForJob, Settling}
 use Rattle.sl_trace.specs.declared.effects.Work.{Work}
 use Rattle.sl_trace.specs.declared.input.Answer.{Answer}
 use Rattle.sl_trace.specs.declared.reply.Reply.TheVariants.{Granted}
-use Rattle.std.specs.Prelude.{Bool, List, Some, false, true, ℕ, ◌+◌}
+use Rattle.sl_words.specs.Words.{same_truth}
+use Rattle.std.specs.Prelude.{Bool, List, None, Option, Some, false, find, not, true, ℕ, ◌&&◌, ◌+◌, ◌==◌}
 
 -- A call for a lease.
 abbrev pub lease_call : Session → Spot → Work → LeaseStep → ℕ → Op → Step → Step
@@ -58,8 +61,8 @@ write_leader s at work step l x = lease_call s at work step (leader_offset at.ba
 -- ---- grants
 
 -- A grant under the session, with the names of the command.
-abbrev pub grant_of : Session → ResourceArg → ℕ → Mode → ℕ → Grant
-grant_of s r p mode lver =
+abbrev pub grant_of : Session → ResourceArg → ℕ → Mode → ℕ → Bool → Grant
+grant_of s r p mode lver persistent =
     record {
       process = p;
       session = s.number;
@@ -69,19 +72,37 @@ grant_of s r p mode lver =
       offset = r.offset;
       mode = mode;
       lver = lver;
-      persistent = false;
+      persistent = persistent;
     }
 
 -- A program is started for the job, and holds the resource from here on.
 abbrev pub start_for : Session → ℕ → ResourceArg → List ℕ → Mode → ℕ → ℕ → Step → Step
 start_for s j r path mode lver child x =
-    add_start (record { process = child; program = path; job = Some j }) (add_grant (grant_of s r child mode lver) x)
+    add_start (record { process = child; program = path; job = Some j; stands_for = None }) (add_grant (grant_of s r child mode lver false) x)
+
+-- The job's process is granted the resource, and the job is answered.
+abbrev pub grant_process : Session → ℕ → ResourceArg → ℕ → Mode → ℕ → Bool → Step → Step
+grant_process s j r p mode lver persistent x = add_reply j (Granted lver) (add_grant (grant_of s r p mode lver persistent) x)
 
 -- An acquire is answered at once; a command starts its program.
 abbrev pub grant_for : Session → ℕ → Command → Mode → ℕ → Step → Step
-grant_for s j (Acquire r shared p) mode lver x = add_reply j (Granted lver) (add_grant (grant_of s r p mode lver) x)
+grant_for s j (Acquire r shared p persistent) mode lver x = grant_process s j r p mode lver persistent x
+grant_for s j (TakeOver r shared p persistent) mode lver x = grant_process s j r p mode lver persistent x
 grant_for s j (RunProgram r shared path) mode lver x = start_for s j r path mode lver (next_child (seen x)) x
 grant_for s j c mode lver x = x
+
+-- The process's holding in the other mode.
+abbrev pub held_otherwise : Trace → Session → Spot → ℕ → Mode → Option Grant
+held_otherwise es s at p mode = find (λ g. g.process == p && not (same_truth (is_shared g.mode) (is_shared mode))) (holdings_on es s at)
+
+-- A holding ends and one of the same process in this mode begins, as persistent as it was; the job is answered.
+abbrev pub convert_holding : ℕ → Mode → ℕ → Grant → Step → Step
+convert_holding j mode lver g x = add_reply j (Granted lver) (add_grant (record g { mode = mode; lver = lver }) (add_end (end_of g) x))
+
+-- The conversion that the job asked for is done.
+abbrev pub convert_for : Session → Spot → ℕ → Command → Mode → ℕ → Step → Step
+convert_for s at j c mode lver x =
+    with_some (process_named c) (λ p y. with_some (held_otherwise (seen y) s at p mode) (convert_holding j mode lver) y) x
 
 -- The command of a job.
 abbrev pub with_command : ℕ → (Command → Step → Step) → Step → Step
@@ -99,6 +120,10 @@ carry_lease s at work (WriteBlock step b) x = write_block s at work step b x
 carry_lease s at work (WriteLeader step l) x = write_leader s at work step l x
 carry_lease s at work (AnswerJob r) x = for_work work (λ j. add_reply j r) x
 carry_lease s at work (GrantJob mode lver) x = for_work work (λ j. with_command j (λ c. grant_for s j c mode lver)) x
+carry_lease s at work (BecomeShared lver l) x =
+    write_leader s at Settling FreeLeader l (for_work work (λ j. with_command j (λ c. convert_for s at j c Shared lver)) x)
+carry_lease s at work (BecomeExclusive lver b) x =
+    write_block s at Settling ClearMode b (for_work work (λ j. with_command j (λ c. convert_for s at j c Exclusive lver)) x)
 
 -- A job's work goes on while the job runs, a settling while the session is neither in recovery nor leaving.
 abbrev pub goes_on : Setting → Trace → Session → Work → Bool

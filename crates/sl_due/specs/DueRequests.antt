@@ -1,15 +1,16 @@
 -- What the calls on requests and values make due.
 use Rattle.sl_area.specs.Layouts.{Layout, record_in}
 use Rattle.sl_area.specs.Places.{leader_of, read_at, request_offset}
-use Rattle.sl_due.specs.Steps.{Step, add_call_at, add_reply, add_signal, seen, with_some}
+use Rattle.sl_due.specs.DueFirst.{send}
+use Rattle.sl_due.specs.Steps.{Step, add_call_at, add_reply, seen, when, with_some}
 use Rattle.sl_leases.specs.Leases.{exclusive_on, is_leader_of, spot_of_call}
 use Rattle.sl_request.specs.Requests.{check_request}
 use Rattle.sl_sector.specs.Bitmaps.{bitmap_of}
 use Rattle.sl_sector.specs.Spelling.{request_in, value_in}
 use Rattle.sl_sector.specs.declared.sector.Rec.TheVariants.{RequestIs}
-use Rattle.sl_sessions.specs.Sessions.{Session}
+use Rattle.sl_sessions.specs.declared.session.Session.{Session}
 use Rattle.sl_time.specs.Times.{fail}
-use Rattle.sl_trace.specs.Traces.{Setting, Submitted, is_ok_answer}
+use Rattle.sl_trace.specs.Traces.{Setting, Submitted, is_ok_answer, is_orphan}
 use Rattle.sl_trace.specs.declared.command.Command.TheVariants.{Request}
 use Rattle.sl_trace.specs.declared.command.Command.{Command}
 use Rattle.sl_trace.specs.declared.command.ResourceArg.{ResourceArg}
@@ -86,11 +87,11 @@ abbrev pub signal_of_request : Layout → List ℕ → Grant → Option Signal
 signal_of_request g bytes held =
     option_and_then (λ q. choose (nat_lt held.lver q.lver) (signal_of_force q.force)) (request_in (record_in g bytes))
 
--- After the read of a request under an exclusive holding: its holder is signalled where it asks for more.
+-- After the read of a request under an exclusive holding: its holder is signalled, or told to stop, where it asks for more. It does nothing to an orphan.
 unfoldable pub after_see_request : Session → Submitted → List ℕ → Step → Step
 after_see_request s m bytes x =
     with_some (exclusive_on (seen x) s (spot_of_call x.setting.layout m)) (λ g.
-    with_some (signal_of_request x.setting.layout bytes g) (add_signal g.process)) x
+    when (not (is_orphan g)) (with_some (signal_of_request x.setting.layout bytes g) (send g.process))) x
 
 -- The reply by a value's sector.
 abbrev pub value_reply : Layout → List ℕ → Reply

@@ -1,6 +1,7 @@
 pub mod Replayed
 pub mod RefusedLines
 pub mod Lawful
+pub mod OwnTraces
 pub mod Safe
 pub mod WithSha
 pub mod Refused

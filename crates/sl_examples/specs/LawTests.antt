@@ -4,16 +4,18 @@ use Rattle.sl_area.specs.Places.{area_blocks, block_offset, is_base, leader_of, 
 use Rattle.sl_law.specs.LawfulArea.{is_area_work, is_block_work, is_delta_record, leaders_read, open_block_work, record_offset}
 use Rattle.sl_law.specs.LawfulCalls.{may_submit}
 use Rattle.sl_law.specs.LawfulDelta.{is_on_own_sector}
+use Rattle.sl_law.specs.LawfulEnd.{gives_up, takes_over}
 use Rattle.sl_law.specs.LawfulLeader.{holds_under, open_writes_on}
 use Rattle.sl_law.specs.LawfulModes.{shared_since}
-use Rattle.sl_law.specs.LawfulRecovery.{is_leaving_write, was_killed}
+use Rattle.sl_law.specs.LawfulParting.{is_leaving_write}
+use Rattle.sl_law.specs.LawfulRecovery.{was_killed}
 use Rattle.sl_law.specs.LawfulValue.{held_since, writes_since}
 use Rattle.sl_law.specs.LawfulWatchdog.{acts_until, is_covered}
 use Rattle.sl_law.specs.Saying.{cut_at, newest_moves, older}
 use Rattle.sl_leases.specs.Ballots.{ballot_blocks, moded_block, owner_of, phase1_block, phase2_block, same_owner, stop_of}
 use Rattle.sl_leases.specs.Counts.{next_value_seq}
 use Rattle.sl_leases.specs.Jobs.{jobs_of_session}
-use Rattle.sl_leases.specs.Leases.{Leader_freed, Leader_taken, Mode_set, Phase1_read, Phase1_write, Phase2_read, Phase2_write, block_of_host, block_written, blocks_given, ended_ballot, ended_ballots, exclusive_on, freed, has_shared_on, holdings_on, is_area_read, is_at, is_block_read, is_free_write, is_leader_of, last_blocks, leader_written, lease_calls, lease_step, own_block, spot_of_call, value_written}
+use Rattle.sl_leases.specs.Leases.{block_of_host, block_written, blocks_given, ended_ballot, ended_ballots, exclusive_on, freed, has_shared_on, holdings_on, is_area_read, is_at, is_block_read, is_free_write, is_leader_of, last_blocks, Leader_freed, Leader_taken, leader_written, lease_calls, lease_step, Mode_set, own_block, Phase1_read, Phase1_write, Phase2_read, Phase2_write, spot_of_call, value_written}
 use Rattle.sl_run.specs.Runs.{daemons_of}
 use Rattle.sl_run.specs.Worlds.{World}
 use Rattle.sl_sector.specs.Bitmaps.{no_bits}
@@ -26,14 +28,16 @@ use Rattle.sl_sector.specs.declared.sector.Rec.TheVariants.{BlockIs, DeltaIs}
 use Rattle.sl_sector.specs.declared.sector.Rec.{Rec}
 use Rattle.sl_sector.specs.declared.sector.ValueRec.{ValueRec}
 use Rattle.sl_sessions.specs.Deltas.{claim_of, delta_of_session, delta_record, first_answered, first_bytes}
-use Rattle.sl_sessions.specs.Sessions.{Begun, Session, calls_of, delta_written, free_write, generation_of, has_open_delta, has_open_write, holders_of, holdings_of, is_active, is_delta_purpose, is_join_call, is_joined, is_leaving, is_present, is_recovering, is_survey_purpose, join_call, joined_after, last_seq, leaving_job, leaving_of, me, open_calls_of, recovery_of, session_named, session_numbered, sessions, stage_of}
+use Rattle.sl_sessions.specs.Sessions.{calls_of, delta_written, free_write, generation_of, has_open_delta, has_open_write, holders_of, holdings_of, is_active, is_delta_purpose, is_join_call, is_joined, is_leaving, is_present, is_recovering, is_survey_purpose, join_call, joined_after, last_seq, leaving_job, leaving_of, me, open_calls_of, recovery_of, session_named, session_numbered, sessions, stage_of}
 use Rattle.sl_sessions.specs.Watching.{counted_over, is_free_state}
+use Rattle.sl_sessions.specs.declared.session.Begun.{Begun}
+use Rattle.sl_sessions.specs.declared.session.Session.{Session}
 use Rattle.sl_sessions.specs.declared.stage.Stage.TheVariants.{Claiming, Deciding, Ended, FirstRenewing, Freeing, Looking, Refused, Standing, Verifying, Waiting}
 use Rattle.sl_sessions.specs.declared.stage.Stage.{Stage}
 use Rattle.sl_time.specs.Times.{dead, fail, join_max, take_over}
 use Rattle.sl_trace.specs.Connections.{connection_named, connections, is_registered, registers, registers_with, unregisters}
 use Rattle.sl_trace.specs.EffectTexts.{is_ok_reply}
-use Rattle.sl_trace.specs.Traces.{Setting, Submitted, Trace, gave, holdings, is_answered_ok, is_ok_answer, is_shared, is_write, new_call, last_reading, record_of, same_place, spot_of_grant, submitted}
+use Rattle.sl_trace.specs.Traces.{end_of, exited_by, gave, has_orphan_of, held_by, holdings, is_answered_ok, is_ended_by, is_ok_answer, is_orphan, is_shared, is_write, last_reading, line_in, new_call, record_of, same_place, Setting, spot_of_grant, Submitted, submitted, Trace}
 use Rattle.sl_trace.specs.declared.effects.Entry.{Entry}
 use Rattle.sl_trace.specs.declared.effects.Grant.{Grant}
 use Rattle.sl_trace.specs.declared.effects.JoinStep.TheVariants.{ClaimWrite, DecidingRead, FirstRead, FirstRenewal, VerifyRead, WatchRead}
@@ -44,6 +48,7 @@ use Rattle.sl_trace.specs.declared.effects.Purpose.TheVariants.{RequestRead, Joi
 use Rattle.sl_trace.specs.declared.effects.Purpose.{Purpose}
 use Rattle.sl_trace.specs.declared.effects.Signal.TheVariants.{Kill, Term}
 use Rattle.sl_trace.specs.declared.effects.Spot.{Spot}
+use Rattle.sl_trace.specs.declared.input.Input.TheVariants.{Spawned}
 use Rattle.sl_trace.specs.declared.reply.Reply.TheVariants.{Value}
 use Rattle.sl_trace.specs.declared.reply.Reply.{Reply}
 use Rattle.sl_words.specs.Words.{choose, present, same_truth, some_is}
@@ -387,11 +392,19 @@ shared_by_test st es s at n read mode free =
     && list_all (λ d. implies (is_free_write n d) (nat_le free.call.number d.call.number)) (lease_calls st es s at)
     && all_shared_test st es s at mode && not (shared_since read.at es s at)
 
+-- Whether this write of the mode justifies a shared grant by conversion.
+abbrev pub conversion_test : Setting → Trace → Trace → Session → Spot → ℕ → Submitted → Bool
+conversion_test st past es s at n mode =
+    some_is (λ h. h.lver == n) (exclusive_on past s at) && is_none (exclusive_on es s at)
+    && some_is (λ b. b.shared && b.mode_gen == generation_of es s && b.lver == n) (block_written mode)
+    && some_is (λ a. a.at == length past && is_ok_answer a.answer) mode.answer && all_shared_test st es s at mode
+
 -- A shared grant.
 abbrev pub shared_grant_test : Setting → Trace → Trace → Session → Spot → ℕ → Bool
 shared_grant_test st past es s at n =
     let cs : List Submitted = lease_calls st es s at in
     list_any (λ h. is_shared h.mode && h.lver == n) (holdings_on past s at)
+    || list_any (conversion_test st past es s at n) (filter (is_at Mode_set) cs)
     || list_any (λ read. list_any (λ mode. list_any (shared_by_test st es s at n read mode) (filter (is_at Leader_freed) cs)) (filter (is_at Mode_set) cs)) (filter (is_at Phase2_read) cs)
 
 -- Whether no shared mode of another stood in these blocks.
@@ -438,13 +451,39 @@ taken_test st es s at n = list_any (λ c. some_is (λ l. l.held && l.lver == n) 
 -- A grant.
 abbrev pub grant_to_test : Setting → Trace → Session → Grant → Bool
 grant_to_test st es s g =
-    is_active st es s && bytes_eq g.lockspace s.lockspace && is_base st.layout g.offset
+    (is_orphan g || is_active st es s) && bytes_eq g.lockspace s.lockspace && is_base st.layout g.offset
     && list_all (λ h. not (same_place h.path h.offset g.path g.offset) || h.process == g.process || is_shared h.mode && is_shared g.mode) (holdings es)
+    && length (held_by (holdings es) g.process g.path g.offset) == 1
     && (is_shared g.mode || taken_test st es s (spot_of_grant g) g.lver && nat_lt (freed (lease_calls st es s (spot_of_grant g))) g.lver)
+
+-- An orphan.
+abbrev pub orphan_test : Trace → Entry → Grant → Bool
+orphan_test past e g =
+    not (has_orphan_of (holdings past) g)
+    && list_any (λ h. some_is (λ p. p == h.process) (exited_by e.input) && h.persistent && same_place h.path h.offset g.path g.offset
+    && h.session == g.session && h.lver == g.lver && same_truth (is_shared h.mode) (is_shared g.mode)) (holdings past)
 
 -- The law of grants.
 abbrev pub grant_test : Setting → Trace → Entry → Bool
-grant_test st past e = each_grant st (grant_to_test st (e ∷ past)) past e
+grant_test st past e =
+    each_grant st (grant_to_test st (e ∷ past)) past e
+    && list_all (λ g. implies (is_orphan g) (orphan_test past e g)) e.effects.grants
+    && list_all (λ h. implies (not (is_orphan h) && some_is (λ p. p == h.process) (exited_by e.input) && h.persistent) (has_orphan_of (holdings (e ∷ past)) h)) (holdings past)
+
+-- Why a holding ends.
+abbrev pub end_reason_test : Setting → Entry → Grant → Bool
+end_reason_test st e g =
+    not (is_orphan g) && some_is (λ p. p == g.process) (exited_by e.input)
+    || elim e.input [ Spawned p ok ↦ p == g.process && not ok | _ ↦ false ]
+    || some_is (λ text. gives_up g (st.read text)) (line_in e.input)
+    || list_any (λ h. same_place h.path h.offset g.path g.offset
+    && (h.process == g.process && same_truth h.persistent g.persistent || some_is (λ text. takes_over g h (st.read text)) (line_in e.input))) e.effects.grants
+
+-- The law of ends.
+abbrev pub end_test : Setting → Trace → Entry → Bool
+end_test st past e =
+    list_all (λ x. list_any (λ g. g.process == x.process && same_place g.path g.offset x.path x.offset && end_reason_test st e g) (holdings past)) e.effects.ends
+    && list_all (λ g. implies (not (is_orphan g) && some_is (λ p. p == g.process) (exited_by e.input)) (is_ended_by e.effects.ends g)) (holdings past)
 
 -- ---- watchdog, recovery, values
 
@@ -465,7 +504,7 @@ sends_term e p = list_any (λ s. s.process == p && elim s.signal [ Term ↦ true
 -- What a start of recovery or leaving does.
 abbrev pub stops_test : Setting → Trace → Entry → Session → Option ℕ → Bool
 stops_test st past e s kept =
-    list_all (sends_term e) (holders_of past s)
+    list_all (λ p. sends_term e p || list_any (λ x. some_is (λ q. q == p) x.stands_for) e.effects.starts) (holders_of past s)
     && list_all (λ j. some_is (λ k. k == j.number) kept || list_any (λ a. a.job == j.number && not (is_ok_reply a.reply)) e.effects.replies) (jobs_of_session st past s)
 
 -- The kills after a start.
@@ -538,7 +577,7 @@ broken_laws st past e =
     present (choose (not (calls_test st past e)) 1 ∷ choose (not (delta_test st past e)) 2 ∷ choose (not (area_test st past e)) 3
     ∷ choose (not (block_test st past e)) 4 ∷ choose (not (leader_test st past e)) 5 ∷ choose (not (modes_test st past e)) 6
     ∷ choose (not (watchdog_test st past e)) 7 ∷ choose (not (grant_test st past e)) 8 ∷ choose (not (recovery_test st past e)) 9
-    ∷ choose (not (value_test st past e)) 10 ∷ [])
+    ∷ choose (not (value_test st past e)) 10 ∷ choose (not (end_test st past e)) 11 ∷ [])
 
 -- The entries of a trace that break laws, with these laws.
 abbrev pub broken_in : Setting → Trace → List (ℕ × List ℕ)

@@ -1,4 +1,5 @@
 -- What the worked schedules show.
+use Rattle.sl_examples.specs.OwnTraces.{exit_of_none, keeps_all, on_own_area}
 use Rattle.sl_examples.specs.RefusedLines.{refused_events, refused_headers, tears}
 use Rattle.sl_examples.specs.Rows.{acquire_and_release, answer_after_its_session, crash_with_holder, failing, late_landing, leaving, owner_reset_then_taken_over, recovery, recovery_with_write, refusals, request, rival, settled_win, shared, torn_phase2, torn_value, two_claims}
 use Rattle.sl_examples.specs.WorldTests.{has_last_line, keeps_laws, replays, stays_safe}
@@ -23,6 +24,13 @@ pub record TracesKeepLaws : Type 0 where
   pub sharing : failing keeps_laws (shared ∷ []) ≡ []
   pub ending : failing keeps_laws (recovery ∷ leaving ∷ late_landing ∷ []) ≡ []
   pub asking : failing keeps_laws (request ∷ torn_value ∷ []) ≡ []
+
+-- What is due on literal answers, of which a world would not give each, keeps each law too.
+pub record LiteralTracesKeepLaws : Type 0 where
+  -- a resource at the place of the own lockspace: renewals lie there too
+  pub own_area : keeps_all on_own_area ≡ true
+  -- an orphan stays where the number of no process exits
+  pub nobody_exits : keeps_all exit_of_none ≡ true
 
 -- These runs are safe after each event: tests of what safety says of a world.
 pub record RunsStaySafe : Type 0 where

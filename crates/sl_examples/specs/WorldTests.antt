@@ -12,23 +12,25 @@ use Rattle.sl_report.specs.Schedules.{EventLine, Header_read, Header_refused, ev
 use Rattle.sl_run.specs.Conflicts.{has_conflict, world_holdings}
 use Rattle.sl_run.specs.Events.{happens}
 use Rattle.sl_run.specs.Runs.{Happening, world_after}
-use Rattle.sl_run.specs.Safety.{Found, SessionId, ballots_of, block_there, found_generation, is_course_of, is_over, same_lockspace, session_of_world, setting_in, trace_of}
-use Rattle.sl_run.specs.Worlds.{Course, Machine, World, content, daemons_on, is_open, is_write_course, resets_after, world_with}
+use Rattle.sl_run.specs.Safety.{Found, SessionId, ballots_of, block_there, found_generation, is_course_of, is_over, landed_in_own, same_lockspace, session_of_world, setting_in, trace_of}
+use Rattle.sl_run.specs.Worlds.{Course, Landing, Machine, World, content, daemons_on, is_open, is_write_course, resets_after, world_with}
 use Rattle.sl_run.specs.declared.event.Event.{Event}
 use Rattle.sl_run.specs.declared.header.Header.{Header}
 use Rattle.sl_sector.specs.Spelling.{delta_in}
 use Rattle.sl_sector.specs.declared.sector.Owner.{Owner}
 use Rattle.sl_sessions.specs.Deltas.{own_offset}
-use Rattle.sl_sessions.specs.Sessions.{joined_after, sessions}
+use Rattle.sl_sessions.specs.Sessions.{is_join_call, joined_after, sessions}
 use Rattle.sl_sessions.specs.Watching.{counts_over}
 use Rattle.sl_text.specs.Forms.{as_bytes}
 use Rattle.sl_trace.specs.Connections.{connection_named}
 use Rattle.sl_trace.specs.Traces.{is_shared}
+use Rattle.sl_trace.specs.declared.effects.JoinStep.TheVariants.{ClaimWrite}
+use Rattle.sl_trace.specs.declared.effects.Purpose.{Purpose}
 use Rattle.sl_trace.specs.declared.effects.Spot.{Spot}
 use Rattle.sl_words.specs.Words.{is_empty, last_of, some_is}
 use Rattle.std.specs.List.{enumerate_from, list_all, list_any}
 use Rattle.std.specs.Option.{option_map_or}
-use Rattle.std.specs.Prelude.{Bool, Err, List, None, Ok, Some, bytes_eq, false, filter, filter_map, flat_map, is_some, map, nat_le, not, option_map, true, [], ℕ, ◌&&◌, ◌+◌, ◌==◌, ◌||◌, ◌∷◌}
+use Rattle.std.specs.Prelude.{Bool, Err, List, None, Ok, Some, bytes_eq, false, filter, filter_map, flat_map, is_some, map, nat_le, nat_lt, not, option_map, true, [], ℕ, ◌&&◌, ◌+◌, ◌==◌, ◌||◌, ◌∷◌}
 
 -- The sessions of a machine.
 abbrev pub ids_of_machine : ℕ × Machine → List SessionId
@@ -61,12 +63,23 @@ one_for_id_test w =
     let all : List (SessionId × Found) = filter (λ p. has_joined p && not (is_over p.0 p.1)) (ids w) in
     list_all (λ p. list_all (λ q. same_id p.0 q.0 || not (same_lockspace p.1 q.1 && p.1.session.id == q.1.session.id)) all) all
 
--- Its sector holds its record, or torn bytes.
+-- Whether the landing is of a write of the session whose purpose passes.
+abbrev pub own_landing_test : SessionId × Found → (Purpose → Bool) → Landing → Bool
+own_landing_test p serves l =
+    some_is (λ q. q.0 == p.0.machine && list_any (λ c. is_course_of p.0 c && c.call.number == q.1 && serves c.call.purpose) p.1.machine.calls) l.writer
+
+-- What landed in its sector is its own, but what came before its claim.
+abbrev pub alone_test : SessionId × Found → List Landing → Bool
+alone_test p ls =
+    list_all (λ l. own_landing_test p (λ x. true) l || list_any (λ k. k.whole && nat_lt l.step k.step && own_landing_test p (is_join_call ClaimWrite) k) ls) ls
+
+-- Its sector holds its record, or torn bytes, and nobody else has written there.
 abbrev pub own_sector_test : World → SessionId × Found → Bool
 own_sector_test w p =
     elim (has_joined p && not (is_over p.0 p.1)) [
       | false ↦ true
-      | true ↦ option_map_or (λ d. d.generation == found_generation p.1 && some_is (bytes_eq p.1.daemon.setting.name) d.host)
+      | true ↦ alone_test p (landed_in_own w p.1)
+          && option_map_or (λ d. d.generation == found_generation p.1 && some_is (bytes_eq p.1.daemon.setting.name) d.host)
           (delta_in (record_in w.layout (content w p.1.session.path (own_offset (setting_in p.1) p.1.session)))) true
     ]
 

@@ -1,6 +1,6 @@
 //! What the worked schedules show.
 
-ghost use Rattle.sl_examples.specs.Shown.{SchedulesReplay, TracesKeepLaws, RunsStaySafe, LinesAreRefused};
+ghost use Rattle.sl_examples.specs.Shown.{SchedulesReplay, TracesKeepLaws, LiteralTracesKeepLaws, RunsStaySafe, LinesAreRefused};
 
 /// Each worked schedule gives its report, each daemon doing what is due.
 pub fn schedules_replay()
@@ -10,6 +10,11 @@ pub fn schedules_replay()
 /// The traces of these runs keep each law, so none of the laws is empty. (Tests that mirror the laws field by field.)
 pub fn traces_keep_laws()
     ensures { TracesKeepLaws }
+{}
+
+/// What is due on literal answers, of which a world would not give each, keeps each law too.
+pub fn literal_traces_keep_laws()
+    ensures { LiteralTracesKeepLaws }
 {}
 
 /// These runs are safe after each event: tests of what safety says of a world.

@@ -20,7 +20,8 @@ use Rattle.sl_leases.specs.Leases.{is_on, lease_step, lver_written, spot_of, spo
 use Rattle.sl_leases.specs.declared.lease.Aim.TheVariants.{Acquires}
 use Rattle.sl_leases.specs.declared.lease.Aim.{Aim}
 use Rattle.sl_leases.specs.declared.lease.LeaseNext.TheVariants.{AnswerJob, GrantJob}
-use Rattle.sl_sessions.specs.Sessions.{Session, delta_written, is_present, session_numbered}
+use Rattle.sl_sessions.specs.Sessions.{delta_written, is_present, session_numbered}
+use Rattle.sl_sessions.specs.declared.session.Session.{Session}
 use Rattle.sl_trace.specs.Traces.{Setting, Submitted, Trace, holdings, jobs, next_call, no_effects, submitted}
 use Rattle.sl_trace.specs.declared.command.Command.TheVariants.{Acquire}
 use Rattle.sl_trace.specs.declared.command.ResourceArg.{ResourceArg}

@@ -1,6 +1,7 @@
 -- What a calm trace tells of its session.
 use Rattle.sl_first.specs.FirstPath.{IsCalm, IsFirst, IsFirstCommand, first_session}
-use Rattle.sl_sessions.specs.Sessions.{Session, added, added_by, begun_in, given_session, is_join_call, is_joined, is_present, joining_session, present_sessions, removed_after, removed_in, sessions, with_begun}
+use Rattle.sl_sessions.specs.Sessions.{added, added_by, begun_in, given_session, is_join_call, is_joined, is_present, joining_session, present_sessions, removed_after, removed_in, sessions, with_begun}
+use Rattle.sl_sessions.specs.declared.session.Session.{Session}
 use Rattle.sl_trace.specs.Connections.{unregisters}
 use Rattle.sl_trace.specs.Traces.{Setting, Trace, next_job}
 use Rattle.sl_trace.specs.declared.command.Command.{Command}

@@ -1,7 +1,9 @@
 -- In a calm trace no recovery and no leaving begins.
 use Rattle.sl_first.specs.FirstPath.{IsCalm, IsFirst, IsFirstCommand, first_session}
 use Rattle.sl_leases.specs.Leases.{is_lease_call, lease_step}
-use Rattle.sl_sessions.specs.Sessions.{Renewing, Session, is_call_of, is_joined, is_renewal, is_survey_purpose, leaves, leaving_in, leaving_job, recovery_of, renewed_by, renewing, renewing_after, shows_other, shows_other_in, generation_of, recovers}
+use Rattle.sl_sessions.specs.Sessions.{is_call_of, is_joined, is_renewal, is_survey_purpose, leaves, leaving_in, leaving_job, recovery_of, renewed_by, renewing, renewing_after, shows_other, shows_other_in, generation_of, recovers}
+use Rattle.sl_sessions.specs.declared.session.Renewing.{Renewing}
+use Rattle.sl_sessions.specs.declared.session.Session.{Session}
 use Rattle.sl_time.specs.Times.{fail}
 use Rattle.sl_trace.specs.Traces.{Setting, Submitted, Trace, answered_in, call_numbered, mark, new_call, submitted}
 use Rattle.sl_trace.specs.declared.command.Command.{Command}

@@ -1,5 +1,7 @@
 -- What the commands of the first path come to.
-use Rattle.sl_due.specs.DueCommands.{Decision, Gives_up, Reads_area, Replies, acquiring, busy_refusal, decided, holding_of, limit_refusal, pending_refusal, process_refusal, session_refusal, unless_refused, with_session}
+use Rattle.sl_due.specs.DueCommands.{acquiring, busy_refusal, decided, holding_of, limit_refusal, pending_refusal, process_refusal, session_refusal, unless_refused, with_session}
+use Rattle.sl_due.specs.declared.decision.Decision.TheVariants.{GivesUp as Gives_up, ReadsArea as Reads_area, Replies}
+use Rattle.sl_due.specs.declared.decision.Decision.{Decision}
 use Rattle.sl_first.proofs.CalmLaws.{is_joined_first, sessions_first}
 use Rattle.sl_first.proofs.CalmRenewal.{leases_first}
 use Rattle.sl_first.proofs.Decisions.{busy_holder, call_pending, here, may_ask, nobody_busy, not_refused, nothing_pending, session_here}
@@ -9,7 +11,8 @@ use Rattle.sl_first.specs.FirstSteps.{first_grant}
 use Rattle.sl_leases.specs.Counts.{holder_count, resource_count, ungranted}
 use Rattle.sl_leases.specs.Jobs.{is_asking_lease, is_command_that, is_granted_job}
 use Rattle.sl_leases.specs.Leases.{holdings_on, is_on, lease_spots, spot_of, spots_in}
-use Rattle.sl_sessions.specs.Sessions.{Session, calls_of, delta_written, is_call_of, is_joined}
+use Rattle.sl_sessions.specs.Sessions.{calls_of, delta_written, is_call_of, is_joined}
+use Rattle.sl_sessions.specs.declared.session.Session.{Session}
 use Rattle.sl_trace.specs.Limits.{most_holders, most_processes, most_resources}
 use Rattle.sl_trace.specs.Traces.{Setting, Trace, holdings, same_place, same_spot, submitted}
 use Rattle.sl_trace.specs.declared.command.Command.TheVariants.{Acquire, Release}

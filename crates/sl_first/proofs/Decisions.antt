@@ -8,7 +8,9 @@ use Rattle.sl_first.specs.FirstPath.{Doing, IsDoing, IsFirst, Kept, Stands, firs
 use Rattle.sl_first.specs.FirstSteps.{first_grant}
 use Rattle.sl_leases.specs.Counts.{busy_among}
 use Rattle.sl_leases.specs.Leases.{is_on, spot_of}
-use Rattle.sl_sessions.specs.Sessions.{Begun, Session, is_active, delta_written, last_renewal, leaving_job, recovery_of, session_named}
+use Rattle.sl_sessions.specs.Sessions.{is_active, delta_written, last_renewal, leaving_job, recovery_of, session_named}
+use Rattle.sl_sessions.specs.declared.session.Begun.{Begun}
+use Rattle.sl_sessions.specs.declared.session.Session.{Session}
 use Rattle.sl_trace.specs.Limits.{most_processes}
 use Rattle.sl_trace.specs.Traces.{Job, Setting, Submitted, Trace, is_child, same_place}
 use Rattle.sl_trace.specs.declared.command.ResourceArg.{ResourceArg}

@@ -6,8 +6,9 @@ use Rattle.sl_first.specs.FirstPath.{IsCalm, first_session, is_first_call}
 use Rattle.sl_first.specs.FirstSteps.{first_known, first_over, first_self}
 use Rattle.sl_leases.specs.Leases.{exclusive_on, has_shared_on, is_lease_call, is_on, known, known_of, lease_calls, spot_of}
 use Rattle.sl_sector.specs.declared.sector.DeltaRec.{DeltaRec}
-use Rattle.sl_sessions.specs.Sessions.{Session, delta_written, generation_in, generation_of, last_delta}
+use Rattle.sl_sessions.specs.Sessions.{delta_written, generation_in, generation_of, last_delta}
 use Rattle.sl_sessions.specs.Watching.{counts_over, evidence, evidence_in, look_of, sightings}
+use Rattle.sl_sessions.specs.declared.session.Session.{Session}
 use Rattle.sl_time.specs.Times.{TimingNumbers}
 use Rattle.sl_trace.specs.Traces.{Setting, Submitted, Trace, holdings, is_shared, submitted}
 use Rattle.sl_trace.specs.declared.command.ResourceArg.{ResourceArg}

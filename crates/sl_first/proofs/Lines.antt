@@ -1,10 +1,12 @@
 -- What a line makes due, exactly.
 use Rattle.sl_due.specs.Due.{after_input, due, due_step}
-use Rattle.sl_due.specs.DueCommands.{Decision, Gives_up, Reads_area, Replies, after_end, answer_line, carry_decision, carry_line, decided, decided_text, on_line}
+use Rattle.sl_due.specs.DueCommands.{after_end, answer_line, carry_decision, carry_line, decided, decided_text, on_line}
 use Rattle.sl_due.specs.DueInputs.{take_input}
 use Rattle.sl_due.specs.DueLease.{carry_lease}
 use Rattle.sl_due.specs.DueWake.{finish}
 use Rattle.sl_due.specs.Steps.{Step, add_reply, begin_step, seen}
+use Rattle.sl_due.specs.declared.decision.Decision.TheVariants.{GivesUp as Gives_up, ReadsArea as Reads_area, Replies}
+use Rattle.sl_due.specs.declared.decision.Decision.{Decision}
 use Rattle.sl_first.proofs.Decided.{acquire_idle, nothing_on, release_held}
 use Rattle.sl_first.proofs.Decisions.{here}
 use Rattle.sl_first.proofs.Growth.{same_number}
@@ -15,7 +17,7 @@ use Rattle.sl_first.specs.FirstPath.{IsCalm, IsFirst, Kept, Stands, first_effect
 use Rattle.sl_first.specs.FirstSteps.{first_grant, first_known, first_read, last_write}
 use Rattle.sl_leases.specs.LeaseWork.{lease_place, release_next}
 use Rattle.sl_leases.specs.Leases.{known, spot_of}
-use Rattle.sl_sessions.specs.Sessions.{Session}
+use Rattle.sl_sessions.specs.declared.session.Session.{Session}
 use Rattle.sl_trace.specs.Limits.{most_processes}
 use Rattle.sl_trace.specs.Traces.{Setting, Trace, end_of, held_after, holdings, next_job, no_effects}
 use Rattle.sl_trace.specs.declared.command.Command.TheVariants.{Acquire, Release}

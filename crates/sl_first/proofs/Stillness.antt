@@ -9,9 +9,12 @@ use Rattle.sl_first.proofs.CalmRenewal.{leaving_none, recovery_none}
 use Rattle.sl_first.proofs.Growth.{none_unanswered}
 use Rattle.sl_first.proofs.Standing.{quiet_stands}
 use Rattle.sl_first.specs.FirstPath.{Doing, IsCalm, IsFirst, IsWork, Kept, Stands, first_session, jobs_kept, open_kept}
-use Rattle.sl_sessions.specs.Deltas.{DeltaKnown, DeltaLease, delta_known, delta_of_session, next_free}
-use Rattle.sl_sessions.specs.Sessions.{Begun, Session, holdings_of, is_joined, leaving_of, open_calls_of, recovery_of}
+use Rattle.sl_sessions.specs.Deltas.{DeltaLease, delta_known, delta_of_session, next_free}
+use Rattle.sl_sessions.specs.Sessions.{holdings_of, is_joined, leaving_of, open_calls_of, recovery_of}
+use Rattle.sl_sessions.specs.declared.delta.DeltaKnown.{DeltaKnown}
 use Rattle.sl_sessions.specs.declared.delta.DeltaNext.TheVariants.{Nothing}
+use Rattle.sl_sessions.specs.declared.session.Begun.{Begun}
+use Rattle.sl_sessions.specs.declared.session.Session.{Session}
 use Rattle.sl_trace.specs.Traces.{Job, Setting, Submitted, Trace, is_of_job, outstanding, unanswered}
 use Rattle.sl_trace.specs.declared.command.ResourceArg.{ResourceArg}
 use Rattle.sl_trace.specs.declared.effects.Signal.TheVariants.{Kill}

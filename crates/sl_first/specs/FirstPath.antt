@@ -2,7 +2,8 @@
 use Rattle.sl_area.specs.Places.{is_base}
 use Rattle.sl_leases.specs.Jobs.{command_numbered}
 use Rattle.sl_leases.specs.Leases.{is_on, lease_step, spot_of}
-use Rattle.sl_sessions.specs.Sessions.{Session, delta_written, given_session}
+use Rattle.sl_sessions.specs.Sessions.{delta_written, given_session}
+use Rattle.sl_sessions.specs.declared.session.Session.{Session}
 use Rattle.sl_text.specs.Names.{is_name}
 use Rattle.sl_trace.specs.Limits.{most_processes}
 use Rattle.sl_trace.specs.Traces.{EachEntry, Job, Setting, Submitted, Trace, children, holdings, jobs, new_call, next_call, next_job, reply_to, running_jobs, submitted}

@@ -19,7 +19,8 @@ use Rattle.sl_leases.specs.LeaseWork.{lease_next}
 use Rattle.sl_leases.specs.Leases.{block_submitted, known, lease_calls, lver_written, spot_of, spot_of_call}
 use Rattle.sl_leases.specs.declared.lease.LeaseNext.TheVariants.{AnswerJob, GrantJob, Nothing, ReadFor, WriteBlock, WriteLeader}
 use Rattle.sl_leases.specs.declared.lease.LeaseNext.{LeaseNext}
-use Rattle.sl_sessions.specs.Sessions.{Session, session_named}
+use Rattle.sl_sessions.specs.Sessions.{session_named}
+use Rattle.sl_sessions.specs.declared.session.Session.{Session}
 use Rattle.sl_trace.specs.Traces.{Job, Replied, Setting, Submitted, Trace, is_answer_for, job_numbered, job_of, jobs, reply_to}
 use Rattle.sl_trace.specs.declared.command.Command.{Command}
 use Rattle.sl_trace.specs.declared.command.ResourceArg.{ResourceArg}

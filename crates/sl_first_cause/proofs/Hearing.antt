@@ -10,8 +10,8 @@ use Rattle.sl_leases.specs.declared.lease.LeaseNext.TheVariants.{AnswerJob, Gran
 use Rattle.sl_leases.specs.declared.lease.LeaseNext.{LeaseNext}
 use Rattle.sl_law.specs.Caused.{CausedBy}
 use Rattle.sl_sector.specs.declared.sector.Block.{Block}
-use Rattle.sl_sessions.specs.Sessions.{Session}
 use Rattle.sl_sessions.specs.Watching.{counts_over}
+use Rattle.sl_sessions.specs.declared.session.Session.{Session}
 use Rattle.sl_trace.specs.Traces.{Submitted, bytes_given, gave}
 use Rattle.sl_trace.specs.declared.command.Command.{Command}
 use Rattle.sl_trace.specs.declared.effects.LeaseStep.TheVariants.{Phase1Read, Phase2Read, ReadArea}

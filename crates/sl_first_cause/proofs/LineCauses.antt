@@ -12,7 +12,7 @@ use Rattle.sl_law.specs.Caused.{Answering, AnswersWell, CausedBy, WithSpot, befo
 use Rattle.sl_leases.specs.Counts.{busy_process, pending_call}
 use Rattle.sl_leases.specs.Jobs.{is_asking_lease, process_named, wants_shared}
 use Rattle.sl_leases.specs.Leases.{holdings_on, spot_of}
-use Rattle.sl_sessions.specs.Sessions.{Session}
+use Rattle.sl_sessions.specs.declared.session.Session.{Session}
 use Rattle.sl_trace.specs.Traces.{Job, Setting, Submitted, Trace, is_shared, job_numbered, jobs, next_job, no_effects}
 use Rattle.sl_trace.specs.declared.command.Command.TheVariants.{Acquire, Release, SetLvb}
 use Rattle.sl_trace.specs.declared.command.Command.{Command}

@@ -5,7 +5,7 @@ use Rattle.sl_first_law.proofs.Values.{no_reply}
 use Rattle.sl_law.specs.Caused.{Answering, AnswersWell, CausedBy, WithSession, WithSpot, job_command, the_session}
 use Rattle.sl_leases.specs.Jobs.{resource_named}
 use Rattle.sl_leases.specs.Leases.{spot_of}
-use Rattle.sl_sessions.specs.Sessions.{Session}
+use Rattle.sl_sessions.specs.declared.session.Session.{Session}
 use Rattle.sl_trace.specs.Traces.{Job, Setting, Trace, job_numbered, reply_to}
 use Rattle.sl_trace.specs.declared.command.Command.{Command}
 use Rattle.sl_trace.specs.declared.command.ResourceArg.{ResourceArg}

@@ -11,7 +11,8 @@ use Rattle.sl_first_law.specs.Keeping.{AtCall}
 use Rattle.sl_law.specs.LawfulArea.{HasVerified, is_block_work, is_leader_read, open_block_work}
 use Rattle.sl_leases.specs.Leases.{is_leader_of, is_on, name_sought, spot_of, verified_by, verified_name}
 use Rattle.sl_sector.specs.declared.sector.Leader.{Leader}
-use Rattle.sl_sessions.specs.Sessions.{Begun, delta_written, is_active, leaving_job, open_calls_of, recovery_of}
+use Rattle.sl_sessions.specs.Sessions.{delta_written, is_active, leaving_job, open_calls_of, recovery_of}
+use Rattle.sl_sessions.specs.declared.session.Begun.{Begun}
 use Rattle.sl_trace.specs.Traces.{Job, Setting, Submitted, Trace, gave, submitted, unanswered}
 use Rattle.sl_trace.specs.declared.command.ResourceArg.{ResourceArg}
 use Rattle.sl_trace.specs.declared.effects.LeaseStep.TheVariants.{ClearMode, FreeLeader, Phase1Read, Phase1Write, Phase2Read, Phase2Write, ReadArea, ReadBeforeFree, SetMode, TakeLeader}

@@ -8,7 +8,10 @@ use Rattle.sl_law.specs.LawfulRecovery.{LawfulRecovery, MayPart, StopsSession, K
 use Rattle.sl_law.specs.LawfulWatchdog.{CoveredBy, LawfulWatchdog, is_covered}
 use Rattle.sl_law.specs.Saying.{EachCall, EachSession}
 use Rattle.sl_leases.specs.Leases.{is_lease_call, lease_step}
-use Rattle.sl_sessions.specs.Sessions.{Begun, Renewing, Session, calls_of, free_write, is_free_purpose, is_joined, is_leaving, is_recovering, last_renewal, leaving_job, leaving_of, recovery_of}
+use Rattle.sl_sessions.specs.Sessions.{calls_of, free_write, is_free_purpose, is_joined, is_leaving, is_recovering, last_renewal, leaving_job, leaving_of, recovery_of}
+use Rattle.sl_sessions.specs.declared.session.Begun.{Begun}
+use Rattle.sl_sessions.specs.declared.session.Renewing.{Renewing}
+use Rattle.sl_sessions.specs.declared.session.Session.{Session}
 use Rattle.sl_trace.specs.Connections.{after_move, connection_named, connections, given_connection, registers, unregisters}
 use Rattle.sl_trace.specs.Traces.{Job, Setting, Submitted, Trace, is_write, submitted}
 use Rattle.sl_trace.specs.declared.command.ResourceArg.{ResourceArg}

@@ -2,7 +2,8 @@
 use Rattle.sl_first.proofs.CalmLaws.{sessions_first}
 use Rattle.sl_first.specs.FirstPath.{IsFirst, first_effects, first_entry, first_session}
 use Rattle.sl_law.specs.Saying.{EachCall, cut_at}
-use Rattle.sl_sessions.specs.Sessions.{Session, session_numbered}
+use Rattle.sl_sessions.specs.Sessions.{session_numbered}
+use Rattle.sl_sessions.specs.declared.session.Session.{Session}
 use Rattle.sl_trace.specs.Traces.{Setting, Submitted, Trace, new_call}
 use Rattle.sl_trace.specs.declared.command.ResourceArg.{ResourceArg}
 use Rattle.sl_trace.specs.declared.effects.Call.{Call}

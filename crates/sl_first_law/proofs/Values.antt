@@ -8,7 +8,8 @@ use Rattle.sl_law.specs.LawfulCalls.{may_submit}
 use Rattle.sl_law.specs.LawfulValue.{LawfulValueRead, LawfulValueReply, LawfulValueWrite}
 use Rattle.sl_leases.specs.Leases.{spot_of_call, value_written}
 use Rattle.sl_sector.specs.declared.sector.ValueRec.{ValueRec}
-use Rattle.sl_sessions.specs.Sessions.{Session, calls_of, free_write, session_numbered, stage_of}
+use Rattle.sl_sessions.specs.Sessions.{calls_of, free_write, session_numbered, stage_of}
+use Rattle.sl_sessions.specs.declared.session.Session.{Session}
 use Rattle.sl_sessions.specs.declared.stage.Stage.TheVariants.{Ended, Freeing, Standing}
 use Rattle.sl_sessions.specs.declared.stage.Stage.{Stage}
 use Rattle.sl_trace.specs.Traces.{Setting, Submitted, Trace, submitted}

@@ -16,7 +16,8 @@ use Rattle.sl_first_lawful.specs.Promises.{KeepsLaws}
 use Rattle.sl_law.specs.LawfulGrant.{LawfulGrant, LawfulGrantTo}
 use Rattle.sl_law.specs.LawfulModes.{LawfulModeGrant}
 use Rattle.sl_law.specs.Saying.{cut_at}
-use Rattle.sl_sessions.specs.Sessions.{Session, session_numbered}
+use Rattle.sl_sessions.specs.Sessions.{session_numbered}
+use Rattle.sl_sessions.specs.declared.session.Session.{Session}
 use Rattle.sl_trace.specs.Traces.{Setting, Submitted, Trace, holdings, new_call, record_of}
 use Rattle.sl_trace.specs.declared.command.ResourceArg.{ResourceArg}
 use Rattle.sl_trace.specs.declared.effects.Call.{Call}

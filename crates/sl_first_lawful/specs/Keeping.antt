@@ -12,7 +12,8 @@ use Rattle.sl_sector.specs.declared.sector.Block.{Block}
 use Rattle.sl_sector.specs.declared.sector.Leader.{Leader}
 use Rattle.sl_sector.specs.declared.sector.Rec.{Rec}
 use Rattle.sl_sector.specs.declared.sector.ValueRec.{ValueRec}
-use Rattle.sl_sessions.specs.Sessions.{Session, has_open_delta, is_active, is_delta_purpose, is_leaving, is_recovering, is_survey_purpose, joined_after, stage_of}
+use Rattle.sl_sessions.specs.Sessions.{has_open_delta, is_active, is_delta_purpose, is_leaving, is_recovering, is_survey_purpose, joined_after, stage_of}
+use Rattle.sl_sessions.specs.declared.session.Session.{Session}
 use Rattle.sl_trace.specs.Traces.{Setting, Submitted, Trace, is_write, record_of}
 use Rattle.sl_trace.specs.declared.effects.Purpose.TheVariants.{SeeRequest, ValueRead}
 use Rattle.std.specs.Prelude.{IsFalse, IsTrue, Some, false, is_some, not, true, [], ℕ, ◌&&◌, ◌≡◌}

@@ -12,8 +12,9 @@ use Rattle.sl_leases.specs.Leases.{ended_ballots, freed, is_over_owner, lease_ca
 use Rattle.sl_sector.specs.declared.sector.Block.{Block}
 use Rattle.sl_sector.specs.declared.sector.Leader.{Leader}
 use Rattle.sl_sector.specs.Records.{IsLeader}
-use Rattle.sl_sessions.specs.Sessions.{Session, me}
+use Rattle.sl_sessions.specs.Sessions.{me}
 use Rattle.sl_sessions.specs.Watching.{counted_over, counts_over}
+use Rattle.sl_sessions.specs.declared.session.Session.{Session}
 use Rattle.sl_trace.specs.Traces.{Setting, Submitted, Trace, submitted}
 use Rattle.sl_trace.specs.declared.command.ResourceArg.{ResourceArg}
 use Rattle.sl_trace.specs.declared.input.Given.{Given}

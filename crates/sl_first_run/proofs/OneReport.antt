@@ -14,7 +14,7 @@ use Rattle.sl_front_law.proofs.Having.{in_flat}
 use Rattle.sl_front_law.specs.Fronts.{HasOneStep}
 use Rattle.sl_plain.proofs.Lists.{contains_first, got_inside, head_is, next_before, set_here, tail_is}
 use Rattle.sl_plain.proofs.Options.{else_some, some_there, then_value}
-use Rattle.sl_report.specs.Headline.{Headline, In_events, In_header, ReplayOf, SoundRun}
+use Rattle.sl_report.specs.Headline.{GoodRun, Headline, In_events, In_header, ReplayOf, SoundRun}
 use Rattle.sl_report.specs.Languages.{Language}
 use Rattle.sl_report.specs.Replay.{due_at, effects_of}
 use Rattle.sl_report.specs.Reports.{no_counts, run_counts, run_lines}
@@ -266,7 +266,7 @@ sound_report lang source written status (In_events h rest xs end is follows soun
     text
     ∙ ap as_bytes (sym (followed_report lang h (event_lines_of lang h rest) xs end (sound_so lang h rest xs end follows sound)) ∙ sym (ap (report_by lang) is))
 
-good_report : (lang : Language) → Headline lang
+good_report : (lang : Language) → Headline GoodRun lang
 good_report lang source status written (In_header number why is text) = sound_report lang source written status (In_header number why is text)
 good_report lang source status written (In_events h rest xs end is follows good text ends) =
     sound_report lang source written status (In_events h rest xs end is follows good.sound text ends)

@@ -4,7 +4,7 @@ use Rattle.sl_first_run.specs.FirstLines.{are_first}
 use Rattle.sl_first_run.specs.Followed.{followed}
 use Rattle.sl_first_run.specs.PureDaemons.{PureDaemon}
 use Rattle.sl_first_run.specs.Readings.{IsFirstReading, replay_status}
-use Rattle.sl_report.specs.Headline.{Headline, IsFrontOf, Promise, ReplayHeadline, ReplayOf, SoundRun}
+use Rattle.sl_report.specs.Headline.{GoodRun, Headline, IsFrontOf, Promise, ReplayHeadline, ReplayOf, SoundRun}
 use Rattle.sl_report.specs.Languages.{Language}
 use Rattle.sl_report.specs.Reports.{Counts, run_counts, run_lines}
 use Rattle.sl_report.specs.Schedules.{EventLine, Follows, greatest_source, last_lines, replay_from, replay_lines}
@@ -59,7 +59,7 @@ RunsHaveOneStatus =
 pub record RunsHaveOneReport : Type 0 where
   pub sound : (lang : Language) (source written : List ℕ) (status : ℕ) → ReplayOf SoundRun lang source written status →
       written ≡ as_bytes (replay_lines lang source)
-  pub good : (lang : Language) → Headline lang
+  pub good : (lang : Language) → Headline GoodRun lang
 
 -- A source of which more is read than the limit has one report, and one status, whatever comes behind what is read.
 pub record CutsAreReported : Type 0 where

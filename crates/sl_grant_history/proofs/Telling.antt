@@ -21,7 +21,8 @@ use Rattle.sl_run.specs.Worlds.{Course, Program, Stamp, World, daemons_on, machi
 use Rattle.sl_run.specs.declared.header.Header.{Header}
 use Rattle.sl_sector.specs.declared.sector.Block.{Block}
 use Rattle.sl_session_law.proofs.Making.{answers_stay}
-use Rattle.sl_sessions.specs.Sessions.{Session, calls_of, is_call_of, session_numbered}
+use Rattle.sl_sessions.specs.Sessions.{calls_of, is_call_of, session_numbered}
+use Rattle.sl_sessions.specs.declared.session.Session.{Session}
 use Rattle.sl_trace.specs.Traces.{Answered, Setting, Submitted, Trace, new_call, record_of, submitted}
 use Rattle.sl_trace.specs.declared.effects.Call.{Call}
 use Rattle.sl_trace.specs.declared.effects.Spot.{Spot}

@@ -5,7 +5,8 @@ use Rattle.sl_plain.proofs.Lists.{find_inside}
 use Rattle.sl_plain.proofs.Options.{some_there}
 use Rattle.sl_session_law.proofs.Owning.{calls_were_lawful}
 use Rattle.sl_session_law.specs.Promises.{IsSession, WasLawful, front_of, made_as}
-use Rattle.sl_sessions.specs.Sessions.{Session, calls_of, free_write, is_free_purpose, is_joined, leaving_job}
+use Rattle.sl_sessions.specs.Sessions.{calls_of, free_write, is_free_purpose, is_joined, leaving_job}
+use Rattle.sl_sessions.specs.declared.session.Session.{Session}
 use Rattle.sl_trace.specs.Traces.{Job, Setting, Submitted, Trace, submitted}
 use Rattle.sl_trace.specs.declared.effects.Entry.{Entry}
 use Rattle.sl_trace.specs.declared.effects.Purpose.TheVariants.{Joining, Lease, Leaving, Renewal, RequestRead, RequestWrite, SeeRequest, Survey, ValueRead, ValueWrite}

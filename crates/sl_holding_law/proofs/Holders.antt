@@ -18,7 +18,8 @@ use Rattle.sl_run.specs.Runs.{Happening}
 use Rattle.sl_run.specs.Safety.{Found, LawfulRun, SessionId, free_landed, has_write_in_flight, is_course_of, is_over, session_of_world, was_reset, world_at}
 use Rattle.sl_run.specs.Worlds.{Daemon, Machine, Program, World, daemon_numbered, daemons_on, is_landed, machine_at, resets_after}
 use Rattle.sl_run.specs.declared.header.Header.{Header}
-use Rattle.sl_sessions.specs.Sessions.{Session, calls_of, ended_after, free_write, is_joined, joined_after, refused_after, removed_after, session_numbered}
+use Rattle.sl_sessions.specs.Sessions.{calls_of, ended_after, free_write, is_joined, joined_after, refused_after, removed_after, session_numbered}
+use Rattle.sl_sessions.specs.declared.session.Session.{Session}
 use Rattle.sl_trace.specs.Traces.{Submitted, holdings, is_shared, same_place}
 use Rattle.sl_trace.specs.declared.effects.Grant.{Grant}
 use Rattle.sl_watchdog_law.proofs.Promising.{itself}

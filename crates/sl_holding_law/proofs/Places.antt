@@ -4,7 +4,8 @@ use Rattle.sl_lease_law.proofs.SpotLaws.{areas_are_apart}
 use Rattle.sl_leases.specs.Leases.{has_shared_on, holdings_on, is_on, spot_of_call}
 use Rattle.sl_plain.proofs.Lists.{contains_cases, contains_none, find_inside, kept, kept_inside}
 use Rattle.sl_plain.proofs.Numbers.{none_off}
-use Rattle.sl_sessions.specs.Sessions.{Session, holdings_of}
+use Rattle.sl_sessions.specs.Sessions.{holdings_of}
+use Rattle.sl_sessions.specs.declared.session.Session.{Session}
 use Rattle.sl_trace.specs.Traces.{Submitted, Trace, holdings, is_shared, new_call, same_place, spot_of_grant}
 use Rattle.sl_trace.specs.declared.effects.Grant.{Grant}
 use Rattle.sl_trace.specs.declared.effects.Spot.{Spot}

@@ -10,8 +10,9 @@ use Rattle.sl_law.specs.LawfulModes.{HoldsSharedUnder, LawfulExclusiveGrant, Law
 use Rattle.sl_plain.proofs.Lists.{contains_none}
 use Rattle.sl_session_law.proofs.Owning.{session_more}
 use Rattle.sl_session_law.specs.Promises.{IsSession}
-use Rattle.sl_sessions.specs.Sessions.{Session, session_numbered}
+use Rattle.sl_sessions.specs.Sessions.{session_numbered}
 use Rattle.sl_leases.specs.Leases.{has_shared_on}
+use Rattle.sl_sessions.specs.declared.session.Session.{Session}
 use Rattle.sl_trace.specs.Traces.{Setting, Trace, holdings, is_shared, spot_of_grant}
 use Rattle.sl_trace.specs.declared.effects.Entry.{Entry}
 use Rattle.sl_trace.specs.declared.effects.Grant.{Grant}

@@ -16,7 +16,8 @@ use Rattle.sl_plain.proofs.Options.{none_is, some_of}
 use Rattle.sl_session_law.proofs.Making.{IsNewCall, old_or_new, was_marked}
 use Rattle.sl_session_law.proofs.Owning.{session_more}
 use Rattle.sl_session_law.specs.Promises.{IsSession}
-use Rattle.sl_sessions.specs.Sessions.{Session, calls_of, free_write, holdings_of, is_free_purpose, is_joined, leaving_job, recovery_of, session_numbered, sessions}
+use Rattle.sl_sessions.specs.Sessions.{calls_of, free_write, holdings_of, is_free_purpose, is_joined, leaving_job, recovery_of, session_numbered, sessions}
+use Rattle.sl_sessions.specs.declared.session.Session.{Session}
 use Rattle.sl_trace.specs.Traces.{Setting, Submitted, Trace, holdings, mark, new_call, submitted}
 use Rattle.sl_trace.specs.declared.effects.Entry.{Entry}
 use Rattle.sl_trace.specs.declared.effects.Grant.{Grant}

@@ -13,7 +13,7 @@ use Rattle.sl_still.proofs.Leases.{number_same}
 use Rattle.sl_still.specs.StillLeases.{Table}
 use Rattle.sl_still.specs.StillPath.{StillLease}
 use Rattle.sl_host.proofs.Decided.{Absent, InTable, There, in_table, kept_of}
-use Rattle.sl_host.proofs.Places.{position_found, position_none}
+use Rattle.sl_plain.proofs.Places.{position_found, position_none}
 use Rattle.sl_host.proofs.Stepping.{after_move, keeps_at, moved_steps, told_next}
 use Rattle.sl_host.specs.Hosts.{HostStands, HostState, Steps}
 use Rattle.sl_host.specs.Moves.{GoesOn, MovedAt}

@@ -1,7 +1,9 @@
 -- What a line comes to by the table is what it comes to on the trace.
 use Rattle.sl_area.specs.Layouts.{layout_of}
 use Rattle.sl_area.specs.Places.{is_base}
-use Rattle.sl_due.specs.DueCommands.{Decision, Gives_up, Reads_area, Replies, decided, unless_refused}
+use Rattle.sl_due.specs.DueCommands.{decided, unless_refused}
+use Rattle.sl_due.specs.declared.decision.Decision.TheVariants.{GivesUp as Gives_up, ReadsArea as Reads_area, Replies}
+use Rattle.sl_due.specs.declared.decision.Decision.{Decision}
 use Rattle.sl_first.specs.FirstSteps.{Holds as Held_by, Idle as Resting, Phase as Stand, Works as Working}
 use Rattle.sl_lease_host.proofs.PhaseLaws.{shows_held, shows_idle, shows_work}
 use Rattle.sl_lease_host.specs.LeaseHosts.{LeaseHostState, is_held, is_on, lease_of}
@@ -16,7 +18,7 @@ use Rattle.sl_still.specs.StillLeases.{StillStands, Table, is_idle}
 use Rattle.sl_still.specs.StillPath.{IsLease, IsOf, IsStillResource, StillLease, before_next, lease_grant, lease_session, same_lease}
 use Rattle.sl_still_count.specs.Counted.{some_call, used}
 use Rattle.sl_host.proofs.Lookups.{contains_at, held_found, held_none, idle_by, is_named, lease_at, lease_placed, place_found, place_none, session_found, session_none}
-use Rattle.sl_host.proofs.Places.{position_found, position_none}
+use Rattle.sl_plain.proofs.Places.{position_found, position_none}
 use Rattle.sl_host.proofs.Refusing.{acquire_comes, comes, limit_in, release_comes}
 use Rattle.sl_host.proofs.TableLaws.{fresh_unused}
 use Rattle.sl_host.specs.Deciding.{acquire_lease, acquire_place, release_lease, release_place}

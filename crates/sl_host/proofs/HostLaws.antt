@@ -5,6 +5,7 @@ use Rattle.sl_lease_host.specs.LeaseHosts.{KeepsLease, LeaseHostState, is_awaite
 use Rattle.sl_lease_host.specs.Sites.{IsSite}
 use Rattle.sl_lease_host.specs.declared.phase.Phase.TheVariants.{Idle}
 use Rattle.sl_leases.specs.Leases.{spot_of}
+use Rattle.sl_plain.proofs.Places.{Came, PlacedAt, PlacedBehind, Replaced, Stayed, Stood, placed, placed_behind, position_found}
 use Rattle.sl_still.proofs.Beginning.{begins_idle}
 use Rattle.sl_still.specs.StillLeases.{LeaseState, idle_table}
 use Rattle.sl_still.specs.StillPath.{IsOf, StillLease}
@@ -12,7 +13,6 @@ use Rattle.sl_still_count.proofs.Moves.{counts_are_none}
 use Rattle.sl_host.proofs.AnswerLaws.{told_steps}
 use Rattle.sl_host.proofs.LineLaws.{begins_again, begins_first, gives_back}
 use Rattle.sl_host.proofs.Lookups.{IsPlaced, held_found, idle_there, its_resource, place_found, placed_by, released_by, site_fits}
-use Rattle.sl_host.proofs.Places.{Came, PlacedAt, PlacedBehind, Replaced, Stayed, Stood, got_below, placed, placed_behind, position_found}
 use Rattle.sl_host.specs.Deciding.{acquire_place, release_place}
 use Rattle.sl_host.specs.Firsts.{first_state, site_at}
 use Rattle.sl_host.specs.Hosts.{AreOf, AreSessions, HostStands, HostState, IsSettingOf, Steps}
@@ -30,6 +30,7 @@ use Rattle.sl_trace.specs.declared.input.Input.TheVariants.{Answer as Told, Line
 use Rattle.sl_trace.specs.declared.input.Numbers.{Numbers}
 use Rattle.sl_words.proofs.CaseLaws.{none_some, one_value}
 use Rattle.std.proofs.Common.{ap, arith, refl, subst, sym, ◌∙◌}
+use Rattle.std.proofs.lemmas.Option.{slice_get_within}
 use Rattle.std.specs.Prelude.{IsTrue, List, None, Ok, Some, false, length, slice_get, true, [], ℕ, ◌+◌, ◌<◌, ◌≡◌}
 
 -- ---- at first
@@ -141,7 +142,7 @@ again_made h inside hs calls r p place lease fx view number a named placed at mo
 -- ---- an acquire under a lease that the table doesn't have
 
 pub first_there : (h : HostState) (r : ResourceArg) (p : ℕ) (place : Place) → acquire_place h.given h.leases r p ≡ Ok place → place.session < length h.given
-first_there h r p place placed = let b = placed_by h.given h.leases r p place placed in got_below h.given place.session b.session.given b.session.there
+first_there h r p place placed = let b = placed_by h.given h.leases r p place placed in slice_get_within h.given place.session b.session.given b.session.there
 
 pub first_fits : (h : HostState) → AreSessions h.sizes h.given → (r : ResourceArg) (p : ℕ) (place : Place) → IsResourceArg (layout_of h.sizes) r
     → acquire_place h.given h.leases r p ≡ Ok place → (g : Given) → slice_get h.given place.session ≡ Some g → IsSite (site_at h.sizes place.session g r)
@@ -206,7 +207,7 @@ held_there h inside view r p place placed =
 
 -- What stands at the place stands below the end.
 pub there_below : (hs : List LeaseHostState) (place : ℕ) → (x : LeaseHostState) × (slice_get hs place ≡ Some x) → place < length hs
-there_below hs place t = got_below hs place t.0 t.1
+there_below hs place t = slice_get_within hs place t.0 t.1
 
 pub there_of : (P : LeaseHostState → LeaseHostState → Type 0) (z : Sizes) (gs : List Given) (hs after : List LeaseHostState) (place : ℕ) → AreOf z gs hs
     → (x : LeaseHostState) × (slice_get hs place ≡ Some x)

@@ -1,4 +1,3 @@
-pub mod Places
 pub mod TableMoves
 pub mod TableLaws
 pub mod Refusing

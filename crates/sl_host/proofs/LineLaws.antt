@@ -1,7 +1,7 @@
 -- What a line makes the host do.
 use Rattle.sl_area.specs.Layouts.{layout_of}
 use Rattle.sl_command.specs.Verbs.{answered}
-use Rattle.sl_due.specs.DueCommands.{Gives_up, Reads_area}
+use Rattle.sl_due.specs.declared.decision.Decision.TheVariants.{GivesUp as Gives_up, ReadsArea as Reads_area}
 use Rattle.sl_first.specs.FirstPath.{first_effects, one_reply}
 use Rattle.sl_first.specs.FirstSteps.{Holds as Held_by}
 use Rattle.sl_lease_command.specs.LeaseWords.{as_command, lease_forms}

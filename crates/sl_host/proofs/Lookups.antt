@@ -9,7 +9,7 @@ use Rattle.sl_plain.proofs.Lists.{find_fails, find_inside, got_index, got_inside
 use Rattle.sl_plain.proofs.Numbers.{number_itself}
 use Rattle.sl_still.proofs.Leases.{number_same, spot_same, spot_self}
 use Rattle.sl_still.specs.StillPath.{IsOf, StillLease, same_lease}
-use Rattle.sl_host.proofs.Places.{position_found, position_none}
+use Rattle.sl_plain.proofs.Places.{position_found, position_none}
 use Rattle.sl_host.specs.Deciding.{acquire_lease, acquire_place, has_room, release_lease, release_place}
 use Rattle.sl_host.specs.Firsts.{site_at}
 use Rattle.sl_host.specs.Hosts.{AreOf, AreSessions}

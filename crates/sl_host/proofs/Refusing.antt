@@ -1,5 +1,7 @@
 -- Refusals in their order: what the list of them decides is what the steps that may be refused come to.
-use Rattle.sl_due.specs.DueCommands.{Decision, Replies, unless_refused}
+use Rattle.sl_due.specs.DueCommands.{unless_refused}
+use Rattle.sl_due.specs.declared.decision.Decision.TheVariants.{Replies}
+use Rattle.sl_due.specs.declared.decision.Decision.{Decision}
 use Rattle.sl_lease_host.specs.LeaseHosts.{LeaseHostState}
 use Rattle.sl_lease_host.specs.declared.phase.Phase.TheVariants.{Holds, Idle, Works}
 use Rattle.sl_lease_host.specs.declared.phase.Phase.{Phase}

@@ -11,12 +11,12 @@ use Rattle.sl_lease_host.specs.declared.phase.Phase.{Phase}
 use Rattle.sl_leases.specs.Leases.{lease_calls}
 use Rattle.sl_plain.proofs.Lists.{got_before, set_here, set_length}
 use Rattle.sl_plain.proofs.Numbers.{number_itself}
+use Rattle.sl_plain.proofs.Places.{Came, PlacedAt, PlacedBehind, Replaced, Stayed, Stood, count_push, count_set, last_there, one_if, placed, placed_behind, stays_at}
 use Rattle.sl_still.proofs.Leases.{lease_same, lease_self, number_same}
 use Rattle.sl_still.specs.StillLeases.{LeaseState, StillStands, Table, put}
 use Rattle.sl_still.specs.StillPath.{IsLease, StillLease, lease_session, same_lease}
 use Rattle.sl_still_count.specs.Counted.{counted, some_call, used}
 use Rattle.sl_still_count.specs.Promises.{CountsKept, CountsMoved}
-use Rattle.sl_host.proofs.Places.{Came, PlacedAt, PlacedBehind, Replaced, Stayed, Stood, count_push, count_set, last_there, one_if, placed, placed_behind, stays_at}
 use Rattle.sl_host.specs.Tables.{IsAbsent, IsFresh, IsKept, TableStands, is_holder}
 use Rattle.sl_trace.specs.Traces.{Setting, Trace}
 use Rattle.sl_trace.specs.declared.command.ResourceArg.{ResourceArg}

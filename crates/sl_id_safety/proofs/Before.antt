@@ -20,7 +20,8 @@ use Rattle.sl_run_law.specs.Daemons.{IsSettled}
 use Rattle.sl_session_law.proofs.Owning.{sessions_stay}
 use Rattle.sl_session_law.proofs.Staying.{joined_more, marks_stay}
 use Rattle.sl_session_law.specs.Promises.{IsSession as IsSessionOf}
-use Rattle.sl_sessions.specs.Sessions.{Session, given_session, joined_after, session_numbered}
+use Rattle.sl_sessions.specs.Sessions.{given_session, joined_after, session_numbered}
+use Rattle.sl_sessions.specs.declared.session.Session.{Session}
 use Rattle.sl_trace.specs.Traces.{Setting, Trace}
 use Rattle.sl_trace.specs.declared.effects.Entry.{Entry}
 use Rattle.sl_trace.specs.declared.input.Given.{Given}

@@ -45,8 +45,9 @@ use Rattle.sl_sample_law.specs.Samples.{sector_place}
 use Rattle.sl_sector.specs.declared.sector.DeltaRec.{DeltaRec}
 use Rattle.sl_session_law.proofs.Making.{old_stays, same_answered}
 use Rattle.sl_session_law.proofs.Staying.{joined_more}
-use Rattle.sl_sessions.specs.Sessions.{Session, calls_of, ended_after, free_write, generation_of, is_call_of, is_free_purpose, is_joined, is_survey_purpose, joined_after, refused_after, removed_after, shows_other, shows_other_in, survey_in}
-use Rattle.sl_sessions.specs.Watching.{Sighting}
+use Rattle.sl_sessions.specs.Sessions.{calls_of, ended_after, free_write, generation_of, is_call_of, is_free_purpose, is_joined, is_survey_purpose, joined_after, refused_after, removed_after, shows_other, shows_other_in, survey_in}
+use Rattle.sl_sessions.specs.declared.session.Session.{Session}
+use Rattle.sl_sessions.specs.declared.sighting.Sighting.{Sighting}
 use Rattle.sl_trace.specs.Traces.{Answered, Setting, Submitted, Trace, answer_of, answered_in, bytes_given, call_numbered, gave, mark, submitted}
 use Rattle.sl_trace.specs.declared.effects.Call.{Call}
 use Rattle.sl_trace.specs.declared.effects.Entry.{Entry}

@@ -9,7 +9,8 @@ use Rattle.sl_session_law.proofs.Owning.{sessions_stay}
 use Rattle.sl_session_law.proofs.Silence.{ended_are_silent}
 use Rattle.sl_session_law.proofs.Staying.{marks_stay}
 use Rattle.sl_session_law.specs.Promises.{IsSession as IsSessionOf}
-use Rattle.sl_sessions.specs.Sessions.{Session, calls_of, ended_after, free_write, is_call_of, is_free_purpose, joined_after}
+use Rattle.sl_sessions.specs.Sessions.{calls_of, ended_after, free_write, is_call_of, is_free_purpose, joined_after}
+use Rattle.sl_sessions.specs.declared.session.Session.{Session}
 use Rattle.sl_trace.specs.Traces.{Setting, Submitted, Trace, mark, new_call, submitted}
 use Rattle.sl_trace.specs.declared.effects.Call.{Call}
 use Rattle.sl_trace.specs.declared.effects.Entry.{Entry}

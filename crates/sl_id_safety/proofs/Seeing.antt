@@ -23,8 +23,10 @@ use Rattle.sl_run.specs.Worlds.{Course, Program, Sampling, Stamp, World}
 use Rattle.sl_run.specs.declared.header.Header.{Header}
 use Rattle.sl_sector.specs.Spelling.{delta_in}
 use Rattle.sl_sector.specs.declared.sector.DeltaRec.{DeltaRec}
-use Rattle.sl_sessions.specs.Sessions.{Session, calls_of, is_call_of, is_survey_purpose}
-use Rattle.sl_sessions.specs.Watching.{Sighting, look_of, seen_records, sighted}
+use Rattle.sl_sessions.specs.Sessions.{calls_of, is_call_of, is_survey_purpose}
+use Rattle.sl_sessions.specs.Watching.{look_of, seen_records, sighted}
+use Rattle.sl_sessions.specs.declared.session.Session.{Session}
+use Rattle.sl_sessions.specs.declared.sighting.Sighting.{Sighting}
 use Rattle.sl_time.specs.Times.{reading_of}
 use Rattle.sl_trace.specs.Traces.{Answered, Setting, Submitted, Trace, bytes_given, gave, new_call, submitted}
 use Rattle.sl_trace.specs.declared.effects.Call.{Call}

@@ -41,7 +41,8 @@ use Rattle.sl_sector.specs.declared.sector.Rec.TheVariants.{DeltaIs}
 use Rattle.sl_sector.specs.declared.sector.Rec.{Rec}
 use Rattle.sl_session_law.proofs.Owning.{session_more}
 use Rattle.sl_session_law.specs.Promises.{IsSession as IsSessionOf}
-use Rattle.sl_sessions.specs.Sessions.{Session, calls_of, delta_of_record, delta_written, given_number, is_call_of, is_join_call, is_join_done, joined_after, last_delta, session_numbered, sessions}
+use Rattle.sl_sessions.specs.Sessions.{calls_of, delta_of_record, delta_written, given_number, is_call_of, is_join_call, is_join_done, joined_after, last_delta, session_numbered, sessions}
+use Rattle.sl_sessions.specs.declared.session.Session.{Session}
 use Rattle.sl_trace.specs.Traces.{Setting, Submitted, Trace, new_call, record_of, reply_to, submitted}
 use Rattle.sl_trace.specs.declared.effects.Call.{Call}
 use Rattle.sl_trace.specs.declared.effects.JoinStep.TheVariants.{ClaimWrite, DecidingRead, FirstRenewal, VerifyRead}

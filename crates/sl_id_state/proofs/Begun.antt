@@ -21,7 +21,8 @@ use Rattle.sl_session_law.proofs.Parting.{not_removed}
 use Rattle.sl_session_law.proofs.Silence.{no_more}
 use Rattle.sl_session_law.proofs.Staying.{marks_stay}
 use Rattle.sl_session_law.specs.Promises.{IsSession as IsSessionOf}
-use Rattle.sl_sessions.specs.Sessions.{Session, added_by, begun_in, calls_of, ended_after, has_open_write, is_call_of, is_join_call, is_present, joined_after, joining_session, refused_after, removed_after, session_named, session_numbered, sessions, stage_of}
+use Rattle.sl_sessions.specs.Sessions.{added_by, begun_in, calls_of, ended_after, has_open_write, is_call_of, is_join_call, is_present, joined_after, joining_session, refused_after, removed_after, session_named, session_numbered, sessions, stage_of}
+use Rattle.sl_sessions.specs.declared.session.Session.{Session}
 use Rattle.sl_trace.specs.Traces.{Answered, Setting, Submitted, Trace, is_write, mark, new_call, next_job, submitted, unanswered}
 use Rattle.sl_trace.specs.declared.command.LockspaceArg.{LockspaceArg}
 use Rattle.sl_trace.specs.declared.effects.Call.{Call}

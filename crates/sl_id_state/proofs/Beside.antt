@@ -14,7 +14,8 @@ use Rattle.sl_run.specs.Worlds.{Course, Daemon, Machine, Program, World, daemon_
 use Rattle.sl_run.specs.declared.header.Header.{Header}
 use Rattle.sl_run_law.proofs.Walking.{index}
 use Rattle.sl_session_law.specs.Promises.{IsSession}
-use Rattle.sl_sessions.specs.Sessions.{Session, calls_of, has_open_write, is_call_of, is_join_call, join_call, session_numbered}
+use Rattle.sl_sessions.specs.Sessions.{calls_of, has_open_write, is_call_of, is_join_call, join_call, session_numbered}
+use Rattle.sl_sessions.specs.declared.session.Session.{Session}
 use Rattle.sl_trace.specs.Traces.{Submitted, is_write, submitted}
 use Rattle.sl_trace.specs.declared.effects.Call.{Call}
 use Rattle.sl_trace.specs.declared.effects.JoinStep.{JoinStep}

@@ -17,7 +17,8 @@ use Rattle.sl_run.specs.Worlds.{Course, Program, Sampling, Stamp, World, is_in_f
 use Rattle.sl_run.specs.declared.header.Header.{Header}
 use Rattle.sl_session_law.proofs.Ordering.{joinings_are_ordered, open_stage}
 use Rattle.sl_session_law.proofs.Silence.{stage_by}
-use Rattle.sl_sessions.specs.Sessions.{Session, calls_of, ended_after, free_write, has_open_write, is_covered_stage, is_join_call, joined_after, refused_after, removed_after, stage_in, stage_of}
+use Rattle.sl_sessions.specs.Sessions.{calls_of, ended_after, free_write, has_open_write, is_covered_stage, is_join_call, joined_after, refused_after, removed_after, stage_in, stage_of}
+use Rattle.sl_sessions.specs.declared.session.Session.{Session}
 use Rattle.sl_sessions.specs.declared.stage.Stage.{Stage}
 use Rattle.sl_trace.specs.Traces.{Submitted, Trace}
 use Rattle.sl_trace.specs.declared.effects.JoinStep.TheVariants.{ClaimWrite, DecidingRead, VerifyRead}

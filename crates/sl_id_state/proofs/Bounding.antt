@@ -20,7 +20,8 @@ use Rattle.sl_session_law.proofs.Fronts.{front_answers_stay}
 use Rattle.sl_session_law.proofs.Owning.{calls_were_lawful}
 use Rattle.sl_session_law.proofs.Silence.{stage_by}
 use Rattle.sl_session_law.specs.Promises.{IsMade, IsSession, front_of, made_as}
-use Rattle.sl_sessions.specs.Sessions.{Session, calls_of, free_write, is_join_call, join_call, joined_after, refused_after, removed_after, sessions, stage_in}
+use Rattle.sl_sessions.specs.Sessions.{calls_of, free_write, is_join_call, join_call, joined_after, refused_after, removed_after, sessions, stage_in}
+use Rattle.sl_sessions.specs.declared.session.Session.{Session}
 use Rattle.sl_sessions.specs.declared.stage.Stage.TheVariants.{Looking}
 use Rattle.sl_sessions.specs.declared.stage.Stage.{Stage}
 use Rattle.sl_time.specs.Times.{TimingNumbers}

@@ -21,7 +21,8 @@ use Rattle.sl_run.specs.Worlds.{Course, Daemon, Machine, Program, World, daemon_
 use Rattle.sl_run.specs.declared.header.Header.{Header}
 use Rattle.sl_sample_law.specs.Samples.{DoneReadsAreWhole, SampledAreSectors, SamplesAreLandings}
 use Rattle.sl_session_law.specs.Promises.{IsSession as IsSessionOf}
-use Rattle.sl_sessions.specs.Sessions.{Session, calls_of, is_join_call, join_call, session_numbered}
+use Rattle.sl_sessions.specs.Sessions.{calls_of, is_join_call, join_call, session_numbered}
+use Rattle.sl_sessions.specs.declared.session.Session.{Session}
 use Rattle.sl_trace.specs.Traces.{Submitted}
 use Rattle.sl_trace.specs.declared.effects.Call.{Call}
 use Rattle.sl_trace.specs.declared.effects.JoinStep.{JoinStep}

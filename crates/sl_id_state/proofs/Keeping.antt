@@ -16,7 +16,8 @@ use Rattle.sl_run.specs.Worlds.{Course, World}
 use Rattle.sl_session_law.proofs.Owning.{owned}
 use Rattle.sl_session_law.specs.Promises.{IsSession as IsSessionOf}
 use Rattle.sl_sessions.specs.Deltas.{own_offset}
-use Rattle.sl_sessions.specs.Sessions.{Session, has_open_delta, is_delta_purpose, is_join_call, is_survey_purpose, same_join_step, session_numbered, stage_of}
+use Rattle.sl_sessions.specs.Sessions.{has_open_delta, is_delta_purpose, is_join_call, is_survey_purpose, same_join_step, session_numbered, stage_of}
+use Rattle.sl_sessions.specs.declared.session.Session.{Session}
 use Rattle.sl_trace.specs.Traces.{Setting, Submitted, Trace, new_call, same_place}
 use Rattle.sl_trace.specs.declared.effects.Call.{Call}
 use Rattle.sl_trace.specs.declared.effects.JoinStep.TheVariants.{ClaimWrite, DecidingRead, FirstRead, FirstRenewal, VerifyRead, WatchRead}

@@ -18,7 +18,8 @@ use Rattle.sl_session_law.proofs.Ordering.{begun_before, joinings_are_ordered, o
 use Rattle.sl_session_law.proofs.Owning.{owned, session_more}
 use Rattle.sl_session_law.proofs.Silence.{stage_by}
 use Rattle.sl_session_law.specs.Promises.{IsSession as IsSessionOf, all_done, fits, fits_as, has_reply, is_in_turn, is_ordered, may_come, may_follow}
-use Rattle.sl_sessions.specs.Sessions.{Session, begun_in, calls_of, free_write, has_open_write, is_call_of, is_join_call, joined_after, refused_after, removed_after, session_named, session_numbered, sessions, stage_in, stage_of}
+use Rattle.sl_sessions.specs.Sessions.{begun_in, calls_of, free_write, has_open_write, is_call_of, is_join_call, joined_after, refused_after, removed_after, session_named, session_numbered, sessions, stage_in, stage_of}
+use Rattle.sl_sessions.specs.declared.session.Session.{Session}
 use Rattle.sl_sessions.specs.declared.stage.Stage.TheVariants.{Deciding, Ended, Freeing, Looking, Standing, Verifying, Waiting}
 use Rattle.sl_sessions.specs.declared.stage.Stage.{Stage}
 use Rattle.sl_trace.specs.Traces.{Answered, Setting, Submitted, Trace, is_write, mark, new_call, submitted}

@@ -12,7 +12,8 @@ use Rattle.sl_session_law.proofs.Making.{old_or_new, same_answered}
 use Rattle.sl_session_law.proofs.Ordering.{open_stage}
 use Rattle.sl_session_law.proofs.Owning.{is_the_one}
 use Rattle.sl_session_law.specs.Promises.{IsSession}
-use Rattle.sl_sessions.specs.Sessions.{Session, calls_of, free_write, has_open_write, is_covered_stage, joined_after, refused_after, removed_after, session_numbered, stage_in, stage_of}
+use Rattle.sl_sessions.specs.Sessions.{calls_of, free_write, has_open_write, is_covered_stage, joined_after, refused_after, removed_after, session_numbered, stage_in, stage_of}
+use Rattle.sl_sessions.specs.declared.session.Session.{Session}
 use Rattle.sl_trace.specs.Connections.{registers, registers_with}
 use Rattle.sl_trace.specs.Traces.{Setting, Submitted, Trace, answered_in, mark, new_call, submitted}
 use Rattle.sl_trace.specs.declared.effects.Call.{Call}

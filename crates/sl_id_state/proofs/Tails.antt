@@ -4,7 +4,8 @@ use Rattle.sl_id_state.proofs.Listing.{EveryTail}
 use Rattle.sl_law.specs.Saying.{cut_at}
 use Rattle.sl_session_law.proofs.Growing.{mine_marked, mine_next, other_next, to_all}
 use Rattle.sl_session_law.proofs.Making.{SameCall, kept_by, same_answered}
-use Rattle.sl_sessions.specs.Sessions.{Session, calls_of}
+use Rattle.sl_sessions.specs.Sessions.{calls_of}
+use Rattle.sl_sessions.specs.declared.session.Session.{Session}
 use Rattle.sl_trace.specs.Traces.{Answered, Submitted, Trace, answer_of, answered_in, mark}
 use Rattle.sl_trace.specs.declared.effects.Call.{Call}
 use Rattle.sl_trace.specs.declared.effects.Entry.{Entry}

@@ -10,7 +10,8 @@ use Rattle.sl_run.specs.Worlds.{Stamp}
 use Rattle.sl_session_law.proofs.Making.{IsNewCall, old_or_new, was_marked}
 use Rattle.sl_session_law.proofs.Silence.{no_more}
 use Rattle.sl_session_law.proofs.Staying.{refused_apart, refused_more}
-use Rattle.sl_sessions.specs.Sessions.{Session, is_join_done, refused_after, removed_after, stage_of}
+use Rattle.sl_sessions.specs.Sessions.{is_join_done, refused_after, removed_after, stage_of}
+use Rattle.sl_sessions.specs.declared.session.Session.{Session}
 use Rattle.sl_trace.specs.Traces.{IsTrace, Replied, Setting, Submitted, Trace, last_reading, mark, reply_in, reply_to, submitted}
 use Rattle.sl_trace.specs.declared.effects.Entry.{Entry}
 use Rattle.sl_trace.specs.declared.effects.JobReply.{JobReply}

@@ -20,7 +20,8 @@ use Rattle.sl_sector.specs.declared.sector.DeltaState.TheVariants.{Claimed}
 use Rattle.sl_sessions.specs.Deltas.{delta_of_session, delta_record}
 use Rattle.sl_sector.specs.declared.sector.Rec.TheVariants.{DeltaIs}
 use Rattle.sl_sector.specs.declared.sector.Rec.{Rec}
-use Rattle.sl_sessions.specs.Sessions.{Session, calls_of, delta_of_record, delta_written, has_open_delta, is_call_of, is_delta_purpose, is_join_call}
+use Rattle.sl_sessions.specs.Sessions.{calls_of, delta_of_record, delta_written, has_open_delta, is_call_of, is_delta_purpose, is_join_call}
+use Rattle.sl_sessions.specs.declared.session.Session.{Session}
 use Rattle.sl_time.specs.Times.{dead, join_max}
 use Rattle.sl_trace.specs.Traces.{Answered, Setting, Submitted, Trace, is_write, new_call, record_of, submitted, unanswered}
 use Rattle.sl_trace.specs.declared.effects.Call.{Call}

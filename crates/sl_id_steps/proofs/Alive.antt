@@ -33,7 +33,8 @@ use Rattle.sl_sector.specs.declared.sector.DeltaRec.{DeltaRec}
 use Rattle.sl_sector.specs.declared.sector.Rec.TheVariants.{DeltaIs}
 use Rattle.sl_session_law.proofs.Staying.{refused_more}
 use Rattle.sl_session_law.specs.Promises.{IsSession as IsSessionOf}
-use Rattle.sl_sessions.specs.Sessions.{Session, calls_of, delta_written, free_write, is_free_purpose, is_join_call, joined_after, refused_after, removed_after, sessions}
+use Rattle.sl_sessions.specs.Sessions.{calls_of, delta_written, free_write, is_free_purpose, is_join_call, joined_after, refused_after, removed_after, sessions}
+use Rattle.sl_sessions.specs.declared.session.Session.{Session}
 use Rattle.sl_trace.specs.Traces.{Setting, Submitted, Trace, new_call, record_of}
 use Rattle.sl_trace.specs.declared.effects.Call.{Call}
 use Rattle.sl_trace.specs.declared.effects.JoinStep.TheVariants.{ClaimWrite, FirstRenewal}

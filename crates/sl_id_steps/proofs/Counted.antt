@@ -21,7 +21,8 @@ use Rattle.sl_run.specs.declared.header.Header.{Header}
 use Rattle.sl_sector.specs.declared.sector.DeltaRec.{DeltaRec}
 use Rattle.sl_sector.specs.declared.sector.Rec.TheVariants.{DeltaIs}
 use Rattle.sl_session_law.proofs.Silence.{stage_by}
-use Rattle.sl_sessions.specs.Sessions.{Session, calls_of, delta_of_record, delta_written, free_write, is_join_call, is_renewal, joined_after, refused_after, removed_after, stage_in}
+use Rattle.sl_sessions.specs.Sessions.{calls_of, delta_of_record, delta_written, free_write, is_join_call, is_renewal, joined_after, refused_after, removed_after, stage_in}
+use Rattle.sl_sessions.specs.declared.session.Session.{Session}
 use Rattle.sl_sessions.specs.declared.stage.Stage.TheVariants.{Deciding}
 use Rattle.sl_sessions.specs.declared.stage.Stage.{Stage}
 use Rattle.sl_trace.specs.Traces.{Setting, Submitted, Trace, new_call, record_of, same_place}

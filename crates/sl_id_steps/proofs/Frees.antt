@@ -23,7 +23,8 @@ use Rattle.sl_session_law.proofs.Owning.{calls_were_lawful}
 use Rattle.sl_session_law.proofs.Silence.{stage_by}
 use Rattle.sl_session_law.proofs.Staying.{marks_stay}
 use Rattle.sl_session_law.specs.Promises.{IsSession, WasLawful, front_of, made_as}
-use Rattle.sl_sessions.specs.Sessions.{Session, calls_of, free_write, is_free_purpose, joined_after, refused_after, removed_after, stage_after, stage_in, stage_of}
+use Rattle.sl_sessions.specs.Sessions.{calls_of, free_write, is_free_purpose, joined_after, refused_after, removed_after, stage_after, stage_in, stage_of}
+use Rattle.sl_sessions.specs.declared.session.Session.{Session}
 use Rattle.sl_sessions.specs.declared.stage.Stage.TheVariants.{Looking, Standing}
 use Rattle.sl_sessions.specs.declared.stage.Stage.{Stage}
 use Rattle.sl_trace.specs.Traces.{Setting, Submitted, Trace, answered_in, is_answered_ok, mark, submitted}

@@ -28,7 +28,10 @@ use Rattle.sl_run.specs.declared.header.Header.{Header}
 use Rattle.sl_sample_law.specs.Samples.{numbered_landing}
 use Rattle.sl_session_law.proofs.Making.{WasOpen, old_or_new, was_marked}
 use Rattle.sl_session_law.specs.Promises.{IsSession}
-use Rattle.sl_sessions.specs.Sessions.{Begun, Renewing, Session, calls_of, ended_after, free_write, is_free_purpose, is_joined, joined_after, recovery_of, refused_after, removed_after, removed_in, renewed_by, renewing, sessions, shows_other}
+use Rattle.sl_sessions.specs.Sessions.{calls_of, ended_after, free_write, is_free_purpose, is_joined, joined_after, recovery_of, refused_after, removed_after, removed_in, renewed_by, renewing, sessions, shows_other}
+use Rattle.sl_sessions.specs.declared.session.Begun.{Begun}
+use Rattle.sl_sessions.specs.declared.session.Renewing.{Renewing}
+use Rattle.sl_sessions.specs.declared.session.Session.{Session}
 use Rattle.sl_time.specs.Times.{fail}
 use Rattle.sl_trace.specs.Traces.{Setting, Submitted, Trace, mark, submitted}
 use Rattle.sl_trace.specs.Connections.{unregisters}

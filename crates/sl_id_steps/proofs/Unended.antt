@@ -13,7 +13,8 @@ use Rattle.sl_session_law.proofs.Parting.{not_removed}
 use Rattle.sl_session_law.proofs.Silence.{stage_by}
 use Rattle.sl_session_law.proofs.Staying.{refused_apart, refused_more}
 use Rattle.sl_session_law.specs.Promises.{IsSession, all_done, fits, fits_as, has_reply}
-use Rattle.sl_sessions.specs.Sessions.{Session, calls_of, ended_after, free_write, is_free_purpose, is_renewal, joined_after, open_calls_of, refused_after, removed_after, stage_in, stage_of}
+use Rattle.sl_sessions.specs.Sessions.{calls_of, ended_after, free_write, is_free_purpose, is_renewal, joined_after, open_calls_of, refused_after, removed_after, stage_in, stage_of}
+use Rattle.sl_sessions.specs.declared.session.Session.{Session}
 use Rattle.sl_sessions.specs.declared.stage.Stage.TheVariants.{Standing}
 use Rattle.sl_sessions.specs.declared.stage.Stage.{Stage}
 use Rattle.sl_trace.specs.Traces.{Answered, Setting, Submitted, Trace, is_write, new_call}

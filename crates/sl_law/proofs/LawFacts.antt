@@ -1,13 +1,16 @@
 -- Fronts of lawful traces.
 use Rattle.sl_law.specs.Caused.{AnswersWell, IsCaused}
-use Rattle.sl_law.specs.Lawful.{Lawful}
+use Rattle.sl_law.specs.Lawful.{Lawful, Orderly}
 use Rattle.sl_law.specs.LawfulArea.{LawfulArea}
 use Rattle.sl_law.specs.LawfulBlock.{LawfulBlock}
 use Rattle.sl_law.specs.LawfulCalls.{LawfulCalls}
 use Rattle.sl_law.specs.LawfulDelta.{LawfulDelta}
+use Rattle.sl_law.specs.LawfulEnd.{LawfulEnd}
+use Rattle.sl_law.specs.LawfulExit.{LawfulExit}
 use Rattle.sl_law.specs.LawfulGrant.{LawfulGrant}
 use Rattle.sl_law.specs.LawfulLeader.{LawfulLeader}
 use Rattle.sl_law.specs.LawfulModes.{LawfulModes}
+use Rattle.sl_law.specs.LawfulParting.{LawfulParting}
 use Rattle.sl_law.specs.LawfulRecovery.{LawfulRecovery}
 use Rattle.sl_law.specs.LawfulValue.{LawfulValue}
 use Rattle.sl_law.specs.LawfulWatchdog.{LawfulWatchdog}
@@ -15,8 +18,8 @@ use Rattle.sl_trace.proofs.TraceFacts.{each_entry-front}
 use Rattle.sl_trace.specs.Traces.{FollowsTrace, Setting, Trace}
 use Rattle.std.specs.Prelude.{◌++◌}
 
-pub lawful-front : (st : Setting) (later es : Trace) → Lawful st (later ++ es) → Lawful st es
-lawful-front st later es h =
+pub orderly-front : (st : Setting) (later es : Trace) → Orderly st (later ++ es) → Orderly st es
+orderly-front st later es h =
     record {
       is_trace = each_entry-front (FollowsTrace st) later es h.is_trace;
       calls = each_entry-front (LawfulCalls st) later es h.calls;
@@ -27,8 +30,17 @@ lawful-front st later es h =
       modes = each_entry-front (LawfulModes st) later es h.modes;
       watchdog = each_entry-front (LawfulWatchdog st) later es h.watchdog;
       granting = each_entry-front (LawfulGrant st) later es h.granting;
-      recovery = each_entry-front (LawfulRecovery st) later es h.recovery;
+      ends = each_entry-front (LawfulEnd st) later es h.ends;
+      parting = each_entry-front (LawfulParting st) later es h.parting;
       values = each_entry-front (LawfulValue st) later es h.values;
+    }
+
+pub lawful-front : (st : Setting) (later es : Trace) → Lawful st (later ++ es) → Lawful st es
+lawful-front st later es h =
+    record {
+      orderly = orderly-front st later es h.orderly;
+      exits = each_entry-front LawfulExit later es h.exits;
+      recovery = each_entry-front (LawfulRecovery st) later es h.recovery;
     }
 
 pub caused-front : (st : Setting) (later es : Trace) → IsCaused st (later ++ es) → IsCaused st es

@@ -5,7 +5,8 @@ use Rattle.sl_leases.specs.Leases.{is_block_read, is_leader_of, is_on, spot_of_c
 use Rattle.sl_sector.specs.declared.sector.Leader.{Leader}
 use Rattle.sl_sector.specs.declared.sector.Rec.TheVariants.{BlockIs, DeltaIs, LeaderIs, RequestIs, ValueIs}
 use Rattle.sl_sector.specs.declared.sector.Rec.{Rec}
-use Rattle.sl_sessions.specs.Sessions.{Session, calls_of, delta_of_record, is_active, joined_after, open_calls_of}
+use Rattle.sl_sessions.specs.Sessions.{calls_of, delta_of_record, is_active, joined_after, open_calls_of}
+use Rattle.sl_sessions.specs.declared.session.Session.{Session}
 use Rattle.sl_trace.specs.Traces.{Setting, Submitted, Trace, gave, is_write, record_of}
 use Rattle.sl_trace.specs.declared.effects.Entry.{Entry}
 use Rattle.sl_trace.specs.declared.effects.LeaseStep.TheVariants.{Phase1Read, Phase2Read, ReadArea, ReadBeforeFree}
@@ -61,9 +62,10 @@ pub record LawfulAreaWrite (st : Setting) (es : Trace) (s : Session) (c : Submit
   -- another place is another record's, or another host's
   pub placed : record_offset st s (spot_of_call st.layout c) r ≡ Some c.call.offset
 
--- The session's unanswered calls on the area that write, or read its blocks.
+-- The session's unanswered work on the area that writes, or reads its blocks. (Where a command names the place of the
+-- session's own lockspace, its delta calls lie there too, and are no part of that work.).
 abbrev pub open_block_work : Setting → Trace → Session → Spot → List Submitted
-open_block_work st es s at = filter (λ c. is_block_work c && is_on st.layout at c.call) (open_calls_of es s)
+open_block_work st es s at = filter (λ c. is_area_work c.call.purpose && (is_block_work c && is_on st.layout at c.call)) (open_calls_of es s)
 
 -- Whether the record is a delta record.
 abbrev pub is_delta_record : Rec → Bool

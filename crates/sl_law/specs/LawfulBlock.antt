@@ -6,8 +6,9 @@ use Rattle.sl_leases.specs.Leases.{Phase1_read, Phase1_write, Phase2_read, Phase
 use Rattle.sl_sector.specs.declared.sector.Block.{Block}
 use Rattle.sl_sector.specs.declared.sector.Leader.{Leader}
 use Rattle.sl_sector.specs.declared.sector.Owner.{Owner}
-use Rattle.sl_sessions.specs.Sessions.{Session, me}
+use Rattle.sl_sessions.specs.Sessions.{me}
 use Rattle.sl_sessions.specs.Watching.{counted_over}
+use Rattle.sl_sessions.specs.declared.session.Session.{Session}
 use Rattle.sl_trace.specs.Traces.{Answered, Setting, Submitted, Trace, gave}
 use Rattle.sl_trace.specs.declared.effects.Entry.{Entry}
 use Rattle.sl_trace.specs.declared.effects.LeaseStep.TheVariants.{ClearMode, Phase1Write, Phase2Write, SetMode}

@@ -8,7 +8,8 @@ use Rattle.sl_sector.specs.declared.sector.DeltaRec.{DeltaRec}
 use Rattle.sl_sector.specs.declared.sector.DeltaState.TheVariants.{Claimed, Free, Live}
 use Rattle.sl_sector.specs.declared.sector.Rec.TheVariants.{DeltaIs}
 use Rattle.sl_sessions.specs.Deltas.{claim_of, delta_of_session, delta_record, own_offset}
-use Rattle.sl_sessions.specs.Sessions.{Session, calls_of, delta_written, generation_of, has_open_delta, holdings_of, is_delta_purpose, is_join_call, is_leaving, is_survey_purpose, join_call, joined_after, last_seq, open_calls_of, recovery_of, session_named, stage_of}
+use Rattle.sl_sessions.specs.Sessions.{calls_of, delta_written, generation_of, has_open_delta, holdings_of, is_delta_purpose, is_join_call, is_leaving, is_survey_purpose, join_call, joined_after, last_seq, open_calls_of, recovery_of, session_named, stage_of}
+use Rattle.sl_sessions.specs.declared.session.Session.{Session}
 use Rattle.sl_sessions.specs.declared.stage.Stage.TheVariants.{Deciding, Looking, Standing, Verifying, Waiting}
 use Rattle.sl_time.specs.Times.{dead, fail, join_max, take_over}
 use Rattle.sl_trace.specs.Connections.{is_registered, registers_with}

@@ -1,10 +1,11 @@
 -- How a session may write the leader of a resource.
-use Rattle.sl_law.specs.LawfulArea.{HasVerified}
+use Rattle.sl_law.specs.LawfulArea.{HasVerified, is_area_work}
 use Rattle.sl_law.specs.Saying.{EachCall}
 use Rattle.sl_leases.specs.Ballots.{owner_of, same_owner}
 use Rattle.sl_leases.specs.Leases.{Leader_freed, Leader_taken, ended_ballots, freed, holdings_on, is_at, is_on, leader_written, lease_calls, spot_of_call}
 use Rattle.sl_sector.specs.declared.sector.Leader.{Leader}
-use Rattle.sl_sessions.specs.Sessions.{Session, me, open_calls_of}
+use Rattle.sl_sessions.specs.Sessions.{me, open_calls_of}
+use Rattle.sl_sessions.specs.declared.session.Session.{Session}
 use Rattle.sl_trace.specs.Traces.{Setting, Submitted, Trace, is_shared, is_write}
 use Rattle.sl_trace.specs.declared.effects.Entry.{Entry}
 use Rattle.sl_trace.specs.declared.effects.Spot.{Spot}
@@ -19,9 +20,9 @@ HasWon st es s at n = Contains (ended_ballots st.layout (lease_calls st es s at)
 abbrev pub holds_under : Trace → Session → Spot → ℕ → Bool
 holds_under es s at n = list_any (λ g. not (is_shared g.mode) && g.lver == n) (holdings_on es s at)
 
--- The session's unanswered writes on the area.
+-- The session's unanswered writes on the area, delta records left out.
 abbrev pub open_writes_on : Setting → Trace → Session → Spot → List Submitted
-open_writes_on st es s at = filter (λ d. is_write d.call.op && is_on st.layout at d.call) (open_calls_of es s)
+open_writes_on st es s at = filter (λ d. is_area_work d.call.purpose && (is_write d.call.op && is_on st.layout at d.call)) (open_calls_of es s)
 
 -- The leader written as held.
 pub record LawfulTake (st : Setting) (es : Trace) (s : Session) (at : Spot) (c : Submitted) (l : Leader) : Type 0 where

@@ -1,18 +1,19 @@
 -- What a grant in either mode has behind it, and which mode a block shows. All of it is said of one resource.
 use Rattle.sl_law.specs.LawfulBlock.{ReadAfter}
 use Rattle.sl_law.specs.LawfulLeader.{HasWon}
-use Rattle.sl_law.specs.Saying.{EachCall}
-use Rattle.sl_leases.specs.Leases.{Mode_set, Phase1_write, block_of_host, block_written, blocks_given, ended_ballot, has_shared_on, holdings_on, is_at, is_block_read, is_free_write, lease_calls, spot_of_call}
+use Rattle.sl_law.specs.Saying.{EachCall, IsAnsweredAt}
+use Rattle.sl_leases.specs.Leases.{Mode_set, Phase1_write, block_of_host, block_written, blocks_given, ended_ballot, exclusive_on, has_shared_on, holdings_on, is_at, is_block_read, is_free_write, lease_calls, spot_of_call}
 use Rattle.sl_sector.specs.declared.sector.Block.{Block}
-use Rattle.sl_sessions.specs.Sessions.{Session, generation_of, me, session_numbered}
+use Rattle.sl_sessions.specs.Sessions.{generation_of, me, session_numbered}
 use Rattle.sl_sessions.specs.Watching.{counted_over}
+use Rattle.sl_sessions.specs.declared.session.Session.{Session}
 use Rattle.sl_trace.specs.Traces.{Answered, Setting, Submitted, Trace, is_shared, spot_of_grant}
 use Rattle.sl_trace.specs.declared.effects.Entry.{Entry}
 use Rattle.sl_trace.specs.declared.effects.Grant.{Grant}
 use Rattle.sl_trace.specs.declared.effects.Spot.{Spot}
 use Rattle.sl_trace.specs.declared.input.Answer.TheVariants.{Written}
 use Rattle.sl_words.specs.Words.{present}
-use Rattle.std.specs.Prelude.{Bool, Contains, IsSome, IsTrue, List, MatchBool, Option, Some, false, length, nat_le, true, [], ℕ, ◌&&◌, ◌++◌, ◌||◌, ◌↔◌, ◌∷◌, ◌≡◌, ◌≤◌, ◌⊎◌}
+use Rattle.std.specs.Prelude.{Bool, Contains, IsSome, IsTrue, List, MatchBool, None, Option, Some, false, length, nat_le, true, [], ℕ, ◌&&◌, ◌++◌, ◌||◌, ◌↔◌, ◌∷◌, ◌≡◌, ◌≤◌, ◌⊎◌}
 
 -- Whether the session held the resource shared before some entry from number `since` on.
 abbrev pub shared_since : ℕ → Trace → Session → Spot → Bool
@@ -61,9 +62,26 @@ pub record SharedByBallot (st : Setting) (es : Trace) (s : Session) (at : Spot) 
 abbrev pub HoldsSharedUnder : Trace → Session → Spot → ℕ → Type 0
 HoldsSharedUnder es s at n = (h : Grant) × Contains (holdings_on es s at) h × IsTrue (is_shared h.mode) × (h.lver ≡ n)
 
--- A shared grant: beside a shared holding that the session had before the step, under its instance, or by a ballot.
+-- A shared grant by conversion: in the step in which the session's exclusive holding of the instance ends, at the answer of its own
+-- block's write with the mode. No free of the instance was submitted before, for it was held.
+pub record SharedByConversion (st : Setting) (past es : Trace) (s : Session) (at : Spot) (n : ℕ) : Type 0 where
+  pub held : Grant
+  pub mode : Submitted
+  pub block : Block
+  -- a leader that stands as held keeps others from the next instance until the mode stands
+  pub was_exclusive : (exclusive_on past s at ≡ Some held) × (held.lver ≡ n)
+  -- two holdings of one session would conflict
+  pub ends : exclusive_on es s at ≡ None
+  pub of_lease : Contains (lease_calls st es s at) mode
+  -- others must see the mode before they may go past the instance
+  pub moded : (block_written mode ≡ Some block) × (block.shared ≡ true) × (block.mode_gen ≡ generation_of es s) × (block.lver ≡ n)
+  pub done : IsAnsweredAt (length past) mode Written
+  -- a block without the mode in between would hide it again
+  pub kept : AllShared st es s at mode
+
+-- A shared grant: beside a shared holding that the session had before the step, under its instance, by a ballot, or by conversion.
 abbrev pub LawfulSharedGrant : Setting → Trace → Trace → Session → Spot → ℕ → Type 0
-LawfulSharedGrant st past es s at n = HoldsSharedUnder past s at n ⊎ SharedByBallot st es s at n
+LawfulSharedGrant st past es s at n = HoldsSharedUnder past s at n ⊎ SharedByBallot st es s at n ⊎ SharedByConversion st past es s at n
 
 -- Each other host's shared mode in these blocks was counted as over, at whatever entry so far; no block of another host is torn.
 pub record NoneShared (st : Setting) (es : Trace) (s : Session) (blocks : List (Option Block)) : Type 0 where
@@ -95,7 +113,7 @@ abbrev pub LawfulModeGrant : Setting → Trace → Trace → Session → Grant �
 LawfulModeGrant st past es s g =
     MatchBool (is_shared g.mode) (LawfulSharedGrant st past es s (spot_of_grant g) g.lver) (LawfulExclusiveGrant st es s (spot_of_grant g) g.lver)
 
--- The mode of a block that is written.
+-- The mode of a block that is written. (A conversion to shared writes no other block than the one that sets the mode.)
 pub record LawfulMode (st : Setting) (es : Trace) (s : Session) (c : Submitted) (b : Block) : Type 0 where
   -- a holder's mode must stay to be seen; a mode without a holder bars others
   pub exact : (b.shared ≡ true) ↔ IsTrue (has_shared_on es s (spot_of_call st.layout c) || is_at Mode_set c)

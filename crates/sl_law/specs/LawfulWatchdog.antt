@@ -1,6 +1,7 @@
 -- How a session's connection to the watchdog daemon covers what it may do.
 use Rattle.sl_law.specs.Saying.{EachSession}
-use Rattle.sl_sessions.specs.Sessions.{Session, has_open_write, holdings_of, is_covered_stage, is_present, joined_after, last_renewal, refused_after, stage_of}
+use Rattle.sl_sessions.specs.Sessions.{has_open_write, holdings_of, is_covered_stage, is_present, joined_after, last_renewal, refused_after, stage_of}
+use Rattle.sl_sessions.specs.declared.session.Session.{Session}
 use Rattle.sl_time.specs.Times.{fail}
 use Rattle.sl_trace.specs.Connections.{Connection, connection_named, connections, last_registering, registers, unregisters}
 use Rattle.sl_trace.specs.Traces.{Setting, Trace}

@@ -1,5 +1,6 @@
 -- How laws are said: of each entry of a trace with those before it, and of each call with what stood when it was submitted.
-use Rattle.sl_sessions.specs.Sessions.{Session, session_numbered, sessions}
+use Rattle.sl_sessions.specs.Sessions.{session_numbered, sessions}
+use Rattle.sl_sessions.specs.declared.session.Session.{Session}
 use Rattle.sl_trace.specs.Traces.{Answered, Setting, Submitted, Trace, new_call}
 use Rattle.sl_trace.specs.declared.effects.Call.{Call}
 use Rattle.sl_trace.specs.declared.effects.Effects.{Effects}

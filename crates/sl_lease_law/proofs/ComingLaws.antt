@@ -12,7 +12,8 @@ use Rattle.sl_lease_law.specs.Ways.{BlockComes, FoundIn, ByMode, ByPhase1, ByPha
 use Rattle.sl_leases.specs.Ballots.{ballot_blocks}
 use Rattle.sl_leases.specs.Leases.{block_of_host, blocks_given, Mode_cleared, Mode_set, Phase1_write, Phase2_write, StepKind, block_submitted, block_written, freed, is_at, kind_of_step, last_blocks, lease_calls, lease_step, own_or_read, same_kind, spot_of_call}
 use Rattle.sl_sector.specs.declared.sector.Block.{Block}
-use Rattle.sl_sessions.specs.Sessions.{Session, me, session_numbered}
+use Rattle.sl_sessions.specs.Sessions.{me, session_numbered}
+use Rattle.sl_sessions.specs.declared.session.Session.{Session}
 use Rattle.sl_trace.specs.Traces.{Setting, Submitted, Trace, new_call, submitted}
 use Rattle.sl_trace.specs.declared.effects.Call.{Call}
 use Rattle.sl_trace.specs.declared.effects.LeaseStep.TheVariants.{ClearMode, FreeLeader, Phase1Read, Phase1Write, Phase2Read, Phase2Write, ReadArea, ReadBeforeFree, SetMode, TakeLeader}

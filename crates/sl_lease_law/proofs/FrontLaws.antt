@@ -6,7 +6,8 @@ use Rattle.sl_lease_law.specs.Fronts.{Aged, AllAged, LawfulSubmission, Submissio
 use Rattle.sl_lease_law.specs.Promises.{EachWasSubmitted}
 use Rattle.sl_plain.proofs.Lists.{got_before, got_inside, head_is, tail_is}
 use Rattle.sl_plain.proofs.Options.{some_of}
-use Rattle.sl_sessions.specs.Sessions.{Session, begun_in, session_numbered, sessions}
+use Rattle.sl_sessions.specs.Sessions.{begun_in, session_numbered, sessions}
+use Rattle.sl_sessions.specs.declared.session.Session.{Session}
 use Rattle.sl_trace.specs.Traces.{Answered, Setting, Submitted, Trace, answer_of, answered_in, mark, new_call, submitted}
 use Rattle.sl_trace.specs.declared.effects.Call.{Call}
 use Rattle.sl_trace.specs.declared.effects.Entry.{Entry}

@@ -12,7 +12,8 @@ use Rattle.sl_lease_law.specs.Promises.{ExclusiveFollows, ModesFollow, SharedFol
 use Rattle.sl_leases.specs.Leases.{Mode_set, has_shared_on, is_at, lease_calls, spot_of_call}
 use Rattle.sl_plain.proofs.Options.{some_of}
 use Rattle.sl_sector.specs.declared.sector.Block.{Block}
-use Rattle.sl_sessions.specs.Sessions.{Session, me, session_numbered}
+use Rattle.sl_sessions.specs.Sessions.{me, session_numbered}
+use Rattle.sl_sessions.specs.declared.session.Session.{Session}
 use Rattle.sl_trace.specs.Traces.{Setting, Submitted, Trace, is_shared, new_call, spot_of_grant}
 use Rattle.sl_trace.specs.declared.effects.Call.{Call}
 use Rattle.sl_trace.specs.declared.effects.Entry.{Entry}

@@ -9,7 +9,8 @@ use Rattle.sl_lease_law.specs.Promises.{BlocksHaveFronts, Phase2Follows, Phase2I
 use Rattle.sl_lease_law.specs.Ways.{BlockFront, Phase2ReadRests, Phase2Rests, lease_among}
 use Rattle.sl_leases.specs.Leases.{Phase1_read, Phase1_write, Phase2_read, Phase2_write, block_written, is_at, kind_of_step, lease_calls, lease_step, same_kind, spot_of_call}
 use Rattle.sl_sector.specs.declared.sector.Block.{Block}
-use Rattle.sl_sessions.specs.Sessions.{Session, session_numbered}
+use Rattle.sl_sessions.specs.Sessions.{session_numbered}
+use Rattle.sl_sessions.specs.declared.session.Session.{Session}
 use Rattle.sl_trace.specs.Traces.{Setting, Submitted, Trace, new_call, submitted}
 use Rattle.sl_trace.specs.declared.effects.Call.{Call}
 use Rattle.sl_trace.specs.declared.effects.LeaseStep.TheVariants.{ClearMode, FreeLeader, Phase1Read, Phase1Write, Phase2Read, Phase2Write, ReadArea, ReadBeforeFree, SetMode, TakeLeader}

@@ -4,7 +4,7 @@ use Rattle.sl_leases.specs.Ballots.{in_instance, moded_block, next_mbal, number_
 use Rattle.sl_plain.proofs.Numbers.{less_is_other}
 use Rattle.sl_sector.specs.declared.sector.Block.{Block}
 use Rattle.sl_sector.specs.declared.sector.Owner.{Owner}
-use Rattle.sl_sessions.specs.Sessions.{Session}
+use Rattle.sl_sessions.specs.declared.session.Session.{Session}
 use Rattle.sl_words.specs.Words.{greatest}
 use Rattle.std.proofs.Common.{ap, arith, refl, subst, sym}
 use Rattle.std.proofs.lemmas.Bool.Decides.{nat_tests}

@@ -5,7 +5,8 @@ use Rattle.sl_lease_law.specs.Fronts.{Submission}
 use Rattle.sl_lease_law.specs.Ways.{Ended}
 use Rattle.sl_leases.specs.Leases.{Mode_set, freed, has_shared_on, is_at, lease_calls}
 use Rattle.sl_sector.specs.declared.sector.Block.{Block}
-use Rattle.sl_sessions.specs.Sessions.{Session, generation_of, me}
+use Rattle.sl_sessions.specs.Sessions.{generation_of, me}
+use Rattle.sl_sessions.specs.declared.session.Session.{Session}
 use Rattle.sl_trace.specs.Traces.{Setting, Submitted, Trace}
 use Rattle.sl_trace.specs.declared.effects.Grant.{Grant}
 use Rattle.sl_trace.specs.declared.effects.Spot.{Spot}

@@ -19,8 +19,9 @@ use Rattle.sl_lease_law.specs.Holding.{ExclusiveRests, ModeRests}
 use Rattle.sl_lease_law.specs.Ways.{BlockComes, BlockFront, LeaderRests, Phase2ReadRests, Phase2Rests}
 use Rattle.sl_sector.specs.declared.sector.Block.{Block}
 use Rattle.sl_sector.specs.declared.sector.Leader.{Leader}
-use Rattle.sl_sessions.specs.Sessions.{Session, session_numbered}
+use Rattle.sl_sessions.specs.Sessions.{session_numbered}
 use Rattle.sl_leases.specs.Leases.{Phase2_read, Phase2_write, block_written, is_at, is_on, leader_written, spot_of_call}
+use Rattle.sl_sessions.specs.declared.session.Session.{Session}
 use Rattle.sl_trace.specs.Traces.{Answered, Setting, Submitted, Trace, spot_of_grant, submitted}
 use Rattle.sl_trace.specs.declared.effects.Entry.{Entry}
 use Rattle.sl_trace.specs.declared.effects.Grant.{Grant}
@@ -43,7 +44,7 @@ pub record WasAnsweredBy (d c : Submitted) : Type 0 where
 abbrev pub OneAtATime : Type 0
 OneAtATime = (st : Setting) (es : Trace) → Lawful st es → (newer between older : List Submitted) (c d : Submitted)
     → submitted es ≡ newer ++ c ∷ (between ++ d ∷ older) → c.call.session ≡ d.call.session
-    → IsTrue (is_block_work c) → IsTrue (is_area_work c.call.purpose) → IsTrue (is_block_work d) → IsTrue (is_on st.layout (spot_of_call st.layout c) d.call)
+    → IsTrue (is_block_work c) → IsTrue (is_area_work c.call.purpose) → IsTrue (is_block_work d) → IsTrue (is_area_work d.call.purpose) → IsTrue (is_on st.layout (spot_of_call st.layout c) d.call)
     → WasAnsweredBy d c
 
 -- Each block comes from the own block by one of three ways. (With no hosts there are no numbers.)

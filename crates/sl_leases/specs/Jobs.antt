@@ -1,9 +1,9 @@
 -- What jobs are about: the lockspace, the process and the resource that their commands name.
-use Rattle.sl_leases.specs.declared.lease.Aim.TheVariants.{Acquires, Releases, Settles}
+use Rattle.sl_leases.specs.declared.lease.Aim.TheVariants.{Acquires, Converts, Releases, Settles}
 use Rattle.sl_leases.specs.declared.lease.Aim.{Aim}
-use Rattle.sl_sessions.specs.Sessions.{Session}
+use Rattle.sl_sessions.specs.declared.session.Session.{Session}
 use Rattle.sl_trace.specs.Traces.{Job, Setting, Trace, child_numbered, children, job_numbered, running_jobs}
-use Rattle.sl_trace.specs.declared.command.Command.TheVariants.{Acquire, AddLockspace, GetLvb, HostStatus, InqLockspace, Release, RemLockspace, Request, RunProgram, SetLvb, Status}
+use Rattle.sl_trace.specs.declared.command.Command.TheVariants.{Acquire, AddLockspace, Convert, GetLvb, HostStatus, InqLockspace, Release, ReleaseOrphan, RemLockspace, Request, RunProgram, SetKillpath, SetLvb, Status, TakeOver}
 use Rattle.sl_trace.specs.declared.command.Command.{Command}
 use Rattle.sl_trace.specs.declared.command.ResourceArg.{ResourceArg}
 use Rattle.sl_trace.specs.declared.effects.Mode.TheVariants.{Exclusive, Shared}
@@ -19,41 +19,59 @@ lockspace_named (AddLockspace a) = Some a.name
 lockspace_named (RemLockspace a) = Some a.name
 lockspace_named (InqLockspace a) = Some a.name
 lockspace_named (HostStatus a) = Some a.name
-lockspace_named (Acquire r shared p) = Some r.lockspace
+lockspace_named (Acquire r shared p persistent) = Some r.lockspace
+lockspace_named (TakeOver r shared p persistent) = Some r.lockspace
 lockspace_named (Release r p) = Some r.lockspace
+lockspace_named (ReleaseOrphan r) = Some r.lockspace
+lockspace_named (Convert r shared p) = Some r.lockspace
 lockspace_named (RunProgram r shared path) = Some r.lockspace
 lockspace_named (Request r lver force) = Some r.lockspace
 lockspace_named (GetLvb r p) = Some r.lockspace
 lockspace_named (SetLvb r p bytes) = Some r.lockspace
+lockspace_named (SetKillpath p path) = None
 lockspace_named Status = None
 
 -- The process for which a command is given.
 abbrev pub process_named : Command → Option ℕ
-process_named (Acquire r shared p) = Some p
+process_named (Acquire r shared p persistent) = Some p
+process_named (TakeOver r shared p persistent) = Some p
 process_named (Release r p) = Some p
+process_named (Convert r shared p) = Some p
 process_named (GetLvb r p) = Some p
 process_named (SetLvb r p bytes) = Some p
+process_named (SetKillpath p path) = Some p
 process_named c = None
 
 -- The resource that a command is about.
 abbrev pub resource_named : Command → Option ResourceArg
-resource_named (Acquire r shared p) = Some r
+resource_named (Acquire r shared p persistent) = Some r
+resource_named (TakeOver r shared p persistent) = Some r
 resource_named (Release r p) = Some r
+resource_named (ReleaseOrphan r) = Some r
+resource_named (Convert r shared p) = Some r
 resource_named (RunProgram r shared path) = Some r
 resource_named (Request r lver force) = Some r
 resource_named (GetLvb r p) = Some r
 resource_named (SetLvb r p bytes) = Some r
 resource_named c = None
 
--- Whether it asks for the shared mode.
+-- Whether it asks for the shared mode, or converts to it.
 abbrev pub wants_shared : Command → Bool
-wants_shared (Acquire r shared p) = shared
+wants_shared (Acquire r shared p persistent) = shared
+wants_shared (TakeOver r shared p persistent) = shared
+wants_shared (Convert r shared p) = shared
 wants_shared (RunProgram r shared path) = shared
 wants_shared c = false
 
--- Whether it asks for a resource.
+-- Whether the holding that it asks for outlives its process.
+abbrev pub wants_persistent : Command → Bool
+wants_persistent (Acquire r shared p persistent) = persistent
+wants_persistent (TakeOver r shared p persistent) = persistent
+wants_persistent c = false
+
+-- Whether it asks for a resource. (A take-over is answered at once, so it is never counted among those that may become holders.)
 abbrev pub is_asking_lease : Command → Bool
-is_asking_lease (Acquire r shared p) = true
+is_asking_lease (Acquire r shared p persistent) = true
 is_asking_lease (RunProgram r shared path) = true
 is_asking_lease c = false
 
@@ -84,9 +102,11 @@ wanted_mode c = elim (wants_shared c) [ true ↦ Shared | false ↦ Exclusive ]
 
 -- To what end a job with this command works on a lease.
 abbrev pub aim_of_command : Command → Option Aim
-aim_of_command (Acquire r shared p) = Some (Acquires (wanted_mode (Acquire r shared p)))
+aim_of_command (Acquire r shared p persistent) = Some (Acquires (wanted_mode (Acquire r shared p persistent)))
+aim_of_command (Convert r shared p) = Some (Converts (wanted_mode (Convert r shared p)))
 aim_of_command (RunProgram r shared path) = Some (Acquires (wanted_mode (RunProgram r shared path)))
 aim_of_command (Release r p) = Some Releases
+aim_of_command (ReleaseOrphan r) = Some Releases
 aim_of_command c = None
 
 -- To what end a call works on a lease.

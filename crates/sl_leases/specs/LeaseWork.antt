@@ -4,11 +4,11 @@ use Rattle.sl_area.specs.Layouts.{Layout}
 use Rattle.sl_area.specs.Places.{area_blocks, blocks_in, leader_of}
 use Rattle.sl_leases.specs.Ballots.{ballot_blocks, is_ahead, moded_block, phase1_block, phase2_block, same_owner, stop_of, value_of}
 use Rattle.sl_leases.specs.Leases.{LeaseKnown, instance_for, is_leader_of, mode_gen_of, owed, owed_free, own_known, shared_elsewhere}
-use Rattle.sl_leases.specs.declared.lease.Aim.TheVariants.{Acquires, Releases, Settles}
+use Rattle.sl_leases.specs.declared.lease.Aim.TheVariants.{Acquires, Converts, Releases, Settles}
 use Rattle.sl_leases.specs.declared.lease.Aim.{Aim}
 use Rattle.sl_leases.specs.declared.lease.Instance.TheVariants.{Begins, HeldAlready}
 use Rattle.sl_leases.specs.declared.lease.Instance.{Instance}
-use Rattle.sl_leases.specs.declared.lease.LeaseNext.TheVariants.{AnswerJob, GrantJob, ReadFor, Nothing, WriteBlock, WriteLeader}
+use Rattle.sl_leases.specs.declared.lease.LeaseNext.TheVariants.{AnswerJob, BecomeExclusive, BecomeShared, GrantJob, ReadFor, Nothing, WriteBlock, WriteLeader}
 use Rattle.sl_leases.specs.declared.lease.LeaseNext.{LeaseNext}
 use Rattle.sl_leases.specs.declared.lease.Owed.TheVariants.{BallotOwed, FreeOwed, ModeOwed}
 use Rattle.sl_leases.specs.declared.lease.Owed.{Owed}
@@ -17,7 +17,7 @@ use Rattle.sl_leases.specs.declared.lease.Stop.{Stop}
 use Rattle.sl_sector.specs.declared.sector.Block.{Block}
 use Rattle.sl_sector.specs.declared.sector.Leader.{Leader}
 use Rattle.sl_sector.specs.declared.sector.Owner.{Owner}
-use Rattle.sl_sessions.specs.Sessions.{Session}
+use Rattle.sl_sessions.specs.declared.session.Session.{Session}
 use Rattle.sl_trace.specs.Traces.{Setting}
 use Rattle.sl_trace.specs.declared.effects.LeaseStep.TheVariants.{ClearMode, FreeLeader, Phase1Read, Phase1Write, Phase2Read, Phase2Write, ReadArea, ReadBeforeFree, SetMode, TakeLeader}
 use Rattle.sl_trace.specs.declared.effects.LeaseStep.{LeaseStep}
@@ -45,13 +45,16 @@ lease_place st s = record { layout = st.layout; lockspace = s.lockspace }
 -- A job is refused; a settling stops until a later wake.
 abbrev pub refuses : Aim → Reply → LeaseNext
 refuses (Acquires mode) r = AnswerJob r
+refuses (Converts mode) r = AnswerJob r
 refuses Releases r = AnswerJob r
 refuses Settles r = Nothing
 
--- Whether another's shared mode stands in the way: of an exclusive acquire alone.
+-- Whether another's shared mode stands in the way: of an exclusive acquire and of a conversion to exclusive alone.
 abbrev pub looks_for_shared : Aim → Bool
 looks_for_shared (Acquires Exclusive) = true
 looks_for_shared (Acquires Shared) = false
+looks_for_shared (Converts Exclusive) = true
+looks_for_shared (Converts Shared) = false
 looks_for_shared Releases = false
 looks_for_shared Settles = false
 
@@ -99,6 +102,7 @@ stop_reply (BlockRival host mbal) = Rival host mbal
 -- for a wake.
 abbrev pub stopped_next : LeasePlace → LeaseKnown → Aim → Stop → LeaseNext
 stopped_next p k (Acquires mode) stop = AnswerJob (stop_reply stop)
+stopped_next p k (Converts mode) stop = AnswerJob (stop_reply stop)
 stopped_next p k Releases stop = AnswerJob (stop_reply stop)
 stopped_next p k Settles stop = elim (is_ahead stop) [ true ↦ settle_next p k | false ↦ Nothing ]
 
@@ -125,6 +129,7 @@ after_phase1 p k aim own read (Some stop) = stopped_next p k aim stop
 -- A won ballot takes the leader; a settling writes it free.
 abbrev pub won_next : LeasePlace → LeaseKnown → Aim → ℕ → LeaseNext
 won_next p k (Acquires mode) n = WriteLeader TakeLeader (leader_for p k true n)
+won_next p k (Converts mode) n = WriteLeader TakeLeader (leader_for p k true n)
 won_next p k Releases n = Nothing
 won_next p k Settles n = WriteLeader FreeLeader (leader_for p k false n)
 
@@ -132,6 +137,8 @@ won_next p k Settles n = WriteLeader FreeLeader (leader_for p k false n)
 abbrev pub lost_next : LeasePlace → LeaseKnown → Aim → ℕ → Owner → LeaseNext
 lost_next p k (Acquires mode) n o =
     elim (k.over o.id o.generation) [ true ↦ begin_next p k (Acquires mode) (n + 1) | false ↦ AnswerJob (HeldBy n o) ]
+lost_next p k (Converts mode) n o =
+    elim (k.over o.id o.generation) [ true ↦ begin_next p k (Converts mode) (n + 1) | false ↦ AnswerJob (HeldBy n o) ]
 lost_next p k Releases n o = Nothing
 lost_next p k Settles n o = settle_next p k
 
@@ -183,22 +190,35 @@ after_read p k aim bytes Phase1Read =
 after_read p k aim bytes Phase2Read = option_map_or (λ own. after_phase2 p k aim own (stop_of own (blocks_in p.layout bytes))) k.own Nothing
 after_read p k aim bytes step = Nothing
 
--- The leader of n is taken: exclusive is granted; shared goes on with the own block's mode.
+-- The leader of n is taken: exclusive is granted, or the shared holding converted and its mode cleared; shared goes on with the own
+-- block's mode.
 abbrev pub after_take : LeaseKnown → Aim → ℕ → LeaseNext
 after_take k (Acquires Exclusive) n = GrantJob Exclusive n
 after_take k (Acquires Shared) n = option_map_or (λ own. WriteBlock SetMode (moded_block own true k.self.generation)) k.own Nothing
+after_take k (Converts Exclusive) n = option_map_or (λ own. BecomeExclusive n (moded_block own false 0)) k.own Nothing
+after_take k (Converts Shared) n = Nothing
 after_take k Releases n = Nothing
 after_take k Settles n = Nothing
+
+-- The mode stands: an acquire frees the leader of n before it is granted; a conversion is done, and the leader of the instance that was
+-- held is freed after it.
+abbrev pub after_moding : LeasePlace → LeaseKnown → Aim → ℕ → LeaseNext
+after_moding p k (Acquires mode) n = WriteLeader FreeLeader (leader_for p k false n)
+after_moding p k (Converts mode) n = option_map_or (λ e. BecomeShared e (leader_for p k false e)) k.exclusive Nothing
+after_moding p k Releases n = Nothing
+after_moding p k Settles n = Nothing
 
 -- The leader of n is freed: a shared acquire is granted, a release is done, a settling goes on.
 abbrev pub after_freeing : LeasePlace → LeaseKnown → Aim → ℕ → LeaseNext
 after_freeing p k (Acquires mode) n = GrantJob Shared n
+after_freeing p k (Converts mode) n = Nothing
 after_freeing p k Releases n = AnswerJob Done
 after_freeing p k Settles n = settle_next p k
 
 -- The mode is cleared: a release is done, a settling goes on.
 abbrev pub after_clearing : LeasePlace → LeaseKnown → Aim → LeaseNext
 after_clearing p k (Acquires mode) = Nothing
+after_clearing p k (Converts mode) = Nothing
 after_clearing p k Releases = AnswerJob Done
 after_clearing p k Settles = settle_next p k
 
@@ -207,7 +227,7 @@ abbrev pub after_write : LeasePlace → LeaseKnown → Aim → ℕ → LeaseStep
 after_write p k aim n Phase1Write = ReadFor Phase1Read
 after_write p k aim n Phase2Write = ReadFor Phase2Read
 after_write p k aim n TakeLeader = after_take k aim n
-after_write p k aim n SetMode = WriteLeader FreeLeader (leader_for p k false n)
+after_write p k aim n SetMode = after_moding p k aim n
 after_write p k aim n FreeLeader = after_freeing p k aim n
 after_write p k aim n ClearMode = after_clearing p k aim
 after_write p k aim n step = Nothing
@@ -224,3 +244,11 @@ lease_next p k aim call n step Failed = refuses aim (IoFault call)
 abbrev pub release_next : LeasePlace → LeaseKnown → Mode → ℕ → LeaseNext
 release_next p k Exclusive lver = WriteLeader FreeLeader (leader_for p k false lver)
 release_next p k Shared lver = option_map_or (λ own. WriteBlock ClearMode (moded_block own false 0)) k.own Nothing
+
+-- ---- converting
+
+-- A conversion to shared begins with the own block's mode, while the leader still stands; one to exclusive with the read of the area,
+-- while the mode still stands.
+abbrev pub convert_next : LeaseKnown → Mode → List ℕ → LeaseNext
+convert_next k Shared name = option_map_or (λ own. WriteBlock SetMode (moded_block own true k.self.generation)) k.own Nothing
+convert_next k Exclusive name = ReadFor (ReadArea name)

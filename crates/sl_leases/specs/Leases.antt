@@ -13,9 +13,10 @@ use Rattle.sl_sector.specs.declared.sector.Owner.{Owner}
 use Rattle.sl_sector.specs.declared.sector.Rec.TheVariants.{BlockIs, LeaderIs, ValueIs}
 use Rattle.sl_sector.specs.declared.sector.Rec.{Rec}
 use Rattle.sl_sector.specs.declared.sector.ValueRec.{ValueRec}
-use Rattle.sl_sessions.specs.Sessions.{Session, calls_of, holdings_of, me}
+use Rattle.sl_sessions.specs.Sessions.{calls_of, holdings_of, me}
 use Rattle.sl_sessions.specs.Watching.{counts_over}
-use Rattle.sl_trace.specs.Traces.{Setting, Submitted, Trace, gave, is_answered_ok, is_heeded, is_shared, outstanding, record_of, same_place, same_spot}
+use Rattle.sl_sessions.specs.declared.session.Session.{Session}
+use Rattle.sl_trace.specs.Traces.{Setting, Submitted, Trace, gave, is_answered_ok, is_heeded, is_orphan, is_shared, outstanding, record_of, same_place, same_spot}
 use Rattle.sl_trace.specs.declared.command.ResourceArg.{ResourceArg}
 use Rattle.sl_trace.specs.declared.effects.Call.{Call}
 use Rattle.sl_trace.specs.declared.effects.Grant.{Grant}
@@ -298,6 +299,10 @@ has_shared_on es s at = is_some (shared_on es s at)
 -- The exclusive one, if any.
 abbrev pub exclusive_on : Trace → Session → Spot → Option Grant
 exclusive_on es s at = find (λ g. not (is_shared g.mode)) (holdings_on es s at)
+
+-- The orphan among them, if there is one.
+abbrev pub orphan_on : Trace → Session → Spot → Option Grant
+orphan_on es s at = find is_orphan (holdings_on es s at)
 
 -- Whether a shared mode may stand in the own block: a block with it was submitted, and no later one without it was answered ok.
 abbrev pub may_show_shared : List Submitted → Bool

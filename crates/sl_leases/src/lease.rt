@@ -28,15 +28,17 @@ pub enum Owed {
     FreeOwed { instance: u64 },
 }
 
-/// To what end a lease is worked on: a job acquires it in a mode or gives it up, or what it owes is settled.
+/// To what end a lease is worked on: a job acquires it in a mode, converts a holding to a mode, or gives it up, or what it owes is
+/// settled.
 #[derive(Clone, Copy)]
 pub enum Aim {
     Acquires(Mode),
+    Converts(Mode),
     Releases,
     Settles,
 }
 
-/// What a lease does next: at most one call, or one reply, or a grant.
+/// What a lease does next: at most one call, or one reply, or a grant, or the conversion of a holding with the call that it then owes.
 #[derive(Drop)]
 pub enum LeaseNext {
     /// Nothing.
@@ -51,4 +53,9 @@ pub enum LeaseNext {
     AnswerJob(Reply),
     /// The job is granted the resource in this mode, under this instance.
     GrantJob { mode: Mode, lver: u64 },
+    /// The job's process holds the resource shared in place of exclusive, under the same instance; then the leader is written free.
+    BecomeShared { lver: u64, leader: Leader },
+    /// The job's process holds the resource exclusive in place of shared, under this instance; then the own block is written without
+    /// the mode.
+    BecomeExclusive { lver: u64, block: Block },
 }

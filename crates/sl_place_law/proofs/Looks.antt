@@ -16,7 +16,8 @@ use Rattle.sl_session_law.proofs.Owning.{calls_were_lawful}
 use Rattle.sl_session_law.proofs.Silence.{stage_by}
 use Rattle.sl_session_law.specs.Promises.{IsMade, IsSession, WasLawful, front_of, made_as}
 use Rattle.sl_sessions.specs.Deltas.{DeltaLease, delta_of_session, delta_record, own_offset}
-use Rattle.sl_sessions.specs.Sessions.{Session, calls_of, delta_of_record, delta_written, free_write, is_call_of, is_delta_purpose, is_join_call, is_survey_purpose, join_call, joined_after, refused_after, removed_after, same_join_step, sessions, stage_after, stage_in, stage_of}
+use Rattle.sl_sessions.specs.Sessions.{calls_of, delta_of_record, delta_written, free_write, is_call_of, is_delta_purpose, is_join_call, is_survey_purpose, join_call, joined_after, refused_after, removed_after, same_join_step, sessions, stage_after, stage_in, stage_of}
+use Rattle.sl_sessions.specs.declared.session.Session.{Session}
 use Rattle.sl_sessions.specs.declared.stage.Stage.TheVariants.{Looking, Standing}
 use Rattle.sl_sessions.specs.declared.stage.Stage.{Stage}
 use Rattle.sl_trace.specs.Traces.{Answered, Setting, Submitted, Trace, answer_of, answered_in, gave, is_answered_ok, mark, record_of, submitted}

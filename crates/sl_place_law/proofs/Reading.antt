@@ -29,7 +29,8 @@ use Rattle.sl_session_law.proofs.Growing.{all_of_it}
 use Rattle.sl_session_law.proofs.Making.{calls_are_made}
 use Rattle.sl_session_law.proofs.Owning.{owned, sessions_stay}
 use Rattle.sl_session_law.specs.Promises.{IsMade, IsSession}
-use Rattle.sl_sessions.specs.Sessions.{Session, session_numbered}
+use Rattle.sl_sessions.specs.Sessions.{session_numbered}
+use Rattle.sl_sessions.specs.declared.session.Session.{Session}
 use Rattle.sl_trace.specs.Traces.{Answered, Setting, Submitted, Trace, bytes_given, gave, is_ok_answer, is_write, record_of, same_place, submitted}
 use Rattle.sl_trace.specs.declared.effects.Op.TheVariants.{ReadSectors}
 use Rattle.sl_trace.specs.declared.effects.Op.{Op}

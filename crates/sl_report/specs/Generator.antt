@@ -46,6 +46,7 @@ gen_header hosts =
       grace = 300;
       machines = hosts;
       geometry = record { sector = default_sector; area = default_area; hosts = hosts };
+      retries = 0;
       clocks = [];
       disks = record { path = gen_path; mebibytes = 8 } ∷ [];
       lockspaces = record { name = codes "ls"; path = gen_path; offset = 0 } ∷ [];

@@ -4,9 +4,9 @@ use Rattle.sl_law.specs.Caused.{IsCaused}
 use Rattle.sl_law.specs.Lawful.{Lawful}
 use Rattle.sl_report.specs.Generator.{IsGenerated, gen_header, gen_line, gen_lines}
 use Rattle.sl_report.specs.Languages.{Language}
-use Rattle.sl_report.specs.Reports.{end_line, no_counts, run_counts}
+use Rattle.sl_report.specs.Reports.{end_line, no_counts, run_counts, run_lines}
 use Rattle.sl_report.specs.ScheduleLines.{refusal_line}
-use Rattle.sl_report.specs.Schedules.{Ending, Follows, Header_read, Header_refused, NumberedLine, event_lines_of, numbered_lines, read_header, replay_lines, report_of, status_of}
+use Rattle.sl_report.specs.Schedules.{Ending, Follows, FollowsSoFar, Header_read, Header_refused, NumberedLine, event_lines_of, numbered_lines, read_header, replay_lines, report_of, status_of}
 use Rattle.sl_run.specs.Headers.{IsHeader}
 use Rattle.sl_run.specs.Quiet.{QuietIsGranted}
 use Rattle.sl_run.specs.Runs.{AfterEachFront, EachDaemon, Happening, IsRun}
@@ -61,6 +61,22 @@ MayHaveBeen ended read source = MatchBool ended (source ≡ read) (IsFrontOf rea
 abbrev pub is_whole_status : ℕ → Bool
 is_whole_status status = nat_le status 1
 
+-- What is written begins the report of a source: it is nothing, or begins the lines of a run that follows the source's events so far, or
+-- begins a whole report; of that run this is promised.
+pub data FrontOf (promised : Promise) (lang : Language) (source written : List ℕ) : Type 0 where
+  Of_nothing : written ≡ [] → FrontOf promised lang source written
+  Of_events : (h : Header) (rest : List NumberedLine) (xs : List Happening) → read_header lang [] 1 (numbered_lines source) ≡ Header_read h rest →
+      FollowsSoFar (world_with lang.program h) (event_lines_of lang h rest) xs → promised lang.program h xs →
+      IsFrontOf written (as_bytes (run_lines (world_with lang.program h) xs)) → FrontOf promised lang source written
+  Of_report : (report : List ℕ) (status : ℕ) → ReplayOf promised lang source report status → IsFrontOf written report → FrontOf promised lang source written
+
+-- What is owed for the bytes that were read, whether the source ended with them, the bytes that were written, and the status, whatever is
+-- promised of runs: with 0 or 1 the whole report, whatever the rest of the source; with 3, 4 and 5 a front of it.
+abbrev pub ReplayOwed : Promise → Language → Bool → List ℕ → List ℕ → ℕ → Type 0
+ReplayOwed promised lang ended read written status =
+    MatchBool (is_whole_status status) ((source : List ℕ) → MayHaveBeen ended read source → ReplayOf promised lang source written status)
+    (IsTrue (is_in_range 3 5 status) × ((source : List ℕ) → MayHaveBeen ended read source → FrontOf promised lang source written))
+
 -- What `replay` owes for the bytes that it read, whether the source ended with them, the bytes that it wrote, and its status: with 0 or 1
 -- the whole report, whatever the rest of the source; with 3, 4 and 5 a front of the report that the plain program computes.
 abbrev pub ReplayHeadline : Promise → Language → Bool → List ℕ → List ℕ → ℕ → Type 0
@@ -93,10 +109,11 @@ PlainGen p =
     (seed hosts events : ℕ) → IsTrue (is_in_range 1 16 hosts) → events ≤ 1000000 → (written : List ℕ) →
     GenOf p seed hosts events written ↔ (written ≡ as_bytes (gen_lines p seed hosts events))
 
--- The plain program computes the report.
-abbrev pub PlainReplay : Language → Type 0
-PlainReplay lang = (source : List ℕ) → (status : ℕ) × ReplayOf GoodRun lang source (as_bytes (replay_lines lang source)) status
+-- The plain program computes the report, of whose run this is promised.
+abbrev pub PlainReplay : Promise → Language → Type 0
+PlainReplay promised lang = (source : List ℕ) → (status : ℕ) × ReplayOf promised lang source (as_bytes (replay_lines lang source)) status
 
--- What is written is the plain program's report: so the report is one, and the program computes it.
-abbrev pub Headline : Language → Type 0
-Headline lang = (source : List ℕ) (status : ℕ) (written : List ℕ) → ReplayOf GoodRun lang source written status → written ≡ as_bytes (replay_lines lang source)
+-- What is written, and promised so much of its run, is the plain program's report: so the report is one, and the program computes it.
+abbrev pub Headline : Promise → Language → Type 0
+Headline promised lang =
+    (source : List ℕ) (status : ℕ) (written : List ℕ) → ReplayOf promised lang source written status → written ≡ as_bytes (replay_lines lang source)

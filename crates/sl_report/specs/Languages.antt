@@ -29,16 +29,16 @@ abbrev pub is_skipped : List ℕ → Bool
 is_skipped [] = true
 is_skipped (c ∷ cs) = c == 35
 
--- Clocks, resources and sessions may be left out.
+-- The geometry, retries, clocks, resources and sessions may be left out.
 abbrev pub least_lines : ℕ → ℕ
-least_lines k = if k == 4 || k == 7 || k == 8 then 0 else 1
+least_lines k = if k == 4 || k == 5 || k == 6 || k == 9 || k == 10 then 0 else 1
 
 -- Any number of clocks and sessions, 8 disks and lockspaces, 256 resources, one of the others.
 abbrev pub most_lines : ℕ → Option ℕ
 most_lines k =
-    if k == 4 || k == 8 then None
-    else (if k == 5 || k == 6 then Some 8
-    else (if k == 7 then Some 256 else Some 1))
+    if k == 6 || k == 10 then None
+    else (if k == 7 || k == 8 then Some 8
+    else (if k == 9 then Some 256 else Some 1))
 
 -- The whole language, of this program.
 abbrev pub language_of : Program → Language

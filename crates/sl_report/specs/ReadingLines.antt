@@ -2,16 +2,16 @@
 use Rattle.sl_report.specs.Languages.{Language}
 use Rattle.sl_report.specs.ScheduleLines.{HeaderLine, checked_event, count_of_rank, event_forms, header_forms, header_of, header_tests, is_positive_word, rank}
 use Rattle.sl_run.specs.Worlds.{first_that}
-use Rattle.sl_run.specs.declared.event.Event.TheVariants.{GiveCommand}
+use Rattle.sl_run.specs.declared.event.Event.TheVariants.{GiveCommand, GiveLvm}
 use Rattle.sl_run.specs.declared.event.Event.{Event}
 use Rattle.sl_run.specs.declared.event.Refusal.TheVariants.{Syntax}
 use Rattle.sl_run.specs.declared.event.Refusal.{Refusal}
 use Rattle.sl_text.specs.Forms.{exactly, made_by, spaced, words_of}
 use Rattle.sl_text.specs.Numbers.{capped_short}
-use Rattle.sl_words.specs.Words.{choose}
+use Rattle.sl_words.specs.Words.{choose, is_empty}
 use Rattle.std.specs.List.{list_all, range_with_len}
 use Rattle.std.specs.Option.{option_or}
-use Rattle.std.specs.Prelude.{Bool, List, None, Option, Some, codes, nat_le, nat_lt, not, true, ℕ, ◌&&◌, ◌∷◌}
+use Rattle.std.specs.Prelude.{Bool, List, None, Option, Some, codes, if◌then◌else◌, nat_le, nat_lt, not, true, ℕ, ◌&&◌, ◌∷◌}
 
 -- The header line that a line spells, if it does.
 abbrev pub header_line_in : Language → ℕ → List ℕ → Option HeaderLine
@@ -32,10 +32,14 @@ abbrev pub header_refusal : Language → ℕ → ℕ → List HeaderLine → Hea
 header_refusal lang sector area ls l =
     first_that ((not (is_in_order lang ls (rank l)), Syntax) ∷ header_tests (header_of sector area ls) l)
 
+-- A text beginning with `lvm` and a space is a line for lvmlockd.
+abbrev pub given_text : ℕ → List ℕ → List (List ℕ) → Event
+given_text m w ws = if exactly (codes "lvm") w && not (is_empty ws) then GiveLvm m (spaced ws) else GiveCommand m (spaced (w ∷ ws))
+
 -- `command M TEXT`: the rest of the line is the text.
 abbrev pub command_event : List (List ℕ) → Option Event
 command_event (verb ∷ machine ∷ w ∷ ws) =
-    choose (exactly (codes "command") verb && is_positive_word machine) (GiveCommand (capped_short machine) (spaced (w ∷ ws)))
+    choose (exactly (codes "command") verb && is_positive_word machine) (given_text (capped_short machine) w ws)
 command_event ws = None
 
 -- The event that a line spells, if it does.

@@ -1,8 +1,9 @@
 -- The lines of a schedule: header lines and events.
+use Rattle.sl_area.specs.Layouts.{most_ids, most_ids_of_all}
 use Rattle.sl_run.specs.Worlds.{mebibyte}
 use Rattle.sl_run.specs.declared.event.Event.TheVariants.{AnswerCall, Crash, Do, DropWrite, ExitOf, Land, Pass, Reset, Restart, Sample, SpawnedOf, StartDaemon, Tear, Test, WakeUp}
 use Rattle.sl_run.specs.declared.event.Event.{Event}
-use Rattle.sl_run.specs.declared.event.Refusal.TheVariants.{LimitBytes, LimitFire, LimitGrace, LimitIo, LimitLand, LimitMoment, LimitRho, MissingCall, MissingDaemon, MissingDisk, MissingDown, MissingFlight, MissingFree, MissingLanding, MissingLockspace, MissingMachine, MissingPlace, MissingReset, MissingSample, MissingSpawn, MissingUp, PremiseDrift, PremiseLanding, PremiseName, PremiseTorn, PremiseWatchdog, Syntax}
+use Rattle.sl_run.specs.declared.event.Refusal.TheVariants.{LimitBytes, LimitFire, LimitGeometry, LimitGrace, LimitIds, LimitIo, LimitLand, LimitMoment, LimitRho, MissingCall, MissingDaemon, MissingDisk, MissingDown, MissingFlight, MissingFree, MissingLanding, MissingLockspace, MissingLvm, MissingMachine, MissingPlace, MissingReset, MissingSample, MissingSpawn, MissingUp, PremiseDrift, PremiseLanding, PremiseName, PremiseTorn, PremiseWatchdog, Syntax}
 use Rattle.sl_run.specs.declared.event.Refusal.{Refusal}
 use Rattle.sl_run.specs.declared.header.Disk.{Disk}
 use Rattle.sl_run.specs.declared.header.FirstReading.{FirstReading}
@@ -16,10 +17,10 @@ use Rattle.sl_text.specs.Names.{is_name, is_path}
 use Rattle.sl_text.specs.Numbers.{capped_long, capped_short, hex_bytes, is_hex_word, is_number_text, is_number_that, number_of}
 use Rattle.sl_time.specs.Times.{TimingNumbers}
 use Rattle.sl_trace.specs.Commands.{is_process_word}
-use Rattle.sl_words.specs.Words.{choose, first_of_list}
+use Rattle.sl_words.specs.Words.{choose, first_of_list, some_is}
 use Rattle.std.specs.Int.{is_in_range}
 use Rattle.std.specs.List.{list_any}
-use Rattle.std.specs.Prelude.{Bool, List, None, Option, Some, bytes_eq, codes, count_by, decimal, drop, filter_map, length, map, nat_le, nat_lt, not, replicate, true, unwrap_or, [], ℕ, ◌%◌, ◌&&◌, ◌*◌, ◌+◌, ◌==◌, ◌^◌, ◌||◌, ◌∷◌}
+use Rattle.std.specs.Prelude.{Bool, List, None, Option, Some, bytes_eq, codes, count_by, decimal, drop, filter_map, is_none, length, map, nat_le, nat_lt, not, replicate, true, unwrap_or, [], ℕ, ◌%◌, ◌&&◌, ◌*◌, ◌+◌, ◌==◌, ◌^◌, ◌||◌, ◌∷◌}
 
 -- A number above 0.
 abbrev pub is_positive_word : List ℕ → Bool
@@ -33,6 +34,8 @@ pub data HeaderLine : Type 0 where
   TimeLine : (io fire land rho grace : ℕ) → HeaderLine
   HostsLine : ℕ → HeaderLine
   IdsLine : ℕ → HeaderLine
+  GeometryLine : (sector mebibytes : ℕ) → HeaderLine
+  LvmLine : ℕ → HeaderLine
   ClockLine : FirstReading → HeaderLine
   DiskLine : Disk → HeaderLine
   AreaLine : LockspaceLine → HeaderLine
@@ -49,7 +52,12 @@ header_forms area =
       make = λ ws. TimeLine (capped_long (word_at ws 1)) (capped_long (word_at ws 2)) (capped_long (word_at ws 3)) (capped_long (word_at ws 4)) (capped_long (word_at ws 5));
     }
     ∷ record { words = exactly (codes "hosts") ∷ is_number_that (is_in_range 1 16) ∷ []; make = λ ws. HostsLine (number_of (word_at ws 1)) }
-    ∷ record { words = exactly (codes "ids") ∷ is_number_that (is_in_range 1 2000) ∷ []; make = λ ws. IdsLine (number_of (word_at ws 1)) }
+    ∷ record { words = exactly (codes "ids") ∷ is_positive_word ∷ []; make = λ ws. IdsLine (capped_long (word_at ws 1)) }
+    ∷ record {
+      words = exactly (codes "geometry") ∷ is_number_text ∷ is_number_text ∷ [];
+      make = λ ws. GeometryLine (capped_long (word_at ws 1)) (capped_long (word_at ws 2));
+    }
+    ∷ record { words = exactly (codes "lvm") ∷ is_number_that (λ n. nat_le n 8) ∷ []; make = λ ws. LvmLine (number_of (word_at ws 1)) }
     ∷ record {
       words = exactly (codes "clock") ∷ is_positive_word ∷ is_number_that (λ n. nat_lt n (10 ^ 12)) ∷ [];
       make = λ ws. ClockLine (record { machine = capped_short (word_at ws 1); reading = number_of (word_at ws 2) });
@@ -79,12 +87,14 @@ rank VersionLine = 0
 rank (TimeLine io fire land rho grace) = 1
 rank (HostsLine m) = 2
 rank (IdsLine n) = 3
-rank (ClockLine c) = 4
-rank (DiskLine d) = 5
-rank (AreaLine l) = 6
-rank (LeaseLine r) = 7
-rank (MemberLine s) = 8
-rank BeginLine = 9
+rank (GeometryLine sector mebibytes) = 4
+rank (LvmLine n) = 5
+rank (ClockLine c) = 6
+rank (DiskLine d) = 7
+rank (AreaLine l) = 8
+rank (LeaseLine r) = 9
+rank (MemberLine s) = 10
+rank BeginLine = 11
 
 -- How many lines of a rank there are.
 abbrev pub count_of_rank : List HeaderLine → ℕ → ℕ
@@ -106,6 +116,16 @@ hosts_line l = None
 abbrev pub ids_line : HeaderLine → Option ℕ
 ids_line (IdsLine n) = Some n
 ids_line l = None
+
+-- What the geometry line gives: the bytes of a sector and of an area.
+abbrev pub geometry_line : HeaderLine → Option (ℕ × ℕ)
+geometry_line (GeometryLine sector mebibytes) = Some (sector, mebibytes * mebibyte)
+geometry_line l = None
+
+-- What the lvm line gives.
+abbrev pub retries_line : HeaderLine → Option ℕ
+retries_line (LvmLine n) = Some n
+retries_line l = None
 
 -- What a clock line gives.
 abbrev pub clock_line : HeaderLine → Option FirstReading
@@ -140,14 +160,19 @@ first_line pick default ls = unwrap_or (first_of_list (filter_map pick ls)) defa
 abbrev pub no_timing : TimingNumbers
 no_timing = record { io = 0; fire = 0; land = 0; rho = 0 }
 
--- What these lines give.
+-- What these lines give, with these sizes where no line says otherwise.
 unfoldable pub header_of : ℕ → ℕ → List HeaderLine → Header
 header_of sector area ls =
     record {
       timing = (first_line timing_line (no_timing, 0) ls).0;
       grace = (first_line timing_line (no_timing, 0) ls).1;
       machines = first_line hosts_line 0 ls;
-      geometry = record { sector = sector; area = area; hosts = first_line ids_line 0 ls };
+      geometry = record {
+        sector = (first_line geometry_line (sector, area) ls).0;
+        area = (first_line geometry_line (sector, area) ls).1;
+        hosts = first_line ids_line 0 ls;
+      };
+      retries = first_line retries_line 0 ls;
       clocks = filter_map clock_line ls;
       disks = filter_map disk_line ls;
       lockspaces = filter_map area_line ls;
@@ -177,7 +202,11 @@ header_tests h (TimeLine io fire land rho grace) =
     (not (is_in_range 1 600000 io), LimitIo) ∷ (nat_lt 600000 fire, LimitFire) ∷ (nat_lt 600000 land, LimitLand)
     ∷ (nat_lt 100 rho, LimitRho) ∷ (nat_lt 600000 grace, LimitGrace) ∷ []
 header_tests h (HostsLine m) = []
-header_tests h (IdsLine n) = []
+header_tests h (IdsLine n) = (nat_lt most_ids_of_all n, LimitIds) ∷ []
+header_tests h (GeometryLine sector mebibytes) =
+    (is_none (most_ids sector (mebibytes * mebibyte)), LimitGeometry)
+    ∷ (some_is (λ most. nat_lt most h.geometry.hosts) (most_ids sector (mebibytes * mebibyte)), LimitIds) ∷ []
+header_tests h (LvmLine n) = []
 header_tests h (ClockLine c) = (nat_lt h.machines c.machine, MissingMachine) ∷ (list_any (λ d. d.machine == c.machine) h.clocks, MissingFree) ∷ []
 header_tests h (DiskLine d) = (list_any (λ e. bytes_eq e.path d.path) h.disks, MissingFree) ∷ []
 header_tests h (AreaLine l) =
@@ -279,6 +308,8 @@ refusal_words LimitRho = codes "limit" ∷ codes "rho" ∷ []
 refusal_words LimitGrace = codes "limit" ∷ codes "grace" ∷ []
 refusal_words LimitMoment = codes "limit" ∷ codes "moment" ∷ []
 refusal_words LimitBytes = codes "limit" ∷ codes "bytes" ∷ []
+refusal_words LimitGeometry = codes "limit" ∷ codes "geometry" ∷ []
+refusal_words LimitIds = codes "limit" ∷ codes "ids" ∷ []
 refusal_words MissingMachine = codes "missing" ∷ codes "machine" ∷ []
 refusal_words MissingDisk = codes "missing" ∷ codes "disk" ∷ []
 refusal_words MissingLockspace = codes "missing" ∷ codes "lockspace" ∷ []
@@ -287,6 +318,7 @@ refusal_words MissingUp = codes "missing" ∷ codes "up" ∷ []
 refusal_words MissingDown = codes "missing" ∷ codes "down" ∷ []
 refusal_words MissingReset = codes "missing" ∷ codes "reset" ∷ []
 refusal_words MissingDaemon = codes "missing" ∷ codes "daemon" ∷ []
+refusal_words MissingLvm = codes "missing" ∷ codes "lvm" ∷ []
 refusal_words MissingCall = codes "missing" ∷ codes "call" ∷ []
 refusal_words MissingPlace = codes "missing" ∷ codes "place" ∷ []
 refusal_words MissingSample = codes "missing" ∷ codes "sample" ∷ []

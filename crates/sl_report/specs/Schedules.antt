@@ -4,9 +4,10 @@ use Rattle.sl_report.specs.ReadingLines.{event_in, header_line_in, header_refusa
 use Rattle.sl_report.specs.Replay.{effects_of}
 use Rattle.sl_report.specs.Reports.{Counts, count_event, end_line, event_lines, no_counts, run_counts, run_lines}
 use Rattle.sl_report.specs.ScheduleLines.{BeginLine, HeaderLine, header_of, refusal_line}
-use Rattle.sl_run.specs.Events.{happens, may_happen, refusal_of}
+use Rattle.sl_run.specs.Events.{asking, happens, may_happen, refusal_of}
 use Rattle.sl_run.specs.Runs.{Happening}
 use Rattle.sl_run.specs.Worlds.{World, first_that, mebibyte, world_with}
+use Rattle.sl_run.specs.declared.event.Event.TheVariants.{GiveAsk}
 use Rattle.sl_run.specs.declared.event.Event.{Event}
 use Rattle.sl_run.specs.declared.event.Refusal.TheVariants.{LimitBytes, Syntax}
 use Rattle.sl_run.specs.declared.event.Refusal.{Refusal}
@@ -14,7 +15,7 @@ use Rattle.sl_run.specs.declared.header.Header.{Header}
 use Rattle.sl_text.specs.Forms.{lines_of}
 use Rattle.sl_trace.specs.declared.effects.Effects.{Effects}
 use Rattle.sl_words.specs.Words.{some_is}
-use Rattle.std.specs.Prelude.{Bool, Err, IsTrue, List, None, Ok, Option, Result, Some, false, filter_map, length, min, nat_le, nat_lt, true, [], ℕ, ◌&&◌, ◌++◌, ◌+◌, ◌∷◌, ◌≡◌}
+use Rattle.std.specs.Prelude.{Bool, Err, IsSomeAnd, IsTrue, List, None, Ok, Option, Result, Some, false, filter_map, length, min, nat_le, nat_lt, suc, true, zero, [], ℕ, ◌&&◌, ◌++◌, ◌+◌, ◌∷◌, ◌≡◌}
 
 -- A line with its number and the number of bytes before it; it is past the limit where it holds the byte after the last one.
 pub record NumberedLine : Type 0 where
@@ -86,7 +87,7 @@ read_header lang ls next (l ∷ rest) =
       | None ↦ elim (lang.skips l.text) [
         | true ↦ read_header lang ls (l.number + 1) rest
         | false ↦
-            let read : Option HeaderLine = header_line_in lang default_area l.text in
+            let read : Option HeaderLine = header_line_in lang (header_of default_sector default_area ls).geometry.area l.text in
             elim (header_line_refusal lang ls read) [
               | Some r ↦ Header_refused l.number r
               | None ↦ elim (some_is is_begin read) [
@@ -125,16 +126,39 @@ pub data Ending : Type 0 where
   At_end : Ending
   At_line : (number : ℕ) (why : Refusal) → Ending
 
--- These happenings are the events of the lines up to the ending.
+-- No ask is due.
+abbrev pub NoAsk : World → Type 0
+NoAsk w = (asking w ≡ None)
+
+-- The happening gives the ask that is due: it belongs to the line before it.
+abbrev pub IsAskOf : World → Happening → Type 0
+IsAskOf w x = IsSomeAnd (asking w) (λ m. x.0 ≡ GiveAsk m) × IsTrue (may_happen w x.0)
+
+-- These happenings are the events of the lines up to the ending, each with the asks that follow it.
 abbrev pub Follows : World → List EventLine → List Happening → Ending → Type 0
-Follows w [] [] At_end = Unit {0}
-Follows w [] (x ∷ xs) s = ⊥
+Follows w [] [] At_end = NoAsk w
 Follows w [] [] (At_line number why) = ⊥
-Follows w ((n, Err r) ∷ ls) [] (At_line number why) = (number ≡ n) × (why ≡ r)
-Follows w ((n, Ok e) ∷ ls) [] (At_line number why) = (number ≡ n) × (refusal_of w e ≡ Some why)
+Follows w ((n, Err r) ∷ ls) [] (At_line number why) = (number ≡ n) × (why ≡ r) × NoAsk w
+Follows w ((n, Ok e) ∷ ls) [] (At_line number why) = (number ≡ n) × (refusal_of w e ≡ Some why) × NoAsk w
 Follows w (l ∷ ls) [] At_end = ⊥
-Follows w ((n, Err r) ∷ ls) (x ∷ xs) s = ⊥
-Follows w ((n, Ok e) ∷ ls) (x ∷ xs) s = (e ≡ x.0) × IsTrue (may_happen w e) × Follows (happens w x.0 x.1) ls xs s
+Follows w [] (x ∷ xs) s = IsAskOf w x × Follows (happens w x.0 x.1) [] xs s
+Follows w ((n, Err r) ∷ ls) (x ∷ xs) s = IsAskOf w x × Follows (happens w x.0 x.1) ((n, Err r) ∷ ls) xs s
+Follows w ((n, Ok e) ∷ ls) (x ∷ xs) s =
+    elim (asking w) [
+      | Some m ↦ IsAskOf w x × Follows (happens w x.0 x.1) ((n, Ok e) ∷ ls) xs s
+      | None ↦ (e ≡ x.0) × IsTrue (may_happen w e) × Follows (happens w x.0 x.1) ls xs s
+    ]
+
+-- These happenings are events of the lines, from the first on, each with the asks that follow it; further events and asks may be to come.
+abbrev pub FollowsSoFar : World → List EventLine → List Happening → Type 0
+FollowsSoFar w ls [] = Unit {0}
+FollowsSoFar w [] (x ∷ xs) = IsAskOf w x × FollowsSoFar (happens w x.0 x.1) [] xs
+FollowsSoFar w ((n, Err r) ∷ ls) (x ∷ xs) = IsAskOf w x × FollowsSoFar (happens w x.0 x.1) ((n, Err r) ∷ ls) xs
+FollowsSoFar w ((n, Ok e) ∷ ls) (x ∷ xs) =
+    elim (asking w) [
+      | Some m ↦ IsAskOf w x × FollowsSoFar (happens w x.0 x.1) ((n, Ok e) ∷ ls) xs
+      | None ↦ (e ≡ x.0) × IsTrue (may_happen w e) × FollowsSoFar (happens w x.0 x.1) ls xs
+    ]
 
 -- ---- the report of a run that stops there
 
@@ -155,6 +179,28 @@ status_of (At_line number why) = 1
 
 -- ---- the plain program: it computes the report, each daemon doing what is due
 
+-- More asks than ever follow one event.
+abbrev pub many_asks : ℕ
+many_asks = 16
+
+-- The asks that follow an event: their lines, and the world and counts after them.
+pub record AsksPlayed : Type 0 where
+  pub lines : List (List ℕ)
+  pub world : World
+  pub counts : Counts
+
+-- So many at most.
+abbrev pub play_asks : ℕ → World → Counts → AsksPlayed
+play_asks zero w k = record { lines = []; world = w; counts = k }
+play_asks (suc n) w k =
+    elim (asking w) [
+      | None ↦ record { lines = []; world = w; counts = k }
+      | Some m ↦
+          let fxs : List Effects = effects_of w (GiveAsk m) in
+          let p : AsksPlayed = play_asks n (happens w (GiveAsk m) fxs) (count_event w (GiveAsk m) fxs k) in
+          record p { lines = event_lines w (GiveAsk m) fxs ++ p.lines }
+    ]
+
 -- From a world and counts on.
 abbrev pub replay_from : Language → World → Counts → List EventLine → List (List ℕ)
 replay_from lang w k [] = end_line k ∷ []
@@ -165,7 +211,8 @@ replay_from lang w k (l ∷ ls) =
         | Some r ↦ refusal_line l.0 (lang.told r) ∷ []
         | None ↦
             let fxs : List Effects = effects_of w e in
-            event_lines w e fxs ++ replay_from lang (happens w e fxs) (count_event w e fxs k) ls
+            let p : AsksPlayed = play_asks many_asks (happens w e fxs) (count_event w e fxs k) in
+            event_lines w e fxs ++ p.lines ++ replay_from lang p.world p.counts ls
       ]
     ]
 

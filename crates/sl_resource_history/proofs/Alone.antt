@@ -21,7 +21,8 @@ use Rattle.sl_session_law.proofs.Fronts.{front_answers_stay}
 use Rattle.sl_session_law.proofs.Owning.{calls_were_lawful, session_more, sessions_stay}
 use Rattle.sl_session_law.proofs.Staying.{ended_more, stays}
 use Rattle.sl_session_law.specs.Promises.{IsMade, IsSession, WasLawful, front_of, made_as}
-use Rattle.sl_sessions.specs.Sessions.{Session, begun_in, calls_of, ended_after, is_join_call, is_present, join_call, joined_after, refused_after, removed_after, session_numbered, sessions}
+use Rattle.sl_sessions.specs.Sessions.{begun_in, calls_of, ended_after, is_join_call, is_present, join_call, joined_after, refused_after, removed_after, session_numbered, sessions}
+use Rattle.sl_sessions.specs.declared.session.Session.{Session}
 use Rattle.sl_trace.specs.Traces.{Answered, Setting, Submitted, Trace, submitted}
 use Rattle.sl_trace.specs.declared.effects.Entry.{Entry}
 use Rattle.sl_trace.specs.declared.effects.JoinStep.TheVariants.{ClaimWrite, FirstRead, FirstRenewal, VerifyRead}

@@ -41,7 +41,8 @@ use Rattle.sl_sector.specs.declared.sector.Rec.{Rec}
 use Rattle.sl_session_law.proofs.Making.{calls_are_made}
 use Rattle.sl_session_law.proofs.Staying.{joined_more, stays}
 use Rattle.sl_session_law.specs.Promises.{IsMade, IsSession, front_of, made_as}
-use Rattle.sl_sessions.specs.Sessions.{Session, is_active, joined_after, leaving_job, recovery_of, removed_after, session_numbered, sessions}
+use Rattle.sl_sessions.specs.Sessions.{is_active, joined_after, leaving_job, recovery_of, removed_after, session_numbered, sessions}
+use Rattle.sl_sessions.specs.declared.session.Session.{Session}
 use Rattle.sl_trace.specs.Traces.{Setting, Submitted, Trace, is_write, new_call, record_of, submitted}
 use Rattle.sl_trace.specs.declared.effects.Call.{Call}
 use Rattle.sl_trace.specs.declared.effects.Op.TheVariants.{ReadSectors, WriteRecord}

@@ -23,7 +23,8 @@ use Rattle.sl_run.specs.Worlds.{Course, Daemon, Landing, Machine, Program, Stamp
 use Rattle.sl_run.specs.declared.header.Header.{Header}
 use Rattle.sl_run.specs.declared.header.ResourceLine.{ResourceLine}
 use Rattle.sl_session_law.proofs.Staying.{joined_more, stays}
-use Rattle.sl_sessions.specs.Sessions.{Session, is_join_done, joined_after}
+use Rattle.sl_sessions.specs.Sessions.{is_join_done, joined_after}
+use Rattle.sl_sessions.specs.declared.session.Session.{Session}
 use Rattle.sl_trace.specs.Traces.{Replied, Submitted, Trace, reply_in, reply_to, submitted}
 use Rattle.sl_trace.specs.declared.effects.Call.{Call}
 use Rattle.sl_trace.specs.declared.effects.Entry.{Entry}

@@ -9,7 +9,8 @@ use Rattle.sl_resource_history.proofs.Latest.{calls_below}
 use Rattle.sl_resource_history.specs.Sending.{block_of_course, writes_block}
 use Rattle.sl_run.specs.Worlds.{Course, Daemon}
 use Rattle.sl_sector.specs.declared.sector.Block.{Block}
-use Rattle.sl_sessions.specs.Sessions.{Session, is_call_of}
+use Rattle.sl_sessions.specs.Sessions.{is_call_of}
+use Rattle.sl_sessions.specs.declared.session.Session.{Session}
 use Rattle.sl_trace.specs.Traces.{Setting, Submitted, new_call, record_of}
 use Rattle.sl_trace.specs.declared.effects.Call.{Call}
 use Rattle.sl_trace.specs.declared.effects.Spot.{Spot}

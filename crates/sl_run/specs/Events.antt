@@ -1,14 +1,19 @@
 -- What may happen, and what it changes.
 use Rattle.sl_area.specs.Layouts.{record_in, sector_with}
+use Rattle.sl_leases.specs.Jobs.{process_named}
+use Rattle.sl_lvm.specs.Lvm.{lock_process}
+use Rattle.sl_run.specs.Locks.{fresh_locks, locks_after}
 use Rattle.sl_run.specs.Worlds.{Course, Daemon, Dropped, Fate, In_flight, Landed, Machine, Sampling, Stamp, Torn, World, change_machine, content, daemons_on, first_that, flight_of, is_in_flight, is_landed, is_of_running, is_torn_fate, is_write_course, landed_at, machine_at, may_land, mebibyte, names_of, new_daemon, next_numbers, reading_now, resets_after, sector_size, setting_of, stamp_now}
-use Rattle.sl_run.specs.declared.event.Event.TheVariants.{AnswerCall, Crash, Do, DropWrite, ExitOf, GiveCommand, Land, Pass, Reset, Restart, Sample, SpawnedOf, StartDaemon, Tear, Test, WakeUp}
+use Rattle.sl_run.specs.declared.event.Event.TheVariants.{AnswerCall, Crash, Do, DropWrite, ExitOf, GiveAsk, GiveCommand, GiveLvm, Land, Pass, Reset, Restart, Sample, SpawnedOf, StartDaemon, Tear, Test, WakeUp}
 use Rattle.sl_run.specs.declared.event.Event.{Event}
-use Rattle.sl_run.specs.declared.event.Refusal.TheVariants.{LimitMoment, MissingCall, MissingDaemon, MissingDown, MissingFlight, MissingLanding, MissingMachine, MissingPlace, MissingReset, MissingSample, MissingSpawn, MissingUp, PremiseDrift, PremiseLanding, PremiseName, PremiseTorn, PremiseWatchdog, Syntax}
+use Rattle.sl_run.specs.declared.event.Refusal.TheVariants.{LimitMoment, MissingCall, MissingDaemon, MissingDown, MissingFlight, MissingLanding, MissingLvm, MissingMachine, MissingPlace, MissingReset, MissingSample, MissingSpawn, MissingUp, PremiseDrift, PremiseLanding, PremiseName, PremiseTorn, PremiseWatchdog, Syntax}
 use Rattle.sl_run.specs.declared.event.Refusal.{Refusal}
 use Rattle.sl_run.specs.declared.header.Header.{Header}
 use Rattle.sl_time.specs.Times.{reading_of}
 use Rattle.sl_trace.specs.Connections.{after_move, test_holds}
-use Rattle.sl_trace.specs.Traces.{end_of, held_after, is_ok_answer, is_starting, no_effects, record_of}
+use Rattle.sl_trace.specs.Traces.{end_of, held_after, is_ok_answer, is_starting, next_job, no_effects, orphans_left, record_of}
+use Rattle.sl_trace.specs.declared.command.Command.TheVariants.{SetKillpath}
+use Rattle.sl_trace.specs.declared.command.Command.{Command}
 use Rattle.sl_trace.specs.declared.effects.Call.{Call}
 use Rattle.sl_trace.specs.declared.effects.Effects.{Effects}
 use Rattle.sl_trace.specs.declared.effects.Entry.{Entry}
@@ -16,14 +21,14 @@ use Rattle.sl_trace.specs.declared.effects.Grant.{Grant}
 use Rattle.sl_trace.specs.declared.effects.Op.TheVariants.{ReadSectors, WriteRecord}
 use Rattle.sl_trace.specs.declared.effects.Op.{Op}
 use Rattle.sl_trace.specs.declared.input.Answer.TheVariants.{Failed, Read, Written}
-use Rattle.sl_trace.specs.declared.input.Input.TheVariants.{Answer as Told, Exit, Line, Spawned, Wake}
+use Rattle.sl_trace.specs.declared.input.Input.TheVariants.{Answer as Told, Exit, Line, Number, Spawned, Wake}
 use Rattle.sl_trace.specs.declared.input.Input.{Input}
 use Rattle.sl_words.specs.Bounds.{moments}
 use Rattle.sl_words.specs.Words.{choose, some_is}
 use Rattle.std.specs.Int.{is_in_range}
 use Rattle.std.specs.List.{enumerate_from, list_any, range_with_len}
 use Rattle.std.specs.Option.{option_map_or}
-use Rattle.std.specs.Prelude.{Bool, List, None, Option, Some, bytes_eq, drop, false, filter, flat_map, fold, if◌then◌else◌, is_none, is_ok, is_some, length, map, nat_le, nat_lt, not, option_and_then, option_map, slice_index, take, true, [], ℕ, ◌&&◌, ◌*◌, ◌++◌, ◌+◌, ◌-◌, ◌==◌, ◌||◌, ◌∷◌}
+use Rattle.std.specs.Prelude.{Bool, Err, List, None, Ok, Option, Result, Some, bytes_eq, drop, false, filter, find, flat_map, fold, if◌then◌else◌, is_none, is_ok, is_some, length, map, nat_le, nat_lt, not, option_and_then, option_map, slice_index, take, true, [], ℕ, ◌&&◌, ◌*◌, ◌++◌, ◌+◌, ◌-◌, ◌==◌, ◌||◌, ◌∷◌}
 
 -- ---- what an event needs
 
@@ -108,11 +113,23 @@ is_read_course c = not (is_write_course c)
 abbrev pub has_start : Machine → ℕ → Bool
 has_start a p = some_is (λ d. is_starting d.trace p) a.daemon
 
+-- Whether a command is for lvmlockd's process, which acts by lines alone; its kill program may be set.
+abbrev pub is_for_locks : Result Command ℕ → Bool
+is_for_locks (Ok (SetKillpath p path)) = false
+is_for_locks (Ok c) = some_is (λ p. p == lock_process) (process_named c)
+is_for_locks (Err column) = false
+
+-- Whether the text is such a command to the running daemon.
+abbrev pub acts_for_locks : Machine → List ℕ → Bool
+acts_for_locks a text = some_is (λ d. is_for_locks (d.setting.read text)) a.daemon
+
 -- The refusals that apply to the event, in order.
 unfoldable pub event_tests : World → Event → List (Bool × Refusal)
 event_tests w (Pass d growths) = pass_tests w d growths
 event_tests w (WakeUp m) = on_machine w m (λ a. needs_daemon a ∷ [])
-event_tests w (GiveCommand m text) = on_machine w m (λ a. needs_daemon a ∷ [])
+event_tests w (GiveCommand m text) = on_machine w m (λ a. needs_daemon a ∷ (acts_for_locks a text || is_some a.locks.due, MissingLvm) ∷ [])
+event_tests w (GiveLvm m line) = on_machine w m (λ a. needs_daemon a ∷ (is_some a.locks.line, MissingLvm) ∷ [])
+event_tests w (GiveAsk m) = on_machine w m (λ a. needs_daemon a ∷ (is_none a.locks.due, MissingLvm) ∷ [])
 event_tests w (Sample m c k) =
     on_machine w m (λ a. needs_daemon a ∷ on_flight a c is_read_course (λ f.
     (not (is_placed w f.call), MissingPlace) ∷ (nat_lt (sectors_left f) k, MissingSample) ∷ []))
@@ -181,6 +198,8 @@ if_running a i = choose (is_some a.daemon) i
 abbrev pub input_at : World → Event → Machine → Option Input
 input_at w (WakeUp m) a = if_running a Wake
 input_at w (GiveCommand m text) a = if_running a (Line text)
+input_at w (GiveLvm m line) a = if_running a (Number line)
+input_at w (GiveAsk m) a = option_and_then (λ text. if_running a (Line text)) a.locks.due
 input_at w (AnswerCall m c ok) a = option_map (λ f. elim ok [ true ↦ ok_input f | false ↦ Told c Failed ]) (flight_of a c)
 input_at w (Do m c) a = option_map (done_input w) (flight_of a c)
 input_at w (ExitOf m p) a = if_running a (Exit p)
@@ -192,6 +211,8 @@ abbrev pub machine_of : Event → ℕ
 machine_of (Pass d growths) = 0
 machine_of (WakeUp m) = m
 machine_of (GiveCommand m text) = m
+machine_of (GiveLvm m line) = m
+machine_of (GiveAsk m) = m
 machine_of (Sample m c k) = m
 machine_of (Land m c) = m
 machine_of (Tear m c k bytes) = m
@@ -210,7 +231,7 @@ machine_of (Restart m) = m
 abbrev pub input_of : World → Event → Option Input
 input_of w e = option_and_then (input_at w e) (machine_at w (machine_of e))
 
--- ---- what the machine itself does, where no daemon takes the event: holdings end
+-- ---- what the machine itself does, where no daemon takes the event: holdings end, and some become orphans
 
 -- These holdings end.
 abbrev pub ends_of : List Grant → Effects
@@ -218,7 +239,7 @@ ends_of gs = record no_effects { ends = map end_of gs }
 
 -- What a machine does without its daemon: at an exit, and at a reset.
 abbrev pub own_effects : World → Event → Machine → Effects
-own_effects w (ExitOf m p) a = ends_of (filter (λ g. g.process == p) a.holdings)
+own_effects w (ExitOf m p) a = record (ends_of (filter (λ g. g.process == p) a.holdings)) { grants = orphans_left p a.holdings }
 own_effects w (Reset m) a = ends_of a.holdings
 own_effects w e a = no_effects
 
@@ -259,11 +280,18 @@ abbrev pub close_answered : Stamp → Input → Machine → Machine
 close_answered now i a =
     elim i [ Told number answer ↦ change_call number (λ c. record c { answered = Some now; done = is_ok_answer answer }) a | _ ↦ a ]
 
+-- The number that the next line of the running daemon takes.
+abbrev pub number_of_step : Machine → ℕ
+number_of_step a = option_map_or (λ d. next_job d.setting d.trace) a.daemon 0
+
 -- The running daemon takes one step.
 abbrev pub after_step : Stamp → Input → Effects → Machine → Machine
 after_step now i fx a =
     let b : Machine = after_effects now fx (close_answered now i a) in
-    record b { daemon = option_map (with_entry (record { reading = reading_now a; input = i; effects = fx }) now) b.daemon }
+    record b {
+      daemon = option_map (with_entry (record { reading = reading_now a; input = i; effects = fx }) now) b.daemon;
+      locks = (locks_after (number_of_step a) i fx a.locks).0;
+    }
 
 -- The call with this fate.
 abbrev pub fated : Fate → Course → Course
@@ -343,6 +371,7 @@ after_start w m name a =
     record a {
       daemon = Some (new_daemon (length (daemons_on a)) (setting_of w.program w.layout w.header m name (next_numbers a) []) (stamp_now w a));
       used = true;
+      locks = fresh_locks w.header;
     }
 
 -- The daemon ends.
@@ -377,8 +406,8 @@ first_change e w = w
 abbrev pub next_step : World → World
 next_step w = record w { step = w.step + 1 }
 
--- The input of the event's next step, after steps with these effects; none where it has no further step. (An event has one step at
--- most until one line can make several.).
+-- The input of the event's next step, after steps with these effects; none where it has no further step. (An event has one step
+-- at most: an ask that a step leaves due is an event of its own.).
 abbrev pub next_input : World → Event → List Effects → Option Input
 next_input w e [] = input_of w e
 next_input w e (fx ∷ fxs) = None
@@ -396,3 +425,14 @@ take_steps w e done (fx ∷ fxs) v = take_steps w e (done ++ fx ∷ []) fxs (tak
 -- What the event changes, with the effects of its steps in order, or the machine's own.
 abbrev pub happens : World → Event → List Effects → World
 happens w e fxs = take_steps w e [] fxs (next_step (first_change e w))
+
+-- ---- asks
+
+-- Whether the event gives an ask.
+abbrev pub is_ask : Event → Bool
+is_ask (GiveAsk m) = true
+is_ask e = false
+
+-- The first machine whose locks have an ask due, to be given at once.
+abbrev pub asking : World → Option ℕ
+asking w = option_map (λ p. p.0) (find (λ p. is_some p.1.locks.due) (enumerate_from 1 w.machines))

@@ -42,6 +42,7 @@ pub record IsHeader (h : Header) : Type 0 where
   pub grace : h.grace ≤ 600000
   pub machines : (1 ≤ h.machines) × (h.machines ≤ 16)
   pub geometry : IsGeometry h.geometry
+  pub retries : h.retries ≤ 8
   pub clocks : (c : FirstReading) → Contains h.clocks c → (1 ≤ c.machine) × (c.machine ≤ h.machines) × (c.reading < 10 ^ 12)
   pub one_clock : AllPairs (λ a b. a.machine ≢ b.machine) h.clocks
   pub disks : (d : Disk) → Contains h.disks d → IsTrue (is_path d.path) × (1 ≤ d.mebibytes) × (d.mebibytes ≤ 64)

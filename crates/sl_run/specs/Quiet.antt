@@ -4,17 +4,18 @@ use Rattle.sl_area.specs.Places.{leader_offset, request_offset}
 use Rattle.sl_leases.specs.Ballots.{in_instance, next_mbal}
 use Rattle.sl_leases.specs.Counts.{held_here, limit_met, may_act}
 use Rattle.sl_leases.specs.Leases.{is_leader_of, is_on, known, open_on, owed, spot_of}
-use Rattle.sl_run.specs.Events.{happens, machine_of}
+use Rattle.sl_run.specs.Events.{happens, input_of, machine_of}
 use Rattle.sl_run.specs.Runs.{Happening, world_after}
 use Rattle.sl_run.specs.Safety.{block_there}
 use Rattle.sl_run.specs.Worlds.{Course, Daemon, Machine, World, content, is_open, is_write_course, machine_at, reading_now}
-use Rattle.sl_run.specs.declared.event.Event.TheVariants.{Crash, ExitOf, GiveCommand, Reset}
+use Rattle.sl_run.specs.declared.event.Event.TheVariants.{Crash, ExitOf, Reset}
 use Rattle.sl_sector.specs.Spelling.{leader_in, request_in}
 use Rattle.sl_sector.specs.declared.sector.Block.{Block}
 use Rattle.sl_sector.specs.declared.sector.Leader.{Leader}
 use Rattle.sl_sector.specs.declared.sector.Request.{Request}
-use Rattle.sl_sessions.specs.Sessions.{Session, is_active, session_named, session_numbered}
+use Rattle.sl_sessions.specs.Sessions.{is_active, session_named, session_numbered}
 use Rattle.sl_sessions.specs.Watching.{counts_over}
+use Rattle.sl_sessions.specs.declared.session.Session.{Session}
 use Rattle.sl_trace.specs.Traces.{Answered, Submitted, Trace, entry_at, is_of_job, is_ok_answer, is_shared, is_write, next_job, no_effects, reply_to, same_place, submitted, waiting_call}
 use Rattle.sl_trace.specs.declared.command.Command.TheVariants.{Acquire}
 use Rattle.sl_trace.specs.declared.command.ResourceArg.{ResourceArg}
@@ -23,7 +24,7 @@ use Rattle.sl_trace.specs.declared.effects.Effects.{Effects}
 use Rattle.sl_trace.specs.declared.effects.Entry.{Entry}
 use Rattle.sl_trace.specs.declared.effects.Grant.{Grant}
 use Rattle.sl_trace.specs.declared.effects.Spot.{Spot}
-use Rattle.sl_trace.specs.declared.input.Input.TheVariants.{Wake}
+use Rattle.sl_trace.specs.declared.input.Input.TheVariants.{Line, Wake}
 use Rattle.sl_trace.specs.declared.reply.Reply.TheVariants.{Granted}
 use Rattle.sl_trace.specs.declared.reply.Reply.{Reply}
 use Rattle.sl_words.specs.Bounds.{record_numbers}
@@ -49,11 +50,14 @@ pub record QuietStart (w : World) (m : ℕ) (text : List ℕ) (r : ResourceArg) 
   pub session : Session
   pub leader : Leader
   pub runs : (machine_at w m ≡ Some machine) × (machine.daemon ≡ Some daemon)
-  pub line : daemon.setting.read text ≡ Ok (Acquire r shared p)
+  -- whether the holding is to outlive its process: nothing else depends on it
+  pub persistent : Bool
+  pub line : daemon.setting.read text ≡ Ok (Acquire r shared p persistent)
   pub process : IsTrue (may_act daemon.trace p)
   pub named : session_named daemon.setting (before_command daemon (reading_now machine)) r.lockspace ≡ Some session
   -- joined, and recovery isn't due at this reading
   pub active : IsTrue (is_active daemon.setting (before_command daemon (reading_now machine)) session)
+  -- no process of the machine, and no orphan, holds it
   pub no_holding : held_here daemon.trace (spot_of r) ≡ []
   pub settled : owed (known daemon.setting daemon.trace session (spot_of r)) ≡ None
   pub no_call : open_on daemon.setting daemon.trace (spot_of r) ≡ []
@@ -79,8 +83,8 @@ AnsweredInTime io now c (Some b) = IsTrue (is_ok_answer b.answer) × (b.reading 
 -- In one event from there on: the world before it, the event, and the world after it.
 pub record QuietStep (w : World) (x : Happening) (v : World) (m job : ℕ) (r : ResourceArg) (shared : Bool) (p number : ℕ) : Type 0 where
   -- each other host's shared mode is over
-  pub modes : shared ≡ false → (host : ℕ) (b : Block) (a : Machine) (d : Daemon) (s : Session) → (host ≡ s.id → ⊥) →
-      machine_at w m ≡ Some a → a.daemon ≡ Some d → session_numbered d.setting d.trace number ≡ Some s →
+  pub modes : shared ≡ false → (host : ℕ) (b : Block) (a : Machine) (d : Daemon) (s : Session) → 1 ≤ host → host ≤ w.layout.hosts →
+      (host ≡ s.id → ⊥) → machine_at w m ≡ Some a → a.daemon ≡ Some d → session_numbered d.setting d.trace number ≡ Some s →
       block_there w (spot_of r) host ≡ Some b → b.shared ≡ true → IsTrue (counts_over d.setting d.trace s host b.mode_gen)
   -- no other daemon submits a write on the area
   pub calm : (fx : Effects) (c : Call) → Contains x.1 fx → Contains fx.calls c → (machine_of x.0 ≡ m → ⊥) → IsTrue (is_write c.op) →
@@ -103,35 +107,38 @@ abbrev pub calls_needed : Bool → ℕ
 calls_needed true = 8
 calls_needed false = 6
 
--- Entry i answers the last of so many calls of the job, and grants the process the resource in this mode under this instance.
-pub record GrantsQuietly (d : Daemon) (job i lver : ℕ) (r : ResourceArg) (shared : Bool) (p : ℕ) : Type 0 where
+-- Entry i answers the last of so many calls of the job, and grants the process the resource in this mode, as persistent as this, under
+-- this instance.
+pub record GrantsQuietly (d : Daemon) (job i lver : ℕ) (r : ResourceArg) (shared persistent : Bool) (p : ℕ) : Type 0 where
   pub last : Submitted
   pub calls : (length (job_calls d.trace job) ≡ calls_needed shared) × (first_of_list (job_calls d.trace job) ≡ Some last)
   pub answered : IsSomeAnd last.answer (λ a. a.at ≡ i)
   pub entry : Entry
   pub grant : Grant
   pub granted : (entry_at d.trace i ≡ Some entry) × Contains entry.effects.grants grant
-  pub right : (grant.process ≡ p) × (is_shared grant.mode ≡ shared) × (grant.lver ≡ lver) × IsTrue (same_place grant.path grant.offset r.path r.offset)
+  pub right : (grant.process ≡ p) × (is_shared grant.mode ≡ shared) × (grant.persistent ≡ persistent) × (grant.lver ≡ lver) × IsTrue (same_place grant.path grant.offset r.path r.offset)
 
 -- What a quiet acquire has after an event: it makes no other call, and where it has a reply, it is granted with the next lver
 -- in the step of the answer to its last call.
-pub record IsGrantedQuietly (d : Daemon) (job lver : ℕ) (r : ResourceArg) (shared : Bool) (p : ℕ) : Type 0 where
+pub record IsGrantedQuietly (d : Daemon) (job lver : ℕ) (r : ResourceArg) (shared persistent : Bool) (p : ℕ) : Type 0 where
   pub calls : length (job_calls d.trace job) ≤ calls_needed shared
   pub reply : (i : ℕ) (answer : Reply) → reply_to d.trace job ≡ Some (record { at = i; reply = answer }) →
-      (answer ≡ Granted lver) × GrantsQuietly d job i lver r shared p
+      (answer ≡ Granted lver) × GrantsQuietly d job i lver r shared persistent p
   pub unless_waiting : reply_to d.trace job ≡ None → IsSome (waiting_call d.trace job)
 
--- Each event from there on is quiet.
+-- Each event from there on is quiet, the first too, which brings the command.
 abbrev pub StaysQuiet : World → List Happening → ℕ → ℕ → ResourceArg → Bool → ℕ → ℕ → Type 0
 StaysQuiet w [] m job r shared p number = Unit {0}
 StaysQuiet w (x ∷ xs) m job r shared p number =
     QuietStep w x (happens w x.0 x.1) m job r shared p number × StaysQuiet (happens w x.0 x.1) xs m job r shared p number
 
--- An acquire that begins quietly and stays so for a while is by then granted, or waits for an answer, whatever comes later.
+-- An acquire that begins quietly and stays so for a while is by then granted, or waits for an answer, whatever comes later. Its line is
+-- that of a command, or of an ask of lvmlockd.
 abbrev pub QuietIsGranted : World → List Happening → Type 0
 QuietIsGranted start xs =
-    (before during rest : List Happening) (m p : ℕ) (text : List ℕ) (r : ResourceArg) (shared : Bool) (fxs : List Effects)
-    (q : QuietStart (world_after start before) m text r shared p) → xs ≡ before ++ (GiveCommand m text, fxs) ∷ during ++ rest →
-    StaysQuiet (world_after start before) ((GiveCommand m text, fxs) ∷ during) m (next_job q.daemon.setting q.daemon.trace) r shared p q.session.number →
-    (a : Machine) (d : Daemon) → machine_at (world_after start (before ++ (GiveCommand m text, fxs) ∷ during)) m ≡ Some a → a.daemon ≡ Some d →
-    IsGrantedQuietly d (next_job q.daemon.setting q.daemon.trace) (q.leader.lver + 1) r shared p
+    (before during rest : List Happening) (m p : ℕ) (text : List ℕ) (r : ResourceArg) (shared : Bool) (x : Happening)
+    (q : QuietStart (world_after start before) m text r shared p) → xs ≡ before ++ x ∷ during ++ rest →
+    machine_of x.0 ≡ m → input_of (world_after start before) x.0 ≡ Some (Line text) →
+    StaysQuiet (world_after start before) (x ∷ during) m (next_job q.daemon.setting q.daemon.trace) r shared p q.session.number →
+    (a : Machine) (d : Daemon) → machine_at (world_after start (before ++ x ∷ during)) m ≡ Some a → a.daemon ≡ Some d →
+    IsGrantedQuietly d (next_job q.daemon.setting q.daemon.trace) (q.leader.lver + 1) r shared q.persistent p

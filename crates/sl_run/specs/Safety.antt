@@ -1,24 +1,26 @@
--- What holds after every event of a run whose traces are lawful.
+-- What holds after every event of a run whose traces are orderly.
 use Rattle.sl_area.specs.Layouts.{record_in}
 use Rattle.sl_area.specs.Places.{block_offset, is_base}
-use Rattle.sl_law.specs.Lawful.{Lawful}
+use Rattle.sl_law.specs.Lawful.{Orderly}
 use Rattle.sl_leases.specs.Leases.{Phase1_write, block_written, ended_ballots, holdings_on, is_at, lease_calls}
 use Rattle.sl_run.specs.Conflicts.{IsExclusive}
 use Rattle.sl_run.specs.Headers.{IsHeader}
 use Rattle.sl_run.specs.Runs.{AfterEachFront, EachDaemon, Happening, IsRun, world_after}
-use Rattle.sl_run.specs.Worlds.{Course, Daemon, Machine, Program, Stamp, World, content, daemon_numbered, is_landed, is_open, is_write_course, machine_at, resets_after, world_with}
+use Rattle.sl_run.specs.Worlds.{Course, Daemon, Landing, Machine, Program, Stamp, World, content, daemon_numbered, is_landed, is_open, is_write_course, landed_at, machine_at, resets_after, world_with}
 use Rattle.sl_run.specs.declared.header.Header.{Header}
 use Rattle.sl_sector.specs.Spelling.{IsDigest, block_in, delta_in}
 use Rattle.sl_sector.specs.declared.sector.Block.{Block}
 use Rattle.sl_sector.specs.declared.sector.DeltaRec.{DeltaRec}
 use Rattle.sl_sector.specs.declared.sector.Owner.{Owner}
 use Rattle.sl_sessions.specs.Deltas.{own_offset}
-use Rattle.sl_sessions.specs.Sessions.{Session, calls_of, ended_after, free_write, generation_of, is_joined, joined_after, me, session_numbered, shows_other}
+use Rattle.sl_sessions.specs.Sessions.{calls_of, ended_after, free_write, generation_of, is_join_call, is_joined, joined_after, me, session_numbered, shows_other}
 use Rattle.sl_sessions.specs.Watching.{counts_over}
+use Rattle.sl_sessions.specs.declared.session.Session.{Session}
 use Rattle.sl_trace.specs.Connections.{connection_named}
 use Rattle.sl_trace.specs.Traces.{Setting, Trace, is_shared, same_place}
 use Rattle.sl_trace.specs.declared.effects.Entry.{Entry}
 use Rattle.sl_trace.specs.declared.effects.Grant.{Grant}
+use Rattle.sl_trace.specs.declared.effects.JoinStep.TheVariants.{ClaimWrite}
 use Rattle.sl_trace.specs.declared.effects.Spot.{Spot}
 use Rattle.sl_words.specs.Words.{is_empty, some_is}
 use Rattle.std.specs.List.{list_any}
@@ -30,12 +32,13 @@ use Rattle.std.specs.Prelude.{Bool, Contains, IsFalse, IsSome, IsTrue, List, Opt
 abbrev pub world_at : Program → Header → List Happening → World
 world_at program h xs = world_after (world_with program h) xs
 
--- A run whose daemons all have lawful traces. Nothing is asked of the program but that its digest has 32 bytes.
+-- A run that is lawful so far as safety asks: its daemons all have orderly traces. Nothing is asked of the program but that its digest
+-- has 32 bytes.
 pub record LawfulRun (program : Program) (h : Header) (xs : List Happening) : Type 0 where
   pub header : IsHeader h
   pub digest : IsDigest program.digest
   pub is_run : IsRun (world_with program h) xs
-  pub lawful : EachDaemon Lawful (world_at program h xs)
+  pub lawful : EachDaemon Orderly (world_at program h xs)
 
 -- ---- the sessions of a world
 
@@ -145,14 +148,37 @@ GenerationsRise program h xs = AfterEachFront xs (λ now.
     (i k : SessionId) (f g : Found) → IsSession (world_at program h now) i f → HasJoined f → IsSession (world_at program h xs) k g → HasJoined g → SameId f g →
     ((before : Found) → IsSession (world_at program h now) k before → HasJoined before → ⊥) → found_generation f < found_generation g)
 
--- A joined session's sector is overwritten by nobody else until it is over: it holds a record of its own, or torn bytes.
+-- The landing is that of a write of the session, whole or torn.
+abbrev pub IsOwnLanding : SessionId → Found → Course → Landing → Type 0
+IsOwnLanding i f c l = Contains f.machine.calls c × IsTrue (is_course_of i c) × (l.writer ≡ Some (i.machine, c.call.number))
+
+-- What landed in its sector.
+abbrev pub landed_in_own : World → Found → List Landing
+landed_in_own w f = landed_at w f.session.path (own_offset (setting_in f) f.session)
+
+-- The landing came before that of the session's claim, which landed whole. A session of the header has none: its record stood at first.
+pub record CameBeforeClaim (w : World) (i : SessionId) (f : Found) (l : Landing) : Type 0 where
+  pub claim : Course
+  pub landing : Landing
+  pub landed : Contains (landed_in_own w f) landing × IsOwnLanding i f claim landing
+  pub of_claim : IsTrue (is_join_call ClaimWrite claim.call.purpose) × (landing.whole ≡ true)
+  pub before : l.step < landing.step
+
+-- A joined session's sector is overwritten by nobody else until it is over: whatever landed there, whole or torn, is of its own writes,
+-- but what came before its claim.
+abbrev pub OwnSectorIsAlone : World → Type 0
+OwnSectorIsAlone w =
+    (i : SessionId) (f : Found) (l : Landing) → IsSession w i f → HasJoined f → IsFalse (is_over i f) → Contains (landed_in_own w f) l →
+    ((c : Course) × IsOwnLanding i f c l) ⊎ CameBeforeClaim w i f l
+
+-- So it spells a record of the session's own, or is torn.
 abbrev pub OwnSectorStands : World → Type 0
 OwnSectorStands w =
     (i : SessionId) (f : Found) (d : DeltaRec) → IsSession w i f → HasJoined f → IsFalse (is_over i f) →
     delta_in (record_in w.layout (content w f.session.path (own_offset (setting_in f) f.session))) ≡ Some d →
     (d.generation ≡ found_generation f) × (d.host ≡ Some f.daemon.setting.name)
 
--- So no joined session reads a foreign record in its own sector.
+-- And no joined session reads a foreign record in its own sector.
 abbrev pub ReadsNoOther : World → Type 0
 ReadsNoOther w =
     (i : SessionId) (f : Found) (past : Trace) (e : Entry) (later : Trace) → IsSession w i f → trace_of f ≡ later ++ e ∷ past →
@@ -164,6 +190,7 @@ pub record DeltaInvariant (program : Program) (h : Header) (xs : List Happening)
   pub evidence : EvidenceIsTrue program h xs
   pub one : OneForEachId (world_at program h xs)
   pub rise : GenerationsRise program h xs
+  pub alone : OwnSectorIsAlone (world_at program h xs)
   pub own : OwnSectorStands (world_at program h xs)
   pub no_other : ReadsNoOther (world_at program h xs)
 

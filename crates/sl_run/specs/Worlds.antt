@@ -2,6 +2,7 @@
 -- the history that a proof asks for: when each thing happened, and all calls, landings and resets of the past.
 use Rattle.sl_area.specs.Layouts.{Layout, layout_of, layout_with, program_digest, sector_with}
 use Rattle.sl_area.specs.Places.{fresh_block, fresh_delta, fresh_leader, in_area, no_request, no_value}
+use Rattle.sl_run.specs.Locks.{Locks, fresh_locks}
 use Rattle.sl_run.specs.declared.event.Refusal.{Refusal}
 use Rattle.sl_run.specs.declared.header.Header.{Header}
 use Rattle.sl_run.specs.declared.header.LockspaceLine.{LockspaceLine}
@@ -92,6 +93,8 @@ pub record Machine : Type 0 where
   pub holdings : List Grant
   -- the newest first
   pub resets : List Stamp
+  -- lvmlockd's, made anew with each daemon
+  pub locks : Locks
 
 -- What a write left at a place.
 pub record Landing : Type 0 where
@@ -339,6 +342,7 @@ machine_of_header p g h m =
       calls = [];
       holdings = [];
       resets = [];
+      locks = fresh_locks h;
     }
 
 -- The world at moment 0, with this program.

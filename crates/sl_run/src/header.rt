@@ -51,6 +51,8 @@ pub struct Header {
     pub grace: u64,
     pub machines: u32,
     pub geometry: Geometry,
+    /// How often lvmlockd asks again for a lock that it lost against a rival: 0 to 8.
+    pub retries: u32,
     pub clocks: Seq<FirstReading>,
     pub disks: Seq<Disk>,
     pub lockspaces: Seq<LockspaceLine>,

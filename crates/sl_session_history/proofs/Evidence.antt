@@ -37,8 +37,9 @@ use Rattle.sl_session_history.proofs.OrderedTraces.{begun_end, joined_end, joine
 use Rattle.sl_session_history.specs.Promises.{HistoriesHaveTrueEvidence}
 use Rattle.sl_session_law.proofs.Staying.{marks_stay}
 use Rattle.sl_session_law.specs.Promises.{IsSession as IsSessionOf}
-use Rattle.sl_sessions.specs.Sessions.{Session, joined_after}
+use Rattle.sl_sessions.specs.Sessions.{joined_after}
 use Rattle.sl_sessions.specs.Watching.{counts_over}
+use Rattle.sl_sessions.specs.declared.session.Session.{Session}
 use Rattle.sl_trace.specs.Traces.{Setting, Trace, same_place}
 use Rattle.sl_law.specs.Lawful.{Lawful}
 use Rattle.sl_words.proofs.CaseLaws.{one_value, true_is_false}

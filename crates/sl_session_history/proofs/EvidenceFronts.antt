@@ -25,8 +25,9 @@ use Rattle.sl_session_history.proofs.OrderedStood.{Behind, behind}
 use Rattle.sl_session_history.proofs.OrderedTraces.{begun_end, same_length, stamp_newer, stamp_of}
 use Rattle.sl_session_law.proofs.Owning.{sessions_stay}
 use Rattle.sl_session_law.specs.Promises.{IsSession as IsSessionOf}
-use Rattle.sl_sessions.specs.Sessions.{Session, calls_of, generation_of, is_call_of, joined_after, session_numbered}
+use Rattle.sl_sessions.specs.Sessions.{calls_of, generation_of, is_call_of, joined_after, session_numbered}
 use Rattle.sl_sessions.specs.Watching.{counted_over, counts_over, evidence_in}
+use Rattle.sl_sessions.specs.declared.session.Session.{Session}
 use Rattle.sl_trace.specs.Traces.{Setting, Submitted, Trace, submitted}
 use Rattle.sl_trace.specs.declared.effects.Entry.{Entry}
 use Rattle.sl_trace.specs.declared.reply.Evidence.TheVariants.{Newer}

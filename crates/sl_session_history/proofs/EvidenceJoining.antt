@@ -31,7 +31,8 @@ use Rattle.sl_session_history.proofs.OrderedOver.{IsNew, free_stands, new_flies}
 use Rattle.sl_session_history.proofs.OrderedTraces.{joined_within, joins_kept}
 use Rattle.sl_session_law.proofs.Staying.{marks_stay}
 use Rattle.sl_session_law.specs.Promises.{IsSession as IsSessionOf}
-use Rattle.sl_sessions.specs.Sessions.{Session, calls_of, ended_after, free_write, is_free_purpose, joined_after, refused_after, removed_after}
+use Rattle.sl_sessions.specs.Sessions.{calls_of, ended_after, free_write, is_free_purpose, joined_after, refused_after, removed_after}
+use Rattle.sl_sessions.specs.declared.session.Session.{Session}
 use Rattle.sl_trace.specs.Traces.{Setting, Submitted, Trace}
 use Rattle.sl_trace.specs.declared.effects.Call.{Call}
 use Rattle.sl_trace.specs.declared.effects.Entry.{Entry}

@@ -28,7 +28,8 @@ use Rattle.sl_session_history.proofs.OrderedDaemons.{Came, IsOfEvent, event_come
 use Rattle.sl_session_history.proofs.OrderedStood.{At_first, By_entry, JoinedWhen, joined_stood, joined_when}
 use Rattle.sl_session_history.proofs.OrderedTraces.{begun_end, joined_end, joins_kept}
 use Rattle.sl_session_law.specs.Promises.{IsSession as IsSessionOf}
-use Rattle.sl_sessions.specs.Sessions.{Session, generation_of, given_number, joined_after}
+use Rattle.sl_sessions.specs.Sessions.{generation_of, given_number, joined_after}
+use Rattle.sl_sessions.specs.declared.session.Session.{Session}
 use Rattle.sl_trace.specs.Traces.{Setting, Trace}
 use Rattle.sl_trace.specs.declared.effects.Entry.{Entry}
 use Rattle.sl_watchdog_law.proofs.Stamps.{stamp_there}

@@ -25,7 +25,8 @@ use Rattle.sl_run.specs.Worlds.{Course, Dropped, Fate, In_flight, Landed, Machin
 use Rattle.sl_run.specs.declared.header.Header.{Header}
 use Rattle.sl_session_law.proofs.Staying.{marks_stay, refused_apart}
 use Rattle.sl_session_law.specs.Promises.{IsSession as IsSessionOf}
-use Rattle.sl_sessions.specs.Sessions.{Session, calls_of, ended_after, free_write, is_free_purpose, joined_after, refused_after, removed_after, stage_of}
+use Rattle.sl_sessions.specs.Sessions.{calls_of, ended_after, free_write, is_free_purpose, joined_after, refused_after, removed_after, stage_of}
+use Rattle.sl_sessions.specs.declared.session.Session.{Session}
 use Rattle.sl_sessions.specs.declared.stage.Stage.TheVariants.{Standing}
 use Rattle.sl_trace.specs.Traces.{Setting, Submitted, Trace}
 use Rattle.sl_trace.specs.declared.effects.Call.{Call}

@@ -19,7 +19,8 @@ use Rattle.sl_session_history.proofs.OrderedFronts.{nothing_more, steps_grow}
 use Rattle.sl_session_history.proofs.OrderedTraces.{begun_end, joined_end, joined_first, joined_within, same_length, stamp_newer, stamp_of}
 use Rattle.sl_session_law.proofs.Staying.{marks_stay}
 use Rattle.sl_session_law.specs.Promises.{IsSession as IsSessionOf}
-use Rattle.sl_sessions.specs.Sessions.{Session, given_session, joined_after, session_numbered}
+use Rattle.sl_sessions.specs.Sessions.{given_session, joined_after, session_numbered}
+use Rattle.sl_sessions.specs.declared.session.Session.{Session}
 use Rattle.sl_trace.specs.Traces.{Setting, Trace}
 use Rattle.sl_trace.specs.declared.input.Given.{Given}
 use Rattle.sl_words.proofs.CaseLaws.{none_some, one_value, some_value}

@@ -8,7 +8,8 @@ use Rattle.sl_plain.proofs.Lists.{contains_first, contains_more}
 use Rattle.sl_run.specs.Worlds.{Stamp}
 use Rattle.sl_session_law.proofs.Staying.{joined_more, marks_stay}
 use Rattle.sl_session_law.specs.Promises.{IsSession as IsSessionOf}
-use Rattle.sl_sessions.specs.Sessions.{Session, is_join_done, joined_after, removed_after}
+use Rattle.sl_sessions.specs.Sessions.{is_join_done, joined_after, removed_after}
+use Rattle.sl_sessions.specs.declared.session.Session.{Session}
 use Rattle.sl_trace.specs.Connections.{unregisters}
 use Rattle.sl_trace.specs.Traces.{Replied, Setting, Trace, reply_in, reply_to}
 use Rattle.sl_trace.specs.declared.effects.Entry.{Entry}

@@ -18,7 +18,8 @@ use Rattle.sl_session_history.proofs.OrderedStood.{At_first, By_entry, JoinedWhe
 use Rattle.sl_session_history.proofs.OrderedTraces.{joined_within}
 use Rattle.sl_session_law.proofs.Staying.{marks_stay}
 use Rattle.sl_session_law.specs.Promises.{IsMade, IsSession as IsSessionOf, front_of}
-use Rattle.sl_sessions.specs.Sessions.{Session, is_active, is_free_purpose, joined_after, leaving_job, recovery_of, removed_after}
+use Rattle.sl_sessions.specs.Sessions.{is_active, is_free_purpose, joined_after, leaving_job, recovery_of, removed_after}
+use Rattle.sl_sessions.specs.declared.session.Session.{Session}
 use Rattle.sl_trace.specs.Traces.{Setting, Submitted, Trace}
 use Rattle.sl_trace.specs.declared.effects.Call.{Call}
 use Rattle.sl_trace.specs.declared.effects.Purpose.TheVariants.{Leaving}

@@ -3,7 +3,8 @@ use Rattle.sl_law.specs.LawfulDelta.{LawfulDeltaCall}
 use Rattle.sl_session_law.proofs.Naming.{absent}
 use Rattle.sl_session_law.proofs.Parting.{not_removed}
 use Rattle.sl_session_law.specs.Promises.{NamesAreApart, WritersStay, front_of, made_as}
-use Rattle.sl_sessions.specs.Sessions.{Session, is_join_call, is_present, session_named}
+use Rattle.sl_sessions.specs.Sessions.{is_join_call, is_present, session_named}
+use Rattle.sl_sessions.specs.declared.session.Session.{Session}
 use Rattle.sl_trace.specs.Traces.{Setting, Submitted, Trace}
 use Rattle.sl_trace.specs.declared.effects.JoinStep.TheVariants.{ClaimWrite, DecidingRead, FirstRead, FirstRenewal, VerifyRead, WatchRead}
 use Rattle.sl_trace.specs.declared.effects.Purpose.TheVariants.{RequestRead, RequestWrite, Joining, Lease, Leaving, Renewal, SeeRequest, Survey, ValueRead, ValueWrite}

@@ -8,7 +8,8 @@ use Rattle.sl_session_law.proofs.Ordering.{open_stage}
 use Rattle.sl_session_law.proofs.Silence.{stage_by}
 use Rattle.sl_session_law.proofs.Staying.{joined_more}
 use Rattle.sl_session_law.specs.Promises.{FreedAreSilent, SeeingSetsBack}
-use Rattle.sl_sessions.specs.Sessions.{Session, calls_of, free_write, is_call_of, is_free_purpose, joined_after, refused_after, removed_after, session_numbered, stage_in}
+use Rattle.sl_sessions.specs.Sessions.{calls_of, free_write, is_call_of, is_free_purpose, joined_after, refused_after, removed_after, session_numbered, stage_in}
+use Rattle.sl_sessions.specs.declared.session.Session.{Session}
 use Rattle.sl_sessions.specs.declared.stage.Stage.{Stage}
 use Rattle.sl_trace.proofs.TraceFacts.{submitted-push}
 use Rattle.sl_trace.specs.TraceLaws.{with_call}

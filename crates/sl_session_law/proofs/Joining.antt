@@ -11,7 +11,8 @@ use Rattle.sl_session_law.proofs.Owning.{is_the_one, session_more}
 use Rattle.sl_session_law.proofs.Silence.{stage_by}
 use Rattle.sl_session_law.proofs.Staying.{joined_more}
 use Rattle.sl_session_law.specs.Promises.{all_done, fits, fits_as, has_reply, is_in_turn}
-use Rattle.sl_sessions.specs.Sessions.{Session, calls_of, is_active, is_delta_purpose, is_joined, joined_after, leaving_job, recovery_of, refused_after, removed_after, session_numbered, stage_after, stage_in, stage_of, free_write}
+use Rattle.sl_sessions.specs.Sessions.{calls_of, is_active, is_delta_purpose, is_joined, joined_after, leaving_job, recovery_of, refused_after, removed_after, session_numbered, stage_after, stage_in, stage_of, free_write}
+use Rattle.sl_sessions.specs.declared.session.Session.{Session}
 use Rattle.sl_sessions.specs.declared.stage.Stage.TheVariants.{Looking, Standing}
 use Rattle.sl_sessions.specs.declared.stage.Stage.{Stage}
 use Rattle.sl_trace.specs.Traces.{Answered, Setting, Submitted, Trace, answer_of, answered_in, is_answered_ok, is_write, mark, new_call, unanswered}

@@ -12,7 +12,8 @@ use Rattle.sl_session_law.proofs.Naming.{named}
 use Rattle.sl_session_law.proofs.Owning.{is_the_one, session_more, sessions_stay}
 use Rattle.sl_session_law.proofs.Silence.{stage_by}
 use Rattle.sl_session_law.specs.Promises.{JoiningsAreOrdered, all_done, fits, fits_as, has_reply, is_in_turn, is_ordered, leads_to, looks, may_come, may_follow}
-use Rattle.sl_sessions.specs.Sessions.{Session, calls_of, free_write, is_call_of, joined_after, refused_after, removed_after, session_named, session_numbered, sessions, stage_in, stage_of}
+use Rattle.sl_sessions.specs.Sessions.{calls_of, free_write, is_call_of, joined_after, refused_after, removed_after, session_named, session_numbered, sessions, stage_in, stage_of}
+use Rattle.sl_sessions.specs.declared.session.Session.{Session}
 use Rattle.sl_sessions.specs.declared.stage.Stage.{Stage}
 use Rattle.sl_trace.specs.Traces.{Setting, Submitted, Trace, answered_in, is_answered_ok, is_write, mark, new_call, submitted}
 use Rattle.sl_trace.specs.declared.effects.Call.{Call}

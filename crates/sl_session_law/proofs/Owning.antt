@@ -4,7 +4,8 @@ use Rattle.sl_law.specs.Lawful.{Lawful}
 use Rattle.sl_plain.proofs.Lists.{got_before, got_inside}
 use Rattle.sl_session_law.proofs.Making.{calls_are_made}
 use Rattle.sl_session_law.specs.Promises.{CallsWereLawful, IsMade, IsSession, SessionsStay, WasLawful}
-use Rattle.sl_sessions.specs.Sessions.{Session, begun_in, session_numbered, sessions}
+use Rattle.sl_sessions.specs.Sessions.{begun_in, session_numbered, sessions}
+use Rattle.sl_sessions.specs.declared.session.Session.{Session}
 use Rattle.sl_trace.specs.Traces.{Setting, Submitted, Trace}
 use Rattle.sl_trace.specs.declared.effects.Call.{Call}
 use Rattle.sl_trace.specs.declared.effects.Entry.{Entry}

@@ -10,7 +10,8 @@ use Rattle.sl_session_law.proofs.Ordering.{begun_before}
 use Rattle.sl_session_law.proofs.Silence.{no_more}
 use Rattle.sl_session_law.proofs.Staying.{joined_more}
 use Rattle.sl_session_law.specs.Promises.{IsSession}
-use Rattle.sl_sessions.specs.Sessions.{Session, calls_of, has_open_write, is_call_of, joined_after, refused_after, removed_after, removed_in, session_numbered, sessions, stage_of}
+use Rattle.sl_sessions.specs.Sessions.{calls_of, has_open_write, is_call_of, joined_after, refused_after, removed_after, removed_in, session_numbered, sessions, stage_of}
+use Rattle.sl_sessions.specs.declared.session.Session.{Session}
 use Rattle.sl_trace.specs.Connections.{unregisters}
 use Rattle.sl_trace.specs.Traces.{Setting, Submitted, Trace, is_write, mark, submitted}
 use Rattle.sl_trace.specs.declared.effects.Entry.{Entry}

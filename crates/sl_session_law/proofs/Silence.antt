@@ -3,7 +3,8 @@ use Rattle.sl_law.specs.LawfulCalls.{may_submit}
 use Rattle.sl_law.specs.Saying.{cut_at}
 use Rattle.sl_session_law.proofs.Staying.{ended_more}
 use Rattle.sl_session_law.specs.Promises.{EndedAreSilent}
-use Rattle.sl_sessions.specs.Sessions.{Session, calls_of, ended_after, free_write, joined_after, refused_after, removed_after, session_numbered, stage_in, stage_of}
+use Rattle.sl_sessions.specs.Sessions.{calls_of, ended_after, free_write, joined_after, refused_after, removed_after, session_numbered, stage_in, stage_of}
+use Rattle.sl_sessions.specs.declared.session.Session.{Session}
 use Rattle.sl_sessions.specs.declared.stage.Stage.TheVariants.{Ended, Freeing, Refused, Standing}
 use Rattle.sl_sessions.specs.declared.stage.Stage.{Stage}
 use Rattle.sl_trace.specs.Traces.{Submitted, Trace}

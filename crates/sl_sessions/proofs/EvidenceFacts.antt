@@ -1,6 +1,6 @@
 -- Evidence, once it is there, is remembered.
-use Rattle.sl_sessions.specs.Sessions.{Session}
 use Rattle.sl_sessions.specs.Watching.{counted_over, counts_over}
+use Rattle.sl_sessions.specs.declared.session.Session.{Session}
 use Rattle.sl_trace.specs.Traces.{Setting, Trace}
 use Rattle.sl_trace.specs.declared.effects.Entry.{Entry}
 use Rattle.std.proofs.Common.{ap, ◌∙◌}

@@ -9,10 +9,12 @@ use Rattle.sl_sector.specs.declared.sector.DeltaRec.{DeltaRec}
 use Rattle.sl_sector.specs.declared.sector.DeltaState.TheVariants.{Claimed, Free, Live}
 use Rattle.sl_sector.specs.declared.sector.DeltaState.{DeltaState}
 use Rattle.sl_sector.specs.declared.sector.Rec.TheVariants.{DeltaIs}
-use Rattle.sl_sessions.specs.Sessions.{Session, calls_of, delta_written, free_write, generation_of, has_open_delta, join_call, last_renewal_submitted, last_seq, leaving_job, recovery_of}
+use Rattle.sl_sessions.specs.Sessions.{calls_of, delta_written, free_write, generation_of, has_open_delta, join_call, last_renewal_submitted, last_seq, leaving_job, recovery_of}
 use Rattle.sl_sessions.specs.Watching.{is_free_state}
+use Rattle.sl_sessions.specs.declared.delta.DeltaKnown.{DeltaKnown}
 use Rattle.sl_sessions.specs.declared.delta.DeltaNext.TheVariants.{Disconnect, Join, EndLeaving, MoveConnection, ReadOwn, RegisterAndRead, RefuseJoin, Nothing, WriteClaim, WriteFirst, WriteFree, WriteRenewal}
 use Rattle.sl_sessions.specs.declared.delta.DeltaNext.{DeltaNext}
+use Rattle.sl_sessions.specs.declared.session.Session.{Session}
 use Rattle.sl_time.specs.Times.{TimingNumbers, dead, join_max, renew, take_over}
 use Rattle.sl_trace.specs.Traces.{Setting, Submitted, Trace, gave}
 use Rattle.sl_trace.specs.declared.effects.JoinStep.TheVariants.{ClaimWrite, DecidingRead, FirstRead, FirstRenewal, VerifyRead, WatchRead}
@@ -200,22 +202,6 @@ next_on_wake l now (m ∷ ms) =
     elim m.answer [ None ↦ Nothing | Some a ↦ elim (join_step_of m.call.purpose) [ None ↦ Nothing | Some step ↦ next_by_time l now m.reading a.reading step ] ]
 
 -- ---- renewal and free
-
--- What is known of a joined session where a renewal or its free may be due.
-pub record DeltaKnown : Type 0 where
-  pub generation : ℕ
-  -- of the last record submitted
-  pub seq : ℕ
-  -- the submission reading of the last renewal
-  pub renewed : ℕ
-  -- a call on a delta sector is unanswered
-  pub busy : Bool
-  -- recovery has begun
-  pub recovering : Bool
-  -- the job that leaves
-  pub leaving : Option ℕ
-  -- the free was submitted
-  pub freed : Bool
 
 -- In a leaving a seq is left for the free, which ends renewals.
 abbrev pub has_seq_left : DeltaKnown → Bool

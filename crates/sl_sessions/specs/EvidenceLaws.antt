@@ -1,6 +1,6 @@
 -- What was shown once stays shown.
-use Rattle.sl_sessions.specs.Sessions.{Session}
 use Rattle.sl_sessions.specs.Watching.{counted_over, counts_over}
+use Rattle.sl_sessions.specs.declared.session.Session.{Session}
 use Rattle.sl_trace.specs.Traces.{Setting, Trace}
 use Rattle.sl_trace.specs.declared.effects.Entry.{Entry}
 use Rattle.std.specs.Prelude.{true, ℕ, ◌∷◌, ◌≡◌}

@@ -5,11 +5,14 @@ use Rattle.sl_sector.specs.declared.sector.DeltaRec.{DeltaRec}
 use Rattle.sl_sector.specs.declared.sector.Owner.{Owner}
 use Rattle.sl_sector.specs.declared.sector.Rec.TheVariants.{DeltaIs}
 use Rattle.sl_sector.specs.declared.sector.Rec.{Rec}
+use Rattle.sl_sessions.specs.declared.session.Begun.{Begun}
+use Rattle.sl_sessions.specs.declared.session.Renewing.{Renewing}
+use Rattle.sl_sessions.specs.declared.session.Session.{Session}
 use Rattle.sl_sessions.specs.declared.stage.Stage.TheVariants.{Claiming, Deciding, Ended, FirstRenewing, Freeing, Looking, Refused, Standing, Verifying, Waiting}
 use Rattle.sl_sessions.specs.declared.stage.Stage.{Stage}
 use Rattle.sl_time.specs.Times.{fail}
 use Rattle.sl_trace.specs.Connections.{unregisters}
-use Rattle.sl_trace.specs.Traces.{Job, Setting, Submitted, Trace, call_numbered, holdings, is_answered_ok, is_write, line_in, next_job, record_of, reply_to, same_place, submitted, unanswered}
+use Rattle.sl_trace.specs.Traces.{Job, Setting, Submitted, Trace, call_numbered, holdings, is_answered_ok, is_orphan, is_write, line_in, next_job, record_of, reply_to, same_place, submitted, unanswered}
 use Rattle.sl_trace.specs.declared.command.Command.TheVariants.{AddLockspace, RemLockspace}
 use Rattle.sl_trace.specs.declared.command.Command.{Command}
 use Rattle.sl_trace.specs.declared.command.LockspaceArg.{LockspaceArg}
@@ -30,18 +33,6 @@ use Rattle.sl_words.specs.Words.{choose, some_is}
 use Rattle.std.specs.List.{enumerate_from, list_any}
 use Rattle.std.specs.Option.{option_map_or}
 use Rattle.std.specs.Prelude.{Bool, List, None, Ok, Option, Result, Some, bytes_eq, false, filter, find, is_none, is_some, length, map, nat_le, not, option_and_then, option_map, slice_get, true, unwrap_or, [], ℕ, ◌&&◌, ◌++◌, ◌+◌, ◌==◌, ◌||◌, ◌∷◌}
-
--- One joining, or one session that the setting gives.
-pub record Session : Type 0 where
-  pub number : ℕ
-  -- its joining's job, or none
-  pub job : Option ℕ
-  pub lockspace : List ℕ
-  pub id : ℕ
-  pub path : List ℕ
-  pub offset : ℕ
-  -- the reading that the setting gives as its last renewal's, and 0
-  pub renewed : ℕ
 
 -- Whether two steps of a joining are one.
 abbrev pub same_join_step : JoinStep → JoinStep → Bool
@@ -271,20 +262,6 @@ renewed_by es s (Told call Written) =
     option_and_then (λ m. choose (is_call_of s m && is_renewal m.call.purpose) m.reading) (call_numbered es call)
 renewed_by es s i = None
 
--- How a recovery or a leaving began: in which entry, at which reading, and from which entry on its kills may come.
-pub record Begun : Type 0 where
-  pub at : ℕ
-  pub reading : ℕ
-  -- a recovery that begins by time does so at the head of its step, so with a grace of 0 its kills come in that step; one that
-  -- begins in the input, and a leaving, leave them to the next
-  pub kills_from : ℕ
-
--- How a session stands with its renewals: the submission reading of the last that was answered ok outside recovery, and how recovery
--- began, if it has.
-pub record Renewing : Type 0 where
-  pub last : ℕ
-  pub recovery : Option Begun
-
 -- Recovery begins in the entry after these.
 abbrev pub recovers : Trace → Entry → ℕ → Renewing → Renewing
 recovers es e kills_from r = record r { recovery = Some (record { at = length es; reading = e.reading; kills_from = kills_from }) }
@@ -410,6 +387,6 @@ is_covered_stage stage = false
 abbrev pub holdings_of : Trace → Session → List Grant
 holdings_of es s = filter (λ g. g.session == s.number) (holdings es)
 
--- The processes that hold under the session, in rising order.
+-- The processes that hold under the session, in rising order. An orphan has none: nobody can be signalled for it.
 abbrev pub holders_of : Trace → Session → List ℕ
-holders_of es s = rising (map (λ g. g.process) (holdings_of es s))
+holders_of es s = rising (map (λ g. g.process) (filter (λ g. not (is_orphan g)) (holdings_of es s)))

@@ -6,41 +6,26 @@ use Rattle.sl_sector.specs.Spelling.{delta_in}
 use Rattle.sl_sector.specs.declared.sector.DeltaRec.{DeltaRec}
 use Rattle.sl_sector.specs.declared.sector.DeltaState.TheVariants.{Free, Live}
 use Rattle.sl_sector.specs.declared.sector.DeltaState.{DeltaState}
-use Rattle.sl_sessions.specs.Sessions.{Session, calls_of, generation_of, is_survey_purpose, joined_after}
+use Rattle.sl_sessions.specs.Sessions.{calls_of, generation_of, is_joined, is_survey_purpose, joined_after, present_sessions}
+use Rattle.sl_sessions.specs.declared.session.Session.{Session}
+use Rattle.sl_sessions.specs.declared.sighting.Run.{Run}
+use Rattle.sl_sessions.specs.declared.sighting.Sighting.{Sighting}
 use Rattle.sl_time.specs.Times.{TimingNumbers, dead, fail}
 use Rattle.sl_trace.specs.Traces.{Setting, Submitted, Trace, bytes_given}
 use Rattle.sl_trace.specs.declared.reply.Evidence.TheVariants.{Freed, Newer, Silent}
 use Rattle.sl_trace.specs.declared.reply.Evidence.{Evidence}
 use Rattle.sl_trace.specs.declared.reply.HostState.TheVariants.{Dead, Failing, Free as LooksFree, Live as LooksLive, Unknown}
 use Rattle.sl_trace.specs.declared.reply.HostState.{HostState}
+use Rattle.sl_trace.specs.declared.reply.SessionOf.{SessionOf}
 use Rattle.sl_trace.specs.declared.reply.StateOf.{StateOf}
 use Rattle.sl_words.specs.Words.{choose, greatest}
 use Rattle.std.specs.List.{list_any, range_with_len}
 use Rattle.std.specs.Option.{option_map_or}
-use Rattle.std.specs.Prelude.{Bool, List, None, Option, Some, bytes_eq, false, filter_map, if◌then◌else◌, is_some, map, nat_le, nat_lt, option_and_then, option_map, true, [], ℕ, ◌&&◌, ◌-◌, ◌==◌, ◌∷◌}
-
--- One look at an id's sector: readings before and after, and the bytes.
-pub record Sighting : Type 0 where
-  -- the submission's
-  pub before : ℕ
-  -- the answer's
-  pub after : ℕ
-  pub bytes : List ℕ
+use Rattle.std.specs.Prelude.{Bool, List, None, Option, Some, bytes_eq, false, filter, filter_map, if◌then◌else◌, is_some, map, nat_le, nat_lt, option_and_then, option_map, true, [], ℕ, ◌&&◌, ◌-◌, ◌==◌, ◌∷◌}
 
 -- The delta record of that id that the bytes spell.
 abbrev pub sighted : Layout → ℕ → Sighting → Option DeltaRec
 sighted g id s = option_and_then (λ d. choose (d.id == id) d) (delta_in (record_in g s.bytes))
-
--- The longest end of the sightings whose bytes are equal and spell a record of the id.
-pub record Run : Type 0 where
-  pub spelled : DeltaRec
-  pub bytes : List ℕ
-  -- the reading after its first sighting
-  pub since : ℕ
-  -- the reading before its last
-  pub latest : ℕ
-  -- whether a sighting came before it
-  pub changed : Bool
 
 -- A run of one sighting.
 abbrev pub new_run : Sighting → DeltaRec → Bool → Run
@@ -161,3 +146,8 @@ counted_over st (e ∷ es) s j h = elim (counts_over st (e ∷ es) s j h) [ true
 abbrev pub states_seen : Setting → Trace → Session → ℕ → List StateOf
 states_seen st es s now =
     map (λ id. record { id = id; state = host_state st.timing st.layout id (sightings st.layout id (calls_of es s)) now }) (range_with_len 1 st.layout.hosts)
+
+-- The joined sessions by lockspace name, as `status` tells them.
+abbrev pub sessions_seen : Setting → Trace → List SessionOf
+sessions_seen st es =
+    map (λ s. record { lockspace = s.lockspace; id = s.id; generation = generation_of es s }) (filter (is_joined es) (present_sessions st es))

@@ -1,7 +1,25 @@
-//! What a session does next on its id's sector.
+//! What is known of a session, and what it does next on its id's sector.
 
 use sl_sector::DeltaRec;
 use sl_trace::{JoinStep, Reply};
+
+/// What is known of a joined session where a renewal or its free may be due.
+#[derive(Clone, Copy)]
+pub struct DeltaKnown {
+    pub generation: u64,
+    /// Of the last record submitted.
+    pub seq: u64,
+    /// The submission reading of the last renewal.
+    pub renewed: u64,
+    /// A call on a delta sector is unanswered.
+    pub busy: bool,
+    /// Recovery has begun.
+    pub recovering: bool,
+    /// The job that leaves.
+    pub leaving: Option<u64>,
+    /// The free was submitted.
+    pub freed: bool,
+}
 
 /// What a delta lease does next: at most one move of its connection, one call and one reply.
 #[derive(Drop)]

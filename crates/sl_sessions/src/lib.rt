@@ -4,7 +4,11 @@
 
 pub mod delta;
 pub mod laws;
+pub mod session;
+pub mod sighting;
 pub mod stage;
 
-pub use delta::DeltaNext;
+pub use delta::{DeltaKnown, DeltaNext};
+pub use session::{Begun, Renewing, Session};
+pub use sighting::{Run, Sighting};
 pub use stage::Stage;

@@ -1,9 +1,12 @@
 -- What a line comes to: it is refused, an acquire of a free area begins, or a release ends the holding of its process.
-use Rattle.sl_due.specs.DueCommands.{Decision, Gives_up, Reads_area, Replies, busy_refusal, decided, holding_of, limit_refusal, pending_refusal, process_refusal, session_refusal, unless_refused, with_session}
+use Rattle.sl_due.specs.DueCommands.{busy_refusal, decided, holding_of, limit_refusal, pending_refusal, process_refusal, session_refusal, unless_refused, with_session}
+use Rattle.sl_due.specs.declared.decision.Decision.TheVariants.{GivesUp as Gives_up, ReadsArea as Reads_area, Replies}
+use Rattle.sl_due.specs.declared.decision.Decision.{Decision}
 use Rattle.sl_first.specs.FirstSteps.{Holds}
 use Rattle.sl_leases.specs.Leases.{holdings_on, spot_of}
 use Rattle.sl_plain.proofs.Lists.{contains_cases, contains_none}
-use Rattle.sl_sessions.specs.Sessions.{Session, session_named}
+use Rattle.sl_sessions.specs.Sessions.{session_named}
+use Rattle.sl_sessions.specs.declared.session.Session.{Session}
 use Rattle.sl_still.proofs.Busy.{held_by}
 use Rattle.sl_still.proofs.Deciding.{IsFree, Named, Passes, Refuses, Verdict, busy_reply, free_by, limit_reply, named_lease, nothing_held, nothing_open, pending_reply, process_reply, unrefused, verdict}
 use Rattle.sl_still.proofs.Leases.{number_same}

@@ -1,10 +1,13 @@
 -- The refusals of a command, in order: the first that holds is its answer; where none holds nothing is in its way.
-use Rattle.sl_due.specs.DueCommands.{Decision, Replies, busy_refusal, limit_refusal, pending_refusal, process_refusal, session_refusal, unless_refused}
+use Rattle.sl_due.specs.DueCommands.{busy_refusal, limit_refusal, pending_refusal, process_refusal, session_refusal, unless_refused}
+use Rattle.sl_due.specs.declared.decision.Decision.TheVariants.{Replies}
+use Rattle.sl_due.specs.declared.decision.Decision.{Decision}
 use Rattle.sl_first.specs.FirstSteps.{Holds, Idle, Phase, Works}
 use Rattle.sl_leases.specs.Counts.{busy_process, child_count, held_here, holder_count, limit_met, may_act, pending_call, resource_count}
 use Rattle.sl_leases.specs.Leases.{is_on, lease_spots, lease_step, open_on, spot_of}
 use Rattle.sl_plain.proofs.Lists.{contains_first, contains_more, contains_none, kept}
-use Rattle.sl_sessions.specs.Sessions.{Session, given_session, is_active, is_present, last_renewal, present_sessions, session_named, sessions}
+use Rattle.sl_sessions.specs.Sessions.{given_session, is_active, is_present, last_renewal, present_sessions, session_named, sessions}
+use Rattle.sl_sessions.specs.declared.session.Session.{Session}
 use Rattle.sl_still.proofs.Busy.{holding_there, work_there}
 use Rattle.sl_still.proofs.Known.{given_place}
 use Rattle.sl_still.proofs.Leases.{spot_self}

@@ -1,15 +1,18 @@
 -- What a line makes due, exactly.
 use Rattle.sl_due.specs.Due.{after_input, due, due_step}
-use Rattle.sl_due.specs.DueCommands.{Decision, Gives_up, Reads_area, Replies, after_end, answer_line, carry_decision, carry_line, decided, decided_text, on_line}
+use Rattle.sl_due.specs.DueCommands.{after_end, answer_line, carry_decision, carry_line, decided, decided_text, on_line}
 use Rattle.sl_due.specs.DueInputs.{take_input}
 use Rattle.sl_due.specs.DueLease.{carry_lease}
 use Rattle.sl_due.specs.DueWake.{finish}
 use Rattle.sl_due.specs.Steps.{Step, add_reply, begin_step, seen}
+use Rattle.sl_due.specs.declared.decision.Decision.TheVariants.{GivesUp as Gives_up, ReadsArea as Reads_area, Replies}
+use Rattle.sl_due.specs.declared.decision.Decision.{Decision}
 use Rattle.sl_first.proofs.Growth.{same_number}
 use Rattle.sl_first.specs.FirstPath.{first_effects, one_reply, open_kept}
 use Rattle.sl_first.specs.FirstSteps.{Holds, first_known, work_in}
 use Rattle.sl_leases.specs.LeaseWork.{lease_place, release_next}
 use Rattle.sl_leases.specs.Leases.{holdings_on, known, lease_calls, spot_of}
+use Rattle.sl_sessions.specs.declared.session.Session.{Session}
 use Rattle.sl_still.proofs.Growing.{held_grown}
 use Rattle.sl_still.proofs.Known.{leases_known}
 use Rattle.sl_still.proofs.Quiet.{quiet_job}
@@ -30,7 +33,6 @@ use Rattle.sl_trace.specs.declared.effects.Call.{Call}
 use Rattle.sl_trace.specs.declared.effects.JobReply.{JobReply}
 use Rattle.sl_trace.specs.declared.input.Input.{Input}
 use Rattle.sl_trace.specs.declared.input.Input.TheVariants.{Line}
-use Rattle.sl_sessions.specs.Sessions.{Session}
 use Rattle.sl_trace.specs.declared.reply.Reply.TheVariants.{BadCommand as Misread, Done}
 use Rattle.sl_trace.specs.declared.reply.Reply.{Reply}
 use Rattle.sl_words.specs.Results.{◌>>=◌}

@@ -2,7 +2,9 @@
 use Rattle.sl_first.proofs.CalmRenewal.{leases_first, survey_none}
 use Rattle.sl_first.specs.FirstPath.{IsCalm}
 use Rattle.sl_leases.specs.Leases.{is_lease_call, lease_step}
-use Rattle.sl_sessions.specs.Sessions.{Renewing, Session, added, added_by, begun_in, generation_of, given_session, is_call_of, is_join_call, is_joined, is_renewal, is_survey_purpose, joining_session, leaves, leaving_in, leaving_job, recovers, removed_after, removed_in, renewed_by, renewing, renewing_after, session_numbered, sessions, shows_other, shows_other_in}
+use Rattle.sl_sessions.specs.Sessions.{added, added_by, begun_in, generation_of, given_session, is_call_of, is_join_call, is_joined, is_renewal, is_survey_purpose, joining_session, leaves, leaving_in, leaving_job, recovers, removed_after, removed_in, renewed_by, renewing, renewing_after, session_numbered, sessions, shows_other, shows_other_in}
+use Rattle.sl_sessions.specs.declared.session.Renewing.{Renewing}
+use Rattle.sl_sessions.specs.declared.session.Session.{Session}
 use Rattle.sl_still.proofs.Lists.{found_in, list_all_of}
 use Rattle.sl_still.specs.StillPath.{IsLease, IsStill, IsStillCalm, IsStillCommand, StillLease, lease_session}
 use Rattle.sl_time.specs.Times.{fail}

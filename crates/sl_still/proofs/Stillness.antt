@@ -5,9 +5,12 @@ use Rattle.sl_due.specs.DueFirst.{begin_recoveries, begin_recovery, begins_now, 
 use Rattle.sl_due.specs.DueWake.{end_if_done, finish, finish_session, free_if_done}
 use Rattle.sl_due.specs.Steps.{Step, begin_step, for_each, seen, when, with_some}
 use Rattle.sl_plain.proofs.Lists.{contains_first, contains_more}
-use Rattle.sl_sessions.specs.Deltas.{DeltaKnown, DeltaLease, delta_known, delta_of_session, next_free}
-use Rattle.sl_sessions.specs.Sessions.{Renewing, Session, given_session, holdings_of, is_joined, is_present, leaving_of, open_calls_of, present_sessions, recovery_of, sessions}
+use Rattle.sl_sessions.specs.Deltas.{DeltaLease, delta_known, delta_of_session, next_free}
+use Rattle.sl_sessions.specs.Sessions.{given_session, holdings_of, is_joined, is_present, leaving_of, open_calls_of, present_sessions, recovery_of, sessions}
+use Rattle.sl_sessions.specs.declared.delta.DeltaKnown.{DeltaKnown}
 use Rattle.sl_sessions.specs.declared.delta.DeltaNext.TheVariants.{Nothing}
+use Rattle.sl_sessions.specs.declared.session.Renewing.{Renewing}
+use Rattle.sl_sessions.specs.declared.session.Session.{Session}
 use Rattle.sl_still.proofs.Known.{given_place}
 use Rattle.sl_still.proofs.Lists.{filtered, found_in, given_at, list_all_of, ordered, place_of}
 use Rattle.sl_still.proofs.Sessions.{joined_still, renewing_still, sessions_still, staying_still}

@@ -4,8 +4,9 @@ use Rattle.sl_area.specs.Places.{is_base}
 use Rattle.sl_first.specs.FirstSteps.{first_grant, first_over}
 use Rattle.sl_first_cause.specs.Promises.{is_line_or_answer}
 use Rattle.sl_leases.specs.Leases.{is_lease_call, lease_step, spot_of, spot_of_call}
-use Rattle.sl_sessions.specs.Sessions.{Session, delta_written, generation_of, given_session, is_active, is_joined, leaving_job, removed_after, renewing, session_named, session_numbered}
+use Rattle.sl_sessions.specs.Sessions.{delta_written, generation_of, given_session, is_active, is_joined, leaving_job, removed_after, renewing, session_named, session_numbered}
 use Rattle.sl_sessions.specs.Watching.{counts_over}
+use Rattle.sl_sessions.specs.declared.session.Session.{Session}
 use Rattle.sl_text.specs.Names.{is_name}
 use Rattle.sl_trace.specs.Traces.{EachEntry, Setting, Submitted, Trace, is_shared, no_effects, same_spot}
 use Rattle.sl_trace.specs.declared.command.Command.TheVariants.{Acquire, Release}

@@ -1,6 +1,7 @@
 -- What such a daemon does in an entry: a line is answered at once, or one of its leases moves. The calls are those of a daemon of one
 -- session and one resource, made for the lease's session.
-use Rattle.sl_due.specs.DueCommands.{Replies, decided}
+use Rattle.sl_due.specs.DueCommands.{decided}
+use Rattle.sl_due.specs.declared.decision.Decision.TheVariants.{Replies}
 use Rattle.sl_first_ballot.specs.Ways.{ballot_place}
 use Rattle.sl_first.specs.FirstPath.{Doing, first_effects, heeded_call, next_doing, one_reply}
 use Rattle.sl_first.specs.FirstSteps.{Holds, Idle, IsNamed, Live, Phase, Works, blocks_read, first_aim, first_known, first_next, first_read, goes_on_with, last_write, leader_write, own_write, process_of}

@@ -3,7 +3,8 @@ use Rattle.sl_first_ballot.proofs.Grants.{below}
 use Rattle.sl_first_ballot.specs.Ways.{Numbered}
 use Rattle.sl_leases.specs.Leases.{is_lease_call, is_on, lease_calls}
 use Rattle.sl_session_law.proofs.Making.{same_answered}
-use Rattle.sl_sessions.specs.Sessions.{Session, calls_of, is_call_of}
+use Rattle.sl_sessions.specs.Sessions.{calls_of, is_call_of}
+use Rattle.sl_sessions.specs.declared.session.Session.{Session}
 use Rattle.sl_still.proofs.Lists.{filtered}
 use Rattle.sl_trace.specs.Traces.{IsTrace, Setting, Submitted, Trace, answered_in, mark, new_call, next_call, submitted}
 use Rattle.sl_trace.specs.declared.effects.Call.{Call}

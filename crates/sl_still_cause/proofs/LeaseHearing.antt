@@ -8,8 +8,8 @@ use Rattle.sl_first_cause.proofs.Replied.{with_session}
 use Rattle.sl_law.specs.Caused.{Answering, AnswersCall, AnswersRead, ReadsBlocks, after_entry, known_here, the_session}
 use Rattle.sl_leases.specs.Leases.{Phase1_read, Phase2_read, StepKind, blocks_given, is_at, is_phase_read, kind_of_step, lease_calls, own_block, same_kind, spot_of_call}
 use Rattle.sl_sector.specs.declared.sector.Block.{Block}
-use Rattle.sl_sessions.specs.Sessions.{Session}
 use Rattle.sl_sessions.specs.Watching.{counts_over}
+use Rattle.sl_sessions.specs.declared.session.Session.{Session}
 use Rattle.sl_trace.specs.Traces.{Submitted, bytes_given, gave}
 use Rattle.sl_trace.specs.declared.command.Command.{Command}
 use Rattle.sl_trace.specs.declared.effects.LeaseStep.TheVariants.{Phase1Read, Phase2Read, ReadArea}

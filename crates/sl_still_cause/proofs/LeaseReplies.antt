@@ -12,7 +12,8 @@ use Rattle.sl_leases.specs.Leases.{block_submitted, holdings_on, is_lease_call, 
 use Rattle.sl_leases.specs.declared.lease.LeaseNext.TheVariants.{AnswerJob, GrantJob, Nothing, ReadFor, WriteBlock, WriteLeader}
 use Rattle.sl_leases.specs.declared.lease.LeaseNext.{LeaseNext}
 use Rattle.sl_plain.proofs.Lists.{contains_first}
-use Rattle.sl_sessions.specs.Sessions.{Session, calls_of, is_call_of, session_named}
+use Rattle.sl_sessions.specs.Sessions.{calls_of, is_call_of, session_named}
+use Rattle.sl_sessions.specs.declared.session.Session.{Session}
 use Rattle.sl_still.proofs.Calls.{none_is}
 use Rattle.sl_still.proofs.Known.{leases_known, named_still, session_stands}
 use Rattle.sl_still.proofs.Leases.{lease_self, on_spot}

@@ -1,6 +1,7 @@
 -- What a line is answered with at once has its cause: its job is the one that the line begins, and the trace before its input is the one
 -- on which its command is decided.
-use Rattle.sl_due.specs.DueCommands.{Replies, decided, holding_of}
+use Rattle.sl_due.specs.DueCommands.{decided, holding_of}
+use Rattle.sl_due.specs.declared.decision.Decision.TheVariants.{Replies}
 use Rattle.sl_first.proofs.Growth.{same_number}
 use Rattle.sl_first_ballot.proofs.Elsewhere.{fails}
 use Rattle.sl_first_cause.proofs.LineCauses.{found_last, other_number}
@@ -9,7 +10,8 @@ use Rattle.sl_law.specs.Caused.{Answering, AnswersWell, CausedBy, WithSession, W
 use Rattle.sl_leases.specs.Counts.{busy_process, limit_met, may_act, pending_call}
 use Rattle.sl_leases.specs.Jobs.{is_asking_lease, is_program, lockspace_named, process_named, resource_named, wants_shared}
 use Rattle.sl_leases.specs.Leases.{holdings_on, spot_of}
-use Rattle.sl_sessions.specs.Sessions.{Session, is_session_arg, session_named}
+use Rattle.sl_sessions.specs.Sessions.{is_session_arg, session_named}
+use Rattle.sl_sessions.specs.declared.session.Session.{Session}
 use Rattle.sl_still.specs.StillLeases.{StillStands, Table}
 use Rattle.sl_still.specs.StillPath.{IsStill, IsStillCommand, before_next}
 use Rattle.sl_still.specs.StillSteps.{IsRefused, Is_refused, Says_nothing, is_line_reply, is_still_limit, refused_entry}

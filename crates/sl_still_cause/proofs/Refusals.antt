@@ -1,8 +1,11 @@
 -- Why an acquire or a release is refused at once: each refusal says what stands in the trace on which the command is decided.
-use Rattle.sl_due.specs.DueCommands.{Decision, Gives_up, Reads_area, Replies, acquiring, busy_refusal, decided, holding_of, limit_refusal, pending_refusal, process_refusal, reply_at_once, session_refusal, unless_refused, with_session}
+use Rattle.sl_due.specs.DueCommands.{acquiring, busy_refusal, decided, holding_of, limit_refusal, pending_refusal, process_refusal, reply_at_once, session_refusal, unless_refused, with_session}
+use Rattle.sl_due.specs.declared.decision.Decision.TheVariants.{GivesUp as Gives_up, ReadsArea as Reads_area, Replies}
+use Rattle.sl_due.specs.declared.decision.Decision.{Decision}
 use Rattle.sl_leases.specs.Counts.{busy_process, limit_met, may_act, pending_call}
 use Rattle.sl_leases.specs.Leases.{spot_of}
-use Rattle.sl_sessions.specs.Sessions.{Session, is_active, is_joined, last_renewal, session_named}
+use Rattle.sl_sessions.specs.Sessions.{is_active, is_joined, last_renewal, session_named}
+use Rattle.sl_sessions.specs.declared.session.Session.{Session}
 use Rattle.sl_still.proofs.Calls.{none_is}
 use Rattle.sl_still.proofs.Deciding.{mapped_some}
 use Rattle.sl_still.specs.StillSteps.{is_line_reply}

@@ -1,7 +1,8 @@
 -- How the count of resources changes by an entry: it stays where no call is made, and a call adds its lease, unless that was used before.
 use Rattle.sl_leases.specs.Counts.{resource_count}
 use Rattle.sl_leases.specs.Leases.{is_on, lease_spots, lease_step, spot_of_call, spots_in, with_spot}
-use Rattle.sl_sessions.specs.Sessions.{Session, calls_of, given_session, is_call_of, is_joined}
+use Rattle.sl_sessions.specs.Sessions.{calls_of, given_session, is_call_of, is_joined}
+use Rattle.sl_sessions.specs.declared.session.Session.{Session}
 use Rattle.sl_still.proofs.Growing.{filter_marked}
 use Rattle.sl_still.proofs.Leases.{is_its_call, number_same, on_spot}
 use Rattle.sl_still.proofs.Sessions.{joined_still, sessions_still}

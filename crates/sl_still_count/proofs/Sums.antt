@@ -1,6 +1,7 @@
 -- Sums over the given sessions where one of them changes, and lists of which a test keeps one.
 use Rattle.sl_plain.proofs.Lists.{contains_first, contains_more}
-use Rattle.sl_sessions.specs.Sessions.{Session, given_session}
+use Rattle.sl_sessions.specs.Sessions.{given_session}
+use Rattle.sl_sessions.specs.declared.session.Session.{Session}
 use Rattle.sl_trace.specs.declared.input.Given.{Given}
 use Rattle.sl_words.proofs.CaseLaws.{none_some, some_value}
 use Rattle.std.proofs.Common.{ap, arith, refl, subst, suc, sym, tests, zero, ◌∙◌}

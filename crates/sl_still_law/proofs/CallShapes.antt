@@ -9,7 +9,8 @@ use Rattle.sl_first_lawful.specs.Keeping.{CallIsLawful, EntryIsLawful}
 use Rattle.sl_law.specs.Saying.{EachCall, cut_at}
 use Rattle.sl_leases.specs.Leases.{is_lease_call, is_on, lease_calls, value_written}
 use Rattle.sl_plain.proofs.Lists.{contains_first}
-use Rattle.sl_sessions.specs.Sessions.{Session, calls_of, is_call_of, session_numbered}
+use Rattle.sl_sessions.specs.Sessions.{calls_of, is_call_of, session_numbered}
+use Rattle.sl_sessions.specs.declared.session.Session.{Session}
 use Rattle.sl_still.proofs.Calls.{call_parts}
 use Rattle.sl_still.proofs.Known.{session_stands}
 use Rattle.sl_still.proofs.Lists.{filtered, list_all_of}

@@ -3,7 +3,10 @@ use Rattle.sl_first_law.proofs.Calmness.{no_free}
 use Rattle.sl_law.specs.LawfulCalls.{may_submit}
 use Rattle.sl_law.specs.Saying.{EachSession}
 use Rattle.sl_leases.specs.Leases.{is_lease_call}
-use Rattle.sl_sessions.specs.Sessions.{Begun, Renewing, Session, calls_of, free_write, given_session, is_call_of, is_joined, is_leaving, is_recovering, leaving_of, recovery_of, stage_of}
+use Rattle.sl_sessions.specs.Sessions.{calls_of, free_write, given_session, is_call_of, is_joined, is_leaving, is_recovering, leaving_of, recovery_of, stage_of}
+use Rattle.sl_sessions.specs.declared.session.Begun.{Begun}
+use Rattle.sl_sessions.specs.declared.session.Renewing.{Renewing}
+use Rattle.sl_sessions.specs.declared.session.Session.{Session}
 use Rattle.sl_sessions.specs.declared.stage.Stage.TheVariants.{Ended, Freeing, Standing}
 use Rattle.sl_sessions.specs.declared.stage.Stage.{Stage}
 use Rattle.sl_still.proofs.Calls.{call_parts}

@@ -10,7 +10,8 @@ use Rattle.sl_law.specs.LawfulGrant.{HasTaken, LawfulGrantTo}
 use Rattle.sl_law.specs.LawfulModes.{LawfulExclusiveGrant, LawfulModeGrant}
 use Rattle.sl_leases.specs.Leases.{freed, holdings_on, lease_calls, spot_of}
 use Rattle.sl_plain.proofs.Lists.{contains_none, kept}
-use Rattle.sl_sessions.specs.Sessions.{Session, session_numbered}
+use Rattle.sl_sessions.specs.Sessions.{session_numbered}
+use Rattle.sl_sessions.specs.declared.session.Session.{Session}
 use Rattle.sl_still.proofs.Known.{session_stands}
 use Rattle.sl_still.proofs.Leases.{grant_of_lease, held_filtered, is_its_grant, spot_same}
 use Rattle.sl_still.proofs.Lists.{list_all_of}

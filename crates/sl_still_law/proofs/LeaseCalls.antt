@@ -10,7 +10,8 @@ use Rattle.sl_law.specs.LawfulLeader.{LawfulLeaderWrite}
 use Rattle.sl_leases.specs.Leases.{is_lease_call, is_on, lease_calls, lease_step, spot_of, spot_of_call, value_written, verified_name}
 use Rattle.sl_plain.proofs.Lists.{contains_first, kept}
 use Rattle.sl_sector.specs.declared.sector.Rec.{Rec}
-use Rattle.sl_sessions.specs.Sessions.{Session, calls_of, delta_written, is_call_of, is_delta_purpose, is_survey_purpose, open_calls_of}
+use Rattle.sl_sessions.specs.Sessions.{calls_of, delta_written, is_call_of, is_delta_purpose, is_survey_purpose, open_calls_of}
+use Rattle.sl_sessions.specs.declared.session.Session.{Session}
 use Rattle.sl_still.proofs.Calls.{call_parts}
 use Rattle.sl_still.proofs.Known.{session_stands}
 use Rattle.sl_still.proofs.Leases.{on_spot}

@@ -2,7 +2,8 @@
 use Rattle.sl_law.specs.LawfulDelta.{LawfulDelta, LawfulDeltaCall, LawfulJoin, is_on_own_sector}
 use Rattle.sl_law.specs.LawfulRecovery.{KillsAfter, LawfulRecovery, MayPart, StopsSession, is_leaving_write}
 use Rattle.sl_law.specs.Saying.{EachCall}
-use Rattle.sl_sessions.specs.Sessions.{Begun, has_open_delta, is_delta_purpose, is_joined, is_leaving, is_recovering, is_survey_purpose, joined_after, leaving_job, leaving_of, recovery_of}
+use Rattle.sl_sessions.specs.Sessions.{has_open_delta, is_delta_purpose, is_joined, is_leaving, is_recovering, is_survey_purpose, joined_after, leaving_job, leaving_of, recovery_of}
+use Rattle.sl_sessions.specs.declared.session.Begun.{Begun}
 use Rattle.sl_still.proofs.Known.{session_stands}
 use Rattle.sl_still_law.proofs.GivenSessions.{each_given, leaves_never, never_freed, recovers_never}
 use Rattle.sl_still.specs.StillPath.{IsStill, IsStillCalm, SessionStands, StillLease, is_still_call, lease_session}

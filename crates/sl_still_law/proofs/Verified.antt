@@ -4,7 +4,8 @@ use Rattle.sl_first_law.proofs.Areas.{leader_given, not_a_name, verifies}
 use Rattle.sl_law.specs.LawfulArea.{HasVerified, is_leader_read}
 use Rattle.sl_leases.specs.Leases.{is_lease_call, is_on, lease_calls, verified_by, verified_name}
 use Rattle.sl_plain.proofs.Lists.{contains_cases, contains_first, contains_more, contains_none, kept}
-use Rattle.sl_sessions.specs.Sessions.{Session, calls_of}
+use Rattle.sl_sessions.specs.Sessions.{calls_of}
+use Rattle.sl_sessions.specs.declared.session.Session.{Session}
 use Rattle.sl_still.proofs.Lists.{filtered}
 use Rattle.sl_text.specs.Names.{is_name}
 use Rattle.sl_trace.specs.Traces.{Setting, Submitted, Trace}

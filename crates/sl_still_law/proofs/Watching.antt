@@ -2,7 +2,8 @@
 -- session's name is there.
 use Rattle.sl_first.proofs.Decisions.{same_text}
 use Rattle.sl_law.specs.LawfulWatchdog.{CoveredBy, LawfulWatchdog, is_covered}
-use Rattle.sl_sessions.specs.Sessions.{Renewing, holdings_of, has_open_write, is_present, last_renewal}
+use Rattle.sl_sessions.specs.Sessions.{holdings_of, has_open_write, is_present, last_renewal}
+use Rattle.sl_sessions.specs.declared.session.Renewing.{Renewing}
 use Rattle.sl_still.proofs.Known.{session_stands}
 use Rattle.sl_still.proofs.Lists.{given_at}
 use Rattle.sl_still_law.proofs.GivenSessions.{each_given}

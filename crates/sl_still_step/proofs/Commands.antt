@@ -1,10 +1,13 @@
 -- What an acquire and a release come to, by the table of the leases.
 use Rattle.sl_area.specs.Places.{is_base}
-use Rattle.sl_due.specs.DueCommands.{Decision, Gives_up, Reads_area, Replies, busy_refusal, decided, holding_of, limit_refusal, pending_refusal, process_refusal, session_refusal, unless_refused, with_session}
+use Rattle.sl_due.specs.DueCommands.{busy_refusal, decided, holding_of, limit_refusal, pending_refusal, process_refusal, session_refusal, unless_refused, with_session}
+use Rattle.sl_due.specs.declared.decision.Decision.TheVariants.{GivesUp as Gives_up, ReadsArea as Reads_area, Replies}
+use Rattle.sl_due.specs.declared.decision.Decision.{Decision}
 use Rattle.sl_first.specs.FirstSteps.{Holds, Idle, Phase, Works}
 use Rattle.sl_leases.specs.Leases.{holdings_on, spot_of}
 use Rattle.sl_plain.proofs.Lists.{find_fails}
-use Rattle.sl_sessions.specs.Sessions.{Session, session_named}
+use Rattle.sl_sessions.specs.Sessions.{session_named}
+use Rattle.sl_sessions.specs.declared.session.Session.{Session}
 use Rattle.sl_still.proofs.Deciding.{named_lease, unrefused}
 use Rattle.sl_still.proofs.Lists.{inside_at}
 use Rattle.sl_still.proofs.Quiet.{quiet_on, quiet_session}

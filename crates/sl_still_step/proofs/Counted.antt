@@ -5,7 +5,8 @@ use Rattle.sl_first.proofs.Entries.{running_stays}
 use Rattle.sl_leases.specs.Counts.{holder_count, resource_count}
 use Rattle.sl_leases.specs.Jobs.{is_asking_lease, is_command_that}
 use Rattle.sl_leases.specs.Leases.{is_lease_call, is_on, is_spot_before, lease_spots, spot_of_call, spots_in, with_spot}
-use Rattle.sl_sessions.specs.Sessions.{Session, calls_of, is_joined, sessions}
+use Rattle.sl_sessions.specs.Sessions.{calls_of, is_joined, sessions}
+use Rattle.sl_sessions.specs.declared.session.Session.{Session}
 use Rattle.sl_still.proofs.Leases.{area_room, on_own, on_spot, spot_same, spot_self}
 use Rattle.sl_still.proofs.Quiet.{quiet_children, quiet_held}
 use Rattle.sl_still.proofs.Sessions.{joined_still, sessions_still}

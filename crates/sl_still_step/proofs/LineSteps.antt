@@ -1,5 +1,7 @@
 -- What a line does: it is refused, begins an acquire, or gives back what is held.
-use Rattle.sl_due.specs.DueCommands.{Decision, Gives_up, Reads_area, Replies, decided}
+use Rattle.sl_due.specs.DueCommands.{decided}
+use Rattle.sl_due.specs.declared.decision.Decision.TheVariants.{GivesUp as Gives_up, ReadsArea as Reads_area, Replies}
+use Rattle.sl_due.specs.declared.decision.Decision.{Decision}
 use Rattle.sl_first.specs.FirstPath.{first_effects}
 use Rattle.sl_first.specs.FirstSteps.{Holds, Idle, Phase}
 use Rattle.sl_leases.specs.Leases.{spot_of}

@@ -1,6 +1,7 @@
 -- What such a daemon does next, forward: from where its leases stand to what is decided, what is due, and where they stand then.
 use Rattle.sl_due.specs.Due.{due}
-use Rattle.sl_due.specs.DueCommands.{Gives_up, Reads_area, Replies, decided}
+use Rattle.sl_due.specs.DueCommands.{decided}
+use Rattle.sl_due.specs.declared.decision.Decision.TheVariants.{GivesUp as Gives_up, ReadsArea as Reads_area, Replies}
 use Rattle.sl_first.specs.FirstPath.{Doing, first_effects}
 use Rattle.sl_first.specs.FirstSteps.{Holds, Works}
 use Rattle.sl_leases.specs.declared.lease.LeaseNext.{LeaseNext}

@@ -1,6 +1,8 @@
 -- Where an area stands by the table of the leases, and what a command comes to by that. A host keeps the table, not its trace: what it
 -- decides by the table must be what the trace decides, else it would grant what is held, or refuse what is free.
-use Rattle.sl_due.specs.DueCommands.{Decision, Gives_up, Reads_area, Replies, unless_refused}
+use Rattle.sl_due.specs.DueCommands.{unless_refused}
+use Rattle.sl_due.specs.declared.decision.Decision.TheVariants.{GivesUp as Gives_up, ReadsArea as Reads_area, Replies}
+use Rattle.sl_due.specs.declared.decision.Decision.{Decision}
 use Rattle.sl_first.specs.FirstPath.{Doing}
 use Rattle.sl_first.specs.FirstSteps.{Holds, Idle, Phase, Works}
 use Rattle.sl_leases.specs.Counts.{holder_count, resource_count}

@@ -7,4 +7,3 @@ pub mod timing;
 
 pub use clock::{Clock, MemClock};
 pub use timing::{Timing, TimingBad};
-

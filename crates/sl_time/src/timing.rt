@@ -108,7 +108,8 @@ impl Timing {
 
     /// By how many per mille a clock may be fast or slow.
     pub fn rho(&self) -> u64
-        ensures { result ≡ self.now.rho }
+        ensures exact { result ≡ self.now.rho }
+        ensures most { result ≤ 100 }
     {
         self.rho
     }

@@ -5,7 +5,7 @@ use Rattle.sl_text.specs.Forms.{Form, bad_column, coloned, exactly, made_by, pie
 use Rattle.sl_text.specs.Names.{is_name, is_path}
 use Rattle.sl_text.specs.Numbers.{hex_bytes, hex_text, is_hex_word, is_number_that, number_of}
 use Rattle.sl_trace.specs.Limits.{most_children, most_processes}
-use Rattle.sl_trace.specs.declared.command.Command.TheVariants.{Acquire, AddLockspace, GetLvb, HostStatus, InqLockspace, Release, RemLockspace, Request, RunProgram, SetLvb, Status}
+use Rattle.sl_trace.specs.declared.command.Command.TheVariants.{Acquire, AddLockspace, Convert, GetLvb, HostStatus, InqLockspace, Release, ReleaseOrphan, RemLockspace, Request, RunProgram, SetKillpath, SetLvb, Status, TakeOver}
 use Rattle.sl_trace.specs.declared.command.Command.{Command}
 use Rattle.sl_trace.specs.declared.command.LockspaceArg.{LockspaceArg}
 use Rattle.sl_trace.specs.declared.command.ResourceArg.{ResourceArg}
@@ -66,24 +66,50 @@ lockspace_form g verb make =
       make = λ ws. make (lockspace_of_word (word_at ws 2));
     }
 
+-- An option that is given as 1, at the end of a line.
+abbrev pub option_words : List ℕ → List (List ℕ → Bool)
+option_words name = exactly name ∷ exactly (codes "1") ∷ []
+
+-- An acquire's resource and process, and its options.
+abbrev pub acquire_form : (List ℕ → Bool) → List (List ℕ → Bool) → (ResourceArg → ℕ → Command) → Form Command
+acquire_form is_resource options make =
+    record {
+      words = exactly (codes "acquire") ∷ exactly (codes "-r") ∷ is_resource ∷ exactly (codes "-p") ∷ is_process_word ∷ options;
+      make = λ ws. make (resource_of_word (word_at ws 2)) (number_of (word_at ws 4));
+    }
+
+-- The forms of an acquire in a mode: plain, persistent, and each as a take-over of the orphan.
+abbrev pub acquire_forms : (List ℕ → Bool) → Bool → List (Form Command)
+acquire_forms is_resource shared =
+    acquire_form is_resource [] (λ r p. Acquire r shared p false)
+    ∷ acquire_form is_resource (option_words (codes "-P")) (λ r p. Acquire r shared p true)
+    ∷ acquire_form is_resource (option_words (codes "-O")) (λ r p. TakeOver r shared p false)
+    ∷ acquire_form is_resource (option_words (codes "-P") ++ option_words (codes "-O")) (λ r p. TakeOver r shared p true) ∷ []
+
 -- The forms of all commands. A further command is a further line.
 unfoldable pub forms : Layout → List (Form Command)
 forms g =
-    lockspace_form g (codes "add_lockspace") (λ a. AddLockspace a)
+    acquire_forms (is_resource_word g) false
+    ++ acquire_forms (is_shared_word g) true
+    ++ lockspace_form g (codes "add_lockspace") (λ a. AddLockspace a)
     ∷ lockspace_form g (codes "rem_lockspace") (λ a. RemLockspace a)
     ∷ lockspace_form g (codes "inq_lockspace") (λ a. InqLockspace a)
     ∷ lockspace_form g (codes "host_status") (λ a. HostStatus a)
     ∷ record {
-      words = exactly (codes "acquire") ∷ exactly (codes "-r") ∷ is_resource_word g ∷ exactly (codes "-p") ∷ is_process_word ∷ [];
-      make = λ ws. Acquire (resource_of_word (word_at ws 2)) false (number_of (word_at ws 4));
-    }
-    ∷ record {
-      words = exactly (codes "acquire") ∷ exactly (codes "-r") ∷ is_shared_word g ∷ exactly (codes "-p") ∷ is_process_word ∷ [];
-      make = λ ws. Acquire (resource_of_word (word_at ws 2)) true (number_of (word_at ws 4));
-    }
-    ∷ record {
       words = exactly (codes "release") ∷ exactly (codes "-r") ∷ is_resource_word g ∷ exactly (codes "-p") ∷ is_process_word ∷ [];
       make = λ ws. Release (resource_of_word (word_at ws 2)) (number_of (word_at ws 4));
+    }
+    ∷ record {
+      words = exactly (codes "release") ∷ exactly (codes "-r") ∷ is_resource_word g ∷ option_words (codes "-O");
+      make = λ ws. ReleaseOrphan (resource_of_word (word_at ws 2));
+    }
+    ∷ record {
+      words = exactly (codes "convert") ∷ exactly (codes "-r") ∷ is_resource_word g ∷ exactly (codes "-p") ∷ is_process_word ∷ [];
+      make = λ ws. Convert (resource_of_word (word_at ws 2)) false (number_of (word_at ws 4));
+    }
+    ∷ record {
+      words = exactly (codes "convert") ∷ exactly (codes "-r") ∷ is_shared_word g ∷ exactly (codes "-p") ∷ is_process_word ∷ [];
+      make = λ ws. Convert (resource_of_word (word_at ws 2)) true (number_of (word_at ws 4));
     }
     ∷ record {
       words = exactly (codes "command") ∷ exactly (codes "-r") ∷ is_resource_word g ∷ exactly (codes "-c") ∷ is_path ∷ [];
@@ -110,6 +136,10 @@ forms g =
       words = exactly (codes "set_lvb") ∷ exactly (codes "-r") ∷ is_resource_word g ∷ exactly (codes "-p") ∷ is_process_word
           ∷ exactly (codes "-d") ∷ is_hex_word 2 512 ∷ [];
       make = λ ws. SetLvb (resource_of_word (word_at ws 2)) (number_of (word_at ws 4)) (hex_bytes (word_at ws 6));
+    }
+    ∷ record {
+      words = exactly (codes "set_killpath") ∷ exactly (codes "-p") ∷ is_process_word ∷ exactly (codes "-c") ∷ is_path ∷ [];
+      make = λ ws. SetKillpath (number_of (word_at ws 2)) (word_at ws 4);
     }
     ∷ record { words = exactly (codes "status") ∷ []; make = λ ws. Status }
     ∷ []
@@ -138,18 +168,30 @@ abbrev pub moded_word : ResourceArg → Bool → List ℕ
 moded_word r true = coloned (resource_parts r ++ codes "SH" ∷ [])
 moded_word r false = coloned (resource_parts r)
 
+-- The words of an option, where it is given.
+abbrev pub words_of_option : Bool → List ℕ → List (List ℕ)
+words_of_option true name = name ∷ codes "1" ∷ []
+words_of_option false name = []
+
 -- The words of a command.
 abbrev pub command_words : Command → List (List ℕ)
 command_words (AddLockspace a) = codes "add_lockspace" ∷ codes "-s" ∷ lockspace_word a ∷ []
 command_words (RemLockspace a) = codes "rem_lockspace" ∷ codes "-s" ∷ lockspace_word a ∷ []
 command_words (InqLockspace a) = codes "inq_lockspace" ∷ codes "-s" ∷ lockspace_word a ∷ []
 command_words (HostStatus a) = codes "host_status" ∷ codes "-s" ∷ lockspace_word a ∷ []
-command_words (Acquire r shared p) = codes "acquire" ∷ codes "-r" ∷ moded_word r shared ∷ codes "-p" ∷ decimal p ∷ []
+command_words (Acquire r shared p persistent) =
+    codes "acquire" ∷ codes "-r" ∷ moded_word r shared ∷ codes "-p" ∷ decimal p ∷ words_of_option persistent (codes "-P")
+command_words (TakeOver r shared p persistent) =
+    codes "acquire" ∷ codes "-r" ∷ moded_word r shared ∷ codes "-p" ∷ decimal p
+    ∷ words_of_option persistent (codes "-P") ++ words_of_option true (codes "-O")
 command_words (Release r p) = codes "release" ∷ codes "-r" ∷ moded_word r false ∷ codes "-p" ∷ decimal p ∷ []
+command_words (ReleaseOrphan r) = codes "release" ∷ codes "-r" ∷ moded_word r false ∷ words_of_option true (codes "-O")
+command_words (Convert r shared p) = codes "convert" ∷ codes "-r" ∷ moded_word r shared ∷ codes "-p" ∷ decimal p ∷ []
 command_words (RunProgram r shared path) = codes "command" ∷ codes "-r" ∷ moded_word r shared ∷ codes "-c" ∷ path ∷ []
 command_words (Request r lver force) = codes "request" ∷ codes "-r" ∷ coloned (resource_parts r ++ decimal lver ∷ []) ∷ codes "-f" ∷ decimal force ∷ []
 command_words (GetLvb r p) = codes "get_lvb" ∷ codes "-r" ∷ moded_word r false ∷ codes "-p" ∷ decimal p ∷ []
 command_words (SetLvb r p bytes) = codes "set_lvb" ∷ codes "-r" ∷ moded_word r false ∷ codes "-p" ∷ decimal p ∷ codes "-d" ∷ hex_text bytes ∷ []
+command_words (SetKillpath p path) = codes "set_killpath" ∷ codes "-p" ∷ decimal p ∷ codes "-c" ∷ path ∷ []
 command_words Status = codes "status" ∷ []
 
 -- ---- what a command may name
@@ -191,12 +233,16 @@ IsCommand g (AddLockspace a) = IsLockspaceArg g a
 IsCommand g (RemLockspace a) = IsLockspaceArg g a
 IsCommand g (InqLockspace a) = IsLockspaceArg g a
 IsCommand g (HostStatus a) = IsLockspaceArg g a
-IsCommand g (Acquire r shared p) = IsResourceArg g r × IsProcess p
+IsCommand g (Acquire r shared p persistent) = IsResourceArg g r × IsProcess p
+IsCommand g (TakeOver r shared p persistent) = IsResourceArg g r × IsProcess p
 IsCommand g (Release r p) = IsResourceArg g r × IsProcess p
+IsCommand g (ReleaseOrphan r) = IsResourceArg g r
+IsCommand g (Convert r shared p) = IsResourceArg g r × IsProcess p
 IsCommand g (RunProgram r shared path) = IsResourceArg g r × IsTrue (is_path path)
 IsCommand g (Request r lver force) = IsResourceArg g r × IsRequestArg lver force
 IsCommand g (GetLvb r p) = IsResourceArg g r × IsProcess p
 IsCommand g (SetLvb r p bytes) = IsResourceArg g r × IsProcess p × IsValueArg bytes
+IsCommand g (SetKillpath p path) = IsProcess p × IsTrue (is_path path)
 IsCommand g Status = Unit {0}
 
 -- The text is the command's: it may name what it does, and its words stand with one space between them.

@@ -2,7 +2,7 @@
 use Rattle.sl_sector.specs.RecordTexts.{dash_for_none, record_words}
 use Rattle.sl_text.specs.Forms.{coloned, spaced}
 use Rattle.sl_text.specs.Numbers.{hex_text}
-use Rattle.sl_trace.specs.Limits.{most_children, most_holders, most_lockspaces, most_resources}
+use Rattle.sl_trace.specs.Limits.{most_children, most_holders, most_killpaths, most_lockspaces, most_resources}
 use Rattle.sl_trace.specs.declared.effects.Call.{Call}
 use Rattle.sl_trace.specs.declared.effects.Effects.{Effects}
 use Rattle.sl_trace.specs.declared.effects.End.{End}
@@ -22,9 +22,9 @@ use Rattle.sl_trace.specs.declared.reply.DeltaOwner.{DeltaOwner}
 use Rattle.sl_trace.specs.declared.reply.DeltaVersion.{DeltaVersion}
 use Rattle.sl_trace.specs.declared.reply.HostState.TheVariants.{Dead, Failing, Free as LooksFree, Live as LooksLive, Unknown}
 use Rattle.sl_trace.specs.declared.reply.HostState.{HostState}
-use Rattle.sl_trace.specs.declared.reply.Limited.TheVariants.{Children, Gen as GenLimit, Holders, Lockspaces, Lver as LverLimit, Mbal as MbalLimit, Resources, Seq as SeqLimit}
+use Rattle.sl_trace.specs.declared.reply.Limited.TheVariants.{Children, Gen as GenLimit, Holders, Killpaths, Lockspaces, Lver as LverLimit, Mbal as MbalLimit, Resources, Seq as SeqLimit}
 use Rattle.sl_trace.specs.declared.reply.Limited.{Limited}
-use Rattle.sl_trace.specs.declared.reply.Reply.TheVariants.{Ahead, BadCommand as Misread, Busy, Done, Generation, Granted, Held as HeldBy, Hosts, IdHeld, IdLate, IdLost, IoFault, IoTimeout, Joined, Joining as StillJoining, Limit as LimitReached, NoProcess, NoSession, NotHeld, Pending, Recovering, RequestOld, Rival, Sessions, Shared as SharedBy, SpawnFault, Started, TornBlock, TornDelta, TornLeader, Value, ValueTorn, WrongArea, WrongDelta}
+use Rattle.sl_trace.specs.declared.reply.Reply.TheVariants.{Ahead, BadCommand as Misread, Busy, Done, Generation, Granted, Held as HeldBy, Hosts, IdHeld, IdLate, IdLost, IoFault, IoTimeout, Joined, Joining as StillJoining, Limit as LimitReached, NoOrphan, NoProcess, NoSession, NotHeld, Pending, Recovering, RequestOld, Rival, Sessions, Shared as SharedBy, SpawnFault, Started, TornBlock, TornDelta, TornLeader, Value, ValueSet, ValueTorn, WrongArea, WrongDelta}
 use Rattle.sl_trace.specs.declared.reply.Reply.{Reply}
 use Rattle.sl_words.specs.Bounds.{record_numbers}
 use Rattle.std.specs.Prelude.{Bool, List, None, Option, Some, codes, decimal, false, filter, map, not, true, [], ℕ, ◌++◌, ◌-◌, ◌∷◌}
@@ -54,6 +54,7 @@ limit_words Lockspaces = codes "lockspaces" ∷ decimal most_lockspaces ∷ []
 limit_words Resources = codes "resources" ∷ decimal most_resources ∷ []
 limit_words Holders = codes "holders" ∷ decimal most_holders ∷ []
 limit_words Children = codes "children" ∷ decimal most_children ∷ []
+limit_words Killpaths = codes "killpaths" ∷ decimal most_killpaths ∷ []
 limit_words GenLimit = codes "gen" ∷ greatest_number ∷ []
 limit_words SeqLimit = codes "seq" ∷ greatest_number ∷ []
 limit_words LverLimit = codes "lver" ∷ greatest_number ∷ []
@@ -84,6 +85,7 @@ reply_words (Generation g) = codes "ok" ∷ decimal g ∷ []
 reply_words (Granted lver) = codes "ok" ∷ decimal lver ∷ []
 reply_words (Started lver process) = codes "ok" ∷ decimal lver ∷ decimal process ∷ []
 reply_words (Value lver seq bytes) = codes "ok" ∷ decimal lver ∷ decimal seq ∷ dash_for_none (hex_text bytes) ∷ []
+reply_words (ValueSet lver seq) = codes "ok" ∷ []
 reply_words (Hosts states) =
     codes "ok" ∷ map (λ s. coloned (decimal s.id ∷ state_word s.state ∷ [])) (filter (λ s. not (is_free_host s.state)) states)
 reply_words (Sessions sessions) =
@@ -105,6 +107,7 @@ reply_words (IoTimeout call from to) = codes "IoTimeout" ∷ decimal call ∷ de
 reply_words (IoFault call) = codes "IoFault" ∷ decimal call ∷ []
 reply_words (Pending call) = codes "Pending" ∷ decimal call ∷ []
 reply_words (Busy process) = codes "Busy" ∷ decimal process ∷ []
+reply_words NoOrphan = codes "NoOrphan" ∷ []
 reply_words NotHeld = codes "NotHeld" ∷ []
 reply_words SpawnFault = codes "SpawnFault" ∷ []
 reply_words ValueTorn = codes "ValueTorn" ∷ []
@@ -127,6 +130,7 @@ is_ok_reply (Generation g) = true
 is_ok_reply (Granted lver) = true
 is_ok_reply (Started lver process) = true
 is_ok_reply (Value lver seq bytes) = true
+is_ok_reply (ValueSet lver seq) = true
 is_ok_reply (Hosts states) = true
 is_ok_reply (Sessions sessions) = true
 is_ok_reply r = false

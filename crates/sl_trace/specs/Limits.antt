@@ -20,3 +20,7 @@ most_children = 1000000
 -- The greatest number of a process that is no child of a daemon.
 abbrev pub most_processes : ℕ
 most_processes = 1000000
+
+-- Processes of a daemon with a kill program.
+abbrev pub most_killpaths : ℕ
+most_killpaths = 1024

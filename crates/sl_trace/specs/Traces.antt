@@ -4,6 +4,7 @@ use Rattle.sl_area.specs.Layouts.{Layout}
 use Rattle.sl_sector.specs.declared.sector.Rec.{Rec}
 use Rattle.sl_time.specs.Times.{TimingNumbers}
 use Rattle.sl_trace.specs.Limits.{most_processes}
+use Rattle.sl_trace.specs.declared.command.Command.TheVariants.{SetKillpath}
 use Rattle.sl_trace.specs.declared.command.Command.{Command}
 use Rattle.sl_trace.specs.declared.effects.Call.{Call}
 use Rattle.sl_trace.specs.declared.effects.Effects.{Effects}
@@ -23,16 +24,16 @@ use Rattle.sl_trace.specs.declared.effects.Work.{Work}
 use Rattle.sl_trace.specs.declared.input.Answer.TheVariants.{Failed, Read, Written}
 use Rattle.sl_trace.specs.declared.input.Answer.{Answer}
 use Rattle.sl_trace.specs.declared.input.Given.{Given}
-use Rattle.sl_trace.specs.declared.input.Input.TheVariants.{Answer as Told, Exit, Line, Spawned}
+use Rattle.sl_trace.specs.declared.input.Input.TheVariants.{Answer as Told, Exit, Line, Number, Spawned}
 use Rattle.sl_trace.specs.declared.input.Input.{Input}
 use Rattle.sl_trace.specs.declared.input.Numbers.{Numbers}
-use Rattle.sl_trace.specs.declared.reply.Reply.TheVariants.{IoTimeout, Recovering}
+use Rattle.sl_trace.specs.declared.reply.Reply.TheVariants.{Done, IoTimeout, Recovering}
 use Rattle.sl_trace.specs.declared.reply.Reply.{Reply}
 use Rattle.sl_words.specs.Bounds.{moments}
-use Rattle.sl_words.specs.Words.{greatest, some_is}
+use Rattle.sl_words.specs.Words.{choose, greatest, some_is}
 use Rattle.std.specs.List.{list_any, range_with_len}
 use Rattle.std.specs.Option.{option_or}
-use Rattle.std.specs.Prelude.{Bool, IsTrue, List, None, Option, Result, Some, bytes_eq, drop, false, filter, find, fold, is_none, length, map, nat_lt, not, option_and_then, option_map, slice_get, true, [], ℕ, ◌&&◌, ◌*◌, ◌++◌, ◌+◌, ◌-◌, ◌<◌, ◌==◌, ◌∷◌, ◌≡◌, ◌≤◌}
+use Rattle.std.specs.Prelude.{Bool, IsTrue, List, None, Ok, Option, Result, Some, bytes_eq, drop, false, filter, find, fold, is_none, length, map, nat_lt, not, option_and_then, option_map, slice_get, true, [], ℕ, ◌&&◌, ◌*◌, ◌++◌, ◌+◌, ◌-◌, ◌<◌, ◌==◌, ◌∷◌, ◌≡◌, ◌≤◌}
 
 -- What a daemon is made of.
 pub record Setting : Type 0 where
@@ -89,11 +90,26 @@ job_in st es number e =
       | Some text ↦ record { number = number; at = length es; reading = e.reading; command = st.read text } ∷ []
     ]
 
+-- Whether an input takes a job's number: a command line, or another line, which is no job.
+abbrev pub takes_number : Input → Bool
+takes_number (Line text) = true
+takes_number (Number text) = true
+takes_number i = false
+
+-- How many numbers were taken.
+abbrev pub numbers_taken : Trace → ℕ
+numbers_taken [] = 0
+numbers_taken (e ∷ es) = elim (takes_number e.input) [ true ↦ numbers_taken es + 1 | false ↦ numbers_taken es ]
+
+-- The number of the next line.
+abbrev pub next_job : Setting → Trace → ℕ
+next_job st es = st.first.job + numbers_taken es
+
 -- These jobs with that of the entry after those before it, if it has a command line: it has the next number.
 abbrev pub with_job : Setting → Trace → List Job → Entry → List Job
-with_job st es js e = js ++ job_in st es (st.first.job + length js) e
+with_job st es js e = js ++ job_in st es (next_job st es) e
 
--- All jobs, by their numbers: the k-th command line has the k-th number.
+-- All jobs, by their numbers.
 abbrev pub jobs : Setting → Trace → List Job
 jobs st [] = []
 jobs st (e ∷ es) = with_job st es (jobs st es) e
@@ -118,10 +134,6 @@ running_jobs st es = filter (λ j. is_running es j.number) (jobs st es)
 -- The job with this number.
 abbrev pub job_numbered : Setting → Trace → ℕ → Option Job
 job_numbered st es number = find (λ j. j.number == number) (jobs st es)
-
--- The number of the next command line.
-abbrev pub next_job : Setting → Trace → ℕ
-next_job st es = st.first.job + length (jobs st es)
 
 -- The job on whose account work is done, if any.
 abbrev pub work_job : Work → Option ℕ
@@ -287,22 +299,53 @@ abbrev pub holdings : Trace → List Grant
 holdings [] = []
 holdings (e ∷ es) = held_after e.effects (holdings es)
 
+-- What a process has of a place, among these holdings.
+abbrev pub held_by : List Grant → ℕ → List ℕ → ℕ → List Grant
+held_by held p path offset = filter (λ g. g.process == p && same_place g.path g.offset path offset) held
+
 -- The end of a holding: it tells the names of the grant.
 abbrev pub end_of : Grant → End
 end_of g = record { process = g.process; lockspace = g.lockspace; resource = g.resource; path = g.path; offset = g.offset }
 
+-- ---- orphans: holdings that have outlived their process
+
+-- The number that stands for no process: its holdings are the machine's orphans.
+abbrev pub no_process : ℕ
+no_process = 0
+
+-- Whether the holding is an orphan.
+abbrev pub is_orphan : Grant → Bool
+is_orphan g = g.process == no_process
+
+-- What a persistent holding becomes when its process exits: the same in mode and instance, of no process.
+abbrev pub orphan_of : Grant → Grant
+orphan_of g = record g { process = no_process }
+
+-- Whether one of these holdings is the orphan of the grant's place.
+abbrev pub has_orphan_of : List Grant → Grant → Bool
+has_orphan_of held g = list_any (λ h. is_orphan h && same_place h.path h.offset g.path g.offset) held
+
+-- Whether the process's holding becomes an orphan: it is persistent, and there is none of its place yet.
+abbrev pub leaves_orphan : List Grant → ℕ → Grant → Bool
+leaves_orphan held p g = g.process == p && g.persistent && not (has_orphan_of held g)
+
+-- The orphans that the exit of a process makes of these holdings, in the order of their grants.
+abbrev pub orphans_left : ℕ → List Grant → List Grant
+orphans_left p held = map orphan_of (filter (leaves_orphan held p) held)
+
 -- ---- children
 
--- A child that was to be started, for which job if any, how its start was answered, and whether it has exited since.
+-- A child that was to be started, for which job or in place of whose term, how its start was answered, and whether it has exited since.
 pub record Child : Type 0 where
   pub process : ℕ
   pub job : Option ℕ
+  pub stands_for : Option ℕ
   pub answer : Option Bool
   pub exited : Bool
 
 -- A child before its start is answered.
 abbrev pub new_child : Start → Child
-new_child s = record { process = s.process; job = s.job; answer = None; exited = false }
+new_child s = record { process = s.process; job = s.job; stands_for = s.stands_for; answer = None; exited = false }
 
 -- A child after an input: its start's answer, or its exit.
 abbrev pub child_after : Input → Child → Child
@@ -334,6 +377,56 @@ first_child = most_processes + 1
 -- The number of the next child.
 abbrev pub next_child : Trace → ℕ
 next_child es = first_child + length (children es)
+
+-- The process for whose term a child stands, if it does.
+abbrev pub stands_for : Trace → ℕ → Option ℕ
+stands_for es process = option_and_then (λ k. k.stands_for) (child_numbered es process)
+
+-- ---- kill programs
+
+-- A process with its kill program.
+pub record KillProgram : Type 0 where
+  pub process : ℕ
+  pub program : List ℕ
+
+-- The kill program that a command sets.
+abbrev pub kill_program_in : Result Command ℕ → Option KillProgram
+kill_program_in (Ok (SetKillpath p path)) = Some (record { process = p; program = path })
+kill_program_in c = None
+
+-- Whether the reply says that it is done.
+abbrev pub is_done : Reply → Bool
+is_done Done = true
+is_done r = false
+
+-- The kill program that the entry after these sets: its line says so, and is answered ok in it.
+abbrev pub program_set_in : Setting → Trace → Entry → Option KillProgram
+program_set_in st es e =
+    option_and_then (λ text.
+    option_and_then (λ k. choose (some_is (λ r. is_done r.reply) (reply_in (next_job st es) es e)) k) (kill_program_in (st.read text))) (line_in e.input)
+
+-- The process that exits by an input.
+abbrev pub exited_by : Input → Option ℕ
+exited_by (Exit p) = Some p
+exited_by i = None
+
+-- These without that of a process.
+abbrev pub without_program : Option ℕ → List KillProgram → List KillProgram
+without_program process ks = filter (λ k. not (some_is (λ p. p == k.process) process)) ks
+
+-- These with one more, in place of its process's.
+abbrev pub with_program : Option KillProgram → List KillProgram → List KillProgram
+with_program None ks = ks
+with_program (Some k) ks = k ∷ without_program (Some k.process) ks
+
+-- The kill programs that are set: of each process the last, until it exits.
+abbrev pub kill_programs : Setting → Trace → List KillProgram
+kill_programs st [] = []
+kill_programs st (e ∷ es) = with_program (program_set_in st es e) (without_program (exited_by e.input) (kill_programs st es))
+
+-- A process's kill program.
+abbrev pub kill_program_of : Setting → Trace → ℕ → Option (List ℕ)
+kill_program_of st es p = option_map (λ k. k.program) (find (λ k. k.process == p) (kill_programs st es))
 
 -- ---- what a trace is
 

@@ -103,7 +103,8 @@ pub struct Spot {
     pub base: u64,
 }
 
-/// A process begins to hold a resource, for the session with this place; a persistent holding outlives its process.
+/// A process begins to hold a resource, for the session with this place; a persistent holding outlives its process. Process 0 stands for
+/// none: its holdings are the machine's orphans.
 #[derive(Clone, Copy)]
 pub struct Grant {
     pub process: u32,
@@ -142,12 +143,13 @@ pub enum Move {
     Unregister { lockspace: Name },
 }
 
-/// A child program to start, and the job that it is for.
+/// A child program to start: for a job, or as the kill program that stands for the term to a process.
 #[derive(Clone, Copy)]
 pub struct Start {
     pub process: u32,
     pub program: FilePath,
     pub job: Option<u64>,
+    pub stands_for: Option<u32>,
 }
 
 /// A reply with its job.

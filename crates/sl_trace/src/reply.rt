@@ -35,6 +35,7 @@ pub enum Limited {
     Resources,
     Holders,
     Children,
+    Killpaths,
     Gen,
     Seq,
     Lver,
@@ -73,6 +74,11 @@ pub enum Reply {
         lver: u64,
         seq: u64,
         bytes: Data,
+    },
+    /// A value was written with this version; the text doesn't tell it.
+    ValueSet {
+        lver: u64,
+        seq: u64,
     },
     Hosts(Seq<StateOf>),
     Sessions(Seq<SessionOf>),
@@ -127,6 +133,7 @@ pub enum Reply {
     Busy {
         process: u32,
     },
+    NoOrphan,
     NotHeld,
     SpawnFault,
     ValueTorn,

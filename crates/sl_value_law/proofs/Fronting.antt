@@ -20,7 +20,8 @@ use Rattle.sl_run.specs.Worlds.{Course, Program, Stamp, World}
 use Rattle.sl_run.specs.declared.header.Header.{Header}
 use Rattle.sl_sector.specs.declared.sector.ValueRec.{ValueRec}
 use Rattle.sl_session_law.proofs.Staying.{marks_stay}
-use Rattle.sl_sessions.specs.Sessions.{Session, calls_of, ended_after, is_active, is_call_of, is_free_purpose, is_joined, joined_after, leaving_job, recovery_of, refused_after, removed_after}
+use Rattle.sl_sessions.specs.Sessions.{calls_of, ended_after, is_active, is_call_of, is_free_purpose, is_joined, joined_after, leaving_job, recovery_of, refused_after, removed_after}
+use Rattle.sl_sessions.specs.declared.session.Session.{Session}
 use Rattle.sl_trace.specs.Traces.{Setting, Submitted, Trace, submitted}
 use Rattle.sl_trace.specs.declared.effects.Call.{Call}
 use Rattle.sl_trace.specs.declared.effects.Grant.{Grant}

@@ -24,7 +24,8 @@ use Rattle.sl_sector.specs.Spelling.{value_in}
 use Rattle.sl_sector.specs.declared.sector.ValueRec.{ValueRec}
 use Rattle.sl_session_law.proofs.Making.{answers_stay}
 use Rattle.sl_session_law.proofs.Owning.{sessions_stay}
-use Rattle.sl_sessions.specs.Sessions.{Session, is_active, is_call_of, session_numbered}
+use Rattle.sl_sessions.specs.Sessions.{is_active, is_call_of, session_numbered}
+use Rattle.sl_sessions.specs.declared.session.Session.{Session}
 use Rattle.sl_trace.specs.Traces.{Answered, Setting, Submitted, Trace, call_numbered, is_ok_answer, reply_to, submitted}
 use Rattle.sl_trace.specs.declared.effects.Call.{Call}
 use Rattle.sl_trace.specs.declared.effects.Entry.{Entry}

@@ -3,7 +3,8 @@ use Rattle.sl_area.specs.Layouts.{layout_of}
 use Rattle.sl_sector.specs.declared.sector.DeltaRec.{DeltaRec}
 use Rattle.sl_sector.specs.declared.sector.DeltaState.TheVariants.{Claimed, Free, Live}
 use Rattle.sl_sector.specs.declared.sector.DeltaState.{DeltaState}
-use Rattle.sl_sessions.specs.Watching.{Run, evidence, is_free_among, is_free_state, is_live_state, is_silent, newest_of, silence, span}
+use Rattle.sl_sessions.specs.Watching.{evidence, is_free_among, is_free_state, is_live_state, is_silent, newest_of, silence, span}
+use Rattle.sl_sessions.specs.declared.sighting.Run.{Run}
 use Rattle.sl_time.specs.Times.{TimingNumbers, dead}
 use Rattle.sl_trace.specs.declared.reply.Evidence.TheVariants.{Freed, Newer, Silent}
 use Rattle.sl_trace.specs.declared.reply.Evidence.{Evidence}

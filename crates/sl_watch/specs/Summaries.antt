@@ -1,7 +1,9 @@
 -- What the sightings of an id come to. Each question to a watch is one to this summary, and a sighting changes it by one step.
 use Rattle.sl_area.specs.Layouts.{Layout}
 use Rattle.sl_sector.specs.declared.sector.DeltaRec.{DeltaRec}
-use Rattle.sl_sessions.specs.Watching.{Run, Sighting, current_run, has_seen, is_free_among, is_free_state, newest_of, run_with, seen_records, silence, state_of_run}
+use Rattle.sl_sessions.specs.Watching.{current_run, has_seen, is_free_among, is_free_state, newest_of, run_with, seen_records, silence, state_of_run}
+use Rattle.sl_sessions.specs.declared.sighting.Run.{Run}
+use Rattle.sl_sessions.specs.declared.sighting.Sighting.{Sighting}
 use Rattle.sl_time.specs.Times.{TimingNumbers}
 use Rattle.sl_trace.specs.declared.reply.Evidence.TheVariants.{Freed, Newer}
 use Rattle.sl_trace.specs.declared.reply.Evidence.{Evidence}

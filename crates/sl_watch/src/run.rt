@@ -25,7 +25,7 @@ pub struct CurrentRun<'a> {
 }
 
 impl<'a> Model for CurrentRun<'a> {
-    ghost use Rattle.sl_sessions.specs.Watching.{Run};
+    ghost use Rattle.sl_sessions.specs.declared.sighting.Run.{Run};
 
     ghost Value = { Run };
 

@@ -14,7 +14,8 @@ use Rattle.sl_session_law.proofs.Owning.{is_the_one}
 use Rattle.sl_session_law.proofs.Silence.{no_more, stage_by}
 use Rattle.sl_session_law.proofs.Staying.{refused_more}
 use Rattle.sl_session_law.specs.Promises.{IsSession}
-use Rattle.sl_sessions.specs.Sessions.{Session, calls_of, free_write, has_open_write, is_covered_stage, joined_after, refused_after, removed_after, session_numbered, stage_after, stage_in, stage_of}
+use Rattle.sl_sessions.specs.Sessions.{calls_of, free_write, has_open_write, is_covered_stage, joined_after, refused_after, removed_after, session_numbered, stage_after, stage_in, stage_of}
+use Rattle.sl_sessions.specs.declared.session.Session.{Session}
 use Rattle.sl_sessions.specs.declared.stage.Stage.{Stage}
 use Rattle.sl_trace.specs.Connections.{registers, registers_with}
 use Rattle.sl_trace.specs.Traces.{Answered, Setting, Submitted, Trace, answer_of, is_ok_answer, is_write, mark, new_call, submitted}

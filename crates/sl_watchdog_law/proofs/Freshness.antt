@@ -7,7 +7,8 @@ use Rattle.sl_session_law.proofs.Joining.{joined_before}
 use Rattle.sl_session_law.proofs.Silence.{stage_by}
 use Rattle.sl_session_law.proofs.Staying.{refused_apart, removed_more}
 use Rattle.sl_session_law.specs.Promises.{IsSession}
-use Rattle.sl_sessions.specs.Sessions.{Session, calls_of, free_write, has_open_write, is_covered_stage, joined_after, last_renewal, refused_after, removed_after, session_numbered, sessions, stage_in}
+use Rattle.sl_sessions.specs.Sessions.{calls_of, free_write, has_open_write, is_covered_stage, joined_after, last_renewal, refused_after, removed_after, session_numbered, sessions, stage_in}
+use Rattle.sl_sessions.specs.declared.session.Session.{Session}
 use Rattle.sl_sessions.specs.declared.stage.Stage.TheVariants.{Looking}
 use Rattle.sl_sessions.specs.declared.stage.Stage.{Stage}
 use Rattle.sl_time.specs.Times.{IsTiming, TimingNumbers, fail}

@@ -8,7 +8,7 @@ use Rattle.sl_front_law.proofs.Having.{contains_left, contains_right, in_flat}
 use Rattle.sl_plain.proofs.Lists.{contains_more}
 use Rattle.sl_run.specs.Worlds.{Course, Daemon, Machine, Stamp, daemons_on}
 use Rattle.sl_session_law.specs.Promises.{IsSession}
-use Rattle.sl_sessions.specs.Sessions.{Session}
+use Rattle.sl_sessions.specs.declared.session.Session.{Session}
 use Rattle.sl_time.specs.Times.{TimingNumbers, fail}
 use Rattle.sl_watchdog_law.proofs.Knowing.{IsKnown}
 use Rattle.sl_watchdog_law.proofs.Machines.{IsHeld, IsWatched, first_by, first_there}

@@ -5,7 +5,8 @@ use Rattle.sl_moment_law.specs.Moments.{point_of}
 use Rattle.sl_plain.proofs.Lists.{contains_cases, contains_first, contains_more, contains_none}
 use Rattle.sl_run.specs.Worlds.{Course, Daemon, Machine, Stamp, daemons_on, may_land, resets_after}
 use Rattle.sl_session_law.specs.Promises.{IsSession}
-use Rattle.sl_sessions.specs.Sessions.{Session, has_open_write}
+use Rattle.sl_sessions.specs.Sessions.{has_open_write}
+use Rattle.sl_sessions.specs.declared.session.Session.{Session}
 use Rattle.sl_time.specs.Times.{TimingNumbers, reading_of}
 use Rattle.sl_watchdog_law.proofs.Freshness.{IsFresh}
 use Rattle.sl_watchdog_law.proofs.Stamps.{GivenNow}

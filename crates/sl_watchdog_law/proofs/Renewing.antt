@@ -7,7 +7,8 @@ use Rattle.sl_session_law.proofs.Growing.{mine_marked, mine_next, other_next, to
 use Rattle.sl_session_law.proofs.Making.{old_or_new, was_marked}
 use Rattle.sl_session_law.proofs.Owning.{is_the_one, session_more}
 use Rattle.sl_session_law.specs.Promises.{IsSession}
-use Rattle.sl_sessions.specs.Sessions.{Session, calls_of, is_delta_purpose, is_renewal, last_renewal, session_numbered}
+use Rattle.sl_sessions.specs.Sessions.{calls_of, is_delta_purpose, is_renewal, last_renewal, session_numbered}
+use Rattle.sl_sessions.specs.declared.session.Session.{Session}
 use Rattle.sl_trace.specs.Traces.{Setting, Submitted, Trace, call_numbered, is_answer_for, is_write, mark, new_call, submitted}
 use Rattle.sl_trace.specs.declared.effects.Call.{Call}
 use Rattle.sl_trace.specs.declared.effects.Entry.{Entry}

@@ -9,7 +9,8 @@ use Rattle.sl_run.specs.Worlds.{Daemon, Stamp}
 use Rattle.sl_session_law.proofs.Joining.{joined_before}
 use Rattle.sl_session_law.proofs.Making.{old_or_new, was_marked}
 use Rattle.sl_session_law.specs.Promises.{IsSession}
-use Rattle.sl_sessions.specs.Sessions.{Session, joined_after, last_renewal}
+use Rattle.sl_sessions.specs.Sessions.{joined_after, last_renewal}
+use Rattle.sl_sessions.specs.declared.session.Session.{Session}
 use Rattle.sl_time.specs.Times.{fail, reading_of}
 use Rattle.sl_trace.specs.Connections.{last_registering, registers}
 use Rattle.sl_trace.specs.Traces.{Setting, Submitted, Trace, mark, submitted}

@@ -4,7 +4,8 @@ use Rattle.sl_law.specs.LawfulArea.{HasVerified, IsAreaRead, IsBlockRead, IsLeas
 use Rattle.sl_leases.specs.Leases.{is_leader_of, spot_of_call}
 use Rattle.sl_sector.specs.declared.sector.Leader.{Leader}
 use Rattle.sl_sector.specs.declared.sector.Rec.{Rec}
-use Rattle.sl_sessions.specs.Sessions.{Session, is_active, joined_after}
+use Rattle.sl_sessions.specs.Sessions.{is_active, joined_after}
+use Rattle.sl_sessions.specs.declared.session.Session.{Session}
 use Rattle.sl_trace.specs.Traces.{Setting, Submitted, Trace, is_write, record_of}
 use Rattle.sl_trace.specs.declared.effects.Entry.{Entry}
 use Rattle.sl_trace.specs.declared.effects.LeaseStep.TheVariants.{ClearMode, FreeLeader, Phase1Read, Phase1Write, Phase2Read, Phase2Write, ReadArea, ReadBeforeFree, SetMode, TakeLeader}

@@ -5,8 +5,9 @@ use Rattle.sl_leases.specs.Ballots.{ballot_blocks, moded_block, phase1_block, ph
 use Rattle.sl_leases.specs.Leases.{Phase1_read, Phase1_write, Phase2_read, Phase2_write, block_written, blocks_given, freed, is_area_read, is_at, is_leader_of, last_blocks, lease_calls, lease_step, own_block, spot_of_call}
 use Rattle.sl_sector.specs.declared.sector.Block.{Block}
 use Rattle.sl_sector.specs.declared.sector.Leader.{Leader}
-use Rattle.sl_sessions.specs.Sessions.{Session, me}
+use Rattle.sl_sessions.specs.Sessions.{me}
 use Rattle.sl_sessions.specs.Watching.{counted_over}
+use Rattle.sl_sessions.specs.declared.session.Session.{Session}
 use Rattle.sl_trace.specs.Traces.{Setting, Submitted, Trace, gave}
 use Rattle.sl_trace.specs.declared.effects.Entry.{Entry}
 use Rattle.sl_trace.specs.declared.effects.LeaseStep.TheVariants.{Phase1Write, Phase2Write}

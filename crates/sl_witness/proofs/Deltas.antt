@@ -2,7 +2,8 @@
 use Rattle.sl_law.specs.LawfulDelta.{LawfulDelta, LawfulDeltaCall, LawfulJoin, LawfulRenewal, LawfulSurvey, is_on_own_sector}
 use Rattle.sl_sector.specs.declared.sector.DeltaState.TheVariants.{Live}
 use Rattle.sl_sessions.specs.Deltas.{delta_of_session, delta_record}
-use Rattle.sl_sessions.specs.Sessions.{Session, delta_written, generation_of, has_open_delta, is_delta_purpose, is_survey_purpose, joined_after, last_seq, recovery_of, stage_of}
+use Rattle.sl_sessions.specs.Sessions.{delta_written, generation_of, has_open_delta, is_delta_purpose, is_survey_purpose, joined_after, last_seq, recovery_of, stage_of}
+use Rattle.sl_sessions.specs.declared.session.Session.{Session}
 use Rattle.sl_trace.specs.Traces.{Setting, Submitted, Trace}
 use Rattle.sl_trace.specs.declared.effects.Entry.{Entry}
 use Rattle.sl_trace.specs.declared.effects.Purpose.TheVariants.{Joining, Lease, Leaving, Renewal, RequestRead, RequestWrite, SeeRequest, Survey, ValueRead, ValueWrite}

@@ -5,7 +5,8 @@ use Rattle.sl_leases.specs.Ballots.{owner_of, same_owner}
 use Rattle.sl_leases.specs.Leases.{Leader_taken, ended_ballots, freed, is_at, is_leader_of, leader_written, lease_calls, spot_of_call}
 use Rattle.sl_sector.specs.declared.sector.Leader.{Leader}
 use Rattle.sl_sector.specs.declared.sector.Owner.{Owner}
-use Rattle.sl_sessions.specs.Sessions.{Session, me}
+use Rattle.sl_sessions.specs.Sessions.{me}
+use Rattle.sl_sessions.specs.declared.session.Session.{Session}
 use Rattle.sl_trace.specs.Traces.{Setting, Submitted, Trace}
 use Rattle.sl_trace.specs.declared.effects.Entry.{Entry}
 use Rattle.sl_trace.specs.declared.effects.Spot.{Spot}

@@ -7,8 +7,9 @@ use Rattle.sl_law.specs.LawfulModes.{LawfulExclusiveGrant, LawfulMode, LawfulMod
 use Rattle.sl_leases.specs.Leases.{Mode_set, Phase1_write, block_of_host, block_written, blocks_given, freed, has_shared_on, is_at, is_block_read, leader_written, lease_calls, spot_of_call}
 use Rattle.sl_sector.specs.declared.sector.Block.{Block}
 use Rattle.sl_sector.specs.declared.sector.Leader.{Leader}
-use Rattle.sl_sessions.specs.Sessions.{Session, is_active, session_numbered}
+use Rattle.sl_sessions.specs.Sessions.{is_active, session_numbered}
 use Rattle.sl_sessions.specs.Watching.{counted_over}
+use Rattle.sl_sessions.specs.declared.session.Session.{Session}
 use Rattle.sl_trace.specs.Traces.{Setting, Submitted, Trace, holdings, is_answered_ok, is_shared, same_place, spot_of_grant}
 use Rattle.sl_trace.specs.declared.effects.Entry.{Entry}
 use Rattle.sl_trace.specs.declared.effects.Grant.{Grant}

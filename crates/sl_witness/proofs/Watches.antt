@@ -5,7 +5,8 @@ use Rattle.sl_law.specs.LawfulWatchdog.{CoveredBy, LawfulWatchdog, acts_until, i
 use Rattle.sl_law.specs.Saying.{EachCall, EachSession}
 use Rattle.sl_leases.specs.Leases.{spot_of_call, value_written}
 use Rattle.sl_sector.specs.declared.sector.ValueRec.{ValueRec}
-use Rattle.sl_sessions.specs.Sessions.{Session, calls_of, free_write, has_open_write, holdings_of, is_joined, is_leaving, is_present, is_recovering, leaving_job, leaving_of, recovery_of}
+use Rattle.sl_sessions.specs.Sessions.{calls_of, free_write, has_open_write, holdings_of, is_joined, is_leaving, is_present, is_recovering, leaving_job, leaving_of, recovery_of}
+use Rattle.sl_sessions.specs.declared.session.Session.{Session}
 use Rattle.sl_trace.specs.Connections.{connection_named, connections, registers, unregisters}
 use Rattle.sl_trace.specs.Traces.{Setting, Submitted, Trace, is_write}
 use Rattle.sl_trace.specs.declared.effects.Entry.{Entry}

@@ -1,0 +1,134 @@
+-- What every row of the table of sizes gives.
+use Rattle.sl_area.specs.Layouts.{IsGeometry, Sizes}
+use Rattle.sl_area.specs.Roles.{IsRole, LiesIn, PlacesLieInArea, Role, block, leader, place_at, request, role_offset, value}
+use Rattle.sl_words.proofs.WordLaws.{and_true, or_true}
+use Rattle.std.proofs.Common.{arith, sym}
+use Rattle.std.proofs.lemmas.Bool.Decides.{Decides-eqb, nat_tests}
+use Rattle.std.specs.Int.{is_in_range}
+use Rattle.std.specs.Prelude.{Bool, false, nat_le, nat_lt, true, ℕ, ◌&&◌, ◌*◌, ◌+◌, ◌-◌, ◌<◌, ◌==◌, ◌||◌, ◌≡◌, ◌≤◌}
+use mathlib.Core.Logic.{inl, inr, ◌⊎◌}
+
+-- A sector has 512 to 4096 bytes, there are 1 to 2000 hosts, and an area has room for three sectors more than there are hosts.
+pub record HasRoom (s : Sizes) : Type 0 where
+  pub sector : (512 ≤ s.sector) × (s.sector ≤ 4096)
+  pub hosts : (1 ≤ s.hosts) × (s.hosts ≤ 2000)
+  pub room : s.sector * (s.hosts + 3) ≤ s.area
+
+-- One row: its sector, its area and its number of hosts.
+abbrev is_row : ℕ → ℕ → ℕ → Sizes → Bool
+is_row sector area most s = sector == s.sector && area == s.area && is_in_range 1 most s.hosts
+
+low_of : (n most : ℕ) → is_in_range 1 most n ≡ true → 1 ≤ n
+low_of n most h = grind (arith, nat_tests)
+
+high_of : (n most : ℕ) → is_in_range 1 most n ≡ true → n ≤ most
+high_of n most h = grind (arith, nat_tests)
+
+-- What a row says of the sizes.
+record FitsRow (bytes whole most : ℕ) (s : Sizes) : Type 0 where
+  sector : s.sector ≡ bytes
+  area : s.area ≡ whole
+  low : 1 ≤ s.hosts
+  high : s.hosts ≤ most
+
+fits_row : (sector area most : ℕ) (s : Sizes) → is_row sector area most s ≡ true → FitsRow sector area most s
+fits_row sector area most s h =
+    let all = and_true (sector == s.sector && area == s.area) (is_in_range 1 most s.hosts) h in
+    let sized = and_true (sector == s.sector) (area == s.area) all.0 in
+    record {
+      sector = sym ((Decides-eqb sector s.sector).0 sized.0);
+      area = sym ((Decides-eqb area s.area).0 sized.1);
+      low = low_of s.hosts most all.1;
+      high = high_of s.hosts most all.1;
+    }
+
+least_of : (n k : ℕ) → n ≡ k → 512 ≤ k → 512 ≤ n
+least_of n k e h = omega (arith, e, h)
+
+most_of : (n k m : ℕ) → n ≡ k → k ≤ m → n ≤ m
+most_of n k m e h = omega (arith, e, h)
+
+more_of : (n k m : ℕ) → n ≤ k → k ≤ m → n ≤ m
+more_of n k m e h = omega (arith, e, h)
+
+product_of : (k n m a area : ℕ) → n ≤ m → k * (m + 3) ≤ a → area ≡ a → k * (n + 3) ≤ area
+product_of k n m a area below fits is = grind (arith)
+
+room_of : (sector k n m a area : ℕ) → sector ≡ k → n ≤ m → k * (m + 3) ≤ a → area ≡ a → sector * (n + 3) ≤ area
+room_of sector k n m a area e below fits is = rw e (product_of k n m a area below fits is)
+
+row_room : (sector area most : ℕ) (s : Sizes) → 512 ≤ sector → sector ≤ 4096 → most ≤ 2000 → sector * (most + 3) ≤ area → FitsRow sector area most s → HasRoom s
+row_room sector area most s low high few fits r = record {
+  sector = (least_of s.sector sector r.sector low, most_of s.sector sector 4096 r.sector high);
+  hosts = (r.low, more_of s.hosts most 2000 r.high few);
+  room = room_of s.sector sector s.hosts most area s.area r.sector r.high fits r.area;
+}
+
+-- The first row, or one of the others.
+next_row : (s : Sizes) (sector area most : ℕ) (rest : Bool) → 512 ≤ sector → sector ≤ 4096 → most ≤ 2000 → sector * (most + 3) ≤ area
+    → (is_row sector area most s || rest) ≡ true → (rest ≡ true → HasRoom s) → HasRoom s
+next_row s sector area most rest low high few fits h others = by (or_true (is_row sector area most s) rest h)
+  where
+    by : (is_row sector area most s ≡ true) ⊎ (rest ≡ true) → HasRoom s
+    by (inl is) = row_room sector area most s low high few fits (fits_row sector area most s is)
+    by (inr is) = others is
+
+no_row : (s : Sizes) → false ≡ true → HasRoom s
+no_row s h = absurd cc
+
+-- What the table gives.
+pub has_room : (s : Sizes) → IsGeometry s → HasRoom s
+has_room s h =
+    next_row s 512 1048576 2000 _ (omega arith) (omega arith) (omega arith) (omega arith) h (λ h.
+    next_row s 4096 1048576 250 _ (omega arith) (omega arith) (omega arith) (omega arith) h (λ h.
+    next_row s 4096 2097152 500 _ (omega arith) (omega arith) (omega arith) (omega arith) h (λ h.
+    next_row s 4096 4194304 1000 _ (omega arith) (omega arith) (omega arith) (omega arith) h (λ h.
+    next_row s 4096 8388608 2000 _ (omega arith) (omega arith) (omega arith) (omega arith) h (no_row s)))))
+
+-- ---- places in an area
+
+inside : (base area offset : ℕ) → base ≤ offset → offset < base + area → (nat_le base offset && nat_lt offset (base + area)) ≡ true
+inside base area offset low high = grind (arith, nat_tests)
+
+-- A sector of number k of the area lies in it, where the area has room for it.
+numbered : (base sector k n area : ℕ) → 1 ≤ sector → k + 1 ≤ n → sector * n ≤ area
+    → (base ≤ base + sector * k) × (base + sector * k < base + area) × (base + sector * k + sector ≤ base + area)
+numbered base sector k n area some below fits =
+    let last : sector * (k + 1) ≤ sector * n = grind (arith) in
+    let next : sector * (k + 1) ≡ sector * k + sector = grind (arith) in
+    (omega arith, omega (arith, some, last, next, fits), omega (arith, last, next, fits))
+
+lies_at : (s : Sizes) (base k : ℕ) → HasRoom s → k ≤ s.hosts + 2 → LiesIn s base (place_at s (base + s.sector * k))
+lies_at s base k r below =
+    let n = numbered base s.sector k (s.hosts + 3) s.area (omega (arith, r.sector.0)) (omega (arith, below)) r.room in
+    (inside base s.area (base + s.sector * k) n.0 n.1, n.2)
+
+at_offset : (s : Sizes) (base offset k : ℕ) → HasRoom s → k ≤ s.hosts + 2 → offset ≡ base + s.sector * k → LiesIn s base (place_at s offset)
+at_offset s base offset k r below is = rw is (lies_at s base k r below)
+
+at_end : (base sector area : ℕ) → 1 ≤ sector → sector ≤ area
+    → (base ≤ base + area - sector) × (base + area - sector < base + area) × (base + area - sector + sector ≤ base + area)
+at_end base sector area some fits = (omega (arith, fits), omega (arith, some, fits), omega (arith, fits))
+
+small : (sector n area : ℕ) → sector * (n + 3) ≤ area → sector ≤ area
+small sector n area h = grind (arith)
+
+first_offset : (base sector : ℕ) → base ≡ base + sector * 0
+first_offset base sector = omega arith
+
+next_offset : (base sector : ℕ) → base + sector ≡ base + sector * 1
+next_offset base sector = omega arith
+
+role_lies : (s : Sizes) (base : ℕ) → HasRoom s → (role : Role) → IsRole s role → LiesIn s base (place_at s (role_offset s base role))
+role_lies s base r leader is = at_offset s base base 0 r (omega arith) (first_offset base s.sector)
+role_lies s base r request is = at_offset s base (base + s.sector) 1 r (omega arith) (next_offset base s.sector)
+role_lies s base r (block id) is = lies_at s base (id + 1) r (omega (arith, is.1))
+role_lies s base r value is =
+    let e = at_end base s.sector s.area (omega (arith, r.sector.0)) (small s.sector s.hosts s.area r.room) in
+    (inside base s.area (base + s.area - s.sector) e.0 e.1, e.2)
+
+-- Each sector lies in its area.
+pub places_lie_in_area : PlacesLieInArea
+places_lie_in_area s base is =
+    let r = has_room s is in
+    (λ id host. lies_at s base (id - 1) r (omega (arith, host.0, host.1)), λ role. role_lies s base r role)

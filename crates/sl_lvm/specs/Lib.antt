@@ -1,0 +1,3 @@
+pub mod LockNames
+pub mod LvmLines
+pub mod Lvm
