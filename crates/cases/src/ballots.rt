@@ -162,42 +162,51 @@ pub fn accepted(alloc: Global, text: &str) -> Result<String, AllocError> {
     format!(in alloc; "{} {}", value.id, value.generation)
 }
 
-/// The leader of instance 3 whose owner is this host in generation 1.
-fn leader(held: bool, owner: u32, name: Name) -> Leader {
-    Leader {
-        held,
-        num_hosts: 2,
-        lver: 3,
-        generation: 1,
-        owner,
-        lockspace: name,
-        resource: name,
-    }
-}
-
-/// The instance that an acquire of host 2 in generation 1 begins: whether the leader's owner is over, whether it is held, its owner, the
-/// greatest instance that the host freed, and the greatest of a block.
-pub fn instance(alloc: Global, text: &str) -> Result<String, AllocError> {
-    let Some(name) = Name::new(b"r") else {
-        return format!(in alloc; "no name");
-    };
-    let leader = leader(word(text, 1) == "held", short_at(text, 2), name);
-    let freed = number_at(text, 3);
-    if freed >= 1 << 63 {
-        return format!(in alloc; "none");
-    }
+/// The instance that an acquire of host 2 in generation 1 begins behind this leader, and by whom the resource is held, if it is.
+fn begun(
+    alloc: Global,
+    is_over: bool,
+    leader: &Leader,
+    freed: u64,
+    top: u64,
+) -> Result<String, AllocError>
+    requires leader { leader.now.lver < 2 ^ 63 }
+    requires freed { freed < 2 ^ 63 }
+{
     let me = Owner {
         id: 2,
         generation: 1,
     };
-    match instance_of(
-        word(text, 0) == "over",
-        me,
-        &leader,
-        freed,
-        number_at(text, 4),
-    ) {
+    match instance_of(is_over, me, leader, freed, top) {
         Instance::Begins { instance } => format!(in alloc; "begins {instance}"),
         Instance::HeldAlready { lver, owner } => format!(in alloc; "held {lver} {}", owner.id),
     }
+}
+
+/// The instance that an acquire of that host begins behind a leader of instance 3: whether the leader's owner is over, whether it is held,
+/// its owner, of generation 1, the greatest instance that the host freed, and the greatest of a block.
+pub fn instance(alloc: Global, text: &str) -> Result<String, AllocError> {
+    let Some(name) = Name::new(b"r") else {
+        return format!(in alloc; "no name");
+    };
+    let leader = Leader {
+        held: word(text, 1) == "held",
+        num_hosts: 2,
+        lver: 3,
+        generation: 1,
+        owner: short_at(text, 2),
+        lockspace: name,
+        resource: name,
+    };
+    let freed = number_at(text, 3);
+    if freed >= 1 << 63 {
+        return format!(in alloc; "none");
+    }
+    begun(
+        alloc,
+        word(text, 0) == "over",
+        &leader,
+        freed,
+        number_at(text, 4),
+    )
 }

@@ -51,7 +51,7 @@ fn records_of(alloc: Global, kind: &str, text: &str) -> Result<Option<String>, A
         "geometry" => records::geometry(alloc, text)?,
         "places" => records::places(alloc, text)?,
         "place" => records::place(alloc, text)?,
-        "request" => records::request(alloc, text)?,
+        "asked" => records::asked(alloc, text)?,
         "bits" => records::bits(alloc, text)?,
         _ => return Ok(None),
     };

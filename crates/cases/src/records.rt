@@ -138,7 +138,7 @@ pub fn place(alloc: Global, text: &str) -> Result<String, AllocError> {
 }
 
 /// What becomes of a request for an instance with a force, where one is held and one is stored.
-pub fn request(alloc: Global, text: &str) -> Result<String, AllocError> {
+pub fn asked(alloc: Global, text: &str) -> Result<String, AllocError> {
     let (asked, force) = (number_at(text, 2), short_at(text, 3));
     if force == 0 && asked > 0 {
         return format!(in alloc; "none");
