@@ -10,23 +10,52 @@ pub enum Decision {
     /// It is answered at once.
     Replies(Reply),
     /// A session of this number begins with the read of its id's sector.
-    Joins { session: u64, lockspace: LockspaceArg },
+    Joins {
+        session: u64,
+        lockspace: LockspaceArg,
+    },
     /// The session is left.
     Leaves(Session),
     /// Work on the lease begins with a read of the area.
-    ReadsArea { session: Session, resource: ResourceArg },
+    ReadsArea {
+        session: Session,
+        resource: ResourceArg,
+    },
     /// Granted at once beside a shared holding, under its instance.
-    Shares { session: Session, lver: u64 },
+    Shares {
+        session: Session,
+        lver: u64,
+    },
     /// The holding ends.
-    GivesUp { session: Session, holding: Grant },
+    GivesUp {
+        session: Session,
+        holding: Grant,
+    },
     /// The orphan ends, and its place is the asking process's.
-    TakesOver { session: Session, orphan: Grant },
+    TakesOver {
+        session: Session,
+        orphan: Grant,
+    },
     /// A holding of the resource is converted to a mode.
-    ConvertsTo { session: Session, resource: ResourceArg, mode: Mode },
+    ConvertsTo {
+        session: Session,
+        resource: ResourceArg,
+        mode: Mode,
+    },
     /// A request begins with a read of leader and request.
-    Requests { session: Session, resource: ResourceArg },
+    Requests {
+        session: Session,
+        resource: ResourceArg,
+    },
     /// The value is written.
-    SetsValue { session: Session, spot: Spot, value: ValueRec },
+    SetsValue {
+        session: Session,
+        spot: Spot,
+        value: ValueRec,
+    },
     /// The value is read.
-    GetsValue { session: Session, spot: Spot },
+    GetsValue {
+        session: Session,
+        spot: Spot,
+    },
 }

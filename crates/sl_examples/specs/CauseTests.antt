@@ -32,7 +32,7 @@ use Rattle.sl_trace.specs.declared.reply.Reply.TheVariants.{Done, Generation, Gr
 use Rattle.sl_trace.specs.declared.reply.Reply.{Reply}
 use Rattle.sl_words.specs.Words.{same_truth, some_is}
 use Rattle.std.specs.List.{list_all, list_any}
-use Rattle.std.specs.Prelude.{Bool, List, None, Option, Some, bytes_eq, false, flat_map, length, map, nat_lt, not, option_and_then, true, [], ℕ, ◌&&◌, ◌++◌, ◌==◌, ◌||◌, ◌∷◌}
+use Rattle.std.specs.Prelude.{Bool, List, None, Option, Some, bytes_eq, false, flat_map, length, nat_lt, not, option_and_then, true, [], ℕ, ◌&&◌, ◌++◌, ◌==◌, ◌||◌, ◌∷◌}
 
 -- Whether the entry brings the command.
 abbrev pub at_command : Answering → Bool

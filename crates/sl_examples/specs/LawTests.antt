@@ -37,7 +37,7 @@ use Rattle.sl_sessions.specs.declared.stage.Stage.{Stage}
 use Rattle.sl_time.specs.Times.{dead, fail, join_max, take_over}
 use Rattle.sl_trace.specs.Connections.{connection_named, connections, is_registered, registers, registers_with, unregisters}
 use Rattle.sl_trace.specs.EffectTexts.{is_ok_reply}
-use Rattle.sl_trace.specs.Traces.{end_of, exited_by, gave, has_orphan_of, held_by, holdings, is_answered_ok, is_ended_by, is_ok_answer, is_orphan, is_shared, is_write, last_reading, line_in, new_call, record_of, same_place, Setting, spot_of_grant, Submitted, submitted, Trace}
+use Rattle.sl_trace.specs.Traces.{exited_by, gave, has_orphan_of, held_by, holdings, is_answered_ok, is_ended_by, is_ok_answer, is_orphan, is_shared, is_write, last_reading, line_in, new_call, record_of, same_place, Setting, spot_of_grant, Submitted, submitted, Trace}
 use Rattle.sl_trace.specs.declared.effects.Entry.{Entry}
 use Rattle.sl_trace.specs.declared.effects.Grant.{Grant}
 use Rattle.sl_trace.specs.declared.effects.JoinStep.TheVariants.{ClaimWrite, DecidingRead, FirstRead, FirstRenewal, VerifyRead, WatchRead}

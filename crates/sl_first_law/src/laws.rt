@@ -1,5 +1,11 @@
 //! Which laws a daemon of one session and one resource keeps, whatever comes.
 
+pub mod cause;
+pub mod numbers;
+pub mod ballot;
+pub mod lawfully;
+
+
 ghost use Rattle.sl_first_law.specs.Promises.{AnswersFindTheirPlace, CallsFindTheirPlace, CallsKeepLaws, ConnectionsStand, NamesAreVerified};
 
 /// A call for the lease is its session's, which is active and has nothing else at work on the area; it touches no id's sector and no value.

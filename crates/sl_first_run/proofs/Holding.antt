@@ -1,5 +1,5 @@
 -- Where no two holdings of the one machine conflict, nothing conflicts, and no grant is counted as a conflict.
-use Rattle.sl_front_law.proofs.Having.{contains_left}
+use Rattle.sl_run_law.proofs.Front.Having.{contains_left}
 use Rattle.sl_plain.proofs.Lists.{any_found, in_map, next_before}
 use Rattle.sl_report.specs.Reports.{Counts, conflicts_after, conflicts_of, count_event, held_by_others}
 use Rattle.sl_run.specs.Conflicts.{Holding, IsExclusive, conflicts, has_conflict, no_holdings, world_holdings}

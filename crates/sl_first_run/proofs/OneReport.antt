@@ -9,9 +9,9 @@ use Rattle.sl_first_run.proofs.Reported.{reported}
 use Rattle.sl_first_run.specs.Accepted.{DoesWhatIsDue}
 use Rattle.sl_first_run.specs.Followed.{followed_end}
 use Rattle.sl_first_run.specs.Promises.{RunsHaveOneReport, RunsHaveOneStatus}
-use Rattle.sl_front_law.proofs.Going.{Later, daemon_later, one_step, run_after, run_rest}
-use Rattle.sl_front_law.proofs.Having.{in_flat}
-use Rattle.sl_front_law.specs.Fronts.{HasOneStep}
+use Rattle.sl_run_law.proofs.Front.Going.{Later, daemon_later, one_step, run_after, run_rest}
+use Rattle.sl_run_law.proofs.Front.Having.{in_flat}
+use Rattle.sl_run_law.specs.Front.Fronts.{HasOneStep}
 use Rattle.sl_plain.proofs.Lists.{contains_first, got_inside, head_is, next_before, set_here, tail_is}
 use Rattle.sl_plain.proofs.Options.{else_some, some_there, then_value}
 use Rattle.sl_report.specs.Headline.{GoodRun, Headline, In_events, In_header, ReplayOf, SoundRun}

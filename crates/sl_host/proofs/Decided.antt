@@ -16,7 +16,7 @@ use Rattle.sl_plain.proofs.Lists.{find_fails, find_inside, got_inside}
 use Rattle.sl_still.proofs.Leases.{lease_is, lease_same, number_same, spot_same}
 use Rattle.sl_still.specs.StillLeases.{StillStands, Table, is_idle}
 use Rattle.sl_still.specs.StillPath.{IsLease, IsOf, IsStillResource, StillLease, before_next, lease_grant, lease_session, same_lease}
-use Rattle.sl_still_count.specs.Counted.{some_call, used}
+use Rattle.sl_still_step.specs.Count.Counted.{some_call, used}
 use Rattle.sl_host.proofs.Lookups.{contains_at, held_found, held_none, idle_by, is_named, lease_at, lease_placed, place_found, place_none, session_found, session_none}
 use Rattle.sl_plain.proofs.Places.{position_found, position_none}
 use Rattle.sl_host.proofs.Refusing.{acquire_comes, comes, limit_in, release_comes}

@@ -9,7 +9,7 @@ use Rattle.sl_plain.proofs.Places.{Came, PlacedAt, PlacedBehind, Replaced, Staye
 use Rattle.sl_still.proofs.Beginning.{begins_idle}
 use Rattle.sl_still.specs.StillLeases.{LeaseState, idle_table}
 use Rattle.sl_still.specs.StillPath.{IsOf, StillLease}
-use Rattle.sl_still_count.proofs.Moves.{counts_are_none}
+use Rattle.sl_still_step.proofs.Count.Moves.{counts_are_none}
 use Rattle.sl_host.proofs.AnswerLaws.{told_steps}
 use Rattle.sl_host.proofs.LineLaws.{begins_again, begins_first, gives_back}
 use Rattle.sl_host.proofs.Lookups.{IsPlaced, held_found, idle_there, its_resource, place_found, placed_by, released_by, site_fits}

@@ -2,7 +2,7 @@
 use Rattle.sl_due.specs.Due.{due}
 use Rattle.sl_host.specs.Expected.{IsLawfulAt, StepsAt}
 use Rattle.sl_host.specs.Hosts.{HostStands, HostState, Steps}
-use Rattle.sl_still_lawful.proofs.Whole.{traces_are_lawful}
+use Rattle.sl_still_law.proofs.Lawfully.Whole.{traces_are_lawful}
 use Rattle.sl_trace.specs.Traces.{Setting, Trace}
 use Rattle.sl_trace.specs.declared.effects.Effects.{Effects}
 use Rattle.sl_trace.specs.declared.input.Input.{Input}

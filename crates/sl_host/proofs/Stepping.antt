@@ -1,7 +1,7 @@
 -- A step of the host is what is due, and it then stands for the trace with the step's entry: a line that is answered at once, a lease that
 -- begins, gives back or goes on.
 use Rattle.sl_first.specs.FirstPath.{first_effects, one_reply}
-use Rattle.sl_first_cause.specs.Promises.{is_line_or_answer}
+use Rattle.sl_first_law.specs.Cause.Promises.{is_line_or_answer}
 use Rattle.sl_lease_host.specs.LeaseHosts.{KeepsAt, KeepsLease, LeaseHostState, lease_of}
 use Rattle.sl_plain.proofs.Lists.{contains_none}
 use Rattle.sl_still.proofs.Entered.{line_next}
@@ -9,8 +9,8 @@ use Rattle.sl_still.proofs.Numbering.{marked_length}
 use Rattle.sl_still.specs.StillLeases.{LeaseState, put}
 use Rattle.sl_still.specs.StillPath.{IsLease, StillLease, still_entry}
 use Rattle.sl_still.specs.StillSteps.{IsRefused, refused_entry}
-use Rattle.sl_still_count.proofs.Moves.{moves_change, refused_lines_keep}
-use Rattle.sl_still_count.specs.Promises.{CountsMoved}
+use Rattle.sl_still_step.proofs.Count.Moves.{moves_change, refused_lines_keep}
+use Rattle.sl_still_step.specs.Count.Promises.{CountsMoved}
 use Rattle.sl_host.proofs.TableLaws.{push_table, same_table, set_table}
 use Rattle.sl_host.specs.Hosts.{HostStands, HostState, Steps}
 use Rattle.sl_host.specs.Moves.{MovedAt, MovedFirst}

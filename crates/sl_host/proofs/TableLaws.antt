@@ -15,8 +15,8 @@ use Rattle.sl_plain.proofs.Places.{Came, PlacedAt, PlacedBehind, Replaced, Staye
 use Rattle.sl_still.proofs.Leases.{lease_same, lease_self, number_same}
 use Rattle.sl_still.specs.StillLeases.{LeaseState, StillStands, Table, put}
 use Rattle.sl_still.specs.StillPath.{IsLease, StillLease, lease_session, same_lease}
-use Rattle.sl_still_count.specs.Counted.{counted, some_call, used}
-use Rattle.sl_still_count.specs.Promises.{CountsKept, CountsMoved}
+use Rattle.sl_still_step.specs.Count.Counted.{counted, some_call, used}
+use Rattle.sl_still_step.specs.Count.Promises.{CountsKept, CountsMoved}
 use Rattle.sl_host.specs.Tables.{IsAbsent, IsFresh, IsKept, TableStands, is_holder}
 use Rattle.sl_trace.specs.Traces.{Setting, Trace}
 use Rattle.sl_trace.specs.declared.command.ResourceArg.{ResourceArg}

@@ -7,7 +7,7 @@ use Rattle.sl_lease_host.specs.declared.phase.Phase.{Phase}
 use Rattle.sl_leases.specs.Counts.{holder_count, resource_count}
 use Rattle.sl_still.specs.StillLeases.{LeaseState, Table}
 use Rattle.sl_still.specs.StillPath.{IsLease, StillLease, same_lease}
-use Rattle.sl_still_count.specs.Counted.{used}
+use Rattle.sl_still_step.specs.Count.Counted.{used}
 use Rattle.sl_host.specs.declared.refusal.Refusal.TheVariants.{Busy as Held_there, Pending as Called_there}
 use Rattle.sl_host.specs.declared.refusal.Refusal.{Refusal}
 use Rattle.sl_trace.specs.Traces.{Setting, Trace}

@@ -1,17 +1,17 @@
 -- The interface of an id, said of the sessions of a world.
 use Rattle.sl_area.specs.Layouts.{Layout}
 use Rattle.sl_area.specs.Places.{delta_offset}
-use Rattle.sl_course_law.proofs.Mirrored.{machines_mirror}
-use Rattle.sl_front_law.proofs.Going.{fronts_are_lawful}
+use Rattle.sl_run_law.proofs.Course.Mirrored.{machines_mirror}
+use Rattle.sl_run_law.proofs.Front.Going.{fronts_are_lawful}
 use Rattle.sl_id_safety.proofs.Standing.{joined_stand, same_ids_stand_together}
 use Rattle.sl_id_safety.specs.Interface.{GenerationsNameOne, JoinedStays, JoinersFindOver, JoinersRise, LockspacesAreAreas, OneActsForEachId, OverStays}
 use Rattle.sl_id_safety.specs.Standing.{StandsJoined, sector_offset}
-use Rattle.sl_id_state.proofs.Keeping.{is_place}
-use Rattle.sl_id_state.proofs.LaterFrames.{found_later}
-use Rattle.sl_id_state.proofs.Sectors.{one_name}
-use Rattle.sl_id_state.proofs.StateFrames.{name_cases}
-use Rattle.sl_id_state.specs.IdStates.{blank, has_begun, id_state, is_sector_of, name_of, session_at, session_named_so, standing_by, standing_of}
-use Rattle.sl_id_world.specs.Reaching.{IdsAreReached, IdsGoOn}
+use Rattle.sl_id_safety.proofs.State.Keeping.{is_place}
+use Rattle.sl_id_safety.proofs.State.LaterFrames.{found_later}
+use Rattle.sl_id_safety.proofs.State.Sectors.{one_name}
+use Rattle.sl_id_safety.proofs.State.StateFrames.{name_cases}
+use Rattle.sl_id_safety.specs.State.IdStates.{blank, has_begun, id_state, is_sector_of, name_of, session_at, session_named_so, standing_by, standing_of}
+use Rattle.sl_id_safety.specs.Reached.Reaching.{IdsAreReached, IdsGoOn}
 use Rattle.sl_ids.proofs.DerivedLaws.{watchdogs}
 use Rattle.sl_ids.proofs.InterfaceLaws.{evident, names_one, one_over, over_stays, rises, run_grows}
 use Rattle.sl_ids.proofs.WholeRuns.{reached_kept}
@@ -19,13 +19,13 @@ use Rattle.sl_ids.specs.Guards.{terms_of}
 use Rattle.sl_ids.specs.Interface.{Own}
 use Rattle.sl_ids.specs.State.{Session as IdSession, State}
 use Rattle.sl_ids.specs.Terms.{Terms}
-use Rattle.sl_place_law.proofs.Reading.{layout_is}
+use Rattle.sl_run_law.proofs.Place.Reading.{layout_is}
 use Rattle.sl_run.specs.Runs.{Happening}
 use Rattle.sl_run.specs.Safety.{Found, HasJoined, IsSession, LawfulRun, SameId, SessionId, found_generation, is_over, session_of_world, trace_of, world_at}
 use Rattle.sl_run.specs.Worlds.{Program, World}
 use Rattle.sl_run.specs.declared.header.Header.{Header}
 use Rattle.sl_run.specs.declared.header.LockspaceLine.{LockspaceLine}
-use Rattle.sl_session_law.proofs.Staying.{marks_stay}
+use Rattle.sl_trace_law.proofs.Sessions.Staying.{marks_stay}
 use Rattle.sl_sessions.specs.Sessions.{joined_after}
 use Rattle.sl_sessions.specs.declared.session.Session.{Session}
 use Rattle.sl_trace.specs.Traces.{Trace}

@@ -1,15 +1,15 @@
 -- A session that had joined before an entry of its daemon: it stands before the event that brought the newest entry.
-use Rattle.sl_course_law.proofs.Daemons.{Same_daemons, DaemonsTurn, One_begins, One_enters, all_ended, stepped_daemons}
-use Rattle.sl_course_law.proofs.Keeping.{Goes_on, was_before}
-use Rattle.sl_course_law.proofs.Mirrored.{machines_mirror}
-use Rattle.sl_course_law.proofs.Turning.{Began, Called, Came_up, Clocked, Crashed, Stays, Tested, Turned, Went_down}
-use Rattle.sl_id_state.proofs.Bridge.{known}
-use Rattle.sl_id_state.proofs.FindingFrames.{found_on, session_with}
-use Rattle.sl_id_state.proofs.LaterFrames.{numbered_found}
-use Rattle.sl_id_state.proofs.Living.{begun_if_joined}
-use Rattle.sl_id_state.proofs.Proven.{grounds}
-use Rattle.sl_law.proofs.LawFacts.{lawful-front}
-use Rattle.sl_law.specs.Lawful.{Lawful}
+use Rattle.sl_run_law.proofs.Course.Daemons.{Same_daemons, DaemonsTurn, One_begins, One_enters, all_ended, stepped_daemons}
+use Rattle.sl_run_law.proofs.Course.Keeping.{Goes_on, was_before}
+use Rattle.sl_run_law.proofs.Course.Mirrored.{machines_mirror}
+use Rattle.sl_run_law.proofs.Course.Turning.{Began, Called, Came_up, Clocked, Crashed, Stays, Tested, Turned, Went_down}
+use Rattle.sl_id_safety.proofs.State.Bridge.{known}
+use Rattle.sl_id_safety.proofs.State.FindingFrames.{found_on, session_with}
+use Rattle.sl_id_safety.proofs.State.LaterFrames.{numbered_found}
+use Rattle.sl_id_safety.proofs.State.Living.{begun_if_joined}
+use Rattle.sl_id_safety.proofs.State.Proven.{grounds}
+use Rattle.sl_law.proofs.LawFacts.{orderly-front}
+use Rattle.sl_law.specs.Lawful.{Orderly}
 use Rattle.sl_plain.proofs.Lists.{contains_cases, contains_first, contains_more}
 use Rattle.sl_run.specs.Runs.{Happening}
 use Rattle.sl_run.specs.Safety.{Found, IsSession, LawfulRun, SessionId, setting_in, trace_of, world_at}
@@ -17,9 +17,9 @@ use Rattle.sl_run.specs.Worlds.{Daemon, Machine, Program, World, daemons_on, new
 use Rattle.sl_run.specs.declared.event.Event.{Event}
 use Rattle.sl_run.specs.declared.header.Header.{Header}
 use Rattle.sl_run_law.specs.Daemons.{IsSettled}
-use Rattle.sl_session_law.proofs.Owning.{sessions_stay}
-use Rattle.sl_session_law.proofs.Staying.{joined_more, marks_stay}
-use Rattle.sl_session_law.specs.Promises.{IsSession as IsSessionOf}
+use Rattle.sl_trace_law.proofs.Sessions.Owning.{sessions_stay}
+use Rattle.sl_trace_law.proofs.Sessions.Staying.{joined_more, marks_stay}
+use Rattle.sl_trace_law.specs.Sessions.Promises.{IsSession as IsSessionOf}
 use Rattle.sl_sessions.specs.Sessions.{given_session, joined_after, session_numbered}
 use Rattle.sl_sessions.specs.declared.session.Session.{Session}
 use Rattle.sl_trace.specs.Traces.{Setting, Trace}
@@ -119,11 +119,11 @@ came_from p h now x m a c d g has =
 -- ---- a session that had joined
 
 -- It had begun.
-had_begun : (st : Setting) (later : Trace) (e : Entry) (past : Trace) (s : Session) → Lawful st (later ++ e ∷ past) → IsSessionOf st (later ++ e ∷ past) s → (k : ℕ)
+had_begun : (st : Setting) (later : Trace) (e : Entry) (past : Trace) (s : Session) → Orderly st (later ++ e ∷ past) → IsSessionOf st (later ++ e ∷ past) s → (k : ℕ)
     → joined_after past s ≡ Some k → IsSessionOf st past s
 had_begun st [] e past s h its k joined = begun_if_joined st e past s h its k (joined_more e past s k joined)
 had_begun st (x ∷ later) e past s h its k joined =
-    had_begun st later e past s (lawful-front st (x ∷ []) (later ++ e ∷ past) h)
+    had_begun st later e past s (orderly-front st (x ∷ []) (later ++ e ∷ past) h)
     (begun_if_joined st x (later ++ e ∷ past) s h its k
     (marks_stay.joined (x ∷ later) (e ∷ past) s k (joined_more e past s k joined))) k joined
 
@@ -171,7 +171,7 @@ stood_before p h now x run i g its later e past whole k joined =
     let b = was_before p h now x run i.machine g.machine kn.there.at in
     let at : session_numbered (setting_in g) past i.number ≡ Some g.session =
     ap (λ n. session_numbered (setting_in g) past n) (sym kn.there.number)
-    ∙ had_begun (setting_in g) later e past g.session (subst (λ es. Lawful (setting_in g) es) whole kn.lawful) (subst (λ es. IsSessionOf (setting_in g) es g.session) whole kn.its) k joined in
+    ∙ had_begun (setting_in g) later e past g.session (subst (λ es. Orderly (setting_in g) es) whole kn.lawful) (subst (λ es. IsSessionOf (setting_in g) es g.session) whole kn.its) k joined in
     by b.0 b.1 kn.there.daemon at (came_from p h now x i.machine b.0 g.machine g.daemon b.1 kn.there.has)
   where
     by : (a : Machine) → Goes_on p h now x i.machine a g.machine → g.daemon.number ≡ i.daemon → session_numbered (setting_in g) past i.number ≡ Some g.session

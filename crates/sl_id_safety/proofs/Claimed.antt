@@ -1,31 +1,31 @@
 -- What a survey of a joined session samples stands at or above the session's claim.
-use Rattle.sl_course_law.proofs.Distinct.{each_distinct}
-use Rattle.sl_course_law.specs.Stamping.{IsCourseOf}
-use Rattle.sl_front_law.proofs.Having.{contains_left}
+use Rattle.sl_run_law.proofs.Course.Distinct.{each_distinct}
+use Rattle.sl_run_law.specs.Course.Stamping.{IsCourseOf}
+use Rattle.sl_run_law.proofs.Front.Having.{contains_left}
 use Rattle.sl_id_safety.proofs.Seeing.{survey_law}
 use Rattle.sl_id_safety.proofs.Showing.{shows_number}
 use Rattle.sl_id_safety.proofs.Standing.{some_record}
 use Rattle.sl_id_safety.specs.Standing.{StandsJoined, sector_offset}
-use Rattle.sl_id_state.proofs.Bridge.{is_there, known}
-use Rattle.sl_id_state.proofs.Keeping.{IsOwnCall, is_place, own_call, step_law}
-use Rattle.sl_id_state.proofs.Proven.{claims_have_decided, grounds, renewals_have_verified, verify_reads_have_claimed}
-use Rattle.sl_id_state.proofs.Renewing.{given_undecided}
-use Rattle.sl_id_state.proofs.SampleFrames.{join_is}
-use Rattle.sl_id_state.proofs.Tails.{front_at}
-use Rattle.sl_id_state.proofs.Timing.{stamps_order}
-use Rattle.sl_id_state.specs.IdStates.{claim_bytes, comes_before, id_state, index_of, join_course, name_of, own_courses, refused_stamp, said_by, sample_showing, session_at, verifying_sample}
-use Rattle.sl_id_steps.proofs.Alive.{joins_at, not_claim}
-use Rattle.sl_id_steps.proofs.ClaimLanding.{landed_here, landing_of_call}
-use Rattle.sl_id_steps.proofs.Seqs.{has_number}
+use Rattle.sl_id_safety.proofs.State.Bridge.{is_there, known}
+use Rattle.sl_id_safety.proofs.State.Keeping.{IsOwnCall, is_place, own_call, step_law}
+use Rattle.sl_id_safety.proofs.State.Proven.{claims_have_decided, grounds, renewals_have_verified, verify_reads_have_claimed}
+use Rattle.sl_id_safety.proofs.State.Renewing.{given_undecided}
+use Rattle.sl_id_safety.proofs.State.SampleFrames.{join_is}
+use Rattle.sl_id_safety.proofs.State.Tails.{front_at}
+use Rattle.sl_id_safety.proofs.State.Timing.{stamps_order}
+use Rattle.sl_id_safety.specs.State.IdStates.{claim_bytes, comes_before, id_state, index_of, join_course, name_of, own_courses, refused_stamp, said_by, sample_showing, session_at, verifying_sample}
+use Rattle.sl_id_safety.proofs.Steps.Alive.{joins_at, not_claim}
+use Rattle.sl_id_safety.proofs.Steps.ClaimLanding.{landed_here, landing_of_call}
+use Rattle.sl_id_safety.proofs.Steps.Seqs.{has_number}
 use Rattle.sl_ids.proofs.StateLaws.{one_place}
 use Rattle.sl_ids.specs.Guards.{terms_of}
 use Rattle.sl_ids.specs.Invariant.{Invariant}
 use Rattle.sl_ids.specs.State.{Session as IdSession, State, shown}
-use Rattle.sl_landing_law.proofs.Listing.{one_call}
-use Rattle.sl_landing_law.proofs.Proven.{landings_are_written}
-use Rattle.sl_landing_law.proofs.Remaining.{landed_are_there}
-use Rattle.sl_place_law.proofs.Finding.{partner_of, place_is}
-use Rattle.sl_place_law.proofs.Looks.{made_below, stands as standing_joined}
+use Rattle.sl_run_law.proofs.Landing.Listing.{one_call}
+use Rattle.sl_run_law.proofs.Landing.Proven.{landings_are_written}
+use Rattle.sl_run_law.proofs.Landing.Remaining.{landed_are_there}
+use Rattle.sl_run_law.proofs.Place.Finding.{partner_of, place_is}
+use Rattle.sl_run_law.proofs.Place.Looks.{made_below, stands as standing_joined}
 use Rattle.sl_plain.proofs.Lists.{find_inside, kept, kept_inside}
 use Rattle.sl_plain.proofs.Options.{then_value}
 use Rattle.sl_run.specs.Runs.{Happening}
@@ -33,11 +33,11 @@ use Rattle.sl_run.specs.Safety.{Found, IsSession, LawfulRun, SessionId, setting_
 use Rattle.sl_run.specs.Worlds.{Course, Landing, Machine, Program, Sampling, Stamp, World, first_landing, history_of, landed_at, machine_at}
 use Rattle.sl_run.specs.declared.header.Header.{Header}
 use Rattle.sl_run_law.specs.Fates.{AreDistinct}
-use Rattle.sl_sample_law.proofs.Numbering.{number_below}
-use Rattle.sl_sample_law.proofs.Proven.{samples_are_landings}
-use Rattle.sl_sample_law.specs.Samples.{IsSampleOf, numbered_landing, sector_place}
-use Rattle.sl_session_law.proofs.Making.{answers_stay}
-use Rattle.sl_session_law.specs.Promises.{IsSession as IsSessionOf}
+use Rattle.sl_run_law.proofs.Sample.Numbering.{number_below}
+use Rattle.sl_run_law.proofs.Sample.Proven.{samples_are_landings}
+use Rattle.sl_run_law.specs.Sample.Samples.{IsSampleOf, numbered_landing, sector_place}
+use Rattle.sl_trace_law.proofs.Sessions.Making.{answers_stay}
+use Rattle.sl_trace_law.specs.Sessions.Promises.{IsSession as IsSessionOf}
 use Rattle.sl_sessions.specs.Sessions.{calls_of, is_call_of, is_join_call, is_survey_purpose, session_numbered}
 use Rattle.sl_trace.specs.Traces.{Submitted, new_call, same_place, submitted}
 use Rattle.sl_trace.specs.declared.effects.Call.{Call}

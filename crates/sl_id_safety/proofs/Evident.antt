@@ -1,7 +1,7 @@
 -- Evidence is true: what a session saw of an id stood there at a front, and the id's state at that front has the evidence.
 use Rattle.sl_area.specs.Layouts.{Layout}
 use Rattle.sl_area.specs.Places.{delta_offset}
-use Rattle.sl_front_law.proofs.Going.{fronts_are_lawful}
+use Rattle.sl_run_law.proofs.Front.Going.{fronts_are_lawful}
 use Rattle.sl_id_safety.proofs.Acting.{StandsIn, same_offset, stands_in, stands_with}
 use Rattle.sl_id_safety.proofs.Fronting.{front_at}
 use Rattle.sl_id_safety.proofs.Seeing.{IsSeen, seen}
@@ -9,27 +9,27 @@ use Rattle.sl_id_safety.proofs.Showing.{ShowsLast, shown_at}
 use Rattle.sl_id_safety.proofs.Standing.{joined_stand}
 use Rattle.sl_id_safety.specs.Interface.{EvidenceMeansOver, EvidencesAreTrue, SilenceMeansOver, sightings_of}
 use Rattle.sl_id_safety.specs.Standing.{StandsJoined, sector_offset}
-use Rattle.sl_id_state.proofs.Bridge.{is_there}
-use Rattle.sl_id_state.specs.IdStates.{content_of, id_state, kind_of, name_of}
-use Rattle.sl_id_state.specs.Promises.{IsIdPlace}
-use Rattle.sl_id_world.specs.Reaching.{IdsAreReached, IdsGoOn}
+use Rattle.sl_id_safety.proofs.State.Bridge.{is_there}
+use Rattle.sl_id_safety.specs.State.IdStates.{content_of, id_state, kind_of, name_of}
+use Rattle.sl_id_safety.specs.State.Promises.{IsIdPlace}
+use Rattle.sl_id_safety.specs.Reached.Reaching.{IdsAreReached, IdsGoOn}
 use Rattle.sl_ids.proofs.DerivedLaws.{watchdogs}
 use Rattle.sl_ids.proofs.InterfaceLaws.{evident, over_stays}
 use Rattle.sl_ids.specs.Guards.{terms_of}
 use Rattle.sl_ids.specs.Interface.{Evidence, Freed, Newer, Own}
 use Rattle.sl_ids.specs.State.{State}
 use Rattle.sl_ids.specs.Terms.{Terms}
-use Rattle.sl_moment_law.proofs.Following.{kept_past}
-use Rattle.sl_moment_law.specs.Moments.{Of_sample}
-use Rattle.sl_place_law.proofs.Finding.{place_is}
-use Rattle.sl_place_law.proofs.Reading.{layout_is}
+use Rattle.sl_run_law.proofs.Moment.Following.{kept_past}
+use Rattle.sl_run_law.specs.Moment.Moments.{Of_sample}
+use Rattle.sl_run_law.proofs.Place.Finding.{place_is}
+use Rattle.sl_run_law.proofs.Place.Reading.{layout_is}
 use Rattle.sl_plain.proofs.Lists.{any_found, contains_first, contains_more, got_inside}
 use Rattle.sl_run.specs.Runs.{Happening}
 use Rattle.sl_run.specs.Safety.{Found, HasJoined, IsSession, LawfulRun, SessionId, found_generation, is_over, same_lockspace, setting_in, trace_of, world_at}
 use Rattle.sl_run.specs.Worlds.{Program, World, machine_at}
 use Rattle.sl_run.specs.declared.header.Header.{Header}
-use Rattle.sl_sample_law.proofs.Proven.{samples_are_landings}
-use Rattle.sl_sample_law.specs.Samples.{sector_place}
+use Rattle.sl_run_law.proofs.Sample.Proven.{samples_are_landings}
+use Rattle.sl_run_law.specs.Sample.Samples.{sector_place}
 use Rattle.sl_sector.specs.declared.sector.DeltaRec.{DeltaRec}
 use Rattle.sl_sector.specs.declared.sector.DeltaState.TheVariants.{Claimed, Free, Live}
 use Rattle.sl_sector.specs.declared.sector.DeltaState.{DeltaState}

@@ -1,19 +1,19 @@
 -- The free is a session's last call, and is made where no call of it is open.
-use Rattle.sl_id_state.proofs.Keeping.{lawful_call}
-use Rattle.sl_id_state.proofs.Listing.{stands, stands_there, tail_at}
-use Rattle.sl_id_state.proofs.Tails.{AreMade, IsLater, IsMadeAfter, all_made, front_at}
-use Rattle.sl_id_state.proofs.Timing.{longer}
-use Rattle.sl_law.specs.Lawful.{Lawful}
+use Rattle.sl_id_safety.proofs.State.Keeping.{lawful_call}
+use Rattle.sl_id_safety.proofs.State.Listing.{stands, stands_there, tail_at}
+use Rattle.sl_id_safety.proofs.State.Tails.{AreMade, IsLater, IsMadeAfter, all_made, front_at}
+use Rattle.sl_id_safety.proofs.State.Timing.{longer}
+use Rattle.sl_law.specs.Lawful.{Orderly}
 use Rattle.sl_law.specs.LawfulCalls.{may_submit}
 use Rattle.sl_law.specs.LawfulDelta.{LawfulDeltaCall, LawfulFree}
-use Rattle.sl_place_law.proofs.Finding.{finds, partner}
-use Rattle.sl_place_law.proofs.Looks.{made_below, stands as standing_joined}
+use Rattle.sl_run_law.proofs.Place.Finding.{finds, partner}
+use Rattle.sl_run_law.proofs.Place.Looks.{made_below, stands as standing_joined}
 use Rattle.sl_plain.proofs.Lists.{contains_cases, contains_none, ends, find_inside, kept, kept_inside}
-use Rattle.sl_session_law.proofs.Freeing.{no_more_by}
-use Rattle.sl_session_law.proofs.Joining.{stage_for}
-use Rattle.sl_session_law.proofs.Silence.{stage_by}
-use Rattle.sl_session_law.proofs.Staying.{marks_stay}
-use Rattle.sl_session_law.specs.Promises.{IsSession as IsSessionOf}
+use Rattle.sl_trace_law.proofs.Sessions.Freeing.{no_more_by}
+use Rattle.sl_trace_law.proofs.Sessions.Joining.{stage_for}
+use Rattle.sl_trace_law.proofs.Sessions.Silence.{stage_by}
+use Rattle.sl_trace_law.proofs.Sessions.Staying.{marks_stay}
+use Rattle.sl_trace_law.specs.Sessions.Promises.{IsSession as IsSessionOf}
 use Rattle.sl_sessions.specs.Sessions.{calls_of, free_write, is_call_of, is_free_purpose, joined_after, open_calls_of, refused_after, removed_after, stage_after, stage_in, stage_of}
 use Rattle.sl_sessions.specs.declared.session.Session.{Session}
 use Rattle.sl_sessions.specs.declared.stage.Stage.TheVariants.{Standing}
@@ -39,7 +39,7 @@ free_law st t s c p is law = absurd (true_is_false (sym is))
 -- ---- nothing is newer than the free
 
 -- A call with the free behind it was made where the session had joined and was freed: so it wasn't made.
-none_newer : (st : Setting) (es : Trace) (s : Session) (m x : Submitted) (older behind : List Submitted) → Lawful st es → IsSessionOf st es s → (d : IsMadeAfter es s m older)
+none_newer : (st : Setting) (es : Trace) (s : Session) (m x : Submitted) (older behind : List Submitted) → Orderly st es → IsSessionOf st es s → (d : IsMadeAfter es s m older)
     → Contains older x → is_free_purpose x.call.purpose ≡ true → IsMadeAfter es s x behind → ⊥
 none_newer st es s m x older behind h its d there free e =
     let t : Trace = front_at d in
@@ -63,7 +63,7 @@ answered_by t s m n none there r None is =
     absurd (contains_none n (subst (λ ms. Contains ms n) none (kept (λ (x : Submitted). is_none x.answer) (calls_of t s) n (ap (λ o. is_none o) is) there)))
 answered_by t s m n none there r (Some a) is = (a, ap (λ (x : Submitted). x.answer) (r.stays a is) ∙ is)
 
-behind_answered : (st : Setting) (es : Trace) (s : Session) (x m : Submitted) (older : List Submitted) → Lawful st es → IsSessionOf st es s → (d : IsMadeAfter es s x older)
+behind_answered : (st : Setting) (es : Trace) (s : Session) (x m : Submitted) (older : List Submitted) → Orderly st es → IsSessionOf st es s → (d : IsMadeAfter es s x older)
     → is_free_purpose x.call.purpose ≡ true → Contains older m → (a : Answered) × (m.answer ≡ Some a)
 behind_answered st es s x m older h its d free there =
     let t : Trace = front_at d in
@@ -72,7 +72,7 @@ behind_answered st es s x m older h its d free there =
     answered_by t s m n.0 law.no_call n.1 n.2 n.0.answer refl
 
 -- Of a session that has written its free each other call is answered.
-pub freed_answered : (st : Setting) (es : Trace) (s : Session) → Lawful st es → IsSessionOf st es s → (x : Submitted) → free_write (calls_of es s) ≡ Some x → (m : Submitted)
+pub freed_answered : (st : Setting) (es : Trace) (s : Session) → Orderly st es → IsSessionOf st es s → (x : Submitted) → free_write (calls_of es s) ≡ Some x → (m : Submitted)
     → Contains (calls_of es s) m → is_free_purpose m.call.purpose ≡ false → (a : Answered) × (m.answer ≡ Some a)
 freed_answered st es s h its x is m there other =
     let found = find_inside (λ (y : Submitted). is_free_purpose y.call.purpose) (calls_of es s) x is in

@@ -1,12 +1,12 @@
 -- A front of a run for each step, what had landed by then, and how its moment stands to those of samples.
-use Rattle.sl_front_law.proofs.Going.{fronts_are_lawful, last_event, one_step, run_after, run_keeps, run_rest}
-use Rattle.sl_front_law.specs.Fronts.{HasOneStep}
-use Rattle.sl_landing_law.proofs.Arriving.{Lands, first_lands}
-use Rattle.sl_landing_law.proofs.Passing.{step_landings}
-use Rattle.sl_moment_law.proofs.Following.{follows, keeps, kept_before, kept_past}
-use Rattle.sl_moment_law.proofs.Landing.{event_lands}
-use Rattle.sl_moment_law.proofs.Later.{fronts_go}
-use Rattle.sl_moment_law.specs.Moments.{IsKept}
+use Rattle.sl_run_law.proofs.Front.Going.{fronts_are_lawful, last_event, one_step, run_after, run_keeps, run_rest}
+use Rattle.sl_run_law.specs.Front.Fronts.{HasOneStep}
+use Rattle.sl_run_law.proofs.Landing.Arriving.{Lands, first_lands}
+use Rattle.sl_run_law.proofs.Landing.Passing.{step_landings}
+use Rattle.sl_run_law.proofs.Moment.Following.{follows, keeps, kept_before, kept_past}
+use Rattle.sl_run_law.proofs.Moment.Landing.{event_lands}
+use Rattle.sl_run_law.proofs.Moment.Later.{fronts_go}
+use Rattle.sl_run_law.specs.Moment.Moments.{IsKept}
 use Rattle.sl_plain.proofs.Lists.{contains_cases, contains_none}
 use Rattle.sl_run.specs.Events.{first_change, happens, input_of, machine_of, next_step}
 use Rattle.sl_run.specs.Runs.{Happening, world_after}

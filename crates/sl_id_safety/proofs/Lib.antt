@@ -1,6 +1,7 @@
 pub mod Standing
 pub mod Acting
 pub mod Owning
+pub mod Alone
 pub mod Quieting
 pub mod Silence
 pub mod Freed
@@ -15,3 +16,6 @@ pub mod Before
 pub mod Claimed
 pub mod NoOther
 pub mod Proven
+pub mod State
+pub mod Steps
+pub mod Reached

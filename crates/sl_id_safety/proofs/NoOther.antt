@@ -2,10 +2,10 @@
 -- stands at or above its claim is its own.
 use Rattle.sl_area.specs.Layouts.{layout_with}
 use Rattle.sl_area.specs.Places.{delta_of, delta_offset, sector_of}
-use Rattle.sl_course_law.proofs.Daemons.{OnDaemons, every_has, first_daemons}
-use Rattle.sl_course_law.proofs.Keeping.{header_machine}
-use Rattle.sl_course_law.proofs.Mirrored.{machines_mirror}
-use Rattle.sl_front_law.proofs.Going.{fronts_are_lawful, run_keeps}
+use Rattle.sl_run_law.proofs.Course.Daemons.{OnDaemons, every_has, first_daemons}
+use Rattle.sl_run_law.proofs.Course.Keeping.{header_machine}
+use Rattle.sl_run_law.proofs.Course.Mirrored.{machines_mirror}
+use Rattle.sl_run_law.proofs.Front.Going.{fronts_are_lawful, run_keeps}
 use Rattle.sl_id_safety.proofs.Acting.{same_offset, stands_in}
 use Rattle.sl_id_safety.proofs.Before.{StoodBefore, found_with, stood_before}
 use Rattle.sl_id_safety.proofs.Claimed.{claim_below}
@@ -19,32 +19,32 @@ use Rattle.sl_id_safety.proofs.Silence.{freed_by, goes_on, not_reset, over_cases
 use Rattle.sl_id_safety.proofs.Standing.{joined_stand}
 use Rattle.sl_id_safety.specs.Interface.{JoinedReadNoOther}
 use Rattle.sl_id_safety.specs.Standing.{sector_offset}
-use Rattle.sl_id_state.proofs.Bridge.{IsKnown, is_there, known}
-use Rattle.sl_id_state.proofs.Proven.{grounds}
-use Rattle.sl_id_state.specs.IdStates.{content_of, id_state, name_of, session_at}
-use Rattle.sl_id_state.specs.Promises.{IsIdPlace}
-use Rattle.sl_id_world.specs.Reaching.{IdsAreReached, IdsGoOn}
+use Rattle.sl_id_safety.proofs.State.Bridge.{IsKnown, is_there, known}
+use Rattle.sl_id_safety.proofs.State.Proven.{grounds}
+use Rattle.sl_id_safety.specs.State.IdStates.{content_of, id_state, name_of, session_at}
+use Rattle.sl_id_safety.specs.State.Promises.{IsIdPlace}
+use Rattle.sl_id_safety.specs.Reached.Reaching.{IdsAreReached, IdsGoOn}
 use Rattle.sl_ids.proofs.DerivedLaws.{watchdogs}
 use Rattle.sl_ids.proofs.InterfaceLaws.{run_grows}
 use Rattle.sl_ids.proofs.WholeRuns.{reached_kept}
 use Rattle.sl_ids.specs.Guards.{terms_of}
 use Rattle.sl_ids.specs.State.{Session as IdSession}
 use Rattle.sl_ids.specs.Terms.{Terms}
-use Rattle.sl_law.specs.Lawful.{Lawful}
-use Rattle.sl_moment_law.proofs.Following.{kept_past}
-use Rattle.sl_moment_law.proofs.Stamps.{answer_is_stamp}
-use Rattle.sl_moment_law.specs.Moments.{Of_stamp}
+use Rattle.sl_law.specs.Lawful.{Orderly}
+use Rattle.sl_run_law.proofs.Moment.Following.{kept_past}
+use Rattle.sl_run_law.proofs.Moment.Stamps.{answer_is_stamp}
+use Rattle.sl_run_law.specs.Moment.Moments.{Of_stamp}
 use Rattle.sl_plain.proofs.Lists.{contains_map, find_inside, kept}
 use Rattle.sl_plain.proofs.Options.{some_of}
 use Rattle.sl_run.specs.Runs.{Happening}
 use Rattle.sl_run.specs.Safety.{Found, HasJoined, IsSession, LawfulRun, ReadsNoOther, SessionId, free_landed, has_write_in_flight, is_over, setting_in, trace_of, was_reset, world_at}
 use Rattle.sl_run.specs.Worlds.{Daemon, Machine, Program, World, daemons_on, machine_at}
 use Rattle.sl_run.specs.declared.header.Header.{Header}
-use Rattle.sl_sample_law.proofs.Proven.{samples_are_landings}
-use Rattle.sl_sample_law.specs.Samples.{sector_place}
+use Rattle.sl_run_law.proofs.Sample.Proven.{samples_are_landings}
+use Rattle.sl_run_law.specs.Sample.Samples.{sector_place}
 use Rattle.sl_sector.specs.declared.sector.DeltaRec.{DeltaRec}
-use Rattle.sl_session_law.proofs.Making.{old_stays, same_answered}
-use Rattle.sl_session_law.proofs.Staying.{joined_more}
+use Rattle.sl_trace_law.proofs.Sessions.Making.{old_stays, same_answered}
+use Rattle.sl_trace_law.proofs.Sessions.Staying.{joined_more}
 use Rattle.sl_sessions.specs.Sessions.{calls_of, ended_after, free_write, generation_of, is_call_of, is_free_purpose, is_joined, is_survey_purpose, joined_after, refused_after, removed_after, shows_other, shows_other_in, survey_in}
 use Rattle.sl_sessions.specs.declared.session.Session.{Session}
 use Rattle.sl_sessions.specs.declared.sighting.Sighting.{Sighting}
@@ -57,7 +57,7 @@ use Rattle.sl_trace.specs.declared.input.Answer.TheVariants.{Read}
 use Rattle.sl_trace.specs.declared.input.Answer.{Answer}
 use Rattle.sl_trace.specs.declared.input.Input.TheVariants.{Answer as Told}
 use Rattle.sl_trace.specs.declared.input.Input.{Input}
-use Rattle.sl_watchdog_law.proofs.Numbering.{answered_call}
+use Rattle.sl_run_law.proofs.Watchdog.Numbering.{answered_call}
 use Rattle.sl_words.proofs.CaseLaws.{is_false, no_value, none_some, one_value, some_value, true_is_false}
 use Rattle.sl_words.proofs.WordLaws.{and_true}
 use Rattle.sl_words.specs.Words.{choose, some_is}
@@ -173,7 +173,7 @@ asked_waits : (p : Program) (h : Header) (now : List Happening) (x : Happening) 
     → (t : ToldOther (setting_in g) past g.session e.input) → t.told.asked.answer ≡ None
 asked_waits p h now x i f g past e b t =
     let kn = known grounds p h (now ++ x ∷ []) b.run i g b.also in
-    let lawful : Lawful (setting_in g) (e ∷ past) = subst (λ es. Lawful (setting_in g) es) b.after kn.lawful in
+    let lawful : Orderly (setting_in g) (e ∷ past) = subst (λ es. Orderly (setting_in g) es) b.after kn.lawful in
     let a = answered_call (setting_in g) past e t.told.number (Read t.bytes) lawful.is_trace t.told.input in
     subst (λ (m : Submitted). m.answer ≡ None) (one_value a.0 t.told.asked (call_numbered past t.told.number) a.1.found t.told.found) a.1.waits
 

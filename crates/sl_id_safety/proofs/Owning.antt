@@ -4,10 +4,10 @@ use Rattle.sl_area.specs.Places.{delta_offset}
 use Rattle.sl_id_safety.proofs.Standing.{joined_stand}
 use Rattle.sl_id_safety.specs.Interface.{SectorsStand}
 use Rattle.sl_id_safety.specs.Standing.{sector_offset}
-use Rattle.sl_id_state.proofs.Bridge.{known}
-use Rattle.sl_id_state.proofs.Proven.{grounds}
-use Rattle.sl_id_state.specs.IdStates.{content_of, id_state, landing_of, name_of, said_by}
-use Rattle.sl_id_world.specs.Reaching.{IdsAreReached}
+use Rattle.sl_id_safety.proofs.State.Bridge.{known}
+use Rattle.sl_id_safety.proofs.State.Proven.{grounds}
+use Rattle.sl_id_safety.specs.State.IdStates.{content_of, id_state, landing_of, name_of, said_by}
+use Rattle.sl_id_safety.specs.Reached.Reaching.{IdsAreReached}
 use Rattle.sl_ids.proofs.DerivedLaws.{watchdogs}
 use Rattle.sl_ids.proofs.WholeRuns.{reached_kept}
 use Rattle.sl_ids.specs.Guards.{terms_of}
@@ -17,7 +17,7 @@ use Rattle.sl_ids.specs.State.{Content, Landing as IdLanding, Session as IdSessi
 use Rattle.sl_ids.specs.Terms.{Terms}
 use Rattle.sl_run.specs.Safety.{world_at}
 use Rattle.sl_run.specs.Worlds.{Landing, World, content, first_landing, history_of}
-use Rattle.sl_sample_law.specs.Samples.{numbered_landing}
+use Rattle.sl_run_law.specs.Sample.Samples.{numbered_landing}
 use Rattle.sl_sector.specs.Spelling.{delta_in}
 use Rattle.sl_trace.specs.Traces.{same_place}
 use Rattle.std.proofs.Common.{ap, arith, inl, inr, refl, subst, sym, ◌∙◌}

@@ -1,12 +1,13 @@
 -- What the ids of each lawful run promise, since each of their states is reached.
 use Rattle.sl_id_safety.proofs.Acting.{generations_name_one_given, joiners_find_over_given, joiners_rise_given, one_acts_given, over_stays_given}
+use Rattle.sl_id_safety.proofs.Alone.{sectors_are_alone_given}
 use Rattle.sl_id_safety.proofs.Evident.{evidence_means_over_given, evidences_are_true_given}
 use Rattle.sl_id_safety.proofs.NoOther.{reads_no_other_given}
 use Rattle.sl_id_safety.proofs.Owning.{sectors_stand_given}
 use Rattle.sl_id_safety.proofs.Silent.{silence_means_over_given}
-use Rattle.sl_id_safety.specs.Interface.{EvidenceMeansOver, EvidencesAreTrue, GenerationsNameOne, IdsAreSafe, JoinedReadNoOther, JoinersFindOver, JoinersRise, OneActsForEachId, OverStays, SectorsStand, SilenceMeansOver}
-use Rattle.sl_id_world.proofs.Proven.{ids_are_reached, ids_go_on}
-use Rattle.sl_watchdog_law.proofs.Proven.{writes_in_flight_are_covered}
+use Rattle.sl_id_safety.specs.Interface.{EvidenceMeansOver, EvidencesAreTrue, GenerationsNameOne, IdsAreSafe, JoinedReadNoOther, JoinersFindOver, JoinersRise, OneActsForEachId, OverStays, SectorsAreAlone, SectorsStand, SilenceMeansOver}
+use Rattle.sl_id_safety.proofs.Reached.Proven.{ids_are_reached, ids_go_on}
+use Rattle.sl_run_law.proofs.Watchdog.Proven.{writes_in_flight_are_covered}
 
 pub one_acts_for_each_id : OneActsForEachId
 one_acts_for_each_id = one_acts_given ids_are_reached
@@ -22,6 +23,9 @@ over_stays = over_stays_given ids_are_reached ids_go_on
 
 pub joiners_find_over : JoinersFindOver
 joiners_find_over = joiners_find_over_given ids_are_reached ids_go_on
+
+pub sectors_are_alone : SectorsAreAlone
+sectors_are_alone = sectors_are_alone_given ids_are_reached
 
 pub sectors_stand : SectorsStand
 sectors_stand = sectors_stand_given ids_are_reached
@@ -45,6 +49,7 @@ ids_are_safe p h xs run =
       evidence = evidences_are_true p h xs run;
       one = one_acts_for_each_id p h xs run;
       rise = joiners_rise p h xs run;
+      alone = sectors_are_alone p h xs run;
       own = sectors_stand p h xs run;
       no_other = reads_no_other p h xs run;
     }

@@ -1,14 +1,14 @@
 -- A joined session that has ended, or has written its free, makes no call any more: its calls stay, but for answers.
-use Rattle.sl_id_state.proofs.Beside.{filter_pairs}
-use Rattle.sl_id_state.proofs.Listing.{find_pairs}
-use Rattle.sl_id_state.proofs.Tails.{AreLater, IsLater, all_again, all_still, marked_later}
-use Rattle.sl_law.proofs.LawFacts.{lawful-front}
-use Rattle.sl_law.specs.Lawful.{Lawful}
-use Rattle.sl_session_law.proofs.Freeing.{freed_are_silent}
-use Rattle.sl_session_law.proofs.Owning.{sessions_stay}
-use Rattle.sl_session_law.proofs.Silence.{ended_are_silent}
-use Rattle.sl_session_law.proofs.Staying.{marks_stay}
-use Rattle.sl_session_law.specs.Promises.{IsSession as IsSessionOf}
+use Rattle.sl_id_safety.proofs.State.Beside.{filter_pairs}
+use Rattle.sl_id_safety.proofs.State.Listing.{find_pairs}
+use Rattle.sl_id_safety.proofs.State.Tails.{AreLater, IsLater, all_again, all_still, marked_later}
+use Rattle.sl_law.proofs.LawFacts.{orderly-front}
+use Rattle.sl_law.specs.Lawful.{Orderly}
+use Rattle.sl_trace_law.proofs.Sessions.Freeing.{freed_are_silent}
+use Rattle.sl_trace_law.proofs.Sessions.Owning.{sessions_stay}
+use Rattle.sl_trace_law.proofs.Sessions.Silence.{ended_are_silent}
+use Rattle.sl_trace_law.proofs.Sessions.Staying.{marks_stay}
+use Rattle.sl_trace_law.specs.Sessions.Promises.{IsSession as IsSessionOf}
 use Rattle.sl_sessions.specs.Sessions.{calls_of, ended_after, free_write, is_call_of, is_free_purpose, joined_after}
 use Rattle.sl_sessions.specs.declared.session.Session.{Session}
 use Rattle.sl_trace.specs.Traces.{Setting, Submitted, Trace, mark, new_call, submitted}
@@ -42,7 +42,7 @@ entry_apart e past s apart =
 abbrev pub IsQuiet : Trace → Session → Type 0
 IsQuiet es s = ((k : ℕ) × (ended_after es s ≡ Some k)) ⊎ ((m : Submitted) × (free_write (calls_of es s) ≡ Some m))
 
-no_call : (st : Setting) (e : Entry) (newer es : Trace) (s : Session) (k : ℕ) → Lawful st (e ∷ newer ++ es) → IsSessionOf st es s → joined_after es s ≡ Some k → IsQuiet es s
+no_call : (st : Setting) (e : Entry) (newer es : Trace) (s : Session) (k : ℕ) → Orderly st (e ∷ newer ++ es) → IsSessionOf st es s → joined_after es s ≡ Some k → IsQuiet es s
     → AreLater (calls_of (newer ++ es) s) (calls_of es s) → (j : ℕ) (c : Call) → slice_get e.effects.calls j ≡ Some c → c.session ≡ s.number → ⊥
 no_call st e newer es s k h its joined (inl ended) rest j c at mine =
     ended_are_silent st e (newer ++ es) s h (sessions_stay st (e ∷ newer) es s.number s its) ended.0 (marks_stay.ended newer es s ended.0 ended.1) j c at mine
@@ -52,10 +52,10 @@ no_call st e newer es s k h its joined (inr freed) rest j c at mine =
     freed_are_silent st e (newer ++ es) s h (sessions_stay st (e ∷ newer) es s.number s its) k (marks_stay.joined newer es s k joined) m.0 m.1 j c at mine
 
 -- Then its calls stay, but for answers.
-pub quiet_stays : (st : Setting) (newer es : Trace) (s : Session) (k : ℕ) → Lawful st (newer ++ es) → IsSessionOf st es s → joined_after es s ≡ Some k → IsQuiet es s
+pub quiet_stays : (st : Setting) (newer es : Trace) (s : Session) (k : ℕ) → Orderly st (newer ++ es) → IsSessionOf st es s → joined_after es s ≡ Some k → IsQuiet es s
     → AreLater (calls_of (newer ++ es) s) (calls_of es s)
 quiet_stays st [] es s k h its joined quiet = all_still (calls_of es s)
 quiet_stays st (e ∷ newer) es s k h its joined quiet =
-    let rest = quiet_stays st newer es s k (lawful-front st (e ∷ []) (newer ++ es) h) its joined quiet in
+    let rest = quiet_stays st newer es s k (orderly-front st (e ∷ []) (newer ++ es) h) its joined quiet in
     all_again (calls_of (e ∷ newer ++ es) s) (calls_of (newer ++ es) s) (calls_of es s)
     (entry_apart e (newer ++ es) s (λ j c at. is_false (c.session == s.number) (λ mine. no_call st e newer es s k h its joined quiet rest j c at (eqb-true c.session s.number mine)))) rest

@@ -1,19 +1,19 @@
 -- A record that a session has seen of an id: the sample of a survey shows it.
 use Rattle.sl_area.specs.Layouts.{Layout, record_in}
 use Rattle.sl_area.specs.Places.{sector_of}
-use Rattle.sl_course_law.proofs.Distinct.{each_distinct}
-use Rattle.sl_course_law.specs.Stamping.{AnswersAgree, IsAnsweredAs, IsCourseOf}
+use Rattle.sl_run_law.proofs.Course.Distinct.{each_distinct}
+use Rattle.sl_run_law.specs.Course.Stamping.{AnswersAgree, IsAnsweredAs, IsCourseOf}
 use Rattle.sl_id_safety.specs.Interface.{sightings_of}
-use Rattle.sl_id_state.proofs.Bridge.{known}
-use Rattle.sl_id_state.proofs.Keeping.{own_call}
-use Rattle.sl_id_state.proofs.Proven.{grounds}
-use Rattle.sl_id_state.proofs.Tails.{front_at}
-use Rattle.sl_id_state.specs.IdStates.{content_of, own_courses, said_by}
-use Rattle.sl_landing_law.proofs.Listing.{one_call}
+use Rattle.sl_id_safety.proofs.State.Bridge.{known}
+use Rattle.sl_id_safety.proofs.State.Keeping.{own_call}
+use Rattle.sl_id_safety.proofs.State.Proven.{grounds}
+use Rattle.sl_id_safety.proofs.State.Tails.{front_at}
+use Rattle.sl_id_safety.specs.State.IdStates.{content_of, own_courses, said_by}
+use Rattle.sl_run_law.proofs.Landing.Listing.{one_call}
 use Rattle.sl_law.specs.LawfulDelta.{LawfulDeltaCall, LawfulSurvey}
-use Rattle.sl_place_law.proofs.Finding.{given_by, partner_of}
-use Rattle.sl_place_law.proofs.Proven.{promised}
-use Rattle.sl_place_law.proofs.Reading.{read_of}
+use Rattle.sl_run_law.proofs.Place.Finding.{given_by, partner_of}
+use Rattle.sl_run_law.proofs.Place.Proven.{promised}
+use Rattle.sl_run_law.proofs.Place.Reading.{read_of}
 use Rattle.sl_plain.proofs.Lists.{kept_inside, there_is}
 use Rattle.sl_plain.proofs.Options.{mapped_value, then_value}
 use Rattle.sl_run.specs.Events.{sectors_of}

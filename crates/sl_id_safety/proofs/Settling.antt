@@ -1,15 +1,15 @@
 -- Of a session that is over no write but its free is answered any more.
-use Rattle.sl_course_law.proofs.Mirrored.{machines_mirror}
-use Rattle.sl_course_law.specs.Stamping.{AnswersAgree, IsAnsweredAs, IsCourseOf}
-use Rattle.sl_front_law.proofs.Going.{fronts_are_lawful}
+use Rattle.sl_run_law.proofs.Course.Mirrored.{machines_mirror}
+use Rattle.sl_run_law.specs.Course.Stamping.{AnswersAgree, IsAnsweredAs, IsCourseOf}
+use Rattle.sl_run_law.proofs.Front.Going.{fronts_are_lawful}
 use Rattle.sl_id_safety.proofs.Freed.{freed_answered}
 use Rattle.sl_id_safety.proofs.Silence.{GoesOn, calls_stay, freed_by, goes_on, not_reset, old_stamp, over_cases}
 use Rattle.sl_id_safety.specs.Interface.{OverAreSettled}
-use Rattle.sl_id_state.proofs.Bridge.{IsKnown}
-use Rattle.sl_id_state.proofs.Frames.{flying_of, is_running, open_while}
-use Rattle.sl_id_state.proofs.Tails.{IsLater}
-use Rattle.sl_id_state.specs.IdStates.{own_courses}
-use Rattle.sl_place_law.proofs.Finding.{partner, partner_of}
+use Rattle.sl_id_safety.proofs.State.Bridge.{IsKnown}
+use Rattle.sl_id_safety.proofs.State.Frames.{flying_of, is_running, open_while}
+use Rattle.sl_id_safety.proofs.State.Tails.{IsLater}
+use Rattle.sl_id_safety.specs.State.IdStates.{own_courses}
+use Rattle.sl_run_law.proofs.Place.Finding.{partner, partner_of}
 use Rattle.sl_plain.proofs.Lists.{any_of, kept_inside}
 use Rattle.sl_run.specs.Runs.{Happening}
 use Rattle.sl_run.specs.Safety.{Found, LawfulRun, SessionId, free_landed, has_write_in_flight, is_over, setting_in, trace_of, was_reset, world_at}
@@ -18,7 +18,7 @@ use Rattle.sl_run.specs.declared.header.Header.{Header}
 use Rattle.sl_sessions.specs.Sessions.{calls_of, ended_after, free_write, is_call_of, is_free_purpose}
 use Rattle.sl_trace.specs.Traces.{Answered, Submitted, is_write, submitted}
 use Rattle.sl_trace.specs.declared.effects.Call.{Call}
-use Rattle.sl_watchdog_law.proofs.Joins.{answered_within}
+use Rattle.sl_run_law.proofs.Watchdog.Joins.{answered_within}
 use Rattle.sl_words.proofs.CaseLaws.{none_some, some_value, true_is_false}
 use Rattle.sl_words.specs.Words.{some_is}
 use Rattle.std.proofs.Common.{ap, inl, inr, refl, subst, sym, ◌∙◌}

@@ -1,33 +1,33 @@
 -- What a read shows of an id's sector stood there at a front: it is the newest landing of the id's state at that front.
 use Rattle.sl_area.specs.Places.{sector_of}
-use Rattle.sl_front_law.proofs.Going.{fronts_are_lawful, run_after}
-use Rattle.sl_front_law.proofs.Having.{contains_append, contains_left, contains_right}
+use Rattle.sl_run_law.proofs.Front.Going.{fronts_are_lawful, run_after}
+use Rattle.sl_run_law.proofs.Front.Having.{contains_append, contains_left, contains_right}
 use Rattle.sl_id_safety.proofs.Fronting.{FrontAt, landed_before, landed_since}
 use Rattle.sl_id_safety.proofs.Owning.{newest_stands, numbered_top}
-use Rattle.sl_id_state.proofs.Keeping.{is_place}
-use Rattle.sl_id_state.proofs.SectorFrames.{at_place, first_same, history_grows}
-use Rattle.sl_id_state.specs.IdStates.{id_state, landing_of, said_by}
-use Rattle.sl_id_state.specs.Promises.{IsIdPlace}
-use Rattle.sl_id_steps.proofs.Seqs.{has_number}
-use Rattle.sl_id_world.specs.Reaching.{IdsAreReached}
+use Rattle.sl_id_safety.proofs.State.Keeping.{is_place}
+use Rattle.sl_id_safety.proofs.State.SectorFrames.{at_place, first_same, history_grows}
+use Rattle.sl_id_safety.specs.State.IdStates.{id_state, landing_of, said_by}
+use Rattle.sl_id_safety.specs.State.Promises.{IsIdPlace}
+use Rattle.sl_id_safety.proofs.Steps.Seqs.{has_number}
+use Rattle.sl_id_safety.specs.Reached.Reaching.{IdsAreReached}
 use Rattle.sl_ids.proofs.DerivedLaws.{watchdogs}
 use Rattle.sl_ids.proofs.StateLaws.{one_place}
 use Rattle.sl_ids.proofs.WholeRuns.{reached_kept}
 use Rattle.sl_ids.specs.Guards.{terms_of}
 use Rattle.sl_ids.specs.Listed.{no_landing}
 use Rattle.sl_ids.specs.State.{Content, IsLast, State, shown}
-use Rattle.sl_moment_law.proofs.Following.{kept_past}
-use Rattle.sl_moment_law.specs.Moments.{Of_landing}
-use Rattle.sl_place_law.proofs.Finding.{numbered_inside, place_is}
-use Rattle.sl_place_law.proofs.Reading.{header_is, in_history, layout_is}
+use Rattle.sl_run_law.proofs.Moment.Following.{kept_past}
+use Rattle.sl_run_law.specs.Moment.Moments.{Of_landing}
+use Rattle.sl_run_law.proofs.Place.Finding.{numbered_inside, place_is}
+use Rattle.sl_run_law.proofs.Place.Reading.{header_is, in_history, layout_is}
 use Rattle.sl_plain.proofs.Lists.{contains_cases, contains_first, contains_none, kept, kept_inside}
 use Rattle.sl_run.specs.Runs.{Happening}
 use Rattle.sl_run.specs.Safety.{LawfulRun, world_at}
 use Rattle.sl_run.specs.Worlds.{Course, Landing, Program, Sampling, World, first_landing, history_of, landed_at, world_with}
 use Rattle.sl_run.specs.declared.header.Header.{Header}
 use Rattle.sl_run_law.proofs.Going.{run_goes}
-use Rattle.sl_sample_law.proofs.Numbering.{number_below, number_stays}
-use Rattle.sl_sample_law.specs.Samples.{IsSampleOf, numbered_landing, sector_place}
+use Rattle.sl_run_law.proofs.Sample.Numbering.{number_below, number_stays}
+use Rattle.sl_run_law.specs.Sample.Samples.{IsSampleOf, numbered_landing, sector_place}
 use Rattle.sl_trace.specs.Traces.{same_place}
 use Rattle.std.proofs.Common.{ap, arith, inl, inr, refl, subst, sym, ◌∙◌}
 use Rattle.std.proofs.lemmas.Bool.{cases_lt}

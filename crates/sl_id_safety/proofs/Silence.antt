@@ -1,22 +1,22 @@
 -- A session that is over makes no call any more.
-use Rattle.sl_course_law.proofs.Mirrored.{machines_mirror}
-use Rattle.sl_course_law.proofs.Stamped.{entries_are_stamped}
-use Rattle.sl_course_law.specs.Mirrors.{Mirrors}
-use Rattle.sl_course_law.specs.Stamping.{IsCourseOf, IsStamped, IsStampOf, Pairwise, stamp_in}
-use Rattle.sl_front_law.proofs.Going.{fronts_are_lawful}
-use Rattle.sl_front_law.proofs.Having.{contains_right}
+use Rattle.sl_run_law.proofs.Course.Mirrored.{machines_mirror}
+use Rattle.sl_run_law.proofs.Course.Stamped.{entries_are_stamped}
+use Rattle.sl_run_law.specs.Course.Mirrors.{Mirrors}
+use Rattle.sl_run_law.specs.Course.Stamping.{IsCourseOf, IsStamped, IsStampOf, Pairwise, stamp_in}
+use Rattle.sl_run_law.proofs.Front.Going.{fronts_are_lawful}
+use Rattle.sl_run_law.proofs.Front.Having.{contains_right}
 use Rattle.sl_id_safety.proofs.Quieting.{IsQuiet, quiet_stays}
 use Rattle.sl_id_safety.specs.Interface.{OverAreSilent}
-use Rattle.sl_id_state.proofs.Bridge.{IsKnown, known}
-use Rattle.sl_id_state.proofs.LaterFrames.{FoundLater, found_later, numbered_found}
-use Rattle.sl_id_state.proofs.Proven.{grounds}
-use Rattle.sl_id_state.proofs.Tails.{AreLater, IsLater, all_still}
-use Rattle.sl_id_state.proofs.Timing.{stamp_below}
-use Rattle.sl_id_state.specs.IdStates.{own_courses}
-use Rattle.sl_law.specs.Lawful.{Lawful}
-use Rattle.sl_moment_law.specs.Orders.{Fall}
-use Rattle.sl_place_law.proofs.Finding.{partner}
-use Rattle.sl_place_law.proofs.Looks.{made_below}
+use Rattle.sl_id_safety.proofs.State.Bridge.{IsKnown, known}
+use Rattle.sl_id_safety.proofs.State.LaterFrames.{FoundLater, found_later, numbered_found}
+use Rattle.sl_id_safety.proofs.State.Proven.{grounds}
+use Rattle.sl_id_safety.proofs.State.Tails.{AreLater, IsLater, all_still}
+use Rattle.sl_id_safety.proofs.State.Timing.{stamp_below}
+use Rattle.sl_id_safety.specs.State.IdStates.{own_courses}
+use Rattle.sl_law.specs.Lawful.{Orderly}
+use Rattle.sl_run_law.specs.Moment.Orders.{Fall}
+use Rattle.sl_run_law.proofs.Place.Finding.{partner}
+use Rattle.sl_run_law.proofs.Place.Looks.{made_below}
 use Rattle.sl_plain.proofs.Lists.{contains_cases, contains_more, kept_inside}
 use Rattle.sl_plain.proofs.Numbers.{less_is_other}
 use Rattle.sl_plain.proofs.Options.{some_of}
@@ -26,7 +26,7 @@ use Rattle.sl_run.specs.Worlds.{Daemon, Machine, Program, Stamp, daemon_numbered
 use Rattle.sl_run.specs.declared.header.Header.{Header}
 use Rattle.sl_sessions.specs.Sessions.{calls_of, ended_after, free_write, is_call_of, joined_after}
 use Rattle.sl_trace.specs.Traces.{Submitted, Trace, submitted}
-use Rattle.sl_watchdog_law.proofs.Stamps.{same_length}
+use Rattle.sl_run_law.proofs.Watchdog.Stamps.{same_length}
 use Rattle.sl_words.proofs.CaseLaws.{none_some, one_value, some_value, true_is_false}
 use Rattle.sl_words.specs.Words.{is_empty, some_is}
 use Rattle.std.proofs.Common.{ap, arith, inl, inr, refl, subst, sym, ◌∙◌}
@@ -138,7 +138,7 @@ calls_stay p h now rest run i f g on joined over = by on.running where
   by (inl runs) =
       let k = some_of (joined_after (trace_of f) f.session) joined in
       let quiet = over_is_quiet i f (machines_mirror p h now (fronts_are_lawful p h now rest run) i.machine f.machine on.before.there.at) runs over in
-      let lawful : Lawful (setting_in f) (on.newer ++ trace_of f) = subst (λ st. Lawful st (on.newer ++ trace_of f)) on.setting (subst (λ es. Lawful (setting_in g) es) on.trace on.after.lawful) in
+      let lawful : Orderly (setting_in f) (on.newer ++ trace_of f) = subst (λ st. Orderly st (on.newer ++ trace_of f)) on.setting (subst (λ es. Orderly (setting_in g) es) on.trace on.after.lawful) in
       subst (λ ms. AreLater ms (calls_of (trace_of f) f.session)) (ap (λ es. calls_of es f.session) (sym on.trace) ∙ ap (λ s. calls_of (trace_of g) s) (sym on.session))
       (quiet_stays (setting_in f) on.newer (trace_of f) f.session k.0 lawful on.before.its k.1 quiet)
 

@@ -1,7 +1,7 @@
 -- Silence means over: the record of a run stood in its sector at the first sample and at the last, longer apart than its writer may act.
 use Rattle.sl_area.specs.Places.{delta_offset}
 use Rattle.sl_clocks.proofs.ClockLaws.{read_on}
-use Rattle.sl_front_law.proofs.Going.{fronts_are_lawful}
+use Rattle.sl_run_law.proofs.Front.Going.{fronts_are_lawful}
 use Rattle.sl_id_safety.proofs.Acting.{StandsIn}
 use Rattle.sl_id_safety.proofs.Evident.{append_twice, from_front, id_range, looks_at, place_seen}
 use Rattle.sl_id_safety.proofs.Fronting.{FrontAt, front_at, front_is_after, front_is_before}
@@ -10,27 +10,27 @@ use Rattle.sl_id_safety.proofs.Showing.{ShowsLast, shown_after, shown_at}
 use Rattle.sl_id_safety.proofs.Standing.{joined_stand}
 use Rattle.sl_id_safety.proofs.Standstill.{run_ends}
 use Rattle.sl_id_safety.specs.Interface.{SilenceMeansOver, sightings_of}
-use Rattle.sl_id_state.proofs.Bridge.{is_there, known}
-use Rattle.sl_id_state.proofs.Proven.{grounds}
-use Rattle.sl_id_state.specs.IdStates.{content_of, id_state, kind_of}
-use Rattle.sl_id_state.specs.Promises.{IsIdPlace}
-use Rattle.sl_id_world.specs.Reaching.{IdsAreReached, IdsGoOn}
+use Rattle.sl_id_safety.proofs.State.Bridge.{is_there, known}
+use Rattle.sl_id_safety.proofs.State.Proven.{grounds}
+use Rattle.sl_id_safety.specs.State.IdStates.{content_of, id_state, kind_of}
+use Rattle.sl_id_safety.specs.State.Promises.{IsIdPlace}
+use Rattle.sl_id_safety.specs.Reached.Reaching.{IdsAreReached, IdsGoOn}
 use Rattle.sl_ids.specs.Guards.{terms_of}
 use Rattle.sl_ids.specs.Interface.{Evidence, Silent}
 use Rattle.sl_ids.specs.State.{Content}
-use Rattle.sl_moment_law.proofs.Following.{drift_between, kept_past}
-use Rattle.sl_moment_law.proofs.Stamps.{answer_is_stamp, made_is_stamp}
-use Rattle.sl_moment_law.proofs.Waiting.{silences_long}
-use Rattle.sl_moment_law.specs.Moments.{IsKept, Of_sample, point_of, stamps_on}
-use Rattle.sl_moment_law.specs.Waits.{reading_at}
-use Rattle.sl_place_law.proofs.Reading.{header_is}
+use Rattle.sl_run_law.proofs.Moment.Following.{drift_between, kept_past}
+use Rattle.sl_run_law.proofs.Moment.Stamps.{answer_is_stamp, made_is_stamp}
+use Rattle.sl_run_law.proofs.Moment.Waiting.{silences_long}
+use Rattle.sl_run_law.specs.Moment.Moments.{IsKept, Of_sample, point_of, stamps_on}
+use Rattle.sl_run_law.specs.Moment.Waits.{reading_at}
+use Rattle.sl_run_law.proofs.Place.Reading.{header_is}
 use Rattle.sl_plain.proofs.Lists.{got_inside}
 use Rattle.sl_run.specs.Runs.{Happening}
 use Rattle.sl_run.specs.Safety.{Found, IsSession, LawfulRun, SessionId, setting_in, world_at}
 use Rattle.sl_run.specs.Worlds.{Course, Machine, Program, Sampling, Stamp, World, machine_at}
 use Rattle.sl_run.specs.declared.header.Header.{Header}
-use Rattle.sl_sample_law.proofs.Proven.{samples_are_landings}
-use Rattle.sl_sample_law.specs.Samples.{IsSampleOf, sector_place}
+use Rattle.sl_run_law.proofs.Sample.Proven.{samples_are_landings}
+use Rattle.sl_run_law.specs.Sample.Samples.{IsSampleOf, sector_place}
 use Rattle.sl_sector.specs.declared.sector.DeltaRec.{DeltaRec}
 use Rattle.sl_sector.specs.declared.sector.DeltaState.TheVariants.{Claimed, Free, Live}
 use Rattle.sl_sector.specs.declared.sector.DeltaState.{DeltaState}

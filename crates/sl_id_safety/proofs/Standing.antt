@@ -1,34 +1,34 @@
 -- A joined session has begun, has verified and stands at the place of an id.
 use Rattle.sl_area.specs.Layouts.{Layout}
 use Rattle.sl_area.specs.Places.{delta_offset}
-use Rattle.sl_course_law.specs.Stamping.{IsCourseOf}
+use Rattle.sl_run_law.specs.Course.Stamping.{IsCourseOf}
 use Rattle.sl_id_safety.specs.Standing.{JoinedStand, SameIdsStandTogether, StandingTogetherIsSameId, sector_offset}
-use Rattle.sl_id_state.proofs.Bridge.{IsKnown, known}
-use Rattle.sl_id_state.proofs.Claiming.{record_is}
-use Rattle.sl_id_state.proofs.Keeping.{IsLawfulCall, is_place, lawful_call, own_call, step_law}
-use Rattle.sl_id_state.proofs.Listing.{every_pair, find_none}
-use Rattle.sl_id_state.proofs.Living.{begun_if_joined, has_name, is_joining, joined_not}
-use Rattle.sl_id_state.proofs.Proven.{claims_have_decided, grounds, renewals_have_verified, verify_reads_have_claimed}
-use Rattle.sl_id_state.proofs.Renewing.{all_given_by, given_joined, given_none, given_undecided, not_at, same_record}
-use Rattle.sl_id_state.proofs.Rising.{last_inside, last_none}
-use Rattle.sl_id_state.proofs.Sectors.{one_sector}
-use Rattle.sl_id_state.proofs.Starts.{standing_where}
-use Rattle.sl_id_state.proofs.Steps.{ranks_of}
-use Rattle.sl_id_state.proofs.Tails.{AreMade, IsMadeAfter, all_made, front_at}
-use Rattle.sl_id_state.specs.IdStates.{blank, claim_bytes, deciding_sample, generation_by, has_begun, is_sector_of, join_course, name_of, own_courses, sample_showing, session_at, standing_by, standing_of, verifying_sample, watched_bytes}
-use Rattle.sl_id_state.specs.Promises.{IsIdPlace}
-use Rattle.sl_id_steps.proofs.Alive.{joins_at as joins, not_claim}
+use Rattle.sl_id_safety.proofs.State.Bridge.{IsKnown, known}
+use Rattle.sl_id_safety.proofs.State.Claiming.{record_is}
+use Rattle.sl_id_safety.proofs.State.Keeping.{IsLawfulCall, is_place, lawful_call, own_call, step_law}
+use Rattle.sl_id_safety.proofs.State.Listing.{every_pair, find_none}
+use Rattle.sl_id_safety.proofs.State.Living.{begun_if_joined, has_name, is_joining, joined_not}
+use Rattle.sl_id_safety.proofs.State.Proven.{claims_have_decided, grounds, renewals_have_verified, verify_reads_have_claimed}
+use Rattle.sl_id_safety.proofs.State.Renewing.{all_given_by, given_joined, given_none, given_undecided, not_at, same_record}
+use Rattle.sl_id_safety.proofs.State.Rising.{last_inside, last_none}
+use Rattle.sl_id_safety.proofs.State.Sectors.{sectors_apart}
+use Rattle.sl_id_safety.proofs.State.Starts.{standing_where}
+use Rattle.sl_id_safety.proofs.State.Steps.{ranks_of}
+use Rattle.sl_id_safety.proofs.State.Tails.{AreMade, IsMadeAfter, all_made, front_at}
+use Rattle.sl_id_safety.specs.State.IdStates.{blank, claim_bytes, deciding_sample, generation_by, has_begun, is_sector_of, join_course, name_of, own_courses, sample_showing, session_at, standing_by, standing_of, verifying_sample, watched_bytes}
+use Rattle.sl_id_safety.specs.State.Promises.{IsIdPlace}
+use Rattle.sl_id_safety.proofs.Steps.Alive.{joins_at as joins, not_claim}
 use Rattle.sl_ids.specs.State.{Session as IdSession}
-use Rattle.sl_law.specs.Lawful.{Lawful}
+use Rattle.sl_law.specs.Lawful.{Orderly}
 use Rattle.sl_law.specs.LawfulDelta.{LawfulJoin}
 use Rattle.sl_law.specs.Saying.{cut_at}
-use Rattle.sl_place_law.proofs.Areas.{IsSized, lockspace_aligned}
-use Rattle.sl_place_law.proofs.Finding.{partner_of, place_is}
-use Rattle.sl_place_law.proofs.Homing.{at_home}
-use Rattle.sl_place_law.proofs.Looks.{Look, delta_is_own, joins_at}
-use Rattle.sl_place_law.proofs.Proven.{promised}
-use Rattle.sl_place_law.proofs.Reading.{layout_is}
-use Rattle.sl_place_law.proofs.Seats.{IsSeated, given_seated, look_seated, sized_in}
+use Rattle.sl_run_law.proofs.Place.Areas.{lockspace_aligned}
+use Rattle.sl_run_law.proofs.Place.Finding.{partner_of, place_is}
+use Rattle.sl_run_law.proofs.Place.Homing.{at_home}
+use Rattle.sl_run_law.proofs.Place.Looks.{Look, delta_is_own, joins_at}
+use Rattle.sl_run_law.proofs.Place.Proven.{promised}
+use Rattle.sl_run_law.proofs.Place.Reading.{layout_is}
+use Rattle.sl_run_law.proofs.Place.Seats.{IsSeated, given_seated, look_seated, sized_in}
 use Rattle.sl_plain.proofs.Lists.{contains_cases, contains_first, contains_more, contains_none, find_inside, got_inside, kept_inside}
 use Rattle.sl_plain.proofs.Options.{some_of, then_value}
 use Rattle.sl_run.specs.Runs.{Happening}
@@ -39,8 +39,8 @@ use Rattle.sl_run_law.specs.Fates.{Every}
 use Rattle.sl_sector.specs.declared.sector.DeltaRec.{DeltaRec}
 use Rattle.sl_sector.specs.declared.sector.Rec.TheVariants.{DeltaIs}
 use Rattle.sl_sector.specs.declared.sector.Rec.{Rec}
-use Rattle.sl_session_law.proofs.Owning.{session_more}
-use Rattle.sl_session_law.specs.Promises.{IsSession as IsSessionOf}
+use Rattle.sl_trace_law.proofs.Sessions.Owning.{session_more}
+use Rattle.sl_trace_law.specs.Sessions.Promises.{IsSession as IsSessionOf}
 use Rattle.sl_sessions.specs.Sessions.{calls_of, delta_of_record, delta_written, given_number, is_call_of, is_join_call, is_join_done, joined_after, last_delta, session_numbered, sessions}
 use Rattle.sl_sessions.specs.declared.session.Session.{Session}
 use Rattle.sl_trace.specs.Traces.{Setting, Submitted, Trace, new_call, record_of, reply_to, submitted}
@@ -248,11 +248,6 @@ same_ids_stand_together w f g same =
     let at = place_is f.session.path f.session.offset g.session.path g.session.offset same.0 in
     (at.0, ap (λ n. delta_offset w.layout n f.session.id) at.1 ∙ ap (λ n. delta_offset w.layout g.session.offset n) same.1)
 
-sectors_apart : (g : Layout) (a b i k : ℕ) → IsSized g → a % 1048576 ≡ 0 → b % 1048576 ≡ 0 → 1 ≤ i → i ≤ g.hosts → 1 ≤ k → k ≤ g.hosts → delta_offset g a i ≡ delta_offset g b k
-    → (a ≡ b) × (i ≡ k)
-sectors_apart g a b i k z p q low high low' high' same =
-    one_sector a b i k p q low (omega (arith, high, z.hosts.1)) low' (omega (arith, high', z.hosts.1)) (subst (λ n. a + n * (i - 1) ≡ b + n * (k - 1)) z.sector same)
-
 pub standing_together_is_same_id : StandingTogetherIsSameId
 standing_together_is_same_id p h xs run i k f g its also joined joins path offset =
     let w : World = world_at p h xs in
@@ -261,6 +256,6 @@ standing_together_is_same_id p h xs run i k f g its also joined joins path offse
     let s = seated_by p h xs run i f its one.0 one.1 f.session.job refl in
     let t = seated_by p h xs run k g also two.0 two.1 g.session.job refl in
     let apart = sectors_apart w.layout f.session.offset g.session.offset f.session.id g.session.id (sized_in p h xs run)
-    (ap (λ n. n % 1048576) s.offset ∙ lockspace_aligned h s.line run.header s.there) (ap (λ n. n % 1048576) t.offset ∙ lockspace_aligned h t.line run.header t.there)
+    (ap (λ n. n % h.geometry.area) s.offset ∙ lockspace_aligned h s.line run.header s.there) (ap (λ n. n % h.geometry.area) t.offset ∙ lockspace_aligned h t.line run.header t.there)
     s.id.0 s.id.1 t.id.0 t.id.1 offset in
     (is_place f.session.path f.session.offset g.session.path g.session.offset path apart.0, apart.1)

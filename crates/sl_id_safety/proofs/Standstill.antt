@@ -1,6 +1,6 @@
 -- A run of sightings: its first and its last spell the same record, and its times are theirs.
 use Rattle.sl_area.specs.Layouts.{Layout, record_in}
-use Rattle.sl_place_law.proofs.Finding.{same_text}
+use Rattle.sl_run_law.proofs.Place.Finding.{same_text}
 use Rattle.sl_plain.proofs.Lists.{contains_first, contains_more}
 use Rattle.sl_plain.proofs.Options.{mapped_value}
 use Rattle.sl_sector.specs.Spelling.{delta_in}

@@ -1,7 +1,7 @@
 -- What the argument over ballots may use of the ids of a lawful run, in words of its worlds.
-use Rattle.sl_id_state.specs.IdStates.{own_courses}
+use Rattle.sl_id_safety.specs.State.IdStates.{own_courses}
 use Rattle.sl_run.specs.Runs.{Happening}
-use Rattle.sl_run.specs.Safety.{DeltaInvariant, EvidenceIsTrue, Found, GenerationsRise, HasJoined, IsSession, LawfulRun, OneForEachId, OwnSectorStands, ReadsNoOther, SameId, SessionId, found_generation, is_over, same_lockspace, setting_in, trace_of, world_at}
+use Rattle.sl_run.specs.Safety.{DeltaInvariant, EvidenceIsTrue, Found, GenerationsRise, HasJoined, IsSession, LawfulRun, OneForEachId, OwnSectorIsAlone, OwnSectorStands, ReadsNoOther, SameId, SessionId, found_generation, is_over, same_lockspace, setting_in, trace_of, world_at}
 use Rattle.sl_run.specs.Worlds.{Course, Program, Stamp, World, is_write_course}
 use Rattle.sl_run.specs.declared.header.Header.{Header}
 use Rattle.sl_sessions.specs.Sessions.{calls_of, is_free_purpose}
@@ -55,6 +55,10 @@ JoinersFindOver =
     OfEachGoing (λ p h now xs. (i k : SessionId) (f later g : Found) → IsSession (world_at p h now) i f → HasJoined f → IsSession (world_at p h xs) i later
     → IsSession (world_at p h xs) k g → HasJoined g → ((before : Found) → IsSession (world_at p h now) k before → HasJoined before → ⊥) → SameId f g
     → is_over i later ≡ true)
+
+-- What lands in a joined session's sector until it is over is of its own writes, but what came before its claim.
+abbrev pub SectorsAreAlone : Type 0
+SectorsAreAlone = OfEachRun (λ p h xs. OwnSectorIsAlone (world_at p h xs))
 
 -- A joined session's sector holds a record of its own, or torn bytes, until it is over.
 abbrev pub SectorsStand : Type 0

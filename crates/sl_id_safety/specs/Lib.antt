@@ -1,2 +1,5 @@
 pub mod Standing
 pub mod Interface
+pub mod State
+pub mod Steps
+pub mod Reached

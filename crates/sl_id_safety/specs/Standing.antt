@@ -1,7 +1,7 @@
 -- Where a joined session stands with its id: at the place of an id of the header, joined and verified, with what the world says of it.
 use Rattle.sl_area.specs.Places.{delta_offset}
-use Rattle.sl_id_state.specs.IdStates.{name_of, session_at, standing_of}
-use Rattle.sl_id_state.specs.Promises.{IsIdPlace}
+use Rattle.sl_id_safety.specs.State.IdStates.{name_of, session_at, standing_of}
+use Rattle.sl_id_safety.specs.State.Promises.{IsIdPlace}
 use Rattle.sl_run.specs.Runs.{Happening}
 use Rattle.sl_run.specs.Safety.{Found, HasJoined, IsSession, LawfulRun, SameId, SessionId, found_generation, is_over, world_at}
 use Rattle.sl_run.specs.Worlds.{Program, World}

@@ -1,6 +1,10 @@
 //! What a lawful run promises of the sessions of each id.
 
-ghost use Rattle.sl_id_safety.specs.Interface.{EvidenceMeansOver, EvidencesAreTrue, GenerationsNameOne, IdsAreSafe, JoinedReadNoOther, JoinedStays, JoinersFindOver, JoinersRise, LockspacesAreAreas, OneActsForEachId, OverAreSettled, OverAreSilent, OverStays, SectorsStand};
+pub mod reached;
+pub mod state;
+pub mod steps;
+
+ghost use Rattle.sl_id_safety.specs.Interface.{EvidenceMeansOver, EvidencesAreTrue, GenerationsNameOne, IdsAreSafe, JoinedReadNoOther, JoinedStays, JoinersFindOver, JoinersRise, LockspacesAreAreas, OneActsForEachId, OverAreSettled, OverAreSilent, OverStays, SectorsAreAlone, SectorsStand};
 ghost use Rattle.sl_id_safety.specs.Standing.{JoinedStand, SameIdsStandTogether, StandingTogetherIsSameId};
 
 /// A joined session stands with its id as the world has it.
@@ -61,6 +65,11 @@ pub fn over_stays()
 /// Where a session has joined, each of its id that had joined before is over.
 pub fn joiners_find_over()
     ensures { JoinersFindOver }
+{}
+
+/// What lands in a joined session's sector until it is over is of its own writes, but what came before its claim.
+pub fn sectors_are_alone()
+    ensures { SectorsAreAlone }
 {}
 
 /// A joined session's sector holds a record of its own, or torn bytes, until it is over.

@@ -4,7 +4,7 @@ use Rattle.std.proofs.Common.{ap, arith, inl, inr, refl, subst, sym, ◌∙◌}
 use Rattle.std.proofs.lemmas.List.{length-append}
 use Rattle.std.proofs.lemmas.Option.{get_or_from_slice_get, slice_get_within}
 use Rattle.std.specs.List.{list_any, slice_set}
-use Rattle.std.specs.Prelude.{Bool, Contains, List, None, Option, Some, [], cond, drop, false, filter, find, length, map, slice_get, slice_index_or, suc, true, zero, ℕ, ◌++◌, ◌&&◌, ◌+◌, ◌<◌, ◌||◌, ◌∷◌, ◌≡◌, ◌≤◌, ◌⊎◌}
+use Rattle.std.specs.Prelude.{Bool, Contains, List, None, Some, [], cond, drop, false, filter, find, length, map, slice_get, slice_index_or, suc, true, zero, ℕ, ◌++◌, ◌&&◌, ◌<◌, ◌||◌, ◌∷◌, ◌≡◌, ◌≤◌, ◌⊎◌}
 
 -- ---- what is in it
 

@@ -1,9 +1,9 @@
 -- An answer once given stays.
 use Rattle.sl_plain.proofs.Options.{none_is}
-use Rattle.sl_run.specs.Events.{change_call, fated, first_change, happens, input_at, input_of, machine_of, next_step, ok_input, sampled_more, sectors_left, take_step, take_steps, done_input, rest_sampled}
+use Rattle.sl_run.specs.Events.{change_call, fated, first_change, happens, if_running, input_at, input_of, machine_of, next_step, ok_input, sampled_more, sectors_left, take_step, take_steps, done_input, rest_sampled}
 use Rattle.sl_run.specs.Runs.{Happening, world_after}
 use Rattle.sl_run.specs.Worlds.{Course, Dropped, Landed, Machine, Stamp, Torn, World, flight_of, is_open, is_of_running, machine_at, may_land, stamp_now}
-use Rattle.sl_run.specs.declared.event.Event.TheVariants.{AnswerCall, Crash, Do, DropWrite, ExitOf, GiveCommand, Land, Pass, Reset, Restart, Sample, SpawnedOf, StartDaemon, Tear, Test, WakeUp}
+use Rattle.sl_run.specs.declared.event.Event.TheVariants.{AnswerCall, Crash, Do, DropWrite, ExitOf, GiveAsk, GiveCommand, GiveLvm, Land, Pass, Reset, Restart, Sample, SpawnedOf, StartDaemon, Tear, Test, WakeUp}
 use Rattle.sl_run.specs.declared.event.Event.{Event}
 use Rattle.sl_run_law.proofs.Coursing.{calls_still, changed_if, every_of, follow_still}
 use Rattle.sl_run_law.proofs.Fates.{every_map, found, numbered}
@@ -18,7 +18,7 @@ use Rattle.sl_trace.specs.declared.effects.Effects.{Effects}
 use Rattle.sl_trace.specs.declared.effects.Op.TheVariants.{ReadSectors, WriteRecord}
 use Rattle.sl_trace.specs.declared.effects.Op.{Op}
 use Rattle.sl_trace.specs.declared.input.Answer.TheVariants.{Failed, Read, Written}
-use Rattle.sl_trace.specs.declared.input.Input.TheVariants.{Answer as Told, Exit, Line, Spawned, Wake}
+use Rattle.sl_trace.specs.declared.input.Input.TheVariants.{Answer as Told, Exit, Line, Number, Spawned, Wake}
 use Rattle.sl_trace.specs.declared.input.Input.{Input}
 use Rattle.sl_words.proofs.CaseLaws.{none_some, some_value}
 use Rattle.sl_words.proofs.WordLaws.{and_true, choose_some}
@@ -65,6 +65,11 @@ by_flight a c n g i (Some f) is h t same d =
 not_told : (b : Bool) (j i : Input) (n : ℕ) → choose b j ≡ Some i → IsTold i n → IsTold j n
 not_told b j i n h t = subst (λ x. IsTold x n) (sym (choose_some b j i h).1) t
 
+-- An ask is a line, so it answers no call.
+asks_untold : (a : Machine) (due : Option (List ℕ)) (i : Input) (n : ℕ) → option_and_then (λ text. if_running a (Line text)) due ≡ Some i → IsTold i n → ⊥
+asks_untold a None i n h t = none_some i h
+asks_untold a (Some text) i n h t = not_told (is_some a.daemon) (Line text) i n h t
+
 ready_at : (e : Event) (w : World) (a : Machine) (i : Input) (n : ℕ) → input_at w e a ≡ Some i → IsTold i n → AreDistinct a.calls → NoneAnswered n a.calls
 ready_at (AnswerCall m c ok) w a i n h t d =
     by_flight a c n (λ f. elim ok as (λ y. Input) [ true ↦ ok_input f | false ↦ Told c Failed ]) i (flight_of a c) refl h t
@@ -73,7 +78,9 @@ ready_at (Do m c) w a i n h t d =
     by_flight a c n (done_input w) i (flight_of a c) refl h t
     (λ f is told. sym (flight_waits a c f is).0 ∙ told_op f.call.op f.call.number n (rest_sampled w f (sectors_left f)) told) d
 ready_at (WakeUp m) w a i n h t d = absurd (not_told (is_some a.daemon) Wake i n h t)
+ready_at (GiveAsk m) w a i n h t d = absurd (asks_untold a a.locks.due i n h t)
 ready_at (GiveCommand m text) w a i n h t d = absurd (not_told (is_some a.daemon) (Line text) i n h t)
+ready_at (GiveLvm m text) w a i n h t d = absurd (not_told (is_some a.daemon) (Number text) i n h t)
 ready_at (ExitOf m p) w a i n h t d = absurd (not_told (is_some a.daemon) (Exit p) i n h t)
 ready_at (SpawnedOf m p ok) w a i n h t d = absurd (not_told (is_some a.daemon) (Spawned p ok) i n h t)
 ready_at (Pass x g) w a i n h t d = absurd (none_some i h)

@@ -12,7 +12,7 @@ use Rattle.sl_run_law.specs.Clocks.{Drifts, IsCounted}
 use Rattle.sl_run_law.specs.Going.{time_of, time_of_run}
 use Rattle.sl_run_law.specs.Machines.{EachMachine}
 use Rattle.sl_trace.specs.declared.effects.Effects.{Effects}
-use Rattle.sl_trace.specs.declared.input.Input.TheVariants.{Answer as Told, Exit, Line, Spawned, Wake}
+use Rattle.sl_trace.specs.declared.input.Input.TheVariants.{Answer as Told, Exit, Line, Number, Spawned, Wake}
 use Rattle.sl_trace.specs.declared.input.Input.{Input}
 use Rattle.sl_words.proofs.WordLaws.{and_true}
 use Rattle.std.proofs.Common.{ap, arith, refl, subst, sym, ◌∙◌}
@@ -123,6 +123,7 @@ same_further m a b c g h = h ∙ g
 
 step_clock : (now : Stamp) (i : Input) (fx : Effects) (a : Machine) → (after_step now i fx a).clock ≡ a.clock
 step_clock now (Line text) fx a = refl
+step_clock now (Number text) fx a = refl
 step_clock now (Told n answer) fx a = refl
 step_clock now Wake fx a = refl
 step_clock now (Exit p) fx a = refl

@@ -4,7 +4,7 @@ use Rattle.sl_plain.proofs.Numbers.{plus_zero}
 use Rattle.sl_run.specs.Events.{add_landing, after_crash, after_effects, after_pass, after_reset, after_restart, after_start, after_step, after_test, change_call, complete, fated, first_change, flight_at, happens, land_whole, next_input, next_step, passed, sampled_more, sectors_left, take_step, take_steps, torn_bytes, write_bytes, machine_of}
 use Rattle.sl_run.specs.Runs.{Happening, world_after}
 use Rattle.sl_run.specs.Worlds.{Course, Dropped, Landed, Machine, Torn, World, change_machine, is_in_flight, is_write_course, machine_at, stamp_now}
-use Rattle.sl_run.specs.declared.event.Event.TheVariants.{AnswerCall, Crash, Do, DropWrite, ExitOf, GiveCommand, Land, Pass, Reset, Restart, Sample, SpawnedOf, StartDaemon, Tear, Test, WakeUp}
+use Rattle.sl_run.specs.declared.event.Event.TheVariants.{AnswerCall, Crash, Do, DropWrite, ExitOf, GiveAsk, GiveCommand, GiveLvm, Land, Pass, Reset, Restart, Sample, SpawnedOf, StartDaemon, Tear, Test, WakeUp}
 use Rattle.sl_run.specs.declared.event.Event.{Event}
 use Rattle.sl_run_law.specs.Going.{Goes, Grown, steps_of_run, time_of, time_of_run}
 use Rattle.sl_trace.specs.declared.effects.Call.{Call}
@@ -165,7 +165,9 @@ pub first_goes : (e : Event) (w : World) → Goes (time_of e) 0 w (first_change 
 unfolding first_change
 first_goes (Pass d growths) w = time_passes d growths w
 first_goes (WakeUp m) w = stays w
+first_goes (GiveAsk m) w = stays w
 first_goes (GiveCommand m text) w = stays w
+first_goes (GiveLvm m text) w = stays w
 first_goes (Sample m c k) w = changed m (change_call c (sampled_more w k)) w
 first_goes (Land m c) w = lands m c w
 first_goes (Tear m c k bytes) w = torn_by m c k bytes w (flight_at w m c)

@@ -12,7 +12,7 @@ use Rattle.sl_run_law.specs.Daemons.{DaemonGoes, Hosts, HostsIfSettled, IsSettle
 use Rattle.sl_run_law.specs.Machines.{EachMachine}
 use Rattle.sl_trace.specs.declared.effects.Effects.{Effects}
 use Rattle.sl_trace.specs.declared.effects.Entry.{Entry}
-use Rattle.sl_trace.specs.declared.input.Input.TheVariants.{Answer as Told, Exit, Line, Spawned, Wake}
+use Rattle.sl_trace.specs.declared.input.Input.TheVariants.{Answer as Told, Exit, Line, Number, Spawned, Wake}
 use Rattle.sl_trace.specs.declared.input.Input.{Input}
 use Rattle.sl_words.proofs.CaseLaws.{not_both, true_is_false}
 use Rattle.std.proofs.Common.{ap, refl, subst, sym, ◌∙◌}
@@ -85,6 +85,7 @@ entry_of i fx a = record { reading = reading_now a; input = i; effects = fx }
 
 steps_host : (now : Stamp) (i : Input) (fx : Effects) (a : Machine) → IsSettled a → Hosts a (after_step now i fx a)
 steps_host now (Line text) fx a s = entered (entry_of (Line text) fx a) now a (after_step now (Line text) fx a) refl refl refl refl s
+steps_host now (Number text) fx a s = entered (entry_of (Number text) fx a) now a (after_step now (Number text) fx a) refl refl refl refl s
 steps_host now (Told n answer) fx a s = entered (entry_of (Told n answer) fx a) now a (after_step now (Told n answer) fx a) refl refl refl refl s
 steps_host now Wake fx a s = entered (entry_of Wake fx a) now a (after_step now Wake fx a) refl refl refl refl s
 steps_host now (Exit p) fx a s = entered (entry_of (Exit p) fx a) now a (after_step now (Exit p) fx a) refl refl refl refl s

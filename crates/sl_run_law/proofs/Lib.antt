@@ -8,3 +8,10 @@ pub mod Clocks
 pub mod Fates
 pub mod Answered
 pub mod Beginnings
+pub mod Front
+pub mod Course
+pub mod Moment
+pub mod Watchdog
+pub mod Landing
+pub mod Sample
+pub mod Place

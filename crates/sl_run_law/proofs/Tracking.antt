@@ -12,7 +12,7 @@ use Rattle.sl_run_law.specs.Going.{Grown}
 use Rattle.sl_run_law.specs.Machines.{EachMachine}
 use Rattle.sl_trace.specs.Traces.{is_ok_answer}
 use Rattle.sl_trace.specs.declared.effects.Effects.{Effects}
-use Rattle.sl_trace.specs.declared.input.Input.TheVariants.{Answer as Told, Exit, Line, Spawned, Wake}
+use Rattle.sl_trace.specs.declared.input.Input.TheVariants.{Answer as Told, Exit, Line, Number, Spawned, Wake}
 use Rattle.sl_trace.specs.declared.input.Input.{Input}
 use Rattle.std.proofs.Common.{refl}
 use Rattle.std.specs.Prelude.{Bool, List, None, Option, Some, true, [], ℕ, ◌++◌, ◌==◌, ◌∷◌, ◌≡◌}
@@ -57,6 +57,7 @@ IsTold i n = elim i [ Told number answer ↦ number ≡ n | _ ↦ ⊥ ]
 tracks_closed : (C : Course → Course → Type 0) (now : Stamp) (i : Input) (a : Machine) → StillCourse C
     → ((n : ℕ) (ok : Bool) → IsTold i n → Every (λ c. (c.call.number == n) ≡ true → C c (told now ok c)) a.calls) → Tracks C a (close_answered now i a)
 tracks_closed C now (Line text) a still h = tracks_still C a still
+tracks_closed C now (Number text) a still h = tracks_still C a still
 tracks_closed C now (Told n answer) a still h = tracks_changed C n (told now (is_ok_answer answer)) a still (h n (is_ok_answer answer) refl)
 tracks_closed C now Wake a still h = tracks_still C a still
 tracks_closed C now (Exit p) a still h = tracks_still C a still

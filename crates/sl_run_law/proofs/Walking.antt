@@ -2,7 +2,7 @@
 use Rattle.sl_plain.proofs.Options.{else_some}
 use Rattle.sl_run.specs.Events.{add_landing, after_crash, after_effects, after_pass, after_reset, after_restart, after_start, after_step, after_test, change_call, fated, first_change, flight_at, land_whole, passed, sampled_more, sectors_left, take_step, torn_bytes, write_bytes}
 use Rattle.sl_run.specs.Worlds.{Course, Dropped, Landed, Machine, Torn, World, change_machine, flight_of, is_in_flight, is_write_course, machine_at, stamp_now}
-use Rattle.sl_run.specs.declared.event.Event.TheVariants.{AnswerCall, Crash, Do, DropWrite, ExitOf, GiveCommand, Land, Pass, Reset, Restart, Sample, SpawnedOf, StartDaemon, Tear, Test, WakeUp}
+use Rattle.sl_run.specs.declared.event.Event.TheVariants.{AnswerCall, Crash, Do, DropWrite, ExitOf, GiveAsk, GiveCommand, GiveLvm, Land, Pass, Reset, Restart, Sample, SpawnedOf, StartDaemon, Tear, Test, WakeUp}
 use Rattle.sl_run.specs.declared.event.Event.{Event}
 use Rattle.sl_run_law.specs.Going.{time_of}
 use Rattle.sl_run_law.specs.Machines.{EachMachine}
@@ -226,7 +226,9 @@ pub each_first : (S : ℕ → Machine → Machine → Type 0) (e : Event) (w : W
 unfolding first_change
 each_first S (Pass d growths) w still q = each_passed S d growths w (q.pass d growths refl)
 each_first S (WakeUp m) w still q = each_still S w (still refl)
+each_first S (GiveAsk m) w still q = each_still S w (still refl)
 each_first S (GiveCommand m text) w still q = each_still S w (still refl)
+each_first S (GiveLvm m text) w still q = each_still S w (still refl)
 each_first S (Sample m c k) w still q = each_changed S (change_call c (sampled_more w k)) w m (still refl) (q.sample m c k refl)
 each_first S (Land m c) w still q =
     whole_by S w m c (flight_at w m c) refl (still refl) (λ a f h k. q.land m c refl a f h (flight_is w m c a f h k) refl)

@@ -1,5 +1,13 @@
 //! What stays and what only grows in a world.
 
+pub mod course;
+pub mod front;
+pub mod landing;
+pub mod moment;
+pub mod place;
+pub mod sample;
+pub mod watchdog;
+
 ghost use Rattle.sl_run_law.specs.Answered.{AnswersStay, AnswersStayInRuns};
 ghost use Rattle.sl_run_law.specs.Beginnings.{BeginsCounted, BeginsNew};
 ghost use Rattle.sl_run_law.specs.Clocks.{ClocksDrift, ClocksDriftInRuns};

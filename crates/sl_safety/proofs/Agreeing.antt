@@ -3,20 +3,20 @@
 -- Who ended a ballot on an area has written a block there, so it has joined for the resource there; and what ended in its trace has ended in
 -- the resource's history, where the ballots of an instance agree.
 use Rattle.sl_area.specs.Places.{is_base}
-use Rattle.sl_ballot_history.proofs.EndedAll.{ended_ballots_end}
-use Rattle.sl_ballot_history.proofs.EndedJoined.{enders_are_joined}
-use Rattle.sl_ballot_history.specs.Endings.{holder_as}
+use Rattle.sl_safety.proofs.Ballot.EndedAll.{ended_ballots_end}
+use Rattle.sl_safety.proofs.Ballot.EndedJoined.{enders_are_joined}
+use Rattle.sl_safety.specs.Ballot.Endings.{holder_as}
 use Rattle.sl_ballots.proofs.AgreementLaws.{agreement, one_winner}
 use Rattle.sl_ballots.specs.Ballots.{BallotEnded}
 use Rattle.sl_ballots.specs.History.{Owner as Holder}
-use Rattle.sl_grant_history.proofs.Kept.{came_at}
-use Rattle.sl_grant_history.specs.Granted.{ResourceAt}
+use Rattle.sl_safety.proofs.Grant.Kept.{came_at}
+use Rattle.sl_safety.specs.Grant.Granted.{ResourceAt}
 use Rattle.sl_leases.specs.Leases.{ended_ballots, lease_calls}
-use Rattle.sl_place_law.proofs.Areas.{one_resource}
+use Rattle.sl_run_law.proofs.Place.Areas.{one_resource}
 use Rattle.sl_plain.proofs.Lists.{contains_none}
-use Rattle.sl_resource_history.proofs.Shown.{holder_is}
-use Rattle.sl_resource_history.specs.Promises.{history_of_line, spot_of_line}
-use Rattle.sl_resource_history.specs.Sending.{holder_of, is_joined_there}
+use Rattle.sl_history.proofs.Resources.Shown.{holder_is}
+use Rattle.sl_history.specs.Resources.Promises.{history_of_line, spot_of_line}
+use Rattle.sl_history.specs.Resources.Sending.{holder_of, is_joined_there}
 use Rattle.sl_run.specs.Runs.{Happening}
 use Rattle.sl_run.specs.Safety.{Agreement, Found, IsSession, LawfulRun, OneWinner, SessionId, ballots_of, setting_in, trace_of, world_at}
 use Rattle.sl_run.specs.Worlds.{Program, World}
@@ -24,7 +24,7 @@ use Rattle.sl_run.specs.declared.header.Header.{Header}
 use Rattle.sl_run.specs.declared.header.ResourceLine.{ResourceLine}
 use Rattle.sl_safety.proofs.Lawful.{are_lawful}
 use Rattle.sl_sector.specs.declared.sector.Owner.{Owner}
-use Rattle.sl_session_history.proofs.Named.{joined_are_hosts, names_are_apart}
+use Rattle.sl_history.proofs.Sessions.Named.{joined_are_hosts, names_are_apart}
 use Rattle.sl_sessions.specs.Sessions.{me}
 use Rattle.sl_trace.specs.Traces.{Trace}
 use Rattle.sl_trace.specs.declared.effects.Spot.{Spot}

@@ -2,13 +2,13 @@
 --
 -- Of two that conflict one is exclusive, and both are of one resource. There the argument over ballots gives them one holder, and
 -- names of joined sessions are apart: so both are of one session, thus of one machine, and a machine doesn't conflict with itself.
-use Rattle.sl_front_law.proofs.Going.{fronts_are_lawful}
-use Rattle.sl_holding_law.proofs.Holders.{holdings_are_held, one_machine_agrees}
-use Rattle.sl_holding_law.specs.Holders.{HeldBy}
+use Rattle.sl_run_law.proofs.Front.Going.{fronts_are_lawful}
+use Rattle.sl_safety.proofs.Holding.Holders.{holdings_are_held, one_machine_agrees}
+use Rattle.sl_safety.specs.Holding.Holders.{HeldBy, RestsOn, orphaned}
 use Rattle.sl_holdings.proofs.Holding.{none_shares_beside, one_is_kept}
-use Rattle.sl_place_law.proofs.Finding.{place_is}
+use Rattle.sl_run_law.proofs.Place.Finding.{place_is}
 use Rattle.sl_plain.proofs.Lists.{any_found}
-use Rattle.sl_resource_history.specs.Promises.{history_of_line}
+use Rattle.sl_history.specs.Resources.Promises.{history_of_line}
 use Rattle.sl_run.specs.Conflicts.{Holding, IsExclusive, conflicts, has_conflict, world_holdings}
 use Rattle.sl_run.specs.Runs.{Happening}
 use Rattle.sl_run.specs.Safety.{LawfulRun, Safety, SessionId, world_at}
@@ -18,7 +18,7 @@ use Rattle.sl_run.specs.declared.header.ResourceLine.{ResourceLine}
 use Rattle.sl_safety.proofs.Lawful.{are_lawful}
 use Rattle.sl_safety.proofs.Placed.{ExclusiveOf, HoldsAsShared, HoldsExclusive, SharedOf, exclusive_of, of_one_resource, shared_of}
 use Rattle.sl_safety.specs.Histories.{HistoriesKeepInstances}
-use Rattle.sl_session_history.proofs.Named.{names_are_apart}
+use Rattle.sl_history.proofs.Sessions.Named.{names_are_apart}
 use Rattle.sl_trace.specs.Traces.{is_shared, same_place}
 use Rattle.sl_words.proofs.CaseLaws.{false_is_true, true_or_false}
 use Rattle.sl_words.proofs.WordLaws.{and_true}
@@ -71,20 +71,49 @@ one_exclusive false c is = inl refl
 one_exclusive true false is = inr refl
 one_exclusive true true is = absurd (false_is_true is)
 
+-- What a holding rests on has its machine, its place and its mode.
+record IsLike (x a : Holding) : Type 0 where
+  machine : x.machine ≡ a.machine
+  path : x.held.path ≡ a.held.path
+  offset : x.held.offset ≡ a.held.offset
+  mode : x.held.mode ≡ a.held.mode
+
+is_like : (x a : Holding) → (x ≡ a) ⊎ (x ≡ orphaned a) → IsLike x a
+is_like x a (inl is) =
+    record {
+      machine = ap (λ (z : Holding). z.machine) is;
+      path = ap (λ (z : Holding). z.held.path) is;
+      offset = ap (λ (z : Holding). z.held.offset) is;
+      mode = ap (λ (z : Holding). z.held.mode) is;
+    }
+is_like x a (inr is) =
+    record {
+      machine = ap (λ (z : Holding). z.machine) is;
+      path = ap (λ (z : Holding). z.held.path) is;
+      offset = ap (λ (z : Holding). z.held.offset) is;
+      mode = ap (λ (z : Holding). z.held.mode) is;
+    }
+
 -- Both are of one machine.
-one_machine : HistoriesKeepInstances → (p : Program) (h : Header) (xs : List Happening) → LawfulRun p h xs → (x y : Holding) → HeldBy (world_at p h xs) x
-    → HeldBy (world_at p h xs) y → conflicts x y ≡ true → x.machine ≡ y.machine
-one_machine instances_given p h xs run x y f g is =
+one_machine : HistoriesKeepInstances → (p : Program) (h : Header) (xs : List Happening) → LawfulRun p h xs → (x y : Holding) → RestsOn (world_at p h xs) x
+    → RestsOn (world_at p h xs) y → conflicts x y ≡ true → x.machine ≡ y.machine
+one_machine instances_given p h xs run x y k l is =
     let parts = and_true (same_place x.held.path x.held.offset y.held.path y.held.offset && not (is_shared x.held.mode && is_shared y.held.mode))
     (not (x.machine == y.machine && x.held.process == y.held.process)) is in
     let first = and_true (same_place x.held.path x.held.offset y.held.path y.held.offset) (not (is_shared x.held.mode && is_shared y.held.mode)) parts.0 in
     let place = place_is x.held.path x.held.offset y.held.path y.held.offset first.0 in
-    let same : f.session ≡ g.session =
+    let a : Holding = k.before in
+    let c : Holding = l.before in
+    let u : IsLike x a = is_like x a k.follows in
+    let v : IsLike y c = is_like y c l.follows in
+    let paths : a.held.path ≡ c.held.path = sym u.path ∙ place.0 ∙ v.path in
+    let offsets : a.held.offset ≡ c.held.offset = sym u.offset ∙ place.1 ∙ v.offset in
+    let same : k.held.session ≡ l.held.session =
     elim (one_exclusive (is_shared x.held.mode) (is_shared y.held.mode) first.1) [
-      | inl exclusive ↦ same_session instances_given p h xs run x y f g place.0 place.1 exclusive
-      | inr exclusive ↦ sym (same_session instances_given p h xs run y x g f (sym place.0) (sym place.1) exclusive)
+      | inl exclusive ↦ same_session instances_given p h xs run a c k.held l.held paths offsets (ap is_shared (sym u.mode) ∙ exclusive)
+      | inr exclusive ↦ sym (same_session instances_given p h xs run c a l.held k.held (sym paths) (sym offsets) (ap is_shared (sym v.mode) ∙ exclusive))
     ] in
-    sym f.machine ∙ ap (λ (i : SessionId). i.machine) same ∙ g.machine
+    u.machine ∙ sym k.held.machine ∙ ap (λ (i : SessionId). i.machine) same ∙ l.held.machine ∙ sym v.machine
 
 -- So there is none.
 never_conflict : HistoriesKeepInstances → (p : Program) (h : Header) (xs : List Happening) → LawfulRun p h xs → (x y : Holding)

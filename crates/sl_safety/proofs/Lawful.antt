@@ -2,17 +2,17 @@
 --
 -- Its blocks are registers, and hosts keep their ballots, where joined sessions have names of their own, which are hosts'; and of its
 -- sessions that act one follows another.
-use Rattle.sl_ballot_history.proofs.KeptProven.{histories_keep_their_ballots}
-use Rattle.sl_ballot_history.proofs.Led.{leaders_follow_ballots}
-use Rattle.sl_resource_history.proofs.Above.{number_above}
-use Rattle.sl_resource_history.proofs.Bases.{go_up}
-use Rattle.sl_resource_history.proofs.Registers.{are_registers}
+use Rattle.sl_safety.proofs.Ballot.KeptProven.{histories_keep_their_ballots}
+use Rattle.sl_safety.proofs.Ballot.Led.{leaders_follow_ballots}
+use Rattle.sl_history.proofs.Resources.Above.{number_above}
+use Rattle.sl_history.proofs.Resources.Bases.{go_up}
+use Rattle.sl_history.proofs.Resources.Registers.{are_registers}
 use Rattle.sl_safety.specs.Histories.{HistoriesAreLawful, HistoriesKeepInstances}
-use Rattle.sl_session_history.proofs.Evidence.{histories_have_true_evidence}
-use Rattle.sl_session_history.proofs.Joined.{histories_end_earlier}
-use Rattle.sl_session_history.proofs.Named.{joined_are_hosts, names_are_apart}
-use Rattle.sl_session_history.proofs.Ordered.{histories_are_in_order}
-use Rattle.sl_session_history.proofs.Register.{show_newest}
+use Rattle.sl_history.proofs.Sessions.Evidence.{histories_have_true_evidence}
+use Rattle.sl_history.proofs.Sessions.Joined.{histories_end_earlier}
+use Rattle.sl_history.proofs.Sessions.Named.{joined_are_hosts, names_are_apart}
+use Rattle.sl_history.proofs.Sessions.Ordered.{histories_are_in_order}
+use Rattle.sl_history.proofs.Sessions.Register.{show_newest}
 
 pub are_lawful : HistoriesAreLawful
 are_lawful p h xs r run there =

@@ -6,3 +6,7 @@ pub mod Standing
 pub mod Marked
 pub mod Moded
 pub mod Whole
+pub mod Holding
+pub mod Ballot
+pub mod Grant
+pub mod Value

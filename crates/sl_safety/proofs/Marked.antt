@@ -6,15 +6,15 @@ use Rattle.sl_ballots.specs.History.{History}
 use Rattle.sl_ballots.specs.Theorems.{IsMark}
 use Rattle.sl_holdings.proofs.Holding.{marks_last}
 use Rattle.sl_holdings.specs.Holdings.{IsSharedTo, SharedGrant}
-use Rattle.sl_landing_law.proofs.Making.{run_made_before}
-use Rattle.sl_resource_history.proofs.Calls.{sent_there}
-use Rattle.sl_resource_history.proofs.Founding.{writer_is}
-use Rattle.sl_resource_history.proofs.Registers.{block_at, ok_is, wrote}
-use Rattle.sl_resource_history.proofs.Rising.{block_of_step}
-use Rattle.sl_resource_history.specs.Histories.{is_host}
-use Rattle.sl_resource_history.specs.Orders.{BlockSent}
-use Rattle.sl_resource_history.specs.Promises.{history_of_line, spot_of_line}
-use Rattle.sl_resource_history.specs.Sending.{Sent, all_sent, block_of_course, step_of}
+use Rattle.sl_run_law.proofs.Landing.Making.{run_made_before}
+use Rattle.sl_history.proofs.Resources.Calls.{sent_there}
+use Rattle.sl_history.proofs.Resources.Founding.{writer_is}
+use Rattle.sl_history.proofs.Resources.Registers.{block_at, ok_is, wrote}
+use Rattle.sl_history.proofs.Resources.Rising.{block_of_step}
+use Rattle.sl_history.specs.Resources.Histories.{is_host}
+use Rattle.sl_history.specs.Resources.Orders.{BlockSent}
+use Rattle.sl_history.specs.Resources.Promises.{history_of_line, spot_of_line}
+use Rattle.sl_history.specs.Resources.Sending.{Sent, all_sent, block_of_course, step_of}
 use Rattle.sl_run.specs.Runs.{Happening}
 use Rattle.sl_run.specs.Safety.{LawfulRun, block_there, world_at}
 use Rattle.sl_run.specs.Worlds.{Program, Stamp, World}
@@ -23,7 +23,7 @@ use Rattle.sl_run.specs.declared.header.ResourceLine.{ResourceLine}
 use Rattle.sl_safety.proofs.Lawful.{are_lawful}
 use Rattle.sl_safety.proofs.Standing.{SentSince, block_stands}
 use Rattle.sl_sector.specs.declared.sector.Block.{Block}
-use Rattle.sl_session_history.proofs.FollowingSessions.{sessions_follow}
+use Rattle.sl_history.proofs.Sessions.FollowingSessions.{sessions_follow}
 use Rattle.std.proofs.Common.{ap, arith, subst, sym, ◌∙◌}
 use Rattle.std.specs.Prelude.{Contains, List, Some, true, ℕ, ◌++◌, ◌<◌, ◌≡◌, ◌≤◌}
 

@@ -3,27 +3,27 @@
 -- Who begins an instance above that of a shared holding does so after the holder's mark was answered: so wherever a front has the one, the
 -- mark stands there too, or a block that was sent later and tells the same.
 use Rattle.sl_ballots.specs.History.{History}
-use Rattle.sl_course_law.proofs.Mirrored.{machines_mirror}
-use Rattle.sl_course_law.specs.Stamping.{stamp_in}
-use Rattle.sl_front_law.proofs.Going.{fronts_are_lawful}
-use Rattle.sl_grant_history.proofs.Telling.{IsFront, IsTold, OfLease, entry_past, of_lease, told, told_made, told_on, told_wrote}
-use Rattle.sl_grant_history.proofs.Proven.{shared_are_under}
-use Rattle.sl_grant_history.specs.Granted.{SharedThere}
+use Rattle.sl_run_law.proofs.Course.Mirrored.{machines_mirror}
+use Rattle.sl_run_law.specs.Course.Stamping.{stamp_in}
+use Rattle.sl_run_law.proofs.Front.Going.{fronts_are_lawful}
+use Rattle.sl_safety.proofs.Grant.Telling.{IsFront, IsTold, OfLease, entry_past, of_lease, told, told_made, told_on, told_wrote}
+use Rattle.sl_safety.proofs.Grant.Proven.{shared_are_under}
+use Rattle.sl_safety.specs.Grant.Granted.{SharedThere}
 use Rattle.sl_holdings.proofs.Holding.{marks_come}
 use Rattle.sl_id_safety.proofs.Silence.{GoesOn, goes_on}
-use Rattle.sl_id_state.proofs.LaterFrames.{found_later}
+use Rattle.sl_id_safety.proofs.State.LaterFrames.{found_later}
 use Rattle.sl_leases.specs.Leases.{Phase1_write, block_written, is_at, is_on, lease_calls}
-use Rattle.sl_moment_law.proofs.Following.{kept_past}
-use Rattle.sl_moment_law.proofs.Stamps.{answer_is_stamp}
-use Rattle.sl_moment_law.specs.Moments.{Of_stamp}
+use Rattle.sl_run_law.proofs.Moment.Following.{kept_past}
+use Rattle.sl_run_law.proofs.Moment.Stamps.{answer_is_stamp}
+use Rattle.sl_run_law.specs.Moment.Moments.{Of_stamp}
 use Rattle.sl_plain.proofs.Lists.{any_found}
-use Rattle.sl_resource_history.proofs.Calls.{block_at_step, sent_there}
-use Rattle.sl_resource_history.proofs.Founding.{writes_at}
-use Rattle.sl_resource_history.proofs.Rising.{block_of_step}
-use Rattle.sl_resource_history.proofs.Shown.{holder_is}
-use Rattle.sl_resource_history.specs.Histories.{is_host}
-use Rattle.sl_resource_history.specs.Promises.{history_of_line, spot_of_line}
-use Rattle.sl_resource_history.specs.Sending.{Sent, all_sent, block_of_course, step_of}
+use Rattle.sl_history.proofs.Resources.Calls.{block_at_step, sent_there}
+use Rattle.sl_history.proofs.Resources.Founding.{writes_at}
+use Rattle.sl_history.proofs.Resources.Rising.{block_of_step}
+use Rattle.sl_history.proofs.Resources.Shown.{holder_is}
+use Rattle.sl_history.specs.Resources.Histories.{is_host}
+use Rattle.sl_history.specs.Resources.Promises.{history_of_line, spot_of_line}
+use Rattle.sl_history.specs.Resources.Sending.{Sent, all_sent, block_of_course, step_of}
 use Rattle.sl_run.specs.Runs.{Happening}
 use Rattle.sl_run.specs.Safety.{Found, HoldsShared, IsSession, LawfulRun, SessionId, SharedModeStands, SharedModeStood, ShowsMode, begins_above, block_there, setting_in, trace_of, world_at}
 use Rattle.sl_run.specs.Worlds.{Program, Stamp, World}
@@ -33,9 +33,9 @@ use Rattle.sl_safety.proofs.Lawful.{are_lawful}
 use Rattle.sl_safety.proofs.Marked.{mark_sent, mode_stands, sent_before}
 use Rattle.sl_safety.specs.Histories.{HistoriesKeepInstances}
 use Rattle.sl_sector.specs.declared.sector.Block.{Block}
-use Rattle.sl_session_history.proofs.FollowingJoins.{stamps_stay}
-use Rattle.sl_session_history.proofs.Named.{joined_are_hosts}
-use Rattle.sl_session_history.proofs.OrderedFronts.{nothing_more}
+use Rattle.sl_history.proofs.Sessions.FollowingJoins.{stamps_stay}
+use Rattle.sl_history.proofs.Sessions.Named.{joined_are_hosts}
+use Rattle.sl_history.proofs.Sessions.OrderedFronts.{nothing_more}
 use Rattle.sl_trace.specs.Traces.{Setting, Submitted}
 use Rattle.sl_trace.specs.declared.effects.Grant.{Grant}
 use Rattle.sl_trace.specs.declared.effects.Spot.{Spot}

@@ -2,16 +2,16 @@
 --
 -- A holding that conflicts with another is of one place with it, and resources are apart: so both are of one resource, and there each is
 -- a grant of its session.
-use Rattle.sl_grant_history.proofs.Proven.{exclusives_are_kept, shared_are_shared}
-use Rattle.sl_holding_law.specs.Holders.{HeldBy}
+use Rattle.sl_safety.proofs.Grant.Proven.{exclusives_are_kept, shared_are_shared}
+use Rattle.sl_safety.specs.Holding.Holders.{HeldBy}
 use Rattle.sl_holdings.specs.Holdings.{ExclusiveGrant, IsGrantedExclusive, IsKept, IsSharedTo, SharedGrant}
-use Rattle.sl_id_state.proofs.Keeping.{is_place}
-use Rattle.sl_id_steps.proofs.RenewalCalls.{contains_filtered}
+use Rattle.sl_id_safety.proofs.State.Keeping.{is_place}
+use Rattle.sl_id_safety.proofs.Steps.RenewalCalls.{contains_filtered}
 use Rattle.sl_leases.specs.Leases.{has_shared_on, holdings_on}
-use Rattle.sl_place_law.proofs.Areas.{one_resource}
+use Rattle.sl_run_law.proofs.Place.Areas.{one_resource}
 use Rattle.sl_plain.proofs.Lists.{contains_cases, contains_none}
-use Rattle.sl_resource_history.specs.Promises.{history_of_line, spot_of_line}
-use Rattle.sl_resource_history.specs.Sending.{holder_of, is_joined_there}
+use Rattle.sl_history.specs.Resources.Promises.{history_of_line, spot_of_line}
+use Rattle.sl_history.specs.Resources.Sending.{holder_of, is_joined_there}
 use Rattle.sl_run.specs.Conflicts.{Holding}
 use Rattle.sl_run.specs.Headers.{IsHeader}
 use Rattle.sl_run.specs.Runs.{Happening}

@@ -5,28 +5,28 @@
 -- before, of whatever run.
 use Rattle.sl_area.specs.Layouts.{Layout, record_in}
 use Rattle.sl_area.specs.Places.{block_offset}
-use Rattle.sl_front_law.proofs.Going.{fronts_are_lawful, run_after}
-use Rattle.sl_front_law.proofs.Having.{contains_left, contains_right}
+use Rattle.sl_run_law.proofs.Front.Going.{fronts_are_lawful, run_after}
+use Rattle.sl_run_law.proofs.Front.Having.{contains_left, contains_right}
 use Rattle.sl_id_safety.proofs.Fronting.{landed_since}
 use Rattle.sl_id_safety.proofs.Owning.{newest_stands}
-use Rattle.sl_id_state.proofs.Keeping.{is_place}
-use Rattle.sl_landing_law.proofs.Proven.{landings_are_written}
-use Rattle.sl_landing_law.specs.Landings.{HasWriter}
+use Rattle.sl_id_safety.proofs.State.Keeping.{is_place}
+use Rattle.sl_run_law.proofs.Landing.Proven.{landings_are_written}
+use Rattle.sl_run_law.specs.Landing.Landings.{HasWriter}
 use Rattle.sl_leases.specs.Leases.{block_of_record}
-use Rattle.sl_place_law.proofs.Areas.{sector_fits}
-use Rattle.sl_place_law.proofs.Proven.{promised}
-use Rattle.sl_place_law.proofs.Reading.{layout_is, reads_back}
-use Rattle.sl_place_law.proofs.Seats.{sized_in}
+use Rattle.sl_run_law.proofs.Place.Proven.{promised}
+use Rattle.sl_run_law.proofs.Place.Reading.{layout_is, reads_back}
+use Rattle.sl_run_law.proofs.Place.Seats.{sized_in}
+use Rattle.sl_run_law.proofs.Place.Sizes.{sector_fits}
 use Rattle.sl_plain.proofs.Lists.{contains_cases, contains_first, kept}
-use Rattle.sl_resource_history.proofs.Calls.{there_sent}
-use Rattle.sl_resource_history.proofs.Landed.{Name, in_order, name_of, one_sent}
-use Rattle.sl_resource_history.proofs.Newest.{Descends, HasCome, has_come, history_descends}
-use Rattle.sl_resource_history.proofs.Showing.{block_in_is}
-use Rattle.sl_resource_history.proofs.Shown.{IsBlockLanding, block_landing, in_history, writes_is}
-use Rattle.sl_resource_history.specs.Histories.{is_host}
-use Rattle.sl_resource_history.specs.Orders.{BlockSent, Follows, LandedAt}
-use Rattle.sl_resource_history.specs.Promises.{spot_of_line}
-use Rattle.sl_resource_history.specs.Sending.{Sent, block_of_course, sender_of, step_of}
+use Rattle.sl_history.proofs.Resources.Calls.{there_sent}
+use Rattle.sl_history.proofs.Resources.Landed.{Name, in_order, name_of, one_sent}
+use Rattle.sl_history.proofs.Resources.Newest.{Descends, HasCome, has_come, history_descends}
+use Rattle.sl_history.proofs.Resources.Showing.{block_in_is}
+use Rattle.sl_history.proofs.Resources.Shown.{IsBlockLanding, block_landing, in_history, writes_is}
+use Rattle.sl_history.specs.Resources.Histories.{is_host}
+use Rattle.sl_history.specs.Resources.Orders.{BlockSent, Follows, LandedAt}
+use Rattle.sl_history.specs.Resources.Promises.{spot_of_line}
+use Rattle.sl_history.specs.Resources.Sending.{Sent, block_of_course, sender_of, step_of}
 use Rattle.sl_run.specs.Runs.{Happening}
 use Rattle.sl_run.specs.Safety.{LawfulRun, block_there, world_at}
 use Rattle.sl_run.specs.Worlds.{Landing, Program, Stamp, World, content, first_landing, history_of, landed_at, world_with}

@@ -1,5 +1,5 @@
 -- The whole: lawful runs are safe, and keep both invariants.
-use Rattle.sl_front_law.proofs.Going.{fronts_are_lawful}
+use Rattle.sl_run_law.proofs.Front.Going.{fronts_are_lawful}
 use Rattle.sl_id_safety.proofs.Proven.{ids_are_safe}
 use Rattle.sl_run.specs.Runs.{Happening}
 use Rattle.sl_run.specs.Safety.{Invariants, LawfulRun, LeaseInvariant, Safety}

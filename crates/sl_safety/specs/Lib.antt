@@ -1,2 +1,6 @@
 pub mod Histories
 pub mod Kept
+pub mod Holding
+pub mod Ballot
+pub mod Grant
+pub mod Value

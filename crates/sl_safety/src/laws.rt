@@ -1,5 +1,10 @@
 //! What every lawful run keeps of resources.
 
+pub mod ballot;
+pub mod grant;
+pub mod holding;
+pub mod value;
+
 ghost use Rattle.sl_run.specs.Safety.{Invariants, Safety};
 ghost use Rattle.sl_safety.specs.Histories.{HistoriesAreLawful, HistoriesKeepInstances};
 ghost use Rattle.sl_safety.specs.Kept.{BallotsAgree, OneWins, SharedModesStand};

@@ -1,3 +1,4 @@
+pub mod Comparing
 pub mod ByteLaws
 pub mod FieldLaws
 pub mod RuleLaws

@@ -17,14 +17,15 @@ pub mod laws;
 mod leader;
 pub mod places;
 mod request;
+pub mod same;
 pub mod sector;
 mod texts;
 mod value;
 
 pub use decoding::decode;
 pub use places::{block_in, delta_in, leader_in, request_in, value_in};
+pub use same::same_record;
 pub use sector::{
     Bad, Block, DeltaRec, DeltaState, Gen, HostId, Leader, Owner, Rec, Request, ValueRec,
 };
 pub use texts::{push_bad_text, push_record_text};
-

@@ -4,7 +4,7 @@ use Rattle.sl_first.proofs.CalmRenewal.{leases_first, survey_none}
 use Rattle.sl_first.specs.FirstSteps.{first_known, first_over, first_self}
 use Rattle.sl_leases.specs.Leases.{exclusive_on, has_shared_on, is_lease_call, known, known_of, lease_calls}
 use Rattle.sl_sector.specs.declared.sector.DeltaRec.{DeltaRec}
-use Rattle.sl_session_law.proofs.Naming.{absent}
+use Rattle.sl_trace_law.proofs.Sessions.Naming.{absent}
 use Rattle.sl_sessions.specs.Sessions.{calls_of, generation_of, given_session, is_active, is_call_of, is_present, leaving_job, present_sessions, recovery_of, session_named, sessions}
 use Rattle.sl_sessions.specs.Watching.{counts_over, evidence, look_of, sightings}
 use Rattle.sl_sessions.specs.declared.session.Renewing.{Renewing}

@@ -13,7 +13,7 @@ use Rattle.sl_first.specs.FirstSteps.{Works, first_aim, first_known, work_in}
 use Rattle.sl_leases.specs.Jobs.{aim_of, aim_of_command, command_numbered, command_of}
 use Rattle.sl_leases.specs.LeaseWork.{lease_next, lease_place}
 use Rattle.sl_leases.specs.Leases.{is_on, known, lease_calls, lease_step, lver_written, spot_of_call}
-use Rattle.sl_session_law.proofs.Making.{same_answered}
+use Rattle.sl_trace_law.proofs.Sessions.Making.{same_answered}
 use Rattle.sl_sessions.specs.Sessions.{is_present, session_numbered}
 use Rattle.sl_sessions.specs.declared.session.Session.{Session}
 use Rattle.sl_still.proofs.Busy.{work_there}

@@ -4,7 +4,7 @@ use Rattle.sl_first.specs.FirstPath.{Doing, has_answer, open_kept}
 use Rattle.sl_first.specs.FirstSteps.{Holds, Idle, Phase, Works, work_in}
 use Rattle.sl_leases.specs.Leases.{lease_calls}
 use Rattle.sl_plain.proofs.Lists.{contains_cases, contains_first, contains_more, contains_none, kept}
-use Rattle.sl_session_law.proofs.Making.{old_stays}
+use Rattle.sl_trace_law.proofs.Sessions.Making.{old_stays}
 use Rattle.sl_still.proofs.Begun.{works_is}
 use Rattle.sl_still.proofs.Busy.{WorkOf, open_is_work}
 use Rattle.sl_still.proofs.Leases.{lease_same, lease_self, number_same}

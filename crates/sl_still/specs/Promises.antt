@@ -12,7 +12,7 @@ use Rattle.sl_sessions.specs.Sessions.{given_session, sessions}
 use Rattle.std.specs.List.{enumerate_from, list_all}
 use Rattle.sl_still.specs.StillSteps.{EntryShape, IsRefused, LeaseMove, refused_entry}
 use Rattle.sl_still.specs.StillWhole.{AtLeaseCall, LeaseBrings, LeaseWhole}
-use Rattle.sl_first_cause.specs.Promises.{is_line_or_answer}
+use Rattle.sl_first_law.specs.Cause.Promises.{is_line_or_answer}
 use Rattle.sl_trace.specs.Traces.{FollowsTrace, Setting, Submitted, Trace, submitted}
 use Rattle.sl_trace.specs.declared.effects.Effects.{Effects}
 use Rattle.sl_trace.specs.declared.effects.Entry.{Entry}

@@ -2,7 +2,7 @@
 -- session and an area; all that the laws ask of it is a function of its own calls and its own holding.
 use Rattle.sl_area.specs.Places.{is_base}
 use Rattle.sl_first.specs.FirstSteps.{first_grant, first_over}
-use Rattle.sl_first_cause.specs.Promises.{is_line_or_answer}
+use Rattle.sl_first_law.specs.Cause.Promises.{is_line_or_answer}
 use Rattle.sl_leases.specs.Leases.{is_lease_call, lease_step, spot_of, spot_of_call}
 use Rattle.sl_sessions.specs.Sessions.{delta_written, generation_of, given_session, is_active, is_joined, leaving_job, removed_after, renewing, session_named, session_numbered}
 use Rattle.sl_sessions.specs.Watching.{counts_over}

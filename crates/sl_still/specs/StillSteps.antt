@@ -2,7 +2,7 @@
 -- session and one resource, made for the lease's session.
 use Rattle.sl_due.specs.DueCommands.{decided}
 use Rattle.sl_due.specs.declared.decision.Decision.TheVariants.{Replies}
-use Rattle.sl_first_ballot.specs.Ways.{ballot_place}
+use Rattle.sl_first_law.specs.Ballot.Ways.{ballot_place}
 use Rattle.sl_first.specs.FirstPath.{Doing, first_effects, heeded_call, next_doing, one_reply}
 use Rattle.sl_first.specs.FirstSteps.{Holds, Idle, IsNamed, Live, Phase, Works, blocks_read, first_aim, first_known, first_next, first_read, goes_on_with, last_write, leader_write, own_write, process_of}
 use Rattle.sl_leases.specs.declared.lease.LeaseNext.TheVariants.{AnswerJob, GrantJob, Nothing, ReadFor, WriteBlock, WriteLeader}

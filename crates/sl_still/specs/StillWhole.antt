@@ -2,9 +2,9 @@
 -- that it makes and of what it is granted.
 use Rattle.sl_first.specs.FirstPath.{Doing, has_answer}
 use Rattle.sl_first.specs.FirstSteps.{Holds, Idle, Phase, Works}
-use Rattle.sl_first_ballot.specs.Ways.{HasLeader, StepStands}
-use Rattle.sl_first_lawful.specs.Bringing.{LawfulBlockAt}
-use Rattle.sl_first_numbers.specs.Numbers.{NumbersStand}
+use Rattle.sl_first_law.specs.Ballot.Ways.{HasLeader, StepStands}
+use Rattle.sl_first_law.specs.Lawfully.Bringing.{LawfulBlockAt}
+use Rattle.sl_first_law.specs.Numbers.Numbers.{NumbersStand}
 use Rattle.sl_law.specs.Caused.{IsCaused}
 use Rattle.sl_law.specs.Lawful.{Lawful}
 use Rattle.sl_law.specs.LawfulBlock.{LawfulPhase2Read}

@@ -2,7 +2,7 @@
 -- part, so it is as for the calls of a daemon of one session.
 use Rattle.sl_first.specs.FirstSteps.{IsNamed, leader_write, own_write}
 use Rattle.sl_first_law.specs.Keeping.{PlacedCall}
-use Rattle.sl_first_lawful.proofs.Placing.{block_placed, leader_placed}
+use Rattle.sl_first_law.proofs.Lawfully.Placing.{block_placed, leader_placed}
 use Rattle.sl_law.specs.LawfulArea.{IsLeaseRead}
 use Rattle.sl_leases.specs.Leases.{spot_of}
 use Rattle.sl_sector.specs.declared.sector.Block.{Block}

@@ -4,8 +4,8 @@ use Rattle.sl_first.specs.FirstSteps.{Works}
 use Rattle.sl_first_law.proofs.Calmness.{only}
 use Rattle.sl_first_law.proofs.Values.{no_reply, no_value_reply}
 use Rattle.sl_first_law.specs.Keeping.{PlacedCall, is_value_reply}
-use Rattle.sl_first_lawful.proofs.Shapes.{no_grants}
-use Rattle.sl_first_lawful.specs.Keeping.{CallIsLawful, EntryIsLawful}
+use Rattle.sl_first_law.proofs.Lawfully.Shapes.{no_grants}
+use Rattle.sl_first_law.specs.Lawfully.Keeping.{CallIsLawful, EntryIsLawful}
 use Rattle.sl_law.specs.Saying.{EachCall, cut_at}
 use Rattle.sl_leases.specs.Leases.{is_lease_call, is_on, lease_calls, value_written}
 use Rattle.sl_plain.proofs.Lists.{contains_first}

@@ -1,6 +1,6 @@
 -- An entry of such a daemon keeps all laws, where its calls, its grants and its replies do.
-use Rattle.sl_first_lawful.proofs.Entries.{keeps_area, keeps_block, keeps_calls, keeps_leader, keeps_modes, keeps_values}
-use Rattle.sl_first_lawful.specs.Keeping.{EntryIsLawful}
+use Rattle.sl_first_law.proofs.Lawfully.Entries.{keeps_area, keeps_block, keeps_calls, keeps_leader, keeps_modes, keeps_values}
+use Rattle.sl_first_law.specs.Lawfully.Keeping.{EntryIsLawful}
 use Rattle.sl_law.specs.Lawful.{Lawful}
 use Rattle.sl_still_law.proofs.Recovering.{keeps_delta, keeps_recovery}
 use Rattle.sl_still_law.proofs.Watching.{keeps_watchdog}

@@ -5,7 +5,7 @@ use Rattle.sl_first.specs.FirstPath.{first_effects, one_reply}
 use Rattle.sl_first.specs.FirstSteps.{Holds, Idle, Phase, Works}
 use Rattle.sl_first_law.proofs.Calmness.{only}
 use Rattle.sl_first_law.proofs.Values.{no_reply, no_value_reply}
-use Rattle.sl_first_lawful.specs.Keeping.{CallIsLawful, EntryIsLawful}
+use Rattle.sl_first_law.specs.Lawfully.Keeping.{CallIsLawful, EntryIsLawful}
 use Rattle.sl_law.specs.LawfulGrant.{HasTaken, LawfulGrantTo}
 use Rattle.sl_law.specs.LawfulModes.{LawfulExclusiveGrant, LawfulModeGrant}
 use Rattle.sl_leases.specs.Leases.{freed, holdings_on, lease_calls, spot_of}

@@ -1,5 +1,5 @@
 -- Each entry keeps all laws: the lines that are answered at once, and the moves of leases.
-use Rattle.sl_first_lawful.proofs.Beginning.{nothing_lawful}
+use Rattle.sl_first_law.proofs.Lawfully.Beginning.{nothing_lawful}
 use Rattle.sl_still_law.proofs.Lines.{lines_keep_laws}
 use Rattle.sl_still_law.proofs.Moves.{moves_keep_laws}
 use Rattle.sl_still.specs.Promises.{EntriesKeepLaws}

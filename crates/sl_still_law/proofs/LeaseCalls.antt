@@ -1,8 +1,8 @@
 -- The one call of a lease's move keeps all laws of a call, by what the move brings.
 use Rattle.sl_first.specs.FirstPath.{has_answer}
 use Rattle.sl_first_law.specs.Keeping.{PlacedCall}
-use Rattle.sl_first_lawful.specs.Bringing.{LawfulBlockAt}
-use Rattle.sl_first_lawful.specs.Keeping.{CallIsLawful}
+use Rattle.sl_first_law.specs.Lawfully.Bringing.{LawfulBlockAt}
+use Rattle.sl_first_law.specs.Lawfully.Keeping.{CallIsLawful}
 use Rattle.sl_law.specs.LawfulArea.{HasVerified, IsRightRead, LawfulAreaWrite, is_area_work, is_block_work, open_block_work, record_offset}
 use Rattle.sl_law.specs.LawfulBlock.{LawfulPhase2Read}
 use Rattle.sl_law.specs.LawfulDelta.{LawfulDeltaCall}

@@ -11,3 +11,7 @@ pub mod GrantShapes
 pub mod Moves
 pub mod Lines
 pub mod Keeping
+pub mod Whole
+pub mod Bring
+pub mod Cause
+pub mod Lawfully

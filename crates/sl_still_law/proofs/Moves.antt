@@ -2,10 +2,10 @@
 -- a call, replies, or grants.
 use Rattle.sl_first.specs.FirstPath.{Doing, first_effects, next_doing}
 use Rattle.sl_first.specs.FirstSteps.{Begins_phase1, Begins_phase2, Goes_on_phase1, Goes_on_phase2, Grants, IsNamed, Live, Replies_late, Takes, Works, blocks_read, first_known, leader_write, own_write, process_of}
-use Rattle.sl_first_ballot.specs.Ways.{ballot_place}
-use Rattle.sl_first_lawful.proofs.Answers.{lease_plain}
-use Rattle.sl_first_lawful.proofs.Placing.{read_placed}
-use Rattle.sl_first_lawful.specs.Keeping.{EntryIsLawful}
+use Rattle.sl_first_law.specs.Ballot.Ways.{ballot_place}
+use Rattle.sl_first_law.proofs.Lawfully.Answers.{lease_plain}
+use Rattle.sl_first_law.proofs.Lawfully.Placing.{read_placed}
+use Rattle.sl_first_law.specs.Lawfully.Keeping.{EntryIsLawful}
 use Rattle.sl_first_law.specs.Keeping.{PlacedCall}
 use Rattle.sl_law.specs.Lawful.{Lawful}
 use Rattle.sl_law.specs.Saying.{cut_at}

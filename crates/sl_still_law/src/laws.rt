@@ -1,5 +1,11 @@
 //! A daemon of several given sessions and any resources keeps all laws of safety, where each lease's move brings what they ask.
 
+pub mod whole;
+pub mod bring;
+pub mod cause;
+pub mod lawfully;
+
+
 ghost use Rattle.sl_still.specs.Promises.{EntriesKeepLaws};
 
 /// Before the first entry the trace is lawful; a line that is answered at once keeps it so, and so does a lease's move that brings what the

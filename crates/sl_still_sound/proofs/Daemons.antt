@@ -6,7 +6,7 @@ use Rattle.sl_law.specs.Lawful.{IsSetting, Lawful}
 use Rattle.sl_still.proofs.Beginning.{begins_idle}
 use Rattle.sl_still.specs.StillLeases.{idle_table}
 use Rattle.sl_still.specs.StillPath.{IsStill}
-use Rattle.sl_still_lawful.proofs.Whole.{traces_are_lawful}
+use Rattle.sl_still_law.proofs.Lawfully.Whole.{traces_are_lawful}
 use Rattle.sl_still_sound.proofs.Steps.{steps_on}
 use Rattle.sl_still_sound.specs.StillDaemons.{IsStillDaemon}
 use Rattle.sl_still_step.proofs.Apart.{holdings_agree}

@@ -9,3 +9,4 @@ pub mod LineSteps
 pub mod AnswerSteps
 pub mod Answered
 pub mod Apart
+pub mod Count

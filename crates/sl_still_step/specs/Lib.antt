@@ -1,2 +1,3 @@
 pub mod StillAreas
 pub mod Promises
+pub mod Count

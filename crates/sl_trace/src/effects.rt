@@ -6,21 +6,21 @@ use sl_sector::Rec;
 use sl_text::{FilePath, Name, Seq};
 
 /// How a resource is held.
-#[derive(Clone, Copy)]
+#[derive(Clone, Copy, PartialEq, Eq)]
 pub enum Mode {
     Exclusive,
     Shared,
 }
 
 /// What a process is sent.
-#[derive(Clone, Copy)]
+#[derive(Clone, Copy, PartialEq, Eq)]
 pub enum Signal {
     Term,
     Kill,
 }
 
 /// The steps of a joining.
-#[derive(Clone, Copy)]
+#[derive(Clone, Copy, PartialEq, Eq)]
 pub enum JoinStep {
     FirstRead,
     WatchRead,
@@ -32,7 +32,7 @@ pub enum JoinStep {
 
 /// The steps of work on a resource's lease. The read with which an acquire begins has the resource's name that its command gives;
 /// a settling reads the area before it writes a free that it owes.
-#[derive(Clone, Copy)]
+#[derive(Clone, Copy, PartialEq, Eq)]
 pub enum LeaseStep {
     ReadArea { resource: Name },
     ReadBeforeFree,
@@ -47,14 +47,14 @@ pub enum LeaseStep {
 }
 
 /// On whose account work on a lease is done.
-#[derive(Clone, Copy)]
+#[derive(Clone, Copy, PartialEq, Eq)]
 pub enum Work {
     ForJob { job: u64 },
     Settling,
 }
 
 /// What a sector call is for; `job` is the number of the job which made it.
-#[derive(Clone, Copy)]
+#[derive(Clone, Copy, PartialEq, Eq)]
 pub enum Purpose {
     /// A step of a joining.
     Joining { job: u64, step: JoinStep },
@@ -79,14 +79,14 @@ pub enum Purpose {
 }
 
 /// Whole sectors to read, or a record to write.
-#[derive(Clone, Copy)]
+#[derive(Clone, Copy, PartialEq, Eq)]
 pub enum Op {
     ReadSectors { sectors: u32 },
     WriteRecord { record: Rec },
 }
 
 /// A sector call: whole sectors from an offset on, of the session with this place among the daemon's sessions.
-#[derive(Clone, Copy)]
+#[derive(Clone, Copy, PartialEq, Eq)]
 pub struct Call {
     pub number: u64,
     pub session: u64,
@@ -97,7 +97,7 @@ pub struct Call {
 }
 
 /// A resource's area: a disk's path and the area's offset.
-#[derive(Clone, Copy)]
+#[derive(Clone, Copy, PartialEq, Eq)]
 pub struct Spot {
     pub path: FilePath,
     pub base: u64,
@@ -105,7 +105,7 @@ pub struct Spot {
 
 /// A process begins to hold a resource, for the session with this place; a persistent holding outlives its process. Process 0 stands for
 /// none: its holdings are the machine's orphans.
-#[derive(Clone, Copy)]
+#[derive(Clone, Copy, PartialEq, Eq)]
 pub struct Grant {
     pub process: u32,
     pub session: u64,
@@ -119,7 +119,7 @@ pub struct Grant {
 }
 
 /// A process no longer holds a resource.
-#[derive(Clone, Copy)]
+#[derive(Clone, Copy, PartialEq, Eq)]
 pub struct End {
     pub process: u32,
     pub lockspace: Name,
@@ -129,14 +129,14 @@ pub struct End {
 }
 
 /// A signal with its process.
-#[derive(Clone, Copy)]
+#[derive(Clone, Copy, PartialEq, Eq)]
 pub struct Sent {
     pub process: u32,
     pub signal: Signal,
 }
 
 /// What is done to wdmd's connections.
-#[derive(Clone, Copy)]
+#[derive(Clone, Copy, PartialEq, Eq)]
 pub enum Move {
     Register { lockspace: Name, expiry: u64 },
     Renew { lockspace: Name, expiry: u64 },
@@ -144,7 +144,7 @@ pub enum Move {
 }
 
 /// A child program to start: for a job, or as the kill program that stands for the term to a process.
-#[derive(Clone, Copy)]
+#[derive(Clone, Copy, PartialEq, Eq)]
 pub struct Start {
     pub process: u32,
     pub program: FilePath,
@@ -153,14 +153,14 @@ pub struct Start {
 }
 
 /// A reply with its job.
-#[derive(Drop)]
+#[derive(Drop, PartialEq, Eq)]
 pub struct JobReply {
     pub job: u64,
     pub reply: Reply,
 }
 
 /// All that one step does, by classes in the order in which they are told.
-#[derive(Drop)]
+#[derive(Drop, PartialEq, Eq)]
 pub struct Effects {
     pub ends: Seq<End>,
     pub signals: Seq<Sent>,
@@ -172,7 +172,7 @@ pub struct Effects {
 }
 
 /// One step of a daemon.
-#[derive(Drop)]
+#[derive(Drop, PartialEq, Eq)]
 pub struct Entry {
     pub reading: u64,
     pub input: Input,

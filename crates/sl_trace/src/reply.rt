@@ -4,7 +4,7 @@ use sl_sector::Owner;
 use sl_text::{Data, Name, Seq};
 
 /// What an id looks like to a session.
-#[derive(Clone, Copy)]
+#[derive(Clone, Copy, PartialEq, Eq)]
 pub enum HostState {
     Unknown,
     Free,
@@ -14,14 +14,14 @@ pub enum HostState {
 }
 
 /// An id with what it looks like.
-#[derive(Clone, Copy)]
+#[derive(Clone, Copy, PartialEq, Eq)]
 pub struct StateOf {
     pub id: u32,
     pub state: HostState,
 }
 
 /// A joined session, as `status` tells it.
-#[derive(Clone, Copy)]
+#[derive(Clone, Copy, PartialEq, Eq)]
 pub struct SessionOf {
     pub lockspace: Name,
     pub id: u32,
@@ -29,7 +29,7 @@ pub struct SessionOf {
 }
 
 /// What is counted, or the number that is written.
-#[derive(Clone, Copy)]
+#[derive(Clone, Copy, PartialEq, Eq)]
 pub enum Limited {
     Lockspaces,
     Resources,
@@ -43,21 +43,21 @@ pub enum Limited {
 }
 
 /// Generation and seq of a delta record.
-#[derive(Clone, Copy)]
+#[derive(Clone, Copy, PartialEq, Eq)]
 pub struct DeltaVersion {
     pub generation: u64,
     pub seq: u64,
 }
 
 /// Generation and host name of a delta record; an absent name is `-`.
-#[derive(Clone, Copy)]
+#[derive(Clone, Copy, PartialEq, Eq)]
 pub struct DeltaOwner {
     pub generation: u64,
     pub name: Name,
 }
 
 /// The answer to a command. (Definitions call five variants `StillJoining`, `HeldBy`, `SharedBy`, `Misread`, `LimitReached`.)
-#[derive(Drop)]
+#[derive(Drop, PartialEq, Eq)]
 pub enum Reply {
     Done,
     Generation {
@@ -165,7 +165,7 @@ pub enum Reply {
 }
 
 /// Why a session counts as over: a newer generation was seen, its free was seen, or its record stood still.
-#[derive(Clone, Copy)]
+#[derive(Clone, Copy, PartialEq, Eq)]
 pub enum Evidence {
     Newer { generation: u64 },
     Freed { generation: u64 },

@@ -15,4 +15,3 @@ mod summary;
 pub mod watch;
 
 pub use watch::Watch;
-

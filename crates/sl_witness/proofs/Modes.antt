@@ -1,7 +1,7 @@
 -- A search for the laws of modes and of grants, in a run in which all is exclusive.
 use Rattle.sl_area.specs.Places.{is_base}
 use Rattle.sl_law.specs.LawfulBlock.{ReadAfter}
-use Rattle.sl_law.specs.LawfulGrant.{HasTaken, LawfulGrant, LawfulGrantTo}
+use Rattle.sl_law.specs.LawfulGrant.{HasTaken, LawfulGrant, LawfulGrantTo, LawfulOrphan}
 use Rattle.sl_law.specs.LawfulLeader.{HasWon}
 use Rattle.sl_law.specs.LawfulModes.{LawfulExclusiveGrant, LawfulMode, LawfulModeGrant, LawfulModes, LawfulSharedGrant, NoneShared}
 use Rattle.sl_leases.specs.Leases.{Mode_set, Phase1_write, block_of_host, block_written, blocks_given, freed, has_shared_on, is_at, is_block_read, leader_written, lease_calls, spot_of_call}
@@ -10,7 +10,7 @@ use Rattle.sl_sector.specs.declared.sector.Leader.{Leader}
 use Rattle.sl_sessions.specs.Sessions.{is_active, session_numbered}
 use Rattle.sl_sessions.specs.Watching.{counted_over}
 use Rattle.sl_sessions.specs.declared.session.Session.{Session}
-use Rattle.sl_trace.specs.Traces.{Setting, Submitted, Trace, holdings, is_answered_ok, is_shared, same_place, spot_of_grant}
+use Rattle.sl_trace.specs.Traces.{Setting, Submitted, Trace, held_by, holdings, is_answered_ok, is_orphan, is_shared, same_place, spot_of_grant}
 use Rattle.sl_trace.specs.declared.effects.Entry.{Entry}
 use Rattle.sl_trace.specs.declared.effects.Grant.{Grant}
 use Rattle.sl_trace.specs.declared.effects.Spot.{Spot}
@@ -20,7 +20,7 @@ use Rattle.sl_witness.proofs.Leaders.{seek_won}
 use Rattle.sl_witness.proofs.Seeking.{seek_all, seek_any, seek_by, seek_false, seek_for, seek_lt, seek_same, seek_some, seek_text, seek_true, seek_up_to, ◌>>=◌}
 use Rattle.sl_words.proofs.CaseLaws.{not_both}
 use Rattle.sl_words.specs.Words.{present}
-use Rattle.std.specs.Prelude.{Contains, IsFalse, IsSome, IsTrue, List, None, Option, Some, is_some, true, ℕ, ◌&&◌, ◌||◌, ◌∷◌, ◌≡◌, ◌≤◌}
+use Rattle.std.specs.Prelude.{Contains, IsFalse, IsSome, IsTrue, List, None, Option, Some, is_some, length, true, ℕ, ◌&&◌, ◌||◌, ◌∷◌, ◌≡◌, ◌≤◌}
 
 -- ---- no shared mode
 
@@ -195,12 +195,34 @@ seek_grant_to st es s g = do
   lockspace ← seek_text g.lockspace s.lockspace
   placed ← seek_true (is_base st.layout g.offset)
   alone ← seek_all (GoesBeside g) (seek_beside g) (holdings es)
+  single ← seek_same (length (held_by (holdings es) g.process g.path g.offset)) 1
   taken ← seek_taken st es s (spot_of_grant g) g.lver
   not_freed ← seek_lt (freed (lease_calls st es s (spot_of_grant g))) g.lver
-  Some (record { active = active; lockspace = lockspace; placed = placed; alone = alone; taken = λ h. taken; not_freed = λ h. not_freed })
+  Some (record {
+    active = λ other. active;
+    lockspace = lockspace;
+    placed = placed;
+    alone = alone;
+    single = single;
+    taken = λ h. taken;
+    not_freed = λ h. not_freed;
+  })
+
+-- The grant is no orphan.
+abbrev pub NoOrphan : Trace → Entry → Grant → Type 0
+NoOrphan past e g = IsTrue (is_orphan g) → LawfulOrphan past e g
+
+pub of_a_process : (past : Trace) (e : Entry) (g : Grant) → IsFalse (is_orphan g) → NoOrphan past e g
+of_a_process past e g none is = absurd (not_both (is_orphan g) is none)
+
+abbrev pub seek_no_orphan : (past : Trace) (e : Entry) (g : Grant) → Option (NoOrphan past e g)
+seek_no_orphan past e g = do
+  h ← seek_false (is_orphan g)
+  Some (of_a_process past e g h)
 
 abbrev pub seek_grants : (st : Setting) (past : Trace) (e : Entry) → Option (LawfulGrant st past e)
 seek_grants st past e = do
   owned ← seek_all (λ g. IsSome (session_numbered st (e ∷ past) g.session)) (λ g. seek_true (is_some (session_numbered st (e ∷ past) g.session))) e.effects.grants
   each ← seek_each_grant st (λ s g. LawfulGrantTo st (e ∷ past) s g) (λ s g. seek_grant_to st (e ∷ past) s g) (e ∷ past) e.effects.grants
-  Some (record { owned = owned; each = each })
+  orphans ← seek_all (NoOrphan past e) (seek_no_orphan past e) e.effects.grants
+  Some (record { owned = owned; each = each; orphans = λ g has is. orphans g has is })

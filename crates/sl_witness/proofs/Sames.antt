@@ -14,11 +14,13 @@ use Rattle.sl_trace.specs.declared.effects.Purpose.TheVariants.{SeeRequest, Valu
 use Rattle.sl_trace.specs.declared.effects.Purpose.{Purpose}
 use Rattle.sl_trace.specs.declared.input.Answer.TheVariants.{Written}
 use Rattle.sl_trace.specs.declared.input.Answer.{Answer}
-use Rattle.sl_trace.specs.declared.reply.Reply.TheVariants.{Value}
+use Rattle.sl_trace.specs.declared.input.Input.{Input}
+use Rattle.sl_trace.specs.declared.input.Input.TheVariants.{Exit, Spawned}
+use Rattle.sl_trace.specs.declared.reply.Reply.TheVariants.{Value, ValueSet}
 use Rattle.sl_trace.specs.declared.reply.Reply.{Reply}
 use Rattle.sl_witness.proofs.Seeking.{seek_same, seek_text, ◌>>=◌}
 use Rattle.std.proofs.Common.{ap, refl}
-use Rattle.std.specs.Prelude.{Bool, List, None, Option, Some, false, true, ℕ, ◌≡◌}
+use Rattle.std.specs.Prelude.{Bool, List, None, Option, Some, false, not, true, ℕ, ◌≡◌}
 
 -- ---- truths and options of names
 
@@ -157,3 +159,27 @@ tells_value r = false
 
 pub no_value_told : (r : Reply) → tells_value r ≡ false → (lver seq : ℕ) (bytes : List ℕ) → r ≡ Value lver seq bytes → ⊥
 no_value_told r h lver seq bytes is = let same : tells_value r ≡ true = ap tells_value is in cc
+
+-- Whether the reply tells that a value was written.
+abbrev pub tells_set : Reply → Bool
+tells_set (ValueSet lver seq) = true
+tells_set r = false
+
+pub no_set_told : (r : Reply) → tells_set r ≡ false → (lver seq : ℕ) → r ≡ ValueSet lver seq → ⊥
+no_set_told r h lver seq is = let same : tells_set r ≡ true = ap tells_set is in cc
+
+-- Whether a process exits.
+abbrev pub is_exit : Input → Bool
+is_exit (Exit p) = true
+is_exit i = false
+
+pub no_exit : (i : Input) → is_exit i ≡ false → (p : ℕ) → i ≡ Exit p → ⊥
+no_exit i h p is = let same : is_exit i ≡ true = ap is_exit is in cc
+
+-- Whether a child was not started.
+abbrev pub is_not_started : Input → Bool
+is_not_started (Spawned p ok) = not ok
+is_not_started i = false
+
+pub no_failure : (i : Input) → is_not_started i ≡ false → (p : ℕ) → i ≡ Spawned p false → ⊥
+no_failure i h p is = let same : is_not_started i ≡ true = ap is_not_started is in cc

@@ -4,22 +4,26 @@ use Rattle.sl_due.specs.DueAnswers.{after_answer, after_answer_of}
 use Rattle.sl_due.specs.DueCommands.{after_end, carry_decision, decided, on_line}
 use Rattle.sl_due.specs.DueDelta.{after_free, after_join_answer, after_renewal, after_survey, carry_delta, see_requests}
 use Rattle.sl_due.specs.DueFirst.{begin_recoveries, begin_recovery, kill_holders, kills, refuse, signal_and_refuse, time_out, time_outs}
-use Rattle.sl_due.specs.DueInputs.{on_exit, on_spawned, take_input}
+use Rattle.sl_due.specs.DueInputs.{leave_holdings, on_exit, on_spawned, take_input}
 use Rattle.sl_due.specs.DueLease.{after_lease_answer, carry_lease, settle}
 use Rattle.sl_due.specs.DueRequests.{after_request_read, after_see_request, after_value_read, request_refusal}
 use Rattle.sl_due.specs.DueWake.{finish, finish_session, join_on_wake, on_wake, renew_on_wake, settle_on_wake, settlings}
 use Rattle.sl_examples.specs.Cheap.{cheap_language, cheap_program}
 use Rattle.sl_examples.specs.Rows.{owner_reset_then_taken_over}
+use Rattle.sl_law.specs.Lawful.{Lawful}
 use Rattle.sl_leases.specs.Ballots.{instance_of, phase1_block, phase2_block, stop_of}
 use Rattle.sl_leases.specs.LeaseWork.{area_next, begin_next, lease_next, settle_next}
 use Rattle.sl_leases.specs.Leases.{known}
+use Rattle.sl_lvm.specs.Lvm.{begins, goes_on_with, lvm_turn}
+use Rattle.sl_lvm.specs.LvmLines.{lvm_forms}
 use Rattle.sl_report.specs.Replay.{due_run, effects_of}
 use Rattle.sl_report.specs.Reports.{count_event}
 use Rattle.sl_report.specs.ScheduleLines.{event_forms, header_forms, header_of, header_tests}
 use Rattle.sl_report.specs.Schedules.{HeaderReading, Header_read, Header_refused, NumberedLine, event_lines_of, numbered_lines, read_header}
 use Rattle.sl_run.specs.Conflicts.{world_holdings}
 use Rattle.sl_run.specs.Events.{event_tests, first_change, happens, pass_tests}
-use Rattle.sl_run.specs.Runs.{Happening, world_after}
+use Rattle.sl_run.specs.Locks.{locks_after, told_effects}
+use Rattle.sl_run.specs.Runs.{EachDaemon, Happening, world_after}
 use Rattle.sl_run.specs.Safety.{LawfulRun, world_at}
 use Rattle.sl_run.specs.Worlds.{World, initial_record, machine_of_header}
 use Rattle.sl_run.specs.declared.event.Event.TheVariants.{Reset}
@@ -53,11 +57,11 @@ abbrev reading : HeaderReading
 reading = read_header cheap_language [] 1 (numbered_lines (as_bytes owner_reset_then_taken_over.source))
 
 reads : reading ≡ Header_read witness_header (rest_of reading)
-unfolding after_answer after_answer_of after_end after_free after_input after_join_answer after_lease_answer after_renewal after_request_read after_see_request after_survey after_value_read area_next before_input begin_next begin_recoveries begin_recovery block_rules carry_decision carry_delta carry_lease checked_part count_event decided decoded delta_rules digits due due_step event_forms event_tests field_bytes fields_of finish finish_session first_change forms header_forms header_of header_tests initial_record instance_of join_on_wake kill_holders kills known leader_rules lease_next machine_of_header magic next_after_deciding next_after_first next_after_verify next_after_watch next_in_joining next_on_wake next_renewal on_exit on_line on_spawned on_wake padded_text pass_tests phase1_block phase2_block refuse renew_on_wake reply_words request_refusal request_rules see_requests settle settle_next settle_on_wake settlings signal_and_refuse spelling stop_of take_input time_out time_outs u32_at u32_bytes u64_at u64_bytes value_rules
+unfolding after_answer after_answer_of after_end after_free after_input after_join_answer after_lease_answer after_renewal after_request_read after_see_request after_survey after_value_read area_next before_input begin_next begin_recoveries begin_recovery begins block_rules carry_decision carry_delta carry_lease checked_part count_event decided decoded delta_rules digits due due_step event_forms event_tests field_bytes fields_of finish finish_session first_change forms goes_on_with header_forms header_of header_tests initial_record instance_of join_on_wake kill_holders kills known leader_rules lease_next leave_holdings locks_after lvm_forms lvm_turn machine_of_header magic next_after_deciding next_after_first next_after_verify next_after_watch next_in_joining next_on_wake next_renewal on_exit on_line on_spawned on_wake padded_text pass_tests phase1_block phase2_block refuse renew_on_wake reply_words request_refusal request_rules see_requests settle settle_next settle_on_wake settlings signal_and_refuse spelling stop_of take_input time_out time_outs told_effects u32_at u32_bytes u64_at u64_bytes value_rules
 reads = refl
 
 tells : map (λ l. l.1) (event_lines_of cheap_language witness_header (rest_of reading)) ≡ map (λ e. Ok e) witness_events
-unfolding after_answer after_answer_of after_end after_free after_input after_join_answer after_lease_answer after_renewal after_request_read after_see_request after_survey after_value_read area_next before_input begin_next begin_recoveries begin_recovery block_rules carry_decision carry_delta carry_lease checked_part count_event decided decoded delta_rules digits due due_step event_forms event_tests field_bytes fields_of finish finish_session first_change forms header_forms header_of header_tests initial_record instance_of join_on_wake kill_holders kills known leader_rules lease_next machine_of_header magic next_after_deciding next_after_first next_after_verify next_after_watch next_in_joining next_on_wake next_renewal on_exit on_line on_spawned on_wake padded_text pass_tests phase1_block phase2_block refuse renew_on_wake reply_words request_refusal request_rules see_requests settle settle_next settle_on_wake settlings signal_and_refuse spelling stop_of take_input time_out time_outs u32_at u32_bytes u64_at u64_bytes value_rules
+unfolding after_answer after_answer_of after_end after_free after_input after_join_answer after_lease_answer after_renewal after_request_read after_see_request after_survey after_value_read area_next before_input begin_next begin_recoveries begin_recovery begins block_rules carry_decision carry_delta carry_lease checked_part count_event decided decoded delta_rules digits due due_step event_forms event_tests field_bytes fields_of finish finish_session first_change forms goes_on_with header_forms header_of header_tests initial_record instance_of join_on_wake kill_holders kills known leader_rules lease_next leave_holdings locks_after lvm_forms lvm_turn machine_of_header magic next_after_deciding next_after_first next_after_verify next_after_watch next_in_joining next_on_wake next_renewal on_exit on_line on_spawned on_wake padded_text pass_tests phase1_block phase2_block refuse renew_on_wake reply_words request_refusal request_rules see_requests settle settle_next settle_on_wake settlings signal_and_refuse spelling stop_of take_input time_out time_outs told_effects u32_at u32_bytes u64_at u64_bytes value_rules
 tells = refl
 
 is_of_the_schedule : IsOfTheSchedule
@@ -69,12 +73,15 @@ header_found : IsSome (seek_header witness_header)
 header_found = refl
 
 run_found : IsSome (seek_run witness_world witness_events)
-unfolding after_answer after_answer_of after_end after_free after_input after_join_answer after_lease_answer after_renewal after_request_read after_see_request after_survey after_value_read area_next before_input begin_next begin_recoveries begin_recovery block_rules carry_decision carry_delta carry_lease checked_part count_event decided decoded delta_rules digits due due_step event_forms event_tests field_bytes fields_of finish finish_session first_change forms header_forms header_of header_tests initial_record instance_of join_on_wake kill_holders kills known leader_rules lease_next machine_of_header magic next_after_deciding next_after_first next_after_verify next_after_watch next_in_joining next_on_wake next_renewal on_exit on_line on_spawned on_wake padded_text pass_tests phase1_block phase2_block refuse renew_on_wake reply_words request_refusal request_rules see_requests settle settle_next settle_on_wake settlings signal_and_refuse spelling stop_of take_input time_out time_outs u32_at u32_bytes u64_at u64_bytes value_rules
+unfolding after_answer after_answer_of after_end after_free after_input after_join_answer after_lease_answer after_renewal after_request_read after_see_request after_survey after_value_read area_next before_input begin_next begin_recoveries begin_recovery begins block_rules carry_decision carry_delta carry_lease checked_part count_event decided decoded delta_rules digits due due_step event_forms event_tests field_bytes fields_of finish finish_session first_change forms goes_on_with header_forms header_of header_tests initial_record instance_of join_on_wake kill_holders kills known leader_rules lease_next leave_holdings locks_after lvm_forms lvm_turn machine_of_header magic next_after_deciding next_after_first next_after_verify next_after_watch next_in_joining next_on_wake next_renewal on_exit on_line on_spawned on_wake padded_text pass_tests phase1_block phase2_block refuse renew_on_wake reply_words request_refusal request_rules see_requests settle settle_next settle_on_wake settlings signal_and_refuse spelling stop_of take_input time_out time_outs told_effects u32_at u32_bytes u64_at u64_bytes value_rules
 run_found = refl
 
 laws_found : IsSome (seek_each_daemon (world_at cheap_program witness_header witness_run))
-unfolding after_answer after_answer_of after_end after_free after_input after_join_answer after_lease_answer after_renewal after_request_read after_see_request after_survey after_value_read area_next before_input begin_next begin_recoveries begin_recovery block_rules carry_decision carry_delta carry_lease checked_part count_event decided decoded delta_rules digits due due_step event_forms event_tests field_bytes fields_of finish finish_session first_change forms header_forms header_of header_tests initial_record instance_of join_on_wake kill_holders kills known leader_rules lease_next machine_of_header magic next_after_deciding next_after_first next_after_verify next_after_watch next_in_joining next_on_wake next_renewal on_exit on_line on_spawned on_wake padded_text pass_tests phase1_block phase2_block refuse renew_on_wake reply_words request_refusal request_rules see_requests settle settle_next settle_on_wake settlings signal_and_refuse spelling stop_of take_input time_out time_outs u32_at u32_bytes u64_at u64_bytes value_rules
+unfolding after_answer after_answer_of after_end after_free after_input after_join_answer after_lease_answer after_renewal after_request_read after_see_request after_survey after_value_read area_next before_input begin_next begin_recoveries begin_recovery begins block_rules carry_decision carry_delta carry_lease checked_part count_event decided decoded delta_rules digits due due_step event_forms event_tests field_bytes fields_of finish finish_session first_change forms goes_on_with header_forms header_of header_tests initial_record instance_of join_on_wake kill_holders kills known leader_rules lease_next leave_holdings locks_after lvm_forms lvm_turn machine_of_header magic next_after_deciding next_after_first next_after_verify next_after_watch next_in_joining next_on_wake next_renewal on_exit on_line on_spawned on_wake padded_text pass_tests phase1_block phase2_block refuse renew_on_wake reply_words request_refusal request_rules see_requests settle settle_next settle_on_wake settlings signal_and_refuse spelling stop_of take_input time_out time_outs told_effects u32_at u32_bytes u64_at u64_bytes value_rules
 laws_found = refl
+
+each_lawful : EachDaemon Lawful (world_at cheap_program witness_header witness_run)
+each_lawful = found (seek_each_daemon (world_at cheap_program witness_header witness_run)) laws_found
 
 is_lawful : LawfulRun cheap_program witness_header witness_run
 is_lawful =
@@ -82,7 +89,7 @@ is_lawful =
       header = found (seek_header witness_header) header_found;
       digest = cheap_is_digest;
       is_run = found (seek_run witness_world witness_events) run_found;
-      lawful = found (seek_each_daemon (world_at cheap_program witness_header witness_run)) laws_found;
+      lawful = λ d has. (each_lawful d has).orderly;
     }
 
 -- ---- the resource passes over
@@ -109,11 +116,11 @@ abbrev world_then : World
 world_then = world_at cheap_program witness_header before
 
 owner_holds : world_holdings world_then ≡ record { machine = 2; held = grant 9 1 } ∷ []
-unfolding after_answer after_answer_of after_end after_free after_input after_join_answer after_lease_answer after_renewal after_request_read after_see_request after_survey after_value_read area_next before_input begin_next begin_recoveries begin_recovery block_rules carry_decision carry_delta carry_lease checked_part count_event decided decoded delta_rules digits due due_step event_forms event_tests field_bytes fields_of finish finish_session first_change forms header_forms header_of header_tests initial_record instance_of join_on_wake kill_holders kills known leader_rules lease_next machine_of_header magic next_after_deciding next_after_first next_after_verify next_after_watch next_in_joining next_on_wake next_renewal on_exit on_line on_spawned on_wake padded_text pass_tests phase1_block phase2_block refuse renew_on_wake reply_words request_refusal request_rules see_requests settle settle_next settle_on_wake settlings signal_and_refuse spelling stop_of take_input time_out time_outs u32_at u32_bytes u64_at u64_bytes value_rules
+unfolding after_answer after_answer_of after_end after_free after_input after_join_answer after_lease_answer after_renewal after_request_read after_see_request after_survey after_value_read area_next before_input begin_next begin_recoveries begin_recovery begins block_rules carry_decision carry_delta carry_lease checked_part count_event decided decoded delta_rules digits due due_step event_forms event_tests field_bytes fields_of finish finish_session first_change forms goes_on_with header_forms header_of header_tests initial_record instance_of join_on_wake kill_holders kills known leader_rules lease_next leave_holdings locks_after lvm_forms lvm_turn machine_of_header magic next_after_deciding next_after_first next_after_verify next_after_watch next_in_joining next_on_wake next_renewal on_exit on_line on_spawned on_wake padded_text pass_tests phase1_block phase2_block refuse renew_on_wake reply_words request_refusal request_rules see_requests settle settle_next settle_on_wake settlings signal_and_refuse spelling stop_of take_input time_out time_outs told_effects u32_at u32_bytes u64_at u64_bytes value_rules
 owner_holds = refl
 
 taker_holds : world_holdings (world_at cheap_program witness_header witness_run) ≡ record { machine = 1; held = grant 7 2 } ∷ []
-unfolding after_answer after_answer_of after_end after_free after_input after_join_answer after_lease_answer after_renewal after_request_read after_see_request after_survey after_value_read area_next before_input begin_next begin_recoveries begin_recovery block_rules carry_decision carry_delta carry_lease checked_part count_event decided decoded delta_rules digits due due_step event_forms event_tests field_bytes fields_of finish finish_session first_change forms header_forms header_of header_tests initial_record instance_of join_on_wake kill_holders kills known leader_rules lease_next machine_of_header magic next_after_deciding next_after_first next_after_verify next_after_watch next_in_joining next_on_wake next_renewal on_exit on_line on_spawned on_wake padded_text pass_tests phase1_block phase2_block refuse renew_on_wake reply_words request_refusal request_rules see_requests settle settle_next settle_on_wake settlings signal_and_refuse spelling stop_of take_input time_out time_outs u32_at u32_bytes u64_at u64_bytes value_rules
+unfolding after_answer after_answer_of after_end after_free after_input after_join_answer after_lease_answer after_renewal after_request_read after_see_request after_survey after_value_read area_next before_input begin_next begin_recoveries begin_recovery begins block_rules carry_decision carry_delta carry_lease checked_part count_event decided decoded delta_rules digits due due_step event_forms event_tests field_bytes fields_of finish finish_session first_change forms goes_on_with header_forms header_of header_tests initial_record instance_of join_on_wake kill_holders kills known leader_rules lease_next leave_holdings locks_after lvm_forms lvm_turn machine_of_header magic next_after_deciding next_after_first next_after_verify next_after_watch next_in_joining next_on_wake next_renewal on_exit on_line on_spawned on_wake padded_text pass_tests phase1_block phase2_block refuse renew_on_wake reply_words request_refusal request_rules see_requests settle settle_next settle_on_wake settlings signal_and_refuse spelling stop_of take_input time_out time_outs told_effects u32_at u32_bytes u64_at u64_bytes value_rules
 taker_holds = refl
 
 -- The run of more events goes on from where that of the first ends.
@@ -137,4 +144,4 @@ passes_over =
     }
 
 pub takeover_is_lawful : TakeoverIsLawful
-takeover_is_lawful = record { schedule = is_of_the_schedule; lawful = is_lawful; passes = passes_over }
+takeover_is_lawful = record { schedule = is_of_the_schedule; lawful = is_lawful; each = each_lawful; passes = passes_over }

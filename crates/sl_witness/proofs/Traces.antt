@@ -1,12 +1,15 @@
 -- A search for all laws of a trace.
-use Rattle.sl_law.specs.Lawful.{Lawful}
+use Rattle.sl_law.specs.Lawful.{Lawful, Orderly}
 use Rattle.sl_law.specs.LawfulArea.{LawfulArea}
 use Rattle.sl_law.specs.LawfulBlock.{LawfulBlock}
 use Rattle.sl_law.specs.LawfulCalls.{LawfulCalls}
 use Rattle.sl_law.specs.LawfulDelta.{LawfulDelta}
+use Rattle.sl_law.specs.LawfulEnd.{LawfulEnd}
+use Rattle.sl_law.specs.LawfulExit.{LawfulExit}
 use Rattle.sl_law.specs.LawfulGrant.{LawfulGrant}
 use Rattle.sl_law.specs.LawfulLeader.{LawfulLeader}
 use Rattle.sl_law.specs.LawfulModes.{LawfulModes}
+use Rattle.sl_law.specs.LawfulParting.{LawfulParting}
 use Rattle.sl_law.specs.LawfulRecovery.{LawfulRecovery}
 use Rattle.sl_law.specs.LawfulValue.{LawfulValue}
 use Rattle.sl_law.specs.LawfulWatchdog.{LawfulWatchdog}
@@ -21,11 +24,11 @@ use Rattle.sl_witness.proofs.Eaches.{seek_each_entry, seek_follows}
 use Rattle.sl_witness.proofs.Leaders.{seek_leaders}
 use Rattle.sl_witness.proofs.Modes.{seek_grants, seek_modes}
 use Rattle.sl_witness.proofs.Seeking.{seek_all, ◌>>=◌}
-use Rattle.sl_witness.proofs.Watches.{seek_recovery, seek_values, seek_watchdog}
+use Rattle.sl_witness.proofs.Watches.{seek_ends, seek_exits, seek_parting, seek_recovery, seek_values, seek_watchdog}
 use Rattle.std.specs.Prelude.{Option, Some}
 
-abbrev pub seek_lawful : (st : Setting) (es : Trace) → Option (Lawful st es)
-seek_lawful st es = do
+abbrev pub seek_orderly : (st : Setting) (es : Trace) → Option (Orderly st es)
+seek_orderly st es = do
   is_trace ← seek_each_entry (FollowsTrace st) (seek_follows st) es
   calls ← seek_each_entry (LawfulCalls st) (seek_calls st) es
   delta ← seek_each_entry (LawfulDelta st) (seek_deltas st) es
@@ -35,7 +38,8 @@ seek_lawful st es = do
   modes ← seek_each_entry (LawfulModes st) (seek_modes st) es
   watchdog ← seek_each_entry (LawfulWatchdog st) (seek_watchdog st) es
   granting ← seek_each_entry (LawfulGrant st) (seek_grants st) es
-  recovery ← seek_each_entry (LawfulRecovery st) (seek_recovery st) es
+  ends ← seek_each_entry (LawfulEnd st) (seek_ends st) es
+  parting ← seek_each_entry (LawfulParting st) (seek_parting st) es
   values ← seek_each_entry (LawfulValue st) (seek_values st) es
   Some (record {
     is_trace = is_trace;
@@ -47,9 +51,17 @@ seek_lawful st es = do
     modes = modes;
     watchdog = watchdog;
     granting = granting;
-    recovery = recovery;
+    ends = ends;
+    parting = parting;
     values = values;
   })
+
+abbrev pub seek_lawful : (st : Setting) (es : Trace) → Option (Lawful st es)
+seek_lawful st es = do
+  orderly ← seek_orderly st es
+  exits ← seek_each_entry LawfulExit seek_exits es
+  recovery ← seek_each_entry (LawfulRecovery st) (seek_recovery st) es
+  Some (record { orderly = orderly; exits = exits; recovery = recovery })
 
 abbrev pub seek_each_daemon : (w : World) → Option (EachDaemon Lawful w)
 seek_each_daemon w = seek_all (λ d. Lawful d.setting d.trace) (λ d. seek_lawful d.setting d.trace) (daemons_of w)

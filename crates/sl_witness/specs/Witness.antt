@@ -3,10 +3,11 @@
 -- what is due. What is proved of lawful runs is proved of this one, so it is no empty talk.
 use Rattle.sl_examples.specs.Cheap.{cheap_language, cheap_program}
 use Rattle.sl_examples.specs.Rows.{owner_reset_then_taken_over}
+use Rattle.sl_law.specs.Lawful.{Lawful}
 use Rattle.sl_report.specs.Replay.{due_run}
 use Rattle.sl_report.specs.Schedules.{Header_read, NumberedLine, event_lines_of, numbered_lines, read_header}
 use Rattle.sl_run.specs.Conflicts.{world_holdings}
-use Rattle.sl_run.specs.Runs.{Happening}
+use Rattle.sl_run.specs.Runs.{EachDaemon, Happening}
 use Rattle.sl_run.specs.Safety.{LawfulRun, world_at}
 use Rattle.sl_run.specs.Worlds.{World, world_with}
 use Rattle.sl_run.specs.declared.event.Event.TheVariants.{Do, GiveCommand, Pass, Reset, Test, WakeUp}
@@ -87,4 +88,6 @@ pub record PassesOver (h : Header) (xs : List Happening) : Type 0 where
 pub record TakeoverIsLawful : Type 0 where
   pub schedule : IsOfTheSchedule
   pub lawful : LawfulRun cheap_program witness_header witness_run
+  -- not only orderly: what must be done by the end of an entry is done
+  pub each : EachDaemon Lawful (world_at cheap_program witness_header witness_run)
   pub passes : PassesOver witness_header witness_run

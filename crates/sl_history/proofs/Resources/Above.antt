@@ -1,0 +1,241 @@
+-- Numbers of ballots are above 0: a block of an instance has a number, since it comes from phase 1, or from a block that has one.
+use Rattle.sl_area.specs.Layouts.{Layout}
+use Rattle.sl_run_law.specs.Course.Stamping.{stamp_in}
+use Rattle.sl_run_law.proofs.Front.Having.{contains_right}
+use Rattle.sl_law.specs.LawfulArea.{is_area_work}
+use Rattle.sl_trace_law.proofs.Leases.ComingLaws.{blocks_come}
+use Rattle.sl_trace_law.proofs.Leases.NumberLaws.{number_is_place}
+use Rattle.sl_trace_law.proofs.Leases.TurnLaws.{one_at_a_time}
+use Rattle.sl_trace_law.specs.Leases.Promises.{WasAnsweredBy}
+use Rattle.sl_trace_law.specs.Leases.Ways.{BlockComes, FoundIn, Of_mode, Of_phase1, Of_phase2, Way, lease_among}
+use Rattle.sl_leases.specs.Leases.{block_of_host, block_submitted, blocks_given, is_area_read, is_block_read, is_lease_call, is_on, is_phase_read, spot_of_call}
+use Rattle.sl_run_law.proofs.Place.Areas.{resource_aligned}
+use Rattle.sl_run_law.proofs.Place.Daemons.{daemons_are_fine, stamp_order}
+use Rattle.sl_run_law.proofs.Place.Seats.{sized_in}
+use Rattle.sl_plain.proofs.Lists.{contains_more, kept_inside}
+use Rattle.sl_plain.proofs.Options.{some_there}
+use Rattle.sl_history.proofs.Resources.Calls.{found_at}
+use Rattle.sl_history.proofs.Resources.Looking.{By_area, By_phase, Gave, IsLook, given_blocks, look_seen, looked}
+use Rattle.sl_history.proofs.Resources.Owning.{block_is_lease, block_told, block_works, layout_at, lease_is_work, number_at, own_written, spot_is, works, written}
+use Rattle.sl_history.proofs.Resources.Showing.{Never, Once, Seen}
+use Rattle.sl_history.proofs.Resources.Standing.{Standing, parts, standing}
+use Rattle.sl_history.specs.Resources.Histories.{history_block, no_block}
+use Rattle.sl_history.specs.Resources.Promises.{HistoriesNumberAbove, history_of_line, spot_of_line}
+use Rattle.sl_history.specs.Resources.Sending.{Sent, all_sent, block_of_course, sent_at, step_of, writes_block}
+use Rattle.sl_run.specs.Runs.{Happening}
+use Rattle.sl_run.specs.Safety.{LawfulRun, world_at}
+use Rattle.sl_run.specs.Worlds.{Program, Stamp, World}
+use Rattle.sl_run.specs.declared.header.Header.{Header}
+use Rattle.sl_run.specs.declared.header.ResourceLine.{ResourceLine}
+use Rattle.sl_sector.specs.declared.sector.Block.{Block}
+use Rattle.sl_sessions.specs.Sessions.{is_call_of, session_numbered}
+use Rattle.sl_sessions.specs.declared.session.Session.{Session}
+use Rattle.sl_trace.specs.Traces.{Answered, Setting, Submitted, submitted}
+use Rattle.sl_trace.specs.declared.effects.Spot.{Spot}
+use Rattle.sl_words.proofs.CaseLaws.{none_some, one_value}
+use Rattle.sl_words.proofs.OrderLaws.{by_smaller}
+use Rattle.sl_words.proofs.WordLaws.{and_true}
+use Rattle.std.proofs.Common.{ap, arith, refl, subst, sym, ◌∙◌}
+use Rattle.std.proofs.lemmas.Bool.{eqb-true, or_left, or_right}
+use Rattle.std.specs.Option.{option_map_or}
+use Rattle.std.specs.Prelude.{Contains, List, None, Option, Some, filter, option_and_then, slice_get, true, unwrap_or, ℕ, ◌%◌, ◌&&◌, ◌++◌, ◌-◌, ◌<◌, ◌∷◌, ◌≡◌, ◌≤◌}
+
+-- ---- a resource's area
+
+pub line_aligned : (p : Program) (h : Header) (xs : List Happening) → LawfulRun p h xs → (r : ResourceLine) → Contains h.resources r
+    → (spot_of_line r).base % (world_at p h xs).layout.area ≡ 0
+line_aligned p h xs run r there = subst (λ n. r.offset % n ≡ 0) (sym (sized_in p h xs run).area) (resource_aligned h r run.header there)
+
+-- ---- a call of the lease before another
+
+-- What is among the lease's calls.
+pub record IsAmong (st : Setting) (s : Session) (at : Spot) (older : List Submitted) (q : Submitted) : Type 0 where
+  pub has : Contains older q
+  pub session : q.call.session ≡ s.number
+  pub lease : is_lease_call q ≡ true
+  pub on : is_on st.layout at q.call ≡ true
+
+pub is_among : (st : Setting) (s : Session) (at : Spot) (older : List Submitted) (q : Submitted) → Contains (lease_among st s at older) q → IsAmong st s at older q
+is_among st s at older q has =
+    let one = kept_inside (λ m. is_lease_call m && is_on st.layout at m.call) (filter (is_call_of s) older) q has in
+    let two = kept_inside (is_call_of s) older q one.0 in
+    let both = and_true (is_lease_call q) (is_on st.layout at q.call) one.1 in
+    record { has = two.0; session = eqb-true q.call.session s.number two.1; lease = both.0; on = both.1 }
+
+pub reads_by : (g : Layout) (q : Submitted) (bs : List (Option Block)) → Gave g q bs → is_block_read q ≡ true
+reads_by g q bs (By_area bytes told is same) = or_left (is_area_read q) (is_phase_read q) is
+reads_by g q bs (By_phase bytes told alone is same) = or_right (is_area_read q) (is_phase_read q) is
+
+-- What gave blocks is a read of blocks.
+pub reads_work : (g : Layout) (q : Submitted) (bs : List (Option Block)) → blocks_given g q ≡ Some bs → works q.call ≡ true
+reads_work g q bs h = or_right _ (is_block_read q) (reads_by g q bs (given_blocks g q bs h))
+
+-- A call of the lease before was answered by then.
+pub answered_before : (p : Program) (h : Header) (xs : List Happening) → LawfulRun p h xs → (x : Sent) (s : Standing (world_at p h xs) x) → works x.course.call ≡ true
+    → is_area_work x.course.call.purpose ≡ true → (q : Submitted)
+    → IsAmong s.daemon.setting s.session (spot_of_call s.daemon.setting.layout s.told.one) s.told.older q → works q.call ≡ true → WasAnsweredBy q s.told.one
+answered_before p h xs run x s work area q among other =
+    let m : Submitted = s.told.one in
+    let r = parts s.told.older q among.has in
+    let whole : submitted s.daemon.trace ≡ s.told.newer ++ m ∷ (r.newer ++ q ∷ r.older) = s.told.is ∙ ap (λ ms. s.told.newer ++ m ∷ ms) r.is in
+    let one : m.call ≡ x.course.call = s.told.pair.call in
+    one_at_a_time s.daemon.setting s.daemon.trace s.lawful s.told.newer r.newer r.older m q whole
+    (ap (λ c. c.session) one ∙ sym (number_at (world_at p h xs) x s) ∙ sym among.session) (ap works one ∙ work) (ap (λ c. is_area_work c.purpose) one ∙ area) other
+    (lease_is_work q.call.purpose among.lease) among.on
+
+-- .. so at a step not later than that of the other.
+pub answer_step : (p : Program) (h : Header) (xs : List Happening) → LawfulRun p h xs → (x : Sent) (s : Standing (world_at p h xs) x) → (q : Submitted)
+    → WasAnsweredBy q s.told.one → (a : Answered) → q.answer ≡ Some a → (t : Stamp) → stamp_in s.daemon.stamps a.at ≡ Some t → t.step ≤ step_of x
+answer_step p h xs run x s q by a told t stamped =
+    let w : World = world_at p h xs in
+    let same : by.answer ≡ a = one_value by.answer a q.answer by.answered told in
+    stamp_order w.step s.daemon.stamps a.at s.told.one.at t x.course.made (daemons_are_fine p h xs run x.machine s.machine s.daemon s.at s.has).stamps stamped s.told.pair.made
+    (subst (λ (y : Answered). y.at ≤ s.told.one.at) same by.by)
+
+pub in_older : (ms newer older : List Submitted) (m q : Submitted) → ms ≡ newer ++ m ∷ older → Contains older q → Contains ms q
+in_older ms newer older m q is has = subst (λ l. Contains l q) (sym is) (contains_right newer (m ∷ older) q (contains_more m older q has))
+
+pub older_look : (p : Program) (h : Header) (xs : List Happening) → LawfulRun p h xs → (x : Sent) (s : Standing (world_at p h xs) x) (at : Spot) (q : Submitted)
+    → IsAmong s.daemon.setting s.session at s.told.older q → IsLook p h xs x.machine s.machine s.daemon q
+older_look p h xs run x s at q among =
+    let n = number_is_place s.daemon.setting s.daemon.trace s.told.one.call.session s.session s.known in
+    record {
+      run = run;
+      at = s.at;
+      has = s.has;
+      lawful = s.lawful;
+      session = s.session;
+      its = ap (λ k. session_numbered s.daemon.setting s.daemon.trace k) n ∙ s.known;
+      there = in_older (submitted s.daemon.trace) s.told.newer s.told.older s.told.one q s.told.is among.has;
+      mine = among.session;
+    }
+
+host_there : (bs : List (Option Block)) (k : ℕ) (b : Block) (o : Option (Option Block)) → slice_get bs k ≡ o → unwrap_or o None ≡ Some b → slice_get bs k ≡ Some (Some b)
+host_there bs k b None is h = absurd (none_some b h)
+host_there bs k b (Some y) is h = is ∙ ap (λ z. Some z) h
+
+pub own_there : (bs : List (Option Block)) (host : ℕ) (b : Block) → block_of_host bs host ≡ Some b → slice_get bs (host - 1) ≡ Some (Some b)
+own_there bs host b h = host_there bs (host - 1) b (slice_get bs (host - 1)) refl h
+
+pub seen_by : (w : World) (at : Spot) (b : Block) (n k : ℕ) → n ≤ k → Seen w at b n → Seen w at b k
+seen_by w at b n k le (Never h) = Never h
+seen_by w at b n k le (Once z has on is less) = Once z has on is (omega (arith, less, le))
+
+-- A block that was found in a read before was written before, or is fresh.
+pub found_seen : (p : Program) (h : Header) (xs : List Happening) → LawfulRun p h xs → (at : Spot) → at.base % (world_at p h xs).layout.area ≡ 0 → (x : Sent)
+    → (s : Standing (world_at p h xs) x) → works x.course.call ≡ true → is_area_work x.course.call.purpose ≡ true
+    → spot_of_call s.daemon.setting.layout s.told.one ≡ at → (own : Block) → FoundIn s.daemon.setting.layout s.session.id (lease_among s.daemon.setting s.session at s.told.older) own
+    → Seen (world_at p h xs) at own (step_of x)
+found_seen p h xs run at zero x s work area spot own f =
+    let w : World = world_at p h xs in
+    let layout = layout_at p h xs run x s in
+    let among = is_among s.daemon.setting s.session at s.told.older f.read f.has in
+    let k = older_look p h xs run x s at f.read among in
+    let l = looked p h xs x.machine s.machine s.daemon f.read k f.blocks f.given (s.session.id - 1) own (own_there f.blocks s.session.id own f.block) in
+    let seen = look_seen p h xs x.machine s.machine s.daemon f.read k (s.session.id - 1) own l in
+    let by = answered_before p h xs run x s work area f.read (subst (λ a. IsAmong s.daemon.setting s.session a s.told.older f.read) (sym spot) among)
+    (reads_work s.daemon.setting.layout f.read f.blocks f.given) in
+    let early = answer_step p h xs run x s f.read by l.read.answered l.read.its l.read.stamp l.read.entry in
+    let place : spot_of_call w.layout f.read ≡ at = spot_is w.layout at f.read zero (ap (λ g. is_on g at f.read.call) (sym layout) ∙ among.on) in
+    seen_by w at own l.read.stamp.step (step_of x) early (subst (λ a. Seen w a own l.read.stamp.step) place seen)
+
+-- ---- where a block comes from
+
+pub told_spot : (p : Program) (h : Header) (xs : List Happening) → LawfulRun p h xs → (at : Spot) → at.base % (world_at p h xs).layout.area ≡ 0 → (x : Sent)
+    → (s : Standing (world_at p h xs) x) → is_on (world_at p h xs).layout at x.course.call ≡ true → spot_of_call s.daemon.setting.layout s.told.one ≡ at
+told_spot p h xs run at zero x s on =
+    let w : World = world_at p h xs in
+    ap (λ g. spot_of_call g s.told.one) (layout_at p h xs run x s)
+    ∙ spot_is w.layout at s.told.one zero (ap (λ c. is_on w.layout at c) s.told.pair.call ∙ on)
+
+pub comes_at : (p : Program) (h : Header) (xs : List Happening) → LawfulRun p h xs → (at : Spot) → at.base % (world_at p h xs).layout.area ≡ 0 → (x : Sent)
+    → (s : Standing (world_at p h xs) x) → is_on (world_at p h xs).layout at x.course.call ≡ true → (b : Block) → block_of_course x.course ≡ Some b
+    → BlockComes s.daemon.setting s.session at s.told.older s.told.one b
+comes_at p h xs run at zero x s on b is =
+    let some : 1 ≤ s.daemon.setting.layout.hosts = subst (λ (g : Layout). 1 ≤ g.hosts) (sym (layout_at p h xs run x s)) (sized_in p h xs run).hosts.0 in
+    subst (λ a. BlockComes s.daemon.setting s.session a s.told.older s.told.one b) (told_spot p h xs run at zero x s on)
+    (blocks_come s.daemon.setting s.daemon.trace s.lawful some s.told.newer s.told.older s.told.one b s.told.is (block_told (world_at p h xs) x s b is) s.session s.known)
+
+-- The own block of a write was written before, or is fresh.
+pub own_seen : (p : Program) (h : Header) (xs : List Happening) → LawfulRun p h xs → (at : Spot) → at.base % (world_at p h xs).layout.area ≡ 0 → (x : Sent)
+    → Contains (all_sent (world_at p h xs)) x → (s : Standing (world_at p h xs) x) → is_on (world_at p h xs).layout at x.course.call ≡ true → (b : Block)
+    → block_of_course x.course ≡ Some b → (c : BlockComes s.daemon.setting s.session at s.told.older s.told.one b) → (o : Option Block)
+    → block_submitted (lease_among s.daemon.setting s.session at s.told.older) ≡ o → Seen (world_at p h xs) at c.own (step_of x)
+own_seen p h xs run at zero x has s on b is c None found =
+    let w : World = world_at p h xs in
+    found_seen p h xs run at zero x s (block_works x.course b is) (lease_is_work x.course.call.purpose (block_is_lease w x s b is)) (told_spot p h xs run at zero x s on) c.own (c.found found)
+own_seen p h xs run at zero x has s on b is c (Some d) found =
+    let o = own_written p h xs run at zero x has s on b is c.own (found ∙ ap (λ y. Some y) (c.last d found)) in
+    Once o.sent o.has o.on o.block o.before
+
+-- ---- numbers
+
+abbrev Numbered : World → Spot → ℕ → Type 0
+Numbered w at n = (z : Sent) (b : Block) → Contains (all_sent w) z → is_on w.layout at z.course.call ≡ true → block_of_course z.course ≡ Some b → step_of z ≡ n → 0 < b.lver → 0 < b.mbal
+
+by_own : (lver mbal lver' mbal' : ℕ) → lver' ≡ lver → mbal' ≡ mbal → (0 < lver → 0 < mbal) → 0 < lver' → 0 < mbal'
+by_own lver mbal lver' mbal' p q h some = let more = h (subst (λ n. 0 < n) p some) in subst (λ n. 0 < n) (sym q) more
+
+pub nothing_above : (a : ℕ) → a ≡ 0 → 0 < a → ⊥
+nothing_above a h k = omega (arith, h, k)
+
+seen_numbered : (w : World) (at : Spot) (own : Block) (n : ℕ) → ((k : ℕ) → k < n → Numbered w at k) → Seen w at own n → 0 < own.lver → 0 < own.mbal
+seen_numbered w at own n before (Never h) some = absurd (nothing_above own.lver (ap (λ x. x.lver) h) some)
+seen_numbered w at own n before (Once z has on is less) some = before (step_of z) less z own has on is refl some
+
+by_way : (s : Session) (c : Submitted) (own b : Block) → Way s c own b → (0 < own.lver → 0 < own.mbal) → 0 < b.lver → 0 < b.mbal
+by_way s c own b (Of_phase1 at h) above some = h.positive
+by_way s c own b (Of_phase2 at h) above some = by_own own.lver own.mbal b.lver b.mbal h.lver h.mbal above some
+by_way s c own b (Of_mode at h) above some = by_own own.lver own.mbal b.lver b.mbal h.lver h.mbal above some
+
+-- Each block of an instance has a number.
+pub blocks_numbered : (p : Program) (h : Header) (xs : List Happening) → LawfulRun p h xs → (at : Spot) → at.base % (world_at p h xs).layout.area ≡ 0 → (n : ℕ)
+    → ((k : ℕ) → k < n → Numbered (world_at p h xs) at k) → Numbered (world_at p h xs) at n
+blocks_numbered p h xs run at zero n before x b has on is here some =
+    let w : World = world_at p h xs in
+    let s = standing p h xs run x has in
+    let c = comes_at p h xs run at zero x s on b is in
+    let seen = own_seen p h xs run at zero x has s on b is c (block_submitted (lease_among s.daemon.setting s.session at s.told.older)) refl in
+    by_way s.session s.told.one c.own b c.way (seen_numbered w at c.own n before (subst (λ k. Seen w at c.own k) here seen)) some
+
+-- ---- the history's block of a step
+
+-- What is written at a step.
+pub record WrittenAt (p : Program) (h : Header) (xs : List Happening) (r : ResourceLine) (e : ℕ) : Type 0 where
+  pub sent : Sent
+  pub is : sent_at (world_at p h xs) (spot_of_line r) writes_block e ≡ Some sent
+  pub has : Contains (all_sent (world_at p h xs)) sent
+  pub step_is : step_of sent ≡ e
+  pub on : is_on (world_at p h xs).layout (spot_of_line r) sent.course.call ≡ true
+  pub block : Block
+  pub wrote : block_of_course sent.course ≡ Some block
+  pub shown : (history_of_line p h xs r).block e ≡ history_block block
+
+pub block_by : (o : Option Sent) (x : Sent) (b : Block) → o ≡ Some x → block_of_course x.course ≡ Some b
+    → option_map_or history_block (option_and_then (λ y. block_of_course y.course) o) no_block ≡ history_block b
+block_by o x b is wrote =
+    ap (λ q. option_map_or history_block (option_and_then (λ y. block_of_course y.course) q) no_block) is ∙ ap (λ q. option_map_or history_block q no_block) wrote
+
+pub written_at : (p : Program) (h : Header) (xs : List Happening) (r : ResourceLine) (e : ℕ) → (history_of_line p h xs r).writes e ≡ true → WrittenAt p h xs r e
+written_at p h xs r e writes =
+    let w : World = world_at p h xs in
+    let x = some_there (sent_at w (spot_of_line r) writes_block e) writes in
+    let f = found_at w r writes_block e x.0 x.1 in
+    let b = written x.0.course f.1 in
+    record {
+      sent = x.0;
+      is = x.1;
+      has = f.0.sent;
+      step_is = f.0.step_is;
+      on = f.0.on;
+      block = b.0;
+      wrote = b.1;
+      shown = block_by (sent_at w (spot_of_line r) writes_block e) x.0 b.0 x.1 b.1;
+    }
+
+pub number_above : HistoriesNumberAbove
+number_above p h xs r run there differ e writes one =
+    let x = written_at p h xs r e writes in
+    let all = by_smaller (λ n. Numbered (world_at p h xs) (spot_of_line r) n) (λ n before. blocks_numbered p h xs run (spot_of_line r) (line_aligned p h xs run r there) n before) in
+    let some : 0 < x.block.lver = subst (λ y. 0 < y.lver) x.shown one.instance in
+    subst (λ y. 0 < y.mbal) (sym x.shown) (all e x.sent x.block x.has x.on x.wrote x.step_is some)

@@ -1,0 +1,212 @@
+-- What a read of blocks shows: each block that it gives was written before, or is a fresh one.
+use Rattle.sl_area.specs.Layouts.{Layout, Sizes, layout_with, record_in, sector_with}
+use Rattle.sl_area.specs.Places.{block_offset, fresh_block, fresh_leader, in_area, no_request, no_value}
+use Rattle.sl_run_law.proofs.Landing.Initial.{initial_is_record}
+use Rattle.sl_law.specs.LawfulArea.{IsAreaRead, IsBlockRead, IsLeaseRead, IsRightRead}
+use Rattle.sl_leases.specs.Leases.{block_of_record, is_area_read, is_on, is_phase_read}
+use Rattle.sl_run_law.proofs.Place.Areas.{is_within}
+use Rattle.sl_run_law.proofs.Place.Beginnings.{zeros_at}
+use Rattle.sl_run_law.proofs.Place.Finding.{same_read}
+use Rattle.sl_run_law.proofs.Place.Proven.{promised}
+use Rattle.sl_run_law.proofs.Place.Reading.{IsShown, header_is, layout_is, reads_back}
+use Rattle.sl_run_law.proofs.Place.Seats.{sized_in}
+use Rattle.sl_run_law.proofs.Place.Sizes.{IsSized, sector_fits, sector_has_bytes, sized, slot_below}
+use Rattle.sl_plain.proofs.Numbers.{trans_lt}
+use Rattle.sl_history.proofs.Resources.Latest.{sent_as}
+use Rattle.sl_history.proofs.Resources.Standing.{sent_there}
+use Rattle.sl_history.specs.Resources.Histories.{history_block, no_block}
+use Rattle.sl_history.specs.Resources.Sending.{Sent, all_sent, block_of_course, step_of}
+use Rattle.sl_run.specs.Headers.{IsHeader}
+use Rattle.sl_run.specs.Runs.{Happening}
+use Rattle.sl_run.specs.Safety.{LawfulRun, world_at}
+use Rattle.sl_run.specs.Worlds.{Course, Landing, Program, World, first_landing, initial_bytes, initial_of_lockspace, initial_of_resource, initial_record}
+use Rattle.sl_run.specs.declared.header.Header.{Header}
+use Rattle.sl_run.specs.declared.header.LockspaceLine.{LockspaceLine}
+use Rattle.sl_run.specs.declared.header.ResourceLine.{ResourceLine}
+use Rattle.sl_sector.proofs.PublicLaws.{spelled_is_read}
+use Rattle.sl_sector.specs.Spelling.{IsDigest, block_in}
+use Rattle.sl_sector.specs.declared.sector.Block.{Block}
+use Rattle.sl_sector.specs.declared.sector.Rec.TheVariants.{BlockIs, DeltaIs, LeaderIs, RequestIs, ValueIs}
+use Rattle.sl_sector.specs.declared.sector.Rec.{Rec}
+use Rattle.sl_sector.specs.declared.sector.Bad.{Bad}
+use Rattle.sl_trace.specs.Traces.{Setting, Submitted, new_call, record_of}
+use Rattle.sl_trace.specs.declared.effects.LeaseStep.TheVariants.{ClearMode, FreeLeader, Phase1Read, Phase1Write, Phase2Read, Phase2Write, ReadArea, ReadBeforeFree, SetMode, TakeLeader}
+use Rattle.sl_trace.specs.declared.effects.LeaseStep.{LeaseStep}
+use Rattle.sl_trace.specs.declared.effects.Op.TheVariants.{ReadSectors}
+use Rattle.sl_trace.specs.declared.effects.Purpose.TheVariants.{Joining, Lease, Leaving, Renewal, RequestRead, RequestWrite, SeeRequest, Survey, ValueRead, ValueWrite}
+use Rattle.sl_trace.specs.declared.effects.Purpose.{Purpose}
+use Rattle.sl_trace.specs.declared.effects.Spot.{Spot}
+use Rattle.sl_trace.specs.declared.effects.Work.{Work}
+use Rattle.sl_words.proofs.CaseLaws.{false_is_true, none_some, some_value}
+use Rattle.sl_words.proofs.WordLaws.{choose_some}
+use Rattle.sl_words.specs.Words.{choose}
+use Rattle.std.proofs.Common.{ap, arith, inl, inr, refl, subst, sym, ◌∙◌}
+use Rattle.std.proofs.lemmas.Bool.{and_from, eqb-true}
+use Rattle.std.proofs.lemmas.Slice.Eq.{bytes_eq-Decides}
+use Rattle.std.specs.Prelude.{Bool, Contains, List, None, Ok, Err, Option, Result, Some, bytes_eq, false, find, if◌then◌else◌, nat_lt, option_and_then, replicate, true, [], ℕ, ◌&&◌, ◌*◌, ◌+◌, ◌-◌, ◌/◌, ◌<◌, ◌==◌, ◌≡◌, ◌≤◌}
+
+-- ---- what stood there at first
+
+pub block_or : (a b : Block) → BlockIs a ≡ BlockIs b → a ≡ b
+block_or a b h = cc
+
+of_lockspace : (h : Header) (l : LockspaceLine) (k : ℕ) (b : Block) → initial_of_lockspace h l k ≡ Some (BlockIs b) → ⊥
+of_lockspace h l k b eq = let c = (choose_some _ _ _ eq).1 in absurd cc
+
+of_resource : (g : Layout) (x : ResourceLine) (k : ℕ) (b : Block) (leader request block last : Bool)
+    → (if leader then Some (LeaderIs (fresh_leader g x.lockspace x.name))
+    else (if request then Some (RequestIs no_request)
+    else (if block then Some (BlockIs (fresh_block (k - 1)))
+    else choose last (ValueIs no_value)))) ≡ Some (BlockIs b) → history_block b ≡ no_block
+of_resource g x k b true request block last eq = absurd cc
+of_resource g x k b false true block last eq = absurd cc
+of_resource g x k b false false true last eq = ap history_block (sym (block_or (fresh_block (k - 1)) b (some_value (BlockIs (fresh_block (k - 1))) (BlockIs b) eq)))
+of_resource g x k b false false false true eq = absurd cc
+of_resource g x k b false false false false eq = absurd (none_some (BlockIs b) eq)
+
+initial_by : (g : Layout) (h : Header) (offset : ℕ) (b : Block) (o : Option LockspaceLine) (q : Option ResourceLine)
+    → elim o as (λ x. Option Rec) [
+      | Some l ↦ initial_of_lockspace h l ((offset - l.offset) / g.sector)
+      | None ↦ elim q as (λ x. Option Rec) [ Some x ↦ initial_of_resource g x ((offset - x.offset) / g.sector) | None ↦ None ]
+    ] ≡ Some (BlockIs b) → history_block b ≡ no_block
+initial_by g h offset b None None eq = absurd (none_some (BlockIs b) eq)
+initial_by g h offset b None (Some x) eq =
+    let k : ℕ = (offset - x.offset) / g.sector in
+    of_resource g x k b (k == 0) (k == 1) (nat_lt k (g.hosts + 2)) ((k + 1) * g.sector == g.area) eq
+initial_by g h offset b (Some l) q eq = absurd (of_lockspace h l ((offset - l.offset) / g.sector) b eq)
+
+initial_fresh : (g : Layout) (h : Header) (path : List ℕ) (offset : ℕ) (b : Block) → initial_record g h path offset ≡ Some (BlockIs b) → history_block b ≡ no_block
+unfolding initial_record
+initial_fresh g h path offset b eq =
+    initial_by g h offset b (find (λ l. bytes_eq l.path path && in_area g l.offset offset) h.lockspaces)
+    (find (λ r. bytes_eq r.path path && in_area g r.offset offset) h.resources) eq
+
+first_by : (digest : List ℕ → List ℕ) (h : Header) (path : List ℕ) (offset : ℕ) (o : Option Rec) (b : Block) → IsDigest digest → IsHeader h
+    → initial_record (layout_with digest h.geometry) h path offset ≡ o
+    → record_in (layout_with digest h.geometry)
+    (elim o as (λ x. List ℕ) [ None ↦ replicate h.geometry.sector 0 | Some x ↦ sector_with (layout_with digest h.geometry) x ]) ≡ Ok (BlockIs b)
+    → history_block b ≡ no_block
+first_by digest h path offset None b d ok is read =
+    absurd (zeros_at digest h.geometry.sector (BlockIs b) (sector_fits (layout_with digest h.geometry) (sized digest h.geometry ok.geometry)).0 read)
+first_by digest h path offset (Some x) b d ok is read =
+    let g : Layout = layout_with digest h.geometry in
+    let again = spelled_is_read digest d h.geometry.sector (sector_fits g (sized digest h.geometry ok.geometry)) x (initial_is_record digest h path offset x ok is) in
+    let same : x ≡ BlockIs b = same_read (record_in g (sector_with g x)) x (BlockIs b) again read in
+    initial_fresh g h path offset b (is ∙ ap (λ y. Some y) same)
+
+pub first_fresh : (p : Program) (h : Header) (xs : List Happening) → LawfulRun p h xs → (path : List ℕ) (offset : ℕ) (b : Block)
+    → record_in (world_at p h xs).layout (first_landing (world_at p h xs) path offset).bytes ≡ Ok (BlockIs b) → history_block b ≡ no_block
+first_fresh p h xs run path offset b read =
+    let w : World = world_at p h xs in
+    first_by p.digest h path offset (initial_record (layout_with p.digest h.geometry) h path offset) b run.digest run.header refl
+    (subst (λ g. record_in g (initial_bytes g h path offset) ≡ Ok (BlockIs b)) (layout_is p h xs)
+    (subst (λ k. record_in w.layout (initial_bytes w.layout k path offset) ≡ Ok (BlockIs b)) (header_is p h xs) read))
+
+-- ---- what a landing spells
+
+-- A block that was written on the area before a step, or that never was.
+pub data Seen (w : World) (at : Spot) (b : Block) (n : ℕ) : Type 0 where
+  Never : history_block b ≡ no_block → Seen w at b n
+  Once : (z : Sent) → Contains (all_sent w) z → is_on w.layout at z.course.call ≡ true → block_of_course z.course ≡ Some b → step_of z < n → Seen w at b n
+
+pub block_in_is : (host : ℕ) (r : Result Rec Bad) (b : Block) → block_in host r ≡ Some b → (r ≡ Ok (BlockIs b)) × (b.host ≡ host)
+block_in_is host (Ok (DeltaIs e)) b h = absurd (none_some b h)
+block_in_is host (Ok (LeaderIs e)) b h = absurd (none_some b h)
+block_in_is host (Ok (BlockIs e)) b h =
+    let c = choose_some (e.host == host) e b h in
+    (ap (λ x. Ok (BlockIs x)) c.1, ap (λ x. x.host) (sym c.1) ∙ eqb-true e.host host c.0)
+block_in_is host (Ok (RequestIs e)) b h = absurd (none_some b h)
+block_in_is host (Ok (ValueIs e)) b h = absurd (none_some b h)
+block_in_is host (Err bad) b h = absurd (none_some b h)
+
+low_block : (base s j : ℕ) → base ≤ base + s * (j + 1 + 1)
+low_block base s j = let k : ℕ = s * (j + 1 + 1) in omega arith
+
+two_above : (j n : ℕ) → j < n → j + 1 + 1 ≤ n + 2
+two_above j n lt = omega (arith, lt)
+
+-- A block's place is in its area.
+pub block_inside : {s : Sizes} (g : Layout) (base j : ℕ) → IsSized s g → j < g.hosts → in_area g base (block_offset g base (j + 1)) ≡ true
+block_inside g base j z lt =
+    is_within g base (block_offset g base (j + 1)) (low_block base g.sector j)
+    (slot_below g.sector base (j + 1 + 1) g.hosts g.area (sector_has_bytes g z) (two_above j g.hosts lt) z.room)
+
+wrote_it : (c : Course) (b : Block) (r : Rec) → record_of c.call.op ≡ Some r → r ≡ BlockIs b → block_of_course c ≡ Some b
+wrote_it c b r is same = ap (λ o. option_and_then block_of_record o) (is ∙ ap (λ x. Some x) same)
+
+-- What a sector of a host shows is one of these.
+pub sector_seen : (p : Program) (h : Header) (xs : List Happening) → LawfulRun p h xs → (at : Spot) (j : ℕ) (bytes : List ℕ) (n : ℕ) (b : Block)
+    → j < (world_at p h xs).layout.hosts → block_in (j + 1) (record_in (world_at p h xs).layout bytes) ≡ Some b
+    → IsShown (world_at p h xs) at.path (block_offset (world_at p h xs).layout at.base (j + 1)) bytes n → Seen (world_at p h xs) at b n
+sector_seen p h xs run at j bytes n b lt spells s =
+    let w : World = world_at p h xs in
+    let z = sized_in p h xs run in
+    let read : record_in w.layout s.landing.bytes ≡ Ok (BlockIs b) =
+    subst (λ bs. record_in w.layout bs ≡ Ok (BlockIs b)) s.shows (block_in_is (j + 1) (record_in w.layout bytes) b spells).0 in
+    elim s.from as (λ y. Seen w at b n) [
+      | inl landed ↦
+          let k = promised.written p h xs run s.landing landed in
+          let back = reads_back promised p h xs run (sector_fits w.layout z) s.landing k.machine k.call k.wrote (BlockIs b) read in
+          let path : k.wrote.course.call.path ≡ at.path = k.wrote.place.0 ∙ s.place.0 in
+          let offset : block_offset w.layout at.base (j + 1) ≡ k.wrote.course.call.offset = sym s.place.1 ∙ sym k.wrote.place.1 in
+          Once (sent_as k.machine k.wrote.course) (sent_there w k.machine k.wrote.machine k.wrote.course k.wrote.at k.wrote.has)
+          (and_from _ _ ((bytes_eq-Decides k.wrote.course.call.path at.path).1 path)
+          (subst (λ o. in_area w.layout at.base o ≡ true) offset (block_inside w.layout at.base j z lt)))
+          (wrote_it k.wrote.course b k.wrote.record_written k.wrote.writes back)
+          (trans_lt k.wrote.course.made.step s.landing.step n k.wrote.after.0 s.early)
+      | inr first ↦
+          Never (first_fresh p h xs run at.path (block_offset w.layout at.base (j + 1)) b (subst (λ (y : Landing). record_in w.layout y.bytes ≡ Ok (BlockIs b)) first read))
+    ]
+
+-- ---- a read is at its place
+
+abbrev purposed : Purpose → Submitted
+purposed p = new_call 0 0 (record { number = 0; session = 0; path = []; offset = 0; op = ReadSectors 0; purpose = p })
+
+area_step : (st : Setting) (at : Spot) (c : Submitted) (work : Work) (step : LeaseStep) → is_area_read (purposed (Lease work step)) ≡ true → IsLeaseRead st at c step → IsAreaRead st at c
+area_step st at c work (ReadArea name) h law = law
+area_step st at c work ReadBeforeFree h law = law
+area_step st at c work Phase1Write h law = absurd (false_is_true h)
+area_step st at c work Phase1Read h law = absurd (false_is_true h)
+area_step st at c work Phase2Write h law = absurd (false_is_true h)
+area_step st at c work Phase2Read h law = absurd (false_is_true h)
+area_step st at c work TakeLeader h law = absurd (false_is_true h)
+area_step st at c work SetMode h law = absurd (false_is_true h)
+area_step st at c work FreeLeader h law = absurd (false_is_true h)
+area_step st at c work ClearMode h law = absurd (false_is_true h)
+
+pub area_right : (st : Setting) (at : Spot) (c : Submitted) (p : Purpose) → is_area_read (purposed p) ≡ true → IsRightRead st at c p → IsAreaRead st at c
+area_right st at c (Lease work step) h law = area_step st at c work step h law
+area_right st at c (Joining j step) h law = absurd (false_is_true h)
+area_right st at c Renewal h law = absurd (false_is_true h)
+area_right st at c Survey h law = absurd (false_is_true h)
+area_right st at c (Leaving j) h law = absurd (false_is_true h)
+area_right st at c (RequestRead j) h law = absurd (false_is_true h)
+area_right st at c (RequestWrite j o) h law = absurd (false_is_true h)
+area_right st at c SeeRequest h law = absurd (false_is_true h)
+area_right st at c (ValueWrite j) h law = absurd (false_is_true h)
+area_right st at c (ValueRead j) h law = absurd (false_is_true h)
+
+phase_step : (st : Setting) (at : Spot) (c : Submitted) (work : Work) (step : LeaseStep) → is_phase_read (purposed (Lease work step)) ≡ true → IsLeaseRead st at c step → IsBlockRead st at c
+phase_step st at c work (ReadArea name) h law = absurd (false_is_true h)
+phase_step st at c work ReadBeforeFree h law = absurd (false_is_true h)
+phase_step st at c work Phase1Write h law = absurd (false_is_true h)
+phase_step st at c work Phase1Read h law = law
+phase_step st at c work Phase2Write h law = absurd (false_is_true h)
+phase_step st at c work Phase2Read h law = law
+phase_step st at c work TakeLeader h law = absurd (false_is_true h)
+phase_step st at c work SetMode h law = absurd (false_is_true h)
+phase_step st at c work FreeLeader h law = absurd (false_is_true h)
+phase_step st at c work ClearMode h law = absurd (false_is_true h)
+
+pub phase_right : (st : Setting) (at : Spot) (c : Submitted) (p : Purpose) → is_phase_read (purposed p) ≡ true → IsRightRead st at c p → IsBlockRead st at c
+phase_right st at c (Lease work step) h law = phase_step st at c work step h law
+phase_right st at c (Joining j step) h law = absurd (false_is_true h)
+phase_right st at c Renewal h law = absurd (false_is_true h)
+phase_right st at c Survey h law = absurd (false_is_true h)
+phase_right st at c (Leaving j) h law = absurd (false_is_true h)
+phase_right st at c (RequestRead j) h law = absurd (false_is_true h)
+phase_right st at c (RequestWrite j o) h law = absurd (false_is_true h)
+phase_right st at c SeeRequest h law = absurd (false_is_true h)
+phase_right st at c (ValueWrite j) h law = absurd (false_is_true h)
+phase_right st at c (ValueRead j) h law = absurd (false_is_true h)

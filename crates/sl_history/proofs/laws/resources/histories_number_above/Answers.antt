@@ -1,0 +1,5 @@
+use Rattle.sl_history.proofs.Resources.Above.{number_above}
+use Rattle.sl_history.proofs.laws.resources.histories_number_above.Goals as goal
+
+pub returns : goal.returns
+returns c = number_above

@@ -1,0 +1,4 @@
+//! The history of a resource, read off a run of many machines: registers (`laws::resources`), and whose they are (`laws::sessions`).
+
+pub mod resources;
+pub mod sessions;

@@ -1,0 +1,5 @@
+use Rattle.sl_id_safety.proofs.Proven.{sectors_are_alone}
+use Rattle.sl_id_safety.proofs.laws.sectors_are_alone.Goals as goal
+
+pub returns : goal.returns
+returns c = sectors_are_alone

@@ -1,0 +1,5 @@
+use Rattle.sl_id_safety.proofs.State.Proven.{claims_have_decided}
+use Rattle.sl_id_safety.proofs.laws.state.claims_have_decided.Goals as goal
+
+pub returns : goal.returns
+returns c = claims_have_decided

@@ -1,0 +1,5 @@
+use Rattle.sl_id_safety.proofs.State.Proven.{deciding_reads_have_watched}
+use Rattle.sl_id_safety.proofs.laws.state.deciding_reads_have_watched.Goals as goal
+
+pub returns : goal.returns
+returns c = deciding_reads_have_watched

@@ -1,0 +1,5 @@
+use Rattle.sl_id_safety.proofs.State.Proven.{delta_writes_come_in_turn}
+use Rattle.sl_id_safety.proofs.laws.state.delta_writes_come_in_turn.Goals as goal
+
+pub returns : goal.returns
+returns c = delta_writes_come_in_turn

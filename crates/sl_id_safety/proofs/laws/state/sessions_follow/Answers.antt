@@ -1,0 +1,5 @@
+use Rattle.sl_id_safety.proofs.State.Proven.{sessions_follow}
+use Rattle.sl_id_safety.proofs.laws.state.sessions_follow.Goals as goal
+
+pub returns : goal.returns
+returns c = sessions_follow

@@ -1,0 +1,5 @@
+use Rattle.sl_id_safety.proofs.Steps.Proven.{landings_go_on}
+use Rattle.sl_id_safety.proofs.laws.steps.landings_go_on.Goals as goal
+
+pub returns : goal.returns
+returns c = landings_go_on

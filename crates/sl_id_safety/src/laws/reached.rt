@@ -1,0 +1,13 @@
+//! What a lawful run makes of an id, from its start on.
+
+ghost use Rattle.sl_id_safety.specs.Reached.Reaching.{IdsAreReached, IdsGoOn};
+
+/// From front to front it goes on by its steps.
+pub fn ids_go_on()
+    ensures { IdsGoOn }
+{}
+
+/// So its state is reached.
+pub fn ids_are_reached()
+    ensures { IdsAreReached }
+{}

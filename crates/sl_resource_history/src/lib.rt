@@ -1,4 +1,0 @@
-//! The history of a resource, read off a run.
-#![tactic(auto)]
-
-pub mod laws;

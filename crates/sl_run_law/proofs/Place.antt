@@ -1,0 +1,13 @@
+pub mod Finding
+pub mod Numbering
+pub mod Reading
+pub mod Sizes
+pub mod Areas
+pub mod Beginnings
+pub mod Daemons
+pub mod Looks
+pub mod Seats
+pub mod Leased
+pub mod Homing
+pub mod Proven
+pub mod Checks

@@ -1,0 +1,5 @@
+use Rattle.sl_run_law.proofs.Course.Counting.{courses_have_daemons}
+use Rattle.sl_run_law.proofs.laws.course.courses_have_daemons.Goals as goal
+
+pub returns : goal.returns
+returns c = courses_have_daemons

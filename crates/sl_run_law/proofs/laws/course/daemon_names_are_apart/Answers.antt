@@ -1,0 +1,5 @@
+use Rattle.sl_run_law.proofs.Course.Naming.{daemon_names_are_apart}
+use Rattle.sl_run_law.proofs.laws.course.daemon_names_are_apart.Goals as goal
+
+pub returns : goal.returns
+returns c = daemon_names_are_apart

@@ -1,0 +1,5 @@
+use Rattle.sl_run_law.proofs.Course.Stamped.{entries_are_stamped}
+use Rattle.sl_run_law.proofs.laws.course.entries_are_stamped.Goals as goal
+
+pub returns : goal.returns
+returns c = entries_are_stamped

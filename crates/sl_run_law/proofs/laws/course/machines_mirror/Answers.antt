@@ -1,0 +1,5 @@
+use Rattle.sl_run_law.proofs.Course.Mirrored.{machines_mirror}
+use Rattle.sl_run_law.proofs.laws.course.machines_mirror.Goals as goal
+
+pub returns : goal.returns
+returns c = machines_mirror

@@ -1,0 +1,5 @@
+use Rattle.sl_run_law.proofs.Front.Going.{one_step}
+use Rattle.sl_run_law.proofs.laws.front.events_have_one_step.Goals as goal
+
+pub returns : goal.returns
+returns c = one_step

@@ -1,0 +1,5 @@
+use Rattle.sl_run_law.proofs.Front.Going.{fronts_are_lawful}
+use Rattle.sl_run_law.proofs.laws.front.fronts_are_lawful.Goals as goal
+
+pub returns : goal.returns
+returns c = fronts_are_lawful

@@ -1,0 +1,5 @@
+use Rattle.sl_run_law.proofs.Landing.Sizing.{are_sectors}
+use Rattle.sl_run_law.proofs.laws.landing.landings_are_sectors.Goals as goal
+
+pub returns : goal.returns
+returns c = are_sectors

@@ -1,0 +1,5 @@
+use Rattle.sl_run_law.proofs.Moment.Waiting.{dead_waits}
+use Rattle.sl_run_law.proofs.laws.moment.dead_waits.Goals as goal
+
+pub returns : goal.returns
+returns c = dead_waits

@@ -1,0 +1,5 @@
+use Rattle.sl_run_law.proofs.Moment.Ordering.{machines_ordered}
+use Rattle.sl_run_law.proofs.laws.moment.machines_are_in_order.Goals as goal
+
+pub returns : goal.returns
+returns c = machines_ordered

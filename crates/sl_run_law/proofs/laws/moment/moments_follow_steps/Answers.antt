@@ -1,0 +1,5 @@
+use Rattle.sl_run_law.proofs.Moment.Following.{moments_follow}
+use Rattle.sl_run_law.proofs.laws.moment.moments_follow_steps.Goals as goal
+
+pub returns : goal.returns
+returns c = moments_follow

@@ -1,0 +1,5 @@
+use Rattle.sl_run_law.proofs.Moment.Waiting.{take_over_waits}
+use Rattle.sl_run_law.proofs.laws.moment.take_over_waits.Goals as goal
+
+pub returns : goal.returns
+returns c = take_over_waits

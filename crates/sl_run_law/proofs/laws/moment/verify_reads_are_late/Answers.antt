@@ -1,0 +1,5 @@
+use Rattle.sl_run_law.proofs.Moment.Waiting.{verify_late}
+use Rattle.sl_run_law.proofs.laws.moment.verify_reads_are_late.Goals as goal
+
+pub returns : goal.returns
+returns c = verify_late

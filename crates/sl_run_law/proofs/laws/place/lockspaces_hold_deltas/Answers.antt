@@ -1,0 +1,5 @@
+use Rattle.sl_run_law.proofs.Place.Proven.{lockspaces_hold_deltas}
+use Rattle.sl_run_law.proofs.laws.place.lockspaces_hold_deltas.Goals as goal
+
+pub returns : goal.returns
+returns c = lockspaces_hold_deltas

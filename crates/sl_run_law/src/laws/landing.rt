@@ -1,0 +1,33 @@
+//! What a lawful run promises of landings.
+
+ghost use Rattle.sl_run_law.specs.Landing.Landings.{DoneWritesHaveLanded, LandedWritesAreThere, LandingsAreSectors, LandingsAreWritten, LandingsComeInOrder, WritesLandOnce};
+
+/// Each landing was left by a write of a machine.
+pub fn landings_are_written()
+    ensures { LandingsAreWritten }
+{}
+
+/// The newest landing stands first.
+pub fn landings_come_in_order()
+    ensures { LandingsComeInOrder }
+{}
+
+/// A write lands once at most.
+pub fn writes_land_once()
+    ensures { WritesLandOnce }
+{}
+
+/// A write that has landed has its landing.
+pub fn landed_writes_are_there()
+    ensures { LandedWritesAreThere }
+{}
+
+/// A write that was answered ok has landed.
+pub fn done_writes_have_landed()
+    ensures { DoneWritesHaveLanded }
+{}
+
+/// What lands are whole sectors.
+pub fn landings_are_sectors()
+    ensures { LandingsAreSectors }
+{}

@@ -1,0 +1,18 @@
+//! What a lawful run promises of samples.
+
+ghost use Rattle.sl_run_law.specs.Sample.Samples.{DoneReadsAreWhole, SampledAreSectors, SamplesAreLandings};
+
+/// Each sample shows the newest landing.
+pub fn samples_are_landings()
+    ensures { SamplesAreLandings }
+{}
+
+/// A read has as many bytes as it has samples.
+pub fn sampled_are_sectors()
+    ensures { SampledAreSectors }
+{}
+
+/// A read that was answered ok has all its samples.
+pub fn done_reads_are_whole()
+    ensures { DoneReadsAreWhole }
+{}

@@ -1,0 +1,18 @@
+//! What watchdogs promise of a lawful run.
+
+ghost use Rattle.sl_run_law.specs.Watchdog.Promises.{CoveredAreConnected, WritersMayAct, WritesInFlightAreCovered};
+
+/// A session whose connection must stand is connected.
+pub fn covered_are_connected()
+    ensures { CoveredAreConnected }
+{}
+
+/// A session with a write in flight may act.
+pub fn writers_may_act()
+    ensures { WritersMayAct }
+{}
+
+/// Each write in flight is covered.
+pub fn writes_in_flight_are_covered()
+    ensures { WritesInFlightAreCovered }
+{}

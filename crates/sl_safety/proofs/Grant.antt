@@ -1,0 +1,17 @@
+pub mod Growing
+pub mod Telling
+pub mod Placing
+pub mod Stepping
+pub mod Evident
+pub mod Names
+pub mod Freeing
+pub mod Looks
+pub mod Exclusive
+pub mod Counting
+pub mod Alive
+pub mod Kept
+pub mod Owned
+pub mod Backing
+pub mod Marks
+pub mod Sharing
+pub mod Proven

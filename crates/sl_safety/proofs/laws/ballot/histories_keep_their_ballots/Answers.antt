@@ -1,0 +1,5 @@
+use Rattle.sl_safety.proofs.Ballot.KeptProven.{histories_keep_their_ballots}
+use Rattle.sl_safety.proofs.laws.ballot.histories_keep_their_ballots.Goals as goal
+
+pub returns : goal.returns
+returns c = histories_keep_their_ballots

@@ -1,0 +1,5 @@
+use Rattle.sl_safety.proofs.Grant.Proven.{exclusive_grants_are}
+use Rattle.sl_safety.proofs.laws.grant.exclusive_grants_are.Goals as goal
+
+pub returns : goal.returns
+returns c = exclusive_grants_are

@@ -1,0 +1,5 @@
+use Rattle.sl_safety.proofs.Value.Proven.{one_writes_value}
+use Rattle.sl_safety.proofs.laws.value.one_writes_value.Goals as goal
+
+pub returns : goal.returns
+returns c = one_writes_value

@@ -1,0 +1,140 @@
+-- What stays of calls as they age.
+use Rattle.sl_area.specs.Layouts.{Layout}
+use Rattle.sl_law.specs.LawfulBlock.{ReadAfter}
+use Rattle.sl_trace_law.specs.Leases.Fronts.{Aged, AllAged}
+use Rattle.sl_trace_law.specs.Leases.Ways.{FoundIn, lease_among}
+use Rattle.sl_leases.specs.Leases.{StepKind, block_submitted, block_written, is_at, is_lease_call, is_on, blocks_given}
+use Rattle.sl_sector.specs.declared.sector.Block.{Block}
+use Rattle.sl_sessions.specs.Sessions.{is_call_of}
+use Rattle.sl_sessions.specs.declared.session.Session.{Session}
+use Rattle.sl_trace.specs.Traces.{Setting, Submitted, new_call, Answered}
+use Rattle.sl_trace.specs.declared.effects.Call.{Call}
+use Rattle.sl_trace.specs.declared.effects.Spot.{Spot}
+use Rattle.sl_words.proofs.CaseLaws.{none_some, some_value, no_value}
+use Rattle.std.proofs.Common.{ap, arith, inl, inr, refl, subst, sym, ◌∙◌}
+use Rattle.std.specs.Prelude.{Bool, List, None, Option, Some, cond, false, filter, find, is_some, length, true, [], ℕ, ◌&&◌, ◌<◌, ◌∷◌, ◌≡◌, ◌≤◌, Contains, slice_index_or, suc, zero, ◌⊎◌}
+
+-- ---- what ages keeps its block
+
+aged_cond : (n : ℕ) (x y : Submitted) (xs ys : List Submitted) (b : Bool) → Aged n x y → AllAged n xs ys → AllAged n (cond b (x ∷ xs) xs) (cond b (y ∷ ys) ys)
+aged_cond n x y xs ys true h hs = (h, hs)
+aged_cond n x y xs ys false h hs = hs
+
+-- A test of the call alone passes the same of them.
+aged_kept : (n : ℕ) (p : Submitted → Bool) → ((x y : Submitted) → y.call ≡ x.call → p x ≡ p y) → (xs ys : List Submitted) → AllAged n xs ys → AllAged n (filter p xs) (filter p ys)
+aged_kept n p stable [] [] h = tt
+aged_kept n p stable [] (y ∷ ys) h = absurd h
+aged_kept n p stable (x ∷ xs) [] h = absurd h
+aged_kept n p stable (x ∷ xs) (y ∷ ys) h =
+    subst (λ b. AllAged n (filter p (x ∷ xs)) (cond b (y ∷ filter p ys) (filter p ys))) (stable x y h.0.call)
+    (aged_cond n x y (filter p xs) (filter p ys) (p x) h.0 (aged_kept n p stable xs ys h.1))
+
+abbrev pub writes : Call → Option Block
+writes c = block_written (new_call 0 0 c)
+
+pub aged_block : (n : ℕ) (xs ys : List Submitted) → AllAged n xs ys → block_submitted xs ≡ block_submitted ys
+aged_block n [] [] h = refl
+aged_block n [] (y ∷ ys) h = absurd h
+aged_block n (x ∷ xs) [] h = absurd h
+aged_block n (x ∷ xs) (y ∷ ys) h =
+    ap (λ o. elim o as (λ z. Option Block) [ Some b ↦ Some b | None ↦ block_submitted xs ]) (ap (λ c. writes c) (sym h.0.call))
+    ∙ ap (λ r. elim (block_written y) as (λ z. Option Block) [ Some b ↦ Some b | None ↦ r ]) (aged_block n xs ys h.1)
+
+pub aged_lease : (st : Setting) (s : Session) (at : Spot) (n : ℕ) (xs ys : List Submitted) → AllAged n xs ys → AllAged n (lease_among st s at xs) (lease_among st s at ys)
+aged_lease st s at n xs ys h =
+    aged_kept n (λ m. is_lease_call m && is_on st.layout at m.call) (λ x y is. ap (λ c. is_lease_call (new_call 0 0 c) && is_on st.layout at c) (sym is))
+    (filter (is_call_of s) xs) (filter (is_call_of s) ys)
+    (aged_kept n (is_call_of s) (λ x y is. ap (λ c. is_call_of s (new_call 0 0 c)) (sym is)) xs ys h)
+
+-- ---- what ages
+
+-- An answer stays.
+answer_by : (n : ℕ) (was is : Submitted) (a : Answered) → was.answer ≡ Some a
+    → (is.answer ≡ was.answer) ⊎ ((was.answer ≡ None) × (b : Answered) × (is.answer ≡ Some b) × (n ≤ b.at)) → is.answer ≡ Some a
+answer_by n was is a told (inl h) = h ∙ told
+answer_by n was is a told (inr h) = absurd (no_value a was.answer told h.0)
+
+pub answer_stays : (n : ℕ) (was is : Submitted) (a : Answered) → Aged n was is → was.answer ≡ Some a → is.answer ≡ Some a
+answer_stays n was is a h told = answer_by n was is a told h.answer
+
+-- What a call with this answer gave.
+abbrev given_by : Layout → Call → Option Answered → Option (List (Option Block))
+given_by g c o = blocks_given g (record { at = 0; reading = 0; call = c; answer = o })
+
+told_blocks : (g : Layout) (n : ℕ) (was is : Submitted) (bs : List (Option Block)) → Aged n was is → (o : Option Answered) → was.answer ≡ o → given_by g was.call o ≡ Some bs
+    → blocks_given g is ≡ Some bs
+told_blocks g n was is bs h None told gives = absurd (none_some bs gives)
+told_blocks g n was is bs h (Some a) told gives =
+    ap (λ c. given_by g c is.answer) h.call ∙ (ap (λ o. given_by g was.call o) (answer_stays n was is a h told) ∙ gives)
+
+pub blocks_stay : (g : Layout) (n : ℕ) (was is : Submitted) (bs : List (Option Block)) → Aged n was is → blocks_given g was ≡ Some bs → blocks_given g is ≡ Some bs
+blocks_stay g n was is bs h gives = told_blocks g n was is bs h was.answer refl gives
+
+pub kind_stays : (k : StepKind) (n : ℕ) (was is : Submitted) → Aged n was is → is_at k was ≡ true → is_at k is ≡ true
+kind_stays k n was is h at = ap (λ c. is_at k (new_call 0 0 c)) h.call ∙ at
+
+pub block_stays : (n : ℕ) (was is : Submitted) (b : Block) → Aged n was is → block_written was ≡ Some b → block_written is ≡ Some b
+block_stays n was is b h wrote = ap (λ c. writes c) h.call ∙ wrote
+
+-- What became of a call in a list.
+pub record Became (n : ℕ) (ys : List Submitted) (was : Submitted) : Type 0 where
+  pub now : Submitted
+  pub has : Contains ys now
+  pub aged : Aged n was now
+
+became_later : (n : ℕ) (y : Submitted) (ys : List Submitted) (was : Submitted) → Became n ys was → Became n (y ∷ ys) was
+became_later n y ys was h = let k : ℕ = h.has.0 in record { now = h.now; has = (suc k, (let less : k < length ys = h.has.1 in omega (arith, less)), h.has.2); aged = h.aged }
+
+became_at : (n : ℕ) (xs ys : List Submitted) (was : Submitted) → AllAged n xs ys → (k : ℕ) → k < length xs → slice_index_or xs k was ≡ was → Became n ys was
+became_at n [] ys was h k less is = absurd (omega (arith, less))
+became_at n (x ∷ xs) [] was h k less is = absurd h
+became_at n (x ∷ xs) (y ∷ ys) was h zero less is =
+    record { now = y; has = (0, omega arith, refl); aged = subst (λ z. Aged n z y) is h.0 }
+became_at n (x ∷ xs) (y ∷ ys) was h (suc k) less is = became_later n y ys was (became_at n xs ys was h.1 k (omega (arith, less)) is)
+
+pub became : (n : ℕ) (xs ys : List Submitted) (was : Submitted) → AllAged n xs ys → Contains xs was → Became n ys was
+became n xs ys was h c = became_at n xs ys was h c.0 c.1 c.2
+
+-- What became of the newest block write.
+pub record BecameLast (n : ℕ) (ys : List Submitted) (was : Submitted) : Type 0 where
+  pub now : Submitted
+  pub last : find (λ d. is_some (block_written d)) ys ≡ Some now
+  pub aged : Aged n was now
+
+last_by : (n : ℕ) (x y : Submitted) (xs ys : List Submitted) (was : Submitted) → Aged n x y → (b : Bool) → is_some (block_written x) ≡ b
+    → cond b (Some x) (find (λ d. is_some (block_written d)) xs) ≡ Some was
+    → (find (λ d. is_some (block_written d)) xs ≡ Some was → BecameLast n ys was) → BecameLast n (y ∷ ys) was
+last_by n x y xs ys was h true is found later =
+    record {
+      now = y;
+      last = ap (λ t. cond t (Some y) (find (λ d. is_some (block_written d)) ys)) (ap (λ c. is_some (writes c)) h.call ∙ is);
+      aged = subst (λ z. Aged n z y) (some_value x was found) h;
+    }
+last_by n x y xs ys was h false is found later =
+    let rest : BecameLast n ys was = later found in
+    record {
+      now = rest.now;
+      last = ap (λ t. cond t (Some y) (find (λ d. is_some (block_written d)) ys)) (ap (λ c. is_some (writes c)) h.call ∙ is) ∙ rest.last;
+      aged = rest.aged;
+    }
+
+pub became_last : (n : ℕ) (xs ys : List Submitted) (was : Submitted) → AllAged n xs ys → find (λ d. is_some (block_written d)) xs ≡ Some was → BecameLast n ys was
+became_last n [] ys was h found = absurd (none_some was found)
+became_last n (x ∷ xs) [] was h found = absurd h
+became_last n (x ∷ xs) (y ∷ ys) was h found =
+    last_by n x y xs ys was h.0 (is_some (block_written x)) refl found (λ f. became_last n xs ys was h.1 f)
+
+pub after_stays : (n k : ℕ) (write read write' read' : Submitted) → Aged n write write' → read'.at ≡ read.at → ReadAfter write read → ReadAfter write' read'
+after_stays n k write read write' read' h at o =
+    record {
+      answer = o.answer;
+      answered = (answer_stays n write write' o.answer h o.answered.0, o.answered.1);
+      later = let by : o.answer.at ≤ read.at = o.later in omega (arith, by, at);
+    }
+
+-- ---- a block that was found
+
+pub found_stays : (g : Layout) (n id : ℕ) (xs ys : List Submitted) (own : Block) → AllAged n xs ys → FoundIn g id xs own → FoundIn g id ys own
+found_stays g n id xs ys own h f =
+    let r : Became n ys f.read = became n xs ys f.read h f.has in
+    record { read = r.now; blocks = f.blocks; has = r.has; given = blocks_stay g n f.read r.now f.blocks r.aged f.given; block = f.block }
