@@ -45,6 +45,7 @@ fn texts_of(alloc: Global, kind: &str, text: &str) -> Result<Option<String>, All
 fn records_of(alloc: Global, kind: &str, text: &str) -> Result<Option<String>, AllocError> {
     let told = match kind {
         "sector" => records::sector(alloc, text)?,
+        "large" => records::large(alloc, text)?,
         "block_of" => records::block_of(alloc, text)?,
         "value" => records::value(alloc, text)?,
         "next_seq" => records::next_seq(alloc, text)?,

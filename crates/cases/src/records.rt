@@ -1,5 +1,7 @@
 //! Sectors, areas, values, requests.
 
+ghost use Rattle.std.specs.Prelude.{length, ◌≡◌};
+
 use crate::word::{number_at, number_of, part, short_at, short_of, shown, word};
 use sl_area::{Geometry, Place};
 use sl_request::{Act, Bitmap, check_request};
@@ -9,7 +11,9 @@ use sl_value::Version;
 use std::alloc::{AllocError, Global};
 
 /// Puts digits' bytes into a sector.
-fn put(sector: &mut [u8; 512], at: u64, digits: &str) {
+fn put(sector: &mut [u8], at: u64, digits: &str)
+    ensures { length sector.new ≡ length sector.old }
+{
     if let Some(data) = read_hex(digits.as_bytes()) {
         let mut place = at as usize;
         for byte in data.as_slice() {
@@ -34,31 +38,64 @@ pub fn sector_of(text: &str) -> [u8; 512] {
     sector
 }
 
-/// Whether the record is written as the sector.
-fn is_written(record: &Rec, sector: &[u8; 512]) -> bool {
-    let mut again = [0xff; 512];
-    record.encode_into(&mut again);
-    again.as_slice() == sector.as_slice()
+/// Such a sector of 4096 bytes.
+fn large_of(text: &str) -> [u8; 4096] {
+    let mut sector = [0; 4096];
+    for span in text.split(',') {
+        put(
+            &mut sector,
+            number_of(part(span, ':', 0)),
+            part(span, ':', 1),
+        );
+    }
+    sector
 }
 
-/// What is printed of a record, and whether it is written as it was read; or why there is none.
-fn record_text(alloc: Global, sector: &[u8; 512]) -> Result<String, AllocError> {
+/// What is printed of a record.
+fn record_text(
+    alloc: Global,
+    read: Result<Rec, Bad>,
+    is_written: bool,
+) -> Result<String, AllocError> {
     let mut text = Vec::new(alloc);
-    match decode(sector) {
-        Ok(record) => {
-            push_record_text(&mut text, &record)?;
-            if !is_written(&record, sector) {
-                text.extend_from_slice(b", written otherwise")?;
-            }
-        }
+    match read {
+        Ok(record) => push_record_text(&mut text, &record)?,
         Err(bad) => push_bad_text(&mut text, bad)?,
+    }
+    if !is_written {
+        text.extend_from_slice(b", written otherwise")?;
     }
     shown(alloc, &text)
 }
 
-/// What a sector has.
+/// What a sector has, and whether its record is written as it was read; or why there is none.
 pub fn sector(alloc: Global, text: &str) -> Result<String, AllocError> {
-    record_text(alloc, &sector_of(text))
+    let sector = sector_of(text);
+    let mut again = sector;
+    if let Ok(record) = decode(&sector) {
+        again = [0xff; 512];
+        record.encode_into(&mut again);
+    }
+    record_text(
+        alloc,
+        decode(&sector),
+        again.as_slice() == sector.as_slice(),
+    )
+}
+
+/// .. of 4096 bytes.
+pub fn large(alloc: Global, text: &str) -> Result<String, AllocError> {
+    let sector = large_of(text);
+    let mut again = sector;
+    if let Ok(record) = decode(&sector) {
+        again = [0xff; 4096];
+        record.encode_into(&mut again);
+    }
+    record_text(
+        alloc,
+        decode(&sector),
+        again.as_slice() == sector.as_slice(),
+    )
 }
 
 /// Whether a sector has a block of this host.
@@ -102,16 +139,20 @@ pub fn next_seq(alloc: Global, text: &str) -> Result<String, AllocError> {
 
 /// Whether these are a sector's size, an area's and a number of hosts.
 pub fn geometry(alloc: Global, text: &str) -> Result<String, AllocError> {
-    let is = Geometry::new(short_at(text, 0), number_at(text, 1), short_at(text, 2)).is_ok();
-    format!(in alloc; "{is}")
+    format!(in alloc; "{}", run_of(text).is_some())
 }
 
-/// Places of an area at this offset, where one begins: those of host `id`, in a run of so many hosts.
+/// A run with sectors of this size, areas of this size, and so many hosts.
+fn run_of(text: &str) -> Option<Geometry> {
+    Geometry::new(short_at(text, 0), number_at(text, 1), short_at(text, 2)).ok()
+}
+
+/// Places of the area at this offset, where one begins: those of host `id`.
 pub fn places(alloc: Global, text: &str) -> Result<String, AllocError> {
-    let Ok(run) = Geometry::new(512, 1_048_576, short_at(text, 0)) else {
-        return format!(in alloc; "none");
+    let Some(run) = run_of(text) else {
+        return format!(in alloc; "no run");
     };
-    let (base, id) = (number_at(text, 1), short_at(text, 2));
+    let (base, id) = (number_at(text, 3), short_at(text, 4));
     if !run.is_base(base) || id < 1 || run.hosts() < id {
         return format!(in alloc; "none");
     }
@@ -127,9 +168,9 @@ pub fn places(alloc: Global, text: &str) -> Result<String, AllocError> {
 
 /// The sector that begins at this offset.
 pub fn place(alloc: Global, text: &str) -> Result<String, AllocError> {
-    let place = match Geometry::new(512, 1_048_576, 1) {
-        Ok(run) => run.place(number_at(text, 0)),
-        Err(_) => None,
+    let place = match run_of(text) {
+        Some(run) => run.place(number_at(text, 3)),
+        None => None,
     };
     match place {
         Some(place) => format!(in alloc; "{} of {}", place.offset(), place.size()),
