@@ -1,7 +1,5 @@
 //! Sectors, areas, values, requests.
 
-ghost use Rattle.std.specs.Prelude.{length, ◌≡◌};
-
 use crate::word::{number_at, number_of, part, short_at, short_of, shown, word};
 use sl_area::{Geometry, Place};
 use sl_request::{Act, Bitmap, check_request};
@@ -11,9 +9,7 @@ use sl_value::Version;
 use std::alloc::{AllocError, Global};
 
 /// Puts digits' bytes into a sector.
-fn put(sector: &mut [u8], at: u64, digits: &str)
-    ensures { length sector.new ≡ length sector.old }
-{
+fn put(sector: &mut [u8], at: u64, digits: &str) {
     if let Some(data) = read_hex(digits.as_bytes()) {
         let mut place = at as usize;
         for byte in data.as_slice() {
