@@ -108,17 +108,14 @@ pub fn path(alloc: Global, text: &str) -> Result<String, AllocError> {
     }
 }
 
-/// Whether the first of two words comes before the second, as names and as paths.
+/// Whether the first of two words comes before the second, as names or as paths.
 pub fn before(alloc: Global, text: &str) -> Result<String, AllocError> {
     let (first, second) = (word(text, 0).as_bytes(), word(text, 1).as_bytes());
-    match (
-        Name::new(first),
-        Name::new(second),
-        FilePath::new(first),
-        FilePath::new(second),
-    ) {
-        (Some(first), Some(second), _, _) => format!(in alloc; "name {}", first.is_before(&second)),
-        (_, _, Some(first), Some(second)) => format!(in alloc; "path {}", first.is_before(&second)),
-        _ => format!(in alloc; "none"),
+    if let (Some(first), Some(second)) = (Name::new(first), Name::new(second)) {
+        return format!(in alloc; "name {}", first.is_before(&second));
     }
+    if let (Some(first), Some(second)) = (FilePath::new(first), FilePath::new(second)) {
+        return format!(in alloc; "path {}", first.is_before(&second));
+    }
+    format!(in alloc; "none")
 }
