@@ -8,7 +8,7 @@ use Rattle.sl_area.specs.Layouts.{Sizes, layout_of}
 use Rattle.sl_leases.specs.LeaseWork.{lease_next}
 use Rattle.sl_leases.specs.Leases.{known_of}
 use Rattle.sl_leases.specs.declared.lease.Aim.{Aim}
-use Rattle.sl_leases.specs.declared.lease.LeaseNext.TheVariants.{AnswerJob, GrantJob, Nothing, ReadFor, WriteBlock, WriteLeader}
+use Rattle.sl_leases.specs.declared.lease.LeaseNext.TheVariants.{AnswerJob, BecomeExclusive, BecomeShared, GrantJob, Nothing, ReadFor, WriteBlock, WriteLeader}
 use Rattle.sl_leases.specs.declared.lease.LeaseNext.{LeaseNext}
 use Rattle.sl_resource.specs.Calls.{IsFitNext, is_answer_to, makes_call}
 use Rattle.sl_resource.specs.Stands.{IsAnswered, IsOneLease, IsTold, IsWaiting, LeaseStands, LeaseState, is_first_step, layout_in, place_of}
@@ -63,6 +63,8 @@ of_waiting (Some d) a heeded s = of_choice d a heeded s (is_answer_to s.sizes d 
 
 pub of_next : (next : LeaseNext) (s : LeaseState) → IsOneLease s (after_next next s)
 of_next Nothing s = same s
+of_next (BecomeExclusive _ _) s = same s
+of_next (BecomeShared _ _) s = same s
 of_next (ReadFor step) s = record { sizes = refl; lockspace = refl; self = refl }
 of_next (WriteBlock step b) s = record { sizes = refl; lockspace = refl; self = refl }
 of_next (WriteLeader step l) s = record { sizes = refl; lockspace = refl; self = refl }
@@ -82,6 +84,8 @@ or_right false b e = e
 
 may_follow : (u : LeaseState) (next : LeaseNext) → u.waiting ≡ None → (IsTrue (makes_call next) → IsTrue (is_some u.name)) → IsTrue (makes_call next) → MayFollow u next
 may_follow u Nothing idle named calls = absurd (false_is_true calls)
+may_follow u (BecomeExclusive _ _) idle named calls = absurd (false_is_true calls)
+may_follow u (BecomeShared _ _) idle named calls = absurd (false_is_true calls)
 may_follow u (ReadFor step) idle named calls = record { idle = idle; named = or_right (is_first_step step) (is_some u.name) (named calls) }
 may_follow u (WriteBlock step b) idle named calls = record { idle = idle; named = or_right (is_first_step step) (is_some u.name) (named calls) }
 may_follow u (WriteLeader step l) idle named calls = record { idle = idle; named = or_right (is_first_step step) (is_some u.name) (named calls) }
@@ -90,6 +94,8 @@ may_follow u (GrantJob mode lver) idle named calls = absurd (false_is_true calls
 
 calls_of : (z : Sizes) (next : LeaseNext) (n : Submitted) → IsCallOf z next n → makes_call next ≡ true
 calls_of z Nothing n k = absurd k
+calls_of z (BecomeExclusive _ _) n k = absurd k
+calls_of z (BecomeShared _ _) n k = absurd k
 calls_of z (ReadFor step) n k = refl
 calls_of z (WriteBlock step b) n k = refl
 calls_of z (WriteLeader step l) n k = refl
@@ -98,6 +104,8 @@ calls_of z (GrantJob mode lver) n k = absurd k
 
 no_call : (next : LeaseNext) (s : LeaseState) → makes_call next ≡ false → after_next next s ≡ s
 no_call Nothing s e = refl
+no_call (BecomeExclusive _ _) s e = refl
+no_call (BecomeShared _ _) s e = refl
 no_call (ReadFor step) s e = absurd (true_is_false e)
 no_call (WriteBlock step b) s e = absurd (true_is_false e)
 no_call (WriteLeader step l) s e = absurd (true_is_false e)

@@ -10,9 +10,9 @@ use Rattle.sl_trace.specs.declared.input.Answer.{Answer}
 use Rattle.sl_trace.specs.declared.input.Input.TheVariants.{Answer as Heard, Line}
 use Rattle.sl_words.specs.Words.{some_is}
 use Rattle.sl_world.specs.Kept.{AreIdle, KeptState, Tells}
-use Rattle.std.proofs.Common.{ap, refl, ◌∙◌}
+use Rattle.std.proofs.Common.{ap, cond, refl, ◌∙◌}
 use Rattle.std.specs.List.{enumerate_from, find}
-use Rattle.std.specs.Prelude.{Bool, List, None, Option, Some, filter, is_some, not, option_and_then, option_map, true, [], ℕ, ◌==◌, ◌∷◌, ◌≡◌}
+use Rattle.std.specs.Prelude.{List, None, Option, Some, filter, is_some, not, option_and_then, option_map, true, [], ℕ, ◌==◌, ◌∷◌, ◌≡◌}
 
 -- No reply is one to an ask.
 none_replied : (fx : Effects) (k : Locks) → AreIdle k → replied_locks fx k ≡ (k, None)
@@ -57,4 +57,4 @@ answer_told number call answer fx k idle = none_hidden fx k idle
 pub none_asks : (k : KeptState) (w : World) (a : Machine) (d : Daemon) → Tells k w a d → asking w ≡ None
 none_asks k w a d t =
     ap (λ (ms : List Machine). option_map (λ (p : ℕ × Machine). p.0) (find (λ (p : ℕ × Machine). is_some p.1.locks.due) (enumerate_from 1 ms))) t.alone
-    ∙ ap (λ o. option_map (λ (p : ℕ × Machine). p.0) (elim (is_some o) as (λ x. Option (ℕ × Machine)) [ true ↦ Some (1, a) | false ↦ None ])) t.locks.due
+    ∙ ap (λ o. option_map (λ (p : ℕ × Machine). p.0) (cond (is_some o) (Some (1, a)) None)) t.locks.due

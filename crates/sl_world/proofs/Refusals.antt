@@ -16,7 +16,7 @@ use Rattle.sl_world.proofs.Flights.{Flying, flying, machine_is, no_flight}
 use Rattle.sl_world.specs.FirstEvents.{answer_refusal, at_flight, done_refusal, flight_left, flight_numbered, flight_writes, for_locks, gives_command, is_first_event, land_refusal, on_first, refusal_in, refusal_with, sample_refusal}
 use Rattle.sl_world.specs.Kept.{FlightState, KeptState, Shown, Tells, fate_of, is_on_disk, shown, shown_of}
 use Rattle.std.proofs.Common.{ap, refl, sym, ◌∙◌}
-use Rattle.std.specs.Prelude.{Bool, List, None, Option, Some, false, is_none, is_some, nat_lt, not, true, [], ℕ, ◌&&◌, ◌-◌, ◌==◌, ◌||◌, ◌∷◌, ◌≡◌, bytes_eq, nat_le, ◌+◌, ◌*◌}
+use Rattle.std.specs.Prelude.{Bool, List, None, Option, Some, false, is_some, nat_lt, not, true, [], ℕ, ◌&&◌, ◌-◌, ◌==◌, ◌||◌, ◌∷◌, ◌≡◌, bytes_eq, nat_le, ◌+◌, ◌*◌}
 
 -- ---- the tests one after another
 
@@ -226,14 +226,3 @@ pub refusal_is : (k : KeptState) (w : World) (a : Machine) (d : Daemon) (e : Eve
     → refusal_of w e ≡ refusal_with (for_locks d.setting e) (refusal_in k e)
 refusal_is k w a d (GiveCommand m text) t first = command_refusal k w a d m text t
 refusal_is k w a d e t first = refusal_at k w a d e t first refl ∙ no_command (refusal_in k e)
-
--- .. where this is asked after that.
-pub refused_after : (o : Option Refusal) (acts : Bool) → (is_none o && acts) ≡ true → Some MissingLvm ≡ refusal_with acts o
-refused_after None true h = refl
-refused_after None false h = absurd (false_is_true h)
-refused_after (Some r) acts h = absurd (false_is_true h)
-
-pub kept_refusal : (o : Option Refusal) (acts : Bool) → (is_none o && acts) ≡ false → o ≡ refusal_with acts o
-kept_refusal None true h = absurd (false_is_true (sym h))
-kept_refusal None false h = refl
-kept_refusal (Some r) acts h = refl

@@ -40,6 +40,23 @@ pub enum ApplyError {
     OutOfMemory,
 }
 
+/// The refusal by what is kept, and else that of a command for lvmlockd's process.
+fn refused(kept: Option<Refusal>, acts: bool) -> Option<Refusal>
+    ensures exact { result ≡ first_events.refusal_with acts kept }
+    ensures none { IfNone result (kept ≡ None) }
+{
+    match kept {
+        Some(refusal) => Some(refusal),
+        None => {
+            if acts {
+                Some(Refusal::MissingLvm)
+            } else {
+                None
+            }
+        }
+    }
+}
+
 /// A world of one machine whose clock stands still: what is kept of it, and its daemon.
 #[derive(Drop)]
 pub struct World<D: Daemon> {
@@ -67,11 +84,7 @@ impl<D: Daemon> World<D> {
         ensures kept { IfNone result (first_events.refusal_in self.now.kept event.now ≡ None) }
         ensures sized { IsSized self.now.kept.disk }
     {
-        let refusal = self.kept.refusal(event);
-        if refusal.is_none() && self.acts_for_locks(event) {
-            return Some(Refusal::MissingLvm);
-        }
-        refusal
+        refused(self.kept.refusal(event), self.acts_for_locks(event))
     }
 
     /// Whether the event gives a command for lvmlockd's process.

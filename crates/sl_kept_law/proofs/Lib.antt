@@ -1,0 +1,13 @@
+pub mod Numbered
+pub mod Lookups
+pub mod Sectors
+pub mod Starts
+pub mod Tests
+pub mod RefusalCases
+pub mod Changing
+pub mod Flights
+pub mod NextNumbers
+pub mod Stepping
+pub mod PassedTime
+pub mod DaemonLives
+pub mod Allowed
