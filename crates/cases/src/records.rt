@@ -159,7 +159,7 @@ pub fn places(alloc: Global, text: &str) -> Result<String, AllocError> {
     let leader = run.leader_place(base).offset();
     let request = run.request_place(base).offset();
     let value = run.value_place(base).offset();
-    format!(in alloc; "delta {delta} leader {leader} request {request} block {block} value {value}")
+    format!(in alloc; "delta {delta} leader {leader} asked {request} block {block} value {value}")
 }
 
 /// The sector that begins at this offset.
