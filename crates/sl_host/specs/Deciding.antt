@@ -14,7 +14,7 @@ use Rattle.sl_words.specs.Results.{◌>>=◌}
 use Rattle.sl_lease_command.specs.LeaseWords.{lease_process}
 use Rattle.sl_lease_command.specs.declared.command.LeaseCommand.{LeaseCommand}
 use Rattle.sl_lvm.specs.Lvm.{lock_process}
-use Rattle.std.specs.Prelude.{Bool, List, Ok, Result, bytes_eq, is_none, length, nat_le, nat_lt, position, ℕ, ◌&&◌, false}
+use Rattle.std.specs.Prelude.{Bool, Err, List, Ok, Result, bytes_eq, is_none, length, nat_le, nat_lt, position, ℕ, ◌&&◌, ◌==◌, false}
 
 -- The session of this lockspace.
 abbrev pub session_in : List Given → List ℕ → Result ℕ Refusal

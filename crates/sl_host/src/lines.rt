@@ -105,7 +105,7 @@ impl Host {
         requires call { self.old.next_call < 2 ^ 63 }
         requires job { self.old.next_job < 2 ^ 63 }
         ensures steps { IfOk result (λ fx. (st : Setting) (es : Trace) (text : List ℕ) → HostStands self.old st es
-            → st.read text ≡ Ok (To_acquire resource.now false process) → Steps self.old self.new st es (Line text) fx) }
+            → st.read text ≡ Ok (To_acquire resource.now false process false) → Steps self.old self.new st es (Line text) fx) }
         ensures site { IsSameSite self.old self.new }
         ensures kept { OnErr result (self.new ≡ self.old) }
     {
@@ -130,7 +130,7 @@ impl Host {
         requires call { self.old.next_call < 2 ^ 63 }
         requires job { self.old.next_job < 2 ^ 63 }
         ensures steps { IfOk result (λ fx. (st : Setting) (es : Trace) (text : List ℕ) → HostStands self.old st es
-            → st.read text ≡ Ok (To_acquire resource.now false process) → Steps self.old self.new st es (Line text) fx) }
+            → st.read text ≡ Ok (To_acquire resource.now false process false) → Steps self.old self.new st es (Line text) fx) }
         ensures site { IsSameSite self.old self.new }
         ensures kept { OnErr result (self.new ≡ self.old) }
     {
@@ -161,7 +161,7 @@ impl Host {
         requires call { self.old.next_call < 2 ^ 63 }
         requires job { self.old.next_job < 2 ^ 63 }
         ensures steps { IfOk result (λ fx. (st : Setting) (es : Trace) (text : List ℕ) → HostStands self.old st es
-            → st.read text ≡ Ok (To_acquire resource.now false process) → Steps self.old self.new st es (Line text) fx) }
+            → st.read text ≡ Ok (To_acquire resource.now false process false) → Steps self.old self.new st es (Line text) fx) }
         ensures site { IsSameSite self.old self.new }
         ensures kept { OnErr result (self.new ≡ self.old) }
     {
@@ -177,7 +177,7 @@ impl Host {
         requires call { self.old.next_call < 2 ^ 63 }
         requires job { self.old.next_job < 2 ^ 63 }
         ensures steps { IfOk result (λ fx. (st : Setting) (es : Trace) (text : List ℕ) → HostStands self.old st es
-            → st.read text ≡ Ok (To_acquire resource.now false process) → Steps self.old self.new st es (Line text) fx) }
+            → st.read text ≡ Ok (To_acquire resource.now false process false) → Steps self.old self.new st es (Line text) fx) }
         ensures site { IsSameSite self.old self.new }
         ensures kept { OnErr result (self.new ≡ self.old) }
     {
