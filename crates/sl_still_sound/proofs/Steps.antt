@@ -60,7 +60,7 @@ with_effects st es x i fx U kind is few stands =
     subst (λ y. IsSmall es (entry_of x.now i y) × IsStillDaemon st (entry_of x.now i y ∷ es)) (sym is) (
       record {
         apart = open_apart st x.now U (still_entry x.now i fx ∷ es) stands;
-        step = record { calls = few.orderly.calls; grants = few.grants; replies = few.replies; spelled = λ c there w writes. lawful.calls.0.spelled c w there writes };
+        step = record { calls = few.calls; grants = few.grants; replies = few.replies; spelled = λ c there w writes. lawful.orderly.calls.0.spelled c w there writes };
       },
       record { now = x.now; still = x.still; setting = x.setting; given = x.given; table = U; stands = stands; hears = hears },
     )
