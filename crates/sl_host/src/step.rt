@@ -32,6 +32,7 @@ impl Host {
             Input::Wake => false,
             Input::Exit { process: _ } => false,
             Input::Spawned { process: _, ok: _ } => false,
+            Input::Number(_) => false,
         }
     }
 
@@ -83,6 +84,7 @@ impl Host {
             Input::Wake => unreachable!(),
             Input::Exit { process: _ } => unreachable!(),
             Input::Spawned { process: _, ok: _ } => unreachable!(),
+            Input::Number(_) => unreachable!(),
         }
     }
 }
