@@ -3,7 +3,7 @@ use Rattle.sl_acts.proofs.Additions.{found_more}
 use Rattle.sl_acts.proofs.LoopsKeep.{each_in_turn, for_each_keeps, when_keeps, with_some_keeps}
 use Rattle.sl_acts.proofs.SessionsStay.{Stays, itself, refused_stays}
 use Rattle.sl_acts.proofs.WakesKeep.{present_has}
-use Rattle.sl_acts.specs.Acts.{Has, IsKept}
+use Rattle.sl_acts.specs.Acts.{Has, OtherActs}
 use Rattle.sl_due.specs.DueFirst.{is_overdue, kill_holders, kills, kills_holders, refuse, remove_connection, remove_of_refused, send, signal_holders, time_out, time_outs}
 use Rattle.sl_due.specs.Steps.{Step, add_move, add_reply, seen, when}
 use Rattle.sl_plain.proofs.Lists.{contains_cases, contains_first, contains_more, contains_none, kept_inside}
@@ -35,7 +35,7 @@ record Quiet (x y : Step) : Type 0 where
   stays : Stays x y
   bare : y.effects.calls ≡ []
 
-kill_one : (I : Step → Type 0) → IsKept I → (x : Step) (s : Session) → Has x s → (y : Step) → AtHead I x y → AtHead I x (kill_holders s y)
+kill_one : (I : Step → Type 0) → OtherActs I → (x : Step) (s : Session) → Has x s → (y : Step) → AtHead I x y → AtHead I x (kill_holders s y)
 unfolding kill_holders
 kill_one I k x s has y h =
     when_keeps (AtHead I x) (kills_holders y.setting (seen y) s) (signal_holders Kill s) y
@@ -44,7 +44,7 @@ kill_one I k x s has y h =
     (record { stays = f.stays; bare = f.bare }) in
     record { kept = k.kills y s (f.stays.sessions s has) is f.kept; stays = more.stays; bare = more.bare })) h
 
-pub kills_keep : (I : Step → Type 0) → IsKept I → (x : Step) → x.effects.calls ≡ [] → I x → AtHead I x (kills x)
+pub kills_keep : (I : Step → Type 0) → OtherActs I → (x : Step) → x.effects.calls ≡ [] → I x → AtHead I x (kills x)
 unfolding kills
 kills_keep I k x bare h =
     for_each_keeps (AtHead I x) (present_sessions x.setting (seen x)) kill_holders x (λ s there. kill_one I k x s (present_has x s there)) (record { kept = h; stays = itself x; bare = bare })
@@ -83,7 +83,7 @@ refuse_bare y j r bare =
     (remove_connection s.lockspace) (add_reply j r y)
     (λ gone g. when_keeps (λ z. z.effects.calls ≡ []) (is_registered y.setting (seen (add_reply j r y)) s.lockspace) (add_move (Unregister s.lockspace)) (add_reply j r y) (λ up f. f) g) h) bare
 
-refused_left : (I : Step → Type 0) → IsKept I → (x : Step) → x.input ≡ Wake → (j : Job) (rest : List Job) (y : Step) → Left I x (j ∷ rest) y → (m : Submitted) → waiting_call (seen y) j.number ≡ Some m
+refused_left : (I : Step → Type 0) → OtherActs I → (x : Step) → x.input ≡ Wake → (j : Job) (rest : List Job) (y : Step) → Left I x (j ∷ rest) y → (m : Submitted) → waiting_call (seen y) j.number ≡ Some m
     → is_overdue y.setting y.reading m ≡ true → Left I x rest (refuse j.number (IoTimeout m.call.number m.reading y.reading) y)
 refused_left I k x wake j rest y h m waits late =
     let r : Reply = IoTimeout m.call.number m.reading y.reading in
@@ -156,7 +156,7 @@ all_left : (I : Step → Type 0) (x y : Step) → AtHead I x y → Left I x (run
 all_left I x y h =
     record { head = h; running = λ j there. (kept_inside (λ (i : Job). is_running (seen y) i.number) (jobs y.setting (seen y)) j there).1; apart = jobs_apart y.setting (seen y) }
 
-time_out_one : (I : Step → Type 0) → IsKept I → (x : Step) → x.input ≡ Wake → (j : Job) (rest : List Job) (y : Step) → Left I x (j ∷ rest) y → Left I x rest (time_out j y)
+time_out_one : (I : Step → Type 0) → OtherActs I → (x : Step) → x.input ≡ Wake → (j : Job) (rest : List Job) (y : Step) → Left I x (j ∷ rest) y → Left I x rest (time_out j y)
 unfolding time_out
 time_out_one I k x wake j rest y h =
     with_some_keeps (Left I x rest) (waiting_call (seen y) j.number) (λ m. when (is_overdue y.setting y.reading m) (refuse j.number (IoTimeout m.call.number m.reading y.reading))) y
@@ -164,6 +164,6 @@ time_out_one I k x wake j rest y h =
     (λ late f. refused_left I k x wake j rest y h m waits late) g)
     (fewer I x j rest y h)
 
-pub time_outs_keep : (I : Step → Type 0) → IsKept I → (x y : Step) → x.input ≡ Wake → AtHead I x y → AtHead I x (time_outs y)
+pub time_outs_keep : (I : Step → Type 0) → OtherActs I → (x y : Step) → x.input ≡ Wake → AtHead I x y → AtHead I x (time_outs y)
 unfolding time_outs
 time_outs_keep I k x y wake h = (each_in_turn (Left I x) (running_jobs y.setting (seen y)) time_out y (λ j rest z g. time_out_one I k x wake j rest z g) (all_left I x y h)).head

@@ -2,7 +2,7 @@
 use Rattle.sl_acts.proofs.Additions.{not_is}
 use Rattle.sl_acts.proofs.LoopsKeep.{for_each_keeps, when_keeps, with_some_keeps}
 use Rattle.sl_acts.proofs.SessionsStay.{Stays, call_stays, itself, reply_stays}
-use Rattle.sl_acts.specs.Acts.{Has, Hears, IsKept, lone_job}
+use Rattle.sl_acts.specs.Acts.{Has, Hears, IsKept, OtherActs, lone_job}
 use Rattle.sl_area.specs.Places.{request_offset}
 use Rattle.sl_due.specs.DueAnswers.{after_answer, after_answer_of, for_job, set_reply}
 use Rattle.sl_due.specs.DueCommands.{answer_line, carry_decision, carry_line, decided, on_line, reply_at_once}
@@ -14,7 +14,6 @@ use Rattle.sl_due.specs.DueRequests.{after_request_read, after_see_request, afte
 use Rattle.sl_due.specs.Steps.{Step, add_end, add_reply, add_signal, add_start, seen, when, with_input, with_some}
 use Rattle.sl_due.specs.declared.decision.Decision.TheVariants.{Replies}
 use Rattle.sl_due.specs.declared.decision.Decision.{Decision}
-use Rattle.sl_trace_law.proofs.Leases.NumberLaws.{number_is_place}
 use Rattle.sl_leases.specs.Counts.{stopper_of}
 use Rattle.sl_leases.specs.Jobs.{aim_of, command_numbered, job_of_start, jobs_of_session}
 use Rattle.sl_leases.specs.Leases.{exclusive_on, lease_spots, spot_of_call}
@@ -36,6 +35,7 @@ use Rattle.sl_trace.specs.declared.input.Input.TheVariants.{Answer as Told, Exit
 use Rattle.sl_trace.specs.declared.input.Input.{Input}
 use Rattle.sl_trace.specs.declared.reply.Reply.TheVariants.{Done, IoFault, Recovering, SpawnFault}
 use Rattle.sl_trace.specs.declared.reply.Reply.{Reply}
+use Rattle.sl_trace_law.proofs.Leases.NumberLaws.{number_is_place}
 use Rattle.sl_words.proofs.CaseLaws.{none_some, some_value}
 use Rattle.sl_words.specs.Results.{◌>>=◌}
 use Rattle.sl_words.specs.Words.{some_is}
@@ -44,20 +44,20 @@ use Rattle.std.specs.Prelude.{Bool, Err, List, None, Ok, Option, Result, Some, f
 
 -- ---- a line
 
-decided_keeps : (I : Step → Type 0) → IsKept I → (x : Step) (text : List ℕ) (c : Command) (d : Decision) → x.input ≡ Wake → x.effects.calls ≡ [] → x.setting.read text ≡ Ok c
+decided_keeps : (I : Step → Type 0) → OtherActs I → (x : Step) (text : List ℕ) (c : Command) (d : Decision) → x.input ≡ Wake → x.effects.calls ≡ [] → x.setting.read text ≡ Ok c
     → decided x.setting (seen x) x.reading c ≡ d → (o : Option Reply) → reply_at_once d ≡ o → I x
     → I (elim o as (λ z. Step) [ Some r ↦ answer_line text (next_job x.setting (seen x)) r x | None ↦ carry_decision (next_job x.setting (seen x)) c d (with_input (Line text) x) ])
 decided_keeps I k x text c d wake bare says is None at h = k.carries x text c d wake bare says is at h
 decided_keeps I k x text c (Replies q) wake bare says is (Some r) at h = k.answers x text c r wake bare says (is ∙ ap (λ z. Replies z) (some_value q r at)) h
 decided_keeps I k x text c d wake bare says is (Some r) at h = absurd (none_some r at)
 
-line_by : (I : Step → Type 0) → IsKept I → (x : Step) (text : List ℕ) → x.input ≡ Wake → x.effects.calls ≡ [] → (o : Result Command ℕ) → x.setting.read text ≡ o → I x
+line_by : (I : Step → Type 0) → OtherActs I → (x : Step) (text : List ℕ) → x.input ≡ Wake → x.effects.calls ≡ [] → (o : Result Command ℕ) → x.setting.read text ≡ o → I x
     → I (carry_line text (next_job x.setting (seen x)) (o >>= (λ c. Ok (c, decided x.setting (seen x) x.reading c))) x)
 line_by I k x text wake bare (Err column) is h = k.misreads x text column wake bare is h
 line_by I k x text wake bare (Ok c) is h =
     decided_keeps I k x text c (decided x.setting (seen x) x.reading c) wake bare is refl (reply_at_once (decided x.setting (seen x) x.reading c)) refl h
 
-line_keeps : (I : Step → Type 0) → IsKept I → (x : Step) (text : List ℕ) → x.input ≡ Wake → x.effects.calls ≡ [] → I x → I (on_line text x)
+line_keeps : (I : Step → Type 0) → OtherActs I → (x : Step) (text : List ℕ) → x.input ≡ Wake → x.effects.calls ≡ [] → I x → I (on_line text x)
 unfolding on_line
 line_keeps I k x text wake bare h = line_by I k x text wake bare (x.setting.read text) refl h
 
@@ -114,8 +114,8 @@ stop_stays x y s kept h =
     (λ j there w f. reply_stays x w j.number (Recovering (last_renewal z.setting (seen z) s)) f)
     (for_each_keeps (Stays x) (holders_of (seen y) s) (λ p. send p Term) y (λ p there w f. told_by x w p (stopper_of w.setting (seen w) p) f) h)
 
-has_heard : (x : Step) (s : Session) (m : Submitted) (bytes : List ℕ) → Hears x s m (Read bytes) → Has x s
-has_heard x s m bytes hears = ap (λ n. session_numbered x.setting (seen x) n) (number_is_place x.setting (seen x) m.call.session s hears.session) ∙ hears.session
+pub has_heard : (x : Step) (s : Session) (m : Submitted) (answer : Answer) → Hears x s m answer → Has x s
+has_heard x s m answer hears = ap (λ n. session_numbered x.setting (seen x) n) (number_is_place x.setting (seen x) m.call.session s hears.session) ∙ hears.session
 
 sees_after : (I : Step → Type 0) → IsKept I → (x : Step) (s : Session) (m : Submitted) (bytes : List ℕ) → Hears x s m (Read bytes) → (y : Step) (asked : Bool) → Since I x y → I (when asked (see_requests s) y)
 unfolding see_requests
@@ -124,7 +124,7 @@ sees_after I k x s m bytes hears y true h =
     (for_each_keeps (Since I x) (lease_spots y.setting (seen y) s) (see_request_on s) y
     (λ at there z g. with_some_keeps (Since I x) (exclusive_on (seen z) s at) (see_request s) z
     (λ held is f. (
-      k.sees z s hears.number bytes at held (f.1.sessions s (has_heard x s m bytes hears)) (f.1.input ∙ hears.heard) is f.0,
+      k.sees z s hears.number bytes at held (f.1.sessions s (has_heard x s m (Read bytes) hears)) (f.1.input ∙ hears.heard) is f.0,
       call_stays x z s.number held.path SeeRequest (request_offset z.setting.layout held.offset) (ReadSectors 1) f.1,
     )) g) h).0
 
@@ -194,35 +194,62 @@ failed_input x p heard =
     said_by (λ z. z.input ≡ Spawned p false) (end_holdings p x) (job_of_start (seen x) p) SpawnFault (λ j is runs g. g)
     (for_each_keeps (λ z. z.input ≡ Spawned p false) (filter (λ g. g.process == p) (holdings (seen x))) (λ g. add_end (end_of g)) x (λ g there z f. f) heard)
 
-pub started_keeps : (I : Step → Type 0) → IsKept I → (x : Step) (p : ℕ) (ok : Bool) → x.input ≡ Spawned p ok → I x → I (on_spawned p ok x)
+pub started_keeps : (I : Step → Type 0) → OtherActs I → (x : Step) (p : ℕ) (ok : Bool) → x.input ≡ Spawned p ok → I x → I (on_spawned p ok x)
 unfolding on_spawned
 started_keeps I k x p true heard h = said_by I x (job_of_start (seen x) p) (started_reply (seen x) p) (λ j is runs g. k.says_started x p j heard is runs g) h
 started_keeps I k x p false heard h =
     let y : Step = when_running (job_of_start (seen x) p) SpawnFault (end_holdings p x) in
     with_some_keeps I (stands_for (seen y) p) (λ q. add_signal q Term) y (λ q is g. k.signals_instead y p q (failed_input x p heard) is g) (k.fails_to_start x p heard h)
 
-exit_by : (I : Step → Type 0) → IsKept I → (x : Step) (p : ℕ) → x.input ≡ Wake → x.effects.calls ≡ [] → (none : Bool) → (p == no_process) ≡ none → I x
+exit_by : (I : Step → Type 0) → OtherActs I → (x : Step) (p : ℕ) → x.input ≡ Wake → x.effects.calls ≡ [] → (none : Bool) → (p == no_process) ≡ none → I x
     → I (when (not none) (λ y. refuse_jobs_of p (leave_holdings p y)) (with_input (Exit p) x))
 exit_by I k x p wake bare true is h = k.exits_as_none x p wake bare is h
 exit_by I k x p wake bare false is h = k.exits x p wake bare is h
 
 -- ---- the whole
 
--- The step with an answer, or with the start of a child: of these two it is asked that they were expected.
+-- The step with the start of a child; of that it is asked that it was expected.
 abbrev pub Arrives : (Step → Type 0) → Step → Input → Type 0
-Arrives I x (Told number answer) = I (with_input (Told number answer) x)
 Arrives I x (Spawned p ok) = I (with_input (Spawned p ok) x)
 Arrives I x i = Unit {0}
 
 pub was_there : (x : Step) (i : Input) → x.input ≡ Wake → (s : Session) → is_present (seen x) s ≡ true → is_present (seen (with_input Wake (with_input i x))) s ≡ true
 was_there x i wake s is = subst (λ k. is_present (seen (with_input k x)) s ≡ true) wake is
 
-pub input_keeps : (I : Step → Type 0) → IsKept I → (x : Step) (i : Input) → x.input ≡ Wake → x.effects.calls ≡ [] → Arrives I x i → I x → I (take_input i x)
+pub others_keep : (I : Step → Type 0) → OtherActs I → (x : Step) (i : Input) → x.input ≡ Wake → x.effects.calls ≡ []
+    → (((number : ℕ) (answer : Answer) → i ≡ Told number answer → I (take_input i x))) → Arrives I x i → I x → I (take_input i x)
 unfolding take_input on_exit
-input_keeps I k x (Line text) wake bare arrives h = line_keeps I k x text wake bare h
-input_keeps I k x (Number text) wake bare arrives h = k.counts x text wake bare h
-input_keeps I k x (Told number answer) wake bare arrives h =
-    told_keeps I k (with_input (Told number answer) x) (is_present (seen x)) number answer refl bare (was_there x (Told number answer) wake) arrives
-input_keeps I k x (Exit p) wake bare arrives h = exit_by I k x p wake bare (p == no_process) refl h
-input_keeps I k x (Spawned p ok) wake bare arrives h = started_keeps I k (with_input (Spawned p ok) x) p ok refl arrives
-input_keeps I k x Wake wake bare arrives h = h
+others_keep I k x (Line text) wake bare answers arrives h = line_keeps I k x text wake bare h
+others_keep I k x (Number text) wake bare answers arrives h = k.counts x text wake bare h
+others_keep I k x (Told number answer) wake bare answers arrives h = answers number answer refl
+others_keep I k x (Exit p) wake bare answers arrives h = exit_by I k x p wake bare (p == no_process) refl h
+others_keep I k x (Spawned p ok) wake bare answers arrives h = started_keeps I k (with_input (Spawned p ok) x) p ok refl arrives
+others_keep I k x Wake wake bare answers arrives h = h
+
+pub answer_keeps : (I : Step → Type 0) → IsKept I → (x : Step) (number : ℕ) (answer : Answer) → x.input ≡ Wake → x.effects.calls ≡ [] → I (with_input (Told number answer) x)
+    → I (take_input (Told number answer) x)
+unfolding take_input
+answer_keeps I k x number answer wake bare heard = told_keeps I k (with_input (Told number answer) x) (is_present (seen x)) number answer refl bare (was_there x (Told number answer) wake) heard
+
+-- The acts but those of an answer.
+pub other_acts : (I : Step → Type 0) → IsKept I → OtherActs I
+other_acts I k =
+    record {
+      kills = k.kills;
+      times_out = k.times_out;
+      counts = k.counts;
+      exits = k.exits;
+      exits_as_none = k.exits_as_none;
+      starts = k.starts;
+      fails_to_start = k.fails_to_start;
+      signals_instead = k.signals_instead;
+      says_started = k.says_started;
+      misreads = k.misreads;
+      answers = k.answers;
+      carries = k.carries;
+      joins_in_time = k.joins_in_time;
+      renews = k.renews;
+      settles = k.settles;
+      parts = k.parts;
+      frees = k.frees;
+    }

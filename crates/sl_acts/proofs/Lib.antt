@@ -9,5 +9,6 @@ pub mod DecisionsAreTheirs
 pub mod PlainActs
 pub mod StepsKeep
 pub mod ActsTogether
+pub mod AnswersAreHeeded
 pub mod TracesKeep
 pub mod CallsAreOwned

@@ -2,9 +2,10 @@
 use Rattle.sl_acts.proofs.Additions.{begun_by}
 use Rattle.sl_acts.proofs.DecisionsAreTheirs.{Of, decided_there}
 use Rattle.sl_acts.proofs.EffectsKeep.{delta, granting, lease, reading, refusal, removal, removal_of_refused, sent, signalled, stopped}
+use Rattle.sl_acts.proofs.InputsKeep.{has_heard}
 use Rattle.sl_acts.proofs.LoopsKeep.{for_each_keeps, when_keeps}
 use Rattle.sl_acts.proofs.WakesKeep.{present_has}
-use Rattle.sl_acts.specs.Acts.{Acts, Has, Hears}
+use Rattle.sl_acts.specs.Acts.{Acts, Has}
 use Rattle.sl_acts.specs.Plainly.{ByEffects, Plainly}
 use Rattle.sl_acts.specs.SoFar.{entry_of}
 use Rattle.sl_area.specs.Places.{request_offset, value_offset}
@@ -15,14 +16,13 @@ use Rattle.sl_due.specs.DueRequests.{after_request_read, after_value_read, owner
 use Rattle.sl_due.specs.Steps.{Step, add_end, add_grant, add_reply, seen, with_input}
 use Rattle.sl_due.specs.declared.decision.Decision.TheVariants.{ConvertsTo, GetsValue, GivesUp, Joins, Leaves, ReadsArea, Replies, Requests, SetsValue, Shares, TakesOver}
 use Rattle.sl_due.specs.declared.decision.Decision.{Decision}
-use Rattle.sl_trace_law.proofs.Leases.NumberLaws.{number_is_place}
 use Rattle.sl_leases.specs.Jobs.{is_job_of_process, job_of_start}
 use Rattle.sl_leases.specs.LeaseWork.{convert_next, lease_place, release_next}
 use Rattle.sl_leases.specs.Leases.{holdings_on, known, spot_of}
 use Rattle.sl_sector.specs.declared.sector.Rec.TheVariants.{RequestIs, ValueIs}
-use Rattle.sl_sessions.specs.Sessions.{is_join_call, session_numbered, sessions}
+use Rattle.sl_sessions.specs.Sessions.{is_join_call, sessions}
 use Rattle.sl_sessions.specs.declared.session.Session.{Session}
-use Rattle.sl_trace.specs.Traces.{Submitted, end_of, holdings, is_running, next_job, orphans_left, running_jobs, spot_of_grant}
+use Rattle.sl_trace.specs.Traces.{end_of, holdings, is_running, next_job, orphans_left, running_jobs, spot_of_grant}
 use Rattle.sl_trace.specs.declared.command.Command.TheVariants.{Request}
 use Rattle.sl_trace.specs.declared.command.Command.{Command}
 use Rattle.sl_trace.specs.declared.command.LockspaceArg.{LockspaceArg}
@@ -37,7 +37,6 @@ use Rattle.sl_trace.specs.declared.effects.Signal.TheVariants.{Kill, Term}
 use Rattle.sl_trace.specs.declared.effects.Spot.{Spot}
 use Rattle.sl_trace.specs.declared.effects.Work.TheVariants.{ForJob}
 use Rattle.sl_trace.specs.declared.input.Answer.TheVariants.{Read}
-use Rattle.sl_trace.specs.declared.input.Answer.{Answer}
 use Rattle.sl_trace.specs.declared.input.Input.TheVariants.{Answer as Told, Exit, Line, Number, Spawned}
 use Rattle.sl_trace.specs.declared.reply.Reply.TheVariants.{Done, NoProcess, SpawnFault}
 use Rattle.sl_trace.specs.declared.reply.Reply.{Reply}
@@ -54,9 +53,6 @@ seen_line x text s bare has =
     let none : list_any (λ (c : Call). is_join_call FirstRead c.purpose) x.effects.calls ≡ false = ap (λ cs. list_any (λ (c : Call). is_join_call FirstRead c.purpose) cs) bare in
     ap (λ b. slice_get (ss ++ begun_by x.setting x.past (length ss) (entry_of (with_input (Line text) x)) b) s.number) none
     ∙ (ap (λ b. slice_get (ss ++ begun_by x.setting x.past (length ss) (entry_of x) b) s.number) (sym none) ∙ has)
-
-has_heard : (x : Step) (s : Session) (m : Submitted) (answer : Answer) → Hears x s m answer → Has x s
-has_heard x s m answer hears = ap (λ n. session_numbered x.setting (seen x) n) (number_is_place x.setting (seen x) m.call.session s hears.session) ∙ hears.session
 
 pub ended : (K : Step → Type 0) → ByEffects K → (x : Step) (p : ℕ) → K x → K (end_holdings p x)
 ended K p x q h = for_each_keeps K (filter (λ g. g.process == q) (holdings (seen x))) (λ g. add_end (end_of g)) x (λ g there y k. p.ends y (end_of g) k) h

@@ -2,14 +2,13 @@
 use Rattle.sl_acts.proofs.Additions.{contains_at, not_is}
 use Rattle.sl_acts.proofs.LoopsKeep.{for_each_keeps, when_keeps, with_some_keeps}
 use Rattle.sl_acts.proofs.SessionsStay.{Stays, delta_stays, itself, lease_stays, removal_stays}
-use Rattle.sl_acts.specs.Acts.{Has, IsKept}
+use Rattle.sl_acts.specs.Acts.{Has, OtherActs}
 use Rattle.sl_due.specs.DueDelta.{carry_delta}
 use Rattle.sl_due.specs.DueFirst.{remove_connection}
 use Rattle.sl_due.specs.DueLease.{carry_lease, settle}
 use Rattle.sl_due.specs.DueRequests.{bits_due}
 use Rattle.sl_due.specs.DueWake.{end_if_done, finish, finish_session, for_sessions, free_if_done, join_on_wake, on_wake, renew_on_wake, settle_on_wake, settlings}
 use Rattle.sl_due.specs.Steps.{Step, for_each, seen, when}
-use Rattle.sl_trace_law.proofs.Leases.NumberLaws.{number_is_place}
 use Rattle.sl_leases.specs.LeaseWork.{lease_place, settle_next}
 use Rattle.sl_leases.specs.Leases.{known, lease_spots, open_on}
 use Rattle.sl_leases.specs.declared.lease.LeaseNext.TheVariants.{AnswerJob, BecomeExclusive, BecomeShared, GrantJob, Nothing, ReadFor, WriteBlock, WriteLeader}
@@ -23,6 +22,7 @@ use Rattle.sl_trace.specs.declared.effects.LeaseStep.TheVariants.{ReadArea, Read
 use Rattle.sl_trace.specs.declared.effects.Spot.{Spot}
 use Rattle.sl_trace.specs.declared.effects.Work.TheVariants.{Settling}
 use Rattle.sl_trace.specs.declared.input.Input.TheVariants.{Wake}
+use Rattle.sl_trace_law.proofs.Leases.NumberLaws.{number_is_place}
 use Rattle.sl_words.proofs.CaseLaws.{false_is_true}
 use Rattle.sl_words.proofs.WordLaws.{and_true}
 use Rattle.sl_words.specs.Orders.{in_order, is_text_before, put_in}
@@ -40,7 +40,7 @@ empty_is (x ∷ xs) h = absurd (false_is_true h)
 
 -- ---- each body, at a step since the pass began
 
-joins_then : (I : Step → Type 0) → IsKept I → (x : Step) (s : Session) → Has x s → x.input ≡ Wake → (y : Step) → Since I x y → Since I x (join_on_wake s y)
+joins_then : (I : Step → Type 0) → OtherActs I → (x : Step) (s : Session) → Has x s → x.input ≡ Wake → (y : Step) → Since I x y → Since I x (join_on_wake s y)
 unfolding join_on_wake
 joins_then I k x s has wake y h =
     with_some_keeps (Since I x) s.job
@@ -48,7 +48,7 @@ joins_then I k x s has wake y h =
     (λ j its g. when_keeps (Since I x) (is_running (seen y) j) (carry_delta s (next_on_wake (delta_of_session y.setting s) y.reading (calls_of (seen y) s))) y
     (λ runs f. (k.joins_in_time y s j (f.1.sessions s has) (f.1.input ∙ wake) its runs f.0, delta_stays x y s (next_on_wake (delta_of_session y.setting s) y.reading (calls_of (seen y) s)) f.1)) g) h
 
-renews_then : (I : Step → Type 0) → IsKept I → (x : Step) (s : Session) → Has x s → x.input ≡ Wake → (y : Step) → Since I x y → Since I x (renew_on_wake s y)
+renews_then : (I : Step → Type 0) → OtherActs I → (x : Step) (s : Session) → Has x s → x.input ≡ Wake → (y : Step) → Since I x y → Since I x (renew_on_wake s y)
 unfolding renew_on_wake
 renews_then I k x s has wake y h =
     when_keeps (Since I x) (is_joined (seen y) s)
@@ -75,7 +75,7 @@ still_active s at (GrantJob mode lver) z h = h
 still_active s at (BecomeShared lver l) z h = h
 still_active s at (BecomeExclusive lver b) z h = h
 
-settles_one : (I : Step → Type 0) → IsKept I → (x : Step) (s : Session) → Has x s → x.input ≡ Wake → (at : Spot) (z : Step) → Active I x s z → Active I x s (settle_on_wake s at z)
+settles_one : (I : Step → Type 0) → OtherActs I → (x : Step) (s : Session) → Has x s → x.input ≡ Wake → (at : Spot) (z : Step) → Active I x s z → Active I x s (settle_on_wake s at z)
 unfolding settle_on_wake settle
 settles_one I k x s has wake at z g =
     when_keeps (Active I x s) (is_empty (open_on z.setting (seen z) at)) (λ w. carry_lease s at Settling (settle_next (lease_place w.setting s) (known w.setting (seen w) s at)) w) z
@@ -87,13 +87,13 @@ settles_one I k x s has wake at z g =
       still_active s at (settle_next (lease_place z.setting s) (known z.setting (seen z) s at)) z f.1,
     )) g
 
-settles_then : (I : Step → Type 0) → IsKept I → (x : Step) (s : Session) → Has x s → x.input ≡ Wake → (y : Step) → Since I x y → Since I x (settlings s y)
+settles_then : (I : Step → Type 0) → OtherActs I → (x : Step) (s : Session) → Has x s → x.input ≡ Wake → (y : Step) → Since I x y → Since I x (settlings s y)
 unfolding settlings settle_on_wake settle
 settles_then I k x s has wake y h =
     when_keeps (Since I x) (is_active y.setting (seen y) s) (for_each (lease_spots y.setting (seen y) s) (settle_on_wake s)) y
     (λ active f. (for_each_keeps (Active I x s) (lease_spots y.setting (seen y) s) (settle_on_wake s) y (λ at there z g. settles_one I k x s has wake at z g) (f, active)).0) h
 
-by_recovery : (I : Step → Type 0) → IsKept I → (x : Step) (s : Session) → Has x s → (y : Step) → is_joined (seen y) s ≡ true → (b : Bool) → is_some (recovery_of y.setting (seen y) s) ≡ b → Since I x y
+by_recovery : (I : Step → Type 0) → OtherActs I → (x : Step) (s : Session) → Has x s → (y : Step) → is_joined (seen y) s ≡ true → (b : Bool) → is_some (recovery_of y.setting (seen y) s) ≡ b → Since I x y
     → Since I x (elim b as (λ z. Step) [ true ↦ end_if_done s y | false ↦ free_if_done s y ])
 by_recovery I k x s has y joined true is h =
     when_keeps (Since I x) (is_empty (holdings_of (seen y) s) && not (has_open_write (seen y) s)) (remove_connection s.lockspace) y
@@ -109,7 +109,7 @@ by_recovery I k x s has y joined false is h =
       delta_stays x y s (next_free (delta_of_session y.setting s) y.reading (delta_known y.setting (seen y) s)) f.1,
     )) h
 
-parts_then : (I : Step → Type 0) → IsKept I → (x : Step) (s : Session) → Has x s → (y : Step) → Since I x y → Since I x (finish_session s y)
+parts_then : (I : Step → Type 0) → OtherActs I → (x : Step) (s : Session) → Has x s → (y : Step) → Since I x y → Since I x (finish_session s y)
 unfolding finish_session
 parts_then I k x s has y h =
     when_keeps (Since I x) (is_joined (seen y) s) (λ z. elim (is_some (recovery_of z.setting (seen z) s)) [ true ↦ end_if_done s z | false ↦ free_if_done s z ]) y
@@ -153,7 +153,7 @@ present_has x s there =
 pass_keeps : (I : Step → Type 0) (f : Session → Step → Step) (x : Step) → ((s : Session) → Has x s → (y : Step) → Since I x y → Since I x (f s y)) → I x → Since I x (for_sessions f x)
 pass_keeps I f x keeps h = for_each_keeps (Since I x) (present_sessions x.setting (seen x)) f x (λ s there. keeps s (present_has x s there)) (h, itself x)
 
-pub wake_keeps : (I : Step → Type 0) → IsKept I → (x : Step) → x.input ≡ Wake → I x → I (on_wake x)
+pub wake_keeps : (I : Step → Type 0) → OtherActs I → (x : Step) → x.input ≡ Wake → I x → I (on_wake x)
 unfolding on_wake
 wake_keeps I k x wake h =
     let joined : Since I x (for_sessions join_on_wake x) = pass_keeps I join_on_wake x (λ s has. joins_then I k x s has wake) h in
@@ -162,12 +162,12 @@ wake_keeps I k x wake h =
     let z : Step = for_sessions renew_on_wake y in
     (pass_keeps I settlings z (λ s has. settles_then I k z s has (renewed.1.input ∙ (joined.1.input ∙ wake))) renewed.0).0
 
-pub last_keeps : (I : Step → Type 0) → IsKept I → (x : Step) → I x → I (finish x)
+pub last_keeps : (I : Step → Type 0) → OtherActs I → (x : Step) → I x → I (finish x)
 unfolding finish
 last_keeps I k x h = (pass_keeps I finish_session x (λ s has. parts_then I k x s has) h).0
 
 -- Neither changes the input.
-pub wake_input : (I : Step → Type 0) → IsKept I → (x : Step) → x.input ≡ Wake → I x → (on_wake x).input ≡ Wake
+pub wake_input : (I : Step → Type 0) → OtherActs I → (x : Step) → x.input ≡ Wake → I x → (on_wake x).input ≡ Wake
 unfolding on_wake
 wake_input I k x wake h =
     let joined : Since I x (for_sessions join_on_wake x) = pass_keeps I join_on_wake x (λ s has. joins_then I k x s has wake) h in
@@ -176,6 +176,6 @@ wake_input I k x wake h =
     let z : Step = for_sessions renew_on_wake y in
     (pass_keeps I settlings z (λ s has. settles_then I k z s has (renewed.1.input ∙ (joined.1.input ∙ wake))) renewed.0).1.input ∙ (renewed.1.input ∙ (joined.1.input ∙ wake))
 
-pub last_input : (I : Step → Type 0) → IsKept I → (x : Step) → I x → (finish x).input ≡ x.input
+pub last_input : (I : Step → Type 0) → OtherActs I → (x : Step) → I x → (finish x).input ≡ x.input
 unfolding finish
 last_input I k x h = (pass_keeps I finish_session x (λ s has. parts_then I k x s has) h).1.input
