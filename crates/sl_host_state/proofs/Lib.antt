@@ -2,3 +2,4 @@ pub mod NewHost
 pub mod Passing
 pub mod Others
 pub mod Resting
+pub mod Asking

@@ -6,3 +6,4 @@ pub mod Hears
 pub mod Passes
 pub mod Effects
 pub mod Resting
+pub mod Asks

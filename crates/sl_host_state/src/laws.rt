@@ -1,5 +1,6 @@
 //! What a new host stands for, and how parts of a step are put together.
 
+ghost use Rattle.sl_host_state.specs.Asks.{QuestionsAreAnswered};
 ghost use Rattle.sl_host_state.specs.Effects.{EffectsAreTaken};
 ghost use Rattle.sl_host_state.specs.New.{NewHostStands};
 ghost use Rattle.sl_host_state.specs.Passes.{PartsAreTaken};
@@ -28,4 +29,9 @@ pub fn steps_are_over()
 /// A lease without a call stands for none.
 pub fn new_lease_stands()
     ensures { NewLeaseStands }
+{}
+
+/// What a step asks of several lists is answered by what a host keeps.
+pub fn questions_are_answered()
+    ensures { QuestionsAreAnswered }
 {}
