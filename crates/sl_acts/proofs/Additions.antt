@@ -4,11 +4,12 @@ use Rattle.sl_sessions.specs.Sessions.{added_by, joining_session}
 use Rattle.sl_sessions.specs.declared.session.Session.{Session}
 use Rattle.sl_trace.specs.Traces.{Setting, Trace, next_job}
 use Rattle.sl_trace.specs.declared.effects.Entry.{Entry}
+use Rattle.sl_trace.specs.declared.effects.JobReply.{JobReply}
 use Rattle.sl_words.proofs.CaseLaws.{false_is_true}
 use Rattle.std.proofs.Common.{ap, inl, inr, refl, subst, ◌∙◌}
 use Rattle.std.proofs.lemmas.Option.{slice_get-get_or}
 use Rattle.std.specs.List.{list_any}
-use Rattle.std.specs.Prelude.{Bool, Contains, List, None, Some, false, not, slice_get, true, [], ℕ, ◌++◌, ◌||◌, ◌∷◌, ◌≡◌, ◌⊎◌}
+use Rattle.std.specs.Prelude.{Bool, Contains, List, None, Some, cond, false, find, not, slice_get, true, [], ℕ, ◌++◌, ◌==◌, ◌||◌, ◌∷◌, ◌≡◌, ◌⊎◌}
 
 -- ---- of a list
 
@@ -43,6 +44,11 @@ or_right false = refl
 pub any_last : {A : Type 0} (p : A → Bool) (xs : List A) (y : A) → p y ≡ true → list_any p (xs ++ y ∷ []) ≡ true
 any_last p [] y is = ap (λ b. b || false) is
 any_last p (x ∷ xs) y is = ap (λ b. p x || b) (any_last p xs y is) ∙ or_right (p x)
+
+-- Of replies, where the last is to another job.
+pub found_more : (rs : List JobReply) (a : JobReply) (n : ℕ) → (a.job == n) ≡ false → find (λ b. b.job == n) (rs ++ a ∷ []) ≡ find (λ b. b.job == n) rs
+found_more [] a n other = ap (λ b. cond b (Some a) None) other
+found_more (b ∷ rs) a n other = ap (λ o. cond (b.job == n) (Some b) o) (found_more rs a n other)
 
 pub not_is : (b : Bool) → not b ≡ true → b ≡ false
 not_is false h = refl

@@ -1,4 +1,5 @@
 -- What comes before the input keeps what the acts keep.
+use Rattle.sl_acts.proofs.Additions.{found_more}
 use Rattle.sl_acts.proofs.LoopsKeep.{each_in_turn, for_each_keeps, when_keeps, with_some_keeps}
 use Rattle.sl_acts.proofs.SessionsStay.{Stays, itself, refused_stays}
 use Rattle.sl_acts.proofs.WakesKeep.{present_has}
@@ -20,7 +21,7 @@ use Rattle.sl_trace.specs.declared.reply.Reply.TheVariants.{IoTimeout}
 use Rattle.sl_trace.specs.declared.reply.Reply.{Reply}
 use Rattle.std.proofs.Common.{ap, append-nil, arith, inl, inr, refl, subst, sym, ◌∙◌}
 use Rattle.std.proofs.lemmas.List.{append-nil}
-use Rattle.std.specs.Prelude.{Bool, Contains, List, None, Option, Some, cond, false, filter, find, is_none, is_some, length, not, option_map, true, [], ℕ, ◌&&◌, ◌++◌, ◌+◌, ◌==◌, ◌∷◌, ◌≡◌, ◌≤◌}
+use Rattle.std.specs.Prelude.{Bool, Contains, List, None, Option, Some, cond, false, filter, is_none, is_some, length, not, option_map, true, [], ℕ, ◌&&◌, ◌++◌, ◌+◌, ◌==◌, ◌∷◌, ◌≡◌, ◌≤◌}
 
 -- Before the input: a wake, and no call yet.
 pub record AtHead (I : Step → Type 0) (x y : Step) : Type 0 where
@@ -62,10 +63,6 @@ pub record Left (I : Step → Type 0) (x : Step) (js : List Job) (y : Step) : Ty
 
 fewer : (I : Step → Type 0) (x : Step) (j : Job) (rest : List Job) (y : Step) → Left I x (j ∷ rest) y → Left I x rest y
 fewer I x j rest y h = record { head = h.head; running = λ k there. h.running k (contains_more j rest k there); apart = h.apart.1 }
-
-found_more : (rs : List JobReply) (a : JobReply) (n : ℕ) → (a.job == n) ≡ false → find (λ b. b.job == n) (rs ++ a ∷ []) ≡ find (λ b. b.job == n) rs
-found_more [] a n other = ap (λ b. cond b (Some a) None) other
-found_more (b ∷ rs) a n other = ap (λ o. cond (b.job == n) (Some b) o) (found_more rs a n other)
 
 -- The other jobs still run.
 others_run : (y : Step) (j n : ℕ) (r : Reply) → (j == n) ≡ false → is_running (seen (refuse j r y)) n ≡ is_running (seen y) n

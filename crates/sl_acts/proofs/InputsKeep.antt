@@ -173,14 +173,14 @@ answer_of_keeps I k x s m (ValueRead j) answer hears is h =
     job_keeps I k x s m j answer hears (ap (λ p. lone_job p) is) (λ bytes. after_value_read j bytes) (λ y. y)
     (λ bytes heard runs g. k.tells x s m j bytes heard is runs g) (λ heard runs g. g) h
 
-pub told_keeps : (I : Step → Type 0) → IsKept I → (x : Step) (was : Session → Bool) (number : ℕ) (answer : Answer) → x.input ≡ Told number answer
+pub told_keeps : (I : Step → Type 0) → IsKept I → (x : Step) (was : Session → Bool) (number : ℕ) (answer : Answer) → x.input ≡ Told number answer → x.effects.calls ≡ []
     → ((s : Session) → was s ≡ true → is_present (seen (with_input Wake x)) s ≡ true) → I x → I (after_answer was number answer x)
 unfolding after_answer
-told_keeps I k x was number answer heard before h =
+told_keeps I k x was number answer heard bare before h =
     with_some_keeps I (call_numbered (seen x) number) (λ m. with_some (session_numbered x.setting (seen x) m.call.session) (λ s. when (was s) (after_answer_of s m m.call.purpose answer))) x
     (λ m call g. with_some_keeps I (session_numbered x.setting (seen x) m.call.session) (λ s. when (was s) (after_answer_of s m m.call.purpose answer)) x
     (λ s session f. when_keeps I (was s) (after_answer_of s m m.call.purpose answer) x
-    (λ there e. answer_of_keeps I k x s m m.call.purpose answer (record { number = number; heard = heard; call = call; session = session; present = before s there }) refl e) f) g) h
+    (λ there e. answer_of_keeps I k x s m m.call.purpose answer (record { number = number; heard = heard; call = call; session = session; present = before s there; bare = bare }) refl e) f) g) h
 
 -- ---- exits and starts
 
@@ -222,7 +222,7 @@ unfolding take_input on_exit
 input_keeps I k x (Line text) wake bare arrives h = line_keeps I k x text wake bare h
 input_keeps I k x (Number text) wake bare arrives h = k.counts x text wake bare h
 input_keeps I k x (Told number answer) wake bare arrives h =
-    told_keeps I k (with_input (Told number answer) x) (is_present (seen x)) number answer refl (was_there x (Told number answer) wake) arrives
+    told_keeps I k (with_input (Told number answer) x) (is_present (seen x)) number answer refl bare (was_there x (Told number answer) wake) arrives
 input_keeps I k x (Exit p) wake bare arrives h = exit_by I k x p wake bare (p == no_process) refl h
 input_keeps I k x (Spawned p ok) wake bare arrives h = started_keeps I k (with_input (Spawned p ok) x) p ok refl arrives
 input_keeps I k x Wake wake bare arrives h = h

@@ -87,7 +87,7 @@ unfolding take_input on_line
 taken x (Line text) wake bare = read_by x text bare (x.setting.read text)
 taken x (Number text) wake bare = refl
 taken x (Told n a) wake bare =
-    told_keeps (λ z. z.input ≡ Told n a) (plain_acts (λ z. z.input ≡ Told n a) (input_plainly (Told n a) told_no_wake)) (with_input (Told n a) x) (is_present (seen x)) n a refl
+    told_keeps (λ z. z.input ≡ Told n a) (plain_acts (λ z. z.input ≡ Told n a) (input_plainly (Told n a) told_no_wake)) (with_input (Told n a) x) (is_present (seen x)) n a refl bare
     (was_there x (Told n a) wake) refl
 taken x (Exit p) wake bare = exit_by x p
 taken x (Spawned p ok) wake bare =

@@ -44,13 +44,15 @@ Has x s = session_numbered x.setting (seen x) s.number ≡ Some s
 abbrev pub Expects : Step → Input → Type 0
 Expects x i = IsTrue (is_expected x.setting x.past i)
 
--- The step's input answers this call of the session, as the trace so far has it; the session was present before it.
+-- The step's input answers this call of the session, as the trace so far has it; the session was present before it, and no call has been
+-- made yet.
 pub record Hears (x : Step) (s : Session) (m : Submitted) (answer : Answer) : Type 0 where
   pub number : ℕ
   pub heard : x.input ≡ Told number answer
   pub call : call_numbered (seen x) number ≡ Some m
   pub session : session_numbered x.setting (seen x) m.call.session ≡ Some s
   pub present : is_present (seen (with_input Wake x)) s ≡ true
+  pub bare : x.effects.calls ≡ []
 
 -- The job of a call that is a job's only one at its area.
 abbrev pub lone_job : Purpose → Option ℕ

@@ -6,13 +6,14 @@ use Rattle.sl_text.proofs.HexLaws.{IsBytes-hex_bytes, hex_text-hex_bytes, hex_wo
 use Rattle.sl_text.specs.Forms.{Form, coloned, exactly, fits_whole, fitting, made_by, word_at}
 use Rattle.sl_text.specs.Names.{is_path}
 use Rattle.sl_text.specs.Numbers.{IsBytes, hex_bytes, hex_text, is_hex_word, is_number_that, number_of}
-use Rattle.sl_trace.specs.Commands.{IsCommand, IsLockspaceArg, IsProcess, IsValueArg, asked_of_word, command_words, forms, is_asked_word, is_lockspace_word, is_process_word, is_resource_word, is_shared_word, lockspace_form, lockspace_of_word, lockspace_word, resource_of_word, resource_parts}
-use Rattle.sl_trace.specs.declared.command.Command.TheVariants.{Acquire, AddLockspace, GetLvb, HostStatus, InqLockspace, Release, RemLockspace, Request, RunProgram, SetLvb, Status}
+use Rattle.sl_trace.specs.Commands.{IsCommand, IsLockspaceArg, IsProcess, IsResourceArg, IsValueArg, acquire_form, asked_of_word, command_words, forms, is_asked_word, is_lockspace_word, is_process_word, is_resource_word, is_shared_word, lockspace_form, lockspace_of_word, lockspace_word, moded_word, option_words, resource_of_word, resource_parts}
+use Rattle.sl_trace.specs.declared.command.Command.TheVariants.{Acquire, AddLockspace, Convert, GetLvb, HostStatus, InqLockspace, Release, ReleaseOrphan, RemLockspace, Request, RunProgram, SetKillpath, SetLvb, Status, TakeOver}
 use Rattle.sl_trace.specs.declared.command.Command.{Command}
 use Rattle.sl_trace.specs.declared.command.LockspaceArg.{LockspaceArg}
+use Rattle.sl_trace.specs.declared.command.ResourceArg.{ResourceArg}
 use Rattle.sl_words.proofs.CaseLaws.{some_value}
 use Rattle.sl_words.proofs.WordLaws.{and_true}
-use Rattle.std.proofs.Common.{Bool, List, Some, [], ap, arith, cond, eqb, false, leb, length, lit<, lit≤, ltb, refl, subst, suc, sym, true, ℕ, ◌&&◌, ◌++◌, ◌+◌, ◌-◌, ◌*◌, ◌/◌, ◌<◌, ◌^◌, ◌≡◌, ◌∙◌, ◌∷◌, ◌≤◌}
+use Rattle.std.proofs.Common.{Bool, List, Some, [], ap, arith, cond, eqb, false, leb, length, lit<, lit≤, ltb, map, refl, subst, suc, sym, true, ℕ, ◌&&◌, ◌++◌, ◌+◌, ◌-◌, ◌*◌, ◌/◌, ◌<◌, ◌^◌, ◌≡◌, ◌∙◌, ◌∷◌, ◌≤◌}
 use Rattle.std.proofs.lemmas.Bool.Decides.{nat_tests}
 use Rattle.std.proofs.lemmas.Bool.{and_from, leb-true, lt-ltb}
 use Rattle.std.proofs.lemmas.Fmt.{decimal_digit}
@@ -98,6 +99,38 @@ resource_agrees g verb flag q s make each =
 process_read : (w : List ℕ) → is_process_word w ≡ true → IsProcess (number_of w) × (decimal (number_of w) ≡ w)
 process_read w h = number_read (is_in_range 1 2000000) w h (range_small 1 2000000 (number_of w) (lit< tt) (and_true _ _ h).1)
 
+-- One word more.
+cons_same : (t w : List ℕ) (ts ws : List (List ℕ)) → t ≡ w → ts ≡ ws → t ∷ ts ≡ w ∷ ws
+cons_same t w ts ws e f = cc
+
+-- Words that are these texts one by one.
+exact_words : (texts ws : List (List ℕ)) → fits_whole (map exactly texts) ws ≡ true → texts ≡ ws
+exact_words [] = no_word (λ ws. [] ≡ ws) refl
+exact_words (t ∷ ts) = some_word (exactly t) (map exactly ts) (λ ws. t ∷ ts ≡ ws) (λ w ws h k. cons_same t w ts ws (word_is t w h) (exact_words ts ws k))
+
+-- The form of an acquire with these options: a resource that is meant in one mode, and a process.
+six_same : (a b c d e v w x y z : List ℕ) (ts us : List (List ℕ)) → a ≡ v → b ≡ w → c ≡ x → d ≡ y → e ≡ z → ts ≡ us → (a ∷ b ∷ c ∷ d ∷ e ∷ ts) ≡ (v ∷ w ∷ x ∷ y ∷ z ∷ us)
+six_same a b c d e v w x y z ts us i j k l m n = cc
+
+acquire_agrees : (g : Layout) (q : List ℕ → Bool) (shared : Bool) (options : List (List ℕ)) (make : ResourceArg → ℕ → Command)
+    → ((w : List ℕ) → q w ≡ true → IsResourceArg g (resource_of_word w) × (moded_word (resource_of_word w) shared ≡ w))
+    → ((r : ResourceArg) (p : ℕ) → IsResourceArg g r → IsProcess p → IsCommand g (make r p))
+    → ((r : ResourceArg) (p : ℕ) → command_words (make r p) ≡ codes "acquire" ∷ codes "-r" ∷ moded_word r shared ∷ codes "-p" ∷ decimal p ∷ options)
+    → Agrees g (acquire_form q (map exactly options) make)
+acquire_agrees g q shared options make reads may says =
+    let tests : List (List ℕ → Bool) = map exactly options in
+    let whole : List (List ℕ) → Command = (λ ws. make (resource_of_word (word_at ws 2)) (number_of (word_at ws 4))) in
+    some_word (exactly (codes "acquire")) (exactly (codes "-r") ∷ q ∷ exactly (codes "-p") ∷ is_process_word ∷ tests) (Says g whole) (λ a rest ha.
+    some_word (exactly (codes "-r")) (q ∷ exactly (codes "-p") ∷ is_process_word ∷ tests) (λ ws. Says g whole (a ∷ ws)) (λ b bs hb.
+    some_word q (exactly (codes "-p") ∷ is_process_word ∷ tests) (λ ws. Says g whole (a ∷ b ∷ ws)) (λ c cs hc.
+    some_word (exactly (codes "-p")) (is_process_word ∷ tests) (λ ws. Says g whole (a ∷ b ∷ c ∷ ws)) (λ d ds hd.
+    some_word is_process_word tests (λ ws. Says g whole (a ∷ b ∷ c ∷ d ∷ ws)) (λ e es he hes.
+    let resource = reads c hc in
+    let process = process_read e he in (
+      may _ _ resource.0 process.0,
+      says _ _ ∙ six_same _ _ _ _ _ _ _ _ _ _ _ _ (word_is (codes "acquire") a ha) (word_is (codes "-r") b hb) resource.1 (word_is (codes "-p") d hd) process.1 (exact_words options es hes),
+    )) ds) cs) bs) rest)
+
 -- A value.
 bytes_small : (bs : List ℕ) → IsBytes bs → list_all (λ b. ltb b 256) bs ≡ true
 bytes_small [] h = refl
@@ -181,43 +214,132 @@ set_value_words g =
       seven_same _ _ _ _ _ _ _ _ _ _ _ _ _ _ (word_is (codes "set_lvb") a ha) (word_is (codes "-r") b hb) resource.1 (word_is (codes "-p") d hd) process.1 (word_is (codes "-d") f hf) value.1,
     ))
 
+-- The form of a kill program.
+killpath_words : (g : Layout) → Agrees g (record {
+  words = exactly (codes "set_killpath") ∷ exactly (codes "-p") ∷ is_process_word ∷ exactly (codes "-c") ∷ is_path ∷ [];
+  make = λ ws. SetKillpath (number_of (word_at ws 2)) (word_at ws 4);
+})
+killpath_words g =
+    five_words (exactly (codes "set_killpath")) (exactly (codes "-p")) is_process_word (exactly (codes "-c")) is_path
+    (Says g (λ ws. SetKillpath (number_of (word_at ws 2)) (word_at ws 4))) (λ a b c d e ha hb hc hd he.
+    let process = process_read c hc in
+    ((process.0, he), five_same _ _ _ _ _ _ _ _ _ _ (word_is (codes "set_killpath") a ha) (word_is (codes "-p") b hb) process.1 (word_is (codes "-c") d hd) refl))
+
+-- The four forms of an acquire in a mode.
+abbrev ReadsMode : Layout → (List ℕ → Bool) → Bool → Type 0
+ReadsMode g q shared = (w : List ℕ) → q w ≡ true → IsResourceArg g (resource_of_word w) × (moded_word (resource_of_word w) shared ≡ w)
+
+plain_acquire : (g : Layout) (q : List ℕ → Bool) (shared : Bool) → ReadsMode g q shared → Agrees g (acquire_form q [] (λ r p. Acquire r shared p false))
+plain_acquire g q shared reads = acquire_agrees g q shared [] (λ r p. Acquire r shared p false) reads (λ r p is h. (is, h)) (λ r p. refl)
+
+persistent_acquire : (g : Layout) (q : List ℕ → Bool) (shared : Bool) → ReadsMode g q shared
+    → Agrees g (acquire_form q (option_words (codes "-P")) (λ r p. Acquire r shared p true))
+persistent_acquire g q shared reads =
+    acquire_agrees g q shared (codes "-P" ∷ codes "1" ∷ []) (λ r p. Acquire r shared p true) reads (λ r p is h. (is, h)) (λ r p. refl)
+
+plain_take_over : (g : Layout) (q : List ℕ → Bool) (shared : Bool) → ReadsMode g q shared
+    → Agrees g (acquire_form q (option_words (codes "-O")) (λ r p. TakeOver r shared p false))
+plain_take_over g q shared reads =
+    acquire_agrees g q shared (codes "-O" ∷ codes "1" ∷ []) (λ r p. TakeOver r shared p false) reads (λ r p is h. (is, h)) (λ r p. refl)
+
+persistent_take_over : (g : Layout) (q : List ℕ → Bool) (shared : Bool) → ReadsMode g q shared
+    → Agrees g (acquire_form q (option_words (codes "-P") ++ option_words (codes "-O")) (λ r p. TakeOver r shared p true))
+persistent_take_over g q shared reads =
+    acquire_agrees g q shared (codes "-P" ∷ codes "1" ∷ codes "-O" ∷ codes "1" ∷ []) (λ r p. TakeOver r shared p true) reads (λ r p is h. (is, h)) (λ r p. refl)
+
+-- The forms of what a process does with a resource, in one mode or in either.
+process_agrees : (g : Layout) (verb : List ℕ) (q : List ℕ → Bool) (shared : Bool) (make : ResourceArg → ℕ → Command)
+    → ((w : List ℕ) → q w ≡ true → IsResourceArg g (resource_of_word w) × (moded_word (resource_of_word w) shared ≡ w))
+    → ((r : ResourceArg) (p : ℕ) → IsResourceArg g r → IsProcess p → IsCommand g (make r p))
+    → ((r : ResourceArg) (p : ℕ) → command_words (make r p) ≡ verb ∷ codes "-r" ∷ moded_word r shared ∷ codes "-p" ∷ decimal p ∷ [])
+    → Agrees g (record { words = exactly verb ∷ exactly (codes "-r") ∷ q ∷ exactly (codes "-p") ∷ is_process_word ∷ []; make = λ ws. make (resource_of_word (word_at ws 2)) (number_of (word_at ws 4)) })
+process_agrees g verb q shared make reads may says =
+    resource_agrees g verb (codes "-p") q is_process_word (λ ws. make (resource_of_word (word_at ws 2)) (number_of (word_at ws 4))) (λ a b c d e hc he.
+    let r = reads c hc in
+    let p = process_read e he in (may _ _ r.0 p.0, says _ _ ∙ five_same _ _ _ _ _ _ _ _ _ _ refl refl r.1 refl p.1))
+
+-- The form of a program that runs under a resource.
+program_agrees : (g : Layout) (q : List ℕ → Bool) (shared : Bool) → ((w : List ℕ) → q w ≡ true → IsResourceArg g (resource_of_word w) × (moded_word (resource_of_word w) shared ≡ w))
+    → Agrees g (record {
+      words = exactly (codes "command") ∷ exactly (codes "-r") ∷ q ∷ exactly (codes "-c") ∷ is_path ∷ [];
+      make = λ ws. RunProgram (resource_of_word (word_at ws 2)) shared (word_at ws 4);
+    })
+program_agrees g q shared reads =
+    resource_agrees g (codes "command") (codes "-c") q is_path (λ ws. RunProgram (resource_of_word (word_at ws 2)) shared (word_at ws 4)) (λ a b c d e hc he.
+    let r = reads c hc in ((r.0, he), five_same _ _ _ _ _ _ _ _ _ _ refl refl r.1 refl refl))
+
+orphan_agrees : (g : Layout) → Agrees g (record {
+  words = exactly (codes "release") ∷ exactly (codes "-r") ∷ is_resource_word g ∷ option_words (codes "-O");
+  make = λ ws. ReleaseOrphan (resource_of_word (word_at ws 2));
+})
+orphan_agrees g =
+    resource_agrees g (codes "release") (codes "-O") (is_resource_word g) (exactly (codes "1")) (λ ws. ReleaseOrphan (resource_of_word (word_at ws 2))) (λ a b c d e hc he.
+    let r = resource_read g c hc in (r.0, five_same _ _ _ _ _ _ _ _ _ _ refl refl r.1 refl (word_is (codes "1") e he)))
+
 all_agree : (g : Layout) → g.hosts < 2 ^ 64 → AllAgree g (forms g)
 unfolding forms
 all_agree g few = (
-  lockspace_agrees g (codes "add_lockspace") (λ a. AddLockspace a) few (λ a is. is) (λ a. refl),
+  plain_acquire g (is_resource_word g) false (resource_read g),
   (
-    lockspace_agrees g (codes "rem_lockspace") (λ a. RemLockspace a) few (λ a is. is) (λ a. refl),
+    persistent_acquire g (is_resource_word g) false (resource_read g),
     (
-      lockspace_agrees g (codes "inq_lockspace") (λ a. InqLockspace a) few (λ a is. is) (λ a. refl),
+      plain_take_over g (is_resource_word g) false (resource_read g),
       (
-        lockspace_agrees g (codes "host_status") (λ a. HostStatus a) few (λ a is. is) (λ a. refl),
+        persistent_take_over g (is_resource_word g) false (resource_read g),
         (
-          resource_agrees g (codes "acquire") (codes "-p") (is_resource_word g) is_process_word (λ ws. Acquire (resource_of_word (word_at ws 2)) false (number_of (word_at ws 4)))
-              (λ a b c d e hc he. let r = resource_read g c hc in let p = process_read e he in ((r.0, p.0), five_same _ _ _ _ _ _ _ _ _ _ refl refl r.1 refl p.1)),
+          plain_acquire g (is_shared_word g) true (shared_read g),
           (
-            resource_agrees g (codes "acquire") (codes "-p") (is_shared_word g) is_process_word (λ ws. Acquire (resource_of_word (word_at ws 2)) true (number_of (word_at ws 4)))
-                (λ a b c d e hc he. let r = shared_read g c hc in let p = process_read e he in ((r.0, p.0), five_same _ _ _ _ _ _ _ _ _ _ refl refl r.1 refl p.1)),
+            persistent_acquire g (is_shared_word g) true (shared_read g),
             (
-              resource_agrees g (codes "release") (codes "-p") (is_resource_word g) is_process_word (λ ws. Release (resource_of_word (word_at ws 2)) (number_of (word_at ws 4)))
-                  (λ a b c d e hc he. let r = resource_read g c hc in let p = process_read e he in ((r.0, p.0), five_same _ _ _ _ _ _ _ _ _ _ refl refl r.1 refl p.1)),
+              plain_take_over g (is_shared_word g) true (shared_read g),
               (
-                resource_agrees g (codes "command") (codes "-c") (is_resource_word g) is_path (λ ws. RunProgram (resource_of_word (word_at ws 2)) false (word_at ws 4))
-                    (λ a b c d e hc he. let r = resource_read g c hc in ((r.0, he), five_same _ _ _ _ _ _ _ _ _ _ refl refl r.1 refl refl)),
+                persistent_take_over g (is_shared_word g) true (shared_read g),
                 (
-                  resource_agrees g (codes "command") (codes "-c") (is_shared_word g) is_path (λ ws. RunProgram (resource_of_word (word_at ws 2)) true (word_at ws 4))
-                      (λ a b c d e hc he. let r = shared_read g c hc in ((r.0, he), five_same _ _ _ _ _ _ _ _ _ _ refl refl r.1 refl refl)),
+                  lockspace_agrees g (codes "add_lockspace") (λ a. AddLockspace a) few (λ a is. is) (λ a. refl),
                   (
-                    resource_agrees g (codes "request") (codes "-f") (is_asked_word (λ n. n == 0) g) (exactly (codes "0")) (λ ws. Request (resource_of_word (word_at ws 2)) 0 0)
-                        (λ a b c d e hc he. clearing_read g c e hc he),
+                    lockspace_agrees g (codes "rem_lockspace") (λ a. RemLockspace a) few (λ a is. is) (λ a. refl),
                     (
-                      resource_agrees g (codes "request") (codes "-f") (is_asked_word (λ n. is_in_range 1 (2 ^ 63 - 1) n) g) (is_number_that (is_in_range 1 2))
-                          (λ ws. Request (resource_of_word (word_at ws 2)) (asked_of_word (word_at ws 2)) (number_of (word_at ws 4))) (λ a b c d e hc he. asking_read g c e hc he),
+                      lockspace_agrees g (codes "inq_lockspace") (λ a. InqLockspace a) few (λ a is. is) (λ a. refl),
                       (
-                        resource_agrees g (codes "get_lvb") (codes "-p") (is_resource_word g) is_process_word (λ ws. GetLvb (resource_of_word (word_at ws 2)) (number_of (word_at ws 4)))
-                            (λ a b c d e hc he. let r = resource_read g c hc in let p = process_read e he in ((r.0, p.0), five_same _ _ _ _ _ _ _ _ _ _ refl refl r.1 refl p.1)),
+                        lockspace_agrees g (codes "host_status") (λ a. HostStatus a) few (λ a is. is) (λ a. refl),
                         (
-                          set_value_words g,
-                          (status_words g, tt),
+                          process_agrees g (codes "release") (is_resource_word g) false (λ r p. Release r p) (resource_read g) (λ r p is h. (is, h)) (λ r p. refl),
+                          (
+                            orphan_agrees g,
+                            (
+                              process_agrees g (codes "convert") (is_resource_word g) false (λ r p. Convert r false p) (resource_read g) (λ r p is h. (is, h)) (λ r p. refl),
+                              (
+                                process_agrees g (codes "convert") (is_shared_word g) true (λ r p. Convert r true p) (shared_read g) (λ r p is h. (is, h)) (λ r p. refl),
+                                (
+                                  program_agrees g (is_resource_word g) false (resource_read g),
+                                  (
+                                    program_agrees g (is_shared_word g) true (shared_read g),
+                                    (
+                                      resource_agrees g (codes "request") (codes "-f") (is_asked_word (λ n. n == 0) g) (exactly (codes "0")) (λ ws. Request (resource_of_word (word_at ws 2)) 0 0)
+                                          (λ a b c d e hc he. clearing_read g c e hc he),
+                                      (
+                                        resource_agrees g (codes "request") (codes "-f") (is_asked_word (λ n. is_in_range 1 (2 ^ 63 - 1) n) g) (is_number_that (is_in_range 1 2))
+                                            (λ ws. Request (resource_of_word (word_at ws 2)) (asked_of_word (word_at ws 2)) (number_of (word_at ws 4))) (λ a b c d e hc he. asking_read g c e hc he),
+                                        (
+                                          process_agrees g (codes "get_lvb") (is_resource_word g) false (λ r p. GetLvb r p) (resource_read g) (λ r p is h. (is, h)) (λ r p. refl),
+                                          (
+                                            set_value_words g,
+                                            (
+                                              killpath_words g,
+                                              (
+                                                status_words g,
+                                                tt,
+                                              ),
+                                            ),
+                                          ),
+                                        ),
+                                      ),
+                                    ),
+                                  ),
+                                ),
+                              ),
+                            ),
+                          ),
                         ),
                       ),
                     ),

@@ -4,5 +4,6 @@ pub mod CommandTexts
 pub mod DefaultNameLaws
 pub mod LineLaws
 pub mod PartTexts
+pub mod SharedTests
 pub mod VerbLaws
 pub mod WrittenCommands

@@ -6,7 +6,7 @@ use Rattle.sl_text.specs.Forms.{as_bytes, spaced}
 use Rattle.sl_text.specs.Numbers.{hex_text}
 use Rattle.sl_trace.specs.EffectTexts.{answer_words, machine_line, reply_text, reply_words}
 use Rattle.sl_trace.specs.declared.effects.JobReply.{JobReply}
-use Rattle.sl_trace.specs.declared.reply.Reply.TheVariants.{Ahead, BadCommand as Misread, Busy, Done, Generation, Granted, Held as HeldBy, Hosts, IdHeld, IdLate, IdLost, IoFault, IoTimeout, Joined, Joining as StillJoining, Limit as LimitReached, NoProcess, NoSession, NotHeld, Pending, Recovering, RequestOld, Rival, Sessions, Shared as SharedBy, SpawnFault, Started, TornBlock, TornDelta, TornLeader, Value, ValueTorn, WrongArea, WrongDelta}
+use Rattle.sl_trace.specs.declared.reply.Reply.TheVariants.{Ahead, BadCommand as Misread, Busy, Done, Generation, Granted, Held as HeldBy, Hosts, IdHeld, IdLate, IdLost, IoFault, IoTimeout, Joined, Joining as StillJoining, Limit as LimitReached, NoOrphan, NoProcess, NoSession, NotHeld, Pending, Recovering, RequestOld, Rival, Sessions, Shared as SharedBy, SpawnFault, Started, TornBlock, TornDelta, TornLeader, Value, ValueSet, ValueTorn, WrongArea, WrongDelta}
 use Rattle.sl_trace.specs.declared.reply.Reply.{Reply}
 use Rattle.sl_words.specs.Words.{is_empty}
 use Rattle.std.proofs.Common.{List, [], ap, codes, decimal, false, map, refl, sym, ℕ, ◌++◌, ◌≡◌, ◌∙◌, ◌∷◌}
@@ -52,6 +52,7 @@ reply_has_words (Generation g) = refl
 reply_has_words (Granted lver) = refl
 reply_has_words (Started lver process) = refl
 reply_has_words (Value lver seq bytes) = refl
+reply_has_words (ValueSet lver seq) = refl
 reply_has_words (Hosts states) = refl
 reply_has_words (Sessions sessions) = refl
 reply_has_words NoSession = refl
@@ -71,6 +72,7 @@ reply_has_words (IoTimeout call from to) = refl
 reply_has_words (IoFault call) = refl
 reply_has_words (Pending call) = refl
 reply_has_words (Busy process) = refl
+reply_has_words NoOrphan = refl
 reply_has_words NotHeld = refl
 reply_has_words SpawnFault = refl
 reply_has_words ValueTorn = refl

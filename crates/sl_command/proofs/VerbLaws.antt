@@ -1,130 +1,136 @@
 -- What is read behind a verb is what the verb's forms make, and fails at the same column.
 use Rattle.sl_area.specs.Layouts.{Layout}
+use Rattle.sl_command.proofs.SharedTests.{behind_test, behind_word, made_behind, map_some, next_as-value, one_kind, read_by-shared, some_before, some_go_on, two_kinds}
 use Rattle.sl_command.specs.Arguments.{is_asking_word, is_clearing_word, is_moded_word, moded_of_word, request_of_word}
-use Rattle.sl_command.specs.Verbs.{acquire_read, asking_tests, clearing_tests, flag_read, force_with, for_process, lockspace_behind, process_tests, program_read, program_tests, request_read, value_read, value_tests, with_resource, with_value}
-use Rattle.sl_text.proofs.FormLaws.{read_by-one, read_by-other, read_by-verb, read_by-verbs, read_each-map, read_from-is}
+use Rattle.sl_command.specs.Verbs.{acquire_read, acquiring, asking_tests, clearing_tests, convert_read, for_process, force_with, held_by, holder_behind, killpath_read, killpath_tests, lockspace_behind, option_read, options_read, past_option, process_behind, process_tests, program_behind, program_read, program_tests, release_read, releaser_behind, releasing, request_read, value_read, value_tests, wanted, with_resource, with_value}
+use Rattle.sl_text.proofs.FormLaws.{read_by-end, read_by-one, read_by-other, read_by-verb, read_by-verbs, read_each-map, read_from-is}
 use Rattle.sl_text.specs.Forms.{Form, bad_column, exactly, made_by, pieces, word_at, words_of}
 use Rattle.sl_text.specs.Numbers.{hex_bytes, is_number_text, number_of}
-use Rattle.sl_text.specs.Walks.{Unread, at_end, column_behind, forms_behind, going_on, next_as, next_passes, past_word, read_by, read_each, read_from, unread}
-use Rattle.sl_trace.specs.Commands.{asked_of_word, command_in, command_or, forms, is_lockspace_word, is_resource_front, is_resource_word, is_shared_word, lockspace_of_word, resource_of_word}
-use Rattle.sl_trace.specs.declared.command.Command.TheVariants.{Acquire, AddLockspace, GetLvb, HostStatus, InqLockspace, Release, RemLockspace, Request, RunProgram, SetLvb, Status}
+use Rattle.sl_text.specs.Walks.{Unread, at_end, form_with, forms_behind, going_on, next_as, next_passes, past_word, read_by, read_each, read_from, unread}
+use Rattle.sl_trace.specs.Commands.{asked_of_word, command_in, command_or, forms, is_lockspace_word, is_process_word, is_resource_front, is_resource_word, is_shared_word, lockspace_of_word, option_words, resource_of_word}
+use Rattle.sl_trace.specs.declared.command.Command.TheVariants.{AddLockspace, Convert, GetLvb, HostStatus, InqLockspace, Release, ReleaseOrphan, RemLockspace, Request, RunProgram, SetKillpath, SetLvb, Status}
 use Rattle.sl_trace.specs.declared.command.Command.{Command}
 use Rattle.sl_trace.specs.declared.command.LockspaceArg.{LockspaceArg}
 use Rattle.sl_trace.specs.declared.command.ResourceArg.{ResourceArg}
 use Rattle.sl_words.proofs.CaseLaws.{is_false, not_both}
 use Rattle.sl_words.proofs.WordLaws.{and_true}
 use Rattle.sl_words.specs.Results.{◌>>=◌}
-use Rattle.std.proofs.Common.{Bool, List, [], ap, arith, eqb, false, length, refl, sym, true, ℕ, ◌&&◌, ◌++◌, ◌||◌, ◌-◌, ◌^◌, ◌≡◌, ◌∙◌, ◌∷◌}
+use Rattle.sl_words.specs.Words.{is_empty}
+use Rattle.std.proofs.Common.{Bool, List, [], ap, arith, eqb, false, length, map, refl, subst, sym, true, ℕ, ◌&&◌, ◌++◌, ◌-◌, ◌^◌, ◌≡◌, ◌∙◌, ◌∷◌}
 use Rattle.std.proofs.lemmas.Bool.{eqb-true}
 use Rattle.std.proofs.lemmas.Bool.Decides.{nat_tests}
+use Rattle.std.proofs.lemmas.Slice.Eq.{bytes_eq-Decides}
 use Rattle.std.specs.Int.{is_in_range}
 use Rattle.std.specs.Option.{ok_or}
 use Rattle.std.specs.Prelude.{Err, None, Ok, Option, Result, Some, bytes_eq, codes, not, if◌then◌else◌, ◌==◌}
 
--- ---- the next word, and what is made of it
-
--- What the next word stands for is made of the word.
-then_of : {A B : Type 0} (t : Bool) (w : List ℕ) (value : List ℕ → A) (column : ℕ) (next : A → Result B ℕ)
-    → ((if t then Ok (value w) else Err column) >>= next) ≡ ((if t then Ok w else Err column) >>= λ v. next (value v))
-then_of true w value column next = refl
-then_of false w value column next = refl
-
-next_as-value : {A B : Type 0} (p : List ℕ → Bool) (value : List ℕ → A) (next : A → Result B ℕ) (u : Unread)
-    → (next_as p value u >>= next) ≡ (next_as p (λ w. w) u >>= λ w. next (value w))
-next_as-value p value next u = then_of (next_passes p u) _ value u.column next
-
--- Two ways to go on behind a word that passes.
-same_from : {B : Type 0} (p : List ℕ → Bool) (column : ℕ) (ws : List (List ℕ)) (f g : List ℕ → Result B ℕ) → ((w : List ℕ) → p w ≡ true → f w ≡ g w)
-    → (next_as p (λ w. w) (record { column = column; words = ws }) >>= f) ≡ (next_as p (λ w. w) (record { column = column; words = ws }) >>= g)
-same_from p column [] f g same = refl
-same_from {B} p column (w ∷ ws) f g same =
-    elim (p w) as (λ t. p w ≡ t → ((if t then Ok w else Err column) >>= f) ≡ ((if t then Ok w else Err column) >>= g)) [ true ↦ λ e. same w e | false ↦ λ e. refl ] refl
-
-next_as-same : {B : Type 0} (p : List ℕ → Bool) (f g : List ℕ → Result B ℕ) (u : Unread) → ((w : List ℕ) → p w ≡ true → f w ≡ g w)
-    → (next_as p (λ w. w) u >>= f) ≡ (next_as p (λ w. w) u >>= g)
-next_as-same p f g u same = same_from p u.column u.words f g same
-
--- A flag is a word that is read.
-flag-value : {B : Type 0} (flag : List ℕ) (next : Result B ℕ) (u : Unread) → (flag_read flag u >>= λ _. next) ≡ (next_as (exactly flag) (λ w. w) u >>= λ _. next)
-flag-value flag next u = next_as-value {A = Unit {0}} (exactly flag) (λ _. tt) (λ _. next) u
-
--- ---- one form
+-- ---- one form behind a resource's word
 
 -- A flag, a word and what stands behind it, as one form.
 pub one_form : {A B C : Type 0} (p : List ℕ → Bool) (value : List ℕ → A) (tail : List (List ℕ → Bool)) (behind : List (List ℕ) → B) (make : A → B → C)
     (whole : List (List ℕ) → C) (u : Unread) → ((f w : List ℕ) (ws : List (List ℕ)) → whole (f ∷ w ∷ ws) ≡ make (value w) (behind ws))
     → with_resource p value (λ a. read_each tail behind) make u ≡ read_each (exactly (codes "-r") ∷ p ∷ tail) whole u
 one_form p value tail behind make whole u made =
+    one_kind (codes "-r") p value (λ a. read_each tail behind) make (record { words = tail; make = whole } ∷ []) u refl (λ f w v h.
+    sym (read_each-map (make (value w)) tail behind v) ∙ ap (λ m. read_each tail m v) (λ i ws. sym (made f w ws) i) ∙ sym (read_by-one tail (λ ws. whole (f ∷ w ∷ ws)) v))
+    ∙ read_by-one (exactly (codes "-r") ∷ p ∷ tail) whole u
+
+-- ---- options and processes
+
+-- A word is not two texts.
+pub apart_texts : (a b w : List ℕ) → exactly b a ≡ false → exactly a w ≡ true → exactly b w ≡ false
+apart_texts a b w other is = subst (λ (v : List ℕ). exactly b v ≡ false) ((bytes_eq-Decides a w).0 is) other
+
+-- The last option.
+abbrev last_forms : Bool → List (Form (Bool × Bool))
+last_forms persistent =
+    record { words = []; make = λ ws. wanted persistent false } ∷ record { words = option_words (codes "-O"); make = λ ws. wanted persistent true } ∷ []
+
+abbrev last_read : Bool → Unread → Result (Bool × Bool) ℕ
+last_read persistent u = option_read (codes "-O") u >>= λ orphan. at_end (past_option orphan u) >>= λ _. Ok (wanted persistent orphan)
+
+last_from : (persistent : Bool) (column : ℕ) (ws : List (List ℕ)) → last_read persistent (record { column = column; words = ws }) ≡ read_from (last_forms persistent) column ws
+last_from persistent column [] = refl
+last_from persistent column (w ∷ ws) =
+    let u : Unread = record { column = column; words = w ∷ ws } in
     let v : Unread = past_word u in
-    let after : (f w : List ℕ) → (read_each tail behind (past_word v) >>= λ b. Ok (make (value w) b)) ≡ read_each tail (λ ws. whole (f ∷ w ∷ ws)) (past_word v) =
-    (λ f w. sym (read_each-map (make (value w)) tail behind (past_word v)) ∙ ap (λ m. read_each tail m (past_word v)) (λ i ws. sym (made f w ws) i)) in
-    flag-value (codes "-r") (next_as p value v >>= λ a. read_each tail behind (past_word v) >>= λ b. Ok (make a b)) u
-    ∙ next_as-same (exactly (codes "-r")) _ _ u (λ f e.
-    next_as-value p value (λ a. read_each tail behind (past_word v) >>= λ b. Ok (make a b)) v ∙ next_as-same p _ _ v (λ w h. after f w))
-
--- ---- two forms
-
--- Two forms with one first test.
-first_from : {A : Type 0} (a : List ℕ → Bool) (ps qs : List (List ℕ → Bool)) (m n : List (List ℕ) → A) (column : ℕ) (ws : List (List ℕ))
-    → read_from (record { words = a ∷ ps; make = m } ∷ record { words = a ∷ qs; make = n } ∷ []) column ws
-    ≡ (next_as a (λ w. w) (record { column = column; words = ws })
-    >>= λ w. read_by (record { words = ps; make = λ vs. m (w ∷ vs) } ∷ record { words = qs; make = λ vs. n (w ∷ vs) } ∷ []) (past_word (record { column = column; words = ws })))
-first_from a ps qs m n column [] = refl
-first_from {A} a ps qs m n column (w ∷ ws) =
-    elim (a w) as (λ t. going_on {A = A} ((if t then record { words = ps; make = λ vs. m (w ∷ vs) } ∷ [] else []) ++ ((if t then record { words = qs; make = λ vs. n (w ∷ vs) } ∷ [] else []) ++ [])) column
-    (λ gs. read_from gs (column_behind column (w ∷ ws)) ws)
-    ≡ ((if t then Ok w else Err column) >>= λ v. read_by (record { words = ps; make = λ vs. m (v ∷ vs) } ∷ record { words = qs; make = λ vs. n (v ∷ vs) } ∷ []) (past_word (record { column = column; words = w ∷ ws })))) [
-      | true ↦ refl
-      | false ↦ refl
+    elim (exactly (codes "-O") w) as (λ t. ((if t then next_as (exactly (codes "1")) (λ _. true) v else Ok false)
+    >>= λ orphan. at_end (past_option orphan u) >>= λ _. Ok (wanted persistent orphan))
+    ≡ going_on {A = Bool × Bool} ((if t then record { words = exactly (codes "1") ∷ []; make = λ vs. wanted persistent true } ∷ [] else []) ++ []) column (λ gs. read_from gs v.column v.words)) [
+      | true ↦ next_as-value (exactly (codes "1")) (λ _. true) (λ orphan. at_end (past_option orphan u) >>= λ _. Ok (wanted persistent orphan)) v
+          ∙ sym (read_by-one (exactly (codes "1") ∷ []) (λ vs. wanted persistent true) v)
+      | false ↦ sym (read_by-end (λ vs. wanted persistent false) u)
     ]
 
--- Two forms of which at most one goes on.
-fork_cases : {A : Type 0} (s t : Bool) (f g : Form A) (column : ℕ) (next : List (Form A) → Result A ℕ) (w : List ℕ) (rest : List ℕ → Result A ℕ) → (s ≡ true → t ≡ false)
-    → rest w ≡ (if s then next (f ∷ []) else next (g ∷ [])) → going_on ((if s then f ∷ [] else []) ++ ((if t then g ∷ [] else []) ++ [])) column next ≡ ((if s || t then Ok w else Err column) >>= rest)
-fork_cases true true f g column next w rest apart is = let e = apart refl in absurd cc
-fork_cases true false f g column next w rest apart is = sym is
-fork_cases false true f g column next w rest apart is = sym is
-fork_cases false false f g column next w rest apart is = refl
+-- All options of an acquire.
+abbrev option_forms : List (Form (Bool × Bool))
+option_forms =
+    record { words = []; make = λ ws. wanted false false }
+    ∷ record { words = option_words (codes "-P"); make = λ ws. wanted true false }
+    ∷ record { words = option_words (codes "-O"); make = λ ws. wanted false true }
+    ∷ record { words = option_words (codes "-P") ++ option_words (codes "-O"); make = λ ws. wanted true true } ∷ []
 
--- What is read behind the word that decides.
-abbrev behind_fork : {A : Type 0} → (List ℕ → Bool) → List (List ℕ → Bool) → List (List ℕ → Bool) → (List (List ℕ) → A) → (List (List ℕ) → A) → Unread → List ℕ → Result A ℕ
-behind_fork p ps qs m n u w = if p w then read_each ps (λ vs. m (w ∷ vs)) u else read_each qs (λ vs. n (w ∷ vs)) u
+-- Of two tests at most one takes the word.
+one_takes : {A : Type 0} (s t : Bool) (a b c : Form A) (column : ℕ) (next : List (Form A) → Result A ℕ) → (s ≡ true → t ≡ false)
+    → going_on ((if s then a ∷ [] else []) ++ ((if t then b ∷ [] else []) ++ ((if s then c ∷ [] else []) ++ []))) column next
+    ≡ (if s then next (a ∷ c ∷ []) else going_on ((if t then b ∷ [] else []) ++ []) column next)
+one_takes true true a b c column next apart = let e = apart refl in absurd cc
+one_takes true false a b c column next apart = refl
+one_takes false true a b c column next apart = refl
+one_takes false false a b c column next apart = refl
 
-either : {X : Type 0} (t : Bool) (a b c d : X) → a ≡ c → b ≡ d → (if t then a else b) ≡ (if t then c else d)
-either true a b c d e f = e
-either false a b c d e f = f
+either : {X : Type 0} (t : Bool) (x a b : X) (first : Bool → X) → x ≡ first t → (t ≡ true → first true ≡ a) → (t ≡ false → first false ≡ b) → x ≡ (if t then a else b)
+either true x a b first is taken other = is ∙ taken refl
+either false x a b first is taken other = is ∙ other refl
 
-fork_from : {A : Type 0} (p q : List ℕ → Bool) (ps qs : List (List ℕ → Bool)) (m n : List (List ℕ) → A) (column : ℕ) (ws : List (List ℕ)) → ((w : List ℕ) → p w ≡ true → q w ≡ false)
-    → read_from (record { words = p ∷ ps; make = m } ∷ record { words = q ∷ qs; make = n } ∷ []) column ws
-    ≡ (next_as (λ w. p w || q w) (λ w. w) (record { column = column; words = ws }) >>= behind_fork p ps qs m n (past_word (record { column = column; words = ws })))
-fork_from p q ps qs m n column [] apart = refl
-fork_from p q ps qs m n column (w ∷ ws) apart =
-    let u : Unread = past_word (record { column = column; words = w ∷ ws }) in
-    fork_cases (p w) (q w) (record { words = ps; make = λ vs. m (w ∷ vs) }) (record { words = qs; make = λ vs. n (w ∷ vs) }) column
-    (λ gs. read_from gs (column_behind column (w ∷ ws)) ws) w (behind_fork p ps qs m n u) (apart w)
-    (either (p w) _ _ _ _ (sym (read_by-one ps (λ vs. m (w ∷ vs)) u)) (sym (read_by-one qs (λ vs. n (w ∷ vs)) u)))
-
-fork_one : {X : Type 0} (s t : Bool) (x a b : X) → (s ≡ true → x ≡ a) → (t ≡ true → x ≡ b) → (s || t) ≡ true → x ≡ (if s then a else b)
-fork_one true t x a b first second h = first refl
-fork_one false true x a b first second h = second refl
-fork_one false false x a b first second h = absurd cc
-
--- A flag, a word that is of one kind or the other, and what stands behind it, as two forms.
-pub two_forms : {A B C : Type 0} (p q : List ℕ → Bool) (value : List ℕ → A) (behind : A → Unread → Result B ℕ) (make : A → B → C)
-    (ps qs : List (List ℕ → Bool)) (m n : List (List ℕ) → C) (u : Unread) → ((w : List ℕ) → p w ≡ true → q w ≡ false)
-    → ((f w : List ℕ) (v : Unread) → p w ≡ true → (behind (value w) v >>= λ b. Ok (make (value w) b)) ≡ read_each ps (λ vs. m (f ∷ w ∷ vs)) v)
-    → ((f w : List ℕ) (v : Unread) → q w ≡ true → (behind (value w) v >>= λ b. Ok (make (value w) b)) ≡ read_each qs (λ vs. n (f ∷ w ∷ vs)) v)
-    → with_resource (λ w. p w || q w) value behind make u
-    ≡ read_by (record { words = exactly (codes "-r") ∷ p ∷ ps; make = m } ∷ record { words = exactly (codes "-r") ∷ q ∷ qs; make = n } ∷ []) u
-two_forms {A} {B} {C} p q value behind make ps qs m n u apart first second =
+options_from : (column : ℕ) (ws : List (List ℕ)) → options_read (record { column = column; words = ws }) ≡ read_from option_forms column ws
+options_from column [] = refl
+options_from column (w ∷ ws) =
+    let u : Unread = record { column = column; words = w ∷ ws } in
     let v : Unread = past_word u in
-    flag-value (codes "-r") (next_as (λ w. p w || q w) value v >>= λ a. behind a (past_word v) >>= λ b. Ok (make a b)) u
-    ∙ next_as-same (exactly (codes "-r")) _ _ u (λ f e.
-    next_as-value (λ w. p w || q w) value (λ a. behind a (past_word v) >>= λ b. Ok (make a b)) v
-    ∙ next_as-same (λ w. p w || q w) _ (behind_fork p ps qs (λ vs. m (f ∷ vs)) (λ vs. n (f ∷ vs)) (past_word v)) v
-    (λ w h. fork_one (p w) (q w) _ _ _ (first f w (past_word v)) (second f w (past_word v)) h)
-    ∙ sym (fork_from p q ps qs (λ vs. m (f ∷ vs)) (λ vs. n (f ∷ vs)) v.column v.words apart))
-    ∙ sym (first_from (exactly (codes "-r")) (p ∷ ps) (q ∷ qs) m n u.column u.words)
+    either (exactly (codes "-P") w) (options_read u) _ _
+    (λ t. (if t then next_as (exactly (codes "1")) (λ _. true) v else Ok false) >>= λ persistent. last_read persistent (past_option persistent u)) refl
+    (λ h. next_as-value (exactly (codes "1")) (λ _. true) (λ persistent. last_read persistent (past_option persistent u)) v
+    ∙ ap (λ r. next_as (exactly (codes "1")) (λ x. x) v >>= λ _. r) (last_from true (past_word v).column (past_word v).words)
+    ∙ sym (read_by-shared (exactly (codes "1")) (last_forms true) v refl))
+    (λ h. last_from false column (w ∷ ws))
+    ∙ sym (one_takes (exactly (codes "-P") w) (exactly (codes "-O") w) (record { words = exactly (codes "1") ∷ []; make = λ vs. wanted true false })
+    (record { words = exactly (codes "1") ∷ []; make = λ vs. wanted false true })
+    (record { words = exactly (codes "1") ∷ option_words (codes "-O"); make = λ vs. wanted true true }) column (λ gs. read_from gs v.column v.words)
+    (apart_texts (codes "-P") (codes "-O") w refl))
+
+-- A process and its options.
+abbrev holder_form : Form (Bool × Bool) → Form (ℕ × Bool × Bool)
+holder_form f = record { words = exactly (codes "-p") ∷ is_process_word ∷ f.words; make = λ ws. held_by (number_of (word_at ws 1)) (f.make ws) }
+
+abbrev holder_forms : List (Form (ℕ × Bool × Bool))
+holder_forms = map holder_form option_forms
+
+holder_is : (u : Unread) → holder_behind u ≡ read_by holder_forms u
+holder_is u =
+    one_kind (codes "-p") is_process_word number_of (λ p. options_read) held_by
+    (map (λ (f : Form (Bool × Bool)). record { words = f.words; make = λ ws. held_by (number_of (word_at ws 1)) (f.make ws) }) option_forms) u refl
+    (λ f w v h. made_behind (number_of w) options_read held_by option_forms v (options_from v.column v.words))
+
+-- Who releases.
+abbrev releaser_forms : List (Form (Option ℕ))
+releaser_forms = record { words = process_tests; make = λ ws. Some (number_of (word_at ws 1)) } ∷ record { words = option_words (codes "-O"); make = λ ws. None } ∷ []
+
+releaser_from : (column : ℕ) (ws : List (List ℕ)) → releaser_behind (record { column = column; words = ws }) ≡ read_from releaser_forms column ws
+releaser_from column [] = refl
+releaser_from column (w ∷ ws) =
+    let u : Unread = record { column = column; words = w ∷ ws } in
+    let v : Unread = past_word u in
+    let process : List (Form (Option ℕ)) = record { words = is_process_word ∷ []; make = λ vs. Some (number_of (word_at vs 0)) } ∷ [] in
+    let orphan : List (Form (Option ℕ)) = record { words = exactly (codes "1") ∷ []; make = λ vs. None } ∷ [] in
+    let whole : List (List ℕ) → Option ℕ = (λ vs. Some (number_of (word_at vs 1))) in
+    elim (exactly (codes "-O") w) as (λ t. exactly (codes "-O") w ≡ t
+    → (if t then read_each (exactly (codes "1") ∷ []) (λ vs. None) v else process_behind u >>= λ p. Ok (Some p))
+    ≡ going_on ((if exactly (codes "-p") w then process else []) ++ ((if t then orphan else []) ++ [])) column (λ gs. read_from gs v.column v.words)) [
+      | true ↦ λ e. sym (read_by-one (exactly (codes "1") ∷ []) (λ vs. None) v)
+          ∙ ap (λ t. going_on ((if t then process else []) ++ (orphan ++ [])) column (λ gs. read_from gs v.column v.words)) (sym (apart_texts (codes "-O") (codes "-p") w refl e))
+      | false ↦ λ e. sym (read_each-map (λ p. Some p) process_tests (λ vs. number_of (word_at vs 1)) u) ∙ sym (read_by-one process_tests whole u)
+    ] refl
 
 -- ---- verbs
 
@@ -162,9 +168,18 @@ process_verb g verb make u next is =
     read_by-verb (forms g) (exactly (codes "-r") ∷ is_resource_word g ∷ process_tests) whole u verb next is
     ∙ sym (one_form (is_resource_word g) resource_of_word process_tests (λ ws. number_of (word_at ws 1)) make whole (past_word u) (λ f w ws. refl))
 
-pub release_verb : (g : Layout) (u : Unread) → next_passes (exactly (codes "release")) u ≡ true → read_by (forms g) u ≡ for_process g (λ r p. Release r p) (past_word u)
+-- The verb of who releases.
+abbrev release_forms : List (Form Command)
+release_forms =
+    record { words = process_tests; make = λ ws. Release (resource_of_word (word_at ws 1)) (number_of (word_at ws 3)) }
+    ∷ record { words = option_words (codes "-O"); make = λ ws. ReleaseOrphan (resource_of_word (word_at ws 1)) } ∷ []
+
+pub release_verb : (g : Layout) (u : Unread) → next_passes (exactly (codes "release")) u ≡ true → read_by (forms g) u ≡ release_read g (past_word u)
 unfolding forms
-release_verb g u next = process_verb g (codes "release") (λ r p. Release r p) u next refl
+release_verb g u next =
+    read_by-verbs (forms g) (map (behind_test (exactly (codes "-r"))) (map (behind_test (is_resource_word g)) release_forms)) u (codes "release") next refl
+    ∙ sym (one_kind (codes "-r") (is_resource_word g) resource_of_word (λ r. releaser_behind) releasing release_forms (past_word u) refl
+    (λ f w v h. made_behind (resource_of_word w) releaser_behind releasing releaser_forms v (releaser_from v.column v.words)))
 
 pub get_lvb_verb : (g : Layout) (u : Unread) → next_passes (exactly (codes "get_lvb")) u ≡ true → read_by (forms g) u ≡ for_process g (λ r p. GetLvb r p) (past_word u)
 unfolding forms
@@ -195,35 +210,57 @@ one_mode g w h = four_or_five (length (pieces 58 w)) (is_resource_front g (piece
 pub not_exclusive : (g : Layout) (w : List ℕ) → is_shared_word g w ≡ true → is_resource_word g w ≡ false
 not_exclusive g w h = is_false (is_resource_word g w) (λ e. not_both (is_shared_word g w) h (one_mode g w e))
 
--- A verb of a resource in either mode.
-moded_verb : {B : Type 0} (g : Layout) (verb : List ℕ) (tail : List (List ℕ → Bool)) (value : List (List ℕ) → B) (make : ResourceArg → Bool → B → Command)
-    (m n : List (List ℕ) → Command) (u : Unread) → next_passes (exactly verb) u ≡ true
+-- A verb of a resource in either mode. Its forms are told by what stands behind the resource's word.
+moded_verb : {B : Type 0} (g : Layout) (verb : List ℕ) (behind : Unread → Result B ℕ) (tails : List (Form B)) (make : ResourceArg → Bool → B → Command)
+    (fs : Bool → List (Form Command)) (u : Unread) → next_passes (exactly verb) u ≡ true → ((v : Unread) → behind v ≡ read_by tails v)
+    → ((t : Bool) → is_empty (fs t) ≡ false)
     → forms_behind verb (forms g)
-    ≡ record { words = exactly (codes "-r") ∷ is_resource_word g ∷ tail; make = m } ∷ record { words = exactly (codes "-r") ∷ is_shared_word g ∷ tail; make = n } ∷ []
-    → ((f w : List ℕ) (ws : List (List ℕ)) → m (f ∷ w ∷ ws) ≡ make (resource_of_word w) false (value ws))
-    → ((f w : List ℕ) (ws : List (List ℕ)) → n (f ∷ w ∷ ws) ≡ make (resource_of_word w) true (value ws))
-    → read_by (forms g) u ≡ with_resource (is_moded_word g) (moded_of_word g) (λ m. read_each tail value) (λ m b. make m.0 m.1 b) (past_word u)
-moded_verb {B} g verb tail value make m n u next is made_m made_n =
-    let mode : (f w : List ℕ) (v : Unread) (shared : Bool) (whole : List (List ℕ) → Command) → shared ≡ not (is_resource_word g w)
-    → ((ws : List (List ℕ)) → whole (f ∷ w ∷ ws) ≡ make (resource_of_word w) shared (value ws))
-    → (read_each tail value v >>= λ b. Ok (make (resource_of_word w) (not (is_resource_word g w)) b)) ≡ read_each tail (λ ws. whole (f ∷ w ∷ ws)) v =
-    (λ f w v shared whole e made. ap (λ t. read_each tail value v >>= λ b. Ok (make (resource_of_word w) t b)) (sym e)
-    ∙ sym (read_each-map (make (resource_of_word w) shared) tail value v) ∙ ap (λ k. read_each tail k v) (λ i ws. sym (made ws) i)) in
+    ≡ map (behind_test (exactly (codes "-r"))) (map (behind_test (is_resource_word g)) (fs false) ++ map (behind_test (is_shared_word g)) (fs true))
+    → ((f w : List ℕ) (t : Bool) → map (behind_word w) (map (behind_word f) (fs t)) ≡ map (form_with (make (resource_of_word w) t)) tails)
+    → read_by (forms g) u ≡ with_resource (is_moded_word g) (moded_of_word g) (λ m. behind) (λ m b. make m.0 m.1 b) (past_word u)
+moded_verb {B} g verb behind tails make fs u next reads some is made =
+    let all : List (Form Command) = map (behind_test (is_resource_word g)) (fs false) ++ map (behind_test (is_shared_word g)) (fs true) in
+    let any : is_empty all ≡ false = some_before _ (map (behind_test (is_shared_word g)) (fs true)) (map_some (behind_test (is_resource_word g)) (fs false) (some false)) in
+    let mode : (f w : List ℕ) (v : Unread) (t : Bool) → t ≡ not (is_resource_word g w)
+    → (behind v >>= λ b. Ok (make (resource_of_word w) (not (is_resource_word g w)) b)) ≡ read_by (map (behind_word w) (map (behind_word f) (fs t))) v =
+    (λ f w v t e. ap (λ s. behind v >>= λ b. Ok (make (resource_of_word w) s b)) (sym e)
+    ∙ made_behind (resource_of_word w) behind (λ r b. make r t b) tails v (reads v) ∙ ap (λ gs. read_by gs v) (sym (made f w t))) in
     read_by-verbs (forms g) _ u verb next is
-    ∙ sym (two_forms (is_resource_word g) (is_shared_word g) (moded_of_word g) (λ m. read_each tail value) (λ m b. make m.0 m.1 b) tail tail m n (past_word u) (one_mode g)
-    (λ f w v h. mode f w v false m (sym (ap not h)) (made_m f w)) (λ f w v h. mode f w v true n (sym (ap not (not_exclusive g w h))) (made_n f w)))
+    ∙ some_go_on (map (behind_test (exactly (codes "-r"))) all) u (map_some (behind_test (exactly (codes "-r"))) all any)
+    ∙ sym (two_kinds (codes "-r") (is_resource_word g) (is_shared_word g) (moded_of_word g) (λ m. behind) (λ m b. make m.0 m.1 b) (fs false) (fs true) (past_word u)
+    (some false) (some true) (one_mode g) (λ f w v h. mode f w v false (sym (ap not h))) (λ f w v h. mode f w v true (sym (ap not (not_exclusive g w h)))))
+
+-- The forms of an acquire, by their options.
+abbrev acquire_form_of : Bool → Form (Bool × Bool) → Form Command
+acquire_form_of shared f =
+    record {
+      words = exactly (codes "-p") ∷ is_process_word ∷ f.words;
+      make = λ ws. acquiring (resource_of_word (word_at ws 1)) shared (held_by (number_of (word_at ws 3)) (f.make ws));
+    }
 
 pub acquire_verb : (g : Layout) (u : Unread) → next_passes (exactly (codes "acquire")) u ≡ true → read_by (forms g) u ≡ acquire_read g (past_word u)
 unfolding forms
 acquire_verb g u next =
-    moded_verb g (codes "acquire") process_tests (λ ws. number_of (word_at ws 1)) (λ r m p. Acquire r m p) (λ ws. Acquire (resource_of_word (word_at ws 1)) false (number_of (word_at ws 3)))
-    (λ ws. Acquire (resource_of_word (word_at ws 1)) true (number_of (word_at ws 3))) u next refl (λ f w ws. refl) (λ f w ws. refl)
+    moded_verb g (codes "acquire") holder_behind holder_forms acquiring (λ t. map (acquire_form_of t) option_forms) u next holder_is (λ t. refl) refl (λ f w t. refl)
+
+pub convert_verb : (g : Layout) (u : Unread) → next_passes (exactly (codes "convert")) u ≡ true → read_by (forms g) u ≡ convert_read g (past_word u)
+unfolding forms
+convert_verb g u next =
+    moded_verb g (codes "convert") process_behind (record { words = process_tests; make = λ ws. number_of (word_at ws 1) } ∷ []) (λ r m p. Convert r m p)
+    (λ t. record { words = process_tests; make = λ ws. Convert (resource_of_word (word_at ws 1)) t (number_of (word_at ws 3)) } ∷ []) u next
+    (λ v. sym (read_by-one process_tests (λ ws. number_of (word_at ws 1)) v)) (λ t. refl) refl (λ f w t. refl)
 
 pub program_verb : (g : Layout) (u : Unread) → next_passes (exactly (codes "command")) u ≡ true → read_by (forms g) u ≡ program_read g (past_word u)
 unfolding forms
 program_verb g u next =
-    moded_verb g (codes "command") program_tests (λ ws. word_at ws 1) (λ r m path. RunProgram r m path) (λ ws. RunProgram (resource_of_word (word_at ws 1)) false (word_at ws 3))
-    (λ ws. RunProgram (resource_of_word (word_at ws 1)) true (word_at ws 3)) u next refl (λ f w ws. refl) (λ f w ws. refl)
+    moded_verb g (codes "command") program_behind (record { words = program_tests; make = λ ws. word_at ws 1 } ∷ []) (λ r m path. RunProgram r m path)
+    (λ t. record { words = program_tests; make = λ ws. RunProgram (resource_of_word (word_at ws 1)) t (word_at ws 3) } ∷ []) u next
+    (λ v. sym (read_by-one program_tests (λ ws. word_at ws 1) v)) (λ t. refl) refl (λ f w t. refl)
+
+-- The verb of a kill program.
+pub set_killpath_verb : (g : Layout) (u : Unread) → next_passes (exactly (codes "set_killpath")) u ≡ true → read_by (forms g) u ≡ killpath_read (past_word u)
+unfolding forms
+set_killpath_verb g u next = read_by-verb (forms g) killpath_tests (λ ws. SetKillpath (number_of (word_at ws 1)) (word_at ws 3)) u (codes "set_killpath") next refl
 
 -- The lver 0 is not asked for.
 and_false : (front text : Bool) → (front && (text && false)) ≡ false
@@ -268,21 +305,26 @@ asking_force r lver v e =
 pub request_verb : (g : Layout) (u : Unread) → next_passes (exactly (codes "request")) u ≡ true → read_by (forms g) u ≡ request_read g (past_word u)
 unfolding forms
 request_verb g u next =
+    let clears : List (List ℕ) → Command = (λ ws. Request (resource_of_word (word_at ws 1)) 0 0) in
+    let asks : List (List ℕ) → Command = (λ ws. Request (resource_of_word (word_at ws 1)) (asked_of_word (word_at ws 1)) (number_of (word_at ws 3))) in
     read_by-verbs (forms g) _ u (codes "request") next refl
-    ∙ sym (two_forms (is_clearing_word g) (is_asking_word g) request_of_word (λ m. force_with (m.1 == 0)) (λ m force. Request m.0 m.1 force) clearing_tests asking_tests
-    (λ ws. Request (resource_of_word (word_at ws 1)) 0 0) (λ ws. Request (resource_of_word (word_at ws 1)) (asked_of_word (word_at ws 1)) (number_of (word_at ws 3)))
-    (past_word u) (one_lver g) (λ f w v h. clearing_force (resource_of_word w) (asked_of_word w) v (clearing_lver g w h))
-    (λ f w v h. asking_force (resource_of_word w) (asked_of_word w) v (asking_lver g w h)))
+    ∙ sym (two_kinds (codes "-r") (is_clearing_word g) (is_asking_word g) request_of_word (λ m. force_with (m.1 == 0)) (λ m force. Request m.0 m.1 force)
+    (record { words = clearing_tests; make = clears } ∷ []) (record { words = asking_tests; make = asks } ∷ []) (past_word u) refl refl (one_lver g)
+    (λ f w v h. clearing_force (resource_of_word w) (asked_of_word w) v (clearing_lver g w h) ∙ sym (read_by-one clearing_tests (λ ws. clears (f ∷ w ∷ ws)) v))
+    (λ f w v h. asking_force (resource_of_word w) (asked_of_word w) v (asking_lver g w h) ∙ sym (read_by-one asking_tests (λ ws. asks (f ∷ w ∷ ws)) v)))
 
 -- No verb is next.
 pub no_verb : (g : Layout) (u : Unread) → next_passes (exactly (codes "add_lockspace")) u ≡ false → next_passes (exactly (codes "rem_lockspace")) u ≡ false
     → next_passes (exactly (codes "inq_lockspace")) u ≡ false → next_passes (exactly (codes "host_status")) u ≡ false → next_passes (exactly (codes "acquire")) u ≡ false
-    → next_passes (exactly (codes "release")) u ≡ false → next_passes (exactly (codes "command")) u ≡ false → next_passes (exactly (codes "request")) u ≡ false
-    → next_passes (exactly (codes "get_lvb")) u ≡ false → next_passes (exactly (codes "set_lvb")) u ≡ false → next_passes (exactly (codes "status")) u ≡ false
+    → next_passes (exactly (codes "release")) u ≡ false → next_passes (exactly (codes "convert")) u ≡ false → next_passes (exactly (codes "command")) u ≡ false
+    → next_passes (exactly (codes "request")) u ≡ false → next_passes (exactly (codes "get_lvb")) u ≡ false → next_passes (exactly (codes "set_lvb")) u ≡ false
+    → next_passes (exactly (codes "set_killpath")) u ≡ false → next_passes (exactly (codes "status")) u ≡ false
     → read_by (forms g) u ≡ Err u.column
 unfolding forms
-no_verb g u add rem inq host acquire release run request get set status =
-    read_by-other (forms g) u (add, (rem, (inq, (host, (acquire, (acquire, (release, (run, (run, (request, (request, (get, (set, (status, tt))))))))))))))
+no_verb g u add rem inq host acquire release convert run request get set killpath status =
+    let a = acquire in
+    read_by-other (forms g) u
+    (a, (a, (a, (a, (a, (a, (a, (a, (add, (rem, (inq, (host, (release, (release, (convert, (convert, (run, (run, (request, (request, (get, (set, (killpath, (status, tt))))))))))))))))))))))))
 
 -- The whole text.
 same_answer : (o : Option Command) (column : ℕ) → ok_or o column ≡ command_or o column
@@ -293,6 +335,6 @@ pub read_whole : (g : Layout) (text : List ℕ) → read_by (forms g) (unread 32
 read_whole g text = read_from-is (forms g) (words_of text) ∙ same_answer (made_by (forms g) (words_of text)) (bad_column (forms g) (words_of text))
 
 -- What reading a command uses.
-pub ruleset verbs = (add_lockspace_verb, rem_lockspace_verb, inq_lockspace_verb, host_status_verb, acquire_verb, release_verb, program_verb, request_verb, get_lvb_verb, set_lvb_verb, status_verb, no_verb)
+pub ruleset verbs = (add_lockspace_verb, rem_lockspace_verb, inq_lockspace_verb, host_status_verb, acquire_verb, release_verb, convert_verb, program_verb, request_verb, get_lvb_verb, set_lvb_verb, set_killpath_verb, status_verb, no_verb)
 
 pub ruleset whole = (read_whole)

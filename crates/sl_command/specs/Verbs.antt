@@ -4,16 +4,16 @@ use Rattle.sl_command.specs.Arguments.{is_moded_word, is_request_word, moded_of_
 use Rattle.sl_text.specs.Forms.{exactly, word_at}
 use Rattle.sl_text.specs.Names.{is_path}
 use Rattle.sl_text.specs.Numbers.{hex_bytes, is_hex_word, is_number_that, number_of}
-use Rattle.sl_text.specs.Walks.{Unread, next_as, past_word, read_each}
+use Rattle.sl_text.specs.Walks.{Unread, at_end, next_as, next_passes, past_word, past_words, read_each}
 use Rattle.sl_trace.specs.Commands.{is_lockspace_word, is_process_word, is_resource_word, lockspace_of_word, resource_of_word}
 use Rattle.sl_trace.specs.declared.command.BadCommand.{BadCommand}
-use Rattle.sl_trace.specs.declared.command.Command.TheVariants.{Acquire, Request, RunProgram, SetLvb}
+use Rattle.sl_trace.specs.declared.command.Command.TheVariants.{Acquire, Convert, Release, ReleaseOrphan, Request, RunProgram, SetKillpath, SetLvb, TakeOver}
 use Rattle.sl_trace.specs.declared.command.Command.{Command}
 use Rattle.sl_trace.specs.declared.command.LockspaceArg.{LockspaceArg}
 use Rattle.sl_trace.specs.declared.command.ResourceArg.{ResourceArg}
 use Rattle.sl_words.specs.Results.{◌>>=◌}
 use Rattle.std.specs.Int.{is_in_range}
-use Rattle.std.specs.Prelude.{Bool, Err, List, Ok, Result, codes, false, true, [], ℕ, ◌==◌, ◌∷◌}
+use Rattle.std.specs.Prelude.{Bool, Err, List, None, Ok, Option, Result, Some, codes, false, true, if◌then◌else◌, [], ℕ, ◌==◌, ◌∷◌}
 
 -- `-s` and a lockspace.
 abbrev pub lockspace_behind : Layout → Unread → Result LockspaceArg ℕ
@@ -72,7 +72,7 @@ with_resource passes value behind make u = do
   b ← behind a (past_word (past_word u))
   Ok (make a b)
 
--- Behind `release` and `get_lvb`: a resource and a process.
+-- Behind `get_lvb`: a resource and a process.
 abbrev pub for_process : Layout → (ResourceArg → ℕ → Command) → Unread → Result Command ℕ
 for_process g make u = with_resource (is_resource_word g) resource_of_word (λ r. process_behind) make u
 
@@ -80,9 +80,67 @@ for_process g make u = with_resource (is_resource_word g) resource_of_word (λ r
 abbrev pub value_read : Layout → Unread → Result Command ℕ
 value_read g u = with_resource (is_resource_word g) resource_of_word (λ r. value_behind) (λ r v. SetLvb r v.0 v.1) u
 
--- Behind `acquire`: a resource in either mode, and a process.
+-- ---- holders
+
+-- Whether an option is given, which has the value 1.
+abbrev pub option_read : List ℕ → Unread → Result Bool ℕ
+option_read name u = if next_passes (exactly name) u then next_as (exactly (codes "1")) (λ _. true) (past_word u) else Ok false
+
+-- What stands behind it.
+abbrev pub past_option : Bool → Unread → Unread
+past_option true u = past_words 2 u
+past_option false u = u
+
+-- What an acquire asks for beside a mode: whether persistently, and whether the orphan.
+abbrev pub wanted : Bool → Bool → Bool × Bool
+wanted persistent orphan = (persistent, orphan)
+
+-- The options of an acquire.
+abbrev pub options_read : Unread → Result (Bool × Bool) ℕ
+options_read u = do
+  persistent ← option_read (codes "-P") u
+  orphan ← option_read (codes "-O") (past_option persistent u)
+  done ← at_end (past_option orphan (past_option persistent u))
+  Ok (wanted persistent orphan)
+
+-- A process with the options that it asks for.
+abbrev pub held_by : ℕ → Bool × Bool → ℕ × Bool × Bool
+held_by process options = (process, options.0, options.1)
+
+-- `-p`, a process, and the options of an acquire.
+abbrev pub holder_behind : Unread → Result (ℕ × Bool × Bool) ℕ
+holder_behind u = do
+  flag ← flag_read (codes "-p") u
+  process ← next_as is_process_word number_of (past_word u)
+  options ← options_read (past_word (past_word u))
+  Ok (held_by process options)
+
+-- The command of a holder.
+abbrev pub acquiring : ResourceArg → Bool → ℕ × Bool × Bool → Command
+acquiring r shared h = if h.2 then TakeOver r shared h.0 h.1 else Acquire r shared h.0 h.1
+
+-- Behind `acquire`: a resource in either mode, and a holder.
 abbrev pub acquire_read : Layout → Unread → Result Command ℕ
-acquire_read g u = with_resource (is_moded_word g) (moded_of_word g) (λ m. process_behind) (λ m p. Acquire m.0 m.1 p) u
+acquire_read g u = with_resource (is_moded_word g) (moded_of_word g) (λ m. holder_behind) (λ m h. acquiring m.0 m.1 h) u
+
+-- The option that is the orphan's; else a process.
+abbrev pub releaser_behind : Unread → Result (Option ℕ) ℕ
+releaser_behind u =
+    if next_passes (exactly (codes "-O")) u then read_each (exactly (codes "1") ∷ []) (λ _. None) (past_word u)
+    else process_behind u >>= λ p. Ok (Some p)
+
+-- The command of who releases: a process, or none, where it is the orphan.
+abbrev pub releasing : ResourceArg → Option ℕ → Command
+releasing r (Some p) = Release r p
+releasing r None = ReleaseOrphan r
+
+-- Behind `release`: a resource, and who releases it.
+abbrev pub release_read : Layout → Unread → Result Command ℕ
+release_read g u = with_resource (is_resource_word g) resource_of_word (λ r. releaser_behind) releasing u
+
+-- Behind `convert`: a resource in either mode, and a process.
+abbrev pub convert_read : Layout → Unread → Result Command ℕ
+convert_read g u = with_resource (is_moded_word g) (moded_of_word g) (λ m. process_behind) (λ m p. Convert m.0 m.1 p) u
 
 -- Behind `command`: a resource in either mode, and a program.
 abbrev pub program_read : Layout → Unread → Result Command ℕ
@@ -91,6 +149,14 @@ program_read g u = with_resource (is_moded_word g) (moded_of_word g) (λ m. prog
 -- Behind `request`: a resource with an lver, and a force that goes with it.
 abbrev pub request_read : Layout → Unread → Result Command ℕ
 request_read g u = with_resource (is_request_word g) request_of_word (λ m. force_with (m.1 == 0)) (λ m force. Request m.0 m.1 force) u
+
+-- The tests behind `set_killpath`: `-p`, a process, `-c` and a program's path.
+abbrev pub killpath_tests : List (List ℕ → Bool)
+killpath_tests = exactly (codes "-p") ∷ is_process_word ∷ program_tests
+
+-- Behind `set_killpath`: a process and its kill program.
+abbrev pub killpath_read : Unread → Result Command ℕ
+killpath_read u = read_each killpath_tests (λ ws. SetKillpath (number_of (word_at ws 1)) (word_at ws 3)) u
 
 -- The answer of a parser: a command, or the column.
 abbrev pub answered : Result Command ℕ → Result Command BadCommand

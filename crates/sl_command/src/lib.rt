@@ -20,4 +20,3 @@ pub use naming::default_name;
 pub use reading::parse_command;
 pub use replies::push_reply_text;
 pub use writing::push_command_text;
-

@@ -4,19 +4,19 @@
 //! word; here they are followed from the left. Each function reads what stands behind a verb, and gives the column of the first word
 //! that no form takes there: one past the end where a word is missing.
 
-ghost use Rattle.std.specs.Prelude.{Ok, false, true, ◌==◌, ◌↔◌, ◌≡◌};
+ghost use Rattle.std.specs.Prelude.{IfOk, Ok, false, true, ◌==◌, ◌↔◌, ◌≡◌};
 ghost use Rattle.sl_area.specs.Layouts.{layout_of};
 ghost use Rattle.sl_command.specs.Verbs as verbs;
 ghost use Rattle.sl_text.specs.Walks.{read_by};
 ghost use Rattle.sl_trace.specs.Commands as commands;
 ghost use Rattle.sl_trace.specs.declared.command.Command.{Command};
-ghost use Rattle.sl_trace.specs.declared.command.Command.TheVariants.{GetLvb, Release};
+ghost use Rattle.sl_trace.specs.declared.command.Command.TheVariants.{GetLvb};
 
 use crate::arguments;
 use sl_area::Geometry;
 use sl_text::words::Words;
 use sl_text::{Data, FilePath};
-use sl_trace::{BadCommand, Command, LockspaceArg};
+use sl_trace::{BadCommand, Command, LockspaceArg, ResourceArg};
 
 /// Reads `-s` and a lockspace.
 fn lockspace(words: &mut Words<'_>, geometry: &Geometry) -> Result<LockspaceArg, usize>
@@ -91,28 +91,122 @@ fn force(words: &mut Words<'_>, lver: u64) -> Result<u32, usize>
     }
 }
 
+/// Reads an option, which is given as 1 or not at all; says whether it was.
+fn option(words: &mut Words<'_>, name: &[u8]) -> Result<bool, usize>
+    ensures exact { result ≡ verbs.option_read name.now words.old }
+    ensures left { IfOk result (λ given. words.new ≡ verbs.past_option given words.old) }
+{
+    if !words.skip(name) {
+        return Ok(false);
+    }
+    words.expect(b"1")?;
+    Ok(true)
+}
+
+/// Reads the options of an acquire: whether it is persistent, and whether it is the orphan that is taken over.
+fn options(words: &mut Words<'_>) -> Result<(bool, bool), usize>
+    ensures { result ≡ verbs.options_read words.old }
+{
+    let persistent = option(words, b"-P")?;
+    let orphan = option(words, b"-O")?;
+    words.finish()?;
+    Ok((persistent, orphan))
+}
+
+/// Reads `-p`, a process, and the options of an acquire.
+fn holder(words: &mut Words<'_>) -> Result<(u32, bool, bool), usize>
+    ensures { result ≡ verbs.holder_behind words.old }
+{
+    words.expect(b"-p")?;
+    let process = arguments::process(words)?;
+    let (persistent, orphan) = options(words)?;
+    Ok((process, persistent, orphan))
+}
+
+/// The command of a holder.
+fn acquiring(
+    resource: ResourceArg,
+    shared: bool,
+    process: u32,
+    persistent: bool,
+    orphan: bool,
+) -> Command
+    ensures { result ≡ verbs.acquiring resource shared (process, persistent, orphan) }
+{
+    if orphan {
+        return Command::TakeOver {
+            resource,
+            shared,
+            process,
+            persistent,
+        };
+    }
+    Command::Acquire {
+        resource,
+        shared,
+        process,
+        persistent,
+    }
+}
+
 /// Reads what stands behind `acquire`.
 fn acquire(words: &mut Words<'_>, geometry: &Geometry) -> Result<Command, usize>
     ensures { result ≡ verbs.acquire_read (layout_of geometry.now) words.old }
 {
     words.expect(b"-r")?;
     let (resource, shared) = arguments::moded(words, geometry)?;
+    let (process, persistent, orphan) = holder(words)?;
+    Ok(acquiring(resource, shared, process, persistent, orphan))
+}
+
+/// Reads `-O` and its 1, or else `-p` and a process.
+fn releaser(words: &mut Words<'_>) -> Result<Option<u32>, usize>
+    ensures { result ≡ verbs.releaser_behind words.old }
+{
+    if words.skip(b"-O") {
+        words.expect(b"1")?;
+        words.finish()?;
+        return Ok(None);
+    }
+    Ok(Some(process(words)?))
+}
+
+/// Reads what stands behind `release`.
+fn release(words: &mut Words<'_>, geometry: &Geometry) -> Result<Command, usize>
+    ensures { result ≡ verbs.release_read (layout_of geometry.now) words.old }
+{
+    words.expect(b"-r")?;
+    let resource = arguments::resource(words, geometry)?;
+    match releaser(words)? {
+        Some(process) => Ok(Command::Release { resource, process }),
+        None => Ok(Command::ReleaseOrphan(resource)),
+    }
+}
+
+/// Reads what stands behind `convert`.
+fn convert(words: &mut Words<'_>, geometry: &Geometry) -> Result<Command, usize>
+    ensures { result ≡ verbs.convert_read (layout_of geometry.now) words.old }
+{
+    words.expect(b"-r")?;
+    let (resource, shared) = arguments::moded(words, geometry)?;
     let process = process(words)?;
-    Ok(Command::Acquire {
+    Ok(Command::Convert {
         resource,
         shared,
         process,
     })
 }
 
-/// Reads what stands behind `release`.
-fn release(words: &mut Words<'_>, geometry: &Geometry) -> Result<Command, usize>
-    ensures { result ≡ verbs.for_process (layout_of geometry.now) (λ r p. Release r p) words.old }
+/// Reads what stands behind `set_killpath`.
+fn set_killpath(words: &mut Words<'_>) -> Result<Command, usize>
+    ensures { result ≡ verbs.killpath_read words.old }
 {
-    words.expect(b"-r")?;
-    let resource = arguments::resource(words, geometry)?;
-    let process = process(words)?;
-    Ok(Command::Release { resource, process })
+    words.expect(b"-p")?;
+    let process = arguments::process(words)?;
+    words.expect(b"-c")?;
+    let program = words.path()?;
+    words.finish()?;
+    Ok(Command::SetKillpath { process, program })
 }
 
 /// Reads what stands behind `command`.
@@ -190,6 +284,9 @@ fn command(words: &mut Words<'_>, geometry: &Geometry) -> Result<Command, usize>
     if words.skip(b"release") {
         return release(words, geometry);
     }
+    if words.skip(b"convert") {
+        return convert(words, geometry);
+    }
     if words.skip(b"command") {
         return run_program(words, geometry);
     }
@@ -201,6 +298,9 @@ fn command(words: &mut Words<'_>, geometry: &Geometry) -> Result<Command, usize>
     }
     if words.skip(b"set_lvb") {
         return set_lvb(words, geometry);
+    }
+    if words.skip(b"set_killpath") {
+        return set_killpath(words);
     }
     words.expect(b"status")?;
     words.finish()?;

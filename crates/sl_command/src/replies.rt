@@ -29,6 +29,9 @@ const MOST_HOLDERS: u64 = 1024;
 /// Child numbers of a daemon, at most.
 const MOST_CHILDREN: u64 = 1_000_000;
 
+/// Processes of a daemon with a kill program, at most.
+const MOST_KILLPATHS: u64 = 1024;
+
 /// The greatest number that a record may carry.
 const GREATEST_NUMBER: u64 = (1 << 63) - 1;
 
@@ -230,6 +233,7 @@ fn push_limit(out: &mut Vec<u8>, which: Limited) -> Result<(), AllocError>
         Limited::Resources => ("Limit resources", MOST_RESOURCES),
         Limited::Holders => ("Limit holders", MOST_HOLDERS),
         Limited::Children => ("Limit children", MOST_CHILDREN),
+        Limited::Killpaths => ("Limit killpaths", MOST_KILLPATHS),
         Limited::Gen => ("Limit gen", GREATEST_NUMBER),
         Limited::Seq => ("Limit seq", GREATEST_NUMBER),
         Limited::Lver => ("Limit lver", GREATEST_NUMBER),
@@ -249,6 +253,7 @@ fn push_reply(out: &mut Vec<u8>, reply: &Reply) -> Result<(), AllocError>
         Reply::Granted { lver } => push_counted(out, "ok", &[*lver]),
         Reply::Started { lver, process } => push_counted(out, "ok", &[*lver, u64::from(*process)]),
         Reply::Value { lver, seq, bytes } => push_value(out, *lver, *seq, bytes),
+        Reply::ValueSet { .. } => push_counted(out, "ok", &[]),
         Reply::Hosts(states) => push_states(out, states.as_slice()),
         Reply::Sessions(sessions) => push_sessions(out, sessions.as_slice()),
         Reply::NoSession => push_counted(out, "NoSession", &[]),
@@ -268,6 +273,7 @@ fn push_reply(out: &mut Vec<u8>, reply: &Reply) -> Result<(), AllocError>
         Reply::IoFault { call } => push_counted(out, "IoFault", &[*call]),
         Reply::Pending { call } => push_counted(out, "Pending", &[*call]),
         Reply::Busy { process } => push_counted(out, "Busy", &[u64::from(*process)]),
+        Reply::NoOrphan => push_counted(out, "NoOrphan", &[]),
         Reply::NotHeld => push_counted(out, "NotHeld", &[]),
         Reply::SpawnFault => push_counted(out, "SpawnFault", &[]),
         Reply::ValueTorn => push_counted(out, "ValueTorn", &[]),

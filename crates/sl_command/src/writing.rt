@@ -4,6 +4,7 @@ ghost use Rattle.std.specs.Prelude.{IfOk, OnErr, OnOk, codes, decimal, false, tr
 ghost use Rattle.sl_text.specs.Forms.{coloned, spaced};
 ghost use Rattle.sl_text.specs.Numbers.{hex_text};
 ghost use Rattle.sl_trace.specs.Commands as commands;
+ghost use Rattle.sl_trace.specs.declared.command.Command.TheVariants.{Acquire, ReleaseOrphan, SetKillpath, TakeOver};
 
 use crate::words::push_text;
 use sl_text::hex::push_hex;
@@ -70,6 +71,56 @@ fn push_for_process(
 {
     let word = resource_word(*out.allocator(), resource, shared)?;
     let text = format!(in *out.allocator(); "{verb} -r {word} -p {process}")?;
+    push_text(out, text.as_bytes())
+}
+
+/// Adds an acquire, with its option where it is persistent.
+fn push_acquire(
+    out: &mut Vec<u8>,
+    resource: &ResourceArg,
+    shared: bool,
+    process: u32,
+    persistent: bool,
+) -> Result<(), AllocError>
+    ensures { OnOk result (out.new.items ≡ out.old.items
+        ++ spaced (commands.command_words (Acquire resource.now shared process persistent))) }
+{
+    push_for_process(out, "acquire", resource, shared, process)?;
+    if persistent {
+        push_text(out, b" -P 1")?;
+    }
+    Ok(())
+}
+
+/// Adds an acquire that takes the orphan over.
+fn push_take_over(
+    out: &mut Vec<u8>,
+    resource: &ResourceArg,
+    shared: bool,
+    process: u32,
+    persistent: bool,
+) -> Result<(), AllocError>
+    ensures { OnOk result (out.new.items ≡ out.old.items
+        ++ spaced (commands.command_words (TakeOver resource.now shared process persistent))) }
+{
+    push_acquire(out, resource, shared, process, persistent)?;
+    push_text(out, b" -O 1")
+}
+
+/// Adds a release of the orphan.
+fn push_release_orphan(out: &mut Vec<u8>, resource: &ResourceArg) -> Result<(), AllocError>
+    ensures { OnOk result (out.new.items ≡ out.old.items ++ spaced (commands.command_words (ReleaseOrphan resource.now))) }
+{
+    let word = exclusive_word(*out.allocator(), resource)?;
+    let text = format!(in *out.allocator(); "release -r {word} -O 1")?;
+    push_text(out, text.as_bytes())
+}
+
+/// Adds a command that sets a kill program.
+fn push_set_killpath(out: &mut Vec<u8>, process: u32, program: &FilePath) -> Result<(), AllocError>
+    ensures { OnOk result (out.new.items ≡ out.old.items ++ spaced (commands.command_words (SetKillpath process program.now))) }
+{
+    let text = format!(in *out.allocator(); "set_killpath -p {process} -c {program}")?;
     push_text(out, text.as_bytes())
 }
 
@@ -142,10 +193,23 @@ fn push_command(out: &mut Vec<u8>, command: &Command) -> Result<(), AllocError>
             resource,
             shared,
             process,
-        } => push_for_process(out, "acquire", resource, *shared, *process),
+            persistent,
+        } => push_acquire(out, resource, *shared, *process, *persistent),
+        Command::TakeOver {
+            resource,
+            shared,
+            process,
+            persistent,
+        } => push_take_over(out, resource, *shared, *process, *persistent),
         Command::Release { resource, process } => {
             push_for_process(out, "release", resource, false, *process)
         }
+        Command::ReleaseOrphan(resource) => push_release_orphan(out, resource),
+        Command::Convert {
+            resource,
+            shared,
+            process,
+        } => push_for_process(out, "convert", resource, *shared, *process),
         Command::RunProgram {
             resource,
             shared,
@@ -164,6 +228,7 @@ fn push_command(out: &mut Vec<u8>, command: &Command) -> Result<(), AllocError>
             process,
             value,
         } => push_set_lvb(out, resource, *process, value),
+        Command::SetKillpath { process, program } => push_set_killpath(out, *process, program),
         Command::Status => push_text(out, b"status"),
     }
 }

@@ -169,7 +169,7 @@ reply_due st g r k es f h d busy free doing a aim is why comes =
     (record { still = refl; unmoved = refl; leases = refl }, h.calm)
 
 pub grant_due : (st : Setting) (g : Given) (r : ResourceArg) (k : Kept) (es : Trace) → IsFirst st g r → Stands st g r k es → (d : Doing) → k.work ≡ Some d → k.held ≡ [] → IsDoing st g es d
-    → (a : Answer) (p lver : ℕ) → d.command ≡ Acquire r false p → first_next st g es d k.answered (Acquires Exclusive) a ≡ GrantJob Exclusive lver
+    → (a : Answer) (p lver : ℕ) → d.command ≡ Acquire r false p false → first_next st g es d k.answered (Acquires Exclusive) a ≡ GrantJob Exclusive lver
     → due st es g.renewed (Told d.call.call.number a) ≡ first_effects [] (first_grant g r p lver ∷ []) (one_reply d.job.number (Granted lver)) []
 unfolding carry_lease
 grant_due st g r k es f h d busy free doing a p lver is comes =

@@ -10,7 +10,7 @@ use Rattle.sl_trace.specs.declared.command.ResourceArg.{ResourceArg}
 use Rattle.sl_trace.specs.declared.effects.Entry.{Entry}
 use Rattle.sl_trace.specs.declared.effects.JoinStep.TheVariants.{FirstRead}
 use Rattle.sl_trace.specs.declared.input.Given.{Given}
-use Rattle.sl_trace.specs.declared.input.Input.TheVariants.{Answer as Told, Exit, Line, Spawned, Wake}
+use Rattle.sl_trace.specs.declared.input.Input.TheVariants.{Answer as Told, Exit, Line, Number, Spawned, Wake}
 use Rattle.sl_trace.specs.declared.input.Input.{Input}
 use Rattle.std.proofs.Common.{ap, inl, inr, refl, ◌∙◌}
 use Rattle.sl_words.specs.Orders.{in_order, is_text_before}
@@ -27,6 +27,7 @@ added_by_none : (st : Setting) (g : Given) (r : ResourceArg) → IsFirst st g r 
 added_by_none st g r f (Line text) = added_none r (st.read text) (f.reads text)
 added_by_none st g r f (Told n a) = refl
 added_by_none st g r f (Exit p) = refl
+added_by_none st g r f (Number p) = refl
 added_by_none st g r f (Spawned p ok) = refl
 added_by_none st g r f Wake = refl
 

@@ -15,7 +15,7 @@ use Rattle.sl_trace.specs.declared.effects.Purpose.{Purpose}
 use Rattle.sl_trace.specs.declared.input.Answer.TheVariants.{Failed, Read, Written}
 use Rattle.sl_trace.specs.declared.input.Answer.{Answer}
 use Rattle.sl_trace.specs.declared.input.Given.{Given}
-use Rattle.sl_trace.specs.declared.input.Input.TheVariants.{Answer as Told, Exit, Line, Spawned, Wake}
+use Rattle.sl_trace.specs.declared.input.Input.TheVariants.{Answer as Told, Exit, Line, Number, Spawned, Wake}
 use Rattle.sl_trace.specs.declared.input.Input.{Input}
 use Rattle.sl_words.proofs.CaseLaws.{false_is_true}
 use Rattle.sl_words.proofs.WordLaws.{and_true}
@@ -35,6 +35,7 @@ leaving_in_none : (st : Setting) (g : Given) (r : ResourceArg) → IsFirst st g 
 leaving_in_none st g r f es s now (Line text) fx = rw (leaving_in, leaves_none s r (st.read text) (f.reads text)) refl
 leaving_in_none st g r f es s now (Told n a) fx = refl
 leaving_in_none st g r f es s now (Exit p) fx = refl
+leaving_in_none st g r f es s now (Number p) fx = refl
 leaving_in_none st g r f es s now (Spawned p ok) fx = refl
 leaving_in_none st g r f es s now Wake fx = refl
 
@@ -64,6 +65,7 @@ list_all-mark : (es : Trace) (e : Entry) (i : Input) (ms : List Submitted) → l
 list_all-mark es e (Line text) ms = refl
 list_all-mark es e (Told n a) ms = list_all-answered es e n a ms
 list_all-mark es e (Exit p) ms = refl
+list_all-mark es e (Number p) ms = refl
 list_all-mark es e (Spawned p ok) ms = refl
 list_all-mark es e Wake ms = refl
 
@@ -130,6 +132,7 @@ shows_none st g es c s (Told n (Read bytes)) =
 shows_none st g es c s (Told n Written) = refl
 shows_none st g es c s (Told n Failed) = refl
 shows_none st g es c s (Exit p) = refl
+shows_none st g es c s (Number p) = refl
 shows_none st g es c s (Spawned p ok) = refl
 shows_none st g es c s Wake = refl
 
@@ -141,6 +144,7 @@ renewed_none g es c s (Told n Written) =
     (λ m l. chosen_none (is_call_of s m) (is_renewal m.call.purpose) m.reading (renewal_none m.call.purpose l))
 renewed_none g es c s (Told n Failed) = refl
 renewed_none g es c s (Exit p) = refl
+renewed_none g es c s (Number p) = refl
 renewed_none g es c s (Spawned p ok) = refl
 renewed_none g es c s Wake = refl
 

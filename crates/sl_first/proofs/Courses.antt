@@ -6,7 +6,7 @@ use Rattle.sl_first.specs.FirstPath.{IsFirst, heeded_call}
 use Rattle.sl_first.specs.FirstSteps.{Course, Freeing, Goes_on_phase1, Goes_on_phase2, Grants, IsNamed, Live, Reading_area, Reading_phase1, Reading_phase2, Replies_late, Taking, Writing_phase1, Writing_phase2, first_aim, first_known}
 use Rattle.sl_leases.specs.Ballots.{stop_of}
 use Rattle.sl_leases.specs.LeaseWork.{LeasePlace, after_phase1, after_phase2, lease_next}
-use Rattle.sl_leases.specs.Leases.{Area_read, LeaseKnown, Phase1_read, Phase2_read, Read_before_free, StepKind, block_of_host, block_of_record, block_submitted, block_written, blocks_given, is_leader_of, kind_of_step, last_blocks, lease_step, name_sought, own_known, own_or_read, same_kind, verified_name}
+use Rattle.sl_leases.specs.Leases.{Area_read, LeaseKnown, Phase1_read, Phase2_read, Read_before_free, StepKind, block_of_host, block_of_record, block_submitted, block_written, blocks_given, is_leader_of, kind_of_step, last_blocks, lease_step, name_sought, own_known, own_or_read, same_kind, verified_name, Leader_taken, lver_written}
 use Rattle.sl_leases.specs.declared.lease.Aim.TheVariants.{Acquires}
 use Rattle.sl_leases.specs.declared.lease.LeaseNext.TheVariants.{Nothing}
 use Rattle.sl_sector.specs.declared.sector.Block.{Block}
@@ -134,15 +134,15 @@ abbrev pub first_place : Setting → Given → LeasePlace
 first_place st g = record { layout = st.layout; lockspace = g.lockspace }
 
 phase1_given : (place : LeasePlace) (k : LeaseKnown) (ms : List Submitted) (N : Type 0) (nm : N) (r : ResourceArg) (p : ℕ) (bytes : List ℕ) (b : Block) → k.own ≡ Some b
-    → Live place k ms N r (Acquire r false p) (option_map_or (λ own. after_phase1 place k (Acquires Exclusive) own (blocks_in place.layout bytes) (stop_of own (blocks_in place.layout bytes))) k.own Nothing)
+    → Live place k ms N r (Acquire r false p false) (option_map_or (λ own. after_phase1 place k (Acquires Exclusive) own (blocks_in place.layout bytes) (stop_of own (blocks_in place.layout bytes))) k.own Nothing)
 phase1_given place k ms N nm r p bytes b is =
-    subst (λ (q : Option Block). Live place k ms N r (Acquire r false p) (option_map_or (λ own. after_phase1 place k (Acquires Exclusive) own (blocks_in place.layout bytes) (stop_of own (blocks_in place.layout bytes))) q Nothing)) (sym is)
+    subst (λ (q : Option Block). Live place k ms N r (Acquire r false p false) (option_map_or (λ own. after_phase1 place k (Acquires Exclusive) own (blocks_in place.layout bytes) (stop_of own (blocks_in place.layout bytes))) q Nothing)) (sym is)
     (phase1_read_live place k ms N nm r p b (blocks_in place.layout bytes) is (stop_of b (blocks_in place.layout bytes)) refl)
 
 phase2_given : (place : LeasePlace) (k : LeaseKnown) (ms : List Submitted) (N : Type 0) (nm : N) (r : ResourceArg) (p : ℕ) (bytes : List ℕ) (b : Block) → own_known k ≡ Some b → k.own ≡ Some b
-    → Live place k ms N r (Acquire r false p) (option_map_or (λ own. after_phase2 place k (Acquires Exclusive) own (stop_of own (blocks_in place.layout bytes))) k.own Nothing)
+    → Live place k ms N r (Acquire r false p false) (option_map_or (λ own. after_phase2 place k (Acquires Exclusive) own (stop_of own (blocks_in place.layout bytes))) k.own Nothing)
 phase2_given place k ms N nm r p bytes b known is =
-    subst (λ (q : Option Block). Live place k ms N r (Acquire r false p) (option_map_or (λ own. after_phase2 place k (Acquires Exclusive) own (stop_of own (blocks_in place.layout bytes))) q Nothing)) (sym is)
+    subst (λ (q : Option Block). Live place k ms N r (Acquire r false p false) (option_map_or (λ own. after_phase2 place k (Acquires Exclusive) own (stop_of own (blocks_in place.layout bytes))) q Nothing)) (sym is)
     (phase2_read_live place k ms N nm r p b (blocks_in place.layout bytes) is known (stop_of b (blocks_in place.layout bytes)) refl)
 
 -- A call that reads no area leaves the verified name.
@@ -175,35 +175,44 @@ now_named st g r es bytes m answered j for l there right =
     ∙ ap (λ b. elim (choose b r.name) as (λ x. List ℕ) [ Some name ↦ name | None ↦ verified_name st.layout g.lockspace answered ]) right
 
 pub course_live : (st : Setting) (g : Given) (r : ResourceArg) → IsFirst st g r → (es : Trace) (answered : List Submitted) (m : Submitted) (j call lver : ℕ) (command : Command) (step : LeaseStep) (op : Op)
-    → Course st g r answered command step op → m.call.op ≡ op → m.call.purpose ≡ Lease (ForJob j) step → (a : Answer) → is_answer_for st a op ≡ true
+    → Course st g r answered command step op → m.call.op ≡ op → m.call.purpose ≡ Lease (ForJob j) step → lver_written m ≡ lver → (a : Answer) → is_answer_for st a op ≡ true
     → Live (first_place st g) (first_known st g (heeded_call es g a m ∷ answered)) (heeded_call es g a m ∷ answered) (IsNamed st g r (heeded_call es g a m ∷ answered)) r command
     (lease_next (first_place st g) (first_known st g (heeded_call es g a m ∷ answered)) (first_aim command) call lver step a)
 unfolding lease_next
-course_live st g r f es answered m j call lver command step op (Reading_area p) is for (Read bytes) fits =
+course_live st g r f es answered m j call lver command step op (Reading_area p) is for under (Read bytes) fits =
     area_live (first_place st g) (first_known st g (heeded_call es g (Read bytes) m ∷ answered)) (heeded_call es g (Read bytes) m ∷ answered) (IsNamed st g r (heeded_call es g (Read bytes) m ∷ answered)) r p r.name bytes (now_named st g r es bytes m answered j for)
     (λ whole. own_after_area st g r f es bytes m answered j (st.layout.hosts + 2) r.name is for whole)
-course_live st g r f es answered m j call lver command step op (Reading_area p) is for Written fits = absurd (false_is_true fits)
-course_live st g r f es answered m j call lver command step op (Reading_area p) is for Failed fits = Replies_late (Acquire r false p) (IoFault call) refl
-course_live st g r f es answered m j call lver command step op (Writing_phase1 p b named) is for (Read bytes) fits = absurd (false_is_true fits)
-course_live st g r f es answered m j call lver command step op (Writing_phase1 p b named) is for Written fits = Goes_on_phase1 p b (still_named st g r es Written m answered j Phase1Write for refl named) (own_written es g m answered b is)
-course_live st g r f es answered m j call lver command step op (Writing_phase1 p b named) is for Failed fits = Replies_late (Acquire r false p) (IoFault call) refl
-course_live st g r f es answered m j call lver command step op (Reading_phase1 p b named own) is for (Read bytes) fits =
+course_live st g r f es answered m j call lver command step op (Reading_area p) is for under Written fits = absurd (false_is_true fits)
+course_live st g r f es answered m j call lver command step op (Reading_area p) is for under Failed fits = Replies_late (Acquire r false p false) (IoFault call) refl
+course_live st g r f es answered m j call lver command step op (Writing_phase1 p b named) is for under (Read bytes) fits = absurd (false_is_true fits)
+course_live st g r f es answered m j call lver command step op (Writing_phase1 p b named) is for under Written fits = Goes_on_phase1 p b (still_named st g r es Written m answered j Phase1Write for refl named) (own_written es g m answered b is)
+course_live st g r f es answered m j call lver command step op (Writing_phase1 p b named) is for under Failed fits = Replies_late (Acquire r false p false) (IoFault call) refl
+course_live st g r f es answered m j call lver command step op (Reading_phase1 p b named own) is for under (Read bytes) fits =
     phase1_given (first_place st g) (first_known st g (heeded_call es g (Read bytes) m ∷ answered)) (heeded_call es g (Read bytes) m ∷ answered) (IsNamed st g r (heeded_call es g (Read bytes) m ∷ answered)) (still_named st g r es (Read bytes) m answered j Phase1Read for refl named) r p bytes b
     (own_after_phase st g es (Read bytes) m answered st.layout.hosts b is own)
-course_live st g r f es answered m j call lver command step op (Reading_phase1 p b named own) is for Written fits = absurd (false_is_true fits)
-course_live st g r f es answered m j call lver command step op (Reading_phase1 p b named own) is for Failed fits = Replies_late (Acquire r false p) (IoFault call) refl
-course_live st g r f es answered m j call lver command step op (Writing_phase2 p b named) is for (Read bytes) fits = absurd (false_is_true fits)
-course_live st g r f es answered m j call lver command step op (Writing_phase2 p b named) is for Written fits = Goes_on_phase2 p b (still_named st g r es Written m answered j Phase2Write for refl named) (own_written es g m answered b is)
-course_live st g r f es answered m j call lver command step op (Writing_phase2 p b named) is for Failed fits = Replies_late (Acquire r false p) (IoFault call) refl
-course_live st g r f es answered m j call lver command step op (Reading_phase2 p b named own) is for (Read bytes) fits =
+course_live st g r f es answered m j call lver command step op (Reading_phase1 p b named own) is for under Written fits = absurd (false_is_true fits)
+course_live st g r f es answered m j call lver command step op (Reading_phase1 p b named own) is for under Failed fits = Replies_late (Acquire r false p false) (IoFault call) refl
+course_live st g r f es answered m j call lver command step op (Writing_phase2 p b named) is for under (Read bytes) fits = absurd (false_is_true fits)
+course_live st g r f es answered m j call lver command step op (Writing_phase2 p b named) is for under Written fits = Goes_on_phase2 p b (still_named st g r es Written m answered j Phase2Write for refl named) (own_written es g m answered b is)
+course_live st g r f es answered m j call lver command step op (Writing_phase2 p b named) is for under Failed fits = Replies_late (Acquire r false p false) (IoFault call) refl
+course_live st g r f es answered m j call lver command step op (Reading_phase2 p b named own) is for under (Read bytes) fits =
     let known = own_after_phase st g es (Read bytes) m answered st.layout.hosts b is own in
     phase2_given (first_place st g) (first_known st g (heeded_call es g (Read bytes) m ∷ answered)) (heeded_call es g (Read bytes) m ∷ answered) (IsNamed st g r (heeded_call es g (Read bytes) m ∷ answered)) (still_named st g r es (Read bytes) m answered j Phase2Read for refl named) r p bytes b
     (ap (λ o. own_or_read g.id o (last_blocks st.layout (heeded_call es g (Read bytes) m ∷ answered))) known) known
-course_live st g r f es answered m j call lver command step op (Reading_phase2 p b named own) is for Written fits = absurd (false_is_true fits)
-course_live st g r f es answered m j call lver command step op (Reading_phase2 p b named own) is for Failed fits = Replies_late (Acquire r false p) (IoFault call) refl
-course_live st g r f es answered m j call lver command step op (Taking p l named) is for (Read bytes) fits = absurd (false_is_true fits)
-course_live st g r f es answered m j call lver command step op (Taking p l named) is for Written fits = Grants p lver (still_named st g r es Written m answered j TakeLeader for refl named)
-course_live st g r f es answered m j call lver command step op (Taking p l named) is for Failed fits = Replies_late (Acquire r false p) (IoFault call) refl
-course_live st g r f es answered m j call lver command step op (Freeing p l named) is for (Read bytes) fits = absurd (false_is_true fits)
-course_live st g r f es answered m j call lver command step op (Freeing p l named) is for Written fits = Replies_late (Release r p) Done refl
-course_live st g r f es answered m j call lver command step op (Freeing p l named) is for Failed fits = Replies_late (Release r p) (IoFault call) refl
+course_live st g r f es answered m j call lver command step op (Reading_phase2 p b named own) is for under Written fits = absurd (false_is_true fits)
+course_live st g r f es answered m j call lver command step op (Reading_phase2 p b named own) is for under Failed fits = Replies_late (Acquire r false p false) (IoFault call) refl
+course_live st g r f es answered m j call lver command step op (Taking p l named) is for under (Read bytes) fits = absurd (false_is_true fits)
+course_live st g r f es answered m j call lver command step op (Taking p l named) is for under Written fits =
+    Grants p lver (still_named st g r es Written m answered j TakeLeader for refl named)
+    (record {
+      call = heeded_call es g Written m;
+      rest = answered;
+      newest = refl;
+      step = ap (λ q. some_is (λ x. same_kind (kind_of_step x.1) Leader_taken) (lease_step q)) for;
+      under = under;
+      wrote = refl;
+    })
+course_live st g r f es answered m j call lver command step op (Taking p l named) is for under Failed fits = Replies_late (Acquire r false p false) (IoFault call) refl
+course_live st g r f es answered m j call lver command step op (Freeing p l named) is for under (Read bytes) fits = absurd (false_is_true fits)
+course_live st g r f es answered m j call lver command step op (Freeing p l named) is for under Written fits = Replies_late (Release r p) Done refl
+course_live st g r f es answered m j call lver command step op (Freeing p l named) is for under Failed fits = Replies_late (Release r p) (IoFault call) refl

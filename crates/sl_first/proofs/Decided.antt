@@ -90,7 +90,7 @@ fourth_refuses : (a b c d : Option Reply) (rest : List (Option Reply)) (x : Deci
 fourth_refuses a b c d rest x why h i j k = rw (h, i, j, k) refl
 
 pub acquire_idle : (st : Setting) (g : Given) (r : ResourceArg) (k : Kept) (t : Trace) → IsFirst st g r → Stands st g r k t → k.work ≡ None → k.held ≡ [] → (now p : ℕ) → p ≤ most_processes
-    → decided st t now (Acquire r false p) ≡ Reads_area (first_session g) r
+    → decided st t now (Acquire r false p false) ≡ Reads_area (first_session g) r
 unfolding decided
 acquire_idle st g r k t f h idle free now p small =
     let s : Session = first_session g in
@@ -100,7 +100,7 @@ acquire_idle st g r k t f h idle free now p small =
     (acquiring t s r false) (not_refused st g r k t f h) (may_ask t p small) (nobody_busy st g r k t h p free) (nothing_pending st g r k t h idle) (no_limit st g r k t f h idle free)
 
 pub acquire_held : (st : Setting) (g : Given) (r : ResourceArg) (k : Kept) (t : Trace) → IsFirst st g r → Stands st g r k t → (q lver : ℕ) → k.held ≡ first_grant g r q lver ∷ [] → (now p : ℕ) → p ≤ most_processes
-    → decided st t now (Acquire r false p) ≡ Replies (Busy q)
+    → decided st t now (Acquire r false p false) ≡ Replies (Busy q)
 unfolding decided
 acquire_held st g r k t f h q lver is now p small =
     let s : Session = first_session g in
@@ -110,7 +110,7 @@ acquire_held st g r k t f h q lver is now p small =
     (acquiring t s r false) (Busy q) (not_refused st g r k t f h) (may_ask t p small) (busy_holder st g r k t h q lver p is)
 
 pub acquire_pending : (st : Setting) (g : Given) (r : ResourceArg) (k : Kept) (t : Trace) → IsFirst st g r → Stands st g r k t → (d : Doing) → k.work ≡ Some d → IsDoing st g t d → k.held ≡ [] → (now p : ℕ) → p ≤ most_processes
-    → decided st t now (Acquire r false p) ≡ Replies (Pending d.call.call.number)
+    → decided st t now (Acquire r false p false) ≡ Replies (Pending d.call.call.number)
 unfolding decided
 acquire_pending st g r k t f h d busy doing free now p small =
     let s : Session = first_session g in

@@ -54,22 +54,25 @@ fifth a b c d p (v ∷ w ∷ x ∷ y ∷ z ∷ rest) h =
 whole_is_five : (fit len : ℕ) → (5 == len && fit == len) ≡ true → fit ≡ 5
 whole_is_five fit len h = grind (arith, tests)
 
+above : (n : ℕ) → is_in_range 1 most_processes n ≡ true → 1 ≤ n
+above n h = grind (arith, tests)
+
 below : (n : ℕ) → is_in_range 1 most_processes n ≡ true → n ≤ most_processes
 below n h = grind (arith, tests)
 
-small : (w : List ℕ) → is_first_process w ≡ true → number_of w ≤ most_processes
-small w h = let both = and_true (is_number_text w) (is_in_range 1 most_processes (number_of w)) h in below (number_of w) both.1
+small : (w : List ℕ) → is_first_process w ≡ true → (1 ≤ number_of w) × (number_of w ≤ most_processes)
+small w h = let both = and_true (is_number_text w) (is_in_range 1 most_processes (number_of w)) h in (above (number_of w) both.1, below (number_of w) both.1)
 
 -- The process of such a form.
-process_small : (verb : List ℕ) (r : ResourceArg) (make : ℕ → Command) (ws : List (List ℕ)) → fits_whole (first_form verb r make).words ws ≡ true → number_of (word_at ws 4) ≤ most_processes
+process_small : (verb : List ℕ) (r : ResourceArg) (make : ℕ → Command) (ws : List (List ℕ)) → fits_whole (first_form verb r make).words ws ≡ true → (1 ≤ number_of (word_at ws 4)) × (number_of (word_at ws 4) ≤ most_processes)
 process_small verb r make ws h = small (word_at ws 4) (fifth _ _ _ _ is_first_process ws (whole_is_five (fitting (first_form verb r make).words ws) (length ws) h))
 
 -- ---- what they make
 
 made : (r : ResourceArg) (ws : List (List ℕ)) (column : ℕ) (first second : Bool)
-    → (first ≡ true → number_of (word_at ws 4) ≤ most_processes) → (second ≡ true → number_of (word_at ws 4) ≤ most_processes)
+    → (first ≡ true → (1 ≤ number_of (word_at ws 4)) × (number_of (word_at ws 4) ≤ most_processes)) → (second ≡ true → (1 ≤ number_of (word_at ws 4)) × (number_of (word_at ws 4) ≤ most_processes))
     → IsFirstCommand r (command_or (option_map (λ (f : Form Command). f.make ws)
-    (if first then Some (first_form (codes "acquire") r (λ p. Acquire r false p)) else (if second then Some (first_form (codes "release") r (λ p. Release r p)) else None))) column)
+    (if first then Some (first_form (codes "acquire") r (λ p. Acquire r false p false)) else (if second then Some (first_form (codes "release") r (λ p. Release r p)) else None))) column)
 made r ws column true second a b = (number_of (word_at ws 4), a refl, inl refl)
 made r ws column false true a b = (number_of (word_at ws 4), b refl, inr refl)
 made r ws column false false a b = tt
@@ -77,5 +80,5 @@ made r ws column false false a b = tt
 pub reads_first : (r : ResourceArg) (text : List ℕ) → IsFirstCommand r (command_in (first_forms r) text)
 reads_first r text =
     let ws : List (List ℕ) = words_of text in
-    made r ws (bad_column (first_forms r) ws) (fits_whole (first_form (codes "acquire") r (λ p. Acquire r false p)).words ws) (fits_whole (first_form (codes "release") r (λ p. Release r p)).words ws)
-    (λ h. process_small (codes "acquire") r (λ p. Acquire r false p) ws h) (λ h. process_small (codes "release") r (λ p. Release r p) ws h)
+    made r ws (bad_column (first_forms r) ws) (fits_whole (first_form (codes "acquire") r (λ p. Acquire r false p false)).words ws) (fits_whole (first_form (codes "release") r (λ p. Release r p)).words ws)
+    (λ h. process_small (codes "acquire") r (λ p. Acquire r false p false) ws h) (λ h. process_small (codes "release") r (λ p. Release r p) ws h)

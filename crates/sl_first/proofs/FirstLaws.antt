@@ -27,7 +27,7 @@ use Rattle.sl_trace.specs.declared.effects.Op.{Op}
 use Rattle.sl_trace.specs.declared.input.Answer.{Answer}
 use Rattle.sl_trace.specs.declared.input.Given.{Given}
 use Rattle.sl_trace.specs.declared.input.Input.TheVariants.{Answer as Told}
-use Rattle.sl_trace.specs.declared.reply.Reply.TheVariants.{Ahead, BadCommand as Misread, Busy, Done, Generation, Granted, Held as HeldBy, Hosts, IdHeld, IdLate, IdLost, IoFault, IoTimeout, Joined, Joining as StillJoining, Limit as LimitReached, NoProcess, NoSession, NotHeld, Pending, Recovering, RequestOld, Rival, Sessions, Shared as SharedBy, SpawnFault, Started, TornBlock, TornDelta, TornLeader, Value, ValueTorn, WrongArea, WrongDelta}
+use Rattle.sl_trace.specs.declared.reply.Reply.TheVariants.{Ahead, BadCommand as Misread, Busy, Done, Generation, Granted, Held as HeldBy, Hosts, IdHeld, IdLate, IdLost, IoFault, IoTimeout, Joined, Joining as StillJoining, Limit as LimitReached, NoOrphan, NoProcess, NoSession, NotHeld, Pending, Recovering, RequestOld, Rival, Sessions, Shared as SharedBy, SpawnFault, Started, TornBlock, TornDelta, TornLeader, Value, ValueSet, ValueTorn, WrongArea, WrongDelta}
 use Rattle.sl_trace.specs.declared.reply.Reply.{Reply}
 use Rattle.sl_words.proofs.CaseLaws.{false_is_true}
 use Rattle.std.proofs.Common.{ap, arith, refl, subst, sym, tests, ◌∙◌}
@@ -139,6 +139,7 @@ lease_late (Generation g) q = absurd (false_is_true q)
 lease_late (Granted l) q = absurd (false_is_true q)
 lease_late (Started l p) q = absurd (false_is_true q)
 lease_late (Value l s b) q = absurd (false_is_true q)
+lease_late (ValueSet l s) q = absurd (false_is_true q)
 lease_late (Hosts x) q = absurd (false_is_true q)
 lease_late (Sessions x) q = absurd (false_is_true q)
 lease_late NoSession q = absurd (false_is_true q)
@@ -159,6 +160,7 @@ lease_late (IoFault c) q = refl
 lease_late (Pending c) q = absurd (false_is_true q)
 lease_late (Busy p) q = absurd (false_is_true q)
 lease_late NotHeld q = absurd (false_is_true q)
+lease_late NoOrphan q = absurd (false_is_true q)
 lease_late SpawnFault q = absurd (false_is_true q)
 lease_late ValueTorn q = absurd (false_is_true q)
 lease_late (Misread c) q = absurd (false_is_true q)
@@ -181,7 +183,7 @@ told_reply st g r f call job d answered es h a fits why comes late =
 
 -- The resource is granted.
 told_grant : (st : Setting) (g : Given) (r : ResourceArg) → IsFirst st g r → (call job : ℕ) (d : Doing) (answered : List Submitted) (es : Trace) → FirstStands st g r call job (Works d) answered es
-    → (a : Answer) → is_answer_for st a d.call.call.op ≡ true → (p lver : ℕ) → d.command ≡ Acquire r false p → first_next st g es d answered (first_aim d.command) a ≡ GrantJob Exclusive lver
+    → (a : Answer) → is_answer_for st a d.call.call.op ≡ true → (p lver : ℕ) → d.command ≡ Acquire r false p false → first_next st g es d answered (first_aim d.command) a ≡ GrantJob Exclusive lver
     → IsNamed st g r (heeded_call es g a d.call ∷ answered) → ToldFirst st g r call job d answered es a (GrantJob Exclusive lver)
 told_grant st g r f call job d answered es h a fits p lver is comes named =
     record {
@@ -196,21 +198,21 @@ told_grant st g r f call job d answered es h a fits p lver is comes named =
     }
 
 told_phase1 : (st : Setting) (g : Given) (r : ResourceArg) → IsFirst st g r → (call job : ℕ) (d : Doing) (answered : List Submitted) (es : Trace) → FirstStands st g r call job (Works d) answered es
-    → (a : Answer) → is_answer_for st a d.call.call.op ≡ true → (p : ℕ) (b : Block) → d.command ≡ Acquire r false p → first_next st g es d answered (first_aim d.command) a ≡ next_of (Writes_block Phase1Write b)
+    → (a : Answer) → is_answer_for st a d.call.call.op ≡ true → (p : ℕ) (b : Block) → d.command ≡ Acquire r false p false → first_next st g es d answered (first_aim d.command) a ≡ next_of (Writes_block Phase1Write b)
     → IsNamed st g r (heeded_call es g a d.call ∷ answered) → ToldFirst st g r call job d answered es a (next_of (Writes_block Phase1Write b))
 told_phase1 st g r f call job d answered es h a fits p b is comes named =
     told_further st g r f call job d answered es h a fits (Writes_block Phase1Write b) comes
     (subst (λ c. Course st g r (heeded_call es g a d.call ∷ answered) c Phase1Write (WriteRecord (BlockIs b))) (sym is) (Writing_phase1 p b named))
 
 told_phase2 : (st : Setting) (g : Given) (r : ResourceArg) → IsFirst st g r → (call job : ℕ) (d : Doing) (answered : List Submitted) (es : Trace) → FirstStands st g r call job (Works d) answered es
-    → (a : Answer) → is_answer_for st a d.call.call.op ≡ true → (p : ℕ) (b : Block) → d.command ≡ Acquire r false p → first_next st g es d answered (first_aim d.command) a ≡ next_of (Writes_block Phase2Write b)
+    → (a : Answer) → is_answer_for st a d.call.call.op ≡ true → (p : ℕ) (b : Block) → d.command ≡ Acquire r false p false → first_next st g es d answered (first_aim d.command) a ≡ next_of (Writes_block Phase2Write b)
     → IsNamed st g r (heeded_call es g a d.call ∷ answered) → ToldFirst st g r call job d answered es a (next_of (Writes_block Phase2Write b))
 told_phase2 st g r f call job d answered es h a fits p b is comes named =
     told_further st g r f call job d answered es h a fits (Writes_block Phase2Write b) comes
     (subst (λ c. Course st g r (heeded_call es g a d.call ∷ answered) c Phase2Write (WriteRecord (BlockIs b))) (sym is) (Writing_phase2 p b named))
 
 told_take : (st : Setting) (g : Given) (r : ResourceArg) → IsFirst st g r → (call job : ℕ) (d : Doing) (answered : List Submitted) (es : Trace) → FirstStands st g r call job (Works d) answered es
-    → (a : Answer) → is_answer_for st a d.call.call.op ≡ true → (p : ℕ) (l : Leader) → d.command ≡ Acquire r false p → first_next st g es d answered (first_aim d.command) a ≡ next_of (Writes_leader TakeLeader l)
+    → (a : Answer) → is_answer_for st a d.call.call.op ≡ true → (p : ℕ) (l : Leader) → d.command ≡ Acquire r false p false → first_next st g es d answered (first_aim d.command) a ≡ next_of (Writes_leader TakeLeader l)
     → IsNamed st g r (heeded_call es g a d.call ∷ answered) → ToldFirst st g r call job d answered es a (next_of (Writes_leader TakeLeader l))
 told_take st g r f call job d answered es h a fits p l is comes named =
     told_further st g r f call job d answered es h a fits (Writes_leader TakeLeader l) comes
@@ -229,7 +231,7 @@ told_by st g r f call job d answered es h a fits command next is comes (Goes_on_
 told_by st g r f call job d answered es h a fits command next is comes (Begins_phase1 p n own named known why) = told_phase1 st g r f call job d answered es h a fits p _ is comes named
 told_by st g r f call job d answered es h a fits command next is comes (Begins_phase2 p own read named known clear none) = told_phase2 st g r f call job d answered es h a fits p _ is comes named
 told_by st g r f call job d answered es h a fits command next is comes (Takes p own read named known clear won) = told_take st g r f call job d answered es h a fits p _ is comes named
-told_by st g r f call job d answered es h a fits command next is comes (Grants p lver named) = told_grant st g r f call job d answered es h a fits p lver is comes named
+told_by st g r f call job d answered es h a fits command next is comes (Grants p lver named taken) = told_grant st g r f call job d answered es h a fits p lver is comes named
 told_by st g r f call job d answered es h a fits command next is comes (Replies_late c why late) = told_reply st g r f call job d answered es h a fits why comes late
 
 -- Any answer that fits the work's call.
@@ -238,4 +240,4 @@ pub told_first : (st : Setting) (g : Given) (r : ResourceArg) → IsFirst st g r
     → ToldFirst st g r call job d answered es a (first_next st g es d answered (first_aim d.command) a)
 told_first st g r f call job d answered es h a fits =
     told_by st g r f call job d answered es h a fits d.command (first_next st g es d answered (first_aim d.command) a) refl refl
-    (course_live st g r f es answered d.call d.job.number d.call.call.number (lver_written d.call) d.command d.step d.call.call.op h.course refl h.stands.work.for_job a fits)
+    (course_live st g r f es answered d.call d.job.number d.call.call.number (lver_written d.call) d.command d.step d.call.call.op h.course refl h.stands.work.for_job refl a fits)

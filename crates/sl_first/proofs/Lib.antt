@@ -17,3 +17,6 @@ pub mod FirstLaws
 pub mod LineLaws
 pub mod Beginning
 pub mod FirstForms
+pub mod Commanded
+pub mod Ending
+pub mod Granting

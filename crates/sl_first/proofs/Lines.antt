@@ -78,7 +78,7 @@ replied st g r k es f h text c why reads is =
 -- ---- an acquire begins
 
 pub acquire_due : (st : Setting) (g : Given) (r : ResourceArg) (k : Kept) (es : Trace) → IsFirst st g r → Stands st g r k es → k.work ≡ None → k.held ≡ []
-    → (text : List ℕ) (p : ℕ) → p ≤ most_processes → st.read text ≡ Ok (Acquire r false p)
+    → (text : List ℕ) (p : ℕ) → p ≤ most_processes → st.read text ≡ Ok (Acquire r false p false)
     → due st es g.renewed (Line text) ≡ first_effects [] [] [] (first_read st r k.next_call k.next_job ∷ [])
 unfolding on_line carry_decision
 acquire_due st g r k es f h idle free text p small reads =
@@ -86,8 +86,8 @@ acquire_due st g r k es f h idle free text p small reads =
     let q = quiet_stands st g r k es h in
     line_due st g r k es f h text (first_effects [] [] [] (first_read st r k.next_call k.next_job ∷ []))
     (ap (λ d. carry_line text (next_job st (seen x)) d x)
-    (bound st (seen x) g.renewed text (Acquire r false p) (Reads_area (first_session g) r) reads (acquire_idle st g r k (seen x) f q idle free g.renewed p small))
-    ∙ ap (λ n. carry_line text n (Ok (Acquire r false p, Reads_area (first_session g) r)) x) q.job_number
+    (bound st (seen x) g.renewed text (Acquire r false p false) (Reads_area (first_session g) r) reads (acquire_idle st g r k (seen x) f q idle free g.renewed p small))
+    ∙ ap (λ n. carry_line text n (Ok (Acquire r false p false, Reads_area (first_session g) r)) x) q.job_number
     ∙ ap (λ n. record { setting = st; past = es; reading = g.renewed; input = Line text; effects = first_effects [] [] [] (first_read st r n k.next_job ∷ []) }) h.call_number)
     (record { still = refl; unmoved = refl; leases = refl }, h.calm)
 

@@ -1,7 +1,7 @@
 -- A host stands for its trace after one more entry.
 use Rattle.sl_first.proofs.Entries.{list_all-append, old_more, other_reply, running_answered, running_begun, running_ended, running_stays, unanswered_more}
 use Rattle.sl_first.proofs.Growth.{answered_stays, same_number}
-use Rattle.sl_first.specs.FirstPath.{Doing, IsDoing, IsNextCall, IsWork, Kept, Stands, first_effects, first_entry, heeded_call, is_first_call, jobs_kept, next_doing, one_reply, open_kept}
+use Rattle.sl_first.specs.FirstPath.{Doing, IsDoing, IsNextCall, IsWork, Kept, Stands, first_effects, first_entry, heeded_call, is_first_call, jobs_kept, next_doing, one_reply, open_kept, HasEnded}
 use Rattle.sl_leases.specs.Jobs.{command_of}
 use Rattle.sl_leases.specs.Leases.{lease_step}
 use Rattle.sl_trace.specs.Traces.{Job, Setting, Submitted, Trace, answer_of, answered_in, child_after, held_after, holdings, is_before_input, is_going_on, is_refused_before_input, is_running, job_of, jobs, new_call, next_call, next_job, no_effects, running_jobs, submitted}
@@ -26,6 +26,7 @@ use Rattle.std.proofs.Common.{ap, arith, refl, subst, sym, tests, ◌∙◌}
 use Rattle.std.proofs.lemmas.List.{append-nil}
 use Rattle.std.specs.List.{list_all}
 use Rattle.std.specs.Option.{option_or}
+use Rattle.sl_first.proofs.Ending.{ended_later}
 use Rattle.std.specs.Prelude.{Bool, List, None, Ok, Option, Result, Some, false, filter, find, if◌then◌else◌, is_some, length, map, nat_lt, not, option_and_then, true, [], ℕ, ◌&&◌, ◌++◌, ◌+◌, ◌==◌, ◌∷◌, ◌≡◌, ◌≤◌}
 
 -- ---- lists
@@ -55,6 +56,15 @@ found_more : {A B : Type 0} (f : A → Option B) (p : A → Bool) (xs ys : List 
 found_more f p [] ys b h = absurd (none_some b h)
 found_more f p (x ∷ xs) ys b h = found_more_at f p x xs ys b (p x) refl h (found_more f p xs ys b)
 
+found_same_at : {A : Type 0} (p : A → Bool) (x : A) (xs ys : List A) (a : A) (b : Bool) → p x ≡ b → (if b then Some x else find p xs) ≡ Some a
+    → (find p xs ≡ Some a → find p (xs ++ ys) ≡ Some a) → (if b then Some x else find p (xs ++ ys)) ≡ Some a
+found_same_at p x xs ys a true is h rest = h
+found_same_at p x xs ys a false is h rest = rest h
+
+found_same : {A : Type 0} (p : A → Bool) (xs ys : List A) (a : A) → find p xs ≡ Some a → find p (xs ++ ys) ≡ Some a
+found_same p [] ys a h = absurd (none_some a h)
+found_same p (x ∷ xs) ys a h = found_same_at p x xs ys a (p x) refl h (found_same p xs ys a)
+
 -- What is true of the work stays so with more jobs.
 doing_later : (st : Setting) (g : Given) (es : Trace) (e : Entry) (js : List Job) (d : Doing) → jobs st (e ∷ es) ≡ jobs st es ++ js
     → IsDoing st g es d → IsDoing st g (e ∷ es) d
@@ -65,6 +75,8 @@ doing_later st g es e js d more h =
       for_job = h.for_job;
       commanded = ap (λ is. option_and_then command_of (find (λ j. j.number == d.job.number) is)) more
           ∙ found_more command_of (λ (j : Job). j.number == d.job.number) (jobs st es) js d.command h.commanded;
+      known = ap (λ is. find (λ j. j.number == d.job.number) is) more ∙ found_same (λ (j : Job). j.number == d.job.number) (jobs st es) js d.job h.known;
+      ended = ended_later es e d.job.at d.job.command h.ended;
     }
 
 work_later : (st : Setting) (g : Given) (es : Trace) (e : Entry) (js : List Job) (w : Option Doing) → jobs st (e ∷ es) ≡ jobs st es ++ js
@@ -113,7 +125,7 @@ pub quiet_stands : (st : Setting) (g : Given) (r : ResourceArg) (k : Kept) (es :
 quiet_stands st g r k es h =
     let e : Entry = first_entry g Wake no_effects in
     let same : jobs st (e ∷ es) ≡ jobs st es = append-nil (jobs st es) in
-    let next : next_job st (e ∷ es) ≡ next_job st es = ap (λ (js : List Job). st.first.job + length js) same in
+    let next : next_job st (e ∷ es) ≡ next_job st es = refl in
     record {
       calm = (record { still = refl; unmoved = refl; leases = refl }, h.calm);
       calls = h.calls;
@@ -142,6 +154,7 @@ other_number n next h = grind (arith, tests)
 
 pub line_begun : (st : Setting) (g : Given) (r : ResourceArg) (k : Kept) (es : Trace) → Stands st g r k es → k.work ≡ None → (text : List ℕ) (command : Command)
     → st.read text ≡ Ok command → (ends : List End) (step : LeaseStep) (c : Call) → IsNextCall st r k.next_call k.next_job step c
+    → HasEnded (first_entry g (Line text) (first_effects ends [] [] (c ∷ [])) ∷ es) (length es) (st.read text)
     → Stands st g r (record {
       next_call = k.next_call + 1;
       next_job = k.next_job + 1;
@@ -150,7 +163,7 @@ pub line_begun : (st : Setting) (g : Given) (r : ResourceArg) (k : Kept) (es : T
       held = held_after (first_effects ends [] [] (c ∷ [])) k.held;
     })
     (first_entry g (Line text) (first_effects ends [] [] (c ∷ [])) ∷ es)
-line_begun st g r k es h idle text command reads ends step c is =
+line_begun st g r k es h idle text command reads ends step c is gives =
     let e : Entry = first_entry g (Line text) (first_effects ends [] [] (c ∷ [])) in
     let j : Job = record { number = next_job st es; at = length es; reading = g.renewed; command = st.read text } in
     let more : next_job st (e ∷ es) ≡ next_job st es + 1 = (let l = length_more (jobs st es) j in omega (arith, l)) in
@@ -174,6 +187,9 @@ line_begun st g r k es h idle text command reads ends step c is =
         commanded = ap (λ o. option_and_then command_of o) (found_last (λ (i : Job). i.number == next_job st es) (λ i. nat_lt i.number (next_job st es)) (jobs st es) j h.old
             (λ i lt. other_number i.number (next_job st es) lt) (same_number (next_job st es)))
             ∙ ap (λ (c : Result Command ℕ). command_of (record { number = next_job st es; at = length es; reading = g.renewed; command = c })) reads;
+        known = found_last (λ (i : Job). i.number == next_job st es) (λ i. nat_lt i.number (next_job st es)) (jobs st es) j h.old
+            (λ i lt. other_number i.number (next_job st es) lt) (same_number (next_job st es));
+        ended = gives;
       };
     }
 
@@ -269,7 +285,7 @@ pub told_more : (st : Setting) (g : Given) (r : ResourceArg) (k : Kept) (es : Tr
 told_more st g r k es h d busy doing a step c is =
     let e : Entry = first_entry g (Told d.call.call.number a) (first_effects [] [] [] (c ∷ [])) in
     let same : jobs st (e ∷ es) ≡ jobs st es = append-nil (jobs st es) in
-    let next : next_job st (e ∷ es) ≡ next_job st es = ap (λ (js : List Job). st.first.job + length js) same in
+    let next : next_job st (e ∷ es) ≡ next_job st es = refl in
     let calls : submitted (e ∷ es) ≡ new_call (length es) g.renewed c ∷ heeded_call es g a d.call ∷ k.answered
     = ap (λ ms. new_call (length es) g.renewed c ∷ ms) (told_calls st g r k es h d busy doing a (first_effects [] [] [] (c ∷ [])) refl) in
     record {
@@ -289,6 +305,8 @@ told_more st g r k es h d busy doing a step c is =
         unanswered = refl;
         for_job = is.for_job;
         commanded = ap (λ is. option_and_then command_of (find (λ j. j.number == d.job.number) is)) same ∙ doing.commanded;
+        known = ap (λ is. find (λ j. j.number == d.job.number) is) same ∙ doing.known;
+        ended = ended_later es e d.job.at d.job.command doing.ended;
       };
     }
 
@@ -299,7 +317,7 @@ pub told_done : (st : Setting) (g : Given) (r : ResourceArg) (k : Kept) (es : Tr
 told_done st g r k es h d busy doing a grants why late =
     let e : Entry = first_entry g (Told d.call.call.number a) (first_effects [] grants (one_reply d.job.number why) []) in
     let same : jobs st (e ∷ es) ≡ jobs st es = append-nil (jobs st es) in
-    let next : next_job st (e ∷ es) ≡ next_job st es = ap (λ (js : List Job). st.first.job + length js) same in
+    let next : next_job st (e ∷ es) ≡ next_job st es = refl in
     let calls : submitted (e ∷ es) ≡ heeded_call es g a d.call ∷ k.answered
     = told_calls st g r k es h d busy doing a (first_effects [] grants (one_reply d.job.number why) []) (rw (same_number d.job.number, late) refl) in
     record {

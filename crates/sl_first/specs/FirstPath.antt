@@ -6,7 +6,7 @@ use Rattle.sl_sessions.specs.Sessions.{delta_written, given_session}
 use Rattle.sl_sessions.specs.declared.session.Session.{Session}
 use Rattle.sl_text.specs.Names.{is_name}
 use Rattle.sl_trace.specs.Limits.{most_processes}
-use Rattle.sl_trace.specs.Traces.{EachEntry, Job, Setting, Submitted, Trace, children, holdings, jobs, new_call, next_call, next_job, reply_to, running_jobs, submitted}
+use Rattle.sl_trace.specs.Traces.{EachEntry, Job, Setting, Submitted, Trace, children, entry_at, holdings, job_numbered, jobs, new_call, next_call, next_job, reply_to, running_jobs, same_place, submitted}
 use Rattle.sl_trace.specs.declared.command.Command.TheVariants.{Acquire, Release}
 use Rattle.sl_trace.specs.declared.command.Command.{Command}
 use Rattle.sl_trace.specs.declared.command.ResourceArg.{ResourceArg}
@@ -25,13 +25,13 @@ use Rattle.sl_trace.specs.declared.input.Input.{Input}
 use Rattle.sl_trace.specs.declared.reply.Reply.{Reply}
 use Rattle.sl_words.specs.Bounds.{moments}
 use Rattle.std.specs.Int.{is_in_range}
-use Rattle.std.specs.List.{list_all}
+use Rattle.std.specs.List.{list_all, list_any}
 use Rattle.std.specs.Prelude.{is_none, ◌*◌, ◌+◌, Bool, Err, IsTrue, List, None, Ok, Option, Result, Some, [], false, is_some, length, nat_lt, true, ℕ, ◌&&◌, ◌++◌, ◌<◌, ◌==◌, ◌∷◌, ◌≡◌, ◌≤◌, ◌⊎◌}
 
--- What a text may say: an exclusive acquire or a release of this resource, for a process that is no child.
+-- What a text may say: an exclusive acquire or a release of this resource, for a process that is no child. (Process 0 is none.)
 abbrev pub IsFirstCommand : ResourceArg → Result Command ℕ → Type 0
 IsFirstCommand r (Err column) = Unit {0}
-IsFirstCommand r (Ok c) = (p : ℕ) × (p ≤ most_processes) × ((c ≡ Acquire r false p) ⊎ (c ≡ Release r p))
+IsFirstCommand r (Ok c) = (p : ℕ) × ((1 ≤ p) × (p ≤ most_processes)) × ((c ≡ Acquire r false p false) ⊎ (c ≡ Release r p))
 
 -- A daemon of the first path.
 pub record IsFirst (st : Setting) (g : Given) (r : ResourceArg) : Type 0 where
@@ -100,12 +100,20 @@ has_answer m = is_some m.answer
 abbrev pub is_first_call : Setting → ResourceArg → Submitted → Bool
 is_first_call st r m = m.call.session == 0 && is_on st.layout (spot_of r) m.call && is_none (delta_written m)
 
+-- Where a command gives a resource up, the entry of its line ended its process's holding.
+abbrev pub HasEnded : Trace → ℕ → Result Command ℕ → Type 0
+HasEnded es at q =
+    (r : ResourceArg) (p : ℕ) → q ≡ Ok (Release r p) →
+    (e : Entry) × (entry_at es at ≡ Some e) × IsTrue (list_any (λ d. d.process == p && same_place d.path d.offset r.path r.offset) e.effects.ends)
+
 -- What is true of the work.
 pub record IsDoing (st : Setting) (g : Given) (es : Trace) (d : Doing) : Type 0 where
   pub made : d.call.reading ≡ g.renewed
   pub unanswered : d.call.answer ≡ None
   pub for_job : d.call.call.purpose ≡ Lease (ForJob d.job.number) d.step
   pub commanded : command_numbered st es d.job.number ≡ Some d.command
+  pub known : job_numbered st es d.job.number ≡ Some d.job
+  pub ended : HasEnded es d.job.at d.job.command
 
 -- What is true of the work, if there is any.
 abbrev pub IsWork : Setting → Given → Trace → Option Doing → Type 0

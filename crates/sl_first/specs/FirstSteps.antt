@@ -6,11 +6,11 @@ use Rattle.sl_first.specs.FirstPath.{Doing, Kept, Stands, first_effects, first_e
 use Rattle.sl_leases.specs.Ballots.{ballot_blocks, moded_block, phase1_block, phase2_block, same_owner, stop_of, value_of}
 use Rattle.sl_leases.specs.Jobs.{aim_of_command, process_named}
 use Rattle.sl_leases.specs.LeaseWork.{LeasePlace, leader_for, lease_next}
-use Rattle.sl_leases.specs.Leases.{LeaseKnown, block_submitted, instance_for, is_leader_of, known_of, lver_written, mode_gen_of, own_known, shared_elsewhere, verified_name}
+use Rattle.sl_leases.specs.Leases.{LeaseKnown, Leader_taken, block_submitted, instance_for, is_at, is_leader_of, known_of, lver_written, mode_gen_of, own_known, shared_elsewhere, verified_name}
 use Rattle.sl_leases.specs.declared.lease.Aim.TheVariants.{Releases}
 use Rattle.sl_leases.specs.declared.lease.Aim.{Aim}
 use Rattle.sl_leases.specs.declared.lease.Instance.TheVariants.{Begins}
-use Rattle.sl_leases.specs.declared.lease.LeaseNext.TheVariants.{AnswerJob, GrantJob, Nothing, ReadFor, WriteBlock, WriteLeader}
+use Rattle.sl_leases.specs.declared.lease.LeaseNext.TheVariants.{AnswerJob, BecomeExclusive, BecomeShared, GrantJob, Nothing, ReadFor, WriteBlock, WriteLeader}
 use Rattle.sl_leases.specs.declared.lease.LeaseNext.{LeaseNext}
 use Rattle.sl_sector.specs.declared.sector.Block.{Block}
 use Rattle.sl_sector.specs.declared.sector.Leader.{Leader}
@@ -31,13 +31,14 @@ use Rattle.sl_trace.specs.declared.effects.Op.TheVariants.{ReadSectors, WriteRec
 use Rattle.sl_trace.specs.declared.effects.Op.{Op}
 use Rattle.sl_trace.specs.declared.effects.Purpose.TheVariants.{Lease}
 use Rattle.sl_trace.specs.declared.effects.Work.TheVariants.{ForJob}
+use Rattle.sl_trace.specs.declared.input.Answer.TheVariants.{Written}
 use Rattle.sl_trace.specs.declared.input.Answer.{Answer}
 use Rattle.sl_trace.specs.declared.input.Given.{Given}
 use Rattle.sl_trace.specs.declared.input.Input.TheVariants.{Answer as Told, Line}
 use Rattle.sl_trace.specs.declared.reply.Reply.TheVariants.{Ahead, Busy, Done, Granted, Held as HeldBy, IoFault, Limit as LimitReached, NotHeld, Pending, Rival, Shared as SharedBy, TornBlock, TornLeader, WrongArea}
 use Rattle.sl_trace.specs.declared.reply.Reply.{Reply}
 use Rattle.sl_words.specs.Words.{present}
-use Rattle.std.specs.Prelude.{Bool, List, None, Option, Some, [], false, is_none, length, nat_lt, position, true, unwrap_or, ℕ, ◌&&◌, ◌+◌, ◌==◌, ◌∷◌, ◌≡◌}
+use Rattle.std.specs.Prelude.{Bool, List, None, Option, Some, [], false, is_none, length, nat_lt, option_map, position, true, unwrap_or, ℕ, ◌&&◌, ◌+◌, ◌==◌, ◌∷◌, ◌≡◌}
 
 -- Where the host stands.
 pub data Phase : Type 0 where
@@ -53,7 +54,7 @@ work_in (Works d) = Some d
 
 -- A holding of the resource.
 abbrev pub first_grant : Given → ResourceArg → ℕ → ℕ → Grant
-first_grant g r p lver = grant_of (first_session g) r p Exclusive lver
+first_grant g r p lver = grant_of (first_session g) r p Exclusive lver false
 
 -- What is held.
 abbrev pub held_in : Given → ResourceArg → Phase → List Grant
@@ -175,14 +176,14 @@ first_aim c = unwrap_or (aim_of_command c) Releases
 -- At which step a job may be, and for what: an acquire reads the area, writes and reads in the two phases and takes the leader; a release
 -- frees the leader. After the read of the area the name is verified; from phase 1's write on the own block is known.
 pub data Course (st : Setting) (g : Given) (r : ResourceArg) (answered : List Submitted) : Command → LeaseStep → Op → Type 0 where
-  Reading_area : (p : ℕ) → Course st g r answered (Acquire r false p) (ReadArea r.name) (ReadSectors (st.layout.hosts + 2))
-  Writing_phase1 : (p : ℕ) (b : Block) → IsNamed st g r answered → Course st g r answered (Acquire r false p) Phase1Write (WriteRecord (BlockIs b))
+  Reading_area : (p : ℕ) → Course st g r answered (Acquire r false p false) (ReadArea r.name) (ReadSectors (st.layout.hosts + 2))
+  Writing_phase1 : (p : ℕ) (b : Block) → IsNamed st g r answered → Course st g r answered (Acquire r false p false) Phase1Write (WriteRecord (BlockIs b))
   Reading_phase1 : (p : ℕ) (b : Block) → IsNamed st g r answered → block_submitted answered ≡ Some b →
-      Course st g r answered (Acquire r false p) Phase1Read (ReadSectors st.layout.hosts)
-  Writing_phase2 : (p : ℕ) (b : Block) → IsNamed st g r answered → Course st g r answered (Acquire r false p) Phase2Write (WriteRecord (BlockIs b))
+      Course st g r answered (Acquire r false p false) Phase1Read (ReadSectors st.layout.hosts)
+  Writing_phase2 : (p : ℕ) (b : Block) → IsNamed st g r answered → Course st g r answered (Acquire r false p false) Phase2Write (WriteRecord (BlockIs b))
   Reading_phase2 : (p : ℕ) (b : Block) → IsNamed st g r answered → block_submitted answered ≡ Some b →
-      Course st g r answered (Acquire r false p) Phase2Read (ReadSectors st.layout.hosts)
-  Taking : (p : ℕ) (l : Leader) → IsNamed st g r answered → Course st g r answered (Acquire r false p) TakeLeader (WriteRecord (LeaderIs l))
+      Course st g r answered (Acquire r false p false) Phase2Read (ReadSectors st.layout.hosts)
+  Taking : (p : ℕ) (l : Leader) → IsNamed st g r answered → Course st g r answered (Acquire r false p false) TakeLeader (WriteRecord (LeaderIs l))
   Freeing : (p : ℕ) (l : Leader) → IsNamed st g r answered → Course st g r answered (Release r p) FreeLeader (WriteRecord (LeaderIs l))
 
 -- Whether a reply is one that work on a lease may end with.
@@ -208,18 +209,27 @@ pub data WhyBegins (place : LeasePlace) (k : LeaseKnown) (own : Block) : ℕ →
   Other_is_over : (read : List (Option Block)) → stop_of own read ≡ None → same_owner (value_of own) k.self ≡ false →
       k.over own.inp own.inp_gen ≡ true → WhyBegins place k own (own.lver + 1)
 
+-- The newest of these calls wrote the leader of the instance as held, and was answered ok.
+pub record IsTaken (ms : List Submitted) (lver : ℕ) : Type 0 where
+  pub call : Submitted
+  pub rest : List Submitted
+  pub newest : ms ≡ call ∷ rest
+  pub step : is_at Leader_taken call ≡ true
+  pub under : lver_written call ≡ lver
+  pub wrote : option_map (λ a. a.answer) call.answer ≡ Some Written
+
 -- What an answer may lead to, by what is known after these calls: a call that goes on with the job, a reply, or the grant. But for a reply
 -- the name is verified.
 pub data Live (place : LeasePlace) (k : LeaseKnown) (ms : List Submitted) (named : Type 0) (r : ResourceArg) : Command → LeaseNext → Type 0 where
-  Goes_on_phase1 : (p : ℕ) (b : Block) → named → block_submitted ms ≡ Some b → Live place k ms named r (Acquire r false p) (ReadFor Phase1Read)
-  Goes_on_phase2 : (p : ℕ) (b : Block) → named → block_submitted ms ≡ Some b → Live place k ms named r (Acquire r false p) (ReadFor Phase2Read)
+  Goes_on_phase1 : (p : ℕ) (b : Block) → named → block_submitted ms ≡ Some b → Live place k ms named r (Acquire r false p false) (ReadFor Phase1Read)
+  Goes_on_phase2 : (p : ℕ) (b : Block) → named → block_submitted ms ≡ Some b → Live place k ms named r (Acquire r false p false) (ReadFor Phase2Read)
   Begins_phase1 : (p n : ℕ) (own : Block) → named → own_known k ≡ Some own → WhyBegins place k own n →
-      Live place k ms named r (Acquire r false p) (WriteBlock Phase1Write (phase1_block k.self place.layout.hosts n k.shared (mode_gen_of k) own (present k.read)))
+      Live place k ms named r (Acquire r false p false) (WriteBlock Phase1Write (phase1_block k.self place.layout.hosts n k.shared (mode_gen_of k) own (present k.read)))
   Begins_phase2 : (p : ℕ) (own : Block) (read : List (Option Block)) → named → k.own ≡ Some own → stop_of own read ≡ None → shared_elsewhere k read ≡ None →
-      Live place k ms named r (Acquire r false p) (WriteBlock Phase2Write (moded_block (phase2_block k.self own (ballot_blocks own read)) k.shared (mode_gen_of k)))
+      Live place k ms named r (Acquire r false p false) (WriteBlock Phase2Write (moded_block (phase2_block k.self own (ballot_blocks own read)) k.shared (mode_gen_of k)))
   Takes : (p : ℕ) (own : Block) (read : List (Option Block)) → named → k.own ≡ Some own → stop_of own read ≡ None → same_owner (value_of own) k.self ≡ true →
-      Live place k ms named r (Acquire r false p) (WriteLeader TakeLeader (leader_for place k true own.lver))
-  Grants : (p lver : ℕ) → named → Live place k ms named r (Acquire r false p) (GrantJob Exclusive lver)
+      Live place k ms named r (Acquire r false p false) (WriteLeader TakeLeader (leader_for place k true own.lver))
+  Grants : (p lver : ℕ) → named → IsTaken ms lver → Live place k ms named r (Acquire r false p false) (GrantJob Exclusive lver)
   Replies_late : (c : Command) (why : Reply) → is_lease_reply why ≡ true → Live place k ms named r c (AnswerJob why)
 
 -- What is true of the step at which the host is.
@@ -242,6 +252,8 @@ process_of c = unwrap_or (process_named c) 0
 -- What the host does once the work's call is answered, by what comes next for the lease.
 abbrev pub told_effects : Setting → Given → ResourceArg → ℕ → Doing → LeaseNext → Effects
 told_effects st g r number d Nothing = no_effects
+told_effects st g r number d (BecomeExclusive _ _) = no_effects
+told_effects st g r number d (BecomeShared _ _) = no_effects
 told_effects st g r number d (ReadFor step) = first_effects [] [] [] (blocks_read st r number d.job.number step ∷ [])
 told_effects st g r number d (WriteBlock step b) = first_effects [] [] [] (own_write st g r number d.job.number step b ∷ [])
 told_effects st g r number d (WriteLeader step l) = first_effects [] [] [] (leader_write r number d.job.number step l ∷ [])
@@ -256,6 +268,8 @@ goes_on_with g es d step c = Works (record d { step = step; call = new_call (len
 -- Where the host stands then.
 abbrev pub told_phase : Setting → Given → ResourceArg → ℕ → Trace → Doing → LeaseNext → Phase
 told_phase st g r number es d Nothing = Idle
+told_phase st g r number es d (BecomeExclusive _ _) = Idle
+told_phase st g r number es d (BecomeShared _ _) = Idle
 told_phase st g r number es d (ReadFor step) = goes_on_with g es d step (blocks_read st r number d.job.number step)
 told_phase st g r number es d (WriteBlock step b) = goes_on_with g es d step (own_write st g r number d.job.number step b)
 told_phase st g r number es d (WriteLeader step l) = goes_on_with g es d step (leader_write r number d.job.number step l)
@@ -265,6 +279,8 @@ told_phase st g r number es d (GrantJob mode lver) = Holds (process_of d.command
 -- The number of its next call then.
 abbrev pub told_number : ℕ → LeaseNext → ℕ
 told_number number Nothing = number
+told_number number (BecomeExclusive _ _) = number
+told_number number (BecomeShared _ _) = number
 told_number number (ReadFor step) = number + 1
 told_number number (WriteBlock step b) = number + 1
 told_number number (WriteLeader step l) = number + 1
@@ -294,7 +310,7 @@ begins st g es text call command step ends c =
 
 -- An acquire.
 abbrev pub acquire_line : Setting → Given → ResourceArg → ℕ → ℕ → Trace → List ℕ → ℕ → Phase → LineStep
-acquire_line st g r call job es text p Idle = begins st g es text call (Acquire r false p) (ReadArea r.name) [] (first_read st r call job)
+acquire_line st g r call job es text p Idle = begins st g es text call (Acquire r false p false) (ReadArea r.name) [] (first_read st r call job)
 acquire_line st g r call job es text p (Holds q lver) = answers call job (Holds q lver) (Busy q)
 acquire_line st g r call job es text p (Works d) = answers call job (Works d) (Pending d.call.call.number)
 

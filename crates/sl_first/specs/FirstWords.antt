@@ -23,4 +23,4 @@ first_form verb r make =
 
 -- The two forms.
 abbrev pub first_forms : ResourceArg → List (Form Command)
-first_forms r = first_form (codes "acquire") r (λ p. Acquire r false p) ∷ first_form (codes "release") r (λ p. Release r p) ∷ []
+first_forms r = first_form (codes "acquire") r (λ p. Acquire r false p false) ∷ first_form (codes "release") r (λ p. Release r p) ∷ []

@@ -23,7 +23,7 @@ pub record LinesAreAnswered : Type 0 where
       FirstStands st g r call job phase answered es → (text : List ℕ) (column : ℕ) → st.read text ≡ Err column →
       LineFirst st g r job answered es text (answers call job phase (Misread column))
   pub acquire : (st : Setting) (g : Given) (r : ResourceArg) → IsFirst st g r → (call job : ℕ) (phase : Phase) (answered : List Submitted) (es : Trace) →
-      FirstStands st g r call job phase answered es → (text : List ℕ) (p : ℕ) → p ≤ most_processes → st.read text ≡ Ok (Acquire r false p) →
+      FirstStands st g r call job phase answered es → (text : List ℕ) (p : ℕ) → p ≤ most_processes → st.read text ≡ Ok (Acquire r false p false) →
       LineFirst st g r job answered es text (acquire_line st g r call job es text p phase)
   pub release : (st : Setting) (g : Given) (r : ResourceArg) → IsFirst st g r → (call job : ℕ) (phase : Phase) (answered : List Submitted) (es : Trace) →
       FirstStands st g r call job phase answered es → (text : List ℕ) (p : ℕ) → p ≤ most_processes → st.read text ≡ Ok (Release r p) →

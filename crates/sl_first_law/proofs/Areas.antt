@@ -8,7 +8,7 @@ use Rattle.sl_first.proofs.Growth.{none_unanswered}
 use Rattle.sl_first.specs.FirstPath.{IsCalm, IsFirst, first_session, is_first_call}
 use Rattle.sl_first.specs.FirstSteps.{IsNamed}
 use Rattle.sl_first_law.specs.Keeping.{AtCall}
-use Rattle.sl_law.specs.LawfulArea.{HasVerified, is_block_work, is_leader_read, open_block_work}
+use Rattle.sl_law.specs.LawfulArea.{HasVerified, is_area_work, is_block_work, is_leader_read, open_block_work}
 use Rattle.sl_leases.specs.Leases.{is_leader_of, is_on, name_sought, spot_of, verified_by, verified_name}
 use Rattle.sl_sector.specs.declared.sector.Leader.{Leader}
 use Rattle.sl_sessions.specs.Sessions.{delta_written, is_active, leaving_job, open_calls_of, recovery_of}
@@ -42,7 +42,7 @@ pub nothing_open : (st : Setting) (g : Given) (r : ResourceArg) (t : Trace) → 
 nothing_open st g r t h = ap (λ ms. unanswered ms) (calls_first st g r t h.mine) ∙ none_unanswered (submitted t) h.answered
 
 pub alone_work : (st : Setting) (g : Given) (r : ResourceArg) (t : Trace) → AtCall st g r t → (at : Spot) → open_block_work st t (first_session g) at ≡ []
-alone_work st g r t h at = ap (λ ms. filter (λ c. is_block_work c && is_on st.layout at c.call) ms) (nothing_open st g r t h)
+alone_work st g r t h at = ap (λ ms. filter (λ c. is_area_work c.call.purpose && (is_block_work c && is_on st.layout at c.call)) ms) (nothing_open st g r t h)
 
 -- ---- the name was read
 

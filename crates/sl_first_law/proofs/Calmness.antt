@@ -4,7 +4,8 @@ use Rattle.sl_first.proofs.CalmRenewal.{leases_first, leaving_none, recovery_non
 use Rattle.sl_first.proofs.Decided.{calls_first}
 use Rattle.sl_first.proofs.Decisions.{same_text}
 use Rattle.sl_first.specs.FirstPath.{IsCalm, IsFirst, first_session, is_first_call}
-use Rattle.sl_law.specs.LawfulRecovery.{LawfulRecovery, MayPart, StopsSession, KillsAfter, is_leaving_write}
+use Rattle.sl_law.specs.LawfulParting.{LawfulParting, MayPart, is_leaving_write}
+use Rattle.sl_law.specs.LawfulRecovery.{IsSent, KillsAfter, LawfulRecovery, StopsSession}
 use Rattle.sl_law.specs.LawfulWatchdog.{CoveredBy, LawfulWatchdog, is_covered}
 use Rattle.sl_law.specs.Saying.{EachCall, EachSession}
 use Rattle.sl_leases.specs.Leases.{is_lease_call, lease_step}
@@ -13,12 +14,14 @@ use Rattle.sl_sessions.specs.declared.session.Begun.{Begun}
 use Rattle.sl_sessions.specs.declared.session.Renewing.{Renewing}
 use Rattle.sl_sessions.specs.declared.session.Session.{Session}
 use Rattle.sl_trace.specs.Connections.{after_move, connection_named, connections, given_connection, registers, unregisters}
-use Rattle.sl_trace.specs.Traces.{Job, Setting, Submitted, Trace, is_write, submitted}
+use Rattle.sl_trace.specs.Traces.{Job, Setting, Submitted, Trace, is_write, stands_for, submitted}
 use Rattle.sl_trace.specs.declared.command.ResourceArg.{ResourceArg}
 use Rattle.sl_trace.specs.declared.effects.Entry.{Entry}
 use Rattle.sl_trace.specs.declared.effects.Purpose.TheVariants.{RequestRead, RequestWrite, Joining, Lease, Leaving, Renewal, SeeRequest, Survey, ValueRead, ValueWrite}
 use Rattle.sl_trace.specs.declared.effects.Purpose.{Purpose}
+use Rattle.sl_trace.specs.declared.effects.Signal.TheVariants.{Term}
 use Rattle.sl_trace.specs.declared.input.Given.{Given}
+use Rattle.sl_trace.specs.declared.input.Input.TheVariants.{Spawned}
 use Rattle.sl_words.proofs.CaseLaws.{false_is_true, none_some}
 use Rattle.sl_words.proofs.WordLaws.{and_true}
 use Rattle.std.proofs.Common.{ap, arith, inl, inr, refl, subst, sym, ◌∙◌}
@@ -102,11 +105,22 @@ quiet_call st g r f t calm c h = absurd (false_is_true (sym (not_recovering st g
 pub few_call : (st : Setting) (g : Given) (r : ResourceArg) → IsFirst st g r → (t : Trace) → (c : Submitted) → IsTrue (is_leaving st t (first_session g)) → is_write c.call.op ≡ true → IsTrue (is_leaving_write c.call.purpose)
 few_call st g r f t c h w = absurd (false_is_true (sym (not_leaving st g r f t) ∙ h))
 
-pub keeps_recovery : (st : Setting) (g : Given) (r : ResourceArg) → IsFirst st g r → (past : Trace) (e : Entry) → IsCalm g (e ∷ past) → list_all (is_first_call st r) (submitted (e ∷ past)) ≡ true
+pub keeps_parting : (st : Setting) (g : Given) (r : ResourceArg) → IsFirst st g r → (past : Trace) (e : Entry) → IsCalm g (e ∷ past)
     → EachCall st (λ es s c. IsTrue (is_recovering st es s) → is_write c.call.op ≡ false) past e
     → EachCall st (λ es s c. IsTrue (is_leaving st es s) → is_write c.call.op ≡ true → IsTrue (is_leaving_write c.call.purpose)) past e
+    → LawfulParting st past e
+keeps_parting st g r f past e c quiet few =
+    record {
+      quiet = quiet;
+      few = few;
+      parts_well = each_first st g r f past (λ s. is_joined past s ≡ true → is_joined (e ∷ past) s ≡ false → MayPart st past e s)
+          (λ was is. absurd (false_is_true (sym is ∙ is_joined_first g (e ∷ past) c)));
+    }
+
+pub keeps_recovery : (st : Setting) (g : Given) (r : ResourceArg) → IsFirst st g r → (past : Trace) (e : Entry) → IsCalm g (e ∷ past) → list_all (is_first_call st r) (submitted (e ∷ past)) ≡ true
+    → ((k p : ℕ) → e.input ≡ Spawned k false → stands_for past k ≡ Some p → IsSent e p Term)
     → LawfulRecovery st past e
-keeps_recovery st g r f past e c mine quiet few =
+keeps_recovery st g r f past e c mine fails =
     record {
       recovers = each_first st g r f past (λ s. (b : Begun) → recovery_of st (e ∷ past) s ≡ Some b → b.at ≡ length past → StopsSession st past e s None)
           (λ b is at. absurd (none_some b (sym (recovery_none st g r f (e ∷ past) c) ∙ is)));
@@ -116,10 +130,7 @@ keeps_recovery st g r f past e c mine quiet few =
           (λ b is. absurd (none_some b (sym (recovery_none st g r f (e ∷ past) c) ∙ is)));
       leaving_kills = each_first st g r f past (λ s. (b : Begun) → leaving_of st (e ∷ past) s ≡ Some b → KillsAfter st (e ∷ past) s b.at b.reading)
           (λ b is. absurd (none_some b (sym (ap (λ (o : Option Job). option_map (λ j. record { at = j.at; reading = j.reading; kills_from = j.at + 1 }) o) (leaving_none st g r f (e ∷ past) (first_session g))) ∙ is)));
-      quiet = quiet;
-      few = few;
-      parts_well = each_first st g r f past (λ s. is_joined past s ≡ true → is_joined (e ∷ past) s ≡ false → MayPart st past e s)
-          (λ was is. absurd (false_is_true (sym is ∙ is_joined_first g (e ∷ past) c)));
+      fails = fails;
       parts = each_first st g r f past (λ s. is_joined past s ≡ true → MayPart st past e s → is_joined (e ∷ past) s ≡ false)
           (λ was may. absurd (not_parted st g r f past e c mine may));
     }

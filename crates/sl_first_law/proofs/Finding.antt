@@ -4,7 +4,7 @@ use Rattle.sl_first.specs.FirstPath.{Doing, IsFirst, first_effects, first_entry,
 use Rattle.sl_first.specs.FirstSteps.{FirstStands, Holds, Idle, Phase, ToldFirst, Works, blocks_read, first_aim, first_next, leader_write, own_write, told_effects, told_phase}
 use Rattle.sl_first_law.specs.Keeping.{AtCall}
 use Rattle.sl_law.specs.Saying.{cut_at}
-use Rattle.sl_leases.specs.declared.lease.LeaseNext.TheVariants.{AnswerJob, GrantJob, Nothing, ReadFor, WriteBlock, WriteLeader}
+use Rattle.sl_leases.specs.declared.lease.LeaseNext.TheVariants.{AnswerJob, BecomeExclusive, BecomeShared, GrantJob, Nothing, ReadFor, WriteBlock, WriteLeader}
 use Rattle.sl_leases.specs.declared.lease.LeaseNext.{LeaseNext}
 use Rattle.sl_trace.specs.Traces.{is_answer_for, Setting, Submitted, Trace, mark, submitted}
 use Rattle.sl_trace.specs.declared.command.ResourceArg.{ResourceArg}
@@ -13,7 +13,7 @@ use Rattle.sl_trace.specs.declared.effects.End.{End}
 use Rattle.sl_trace.specs.declared.effects.Grant.{Grant}
 use Rattle.sl_trace.specs.declared.effects.JobReply.{JobReply}
 use Rattle.sl_trace.specs.declared.input.Given.{Given}
-use Rattle.sl_trace.specs.declared.input.Input.TheVariants.{Answer as Told, Exit, Line, Spawned, Wake}
+use Rattle.sl_trace.specs.declared.input.Input.TheVariants.{Answer as Told, Exit, Line, Number, Spawned, Wake}
 use Rattle.sl_trace.specs.declared.input.Input.{Input}
 use Rattle.sl_trace.specs.declared.input.Answer.{Answer}
 use Rattle.sl_words.proofs.CaseLaws.{false_is_true}
@@ -28,6 +28,7 @@ marked_alike : (g : Given) (es : Trace) (i j : Input) (ends : List End) (grants 
 marked_alike g es i (Line text) ends grants replies cs ds ms = refl
 marked_alike g es i (Told n a) ends grants replies cs ds ms = refl
 marked_alike g es i (Exit p) ends grants replies cs ds ms = refl
+marked_alike g es i (Number p) ends grants replies cs ds ms = refl
 marked_alike g es i (Spawned p ok) ends grants replies cs ds ms = refl
 marked_alike g es i Wake ends grants replies cs ds ms = refl
 
@@ -65,6 +66,8 @@ at_told : (st : Setting) (g : Given) (r : ResourceArg) → IsFirst st g r → (c
     → AtCall st g r (cut_at 0 (first_entry g (Told d.call.call.number a) (told_effects st g r call d next)) ∷ es)
     × (submitted (cut_at 0 (first_entry g (Told d.call.call.number a) (told_effects st g r call d next)) ∷ es) ≡ heeded_call es g a d.call ∷ answered)
 at_told st g r f call job d answered es a Nothing t further is = absurd (false_is_true (ap (λ p. does_work p) is))
+at_told st g r f call job d answered es a (BecomeExclusive _ _) t further is = absurd (false_is_true (ap (λ p. does_work p) is))
+at_told st g r f call job d answered es a (BecomeShared _ _) t further is = absurd (false_is_true (ap (λ p. does_work p) is))
 at_told st g r f call job d answered es a (ReadFor step) t further is = (
   at_call st g r f (call + 1) job _ (heeded_call es g a d.call ∷ answered) es (Told d.call.call.number a) [] [] [] (blocks_read st r call d.job.number step) t.stands,
   calls_before st g r (call + 1) job _ (heeded_call es g a d.call ∷ answered) es (Told d.call.call.number a) [] [] [] (blocks_read st r call d.job.number step) t.stands,

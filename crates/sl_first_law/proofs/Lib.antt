@@ -6,6 +6,7 @@ pub mod Areas
 pub mod Keeps
 pub mod InstanceWays
 pub mod Finding
+pub mod Heard
 pub mod Cause
 pub mod Numbers
 pub mod Ballot

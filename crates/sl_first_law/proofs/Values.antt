@@ -5,7 +5,7 @@ use Rattle.sl_first_law.proofs.Calmness.{no_free_first, only}
 use Rattle.sl_first_law.proofs.Saying.{session_zero}
 use Rattle.sl_first_law.specs.Keeping.{OneCall, is_value_reply}
 use Rattle.sl_law.specs.LawfulCalls.{may_submit}
-use Rattle.sl_law.specs.LawfulValue.{LawfulValueRead, LawfulValueReply, LawfulValueWrite}
+use Rattle.sl_law.specs.LawfulValue.{LawfulSetReply, LawfulValueRead, LawfulValueReply, LawfulValueWrite}
 use Rattle.sl_leases.specs.Leases.{spot_of_call, value_written}
 use Rattle.sl_sector.specs.declared.sector.ValueRec.{ValueRec}
 use Rattle.sl_sessions.specs.Sessions.{calls_of, free_write, session_numbered, stage_of}
@@ -21,7 +21,7 @@ use Rattle.sl_trace.specs.declared.effects.LeaseStep.{LeaseStep}
 use Rattle.sl_trace.specs.declared.effects.Purpose.TheVariants.{ValueRead}
 use Rattle.sl_trace.specs.declared.effects.Purpose.{Purpose}
 use Rattle.sl_trace.specs.declared.input.Given.{Given}
-use Rattle.sl_trace.specs.declared.reply.Reply.TheVariants.{Value}
+use Rattle.sl_trace.specs.declared.reply.Reply.TheVariants.{Value, ValueSet}
 use Rattle.sl_trace.specs.declared.reply.Reply.{Reply}
 use Rattle.sl_words.proofs.CaseLaws.{false_is_true, none_some}
 use Rattle.std.proofs.Common.{ap, arith, refl, subst, sym, ◌∙◌}
@@ -47,6 +47,13 @@ value_read st r t s j step c one k is = absurd (false_is_true (ap (λ p. reads_v
 pub no_value_reply : (st : Setting) (past : Trace) (e : Entry) (job : ℕ) (why : Reply) → is_value_reply why ≡ false
     → (a : JobReply) (lver seq : ℕ) (bytes : List ℕ) → Contains (one_reply job why) a → a.reply ≡ Value lver seq bytes → LawfulValueReply st past e a.job lver seq bytes
 no_value_reply st past e job why plain a lver seq bytes there is =
+    let same : why ≡ a.reply = ap (λ (x : JobReply). x.reply) (only (record { job = job; reply = why }) a there) in
+    absurd (false_is_true (sym plain ∙ ap (λ x. is_value_reply x) (same ∙ is)))
+
+-- .. nor that one was set.
+pub no_set_reply : (past : Trace) (e : Entry) (job : ℕ) (why : Reply) → is_value_reply why ≡ false
+    → (a : JobReply) (lver seq : ℕ) → Contains (one_reply job why) a → a.reply ≡ ValueSet lver seq → LawfulSetReply past e a.job lver seq
+no_set_reply past e job why plain a lver seq there is =
     let same : why ≡ a.reply = ap (λ (x : JobReply). x.reply) (only (record { job = job; reply = why }) a there) in
     absurd (false_is_true (sym plain ∙ ap (λ x. is_value_reply x) (same ∙ is)))
 

@@ -10,7 +10,9 @@ use Rattle.sl_trace.specs.declared.effects.LeaseStep.{LeaseStep}
 use Rattle.sl_trace.specs.declared.effects.Purpose.TheVariants.{Lease}
 use Rattle.sl_trace.specs.declared.effects.Work.TheVariants.{ForJob}
 use Rattle.sl_trace.specs.declared.input.Given.{Given}
-use Rattle.sl_trace.specs.declared.reply.Reply.TheVariants.{Value}
+use Rattle.sl_trace.specs.declared.input.Input.TheVariants.{Answer as Told, Line}
+use Rattle.sl_trace.specs.declared.input.Input.{Input}
+use Rattle.sl_trace.specs.declared.reply.Reply.TheVariants.{Value, ValueSet}
 use Rattle.sl_trace.specs.declared.reply.Reply.{Reply}
 use Rattle.std.specs.List.{list_all}
 use Rattle.std.specs.Prelude.{Bool, List, None, Some, false, true, [], ℕ, ◌≡◌}
@@ -36,7 +38,14 @@ pub record PlacedCall (st : Setting) (g : Given) (r : ResourceArg) (ms : List Su
   pub named : (w : Rec) → record_of c.call.op ≡ Some w → IsNamed st g r ms
   pub reads : IsLeaseRead st (spot_of r) c step
 
--- Whether the reply tells a value.
+-- Whether the reply tells a value, or that one was set.
 abbrev pub is_value_reply : Reply → Bool
 is_value_reply (Value lver seq bytes) = true
+is_value_reply (ValueSet lver seq) = true
 is_value_reply r = false
+
+-- Whether it is a line of the host's, or an answer.
+abbrev pub is_heard : Input → Bool
+is_heard (Line text) = true
+is_heard (Told call a) = true
+is_heard i = false

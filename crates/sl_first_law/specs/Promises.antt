@@ -6,7 +6,7 @@ use Rattle.sl_first_law.specs.Keeping.{AtCall, OneCall}
 use Rattle.sl_law.specs.LawfulArea.{HasVerified, open_block_work}
 use Rattle.sl_law.specs.LawfulCalls.{may_submit}
 use Rattle.sl_law.specs.LawfulDelta.{LawfulDeltaCall, is_on_own_sector}
-use Rattle.sl_law.specs.LawfulRecovery.{is_leaving_write}
+use Rattle.sl_law.specs.LawfulParting.{is_leaving_write}
 use Rattle.sl_law.specs.LawfulValue.{LawfulValueRead, LawfulValueWrite}
 use Rattle.sl_law.specs.LawfulWatchdog.{LawfulWatchdog}
 use Rattle.sl_law.specs.Saying.{cut_at}

@@ -1,10 +1,9 @@
 //! Which laws a daemon of one session and one resource keeps, whatever comes.
 
-pub mod cause;
-pub mod numbers;
 pub mod ballot;
+pub mod cause;
 pub mod lawfully;
-
+pub mod numbers;
 
 ghost use Rattle.sl_first_law.specs.Promises.{AnswersFindTheirPlace, CallsFindTheirPlace, CallsKeepLaws, ConnectionsStand, NamesAreVerified};
 

@@ -1,7 +1,7 @@
 -- What an event of such a schedule changes before the daemon's step: calls and landings, and nothing else of a machine.
 use Rattle.sl_run.specs.Events.{add_landing, change_call, complete, fated, first_change, flight_at, land_whole, sampled_more, sectors_left, write_bytes}
 use Rattle.sl_run.specs.Worlds.{Course, Landed, Machine, World, change_machine, is_in_flight, is_write_course, machine_at}
-use Rattle.sl_run.specs.declared.event.Event.TheVariants.{AnswerCall, Crash, Do, DropWrite, ExitOf, GiveCommand, Land, Pass, Reset, Restart, Sample, SpawnedOf, StartDaemon, Tear, Test, WakeUp}
+use Rattle.sl_run.specs.declared.event.Event.TheVariants.{AnswerCall, Crash, Do, DropWrite, ExitOf, GiveCommand, Land, Pass, Reset, Restart, Sample, SpawnedOf, StartDaemon, Tear, Test, WakeUp, GiveAsk, GiveLvm}
 use Rattle.sl_run.specs.declared.event.Event.{Event}
 use Rattle.sl_words.proofs.CaseLaws.{false_is_true, none_some, some_value}
 use Rattle.sl_world.specs.FirstEvents.{is_first_event}
@@ -19,6 +19,8 @@ each_first P command sample land answer complete (AnswerCall m c true) first = a
 each_first P command sample land answer complete (AnswerCall m c false) first = absurd (false_is_true first)
 each_first P command sample land answer complete (Do m c) first = complete m c
 each_first P command sample land answer complete (Pass a b) first = absurd (false_is_true first)
+each_first P command sample land answer complete (GiveLvm m line) first = absurd (false_is_true first)
+each_first P command sample land answer complete (GiveAsk m) first = absurd (false_is_true first)
 each_first P command sample land answer complete (WakeUp m) first = absurd (false_is_true first)
 each_first P command sample land answer complete (Tear m c n b) first = absurd (false_is_true first)
 each_first P command sample land answer complete (DropWrite m c) first = absurd (false_is_true first)

@@ -6,8 +6,8 @@ use Rattle.sl_report.specs.ReadingLines.{event_in, header_line_in}
 use Rattle.sl_report.specs.Replay.{effects_of}
 use Rattle.sl_report.specs.Reports.{Counts, count_event, event_lines}
 use Rattle.sl_report.specs.ScheduleLines.{HeaderLine, header_of, refusal_line}
-use Rattle.sl_report.specs.Schedules.{At_end, At_line, Ending, EventLine, Follows, HeaderReading, Header_read, Header_refused, NumberedLine, default_area, default_sector, event_line, event_lines_of, event_or_syntax, header_line_refusal, is_begin, line_refusal, read_header, replay_from, with_line}
-use Rattle.sl_run.specs.Events.{happens, refusal_of}
+use Rattle.sl_report.specs.Schedules.{At_end, At_line, Ending, EventLine, Follows, HeaderReading, Header_read, Header_refused, NumberedLine, default_area, default_sector, event_line, event_lines_of, event_or_syntax, header_line_refusal, is_begin, line_refusal, read_header, replay_from, with_line, AsksPlayed, IsAskOf, many_asks, play_asks}
+use Rattle.sl_run.specs.Events.{happens, refusal_of, asking, may_happen}
 use Rattle.sl_run.specs.Runs.{Happening}
 use Rattle.sl_run.specs.Worlds.{World}
 use Rattle.sl_run.specs.declared.event.Event.{Event}
@@ -16,7 +16,7 @@ use Rattle.sl_run.specs.declared.header.Header.{Header}
 use Rattle.sl_words.specs.Words.{some_is}
 use Rattle.std.proofs.Common.{ap, inl, inr, refl, subst, sym, ◌∙◌}
 use Rattle.std.specs.List.{cons_option}
-use Rattle.std.specs.Prelude.{Bool, Err, List, None, Ok, Option, Some, false, true, [], ℕ, ◌++◌, ◌+◌, ◌∷◌, ◌≡◌}
+use Rattle.std.specs.Prelude.{Bool, Err, List, None, Ok, Option, Some, false, true, [], ℕ, ◌++◌, ◌+◌, ◌∷◌, ◌≡◌, IsTrue}
 
 -- ---- the header
 
@@ -46,7 +46,7 @@ header_alike lang ls l xs ys None false None false a b c d alike skipped more = 
 -- A header whose next line is this one.
 abbrev header_at : Language → List HeaderLine → NumberedLine → List NumberedLine → HeaderReading
 header_at lang ls l rest =
-    let read : Option HeaderLine = header_line_in lang default_area l.text in
+    let read : Option HeaderLine = header_line_in lang (header_of default_sector default_area ls).geometry.area l.text in
     header_by lang ls l rest (line_refusal l) (lang.skips l.text) (header_line_refusal lang ls read) (some_is is_begin read)
     (read_header lang ls (l.number + 1) rest) (read_header lang (with_line ls read) (l.number + 1) rest)
 
@@ -56,7 +56,7 @@ header_is lang ls next l rest = refl
 refused_is : (lang : Language) (ls : List HeaderLine) (next : ℕ) (l : NumberedLine) (rest : List NumberedLine) (r : Refusal) → line_refusal l ≡ Some r
     → read_header lang ls next (l ∷ rest) ≡ Header_refused l.number r
 refused_is lang ls next l rest r is =
-    let read : Option HeaderLine = header_line_in lang default_area l.text in
+    let read : Option HeaderLine = header_line_in lang (header_of default_sector default_area ls).geometry.area l.text in
     ap (λ o. header_by lang ls l rest o (lang.skips l.text) (header_line_refusal lang ls read) (some_is is_begin read)
     (read_header lang ls (l.number + 1) rest) (read_header lang (with_line ls read) (l.number + 1) rest)) is
 
@@ -72,7 +72,7 @@ headers_alike lang ls next [] ys h = absurd h
 headers_alike lang ls next (x ∷ xs) [] h = absurd h
 headers_alike lang ls next (x ∷ xs) (y ∷ ys) (inr s) = stop_alike lang ls next x y xs ys s
 headers_alike lang ls next (x ∷ xs) (y ∷ ys) (inl h) =
-    let read : Option HeaderLine = header_line_in lang default_area x.text in
+    let read : Option HeaderLine = header_line_in lang (header_of default_sector default_area ls).geometry.area x.text in
     subst (λ l. AlikeHeaders (read_header lang ls next (x ∷ xs)) (read_header lang ls next (l ∷ ys))) h.0
     (header_alike lang ls x xs ys (line_refusal x) (lang.skips x.text) (header_line_refusal lang ls read) (some_is is_begin read)
     (read_header lang ls (x.number + 1) xs) (read_header lang ls (x.number + 1) ys) (read_header lang (with_line ls read) (x.number + 1) xs)
@@ -111,19 +111,19 @@ events_alike lang h (x ∷ xs) (y ∷ ys) (inl a) =
 
 -- ---- what is made of them
 
-one_replayed : (lang : Language) (w : World) (k : Counts) (n : ℕ) (e : Event) (left right : List (List ℕ)) (o : Option Refusal) → left ≡ right
-    → elim o as (λ x. List (List ℕ)) [ Some r ↦ refusal_line n (lang.told r) ∷ [] | None ↦ event_lines w e (effects_of w e) ++ left ]
-    ≡ elim o as (λ x. List (List ℕ)) [ Some r ↦ refusal_line n (lang.told r) ∷ [] | None ↦ event_lines w e (effects_of w e) ++ right ]
-one_replayed lang w k n e left right None h = ap (λ ms. event_lines w e (effects_of w e) ++ ms) h
-one_replayed lang w k n e left right (Some r) h = refl
+one_replayed : (lang : Language) (n : ℕ) (front asks left right : List (List ℕ)) (o : Option Refusal) → left ≡ right
+    → elim o as (λ x. List (List ℕ)) [ Some r ↦ refusal_line n (lang.told r) ∷ [] | None ↦ front ++ asks ++ left ]
+    ≡ elim o as (λ x. List (List ℕ)) [ Some r ↦ refusal_line n (lang.told r) ∷ [] | None ↦ front ++ asks ++ right ]
+one_replayed lang n front asks left right None h = ap (λ ms. front ++ asks ++ ms) h
+one_replayed lang n front asks left right (Some r) h = refl
 
 line_replayed : (lang : Language) (w : World) (k : Counts) (a : EventLine) (left right : List EventLine)
     → ((v : World) (c : Counts) → replay_from lang v c left ≡ replay_from lang v c right) → replay_from lang w k (a ∷ left) ≡ replay_from lang w k (a ∷ right)
 line_replayed lang w k (n, Err r) left right rest = refl
 line_replayed lang w k (n, Ok e) left right rest =
-    let v : World = happens w e (effects_of w e) in
-    let c : Counts = count_event w e (effects_of w e) k in
-    one_replayed lang w k n e (replay_from lang v c left) (replay_from lang v c right) (refusal_of w e) (rest v c)
+    let p : AsksPlayed = play_asks many_asks (happens w e (effects_of w e)) (count_event w e (effects_of w e) k) in
+    one_replayed lang n (event_lines w e (effects_of w e)) p.lines (replay_from lang p.world p.counts left) (replay_from lang p.world p.counts right) (refusal_of w e)
+    (rest p.world p.counts)
 
 pub replayed_alike : (lang : Language) (w : World) (k : Counts) (left right : List EventLine) → AlikeEvents left right
     → replay_from lang w k left ≡ replay_from lang w k right
@@ -158,14 +158,30 @@ stop_followed : (w : World) (n : ℕ) (r : Refusal) (left right : List EventLine
     → Follows w ((n, Err r) ∷ right) xs end
 stop_followed w n r left right [] At_end h = absurd h
 stop_followed w n r left right [] (At_line m s) h = h
-stop_followed w n r left right (x ∷ xs) end h = absurd h
+stop_followed w n r left right (x ∷ xs) end h = (h.0, stop_followed (happens w x.0 x.1) n r left right xs end h.1)
+
+-- What follows an event's line by whether an ask is due.
+abbrev NextFollows : World → ℕ → Event → List EventLine → Happening → List Happening → Ending → Option ℕ → Type 0
+NextFollows w n e ls x xs end o =
+    elim o [
+      | Some m ↦ IsAskOf w x × Follows (happens w x.0 x.1) ((n, Ok e) ∷ ls) xs end
+      | None ↦ (e ≡ x.0) × IsTrue (may_happen w e) × Follows (happens w x.0 x.1) ls xs end
+    ]
+
+next_followed : (w : World) (n : ℕ) (e : Event) (left right : List EventLine) (x : Happening) (xs : List Happening) (end : Ending) (o : Option ℕ)
+    → (Follows (happens w x.0 x.1) ((n, Ok e) ∷ left) xs end → Follows (happens w x.0 x.1) ((n, Ok e) ∷ right) xs end)
+    → (Follows (happens w x.0 x.1) left xs end → Follows (happens w x.0 x.1) right xs end)
+    → NextFollows w n e left x xs end o → NextFollows w n e right x xs end o
+next_followed w n e left right x xs end None same rest h = (h.0, h.1, rest h.2)
+next_followed w n e left right x xs end (Some m) same rest h = (h.0, same h.1)
 
 line_followed : (w : World) (a : EventLine) (left right : List EventLine) (xs : List Happening) (end : Ending)
     → ((v : World) (ys : List Happening) → Follows v left ys end → Follows v right ys end) → Follows w (a ∷ left) xs end → Follows w (a ∷ right) xs end
 line_followed w (n, Err r) left right xs end rest h = stop_followed w n r left right xs end h
 line_followed w (n, Ok e) left right [] At_end rest h = absurd h
 line_followed w (n, Ok e) left right [] (At_line m s) rest h = h
-line_followed w (n, Ok e) left right (x ∷ xs) end rest h = (h.0, h.1, rest (happens w x.0 x.1) xs h.2)
+line_followed w (n, Ok e) left right (x ∷ xs) end rest h =
+    next_followed w n e left right x xs end (asking w) (λ k. line_followed (happens w x.0 x.1) (n, Ok e) left right xs end rest k) (λ k. rest (happens w x.0 x.1) xs k) h
 
 -- What follows the one follows the other.
 pub followed_alike : (w : World) (left right : List EventLine) (xs : List Happening) (end : Ending) → AlikeEvents left right → Follows w left xs end → Follows w right xs end

@@ -4,7 +4,7 @@ use Rattle.sl_run.specs.Events.{after_effects, after_step, close_answered, first
 use Rattle.sl_run.specs.Worlds.{Daemon, Machine, Stamp, World, stamp_now}
 use Rattle.sl_run.specs.declared.event.Event.{Event}
 use Rattle.sl_trace.specs.declared.effects.Effects.{Effects}
-use Rattle.sl_trace.specs.declared.input.Input.TheVariants.{Answer as Told, Exit, Line, Spawned, Wake}
+use Rattle.sl_trace.specs.declared.input.Input.TheVariants.{Answer as Told, Exit, Line, Number, Spawned, Wake}
 use Rattle.sl_trace.specs.declared.input.Input.{Input}
 use Rattle.sl_world.specs.FirstEvents.{is_first_event}
 use Rattle.std.proofs.Common.{refl, ◌∙◌}
@@ -19,6 +19,7 @@ closed_keeps now (Line text) a = refl
 closed_keeps now (Told number answer) a = refl
 closed_keeps now Wake a = refl
 closed_keeps now (Exit p) a = refl
+closed_keeps now (Number p) a = refl
 closed_keeps now (Spawned p ok) a = refl
 
 -- A step ends none.

@@ -1,5 +1,6 @@
-pub mod Reported
 pub mod Changing
+pub mod Unasked
+pub mod Reported
 pub mod Ended
 pub mod Holding
 pub mod Spelled

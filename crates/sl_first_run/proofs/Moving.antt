@@ -19,7 +19,7 @@ use Rattle.sl_world.proofs.FirstWorld.{Quiet, answer_is_taken, command_taken, la
 use Rattle.sl_world.proofs.Passing.{is_found, is_on_first, land_passes, some_none}
 use Rattle.sl_world.proofs.Solo.{still_held}
 use Rattle.sl_world.specs.Changes.{after_complete, after_land, flight_landed, flight_sampled, kept_after, kept_complete, kept_landed, kept_sampled, told_done, told_ok}
-use Rattle.sl_world.specs.FirstEvents.{answer_refusal, at_flight, done_refusal, flight_left, flight_numbered, flight_writes, is_first_event, land_refusal, refusal_in, sample_refusal}
+use Rattle.sl_world.specs.FirstEvents.{answer_refusal, at_flight, done_refusal, flight_left, flight_numbered, flight_writes, is_first_event, land_refusal, refusal_in, sample_refusal, for_locks, refusal_with}
 use Rattle.sl_world.specs.Kept.{FlightState, IsDisk, KeptState}
 use Rattle.std.proofs.Common.{ap, refl, subst, sym, ◌∙◌}
 use Rattle.std.specs.Prelude.{Bool, None, Option, Some, false, nat_lt, true, ℕ, ◌≡◌}
@@ -124,10 +124,21 @@ moves_by P d w k x r e first =
     (λ m c h. quiet_moves P d w k x (Land m c) r refl (land_quiet (Is P) k x w m c r.stands h) (land_leaves k m c h r.disk r.spelled))
     (λ m c h. answer_moves P d w k x m c r h) (λ m c h. done_moves P d w k x m c r h) e first
 
+kept_passes : (acts : Bool) (o : Option Refusal) → refusal_with acts o ≡ None → o ≡ None
+kept_passes acts None h = refl
+kept_passes acts (Some r) h = absurd (some_none r h)
+
+-- What may happen is refused by nothing that is kept.
+passes_kept : (P : Setting → Trace → Type 0) (w : World) (k : KeptState) (x : Standing) (e : Event) → Runs P w k x → is_first_event e ≡ true → refusal_of w e ≡ None
+    → refusal_in k e ≡ None
+passes_kept P w k x e r first h =
+    kept_passes (for_locks x.setting e) (refusal_in k e)
+    (sym (refuses (Is P) k x w e r.stands first (for_locks x.setting e) (λ st es is. ap (λ s. for_locks s e) (sym is.setting))) ∙ h)
+
 -- An event that may happen.
 pub moves : (P : Setting → Trace → Type 0) (d : PureDaemon P) (w : World) (k : KeptState) (x : Standing) (e : Event) → Runs P w k x → is_first_event e ≡ true
     → refusal_of w e ≡ None → Moves P w k e
-moves P d w k x e r first h = moves_by P d w k x r e first (sym (refuses (Is P) k x w e r.stands first) ∙ h)
+moves P d w k x e r first h = moves_by P d w k x r e first (passes_kept P w k x e r first h)
 
 -- ---- its machine
 
@@ -146,4 +157,4 @@ one_by k e first =
 -- An event that may happen is on machine 1.
 pub on_one : (P : Setting → Trace → Type 0) (w : World) (k : KeptState) (x : Standing) (e : Event) → Runs P w k x → is_first_event e ≡ true
     → refusal_of w e ≡ None → machine_of e ≡ 1
-on_one P w k x e r first h = one_by k e first (sym (refuses (Is P) k x w e r.stands first) ∙ h)
+on_one P w k x e r first h = one_by k e first (passes_kept P w k x e r first h)

@@ -24,7 +24,7 @@ use Rattle.sl_run.specs.Events.{after_step, event_tests, first_change, happens, 
 use Rattle.sl_run.specs.Runs.{EachDaemon, Happening, IsRun, own_effects_of}
 use Rattle.sl_run.specs.Safety.{world_at}
 use Rattle.sl_run.specs.Worlds.{Daemon, Machine, Program, Stamp, World, change_machine, daemons_on, machine_at, reading_now, stamp_now, world_with}
-use Rattle.sl_run.specs.declared.event.Event.TheVariants.{AnswerCall, Crash, Do, DropWrite, ExitOf, GiveCommand, Land, Pass, Reset, Restart, Sample, SpawnedOf, StartDaemon, Tear, Test, WakeUp}
+use Rattle.sl_run.specs.declared.event.Event.TheVariants.{AnswerCall, Crash, Do, DropWrite, ExitOf, GiveCommand, Land, Pass, Reset, Restart, Sample, SpawnedOf, StartDaemon, Tear, Test, WakeUp, GiveAsk, GiveLvm}
 use Rattle.sl_run.specs.declared.event.Event.{Event}
 use Rattle.sl_run.specs.declared.header.Header.{Header}
 use Rattle.sl_run_law.proofs.Guards.{on_this, passes}
@@ -35,12 +35,16 @@ use Rattle.sl_trace.proofs.TraceFacts.{each_entry-front}
 use Rattle.sl_trace.specs.Traces.{Trace, no_effects}
 use Rattle.sl_trace.specs.declared.effects.Effects.{Effects}
 use Rattle.sl_trace.specs.declared.effects.Entry.{Entry}
-use Rattle.sl_trace.specs.declared.input.Input.TheVariants.{Answer as Told, Exit, Line, Spawned, Wake}
+use Rattle.sl_trace.specs.declared.input.Input.TheVariants.{Answer as Told, Exit, Line, Number, Spawned, Wake}
 use Rattle.sl_trace.specs.declared.input.Input.{Input}
 use Rattle.sl_words.proofs.CaseLaws.{none_some, some_value, true_is_false}
 use Rattle.sl_words.proofs.WordLaws.{choose_some}
 use Rattle.std.proofs.Common.{ap, refl, subst, sym, ◌∙◌}
 use Rattle.std.specs.Option.{option_map_or}
+use Rattle.sl_first_run.specs.Unasked.{ReadsFirst}
+use Rattle.sl_first_run.proofs.Unasked.{begins_unasked}
+use Rattle.sl_first_run.proofs.Reports.{lines_are_first}
+use Rattle.sl_first_run.specs.FirstLines.{are_first}
 use Rattle.std.specs.Prelude.{Contains, List, None, Option, Some, false, is_none, is_some, map, option_map, slice_get, slice_set, suc, true, zero, [], ℕ, ◌++◌, ◌-◌, ◌==◌, ◌∷◌, ◌≡◌}
 
 -- ---- the machine that takes a step
@@ -53,6 +57,8 @@ input_leaves : (e : Event) (w : World) (a : Machine) (i : Input) → input_at w 
 unfolding first_change
 input_leaves (WakeUp m) w a i h = refl
 input_leaves (GiveCommand m text) w a i h = refl
+input_leaves (GiveLvm m line) w a i h = refl
+input_leaves (GiveAsk m) w a i h = refl
 input_leaves (AnswerCall m c ok) w a i h = refl
 input_leaves (Do m c) w a i h = complete_keeps seen (λ k f b. refl) m c w
 input_leaves (ExitOf m p) w a i h = refl
@@ -78,6 +84,8 @@ somebody : (e : Event) (w : World) (a : Machine) (i : Input) → may_happen w e 
 unfolding event_tests
 somebody (WakeUp m) w a i may at h = is_running a.daemon (on_this w m _ a at (passes w (WakeUp m) may)).0
 somebody (GiveCommand m text) w a i may at h = is_running a.daemon (on_this w m _ a at (passes w (GiveCommand m text) may)).0
+somebody (GiveLvm m line) w a i may at h = is_running a.daemon (on_this w m _ a at (passes w (GiveLvm m line) may)).0
+somebody (GiveAsk m) w a i may at h = is_running a.daemon (on_this w m _ a at (passes w (GiveAsk m) may)).0
 somebody (AnswerCall m c ok) w a i may at h = is_running a.daemon (on_this w m _ a at (passes w (AnswerCall m c ok) may)).0
 somebody (Do m c) w a i may at h = is_running a.daemon (on_this w m _ a at (passes w (Do m c) may)).0
 somebody (ExitOf m p) w a i may at h = some_there a.daemon (choose_some (is_some a.daemon) (Exit p) i h).0
@@ -124,6 +132,7 @@ step_daemon now (Line text) fx a = refl
 step_daemon now (Told n answer) fx a = refl
 step_daemon now Wake fx a = refl
 step_daemon now (Exit p) fx a = refl
+step_daemon now (Number p) fx a = refl
 step_daemon now (Spawned p ok) fx a = refl
 
 -- A daemon with one entry more than another, made at this reading.
@@ -232,18 +241,19 @@ sound_does : (p : Program) (h : Header) (xs : List Happening) → SoundRun p h x
 sound_does p h xs sound = does_from p h [] xs sound.is_run sound.is_due
 
 -- It is the run that the schedule tells.
-sound_so : (lang : Language) (h : Header) (rest : List NumberedLine) (xs : List Happening) (end : Ending)
+sound_so : (lang : Language) → ReadsFirst lang → (h : Header) (rest : List NumberedLine) (xs : List Happening) (end : Ending)
     → Follows (world_with lang.program h) (event_lines_of lang h rest) xs end → SoundRun lang.program h xs
     → IsFollowed (world_with lang.program h) (event_lines_of lang h rest) xs end
-sound_so lang h rest xs end follows sound =
-    follows_so (world_with lang.program h) (event_lines_of lang h rest) xs end follows (sound_does lang.program h xs sound)
+sound_so lang first h rest xs end follows sound =
+    follows_so (world_with lang.program h) (event_lines_of lang h rest) xs end (begins_unasked lang.program h) (lines_are_first lang h first rest) follows
+    (sound_does lang.program h xs sound)
 
 -- ---- what is written of it
 
 pub runs_have_one_status : RunsHaveOneStatus
-runs_have_one_status lang source written status (In_header number why is text) = sym (ap (status_by lang) is)
-runs_have_one_status lang source written status (In_events h rest xs end is follows sound text ends) =
-    ends ∙ ap status_of (sym (sound_so lang h rest xs end follows sound).ends) ∙ sym (ap (status_by lang) is)
+runs_have_one_status lang first source written status (In_header number why is text) = sym (ap (status_by lang) is)
+runs_have_one_status lang first source written status (In_events h rest xs end is follows sound text ends) =
+    ends ∙ ap status_of (sym (sound_so lang first h rest xs end follows sound).ends) ∙ sym (ap (status_by lang) is)
 
 -- The report by what is read of the header.
 abbrev report_by : Language → HeaderReading → List (List ℕ)
@@ -253,23 +263,23 @@ report_by lang o =
       | Header_read h rest ↦ replay_from lang (world_with lang.program h) no_counts (event_lines_of lang h rest)
     ]
 
-followed_report : (lang : Language) (h : Header) (ls : List EventLine) (xs : List Happening) (end : Ending) → IsFollowed (world_with lang.program h) ls xs end
+followed_report : (lang : Language) (h : Header) (ls : List EventLine) (xs : List Happening) (end : Ending) → are_first ls ≡ true → IsFollowed (world_with lang.program h) ls xs end
     → replay_from lang (world_with lang.program h) no_counts ls ≡ report_of lang h xs end
-followed_report lang h ls xs end f =
+followed_report lang h ls xs end first f =
     let w : World = world_with lang.program h in
-    reported lang w no_counts ls ∙ ap (λ ys. run_lines w ys ++ last_lines lang (run_counts w no_counts ys) (followed_end w ls)) f.run
+    reported lang w no_counts ls (begins_unasked lang.program h) first ∙ ap (λ ys. run_lines w ys ++ last_lines lang (run_counts w no_counts ys) (followed_end w ls)) f.run
     ∙ ap (λ s. run_lines w xs ++ last_lines lang (run_counts w no_counts xs) s) f.ends
 
-sound_report : (lang : Language) (source written : List ℕ) (status : ℕ) → ReplayOf SoundRun lang source written status → written ≡ as_bytes (replay_lines lang source)
-sound_report lang source written status (In_header number why is text) = text ∙ ap as_bytes (sym (ap (report_by lang) is))
-sound_report lang source written status (In_events h rest xs end is follows sound text ends) =
+sound_report : (lang : Language) → ReadsFirst lang → (source written : List ℕ) (status : ℕ) → ReplayOf SoundRun lang source written status → written ≡ as_bytes (replay_lines lang source)
+sound_report lang first source written status (In_header number why is text) = text ∙ ap as_bytes (sym (ap (report_by lang) is))
+sound_report lang first source written status (In_events h rest xs end is follows sound text ends) =
     text
-    ∙ ap as_bytes (sym (followed_report lang h (event_lines_of lang h rest) xs end (sound_so lang h rest xs end follows sound)) ∙ sym (ap (report_by lang) is))
+    ∙ ap as_bytes (sym (followed_report lang h (event_lines_of lang h rest) xs end (lines_are_first lang h first rest) (sound_so lang first h rest xs end follows sound)) ∙ sym (ap (report_by lang) is))
 
-good_report : (lang : Language) → Headline GoodRun lang
-good_report lang source status written (In_header number why is text) = sound_report lang source written status (In_header number why is text)
-good_report lang source status written (In_events h rest xs end is follows good text ends) =
-    sound_report lang source written status (In_events h rest xs end is follows good.sound text ends)
+good_report : (lang : Language) → ReadsFirst lang → Headline GoodRun lang
+good_report lang first source status written (In_header number why is text) = sound_report lang first source written status (In_header number why is text)
+good_report lang first source status written (In_events h rest xs end is follows good text ends) =
+    sound_report lang first source written status (In_events h rest xs end is follows good.sound text ends)
 
 pub runs_have_one_report : RunsHaveOneReport
 runs_have_one_report = record { sound = sound_report; good = good_report }

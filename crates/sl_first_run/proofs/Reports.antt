@@ -22,6 +22,8 @@ use Rattle.sl_world.specs.Beginning.{IsFirstHeader, IsIdleHeader, first_setting,
 use Rattle.sl_world.specs.FirstEvents.{is_first_event}
 use Rattle.std.proofs.Common.{ap, inl, inr, refl, subst, sym}
 use Rattle.std.specs.List.{cons_option}
+use Rattle.sl_first_run.specs.Unasked.{ReadsFirst}
+use Rattle.sl_first_run.proofs.Unasked.{begins_unasked}
 use Rattle.std.specs.Prelude.{Bool, Err, List, None, Option, Some, false, true, [], ℕ, ◌∷◌, ◌≡◌, ◌⊎◌}
 
 -- ---- the events that are read
@@ -37,7 +39,7 @@ line_by n None true read ls each rest = rest
 line_by n None false None ls each rest = rest
 line_by n None false (Some e) ls each rest = rw (each e refl) rest
 
-pub lines_are_first : (lang : Language) (h : Header) → ((o : Option Event) (e : Event) → lang.event o ≡ Some e → is_first_event e ≡ true) → (ls : List NumberedLine)
+pub lines_are_first : (lang : Language) (h : Header) → ReadsFirst lang → (ls : List NumberedLine)
     → are_first (event_lines_of lang h ls) ≡ true
 lines_are_first lang h each [] = refl
 lines_are_first lang h each (l ∷ ls) =
@@ -67,10 +69,11 @@ sound_by P lang r source (Header_refused number why) is = In_header number why i
 sound_by P lang r source (Header_read h rest) is =
     let w : World = world_with lang.program h in
     let ls : List EventLine = event_lines_of lang h rest in
+    let first : are_first ls ≡ true = lines_are_first lang h r.events rest in
     let sound : SoundRun lang.program h (followed_run w ls) =
     subst (λ (p : Program). SoundRun p h (followed_run (world_with p h) ls)) (sym r.program)
-    (run_is_sound P lang r h ls (lines_are_first lang h r.events rest) (r.headers source h rest is)) in
-    In_events h rest (followed_run w ls) (followed_end w ls) is (follows w ls) sound (ap as_bytes (reported lang w no_counts ls)) refl
+    (run_is_sound P lang r h ls first (r.headers source h rest is)) in
+    In_events h rest (followed_run w ls) (followed_end w ls) is (follows w ls (begins_unasked lang.program h) first) sound (ap as_bytes (reported lang w no_counts ls (begins_unasked lang.program h) first)) refl
 
 pub first_reports_are_sound : (P : Setting → Trace → Type 0) → FirstReportsAreSound P
 first_reports_are_sound P lang r source = sound_by P lang r source (read_header lang [] 1 (numbered_lines source)) refl

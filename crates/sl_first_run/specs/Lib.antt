@@ -4,4 +4,5 @@ pub mod PureDaemons
 pub mod Readings
 pub mod Accepted
 pub mod Cuts
+pub mod Unasked
 pub mod Promises

@@ -16,14 +16,15 @@ use Rattle.sl_trace.specs.Traces.{Setting, Trace}
 use Rattle.sl_trace.specs.declared.command.Command.{Command}
 use Rattle.sl_world.specs.Beginning.{IsFirstHeader, IsIdleHeader, first_setting, program_of}
 use Rattle.std.specs.Int.{is_in_range}
+use Rattle.sl_first_run.specs.Unasked.{IsUnasked, ReadsFirst}
 use Rattle.std.specs.Prelude.{Bool, IsTrue, List, length, true, [], ℕ, ◌++◌, ◌<◌, ◌≡◌, ◌⊎◌}
 
--- What is followed is a run of the schedule's events up to its ending, and the plain program's lines are the report of it. Nothing is asked
--- of the daemons.
+-- What is followed is a run of the schedule's events up to its ending, and, where nothing is given to lvmlockd, the plain program's lines are
+-- the report of it. Nothing is asked of the daemons.
 pub record ReportsAreRuns : Type 0 where
-  pub follows : (w : World) (ls : List EventLine) → Follows w ls (followed w ls).0 (followed w ls).1
+  pub follows : (w : World) (ls : List EventLine) → IsUnasked w → are_first ls ≡ true → Follows w ls (followed w ls).0 (followed w ls).1
   pub is_run : (w : World) (ls : List EventLine) → IsRun w (followed w ls).0
-  pub reported : (lang : Language) (w : World) (k : Counts) (ls : List EventLine) →
+  pub reported : (lang : Language) (w : World) (k : Counts) (ls : List EventLine) → IsUnasked w → are_first ls ≡ true →
       replay_from lang w k ls ≡ run_lines w (followed w ls).0 ++ last_lines lang (run_counts w k (followed w ls).0) (followed w ls).1
 
 -- Where one daemon runs that keeps P, the run of a schedule whose events all belong to a clock that stands still is sound.
@@ -47,19 +48,19 @@ FirstReportsAreSound P =
 
 -- A schedule has status 0 where it is read and allowed to its end, and nowhere else.
 pub record AcceptedSchedulesEndWell : Type 0 where
-  pub well : (lang : Language) (source : List ℕ) → IsAccepted lang source → replay_status lang source ≡ 0
-  pub only : (lang : Language) (source : List ℕ) → replay_status lang source ≡ 0 → IsAccepted lang source
+  pub well : (lang : Language) → ReadsFirst lang → (source : List ℕ) → IsAccepted lang source → replay_status lang source ≡ 0
+  pub only : (lang : Language) → ReadsFirst lang → (source : List ℕ) → replay_status lang source ≡ 0 → IsAccepted lang source
 
 -- In a sound run each daemon does what is due, so whoever reports one gives the schedule's own status.
 abbrev pub RunsHaveOneStatus : Type 0
 RunsHaveOneStatus =
-    (lang : Language) (source written : List ℕ) (status : ℕ) → ReplayOf SoundRun lang source written status → status ≡ replay_status lang source
+    (lang : Language) → ReadsFirst lang → (source written : List ℕ) (status : ℕ) → ReplayOf SoundRun lang source written status → status ≡ replay_status lang source
 
 -- .. and writes the plain program's report: a source has one.
 pub record RunsHaveOneReport : Type 0 where
-  pub sound : (lang : Language) (source written : List ℕ) (status : ℕ) → ReplayOf SoundRun lang source written status →
+  pub sound : (lang : Language) → ReadsFirst lang → (source written : List ℕ) (status : ℕ) → ReplayOf SoundRun lang source written status →
       written ≡ as_bytes (replay_lines lang source)
-  pub good : (lang : Language) → Headline GoodRun lang
+  pub good : (lang : Language) → ReadsFirst lang → Headline GoodRun lang
 
 -- A source of which more is read than the limit has one report, and one status, whatever comes behind what is read.
 pub record CutsAreReported : Type 0 where

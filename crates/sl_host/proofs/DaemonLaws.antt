@@ -9,7 +9,7 @@ use Rattle.sl_host.specs.Hosts.{HostStands, HostState}
 use Rattle.sl_still_step.proofs.Apart.{open_apart}
 use Rattle.sl_trace.specs.Traces.{Setting, Trace}
 use Rattle.sl_trace.specs.declared.effects.Effects.{Effects}
-use Rattle.sl_trace.specs.declared.input.Input.TheVariants.{Answer as Told, Exit, Line, Spawned, Wake}
+use Rattle.sl_trace.specs.declared.input.Input.TheVariants.{Answer as Told, Exit, Line, Number, Spawned, Wake}
 use Rattle.sl_trace.specs.declared.input.Input.{Input}
 use Rattle.sl_words.proofs.CaseLaws.{false_is_true}
 use Rattle.sl_world.specs.Daemons.{IsCalmInput, IsSmall, entry_of}
@@ -30,6 +30,7 @@ takes_calm h st es now (Line text) k calm = refl
 takes_calm h st es now (Told call a) k calm = awaited_is_expected h st es k call a ∙ calm.expected
 takes_calm h st es now Wake k calm = absurd (false_is_true calm.calm)
 takes_calm h st es now (Exit process) k calm = absurd (false_is_true calm.calm)
+takes_calm h st es now (Number process) k calm = absurd (false_is_true calm.calm)
 takes_calm h st es now (Spawned process ok) k calm = absurd (false_is_true calm.calm)
 
 -- A step of the host is one of a daemon.

@@ -157,7 +157,7 @@ no_given h st es k r none = ap (find (is_named r.lockspace)) k.setting.given ∙
 -- What an acquire of the session's resource comes to.
 pub acquire_named : (h : HostState) (st : Setting) (es : Trace) → HostStands h st es → (r : ResourceArg) → IsResourceArg (layout_of h.sizes) r → (p n : ℕ) (g : Given) → slice_get h.given n ≡ Some g
     → g.lockspace ≡ r.lockspace
-    → decided st (before_next h.reading es) h.reading (Acquire r false p) ≡ comes (λ (place : Place). Reads_area (lease_session (lease_at n g r)) r) (acquire_lease h.leases r p n)
+    → decided st (before_next h.reading es) h.reading (Acquire r false p false) ≡ comes (λ (place : Place). Reads_area (lease_session (lease_at n g r)) r) (acquire_lease h.leases r p n)
 acquire_named h st es k r named p n g there space =
     let l = lease_at n g r in
     let is : IsLease st l = lease_there h st es k r named n g there in
@@ -171,7 +171,7 @@ acquire_named h st es k r named p n g there space =
 
 acquire_refused_by : (h : HostState) (st : Setting) (es : Trace) → HostStands h st es → (r : ResourceArg) → IsResourceArg (layout_of h.sizes) r → (p : ℕ) (why : Refusal) → (o : Option ℕ)
     → position (is_named r.lockspace) h.given ≡ o → (else_refuse o Unjoined >>= acquire_lease h.leases r p) ≡ Err why
-    → decided st (before_next h.reading es) h.reading (Acquire r false p) ≡ Replies (reply_of why)
+    → decided st (before_next h.reading es) h.reading (Acquire r false p false) ≡ Replies (reply_of why)
 acquire_refused_by h st es k r named p why None found is =
     acquires_are_decided.unnamed st h.reading k.setting.still k.table es k.stands r p (resource_of h st es k r named) (no_given h st es k r found)
     ∙ ap (comes {A = Place} (λ place. Replies (reply_of why))) is
@@ -182,12 +182,12 @@ acquire_refused_by h st es k r named p why (Some n) found is =
 
 -- An acquire that the table refuses is refused so.
 pub acquire_refused : (h : HostState) (st : Setting) (es : Trace) → HostStands h st es → (r : ResourceArg) → IsResourceArg (layout_of h.sizes) r → (p : ℕ) (why : Refusal)
-    → acquire_place h.given h.leases r p ≡ Err why → decided st (before_next h.reading es) h.reading (Acquire r false p) ≡ Replies (reply_of why)
+    → acquire_place h.given h.leases r p ≡ Err why → decided st (before_next h.reading es) h.reading (Acquire r false p false) ≡ Replies (reply_of why)
 acquire_refused h st es k r named p why is = acquire_refused_by h st es k r named p why (position (is_named r.lockspace) h.given) refl is
 
 acquire_begins_by : (h : HostState) (st : Setting) (es : Trace) → HostStands h st es → (r : ResourceArg) → IsResourceArg (layout_of h.sizes) r → (p : ℕ) (place : Place) (g : Given)
     → slice_get h.given place.session ≡ Some g → (o : Option ℕ) → position (is_named r.lockspace) h.given ≡ o → (else_refuse o Unjoined >>= acquire_lease h.leases r p) ≡ Ok place
-    → decided st (before_next h.reading es) h.reading (Acquire r false p) ≡ Reads_area (lease_session (lease_at place.session g r)) r
+    → decided st (before_next h.reading es) h.reading (Acquire r false p false) ≡ Reads_area (lease_session (lease_at place.session g r)) r
 acquire_begins_by h st es k r named p place g there None found is = absurd (err_ok is) where
   err_ok : {A : Type 0} {why : Refusal} {a : A} → Err why ≡ Ok a → ⊥
   err_ok e = cc
@@ -204,7 +204,7 @@ acquire_begins_by h st es k r named p place g there (Some n) found is =
 -- An acquire that begins by the table is to begin.
 pub acquire_begins : (h : HostState) (st : Setting) (es : Trace) → HostStands h st es → (r : ResourceArg) → IsResourceArg (layout_of h.sizes) r → (p : ℕ) (place : Place) (g : Given)
     → slice_get h.given place.session ≡ Some g → acquire_place h.given h.leases r p ≡ Ok place
-    → decided st (before_next h.reading es) h.reading (Acquire r false p) ≡ Reads_area (lease_session (lease_at place.session g r)) r
+    → decided st (before_next h.reading es) h.reading (Acquire r false p false) ≡ Reads_area (lease_session (lease_at place.session g r)) r
 acquire_begins h st es k r named p place g there is =
     acquire_begins_by h st es k r named p place g there (position (is_named r.lockspace) h.given) refl is
 

@@ -131,7 +131,7 @@ again_of P z gs hs after r lease of a moved = let m = moved a.item a.there in mo
 pub again_made : (h inside : HostState) (hs : List LeaseHostState) (calls : ℕ) (r : ResourceArg) (p : ℕ) (place : Place) (lease : ℕ) (fx : Effects) → inside ≡ h → calls ≡ length fx.calls
     → IsAgain inside.sizes inside.leases r lease → IsResourceArg (layout_of h.sizes) r → acquire_place h.given h.leases r p ≡ Ok place → place.lease ≡ Some lease
     → ((x : LeaseHostState) → slice_get inside.leases lease ≡ Some x → (y : LeaseHostState) × MovedAt inside.leases hs lease x y × Begins x y r p inside.next_call inside.next_job fx)
-    → (st : Setting) (es : Trace) (text : List ℕ) → HostStands h st es → st.read text ≡ Ok (Acquire r false p)
+    → (st : Setting) (es : Trace) (text : List ℕ) → HostStands h st es → st.read text ≡ Ok (Acquire r false p false)
     → Steps h (record inside { next_call = inside.next_call + calls; next_job = inside.next_job + 1; leases = hs }) st es (Line text) fx
 again_made h inside hs calls r p place lease fx view number a named placed at moved st es text k says =
     subst (λ (v : HostState). Steps v (record inside { next_call = inside.next_call + calls; next_job = inside.next_job + 1; leases = hs }) st es (Line text) fx) view
@@ -182,7 +182,7 @@ pub first_made : (h inside : HostState) (hs : List LeaseHostState) (calls : ℕ)
     → ((g : Given) → slice_get inside.given place.session ≡ Some g → x ≡ first_state inside.sizes place.session g r)
     → ((st : Setting) (y : LeaseState) → st.layout ≡ layout_of inside.sizes → IsFresh y → KeepsLease x st y)
     → (y : LeaseHostState) × MovedFirst inside.leases hs x y × Begins x y r p inside.next_call inside.next_job fx
-    → (st : Setting) (es : Trace) (text : List ℕ) → HostStands h st es → st.read text ≡ Ok (Acquire r false p)
+    → (st : Setting) (es : Trace) (text : List ℕ) → HostStands h st es → st.read text ≡ Ok (Acquire r false p false)
     → Steps h (record inside { next_call = inside.next_call + calls; next_job = inside.next_job + 1; leases = hs }) st es (Line text) fx
 first_made h inside hs calls r p place x fx view number named placed at state keeps moved st es text k says =
     subst (λ (v : HostState). Steps v (record inside { next_call = inside.next_call + calls; next_job = inside.next_job + 1; leases = hs }) st es (Line text) fx) view

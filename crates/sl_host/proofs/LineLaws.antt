@@ -4,7 +4,7 @@ use Rattle.sl_command.specs.Verbs.{answered}
 use Rattle.sl_due.specs.declared.decision.Decision.TheVariants.{GivesUp as Gives_up, ReadsArea as Reads_area}
 use Rattle.sl_first.specs.FirstPath.{first_effects, one_reply}
 use Rattle.sl_first.specs.FirstSteps.{Holds as Held_by}
-use Rattle.sl_lease_command.specs.LeaseWords.{as_command, lease_forms}
+use Rattle.sl_lease_command.specs.LeaseWords.{as_command, lease_forms, command_of, lease_process}
 use Rattle.sl_lease_command.specs.declared.command.LeaseCommand.{LeaseCommand}
 use Rattle.sl_lease_host.specs.LeaseHosts.{KeepsLease, LeaseHostState, lease_of}
 use Rattle.sl_leases.specs.Leases.{spot_of}
@@ -17,7 +17,7 @@ use Rattle.sl_host.proofs.Decided.{acquire_begins, acquire_refused, held_as, hel
 use Rattle.sl_host.proofs.Lookups.{held_found, lease_at, place_found, place_none, placed_by, released_by}
 use Rattle.sl_host.proofs.Refusing.{acquire_line, release_line}
 use Rattle.sl_host.proofs.Stepping.{after_move, after_refusal, first_steps, keeps_at, moved_steps, refused_steps}
-use Rattle.sl_host.specs.Deciding.{acquire_place, release_place}
+use Rattle.sl_host.specs.Deciding.{acquire_place, release_place, acts_in}
 use Rattle.sl_host.specs.Hosts.{HostStands, HostState, Steps}
 use Rattle.sl_host.specs.Moves.{Begins, GivesBack, MovedAt, MovedFirst}
 use Rattle.sl_host.specs.Refusals.{reply_of}
@@ -37,7 +37,10 @@ use Rattle.sl_trace.specs.declared.input.Given.{Given}
 use Rattle.sl_trace.specs.declared.input.Input.TheVariants.{Line}
 use Rattle.sl_words.proofs.CaseLaws.{one_value}
 use Rattle.std.proofs.Common.{ap, refl, subst, sym, ◌∙◌}
-use Rattle.std.specs.Prelude.{Err, IfOk, List, None, Ok, OnOk, Result, Some, false, slice_get, [], ℕ, ◌≡◌}
+use Rattle.sl_lease_command.specs.declared.command.LeaseCommand.TheVariants.{Acquire as Acquires, Release as Releases}
+use Rattle.sl_lvm.specs.Lvm.{lock_process}
+use Rattle.sl_run.specs.Events.{is_for_locks}
+use Rattle.std.specs.Prelude.{Err, IfOk, List, None, Ok, OnOk, Result, Some, false, slice_get, [], ℕ, ◌≡◌, Bool}
 
 -- ---- a line that is refused
 
@@ -51,10 +54,10 @@ refused_ok h after c why (Err e) effects state refused = tt
 
 pub acquire_refused_ok : {E : Type 0} (h after : HostState) (q : ResourceArg) (p : ℕ) (why : Refusal) (r : Result Effects E) → IsResourceArg (layout_of h.sizes) q
     → acquire_place h.given h.leases q p ≡ Err why → IfOk r (λ fx. fx ≡ first_effects [] [] (one_reply h.next_job (reply_of why)) []) → OnOk r (after ≡ after_refusal h)
-    → IfOk r (λ fx. (st : Setting) (es : Trace) (text : List ℕ) → HostStands h st es → st.read text ≡ Ok (Acquire q false p) → Steps h after st es (Line text) fx)
+    → IfOk r (λ fx. (st : Setting) (es : Trace) (text : List ℕ) → HostStands h st es → st.read text ≡ Ok (Acquire q false p false) → Steps h after st es (Line text) fx)
 acquire_refused_ok h after q p why r named is effects state =
-    refused_ok h after (Acquire q false p) why r effects state
-    (λ st es text k says. Is_refused (Acquire q false p) (reply_of why) says (acquire_refused h st es k q named p why is) (acquire_line h.given h.leases q p why is))
+    refused_ok h after (Acquire q false p false) why r effects state
+    (λ st es text k says. Is_refused (Acquire q false p false) (reply_of why) says (acquire_refused h st es k q named p why is) (acquire_line h.given h.leases q p why is))
 
 pub release_refused_ok : {E : Type 0} (h after : HostState) (q : ResourceArg) (p : ℕ) (why : Refusal) (r : Result Effects E) → IsResourceArg (layout_of h.sizes) q
     → release_place h.given h.leases q p ≡ Err why → IfOk r (λ fx. fx ≡ first_effects [] [] (one_reply h.next_job (reply_of why)) []) → OnOk r (after ≡ after_refusal h)
@@ -69,7 +72,7 @@ release_refused_ok h after q p why r named is effects state =
 pub begins_again : (h : HostState) (after : List LeaseHostState) (q : ResourceArg) (p : ℕ) (place : Place) (lease : ℕ) (x : LeaseHostState) (fx : Effects) → IsResourceArg (layout_of h.sizes) q
     → acquire_place h.given h.leases q p ≡ Ok place → place.lease ≡ Some lease → slice_get h.leases lease ≡ Some x
     → (z : LeaseHostState) × MovedAt h.leases after lease x z × Begins x z q p h.next_call h.next_job fx
-    → (st : Setting) (es : Trace) (text : List ℕ) → HostStands h st es → st.read text ≡ Ok (Acquire q false p) → Steps h (after_move h after fx 1) st es (Line text) fx
+    → (st : Setting) (es : Trace) (text : List ℕ) → HostStands h st es → st.read text ≡ Ok (Acquire q false p false) → Steps h (after_move h after fx 1) st es (Line text) fx
 begins_again h after q p place lease x fx named placed at there moved st es text k says =
     let b = placed_by h.given h.leases q p place placed in
     let g = b.session.given in
@@ -92,7 +95,7 @@ pub begins_first : (h : HostState) (after : List LeaseHostState) (q : ResourceAr
     → ((g : Given) → slice_get h.given place.session ≡ Some g → (lease_of x ≡ lease_at place.session g q)
     × ((st : Setting) (y : LeaseState) → st.layout ≡ layout_of h.sizes → IsFresh y → KeepsLease x st y))
     → (z : LeaseHostState) × MovedFirst h.leases after x z × Begins x z q p h.next_call h.next_job fx
-    → (st : Setting) (es : Trace) (text : List ℕ) → HostStands h st es → st.read text ≡ Ok (Acquire q false p) → Steps h (after_move h after fx 1) st es (Line text) fx
+    → (st : Setting) (es : Trace) (text : List ℕ) → HostStands h st es → st.read text ≡ Ok (Acquire q false p false) → Steps h (after_move h after fx 1) st es (Line text) fx
 begins_first h after q p place x fx named placed at first moved st es text k says =
     let b = placed_by h.given h.leases q p place placed in
     let g = b.session.given in
@@ -176,3 +179,17 @@ unread_ok h after text read column (Ok fx) exact is effects state = λ st es k.
     (subst (λ a. Steps h a st es (Line text) (first_effects [] [] (one_reply h.next_job (reply_of (Unread column))) [])) (sym state)
     (refused_steps h st es k text (Unread column) (Says_nothing column fails)))
 unread_ok h after text read column (Err e) exact is effects state = tt
+
+-- ---- whether it is for lvmlockd
+
+lease_acts : (c : LeaseCommand) → (lease_process c == lock_process) ≡ is_for_locks (Ok (command_of c))
+lease_acts (Acquires r p) = refl
+lease_acts (Releases r p) = refl
+
+acts_by : (read : Result LeaseCommand BadCommand) (q : Result Command ℕ) → as_command read ≡ answered q → acts_in read ≡ is_for_locks q
+acts_by (Ok c) q e = lease_acts c ∙ ap is_for_locks (sym (said (Ok (command_of c)) q (command_of c) e refl))
+acts_by (Err b) q e = ap is_for_locks (sym (unsaid (Err b) q b.column e refl))
+
+pub acts_is : (h : HostState) (text : List ℕ) (read : Result LeaseCommand BadCommand) (acts : Bool) → as_command read ≡ answered (command_in (lease_forms (layout_of h.sizes)) text)
+    → acts ≡ acts_in read → (st : Setting) (es : Trace) → HostStands h st es → acts ≡ is_for_locks (st.read text)
+acts_is h text read acts exact is st es k = is ∙ acts_by read (command_in (lease_forms (layout_of h.sizes)) text) exact ∙ ap is_for_locks (sym (k.setting.reads text))

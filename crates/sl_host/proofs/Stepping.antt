@@ -48,7 +48,7 @@ calls_next st es e =
 
 -- An answer is no job.
 pub told_next : (st : Setting) (now : ℕ) (es : Trace) (call : ℕ) (a : Answer) (fx : Effects) → next_job st (still_entry now (Told call a) fx ∷ es) ≡ next_job st es
-told_next st now es call a fx = ap (λ (js : List Job). st.first.job + length js) (append-nil (jobs st es))
+told_next st now es call a fx = refl
 
 -- ---- a line that is answered at once
 

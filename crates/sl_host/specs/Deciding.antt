@@ -11,7 +11,10 @@ use Rattle.sl_trace.specs.declared.command.ResourceArg.{ResourceArg}
 use Rattle.sl_trace.specs.declared.input.Given.{Given}
 use Rattle.sl_trace.specs.declared.reply.Limited.TheVariants.{Holders, Resources}
 use Rattle.sl_words.specs.Results.{◌>>=◌}
-use Rattle.std.specs.Prelude.{Bool, List, Ok, Result, bytes_eq, is_none, length, nat_le, nat_lt, position, ℕ, ◌&&◌}
+use Rattle.sl_lease_command.specs.LeaseWords.{lease_process}
+use Rattle.sl_lease_command.specs.declared.command.LeaseCommand.{LeaseCommand}
+use Rattle.sl_lvm.specs.Lvm.{lock_process}
+use Rattle.std.specs.Prelude.{Bool, List, Ok, Result, bytes_eq, is_none, length, nat_le, nat_lt, position, ℕ, ◌&&◌, false}
 
 -- The session of this lockspace.
 abbrev pub session_in : List Given → List ℕ → Result ℕ Refusal
@@ -43,3 +46,8 @@ release_lease hs r process session = may_hold process >>= λ _. else_refuse (hel
 -- The lease that a release gives back.
 abbrev pub release_place : List Given → List LeaseHostState → ResourceArg → ℕ → Result ℕ Refusal
 release_place gs hs r process = session_in gs r.lockspace >>= λ session. release_lease hs r process session
+
+-- Whether what a text says is for the process by which lvmlockd holds, which acts by lines alone.
+abbrev pub acts_in : {E : Type 0} → Result LeaseCommand E → Bool
+acts_in (Ok c) = lease_process c == lock_process
+acts_in (Err e) = false

@@ -6,7 +6,7 @@ use Rattle.sl_host.specs.Hosts.{HostStands, HostState}
 use Rattle.sl_host.specs.Tables.{awaiting_place}
 use Rattle.sl_trace.specs.Traces.{Setting, Trace}
 use Rattle.sl_trace.specs.declared.effects.Effects.{Effects}
-use Rattle.sl_trace.specs.declared.input.Input.TheVariants.{Answer as Told, Exit, Line, Spawned, Wake}
+use Rattle.sl_trace.specs.declared.input.Input.TheVariants.{Answer as Told, Exit, Line, Number, Spawned, Wake}
 use Rattle.sl_trace.specs.declared.input.Input.{Input}
 use Rattle.sl_world.specs.Daemons.{IsSmallStep}
 use Rattle.std.specs.Prelude.{Bool, false, is_some, true, ℕ, ◌∷◌, ◌≡◌}
@@ -17,6 +17,7 @@ expects h (Line text) = true
 expects h (Told call a) = is_some (awaiting_place call a h.leases)
 expects h Wake = false
 expects h (Exit process) = false
+expects h (Number process) = false
 expects h (Spawned process ok) = false
 
 -- The effects are due at this reading, and few, and the host then stands for the trace with this entry.

@@ -9,6 +9,10 @@ use std::alloc::AllocError;
 impl Daemon for Host {
     ghost stands = { λ h st es. HostStands h st es };
 
+    fn acts_for_locks(&self, text: &[u8]) -> bool {
+        Host::acts_for_locks(self, text)
+    }
+
     /// What the host does when this comes to it. An `Err` is want of memory, or of numbers: 2^63 calls or lines have been numbered. It
     /// changes nothing.
     fn step(&mut self, now: u64, input: Input) -> Result<Effects, AllocError> {

@@ -21,4 +21,3 @@ mod refusal;
 mod step;
 
 pub use host::Host;
-

@@ -3,10 +3,11 @@
 //! What is decided is done only once there is memory for it, so where memory is wanted the host is as it was.
 ghost use Rattle.sl_area.specs.Layouts.{layout_of};
 ghost use Rattle.sl_first.specs.FirstPath.{first_effects, one_reply};
-ghost use Rattle.sl_host.specs.Deciding.{acquire_place, release_place};
+ghost use Rattle.sl_host.specs.Deciding.{acquire_place, acts_in, release_place};
 ghost use Rattle.sl_host.specs.Hosts.{HostStands, IsSameSite, Steps};
 ghost use Rattle.sl_lease_host.specs.LeaseHosts.{KeepsLease};
 ghost use Rattle.sl_lease_host.specs.Sites.{IsSite};
+ghost use Rattle.sl_run.specs.Events.{is_for_locks};
 ghost use Rattle.sl_still.specs.StillLeases.{LeaseState};
 ghost use Rattle.sl_host.specs.Firsts.{first_state, site_at};
 ghost use Rattle.sl_host.specs.Refusals.{reply_of};
@@ -45,7 +46,38 @@ fn first_lease(
     LeaseHost::new(alloc, geometry, place.session as u64, *session, *resource)
 }
 
+/// The process by which lvmlockd holds.
+const LOCK_PROCESS: u32 = 1_000_000;
+
+/// Whether what a text says is for that process.
+fn acts(read: Result<LeaseCommand, BadCommand>) -> bool
+    ensures exact { result ≡ acts_in read }
+{
+    match read {
+        Ok(
+            LeaseCommand::Acquire {
+                resource: _,
+                process,
+            },
+        ) => process == LOCK_PROCESS,
+        Ok(
+            LeaseCommand::Release {
+                resource: _,
+                process,
+            },
+        ) => process == LOCK_PROCESS,
+        Err(_) => false,
+    }
+}
+
 impl Host {
+    /// Whether the text is a command for the process by which lvmlockd holds.
+    pub(crate) fn acts_for_locks(&self, text: &[u8]) -> bool
+        ensures exact { (st : Setting) (es : Trace) → HostStands self.now st es → result ≡ is_for_locks (st.read text.now) }
+    {
+        acts(read_lease_command(self.geometry, text))
+    }
+
     /// The line is answered at once. An `Err` is want of memory, and changes nothing.
     fn refuses(&mut self, why: Refusal) -> Result<Effects, AllocError>
         requires { self.old.next_job < 2 ^ 63 }

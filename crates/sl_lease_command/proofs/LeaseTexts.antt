@@ -48,11 +48,11 @@ release_fits : (q s : List ℕ → Bool) (c e : List ℕ) → q c ≡ true → s
 release_fits q s c e h k = rw (h, k) refl
 
 acquire_made : (g : Layout) (c e : List ℕ) → is_resource_word g c ≡ true → is_process_word e ≡ true
-    → made_by (lease_forms g) (codes "acquire" ∷ codes "-r" ∷ c ∷ codes "-p" ∷ e ∷ []) ≡ Some (Acquire (resource_of_word c) false (number_of e))
+    → made_by (lease_forms g) (codes "acquire" ∷ codes "-r" ∷ c ∷ codes "-p" ∷ e ∷ []) ≡ Some (Acquire (resource_of_word c) false (number_of e) false)
 acquire_made g c e h k =
     let ws : List (List ℕ) = codes "acquire" ∷ codes "-r" ∷ c ∷ codes "-p" ∷ e ∷ [] in
     ap (λ fs. made_by fs ws) (forms_are g)
-    ∙ first_makes (lease_form g (codes "acquire") (λ r p. Acquire r false p)) (lease_form g (codes "release") (λ r p. Release r p) ∷ []) ws (acquire_fits (is_resource_word g) is_process_word c e h k)
+    ∙ first_makes (lease_form g (codes "acquire") (λ r p. Acquire r false p false)) (lease_form g (codes "release") (λ r p. Release r p) ∷ []) ws (acquire_fits (is_resource_word g) is_process_word c e h k)
 
 release_made : (g : Layout) (c e : List ℕ) → is_resource_word g c ≡ true → is_process_word e ≡ true
     → made_by (lease_forms g) (codes "release" ∷ codes "-r" ∷ c ∷ codes "-p" ∷ e ∷ []) ≡ Some (Release (resource_of_word c) (number_of e))
@@ -66,7 +66,7 @@ made : (g : Layout) (c : LeaseCommand) → IsLeaseCommand g c → made_by (lease
 made g (Acquires r p) is =
     let word = resource_written g r is.0 in
     acquire_made g (moded_word r false) (decimal p) word.0 (process_passes p is.1)
-    ∙ ap (λ x. Some (Acquire x false (number_of (decimal p)))) word.1 ∙ ap (λ n. Some (Acquire r false n)) (number_of-decimal p (process_small p is.1))
+    ∙ ap (λ x. Some (Acquire x false (number_of (decimal p)) false)) word.1 ∙ ap (λ n. Some (Acquire r false n false)) (number_of-decimal p (process_small p is.1))
 made g (Releases r p) is =
     let word = resource_written g r is.0 in
     release_made g (moded_word r false) (decimal p) word.0 (process_passes p is.1)
@@ -80,7 +80,7 @@ words_free g (Releases r p) is =
     and_from (is_free_of 32 (moded_word r false)) _ (resource_written g r is.0).2 (and_from (is_free_of 32 (decimal p)) true (decimal_free 32 p refl (process_small p is.1)) refl)
 
 words_cut : (g : Layout) (c : LeaseCommand) → IsLeaseCommand g c → words_of (spaced (command_words (command_of c))) ≡ command_words (command_of c)
-words_cut g (Acquires r p) is = pieces-join_with_byte 32 (command_words (Acquire r false p)) (words_free g (Acquires r p) is) (lit< tt)
+words_cut g (Acquires r p) is = pieces-join_with_byte 32 (command_words (Acquire r false p false)) (words_free g (Acquires r p) is) (lit< tt)
 words_cut g (Releases r p) is = pieces-join_with_byte 32 (command_words (Release r p)) (words_free g (Releases r p) is) (lit< tt)
 
 text_says : (g : Layout) (c : LeaseCommand) → IsLeaseCommand g c → command_in (lease_forms g) (spaced (command_words (command_of c))) ≡ Ok (command_of c)

@@ -15,7 +15,8 @@ use Rattle.std.specs.Prelude.{Bool, Err, List, Ok, Result, codes, false, filter,
 abbrev pub begins_with : List ℕ → Form Command → Bool
 begins_with verb f = fitting f.words (verb ∷ []) == 1
 
--- The language's first form of this verb. Of the two of an acquire it is the one of the exclusive mode; the one with `:SH` stands behind it.
+-- The language's first form of this verb. Of those of an acquire it is that of the exclusive mode without options; of those of a release
+-- it is that of a process.
 abbrev pub first_of_verb : List ℕ → Layout → List (Form Command)
 first_of_verb verb g = take 1 (filter (begins_with verb) (forms g))
 
@@ -27,7 +28,7 @@ lease_forms g = first_of_verb (codes "acquire") g ++ first_of_verb (codes "relea
 
 -- Such a command, as a command of the language.
 abbrev pub command_of : LeaseCommand → Command
-command_of (Acquires r p) = Acquire r false p
+command_of (Acquires r p) = Acquire r false p false
 command_of (Releases r p) = Release r p
 
 -- The resource that it names.

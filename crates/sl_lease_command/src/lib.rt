@@ -11,4 +11,3 @@ mod reading;
 
 pub use command::LeaseCommand;
 pub use reading::read_lease_command;
-

@@ -84,7 +84,7 @@ acquire_keeps : (h : LeaseHostState) (r : ResourceArg) (p : ℕ) (after : LeaseS
     → KeepsLease (host_acquiring h r p (next_call st es) (next_job st es) h.sizes.hosts after) st
     (record {
       resource = r;
-      phase = line_work st (lease_of h) es text (Acquire r false p) (ReadArea r.name) (area_read st (lease_of h) r es);
+      phase = line_work st (lease_of h) es text (Acquire r false p false) (ReadArea r.name) (area_read st (lease_of h) r es);
       answered = (T (lease_of h)).answered;
     })
 acquire_keeps h r p after idle submits st now T es text at =
@@ -122,7 +122,7 @@ acquire_made h inside site r p call job hosts first step after c fx is idle rena
     let made : fx ≡ first_effects [] [] [] (area_read st l r es ∷ []) = effects ∙ (λ i. first_effects [] [] [] (reads st laid i ∷ []))
     ∙ (λ i. first_effects [] [] [] (of_session (renamed i).session (first_read st (renamed i).resource (numbered i) (jobbed i)) ∷ [])) in
     let named : ReadArea site.resource.name ≡ ReadArea r.name = ap (λ (s : SiteState). ReadArea s.resource.name) renamed in
-    let begun : StillState = record { resource = r; phase = line_work st l es text (Acquire r false p) (ReadArea r.name) (area_read st l r es); answered = (T l).answered } in
+    let begun : StillState = record { resource = r; phase = line_work st l es text (Acquire r false p false) (ReadArea r.name) (area_read st l r es); answered = (T l).answered } in
     subst (λ (x : LeaseHostState). BeginsAt x (host_of site (acquiring job p step call hosts) after) st es (T (lease_of x)) text r p fx) (sym is)
     (record {
       effects = made;

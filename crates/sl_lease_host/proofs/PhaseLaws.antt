@@ -8,7 +8,7 @@ use Rattle.sl_lease_host.specs.declared.phase.JobCommand.TheVariants.{Acquire as
 use Rattle.sl_lease_host.specs.declared.phase.JobCommand.{JobCommand}
 use Rattle.sl_lease_host.specs.declared.phase.Phase.TheVariants.{Holds, Idle, Works}
 use Rattle.sl_lease_host.specs.declared.phase.Phase.{Phase}
-use Rattle.sl_leases.specs.declared.lease.LeaseNext.TheVariants.{AnswerJob, GrantJob, Nothing, ReadFor, WriteBlock, WriteLeader}
+use Rattle.sl_leases.specs.declared.lease.LeaseNext.TheVariants.{AnswerJob, BecomeExclusive, BecomeShared, GrantJob, Nothing, ReadFor, WriteBlock, WriteLeader}
 use Rattle.sl_leases.specs.declared.lease.LeaseNext.{LeaseNext}
 use Rattle.sl_still.specs.StillPath.{StillLease}
 use Rattle.sl_still.specs.StillSteps.{lease_phase}
@@ -63,6 +63,8 @@ process_kept r kept d k = ap process_of k.command ∙ processes r kept.command
 pub phases : (st : Setting) (l : StillLease) (r : ResourceArg) (z : Sizes) (call : ℕ) (es : Trace) (kept : Doing) (d : Work) → st.layout ≡ layout_of z → IsDoingOf r kept d
     → (next : LeaseNext) → IsPhaseOf r (phase_after z.hosts kept call next) (lease_phase st l r call es d next)
 phases st l r z call es kept d laid k Nothing = tt
+phases st l r z call es kept d laid k (BecomeExclusive _ _) = tt
+phases st l r z call es kept d laid k (BecomeShared _ _) = tt
 phases st l r z call es kept d laid k (ReadFor step) = record { job = k.job; command = k.command; step = refl; call = refl; lver = refl; sectors = ap (λ g. Some g.hosts) laid }
 phases st l r z call es kept d laid k (WriteBlock step b) = record { job = k.job; command = k.command; step = refl; call = refl; lver = refl; sectors = refl }
 phases st l r z call es kept d laid k (WriteLeader step w) = record { job = k.job; command = k.command; step = refl; call = refl; lver = refl; sectors = refl }

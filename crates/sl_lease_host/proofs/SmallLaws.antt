@@ -2,7 +2,7 @@
 use Rattle.sl_first.specs.FirstPath.{Doing, first_effects, one_reply}
 use Rattle.sl_first.specs.FirstSteps.{Begins_phase1, Begins_phase2, Goes_on_phase1, Goes_on_phase2, Grants, Replies_late, Takes, blocks_read, leader_write, own_write}
 use Rattle.sl_lease_host.specs.Sites.{IsSite, SiteState}
-use Rattle.sl_leases.specs.declared.lease.LeaseNext.TheVariants.{AnswerJob, GrantJob, Nothing, ReadFor, WriteBlock, WriteLeader}
+use Rattle.sl_leases.specs.declared.lease.LeaseNext.TheVariants.{AnswerJob, BecomeExclusive, BecomeShared, GrantJob, Nothing, ReadFor, WriteBlock, WriteLeader}
 use Rattle.sl_leases.specs.declared.lease.LeaseNext.{LeaseNext}
 use Rattle.sl_resource.specs.Bounds.{IsGranted}
 use Rattle.sl_resource.specs.Calls.{IsFitNext, reads_area}
@@ -83,6 +83,8 @@ small_grant grant job why = record { calls = none_few; grants = one_few; replies
 -- A read that comes next is one of the blocks; a leader that comes next has the names of the session's lockspace and of the resource.
 abbrev pub IsNextOf : Given → ResourceArg → LeaseNext → Type 0
 IsNextOf g r Nothing = Unit {0}
+IsNextOf g r (BecomeExclusive _ _) = ⊥
+IsNextOf g r (BecomeShared _ _) = ⊥
 IsNextOf g r (ReadFor step) = reads_area step ≡ false
 IsNextOf g r (WriteBlock step b) = Unit {0}
 IsNextOf g r (WriteLeader step l) = (l.lockspace ≡ g.lockspace) × (l.resource ≡ r.name)
@@ -95,13 +97,15 @@ next_of st l r ms command next (Goes_on_phase2 p b named own) = refl
 next_of st l r ms command next (Begins_phase1 p n own named known why) = tt
 next_of st l r ms command next (Begins_phase2 p own read named known clear none) = tt
 next_of st l r ms command next (Takes p own read named known clear won) = (refl, named)
-next_of st l r ms command next (Grants p lver named) = tt
+next_of st l r ms command next (Grants p lver named taken) = tt
 next_of st l r ms command next (Replies_late c why late) = tt
 
 -- What the lease does then.
 pub told_small : (st : Setting) (l : StillLease) (r : ResourceArg) (number : ℕ) (d : Doing) → IsTrue (is_name l.given.lockspace) → IsTrue (is_name r.name) → (next : LeaseNext)
     → IsFitNext next → IsNextOf l.given r next → IsSmallStep (lease_effects st l r number d next)
 told_small st l r number d space name Nothing fit named = small_nothing
+told_small st l r number d space name (BecomeExclusive _ _) fit named = small_nothing
+told_small st l r number d space name (BecomeShared _ _) fit named = small_nothing
 told_small st l r number d space name (ReadFor step) fit named =
     let c = of_session l.number (blocks_read st r number d.job.number step) in small_call [] c (reads_only c st.layout.hosts refl)
 told_small st l r number d space name (WriteBlock step b) fit named =

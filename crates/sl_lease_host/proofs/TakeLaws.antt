@@ -8,7 +8,7 @@ use Rattle.sl_area.specs.Layouts.{Sizes, layout_of}
 use Rattle.sl_leases.specs.LeaseWork.{lease_next}
 use Rattle.sl_leases.specs.Leases.{known_of}
 use Rattle.sl_leases.specs.declared.lease.Aim.{Aim}
-use Rattle.sl_leases.specs.declared.lease.LeaseNext.TheVariants.{AnswerJob, GrantJob, Nothing, ReadFor, WriteBlock, WriteLeader}
+use Rattle.sl_leases.specs.declared.lease.LeaseNext.TheVariants.{AnswerJob, BecomeExclusive, BecomeShared, GrantJob, Nothing, ReadFor, WriteBlock, WriteLeader}
 use Rattle.sl_leases.specs.declared.lease.LeaseNext.{LeaseNext}
 use Rattle.sl_resource.specs.Calls.{IsFitNext, is_answer_to, makes_call}
 use Rattle.sl_resource.specs.Stands.{IsAnswered, IsOneLease, IsTold, IsWaiting, LeaseStands, LeaseState, is_first_step, layout_in, place_of}
@@ -21,7 +21,7 @@ use Rattle.sl_trace.specs.declared.effects.LeaseStep.{LeaseStep}
 use Rattle.sl_trace.specs.declared.input.Answer.TheVariants.{Failed, Read, Written}
 use Rattle.sl_trace.specs.declared.input.Answer.{Answer}
 use Rattle.sl_trace.specs.declared.input.Given.{Given}
-use Rattle.sl_words.proofs.CaseLaws.{false_is_true, none_some, true_is_false}
+use Rattle.sl_words.proofs.CaseLaws.{none_some, true_is_false}
 use Rattle.std.specs.Prelude.{nat_lt, ◌&&◌, ◌==◌}
 use Rattle.std.proofs.Common.{Bool, IsTrue, List, None, Option, Some, false, is_some, refl, subst, sym, true, ℕ, ◌||◌, ◌∙◌, ◌∷◌, ◌≡◌}
 
@@ -63,6 +63,8 @@ of_waiting (Some d) a heeded s = of_choice d a heeded s (is_answer_to s.sizes d 
 
 pub of_next : (next : LeaseNext) (s : LeaseState) → IsOneLease s (after_next next s)
 of_next Nothing s = same s
+of_next (BecomeExclusive _ _) s = same s
+of_next (BecomeShared _ _) s = same s
 of_next (ReadFor step) s = record { sizes = refl; lockspace = refl; self = refl }
 of_next (WriteBlock step b) s = record { sizes = refl; lockspace = refl; self = refl }
 of_next (WriteLeader step l) s = record { sizes = refl; lockspace = refl; self = refl }
@@ -80,24 +82,20 @@ or_right : (a b : Bool) → b ≡ true → (a || b) ≡ true
 or_right true b e = refl
 or_right false b e = e
 
-may_follow : (u : LeaseState) (next : LeaseNext) → u.waiting ≡ None → (IsTrue (makes_call next) → IsTrue (is_some u.name)) → IsTrue (makes_call next) → MayFollow u next
-may_follow u Nothing idle named calls = absurd (false_is_true calls)
-may_follow u (ReadFor step) idle named calls = record { idle = idle; named = or_right (is_first_step step) (is_some u.name) (named calls) }
-may_follow u (WriteBlock step b) idle named calls = record { idle = idle; named = or_right (is_first_step step) (is_some u.name) (named calls) }
-may_follow u (WriteLeader step l) idle named calls = record { idle = idle; named = or_right (is_first_step step) (is_some u.name) (named calls) }
-may_follow u (AnswerJob why) idle named calls = absurd (false_is_true calls)
-may_follow u (GrantJob mode lver) idle named calls = absurd (false_is_true calls)
-
-calls_of : (z : Sizes) (next : LeaseNext) (n : Submitted) → IsCallOf z next n → makes_call next ≡ true
-calls_of z Nothing n k = absurd k
-calls_of z (ReadFor step) n k = refl
-calls_of z (WriteBlock step b) n k = refl
-calls_of z (WriteLeader step l) n k = refl
-calls_of z (AnswerJob why) n k = absurd k
-calls_of z (GrantJob mode lver) n k = absurd k
+may_follow : (u : LeaseState) (next : LeaseNext) (z : Sizes) (n : Submitted) → IsCallOf z next n → u.waiting ≡ None → (IsTrue (makes_call next) → IsTrue (is_some u.name)) → MayFollow u next
+may_follow u Nothing z n k idle named = absurd k
+may_follow u (BecomeExclusive _ _) z n k idle named = absurd k
+may_follow u (BecomeShared _ _) z n k idle named = absurd k
+may_follow u (ReadFor step) z n k idle named = record { idle = idle; named = or_right (is_first_step step) (is_some u.name) (named refl) }
+may_follow u (WriteBlock step b) z n k idle named = record { idle = idle; named = or_right (is_first_step step) (is_some u.name) (named refl) }
+may_follow u (WriteLeader step l) z n k idle named = record { idle = idle; named = or_right (is_first_step step) (is_some u.name) (named refl) }
+may_follow u (AnswerJob why) z n k idle named = absurd k
+may_follow u (GrantJob mode lver) z n k idle named = absurd k
 
 no_call : (next : LeaseNext) (s : LeaseState) → makes_call next ≡ false → after_next next s ≡ s
 no_call Nothing s e = refl
+no_call (BecomeExclusive _ _) s e = refl
+no_call (BecomeShared _ _) s e = refl
 no_call (ReadFor step) s e = absurd (true_is_false e)
 no_call (WriteBlock step b) s e = absurd (true_is_false e)
 no_call (WriteLeader step l) s e = absurd (true_is_false e)
@@ -137,6 +135,6 @@ taken g kept a s u t aim own next state told aimed owned decides named fit after
       goes_on = λ m ms x k n open_call is.
           let stands : LeaseStands u (answered_call m x ∷ ms) = told m ms x k.told k.stands in
           follows n (answered_call m x ∷ ms) stands
-          (may_follow u next (idle m ms x stands) (named (answered_call m x) ms stands (here x m k.answered)) (calls_of s.sizes next n is)) open_call
+          (may_follow u next s.sizes n is (idle m ms x stands) (named (answered_call m x) ms stands (here x m k.answered))) open_call
           (subst (λ z. IsCallOf z next n) (sym one.sizes) is);
     }

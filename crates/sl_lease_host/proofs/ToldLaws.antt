@@ -14,7 +14,7 @@ use Rattle.sl_lease_host.specs.declared.phase.Phase.TheVariants.{Works}
 use Rattle.sl_lease_host.specs.declared.phase.Phase.{Phase}
 use Rattle.sl_leases.specs.LeaseWork.{lease_next}
 use Rattle.sl_leases.specs.Leases.{known_of}
-use Rattle.sl_leases.specs.declared.lease.LeaseNext.TheVariants.{AnswerJob, GrantJob, Nothing, ReadFor, WriteBlock, WriteLeader}
+use Rattle.sl_leases.specs.declared.lease.LeaseNext.TheVariants.{AnswerJob, BecomeExclusive, BecomeShared, GrantJob, Nothing, ReadFor, WriteBlock, WriteLeader}
 use Rattle.sl_leases.specs.declared.lease.LeaseNext.{LeaseNext}
 use Rattle.sl_resource.proofs.GoingOn.{work_goes_on}
 use Rattle.sl_resource.specs.Stands.{IsTold, LeaseStands, LeaseState}
@@ -46,6 +46,8 @@ known_next : (st : Setting) (l : StillLease) (r : ResourceArg) (call : ℕ) (es 
     → st.layout ≡ layout_of before.sizes → (next : LeaseNext) → IsTaken l.given kept a before after next → IsToNewest before kept.step a d.call answered x → IsNextOf l.given r next
     → LeaseStands after (open_kept (work_in (lease_phase st l r call es d next)) ++ (answered_call d.call x ∷ answered))
 known_next st l r call es kept d a before after answered x laid Nothing t k named = t.ends d.call answered x k refl
+known_next st l r call es kept d a before after answered x laid (BecomeExclusive _ _) t k named = absurd named
+known_next st l r call es kept d a before after answered x laid (BecomeShared _ _) t k named = absurd named
 known_next st l r call es kept d a before after answered x laid (ReadFor step) t k named =
     t.goes_on d.call answered x k (new_call (length es) l.given.renewed (of_session l.number (blocks_read st r call d.job.number step))) refl
     (record {

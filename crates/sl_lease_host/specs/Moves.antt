@@ -20,7 +20,7 @@ pub record BeginsAt (h after : LeaseHostState) (st : Setting) (es : Trace) (x : 
   pub small : IsSmallStep fx
   pub keeps : KeepsLease after st (record {
     resource = r;
-    phase = line_work st (lease_of h) es text (Acquire r false p) (ReadArea r.name) (area_read st (lease_of h) r es);
+    phase = line_work st (lease_of h) es text (Acquire r false p false) (ReadArea r.name) (area_read st (lease_of h) r es);
     answered = x.answered;
   })
 

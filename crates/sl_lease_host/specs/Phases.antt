@@ -10,7 +10,7 @@ use Rattle.sl_lease_host.specs.declared.phase.Phase.{Phase}
 use Rattle.sl_leases.specs.Leases.{lver_written}
 use Rattle.sl_leases.specs.declared.lease.Aim.TheVariants.{Acquires as To_acquire, Releases as To_release}
 use Rattle.sl_leases.specs.declared.lease.Aim.{Aim}
-use Rattle.sl_leases.specs.declared.lease.LeaseNext.TheVariants.{AnswerJob, GrantJob, Nothing, ReadFor, WriteBlock, WriteLeader}
+use Rattle.sl_leases.specs.declared.lease.LeaseNext.TheVariants.{AnswerJob, BecomeExclusive, BecomeShared, GrantJob, Nothing, ReadFor, WriteBlock, WriteLeader}
 use Rattle.sl_leases.specs.declared.lease.LeaseNext.{LeaseNext}
 use Rattle.sl_trace.specs.declared.command.Command.TheVariants.{Acquire, Release}
 use Rattle.sl_trace.specs.declared.command.Command.{Command}
@@ -25,7 +25,7 @@ use Rattle.std.specs.Prelude.{Bool, None, Option, Some, false, length, true, ℕ
 
 -- The command on this resource.
 abbrev pub command_of : ResourceArg → JobCommand → Command
-command_of r (Acquires p) = Acquire r false p
+command_of r (Acquires p) = Acquire r false p false
 command_of r (Releases p) = Release r p
 
 -- The process that it is for.
@@ -80,6 +80,8 @@ going_on kept step call lver sectors = Works (record kept { step = step; call = 
 -- Where the host stands after an answer, by what comes next for the lease.
 abbrev pub phase_after : ℕ → Doing → ℕ → LeaseNext → Phase
 phase_after hosts kept call Nothing = Idle
+phase_after hosts kept call (BecomeExclusive _ _) = Idle
+phase_after hosts kept call (BecomeShared _ _) = Idle
 phase_after hosts kept call (ReadFor step) = going_on kept step call 0 (Some hosts)
 phase_after hosts kept call (WriteBlock step b) = going_on kept step call b.lver None
 phase_after hosts kept call (WriteLeader step l) = going_on kept step call l.lver None

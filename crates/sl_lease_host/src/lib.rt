@@ -21,4 +21,3 @@ mod told;
 
 pub use host::LeaseHost;
 pub use phase::{Doing, JobCommand, Phase};
-

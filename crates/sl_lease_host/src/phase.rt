@@ -143,6 +143,8 @@ impl Doing {
     {
         match next {
             LeaseNext::Nothing => Phase::Idle,
+            LeaseNext::BecomeShared { lver: _, leader: _ } => Phase::Idle,
+            LeaseNext::BecomeExclusive { lver: _, block: _ } => Phase::Idle,
             LeaseNext::ReadFor(step) => self.going_on(*step, call, 0, Some(hosts)),
             LeaseNext::WriteBlock { step, block } => self.going_on(*step, call, block.lver, None),
             LeaseNext::WriteLeader { step, leader } => {

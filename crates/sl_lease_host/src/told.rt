@@ -36,6 +36,8 @@ pub(crate) fn told_effects(
 {
     match next {
         LeaseNext::Nothing => rooms.nothing(),
+        LeaseNext::BecomeShared { lver: _, leader: _ } => rooms.nothing(),
+        LeaseNext::BecomeExclusive { lver: _, block: _ } => rooms.nothing(),
         LeaseNext::ReadFor(step) => rooms.call(site.blocks_read(call, job, step)),
         LeaseNext::WriteBlock { step, block } => {
             rooms.call(site.own_write(call, job, step, block))
@@ -59,6 +61,8 @@ pub(crate) fn submits(lease: &mut Lease, next: &LeaseNext)
 {
     match next {
         LeaseNext::Nothing => {}
+        LeaseNext::BecomeShared { lver: _, leader: _ } => {}
+        LeaseNext::BecomeExclusive { lver: _, block: _ } => {}
         LeaseNext::ReadFor(step) => lease.reads(*step),
         LeaseNext::WriteBlock { step, block } => lease.writes_block(*step, *block),
         LeaseNext::WriteLeader { step, leader } => lease.writes_leader(*step, leader),

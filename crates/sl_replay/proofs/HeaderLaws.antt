@@ -6,7 +6,8 @@ use Rattle.sl_report.specs.Schedules.{HeaderReading, Header_read, Header_refused
 use Rattle.sl_run.specs.declared.event.Refusal.TheVariants.{Syntax}
 use Rattle.sl_run.specs.declared.event.Refusal.{Refusal}
 use Rattle.sl_run.specs.declared.header.Header.{Header}
-use Rattle.sl_schedule.specs.Headers.{answer_after, lines_after}
+use Rattle.sl_schedule.proofs.HeaderLaws.{area_is}
+use Rattle.sl_schedule.specs.Headers.{HeaderSoFar, Stands, answer_after, lines_after, sizes_now}
 use Rattle.sl_schedule.specs.declared.header.Added.TheVariants.{Begun, More, Refused}
 use Rattle.sl_schedule.specs.declared.header.Added.{Added}
 use Rattle.sl_still_schedule.specs.StillLanguage.{is_still_line, still_language}
@@ -50,6 +51,10 @@ going_on More ls number rest = read_header still_language ls (number + 1) rest
 going_on (Begun h) ls number rest = Header_read h rest
 going_on (Refused why) ls number rest = Header_refused number why
 
+-- The bytes of an area behind these lines, by which the next one is read.
+abbrev pub area_after : List HeaderLine → ℕ
+area_after ls = (header_of default_sector default_area ls).geometry.area
+
 -- What a line makes of them, by why it is refused and what it says.
 abbrev by_line : List HeaderLine → NumberedLine → List NumberedLine → Bool → Option HeaderLine → Option Refusal → HeaderReading
 by_line ls l rest skipped read why =
@@ -67,7 +72,7 @@ by_line ls l rest skipped read why =
 -- .. and by why it is refused before it is read.
 abbrev by_whole_line : List HeaderLine → NumberedLine → List NumberedLine → Option Refusal → HeaderReading
 by_whole_line ls l rest unread =
-    let read : Option HeaderLine = header_line_in still_language default_area l.text in
+    let read : Option HeaderLine = header_line_in still_language (area_after ls) l.text in
     elim unread [ Some r ↦ Header_refused l.number r | None ↦ by_line ls l rest (is_skipped l.text) read (header_line_refusal still_language ls read) ]
 
 -- Whatever the tests say.
@@ -88,10 +93,10 @@ stepped false None false ls more h number rest = refl
 
 -- It goes on as the whole language answers.
 line_goes : (ls : List HeaderLine) (next : ℕ) (l : NumberedLine) (rest : List NumberedLine) → line_refusal l ≡ None
-    → says_others (header_line_in whole_language default_area l.text) ≡ false
+    → says_others (header_line_in whole_language (area_after ls) l.text) ≡ false
     → read_header still_language ls next (l ∷ rest) ≡ going_on (answer_after ls l.text) (lines_after ls l.text) l.number rest
 line_goes ls next l rest none alone =
-    let read : Option HeaderLine = header_line_in whole_language default_area l.text in
+    let read : Option HeaderLine = header_line_in whole_language (area_after ls) l.text in
     ap (by_whole_line ls l rest) none
     ∙ ap (λ r. by_line ls l rest (is_skipped l.text) r (header_line_refusal still_language ls r)) (same_line read alone)
     ∙ ap (by_line ls l rest (is_skipped l.text) read) (same_refusal ls read)
@@ -100,52 +105,57 @@ line_goes ls next l rest none alone =
 -- ---- a line of other machines
 
 -- What says something is no comment.
-nothing_made : (l : HeaderLine) → made_by (header_forms default_area) (words_of []) ≡ Some l → ⊥
+nothing_made : (area : ℕ) (l : HeaderLine) → made_by (header_forms area) (words_of []) ≡ Some l → ⊥
 unfolding header_forms
-nothing_made l h = absurd cc
+nothing_made area l h = absurd cc
 
-no_verb : (w : List ℕ) → forms_behind (35 ∷ w) (header_forms default_area) ≡ []
+no_verb : (area : ℕ) (w : List ℕ) → forms_behind (35 ∷ w) (header_forms area) ≡ []
 unfolding header_forms
-no_verb w = refl
+no_verb area w = refl
 
-no_comment : (cs : List ℕ) (l : HeaderLine) → made_by (header_forms default_area) (words_of (35 ∷ cs)) ≡ Some l → ⊥
-no_comment cs l h =
+no_comment : (area : ℕ) (cs : List ℕ) (l : HeaderLine) → made_by (header_forms area) (words_of (35 ∷ cs)) ≡ Some l → ⊥
+no_comment area cs l h =
     let p = first_piece 32 cs in
-    let none : made_by (header_forms default_area) (words_of (35 ∷ cs)) ≡ None =
-    ap (λ ws. made_by (header_forms default_area) (onto_first 35 ws)) p.2 ∙ made_by-cons (35 ∷ p.0) p.1 (header_forms default_area)
-    ∙ ap (λ fs. made_by fs p.1) (no_verb p.0) in
-    no_value l (made_by (header_forms default_area) (words_of (35 ∷ cs))) h none
+    let none : made_by (header_forms area) (words_of (35 ∷ cs)) ≡ None =
+    ap (λ ws. made_by (header_forms area) (onto_first 35 ws)) p.2 ∙ made_by-cons (35 ∷ p.0) p.1 (header_forms area)
+    ∙ ap (λ fs. made_by fs p.1) (no_verb area p.0) in
+    no_value l (made_by (header_forms area) (words_of (35 ∷ cs))) h none
 
-not_skipped : (text : List ℕ) (l : HeaderLine) → made_by (header_forms default_area) (words_of text) ≡ Some l → is_skipped text ≡ false
-not_skipped [] l h = absurd (nothing_made l h)
-not_skipped (c ∷ cs) l h =
-    is_false (c == 35) (λ t. no_comment cs l (subst (λ (d : ℕ). made_by (header_forms default_area) (words_of (d ∷ cs)) ≡ Some l) (eqb-true c 35 t) h))
+not_skipped : (area : ℕ) (text : List ℕ) (l : HeaderLine) → made_by (header_forms area) (words_of text) ≡ Some l → is_skipped text ≡ false
+not_skipped area [] l h = absurd (nothing_made area l h)
+not_skipped area (c ∷ cs) l h =
+    is_false (c == 35) (λ t. no_comment area cs l (subst (λ (d : ℕ). made_by (header_forms area) (words_of (d ∷ cs)) ≡ Some l) (eqb-true c 35 t) h))
 
 left_out : (b : Bool) (l : HeaderLine) → not b ≡ true → choose b l ≡ None
 left_out true l h = absurd (false_is_true h)
 left_out false l h = refl
 
 stops_by : (ls : List HeaderLine) (next : ℕ) (l : NumberedLine) (rest : List NumberedLine) (read : Option HeaderLine) → line_refusal l ≡ None
-    → header_line_in whole_language default_area l.text ≡ read → says_others read ≡ true → read_header still_language ls next (l ∷ rest) ≡ Header_refused l.number Syntax
+    → header_line_in whole_language (area_after ls) l.text ≡ read → says_others read ≡ true → read_header still_language ls next (l ∷ rest) ≡ Header_refused l.number Syntax
 stops_by ls next l rest None none reads others = absurd (false_is_true others)
 stops_by ls next l rest (Some said) none reads others =
-    let still : header_line_in still_language default_area l.text ≡ None = ap still_of reads ∙ left_out (is_still_line said) said others in
+    let still : header_line_in still_language (area_after ls) l.text ≡ None = ap still_of reads ∙ left_out (is_still_line said) said others in
     ap (by_whole_line ls l rest) none
     ∙ ap (λ r. by_line ls l rest (is_skipped l.text) r (header_line_refusal still_language ls r)) still
-    ∙ ap (λ b. by_line ls l rest b None (Some Syntax)) (not_skipped l.text said reads)
+    ∙ ap (λ b. by_line ls l rest b None (Some Syntax)) (not_skipped (area_after ls) l.text said reads)
 
 -- ---- the first of the lines that are left
 
+-- A line that is read by the bytes of an area so far.
+pub left_out_at : (ls : List HeaderLine) (r : HeaderSoFar) (text : List ℕ) (area : ℕ) (b : Bool) → Stands r ls → area ≡ (sizes_now r).area
+    → b ≡ says_others (header_line_in whole_language area text) → b ≡ says_others (header_line_in whole_language (area_after ls) text)
+left_out_at ls r text area b h is says = says ∙ ap (λ n. says_others (header_line_in whole_language n text)) (is ∙ area_is r ls h)
+
 -- It is of other machines.
 pub others_at : (ls : List HeaderLine) (next : ℕ) (lines : List NumberedLine) (l : NumberedLine) (b : Bool) → Some l ≡ first_of_list lines → None ≡ line_refusal l
-    → b ≡ says_others (header_line_in whole_language default_area l.text) → b ≡ true → Header_refused l.number Syntax ≡ read_header still_language ls next lines
+    → b ≡ says_others (header_line_in whole_language (area_after ls) l.text) → b ≡ true → Header_refused l.number Syntax ≡ read_header still_language ls next lines
 others_at ls next lines l b first none is others =
     sym (ap (read_header still_language ls next) (first_and_others lines l (sym first))
-    ∙ stops_by ls next l (drop 1 lines) (header_line_in whole_language default_area l.text) (sym none) refl (sym is ∙ others))
+    ∙ stops_by ls next l (drop 1 lines) (header_line_in whole_language (area_after ls) l.text) (sym none) refl (sym is ∙ others))
 
 -- It is of one machine: by the answer to it.
 pub told_at : (ls : List HeaderLine) (next : ℕ) (lines rest : List NumberedLine) (l : NumberedLine) (b : Bool) (added : Added) → Some l ≡ first_of_list lines → rest ≡ drop 1 lines
-    → None ≡ line_refusal l → b ≡ says_others (header_line_in whole_language default_area l.text) → b ≡ false → added ≡ answer_after ls l.text
+    → None ≡ line_refusal l → b ≡ says_others (header_line_in whole_language (area_after ls) l.text) → b ≡ false → added ≡ answer_after ls l.text
     → going_on added (lines_after ls l.text) l.number rest ≡ read_header still_language ls next lines
 told_at ls next lines rest l b added first behind none is alone answer =
     ap (λ a. going_on a (lines_after ls l.text) l.number rest) answer

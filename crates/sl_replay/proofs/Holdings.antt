@@ -1,14 +1,14 @@
 -- What a world's one machine holds after an event that is run here: what its step leaves of what it held.
 use Rattle.sl_run.specs.Events.{add_landing, after_effects, after_step, change_call, close_answered, complete, event_tests, fated, first_change, flight_at, happens, input_of, land_whole, machine_of, next_step, on_machine, refusal_of, sampled_more, sectors_left, take_step, write_bytes}
 use Rattle.sl_run.specs.Worlds.{Course, Landed, Machine, Stamp, World, change_machine, first_that, is_in_flight, is_write_course, machine_at, stamp_now}
-use Rattle.sl_run.specs.declared.event.Event.TheVariants.{AnswerCall, Crash, Do, DropWrite, ExitOf, GiveCommand, Land, Pass, Reset, Restart, Sample, SpawnedOf, StartDaemon, Tear, Test, WakeUp}
+use Rattle.sl_run.specs.declared.event.Event.TheVariants.{AnswerCall, Crash, Do, DropWrite, ExitOf, GiveAsk, GiveCommand, GiveLvm, Land, Pass, Reset, Restart, Sample, SpawnedOf, StartDaemon, Tear, Test, WakeUp}
 use Rattle.sl_run.specs.declared.event.Event.{Event}
 use Rattle.sl_run.specs.declared.event.Refusal.TheVariants.{MissingMachine, Syntax}
 use Rattle.sl_run.specs.declared.event.Refusal.{Refusal}
 use Rattle.sl_trace.specs.Traces.{Setting, Trace, held_after}
 use Rattle.sl_trace.specs.declared.effects.Effects.{Effects}
 use Rattle.sl_trace.specs.declared.effects.Grant.{Grant}
-use Rattle.sl_trace.specs.declared.input.Input.TheVariants.{Answer as Told, Exit, Line, Spawned, Wake}
+use Rattle.sl_trace.specs.declared.input.Input.TheVariants.{Answer as Told, Exit, Line, Number, Spawned, Wake}
 use Rattle.sl_trace.specs.declared.input.Input.{Input}
 use Rattle.sl_words.specs.Words.{choose}
 use Rattle.sl_words.proofs.CaseLaws.{false_is_true, none_some, some_value}
@@ -26,7 +26,7 @@ abbrev pub held_in_world : World → List (List Grant)
 held_in_world w = map (λ a. a.holdings) w.machines
 
 -- What is true of five kinds of events is true of each that is run here.
-each_first : (P : Event → Type 0) → ((m : ℕ) (text : List ℕ) → P (GiveCommand m text)) → ((m c n : ℕ) → P (Sample m c n)) → ((m c : ℕ) → P (Land m c))
+pub each_first : (P : Event → Type 0) → ((m : ℕ) (text : List ℕ) → P (GiveCommand m text)) → ((m c n : ℕ) → P (Sample m c n)) → ((m c : ℕ) → P (Land m c))
     → ((m c : ℕ) (ok : Bool) → P (AnswerCall m c ok)) → ((m c : ℕ) → P (Do m c)) → (e : Event) → is_first_event e ≡ true → P e
 each_first P command sample land answer done (GiveCommand m text) first = command m text
 each_first P command sample land answer done (Sample m c n) first = sample m c n
@@ -34,6 +34,8 @@ each_first P command sample land answer done (Land m c) first = land m c
 each_first P command sample land answer done (AnswerCall m c ok) first = answer m c ok
 each_first P command sample land answer done (Do m c) first = done m c
 each_first P command sample land answer done (Pass a b) first = absurd (false_is_true first)
+each_first P command sample land answer done (GiveLvm m line) first = absurd (false_is_true first)
+each_first P command sample land answer done (GiveAsk m) first = absurd (false_is_true first)
 each_first P command sample land answer done (WakeUp m) first = absurd (false_is_true first)
 each_first P command sample land answer done (Tear m c n b) first = absurd (false_is_true first)
 each_first P command sample land answer done (DropWrite m c) first = absurd (false_is_true first)
@@ -125,6 +127,7 @@ one_by f fx v gs (b ∷ c ∷ ms) held step = absurd (two_are_one b.holdings c.h
 
 closed_holds : (now : Stamp) (i : Input) (a : Machine) → (close_answered now i a).holdings ≡ a.holdings
 closed_holds now (Line text) a = refl
+closed_holds now (Number text) a = refl
 closed_holds now (Told number answer) a = refl
 closed_holds now Wake a = refl
 closed_holds now (Exit p) a = refl

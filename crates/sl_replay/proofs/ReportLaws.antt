@@ -8,8 +8,8 @@ use Rattle.sl_report.specs.ReadingLines.{event_in}
 use Rattle.sl_report.specs.Replay.{effects_of}
 use Rattle.sl_report.specs.Reports.{Counts, count_event, end_line, event_lines}
 use Rattle.sl_report.specs.ScheduleLines.{refusal_line}
-use Rattle.sl_report.specs.Schedules.{EventLine, NumberedLine, event_lines_of, event_or_syntax, line_refusal, replay_from}
-use Rattle.sl_run.specs.Events.{happens, may_happen, refusal_of}
+use Rattle.sl_report.specs.Schedules.{AsksPlayed, EventLine, NumberedLine, event_lines_of, event_or_syntax, line_refusal, many_asks, play_asks, replay_from}
+use Rattle.sl_run.specs.Events.{asking, happens, may_happen, refusal_of}
 use Rattle.sl_run.specs.Worlds.{World}
 use Rattle.sl_run.specs.declared.event.Event.{Event}
 use Rattle.sl_run.specs.declared.event.Refusal.{Refusal}
@@ -21,8 +21,9 @@ use Rattle.sl_trace.specs.declared.effects.Effects.{Effects}
 use Rattle.sl_words.proofs.CaseLaws.{false_is_true}
 use Rattle.sl_words.proofs.ListLaws.{first_and_others}
 use Rattle.sl_words.specs.Words.{first_of_list}
+use Rattle.sl_world.proofs.LockLaws.{none_asks}
 use Rattle.sl_world.specs.Kept.{KeptState, WorldStands}
-use Rattle.std.proofs.Common.{Bool, List, None, Option, Some, ap, append_assoc, arith, drop, false, length, refl, subst, sym, true, [], ℕ, ◌+◌, ◌++◌, ◌∙◌, ◌∷◌, ◌≡◌}
+use Rattle.std.proofs.Common.{Bool, List, None, Option, Some, ap, append_assoc, append-nil, arith, drop, false, length, refl, subst, suc, sym, true, zero, [], ℕ, ◌+◌, ◌++◌, ◌∙◌, ◌∷◌, ◌≡◌}
 use Rattle.std.proofs.lemmas.Grind.{flat_map-append}
 use Rattle.std.specs.List.{cons_option}
 use Rattle.std.specs.Prelude.{Err, Ok, OnErr, Result, is_none}
@@ -64,15 +65,17 @@ adds_line h w k l ls out total end read a reads =
 
 -- ---- a line that is refused
 
+stopped : (n : ℕ) (front asks rest : List (List ℕ)) (o : Option Refusal) (why : Refusal) → o ≡ Some why
+    → elim o as (λ x. List (List ℕ)) [ Some r ↦ refusal_line n r ∷ [] | None ↦ front ++ asks ++ rest ] ≡ refusal_line n why ∷ []
+stopped n front asks rest o why h = ap (λ o. elim o as (λ x. List (List ℕ)) [ Some r ↦ refusal_line n r ∷ [] | None ↦ front ++ asks ++ rest ]) h
+
 refused_text : (w : World) (k : Counts) (n : ℕ) (read : Option (Result Event Refusal)) (why : Refusal) (es : List EventLine) → IsRefusedFor w read why
     → replay_from still_language w k (with_line n read es) ≡ refusal_line n why ∷ []
 refused_text w k n None why es h = absurd h
 refused_text w k n (Some (Err r)) why es h = ap (λ r. refusal_line n r ∷ []) h
 refused_text w k n (Some (Ok e)) why es h =
-    ap (λ o. elim o as (λ x. List (List ℕ)) [
-      | Some r ↦ refusal_line n r ∷ []
-      | None ↦ event_lines w e (effects_of w e) ++ replay_from still_language (happens w e (effects_of w e)) (count_event w e (effects_of w e) k) es
-    ]) h
+    let p : AsksPlayed = play_asks many_asks (happens w e (effects_of w e)) (count_event w e (effects_of w e) k) in
+    stopped n (event_lines w e (effects_of w e)) p.lines (replay_from still_language p.world p.counts es) (refusal_of w e) why h
 
 refused_end : (w : World) (n : ℕ) (read : Option (Result Event Refusal)) (why : Refusal) (es : List EventLine) → IsRefusedFor w read why
     → ending_from w (with_line n read es) ≡ AtLine
@@ -107,12 +110,24 @@ gone_by : {A : Type 0} (o : Option Refusal) (stop : Refusal → A) (go : A) → 
 gone_by None stop go h = refl
 gone_by (Some r) stop go h = absurd (false_is_true h)
 
+-- No ask follows where none is due.
+nothing_played : (n : ℕ) (w : World) (k : Counts) → asking w ≡ None → play_asks n w k ≡ record { lines = []; world = w; counts = k }
+nothing_played zero w k none = refl
+nothing_played (suc n) w k none = rw (play_asks, none) refl
+
 gone_text : (w : World) (e : Event) (n : ℕ) (fx : Effects) (k : Counts) (es : List EventLine) → may_happen w e ≡ true → effects_of w e ≡ fx ∷ []
+    → asking (happens w e (fx ∷ [])) ≡ None
     → replay_from still_language w k ((n, Ok e) ∷ es)
     ≡ event_lines w e (fx ∷ []) ++ replay_from still_language (happens w e (fx ∷ [])) (count_event w e (fx ∷ []) k) es
-gone_text w e n fx k es may due =
-    gone_by (refusal_of w e) (λ r. refusal_line n r ∷ [])
-    (event_lines w e (effects_of w e) ++ replay_from still_language (happens w e (effects_of w e)) (count_event w e (effects_of w e) k) es) may
+gone_text w e n fx k es may due quiet =
+    let v : World = happens w e (effects_of w e) in
+    let c : Counts = count_event w e (effects_of w e) k in
+    ap (λ (p : AsksPlayed). elim (refusal_of w e) as (λ x. List (List ℕ)) [
+      | Some r ↦ refusal_line n r ∷ []
+      | None ↦ event_lines w e (effects_of w e) ++ p.lines ++ replay_from still_language p.world p.counts es
+    ]) (nothing_played many_asks v c (ap (λ fxs. asking (happens w e fxs)) due ∙ quiet))
+    ∙ gone_by (refusal_of w e) (λ r. refusal_line n r ∷ []) (event_lines w e (effects_of w e) ++ [] ++ replay_from still_language v c es) may
+    ∙ ap (λ ls. ls ++ replay_from still_language v c es) (append-nil (event_lines w e (effects_of w e)))
     ∙ ap (λ fxs. event_lines w e fxs ++ replay_from still_language (happens w e fxs) (count_event w e fxs k) es) due
 
 gone_end : (w : World) (e : Event) (n : ℕ) (fx : Effects) (es : List EventLine) → may_happen w e ≡ true → effects_of w e ≡ fx ∷ []
@@ -136,7 +151,7 @@ owed_after stands h w now then k after l ls out more total end e a read x =
       adds = record {
         text =
             r.0
-            ∙ ap (λ t. out ++ as_bytes t) (gone_text w e l.number x.effects k es x.may x.due_is)
+            ∙ ap (λ t. out ++ as_bytes t) (gone_text w e l.number x.effects k es x.may x.due_is (none_asks now v x.tells.machine x.tells.daemon x.tells.tells))
             ∙ ap (λ c. out ++ as_bytes (lines ++ replay_from still_language v c es)) (sym x.counts)
             ∙ ap (λ t. out ++ t) (flat_map-append (λ v. v ++ 10 ∷ []) lines rest)
             ∙ sym (append_assoc out (as_bytes lines) (as_bytes rest))

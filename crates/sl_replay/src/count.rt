@@ -44,6 +44,7 @@ fn is_ok(reply: &Reply) -> bool
             seq: _,
             bytes: _,
         } => true,
+        Reply::ValueSet { lver: _, seq: _ } => true,
         Reply::Hosts(_) => true,
         Reply::Sessions(_) => true,
         _ => false,

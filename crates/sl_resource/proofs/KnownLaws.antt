@@ -3,7 +3,7 @@ use Rattle.sl_area.specs.Layouts.{Layout}
 use Rattle.sl_area.specs.Places.{area_blocks, leader_of}
 use Rattle.sl_leases.specs.LeaseWork.{LeasePlace, area_next, lease_next, named_area_next, refuses}
 use Rattle.sl_leases.specs.Leases.{LeaseKnown, is_leader_of, known_of, last_blocks, verified_by, verified_name}
-use Rattle.sl_leases.specs.declared.lease.Aim.TheVariants.{Acquires, Releases, Settles}
+use Rattle.sl_leases.specs.declared.lease.Aim.TheVariants.{Acquires, Converts, Releases, Settles}
 use Rattle.sl_leases.specs.declared.lease.Aim.{Aim}
 use Rattle.sl_leases.specs.declared.lease.LeaseNext.TheVariants.{AnswerJob, Nothing}
 use Rattle.sl_leases.specs.declared.lease.LeaseNext.{LeaseNext}
@@ -144,6 +144,7 @@ false_is h = absurd cc
 -- A refusal makes no call.
 refusal_ends : (aim : Aim) (r : Reply) → IsTrue (makes_call (refuses aim r)) → ⊥
 refusal_ends (Acquires mode) r h = absurd cc
+refusal_ends (Converts mode) r h = absurd cc
 refusal_ends Releases r h = absurd cc
 refusal_ends Settles r h = absurd cc
 

@@ -1,23 +1,24 @@
 -- What a lease's session is asked, by what is kept of the lease and what the session knows beside it.
 use Rattle.sl_area.specs.Places.{leader_of}
 use Rattle.sl_leases.specs.Ballots.{ballot_blocks, moded_block, phase2_block, stop_of}
-use Rattle.sl_leases.specs.LeaseWork.{LeasePlace, after_phase1, after_phase2, after_write, leader_for, named_area_next, refuses}
+use Rattle.sl_leases.specs.LeaseWork.{LeasePlace, after_phase1, after_phase2, after_write, begin_next, leader_for, named_area_next, refuses}
 use Rattle.sl_leases.specs.Leases.{LeaseKnown, is_leader_of, owed_free}
 use Rattle.sl_leases.specs.declared.lease.Aim.{Aim}
-use Rattle.sl_leases.specs.declared.lease.LeaseNext.TheVariants.{AnswerJob, Nothing, WriteBlock, WriteLeader}
+use Rattle.sl_leases.specs.declared.lease.LeaseNext.TheVariants.{AnswerJob, BecomeExclusive, BecomeShared, Nothing, WriteBlock, WriteLeader}
 use Rattle.sl_leases.specs.declared.lease.LeaseNext.{LeaseNext}
 use Rattle.sl_resource.specs.Stands.{LeaseState, name_in}
 use Rattle.sl_resource.specs.declared.evidence.Held.{Held}
 use Rattle.sl_sector.specs.declared.sector.Block.{Block}
 use Rattle.sl_sector.specs.declared.sector.Leader.{Leader}
+use Rattle.sl_sector.specs.declared.sector.Owner.{Owner}
 use Rattle.sl_trace.specs.declared.effects.LeaseStep.TheVariants.{ClearMode, FreeLeader, Phase1Read, Phase1Write, Phase2Read, Phase2Write, ReadArea, ReadBeforeFree, SetMode, TakeLeader}
 use Rattle.sl_trace.specs.declared.effects.LeaseStep.{LeaseStep}
 use Rattle.sl_trace.specs.declared.input.Answer.TheVariants.{Failed, Read, Written}
 use Rattle.sl_trace.specs.declared.input.Answer.{Answer}
-use Rattle.sl_trace.specs.declared.reply.Reply.TheVariants.{IoFault, TornLeader, WrongArea}
+use Rattle.sl_trace.specs.declared.reply.Reply.TheVariants.{Held as HeldBy, IoFault, TornLeader, WrongArea}
 use Rattle.sl_words.specs.Words.{choose, present, some_is}
 use Rattle.std.specs.Option.{option_map_or}
-use Rattle.std.specs.Prelude.{Bool, List, None, Option, Some, false, filter, fold, if◌then◌else◌, map, max, not, option_and_then, true, ℕ, ◌==◌}
+use Rattle.std.specs.Prelude.{Bool, List, None, Option, Some, false, filter, fold, if◌then◌else◌, map, max, not, option_and_then, true, ℕ, ◌+◌, ◌==◌}
 
 -- What is known of a lease, by what is kept of it, what is held under it, and whom its session counts as over.
 abbrev pub known_with : LeaseState → Held → (ℕ → ℕ → Bool) → LeaseKnown
@@ -81,6 +82,18 @@ free_with s h = option_map_or (λ n. WriteLeader FreeLeader (leader_named s (nam
 -- The own block with the shared mode.
 abbrev pub mode_with : LeaseState → LeaseNext
 mode_with s = option_map_or (λ own. WriteBlock SetMode (moded_block own true s.self.generation)) s.own Nothing
+
+-- The shared holding becomes exclusive, and the own block is written without its mode.
+abbrev pub exclusive_with : LeaseState → ℕ → LeaseNext
+exclusive_with s n = option_map_or (λ own. BecomeExclusive n (moded_block own false 0)) s.own Nothing
+
+-- The exclusive holding becomes shared, and its leader is written free.
+abbrev pub shared_with : LeaseState → Held → LeaseNext
+shared_with s h = option_map_or (λ e. BecomeShared e (leader_named s (name_in s) false e)) h.exclusive Nothing
+
+-- An instance that another session was granted: the next one where that session is over.
+abbrev pub held_by_other : LeasePlace → LeaseKnown → Aim → ℕ → Owner → LeaseNext
+held_by_other p k aim n o = elim (k.over o.id o.generation) [ true ↦ begin_next p k aim (n + 1) | false ↦ AnswerJob (HeldBy n o) ]
 
 -- After the read of phase 1.
 abbrev pub phase1_ended : LeasePlace → LeaseKnown → Aim → List (Option Block) → LeaseNext

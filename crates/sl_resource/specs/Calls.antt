@@ -1,6 +1,6 @@
 -- The calls of a lease: what each step reads or writes, and what is kept of a call until its answer.
 use Rattle.sl_area.specs.Layouts.{Sizes}
-use Rattle.sl_leases.specs.declared.lease.LeaseNext.TheVariants.{AnswerJob, GrantJob, Nothing, ReadFor, WriteBlock, WriteLeader}
+use Rattle.sl_leases.specs.declared.lease.LeaseNext.TheVariants.{AnswerJob, BecomeExclusive, BecomeShared, GrantJob, Nothing, ReadFor, WriteBlock, WriteLeader}
 use Rattle.sl_leases.specs.declared.lease.LeaseNext.{LeaseNext}
 use Rattle.sl_resource.specs.Bounds.{IsBegun, IsGranted, IsInstance}
 use Rattle.sl_resource.specs.declared.deed.Deed.TheVariants.{Reads, WritesBlock, WritesLeader}
@@ -131,7 +131,8 @@ is_whole_read z step Written = true
 is_whole_read z step Failed = true
 
 -- What a lease does next can be submitted: a read at a step that reads; a block or a leader that is a record, at a step that writes it.
--- A grant's instance is one that may be granted.
+-- A grant's instance is one that may be granted; so is that of a holding that becomes exclusive. A holding that becomes shared keeps its
+-- instance, so its leader is a record where that instance may be granted.
 abbrev pub IsFitNext : LeaseNext → Type 0
 IsFitNext Nothing = Unit {0}
 IsFitNext (ReadFor step) = IsTrue (is_read_step step)
@@ -139,6 +140,8 @@ IsFitNext (WriteBlock step b) = IsTrue (is_block_step step) × IsBegun b
 IsFitNext (WriteLeader step l) = IsTrue (is_leader_step step) × IsGranted l
 IsFitNext (AnswerJob r) = Unit {0}
 IsFitNext (GrantJob mode lver) = IsInstance lver
+IsFitNext (BecomeShared lver l) = IsInstance lver → IsGranted l
+IsFitNext (BecomeExclusive lver b) = IsInstance lver × IsBegun b
 
 -- Whether it is a call.
 abbrev pub makes_call : LeaseNext → Bool
@@ -148,3 +151,5 @@ makes_call (WriteBlock step b) = true
 makes_call (WriteLeader step l) = true
 makes_call (AnswerJob r) = false
 makes_call (GrantJob mode lver) = false
+makes_call (BecomeShared lver l) = true
+makes_call (BecomeExclusive lver b) = true

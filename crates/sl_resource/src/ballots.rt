@@ -7,7 +7,7 @@
 ghost use Rattle.sl_leases.specs.LeaseWork.{after_phase1, after_phase2, ended_next, leader_for, looks_for_shared, lost_next, phase2_next, stop_reply, stopped_next, unstopped_next, won_next};
 ghost use Rattle.sl_leases.specs.Leases.{is_shared_by_other, shared_elsewhere};
 ghost use Rattle.sl_leases.specs.declared.lease.LeaseNext.TheVariants.{Nothing, WriteLeader};
-ghost use Rattle.sl_resource.specs.Asked.{is_shared_beside, known_with, leader_named, phase2_with};
+ghost use Rattle.sl_resource.specs.Asked.{held_by_other, is_shared_beside, known_with, leader_named, phase2_with};
 ghost use Rattle.sl_resource.specs.Bounds.{IsBegun, IsGranted, IsInstance};
 ghost use Rattle.sl_resource.specs.Calls.{IsFitNext, is_leader_step};
 ghost use Rattle.sl_resource.specs.Stands.{name_in, place_of};
@@ -36,13 +36,15 @@ fn stop_reply(stop: Stop) -> Reply
     }
 }
 
-/// Whether another's shared mode stands in the way: of an exclusive acquire alone.
+/// Whether another's shared mode stands in the way: of an exclusive acquire and of a conversion to exclusive alone.
 fn looks_for_shared(aim: Aim) -> bool
     ensures { result ≡ looks_for_shared aim }
 {
     match aim {
         Aim::Acquires(Mode::Exclusive) => true,
         Aim::Acquires(Mode::Shared) => false,
+        Aim::Converts(Mode::Exclusive) => true,
+        Aim::Converts(Mode::Shared) => false,
         Aim::Releases => false,
         Aim::Settles => false,
     }
@@ -68,7 +70,7 @@ impl Lease {
     }
 
     /// The leader that the lease writes, with the name that it has verified.
-    fn leader_for(&self, resource: Name, held: bool, n: u64) -> Leader
+    pub(crate) fn leader_for(&self, resource: Name, held: bool, n: u64) -> Leader
         ensures exact { result ≡ leader_named self.now resource held n }
         ensures granted { IsInstance n → IsGranted result }
     {
@@ -105,6 +107,7 @@ impl Lease {
     {
         match aim {
             Aim::Acquires(_) => LeaseNext::AnswerJob(stop_reply(stop)),
+            Aim::Converts(_) => LeaseNext::AnswerJob(stop_reply(stop)),
             Aim::Releases => LeaseNext::AnswerJob(stop_reply(stop)),
             Aim::Settles => {
                 if is_ahead(stop) {
@@ -174,8 +177,29 @@ impl Lease {
     {
         match aim {
             Aim::Acquires(_) => self.write_leader(LeaseStep::TakeLeader, true, n),
+            Aim::Converts(_) => self.write_leader(LeaseStep::TakeLeader, true, n),
             Aim::Releases => LeaseNext::Nothing,
             Aim::Settles => self.write_leader(LeaseStep::FreeLeader, false, n),
+        }
+    }
+
+    /// An instance that another was granted: the next one where that session is over, else a refusal.
+    fn held_next<E: Evidence>(
+        &self,
+        held: Held,
+        evidence: &E,
+        aim: Aim,
+        n: u64,
+        owner: Owner,
+    ) -> LeaseNext
+        requires { IsInstance n }
+        ensures exact { result ≡ held_by_other (place_of self.now) (known_with self.now held (E.over evidence.now)) aim n owner }
+        ensures fit { IsFitNext result }
+    {
+        if evidence.is_over(owner.id, owner.generation) {
+            self.begin(held, aim, n + 1)
+        } else {
+            LeaseNext::AnswerJob(Reply::Held { lver: n, owner })
         }
     }
 
@@ -193,13 +217,8 @@ impl Lease {
         ensures fit { IsFitNext result }
     {
         match aim {
-            Aim::Acquires(_) => {
-                if evidence.is_over(owner.id, owner.generation) {
-                    self.begin(held, aim, n + 1)
-                } else {
-                    LeaseNext::AnswerJob(Reply::Held { lver: n, owner })
-                }
-            }
+            Aim::Acquires(_) => self.held_next(held, evidence, aim, n, owner),
+            Aim::Converts(_) => self.held_next(held, evidence, aim, n, owner),
             Aim::Releases => LeaseNext::Nothing,
             Aim::Settles => self.settle_known(held),
         }

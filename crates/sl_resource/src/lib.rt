@@ -24,4 +24,3 @@ mod updates;
 pub use deed::Deed;
 pub use evidence::{Evidence, Held};
 pub use lease::Lease;
-

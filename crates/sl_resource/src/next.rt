@@ -1,16 +1,19 @@
-//! What a lease does next: at most one call, one reply or one grant.
+//! What a lease does next: at most one call, one reply, one grant, or the conversion of a holding with the call that it then owes.
 //!
 //! An exclusive acquire reads the area, runs a ballot, takes the leader and is granted. A shared one takes the leader too, but then writes
 //! its mode and frees the leader, in this order: were the leader free before the mode stood in the block, an exclusive acquire could begin
 //! the next instance, read no mode and be granted beside it. The own mode is cleared in one write, after which the release is done.
 //!
+//! A conversion to shared writes its mode while the leader stands, and frees the leader once it is done; one to exclusive goes the way of an
+//! acquire while its mode stands, and clears the mode once it is done. So what is held covers the process at each moment of either.
+//!
 //! `next` is asked after an answer was told by `answered`, and goes by the blocks that are kept, not by those in the answer's bytes: they
 //! are the same, and each sector is decoded once.
 ghost use Rattle.sl_leases.specs.Ballots.{stop_of};
-ghost use Rattle.sl_leases.specs.LeaseWork.{after_clearing, after_freeing, after_take, after_write, lease_next, refuses, release_next, settle_next};
+ghost use Rattle.sl_leases.specs.LeaseWork.{after_clearing, after_freeing, after_moding, after_take, after_write, lease_next, refuses, release_next, settle_next};
 ghost use Rattle.sl_leases.specs.Leases.{known_of};
 ghost use Rattle.sl_leases.specs.declared.lease.LeaseNext.TheVariants.{Nothing, WriteLeader};
-ghost use Rattle.sl_resource.specs.Asked.{asked_next, free_with, known_with, mode_with, phase1_ended, phase2_ended, read_asked};
+ghost use Rattle.sl_resource.specs.Asked.{asked_next, exclusive_with, free_with, known_with, mode_with, phase1_ended, phase2_ended, read_asked, shared_with};
 ghost use Rattle.sl_resource.specs.Bounds.{IsBegun, IsInstance};
 ghost use Rattle.sl_resource.specs.Calls.{IsFitNext, is_whole_read, makes_call, sectors_for};
 ghost use Rattle.sl_resource.specs.Stands.{IsAnswered, LeaseStands, is_begun, is_first_step, layout_in, name_in, place_of};
@@ -114,7 +117,8 @@ impl Lease {
         }
     }
 
-    /// The leader of `n` is taken: exclusive is granted; shared goes on with the own block's mode.
+    /// The leader of `n` is taken: exclusive is granted, or the shared holding converted and its mode cleared; shared goes on with the own
+    /// block's mode.
     fn after_take(&self, aim: Aim, n: u64) -> LeaseNext
         ensures exact { (h : Held) (over : ℕ → ℕ → Bool) → result ≡ after_take (known_with self.now h over) aim n }
         ensures fit { IsInstance n → IsFitNext result }
@@ -125,6 +129,51 @@ impl Lease {
                 lver: n,
             },
             Aim::Acquires(Mode::Shared) => self.set_mode(),
+            Aim::Converts(Mode::Exclusive) => self.become_exclusive(n),
+            Aim::Converts(Mode::Shared) => LeaseNext::Nothing,
+            Aim::Releases => LeaseNext::Nothing,
+            Aim::Settles => LeaseNext::Nothing,
+        }
+    }
+
+    /// The shared holding becomes an exclusive one of `n`, and the own block is written without the mode.
+    fn become_exclusive(&self, n: u64) -> LeaseNext
+        ensures exact { result ≡ exclusive_with self.now n }
+        ensures fit { IsInstance n → IsFitNext result }
+    {
+        match self.own {
+            Some(own) => LeaseNext::BecomeExclusive {
+                lver: n,
+                block: moded_block(&own, false, 0),
+            },
+            None => LeaseNext::Nothing,
+        }
+    }
+
+    /// The exclusive holding becomes a shared one of the same instance, whose leader is written free.
+    fn become_shared(&self, held: Held) -> LeaseNext
+        ensures exact { IsTrue (is_some self.now.name) → result ≡ shared_with self.now held }
+        ensures fit { IsFitNext result }
+    {
+        match (self.name, held.exclusive) {
+            (Some(resource), Some(lver)) => LeaseNext::BecomeShared {
+                lver,
+                leader: self.leader_for(resource, false, lver),
+            },
+            _ => LeaseNext::Nothing,
+        }
+    }
+
+    /// The mode stands: an acquire frees the leader of `n` before it is granted; a conversion is done, and the leader of the instance that
+    /// was held is freed after it.
+    fn after_moding(&self, held: Held, aim: Aim, n: u64) -> LeaseNext
+        ensures exact { IsTrue (is_some self.now.name) → (over : ℕ → ℕ → Bool)
+            → result ≡ after_moding (place_of self.now) (known_with self.now held over) aim n }
+        ensures fit { IsInstance n → IsFitNext result }
+    {
+        match aim {
+            Aim::Acquires(_) => self.write_leader(LeaseStep::FreeLeader, false, n),
+            Aim::Converts(_) => self.become_shared(held),
             Aim::Releases => LeaseNext::Nothing,
             Aim::Settles => LeaseNext::Nothing,
         }
@@ -154,6 +203,7 @@ impl Lease {
                 mode: Mode::Shared,
                 lver: n,
             },
+            Aim::Converts(_) => LeaseNext::Nothing,
             Aim::Releases => LeaseNext::AnswerJob(Reply::Done),
             Aim::Settles => self.settle_known(held),
         }
@@ -166,6 +216,7 @@ impl Lease {
     {
         match aim {
             Aim::Acquires(_) => LeaseNext::Nothing,
+            Aim::Converts(_) => LeaseNext::Nothing,
             Aim::Releases => LeaseNext::AnswerJob(Reply::Done),
             Aim::Settles => self.settle_known(held),
         }
@@ -185,7 +236,7 @@ impl Lease {
             LeaseStep::Phase2Write => LeaseNext::ReadFor(LeaseStep::Phase2Read),
             LeaseStep::Phase2Read => LeaseNext::Nothing,
             LeaseStep::TakeLeader => self.after_take(aim, n),
-            LeaseStep::SetMode => self.write_leader(LeaseStep::FreeLeader, false, n),
+            LeaseStep::SetMode => self.after_moding(held, aim, n),
             LeaseStep::FreeLeader => self.after_freeing(held, aim, n),
             LeaseStep::ClearMode => self.after_clearing(held, aim),
         }

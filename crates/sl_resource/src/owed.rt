@@ -35,6 +35,7 @@ pub(crate) fn refuses(aim: Aim, reply: Reply) -> LeaseNext
 {
     match aim {
         Aim::Acquires(_) => LeaseNext::AnswerJob(reply),
+        Aim::Converts(_) => LeaseNext::AnswerJob(reply),
         Aim::Releases => LeaseNext::AnswerJob(reply),
         Aim::Settles => LeaseNext::Nothing,
     }

@@ -1,14 +1,14 @@
 -- The events whose lines may have more words or fewer, read as their two forms say; and all forms by halves.
 use Rattle.sl_report.specs.Languages.{whole_language}
-use Rattle.sl_report.specs.ReadingLines.{command_event, event_in}
+use Rattle.sl_report.specs.ReadingLines.{command_event, event_in, given_text}
 use Rattle.sl_report.specs.ScheduleLines.{checked_event, event_forms, is_positive_word}
-use Rattle.sl_run.specs.declared.event.Event.TheVariants.{GiveCommand, Pass, Tear}
+use Rattle.sl_run.specs.declared.event.Event.TheVariants.{Pass, Tear}
 use Rattle.sl_run.specs.declared.event.Event.{Event}
 use Rattle.sl_schedule.proofs.ReadLaws.{made_as_read}
 use Rattle.sl_schedule.specs.EventReads.{bytes_in, early_forms, growths_in, late_forms, one_word, pass_read, tear_read}
 use Rattle.sl_schedule.specs.Reads.{kept_part, machine_part, number_part}
 use Rattle.sl_text.proofs.FormLaws.{read_by-verbs}
-use Rattle.sl_text.specs.Forms.{Form, exactly, fits_whole, made_by, spaced, word_at, words_of}
+use Rattle.sl_text.specs.Forms.{Form, exactly, fits_whole, made_by, word_at, words_of}
 use Rattle.sl_text.specs.Numbers.{capped_long, capped_short, hex_bytes, is_hex_word, is_number_text}
 use Rattle.sl_text.specs.Walks.{Part, Unread, column_behind, forms_behind, going_on, next_part, next_passes, past_word, read_by, read_from, unread}
 use Rattle.sl_words.specs.Results.{◌>>=◌}
@@ -216,7 +216,7 @@ no_command : (ws : List (List ℕ)) → some_is (exactly (codes "command")) (fir
 no_command [] h = refl
 no_command (a ∷ []) h = refl
 no_command (a ∷ b ∷ []) h = refl
-no_command (a ∷ b ∷ c ∷ ws) h = ap (λ t. choose (t && is_positive_word b) (GiveCommand (capped_short b) (spaced (c ∷ ws)))) h
+no_command (a ∷ b ∷ c ∷ ws) h = ap (λ t. choose (t && is_positive_word b) (given_text (capped_short b) c ws)) h
 
 pub other_made : (machines sector : ℕ) (line : List ℕ) → next_passes (exactly (codes "command")) (unread 32 line) ≡ false
     → checked_event sector (made_by (event_forms machines sector) (words_of line)) ≡ event_in whole_language machines sector line

@@ -1,16 +1,22 @@
 -- What is kept of a header's lines stands for them: their counts, their header, and one more line.
+use Rattle.sl_area.specs.Layouts.{Sizes, most_ids, sizes}
 use Rattle.sl_report.specs.Languages.{is_skipped, least_lines, most_lines, whole_language}
 use Rattle.sl_report.specs.ReadingLines.{header_line_in, header_refusal, is_in_order}
-use Rattle.sl_report.specs.ScheduleLines.{AreaLine, BeginLine, ClockLine, DiskLine, HeaderLine, HostsLine, IdsLine, LeaseLine, MemberLine, TimeLine, VersionLine, area_line, clock_line, count_of_rank, disk_line, header_of, header_tests, hosts_line, ids_line, lease_line, member_line, no_timing, rank, timing_line}
+use Rattle.sl_report.specs.ScheduleLines.{AreaLine, BeginLine, ClockLine, DiskLine, GeometryLine, HeaderLine, HostsLine, IdsLine, LeaseLine, LvmLine, MemberLine, TimeLine, VersionLine, area_line, clock_line, count_of_rank, disk_line, geometry_line, header_of, header_tests, hosts_line, ids_line, lease_line, member_line, no_timing, rank, retries_line, timing_line}
 use Rattle.sl_report.specs.Schedules.{default_area, default_sector, header_line_refusal, is_begin, with_line}
-use Rattle.sl_run.specs.Worlds.{first_that}
-use Rattle.sl_run.specs.declared.event.Refusal.TheVariants.{Syntax}
+use Rattle.sl_run.specs.Worlds.{first_that, mebibyte}
+use Rattle.sl_run.specs.declared.event.Refusal.TheVariants.{LimitGeometry, LimitIds, Syntax}
 use Rattle.sl_run.specs.declared.event.Refusal.{Refusal}
+use Rattle.sl_run.specs.declared.header.Header.{Header}
+use Rattle.sl_schedule.proofs.SizeLaws.{no_sizes, sizes_taken, some_hosts}
+use Rattle.sl_schedule.specs.HeaderReads.{IsHosts}
 use Rattle.sl_schedule.specs.declared.header.Added.TheVariants.{Begun, More, Refused}
-use Rattle.sl_schedule.specs.Headers.{HeaderSoFar, Stands, answer_after, answer_now, answer_to, count_at, has_least, has_room, header_now, is_in_place, kept_after, lines_after, no_lines, refusal_now, so_far_after, so_far_with}
+use Rattle.sl_schedule.specs.Headers.{HeaderSoFar, Stands, answer_after, answer_now, answer_to, bytes_of, count_at, has_least, has_room, header_now, is_in_place, kept_after, lines_after, no_lines, refusal_now, sizes_now, sizes_of, so_far_after, so_far_with}
+use Rattle.sl_words.proofs.CaseLaws.{true_or_false}
 use Rattle.sl_words.proofs.WordLaws.{and_true}
 use Rattle.sl_words.specs.Words.{first_of_list, some_is}
-use Rattle.std.proofs.Common.{Bool, List, None, Option, Some, [], ap, arith, cond, false, length, not, refl, subst, suc, sym, true, zero, ℕ, ◌+◌, ◌&&◌, ◌++◌, ◌<◌, ◌∙◌, ◌∷◌, ◌≡◌}
+use Rattle.std.proofs.Common.{Bool, List, None, Option, Some, [], ap, arith, cond, false, inl, inr, length, not, refl, subst, suc, sym, true, zero, ℕ, ◌*◌, ◌+◌, ◌&&◌, ◌++◌, ◌<◌, ◌∙◌, ◌∷◌, ◌≡◌, ◌≤◌}
+use Rattle.std.proofs.lemmas.Bool.{eqb-true}
 use Rattle.std.proofs.lemmas.Bool.Decides.{nat_tests}
 use Rattle.std.proofs.lemmas.List.Elements.{filter_map-append}
 use Rattle.std.proofs.lemmas.List.Folds.{list_all-append}
@@ -18,8 +24,8 @@ use Rattle.std.proofs.lemmas.List.Recursion.{is_count_by}
 use Rattle.std.proofs.lemmas.List.Sums.{sum_by-append}
 use Rattle.std.proofs.lemmas.List.{append-nil}
 use Rattle.std.specs.List.{filter_map, list_all, range_with_len}
-use Rattle.std.specs.Option.{IsSome, option_to_list}
-use Rattle.std.specs.Prelude.{if◌then◌else◌, nat_le, nat_lt, unwrap_or, ◌==◌}
+use Rattle.std.specs.Option.{IfSome, IsSome, option_map, option_to_list}
+use Rattle.std.specs.Prelude.{if◌then◌else◌, is_none, nat_le, nat_lt, unwrap_or, ◌==◌}
 
 -- ---- how many lines of a rank there are
 
@@ -51,67 +57,92 @@ ids_more l ls = refl
 ids_count : (ls : List HeaderLine) → count_of_rank ls 3 ≡ length (filter_map ids_line ls)
 ids_count ls = sym (is_count_by (λ ls. length (filter_map ids_line ls)) (λ l. rank l == 3) refl ids_more ls)
 
+geometry_more : (l : HeaderLine) (ls : List HeaderLine)
+    → length (filter_map geometry_line (l ∷ ls)) ≡ cond (rank l == 4) (1 + length (filter_map geometry_line ls)) (length (filter_map geometry_line ls))
+geometry_more (GeometryLine sector mebibytes) ls = longer (length (filter_map geometry_line ls))
+geometry_more l ls = refl
+
+geometry_count : (ls : List HeaderLine) → count_of_rank ls 4 ≡ length (filter_map geometry_line ls)
+geometry_count ls = sym (is_count_by (λ ls. length (filter_map geometry_line ls)) (λ l. rank l == 4) refl geometry_more ls)
+
+retries_more : (l : HeaderLine) (ls : List HeaderLine)
+    → length (filter_map retries_line (l ∷ ls)) ≡ cond (rank l == 5) (1 + length (filter_map retries_line ls)) (length (filter_map retries_line ls))
+retries_more (LvmLine n) ls = longer (length (filter_map retries_line ls))
+retries_more l ls = refl
+
+retries_count : (ls : List HeaderLine) → count_of_rank ls 5 ≡ length (filter_map retries_line ls)
+retries_count ls = sym (is_count_by (λ ls. length (filter_map retries_line ls)) (λ l. rank l == 5) refl retries_more ls)
+
 clock_more : (l : HeaderLine) (ls : List HeaderLine)
-    → length (filter_map clock_line (l ∷ ls)) ≡ cond (rank l == 4) (1 + length (filter_map clock_line ls)) (length (filter_map clock_line ls))
+    → length (filter_map clock_line (l ∷ ls)) ≡ cond (rank l == 6) (1 + length (filter_map clock_line ls)) (length (filter_map clock_line ls))
 clock_more (ClockLine c) ls = longer (length (filter_map clock_line ls))
 clock_more l ls = refl
 
-clock_count : (ls : List HeaderLine) → count_of_rank ls 4 ≡ length (filter_map clock_line ls)
-clock_count ls = sym (is_count_by (λ ls. length (filter_map clock_line ls)) (λ l. rank l == 4) refl clock_more ls)
+clock_count : (ls : List HeaderLine) → count_of_rank ls 6 ≡ length (filter_map clock_line ls)
+clock_count ls = sym (is_count_by (λ ls. length (filter_map clock_line ls)) (λ l. rank l == 6) refl clock_more ls)
 
 disk_more : (l : HeaderLine) (ls : List HeaderLine)
-    → length (filter_map disk_line (l ∷ ls)) ≡ cond (rank l == 5) (1 + length (filter_map disk_line ls)) (length (filter_map disk_line ls))
+    → length (filter_map disk_line (l ∷ ls)) ≡ cond (rank l == 7) (1 + length (filter_map disk_line ls)) (length (filter_map disk_line ls))
 disk_more (DiskLine d) ls = longer (length (filter_map disk_line ls))
 disk_more l ls = refl
 
-disk_count : (ls : List HeaderLine) → count_of_rank ls 5 ≡ length (filter_map disk_line ls)
-disk_count ls = sym (is_count_by (λ ls. length (filter_map disk_line ls)) (λ l. rank l == 5) refl disk_more ls)
+disk_count : (ls : List HeaderLine) → count_of_rank ls 7 ≡ length (filter_map disk_line ls)
+disk_count ls = sym (is_count_by (λ ls. length (filter_map disk_line ls)) (λ l. rank l == 7) refl disk_more ls)
 
 area_more : (l : HeaderLine) (ls : List HeaderLine)
-    → length (filter_map area_line (l ∷ ls)) ≡ cond (rank l == 6) (1 + length (filter_map area_line ls)) (length (filter_map area_line ls))
+    → length (filter_map area_line (l ∷ ls)) ≡ cond (rank l == 8) (1 + length (filter_map area_line ls)) (length (filter_map area_line ls))
 area_more (AreaLine a) ls = longer (length (filter_map area_line ls))
 area_more l ls = refl
 
-area_count : (ls : List HeaderLine) → count_of_rank ls 6 ≡ length (filter_map area_line ls)
-area_count ls = sym (is_count_by (λ ls. length (filter_map area_line ls)) (λ l. rank l == 6) refl area_more ls)
+area_count : (ls : List HeaderLine) → count_of_rank ls 8 ≡ length (filter_map area_line ls)
+area_count ls = sym (is_count_by (λ ls. length (filter_map area_line ls)) (λ l. rank l == 8) refl area_more ls)
 
 lease_more : (l : HeaderLine) (ls : List HeaderLine)
-    → length (filter_map lease_line (l ∷ ls)) ≡ cond (rank l == 7) (1 + length (filter_map lease_line ls)) (length (filter_map lease_line ls))
+    → length (filter_map lease_line (l ∷ ls)) ≡ cond (rank l == 9) (1 + length (filter_map lease_line ls)) (length (filter_map lease_line ls))
 lease_more (LeaseLine r) ls = longer (length (filter_map lease_line ls))
 lease_more l ls = refl
 
-lease_count : (ls : List HeaderLine) → count_of_rank ls 7 ≡ length (filter_map lease_line ls)
-lease_count ls = sym (is_count_by (λ ls. length (filter_map lease_line ls)) (λ l. rank l == 7) refl lease_more ls)
+lease_count : (ls : List HeaderLine) → count_of_rank ls 9 ≡ length (filter_map lease_line ls)
+lease_count ls = sym (is_count_by (λ ls. length (filter_map lease_line ls)) (λ l. rank l == 9) refl lease_more ls)
 
 member_more : (l : HeaderLine) (ls : List HeaderLine)
-    → length (filter_map member_line (l ∷ ls)) ≡ cond (rank l == 8) (1 + length (filter_map member_line ls)) (length (filter_map member_line ls))
+    → length (filter_map member_line (l ∷ ls)) ≡ cond (rank l == 10) (1 + length (filter_map member_line ls)) (length (filter_map member_line ls))
 member_more (MemberLine s) ls = longer (length (filter_map member_line ls))
 member_more l ls = refl
 
-member_count : (ls : List HeaderLine) → count_of_rank ls 8 ≡ length (filter_map member_line ls)
-member_count ls = sym (is_count_by (λ ls. length (filter_map member_line ls)) (λ l. rank l == 8) refl member_more ls)
+member_count : (ls : List HeaderLine) → count_of_rank ls 10 ≡ length (filter_map member_line ls)
+member_count ls = sym (is_count_by (λ ls. length (filter_map member_line ls)) (λ l. rank l == 10) refl member_more ls)
+
+-- As many bytes as sizes.
+sized_count : (o : Option Sizes) → length (option_to_list (option_map bytes_of o)) ≡ length (option_to_list o)
+sized_count None = refl
+sized_count (Some z) = refl
 
 -- The counts are those of what is kept.
-counts : (r : HeaderSoFar) (ls : List HeaderLine) → Stands r ls → (k : ℕ) → k < 10 → count_of_rank ls k ≡ count_at r k
+counts : (r : HeaderSoFar) (ls : List HeaderLine) → Stands r ls → (k : ℕ) → k < 12 → count_of_rank ls k ≡ count_at r k
 counts r ls h zero small = h.versions
 counts r ls h (suc zero) small = timing_count ls ∙ ap length h.timings
 counts r ls h (suc (suc zero)) small = hosts_count ls ∙ ap length h.numbers
 counts r ls h (suc (suc (suc zero))) small = ids_count ls ∙ ap length h.ids
-counts r ls h (suc (suc (suc (suc zero)))) small = clock_count ls ∙ ap length h.readings
-counts r ls h (suc (suc (suc (suc (suc zero))))) small = disk_count ls ∙ ap length h.paths
-counts r ls h (suc (suc (suc (suc (suc (suc zero)))))) small = area_count ls ∙ ap length h.areas
-counts r ls h (suc (suc (suc (suc (suc (suc (suc zero))))))) small = lease_count ls ∙ ap length h.leases
-counts r ls h (suc (suc (suc (suc (suc (suc (suc (suc zero)))))))) small = member_count ls ∙ ap length h.members
-counts r ls h (suc (suc (suc (suc (suc (suc (suc (suc (suc zero))))))))) small = h.begins
-counts r ls h (suc (suc (suc (suc (suc (suc (suc (suc (suc (suc k)))))))))) small = absurd (omega arith)
+counts r ls h (suc (suc (suc (suc zero)))) small = geometry_count ls ∙ ap length h.geometries ∙ sized_count r.sizes
+counts r ls h (suc (suc (suc (suc (suc zero))))) small = retries_count ls ∙ ap length h.retried
+counts r ls h (suc (suc (suc (suc (suc (suc zero)))))) small = clock_count ls ∙ ap length h.readings
+counts r ls h (suc (suc (suc (suc (suc (suc (suc zero))))))) small = disk_count ls ∙ ap length h.paths
+counts r ls h (suc (suc (suc (suc (suc (suc (suc (suc zero)))))))) small = area_count ls ∙ ap length h.areas
+counts r ls h (suc (suc (suc (suc (suc (suc (suc (suc (suc zero))))))))) small = lease_count ls ∙ ap length h.leases
+counts r ls h (suc (suc (suc (suc (suc (suc (suc (suc (suc (suc zero)))))))))) small = member_count ls ∙ ap length h.members
+counts r ls h (suc (suc (suc (suc (suc (suc (suc (suc (suc (suc (suc zero))))))))))) small = h.begins
+counts r ls h (suc (suc (suc (suc (suc (suc (suc (suc (suc (suc (suc (suc k)))))))))))) small = absurd (omega arith)
 
 -- ---- order
 
-rank_small : (l : HeaderLine) → rank l < 10
+rank_small : (l : HeaderLine) → rank l < 12
 rank_small VersionLine = omega arith
 rank_small (TimeLine io fire land rho grace) = omega arith
 rank_small (HostsLine m) = omega arith
 rank_small (IdsLine n) = omega arith
+rank_small (GeometryLine sector mebibytes) = omega arith
+rank_small (LvmLine n) = omega arith
 rank_small (ClockLine c) = omega arith
 rank_small (DiskLine d) = omega arith
 rank_small (AreaLine a) = omega arith
@@ -126,7 +157,7 @@ same_on_range p q (suc n) a h =
     ap (λ t. t && list_all p (range_with_len (a + 1) n)) (h a (omega arith))
     ∙ ap (λ t. q a && t) (same_on_range p q n (a + 1) (λ j lt. h j (omega arith)))
 
-in_order : (r : HeaderSoFar) (ls : List HeaderLine) → Stands r ls → (k : ℕ) → k < 10 → is_in_order whole_language ls k ≡ is_in_place r k
+in_order : (r : HeaderSoFar) (ls : List HeaderLine) → Stands r ls → (k : ℕ) → k < 12 → is_in_order whole_language ls k ≡ is_in_place r k
 in_order r ls h k small =
     let least : list_all (λ j. nat_le (least_lines j) (count_of_rank ls j)) (range_with_len 0 k) ≡ list_all (has_least r) (range_with_len 0 k) =
     same_on_range (λ j. nat_le (least_lines j) (count_of_rank ls j)) (has_least r) k 0 (λ j lt. ap (nat_le (least_lines j)) (counts r ls h j (omega arith))) in
@@ -144,13 +175,28 @@ first_listed (Some a) d = refl
 first_is : {A : Type 0} (xs : List A) (o : Option A) (d : A) → xs ≡ option_to_list o → unwrap_or (first_of_list xs) d ≡ unwrap_or o d
 first_is xs o d e = ap (λ ys. unwrap_or (first_of_list ys) d) e ∙ first_listed o d
 
+-- The sizes that the lines give.
+sizes_are : (o : Option Sizes) (hosts : Option ℕ) → IfSome o (λ z. hosts ≡ Some z.hosts)
+    → record {
+      sector = (unwrap_or (option_map bytes_of o) (default_sector, default_area)).0;
+      area = (unwrap_or (option_map bytes_of o) (default_sector, default_area)).1;
+      hosts = unwrap_or hosts 0;
+    }
+    ≡ unwrap_or o (sizes default_sector default_area (unwrap_or hosts 0))
+sizes_are None hosts same = refl
+sizes_are (Some z) hosts same = ap (λ h. record { sector = z.sector; area = z.area; hosts = unwrap_or h 0 }) same
+
 pub header_is : (r : HeaderSoFar) (ls : List HeaderLine) → Stands r ls → header_of default_sector default_area ls ≡ header_now r
 unfolding header_of
 header_is r ls h =
     let times : unwrap_or (first_of_list (filter_map timing_line ls)) (no_timing, 0) ≡ unwrap_or r.times (no_timing, 0) = first_is _ r.times (no_timing, 0) h.timings in
     let machines : unwrap_or (first_of_list (filter_map hosts_line ls)) 0 ≡ unwrap_or r.machines 0 = first_is _ r.machines 0 h.numbers in
     let hosts : unwrap_or (first_of_list (filter_map ids_line ls)) 0 ≡ unwrap_or r.hosts 0 = first_is _ r.hosts 0 h.ids in
-    rw (times, machines, hosts, h.readings, h.paths, h.areas, h.leases, h.members) refl
+    let bytes : unwrap_or (first_of_list (filter_map geometry_line ls)) (default_sector, default_area) ≡ unwrap_or (option_map bytes_of r.sizes) (default_sector, default_area) =
+    first_is _ (option_map bytes_of r.sizes) (default_sector, default_area) h.geometries in
+    let retries : unwrap_or (first_of_list (filter_map retries_line ls)) 0 ≡ unwrap_or r.retries 0 = first_is _ r.retries 0 h.retried in
+    rw (times, machines, hosts, bytes, retries, h.readings, h.paths, h.areas, h.leases, h.members)
+    (ap (λ z. record (header_now r) { geometry = z }) (sizes_are r.sizes r.hosts h.sized))
 
 -- ---- refusals
 
@@ -195,6 +241,25 @@ not_before r k place =
     (and_true (nat_le r.last k) (list_all (has_least r) (range_with_len 0 k))
     (and_true (nat_le r.last k && list_all (has_least r) (range_with_len 0 k)) (has_room r k) place).0).0
 
+after_it : (j a : ℕ) → a ≤ j → (j == a) ≡ false → a + 1 ≤ j
+after_it j a low other = grind (arith, nat_tests)
+
+-- A test that holds on a range holds of each number in it.
+in_range : (p : ℕ → Bool) (n a : ℕ) → list_all p (range_with_len a n) ≡ true → (j : ℕ) → a ≤ j → j < a + n → p j ≡ true
+in_range p zero a h j low high = absurd (omega arith)
+in_range p (suc n) a h j low high =
+    let parts = and_true (p a) (list_all p (range_with_len (a + 1) n)) h in
+    elim (true_or_false (j == a)) as (λ x. p j ≡ true) [
+      | inl same ↦ ap p (eqb-true j a same) ∙ parts.0
+      | inr other ↦ in_range p n (a + 1) parts.1 j (after_it j a low other) (omega arith)
+    ]
+
+-- There are as many lines of each rank before it as there must be.
+least_of : (r : HeaderSoFar) (k : ℕ) → is_in_place r k ≡ true → (j : ℕ) → j < k → has_least r j ≡ true
+least_of r k place j before =
+    in_range (has_least r) k 0 (and_true (nat_le r.last k) (list_all (has_least r) (range_with_len 0 k))
+    (and_true (nat_le r.last k && list_all (has_least r) (range_with_len 0 k)) (has_room r k) place).0).1 j (omega arith) (omega arith)
+
 timings_with : (r : HeaderSoFar) (ls : List HeaderLine) (l : HeaderLine) → Stands r ls → is_in_place r (rank l) ≡ true
     → filter_map timing_line (ls ++ l ∷ []) ≡ option_to_list (so_far_with r l).times
 timings_with r ls (TimeLine io fire land rho grace) h place = first_kept timing_line ls (TimeLine io fire land rho grace) r.times (record { io = io; fire = fire; land = land; rho = rho }, grace) refl h.timings (room_of r 1 place)
@@ -209,6 +274,60 @@ ids_with : (r : HeaderSoFar) (ls : List HeaderLine) (l : HeaderLine) → Stands 
     → filter_map ids_line (ls ++ l ∷ []) ≡ option_to_list (so_far_with r l).hosts
 ids_with r ls (IdsLine n) h place = first_kept ids_line ls (IdsLine n) r.hosts n refl h.ids (room_of r 3 place)
 ids_with r ls l h place = no_more_kept ids_line ls l (option_to_list r.hosts) refl h.ids
+
+-- The sizes of a line that may stand.
+record SizesTaken (r : HeaderSoFar) (sector area : ℕ) : Type 0 where
+  taken : Sizes
+  is : sizes_of sector area (sizes_now r).hosts ≡ Some taken
+  bytes : bytes_of taken ≡ (sector, area)
+  hosts : r.hosts ≡ Some taken.hosts
+  alone : r.sizes ≡ None
+
+takes_sizes : (r : HeaderSoFar) (sector mebibytes : ℕ) → is_in_place r 4 ≡ true → IfSome r.hosts IsHosts
+    → first_that (header_tests (header_now r) (GeometryLine sector mebibytes)) ≡ None → SizesTaken r sector (mebibytes * mebibyte)
+unfolding header_tests
+takes_sizes r sector mebibytes place possible none =
+    let area : ℕ = mebibytes * mebibyte in
+    let given = some_hosts r.hosts (least_of r 4 place 3 (omega arith)) possible in
+    let alone = no_sizes r.sizes (room_of r 4 place) in
+    let hosts : (sizes_now r).hosts ≡ given.0 = ap (λ o. (unwrap_or o (sizes default_sector default_area (unwrap_or r.hosts 0))).hosts) alone ∙ ap (λ h. unwrap_or h 0) given.1 in
+    record {
+      taken = sizes sector area given.0;
+      is = ap (sizes_of sector area) hosts ∙ sizes_taken sector area given.0 given.2 (subst (λ (n : ℕ). first_that ((is_none (most_ids sector area), LimitGeometry)
+          ∷ (some_is (λ most. nat_lt most n) (most_ids sector area), LimitIds) ∷ []) ≡ None) hosts none);
+      bytes = refl;
+      hosts = given.1;
+      alone = alone;
+    }
+
+no_bytes : (o : Option Sizes) (xs : List (ℕ × ℕ)) → o ≡ None → xs ≡ option_to_list (option_map bytes_of o) → xs ≡ []
+no_bytes None xs none e = e
+no_bytes (Some z) xs none e = absurd cc
+
+geometries_with : (r : HeaderSoFar) (ls : List HeaderLine) (l : HeaderLine) → Stands r ls → is_in_place r (rank l) ≡ true → IfSome r.hosts IsHosts
+    → first_that (header_tests (header_now r) l) ≡ None → filter_map geometry_line (ls ++ l ∷ []) ≡ option_to_list (option_map bytes_of (so_far_with r l).sizes)
+geometries_with r ls (GeometryLine sector mebibytes) h place possible none =
+    let t = takes_sizes r sector mebibytes place possible none in
+    one_more_kept geometry_line ls (GeometryLine sector mebibytes) [] (sector, mebibytes * mebibyte) refl (no_bytes r.sizes (filter_map geometry_line ls) t.alone h.geometries)
+    ∙ sym (ap (λ o. option_to_list (option_map bytes_of o)) t.is ∙ ap (λ p. p ∷ []) t.bytes)
+geometries_with r ls l h place possible none = no_more_kept geometry_line ls l (option_to_list (option_map bytes_of r.sizes)) refl h.geometries
+
+still_sized : (o : Option Sizes) (hosts : Option ℕ) (n : ℕ) → nat_lt (length (option_to_list hosts)) 1 ≡ true → IfSome o (λ z. hosts ≡ Some z.hosts) → IfSome o (λ z. Some n ≡ Some z.hosts)
+still_sized None hosts n room same = tt
+still_sized (Some z) None n room same = absurd cc
+still_sized (Some z) (Some m) n room same = absurd cc
+
+sized_with : (r : HeaderSoFar) (ls : List HeaderLine) (l : HeaderLine) → Stands r ls → is_in_place r (rank l) ≡ true → IfSome r.hosts IsHosts
+    → first_that (header_tests (header_now r) l) ≡ None → IfSome (so_far_with r l).sizes (λ z. (so_far_with r l).hosts ≡ Some z.hosts)
+sized_with r ls (IdsLine n) h place possible none = still_sized r.sizes r.hosts n (room_of r 3 place) h.sized
+sized_with r ls (GeometryLine sector mebibytes) h place possible none =
+    let t = takes_sizes r sector mebibytes place possible none in subst (λ (o : Option Sizes). IfSome o (λ z. r.hosts ≡ Some z.hosts)) (sym t.is) t.hosts
+sized_with r ls l h place possible none = h.sized
+
+retried_with : (r : HeaderSoFar) (ls : List HeaderLine) (l : HeaderLine) → Stands r ls → is_in_place r (rank l) ≡ true
+    → filter_map retries_line (ls ++ l ∷ []) ≡ option_to_list (so_far_with r l).retries
+retried_with r ls (LvmLine n) h place = first_kept retries_line ls (LvmLine n) r.retries n refl h.retried (room_of r 5 place)
+retried_with r ls l h place = no_more_kept retries_line ls l (option_to_list r.retries) refl h.retried
 
 readings_with : (r : HeaderSoFar) (ls : List HeaderLine) (l : HeaderLine) → Stands r ls → is_in_place r (rank l) ≡ true
     → filter_map clock_line (ls ++ l ∷ []) ≡ (so_far_with r l).clocks
@@ -247,19 +366,22 @@ versions_with : (r : HeaderSoFar) (ls : List HeaderLine) (l : HeaderLine) → St
 versions_with r ls VersionLine h place = count_with 0 ls VersionLine ∙ none_yet r.version (count_of_rank ls 0) (room_of r 0 place) h.versions
 versions_with r ls l h place = count_with 0 ls l ∙ same_count (count_of_rank ls 0) _ h.versions
 
-begins_with : (r : HeaderSoFar) (ls : List HeaderLine) (l : HeaderLine) → Stands r ls → (rank l ≡ 9 → ⊥) → count_of_rank (ls ++ l ∷ []) 9 ≡ 0
+begins_with : (r : HeaderSoFar) (ls : List HeaderLine) (l : HeaderLine) → Stands r ls → (rank l ≡ 11 → ⊥) → count_of_rank (ls ++ l ∷ []) 11 ≡ 0
 begins_with r ls BeginLine h not_begin = absurd (not_begin refl)
-begins_with r ls l h not_begin = count_with 9 ls l ∙ same_count (count_of_rank ls 9) _ h.begins
+begins_with r ls l h not_begin = count_with 11 ls l ∙ same_count (count_of_rank ls 11) _ h.begins
 
-pub stands_with : (r : HeaderSoFar) (ls : List HeaderLine) (l : HeaderLine) → Stands r ls → is_in_place r (rank l) ≡ true → (rank l ≡ 9 → ⊥)
-    → Stands (so_far_with r l) (ls ++ l ∷ [])
-stands_with r ls l h place not_begin =
+stands_with : (r : HeaderSoFar) (ls : List HeaderLine) (l : HeaderLine) → Stands r ls → is_in_place r (rank l) ≡ true → (rank l ≡ 11 → ⊥) → IfSome r.hosts IsHosts
+    → first_that (header_tests (header_now r) l) ≡ None → Stands (so_far_with r l) (ls ++ l ∷ [])
+stands_with r ls l h place not_begin possible none =
     record {
       order = (λ k. order_with r ls l h (not_before r (rank l) place) k);
       versions = versions_with r ls l h place;
       timings = timings_with r ls l h place;
       numbers = numbers_with r ls l h place;
       ids = ids_with r ls l h place;
+      geometries = geometries_with r ls l h place possible none;
+      sized = sized_with r ls l h place possible none;
+      retried = retried_with r ls l h place;
       readings = readings_with r ls l h place;
       paths = paths_with r ls l h place;
       areas = areas_with r ls l h place;
@@ -279,6 +401,9 @@ stands_at_first =
       timings = refl;
       numbers = refl;
       ids = refl;
+      geometries = refl;
+      sized = tt;
+      retried = refl;
       readings = refl;
       paths = refl;
       areas = refl;
@@ -298,22 +423,14 @@ holds_from_none : (t : Bool) (why : Refusal) → first_that ((not t, why) ∷ []
 holds_from_none true why h = refl
 holds_from_none false why h = absurd cc
 
-place_of_begin : (r : HeaderSoFar) → refusal_now r BeginLine ≡ None → is_in_place r 9 ≡ true
+place_of_begin : (r : HeaderSoFar) → refusal_now r BeginLine ≡ None → is_in_place r 11 ≡ true
 unfolding header_tests
-place_of_begin r none = holds_from_none (is_in_place r 9) Syntax none
+place_of_begin r none = holds_from_none (is_in_place r 11) Syntax none
 
 pub given_at_begin : (r : HeaderSoFar) (l : HeaderLine) → refusal_now r l ≡ None → is_begin l ≡ true → IsSome r.times × IsSome r.hosts
 given_at_begin r BeginLine none begin =
-    let place : is_in_place r 9 ≡ true = place_of_begin r none in
-    let least : list_all (has_least r) (range_with_len 0 9) ≡ true =
-    (and_true (nat_le r.last 9) (list_all (has_least r) (range_with_len 0 9))
-    (and_true (nat_le r.last 9 && list_all (has_least r) (range_with_len 0 9)) (has_room r 9) place).0).1 in
-    let from_1 : list_all (has_least r) (range_with_len 1 8) ≡ true = (and_true (has_least r 0) (list_all (has_least r) (range_with_len 1 8)) least).1 in
-    let from_2 : list_all (has_least r) (range_with_len 2 7) ≡ true = (and_true (has_least r 1) (list_all (has_least r) (range_with_len 2 7)) from_1).1 in
-    let from_3 : list_all (has_least r) (range_with_len 3 6) ≡ true = (and_true (has_least r 2) (list_all (has_least r) (range_with_len 3 6)) from_2).1 in (
-      given r.times (and_true (has_least r 1) (list_all (has_least r) (range_with_len 2 7)) from_1).0,
-      given r.hosts (and_true (has_least r 3) (list_all (has_least r) (range_with_len 4 5)) from_3).0,
-    )
+    let place : is_in_place r 11 ≡ true = place_of_begin r none in
+    (given r.times (least_of r 11 place 1 (omega arith)), given r.hosts (least_of r 11 place 3 (omega arith)))
 given_at_begin r l none begin = absurd cc
 
 -- The answer to a line that was read is that of the definitions.
@@ -330,55 +447,70 @@ answered r ls h (Some l) =
       | None ↦ elim (is_begin l) [ true ↦ Begun g | false ↦ More ]
     ]) (sym (header_is r ls h))
 
+-- The bytes of an area so far.
+pub area_is : (r : HeaderSoFar) (ls : List HeaderLine) → Stands r ls → (sizes_now r).area ≡ (header_of default_sector default_area ls).geometry.area
+area_is r ls h = ap (λ (g : Header). g.geometry.area) (sym (header_is r ls h))
+
 pub answer_is : (r : HeaderSoFar) (ls : List HeaderLine) (line : List ℕ) → Stands r ls → answer_now r line ≡ answer_after ls line
 answer_is r ls line h =
-    ap (λ a. elim (is_skipped line) [ true ↦ More | false ↦ a ]) (answered r ls h (header_line_in whole_language default_area line))
+    ap (λ area. elim (is_skipped line) [ true ↦ More | false ↦ answer_to r (header_line_in whole_language area line) ]) (area_is r ls h)
+    ∙ ap (λ a. elim (is_skipped line) [ true ↦ More | false ↦ a ]) (answered r ls h (header_line_in whole_language (header_of default_sector default_area ls).geometry.area line))
 
 -- What is kept stands for the lines then.
-not_nine : (l : HeaderLine) → is_begin l ≡ false → rank l ≡ 9 → ⊥
-not_nine BeginLine h e = absurd cc
-not_nine VersionLine h e = omega arith
-not_nine (TimeLine io fire land rho grace) h e = omega arith
-not_nine (HostsLine m) h e = omega arith
-not_nine (IdsLine n) h e = omega arith
-not_nine (ClockLine c) h e = omega arith
-not_nine (DiskLine d) h e = omega arith
-not_nine (AreaLine a) h e = omega arith
-not_nine (LeaseLine r) h e = omega arith
-not_nine (MemberLine s) h e = omega arith
+not_last : (l : HeaderLine) → is_begin l ≡ false → rank l ≡ 11 → ⊥
+not_last BeginLine h e = absurd cc
+not_last VersionLine h e = omega arith
+not_last (TimeLine io fire land rho grace) h e = omega arith
+not_last (HostsLine m) h e = omega arith
+not_last (IdsLine n) h e = omega arith
+not_last (GeometryLine sector mebibytes) h e = omega arith
+not_last (LvmLine n) h e = omega arith
+not_last (ClockLine c) h e = omega arith
+not_last (DiskLine d) h e = omega arith
+not_last (AreaLine a) h e = omega arith
+not_last (LeaseLine r) h e = omega arith
+not_last (MemberLine s) h e = omega arith
 
 in_place : (t : Bool) (tests : List (Bool × Refusal)) → first_that ((not t, Syntax) ∷ tests) ≡ None → t ≡ true
 in_place true tests none = refl
 in_place false tests none = absurd cc
 
-stood_for : (r : HeaderSoFar) (ls : List HeaderLine) (l : HeaderLine) (why : Option Refusal) (begin : Bool) → Stands r ls → refusal_now r l ≡ why → is_begin l ≡ begin
+others_pass : (t : Bool) (tests : List (Bool × Refusal)) → first_that ((not t, Syntax) ∷ tests) ≡ None → first_that tests ≡ None
+others_pass true tests none = none
+others_pass false tests none = absurd cc
+
+stood_for : (r : HeaderSoFar) (ls : List HeaderLine) (l : HeaderLine) (why : Option Refusal) (begin : Bool) → Stands r ls → IfSome r.hosts IsHosts → refusal_now r l ≡ why → is_begin l ≡ begin
     → Stands (elim why [ Some w ↦ r | None ↦ elim begin [ true ↦ no_lines | false ↦ so_far_with r l ] ])
     (elim why [ Some w ↦ ls | None ↦ elim begin [ true ↦ [] | false ↦ with_line ls (Some l) ] ])
-stood_for r ls l (Some w) begin h why is = h
-stood_for r ls l None true h why is = stands_at_first
-stood_for r ls l None false h why is = stands_with r ls l h (in_place (is_in_place r (rank l)) (header_tests (header_now r) l) why) (not_nine l is)
+stood_for r ls l (Some w) begin h possible why is = h
+stood_for r ls l None true h possible why is = stands_at_first
+stood_for r ls l None false h possible why is =
+    stands_with r ls l h (in_place (is_in_place r (rank l)) (header_tests (header_now r) l) why) (not_last l is) possible
+    (others_pass (is_in_place r (rank l)) (header_tests (header_now r) l) why)
 
-stood_after : (r : HeaderSoFar) (ls : List HeaderLine) → Stands r ls → (read : Option HeaderLine)
+stood_after : (r : HeaderSoFar) (ls : List HeaderLine) → Stands r ls → IfSome r.hosts IsHosts → (read : Option HeaderLine)
     → Stands (kept_after r read) (elim (header_line_refusal whole_language ls read) [
       | Some why ↦ ls
       | None ↦ elim (some_is is_begin read) [ true ↦ [] | false ↦ with_line ls read ]
     ])
-stood_after r ls h None = h
-stood_after r ls h (Some l) =
+stood_after r ls h possible None = h
+stood_after r ls h possible (Some l) =
     let kept : HeaderSoFar = kept_after r (Some l) in
     let P : Option Refusal → Type 0 = λ o. Stands kept (elim o [
       | Some why ↦ ls
       | None ↦ elim (is_begin l) [ true ↦ [] | false ↦ with_line ls (Some l) ]
     ]) in
-    subst P (sym (refusal_is r ls h l)) (stood_for r ls l (refusal_now r l) (is_begin l) h refl refl)
+    subst P (sym (refusal_is r ls h l)) (stood_for r ls l (refusal_now r l) (is_begin l) h possible refl refl)
 
-pub stands_after : (r : HeaderSoFar) (ls : List HeaderLine) (line : List ℕ) → Stands r ls → Stands (so_far_after r line) (lines_after ls line)
-stands_after r ls line h =
-    let read : Option HeaderLine = header_line_in whole_language default_area line in
-    elim (is_skipped line) as (λ t. Stands (elim t [ true ↦ r | false ↦ kept_after r read ]) (elim t [
+pub stands_after : (r : HeaderSoFar) (ls : List HeaderLine) (line : List ℕ) → Stands r ls → IfSome r.hosts IsHosts → Stands (so_far_after r line) (lines_after ls line)
+stands_after r ls line h possible =
+    let read : Option HeaderLine = header_line_in whole_language (header_of default_sector default_area ls).geometry.area line in
+    subst (λ (kept : HeaderSoFar). Stands kept (lines_after ls line))
+    (ap (λ area. elim (is_skipped line) [ true ↦ r | false ↦ kept_after r (header_line_in whole_language area line) ]) (sym (area_is r ls h)))
+    (elim (is_skipped line) as (λ t. Stands (elim t [ true ↦ r | false ↦ kept_after r read ]) (elim t [
       | true ↦ ls
       | false ↦ elim (header_line_refusal whole_language ls read) [
         | Some why ↦ ls
         | None ↦ elim (some_is is_begin read) [ true ↦ [] | false ↦ with_line ls read ]
       ]
-    ])) [ true ↦ h | false ↦ stood_after r ls h read ]
+    ])) [ true ↦ h | false ↦ stood_after r ls h possible read ])

@@ -5,3 +5,4 @@ pub mod EventLaws
 pub mod HeaderReadLaws
 pub mod HeaderLaws
 pub mod ScheduleLaws
+pub mod SizeLaws

@@ -38,7 +38,7 @@ stepped false None false ls more h number rest = refl
 pub read_header-line : (ls : List HeaderLine) (next : ℕ) (l : NumberedLine) (rest : List NumberedLine) → line_refusal l ≡ None
     → read_header whole_language ls next (l ∷ rest) ≡ going_on (answer_after ls l.text) (lines_after ls l.text) l.number rest
 read_header-line ls next l rest none =
-    let read : Option HeaderLine = header_line_in whole_language default_area l.text in
+    let read : Option HeaderLine = header_line_in whole_language (header_of default_sector default_area ls).geometry.area l.text in
     let why : Option Refusal = header_line_refusal whole_language ls read in
     ap (λ o. elim o [
       | Some r ↦ Header_refused l.number r
@@ -59,7 +59,7 @@ read_header-line ls next l rest none =
 pub read_header-refused : (ls : List HeaderLine) (next : ℕ) (l : NumberedLine) (rest : List NumberedLine) (why : Refusal) → line_refusal l ≡ Some why
     → read_header whole_language ls next (l ∷ rest) ≡ Header_refused l.number why
 read_header-refused ls next l rest why refused =
-    let read : Option HeaderLine = header_line_in whole_language default_area l.text in
+    let read : Option HeaderLine = header_line_in whole_language (header_of default_sector default_area ls).geometry.area l.text in
     ap (λ o. elim o [
       | Some r ↦ Header_refused l.number r
       | None ↦ elim (is_skipped l.text) [

@@ -1,6 +1,7 @@
 -- Events, read part by part: those whose line may have more words or fewer, and the two halves of the forms.
+use Rattle.sl_report.specs.ReadingLines.{given_text}
 use Rattle.sl_report.specs.ScheduleLines.{event_forms}
-use Rattle.sl_run.specs.declared.event.Event.TheVariants.{Pass, Tear}
+use Rattle.sl_run.specs.declared.event.Event.TheVariants.{GiveCommand, Pass, Tear}
 use Rattle.sl_run.specs.declared.event.Event.{Event}
 use Rattle.sl_schedule.specs.Reads.{kept_part, machine_part, number_part}
 use Rattle.sl_text.specs.Forms.{Form}
@@ -11,6 +12,11 @@ use Rattle.sl_words.specs.Words.{choose}
 use Rattle.std.specs.List.{list_all}
 use Rattle.std.specs.Option.{ok_or, option_map}
 use Rattle.std.specs.Prelude.{Bool, List, None, Ok, Option, Result, Some, drop, length, map, take, [], ℕ, ◌&&◌, ◌*◌, ◌==◌, ◌∷◌}
+
+-- The event of a text's words.
+abbrev pub given_read : ℕ → List (List ℕ) → Event
+given_read m [] = GiveCommand m []
+given_read m (w ∷ ws) = given_text m w ws
 
 -- The forms up to `drop`.
 abbrev pub early_forms : ℕ → ℕ → List (Form Event)

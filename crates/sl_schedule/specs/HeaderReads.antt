@@ -1,6 +1,6 @@
 -- Header lines of the program, as the definitions see them.
 use Rattle.sl_report.specs.ScheduleLines as lines
-use Rattle.sl_schedule.specs.declared.header_line.HeaderLine.TheVariants.{Begin, Clock, Disk, Hosts, Lockspace, Machines, Resource, Session, Times, Version}
+use Rattle.sl_schedule.specs.declared.header_line.HeaderLine.TheVariants.{Areas, Begin, Clock, Disk, Hosts, Lockspace, Machines, Resource, Retries, Session, Times, Version}
 use Rattle.sl_schedule.specs.declared.header_line.HeaderLine.{HeaderLine}
 use Rattle.std.specs.Prelude.{Err, Ok, Result, ℕ, ◌≤◌}
 
@@ -10,6 +10,8 @@ header_seen Version = lines.VersionLine
 header_seen (Times t) = lines.TimeLine t.io t.fire t.land t.rho t.grace
 header_seen (Machines m) = lines.HostsLine m
 header_seen (Hosts n) = lines.IdsLine n
+header_seen (Areas a) = lines.GeometryLine a.sector a.mebibytes
+header_seen (Retries n) = lines.LvmLine n
 header_seen (Clock c) = lines.ClockLine c
 header_seen (Disk d) = lines.DiskLine d
 header_seen (Lockspace l) = lines.AreaLine l
@@ -26,7 +28,7 @@ result_seen (Err column) = Err column
 abbrev pub IsHosts : ℕ → Type 0
 IsHosts n = (1 ≤ n) × (n ≤ 2000)
 
--- The number of hosts, where the line gives it.
+-- There is a host, where the line gives their number.
 abbrev pub HasHosts : lines.HeaderLine → Type 0
-HasHosts (lines.IdsLine n) = IsHosts n
+HasHosts (lines.IdsLine n) = 1 ≤ n
 HasHosts l = Unit {0}

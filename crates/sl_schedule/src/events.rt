@@ -2,7 +2,7 @@
 //!
 //! A line's first word, its verb, decides how the rest is read; each verb has one form, but for a time that may have a growth for each
 //! machine, and a torn write that may have bytes. `command` is apart: the rest of its line is the command, whatever it says, since it is
-//! the daemon that answers a command which can't be read.
+//! the daemon that answers a command which can't be read; where it begins with `lvm`, what stands behind that is a line for lvmlockd.
 
 ghost use Rattle.sl_report.specs.Languages.{whole_language};
 ghost use Rattle.sl_report.specs.ReadingLines.{command_event, event_in};
@@ -325,7 +325,20 @@ fn read_form(
     }
 }
 
-/// `command M`, and the command: the rest of the line, behind its space.
+/// The event of a text that is given to a machine: a line for lvmlockd behind `lvm` and a space, or a command.
+fn read_given(alloc: Global, machine: u32, words: &mut Words) -> Result<Event, AllocError>
+    ensures { IfOk result (λ event. event ≡ forms.given_read machine words.old.words) }
+{
+    let whole = words.rest();
+    if words.skip(b"lvm") && words.finish().is_err() {
+        let line = Bytes::from_slice(alloc, words.rest())?;
+        return Ok(Event::GiveLvm { machine, line });
+    }
+    let text = Bytes::from_slice(alloc, whole)?;
+    Ok(Event::GiveCommand { machine, text })
+}
+
+/// `command M`, and the text: the rest of the line, behind its space.
 fn read_command(alloc: Global, words: &mut Words) -> Result<Option<Event>, AllocError>
     ensures { IfOk result (λ event. event ≡ command_event (codes "command" ∷ words.old.words)) }
 {
@@ -335,8 +348,7 @@ fn read_command(alloc: Global, words: &mut Words) -> Result<Option<Event>, Alloc
     if words.finish().is_ok() {
         return Ok(None);
     }
-    let text = Bytes::from_slice(alloc, words.rest())?;
-    Ok(Some(Event::GiveCommand { machine, text }))
+    Ok(Some(read_given(alloc, machine, words)?))
 }
 
 /// Whether a torn write leaves no more bytes than a sector has.

@@ -1,27 +1,28 @@
 //! The header of a schedule, line by line.
 //!
-//! A header's lines stand in one order: the version, the times, the numbers of machines and of hosts, clocks, disks, lockspaces,
-//! resources, sessions, and `begin`. A reader keeps the kind of the last line and what the lines said, and stands for the list of lines so
+//! A header's lines stand in one order: the version, the times, the numbers of machines and of hosts, the sizes of areas, how often
+//! lvmlockd asks again, clocks, disks, lockspaces, resources, sessions, and `begin`. A reader keeps the kind of the last line and what the lines said, and stands for the list of lines so
 //! far (`Stands`): what it answers is what the definitions say of that list. Times and the number of hosts are kept only within their
 //! limits, so that at `begin`, and not before, they make the times and the sizes of a run; else a header could begin that no run has.
 
 ghost use Rattle.sl_report.specs.Languages.{is_skipped, least_lines, most_lines};
-ghost use Rattle.sl_report.specs.ScheduleLines.{HeaderLine as Spelled, header_tests, is_taken_place, rank, ClockLine, DiskLine, AreaLine, LeaseLine, MemberLine};
+ghost use Rattle.sl_report.specs.ScheduleLines.{HeaderLine as Spelled, header_tests, is_taken_place, rank, ClockLine, DiskLine, AreaLine, GeometryLine, IdsLine, LeaseLine, MemberLine};
 ghost use Rattle.sl_report.specs.Schedules.{default_area, default_sector, is_begin};
 ghost use Rattle.sl_run.specs.Worlds.{first_that};
 ghost use Rattle.sl_schedule.specs.HeaderReads.{header_seen, HasHosts, IsHosts};
 ghost use Rattle.sl_schedule.specs.Headers as headers;
-ghost use Rattle.sl_area.specs.Layouts.{sizes};
+ghost use Rattle.sl_area.specs.Layouts.{sizes as sizes_with};
 ghost use Rattle.sl_time.specs.Times.{IsTiming};
 ghost use Rattle.std.specs.List.{list_all, list_any, range_with_len};
 ghost use Rattle.std.specs.Option.{option_to_list};
-ghost use Rattle.std.specs.Prelude.{bytes_eq, length, nat_le, not, IfNone, IfOk, IsSome, List, OnErr, OnOk, [], ℕ, ◌*◌, ◌+◌, ◌<◌, ◌==◌, ◌&&◌, ◌||◌, ◌≡◌, ◌≤◌};
+ghost use Rattle.std.specs.Prelude.{bytes_eq, length, nat_le, not, unwrap_or, IfNone, IfOk, IfSome, IsSome, List, OnErr, OnOk, [], ℕ, ◌*◌, ◌+◌, ◌<◌, ◌==◌, ◌&&◌, ◌||◌, ◌≡◌, ◌≤◌};
 
-use crate::header_line::{AREA, HeaderLine, Times, header_line};
+use crate::header_line::{AreaSizes, HeaderLine, Times, header_line};
 use crate::header_tests::{
     has_clock, has_disk, has_resource, is_excluded, is_known, is_name_taken, is_on_disk, is_taken,
     times_refusal,
 };
+use crate::sizes::{row_of, sizes_of};
 use sl_area::Geometry;
 use sl_run::{Disk, FirstReading, Header, LockspaceLine, Refusal, ResourceLine, SessionLine};
 use sl_text::{FilePath, Name, Seq};
@@ -30,8 +31,14 @@ use std::alloc::{AllocError, Global};
 use std::marker::Model;
 use std::mem;
 
-/// The bytes of a sector.
+/// The bytes of a sector, where no line gives them.
 const SECTOR: u32 = 512;
+
+/// The bytes of an area, where no line gives them.
+const AREA: u64 = 1_048_576;
+
+/// The most hosts of a run.
+const MOST_HOSTS: u64 = 2000;
 
 /// What one more line makes of a header.
 #[derive(Drop)]
@@ -53,6 +60,8 @@ pub struct HeaderReader {
     times: Option<Times>,
     machines: Option<u32>,
     hosts: Option<u32>,
+    sizes: Option<Geometry>,
+    retries: Option<u32>,
     clocks: Vec<FirstReading>,
     disks: Vec<Disk>,
     lockspaces: Vec<LockspaceLine>,
@@ -72,6 +81,8 @@ impl Model for HeaderReader {
       times = option_map times_seen r.times;
       machines = r.machines;
       hosts = r.hosts;
+      sizes = r.sizes;
+      retries = r.retries;
       clocks = r.clocks.items;
       disks = r.disks.items;
       lockspaces = r.lockspaces.items;
@@ -82,7 +93,7 @@ impl Model for HeaderReader {
     ghost invariant = { λ r. ArePossible (option_map times_seen r.times) r.hosts };
 }
 
-/// Where a line stands in the header's order: its kind, from 0 for the version to 9 for `begin`.
+/// Where a line stands in the header's order: its kind, from 0 for the version to 11 for `begin`.
 pub fn rank(line: &HeaderLine) -> u32
     ensures { result ≡ rank (header_seen line.now) }
 {
@@ -91,12 +102,14 @@ pub fn rank(line: &HeaderLine) -> u32
         HeaderLine::Times(_) => 1,
         HeaderLine::Machines(_) => 2,
         HeaderLine::Hosts(_) => 3,
-        HeaderLine::Clock(_) => 4,
-        HeaderLine::Disk(_) => 5,
-        HeaderLine::Lockspace(_) => 6,
-        HeaderLine::Resource(_) => 7,
-        HeaderLine::Session(_) => 8,
-        HeaderLine::Begin => 9,
+        HeaderLine::Areas(_) => 4,
+        HeaderLine::Retries(_) => 5,
+        HeaderLine::Clock(_) => 6,
+        HeaderLine::Disk(_) => 7,
+        HeaderLine::Lockspace(_) => 8,
+        HeaderLine::Resource(_) => 9,
+        HeaderLine::Session(_) => 10,
+        HeaderLine::Begin => 11,
     }
 }
 
@@ -104,10 +117,9 @@ pub fn rank(line: &HeaderLine) -> u32
 fn least(rank: u32) -> usize
     ensures { result ≡ least_lines rank }
 {
-    if rank == 4 || rank == 7 || rank == 8 {
-        0
-    } else {
-        1
+    match rank {
+        4 | 5 | 6 | 9 | 10 => 0,
+        _ => 1,
     }
 }
 
@@ -116,9 +128,9 @@ fn most(rank: u32) -> Option<usize>
     ensures { result ≡ most_lines rank }
 {
     match rank {
-        4 | 8 => None,
-        5 | 6 => Some(8),
-        7 => Some(256),
+        6 | 10 => None,
+        7 | 8 => Some(8),
+        9 => Some(256),
         _ => Some(1),
     }
 }
@@ -167,12 +179,31 @@ fn timing_of(times: &Times) -> Timing
 /// The sizes of a run with so many hosts.
 fn geometry_of(hosts: u32) -> Geometry
     requires { IsHosts hosts }
-    ensures { result ≡ sizes default_sector default_area hosts }
+    ensures { result ≡ sizes_with default_sector default_area hosts }
 {
     match Geometry::new(SECTOR, AREA, hosts) {
         Ok(geometry) => geometry,
         Err(_) => unreachable!(),
     }
+}
+
+/// These sizes, or those of a run with so many hosts where no line gives them.
+fn sizes_or(sizes: Option<Geometry>, hosts: u32) -> Geometry
+    requires { IsHosts hosts }
+    ensures { result ≡ unwrap_or sizes (sizes_with default_sector default_area hosts) }
+{
+    match sizes {
+        Some(sizes) => sizes,
+        None => geometry_of(hosts),
+    }
+}
+
+/// The bytes of an area.
+fn area_of(sizes: &Geometry) -> u64
+    ensures exact { result ≡ sizes.now.area }
+    ensures some { 0 < result }
+{
+    sizes.area()
 }
 
 impl HeaderReader {
@@ -189,6 +220,8 @@ impl HeaderReader {
             times: None,
             machines: None,
             hosts: None,
+            sizes: None,
+            retries: None,
             clocks: Vec::new(alloc),
             disks: Vec::new(alloc),
             lockspaces: Vec::new(alloc),
@@ -206,11 +239,13 @@ impl HeaderReader {
             1 => count_of(&self.times),
             2 => count_of(&self.machines),
             3 => count_of(&self.hosts),
-            4 => self.clocks.len(),
-            5 => self.disks.len(),
-            6 => self.lockspaces.len(),
-            7 => self.resources.len(),
-            8 => self.sessions.len(),
+            4 => count_of(&self.sizes),
+            5 => count_of(&self.retries),
+            6 => self.clocks.len(),
+            7 => self.disks.len(),
+            8 => self.lockspaces.len(),
+            9 => self.resources.len(),
+            10 => self.sessions.len(),
             _ => 0,
         }
     }
@@ -244,6 +279,53 @@ impl HeaderReader {
         ensures { result ≡ headers.is_in_place self.now rank }
     {
         self.last <= rank && self.has_all_before(rank) && self.has_room(rank)
+    }
+
+    /// The number of hosts so far.
+    fn hosts_now(&self) -> u32
+        ensures { result ≡ (headers.sizes_now self.now).hosts }
+    {
+        match &self.sizes {
+            Some(sizes) => sizes.hosts(),
+            None => self.hosts.unwrap_or(0),
+        }
+    }
+
+    /// The bytes of an area so far, by which the next line is read.
+    pub fn area_now(&self) -> u64
+        ensures exact { result ≡ (headers.sizes_now self.now).area }
+        ensures some { 0 < result }
+    {
+        match &self.sizes {
+            Some(sizes) => area_of(sizes),
+            None => AREA,
+        }
+    }
+
+    /// Why a number of hosts may not be.
+    #[tactic(auto, unfolding(sl_report::specs::ScheduleLines::header_tests))]
+    fn hosts_refusal(&self, hosts: u64) -> Option<Refusal>
+        ensures exact { result ≡ first_that (header_tests (headers.header_now self.now) (IdsLine hosts)) }
+        ensures few { IfNone result (hosts ≤ 2000) }
+    {
+        if MOST_HOSTS < hosts {
+            return Some(Refusal::LimitIds);
+        }
+        None
+    }
+
+    /// Why sizes of areas may not be.
+    #[tactic(auto, unfolding(sl_report::specs::ScheduleLines::header_tests))]
+    fn areas_refusal(&self, areas: &AreaSizes) -> Option<Refusal>
+        ensures { result ≡ first_that (header_tests (headers.header_now self.now) (GeometryLine areas.now.sector areas.now.mebibytes)) }
+    {
+        let Some((_, _, most)) = row_of(areas) else {
+            return Some(Refusal::LimitGeometry);
+        };
+        if most < self.hosts_now() {
+            return Some(Refusal::LimitIds);
+        }
+        None
     }
 
     /// Whether an area begins there.
@@ -283,7 +365,7 @@ impl HeaderReader {
     fn lockspace_refusal(&self, line: &LockspaceLine) -> Option<Refusal>
         ensures { result ≡ first_that (header_tests (headers.header_now self.now) (AreaLine line.now)) }
     {
-        if !is_on_disk(&self.disks, &line.path, line.offset) {
+        if !is_on_disk(&self.disks, self.area_now(), &line.path, line.offset) {
             return Some(Refusal::MissingDisk);
         }
         if is_known(&self.lockspaces, &line.name) || self.is_taken(&line.path, line.offset) {
@@ -305,7 +387,7 @@ impl HeaderReader {
     fn resource_refusal(&self, line: &ResourceLine) -> Option<Refusal>
         ensures { result ≡ first_that (header_tests (headers.header_now self.now) (LeaseLine line.now)) }
     {
-        if !is_on_disk(&self.disks, &line.path, line.offset) {
+        if !is_on_disk(&self.disks, self.area_now(), &line.path, line.offset) {
             return Some(Refusal::MissingDisk);
         }
         if !is_known(&self.lockspaces, &line.lockspace) {
@@ -322,7 +404,7 @@ impl HeaderReader {
     fn session_refusal(&self, line: &SessionLine) -> Option<Refusal>
         ensures { result ≡ first_that (header_tests (headers.header_now self.now) (MemberLine line.now)) }
     {
-        if self.hosts.unwrap_or(0) < line.id {
+        if self.hosts_now() < line.id {
             return Some(Refusal::Syntax);
         }
         if self.machines.unwrap_or(0) < line.machine {
@@ -349,6 +431,8 @@ impl HeaderReader {
     {
         match line {
             HeaderLine::Times(times) => times_refusal(times),
+            HeaderLine::Hosts(hosts) => self.hosts_refusal(*hosts),
+            HeaderLine::Areas(areas) => self.areas_refusal(areas),
             HeaderLine::Clock(clock) => self.clock_refusal(clock),
             HeaderLine::Disk(disk) => self.disk_refusal(disk),
             HeaderLine::Lockspace(line) => self.lockspace_refusal(line),
@@ -356,7 +440,7 @@ impl HeaderReader {
             HeaderLine::Session(line) => self.session_refusal(line),
             HeaderLine::Version
             | HeaderLine::Machines(_)
-            | HeaderLine::Hosts(_)
+            | HeaderLine::Retries(_)
             | HeaderLine::Begin => None,
         }
     }
@@ -384,7 +468,9 @@ impl HeaderReader {
             HeaderLine::Version => self.version = true,
             HeaderLine::Times(times) => self.times = Some(times),
             HeaderLine::Machines(machines) => self.machines = Some(machines),
-            HeaderLine::Hosts(hosts) => self.hosts = Some(hosts),
+            HeaderLine::Hosts(hosts) => self.hosts = Some(hosts as u32),
+            HeaderLine::Areas(areas) => self.sizes = sizes_of(&areas, self.hosts_now()),
+            HeaderLine::Retries(retries) => self.retries = Some(retries),
             HeaderLine::Clock(clock) => self.clocks.push(clock)?,
             HeaderLine::Disk(disk) => self.disks.push(disk)?,
             HeaderLine::Lockspace(line) => self.lockspaces.push(line)?,
@@ -420,6 +506,8 @@ impl HeaderReader {
             times,
             machines,
             hosts,
+            sizes,
+            retries,
             clocks,
             disks,
             lockspaces,
@@ -433,7 +521,8 @@ impl HeaderReader {
             timing: timing_of(&times),
             grace: times.grace,
             machines: machines.unwrap_or(0),
-            geometry: geometry_of(hosts),
+            geometry: sizes_or(sizes, hosts),
+            retries: retries.unwrap_or(0),
             clocks: Seq::new(clocks),
             disks: Seq::new(disks),
             lockspaces: Seq::new(lockspaces),
@@ -455,15 +544,17 @@ impl HeaderReader {
 
     /// Takes one more line, by what is kept of the lines so far.
     fn add_line(&mut self, line: &[u8]) -> Result<Added, AllocError>
+        ensures hosts { IfSome self.old.hosts IsHosts }
         ensures exact { IfOk result (λ added. added ≡ headers.answer_now self.old line.now) }
         ensures kept { OnOk result (self.new ≡ headers.so_far_after self.old line.now) }
         ensures refused { IfOk result (λ added. headers.IsRefused added → self.new ≡ self.old) }
         ensures err { OnErr result (self.new ≡ self.old) }
     {
+        let _ = &self.alloc;
         if is_skipped(line) {
             return Ok(Added::More);
         }
-        let Some(read) = header_line(line) else {
+        let Some(read) = header_line(self.area_now(), line) else {
             return Ok(Added::Refused(Refusal::Syntax));
         };
         if let Some(why) = self.refusal(&read) {

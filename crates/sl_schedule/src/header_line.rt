@@ -3,19 +3,15 @@
 ghost use Rattle.sl_report.specs.Languages.{whole_language};
 ghost use Rattle.sl_report.specs.ReadingLines.{header_line_in};
 ghost use Rattle.sl_report.specs.ScheduleLines as lines;
-ghost use Rattle.sl_report.specs.Schedules.{default_area};
 ghost use Rattle.sl_schedule.specs.HeaderReads.{header_seen, result_seen, HasHosts};
 ghost use Rattle.sl_schedule.specs.Reads as reads;
 ghost use Rattle.sl_text.specs.Walks.{five_read, four_read, read_each};
 ghost use Rattle.std.specs.Option.{option_map};
-ghost use Rattle.std.specs.Prelude.{codes, [], IfOk, IfSome, ◌≡◌};
+ghost use Rattle.std.specs.Prelude.{codes, [], IfOk, IfSome, ◌<◌, ◌≡◌};
 
-use crate::parts::{is_verb, next_multiple, next_reading, next_within};
+use crate::parts::{is_verb, next_kept, next_multiple, next_positive, next_reading, next_within};
 use sl_run::{Disk, FirstReading, LockspaceLine, ResourceLine, SessionLine};
 use sl_text::words::Words;
-
-/// The bytes of an area.
-pub const AREA: u64 = 1_048_576;
 
 /// The times of a run, in milliseconds, and the drift in per mille, whatever their limits are.
 #[derive(Clone, Copy)]
@@ -27,13 +23,22 @@ pub struct Times {
     pub grace: u64,
 }
 
+/// The bytes of a sector and the mebibytes of an area, whatever areas there are.
+#[derive(Clone, Copy)]
+pub struct AreaSizes {
+    pub sector: u64,
+    pub mebibytes: u64,
+}
+
 /// A line of a header.
 #[derive(Clone, Copy)]
 pub enum HeaderLine {
     Version,
     Times(Times),
     Machines(u32),
-    Hosts(u32),
+    Hosts(u64),
+    Areas(AreaSizes),
+    Retries(u32),
     Clock(FirstReading),
     Disk(Disk),
     Lockspace(LockspaceLine),
@@ -86,11 +91,32 @@ fn read_machines(words: &mut Words) -> Result<HeaderLine, usize>
 /// `ids N`: the number of host ids.
 fn read_hosts(words: &mut Words) -> Result<HeaderLine, usize>
     ensures hosts { IfOk result (λ l. HasHosts (header_seen l)) }
-    ensures exact { result_seen result ≡ reads.one_read (reads.within_part 1 2000) lines.IdsLine words.old }
+    ensures exact { result_seen result ≡ reads.one_read reads.positive_part lines.IdsLine words.old }
 {
-    let hosts = next_within(words, 1, 2000)?;
+    let hosts = next_positive(words)?;
     words.finish()?;
     Ok(HeaderLine::Hosts(hosts))
+}
+
+/// `geometry SECTOR MEBIBYTES`: the bytes of a sector and the mebibytes of an area.
+fn read_areas(words: &mut Words) -> Result<HeaderLine, usize>
+    ensures hosts { IfOk result (λ l. HasHosts (header_seen l)) }
+    ensures exact { result_seen result ≡ reads.two_read reads.number_part reads.number_part lines.GeometryLine words.old }
+{
+    let sector = words.number()?;
+    let mebibytes = words.number()?;
+    words.finish()?;
+    Ok(HeaderLine::Areas(AreaSizes { sector, mebibytes }))
+}
+
+/// `lvm N`: how often lvmlockd asks again.
+fn read_retries(words: &mut Words) -> Result<HeaderLine, usize>
+    ensures hosts { IfOk result (λ l. HasHosts (header_seen l)) }
+    ensures exact { result_seen result ≡ reads.one_read (reads.kept_part 8) lines.LvmLine words.old }
+{
+    let retries = next_kept(words, 8)?;
+    words.finish()?;
+    Ok(HeaderLine::Retries(retries))
 }
 
 /// `clock M READING`.
@@ -118,30 +144,32 @@ fn read_disk(words: &mut Words) -> Result<HeaderLine, usize>
 }
 
 /// `lockspace NAME PATH OFFSET`.
-fn read_lockspace(words: &mut Words) -> Result<HeaderLine, usize>
+fn read_lockspace(words: &mut Words, area: u64) -> Result<HeaderLine, usize>
+    requires { 0 < area }
     ensures hosts { IfOk result (λ l. HasHosts (header_seen l)) }
     ensures exact { result_seen result
-        ≡ reads.three_read reads.name_part reads.path_part (reads.multiple_part default_area)
+        ≡ reads.three_read reads.name_part reads.path_part (reads.multiple_part area)
         (λ n p o. lines.AreaLine (record { name = n; path = p; offset = o })) words.old }
 {
     let name = words.name()?;
     let path = words.path()?;
-    let offset = next_multiple(words, AREA)?;
+    let offset = next_multiple(words, area)?;
     words.finish()?;
     Ok(HeaderLine::Lockspace(LockspaceLine { name, path, offset }))
 }
 
 /// `resource LOCKSPACE NAME PATH OFFSET`.
-fn read_resource(words: &mut Words) -> Result<HeaderLine, usize>
+fn read_resource(words: &mut Words, area: u64) -> Result<HeaderLine, usize>
+    requires { 0 < area }
     ensures hosts { IfOk result (λ l. HasHosts (header_seen l)) }
     ensures exact { result_seen result
-        ≡ four_read reads.name_part reads.name_part reads.path_part (reads.multiple_part default_area)
+        ≡ four_read reads.name_part reads.name_part reads.path_part (reads.multiple_part area)
         (λ l n p o. lines.LeaseLine (record { lockspace = l; name = n; path = p; offset = o })) words.old }
 {
     let lockspace = words.name()?;
     let name = words.name()?;
     let path = words.path()?;
-    let offset = next_multiple(words, AREA)?;
+    let offset = next_multiple(words, area)?;
     words.finish()?;
     Ok(HeaderLine::Resource(ResourceLine {
         lockspace,
@@ -180,11 +208,12 @@ fn read_begin(words: &mut Words) -> Result<HeaderLine, usize>
     Ok(HeaderLine::Begin)
 }
 
-/// The header line that a line spells, if it spells one.
+/// The header line that a line spells, where areas have so many bytes, if it spells one.
 #[tactic(auto, using(crate::proofs::HeaderReadLaws::ok_is_some))]
-pub fn header_line(line: &[u8]) -> Option<HeaderLine>
+pub fn header_line(area: u64, line: &[u8]) -> Option<HeaderLine>
+    requires { 0 < area }
     ensures hosts { IfSome result (λ l. HasHosts (header_seen l)) }
-    ensures exact { option_map header_seen result ≡ header_line_in whole_language default_area line.now }
+    ensures exact { option_map header_seen result ≡ header_line_in whole_language area line.now }
 {
     let mut words = Words::new(line);
     let verb = words.next_piece()?;
@@ -200,6 +229,12 @@ pub fn header_line(line: &[u8]) -> Option<HeaderLine>
     if is_verb(verb, b"ids") {
         return read_hosts(&mut words).ok();
     }
+    if is_verb(verb, b"geometry") {
+        return read_areas(&mut words).ok();
+    }
+    if is_verb(verb, b"lvm") {
+        return read_retries(&mut words).ok();
+    }
     if is_verb(verb, b"clock") {
         return read_clock(&mut words).ok();
     }
@@ -207,10 +242,10 @@ pub fn header_line(line: &[u8]) -> Option<HeaderLine>
         return read_disk(&mut words).ok();
     }
     if is_verb(verb, b"lockspace") {
-        return read_lockspace(&mut words).ok();
+        return read_lockspace(&mut words, area).ok();
     }
     if is_verb(verb, b"resource") {
-        return read_resource(&mut words).ok();
+        return read_resource(&mut words, area).ok();
     }
     if is_verb(verb, b"session") {
         return read_session(&mut words).ok();

@@ -1,7 +1,6 @@
 //! Why a line of a header may not stand after the lines before it: what it says is past its limit, or what it names is missing or taken.
 
 ghost use Rattle.sl_report.specs.ScheduleLines.{header_tests, is_on_disk, TimeLine};
-ghost use Rattle.sl_report.specs.Schedules.{default_area};
 ghost use Rattle.sl_run.specs.Worlds.{first_that, mebibyte};
 ghost use Rattle.sl_run.specs.declared.header.Header.{Header as HeaderOf};
 ghost use Rattle.sl_schedule.specs.Headers.{times_seen};
@@ -9,7 +8,7 @@ ghost use Rattle.sl_time.specs.Times.{IsTiming};
 ghost use Rattle.std.specs.List.{list_any};
 ghost use Rattle.std.specs.Prelude.{bytes_eq, nat_le, not, IfNone, ◌*◌, ◌+◌, ◌==◌, ◌&&◌, ◌||◌, ◌≡◌};
 
-use crate::header_line::{AREA, Times};
+use crate::header_line::Times;
 use sl_run::{Disk, FirstReading, LockspaceLine, Refusal, ResourceLine, SessionLine};
 use sl_text::{FilePath, Name};
 
@@ -67,25 +66,25 @@ pub fn has_disk(disks: &[Disk], path: &FilePath) -> bool
     disks.iter().any(|disk| is_disk(disk, path))
 }
 
-/// Whether the area at the offset lies on a disk of so many mebibytes.
-fn fits(mebibytes: u64, offset: u64) -> bool
-    ensures { result ≡ nat_le (offset + default_area) (mebibytes * mebibyte) }
+/// Whether an area of so many bytes at the offset lies on a disk of so many mebibytes.
+fn fits(mebibytes: u64, area: u64, offset: u64) -> bool
+    ensures { result ≡ nat_le (offset + area) (mebibytes * mebibyte) }
 {
-    u128::from(offset) + u128::from(AREA) <= u128::from(mebibytes) * u128::from(MEBIBYTE)
+    u128::from(offset) + u128::from(area) <= u128::from(mebibytes) * u128::from(MEBIBYTE)
 }
 
-/// Whether the area at the offset lies on the disk, if the path is the disk's.
-fn is_within(disk: &Disk, path: &FilePath, offset: u64) -> bool
-    ensures { result ≡ (bytes_eq disk.now.path path.now && nat_le (offset + default_area) (disk.now.mebibytes * mebibyte)) }
+/// Whether an area of so many bytes at the offset lies on the disk, if the path is the disk's.
+fn is_within(disk: &Disk, area: u64, path: &FilePath, offset: u64) -> bool
+    ensures { result ≡ (bytes_eq disk.now.path path.now && nat_le (offset + area) (disk.now.mebibytes * mebibyte)) }
 {
-    is_disk(disk, path) && fits(disk.mebibytes, offset)
+    is_disk(disk, path) && fits(disk.mebibytes, area, offset)
 }
 
-/// Whether the area at the offset lies on the disk with this path.
-pub fn is_on_disk(disks: &[Disk], path: &FilePath, offset: u64) -> bool
-    ensures { result ≡ is_on_disk disks.now default_area path.now offset }
+/// Whether an area of so many bytes at the offset lies on the disk with this path.
+pub fn is_on_disk(disks: &[Disk], area: u64, path: &FilePath, offset: u64) -> bool
+    ensures { result ≡ is_on_disk disks.now area path.now offset }
 {
-    disks.iter().any(|disk| is_within(disk, path, offset))
+    disks.iter().any(|disk| is_within(disk, area, path, offset))
 }
 
 /// Whether it is the lockspace with this name.

@@ -17,6 +17,7 @@ mod header_tests;
 mod lines;
 mod parts;
 mod schedule;
+mod sizes;
 mod writing;
 
 pub use events::next_event;
@@ -24,4 +25,3 @@ pub use header::{Added, HeaderReader, rank};
 pub use lines::{Line, Lines, line_refusal};
 pub use schedule::{EventLine, event_line, next_event_line, read_header};
 pub use writing::{Counts, push_end_line, push_refusal_line, push_test_line};
-

@@ -7,7 +7,7 @@ ghost use Rattle.sl_text.specs.Forms.{exactly};
 ghost use Rattle.sl_text.specs.Numbers.{capped_long, is_number_that};
 ghost use Rattle.sl_text.specs.Walks.{left_after, next_part};
 ghost use Rattle.sl_words.specs.Words.{choose};
-ghost use Rattle.std.specs.Prelude.{bytes_eq, codes, nat_le, IfOk, ◌%◌, ◌<◌, ◌==◌, ◌≡◌, ◌≤◌};
+ghost use Rattle.std.specs.Prelude.{bytes_eq, codes, nat_le, IfOk, IfSome, ◌%◌, ◌<◌, ◌==◌, ◌≡◌, ◌≤◌};
 
 use sl_text::number::{is_multiple, read_number, read_number_within};
 use sl_text::words::Words;
@@ -42,6 +42,23 @@ pub fn next_within(words: &mut Words, low: u32, high: u32) -> Result<u32, usize>
 {
     let number = words.number_within(u64::from(low), u64::from(high))?;
     Ok(number as u32)
+}
+
+/// The number above 0 that a word gives, capped at 2^64 - 1, if it gives one.
+fn positive_of(word: &[u8]) -> Option<u64>
+    ensures exact { result ≡ choose (reads.positive_part.passes word.now) (capped_long word.now) }
+    ensures some { IfSome result (λ n. 1 ≤ n) }
+{
+    read_number(word).filter(|number| 0 < *number)
+}
+
+/// Reads a number above 0, capped at 2^64 - 1.
+pub fn next_positive(words: &mut Words) -> Result<u64, usize>
+    ensures exact { result ≡ next_part reads.positive_part words.old }
+    ensures left { words.new ≡ left_after result words.old }
+    ensures some { IfOk result (λ n. 1 ≤ n) }
+{
+    words.accept(words.peek().and_then(positive_of))
 }
 
 /// Whether something went well, as a word says it.

@@ -3,7 +3,7 @@
 use Rattle.sl_due.specs.Due.{IsHostTrace}
 use Rattle.sl_first.proofs.Entries.{runs_on}
 use Rattle.sl_first.proofs.Growth.{same_number}
-use Rattle.sl_first.specs.FirstPath.{Doing, first_effects, next_doing}
+use Rattle.sl_first.specs.FirstPath.{Doing, first_effects, next_doing, HasEnded}
 use Rattle.sl_first.specs.FirstSteps.{Course, Holds, Idle, Phase, Works}
 use Rattle.sl_leases.specs.Leases.{holdings_on, lease_calls}
 use Rattle.sl_plain.proofs.Lists.{contains_first, contains_more}
@@ -86,6 +86,7 @@ pub record LineMoves (st : Setting) (now : ℕ) (T : Table) (es : Trace) (text :
   pub course : Course (lone st l.given) l.given r (T l).answered command step c.op
   pub held : (k : StillLease) → IsLease st k → (l ≡ k → ⊥) → holdings_on (still_entry now (Line text) (first_effects ends [] [] (c ∷ [])) ∷ es) (lease_session k) k.at ≡ holdings_on es (lease_session k) k.at
   pub alone : (k : StillLease) → IsLease st k → l.at ≡ k.at → is_idle (T k).phase ≡ false → l ≡ k
+  pub gives : HasEnded (still_entry now (Line text) (first_effects ends [] [] (c ∷ [])) ∷ es) (length es) (st.read text)
 
 -- The lease's state then.
 abbrev pub line_state : Setting → Table → Trace → List ℕ → StillLease → ResourceArg → Command → LeaseStep → Call → LeaseState
@@ -102,6 +103,7 @@ line_working st now T es text l r said command step ends c m =
       for_job = m.for;
       below = (let n = m.number in omega (arith, n));
       known = new_job st now T es m.h text e.effects ∙ ap (λ t. Some (record { number = next_job st es; at = length es; reading = t; command = st.read text })) (sym m.same);
+      ended = m.gives;
       runs = runs_on es e (next_job st es) refl ∙ ap (λ (o : Option _). is_none o) (m.h.fresh (next_job st es) (omega arith));
       asked = record { said = said; says = m.says; asks = m.asks };
     }

@@ -34,8 +34,8 @@ use Rattle.std.specs.Prelude.{Bool, Contains, Err, List, None, Ok, Option, Resul
 -- What a line comes to.
 pub data LineComes (st : Setting) (now : ℕ) (T : Table) (es : Trace) (text : List ℕ) : Type 0 where
   Comes_refused : (why : Reply) → IsRefused st now es text why → LineComes st now T es text
-  Comes_begins : (l : StillLease) → IsLease st l → (r : ResourceArg) (p : ℕ) → st.read text ≡ Ok (Acquire r false p) → IsOf l r →
-      decided st (before_next now es) now (Acquire r false p) ≡ Reads_area (lease_session l) r → IsFree st T l.at → LineComes st now T es text
+  Comes_begins : (l : StillLease) → IsLease st l → (r : ResourceArg) (p : ℕ) → st.read text ≡ Ok (Acquire r false p false) → IsOf l r →
+      decided st (before_next now es) now (Acquire r false p false) ≡ Reads_area (lease_session l) r → IsFree st T l.at → LineComes st now T es text
   Comes_gives : (l : StillLease) → IsLease st l → (q : ResourceArg) (p lver : ℕ) → st.read text ≡ Ok (Release q p) → IsOf l q → (T l).phase ≡ Holds p lver →
       decided st (before_next now es) now (Release q p) ≡ Gives_up (lease_session l) (lease_grant l (T l).resource p lver) → LineComes st now T es text
 
@@ -58,24 +58,24 @@ acquire_refusals st t s r p =
     session_refusal st t s ∷ process_refusal t p ∷ busy_refusal t (spot_of r) (Some p) false ∷ pending_refusal st t (spot_of r) ∷ limit_refusal st t s (spot_of r) false ∷ []
 
 acquire_decided : (st : Setting) (t : Trace) (now : ℕ) (r : ResourceArg) (p : ℕ) (s : Session) → session_named st t r.lockspace ≡ Some s
-    → decided st t now (Acquire r false p) ≡ unless_refused (acquire_refusals st t s r p) (Reads_area s r)
+    → decided st t now (Acquire r false p false) ≡ unless_refused (acquire_refusals st t s r p) (Reads_area s r)
 unfolding decided
 acquire_decided st t now r p s is = ap (λ o. with_session o (λ s. unless_refused (acquire_refusals st t s r p) (Reads_area s r))) is
 
-acquire_unnamed : (st : Setting) (t : Trace) (now : ℕ) (r : ResourceArg) (p : ℕ) → session_named st t r.lockspace ≡ None → decided st t now (Acquire r false p) ≡ Replies NoSession
+acquire_unnamed : (st : Setting) (t : Trace) (now : ℕ) (r : ResourceArg) (p : ℕ) → session_named st t r.lockspace ≡ None → decided st t now (Acquire r false p false) ≡ Replies NoSession
 unfolding decided
 acquire_unnamed st t now r p is = ap (λ o. with_session o (λ s. unless_refused (acquire_refusals st t s r p) (Reads_area s r))) is
 
 acquire_line : (st : Setting) (t : Trace) (s : Session) (r : ResourceArg) (p : ℕ) → session_refusal st t s ≡ None → AllByRecursion IsLineRefusal (acquire_refusals st t s r p)
 acquire_line st t s r p none = (no_reply (session_refusal st t s) none, (process_reply t p, (busy_reply t (spot_of r) (Some p), (pending_reply st t (spot_of r), (limit_reply st t s (spot_of r), tt)))))
 
-acquire_by : (st : Setting) (now : ℕ) (T : Table) (es : Trace) → IsStill st now → StillStands st now T es → (text : List ℕ) (r : ResourceArg) (p : ℕ) → st.read text ≡ Ok (Acquire r false p)
+acquire_by : (st : Setting) (now : ℕ) (T : Table) (es : Trace) → IsStill st now → StillStands st now T es → (text : List ℕ) (r : ResourceArg) (p : ℕ) → st.read text ≡ Ok (Acquire r false p false)
     → (s : Session) → session_named st (before_next now es) r.lockspace ≡ Some s → (n : Named st r s)
     → Verdict (acquire_refusals st (before_next now es) s r p) (Reads_area s r) → LineComes st now T es text
 acquire_by st now T es f h text r p says s named n (Refuses why there is) =
     let t : Trace = before_next now es in
     let none : session_refusal st t s ≡ None = subst (λ z. session_refusal st t z ≡ None) n.its (unrefused st n.lease t (quiet_session st now f T es h n.lease n.is)) in
-    Comes_refused why (Is_refused (Acquire r false p) why says (acquire_decided st t now r p s named ∙ is) (line_reply (acquire_refusals st t s r p) (acquire_line st t s r p none) why there))
+    Comes_refused why (Is_refused (Acquire r false p false) why says (acquire_decided st t now r p s named ∙ is) (line_reply (acquire_refusals st t s r p) (acquire_line st t s r p none) why there))
 acquire_by st now T es f h text r p says s named n (Passes all is) =
     let t : Trace = before_next now es in
     let held = nothing_held t (spot_of r) p all.1.1.0 in
@@ -84,9 +84,9 @@ acquire_by st now T es f h text r p says s named n (Passes all is) =
     (λ k its at. free_by st now k (T k) es (h.leases k its) its (spot_of r) (at ∙ sym n.of.there) held called (T k).phase refl)
 
 acquire_named : (st : Setting) (now : ℕ) (T : Table) (es : Trace) → IsStill st now → StillStands st now T es → (text : List ℕ) (r : ResourceArg) (p : ℕ) → IsStillResource st r
-    → st.read text ≡ Ok (Acquire r false p) → (o : Option Session) → session_named st (before_next now es) r.lockspace ≡ o → LineComes st now T es text
+    → st.read text ≡ Ok (Acquire r false p false) → (o : Option Session) → session_named st (before_next now es) r.lockspace ≡ o → LineComes st now T es text
 acquire_named st now T es f h text r p names says None none =
-    Comes_refused NoSession (Is_refused (Acquire r false p) NoSession says (acquire_unnamed st (before_next now es) now r p none) refl)
+    Comes_refused NoSession (Is_refused (Acquire r false p false) NoSession says (acquire_unnamed st (before_next now es) now r p none) refl)
 acquire_named st now T es f h text r p names says (Some s) named =
     acquire_by st now T es f h text r p says s named (named_lease st now f (before_next now es) r names s named)
     (verdict (acquire_refusals st (before_next now es) s r p) (Reads_area s r))
@@ -160,9 +160,9 @@ line_by : (st : Setting) (now : ℕ) (T : Table) (es : Trace) → IsStill st now
     → IsStillCommand st res → LineComes st now T es text
 line_by st now T es f h text (Err column) says command = Comes_refused _ (Says_nothing column says)
 line_by st now T es f h text (Ok c) says (r, p, names, inl acquires) =
-    acquire_named st now T es f h text r p names (says ∙ ap (λ d. Ok d) acquires) (session_named st (before_next now es) r.lockspace) refl
+    acquire_named st now T es f h text r p names.0 (says ∙ ap (λ d. Ok d) acquires) (session_named st (before_next now es) r.lockspace) refl
 line_by st now T es f h text (Ok c) says (r, p, names, inr releases) =
-    release_named st now T es f h text r p names (says ∙ ap (λ d. Ok d) releases) (session_named st (before_next now es) r.lockspace) refl
+    release_named st now T es f h text r p names.0 (says ∙ ap (λ d. Ok d) releases) (session_named st (before_next now es) r.lockspace) refl
 
 pub line_comes : (st : Setting) (now : ℕ) (T : Table) (es : Trace) → IsStill st now → StillStands st now T es → (text : List ℕ) → LineComes st now T es text
 line_comes st now T es f h text = line_by st now T es f h text (st.read text) refl (f.reads text)

@@ -77,15 +77,15 @@ refused_due st now es f c text why (Is_refused command reply says is line) =
 
 -- ---- an acquire begins
 
-pub begins_due : (st : Setting) (now : ℕ) (es : Trace) → IsStill st now → IsStillCalm now es → (text : List ℕ) (l : StillLease) (r : ResourceArg) (p : ℕ) → st.read text ≡ Ok (Acquire r false p)
-    → decided st (before_next now es) now (Acquire r false p) ≡ Reads_area (lease_session l) r
+pub begins_due : (st : Setting) (now : ℕ) (es : Trace) → IsStill st now → IsStillCalm now es → (text : List ℕ) (l : StillLease) (r : ResourceArg) (p : ℕ) → st.read text ≡ Ok (Acquire r false p false)
+    → decided st (before_next now es) now (Acquire r false p false) ≡ Reads_area (lease_session l) r
     → due st es now (Line text) ≡ first_effects [] [] [] (area_read st l r es ∷ [])
 unfolding on_line carry_decision
 begins_due st now es f c text l r p says is =
     let x : Step = begin_step st es now in
     line_due st now es f c text (first_effects [] [] [] (area_read st l r es ∷ []))
-    (ap (λ d. carry_line text (next_job st (seen x)) d x) (bound st (seen x) now text (Acquire r false p) (Reads_area (lease_session l) r) says is)
-    ∙ ap (λ n. carry_line text n (Ok (Acquire r false p, Reads_area (lease_session l) r)) x) (quiet_job st now es))
+    (ap (λ d. carry_line text (next_job st (seen x)) d x) (bound st (seen x) now text (Acquire r false p false) (Reads_area (lease_session l) r) says is)
+    ∙ ap (λ n. carry_line text n (Ok (Acquire r false p false, Reads_area (lease_session l) r)) x) (quiet_job st now es))
     (record { still = refl; unmoved = refl; unsignalled = refl; unstarted = refl; leases = refl }, c)
 
 -- ---- a release ends the holding and frees the leader

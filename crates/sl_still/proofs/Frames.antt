@@ -15,6 +15,7 @@ use Rattle.std.proofs.Common.{ap, arith, refl, subst, sym, ◌∙◌}
 use Rattle.std.proofs.lemmas.List.Folds.{find-append}
 use Rattle.std.specs.List.{list_all}
 use Rattle.std.specs.Option.{option_or}
+use Rattle.sl_first.proofs.Ending.{ended_later}
 use Rattle.std.specs.Prelude.{Bool, List, None, Some, [], false, find, nat_lt, true, ℕ, ◌++◌, ◌==◌, ◌∷◌, ◌≡◌, ◌≤◌}
 
 -- ---- the table
@@ -44,6 +45,7 @@ working_later st now k r es e js d more le runs h =
       for_job = h.for_job;
       below = (let lt = h.below in omega (arith, lt, le));
       known = ap (λ is. find (λ j. j.number == d.job.number) is) more ∙ found_more (λ (j : Job). j.number == d.job.number) (jobs st es) js d.job h.known;
+      ended = ended_later es e d.job.at d.job.command h.ended;
       runs = runs;
       asked = h.asked;
     }

@@ -7,7 +7,7 @@ use Rattle.sl_trace.specs.Traces.{Setting, Submitted, Trace, answered_in, holdin
 use Rattle.sl_trace.specs.declared.effects.Call.{Call}
 use Rattle.sl_trace.specs.declared.effects.Entry.{Entry}
 use Rattle.sl_trace.specs.declared.input.Answer.{Answer}
-use Rattle.sl_trace.specs.declared.input.Input.TheVariants.{Answer as Told, Exit, Line, Spawned, Wake}
+use Rattle.sl_trace.specs.declared.input.Input.TheVariants.{Answer as Told, Exit, Line, Number, Spawned, Wake}
 use Rattle.sl_trace.specs.declared.input.Input.{Input}
 use Rattle.std.proofs.Common.{ap, refl, sym, ◌∙◌}
 use Rattle.std.proofs.lemmas.List.Elements.{filter-append}
@@ -51,6 +51,7 @@ pub filter_marked : (es : Trace) (e : Entry) (i : Input) (q : Call → Bool) (ms
 filter_marked es e (Line text) q ms = refl
 filter_marked es e (Told n a) q ms = filter_answered es e n a q ms
 filter_marked es e (Exit p) q ms = refl
+filter_marked es e (Number p) q ms = refl
 filter_marked es e (Spawned p ok) q ms = refl
 filter_marked es e Wake q ms = refl
 

@@ -44,7 +44,7 @@ pub comes_live : (st : Setting) (now : ℕ) (T : Table) (es : Trace) (l : StillL
 comes_live st now T es l d w a fits =
     let work = work_of st now T es l d w in
     course_live (lone st l.given) l.given (T l).resource (lone_first st now w.f l w.is (T l).resource (resource_of st now T es l d w)) es (T l).answered d.call d.job.number d.call.call.number (lver_written d.call)
-    d.command d.step d.call.call.op (subst (λ q. OnCourse (lone st l.given) l.given (T l).resource (T l).answered q) w.works (w.h.leases l w.is).course) refl work.for_job a fits
+    d.command d.step d.call.call.op (subst (λ q. OnCourse (lone st l.given) l.given (T l).resource (T l).answered q) w.works (w.h.leases l w.is).course) refl work.for_job refl a fits
 
 -- The step in which this comes next.
 abbrev carried : Setting → ℕ → Table → Trace → StillLease → Doing → Answer → LeaseNext → Type 0
@@ -82,18 +82,18 @@ replies : (st : Setting) (now : ℕ) (T : Table) (es : Trace) (l : StillLease) (
 unfolding carry_lease
 replies st now T es l d w a why = refl
 
-granted_by : (l : StillLease) (r : ResourceArg) (said command : Command) (p j lver : ℕ) (x : Step) → AsksFor l r said command → command ≡ Acquire r false p
-    → grant_for (lease_session l) j said Exclusive lver x ≡ grant_for (lease_session l) j (Acquire r false p) Exclusive lver x
+granted_by : (l : StillLease) (r : ResourceArg) (said command : Command) (p j lver : ℕ) (x : Step) → AsksFor l r said command → command ≡ Acquire r false p false
+    → grant_for (lease_session l) j said Exclusive lver x ≡ grant_for (lease_session l) j (Acquire r false p false) Exclusive lver x
 granted_by l r said command p j lver x (For_acquire q) is = ap (λ c. grant_for (lease_session l) j c Exclusive lver x) is
 granted_by l r said command p j lver x (For_release q n of) is = absurd (not_acquired r n p is) where
   is_release : Command → Bool
   is_release (Release r p) = true
   is_release c = false
 
-  not_acquired : (r : ResourceArg) (n p : ℕ) → Release r n ≡ Acquire r false p → ⊥
+  not_acquired : (r : ResourceArg) (n p : ℕ) → Release r n ≡ Acquire r false p false → ⊥
   not_acquired r n p is = true_is_false (ap (λ c. is_release c) is)
 
-grants : (st : Setting) (now : ℕ) (T : Table) (es : Trace) (l : StillLease) (d : Doing) → AtWork st now T es l d → (a : Answer) (p lver : ℕ) → d.command ≡ Acquire (T l).resource false p
+grants : (st : Setting) (now : ℕ) (T : Table) (es : Trace) (l : StillLease) (d : Doing) → AtWork st now T es l d → (a : Answer) (p lver : ℕ) → d.command ≡ Acquire (T l).resource false p false
     → carried st now T es l d a (GrantJob Exclusive lver)
 unfolding carry_lease
 grants st now T es l d w a p lver is =
@@ -123,7 +123,7 @@ live_due st now T es l d w a command next is comes (Begins_phase2 p own read nam
 live_due st now T es l d w a command next is comes (Takes p own read named known clear won) =
     told_due st now T es l d w a _ (ap (λ n. carry_lease (lease_session l) l.at (ForJob d.job.number) n (told_step st now es d a no_effects)) comes ∙ writes_leader st now T es l d w a TakeLeader _)
     (record { still = refl; unmoved = refl; unsignalled = refl; unstarted = refl; leases = refl }, w.h.calm)
-live_due st now T es l d w a command next is comes (Grants p lver named) =
+live_due st now T es l d w a command next is comes (Grants p lver named taken) =
     told_due st now T es l d w a _ (ap (λ n. carry_lease (lease_session l) l.at (ForJob d.job.number) n (told_step st now es d a no_effects)) comes ∙ grants st now T es l d w a p lver is)
     (record { still = refl; unmoved = refl; unsignalled = refl; unstarted = refl; leases = refl }, w.h.calm)
 live_due st now T es l d w a command next is comes (Replies_late c why late) =

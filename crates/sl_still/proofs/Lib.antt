@@ -25,3 +25,4 @@ pub mod Beginning
 pub mod Shapes
 pub mod Places
 pub mod Whole
+pub mod Asking

@@ -26,7 +26,12 @@ use Rattle.sl_trace.specs.declared.reply.Reply.{Reply}
 use Rattle.sl_words.proofs.CaseLaws.{false_is_true, is_false, true_is_false}
 use Rattle.sl_words.proofs.WordLaws.{and_true}
 use Rattle.std.proofs.Common.{ap, arith, refl, subst, sym, ◌∙◌}
-use Rattle.std.specs.Prelude.{Bool, List, Ok, [], false, filter, if◌then◌else◌, not, true, ℕ, ◌&&◌, ◌++◌, ◌==◌, ◌∷◌, ◌≡◌, ◌||◌}
+use Rattle.sl_first.proofs.Ending.{acquire_ends, release_ends}
+use Rattle.sl_first.proofs.Decisions.{here}
+use Rattle.std.specs.List.{list_any}
+use Rattle.sl_trace.specs.declared.effects.Spot.{Spot}
+use Rattle.sl_first.proofs.Growth.{same_number}
+use Rattle.std.specs.Prelude.{Bool, List, Ok, [], false, filter, if◌then◌else◌, not, true, ℕ, ◌&&◌, ◌++◌, ◌==◌, ◌∷◌, ◌≡◌, ◌||◌, length}
 
 -- ---- a line that is refused
 
@@ -52,8 +57,8 @@ held_kept now es text c k =
     ap (λ gs. filter (λ (x : Grant). same_place x.path x.offset k.at.path k.at.base) (filter (λ (x : Grant). x.session == k.number) gs)) (held_stays (holdings es) [] (c ∷ []))
 
 begins_moves : (st : Setting) (now : ℕ) (T : Table) (es : Trace) → IsStill st now → StillStands st now T es → (text : List ℕ) (l : StillLease) → IsLease st l → (r : ResourceArg) (p : ℕ)
-    → st.read text ≡ Ok (Acquire r false p) → IsOf l r → IsFree st T l.at
-    → LineMoves st now T es text l r (Acquire r false p) (Acquire r false p) (ReadArea r.name) [] (area_read st l r es)
+    → st.read text ≡ Ok (Acquire r false p false) → IsOf l r → IsFree st T l.at
+    → LineMoves st now T es text l r (Acquire r false p false) (Acquire r false p false) (ReadArea r.name) [] (area_read st l r es)
 begins_moves st now T es f h text l is r p says of free =
     let stands = h.leases l is in
     let idle : (T l).phase ≡ Idle = idle_is (T l).phase (free l is refl) in
@@ -73,14 +78,15 @@ begins_moves st now T es f h text l is r p says of free =
       course = Reading_area p;
       held = λ k its other. held_kept now es text (area_read st l r es) k;
       alone = λ k its at busy. absurd (true_is_false (sym (free k its (sym at)) ∙ busy));
+      gives = acquire_ends (still_entry now (Line text) (first_effects [] [] [] (area_read st l r es ∷ [])) ∷ es) (length es) (st.read text) r p says;
     }
 
 pub begins_stands : (st : Setting) (now : ℕ) (T : Table) (es : Trace) → IsStill st now → StillStands st now T es → (text : List ℕ) (l : StillLease) → IsLease st l → (r : ResourceArg) (p : ℕ)
-    → st.read text ≡ Ok (Acquire r false p) → IsOf l r → IsFree st T l.at
+    → st.read text ≡ Ok (Acquire r false p false) → IsOf l r → IsFree st T l.at
     → IsHostTrace st (still_entry now (Line text) (first_effects [] [] [] (area_read st l r es ∷ [])) ∷ es)
-    → StillStands st now (put l (line_state st T es text l r (Acquire r false p) (ReadArea r.name) (area_read st l r es)) T) (still_entry now (Line text) (first_effects [] [] [] (area_read st l r es ∷ [])) ∷ es)
+    → StillStands st now (put l (line_state st T es text l r (Acquire r false p false) (ReadArea r.name) (area_read st l r es)) T) (still_entry now (Line text) (first_effects [] [] [] (area_read st l r es ∷ [])) ∷ es)
 begins_stands st now T es f h text l is r p says of free does =
-    line_moves st now T es text l r (Acquire r false p) (Acquire r false p) (ReadArea r.name) [] (area_read st l r es) (begins_moves st now T es f h text l is r p says of free) refl does
+    line_moves st now T es text l r (Acquire r false p false) (Acquire r false p false) (ReadArea r.name) [] (area_read st l r es) (begins_moves st now T es f h text l is r p says of free) refl does
 
 -- ---- a release that ends the holding
 
@@ -100,6 +106,12 @@ others_kept st now l k r q p lver es of Idle apart stands = refl
 others_kept st now l k r q p lver es of (Holds n other) apart stands =
     ap (λ b. (if not b then lease_grant k q n other ∷ [] else []) ++ []) (not_ended l k r q p n lver other of stands (λ at. apart at refl))
 others_kept st now l k r q p lver es of (Works d) apart stands = refl
+
+one_end : (l : StillLease) (r q : ResourceArg) (p lver : ℕ) → spot_of r ≡ spot_of q
+    → list_any (λ d. d.process == p && same_place d.path d.offset q.path q.offset) (end_of (lease_grant l r p lver) ∷ []) ≡ true
+one_end l r q p lver same =
+    let place : same_place r.path r.offset q.path q.offset ≡ true = sym (ap (λ (at : Spot). same_place r.path r.offset at.path at.base) same) ∙ here r in
+    rw (same_number p, place) refl
 
 gives_moves : (st : Setting) (now : ℕ) (T : Table) (es : Trace) → IsStill st now → StillStands st now T es → (text : List ℕ) (l : StillLease) → IsLease st l → (q : ResourceArg) (p lver : ℕ)
     → st.read text ≡ Ok (Release q p) → IsOf l q → (T l).phase ≡ Holds p lver
@@ -129,6 +141,8 @@ gives_moves st now T es f h text l is q p lver says named holds =
           ∙ others_kept st now l k r (T k).resource p lver es of (T k).phase (λ at full. other (h.alone l k is its at busy full)) (h.leases k its).stands
           ∙ sym (h.leases k its).held;
       alone = λ k its at full. h.alone l k is its at busy full;
+      gives = release_ends es (still_entry now (Line text) (first_effects (end_of (lease_grant l r p lver) ∷ []) [] [] (free_write st l r es lver (T l).answered ∷ []))) (st.read text) q p says
+          (one_end l r q p lver (of.there ∙ sym named.there));
     }
 
 pub gives_stands : (st : Setting) (now : ℕ) (T : Table) (es : Trace) → IsStill st now → StillStands st now T es → (text : List ℕ) (l : StillLease) → IsLease st l → (q : ResourceArg) (p lver : ℕ)

@@ -10,7 +10,9 @@ use Rattle.sl_trace.specs.declared.command.ResourceArg.{ResourceArg}
 use Rattle.sl_trace.specs.declared.effects.Spot.{Spot}
 use Rattle.sl_words.specs.Bounds.{moments}
 use Rattle.std.proofs.Common.{ap, arith, refl, subst, sym, ◌∙◌}
-use Rattle.std.specs.Prelude.{ℕ, ◌<◌}
+use Rattle.sl_trace.specs.declared.command.Command.{Command}
+use Rattle.sl_words.proofs.CaseLaws.{false_is_true}
+use Rattle.std.specs.Prelude.{ℕ, ◌<◌, Bool, Err, Ok, Result, true, false, ◌≡◌}
 
 -- Its session is as it must be.
 pub lease_given : (st : Setting) (now : ℕ) → IsStill st now → (l : StillLease) → IsLease st l → IsStillGiven st now l.given
@@ -32,17 +34,22 @@ lone_first st now f l is r of =
       reads = λ text. tt;
     }
 
+abbrev says : Result Command ℕ → Bool
+says (Ok c) = true
+says (Err e) = false
+
+nothing_said : (c : Command) → ◌≡◌ {A = Result Command ℕ} (Err 0) (Ok c) → ⊥
+nothing_said c h = false_is_true (ap (λ (q : Result Command ℕ). says q) h)
+
 pub lone_setting : (st : Setting) → IsSetting st → (l : StillLease) → IsLease st l → IsSetting (lone st l.given)
 lone_setting st s l is =
     let g : IsGiven st l.given = given_at (IsGiven st) st.given l.number l.given s.each is.there in
     record {
       timing = s.timing;
-      grace = s.grace;
       layout = s.layout;
       digest = s.digest;
       name = s.name;
-      numbers = s.numbers;
-      few = omega arith;
+      reads = λ text c said. absurd (nothing_said c said);
       each = (record { id = g.id; base = g.base; renewed = g.renewed; lockspace = g.lockspace }, tt);
       different = λ i j d less more. absurd (omega (arith, less, more));
     }

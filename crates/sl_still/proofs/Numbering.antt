@@ -7,7 +7,7 @@ use Rattle.sl_trace.specs.Traces.{IsTrace, Setting, Submitted, Trace, answered_i
 use Rattle.sl_trace.specs.declared.effects.Call.{Call}
 use Rattle.sl_trace.specs.declared.effects.Entry.{Entry}
 use Rattle.sl_trace.specs.declared.input.Answer.{Answer}
-use Rattle.sl_trace.specs.declared.input.Input.TheVariants.{Answer as Told, Exit, Line, Spawned, Wake}
+use Rattle.sl_trace.specs.declared.input.Input.TheVariants.{Answer as Told, Exit, Line, Number, Spawned, Wake}
 use Rattle.sl_trace.specs.declared.input.Input.{Input}
 use Rattle.std.proofs.Common.{ap, arith, inl, inr, refl, suc, sym, tests, ◌∙◌}
 use Rattle.std.specs.List.{range_with_len}
@@ -25,6 +25,7 @@ marked_numbered : (st : Setting) (es : Trace) (e : Entry) (i : Input) (ms : List
 marked_numbered st es e (Told n a) ms h = told_numbered st es e n a ms h
 marked_numbered st es e (Line text) ms h = (h, refl)
 marked_numbered st es e (Exit p) ms h = (h, refl)
+marked_numbered st es e (Number p) ms h = (h, refl)
 marked_numbered st es e (Spawned p ok) ms h = (h, refl)
 marked_numbered st es e Wake ms h = (h, refl)
 
@@ -34,6 +35,7 @@ marked_length es e (Told n a) [] = refl
 marked_length es e (Told n a) (m ∷ ms) = ap (λ k. suc k) (marked_length es e (Told n a) ms)
 marked_length es e (Line text) ms = refl
 marked_length es e (Exit p) ms = refl
+marked_length es e (Number p) ms = refl
 marked_length es e (Spawned p ok) ms = refl
 marked_length es e Wake ms = refl
 

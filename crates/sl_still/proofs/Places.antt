@@ -4,7 +4,7 @@ use Rattle.sl_first.specs.FirstPath.{Doing, first_effects}
 use Rattle.sl_first.specs.FirstSteps.{Holds, Works, work_in}
 use Rattle.sl_law.specs.Saying.{cut_at}
 use Rattle.sl_leases.specs.Leases.{holdings_on}
-use Rattle.sl_leases.specs.declared.lease.LeaseNext.TheVariants.{AnswerJob, GrantJob, Nothing, ReadFor, WriteBlock, WriteLeader}
+use Rattle.sl_leases.specs.declared.lease.LeaseNext.TheVariants.{AnswerJob, BecomeExclusive, BecomeShared, GrantJob, Nothing, ReadFor, WriteBlock, WriteLeader}
 use Rattle.sl_leases.specs.declared.lease.LeaseNext.{LeaseNext}
 use Rattle.sl_still.proofs.Beginning.{idle_works}
 use Rattle.sl_still.proofs.Calls.{mine_told}
@@ -58,6 +58,8 @@ told_by : (st : Setting) (now : ℕ) (T : Table) (es : Trace) (l : StillLease) (
     → lease_phase st l (T l).resource (next_call st es) es d next ≡ Works v
     → AtLeaseCall st now l (told_calls l es d (T l).answered a) (cut_at 0 (still_entry now (Told d.call.call.number a) (lease_effects st l (T l).resource (next_call st es) d next)) ∷ es)
 told_by st now T es l d w a Nothing v is = absurd (idle_works v is)
+told_by st now T es l d w a (BecomeExclusive _ _) v is = absurd (idle_works v is)
+told_by st now T es l d w a (BecomeShared _ _) v is = absurd (idle_works v is)
 told_by st now T es l d w a (ReadFor step) v is = told_place st now T es l d w a
 told_by st now T es l d w a (WriteBlock step b) v is = told_place st now T es l d w a
 told_by st now T es l d w a (WriteLeader step x) v is = told_place st now T es l d w a

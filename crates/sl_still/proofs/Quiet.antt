@@ -5,12 +5,11 @@ use Rattle.sl_still.proofs.Known.{session_stands}
 use Rattle.sl_still.proofs.Stillness.{quiet_calm}
 use Rattle.sl_still.specs.StillLeases.{StillStands, Table}
 use Rattle.sl_still.specs.StillPath.{IsLease, IsStill, SessionStands, StillLease, before_next, lease_session}
-use Rattle.sl_trace.specs.Traces.{Job, Setting, Trace, child_after, children, holdings, jobs, next_job, same_place}
+use Rattle.sl_trace.specs.Traces.{Setting, Trace, child_after, children, holdings, next_job, same_place}
 use Rattle.sl_trace.specs.declared.effects.Grant.{Grant}
 use Rattle.sl_trace.specs.declared.input.Input.TheVariants.{Wake}
-use Rattle.std.proofs.Common.{ap}
-use Rattle.std.proofs.lemmas.List.{append-nil}
-use Rattle.std.specs.Prelude.{List, [], filter, length, map, ℕ, ◌++◌, ◌+◌, ◌==◌, ◌≡◌}
+use Rattle.std.proofs.Common.{ap, refl}
+use Rattle.std.specs.Prelude.{[], filter, map, ℕ, ◌++◌, ◌==◌, ◌≡◌}
 
 pub quiet_held : (now : ℕ) (es : Trace) → holdings (before_next now es) ≡ holdings es
 quiet_held now es = held_stays (holdings es) [] []
@@ -22,7 +21,7 @@ pub quiet_children : (now : ℕ) (es : Trace) → children es ≡ [] → childre
 quiet_children now es none = ap (λ ks. map (child_after Wake) ks ++ []) none
 
 pub quiet_job : (st : Setting) (now : ℕ) (es : Trace) → next_job st (before_next now es) ≡ next_job st es
-quiet_job st now es = ap (λ (js : List Job). st.first.job + length js) (append-nil (jobs st es))
+quiet_job st now es = refl
 
 pub quiet_session : (st : Setting) (now : ℕ) → IsStill st now → (T : Table) (es : Trace) → StillStands st now T es → (l : StillLease) → IsLease st l → SessionStands st l (before_next now es)
 quiet_session st now f T es h l is = session_stands st now f (before_next now es) (quiet_calm now es h.calm) h.mine l is

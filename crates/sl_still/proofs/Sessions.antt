@@ -18,7 +18,7 @@ use Rattle.sl_trace.specs.declared.effects.Purpose.TheVariants.{RequestRead, Req
 use Rattle.sl_trace.specs.declared.effects.Purpose.{Purpose}
 use Rattle.sl_trace.specs.declared.input.Answer.TheVariants.{Failed, Read, Written}
 use Rattle.sl_trace.specs.declared.input.Given.{Given}
-use Rattle.sl_trace.specs.declared.input.Input.TheVariants.{Answer as Told, Exit, Line, Spawned, Wake}
+use Rattle.sl_trace.specs.declared.input.Input.TheVariants.{Answer as Told, Exit, Line, Number, Spawned, Wake}
 use Rattle.sl_trace.specs.declared.input.Input.{Input}
 use Rattle.sl_words.proofs.CaseLaws.{false_is_true}
 use Rattle.sl_words.specs.Words.{choose, some_is}
@@ -39,6 +39,7 @@ added_by_still : (st : Setting) (now : ℕ) → IsStill st now → (i : Input) �
 added_by_still st now f (Line text) = added_still st (st.read text) (f.reads text)
 added_by_still st now f (Told n a) = refl
 added_by_still st now f (Exit p) = refl
+added_by_still st now f (Number p) = refl
 added_by_still st now f (Spawned p ok) = refl
 added_by_still st now f Wake = refl
 
@@ -98,6 +99,7 @@ leaving_in_still : (st : Setting) (now : ℕ) → IsStill st now → (es : Trace
 leaving_in_still st now f es s t (Line text) fx = rw (leaving_in, leaves_still st s (st.read text) (f.reads text)) refl
 leaving_in_still st now f es s t (Told n a) fx = refl
 leaving_in_still st now f es s t (Exit p) fx = refl
+leaving_in_still st now f es s t (Number p) fx = refl
 leaving_in_still st now f es s t (Spawned p ok) fx = refl
 leaving_in_still st now f es s t Wake fx = refl
 
@@ -134,6 +136,7 @@ shows_still st es h s (Told n (Read bytes)) =
 shows_still st es h s (Told n Written) = refl
 shows_still st es h s (Told n Failed) = refl
 shows_still st es h s (Exit p) = refl
+shows_still st es h s (Number p) = refl
 shows_still st es h s (Spawned p ok) = refl
 shows_still st es h s Wake = refl
 
@@ -150,6 +153,7 @@ renewed_still es h s (Told n Written) =
     (λ m l. ap (λ b. is_call_of s m && b) (renewal_still m.call.purpose l) ∙ and-false (is_call_of s m)) (call_numbered es n) refl)
 renewed_still es h s (Told n Failed) = refl
 renewed_still es h s (Exit p) = refl
+renewed_still es h s (Number p) = refl
 renewed_still es h s (Spawned p ok) = refl
 renewed_still es h s Wake = refl
 

@@ -28,7 +28,7 @@ use Rattle.sl_trace.specs.declared.effects.LeaseStep.TheVariants.{FreeLeader, Re
 use Rattle.sl_trace.specs.declared.effects.Effects.{Effects}
 use Rattle.sl_trace.specs.declared.effects.Entry.{Entry}
 use Rattle.sl_trace.specs.declared.input.Answer.{Answer}
-use Rattle.sl_trace.specs.declared.input.Input.TheVariants.{Answer as Told, Exit, Line, Spawned, Wake}
+use Rattle.sl_trace.specs.declared.input.Input.TheVariants.{Answer as Told, Exit, Line, Number, Spawned, Wake}
 use Rattle.sl_trace.specs.declared.input.Input.{Input}
 use Rattle.sl_words.proofs.CaseLaws.{false_is_true}
 use Rattle.sl_words.proofs.WordLaws.{and_true, or_true}
@@ -68,10 +68,10 @@ state_is x phase is = ap (λ q. record { resource = x.resource; phase = q; answe
 
 -- ---- lines
 
-begins_move : (st : Setting) (T : Table) (es : Trace) (text : List ℕ) (l : StillLease) (r : ResourceArg) (p : ℕ) → st.read text ≡ Ok (Acquire r false p) → IsOf l r → (T l).phase ≡ Idle
-    → LeaseMove st l es (T l) (Line text) (first_effects [] [] [] (area_read st l r es ∷ [])) (line_state st T es text l r (Acquire r false p) (ReadArea r.name) (area_read st l r es))
+begins_move : (st : Setting) (T : Table) (es : Trace) (text : List ℕ) (l : StillLease) (r : ResourceArg) (p : ℕ) → st.read text ≡ Ok (Acquire r false p false) → IsOf l r → (T l).phase ≡ Idle
+    → LeaseMove st l es (T l) (Line text) (first_effects [] [] [] (area_read st l r es ∷ [])) (line_state st T es text l r (Acquire r false p false) (ReadArea r.name) (area_read st l r es))
 begins_move st T es text l r p says of idle =
-    subst (λ z. LeaseMove st l es z (Line text) (first_effects [] [] [] (area_read st l r es ∷ [])) (line_state st T es text l r (Acquire r false p) (ReadArea r.name) (area_read st l r es)))
+    subst (λ z. LeaseMove st l es z (Line text) (first_effects [] [] [] (area_read st l r es ∷ [])) (line_state st T es text l r (Acquire r false p false) (ReadArea r.name) (area_read st l r es)))
     (state_is (T l) Idle idle) (Begins (T l).resource (T l).answered text r p says of)
 
 gives_move : (st : Setting) (T : Table) (es : Trace) (text : List ℕ) (l : StillLease) (q : ResourceArg) (p lver : ℕ) → st.read text ≡ Ok (Release q p) → IsOf l q → (T l).phase ≡ Holds p lver
@@ -149,6 +149,7 @@ shaped_by : (st : Setting) (now : ℕ) (T : Table) (es : Trace) (e : Entry) → 
 shaped_by st now T es e x (Line text) is kind = line_shaped st now T es e x text is (line_comes st now T es x.f x.h text)
 shaped_by st now T es e x (Told n a) is kind = answer_shaped st now T es e x n a is (subst (λ i. is_expected st es i ≡ true) is x.follows.expected)
 shaped_by st now T es e x (Exit p) is kind = absurd (false_is_true kind)
+shaped_by st now T es e x (Number p) is kind = absurd (false_is_true kind)
 shaped_by st now T es e x (Spawned p ok) is kind = absurd (false_is_true kind)
 shaped_by st now T es e x Wake is kind = absurd (false_is_true kind)
 

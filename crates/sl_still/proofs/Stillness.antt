@@ -20,7 +20,7 @@ use Rattle.sl_trace.specs.declared.effects.Call.{Call}
 use Rattle.sl_trace.specs.declared.effects.Entry.{Entry}
 use Rattle.sl_trace.specs.declared.effects.Signal.TheVariants.{Kill}
 use Rattle.sl_trace.specs.declared.input.Answer.{Answer}
-use Rattle.sl_trace.specs.declared.input.Input.TheVariants.{Answer as Told, Exit, Line, Spawned, Wake}
+use Rattle.sl_trace.specs.declared.input.Input.TheVariants.{Answer as Told, Exit, Line, Number, Spawned, Wake}
 use Rattle.sl_trace.specs.declared.input.Input.{Input}
 use Rattle.sl_trace.specs.declared.reply.Reply.TheVariants.{IoTimeout}
 use Rattle.sl_words.proofs.WordLaws.{and_true}
@@ -102,6 +102,7 @@ all_marked_now : (es : Trace) (e : Entry) (now : ℕ) (i : Input) (ms : List Sub
 all_marked_now es e now (Line text) ms h = h
 all_marked_now es e now (Told n a) ms h = all_answered_now es e n now a ms h
 all_marked_now es e now (Exit p) ms h = h
+all_marked_now es e now (Number p) ms h = h
 all_marked_now es e now (Spawned p ok) ms h = h
 all_marked_now es e now Wake ms h = h
 

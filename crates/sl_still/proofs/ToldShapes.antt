@@ -130,7 +130,7 @@ live_stands st now T es l d w a command next is (Begins_phase2 p own read named 
     on_stands st now T es l d a Phase2Write _ (writes_block st now T es l d a w Phase2Write _ command is (Writing_phase2 p _ named)) does
 live_stands st now T es l d w a command next is (Takes p own read named known clear won) does =
     on_stands st now T es l d a TakeLeader _ (writes_leader st now T es l d a w TakeLeader _ command is (Taking p _ named)) does
-live_stands st now T es l d w a command next is (Grants p lver named) does =
+live_stands st now T es l d w a command next is (Grants p lver named taken) does =
     let of = resource_of st now T es l d w in
     end_stands st now T es l d a (Granted lver) (lease_grant l (T l).resource (process_of d.command) lver ∷ []) (Holds (process_of d.command) lver)
     (record {

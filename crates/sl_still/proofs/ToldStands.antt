@@ -37,7 +37,7 @@ use Rattle.sl_words.specs.Words.{some_is}
 use Rattle.std.proofs.Common.{ap, arith, refl, subst, sym, tests, ◌∙◌}
 use Rattle.std.proofs.lemmas.List.{append-nil}
 use Rattle.std.specs.List.{list_all, list_any}
-use Rattle.std.specs.Prelude.{Bool, Contains, List, None, Some, [], false, filter, find, if◌then◌else◌, is_none, is_some, length, map, nat_lt, true, ℕ, ◌&&◌, ◌++◌, ◌+◌, ◌==◌, ◌∷◌, ◌≡◌, ◌≤◌, ◌||◌}
+use Rattle.std.specs.Prelude.{Bool, Contains, List, None, Some, [], false, filter, find, if◌then◌else◌, is_none, is_some, length, map, nat_lt, true, ℕ, ◌&&◌, ◌++◌, ◌==◌, ◌∷◌, ◌≡◌, ◌≤◌, ◌||◌}
 
 -- ---- lists
 
@@ -63,7 +63,7 @@ doing_below : (st : Setting) (now : ℕ) (T : Table) (es : Trace) (l : StillLeas
 doing_below st now T es l d w = job_below st now T es w.h d.job.number d.job (work_of st now T es l d w).known
 
 told_next : (st : Setting) (now : ℕ) (es : Trace) (n : ℕ) (a : Answer) (fx : _) → next_job st (still_entry now (Told n a) fx ∷ es) ≡ next_job st es
-told_next st now es n a fx = ap (λ (js : List Job). st.first.job + length js) (append-nil (jobs st es))
+told_next st now es n a fx = refl
 
 told_old : (st : Setting) (now : ℕ) (T : Table) (es : Trace) → StillStands st now T es → (n : ℕ) (a : Answer) (fx : _)
     → list_all (λ j. nat_lt j.number (next_job st (still_entry now (Told n a) fx ∷ es))) (jobs st (still_entry now (Told n a) fx ∷ es)) ≡ true
@@ -123,6 +123,7 @@ on_working st now T es l d a step c g =
       for_job = g.for;
       below = (let n = g.number in omega (arith, n, long));
       known = later.known;
+      ended = later.ended;
       runs = later.runs;
       asked = record { said = work.asked.said; says = work.asked.says; asks = work.asked.asks };
     }

@@ -1,7 +1,7 @@
 -- Where a lease stands, and that a daemon stands for its trace: each of its leases stands, at most one on an area is busy, and the works
 -- of its leases are its running jobs.
 use Rattle.sl_due.specs.Due.{IsHostTrace}
-use Rattle.sl_first.specs.FirstPath.{Doing, has_answer, open_kept}
+use Rattle.sl_first.specs.FirstPath.{Doing, has_answer, open_kept, HasEnded}
 use Rattle.sl_first.specs.FirstSteps.{Holds, Idle, OnCourse, Phase, Works, work_in}
 use Rattle.sl_leases.specs.Leases.{holdings_on, lease_calls}
 use Rattle.sl_still.specs.StillPath.{IsLease, IsOf, IsStillCalm, StillLease, is_still_call, is_still_grant, lease_grant, lease_session, lone, same_lease}
@@ -45,7 +45,7 @@ lease_held l r (Works d) = []
 -- What a job's command makes a lease work for, under the resource's name as the lease has it: a release may name another resource at
 -- the same place.
 pub data AsksFor (l : StillLease) (r : ResourceArg) : Command → Command → Type 0 where
-  For_acquire : (p : ℕ) → AsksFor l r (Acquire r false p) (Acquire r false p)
+  For_acquire : (p : ℕ) → AsksFor l r (Acquire r false p false) (Acquire r false p false)
   For_release : (q : ResourceArg) (p : ℕ) → IsOf l q → AsksFor l r (Release q p) (Release r p)
 
 -- The command of a running job makes a lease work for this.
@@ -61,6 +61,7 @@ pub record IsWorking (st : Setting) (now : ℕ) (l : StillLease) (r : ResourceAr
   pub for_job : d.call.call.purpose ≡ Lease (ForJob d.job.number) d.step
   pub below : d.call.call.number < next_call st es
   pub known : job_numbered st es d.job.number ≡ Some d.job
+  pub ended : HasEnded es d.job.at d.job.command
   pub runs : is_running es d.job.number ≡ true
   pub asked : IsAsked l r d
 

@@ -31,10 +31,10 @@ pub record IsStillResource (st : Setting) (r : ResourceArg) : Type 0 where
   pub named : IsTrue (is_name r.name)
   pub based : IsTrue (is_base st.layout r.offset)
 
--- What a text may say: an exclusive acquire or a release of any resource for any process.
+-- What a text may say: an exclusive acquire or a release of any resource for any process. (Process 0 is none.)
 abbrev pub IsStillCommand : Setting → Result Command ℕ → Type 0
 IsStillCommand st (Err column) = Unit {0}
-IsStillCommand st (Ok c) = (r : ResourceArg) × (p : ℕ) × IsStillResource st r × ((c ≡ Acquire r false p) ⊎ (c ≡ Release r p))
+IsStillCommand st (Ok c) = (r : ResourceArg) × (p : ℕ) × (IsStillResource st r × (1 ≤ p)) × ((c ≡ Acquire r false p false) ⊎ (c ≡ Release r p))
 
 -- A session that it begins with.
 pub record IsStillGiven (st : Setting) (now : ℕ) (g : Given) : Type 0 where

@@ -5,7 +5,7 @@ use Rattle.sl_due.specs.declared.decision.Decision.TheVariants.{Replies}
 use Rattle.sl_first_law.specs.Ballot.Ways.{ballot_place}
 use Rattle.sl_first.specs.FirstPath.{Doing, first_effects, heeded_call, next_doing, one_reply}
 use Rattle.sl_first.specs.FirstSteps.{Holds, Idle, IsNamed, Live, Phase, Works, blocks_read, first_aim, first_known, first_next, first_read, goes_on_with, last_write, leader_write, own_write, process_of}
-use Rattle.sl_leases.specs.declared.lease.LeaseNext.TheVariants.{AnswerJob, GrantJob, Nothing, ReadFor, WriteBlock, WriteLeader}
+use Rattle.sl_leases.specs.declared.lease.LeaseNext.TheVariants.{AnswerJob, BecomeExclusive, BecomeShared, GrantJob, Nothing, ReadFor, WriteBlock, WriteLeader}
 use Rattle.sl_leases.specs.declared.lease.LeaseNext.{LeaseNext}
 use Rattle.sl_still.specs.StillLeases.{LeaseState, Table, put}
 use Rattle.sl_still.specs.StillPath.{IsLease, IsOf, StillLease, before_next, lease_grant, lone, still_entry}
@@ -64,6 +64,8 @@ of_session number c = record c { session = number }
 -- The call that comes next for a lease's work, by what its answer led to.
 abbrev pub lease_effects : Setting → StillLease → ResourceArg → ℕ → Doing → LeaseNext → Effects
 lease_effects st l r call d Nothing = no_effects
+lease_effects st l r call d (BecomeExclusive _ _) = no_effects
+lease_effects st l r call d (BecomeShared _ _) = no_effects
 lease_effects st l r call d (ReadFor step) = first_effects [] [] [] (of_session l.number (blocks_read st r call d.job.number step) ∷ [])
 lease_effects st l r call d (WriteBlock step b) = first_effects [] [] [] (of_session l.number (own_write st l.given r call d.job.number step b) ∷ [])
 lease_effects st l r call d (WriteLeader step w) = first_effects [] [] [] (of_session l.number (leader_write r call d.job.number step w) ∷ [])
@@ -74,6 +76,8 @@ lease_effects st l r call d (GrantJob mode lver) =
 -- Where the lease stands then.
 abbrev pub lease_phase : Setting → StillLease → ResourceArg → ℕ → Trace → Doing → LeaseNext → Phase
 lease_phase st l r call es d Nothing = Idle
+lease_phase st l r call es d (BecomeExclusive _ _) = Idle
+lease_phase st l r call es d (BecomeShared _ _) = Idle
 lease_phase st l r call es d (ReadFor step) = goes_on_with l.given es d step (of_session l.number (blocks_read st r call d.job.number step))
 lease_phase st l r call es d (WriteBlock step b) = goes_on_with l.given es d step (of_session l.number (own_write st l.given r call d.job.number step b))
 lease_phase st l r call es d (WriteLeader step w) = goes_on_with l.given es d step (of_session l.number (leader_write r call d.job.number step w))
@@ -102,9 +106,9 @@ free_write st l r es lver answered = of_session l.number (last_write st l.given 
 -- How a lease moves: from its state, by the input, with the effects, to its state after the entry.
 pub data LeaseMove (st : Setting) (l : StillLease) (es : Trace) : LeaseState → Input → Effects → LeaseState → Type 0 where
   -- an acquire of an idle lease reads the area
-  Begins : (was : ResourceArg) (answered : List Submitted) (text : List ℕ) (r : ResourceArg) (p : ℕ) → st.read text ≡ Ok (Acquire r false p) → IsOf l r →
+  Begins : (was : ResourceArg) (answered : List Submitted) (text : List ℕ) (r : ResourceArg) (p : ℕ) → st.read text ≡ Ok (Acquire r false p false) → IsOf l r →
       LeaseMove st l es (record { resource = was; phase = Idle; answered = answered }) (Line text) (first_effects [] [] [] (area_read st l r es ∷ []))
-      (record { resource = r; phase = line_work st l es text (Acquire r false p) (ReadArea r.name) (area_read st l r es); answered = answered })
+      (record { resource = r; phase = line_work st l es text (Acquire r false p false) (ReadArea r.name) (area_read st l r es); answered = answered })
   -- a release by the holder ends the holding and frees the leader, under the names of the holding
   Gives_back : (r q : ResourceArg) (p lver : ℕ) (answered : List Submitted) (text : List ℕ) → st.read text ≡ Ok (Release q p) → IsOf l q →
       LeaseMove st l es (record { resource = r; phase = Holds p lver; answered = answered }) (Line text)

@@ -2,8 +2,8 @@
 use Rattle.sl_first.specs.FirstPath.{Doing, first_effects, one_reply}
 use Rattle.sl_first.specs.FirstSteps.{Works}
 use Rattle.sl_first_law.proofs.Calmness.{only}
-use Rattle.sl_first_law.proofs.Values.{no_reply, no_value_reply}
-use Rattle.sl_first_law.specs.Keeping.{PlacedCall, is_value_reply}
+use Rattle.sl_first_law.proofs.Values.{no_reply, no_value_reply, no_set_reply}
+use Rattle.sl_first_law.specs.Keeping.{PlacedCall, is_value_reply, is_heard}
 use Rattle.sl_first_law.proofs.Lawfully.Shapes.{no_grants}
 use Rattle.sl_first_law.specs.Lawfully.Keeping.{CallIsLawful, EntryIsLawful}
 use Rattle.sl_law.specs.Saying.{EachCall, cut_at}
@@ -33,6 +33,7 @@ use Rattle.sl_words.proofs.WordLaws.{and_true}
 use Rattle.std.proofs.Common.{ap, arith, refl, subst, suc, sym, zero, ◌∙◌}
 use Rattle.std.proofs.lemmas.Option.{slice_get_past}
 use Rattle.std.specs.List.{list_all}
+use Rattle.sl_law.specs.LawfulEnd.{LawfulEnding}
 use Rattle.std.specs.Prelude.{Contains, IsSome, List, None, Some, false, length, slice_get, true, [], ℕ, ◌&&◌, ◌∷◌, ◌≡◌}
 
 -- ---- what is said of each call
@@ -76,8 +77,8 @@ pub call_shape : (st : Setting) (now : ℕ) → IsStill st now → (U : Table) (
     → LeaseStands st now l (record { resource = r; phase = Works d; answered = answered }) (calling_entry now i ends c ∷ es)
     → AtLeaseCall st now l answered (cut_at 0 (calling_entry now i ends c) ∷ es) → LeaseCallBrings st l (cut_at 0 (calling_entry now i ends c) ∷ es) d.call
     → c.session ≡ l.number → d.call ≡ new_call (length es) now c → value_written d.call ≡ None → PlacedCall (lone st l.given) l.given r answered d.step d.call
-    → EntryIsLawful st es (calling_entry now i ends c)
-call_shape st now f U es l is r d answered i ends c after stands at brings own made none placed =
+    → is_heard i ≡ true → ((x : End) → Contains ends x → LawfulEnding st es (calling_entry now i ends c) x) → EntryIsLawful st es (calling_entry now i ends c)
+call_shape st now f U es l is r d answered i ends c after stands at brings own made none placed heard ended =
     let e : Entry = calling_entry now i ends c in
     let t : Trace = cut_at 0 e ∷ es in
     let numbered : session_numbered st (e ∷ es) c.session ≡ Some (lease_session l) =
@@ -89,20 +90,26 @@ call_shape st now f U es l is r d answered i ends c after stands at brings own m
       spelled = λ x w there writes. brings.spelled w (ap (λ (m : Submitted). record_of m.call.op) made ∙ ap (λ (y : Call). record_of y.op) (only c x there) ∙ writes);
       calls = one_call st now es i ends c (lease_session l) numbered (CallIsLawful st) (subst (λ m. CallIsLawful st t (lease_session l) m) made lawful);
       granting = no_grants st es e refl;
+      heard = heard;
+      ends = ended;
       modes = λ x s there its. absurd (no_reply [] x refl there);
       replies = λ a lver seq bytes there says. absurd (no_reply [] a refl there);
+      sets = λ a lver seq there says. absurd (no_reply [] a refl there);
     }
 
 -- ---- one reply, and no grant
 
-pub reply_shape : (st : Setting) (now : ℕ) (es : Trace) (i : Input) (job : ℕ) (why : Reply) → is_value_reply why ≡ false → EntryIsLawful st es (still_entry now i (first_effects [] [] (one_reply job why) []))
-reply_shape st now es i job why plain =
+pub reply_shape : (st : Setting) (now : ℕ) (es : Trace) (i : Input) (job : ℕ) (why : Reply) → is_value_reply why ≡ false → is_heard i ≡ true → EntryIsLawful st es (still_entry now i (first_effects [] [] (one_reply job why) []))
+reply_shape st now es i job why plain heard =
     let e : Entry = still_entry now i (first_effects [] [] (one_reply job why) []) in
     record {
       owned = λ x there. absurd (no_reply [] x refl there);
       spelled = λ x w there writes. absurd (no_reply [] x refl there);
       calls = no_call st now es i [] [] (one_reply job why) (CallIsLawful st);
       granting = no_grants st es e refl;
+      heard = heard;
+      ends = λ x there. absurd (no_reply [] x refl there);
       modes = λ x s there its. absurd (no_reply [] x refl there);
       replies = no_value_reply st es e job why plain;
+      sets = no_set_reply es e job why plain;
     }

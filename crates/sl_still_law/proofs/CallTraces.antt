@@ -16,7 +16,7 @@ use Rattle.sl_trace.specs.declared.command.ResourceArg.{ResourceArg}
 use Rattle.sl_trace.specs.declared.effects.Call.{Call}
 use Rattle.sl_trace.specs.declared.effects.End.{End}
 use Rattle.sl_trace.specs.declared.effects.Entry.{Entry}
-use Rattle.sl_trace.specs.declared.input.Input.TheVariants.{Answer as Told, Exit, Line, Spawned, Wake}
+use Rattle.sl_trace.specs.declared.input.Input.TheVariants.{Answer as Told, Exit, Line, Number, Spawned, Wake}
 use Rattle.sl_trace.specs.declared.input.Input.{Input}
 use Rattle.sl_words.proofs.WordLaws.{and_true}
 use Rattle.std.proofs.Common.{ap, refl, subst, sym, ◌∙◌}
@@ -33,6 +33,7 @@ marked_alike : (now : ℕ) (es : Trace) (i j : Input) (ends : List End) (c : Cal
 marked_alike now es i (Line text) ends c ms = refl
 marked_alike now es i (Told n a) ends c ms = refl
 marked_alike now es i (Exit p) ends c ms = refl
+marked_alike now es i (Number p) ends c ms = refl
 marked_alike now es i (Spawned p ok) ends c ms = refl
 marked_alike now es i Wake ends c ms = refl
 

@@ -53,7 +53,7 @@ nothing_inside (x ∷ xs) none = absurd (none x (contains_first x xs))
 
 -- Whether the call is work on the area's blocks.
 abbrev is_work_on : Setting → Spot → Submitted → Bool
-is_work_on st at c = is_block_work c && is_on st.layout at c.call
+is_work_on st at c = is_area_work c.call.purpose && (is_block_work c && is_on st.layout at c.call)
 
 none_open : (st : Setting) (l : StillLease) (ms : List Submitted) (t : Trace) → list_all (is_still_call st) (submitted t) ≡ true
     → lease_calls st t (lease_session l) l.at ≡ ms → list_all has_answer ms ≡ true → (x : Submitted) → Contains (open_block_work st t (lease_session l) l.at) x → ⊥
@@ -62,7 +62,7 @@ none_open st l ms t mine calls answered x there =
     let work = filtered (is_work_on st l.at) (open_calls_of t s) x there in
     let waits = filtered (λ (m : Submitted). is_none m.answer) (calls_of t s) x work.0 in
     let its = filtered (is_call_of s) (submitted t) x waits.0 in
-    let on = (and_true (is_block_work x) (is_on st.layout l.at x.call) work.1).1 in
+    let on = (and_true (is_block_work x) (is_on st.layout l.at x.call) (and_true (is_area_work x.call.purpose) (is_block_work x && is_on st.layout l.at x.call) work.1).1).1 in
     let lease = (call_parts st x (list_all_of (is_still_call st) (submitted t) x mine its.0)).lease in
     let both : (is_lease_call x && is_on st.layout l.at x.call) ≡ true = ap (λ b. b && is_on st.layout l.at x.call) lease ∙ on in
     let among : Contains (lease_calls st t s l.at) x = kept (λ (m : Submitted). is_lease_call m && is_on st.layout l.at m.call) (calls_of t s) x both waits.0 in

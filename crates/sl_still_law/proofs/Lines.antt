@@ -8,7 +8,7 @@ use Rattle.sl_still.specs.StillPath.{IsStill}
 use Rattle.sl_still.specs.StillSteps.{IsRefused, Is_refused, Says_nothing, is_line_reply, refused_entry}
 use Rattle.sl_trace.specs.Traces.{Setting, Trace, next_job}
 use Rattle.sl_trace.specs.declared.input.Input.TheVariants.{Line}
-use Rattle.sl_trace.specs.declared.reply.Reply.TheVariants.{Value}
+use Rattle.sl_trace.specs.declared.reply.Reply.TheVariants.{Value, ValueSet}
 use Rattle.sl_trace.specs.declared.reply.Reply.{Reply}
 use Rattle.sl_words.proofs.CaseLaws.{false_is_true}
 use Rattle.std.proofs.Common.{refl}
@@ -17,6 +17,7 @@ use Rattle.std.specs.Prelude.{List, false, true, ℕ, ◌∷◌, ◌≡◌}
 -- No line is refused by a value.
 line_plain : (why : Reply) → is_line_reply why ≡ true → is_value_reply why ≡ false
 line_plain (Value l s b) q = absurd (false_is_true q)
+line_plain (ValueSet l s) q = absurd (false_is_true q)
 line_plain why q = refl
 
 refused_plain : (st : Setting) (now : ℕ) (es : Trace) (text : List ℕ) (why : Reply) → IsRefused st now es text why → is_value_reply why ≡ false
@@ -26,4 +27,4 @@ refused_plain st now es text why (Is_refused c r reads refused plain) = line_pla
 pub lines_keep_laws : (st : Setting) (now : ℕ) → IsStill st now → (T : Table) (es : Trace) → Lawful st es → (text : List ℕ) (why : Reply) → IsRefused st now es text why
     → StillStands st now T (refused_entry st now es text why ∷ es) → Lawful st (refused_entry st now es text why ∷ es)
 lines_keep_laws st now f T es before text why refused after =
-    entry_keeps st now f T es (refused_entry st now es text why) after before (reply_shape st now es (Line text) (next_job st es) why (refused_plain st now es text why refused))
+    entry_keeps st now f T es (refused_entry st now es text why) after before (reply_shape st now es (Line text) (next_job st es) why (refused_plain st now es text why refused) refl)

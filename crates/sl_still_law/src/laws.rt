@@ -1,10 +1,9 @@
 //! A daemon of several given sessions and any resources keeps all laws of safety, where each lease's move brings what they ask.
 
-pub mod whole;
 pub mod bring;
 pub mod cause;
 pub mod lawfully;
-
+pub mod whole;
 
 ghost use Rattle.sl_still.specs.Promises.{EntriesKeepLaws};
 

@@ -21,7 +21,7 @@ use Rattle.sl_still_schedule.specs.Promises.{StillHeadersBegin}
 use Rattle.sl_still_schedule.specs.StillHeaders.{IsStillHeader}
 use Rattle.sl_still_schedule.specs.StillWorld.{BeginsStill, still_setting}
 use Rattle.sl_text.specs.Names.{is_name}
-use Rattle.sl_trace.specs.Commands.{command_in}
+use Rattle.sl_trace.specs.Commands.{command_in, IsCommand}
 use Rattle.sl_trace.specs.Traces.{Setting}
 use Rattle.sl_trace.specs.declared.command.Command.{Command}
 use Rattle.sl_trace.specs.declared.input.Given.{Given}
@@ -161,11 +161,24 @@ few_given h still =
 
 -- ---- what it reads
 
+from_one : (high p : ℕ) → is_in_range 1 high p ≡ true → 1 ≤ p
+from_one high p h = grind (arith, nat_tests)
+
+-- What is read is a command of the layout.
+lease_command : (g : Layout) (c : LeaseCommand) → IsLeaseCommand g c → IsCommand g (command_of c)
+lease_command g (Acquires r p) may = may
+lease_command g (Releases r p) may = may
+
+read_command : (g : Layout) (text : List ℕ) (d : Command) → command_in (lease_forms g) text ≡ Ok d → IsCommand g d
+read_command g text d reads =
+    let only = reads_leases_only g text d reads in
+    subst (λ (c : Command). IsCommand g c) (sym only.1) (lease_command g only.0 (reads_what_may_be_named g text only.0 (reads ∙ ap (λ (c : Command). Ok c) only.1)))
+
 named_lease : (st : Setting) (g : Layout) (c : LeaseCommand) → st.layout ≡ g → IsLeaseCommand g c → IsStillCommand st (Ok (command_of c))
 named_lease st g (Acquires r p) at may =
-    (r, p, record { named = may.0.named; based = subst (λ (k : Layout). IsTrue (is_base k r.offset)) (sym at) may.0.base }, inl refl)
+    (r, p, (record { named = may.0.named; based = subst (λ (k : Layout). IsTrue (is_base k r.offset)) (sym at) may.0.base }, from_one _ p may.1), inl refl)
 named_lease st g (Releases r p) at may =
-    (r, p, record { named = may.0.named; based = subst (λ (k : Layout). IsTrue (is_base k r.offset)) (sym at) may.0.base }, inr refl)
+    (r, p, (record { named = may.0.named; based = subst (λ (k : Layout). IsTrue (is_base k r.offset)) (sym at) may.0.base }, from_one _ p may.1), inr refl)
 
 still_command : (st : Setting) (g : Layout) (text : List ℕ) (o : Result Command ℕ) → st.layout ≡ g → command_in (lease_forms g) text ≡ o → IsStillCommand st o
 still_command st g text (Err column) at reads = tt
@@ -209,12 +222,10 @@ is_setting h still s has =
     let head : IsHeader h = still.header in
     record {
       timing = head.timing;
-      grace = head.grace;
       layout = (h.geometry, head.geometry, refl);
       digest = program_is_digest;
       name = (head.members s has).name;
-      numbers = (omega arith, omega arith, omega arith, omega arith);
-      few = few_given h still;
+      reads = λ text d reads. read_command (layout_of h.geometry) text d reads;
       each = recursion_from_All (IsGiven (still_setting h s)) (given h) (λ k d inside.
           let one = each_given h still _ (Contains-get_or (given h) k d inside) in
           record { id = one.host; base = one.base; renewed = subst (λ (n : ℕ). n < moments) (sym one.renewed) (reading_below h head); lockspace = one.lockspace });

@@ -12,6 +12,7 @@ two_of_each =
       grace = 60000;
       machines = 1;
       geometry = record { sector = 512; area = 1048576; hosts = 2 };
+      retries = 0;
       clocks = record { machine = 1; reading = 500 } ∷ [];
       disks = record { path = codes "/d"; mebibytes = 2 } ∷ record { path = codes "/e"; mebibytes = 2 } ∷ [];
       lockspaces = record { name = codes "one"; path = codes "/d"; offset = 0 } ∷ record { name = codes "two"; path = codes "/e"; offset = 0 } ∷ [];
@@ -28,6 +29,7 @@ nobody =
       grace = 60000;
       machines = 1;
       geometry = record { sector = 512; area = 1048576; hosts = 2 };
+      retries = 0;
       clocks = [];
       disks = record { path = codes "/d"; mebibytes = 2 } ∷ [];
       lockspaces = record { name = codes "one"; path = codes "/d"; offset = 0 } ∷ [];

@@ -11,11 +11,11 @@ use Rattle.sl_run.specs.declared.header.Header.{Header}
 use Rattle.sl_run.specs.declared.header.LockspaceLine.{LockspaceLine}
 use Rattle.sl_run.specs.declared.header.ResourceLine.{ResourceLine}
 use Rattle.sl_run.specs.declared.header.SessionLine.{SessionLine}
-use Rattle.sl_still_schedule.proofs.LineKinds.{area_fits, area_kind, clock_fits, clock_kind, disk_fits, disk_kind, hosts_kind, ids_kind, lease_fits, lease_kind, line_of_times, member_fits, member_kind, times_fit, times_kind}
+use Rattle.sl_still_schedule.proofs.LineKinds.{area_fits, area_kind, clock_fits, clock_kind, disk_fits, disk_kind, hosts_kind, ids_kind, lease_fits, lease_kind, line_of_times, member_fits, member_kind, times_fit, times_kind, ids_fit, area_so_far}
 use Rattle.sl_still_schedule.proofs.Lists.{first_inside, none_passes, pairs_append, pairs_map}
 use Rattle.sl_still_schedule.proofs.Made.{IsOffset}
 use Rattle.sl_still_schedule.proofs.Reading.{IsOfLines, read_lines}
-use Rattle.sl_still_schedule.proofs.Taken.{AreStillLines, GoesAcross, IsKind, IsLineBehind, StandsIn, across_stand, each_stands, few_stand, formed, of_one_machine, one_before, pairs_stand, picked_later, same_first}
+use Rattle.sl_still_schedule.proofs.Taken.{AreStillLines, GoesAcross, IsKind, IsLineBehind, StandsIn, across_stand, each_stands, few_stand, formed, of_one_machine, one_before, pairs_stand, picked_later, same_first, no_retries, no_sizes, still_before}
 use Rattle.sl_still_schedule.specs.Promises.{HeadersAreStill}
 use Rattle.sl_still_schedule.specs.StillHeaders.{IsStillHeader}
 use Rattle.sl_still_schedule.specs.StillLanguage.{still_language}
@@ -23,7 +23,7 @@ use Rattle.sl_text.specs.Names.{is_name, is_path}
 use Rattle.sl_time.specs.Times.{IsTiming}
 use Rattle.sl_words.proofs.CaseLaws.{not_both}
 use Rattle.sl_words.proofs.WordLaws.{and_true}
-use Rattle.std.proofs.Common.{Bool, List, Option, Some, [], arith, false, length, map, not, refl, subst, sym, true, ℕ, ◌%◌, ◌&&◌, ◌*◌, ◌++◌, ◌+◌, ◌<◌, ◌^◌, ◌≡◌, ◌≤◌}
+use Rattle.std.proofs.Common.{Bool, List, Option, Some, [], arith, false, length, map, not, refl, subst, sym, true, ℕ, ◌%◌, ◌&&◌, ◌*◌, ◌++◌, ◌+◌, ◌<◌, ◌^◌, ◌≡◌, ◌≤◌, ap}
 use Rattle.std.proofs.lemmas.Bool.Decides.{nat_tests}
 use Rattle.std.proofs.lemmas.Bool.{eq-eqb, eqb-true, leb-true, or_parts}
 use Rattle.std.proofs.lemmas.Slice.Eq.{bytes_eq-Decides}
@@ -73,7 +73,7 @@ hosts_of : (ls : List HeaderLine) → AreStillLines ls → IsLineBehind ls Begin
 hosts_of ls all begun =
     let some : 1 ≤ length (filter_map ids_line ls) = one_before (λ n. IdsLine n) ids_line 3 ids_kind ls BeginLine begun (omega arith) refl in
     let s = first_stands (λ n. IdsLine n) ids_line 3 ids_kind 0 ls all some in
-    formed s.before (IdsLine (first_line ids_line 0 ls)) s.behind
+    (formed s.before (IdsLine (first_line ids_line 0 ls)) s.behind, ids_fit s.before (first_line ids_line 0 ls) s.behind)
 
 geometry_at : (s : Sizes) → s.sector ≡ 512 → s.area ≡ mebibyte → 1 ≤ s.hosts → s.hosts ≤ 2000 → is_geometry s ≡ true
 geometry_at s sector area low high = grind (arith, nat_tests)
@@ -83,7 +83,7 @@ geometry_at s sector area low high = grind (arith, nat_tests)
 clock_is : (ls : List HeaderLine) → AreStillLines ls → (c : FirstReading) → Contains (filter_map clock_line ls) c
     → (1 ≤ c.machine) × (c.machine ≤ first_line hosts_line 0 ls) × (c.reading < 10 ^ 12)
 clock_is ls all c has =
-    let s = each_stands (λ c. ClockLine c) clock_line 4 clock_kind ls all c has in
+    let s = each_stands (λ c. ClockLine c) clock_line 6 clock_kind ls all c has in
     let words = formed s.before (ClockLine c) s.behind in
     let same : first_line hosts_line 0 s.before ≡ first_line hosts_line 0 ls = same_first (λ m. HostsLine m) hosts_line 2 hosts_kind ls (ClockLine c) s 0 (omega arith) refl in
     (words.0, subst (λ (m : ℕ). c.machine ≤ m) same (clock_fits s.before c s.behind).machine, words.1)
@@ -93,7 +93,7 @@ clocks_differ ls a b behind has =
     other_number a.machine b.machine (none_passes (λ (d : FirstReading). d.machine == b.machine) (filter_map clock_line ls) a (clock_fits ls b behind).free has)
 
 disk_is : (ls : List HeaderLine) → AreStillLines ls → (d : Disk) → Contains (filter_map disk_line ls) d → IsTrue (is_path d.path) × (1 ≤ d.mebibytes) × (d.mebibytes ≤ 64)
-disk_is ls all d has = let s = each_stands (λ d. DiskLine d) disk_line 5 disk_kind ls all d has in formed s.before (DiskLine d) s.behind
+disk_is ls all d has = let s = each_stands (λ d. DiskLine d) disk_line 7 disk_kind ls all d has in formed s.before (DiskLine d) s.behind
 
 disks_differ : (ls : List HeaderLine) (a b : Disk) → IsLineBehind ls (DiskLine b) → Contains (filter_map disk_line ls) a → a.path ≢ b.path
 disks_differ ls a b behind has =
@@ -120,9 +120,19 @@ lies_on ls all l s path offset whole on =
       on_disk = (found.0, has, same_text found.0.path path both.0, inside);
     }
 
-area_in : (ls : List HeaderLine) (path : List ℕ) (offset : ℕ) → LiesOn (filter_map disk_line ls) path offset → IsArea (header_of default_sector default_area ls) path offset
+-- No line told another size.
+by_default : (ls : List HeaderLine) → AreStillLines ls → (path : List ℕ) (offset : ℕ) → is_on_disk (filter_map disk_line ls) (area_so_far ls) path offset ≡ true
+    → is_on_disk (filter_map disk_line ls) mebibyte path offset ≡ true
+by_default ls all path offset on = subst (λ (p : ℕ × ℕ). is_on_disk (filter_map disk_line ls) p.1 path offset ≡ true) (no_sizes ls all) on
+
+area_in : (ls : List HeaderLine) → AreStillLines ls → (path : List ℕ) (offset : ℕ) → LiesOn (filter_map disk_line ls) path offset → IsArea (header_of default_sector default_area ls) path offset
 unfolding header_of
-area_in ls path offset on = record { aligned = on.aligned; on_disk = on.on_disk }
+area_in ls all path offset on =
+    let same : mebibyte ≡ area_so_far ls = sym (ap (λ (p : ℕ × ℕ). p.1) (no_sizes ls all)) in
+    record {
+      aligned = subst (λ n. offset % n ≡ 0) same on.aligned;
+      on_disk = (on.on_disk.0, on.on_disk.1, on.on_disk.2, subst (λ n. offset + n ≤ on.on_disk.0.mebibytes * mebibyte) same on.on_disk.3);
+    }
 
 -- A lockspace of this name stood before.
 known_in : (ls : List HeaderLine) (l : HeaderLine) (s : StandsIn ls l) (name : List ℕ) → list_any (λ a. bytes_eq a.name name) (filter_map area_line s.before) ≡ true
@@ -134,9 +144,9 @@ known_in ls l s name known =
 space_is : (ls : List HeaderLine) → AreStillLines ls → (a : LockspaceLine) → Contains (filter_map area_line ls) a
     → IsTrue (is_name a.name) × LiesOn (filter_map disk_line ls) a.path a.offset
 space_is ls all a has =
-    let s = each_stands (λ a. AreaLine a) area_line 6 area_kind ls all a has in
+    let s = each_stands (λ a. AreaLine a) area_line 8 area_kind ls all a has in
     let words = formed s.before (AreaLine a) s.behind in
-    (words.0, lies_on ls all (AreaLine a) s a.path a.offset words.1 (area_fits s.before a s.behind).on)
+    (words.0, lies_on ls all (AreaLine a) s a.path a.offset words.1 (by_default s.before (still_before ls (AreaLine a) s all) a.path a.offset (area_fits s.before a s.behind).on))
 
 spaces_differ : (ls : List HeaderLine) (a b : LockspaceLine) → IsLineBehind ls (AreaLine b) → Contains (filter_map area_line ls) a → a.name ≢ b.name
 spaces_differ ls a b behind has =
@@ -145,10 +155,10 @@ spaces_differ ls a b behind has =
 lease_is : (ls : List HeaderLine) → AreStillLines ls → (r : ResourceLine) → Contains (filter_map lease_line ls) r
     → IsTrue (is_name r.name) × LiesOn (filter_map disk_line ls) r.path r.offset × ((a : LockspaceLine) × Contains (filter_map area_line ls) a × (a.name ≡ r.lockspace))
 lease_is ls all r has =
-    let s = each_stands (λ r. LeaseLine r) lease_line 7 lease_kind ls all r has in
+    let s = each_stands (λ r. LeaseLine r) lease_line 9 lease_kind ls all r has in
     let words = formed s.before (LeaseLine r) s.behind in
     let fits = lease_fits s.before r s.behind in
-    (words.0, lies_on ls all (LeaseLine r) s r.path r.offset words.1 fits.on, known_in ls (LeaseLine r) s r.lockspace fits.known)
+    (words.0, lies_on ls all (LeaseLine r) s r.path r.offset words.1 (by_default s.before (still_before ls (LeaseLine r) s all) r.path r.offset fits.on), known_in ls (LeaseLine r) s r.lockspace fits.known)
 
 -- ---- areas begin apart
 
@@ -203,8 +213,8 @@ places_apart ls all =
     let spaces : List LockspaceLine = filter_map area_line ls in
     let leases : List ResourceLine = filter_map lease_line ls in
     pairs_append BeginApart (map place_of_space spaces) (map place_of_lease leases)
-    (pairs_map BeginApart place_of_space spaces (pairs_stand (λ a. AreaLine a) area_line 6 area_kind (λ a b. BeginApart (place_of_space a) (place_of_space b)) space_apart ls all))
-    (pairs_map BeginApart place_of_lease leases (pairs_stand (λ r. LeaseLine r) lease_line 7 lease_kind (λ q r. BeginApart (place_of_lease q) (place_of_lease r)) lease_apart ls all))
+    (pairs_map BeginApart place_of_space spaces (pairs_stand (λ a. AreaLine a) area_line 8 area_kind (λ a b. BeginApart (place_of_space a) (place_of_space b)) space_apart ls all))
+    (pairs_map BeginApart place_of_lease leases (pairs_stand (λ r. LeaseLine r) lease_line 9 lease_kind (λ q r. BeginApart (place_of_lease q) (place_of_lease r)) lease_apart ls all))
     (λ x y in_spaces in_leases.
     let a = in_map place_of_space spaces x in_spaces in
     let r = in_map place_of_lease leases y in_leases in
@@ -221,7 +231,7 @@ record MemberIs (ls : List HeaderLine) (s : SessionLine) : Type 0 where
 
 member_is : (ls : List HeaderLine) → AreStillLines ls → (s : SessionLine) → Contains (filter_map member_line ls) s → MemberIs ls s
 member_is ls all m has =
-    let s = each_stands (λ m. MemberLine m) member_line 8 member_kind ls all m has in
+    let s = each_stands (λ m. MemberLine m) member_line 10 member_kind ls all m has in
     let words = formed s.before (MemberLine m) s.behind in
     let fits = member_fits s.before m s.behind in
     let machines : first_line hosts_line 0 s.before ≡ first_line hosts_line 0 ls = same_first (λ m. HostsLine m) hosts_line 2 hosts_kind ls (MemberLine m) s 0 (omega arith) refl in
@@ -292,27 +302,28 @@ is_header ls all begun =
       timing = times.0;
       grace = times.1;
       machines = (omega (arith, one), omega (arith, one));
-      geometry = geometry_at (record { sector = 512; area = mebibyte; hosts = first_line ids_line 0 ls }) refl refl hosts.0 hosts.1;
+      geometry = geometry_at (header_of default_sector default_area ls).geometry (ap (λ (p : ℕ × ℕ). p.0) (no_sizes ls all)) (ap (λ (p : ℕ × ℕ). p.1) (no_sizes ls all)) hosts.0 hosts.1;
+      retries = subst (λ n. n ≤ 8) (sym (no_retries ls all)) (omega arith);
       clocks = clock_is ls all;
-      one_clock = pairs_stand (λ c. ClockLine c) clock_line 4 clock_kind (λ a b. a.machine ≢ b.machine) clocks_differ ls all;
+      one_clock = pairs_stand (λ c. ClockLine c) clock_line 6 clock_kind (λ a b. a.machine ≢ b.machine) clocks_differ ls all;
       disks = disk_is ls all;
-      one_disk = pairs_stand (λ d. DiskLine d) disk_line 5 disk_kind (λ a b. a.path ≢ b.path) disks_differ ls all;
-      lockspaces = λ a has. let is = space_is ls all a has in (is.0, area_in ls a.path a.offset is.1);
-      one_lockspace = pairs_stand (λ a. AreaLine a) area_line 6 area_kind (λ a b. a.name ≢ b.name) spaces_differ ls all;
-      resources = λ r has. let is = lease_is ls all r has in (is.0, area_in ls r.path r.offset is.1, is.2);
+      one_disk = pairs_stand (λ d. DiskLine d) disk_line 7 disk_kind (λ a b. a.path ≢ b.path) disks_differ ls all;
+      lockspaces = λ a has. let is = space_is ls all a has in (is.0, area_in ls all a.path a.offset is.1);
+      one_lockspace = pairs_stand (λ a. AreaLine a) area_line 8 area_kind (λ a b. a.name ≢ b.name) spaces_differ ls all;
+      resources = λ r has. let is = lease_is ls all r has in (is.0, area_in ls all r.path r.offset is.1, is.2);
       apart = places_apart ls all;
       few = (
-        few_stand (λ d. DiskLine d) disk_line 5 8 disk_kind refl ls all,
-        few_stand (λ a. AreaLine a) area_line 6 8 area_kind refl ls all,
-        few_stand (λ r. LeaseLine r) lease_line 7 256 lease_kind refl ls all,
+        few_stand (λ d. DiskLine d) disk_line 7 8 disk_kind refl ls all,
+        few_stand (λ a. AreaLine a) area_line 8 8 area_kind refl ls all,
+        few_stand (λ r. LeaseLine r) lease_line 9 256 lease_kind refl ls all,
       );
       members = λ s has. member_in ls s (member_is ls all s has);
-      together = pairs_stand (λ s. MemberLine s) member_line 8 member_kind GoTogether members_together ls all;
+      together = pairs_stand (λ s. MemberLine s) member_line 10 member_kind GoTogether members_together ls all;
     }
 
 still_header : (ls : List HeaderLine) → AreStillLines ls → IsLineBehind ls BeginLine → IsStillHeader (header_of default_sector default_area ls)
 unfolding header_of
-still_header ls all begun = record { header = is_header ls all begun; machines = one_machine ls all begun; sector = refl; area = refl }
+still_header ls all begun = record { header = is_header ls all begun; machines = one_machine ls all begun; sector = ap (λ (p : ℕ × ℕ). p.0) (no_sizes ls all); area = ap (λ (p : ℕ × ℕ). p.1) (no_sizes ls all) }
 
 header_of_lines : (h : Header) → IsOfLines h → IsStillHeader h
 header_of_lines h of = subst IsStillHeader (sym of.is) (still_header of.lines of.taken of.begun)

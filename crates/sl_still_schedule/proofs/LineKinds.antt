@@ -1,7 +1,6 @@
 -- The kinds of a header's lines, and what each line's tests say of the lines before it.
-use Rattle.sl_report.specs.ScheduleLines.{AreaLine, BeginLine, ClockLine, DiskLine, HeaderLine, HostsLine, IdsLine, LeaseLine, MemberLine, TimeLine, VersionLine, area_line, clock_line, disk_line, first_line, header_of, header_tests, hosts_line, ids_line, is_known_lockspace, is_on_disk, is_taken_place, lease_line, member_line, rank, timing_line}
+use Rattle.sl_report.specs.ScheduleLines.{AreaLine, BeginLine, ClockLine, DiskLine, HeaderLine, HostsLine, IdsLine, LeaseLine, MemberLine, TimeLine, VersionLine, area_line, clock_line, disk_line, first_line, header_of, header_tests, hosts_line, ids_line, is_known_lockspace, is_on_disk, is_taken_place, lease_line, member_line, rank, timing_line, GeometryLine, LvmLine, geometry_line}
 use Rattle.sl_report.specs.Schedules.{default_area, default_sector}
-use Rattle.sl_run.specs.Worlds.{mebibyte}
 use Rattle.sl_run.specs.declared.header.Disk.{Disk}
 use Rattle.sl_run.specs.declared.header.FirstReading.{FirstReading}
 use Rattle.sl_run.specs.declared.header.LockspaceLine.{LockspaceLine}
@@ -15,7 +14,8 @@ use Rattle.std.proofs.lemmas.Bool.Decides.{nat_tests}
 use Rattle.std.proofs.lemmas.Bool.{ltb-false, or_parts}
 use Rattle.std.specs.Int.{is_in_range}
 use Rattle.std.specs.List.{filter_map, list_any}
-use Rattle.std.specs.Prelude.{bytes_eq, is_some, nat_lt, ◌==◌, ◌||◌}
+use Rattle.sl_area.specs.Layouts.{most_ids_of_all}
+use Rattle.std.specs.Prelude.{bytes_eq, is_some, nat_lt, ◌==◌, ◌||◌, ℕ}
 
 -- ---- kinds
 
@@ -32,6 +32,8 @@ times_ranked VersionLine = refl
 times_ranked (TimeLine io fire land rho grace) = refl
 times_ranked (HostsLine m) = refl
 times_ranked (IdsLine n) = refl
+times_ranked (GeometryLine sector mebibytes) = refl
+times_ranked (LvmLine n) = refl
 times_ranked (ClockLine c) = refl
 times_ranked (DiskLine d) = refl
 times_ranked (AreaLine a) = refl
@@ -51,6 +53,8 @@ hosts_ranked VersionLine = refl
 hosts_ranked (TimeLine io fire land rho grace) = refl
 hosts_ranked (HostsLine m) = refl
 hosts_ranked (IdsLine n) = refl
+hosts_ranked (GeometryLine sector mebibytes) = refl
+hosts_ranked (LvmLine n) = refl
 hosts_ranked (ClockLine c) = refl
 hosts_ranked (DiskLine d) = refl
 hosts_ranked (AreaLine a) = refl
@@ -70,6 +74,8 @@ ids_ranked VersionLine = refl
 ids_ranked (TimeLine io fire land rho grace) = refl
 ids_ranked (HostsLine m) = refl
 ids_ranked (IdsLine n) = refl
+ids_ranked (GeometryLine sector mebibytes) = refl
+ids_ranked (LvmLine n) = refl
 ids_ranked (ClockLine c) = refl
 ids_ranked (DiskLine d) = refl
 ids_ranked (AreaLine a) = refl
@@ -84,11 +90,13 @@ clock_back : (l : HeaderLine) (x : FirstReading) → clock_line l ≡ Some x →
 clock_back (ClockLine c) x h = ap (λ y. ClockLine y) (some_value _ _ h)
 clock_back l x h = absurd cc
 
-clock_ranked : (l : HeaderLine) → is_some (clock_line l) ≡ (rank l == 4)
+clock_ranked : (l : HeaderLine) → is_some (clock_line l) ≡ (rank l == 6)
 clock_ranked VersionLine = refl
 clock_ranked (TimeLine io fire land rho grace) = refl
 clock_ranked (HostsLine m) = refl
 clock_ranked (IdsLine n) = refl
+clock_ranked (GeometryLine sector mebibytes) = refl
+clock_ranked (LvmLine n) = refl
 clock_ranked (ClockLine c) = refl
 clock_ranked (DiskLine d) = refl
 clock_ranked (AreaLine a) = refl
@@ -96,18 +104,20 @@ clock_ranked (LeaseLine r) = refl
 clock_ranked (MemberLine s) = refl
 clock_ranked BeginLine = refl
 
-pub clock_kind : IsKind (λ x. ClockLine x) clock_line 4
+pub clock_kind : IsKind (λ x. ClockLine x) clock_line 6
 clock_kind = record { back = clock_back; ranked = clock_ranked }
 
 disk_back : (l : HeaderLine) (x : Disk) → disk_line l ≡ Some x → l ≡ DiskLine x
 disk_back (DiskLine d) x h = ap (λ y. DiskLine y) (some_value _ _ h)
 disk_back l x h = absurd cc
 
-disk_ranked : (l : HeaderLine) → is_some (disk_line l) ≡ (rank l == 5)
+disk_ranked : (l : HeaderLine) → is_some (disk_line l) ≡ (rank l == 7)
 disk_ranked VersionLine = refl
 disk_ranked (TimeLine io fire land rho grace) = refl
 disk_ranked (HostsLine m) = refl
 disk_ranked (IdsLine n) = refl
+disk_ranked (GeometryLine sector mebibytes) = refl
+disk_ranked (LvmLine n) = refl
 disk_ranked (ClockLine c) = refl
 disk_ranked (DiskLine d) = refl
 disk_ranked (AreaLine a) = refl
@@ -115,18 +125,20 @@ disk_ranked (LeaseLine r) = refl
 disk_ranked (MemberLine s) = refl
 disk_ranked BeginLine = refl
 
-pub disk_kind : IsKind (λ x. DiskLine x) disk_line 5
+pub disk_kind : IsKind (λ x. DiskLine x) disk_line 7
 disk_kind = record { back = disk_back; ranked = disk_ranked }
 
 area_back : (l : HeaderLine) (x : LockspaceLine) → area_line l ≡ Some x → l ≡ AreaLine x
 area_back (AreaLine a) x h = ap (λ y. AreaLine y) (some_value _ _ h)
 area_back l x h = absurd cc
 
-area_ranked : (l : HeaderLine) → is_some (area_line l) ≡ (rank l == 6)
+area_ranked : (l : HeaderLine) → is_some (area_line l) ≡ (rank l == 8)
 area_ranked VersionLine = refl
 area_ranked (TimeLine io fire land rho grace) = refl
 area_ranked (HostsLine m) = refl
 area_ranked (IdsLine n) = refl
+area_ranked (GeometryLine sector mebibytes) = refl
+area_ranked (LvmLine n) = refl
 area_ranked (ClockLine c) = refl
 area_ranked (DiskLine d) = refl
 area_ranked (AreaLine a) = refl
@@ -134,18 +146,20 @@ area_ranked (LeaseLine r) = refl
 area_ranked (MemberLine s) = refl
 area_ranked BeginLine = refl
 
-pub area_kind : IsKind (λ x. AreaLine x) area_line 6
+pub area_kind : IsKind (λ x. AreaLine x) area_line 8
 area_kind = record { back = area_back; ranked = area_ranked }
 
 lease_back : (l : HeaderLine) (x : ResourceLine) → lease_line l ≡ Some x → l ≡ LeaseLine x
 lease_back (LeaseLine r) x h = ap (λ y. LeaseLine y) (some_value _ _ h)
 lease_back l x h = absurd cc
 
-lease_ranked : (l : HeaderLine) → is_some (lease_line l) ≡ (rank l == 7)
+lease_ranked : (l : HeaderLine) → is_some (lease_line l) ≡ (rank l == 9)
 lease_ranked VersionLine = refl
 lease_ranked (TimeLine io fire land rho grace) = refl
 lease_ranked (HostsLine m) = refl
 lease_ranked (IdsLine n) = refl
+lease_ranked (GeometryLine sector mebibytes) = refl
+lease_ranked (LvmLine n) = refl
 lease_ranked (ClockLine c) = refl
 lease_ranked (DiskLine d) = refl
 lease_ranked (AreaLine a) = refl
@@ -153,18 +167,20 @@ lease_ranked (LeaseLine r) = refl
 lease_ranked (MemberLine s) = refl
 lease_ranked BeginLine = refl
 
-pub lease_kind : IsKind (λ x. LeaseLine x) lease_line 7
+pub lease_kind : IsKind (λ x. LeaseLine x) lease_line 9
 lease_kind = record { back = lease_back; ranked = lease_ranked }
 
 member_back : (l : HeaderLine) (x : SessionLine) → member_line l ≡ Some x → l ≡ MemberLine x
 member_back (MemberLine s) x h = ap (λ y. MemberLine y) (some_value _ _ h)
 member_back l x h = absurd cc
 
-member_ranked : (l : HeaderLine) → is_some (member_line l) ≡ (rank l == 8)
+member_ranked : (l : HeaderLine) → is_some (member_line l) ≡ (rank l == 10)
 member_ranked VersionLine = refl
 member_ranked (TimeLine io fire land rho grace) = refl
 member_ranked (HostsLine m) = refl
 member_ranked (IdsLine n) = refl
+member_ranked (GeometryLine sector mebibytes) = refl
+member_ranked (LvmLine n) = refl
 member_ranked (ClockLine c) = refl
 member_ranked (DiskLine d) = refl
 member_ranked (AreaLine a) = refl
@@ -172,7 +188,7 @@ member_ranked (LeaseLine r) = refl
 member_ranked (MemberLine s) = refl
 member_ranked BeginLine = refl
 
-pub member_kind : IsKind (λ x. MemberLine x) member_line 8
+pub member_kind : IsKind (λ x. MemberLine x) member_line 10
 member_kind = record { back = member_back; ranked = member_ranked }
 
 -- ---- tests
@@ -195,6 +211,15 @@ unfolding header_tests
 times_fit ls x h =
     let fail : EachFails (header_tests (header_of default_sector default_area ls) (line_of_times x)) = unrefused ls (line_of_times x) h in
     ranged x.0.io x.0.fire x.0.land x.0.rho x.1 fail.0 fail.1.0 fail.1.1.0 fail.1.1.1.0 fail.1.1.1.1.0
+
+-- There are no more hosts than areas may have.
+pub ids_fit : (ls : List HeaderLine) (n : ℕ) → IsLineBehind ls (IdsLine n) → n ≤ most_ids_of_all
+unfolding header_tests
+ids_fit ls n h = let fail = unrefused ls (IdsLine n) h in ltb-false most_ids_of_all n fail.0
+
+-- The size of areas that these lines give.
+abbrev pub area_so_far : List HeaderLine → ℕ
+area_so_far ls = (first_line geometry_line (default_sector, default_area) ls).1
 
 -- A clock is of a machine that there is, and of no machine that has one.
 pub record ClockFits (ls : List HeaderLine) (c : FirstReading) : Type 0 where
@@ -219,7 +244,7 @@ pub record IsFreePlace (ls : List HeaderLine) (path : List ℕ) (offset : ℕ) :
 
 -- A lockspace lies on a disk, at a place of its own, and has a name of its own.
 pub record AreaFits (ls : List HeaderLine) (a : LockspaceLine) : Type 0 where
-  pub on : is_on_disk (filter_map disk_line ls) mebibyte a.path a.offset ≡ true
+  pub on : is_on_disk (filter_map disk_line ls) (area_so_far ls) a.path a.offset ≡ true
   pub named : list_any (λ l. bytes_eq l.name a.name) (filter_map area_line ls) ≡ false
   pub free : IsFreePlace ls a.path a.offset
 
@@ -234,7 +259,7 @@ area_fits ls a h =
 
 -- A resource lies on a disk, at a place of its own, and is of a lockspace that there is.
 pub record LeaseFits (ls : List HeaderLine) (r : ResourceLine) : Type 0 where
-  pub on : is_on_disk (filter_map disk_line ls) mebibyte r.path r.offset ≡ true
+  pub on : is_on_disk (filter_map disk_line ls) (area_so_far ls) r.path r.offset ≡ true
   pub known : list_any (λ l. bytes_eq l.name r.lockspace) (filter_map area_line ls) ≡ true
   pub free : IsFreePlace ls r.path r.offset
 

@@ -53,7 +53,7 @@ IsOffset area offset = offset < 2 ^ 64 - 1 → offset % area ≡ 0
 
 -- What is so of a line whatever stands before it.
 abbrev pub IsWellFormed : ℕ → HeaderLine → Type 0
-IsWellFormed area (IdsLine n) = (1 ≤ n) × (n ≤ 2000)
+IsWellFormed area (IdsLine n) = 1 ≤ n
 IsWellFormed area (ClockLine c) = (1 ≤ c.machine) × (c.reading < 10 ^ 12)
 IsWellFormed area (DiskLine d) = IsTrue (is_path d.path) × (1 ≤ d.mebibytes) × (d.mebibytes ≤ 64)
 IsWellFormed area (AreaLine l) = IsTrue (is_name l.name) × IsOffset area l.offset
@@ -84,7 +84,7 @@ word_passes : (ps : List (List ℕ → Bool)) (k : ℕ) → nat_lt k (length ps)
 word_passes ps k inside ws h = passes ps ws k h (ltb-true _ _ inside)
 
 abbrev ids_tests : List (List ℕ → Bool)
-ids_tests = exactly (codes "ids") ∷ is_number_that (is_in_range 1 2000) ∷ []
+ids_tests = exactly (codes "ids") ∷ is_positive_word ∷ []
 
 abbrev clock_tests : List (List ℕ → Bool)
 clock_tests = exactly (codes "clock") ∷ is_positive_word ∷ is_number_that (λ n. nat_lt n (10 ^ 12)) ∷ []
@@ -101,8 +101,11 @@ lease_tests area = exactly (codes "resource") ∷ is_name ∷ is_name ∷ is_pat
 abbrev member_tests : List (List ℕ → Bool)
 member_tests = exactly (codes "session") ∷ is_positive_word ∷ is_name ∷ is_number_that (is_in_range 1 2000) ∷ is_name ∷ []
 
-ids_form : (ws : List (List ℕ)) → fits_whole ids_tests ws ≡ true → (1 ≤ number_of (word_at ws 1)) × (number_of (word_at ws 1) ≤ 2000)
-ids_form ws h = between 1 2000 (word_at ws 1) (word_passes ids_tests 1 refl ws h)
+some_long : (n : ℕ) → nat_lt 0 n ≡ true → 1 ≤ min n (2 ^ 64 - 1)
+some_long n h = grind (arith, nat_tests)
+
+ids_form : (ws : List (List ℕ)) → fits_whole ids_tests ws ≡ true → 1 ≤ capped_long (word_at ws 1)
+ids_form ws h = some_long (number_of (word_at ws 1)) (number_passes (λ n. nat_lt 0 n) (word_at ws 1) (word_passes ids_tests 1 refl ws h))
 
 reading_below : (w : List ℕ) → is_number_that (λ n. nat_lt n (10 ^ 12)) w ≡ true → number_of w < 10 ^ 12
 reading_below w h = ltb-true (number_of w) (10 ^ 12) (number_passes (λ n. nat_lt n (10 ^ 12)) w h)
@@ -139,7 +142,7 @@ each_form area = (
       (λ ws h. tt),
       (
         ids_form,
-        (clock_form, (disk_form, (area_form area, (lease_form area, (member_form, ((λ ws h. tt), tt)))))),
+        ((λ ws h. tt), ((λ ws h. tt), (clock_form, (disk_form, (area_form area, (lease_form area, (member_form, ((λ ws h. tt), tt)))))))),
       ),
     ),
   ),

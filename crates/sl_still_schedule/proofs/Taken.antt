@@ -1,7 +1,7 @@
 -- Lines of a header that were taken one behind the other, and what holds of them because it holds of each behind those before it.
 use Rattle.sl_plain.proofs.Lists.{contains_none}
 use Rattle.sl_report.specs.ReadingLines.{header_refusal, is_in_order, is_room_for}
-use Rattle.sl_report.specs.ScheduleLines.{HeaderLine, count_of_rank, first_line, header_forms, header_of, header_tests, rank}
+use Rattle.sl_report.specs.ScheduleLines.{HeaderLine, count_of_rank, first_line, header_forms, header_of, header_tests, rank, GeometryLine, LvmLine, geometry_line, retries_line}
 use Rattle.sl_report.specs.Languages.{least_lines, most_lines}
 use Rattle.sl_report.specs.Schedules.{default_area, default_sector}
 use Rattle.sl_run.specs.Worlds.{first_that}
@@ -167,6 +167,37 @@ picked_cases : {A : Type 0} (pick : HeaderLine → Option A) (ls : List HeaderLi
 picked_cases {A} pick ls l x has =
     picked_by pick ls l x (pick l) refl (subst (λ (xs : List A). Contains xs x) (picked_more pick ls l (pick l) refl) has)
 
+-- ---- lines that are left out
+
+-- What is picked of no line that is taken is picked of none.
+none_more : {A : Type 0} (pick : HeaderLine → Option A) → ((l : HeaderLine) → is_still_line l ≡ true → pick l ≡ None) → (ls : List HeaderLine) (l : HeaderLine)
+    → filter_map pick ls ≡ [] → IsLineBehind ls l → filter_map pick (ls ++ l ∷ []) ≡ []
+none_more pick none ls l h behind = picked_more pick ls l None (none l (of_one_machine ls l behind)) ∙ append-nil (filter_map pick ls) ∙ h
+
+none_picked : {A : Type 0} (pick : HeaderLine → Option A) → ((l : HeaderLine) → is_still_line l ≡ true → pick l ≡ None) → (ls : List HeaderLine) → AreStillLines ls
+    → filter_map pick ls ≡ []
+none_picked pick none ls all = walk (λ ms. filter_map pick ms ≡ []) (none_more pick none) ls [] refl all
+
+tells_no_sizes : (l : HeaderLine) → is_still_line l ≡ true → geometry_line l ≡ None
+tells_no_sizes (GeometryLine sector mebibytes) h = absurd cc
+tells_no_sizes l h = refl
+
+tells_no_retries : (l : HeaderLine) → is_still_line l ≡ true → retries_line l ≡ None
+tells_no_retries (LvmLine n) h = absurd cc
+tells_no_retries l h = refl
+
+-- No line tells sizes.
+pub no_sizes : (ls : List HeaderLine) → AreStillLines ls → first_line geometry_line (default_sector, default_area) ls ≡ (default_sector, default_area)
+no_sizes ls all = ap (λ (xs : List (ℕ × ℕ)). unwrap_or (first_of_list xs) (default_sector, default_area)) (none_picked geometry_line tells_no_sizes ls all)
+
+-- .. nor retries.
+pub no_retries : (ls : List HeaderLine) → AreStillLines ls → first_line retries_line 0 ls ≡ 0
+no_retries ls all = ap (λ (xs : List ℕ). unwrap_or (first_of_list xs) 0) (none_picked retries_line tells_no_retries ls all)
+
+front_behind : (before ls more : List HeaderLine) → AreLinesBehind before (ls ++ more) → AreLinesBehind before ls
+front_behind before [] more all = tt
+front_behind before (l ∷ ls) more all = (all.0, front_behind (before ++ l ∷ []) ls more all.1)
+
 -- ---- each line that is picked
 
 -- The line stands there behind those before it.
@@ -175,6 +206,10 @@ pub record StandsIn (ls : List HeaderLine) (l : HeaderLine) : Type 0 where
   pub after : List HeaderLine
   pub split : ls ≡ before ++ after
   pub behind : IsLineBehind before l
+
+-- Those before it were taken too.
+pub still_before : (ls : List HeaderLine) (l : HeaderLine) (s : StandsIn ls l) → AreStillLines ls → AreStillLines s.before
+still_before ls l s all = front_behind [] s.before s.after (subst AreStillLines s.split all)
 
 abbrev EachStands : {A : Type 0} → (A → HeaderLine) → (HeaderLine → Option A) → List HeaderLine → Type 0
 EachStands {A} line pick ls = (x : A) → Contains (filter_map pick ls) x → StandsIn ls (line x)

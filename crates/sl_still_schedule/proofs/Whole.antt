@@ -1,14 +1,14 @@
 -- Line by line, and as a whole, a header goes together with the whole language.
 use Rattle.sl_report.specs.Languages.{Language, whole_language}
 use Rattle.sl_report.specs.ReadingLines.{header_line_in}
-use Rattle.sl_report.specs.ScheduleLines.{AreaLine, BeginLine, ClockLine, DiskLine, HeaderLine, HostsLine, IdsLine, LeaseLine, MemberLine, TimeLine, VersionLine, header_of}
+use Rattle.sl_report.specs.ScheduleLines.{AreaLine, BeginLine, ClockLine, DiskLine, HeaderLine, HostsLine, IdsLine, LeaseLine, MemberLine, TimeLine, VersionLine, header_of, GeometryLine, LvmLine}
 use Rattle.sl_report.specs.Schedules.{HeaderReading, Header_read, Header_refused, NumberedLine, default_area, default_sector, header_line_refusal, is_begin, line_refusal, read_header, with_line}
 use Rattle.sl_run.specs.declared.event.Refusal.TheVariants.{Syntax}
 use Rattle.sl_run.specs.declared.event.Refusal.{Refusal}
 use Rattle.sl_run.specs.declared.header.Header.{Header}
 use Rattle.sl_still_schedule.specs.Promises.{StillIsWhole}
 use Rattle.sl_still_schedule.specs.StillLanguage.{is_still_line, still_language}
-use Rattle.sl_still_schedule.specs.StillWhole.{SaysOtherMachines, SaysTheSame}
+use Rattle.sl_still_schedule.specs.StillWhole.{SaysTheSame, IsMore, More_machines, Other_sizes, SaysMore, Some_retries}
 use Rattle.sl_words.proofs.CaseLaws.{not_both}
 use Rattle.sl_words.proofs.OptionLaws.{choose_at_false, choose_at_true}
 use Rattle.sl_words.specs.Words.{choose, some_is}
@@ -23,11 +23,11 @@ same_refusal : (ls : List HeaderLine) (o : Option HeaderLine) → header_line_re
 same_refusal ls None = refl
 same_refusal ls (Some l) = refl
 
-says_the_same : (text : List ℕ) → header_line_in still_language default_area text ≡ header_line_in whole_language default_area text → SaysTheSame text
-says_the_same text is =
+says_the_same : (area : ℕ) (text : List ℕ) → header_line_in still_language area text ≡ header_line_in whole_language area text → SaysTheSame area text
+says_the_same area text is =
     record {
       said = is;
-      refused = λ ls. ap (header_line_refusal still_language ls) is ∙ same_refusal ls (header_line_in whole_language default_area text);
+      refused = λ ls. ap (header_line_refusal still_language ls) is ∙ same_refusal ls (header_line_in whole_language area text);
     }
 
 -- What is made of what the whole language reads.
@@ -37,36 +37,32 @@ taken_of o = option_and_then (λ l. choose (is_still_line l) l) o
 not_one : (m : ℕ) → (m == 1) ≡ false → m ≢ 1
 not_one m other is = not_both (m == 1) (eq-eqb m 1 is) other
 
-other_machines : (l : HeaderLine) → is_still_line l ≡ false → (m : ℕ) × (l ≡ HostsLine m) × (m ≢ 1)
-other_machines (HostsLine m) other = (m, refl, not_one m other)
-other_machines VersionLine other = absurd cc
-other_machines (TimeLine io fire land rho grace) other = absurd cc
-other_machines (IdsLine n) other = absurd cc
-other_machines (ClockLine c) other = absurd cc
-other_machines (DiskLine d) other = absurd cc
-other_machines (AreaLine a) other = absurd cc
-other_machines (LeaseLine r) other = absurd cc
-other_machines (MemberLine s) other = absurd cc
-other_machines BeginLine other = absurd cc
+is_more : (l : HeaderLine) → is_still_line l ≡ false → IsMore l
+is_more (HostsLine m) other = More_machines m (not_one m other)
+is_more (GeometryLine sector mebibytes) other = Other_sizes sector mebibytes
+is_more (LvmLine n) other = Some_retries n
+is_more VersionLine other = absurd cc
+is_more (TimeLine io fire land rho grace) other = absurd cc
+is_more (IdsLine n) other = absurd cc
+is_more (ClockLine c) other = absurd cc
+is_more (DiskLine d) other = absurd cc
+is_more (AreaLine a) other = absurd cc
+is_more (LeaseLine r) other = absurd cc
+is_more (MemberLine s) other = absurd cc
+is_more BeginLine other = absurd cc
 
-by_line : (text : List ℕ) (l : HeaderLine) (still : Bool) → header_line_in whole_language default_area text ≡ Some l → is_still_line l ≡ still
-    → SaysTheSame text ⊎ SaysOtherMachines text
-by_line text l true reads is = inl (says_the_same text (ap taken_of reads ∙ choose_at_true (is_still_line l) l is ∙ sym reads))
-by_line text l false reads is =
-    let m = other_machines l is in
-    inr (record {
-      machines = m.0;
-      other = m.2;
-      whole = reads ∙ ap (λ k. Some k) m.1;
-      still = ap taken_of reads ∙ choose_at_false (is_still_line l) l is;
-    })
+by_line : (area : ℕ) (text : List ℕ) (l : HeaderLine) (still : Bool) → header_line_in whole_language area text ≡ Some l → is_still_line l ≡ still
+    → SaysTheSame area text ⊎ SaysMore area text
+by_line area text l true reads is = inl (says_the_same area text (ap taken_of reads ∙ choose_at_true (is_still_line l) l is ∙ sym reads))
+by_line area text l false reads is =
+    inr (record { line = l; more = is_more l is; whole = reads; still = ap taken_of reads ∙ choose_at_false (is_still_line l) l is })
 
-by_read : (text : List ℕ) (o : Option HeaderLine) → header_line_in whole_language default_area text ≡ o → SaysTheSame text ⊎ SaysOtherMachines text
-by_read text None reads = inl (says_the_same text (ap taken_of reads ∙ sym reads))
-by_read text (Some l) reads = by_line text l (is_still_line l) reads refl
+by_read : (area : ℕ) (text : List ℕ) (o : Option HeaderLine) → header_line_in whole_language area text ≡ o → SaysTheSame area text ⊎ SaysMore area text
+by_read area text None reads = inl (says_the_same area text (ap taken_of reads ∙ sym reads))
+by_read area text (Some l) reads = by_line area text l (is_still_line l) reads refl
 
-each_line : (text : List ℕ) → SaysTheSame text ⊎ SaysOtherMachines text
-each_line text = by_read text (header_line_in whole_language default_area text) refl
+each_line : (area : ℕ) (text : List ℕ) → SaysTheSame area text ⊎ SaysMore area text
+each_line area text = by_read area text (header_line_in whole_language area text) refl
 
 -- ---- the lines behind it
 
@@ -121,25 +117,29 @@ unread_after ls l after h rest again None false read why e = absurd (no_header l
 
 -- Either line.
 line_after : (ls : List HeaderLine) (l : NumberedLine) (after : List NumberedLine) (h : Header) (rest : List NumberedLine) → ReadsOn after h rest
-    → (unread : Option Refusal) (skipped : Bool) → SaysTheSame l.text ⊎ SaysOtherMachines l.text
-    → after_line still_language ls l after unread skipped (header_line_in still_language default_area l.text) (header_line_refusal still_language ls (header_line_in still_language default_area l.text)) ≡ Header_read h rest
-    → after_line whole_language ls l after unread skipped (header_line_in whole_language default_area l.text) (header_line_refusal whole_language ls (header_line_in whole_language default_area l.text)) ≡ Header_read h rest
-line_after ls l after h rest again unread skipped (inl same) e =
-    let whole : Option HeaderLine = header_line_in whole_language default_area l.text in
-    let still : Option HeaderLine = header_line_in still_language default_area l.text in
+    → (area : ℕ) (unread : Option Refusal) (skipped : Bool) → SaysTheSame area l.text ⊎ SaysMore area l.text
+    → after_line still_language ls l after unread skipped (header_line_in still_language area l.text) (header_line_refusal still_language ls (header_line_in still_language area l.text)) ≡ Header_read h rest
+    → after_line whole_language ls l after unread skipped (header_line_in whole_language area l.text) (header_line_refusal whole_language ls (header_line_in whole_language area l.text)) ≡ Header_read h rest
+line_after ls l after h rest again area unread skipped (inl same) e =
+    let whole : Option HeaderLine = header_line_in whole_language area l.text in
+    let still : Option HeaderLine = header_line_in still_language area l.text in
     ap (λ w. after_line whole_language ls l after unread skipped whole w) (sym (same.refused ls))
     ∙ ap (λ r. after_line whole_language ls l after unread skipped r (header_line_refusal still_language ls still)) (sym same.said)
     ∙ same_after ls l after h rest again unread skipped still (header_line_refusal still_language ls still) e
-line_after ls l after h rest again unread skipped (inr other) e =
-    let whole : Option HeaderLine = header_line_in whole_language default_area l.text in
+line_after ls l after h rest again area unread skipped (inr other) e =
+    let whole : Option HeaderLine = header_line_in whole_language area l.text in
     unread_after ls l after h rest again unread skipped whole (header_line_refusal whole_language ls whole)
     (ap (λ r. after_line still_language ls l after unread skipped r (header_line_refusal still_language ls r)) (sym other.still) ∙ e)
+
+-- The size of areas that the lines so far give.
+abbrev area_so_far : List HeaderLine → ℕ
+area_so_far ls = (header_of default_sector default_area ls).geometry.area
 
 read_whole : (lines : List NumberedLine) (ls : List HeaderLine) (next : ℕ) (h : Header) (rest : List NumberedLine)
     → read_header still_language ls next lines ≡ Header_read h rest → read_header whole_language ls next lines ≡ Header_read h rest
 read_whole [] ls next h rest e = e
 read_whole (l ∷ after) ls next h rest e =
-    line_after ls l after h rest (λ ms n. read_whole after ms n h rest) (line_refusal l) (still_language.skips l.text) (each_line l.text) e
+    line_after ls l after h rest (λ ms n. read_whole after ms n h rest) (area_so_far ls) (line_refusal l) (still_language.skips l.text) (each_line (area_so_far ls) l.text) e
 
 pub still_whole : StillIsWhole
 still_whole =

@@ -7,7 +7,7 @@ use Rattle.sl_run.specs.declared.event.Refusal.{Refusal}
 use Rattle.sl_run.specs.declared.header.Header.{Header}
 use Rattle.sl_still_schedule.specs.StillHeaders.{IsStillHeader}
 use Rattle.sl_still_schedule.specs.StillLanguage.{is_still_line, still_language}
-use Rattle.sl_still_schedule.specs.StillWhole.{SaysOtherMachines, SaysTheSame, first_event_line}
+use Rattle.sl_still_schedule.specs.StillWhole.{SaysMore, SaysTheSame, first_event_line}
 use Rattle.sl_still_schedule.specs.StillWorld.{BeginsStill}
 use Rattle.sl_text.specs.Forms.{as_bytes}
 use Rattle.sl_words.specs.Words.{choose}
@@ -32,7 +32,7 @@ pub record StillIsWhole : Type 0 where
       header_line_in still_language area text ≡ option_and_then (λ l. choose (is_still_line l) l) (header_line_in whole_language area text)
   pub refusals : (sector area : ℕ) (ls : List HeaderLine) (l : HeaderLine) →
       header_refusal still_language sector area ls l ≡ header_refusal whole_language sector area ls l
-  pub lines : (text : List ℕ) → SaysTheSame text ⊎ SaysOtherMachines text
+  pub lines : (area : ℕ) (text : List ℕ) → SaysTheSame area text ⊎ SaysMore area text
   pub read : (lines : List NumberedLine) (ls : List HeaderLine) (next : ℕ) (h : Header) (rest : List NumberedLine) →
       read_header still_language ls next lines ≡ Header_read h rest → read_header whole_language ls next lines ≡ Header_read h rest
 

@@ -3,7 +3,7 @@
 use Rattle.sl_area.specs.Layouts.{layout_of}
 use Rattle.sl_lease_command.specs.LeaseWords.{lease_forms}
 use Rattle.sl_report.specs.Languages.{Language, is_skipped, least_lines, most_lines}
-use Rattle.sl_report.specs.ScheduleLines.{HeaderLine, HostsLine}
+use Rattle.sl_report.specs.ScheduleLines.{HeaderLine, HostsLine, GeometryLine, LvmLine}
 use Rattle.sl_run.specs.Worlds.{Program}
 use Rattle.sl_run.specs.declared.header.Header.{Header}
 use Rattle.sl_text.specs.Forms.{Form}
@@ -11,7 +11,7 @@ use Rattle.sl_trace.specs.declared.command.Command.{Command}
 use Rattle.sl_words.specs.Words.{choose}
 use Rattle.sl_world.specs.Beginning.{program_of}
 use Rattle.sl_world.specs.FirstEvents.{is_first_event}
-use Rattle.std.specs.Prelude.{Bool, List, option_and_then, true, ◌==◌}
+use Rattle.std.specs.Prelude.{Bool, List, false, option_and_then, true, ◌==◌}
 
 -- The commands that are read: those on leases at the header's geometry.
 abbrev pub still_commands : Header → List (Form Command)
@@ -21,9 +21,11 @@ still_commands h = lease_forms (layout_of h.geometry)
 abbrev pub still_program : Program
 still_program = program_of still_commands
 
--- Whether the line says what one machine has.
+-- Whether the line says what one machine has, with sectors and areas as they are by default and no locks of lvmlockd's.
 abbrev pub is_still_line : HeaderLine → Bool
 is_still_line (HostsLine m) = m == 1
+is_still_line (GeometryLine sector mebibytes) = false
+is_still_line (LvmLine n) = false
 is_still_line l = true
 
 -- The language that is read.

@@ -1,8 +1,8 @@
 -- How what is read of a line goes together with what the whole language reads of it.
 use Rattle.sl_report.specs.Languages.{whole_language}
 use Rattle.sl_report.specs.ReadingLines.{header_line_in}
-use Rattle.sl_report.specs.ScheduleLines.{HeaderLine, HostsLine}
-use Rattle.sl_report.specs.Schedules.{EventLine, default_area, header_line_refusal}
+use Rattle.sl_report.specs.ScheduleLines.{GeometryLine, HeaderLine, HostsLine, LvmLine}
+use Rattle.sl_report.specs.Schedules.{EventLine, header_line_refusal}
 use Rattle.sl_run.specs.declared.event.Event.{Event}
 use Rattle.sl_run.specs.declared.event.Refusal.TheVariants.{Syntax}
 use Rattle.sl_run.specs.declared.event.Refusal.{Refusal}
@@ -13,18 +13,24 @@ use Rattle.std.specs.Prelude.{Err, List, None, Ok, Result, Some, if◌then◌els
 
 -- ---- a line of a header
 
--- Both read the same, and refuse it for the same or take it, behind any lines.
-pub record SaysTheSame (text : List ℕ) : Type 0 where
-  pub said : header_line_in still_language default_area text ≡ header_line_in whole_language default_area text
-  pub refused : (ls : List HeaderLine) → header_line_refusal still_language ls (header_line_in still_language default_area text)
-      ≡ header_line_refusal whole_language ls (header_line_in whole_language default_area text)
+-- Both read the same where areas have this size, and refuse it for the same or take it, behind any lines.
+pub record SaysTheSame (area : ℕ) (text : List ℕ) : Type 0 where
+  pub said : header_line_in still_language area text ≡ header_line_in whole_language area text
+  pub refused : (ls : List HeaderLine) → header_line_refusal still_language ls (header_line_in still_language area text)
+      ≡ header_line_refusal whole_language ls (header_line_in whole_language area text)
 
--- The whole language reads a number of machines other than one, where nothing is read.
-pub record SaysOtherMachines (text : List ℕ) : Type 0 where
-  pub machines : ℕ
-  pub other : machines ≢ 1
-  pub whole : header_line_in whole_language default_area text ≡ Some (HostsLine machines)
-  pub still : header_line_in still_language default_area text ≡ None
+-- The line says another number of machines than one, the sizes of sectors and areas, or how often lvmlockd asks again.
+pub data IsMore : HeaderLine → Type 0 where
+  More_machines : (m : ℕ) → m ≢ 1 → IsMore (HostsLine m)
+  Other_sizes : (sector mebibytes : ℕ) → IsMore (GeometryLine sector mebibytes)
+  Some_retries : (n : ℕ) → IsMore (LvmLine n)
+
+-- The whole language reads such a line, where nothing is read.
+pub record SaysMore (area : ℕ) (text : List ℕ) : Type 0 where
+  pub line : HeaderLine
+  pub more : IsMore line
+  pub whole : header_line_in whole_language area text ≡ Some line
+  pub still : header_line_in still_language area text ≡ None
 
 -- ---- an event
 

@@ -2,7 +2,7 @@
 use Rattle.sl_due.specs.Due.{due}
 use Rattle.sl_first.specs.FirstPath.{Doing}
 use Rattle.sl_first_law.specs.Cause.Promises.{is_line_or_answer}
-use Rattle.sl_leases.specs.declared.lease.LeaseNext.TheVariants.{AnswerJob, GrantJob, Nothing, ReadFor, WriteBlock, WriteLeader}
+use Rattle.sl_leases.specs.declared.lease.LeaseNext.TheVariants.{AnswerJob, BecomeExclusive, BecomeShared, GrantJob, Nothing, ReadFor, WriteBlock, WriteLeader}
 use Rattle.sl_leases.specs.declared.lease.LeaseNext.{LeaseNext}
 use Rattle.sl_still.proofs.Comes.{Comes_begins, Comes_gives, Comes_refused, LineComes, line_comes}
 use Rattle.sl_still.proofs.Lists.{given_at, place_of}
@@ -21,7 +21,7 @@ use Rattle.sl_trace.specs.declared.command.ResourceArg.{ResourceArg}
 use Rattle.sl_trace.specs.declared.effects.Effects.{Effects}
 use Rattle.sl_trace.specs.declared.input.Answer.{Answer}
 use Rattle.sl_trace.specs.declared.input.Given.{Given}
-use Rattle.sl_trace.specs.declared.input.Input.TheVariants.{Answer as Told, Exit, Line, Spawned, Wake}
+use Rattle.sl_trace.specs.declared.input.Input.TheVariants.{Answer as Told, Exit, Line, Number, Spawned, Wake}
 use Rattle.sl_trace.specs.declared.input.Input.{Input}
 use Rattle.sl_words.proofs.CaseLaws.{false_is_true}
 use Rattle.sl_world.proofs.SmallLaws.{none_few, one_few}
@@ -38,6 +38,8 @@ record IsFew (fx : Effects) : Type 0 where
 
 few_told : (st : Setting) (l : StillLease) (r : ResourceArg) (call : ℕ) (d : Doing) (next : LeaseNext) → IsFew (lease_effects st l r call d next)
 few_told st l r call d Nothing = record { calls = none_few; grants = none_few; replies = none_few }
+few_told st l r call d (BecomeExclusive _ _) = record { calls = none_few; grants = none_few; replies = none_few }
+few_told st l r call d (BecomeShared _ _) = record { calls = none_few; grants = none_few; replies = none_few }
 few_told st l r call d (ReadFor step) = record { calls = one_few; grants = none_few; replies = none_few }
 few_told st l r call d (WriteBlock step b) = record { calls = one_few; grants = none_few; replies = none_few }
 few_told st l r call d (WriteLeader step w) = record { calls = one_few; grants = none_few; replies = none_few }
@@ -58,7 +60,7 @@ with_effects st es x i fx U kind is few stands =
     subst (λ y. IsSmall es (entry_of x.now i y) × IsStillDaemon st (entry_of x.now i y ∷ es)) (sym is) (
       record {
         apart = open_apart st x.now U (still_entry x.now i fx ∷ es) stands;
-        step = record { calls = few.calls; grants = few.grants; replies = few.replies; spelled = λ c there w writes. lawful.calls.0.spelled c w there writes };
+        step = record { calls = few.orderly.calls; grants = few.grants; replies = few.replies; spelled = λ c there w writes. lawful.calls.0.spelled c w there writes };
       },
       record { now = x.now; still = x.still; setting = x.setting; given = x.given; table = U; stands = stands; hears = hears },
     )
@@ -105,6 +107,7 @@ input_steps st es now (Line text) x calm = line_steps st es x text (line_comes s
 input_steps st es now (Told number a) x calm = answer_steps st es x number a (answers_find.finds st x.now x.still x.table es x.stands number a calm.expected)
 input_steps st es now Wake x calm = absurd (false_is_true calm.calm)
 input_steps st es now (Exit process) x calm = absurd (false_is_true calm.calm)
+input_steps st es now (Number process) x calm = absurd (false_is_true calm.calm)
 input_steps st es now (Spawned process ok) x calm = absurd (false_is_true calm.calm)
 
 -- Each input that may come while the clock stands still.

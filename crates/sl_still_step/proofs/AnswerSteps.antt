@@ -1,7 +1,7 @@
 -- What an answer to the call of a lease's work does.
 use Rattle.sl_first.specs.FirstPath.{Doing}
 use Rattle.sl_first.specs.FirstSteps.{Works}
-use Rattle.sl_leases.specs.declared.lease.LeaseNext.TheVariants.{AnswerJob, GrantJob, Nothing, ReadFor, WriteBlock, WriteLeader}
+use Rattle.sl_leases.specs.declared.lease.LeaseNext.TheVariants.{AnswerJob, BecomeExclusive, BecomeShared, GrantJob, Nothing, ReadFor, WriteBlock, WriteLeader}
 use Rattle.sl_leases.specs.declared.lease.LeaseNext.{LeaseNext}
 use Rattle.sl_still.proofs.Leading.{comes_live, live_due}
 use Rattle.sl_still.proofs.Lone.{lease_given}
@@ -26,6 +26,8 @@ use Rattle.std.specs.Prelude.{length, map, ℕ, ◌≡◌}
 next_numbered : (st : Setting) (l : StillLease) (r : ResourceArg) (n : ℕ) (d : Doing) (next : LeaseNext)
     → map (λ (c : Call). c.number) (lease_effects st l r n d next).calls ≡ range_with_len n (length (lease_effects st l r n d next).calls)
 next_numbered st l r n d Nothing = refl
+next_numbered st l r n d (BecomeExclusive _ _) = refl
+next_numbered st l r n d (BecomeShared _ _) = refl
 next_numbered st l r n d (ReadFor step) = refl
 next_numbered st l r n d (WriteBlock step b) = refl
 next_numbered st l r n d (WriteLeader step w) = refl

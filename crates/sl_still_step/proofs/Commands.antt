@@ -56,7 +56,7 @@ acquire_refusals st t s r p =
     session_refusal st t s ∷ process_refusal t p ∷ busy_refusal t (spot_of r) (Some p) false ∷ pending_refusal st t (spot_of r) ∷ limit_refusal st t s (spot_of r) false ∷ []
 
 acquire_found : (st : Setting) (t : Trace) (now : ℕ) (r : ResourceArg) (p : ℕ) (o : Option Session) → session_named st t r.lockspace ≡ o
-    → decided st t now (Acquire r false p) ≡ with_session o (λ s. unless_refused (acquire_refusals st t s r p) (Reads_area s r))
+    → decided st t now (Acquire r false p false) ≡ with_session o (λ s. unless_refused (acquire_refusals st t s r p) (Reads_area s r))
 unfolding decided
 acquire_found st t now r p o is = ap (λ o. with_session o (λ s. unless_refused (acquire_refusals st t s r p) (Reads_area s r))) is
 
@@ -106,7 +106,7 @@ after_process (Some why) way busy pending limit d one = refl
 after_process None way busy pending limit d one = one (limit ∷ []) d
 
 acquire_by : (st : Setting) (now : ℕ) (T : Table) (es : Trace) → IsStill st now → StillStands st now T es → (r : ResourceArg) (p : ℕ) (l : StillLease) → IsLease st l → IsOf l r
-    → (way : Option Reply) → InTheWay st (before_next now es) l.at p way → decided st (before_next now es) now (Acquire r false p) ≡ acquire_decision st es l r p way
+    → (way : Option Reply) → InTheWay st (before_next now es) l.at p way → decided st (before_next now es) now (Acquire r false p false) ≡ acquire_decision st es l r p way
 acquire_by st now T es f h r p l is of way w =
     let t : Trace = before_next now es in
     let s : Session = lease_session l in

@@ -39,13 +39,13 @@ says_nothing : (r : Result Command ℕ) (column : ℕ) (c : Command) → r ≡ E
 says_nothing r column c is also = none_some c (ap (λ x. command_in x) (sym is ∙ also))
 
 abbrev acquired : Command → Option ResourceArg
-acquired (Acquire r shared p) = Some r
+acquired (Acquire r shared p persistent) = Some r
 acquired c = None
 
-one_resource : (q r : ResourceArg) (n p : ℕ) → Acquire q false n ≡ Acquire r false p → q ≡ r
+one_resource : (q r : ResourceArg) (n p : ℕ) → Acquire q false n false ≡ Acquire r false p false → q ≡ r
 one_resource q r n p same = some_value q r (ap (λ c. acquired c) same)
 
-not_both_commands : (q r : ResourceArg) (n p : ℕ) → Release q n ≡ Acquire r false p → ⊥
+not_both_commands : (q r : ResourceArg) (n p : ℕ) → Release q n ≡ Acquire r false p false → ⊥
 not_both_commands q r n p same = none_some r (ap (λ c. acquired c) same)
 
 abbrev is_reply : Decision → Bool
@@ -54,16 +54,16 @@ is_reply d = false
 
 -- ---- an acquire that begins finds its area free
 
-free_by : (st : Setting) (now : ℕ) (T : Table) (es : Trace) (text : List ℕ) (l : StillLease) → IsLease st l → (r : ResourceArg) (p : ℕ) → st.read text ≡ Ok (Acquire r false p) → IsOf l r
-    → decided st (before_next now es) now (Acquire r false p) ≡ Reads_area (lease_session l) r → LineComes st now T es text → IsFree st T l.at
-free_by st now T es text l is r p says of begins (Comes_refused why (Says_nothing column nothing)) = absurd (says_nothing (st.read text) column (Acquire r false p) nothing says)
+free_by : (st : Setting) (now : ℕ) (T : Table) (es : Trace) (text : List ℕ) (l : StillLease) → IsLease st l → (r : ResourceArg) (p : ℕ) → st.read text ≡ Ok (Acquire r false p false) → IsOf l r
+    → decided st (before_next now es) now (Acquire r false p false) ≡ Reads_area (lease_session l) r → LineComes st now T es text → IsFree st T l.at
+free_by st now T es text l is r p says of begins (Comes_refused why (Says_nothing column nothing)) = absurd (says_nothing (st.read text) column (Acquire r false p false) nothing says)
 free_by st now T es text l is r p says of begins (Comes_refused why (Is_refused c reply reads decides line)) =
-    absurd (true_is_false (ap (λ d. is_reply d) (sym decides ∙ ap (λ x. decided st (before_next now es) now x) (one_command (st.read text) c (Acquire r false p) reads says) ∙ begins)))
+    absurd (true_is_false (ap (λ d. is_reply d) (sym decides ∙ ap (λ x. decided st (before_next now es) now x) (one_command (st.read text) c (Acquire r false p false) reads says) ∙ begins)))
 free_by st now T es text l is r p says of begins (Comes_begins k its q n reads also decides free) =
-    let same : q ≡ r = one_resource q r n p (one_command (st.read text) (Acquire q false n) (Acquire r false p) reads says) in
+    let same : q ≡ r = one_resource q r n p (one_command (st.read text) (Acquire q false n false) (Acquire r false p false) reads says) in
     λ z here at. free z here (at ∙ sym of.there ∙ ap (λ x. spot_of x) (sym same) ∙ also.there)
 free_by st now T es text l is r p says of begins (Comes_gives k its q n lver reads also holds decides) =
-    absurd (not_both_commands q r n p (one_command (st.read text) (Release q n) (Acquire r false p) reads says))
+    absurd (not_both_commands q r n p (one_command (st.read text) (Release q n) (Acquire r false p false) reads says))
 
 -- ---- the moves
 
@@ -72,14 +72,14 @@ pub state_is : (x : LeaseState) (phase : Phase) → x.phase ≡ phase → record
 state_is x phase is = ap (λ q. record { resource = x.resource; phase = q; answered = x.answered }) (sym is)
 
 begins_by : (st : Setting) (now : ℕ) → IsStill st now → (T : Table) (es : Trace) → StillStands st now T es → (text : List ℕ) (l : StillLease) → IsLease st l → (r : ResourceArg) (p : ℕ)
-    → st.read text ≡ Ok (Acquire r false p) → IsOf l r → decided st (before_next now es) now (Acquire r false p) ≡ Reads_area (lease_session l) r
-    → StepsTo st now T es l (Line text) (first_effects [] [] [] (area_read st l r es ∷ [])) (begun_state st es text l r (Acquire r false p) (ReadArea r.name) (area_read st l r es) (T l).answered)
+    → st.read text ≡ Ok (Acquire r false p false) → IsOf l r → decided st (before_next now es) now (Acquire r false p false) ≡ Reads_area (lease_session l) r
+    → StepsTo st now T es l (Line text) (first_effects [] [] [] (area_read st l r es ∷ [])) (begun_state st es text l r (Acquire r false p false) (ReadArea r.name) (area_read st l r es) (T l).answered)
 begins_by st now f T es h text l is r p says of decides =
     let free : IsFree st T l.at = free_by st now T es text l is r p says of decides (line_comes st now T es f h text) in
     let what = begins_due st now es f h.calm text l r p says decides in
     record {
       what = what;
-      move = subst (λ z. LeaseMove st l es z (Line text) (first_effects [] [] [] (area_read st l r es ∷ [])) (line_state st T es text l r (Acquire r false p) (ReadArea r.name) (area_read st l r es)))
+      move = subst (λ z. LeaseMove st l es z (Line text) (first_effects [] [] [] (area_read st l r es ∷ [])) (line_state st T es text l r (Acquire r false p false) (ReadArea r.name) (area_read st l r es)))
           (state_is (T l) Idle (idle_is (T l).phase (free l is refl))) (Begins (T l).resource (T l).answered text r p says of);
       stands = begins_stands st now T es f h text l is r p says of free (host_more st now T es f h (Line text) (first_effects [] [] [] (area_read st l r es ∷ [])) what refl refl);
     }

@@ -32,9 +32,9 @@ use Rattle.std.specs.Prelude.{AllPairs, Contains, List, None, Ok, bytes_eq, fals
 -- the lease that it names, by where the lease's area stands.
 pub record AcquiresAreDecided : Type 0 where
   pub unnamed : (st : Setting) (now : ℕ) → IsStill st now → (T : Table) (es : Trace) → StillStands st now T es → (r : ResourceArg) (p : ℕ) → IsStillResource st r →
-      find (λ g. bytes_eq g.lockspace r.lockspace) st.given ≡ None → decided st (before_next now es) now (Acquire r false p) ≡ Replies NoSession
+      find (λ g. bytes_eq g.lockspace r.lockspace) st.given ≡ None → decided st (before_next now es) now (Acquire r false p false) ≡ Replies NoSession
   pub named : (st : Setting) (now : ℕ) → IsStill st now → (T : Table) (es : Trace) → StillStands st now T es → (r : ResourceArg) (p : ℕ) → (l : StillLease) → IsLease st l →
-      IsOf l r → (area : OnArea st T l.at) → decided st (before_next now es) now (Acquire r false p) ≡ acquire_decision st es l r p (in_the_way area)
+      IsOf l r → (area : OnArea st T l.at) → decided st (before_next now es) now (Acquire r false p false) ≡ acquire_decision st es l r p (in_the_way area)
 
 -- And a release, by the lease's own state alone: what another session or another process holds there is not held by it.
 pub record ReleasesAreDecided : Type 0 where
@@ -60,10 +60,10 @@ pub record LinesStep : Type 0 where
   pub refused : (st : Setting) (now : ℕ) → IsStill st now → (T : Table) (es : Trace) → StillStands st now T es → (text : List ℕ) (why : Reply) → IsRefused st now es text why →
       (due st es now (Line text) ≡ (refused_entry st now es text why).effects) × StillStands st now T (refused_entry st now es text why ∷ es)
   pub begins : (st : Setting) (now : ℕ) → IsStill st now → (T : Table) (es : Trace) → StillStands st now T es → (text : List ℕ) (l : StillLease) → IsLease st l →
-      (r : ResourceArg) (p : ℕ) → st.read text ≡ Ok (Acquire r false p) → IsOf l r →
-      decided st (before_next now es) now (Acquire r false p) ≡ Reads_area (lease_session l) r →
+      (r : ResourceArg) (p : ℕ) → st.read text ≡ Ok (Acquire r false p false) → IsOf l r →
+      decided st (before_next now es) now (Acquire r false p false) ≡ Reads_area (lease_session l) r →
       StepsTo st now T es l (Line text) (first_effects [] [] [] (area_read st l r es ∷ []))
-      (begun_state st es text l r (Acquire r false p) (ReadArea r.name) (area_read st l r es) (T l).answered)
+      (begun_state st es text l r (Acquire r false p false) (ReadArea r.name) (area_read st l r es) (T l).answered)
   pub gives_back : (st : Setting) (now : ℕ) → IsStill st now → (T : Table) (es : Trace) → StillStands st now T es → (text : List ℕ) (l : StillLease) → IsLease st l →
       (q : ResourceArg) (p lver : ℕ) → st.read text ≡ Ok (Release q p) → IsOf l q → (T l).phase ≡ Holds p lver →
       decided st (before_next now es) now (Release q p) ≡ Gives_up (lease_session l) (lease_grant l (T l).resource p lver) →

@@ -2,7 +2,6 @@
 
 pub mod count;
 
-
 ghost use Rattle.sl_still_step.specs.Promises.{AcquiresAreDecided, AnswersFindTheirLease, AnswersStep, HoldingsAgree, LinesStep, OpenCallsAreApart, ReleasesAreDecided};
 
 /// An acquire is refused by the first of its refusals in order, which are read off the table; else it begins.

@@ -13,6 +13,7 @@ use Rattle.sl_first_run.specs.Accepted.{IsAccepted}
 use Rattle.sl_first_run.specs.Readings.{replay_status}
 use Rattle.sl_report.specs.Headline.{MayHaveBeen, ReplayHeadline, SoundRun, is_whole_status}
 use Rattle.sl_still_schedule.specs.StillLanguage.{still_language}
+use Rattle.sl_still_sound.proofs.Readings.{still_language_is_read}
 use Rattle.sl_top.specs.Laws.{AcceptedSchedulesEndWell, CausesHaveStatuses, HasItsCause, IsNotTheLeader, NothingFailed, StatusesHaveCauses, has_leader}
 use Rattle.sl_top.specs.Runs.{ActsOn, IsCutShort, IsWritten, Outside, PutsOut, Replays, bad_words_text}
 use Rattle.sl_top.specs.Statuses.{code, status_after}
@@ -228,6 +229,6 @@ ends_at_zero source x y s run told done =
 pub accepted_schedules_end_well : AcceptedSchedulesEndWell
 accepted_schedules_end_well =
     record {
-      well = λ source x y s run told accepted none. ends_well source x y s run told (accepted_runs.well still_language source accepted) none;
-      only = λ source x y s run told done. accepted_runs.only still_language source (ends_at_zero source x y s run told done);
+      well = λ source x y s run told accepted none. ends_well source x y s run told (accepted_runs.well still_language still_language_is_read.events source accepted) none;
+      only = λ source x y s run told done. accepted_runs.only still_language still_language_is_read.events source (ends_at_zero source x y s run told done);
     }

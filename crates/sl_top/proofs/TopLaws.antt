@@ -90,7 +90,7 @@ rest_shorter : (lines : List NumberedLine) (ls : List HeaderLine) (next : ℕ) (
     → read_header still_language ls next lines ≡ Header_read h rest → length rest ≤ length lines
 rest_shorter [] ls next h rest e = absurd cc
 rest_shorter (l ∷ lines) ls next h rest e =
-    let read : Option HeaderLine = header_line_in still_language default_area l.text in
+    let read : Option HeaderLine = header_line_in still_language (header_of default_sector default_area ls).geometry.area l.text in
     let less : length rest ≤ length lines =
     rest_by l.number (line_refusal l) (is_skipped l.text) (header_line_refusal still_language ls read) (some_is is_begin read) h (header_of default_sector default_area ls)
     (read_header still_language ls (l.number + 1) lines) (read_header still_language (with_line ls read) (l.number + 1) lines) lines rest e

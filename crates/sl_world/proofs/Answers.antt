@@ -14,6 +14,7 @@ use Rattle.sl_trace.specs.declared.effects.Op.{Op}
 use Rattle.sl_trace.specs.declared.input.Answer.TheVariants.{Read, Written}
 use Rattle.sl_trace.specs.declared.input.Answer.{Answer}
 use Rattle.sl_trace.specs.declared.input.Input.TheVariants.{Answer as Told}
+use Rattle.sl_world.proofs.LockLaws.{answer_leaves}
 use Rattle.sl_world.proofs.Numbered.{map_any, map_filter}
 use Rattle.sl_world.proofs.Steps.{Taken}
 use Rattle.sl_world.specs.Changes.{flights_without, ok_answer, told_ok}
@@ -90,6 +91,7 @@ answer_taken k w a d now fx number answer t =
     record {
       calls = machine_closes a number k.flights now answer t.calls;
       out = trace_closes d.trace (entry_of k.reading (Told number answer) fx) number k.flights answer t.outstanding;
+      locks = λ n l idle. answer_leaves n number answer fx l idle;
       flight = λ g there. t.flight g (kept_inside (λ (f : FlightState). not (f.call.number == number)) k.flights g there).0;
     }
 

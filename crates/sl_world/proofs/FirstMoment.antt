@@ -69,6 +69,7 @@ first_tells commands h f =
       flight = λ g there. absurd (contains_none g there);
       apart = no_pairs (λ m n. m ≢ n);
       held = refl;
+      locks = record { due = refl; asked = refl };
       connections = refl;
       places = λ path offset. refl;
       outstanding = refl;

@@ -18,16 +18,17 @@ use Rattle.sl_trace.specs.declared.input.Input.{Input}
 use Rattle.sl_words.specs.Words.{choose}
 use Rattle.sl_world.proofs.Answers.{answer_expected, answer_is_ok, answer_taken, closed_by}
 use Rattle.sl_world.proofs.Flights.{Flying, flying}
+use Rattle.sl_world.proofs.LockLaws.{line_leaves}
 use Rattle.sl_world.proofs.Numbered.{numbered_as}
 use Rattle.sl_world.proofs.Landings.{land_tells}
 use Rattle.sl_world.proofs.Passing.{answer_passes, is_found, is_on_first, passes_found, sample_passes, some_none}
-use Rattle.sl_world.proofs.Refusals.{refusal_is}
+use Rattle.sl_world.proofs.Refusals.{refusal_at, refusal_is}
 use Rattle.sl_world.proofs.Samples.{sample_tells}
 use Rattle.sl_world.proofs.Solo.{solo, solo_is}
 use Rattle.sl_world.proofs.Steps.{step_tells, stepped}
 use Rattle.sl_world.specs.Changes.{after_land, after_own_step, flights_without, kept_after, ok_answer, stepped_kept, told_ok}
 use Rattle.sl_world.specs.Daemons.{IsCalmInput, IsSmall, entry_of}
-use Rattle.sl_world.specs.FirstEvents.{answer_refusal, at_flight, flight_numbered, is_first_event, land_refusal, refusal_in, sample_refusal}
+use Rattle.sl_world.specs.FirstEvents.{answer_refusal, at_flight, flight_numbered, for_locks, gives_command, is_first_event, land_refusal, refusal_in, refusal_with, sample_refusal}
 use Rattle.sl_world.specs.Kept.{FlightState, IsSized, KeptState, Shown, Tells, WorldStands, shown, shown_of}
 use Rattle.std.proofs.Common.{ap, refl, subst, sym, ◌∙◌}
 use Rattle.std.specs.Option.{option_map_or}
@@ -116,7 +117,7 @@ line_tells k w a d text fx t small =
     let P : World → Type 0 = λ v. Tells (after_own_step fx k.flights k) (take_step 1 (Some (Line text)) fx (next_step v))
     (stepped (step_stamp w a) (Line text) fx a.calls a) (with_entry (entry_of k.reading (Line text) fx) (step_stamp w a) d) in
     subst P (solo_is w a t.alone) (step_tells k w a d (step_stamp w a) (w.step + 1 + 1) (Line text) fx a.calls k.flights t
-    (record { calls = t.calls; out = t.outstanding; flight = t.flight }) small.apart)
+    (record { calls = t.calls; out = t.outstanding; flight = t.flight; locks = λ n l idle. line_leaves n text fx l idle }) small.apart)
 
 -- .. or the answer ok to a call.
 answer_tells : (k : KeptState) (w : World) (a : Machine) (d : Daemon) (f : FlightState) (fx : Effects) → Tells k w a d
@@ -236,5 +237,13 @@ answer_is_taken stands k host w m c f s is h =
 
 -- Why an event may not happen.
 pub refuses : {D : Type 0} (stands : D → Setting → Trace → Type 0) (k : KeptState) (host : D) (w : World) (e : Event) → WorldStands stands k host w
-    → is_first_event e ≡ true → refusal_of w e ≡ refusal_in k e
-refuses stands k host w e s first = refusal_is k w s.machine s.daemon e s.tells first
+    → is_first_event e ≡ true → (acts : Bool) → ((st : Setting) (es : Trace) → stands host st es → acts ≡ for_locks st e)
+    → refusal_of w e ≡ refusal_with acts (refusal_in k e)
+refuses stands k host w e s first acts told =
+    refusal_is k w s.machine s.daemon e s.tells first
+    ∙ ap (λ t. refusal_with t (refusal_in k e)) (sym (told s.daemon.setting s.daemon.trace s.runs))
+
+-- An event that is not a command is refused by what is kept alone.
+pub allowed : {D : Type 0} (stands : D → Setting → Trace → Type 0) (k : KeptState) (host : D) (w : World) (e : Event) → WorldStands stands k host w
+    → is_first_event e ≡ true → refusal_in k e ≡ None → gives_command e ≡ false → refusal_of w e ≡ None
+allowed stands k host w e s first h call = refusal_at k w s.machine s.daemon e s.tells first call ∙ h

@@ -1,10 +1,10 @@
 -- A world in which no daemon runs, and what a header without one begins.
 use Rattle.sl_area.specs.Layouts.{layout_of}
-use Rattle.sl_run.specs.Events.{event_tests, is_placed, is_read_course, needs_daemon, on_flight, on_machine, refusal_of, sectors_left}
+use Rattle.sl_run.specs.Events.{acts_for_locks, event_tests, is_placed, is_read_course, needs_daemon, on_flight, on_machine, refusal_of, sectors_left}
 use Rattle.sl_run.specs.Worlds.{Course, Machine, World, first_that, flight_of, is_in_flight, is_landed, is_of_running, is_open, is_torn_fate, is_write_course, machine_at, machine_of_header, world_with}
-use Rattle.sl_run.specs.declared.event.Event.TheVariants.{AnswerCall, Crash, Do, DropWrite, ExitOf, GiveCommand, Land, Pass, Reset, Restart, Sample, SpawnedOf, StartDaemon, Tear, Test, WakeUp}
+use Rattle.sl_run.specs.declared.event.Event.TheVariants.{AnswerCall, Crash, Do, DropWrite, ExitOf, GiveAsk, GiveCommand, GiveLvm, Land, Pass, Reset, Restart, Sample, SpawnedOf, StartDaemon, Tear, Test, WakeUp}
 use Rattle.sl_run.specs.declared.event.Event.{Event}
-use Rattle.sl_run.specs.declared.event.Refusal.TheVariants.{MissingCall, MissingDaemon, MissingFlight, MissingLanding, MissingMachine, MissingPlace, MissingSample, Syntax}
+use Rattle.sl_run.specs.declared.event.Refusal.TheVariants.{MissingCall, MissingDaemon, MissingFlight, MissingLanding, MissingLvm, MissingMachine, MissingPlace, MissingSample, Syntax}
 use Rattle.sl_run.specs.declared.event.Refusal.{Refusal}
 use Rattle.sl_run.specs.declared.header.Header.{Header}
 use Rattle.sl_text.specs.Forms.{Form}
@@ -19,7 +19,7 @@ use Rattle.sl_world.specs.Idle.{IsIdleWorld, idle_refusal, on_only}
 use Rattle.sl_world.specs.Promises.{IdleHeadersBegin}
 use Rattle.std.proofs.Common.{ap, arith, refl, ◌∙◌}
 use Rattle.std.proofs.lemmas.Bool.Decides.{nat_tests}
-use Rattle.std.specs.Prelude.{Bool, List, None, Option, Some, false, find, nat_lt, not, option_map, true, [], ℕ, ◌&&◌, ◌==◌, ◌∷◌, ◌≡◌}
+use Rattle.std.specs.Prelude.{Bool, List, None, Option, Some, false, find, is_some, nat_lt, not, option_map, true, [], ℕ, ◌&&◌, ◌==◌, ◌||◌, ◌∷◌, ◌≡◌}
 
 -- ---- why an event may not happen
 
@@ -62,7 +62,7 @@ none_lands w i m c ts =
 -- An idle world refuses each event.
 pub idle_refuses : (w : World) (e : Event) → IsIdleWorld w → is_first_event e ≡ true → refusal_of w e ≡ Some (idle_refusal e)
 unfolding event_tests
-idle_refuses w (GiveCommand m text) i first = none_runs w i m (λ b. [])
+idle_refuses w (GiveCommand m text) i first = none_runs w i m (λ b. (acts_for_locks b text || is_some b.locks.due, MissingLvm) ∷ [])
 idle_refuses w (Sample m c n) i first =
     let ts : Machine → List (Bool × Refusal) =
     λ b. on_flight b c is_read_course (λ f. (not (is_placed w f.call), MissingPlace) ∷ (nat_lt (sectors_left f) n, MissingSample) ∷ []) in
@@ -78,6 +78,8 @@ idle_refuses w (AnswerCall m c false) i first = absurd (false_is_true first)
 idle_refuses w (Do m c) i first =
     none_runs w i m (λ b. on_flight b c (is_of_running b) (λ f. (not (is_placed w f.call), MissingPlace) ∷ (is_torn_fate f.fate, MissingLanding) ∷ []))
 idle_refuses w (Pass x y) i first = absurd (false_is_true first)
+idle_refuses w (GiveLvm m line) i first = absurd (false_is_true first)
+idle_refuses w (GiveAsk m) i first = absurd (false_is_true first)
 idle_refuses w (WakeUp m) i first = absurd (false_is_true first)
 idle_refuses w (Tear m c n b) i first = absurd (false_is_true first)
 idle_refuses w (DropWrite m c) i first = absurd (false_is_true first)

@@ -2,6 +2,7 @@
 use Rattle.std.proofs.lemmas.List.{length-replicate}
 use Rattle.sl_sector.specs.declared.sector.DeltaRec.{DeltaRec}
 use Rattle.sha2.specs.Sha256.{sha256}
+use Rattle.sl_area.proofs.SizeLaws.{HasRoom, has_room}
 use Rattle.sl_area.specs.Layouts.{IsGeometry, Sizes, layout_of, sector_with}
 use Rattle.sl_area.specs.Places.{fresh_block, fresh_delta, fresh_leader, in_area, no_request, no_value}
 use Rattle.sl_run.specs.Headers.{IsHeader}
@@ -19,14 +20,12 @@ use Rattle.sl_sector.specs.declared.sector.Rec.TheVariants.{BlockIs, DeltaIs, Le
 use Rattle.sl_sector.specs.declared.sector.Rec.{Rec}
 use Rattle.sl_text.specs.Names.{is_name}
 use Rattle.sl_words.proofs.CaseLaws.{none_some, some_value}
-use Rattle.sl_words.proofs.WordLaws.{and_true}
 use Rattle.sl_words.specs.Words.{choose}
 use Rattle.sl_world.specs.Initial.{clock_of, line_at, resource_at, session_of}
 use Rattle.std.proofs.Common.{ap, arith, refl, subst, sym, ◌∙◌}
-use Rattle.std.proofs.lemmas.Bool.Decides.{Decides-eqb, nat_tests}
-use Rattle.std.specs.Int.{is_in_range}
+use Rattle.std.proofs.lemmas.Bool.Decides.{nat_tests}
 use Rattle.std.specs.Option.{option_map_or}
-use Rattle.std.specs.Prelude.{Bool, Contains, IsTrue, List, None, Option, Some, bytes_eq, false, find, if◌then◌else◌, length, nat_lt, replicate, suc, true, [], ℕ, ◌&&◌, ◌*◌, ◌+◌, ◌-◌, ◌/◌, ◌<◌, ◌==◌, ◌^◌, ◌∷◌, ◌≡◌, ◌≤◌, ◌||◌}
+use Rattle.std.specs.Prelude.{Bool, Contains, IsTrue, List, None, Option, Some, bytes_eq, false, find, if◌then◌else◌, length, nat_lt, replicate, suc, true, [], ℕ, ◌&&◌, ◌*◌, ◌+◌, ◌-◌, ◌/◌, ◌<◌, ◌==◌, ◌^◌, ◌∷◌, ◌≡◌, ◌≤◌}
 
 -- ---- what is found is there
 
@@ -49,26 +48,6 @@ find_at p y ys x false is h rest = let r = rest h in (later y x ys r.0, r.1)
 pub find_some : {X : Type 0} (p : X → Bool) (xs : List X) (x : X) → find p xs ≡ Some x → Contains xs x × (p x ≡ true)
 find_some p [] x h = absurd (none_some x h)
 find_some p (y ∷ ys) x h = find_at p y ys x (p y) refl h (find_some p ys x)
-
--- ---- sizes
-
-pub record HasSizes (s : Sizes) : Type 0 where
-  pub sector : s.sector ≡ 512
-  pub hosts : (1 ≤ s.hosts) × (s.hosts ≤ 2000)
-
-range_is : (n : ℕ) → is_in_range 1 2000 n ≡ true → (1 ≤ n) × (n ≤ 2000)
-range_is n h = (grind (arith, nat_tests), grind (arith, nat_tests))
-
-or_false : (b : Bool) → (b || false) ≡ true → b ≡ true
-or_false true h = refl
-or_false false h = h
-
-pub has_sizes : (s : Sizes) → IsGeometry s → HasSizes s
-has_sizes s h =
-    let all = or_false (512 == s.sector && 1048576 == s.area && is_in_range 1 2000 s.hosts) h in
-    let first = and_true (512 == s.sector && 1048576 == s.area) (is_in_range 1 2000 s.hosts) all in
-    let one = and_true (512 == s.sector) (1048576 == s.area) first.0 in
-    record { sector = sym ((Decides-eqb 512 s.sector).0 one.0); hosts = range_is s.hosts first.1 }
 
 -- ---- the records
 
@@ -138,7 +117,7 @@ initial_delta_by h l id (Some s) is ok named low high =
     let member = ok.members s at.0 in
     let space = member.lockspace in
     let space_named : IsTrue (is_name s.lockspace) = subst (λ n. IsTrue (is_name n)) space.2 (ok.lockspaces space.0 space.1).0 in
-    (member_delta_is h s space_named member.name member.id.0 (up_to s.id h.geometry.hosts member.id.1 (has_sizes h.geometry ok.geometry).hosts.1)
+    (member_delta_is h s space_named member.name member.id.0 (up_to s.id h.geometry.hosts member.id.1 (has_room h.geometry ok.geometry).hosts.1)
     (clock_by h s.machine (clock_of h s.machine) refl ok))
 
 lockspace_by : (h : Header) (l : LockspaceLine) (k : ℕ) (b : Bool) (r : Rec) → nat_lt k h.geometry.hosts ≡ b → IsHeader h → IsTrue (is_name l.name)
@@ -146,12 +125,12 @@ lockspace_by : (h : Header) (l : LockspaceLine) (k : ℕ) (b : Bool) (r : Rec) �
 lockspace_by h l k false r is ok named eq = absurd (none_some r eq)
 lockspace_by h l k true r is ok named eq =
     subst IsRecord (some_value (DeltaIs (initial_delta h l (k + 1))) r eq)
-    (initial_delta_by h l (k + 1) (session_of h l.name (k + 1)) refl ok named (above_one k) (within k h.geometry.hosts is (has_sizes h.geometry ok.geometry).hosts.1))
+    (initial_delta_by h l (k + 1) (session_of h l.name (k + 1)) refl ok named (above_one k) (within k h.geometry.hosts is (has_room h.geometry ok.geometry).hosts.1))
 
 at_least_none : (n : ℕ) → 0 ≤ n
 at_least_none n = omega arith
 
-pub fresh_leader_is : (s : Sizes) (space name : List ℕ) → HasSizes s → IsTrue (is_name space) → IsTrue (is_name name) → IsLeader (fresh_leader (layout_of s) space name)
+pub fresh_leader_is : (s : Sizes) (space name : List ℕ) → HasRoom s → IsTrue (is_name space) → IsTrue (is_name name) → IsLeader (fresh_leader (layout_of s) space name)
 fresh_leader_is s space name sizes a b =
     record {
       hosts = sizes.hosts;
@@ -197,11 +176,11 @@ resource_by : (h : Header) (l : ResourceLine) (k : ℕ) (leader request block la
     else (if block then Some (BlockIs (fresh_block (k - 1)))
     else choose last (ValueIs no_value)))) ≡ Some r → IsRecord r
 resource_by h l k true request block last r a b c ok space name eq =
-    subst IsRecord (some_value _ r eq) (fresh_leader_is h.geometry l.lockspace l.name (has_sizes h.geometry ok.geometry) space name)
+    subst IsRecord (some_value _ r eq) (fresh_leader_is h.geometry l.lockspace l.name (has_room h.geometry ok.geometry) space name)
 resource_by h l k false true block last r a b c ok space name eq = subst IsRecord (some_value (RequestIs no_request) r eq) no_request_is
 resource_by h l k false false true last r a b c ok space name eq =
     subst IsRecord (some_value (BlockIs (fresh_block (k - 1))) r eq)
-    (fresh_block_is (k - 1) (block_low k a b) (block_high k h.geometry.hosts c (has_sizes h.geometry ok.geometry).hosts.1))
+    (fresh_block_is (k - 1) (block_low k a b) (block_high k h.geometry.hosts c (has_room h.geometry ok.geometry).hosts.1))
 resource_by h l k false false false true r a b c ok space name eq = subst IsRecord (some_value (ValueIs no_value) r eq) no_value_is
 resource_by h l k false false false false r a b c ok space name eq = absurd (none_some r eq)
 
@@ -237,14 +216,8 @@ initial_is_record h path offset r ok eq = initial_by h path offset (line_at h pa
 
 -- ---- lengths
 
-sector_low : (n : ℕ) → n ≡ 512 → 512 ≤ n
-sector_low n h = omega (arith, h)
-
-sector_high : (n : ℕ) → n ≡ 512 → n ≤ 4096
-sector_high n h = omega (arith, h)
-
 pub is_size : (s : Sizes) → IsGeometry s → IsSectorSize s.sector
-is_size s h = let e = (has_sizes s h).sector in (sector_low s.sector e, sector_high s.sector e)
+is_size s h = (has_room s h).sector
 
 initial_sized_by : (h : Header) (path : List ℕ) (offset : ℕ) (o : Option Rec) → initial_record (layout_of h.geometry) h path offset ≡ o → IsHeader h
     → length (elim o as (λ x. List ℕ) [ None ↦ replicate h.geometry.sector 0 | Some r ↦ sector_with (layout_of h.geometry) r ]) ≡ h.geometry.sector

@@ -6,27 +6,29 @@ use Rattle.sl_run.specs.Worlds.{mebibyte}
 use Rattle.sl_run.specs.declared.header.Disk.{Disk}
 use Rattle.sl_words.proofs.WordLaws.{and_true}
 use Rattle.sl_words.specs.Words.{choose}
-use Rattle.sl_world.proofs.InitialLaws.{has_sizes}
 use Rattle.sl_world.proofs.Numbered.{none_changes, none_placed, placed_found, set_is_change}
 use Rattle.sl_world.proofs.Passing.{done_passes, land_passes, sample_room_passes}
 use Rattle.sl_world.specs.Changes.{HasRoom, after_land, change_flight, disk_with, flight_landed, flight_sampled, kept_landed, kept_sampled, landing_of, written_by}
 use Rattle.sl_world.specs.FirstEvents.{done_refusal, flight_left, flight_numbered, land_refusal, sample_refusal}
 use Rattle.sl_world.specs.Kept.{DiskState, FlightState, KeptState, WrittenState, is_on_disk, kept_sector}
-use Rattle.std.proofs.Common.{ap, arith, refl, subst, sym, ◌∙◌}
+use Rattle.std.proofs.Common.{ap, arith, refl, subst, suc, sym, zero, ◌∙◌}
 use Rattle.std.proofs.lemmas.Bool.Decides.{nat_tests}
+use Rattle.std.proofs.lemmas.Nat.{mul-le}
 use Rattle.std.specs.List.{position}
 use Rattle.std.specs.Prelude.{None, Option, bytes_eq, false, nat_le, nat_lt, not, option_and_then, slice_index_or, slice_set, true, ℕ, ◌&&◌, ◌*◌, ◌+◌, ◌-◌, ◌<◌, ◌==◌, ◌^◌, ◌≡◌, ◌≤◌, Some}
 
 le_is : (a b : ℕ) → nat_le a b ≡ true → a ≤ b
 le_is a b h = grind (arith, nat_tests)
 
-few_at : (at all has n m : ℕ) → at + (all - 1) * 512 + 512 ≤ m * 1048576 → m ≤ 64 → has + n ≤ all → at + (has + n) * 512 < 2 ^ 64
-few_at at all has n m low few within = omega (arith, low, few, within)
+one_more : (a s : ℕ) → suc a * s ≡ (suc a - 1) * s + s
+one_more a s = grind (arith)
 
-few_bytes : (at all has n s m : ℕ) → s ≡ 512 → at + (all - 1) * s + s ≤ m * 1048576 → m ≤ 64 → has + n ≤ all → at + (has + n) * s < 2 ^ 64
-few_bytes at all has n s m is low few within =
-    let e : at + (has + n) * 512 < 2 ^ 64 = few_at at all has n m (subst (λ k. at + (all - 1) * k + k ≤ m * 1048576) is low) few within in
-    subst (λ k. at + (has + n) * k < 2 ^ 64) (sym is) e
+few_product : (all k s : ℕ) → k ≤ all → k * s ≤ (all - 1) * s + s
+few_product zero k s few = omega (arith, mul-le k s 0 s few (omega arith))
+few_product (suc a) k s few = omega (arith, mul-le k s (suc a) s few (omega arith), one_more a s)
+
+few_bytes : (at all has n s m : ℕ) → at + (all - 1) * s + s ≤ m * 1048576 → m ≤ 64 → has + n ≤ all → at + (has + n) * s < 2 ^ 64
+few_bytes at all has n s m low few within = omega (arith, few_product all (has + n) s within, low, few)
 
 few_count : (has n all : ℕ) → has + n ≤ all → all < 2 ^ 32 → has + n < 2 ^ 64
 few_count has n all h k = omega (arith, h, k)
@@ -41,7 +43,7 @@ placed_room d f n h placed within =
     && nat_le (f.call.offset + (sectors_of f.call.op - 1) * d.header.geometry.sector + d.header.geometry.sector) (k.mebibytes * mebibyte)) d.header.disks placed in
     let fits = and_true (bytes_eq disk.0.path f.call.path)
     (nat_le (f.call.offset + (sectors_of f.call.op - 1) * d.header.geometry.sector + d.header.geometry.sector) (disk.0.mebibytes * mebibyte)) disk.2 in
-    few_bytes f.call.offset (sectors_of f.call.op) f.sectors n d.header.geometry.sector disk.0.mebibytes (has_sizes d.header.geometry h.geometry).sector
+    few_bytes f.call.offset (sectors_of f.call.op) f.sectors n d.header.geometry.sector disk.0.mebibytes
     (le_is _ _ fits.1) (h.disks disk.0 disk.1).2 within
 
 -- A sample that may be made has room.

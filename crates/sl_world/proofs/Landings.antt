@@ -88,6 +88,7 @@ landed_tells k w a d c f t is =
           record { whole = whole.whole; few = whole.few });
       apart = subst (AllPairs (λ m n. m ≢ n)) (sym (change_keeps c flight_landed (λ g. g.call.number) (λ g. refl) k.flights)) t.apart;
       held = t.held;
+      locks = t.locks;
       connections = t.connections;
       places = land_places k w a d c f t;
       outstanding = t.outstanding ∙ sym (change_keeps c flight_landed (λ g. g.call) (λ g. refl) k.flights);

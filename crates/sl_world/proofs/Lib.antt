@@ -3,6 +3,7 @@ pub mod Flights
 pub mod Refusals
 pub mod Places
 pub mod Passing
+pub mod LockLaws
 pub mod Solo
 pub mod Samples
 pub mod Landings

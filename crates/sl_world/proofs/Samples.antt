@@ -114,6 +114,7 @@ sampled_tells k w a d c n f t sized is few =
           (subst (λ (g : FlightState). nat_lt (flight_left g) n ≡ false) (one_value f y (flight_numbered k.flights c) is at) few));
       apart = subst (AllPairs (λ m n. m ≢ n)) (sym (change_keeps c (flight_sampled k.disk n) (λ g. g.call.number) (λ g. refl) k.flights)) t.apart;
       held = t.held;
+      locks = t.locks;
       connections = t.connections;
       places = t.places;
       outstanding = t.outstanding ∙ sym (change_keeps c (flight_sampled k.disk n) (λ g. g.call) (λ g. refl) k.flights);

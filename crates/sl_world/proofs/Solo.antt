@@ -47,6 +47,7 @@ quiet_tells k w a d t =
       flight = t.flight;
       apart = t.apart;
       held = still_held a.holdings ∙ t.held;
+      locks = t.locks;
       connections = t.connections;
       places = t.places;
       outstanding = t.outstanding;

@@ -1,6 +1,7 @@
 -- What is kept tells of the world after a step of the daemon.
 use Rattle.sl_plain.proofs.Lists.{contains_cases}
-use Rattle.sl_run.specs.Events.{daemon_number, new_course, with_entry}
+use Rattle.sl_run.specs.Events.{daemon_number, new_course, number_of_step, with_entry}
+use Rattle.sl_run.specs.Locks.{Locks, locks_after}
 use Rattle.sl_run.specs.Worlds.{Course, Daemon, Machine, Stamp, World, reading_now}
 use Rattle.sl_trace.specs.Connections.{after_move}
 use Rattle.sl_trace.specs.Traces.{Submitted, Trace, held_after, mark, new_call, outstanding, submitted, unanswered}
@@ -11,10 +12,10 @@ use Rattle.sl_trace.specs.declared.input.Input.{Input}
 use Rattle.sl_world.proofs.Numbered.{pairs_mapped}
 use Rattle.sl_world.specs.Changes.{after_own_step, flights_after, new_flight}
 use Rattle.sl_world.specs.Daemons.{entry_of}
-use Rattle.sl_world.specs.Kept.{FlightState, IsFlight, KeptState, Shown, Tells, flight_numbers, is_waiting, kept_sector, shown, shown_of}
+use Rattle.sl_world.specs.Kept.{AreIdle, FlightState, IsFlight, KeptState, Shown, Tells, flight_numbers, is_waiting, kept_sector, shown, shown_of}
 use Rattle.std.proofs.Common.{ap, arith, inl, inr, refl, subst, sym, ◌∙◌}
 use Rattle.std.specs.Option.{option_map_or}
-use Rattle.std.specs.Prelude.{AllPairs, Bool, Contains, List, Some, false, filter, fold, is_none, length, map, option_map, true, [], ℕ, ◌*◌, ◌∷◌, ◌≡◌, ◌≢◌, ◌≤◌, ◌⊎◌}
+use Rattle.std.specs.Prelude.{AllPairs, Bool, Contains, List, None, Some, false, filter, fold, is_none, length, map, option_map, true, [], ℕ, ◌*◌, ◌∷◌, ◌≡◌, ◌≢◌, ◌≤◌, ◌⊎◌}
 
 -- ---- new calls on top of the others
 
@@ -64,6 +65,7 @@ stepped now i fx closed a =
       calls = fold (λ cs c. new_course now (daemon_number a) c ∷ cs) closed fx.calls;
       holdings = held_after fx a.holdings;
       daemon = option_map (with_entry (entry_of (reading_now a) i fx) now) a.daemon;
+      locks = (locks_after (number_of_step a) i fx a.locks).0;
     }
 
 new_shown : (now : Stamp) (nr : ℕ) (cs : List Call) (zs : List Shown) → nr ≡ 0
@@ -97,6 +99,7 @@ pub record Taken (k : KeptState) (d : Daemon) (i : Input) (fx : Effects) (closed
   pub calls : map shown (filter is_waiting closed) ≡ map shown_of fs
   pub out : map (λ m. m.call) (unanswered (mark d.trace (entry_of k.reading i fx) i (submitted d.trace))) ≡ map (λ f. f.call) fs
   pub flight : (f : FlightState) → Contains fs f → IsFlight (kept_sector k.disk) f
+  pub locks : (number : ℕ) (l : Locks) → AreIdle l → locks_after number i fx l ≡ (l, None)
 
 -- What is kept after the step.
 pub step_tells : (k : KeptState) (w : World) (a : Machine) (d : Daemon) (now : Stamp) (step : ℕ) (i : Input) (fx : Effects) (closed : List Course)
@@ -124,6 +127,7 @@ step_tells k w a d now step i fx closed fs t x apart =
       flight = flights_after_are (kept_sector k.disk) fx.calls fs x.flight;
       apart = apart_by (outstanding (entry_of k.reading i fx ∷ d.trace)) (flights_after fx.calls fs) open_now apart;
       held = ap (held_after fx) t.held;
+      locks = subst AreIdle (sym (ap (λ p. p.0) (x.locks (number_of_step a) a.locks t.locks))) t.locks;
       connections = ap (λ cs. fold after_move cs fx.moves) t.connections;
       places = t.places;
       outstanding = open_now;

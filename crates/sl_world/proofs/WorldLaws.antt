@@ -1,6 +1,6 @@
 -- What each event comes to, for every world that is stood for.
 use Rattle.sl_due.specs.Due.{due}
-use Rattle.sl_run.specs.Events.{happens}
+use Rattle.sl_run.specs.Events.{happens, refusal_of}
 use Rattle.sl_run.specs.Worlds.{World}
 use Rattle.sl_run.specs.declared.event.Event.TheVariants.{AnswerCall, Do, Land, Sample}
 use Rattle.sl_run.specs.declared.event.Event.{Event}
@@ -10,12 +10,12 @@ use Rattle.sl_trace.specs.declared.input.Input.{Input}
 use Rattle.sl_words.proofs.CaseLaws.{false_is_true, some_value}
 use Rattle.sl_words.specs.Words.{choose}
 use Rattle.sl_world.proofs.Completing.{done_is_taken}
-use Rattle.sl_world.proofs.FirstWorld.{Quiet, Taking, answer_is_taken, land_quiet, refuses, sample_quiet}
+use Rattle.sl_world.proofs.FirstWorld.{Quiet, Taking, allowed, answer_is_taken, land_quiet, sample_quiet}
 use Rattle.sl_world.proofs.Passing.{is_found, is_on_first}
 use Rattle.sl_world.proofs.SmallLaws.{none_few, nothing_called}
 use Rattle.sl_world.specs.Changes.{after_complete, after_land, after_own_step, disk_with, flights_without, kept_after, kept_landed, kept_sampled, landing_of, stepped_kept, told_done, told_ok, written_by}
 use Rattle.sl_world.specs.Daemons.{IsSmall, entry_of}
-use Rattle.sl_world.specs.FirstEvents.{answer_refusal, at_flight, done_refusal, flight_left, flight_numbered, flight_writes, is_first_event, refusal_in}
+use Rattle.sl_world.specs.FirstEvents.{answer_refusal, at_flight, done_refusal, flight_left, flight_numbered, flight_writes, refusal_in}
 use Rattle.sl_world.specs.Kept.{Comes, FlightState, IsSized, KeptState, WorldStands, WrittenState, is_quiet}
 use Rattle.std.proofs.Common.{ap, refl, subst, sym, ◌∙◌}
 use Rattle.std.specs.Prelude.{Bool, Err, IfOk, None, Ok, OnOk, Option, Result, Some, false, is_none, not, option_and_then, option_map, true, [], ℕ, ◌&&◌, ◌∷◌, ◌≡◌}
@@ -31,11 +31,11 @@ if_ok_to (Err e) P Q R f h k = h
 -- ---- events that give the daemon nothing
 
 comes_quiet : {D : Type 0} (stands : D → Setting → Trace → Type 0) (k : KeptState) (host : D) (w : World) (e : Event) (new : KeptState) → WorldStands stands k host w
-    → is_first_event e ≡ true → refusal_in k e ≡ None → Quiet stands k host w e → new ≡ kept_after e k → Comes stands w e no_effects new host
-comes_quiet stands k host w e new s first h q is =
+    → refusal_of w e ≡ None → Quiet stands k host w e → new ≡ kept_after e k → Comes stands w e no_effects new host
+comes_quiet stands k host w e new s may q is =
     let P : KeptState → Type 0 = λ v. WorldStands stands v host (happens w e (no_effects ∷ [])) in
     record {
-      may = ap is_none (refuses stands k host w e s first ∙ h);
+      may = ap is_none may;
       effects = q.effects;
       small = record { calls = none_few; grants = none_few; replies = none_few; spelled = nothing_called };
       quiet = λ still. refl;
@@ -45,12 +45,12 @@ comes_quiet stands k host w e new s first h q is =
 pub sample_comes : {D : Type 0} (stands : D → Setting → Trace → Type 0) (k : KeptState) (host : D) (w : World) (m c n : ℕ) (new : KeptState) → WorldStands stands k host w
     → IsSized k.disk → refusal_in k (Sample m c n) ≡ None → new ≡ kept_sampled c n k → Comes stands w (Sample m c n) no_effects new host
 sample_comes stands k host w m c n new s sized h is =
-    comes_quiet stands k host w (Sample m c n) new s refl h (sample_quiet stands k host w m c n s sized h) is
+    comes_quiet stands k host w (Sample m c n) new s (allowed stands k host w (Sample m c n) s refl h refl) (sample_quiet stands k host w m c n s sized h) is
 
 pub land_comes : {D : Type 0} (stands : D → Setting → Trace → Type 0) (k : KeptState) (host : D) (w : World) (m c : ℕ) (new : KeptState) → WorldStands stands k host w
     → refusal_in k (Land m c) ≡ None → new ≡ kept_landed c k → Comes stands w (Land m c) no_effects new host
 land_comes stands k host w m c new s h is =
-    comes_quiet stands k host w (Land m c) new s refl h (land_quiet stands k host w m c s h) is
+    comes_quiet stands k host w (Land m c) new s (allowed stands k host w (Land m c) s refl h refl) (land_quiet stands k host w m c s h) is
 
 -- ---- events that the daemon takes
 
@@ -59,13 +59,13 @@ abbrev pub Stepped : {D : Type 0} → (D → Setting → Trace → Type 0) → K
 Stepped stands k st es i host fx = (fx ≡ due st es k.reading i) × IsSmall es (entry_of k.reading i fx) × stands host st (entry_of k.reading i fx ∷ es)
 
 pub comes_taking : {D : Type 0} (stands : D → Setting → Trace → Type 0) (k : KeptState) (host : D) (w : World) (e : Event) (i : Input) (s : WorldStands stands k host w)
-    → is_first_event e ≡ true → is_quiet e ≡ false → refusal_in k e ≡ None → Taking stands k w e i s.daemon.setting s.daemon.trace
+    → is_quiet e ≡ false → refusal_of w e ≡ None → Taking stands k w e i s.daemon.setting s.daemon.trace
     → (then : D) (new : KeptState) (fx : Effects) → Stepped stands k s.daemon.setting s.daemon.trace i then fx → new ≡ stepped_kept e fx k
     → Comes stands w e fx new then
-comes_taking stands k host w e i s first loud h t then new fx x is =
+comes_taking stands k host w e i s loud may t then new fx x is =
     let P : KeptState → Type 0 = λ v. WorldStands stands v then (happens w e (fx ∷ [])) in
     record {
-      may = ap is_none (refuses stands k host w e s first ∙ h);
+      may = ap is_none may;
       effects = t.effects ∙ ap (λ y. y ∷ []) (sym x.0);
       small = x.1.step;
       quiet = λ still. absurd (false_is_true (sym loud ∙ still));

@@ -1,11 +1,12 @@
--- The events of a machine whose clock stands still, and why one may not happen, by what is kept.
-use Rattle.sl_run.specs.Events.{sectors_of}
+-- The events of a machine whose clock stands still, and why one may not happen, by what is kept and by what its daemon reads.
+use Rattle.sl_run.specs.Events.{is_for_locks, sectors_of}
 use Rattle.sl_run.specs.Worlds.{first_that}
 use Rattle.sl_run.specs.declared.event.Event.TheVariants.{AnswerCall, Do, GiveCommand, Land, Sample}
 use Rattle.sl_run.specs.declared.event.Event.{Event}
-use Rattle.sl_run.specs.declared.event.Refusal.TheVariants.{MissingCall, MissingFlight, MissingLanding, MissingMachine, MissingPlace, MissingSample, Syntax}
+use Rattle.sl_run.specs.declared.event.Refusal.TheVariants.{MissingCall, MissingFlight, MissingLanding, MissingLvm, MissingMachine, MissingPlace, MissingSample, Syntax}
 use Rattle.sl_run.specs.declared.event.Refusal.{Refusal}
-use Rattle.sl_trace.specs.Traces.{is_write}
+use Rattle.sl_trace.specs.Traces.{Setting, is_write}
+use Rattle.sl_words.specs.Words.{choose}
 use Rattle.sl_world.specs.Kept.{DiskState, FlightState, KeptState, is_on_disk}
 use Rattle.std.specs.Prelude.{Bool, List, None, Option, Some, false, find, nat_lt, not, true, [], ℕ, ◌&&◌, ◌-◌, ◌==◌, ◌∷◌}
 
@@ -73,3 +74,17 @@ refusal_in k (Land m c) = on_first m (at_flight (flight_numbered k.flights c) (l
 refusal_in k (AnswerCall m c ok) = on_first m (at_flight (flight_numbered k.flights c) answer_refusal)
 refusal_in k (Do m c) = on_first m (at_flight (flight_numbered k.flights c) (done_refusal k.disk))
 refusal_in k e = None
+
+-- Whether the event gives a command, and whether its daemon reads one for lvmlockd's process, which acts by lines alone.
+abbrev pub gives_command : Event → Bool
+gives_command (GiveCommand m text) = true
+gives_command e = false
+
+abbrev pub for_locks : Setting → Event → Bool
+for_locks st (GiveCommand m text) = is_for_locks (st.read text)
+for_locks st e = false
+
+-- The refusal by what is kept, and else by what the daemon reads.
+abbrev pub refusal_with : Bool → Option Refusal → Option Refusal
+refusal_with acts None = choose acts MissingLvm
+refusal_with acts (Some r) = Some r

@@ -6,6 +6,7 @@ use Rattle.sl_run.specs.declared.event.Event.{Event}
 use Rattle.sl_run.specs.Headers.{IsHeader}
 use Rattle.sl_area.specs.Layouts.{layout_of}
 use Rattle.sl_run.specs.Events.{sectors_of, happens, may_happen}
+use Rattle.sl_run.specs.Locks.{Locks}
 use Rattle.sl_run.specs.Worlds.{Course, Daemon, Fate, In_flight, Landed, Machine, World, content, initial_bytes, mebibyte, reading_now}
 use Rattle.sl_run.specs.declared.header.Header.{Header}
 use Rattle.sl_trace.specs.Connections.{connections}
@@ -125,6 +126,11 @@ pub record IsFlight (sector : ℕ) (f : FlightState) : Type 0 where
   pub whole : length f.sampled ≡ f.sectors * sector
   pub few : f.sectors ≤ sectors_of f.call.op
 
+-- No ask of lvmlockd's is due, and none waits for its reply.
+pub record AreIdle (k : Locks) : Type 0 where
+  pub due : k.due ≡ None
+  pub asked : k.asked ≡ None
+
 -- What is kept tells of the world, whose one machine is this one and runs this daemon.
 pub record Tells (k : KeptState) (w : World) (a : Machine) (d : Daemon) : Type 0 where
   pub header : w.header ≡ k.disk.header
@@ -140,6 +146,8 @@ pub record Tells (k : KeptState) (w : World) (a : Machine) (d : Daemon) : Type 0
   -- what happens to the call of a number happens to one
   pub apart : AllPairs (λ m n. m ≢ n) (flight_numbers k.flights)
   pub held : a.holdings ≡ k.held
+  -- no line of lvmlockd's is given
+  pub locks : AreIdle a.locks
   pub connections : a.connections ≡ connections d.setting d.trace
   pub places : (path : List ℕ) (offset : ℕ) → content w path offset ≡ kept_content k.disk path offset
   -- the trace has the same calls open

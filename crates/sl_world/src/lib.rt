@@ -26,4 +26,3 @@ pub use daemon::Daemon;
 pub use idle::idle_refusal;
 pub use kept::is_first_event;
 pub use world::{ApplyError, World};
-

@@ -22,7 +22,7 @@ ghost use Rattle.sl_world.specs.Changes.{after_own_step, still_waiting, HasRoom}
 ghost use Rattle.sl_world.specs.Daemons.{IsCalmInput, IsSmall, entry_of};
 ghost use Rattle.sl_world.specs.FirstEvents as first_events;
 ghost use Rattle.sl_world.specs.Kept.{IsSized, WorldStands, Comes, StandsForSome, FlightState, kept_sector};
-ghost use Rattle.std.specs.Prelude.{IfOk, IsTrue, None, OnErr, Some, [], true, ◌∷◌, ◌≡◌, IfSome, OnOk, Err, List};
+ghost use Rattle.std.specs.Prelude.{IfNone, IfOk, IsTrue, None, OnErr, Some, [], true, ◌∷◌, ◌≡◌, IfSome, OnOk, Err, List};
 
 use crate::daemon::Daemon;
 use crate::kept::{self, Kept};
@@ -38,6 +38,23 @@ pub enum ApplyError {
     Refused(Refusal),
     /// There is no memory for it, or the daemon has no number for it.
     OutOfMemory,
+}
+
+/// The refusal by what is kept, and else that of a command for lvmlockd's process.
+fn refused(kept: Option<Refusal>, acts: bool) -> Option<Refusal>
+    ensures exact { result ≡ first_events.refusal_with acts kept }
+    ensures none { IfNone result (kept ≡ None) }
+{
+    match kept {
+        Some(refusal) => Some(refusal),
+        None => {
+            if acts {
+                Some(Refusal::MissingLvm)
+            } else {
+                None
+            }
+        }
+    }
 }
 
 /// A world of one machine whose clock stands still: what is kept of it, and its daemon.
@@ -64,10 +81,20 @@ impl<D: Daemon> World<D> {
     pub fn refusal(&self, event: &Event) -> Option<Refusal>
         requires { IsTrue (first_events.is_first_event event.now) }
         ensures exact { (w : worlds.World) → WorldStands D.stands self.now.kept self.now.host w → result ≡ events.refusal_of w event.now }
-        ensures kept { result ≡ first_events.refusal_in self.now.kept event.now }
+        ensures kept { IfNone result (first_events.refusal_in self.now.kept event.now ≡ None) }
         ensures sized { IsSized self.now.kept.disk }
     {
-        self.kept.refusal(event)
+        refused(self.kept.refusal(event), self.acts_for_locks(event))
+    }
+
+    /// Whether the event gives a command for lvmlockd's process.
+    fn acts_for_locks(&self, event: &Event) -> bool
+        ensures { (st : traces.Setting) → (es : traces.Trace) → D.stands self.now.host st es → result ≡ first_events.for_locks st event.now }
+    {
+        match event {
+            Event::GiveCommand { machine: _, text } => self.host.acts_for_locks(text.as_slice()),
+            _ => false,
+        }
     }
 
     /// Whether the event may happen.
@@ -126,6 +153,7 @@ impl<D: Daemon> World<D> {
     fn give(&mut self, machine: u32, text: Bytes) -> Result<Effects, AllocError>
         requires stands { StandsForSome D.stands self.old.kept self.old.host }
         requires passes { first_events.refusal_in self.old.kept (GiveCommand machine text) ≡ None }
+        requires allowed { (w : worlds.World) → WorldStands D.stands self.old.kept self.old.host w → events.refusal_of w (GiveCommand machine text) ≡ None }
         ensures ok { (w : worlds.World) → WorldStands D.stands self.old.kept self.old.host w
             → IfOk result (λ fx. Comes D.stands w (GiveCommand machine text) fx self.new.kept self.new.host) }
         ensures err { OnErr result (self.new ≡ self.old) }
@@ -193,6 +221,7 @@ impl<D: Daemon> World<D> {
         requires first { IsTrue (first_events.is_first_event event) }
         requires stands { StandsForSome D.stands self.old.kept self.old.host }
         requires passes { first_events.refusal_in self.old.kept event ≡ None }
+        requires allowed { (w : worlds.World) → WorldStands D.stands self.old.kept self.old.host w → events.refusal_of w event ≡ None }
         requires sized { IsSized self.old.kept.disk }
         ensures ok { (w : worlds.World) → WorldStands D.stands self.old.kept self.old.host w
             → IfOk result (λ fx. Comes D.stands w event fx self.new.kept self.new.host) }

@@ -9,7 +9,7 @@ use Rattle.sl_leases.specs.declared.lease.Aim.TheVariants.{Acquires}
 use Rattle.sl_leases.specs.declared.lease.Aim.{Aim}
 use Rattle.sl_leases.specs.declared.lease.Instance.TheVariants.{Begins, HeldAlready}
 use Rattle.sl_leases.specs.declared.lease.Instance.{Instance}
-use Rattle.sl_leases.specs.declared.lease.LeaseNext.TheVariants.{AnswerJob, GrantJob, Nothing, ReadFor, WriteBlock, WriteLeader}
+use Rattle.sl_leases.specs.declared.lease.LeaseNext.TheVariants.{AnswerJob, BecomeExclusive, BecomeShared, GrantJob, Nothing, ReadFor, WriteBlock, WriteLeader}
 use Rattle.sl_leases.specs.declared.lease.LeaseNext.{LeaseNext}
 use Rattle.sl_leases.specs.declared.lease.Stop.{Stop}
 use Rattle.sl_sector.specs.declared.sector.Block.{Block}
@@ -35,6 +35,8 @@ acquires = Acquires Exclusive
 -- What comes next fits the calls so far: the next call stands behind them, or the leader is taken where a grant comes.
 abbrev pub NextStands : Setting → Given → Trace → List Submitted → LeaseNext → Type 0
 NextStands st g es ms Nothing = Unit {0}
+NextStands st g es ms (BecomeExclusive _ _) = Unit {0}
+NextStands st g es ms (BecomeShared _ _) = Unit {0}
 NextStands st g es ms (ReadFor step) = (c : Submitted) → c.at ≡ length es → is_at (kind_of_step step) c ≡ true → c.call.op ≡ ReadSectors st.layout.hosts → StepStands st g ms c step
 NextStands st g es ms (WriteBlock step b) = (c : Submitted) → is_at (kind_of_step step) c ≡ true → c.call.op ≡ WriteRecord (BlockIs b) → StepStands st g ms c step
 NextStands st g es ms (WriteLeader step l) = (c : Submitted) → is_at (kind_of_step step) c ≡ true → c.call.op ≡ WriteRecord (LeaderIs l) → StepStands st g ms c step

@@ -9,7 +9,7 @@ use Rattle.sl_first_law.proofs.Ballot.Stages.{taken_ended, won_ended, won_freed}
 use Rattle.sl_first_law.specs.Ballot.Ways.{FreesLeader, StepStands, TakesLeader, WaysStand, ballot_place, proposed}
 use Rattle.sl_first_law.proofs.Areas.{has_verified, nothing_open}
 use Rattle.sl_first_law.specs.Keeping.{AtCall}
-use Rattle.sl_law.specs.LawfulArea.{HasVerified}
+use Rattle.sl_law.specs.LawfulArea.{HasVerified, is_area_work}
 use Rattle.sl_law.specs.LawfulLeader.{HasWon, LawfulLeaderWrite, holds_under}
 use Rattle.sl_leases.specs.Ballots.{same_owner}
 use Rattle.sl_leases.specs.LeaseWork.{leader_for}
@@ -77,7 +77,7 @@ free_lawful st g r t at ms are named c lver h =
         step = h.step;
         won = won_among st g r t lver ms (lease_calls_first st g r t at.calm at.mine ∙ are) (me_first st g r t at.mine) (taken_ended st g ms lver h.held);
         not_held = not_held g r t lver at.free;
-        alone = ap (λ xs. filter (λ d. is_write d.call.op && is_on st.layout (spot_of r) d.call) xs) (nothing_open st g r t at);
+        alone = ap (λ xs. filter (λ d. is_area_work d.call.purpose && (is_write d.call.op && is_on st.layout (spot_of r) d.call)) xs) (nothing_open st g r t at);
       };
     }
 

@@ -6,7 +6,7 @@ use Rattle.sl_first_law.proofs.Ballot.Comes.{IsFresh, NextStands}
 use Rattle.sl_first_law.specs.Ballot.Promises.{WaysBegin}
 use Rattle.sl_first_law.specs.Ballot.Ways.{Numbered, StepStands, WaysStand}
 use Rattle.sl_leases.specs.Leases.{Area_read, Leader_freed, Leader_taken, Mode_cleared, Mode_set, Phase1_read, Phase1_write, Phase2_read, Phase2_write, Read_before_free, StepKind, kind_of_step, same_kind}
-use Rattle.sl_leases.specs.declared.lease.LeaseNext.TheVariants.{AnswerJob, GrantJob, Nothing, ReadFor, WriteBlock, WriteLeader}
+use Rattle.sl_leases.specs.declared.lease.LeaseNext.TheVariants.{AnswerJob, BecomeExclusive, BecomeShared, GrantJob, Nothing, ReadFor, WriteBlock, WriteLeader}
 use Rattle.sl_leases.specs.declared.lease.LeaseNext.{LeaseNext}
 use Rattle.sl_trace.specs.Traces.{Setting, Submitted, Trace, is_answer_for, new_call, submitted}
 use Rattle.sl_trace.specs.declared.command.Command.TheVariants.{Acquire, Release}
@@ -49,6 +49,8 @@ same_itself Read_before_free = refl
 told_ways : (st : Setting) (g : Given) (r : ResourceArg) (call : ℕ) (es : Trace) (d : Doing) (ms : List Submitted) → Numbered st ms → call ≡ st.first.call + length ms
     → (next : LeaseNext) → NextStands st g es ms next → WaysStand st g ms (told_phase st g r call es d next)
 told_ways st g r call es d ms numbered number Nothing h = record { numbered = numbered; newest = tt }
+told_ways st g r call es d ms numbered number (BecomeExclusive _ _) h = record { numbered = numbered; newest = tt }
+told_ways st g r call es d ms numbered number (BecomeShared _ _) h = record { numbered = numbered; newest = tt }
 told_ways st g r call es d ms numbered number (ReadFor step) h =
     record { numbered = numbered; newest = record { number = number; for_job = refl; stands = h _ refl (same_itself (kind_of_step step)) refl } }
 told_ways st g r call es d ms numbered number (WriteBlock step b) h =
@@ -88,7 +90,7 @@ pub acquire_ways : (st : Setting) (g : Given) (r : ResourceArg) → IsFirst st g
     → FirstStands st g r call job phase answered es → WaysStand st g answered phase → (text : List ℕ) (p : ℕ)
     → WaysStand st g answered (acquire_line st g r call job es text p phase).phase
 acquire_ways st g r f call job Idle answered es h w text p =
-    begun_ways st g r call job Idle answered es h h.stands.calls w.numbered text (Acquire r false p) (ReadArea r.name) (first_read st r call job) refl refl (st.layout.hosts + 2, refl)
+    begun_ways st g r call job Idle answered es h h.stands.calls w.numbered text (Acquire r false p false) (ReadArea r.name) (first_read st r call job) refl refl (st.layout.hosts + 2, refl)
 acquire_ways st g r f call job (Holds q lver) answered es h w text p = w
 acquire_ways st g r f call job (Works d) answered es h w text p = w
 

@@ -32,7 +32,7 @@ use Rattle.std.specs.Prelude.{Bool, IsFalse, IsTrue, List, None, Option, Some, f
 
 -- A read of the area, for an acquire of the resource.
 abbrev AreaHeard : Given → ResourceArg → Answering → Submitted → List Submitted → List ℕ → ℕ → Type 0
-AreaHeard g r x c answered bytes p = Hears g x c answered (Read bytes) (ReadArea r.name) (Acquire r false p)
+AreaHeard g r x c answered bytes p = Hears g x c answered (Read bytes) (ReadArea r.name) (Acquire r false p false)
 
 -- What the lease knows by it.
 abbrev area_known : Given → Answering → Submitted → List Submitted → LeaseKnown
@@ -42,24 +42,24 @@ blocks_read : (g : Given) (r : ResourceArg) (x : Answering) (c : Submitted) (ans
     → last_blocks x.setting.layout (c ∷ answered) ≡ area_blocks x.setting.layout bytes
 blocks_read g r x c answered bytes p h =
     ap (λ (o : Option (List (Option Block))). elim o as (λ z. List (Option Block)) [ Some bs ↦ bs | None ↦ last_blocks x.setting.layout answered ])
-    (area_given g x c answered bytes r.name (Acquire r false p) h)
+    (area_given g x c answered bytes r.name (Acquire r false p false) h)
 
 -- The read shows this instance.
 shows : (g : Given) (r : ResourceArg) (x : Answering) (c : Submitted) (answered : List Submitted) (bytes : List ℕ) (p : ℕ) → AreaHeard g r x c answered bytes p
     → (l : Leader) → leader_of x.setting.layout bytes ≡ Some l → (own : Block) (i : Instance) → instance_for (area_known g x c answered) l own (area_blocks x.setting.layout bytes) ≡ i
     → ShowsInstance x (first_session g) c (area_blocks x.setting.layout bytes) own i
 shows g r x c answered bytes p h l there own i is =
-    (at_step g x c answered (Read bytes) (ReadArea r.name) (Acquire r false p) h Area_read refl, bytes, l, h.gives, there, ap (λ k. instance_for k l own (area_blocks x.setting.layout bytes)) h.knows ∙ is)
+    (at_step g x c answered (Read bytes) (ReadArea r.name) (Acquire r false p false) h Area_read refl, bytes, l, h.gives, there, ap (λ k. instance_for k l own (area_blocks x.setting.layout bytes)) h.knows ∙ is)
 
 instance_well : (g : Given) (r : ResourceArg) (x : Answering) (c : Submitted) (answered : List Submitted) (bytes : List ℕ) (p : ℕ) → AreaHeard g r x c answered bytes p
     → (l : Leader) → leader_of x.setting.layout bytes ≡ Some l → (own : Block) → own_known (area_known g x c answered) ≡ Some own
     → (i : Instance) → instance_for (area_known g x c answered) l own (area_blocks x.setting.layout bytes) ≡ i
     → IsWell x (begin_or_refuse (first_place x.setting g) (area_known g x c answered) (Acquires Exclusive) i)
 instance_well g r x c answered bytes p h l there own known (Begins n) is =
-    begin_well g x c answered bytes (ReadArea r.name) (Acquire r false p) h (area_blocks x.setting.layout bytes) own (area_given g x c answered bytes r.name (Acquire r false p) h) known
+    begin_well g x c answered bytes (ReadArea r.name) (Acquire r false p false) h (area_blocks x.setting.layout bytes) own (area_given g x c answered bytes r.name (Acquire r false p false) h) known
     (blocks_read g r x c answered bytes p h) n (inl (shows g r x c answered bytes p h l there own (Begins n) is))
 instance_well g r x c answered bytes p h l there own known (HeldAlready lver owner) is =
-    reads_blocks g x c answered bytes (ReadArea r.name) (Acquire r false p) h (area_blocks x.setting.layout bytes) own (area_given g x c answered bytes r.name (Acquire r false p) h) known
+    reads_blocks g x c answered bytes (ReadArea r.name) (Acquire r false p false) h (area_blocks x.setting.layout bytes) own (area_given g x c answered bytes r.name (Acquire r false p false) h) known
     (λ s c blocks own. ShowsInstance x s c blocks own (HeldAlready lver owner)
     ⊎ (EndsWith x s c blocks own lver owner × IsFalse (counts_over x.setting (after_entry x) s owner.id owner.generation)))
     (inl (shows g r x c answered bytes p h l there own (HeldAlready lver owner) is))
@@ -78,9 +78,9 @@ torn_well : (g : Given) (r : ResourceArg) (x : Answering) (c : Submitted) (answe
       | None ↦ whole_area_next (first_place x.setting g) (area_known g x c answered) (Acquires Exclusive) l (area_blocks x.setting.layout bytes)
     ])
 torn_well g r x c answered bytes p h l there (Some i) is =
-    inl (reads g x c answered bytes (ReadArea r.name) (Acquire r false p) h
+    inl (reads g x c answered bytes (ReadArea r.name) (Acquire r false p false) h
     (λ c bytes. IsTrue (is_at Area_read c) × (option_map (λ k. k + 1) (position is_none (area_blocks x.setting.layout bytes)) ≡ Some (i + 1)))
-    (at_step g x c answered (Read bytes) (ReadArea r.name) (Acquire r false p) h Area_read refl, ap (λ o. option_map (λ k. k + 1) o) is))
+    (at_step g x c answered (Read bytes) (ReadArea r.name) (Acquire r false p false) h Area_read refl, ap (λ o. option_map (λ k. k + 1) o) is))
 torn_well g r x c answered bytes p h l there None is = whole_well g r x c answered bytes p h l there (own_known (area_known g x c answered)) refl
 
 named_well : (g : Given) (r : ResourceArg) (x : Answering) (c : Submitted) (answered : List Submitted) (bytes : List ℕ) (p : ℕ) → r.lockspace ≡ g.lockspace → AreaHeard g r x c answered bytes p
@@ -90,7 +90,7 @@ named_well : (g : Given) (r : ResourceArg) (x : Answering) (c : Submitted) (answ
       | true ↦ named_area_next (first_place x.setting g) (area_known g x c answered) (Acquires Exclusive) l (area_blocks x.setting.layout bytes)
     ])
 named_well g r x c answered bytes p space h l there false other =
-    with_spot x (Acquire r false p) r
+    with_spot x (Acquire r false p false) r
     (λ r at. AnswersRead x (λ c bytes. (m : Leader) × (leader_of x.setting.layout bytes ≡ Some m) × (m.lockspace ≡ l.lockspace) × (m.resource ≡ l.resource) × (m.num_hosts ≡ l.num_hosts)
     × IsFalse (is_leader_of x.setting.layout r.lockspace r.name m)))
     h.commanded refl (c, bytes, h.call, (l, there, refl, refl, refl, ap (λ n. is_leader_of x.setting.layout n r.name l) space ∙ other))
@@ -106,9 +106,9 @@ leader_well : (g : Given) (r : ResourceArg) (x : Answering) (c : Submitted) (ans
       ]
     ])
 leader_well g r x c answered bytes p space h None torn =
-    reads g x c answered bytes (ReadArea r.name) (Acquire r false p) h
+    reads g x c answered bytes (ReadArea r.name) (Acquire r false p false) h
     (λ c bytes. (IsTrue (is_at Area_read c) ⊎ (c.call.purpose ≡ RequestRead x.job.number)) × (leader_of x.setting.layout bytes ≡ None))
-    (inl (at_step g x c answered (Read bytes) (ReadArea r.name) (Acquire r false p) h Area_read refl), torn)
+    (inl (at_step g x c answered (Read bytes) (ReadArea r.name) (Acquire r false p false) h Area_read refl), torn)
 leader_well g r x c answered bytes p space h (Some l) there = named_well g r x c answered bytes p space h l there (is_leader_of x.setting.layout g.lockspace r.name l) refl
 
 -- What a read of the area leads to has its cause.

@@ -1,12 +1,12 @@
 -- What stands in the trace where the answer of the work's call is told.
 use Rattle.sl_area.specs.Layouts.{Layout}
 use Rattle.sl_area.specs.Places.{area_blocks, blocks_in}
-use Rattle.sl_first.specs.FirstPath.{first_session}
+use Rattle.sl_first.specs.FirstPath.{first_session, HasEnded}
 use Rattle.sl_first.specs.FirstSteps.{first_known, first_over}
 use Rattle.sl_first_law.proofs.Cause.Replied.{with_session}
 use Rattle.sl_law.specs.Caused.{Answering, AnswersCall, AnswersRead, ReadsBlocks, after_entry, known_here, the_session}
 use Rattle.sl_leases.specs.Leases.{Area_read, Phase1_read, Phase2_read, Read_before_free, StepKind, blocks_given, is_at, is_phase_read, kind_of_step, lease_calls, lease_step, own_block, same_kind, spot_of_call}
-use Rattle.sl_leases.specs.declared.lease.LeaseNext.TheVariants.{AnswerJob, GrantJob, Nothing, ReadFor, WriteBlock, WriteLeader}
+use Rattle.sl_leases.specs.declared.lease.LeaseNext.TheVariants.{AnswerJob, GrantJob, Nothing, ReadFor, WriteBlock, WriteLeader, BecomeShared, BecomeExclusive}
 use Rattle.sl_leases.specs.declared.lease.LeaseNext.{LeaseNext}
 use Rattle.sl_law.specs.Caused.{CausedBy}
 use Rattle.sl_sector.specs.declared.sector.Block.{Block}
@@ -36,6 +36,7 @@ pub record Hears (g : Given) (x : Answering) (c : Submitted) (answered : List Su
   pub calls : lease_calls x.setting (after_entry x) (first_session g) (spot_of_call x.setting.layout c) ≡ c ∷ answered
   pub gives : gave c ≡ bytes_given a
   pub for_job : c.call.purpose ≡ Lease (ForJob x.job.number) step
+  pub ended : HasEnded (after_entry x) x.job.at x.job.command
 
 -- What comes next has its cause, if it is a reply.
 abbrev pub IsWell : Answering → LeaseNext → Type 0
@@ -45,6 +46,8 @@ IsWell x (WriteBlock step b) = Unit {0}
 IsWell x (WriteLeader step l) = Unit {0}
 IsWell x (AnswerJob why) = CausedBy x why
 IsWell x (GrantJob mode lver) = Unit {0}
+IsWell x (BecomeShared lver l) = Unit {0}
+IsWell x (BecomeExclusive lver b) = Unit {0}
 
 -- ---- the read
 

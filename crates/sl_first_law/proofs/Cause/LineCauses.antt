@@ -25,7 +25,7 @@ use Rattle.sl_trace.specs.declared.reply.Reply.TheVariants.{BadCommand as Misrea
 use Rattle.sl_trace.specs.declared.reply.Reply.{Reply}
 use Rattle.sl_words.proofs.CaseLaws.{false_is_true, none_some, some_value}
 use Rattle.sl_words.proofs.WordLaws.{and_true}
-use Rattle.std.proofs.Common.{ap, arith, refl, subst, sym, tests, ◌∙◌}
+use Rattle.std.proofs.Common.{ap, arith, refl, subst, sym, tests, ◌∙◌, inl}
 use Rattle.std.specs.List.{list_all}
 use Rattle.std.specs.Prelude.{Bool, Contains, Err, IsTrue, List, None, Ok, Option, Result, Some, false, find, length, nat_lt, option_map, true, [], ℕ, ◌++◌, ◌==◌, ◌∷◌, ◌≡◌}
 
@@ -84,7 +84,7 @@ pending_is None n h = absurd (none_some (Pending n) h)
 pending_is (Some m) n h = ap (λ w. Some (process_in_reply w)) (some_value (Pending m) (Pending n) h)
 
 pub acquire_caused : (st : Setting) (g : Given) (r : ResourceArg) → IsFirst st g r → (call job : ℕ) (phase : Phase) (answered : List Submitted) (es : Trace) → FirstStands st g r call job phase answered es
-    → (text : List ℕ) (p : ℕ) → st.read text ≡ Ok (Acquire r false p) → AnswersWell st es (first_entry g (Line text) (acquire_line st g r call job es text p phase).effects)
+    → (text : List ℕ) (p : ℕ) → st.read text ≡ Ok (Acquire r false p false) → AnswersWell st es (first_entry g (Line text) (acquire_line st g r call job es text p phase).effects)
 acquire_caused st g r f call job Idle answered es h text p reads = none_well st es _ refl
 acquire_caused st g r f call job (Holds q lver) answered es h text p reads =
     let k : Kept = kept_in g r call job (Holds q lver) answered in
@@ -92,10 +92,10 @@ acquire_caused st g r f call job (Holds q lver) answered es h text p reads =
     let x : Answering = at_line st g es text job (Busy q) in
     line_well st g r k es h.stands text (Busy q) (
       refl,
-      with_command x (Acquire r false p) (λ c. IsTrue (is_asking_lease c) × WithSpot x (λ b at. busy_process t at (process_named c) (wants_shared c) ≡ Some q)) reads (
+      inl (with_command x (Acquire r false p false) (λ c. IsTrue (is_asking_lease c) × WithSpot x (λ b at. busy_process t at (process_named c) (wants_shared c) ≡ Some q)) reads (
         refl,
-        with_spot x (Acquire r false p) r (λ b at. busy_process t at (Some p) false ≡ Some q) reads refl (busy_is (busy_process t (spot_of r) (Some p) false) q (busy_holder st g r k t (quiet_stands st g r k es h.stands) q lver p refl)),
-      ),
+        with_spot x (Acquire r false p false) r (λ b at. busy_process t at (Some p) false ≡ Some q) reads refl (busy_is (busy_process t (spot_of r) (Some p) false) q (busy_holder st g r k t (quiet_stands st g r k es h.stands) q lver p refl)),
+      )),
     )
 acquire_caused st g r f call job (Works d) answered es h text p reads =
     let k : Kept = kept_in g r call job (Works d) answered in
@@ -104,7 +104,7 @@ acquire_caused st g r f call job (Works d) answered es h text p reads =
     let x : Answering = at_line st g es text job (Pending d.call.call.number) in
     line_well st g r k es h.stands text (Pending d.call.call.number) (
       refl,
-      with_spot x (Acquire r false p) r (λ b at. pending_call st t at ≡ Some d.call.call.number) reads refl (pending_is (pending_call st t (spot_of r)) d.call.call.number (call_pending st g r k t w d refl w.work)),
+      with_spot x (Acquire r false p false) r (λ b at. pending_call st t at ≡ Some d.call.call.number) reads refl (pending_is (pending_call st t (spot_of r)) d.call.call.number (call_pending st g r k t w d refl w.work)),
     )
 
 -- ---- a release

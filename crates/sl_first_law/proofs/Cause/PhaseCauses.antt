@@ -57,7 +57,7 @@ stop_well g x c answered bytes step command h phase blocks own given known (Bloc
 
 -- The read of phase 1, for an acquire of the resource.
 abbrev Phase1Heard : Given → ResourceArg → Answering → Submitted → List Submitted → List ℕ → ℕ → Type 0
-Phase1Heard g r x c answered bytes p = Hears g x c answered (Read bytes) Phase1Read (Acquire r false p)
+Phase1Heard g r x c answered bytes p = Hears g x c answered (Read bytes) Phase1Read (Acquire r false p false)
 
 shared_well : (g : Given) (r : ResourceArg) (x : Answering) (c : Submitted) (answered : List Submitted) (bytes : List ℕ) (p : ℕ) → Phase1Heard g r x c answered bytes p
     → (own : Block) → block_submitted (c ∷ answered) ≡ Some own → stop_of own (blocks_in x.setting.layout bytes) ≡ None
@@ -68,11 +68,11 @@ shared_well : (g : Given) (r : ResourceArg) (x : Answering) (c : Submitted) (ans
     ])
 shared_well g r x c answered bytes p h own known clear None none = tt
 shared_well g r x c answered bytes p h own known clear (Some b) some =
-    reads_blocks g x c answered bytes Phase1Read (Acquire r false p) h (blocks_in x.setting.layout bytes) own (phase1_given g x c answered bytes (Acquire r false p) h) (own_is g x (c ∷ answered) own known)
+    reads_blocks g x c answered bytes Phase1Read (Acquire r false p false) h (blocks_in x.setting.layout bytes) own (phase1_given g x c answered bytes (Acquire r false p false) h) (own_is g x (c ∷ answered) own known)
     (λ s c blocks own. IsTrue (is_at Phase1_read c) × job_command x (λ a. wants_shared a ≡ false) × (stop_of own blocks ≡ None) × (d : Block)
     × (shared_elsewhere (known_here x s c) blocks ≡ Some d) × (d.host ≡ b.host) × (d.mode_gen ≡ b.mode_gen)) (
-      at_step g x c answered (Read bytes) Phase1Read (Acquire r false p) h Phase1_read refl,
-      with_command x (Acquire r false p) (λ a. wants_shared a ≡ false) h.commanded refl,
+      at_step g x c answered (Read bytes) Phase1Read (Acquire r false p false) h Phase1_read refl,
+      with_command x (Acquire r false p false) (λ a. wants_shared a ≡ false) h.commanded refl,
       clear,
       b,
       ap (λ k. shared_elsewhere k (blocks_in x.setting.layout bytes)) h.knows ∙ some,
@@ -85,8 +85,8 @@ phase1_by : (g : Given) (r : ResourceArg) (x : Answering) (c : Submitted) (answe
     → IsWell x (after_phase1 (first_place x.setting g) (first_known x.setting g (c ∷ answered)) (Acquires Exclusive) own (blocks_in x.setting.layout bytes) s)
 phase1_by g r x c answered bytes p h own known None clear = shared_well g r x c answered bytes p h own known clear _ refl
 phase1_by g r x c answered bytes p h own known (Some stop) is =
-    stop_well g x c answered bytes Phase1Read (Acquire r false p) h (phase_step g x c answered (Read bytes) Phase1Read (Acquire r false p) h refl)
-    (blocks_in x.setting.layout bytes) own (phase1_given g x c answered bytes (Acquire r false p) h) known stop is
+    stop_well g x c answered bytes Phase1Read (Acquire r false p false) h (phase_step g x c answered (Read bytes) Phase1Read (Acquire r false p false) h refl)
+    (blocks_in x.setting.layout bytes) own (phase1_given g x c answered bytes (Acquire r false p false) h) known stop is
 
 -- What the read of phase 1 leads to has its cause.
 pub phase1_well : (g : Given) (r : ResourceArg) (x : Answering) (c : Submitted) (answered : List Submitted) (bytes : List ℕ) (p : ℕ) → Phase1Heard g r x c answered bytes p
@@ -99,18 +99,18 @@ phase1_well g r x c answered bytes p h (Some own) known = phase1_by g r x c answ
 
 -- The read of phase 2, for an acquire of the resource.
 abbrev Phase2Heard : Given → ResourceArg → Answering → Submitted → List Submitted → List ℕ → ℕ → Type 0
-Phase2Heard g r x c answered bytes p = Hears g x c answered (Read bytes) Phase2Read (Acquire r false p)
+Phase2Heard g r x c answered bytes p = Hears g x c answered (Read bytes) Phase2Read (Acquire r false p false)
 
 phase2_blocks : (g : Given) (r : ResourceArg) (x : Answering) (c : Submitted) (answered : List Submitted) (bytes : List ℕ) (p : ℕ) → Phase2Heard g r x c answered bytes p
     → last_blocks x.setting.layout (c ∷ answered) ≡ blocks_in x.setting.layout bytes
 phase2_blocks g r x c answered bytes p h =
     ap (λ (o : Option (List (Option Block))). elim o as (λ z. List (Option Block)) [ Some bs ↦ bs | None ↦ last_blocks x.setting.layout answered ])
-    (phase2_given g x c answered bytes (Acquire r false p) h)
+    (phase2_given g x c answered bytes (Acquire r false p false) h)
 
 -- The ballot ended with its own block's value.
 ends : (g : Given) (r : ResourceArg) (x : Answering) (c : Submitted) (answered : List Submitted) (bytes : List ℕ) (p : ℕ) → Phase2Heard g r x c answered bytes p
     → (own : Block) → stop_of own (blocks_in x.setting.layout bytes) ≡ None → EndsWith x (first_session g) c (blocks_in x.setting.layout bytes) own own.lver (value_of own)
-ends g r x c answered bytes p h own clear = (at_step g x c answered (Read bytes) Phase2Read (Acquire r false p) h Phase2_read refl, clear, refl, refl)
+ends g r x c answered bytes p h own clear = (at_step g x c answered (Read bytes) Phase2Read (Acquire r false p false) h Phase2_read refl, clear, refl, refl)
 
 lost_well : (g : Given) (r : ResourceArg) (x : Answering) (c : Submitted) (answered : List Submitted) (bytes : List ℕ) (p : ℕ) → Phase2Heard g r x c answered bytes p
     → (own : Block) → block_submitted (c ∷ answered) ≡ Some own → stop_of own (blocks_in x.setting.layout bytes) ≡ None → (over : Bool) → first_over g own.inp own.inp_gen ≡ over
@@ -119,11 +119,11 @@ lost_well : (g : Given) (r : ResourceArg) (x : Answering) (c : Submitted) (answe
       | false ↦ AnswerJob (HeldBy own.lver (value_of own))
     ])
 lost_well g r x c answered bytes p h own known clear true over =
-    begin_well g x c answered bytes Phase2Read (Acquire r false p) h (blocks_in x.setting.layout bytes) own (phase2_given g x c answered bytes (Acquire r false p) h) (own_is g x (c ∷ answered) own known)
+    begin_well g x c answered bytes Phase2Read (Acquire r false p false) h (blocks_in x.setting.layout bytes) own (phase2_given g x c answered bytes (Acquire r false p false) h) (own_is g x (c ∷ answered) own known)
     (phase2_blocks g r x c answered bytes p h) (own.lver + 1)
     (inr (value_of own, own.lver, ends g r x c answered bytes p h own clear, refl, ap (λ q. q own.inp own.inp_gen) h.over ∙ over))
 lost_well g r x c answered bytes p h own known clear false over =
-    reads_blocks g x c answered bytes Phase2Read (Acquire r false p) h (blocks_in x.setting.layout bytes) own (phase2_given g x c answered bytes (Acquire r false p) h) (own_is g x (c ∷ answered) own known)
+    reads_blocks g x c answered bytes Phase2Read (Acquire r false p false) h (blocks_in x.setting.layout bytes) own (phase2_given g x c answered bytes (Acquire r false p false) h) (own_is g x (c ∷ answered) own known)
     (λ s c blocks b. ShowsInstance x s c blocks b (HeldAlready own.lver (value_of own))
     ⊎ (EndsWith x s c blocks b own.lver (value_of own) × IsFalse (counts_over x.setting (after_entry x) s own.inp own.inp_gen)))
     (inr (ends g r x c answered bytes p h own clear, ap (λ q. q own.inp own.inp_gen) h.over ∙ over))
@@ -142,8 +142,8 @@ phase2_by : (g : Given) (r : ResourceArg) (x : Answering) (c : Submitted) (answe
     → IsWell x (after_phase2 (first_place x.setting g) (first_known x.setting g (c ∷ answered)) (Acquires Exclusive) own s)
 phase2_by g r x c answered bytes p h own known None clear = ended_well g r x c answered bytes p h own known clear (same_owner (value_of own) (first_known x.setting g (c ∷ answered)).self)
 phase2_by g r x c answered bytes p h own known (Some stop) is =
-    stop_well g x c answered bytes Phase2Read (Acquire r false p) h (phase_step g x c answered (Read bytes) Phase2Read (Acquire r false p) h refl)
-    (blocks_in x.setting.layout bytes) own (phase2_given g x c answered bytes (Acquire r false p) h) known stop is
+    stop_well g x c answered bytes Phase2Read (Acquire r false p false) h (phase_step g x c answered (Read bytes) Phase2Read (Acquire r false p false) h refl)
+    (blocks_in x.setting.layout bytes) own (phase2_given g x c answered bytes (Acquire r false p false) h) known stop is
 
 -- What the read of phase 2 leads to has its cause.
 pub phase2_well : (g : Given) (r : ResourceArg) (x : Answering) (c : Submitted) (answered : List Submitted) (bytes : List ℕ) (p : ℕ) → Phase2Heard g r x c answered bytes p

@@ -19,7 +19,7 @@ use Rattle.sl_trace.specs.declared.effects.Effects.{Effects}
 use Rattle.sl_trace.specs.declared.effects.Entry.{Entry}
 use Rattle.sl_trace.specs.declared.input.Answer.{Answer}
 use Rattle.sl_trace.specs.declared.input.Given.{Given}
-use Rattle.sl_trace.specs.declared.input.Input.TheVariants.{Answer as Told, Exit, Line, Spawned, Wake}
+use Rattle.sl_trace.specs.declared.input.Input.TheVariants.{Answer as Told, Exit, Line, Number, Spawned, Wake}
 use Rattle.sl_trace.specs.declared.input.Input.{Input}
 use Rattle.sl_trace.specs.declared.reply.Reply.TheVariants.{BadCommand as Misread}
 use Rattle.sl_words.proofs.CaseLaws.{false_is_true}
@@ -57,12 +57,12 @@ line_by st g r f es b e text now is does (Err column) reads command =
     line_goes st g r b.job b.answered es text (answers b.call b.job b.phase (Misread column)) (misread_first st g r f b.call b.job b.phase b.answered es b.stands text column reads)
     (misread_caused st g r f b.call b.job b.phase b.answered es b.stands text column reads) b.caused e now is does
 line_by st g r f es b e text now is does (Ok c) reads (p, small, inl acquires) =
-    let says : st.read text ≡ Ok (Acquire r false p) = reads ∙ ap (λ d. Ok d) acquires in
-    line_goes st g r b.job b.answered es text (acquire_line st g r b.call b.job es text p b.phase) (acquire_first st g r f b.call b.job b.phase b.answered es b.stands text p small says)
+    let says : st.read text ≡ Ok (Acquire r false p false) = reads ∙ ap (λ d. Ok d) acquires in
+    line_goes st g r b.job b.answered es text (acquire_line st g r b.call b.job es text p b.phase) (acquire_first st g r f b.call b.job b.phase b.answered es b.stands text p small.1 says)
     (acquire_caused st g r f b.call b.job b.phase b.answered es b.stands text p says) b.caused e now is does
 line_by st g r f es b e text now is does (Ok c) reads (p, small, inr releases) =
     let says : st.read text ≡ Ok (Release r p) = reads ∙ ap (λ d. Ok d) releases in
-    line_goes st g r b.job b.answered es text (release_line st g r b.call b.job b.answered es text p b.phase) (release_first st g r f b.call b.job b.phase b.answered es b.stands text p small says)
+    line_goes st g r b.job b.answered es text (release_line st g r b.call b.job b.answered es text p b.phase) (release_first st g r f b.call b.job b.phase b.answered es b.stands text p small.1 says)
     (release_caused st g r f b.call b.job b.phase b.answered es b.stands text p says) b.caused e now is does
 
 -- ---- an answer
@@ -110,6 +110,7 @@ entry_goes st g r f es b e follows does now (Line text) is kind = line_by st g r
 entry_goes st g r f es b e follows does now (Told n a) is kind =
     told_by st g r f b.call b.job b.phase b.answered es b.stands b.caused e n a now is does (subst (λ i. is_expected st es i ≡ true) is follows.expected)
 entry_goes st g r f es b e follows does now (Exit p) is kind = absurd (false_is_true kind)
+entry_goes st g r f es b e follows does now (Number p) is kind = absurd (false_is_true kind)
 entry_goes st g r f es b e follows does now (Spawned p ok) is kind = absurd (false_is_true kind)
 entry_goes st g r f es b e follows does now Wake is kind = absurd (false_is_true kind)
 

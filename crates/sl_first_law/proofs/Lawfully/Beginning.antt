@@ -5,4 +5,8 @@ use Rattle.std.specs.Prelude.{[]}
 
 pub nothing_lawful : (st : Setting) → Lawful st []
 nothing_lawful st =
-    record { is_trace = tt; calls = tt; delta = tt; area = tt; block = tt; leader = tt; modes = tt; watchdog = tt; granting = tt; recovery = tt; values = tt }
+    record {
+      orderly = record { is_trace = tt; calls = tt; delta = tt; area = tt; block = tt; leader = tt; modes = tt; watchdog = tt; granting = tt; ends = tt; parting = tt; values = tt };
+      exits = tt;
+      recovery = tt;
+    }

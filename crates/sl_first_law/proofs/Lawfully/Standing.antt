@@ -12,7 +12,7 @@ use Rattle.sl_first_law.specs.Lawfully.Bringing.{BallotBrings, CallBrings, Entry
 use Rattle.sl_first_law.specs.Lawfully.Promises.{StaysLawful}
 use Rattle.sl_law.specs.Saying.{cut_at}
 use Rattle.sl_leases.specs.Leases.{freed}
-use Rattle.sl_leases.specs.declared.lease.LeaseNext.TheVariants.{AnswerJob, GrantJob, Nothing, ReadFor, WriteBlock, WriteLeader}
+use Rattle.sl_leases.specs.declared.lease.LeaseNext.TheVariants.{AnswerJob, BecomeExclusive, BecomeShared, GrantJob, Nothing, ReadFor, WriteBlock, WriteLeader}
 use Rattle.sl_leases.specs.declared.lease.LeaseNext.{LeaseNext}
 use Rattle.sl_sector.specs.declared.sector.Block.{Block}
 use Rattle.sl_trace.specs.Limits.{most_processes}
@@ -92,7 +92,7 @@ misread_stays st g r f call job phase answered es h text column reads was cause 
     record { lawful = misread_keeps st g r f call job phase answered es h text column reads was.lawful (record { calls = tt; grants = tt }); caused = (cause, was.caused) }
 
 pub acquire_stays : (st : Setting) (g : Given) (r : ResourceArg) → IsFirst st g r → (call job : ℕ) (phase : Phase) (answered : List Submitted) (es : Trace) → FirstStands st g r call job phase answered es
-    → (text : List ℕ) (p : ℕ) → p ≤ most_processes → st.read text ≡ Ok (Acquire r false p)
+    → (text : List ℕ) (p : ℕ) → p ≤ most_processes → st.read text ≡ Ok (Acquire r false p false)
     → StaysLawful st g r answered phase answered (acquire_line st g r call job es text p phase).phase es (Line text) (acquire_line st g r call job es text p phase).effects
 acquire_stays st g r f call job phase answered es h text p small reads was cause =
     record { lawful = acquire_keeps st g r f call job phase answered es h text p small reads was.lawful (acquire_brings st g r call job es text p phase); caused = (cause, was.caused) }
@@ -118,6 +118,8 @@ told_brings : (st : Setting) (g : Given) (r : ResourceArg) → IsFirst st g r �
     → ToldFirst st g r call job d answered es a next → BallotBrings st g r (told_so es g a d answered) next
     → PhaseBrings st g r (told_so es g a d answered) (told_phase st g r call es d next) (told_entry st g r call d a next ∷ es) → EntryBrings st g r es (told_entry st g r call d a next)
 told_brings st g r f call job d answered es a Nothing t ballot brings = record { calls = tt; grants = tt }
+told_brings st g r f call job d answered es a (BecomeExclusive _ _) t ballot brings = record { calls = tt; grants = tt }
+told_brings st g r f call job d answered es a (BecomeShared _ _) t ballot brings = record { calls = tt; grants = tt }
 told_brings st g r f call job d answered es a (ReadFor step) t ballot brings =
     let k : Doing = record d { step = step; call = new_call (length es) g.renewed (blocks_read st r call d.job.number step) } in
     let at = at_call st g r f (call + 1) job k (told_so es g a d answered) es (Told d.call.call.number a) [] [] [] (blocks_read st r call d.job.number step) t.stands in

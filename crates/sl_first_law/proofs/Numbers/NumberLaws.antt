@@ -11,7 +11,7 @@ use Rattle.sl_first_law.specs.Numbers.Promises.{AnswersKeepNumbers, BallotsBegin
 use Rattle.sl_law.specs.Lawful.{IsSetting}
 use Rattle.sl_leases.specs.LeaseWork.{lease_next}
 use Rattle.sl_leases.specs.Leases.{block_of_record, is_leader_of, leader_of_record, lver_written, name_sought, verified_name}
-use Rattle.sl_leases.specs.declared.lease.LeaseNext.TheVariants.{AnswerJob, GrantJob, Nothing, ReadFor, WriteBlock, WriteLeader}
+use Rattle.sl_leases.specs.declared.lease.LeaseNext.TheVariants.{AnswerJob, BecomeExclusive, BecomeShared, GrantJob, Nothing, ReadFor, WriteBlock, WriteLeader}
 use Rattle.sl_leases.specs.declared.lease.LeaseNext.{LeaseNext}
 use Rattle.sl_sector.specs.declared.sector.Block.{Block}
 use Rattle.sl_sector.specs.declared.sector.Leader.{Leader}
@@ -100,6 +100,8 @@ next_keeps st g r f s call job d answered es h a fits n =
 
 phase_keeps : (st : Setting) (g : Given) (r : ResourceArg) (ms : List Submitted) (call : ℕ) (es : Trace) (d : Doing) (next : LeaseNext) → NextKeeps st g r ms next → PhaseKeeps ms (told_phase st g r call es d next)
 phase_keeps st g r ms call es d Nothing keeps = tt
+phase_keeps st g r ms call es d (BecomeExclusive _ _) keeps = tt
+phase_keeps st g r ms call es d (BecomeShared _ _) keeps = tt
 phase_keeps st g r ms call es d (ReadFor step) keeps = tt
 phase_keeps st g r ms call es d (WriteBlock step b) keeps = keeps.0
 phase_keeps st g r ms call es d (WriteLeader step l) keeps = keeps

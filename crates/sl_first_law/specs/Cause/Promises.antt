@@ -20,7 +20,7 @@ pub record LinesAreCaused : Type 0 where
       FirstStands st g r call job phase answered es → (text : List ℕ) (column : ℕ) → st.read text ≡ Err column →
       AnswersWell st es (first_entry g (Line text) (answers call job phase (Misread column)).effects)
   pub acquire : (st : Setting) (g : Given) (r : ResourceArg) → IsFirst st g r → (call job : ℕ) (phase : Phase) (answered : List Submitted) (es : Trace) →
-      FirstStands st g r call job phase answered es → (text : List ℕ) (p : ℕ) → p ≤ most_processes → st.read text ≡ Ok (Acquire r false p) →
+      FirstStands st g r call job phase answered es → (text : List ℕ) (p : ℕ) → p ≤ most_processes → st.read text ≡ Ok (Acquire r false p false) →
       AnswersWell st es (first_entry g (Line text) (acquire_line st g r call job es text p phase).effects)
   pub release : (st : Setting) (g : Given) (r : ResourceArg) → IsFirst st g r → (call job : ℕ) (phase : Phase) (answered : List Submitted) (es : Trace) →
       FirstStands st g r call job phase answered es → (text : List ℕ) (p : ℕ) → p ≤ most_processes → st.read text ≡ Ok (Release r p) →

@@ -5,7 +5,7 @@ use Rattle.sl_law.specs.LawfulCalls.{may_submit}
 use Rattle.sl_law.specs.LawfulDelta.{LawfulDeltaCall, is_on_own_sector}
 use Rattle.sl_law.specs.LawfulLeader.{LawfulLeaderWrite}
 use Rattle.sl_law.specs.LawfulModes.{LawfulMode}
-use Rattle.sl_law.specs.LawfulRecovery.{is_leaving_write}
+use Rattle.sl_law.specs.LawfulParting.{is_leaving_write}
 use Rattle.sl_law.specs.LawfulValue.{LawfulValueRead, LawfulValueWrite}
 use Rattle.sl_leases.specs.Leases.{Phase2_read, block_written, is_at, leader_written, spot_of_call, value_written}
 use Rattle.sl_sector.specs.declared.sector.Block.{Block}
@@ -19,15 +19,18 @@ use Rattle.sl_trace.specs.declared.effects.Purpose.TheVariants.{SeeRequest, Valu
 use Rattle.std.specs.Prelude.{IsFalse, IsTrue, Some, false, is_some, not, true, [], ℕ, ◌&&◌, ◌≡◌}
 use Rattle.sl_law.specs.LawfulGrant.{LawfulGrant}
 use Rattle.sl_law.specs.LawfulModes.{LawfulModeGrant}
-use Rattle.sl_law.specs.LawfulValue.{LawfulValueReply}
+use Rattle.sl_first_law.specs.Keeping.{is_heard}
+use Rattle.sl_law.specs.LawfulEnd.{LawfulEnding}
+use Rattle.sl_law.specs.LawfulValue.{LawfulSetReply, LawfulValueReply}
 use Rattle.sl_law.specs.Saying.{EachCall}
 use Rattle.sl_sector.specs.Records.{IsRecord}
 use Rattle.sl_sessions.specs.Sessions.{session_numbered}
 use Rattle.sl_trace.specs.declared.effects.Call.{Call}
+use Rattle.sl_trace.specs.declared.effects.End.{End}
 use Rattle.sl_trace.specs.declared.effects.Entry.{Entry}
 use Rattle.sl_trace.specs.declared.effects.Grant.{Grant}
 use Rattle.sl_trace.specs.declared.effects.JobReply.{JobReply}
-use Rattle.sl_trace.specs.declared.reply.Reply.TheVariants.{Value}
+use Rattle.sl_trace.specs.declared.reply.Reply.TheVariants.{Value, ValueSet}
 use Rattle.std.specs.Prelude.{Contains, IsSome, List, ◌∷◌}
 
 -- One field for what each law asks of a call of this session, at the trace as it stands there.
@@ -50,12 +53,15 @@ pub record CallIsLawful (st : Setting) (t : Trace) (s : Session) (c : Submitted)
   pub value : (v : ValueRec) → value_written c ≡ Some v → LawfulValueWrite st t s (spot_of_call st.layout c) v
   pub value_read : (j : ℕ) → c.call.purpose ≡ ValueRead j → LawfulValueRead st t s (spot_of_call st.layout c) c
 
--- What is asked of an entry beside its session: of each call, of each grant, of each reply.
+-- What is asked of an entry beside its session: of its input, of each call, of each grant, of each end, of each reply.
 pub record EntryIsLawful (st : Setting) (es : Trace) (e : Entry) : Type 0 where
   pub owned : (c : Call) → Contains e.effects.calls c → IsSome (session_numbered st (e ∷ es) c.session)
   pub spelled : (c : Call) (w : Rec) → Contains e.effects.calls c → record_of c.op ≡ Some w → IsRecord w
   pub calls : EachCall st (CallIsLawful st) es e
   pub granting : LawfulGrant st es e
+  pub heard : is_heard e.input ≡ true
+  pub ends : (x : End) → Contains e.effects.ends x → LawfulEnding st es e x
   pub modes : (x : Grant) (s : Session) → Contains e.effects.grants x → session_numbered st (e ∷ es) x.session ≡ Some s → LawfulModeGrant st es (e ∷ es) s x
   pub replies : (a : JobReply) (lver seq : ℕ) (bytes : List ℕ) → Contains e.effects.replies a → a.reply ≡ Value lver seq bytes →
       LawfulValueReply st es e a.job lver seq bytes
+  pub sets : (a : JobReply) (lver seq : ℕ) → Contains e.effects.replies a → a.reply ≡ ValueSet lver seq → LawfulSetReply es e a.job lver seq

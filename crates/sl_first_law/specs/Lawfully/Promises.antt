@@ -37,7 +37,7 @@ pub record LinesKeepLaws : Type 0 where
       FirstStands st g r call job phase answered es → (text : List ℕ) (column : ℕ) → st.read text ≡ Err column →
       KeepsLaws st g r es (Line text) (answers call job phase (Misread column)).effects
   pub acquire : (st : Setting) (g : Given) (r : ResourceArg) → IsFirst st g r → (call job : ℕ) (phase : Phase) (answered : List Submitted) (es : Trace) →
-      FirstStands st g r call job phase answered es → (text : List ℕ) (p : ℕ) → p ≤ most_processes → st.read text ≡ Ok (Acquire r false p) →
+      FirstStands st g r call job phase answered es → (text : List ℕ) (p : ℕ) → p ≤ most_processes → st.read text ≡ Ok (Acquire r false p false) →
       KeepsLaws st g r es (Line text) (acquire_line st g r call job es text p phase).effects
   pub release : (st : Setting) (g : Given) (r : ResourceArg) → IsFirst st g r → (call job : ℕ) (phase : Phase) (answered : List Submitted) (es : Trace) →
       FirstStands st g r call job phase answered es → (text : List ℕ) (p : ℕ) → p ≤ most_processes → st.read text ≡ Ok (Release r p) →
@@ -68,7 +68,7 @@ pub record LinesStayLawful : Type 0 where
       FirstStands st g r call job phase answered es → (text : List ℕ) (column : ℕ) → st.read text ≡ Err column →
       StaysLawful st g r answered phase answered phase es (Line text) (answers call job phase (Misread column)).effects
   pub acquire : (st : Setting) (g : Given) (r : ResourceArg) → IsFirst st g r → (call job : ℕ) (phase : Phase) (answered : List Submitted) (es : Trace) →
-      FirstStands st g r call job phase answered es → (text : List ℕ) (p : ℕ) → p ≤ most_processes → st.read text ≡ Ok (Acquire r false p) →
+      FirstStands st g r call job phase answered es → (text : List ℕ) (p : ℕ) → p ≤ most_processes → st.read text ≡ Ok (Acquire r false p false) →
       StaysLawful st g r answered phase answered (acquire_line st g r call job es text p phase).phase es (Line text) (acquire_line st g r call job es text p phase).effects
   pub release : (st : Setting) (g : Given) (r : ResourceArg) → IsFirst st g r → (call job : ℕ) (phase : Phase) (answered : List Submitted) (es : Trace) →
       FirstStands st g r call job phase answered es → (text : List ℕ) (p : ℕ) → p ≤ most_processes → st.read text ≡ Ok (Release r p) →

@@ -11,7 +11,7 @@ use Rattle.sl_trace.specs.declared.effects.Call.{Call}
 use Rattle.sl_trace.specs.declared.effects.Entry.{Entry}
 use Rattle.sl_trace.specs.declared.effects.Spot.{Spot}
 use Rattle.sl_trace.specs.declared.input.Answer.{Answer}
-use Rattle.sl_trace.specs.declared.input.Input.TheVariants.{Answer as Told, Exit, Line, Spawned, Wake}
+use Rattle.sl_trace.specs.declared.input.Input.TheVariants.{Answer as Told, Exit, Line, Number, Spawned, Wake}
 use Rattle.sl_trace.specs.declared.input.Input.{Input}
 use Rattle.std.proofs.Common.{ap, arith, refl, subst, suc, sym, ◌∙◌}
 use Rattle.std.specs.List.{range_with_len}
@@ -31,6 +31,7 @@ marked : (st : Setting) (es : Trace) (e : Entry) (i : Input) (ms : List Submitte
 marked st es e (Told n a) ms h = told st es e n a ms h
 marked st es e (Line text) ms h = (h, refl)
 marked st es e (Exit p) ms h = (h, refl)
+marked st es e (Number p) ms h = (h, refl)
 marked st es e (Spawned p ok) ms h = (h, refl)
 marked st es e Wake ms h = (h, refl)
 

@@ -3,7 +3,7 @@ use Rattle.sl_first.specs.FirstPath.{Doing}
 use Rattle.sl_first.specs.FirstSteps.{Phase, Works}
 use Rattle.sl_first_law.proofs.Numbers.Keeps.{kept_more}
 use Rattle.sl_leases.specs.Leases.{Phase1_write, kind_of_step, same_kind}
-use Rattle.sl_leases.specs.declared.lease.LeaseNext.TheVariants.{AnswerJob, GrantJob, Nothing, ReadFor, WriteBlock, WriteLeader}
+use Rattle.sl_leases.specs.declared.lease.LeaseNext.TheVariants.{AnswerJob, BecomeExclusive, BecomeShared, GrantJob, Nothing, ReadFor, WriteBlock, WriteLeader}
 use Rattle.sl_leases.specs.declared.lease.LeaseNext.{LeaseNext}
 use Rattle.sl_law.specs.LawfulBlock.{LawfulPhase1}
 use Rattle.sl_sector.specs.declared.sector.Block.{Block}
@@ -42,6 +42,8 @@ block_begins st l ms t at c step k b begins is same =
 next_begins : (st : Setting) (l : StillLease) (r : ResourceArg) (call : ℕ) (es : Trace) (d : Doing) (ms : List Submitted) (next : LeaseNext) → NextBegins st l ms next
     → (t : Trace) → AtLease st l ms t → WorkBegins st l t (lease_phase st l r call es d next)
 next_begins st l r call es d ms Nothing begins t at = tt
+next_begins st l r call es d ms (BecomeExclusive _ _) begins t at = tt
+next_begins st l r call es d ms (BecomeShared _ _) begins t at = tt
 next_begins st l r call es d ms (ReadFor step) begins t at = λ is b writes. absurd (none_some b writes)
 next_begins st l r call es d ms (WriteBlock step k) begins t at = λ is b writes. block_begins st l ms t at _ step k b begins is (some_value k b writes)
 next_begins st l r call es d ms (WriteLeader step w) begins t at = λ is b writes. absurd (none_some b writes)

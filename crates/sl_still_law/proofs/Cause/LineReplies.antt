@@ -65,7 +65,7 @@ pub record Names (c : Command) (r : ResourceArg) (p : ℕ) : Type 0 where
   pub process : process_named c ≡ Some p
   pub plain : is_joining_command c ≡ false
 
-acquire_names : (r : ResourceArg) (p : ℕ) → Names (Acquire r false p) r p
+acquire_names : (r : ResourceArg) (p : ℕ) → Names (Acquire r false p false) r p
 acquire_names r p = record { space = refl; resource = refl; process = refl; plain = refl }
 
 release_names : (r : ResourceArg) (p : ℕ) → Names (Release r p) r p
@@ -96,14 +96,14 @@ no_process : (st : Setting) (now : ℕ) (es : Trace) (text : List ℕ) (c : Comm
 no_process st now es text c r p reads names out =
     inr (refl, out, with_command (at_line st now es text (NoProcess p)) c (λ c. process_named c ≡ Some p) reads names.process)
 
-holder_there : (st : Setting) (now : ℕ) (es : Trace) (text : List ℕ) (r : ResourceArg) (p q : ℕ) → st.read text ≡ Ok (Acquire r false p)
+holder_there : (st : Setting) (now : ℕ) (es : Trace) (text : List ℕ) (r : ResourceArg) (p q : ℕ) → st.read text ≡ Ok (Acquire r false p false)
     → busy_process (before_next now es) (spot_of r) (Some p) false ≡ Some q → LineIsCaused st now es text (Busy q)
 holder_there st now es text r p q reads busy =
     let x : Answering = at_line st now es text (Busy q) in
     let t : Trace = before_next now es in (
       refl,
-      with_command x (Acquire r false p) (λ c. IsTrue (is_asking_lease c) × WithSpot x (λ b at. busy_process t at (process_named c) (wants_shared c) ≡ Some q)) reads
-          (refl, with_spot x (Acquire r false p) r (λ b at. busy_process t at (Some p) false ≡ Some q) reads refl busy),
+      inl (with_command x (Acquire r false p false) (λ c. IsTrue (is_asking_lease c) × WithSpot x (λ b at. busy_process t at (process_named c) (wants_shared c) ≡ Some q)) reads
+          (refl, with_spot x (Acquire r false p false) r (λ b at. busy_process t at (Some p) false ≡ Some q) reads refl busy)),
     )
 
 call_there : (st : Setting) (now : ℕ) (es : Trace) (text : List ℕ) (c : Command) (r : ResourceArg) (p n : ℕ) → st.read text ≡ Ok c → Names c r p
@@ -116,22 +116,22 @@ abbrev LimitThere : Setting → ℕ → Trace → Limited → Answering → Sess
 LimitThere st now es which x s =
     job_command x (λ c. IsTrue (is_asking_lease c) × WithSpot x (λ r at. limit_met st (before_next now es) s at (is_program c) ≡ Some which))
 
-limit_there : (st : Setting) (now : ℕ) (es : Trace) (text : List ℕ) (r : ResourceArg) (p : ℕ) (s : Session) → st.read text ≡ Ok (Acquire r false p)
+limit_there : (st : Setting) (now : ℕ) (es : Trace) (text : List ℕ) (r : ResourceArg) (p : ℕ) (s : Session) → st.read text ≡ Ok (Acquire r false p false)
     → session_named st (before_next now es) r.lockspace ≡ Some s → (which : Limited) → is_still_limit which ≡ true → limit_met st (before_next now es) s (spot_of r) false ≡ Some which
     → LineIsCaused st now es text (LimitReached which)
 limit_there st now es text r p s reads named Resources fits met =
     let x : Answering = at_line st now es text (LimitReached Resources) in (
       refl,
-      with_session x s (LimitThere st now es Resources x) (session_at st now es text (LimitReached Resources) (Acquire r false p) r p reads (acquire_names r p) ∙ named)
-          (with_command x (Acquire r false p) (λ c. IsTrue (is_asking_lease c) × WithSpot x (λ r at. limit_met st (before_next now es) s at (is_program c) ≡ Some Resources)) reads
-          (refl, with_spot x (Acquire r false p) r (λ b at. limit_met st (before_next now es) s at false ≡ Some Resources) reads refl met)),
+      with_session x s (LimitThere st now es Resources x) (session_at st now es text (LimitReached Resources) (Acquire r false p false) r p reads (acquire_names r p) ∙ named)
+          (with_command x (Acquire r false p false) (λ c. IsTrue (is_asking_lease c) × WithSpot x (λ r at. limit_met st (before_next now es) s at (is_program c) ≡ Some Resources)) reads
+          (refl, with_spot x (Acquire r false p false) r (λ b at. limit_met st (before_next now es) s at false ≡ Some Resources) reads refl met)),
     )
 limit_there st now es text r p s reads named Holders fits met =
     let x : Answering = at_line st now es text (LimitReached Holders) in (
       refl,
-      with_session x s (LimitThere st now es Holders x) (session_at st now es text (LimitReached Holders) (Acquire r false p) r p reads (acquire_names r p) ∙ named)
-          (with_command x (Acquire r false p) (λ c. IsTrue (is_asking_lease c) × WithSpot x (λ r at. limit_met st (before_next now es) s at (is_program c) ≡ Some Holders)) reads
-          (refl, with_spot x (Acquire r false p) r (λ b at. limit_met st (before_next now es) s at false ≡ Some Holders) reads refl met)),
+      with_session x s (LimitThere st now es Holders x) (session_at st now es text (LimitReached Holders) (Acquire r false p false) r p reads (acquire_names r p) ∙ named)
+          (with_command x (Acquire r false p false) (λ c. IsTrue (is_asking_lease c) × WithSpot x (λ r at. limit_met st (before_next now es) s at (is_program c) ≡ Some Holders)) reads
+          (refl, with_spot x (Acquire r false p false) r (λ b at. limit_met st (before_next now es) s at false ≡ Some Holders) reads refl met)),
     )
 limit_there st now es text r p s reads named which fits met = absurd (false_is_true fits)
 
@@ -175,7 +175,7 @@ refusal_caused st now es text c r p reads names why line (For_nothing_held s is 
 command_caused : (st : Setting) (now : ℕ) (es : Trace) (text : List ℕ) (c : Command) → st.read text ≡ Ok c → IsStillCommand st (Ok c)
     → (why : Reply) → is_line_reply why ≡ true → decided st (before_next now es) now c ≡ Replies why → LineIsCaused st now es text why
 command_caused st now es text c reads (r, p, of, inl is) why line says =
-    refusal_caused st now es text (Acquire r false p) r p (reads ∙ ap (λ d. Ok d) is) (acquire_names r p) why line
+    refusal_caused st now es text (Acquire r false p false) r p (reads ∙ ap (λ d. Ok d) is) (acquire_names r p) why line
     (acquire_refused st (before_next now es) now r p why line (ap (λ d. decided st (before_next now es) now d) (sym is) ∙ says))
 command_caused st now es text c reads (r, p, of, inr is) why line says =
     refusal_caused st now es text (Release r p) r p (reads ∙ ap (λ d. Ok d) is) (release_names r p) why line

@@ -54,7 +54,7 @@ stop_well lease x c answered bytes step command h phase blocks own given known (
 
 -- The read of phase 1, for an acquire of the resource.
 abbrev Phase1Heard : StillLease → ResourceArg → Answering → Submitted → List Submitted → List ℕ → ℕ → Type 0
-Phase1Heard lease r x c answered bytes p = Hears lease x c answered (Read bytes) Phase1Read (Acquire r false p)
+Phase1Heard lease r x c answered bytes p = Hears lease x c answered (Read bytes) Phase1Read (Acquire r false p false)
 
 shared_well : (lease : StillLease) (r : ResourceArg) (x : Answering) (c : Submitted) (answered : List Submitted) (bytes : List ℕ) (p : ℕ) → Phase1Heard lease r x c answered bytes p
     → (own : Block) → block_submitted (c ∷ answered) ≡ Some own → stop_of own (blocks_in x.setting.layout bytes) ≡ None
@@ -65,11 +65,11 @@ shared_well : (lease : StillLease) (r : ResourceArg) (x : Answering) (c : Submit
     ])
 shared_well lease r x c answered bytes p h own known clear None none = tt
 shared_well lease r x c answered bytes p h own known clear (Some b) some =
-    reads_blocks lease x c answered bytes Phase1Read (Acquire r false p) h (blocks_in x.setting.layout bytes) own (phase1_given lease x c answered bytes (Acquire r false p) h) (own_is lease.given x (c ∷ answered) own known)
+    reads_blocks lease x c answered bytes Phase1Read (Acquire r false p false) h (blocks_in x.setting.layout bytes) own (phase1_given lease x c answered bytes (Acquire r false p false) h) (own_is lease.given x (c ∷ answered) own known)
     (λ s c blocks own. IsTrue (is_at Phase1_read c) × job_command x (λ a. wants_shared a ≡ false) × (stop_of own blocks ≡ None) × (d : Block)
     × (shared_elsewhere (known_here x s c) blocks ≡ Some d) × (d.host ≡ b.host) × (d.mode_gen ≡ b.mode_gen)) (
-      at_step lease x c answered (Read bytes) Phase1Read (Acquire r false p) h Phase1_read refl,
-      with_command x (Acquire r false p) (λ a. wants_shared a ≡ false) h.commanded refl,
+      at_step lease x c answered (Read bytes) Phase1Read (Acquire r false p false) h Phase1_read refl,
+      with_command x (Acquire r false p false) (λ a. wants_shared a ≡ false) h.commanded refl,
       clear,
       b,
       ap (λ k. shared_elsewhere k (blocks_in x.setting.layout bytes)) h.knows ∙ some,
@@ -82,8 +82,8 @@ phase1_by : (lease : StillLease) (r : ResourceArg) (x : Answering) (c : Submitte
     → IsWell x (after_phase1 (first_place x.setting lease.given) (first_known x.setting lease.given (c ∷ answered)) (Acquires Exclusive) own (blocks_in x.setting.layout bytes) s)
 phase1_by lease r x c answered bytes p h own known None clear = shared_well lease r x c answered bytes p h own known clear _ refl
 phase1_by lease r x c answered bytes p h own known (Some stop) is =
-    stop_well lease x c answered bytes Phase1Read (Acquire r false p) h (phase_step lease x c answered (Read bytes) Phase1Read (Acquire r false p) h refl)
-    (blocks_in x.setting.layout bytes) own (phase1_given lease x c answered bytes (Acquire r false p) h) known stop is
+    stop_well lease x c answered bytes Phase1Read (Acquire r false p false) h (phase_step lease x c answered (Read bytes) Phase1Read (Acquire r false p false) h refl)
+    (blocks_in x.setting.layout bytes) own (phase1_given lease x c answered bytes (Acquire r false p false) h) known stop is
 
 -- What the read of phase 1 leads to has its cause.
 pub phase1_well : (lease : StillLease) (r : ResourceArg) (x : Answering) (c : Submitted) (answered : List Submitted) (bytes : List ℕ) (p : ℕ) → Phase1Heard lease r x c answered bytes p
@@ -96,18 +96,18 @@ phase1_well lease r x c answered bytes p h (Some own) known = phase1_by lease r 
 
 -- The read of phase 2, for an acquire of the resource.
 abbrev Phase2Heard : StillLease → ResourceArg → Answering → Submitted → List Submitted → List ℕ → ℕ → Type 0
-Phase2Heard lease r x c answered bytes p = Hears lease x c answered (Read bytes) Phase2Read (Acquire r false p)
+Phase2Heard lease r x c answered bytes p = Hears lease x c answered (Read bytes) Phase2Read (Acquire r false p false)
 
 phase2_blocks : (lease : StillLease) (r : ResourceArg) (x : Answering) (c : Submitted) (answered : List Submitted) (bytes : List ℕ) (p : ℕ) → Phase2Heard lease r x c answered bytes p
     → last_blocks x.setting.layout (c ∷ answered) ≡ blocks_in x.setting.layout bytes
 phase2_blocks lease r x c answered bytes p h =
     ap (λ (o : Option (List (Option Block))). elim o as (λ z. List (Option Block)) [ Some bs ↦ bs | None ↦ last_blocks x.setting.layout answered ])
-    (phase2_given lease x c answered bytes (Acquire r false p) h)
+    (phase2_given lease x c answered bytes (Acquire r false p false) h)
 
 -- The ballot ended with its own block's value.
 ends : (lease : StillLease) (r : ResourceArg) (x : Answering) (c : Submitted) (answered : List Submitted) (bytes : List ℕ) (p : ℕ) → Phase2Heard lease r x c answered bytes p
     → (own : Block) → stop_of own (blocks_in x.setting.layout bytes) ≡ None → EndsWith x (lease_session lease) c (blocks_in x.setting.layout bytes) own own.lver (value_of own)
-ends lease r x c answered bytes p h own clear = (at_step lease x c answered (Read bytes) Phase2Read (Acquire r false p) h Phase2_read refl, clear, refl, refl)
+ends lease r x c answered bytes p h own clear = (at_step lease x c answered (Read bytes) Phase2Read (Acquire r false p false) h Phase2_read refl, clear, refl, refl)
 
 lost_well : (lease : StillLease) (r : ResourceArg) (x : Answering) (c : Submitted) (answered : List Submitted) (bytes : List ℕ) (p : ℕ) → Phase2Heard lease r x c answered bytes p
     → (own : Block) → block_submitted (c ∷ answered) ≡ Some own → stop_of own (blocks_in x.setting.layout bytes) ≡ None → (over : Bool) → first_over lease.given own.inp own.inp_gen ≡ over
@@ -116,11 +116,11 @@ lost_well : (lease : StillLease) (r : ResourceArg) (x : Answering) (c : Submitte
       | false ↦ AnswerJob (HeldBy own.lver (value_of own))
     ])
 lost_well lease r x c answered bytes p h own known clear true over =
-    begin_well lease x c answered bytes Phase2Read (Acquire r false p) h (blocks_in x.setting.layout bytes) own (phase2_given lease x c answered bytes (Acquire r false p) h) (own_is lease.given x (c ∷ answered) own known)
+    begin_well lease x c answered bytes Phase2Read (Acquire r false p false) h (blocks_in x.setting.layout bytes) own (phase2_given lease x c answered bytes (Acquire r false p false) h) (own_is lease.given x (c ∷ answered) own known)
     (phase2_blocks lease r x c answered bytes p h) (own.lver + 1)
     (inr (value_of own, own.lver, ends lease r x c answered bytes p h own clear, refl, ap (λ q. q own.inp own.inp_gen) h.over ∙ over))
 lost_well lease r x c answered bytes p h own known clear false over =
-    reads_blocks lease x c answered bytes Phase2Read (Acquire r false p) h (blocks_in x.setting.layout bytes) own (phase2_given lease x c answered bytes (Acquire r false p) h) (own_is lease.given x (c ∷ answered) own known)
+    reads_blocks lease x c answered bytes Phase2Read (Acquire r false p false) h (blocks_in x.setting.layout bytes) own (phase2_given lease x c answered bytes (Acquire r false p false) h) (own_is lease.given x (c ∷ answered) own known)
     (λ s c blocks b. ShowsInstance x s c blocks b (HeldAlready own.lver (value_of own))
     ⊎ (EndsWith x s c blocks b own.lver (value_of own) × IsFalse (counts_over x.setting (after_entry x) s own.inp own.inp_gen)))
     (inr (ends lease r x c answered bytes p h own clear, ap (λ q. q own.inp own.inp_gen) h.over ∙ over))
@@ -139,8 +139,8 @@ phase2_by : (lease : StillLease) (r : ResourceArg) (x : Answering) (c : Submitte
     → IsWell x (after_phase2 (first_place x.setting lease.given) (first_known x.setting lease.given (c ∷ answered)) (Acquires Exclusive) own s)
 phase2_by lease r x c answered bytes p h own known None clear = ended_well lease r x c answered bytes p h own known clear (same_owner (value_of own) (first_known x.setting lease.given (c ∷ answered)).self)
 phase2_by lease r x c answered bytes p h own known (Some stop) is =
-    stop_well lease x c answered bytes Phase2Read (Acquire r false p) h (phase_step lease x c answered (Read bytes) Phase2Read (Acquire r false p) h refl)
-    (blocks_in x.setting.layout bytes) own (phase2_given lease x c answered bytes (Acquire r false p) h) known stop is
+    stop_well lease x c answered bytes Phase2Read (Acquire r false p false) h (phase_step lease x c answered (Read bytes) Phase2Read (Acquire r false p false) h refl)
+    (blocks_in x.setting.layout bytes) own (phase2_given lease x c answered bytes (Acquire r false p false) h) known stop is
 
 -- What the read of phase 2 leads to has its cause.
 pub phase2_well : (lease : StillLease) (r : ResourceArg) (x : Answering) (c : Submitted) (answered : List Submitted) (bytes : List ℕ) (p : ℕ) → Phase2Heard lease r x c answered bytes p

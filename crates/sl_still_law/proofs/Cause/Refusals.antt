@@ -29,9 +29,9 @@ use Rattle.std.specs.Prelude.{Bool, List, None, Option, Some, false, if◌then�
 pub data RefusedFor (st : Setting) (t : Trace) (c : Command) (r : ResourceArg) (p : ℕ) : Reply → Type 0 where
   For_no_session : session_named st t r.lockspace ≡ None → RefusedFor st t c r p NoSession
   For_process : may_act t p ≡ false → RefusedFor st t c r p (NoProcess p)
-  For_holder : (q : ℕ) → c ≡ Acquire r false p → busy_process t (spot_of r) (Some p) false ≡ Some q → RefusedFor st t c r p (Busy q)
+  For_holder : (q : ℕ) → c ≡ Acquire r false p false → busy_process t (spot_of r) (Some p) false ≡ Some q → RefusedFor st t c r p (Busy q)
   For_call : (n : ℕ) → pending_call st t (spot_of r) ≡ Some n → RefusedFor st t c r p (Pending n)
-  For_limit : (s : Session) (which : Limited) → c ≡ Acquire r false p → session_named st t r.lockspace ≡ Some s → limit_met st t s (spot_of r) false ≡ Some which →
+  For_limit : (s : Session) (which : Limited) → c ≡ Acquire r false p false → session_named st t r.lockspace ≡ Some s → limit_met st t s (spot_of r) false ≡ Some which →
       RefusedFor st t c r p (LimitReached which)
   For_nothing_held : (s : Session) → c ≡ Release r p → session_named st t r.lockspace ≡ Some s → holding_of t s (spot_of r) p (λ g. true) ≡ None →
       RefusedFor st t c r p NotHeld
@@ -69,16 +69,16 @@ by_call st t c r p why h =
 
 -- ---- an acquire
 
-by_holder : (st : Setting) (t : Trace) (r : ResourceArg) (p : ℕ) (why : Reply) → busy_refusal t (spot_of r) (Some p) false ≡ Some why → RefusedFor st t (Acquire r false p) r p why
+by_holder : (st : Setting) (t : Trace) (r : ResourceArg) (p : ℕ) (why : Reply) → busy_refusal t (spot_of r) (Some p) false ≡ Some why → RefusedFor st t (Acquire r false p false) r p why
 by_holder st t r p why h =
     let some = mapped_some (λ n. Busy n) (busy_process t (spot_of r) (Some p) false) why h in
-    subst (λ w. RefusedFor st t (Acquire r false p) r p w) some.2 (For_holder some.0 refl some.1)
+    subst (λ w. RefusedFor st t (Acquire r false p false) r p w) some.2 (For_holder some.0 refl some.1)
 
 by_limit : (st : Setting) (t : Trace) (s : Session) (r : ResourceArg) (p : ℕ) (why : Reply) → session_named st t r.lockspace ≡ Some s → limit_refusal st t s (spot_of r) false ≡ Some why
-    → RefusedFor st t (Acquire r false p) r p why
+    → RefusedFor st t (Acquire r false p false) r p why
 by_limit st t s r p why named h =
     let some = mapped_some (λ l. LimitReached l) (limit_met st t s (spot_of r) false) why h in
-    subst (λ w. RefusedFor st t (Acquire r false p) r p w) some.2 (For_limit s some.0 refl named some.1)
+    subst (λ w. RefusedFor st t (Acquire r false p false) r p w) some.2 (For_limit s some.0 refl named some.1)
 
 -- What is left of the refusals of an acquire once some are passed.
 abbrev after_process : Setting → Trace → Session → ResourceArg → ℕ → Decision
@@ -86,15 +86,15 @@ after_process st t s r p =
     unless_refused (busy_refusal t (spot_of r) (Some p) false ∷ pending_refusal st t (spot_of r) ∷ limit_refusal st t s (spot_of r) false ∷ []) (acquiring t s r false)
 
 acquire_late : (st : Setting) (t : Trace) (s : Session) (r : ResourceArg) (p : ℕ) (why : Reply) → session_named st t r.lockspace ≡ Some s → after_process st t s r p ≡ Replies why
-    → RefusedFor st t (Acquire r false p) r p why
+    → RefusedFor st t (Acquire r false p false) r p why
 acquire_late st t s r p why named h =
     elim (first_or_rest (busy_refusal t (spot_of r) (Some p) false) (unless_refused (pending_refusal st t (spot_of r) ∷ limit_refusal st t s (spot_of r) false ∷ []) (acquiring t s r false)) why h)
-    as (λ z. RefusedFor st t (Acquire r false p) r p why) [
+    as (λ z. RefusedFor st t (Acquire r false p false) r p why) [
       | inl busy ↦ by_holder st t r p why busy
       | inr late ↦ elim (first_or_rest (pending_refusal st t (spot_of r)) (unless_refused (limit_refusal st t s (spot_of r) false ∷ []) (acquiring t s r false)) why late)
-          as (λ z. RefusedFor st t (Acquire r false p) r p why) [
-            | inl pending ↦ by_call st t (Acquire r false p) r p why pending
-            | inr last ↦ elim (first_or_rest (limit_refusal st t s (spot_of r) false) (acquiring t s r false) why last) as (λ z. RefusedFor st t (Acquire r false p) r p why) [
+          as (λ z. RefusedFor st t (Acquire r false p false) r p why) [
+            | inl pending ↦ by_call st t (Acquire r false p false) r p why pending
+            | inr last ↦ elim (first_or_rest (limit_refusal st t s (spot_of r) false) (acquiring t s r false) why last) as (λ z. RefusedFor st t (Acquire r false p false) r p why) [
               | inl limited ↦ by_limit st t s r p why named limited
               | inr begins ↦ absurd (not_replied (Reads_area s r) why refl begins)
             ]
@@ -103,24 +103,24 @@ acquire_late st t s r p why named h =
 
 acquire_early : (st : Setting) (t : Trace) (s : Session) (r : ResourceArg) (p : ℕ) (why : Reply) → is_line_reply why ≡ true → session_named st t r.lockspace ≡ Some s
     → unless_refused (session_refusal st t s ∷ process_refusal t p ∷ busy_refusal t (spot_of r) (Some p) false ∷ pending_refusal st t (spot_of r) ∷ limit_refusal st t s (spot_of r) false ∷ []) (acquiring t s r false) ≡ Replies why
-    → RefusedFor st t (Acquire r false p) r p why
+    → RefusedFor st t (Acquire r false p false) r p why
 acquire_early st t s r p why line named h =
-    elim (first_or_rest (session_refusal st t s) (unless_refused (process_refusal t p ∷ []) (after_process st t s r p)) why h) as (λ z. RefusedFor st t (Acquire r false p) r p why) [
+    elim (first_or_rest (session_refusal st t s) (unless_refused (process_refusal t p ∷ []) (after_process st t s r p)) why h) as (λ z. RefusedFor st t (Acquire r false p false) r p why) [
       | inl state ↦ absurd (state_refuses (is_joined t s) (is_active st t s) (last_renewal st t s) why state line)
-      | inr on ↦ elim (first_or_rest (process_refusal t p) (after_process st t s r p) why on) as (λ z. RefusedFor st t (Acquire r false p) r p why) [
-        | inl process ↦ by_process st t (Acquire r false p) r p why process
+      | inr on ↦ elim (first_or_rest (process_refusal t p) (after_process st t s r p) why on) as (λ z. RefusedFor st t (Acquire r false p false) r p why) [
+        | inl process ↦ by_process st t (Acquire r false p false) r p why process
         | inr late ↦ acquire_late st t s r p why named late
       ]
     ]
 
 acquire_of : (st : Setting) (t : Trace) (r : ResourceArg) (p : ℕ) (why : Reply) → is_line_reply why ≡ true → (o : Option Session) → session_named st t r.lockspace ≡ o
     → with_session o (λ s. unless_refused (session_refusal st t s ∷ process_refusal t p ∷ busy_refusal t (spot_of r) (Some p) false ∷ pending_refusal st t (spot_of r) ∷ limit_refusal st t s (spot_of r) false ∷ []) (acquiring t s r false)) ≡ Replies why
-    → RefusedFor st t (Acquire r false p) r p why
-acquire_of st t r p why line None named h = subst (λ w. RefusedFor st t (Acquire r false p) r p w) (replied NoSession why h) (For_no_session named)
+    → RefusedFor st t (Acquire r false p false) r p why
+acquire_of st t r p why line None named h = subst (λ w. RefusedFor st t (Acquire r false p false) r p w) (replied NoSession why h) (For_no_session named)
 acquire_of st t r p why line (Some s) named h = acquire_early st t s r p why line named h
 
-pub acquire_refused : (st : Setting) (t : Trace) (now : ℕ) (r : ResourceArg) (p : ℕ) (why : Reply) → is_line_reply why ≡ true → decided st t now (Acquire r false p) ≡ Replies why
-    → RefusedFor st t (Acquire r false p) r p why
+pub acquire_refused : (st : Setting) (t : Trace) (now : ℕ) (r : ResourceArg) (p : ℕ) (why : Reply) → is_line_reply why ≡ true → decided st t now (Acquire r false p false) ≡ Replies why
+    → RefusedFor st t (Acquire r false p false) r p why
 unfolding decided
 acquire_refused st t now r p why line h = acquire_of st t r p why line (session_named st t r.lockspace) refl h
 

@@ -52,5 +52,5 @@ begins_fresh st g ms kept named r c next (Begins_phase1 p n own nm known why) = 
     (begins_above st g ms kept own known n why)
 begins_fresh st g ms kept named r c next (Begins_phase2 p own read nm known clear alone) = λ b is. absurd cc
 begins_fresh st g ms kept named r c next (Takes p own read nm known clear mine) = λ b is. absurd cc
-begins_fresh st g ms kept named r c next (Grants p lver nm) = λ b is. absurd cc
+begins_fresh st g ms kept named r c next (Grants p lver nm taken) = λ b is. absurd cc
 begins_fresh st g ms kept named r c next (Replies_late d why late) = λ b is. absurd cc

@@ -7,7 +7,7 @@ use Rattle.sl_first_law.proofs.Numbers.LineNumbers.{given_up}
 use Rattle.sl_first_law.proofs.Numbers.NumberLaws.{step_keeps}
 use Rattle.sl_first_law.specs.Numbers.Numbers.{NumbersStand, PhaseKeeps}
 use Rattle.sl_law.specs.Lawful.{IsSetting}
-use Rattle.sl_leases.specs.declared.lease.LeaseNext.TheVariants.{AnswerJob, GrantJob, Nothing, ReadFor, WriteBlock, WriteLeader}
+use Rattle.sl_leases.specs.declared.lease.LeaseNext.TheVariants.{AnswerJob, BecomeExclusive, BecomeShared, GrantJob, Nothing, ReadFor, WriteBlock, WriteLeader}
 use Rattle.sl_leases.specs.declared.lease.LeaseNext.{LeaseNext}
 use Rattle.sl_still.proofs.Lone.{lone_first, lone_setting}
 use Rattle.sl_still.specs.StillLeases.{LeaseStands}
@@ -25,7 +25,7 @@ use Rattle.std.specs.Prelude.{List, false, true, ℕ, ◌≡◌}
 
 -- A read of the area may always be submitted.
 pub begun_numbers : (st : Setting) (l : StillLease) (was r : ResourceArg) (answered : List Submitted) (es : Trace) (text : List ℕ) (p : ℕ) → NumbersStand (lone st l.given) l.given was answered Idle
-    → NumbersStand (lone st l.given) l.given r answered (line_work st l es text (Acquire r false p) (ReadArea r.name) (area_read st l r es))
+    → NumbersStand (lone st l.given) l.given r answered (line_work st l es text (Acquire r false p false) (ReadArea r.name) (area_read st l r es))
 begun_numbers st l was r answered es text p n = record { begun = n.begun; frees = n.frees; standing = tt }
 
 -- The leader that a release frees is of the own block's instance.
@@ -46,6 +46,8 @@ told_kept st l r es d answered a n = kept_more es l.given a d.call answered n.be
 phase_numbers : (st : Setting) (l : StillLease) (r : ResourceArg) (ms : List Submitted) (call : ℕ) (es : Trace) (d : Doing) (next : LeaseNext) → NextKeeps (lone st l.given) l.given r ms next
     → PhaseKeeps ms (lease_phase st l r call es d next)
 phase_numbers st l r ms call es d Nothing keeps = tt
+phase_numbers st l r ms call es d (BecomeExclusive _ _) keeps = tt
+phase_numbers st l r ms call es d (BecomeShared _ _) keeps = tt
 phase_numbers st l r ms call es d (ReadFor step) keeps = tt
 phase_numbers st l r ms call es d (WriteBlock step b) keeps = keeps.0
 phase_numbers st l r ms call es d (WriteLeader step w) keeps = keeps

@@ -7,7 +7,7 @@ use Rattle.sl_first_law.proofs.Ballot.WaysLaws.{same_itself}
 use Rattle.sl_first_law.specs.Ballot.Ways.{HasLeader, ballot_place}
 use Rattle.sl_first_law.proofs.Numbers.Keeps.{AreKept}
 use Rattle.sl_leases.specs.Leases.{kind_of_step}
-use Rattle.sl_leases.specs.declared.lease.LeaseNext.TheVariants.{AnswerJob, GrantJob, Nothing, ReadFor, WriteBlock, WriteLeader}
+use Rattle.sl_leases.specs.declared.lease.LeaseNext.TheVariants.{AnswerJob, BecomeExclusive, BecomeShared, GrantJob, Nothing, ReadFor, WriteBlock, WriteLeader}
 use Rattle.sl_leases.specs.declared.lease.LeaseNext.{LeaseNext}
 use Rattle.sl_still.specs.StillLeases.{LeaseStands}
 use Rattle.sl_still.specs.StillPath.{StillLease, lone}
@@ -25,7 +25,7 @@ use Rattle.std.specs.Prelude.{List, false, true, ℕ, ◌+◌, ◌≡◌}
 -- ---- lines
 
 pub begun_ways : (st : Setting) (l : StillLease) (r : ResourceArg) (answered : List Submitted) (es : Trace) (text : List ℕ) (p : ℕ)
-    → LeaseWays st l answered (line_work st l es text (Acquire r false p) (ReadArea r.name) (area_read st l r es))
+    → LeaseWays st l answered (line_work st l es text (Acquire r false p false) (ReadArea r.name) (area_read st l r es))
 begun_ways st l r answered es text p = record { for_job = refl; stands = (st.layout.hosts + 2, refl) }
 
 pub freed_ways : (st : Setting) (l : StillLease) (r : ResourceArg) (p lver : ℕ) (answered : List Submitted) (es : Trace) (text : List ℕ) → HasLeader (lone st l.given) l.given answered lver
@@ -37,6 +37,8 @@ freed_ways st l r p lver answered es text held = record { for_job = refl; stands
 phase_ways : (st : Setting) (l : StillLease) (r : ResourceArg) (ms : List Submitted) (call : ℕ) (es : Trace) (d : Doing) (next : LeaseNext) → NextStands (lone st l.given) l.given es ms next
     → LeaseWays st l ms (lease_phase st l r call es d next)
 phase_ways st l r ms call es d Nothing h = tt
+phase_ways st l r ms call es d (BecomeExclusive _ _) h = tt
+phase_ways st l r ms call es d (BecomeShared _ _) h = tt
 phase_ways st l r ms call es d (ReadFor step) h = record { for_job = refl; stands = h _ refl (same_itself (kind_of_step step)) refl }
 phase_ways st l r ms call es d (WriteBlock step b) h = record { for_job = refl; stands = h _ (same_itself (kind_of_step step)) refl }
 phase_ways st l r ms call es d (WriteLeader step w) h = record { for_job = refl; stands = h _ (same_itself (kind_of_step step)) refl }

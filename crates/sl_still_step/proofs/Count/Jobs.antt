@@ -5,7 +5,7 @@ use Rattle.sl_leases.specs.Counts.{ungranted}
 use Rattle.sl_leases.specs.Jobs.{is_asking_lease, is_command_that}
 use Rattle.sl_plain.proofs.Lists.{filter_both}
 use Rattle.sl_still.proofs.Growing.{filter_swap}
-use Rattle.sl_trace.specs.Traces.{Child, Job, Setting, Trace, children, is_running, job_in, job_numbered, jobs, line_in, running_jobs}
+use Rattle.sl_trace.specs.Traces.{Child, Job, Setting, Trace, children, is_running, job_in, job_numbered, jobs, line_in, running_jobs, next_job, numbers_taken, takes_number}
 use Rattle.sl_trace.specs.declared.command.Command.{Command}
 use Rattle.sl_trace.specs.declared.effects.Entry.{Entry}
 use Rattle.sl_trace.specs.declared.effects.JobReply.{JobReply}
@@ -18,51 +18,73 @@ use Rattle.std.proofs.Math.Path.{fun_ext}
 use Rattle.std.proofs.lemmas.List.Filters.{length-filter_both}
 use Rattle.std.proofs.lemmas.List.Sums.{length-filter, sum_by_push}
 use Rattle.std.specs.List.{count_by}
-use Rattle.std.specs.Prelude.{Bool, List, None, Option, Some, [], false, filter, find, if◌then◌else◌, is_none, is_some, length, not, option_map, true, ℕ, ◌&&◌, ◌++◌, ◌+◌, ◌<◌, ◌==◌, ◌∷◌, ◌≡◌}
+use Rattle.sl_trace.specs.declared.input.Input.TheVariants.{Answer as Told, Exit, Line, Number, Spawned, Wake}
+use Rattle.sl_trace.specs.declared.input.Input.{Input}
+use Rattle.std.specs.Prelude.{Bool, List, None, Option, Some, [], false, filter, find, if◌then◌else◌, is_none, is_some, length, not, option_map, true, ℕ, ◌&&◌, ◌++◌, ◌+◌, ◌<◌, ◌==◌, ◌∷◌, ◌≡◌, ◌≤◌}
 
 -- ---- their numbers
 
-abbrev NumberedFrom : ℕ → List Job → Type 0
-NumberedFrom k [] = Unit {0}
-NumberedFrom k (j ∷ js) = (j.number ≡ k) × NumberedFrom (k + 1) js
+-- They rise from k on, and stay below n.
+abbrev NumberedIn : ℕ → ℕ → List Job → Type 0
+NumberedIn k n [] = k ≤ n
+NumberedIn k n (j ∷ js) = (k ≤ j.number) × NumberedIn (j.number + 1) n js
 
-numbered_more : (k : ℕ) (js more : List Job) → NumberedFrom k js → NumberedFrom (k + length js) more → NumberedFrom k (js ++ more)
-numbered_more k [] more h next = subst (λ n. NumberedFrom n more) (omega arith) next
-numbered_more k (j ∷ js) more h next = (h.0, numbered_more (k + 1) js more h.1 (subst (λ n. NumberedFrom n more) (omega arith) next))
+numbered_later : (k n m : ℕ) (js : List Job) → NumberedIn k n js → n ≤ m → NumberedIn k m js
+numbered_later k n m [] h le = omega (arith, h, le)
+numbered_later k n m (j ∷ js) h le = (h.0, numbered_later (j.number + 1) n m js h.1 le)
 
-line_numbered : (st : Setting) (es : Trace) (n : ℕ) (e : Entry) (o : Option (List ℕ))
-    → NumberedFrom n (elim o as (λ z. List Job) [ None ↦ [] | Some text ↦ record { number = n; at = length es; reading = e.reading; command = st.read text } ∷ [] ])
-line_numbered st es n e None = tt
-line_numbered st es n e (Some text) = (refl, tt)
+numbered_more : (k n : ℕ) (js : List Job) (j : Job) → NumberedIn k n js → j.number ≡ n → NumberedIn k (n + 1) (js ++ j ∷ [])
+numbered_more k n [] j h is = (omega (arith, h, is), omega (arith, is))
+numbered_more k n (i ∷ js) j h is = (h.0, numbered_more (i.number + 1) n js j h.1 is)
 
-jobs_numbered : (st : Setting) (es : Trace) → NumberedFrom st.first.job (jobs st es)
-jobs_numbered st [] = tt
-jobs_numbered st (e ∷ es) =
-    numbered_more st.first.job (jobs st es) (job_in st es (st.first.job + length (jobs st es)) e) (jobs_numbered st es) (line_numbered st es (st.first.job + length (jobs st es)) e (line_in e.input))
+numbered_none : (k n : ℕ) (js : List Job) → NumberedIn k n js → NumberedIn k n (js ++ [])
+numbered_none k n [] h = h
+numbered_none k n (j ∷ js) h = (h.0, numbered_none (j.number + 1) n js h.1)
+
+-- The jobs and the bound after an input.
+abbrev NumberedBy : Setting → Trace → Entry → Input → Type 0
+NumberedBy st es e i =
+    NumberedIn st.first.job (st.first.job + (elim (takes_number i) as (λ z. ℕ) [ true ↦ numbers_taken es + 1 | false ↦ numbers_taken es ]))
+    (jobs st es ++ (elim (line_in i) as (λ z. List Job) [ None ↦ [] | Some text ↦ record { number = next_job st es; at = length es; reading = e.reading; command = st.read text } ∷ [] ]))
+
+numbered_by : (st : Setting) (es : Trace) (e : Entry) → NumberedIn st.first.job (next_job st es) (jobs st es) → (i : Input) → NumberedBy st es e i
+numbered_by st es e h (Line text) =
+    numbered_later st.first.job (next_job st es + 1) (st.first.job + (numbers_taken es + 1)) _ (numbered_more st.first.job (next_job st es) (jobs st es) _ h refl) (omega arith)
+numbered_by st es e h (Number text) =
+    numbered_later st.first.job (next_job st es) (st.first.job + (numbers_taken es + 1)) _ (numbered_none st.first.job (next_job st es) (jobs st es) h) (omega arith)
+numbered_by st es e h (Told n a) = numbered_none st.first.job (next_job st es) (jobs st es) h
+numbered_by st es e h (Exit p) = numbered_none st.first.job (next_job st es) (jobs st es) h
+numbered_by st es e h (Spawned p ok) = numbered_none st.first.job (next_job st es) (jobs st es) h
+numbered_by st es e h Wake = numbered_none st.first.job (next_job st es) (jobs st es) h
+
+jobs_numbered : (st : Setting) (es : Trace) → NumberedIn st.first.job (next_job st es) (jobs st es)
+jobs_numbered st [] = omega arith
+jobs_numbered st (e ∷ es) = numbered_by st es e (jobs_numbered st es) e.input
 
 abbrev has_number : ℕ → Job → Bool
 has_number n j = j.number == n
 
-not_the_same : (n k m : ℕ) → m ≡ k → n < k → (m == n) ≡ false
+not_the_same : (n k m : ℕ) → k ≤ m → n < k → (m == n) ≡ false
 not_the_same n k m h lt = grind (arith, tests)
 
-none_later : (n k : ℕ) (js : List Job) → NumberedFrom k js → n < k → filter (has_number n) js ≡ []
-none_later n k [] h lt = refl
-none_later n k (j ∷ js) h lt =
-    ap (λ b. if b then j ∷ filter (has_number n) js else filter (has_number n) js) (not_the_same n k j.number h.0 lt) ∙ none_later n (k + 1) js h.1 (omega (arith, lt))
+none_later : (n k b : ℕ) (js : List Job) → NumberedIn k b js → n < k → filter (has_number n) js ≡ []
+none_later n k b [] h lt = refl
+none_later n k b (j ∷ js) h lt =
+    ap (λ b. if b then j ∷ filter (has_number n) js else filter (has_number n) js) (not_the_same n k j.number h.0 lt)
+    ∙ none_later n (j.number + 1) b js h.1 (let le = h.0 in omega (arith, lt, le))
 
-is_below_next : (n k m : ℕ) → m ≡ k → (m == n) ≡ true → n < k + 1
-is_below_next n k m h same = grind (arith, tests)
+is_below_next : (n m : ℕ) → (m == n) ≡ true → n < m + 1
+is_below_next n m same = grind (arith, tests)
 
-only_at : (n k : ℕ) (j : Job) (js : List Job) (d : Job) (b : Bool) → (j.number == n) ≡ b → j.number ≡ k → NumberedFrom (k + 1) js → (if b then Some j else find (has_number n) js) ≡ Some d
-    → (find (has_number n) js ≡ Some d → filter (has_number n) js ≡ d ∷ []) → (if b then j ∷ filter (has_number n) js else filter (has_number n) js) ≡ d ∷ []
-only_at n k j js d true is at more found rest =
-    ap (λ xs. j ∷ xs) (none_later n (k + 1) js more (is_below_next n k j.number at is)) ∙ ap (λ x. x ∷ []) (some_value j d found)
-only_at n k j js d false is at more found rest = rest found
+only_at : (n b : ℕ) (j : Job) (js : List Job) (d : Job) (c : Bool) → (j.number == n) ≡ c → NumberedIn (j.number + 1) b js → (if c then Some j else find (has_number n) js) ≡ Some d
+    → (find (has_number n) js ≡ Some d → filter (has_number n) js ≡ d ∷ []) → (if c then j ∷ filter (has_number n) js else filter (has_number n) js) ≡ d ∷ []
+only_at n b j js d true is more found rest =
+    ap (λ xs. j ∷ xs) (none_later n (j.number + 1) b js more (is_below_next n j.number is)) ∙ ap (λ x. x ∷ []) (some_value j d found)
+only_at n b j js d false is more found rest = rest found
 
-only_job : (n k : ℕ) (js : List Job) (d : Job) → NumberedFrom k js → find (has_number n) js ≡ Some d → filter (has_number n) js ≡ d ∷ []
-only_job n k [] d h found = absurd (none_some d found)
-only_job n k (j ∷ js) d h found = only_at n k j js d (j.number == n) refl h.0 h.1 found (λ more. only_job n (k + 1) js d h.1 more)
+only_job : (n k b : ℕ) (js : List Job) (d : Job) → NumberedIn k b js → find (has_number n) js ≡ Some d → filter (has_number n) js ≡ d ∷ []
+only_job n k b [] d h found = absurd (none_some d found)
+only_job n k b (j ∷ js) d h found = only_at n b j js d (j.number == n) refl h.1 found (λ more. only_job n (j.number + 1) b js d h.1 more)
 
 kept_alone : (p : Job → Bool) (d : Job) → p d ≡ true → filter p (d ∷ []) ≡ d ∷ []
 kept_alone p d h = ap (λ b. if b then d ∷ [] else []) h
@@ -71,7 +93,7 @@ kept_alone p d h = ap (λ b. if b then d ∷ [] else []) h
 running_one : (st : Setting) (es : Trace) (d : Job) → job_numbered st es d.number ≡ Some d → is_running es d.number ≡ true → filter (has_number d.number) (running_jobs st es) ≡ d ∷ []
 running_one st es d known runs =
     filter_swap (λ j. is_running es j.number) (has_number d.number) (jobs st es)
-    ∙ ap (λ js. filter (λ j. is_running es j.number) js) (only_job d.number st.first.job (jobs st es) d (jobs_numbered st es) known)
+    ∙ ap (λ js. filter (λ j. is_running es j.number) js) (only_job d.number st.first.job (next_job st es) (jobs st es) d (jobs_numbered st es) known)
     ∙ kept_alone (λ j. is_running es j.number) d runs
 
 -- ---- what they ask

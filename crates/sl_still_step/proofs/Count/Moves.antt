@@ -147,7 +147,7 @@ line_asking st now T es h text ends c command reads =
     (asking_begun st es e j (running_begun st es e j refl refl (h.fresh (next_job st es) (omega arith))) ∙ ap (λ n. asking st es + n) (line_asks st now es text command reads))
 
 begins : (st : Setting) (now : ℕ) (T : Table) (es : Trace) (l : StillLease) (was : ResourceArg) (answered : List Submitted) (text : List ℕ) (r : ResourceArg) (p : ℕ) (w : Doing)
-    → st.read text ≡ Ok (Acquire r false p) → w.call.call ≡ area_read st l r es → w.command ≡ Acquire r false p
+    → st.read text ≡ Ok (Acquire r false p false) → w.call.call ≡ area_read st l r es → w.command ≡ Acquire r false p false
     → Moving st now T es l (record { resource = was; phase = Idle; answered = answered }) (still_entry now (Line text) (first_effects [] [] [] (area_read st l r es ∷ [])))
     (record { resource = r; phase = Works w; answered = answered })
     → Changes st es l Idle (still_entry now (Line text) (first_effects [] [] [] (area_read st l r es ∷ []))) (Works w)
@@ -156,7 +156,7 @@ begins st now T es l was answered text r p w reads made is m =
     called st now T es l _ (Line text) [] (area_read st l r es) r w answered m made
     (holders_change st (e ∷ es) es 0 0 0 1 0 (counted (Works w)) m.after.childless m.h.childless
     (as_before (length (holdings (e ∷ es))) (length (holdings es)) (ap (λ gs. length gs) (held_stays (holdings es) [] (area_read st l r es ∷ []))))
-    (line_asking st now T es m.h text [] (area_read st l r es) (Acquire r false p) reads) refl (ap (λ c. if is_asking_lease c then 1 else 0) is))
+    (line_asking st now T es m.h text [] (area_read st l r es) (Acquire r false p false) reads) refl (ap (λ c. if is_asking_lease c then 1 else 0) is))
 
 gives : (st : Setting) (now : ℕ) (T : Table) (es : Trace) (l : StillLease) (r q : ResourceArg) (p lver : ℕ) (answered : List Submitted) (text : List ℕ) (w : Doing)
     → st.read text ≡ Ok (Release q p) → w.call.call ≡ free_write st l r es lver answered → w.command ≡ Release r p
@@ -233,7 +233,7 @@ told st now T es l r d answered a command next m (Goes_on_phase2 p b named own) 
 told st now T es l r d answered a command next m (Begins_phase1 p n own named known why) = goes_on st now T es l r d answered (told_calls l es d answered a) a _ _ refl refl m
 told st now T es l r d answered a command next m (Begins_phase2 p own read named known clear none) = goes_on st now T es l r d answered (told_calls l es d answered a) a _ _ refl refl m
 told st now T es l r d answered a command next m (Takes p own read named known clear won) = goes_on st now T es l r d answered (told_calls l es d answered a) a _ _ refl refl m
-told st now T es l r d answered a command next m (Grants p lver named) =
+told st now T es l r d answered a command next m (Grants p lver named taken) =
     ends_with st now T es l r d answered answered _ a (lease_grant l r (process_of d.command) lver ∷ []) (Granted lver) (Holds (process_of d.command) lver) 1 refl refl
     (with_nothing _ (length (holdings es)) 1 (held_more (holdings es) (lease_grant l r (process_of d.command) lver) (one_reply d.job.number (Granted lver)) [])) m
 told st now T es l r d answered a command next m (Replies_late c why late) =
@@ -244,7 +244,7 @@ told st now T es l r d answered a command next m (Replies_late c why late) =
 move_changes : (st : Setting) (now : ℕ) (T : Table) (es : Trace) (l : StillLease) (x : LeaseState) (i : Input) (fx : Effects) (y : LeaseState)
     → LeaseMove st l es x i fx y → Moving st now T es l x (still_entry now i fx) y → Changes st es l x.phase (still_entry now i fx) y.phase
 move_changes st now T es l x i fx y (Begins was answered text r p reads of) m =
-    begins st now T es l was answered text r p (next_doing st l.given es text (Acquire r false p) (ReadArea r.name) (area_read st l r es)) reads refl refl m
+    begins st now T es l was answered text r p (next_doing st l.given es text (Acquire r false p false) (ReadArea r.name) (area_read st l r es)) reads refl refl m
 move_changes st now T es l x i fx y (Gives_back r q p lver answered text reads of) m =
     gives st now T es l r q p lver answered text (next_doing st l.given es text (Release r p) FreeLeader (free_write st l r es lver answered)) reads refl refl m
 move_changes st now T es l x i fx y (Goes_on r d answered a next fits comes live) m = told st now T es l r d answered a d.command next m live

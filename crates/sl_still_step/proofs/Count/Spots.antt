@@ -12,7 +12,7 @@ use Rattle.sl_trace.specs.declared.effects.Call.{Call}
 use Rattle.sl_trace.specs.declared.effects.Entry.{Entry}
 use Rattle.sl_trace.specs.declared.effects.Spot.{Spot}
 use Rattle.sl_trace.specs.declared.input.Answer.{Answer}
-use Rattle.sl_trace.specs.declared.input.Input.TheVariants.{Answer as Told, Exit, Line, Spawned, Wake}
+use Rattle.sl_trace.specs.declared.input.Input.TheVariants.{Answer as Told, Exit, Line, Number, Spawned, Wake}
 use Rattle.sl_trace.specs.declared.input.Input.{Input}
 use Rattle.sl_words.specs.Orders.{put_in}
 use Rattle.std.proofs.Common.{ap, arith, refl, subst, sym, ◌∙◌}
@@ -120,5 +120,6 @@ pub spots_marked : (g : Layout) (es : Trace) (e : Entry) (i : Input) (ms : List 
 spots_marked g es e (Told n a) ms = spots_told g es e n a ms
 spots_marked g es e (Line text) ms = refl
 spots_marked g es e (Exit p) ms = refl
+spots_marked g es e (Number p) ms = refl
 spots_marked g es e (Spawned p ok) ms = refl
 spots_marked g es e Wake ms = refl

@@ -11,7 +11,7 @@ use Rattle.sl_host.proofs.host.Host.line.Goals as goal
 
 pub returns-in-Ok-Acquire-clause-steps : goal.returns-in-Ok-Acquire-clause-steps
 returns-in-Ok-Acquire-clause-steps c =
-    line_ok c.args.self.now c.acquires.new.self c.args.text.now c.read_lease_command.result (Acquire c.in-Ok-Acquire.resource false c.in-Ok-Acquire.process) c.acquires.result
+    line_ok c.args.self.now c.acquires.new.self c.args.text.now c.read_lease_command.result (Acquire c.in-Ok-Acquire.resource false c.in-Ok-Acquire.process false) c.acquires.result
     (subst (λ (v : HostState). as_command c.read_lease_command.result ≡ answered (command_in (lease_forms (layout_of v.sizes)) c.args.text.now)) c.self.view_is c.read_lease_command.ensures.exact)
     (ap as_command c.in-Ok-Acquire.is ∙ ap (λ x. as_command (Ok x)) c.in-Ok-Acquire.field-0-is) c.acquires.ensures.steps
 

@@ -1,4 +1,4 @@
-use Rattle.sl_replay.proofs.CountLaws.{counted_are, first_lines}
+use Rattle.sl_replay.proofs.CountLaws.{counted_are, first_lines, told_is}
 use Rattle.sl_replay.proofs.ReportLaws.{none_is}
 use Rattle.sl_replay.proofs.replay.Replay.happen.Goals as goal
 use Rattle.sl_run.specs.Events.{happens}
@@ -35,7 +35,8 @@ returns-in_ok-push_effect_lines-in-Ok-clause-exact g c = λ w s.
       text =
           c.in_ok-push_effect_lines-in-Ok.ensures.ok
           ∙ ap (λ m. c.args.out.now.items ++ as_bytes (effect_lines m c.in-Ok.effects)) c.machine_of-machine.ensures
-          ∙ ap (λ ls. c.args.out.now.items ++ as_bytes ls) (sym (first_lines w c.args.event c.in-Ok.effects c.requires.first));
+          ∙ ap (λ ls. c.args.out.now.items ++ as_bytes ls) (sym (first_lines w c.args.event c.in-Ok.effects c.requires.first
+          (told_is _ _ _ w c.args.event c.in-Ok.effects s c.requires.first (none_is _ x.may))));
     }
 
 pub returns-in-Err-Refused-clause-exact : goal.returns-in-Err-Refused-clause-exact

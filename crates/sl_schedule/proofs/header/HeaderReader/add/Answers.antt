@@ -9,5 +9,5 @@ returns-clause-exact c = λ ls h. IfOk-weaker c.add_line.result _ _ (λ added e.
 
 pub returns-clause-stands : goal.returns-clause-stands
 returns-clause-stands c = λ ls h.
-    on_ok_weaker c.add_line.result (λ e. subst (λ (r : HeaderSoFar). Stands r (lines_after ls c.args.line.now)) (sym e) (stands_after c.args.self.now ls c.args.line.now h))
+    on_ok_weaker c.add_line.result (λ e. subst (λ (r : HeaderSoFar). Stands r (lines_after ls c.args.line.now)) (sym e) (stands_after c.args.self.now ls c.args.line.now h c.add_line.ensures.hosts))
     c.add_line.ensures.kept

@@ -10,5 +10,5 @@ returns-clause-ok g c =
     λ w s. let k = c.args.self.now.kept in
     let t = command_taken g.D.Daemon.stands k c.args.self.now.host w c.args.machine c.args.text s c.requires.passes in
     if_ok_to c.step.result _ _ _
-    (λ fx x is. comes_taking g.D.Daemon.stands k c.args.self.now.host w (GiveCommand c.args.machine c.args.text) (Line c.args.text) s refl refl c.requires.passes t _ _ fx x is)
+    (λ fx x is. comes_taking g.D.Daemon.stands k c.args.self.now.host w (GiveCommand c.args.machine c.args.text) (Line c.args.text) s refl (c.requires.allowed w s) t _ _ fx x is)
     (c.step.ensures.done s.daemon.setting s.daemon.trace s.runs t.calm) c.step.ensures.kept

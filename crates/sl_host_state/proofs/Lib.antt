@@ -1,0 +1,4 @@
+pub mod NewHost
+pub mod Passing
+pub mod Others
+pub mod Resting
