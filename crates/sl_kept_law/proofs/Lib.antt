@@ -16,3 +16,4 @@ pub mod ChangedCalls
 pub mod Landings
 pub mod FlightEvents
 pub mod WholeEvents
+pub mod FirstMachines

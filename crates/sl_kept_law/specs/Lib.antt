@@ -4,3 +4,4 @@ pub mod Changes
 pub mod Inputs
 pub mod Flights
 pub mod Events
+pub mod FirstWorlds

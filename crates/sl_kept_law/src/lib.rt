@@ -6,3 +6,4 @@ pub mod events;
 pub mod inputs;
 pub mod refusals;
 pub mod steps;
+pub mod worlds;
