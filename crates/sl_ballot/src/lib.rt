@@ -27,4 +27,3 @@ pub use phases::{
     moded_block, phase1_after_read, phase1_block, phase2_after_read, phase2_block, proposing,
 };
 pub use reads::{stop_of, value_after_read};
-

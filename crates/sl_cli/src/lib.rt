@@ -21,4 +21,3 @@ mod texts;
 
 pub use reading::{Words, WordsError, read_words};
 pub use texts::{HELP, VERSION};
-

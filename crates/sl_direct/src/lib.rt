@@ -36,4 +36,3 @@ mod looks;
 
 pub use action::{Action, Directed};
 pub use direct::run_direct;
-

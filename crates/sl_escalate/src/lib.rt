@@ -18,4 +18,3 @@ pub mod laws;
 pub mod recovery;
 
 pub use recovery::Recovery;
-

@@ -11,7 +11,6 @@ use Rattle.sl_report.specs.ScheduleLines.{refusal_line}
 use Rattle.sl_report.specs.Schedules.{AsksPlayed, EventLine, NumberedLine, event_lines_of, event_or_syntax, line_refusal, many_asks, play_asks, replay_from}
 use Rattle.sl_run.specs.Events.{asking, happens, may_happen, refusal_of}
 use Rattle.sl_run.specs.Worlds.{World}
-use Rattle.sl_run.specs.declared.event.Event.TheVariants.{GiveAsk}
 use Rattle.sl_run.specs.declared.event.Event.{Event}
 use Rattle.sl_run.specs.declared.event.Refusal.{Refusal}
 use Rattle.sl_run.specs.declared.header.Header.{Header}
@@ -24,7 +23,7 @@ use Rattle.sl_words.proofs.ListLaws.{first_and_others}
 use Rattle.sl_words.specs.Words.{first_of_list}
 use Rattle.sl_world.proofs.LockLaws.{none_asks}
 use Rattle.sl_world.specs.Kept.{KeptState, WorldStands}
-use Rattle.std.proofs.Common.{Bool, List, None, Option, Some, ap, append_assoc, arith, drop, false, length, refl, subst, suc, sym, true, [], ℕ, ◌+◌, ◌++◌, ◌∙◌, ◌∷◌, ◌≡◌}
+use Rattle.std.proofs.Common.{Bool, List, None, Option, Some, ap, append_assoc, append-nil, arith, drop, false, length, refl, subst, suc, sym, true, zero, [], ℕ, ◌+◌, ◌++◌, ◌∙◌, ◌∷◌, ◌≡◌}
 use Rattle.std.proofs.lemmas.Grind.{flat_map-append}
 use Rattle.std.specs.List.{cons_option}
 use Rattle.std.specs.Prelude.{Err, Ok, OnErr, Result, is_none}
@@ -66,19 +65,17 @@ adds_line h w k l ls out total end read a reads =
 
 -- ---- a line that is refused
 
--- The report from an event's asks on.
-abbrev with_asks : AsksPlayed → List EventLine → List (List ℕ)
-with_asks p es = p.lines ++ replay_from still_language p.world p.counts es
+stopped : (n : ℕ) (front asks rest : List (List ℕ)) (o : Option Refusal) (why : Refusal) → o ≡ Some why
+    → elim o as (λ x. List (List ℕ)) [ Some r ↦ refusal_line n r ∷ [] | None ↦ front ++ asks ++ rest ] ≡ refusal_line n why ∷ []
+stopped n front asks rest o why h = ap (λ o. elim o as (λ x. List (List ℕ)) [ Some r ↦ refusal_line n r ∷ [] | None ↦ front ++ asks ++ rest ]) h
 
 refused_text : (w : World) (k : Counts) (n : ℕ) (read : Option (Result Event Refusal)) (why : Refusal) (es : List EventLine) → IsRefusedFor w read why
     → replay_from still_language w k (with_line n read es) ≡ refusal_line n why ∷ []
 refused_text w k n None why es h = absurd h
 refused_text w k n (Some (Err r)) why es h = ap (λ r. refusal_line n r ∷ []) h
 refused_text w k n (Some (Ok e)) why es h =
-    ap (λ o. elim o as (λ x. List (List ℕ)) [
-      | Some r ↦ refusal_line n r ∷ []
-      | None ↦ event_lines w e (effects_of w e) ++ with_asks (play_asks many_asks (happens w e (effects_of w e)) (count_event w e (effects_of w e) k)) es
-    ]) h
+    let p : AsksPlayed = play_asks many_asks (happens w e (effects_of w e)) (count_event w e (effects_of w e) k) in
+    stopped n (event_lines w e (effects_of w e)) p.lines (replay_from still_language p.world p.counts es) (refusal_of w e) why h
 
 refused_end : (w : World) (n : ℕ) (read : Option (Result Event Refusal)) (why : Refusal) (es : List EventLine) → IsRefusedFor w read why
     → ending_from w (with_line n read es) ≡ AtLine
@@ -114,25 +111,24 @@ gone_by None stop go h = refl
 gone_by (Some r) stop go h = absurd (false_is_true h)
 
 -- No ask follows where none is due.
-played_by : (n : ℕ) (w : World) (k : Counts) → asking w ≡ None → play_asks (suc n) w k ≡ record { lines = []; world = w; counts = k }
-played_by n w k none =
-    ap (λ o. elim o as (λ x. AsksPlayed) [
-      | None ↦ record { lines = []; world = w; counts = k }
-      | Some m ↦
-          let fxs : List Effects = effects_of w (GiveAsk m) in
-          let p : AsksPlayed = play_asks n (happens w (GiveAsk m) fxs) (count_event w (GiveAsk m) fxs k) in
-          record p { lines = event_lines w (GiveAsk m) fxs ++ p.lines }
-    ]) none
+nothing_played : (n : ℕ) (w : World) (k : Counts) → asking w ≡ None → play_asks n w k ≡ record { lines = []; world = w; counts = k }
+nothing_played zero w k none = refl
+nothing_played (suc n) w k none = rw (play_asks, none) refl
 
 gone_text : (w : World) (e : Event) (n : ℕ) (fx : Effects) (k : Counts) (es : List EventLine) → may_happen w e ≡ true → effects_of w e ≡ fx ∷ []
     → asking (happens w e (fx ∷ [])) ≡ None
     → replay_from still_language w k ((n, Ok e) ∷ es)
     ≡ event_lines w e (fx ∷ []) ++ replay_from still_language (happens w e (fx ∷ [])) (count_event w e (fx ∷ []) k) es
 gone_text w e n fx k es may due quiet =
-    gone_by (refusal_of w e) (λ r. refusal_line n r ∷ [])
-    (event_lines w e (effects_of w e) ++ with_asks (play_asks many_asks (happens w e (effects_of w e)) (count_event w e (effects_of w e) k)) es) may
-    ∙ ap (λ fxs. event_lines w e fxs ++ with_asks (play_asks many_asks (happens w e fxs) (count_event w e fxs k)) es) due
-    ∙ ap (λ p. event_lines w e (fx ∷ []) ++ with_asks p es) (played_by 15 (happens w e (fx ∷ [])) (count_event w e (fx ∷ []) k) quiet)
+    let v : World = happens w e (effects_of w e) in
+    let c : Counts = count_event w e (effects_of w e) k in
+    ap (λ (p : AsksPlayed). elim (refusal_of w e) as (λ x. List (List ℕ)) [
+      | Some r ↦ refusal_line n r ∷ []
+      | None ↦ event_lines w e (effects_of w e) ++ p.lines ++ replay_from still_language p.world p.counts es
+    ]) (nothing_played many_asks v c (ap (λ fxs. asking (happens w e fxs)) due ∙ quiet))
+    ∙ gone_by (refusal_of w e) (λ r. refusal_line n r ∷ []) (event_lines w e (effects_of w e) ++ [] ++ replay_from still_language v c es) may
+    ∙ ap (λ ls. ls ++ replay_from still_language v c es) (append-nil (event_lines w e (effects_of w e)))
+    ∙ ap (λ fxs. event_lines w e fxs ++ replay_from still_language (happens w e fxs) (count_event w e fxs k) es) due
 
 gone_end : (w : World) (e : Event) (n : ℕ) (fx : Effects) (es : List EventLine) → may_happen w e ≡ true → effects_of w e ≡ fx ∷ []
     → ending_from w ((n, Ok e) ∷ es) ≡ ending_from (happens w e (fx ∷ [])) es

@@ -12,4 +12,3 @@ pub mod laws;
 
 pub use bitmap::Bitmap;
 pub use check::{Act, RequestOld, check_request};
-

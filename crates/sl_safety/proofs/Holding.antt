@@ -6,3 +6,4 @@ pub mod Unfreed
 pub mod Sharing
 pub mod Agreeing
 pub mod Holders
+pub mod Once

@@ -5,6 +5,7 @@ pub mod Agreeing
 pub mod Standing
 pub mod Marked
 pub mod Moded
+pub mod Volumes
 pub mod Whole
 pub mod Holding
 pub mod Ballot

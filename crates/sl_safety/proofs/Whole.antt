@@ -9,12 +9,18 @@ use Rattle.sl_safety.proofs.Agreeing.{agreement_holds, one_winner_holds}
 use Rattle.sl_safety.proofs.Excluding.{safety_given}
 use Rattle.sl_safety.proofs.Lawful.{keep_instances}
 use Rattle.sl_safety.proofs.Moded.{modes_stand, modes_stood_given}
+use Rattle.sl_safety.proofs.Volumes.{volumes_given}
+use Rattle.sl_safety.specs.Volumes.{VolumesExclude}
 use Rattle.std.proofs.Common.{subst}
 use Rattle.std.specs.Prelude.{List}
 
 -- No two holdings conflict.
 pub lawful_runs_are_safe : Safety
 lawful_runs_are_safe = safety_given keep_instances
+
+-- So with logical volumes.
+pub volumes_exclude : VolumesExclude
+volumes_exclude = volumes_given lawful_runs_are_safe
 
 -- The invariant of blocks and leaders.
 pub leases_are_safe : (p : Program) (h : Header) (xs : List Happening) → LawfulRun p h xs → LeaseInvariant p h xs

@@ -8,6 +8,7 @@ pub mod value;
 ghost use Rattle.sl_run.specs.Safety.{Invariants, Safety};
 ghost use Rattle.sl_safety.specs.Histories.{HistoriesAreLawful, HistoriesKeepInstances};
 ghost use Rattle.sl_safety.specs.Kept.{BallotsAgree, OneWins, SharedModesStand};
+ghost use Rattle.sl_safety.specs.Volumes.{VolumesExclude};
 
 /// The history of each resource keeps all rules of the argument over ballots.
 pub fn histories_are_lawful()
@@ -37,6 +38,11 @@ pub fn histories_keep_instances()
 /// No two holdings conflict, after every event of every lawful run.
 pub fn lawful_runs_are_safe()
     ensures { Safety }
+{}
+
+/// No logical volume is active on two machines unless both have it shared, after every event of every lawful run.
+pub fn volumes_exclude()
+    ensures { VolumesExclude }
 {}
 
 /// Both invariants hold after every event of every lawful run: that of ids and time, and that of blocks and leaders.

@@ -21,4 +21,3 @@ pub use file_devices::FileDevices;
 pub use mem_devices::{LentDisk, MemDevices, MemDisk};
 pub use status::Status;
 pub use top::{run, run_offline};
-

@@ -9,4 +9,3 @@ pub mod laws;
 mod value;
 
 pub use value::{Value, Version, get, next_seq, set};
-

@@ -19,4 +19,3 @@ mod lockspace;
 pub mod wdmd;
 
 pub use wdmd::Wdmd;
-

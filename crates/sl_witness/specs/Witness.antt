@@ -27,6 +27,7 @@ witness_header =
       grace = 300;
       machines = 2;
       geometry = record { sector = 512; area = 1048576; hosts = 2 };
+      retries = 0;
       clocks = [];
       disks = record { path = codes "/d"; mebibytes = 4 } ∷ [];
       lockspaces = record { name = codes "ls"; path = codes "/d"; offset = 0 } ∷ [];

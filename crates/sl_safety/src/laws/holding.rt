@@ -2,6 +2,7 @@
 
 ghost use Rattle.sl_safety.specs.Holding.Granting.{ExclusivesAreUnfreed, HoldersStand, HoldingsAreGranted, OneDaemonAgrees, SharedHoldingsBegin, SharedRunsBegin};
 ghost use Rattle.sl_safety.specs.Holding.Holders.{HoldingsAreHeld, OneMachineAgrees};
+ghost use Rattle.sl_run.specs.Reach.{HoldersHoldOnce};
 
 /// Each holding was granted by an entry, from which on it stood.
 pub fn holdings_are_granted()
@@ -41,4 +42,9 @@ pub fn one_machine_agrees()
 /// A shared holding has stood beside shared ones without a gap since a grant that came by a ballot of its own instance.
 pub fn shared_holdings_begin()
     ensures { SharedHoldingsBegin }
+{}
+
+/// No process of a machine holds a place twice.
+pub fn holders_hold_once()
+    ensures { HoldersHoldOnce }
 {}

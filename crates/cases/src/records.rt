@@ -1,0 +1,217 @@
+//! Sectors, areas, values, requests.
+
+use crate::word::{number_at, number_of, part, short_at, short_of, shown, word};
+use sl_area::{Geometry, Place};
+use sl_request::{Act, Bitmap, check_request};
+use sl_sector::{Bad, Rec, block_in, decode, push_bad_text, push_record_text, value_in};
+use sl_text::hex::{push_hex, read_hex};
+use sl_value::Version;
+use std::alloc::{AllocError, Global};
+
+/// Puts digits' bytes into a sector.
+fn put(sector: &mut [u8], at: u64, digits: &str) {
+    if let Some(data) = read_hex(digits.as_bytes()) {
+        let mut place = at as usize;
+        for byte in data.as_slice() {
+            if let Some(old) = sector.get_mut(place) {
+                *old = *byte;
+            }
+            place = place.saturating_add(1);
+        }
+    }
+}
+
+/// The sector whose bytes are zeros but for these, `place:digits`, which commas set apart; later ones count.
+pub fn sector_of(text: &str) -> [u8; 512] {
+    let mut sector = [0; 512];
+    for span in text.split(',') {
+        put(
+            &mut sector,
+            number_of(part(span, ':', 0)),
+            part(span, ':', 1),
+        );
+    }
+    sector
+}
+
+/// Such a sector of 4096 bytes.
+fn large_of(text: &str) -> [u8; 4096] {
+    let mut sector = [0; 4096];
+    for span in text.split(',') {
+        put(
+            &mut sector,
+            number_of(part(span, ':', 0)),
+            part(span, ':', 1),
+        );
+    }
+    sector
+}
+
+/// What is printed of a record.
+fn record_text(
+    alloc: Global,
+    read: Result<Rec, Bad>,
+    is_written: bool,
+) -> Result<String, AllocError> {
+    let mut text = Vec::new(alloc);
+    match read {
+        Ok(record) => push_record_text(&mut text, &record)?,
+        Err(bad) => push_bad_text(&mut text, bad)?,
+    }
+    if !is_written {
+        text.extend_from_slice(b", written otherwise")?;
+    }
+    shown(alloc, &text)
+}
+
+/// What a sector has, and whether its record is written as it was read; or why there is none.
+pub fn sector(alloc: Global, text: &str) -> Result<String, AllocError> {
+    let sector = sector_of(text);
+    let mut again = sector;
+    if let Ok(record) = decode(&sector) {
+        again = [0xff; 512];
+        record.encode_into(&mut again);
+    }
+    record_text(
+        alloc,
+        decode(&sector),
+        again.as_slice() == sector.as_slice(),
+    )
+}
+
+/// .. of 4096 bytes.
+pub fn large(alloc: Global, text: &str) -> Result<String, AllocError> {
+    let sector = large_of(text);
+    let mut again = sector;
+    if let Ok(record) = decode(&sector) {
+        again = [0xff; 4096];
+        record.encode_into(&mut again);
+    }
+    record_text(
+        alloc,
+        decode(&sector),
+        again.as_slice() == sector.as_slice(),
+    )
+}
+
+/// Whether a sector has a block of this host.
+pub fn block_of(alloc: Global, text: &str) -> Result<String, AllocError> {
+    let sector = sector_of(word(text, 1));
+    match block_in(short_at(text, 0), decode(&sector)) {
+        Some(block) => format!(in alloc; "host {}", block.host),
+        None => format!(in alloc; "none"),
+    }
+}
+
+/// The value that a sector has.
+pub fn value(alloc: Global, text: &str) -> Result<String, AllocError> {
+    let Some(record) = value_in(decode(&sector_of(text))) else {
+        return format!(in alloc; "none");
+    };
+    let value = sl_value::get(&record);
+    let mut digits = Vec::new(alloc);
+    push_hex(&mut digits, value.bytes.as_slice())?;
+    let digits = shown(alloc, &digits)?;
+    format!(in alloc;
+        "lver {} seq {} bytes {digits}",
+        value.version.lver, value.version.seq
+    )
+}
+
+/// The seq of the next value under an instance, behind a version, lver and seq, or behind none.
+pub fn next_seq(alloc: Global, text: &str) -> Result<String, AllocError> {
+    let last = match word(text, 1) {
+        "" => None,
+        _ => Some(Version {
+            lver: number_at(text, 1),
+            seq: number_at(text, 2),
+        }),
+    };
+    match sl_value::next_seq(last, number_at(text, 0)) {
+        Some(seq) => format!(in alloc; "{seq}"),
+        None => format!(in alloc; "none"),
+    }
+}
+
+/// Whether these are a sector's size, an area's and a number of hosts.
+pub fn geometry(alloc: Global, text: &str) -> Result<String, AllocError> {
+    format!(in alloc; "{}", run_of(text).is_some())
+}
+
+/// A run with sectors of this size, areas of this size, and so many hosts.
+fn run_of(text: &str) -> Option<Geometry> {
+    Geometry::new(short_at(text, 0), number_at(text, 1), short_at(text, 2)).ok()
+}
+
+/// Places of the area at this offset, where one begins: those of host `id`.
+pub fn places(alloc: Global, text: &str) -> Result<String, AllocError> {
+    let Some(run) = run_of(text) else {
+        return format!(in alloc; "no run");
+    };
+    let (base, id) = (number_at(text, 3), short_at(text, 4));
+    if !run.is_base(base) || id < 1 || run.hosts() < id {
+        return format!(in alloc; "none");
+    }
+    let (delta, block) = (
+        run.delta_place(base, id).offset(),
+        run.block_place(base, id).offset(),
+    );
+    let leader = run.leader_place(base).offset();
+    let request = run.request_place(base).offset();
+    let value = run.value_place(base).offset();
+    format!(in alloc; "delta {delta} leader {leader} asked {request} block {block} value {value}")
+}
+
+/// The sector that begins at this offset.
+pub fn place(alloc: Global, text: &str) -> Result<String, AllocError> {
+    let place = match run_of(text) {
+        Some(run) => run.place(number_at(text, 3)),
+        None => None,
+    };
+    match place {
+        Some(place) => format!(in alloc; "{} of {}", place.offset(), place.size()),
+        None => format!(in alloc; "none"),
+    }
+}
+
+/// What becomes of a request for an instance with a force, where one is held and one is stored.
+pub fn asked(alloc: Global, text: &str) -> Result<String, AllocError> {
+    let (asked, force) = (number_at(text, 2), short_at(text, 3));
+    if force == 0 && asked > 0 {
+        return format!(in alloc; "none");
+    }
+    match check_request(number_at(text, 0), number_at(text, 1), asked, force) {
+        Ok(Act::Set) => format!(in alloc; "set"),
+        Ok(Act::Clear) => format!(in alloc; "clear"),
+        Err(old) => format!(in alloc; "old {} {}", old.held, old.stored),
+    }
+}
+
+/// The bitmap after a word: `+` sets a host's bit, `-` clears it.
+fn changed(bits: Bitmap, word: &str) -> Bitmap {
+    let mut bits = bits;
+    let host = short_of(word.get(1..).unwrap_or(""));
+    if 1 <= host && host <= 2000 {
+        if word.starts_with('+') {
+            bits.set(host);
+        } else {
+            bits.clear(host);
+        }
+    }
+    bits
+}
+
+/// The bytes of a bitmap that aren't 0, with their places, after bits were set and cleared.
+pub fn bits(alloc: Global, text: &str) -> Result<String, AllocError> {
+    let mut bits = Bitmap::none();
+    for word in text.split(' ') {
+        bits = changed(bits, word);
+    }
+    let mut told = String::new(alloc);
+    for (place, byte) in bits.bytes().iter().enumerate() {
+        if *byte != 0 {
+            told.push_str(format!(in alloc; "{place}:{byte} ")?.as_str())?;
+        }
+    }
+    Ok(told)
+}

@@ -1,0 +1,151 @@
+//! A watch over two ids, with io 100, fire 600, land 100 and rho 0.
+
+ghost use Rattle.std.specs.Prelude.{◌≡◌};
+
+use crate::records::sector_of;
+use crate::word::{number_of, part, short_of};
+use sl_area::Geometry;
+use sl_time::Timing;
+use sl_trace::{Evidence, HostState};
+use sl_watch::Watch;
+use std::alloc::{AllocError, Global};
+use std::marker::Model;
+
+/// A watch of a run with sectors of 512 bytes and two hosts.
+#[derive(Drop)]
+struct Pair {
+    watch: Watch,
+}
+
+impl Model for Pair {
+    ghost use Rattle.sl_watch.specs.Seen.{Watched};
+    ghost use Rattle.std.specs.Prelude.{◌≡◌};
+
+    ghost Value = { Watched };
+
+    ghost view = { λ p. p.watch };
+
+    ghost invariant = { λ p. (p.watch.sizes.sector ≡ 512) × (p.watch.sizes.hosts ≡ 2) };
+}
+
+impl Pair {
+    /// A watch that has seen nothing.
+    fn new(alloc: Global) -> Option<Pair> {
+        let timing = Timing::new(100, 600, 100, 0).ok()?;
+        let geometry = Geometry::new(512, 1_048_576, 2).ok()?;
+        let watch = Watch::new(alloc, &timing, &geometry);
+        Some(Pair { watch })
+    }
+
+    /// Takes a look at an id's sector.
+    fn saw(
+        &mut self,
+        before: u64,
+        after: u64,
+        id: u32,
+        sector: &[u8; 512],
+    ) -> Result<(), AllocError> {
+        if 1 <= id && id <= 2 {
+            return self.watch.saw(before, after, id, sector);
+        }
+        Ok(())
+    }
+
+    /// Why a generation of an id counts as over.
+    fn over(&self, id: u32, generation: u64) -> Option<Evidence> {
+        if 1 <= id && id <= 2 {
+            self.watch.over(id, generation)
+        } else {
+            None
+        }
+    }
+
+    /// How long an id stood still.
+    fn unchanged(&self, id: u32) -> u64 {
+        if 1 <= id && id <= 2 {
+            self.watch.unchanged_for(id)
+        } else {
+            0
+        }
+    }
+
+    /// What an id looks like.
+    fn status(&self, id: u32, now: u64) -> HostState {
+        if 1 <= id && id <= 2 {
+            self.watch.status(id, now)
+        } else {
+            HostState::Unknown
+        }
+    }
+}
+
+/// The sector that a word `NAME=..` of the text tells.
+fn sector_named(text: &str, name: &str) -> [u8; 512] {
+    for word in text.split(' ') {
+        if part(word, '=', 0) == name {
+            return sector_of(part(word, '=', 1));
+        }
+    }
+    [0; 512]
+}
+
+/// Evidence.
+fn evidence(alloc: Global, over: Option<Evidence>) -> Result<String, AllocError> {
+    match over {
+        Some(Evidence::Newer { generation }) => format!(in alloc; "newer {generation}"),
+        Some(Evidence::Freed { generation }) => format!(in alloc; "freed {generation}"),
+        Some(Evidence::Silent { from, to }) => format!(in alloc; "silent {from} {to}"),
+        None => format!(in alloc; "none"),
+    }
+}
+
+/// What an id looks like.
+fn state(state: HostState) -> &'static str {
+    match state {
+        HostState::Unknown => "unknown",
+        HostState::Free => "free",
+        HostState::Dead => "dead",
+        HostState::Failing => "failing",
+        HostState::Live => "live",
+    }
+}
+
+/// What the watch tells at a word: `saw:BEFORE:AFTER:ID:NAME`, `over:ID:GENERATION`, `still:ID`, `status:ID:NOW`.
+fn told(alloc: Global, pair: &mut Pair, text: &str, word: &str) -> Result<String, AllocError> {
+    let (first, second) = (part(word, ':', 1), part(word, ':', 2));
+    match part(word, ':', 0) {
+        "saw" => {
+            let sector = sector_named(text, part(word, ':', 4));
+            pair.saw(
+                number_of(first),
+                number_of(second),
+                short_of(part(word, ':', 3)),
+                &sector,
+            )?;
+            format!(in alloc; "")
+        }
+        "over" => evidence(alloc, pair.over(short_of(first), number_of(second))),
+        "still" => format!(in alloc; "{}", pair.unchanged(short_of(first))),
+        "status" => format!(in alloc;
+            "{}",
+            state(pair.status(short_of(first), number_of(second)))
+        ),
+        _ => format!(in alloc; ""),
+    }
+}
+
+/// What a watch tells that sees these sectors. A word `NAME=..` tells a sector.
+pub fn watch(alloc: Global, text: &str) -> Result<String, AllocError> {
+    let Some(mut pair) = Pair::new(alloc) else {
+        return format!(in alloc; "no run");
+    };
+    let mut all = String::new(alloc);
+    for word in text.split(' ') {
+        let told = told(alloc, &mut pair, text, word)?;
+        if !told.is_empty() {
+            all.push_str(told.as_str())?;
+            all.push_str(", ")?;
+        }
+    }
+    Ok(all)
+}

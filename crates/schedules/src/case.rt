@@ -1,0 +1,114 @@
+//! A case, as its line tells it.
+
+use sl_text::line::split_line;
+use std::alloc::{AllocError, Global};
+use std::rt::Files;
+use std::{fs, io};
+
+/// What the program is run on.
+#[derive(Drop)]
+pub struct Case {
+    /// The read that fails.
+    pub reads: Option<u64>,
+    /// The write that fails.
+    pub writes: Option<u64>,
+    /// The call of a disk in memory that fails, where the disks are in memory.
+    pub memory: Option<u64>,
+    pub words: Vec<String>,
+    pub source: Vec<u8>,
+    /// What is to be put out, where a file says so.
+    pub due: Option<Vec<u8>>,
+}
+
+/// The number behind this word at the front of a line, and the rest of the line.
+fn option<'a>(line: &'a str, word: &str) -> (Option<u64>, &'a str) {
+    let Some((first, rest)) = line.split_once(' ') else {
+        return (None, line);
+    };
+    if first != word {
+        return (None, line);
+    }
+    let (number, rest) = rest.split_once(' ').unwrap_or((rest, ""));
+    (number.parse().ok(), rest)
+}
+
+/// The words of a line.
+fn words(alloc: Global, line: &str) -> Result<Vec<String>, AllocError> {
+    let mut words = Vec::new(alloc);
+    for word in line.split(' ') {
+        words.push(String::from_str(alloc, word)?)?;
+    }
+    Ok(words)
+}
+
+/// The first lines of a text, so many.
+fn front(text: &[u8], count: u64) -> &[u8] {
+    let mut left = text;
+    for _ in 0..count {
+        if let Some((_line, rest)) = split_line(left) {
+            left = rest;
+        }
+    }
+    &text[..text.len().saturating_sub(left.len())]
+}
+
+/// What stands in the file of this name and this kind.
+fn file<R: Files + AllocGlobal>(rt: &R, name: &str, kind: &str) -> io::Result<Vec<u8>> {
+    let path = format!(in rt.alloc(); "{name}.{kind}")?;
+    fs::read(rt, path.as_str())
+}
+
+/// So many lines of a schedule, and a line behind them.
+fn behind<R: Files + AllocGlobal>(
+    rt: &R,
+    count: u64,
+    name: &str,
+    line: &str,
+) -> io::Result<Vec<u8>> {
+    let whole = file(rt, name, "schedule")?;
+    let mut source = Vec::from_slice(rt.alloc(), front(&whole, count))?;
+    source.extend_from_slice(line.as_bytes())?;
+    source.push(b'\n')?;
+    Ok(source)
+}
+
+/// The words, the source and what is due of a command line.
+fn parts<R: Files + AllocGlobal>(
+    rt: &R,
+    line: &str,
+) -> io::Result<(Vec<String>, Vec<u8>, Option<Vec<u8>>)> {
+    let alloc = rt.alloc();
+    if let Some(name) = line.strip_prefix("schedule ") {
+        let due = file(rt, name, "report")?;
+        return Ok((
+            words(alloc, "replay")?,
+            file(rt, name, "schedule")?,
+            Some(due),
+        ));
+    }
+    if let (Some(count), rest) = option(line, "behind") {
+        let (name, text) = rest.split_once(' ').unwrap_or((rest, ""));
+        return Ok((
+            words(alloc, "replay")?,
+            behind(rt, count, name, text)?,
+            None,
+        ));
+    }
+    Ok((words(alloc, line)?, Vec::new(alloc), None))
+}
+
+/// The case of a line.
+pub fn read_case<R: Files + AllocGlobal>(rt: &R, line: &str) -> io::Result<Case> {
+    let (reads, line) = option(line, "reads");
+    let (writes, line) = option(line, "writes");
+    let (memory, line) = option(line, "memory");
+    let (words, source, due) = parts(rt, line)?;
+    Ok(Case {
+        reads,
+        writes,
+        memory,
+        words,
+        source,
+        due,
+    })
+}

@@ -1,0 +1,73 @@
+//! What comes of a case.
+
+use crate::case::Case;
+use sl_io::{MemSink, MemSource};
+use sl_text::number::push_number;
+use sl_top::{Devices, Status, run};
+use std::alloc::{AllocError, Global};
+
+/// Bytes that a read gives where one is to fail.
+const READ: usize = 30;
+
+/// Bytes that a write takes where one is to fail.
+const WRITTEN: usize = 16;
+
+/// The most bytes that are put out.
+const ROOM: usize = 262_144;
+
+/// The status that a run ended with, and what it put out.
+#[derive(Drop)]
+pub struct Outcome {
+    status: Status,
+    output: Vec<u8>,
+}
+
+/// The sizes of calls of which this one is to fail, and its number.
+fn plan(
+    alloc: Global,
+    call: Option<u64>,
+    size: usize,
+) -> Result<(Vec<usize>, Vec<u64>), AllocError> {
+    match call {
+        Some(call) => Ok((vec![in alloc; size]?, vec![in alloc; call]?)),
+        None => Ok((Vec::new(alloc), Vec::new(alloc))),
+    }
+}
+
+/// What comes of a case over these disks.
+pub fn run_case<D: Devices>(alloc: Global, case: &Case, devices: D) -> Result<Outcome, AllocError> {
+    let (pieces, failing) = plan(alloc, case.reads, READ)?;
+    let mut source = MemSource::new(case.source.clone()?, pieces, failing);
+    let (pieces, failing) = plan(alloc, case.writes, WRITTEN)?;
+    let mut sink = MemSink::new(alloc, ROOM, pieces, failing)?;
+    let (status, _devices) = run(alloc, &case.words, &mut source, &mut sink, devices);
+    Ok(Outcome {
+        status,
+        output: sink.into_taken(),
+    })
+}
+
+/// Whether what was put out is what is due.
+fn is_due(case: &Case, outcome: &Outcome) -> bool {
+    match &case.due {
+        Some(due) => due.as_slice() == outcome.output.as_slice(),
+        None => false,
+    }
+}
+
+/// Writes what came of a case behind its line.
+pub fn push_outcome(
+    out: &mut Vec<u8>,
+    line: &str,
+    case: &Case,
+    outcome: &Outcome,
+) -> Result<(), AllocError> {
+    out.extend_from_slice(line.as_bytes())?;
+    out.extend_from_slice(b": ")?;
+    push_number(out, u64::from(outcome.status.code()))?;
+    if is_due(case, outcome) {
+        return out.extend_from_slice(b", as due\n");
+    }
+    out.push(b'\n')?;
+    out.extend_from_slice(&outcome.output)
+}

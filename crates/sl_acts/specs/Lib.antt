@@ -1,0 +1,4 @@
+pub mod Acts
+pub mod Plainly
+pub mod SoFar
+pub mod Promises

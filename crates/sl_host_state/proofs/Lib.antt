@@ -1,0 +1,5 @@
+pub mod NewHost
+pub mod Passing
+pub mod Others
+pub mod Resting
+pub mod Asking

@@ -1,0 +1,5 @@
+use Rattle.sl_host_state.proofs.Resting as its
+use Rattle.sl_host_state.proofs.laws.new_lease_stands.Goals as goal
+
+pub returns : goal.returns
+returns c = its.new_lease_stands

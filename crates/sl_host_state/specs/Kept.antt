@@ -1,0 +1,214 @@
+-- What a host keeps: the definitions' own lists, cut to what is asked of them. A part's index is inside the part, and no clause sees it.
+--
+-- A session's way through a host's lists:
+--
+--     line `add_lockspace` --> joining --> joined --> in recovery or leaving --> gone
+--                                 |                                               ^
+--                                 +--> refused, a write unanswered ---------------+
+--
+-- It is a member from the line's own step on, up to `gone`. What is still asked of a session that is gone is asked of other lists: of
+-- open calls (they keep its number, which no member has, so an answer does nothing) and of connections (they keep names, since a
+-- refused joining's connection is removed after it has gone).
+use Rattle.sl_area.specs.Layouts.{Layout}
+use Rattle.sl_sector.specs.declared.sector.Block.{Block}
+use Rattle.sl_sector.specs.declared.sector.DeltaRec.{DeltaRec}
+use Rattle.sl_sessions.specs.declared.delta.DeltaKnown.{DeltaKnown}
+use Rattle.sl_sessions.specs.declared.session.Begun.{Begun}
+use Rattle.sl_sessions.specs.declared.session.Renewing.{Renewing}
+use Rattle.sl_sessions.specs.declared.session.Session.{Session}
+use Rattle.sl_sessions.specs.declared.sighting.Sighting.{Sighting}
+use Rattle.sl_time.specs.Times.{TimingNumbers}
+use Rattle.sl_trace.specs.Traces.{Child, KillProgram}
+use Rattle.sl_trace.specs.declared.command.Command.{Command}
+use Rattle.sl_trace.specs.declared.effects.Effects.{Effects}
+use Rattle.sl_trace.specs.declared.effects.Grant.{Grant}
+use Rattle.sl_trace.specs.declared.effects.JoinStep.{JoinStep}
+use Rattle.sl_trace.specs.declared.effects.LeaseStep.{LeaseStep}
+use Rattle.sl_trace.specs.declared.effects.Purpose.{Purpose}
+use Rattle.sl_trace.specs.declared.effects.Spot.{Spot}
+use Rattle.sl_trace.specs.declared.effects.Work.{Work}
+use Rattle.std.specs.Prelude.{Bool, List, Option, Result, ℕ}
+
+-- What a host is made of; it never changes.
+pub record Config : Type 0 where
+  pub timing : TimingNumbers
+  pub grace : ℕ
+  pub layout : Layout
+  pub machine : ℕ
+  pub name : List ℕ
+  -- what a command line says: for lvmlockd's lines too, which are commands of one process
+  pub read : List ℕ → Result Command ℕ
+
+-- ---- calls and jobs
+
+-- Version and seq of a value.
+pub record ValuePair : Type 0 where
+  pub lver : ℕ
+  pub seq : ℕ
+
+-- A call without an answer: what its answer needs. The record that it writes is nowhere asked again, but for these numbers of it.
+pub record OpenCall : Type 0 where
+  pub number : ℕ
+  pub session : ℕ
+  pub purpose : Purpose
+  pub path : List ℕ
+  pub offset : ℕ
+  -- the sectors that it reads; a write has none
+  pub sectors : Option ℕ
+  -- the instance of the leader or block that it writes, and 0
+  pub lver : ℕ
+  -- those of the value that it writes: the reply tells them
+  pub value : Option ValuePair
+  -- of its submission
+  pub reading : ℕ
+
+-- The call for whose answer a job waits.
+pub record WaitingCall : Type 0 where
+  pub number : ℕ
+  pub reading : ℕ
+
+-- A job without a reply.
+pub record JobState : Type 0 where
+  pub number : ℕ
+  pub command : Option Command
+  -- its child, once it has its grant
+  pub child : Option ℕ
+  pub waits : Option WaitingCall
+
+-- ---- a lease
+
+-- The newest call of a lease, while it has no answer.
+pub record LeaseCall : Type 0 where
+  pub number : ℕ
+  pub work : Work
+  pub step : LeaseStep
+  -- the instance of the free that it writes, if it does
+  pub frees : Option ℕ
+  -- whether it writes a block without the shared mode
+  pub clears : Bool
+
+-- The greatest number of an instance.
+pub record TopNumber : Type 0 where
+  pub instance : ℕ
+  pub mbal : ℕ
+
+-- What is kept of the own pair where a block is kept in two sectors: the turn that was shown last, and the bytes of the first of two
+-- reads. Where a block has one sector nothing is.
+pub record PairState : Type 0 where
+  pub turn : Option ℕ
+  pub first : Option (List ℕ)
+
+-- A session's lease on an area.
+pub record LeaseState : Type 0 where
+  pub spot : Spot
+  -- the block that was submitted last
+  pub own : Option Block
+  -- the greatest `mbal` of the blocks read last in one instance, that of the own block at that read: all that is asked of them later
+  pub top : Option TopNumber
+  -- the resource's name that was verified last; empty before
+  pub name : List ℕ
+  -- the greatest instance of which a free was submitted; 0 where there is none
+  pub freed : ℕ
+  -- the instance of the open ballot
+  pub ballot : Option ℕ
+  -- whether the shared mode may stand in the own block
+  pub shown : Bool
+  -- the instance that was won last, where its free isn't known to be done
+  pub won : Option ℕ
+  pub waiting : Option LeaseCall
+  -- of the value that was submitted last on the area
+  pub value : Option ValuePair
+  pub pair : PairState
+
+-- ---- a session
+
+-- The newest call of a joining: its step, the reading of its submission, and that of its answer.
+pub record JoinCall : Type 0 where
+  pub step : JoinStep
+  pub made : ℕ
+  pub answered : Option ℕ
+
+-- What a joining has read and claimed.
+pub record JoinState : Type 0 where
+  -- what its first read gave, and the reading of that answer
+  pub watched : Option (List ℕ)
+  pub since : Option ℕ
+  pub claim : Option DeltaRec
+  pub newest : Option JoinCall
+
+-- An owner of a lease, and the reading of the answer to a request to him.
+pub record AskedAt : Type 0 where
+  pub owner : ℕ
+  pub reading : ℕ
+
+-- A session whose lockspace is in use.
+pub record MemberState : Type 0 where
+  pub who : Session
+  pub joined : Bool
+  -- its joining was refused: it is there while a write of it is unanswered
+  pub refused : Bool
+  pub known : DeltaKnown
+  pub joining : JoinState
+  -- the last renewal that was answered ok outside recovery, and how recovery began
+  pub renewing : Renewing
+  -- how its leaving began
+  pub leaving : Option Begun
+  pub asked : List AskedAt
+  -- of each id; a host keeps a summary of them
+  pub seen : ℕ → List Sighting
+  -- by place
+  pub leases : List LeaseState
+
+-- ---- the whole
+
+-- For how many more elements of each list there is memory.
+pub record Rooms : Type 0 where
+  pub ends : ℕ
+  pub signals : ℕ
+  pub moves : ℕ
+  pub grants : ℕ
+  pub starts : ℕ
+  pub replies : ℕ
+  pub calls : ℕ
+  -- of what is kept
+  pub unanswered : ℕ
+  pub jobs : ℕ
+  pub holdings : ℕ
+  pub children : ℕ
+  pub programs : ℕ
+
+-- A host, in a step or between two.
+pub record HostState : Type 0 where
+  pub config : Config
+  -- of the step in progress, and of the step before it; between two steps `reading` is of the last one
+  pub reading : ℕ
+  pub before : ℕ
+  -- the steps so far, with that in progress
+  pub entries : ℕ
+  -- below this reading nothing is due before an input: a lower bound, so what ends needs no change of it, and what begins lowers it
+  pub quiet_until : ℕ
+  -- the number of the step's first call
+  pub first_call : ℕ
+  pub next_job : ℕ
+  -- how many children were to be started, and how many sessions there have been
+  pub started : ℕ
+  pub born : ℕ
+  -- by lockspace name
+  pub members : List MemberState
+  -- the lockspaces whose connections stand, in the order of their registering
+  pub connected : List (List ℕ)
+  -- the oldest first
+  pub unanswered : List OpenCall
+  -- by number
+  pub jobs : List JobState
+  -- in the order of their grants, orphans too: those have process 0
+  pub holdings : List Grant
+  -- those that run, and those whose start is unanswered, the oldest first
+  pub children : List Child
+  -- of processes, the one set last first
+  pub programs : List KillProgram
+  -- the effects of the step so far
+  pub made : Effects
+  pub room : Rooms
+  -- buffers for one more step
+  pub spare : Option Rooms

@@ -1,0 +1,7 @@
+pub mod Kept
+pub mod Showing
+pub mod Sane
+pub mod Refusing
+pub mod Inputs
+pub mod Changes
+pub mod Steps

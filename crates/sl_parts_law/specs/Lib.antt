@@ -1,0 +1,3 @@
+pub mod CallIsLawful
+pub mod Parts
+pub mod Promises
