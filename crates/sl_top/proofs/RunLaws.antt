@@ -6,7 +6,7 @@ use Rattle.sl_first_run.specs.Readings.{replay_status}
 use Rattle.sl_replay.specs.Reports.{ending_from, ending_of}
 use Rattle.sl_replay.specs.declared.replay.Ended.TheVariants.{AtLine, Whole}
 use Rattle.sl_replay.specs.declared.replay.Ended.{Ended}
-use Rattle.sl_report.specs.Headline.{IsFrontOf, MayHaveBeen, ReplayHeadline, SoundRun, is_whole_status}
+use Rattle.sl_report.specs.Headline.{MayHaveBeen, ReplayHeadline, SoundRun, is_whole_status}
 use Rattle.sl_report.specs.Replay.{effects_of}
 use Rattle.sl_report.specs.Schedules.{At_line, EventLine, HeaderReading, Header_read, Header_refused, event_lines_of, greatest_source, numbered_lines, read_header, status_of as status_number}
 use Rattle.sl_run.specs.Events.{happens, refusal_of}

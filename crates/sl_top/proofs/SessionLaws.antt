@@ -1,14 +1,13 @@
 -- The sessions that a header gives the daemon of its machine.
 use Rattle.sl_plain.proofs.Lists.{contains_first, contains_more, find_fails}
 use Rattle.sl_run.specs.Headers.{IsMember}
-use Rattle.sl_run.specs.Worlds.{clock_reading, given_of, world_with}
+use Rattle.sl_run.specs.Worlds.{clock_reading, given_of}
 use Rattle.sl_run.specs.declared.header.Header.{Header}
 use Rattle.sl_run.specs.declared.header.LockspaceLine.{LockspaceLine}
 use Rattle.sl_run.specs.declared.header.SessionLine.{SessionLine}
 use Rattle.sl_still.proofs.Lists.{given_at}
 use Rattle.sl_still.specs.StillPath.{IsStillGiven}
 use Rattle.sl_host.specs.Hosts.{AreSessions, HostStands, HostState, IsSettingOf}
-use Rattle.sl_still_schedule.specs.StillLanguage.{still_commands}
 use Rattle.sl_still_schedule.specs.StillWorld.{BeginsStill, still_setting}
 use Rattle.sl_trace.specs.Traces.{Setting}
 use Rattle.sl_trace.specs.declared.input.Given.{Given}

@@ -9,7 +9,6 @@ use Rattle.sl_direct.specs.declared.action.Action.{Action}
 use Rattle.sl_direct.specs.declared.action.Directed.TheVariants as directed
 use Rattle.sl_direct.specs.declared.action.Directed.{Directed}
 use Rattle.sl_first_run.proofs.Accepting.{accepted_schedules_end_well as accepted_runs}
-use Rattle.sl_first_run.specs.Accepted.{IsAccepted}
 use Rattle.sl_first_run.specs.Readings.{replay_status}
 use Rattle.sl_report.specs.Headline.{MayHaveBeen, ReplayHeadline, SoundRun, is_whole_status}
 use Rattle.sl_still_schedule.specs.StillLanguage.{still_language}

@@ -24,7 +24,7 @@ use Rattle.sl_top.specs.Statuses.{status_of}
 use Rattle.sl_top.specs.declared.status.Status.TheVariants.{NoMemory, WriteFault}
 use Rattle.sl_top.specs.declared.status.Status.{Status}
 use Rattle.sl_trace.specs.Traces.{Setting, Trace}
-use Rattle.sl_words.proofs.CaseLaws.{false_is_true, no_value}
+use Rattle.sl_words.proofs.CaseLaws.{false_is_true}
 use Rattle.sl_words.specs.Causes.{Rose}
 use Rattle.sl_words.specs.Words.{some_is}
 use Rattle.sl_world.proofs.IdleLaws.{idle_headers_begin}

@@ -4,7 +4,7 @@ use Rattle.sl_still_schedule.specs.StillLanguage.{still_commands, still_program}
 use Rattle.sl_top.proofs.SessionLaws.{are_sessions, host_begins}
 use Rattle.sl_top.proofs.first.first_run.Goals as goal
 use Rattle.sl_world.specs.Kept.{WorldStands}
-use Rattle.std.proofs.Common.{refl, subst, sym, ◌∙◌}
+use Rattle.std.proofs.Common.{subst, sym}
 
 pub new-host-requires : goal.new-host-requires
 new-host-requires c = are_sessions c.args.header c.requires _ c.in_ok-given.ensures

@@ -1,10 +1,10 @@
 use Rattle.sl_replay.specs.Reports.{ending_of}
-use Rattle.sl_report.specs.Schedules.{Header_read, Header_refused}
+use Rattle.sl_report.specs.Schedules.{Header_read}
 use Rattle.sl_schedule.specs.Lines.{header_reading}
-use Rattle.sl_top.proofs.TopLaws.{adds_all, header_is, none_written, on_err, refused_first, room_for, still_header}
+use Rattle.sl_top.proofs.TopLaws.{adds_all, header_is, none_written, on_err, room_for, still_header}
 use Rattle.sl_top.proofs.top.push_report.Goals as goal
 use Rattle.sl_top.specs.Runs.{report_text}
-use Rattle.std.proofs.Common.{ap, sym, ◌∙◌}
+use Rattle.std.proofs.Common.{ap}
 
 pub returns-in_err-header-clause-front : goal.returns-in_err-header-clause-front
 returns-in_err-header-clause-front c = on_err c.from_residual.result _ (none_written c.args.out.now.items _ c.requires)
