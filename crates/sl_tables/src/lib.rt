@@ -6,6 +6,7 @@
 //! a run has left in the table.
 #![tactic(auto)]
 
+mod area;
 mod rising;
 
 pub use rising::Rising;
