@@ -1,1 +1,2 @@
 pub mod SlotsStand
+pub mod ScansFind

@@ -1,6 +1,7 @@
 -- What slots show, and what a gap or one more slot makes of that.
 use Rattle.sl_tables.specs.Rising.{AreBelow, AreRising, gaps_in, is_full, items_of}
 use Rattle.sl_words.proofs.CaseLaws.{none_some, some_value}
+use Rattle.sl_plain.proofs.Lists.{there_is}
 use Rattle.sl_plain.proofs.Numbers.{number_itself}
 use Rattle.std.proofs.Common.{ap, arith, inl, inr, refl, subst, sym, true≢false, ◌∙◌}
 use Rattle.std.proofs.lemmas.Bool.Decides.{eqb_tells}
@@ -10,7 +11,7 @@ use Rattle.std.specs.List.{AllByRecursion}
 use Rattle.indexmap.proofs.MapLemmas.{Found-position}
 use Rattle.std.proofs.lemmas.Map.Made.{lookup_key_passes}
 use Rattle.std.specs.Map.{keys_of, lookup, remove_entry, values_of}
-use Rattle.std.specs.Prelude.{Bool, List, None, Option, Some, [], cond, false, filter, if◌then◌else◌, is_some, position, length, nat_eq, option_and_then, slice_get, suc, true, zero, ℕ, ◌++◌, ◌+◌, ◌<◌, ◌∷◌, ◌≡◌, ◌≢◌, ◌≤◌, ◌⊎◌}
+use Rattle.std.specs.Prelude.{Bool, List, None, Option, Some, [], cond, false, filter, if◌then◌else◌, is_some, position, length, nat_eq, not, option_and_then, slice_get, suc, true, zero, ℕ, ◌++◌, ◌+◌, ◌<◌, ◌∷◌, ◌≡◌, ◌≢◌, ◌≤◌, ◌⊎◌}
 use Rattle.indexmap.specs.IndexMap.{insert_entry, set_value_at}
 
 -- ---- numbers
@@ -188,18 +189,33 @@ module _ {T : Type 0} where
   gap_stays (e ∷ es) zero k h = ap (λ o. (e.0, o) ∷ es) (sym (ap (λ q. q.1) (some_value e (k, None) h)))
   gap_stays (e ∷ es) (suc i) k h = ap (λ zs. e ∷ zs) (gap_stays es i k h)
 
-  pub none_taken : (n : ℕ) (ps : List (ℕ × T)) → lookup (nat_eq n) ps ≡ None → remove_entry (nat_eq n) ps ≡ ps
-  none_taken n [] h = refl
-  none_taken n (p ∷ ps) h = by (nat_eq n p.0) h (none_taken n ps)
+  pub none_left_out : (n : ℕ) (ps : List (ℕ × T)) → lookup (nat_eq n) ps ≡ None → filter (λ p. not (nat_eq n p.0)) ps ≡ ps
+  none_left_out n [] h = refl
+  none_left_out n (p ∷ ps) h = by (nat_eq n p.0) h (none_left_out n ps)
     where
-      by : (b : Bool) → cond b (Some p.1) (lookup (nat_eq n) ps) ≡ None → (lookup (nat_eq n) ps ≡ None → remove_entry (nat_eq n) ps ≡ ps) → cond b ps (p ∷ remove_entry (nat_eq n) ps) ≡ p ∷ ps
+      by : (b : Bool) → cond b (Some p.1) (lookup (nat_eq n) ps) ≡ None → (lookup (nat_eq n) ps ≡ None → filter (λ q. not (nat_eq n q.0)) ps ≡ ps)
+          → cond (not b) (p ∷ filter (λ q. not (nat_eq n q.0)) ps) (filter (λ q. not (nat_eq n q.0)) ps) ≡ p ∷ ps
       by true h rest = absurd (none_some p.1 (sym h))
       by false h rest = ap (λ zs. p ∷ zs) (rest h)
+
+  taken_by : (n k : ℕ) (x : T) (es : List (ℕ × Option T)) (b : Bool) → nat_eq n k ≡ b → AllByRecursion (λ q. k < q.0) es
+      → remove_entry (nat_eq n) (items_of es) ≡ filter (λ p. not (nat_eq n p.0)) (items_of es)
+      → cond b (items_of es) ((k, x) ∷ remove_entry (nat_eq n) (items_of es))
+      ≡ cond (not b) ((k, x) ∷ filter (λ p. not (nat_eq n p.0)) (items_of es)) (filter (λ p. not (nat_eq n p.0)) (items_of es))
+  taken_by n k x es true is above rest =
+      sym (none_left_out n (items_of es) (none_above n es (subst (λ m. AllByRecursion (λ q. m < q.0) es) (sym (same n k is)) above)))
+  taken_by n k x es false is above rest = ap (λ ps. (k, x) ∷ ps) rest
+
+  -- One is taken out: the first of a number is the only one.
+  taken_is_left : (n : ℕ) (es : List (ℕ × Option T)) → AreRising es → remove_entry (nat_eq n) (items_of es) ≡ filter (λ p. not (nat_eq n p.0)) (items_of es)
+  taken_is_left n [] h = refl
+  taken_is_left n ((k, None) ∷ es) h = taken_is_left n es h.1
+  taken_is_left n ((k, Some x) ∷ es) h = taken_by n k x es (nat_eq n k) refl h.0 (taken_is_left n es h.1)
 
   -- What a gap in the slot of this number leaves.
   pub record IsLeft (es : List (ℕ × Option T)) (i n : ℕ) (o : Option T) : Type 0 where
     pub found : o ≡ lookup (nat_eq n) (items_of es)
-    pub items : items_of (set_value_at es i None) ≡ remove_entry (nat_eq n) (items_of es)
+    pub items : items_of (set_value_at es i None) ≡ filter (λ p. not (nat_eq n p.0)) (items_of es)
     pub one_more : is_some o ≡ true → gaps_in (set_value_at es i None) ≡ gaps_in es + 1
     pub no_more : is_some o ≡ false → gaps_in (set_value_at es i None) ≡ gaps_in es
 
@@ -207,7 +223,7 @@ module _ {T : Type 0} where
   left_by es i n (Some x) rising there at =
       record {
         found = sym (found_full n es (Some x) rising at);
-        items = items_gap es i n x rising there;
+        items = items_gap es i n x rising there ∙ taken_is_left n es rising;
         one_more = λ is. gaps_gap es i n x there;
         no_more = λ is. absurd (true≢false is);
       }
@@ -215,10 +231,23 @@ module _ {T : Type 0} where
       let none : lookup (nat_eq n) (items_of es) ≡ None = found_full n es None rising at in
       record {
         found = sym none;
-        items = ap items_of (gap_stays es i n there) ∙ sym (none_taken n (items_of es) none);
+        items = ap items_of (gap_stays es i n there) ∙ sym (none_left_out n (items_of es) none);
         one_more = λ is. absurd (true≢false (sym is));
         no_more = λ is. ap gaps_in (gap_stays es i n there);
       }
+
+  -- Where a number stands.
+  pub number_at : (n : ℕ) (es : List (ℕ × Option T)) (i : ℕ) → position (nat_eq n) (keys_of es) ≡ Some i → (o : Option T) × (slice_get es i ≡ Some (n, o))
+  number_at n es i at =
+      let f = Found-position (nat_eq n) es i at in
+      let it = there_is es i f.within in
+      let is : n ≡ it.0.0 = same n it.0.0 (lookup_key_passes (nat_eq n) es it.0.0 (f.key ∙ key_there es i it.0.0 it.0.1 it.1)) in
+      (it.0.1, it.1 ∙ ap (λ m. Some (m, it.0.1)) (sym is))
+
+  pub above_here : (k n : ℕ) (es : List (ℕ × Option T)) → AllByRecursion (λ q. k < q.0) es → (i : ℕ) (o : Option T) → slice_get es i ≡ Some (n, o) → k < n
+  above_here k n [] above i o at = absurd (none_some (n, o) at)
+  above_here k n (e ∷ es) above zero o at = subst (λ m. k < m) (ap (λ q. q.0) (some_value e (n, o) at)) above.0
+  above_here k n (e ∷ es) above (suc i) o at = above_here k n es above.1 i o at
 
   pub gap_left : (es : List (ℕ × Option T)) (i n k : ℕ) (o : Option T) → AreRising es → position (nat_eq n) (keys_of es) ≡ Some i → slice_get es i ≡ Some (k, o) → IsLeft es i n o
   gap_left es i n k o rising at there =

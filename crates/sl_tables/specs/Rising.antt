@@ -1,4 +1,5 @@
 -- Elements by numbers that rise.
+use Rattle.sl_words.specs.Words.{choose}
 use Rattle.std.specs.List.{AllByRecursion}
 use Rattle.std.specs.Prelude.{Bool, List, None, Option, Some, [], filter_map, is_some, option_map, ℕ, ◌+◌, ◌<◌, ◌∷◌}
 
@@ -35,3 +36,9 @@ AreBelow n slots = AllByRecursion (λ p. p.0 < n) slots
 abbrev pub AreRising : {V : Type 0} → List (ℕ × V) → Type 0
 AreRising [] = Unit {0}
 AreRising (p ∷ ps) = AllByRecursion (λ q. p.0 < q.0) ps × AreRising ps
+
+-- The number of what stands in a slot, if that passes the test.
+abbrev pub found_in : {T : Type 0} → (ℕ × T → Bool) → Option (ℕ × Option T) → Option ℕ
+found_in p None = None
+found_in p (Some (n, None)) = None
+found_in p (Some (n, Some x)) = choose (p (n, x)) n

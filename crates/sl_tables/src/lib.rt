@@ -7,6 +7,7 @@
 #![tactic(auto)]
 
 mod area;
+mod opens;
 mod rising;
 
 pub use rising::Rising;

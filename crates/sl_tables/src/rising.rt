@@ -3,8 +3,8 @@
 ghost use Rattle.sl_tables.specs.Rising.{RisingState};
 ghost use Rattle.indexmap.specs.IndexMap.{index_map_len, spare, with_value_at};
 ghost use Rattle.sl_tables.specs.Rising.{is_full};
-ghost use Rattle.std.specs.Map.{lookup, remove_entry};
-ghost use Rattle.std.specs.Prelude.{IfOk, None, OnErr, OnOk, max, nat_eq, Some, filter, is_some, option_map, slice_get, [], ◌+◌, ◌++◌, ◌-◌, ◌<◌, ◌^◌, ◌∷◌, ◌≡◌, ◌≤◌, ℕ};
+ghost use Rattle.std.specs.Map.{lookup};
+ghost use Rattle.std.specs.Prelude.{IfOk, None, OnErr, OnOk, max, nat_eq, not, Some, filter, is_some, option_map, slice_get, [], ◌+◌, ◌++◌, ◌-◌, ◌<◌, ◌^◌, ◌∷◌, ◌≡◌, ◌≤◌, ℕ};
 
 use indexmap::IndexMap;
 use std::alloc::{AllocError, Global};
@@ -13,7 +13,7 @@ use std::marker::Model;
 /// Elements by numbers that rise, with memory for `room` more. One that is taken out leaves a gap.
 #[derive(Drop)]
 pub struct Rising<T> {
-    slots: IndexMap<u64, Option<T>>,
+    pub(crate) slots: IndexMap<u64, Option<T>>,
     next: u64,
     room: usize,
     gaps: usize,
@@ -125,7 +125,7 @@ impl<T: Drop> Rising<T> {
     #[tactic(auto, using(crate::proofs::SlotsStand::found_none, crate::proofs::SlotsStand::gap_left))]
     pub fn take(&mut self, number: u64) -> Option<T>
         ensures found { result ≡ lookup (nat_eq number) self.old.items }
-        ensures items { self.new.items ≡ remove_entry (nat_eq number) self.old.items }
+        ensures items { self.new.items ≡ filter (λ p. not (nat_eq number p.0)) self.old.items }
         ensures kept { (self.new.next ≡ self.old.next) × (self.new.room ≡ self.old.room) }
     {
         match self.slots.get_index_of(&number) {

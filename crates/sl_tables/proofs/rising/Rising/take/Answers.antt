@@ -1,9 +1,10 @@
-use Rattle.sl_tables.proofs.SlotsStand.{IsLeft, below_set, few_below, gap_left, found_none, gaps_few, none_taken, not_there, rising_set}
+use Rattle.sl_tables.proofs.SlotsStand.{IsLeft, below_set, few_below, gap_left, found_none, gaps_few, none_left_out, not_there, rising_set}
 use Rattle.sl_tables.proofs.rising.Rising.take.Goals as goal
 use Rattle.sl_tables.specs.Rising.{AreBelow, AreRising, gaps_in, items_of}
 use Rattle.indexmap.specs.IndexMap.{set_value_at, spare}
 use Rattle.indexmap.specs.Layout.{length-set_value_at}
-use Rattle.std.specs.Map.{lookup, remove_entry}
+use Rattle.std.specs.Map.{lookup}
+use Rattle.std.specs.Prelude.{filter, not}
 use Rattle.std.proofs.Common.{None, ap, arith, nat_eq, subst, sym, ◌∙◌, ◌≤◌, length, ◌+◌, ◌≡◌}
 
 pub overflow_add-self : goal.overflow_add-self
@@ -34,12 +35,12 @@ invariant_of-self-else-is_some g c =
 pub returns-then-is_some-clause-items : goal.returns-then-is_some-clause-items
 returns-then-is_some-clause-items g c =
     let left = gap_left _ _ _ _ _ c.self.invariant.0 (sym c.in-Some.ensures.index) c.leave_gap-item.ensures.found.1 in
-    ap (λ m. items_of m.entries) c.leave_gap-item.ensures.slots ∙ left.items ∙ ap (λ v. remove_entry (nat_eq c.args.number) v.items) c.self.view_is
+    ap (λ m. items_of m.entries) c.leave_gap-item.ensures.slots ∙ left.items ∙ ap (λ v. filter (λ p. not (nat_eq c.args.number p.0)) v.items) c.self.view_is
 
 pub returns-else-is_some-clause-items : goal.returns-else-is_some-clause-items
 returns-else-is_some-clause-items g c =
     let left = gap_left _ _ _ _ _ c.self.invariant.0 (sym c.in-Some.ensures.index) c.leave_gap-item.ensures.found.1 in
-    ap (λ m. items_of m.entries) c.leave_gap-item.ensures.slots ∙ left.items ∙ ap (λ v. remove_entry (nat_eq c.args.number) v.items) c.self.view_is
+    ap (λ m. items_of m.entries) c.leave_gap-item.ensures.slots ∙ left.items ∙ ap (λ v. filter (λ p. not (nat_eq c.args.number p.0)) v.items) c.self.view_is
 
 pub returns-in-None-clause-items : goal.returns-in-None-clause-items
-returns-in-None-clause-items g c = sym (none_taken c.args.number c.args.self.now.items (ap (λ v. lookup (nat_eq c.args.number) v.items) (sym c.self.view_is) ∙ not_there c.args.number c.self.inside.slots.entries c.self.invariant.0 (sym c.in-None.ensures.found)))
+returns-in-None-clause-items g c = sym (none_left_out c.args.number c.args.self.now.items (ap (λ v. lookup (nat_eq c.args.number) v.items) (sym c.self.view_is) ∙ not_there c.args.number c.self.inside.slots.entries c.self.invariant.0 (sym c.in-None.ensures.found)))
