@@ -1,2 +1,3 @@
 pub mod SlotsStand
 pub mod ScansFind
+pub mod OpensStand

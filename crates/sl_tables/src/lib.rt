@@ -10,4 +10,5 @@ mod area;
 mod opens;
 mod rising;
 
+pub use opens::OpenCalls;
 pub use rising::Rising;

@@ -1,16 +1,21 @@
 //! The calls without an answer, by number and by area.
 
-ghost use Rattle.indexmap.specs.IndexMap.{index_map_len};
+ghost use Rattle.indexmap.specs.IndexMap.{get, index_map_len, spare};
 ghost use Rattle.sl_host_state.specs.declared.kept.OpenCall.{OpenCall as OpenCallOf};
-ghost use Rattle.sl_tables.specs.Opens.{area_of, is_on_area};
+ghost use Rattle.sl_tables.specs.Opens.{area_of, first_on, is_on_area};
 ghost use Rattle.sl_tables.specs.Rising.{AreRising, found_in, items_of};
 ghost use Rattle.sl_trace.specs.Traces.{same_spot};
-ghost use Rattle.std.specs.Prelude.{Bool, None, find, nat_lt, option_map, slice_get, take, ℕ, ◌%◌, ◌&&◌, ◌-◌, ◌<◌, ◌≡◌, ◌≤◌};
+ghost use Rattle.sl_trace.specs.declared.effects.Spot.{Spot as SpotOf};
+ghost use Rattle.std.specs.Prelude.{Bool, None, OnErr, OnOk, Some, cond, find, max, nat_lt, option_map, slice_get, take, unwrap_or, [], ℕ, ◌%◌, ◌&&◌, ◌+◌, ◌++◌, ◌-◌, ◌<◌, ◌==◌, ◌^◌, ◌∷◌, ◌≡◌, ◌≤◌};
 
+use crate::area::Area;
 use crate::rising::Rising;
 use indexmap::IndexMap;
-use sl_host_state::OpenCall;
-use sl_trace::Spot;
+use sl_host_state::{OpenCall, ValuePair};
+use sl_text::{FilePath, Name};
+use sl_trace::{JoinStep, LeaseStep, Purpose, Spot, Work};
+use std::alloc::{AllocError, Global};
+use std::marker::Model;
 
 /// The area on which a call is.
 fn area_of(call: &OpenCall, area: u64) -> Spot
@@ -76,5 +81,104 @@ impl Rising<OpenCall> {
             }
         }
         None
+    }
+}
+
+/// The types within a call.
+type WithinCall = (
+    Purpose,
+    Work,
+    LeaseStep,
+    JoinStep,
+    ValuePair,
+    Name,
+    FilePath,
+);
+
+/// Notes the first call on an area, where it has none.
+fn note_first(firsts: &mut IndexMap<Area, u64>, spot: Spot, number: u64)
+    requires { 0 < spare firsts.old }
+    ensures firsts { (at : SpotOf) → get same_spot firsts.new at ≡ cond (same_spot spot at) (Some (unwrap_or (get same_spot firsts.old spot) number)) (get same_spot firsts.old at) }
+    ensures room { spare firsts.old ≤ spare firsts.new + 1 }
+{
+    let key = Area::at(spot);
+    if firsts.get(&key).is_none() {
+        match firsts.insert(key, number) {
+            Ok(_) => {}
+            Err(_) => unreachable!(),
+        }
+    }
+}
+
+/// The calls without an answer, the oldest first, with memory for some more.
+#[derive(Drop)]
+pub struct OpenCalls {
+    calls: Rising<OpenCall>,
+    /// Of each area on which calls are, the number of the first.
+    firsts: IndexMap<Area, u64>,
+    area: u64,
+}
+
+impl Model for OpenCalls {
+    ghost use Rattle.indexmap.specs.IndexMap.{get, spare};
+    ghost use Rattle.sl_tables.specs.Opens.{AreNumbered, OpenState, first_on};
+    ghost use Rattle.sl_trace.specs.Traces.{same_spot};
+    ghost use Rattle.sl_trace.specs.declared.effects.Spot.{Spot as SpotOf};
+    ghost use Rattle.std.specs.Map.{values_of};
+    ghost use Rattle.std.specs.Prelude.{◌<◌, ◌≡◌, ◌≤◌};
+
+    ghost Value = { OpenState };
+
+    ghost view = { λ o. record { calls = values_of o.calls.items; next = o.calls.next; room = o.calls.room; area = o.area } };
+
+    ghost invariant = { λ o. AreNumbered o.calls.items × ((at : SpotOf) → get same_spot o.firsts at ≡ first_on o.area at (values_of o.calls.items))
+        × (o.calls.room ≤ spare o.firsts) × (0 < o.area) };
+}
+
+impl OpenCalls {
+    /// No call; `area` is the size of an area in bytes.
+    pub fn new(alloc: Global, area: u64) -> OpenCalls
+        requires { 0 < area }
+        ensures { result ≡ record { calls = []; next = 0; room = 0; area = area } }
+    {
+        OpenCalls {
+            calls: Rising::new(alloc),
+            firsts: IndexMap::new(alloc),
+            area,
+        }
+    }
+
+    /// Sees that there is memory for so many more. An `Err` is want of memory, and changes nothing.
+    pub fn reserve(&mut self, room: usize) -> Result<(), AllocError>
+        ensures ok { OnOk result (self.new ≡ record self.old { room = max self.old.room room }) }
+        ensures err { OnErr result (self.new ≡ self.old) }
+    {
+        self.firsts.reserve(room)?;
+        self.calls.reserve(room)
+    }
+
+    /// One more call, with a number above all others.
+    pub fn put(&mut self, call: OpenCall)
+        requires room { 0 < self.old.room }
+        requires rises { (self.old.next ≤ call.number) × (call.number < 2 ^ 64 - 1) }
+        ensures { self.new ≡ record self.old { calls = self.old.calls ++ call ∷ []; next = call.number + 1; room = self.old.room - 1 } }
+    {
+        let _within: Option<WithinCall> = None;
+        note_first(&mut self.firsts, area_of(&call, self.area), call.number);
+        self.calls.put(call.number, call);
+    }
+
+    /// The call of this number, if it has no answer.
+    pub fn get(&self, number: u64) -> Option<&OpenCall>
+        ensures { option_map (λ c. c.now) result ≡ find (λ c. c.number == number) self.now.calls }
+    {
+        self.calls.get(number)
+    }
+
+    /// The first call on an area.
+    pub fn pending(&self, spot: &Spot) -> Option<u64>
+        ensures { result ≡ first_on self.now.area spot.now self.now.calls }
+    {
+        self.firsts.get(&Area::at(*spot)).copied()
     }
 }
