@@ -4,12 +4,30 @@ use Rattle.sl_tables.specs.Opens.{AreNumbered, area_of, first_on, is_on_area}
 use Rattle.sl_tables.specs.SpotsCompare.{spot_equiv}
 use Rattle.sl_trace.specs.Traces.{same_spot}
 use Rattle.sl_trace.specs.declared.effects.Spot.{Spot}
-use Rattle.std.proofs.Common.{ap, refl, subst, sym, ◌∙◌}
+use Rattle.indexmap.proofs.MapLemmas.{Found-position}
+use Rattle.sl_words.proofs.CaseLaws.{none_some, some_value}
+use Rattle.std.proofs.lemmas.Map.Made.{lookup_key_passes}
+use Rattle.sl_plain.proofs.Lists.{contains_cases, contains_none}
+use Rattle.sl_tables.specs.Rising.{AreRising}
+use Rattle.std.proofs.lemmas.Bool.Decides.{Decides-eqb}
+use Rattle.std.specs.List.{AllByRecursion}
+use Rattle.std.proofs.Common.{ap, arith, inl, inr, refl, subst, sym, true≢false, ◌∙◌}
 use Rattle.std.proofs.lemmas.List.Folds.{find-append}
 use Rattle.std.specs.Cmp.{nat_eq_equiv}
-use Rattle.std.specs.Map.{lookup, values_of}
+use Rattle.std.specs.Map.{keys_of, lookup, values_of}
 use Rattle.std.specs.Option.{option_or}
-use Rattle.std.specs.Prelude.{Bool, List, None, Option, Some, [], cond, false, find, nat_eq, option_map, true, unwrap_or, ℕ, ◌++◌, ◌==◌, ◌∷◌, ◌≡◌}
+use Rattle.std.specs.Prelude.{Bool, Contains, List, None, Option, Some, [], cond, false, filter, find, nat_eq, not, option_map, position, slice_get, suc, true, unwrap_or, zero, ℕ, ◌++◌, ◌<◌, ◌==◌, ◌∷◌, ◌≡◌, ◌⊎◌}
+
+-- ---- by key
+
+key_there : {K V : Type 0} (es : List (K × V)) (i : ℕ) (k : K) (v : V) → slice_get es i ≡ Some (k, v) → slice_get (keys_of es) i ≡ Some k
+key_there [] i k v h = absurd (none_some (k, v) h)
+key_there (e ∷ es) zero k v h = ap (λ q. Some q.0) (some_value e (k, v) h)
+key_there (e ∷ es) (suc i) k v h = key_there es i k v h
+
+-- The key at the place that was found is the one sought.
+pub key_passes : {K V : Type 0} (eq : K → K → Bool) (sought : K) (es : List (K × V)) (i : ℕ) (k : K) (v : V) → position (eq sought) (keys_of es) ≡ Some i → slice_get es i ≡ Some (k, v) → eq sought k ≡ true
+key_passes eq sought es i k v at there = lookup_key_passes (eq sought) es k ((Found-position (eq sought) es i at).key ∙ key_there es i k v there)
 
 -- ---- by number
 
@@ -59,3 +77,52 @@ pushed_by area at c cs false same =
 pub first_push : (area : ℕ) (at : Spot) (c : OpenCall) (cs : List OpenCall)
     → cond (same_spot (area_of area c) at) (Some (unwrap_or (first_on area (area_of area c) cs) c.number)) (first_on area at cs) ≡ first_on area at (cs ++ c ∷ [])
 first_push area at c cs = pushed_by area at c cs (same_spot (area_of area c) at) refl
+
+-- ---- an answer
+
+pub numbered_left : (p : ℕ × OpenCall → Bool) (items : List (ℕ × OpenCall)) → AreNumbered items → AreNumbered (filter p items)
+numbered_left p [] h = h
+numbered_left p (q ∷ items) h = by (p q) h.0 (numbered_left p items h.1)
+  where
+    by : (b : Bool) → q.1.number ≡ q.0 → AreNumbered (filter p items) → AreNumbered (cond b (q ∷ filter p items) (filter p items))
+    by true own rest = (own, rest)
+    by false own rest = rest
+
+pub values_left : (n : ℕ) (items : List (ℕ × OpenCall)) → AreNumbered items
+    → values_of (filter (λ p. not (nat_eq n p.0)) items) ≡ filter (λ c. not (c.number == n)) (values_of items)
+values_left n [] h = refl
+values_left n (q ∷ items) h = by (nat_eq n q.0) (q.1.number == n) (nat_eq_equiv.symm n q.0 ∙ ap (λ k. k == n) (sym h.0)) (values_left n items h.1)
+  where
+    by : (a b : Bool) → a ≡ b → values_of (filter (λ p. not (nat_eq n p.0)) items) ≡ filter (λ c. not (c.number == n)) (values_of items)
+        → values_of (cond (not a) (q ∷ filter (λ p. not (nat_eq n p.0)) items) (filter (λ p. not (nat_eq n p.0)) items))
+        ≡ cond (not b) (q.1 ∷ filter (λ c. not (c.number == n)) (values_of items)) (filter (λ c. not (c.number == n)) (values_of items))
+    by true b same rest = rest ∙ ap (λ t. cond (not t) (q.1 ∷ filter (λ c. not (c.number == n)) (values_of items)) (filter (λ c. not (c.number == n)) (values_of items))) same
+    by false b same rest =
+        ap (λ cs. q.1 ∷ cs) rest ∙ ap (λ t. cond (not t) (q.1 ∷ filter (λ c. not (c.number == n)) (values_of items)) (filter (λ c. not (c.number == n)) (values_of items))) same
+
+-- A call on an area has a first call there.
+same_number : (n k : ℕ) → nat_eq n k ≡ true → n ≡ k
+same_number n k is = (Decides-eqb n k).0 is
+
+none_at : (n : ℕ) (items : List (ℕ × OpenCall)) → AreNumbered items → AllByRecursion (λ q. n < q.0) items → (d : OpenCall) → Contains (values_of items) d → (d.number ≡ n) → ⊥
+none_at n [] numbered above d there is = contains_none d there
+none_at n (q ∷ items) numbered above d there is =
+    elim (contains_cases q.1 (values_of items) d there) [
+      | inl here ↦ let same : q.0 ≡ n = sym numbered.0 ∙ (ap (λ (e : OpenCall). e.number) here ∙ is) in omega (arith, same, above.0)
+      | inr rest ↦ none_at n items numbered.1 above.1 d rest is
+    ]
+
+one_by : (n : ℕ) (q : ℕ × OpenCall) (items : List (ℕ × OpenCall)) (c d : OpenCall) (b : Bool) → nat_eq n q.0 ≡ b → AreNumbered (q ∷ items) → AreRising (q ∷ items) → cond b (Some q.1) (lookup (nat_eq n) items) ≡ Some c
+    → (q.1 ≡ d) ⊎ Contains (values_of items) d → d.number ≡ n → (lookup (nat_eq n) items ≡ Some c → Contains (values_of items) d → d ≡ c) → d ≡ c
+one_by n q items c d true same numbered rising at (inl here) is rest = sym here ∙ some_value q.1 c at
+one_by n q items c d true same numbered rising at (inr there) is rest =
+    absurd (none_at n items numbered.1 (subst (λ m. AllByRecursion (λ r. m < r.0) items) (sym (same_number n q.0 same)) rising.0) d there is)
+one_by n q items c d false same numbered rising at (inl here) is rest =
+    let own : n ≡ q.0 = sym is ∙ (ap (λ (e : OpenCall). e.number) (sym here) ∙ numbered.0) in absurd (true≢false (sym ((Decides-eqb n q.0).1 own) ∙ same))
+one_by n q items c d false same numbered rising at (inr there) is rest = rest at there
+
+-- A number names one call.
+pub one_of_number : (n : ℕ) (items : List (ℕ × OpenCall)) (c d : OpenCall) → AreNumbered items → AreRising items → lookup (nat_eq n) items ≡ Some c → Contains (values_of items) d → d.number ≡ n → d ≡ c
+one_of_number n [] c d numbered rising at there is = absurd (none_some c at)
+one_of_number n (q ∷ items) c d numbered rising at there is =
+    one_by n q items c d (nat_eq n q.0) refl numbered rising at (contains_cases q.1 (values_of items) d there) is (λ more deeper. one_of_number n items c d numbered.1 rising.1 more deeper is)

@@ -89,6 +89,17 @@ module _ {T : Type 0} where
   gaps_push n x ((k, None) ∷ es) = ap (λ c. c + 1) (gaps_push n x es)
   gaps_push n x ((k, Some y) ∷ es) = gaps_push n x es
 
+  items_above : (k : ℕ) (es : List (ℕ × Option T)) → AllByRecursion (λ q. k < q.0) es → AllByRecursion (λ q. k < q.0) (items_of es)
+  items_above k [] h = tt
+  items_above k ((n, None) ∷ es) h = items_above k es h.1
+  items_above k ((n, Some x) ∷ es) h = (h.0, items_above k es h.1)
+
+  -- What stands in rising slots rises.
+  pub items_rise : (es : List (ℕ × Option T)) → AreRising es → AreRising (items_of es)
+  items_rise [] h = tt
+  items_rise ((k, None) ∷ es) h = items_rise es h.1
+  items_rise ((k, Some x) ∷ es) h = (items_above k es h.0, items_rise es h.1)
+
   -- ---- what is found
 
   none_above : (n : ℕ) (es : List (ℕ × Option T)) → AllByRecursion (λ q. n < q.0) es → lookup (nat_eq n) (items_of es) ≡ None

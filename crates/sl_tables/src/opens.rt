@@ -2,11 +2,12 @@
 
 ghost use Rattle.indexmap.specs.IndexMap.{get, index_map_len, spare};
 ghost use Rattle.sl_host_state.specs.declared.kept.OpenCall.{OpenCall as OpenCallOf};
-ghost use Rattle.sl_tables.specs.Opens.{area_of, first_on, is_on_area};
+ghost use Rattle.sl_tables.specs.Opens.{area_of, first_on, is_on_area, next_on};
 ghost use Rattle.sl_tables.specs.Rising.{AreRising, found_in, items_of};
 ghost use Rattle.sl_trace.specs.Traces.{same_spot};
 ghost use Rattle.sl_trace.specs.declared.effects.Spot.{Spot as SpotOf};
-ghost use Rattle.std.specs.Prelude.{Bool, None, OnErr, OnOk, Some, cond, find, max, nat_lt, option_map, slice_get, take, unwrap_or, [], ℕ, ◌%◌, ◌&&◌, ◌+◌, ◌++◌, ◌-◌, ◌<◌, ◌==◌, ◌^◌, ◌∷◌, ◌≡◌, ◌≤◌};
+ghost use Rattle.sl_words.specs.Words.{some_is};
+ghost use Rattle.std.specs.Prelude.{Bool, IsSome, None, OnErr, OnOk, Some, cond, filter, find, not, max, nat_lt, option_map, slice_get, take, unwrap_or, [], ℕ, ◌%◌, ◌&&◌, ◌+◌, ◌++◌, ◌-◌, ◌<◌, ◌==◌, ◌^◌, ◌∷◌, ◌≡◌, ◌≤◌};
 
 use crate::area::Area;
 use crate::rising::Rising;
@@ -72,7 +73,7 @@ impl Rising<OpenCall> {
     #[tactic(auto, using(crate::proofs::ScansFind::scan_none, crate::proofs::ScansFind::scan_some, crate::proofs::ScansFind::scan_all))]
     fn next_on(&self, number: u64, spot: &Spot, area: u64) -> Option<u64>
         requires { 0 < area }
-        ensures { result ≡ option_map (λ p. p.0) (find (λ p. nat_lt number p.0 && is_on_area area spot.now p.1) self.now.items) }
+        ensures { result ≡ next_on area spot.now number self.now.items }
     {
         for index in slot_behind(&self.slots, number)..self.slots.len() {
             let found = found_in(&self.slots, index, number, spot, area);
@@ -107,6 +108,63 @@ fn note_first(firsts: &mut IndexMap<Area, u64>, spot: Spot, number: u64)
             Ok(_) => {}
             Err(_) => unreachable!(),
         }
+    }
+}
+
+/// Whether the call of this number is the first on an area.
+fn is_first(firsts: &IndexMap<Area, u64>, spot: &Spot, number: u64) -> bool
+    ensures { result ≡ some_is (λ n. n == number) (get same_spot firsts.now spot.now) }
+{
+    match firsts.get(&Area::at(*spot)) {
+        Some(first) => *first == number,
+        None => false,
+    }
+}
+
+/// Notes another first call on an area that has one.
+fn replace_first(firsts: &mut IndexMap<Area, u64>, spot: &Spot, number: u64)
+    requires { IsSome (get same_spot firsts.old spot.now) }
+    ensures firsts { (at : SpotOf) → get same_spot firsts.new at ≡ cond (same_spot spot.now at) (Some number) (get same_spot firsts.old at) }
+    ensures room { spare firsts.old ≤ spare firsts.new }
+{
+    match firsts.get_index_of(&Area::at(*spot)) {
+        Some(index) => {
+            let (_, first) = firsts.pair_mut(index);
+            *first = number;
+        }
+        None => unreachable!(),
+    }
+}
+
+/// Notes what is now the first call on an area that has one, or that there is none.
+fn pass_on(firsts: &mut IndexMap<Area, u64>, spot: &Spot, next: Option<u64>)
+    requires { IsSome (get same_spot firsts.old spot.now) }
+    ensures firsts { (at : SpotOf) → get same_spot firsts.new at ≡ cond (same_spot spot.now at) next (get same_spot firsts.old at) }
+    ensures room { spare firsts.old ≤ spare firsts.new }
+{
+    match next {
+        Some(number) => replace_first(firsts, spot, number),
+        None => {
+            firsts.swap_remove(&Area::at(*spot));
+        }
+    }
+}
+
+/// The call of this number was answered: where it was the first on its area, the next is.
+fn move_on(
+    firsts: &mut IndexMap<Area, u64>,
+    calls: &Rising<OpenCall>,
+    spot: &Spot,
+    number: u64,
+    area: u64,
+)
+    requires { 0 < area }
+    ensures firsts { (at : SpotOf) → get same_spot firsts.new at ≡ cond (same_spot spot.now at && some_is (λ n. n == number) (get same_spot firsts.old spot.now))
+        (next_on area spot.now number calls.now.items) (get same_spot firsts.old at) }
+    ensures room { spare firsts.old ≤ spare firsts.new }
+{
+    if is_first(firsts, spot, number) {
+        pass_on(firsts, spot, calls.next_on(number, spot, area));
     }
 }
 
@@ -180,5 +238,21 @@ impl OpenCalls {
         ensures { result ≡ first_on self.now.area spot.now self.now.calls }
     {
         self.firsts.get(&Area::at(*spot)).copied()
+    }
+
+    /// The call of this number is answered: it is given, if it had no answer.
+    pub fn answered(&mut self, number: u64) -> Option<OpenCall>
+        ensures call { result ≡ find (λ c. c.number == number) self.old.calls }
+        ensures calls { self.new ≡ record self.old { calls = filter (λ c. not (c.number == number)) self.old.calls } }
+    {
+        let _within: Option<WithinCall> = None;
+        match self.calls.take(number) {
+            Some(call) => {
+                let spot = area_of(&call, self.area);
+                move_on(&mut self.firsts, &self.calls, &spot, number, self.area);
+                Some(call)
+            }
+            None => None,
+        }
     }
 }

@@ -1,6 +1,6 @@
 //! Elements by numbers that rise.
 
-ghost use Rattle.sl_tables.specs.Rising.{RisingState};
+ghost use Rattle.sl_tables.specs.Rising.{AreRising, RisingState};
 ghost use Rattle.indexmap.specs.IndexMap.{index_map_len, spare, with_value_at};
 ghost use Rattle.sl_tables.specs.Rising.{is_full};
 ghost use Rattle.std.specs.Map.{lookup};
@@ -122,11 +122,12 @@ impl<T: Drop> Rising<T> {
     }
 
     /// Takes the element of this number out, if it stands.
-    #[tactic(auto, using(crate::proofs::SlotsStand::found_none, crate::proofs::SlotsStand::gap_left))]
+    #[tactic(auto, using(crate::proofs::SlotsStand::found_none, crate::proofs::SlotsStand::gap_left, crate::proofs::SlotsStand::items_rise))]
     pub fn take(&mut self, number: u64) -> Option<T>
         ensures found { result ≡ lookup (nat_eq number) self.old.items }
         ensures items { self.new.items ≡ filter (λ p. not (nat_eq number p.0)) self.old.items }
         ensures kept { (self.new.next ≡ self.old.next) × (self.new.room ≡ self.old.room) }
+        ensures rising { AreRising self.old.items }
     {
         match self.slots.get_index_of(&number) {
             Some(index) => {
