@@ -61,6 +61,7 @@ new_member_stands st s =
       seen = λ id. refl;
       spots = refl;
       leases = λ k l there. absurd (none_some l there);
+      valued = tt;
       values = λ k l there. absurd (none_some l there);
     }
 
@@ -78,6 +79,7 @@ new_host_keeps st room spare =
       entries = refl;
       calls = refl;
       lines = (let n : ℕ = st.first.job in omega arith);
+      replied = λ n above. refl;
       started = refl;
       born = how_many 0 st.given;
       numbered = refl;

@@ -32,6 +32,7 @@ steps_are_over i h x follows is_due s =
             entries = k.entries;
             calls = k.calls ∙ as_it_is (h.first_call + length h.made.calls);
             lines = k.lines;
+            replied = k.replied;
             started = k.started;
             born = k.born;
             numbered = k.numbered;

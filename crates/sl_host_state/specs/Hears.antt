@@ -129,13 +129,21 @@ heard_number h = record h { next_job = h.next_job + 1 }
 abbrev pub children_after : Input → List Child → List Child
 children_after i ks = filter is_there (map (child_after i) ks)
 
+-- Whether a child of this number was to be started in this step: then no input of the step is about it.
+abbrev pub is_started_now : HostState → ℕ → Bool
+is_started_now h p = let fx : Effects = h.made in list_any (λ s. s.process == p) fx.starts
+
 -- A process has exited: a child of this number has, and its kill program goes.
 abbrev pub heard_exit : ℕ → HostState → HostState
-heard_exit p h = record h { children = children_after (Exit p) h.children; programs = without_program (Some p) h.programs }
+heard_exit p h =
+    record h {
+      children = cond (is_started_now h p) h.children (children_after (Exit p) h.children);
+      programs = without_program (Some p) h.programs;
+    }
 
 -- A start is answered.
 abbrev pub heard_start : ℕ → Bool → HostState → HostState
-heard_start p ok h = record h { children = children_after (Spawned p ok) h.children }
+heard_start p ok h = record h { children = cond (is_started_now h p) h.children (children_after (Spawned p ok) h.children) }
 
 -- ---- an answer, heard by its session
 

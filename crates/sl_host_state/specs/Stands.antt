@@ -4,10 +4,11 @@
 --
 -- - config: what the daemon is made of is kept as it is.
 -- - entries, calls, lines, started, born: the next number of each kind is the one kept.
+-- - replied: no reply is to a line that has not come.
 -- - numbered, counted: calls, and children, have the numbers in order, so a number names one.
 -- - present: the members are the sessions whose lockspaces are in use, by name; members: what is asked of each is what it keeps.
 -- - connected: the connections are those of the names kept.
--- - unanswered: the calls without an answer are those kept; owned: the job of each, and of each child, was a line.
+-- - unanswered: the calls without an answer are those kept; owned: the job of each call, and of each child, was a line.
 -- - jobs: the running jobs are those kept, each with its child and the call for which it waits.
 -- - holdings, children, programs: so are these.
 -- - quiet: nothing that is due by time before an input is due below `quiet_until`.
@@ -19,7 +20,7 @@ use Rattle.sl_host_state.specs.Kept.{AskedAt, Config, HostState, JobState, JoinC
 use Rattle.sl_leases.specs.Ballots.{in_instance}
 use Rattle.sl_leases.specs.Counts.{values_on}
 use Rattle.sl_leases.specs.Jobs.{child_of_job, command_of}
-use Rattle.sl_leases.specs.Leases.{block_submitted, block_written, free_left, freed, last_blocks, leader_written, lease_calls, lease_spots, lease_step, lver_written, may_show_shared, open_ballot, value_written, verified_name}
+use Rattle.sl_leases.specs.Leases.{block_submitted, block_written, free_left, freed, is_on, last_blocks, leader_written, lease_calls, lease_spots, lease_step, lver_written, may_show_shared, open_ballot, value_written, verified_name}
 use Rattle.sl_sector.specs.Bitmaps.{bitmap_of}
 use Rattle.sl_sector.specs.declared.sector.Block.{Block}
 use Rattle.sl_sector.specs.declared.sector.Owner.{Owner}
@@ -30,7 +31,7 @@ use Rattle.sl_sessions.specs.Watching.{sightings}
 use Rattle.sl_sessions.specs.declared.session.Begun.{Begun}
 use Rattle.sl_time.specs.Times.{fail}
 use Rattle.sl_trace.specs.Connections.{connections}
-use Rattle.sl_trace.specs.Traces.{Child, Job, Setting, Submitted, Trace, children, first_child, holdings, job_numbered, job_of, kill_programs, last_reading, next_call, next_job, no_effects, outstanding, running_jobs, submitted, waiting_call}
+use Rattle.sl_trace.specs.Traces.{Child, Job, Setting, Submitted, Trace, children, first_child, holdings, job_numbered, job_of, kill_programs, last_reading, next_call, next_job, no_effects, outstanding, reply_to, running_jobs, submitted, waiting_call}
 use Rattle.sl_trace.specs.declared.effects.Op.TheVariants.{ReadSectors, WriteRecord}
 use Rattle.sl_trace.specs.declared.effects.Op.{Op}
 use Rattle.sl_trace.specs.declared.input.Input.{Input}
@@ -165,14 +166,16 @@ pub record MemberStands (st : Setting) (es : Trace) (m : MemberState) : Type 0 w
   pub seen : (id : ℕ) → sightings st.layout id (calls_of es m.who) ≡ m.seen id
   pub spots : lease_spots st es m.who ≡ map (λ l. l.spot) m.leases
   pub leases : (k : ℕ) (l : LeaseState) → slice_get m.leases k ≡ Some l → LeaseStands st.layout m.who.lockspace (me es m.who) l (lease_calls st es m.who l.spot)
+  -- each value that it submitted is on the area of a lease of it
+  pub valued : AllByRecursion (λ d. IsTrue (is_none (value_written d) || list_any (λ l. is_on st.layout l.spot d.call) m.leases)) (calls_of es m.who)
   -- values are set under the version held, and versions rise, so of all values the last one is enough
   pub values : (k : ℕ) (l : LeaseState) → slice_get m.leases k ≡ Some l → newest_value (values_on st.layout l.spot (calls_of es m.who)) ≡ l.value
 
 -- ---- the whole
 
--- The jobs of open calls and of children.
-abbrev pub jobs_told : HostState → List ℕ
-jobs_told h = filter_map (λ c. job_of c.purpose) h.unanswered ++ filter_map (λ k. k.job) h.children
+-- The jobs of calls and of children.
+abbrev pub jobs_told : Trace → List ℕ
+jobs_told es = filter_map (λ m. job_of m.call.purpose) (submitted es) ++ filter_map (λ k. k.job) (children es)
 
 -- The questions to a trace.
 pub record Keeps (h : HostState) (st : Setting) (es : Trace) : Type 0 where
@@ -180,6 +183,7 @@ pub record Keeps (h : HostState) (st : Setting) (es : Trace) : Type 0 where
   pub entries : length es ≡ h.entries
   pub calls : next_call st es ≡ h.first_call + length h.made.calls
   pub lines : next_job st es ≡ h.next_job
+  pub replied : (n : ℕ) → h.next_job ≤ n → reply_to es n ≡ None
   pub started : length (children es) ≡ h.started
   pub born : length (sessions st es) ≡ h.born
   pub numbered : map (λ m. m.call.number) (submitted es) ≡ reverse (range_with_len st.first.call (length (submitted es)))
@@ -188,7 +192,7 @@ pub record Keeps (h : HostState) (st : Setting) (es : Trace) : Type 0 where
   pub members : (k : ℕ) (m : MemberState) → slice_get h.members k ≡ Some m → MemberStands st es m
   pub connected : map (λ c. c.name) (connections st es) ≡ h.connected
   pub unanswered : map kept_call (outstanding es) ≡ reverse h.unanswered
-  pub owned : AllByRecursion (λ j. IsTrue (is_some (job_numbered st es j))) (jobs_told h)
+  pub owned : AllByRecursion (λ j. IsTrue (is_some (job_numbered st es j))) (jobs_told es)
   pub jobs : map (kept_job es) (running_jobs st es) ≡ h.jobs
   pub holdings : holdings es ≡ h.holdings
   pub children : filter is_there (children es) ≡ h.children
