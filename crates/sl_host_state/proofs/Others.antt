@@ -1,11 +1,11 @@
 -- Ends, signals and grants of a step change nothing that is asked of its calls, sessions and jobs. All questions but those on calls are
 -- the same by computation, and those on calls look at an entry's reading and replies alone.
-use Rattle.sl_due.specs.DueRequests.{bits_due}
+use Rattle.sl_due.specs.DueRequests.{is_asked}
 use Rattle.sl_due.specs.Steps.{Step, add_end, add_grant, add_signal, seen, with_effects}
 use Rattle.sl_host_state.specs.Effects.{EffectsAreTaken}
 use Rattle.sl_host_state.specs.Kept.{HostState, MemberState}
 use Rattle.sl_host_state.specs.Makes.{with_end, with_grant, with_signal}
-use Rattle.sl_host_state.specs.Stands.{JoinStands, Keeps, LeaseStands, MemberStands, Stands, Takes, kept_call, kept_waiting, newest_value}
+use Rattle.sl_host_state.specs.Stands.{AreInTurn, JoinStands, Keeps, LeaseStands, MemberStands, Stands, Takes, kept_call, kept_waiting, newest_value}
 use Rattle.sl_leases.specs.Counts.{values_on}
 use Rattle.sl_leases.specs.Jobs.{child_of_job, command_of}
 use Rattle.sl_leases.specs.Leases.{is_lease_call, is_on, spots_in, value_written}
@@ -77,7 +77,8 @@ module _ (es : List End) (ss : List Sent) (gs : List Grant) where
         joining = λ still. subst (λ ms. JoinStands m.joining ms) (sym own) (s.joining still);
         renewing = s.renewing;
         leaving = s.leaving;
-        bits = λ now. ap (λ ms. bits_due x.setting ms now) own ∙ s.bits now;
+        asked = λ now owner. ap (λ ms. is_asked x.setting ms now owner) own ∙ s.asked now owner;
+        turn = subst (λ ms. AreInTurn (filter (λ c. is_delta_purpose c.call.purpose) ms)) (sym own) s.turn;
         seen = λ id. ap (λ ms. sightings x.setting.layout id ms) own ∙ s.seen id;
         spots = ap (spots_in x.setting.layout) own ∙ s.spots;
         leases = λ k l there.
@@ -111,6 +112,7 @@ module _ (es : List End) (ss : List Sent) (gs : List Grant) where
         members = λ n m there. member_otherwise x m (k.members n m there);
         connected = k.connected;
         unanswered = ap (λ ms. map kept_call (unanswered ms)) (same_calls x) ∙ k.unanswered;
+        single = k.single;
         owned = subst
             (λ ms. AllByRecursion (λ j. IsTrue (is_some (job_numbered x.setting (seen x) j))) (filter_map (λ m. job_of m.call.purpose) ms ++ filter_map (λ c. c.job) (children (seen x))))
             (sym (same_calls x)) k.owned;

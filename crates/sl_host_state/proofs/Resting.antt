@@ -41,6 +41,7 @@ steps_are_over i h x follows is_due s =
             members = k.members;
             connected = k.connected;
             unanswered = k.unanswered;
+            single = k.single;
             owned = k.owned;
             jobs = k.jobs;
             holdings = k.holdings;
