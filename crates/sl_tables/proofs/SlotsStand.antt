@@ -1,5 +1,5 @@
 -- What slots show, and what a gap or one more slot makes of that.
-use Rattle.sl_tables.specs.Rising.{AreBelow, AreRising, gaps_in, is_full, items_of}
+use Rattle.sl_tables.specs.Rising.{AreBelow, AreRising, gaps_in, is_full, items_of, standing}
 use Rattle.sl_words.proofs.CaseLaws.{none_some, some_value}
 use Rattle.sl_plain.proofs.Lists.{there_is}
 use Rattle.sl_plain.proofs.Numbers.{number_itself}
@@ -11,7 +11,7 @@ use Rattle.std.specs.List.{AllByRecursion}
 use Rattle.indexmap.proofs.MapLemmas.{Found-position}
 use Rattle.std.proofs.lemmas.Map.Made.{lookup_key_passes}
 use Rattle.std.specs.Map.{keys_of, lookup, remove_entry, values_of}
-use Rattle.std.specs.Prelude.{Bool, List, None, Option, Some, [], cond, false, filter, if◌then◌else◌, is_some, position, length, nat_eq, not, option_and_then, slice_get, suc, true, zero, ℕ, ◌++◌, ◌+◌, ◌<◌, ◌∷◌, ◌≡◌, ◌≢◌, ◌≤◌, ◌⊎◌}
+use Rattle.std.specs.Prelude.{Bool, List, None, Option, Some, [], cond, false, filter, if◌then◌else◌, is_some, position, length, map, nat_eq, not, option_and_then, option_map, slice_get, suc, true, zero, ℕ, ◌++◌, ◌+◌, ◌<◌, ◌∷◌, ◌≡◌, ◌≢◌, ◌≤◌, ◌⊎◌}
 use Rattle.indexmap.specs.IndexMap.{insert_entry, set_value_at}
 
 -- ---- numbers
@@ -282,3 +282,78 @@ from_zero (e ∷ es) = (omega arith, from_zero es)
 -- There are no more slots than numbers.
 pub few_below : {V : Type 0} (n : ℕ) (es : List (ℕ × V)) → AreRising es → AreBelow n es → length es ≤ n
 few_below n es rising below = let h = few_from 0 n es (from_zero es) rising below (omega arith) in omega (arith, h)
+
+module _ {T : Type 0} where
+  -- As many stand as there are slots without gaps.
+  pub as_many : (es : List (ℕ × Option T)) → length (items_of es) + gaps_in es ≡ length es
+  as_many [] = refl
+  as_many ((k, None) ∷ es) = let h = as_many es in omega (arith, h)
+  as_many ((k, Some x) ∷ es) = let h = as_many es in omega (arith, h)
+
+  -- Without gaps a place among the slots is one among what stands.
+  pub at_place : (es : List (ℕ × Option T)) (i : ℕ) → gaps_in es ≡ 0 → slice_get (items_of es) i ≡ option_and_then standing (slice_get es i)
+  at_place [] i none = refl
+  at_place ((k, None) ∷ es) i none = absurd (omega (arith, none))
+  at_place ((k, Some x) ∷ es) zero none = refl
+  at_place ((k, Some x) ∷ es) (suc i) none = at_place es i none
+
+  -- ---- another element
+
+  pub full_filled : (item : T) (o : Option T) → is_some o ≡ true → Some item ≡ option_map (λ x. item) o
+  full_filled item None h = absurd (true≢false (sym h))
+  full_filled item (Some x) h = refl
+
+  pub gap_filled : (item : T) (o : Option T) → is_some o ≡ false → o ≡ option_map (λ x. item) o
+  gap_filled item None h = refl
+  gap_filled item (Some x) h = absurd (true≢false h)
+
+  abbrev pub replaced : ℕ → T → List (ℕ × T) → List (ℕ × T)
+  replaced n item ps = map (λ p. cond (nat_eq n p.0) (p.0, item) p) ps
+
+  not_replaced : (n : ℕ) (item : T) (es : List (ℕ × Option T)) → AllByRecursion (λ q. n < q.0) es → replaced n item (items_of es) ≡ items_of es
+  not_replaced n item [] h = refl
+  not_replaced n item ((k, None) ∷ es) h = not_replaced n item es h.1
+  not_replaced n item ((k, Some x) ∷ es) h =
+      ap (λ b. cond b (k, item) (k, x) ∷ replaced n item (items_of es)) (apart n k h.0) ∙ ap (λ ps. (k, x) ∷ ps) (not_replaced n item es h.1)
+
+  set_by : (es : List (ℕ × Option T)) (i n : ℕ) (o : Option T) (item : T) → AreRising es → slice_get es i ≡ Some (n, o)
+      → items_of (set_value_at es i (option_map (λ x. item) o)) ≡ replaced n item (items_of es)
+  set_by [] i n o item rising at = absurd (none_some (n, o) at)
+  set_by ((k, q) ∷ es) zero n o item rising at =
+      subst (λ e. items_of ((e.0, option_map (λ x. item) o) ∷ es) ≡ replaced n item (items_of (e ∷ es))) (sym (some_value (k, q) (n, o) at)) (first o) where
+        above : AllByRecursion (λ r. n < r.0) es
+        above = subst (λ m. AllByRecursion (λ r. m < r.0) es) (ap (λ e. e.0) (some_value (k, q) (n, o) at)) rising.0
+
+        first : (o : Option T) → items_of ((n, option_map (λ x. item) o) ∷ es) ≡ replaced n item (items_of ((n, o) ∷ es))
+        first None = sym (not_replaced n item es above)
+        first (Some x) = sym (ap (λ b. cond b (n, item) (n, x) ∷ replaced n item (items_of es)) (number_itself n) ∙ ap (λ ps. (n, item) ∷ ps) (not_replaced n item es above))
+  set_by ((k, None) ∷ es) (suc i) n o item rising at = set_by es i n o item rising.1 at
+  set_by ((k, Some y) ∷ es) (suc i) n o item rising at =
+      ap (λ ps. (k, y) ∷ ps) (set_by es i n o item rising.1 at) ∙ sym (ap (λ b. cond b (k, item) (k, y) ∷ replaced n item (items_of es)) (other_by n k es rising.0 i o at))
+
+  gaps_set : (es : List (ℕ × Option T)) (i n : ℕ) (o : Option T) (item : T) → slice_get es i ≡ Some (n, o) → gaps_in (set_value_at es i (option_map (λ x. item) o)) ≡ gaps_in es
+  gaps_set [] i n o item at = refl
+  gaps_set ((k, q) ∷ es) zero n o item at = same q o (ap (λ e. e.1) (some_value (k, q) (n, o) at)) where
+    same : (q o : Option T) → q ≡ o → gaps_in ((k, option_map (λ x. item) o) ∷ es) ≡ gaps_in ((k, q) ∷ es)
+    same q None is = ap (λ r. gaps_in ((k, r) ∷ es)) (sym is)
+    same q (Some x) is = ap (λ r. gaps_in ((k, r) ∷ es)) (sym is)
+  gaps_set ((k, None) ∷ es) (suc i) n o item at = ap (λ c. c + 1) (gaps_set es i n o item at)
+  gaps_set ((k, Some y) ∷ es) (suc i) n o item at = gaps_set es i n o item at
+
+  pub record IsSet (es : List (ℕ × Option T)) (i n : ℕ) (o : Option T) (item : T) : Type 0 where
+    pub items : items_of (set_value_at es i (option_map (λ x. item) o)) ≡ replaced n item (items_of es)
+    pub gaps : gaps_in (set_value_at es i (option_map (λ x. item) o)) ≡ gaps_in es
+
+  pub set_at : (es : List (ℕ × Option T)) (i n k : ℕ) (o : Option T) (item : T) → AreRising es → position (nat_eq n) (keys_of es) ≡ Some i → slice_get es i ≡ Some (k, o) → IsSet es i n o item
+  set_at es i n k o item rising at there =
+      let is : n ≡ k = same n k (lookup_key_passes (nat_eq n) es k ((Found-position (nat_eq n) es i at).key ∙ key_there es i k o there)) in
+      let here = subst (λ m. slice_get es i ≡ Some (m, o)) (sym is) there in
+      record { items = set_by es i n o item rising here; gaps = gaps_set es i n o item here }
+
+  pub not_set : (n : ℕ) (item : T) (ps : List (ℕ × T)) → lookup (nat_eq n) ps ≡ None → replaced n item ps ≡ ps
+  not_set n item [] h = refl
+  not_set n item (p ∷ ps) h = by (nat_eq n p.0) h (not_set n item ps)
+    where
+      by : (b : Bool) → cond b (Some p.1) (lookup (nat_eq n) ps) ≡ None → (lookup (nat_eq n) ps ≡ None → replaced n item ps ≡ ps) → cond b (p.0, item) p ∷ replaced n item ps ≡ p ∷ ps
+      by true h rest = absurd (none_some p.1 (sym h))
+      by false h rest = ap (λ zs. p ∷ zs) (rest h)

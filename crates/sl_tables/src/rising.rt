@@ -4,7 +4,7 @@ ghost use Rattle.sl_tables.specs.Rising.{AreRising, RisingState};
 ghost use Rattle.indexmap.specs.IndexMap.{index_map_len, spare, with_value_at};
 ghost use Rattle.sl_tables.specs.Rising.{is_full};
 ghost use Rattle.std.specs.Map.{lookup};
-ghost use Rattle.std.specs.Prelude.{IfOk, None, OnErr, OnOk, max, nat_eq, not, Some, filter, is_some, option_map, slice_get, [], ◌+◌, ◌++◌, ◌-◌, ◌<◌, ◌^◌, ◌∷◌, ◌≡◌, ◌≤◌, ℕ};
+ghost use Rattle.std.specs.Prelude.{IfOk, None, OnErr, OnOk, max, cond, length, map, nat_eq, not, Option, Some, filter, is_some, option_map, slice_get, [], ◌+◌, ◌++◌, ◌-◌, ◌<◌, ◌^◌, ◌∷◌, ◌≡◌, ◌≤◌, ℕ};
 
 use indexmap::IndexMap;
 use std::alloc::{AllocError, Global};
@@ -51,6 +51,17 @@ fn leave_gap<T>(slots: &mut IndexMap<u64, Option<T>>, index: usize) -> Option<T>
 {
     let (_, slot) = slots.pair_mut(index);
     slot.take()
+}
+
+/// Puts another element in the place of what stands in the slot at this index; a gap stays.
+fn replace_in<T: Drop>(slots: &mut IndexMap<u64, Option<T>>, index: usize, item: T)
+    requires { index < index_map_len slots.old }
+    ensures { (n : ℕ) × (o : Option T) × (slice_get slots.old.entries index ≡ Some (n, o)) × (slots.new ≡ with_value_at slots.old index (option_map (λ x. item) o)) }
+{
+    let (_, slot) = slots.pair_mut(index);
+    if slot.is_some() {
+        *slot = Some(item);
+    }
 }
 
 impl<T: Drop> Rising<T> {
@@ -138,6 +149,36 @@ impl<T: Drop> Rising<T> {
                 item
             }
             None => None,
+        }
+    }
+
+    /// How many there are.
+    #[tactic(auto, using(crate::proofs::SlotsStand::as_many, crate::proofs::SlotsStand::gaps_few))]
+    pub fn len(&self) -> usize
+        ensures { result ≡ length self.now.items }
+    {
+        self.slots.len() - self.gaps
+    }
+
+    /// The element at this place among all, with its number. There must be no gaps.
+    #[tactic(auto, using(crate::proofs::SlotsStand::at_place))]
+    pub fn nth(&self, place: usize) -> Option<(u64, &T)>
+        requires { self.now.gaps ≡ 0 }
+        ensures { option_map (λ p. (p.0, p.1.now)) result ≡ slice_get self.now.items place }
+    {
+        match self.slots.get_index(place) {
+            Some((number, Some(item))) => Some((*number, item)),
+            _ => None,
+        }
+    }
+
+    /// Puts another element in the place of the one of this number, if it stands.
+    pub fn set(&mut self, number: u64, item: T)
+        ensures { self.new ≡ record self.old { items = map (λ p. cond (nat_eq number p.0) (p.0, item) p) self.old.items } }
+    {
+        match self.slots.get_index_of(&number) {
+            Some(index) => replace_in(&mut self.slots, index, item),
+            None => {}
         }
     }
 }
