@@ -33,21 +33,6 @@ key_there (e ∷ es) (suc i) k v h = key_there es i k v h
 pub key_passes : {K V : Type 0} (eq : K → K → Bool) (sought : K) (es : List (K × V)) (i : ℕ) (k : K) (v : V) → position (eq sought) (keys_of es) ≡ Some i → slice_get es i ≡ Some (k, v) → eq sought k ≡ true
 key_passes eq sought es i k v at there = lookup_key_passes (eq sought) es k ((Found-position (eq sought) es i at).key ∙ key_there es i k v there)
 
--- ---- by number
-
-pub found_by_number : (n : ℕ) (items : List (ℕ × OpenCall)) → AreNumbered items → lookup (nat_eq n) items ≡ find (λ c. c.number == n) (values_of items)
-found_by_number n [] h = refl
-found_by_number n (p ∷ items) h =
-    ap (λ b. cond b (Some p.1) (lookup (nat_eq n) items)) (nat_eq_equiv.symm n p.0 ∙ ap (λ k. k == n) (sym h.0)) ∙ ap (λ r. cond (p.1.number == n) (Some p.1) r) (found_by_number n items h.1)
-
-pub numbered_push : (items : List (ℕ × OpenCall)) (c : OpenCall) → AreNumbered items → AreNumbered (items ++ (c.number, c) ∷ [])
-numbered_push [] c h = (refl, tt)
-numbered_push (p ∷ items) c h = (h.0, numbered_push items c h.1)
-
-pub values_push : (items : List (ℕ × OpenCall)) (n : ℕ) (c : OpenCall) → values_of (items ++ (n, c) ∷ []) ≡ values_of items ++ c ∷ []
-values_push [] n c = refl
-values_push (p ∷ items) n c = ap (λ cs. p.1 ∷ cs) (values_push items n c)
-
 -- ---- by area
 
 -- One area has one first call.
@@ -84,27 +69,6 @@ first_push area at c cs = pushed_by area at c cs (same_spot (area_of area c) at)
 
 -- ---- an answer
 
-pub numbered_left : (p : ℕ × OpenCall → Bool) (items : List (ℕ × OpenCall)) → AreNumbered items → AreNumbered (filter p items)
-numbered_left p [] h = h
-numbered_left p (q ∷ items) h = by (p q) h.0 (numbered_left p items h.1)
-  where
-    by : (b : Bool) → q.1.number ≡ q.0 → AreNumbered (filter p items) → AreNumbered (cond b (q ∷ filter p items) (filter p items))
-    by true own rest = (own, rest)
-    by false own rest = rest
-
-pub values_left : (n : ℕ) (items : List (ℕ × OpenCall)) → AreNumbered items
-    → values_of (filter (λ p. not (nat_eq n p.0)) items) ≡ filter (λ c. not (c.number == n)) (values_of items)
-values_left n [] h = refl
-values_left n (q ∷ items) h = by (nat_eq n q.0) (q.1.number == n) (nat_eq_equiv.symm n q.0 ∙ ap (λ k. k == n) (sym h.0)) (values_left n items h.1)
-  where
-    by : (a b : Bool) → a ≡ b → values_of (filter (λ p. not (nat_eq n p.0)) items) ≡ filter (λ c. not (c.number == n)) (values_of items)
-        → values_of (cond (not a) (q ∷ filter (λ p. not (nat_eq n p.0)) items) (filter (λ p. not (nat_eq n p.0)) items))
-        ≡ cond (not b) (q.1 ∷ filter (λ c. not (c.number == n)) (values_of items)) (filter (λ c. not (c.number == n)) (values_of items))
-    by true b same rest = rest ∙ ap (λ t. cond (not t) (q.1 ∷ filter (λ c. not (c.number == n)) (values_of items)) (filter (λ c. not (c.number == n)) (values_of items))) same
-    by false b same rest =
-        ap (λ cs. q.1 ∷ cs) rest ∙ ap (λ t. cond (not t) (q.1 ∷ filter (λ c. not (c.number == n)) (values_of items)) (filter (λ c. not (c.number == n)) (values_of items))) same
-
--- A call on an area has a first call there.
 same_number : (n k : ℕ) → nat_eq n k ≡ true → n ≡ k
 same_number n k is = (Decides-eqb n k).0 is
 

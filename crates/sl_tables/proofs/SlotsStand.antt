@@ -357,3 +357,7 @@ module _ {T : Type 0} where
       by : (b : Bool) → cond b (Some p.1) (lookup (nat_eq n) ps) ≡ None → (lookup (nat_eq n) ps ≡ None → replaced n item ps ≡ ps) → cond b (p.0, item) p ∷ replaced n item ps ≡ p ∷ ps
       by true h rest = absurd (none_some p.1 (sym h))
       by false h rest = ap (λ zs. p ∷ zs) (rest h)
+
+-- As few stand as there are numbers.
+pub few_items : {T : Type 0} (n : ℕ) (es : List (ℕ × Option T)) → AreRising es → AreBelow n es → length (items_of es) ≤ n
+few_items n es rising below = let few = few_below n es rising below in let many = as_many es in omega (arith, few, many)

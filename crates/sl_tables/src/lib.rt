@@ -7,6 +7,7 @@
 #![tactic(auto)]
 
 mod area;
+mod jobs;
 mod opens;
 mod rising;
 

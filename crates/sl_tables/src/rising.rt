@@ -106,11 +106,12 @@ impl<T: Drop> Rising<T> {
     }
 
     /// One more element, with a number above all others.
-    #[tactic(auto, using(crate::proofs::SlotsStand::pushed, crate::proofs::SlotsStand::items_push, crate::proofs::SlotsStand::gaps_push, crate::proofs::SlotsStand::below_push, crate::proofs::SlotsStand::below_more, crate::proofs::SlotsStand::rising_push))]
+    #[tactic(auto, using(crate::proofs::SlotsStand::pushed, crate::proofs::SlotsStand::items_push, crate::proofs::SlotsStand::gaps_push, crate::proofs::SlotsStand::below_push, crate::proofs::SlotsStand::below_more, crate::proofs::SlotsStand::rising_push, crate::proofs::SlotsStand::few_items))]
     pub fn put(&mut self, number: u64, item: T)
         requires room { 0 < self.old.room }
         requires rises { (self.old.next ≤ number) × (number < 2 ^ 64 - 1) }
-        ensures { self.new ≡ record self.old { items = self.old.items ++ (number, item) ∷ []; next = number + 1; room = self.old.room - 1 } }
+        ensures state { self.new ≡ record self.old { items = self.old.items ++ (number, item) ∷ []; next = number + 1; room = self.old.room - 1 } }
+        ensures few { length self.old.items ≤ self.old.next }
     {
         match self.slots.insert(number, Some(item)) {
             Ok(_) => {
@@ -122,9 +123,10 @@ impl<T: Drop> Rising<T> {
     }
 
     /// The element of this number, if it stands.
-    #[tactic(auto, using(crate::proofs::SlotsStand::found_full, crate::proofs::SlotsStand::found_none))]
+    #[tactic(auto, using(crate::proofs::SlotsStand::found_full, crate::proofs::SlotsStand::found_none, crate::proofs::SlotsStand::items_rise))]
     pub fn get(&self, number: u64) -> Option<&T>
-        ensures { option_map (λ x. x.now) result ≡ lookup (nat_eq number) self.now.items }
+        ensures value { option_map (λ x. x.now) result ≡ lookup (nat_eq number) self.now.items }
+        ensures rising { AreRising self.now.items }
     {
         match self.slots.get(&number) {
             Some(slot) => slot.as_ref(),
@@ -173,8 +175,11 @@ impl<T: Drop> Rising<T> {
     }
 
     /// Puts another element in the place of the one of this number, if it stands.
+    #[tactic(auto, using(crate::proofs::SlotsStand::items_rise, crate::proofs::SlotsStand::few_items))]
     pub fn set(&mut self, number: u64, item: T)
-        ensures { self.new ≡ record self.old { items = map (λ p. cond (nat_eq number p.0) (p.0, item) p) self.old.items } }
+        ensures state { self.new ≡ record self.old { items = map (λ p. cond (nat_eq number p.0) (p.0, item) p) self.old.items } }
+        ensures rising { AreRising self.old.items }
+        ensures few { (length self.old.items ≤ self.old.next) × (self.old.next < 2 ^ 64) }
     {
         match self.slots.get_index_of(&number) {
             Some(index) => replace_in(&mut self.slots, index, item),

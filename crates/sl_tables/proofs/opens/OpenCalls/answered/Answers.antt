@@ -1,5 +1,6 @@
 use Rattle.indexmap.specs.IndexMap.{get}
-use Rattle.sl_tables.proofs.OpensStand.{found_by_number, left_is, moved, numbered_left, values_left}
+use Rattle.sl_tables.proofs.NumbersName.{found_by_number, own_left, values_left}
+use Rattle.sl_tables.proofs.OpensStand.{left_is, moved}
 use Rattle.sl_tables.proofs.SlotsStand.{none_left_out}
 use Rattle.sl_tables.proofs.opens.OpenCalls.answered.Goals as goal
 use Rattle.sl_tables.specs.Opens.{AreNumbered, area_of, first_on, next_on}
@@ -15,7 +16,7 @@ invariant_of-self c =
     let area = c.self.inside.area in
     let old = c.self.inside.calls.items in
     let spot = c.area_of-spot.ensures in (
-      subst AreNumbered (sym items) (numbered_left (λ p. not (nat_eq c.args.number p.0)) old i.0),
+      subst AreNumbered (sym items) (own_left (λ d. d.number) (λ p. not (nat_eq c.args.number p.0)) old i.0),
       (λ at.
           c.move_on.ensures.firsts at
           ∙ (ap (λ s. cond (same_spot s at && some_is (λ n. n == c.args.number) (get same_spot c.self.inside.firsts s)) (next_on area s c.args.number c.take.new.self.items) (get same_spot c.self.inside.firsts at)) spot
@@ -36,22 +37,22 @@ invariant_of-self-in-None c =
 
 pub returns-in-Some-clause-call : goal.returns-in-Some-clause-call
 returns-in-Some-clause-call c =
-    c.in-Some.ensures.found ∙ found_by_number c.args.number c.self.inside.calls.items c.self.invariant.0 ∙ ap (λ v. find (λ d. d.number == c.args.number) v.calls) c.self.view_is
+    c.in-Some.ensures.found ∙ found_by_number (λ d. d.number) c.args.number c.self.inside.calls.items c.self.invariant.0 ∙ ap (λ v. find (λ d. d.number == c.args.number) v.calls) c.self.view_is
 
 pub returns-in-None-clause-call : goal.returns-in-None-clause-call
 returns-in-None-clause-call c =
-    c.in-None.ensures.found ∙ found_by_number c.args.number c.self.inside.calls.items c.self.invariant.0 ∙ ap (λ v. find (λ d. d.number == c.args.number) v.calls) c.self.view_is
+    c.in-None.ensures.found ∙ found_by_number (λ d. d.number) c.args.number c.self.inside.calls.items c.self.invariant.0 ∙ ap (λ v. find (λ d. d.number == c.args.number) v.calls) c.self.view_is
 
 pub returns-in-Some-clause-calls : goal.returns-in-Some-clause-calls
 returns-in-Some-clause-calls c =
     let v = c.self.view_is in
     left_is c.args.number c.args.self.now (values_of c.take.new.self.items) c.take.new.self.next c.take.new.self.room c.self.inside.area
-    (ap values_of c.in-Some.ensures.items ∙ (values_left c.args.number c.self.inside.calls.items c.self.invariant.0 ∙ ap (λ o. filter (λ d. not (d.number == c.args.number)) o.calls) v))
+    (ap values_of c.in-Some.ensures.items ∙ (values_left (λ d. d.number) c.args.number c.self.inside.calls.items c.self.invariant.0 ∙ ap (λ o. filter (λ d. not (d.number == c.args.number)) o.calls) v))
     (c.in-Some.ensures.kept.0 ∙ ap (λ o. o.next) v) (c.in-Some.ensures.kept.1 ∙ ap (λ o. o.room) v) (ap (λ o. o.area) v)
 
 pub returns-in-None-clause-calls : goal.returns-in-None-clause-calls
 returns-in-None-clause-calls c =
     let v = c.self.view_is in
     left_is c.args.number c.args.self.now (values_of c.take.new.self.items) c.take.new.self.next c.take.new.self.room c.self.inside.area
-    (ap values_of c.in-None.ensures.items ∙ (values_left c.args.number c.self.inside.calls.items c.self.invariant.0 ∙ ap (λ o. filter (λ d. not (d.number == c.args.number)) o.calls) v))
+    (ap values_of c.in-None.ensures.items ∙ (values_left (λ d. d.number) c.args.number c.self.inside.calls.items c.self.invariant.0 ∙ ap (λ o. filter (λ d. not (d.number == c.args.number)) o.calls) v))
     (c.in-None.ensures.kept.0 ∙ ap (λ o. o.next) v) (c.in-None.ensures.kept.1 ∙ ap (λ o. o.room) v) (ap (λ o. o.area) v)
