@@ -1,0 +1,4 @@
+pub mod Seen
+pub mod Turning
+pub mod Stepping
+pub mod Asking
