@@ -3,19 +3,19 @@ use Rattle.sl_history.proofs.Resources.Calls.{numbered_at, numbered_in}
 use Rattle.sl_plain.proofs.Lists.{find_fails, find_inside}
 use Rattle.sl_plain.proofs.Options.{not_some}
 use Rattle.sl_report.specs.Schedules.{NoAsk}
-use Rattle.sl_run.specs.Events.{after_effects, after_step, asking, event_tests, first_change, happens, if_running, input_at, input_of, machine_of, may_happen, needs_daemon, next_step, number_of_step, on_machine, take_step}
+use Rattle.sl_run.specs.Events.{after_effects, after_step, asking, event_tests, first_change, happens, if_running, input_at, input_of, machine_of, may_happen, needs_daemon, next_step, number_of_step, take_step}
 use Rattle.sl_run.specs.Locks.{fresh_locks, locks_after}
 use Rattle.sl_run.specs.Worlds.{Daemon, Machine, Stamp, World, first_that, machine_at, stamp_now}
-use Rattle.sl_run.specs.declared.event.Event.TheVariants.{Crash, GiveAsk, Reset, Restart, StartDaemon}
+use Rattle.sl_run.specs.declared.event.Event.TheVariants.{GiveAsk, StartDaemon}
 use Rattle.sl_run.specs.declared.event.Event.{Event}
-use Rattle.sl_run.specs.declared.event.Refusal.TheVariants.{MissingDaemon, MissingLvm, MissingMachine, Syntax}
+use Rattle.sl_run.specs.declared.event.Refusal.TheVariants.{MissingLvm, MissingMachine, Syntax}
 use Rattle.sl_run.specs.declared.event.Refusal.{Refusal}
 use Rattle.sl_run_law.proofs.Course.Changing.{changed_here}
 use Rattle.sl_run_law.proofs.Course.Turning.{Alone, Becomes, Began, Called, Came_up, Clocked, Crashed, Elsewhere, Stays, Stepped, Tested, Took, Turned, Went_down, becomes}
 use Rattle.sl_run_law.proofs.Front.Going.{number_place, was_there}
 use Rattle.sl_run_law.proofs.Going.{event_goes}
 use Rattle.sl_run_law.proofs.Walking.{index, number_within}
-use Rattle.sl_run_report.proofs.Stepping.{input_leaves, seen, seen_at, somebody, step_daemon}
+use Rattle.sl_run_report.proofs.Stepping.{input_leaves, seen_at, somebody, step_daemon}
 use Rattle.sl_run_report.proofs.Turning.{LocksLeave, few_left, fewer_left}
 use Rattle.sl_run_report.specs.Asking.{AsksEnd, AsksOn, EventsAskFew, IsFair, IsFairMachine, asks_left, left_of}
 use Rattle.sl_trace.specs.declared.effects.Effects.{Effects}
@@ -26,7 +26,7 @@ use Rattle.sl_words.proofs.CaseLaws.{false_is_true, none_some, one_value, some_v
 use Rattle.std.proofs.Common.{ap, arith, inl, inr, refl, subst, sym, tests, ◌∙◌}
 use Rattle.std.specs.List.{enumerate_from}
 use Rattle.std.specs.Option.{option_map_or}
-use Rattle.std.specs.Prelude.{Bool, Contains, List, None, Option, Some, false, find, is_none, is_some, option_and_then, option_map, suc, true, zero, [], ℕ, ◌+◌, ◌-◌, ◌<◌, ◌==◌, ◌∷◌, ◌≡◌, ◌≤◌, ◌⊎◌}
+use Rattle.std.specs.Prelude.{Bool, Contains, List, None, Option, Some, false, find, is_none, is_some, option_and_then, option_map, suc, true, [], ℕ, ◌+◌, ◌-◌, ◌==◌, ◌∷◌, ◌≡◌, ◌≤◌, ◌⊎◌}
 
 -- ---- who is asked
 
@@ -159,7 +159,7 @@ here_by w e fx a b c (Some i) may at between later is r =
     let x = seen_at w v (machine_of e) a (input_leaves e w a i told) at in
     let y : x.0 ≡ b = one_value x.0 b (machine_at v (machine_of e)) x.1 between in
     let runs : is_some b.daemon ≡ true =
-        ap (λ (z : Machine). is_some z.daemon) (sym y) ∙ ap (λ (z : Option Daemon × ℕ). is_some z.0) x.2 ∙ ap is_some d.1 in
+    ap (λ (z : Machine). is_some z.daemon) (sym y) ∙ ap (λ (z : Option Daemon × ℕ). is_some z.0) x.2 ∙ ap is_some d.1 in
     let few = few_left (number_of_step b) i fx b.locks r.1 in
     let z = step_leaves (stamp_now v b) i fx b (b.locks.lvm.retries + 2) r.0.retries runs few in
     let most : asks_left (after_step (stamp_now v b) i fx b).locks ≤ 10 = at_most_ten b.locks.lvm.retries _ r.0.retries z.1 in
@@ -187,21 +187,21 @@ event_left w e fx fair none may k c at (inl here) =
     let b : Machine = q.2.middle in
     let r = turned_rests w e k q.0 b fair.header q.2.turned (fair.each k q.0 q.1, none_due w none k q.0 q.1) in
     let x = here_by w e fx q.0 b c (input_of w e) may (subst (λ n. machine_at w n ≡ Some q.0) here q.1) (subst (λ n. machine_at (first_change e w) n ≡ Some b) here q.2.between)
-        (subst (λ n. machine_at (happens w e (fx ∷ [])) n ≡ Some c) here at) refl r in
+    (subst (λ n. machine_at (happens w e (fx ∷ [])) n ≡ Some c) here at) refl r in
     (x.0, λ o. absurd (o here), λ is. x.1)
 
 pub events_ask_few : EventsAskFew
 events_ask_few w e fx fair none may = (
-      machine_of e,
-      record {
-        fair = record {
-          header = header_stays w e fx fair.header;
-          each = λ k c at. (event_left w e fx fair none may k c at (numbered k (machine_of e) (k == machine_of e) refl)).0;
-        };
-        others = λ k c at other. (event_left w e fx fair none may k c at (inr other)).1 other;
-        left = λ c at. (event_left w e fx fair none may (machine_of e) c at (inl refl)).2 refl;
-      },
-    )
+  machine_of e,
+  record {
+    fair = record {
+      header = header_stays w e fx fair.header;
+      each = λ k c at. (event_left w e fx fair none may k c at (numbered k (machine_of e) (k == machine_of e) refl)).0;
+    };
+    others = λ k c at other. (event_left w e fx fair none may k c at (inr other)).1 other;
+    left = λ c at. (event_left w e fx fair none may (machine_of e) c at (inl refl)).2 refl;
+  },
+)
 
 -- ---- an ask
 
@@ -262,7 +262,7 @@ asked_then w m n fx c on is at =
     let told : input_of w (GiveAsk m) ≡ Some (Line text.0) = asks_line w m a text.0 x.1 runs text.1 in
     let later : machine_at (take_step m (Some (Line text.0)) fx v) m ≡ Some c = ap (λ o. machine_at (take_step m o fx v) m) (sym told) ∙ at in
     let same : after_step (stamp_now v a) (Line text.0) fx a ≡ c =
-        one_value _ c _ (changed_here v m (λ y. after_step (stamp_now v y) (Line text.0) fx y) a x.1) later in
+    one_value _ c _ (changed_here v m (λ y. after_step (stamp_now v y) (Line text.0) fx y) a x.1) later in
     let z = step_leaves (stamp_now v a) (Line text.0) fx a n fair.retries runs (fewer_left (number_of_step a) text.0 text.0 fx a.locks n text.1 (on.left a x.1)) in
     subst (λ (y : Machine). IsFairMachine 8 y × (asks_left y.locks ≤ n)) same z
 
@@ -286,7 +286,7 @@ others_then w m n fx k c on may at other =
     let q = was_so w (GiveAsk m) fx may k c at in
     let b : Machine = q.2.middle in
     let same : c.locks ≡ q.0.locks =
-        ap (λ (x : Machine). x.locks) (stepped_elsewhere w (GiveAsk m) fx k b c other q.2.stepped) ∙ other_stays w m fx k q.0 b q.2.turned in
+    ap (λ (x : Machine). x.locks) (stepped_elsewhere w (GiveAsk m) fx k b c other q.2.stepped) ∙ other_stays w m fx k q.0 b q.2.turned in
     same_locks q.0 c same (on.fair.each k q.0 q.1, on.others k q.0 q.1 other)
 
 fewer : (w : World) (m n : ℕ) (fx : Effects) → AsksOn w m (suc n) → asking w ≡ Some m → AsksOn (happens w (GiveAsk m) (fx ∷ [])) m n

@@ -10,12 +10,7 @@ use Rattle.sl_plain.proofs.Lists.{contains_first, got_inside, head_is, next_befo
 use Rattle.sl_run_report.proofs.Seen.{complete_keeps, seen_of}
 use Rattle.sl_run_report.specs.Followed.{DoesWhatIsDue}
 use Rattle.sl_plain.proofs.Options.{else_some, some_there, then_value}
-use Rattle.sl_report.specs.Headline.{GoodRun, Headline, In_events, In_header, ReplayOf, SoundRun}
-use Rattle.sl_report.specs.Languages.{Language}
 use Rattle.sl_report.specs.Replay.{due_at, effects_of}
-use Rattle.sl_report.specs.Reports.{no_counts, run_counts, run_lines}
-use Rattle.sl_report.specs.ScheduleLines.{refusal_line}
-use Rattle.sl_report.specs.Schedules.{Ending, EventLine, Follows, HeaderReading, Header_read, Header_refused, NumberedLine, event_lines_of, last_lines, replay_from, replay_lines, report_of, status_of}
 use Rattle.sl_run.specs.Events.{after_step, event_tests, first_change, happens, input_at, input_of, machine_of, may_happen, next_step, take_step, with_entry}
 use Rattle.sl_run.specs.Runs.{EachDaemon, Happening, IsRun, own_effects_of}
 use Rattle.sl_run.specs.Safety.{world_at}
@@ -25,7 +20,6 @@ use Rattle.sl_run.specs.declared.event.Event.{Event}
 use Rattle.sl_run.specs.declared.header.Header.{Header}
 use Rattle.sl_run_law.proofs.Guards.{on_this, passes}
 use Rattle.sl_run_law.proofs.Walking.{index}
-use Rattle.sl_text.specs.Forms.{as_bytes}
 use Rattle.sl_time.specs.Times.{reading_of}
 use Rattle.sl_trace.proofs.TraceFacts.{each_entry-front}
 use Rattle.sl_trace.specs.Traces.{Trace, no_effects}

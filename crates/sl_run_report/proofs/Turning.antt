@@ -1,13 +1,12 @@
 -- What a turn of the locks leaves of a line: each ask leaves fewer, and how often an acquire is asked again stays.
 use Rattle.sl_lvm.specs.LockNames.{Lock, lockspace_of, resource_of}
-use Rattle.sl_lvm.specs.Lvm.{Acquiring, Course, HeldLock, Lvm, Moving, Reading, Releasing, Writing, after_acquiring, after_reading, after_releasing, after_writing, asks, asks_lock, asks_release, begins, begins_line, first_held, goes_on_with, has_volume, is_given_up, is_held, is_lost, lock_process, lvm_turn, passes_on, tells, where_held, with_lock, with_seen, without_lock, without_seen}
+use Rattle.sl_lvm.specs.Lvm.{Acquiring, Course, HeldLock, Lvm, Moving, Reading, Releasing, Writing, after_reading, after_writing, asks, asks_lock, asks_release, begins, begins_line, first_held, goes_on_with, has_volume, is_given_up, is_held, is_lost, lock_process, lvm_turn, passes_on, tells, with_lock, without_lock}
 use Rattle.sl_lvm.specs.LvmLines.{Deactivates, Gives, Gives_writing, Informs, LvmLine, Starts, Stops, Takes, Takes_comparing, lvm_line_in}
 use Rattle.sl_lvm.specs.declared.turn.LvmIn.TheVariants.{Ended, Line as TextLine, Reply as HostReply}
-use Rattle.sl_lvm.specs.declared.turn.LvmIn.{LvmIn}
 use Rattle.sl_lvm.specs.declared.turn.LvmOut.TheVariants.{Ask, Quiet, Reply as LineReply}
 use Rattle.sl_lvm.specs.declared.turn.LvmOut.{LvmOut}
 use Rattle.sl_plain.proofs.Numbers.{zero_least}
-use Rattle.sl_run.specs.Locks.{Locks, Told, after_turn, ended_locks, is_lock_exit, locks_after, numbered_locks, replied_locks, turned_locks}
+use Rattle.sl_run.specs.Locks.{Locks, Told, after_turn, is_lock_exit, locks_after, numbered_locks, replied_locks}
 use Rattle.sl_run_report.specs.Asking.{asks_left, left_of}
 use Rattle.sl_trace.specs.declared.command.Command.TheVariants.{GetLvb, RemLockspace, SetLvb}
 use Rattle.sl_trace.specs.EffectTexts.{is_ok_reply}
@@ -18,9 +17,9 @@ use Rattle.sl_trace.specs.declared.input.Input.TheVariants.{Answer as Heard, Exi
 use Rattle.sl_trace.specs.declared.input.Input.{Input}
 use Rattle.sl_trace.specs.declared.reply.Reply.TheVariants.{Ahead, BadCommand as Misread, Busy, Done, Generation, Granted, Held, Hosts, IdHeld, IdLate, IdLost, IoFault, IoTimeout, Joined, Joining as StillJoining, Limit, NoOrphan, NoProcess, NoSession, NotHeld, Pending, Recovering, RequestOld, Rival, Sessions, Shared, SpawnFault, Started, TornBlock, TornDelta, TornLeader, Value, ValueSet, ValueTorn, WrongArea, WrongDelta}
 use Rattle.sl_trace.specs.declared.reply.Reply.{Reply}
-use Rattle.std.proofs.Common.{ap, arith, refl, subst, sym, tests, ◌∙◌}
+use Rattle.std.proofs.Common.{arith, refl, subst, sym, tests}
 use Rattle.std.specs.Option.{option_map_or}
-use Rattle.std.specs.Prelude.{Bool, Err, List, None, Ok, Option, Result, Some, false, find, if◌then◌else◌, is_some, nat_lt, option_and_then, suc, true, unwrap_or, zero, [], ℕ, ◌&&◌, ◌+◌, ◌-◌, ◌<◌, ◌==◌, ◌∷◌, ◌≡◌, ◌≤◌}
+use Rattle.std.specs.Prelude.{Bool, Err, List, None, Ok, Option, Result, Some, false, find, if◌then◌else◌, nat_lt, option_and_then, suc, true, unwrap_or, [], ℕ, ◌&&◌, ◌+◌, ◌-◌, ◌<◌, ◌==◌, ◌∷◌, ◌≡◌, ◌≤◌}
 
 -- How many asks a turn leaves.
 abbrev pub turn_left : Lvm × LvmOut → ℕ

@@ -1,6 +1,5 @@
 -- How many asks may follow an event: of a machine's locks, and of a world.
 use Rattle.sl_lvm.specs.Lvm.{Acquiring, Course, Moving, Reading, Releasing, Writing}
-use Rattle.sl_report.specs.Replay.{effects_of}
 use Rattle.sl_report.specs.Schedules.{NoAsk}
 use Rattle.sl_run.specs.Events.{asking, happens, may_happen}
 use Rattle.sl_run.specs.Locks.{Locks}
@@ -9,7 +8,7 @@ use Rattle.sl_run.specs.declared.event.Event.TheVariants.{GiveAsk}
 use Rattle.sl_run.specs.declared.event.Event.{Event}
 use Rattle.sl_trace.specs.declared.effects.Effects.{Effects}
 use Rattle.std.specs.Option.{option_map_or}
-use Rattle.std.specs.Prelude.{None, Option, Some, is_some, suc, true, zero, [], ℕ, ◌+◌, ◌-◌, ◌∷◌, ◌≡◌, ◌≤◌}
+use Rattle.std.specs.Prelude.{None, Some, is_some, suc, true, [], ℕ, ◌+◌, ◌-◌, ◌∷◌, ◌≡◌, ◌≤◌}
 
 -- How many asks are left of a line with the one that it came to: an acquire may be asked again so often, and the value is read behind it; a
 -- release follows a write.
