@@ -1,0 +1,4 @@
+pub mod KnownMore
+pub mod LeaseMore
+pub mod SpotsMore
+pub mod LeasesMore

@@ -1,0 +1,1 @@
+//! What calls and inputs make of what a host keeps.
