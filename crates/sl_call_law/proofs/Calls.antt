@@ -2,3 +2,4 @@ pub mod KnownMore
 pub mod LeaseMore
 pub mod SpotsMore
 pub mod LeasesMore
+pub mod ValuesMore

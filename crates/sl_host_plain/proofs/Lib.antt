@@ -2,3 +2,4 @@ pub mod PlainLists
 pub mod PlainOrders
 pub mod SessionNumbers
 pub mod MembersAreSessions
+pub mod Quiet
