@@ -3,3 +3,4 @@ pub mod LeaseMore
 pub mod SpotsMore
 pub mod LeasesMore
 pub mod ValuesMore
+pub mod MemberMore

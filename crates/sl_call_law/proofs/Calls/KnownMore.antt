@@ -22,25 +22,25 @@ use Rattle.std.specs.List.{AllByRecursion, cons_option, list_any}
 use Rattle.std.specs.Option.{option_map_or}
 use Rattle.std.specs.Prelude.{Bool, Contains, IsTrue, List, None, Option, Some, cond, false, filter, filter_map, find, is_none, is_some, option_and_then, option_map, true, [], ℕ, ◌&&◌, ◌==◌, ◌||◌, ◌∷◌, ◌≡◌}
 
+-- By the session's calls, and by recovery and leaving, which they don't change.
+abbrev pub known_by : Session → Bool → Option ℕ → List Submitted → DeltaKnown
+known_by s recovering leaving ms =
+    record {
+      generation = generation_in s ms;
+      seq = seq_in s ms;
+      renewed = renewal_in s ms;
+      busy = list_any (λ m. is_delta_purpose m.call.purpose) (unanswered ms);
+      recovering = recovering;
+      leaving = leaving;
+      freed = is_some (free_write ms);
+    }
+
 module _ (at reading : ℕ) (call : Call) where
   -- The call.
   abbrev c : Submitted
   c = new_call at reading call
 
   -- ---- what is known on the id's sector
-
-  -- By the session's calls, and by recovery and leaving, which they don't change.
-  abbrev pub known_by : Session → Bool → Option ℕ → List Submitted → DeltaKnown
-  known_by s recovering leaving ms =
-      record {
-        generation = generation_in s ms;
-        seq = seq_in s ms;
-        renewed = renewal_in s ms;
-        busy = list_any (λ m. is_delta_purpose m.call.purpose) (unanswered ms);
-        recovering = recovering;
-        leaving = leaving;
-        freed = is_some (free_write ms);
-      }
 
   last_more : (f : DeltaRec → ℕ) (ms : List Submitted) (z : ℕ) → option_map_or f (last_delta (c ∷ ms)) z ≡ option_map_or f (delta_written c) (option_map_or f (last_delta ms) z)
   last_more f ms z = by (delta_written c) where
