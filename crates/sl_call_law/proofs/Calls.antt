@@ -4,3 +4,5 @@ pub mod SpotsMore
 pub mod LeasesMore
 pub mod ValuesMore
 pub mod MemberMore
+pub mod KeepsMore
+pub mod PresentMore

@@ -3,3 +3,4 @@ pub mod PlainOrders
 pub mod SessionNumbers
 pub mod MembersAreSessions
 pub mod Quiet
+pub mod KeptJobs
