@@ -86,7 +86,7 @@ is_next i h x session path purpose offset op s =
     ∙ ap (λ n. new_call (length x.past) n (record { number = h.first_call + length h.made.calls; session = session; purpose = purpose; path = path; offset = offset; op = op })) (sym s.reading)
     ∙ ap (λ n. new_call (length x.past) x.reading (record { number = n; session = session; purpose = purpose; path = path; offset = offset; op = op })) next
 
-layout_is : (h : HostState) (x : Step) → Keeps h x.setting (seen x) → x.setting.layout ≡ h.config.layout
+pub layout_is : (h : HostState) (x : Step) → Keeps h x.setting (seen x) → x.setting.layout ≡ h.config.layout
 layout_is h x k = ap (λ (c : Config). c.layout) k.config
 
 -- ---- its job
@@ -142,7 +142,7 @@ members_more h x k s call keeps there its fits i m at = from (at_mapped (member_
   from : (z : MemberState) × (slice_get h.members i ≡ Some z) × (member_calling h.config.layout (newest x call) z ≡ m) → MemberStands x.setting (seen (more call x)) m
   from z = subst (λ y. MemberStands x.setting (seen (more call x)) y) z.2 (one z.0 z.1 (call.session == z.0.who.number) refl)
 
-whos_stay : (g : Layout) (c : Submitted) (ms : List MemberState) → map (λ m. m.who) ms ≡ map (λ m. m.who) (map (member_calling g c) ms)
+pub whos_stay : (g : Layout) (c : Submitted) (ms : List MemberState) → map (λ m. m.who) ms ≡ map (λ m. m.who) (map (member_calling g c) ms)
 whos_stay g c [] = refl
 whos_stay g c (m ∷ ms) = ap (λ s. s ∷ map (λ (n : MemberState). n.who) ms) (by (c.call.session == m.who.number)) ∙ ap (λ ss. (member_calling g c m).who ∷ ss) (whos_stay g c ms) where
   by : (b : Bool) → m.who ≡ (cond b (called g c m) m).who

@@ -1,8 +1,14 @@
 //! What calls and inputs make of what a host keeps.
 
 ghost use Rattle.sl_call_law.specs.Calls.{CallsAreTaken};
+ghost use Rattle.sl_call_law.specs.Joinings.{JoiningsAreTaken};
 
 /// A call that a member may make is taken.
 pub fn calls_are_taken()
     ensures { CallsAreTaken }
+{}
+
+/// The first read of a joining is taken: its session begins with it.
+pub fn joinings_are_taken()
+    ensures { JoiningsAreTaken }
 {}
