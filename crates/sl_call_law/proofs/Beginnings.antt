@@ -1,0 +1,2 @@
+pub mod IdleEntry
+pub mod MemberBegun
