@@ -1,2 +1,3 @@
 pub mod IdleEntry
 pub mod MemberBegun
+pub mod QuietBegun
