@@ -1,5 +1,6 @@
 //! What calls and inputs make of what a host keeps.
 
+ghost use Rattle.sl_call_law.specs.Beginnings.{StepsBegin};
 ghost use Rattle.sl_call_law.specs.Calls.{CallsAreTaken};
 ghost use Rattle.sl_call_law.specs.Joinings.{JoiningsAreTaken};
 
@@ -11,4 +12,9 @@ pub fn calls_are_taken()
 /// The first read of a joining is taken: its session begins with it.
 pub fn joinings_are_taken()
     ensures { JoiningsAreTaken }
+{}
+
+/// A step begins; below the reading kept nothing is due before its input.
+pub fn steps_begin()
+    ensures { StepsBegin }
 {}

@@ -117,7 +117,7 @@ quiet_begun h now room later quiet =
 
 -- ---- below the reading kept
 
-not_late : (h : HostState) (now : ℕ) (m : MemberState) → now < h.quiet_until → IsQuiet h → Contains h.members m → is_late (counted now h) m ≡ false
+pub not_late : (h : HostState) (now : ℕ) (m : MemberState) → now < h.quiet_until → IsQuiet h → Contains h.members m → is_late (counted now h) m ≡ false
 not_late h now m below quiet there = by m.renewing.recovery refl where
   due : m.renewing.recovery ≡ None → (m.joined && nat_le (m.renewing.last + fail h.config.timing) now) ≡ true → ⊥
   due none is =
