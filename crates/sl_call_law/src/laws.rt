@@ -3,6 +3,7 @@
 ghost use Rattle.sl_call_law.specs.Beginnings.{StepsBegin};
 ghost use Rattle.sl_call_law.specs.Calls.{CallsAreTaken};
 ghost use Rattle.sl_call_law.specs.Joinings.{JoiningsAreTaken};
+ghost use Rattle.sl_call_law.specs.Starts.{StartsAreTaken};
 
 /// A call that a member may make is taken.
 pub fn calls_are_taken()
@@ -17,4 +18,9 @@ pub fn joinings_are_taken()
 /// A step begins; below the reading kept nothing is due before its input.
 pub fn steps_begin()
     ensures { StepsBegin }
+{}
+
+/// One more start is taken.
+pub fn starts_are_taken()
+    ensures { StartsAreTaken }
 {}

@@ -60,7 +60,7 @@ abbrev with_calls : Step → Session → List Submitted → DeltaKnown
 with_calls x s ms = known_by s (is_some (recovery_of x.setting (seen x) s)) (option_map (λ j. j.number) (leaving_job x.setting (seen x) s)) ms
 
 -- A session's name in ballots, by its calls.
-abbrev self_by : Session → List Submitted → Owner
+abbrev pub self_by : Session → List Submitted → Owner
 self_by s ms = record { id = s.id; generation = generation_in s ms }
 
 -- The same calls: the same member.
