@@ -1,0 +1,2 @@
+pub mod InputHeard
+pub mod ChildrenHear
