@@ -1,2 +1,3 @@
 pub mod InputHeard
 pub mod ChildrenHear
+pub mod LineBegins

@@ -4,3 +4,4 @@ pub mod SessionNumbers
 pub mod MembersAreSessions
 pub mod Quiet
 pub mod KeptJobs
+pub mod NewNumbers
