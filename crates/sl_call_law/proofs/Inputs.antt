@@ -1,3 +1,4 @@
 pub mod InputHeard
 pub mod ChildrenHear
 pub mod LineBegins
+pub mod LineHeard
