@@ -13,17 +13,15 @@ use Rattle.sl_host_state.specs.declared.kept.JobState.{JobState}
 use Rattle.sl_leases.specs.Jobs.{child_of_job, command_of}
 use Rattle.sl_call_law.proofs.Beginnings.QuietBegun.{moments_cases, moments_have}
 use Rattle.sl_plain.proofs.Lists.{any_of, contains_cases, contains_none, in_map}
-use Rattle.sl_plain.proofs.Numbers.{equal_is_most, refl_le, trans_le}
+use Rattle.sl_plain.proofs.Numbers.{equal_is_most, trans_le}
 use Rattle.sl_sessions.specs.Sessions.{added_by, is_join_call, joining_session, sessions}
 use Rattle.sl_sessions.specs.declared.delta.DeltaKnown.{DeltaKnown}
 use Rattle.sl_sessions.specs.declared.session.Begun.{Begun}
 use Rattle.sl_sessions.specs.declared.session.Session.{Session}
-use Rattle.sl_trace.specs.Traces.{Child, Job, KillProgram, Setting, Trace, is_before_input, is_done, is_running, jobs, kill_program_in, kill_programs, next_job, numbers_taken, reply_in, reply_to, running_jobs, waiting_call, with_program, without_program}
+use Rattle.sl_trace.specs.Traces.{Job, KillProgram, Setting, Trace, is_before_input, is_done, is_running, jobs, kill_program_in, kill_programs, next_job, numbers_taken, reply_in, reply_to, running_jobs, waiting_call, with_program, without_program}
 use Rattle.sl_trace.specs.declared.command.Command.{Command}
-use Rattle.sl_trace.specs.declared.command.LockspaceArg.{LockspaceArg}
 use Rattle.sl_trace.specs.declared.effects.Call.{Call}
 use Rattle.sl_trace.specs.declared.effects.Effects.{Effects}
-use Rattle.sl_trace.specs.declared.effects.JobReply.{JobReply}
 use Rattle.sl_trace.specs.declared.effects.JoinStep.TheVariants.{FirstRead}
 use Rattle.sl_trace.specs.declared.input.Input.TheVariants.{Line, Wake}
 use Rattle.sl_words.proofs.CaseLaws.{false_is_true}
@@ -74,9 +72,9 @@ pub known_line : (st : Setting) (past : Trace) (text : List ℕ) (reading n : �
 known_line st past text reading n is =
     ap (λ o. is_some o) (find-append (λ (j : Job). j.number == n) (jobs st past) (line_job st past reading text ∷ []))
     ∙ by (find (λ (j : Job). j.number == n) (jobs st past)) (sym (ap (λ js. is_some (find (λ (j : Job). j.number == n) js)) (append-nil (jobs st past))) ∙ is) where
-  by : (o : Option Job) → is_some o ≡ true → is_some (option_or o (find (λ j. j.number == n) (line_job st past reading text ∷ []))) ≡ true
-  by None none = absurd (false_is_true none)
-  by (Some j) some = refl
+      by : (o : Option Job) → is_some o ≡ true → is_some (option_or o (find (λ j. j.number == n) (line_job st past reading text ∷ []))) ≡ true
+      by None none = absurd (false_is_true none)
+      by (Some j) some = refl
 
 -- ---- sessions and kill programs
 
@@ -96,9 +94,9 @@ programs_line : (st : Setting) (past : Trace) (reading : ℕ) (fx : Effects) (te
 programs_line st past reading fx text free =
     ap (λ o. with_program o (without_program None (kill_programs st past)))
     (ap (λ o. option_and_then (λ k. choose (some_is (λ r. is_done r.reply) o) k) (kill_program_in (st.read text))) free ∙ by (kill_program_in (st.read text))) where
-  by : (o : Option KillProgram) → option_and_then (λ (k : KillProgram). choose false k) o ≡ None
-  by None = refl
-  by (Some k) = refl
+      by : (o : Option KillProgram) → option_and_then (λ (k : KillProgram). choose false k) o ≡ None
+      by None = refl
+      by (Some k) = refl
 
 -- ---- nothing is due sooner
 
@@ -131,34 +129,34 @@ quiet_line h c quiet =
     quiet_by (heard_line c h)
     (λ m t there at. member (in_map (λ z. cond (leaves_member c z) (member_leaving h z) z) h.members m there) t at)
     (λ j t there at. job j t (in_either h.jobs (new_job h.next_job (Some c) ∷ []) j there) at) where
-  least : (heard_line c h).quiet_until ≤ h.quiet_until
-  least = lowered_most (list_any (leaves_member c) h.members) (h.reading + h.config.grace) h
+      least : (heard_line c h).quiet_until ≤ h.quiet_until
+      least = lowered_most (list_any (leaves_member c) h.members) (h.reading + h.config.grace) h
 
-  old : (z : MemberState) → Contains h.members z → (t : ℕ) → Contains (member_moments h z) t → (heard_line c h).quiet_until ≤ t
-  old z in_it t at = trans_le (heard_line c h).quiet_until h.quiet_until t least (member_quiet h z t quiet in_it at)
+      old : (z : MemberState) → Contains h.members z → (t : ℕ) → Contains (member_moments h z) t → (heard_line c h).quiet_until ≤ t
+      old z in_it t at = trans_le (heard_line c h).quiet_until h.quiet_until t least (member_quiet h z t quiet in_it at)
 
-  within : (z : MemberState) → Contains h.members z → (t : ℕ) → (b : Bool) → leaves_member c z ≡ b → Contains (member_moments h (cond b (member_leaving h z) z)) t → (heard_line c h).quiet_until ≤ t
-  within z in_it t false is at = old z in_it t at
-  within z in_it t true is at =
-      elim (leaving_moments h z t at) [
-        | inl was ↦ old z in_it t was
-        | inr new ↦
-            trans_le (heard_line c h).quiet_until (h.reading + h.config.grace) t
-            (lowered_reaches (list_any (leaves_member c) h.members) (h.reading + h.config.grace) h (any_of (leaves_member c) h.members z is in_it))
-            (equal_is_most (h.reading + h.config.grace) t (sym new))
-      ]
+      within : (z : MemberState) → Contains h.members z → (t : ℕ) → (b : Bool) → leaves_member c z ≡ b → Contains (member_moments h (cond b (member_leaving h z) z)) t → (heard_line c h).quiet_until ≤ t
+      within z in_it t false is at = old z in_it t at
+      within z in_it t true is at =
+          elim (leaving_moments h z t at) [
+            | inl was ↦ old z in_it t was
+            | inr new ↦
+                trans_le (heard_line c h).quiet_until (h.reading + h.config.grace) t
+                (lowered_reaches (list_any (leaves_member c) h.members) (h.reading + h.config.grace) h (any_of (leaves_member c) h.members z is in_it))
+                (equal_is_most (h.reading + h.config.grace) t (sym new))
+          ]
 
-  member : {m : MemberState} → (z : MemberState) × Contains h.members z × (cond (leaves_member c z) (member_leaving h z) z ≡ m) → (t : ℕ) → Contains (member_moments (heard_line c h) m) t
-      → (heard_line c h).quiet_until ≤ t
-  member z t at = within z.0 z.1 t (leaves_member c z.0) refl (subst (λ y. Contains (member_moments h y) t) (sym z.2) at)
+      member : {m : MemberState} → (z : MemberState) × Contains h.members z × (cond (leaves_member c z) (member_leaving h z) z ≡ m) → (t : ℕ) → Contains (member_moments (heard_line c h) m) t
+          → (heard_line c h).quiet_until ≤ t
+      member z t at = within z.0 z.1 t (leaves_member c z.0) refl (subst (λ y. Contains (member_moments h y) t) (sym z.2) at)
 
-  job : (j : JobState) (t : ℕ) → Contains h.jobs j ⊎ Contains (new_job h.next_job (Some c) ∷ []) j → Contains (job_moments h j) t → (heard_line c h).quiet_until ≤ t
-  job j t (inl was) at = trans_le (heard_line c h).quiet_until h.quiet_until t least (job_quiet h j t quiet was at)
-  job j t (inr new) at =
-      elim (contains_cases (new_job h.next_job (Some c)) [] j new) [
-        | inl is ↦ absurd (contains_none t (subst (λ y. Contains (job_moments h y) t) (sym is) at))
-        | inr none ↦ absurd (contains_none j none)
-      ]
+      job : (j : JobState) (t : ℕ) → Contains h.jobs j ⊎ Contains (new_job h.next_job (Some c) ∷ []) j → Contains (job_moments h j) t → (heard_line c h).quiet_until ≤ t
+      job j t (inl was) at = trans_le (heard_line c h).quiet_until h.quiet_until t least (job_quiet h j t quiet was at)
+      job j t (inr new) at =
+          elim (contains_cases (new_job h.next_job (Some c)) [] j new) [
+            | inl is ↦ absurd (contains_none t (subst (λ y. Contains (job_moments h y) t) (sym is) at))
+            | inr none ↦ absurd (contains_none j none)
+          ]
 
 -- ---- the whole
 
@@ -180,37 +178,37 @@ pub line_keeps : (h : HostState) (st : Setting) (past : Trace) (reading : ℕ) (
 line_keeps h st past reading fx text c says bare early now k =
     keeps_heard st past reading fx h (Line text) (h.next_job + 1) (lowered (list_any (leaves_member c) h.members) (h.reading + h.config.grace) h) (h.jobs ++ new_job h.next_job (Some c) ∷ [])
     (map (λ m. cond (leaves_member c m) (member_leaving h m) m) h.members) h.children h.programs changes k where
-  reads : st.read text ≡ Ok c
-  reads = ap (λ (d : Config). d.read text) k.config ∙ says
+      reads : st.read text ≡ Ok c
+      reads = ap (λ (d : Config). d.read text) k.config ∙ says
 
-  above : h.next_job ≤ next_job st past
-  above = equal_is_most h.next_job (next_job st past) (sym k.lines)
+      above : h.next_job ≤ next_job st past
+      above = equal_is_most h.next_job (next_job st past) (sym k.lines)
 
-  free : reply_to (heard st past reading fx Wake) (next_job st past) ≡ None
-  free = k.replied (next_job st past) above
+      free : reply_to (heard st past reading fx Wake) (next_job st past) ≡ None
+      free = k.replied (next_job st past) above
 
-  leaving : (i : ℕ) (m : MemberState) → slice_get h.members i ≡ Some m → MemberStands st (heard st past reading fx (Line text)) (cond (leaves_member c m) (member_leaving h m) m)
-  leaving i m there =
-      let s = k.members i m there in
-      let present = (member_inside h st (heard st past reading fx Wake) i m k there).1 in
-      member_line h st past reading fx text c m k now
-      (leaving_line st past reading fx text c m reads (joined_before st past reading fx m.who early present ∙ s.joined) (no_reply_any (entry_with reading fx Wake) past (next_job st past) free)) s
+      leaving : (i : ℕ) (m : MemberState) → slice_get h.members i ≡ Some m → MemberStands st (heard st past reading fx (Line text)) (cond (leaves_member c m) (member_leaving h m) m)
+      leaving i m there =
+          let s = k.members i m there in
+          let present = (member_inside h st (heard st past reading fx Wake) i m k there).1 in
+          member_line h st past reading fx text c m k now
+          (leaving_line st past reading fx text c m reads (joined_before st past reading fx m.who early present ∙ s.joined) (no_reply_any (entry_with reading fx Wake) past (next_job st past) free)) s
 
-  changes : Changes st past reading fx h (Line text) (h.next_job + 1) (h.jobs ++ new_job h.next_job (Some c) ∷ []) (map (λ m. cond (leaves_member c m) (member_leaving h m) m) h.members) h.children h.programs
-  changes =
-      record {
-        plain = tt;
-        begun = sessions_line st past reading fx text bare;
-        lines = (let was : st.first.job + numbers_taken past ≡ h.next_job = k.lines in let is : st.first.job + (numbers_taken past + 1) ≡ h.next_job + 1 = omega (arith, was) in is);
-        risen = omega arith;
-        processes = refl;
-        told = refl;
-        known = λ n is. known_line st past text reading n is;
-        whos = whos_line h c h.members;
-        members = λ i m there.
-            (let z = at_mapped (λ (y : MemberState). cond (leaves_member c y) (member_leaving h y) y) h.members i m there in
-            subst (λ y. MemberStands st (heard st past reading fx (Line text)) y) z.2 (leaving i z.0 z.1));
-        jobs = jobs_line h st past reading fx text c k reads;
-        children = k.children;
-        programs = programs_line st past reading fx text (no_reply_in (entry_with reading fx Wake) past (next_job st past) free) ∙ k.programs;
-      }
+      changes : Changes st past reading fx h (Line text) (h.next_job + 1) (h.jobs ++ new_job h.next_job (Some c) ∷ []) (map (λ m. cond (leaves_member c m) (member_leaving h m) m) h.members) h.children h.programs
+      changes =
+          record {
+            plain = tt;
+            begun = sessions_line st past reading fx text bare;
+            lines = (let was : st.first.job + numbers_taken past ≡ h.next_job = k.lines in let is : st.first.job + (numbers_taken past + 1) ≡ h.next_job + 1 = omega (arith, was) in is);
+            risen = omega arith;
+            processes = refl;
+            told = refl;
+            known = λ n is. known_line st past text reading n is;
+            whos = whos_line h c h.members;
+            members = λ i m there.
+                (let z = at_mapped (λ (y : MemberState). cond (leaves_member c y) (member_leaving h y) y) h.members i m there in
+                subst (λ y. MemberStands st (heard st past reading fx (Line text)) y) z.2 (leaving i z.0 z.1));
+            jobs = jobs_line h st past reading fx text c k reads;
+            children = k.children;
+            programs = programs_line st past reading fx text (no_reply_in (entry_with reading fx Wake) past (next_job st past) free) ∙ k.programs;
+          }
