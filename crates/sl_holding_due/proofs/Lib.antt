@@ -1,0 +1,2 @@
+pub mod StandsCarried
+pub mod StandsGrow
