@@ -1,2 +1,3 @@
 pub mod StandsCarried
 pub mod StandsGrow
+pub mod HoldingsByEffects

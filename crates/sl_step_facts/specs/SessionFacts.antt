@@ -5,9 +5,10 @@ use Rattle.sl_law.specs.LawfulWatchdog.{is_covered}
 use Rattle.sl_leases.specs.Jobs.{jobs_of_session}
 use Rattle.sl_sessions.specs.Sessions.{calls_of, free_write, generation_of, holdings_of, is_joined, is_recovering, joined_after, last_renewal, last_seq, leaving_job, present_sessions, recovery_of, sessions}
 use Rattle.sl_sessions.specs.declared.session.Session.{Session}
+use Rattle.sl_step_facts.specs.Heard.{IsOpen}
 use Rattle.sl_time.specs.Times.{fail}
 use Rattle.sl_trace.specs.Connections.{Connection, connection_named, connections, is_registered, last_registering}
-use Rattle.sl_trace.specs.Traces.{Answered, Job, Setting, Submitted, Trace, is_ok_answer, is_running, unanswered}
+use Rattle.sl_trace.specs.Traces.{Answered, Job, Setting, Submitted, Trace, is_ok_answer, is_running, is_write, submitted, unanswered}
 use Rattle.sl_words.specs.Bounds.{is_number}
 use Rattle.sl_words.specs.Words.{is_empty}
 use Rattle.std.specs.Prelude.{Contains, IsSome, IsTrue, List, None, Option, Some, bytes_eq, false, filter, is_some, length, true, [], ℕ, ◌&&◌, ◌+◌, ◌∷◌, ◌≡◌, ◌≤◌}
@@ -23,6 +24,9 @@ pub record QuietFacts (st : Setting) (t : Trace) (heard : Option ℕ) : Type 0 w
 pub record NameFacts (st : Setting) (t : Trace) (heard : Option ℕ) : Type 0 where
   -- a name finds its session
   pub apart : (a b : Session) → Contains (present_sessions st t) a → Contains (present_sessions st t) b → a.lockspace ≡ b.lockspace → a ≡ b
+  -- a refused joining whose last write has been answered is not present any more when its connection is removed
+  pub writers : (s x : Session) (m : Submitted) → Contains (sessions st t) s → joined_after t s ≡ None → Contains (submitted t) m → m.call.session ≡ s.number →
+      is_write m.call.op ≡ true → IsOpen t heard m → Contains (sessions st t) x → is_joined t x ≡ true → x.lockspace ≡ s.lockspace → ⊥
   pub begun : (s : Session) (j : ℕ) → Contains (sessions st t) s → s.job ≡ Some j → is_empty (calls_of t s) ≡ false
   -- a joining that runs has had no call refused, and where its newest call is answered it waits for a wake
   pub done : (s : Session) (j : ℕ) (m : Submitted) (a : Answered) → Contains (sessions st t) s → s.job ≡ Some j → is_running t j ≡ true →
