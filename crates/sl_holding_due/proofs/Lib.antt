@@ -1,3 +1,4 @@
 pub mod StandsCarried
 pub mod StandsGrow
 pub mod HoldingsByEffects
+pub mod PlainPlaces
