@@ -2,3 +2,4 @@ pub mod StandsCarried
 pub mod StandsGrow
 pub mod HoldingsByEffects
 pub mod PlainPlaces
+pub mod HoldingsByCalls
