@@ -3,3 +3,4 @@ pub mod StandsGrow
 pub mod HoldingsByEffects
 pub mod PlainPlaces
 pub mod HoldingsByCalls
+pub mod HoldingsByInputs
