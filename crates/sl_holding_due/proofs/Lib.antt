@@ -4,3 +4,4 @@ pub mod HoldingsByEffects
 pub mod PlainPlaces
 pub mod HoldingsByCalls
 pub mod HoldingsByInputs
+pub mod HoldingsByGrants
