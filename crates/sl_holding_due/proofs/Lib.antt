@@ -5,3 +5,4 @@ pub mod PlainPlaces
 pub mod HoldingsByCalls
 pub mod HoldingsByInputs
 pub mod HoldingsByGrants
+pub mod LeasePlaces
