@@ -104,7 +104,8 @@ call_held x n path p o op spares h =
       fewer = λ q path offset. refl_le (length (held_by (holdings (seen x)) q path offset));
       sessions = λ k s its. numbered_more x.setting x.past (entry_of x) c k s its;
       joined = λ g s there its name joined. joined;
-      children = refl_le (next_child (seen x));
+      further = refl_le (next_child (seen x));
+      given = λ kept. kept;
       stands = λ g s there its exclusive stands. by g s there its exclusive stands (true_or_false (c.session == s.number));
     }) h where
       c : Call

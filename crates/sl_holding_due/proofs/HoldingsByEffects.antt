@@ -7,7 +7,7 @@ use Rattle.sl_holding_due.proofs.PlainPlaces.{fewer_kept, kept_counted, one_plac
 use Rattle.sl_parts_law.proofs.EffectsAreTold.{effects_are_told}
 use Rattle.sl_parts_law.specs.Parts.{with_end, with_move, with_reply, with_start}
 use Rattle.sl_leases.specs.Leases.{is_lease_call, is_on}
-use Rattle.sl_plain.proofs.Lists.{contains_first, contains_more, kept_inside}
+use Rattle.sl_plain.proofs.Lists.{contains_cases, contains_none, kept_inside}
 use Rattle.sl_plain.proofs.Numbers.{number_itself, refl_le, trans_le, lt_then_le}
 use Rattle.sl_plain.proofs.Options.{mapped_value, some_there, then_value}
 use Rattle.sl_sessions.specs.Sessions.{calls_of, generation_in, generation_of, is_call_of, is_join_done, is_joined, joined_after, removed_after, session_numbered}
@@ -45,7 +45,8 @@ pub record Upheld (st : Setting) (t u : Trace) (heard now : Option ℕ) : Type 0
   pub fewer : (p : ℕ) (path : List ℕ) (offset : ℕ) → length (held_by (holdings u) p path offset) ≤ length (held_by (holdings t) p path offset)
   pub sessions : (n : ℕ) (s : Session) → session_numbered st t n ≡ Some s → session_numbered st u n ≡ Some s
   pub joined : (g : Grant) (s : Session) → Contains (holdings u) g → session_numbered st t g.session ≡ Some s → g.lockspace ≡ s.lockspace → is_joined t s ≡ true → is_joined u s ≡ true
-  pub children : next_child t ≤ next_child u
+  pub further : next_child t ≤ next_child u
+  pub given : ((k : Child) → Contains (children t) k → k.process < next_child t) → (k : Child) → Contains (children u) k → k.process < next_child u
   pub stands : (g : Grant) (s : Session) → Contains (holdings u) g → session_numbered st t g.session ≡ Some s → is_shared g.mode ≡ false
       → StandsExclusive st t heard s (spot_of_grant g) g.lver → StandsExclusive st u now s (spot_of_grant g) g.lver
 
@@ -66,7 +67,8 @@ upheld st t u heard now k h =
           just_one (length (held_by (holdings u) g.process g.path g.offset)) (length (held_by (holdings t) g.process g.path g.offset))
           (kept_counted (λ (e : Grant). e.process == g.process && same_place e.path e.offset g.path g.offset) (holdings u) g there (itself g)) (k.fewer g.process g.path g.offset)
           (h.single g (k.inside g there));
-      born = λ g there. lt_then_le g.process (next_child t) (next_child u) (h.born g (k.inside g there)) k.children;
+      born = λ g there. lt_then_le g.process (next_child t) (next_child u) (h.born g (k.inside g there)) k.further;
+      given = k.given h.given;
       stands = λ g s there its exclusive.
           let o = h.owned g (k.inside g there) in
           let was : session_numbered st t g.session ≡ Some s =
@@ -86,7 +88,8 @@ signal_held x p signal h =
       fewer = λ q path offset. refl_le (length (held_by (holdings (seen x)) q path offset));
       sessions = λ n s its. its;
       joined = λ g s there its name joined. joined;
-      children = refl_le (next_child (seen x));
+      further = refl_le (next_child (seen x));
+      given = λ kept. kept;
       stands = λ g s there its exclusive stands.
           stands_same x.setting (seen x) (seen (add_signal p signal x)) (heard_by x.input) (heard_by x.input) s (spot_of_grant g) g.lver refl refl (λ j n is. is) (λ m inside opens. opens) stands;
     }) h
@@ -99,14 +102,32 @@ next_more past e s = subst (λ ks. next_child (e ∷ past) ≤ first_child + len
   by : (ks : List Child) (k : Child) → first_child + length ks ≤ first_child + length (ks ++ k ∷ [])
   by ks k = subst (λ n. first_child + length ks ≤ first_child + n) (sym (length-append ks (k ∷ []))) (omega arith)
 
-pub start_held : (x : Step) (s : Start) → HoldsAt x → HoldsAt (add_start s x)
-start_held x start h =
+next_less : (past : Trace) (e : Entry) (s : Start) → next_child (e ∷ past) < next_child (with_start s e ∷ past)
+next_less past e s = subst (λ ks. next_child (e ∷ past) < first_child + length ks) (sym (effects_are_told.starts s e past)) (by (children (e ∷ past)) (new_child s)) where
+  by : (ks : List Child) (k : Child) → first_child + length ks < first_child + length (ks ++ k ∷ [])
+  by ks k = subst (λ n. first_child + length ks < first_child + n) (sym (length-append ks (k ∷ []))) (omega arith)
+
+-- The child has the next number.
+given_more : (past : Trace) (e : Entry) (s : Start) → s.process ≡ next_child (e ∷ past) → ((k : Child) → Contains (children (e ∷ past)) k → k.process < next_child (e ∷ past))
+    → (k : Child) → Contains (children (with_start s e ∷ past)) k → k.process < next_child (with_start s e ∷ past)
+given_more past e s next old k there = by (Contains-append_cases (children (e ∷ past)) (new_child s ∷ []) k (subst (λ ks. Contains ks k) (effects_are_told.starts s e past) there)) where
+  only : (new_child s ≡ k) ⊎ Contains [] k → k.process < next_child (with_start s e ∷ past)
+  only (inl is) = subst (λ (z : Child). z.process < next_child (with_start s e ∷ past)) is (subst (λ n. n < next_child (with_start s e ∷ past)) (sym next) (next_less past e s))
+  only (inr none) = absurd (contains_none k none)
+
+  by : Contains (children (e ∷ past)) k ⊎ Contains (new_child s ∷ []) k → k.process < next_child (with_start s e ∷ past)
+  by (inl before) = lt_then_le k.process (next_child (e ∷ past)) (next_child (with_start s e ∷ past)) (old k before) (next_more past e s)
+  by (inr new) = only (contains_cases (new_child s) [] k new)
+
+pub start_held : (x : Step) (s : Start) → s.process ≡ next_child (seen x) → HoldsAt x → HoldsAt (add_start s x)
+start_held x start next h =
     upheld x.setting (seen x) (seen (add_start start x)) (heard_by x.input) (heard_by x.input) (record {
       inside = λ g there. there;
       fewer = λ q path offset. refl_le (length (held_by (holdings (seen x)) q path offset));
       sessions = λ n s its. its;
       joined = λ g s there its name joined. joined;
-      children = next_more x.past (entry_of x) start;
+      further = next_more x.past (entry_of x) start;
+      given = given_more x.past (entry_of x) start next;
       stands = λ g s there its exclusive stands.
           stands_same x.setting (seen x) (seen (add_start start x)) (heard_by x.input) (heard_by x.input) s (spot_of_grant g) g.lver refl refl (λ j n is. is) (λ m inside opens. opens) stands;
     }) h
@@ -139,7 +160,8 @@ end_held x e h =
           (filter (λ g. not (is_ended_by x.effects.ends g)) (holdings x.past)) x.effects.grants);
       sessions = λ n s its. its;
       joined = λ g s there its name joined. joined;
-      children = refl_le (next_child (seen x));
+      further = refl_le (next_child (seen x));
+      given = λ kept. kept;
       stands = λ g s there its exclusive stands.
           stands_same x.setting (seen x) (seen (add_end e x)) (heard_by x.input) (heard_by x.input) s (spot_of_grant g) g.lver refl refl (λ j n is. is) (λ m inside opens. opens) stands;
     }) h
@@ -169,7 +191,8 @@ move_held x m spares h =
       fewer = λ q path offset. refl_le (length (held_by (holdings (seen x)) q path offset));
       sessions = λ n s its. its;
       joined = λ g s there its name joined. joined_moved x.past (entry_of x) s m (subst (λ n. unregisters n m ≡ false) name (spares g there)) joined;
-      children = refl_le (next_child (seen x));
+      further = refl_le (next_child (seen x));
+      given = λ kept. kept;
       stands = λ g s there its exclusive stands.
           stands_same x.setting (seen x) (seen (add_move m x)) (heard_by x.input) (heard_by x.input) s (spot_of_grant g) g.lver refl refl (λ j n is. is) (λ m inside opens. opens) stands;
     }) h
@@ -319,7 +342,8 @@ reply_held x j r same h =
       fewer = λ q path offset. refl_le (length (held_by (holdings (seen x)) q path offset));
       sessions = λ n s its. its;
       joined = λ g s there its name joined. still_joined x.past (entry_of x) a s joined;
-      children = refl_le (next_child (seen x));
+      further = refl_le (next_child (seen x));
+      given = λ kept. kept;
       stands = λ g s there its exclusive stands.
           stands_same x.setting (seen x) (seen (add_reply j r x)) (heard_by x.input) (heard_by x.input) s (spot_of_grant g) g.lver
           (ap (λ ms. filter (λ m. is_lease_call m && is_on x.setting.layout (spot_of_grant g) m.call) (filter (is_call_of s) ms)) same)

@@ -79,6 +79,7 @@ grant_held x g may h =
       alone = λ k e here there same exclusive. alone_by k e (old_or_granted x g k here) (old_or_granted x g e there) same exclusive;
       single = λ k there. single_by k (old_or_granted x g k there);
       born = λ k there. born_by k (old_or_granted x g k there);
+      given = h.given;
       stands = λ k s there its exclusive. stands_by k s (old_or_granted x g k there) its exclusive;
     } where
       owned_by : (k : Grant) → Contains (holdings (seen x)) k ⊎ (g ≡ k)

@@ -7,8 +7,8 @@ use Rattle.sl_due.specs.Steps.{Step, seen, with_input}
 use Rattle.sl_holding_due.proofs.HoldingsByEffects.{HoldsAt, Upheld, counted_now, counted_on, upheld}
 use Rattle.sl_holding_due.proofs.StandsGrow.{stands_marked, stands_same}
 use Rattle.sl_leases.specs.Leases.{is_lease_call, is_on, lease_calls}
-use Rattle.sl_plain.proofs.Lists.{any_found, contains_map, kept_inside}
-use Rattle.sl_plain.proofs.Numbers.{refl_le}
+use Rattle.sl_plain.proofs.Lists.{any_found, contains_map, in_map, kept_inside}
+use Rattle.sl_plain.proofs.Numbers.{lt_then_le, refl_le}
 use Rattle.sl_plain.proofs.Options.{none_is}
 use Rattle.sl_sector.specs.declared.sector.DeltaRec.{DeltaRec}
 use Rattle.sl_sessions.specs.Sessions.{calls_of, delta_written, generation_in, generation_of, given_number, is_call_of, is_joined, is_join_call, joined_after, last_delta, session_numbered, sessions}
@@ -32,9 +32,10 @@ use Rattle.sl_words.proofs.WordLaws.{and_true}
 use Rattle.std.proofs.Common.{ap, inl, inr, refl, subst, sym, ◌∙◌}
 use Rattle.std.proofs.lemmas.Bool.{eqb-true}
 use Rattle.std.proofs.lemmas.List.{length-append, length-map}
+use Rattle.std.proofs.lemmas.List.Elements.{Contains-append_cases, Contains-append_left, Contains-append_right}
 use Rattle.std.specs.List.{list_any}
 use Rattle.std.specs.Option.{option_map_or, option_or}
-use Rattle.std.specs.Prelude.{Bool, Contains, IsTrue, List, None, Option, Some, cond, false, filter, fold, is_none, is_some, length, map, nat_lt, slice_get, true, [], ℕ, ◌&&◌, ◌++◌, ◌+◌, ◌==◌, ◌∷◌, ◌≡◌, ◌≤◌, ◌⊎◌}
+use Rattle.std.specs.Prelude.{Bool, Contains, IsTrue, List, None, Option, Some, cond, false, filter, fold, is_none, is_some, length, map, nat_lt, slice_get, true, [], ℕ, ◌&&◌, ◌++◌, ◌+◌, ◌<◌, ◌==◌, ◌∷◌, ◌≡◌, ◌≤◌, ◌⊎◌}
 
 -- ---- the calls
 
@@ -167,6 +168,31 @@ children_seen x i =
       by : (m n : ℕ) → m ≡ n → first_child + m ≤ first_child + n
       by m n is = subst (λ k. first_child + m ≤ first_child + k) is (refl_le (first_child + m))
 
+same_number : (i : Input) (k : Child) → (child_after i k).process ≡ k.process
+same_number (Line text) k = refl
+same_number (Number text) k = refl
+same_number (Told n w) k = refl
+same_number (Exit p) k = by (p == k.process) where
+  by : (b : Bool) → (elim b as (λ z. Child) [ false ↦ k | true ↦ record k { exited = true } ]).process ≡ k.process
+  by true = refl
+  by false = refl
+same_number (Spawned p ok) k = by (p == k.process) where
+  by : (b : Bool) → (elim b as (λ z. Child) [ false ↦ k | true ↦ record k { answer = option_or k.answer (Some ok) } ]).process ≡ k.process
+  by true = refl
+  by false = refl
+same_number Wake k = refl
+
+given_seen : (x : Step) (i : Input) → x.input ≡ Wake → ((k : Child) → Contains (children (seen x)) k → k.process < next_child (seen x))
+    → (k : Child) → Contains (children (seen (with_input i x))) k → k.process < next_child (seen (with_input i x))
+given_seen x i wake old k there = lt_then_le k.process (next_child (seen x)) (next_child (seen (with_input i x))) (by (Contains-append_cases (map (child_after i) (children x.past)) (map new_child x.effects.starts) k there)) (children_seen x i) where
+  by : Contains (map (child_after i) (children x.past)) k ⊎ Contains (map new_child x.effects.starts) k → k.process < next_child (seen x)
+  by (inr new) = old k (Contains-append_right (map (child_after x.input) (children x.past)) (map new_child x.effects.starts) k new)
+  by (inl was) =
+      let v = in_map (child_after i) (children x.past) k was in
+      let before : Contains (children (seen x)) (child_after x.input v.0) =
+      Contains-append_left (map (child_after x.input) (children x.past)) (map new_child x.effects.starts) (child_after x.input v.0) (contains_map (child_after x.input) (children x.past) v.0 v.1) in
+      subst (λ n. n < next_child (seen x)) (same_number x.input v.0 ∙ (sym (same_number i v.0) ∙ ap (λ (z : Child). z.process) v.2)) (old (child_after x.input v.0) before)
+
 -- ---- which calls are open
 
 -- The call that an answer may come to has none yet, and its number is its own.
@@ -223,7 +249,8 @@ input_held x i wake bare other h =
       fewer = λ q path offset. refl_le (length (held_by (holdings (seen x)) q path offset));
       sessions = λ n s its. sessions_seen_still x i n bare ∙ its;
       joined = λ g s there its name joined. joined;
-      children = children_seen x i;
+      further = children_seen x i;
+      given = given_seen x i wake;
       stands = λ g s there its exclusive stands.
           let gen : generation_of (seen (with_input i x)) s ≡ generation_of (seen x) s = ap (λ ms. generation_in s (filter (is_call_of s) ms)) same in
           stands_same x.setting (seen x) (seen (with_input i x)) (heard_by x.input) (heard_by i) s (spot_of_grant g) g.lver
@@ -239,7 +266,8 @@ answer_held x n w wake bare f expected h =
       fewer = λ q path offset. refl_le (length (held_by (holdings (seen x)) q path offset));
       sessions = λ k s its. sessions_seen_still x (Told n w) k bare ∙ its;
       joined = λ g s there its name joined. joined;
-      children = children_seen x (Told n w);
+      further = children_seen x (Told n w);
+      given = given_seen x (Told n w) wake;
       stands = λ g s there its exclusive stands.
           let gen : generation_of (seen (with_input (Told n w) x)) s ≡ generation_of (seen x) s = generation_told x n w s wake bare in
           stands_marked x.setting (seen x) (seen (with_input (Told n w) x)) (Some n) s (spot_of_grant g) g.lver x.past (entry_of (with_input (Told n w) x)) n w
