@@ -6,3 +6,4 @@ pub mod HoldingsByCalls
 pub mod HoldingsByInputs
 pub mod HoldingsByGrants
 pub mod LeasePlaces
+pub mod DecisionsHaveGrounds
