@@ -7,3 +7,4 @@ pub mod HoldingsByInputs
 pub mod HoldingsByGrants
 pub mod LeasePlaces
 pub mod DecisionsHaveGrounds
+pub mod HoldersSpared
