@@ -8,3 +8,4 @@ pub mod HoldingsByGrants
 pub mod LeasePlaces
 pub mod DecisionsHaveGrounds
 pub mod HoldersSpared
+pub mod HoldingsByDeltas
