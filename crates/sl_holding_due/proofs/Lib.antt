@@ -9,3 +9,4 @@ pub mod LeasePlaces
 pub mod DecisionsHaveGrounds
 pub mod HoldersSpared
 pub mod HoldingsByDeltas
+pub mod HoldingsByLoops
