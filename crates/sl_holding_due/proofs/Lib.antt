@@ -10,3 +10,4 @@ pub mod DecisionsHaveGrounds
 pub mod HoldersSpared
 pub mod HoldingsByDeltas
 pub mod HoldingsByLoops
+pub mod HoldingsByExits
