@@ -11,3 +11,4 @@ pub mod HoldersSpared
 pub mod HoldingsByDeltas
 pub mod HoldingsByLoops
 pub mod HoldingsByExits
+pub mod LeaseNexts
