@@ -12,3 +12,4 @@ pub mod HoldingsByDeltas
 pub mod HoldingsByLoops
 pub mod HoldingsByExits
 pub mod LeaseNexts
+pub mod LeaseBeside
