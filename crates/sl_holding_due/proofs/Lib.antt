@@ -13,3 +13,4 @@ pub mod HoldingsByLoops
 pub mod HoldingsByExits
 pub mod LeaseNexts
 pub mod LeaseBeside
+pub mod HoldingsByLeases
