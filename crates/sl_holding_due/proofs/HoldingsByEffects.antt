@@ -102,7 +102,7 @@ next_more past e s = subst (λ ks. next_child (e ∷ past) ≤ first_child + len
   by : (ks : List Child) (k : Child) → first_child + length ks ≤ first_child + length (ks ++ k ∷ [])
   by ks k = subst (λ n. first_child + length ks ≤ first_child + n) (sym (length-append ks (k ∷ []))) (omega arith)
 
-next_less : (past : Trace) (e : Entry) (s : Start) → next_child (e ∷ past) < next_child (with_start s e ∷ past)
+pub next_less : (past : Trace) (e : Entry) (s : Start) → next_child (e ∷ past) < next_child (with_start s e ∷ past)
 next_less past e s = subst (λ ks. next_child (e ∷ past) < first_child + length ks) (sym (effects_are_told.starts s e past)) (by (children (e ∷ past)) (new_child s)) where
   by : (ks : List Child) (k : Child) → first_child + length ks < first_child + length (ks ++ k ∷ [])
   by ks k = subst (λ n. first_child + length ks < first_child + n) (sym (length-append ks (k ∷ []))) (omega arith)

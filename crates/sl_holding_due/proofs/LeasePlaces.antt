@@ -73,6 +73,9 @@ some_area sector hosts area some fits = grind (arith)
 within : (sector hosts area base id : ℕ) → 1 ≤ sector → sector * (hosts + 3) ≤ area → id ≤ hosts → base + sector * (id + 1) < base + area
 within sector hosts area base id some fits low = grind (arith)
 
+pub area_is : (st : Setting) → IsSetting st → 0 < st.layout.area
+area_is st is = let r = room st is in some_area st.layout.sector st.layout.hosts st.layout.area r.0 r.1
+
 -- Leader and area stand at the base.
 pub base_on : (st : Setting) (at : Spot) (c : Call) → IsSetting st → c.path ≡ at.path → c.offset ≡ at.base → is_on st.layout at c ≡ true
 base_on st at c is path offset =

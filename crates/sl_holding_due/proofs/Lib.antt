@@ -14,3 +14,5 @@ pub mod HoldingsByExits
 pub mod LeaseNexts
 pub mod LeaseBeside
 pub mod HoldingsByLeases
+pub mod LeaseCallers
+pub mod LeaseGrants
