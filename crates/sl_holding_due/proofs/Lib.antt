@@ -16,3 +16,4 @@ pub mod LeaseBeside
 pub mod HoldingsByLeases
 pub mod LeaseCallers
 pub mod LeaseGrants
+pub mod LeaseConversions
