@@ -79,7 +79,7 @@ lease_spared x s at c h has aligned mine on none beside =
 
 -- ---- what it writes
 
-ballot_is : (m : Submitted) (work : Work) (step : LeaseStep) → m.call.purpose ≡ Lease work step → is_ballot_call m ≡ is_ballot_step step
+pub ballot_is : (m : Submitted) (work : Work) (step : LeaseStep) → m.call.purpose ≡ Lease work step → is_ballot_call m ≡ is_ballot_step step
 ballot_is m work step is = ap (λ p. of_purpose p) is ∙ by step where
   of_purpose : Purpose → Bool
   of_purpose p = is_ballot_call (new_call 0 0 (record { number = 0; session = 0; purpose = p; path = []; offset = 0; op = ReadSectors 0 }))

@@ -1,35 +1,41 @@
 -- What is known where a lease's call is answered: the call is the session's on the area, the session is joined, its job's command is one
 -- of the layout.
 use Rattle.sl_acts.specs.Acts.{Has, Hears}
+use Rattle.sl_acts.specs.SoFar.{entry_of}
 use Rattle.sl_area.specs.Layouts.{Layout}
 use Rattle.sl_area.specs.Places.{in_area}
 use Rattle.sl_due.specs.Steps.{Step, seen, with_input}
 use Rattle.sl_holding_due.proofs.HoldersSpared.{joined_some}
+use Rattle.sl_holding_due.proofs.HoldingsByInputs.{calls_marked}
 use Rattle.sl_holding_due.proofs.LeasePlaces.{area_is}
 use Rattle.sl_law.specs.Lawful.{IsSetting, Orderly}
+use Rattle.sl_law.specs.Saying.{IsAnsweredAt}
 use Rattle.sl_leases.specs.Jobs.{command_numbered, command_of}
 use Rattle.sl_leases.specs.Leases.{is_lease_call, is_on, lease_calls, lease_step, spot_of_call}
-use Rattle.sl_plain.proofs.Lists.{any_of, contains_cases, contains_none, find_inside, kept}
+use Rattle.sl_plain.proofs.Lists.{any_found, contains_cases, contains_map, contains_none, find_inside, kept, kept_inside}
 use Rattle.sl_plain.proofs.Numbers.{number_itself}
 use Rattle.sl_plain.proofs.Options.{none_is, then_value}
 use Rattle.sl_sessions.specs.Sessions.{calls_of, ended_after, has_open_write, is_call_of, is_joined, is_present, joined_after, refused_after, removed_after, session_numbered}
 use Rattle.sl_sessions.specs.declared.session.Session.{Session}
+use Rattle.sl_step_facts.specs.CallFacts.{CallFacts}
 use Rattle.sl_step_facts.specs.Heard.{IsOpen, heard_by}
 use Rattle.sl_step_facts.specs.WorkFacts.{IsWaiting}
 use Rattle.sl_trace.specs.Commands.{IsCommand}
-use Rattle.sl_trace.specs.Traces.{Job, Setting, Submitted, Trace, call_numbered, job_in, is_write, job_numbered, jobs, line_in, next_job, submitted}
+use Rattle.sl_trace.specs.Traces.{Job, Setting, Submitted, Trace, answer_of, answered_in, call_numbered, is_answer_for, is_expected, mark, outstanding, job_in, is_write, job_numbered, jobs, line_in, next_job, submitted}
 use Rattle.sl_trace.specs.declared.command.Command.{Command}
+use Rattle.sl_trace.specs.declared.effects.Call.{Call}
 use Rattle.sl_trace.specs.declared.effects.Entry.{Entry}
 use Rattle.sl_trace.specs.declared.effects.LeaseStep.{LeaseStep}
 use Rattle.sl_trace.specs.declared.effects.Purpose.TheVariants.{Lease}
 use Rattle.sl_trace.specs.declared.effects.Purpose.{Purpose}
 use Rattle.sl_trace.specs.declared.effects.Work.{Work}
 use Rattle.sl_trace.specs.declared.input.Answer.{Answer}
-use Rattle.sl_trace.specs.declared.input.Input.TheVariants.{Wake}
+use Rattle.sl_trace.specs.declared.input.Input.TheVariants.{Answer as Told, Wake}
 use Rattle.sl_trace_law.proofs.Leases.NumberLaws.{number_is_place}
 use Rattle.sl_trace_law.proofs.Sessions.Covering.{joinings_are_in_turn}
 use Rattle.sl_trace_law.specs.Sessions.Promises.{all_done, fits, fits_as, has_reply, is_in_turn}
-use Rattle.sl_words.proofs.CaseLaws.{false_is_true, no_value, none_some, not_both, some_value, true_is_false}
+use Rattle.sl_trace_law.proofs.Sessions.Making.{same_answered}
+use Rattle.sl_words.proofs.CaseLaws.{false_is_true, no_value, none_some, one_value, not_both, some_value, true_is_false}
 use Rattle.sl_words.proofs.WordLaws.{and_true}
 use Rattle.std.proofs.Common.{ap, arith, inl, inr, refl, subst, sym, ◌∙◌}
 use Rattle.std.proofs.Math.Nat.{div-add-mod, mod-lt, mul-mod_right}
@@ -37,7 +43,8 @@ use Rattle.std.proofs.lemmas.Bool.{eqb-true, le-leb, lt-ltb}
 use Rattle.std.proofs.lemmas.List.Elements.{Contains-append_cases}
 use Rattle.std.specs.Cmp.Lexicographic.{nat_list_eq_equiv}
 use Rattle.std.specs.List.{list_all}
-use Rattle.std.specs.Prelude.{Bool, Contains, Err, List, None, Ok, Option, Result, Some, [], bytes_eq, false, is_none, is_some, length, nat_le, nat_lt, true, ℕ, ◌%◌, ◌&&◌, ◌*◌, ◌++◌, ◌+◌, ◌-◌, ◌/◌, ◌<◌, ◌==◌, ◌||◌, ◌∷◌, ◌≡◌, ◌≤◌, ◌⊎◌}
+use Rattle.std.specs.Option.{option_or}
+use Rattle.std.specs.Prelude.{Bool, Contains, Err, IsTrue, List, None, Ok, Option, Result, Some, [], bytes_eq, false, is_none, is_some, length, map, nat_le, nat_lt, true, ℕ, ◌%◌, ◌&&◌, ◌*◌, ◌++◌, ◌+◌, ◌-◌, ◌/◌, ◌<◌, ◌==◌, ◌||◌, ◌∷◌, ◌≡◌, ◌≤◌, ◌⊎◌}
 
 -- ---- the call
 
@@ -148,3 +155,31 @@ commands_fit st t j c is at =
     let f = find_inside (λ (k : Job). k.number == j) (jobs st t) v.0 v.1 in
     let r = read_from st t v.0 f.0 in
     is.reads r.0 c (sym r.1 ∙ said v.0.command c v.2)
+
+-- ---- the answer
+
+-- The call that was heard has the answer of this entry.
+pub heard_answered : (x : Step) (s : Session) (m : Submitted) (answer : Answer) → CallFacts x.setting (seen x) → Orderly x.setting (seen x) → Hears x s m answer → IsAnsweredAt (length x.past) m answer
+heard_answered x s m answer facts order hears = by (any_found (λ (k : Submitted). k.call.number == hears.number && is_answer_for x.setting answer k.call.op) (outstanding x.past) expected) where
+  expected : IsTrue (is_expected x.setting x.past (Told hears.number answer))
+  expected = subst (λ i. IsTrue (is_expected x.setting x.past i)) hears.heard order.is_trace.0.expected
+
+  marked : submitted (seen x) ≡ map (answered_in x.past (entry_of x) hears.number answer) (submitted x.past)
+  marked = calls_marked x hears.bare ∙ ap (λ i. mark x.past (entry_of x) i (submitted x.past)) hears.heard
+
+  told : (k : Submitted) → k.answer ≡ None → (k.call.number == hears.number) ≡ true
+      → (answered_in x.past (entry_of x) hears.number answer k).answer ≡ Some (answer_of x.past (entry_of x) answer k.call)
+  told k none same =
+      ap (λ b. (elim b as (λ z. Submitted) [ false ↦ k | true ↦ record k { answer = option_or k.answer (Some (answer_of x.past (entry_of x) answer k.call)) } ]).answer) same
+      ∙ ap (λ o. option_or o (Some (answer_of x.past (entry_of x) answer k.call))) none
+
+  by : (k : Submitted) × Contains (outstanding x.past) k × ((k.call.number == hears.number && is_answer_for x.setting answer k.call.op) ≡ true) → IsAnsweredAt (length x.past) m answer
+  by f =
+      let k : Submitted = f.0 in
+      let v = and_true (k.call.number == hears.number) (is_answer_for x.setting answer k.call.op) f.2 in
+      let open_k = kept_inside (λ (d : Submitted). is_none d.answer) (submitted x.past) k f.1 in
+      let n : Submitted = answered_in x.past (entry_of x) hears.number answer k in
+      let there : Contains (submitted (seen x)) n = subst (λ ms. Contains ms n) (sym marked) (contains_map (answered_in x.past (entry_of x) hears.number answer) (submitted x.past) k open_k.0) in
+      let number : n.call.number ≡ hears.number = ap (λ (c : Call). c.number) (same_answered x.past (entry_of x) hears.number answer k).call ∙ eqb-true k.call.number hears.number v.0 in
+      let same : n ≡ m = one_value n m (call_numbered (seen x) hears.number) (subst (λ j. call_numbered (seen x) j ≡ Some n) number (facts.found n there)) hears.call in
+      (answer_of x.past (entry_of x) answer k.call, ap (λ (d : Submitted). d.answer) (sym same) ∙ told k (none_is k.answer open_k.1) v.0, refl, refl)

@@ -17,3 +17,4 @@ pub mod HoldingsByLeases
 pub mod LeaseCallers
 pub mod LeaseGrants
 pub mod LeaseConversions
+pub mod HoldingsByAnswers
