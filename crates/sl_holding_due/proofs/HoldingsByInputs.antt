@@ -156,7 +156,7 @@ counted_seen x i s j n wake bare same is = counted_on x.setting x.past (entry_of
 
 -- ---- children
 
-children_seen : (x : Step) (i : Input) → next_child (seen x) ≤ next_child (seen (with_input i x))
+pub children_seen : (x : Step) (i : Input) → next_child (seen x) ≤ next_child (seen (with_input i x))
 children_seen x i =
     let ks : List Child = children x.past in
     let new : List Child = map new_child x.effects.starts in

@@ -18,3 +18,4 @@ pub mod LeaseCallers
 pub mod LeaseGrants
 pub mod LeaseConversions
 pub mod HoldingsByAnswers
+pub mod HoldingsByLines
