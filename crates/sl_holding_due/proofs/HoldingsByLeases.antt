@@ -57,7 +57,7 @@ OfExclusive x s at P =
 abbrev pub IsAligned : Step → Spot → Type 0
 IsAligned x at = at.base % x.setting.layout.area ≡ 0
 
-base_aligned : (x : Step) (g : Grant) → IsTrue (is_base x.setting.layout g.offset) → IsAligned x (spot_of_grant g)
+pub base_aligned : (x : Step) (g : Grant) → IsTrue (is_base x.setting.layout g.offset) → IsAligned x (spot_of_grant g)
 base_aligned x g is = eqb-true (g.offset % x.setting.layout.area) 0 (and_true (g.offset % x.setting.layout.area == 0) (nat_lt g.offset (10 ^ 12)) is).0
 
 lease_spared : (x : Step) (s : Session) (at : Spot) (c : Call) → HoldsAt x → Has x s → IsAligned x at → c.session ≡ s.number → is_on x.setting.layout at c ≡ true

@@ -1,5 +1,6 @@
 -- What a command comes to keeps the facts of holdings.
-use Rattle.sl_acts.proofs.DecisionsAreTheirs.{decisions_are_theirs}
+use Rattle.sl_acts.proofs.DecisionsAreTheirs.{Of, decisions_are_theirs}
+use Rattle.sl_acts.proofs.PlainActs.{line_has}
 use Rattle.sl_acts.specs.Acts.{Has}
 use Rattle.sl_acts.specs.Promises.{IsDecidedFor, IsPresent}
 use Rattle.sl_acts.specs.SoFar.{entry_of}
@@ -14,9 +15,9 @@ use Rattle.sl_holding_due.proofs.HoldingsByCalls.{CallSpares, call_added, call_h
 use Rattle.sl_holding_due.proofs.HoldingsByDeltas.{plain_spared}
 use Rattle.sl_holding_due.proofs.HoldingsByEffects.{HoldsAt, end_held, end_inside, later_same, reply_held}
 use Rattle.sl_holding_due.proofs.HoldingsByExits.{ends_itself, not_ended}
-use Rattle.sl_holding_due.proofs.HoldingsByInputs.{children_seen, input_held, sessions_seen_still}
-use Rattle.sl_holding_due.proofs.HoldingsByLeases.{IsAligned, IsNoGrant, OfExclusive, carried_held}
-use Rattle.sl_holding_due.proofs.HoldingsByLoops.{stopped_held}
+use Rattle.sl_holding_due.proofs.HoldingsByInputs.{children_seen, input_held, is_no_answer, sessions_seen_still}
+use Rattle.sl_holding_due.proofs.HoldingsByLeases.{IsAligned, base_aligned, IsNoGrant, OfExclusive, carried_held}
+use Rattle.sl_holding_due.proofs.HoldingsByLoops.{AnswersNoJob, stopped_held}
 use Rattle.sl_holding_due.proofs.LeaseBeside.{DoesBeside}
 use Rattle.sl_holding_due.proofs.LeaseConversions.{spot_is}
 use Rattle.sl_holding_due.proofs.LeaseGrants.{IsNewThere, PlaceFor, granted_held}
@@ -34,6 +35,7 @@ use Rattle.sl_leases.specs.declared.lease.LeaseNext.{LeaseNext}
 use Rattle.sl_plain.proofs.Lists.{any_of, contains_none, find_inside, kept, kept_inside}
 use Rattle.sl_plain.proofs.Numbers.{lt_then_le, number_itself}
 use Rattle.sl_sector.specs.declared.sector.Block.{Block}
+use Rattle.sl_sector.specs.declared.sector.Rec.TheVariants.{ValueIs}
 use Rattle.sl_sessions.specs.Sessions.{holdings_of, is_active, is_joined, leaving_job, present_sessions, recovery_of, session_named, session_numbered, sessions}
 use Rattle.sl_sessions.specs.declared.session.Session.{Session}
 use Rattle.sl_step_facts.specs.Heard.{heard_by}
@@ -51,8 +53,8 @@ use Rattle.sl_trace.specs.declared.effects.JoinStep.TheVariants.{FirstRead}
 use Rattle.sl_trace.specs.declared.effects.LeaseStep.TheVariants.{ClearMode, FreeLeader, ReadArea, SetMode}
 use Rattle.sl_trace.specs.declared.effects.Mode.TheVariants.{Exclusive, Shared}
 use Rattle.sl_trace.specs.declared.effects.Mode.{Mode}
-use Rattle.sl_trace.specs.declared.effects.Op.TheVariants.{ReadSectors}
-use Rattle.sl_trace.specs.declared.effects.Purpose.TheVariants.{Joining}
+use Rattle.sl_trace.specs.declared.effects.Op.TheVariants.{ReadSectors, WriteRecord}
+use Rattle.sl_trace.specs.declared.effects.Purpose.TheVariants.{Joining, RequestRead, ValueRead, ValueWrite}
 use Rattle.sl_trace.specs.declared.effects.Spot.{Spot}
 use Rattle.sl_trace.specs.declared.effects.Work.TheVariants.{ForJob}
 use Rattle.sl_trace.specs.declared.input.Input.TheVariants.{Answer as Told, Line, Wake}
@@ -319,3 +321,44 @@ converts_line x text c j s r mode hx h is has command g = carried_held y s (spot
       moded stands.own e.lver (known y.setting (seen y) s (spot_of r)).own
       (known_as y s (spot_of r) stands.own (subst (λ z. block_submitted (lease_calls y.setting (seen y) s z) ≡ Some stands.own) spot stands.known)) stands.under.0
   beside Exclusive at e there mine exclusive spot stands = absurd (none_exclusive (ap (λ m. is_shared m) at) e there exclusive spot)
+
+-- ---- all decisions
+
+no_told : (past : Trace) (text : List ℕ) → AnswersNoJob past (Line text)
+no_told past text n w m is there same = absurd (true_is_false (ap (λ i. is_no_answer i) is))
+
+pub lines_held : (x : Step) (text : List ℕ) (c : Command) (j : ℕ) (d : Decision) → HoldsAt x → IsSetting x.setting → x.input ≡ Wake → x.effects.calls ≡ [] → x.effects.grants ≡ [] → x.setting.read text ≡ Ok c
+    → decided x.setting (seen x) x.reading c ≡ d → HoldsAt (carry_decision j c d (with_input (Line text) x))
+unfolding carry_decision carry_lease
+lines_held x text c j d hx is wake bare ungranted says at =
+    by d (subst (λ z. HasGrounds x.setting (seen x) c z) at (decisions_have_grounds x.setting (seen x) x.reading c)) (subst (λ z. IsDecidedFor x.setting (seen x) c z) at (decisions_are_theirs x.setting (seen x) x.reading c))
+    (subst (λ z. Of (Has y) z) at (line_has x text c bare)) where
+      y : Step
+      y = with_input (Line text) x
+
+      h : HoldsAt y
+      h = input_held x (Line text) wake bare refl hx
+
+      command : IsCommand x.setting.layout c
+      command = is.reads text c says
+
+      by : (d : Decision) → HasGrounds x.setting (seen x) c d → IsDecidedFor x.setting (seen x) c d → Of (Has y) d → HoldsAt (carry_decision j c d y)
+      by (Replies r) g theirs has = h
+      by (Joins n a) g theirs has = joins_line x text j n a bare theirs.1 h
+      by (Leaves s) g theirs has = stopped_held y s (Some j) (no_told x.past text) h
+      by (ReadsArea s r) g theirs has = reads_line x text c j s r h is has command g
+      by (Shares s lver) g theirs has = shares_line x text c j s lver hx h has command g
+      by (GivesUp s k) g theirs has =
+          let on = kept_inside (λ (e : Grant). same_place e.path e.offset g.resource.path g.resource.offset) (holdings_of (seen x) s) k g.held in
+          let of = kept_inside (λ (e : Grant). e.session == s.number) (holdings (seen x)) k on.0 in
+          gives_up_line y j s k h is has (base_aligned y k (hx.owned k of.0).4)
+      by (TakesOver s k) g theirs has = takes_over_line x text c j s k hx h has ungranted command g
+      by (ConvertsTo s r mode) g theirs has = converts_line x text c j s r mode hx h is has command g
+      by (Requests s r) g theirs has =
+          call_held y s.number r.path (RequestRead j) r.offset (ReadSectors 2) (plain_spared y (call_added s.number r.path (RequestRead j) r.offset (ReadSectors 2) y) refl refl) h
+      by (SetsValue s spot v) g theirs has =
+          call_held y s.number spot.path (ValueWrite j) (value_offset x.setting.layout spot.base) (WriteRecord (ValueIs v))
+          (plain_spared y (call_added s.number spot.path (ValueWrite j) (value_offset x.setting.layout spot.base) (WriteRecord (ValueIs v)) y) refl refl) h
+      by (GetsValue s spot) g theirs has =
+          call_held y s.number spot.path (ValueRead j) (value_offset x.setting.layout spot.base) (ReadSectors 1)
+          (plain_spared y (call_added s.number spot.path (ValueRead j) (value_offset x.setting.layout spot.base) (ReadSectors 1) y) refl refl) h

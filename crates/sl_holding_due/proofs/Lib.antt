@@ -19,3 +19,4 @@ pub mod LeaseGrants
 pub mod LeaseConversions
 pub mod HoldingsByAnswers
 pub mod HoldingsByLines
+pub mod HoldingFactsAreKept
