@@ -1,0 +1,3 @@
+pub mod JobsAreNumbered
+pub mod SessionsHaveJobs
+pub mod EffectsAreAllowed
