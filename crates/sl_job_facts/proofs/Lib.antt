@@ -1,3 +1,4 @@
 pub mod JobsAreNumbered
 pub mod SessionsHaveJobs
 pub mod EffectsAreAllowed
+pub mod RepliesComeAfter
