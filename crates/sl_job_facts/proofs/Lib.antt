@@ -2,3 +2,5 @@ pub mod JobsAreNumbered
 pub mod SessionsHaveJobs
 pub mod EffectsAreAllowed
 pub mod RepliesComeAfter
+pub mod CallsStandInAreas
+pub mod DecisionsFit
