@@ -4,3 +4,5 @@ pub mod EffectsAreAllowed
 pub mod RepliesComeAfter
 pub mod CallsStandInAreas
 pub mod DecisionsFit
+pub mod CallsStay
+pub mod CallsHaveFacts
