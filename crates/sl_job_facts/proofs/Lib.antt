@@ -6,3 +6,4 @@ pub mod CallsStandInAreas
 pub mod DecisionsFit
 pub mod CallsStay
 pub mod CallsHaveFacts
+pub mod JobFactsGrow
