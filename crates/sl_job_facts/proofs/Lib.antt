@@ -7,3 +7,5 @@ pub mod DecisionsFit
 pub mod CallsStay
 pub mod CallsHaveFacts
 pub mod JobFactsGrow
+pub mod JobsAreAllowed
+pub mod CallsOfJobsFit

@@ -1,12 +1,11 @@
 -- What a delta lease or a lease decides on an answer: no reply that could end a job before the answer is heeded, and no new read of the area.
-use Rattle.sl_leases.specs.LeaseWork.{after_read}
-use Rattle.sl_request.specs.Requests.{check_request}
 use Rattle.sl_area.specs.Layouts.{Layout, record_in, sector_with}
 use Rattle.sl_area.specs.Places.{area_blocks, blocks_in, leader_of, read_at}
-use Rattle.sl_due.specs.DueRequests.{request_refusal}
+use Rattle.sl_due.specs.DueAnswers.{set_reply}
+use Rattle.sl_due.specs.DueRequests.{request_refusal, value_reply}
 use Rattle.sl_leases.specs.Ballots.{is_ahead, moded_block, phase1_block, same_owner, stop_of, value_of}
-use Rattle.sl_leases.specs.LeaseWork.{LeasePlace, after_clearing, after_freeing, after_moding, after_phase1, after_phase2, after_take, after_write, area_next, begin_next, begin_or_refuse, leader_for, lease_next, looks_for_shared, lost_next, named_area_next, phase1_next, phase2_next, refuses, settle_next, settle_owed, stop_reply, stopped_next, unstopped_next, whole_area_next, won_next}
-use Rattle.sl_leases.specs.Leases.{LeaseKnown, instance_for, is_leader_of, mode_gen_of, owed, owed_free, own_known, shared_elsewhere}
+use Rattle.sl_leases.specs.LeaseWork.{LeasePlace, after_clearing, after_freeing, after_moding, after_phase1, after_phase2, after_read, after_take, after_write, area_next, begin_next, begin_or_refuse, leader_for, lease_next, looks_for_shared, lost_next, named_area_next, phase1_next, phase2_next, refuses, release_next, settle_next, settle_owed, stop_reply, stopped_next, unstopped_next, whole_area_next, won_next}
+use Rattle.sl_leases.specs.Leases.{LeaseKnown, instance_for, is_leader_of, mode_gen_of, owed, owed_free, own_known, shared_elsewhere, value_written}
 use Rattle.sl_leases.specs.declared.lease.Aim.{Aim}
 use Rattle.sl_leases.specs.declared.lease.Aim.TheVariants.{Acquires, Converts, Releases, Settles}
 use Rattle.sl_leases.specs.declared.lease.Instance.{Instance}
@@ -17,54 +16,59 @@ use Rattle.sl_leases.specs.declared.lease.Owed.{Owed}
 use Rattle.sl_leases.specs.declared.lease.Owed.TheVariants.{BallotOwed, FreeOwed, ModeOwed}
 use Rattle.sl_leases.specs.declared.lease.Stop.{Stop}
 use Rattle.sl_leases.specs.declared.lease.Stop.TheVariants.{BlockAhead, BlockRival, BlockTorn}
+use Rattle.sl_request.specs.Requests.{check_request}
 use Rattle.sl_sector.specs.Bitmaps.{no_bits}
-use Rattle.sl_sector.specs.Spelling.{delta_in, request_in}
+use Rattle.sl_sector.specs.Spelling.{delta_in, request_in, value_in}
 use Rattle.sl_sector.specs.declared.sector.Block.{Block}
 use Rattle.sl_sector.specs.declared.sector.DeltaRec.{DeltaRec}
 use Rattle.sl_sector.specs.declared.sector.DeltaState.TheVariants.{Claimed, Live}
 use Rattle.sl_sector.specs.declared.sector.Owner.{Owner}
 use Rattle.sl_sector.specs.declared.sector.Rec.TheVariants.{DeltaIs}
-use Rattle.sl_sessions.specs.Deltas.{DeltaLease, claim_of, claim_on, delta_record, id_held, id_lost, is_watched_out, next_after_deciding, next_after_first, next_after_free, next_after_join_read, next_after_join_write, next_after_renewal, next_after_verify, next_after_watch, next_in_joining, watched, where_watched}
+use Rattle.sl_sessions.specs.Deltas.{DeltaLease, claim_of, claim_on, delta_record, id_held, id_lost, is_watched_out, join_step_of, next_after_claim, next_after_deciding, next_after_first, next_after_free, next_after_join_read, next_after_join_write, next_after_renewal, next_after_verify, next_after_watch, next_by_time, next_in_joining, next_in_watch, next_on_wake, watched, where_watched}
 use Rattle.sl_sessions.specs.Watching.{is_free_state}
 use Rattle.sl_sessions.specs.declared.delta.DeltaNext.{DeltaNext}
-use Rattle.sl_sessions.specs.declared.delta.DeltaNext.TheVariants.{Nothing, EndLeaving, MoveConnection, RefuseJoin, RegisterAndRead, WriteClaim, WriteFirst}
+use Rattle.sl_sessions.specs.declared.delta.DeltaNext.TheVariants.{EndLeaving, MoveConnection, Nothing, ReadOwn, RefuseJoin, RegisterAndRead, WriteClaim, WriteFirst, WriteFree}
+use Rattle.sl_time.specs.Times.{dead, join_max, renew}
 use Rattle.sl_trace.specs.Traces.{Submitted, is_before_input}
 use Rattle.sl_trace.specs.declared.command.ResourceArg.{ResourceArg}
 use Rattle.sl_trace.specs.declared.effects.JoinStep.{JoinStep}
 use Rattle.sl_trace.specs.declared.effects.JoinStep.TheVariants.{ClaimWrite, DecidingRead, FirstRead, FirstRenewal, VerifyRead, WatchRead}
 use Rattle.sl_trace.specs.declared.effects.LeaseStep.{LeaseStep}
 use Rattle.sl_trace.specs.declared.effects.LeaseStep.TheVariants.{ClearMode, FreeLeader, Phase1Read, Phase1Write, Phase2Read, Phase2Write, ReadArea, ReadBeforeFree, SetMode, TakeLeader}
+use Rattle.sl_trace.specs.declared.effects.Mode.{Mode}
 use Rattle.sl_trace.specs.declared.effects.Mode.TheVariants.{Exclusive, Shared}
 use Rattle.sl_trace.specs.declared.input.Answer.{Answer}
 use Rattle.sl_trace.specs.declared.input.Answer.TheVariants.{Failed, Read, Written}
 use Rattle.sl_trace.specs.declared.reply.Limited.TheVariants.{Gen as GenLimit, Lver as LverLimit, Mbal as MbalLimit, Seq as SeqLimit}
 use Rattle.sl_trace.specs.declared.reply.Reply.{Reply}
-use Rattle.sl_trace.specs.declared.reply.Reply.TheVariants.{Held as HeldBy, IoFault, Limit as LimitReached, RequestOld, Shared as SharedBy, TornBlock, TornDelta, TornLeader, WrongArea, WrongDelta}
+use Rattle.sl_trace.specs.declared.reply.Reply.TheVariants.{Done, Held as HeldBy, IdLate, IoFault, Limit as LimitReached, RequestOld, Shared as SharedBy, TornBlock, TornDelta, TornLeader, Value, ValueSet, ValueTorn, WrongArea, WrongDelta}
 use Rattle.sl_words.proofs.CaseLaws.{some_value}
 use Rattle.sl_words.proofs.WordLaws.{choose_some}
 use Rattle.sl_words.specs.Bounds.{is_number}
 use Rattle.sl_words.specs.Words.{choose, present}
 use Rattle.std.proofs.Common.{refl, subst}
 use Rattle.std.specs.Option.{option_map_or}
-use Rattle.std.specs.Prelude.{Bool, List, None, Option, Some, bytes_eq, false, is_none, not, position, true, ℕ, ◌&&◌, ◌+◌, ◌==◌, ◌≡◌}
+use Rattle.std.specs.Prelude.{Bool, List, None, Option, Some, [], bytes_eq, false, is_none, nat_le, nat_lt, not, position, true, ℕ, ◌&&◌, ◌+◌, ◌==◌, ◌∷◌, ◌≡◌}
 
-on_bool : {A : Type 0} (P : A → Type 0) (b : Bool) (x y : A) → P x → P y → P (elim b as (λ z. A) [ false ↦ x | true ↦ y ])
+pub on_bool : {A : Type 0} (P : A → Type 0) (b : Bool) (x y : A) → P x → P y → P (elim b as (λ z. A) [ false ↦ x | true ↦ y ])
 on_bool P false x y h k = h
 on_bool P true x y h k = k
 
-on_option : {A B : Type 0} (P : B → Type 0) (o : Option A) (x : B) (f : A → B) → P x → ((a : A) → P (f a)) → P (elim o as (λ z. B) [ None ↦ x | Some a ↦ f a ])
+pub on_option : {A B : Type 0} (P : B → Type 0) (o : Option A) (x : B) (f : A → B) → P x → ((a : A) → P (f a)) → P (elim o as (λ z. B) [ None ↦ x | Some a ↦ f a ])
 on_option P None x f h k = h
 on_option P (Some a) x f h k = k a
 
-mapped_or : {A B : Type 0} (P : B → Type 0) (f : A → B) (o : Option A) (d : B) → ((a : A) → P (f a)) → P d → P (option_map_or f o d)
+pub mapped_or : {A B : Type 0} (P : B → Type 0) (f : A → B) (o : Option A) (d : B) → ((a : A) → P (f a)) → P d → P (option_map_or f o d)
 mapped_or P f None d h k = k
 mapped_or P f (Some a) d h k = h a
 
 -- ---- a delta lease
 
+-- What a joining decides.
 abbrev pub IsLateDelta : DeltaNext → Type 0
 IsLateDelta (RefuseJoin r) = is_before_input r ≡ false
-IsLateDelta (EndLeaving j r) = is_before_input r ≡ false
+IsLateDelta (EndLeaving j r) = ⊥
+IsLateDelta (WriteFree j d) = ⊥
 IsLateDelta n = Unit {0}
 
 watched_late : (l : DeltaLease) (first bytes : List ℕ) (n : DeltaNext) → IsLateDelta n → IsLateDelta (where_watched l first bytes n)
@@ -109,21 +113,38 @@ joining_late l generation ms now m step (Read bytes) = read_late l ms now m byte
 joining_late l generation ms now m step Written = write_late generation m step
 joining_late l generation ms now m step Failed = refl
 
-pub renewal_late : (recovering : Bool) (made : ℕ) (answer : Answer) → IsLateDelta (next_after_renewal recovering made answer)
-renewal_late recovering made Written = on_bool IsLateDelta recovering (MoveConnection made) Nothing tt tt
-renewal_late recovering made (Read bytes) = tt
-renewal_late recovering made Failed = tt
+watch_late : (l : DeltaLease) (now answered : ℕ) → IsLateDelta (next_in_watch l now answered)
+watch_late l now answered = on_bool IsLateDelta (nat_le (answered + renew l.timing) now) Nothing (ReadOwn WatchRead) tt tt
 
-pub freed_late : (j call : ℕ) (answer : Answer) → IsLateDelta (next_after_free j call answer)
-freed_late j call Written = refl
-freed_late j call Failed = refl
-freed_late j call (Read bytes) = tt
+wait_late : (l : DeltaLease) (now claimed answered : ℕ) → IsLateDelta (next_after_claim l now claimed answered)
+wait_late l now claimed answered =
+    on_bool IsLateDelta (nat_le (answered + dead l.timing) now) Nothing (elim (nat_lt (claimed + join_max l.timing) now) [ true ↦ RefuseJoin (IdLate claimed now) | false ↦ RegisterAndRead VerifyRead ]) tt
+    (on_bool IsLateDelta (nat_lt (claimed + join_max l.timing) now) (RegisterAndRead VerifyRead) (RefuseJoin (IdLate claimed now)) tt refl)
+
+time_late : (l : DeltaLease) (now made answered : ℕ) (step : JoinStep) → IsLateDelta (next_by_time l now made answered step)
+time_late l now made answered FirstRead = watch_late l now answered
+time_late l now made answered WatchRead = watch_late l now answered
+time_late l now made answered ClaimWrite = wait_late l now made answered
+time_late l now made answered step = tt
+
+pub wake_late : (l : DeltaLease) (now : ℕ) (ms : List Submitted) → IsLateDelta (next_on_wake l now ms)
+unfolding next_on_wake
+wake_late l now [] = tt
+wake_late l now (m ∷ ms) =
+    on_option IsLateDelta m.answer Nothing (λ a. elim (join_step_of m.call.purpose) [ None ↦ Nothing | Some step ↦ next_by_time l now m.reading a.reading step ]) tt
+    (λ a. on_option IsLateDelta (join_step_of m.call.purpose) Nothing (λ step. next_by_time l now m.reading a.reading step) tt (λ step. time_late l now m.reading a.reading step))
 
 -- ---- a lease
 
+abbrev pub IsNoSearch : LeaseStep → Type 0
+IsNoSearch (ReadArea name) = ⊥
+IsNoSearch step = Unit {0}
+
 abbrev pub IsLateLease : LeaseNext → Type 0
 IsLateLease (AnswerJob r) = is_before_input r ≡ false
-IsLateLease (ReadFor (ReadArea name)) = ⊥
+IsLateLease (ReadFor step) = IsNoSearch step
+IsLateLease (WriteBlock step b) = IsNoSearch step
+IsLateLease (WriteLeader step l) = IsNoSearch step
 IsLateLease n = Unit {0}
 
 refuses_late : (aim : Aim) (r : Reply) → is_before_input r ≡ false → IsLateLease (refuses aim r)
@@ -253,6 +274,18 @@ unfolding lease_next
 lease_late p k aim call n step (Read bytes) = lease_read_late p k aim bytes step
 lease_late p k aim call n step Written = lease_write_late p k aim n step
 lease_late p k aim call n step Failed = refuses_late aim (IoFault call) refl
+
+pub release_late : (p : LeasePlace) (k : LeaseKnown) (mode : Mode) (n : ℕ) → IsLateLease (release_next p k mode n)
+release_late p k Exclusive n = tt
+release_late p k Shared n = mapped_or IsLateLease (λ own. WriteBlock ClearMode (moded_block own false 0)) k.own No_lease (λ own. tt) tt
+
+-- ---- a value
+
+pub value_late : (g : Layout) (bytes : List ℕ) → is_before_input (value_reply g bytes) ≡ false
+value_late g bytes = on_option (λ r. is_before_input r ≡ false) (value_in (record_in g bytes)) ValueTorn (λ v. Value v.lver v.seq v.bytes) refl (λ v. refl)
+
+pub set_late : (m : Submitted) → is_before_input (set_reply m) ≡ false
+set_late m = mapped_or (λ r. is_before_input r ≡ false) (λ v. ValueSet v.lver v.seq) (value_written m) Done (λ v. refl) refl
 
 -- ---- a request
 
