@@ -61,7 +61,7 @@ join_numbered : (x : Step) (s : Session) (j : ℕ) → Joins x s j → IsNumbere
 join_numbered x s j h =
     let by = joined_by x.setting (seen x) s j (session_inside x s h.has) h.its in numbered_of x j (subst (λ o. IsSome o) (sym by.command) refl)
 
-no_job : {x : Step} {s : Session} {path : List ℕ} {p : Purpose} {o : ℕ} → job_of p ≡ None → (j : ℕ) → job_of p ≡ Some j → CallFits x s path p o j
+pub no_job : {x : Step} {s : Session} {path : List ℕ} {p : Purpose} {o : ℕ} → job_of p ≡ None → (j : ℕ) → job_of p ≡ Some j → CallFits x s path p o j
 no_job none j of = absurd (none_some j (sym none ∙ of))
 
 -- What a joining decides is allowed.

@@ -51,6 +51,7 @@ pub record Roomy (g : Layout) : Type 0 where
   pub whole : 0 < g.area
   pub blocks : (id : ℕ) → id ≤ g.hosts → g.sector * (id + 1) < g.area
   pub two : g.sector < g.area
+  pub first : g.sector * (1 + 1) < g.area
 
 pub roomy : (st : Setting) → IsSetting st → Roomy st.layout
 roomy st h =
@@ -60,6 +61,7 @@ roomy st h =
       some = omega (arith, r.sector.0);
       whole = let much : g.sector * 3 ≤ g.sector * (g.hosts + 3) = mul-le-mul_left g.sector (omega arith) in omega (arith, r.sector.0, r.room, much);
       blocks = λ id most. let much : g.sector * (id + 2) ≤ g.sector * (g.hosts + 3) = mul-le-mul_left g.sector (omega (arith, most)) in omega (arith, r.sector.0, r.room, much);
+      first = let much : g.sector * 3 ≤ g.sector * (g.hosts + 3) = mul-le-mul_left g.sector (omega arith) in omega (arith, r.sector.0, r.room, much);
       two = let much : g.sector * 3 ≤ g.sector * (g.hosts + 3) = mul-le-mul_left g.sector (omega arith) in omega (arith, r.sector.0, r.room, much);
     })
 

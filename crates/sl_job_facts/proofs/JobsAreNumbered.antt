@@ -11,11 +11,12 @@ use Rattle.sl_trace.specs.declared.effects.Effects.{Effects}
 use Rattle.sl_trace.specs.declared.effects.Entry.{Entry}
 use Rattle.sl_trace.specs.declared.input.Input.{Input}
 use Rattle.sl_trace.specs.declared.input.Input.TheVariants.{Answer as Told, Exit, Line, Number, Spawned, Wake}
+use Rattle.sl_words.proofs.CaseLaws.{none_some, some_value}
 use Rattle.std.proofs.Common.{ap, append-nil, arith, inl, inr, refl, subst, sym, ◌∙◌}
 use Rattle.std.proofs.lemmas.Bool.{eqb-true}
 use Rattle.std.proofs.lemmas.List.Folds.{find-append}
 use Rattle.std.specs.Option.{option_or}
-use Rattle.std.specs.Prelude.{Bool, Contains, IsSome, List, None, Option, Some, [], cond, false, find, length, option_and_then, true, ℕ, ◌++◌, ◌+◌, ◌-◌, ◌<◌, ◌==◌, ◌∷◌, ◌≡◌, ◌⊎◌}
+use Rattle.std.specs.Prelude.{Bool, Contains, Err, IsSome, List, None, Ok, Option, Result, Some, [], cond, false, find, length, option_and_then, true, ℕ, ◌++◌, ◌+◌, ◌-◌, ◌<◌, ◌==◌, ◌∷◌, ◌≡◌, ◌⊎◌}
 
 -- ---- what is found stays found as a list grows
 
@@ -97,3 +98,30 @@ pub line_seen : (x : Step) (text : List ℕ) → x.input ≡ Wake
 line_seen x text wake =
     subst (λ n. job_numbered x.setting (seen (with_input (Line text) x)) n ≡ Some (record { number = n; at = length x.past; reading = x.reading; command = x.setting.read text })) (sym (next_before x wake))
     (line_is x.setting x.past x.reading text x.effects)
+
+-- ---- a job's command is what its text says
+
+reads_by : (st : Setting) (es : Trace) (now : ℕ) (i : Input) (fx : Effects) → ((k : Job) → Contains (jobs st es) k → (text : List ℕ) × (k.command ≡ st.read text))
+    → (j : Job) → Contains (jobs st (record { reading = now; input = i; effects = fx } ∷ es)) j → (text : List ℕ) × (j.command ≡ st.read text)
+reads_by st es now (Line text) fx h j there = by (contains_last (jobs st es) (record { number = next_job st es; at = length es; reading = now; command = st.read text }) j there) where
+  by : Contains (jobs st es) j ⊎ (record { number = next_job st es; at = length es; reading = now; command = st.read text } ≡ j) → (t : List ℕ) × (j.command ≡ st.read t)
+  by (inl old) = h j old
+  by (inr new) = (text, ap (λ (k : Job). k.command) (sym new))
+reads_by st es now i fx h j there = h j (subst (λ js. Contains js j) (append-nil (jobs st es)) there)
+
+pub job_reads : (st : Setting) (es : Trace) (j : Job) → Contains (jobs st es) j → (text : List ℕ) × (j.command ≡ st.read text)
+job_reads st [] j there = absurd (contains_none j there)
+job_reads st (e ∷ es) j there = reads_by st es e.reading e.input e.effects (λ k inside. job_reads st es k inside) j there
+
+command_read : (j : Job) (c : Command) → command_of j ≡ Some c → j.command ≡ Ok c
+command_read j c is = by j.command refl is where
+  by : (o : Result Command ℕ) → j.command ≡ o → (elim o as (λ z. Option Command) [ Ok d ↦ Some d | Err n ↦ None ]) ≡ Some c → j.command ≡ Ok c
+  by (Ok d) was h = was ∙ ap (λ z. Ok z) (some_value d c h)
+  by (Err n) was h = absurd (none_some c h)
+
+-- So a numbered command was read from a text.
+pub command_is_read : (st : Setting) (es : Trace) (n : ℕ) (c : Command) → command_numbered st es n ≡ Some c → (text : List ℕ) × (st.read text ≡ Ok c)
+command_is_read st es n c is =
+    let job = then_value command_of (job_numbered st es n) c is in
+    let found = find_inside (λ (k : Job). k.number == n) (jobs st es) job.0 job.1 in
+    let text = job_reads st es job.0 found.0 in (text.0, sym text.1 ∙ command_read job.0 c job.2)

@@ -9,3 +9,4 @@ pub mod CallsHaveFacts
 pub mod JobFactsGrow
 pub mod JobsAreAllowed
 pub mod CallsOfJobsFit
+pub mod LeaseCallsFit

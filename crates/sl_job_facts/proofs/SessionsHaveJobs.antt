@@ -11,6 +11,7 @@ use Rattle.sl_trace.specs.declared.command.Command.TheVariants.{AddLockspace, Re
 use Rattle.sl_trace.specs.declared.command.LockspaceArg.{LockspaceArg}
 use Rattle.sl_trace.specs.declared.effects.Entry.{Entry}
 use Rattle.sl_trace.specs.declared.effects.JoinStep.TheVariants.{FirstRead}
+use Rattle.sl_trace.specs.declared.input.Given.{Given}
 use Rattle.sl_trace.specs.declared.input.Input.{Input}
 use Rattle.sl_trace.specs.declared.input.Input.TheVariants.{Line}
 use Rattle.sl_words.proofs.CaseLaws.{false_is_true, none_some, some_value}
@@ -18,7 +19,7 @@ use Rattle.sl_words.proofs.WordLaws.{and_true, choose_some}
 use Rattle.sl_words.specs.Words.{choose}
 use Rattle.std.proofs.Common.{ap, arith, inl, inr, refl, subst, sym, ◌∙◌}
 use Rattle.std.specs.List.{enumerate_from, list_any}
-use Rattle.std.specs.Prelude.{Bool, Contains, Err, List, None, Ok, Option, Result, Some, [], false, length, not, option_and_then, true, ℕ, ◌&&◌, ◌++◌, ◌<◌, ◌==◌, ◌∷◌, ◌≡◌, ◌⊎◌}
+use Rattle.std.specs.Prelude.{Bool, Contains, Err, List, None, Ok, Option, Result, Some, [], false, length, not, option_and_then, true, ℕ, ◌&&◌, ◌++◌, ◌+◌, ◌<◌, ◌==◌, ◌∷◌, ◌≡◌, ◌⊎◌}
 
 pub contains_either : {A : Type 0} (xs ys : List A) (d : A) → Contains (xs ++ ys) d → Contains xs d ⊎ Contains ys d
 contains_either [] ys d there = inr there
@@ -129,6 +130,23 @@ one_session st (e ∷ es) a b j first second its other =
     only false o x y = absurd (contains_none a x)
     only true None x y = absurd (contains_none a x)
     only true (Some z) x y = sym (contains_only (joining_session (length (sessions st es)) (next_job st es) z) a x) ∙ contains_only (joining_session (length (sessions st es)) (next_job st es) z) b y
+
+enumerated : {A : Type 0} (n : ℕ) (xs : List A) (p : ℕ × A) → Contains (enumerate_from n xs) p → Contains xs p.1
+enumerated n [] p there = absurd (contains_none p there)
+enumerated {A} n (x ∷ xs) p there = by (contains_cases (n, x) (enumerate_from (n + 1) xs) p there) (λ rest. enumerated (n + 1) xs p rest) where
+  by : ((n, x) ≡ p) ⊎ Contains (enumerate_from (n + 1) xs) p → (Contains (enumerate_from (n + 1) xs) p → Contains xs p.1) → Contains (x ∷ xs) p.1
+  by (inl is) more = subst (λ z. Contains (x ∷ xs) z) (ap (λ (q : ℕ × A). q.1) is) (contains_first x xs)
+  by (inr old) more = contains_more x xs p.1 (more old)
+
+-- A session without a job is one that the setting gives.
+pub given_one : (st : Setting) (es : Trace) (s : Session) → Contains (sessions st es) s → s.job ≡ None → (g : Given) × (n : ℕ) × Contains st.given g × (given_session (n, g) ≡ s)
+given_one st [] s there its =
+    let was = in_map given_session (enumerate_from 0 st.given) s there in (was.0.1, was.0.0, enumerated 0 st.given was.0 was.1, was.2)
+given_one st (e ∷ es) s there its = by (contains_either (sessions st es) (begun_in st es (length (sessions st es)) e) s there) (λ old. given_one st es s old its) where
+  by : Contains (sessions st es) s ⊎ Contains (begun_in st es (length (sessions st es)) e) s → (Contains (sessions st es) s → (g : Given) × (n : ℕ) × Contains st.given g × (given_session (n, g) ≡ s))
+      → (g : Given) × (n : ℕ) × Contains st.given g × (given_session (n, g) ≡ s)
+  by (inl old) more = more old
+  by (inr new) more = let b : Began st es e s = began st es e s new in absurd (none_some (next_job st es) (sym its ∙ ap (λ (z : Session). z.job) b.session))
 
 -- ---- a leaving
 
