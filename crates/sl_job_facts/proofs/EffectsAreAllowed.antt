@@ -292,17 +292,17 @@ said K L A C S M p x None r may h = h
 said K L A C S M p x (Some j) r may h = when_keeps K (is_running (seen x) j) (add_reply j r) x (λ runs k. p.replies x j r (may j refl) k) h
 
 abbrev pub RequestAllowed : (ℕ → Reply → Type 0) → (Session → List ℕ → Purpose → ℕ → Op → Type 0) → Step → Session → ℕ → List ℕ → Command → Type 0
-RequestAllowed A C x s j bytes (Request r asked force) = ((why : Reply) → A j why) × C s r.path (RequestWrite j (owner_read x.setting.layout bytes)) (request_offset x.setting.layout r.offset)
+RequestAllowed A C x s j bytes (Request r asked force) = ((why : Reply) → request_refusal x.setting.layout s.lockspace r asked force bytes ≡ Some why → A j why) × C s r.path (RequestWrite j (owner_read x.setting.layout bytes)) (request_offset x.setting.layout r.offset)
     (WriteRecord (RequestIs (record { force = force; host = (if asked == 0 then 0 else s.id); lver = asked })))
 RequestAllowed A C x s j bytes c = Unit {0}
 
 pub requested : (K L : Step → Type 0) (A : ℕ → Reply → Type 0) (C : Session → List ℕ → Purpose → ℕ → Op → Type 0) (S : Option ℕ → Type 0) (M : Move → Type 0) → Allows K L A C S M
     → (x : Step) (s : Session) (j : ℕ) (bytes : List ℕ) (c : Command) → RequestAllowed A C x s j bytes c → K x → L (after_request_read s j bytes c x)
 unfolding after_request_read
-requested K L A C S M p x s j bytes (Request r asked force) may h = by (request_refusal x.setting.layout s.lockspace r asked force bytes) where
-  by : (o : Option Reply) → L (elim o as (λ z. Step) [ Some why ↦ add_reply j why x | None ↦ write_request s j (owner_read x.setting.layout bytes) r asked force x ])
-  by (Some why) = p.rest _ (p.replies x j why (may.0 why) h)
-  by None =
+requested K L A C S M p x s j bytes (Request r asked force) may h = by (request_refusal x.setting.layout s.lockspace r asked force bytes) refl where
+  by : (o : Option Reply) → request_refusal x.setting.layout s.lockspace r asked force bytes ≡ o → L (elim o as (λ z. Step) [ Some why ↦ add_reply j why x | None ↦ write_request s j (owner_read x.setting.layout bytes) r asked force x ])
+  by (Some why) is = p.rest _ (p.replies x j why (may.0 why is) h)
+  by None is =
       p.calls x s r.path (RequestWrite j (owner_read x.setting.layout bytes)) (request_offset x.setting.layout r.offset)
       (WriteRecord (RequestIs (record { force = force; host = (if asked == 0 then 0 else s.id); lver = asked }))) may.1 h
 requested K L A C S M p x s j bytes c may h = p.rest x h

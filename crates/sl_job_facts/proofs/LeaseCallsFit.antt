@@ -123,22 +123,22 @@ reads_allowed x y s at j SetMode same w seeks = blocks_fit x y s at j SetMode sa
 reads_allowed x y s at j FreeLeader same w seeks = blocks_fit x y s at j FreeLeader same w seeks
 reads_allowed x y s at j ClearMode same w seeks = blocks_fit x y s at j ClearMode same w seeks
 
-grant_allowed : (x y : Step) (j lver : ℕ) (c : Command) → MayReply x j (Granted lver) → command_numbered x.setting (seen x) j ≡ Some c → GrantAllowed (MayReply x) (MayStart x) j lver c
-grant_allowed x y j lver (Acquire r shared q persistent) may reads = may
-grant_allowed x y j lver (TakeOver r shared q persistent) may reads = may
-grant_allowed x y j lver (RunProgram r shared path) may reads = λ i is. (r, shared, path, subst (λ n. command_numbered x.setting (seen x) n ≡ Some (RunProgram r shared path)) (some_value j i is) reads)
-grant_allowed x y j lver (Release r q) may reads = tt
-grant_allowed x y j lver (ReleaseOrphan r) may reads = tt
-grant_allowed x y j lver (Convert r shared q) may reads = tt
-grant_allowed x y j lver (Request r n force) may reads = tt
-grant_allowed x y j lver (GetLvb r q) may reads = tt
-grant_allowed x y j lver (SetLvb r q bytes) may reads = tt
-grant_allowed x y j lver (AddLockspace a) may reads = tt
-grant_allowed x y j lver (RemLockspace a) may reads = tt
-grant_allowed x y j lver (InqLockspace a) may reads = tt
-grant_allowed x y j lver (HostStatus a) may reads = tt
-grant_allowed x y j lver (SetKillpath q path) may reads = tt
-grant_allowed x y j lver Status may reads = tt
+pub grant_allowed : (x : Step) (j lver : ℕ) (c : Command) → MayReply x j (Granted lver) → command_numbered x.setting (seen x) j ≡ Some c → GrantAllowed (MayReply x) (MayStart x) j lver c
+grant_allowed x j lver (Acquire r shared q persistent) may reads = may
+grant_allowed x j lver (TakeOver r shared q persistent) may reads = may
+grant_allowed x j lver (RunProgram r shared path) may reads = λ i is. (r, shared, path, subst (λ n. command_numbered x.setting (seen x) n ≡ Some (RunProgram r shared path)) (some_value j i is) reads)
+grant_allowed x j lver (Release r q) may reads = tt
+grant_allowed x j lver (ReleaseOrphan r) may reads = tt
+grant_allowed x j lver (Convert r shared q) may reads = tt
+grant_allowed x j lver (Request r n force) may reads = tt
+grant_allowed x j lver (GetLvb r q) may reads = tt
+grant_allowed x j lver (SetLvb r q bytes) may reads = tt
+grant_allowed x j lver (AddLockspace a) may reads = tt
+grant_allowed x j lver (RemLockspace a) may reads = tt
+grant_allowed x j lver (InqLockspace a) may reads = tt
+grant_allowed x j lver (HostStatus a) may reads = tt
+grant_allowed x j lver (SetKillpath q path) may reads = tt
+grant_allowed x j lver Status may reads = tt
 
 -- What a lease decides for a job is allowed.
 pub work_allowed : (x y : Step) (s : Session) (at : Spot) (j : ℕ) (n : LeaseNext) → y.setting.layout ≡ x.setting.layout
@@ -151,7 +151,7 @@ work_allowed x y s at j (WriteBlock step b) same back w asks after =
 work_allowed x y s at j (WriteLeader step l) same back w asks after = (w.has, λ i of. work_fits x s at j step at.base 0 i w asks w.room.whole (plus_zero at.base) of)
 work_allowed x y s at j (AnswerJob r) same back w asks after = λ i is. (subst (λ n. IsNumbered x n) (some_value j i is) (work_numbered x s at j w), after r refl)
 work_allowed x y s at j (GrantJob mode lver) same back w asks after =
-    λ i c is reads. grant_allowed x y i lver c (subst (λ n. IsNumbered x n) (some_value j i is) (work_numbered x s at j w), late x (Granted lver) refl) (back i c reads)
+    λ i c is reads. grant_allowed x i lver c (subst (λ n. IsNumbered x n) (some_value j i is) (work_numbered x s at j w), late x (Granted lver) refl) (back i c reads)
 work_allowed x y s at j (BecomeShared lver l) same back w asks after =
     ((λ i is. (subst (λ n. IsNumbered x n) (some_value j i is) (work_numbered x s at j w), late x (Granted lver) refl)), (w.has, λ i of. no_job refl i of))
 work_allowed x y s at j (BecomeExclusive lver b) same back w asks after =

@@ -10,3 +10,7 @@ pub mod JobFactsGrow
 pub mod JobsAreAllowed
 pub mod CallsOfJobsFit
 pub mod LeaseCallsFit
+pub mod LinesAreAllowed
+pub mod SessionsArePresent
+pub mod AnsweredCallsFit
+pub mod JobFactsAreKept
