@@ -44,7 +44,7 @@ use Rattle.std.specs.Prelude.{Bool, Contains, IsSome, List, None, Option, Some, 
 -- ---- joinings
 
 -- A session whose joining is at work.
-pub record Joins (x : Step) (s : Session) (j : ℕ) : Type 0 where
+pub record JoinsOn (x : Step) (s : Session) (j : ℕ) : Type 0 where
   pub has : Has x s
   pub its : s.job ≡ Some j
   pub free : IsFree x j
@@ -52,12 +52,12 @@ pub record Joins (x : Step) (s : Session) (j : ℕ) : Type 0 where
 session_inside : (x : Step) (s : Session) → Has x s → Contains (sessions x.setting (seen x)) s
 session_inside x s has = got_inside (sessions x.setting (seen x)) s.number s has
 
-join_fits : (x : Step) (s : Session) (j : ℕ) (step : JoinStep) (o i : ℕ) → Joins x s j → job_of (Joining j step) ≡ Some i → CallFits x s s.path (Joining j step) o i
+join_fits : (x : Step) (s : Session) (j : ℕ) (step : JoinStep) (o i : ℕ) → JoinsOn x s j → job_of (Joining j step) ≡ Some i → CallFits x s s.path (Joining j step) o i
 join_fits x s j step o i h of =
     let by = joined_by x.setting (seen x) s j (session_inside x s h.has) h.its in
     subst (λ n. CallFits x s s.path (Joining j step) o n) (some_value j i of) (record { command = AddLockspace by.arg; reads = by.command; free = h.free; fits = λ m path at. h.its })
 
-join_numbered : (x : Step) (s : Session) (j : ℕ) → Joins x s j → IsNumbered x j
+join_numbered : (x : Step) (s : Session) (j : ℕ) → JoinsOn x s j → IsNumbered x j
 join_numbered x s j h =
     let by = joined_by x.setting (seen x) s j (session_inside x s h.has) h.its in numbered_of x j (subst (λ o. IsSome o) (sym by.command) refl)
 
@@ -65,7 +65,7 @@ pub no_job : {x : Step} {s : Session} {path : List ℕ} {p : Purpose} {o : ℕ} 
 no_job none j of = absurd (none_some j (sym none ∙ of))
 
 -- What a joining decides is allowed.
-pub joining_allowed : (x : Step) (s : Session) → Has x s → ((j : ℕ) → s.job ≡ Some j → Joins x s j) → ((r : Reply) → is_before_input r ≡ false → IsLate x r) → (n : DeltaNext) → IsLateDelta n
+pub joining_allowed : (x : Step) (s : Session) → Has x s → ((j : ℕ) → s.job ≡ Some j → JoinsOn x s j) → ((r : Reply) → is_before_input r ≡ false → IsLate x r) → (n : DeltaNext) → IsLateDelta n
     → DeltaAllowed (MayReply x) (MayCall x) MayMove x s n
 joining_allowed x s has joins after Nothing k = tt
 joining_allowed x s has joins after (RefuseJoin r) k = λ j its. ((join_numbered x s j (joins j its), after r k), λ z is. tt)
@@ -87,7 +87,7 @@ joining_of x s m j step h there its is =
     let command = some_of (command_numbered x.setting (seen x) j) (h.1.called m j there of) in
     subst (λ (p : Purpose). FitsCommand x.setting s m command.0 p) is (h.1.fits m j s command.0 there of its command.1)
 
-pub joins_when_heard : (x : Step) (s : Session) (m : Submitted) (answer : Answer) (j : ℕ) (step : JoinStep) → Both x → Hears x s m answer → m.call.purpose ≡ Joining j step → (i : ℕ) → s.job ≡ Some i → Joins x s i
+pub joins_when_heard : (x : Step) (s : Session) (m : Submitted) (answer : Answer) (j : ℕ) (step : JoinStep) → Both x → Hears x s m answer → m.call.purpose ≡ Joining j step → (i : ℕ) → s.job ≡ Some i → JoinsOn x s i
 joins_when_heard x s m answer j step h hears is i its =
     let found = find_inside (λ (z : Submitted). z.call.number == hears.number) (submitted (seen x)) m hears.call in
     let same : j ≡ i = some_value j i (sym (joining_of x s m j step h found.0 hears.session is) ∙ its) in
@@ -140,7 +140,7 @@ list_all_inside p (x ∷ xs) d all there =
 
 -- On a wake a joining goes on where its newest call is answered.
 pub joins_on_wake : (x : Step) (s : Session) (j : ℕ) (m : Submitted) (ms : List Submitted) → Both x → SoFar x → Has x s → s.job ≡ Some j → is_running (seen x) j ≡ true
-    → calls_of (seen x) s ≡ m ∷ ms → (m.answer ≡ None → ⊥) → Joins x s j
+    → calls_of (seen x) s ≡ m ∷ ms → (m.answer ≡ None → ⊥) → JoinsOn x s j
 joins_on_wake x s j m ms h orderly has its runs are answered =
     record { has = has; its = its; free = λ n there none of. by n (contains_cases m ms n (subst (λ ks. Contains ks n) are (mine n there of))) none } where
   mine : (n : Submitted) → Contains (submitted (seen x)) n → job_of n.call.purpose ≡ Some j → Contains (calls_of (seen x) s) n

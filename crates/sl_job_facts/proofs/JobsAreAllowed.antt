@@ -123,7 +123,7 @@ starter_numbered x p j h is =
     let runs = h.1.starts child.0 j there.0 child.2 in numbered_of x j (subst (λ o. IsSome o) (sym runs.3) refl)
 
 -- Back from a later moment of the act.
-numbered_back : (x y : Step) (j : ℕ) → Since x y → IsNumbered y j → IsNumbered x j
+pub numbered_back : (x y : Step) (j : ℕ) → Since x y → IsNumbered y j → IsNumbered x j
 numbered_back x y j h is = subst (λ js. IsSome (find (λ (k : Job). k.number == j) js)) h.jobs is
 
 pub stops_allowed : (x : Step) (s : Session) → ((r : Reply) → IsLate x r) → (z : Step) → Meanwhile x z → (j : Job) → Contains (jobs_of_session z.setting (seen z) s) j
