@@ -14,3 +14,6 @@ pub mod LinesAreAllowed
 pub mod SessionsArePresent
 pub mod AnsweredCallsFit
 pub mod JobFactsAreKept
+pub mod LessIsKept
+pub mod JobFactsBegin
+pub mod JobPromises
