@@ -141,7 +141,7 @@ no_answer_told {n} {a} wake told = true_is_false (ap (λ i. is_wake i) (sym wake
 pub late_on_wake : (x : Step) (r : Reply) → x.input ≡ Wake → IsLate x r
 late_on_wake x r wake n a told = absurd (no_answer_told wake told)
 
-abbrev is_told : Input → Bool
+abbrev pub is_told : Input → Bool
 is_told (Told n a) = true
 is_told i = false
 

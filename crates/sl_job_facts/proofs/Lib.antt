@@ -14,6 +14,9 @@ pub mod LinesAreAllowed
 pub mod SessionsArePresent
 pub mod AnsweredCallsFit
 pub mod JobFactsAreKept
+pub mod SessionsStand
+pub mod NearlyPlainActs
+pub mod QuietEffects
 pub mod LessIsKept
 pub mod JobFactsBegin
 pub mod JobPromises

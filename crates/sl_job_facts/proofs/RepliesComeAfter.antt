@@ -1,4 +1,5 @@
--- What a delta lease or a lease decides on an answer: no reply that could end a job before the answer is heeded, and no new read of the area.
+-- What a delta lease or a lease decides on an answer: no reply that could end a job before the answer is heeded, no first
+-- read of a joining, no further read that seeks a resource.
 use Rattle.sl_area.specs.Layouts.{Layout, record_in, sector_with}
 use Rattle.sl_area.specs.Places.{area_blocks, blocks_in, leader_of, read_at}
 use Rattle.sl_due.specs.DueAnswers.{set_reply}
@@ -25,6 +26,7 @@ use Rattle.sl_sector.specs.declared.sector.DeltaState.TheVariants.{Claimed, Live
 use Rattle.sl_sector.specs.declared.sector.Owner.{Owner}
 use Rattle.sl_sector.specs.declared.sector.Rec.TheVariants.{DeltaIs}
 use Rattle.sl_sessions.specs.Deltas.{DeltaLease, claim_of, claim_on, delta_record, id_held, id_lost, is_watched_out, join_step_of, next_after_claim, next_after_deciding, next_after_first, next_after_free, next_after_join_read, next_after_join_write, next_after_renewal, next_after_verify, next_after_watch, next_by_time, next_in_joining, next_in_watch, next_on_wake, watched, where_watched}
+use Rattle.sl_sessions.specs.Sessions.{is_join_call}
 use Rattle.sl_sessions.specs.Watching.{is_free_state}
 use Rattle.sl_sessions.specs.declared.delta.DeltaNext.{DeltaNext}
 use Rattle.sl_sessions.specs.declared.delta.DeltaNext.TheVariants.{EndLeaving, MoveConnection, Nothing, ReadOwn, RefuseJoin, RegisterAndRead, WriteClaim, WriteFirst, WriteFree}
@@ -37,6 +39,7 @@ use Rattle.sl_trace.specs.declared.effects.LeaseStep.{LeaseStep}
 use Rattle.sl_trace.specs.declared.effects.LeaseStep.TheVariants.{ClearMode, FreeLeader, Phase1Read, Phase1Write, Phase2Read, Phase2Write, ReadArea, ReadBeforeFree, SetMode, TakeLeader}
 use Rattle.sl_trace.specs.declared.effects.Mode.{Mode}
 use Rattle.sl_trace.specs.declared.effects.Mode.TheVariants.{Exclusive, Shared}
+use Rattle.sl_trace.specs.declared.effects.Purpose.TheVariants.{Joining}
 use Rattle.sl_trace.specs.declared.input.Answer.{Answer}
 use Rattle.sl_trace.specs.declared.input.Answer.TheVariants.{Failed, Read, Written}
 use Rattle.sl_trace.specs.declared.reply.Limited.TheVariants.{Gen as GenLimit, Lver as LverLimit, Mbal as MbalLimit, Seq as SeqLimit}
@@ -67,6 +70,8 @@ mapped_or P f (Some a) d h k = h a
 -- What a joining decides.
 abbrev pub IsLateDelta : DeltaNext → Type 0
 IsLateDelta (RefuseJoin r) = is_before_input r ≡ false
+IsLateDelta (ReadOwn step) = is_join_call FirstRead (Joining 0 step) ≡ false
+IsLateDelta (RegisterAndRead step) = is_join_call FirstRead (Joining 0 step) ≡ false
 IsLateDelta (EndLeaving j r) = ⊥
 IsLateDelta (WriteFree j d) = ⊥
 IsLateDelta n = Unit {0}
@@ -85,10 +90,10 @@ read_late l ms now m bytes FirstRead =
     on_option IsLateDelta (delta_in (record_in l.layout bytes)) (RefuseJoin TornDelta)
     (λ d. elim (bytes_eq d.lockspace l.lockspace && d.id == l.id) [ false ↦ RefuseJoin (WrongDelta d.lockspace d.id) | true ↦ elim (is_free_state d.state) [ true ↦ RegisterAndRead DecidingRead | false ↦ Nothing ] ]) refl
     (λ d. on_bool IsLateDelta (bytes_eq d.lockspace l.lockspace && d.id == l.id) (RefuseJoin (WrongDelta d.lockspace d.id)) (elim (is_free_state d.state) [ true ↦ RegisterAndRead DecidingRead | false ↦ Nothing ]) refl
-    (on_bool IsLateDelta (is_free_state d.state) Nothing (RegisterAndRead DecidingRead) tt tt))
+    (on_bool IsLateDelta (is_free_state d.state) Nothing (RegisterAndRead DecidingRead) tt refl))
 read_late l ms now m bytes WatchRead =
     watched_late l (watched ms) bytes (elim (is_watched_out l.timing ms m.reading) [ true ↦ RegisterAndRead DecidingRead | false ↦ Nothing ])
-    (on_bool IsLateDelta (is_watched_out l.timing ms m.reading) Nothing (RegisterAndRead DecidingRead) tt tt)
+    (on_bool IsLateDelta (is_watched_out l.timing ms m.reading) Nothing (RegisterAndRead DecidingRead) tt refl)
 read_late l ms now m bytes DecidingRead =
     watched_late l (watched ms) bytes (elim (delta_in (record_in l.layout bytes)) [ None ↦ Nothing | Some d ↦ claim_on l now d ])
     (on_option IsLateDelta (delta_in (record_in l.layout bytes)) Nothing (λ d. claim_on l now d) tt (λ d. claim_late l now d))
@@ -114,12 +119,12 @@ joining_late l generation ms now m step Written = write_late generation m step
 joining_late l generation ms now m step Failed = refl
 
 watch_late : (l : DeltaLease) (now answered : ℕ) → IsLateDelta (next_in_watch l now answered)
-watch_late l now answered = on_bool IsLateDelta (nat_le (answered + renew l.timing) now) Nothing (ReadOwn WatchRead) tt tt
+watch_late l now answered = on_bool IsLateDelta (nat_le (answered + renew l.timing) now) Nothing (ReadOwn WatchRead) tt refl
 
 wait_late : (l : DeltaLease) (now claimed answered : ℕ) → IsLateDelta (next_after_claim l now claimed answered)
 wait_late l now claimed answered =
     on_bool IsLateDelta (nat_le (answered + dead l.timing) now) Nothing (elim (nat_lt (claimed + join_max l.timing) now) [ true ↦ RefuseJoin (IdLate claimed now) | false ↦ RegisterAndRead VerifyRead ]) tt
-    (on_bool IsLateDelta (nat_lt (claimed + join_max l.timing) now) (RegisterAndRead VerifyRead) (RefuseJoin (IdLate claimed now)) tt refl)
+    (on_bool IsLateDelta (nat_lt (claimed + join_max l.timing) now) (RegisterAndRead VerifyRead) (RefuseJoin (IdLate claimed now)) refl refl)
 
 time_late : (l : DeltaLease) (now made answered : ℕ) (step : JoinStep) → IsLateDelta (next_by_time l now made answered step)
 time_late l now made answered FirstRead = watch_late l now answered
