@@ -179,7 +179,7 @@ free_allowed x s l now k may = by k.leaving refl where
       on_bool (DeltaAllowed (MayReply x) (MayCall x) MayMove x s) k.freed (WriteFree j (delta_record l Free k.generation (k.seq + 1) now no_bits)) Nothing (may j is (delta_record l Free k.generation (k.seq + 1) now no_bits)) tt
 
 -- The commands that leave.
-abbrev leaves_lockspace : Command → Bool
+abbrev pub leaves_lockspace : Command → Bool
 leaves_lockspace (RemLockspace a) = true
 leaves_lockspace c = false
 
@@ -191,7 +191,7 @@ record_writes (ReadSectors n) r is = absurd (none_some r is)
 record_writes (WriteRecord w) r is = refl
 
 -- A call of the job of a leaving is the free of a session of that name.
-abbrev left_by_command : Command → Option LockspaceArg
+abbrev pub left_by_command : Command → Option LockspaceArg
 left_by_command (RemLockspace a) = Some a
 left_by_command c = None
 
@@ -210,7 +210,7 @@ leaving_is x k arg m z h there its reads Renewal of fits = absurd (none_some k.n
 leaving_is x k arg m z h there its reads Survey of fits = absurd (none_some k.number of)
 leaving_is x k arg m z h there its reads SeeRequest of fits = absurd (none_some k.number of)
 
-arg_name : (s : Session) (a : LockspaceArg) → is_session_arg s a ≡ true → a.name ≡ s.lockspace
+pub arg_name : (s : Session) (a : LockspaceArg) → is_session_arg s a ≡ true → a.name ≡ s.lockspace
 arg_name s a is = (bytes_eq-Decides a.name s.lockspace).0 (and_true (bytes_eq a.name s.lockspace) (a.id == s.id) (and_true (bytes_eq a.name s.lockspace && a.id == s.id) (same_place a.path a.offset s.path s.offset) is).0).0
 
 -- A session whose free is unanswered is joined.

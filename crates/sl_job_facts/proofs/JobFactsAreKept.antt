@@ -85,7 +85,7 @@ kept_call x s path p o op may b = p_calls (allows x) may (at x b) where
 
 -- ---- a session begins
 
-begun_sessions : (x : Step) (text : List ℕ) (n : ℕ) (a : LockspaceArg) (made : Call) → x.input ≡ Wake → x.effects.calls ≡ [] → x.setting.read text ≡ Ok (AddLockspace a) → n ≡ length (sessions x.setting (seen x))
+pub begun_sessions : (x : Step) (text : List ℕ) (n : ℕ) (a : LockspaceArg) (made : Call) → x.input ≡ Wake → x.effects.calls ≡ [] → x.setting.read text ≡ Ok (AddLockspace a) → n ≡ length (sessions x.setting (seen x))
     → is_join_call FirstRead made.purpose ≡ true
     → sessions x.setting (with_call made (entry_of (with_input (Line text) x)) ∷ x.past) ≡ sessions x.setting (seen (with_input (Line text) x)) ++ joining_session n (next_job x.setting (seen x)) a ∷ []
 begun_sessions x text n a made wake bare reads next look =

@@ -113,7 +113,7 @@ pub job_reads : (st : Setting) (es : Trace) (j : Job) → Contains (jobs st es) 
 job_reads st [] j there = absurd (contains_none j there)
 job_reads st (e ∷ es) j there = reads_by st es e.reading e.input e.effects (λ k inside. job_reads st es k inside) j there
 
-command_read : (j : Job) (c : Command) → command_of j ≡ Some c → j.command ≡ Ok c
+pub command_read : (j : Job) (c : Command) → command_of j ≡ Some c → j.command ≡ Ok c
 command_read j c is = by j.command refl is where
   by : (o : Result Command ℕ) → j.command ≡ o → (elim o as (λ z. Option Command) [ Ok d ↦ Some d | Err n ↦ None ]) ≡ Some c → j.command ≡ Ok c
   by (Ok d) was h = was ∙ ap (λ z. Ok z) (some_value d c h)

@@ -17,6 +17,8 @@ pub mod JobFactsAreKept
 pub mod SessionsStand
 pub mod NearlyPlainActs
 pub mod QuietEffects
+pub mod QuietLines
+pub mod QuietFactsAreKept
 pub mod LessIsKept
 pub mod JobFactsBegin
 pub mod JobPromises

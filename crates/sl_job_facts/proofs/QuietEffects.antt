@@ -34,7 +34,7 @@ names_it s c = some_is (λ n. bytes_eq n s.lockspace) (lockspace_named c)
 
 -- ---- effects
 
-job_before : (y : Step) (j : ℕ) (r : Reply) (s : Session) (k : Job) → Contains (jobs_of_session y.setting (seen (add_reply j r y)) s) k → Contains (jobs_of_session y.setting (seen y) s) k
+pub job_before : (y : Step) (j : ℕ) (r : Reply) (s : Session) (k : Job) → Contains (jobs_of_session y.setting (seen (add_reply j r y)) s) k → Contains (jobs_of_session y.setting (seen y) s) k
 job_before y j r s k there =
     let named = kept_inside (is_command_that (names_it s)) (running_jobs y.setting (seen (add_reply j r y))) k there in
     let runs = kept_inside (λ (i : Job). is_running (seen (add_reply j r y)) i.number) (jobs y.setting (seen y)) k named.0 in
@@ -78,11 +78,11 @@ quiet_effects =
 
 -- ---- other inputs than lines
 
-abbrev by_input : Step → Input → Entry
+abbrev pub by_input : Step → Input → Entry
 by_input x i = record { reading = x.reading; input = i; effects = x.effects }
 
 -- Where recovery hasn't begun by the read of the input, it had begun on the wake before.
-recovery_told : (x : Step) (i : Input) (s : Session) (b : Begun) → recovery_of x.setting (by_input x i ∷ x.past) s ≡ Some b → (b.kills_from == length x.past + 1) ≡ false
+pub recovery_told : (x : Step) (i : Input) (s : Session) (b : Begun) → recovery_of x.setting (by_input x i ∷ x.past) s ≡ Some b → (b.kills_from == length x.past + 1) ≡ false
     → recovery_of x.setting (by_input x Wake ∷ x.past) s ≡ Some b
 recovery_told x i s b is other = by (renewing x.setting x.past s) refl is where
   by_read : (r : Renewing) (o : Bool) → r.recovery ≡ None

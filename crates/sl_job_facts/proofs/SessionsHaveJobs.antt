@@ -1,4 +1,5 @@
 -- What began a session or its leaving: a command of the job that it names.
+use Rattle.sl_acts.proofs.Additions.{not_is}
 use Rattle.sl_job_facts.proofs.JobsAreNumbered.{command_stays, line_is, number_below, numbered_stays}
 use Rattle.sl_leases.specs.Jobs.{command_numbered, command_of}
 use Rattle.sl_plain.proofs.Lists.{contains_cases, contains_first, contains_more, contains_none, in_map}
@@ -10,6 +11,7 @@ use Rattle.sl_trace.specs.declared.command.Command.{Command}
 use Rattle.sl_trace.specs.declared.command.Command.TheVariants.{AddLockspace, RemLockspace}
 use Rattle.sl_trace.specs.declared.command.LockspaceArg.{LockspaceArg}
 use Rattle.sl_trace.specs.declared.effects.Entry.{Entry}
+use Rattle.sl_trace.specs.declared.effects.JobReply.{JobReply}
 use Rattle.sl_trace.specs.declared.effects.JoinStep.TheVariants.{FirstRead}
 use Rattle.sl_trace.specs.declared.input.Given.{Given}
 use Rattle.sl_trace.specs.declared.input.Input.{Input}
@@ -157,7 +159,7 @@ pub record LeftBy (st : Setting) (es : Trace) (s : Session) (k : Job) : Type 0 w
   pub command : k.command ≡ Ok (RemLockspace arg)
   pub names : is_session_arg s arg ≡ true
 
-leaves_is : (s : Session) (o : Result Command ℕ) → leaves s o ≡ true → (a : LockspaceArg) × (o ≡ Ok (RemLockspace a)) × (is_session_arg s a ≡ true)
+pub leaves_is : (s : Session) (o : Result Command ℕ) → leaves s o ≡ true → (a : LockspaceArg) × (o ≡ Ok (RemLockspace a)) × (is_session_arg s a ≡ true)
 leaves_is s (Ok (RemLockspace a)) is = (a, refl, is)
 leaves_is s (Ok c) is = absurd (false_is_true is)
 leaves_is s (Err n) is = absurd (false_is_true is)
@@ -183,6 +185,25 @@ left_in st es s e k is = by_line (line_in e.input) refl is where
       → (t : List ℕ) × (line_in e.input ≡ Some t) × (leaves s (st.read t) ≡ true) × (line_job st es e t ≡ k) × (is_joined es s ≡ true)
   by_line None line h = absurd (none_some k h)
   by_line (Some text) line h = by_leaves text line (leaves s (st.read text)) refl h
+
+-- The line of a leaving is not answered in its entry.
+pub left_unanswered : (st : Setting) (es : Trace) (s : Session) (e : Entry) (k : Job) → leaving_in st es s e ≡ Some k → list_any (λ (a : JobReply). a.job == next_job st es) e.effects.replies ≡ false
+left_unanswered st es s e k is = by_line (line_in e.input) is where
+  chosen : (text : List ℕ) → choose (is_joined es s && not (list_any (λ (a : JobReply). a.job == next_job st es) e.effects.replies)) (line_job st es e text) ≡ Some k → list_any (λ (a : JobReply). a.job == next_job st es) e.effects.replies ≡ false
+  chosen text h =
+      let replied : Bool = list_any (λ (a : JobReply). a.job == next_job st es) e.effects.replies in
+      not_is replied (and_true (is_joined es s) (not replied) (choose_some (is_joined es s && not replied) (line_job st es e text) k h).0).1
+
+  by_leaves : (text : List ℕ) (b : Bool) → (elim b as (λ z. Option Job) [ false ↦ None | true ↦ choose (is_joined es s && not (list_any (λ (a : JobReply). a.job == next_job st es) e.effects.replies)) (line_job st es e text) ]) ≡ Some k
+      → list_any (λ (a : JobReply). a.job == next_job st es) e.effects.replies ≡ false
+  by_leaves text false h = absurd (none_some k h)
+  by_leaves text true h = chosen text h
+
+  by_line : (o : Option (List ℕ))
+      → (elim o as (λ z. Option Job) [ None ↦ None | Some text ↦ elim (leaves s (st.read text)) as (λ z. Option Job) [ false ↦ None | true ↦ choose (is_joined es s && not (list_any (λ (a : JobReply). a.job == next_job st es) e.effects.replies)) (line_job st es e text) ] ]) ≡ Some k
+      → list_any (λ (a : JobReply). a.job == next_job st es) e.effects.replies ≡ false
+  by_line None h = absurd (none_some k h)
+  by_line (Some text) h = by_leaves text (leaves s (st.read text)) h
 
 pub left_by : (st : Setting) (es : Trace) (s : Session) (k : Job) → leaving_job st es s ≡ Some k → LeftBy st es s k
 left_by st [] s k is = absurd (none_some k is)
