@@ -26,19 +26,19 @@ use Rattle.std.specs.Prelude.{Contains, IsSome, List, None, Option, Some, [], is
 abbrev waking : Setting → Trace → ℕ → Step
 waking st past now = begin_step st past now
 
-running_then : (past : Trace) (now j : ℕ) → is_running (record { reading = now; input = Wake; effects = no_effects } ∷ past) j ≡ is_running past j
+pub running_then : (past : Trace) (now j : ℕ) → is_running (record { reading = now; input = Wake; effects = no_effects } ∷ past) j ≡ is_running past j
 running_then past now j = by (reply_to past j) where
   by : (o : Option Replied) → is_none (elim o as (λ z. Option Replied) [ Some r ↦ Some r | None ↦ None ]) ≡ is_none o
   by (Some r) = refl
   by None = refl
 
-job_then : (st : Setting) (past : Trace) (now : ℕ) (n : ℕ) → job_numbered st (seen (begin_step st past now)) n ≡ job_numbered st past n
+pub job_then : (st : Setting) (past : Trace) (now : ℕ) (n : ℕ) → job_numbered st (seen (begin_step st past now)) n ≡ job_numbered st past n
 job_then st past now n = numbered_before (begin_step st past now) refl n
 
 command_then : (st : Setting) (past : Trace) (now : ℕ) (n : ℕ) → command_numbered st (seen (begin_step st past now)) n ≡ command_numbered st past n
 command_then st past now n = ap (λ o. option_and_then command_of o) (job_then st past now n)
 
-sessions_then : (st : Setting) (past : Trace) (now : ℕ) → sessions st (seen (begin_step st past now)) ≡ sessions st past
+pub sessions_then : (st : Setting) (past : Trace) (now : ℕ) → sessions st (seen (begin_step st past now)) ≡ sessions st past
 sessions_then st past now = sessions_bare (begin_step st past now) refl
 
 -- No child changes.

@@ -21,4 +21,5 @@ pub mod QuietLines
 pub mod QuietFactsAreKept
 pub mod LessIsKept
 pub mod JobFactsBegin
+pub mod QuietFactsBegin
 pub mod JobPromises
