@@ -22,4 +22,5 @@ pub mod QuietFactsAreKept
 pub mod LessIsKept
 pub mod JobFactsBegin
 pub mod QuietFactsBegin
+pub mod QuietFactsConclude
 pub mod JobPromises

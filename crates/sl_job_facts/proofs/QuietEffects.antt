@@ -13,6 +13,7 @@ use Rattle.sl_sessions.specs.Sessions.{is_joined, is_recovering, leaving_job, re
 use Rattle.sl_sessions.specs.declared.session.Begun.{Begun}
 use Rattle.sl_sessions.specs.declared.session.Renewing.{Renewing}
 use Rattle.sl_sessions.specs.declared.session.Session.{Session}
+use Rattle.sl_step_facts.specs.SessionFacts.{QuietFacts}
 use Rattle.sl_time.specs.Times.{fail}
 use Rattle.sl_trace.specs.Traces.{Job, Setting, Trace, is_running, jobs, next_call, running_jobs}
 use Rattle.sl_trace.specs.declared.command.Command.{Command}
@@ -44,8 +45,8 @@ job_before y j r s k there =
 pub is_recovering_parts : (st : Setting) (t : Trace) (s : Session) → is_recovering st t s ≡ true → (is_joined t s ≡ true) × (is_some (recovery_of st t s) ≡ true)
 is_recovering_parts st t s is = and_true (is_joined t s) (is_some (recovery_of st t s)) is
 
-pub quiet_effects : Nearly HasQuietFacts
-quiet_effects =
+pub quiet_effects : (f : Input → Option ℕ) → Nearly (λ y. QuietFacts y.setting (seen y) (f y.input))
+quiet_effects f =
     record {
       ends = λ y e h. record { recovering = h.recovering; leaving = h.leaving };
       signals = λ y q signal h. record { recovering = h.recovering; leaving = h.leaving };

@@ -29,6 +29,7 @@ use Rattle.sl_plain.proofs.Lists.{contains_cases, contains_none, find_inside, ke
 use Rattle.sl_plain.proofs.Options.{some_of, some_there}
 use Rattle.sl_sessions.specs.Sessions.{is_active, is_join_done, is_joined, is_recovering, is_session_arg, joined_after, joining_session, last_renewal, leaving_job, present_sessions, recovery_of, session_named, sessions}
 use Rattle.sl_sessions.specs.declared.session.Session.{Session}
+use Rattle.sl_step_facts.specs.Heard.{heard_by}
 use Rattle.sl_step_facts.specs.Whole.{Whole}
 use Rattle.sl_trace.specs.Traces.{Job, Replied, Setting, Trace, is_running, job_numbered, jobs, next_call, next_job, reply_in, reply_to, running_jobs}
 use Rattle.sl_trace.specs.declared.command.Command.{Command}
@@ -326,7 +327,7 @@ quiet_carried x text c d wake bare says is more h = by d more fits (left_or_not 
   other : (z : Decision) → HasQuietFacts (with_input (Line text) x) → DecisionFits x.setting (seen x) c z → IsBegun z ⊎ DecisionAllowed HasQuietFacts Anything NoLook AnyStart (with_input (Line text) x) (next_job x.setting (seen x)) c z
       → HasQuietFacts (carry_decision (next_job x.setting (seen x)) c z (with_input (Line text) x))
   other z q f (inr may) =
-      decision HasQuietFacts HasQuietFacts Anything NoLook AnyStart AnyMove quiet_effects (with_input (Line text) x) (next_job x.setting (seen x)) c z may
+      decision HasQuietFacts HasQuietFacts Anything NoLook AnyStart AnyMove (quiet_effects heard_by) (with_input (Line text) x) (next_job x.setting (seen x)) c z may
       (λ n a joins. let g = subst (λ k. DecisionFits x.setting (seen x) c k) joins f in quiet_begun x text c n a h wake bare says g.0 g.1 q) q
   other z q f (inl k) = begun z k f where
     begun : (v : Decision) → IsBegun v → DecisionFits x.setting (seen x) c v → HasQuietFacts (carry_decision (next_job x.setting (seen x)) c v (with_input (Line text) x))
@@ -349,7 +350,7 @@ quiet_carried x text c d wake bare says is more h = by d more fits (left_or_not 
 
 pub quiet_facts_are_kept : Acts Whole HasQuietFacts
 quiet_facts_are_kept =
-    nearly_acts Whole HasQuietFacts (λ x h. h.facts.quiet) quiet_effects (record {
+    nearly_acts Whole HasQuietFacts (λ x h. h.facts.quiet) (quiet_effects heard_by) (record {
       others = quiet_others;
       misreads = λ x text column wake bare says h. quiet_answered x text (Misread column) wake bare h.facts.quiet;
       answers = λ x text c r wake bare says is h. quiet_answered x text r wake bare h.facts.quiet;

@@ -3,12 +3,14 @@ use Rattle.sl_acts.specs.Acts.{Acts}
 use Rattle.sl_due.specs.DueFirst.{begin_recoveries}
 use Rattle.sl_due.specs.Steps.{Step, begin_step, seen}
 use Rattle.sl_step_facts.specs.CallFacts.{CallFacts}
+use Rattle.sl_step_facts.specs.Concluding.{Concludes}
 use Rattle.sl_step_facts.specs.Heard.{heard_by}
 use Rattle.sl_step_facts.specs.JobFacts.{JobFacts}
 use Rattle.sl_step_facts.specs.SessionFacts.{QuietFacts}
 use Rattle.sl_step_facts.specs.Whole.{Whole, WholeTrace}
 use Rattle.sl_trace.specs.Traces.{FollowsTrace, Setting, Trace}
 use Rattle.sl_trace.specs.declared.effects.Entry.{Entry}
+use Rattle.std.specs.Prelude.{None}
 
 -- What is true once a step has begun, after a trace with all its facts.
 abbrev pub BeginsWith : (Step → Type 0) → Type 0
@@ -46,3 +48,10 @@ QuietFactsAreKept = Acts Whole HasQuietFacts
 
 abbrev pub QuietFactsBegin : Type 0
 QuietFactsBegin = BeginsWith HasQuietFacts
+
+-- Nothing is left to be refused.
+abbrev pub IsQuiet : Step → Type 0
+IsQuiet x = QuietFacts x.setting (seen x) None
+
+abbrev pub QuietFactsConclude : Type 0
+QuietFactsConclude = Concludes Whole (λ x. Whole x × IsQuiet x) IsQuiet

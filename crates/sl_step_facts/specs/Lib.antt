@@ -4,3 +4,4 @@ pub mod JobFacts
 pub mod SessionFacts
 pub mod LeaseFacts
 pub mod Whole
+pub mod Concluding
