@@ -62,7 +62,7 @@ use Rattle.sl_words.proofs.CaseLaws.{none_some, one_value, some_value, true_is_f
 use Rattle.sl_words.proofs.WordLaws.{and_true}
 use Rattle.std.proofs.Common.{ap, ap₂, refl, subst, sym, ◌∙◌}
 use Rattle.std.proofs.lemmas.Slice.Eq.{bytes_eq-Decides}
-use Rattle.std.specs.Prelude.{Bool, Contains, List, None, Option, Result, Some, [], bytes_eq, false, is_none, is_some, option_and_then, option_map, true, ℕ, ◌%◌, ◌&&◌, ◌+◌, ◌-◌, ◌==◌, ◌∷◌, ◌≡◌}
+use Rattle.std.specs.Prelude.{Bool, Contains, List, None, Option, Result, Some, [], bytes_eq, false, is_none, is_some, option_and_then, option_map, true, ℕ, ◌%◌, ◌&&◌, ◌+◌, ◌==◌, ◌∷◌, ◌≡◌}
 
 pub both_of : (x : Step) → Whole x → Both x
 both_of x h = (h.facts.calls, h.facts.jobs)
@@ -125,12 +125,15 @@ request_allowed x s m j bytes c h hears is reads = by c (b.1.fits m j s c there 
       let room : Roomy x.setting.layout = roomy x.setting h.setting in
       let whole : r.offset % x.setting.layout.area ≡ 0 = ap (λ (z : Spot). z.base % x.setting.layout.area) (sym mine.1) ∙ spot_whole x.setting.layout m room.whole in (
         λ why refused. (caller_numbered x m j (both_of x h) there of, late x why (request_late x.setting.layout s.lockspace r asked force bytes why refused)),
-        (has_heard x s m (Read bytes) hears, λ i its_job. subst (λ n. CallFits x s r.path (RequestWrite j (owner_read x.setting.layout bytes)) (request_offset x.setting.layout r.offset) n) (some_value j i its_job) (record {
-          command = Request r asked force;
-          reads = command;
-          free = free_when_heard x s m (Read bytes) j (both_of x h) hears of;
-          fits = λ n path at. (r, asked, force, refl, (mine.0, stands_in x.setting.layout n (spot_of r) x.setting.layout.sector whole room.two path at));
-        })),
+        (
+          has_heard x s m (Read bytes) hears,
+          λ i its_job. subst (λ n. CallFits x s r.path (RequestWrite j (owner_read x.setting.layout bytes)) (request_offset x.setting.layout r.offset) n) (some_value j i its_job) (record {
+            command = Request r asked force;
+            reads = command;
+            free = free_when_heard x s m (Read bytes) j (both_of x h) hears of;
+            fits = λ n path at. (r, asked, force, refl, (mine.0, stands_in x.setting.layout n (spot_of r) x.setting.layout.sector whole room.two path at));
+          }),
+        ),
       )
 
   by : (d : Command) → FitsCommand x.setting s m d m.call.purpose → command_numbered x.setting (seen x) j ≡ Some d → RequestAllowed (MayReply x) (MayCall x) x s j bytes d
@@ -253,6 +256,8 @@ leaving_call x s h has joined quiet j leaves d =
     let by : LeftBy x.setting (seen x) s k.0 = left_by x.setting (seen x) s k.0 k.1 in
     let reads : command_numbered x.setting (seen x) k.0.number ≡ Some (RemLockspace by.arg) =
     ap (λ o. option_and_then command_of o) by.job ∙ ap (λ (o : Result Command ℕ). command_of (record { number = k.0.number; at = k.0.at; reading = k.0.reading; command = o })) by.command
-    in
-    (has, λ i of. subst (λ n. CallFits x s s.path (Leaving j) (own_offset x.setting s) n) (some_value j i of)
-    (subst (λ n. CallFits x s s.path (Leaving j) (own_offset x.setting s) n) k.2 (record { command = RemLockspace by.arg; reads = reads; free = leaving_free x s k.0 by.arg h has joined by.names reads quiet; fits = λ m path at. (by.arg, refl, by.names) })))
+    in (
+      has,
+      λ i of. subst (λ n. CallFits x s s.path (Leaving j) (own_offset x.setting s) n) (some_value j i of)
+          (subst (λ n. CallFits x s s.path (Leaving j) (own_offset x.setting s) n) k.2 (record { command = RemLockspace by.arg; reads = reads; free = leaving_free x s k.0 by.arg h has joined by.names reads quiet; fits = λ m path at. (by.arg, refl, by.names) })),
+    )

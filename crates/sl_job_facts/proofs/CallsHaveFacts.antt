@@ -2,11 +2,9 @@
 
 -- ---- of any trace: answers come later
 use Rattle.sl_acts.proofs.Additions.{begun_by}
-use Rattle.sl_acts.proofs.SessionsStay.{numbered_more}
 use Rattle.sl_acts.specs.Acts.{Expects}
 use Rattle.sl_acts.specs.SoFar.{entry_of}
-use Rattle.sl_due.specs.DueCommands.{carry_decision}
-use Rattle.sl_due.specs.Steps.{Step, add_call_of, seen, with_effects, with_input}
+use Rattle.sl_due.specs.Steps.{Step, add_call_of, seen, with_input}
 use Rattle.sl_job_facts.specs.Promises.{HasCallFacts}
 use Rattle.sl_plain.proofs.Lists.{any_found, contains_cases, contains_none, in_map, kept_inside}
 use Rattle.sl_plain.proofs.Numbers.{below_itself_suc, less_than_suc, number_itself}
@@ -16,7 +14,6 @@ use Rattle.sl_sessions.specs.declared.session.Session.{Session}
 use Rattle.sl_trace.proofs.TraceFacts.{submitted-push}
 use Rattle.sl_trace.specs.Traces.{Answered, Setting, Submitted, Trace, answer_of, answered_in, call_numbered, is_answer_for, is_expected, mark, new_call, next_call, outstanding, submitted}
 use Rattle.sl_trace.specs.declared.effects.Call.{Call}
-use Rattle.sl_trace.specs.declared.effects.Effects.{Effects}
 use Rattle.sl_trace.specs.declared.effects.Entry.{Entry}
 use Rattle.sl_trace.specs.declared.effects.JoinStep.TheVariants.{FirstRead}
 use Rattle.sl_trace.specs.declared.effects.Op.{Op}
@@ -29,10 +26,10 @@ use Rattle.sl_words.proofs.CaseLaws.{is_false, no_value, one_value, some_value}
 use Rattle.sl_words.proofs.WordLaws.{and_true}
 use Rattle.std.proofs.Common.{ap, ap₂, arith, inl, inr, refl, subst, sym, ◌∙◌}
 use Rattle.std.proofs.lemmas.Bool.{eqb-true}
-use Rattle.std.proofs.lemmas.List.{append-nil, length-map}
+use Rattle.std.proofs.lemmas.List.{append-nil}
 use Rattle.std.specs.List.{list_any}
 use Rattle.std.specs.Option.{option_or}
-use Rattle.std.specs.Prelude.{Bool, Contains, IsSome, IsTrue, List, None, Option, Some, [], cond, false, find, fold, is_none, length, map, option_map, slice_get, suc, true, ℕ, ◌&&◌, ◌++◌, ◌+◌, ◌-◌, ◌<◌, ◌==◌, ◌∷◌, ◌≡◌, ◌⊎◌}
+use Rattle.std.specs.Prelude.{Bool, Contains, IsSome, IsTrue, List, None, Option, Some, [], cond, false, find, fold, is_none, length, map, option_map, slice_get, suc, true, ℕ, ◌&&◌, ◌++◌, ◌+◌, ◌<◌, ◌==◌, ◌∷◌, ◌≡◌, ◌⊎◌}
 
 abbrev called : ℕ → ℕ → List Submitted → Call → List Submitted
 called at reading ms c = new_call at reading c ∷ ms
@@ -48,11 +45,13 @@ answered_timely : (n : ℕ) (m : Submitted) (a : Answered) (b : Bool) (o : Optio
 answered_timely n m a false o is at h = timely_more n m h
 answered_timely n m a true (Some c) is at h =
     (less_than_suc m.at n h.0, λ d its. let in_time = h.1 d (is ∙ (sym (ap (λ q. option_or q (Some a)) is) ∙ its)) in (in_time.0, less_than_suc d.at n in_time.1))
-answered_timely n m a true None is at h =
-    (less_than_suc m.at n h.0, λ d its.
-    let one : a ≡ d = some_value a d (sym (ap (λ q. option_or q (Some a)) is) ∙ its) in
-    let there : d.at ≡ n = ap (λ (z : Answered). z.at) (sym one) ∙ at in
-    (subst (λ k. m.at < k) (sym there) h.0, subst (λ k. k < suc n) (sym there) (below_itself_suc n)))
+answered_timely n m a true None is at h = (
+  less_than_suc m.at n h.0,
+  λ d its.
+      let one : a ≡ d = some_value a d (sym (ap (λ q. option_or q (Some a)) is) ∙ its) in
+      let there : d.at ≡ n = ap (λ (z : Answered). z.at) (sym one) ∙ at in
+      (subst (λ k. m.at < k) (sym there) h.0, subst (λ k. k < suc n) (sym there) (below_itself_suc n)),
+)
 
 told_timely : (es : Trace) (e : Entry) (n : ℕ) (a : Answer) (ms : List Submitted) → ((m : Submitted) → Contains ms m → IsTimely (length es) m) → (m : Submitted) → Contains (map (answered_in es e n a) ms) m → IsTimely (suc (length es)) m
 told_timely es e n a ms all m there =
@@ -88,44 +87,44 @@ one_more x s path p o op its stays h =
       later = λ m a there is. (timely (seen y) m there).1 a is;
       fits = λ m a there is. fits m a is (among m there);
     } where
-  y : Step
-  y = add_call_of s.number path p o op x
+      y : Step
+      y = add_call_of s.number path p o op x
 
-  made : Call
-  made = record { number = next_call x.setting (seen x); session = s.number; purpose = p; path = path; offset = o; op = op }
+      made : Call
+      made = record { number = next_call x.setting (seen x); session = s.number; purpose = p; path = path; offset = o; op = op }
 
-  new : Submitted
-  new = new_call (length x.past) x.reading made
+      new : Submitted
+      new = new_call (length x.past) x.reading made
 
-  grown : submitted (seen (add_call_of s.number path p o op x)) ≡ new ∷ submitted (seen x)
-  grown = submitted-push x.past (entry_of x) made
+      grown : submitted (seen (add_call_of s.number path p o op x)) ≡ new ∷ submitted (seen x)
+      grown = submitted-push x.past (entry_of x) made
 
-  among : (m : Submitted) → Contains (submitted (seen (add_call_of s.number path p o op x))) m → (new ≡ m) ⊎ Contains (submitted (seen x)) m
-  among m there = contains_cases new (submitted (seen x)) m (subst (λ ms. Contains ms m) grown there)
+      among : (m : Submitted) → Contains (submitted (seen (add_call_of s.number path p o op x))) m → (new ≡ m) ⊎ Contains (submitted (seen x)) m
+      among m there = contains_cases new (submitted (seen x)) m (subst (λ ms. Contains ms m) grown there)
 
-  owned : (m : Submitted) → (new ≡ m) ⊎ Contains (submitted (seen x)) m → IsSome (session_numbered x.setting (seen (add_call_of s.number path p o op x)) m.call.session)
-  owned m (inl is) = subst (λ (z : Submitted). IsSome (session_numbered x.setting (seen (add_call_of s.number path p o op x)) z.call.session)) is its
-  owned m (inr old) = let was = some_of (session_numbered x.setting (seen x) m.call.session) (h.owned m old) in subst (λ q. IsSome q) (sym (stays m.call.session was.0 was.1)) refl
+      owned : (m : Submitted) → (new ≡ m) ⊎ Contains (submitted (seen x)) m → IsSome (session_numbered x.setting (seen (add_call_of s.number path p o op x)) m.call.session)
+      owned m (inl is) = subst (λ (z : Submitted). IsSome (session_numbered x.setting (seen (add_call_of s.number path p o op x)) z.call.session)) is its
+      owned m (inr old) = let was = some_of (session_numbered x.setting (seen x) m.call.session) (h.owned m old) in subst (λ q. IsSome q) (sym (stays m.call.session was.0 was.1)) refl
 
-  found : (m : Submitted) → (new ≡ m) ⊎ Contains (submitted (seen x)) m → call_numbered (seen (add_call_of s.number path p o op x)) m.call.number ≡ Some m
-  found m (inl is) =
-      subst (λ (z : Submitted). call_numbered (seen (add_call_of s.number path p o op x)) z.call.number ≡ Some z) is
-      (ap (λ ms. find (λ (z : Submitted). z.call.number == next_call x.setting (seen x)) ms) grown ∙ ap (λ b. cond b (Some new) (find (λ (z : Submitted). z.call.number == next_call x.setting (seen x)) (submitted (seen x)))) (number_itself (next_call x.setting (seen x))))
-  found m (inr old) =
-      ap (λ ms. find (λ (z : Submitted). z.call.number == m.call.number) ms) grown
-      ∙ (ap (λ b. cond b (Some new) (call_numbered (seen x) m.call.number)) (more_is_other m.call.number (next_call x.setting (seen x)) (h.below m old)) ∙ h.found m old)
+      found : (m : Submitted) → (new ≡ m) ⊎ Contains (submitted (seen x)) m → call_numbered (seen (add_call_of s.number path p o op x)) m.call.number ≡ Some m
+      found m (inl is) =
+          subst (λ (z : Submitted). call_numbered (seen (add_call_of s.number path p o op x)) z.call.number ≡ Some z) is
+          (ap (λ ms. find (λ (z : Submitted). z.call.number == next_call x.setting (seen x)) ms) grown ∙ ap (λ b. cond b (Some new) (find (λ (z : Submitted). z.call.number == next_call x.setting (seen x)) (submitted (seen x)))) (number_itself (next_call x.setting (seen x))))
+      found m (inr old) =
+          ap (λ ms. find (λ (z : Submitted). z.call.number == m.call.number) ms) grown
+          ∙ (ap (λ b. cond b (Some new) (call_numbered (seen x) m.call.number)) (more_is_other m.call.number (next_call x.setting (seen x)) (h.below m old)) ∙ h.found m old)
 
-  below : (m : Submitted) → (new ≡ m) ⊎ Contains (submitted (seen x)) m → m.call.number < next_call x.setting (seen (add_call_of s.number path p o op x))
-  below m old =
-      let more : next_call x.setting (seen (add_call_of s.number path p o op x)) ≡ x.setting.first.call + suc (length (submitted (seen x))) = ap (λ ms. x.setting.first.call + length ms) grown in
-      subst (λ k. m.call.number < k) (sym more) (by old) where
-    by : (new ≡ m) ⊎ Contains (submitted (seen x)) m → m.call.number < x.setting.first.call + suc (length (submitted (seen x)))
-    by (inl is) = let its : x.setting.first.call + length (submitted (seen x)) ≡ m.call.number = ap (λ (z : Submitted). z.call.number) is in omega (arith, its)
-    by (inr was) = let less : m.call.number < x.setting.first.call + length (submitted (seen x)) = h.below m was in omega (arith, less)
+      below : (m : Submitted) → (new ≡ m) ⊎ Contains (submitted (seen x)) m → m.call.number < next_call x.setting (seen (add_call_of s.number path p o op x))
+      below m old =
+          let more : next_call x.setting (seen (add_call_of s.number path p o op x)) ≡ x.setting.first.call + suc (length (submitted (seen x))) = ap (λ ms. x.setting.first.call + length ms) grown in
+          subst (λ k. m.call.number < k) (sym more) (by old) where
+            by : (new ≡ m) ⊎ Contains (submitted (seen x)) m → m.call.number < x.setting.first.call + suc (length (submitted (seen x)))
+            by (inl is) = let its : x.setting.first.call + length (submitted (seen x)) ≡ m.call.number = ap (λ (z : Submitted). z.call.number) is in omega (arith, its)
+            by (inr was) = let less : m.call.number < x.setting.first.call + length (submitted (seen x)) = h.below m was in omega (arith, less)
 
-  fits : (m : Submitted) (a : Answered) → m.answer ≡ Some a → (new ≡ m) ⊎ Contains (submitted (seen x)) m → IsTrue (is_answer_for x.setting a.answer m.call.op)
-  fits m a is (inl new_one) = absurd (no_value a m.answer is (ap (λ (z : Submitted). z.answer) (sym new_one)))
-  fits m a is (inr old) = h.fits m a old is
+      fits : (m : Submitted) (a : Answered) → m.answer ≡ Some a → (new ≡ m) ⊎ Contains (submitted (seen x)) m → IsTrue (is_answer_for x.setting a.answer m.call.op)
+      fits m a is (inl new_one) = absurd (no_value a m.answer is (ap (λ (z : Submitted). z.answer) (sym new_one)))
+      fits m a is (inr old) = h.fits m a old is
 
 -- ---- kept by the input
 
@@ -186,24 +185,24 @@ answer_fits st es e (Told k ans) expected found fits m a there is =
     let was = in_map (answered_in es e k ans) (submitted es) m there in
     let its = by was.0 was.1 (was.0.call.number == k) refl was.0.answer refl a (ap (λ (z : Submitted). z.answer) was.2 ∙ is) in
     subst (λ (c : Call). IsTrue (is_answer_for st a.answer c.op)) (sym (same_answered es e k ans was.0).call ∙ ap (λ (z : Submitted). z.call) was.2) its
-    where
-  asked : (b : Submitted) → Contains (submitted es) b → (b.call.number == k) ≡ true → IsTrue (is_answer_for st ans b.call.op)
-  asked b inside its =
-      let open_one = any_found (λ (d : Submitted). d.call.number == k && is_answer_for st ans d.call.op) (outstanding es) expected in
-      let d : Submitted = open_one.0 in
-      let both = and_true (d.call.number == k) (is_answer_for st ans d.call.op) open_one.2 in
-      let there_too : Contains (submitted es) d = (kept_inside (λ (z : Submitted). is_none z.answer) (submitted es) d open_one.1).0 in
-      let numbers : d.call.number ≡ b.call.number = eqb-true d.call.number k both.0 ∙ sym (eqb-true b.call.number k its) in
-      let one : d ≡ b = one_value d b (call_numbered es b.call.number) (subst (λ n. call_numbered es n ≡ Some d) numbers (found d there_too)) (found b inside) in
-      subst (λ (z : Submitted). IsTrue (is_answer_for st ans z.call.op)) one both.1
+  where
+    asked : (b : Submitted) → Contains (submitted es) b → (b.call.number == k) ≡ true → IsTrue (is_answer_for st ans b.call.op)
+    asked b inside its =
+        let open_one = any_found (λ (d : Submitted). d.call.number == k && is_answer_for st ans d.call.op) (outstanding es) expected in
+        let d : Submitted = open_one.0 in
+        let both = and_true (d.call.number == k) (is_answer_for st ans d.call.op) open_one.2 in
+        let there_too : Contains (submitted es) d = (kept_inside (λ (z : Submitted). is_none z.answer) (submitted es) d open_one.1).0 in
+        let numbers : d.call.number ≡ b.call.number = eqb-true d.call.number k both.0 ∙ sym (eqb-true b.call.number k its) in
+        let one : d ≡ b = one_value d b (call_numbered es b.call.number) (subst (λ n. call_numbered es n ≡ Some d) numbers (found d there_too)) (found b inside) in
+        subst (λ (z : Submitted). IsTrue (is_answer_for st ans z.call.op)) one both.1
 
-  by : (b : Submitted) → Contains (submitted es) b → (t : Bool) → (b.call.number == k) ≡ t → (o : Option Answered) → b.answer ≡ o → (d : Answered)
-      → (elim t as (λ z. Submitted) [ false ↦ b | true ↦ record b { answer = option_or b.answer (Some (answer_of es e ans b.call)) } ]).answer ≡ Some d → IsTrue (is_answer_for st d.answer b.call.op)
-  by b inside false other o before d its = fits b d inside its
-  by b inside true mine (Some c) before d its = fits b d inside (before ∙ (sym (ap (λ q. option_or q (Some (answer_of es e ans b.call))) before) ∙ its))
-  by b inside true mine None before d its =
-      let new : answer_of es e ans b.call ≡ d = some_value (answer_of es e ans b.call) d (sym (ap (λ q. option_or q (Some (answer_of es e ans b.call))) before) ∙ its) in
-      subst (λ (z : Answered). IsTrue (is_answer_for st z.answer b.call.op)) new (asked b inside mine)
+    by : (b : Submitted) → Contains (submitted es) b → (t : Bool) → (b.call.number == k) ≡ t → (o : Option Answered) → b.answer ≡ o → (d : Answered)
+        → (elim t as (λ z. Submitted) [ false ↦ b | true ↦ record b { answer = option_or b.answer (Some (answer_of es e ans b.call)) } ]).answer ≡ Some d → IsTrue (is_answer_for st d.answer b.call.op)
+    by b inside false other o before d its = fits b d inside its
+    by b inside true mine (Some c) before d its = fits b d inside (before ∙ (sym (ap (λ q. option_or q (Some (answer_of es e ans b.call))) before) ∙ its))
+    by b inside true mine None before d its =
+        let new : answer_of es e ans b.call ≡ d = some_value (answer_of es e ans b.call) d (sym (ap (λ q. option_or q (Some (answer_of es e ans b.call))) before) ∙ its) in
+        subst (λ (z : Answered). IsTrue (is_answer_for st z.answer b.call.op)) new (asked b inside mine)
 answer_fits st es e i expected found fits m a there is = fits m a there is
 
 pub input_kept : (x : Step) (i : Input) → x.input ≡ Wake → x.effects.calls ≡ [] → Expects x i → HasCallFacts x → HasCallFacts (with_input i x)
@@ -218,24 +217,24 @@ input_kept x i wake bare expected h =
       later = λ m a there is. (timely (seen (with_input i x)) m there).1 a is;
       fits = λ m a there is. answer_fits x.setting x.past e i expected finds (λ b d inside its. h.fits b d (now b inside) its) m a (subst (λ ms. Contains ms m) told there) is;
     } where
-  e : Entry
-  e = entry_of (with_input i x)
+      e : Entry
+      e = entry_of (with_input i x)
 
-  told : submitted (seen (with_input i x)) ≡ mark x.past (entry_of (with_input i x)) i (submitted x.past)
-  told = calls_told x i bare
+      told : submitted (seen (with_input i x)) ≡ mark x.past (entry_of (with_input i x)) i (submitted x.past)
+      told = calls_told x i bare
 
-  now : (b : Submitted) → Contains (submitted x.past) b → Contains (submitted (seen x)) b
-  now b there = subst (λ ms. Contains ms b) (sym (calls_before x wake bare)) there
+      now : (b : Submitted) → Contains (submitted x.past) b → Contains (submitted (seen x)) b
+      now b there = subst (λ ms. Contains ms b) (sym (calls_before x wake bare)) there
 
-  before : (m : Submitted) → Contains (submitted (seen (with_input i x))) m → WasOpen (submitted x.past) m
-  before m there = was_marked x.past (entry_of (with_input i x)) i (submitted x.past) m (subst (λ ms. Contains ms m) (calls_told x i bare) there)
+      before : (m : Submitted) → Contains (submitted (seen (with_input i x))) m → WasOpen (submitted x.past) m
+      before m there = was_marked x.past (entry_of (with_input i x)) i (submitted x.past) m (subst (λ ms. Contains ms m) (calls_told x i bare) there)
 
-  finds : (b : Submitted) → Contains (submitted x.past) b → call_numbered x.past b.call.number ≡ Some b
-  finds b there = ap (λ ms. find (λ (z : Submitted). z.call.number == b.call.number) ms) (sym (calls_before x wake bare)) ∙ h.found b (now b there)
+      finds : (b : Submitted) → Contains (submitted x.past) b → call_numbered x.past b.call.number ≡ Some b
+      finds b there = ap (λ ms. find (λ (z : Submitted). z.call.number == b.call.number) ms) (sym (calls_before x wake bare)) ∙ h.found b (now b there)
 
-  marked_length : (k : Input) (ms : List Submitted) → length (mark x.past (entry_of (with_input i x)) k ms) ≡ length ms
-  marked_length (Told n a) ms = mapped_length (answered_in x.past (entry_of (with_input i x)) n a) ms
-  marked_length k ms = refl
+      marked_length : (k : Input) (ms : List Submitted) → length (mark x.past (entry_of (with_input i x)) k ms) ≡ length ms
+      marked_length (Told n a) ms = mapped_length (answered_in x.past (entry_of (with_input i x)) n a) ms
+      marked_length k ms = refl
 
-  numbers : (k : Input) → next_call x.setting (seen (with_input i x)) ≡ next_call x.setting (seen x)
-  numbers k = ap (λ ms. x.setting.first.call + length ms) (calls_told x i bare) ∙ (ap (λ n. x.setting.first.call + n) (marked_length i (submitted x.past)) ∙ ap (λ ms. x.setting.first.call + length ms) (sym (calls_before x wake bare)))
+      numbers : (k : Input) → next_call x.setting (seen (with_input i x)) ≡ next_call x.setting (seen x)
+      numbers k = ap (λ ms. x.setting.first.call + length ms) (calls_told x i bare) ∙ (ap (λ n. x.setting.first.call + n) (marked_length i (submitted x.past)) ∙ ap (λ ms. x.setting.first.call + length ms) (sym (calls_before x wake bare)))

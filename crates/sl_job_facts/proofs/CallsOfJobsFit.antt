@@ -119,18 +119,18 @@ calls_of_joining x s j m h has its there of =
     let also : z.0.job ≡ Some j = adds m.call.purpose z.0 m by.arg j of fits in
     let one : z.0 ≡ s = one_session x.setting (seen x) z.0 s j (got_inside (sessions x.setting (seen x)) m.call.session z.0 z.1) (session_inside x s has) also its in
     sym (number_is_place x.setting (seen x) m.call.session z.0 z.1) ∙ ap (λ (y : Session). y.number) one
-    where
-  adds : (p : Purpose) (z : Session) (m : Submitted) (a : LockspaceArg) (i : ℕ) → job_of p ≡ Some i → FitsCommand x.setting z m (AddLockspace a) p → z.job ≡ Some i
-  adds (Joining k step) z m a i of fits = fits ∙ of
-  adds (Leaving k) z m a i of fits = absurd (no_removal fits.1)
-  adds (Lease work step) z m a i of fits = absurd (none_some fits.0 fits.1)
-  adds (RequestRead k) z m a i of fits = absurd (no_request fits.3)
-  adds (RequestWrite k owner) z m a i of fits = absurd (no_request fits.3)
-  adds (ValueRead k) z m a i of fits = absurd (no_get fits.2)
-  adds (ValueWrite k) z m a i of fits = absurd (no_set fits.3)
-  adds Renewal z m a i of fits = absurd (none_some i of)
-  adds Survey z m a i of fits = absurd (none_some i of)
-  adds SeeRequest z m a i of fits = absurd (none_some i of)
+  where
+    adds : (p : Purpose) (z : Session) (m : Submitted) (a : LockspaceArg) (i : ℕ) → job_of p ≡ Some i → FitsCommand x.setting z m (AddLockspace a) p → z.job ≡ Some i
+    adds (Joining k step) z m a i of fits = fits ∙ of
+    adds (Leaving k) z m a i of fits = absurd (no_removal fits.1)
+    adds (Lease work step) z m a i of fits = absurd (none_some fits.0 fits.1)
+    adds (RequestRead k) z m a i of fits = absurd (no_request fits.3)
+    adds (RequestWrite k owner) z m a i of fits = absurd (no_request fits.3)
+    adds (ValueRead k) z m a i of fits = absurd (no_get fits.2)
+    adds (ValueWrite k) z m a i of fits = absurd (no_set fits.3)
+    adds Renewal z m a i of fits = absurd (none_some i of)
+    adds Survey z m a i of fits = absurd (none_some i of)
+    adds SeeRequest z m a i of fits = absurd (none_some i of)
 
 list_all_inside : {A : Type 0} (p : A → Bool) (xs : List A) (d : A) → list_all p xs ≡ true → Contains xs d → p d ≡ true
 list_all_inside p [] d all there = absurd (contains_none d there)
@@ -143,21 +143,21 @@ pub joins_on_wake : (x : Step) (s : Session) (j : ℕ) (m : Submitted) (ms : Lis
     → calls_of (seen x) s ≡ m ∷ ms → (m.answer ≡ None → ⊥) → JoinsOn x s j
 joins_on_wake x s j m ms h orderly has its runs are answered =
     record { has = has; its = its; free = λ n there none of. by n (contains_cases m ms n (subst (λ ks. Contains ks n) are (mine n there of))) none } where
-  mine : (n : Submitted) → Contains (submitted (seen x)) n → job_of n.call.purpose ≡ Some j → Contains (calls_of (seen x) s) n
-  mine n there of =
-      let session = calls_of_joining x s j n h has its there of in
-      kept (is_call_of s) (submitted (seen x)) n (ap (λ k. k == s.number) session ∙ number_itself s.number) there
+      mine : (n : Submitted) → Contains (submitted (seen x)) n → job_of n.call.purpose ≡ Some j → Contains (calls_of (seen x) s) n
+      mine n there of =
+          let session = calls_of_joining x s j n h has its there of in
+          kept (is_call_of s) (submitted (seen x)) n (ap (λ k. k == s.number) session ∙ number_itself s.number) there
 
-  unjoined : joined_after (seen x) s ≡ None
-  unjoined =
-      ap (λ (o : Option ℕ). elim o as (λ z. Option ℕ) [ None ↦ Some 0 | Some k ↦ option_and_then (λ r. choose (is_join_done r.reply) (r.at + 1)) (reply_to (seen x) k) ]) its
-      ∙ ap (λ (o : Option Replied). option_and_then (λ (r : Replied). choose (is_join_done r.reply) (r.at + 1)) o) (none_is (reply_to (seen x) j) runs)
+      unjoined : joined_after (seen x) s ≡ None
+      unjoined =
+          ap (λ (o : Option ℕ). elim o as (λ z. Option ℕ) [ None ↦ Some 0 | Some k ↦ option_and_then (λ r. choose (is_join_done r.reply) (r.at + 1)) (reply_to (seen x) k) ]) its
+          ∙ ap (λ (o : Option Replied). option_and_then (λ (r : Replied). choose (is_join_done r.reply) (r.at + 1)) o) (none_is (reply_to (seen x) j) runs)
 
-  turn : is_in_turn (m ∷ ms) ≡ true
-  turn = subst (λ ks. is_in_turn ks ≡ true) are (joinings_are_in_turn x.setting (seen x) s orderly has unjoined)
+      turn : is_in_turn (m ∷ ms) ≡ true
+      turn = subst (λ ks. is_in_turn ks ≡ true) are (joinings_are_in_turn x.setting (seen x) s orderly has unjoined)
 
-  by : (n : Submitted) → (m ≡ n) ⊎ Contains ms n → n.answer ≡ None → ⊥
-  by n (inl is) none = answered (ap (λ (z : Submitted). z.answer) is ∙ none)
-  by n (inr old) none =
-      let done = and_true (fits n) (has_reply n) (list_all_inside (λ (z : Submitted). fits z && has_reply z) ms n (and_true (fits m) (all_done ms) turn).1 old) in
-      false_is_true (ap (λ o. is_some o) (sym none) ∙ done.1)
+      by : (n : Submitted) → (m ≡ n) ⊎ Contains ms n → n.answer ≡ None → ⊥
+      by n (inl is) none = answered (ap (λ (z : Submitted). z.answer) is ∙ none)
+      by n (inr old) none =
+          let done = and_true (fits n) (has_reply n) (list_all_inside (λ (z : Submitted). fits z && has_reply z) ms n (and_true (fits m) (all_done ms) turn).1 old) in
+          false_is_true (ap (λ o. is_some o) (sym none) ∙ done.1)

@@ -39,15 +39,15 @@ heeded_same : (x : Step) (j : ℕ) (r : Reply) (n : ℕ) (a : Answer) (m : Submi
 heeded_same x j r n a m h false is = refl
 heeded_same x j r n a m h true is =
     ap (λ b. answered m (option_or m.answer (Some (told b)))) (goes_on_same x j r (job_of m.call.purpose) (by h)) where
-  told : Bool → Answered
-  told b = record { at = length x.past; reading = x.reading; answer = a; heeded = b }
+      told : Bool → Answered
+      told b = record { at = length x.past; reading = x.reading; answer = a; heeded = b }
 
-  answered : Submitted → Option Answered → Submitted
-  answered k o = record k { answer = o }
+      answered : Submitted → Option Answered → Submitted
+      answered k o = record k { answer = o }
 
-  by : (is_before_input r ≡ false) ⊎ ((m.call.number == n) ≡ true → job_of m.call.purpose ≡ None) → (is_before_input r ≡ false) ⊎ (job_of m.call.purpose ≡ None)
-  by (inl after) = inl after
-  by (inr none) = inr (none is)
+      by : (is_before_input r ≡ false) ⊎ ((m.call.number == n) ≡ true → job_of m.call.purpose ≡ None) → (is_before_input r ≡ false) ⊎ (job_of m.call.purpose ≡ None)
+      by (inl after) = inl after
+      by (inr none) = inr (none is)
 
 map_same : {A B : Type 0} (f g : A → B) (xs : List A) → ((a : A) → Contains xs a → f a ≡ g a) → map f xs ≡ map g xs
 map_same f g [] h = refl
@@ -57,11 +57,11 @@ marks_same : (x : Step) (j : ℕ) (r : Reply) → IsLate x r → (i : Input) →
 marks_same x j r h (Told n a) is =
     map_same (answered_in x.past (entry_of (add_reply j r x)) n a) (answered_in x.past (entry_of x) n a) (submitted x.past)
     (λ m there. heeded_same x j r n a m (by m there (h n a is)) (m.call.number == n) refl)
-    where
-  by : (m : Submitted) → Contains (submitted x.past) m → (is_before_input r ≡ false) ⊎ ((k : Submitted) → Contains (submitted x.past) k → (k.call.number == n) ≡ true → job_of k.call.purpose ≡ None)
-      → (is_before_input r ≡ false) ⊎ ((m.call.number == n) ≡ true → job_of m.call.purpose ≡ None)
-  by m there (inl after) = inl after
-  by m there (inr none) = inr (none m there)
+  where
+    by : (m : Submitted) → Contains (submitted x.past) m → (is_before_input r ≡ false) ⊎ ((k : Submitted) → Contains (submitted x.past) k → (k.call.number == n) ≡ true → job_of k.call.purpose ≡ None)
+        → (is_before_input r ≡ false) ⊎ ((m.call.number == n) ≡ true → job_of m.call.purpose ≡ None)
+    by m there (inl after) = inl after
+    by m there (inr none) = inr (none m there)
 marks_same x j r h i is = refl
 
 pub calls_stay : (x : Step) (j : ℕ) (r : Reply) → IsLate x r → submitted (seen (add_reply j r x)) ≡ submitted (seen x)

@@ -119,11 +119,11 @@ orphaned st es c r asking serves refusals f h =
     (λ s. option_map_or (f s) (serving_orphan es s (spot_of r) serves) (Replies NoOrphan))
     (λ s is active. where_held (DecisionFits st es c) (λ w. tt) (serving_orphan es s (spot_of r) serves) (f s) NoOrphan
     (λ g held. h s g is active (orphan_there s g held)))
-    where
-  orphan_there : (s : Session) (g : Grant) → serving_orphan es s (spot_of r) serves ≡ Some g → Contains (holdings_on es s (spot_of r)) g
-  orphan_there s g held =
-      let v = then_value (λ (x : Grant). choose (serves x) x) (orphan_on es s (spot_of r)) g held in
-      subst (λ z. Contains (holdings_on es s (spot_of r)) z) (choose_some (serves v.0) v.0 g v.2).1 (find_inside is_orphan (holdings_on es s (spot_of r)) v.0 v.1).0
+  where
+    orphan_there : (s : Session) (g : Grant) → serving_orphan es s (spot_of r) serves ≡ Some g → Contains (holdings_on es s (spot_of r)) g
+    orphan_there s g held =
+        let v = then_value (λ (x : Grant). choose (serves x) x) (orphan_on es s (spot_of r)) g held in
+        subst (λ z. Contains (holdings_on es s (spot_of r)) z) (choose_some (serves v.0) v.0 g v.2).1 (find_inside is_orphan (holdings_on es s (spot_of r)) v.0 v.1).0
 
 reports : (st : Setting) (es : Trace) (c : Command) (a : LockspaceArg) (answer : Session → Reply) → DecisionFits st es c (decide_report st es a answer)
 reports st es c a answer = where_active (DecisionFits st es c) (λ w. tt) st es (matching_session st es a) (λ s. []) (λ s. Replies (answer s)) (λ s is active. tt)
@@ -137,22 +137,22 @@ pub decisions_fit : (st : Setting) (es : Trace) (now : ℕ) (c : Command) → De
 unfolding decided
 decisions_fit st es now (AddLockspace a) =
     joins (session_named st es a.name) refl where
-  joins : (o : Option Session) → session_named st es a.name ≡ o
-      → DecisionFits st es (AddLockspace a) (unless_refused (joined_refusal st es o ∷ choose (nat_le most_lockspaces (length (present_sessions st es))) (LimitReached Lockspaces) ∷ []) (Joins (length (sessions st es)) a))
-  joins None is = unless (DecisionFits st es (AddLockspace a)) (λ w. tt) (choose (nat_le most_lockspaces (length (present_sessions st es))) (LimitReached Lockspaces) ∷ []) (Joins (length (sessions st es)) a) (refl, refl, is)
-  joins (Some s) is = refused_or (DecisionFits st es (AddLockspace a)) (λ w. tt) (joined_refusal st es (Some s)) (unless_refused (choose (nat_le most_lockspaces (length (present_sessions st es))) (LimitReached Lockspaces) ∷ []) (Joins (length (sessions st es)) a))
-      (λ none. absurd (never (session_refusal st es s) none)) where
-    never : (o : Option Reply) → option_or o (Some (Joined (generation_of es s))) ≡ None → ⊥
-    never None h = none_some (Joined (generation_of es s)) (sym h)
-    never (Some w) h = none_some w (sym h)
+      joins : (o : Option Session) → session_named st es a.name ≡ o
+          → DecisionFits st es (AddLockspace a) (unless_refused (joined_refusal st es o ∷ choose (nat_le most_lockspaces (length (present_sessions st es))) (LimitReached Lockspaces) ∷ []) (Joins (length (sessions st es)) a))
+      joins None is = unless (DecisionFits st es (AddLockspace a)) (λ w. tt) (choose (nat_le most_lockspaces (length (present_sessions st es))) (LimitReached Lockspaces) ∷ []) (Joins (length (sessions st es)) a) (refl, refl, is)
+      joins (Some s) is = refused_or (DecisionFits st es (AddLockspace a)) (λ w. tt) (joined_refusal st es (Some s)) (unless_refused (choose (nat_le most_lockspaces (length (present_sessions st es))) (LimitReached Lockspaces) ∷ []) (Joins (length (sessions st es)) a))
+          (λ none. absurd (never (session_refusal st es s) none)) where
+            never : (o : Option Reply) → option_or o (Some (Joined (generation_of es s))) ≡ None → ⊥
+            never None h = none_some (Joined (generation_of es s)) (sym h)
+            never (Some w) h = none_some w (sym h)
 decisions_fit st es now (RemLockspace a) =
     where_active (DecisionFits st es (RemLockspace a)) (λ w. tt) st es (matching_session st es a) (λ s. orphan_refusal es s ∷ leave_refusal es s ∷ []) (λ s. Leaves s)
     (λ s is active. (active, (a, refl, (matched s is).0, (matched s is).1))) where
-  matched : (s : Session) → matching_session st es a ≡ Some s → (session_named st es a.name ≡ Some s) × (is_session_arg s a ≡ true)
-  matched s is =
-      let v = then_value (λ (x : Session). choose (is_session_arg x a) x) (session_named st es a.name) s is in
-      let both = choose_some (is_session_arg v.0 a) v.0 s v.2 in
-      (v.1 ∙ ap (λ z. Some z) both.1, subst (λ (z : Session). is_session_arg z a ≡ true) both.1 both.0)
+      matched : (s : Session) → matching_session st es a ≡ Some s → (session_named st es a.name ≡ Some s) × (is_session_arg s a ≡ true)
+      matched s is =
+          let v = then_value (λ (x : Session). choose (is_session_arg x a) x) (session_named st es a.name) s is in
+          let both = choose_some (is_session_arg v.0 a) v.0 s v.2 in
+          (v.1 ∙ ap (λ z. Some z) both.1, subst (λ (z : Session). is_session_arg z a ≡ true) both.1 both.0)
 decisions_fit st es now (InqLockspace a) = reports st es (InqLockspace a) a (λ s. Generation (generation_of es s))
 decisions_fit st es now (HostStatus a) = reports st es (HostStatus a) a (λ s. Hosts (states_seen st es s now))
 decisions_fit st es now (Acquire r shared p persistent) = acquires st es (Acquire r shared p persistent) r (Some p) shared false refl refl
@@ -165,7 +165,7 @@ decisions_fit st es now (ReleaseOrphan r) = orphaned st es (ReleaseOrphan r) r N
 decisions_fit st es now (Convert r shared p) =
     where_active (DecisionFits st es (Convert r shared p)) (λ w. tt) st es (session_named st es r.lockspace)
     (λ s. process_refusal es p ∷ choose (is_none (holding_of es s (spot_of r) p (λ g. true))) NotHeld
-        ∷ option_and_then (λ q. choose (not (is_shared (wanted_mode (Convert r shared p)))) (Busy q)) (other_holder es (spot_of r) p) ∷ pending_refusal st es (spot_of r) ∷ [])
+    ∷ option_and_then (λ q. choose (not (is_shared (wanted_mode (Convert r shared p)))) (Busy q)) (other_holder es (spot_of r) p) ∷ pending_refusal st es (spot_of r) ∷ [])
     (λ s. option_map_or (converting s r (wanted_mode (Convert r shared p))) (holding_of es s (spot_of r) p (λ g. true)) (Replies NotHeld))
     (λ s is active. where_held (DecisionFits st es (Convert r shared p)) (λ w. tt) (holding_of es s (spot_of r) p (λ g. true)) (converting s r (wanted_mode (Convert r shared p))) NotHeld
     (λ g held. converts st es (Convert r shared p) s r (wanted_mode (Convert r shared p)) g active (refl, is) refl))

@@ -65,7 +65,7 @@ use Rattle.sl_words.proofs.CaseLaws.{none_some, some_value}
 use Rattle.sl_words.proofs.WordLaws.{some_is_true}
 use Rattle.std.proofs.Common.{ap, inl, inr, refl, subst, sym, ◌∙◌}
 use Rattle.std.proofs.lemmas.Bool.{eqb-true}
-use Rattle.std.specs.Prelude.{Contains, List, None, Ok, Option, Result, Some, [], false, is_none, is_some, length, slice_get, true, ℕ, ◌++◌, ◌-◌, ◌==◌, ◌∷◌, ◌≡◌, ◌⊎◌}
+use Rattle.std.specs.Prelude.{Contains, List, None, Ok, Option, Result, Some, [], false, is_none, is_some, length, slice_get, true, ℕ, ◌++◌, ◌==◌, ◌∷◌, ◌≡◌, ◌⊎◌}
 
 -- ---- what is allowed at a step keeps both
 

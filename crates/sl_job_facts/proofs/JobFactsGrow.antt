@@ -38,7 +38,7 @@ use Rattle.sl_words.proofs.WordLaws.{and_true}
 use Rattle.std.proofs.Common.{ap, inl, inr, refl, subst, sym, ◌∙◌}
 use Rattle.std.proofs.lemmas.Bool.{eqb-true}
 use Rattle.std.specs.Option.{option_or}
-use Rattle.std.specs.Prelude.{Bool, Contains, IsSome, IsTrue, List, None, Some, [], false, find, is_none, length, map, option_and_then, slice_get, true, ℕ, ◌&&◌, ◌++◌, ◌+◌, ◌-◌, ◌<◌, ◌==◌, ◌∷◌, ◌≡◌, ◌⊎◌}
+use Rattle.std.specs.Prelude.{Bool, Contains, IsSome, IsTrue, List, None, Some, [], false, find, is_none, length, map, option_and_then, slice_get, true, ℕ, ◌&&◌, ◌++◌, ◌+◌, ◌<◌, ◌==◌, ◌∷◌, ◌≡◌, ◌⊎◌}
 
 abbrev pub Both : Step → Type 0
 Both x = HasCallFacts x × HasJobFacts x
@@ -299,15 +299,15 @@ input_sees x i wake bare expected h = (
       subst (λ (z : Command). FitsCommand x.setting s was.before z was.before.call.purpose) one (h.1.fits was.before k s old.0 (now was.before was.inside) its there old.1)
       in
       subst (λ (d : Call). FitsCommand x.setting s m c d.purpose) (sym was.same.call) (same_fit x.setting s c was.before m (sym was.same.call) was.before.call.purpose fit)
-  
+
   open_before : (m : Submitted) → (was : WasOpen (submitted x.past) m) → IsOpen (seen (with_input i x)) (heard_by i) m → was.before.answer ≡ None
   open_before m was (inl none) = was.unmet none
   open_before m was (inr heard) = by i refl heard.0 where
     by : (k : Input) → i ≡ k → heard_by k ≡ Some m.call.number → was.before.answer ≡ None
     by (Told n a) is number =
         was_unanswered x.setting x.past n a was.before (subst (λ z. Expects x z) is expected) finds was.inside (ap (λ (c : Call). c.number) (sym was.same.call) ∙ sym (some_value n m.call.number number)) where
-      finds : (b : Submitted) → Contains (submitted x.past) b → call_numbered x.past b.call.number ≡ Some b
-      finds b there = ap (λ ms. find (λ (z : Submitted). z.call.number == b.call.number) ms) (sym (calls_before x wake bare)) ∙ h.0.found b (now b there)
+          finds : (b : Submitted) → Contains (submitted x.past) b → call_numbered x.past b.call.number ≡ Some b
+          finds b there = ap (λ ms. find (λ (z : Submitted). z.call.number == b.call.number) ms) (sym (calls_before x wake bare)) ∙ h.0.found b (now b there)
     by k is number = absurd (none_some m.call.number number)
 
   one : (m n : Submitted) (k : ℕ) → Contains (submitted (seen (with_input i x))) m → Contains (submitted (seen (with_input i x))) n → IsOpen (seen (with_input i x)) (heard_by i) m

@@ -34,7 +34,7 @@ use Rattle.sl_words.specs.Words.{some_is}
 use Rattle.std.proofs.Common.{ap, inl, inr, refl, subst, sym, ◌∙◌}
 use Rattle.std.proofs.lemmas.Bool.{eqb-true}
 use Rattle.std.specs.Option.{option_or}
-use Rattle.std.specs.Prelude.{Bool, Contains, IsSome, List, None, Option, Some, [], bytes_eq, false, find, fold, length, map, option_and_then, slice_get, true, ℕ, ◌-◌, ◌==◌, ◌∷◌, ◌≡◌}
+use Rattle.std.specs.Prelude.{Bool, Contains, IsSome, List, None, Option, Some, [], bytes_eq, false, find, fold, length, map, option_and_then, slice_get, true, ℕ, ◌==◌, ◌∷◌, ◌≡◌}
 
 -- ---- what an act allows, from where it began
 
@@ -81,18 +81,18 @@ allows x =
       grants = λ y g k. ((record { owned = k.0.0.owned; found = k.0.0.found; below = k.0.0.below; made = k.0.0.made; later = k.0.0.later; fits = k.0.0.fits }, record { replied = k.0.1.replied; called = k.0.1.called; joins = k.0.1.joins; starts = k.0.1.starts; fits = k.0.1.fits; one = k.0.1.one }), record { setting = k.1.setting; before = k.1.before; input = k.1.input; calls = k.1.calls; jobs = k.1.jobs; sessions = k.1.sessions });
       starts = λ y s may k. (start_kept y s (λ j of. program_since x y j k.1 (may j of)) k.0, record { setting = k.1.setting; before = k.1.before; input = k.1.input; calls = k.1.calls; jobs = k.1.jobs; sessions = k.1.sessions });
       replies = λ y j r may k. (
-          reply_kept y j r (numbered_since x y j k.1 may.0) (late_since x y r k.1 may.1) k.0,
-          record { setting = k.1.setting; before = k.1.before; input = k.1.input; calls = calls_stay y j r (late_since x y r k.1 may.1) ∙ k.1.calls; jobs = k.1.jobs; sessions = k.1.sessions },
+        reply_kept y j r (numbered_since x y j k.1 may.0) (late_since x y r k.1 may.1) k.0,
+        record { setting = k.1.setting; before = k.1.before; input = k.1.input; calls = calls_stay y j r (late_since x y r k.1 may.1) ∙ k.1.calls; jobs = k.1.jobs; sessions = k.1.sessions },
       );
       calls = λ y s path p o op may k.
           let has : Has y s = has_since x y s k.1 may.0 in
           call_kept y s path p o op (more y s path p o op s.number s has) (λ n z is. more y s path p o op n z is) (λ j of. fits_since x y s path p o j k.1 (may.1 j of)) k.0;
       rest = λ y k. k.0;
     } where
-  more : (y : Step) (s : Session) (path : List ℕ) (p : Purpose) (o : ℕ) (op : Op) (n : ℕ) (z : Session) → session_numbered y.setting (seen y) n ≡ Some z
-      → session_numbered y.setting (seen (add_call_of s.number path p o op y)) n ≡ Some z
-  more y s path p o op n z is =
-      numbered_more y.setting y.past (entry_of y) (record { number = next_call y.setting (seen y); session = s.number; purpose = p; path = path; offset = o; op = op }) n z is
+      more : (y : Step) (s : Session) (path : List ℕ) (p : Purpose) (o : ℕ) (op : Op) (n : ℕ) (z : Session) → session_numbered y.setting (seen y) n ≡ Some z
+          → session_numbered y.setting (seen (add_call_of s.number path p o op y)) n ≡ Some z
+      more y s path p o op n z is =
+          numbered_more y.setting y.past (entry_of y) (record { number = next_call y.setting (seen y); session = s.number; purpose = p; path = path; offset = o; op = op }) n z is
 
 -- ---- jobs that a line has brought
 
@@ -108,9 +108,9 @@ pub runner_numbered : (x : Step) (j : Job) → Contains (running_jobs x.setting 
 runner_numbered x j there =
     let inside = (kept_inside (λ (k : Job). is_running (seen x) k.number) (jobs x.setting (seen x)) j there).0 in
     by (job_numbered x.setting (seen x) j.number) refl inside where
-  by : (o : Option Job) → job_numbered x.setting (seen x) j.number ≡ o → Contains (jobs x.setting (seen x)) j → IsSome (job_numbered x.setting (seen x) j.number)
-  by (Some k) is inside = subst (λ o. IsSome o) (sym is) refl
-  by None is inside = absurd (not_both (j.number == j.number) (number_itself j.number) (find_fails (λ (k : Job). k.number == j.number) (jobs x.setting (seen x)) j is inside))
+      by : (o : Option Job) → job_numbered x.setting (seen x) j.number ≡ o → Contains (jobs x.setting (seen x)) j → IsSome (job_numbered x.setting (seen x) j.number)
+      by (Some k) is inside = subst (λ o. IsSome o) (sym is) refl
+      by None is inside = absurd (not_both (j.number == j.number) (number_itself j.number) (find_fails (λ (k : Job). k.number == j.number) (jobs x.setting (seen x)) j is inside))
 
 pub of_session_numbered : (x : Step) (s : Session) (j : Job) → Contains (jobs_of_session x.setting (seen x) s) j → IsNumbered x j.number
 of_session_numbered x s j there =

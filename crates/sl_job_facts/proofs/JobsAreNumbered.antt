@@ -4,19 +4,19 @@ use Rattle.sl_due.specs.Steps.{Step, seen, with_input}
 use Rattle.sl_leases.specs.Jobs.{command_numbered, command_of}
 use Rattle.sl_plain.proofs.Lists.{contains_first, contains_more, contains_none, find_inside}
 use Rattle.sl_plain.proofs.Numbers.{less_is_other, number_itself}
-use Rattle.sl_plain.proofs.Options.{some_of, then_value}
+use Rattle.sl_plain.proofs.Options.{then_value}
 use Rattle.sl_trace.specs.Traces.{Job, Setting, Trace, job_in, job_numbered, jobs, next_job, numbers_taken}
 use Rattle.sl_trace.specs.declared.command.Command.{Command}
 use Rattle.sl_trace.specs.declared.effects.Effects.{Effects}
 use Rattle.sl_trace.specs.declared.effects.Entry.{Entry}
 use Rattle.sl_trace.specs.declared.input.Input.{Input}
-use Rattle.sl_trace.specs.declared.input.Input.TheVariants.{Answer as Told, Exit, Line, Number, Spawned, Wake}
+use Rattle.sl_trace.specs.declared.input.Input.TheVariants.{Line, Number, Wake}
 use Rattle.sl_words.proofs.CaseLaws.{none_some, some_value}
 use Rattle.std.proofs.Common.{ap, append-nil, arith, inl, inr, refl, subst, sym, ◌∙◌}
 use Rattle.std.proofs.lemmas.Bool.{eqb-true}
 use Rattle.std.proofs.lemmas.List.Folds.{find-append}
 use Rattle.std.specs.Option.{option_or}
-use Rattle.std.specs.Prelude.{Bool, Contains, Err, IsSome, List, None, Ok, Option, Result, Some, [], cond, false, find, length, option_and_then, true, ℕ, ◌++◌, ◌+◌, ◌-◌, ◌<◌, ◌==◌, ◌∷◌, ◌≡◌, ◌⊎◌}
+use Rattle.std.specs.Prelude.{Bool, Contains, Err, List, None, Ok, Option, Result, Some, [], cond, false, find, length, option_and_then, ℕ, ◌++◌, ◌+◌, ◌<◌, ◌==◌, ◌∷◌, ◌≡◌, ◌⊎◌}
 
 -- ---- what is found stays found as a list grows
 
@@ -32,7 +32,6 @@ finds_none p [] fails = refl
 finds_none p (x ∷ xs) fails = ap (λ b. cond b (Some x) (find p xs)) (fails x (contains_first x xs)) ∙ finds_none p xs (λ a there. fails a (contains_more x xs a there))
 
 -- ---- numbers
-
 
 below_by : (st : Setting) (es : Trace) (now : ℕ) (i : Input) (fx : Effects) → ((k : Job) → Contains (jobs st es) k → k.number < next_job st es)
     → (j : Job) → Contains (jobs st (record { reading = now; input = i; effects = fx } ∷ es)) j → j.number < next_job st (record { reading = now; input = i; effects = fx } ∷ es)

@@ -12,18 +12,17 @@ use Rattle.sl_job_facts.proofs.JobsAreNumbered.{command_is_read}
 use Rattle.sl_job_facts.proofs.RepliesComeAfter.{IsLateLease, IsNoSearch}
 use Rattle.sl_job_facts.proofs.SessionsHaveJobs.{given_one, joined_by}
 use Rattle.sl_law.specs.Lawful.{IsGiven, IsSetting}
-use Rattle.sl_leases.specs.Jobs.{aim_of_command, command_numbered, command_of, resource_named}
+use Rattle.sl_leases.specs.Jobs.{aim_of_command, command_numbered, resource_named}
 use Rattle.sl_leases.specs.Leases.{spot_of}
 use Rattle.sl_leases.specs.declared.lease.LeaseNext.{LeaseNext}
 use Rattle.sl_leases.specs.declared.lease.LeaseNext.TheVariants.{AnswerJob, BecomeExclusive, BecomeShared, GrantJob, Nothing as No_lease, ReadFor, WriteBlock, WriteLeader}
 use Rattle.sl_plain.proofs.Lists.{contains_cases, contains_none}
 use Rattle.sl_plain.proofs.Numbers.{plus_zero}
-use Rattle.sl_plain.proofs.Options.{then_value}
 use Rattle.sl_sessions.specs.Sessions.{sessions}
 use Rattle.sl_sessions.specs.declared.session.Session.{Session}
 use Rattle.sl_step_facts.specs.JobFacts.{SeeksResource}
 use Rattle.sl_trace.specs.Commands.{IsLockspaceArg}
-use Rattle.sl_trace.specs.Traces.{Setting, Trace, job_numbered, job_of}
+use Rattle.sl_trace.specs.Traces.{Setting, Trace, job_of}
 use Rattle.sl_trace.specs.declared.command.Command.{Command}
 use Rattle.sl_trace.specs.declared.command.Command.TheVariants.{Acquire, AddLockspace, Convert, GetLvb, HostStatus, InqLockspace, Release, ReleaseOrphan, RemLockspace, Request, RunProgram, SetKillpath, SetLvb, Status, TakeOver}
 use Rattle.sl_trace.specs.declared.command.ResourceArg.{ResourceArg}
@@ -40,7 +39,7 @@ use Rattle.sl_words.proofs.WordLaws.{and_true}
 use Rattle.std.proofs.Common.{ap, inl, inr, refl, subst, sym, ◌∙◌}
 use Rattle.std.proofs.lemmas.Bool.{leb-true}
 use Rattle.std.specs.List.{AllByRecursion}
-use Rattle.std.specs.Prelude.{Contains, IsSome, List, None, Option, Some, [], nat_le, ℕ, ◌%◌, ◌*◌, ◌+◌, ◌-◌, ◌<◌, ◌∷◌, ◌≡◌, ◌≤◌, ◌⊎◌}
+use Rattle.std.specs.Prelude.{Contains, IsSome, List, None, Option, Some, [], nat_le, ℕ, ◌%◌, ◌*◌, ◌+◌, ◌<◌, ◌∷◌, ◌≡◌, ◌≤◌, ◌⊎◌}
 
 -- A job's work on a resource.
 pub record Works (x : Step) (s : Session) (at : Spot) (j : ℕ) : Type 0 where

@@ -23,4 +23,5 @@ pub mod LessIsKept
 pub mod JobFactsBegin
 pub mod QuietFactsBegin
 pub mod QuietFactsConclude
+pub mod QuietAtEnd
 pub mod JobPromises

@@ -136,9 +136,9 @@ held_spot es s at g there =
     let same = (kept_inside (λ (z : Grant). same_place z.path z.offset at.path at.base) (holdings_of es s) g there).1 in
     let both = and_true (g.offset == at.base) (bytes_eq g.path at.path) same in
     ap₂ (λ p n. spot_at p n) ((bytes_eq-Decides g.path at.path).0 both.1) (eqb-true g.offset at.base both.0)
-    where
-  spot_at : List ℕ → ℕ → Spot
-  spot_at p n = record { path = p; base = n }
+  where
+    spot_at : List ℕ → ℕ → Spot
+    spot_at p n = record { path = p; base = n }
 
 convert_asks : (r : ResourceArg) (k : LeaseKnown) (mode : Mode) → AsksFor r (convert_next k mode r.name)
 convert_asks r k Shared = mapped_or (AsksFor r) (λ own. WriteBlock SetMode (moded_block own true k.self.generation)) k.own No_lease (λ own. tt) tt
@@ -177,27 +177,36 @@ decision_allowed x text c (GivesUp s g) setting h wake bare says has fits =
     let j : ℕ = next_job x.setting (seen x) in
     let n : LeaseNext = release_next (lease_place x.setting s) (known x.setting (seen y) s (spot_of_grant g)) g.mode g.lver in
     let works : Works w s (spot_of_grant g) j = subst (λ at. Works w s at j) (sym (held_spot (seen x) s (spot_of r) g fits.1.3)) (new_works x text c s r setting h wake bare says has fits.1.1 fits.1.2) in
-    inr ((new_numbered x text wake, late_on_line x text Done),
-    work_allowed w y s (spot_of_grant g) j n refl (λ i k reads. reads) works (asks_late works.resource n (release_late (lease_place x.setting s) (known x.setting (seen y) s (spot_of_grant g)) g.mode g.lver)) (λ q is. late_on_line x text q))
+    inr (
+      (new_numbered x text wake, late_on_line x text Done),
+      work_allowed w y s (spot_of_grant g) j n refl (λ i k reads. reads) works (asks_late works.resource n (release_late (lease_place x.setting s) (known x.setting (seen y) s (spot_of_grant g)) g.mode g.lver)) (λ q is. late_on_line x text q),
+    )
 decision_allowed x text c (TakesOver s g) setting h wake bare says has fits = inr (shares_allowed x text c g.lver wake says)
 decision_allowed x text c (ConvertsTo s r mode) setting h wake bare says has fits =
     let w : Step = with_input (Line text) x in
     let works : Works w s (spot_of r) (next_job x.setting (seen x)) = new_works x text c s r setting h wake bare says has fits.1 fits.2 in
     inr (work_allowed w w s (spot_of r) (next_job x.setting (seen x)) (convert_next (known x.setting (seen w) s (spot_of r)) mode r.name) refl (λ i k reads. reads) works (convert_asks r (known x.setting (seen w) s (spot_of r)) mode) (λ q is. late_on_line x text q))
 decision_allowed x text c (Requests s r) setting h wake bare says has fits =
-    inr (has, λ i of. other_call x text c s r (RequestRead (next_job x.setting (seen x))) r.offset 0 i setting h wake bare says fits.1 (roomy x.setting setting).whole (plus_zero r.offset) refl
-    (λ m its. (r, fits.2.0, fits.2.1, fits.2.2, its)) of)
+    inr (
+      has,
+      λ i of. other_call x text c s r (RequestRead (next_job x.setting (seen x))) r.offset 0 i setting h wake bare says fits.1 (roomy x.setting setting).whole (plus_zero r.offset) refl
+          (λ m its. (r, fits.2.0, fits.2.1, fits.2.2, its)) of,
+    )
 decision_allowed x text c (SetsValue s at v) setting h wake bare says has fits =
     let r : ResourceArg = fits.1.0 in
     let w : Step = with_input (Line text) x in
     let j : ℕ = next_job x.setting (seen x) in
-    inr (subst (λ (z : Spot). MayCall w s z.path (ValueWrite j) (value_offset x.setting.layout z.base) (WriteRecord (ValueIs v))) (sym fits.1.2)
-    (has, λ i of. other_call x text c s r (ValueWrite j) (value_offset x.setting.layout r.offset) (x.setting.layout.area - x.setting.layout.sector) i setting h wake bare says fits.1.1 (last_low (roomy x.setting setting))
-    (last_is x.setting.layout r.offset (roomy x.setting setting)) refl (λ m its. (r, fits.1.3.0, fits.1.3.1, fits.1.3.2, its)) of))
+    inr (subst (λ (z : Spot). MayCall w s z.path (ValueWrite j) (value_offset x.setting.layout z.base) (WriteRecord (ValueIs v))) (sym fits.1.2) (
+      has,
+      λ i of. other_call x text c s r (ValueWrite j) (value_offset x.setting.layout r.offset) (x.setting.layout.area - x.setting.layout.sector) i setting h wake bare says fits.1.1 (last_low (roomy x.setting setting))
+          (last_is x.setting.layout r.offset (roomy x.setting setting)) refl (λ m its. (r, fits.1.3.0, fits.1.3.1, fits.1.3.2, its)) of,
+    ))
 decision_allowed x text c (GetsValue s at) setting h wake bare says has fits =
     let r : ResourceArg = fits.1.0 in
     let w : Step = with_input (Line text) x in
     let j : ℕ = next_job x.setting (seen x) in
-    inr (subst (λ (z : Spot). MayCall w s z.path (ValueRead j) (value_offset x.setting.layout z.base) (ReadSectors 1)) (sym fits.1.2)
-    (has, λ i of. other_call x text c s r (ValueRead j) (value_offset x.setting.layout r.offset) (x.setting.layout.area - x.setting.layout.sector) i setting h wake bare says fits.1.1 (last_low (roomy x.setting setting))
-    (last_is x.setting.layout r.offset (roomy x.setting setting)) refl (λ m its. (r, fits.1.3.0, fits.1.3.1, its)) of))
+    inr (subst (λ (z : Spot). MayCall w s z.path (ValueRead j) (value_offset x.setting.layout z.base) (ReadSectors 1)) (sym fits.1.2) (
+      has,
+      λ i of. other_call x text c s r (ValueRead j) (value_offset x.setting.layout r.offset) (x.setting.layout.area - x.setting.layout.sector) i setting h wake bare says fits.1.1 (last_low (roomy x.setting setting))
+          (last_is x.setting.layout r.offset (roomy x.setting setting)) refl (λ m its. (r, fits.1.3.0, fits.1.3.1, its)) of,
+    ))

@@ -80,22 +80,22 @@ joining_plain y s (WriteRenewal d) k = refl
 joining_plain y s (WriteFree j d) k = absurd k
 joining_plain y s (EndLeaving j r) k = absurd k
 
-renewed_plain : (y : Step) (s : Session) (recovering : Bool) (made : ℕ) (answer : Answer) → DeltaAllowed Anything NoLook AnyMove y s (next_after_renewal recovering made answer)
+pub renewed_plain : (y : Step) (s : Session) (recovering : Bool) (made : ℕ) (answer : Answer) → DeltaAllowed Anything NoLook AnyMove y s (next_after_renewal recovering made answer)
 renewed_plain y s recovering made Written = on_bool (DeltaAllowed Anything NoLook AnyMove y s) recovering (MoveConnection made) Nothing (tt, refl) tt
 renewed_plain y s recovering made Failed = tt
 renewed_plain y s recovering made (Read bytes) = tt
 
-freed_plain : (y : Step) (s : Session) (j call : ℕ) (answer : Answer) → DeltaAllowed Anything NoLook AnyMove y s (next_after_free j call answer)
+pub freed_plain : (y : Step) (s : Session) (j call : ℕ) (answer : Answer) → DeltaAllowed Anything NoLook AnyMove y s (next_after_free j call answer)
 freed_plain y s j call Written = (tt, tt)
 freed_plain y s j call Failed = (tt, tt)
 freed_plain y s j call (Read bytes) = tt
 
-renewal_plain : (y : Step) (s : Session) (l : DeltaLease) (now : ℕ) (k : DeltaKnown) (bits : List ℕ) → DeltaAllowed Anything NoLook AnyMove y s (next_renewal l now k bits)
+pub renewal_plain : (y : Step) (s : Session) (l : DeltaLease) (now : ℕ) (k : DeltaKnown) (bits : List ℕ) → DeltaAllowed Anything NoLook AnyMove y s (next_renewal l now k bits)
 unfolding next_renewal
 renewal_plain y s l now k bits =
     on_bool (DeltaAllowed Anything NoLook AnyMove y s) (is_renewal_due l now k) Nothing (WriteRenewal (delta_record l Live k.generation (k.seq + 1) now bits)) tt refl
 
-free_plain : (y : Step) (s : Session) (l : DeltaLease) (now : ℕ) (k : DeltaKnown) → DeltaAllowed Anything NoLook AnyMove y s (next_free l now k)
+pub free_plain : (y : Step) (s : Session) (l : DeltaLease) (now : ℕ) (k : DeltaKnown) → DeltaAllowed Anything NoLook AnyMove y s (next_free l now k)
 free_plain y s l now k =
     on_option (DeltaAllowed Anything NoLook AnyMove y s) k.leaving Nothing (λ j. elim k.freed [ true ↦ Nothing | false ↦ WriteFree j (delta_record l Free k.generation (k.seq + 1) now no_bits) ]) tt
     (λ j. on_bool (DeltaAllowed Anything NoLook AnyMove y s) k.freed (WriteFree j (delta_record l Free k.generation (k.seq + 1) now no_bits)) Nothing refl tt)
@@ -139,7 +139,7 @@ lease_plain y s at work (GrantJob mode lver) = λ j c is reads. grant_plain j lv
 lease_plain y s at work (BecomeShared lver l) = ((λ j is. tt), refl)
 lease_plain y s at work (BecomeExclusive lver b) = ((λ j is. tt), λ g. refl)
 
-request_plain : (x : Step) (s : Session) (j : ℕ) (bytes : List ℕ) (c : Command) → RequestAllowed Anything NoLook x s j bytes c
+pub request_plain : (x : Step) (s : Session) (j : ℕ) (bytes : List ℕ) (c : Command) → RequestAllowed Anything NoLook x s j bytes c
 request_plain x s j bytes (Request r asked force) = ((λ why is. tt), refl)
 request_plain x s j bytes (AddLockspace a) = tt
 request_plain x s j bytes (RemLockspace a) = tt

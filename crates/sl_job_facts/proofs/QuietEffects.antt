@@ -3,7 +3,6 @@ use Rattle.sl_acts.specs.SoFar.{entry_of}
 use Rattle.sl_due.specs.Steps.{Step, add_move, add_reply, seen}
 use Rattle.sl_job_facts.proofs.NearlyPlainActs.{Nearly}
 use Rattle.sl_job_facts.proofs.SessionsStand.{leaving_joined, move_joined, no_members, recovery_joined, reply_joined, reply_leaving, running_before}
-use Rattle.sl_job_facts.specs.Promises.{HasQuietFacts}
 use Rattle.sl_leases.specs.Jobs.{is_command_that, jobs_of_session, lockspace_named}
 use Rattle.sl_parts_law.proofs.CallsGrow.{same_sessions}
 use Rattle.sl_plain.proofs.Lists.{contains_none, kept, kept_inside}
@@ -74,8 +73,8 @@ quiet_effects f =
       };
       rest = λ y h. h;
     } where
-  made : Step → Session → List ℕ → Purpose → ℕ → Op → Call
-  made y s path p o op = record { number = next_call y.setting (seen y); session = s.number; purpose = p; path = path; offset = o; op = op }
+      made : Step → Session → List ℕ → Purpose → ℕ → Op → Call
+      made y s path p o op = record { number = next_call y.setting (seen y); session = s.number; purpose = p; path = path; offset = o; op = op }
 
 -- ---- other inputs than lines
 

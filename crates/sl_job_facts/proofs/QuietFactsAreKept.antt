@@ -50,7 +50,7 @@ use Rattle.sl_words.specs.Words.{choose, some_is}
 use Rattle.std.proofs.Common.{ap, ap₂, inl, inr, refl, subst, sym, ◌∙◌}
 use Rattle.std.proofs.lemmas.Bool.{eqb-true}
 use Rattle.std.proofs.lemmas.Slice.Eq.{bytes_eq-Decides}
-use Rattle.std.specs.Prelude.{Bool, Contains, List, None, Ok, Option, Some, [], bytes_eq, false, filter, is_none, is_some, length, not, option_and_then, true, ℕ, ◌&&◌, ◌++◌, ◌+◌, ◌-◌, ◌==◌, ◌∷◌, ◌≡◌, ◌⊎◌}
+use Rattle.std.specs.Prelude.{Bool, Contains, List, None, Ok, Option, Some, [], bytes_eq, false, filter, is_none, is_some, length, not, option_and_then, true, ℕ, ◌&&◌, ◌++◌, ◌+◌, ◌==◌, ◌∷◌, ◌≡◌, ◌⊎◌}
 
 -- ---- a line that is carried out
 
@@ -66,10 +66,10 @@ quiet_lined x text c h wake bare says names no_leaving =
       recovering = λ s there is other. lined_recovering x text c s h wake says names (seen_before x text s bare there) is;
       leaving = λ s k i there joined leaves_one inside. lined_leaving x text c s k i h wake says names (seen_before x text s bare there) joined (old s k (new_leaving x text c s k says leaves_one)) inside;
     } where
-  old : (s : Session) (k : Job) → (leaving_job x.setting (by_input x Wake ∷ x.past) s ≡ Some k) ⊎ ((a : LockspaceArg) × (c ≡ RemLockspace a) × (is_session_arg s a ≡ true) × (k.number ≡ next_job x.setting x.past))
-      → leaving_job x.setting (by_input x Wake ∷ x.past) s ≡ Some k
-  old s k (inl was) = was
-  old s k (inr new) = absurd (true_is_false (sym (ap (λ d. leaves_lockspace d) new.1) ∙ no_leaving))
+      old : (s : Session) (k : Job) → (leaving_job x.setting (by_input x Wake ∷ x.past) s ≡ Some k) ⊎ ((a : LockspaceArg) × (c ≡ RemLockspace a) × (is_session_arg s a ≡ true) × (k.number ≡ next_job x.setting x.past))
+          → leaving_job x.setting (by_input x Wake ∷ x.past) s ≡ Some k
+      old s k (inl was) = was
+      old s k (inr new) = absurd (true_is_false (sym (ap (λ d. leaves_lockspace d) new.1) ∙ no_leaving))
 
 -- ---- a leaving: its session's other jobs are refused
 
@@ -195,16 +195,16 @@ quiet_left x text c s a h wake bare says leaves_one found active = quiet_at (sig
             no_members (jobs_of_session y.setting (seen y) z) (λ i inside. contains_none i (subst (λ ks. Contains ks i) none (job_at_stop w y z i k inside)));
         leaving = λ z j i there joined leaves_z inside. by_leaving z j i (seen_before x text z bare (subst (λ ss. Contains ss z) k.sessions there)) joined (k.leaving z j leaves_z) inside (new_leaving x text c z j says (k.leaving z j leaves_z));
       } where
-    by_leaving : (z : Session) (j i : Job) → Contains (sessions x.setting (seen x)) z → is_joined (seen y) z ≡ true → leaving_job x.setting (by_input x (Line text) ∷ x.past) z ≡ Some j → Contains (jobs_of_session y.setting (seen y) z) i
-        → (leaving_job x.setting (by_input x Wake ∷ x.past) z ≡ Some j) ⊎ ((b : LockspaceArg) × (c ≡ RemLockspace b) × (is_session_arg z b ≡ true) × (j.number ≡ next_job x.setting x.past)) → i.number ≡ j.number
-    by_leaving z j i there joined leaves_z inside (inl was) =
-        lined_leaving x text c z j i h wake says names there (k.joined z (leaving_joined x.setting (by_input x (Line text)) x.past z j leaves_z) joined) was (job_at_stop w y z i k inside)
-    by_leaving z j i there joined leaves_z inside (inr new) =
-        let now : is_joined (by_input x (Line text) ∷ x.past) z ≡ true = k.joined z (leaving_joined x.setting (by_input x (Line text)) x.past z j leaves_z) joined in
-        let same : a ≡ new.0 = some_value a new.0 (ap (λ d. left_by_command d) (sym leaves_one ∙ new.1)) in
-        let is : z ≡ s = one z there (subst (λ q. is_joined (by_input x q ∷ x.past) z ≡ true) (sym wake) now) (ap (λ (q : LockspaceArg). q.name) same ∙ arg_name z new.0 new.2) in
-        let number : next_job x.setting (seen x) ≡ i.number = some_value (next_job x.setting (seen x)) i.number (only i (subst (λ q. Contains (jobs_of_session y.setting (seen y) q) i) is inside)) in
-        sym number ∙ (next_before x wake ∙ sym new.3)
+        by_leaving : (z : Session) (j i : Job) → Contains (sessions x.setting (seen x)) z → is_joined (seen y) z ≡ true → leaving_job x.setting (by_input x (Line text) ∷ x.past) z ≡ Some j → Contains (jobs_of_session y.setting (seen y) z) i
+            → (leaving_job x.setting (by_input x Wake ∷ x.past) z ≡ Some j) ⊎ ((b : LockspaceArg) × (c ≡ RemLockspace b) × (is_session_arg z b ≡ true) × (j.number ≡ next_job x.setting x.past)) → i.number ≡ j.number
+        by_leaving z j i there joined leaves_z inside (inl was) =
+            lined_leaving x text c z j i h wake says names there (k.joined z (leaving_joined x.setting (by_input x (Line text)) x.past z j leaves_z) joined) was (job_at_stop w y z i k inside)
+        by_leaving z j i there joined leaves_z inside (inr new) =
+            let now : is_joined (by_input x (Line text) ∷ x.past) z ≡ true = k.joined z (leaving_joined x.setting (by_input x (Line text)) x.past z j leaves_z) joined in
+            let same : a ≡ new.0 = some_value a new.0 (ap (λ d. left_by_command d) (sym leaves_one ∙ new.1)) in
+            let is : z ≡ s = one z there (subst (λ q. is_joined (by_input x q ∷ x.past) z ≡ true) (sym wake) now) (ap (λ (q : LockspaceArg). q.name) same ∙ arg_name z new.0 new.2) in
+            let number : next_job x.setting (seen x) ≡ i.number = some_value (next_job x.setting (seen x)) i.number (only i (subst (λ q. Contains (jobs_of_session y.setting (seen y) q) i) is inside)) in
+            sym number ∙ (next_before x wake ∙ sym new.3)
 
 -- ---- a session begins
 
@@ -234,35 +234,35 @@ quiet_begun x text c n a h wake bare says adds next q =
       recovering = λ s there is other. recovering s is other (contains_either (sessions x.setting (seen w)) (new ∷ []) s (subst (λ ss. Contains ss s) grown there));
       leaving = λ s k j there joined leaves_s inside. leaving s k j joined leaves_s inside (contains_either (sessions x.setting (seen w)) (new ∷ []) s (subst (λ ss. Contains ss s) grown there));
     } where
-  w : Step
-  w = with_input (Line text) x
+      w : Step
+      w = with_input (Line text) x
 
-  new : Session
-  new = joining_session n (next_job x.setting (seen x)) a
+      new : Session
+      new = joining_session n (next_job x.setting (seen x)) a
 
-  made : Call
-  made = record { number = next_call x.setting (seen (with_input (Line text) x)); session = n; purpose = Joining (next_job x.setting (seen x)) FirstRead; path = a.path; offset = delta_offset x.setting.layout a.offset a.id; op = ReadSectors 1 }
+      made : Call
+      made = record { number = next_call x.setting (seen (with_input (Line text) x)); session = n; purpose = Joining (next_job x.setting (seen x)) FirstRead; path = a.path; offset = delta_offset x.setting.layout a.offset a.id; op = ReadSectors 1 }
 
-  y : Step
-  y = add_call_of n a.path (Joining (next_job x.setting (seen x)) FirstRead) (delta_offset x.setting.layout a.offset a.id) (ReadSectors 1) (with_input (Line text) x)
+      y : Step
+      y = add_call_of n a.path (Joining (next_job x.setting (seen x)) FirstRead) (delta_offset x.setting.layout a.offset a.id) (ReadSectors 1) (with_input (Line text) x)
 
-  grown : sessions x.setting (seen (add_call_of n a.path (Joining (next_job x.setting (seen x)) FirstRead) (delta_offset x.setting.layout a.offset a.id) (ReadSectors 1) (with_input (Line text) x)))
-      ≡ sessions x.setting (seen (with_input (Line text) x)) ++ joining_session n (next_job x.setting (seen x)) a ∷ []
-  grown = begun_sessions x text n a made wake bare (says ∙ ap (λ z. Ok z) adds) next refl
+      grown : sessions x.setting (seen (add_call_of n a.path (Joining (next_job x.setting (seen x)) FirstRead) (delta_offset x.setting.layout a.offset a.id) (ReadSectors 1) (with_input (Line text) x)))
+          ≡ sessions x.setting (seen (with_input (Line text) x)) ++ joining_session n (next_job x.setting (seen x)) a ∷ []
+      grown = begun_sessions x text n a made wake bare (says ∙ ap (λ z. Ok z) adds) next refl
 
-  recovering : (s : Session) → is_recovering x.setting (seen w) s ≡ true → (false && begins_by_read (seen y) (recovery_of x.setting (seen y) s)) ≡ false → Contains (sessions x.setting (seen w)) s ⊎ Contains (new ∷ []) s
-      → jobs_of_session x.setting (seen w) s ≡ []
-  recovering s is other (inl old) = q.recovering s old is other
-  recovering s is other (inr one) =
-      let same : new ≡ s = contains_only new s one in
-      let begun = some_there (recovery_of x.setting (seen w) s) (is_recovering_parts x.setting (seen w) s is).1 in
-      absurd (new_unjoined x n a h wake (subst (λ (z : Session). is_some (joined_after x.past z) ≡ true) (sym same) (recovery_joined x.setting (entry_of w) x.past s begun.0 begun.1)))
+      recovering : (s : Session) → is_recovering x.setting (seen w) s ≡ true → (false && begins_by_read (seen y) (recovery_of x.setting (seen y) s)) ≡ false → Contains (sessions x.setting (seen w)) s ⊎ Contains (new ∷ []) s
+          → jobs_of_session x.setting (seen w) s ≡ []
+      recovering s is other (inl old) = q.recovering s old is other
+      recovering s is other (inr one) =
+          let same : new ≡ s = contains_only new s one in
+          let begun = some_there (recovery_of x.setting (seen w) s) (is_recovering_parts x.setting (seen w) s is).1 in
+          absurd (new_unjoined x n a h wake (subst (λ (z : Session). is_some (joined_after x.past z) ≡ true) (sym same) (recovery_joined x.setting (entry_of w) x.past s begun.0 begun.1)))
 
-  leaving : (s : Session) (k j : Job) → is_joined (seen w) s ≡ true → leaving_job x.setting (seen w) s ≡ Some k → Contains (jobs_of_session x.setting (seen w) s) j → Contains (sessions x.setting (seen w)) s ⊎ Contains (new ∷ []) s → j.number ≡ k.number
-  leaving s k j joined leaves_s inside (inl old) = q.leaving s k j old joined leaves_s inside
-  leaving s k j joined leaves_s inside (inr one) =
-      let same : new ≡ s = contains_only new s one in
-      absurd (new_unjoined x n a h wake (subst (λ (z : Session). is_some (joined_after x.past z) ≡ true) (sym same) (leaving_joined x.setting (entry_of w) x.past s k leaves_s)))
+      leaving : (s : Session) (k j : Job) → is_joined (seen w) s ≡ true → leaving_job x.setting (seen w) s ≡ Some k → Contains (jobs_of_session x.setting (seen w) s) j → Contains (sessions x.setting (seen w)) s ⊎ Contains (new ∷ []) s → j.number ≡ k.number
+      leaving s k j joined leaves_s inside (inl old) = q.leaving s k j old joined leaves_s inside
+      leaving s k j joined leaves_s inside (inr one) =
+          let same : new ≡ s = contains_only new s one in
+          absurd (new_unjoined x n a h wake (subst (λ (z : Session). is_some (joined_after x.past z) ≡ true) (sym same) (leaving_joined x.setting (entry_of w) x.past s k leaves_s)))
 
 -- ---- all acts
 

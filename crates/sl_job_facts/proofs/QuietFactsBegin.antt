@@ -26,7 +26,7 @@ use Rattle.sl_words.proofs.CaseLaws.{false_is_true, none_some, some_value, true_
 use Rattle.sl_words.proofs.WordLaws.{and_true}
 use Rattle.std.proofs.Common.{ap, ap₂, arith, inl, inr, refl, subst, sym, ◌∙◌}
 use Rattle.std.proofs.lemmas.List.{append-nil}
-use Rattle.std.specs.Prelude.{Bool, Contains, List, None, Option, Some, [], false, is_none, is_some, length, nat_le, suc, true, unwrap_or, ℕ, ◌&&◌, ◌+◌, ◌-◌, ◌==◌, ◌∷◌, ◌≡◌, ◌⊎◌}
+use Rattle.std.specs.Prelude.{Bool, Contains, List, None, Option, Some, [], false, is_none, is_some, length, nat_le, suc, true, unwrap_or, ℕ, ◌&&◌, ◌+◌, ◌==◌, ◌∷◌, ◌≡◌, ◌⊎◌}
 
 plus_one : (n : ℕ) → n + 1 ≡ suc n
 plus_one n = omega arith
@@ -118,43 +118,43 @@ unfolding begin_recoveries
 quiet_facts_begin st past e follows w =
     quiet_at (for_each (present_sessions st (seen x)) begin_recovery x) (all_stopping x x (present_sessions st (seen x)) (stopping_itself x))
     (λ s i there begins inside. each_stopped x (present_sessions st (seen x)) x s i (stopping_itself x) there begins inside)
-    where
-  x : Step
-  x = begin_step st past e.reading
+  where
+    x : Step
+    x = begin_step st past e.reading
 
-  quiet_at : (y : Step) → Stopping (begin_step st past e.reading) y
-      → ((s : Session) (i : Job) → Contains (present_sessions st (seen (begin_step st past e.reading))) s → begins_now (seen (begin_step st past e.reading)) (recovery_of st (seen (begin_step st past e.reading)) s) ≡ true → Contains (jobs_of_session y.setting (seen y) s) i → ⊥)
-      → HasQuietFacts y
-  quiet_at y k stops =
-      record {
-        recovering = λ s there is other. no_members (jobs_of_session y.setting (seen y) s) (λ i inside. recovering s i (subst (λ ss. Contains ss s) k.sessions there) is inside);
-        leaving = λ s j i there joined leaves_s inside.
-            let before : leaving_job st (seen x) s ≡ Some j = k.leaving s j leaves_s in
-            let was : is_some (joined_after past s) ≡ true = leaving_joined st (entry_of x) past s j before in
-            w.facts.quiet.leaving s j i (subst (λ ss. Contains ss s) (sessions_then st past e.reading) (subst (λ ss. Contains ss s) k.sessions there)) (joined_wake st past e.reading s was (k.joined s was joined)) (leaving_wake st past e.reading s j before) (job_wake st past e.reading s i (job_at_stop x y s i k inside));
-      } where
-    recovering : (s : Session) (i : Job) → Contains (sessions st (seen x)) s → is_recovering y.setting (seen y) s ≡ true → Contains (jobs_of_session y.setting (seen y) s) i → ⊥
-    recovering s i there is inside = by (recovery_of st past s) refl where
-      both : (is_joined (seen y) s ≡ true) × (is_some (recovery_of y.setting (seen y) s) ≡ true)
-      both = is_recovering_parts y.setting (seen y) s is
+    quiet_at : (y : Step) → Stopping (begin_step st past e.reading) y
+        → ((s : Session) (i : Job) → Contains (present_sessions st (seen (begin_step st past e.reading))) s → begins_now (seen (begin_step st past e.reading)) (recovery_of st (seen (begin_step st past e.reading)) s) ≡ true → Contains (jobs_of_session y.setting (seen y) s) i → ⊥)
+        → HasQuietFacts y
+    quiet_at y k stops =
+        record {
+          recovering = λ s there is other. no_members (jobs_of_session y.setting (seen y) s) (λ i inside. recovering s i (subst (λ ss. Contains ss s) k.sessions there) is inside);
+          leaving = λ s j i there joined leaves_s inside.
+              let before : leaving_job st (seen x) s ≡ Some j = k.leaving s j leaves_s in
+              let was : is_some (joined_after past s) ≡ true = leaving_joined st (entry_of x) past s j before in
+              w.facts.quiet.leaving s j i (subst (λ ss. Contains ss s) (sessions_then st past e.reading) (subst (λ ss. Contains ss s) k.sessions there)) (joined_wake st past e.reading s was (k.joined s was joined)) (leaving_wake st past e.reading s j before) (job_wake st past e.reading s i (job_at_stop x y s i k inside));
+        } where
+          recovering : (s : Session) (i : Job) → Contains (sessions st (seen x)) s → is_recovering y.setting (seen y) s ≡ true → Contains (jobs_of_session y.setting (seen y) s) i → ⊥
+          recovering s i there is inside = by (recovery_of st past s) refl where
+            both : (is_joined (seen y) s ≡ true) × (is_some (recovery_of y.setting (seen y) s) ≡ true)
+            both = is_recovering_parts y.setting (seen y) s is
 
-      begun : (b : Begun) × (recovery_of st (seen x) s ≡ Some b)
-      begun = some_there (recovery_of st (seen x) s) (ap (λ o. is_some o) (sym (k.recovery s)) ∙ (is_recovering_parts y.setting (seen y) s is).1)
+            begun : (b : Begun) × (recovery_of st (seen x) s ≡ Some b)
+            begun = some_there (recovery_of st (seen x) s) (ap (λ o. is_some o) (sym (k.recovery s)) ∙ (is_recovering_parts y.setting (seen y) s is).1)
 
-      was : is_some (joined_after past s) ≡ true
-      was = recovery_joined st (entry_of x) past s begun.0 begun.1
+            was : is_some (joined_after past s) ≡ true
+            was = recovery_joined st (entry_of x) past s begun.0 begun.1
 
-      joined : is_joined (seen x) s ≡ true
-      joined = k.joined s was both.0
+            joined : is_joined (seen x) s ≡ true
+            joined = k.joined s was both.0
 
-      by : (o : Option Begun) → recovery_of st past s ≡ o → ⊥
-      by (Some b) before =
-          let recovers_before : is_recovering st past s ≡ true = ap₂ (λ p q. p && is_some q) (joined_wake st past e.reading s was joined) before in
-          let none : jobs_of_session st past s ≡ [] = w.facts.quiet.recovering s (subst (λ ss. Contains ss s) (sessions_then st past e.reading) there) recovers_before refl in
-          contains_none i (subst (λ ks. Contains ks i) none (job_wake st past e.reading s i (job_at_stop x y s i k inside)))
-      by None before =
-          let at : begun.0.at ≡ length past = recovery_started st past e.reading s begun.0 before begun.1 in
-          let begins : begins_now (seen x) (recovery_of st (seen x) s) ≡ true =
-          ap (λ o. begins_now (seen x) o) begun.1 ∙ (ap (λ n. n + 1 == suc (length past)) at ∙ ap (λ n. n == suc (length past)) (plus_one (length past)) ∙ number_itself (suc (length past)))
-          in
-          stops s i (present_inside st (seen x) s there (joined_present (seen x) s joined)) begins inside
+            by : (o : Option Begun) → recovery_of st past s ≡ o → ⊥
+            by (Some b) before =
+                let recovers_before : is_recovering st past s ≡ true = ap₂ (λ p q. p && is_some q) (joined_wake st past e.reading s was joined) before in
+                let none : jobs_of_session st past s ≡ [] = w.facts.quiet.recovering s (subst (λ ss. Contains ss s) (sessions_then st past e.reading) there) recovers_before refl in
+                contains_none i (subst (λ ks. Contains ks i) none (job_wake st past e.reading s i (job_at_stop x y s i k inside)))
+            by None before =
+                let at : begun.0.at ≡ length past = recovery_started st past e.reading s begun.0 before begun.1 in
+                let begins : begins_now (seen x) (recovery_of st (seen x) s) ≡ true =
+                ap (λ o. begins_now (seen x) o) begun.1 ∙ (ap (λ n. n + 1 == suc (length past)) at ∙ ap (λ n. n == suc (length past)) (plus_one (length past)) ∙ number_itself (suc (length past)))
+                in
+                stops s i (present_inside st (seen x) s there (joined_present (seen x) s joined)) begins inside

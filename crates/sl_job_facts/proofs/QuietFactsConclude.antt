@@ -32,7 +32,7 @@ use Rattle.sl_words.proofs.WordLaws.{and_true, some_is_true}
 use Rattle.sl_words.specs.Words.{choose, some_is}
 use Rattle.std.proofs.Common.{ap, ap₂, arith, inl, inr, refl, subst, sym, ◌∙◌}
 use Rattle.std.proofs.lemmas.Bool.{eqb-true}
-use Rattle.std.specs.Prelude.{Bool, Contains, List, None, Option, Some, [], false, is_some, length, nat_le, suc, true, unwrap_or, ℕ, ◌&&◌, ◌+◌, ◌-◌, ◌<◌, ◌==◌, ◌∷◌, ◌≡◌, ◌⊎◌}
+use Rattle.std.specs.Prelude.{Bool, Contains, List, None, Option, Some, [], false, is_some, length, nat_le, suc, true, unwrap_or, ℕ, ◌&&◌, ◌+◌, ◌<◌, ◌==◌, ◌∷◌, ◌≡◌, ◌⊎◌}
 
 -- ---- recovery by a read is that of the survey's session
 
@@ -78,7 +78,7 @@ kills_before st (e ∷ es) s b is = low (begun_where st es s (renewing st es s) 
   low (inr (inr read_one)) more = let is_one : b.kills_from ≡ length es + 1 = read_one.0 in omega (arith, is_one)
 
 -- The call whose read began the recovery.
-record ReadBy (x : Step) (z : Session) (n : ℕ) (answer : Answer) : Type 0 where
+pub record ReadBy (x : Step) (z : Session) (n : ℕ) (answer : Answer) : Type 0 where
   pub call : Submitted
   pub there : Contains (submitted (seen x)) call
   pub number : call.call.number ≡ n
@@ -117,65 +117,65 @@ shown_by x z n (Read bytes) told shows = by (call_numbered x.past n) refl shows 
   by None found h = absurd (false_is_true h)
   by (Some m) found h = chosen m found (is_call_of z m && is_survey_purpose m.call.purpose) refl h
 
-read_by : (x : Step) (z : Session) (n : ℕ) (answer : Answer) → x.input ≡ Told n answer → begins_by_read (seen x) (recovery_of x.setting (seen x) z) ≡ true → ReadBy x z n answer
+pub read_by : (x : Step) (z : Session) (n : ℕ) (answer : Answer) → x.input ≡ Told n answer → begins_by_read (seen x) (recovery_of x.setting (seen x) z) ≡ true → ReadBy x z n answer
 read_by x z n answer told begins =
     let begun = some_is_true (λ (b : Begun). b.kills_from == length (seen x)) (recovery_of x.setting (seen x) z) begins in
     let kills : begun.0.kills_from ≡ length (seen x) = eqb-true begun.0.kills_from (length (seen x)) begun.2 in
     by begun.0 kills (begun_where x.setting x.past z (renewing x.setting x.past z) (entry_of x) begun.0 begun.1) where
-  by : (b : Begun) → b.kills_from ≡ suc (length x.past)
-      → ((renewing x.setting x.past z).recovery ≡ Some b) ⊎ ((b.kills_from ≡ length x.past) ⊎ ((b.kills_from ≡ length x.past + 1) × (shows_other x.setting x.past z x.input ≡ true))) → ReadBy x z n answer
-  by b kills (inl was) = let less : b.kills_from < length x.past + 1 = kills_before x.setting x.past z b was in absurd (omega (arith, less, kills))
-  by b kills (inr (inl time)) = absurd (omega (arith, time, kills))
-  by b kills (inr (inr read_one)) = shown_by x z n answer told (subst (λ i. shows_other x.setting x.past z i ≡ true) told read_one.1)
+      by : (b : Begun) → b.kills_from ≡ suc (length x.past)
+          → ((renewing x.setting x.past z).recovery ≡ Some b) ⊎ ((b.kills_from ≡ length x.past) ⊎ ((b.kills_from ≡ length x.past + 1) × (shows_other x.setting x.past z x.input ≡ true))) → ReadBy x z n answer
+      by b kills (inl was) = let less : b.kills_from < length x.past + 1 = kills_before x.setting x.past z b was in absurd (omega (arith, less, kills))
+      by b kills (inr (inl time)) = absurd (omega (arith, time, kills))
+      by b kills (inr (inr read_one)) = shown_by x z n answer told (subst (λ i. shows_other x.setting x.past z i ≡ true) told read_one.1)
 
 -- ---- plain where no recovery of a joined session begins by the read
 
-plain_at : (x : Step) (n : ℕ) (answer : Answer) → Whole x → x.input ≡ Told n answer → ((z : Session) → Contains (sessions x.setting (seen x)) z → is_joined (seen x) z ≡ true → ReadBy x z n answer → ⊥) → IsQuiet x
+pub plain_at : (x : Step) (n : ℕ) (answer : Answer) → Whole x → x.input ≡ Told n answer → ((z : Session) → Contains (sessions x.setting (seen x)) z → is_joined (seen x) z ≡ true → ReadBy x z n answer → ⊥) → IsQuiet x
 plain_at x n answer h told none =
     record {
       recovering = λ s there is other. h.facts.quiet.recovering s there is (never s there (is_recovering_parts x.setting (seen x) s is).0);
       leaving = h.facts.quiet.leaving;
     } where
-  never : (s : Session) → Contains (sessions x.setting (seen x)) s → is_joined (seen x) s ≡ true → (is_some (heard_by x.input) && begins_by_read (seen x) (recovery_of x.setting (seen x) s)) ≡ false
-  never s there joined = by (begins_by_read (seen x) (recovery_of x.setting (seen x) s)) refl where
-    by : (b : Bool) → begins_by_read (seen x) (recovery_of x.setting (seen x) s) ≡ b → (is_some (heard_by x.input) && b) ≡ false
-    by true begins = absurd (none s there joined (read_by x s n answer told begins))
-    by false begins = nothing (is_some (heard_by x.input)) where
-      nothing : (c : Bool) → (c && false) ≡ false
-      nothing true = refl
-      nothing false = refl
+      never : (s : Session) → Contains (sessions x.setting (seen x)) s → is_joined (seen x) s ≡ true → (is_some (heard_by x.input) && begins_by_read (seen x) (recovery_of x.setting (seen x) s)) ≡ false
+      never s there joined = by (begins_by_read (seen x) (recovery_of x.setting (seen x) s)) refl where
+        by : (b : Bool) → begins_by_read (seen x) (recovery_of x.setting (seen x) s) ≡ b → (is_some (heard_by x.input) && b) ≡ false
+        by true begins = absurd (none s there joined (read_by x s n answer told begins))
+        by false begins = nothing (is_some (heard_by x.input)) where
+          nothing : (c : Bool) → (c && false) ≡ false
+          nothing true = refl
+          nothing false = refl
 
 -- A heard call that is no survey.
-plain_heard : (x : Step) (s : Session) (m : Submitted) (answer : Answer) → Whole x → Hears x s m answer → is_survey_purpose m.call.purpose ≡ false → IsQuiet x
+pub plain_heard : (x : Step) (s : Session) (m : Submitted) (answer : Answer) → Whole x → Hears x s m answer → is_survey_purpose m.call.purpose ≡ false → IsQuiet x
 plain_heard x s m answer h hears other =
     plain_at x hears.number answer h hears.heard (λ z there joined r.
     let one : r.call ≡ m = one_value r.call m (call_numbered (seen x) hears.number) (subst (λ n. call_numbered (seen x) n ≡ Some r.call) r.number (h.facts.calls.found r.call r.there)) hears.call in
     not_both (is_survey_purpose m.call.purpose) (subst (λ (c : Submitted). is_survey_purpose c.call.purpose ≡ true) one r.survey) other)
 
 -- The survey of a session that is not joined, or whose recovery did not begin by it.
-plain_survey : (x : Step) (s : Session) (m : Submitted) (answer : Answer) (n : ℕ) → Whole x → x.input ≡ Told n answer → call_numbered (seen x) n ≡ Some m → session_numbered x.setting (seen x) m.call.session ≡ Some s
+pub plain_survey : (x : Step) (s : Session) (m : Submitted) (answer : Answer) (n : ℕ) → Whole x → x.input ≡ Told n answer → call_numbered (seen x) n ≡ Some m → session_numbered x.setting (seen x) m.call.session ≡ Some s
     → (is_joined (seen x) s ≡ true → is_some (bytes_given answer) ≡ true → begins_by_read (seen x) (recovery_of x.setting (seen x) s) ≡ true → ⊥) → IsQuiet x
 plain_survey x s m answer n h told found session none =
     record {
       recovering = λ z there is other. h.facts.quiet.recovering z there is (never z there (is_recovering_parts x.setting (seen x) z is).0);
       leaving = h.facts.quiet.leaving;
     } where
-  never : (z : Session) → Contains (sessions x.setting (seen x)) z → is_joined (seen x) z ≡ true → (is_some (heard_by x.input) && begins_by_read (seen x) (recovery_of x.setting (seen x) z)) ≡ false
-  never z there joined = by (begins_by_read (seen x) (recovery_of x.setting (seen x) z)) refl where
-    by : (b : Bool) → begins_by_read (seen x) (recovery_of x.setting (seen x) z) ≡ b → (is_some (heard_by x.input) && b) ≡ false
-    by true begins =
-        let r : ReadBy x z n answer = read_by x z n answer told begins in
-        let one : r.call ≡ m = one_value r.call m (call_numbered (seen x) n) (subst (λ k. call_numbered (seen x) k ≡ Some r.call) r.number (h.facts.calls.found r.call r.there)) found in
-        let its : m.call.session ≡ z.number = ap (λ (c : Submitted). c.call.session) (sym one) ∙ r.session in
-        let same : z ≡ s = one_value z s (session_numbered x.setting (seen x) m.call.session) (ap (λ k. session_numbered x.setting (seen x) k) its ∙ session_has x.setting (seen x) z there) session in
-        absurd (none (subst (λ (q : Session). is_joined (seen x) q ≡ true) same joined) r.bytes (subst (λ (q : Session). begins_by_read (seen x) (recovery_of x.setting (seen x) q) ≡ true) same begins))
-    by false begins = nothing (is_some (heard_by x.input)) where
-      nothing : (c : Bool) → (c && false) ≡ false
-      nothing true = refl
-      nothing false = refl
+      never : (z : Session) → Contains (sessions x.setting (seen x)) z → is_joined (seen x) z ≡ true → (is_some (heard_by x.input) && begins_by_read (seen x) (recovery_of x.setting (seen x) z)) ≡ false
+      never z there joined = by (begins_by_read (seen x) (recovery_of x.setting (seen x) z)) refl where
+        by : (b : Bool) → begins_by_read (seen x) (recovery_of x.setting (seen x) z) ≡ b → (is_some (heard_by x.input) && b) ≡ false
+        by true begins =
+            let r : ReadBy x z n answer = read_by x z n answer told begins in
+            let one : r.call ≡ m = one_value r.call m (call_numbered (seen x) n) (subst (λ k. call_numbered (seen x) k ≡ Some r.call) r.number (h.facts.calls.found r.call r.there)) found in
+            let its : m.call.session ≡ z.number = ap (λ (c : Submitted). c.call.session) (sym one) ∙ r.session in
+            let same : z ≡ s = one_value z s (session_numbered x.setting (seen x) m.call.session) (ap (λ k. session_numbered x.setting (seen x) k) its ∙ session_has x.setting (seen x) z there) session in
+            absurd (none (subst (λ (q : Session). is_joined (seen x) q ≡ true) same joined) r.bytes (subst (λ (q : Session). begins_by_read (seen x) (recovery_of x.setting (seen x) q) ≡ true) same begins))
+        by false begins = nothing (is_some (heard_by x.input)) where
+          nothing : (c : Bool) → (c && false) ≡ false
+          nothing true = refl
+          nothing false = refl
 
 -- Recovery that began by the read: its jobs are refused.
-shown_quiet : (x : Step) (s : Session) (m : Submitted) (bytes : List ℕ) → Whole x → Hears x s m (Read bytes) → IsQuiet (signal_and_refuse s None x)
+pub shown_quiet : (x : Step) (s : Session) (m : Submitted) (bytes : List ℕ) → Whole x → Hears x s m (Read bytes) → IsQuiet (signal_and_refuse s None x)
 shown_quiet x s m bytes h hears = at_end (signal_and_refuse s None x) (stop_stopping x s None) (stop_leaves x s None) where
   at_end : (y : Step) → Stopping x y → ((i : Job) → Contains (jobs_of_session y.setting (seen y) s) i → None ≡ Some i.number) → IsQuiet y
   at_end y k only =
@@ -185,30 +185,30 @@ shown_quiet x s m bytes h hears = at_end (signal_and_refuse s None x) (stop_stop
             let before : leaving_job x.setting (seen x) z ≡ Some j = k.leaving z j leaves_z in
             h.facts.quiet.leaving z j i (subst (λ ss. Contains ss z) k.sessions there) (k.joined z (leaving_joined x.setting (entry_of x) x.past z j before) joined) before (job_at_stop x y z i k inside);
       } where
-    recovering : (z : Session) (i : Job) → Contains (sessions x.setting (seen x)) z → is_recovering y.setting (seen y) z ≡ true → Contains (jobs_of_session y.setting (seen y) z) i → ⊥
-    recovering z i there is inside = by (begins_by_read (seen x) (recovery_of x.setting (seen x) z)) refl where
-      both : (is_joined (seen y) z ≡ true) × (is_some (recovery_of y.setting (seen y) z) ≡ true)
-      both = is_recovering_parts y.setting (seen y) z is
+        recovering : (z : Session) (i : Job) → Contains (sessions x.setting (seen x)) z → is_recovering y.setting (seen y) z ≡ true → Contains (jobs_of_session y.setting (seen y) z) i → ⊥
+        recovering z i there is inside = by (begins_by_read (seen x) (recovery_of x.setting (seen x) z)) refl where
+          both : (is_joined (seen y) z ≡ true) × (is_some (recovery_of y.setting (seen y) z) ≡ true)
+          both = is_recovering_parts y.setting (seen y) z is
 
-      begun : (b : Begun) × (recovery_of x.setting (seen x) z ≡ Some b)
-      begun = some_there (recovery_of x.setting (seen x) z) (ap (λ o. is_some o) (sym (k.recovery z)) ∙ (is_recovering_parts y.setting (seen y) z is).1)
+          begun : (b : Begun) × (recovery_of x.setting (seen x) z ≡ Some b)
+          begun = some_there (recovery_of x.setting (seen x) z) (ap (λ o. is_some o) (sym (k.recovery z)) ∙ (is_recovering_parts y.setting (seen y) z is).1)
 
-      joined : is_joined (seen x) z ≡ true
-      joined = k.joined z (recovery_joined x.setting (entry_of x) x.past z begun.0 begun.1) both.0
+          joined : is_joined (seen x) z ≡ true
+          joined = k.joined z (recovery_joined x.setting (entry_of x) x.past z begun.0 begun.1) both.0
 
-      nothing : (c : Bool) → (c && false) ≡ false
-      nothing true = refl
-      nothing false = refl
+          nothing : (c : Bool) → (c && false) ≡ false
+          nothing true = refl
+          nothing false = refl
 
-      by : (b : Bool) → begins_by_read (seen x) (recovery_of x.setting (seen x) z) ≡ b → ⊥
-      by false begins =
-          let none : jobs_of_session x.setting (seen x) z ≡ [] =
-          h.facts.quiet.recovering z there (ap₂ (λ p q. p && is_some q) joined begun.1) (ap (λ b. is_some (heard_by x.input) && b) begins ∙ nothing (is_some (heard_by x.input)))
-          in
-          contains_none i (subst (λ ks. Contains ks i) none (job_at_stop x y z i k inside))
-      by true begins =
-          let r : ReadBy x z hears.number (Read bytes) = read_by x z hears.number (Read bytes) hears.heard begins in
-          let one : r.call ≡ m = one_value r.call m (call_numbered (seen x) hears.number) (subst (λ n. call_numbered (seen x) n ≡ Some r.call) r.number (h.facts.calls.found r.call r.there)) hears.call in
-          let its : m.call.session ≡ z.number = ap (λ (c : Submitted). c.call.session) (sym one) ∙ r.session in
-          let same : z ≡ s = one_value z s (session_numbered x.setting (seen x) m.call.session) (ap (λ n. session_numbered x.setting (seen x) n) its ∙ session_has x.setting (seen x) z there) hears.session in
-          none_some i.number (only i (subst (λ (q : Session). Contains (jobs_of_session y.setting (seen y) q) i) same inside))
+          by : (b : Bool) → begins_by_read (seen x) (recovery_of x.setting (seen x) z) ≡ b → ⊥
+          by false begins =
+              let none : jobs_of_session x.setting (seen x) z ≡ [] =
+              h.facts.quiet.recovering z there (ap₂ (λ p q. p && is_some q) joined begun.1) (ap (λ b. is_some (heard_by x.input) && b) begins ∙ nothing (is_some (heard_by x.input)))
+              in
+              contains_none i (subst (λ ks. Contains ks i) none (job_at_stop x y z i k inside))
+          by true begins =
+              let r : ReadBy x z hears.number (Read bytes) = read_by x z hears.number (Read bytes) hears.heard begins in
+              let one : r.call ≡ m = one_value r.call m (call_numbered (seen x) hears.number) (subst (λ n. call_numbered (seen x) n ≡ Some r.call) r.number (h.facts.calls.found r.call r.there)) hears.call in
+              let its : m.call.session ≡ z.number = ap (λ (c : Submitted). c.call.session) (sym one) ∙ r.session in
+              let same : z ≡ s = one_value z s (session_numbered x.setting (seen x) m.call.session) (ap (λ n. session_numbered x.setting (seen x) n) its ∙ session_has x.setting (seen x) z there) hears.session in
+              none_some i.number (only i (subst (λ (q : Session). Contains (jobs_of_session y.setting (seen y) q) i) same inside))

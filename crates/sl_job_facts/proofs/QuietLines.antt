@@ -44,7 +44,7 @@ use Rattle.std.proofs.Common.{ap, ap₂, arith, inl, inr, refl, subst, sym, ◌�
 use Rattle.std.proofs.lemmas.List.{append-nil}
 use Rattle.std.proofs.lemmas.Slice.Eq.{bytes_eq-Decides}
 use Rattle.std.specs.List.{list_any}
-use Rattle.std.specs.Prelude.{Contains, List, None, Ok, Option, Result, Some, [], bytes_eq, false, is_none, is_some, length, suc, true, ℕ, ◌&&◌, ◌++◌, ◌+◌, ◌-◌, ◌==◌, ◌∷◌, ◌≡◌, ◌⊎◌}
+use Rattle.std.specs.Prelude.{Contains, List, None, Ok, Option, Result, Some, [], bytes_eq, false, is_none, is_some, length, suc, true, ℕ, ◌&&◌, ◌++◌, ◌+◌, ◌==◌, ◌∷◌, ◌≡◌, ◌⊎◌}
 use Rattle.std.specs.Result.{result_ok}
 
 pub quiet_wake : (x : Step) → x.input ≡ Wake → HasQuietFacts x → QuietFacts x.setting (by_input x Wake ∷ x.past) None
@@ -149,20 +149,20 @@ quiet_answered x text r wake bare h =
           let before : leaving_job x.setting (by_input x Wake ∷ x.past) s ≡ Some k = answered_leaving x text j r s k (next_before x wake) leaves_one in
           q.leaving s k i (old s there) (sym (reply_joined w j r s (leaving_joined x.setting (by_input x Wake) x.past s k before)) ∙ joined) before (answered_jobs x text j r s i (next_before x wake) inside);
     } where
-  j : ℕ
-  j = next_job x.setting (seen x)
+      j : ℕ
+      j = next_job x.setting (seen x)
 
-  w : Step
-  w = with_input (Line text) x
+      w : Step
+      w = with_input (Line text) x
 
-  y : Step
-  y = add_reply (next_job x.setting (seen x)) r (with_input (Line text) x)
+      y : Step
+      y = add_reply (next_job x.setting (seen x)) r (with_input (Line text) x)
 
-  q : QuietFacts x.setting (by_input x Wake ∷ x.past) None
-  q = quiet_wake x wake h
+      q : QuietFacts x.setting (by_input x Wake ∷ x.past) None
+      q = quiet_wake x wake h
 
-  old : (s : Session) → Contains (sessions x.setting (by_input x (Line text) ∷ x.past)) s → Contains (sessions x.setting (by_input x Wake ∷ x.past)) s
-  old s there = subst (λ ss. Contains ss s) (sessions_bare (with_input (Line text) x) bare ∙ sym (sessions_bare (with_input Wake x) bare)) there
+      old : (s : Session) → Contains (sessions x.setting (by_input x (Line text) ∷ x.past)) s → Contains (sessions x.setting (by_input x Wake ∷ x.past)) s
+      old s there = subst (λ ss. Contains ss s) (sessions_bare (with_input (Line text) x) bare ∙ sym (sessions_bare (with_input Wake x) bare)) there
 
 -- ---- a line that is carried out
 
@@ -235,17 +235,17 @@ pub lined_recovering : (x : Step) (text : List ℕ) (c : Command) (s : Session) 
     → is_recovering x.setting (by_input x Wake ∷ x.past) s ≡ true → jobs_of_session x.setting (by_input x (Line text) ∷ x.past) s ≡ []
 lined_recovering x text c s h wake says names there is =
     no_members (jobs_of_session x.setting (by_input x (Line text) ∷ x.past) s) (λ k inside. by k (old_or_line x text s k inside)) where
-  both : (is_joined (by_input x Wake ∷ x.past) s ≡ true) × (is_some (recovery_of x.setting (by_input x Wake ∷ x.past) s) ≡ true)
-  both = is_recovering_parts x.setting (by_input x Wake ∷ x.past) s is
+      both : (is_joined (by_input x Wake ∷ x.past) s ≡ true) × (is_some (recovery_of x.setting (by_input x Wake ∷ x.past) s) ≡ true)
+      both = is_recovering_parts x.setting (by_input x Wake ∷ x.past) s is
 
-  by : (k : Job) → Contains (jobs_of_session x.setting (by_input x Wake ∷ x.past) s) k ⊎ IsNewJob x text s k → ⊥
-  by k (inl old) =
-      contains_none k (subst (λ ks. Contains ks k) ((quiet_wake x wake h.facts.quiet).recovering s (subst (λ i. Contains (sessions x.setting (by_input x i ∷ x.past)) s) wake there) is refl) old)
-  by k (inr new) =
-      let command : new.command ≡ c = ok_value (x.setting.read text) new.command c new.reads says in
-      let active : is_active x.setting (seen x) s ≡ true = named_active x c s h names there (subst (λ i. is_joined (by_input x i ∷ x.past) s ≡ true) (sym wake) both.0) (subst (λ d. names_it s d ≡ true) command new.names) in
-      let none : recovery_of x.setting (by_input x Wake ∷ x.past) s ≡ None = subst (λ i. recovery_of x.setting (by_input x i ∷ x.past) s ≡ None) wake (active_parts x.setting (seen x) s active).0 in
-      false_is_true (sym (ap (λ o. is_some o) none) ∙ both.1)
+      by : (k : Job) → Contains (jobs_of_session x.setting (by_input x Wake ∷ x.past) s) k ⊎ IsNewJob x text s k → ⊥
+      by k (inl old) =
+          contains_none k (subst (λ ks. Contains ks k) ((quiet_wake x wake h.facts.quiet).recovering s (subst (λ i. Contains (sessions x.setting (by_input x i ∷ x.past)) s) wake there) is refl) old)
+      by k (inr new) =
+          let command : new.command ≡ c = ok_value (x.setting.read text) new.command c new.reads says in
+          let active : is_active x.setting (seen x) s ≡ true = named_active x c s h names there (subst (λ i. is_joined (by_input x i ∷ x.past) s ≡ true) (sym wake) both.0) (subst (λ d. names_it s d ≡ true) command new.names) in
+          let none : recovery_of x.setting (by_input x Wake ∷ x.past) s ≡ None = subst (λ i. recovery_of x.setting (by_input x i ∷ x.past) s ≡ None) wake (active_parts x.setting (seen x) s active).0 in
+          false_is_true (sym (ap (λ o. is_some o) none) ∙ both.1)
 
 pub lined_leaving : (x : Step) (text : List ℕ) (c : Command) (s : Session) (k i : Job) → Whole x → x.input ≡ Wake → x.setting.read text ≡ Ok c → NamesActive x.setting (seen x) c → Contains (sessions x.setting (seen x)) s
     → is_joined (by_input x Wake ∷ x.past) s ≡ true → leaving_job x.setting (by_input x Wake ∷ x.past) s ≡ Some k → Contains (jobs_of_session x.setting (by_input x (Line text) ∷ x.past) s) i → i.number ≡ k.number

@@ -25,11 +25,11 @@ use Rattle.sl_sector.specs.declared.sector.DeltaRec.{DeltaRec}
 use Rattle.sl_sector.specs.declared.sector.DeltaState.TheVariants.{Claimed, Live}
 use Rattle.sl_sector.specs.declared.sector.Owner.{Owner}
 use Rattle.sl_sector.specs.declared.sector.Rec.TheVariants.{DeltaIs}
-use Rattle.sl_sessions.specs.Deltas.{DeltaLease, claim_of, claim_on, delta_record, id_held, id_lost, is_watched_out, join_step_of, next_after_claim, next_after_deciding, next_after_first, next_after_free, next_after_join_read, next_after_join_write, next_after_renewal, next_after_verify, next_after_watch, next_by_time, next_in_joining, next_in_watch, next_on_wake, watched, where_watched}
+use Rattle.sl_sessions.specs.Deltas.{DeltaLease, claim_of, claim_on, delta_record, id_held, id_lost, is_watched_out, join_step_of, next_after_claim, next_after_deciding, next_after_first, next_after_join_read, next_after_join_write, next_after_verify, next_after_watch, next_by_time, next_in_joining, next_in_watch, next_on_wake, watched, where_watched}
 use Rattle.sl_sessions.specs.Sessions.{is_join_call}
 use Rattle.sl_sessions.specs.Watching.{is_free_state}
 use Rattle.sl_sessions.specs.declared.delta.DeltaNext.{DeltaNext}
-use Rattle.sl_sessions.specs.declared.delta.DeltaNext.TheVariants.{EndLeaving, MoveConnection, Nothing, ReadOwn, RefuseJoin, RegisterAndRead, WriteClaim, WriteFirst, WriteFree}
+use Rattle.sl_sessions.specs.declared.delta.DeltaNext.TheVariants.{EndLeaving, Nothing, ReadOwn, RefuseJoin, RegisterAndRead, WriteClaim, WriteFirst, WriteFree}
 use Rattle.sl_time.specs.Times.{dead, join_max, renew}
 use Rattle.sl_trace.specs.Traces.{Submitted, is_before_input}
 use Rattle.sl_trace.specs.declared.command.ResourceArg.{ResourceArg}
@@ -315,9 +315,9 @@ request_late g lockspace r asked force bytes why is =
     (on_option (λ (o : Option Reply). o ≡ Some why → is_before_input why ≡ false) (request_in (read_at g bytes 1)) (choose (not (asked == 0)) (RequestOld l.lver None))
     (λ q. choose (not (check_request l.lver q.lver asked force)) (RequestOld l.lver (Some q.lver)))
     (λ h. old (not (asked == 0)) (RequestOld l.lver None) refl h) (λ q h. old (not (check_request l.lver q.lver asked force)) (RequestOld l.lver (Some q.lver)) refl h))) is
-    where
-  late : (r : Reply) → Some r ≡ Some why → is_before_input r ≡ false → is_before_input why ≡ false
-  late r h k = subst (λ z. is_before_input z ≡ false) (some_value r why h) k
+  where
+    late : (r : Reply) → Some r ≡ Some why → is_before_input r ≡ false → is_before_input why ≡ false
+    late r h k = subst (λ z. is_before_input z ≡ false) (some_value r why h) k
 
-  old : (b : Bool) (r : Reply) → is_before_input r ≡ false → choose b r ≡ Some why → is_before_input why ≡ false
-  old b r k h = subst (λ z. is_before_input z ≡ false) (choose_some b r why h).1 k
+    old : (b : Bool) (r : Reply) → is_before_input r ≡ false → choose b r ≡ Some why → is_before_input why ≡ false
+    old b r k h = subst (λ z. is_before_input z ≡ false) (choose_some b r why h).1 k

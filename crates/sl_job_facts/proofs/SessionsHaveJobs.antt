@@ -114,24 +114,24 @@ one_session st [] a b j first second its other =
 one_session st (e ∷ es) a b j first second its other =
     by (contains_either (sessions st es) (begun_in st es (length (sessions st es)) e) a first) (contains_either (sessions st es) (begun_in st es (length (sessions st es)) e) b second)
     (λ old also. one_session st es a b j old also its other) where
-  late : (x y : Session) → Contains (sessions st es) x → x.job ≡ Some j → Contains (begun_in st es (length (sessions st es)) e) y → y.job ≡ Some j → ⊥
-  late x y old own new at =
-      let less : j < next_job st es = number_taken st es x j old own in
-      let b : Began st es e y = began st es e y new in
-      let is : next_job st es ≡ j = some_value (next_job st es) j (sym (ap (λ (z : Session). z.job) b.session) ∙ at) in omega (arith, less, is)
+      late : (x y : Session) → Contains (sessions st es) x → x.job ≡ Some j → Contains (begun_in st es (length (sessions st es)) e) y → y.job ≡ Some j → ⊥
+      late x y old own new at =
+          let less : j < next_job st es = number_taken st es x j old own in
+          let b : Began st es e y = began st es e y new in
+          let is : next_job st es ≡ j = some_value (next_job st es) j (sym (ap (λ (z : Session). z.job) b.session) ∙ at) in omega (arith, less, is)
 
-  by : Contains (sessions st es) a ⊎ Contains (begun_in st es (length (sessions st es)) e) a → Contains (sessions st es) b ⊎ Contains (begun_in st es (length (sessions st es)) e) b
-      → (Contains (sessions st es) a → Contains (sessions st es) b → a ≡ b) → a ≡ b
-  by (inl old) (inl also) before = before old also
-  by (inl old) (inr new) before = absurd (late a b old its new other)
-  by (inr new) (inl old) before = absurd (late b a old other new its)
-  by (inr new) (inr same) before = only (list_any (λ c. is_join_call FirstRead c.purpose) e.effects.calls) (added_by st e.input) new same where
-    only : (t : Bool) (o : Option LockspaceArg)
-        → Contains (elim t as (λ x. List Session) [ false ↦ [] | true ↦ elim o as (λ x. List Session) [ None ↦ [] | Some z ↦ joining_session (length (sessions st es)) (next_job st es) z ∷ [] ] ]) a
-        → Contains (elim t as (λ x. List Session) [ false ↦ [] | true ↦ elim o as (λ x. List Session) [ None ↦ [] | Some z ↦ joining_session (length (sessions st es)) (next_job st es) z ∷ [] ] ]) b → a ≡ b
-    only false o x y = absurd (contains_none a x)
-    only true None x y = absurd (contains_none a x)
-    only true (Some z) x y = sym (contains_only (joining_session (length (sessions st es)) (next_job st es) z) a x) ∙ contains_only (joining_session (length (sessions st es)) (next_job st es) z) b y
+      by : Contains (sessions st es) a ⊎ Contains (begun_in st es (length (sessions st es)) e) a → Contains (sessions st es) b ⊎ Contains (begun_in st es (length (sessions st es)) e) b
+          → (Contains (sessions st es) a → Contains (sessions st es) b → a ≡ b) → a ≡ b
+      by (inl old) (inl also) before = before old also
+      by (inl old) (inr new) before = absurd (late a b old its new other)
+      by (inr new) (inl old) before = absurd (late b a old other new its)
+      by (inr new) (inr same) before = only (list_any (λ c. is_join_call FirstRead c.purpose) e.effects.calls) (added_by st e.input) new same where
+        only : (t : Bool) (o : Option LockspaceArg)
+            → Contains (elim t as (λ x. List Session) [ false ↦ [] | true ↦ elim o as (λ x. List Session) [ None ↦ [] | Some z ↦ joining_session (length (sessions st es)) (next_job st es) z ∷ [] ] ]) a
+            → Contains (elim t as (λ x. List Session) [ false ↦ [] | true ↦ elim o as (λ x. List Session) [ None ↦ [] | Some z ↦ joining_session (length (sessions st es)) (next_job st es) z ∷ [] ] ]) b → a ≡ b
+        only false o x y = absurd (contains_none a x)
+        only true None x y = absurd (contains_none a x)
+        only true (Some z) x y = sym (contains_only (joining_session (length (sessions st es)) (next_job st es) z) a x) ∙ contains_only (joining_session (length (sessions st es)) (next_job st es) z) b y
 
 enumerated : {A : Type 0} (n : ℕ) (xs : List A) (p : ℕ × A) → Contains (enumerate_from n xs) p → Contains xs p.1
 enumerated n [] p there = absurd (contains_none p there)

@@ -28,7 +28,7 @@ use Rattle.std.proofs.lemmas.Bool.{eqb-true}
 use Rattle.std.proofs.lemmas.List.Folds.{find-append}
 use Rattle.std.specs.List.{list_any}
 use Rattle.std.specs.Option.{option_or}
-use Rattle.std.specs.Prelude.{Bool, Contains, List, None, Option, Some, [], cond, false, find, is_none, is_some, length, nat_le, not, option_map, true, unwrap_or, ℕ, ◌&&◌, ◌++◌, ◌+◌, ◌-◌, ◌==◌, ◌∷◌, ◌≡◌, ◌⊎◌}
+use Rattle.std.specs.Prelude.{Bool, Contains, List, None, Option, Some, [], cond, false, find, is_none, is_some, length, nat_le, not, option_map, true, unwrap_or, ℕ, ◌&&◌, ◌++◌, ◌+◌, ◌==◌, ◌∷◌, ◌≡◌, ◌⊎◌}
 
 -- ---- joined
 
@@ -104,8 +104,8 @@ move_joined y m s is = by (removed_after y.past s) (is_some (joined_after y.past
       let gone : list_any (unregisters s.lockspace) y.effects.moves ≡ false = fewer (choose_none (list_any (unregisters s.lockspace) (y.effects.moves ++ m ∷ [])) (length y.past + 1) (none_is (choose (list_any (unregisters s.lockspace) (y.effects.moves ++ m ∷ [])) (length y.past + 1)) both.1)) in
       ap₂ (λ a b. a && is_none (choose b (length y.past + 1))) both.0 gone
     where
-    fewer : list_any (unregisters s.lockspace) (y.effects.moves ++ m ∷ []) ≡ false → list_any (unregisters s.lockspace) y.effects.moves ≡ false
-    fewer h = is_false (list_any (unregisters s.lockspace) y.effects.moves) (λ some_one. not_both (list_any (unregisters s.lockspace) (y.effects.moves ++ m ∷ [])) (any_stays (unregisters s.lockspace) y.effects.moves m some_one) h)
+      fewer : list_any (unregisters s.lockspace) (y.effects.moves ++ m ∷ []) ≡ false → list_any (unregisters s.lockspace) y.effects.moves ≡ false
+      fewer h = is_false (list_any (unregisters s.lockspace) y.effects.moves) (λ some_one. not_both (list_any (unregisters s.lockspace) (y.effects.moves ++ m ∷ [])) (any_stays (unregisters s.lockspace) y.effects.moves m some_one) h)
 
 -- A reply does not join a session that was joined before the entry.
 pub reply_joined : (y : Step) (j : ℕ) (r : Reply) (s : Session) → is_some (joined_after y.past s) ≡ true → is_joined (seen (add_reply j r y)) s ≡ is_joined (seen y) s
