@@ -8,3 +8,4 @@ pub mod WorkFacts
 pub mod GrantGrounds
 pub mod ValueFacts
 pub mod Whole
+pub mod Concluding
