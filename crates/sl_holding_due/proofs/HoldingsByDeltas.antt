@@ -9,6 +9,7 @@ use Rattle.sl_due.specs.Steps.{Step, add_call_of, add_move, add_reply, seen, whe
 use Rattle.sl_holding_due.proofs.HoldersSpared.{IsJoining, NoneHeldOf, joined_some, joining, none_of_empty, none_of_joining, none_of_writer, removal_held}
 use Rattle.sl_holding_due.proofs.HoldingsByCalls.{CallSpares, call_added, call_held}
 use Rattle.sl_holding_due.proofs.HoldingsByEffects.{HoldsAt, SameCalls, later_same, move_held, reply_held, waking_same}
+use Rattle.sl_job_facts.proofs.RepliesComeAfter.{IsLateDelta}
 use Rattle.sl_leases.specs.Leases.{is_lease_call, is_on}
 use Rattle.sl_plain.proofs.Lists.{find_inside, got_inside}
 use Rattle.sl_sector.specs.Bitmaps.{no_bits}
@@ -121,13 +122,6 @@ refused_held x j r h names runs same = by (session_of_job x.setting (seen x) j) 
 
 -- ---- what a joining decided
 
--- What is for a joining alone, or a renewal that may come of it.
-abbrev pub IsOfJoining : DeltaNext → Type 0
-IsOfJoining (WriteRenewal d) = ⊥
-IsOfJoining (WriteFree j d) = ⊥
-IsOfJoining (EndLeaving j r) = ⊥
-IsOfJoining n = Unit {0}
-
 renew_held : (x : Step) (name : List ℕ) (expiry : ℕ) → HoldsAt x → HoldsAt (add_move (Renew name expiry) x)
 renew_held x name expiry h = move_held x (Renew name expiry) (λ g there. refl) h
 
@@ -139,7 +133,7 @@ for_job : (s : Session) (j : ℕ) (f : ℕ → Step → Step) (x : Step) → s.j
 for_job s j f x its h = subst (λ o. HoldsAt (with_some o f x)) (sym its) h
 
 pub joins_held : (x : Step) (s : Session) (n : DeltaNext) (j : ℕ) → HoldsAt x → NameFacts x.setting (seen x) (heard_by x.input) → Has x s → s.job ≡ Some j → is_running (seen x) j ≡ true
-    → ((r : Reply) → n ≡ RefuseJoin r → SameCalls x.past (entry_of x) (record { job = j; reply = r })) → IsOfJoining n → HoldsAt (carry_delta s n x)
+    → ((r : Reply) → n ≡ RefuseJoin r → SameCalls x.past (entry_of x) (record { job = j; reply = r })) → IsLateDelta n → HoldsAt (carry_delta s n x)
 unfolding carry_delta
 joins_held x s Nothing j h names has its runs same only = h
 joins_held x s (RefuseJoin r) j h names has its runs same only = for_job s j (λ k. refuse k r) x its (refused_held x j r h names runs (same r refl))
@@ -167,7 +161,9 @@ joins_held x s (Join generation renewed) j h names has its runs same only =
     (surveyed_held (add_reply j (Generation generation) y) s
     (reply_held y j (Generation generation) (later_same y.past (entry_of y) (record { job = j; reply = Generation generation }) refl) (renew_held x s.lockspace (renewed + fail x.setting.timing) h)))
 joins_held x s (MoveConnection renewed) j h names has its runs same only = surveyed_held (move_connection s renewed x) s (renew_held x s.lockspace (renewed + fail x.setting.timing) h)
-joins_held x s (WriteRenewal d) j h names has its runs same only = absurd only
+joins_held x s (WriteRenewal d) j h names has its runs same only =
+    call_held x s.number s.path Renewal (own_offset x.setting s) (WriteRecord (DeltaIs d))
+    (nothing_spared x s (call_added s.number s.path Renewal (own_offset x.setting s) (WriteRecord (DeltaIs d)) x) refl (joining_holds_nothing x s h has (joining (seen x) s j its runs))) h
 joins_held x s (WriteFree k d) j h names has its runs same only = absurd only
 joins_held x s (EndLeaving k r) j h names has its runs same only = absurd only
 

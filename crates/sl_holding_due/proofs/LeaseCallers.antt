@@ -91,7 +91,7 @@ spot_aligned g m = subst (λ n. n % g.area ≡ 0) (sym (base_is g.area m.call.of
 
 -- ---- the session
 
-in_turn_fits : (ms : List Submitted) (m : Submitted) → is_in_turn ms ≡ true → Contains ms m → fits m ≡ true
+pub in_turn_fits : (ms : List Submitted) (m : Submitted) → is_in_turn ms ≡ true → Contains ms m → fits m ≡ true
 in_turn_fits [] m turn there = absurd (contains_none m there)
 in_turn_fits (d ∷ ms) m turn there = by (and_true (fits d) (all_done ms) turn) (contains_cases d ms m there) where
   done : (ks : List Submitted) → all_done ks ≡ true → Contains ks m → fits m ≡ true
