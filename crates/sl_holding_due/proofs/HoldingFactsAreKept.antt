@@ -10,9 +10,9 @@ use Rattle.sl_due.specs.DueAnswers.{set_reply}
 use Rattle.sl_due.specs.DueCommands.{answer_line, carry_decision, decided, reply_at_once}
 use Rattle.sl_due.specs.DueDelta.{carry_delta, see_request}
 use Rattle.sl_due.specs.DueFirst.{begin_recoveries, begin_recovery, begins_now, refuse, remove_connection, remove_of_refused, send, signal_and_refuse, signal_holders}
-use Rattle.sl_due.specs.DueInputs.{end_holdings, leave_holdings, refuse_jobs_of, when_running}
+use Rattle.sl_due.specs.DueInputs.{end_holdings, leave_holdings, refuse_jobs_of, started_reply, when_running}
 use Rattle.sl_due.specs.DueLease.{carry_lease}
-use Rattle.sl_due.specs.DueRequests.{after_request_read, after_value_read, owner_read, request_refusal, value_reply, write_request}
+use Rattle.sl_due.specs.DueRequests.{after_request_read, bits_due, after_value_read, owner_read, request_refusal, value_reply, write_request}
 use Rattle.sl_due.specs.Steps.{Step, add_call_of, add_reply, begin_step, seen, when, with_input}
 use Rattle.sl_holding_due.proofs.HoldersSpared.{IsJoining, NoneHeldOf, joining, none_of_empty, none_of_writer, removal_held}
 use Rattle.sl_holding_due.proofs.HoldingsByAnswers.{led_held}
@@ -28,9 +28,10 @@ use Rattle.sl_holding_due.proofs.LeaseBeside.{DoesBeside, settles_beside}
 use Rattle.sl_holding_due.proofs.LeaseCallers.{heard_call, in_turn_fits, mine_heard}
 use Rattle.sl_holding_due.proofs.LeaseNexts.{IsPlainNext, settling_fits}
 use Rattle.sl_holding_due.specs.Moments.{Known}
+use Rattle.sl_holding_due.specs.Promises.{HoldingFactsAreKept}
 use Rattle.sl_job_facts.proofs.RepliesComeAfter.{IsLateDelta, joining_late, request_late, set_late, value_late, wake_late}
 use Rattle.sl_law.specs.Lawful.{Orderly}
-use Rattle.sl_leases.specs.Jobs.{command_numbered}
+use Rattle.sl_leases.specs.Jobs.{command_numbered, job_of_start}
 use Rattle.sl_leases.specs.LeaseWork.{lease_place, settle_next}
 use Rattle.sl_leases.specs.Leases.{LeaseKnown, known}
 use Rattle.sl_leases.specs.declared.lease.LeaseNext.TheVariants.{AnswerJob, BecomeExclusive, BecomeShared, GrantJob, Nothing, ReadFor, WriteBlock, WriteLeader}
@@ -39,6 +40,7 @@ use Rattle.sl_plain.proofs.Lists.{any_found, contains_map, contains_none, find_f
 use Rattle.sl_plain.proofs.Numbers.{number_itself}
 use Rattle.sl_plain.proofs.Options.{none_is, some_of}
 use Rattle.sl_plain.proofs.Truth.{or_false}
+use Rattle.sl_sector.specs.declared.sector.Rec.TheVariants.{RequestIs}
 use Rattle.sl_sessions.specs.Deltas.{delta_known, delta_of_session, next_after_free, next_after_renewal, next_free, next_in_joining, next_on_wake, next_renewal}
 use Rattle.sl_sessions.specs.Sessions.{calls_of, free_write, generation_of, has_open_write, holdings_of, is_call_of, is_free_purpose, is_joined, is_present, joined_after, open_calls_of, present_sessions, recovery_of, refused_after, removed_after, session_numbered, sessions}
 use Rattle.sl_sessions.specs.declared.delta.DeltaNext.TheVariants.{Disconnect, EndLeaving, Join, MoveConnection, Nothing as No_delta, ReadOwn, RefuseJoin, RegisterAndRead, WriteClaim, WriteFirst, WriteFree, WriteRenewal}
@@ -48,8 +50,8 @@ use Rattle.sl_step_facts.specs.CallFacts.{CallFacts}
 use Rattle.sl_step_facts.specs.Heard.{IsOpen, heard_by}
 use Rattle.sl_step_facts.specs.HoldingFacts.{HoldingFacts}
 use Rattle.sl_step_facts.specs.JobFacts.{FitsCommand, JobFacts}
-use Rattle.sl_trace.specs.Traces.{Setting, Submitted, Trace, answer_of, answered_in, holdings, is_before_input, is_running, is_write, job_of, mark, next_job, no_process, submitted}
-use Rattle.sl_trace.specs.declared.command.Command.TheVariants.{Request}
+use Rattle.sl_trace.specs.Traces.{Setting, Submitted, Trace, answer_of, answered_in, call_numbered, holdings, is_before_input, is_running, is_write, job_of, mark, next_job, no_process, submitted}
+use Rattle.sl_trace.specs.declared.command.Command.TheVariants.{Acquire, AddLockspace, Convert, GetLvb, HostStatus, InqLockspace, Release, ReleaseOrphan, RemLockspace, Request, RunProgram, SetKillpath, SetLvb, Status, TakeOver}
 use Rattle.sl_trace.specs.declared.command.Command.{Command}
 use Rattle.sl_trace.specs.declared.effects.Call.{Call}
 use Rattle.sl_trace.specs.declared.effects.Grant.{Grant}
@@ -57,6 +59,7 @@ use Rattle.sl_trace.specs.declared.effects.JoinStep.TheVariants.{ClaimWrite, Dec
 use Rattle.sl_trace.specs.declared.effects.JoinStep.{JoinStep}
 use Rattle.sl_trace.specs.declared.effects.Op.TheVariants.{ReadSectors, WriteRecord}
 use Rattle.sl_trace.specs.declared.effects.Purpose.TheVariants.{Joining, Leaving, Lease, RequestRead, RequestWrite, SeeRequest, Survey}
+use Rattle.sl_trace.specs.declared.effects.Signal.TheVariants.{Kill, Term}
 use Rattle.sl_trace.specs.declared.effects.Spot.{Spot}
 use Rattle.sl_trace.specs.declared.effects.Work.TheVariants.{Settling}
 use Rattle.sl_trace.specs.declared.input.Answer.TheVariants.{Failed, Read, Written}
@@ -69,11 +72,11 @@ use Rattle.sl_trace_law.proofs.Sessions.Covering.{joinings_are_in_turn}
 use Rattle.sl_trace_law.proofs.Sessions.Making.{same_answered}
 use Rattle.sl_trace_law.proofs.Sessions.Staying.{refused_apart}
 use Rattle.sl_trace_law.specs.Sessions.Promises.{fits, fits_as}
-use Rattle.sl_words.proofs.CaseLaws.{false_is_true, none_some, not_both, true_is_false}
+use Rattle.sl_words.proofs.CaseLaws.{false_is_true, none_some, not_both, one_value, some_value, true_is_false}
 use Rattle.std.proofs.Common.{ap, inl, inr, refl, subst, sym, ◌∙◌}
 use Rattle.std.proofs.lemmas.Bool.{eqb-true}
 use Rattle.std.specs.Option.{option_or}
-use Rattle.std.specs.Prelude.{Bool, Contains, List, None, Option, Some, [], false, if◌then◌else◌, is_none, is_some, map, not, true, ℕ, ◌&&◌, ◌+◌, ◌==◌, ◌||◌, ◌≡◌, ◌⊎◌}
+use Rattle.std.specs.Prelude.{Bool, Contains, List, None, Option, Some, [], false, if◌then◌else◌, is_none, is_some, map, not, true, ℕ, ◌%◌, ◌&&◌, ◌+◌, ◌==◌, ◌||◌, ◌≡◌, ◌⊎◌}
 
 -- ---- answers
 
@@ -188,3 +191,119 @@ freed x s j m answer k hears is = freed_held x s j m.call.number answer none k.0
     of_joined None unjoined =
         absurd (not_both (fits m) (in_turn_fits (calls_of (seen x) s) m (joinings_are_in_turn x.setting (seen x) s k.0.orderly (has_heard x s m answer hears) unjoined) (mine_heard x s m answer hears))
         (ap (λ p. fits_as p (is_write m.call.op)) is))
+
+-- A survey is no job's.
+surveys_no_job : (x : Step) (s : Session) (m : Submitted) (answer : Answer) → Known x → Hears x s m answer → m.call.purpose ≡ Survey → AnswersNoJob x.past x.input
+surveys_no_job x s m answer k hears is n w d input there number =
+    let marked : submitted (seen x) ≡ map (answered_in x.past (entry_of x) hears.number answer) (submitted x.past) =
+    calls_marked x hears.bare ∙ ap (λ i. mark x.past (entry_of x) i (submitted x.past)) hears.heard in
+    let f : Submitted → Submitted = answered_in x.past (entry_of x) hears.number answer in
+    let same = (same_answered x.past (entry_of x) hears.number answer d).call in
+    let here : Contains (submitted (seen x)) (f d) = subst (λ ms. Contains ms (f d)) (sym marked) (contains_map f (submitted x.past) d there) in
+    let at : n ≡ hears.number = some_value n hears.number (ap (λ i. heard_by i) (sym input ∙ hears.heard)) in
+    let its : (f d).call.number ≡ hears.number = ap (λ (c : Call). c.number) same ∙ (number ∙ at) in
+    let one : f d ≡ m = one_value (f d) m (call_numbered (seen x) hears.number) (subst (λ j. call_numbered (seen x) j ≡ Some (f d)) its (k.0.facts.calls.found (f d) here)) hears.call in
+    ap (λ (c : Call). job_of c.purpose) (sym same) ∙ (ap (λ (e : Submitted). job_of e.call.purpose) one ∙ ap (λ p. job_of p) is)
+
+asked : (x : Step) (s : Session) (j : ℕ) (bytes : List ℕ) (c : Command) → HoldsAt x → HoldsAt (after_request_read s j bytes c x)
+unfolding after_request_read
+asked x s j bytes (Request r number force) h = by (request_refusal x.setting.layout s.lockspace r number force bytes) refl where
+  by : (o : Option Reply) → request_refusal x.setting.layout s.lockspace r number force bytes ≡ o
+      → HoldsAt (elim o as (λ z. Step) [ Some why ↦ add_reply j why x | None ↦ write_request s j (owner_read x.setting.layout bytes) r number force x ])
+  by (Some why) at =
+      reply_held x j why (later_same x.past (entry_of x) (record { job = j; reply = why }) (request_late x.setting.layout s.lockspace r number force bytes why at)) h
+  by None at =
+      call_held x s.number r.path (RequestWrite j (owner_read x.setting.layout bytes)) (request_offset x.setting.layout r.offset)
+      (WriteRecord (RequestIs (record { force = force; host = (if number == 0 then 0 else s.id); lver = number })))
+      (plain_spared x (call_added s.number r.path (RequestWrite j (owner_read x.setting.layout bytes)) (request_offset x.setting.layout r.offset)
+      (WriteRecord (RequestIs (record { force = force; host = (if number == 0 then 0 else s.id); lver = number }))) x) refl refl) h
+asked x s j bytes (AddLockspace a) h = h
+asked x s j bytes (RemLockspace a) h = h
+asked x s j bytes (InqLockspace a) h = h
+asked x s j bytes (HostStatus a) h = h
+asked x s j bytes (Acquire r shared p persistent) h = h
+asked x s j bytes (TakeOver r shared p persistent) h = h
+asked x s j bytes (RunProgram r shared path) h = h
+asked x s j bytes (Release r p) h = h
+asked x s j bytes (ReleaseOrphan r) h = h
+asked x s j bytes (Convert r shared p) h = h
+asked x s j bytes (GetLvb r p) h = h
+asked x s j bytes (SetLvb r p set) h = h
+asked x s j bytes (SetKillpath p path) h = h
+asked x s j bytes Status h = h
+
+-- What settling does.
+settled : (x : Step) (s : Session) (at : Spot) → Known x → Has x s → at.base % x.setting.layout.area ≡ 0 → HoldsAt (carry_lease s at Settling (settle_next (lease_place x.setting s) (known x.setting (seen x) s at)) x)
+settled x s at k has aligned =
+    carried_held x s at Settling (settle_next (lease_place x.setting s) (known x.setting (seen x) s at)) k.0.facts.holdings k.0.setting has aligned
+    (λ g there mine exclusive spot stands.
+    subst (λ z. DoesBeside stands.own g.lver (settle_next (lease_place x.setting s) (known x.setting (seen x) s z))) spot (settles_beside x s (lease_place x.setting s) g stands))
+    (plain (settle_next (lease_place x.setting s) (known x.setting (seen x) s at)) (settling_fits (lease_place x.setting s) (known x.setting (seen x) s at))) where
+      plain : (n : LeaseNext) → IsPlainNext (known x.setting (seen x) s at) n → IsNoGrant n
+      plain Nothing h = tt
+      plain (ReadFor step) h = tt
+      plain (WriteBlock step b) h = tt
+      plain (WriteLeader step l) h = tt
+      plain (AnswerJob r) h = h
+      plain (GrantJob mode lver) h = absurd h
+      plain (BecomeShared lver l) h = absurd h
+      plain (BecomeExclusive lver b) h = absurd h
+
+seen_held : (x : Step) (s : Session) (g : Grant) → HoldsAt x → HoldsAt (see_request s g x)
+seen_held x s g h =
+    call_held x s.number g.path SeeRequest (request_offset x.setting.layout g.offset) (ReadSectors 1)
+    (plain_spared x (call_added s.number g.path SeeRequest (request_offset x.setting.layout g.offset) (ReadSectors 1) x) refl refl) h
+
+parted : (x : Step) (s : Session) → Known x → Has x s → is_joined (seen x) s ≡ true → holdings_of (seen x) s ≡ [] → HoldsAt (remove_connection s.lockspace x)
+parted x s k has joined empty =
+    removal_held x s.lockspace (none_of_empty x s k.0.facts.holdings k.0.facts.names (got_inside (sessions x.setting (seen x)) s.number s has) has joined empty) k.0.facts.holdings
+
+told : (x : Step) (j : ℕ) (r : Reply) → Known x → is_before_input r ≡ false → HoldsAt (add_reply j r x)
+told x j r k later = reply_held x j r (later_same x.past (entry_of x) (record { job = j; reply = r }) later) k.0.facts.holdings
+
+-- ---- the whole
+
+pub holding_facts_are_kept : HoldingFactsAreKept
+unfolding after_value_read
+holding_facts_are_kept =
+    record {
+      kills = λ x s has due k. signalled_held x Kill s k.0.facts.holdings;
+      times_out = λ x j m wake bare runs waits late k.
+          refused_held x j (IoTimeout m.call.number m.reading x.reading) k.0.facts.holdings k.0.facts.names runs (waking_same x.past (entry_of x) (record { job = j; reply = IoTimeout m.call.number m.reading x.reading }) wake);
+      hears = λ x number answer wake bare expected k. answer_held x number answer wake bare k.0.facts.calls expected k.0.facts.holdings;
+      counts = λ x text wake bare k. input_held x (Number text) wake bare refl k.0.facts.holdings;
+      exits = λ x p wake bare one k.
+          refused_jobs_held (leave_holdings p (with_input (Exit p) x)) p (left_held (with_input (Exit p) x) p (k.1.waking wake).1 (input_held x (Exit p) wake bare refl k.0.facts.holdings));
+      exits_as_none = λ x p wake bare none k. input_held x (Exit p) wake bare refl k.0.facts.holdings;
+      starts = λ x p ok wake bare expected k. input_held x (Spawned p ok) wake bare refl k.0.facts.holdings;
+      fails_to_start = λ x p input k. said_held (end_holdings p x) (job_of_start (seen x) p) SpawnFault refl (ended_held x p k.0.facts.holdings);
+      signals_instead = λ x p q input stood k. signal_held x q Term k.0.facts.holdings;
+      says_started = λ x p j input is runs k. told x j (started_reply (seen x) p) k refl;
+      misreads = λ x text column wake bare says k.
+          let y : Step = with_input (Line text) x in
+          reply_held y (next_job x.setting (seen x)) (Misread column) (later_same y.past (entry_of y) (record { job = next_job x.setting (seen x); reply = Misread column }) refl) (input_held x (Line text) wake bare refl k.0.facts.holdings);
+      answers = λ x text c r wake bare says is k.
+          let y : Step = with_input (Line text) x in
+          reply_held y (next_job x.setting (seen x)) r (unanswered_same y.past (entry_of y) (record { job = next_job x.setting (seen x); reply = r }) refl) (input_held x (Line text) wake bare refl k.0.facts.holdings);
+      carries = λ x text c d wake bare says is more k. lines_held x text c (next_job x.setting (seen x)) d k.0.facts.holdings k.0.setting wake bare (k.1.waking wake).1 says is;
+      joins_on = λ x s j step m answer hears is runs k. joins_on x s j step m answer k hears is runs;
+      ends_joining = λ x s j step m answer hears is stops k. ends_joining x s m answer k hears;
+      renewed = λ x s m answer hears is k. renewed_held x s (is_some (recovery_of x.setting (seen x) s)) m.reading answer k.0.facts.holdings;
+      freed = λ x s j m answer hears is k. freed x s j m answer k hears is;
+      shown = λ x s m bytes hears is joined begins k. stopped_held x s None (surveys_no_job x s m (Read bytes) k hears is) k.0.facts.holdings;
+      sees = λ x s number bytes at g has input held k. seen_held x s g k.0.facts.holdings;
+      leads_on = λ x s work step m answer aim hears is on at k. led_held x s work step m answer aim (record { whole = k; hears = hears; purpose = is; on = on; aimed = at });
+      fails = λ x s m j hears lone runs k. told x j (IoFault m.call.number) k refl;
+      has_asked = λ x s m j owner hears is runs k. told x j Done k refl;
+      has_set = λ x s m j hears is runs k. told x j (set_reply m) k (set_late m);
+      asks = λ x s m j bytes c hears is runs at k. asked x s j bytes c k.0.facts.holdings;
+      tells = λ x s m j bytes hears is runs k. told x j (value_reply x.setting.layout bytes) k (value_late x.setting.layout bytes);
+      warns = λ x s m bytes g signal hears is held own says k. sent_held x g.process signal k.0.facts.holdings;
+      joins_in_time = λ x s j has wake is runs k.
+          let n : DeltaNext = next_on_wake (delta_of_session x.setting s) x.reading (calls_of (seen x) s) in
+          joins_held x s n j k.0.facts.holdings k.0.facts.names has is runs (λ r at. waking_same x.past (entry_of x) (record { job = j; reply = r }) wake) (wake_late (delta_of_session x.setting s) x.reading (calls_of (seen x) s));
+      renews = λ x s has wake joined k. renews_held x s (bits_due x.setting (calls_of (seen x) s) x.reading) has k.0.facts.holdings;
+      settles = λ x s at has wake active aligned none k. settled x s at k has aligned;
+      parts = λ x s has joined recovers free quiet k. parted x s k has joined free;
+      frees = λ x s has joined well free quiet k. frees_held x s has k.0.facts.holdings;
+    }

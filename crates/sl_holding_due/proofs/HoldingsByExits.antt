@@ -187,9 +187,9 @@ leaves_one g rest z k =
       by e h there same (inr new) =
           absurd (not_both (same_place e.path e.offset g.path g.offset) (place_turned g.path e.path g.offset e.offset (subst (λ (v : Grant). same_place v.path v.offset e.path e.offset ≡ true) (sym new) same)) (k.apart.0 e there))
 
-pub left_held : (y : Step) (p : ℕ) → y.effects.grants ≡ [] → (p ≡ no_process → ⊥) → HoldsAt y → HoldsAt (leave_holdings p y)
+pub left_held : (y : Step) (p : ℕ) → y.effects.grants ≡ [] → HoldsAt y → HoldsAt (leave_holdings p y)
 unfolding leave_holdings
-left_held y p bare one h = (each_in_turn IsLeaving (orphans_left p hs) add_grant (end_holdings p y) leaves_one first).holds where
+left_held y p bare h = (each_in_turn IsLeaving (orphans_left p hs) add_grant (end_holdings p y) leaves_one first).holds where
   hs : List Grant
   hs = holdings (seen y)
 

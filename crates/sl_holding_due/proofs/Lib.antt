@@ -20,3 +20,6 @@ pub mod LeaseConversions
 pub mod HoldingsByAnswers
 pub mod HoldingsByLines
 pub mod HoldingFactsAreKept
+pub mod MomentsAreKept
+pub mod MomentsBegin
+pub mod HoldingFactsBegin

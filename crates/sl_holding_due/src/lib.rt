@@ -4,3 +4,5 @@
 //! it is held these only clear a mode or free what lies below. Where a job works on a lease nothing comes in between, since its call is
 //! open; so when it ends in a grant, what was held there is what its line found.
 #![tactic(auto)]
+
+pub mod laws;
