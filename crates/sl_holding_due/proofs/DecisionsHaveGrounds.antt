@@ -1,9 +1,9 @@
 -- What a command came to has its grounds: none of its refusals held.
-use Rattle.sl_due.specs.DueCommands.{acquiring, busy_refusal, converting, decide_acquire, decide_convert, decide_holder, decide_orphan, decide_take_over, decided, holding_of, joined_refusal, leave_refusal, limit_refusal, matching_session, orphan_refusal, pending_refusal, process_refusal, serving_orphan, session_refusal, setting_value, unless_refused, with_session}
+use Rattle.sl_due.specs.DueCommands.{acquiring, busy_refusal, converting, decide_acquire, decide_convert, decide_holder, decide_orphan, decided, holding_of, joined_refusal, leave_refusal, limit_refusal, matching_session, orphan_refusal, pending_refusal, process_refusal, serving_orphan, session_refusal, setting_value, unless_refused, with_session}
 use Rattle.sl_due.specs.declared.decision.Decision.TheVariants.{ConvertsTo, GetsValue, GivesUp, Joins, Leaves, ReadsArea, Replies, Requests, SetsValue, Shares, TakesOver}
 use Rattle.sl_due.specs.declared.decision.Decision.{Decision}
-use Rattle.sl_holding_due.specs.DecisionGrounds.{AcquireGrounds, AsksLease, ConvertGrounds, DecisionsHaveGrounds, GetGrounds, GiveUpGrounds, HasGrounds, IsFreeFor, IsReady, LeaveGrounds, Releases, SetGrounds, SharesGrounds, TakeOverGrounds}
-use Rattle.sl_leases.specs.Counts.{busy_among, busy_process, held_here, holds_already, is_killpath_limit, limit_met, may_act, next_value_seq, other_holder, pending_call}
+use Rattle.sl_holding_due.specs.DecisionGrounds.{AcquireGrounds, AsksLease, DecisionsHaveGrounds, HasGrounds, IsFreeFor, IsReady}
+use Rattle.sl_leases.specs.Counts.{busy_process, held_here, holds_already, is_killpath_limit, may_act, next_value_seq, other_holder, pending_call}
 use Rattle.sl_leases.specs.Jobs.{process_named, wanted_mode, wants_shared}
 use Rattle.sl_leases.specs.Leases.{holdings_on, open_on, orphan_on, shared_on, spot_of}
 use Rattle.sl_plain.proofs.Lists.{any_of, contains_none, find_inside, kept}
@@ -19,21 +19,20 @@ use Rattle.sl_trace.specs.declared.command.Command.{Command}
 use Rattle.sl_trace.specs.declared.command.LockspaceArg.{LockspaceArg}
 use Rattle.sl_trace.specs.declared.command.ResourceArg.{ResourceArg}
 use Rattle.sl_trace.specs.declared.effects.Grant.{Grant}
-use Rattle.sl_trace.specs.declared.effects.Mode.{Mode}
 use Rattle.sl_trace.specs.declared.effects.Spot.{Spot}
 use Rattle.sl_trace.specs.declared.reply.Limited.TheVariants.{Killpaths, Lockspaces, Seq as SeqLimit}
 use Rattle.sl_trace.specs.declared.reply.Reply.TheVariants.{Busy, Done, Generation, Granted, Hosts, Joining as StillJoining, Limit as LimitReached, NoOrphan, NoProcess, NoSession, NotHeld, Pending, Recovering}
 use Rattle.sl_trace.specs.declared.reply.Reply.{Reply}
-use Rattle.sl_words.proofs.CaseLaws.{false_is_true, is_false, no_value, none_some, not_both, true_is_false, true_or_false}
+use Rattle.sl_words.proofs.CaseLaws.{is_false, none_some, not_both, true_is_false}
 use Rattle.sl_words.proofs.OptionLaws.{choose_none}
-use Rattle.sl_words.proofs.WordLaws.{and_true, choose_some, same_truth_is}
+use Rattle.sl_words.proofs.WordLaws.{and_true, choose_some}
 use Rattle.sl_words.specs.Bounds.{is_number}
 use Rattle.sl_words.specs.Words.{choose, least, same_truth}
 use Rattle.std.proofs.Common.{ap, inl, inr, refl, subst, sym, ◌∙◌}
 use Rattle.std.proofs.lemmas.Bool.{eqb-true}
 use Rattle.std.specs.List.{list_any}
 use Rattle.std.specs.Option.{option_map_or, option_or}
-use Rattle.std.specs.Prelude.{Bool, Contains, List, None, Option, Some, [], cond, false, filter, find, is_none, length, map, min, nat_le, not, option_and_then, option_map, true, ℕ, ◌&&◌, ◌++◌, ◌==◌, ◌∷◌, ◌≡◌, ◌⊎◌}
+use Rattle.std.specs.Prelude.{Bool, Contains, List, None, Option, Some, [], cond, false, filter, is_none, length, map, min, nat_le, not, option_and_then, option_map, true, ℕ, ◌&&◌, ◌++◌, ◌==◌, ◌∷◌, ◌≡◌}
 
 -- ---- refusals that don't hold
 
@@ -119,8 +118,8 @@ nothing_left p xs x none there =
 free_for : (es : Trace) (at : Spot) (asking : Option ℕ) (shared : Bool) → busy_refusal es at asking shared ≡ None → IsFreeFor es at asking shared
 free_for es at asking shared none h there =
     let parts = neither (option_and_then (λ p. choose (list_any (λ (g : Grant). g.process == p) (held_here es at)) p) asking)
-        (least (map (λ (g : Grant). g.process) (filter (λ (g : Grant). not (shared && is_shared g.mode)) (held_here es at))))
-        (unmapped (λ p. Busy p) (busy_process es at asking shared) none) in
+    (least (map (λ (g : Grant). g.process) (filter (λ (g : Grant). not (shared && is_shared g.mode)) (held_here es at))))
+    (unmapped (λ p. Busy p) (busy_process es at asking shared) none) in
     let left = none_mapped (λ (g : Grant). g.process) (filter (λ (g : Grant). not (shared && is_shared g.mode)) (held_here es at)) (none_least _ parts.1) in
     let both = and_true shared (is_shared h.mode) (not_true (shared && is_shared h.mode) (nothing_left (λ (g : Grant). not (shared && is_shared g.mode)) (held_here es at) h left there)) in
     (both.1, both.0, λ is. other is parts.0) where

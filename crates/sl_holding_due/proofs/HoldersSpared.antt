@@ -9,17 +9,15 @@ use Rattle.sl_plain.proofs.Options.{none_is}
 use Rattle.sl_sessions.specs.Sessions.{ended_after, has_open_write, holdings_of, is_joined, is_present, joined_after, present_sessions, refused_after, removed_after, session_numbered, sessions}
 use Rattle.sl_sessions.specs.declared.session.Session.{Session}
 use Rattle.sl_step_facts.specs.Heard.{IsOpen, heard_by}
-use Rattle.sl_step_facts.specs.HoldingFacts.{HoldingFacts}
 use Rattle.sl_step_facts.specs.SessionFacts.{NameFacts}
-use Rattle.sl_trace.specs.Connections.{is_registered, unregisters}
+use Rattle.sl_trace.specs.Connections.{is_registered}
 use Rattle.sl_trace.specs.Traces.{Setting, Submitted, Trace, holdings, is_running, is_write, reply_to, submitted}
 use Rattle.sl_trace.specs.declared.effects.Grant.{Grant}
 use Rattle.sl_trace.specs.declared.effects.Move.TheVariants.{Unregister}
-use Rattle.sl_trace.specs.declared.effects.Move.{Move}
 use Rattle.sl_trace_law.proofs.Leases.NumberLaws.{number_is_place}
-use Rattle.sl_words.proofs.CaseLaws.{is_false, no_value, none_some, not_both, true_is_false}
+use Rattle.sl_words.proofs.CaseLaws.{is_false, not_both, true_is_false}
 use Rattle.sl_words.proofs.WordLaws.{and_true}
-use Rattle.sl_words.specs.Orders.{in_order, is_text_before, put_in}
+use Rattle.sl_words.specs.Orders.{is_text_before, put_in}
 use Rattle.std.proofs.Common.{ap, inl, inr, refl, subst, sym, ◌∙◌}
 use Rattle.std.specs.Prelude.{Bool, Contains, List, None, Option, Some, [], bytes_eq, false, filter, fold, if◌then◌else◌, is_none, is_some, true, ℕ, ◌&&◌, ◌==◌, ◌||◌, ◌∷◌, ◌≡◌, ◌⊎◌}
 

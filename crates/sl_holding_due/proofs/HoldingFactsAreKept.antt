@@ -1,24 +1,20 @@
 -- The facts of holdings are kept by each act, and hold once a step has begun.
-use Rattle.sl_acts.proofs.EffectsKeep.{stopped}
 use Rattle.sl_acts.proofs.InputsKeep.{has_heard}
-use Rattle.sl_acts.proofs.LoopsKeep.{for_each_keeps, when_keeps}
-use Rattle.sl_acts.specs.Acts.{Acts, Expects, Has, Hears, lone_job}
-use Rattle.sl_acts.specs.Plainly.{ByEffects}
+use Rattle.sl_acts.specs.Acts.{Has, Hears}
 use Rattle.sl_acts.specs.SoFar.{entry_of}
-use Rattle.sl_area.specs.Places.{request_offset, value_offset}
+use Rattle.sl_area.specs.Places.{request_offset}
 use Rattle.sl_due.specs.DueAnswers.{set_reply}
-use Rattle.sl_due.specs.DueCommands.{answer_line, carry_decision, decided, reply_at_once}
 use Rattle.sl_due.specs.DueDelta.{carry_delta, see_request}
-use Rattle.sl_due.specs.DueFirst.{begin_recoveries, begin_recovery, begins_now, refuse, remove_connection, remove_of_refused, send, signal_and_refuse, signal_holders}
-use Rattle.sl_due.specs.DueInputs.{end_holdings, leave_holdings, refuse_jobs_of, started_reply, when_running}
+use Rattle.sl_due.specs.DueFirst.{remove_connection, remove_of_refused}
+use Rattle.sl_due.specs.DueInputs.{end_holdings, leave_holdings, started_reply}
 use Rattle.sl_due.specs.DueLease.{carry_lease}
 use Rattle.sl_due.specs.DueRequests.{after_request_read, bits_due, after_value_read, owner_read, request_refusal, value_reply, write_request}
-use Rattle.sl_due.specs.Steps.{Step, add_call_of, add_reply, begin_step, seen, when, with_input}
-use Rattle.sl_holding_due.proofs.HoldersSpared.{IsJoining, NoneHeldOf, joining, none_of_empty, none_of_writer, removal_held}
+use Rattle.sl_due.specs.Steps.{Step, add_reply, seen, when, with_input}
+use Rattle.sl_holding_due.proofs.HoldersSpared.{NoneHeldOf, none_of_empty, none_of_writer, removal_held}
 use Rattle.sl_holding_due.proofs.HoldingsByAnswers.{led_held}
 use Rattle.sl_holding_due.proofs.HoldingsByCalls.{call_added, call_held}
 use Rattle.sl_holding_due.proofs.HoldingsByDeltas.{freed_held, frees_held, joins_held, plain_spared, refused_held, renewed_held, renews_held}
-use Rattle.sl_holding_due.proofs.HoldingsByEffects.{HoldsAt, Upheld, later_same, reply_held, signal_held, unanswered_same, upheld, waking_same}
+use Rattle.sl_holding_due.proofs.HoldingsByEffects.{HoldsAt, later_same, reply_held, signal_held, unanswered_same, waking_same}
 use Rattle.sl_holding_due.proofs.HoldingsByExits.{left_held}
 use Rattle.sl_holding_due.proofs.HoldingsByInputs.{answer_held, calls_marked, input_held}
 use Rattle.sl_holding_due.proofs.HoldingsByLeases.{IsNoGrant, carried_held}
@@ -33,7 +29,7 @@ use Rattle.sl_job_facts.proofs.RepliesComeAfter.{IsLateDelta, joining_late, requ
 use Rattle.sl_law.specs.Lawful.{Orderly}
 use Rattle.sl_leases.specs.Jobs.{command_numbered, job_of_start}
 use Rattle.sl_leases.specs.LeaseWork.{lease_place, settle_next}
-use Rattle.sl_leases.specs.Leases.{LeaseKnown, known}
+use Rattle.sl_leases.specs.Leases.{known}
 use Rattle.sl_leases.specs.declared.lease.LeaseNext.TheVariants.{AnswerJob, BecomeExclusive, BecomeShared, GrantJob, Nothing, ReadFor, WriteBlock, WriteLeader}
 use Rattle.sl_leases.specs.declared.lease.LeaseNext.{LeaseNext}
 use Rattle.sl_plain.proofs.Lists.{any_found, contains_map, contains_none, find_fails, got_inside, kept, kept_inside}
@@ -41,42 +37,39 @@ use Rattle.sl_plain.proofs.Numbers.{number_itself}
 use Rattle.sl_plain.proofs.Options.{none_is, some_of}
 use Rattle.sl_plain.proofs.Truth.{or_false}
 use Rattle.sl_sector.specs.declared.sector.Rec.TheVariants.{RequestIs}
-use Rattle.sl_sessions.specs.Deltas.{delta_known, delta_of_session, next_after_free, next_after_renewal, next_free, next_in_joining, next_on_wake, next_renewal}
-use Rattle.sl_sessions.specs.Sessions.{calls_of, free_write, generation_of, has_open_write, holdings_of, is_call_of, is_free_purpose, is_joined, is_present, joined_after, open_calls_of, present_sessions, recovery_of, refused_after, removed_after, session_numbered, sessions}
-use Rattle.sl_sessions.specs.declared.delta.DeltaNext.TheVariants.{Disconnect, EndLeaving, Join, MoveConnection, Nothing as No_delta, ReadOwn, RefuseJoin, RegisterAndRead, WriteClaim, WriteFirst, WriteFree, WriteRenewal}
+use Rattle.sl_sessions.specs.Deltas.{delta_of_session, next_after_free, next_in_joining, next_on_wake}
+use Rattle.sl_sessions.specs.Sessions.{calls_of, free_write, generation_of, has_open_write, holdings_of, is_call_of, is_free_purpose, is_joined, joined_after, open_calls_of, recovery_of, refused_after, removed_after, sessions}
+use Rattle.sl_sessions.specs.declared.delta.DeltaNext.TheVariants.{RefuseJoin}
 use Rattle.sl_sessions.specs.declared.delta.DeltaNext.{DeltaNext}
 use Rattle.sl_sessions.specs.declared.session.Session.{Session}
 use Rattle.sl_step_facts.specs.CallFacts.{CallFacts}
 use Rattle.sl_step_facts.specs.Heard.{IsOpen, heard_by}
-use Rattle.sl_step_facts.specs.HoldingFacts.{HoldingFacts}
-use Rattle.sl_step_facts.specs.JobFacts.{FitsCommand, JobFacts}
-use Rattle.sl_trace.specs.Traces.{Setting, Submitted, Trace, answer_of, answered_in, call_numbered, holdings, is_before_input, is_running, is_write, job_of, mark, next_job, no_process, submitted}
+use Rattle.sl_step_facts.specs.JobFacts.{FitsCommand}
+use Rattle.sl_trace.specs.Traces.{Submitted, answer_of, answered_in, call_numbered, holdings, is_before_input, is_running, is_write, job_of, mark, next_job, submitted}
 use Rattle.sl_trace.specs.declared.command.Command.TheVariants.{Acquire, AddLockspace, Convert, GetLvb, HostStatus, InqLockspace, Release, ReleaseOrphan, RemLockspace, Request, RunProgram, SetKillpath, SetLvb, Status, TakeOver}
 use Rattle.sl_trace.specs.declared.command.Command.{Command}
 use Rattle.sl_trace.specs.declared.effects.Call.{Call}
 use Rattle.sl_trace.specs.declared.effects.Grant.{Grant}
-use Rattle.sl_trace.specs.declared.effects.JoinStep.TheVariants.{ClaimWrite, DecidingRead, FirstRead, FirstRenewal, VerifyRead, WatchRead}
 use Rattle.sl_trace.specs.declared.effects.JoinStep.{JoinStep}
 use Rattle.sl_trace.specs.declared.effects.Op.TheVariants.{ReadSectors, WriteRecord}
-use Rattle.sl_trace.specs.declared.effects.Purpose.TheVariants.{Joining, Leaving, Lease, RequestRead, RequestWrite, SeeRequest, Survey}
+use Rattle.sl_trace.specs.declared.effects.Purpose.TheVariants.{Joining, Leaving, RequestWrite, SeeRequest, Survey}
 use Rattle.sl_trace.specs.declared.effects.Signal.TheVariants.{Kill, Term}
 use Rattle.sl_trace.specs.declared.effects.Spot.{Spot}
 use Rattle.sl_trace.specs.declared.effects.Work.TheVariants.{Settling}
-use Rattle.sl_trace.specs.declared.input.Answer.TheVariants.{Failed, Read, Written}
+use Rattle.sl_trace.specs.declared.input.Answer.TheVariants.{Read}
 use Rattle.sl_trace.specs.declared.input.Answer.{Answer}
-use Rattle.sl_trace.specs.declared.input.Input.TheVariants.{Answer as Told, Exit, Line, Number, Spawned, Wake}
-use Rattle.sl_trace.specs.declared.input.Input.{Input}
+use Rattle.sl_trace.specs.declared.input.Input.TheVariants.{Exit, Line, Number, Spawned, Wake}
 use Rattle.sl_trace.specs.declared.reply.Reply.TheVariants.{BadCommand as Misread, Done, IoFault, IoTimeout, SpawnFault}
 use Rattle.sl_trace.specs.declared.reply.Reply.{Reply}
 use Rattle.sl_trace_law.proofs.Sessions.Covering.{joinings_are_in_turn}
 use Rattle.sl_trace_law.proofs.Sessions.Making.{same_answered}
 use Rattle.sl_trace_law.proofs.Sessions.Staying.{refused_apart}
 use Rattle.sl_trace_law.specs.Sessions.Promises.{fits, fits_as}
-use Rattle.sl_words.proofs.CaseLaws.{false_is_true, none_some, not_both, one_value, some_value, true_is_false}
+use Rattle.sl_words.proofs.CaseLaws.{false_is_true, none_some, not_both, one_value, some_value}
 use Rattle.std.proofs.Common.{ap, inl, inr, refl, subst, sym, ◌∙◌}
 use Rattle.std.proofs.lemmas.Bool.{eqb-true}
 use Rattle.std.specs.Option.{option_or}
-use Rattle.std.specs.Prelude.{Bool, Contains, List, None, Option, Some, [], false, if◌then◌else◌, is_none, is_some, map, not, true, ℕ, ◌%◌, ◌&&◌, ◌+◌, ◌==◌, ◌||◌, ◌≡◌, ◌⊎◌}
+use Rattle.std.specs.Prelude.{Bool, Contains, List, None, Option, Some, [], false, if◌then◌else◌, is_none, is_some, map, not, true, ℕ, ◌%◌, ◌&&◌, ◌==◌, ◌||◌, ◌≡◌}
 
 -- ---- answers
 
@@ -132,8 +125,7 @@ writer_of x s m answer hears facts order unjoined refused = by (any_found (λ (d
       let left = kept_inside (λ (k : Submitted). is_none k.answer) (calls_of (seen (with_input Wake x)) s) d f.1 in
       let mine = kept_inside (is_call_of s) (submitted (seen (with_input Wake x))) d left.0 in
       let w : Submitted = answered_in x.past (entry_of x) hears.number answer d in
-      let same = (same_answered x.past (entry_of x) hears.number answer d).call in
-      (
+      let same = (same_answered x.past (entry_of x) hears.number answer d).call in (
         w,
         subst (λ ms. Contains ms w) (sym marked) (contains_map (answered_in x.past (entry_of x) hears.number answer) (submitted x.past) d (subst (λ ms. Contains ms d) past_calls mine.0)),
         ap (λ (c : Call). c.session) same ∙ eqb-true d.call.session s.number mine.1,

@@ -3,13 +3,13 @@ use Rattle.sl_acts.proofs.EffectsKeep.{stopped}
 use Rattle.sl_acts.proofs.LoopsKeep.{for_each_keeps, when_keeps}
 use Rattle.sl_acts.specs.Plainly.{ByEffects}
 use Rattle.sl_due.specs.DueFirst.{begin_recoveries, begin_recovery, begins_now, signal_and_refuse}
-use Rattle.sl_due.specs.Steps.{Step, begin_step, seen}
-use Rattle.sl_holding_due.proofs.HoldingsByEffects.{HoldsAt, Upheld, upheld}
+use Rattle.sl_due.specs.Steps.{begin_step, seen}
+use Rattle.sl_holding_due.proofs.HoldingsByEffects.{HoldsAt, upheld}
 use Rattle.sl_holding_due.proofs.HoldingsByLoops.{AnswersNoJob, stopped_held}
 use Rattle.sl_holding_due.proofs.StandsGrow.{stands_same}
 use Rattle.sl_holding_due.specs.Promises.{HoldingFactsBegin}
 use Rattle.sl_plain.proofs.Numbers.{refl_le}
-use Rattle.sl_sessions.specs.Sessions.{is_joined, joined_after, present_sessions, recovery_of, removed_after, session_numbered}
+use Rattle.sl_sessions.specs.Sessions.{is_joined, joined_after, present_sessions, recovery_of, removed_after}
 use Rattle.sl_sessions.specs.Watching.{counted_over, counts_over}
 use Rattle.sl_sessions.specs.declared.session.Session.{Session}
 use Rattle.sl_step_facts.specs.Heard.{IsOpen}
@@ -17,7 +17,7 @@ use Rattle.sl_step_facts.specs.HoldingFacts.{HoldingFacts}
 use Rattle.sl_trace.specs.Traces.{Child, Setting, Submitted, Trace, child_after, children, first_child, held_by, holdings, is_ended_by, next_child, no_effects, spot_of_grant}
 use Rattle.sl_trace.specs.declared.effects.Entry.{Entry}
 use Rattle.sl_trace.specs.declared.effects.Grant.{Grant}
-use Rattle.sl_trace.specs.declared.input.Input.TheVariants.{Answer as Told, Wake}
+use Rattle.sl_trace.specs.declared.input.Input.TheVariants.{Wake}
 use Rattle.sl_trace.specs.declared.input.Input.{Input}
 use Rattle.sl_trace_law.proofs.Sessions.Owning.{session_more}
 use Rattle.sl_trace_law.proofs.Sessions.Staying.{joined_more}
@@ -26,7 +26,7 @@ use Rattle.sl_words.proofs.WordLaws.{and_true}
 use Rattle.sl_words.specs.Words.{choose}
 use Rattle.std.proofs.Common.{ap, append-nil, inl, inr, refl, subst, sym, ◌∙◌}
 use Rattle.sl_plain.proofs.Options.{none_is, some_there}
-use Rattle.std.specs.Prelude.{Bool, Contains, List, None, Option, Some, [], false, filter, is_none, is_some, length, map, not, true, ℕ, ◌&&◌, ◌++◌, ◌+◌, ◌<◌, ◌∷◌, ◌≡◌, ◌≤◌, ◌⊎◌}
+use Rattle.std.specs.Prelude.{Bool, Contains, List, None, Option, Some, [], false, filter, is_none, is_some, length, map, not, true, ℕ, ◌&&◌, ◌+◌, ◌<◌, ◌∷◌, ◌≡◌, ◌≤◌}
 
 -- ---- a step that has done nothing
 

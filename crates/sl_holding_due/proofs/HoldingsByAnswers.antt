@@ -2,19 +2,17 @@
 use Rattle.sl_acts.proofs.InputsKeep.{has_heard}
 use Rattle.sl_acts.specs.Acts.{Has, Hears}
 use Rattle.sl_area.specs.Places.{is_base}
-use Rattle.sl_due.specs.DueLease.{carry_lease, for_work, goes_on, grant_for, next_of_lease, with_command}
+use Rattle.sl_due.specs.DueLease.{carry_lease, goes_on, grant_for, next_of_lease}
 use Rattle.sl_due.specs.Steps.{Step, seen, with_some}
 use Rattle.sl_holding_due.proofs.HoldingsByEffects.{HoldsAt}
-use Rattle.sl_holding_due.proofs.HoldingsByLeases.{IsAligned, IsNoGrant, OfExclusive, ballot_is, carried_held}
+use Rattle.sl_holding_due.proofs.HoldingsByLeases.{IsNoGrant, OfExclusive, ballot_is, carried_held}
 use Rattle.sl_holding_due.proofs.LeaseBeside.{DoesBeside, is_ballot_step, leads_beside}
 use Rattle.sl_holding_due.proofs.LeaseCallers.{caller_joined, commands_fit, heard_answered, heard_call, heard_opens, heard_session, heard_waits, lease_heard, spot_aligned}
-use Rattle.sl_holding_due.proofs.LeaseConversions.{become_exclusive_held, become_shared_held, spot_is}
+use Rattle.sl_holding_due.proofs.LeaseConversions.{become_exclusive_held, become_shared_held}
 use Rattle.sl_holding_due.proofs.LeaseGrants.{IsNewThere, PlaceFor, granted_held}
 use Rattle.sl_holding_due.proofs.LeaseNexts.{IsFitNext, IsGrantOf, next_fits}
 use Rattle.sl_holding_due.proofs.PlainPlaces.{one_place}
 use Rattle.sl_holding_due.specs.Moments.{Known}
-use Rattle.sl_law.specs.Lawful.{IsSetting}
-use Rattle.sl_law.specs.LawfulModes.{IsDone}
 use Rattle.sl_leases.specs.Ballots.{moded_block}
 use Rattle.sl_leases.specs.Jobs.{aim_of, aim_of_command, command_numbered, process_named, resource_named}
 use Rattle.sl_leases.specs.LeaseWork.{LeasePlace, leader_for, lease_next, lease_place}
@@ -31,16 +29,16 @@ use Rattle.sl_sessions.specs.Sessions.{holdings_of}
 use Rattle.sl_sessions.specs.declared.session.Session.{Session}
 use Rattle.sl_step_facts.specs.GrantGrounds.{IsDoneWork}
 use Rattle.sl_step_facts.specs.Heard.{heard_by}
-use Rattle.sl_step_facts.specs.HoldingFacts.{HoldingFacts, StandsExclusive}
+use Rattle.sl_step_facts.specs.HoldingFacts.{StandsExclusive}
 use Rattle.sl_step_facts.specs.JobFacts.{FitsCommand}
 use Rattle.sl_step_facts.specs.WorkFacts.{IsAtWork, MayBeHeld}
 use Rattle.sl_trace.specs.Commands.{IsCommand}
-use Rattle.sl_trace.specs.Traces.{Answered, Setting, Submitted, Trace, holdings, is_running, is_shared, job_of, same_place, spot_of_grant}
+use Rattle.sl_trace.specs.Traces.{Setting, Submitted, holdings, is_shared, job_of, same_place, spot_of_grant}
 use Rattle.sl_trace.specs.declared.command.Command.TheVariants.{Acquire, AddLockspace, Convert, GetLvb, HostStatus, InqLockspace, Release, ReleaseOrphan, RemLockspace, Request, RunProgram, SetKillpath, SetLvb, Status, TakeOver}
 use Rattle.sl_trace.specs.declared.command.Command.{Command}
 use Rattle.sl_trace.specs.declared.command.ResourceArg.{ResourceArg}
 use Rattle.sl_trace.specs.declared.effects.Grant.{Grant}
-use Rattle.sl_trace.specs.declared.effects.LeaseStep.TheVariants.{FreeLeader, SetMode, TakeLeader}
+use Rattle.sl_trace.specs.declared.effects.LeaseStep.TheVariants.{SetMode, TakeLeader}
 use Rattle.sl_trace.specs.declared.effects.LeaseStep.{LeaseStep}
 use Rattle.sl_trace.specs.declared.effects.Mode.TheVariants.{Exclusive, Shared}
 use Rattle.sl_trace.specs.declared.effects.Mode.{Mode}
@@ -54,7 +52,7 @@ use Rattle.sl_words.proofs.CaseLaws.{false_is_true, none_some, not_both, one_val
 use Rattle.sl_words.specs.Words.{same_truth}
 use Rattle.std.proofs.Common.{ap, inl, inr, refl, subst, sym, ◌∙◌}
 use Rattle.std.specs.Option.{option_map_or}
-use Rattle.std.specs.Prelude.{Bool, Contains, IsTrue, List, None, Option, Some, [], false, not, option_map, true, ℕ, ◌<◌, ◌==◌, ◌≡◌, ◌⊎◌}
+use Rattle.std.specs.Prelude.{Bool, Contains, IsTrue, None, Option, Some, false, not, true, ℕ, ◌==◌, ◌≡◌}
 
 -- ---- what is known where a lease's call is answered
 
@@ -327,8 +325,8 @@ become_exclusive x s j m lver b own l under known_is written = by (process_named
   by (Some p) named =
       become_exclusive_held x s (spot_at x m) j k.command p b own lver l.whole.0.facts.holdings l.whole.0.setting (has_heard x s m Written l.hears) (spot_aligned x.setting.layout m) l.hears.ungranted k.named named
       (λ h there same. (
-        let may = converting_beside x s j TakeLeader m Exclusive l h there same in
-        (some_value h.process p (sym may.0 ∙ named), is_mode (is_shared h.mode) may.1)
+      let may = converting_beside x s j TakeLeader m Exclusive l h there same in
+      (some_value h.process p (sym may.0 ∙ named), is_mode (is_shared h.mode) may.1)
       )) stands (known_own x s (spot_at x m) own known_is) written
 
 -- ---- the whole

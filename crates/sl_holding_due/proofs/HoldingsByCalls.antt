@@ -5,17 +5,17 @@ use Rattle.sl_area.specs.Places.{sector_of}
 use Rattle.sl_acts.proofs.SessionsStay.{numbered_more}
 use Rattle.sl_acts.specs.SoFar.{entry_of}
 use Rattle.sl_due.specs.Steps.{Step, add_call_of, seen}
-use Rattle.sl_holding_due.proofs.HoldingsByEffects.{HoldsAt, Upheld, counted_now, counted_on, upheld}
+use Rattle.sl_holding_due.proofs.HoldingsByEffects.{HoldsAt, counted_now, counted_on, upheld}
 use Rattle.sl_holding_due.proofs.StandsGrow.{IsBeside, stands_more, stands_same}
 use Rattle.sl_leases.specs.Leases.{is_lease_call, is_on, lease_calls}
 use Rattle.sl_parts_law.proofs.CallsGrow.{mine_more, others_stay}
 use Rattle.sl_plain.proofs.Numbers.{refl_le}
-use Rattle.sl_sessions.specs.Sessions.{calls_of, generation_in, generation_of, is_joined, is_survey_purpose, joined_after, session_numbered}
+use Rattle.sl_sessions.specs.Sessions.{calls_of, generation_in, generation_of, is_survey_purpose, joined_after, session_numbered}
 use Rattle.sl_sessions.specs.Watching.{counted_over, counts_over, evidence, evidence_in, look_of, sightings}
 use Rattle.sl_sessions.specs.declared.session.Session.{Session}
 use Rattle.sl_sessions.specs.declared.sighting.Sighting.{Sighting}
-use Rattle.sl_step_facts.specs.Heard.{IsOpen, heard_by, newest_calls}
-use Rattle.sl_step_facts.specs.HoldingFacts.{HoldingFacts, StandsExclusive}
+use Rattle.sl_step_facts.specs.Heard.{IsOpen, heard_by}
+use Rattle.sl_step_facts.specs.HoldingFacts.{StandsExclusive}
 use Rattle.sl_trace.specs.TraceLaws.{with_call}
 use Rattle.sl_trace.specs.declared.reply.Evidence.{Evidence}
 use Rattle.sl_trace.specs.Traces.{Answered, Setting, Submitted, Trace, bytes_given, held_by, holdings, is_shared, new_call, next_call, next_child, spot_of_grant}
@@ -25,7 +25,7 @@ use Rattle.sl_trace.specs.declared.effects.Grant.{Grant}
 use Rattle.sl_trace.specs.declared.effects.Op.{Op}
 use Rattle.sl_trace.specs.declared.effects.Purpose.{Purpose}
 use Rattle.sl_words.proofs.CaseLaws.{true_is_false, true_or_false}
-use Rattle.std.proofs.Common.{ap, inl, inr, refl, subst, sym, ◌∙◌}
+use Rattle.std.proofs.Common.{ap, inl, inr, refl, sym, ◌∙◌}
 use Rattle.std.specs.List.{cons_option}
 use Rattle.std.specs.Prelude.{Bool, Contains, List, None, Option, Some, cond, false, filter, is_some, length, nat_lt, option_and_then, option_map, true, [], ℕ, ◌&&◌, ◌++◌, ◌-◌, ◌==◌, ◌∷◌, ◌≡◌, ◌⊎◌}
 
@@ -61,10 +61,10 @@ opens_before past e c heard m (inr h) = absurd (not_last e.effects.calls c h.1)
 look_none : (g : Layout) (id : ℕ) (m : Submitted) → m.answer ≡ None → look_of g id m ≡ None
 look_none g id m none = by (is_survey_purpose m.call.purpose) where
   by : (b : Bool) → (elim b as (λ z. Option Sighting) [
-      | false ↦ None
-      | true ↦ option_and_then (λ (a : Answered).
-          option_map (λ bytes. record { before = m.reading; after = a.reading; bytes = sector_of g bytes (id - 1) }) (bytes_given a.answer)) m.answer
-    ]) ≡ None
+    | false ↦ None
+    | true ↦ option_and_then (λ (a : Answered).
+        option_map (λ bytes. record { before = m.reading; after = a.reading; bytes = sector_of g bytes (id - 1) }) (bytes_given a.answer)) m.answer
+  ]) ≡ None
   by false = refl
   by true =
       ap (λ o. option_and_then (λ (a : Answered). option_map (λ bytes. record { before = m.reading; after = a.reading; bytes = sector_of g bytes (id - 1) }) (bytes_given a.answer)) o) none

@@ -1,14 +1,13 @@
 -- What sessions do for their delta leases keeps the facts of holdings: a joining holds nothing, a renewal and a free keep the generation,
 -- and who leaves holds nothing any more.
-use Rattle.sl_acts.proofs.InputsKeep.{has_heard}
-use Rattle.sl_acts.specs.Acts.{Has, Hears}
+use Rattle.sl_acts.specs.Acts.{Has}
 use Rattle.sl_acts.specs.SoFar.{entry_of}
-use Rattle.sl_due.specs.DueDelta.{carry_delta, end_leaving, for_joining, move_connection, read_own_sector, register, survey, write_own_sector}
+use Rattle.sl_due.specs.DueDelta.{carry_delta, for_joining, move_connection, read_own_sector, register, survey, write_own_sector}
 use Rattle.sl_due.specs.DueFirst.{refuse, remove_connection, remove_of_refused}
-use Rattle.sl_due.specs.Steps.{Step, add_call_of, add_move, add_reply, seen, when, with_input, with_some}
-use Rattle.sl_holding_due.proofs.HoldersSpared.{IsJoining, NoneHeldOf, joined_some, joining, none_of_empty, none_of_joining, none_of_writer, removal_held}
+use Rattle.sl_due.specs.Steps.{Step, add_move, add_reply, seen, when, with_some}
+use Rattle.sl_holding_due.proofs.HoldersSpared.{IsJoining, NoneHeldOf, joined_some, joining, none_of_joining, removal_held}
 use Rattle.sl_holding_due.proofs.HoldingsByCalls.{CallSpares, call_added, call_held}
-use Rattle.sl_holding_due.proofs.HoldingsByEffects.{HoldsAt, SameCalls, later_same, move_held, reply_held, waking_same}
+use Rattle.sl_holding_due.proofs.HoldingsByEffects.{HoldsAt, SameCalls, later_same, move_held, reply_held}
 use Rattle.sl_job_facts.proofs.RepliesComeAfter.{IsLateDelta}
 use Rattle.sl_leases.specs.Leases.{is_lease_call, is_on}
 use Rattle.sl_plain.proofs.Lists.{find_inside, got_inside}
@@ -17,23 +16,20 @@ use Rattle.sl_sector.specs.declared.sector.DeltaRec.{DeltaRec}
 use Rattle.sl_sector.specs.declared.sector.DeltaState.TheVariants.{Free, Live}
 use Rattle.sl_sector.specs.declared.sector.Rec.TheVariants.{DeltaIs}
 use Rattle.sl_sessions.specs.Deltas.{delta_known, delta_of_session, delta_record, is_renewal_due, next_after_free, next_after_renewal, next_free, next_renewal, own_offset}
-use Rattle.sl_sessions.specs.Sessions.{calls_of, delta_written, free_write, generation_in, generation_of, given_number, has_open_write, is_joined, last_delta, last_seq, leaving_job, refused_after, session_numbered, session_of_job, sessions}
+use Rattle.sl_sessions.specs.Sessions.{calls_of, delta_written, free_write, generation_of, given_number, has_open_write, is_joined, last_delta, last_seq, leaving_job, refused_after, session_numbered, session_of_job, sessions}
 use Rattle.sl_sessions.specs.declared.delta.DeltaNext.TheVariants.{Disconnect, EndLeaving, Join, MoveConnection, Nothing, ReadOwn, RefuseJoin, RegisterAndRead, WriteClaim, WriteFirst, WriteFree, WriteRenewal}
 use Rattle.sl_sessions.specs.declared.delta.DeltaNext.{DeltaNext}
 use Rattle.sl_sessions.specs.declared.session.Session.{Session}
 use Rattle.sl_step_facts.specs.Heard.{heard_by}
 use Rattle.sl_step_facts.specs.SessionFacts.{NameFacts}
 use Rattle.sl_time.specs.Times.{fail}
-use Rattle.sl_trace.specs.Traces.{Job, Setting, Submitted, Trace, holdings, is_before_input, is_running, new_call, spot_of_grant}
+use Rattle.sl_trace.specs.Traces.{Job, holdings, is_before_input, is_running, new_call, spot_of_grant}
 use Rattle.sl_trace.specs.declared.effects.Call.{Call}
 use Rattle.sl_trace.specs.declared.effects.Grant.{Grant}
 use Rattle.sl_trace.specs.declared.effects.JoinStep.TheVariants.{ClaimWrite, FirstRenewal}
-use Rattle.sl_trace.specs.declared.effects.JoinStep.{JoinStep}
 use Rattle.sl_trace.specs.declared.effects.Move.TheVariants.{Register, Renew}
 use Rattle.sl_trace.specs.declared.effects.Op.TheVariants.{ReadSectors, WriteRecord}
-use Rattle.sl_trace.specs.declared.effects.Op.{Op}
 use Rattle.sl_trace.specs.declared.effects.Purpose.TheVariants.{Joining, Leaving, Renewal, Survey}
-use Rattle.sl_trace.specs.declared.effects.Purpose.{Purpose}
 use Rattle.sl_trace.specs.declared.input.Answer.TheVariants.{Failed, Read, Written}
 use Rattle.sl_trace.specs.declared.input.Answer.{Answer}
 use Rattle.sl_trace.specs.declared.reply.Reply.TheVariants.{Done, Generation, IoFault}
@@ -42,10 +38,10 @@ use Rattle.sl_trace_law.proofs.Leases.NumberLaws.{number_is_place}
 use Rattle.sl_words.proofs.CaseLaws.{not_both, one_value}
 use Rattle.sl_words.proofs.WordLaws.{some_is_true}
 use Rattle.sl_words.specs.Words.{some_is}
-use Rattle.std.proofs.Common.{ap, inl, inr, refl, subst, sym, ◌∙◌}
+use Rattle.std.proofs.Common.{ap, refl, subst, sym, ◌∙◌}
 use Rattle.std.proofs.lemmas.Bool.{eqb-true}
 use Rattle.std.specs.Option.{option_map_or}
-use Rattle.std.specs.Prelude.{Bool, Contains, List, None, Option, Some, [], false, is_some, length, not, option_map, true, ℕ, ◌&&◌, ◌+◌, ◌==◌, ◌∷◌, ◌≡◌, ◌⊎◌}
+use Rattle.std.specs.Prelude.{Bool, Contains, List, None, Option, Some, false, is_some, length, not, option_map, true, ℕ, ◌&&◌, ◌+◌, ◌==◌, ◌≡◌}
 
 -- ---- calls that spare holders
 

@@ -8,7 +8,7 @@ use Rattle.sl_parts_law.proofs.EffectsAreTold.{effects_are_told}
 use Rattle.sl_parts_law.specs.Parts.{with_end, with_move, with_reply, with_start}
 use Rattle.sl_leases.specs.Leases.{is_lease_call, is_on}
 use Rattle.sl_plain.proofs.Lists.{contains_cases, contains_none, kept_inside}
-use Rattle.sl_plain.proofs.Numbers.{number_itself, refl_le, trans_le, lt_then_le}
+use Rattle.sl_plain.proofs.Numbers.{number_itself, refl_le, lt_then_le}
 use Rattle.sl_plain.proofs.Options.{mapped_value, some_there, then_value}
 use Rattle.sl_sessions.specs.Sessions.{calls_of, generation_in, generation_of, is_call_of, is_join_done, is_joined, joined_after, removed_after, session_numbered}
 use Rattle.sl_sessions.specs.Watching.{counted_over, counts_over, evidence_in}
@@ -27,7 +27,7 @@ use Rattle.sl_trace.specs.declared.effects.Start.{Start}
 use Rattle.sl_trace.specs.declared.input.Input.TheVariants.{Answer as Told, Exit, Line, Number, Spawned, Wake}
 use Rattle.sl_trace.specs.declared.input.Input.{Input}
 use Rattle.sl_trace.specs.declared.reply.Reply.{Reply}
-use Rattle.sl_words.proofs.CaseLaws.{false_is_true, none_some, one_value, some_value, true_is_false}
+use Rattle.sl_words.proofs.CaseLaws.{none_some, one_value, true_is_false}
 use Rattle.sl_words.proofs.WordLaws.{and_true}
 use Rattle.sl_words.specs.Words.{choose}
 use Rattle.std.proofs.Common.{ap, arith, inl, inr, refl, subst, sym, ◌∙◌}
@@ -35,7 +35,7 @@ use Rattle.std.proofs.lemmas.List.{length-append}
 use Rattle.std.proofs.lemmas.List.Elements.{Contains-append_cases, Contains-append_left, Contains-append_right, filter-append}
 use Rattle.std.specs.List.{list_any}
 use Rattle.std.specs.Option.{option_or}
-use Rattle.std.specs.Prelude.{Bool, Contains, IsTrue, List, None, Option, Some, cond, false, filter, find, fold, is_none, is_some, length, map, nat_lt, not, option_and_then, option_map, true, [], ℕ, ◌&&◌, ◌++◌, ◌+◌, ◌<◌, ◌==◌, ◌||◌, ◌∷◌, ◌≡◌, ◌≤◌, ◌⊎◌}
+use Rattle.std.specs.Prelude.{Bool, Contains, List, None, Option, Some, cond, false, filter, find, fold, is_none, is_some, length, map, nat_lt, not, option_and_then, option_map, true, [], ℕ, ◌&&◌, ◌++◌, ◌+◌, ◌<◌, ◌==◌, ◌||◌, ◌∷◌, ◌≡◌, ◌≤◌, ◌⊎◌}
 
 -- ---- facts of holdings go on
 

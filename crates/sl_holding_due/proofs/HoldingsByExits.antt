@@ -3,9 +3,9 @@ use Rattle.sl_acts.proofs.LoopsKeep.{each_in_turn, for_each_keeps}
 use Rattle.sl_acts.specs.SoFar.{entry_of}
 use Rattle.sl_area.specs.Places.{is_base}
 use Rattle.sl_due.specs.DueInputs.{end_holdings, leave_holdings}
-use Rattle.sl_due.specs.Steps.{Step, add_end, add_grant, for_each, seen}
-use Rattle.sl_holding_due.proofs.HoldingsByEffects.{HoldsAt, end_held, end_inside}
-use Rattle.sl_holding_due.proofs.HoldingsByGrants.{MayGrant, grant_held, old_or_granted}
+use Rattle.sl_due.specs.Steps.{Step, add_end, add_grant, seen}
+use Rattle.sl_holding_due.proofs.HoldingsByEffects.{HoldsAt, end_inside}
+use Rattle.sl_holding_due.proofs.HoldingsByGrants.{grant_held, old_or_granted}
 use Rattle.sl_holding_due.proofs.HoldingsByLoops.{ended_held}
 use Rattle.sl_holding_due.proofs.PlainPlaces.{fewer_kept, kept_counted, one_place, place_turned}
 use Rattle.sl_holding_due.proofs.StandsGrow.{stands_same}
@@ -16,18 +16,17 @@ use Rattle.sl_plain.proofs.Numbers.{above_zero, number_itself}
 use Rattle.sl_sessions.specs.Sessions.{is_joined, session_numbered}
 use Rattle.sl_sessions.specs.declared.session.Session.{Session}
 use Rattle.sl_step_facts.specs.Heard.{heard_by}
-use Rattle.sl_step_facts.specs.HoldingFacts.{HoldingFacts, StandsExclusive}
-use Rattle.sl_trace.specs.Traces.{Setting, Trace, end_of, has_orphan_of, held_by, holdings, is_ended_by, is_orphan, is_shared, leaves_orphan, next_child, no_process, orphan_of, orphans_left, same_place, spot_of_grant}
+use Rattle.sl_step_facts.specs.HoldingFacts.{StandsExclusive}
+use Rattle.sl_trace.specs.Traces.{Trace, end_of, has_orphan_of, held_by, holdings, is_ended_by, is_orphan, is_shared, leaves_orphan, next_child, no_process, orphan_of, orphans_left, same_place, spot_of_grant}
 use Rattle.sl_trace.specs.declared.effects.End.{End}
 use Rattle.sl_trace.specs.declared.effects.Entry.{Entry}
 use Rattle.sl_trace.specs.declared.effects.Grant.{Grant}
-use Rattle.sl_words.proofs.CaseLaws.{false_is_true, is_false, not_both, one_value, true_or_false}
+use Rattle.sl_words.proofs.CaseLaws.{false_is_true, is_false, not_both}
 use Rattle.sl_words.proofs.WordLaws.{and_true}
 use Rattle.std.proofs.Common.{ap, arith, inl, inr, refl, subst, sym, ◌∙◌}
 use Rattle.std.proofs.lemmas.Bool.{eqb-true}
 use Rattle.std.proofs.lemmas.List.Elements.{Contains-append_cases}
-use Rattle.std.specs.List.{list_any}
-use Rattle.std.specs.Prelude.{Bool, Contains, IsTrue, List, None, Option, Some, [], cond, false, filter, length, map, not, true, ℕ, ◌&&◌, ◌++◌, ◌+◌, ◌<◌, ◌==◌, ◌||◌, ◌∷◌, ◌≡◌, ◌≤◌, ◌⊎◌}
+use Rattle.std.specs.Prelude.{Bool, Contains, IsTrue, List, Some, [], cond, false, filter, length, map, not, true, ℕ, ◌&&◌, ◌+◌, ◌<◌, ◌==◌, ◌||◌, ◌∷◌, ◌≡◌, ◌≤◌, ◌⊎◌}
 
 -- ---- ends
 
@@ -230,8 +229,7 @@ left_held y p bare h = (each_in_turn IsLeaving (orphans_left p hs) add_grant (en
   beside l k there held same =
       let its = leaves l there in
       let old : Contains hs k = ended.inside k held in
-      let other : k ≡ l → ⊥ = λ is. ended.gone k held (ap (λ (z : Grant). z.process) is ∙ eqb-true l.process p its.1) in
-      (
+      let other : k ≡ l → ⊥ = λ is. ended.gone k held (ap (λ (z : Grant). z.process) is ∙ eqb-true l.process p its.1) in (
         shared_by k (λ exclusive. other (sym (h.alone k l old its.0 (place_turned k.path l.path k.offset l.offset same) exclusive))),
         shared_by l (λ exclusive. other (h.alone l k its.0 old same exclusive)),
         λ none. not_both (has_orphan_of hs l) (any_of (λ (e : Grant). is_orphan e && same_place e.path e.offset l.path l.offset) hs k (ap (λ b. b && same_place k.path k.offset l.path l.offset) (subst (λ n. (n == no_process) ≡ true) (sym none) refl) ∙ same) old) its.2,

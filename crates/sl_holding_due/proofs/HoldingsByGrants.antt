@@ -11,16 +11,16 @@ use Rattle.sl_plain.proofs.Numbers.{number_itself}
 use Rattle.sl_sessions.specs.Sessions.{is_joined, session_numbered}
 use Rattle.sl_sessions.specs.declared.session.Session.{Session}
 use Rattle.sl_step_facts.specs.Heard.{heard_by}
-use Rattle.sl_step_facts.specs.HoldingFacts.{HoldingFacts, StandsExclusive}
-use Rattle.sl_trace.specs.Traces.{Setting, Trace, held_by, holdings, is_shared, next_child, same_place, spot_of_grant}
+use Rattle.sl_step_facts.specs.HoldingFacts.{StandsExclusive}
+use Rattle.sl_trace.specs.Traces.{held_by, holdings, is_shared, next_child, same_place, spot_of_grant}
 use Rattle.sl_trace.specs.declared.effects.Grant.{Grant}
-use Rattle.sl_words.proofs.CaseLaws.{is_false, not_both, one_value, true_or_false}
+use Rattle.sl_words.proofs.CaseLaws.{is_false, not_both, one_value}
 use Rattle.sl_words.proofs.WordLaws.{and_true}
-use Rattle.std.proofs.Common.{ap, arith, inl, inr, refl, subst, sym, ◌∙◌}
+use Rattle.std.proofs.Common.{ap, inl, inr, refl, subst, sym, ◌∙◌}
 use Rattle.std.proofs.lemmas.Bool.{eqb-true}
 use Rattle.std.proofs.lemmas.List.{length-append}
-use Rattle.std.proofs.lemmas.List.Elements.{Contains-append_cases, Contains-append_left, Contains-append_right, filter-append}
-use Rattle.std.specs.Prelude.{Bool, Contains, IsTrue, List, Option, Some, cond, false, filter, length, true, [], ℕ, ◌&&◌, ◌++◌, ◌+◌, ◌<◌, ◌==◌, ◌∷◌, ◌≡◌, ◌⊎◌}
+use Rattle.std.proofs.lemmas.List.Elements.{Contains-append_cases, filter-append}
+use Rattle.std.specs.Prelude.{Bool, Contains, IsTrue, List, Some, cond, false, length, true, [], ℕ, ◌&&◌, ◌++◌, ◌+◌, ◌<◌, ◌==◌, ◌∷◌, ◌≡◌, ◌⊎◌}
 
 -- What a grant asks.
 pub record MayGrant (x : Step) (g : Grant) : Type 0 where

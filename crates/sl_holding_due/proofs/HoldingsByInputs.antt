@@ -4,23 +4,22 @@ use Rattle.sl_acts.proofs.Additions.{begun_by}
 use Rattle.sl_acts.specs.Acts.{Expects}
 use Rattle.sl_acts.specs.SoFar.{entry_of}
 use Rattle.sl_due.specs.Steps.{Step, seen, with_input}
-use Rattle.sl_holding_due.proofs.HoldingsByEffects.{HoldsAt, Upheld, counted_now, counted_on, upheld}
+use Rattle.sl_holding_due.proofs.HoldingsByEffects.{HoldsAt, counted_now, counted_on, upheld}
 use Rattle.sl_holding_due.proofs.StandsGrow.{stands_marked, stands_same}
 use Rattle.sl_leases.specs.Leases.{is_lease_call, is_on, lease_calls}
 use Rattle.sl_plain.proofs.Lists.{any_found, contains_map, in_map, kept_inside}
 use Rattle.sl_plain.proofs.Numbers.{lt_then_le, refl_le}
 use Rattle.sl_plain.proofs.Options.{none_is}
 use Rattle.sl_sector.specs.declared.sector.DeltaRec.{DeltaRec}
-use Rattle.sl_sessions.specs.Sessions.{calls_of, delta_written, generation_in, generation_of, given_number, is_call_of, is_joined, is_join_call, joined_after, last_delta, session_numbered, sessions}
+use Rattle.sl_sessions.specs.Sessions.{calls_of, delta_written, generation_in, generation_of, given_number, is_call_of, is_join_call, joined_after, last_delta, session_numbered, sessions}
 use Rattle.sl_sessions.specs.Watching.{counted_over, counts_over, evidence_in}
 use Rattle.sl_sessions.specs.declared.session.Session.{Session}
 use Rattle.sl_step_facts.specs.CallFacts.{CallFacts}
 use Rattle.sl_step_facts.specs.Heard.{IsOpen, heard_by}
-use Rattle.sl_step_facts.specs.HoldingFacts.{HoldingFacts, StandsExclusive}
-use Rattle.sl_trace.specs.Traces.{Answered, Child, Setting, Submitted, Trace, answer_of, answered_in, call_numbered, child_after, children, first_child, held_by, holdings, is_answer_for, is_shared, mark, new_call, new_child, next_child, outstanding, spot_of_grant, submitted}
+use Rattle.sl_step_facts.specs.HoldingFacts.{StandsExclusive}
+use Rattle.sl_trace.specs.Traces.{Answered, Child, Setting, Submitted, Trace, answer_of, answered_in, call_numbered, child_after, children, first_child, held_by, holdings, is_answer_for, mark, new_call, new_child, next_child, outstanding, spot_of_grant, submitted}
 use Rattle.sl_trace.specs.declared.effects.Call.{Call}
 use Rattle.sl_trace.specs.declared.effects.Entry.{Entry}
-use Rattle.sl_trace.specs.declared.effects.Grant.{Grant}
 use Rattle.sl_trace.specs.declared.effects.JoinStep.TheVariants.{FirstRead}
 use Rattle.sl_trace.specs.declared.effects.Spot.{Spot}
 use Rattle.sl_trace.specs.declared.input.Answer.{Answer}
@@ -35,7 +34,7 @@ use Rattle.std.proofs.lemmas.List.{length-append, length-map}
 use Rattle.std.proofs.lemmas.List.Elements.{Contains-append_cases, Contains-append_left, Contains-append_right}
 use Rattle.std.specs.List.{list_any}
 use Rattle.std.specs.Option.{option_map_or, option_or}
-use Rattle.std.specs.Prelude.{Bool, Contains, IsTrue, List, None, Option, Some, cond, false, filter, fold, is_none, is_some, length, map, nat_lt, slice_get, true, [], ℕ, ◌&&◌, ◌++◌, ◌+◌, ◌<◌, ◌==◌, ◌∷◌, ◌≡◌, ◌≤◌, ◌⊎◌}
+use Rattle.std.specs.Prelude.{Bool, Contains, List, None, Option, Some, cond, false, filter, fold, is_none, is_some, length, map, nat_lt, slice_get, true, [], ℕ, ◌&&◌, ◌++◌, ◌+◌, ◌<◌, ◌==◌, ◌∷◌, ◌≡◌, ◌≤◌, ◌⊎◌}
 
 -- ---- the calls
 

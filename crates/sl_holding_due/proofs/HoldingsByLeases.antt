@@ -3,8 +3,8 @@
 use Rattle.sl_acts.specs.Acts.{Has}
 use Rattle.sl_acts.specs.SoFar.{entry_of}
 use Rattle.sl_area.specs.Places.{block_offset, is_base, leader_offset}
-use Rattle.sl_due.specs.DueLease.{carry_lease, for_work, lease_call, read_for}
-use Rattle.sl_due.specs.Steps.{Step, add_call_of, add_reply, seen, with_some}
+use Rattle.sl_due.specs.DueLease.{carry_lease, lease_call}
+use Rattle.sl_due.specs.Steps.{Step, add_reply, seen, with_some}
 use Rattle.sl_holding_due.proofs.HoldingsByCalls.{CallSpares, call_added, call_held}
 use Rattle.sl_holding_due.proofs.HoldingsByDeltas.{same_session}
 use Rattle.sl_holding_due.proofs.HoldingsByEffects.{HoldsAt, later_same, reply_held}
@@ -24,8 +24,8 @@ use Rattle.sl_sector.specs.declared.sector.Rec.TheVariants.{BlockIs, LeaderIs}
 use Rattle.sl_sessions.specs.Sessions.{calls_of, delta_written, given_number, last_delta, session_numbered, sessions}
 use Rattle.sl_sessions.specs.declared.session.Session.{Session}
 use Rattle.sl_step_facts.specs.Heard.{heard_by}
-use Rattle.sl_step_facts.specs.HoldingFacts.{HoldingFacts, StandsExclusive, is_ballot_call}
-use Rattle.sl_trace.specs.Traces.{Setting, Submitted, Trace, holdings, is_before_input, is_shared, new_call, spot_of_grant, work_job}
+use Rattle.sl_step_facts.specs.HoldingFacts.{StandsExclusive, is_ballot_call}
+use Rattle.sl_trace.specs.Traces.{Submitted, holdings, is_before_input, is_shared, new_call, spot_of_grant, work_job}
 use Rattle.sl_trace.specs.declared.effects.Call.{Call}
 use Rattle.sl_trace.specs.declared.effects.Grant.{Grant}
 use Rattle.sl_trace.specs.declared.effects.LeaseStep.TheVariants.{ClearMode, FreeLeader, Phase1Read, Phase1Write, Phase2Read, Phase2Write, ReadArea, ReadBeforeFree, SetMode, TakeLeader}
@@ -36,14 +36,13 @@ use Rattle.sl_trace.specs.declared.effects.Purpose.TheVariants.{Lease, Renewal}
 use Rattle.sl_trace.specs.declared.effects.Purpose.{Purpose}
 use Rattle.sl_trace.specs.declared.effects.Spot.{Spot}
 use Rattle.sl_trace.specs.declared.effects.Work.{Work}
-use Rattle.sl_trace.specs.declared.reply.Reply.{Reply}
 use Rattle.sl_trace_law.proofs.Leases.NumberLaws.{number_is_place}
 use Rattle.sl_words.proofs.CaseLaws.{none_some, some_value}
 use Rattle.sl_words.proofs.WordLaws.{and_true}
 use Rattle.std.proofs.Common.{ap, refl, subst, sym, ◌∙◌}
 use Rattle.std.proofs.lemmas.Bool.{eqb-true}
 use Rattle.std.specs.Option.{option_map_or}
-use Rattle.std.specs.Prelude.{Bool, Contains, IsTrue, List, None, Option, Some, [], cond, false, length, nat_lt, true, ℕ, ◌%◌, ◌&&◌, ◌+◌, ◌<◌, ◌==◌, ◌^◌, ◌≡◌, ◌≤◌}
+use Rattle.std.specs.Prelude.{Bool, Contains, IsTrue, None, Option, Some, [], cond, false, length, nat_lt, true, ℕ, ◌%◌, ◌+◌, ◌<◌, ◌==◌, ◌^◌, ◌≡◌}
 
 -- ---- one call
 
@@ -119,9 +118,9 @@ block_beside own n m work step b fresh purpose op does some =
       fresh = fresh;
       no_ballot = ballot_is m work step purpose ∙ does.0;
       block = λ c writes. (
-        let same : b ≡ c = some_value b c (sym (ap (λ o. block_of_op o) op) ∙ writes) in
-        (ap (λ (z : Block). z.lver) (sym same) ∙ does.1, ap (λ (z : Block). z.mbal) (sym same) ∙ does.2)
-      );
+          let same : b ≡ c = some_value b c (sym (ap (λ o. block_of_op o) op) ∙ writes) in
+          (ap (λ (z : Block). z.lver) (sym same) ∙ does.1, ap (λ (z : Block). z.mbal) (sym same) ∙ does.2)
+          );
       frees = subst (λ i. i < n) (sym (ap (λ o. freed_of_op o) op)) some;
     }
 

@@ -2,10 +2,10 @@
 use Rattle.sl_acts.proofs.DecisionsAreTheirs.{Of, decisions_are_theirs}
 use Rattle.sl_acts.proofs.PlainActs.{line_has}
 use Rattle.sl_acts.specs.Acts.{Has}
-use Rattle.sl_acts.specs.Promises.{IsDecidedFor, IsPresent}
+use Rattle.sl_acts.specs.Promises.{IsDecidedFor}
 use Rattle.sl_acts.specs.SoFar.{entry_of}
 use Rattle.sl_area.specs.Places.{delta_offset, is_base, value_offset}
-use Rattle.sl_due.specs.DueCommands.{after_end, carry_decision, decided, holding_of}
+use Rattle.sl_due.specs.DueCommands.{after_end, carry_decision, decided}
 use Rattle.sl_due.specs.DueLease.{carry_lease, grant_for}
 use Rattle.sl_due.specs.Steps.{Step, add_call_of, add_end, add_reply, seen, with_input}
 use Rattle.sl_due.specs.declared.decision.Decision.TheVariants.{ConvertsTo, GetsValue, GivesUp, Joins, Leaves, ReadsArea, Replies, Requests, SetsValue, Shares, TakesOver}
@@ -23,15 +23,14 @@ use Rattle.sl_holding_due.proofs.LeaseConversions.{spot_is}
 use Rattle.sl_holding_due.proofs.LeaseGrants.{IsNewThere, PlaceFor, granted_held}
 use Rattle.sl_holding_due.proofs.PlainPlaces.{one_place, place_turned, text_is}
 use Rattle.sl_holding_due.proofs.StandsGrow.{stands_same}
-use Rattle.sl_holding_due.specs.DecisionGrounds.{AcquireGrounds, AsksLease, ConvertGrounds, GiveUpGrounds, HasGrounds, IsFreeFor, IsReady, SharesGrounds, TakeOverGrounds}
+use Rattle.sl_holding_due.specs.DecisionGrounds.{AcquireGrounds, AsksLease, ConvertGrounds, HasGrounds, IsFreeFor, SharesGrounds, TakeOverGrounds}
 use Rattle.sl_law.specs.Lawful.{IsSetting}
 use Rattle.sl_leases.specs.Ballots.{moded_block}
-use Rattle.sl_leases.specs.Counts.{held_here, holds_already, may_act, other_holder}
+use Rattle.sl_leases.specs.Counts.{held_here, may_act}
 use Rattle.sl_leases.specs.Jobs.{process_named, resource_named, wants_shared}
-use Rattle.sl_leases.specs.LeaseWork.{LeasePlace, convert_next, lease_place, leader_for, release_next}
-use Rattle.sl_leases.specs.Leases.{LeaseKnown, block_submitted, holdings_on, known, lease_calls, orphan_on, spot_of}
-use Rattle.sl_leases.specs.declared.lease.LeaseNext.TheVariants.{AnswerJob, Nothing, ReadFor, WriteBlock, WriteLeader}
-use Rattle.sl_leases.specs.declared.lease.LeaseNext.{LeaseNext}
+use Rattle.sl_leases.specs.LeaseWork.{LeasePlace, convert_next, lease_place, release_next}
+use Rattle.sl_leases.specs.Leases.{LeaseKnown, block_submitted, holdings_on, known, lease_calls, spot_of}
+use Rattle.sl_leases.specs.declared.lease.LeaseNext.TheVariants.{Nothing, ReadFor, WriteBlock}
 use Rattle.sl_plain.proofs.Lists.{any_of, contains_none, find_inside, kept, kept_inside}
 use Rattle.sl_plain.proofs.Numbers.{lt_then_le, number_itself}
 use Rattle.sl_sector.specs.declared.sector.Block.{Block}
@@ -39,38 +38,36 @@ use Rattle.sl_sector.specs.declared.sector.Rec.TheVariants.{ValueIs}
 use Rattle.sl_sessions.specs.Sessions.{holdings_of, is_active, is_joined, leaving_job, present_sessions, recovery_of, session_named, session_numbered, sessions}
 use Rattle.sl_sessions.specs.declared.session.Session.{Session}
 use Rattle.sl_step_facts.specs.Heard.{heard_by}
-use Rattle.sl_step_facts.specs.HoldingFacts.{HoldingFacts, StandsExclusive}
+use Rattle.sl_step_facts.specs.HoldingFacts.{StandsExclusive}
 use Rattle.sl_trace.specs.Commands.{IsCommand, IsResourceArg}
 use Rattle.sl_trace.specs.Limits.{most_children, most_processes}
-use Rattle.sl_trace.specs.Traces.{Child, Setting, Trace, child_numbered, children, end_of, first_child, holdings, is_child, is_ended_by, is_orphan, is_shared, next_child, next_job, same_place, spot_of_grant}
-use Rattle.sl_trace.specs.declared.command.Command.TheVariants.{Acquire, Convert, RunProgram, TakeOver}
+use Rattle.sl_trace.specs.Traces.{Child, Setting, Trace, child_numbered, children, end_of, holdings, is_child, is_ended_by, is_orphan, is_shared, next_child, same_place, spot_of_grant}
 use Rattle.sl_trace.specs.declared.command.Command.{Command}
 use Rattle.sl_trace.specs.declared.command.LockspaceArg.{LockspaceArg}
 use Rattle.sl_trace.specs.declared.command.ResourceArg.{ResourceArg}
 use Rattle.sl_trace.specs.declared.effects.Call.{Call}
 use Rattle.sl_trace.specs.declared.effects.Grant.{Grant}
 use Rattle.sl_trace.specs.declared.effects.JoinStep.TheVariants.{FirstRead}
-use Rattle.sl_trace.specs.declared.effects.LeaseStep.TheVariants.{ClearMode, FreeLeader, ReadArea, SetMode}
+use Rattle.sl_trace.specs.declared.effects.LeaseStep.TheVariants.{ClearMode, ReadArea, SetMode}
 use Rattle.sl_trace.specs.declared.effects.Mode.TheVariants.{Exclusive, Shared}
 use Rattle.sl_trace.specs.declared.effects.Mode.{Mode}
 use Rattle.sl_trace.specs.declared.effects.Op.TheVariants.{ReadSectors, WriteRecord}
 use Rattle.sl_trace.specs.declared.effects.Purpose.TheVariants.{Joining, RequestRead, ValueRead, ValueWrite}
 use Rattle.sl_trace.specs.declared.effects.Spot.{Spot}
 use Rattle.sl_trace.specs.declared.effects.Work.TheVariants.{ForJob}
-use Rattle.sl_trace.specs.declared.input.Input.TheVariants.{Answer as Told, Line, Wake}
-use Rattle.sl_trace.specs.declared.input.Input.{Input}
+use Rattle.sl_trace.specs.declared.input.Input.TheVariants.{Line, Wake}
 use Rattle.sl_trace.specs.declared.reply.Reply.TheVariants.{Done}
 use Rattle.sl_trace_law.proofs.Leases.NumberLaws.{number_is_place}
-use Rattle.sl_words.proofs.CaseLaws.{false_is_true, none_some, not_both, one_value, some_value, true_is_false}
+use Rattle.sl_words.proofs.CaseLaws.{none_some, not_both, one_value, some_value, true_is_false}
 use Rattle.sl_words.proofs.OptionLaws.{choose_none}
 use Rattle.sl_words.proofs.WordLaws.{and_true, or_true, some_is_true}
-use Rattle.sl_words.specs.Words.{least, same_truth, some_is}
+use Rattle.sl_words.specs.Words.{same_truth, some_is}
 use Rattle.std.proofs.Common.{ap, arith, inl, inr, refl, subst, suc, sym, zero, ◌∙◌}
 use Rattle.std.proofs.lemmas.Bool.{eqb-true, leb-true}
 use Rattle.std.specs.Int.{is_in_range}
 use Rattle.std.specs.List.{list_any}
 use Rattle.std.specs.Option.{option_map_or}
-use Rattle.std.specs.Prelude.{Bool, Contains, IsTrue, List, None, Ok, Option, Some, [], bytes_eq, false, filter, find, is_none, length, map, nat_le, nat_lt, not, slice_get, true, ℕ, ◌%◌, ◌&&◌, ◌+◌, ◌<◌, ◌==◌, ◌^◌, ◌||◌, ◌∷◌, ◌≡◌, ◌≤◌, ◌⊎◌}
+use Rattle.std.specs.Prelude.{Bool, Contains, IsTrue, List, None, Ok, Option, Some, [], bytes_eq, false, is_none, length, nat_le, nat_lt, not, slice_get, true, ℕ, ◌%◌, ◌&&◌, ◌+◌, ◌<◌, ◌==◌, ◌^◌, ◌∷◌, ◌≡◌, ◌≤◌, ◌⊎◌}
 
 -- ---- what a line finds
 

@@ -1,25 +1,18 @@
 -- Signals and refusals of many keep the facts of holdings, and so does the exit of a process.
-use Rattle.sl_acts.proofs.LoopsKeep.{each_in_turn, for_each_keeps, when_keeps}
+use Rattle.sl_acts.proofs.LoopsKeep.{for_each_keeps, when_keeps}
 use Rattle.sl_acts.specs.SoFar.{entry_of}
-use Rattle.sl_due.specs.DueFirst.{refuse_jobs, send, signal_and_refuse, signal_holders}
-use Rattle.sl_due.specs.DueInputs.{end_holdings, leave_holdings, refuse_jobs_of, when_running}
-use Rattle.sl_due.specs.Steps.{Step, add_end, add_grant, add_reply, add_signal, add_start, for_each, seen}
-use Rattle.sl_holding_due.proofs.HoldingsByEffects.{HoldsAt, SameCalls, end_held, end_inside, later_same, reply_held, signal_held, start_held}
-use Rattle.sl_holding_due.proofs.HoldingsByGrants.{MayGrant, grant_held, old_or_granted}
-use Rattle.sl_holding_due.proofs.PlainPlaces.{place_is, place_turned}
-use Rattle.sl_holding_due.proofs.StandsGrow.{stands_same}
+use Rattle.sl_due.specs.DueFirst.{send, signal_and_refuse, signal_holders}
+use Rattle.sl_due.specs.DueInputs.{end_holdings, refuse_jobs_of, when_running}
+use Rattle.sl_due.specs.Steps.{Step, add_end, add_reply, add_signal, add_start, seen}
+use Rattle.sl_holding_due.proofs.HoldingsByEffects.{HoldsAt, SameCalls, end_held, later_same, reply_held, signal_held, start_held}
 use Rattle.sl_leases.specs.Counts.{stopper_of}
 use Rattle.sl_leases.specs.Jobs.{is_job_of_process, jobs_of_session}
 use Rattle.sl_parts_law.specs.Parts.{with_reply}
-use Rattle.sl_plain.proofs.Lists.{any_of, contains_cases, contains_first, contains_more, contains_none, in_map, kept_inside}
-use Rattle.sl_plain.proofs.Numbers.{number_itself}
-use Rattle.sl_sessions.specs.Sessions.{holders_of, is_joined, last_renewal, session_numbered}
+use Rattle.sl_plain.proofs.Lists.{contains_first, contains_more}
+use Rattle.sl_sessions.specs.Sessions.{holders_of, last_renewal}
 use Rattle.sl_sessions.specs.declared.session.Session.{Session}
-use Rattle.sl_step_facts.specs.Heard.{heard_by}
-use Rattle.sl_step_facts.specs.HoldingFacts.{HoldingFacts, StandsExclusive}
-use Rattle.sl_trace.specs.Traces.{Job, Setting, Submitted, Trace, answered_in, end_of, held_by, holdings, is_before_input, is_going_on, is_orphan, is_running, is_shared, job_of, leaves_orphan, mark, new_call, next_child, no_process, orphan_of, orphans_left, running_jobs, same_place, spot_of_grant, submitted}
+use Rattle.sl_trace.specs.Traces.{Submitted, Trace, answered_in, end_of, holdings, is_before_input, is_going_on, is_running, job_of, mark, new_call, next_child, running_jobs, submitted}
 use Rattle.sl_trace.specs.declared.effects.Entry.{Entry}
-use Rattle.sl_trace.specs.declared.effects.Grant.{Grant}
 use Rattle.sl_trace.specs.declared.effects.JobReply.{JobReply}
 use Rattle.sl_trace.specs.declared.effects.Signal.TheVariants.{Kill, Term}
 use Rattle.sl_trace.specs.declared.effects.Signal.{Signal}
@@ -28,12 +21,12 @@ use Rattle.sl_trace.specs.declared.input.Input.TheVariants.{Answer as Told, Exit
 use Rattle.sl_trace.specs.declared.input.Input.{Input}
 use Rattle.sl_trace.specs.declared.reply.Reply.TheVariants.{NoProcess, Recovering}
 use Rattle.sl_trace.specs.declared.reply.Reply.{Reply}
-use Rattle.sl_words.proofs.CaseLaws.{not_both, true_or_false}
+use Rattle.sl_words.proofs.CaseLaws.{true_or_false}
 use Rattle.sl_words.specs.Words.{some_is}
-use Rattle.std.proofs.Common.{ap, inl, inr, refl, subst, sym, ◌∙◌}
+use Rattle.std.proofs.Common.{ap, inl, inr, refl, sym, ◌∙◌}
 use Rattle.std.proofs.lemmas.Bool.{eqb-true}
 use Rattle.std.specs.Option.{option_or}
-use Rattle.std.specs.Prelude.{Bool, Contains, List, None, Option, Some, [], false, filter, fold, length, map, not, true, ℕ, ◌&&◌, ◌==◌, ◌∷◌, ◌≡◌, ◌⊎◌}
+use Rattle.std.specs.Prelude.{Bool, Contains, List, None, Option, Some, [], false, filter, fold, length, map, not, true, ℕ, ◌==◌, ◌∷◌, ◌≡◌, ◌⊎◌}
 
 -- ---- signals
 
@@ -63,9 +56,9 @@ marks_same : (past : Trace) (e d : Entry) (i : Input) → e.reading ≡ d.readin
 marks_same past e d (Told n w) reading none = map_inside (answered_in past d n w) (answered_in past e n w) (submitted past) (λ m there. by m there (true_or_false (m.call.number == n))) where
   answer : ℕ → Option ℕ → Entry → Submitted → Bool → Submitted
   answer r o x m b = elim b as (λ z. Submitted) [
-      | false ↦ m
-      | true ↦ record m { answer = option_or m.answer (Some (record { at = length past; reading = r; answer = w; heeded = is_going_on past x o })) }
-    ]
+    | false ↦ m
+    | true ↦ record m { answer = option_or m.answer (Some (record { at = length past; reading = r; answer = w; heeded = is_going_on past x o })) }
+  ]
 
   by : (m : Submitted) → Contains (submitted past) m → ((m.call.number == n) ≡ true) ⊎ ((m.call.number == n) ≡ false) → answered_in past d n w m ≡ answered_in past e n w m
   by m there (inl is) =

@@ -3,11 +3,10 @@ use Rattle.sl_area.specs.Layouts.{Layout}
 use Rattle.sl_holding_due.proofs.HoldingsByEffects.{HoldsAt}
 use Rattle.sl_holding_due.proofs.PlainPlaces.{one_place}
 use Rattle.sl_leases.specs.Ballots.{moded_block, same_owner}
-use Rattle.sl_leases.specs.LeaseWork.{LeasePlace, after_clearing, after_freeing, leader_for, lease_next, settle_next, settle_owed}
-use Rattle.sl_leases.specs.Leases.{LeaseKnown, ended_ballot, ended_ballots, exclusive_on, free_left, holdings_on, kind_of_step, known, lease_calls, owed_free, settles_free, won_by}
+use Rattle.sl_leases.specs.LeaseWork.{LeasePlace, leader_for, lease_next, settle_next, settle_owed}
+use Rattle.sl_leases.specs.Leases.{LeaseKnown, ended_ballot, ended_ballots, exclusive_on, free_left, holdings_on, known, lease_calls, owed_free, settles_free, won_by}
 use Rattle.sl_leases.specs.declared.lease.Aim.TheVariants.{Settles}
-use Rattle.sl_leases.specs.declared.lease.Aim.{Aim}
-use Rattle.sl_leases.specs.declared.lease.LeaseNext.TheVariants.{AnswerJob, BecomeExclusive, BecomeShared, GrantJob, Nothing, ReadFor, WriteBlock, WriteLeader}
+use Rattle.sl_leases.specs.declared.lease.LeaseNext.TheVariants.{BecomeExclusive, BecomeShared, GrantJob, Nothing, ReadFor, WriteBlock, WriteLeader}
 use Rattle.sl_leases.specs.declared.lease.LeaseNext.{LeaseNext}
 use Rattle.sl_leases.specs.declared.lease.Owed.TheVariants.{BallotOwed, FreeOwed, ModeOwed}
 use Rattle.sl_leases.specs.declared.lease.Owed.{Owed}
@@ -15,28 +14,25 @@ use Rattle.sl_plain.proofs.Lists.{contains_first, contains_more, find_fails, fin
 use Rattle.sl_plain.proofs.Numbers.{number_itself}
 use Rattle.sl_plain.proofs.Options.{then_value}
 use Rattle.sl_sector.specs.declared.sector.Block.{Block}
-use Rattle.sl_sector.specs.declared.sector.Leader.{Leader}
 use Rattle.sl_sector.specs.declared.sector.Owner.{Owner}
 use Rattle.sl_sessions.specs.Sessions.{holdings_of, me}
 use Rattle.sl_sessions.specs.declared.session.Session.{Session}
 use Rattle.sl_step_facts.specs.Heard.{heard_by}
-use Rattle.sl_step_facts.specs.HoldingFacts.{HoldingFacts, StandsExclusive, is_ballot_call}
+use Rattle.sl_step_facts.specs.HoldingFacts.{StandsExclusive}
 use Rattle.sl_due.specs.Steps.{Step, seen}
-use Rattle.sl_trace.specs.Traces.{Setting, Submitted, Trace, holdings, is_heeded, is_shared, same_place, spot_of_grant}
+use Rattle.sl_trace.specs.Traces.{Submitted, holdings, is_heeded, is_shared, same_place, spot_of_grant}
 use Rattle.sl_trace.specs.declared.effects.Grant.{Grant}
 use Rattle.sl_trace.specs.declared.effects.LeaseStep.TheVariants.{ClearMode, FreeLeader, Phase1Read, Phase1Write, Phase2Read, Phase2Write, ReadArea, ReadBeforeFree, SetMode, TakeLeader}
 use Rattle.sl_trace.specs.declared.effects.LeaseStep.{LeaseStep}
-use Rattle.sl_trace.specs.declared.effects.Spot.{Spot}
 use Rattle.sl_trace.specs.declared.input.Answer.TheVariants.{Failed, Read, Written}
 use Rattle.sl_trace.specs.declared.input.Answer.{Answer}
 use Rattle.sl_words.proofs.CaseLaws.{false_is_true, none_some, not_both, some_value, true_is_false}
 use Rattle.sl_words.proofs.OrderLaws.{less_or_same}
-use Rattle.sl_words.proofs.WordLaws.{and_true, choose_some}
+use Rattle.sl_words.proofs.WordLaws.{choose_some}
 use Rattle.sl_words.specs.Words.{choose, some_is}
-use Rattle.std.proofs.Common.{ap, arith, inl, inr, refl, subst, sym, ◌∙◌}
-use Rattle.std.proofs.lemmas.Bool.{eqb-true}
+use Rattle.std.proofs.Common.{ap, inl, inr, refl, subst, sym, ◌∙◌}
 use Rattle.std.specs.Option.{option_map_or}
-use Rattle.std.specs.Prelude.{Bool, Contains, List, None, Option, Some, [], false, filter, find, not, option_and_then, option_map, true, ℕ, ◌&&◌, ◌<◌, ◌==◌, ◌∷◌, ◌≡◌, ◌≤◌, ◌⊎◌}
+use Rattle.std.specs.Prelude.{Bool, Contains, List, None, Option, Some, [], false, not, option_and_then, option_map, true, ℕ, ◌&&◌, ◌<◌, ◌==◌, ◌∷◌, ◌≡◌, ◌≤◌, ◌⊎◌}
 
 -- ---- steps of a ballot
 
@@ -99,17 +95,17 @@ other_below i n low other = by (less_or_same i n low) where
 settled_beside : (p : LeasePlace) (k : LeaseKnown) (own : Block) (n : ℕ) → k.ballot ≡ None → k.own ≡ Some own → own.lver ≡ n → DoesBeside own n (settle_next p k)
 unfolding settle_next
 settled_beside p k own n none known under = subst (λ o. DoesBeside own n (settle_owed p k (elim o as (λ z. Option Owed) [
-    | Some i ↦ Some (BallotOwed i)
-    | None ↦ elim (k.shown && not k.shared) as (λ z. Option Owed) [ true ↦ Some ModeOwed | false ↦ option_map (λ i. FreeOwed i) (owed_free k) ]
-  ]))) (sym none) (by (k.shown && not k.shared) (owed_free k)) where
-    cleared : (o : Option Block) → o ≡ Some own → DoesBeside own n (option_map_or (λ b. WriteBlock ClearMode (moded_block b false 0)) o Nothing)
-    cleared None is = tt
-    cleared (Some b) is = let same : b ≡ own = some_value b own is in (refl, ap (λ (z : Block). z.lver) same ∙ under, ap (λ (z : Block). z.mbal) same)
+  | Some i ↦ Some (BallotOwed i)
+  | None ↦ elim (k.shown && not k.shared) as (λ z. Option Owed) [ true ↦ Some ModeOwed | false ↦ option_map (λ i. FreeOwed i) (owed_free k) ]
+]))) (sym none) (by (k.shown && not k.shared) (owed_free k)) where
+  cleared : (o : Option Block) → o ≡ Some own → DoesBeside own n (option_map_or (λ b. WriteBlock ClearMode (moded_block b false 0)) o Nothing)
+  cleared None is = tt
+  cleared (Some b) is = let same : b ≡ own = some_value b own is in (refl, ap (λ (z : Block). z.lver) same ∙ under, ap (λ (z : Block). z.mbal) same)
 
-    by : (b : Bool) (o : Option ℕ) → DoesBeside own n (settle_owed p k (elim b as (λ z. Option Owed) [ true ↦ Some ModeOwed | false ↦ option_map (λ i. FreeOwed i) o ]))
-    by true o = cleared k.own known
-    by false None = tt
-    by false (Some i) = refl
+  by : (b : Bool) (o : Option ℕ) → DoesBeside own n (settle_owed p k (elim b as (λ z. Option Owed) [ true ↦ Some ModeOwed | false ↦ option_map (λ i. FreeOwed i) o ]))
+  by true o = cleared k.own known
+  by false None = tt
+  by false (Some i) = refl
 
 next_beside : (p : LeasePlace) (k : LeaseKnown) (own : Block) (n call i : ℕ) (step : LeaseStep) (answer : Answer) → k.ballot ≡ None → k.own ≡ Some own → own.lver ≡ n → ((j : ℕ) → owed_free k ≡ Some j → j < n)
     → is_ballot_step step ≡ false → DoesBeside own n (lease_next p k Settles call i step answer)
@@ -163,7 +159,7 @@ owed_below : (x : Step) (s : Session) (g : Grant) → HoldsAt x → Contains (ho
 unfolding known
 owed_below x s g holds there mine exclusive h j is =
     let v = then_value (λ i. choose (not (some_is (λ e. e == i) (option_map (λ (k : Grant). k.lver) (exclusive_on (seen x) s (spot_of_grant g))))) i)
-        (free_left x.setting.layout (me (seen x) s) (lease_calls x.setting (seen x) s (spot_of_grant g))) j is in
+    (free_left x.setting.layout (me (seen x) s) (lease_calls x.setting (seen x) s (spot_of_grant g))) j is in
     let c = choose_some (not (some_is (λ e. e == v.0) (option_map (λ (k : Grant). k.lver) (exclusive_on (seen x) s (spot_of_grant g))))) v.0 j v.2 in
     let w = free_won x.setting.layout (me (seen x) s) (lease_calls x.setting (seen x) s (spot_of_grant g)) v.0 v.1 in
     let other : (g.lver == v.0) ≡ false =

@@ -5,7 +5,6 @@ use Rattle.sl_acts.specs.SoFar.{entry_of}
 use Rattle.sl_area.specs.Layouts.{Layout}
 use Rattle.sl_area.specs.Places.{in_area}
 use Rattle.sl_due.specs.Steps.{Step, seen, with_input}
-use Rattle.sl_holding_due.proofs.HoldersSpared.{joined_some}
 use Rattle.sl_holding_due.proofs.HoldingsByInputs.{calls_marked}
 use Rattle.sl_holding_due.proofs.LeasePlaces.{area_is}
 use Rattle.sl_law.specs.Lawful.{IsSetting, Orderly}
@@ -15,7 +14,7 @@ use Rattle.sl_leases.specs.Leases.{is_lease_call, is_on, lease_calls, lease_step
 use Rattle.sl_plain.proofs.Lists.{any_found, contains_cases, contains_map, contains_none, find_inside, kept, kept_inside}
 use Rattle.sl_plain.proofs.Numbers.{number_itself}
 use Rattle.sl_plain.proofs.Options.{none_is, then_value}
-use Rattle.sl_sessions.specs.Sessions.{calls_of, ended_after, has_open_write, is_call_of, is_joined, is_present, joined_after, refused_after, removed_after, session_numbered}
+use Rattle.sl_sessions.specs.Sessions.{calls_of, has_open_write, is_call_of, is_joined, is_present, joined_after, refused_after, removed_after}
 use Rattle.sl_sessions.specs.declared.session.Session.{Session}
 use Rattle.sl_step_facts.specs.CallFacts.{CallFacts}
 use Rattle.sl_step_facts.specs.Heard.{IsOpen, heard_by}
@@ -24,10 +23,8 @@ use Rattle.sl_trace.specs.Commands.{IsCommand}
 use Rattle.sl_trace.specs.Traces.{Job, Setting, Submitted, Trace, answer_of, answered_in, call_numbered, is_answer_for, is_expected, mark, outstanding, job_in, is_write, job_numbered, jobs, line_in, next_job, submitted}
 use Rattle.sl_trace.specs.declared.command.Command.{Command}
 use Rattle.sl_trace.specs.declared.effects.Call.{Call}
-use Rattle.sl_trace.specs.declared.effects.Entry.{Entry}
 use Rattle.sl_trace.specs.declared.effects.LeaseStep.{LeaseStep}
 use Rattle.sl_trace.specs.declared.effects.Purpose.TheVariants.{Lease}
-use Rattle.sl_trace.specs.declared.effects.Purpose.{Purpose}
 use Rattle.sl_trace.specs.declared.effects.Work.{Work}
 use Rattle.sl_trace.specs.declared.input.Answer.{Answer}
 use Rattle.sl_trace.specs.declared.input.Input.TheVariants.{Answer as Told, Wake}
@@ -35,16 +32,15 @@ use Rattle.sl_trace_law.proofs.Leases.NumberLaws.{number_is_place}
 use Rattle.sl_trace_law.proofs.Sessions.Covering.{joinings_are_in_turn}
 use Rattle.sl_trace_law.specs.Sessions.Promises.{all_done, fits, fits_as, has_reply, is_in_turn}
 use Rattle.sl_trace_law.proofs.Sessions.Making.{same_answered}
-use Rattle.sl_words.proofs.CaseLaws.{false_is_true, no_value, none_some, one_value, not_both, some_value, true_is_false}
+use Rattle.sl_words.proofs.CaseLaws.{none_some, one_value, not_both, some_value}
 use Rattle.sl_words.proofs.WordLaws.{and_true}
 use Rattle.std.proofs.Common.{ap, arith, inl, inr, refl, subst, sym, ◌∙◌}
 use Rattle.std.proofs.Math.Nat.{div-add-mod, mod-lt, mul-mod_right}
 use Rattle.std.proofs.lemmas.Bool.{eqb-true, le-leb, lt-ltb}
 use Rattle.std.proofs.lemmas.List.Elements.{Contains-append_cases}
 use Rattle.std.specs.Cmp.Lexicographic.{nat_list_eq_equiv}
-use Rattle.std.specs.List.{list_all}
 use Rattle.std.specs.Option.{option_or}
-use Rattle.std.specs.Prelude.{Bool, Contains, Err, IsTrue, List, None, Ok, Option, Result, Some, [], bytes_eq, false, is_none, is_some, length, map, nat_le, nat_lt, true, ℕ, ◌%◌, ◌&&◌, ◌*◌, ◌++◌, ◌+◌, ◌-◌, ◌/◌, ◌<◌, ◌==◌, ◌||◌, ◌∷◌, ◌≡◌, ◌≤◌, ◌⊎◌}
+use Rattle.std.specs.Prelude.{Bool, Contains, Err, IsTrue, List, None, Ok, Option, Result, Some, [], false, is_none, is_some, length, map, nat_le, nat_lt, true, ℕ, ◌%◌, ◌&&◌, ◌*◌, ◌+◌, ◌-◌, ◌/◌, ◌<◌, ◌==◌, ◌||◌, ◌∷◌, ◌≡◌, ◌≤◌, ◌⊎◌}
 
 -- ---- the call
 

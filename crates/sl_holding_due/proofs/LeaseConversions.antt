@@ -2,12 +2,11 @@
 use Rattle.sl_acts.specs.Acts.{Has}
 use Rattle.sl_acts.specs.SoFar.{entry_of}
 use Rattle.sl_due.specs.DueLease.{carry_lease, convert_for, convert_holding, for_work, held_otherwise, with_command}
-use Rattle.sl_due.specs.Steps.{Step, add_end, add_grant, add_reply, seen, with_some}
+use Rattle.sl_due.specs.Steps.{Step, add_end, add_grant, seen, with_some}
 use Rattle.sl_holding_due.proofs.HoldingsByEffects.{HoldsAt, end_held, end_inside, later_same, reply_held}
 use Rattle.sl_holding_due.proofs.HoldingsByExits.{not_ended}
-use Rattle.sl_holding_due.proofs.HoldingsByGrants.{MayGrant, grant_held, old_or_granted}
-use Rattle.sl_holding_due.proofs.HoldingsByLeases.{IsAligned, OfExclusive, carried_held}
-use Rattle.sl_holding_due.proofs.LeaseBeside.{DoesBeside}
+use Rattle.sl_holding_due.proofs.HoldingsByGrants.{grant_held, old_or_granted}
+use Rattle.sl_holding_due.proofs.HoldingsByLeases.{IsAligned, carried_held}
 use Rattle.sl_holding_due.proofs.PlainPlaces.{one_place, place_is, place_turned}
 use Rattle.sl_holding_due.proofs.StandsGrow.{stands_same}
 use Rattle.sl_law.specs.Lawful.{IsSetting}
@@ -22,8 +21,8 @@ use Rattle.sl_sector.specs.declared.sector.Leader.{Leader}
 use Rattle.sl_sessions.specs.Sessions.{holdings_of, is_call_of, is_joined, session_numbered}
 use Rattle.sl_sessions.specs.declared.session.Session.{Session}
 use Rattle.sl_step_facts.specs.Heard.{heard_by}
-use Rattle.sl_step_facts.specs.HoldingFacts.{HoldingFacts, StandsExclusive}
-use Rattle.sl_trace.specs.Traces.{Setting, Trace, end_of, holdings, is_ended_by, is_shared, next_child, same_place, spot_of_grant, submitted}
+use Rattle.sl_step_facts.specs.HoldingFacts.{StandsExclusive}
+use Rattle.sl_trace.specs.Traces.{end_of, holdings, is_ended_by, is_shared, same_place, spot_of_grant, submitted}
 use Rattle.sl_trace.specs.declared.command.Command.{Command}
 use Rattle.sl_trace.specs.declared.effects.Grant.{Grant}
 use Rattle.sl_trace.specs.declared.effects.LeaseStep.TheVariants.{ClearMode, FreeLeader}
@@ -32,12 +31,12 @@ use Rattle.sl_trace.specs.declared.effects.Mode.{Mode}
 use Rattle.sl_trace.specs.declared.effects.Spot.{Spot}
 use Rattle.sl_trace.specs.declared.effects.Work.TheVariants.{ForJob, Settling}
 use Rattle.sl_trace.specs.declared.reply.Reply.TheVariants.{Granted}
-use Rattle.sl_words.proofs.CaseLaws.{false_is_true, no_value, not_both, one_value, some_value, true_is_false}
+use Rattle.sl_words.proofs.CaseLaws.{false_is_true, not_both, one_value, true_is_false}
 use Rattle.sl_words.proofs.WordLaws.{and_true}
 use Rattle.sl_words.specs.Words.{same_truth}
 use Rattle.std.proofs.Common.{ap, inl, inr, refl, subst, sym, ◌∙◌}
 use Rattle.std.proofs.lemmas.Bool.{eqb-true}
-use Rattle.std.specs.Prelude.{Bool, Contains, List, None, Option, Some, [], false, filter, find, not, true, ℕ, ◌&&◌, ◌==◌, ◌||◌, ◌∷◌, ◌≡◌, ◌⊎◌}
+use Rattle.std.specs.Prelude.{Bool, Contains, List, None, Option, Some, [], false, filter, not, true, ℕ, ◌&&◌, ◌==◌, ◌||◌, ◌∷◌, ◌≡◌, ◌⊎◌}
 
 -- ---- one holding
 
@@ -197,8 +196,7 @@ become_exclusive_held x s at j c p b own lver h is has aligned bare command name
           let last : block_submitted (lease_calls x.setting (seen z) s (spot_of_grant e)) ≡ Some own =
           ap (λ ms. block_submitted (filter (λ m. is_lease_call m && is_on x.setting.layout (spot_of_grant e) m.call) (filter (is_call_of s) ms))) same
           ∙ (ap (λ v. block_submitted (lease_calls x.setting (seen x) s v)) at_e ∙ known) in
-          let is_own : own ≡ other.own = one_value own other.own (block_submitted (lease_calls x.setting (seen z) s (spot_of_grant e))) last other.known in
-          (
+          let is_own : own ≡ other.own = one_value own other.own (block_submitted (lease_calls x.setting (seen z) s (spot_of_grant e))) last other.known in (
             refl,
             ap (λ (v : Block). v.lver) written ∙ (ap (λ (v : Block). v.lver) is_own ∙ other.under.0),
             ap (λ (v : Block). v.mbal) written ∙ ap (λ (v : Block). v.mbal) is_own,

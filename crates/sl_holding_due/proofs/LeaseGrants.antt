@@ -2,46 +2,27 @@
 use Rattle.sl_acts.specs.Acts.{Has}
 use Rattle.sl_acts.specs.SoFar.{entry_of}
 use Rattle.sl_area.specs.Places.{is_base}
-use Rattle.sl_due.specs.DueLease.{carry_lease, convert_for, convert_holding, for_work, grant_for, grant_of, held_otherwise, with_command}
-use Rattle.sl_due.specs.Steps.{Step, add_end, add_grant, add_reply, add_start, seen, with_some}
-use Rattle.sl_holding_due.proofs.HoldingsByEffects.{HoldsAt, end_held, end_inside, later_same, next_less, reply_held, start_held}
-use Rattle.sl_holding_due.proofs.HoldingsByExits.{ends_itself, not_ended}
-use Rattle.sl_holding_due.proofs.HoldingsByGrants.{MayGrant, grant_held, old_or_granted}
-use Rattle.sl_holding_due.proofs.HoldingsByLeases.{IsAligned, OfExclusive, carried_held}
-use Rattle.sl_holding_due.proofs.LeaseBeside.{DoesBeside, exclusive_there}
-use Rattle.sl_holding_due.proofs.PlainPlaces.{one_place, place_is}
+use Rattle.sl_due.specs.DueLease.{grant_for, grant_of}
+use Rattle.sl_due.specs.Steps.{Step, add_grant, add_reply, add_start, seen}
+use Rattle.sl_holding_due.proofs.HoldingsByEffects.{HoldsAt, later_same, next_less, reply_held, start_held}
+use Rattle.sl_holding_due.proofs.HoldingsByGrants.{MayGrant, grant_held}
 use Rattle.sl_holding_due.proofs.StandsGrow.{stands_same}
-use Rattle.sl_law.specs.Lawful.{IsSetting}
-use Rattle.sl_leases.specs.Ballots.{moded_block}
-use Rattle.sl_leases.specs.Jobs.{command_numbered, process_named, resource_named}
-use Rattle.sl_leases.specs.Leases.{exclusive_on, holdings_on, spot_of}
-use Rattle.sl_leases.specs.declared.lease.LeaseNext.TheVariants.{BecomeExclusive, BecomeShared, GrantJob, WriteBlock, WriteLeader}
-use Rattle.sl_plain.proofs.Lists.{find_fails, find_inside, kept, kept_inside}
-use Rattle.sl_plain.proofs.Numbers.{number_itself}
-use Rattle.sl_sector.specs.declared.sector.Block.{Block}
-use Rattle.sl_sector.specs.declared.sector.Leader.{Leader}
-use Rattle.sl_sessions.specs.Sessions.{holdings_of, is_joined, session_numbered}
+use Rattle.sl_leases.specs.Jobs.{process_named, resource_named}
+use Rattle.sl_leases.specs.Leases.{spot_of}
+use Rattle.sl_sessions.specs.Sessions.{is_joined}
 use Rattle.sl_sessions.specs.declared.session.Session.{Session}
 use Rattle.sl_step_facts.specs.Heard.{heard_by}
-use Rattle.sl_step_facts.specs.HoldingFacts.{HoldingFacts, StandsExclusive}
-use Rattle.sl_trace.specs.Traces.{Setting, Trace, end_of, holdings, is_ended_by, is_shared, next_child, same_place, spot_of_grant}
+use Rattle.sl_step_facts.specs.HoldingFacts.{StandsExclusive}
+use Rattle.sl_trace.specs.Traces.{holdings, is_shared, next_child, same_place}
 use Rattle.sl_trace.specs.declared.command.Command.TheVariants.{Acquire, AddLockspace, Convert, GetLvb, HostStatus, InqLockspace, Release, ReleaseOrphan, RemLockspace, Request, RunProgram, SetKillpath, SetLvb, Status, TakeOver}
 use Rattle.sl_trace.specs.declared.command.Command.{Command}
 use Rattle.sl_trace.specs.declared.command.ResourceArg.{ResourceArg}
 use Rattle.sl_trace.specs.declared.effects.Grant.{Grant}
-use Rattle.sl_trace.specs.declared.effects.LeaseStep.TheVariants.{ClearMode, FreeLeader}
-use Rattle.sl_trace.specs.declared.effects.Mode.TheVariants.{Exclusive, Shared}
 use Rattle.sl_trace.specs.declared.effects.Mode.{Mode}
-use Rattle.sl_trace.specs.declared.effects.Spot.{Spot}
 use Rattle.sl_trace.specs.declared.effects.Start.{Start}
-use Rattle.sl_trace.specs.declared.effects.Work.TheVariants.{ForJob, Settling}
 use Rattle.sl_trace.specs.declared.reply.Reply.TheVariants.{Granted}
-use Rattle.sl_words.proofs.CaseLaws.{false_is_true, no_value, not_both, one_value, some_value, true_is_false}
-use Rattle.sl_words.proofs.WordLaws.{and_true}
-use Rattle.sl_words.specs.Words.{same_truth}
-use Rattle.std.proofs.Common.{ap, arith, inl, inr, refl, subst, sym, ◌∙◌}
-use Rattle.std.proofs.lemmas.Bool.{eqb-true}
-use Rattle.std.specs.Prelude.{Bool, Contains, IsTrue, List, None, Option, Some, [], false, find, not, true, ℕ, ◌&&◌, ◌<◌, ◌==◌, ◌∷◌, ◌≡◌, ◌⊎◌}
+use Rattle.std.proofs.Common.{arith, refl}
+use Rattle.std.specs.Prelude.{Bool, Contains, IsTrue, List, None, Some, false, true, ℕ, ◌<◌, ◌≡◌}
 
 -- ---- a grant of a command
 

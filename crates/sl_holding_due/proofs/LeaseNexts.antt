@@ -1,9 +1,8 @@
 -- What a lease may do next: which mode a block shows that it writes, when it grants and converts, what it does beside an exclusive holding.
 use Rattle.sl_area.specs.Places.{area_blocks, blocks_in, leader_of}
-use Rattle.sl_holding_due.proofs.StandsGrow.{IsBeside}
-use Rattle.sl_leases.specs.Ballots.{ballot_blocks, instance_of, is_ahead, moded_block, owner_of, phase1_block, phase2_block, same_owner, stop_of, value_of}
-use Rattle.sl_leases.specs.LeaseWork.{LeasePlace, after_clearing, after_freeing, after_moding, after_phase1, after_phase2, after_read, after_take, after_write, area_next, begin_next, begin_or_refuse, convert_next, ended_next, leader_for, lease_next, looks_for_shared, lost_next, named_area_next, phase1_next, phase2_next, refuses, release_next, settle_next, settle_owed, stop_reply, stopped_next, unstopped_next, whole_area_next, won_next}
-use Rattle.sl_leases.specs.Leases.{LeaseKnown, instance_for, is_leader_of, kind_of_step, mode_gen_of, owed, owed_free, own_known, same_kind, shared_elsewhere}
+use Rattle.sl_leases.specs.Ballots.{is_ahead, moded_block, phase1_block, same_owner, stop_of, value_of}
+use Rattle.sl_leases.specs.LeaseWork.{LeasePlace, after_clearing, after_freeing, after_moding, after_phase1, after_phase2, after_read, after_take, after_write, area_next, begin_next, begin_or_refuse, ended_next, leader_for, lease_next, looks_for_shared, lost_next, named_area_next, phase1_next, phase2_next, refuses, settle_next, settle_owed, stop_reply, stopped_next, unstopped_next, whole_area_next, won_next}
+use Rattle.sl_leases.specs.Leases.{LeaseKnown, instance_for, is_leader_of, mode_gen_of, owed_free, own_known, shared_elsewhere}
 use Rattle.sl_leases.specs.declared.lease.Aim.TheVariants.{Acquires, Converts, Releases, Settles}
 use Rattle.sl_leases.specs.declared.lease.Aim.{Aim}
 use Rattle.sl_leases.specs.declared.lease.Instance.TheVariants.{Begins, HeldAlready}
@@ -25,15 +24,15 @@ use Rattle.sl_trace.specs.declared.effects.Mode.{Mode}
 use Rattle.sl_trace.specs.declared.input.Answer.TheVariants.{Failed, Read, Written}
 use Rattle.sl_trace.specs.declared.input.Answer.{Answer}
 use Rattle.sl_trace.specs.declared.reply.Limited.TheVariants.{Lver as LverLimit, Mbal as MbalLimit}
-use Rattle.sl_trace.specs.declared.reply.Reply.TheVariants.{Done, Held as HeldBy, IoFault, Limit as LimitReached, Shared as SharedBy, TornBlock, TornLeader, WrongArea}
+use Rattle.sl_trace.specs.declared.reply.Reply.TheVariants.{Held as HeldBy, IoFault, Limit as LimitReached, Shared as SharedBy, TornBlock, TornLeader, WrongArea}
 use Rattle.sl_trace.specs.declared.reply.Reply.{Reply}
 use Rattle.sl_words.proofs.CaseLaws.{false_is_true}
 use Rattle.sl_words.proofs.WordLaws.{and_true}
 use Rattle.sl_words.specs.Bounds.{is_number}
 use Rattle.sl_words.specs.Words.{present}
-use Rattle.std.proofs.Common.{ap, inl, inr, refl, subst, sym, ◌∙◌}
+use Rattle.std.proofs.Common.{inl, inr, refl, sym}
 use Rattle.std.specs.Option.{option_map_or}
-use Rattle.std.specs.Prelude.{Bool, List, None, Option, Some, [], false, is_none, not, option_and_then, option_map, position, true, ℕ, ◌&&◌, ◌+◌, ◌<◌, ◌==◌, ◌∷◌, ◌≡◌, ◌⊎◌}
+use Rattle.std.specs.Prelude.{Bool, List, None, Option, Some, false, is_none, not, option_map, position, true, ℕ, ◌&&◌, ◌+◌, ◌≡◌, ◌⊎◌}
 
 -- ---- modes and replies
 
@@ -63,9 +62,9 @@ refused_plainly k Settles r later = tt
 phase1_plainly : (k : LeaseKnown) (aim : Aim) (b : Block) → HasRightMode k Phase1Write b → IsPlainNext k (phase1_next aim b)
 phase1_plainly k aim b right = by (is_number b.lver) (is_number b.mbal) where
   by : (l m : Bool) → IsPlainNext k (elim l as (λ z. LeaseNext) [
-      | false ↦ refuses aim (LimitReached LverLimit)
-      | true ↦ elim m as (λ z. LeaseNext) [ false ↦ refuses aim (LimitReached MbalLimit) | true ↦ WriteBlock Phase1Write b ]
-    ])
+    | false ↦ refuses aim (LimitReached LverLimit)
+    | true ↦ elim m as (λ z. LeaseNext) [ false ↦ refuses aim (LimitReached MbalLimit) | true ↦ WriteBlock Phase1Write b ]
+  ])
   by false m = refused_plainly k aim (LimitReached LverLimit) refl
   by true false = refused_plainly k aim (LimitReached MbalLimit) refl
   by true true = right
@@ -126,9 +125,9 @@ phase2_plainly k own read = (refl, λ shared. mode_gen k k.shared refl shared)
 unstopped_plainly : (k : LeaseKnown) (aim : Aim) (own : Block) (read : List (Option Block)) → IsPlainNext k (unstopped_next k aim own read)
 unstopped_plainly k aim own read = by (looks_for_shared aim) (shared_elsewhere k read) where
   by : (b : Bool) (o : Option Block) → IsPlainNext k (elim b as (λ z. LeaseNext) [
-      | false ↦ phase2_next k own read
-      | true ↦ elim o as (λ z. LeaseNext) [ Some c ↦ AnswerJob (SharedBy (record { id = c.host; generation = c.mode_gen })) | None ↦ phase2_next k own read ]
-    ])
+    | false ↦ phase2_next k own read
+    | true ↦ elim o as (λ z. LeaseNext) [ Some c ↦ AnswerJob (SharedBy (record { id = c.host; generation = c.mode_gen })) | None ↦ phase2_next k own read ]
+  ])
   by false o = phase2_plainly k own read
   by true None = phase2_plainly k own read
   by true (Some c) = refl
@@ -181,19 +180,19 @@ area_plainly p k aim name bytes = by (leader_of p.layout bytes) where
   named l read None = whole l read (own_known k)
 
   of_leader : (l : Leader) (b : Bool) → IsPlainNext k (elim b as (λ z. LeaseNext) [
-      | false ↦ AnswerJob (WrongArea l.lockspace l.resource l.num_hosts)
-      | true ↦ named_area_next p k aim l (area_blocks p.layout bytes)
-    ])
+    | false ↦ AnswerJob (WrongArea l.lockspace l.resource l.num_hosts)
+    | true ↦ named_area_next p k aim l (area_blocks p.layout bytes)
+  ])
   of_leader l false = refl
   of_leader l true = named l (area_blocks p.layout bytes) (position is_none (area_blocks p.layout bytes))
 
   by : (o : Option Leader) → IsPlainNext k (elim o as (λ z. LeaseNext) [
-      | None ↦ AnswerJob TornLeader
-      | Some l ↦ elim (is_leader_of p.layout p.lockspace name l) as (λ z. LeaseNext) [
-        | false ↦ AnswerJob (WrongArea l.lockspace l.resource l.num_hosts)
-        | true ↦ named_area_next p k aim l (area_blocks p.layout bytes)
-      ]
-    ])
+    | None ↦ AnswerJob TornLeader
+    | Some l ↦ elim (is_leader_of p.layout p.lockspace name l) as (λ z. LeaseNext) [
+      | false ↦ AnswerJob (WrongArea l.lockspace l.resource l.num_hosts)
+      | true ↦ named_area_next p k aim l (area_blocks p.layout bytes)
+    ]
+  ])
   by None = refl
   by (Some l) = of_leader l (is_leader_of p.layout p.lockspace name l)
 

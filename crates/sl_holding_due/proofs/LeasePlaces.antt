@@ -1,16 +1,16 @@
 -- Where a lease's calls stand: in the area of its spot, and in no other's.
 use Rattle.sl_area.proofs.SizeLaws.{HasRoom, has_room}
-use Rattle.sl_area.specs.Layouts.{IsGeometry, Layout, Sizes, is_geometry, layout_with}
-use Rattle.sl_area.specs.Places.{block_offset, in_area, is_base}
+use Rattle.sl_area.specs.Layouts.{Layout}
+use Rattle.sl_area.specs.Places.{block_offset, in_area}
 use Rattle.sl_law.specs.Lawful.{IsGiven, IsSetting}
 use Rattle.sl_leases.specs.Leases.{is_on, spot_of_call}
 use Rattle.sl_plain.proofs.Lists.{contains_cases, contains_first, contains_more, contains_none, in_map}
 use Rattle.sl_plain.proofs.Numbers.{none_off}
 use Rattle.sl_plain.proofs.Options.{then_value}
 use Rattle.sl_sector.proofs.RuleLaws.{in_range}
-use Rattle.sl_sessions.specs.Sessions.{added, added_by, begun_in, given_session, is_join_call, joining_session, session_numbered, sessions}
+use Rattle.sl_sessions.specs.Sessions.{added, added_by, begun_in, given_session, is_join_call, joining_session, sessions}
 use Rattle.sl_sessions.specs.declared.session.Session.{Session}
-use Rattle.sl_trace.specs.Commands.{IsCommand, IsLockspaceArg}
+use Rattle.sl_trace.specs.Commands.{IsLockspaceArg}
 use Rattle.sl_trace.specs.Traces.{Setting, Submitted, Trace, line_in, new_call, next_job}
 use Rattle.sl_trace.specs.declared.command.Command.TheVariants.{Acquire, AddLockspace, Convert, GetLvb, HostStatus, InqLockspace, Release, ReleaseOrphan, RemLockspace, Request, RunProgram, SetKillpath, SetLvb, Status, TakeOver}
 use Rattle.sl_trace.specs.declared.command.Command.{Command}
@@ -25,14 +25,12 @@ use Rattle.sl_trace.specs.declared.input.Given.{Given}
 use Rattle.sl_trace.specs.declared.input.Input.{Input}
 use Rattle.sl_trace_law.proofs.Leases.SpotLaws.{areas_are_apart}
 use Rattle.sl_words.proofs.CaseLaws.{none_some, some_value}
-use Rattle.sl_words.proofs.WordLaws.{and_true, or_true}
 use Rattle.std.proofs.Common.{ap, arith, inl, inr, refl, subst, sym, ◌∙◌}
 use Rattle.std.proofs.lemmas.Bool.{le-leb, lt-ltb}
 use Rattle.std.specs.Cmp.Lexicographic.{nat_list_eq_equiv}
 use Rattle.std.proofs.lemmas.List.Elements.{Contains-append_cases}
-use Rattle.std.specs.Int.{is_in_range}
 use Rattle.std.specs.List.{AllByRecursion, enumerate_from, list_any}
-use Rattle.std.specs.Prelude.{Bool, Contains, Err, IsTrue, List, None, Ok, Option, Result, Some, bytes_eq, false, length, nat_le, nat_lt, true, [], ℕ, ◌%◌, ◌&&◌, ◌*◌, ◌+◌, ◌-◌, ◌<◌, ◌==◌, ◌∷◌, ◌≡◌, ◌≤◌, ◌⊎◌}
+use Rattle.std.specs.Prelude.{Bool, Contains, Err, List, None, Ok, Option, Result, Some, bytes_eq, false, length, nat_le, nat_lt, true, [], ℕ, ◌%◌, ◌&&◌, ◌*◌, ◌+◌, ◌<◌, ◌∷◌, ◌≡◌, ◌≤◌, ◌⊎◌}
 
 -- ---- one spot
 

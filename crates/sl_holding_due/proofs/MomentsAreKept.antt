@@ -1,18 +1,16 @@
 -- How far a step has come: on a wake nothing is granted or ended, and after the answer to a start the only calls are frees of leavings.
-use Rattle.sl_acts.proofs.InputsKeep.{has_heard}
 use Rattle.sl_acts.proofs.EffectsKeep.{delta, lease}
 use Rattle.sl_acts.proofs.LoopsKeep.{for_each_keeps, when_keeps}
 use Rattle.sl_acts.proofs.PlainActs.{decision_kept, ended, exited, left, line_has, plain_acts}
-use Rattle.sl_acts.specs.Acts.{Acts, Has, Hears}
-use Rattle.sl_acts.specs.Plainly.{ByEffects, Plainly}
-use Rattle.sl_due.specs.DueCommands.{answer_line, carry_decision, decided}
+use Rattle.sl_acts.specs.Acts.{Acts, Has}
+use Rattle.sl_acts.specs.Plainly.{ByEffects}
+use Rattle.sl_due.specs.DueCommands.{answer_line, carry_decision}
 use Rattle.sl_due.specs.DueDelta.{carry_delta, for_joining}
 use Rattle.sl_due.specs.DueFirst.{refuse, remove_connection, remove_of_refused, send, signal_holders}
 use Rattle.sl_due.specs.DueInputs.{end_holdings, leave_holdings, refuse_jobs_of, started_reply, when_running}
 use Rattle.sl_due.specs.DueRequests.{after_value_read, bits_due}
-use Rattle.sl_due.specs.DueLease.{carry_lease, read_for}
+use Rattle.sl_due.specs.DueLease.{carry_lease}
 use Rattle.sl_due.specs.Steps.{Step, add_end, add_move, add_reply, add_signal, add_start, seen, when, with_input, with_some}
-use Rattle.sl_due.specs.declared.decision.Decision.TheVariants.{Joins}
 use Rattle.sl_due.specs.declared.decision.Decision.{Decision}
 use Rattle.sl_acts.proofs.DecisionsAreTheirs.{Of}
 use Rattle.sl_holding_due.proofs.HoldingsByCalls.{call_added}
@@ -56,7 +54,7 @@ use Rattle.sl_trace.specs.declared.reply.Reply.{Reply}
 use Rattle.sl_words.proofs.CaseLaws.{true_is_false}
 use Rattle.std.proofs.Common.{ap, inl, inr, refl, subst, sym, ◌∙◌}
 use Rattle.std.proofs.lemmas.List.Elements.{Contains-append_cases}
-use Rattle.std.specs.Prelude.{Bool, Contains, List, None, Ok, Option, Some, [], false, filter, is_some, not, option_map, true, ℕ, ◌&&◌, ◌++◌, ◌+◌, ◌==◌, ◌∷◌, ◌≡◌, ◌⊎◌}
+use Rattle.std.specs.Prelude.{Bool, Contains, List, None, Option, Some, [], false, filter, is_some, not, option_map, true, ℕ, ◌&&◌, ◌++◌, ◌+◌, ◌==◌, ◌∷◌, ◌≡◌, ◌⊎◌}
 
 -- ---- another input
 

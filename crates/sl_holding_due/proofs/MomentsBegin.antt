@@ -2,7 +2,7 @@
 use Rattle.sl_acts.proofs.LoopsKeep.{for_each_keeps, when_keeps}
 use Rattle.sl_due.specs.DueFirst.{begin_recoveries, begin_recovery, begins_now, signal_and_refuse, signal_holders}
 use Rattle.sl_due.specs.Steps.{Step, add_reply, begin_step, seen}
-use Rattle.sl_holding_due.proofs.MomentsAreKept.{Alike, alike, signalled_alike}
+use Rattle.sl_holding_due.proofs.MomentsAreKept.{alike, signalled_alike}
 use Rattle.sl_holding_due.specs.Moments.{Moment}
 use Rattle.sl_holding_due.specs.Promises.{MomentsBegin}
 use Rattle.sl_leases.specs.Jobs.{jobs_of_session}

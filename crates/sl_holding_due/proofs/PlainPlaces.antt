@@ -1,14 +1,13 @@
 -- Of places and of what is counted at one.
-use Rattle.sl_plain.proofs.Lists.{contains_cases, contains_first, contains_more, contains_none, kept}
+use Rattle.sl_plain.proofs.Lists.{contains_first, contains_more, contains_none, kept}
 use Rattle.sl_plain.proofs.Numbers.{number_itself}
 use Rattle.sl_trace.specs.Traces.{same_place}
-use Rattle.sl_words.proofs.CaseLaws.{false_is_true}
 use Rattle.sl_words.proofs.WordLaws.{and_true}
-use Rattle.std.proofs.Common.{ap, arith, inl, inr, refl, subst, sym, ◌∙◌}
+use Rattle.std.proofs.Common.{ap, arith, refl, subst, ◌∙◌}
 use Rattle.std.proofs.lemmas.Bool.{eqb-true}
 use Rattle.std.proofs.lemmas.Slice.Eq.{bytes_eq-Decides}
 use Rattle.std.specs.Cmp.Lexicographic.{nat_list_eq_equiv}
-use Rattle.std.specs.Prelude.{Bool, Contains, List, bytes_eq, cond, false, filter, length, true, [], ℕ, ◌&&◌, ◌++◌, ◌+◌, ◌<◌, ◌==◌, ◌∷◌, ◌≡◌, ◌≤◌, ◌⊎◌}
+use Rattle.std.specs.Prelude.{Bool, Contains, List, bytes_eq, cond, false, filter, length, true, [], ℕ, ◌&&◌, ◌==◌, ◌∷◌, ◌≡◌, ◌≤◌}
 
 -- ---- places
 

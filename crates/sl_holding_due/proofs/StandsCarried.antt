@@ -1,8 +1,8 @@
 -- What stands behind an exclusive holding goes on where its lease's calls tell no less of it.
 use Rattle.sl_law.specs.LawfulBlock.{ReadAfter}
 use Rattle.sl_law.specs.LawfulGrant.{HasTaken}
-use Rattle.sl_law.specs.LawfulModes.{LawfulExclusiveGrant, NoneShared}
-use Rattle.sl_leases.specs.Leases.{block_submitted, block_written, blocks_given, ended_ballots, freed, is_area_read, is_at, is_phase_read, lease_calls, open_ballot}
+use Rattle.sl_law.specs.LawfulModes.{LawfulExclusiveGrant}
+use Rattle.sl_leases.specs.Leases.{block_submitted, block_written, blocks_given, ended_ballots, freed, is_area_read, is_phase_read, lease_calls, open_ballot}
 use Rattle.sl_area.specs.Layouts.{Layout}
 use Rattle.sl_area.specs.Places.{area_blocks, blocks_in}
 use Rattle.sl_plain.proofs.Options.{then_value}
@@ -18,7 +18,7 @@ use Rattle.sl_trace.specs.declared.effects.Spot.{Spot}
 use Rattle.sl_words.proofs.CaseLaws.{none_some, one_value}
 use Rattle.sl_words.proofs.WordLaws.{some_is_true}
 use Rattle.std.proofs.Common.{ap, inl, inr, refl, subst, sym, ◌∙◌}
-use Rattle.std.specs.Prelude.{Bool, Contains, IsTrue, List, None, Option, Some, false, true, ℕ, ◌<◌, ◌≡◌, ◌≤◌, ◌⊎◌}
+use Rattle.std.specs.Prelude.{Contains, List, None, Option, Some, false, true, ℕ, ◌<◌, ◌≡◌, ◌≤◌, ◌⊎◌}
 
 -- ---- what has been answered
 

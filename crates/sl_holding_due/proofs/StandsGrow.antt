@@ -1,10 +1,9 @@
 -- How a lease's calls change: not at all, by an answer, by one more call. What stands behind an exclusive holding goes on by each of them.
 use Rattle.sl_area.specs.Layouts.{Layout}
-use Rattle.sl_holding_due.proofs.StandsCarried.{Carried, WasWritten, stands_on}
+use Rattle.sl_holding_due.proofs.StandsCarried.{WasWritten, stands_on}
 use Rattle.sl_leases.specs.Ballots.{is_ahead, stop_of}
-use Rattle.sl_leases.specs.Leases.{StepKind, Area_read, Phase1_read, Phase1_write, Phase2_read, Phase2_write, ballot_after, block_submitted, block_written, blocks_given, concludes, ended_ballot, ended_ballots, freed, freed_by, is_at, is_phase_read, lease_calls, open_ballot, stop_in, value_in_end}
-use Rattle.sl_leases.specs.declared.lease.Stop.{Stop}
-use Rattle.sl_plain.proofs.Lists.{contains_cases, contains_first, contains_map, contains_more, contains_none, in_map}
+use Rattle.sl_leases.specs.Leases.{StepKind, Area_read, Phase1_read, Phase1_write, Phase2_read, Phase2_write, ballot_after, block_submitted, block_written, blocks_given, concludes, ended_ballot, ended_ballots, freed, freed_by, is_at, is_phase_read, lease_calls, open_ballot, value_in_end}
+use Rattle.sl_plain.proofs.Lists.{contains_cases, contains_first, contains_map, contains_more, in_map}
 use Rattle.sl_sector.specs.declared.sector.Block.{Block}
 use Rattle.sl_sector.specs.declared.sector.Owner.{Owner}
 use Rattle.sl_sessions.specs.Sessions.{generation_of}
@@ -16,11 +15,11 @@ use Rattle.sl_trace.specs.Traces.{Answered, Setting, Submitted, Trace, answer_of
 use Rattle.sl_trace.specs.declared.effects.Entry.{Entry}
 use Rattle.sl_trace.specs.declared.effects.Spot.{Spot}
 use Rattle.sl_trace.specs.declared.input.Answer.{Answer}
-use Rattle.sl_trace_law.proofs.Sessions.Making.{SameCall, kept_by, same_answered}
+use Rattle.sl_trace_law.proofs.Sessions.Making.{kept_by, same_answered}
 use Rattle.sl_words.proofs.CaseLaws.{not_both, true_or_false}
 use Rattle.sl_words.specs.Words.{choose}
 use Rattle.std.proofs.Common.{ap, arith, inl, inr, refl, subst, sym, ◌∙◌}
-use Rattle.std.specs.Prelude.{Bool, Contains, IsTrue, List, None, Option, Some, cond, false, map, max, nat_lt, option_and_then, option_map, true, [], ℕ, ◌&&◌, ◌<◌, ◌==◌, ◌||◌, ◌∷◌, ◌≡◌, ◌≤◌, ◌⊎◌}
+use Rattle.std.specs.Prelude.{Bool, Contains, List, None, Option, Some, false, map, max, option_and_then, option_map, true, [], ℕ, ◌&&◌, ◌<◌, ◌==◌, ◌||◌, ◌∷◌, ◌≡◌, ◌⊎◌}
 
 -- ---- not at all
 
@@ -111,8 +110,7 @@ stands_more st t u heard now s at n c h more generation counted opens beside =
           → (k : Block) × (block_submitted (c ∷ lease_calls st t s at) ≡ Some k) × (k.lver ≡ n) × (k.mbal ≡ b.mbal)
       last_by b known under None is = (b, ap (λ o. elim o as (λ z. Option Block) [ Some k ↦ Some k | None ↦ block_submitted (lease_calls st t s at) ]) is ∙ known, under, refl)
       last_by b known under (Some k) is =
-          let w = beside.block k is in
-          (
+          let w = beside.block k is in (
             k,
             ap (λ o. elim o as (λ z. Option Block) [ Some k ↦ Some k | None ↦ block_submitted (lease_calls st t s at) ]) is,
             w.0,

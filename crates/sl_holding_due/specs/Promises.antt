@@ -2,7 +2,6 @@
 use Rattle.sl_acts.specs.Acts.{Acts}
 use Rattle.sl_due.specs.DueFirst.{begin_recoveries}
 use Rattle.sl_due.specs.Steps.{Step, begin_step, seen}
-use Rattle.sl_holding_due.specs.DecisionGrounds.{DecisionsHaveGrounds}
 use Rattle.sl_holding_due.specs.Moments.{Known, Moment}
 use Rattle.sl_step_facts.specs.Heard.{heard_by}
 use Rattle.sl_step_facts.specs.HoldingFacts.{HoldingFacts}

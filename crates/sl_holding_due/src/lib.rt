@@ -1,8 +1,12 @@
-//! What is due grants lawfully: what is known of holdings, and the laws of grants, of their ends, of modes and of values.
+//! What is known of holdings is kept by each act of a step, and holds once a step has begun.
 //!
-//! An exclusive holding has its ballot behind it as long as it is held: nothing but the leases' own calls could take that away, and while
-//! it is held these only clear a mode or free what lies below. Where a job works on a lease nothing comes in between, since its call is
-//! open; so when it ends in a grant, what was held there is what its line found.
+//! Each holding is of a joined session of its lockspace; at one place an exclusive one is alone, and a process has one. An exclusive holding
+//! has its ballot behind it as long as it is held: nothing but its lease's own calls could take that away, and while it is held these only
+//! clear a mode or free what lies below (`proofs::LeaseBeside`). Where a job's call is answered by a grant, what was held there is what
+//! may be held beside the job's work; where a command grants at once, it is what its line found (`specs::DecisionGrounds`).
+//!
+//! The facts go on effect by effect: ends, signals, starts and moves (`proofs::HoldingsByEffects`), calls (`proofs::HoldingsByCalls`), grants
+//! (`proofs::HoldingsByGrants`), the input (`proofs::HoldingsByInputs`); then act by act.
 #![tactic(auto)]
 
 pub mod laws;
