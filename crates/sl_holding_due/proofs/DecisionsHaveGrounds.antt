@@ -23,7 +23,7 @@ use Rattle.sl_trace.specs.declared.effects.Spot.{Spot}
 use Rattle.sl_trace.specs.declared.reply.Limited.TheVariants.{Killpaths, Lockspaces, Seq as SeqLimit}
 use Rattle.sl_trace.specs.declared.reply.Reply.TheVariants.{Busy, Done, Generation, Granted, Hosts, Joining as StillJoining, Limit as LimitReached, NoOrphan, NoProcess, NoSession, NotHeld, Pending, Recovering}
 use Rattle.sl_trace.specs.declared.reply.Reply.{Reply}
-use Rattle.sl_words.proofs.CaseLaws.{is_false, none_some, not_both, true_is_false}
+use Rattle.sl_words.proofs.CaseLaws.{false_is_true, is_false, none_some, not_both, true_is_false}
 use Rattle.sl_words.proofs.OptionLaws.{choose_none}
 use Rattle.sl_words.proofs.WordLaws.{and_true, choose_some}
 use Rattle.sl_words.specs.Bounds.{is_number}
@@ -57,10 +57,11 @@ where_held : (Q : Decision → Type 0) → ((r : Reply) → Q (Replies r)) → (
 where_held Q q None f r h = q r
 where_held Q q (Some g) f r h = h g refl
 
-beside : (Q : Decision → Type 0) (s : Session) (r : ResourceArg) (shared : Bool) (o : Option Grant) → Q (ReadsArea s r) → ((g : Grant) → shared ≡ true → o ≡ Some g → Q (Shares s g.lver))
+beside : (Q : Decision → Type 0) (s : Session) (r : ResourceArg) (shared : Bool) (o : Option Grant) → ((shared ≡ true → o ≡ None) → Q (ReadsArea s r))
+    → ((g : Grant) → shared ≡ true → o ≡ Some g → Q (Shares s g.lver))
     → Q (elim shared as (λ z. Decision) [ false ↦ ReadsArea s r | true ↦ elim o as (λ z. Decision) [ None ↦ ReadsArea s r | Some g ↦ Shares s g.lver ] ])
-beside Q s r false o h k = h
-beside Q s r true None h k = h
+beside Q s r false o h k = h (λ shared. absurd (false_is_true shared))
+beside Q s r true None h k = h (λ shared. refl)
 beside Q s r true (Some g) h k = k g refl refl
 
 chosen : (Q : Decision → Type 0) (b : Bool) (d e : Decision) → (b ≡ false → Q d) → (b ≡ true → Q e) → Q (elim b as (λ z. Decision) [ false ↦ d | true ↦ e ])
@@ -146,7 +147,7 @@ acquires st es c r program asks asking names =
       free = subst (λ o. IsFreeFor es (spot_of r) o (wants_shared c)) (sym names) (free_for es (spot_of r) asking (wants_shared c) none.1.1.0);
       acts = λ p named. acts es p (ap (λ o. option_and_then (process_refusal es) o) (sym (sym names ∙ named)) ∙ none.1.0);
     } in
-    beside (HasGrounds st es c) s r (wants_shared c) (shared_on es s (spot_of r)) g
+    beside (HasGrounds st es c) s r (wants_shared c) (shared_on es s (spot_of r)) (λ none. record { acquires = g; unshared = none })
     (λ h shared held. record { resource = r; acquires = g; shared = shared; beside = h; held = held; under = refl }))
 
 holds : (st : Setting) (es : Trace) (c : Command) (r : ResourceArg) (p : ℕ) (serves : Grant → Bool) (f : Session → Grant → Decision)

@@ -41,6 +41,11 @@ pub record AcquireGrounds (st : Setting) (es : Trace) (c : Command) (s : Session
   pub free : IsFreeFor es (spot_of r) (process_named c) (wants_shared c)
   pub acts : (p : ℕ) → process_named c ≡ Some p → may_act es p ≡ true
 
+-- Where it begins with a read of the area its session holds nothing shared there, beside which it would be granted at once.
+pub record ReadGrounds (st : Setting) (es : Trace) (c : Command) (s : Session) (r : ResourceArg) : Type 0 where
+  pub acquires : AcquireGrounds st es c s r
+  pub unshared : wants_shared c ≡ true → shared_on es s (spot_of r) ≡ None
+
 pub record SharesGrounds (st : Setting) (es : Trace) (c : Command) (s : Session) (lver : ℕ) : Type 0 where
   pub resource : ResourceArg
   pub acquires : AcquireGrounds st es c s resource
@@ -113,7 +118,7 @@ abbrev pub HasGrounds : Setting → Trace → Command → Decision → Type 0
 HasGrounds st es c (Replies r) = Unit {0}
 HasGrounds st es c (Joins n a) = Unit {0}
 HasGrounds st es c (Leaves s) = LeaveGrounds st es c s
-HasGrounds st es c (ReadsArea s r) = AcquireGrounds st es c s r
+HasGrounds st es c (ReadsArea s r) = ReadGrounds st es c s r
 HasGrounds st es c (Shares s lver) = SharesGrounds st es c s lver
 HasGrounds st es c (GivesUp s g) = GiveUpGrounds st es c s g
 HasGrounds st es c (TakesOver s g) = TakeOverGrounds st es c s g
