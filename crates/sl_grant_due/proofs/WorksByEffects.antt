@@ -1,6 +1,8 @@
 -- What single effects leave of the facts of a job's work.
+use Rattle.sl_acts.proofs.SessionsStay.{numbered_more}
 use Rattle.sl_acts.specs.SoFar.{entry_of}
-use Rattle.sl_due.specs.Steps.{Step, add_end, add_move, add_reply, add_signal, add_start, seen}
+use Rattle.sl_due.specs.Steps.{Step, add_call_of, add_end, add_move, add_reply, add_signal, add_start, seen}
+use Rattle.sl_holding_due.proofs.HoldingsByCalls.{call_added, not_last}
 use Rattle.sl_holding_due.proofs.HoldingsByEffects.{SameCalls, end_inside, next_less, reply_stays}
 use Rattle.sl_law.specs.LawfulModes.{shared_since}
 use Rattle.sl_leases.specs.Jobs.{aim_of_command, command_numbered, process_named}
@@ -8,14 +10,17 @@ use Rattle.sl_leases.specs.Leases.{has_shared_on, holdings_on, shared_on, spot_o
 use Rattle.sl_leases.specs.declared.lease.Aim.TheVariants.{Acquires, Converts, Releases, Settles}
 use Rattle.sl_leases.specs.declared.lease.Aim.{Aim}
 use Rattle.sl_parts_law.specs.Parts.{with_end, with_reply}
-use Rattle.sl_plain.proofs.Lists.{find_fails, find_inside, kept, kept_inside}
+use Rattle.sl_plain.proofs.Lists.{contains_cases}
 use Rattle.sl_plain.proofs.Numbers.{less_is_most, lt_then_le, refl_le}
-use Rattle.sl_plain.proofs.Options.{none_is, some_there}
+use Rattle.sl_plain.proofs.Options.{none_is, some_of}
 use Rattle.sl_sessions.specs.Sessions.{holdings_of, session_numbered}
 use Rattle.sl_sessions.specs.declared.session.Session.{Session}
+use Rattle.sl_step_facts.specs.CallFacts.{CallFacts}
 use Rattle.sl_step_facts.specs.Heard.{heard_by}
 use Rattle.sl_step_facts.specs.WorkFacts.{IsAtWork, IsWaiting, MayBeHeld, WorkFacts}
-use Rattle.sl_trace.specs.Traces.{Replied, Setting, Submitted, Trace, holdings, is_running, is_shared, next_child, reply_to, same_place, submitted}
+use Rattle.sl_trace.proofs.TraceFacts.{submitted-push}
+use Rattle.sl_trace.specs.TraceLaws.{with_call}
+use Rattle.sl_trace.specs.Traces.{Replied, Setting, Submitted, Trace, holdings, is_running, is_shared, next_child, new_call, reply_to, same_place, submitted}
 use Rattle.sl_trace.specs.declared.command.Command.{Command}
 use Rattle.sl_trace.specs.declared.effects.Call.{Call}
 use Rattle.sl_trace.specs.declared.effects.End.{End}
@@ -27,16 +32,18 @@ use Rattle.sl_trace.specs.declared.effects.LeaseStep.{LeaseStep}
 use Rattle.sl_trace.specs.declared.effects.Mode.TheVariants.{Shared}
 use Rattle.sl_trace.specs.declared.effects.Mode.{Mode}
 use Rattle.sl_trace.specs.declared.effects.Move.{Move}
+use Rattle.sl_trace.specs.declared.effects.Op.{Op}
 use Rattle.sl_trace.specs.declared.effects.Purpose.TheVariants.{Lease}
+use Rattle.sl_trace.specs.declared.effects.Purpose.{Purpose}
 use Rattle.sl_trace.specs.declared.effects.Signal.{Signal}
 use Rattle.sl_trace.specs.declared.effects.Spot.{Spot}
 use Rattle.sl_trace.specs.declared.effects.Start.{Start}
 use Rattle.sl_trace.specs.declared.effects.Work.TheVariants.{ForJob}
 use Rattle.sl_trace.specs.declared.reply.Reply.{Reply}
-use Rattle.sl_words.proofs.CaseLaws.{false_is_true, no_value, not_both, true_is_false}
+use Rattle.sl_words.proofs.CaseLaws.{no_value, one_value}
 use Rattle.sl_words.proofs.WordLaws.{or_true}
 use Rattle.std.proofs.Common.{ap, inl, inr, refl, subst, sym, ◌∙◌}
-use Rattle.std.specs.Prelude.{Bool, Contains, IsTrue, List, None, Option, Some, [], false, filter, find, is_none, is_some, length, nat_le, true, ℕ, ◌&&◌, ◌<◌, ◌==◌, ◌||◌, ◌∷◌, ◌≡◌, ◌≤◌, ◌⊎◌}
+use Rattle.std.specs.Prelude.{Bool, Contains, IsSome, IsTrue, List, None, Option, Some, [], false, filter, find, is_none, is_some, length, nat_le, true, ℕ, ◌&&◌, ◌<◌, ◌==◌, ◌||◌, ◌∷◌, ◌≡◌, ◌≤◌, ◌⊎◌}
 
 -- ---- works go on
 
@@ -83,31 +90,6 @@ works_on st t u heard now w h =
           (subst (λ n. shared_since n t s (spot_of_call st.layout b.before) ≡ false) e.3
           (h.unshared b.before e.0 j step earlier c mode s b.work aimed old e.1 (ap (λ (z : Call). z.purpose) e.2 ∙ purpose))));
     }
-
--- ---- what was held shared
-
-pub shared_fewer : (t u : Trace) (s : Session) (at : Spot) → ((g : Grant) → Contains (holdings u) g → Contains (holdings t) g) → has_shared_on t s at ≡ false → has_shared_on u s at ≡ false
-shared_fewer t u s at fewer none = by (shared_on u s at) refl where
-  by : (o : Option Grant) → shared_on u s at ≡ o → has_shared_on u s at ≡ false
-  by None is = ap (λ o. is_some o) is
-  by (Some g) is =
-      let f = find_inside (λ (k : Grant). is_shared k.mode) (holdings_on u s at) g is in
-      let on = kept_inside (λ (k : Grant). same_place k.path k.offset at.path at.base) (holdings_of u s) g f.0 in
-      let of = kept_inside (λ (k : Grant). k.session == s.number) (holdings u) g on.0 in
-      absurd (shown g (kept (λ (k : Grant). same_place k.path k.offset at.path at.base) (holdings_of t s) g on.1 (kept (λ (k : Grant). k.session == s.number) (holdings t) g of.1 (fewer g of.0))) f.1) where
-        shown : (g : Grant) → Contains (holdings_on t s at) g → is_shared g.mode ≡ true → ⊥
-        shown g there shared = not_both (is_shared g.mode) shared (find_fails (λ (k : Grant). is_shared k.mode) (holdings_on t s at) g (none_is_none (shared_on t s at) none) there) where
-          none_is_none : (o : Option Grant) → is_some o ≡ false → o ≡ None
-          none_is_none None h = refl
-          none_is_none (Some k) h = absurd (true_is_false h)
-
-pub since_by : (since : ℕ) (past : Trace) (e d : Entry) (s : Session) (at : Spot) → (has_shared_on (e ∷ past) s at ≡ false → has_shared_on (d ∷ past) s at ≡ false) → shared_since since (e ∷ past) s at ≡ false
-    → shared_since since (d ∷ past) s at ≡ false
-since_by since past e d s at fewer none = by (nat_le since (length past)) (has_shared_on (e ∷ past) s at) (has_shared_on (d ∷ past) s at) (shared_since since past s at) fewer none where
-  by : (a b c o : Bool) → (b ≡ false → c ≡ false) → ((a && b) || o) ≡ false → ((a && c) || o) ≡ false
-  by true true c o f h = absurd (true_is_false h)
-  by true false c o f h = ap (λ z. z || o) (f refl) ∙ h
-  by false b c o f h = h
 
 -- ---- effects
 
@@ -158,9 +140,7 @@ end_works x e h =
       further = refl_le (next_child (seen x));
       sessions = λ n s m there is its. its;
       made = λ d there. itself x d there;
-      unshared = λ since s at none.
-          since_by since x.past (entry_of x) (with_end e (entry_of x)) s at
-          (λ shared. shared_fewer (seen x) (seen (add_end e x)) s at (λ g there. end_inside x.past (entry_of x) e g there) shared) none;
+      unshared = λ since s at none. none;
     }) h
 
 -- What runs after a reply ran before it.
@@ -185,3 +165,101 @@ reply_works x job r same h =
       made = λ d there. itself x d (subst (λ ms. Contains ms d) same there);
       unshared = λ since s at none. none;
     }) h
+
+-- ---- calls
+
+-- One more call: of the works before, each goes on; and where it is a job's lease call itself, what is asked of it.
+pub record IsNewWork (x : Step) (c : Call) : Type 0 where
+  pub beside : (j : ℕ) (step : LeaseStep) (d : Command) (aim : Aim) (h : Grant) → c.purpose ≡ Lease (ForJob j) step → is_running (seen x) j ≡ true → command_numbered x.setting (seen x) j ≡ Some d → aim_of_command d ≡ Some aim
+      → Contains (holdings (seen x)) h → same_place h.path h.offset (spot_of_call x.setting.layout (new_call (length x.past) x.reading c)).path (spot_of_call x.setting.layout (new_call (length x.past) x.reading c)).base ≡ true
+      → MayBeHeld (new_call (length x.past) x.reading c) d aim h
+  pub modes : (j : ℕ) (step : LeaseStep) (d : Command) → c.purpose ≡ Lease (ForJob j) step → is_running (seen x) j ≡ true → command_numbered x.setting (seen x) j ≡ Some d → aim_of_command d ≡ Some (Converts Shared) → step ≡ SetMode
+  pub acts : (j : ℕ) (step : LeaseStep) (d : Command) (p : ℕ) → c.purpose ≡ Lease (ForJob j) step → is_running (seen x) j ≡ true → command_numbered x.setting (seen x) j ≡ Some d → process_named d ≡ Some p → p < next_child (seen x)
+  -- before it and since, where the job had calls before
+  pub unshared : (j : ℕ) (step : LeaseStep) (d : Command) (mode : Mode) (s : Session) → c.purpose ≡ Lease (ForJob j) step → is_running (seen x) j ≡ true → command_numbered x.setting (seen x) j ≡ Some d → aim_of_command d ≡ Some (Acquires mode)
+      → session_numbered x.setting (seen x) c.session ≡ Some s
+      → (shared_since (length x.past) (seen x) s (spot_of_call x.setting.layout (new_call (length x.past) x.reading c)) ≡ false)
+      × ((e : Submitted) (earlier : LeaseStep) → Contains (submitted (seen x)) e → e.call.purpose ≡ Lease (ForJob j) earlier → shared_since e.at (seen x) s (spot_of_call x.setting.layout (new_call (length x.past) x.reading c)) ≡ false)
+  -- a further call of a job whose call still waits would be none of these; so it has none
+  pub known : (j : ℕ) (step : LeaseStep) → c.purpose ≡ Lease (ForJob j) step → IsSome (session_numbered x.setting (seen x) c.session)
+  pub lone : (j : ℕ) (step : LeaseStep) (m : Submitted) (earlier : LeaseStep) → c.purpose ≡ Lease (ForJob j) step → Contains (submitted (seen x)) m → m.answer ≡ None → m.call.purpose ≡ Lease (ForJob j) earlier → ⊥
+
+pub not_work : (x : Step) (c : Call) → ((j : ℕ) (step : LeaseStep) → c.purpose ≡ Lease (ForJob j) step → ⊥) → IsNewWork x c
+not_work x c none =
+    record {
+      beside = λ j step d aim h is runs named aimed there same. absurd (none j step is);
+      modes = λ j step d is runs named aimed. absurd (none j step is);
+      acts = λ j step d p is runs named process. absurd (none j step is);
+      unshared = λ j step d mode s is runs named aimed its. absurd (none j step is);
+      known = λ j step is. absurd (none j step is);
+      lone = λ j step m earlier is there open_m purpose. absurd (none j step is);
+    }
+
+-- A session that a call names before and after is one.
+same_session : (x : Step) (c : Call) (n : ℕ) (s : Session) → IsSome (session_numbered x.setting (seen x) n) → session_numbered x.setting (with_call c (entry_of x) ∷ x.past) n ≡ Some s → session_numbered x.setting (seen x) n ≡ Some s
+same_session x c n s there its =
+    let v = some_of (session_numbered x.setting (seen x) n) there in
+    v.1 ∙ ap (λ k. Some k) (one_value v.0 s (session_numbered x.setting (with_call c (entry_of x) ∷ x.past) n) (numbered_more x.setting x.past (entry_of x) c n v.0 v.1) its)
+
+pub call_works : (x : Step) (n : ℕ) (path : List ℕ) (p : Purpose) (o : ℕ) (op : Op) → CallFacts x.setting (seen x) → IsNewWork x (call_added n path p o op x) → WorksAt x → WorksAt (add_call_of n path p o op x)
+call_works x n path p o op facts new h =
+    record {
+      beside = λ m j step d aim g k aimed there same. beside m j step d aim g k aimed there same (which m k.there);
+      modes = λ m j step d k aimed. modes m j step d k aimed (which m k.there);
+      acts = λ m j step d q k named. acts m j step d q k named (which m k.there);
+      unshared = λ m e j step earlier d mode s k aimed its there purpose. unshared m e j step earlier d mode s k aimed its purpose (which m k.there) (which e there);
+    } where
+      c : Call
+      c = call_added n path p o op x
+
+      u : Trace
+      u = with_call c (entry_of x) ∷ x.past
+
+      v : Submitted
+      v = new_call (length x.past) x.reading c
+
+      which : (m : Submitted) → Contains (submitted u) m → (v ≡ m) ⊎ Contains (submitted (seen x)) m
+      which m there = contains_cases v (submitted (seen x)) m (subst (λ ms. Contains ms m) (submitted-push x.past (entry_of x) c) there)
+
+      waits : (m : Submitted) → IsWaiting u (heard_by x.input) m → m.answer ≡ None
+      waits m (inl none) = none
+      waits m (inr k) = absurd (not_last x.effects.calls c k.1)
+
+      old : (m : Submitted) (j : ℕ) (step : LeaseStep) (d : Command) → IsAtWork x.setting u (heard_by x.input) m j step d → Contains (submitted (seen x)) m → IsAtWork x.setting (seen x) (heard_by x.input) m j step d
+      old m j step d k there = record { there = there; opens = inl (waits m k.opens); purpose = k.purpose; runs = k.runs; command = k.command }
+
+      its_purpose : (m : Submitted) (j : ℕ) (step : LeaseStep) → v ≡ m → m.call.purpose ≡ Lease (ForJob j) step → c.purpose ≡ Lease (ForJob j) step
+      its_purpose m j step is at = ap (λ (z : Submitted). z.call.purpose) is ∙ at
+
+      beside : (m : Submitted) (j : ℕ) (step : LeaseStep) (d : Command) (aim : Aim) (g : Grant) → IsAtWork x.setting u (heard_by x.input) m j step d → aim_of_command d ≡ Some aim → Contains (holdings (seen x)) g
+          → IsTrue (same_place g.path g.offset (spot_of_call x.setting.layout m).path (spot_of_call x.setting.layout m).base) → (v ≡ m) ⊎ Contains (submitted (seen x)) m → MayBeHeld m d aim g
+      beside m j step d aim g k aimed there same (inr was) = h.beside m j step d aim g (old m j step d k was) aimed there same
+      beside m j step d aim g k aimed there same (inl is) =
+          same_held x.setting v m d aim g (ap (λ (z : Submitted). z.call) is)
+          (new.beside j step d aim g (its_purpose m j step is k.purpose) k.runs k.command aimed there (subst (λ (z : Submitted). same_place g.path g.offset (spot_of_call x.setting.layout z).path (spot_of_call x.setting.layout z).base ≡ true) (sym is) same))
+
+      modes : (m : Submitted) (j : ℕ) (step : LeaseStep) (d : Command) → IsAtWork x.setting u (heard_by x.input) m j step d → aim_of_command d ≡ Some (Converts Shared) → (v ≡ m) ⊎ Contains (submitted (seen x)) m → step ≡ SetMode
+      modes m j step d k aimed (inr was) = h.modes m j step d (old m j step d k was) aimed
+      modes m j step d k aimed (inl is) = new.modes j step d (its_purpose m j step is k.purpose) k.runs k.command aimed
+
+      acts : (m : Submitted) (j : ℕ) (step : LeaseStep) (d : Command) (q : ℕ) → IsAtWork x.setting u (heard_by x.input) m j step d → process_named d ≡ Some q → (v ≡ m) ⊎ Contains (submitted (seen x)) m → q < next_child (seen x)
+      acts m j step d q k named (inr was) = h.acts m j step d q (old m j step d k was) named
+      acts m j step d q k named (inl is) = new.acts j step d q (its_purpose m j step is k.purpose) k.runs k.command named
+
+      unshared : (m e : Submitted) (j : ℕ) (step earlier : LeaseStep) (d : Command) (mode : Mode) (s : Session) → IsAtWork x.setting u (heard_by x.input) m j step d → aim_of_command d ≡ Some (Acquires mode)
+          → session_numbered x.setting u m.call.session ≡ Some s → e.call.purpose ≡ Lease (ForJob j) earlier → (v ≡ m) ⊎ Contains (submitted (seen x)) m → (v ≡ e) ⊎ Contains (submitted (seen x)) e
+          → shared_since e.at u s (spot_of_call x.setting.layout m) ≡ false
+      unshared m e j step earlier d mode s k aimed its purpose (inr was) (inr there) =
+          h.unshared m e j step earlier d mode s (old m j step d k was) aimed (same_session x c m.call.session s (facts.owned m was) its) there purpose
+      unshared m e j step earlier d mode s k aimed its purpose (inr was) (inl is) = absurd (new.lone j earlier m step (its_purpose e j earlier is purpose) was (waits m k.opens) k.purpose)
+      unshared m e j step earlier d mode s k aimed its purpose (inl is) (inr there) =
+          let of = its_purpose m j step is k.purpose in
+          let session : session_numbered x.setting (seen x) c.session ≡ Some s =
+          same_session x c c.session s (new.known j step of) (ap (λ (z : Submitted). session_numbered x.setting u z.call.session) is ∙ its) in
+          subst (λ (z : Submitted). shared_since e.at u s (spot_of_call x.setting.layout z) ≡ false) is ((new.unshared j step d mode s of k.runs k.command aimed session).1 e earlier there purpose)
+      unshared m e j step earlier d mode s k aimed its purpose (inl is) (inl same) =
+          let of = its_purpose m j step is k.purpose in
+          let session : session_numbered x.setting (seen x) c.session ≡ Some s =
+          same_session x c c.session s (new.known j step of) (ap (λ (z : Submitted). session_numbered x.setting u z.call.session) is ∙ its) in
+          subst (λ i. shared_since i u s (spot_of_call x.setting.layout m) ≡ false) (ap (λ (z : Submitted). z.at) same)
+          (subst (λ (z : Submitted). shared_since (length x.past) u s (spot_of_call x.setting.layout z) ≡ false) is (new.unshared j step d mode s of k.runs k.command aimed session).0)

@@ -43,7 +43,7 @@ pub record CallSpares (x : Step) (c : Call) : Type 0 where
       → (is_lease_call (new_call (length x.past) x.reading c) && is_on x.setting.layout (spot_of_grant g) c) ≡ true
       → (h : StandsExclusive x.setting (seen x) (heard_by x.input) s (spot_of_grant g) g.lver) → IsBeside h.own g.lver (new_call (length x.past) x.reading c)
 
-not_last : {A : Type 0} (xs : List A) (y : A) → xs ++ y ∷ [] ≡ [] → ⊥
+pub not_last : {A : Type 0} (xs : List A) (y : A) → xs ++ y ∷ [] ≡ [] → ⊥
 not_last {A} xs y is = true_is_false (sym (nonempty xs y) ∙ ap (λ zs. has_some zs) is) where
   has_some : {A : Type 0} → List A → Bool
   has_some [] = false
