@@ -1,1 +1,2 @@
 pub mod WorksByEffects
+pub mod WorksByInputs
