@@ -1,2 +1,5 @@
 pub mod WorksByEffects
 pub mod WorksByInputs
+pub mod WorksByGrants
+pub mod WorksByExits
+pub mod WorksByDeltas

@@ -15,7 +15,6 @@ use Rattle.sl_plain.proofs.Numbers.{less_is_most, lt_then_le, refl_le}
 use Rattle.sl_plain.proofs.Options.{none_is, some_of}
 use Rattle.sl_sessions.specs.Sessions.{holdings_of, session_numbered}
 use Rattle.sl_sessions.specs.declared.session.Session.{Session}
-use Rattle.sl_step_facts.specs.CallFacts.{CallFacts}
 use Rattle.sl_step_facts.specs.Heard.{heard_by}
 use Rattle.sl_step_facts.specs.WorkFacts.{IsAtWork, IsWaiting, MayBeHeld, WorkFacts}
 use Rattle.sl_trace.proofs.TraceFacts.{submitted-push}
@@ -195,14 +194,18 @@ not_work x c none =
       lone = λ j step m earlier is there open_m purpose. absurd (none j step is);
     }
 
+-- Each call is of a session.
+abbrev pub CallsOwned : Step → Type 0
+CallsOwned x = (m : Submitted) → Contains (submitted (seen x)) m → IsSome (session_numbered x.setting (seen x) m.call.session)
+
 -- A session that a call names before and after is one.
 same_session : (x : Step) (c : Call) (n : ℕ) (s : Session) → IsSome (session_numbered x.setting (seen x) n) → session_numbered x.setting (with_call c (entry_of x) ∷ x.past) n ≡ Some s → session_numbered x.setting (seen x) n ≡ Some s
 same_session x c n s there its =
     let v = some_of (session_numbered x.setting (seen x) n) there in
     v.1 ∙ ap (λ k. Some k) (one_value v.0 s (session_numbered x.setting (with_call c (entry_of x) ∷ x.past) n) (numbered_more x.setting x.past (entry_of x) c n v.0 v.1) its)
 
-pub call_works : (x : Step) (n : ℕ) (path : List ℕ) (p : Purpose) (o : ℕ) (op : Op) → CallFacts x.setting (seen x) → IsNewWork x (call_added n path p o op x) → WorksAt x → WorksAt (add_call_of n path p o op x)
-call_works x n path p o op facts new h =
+pub call_works : (x : Step) (n : ℕ) (path : List ℕ) (p : Purpose) (o : ℕ) (op : Op) → CallsOwned x → IsNewWork x (call_added n path p o op x) → WorksAt x → WorksAt (add_call_of n path p o op x)
+call_works x n path p o op owned new h =
     record {
       beside = λ m j step d aim g k aimed there same. beside m j step d aim g k aimed there same (which m k.there);
       modes = λ m j step d k aimed. modes m j step d k aimed (which m k.there);
@@ -250,7 +253,7 @@ call_works x n path p o op facts new h =
           → session_numbered x.setting u m.call.session ≡ Some s → e.call.purpose ≡ Lease (ForJob j) earlier → (v ≡ m) ⊎ Contains (submitted (seen x)) m → (v ≡ e) ⊎ Contains (submitted (seen x)) e
           → shared_since e.at u s (spot_of_call x.setting.layout m) ≡ false
       unshared m e j step earlier d mode s k aimed its purpose (inr was) (inr there) =
-          h.unshared m e j step earlier d mode s (old m j step d k was) aimed (same_session x c m.call.session s (facts.owned m was) its) there purpose
+          h.unshared m e j step earlier d mode s (old m j step d k was) aimed (same_session x c m.call.session s (owned m was) its) there purpose
       unshared m e j step earlier d mode s k aimed its purpose (inr was) (inl is) = absurd (new.lone j earlier m step (its_purpose e j earlier is purpose) was (waits m k.opens) k.purpose)
       unshared m e j step earlier d mode s k aimed its purpose (inl is) (inr there) =
           let of = its_purpose m j step is k.purpose in

@@ -265,7 +265,7 @@ over_on false own older joined later stays is = let v = and_true (own && older) 
 abbrev pub SameCalls : Trace → Entry → JobReply → Type 0
 SameCalls past e a = submitted (with_reply a e ∷ past) ≡ submitted (e ∷ past)
 
-abbrev is_told : Input → Bool
+abbrev pub is_told : Input → Bool
 is_told (Told n w) = true
 is_told i = false
 
