@@ -3,3 +3,4 @@ pub mod WorksByInputs
 pub mod WorksByGrants
 pub mod WorksByExits
 pub mod WorksByDeltas
+pub mod WorksByAnswers
