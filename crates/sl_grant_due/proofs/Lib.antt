@@ -1,5 +1,6 @@
 pub mod WorksByEffects
 pub mod WorksByInputs
+pub mod WorksByLines
 pub mod WorksByGrants
 pub mod WorksByExits
 pub mod WorksByDeltas

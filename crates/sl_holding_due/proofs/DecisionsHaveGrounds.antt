@@ -84,14 +84,14 @@ session_active st es s none = by (is_joined es s) none where
   by true is = not_true (is_active st es s) (choose_none (not (is_active st es s)) (Recovering (last_renewal st es s)) is)
   by false is = absurd (none_some StillJoining (sym is))
 
-none_least : (xs : List ℕ) → least xs ≡ None → xs ≡ []
+pub none_least : (xs : List ℕ) → least xs ≡ None → xs ≡ []
 none_least [] is = refl
 none_least (x ∷ xs) is = absurd (by (least xs) is) where
   by : (o : Option ℕ) → (elim o as (λ z. Option ℕ) [ None ↦ Some x | Some y ↦ Some (min x y) ]) ≡ None → ⊥
   by None h = none_some x (sym h)
   by (Some y) h = none_some (min x y) (sym h)
 
-none_mapped : {A B : Type 0} (f : A → B) (xs : List A) → map f xs ≡ [] → xs ≡ []
+pub none_mapped : {A B : Type 0} (f : A → B) (xs : List A) → map f xs ≡ [] → xs ≡ []
 none_mapped f [] is = refl
 none_mapped f (x ∷ xs) is = absurd (true_is_false (sym (ap (λ ys. starts ys) is))) where
   starts : {B : Type 0} → List B → Bool
@@ -111,7 +111,7 @@ neither : {A : Type 0} (o p : Option A) → option_or o p ≡ None → (o ≡ No
 neither None p is = (refl, is)
 neither (Some a) p is = absurd (none_some a (sym is))
 
-nothing_left : {A : Type 0} (p : A → Bool) (xs : List A) (x : A) → filter p xs ≡ [] → Contains xs x → p x ≡ false
+pub nothing_left : {A : Type 0} (p : A → Bool) (xs : List A) (x : A) → filter p xs ≡ [] → Contains xs x → p x ≡ false
 nothing_left p xs x none there =
     is_false (p x) (λ is. contains_none x (subst (λ ys. Contains ys x) none (kept p xs x is there)))
 

@@ -90,13 +90,13 @@ named_lockspace st es name s is = sym (text_is s.lockspace name (find_inside (λ
 pub active_joined : (st : Setting) (es : Trace) (s : Session) → is_active st es s ≡ true → is_joined es s ≡ true
 active_joined st es s is = (and_true (is_joined es s) (is_none (recovery_of st es s)) (and_true (is_joined es s && is_none (recovery_of st es s)) (is_none (leaving_job st es s)) is).0).0
 
-here_held : (x : Step) (at : Spot) (h : Grant) → Contains (holdings (seen x)) h → same_place h.path h.offset at.path at.base ≡ true → Contains (held_here (seen x) at) h
+pub here_held : (x : Step) (at : Spot) (h : Grant) → Contains (holdings (seen x)) h → same_place h.path h.offset at.path at.base ≡ true → Contains (held_here (seen x) at) h
 here_held x at h there same = kept (λ (g : Grant). same_place g.path g.offset at.path at.base) (holdings (seen x)) h same there
 
-base_of : (st : Setting) (r : ResourceArg) → IsResourceArg st.layout r → r.offset % st.layout.area ≡ 0
+pub base_of : (st : Setting) (r : ResourceArg) → IsResourceArg st.layout r → r.offset % st.layout.area ≡ 0
 base_of st r is = eqb-true (r.offset % st.layout.area) 0 (and_true (r.offset % st.layout.area == 0) (nat_lt r.offset (10 ^ 12)) is.base).0
 
-asked_resource : (st : Setting) (c : Command) (r : ResourceArg) → IsCommand st.layout c → AsksLease c r → IsResourceArg st.layout r × (resource_named c ≡ Some r)
+pub asked_resource : (st : Setting) (c : Command) (r : ResourceArg) → IsCommand st.layout c → AsksLease c r → IsResourceArg st.layout r × (resource_named c ≡ Some r)
 asked_resource st c r is (inl a) = ((subst (λ z. IsCommand st.layout z) a.3 is).0, ap (λ z. resource_named z) a.3)
 asked_resource st c r is (inr a) = ((subst (λ z. IsCommand st.layout z) a.2 is).0, ap (λ z. resource_named z) a.2)
 
@@ -321,7 +321,7 @@ converts_line x text c j s r mode hx h is has command g = carried_held y s (spot
 
 -- ---- all decisions
 
-no_told : (past : Trace) (text : List ℕ) → AnswersNoJob past (Line text)
+pub no_told : (past : Trace) (text : List ℕ) → AnswersNoJob past (Line text)
 no_told past text n w m is there same = absurd (true_is_false (ap (λ i. is_no_answer i) is))
 
 pub lines_held : (x : Step) (text : List ℕ) (c : Command) (j : ℕ) (d : Decision) → HoldsAt x → IsSetting x.setting → x.input ≡ Wake → x.effects.calls ≡ [] → x.effects.grants ≡ [] → x.setting.read text ≡ Ok c
