@@ -5,3 +5,5 @@ pub mod WorksByGrants
 pub mod WorksByExits
 pub mod WorksByDeltas
 pub mod WorksByAnswers
+pub mod WorkFactsAreKept
+pub mod WorkFactsBegin

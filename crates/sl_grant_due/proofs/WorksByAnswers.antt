@@ -1,22 +1,19 @@
 -- The answer of a lease's call keeps the facts of a job's work: the next call is of the same work, and where it is granted nobody else
 -- works there.
 use Rattle.sl_acts.proofs.InputsKeep.{has_heard}
-use Rattle.sl_acts.specs.Acts.{Has, Hears}
 use Rattle.sl_acts.specs.SoFar.{entry_of}
 use Rattle.sl_area.specs.Places.{block_offset, leader_offset}
 use Rattle.sl_due.specs.DueLease.{carry_lease, convert_for, convert_holding, for_work, grant_for, grant_of, held_otherwise, lease_call, next_of_lease, read_for, with_command}
-use Rattle.sl_due.specs.Steps.{Step, add_call_of, add_end, add_grant, add_reply, add_start, seen, with_some}
-use Rattle.sl_grant_due.proofs.WorksByDeltas.{other_call_works}
+use Rattle.sl_due.specs.Steps.{Step, add_end, add_grant, add_reply, seen, with_some}
 use Rattle.sl_grant_due.proofs.WorksByEffects.{CallsOwned, IsNewWork, WorksAt, call_works, end_works, not_work, reply_works, start_works}
 use Rattle.sl_grant_due.proofs.WorksByGrants.{NobodyWorksAt, grant_works}
-use Rattle.sl_holding_due.proofs.HoldingsByAnswers.{JobLed, Led, OnResource, beside_job, job_led, on_resource, spot_at}
+use Rattle.sl_holding_due.proofs.HoldingsByAnswers.{JobLed, Led, beside_job, job_led, on_resource, spot_at}
 use Rattle.sl_holding_due.proofs.HoldingsByCalls.{call_added}
-use Rattle.sl_holding_due.proofs.HoldingsByEffects.{SameCalls, later_same}
+use Rattle.sl_holding_due.proofs.HoldingsByEffects.{later_same}
 use Rattle.sl_holding_due.proofs.LeaseCallers.{heard_answered, heard_call, heard_opens, heard_session, on_own_area, spot_aligned}
 use Rattle.sl_holding_due.proofs.LeaseConversions.{converted, otherwise, spot_is}
 use Rattle.sl_holding_due.proofs.LeaseNexts.{IsFitNext, next_fits}
 use Rattle.sl_holding_due.proofs.LeasePlaces.{base_on, block_on, ids_within, one_area}
-use Rattle.sl_holding_due.proofs.PlainPlaces.{one_place, place_is}
 use Rattle.sl_law.specs.Lawful.{IsSetting}
 use Rattle.sl_law.specs.LawfulArea.{is_area_work}
 use Rattle.sl_law.specs.LawfulModes.{shared_since}
@@ -32,9 +29,8 @@ use Rattle.sl_plain.proofs.Numbers.{below_suc, trans_le}
 use Rattle.sl_sector.specs.declared.sector.Rec.TheVariants.{BlockIs, LeaderIs}
 use Rattle.sl_sessions.specs.Sessions.{session_numbered, sessions}
 use Rattle.sl_sessions.specs.declared.session.Session.{Session}
-use Rattle.sl_step_facts.specs.Heard.{IsOpen, heard_by}
-use Rattle.sl_step_facts.specs.WorkFacts.{IsAtWork, MayBeHeld}
-use Rattle.sl_trace.specs.Traces.{Setting, Submitted, Trace, end_of, holdings, is_before_input, is_running, job_of, new_call, next_child, same_place, spot_of_grant, submitted, work_job}
+use Rattle.sl_step_facts.specs.WorkFacts.{MayBeHeld}
+use Rattle.sl_trace.specs.Traces.{Setting, Submitted, Trace, end_of, is_before_input, job_of, new_call, next_child, same_place, spot_of_grant, submitted, work_job}
 use Rattle.sl_trace.specs.declared.command.Command.TheVariants.{Acquire, AddLockspace, Convert, GetLvb, HostStatus, InqLockspace, Release, ReleaseOrphan, RemLockspace, Request, RunProgram, SetKillpath, SetLvb, Status, TakeOver}
 use Rattle.sl_trace.specs.declared.command.Command.{Command}
 use Rattle.sl_trace.specs.declared.command.ResourceArg.{ResourceArg}
@@ -56,10 +52,10 @@ use Rattle.sl_trace.specs.declared.input.Answer.{Answer}
 use Rattle.sl_trace.specs.declared.reply.Reply.TheVariants.{Granted}
 use Rattle.sl_trace.specs.declared.reply.Reply.{Reply}
 use Rattle.sl_words.proofs.CaseLaws.{none_some, no_value, not_both, one_value, some_value, true_is_false}
-use Rattle.std.proofs.Common.{ap, inl, inr, refl, subst, sym, ◌∙◌}
+use Rattle.std.proofs.Common.{ap, inl, refl, subst, sym, ◌∙◌}
 use Rattle.std.proofs.lemmas.Bool.{le-leb, leb-true}
 use Rattle.std.specs.Option.{option_map_or}
-use Rattle.std.specs.Prelude.{Bool, Contains, IsSome, IsTrue, List, None, Option, Some, [], false, length, nat_le, true, ℕ, ◌%◌, ◌&&◌, ◌+◌, ◌==◌, ◌||◌, ◌∷◌, ◌≡◌, ◌≤◌, ◌⊎◌}
+use Rattle.std.specs.Prelude.{Bool, Contains, IsSome, None, Option, Some, [], false, length, nat_le, true, ℕ, ◌%◌, ◌&&◌, ◌+◌, ◌||◌, ◌∷◌, ◌≡◌, ◌≤◌}
 
 -- ---- what a purpose says
 
@@ -169,14 +165,13 @@ new_work x s j step m answer aim l next is calls c further purpose session on =
           let same_d : k.command ≡ d = known_command i d o.0 named in
           let aim_is : aim_of_command k.command ≡ Some (Acquires mode) = ap (λ z. aim_of_command z) same_d ∙ aimed in
           let m_session : session_numbered x.setting (seen x) m.call.session ≡ Some q =
-          ap (λ n. session_numbered x.setting (seen x) n) (heard_session x s m answer l.hears ∙ sym session) ∙ session_is in
-          (
+          ap (λ n. session_numbered x.setting (seen x) n) (heard_session x s m answer l.hears ∙ sym session) ∙ session_is in (
             subst (λ z. shared_since (length x.past) (seen x) q z ≡ false) (sym spot)
-            (since_more m.at (length x.past) (seen x) q (spot_at x m) (below_suc m.at (length x.past) (l.whole.0.facts.calls.made m (heard_call x s m answer l.hears).0))
-            (l.whole.0.facts.works.unshared m m j step step k.command mode q k.work aim_is m_session (heard_call x s m answer l.hears).0 l.purpose)),
+                (since_more m.at (length x.past) (seen x) q (spot_at x m) (below_suc m.at (length x.past) (l.whole.0.facts.calls.made m (heard_call x s m answer l.hears).0))
+                (l.whole.0.facts.works.unshared m m j step step k.command mode q k.work aim_is m_session (heard_call x s m answer l.hears).0 l.purpose)),
             λ e earlier there of.
-            subst (λ z. shared_since e.at (seen x) q z ≡ false) (sym spot)
-            (l.whole.0.facts.works.unshared m e j step earlier k.command mode q k.work aim_is m_session there (of ∙ ap (λ n. Lease (ForJob n) earlier) (sym o.0))),
+                subst (λ z. shared_since e.at (seen x) q z ≡ false) (sym spot)
+                (l.whole.0.facts.works.unshared m e j step earlier k.command mode q k.work aim_is m_session there (of ∙ ap (λ n. Lease (ForJob n) earlier) (sym o.0))),
           );
       known = λ i at its. subst (λ n. IsSome (session_numbered x.setting (seen x) n)) (sym session) (subst (λ o. IsSome o) (sym (has_heard x s m answer l.hears)) refl);
       lone = λ i at n earlier its there none of.
@@ -265,8 +260,7 @@ become_works x s j step m answer aim l mode lver = by_command (command_numbered 
   found p None is = first
   found p (Some g) is =
       let w = otherwise x s (spot_at x m) p mode g is in
-      let y : Step = add_grant (converted g mode lver) (add_end (end_of g) x) in
-      (
+      let y : Step = add_grant (converted g mode lver) (add_end (end_of g) x) in (
         converting_works x j g mode lver (nobody_there x s (ForJob j) step m answer aim l (converted g mode lver) (spot_is g (spot_at x m) w.2)) l.whole.0.facts.works,
         λ n there. first.1 n (subst (λ ms. Contains ms n) (later_same y.past (entry_of y) (record { job = j; reply = Granted lver }) refl) there),
       )

@@ -6,20 +6,20 @@ use Rattle.sl_holding_due.proofs.HoldingsByCalls.{call_added, not_last}
 use Rattle.sl_holding_due.proofs.HoldingsByEffects.{SameCalls, end_inside, next_less, reply_stays}
 use Rattle.sl_law.specs.LawfulModes.{shared_since}
 use Rattle.sl_leases.specs.Jobs.{aim_of_command, command_numbered, process_named}
-use Rattle.sl_leases.specs.Leases.{has_shared_on, holdings_on, shared_on, spot_of_call}
+use Rattle.sl_leases.specs.Leases.{spot_of_call}
 use Rattle.sl_leases.specs.declared.lease.Aim.TheVariants.{Acquires, Converts, Releases, Settles}
 use Rattle.sl_leases.specs.declared.lease.Aim.{Aim}
-use Rattle.sl_parts_law.specs.Parts.{with_end, with_reply}
+use Rattle.sl_parts_law.specs.Parts.{with_reply}
 use Rattle.sl_plain.proofs.Lists.{contains_cases}
 use Rattle.sl_plain.proofs.Numbers.{less_is_most, lt_then_le, refl_le}
 use Rattle.sl_plain.proofs.Options.{none_is, some_of}
-use Rattle.sl_sessions.specs.Sessions.{holdings_of, session_numbered}
+use Rattle.sl_sessions.specs.Sessions.{session_numbered}
 use Rattle.sl_sessions.specs.declared.session.Session.{Session}
 use Rattle.sl_step_facts.specs.Heard.{heard_by}
 use Rattle.sl_step_facts.specs.WorkFacts.{IsAtWork, IsWaiting, MayBeHeld, WorkFacts}
 use Rattle.sl_trace.proofs.TraceFacts.{submitted-push}
 use Rattle.sl_trace.specs.TraceLaws.{with_call}
-use Rattle.sl_trace.specs.Traces.{Replied, Setting, Submitted, Trace, holdings, is_running, is_shared, next_child, new_call, reply_to, same_place, submitted}
+use Rattle.sl_trace.specs.Traces.{Replied, Setting, Submitted, Trace, holdings, is_running, next_child, new_call, reply_to, same_place, submitted}
 use Rattle.sl_trace.specs.declared.command.Command.{Command}
 use Rattle.sl_trace.specs.declared.effects.Call.{Call}
 use Rattle.sl_trace.specs.declared.effects.End.{End}
@@ -40,9 +40,8 @@ use Rattle.sl_trace.specs.declared.effects.Start.{Start}
 use Rattle.sl_trace.specs.declared.effects.Work.TheVariants.{ForJob}
 use Rattle.sl_trace.specs.declared.reply.Reply.{Reply}
 use Rattle.sl_words.proofs.CaseLaws.{no_value, one_value}
-use Rattle.sl_words.proofs.WordLaws.{or_true}
 use Rattle.std.proofs.Common.{ap, inl, inr, refl, subst, sym, ◌∙◌}
-use Rattle.std.specs.Prelude.{Bool, Contains, IsSome, IsTrue, List, None, Option, Some, [], false, filter, find, is_none, is_some, length, nat_le, true, ℕ, ◌&&◌, ◌<◌, ◌==◌, ◌||◌, ◌∷◌, ◌≡◌, ◌≤◌, ◌⊎◌}
+use Rattle.std.specs.Prelude.{Contains, IsSome, IsTrue, List, None, Option, Some, false, is_none, length, true, ℕ, ◌<◌, ◌∷◌, ◌≡◌, ◌≤◌, ◌⊎◌}
 
 -- ---- works go on
 

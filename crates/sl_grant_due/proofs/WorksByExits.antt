@@ -2,7 +2,7 @@
 use Rattle.sl_acts.proofs.LoopsKeep.{for_each_keeps}
 use Rattle.sl_acts.specs.SoFar.{entry_of}
 use Rattle.sl_due.specs.DueInputs.{end_holdings, leave_holdings, refuse_jobs_of}
-use Rattle.sl_due.specs.Steps.{Step, add_end, add_grant, add_reply, for_each, seen, with_input}
+use Rattle.sl_due.specs.Steps.{Step, add_end, add_grant, add_reply, seen}
 use Rattle.sl_grant_due.proofs.WorksByEffects.{WorksAt, ran_before}
 use Rattle.sl_holding_due.proofs.HoldingsByEffects.{end_inside, is_told, unanswered_same}
 use Rattle.sl_holding_due.proofs.HoldingsByGrants.{old_or_granted}
@@ -10,7 +10,7 @@ use Rattle.sl_holding_due.proofs.LeaseCallers.{commands_fit}
 use Rattle.sl_job_facts.proofs.QuietFactsAreKept.{loop_stops}
 use Rattle.sl_law.specs.Lawful.{IsSetting}
 use Rattle.sl_law.specs.LawfulModes.{shared_since}
-use Rattle.sl_leases.specs.Jobs.{aim_of_command, child_of_job, command_numbered, command_of, is_command_that, is_job_of_process, process_named}
+use Rattle.sl_leases.specs.Jobs.{aim_of_command, child_of_job, command_numbered, command_of, is_job_of_process, process_named}
 use Rattle.sl_leases.specs.Leases.{spot_of_call}
 use Rattle.sl_leases.specs.declared.lease.Aim.TheVariants.{Acquires, Converts, Releases, Settles}
 use Rattle.sl_leases.specs.declared.lease.Aim.{Aim}
@@ -24,7 +24,7 @@ use Rattle.sl_step_facts.specs.Heard.{heard_by}
 use Rattle.sl_step_facts.specs.WorkFacts.{IsAtWork, IsWaiting, MayBeHeld, WorkFacts}
 use Rattle.sl_trace.specs.Commands.{IsCommand}
 use Rattle.sl_trace.specs.Limits.{most_children, most_processes}
-use Rattle.sl_trace.specs.Traces.{Job, Setting, Submitted, Trace, end_of, holdings, is_running, is_shared, job_numbered, jobs, leaves_orphan, next_child, no_process, orphan_of, orphans_left, running_jobs, same_place, submitted}
+use Rattle.sl_trace.specs.Traces.{Job, Setting, Submitted, end_of, holdings, is_running, job_numbered, jobs, leaves_orphan, next_child, no_process, orphan_of, orphans_left, running_jobs, same_place, submitted}
 use Rattle.sl_trace.specs.declared.command.Command.TheVariants.{Acquire, AddLockspace, Convert, GetLvb, HostStatus, InqLockspace, Release, ReleaseOrphan, RemLockspace, Request, RunProgram, SetKillpath, SetLvb, Status, TakeOver}
 use Rattle.sl_trace.specs.declared.command.Command.{Command}
 use Rattle.sl_trace.specs.declared.effects.Grant.{Grant}
@@ -32,14 +32,13 @@ use Rattle.sl_trace.specs.declared.effects.LeaseStep.{LeaseStep}
 use Rattle.sl_trace.specs.declared.effects.Mode.{Mode}
 use Rattle.sl_trace.specs.declared.effects.Spot.{Spot}
 use Rattle.sl_trace.specs.declared.input.Input.TheVariants.{Exit}
-use Rattle.sl_trace.specs.declared.input.Input.{Input}
 use Rattle.sl_trace.specs.declared.reply.Reply.TheVariants.{NoProcess}
 use Rattle.sl_words.proofs.CaseLaws.{none_some, not_both, some_value, true_is_false}
 use Rattle.sl_words.proofs.WordLaws.{and_true}
 use Rattle.sl_words.specs.Words.{some_is}
 use Rattle.std.proofs.Common.{ap, arith, inl, inr, refl, subst, sym, ◌∙◌}
 use Rattle.std.proofs.lemmas.Bool.{eqb-true}
-use Rattle.std.specs.Prelude.{Bool, Contains, IsTrue, List, None, Option, Some, [], false, filter, true, ℕ, ◌&&◌, ◌+◌, ◌==◌, ◌||◌, ◌∷◌, ◌≡◌, ◌≤◌, ◌⊎◌}
+use Rattle.std.specs.Prelude.{Bool, Contains, IsTrue, None, Option, Some, false, filter, true, ℕ, ◌&&◌, ◌+◌, ◌==◌, ◌||◌, ◌≡◌, ◌≤◌, ◌⊎◌}
 
 -- ---- what an exit leaves
 

@@ -1,22 +1,21 @@
 -- A grant keeps the facts of a job's work where nobody works at its place.
-use Rattle.sl_acts.specs.SoFar.{entry_of}
 use Rattle.sl_due.specs.Steps.{Step, add_grant, seen}
 use Rattle.sl_grant_due.proofs.WorksByEffects.{WorksAt}
 use Rattle.sl_holding_due.proofs.HoldingsByCalls.{not_last}
 use Rattle.sl_holding_due.proofs.HoldingsByGrants.{old_or_granted}
-use Rattle.sl_leases.specs.Jobs.{aim_of_command, command_numbered}
+use Rattle.sl_leases.specs.Jobs.{aim_of_command}
 use Rattle.sl_leases.specs.Leases.{spot_of_call}
 use Rattle.sl_leases.specs.declared.lease.Aim.{Aim}
 use Rattle.sl_step_facts.specs.Heard.{heard_by}
-use Rattle.sl_step_facts.specs.WorkFacts.{IsAtWork, IsWaiting, MayBeHeld, WorkFacts}
-use Rattle.sl_trace.specs.Traces.{Setting, Submitted, Trace, holdings, is_running, same_place, submitted}
+use Rattle.sl_step_facts.specs.WorkFacts.{IsAtWork, IsWaiting, MayBeHeld}
+use Rattle.sl_trace.specs.Traces.{Submitted, holdings, same_place, submitted}
 use Rattle.sl_trace.specs.declared.command.Command.{Command}
 use Rattle.sl_trace.specs.declared.effects.Grant.{Grant}
 use Rattle.sl_trace.specs.declared.effects.LeaseStep.{LeaseStep}
 use Rattle.sl_trace.specs.declared.effects.Purpose.TheVariants.{Lease}
 use Rattle.sl_trace.specs.declared.effects.Work.TheVariants.{ForJob}
-use Rattle.std.proofs.Common.{ap, inl, inr, refl, subst, sym, ◌∙◌}
-use Rattle.std.specs.Prelude.{Bool, Contains, IsTrue, None, Option, Some, true, ℕ, ◌≡◌, ◌⊎◌}
+use Rattle.std.proofs.Common.{inl, inr, subst, sym}
+use Rattle.std.specs.Prelude.{Contains, IsTrue, None, Some, true, ℕ, ◌≡◌, ◌⊎◌}
 
 -- No job's call waits at the place.
 abbrev pub NobodyWorksAt : Step → Grant → Type 0

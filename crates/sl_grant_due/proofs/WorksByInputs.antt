@@ -2,33 +2,30 @@
 use Rattle.sl_acts.specs.Acts.{Expects}
 use Rattle.sl_acts.specs.SoFar.{entry_of}
 use Rattle.sl_due.specs.Steps.{Step, seen, with_input}
-use Rattle.sl_grant_due.proofs.WorksByEffects.{WasAtWork, WorksAt, WorksOn, works_on}
+use Rattle.sl_grant_due.proofs.WorksByEffects.{WorksAt, works_on}
 use Rattle.sl_holding_due.proofs.HoldingsByInputs.{answers_open, calls_stay, calls_told, children_seen, is_no_answer, sessions_seen_still}
 use Rattle.sl_job_facts.proofs.JobsAreNumbered.{numbered_seen}
-use Rattle.sl_law.specs.LawfulModes.{shared_since}
 use Rattle.sl_leases.specs.Jobs.{command_numbered, command_of}
 use Rattle.sl_plain.proofs.Lists.{in_map}
 use Rattle.sl_plain.proofs.Options.{some_of, then_value}
-use Rattle.sl_sessions.specs.Sessions.{session_numbered}
 use Rattle.sl_step_facts.specs.CallFacts.{CallFacts}
 use Rattle.sl_step_facts.specs.Heard.{heard_by}
 use Rattle.sl_step_facts.specs.JobFacts.{JobFacts}
-use Rattle.sl_step_facts.specs.WorkFacts.{IsAtWork, IsWaiting}
-use Rattle.sl_trace.specs.Traces.{Answered, Setting, Submitted, Trace, answer_of, answered_in, holdings, job_numbered, job_of, submitted}
+use Rattle.sl_step_facts.specs.WorkFacts.{IsWaiting}
+use Rattle.sl_trace.specs.Traces.{Answered, Submitted, Trace, answer_of, answered_in, job_numbered, job_of, submitted}
 use Rattle.sl_trace.specs.declared.command.Command.{Command}
 use Rattle.sl_trace.specs.declared.effects.Call.{Call}
 use Rattle.sl_trace.specs.declared.effects.Entry.{Entry}
-use Rattle.sl_trace.specs.declared.effects.LeaseStep.{LeaseStep}
 use Rattle.sl_trace.specs.declared.effects.Purpose.TheVariants.{Lease}
 use Rattle.sl_trace.specs.declared.effects.Work.TheVariants.{ForJob}
 use Rattle.sl_trace.specs.declared.input.Answer.{Answer}
 use Rattle.sl_trace.specs.declared.input.Input.TheVariants.{Answer as Told, Exit, Line, Number, Spawned, Wake}
 use Rattle.sl_trace.specs.declared.input.Input.{Input}
 use Rattle.sl_trace_law.proofs.Sessions.Making.{same_answered}
-use Rattle.sl_words.proofs.CaseLaws.{no_value, none_some, one_value, some_value, true_is_false}
+use Rattle.sl_words.proofs.CaseLaws.{no_value, one_value, some_value, true_is_false}
 use Rattle.std.proofs.Common.{ap, inl, inr, refl, subst, sym, ◌∙◌}
 use Rattle.std.specs.Option.{option_or}
-use Rattle.std.specs.Prelude.{Bool, Contains, IsSome, List, None, Option, Some, [], false, map, option_and_then, true, ℕ, ◌==◌, ◌≡◌, ◌⊎◌}
+use Rattle.std.specs.Prelude.{Bool, Contains, IsSome, None, Option, Some, [], false, map, option_and_then, true, ℕ, ◌==◌, ◌≡◌}
 
 -- ---- the command of a job whose call was made
 
@@ -109,9 +106,9 @@ answer_works x n w wake bare facts jobs expected h =
       further = children_seen x (Told n w);
       sessions = λ k s m there is its. sym (sessions_seen_still x (Told n w) k bare) ∙ its;
       made = λ d there. (
-        let v = in_map f (submitted (seen x)) d (subst (λ ms. Contains ms d) told there) in
-        (v.0, v.1, sym (same_answered x.past e n w v.0).call ∙ ap (λ (z : Submitted). z.call) v.2, sym (same_answered x.past e n w v.0).at ∙ ap (λ (z : Submitted). z.at) v.2)
-      );
+          let v = in_map f (submitted (seen x)) d (subst (λ ms. Contains ms d) told there) in
+          (v.0, v.1, sym (same_answered x.past e n w v.0).call ∙ ap (λ (z : Submitted). z.call) v.2, sym (same_answered x.past e n w v.0).at ∙ ap (λ (z : Submitted). z.at) v.2)
+          );
       unshared = λ since s at none. none;
     }) h where
       e : Entry

@@ -5,7 +5,7 @@ use Rattle.sl_acts.specs.Acts.{Has}
 use Rattle.sl_acts.specs.SoFar.{entry_of}
 use Rattle.sl_area.specs.Places.{block_offset, delta_offset, leader_offset, value_offset}
 use Rattle.sl_due.specs.DueCommands.{after_end, carry_decision, decided}
-use Rattle.sl_due.specs.DueLease.{carry_lease, grant_for, grant_of}
+use Rattle.sl_due.specs.DueLease.{carry_lease, grant_of}
 use Rattle.sl_due.specs.Steps.{Step, add_call_of, add_end, add_reply, seen, with_input}
 use Rattle.sl_due.specs.declared.decision.Decision.TheVariants.{ConvertsTo, GetsValue, GivesUp, Joins, Leaves, ReadsArea, Replies, Requests, SetsValue, Shares, TakesOver}
 use Rattle.sl_due.specs.declared.decision.Decision.{Decision}
@@ -15,8 +15,9 @@ use Rattle.sl_grant_due.proofs.WorksByEffects.{CallsOwned, IsNewWork, WorksAt, c
 use Rattle.sl_grant_due.proofs.WorksByGrants.{NobodyWorksAt}
 use Rattle.sl_grant_due.proofs.WorksByInputs.{input_works}
 use Rattle.sl_holding_due.proofs.DecisionsHaveGrounds.{decisions_have_grounds, none_least, none_mapped, nothing_left}
+use Rattle.sl_holding_due.proofs.HoldingFactsBegin.{none_ended}
 use Rattle.sl_holding_due.proofs.HoldingsByCalls.{call_added}
-use Rattle.sl_holding_due.proofs.HoldingsByEffects.{HoldsAt, later_same}
+use Rattle.sl_holding_due.proofs.HoldingsByEffects.{later_same}
 use Rattle.sl_holding_due.proofs.HoldingsByInputs.{calls_stay, children_seen, sessions_seen_still}
 use Rattle.sl_holding_due.proofs.HoldingsByLines.{asked_resource, base_of, born_by, here_held, no_told}
 use Rattle.sl_holding_due.proofs.HoldingsByLeases.{base_aligned}
@@ -28,18 +29,17 @@ use Rattle.sl_holding_due.specs.DecisionGrounds.{AsksLease, ConvertGrounds, Give
 use Rattle.sl_holding_due.specs.Moments.{Known}
 use Rattle.sl_job_facts.proofs.JobsAreNumbered.{next_is_new}
 use Rattle.sl_job_facts.proofs.LinesAreAllowed.{new_command}
-use Rattle.sl_law.specs.Lawful.{IsSetting}
 use Rattle.sl_law.specs.LawfulModes.{shared_since}
 use Rattle.sl_leases.specs.Ballots.{moded_block}
-use Rattle.sl_leases.specs.Counts.{held_here, may_act, other_holder}
+use Rattle.sl_leases.specs.Counts.{held_here, may_act}
 use Rattle.sl_leases.specs.Jobs.{aim_of_command, command_numbered, command_of, process_named, resource_named, wanted_mode, wants_shared}
-use Rattle.sl_leases.specs.LeaseWork.{LeasePlace, convert_next, leader_for, lease_place, release_next}
-use Rattle.sl_leases.specs.Leases.{LeaseKnown, has_shared_on, holdings_on, is_on, known, open_on, shared_on, spot_of, spot_of_call}
-use Rattle.sl_leases.specs.declared.lease.Aim.TheVariants.{Acquires, Converts, Releases, Settles}
+use Rattle.sl_leases.specs.LeaseWork.{convert_next, leader_for, lease_place, release_next}
+use Rattle.sl_leases.specs.Leases.{has_shared_on, holdings_on, is_on, known, shared_on, spot_of, spot_of_call}
+use Rattle.sl_leases.specs.declared.lease.Aim.TheVariants.{Acquires, Converts, Releases}
 use Rattle.sl_leases.specs.declared.lease.Aim.{Aim}
 use Rattle.sl_leases.specs.declared.lease.LeaseNext.TheVariants.{Nothing, ReadFor, WriteBlock}
 use Rattle.sl_plain.proofs.Lists.{contains_cases, contains_none, find_fails, find_inside, got_inside, kept, kept_inside}
-use Rattle.sl_plain.proofs.Numbers.{lt_then_le, number_itself, refl_le, trans_le}
+use Rattle.sl_plain.proofs.Numbers.{lt_then_le, number_itself, refl_le}
 use Rattle.sl_plain.proofs.Options.{some_of, then_value}
 use Rattle.sl_sector.specs.declared.sector.Block.{Block}
 use Rattle.sl_sector.specs.declared.sector.Rec.TheVariants.{BlockIs, LeaderIs, ValueIs}
@@ -49,8 +49,7 @@ use Rattle.sl_step_facts.specs.Heard.{heard_by}
 use Rattle.sl_step_facts.specs.JobFacts.{JobFacts}
 use Rattle.sl_step_facts.specs.WorkFacts.{MayBeHeld}
 use Rattle.sl_trace.specs.Commands.{IsCommand}
-use Rattle.sl_trace.specs.Traces.{Setting, Submitted, Trace, end_of, held_by, holdings, is_ended_by, is_running, is_shared, job_numbered, job_of, new_call, next_child, next_job, outstanding, same_place, spot_of_grant, submitted}
-use Rattle.sl_trace.specs.declared.command.Command.TheVariants.{Convert}
+use Rattle.sl_trace.specs.Traces.{Setting, Submitted, Trace, end_of, held_by, holdings, is_ended_by, is_shared, job_numbered, job_of, new_call, next_child, next_job, outstanding, same_place, spot_of_grant, submitted}
 use Rattle.sl_trace.specs.declared.command.Command.{Command}
 use Rattle.sl_trace.specs.declared.command.ResourceArg.{ResourceArg}
 use Rattle.sl_trace.specs.declared.effects.Call.{Call}
@@ -67,13 +66,13 @@ use Rattle.sl_trace.specs.declared.effects.Spot.{Spot}
 use Rattle.sl_trace.specs.declared.effects.Work.TheVariants.{ForJob}
 use Rattle.sl_trace.specs.declared.input.Input.TheVariants.{Line, Wake}
 use Rattle.sl_trace.specs.declared.reply.Reply.TheVariants.{Done}
-use Rattle.sl_words.proofs.CaseLaws.{is_false, none_some, not_both, one_value, some_value, true_is_false}
+use Rattle.sl_words.proofs.CaseLaws.{none_some, not_both, one_value, some_value, true_is_false}
 use Rattle.sl_words.proofs.WordLaws.{and_true}
 use Rattle.sl_words.specs.Words.{same_truth}
 use Rattle.std.proofs.Common.{ap, append-nil, arith, inl, inr, refl, subst, suc, sym, ◌∙◌}
 use Rattle.std.proofs.lemmas.Bool.{eqb-true, leb-true}
 use Rattle.std.specs.Option.{option_map_or}
-use Rattle.std.specs.Prelude.{Bool, Contains, IsSome, List, None, Ok, Option, Some, [], false, filter, find, is_none, is_some, length, map, nat_le, not, true, ℕ, ◌%◌, ◌&&◌, ◌+◌, ◌++◌, ◌<◌, ◌==◌, ◌||◌, ◌∷◌, ◌≡◌, ◌≤◌, ◌⊎◌}
+use Rattle.std.specs.Prelude.{Bool, Contains, IsSome, List, None, Ok, Option, Some, [], false, filter, is_none, is_some, length, map, nat_le, not, true, ℕ, ◌%◌, ◌&&◌, ◌+◌, ◌++◌, ◌<◌, ◌==◌, ◌||◌, ◌∷◌, ◌≡◌, ◌≤◌, ◌⊎◌}
 
 -- ---- the first call of a job
 
@@ -124,15 +123,11 @@ new_job x jobs m there of =
 
 -- ---- what was shared before
 
-ended_none : (gs : List Grant) → filter (λ g. not (is_ended_by [] g)) gs ≡ gs
-ended_none [] = refl
-ended_none (g ∷ gs) = ap (λ hs. g ∷ hs) (ended_none gs)
-
 -- Before anything was ended or granted it is what was held before the step.
 held_before : (x : Step) → x.effects.ends ≡ [] → x.effects.grants ≡ [] → holdings (seen x) ≡ holdings x.past
 held_before x ends grants =
     ap (λ gs. filter (λ g. not (is_ended_by x.effects.ends g)) (holdings x.past) ++ gs) grants
-    ∙ (append-nil (filter (λ g. not (is_ended_by x.effects.ends g)) (holdings x.past)) ∙ (ap (λ es. filter (λ g. not (is_ended_by es g)) (holdings x.past)) ends ∙ ended_none (holdings x.past)))
+    ∙ (append-nil (filter (λ g. not (is_ended_by x.effects.ends g)) (holdings x.past)) ∙ (ap (λ es. filter (λ g. not (is_ended_by es g)) (holdings x.past)) ends ∙ none_ended (holdings x.past)))
 
 -- Since a later entry nothing was shared.
 pub since_later : (t : Trace) (n : ℕ) (s : Session) (at : Spot) → length t ≤ n → shared_since n t s at ≡ false

@@ -1,2 +1,11 @@
-//! What may be held beside a job's work on a lease, and when a process may be granted a resource and may lose it.
+//! What is known of a job's work on a lease is kept by each act of a step, and holds once a step has begun.
+//!
+//! From its line on a job's work has one open call at a time, and no command comes in between on its area, for a command there waits for
+//! that call. So what is held there beside it is what its line found, less what ended since (`proofs::WorksByLines`), and what others are
+//! granted is granted elsewhere (`proofs::WorksByGrants`). An exit leaves orphans where there were holdings (`proofs::WorksByExits`).
+//!
+//! Since an acquire's first call its session has held nothing shared there, for nothing of its session is held there at any of its entries
+//! (`proofs::WorkFactsBegin`).
 #![tactic(auto)]
+
+pub mod laws;

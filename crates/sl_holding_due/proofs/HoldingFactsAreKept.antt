@@ -73,7 +73,7 @@ use Rattle.std.specs.Prelude.{Bool, Contains, List, None, Option, Some, [], fals
 
 -- ---- answers
 
-refuses_late : (n : DeltaNext) (r : Reply) → IsLateDelta n → n ≡ RefuseJoin r → is_before_input r ≡ false
+pub refuses_late : (n : DeltaNext) (r : Reply) → IsLateDelta n → n ≡ RefuseJoin r → is_before_input r ≡ false
 refuses_late n r late is = subst (λ z. IsLateDelta z) is late
 
 -- Who joins on.
@@ -185,7 +185,7 @@ freed x s j m answer k hears is = freed_held x s j m.call.number answer none k.0
         (ap (λ p. fits_as p (is_write m.call.op)) is))
 
 -- A survey is no job's.
-surveys_no_job : (x : Step) (s : Session) (m : Submitted) (answer : Answer) → Known x → Hears x s m answer → m.call.purpose ≡ Survey → AnswersNoJob x.past x.input
+pub surveys_no_job : (x : Step) (s : Session) (m : Submitted) (answer : Answer) → Known x → Hears x s m answer → m.call.purpose ≡ Survey → AnswersNoJob x.past x.input
 surveys_no_job x s m answer k hears is n w d input there number =
     let marked : submitted (seen x) ≡ map (answered_in x.past (entry_of x) hears.number answer) (submitted x.past) =
     calls_marked x hears.bare ∙ ap (λ i. mark x.past (entry_of x) i (submitted x.past)) hears.heard in

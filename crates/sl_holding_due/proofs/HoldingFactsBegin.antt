@@ -30,21 +30,21 @@ use Rattle.std.specs.Prelude.{Bool, Contains, List, None, Option, Some, [], fals
 
 -- ---- a step that has done nothing
 
-abbrev fresh : ℕ → Trace → Trace
+abbrev pub fresh : ℕ → Trace → Trace
 fresh now past = record { reading = now; input = Wake; effects = no_effects } ∷ past
 
-none_ended : (gs : List Grant) → filter (λ g. not (is_ended_by [] g)) gs ≡ gs
+pub none_ended : (gs : List Grant) → filter (λ g. not (is_ended_by [] g)) gs ≡ gs
 none_ended [] = refl
 none_ended (g ∷ gs) = ap (λ hs. g ∷ hs) (none_ended gs)
 
-held_fresh : (now : ℕ) (past : Trace) → holdings (fresh now past) ≡ holdings past
+pub held_fresh : (now : ℕ) (past : Trace) → holdings (fresh now past) ≡ holdings past
 held_fresh now past = append-nil (filter (λ g. not (is_ended_by [] g)) (holdings past)) ∙ none_ended (holdings past)
 
 all_same : (ks : List Child) → map (child_after Wake) ks ≡ ks
 all_same [] = refl
 all_same (k ∷ ks) = ap (λ ys. k ∷ ys) (all_same ks)
 
-children_fresh : (now : ℕ) (past : Trace) → children (fresh now past) ≡ children past
+pub children_fresh : (now : ℕ) (past : Trace) → children (fresh now past) ≡ children past
 children_fresh now past = append-nil (map (child_after Wake) (children past)) ∙ all_same (children past)
 
 none_removed : (o : Option ℕ) (b : Bool) (n : ℕ) → o ≡ None → (elim o as (λ z. Option ℕ) [ Some k ↦ Some k | None ↦ choose (b && false) n ]) ≡ None
@@ -86,7 +86,7 @@ fresh_held st now past h =
 
 -- ---- the recoveries that begin
 
-wake_effects : ByEffects (λ z. z.input ≡ Wake)
+pub wake_effects : ByEffects (λ z. z.input ≡ Wake)
 wake_effects =
     record {
       ends = λ x e h. h;
@@ -98,7 +98,7 @@ wake_effects =
       calls = λ x s path p o op has h. h;
     }
 
-waking_answers_none : (past : Trace) (i : Input) → i ≡ Wake → AnswersNoJob past i
+pub waking_answers_none : (past : Trace) (i : Input) → i ≡ Wake → AnswersNoJob past i
 waking_answers_none past i wake n w m told there number = absurd (true_is_false (ap (λ k. is_wake k) (sym wake ∙ told))) where
   is_wake : Input → Bool
   is_wake Wake = true
