@@ -7,3 +7,4 @@ pub mod WorksByDeltas
 pub mod WorksByAnswers
 pub mod WorkFactsAreKept
 pub mod WorkFactsBegin
+pub mod EndsAreLawful

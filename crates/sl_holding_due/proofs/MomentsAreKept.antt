@@ -69,9 +69,10 @@ of_other z i is other =
     record {
       waking = λ wake. absurd (true_is_false (ap (λ k. is_early k) (sym wake ∙ is) ∙ other));
       starting = λ p ok c start there. absurd (true_is_false (ap (λ k. is_early k) (sym start ∙ is) ∙ other));
+      ungranted = λ p ok start. absurd (true_is_false (ap (λ k. is_early k) (sym start ∙ is) ∙ other));
     }
 
-input_effects : (i : Input) → ByEffects (λ z. z.input ≡ i)
+pub input_effects : (i : Input) → ByEffects (λ z. z.input ≡ i)
 input_effects i =
     record {
       ends = λ x e h. h;
@@ -104,7 +105,7 @@ pub record Alike (x y : Step) : Type 0 where
   pub grants : y.effects.grants ≡ x.effects.grants
   pub calls : y.effects.calls ≡ x.effects.calls
 
-same : (x : Step) → Alike x x
+pub same : (x : Step) → Alike x x
 same x = record { input = refl; ends = refl; grants = refl; calls = refl }
 
 pub alike : (x y : Step) → Alike x y → Moment x → Moment y
@@ -112,6 +113,7 @@ alike x y a m =
     record {
       waking = λ wake. (let w = m.waking (sym a.input ∙ wake) in (a.ends ∙ w.0, a.grants ∙ w.1));
       starting = λ p ok c start there. m.starting p ok c (sym a.input ∙ start) (subst (λ cs. Contains cs c) a.calls there);
+      ungranted = λ p ok start. a.grants ∙ m.ungranted p ok (sym a.input ∙ start);
     }
 
 again : (x y z : Step) → Alike x y → y.input ≡ z.input → y.effects.ends ≡ z.effects.ends → y.effects.grants ≡ z.effects.grants → y.effects.calls ≡ z.effects.calls → Alike x z
@@ -122,20 +124,20 @@ told_alike : (x y : Step) (p : ℕ) (o : Option (List ℕ)) → Alike x y
 told_alike x y p None a = again x y (add_signal p Term y) a refl refl refl refl
 told_alike x y p (Some program) a = again x y (add_start (record { process = next_child (seen y); program = program; job = None; stands_for = Some p }) y) a refl refl refl refl
 
-sent_alike : (x y : Step) (p : ℕ) (signal : Signal) → Alike x y → Alike x (send p signal y)
+pub sent_alike : (x y : Step) (p : ℕ) (signal : Signal) → Alike x y → Alike x (send p signal y)
 sent_alike x y p Term a = told_alike x y p (stopper_of y.setting (seen y) p) a
 sent_alike x y p Kill a = again x y (add_signal p Kill y) a refl refl refl refl
 
 pub signalled_alike : (x : Step) (signal : Signal) (s : Session) → Alike x (signal_holders signal s x)
 signalled_alike x signal s = for_each_keeps (λ z. Alike x z) (holders_of (seen x) s) (λ p. send p signal) x (λ p there z a. sent_alike x z p signal a) (same x)
 
-removal_alike : (x y : Step) (name : List ℕ) → Alike x y → Alike x (remove_connection name y)
+pub removal_alike : (x y : Step) (name : List ℕ) → Alike x y → Alike x (remove_connection name y)
 removal_alike x y name a = by (is_registered y.setting (seen y) name) where
   by : (b : Bool) → Alike x (elim b as (λ z. Step) [ true ↦ add_move (Unregister name) y | false ↦ y ])
   by true = again x y (add_move (Unregister name) y) a refl refl refl refl
   by false = a
 
-refused_alike : (x y : Step) (j : ℕ) (r : Reply) → Alike x y → Alike x (refuse j r y)
+pub refused_alike : (x y : Step) (j : ℕ) (r : Reply) → Alike x y → Alike x (refuse j r y)
 unfolding refuse
 refused_alike x y j r a = by (session_of_job y.setting (seen y) j) where
   z : Step
@@ -210,6 +212,7 @@ waked x y input a wake m =
     record {
       waking = λ now. (let w = m.waking wake in (a.ends ∙ w.0, a.grants ∙ w.1));
       starting = λ p ok c start there. absurd (true_is_false (ap (λ i. is_wake i) (sym input ∙ start)));
+      ungranted = λ p ok start. absurd (true_is_false (ap (λ i. is_wake i) (sym input ∙ start)));
     } where
       is_wake : Input → Bool
       is_wake Wake = true
@@ -226,6 +229,7 @@ last_call x y c j input ends grants calls leaves m =
     record {
       waking = λ wake. (let w = m.waking (sym input ∙ wake) in (ends ∙ w.0, grants ∙ w.1));
       starting = λ p ok d start there. by d (sym input ∙ start) (Contains-append_cases x.effects.calls (c ∷ []) d (subst (λ cs. Contains cs d) calls there));
+      ungranted = λ p ok start. grants ∙ m.ungranted p ok (sym input ∙ start);
     } where
       only : (d : Call) → (c ≡ d) ⊎ Contains [] d → (i : ℕ) × (d.purpose ≡ Leaving i)
       only d (inl is) = (j, ap (λ (k : Call). k.purpose) (sym is) ∙ leaves)
@@ -259,6 +263,13 @@ said_calls : (x y : Step) (o : Option ℕ) (r : Reply) → y.effects.calls ≡ x
 said_calls x y None r h = h
 said_calls x y (Some j) r h = when_keeps (λ z. z.effects.calls ≡ x.effects.calls) (is_running (seen y) j) (add_reply j r) y (λ runs k. k) h
 
+no_grants : (x : Step) (p : ℕ) → (end_holdings p x).effects.grants ≡ x.effects.grants
+no_grants x p = for_each_keeps (λ z. z.effects.grants ≡ x.effects.grants) (filter (λ g. g.process == p) (holdings (seen x))) (λ g. add_end (end_of g)) x (λ g there y k. k) refl
+
+said_grants : (x y : Step) (o : Option ℕ) (r : Reply) → y.effects.grants ≡ x.effects.grants → (when_running o r y).effects.grants ≡ x.effects.grants
+said_grants x y None r h = h
+said_grants x y (Some j) r h = when_keeps (λ z. z.effects.grants ≡ x.effects.grants) (is_running (seen y) j) (add_reply j r) y (λ runs k. k) h
+
 said_input : (i : Input) (y : Step) (o : Option ℕ) (r : Reply) → y.input ≡ i → (when_running o r y).input ≡ i
 said_input i y None r h = h
 said_input i y (Some j) r h = when_keeps (λ z. z.input ≡ i) (is_running (seen y) j) (add_reply j r) y (λ runs k. k) h
@@ -271,16 +282,18 @@ failed x p input m =
       waking = λ wake. absurd (true_is_false (ap (λ i. is_wake i) (sym wake ∙ is)));
       starting = λ q ok c start there.
           m.starting p false c input (subst (λ cs. Contains cs c) (said_calls x (end_holdings p x) (job_of_start (seen x) p) SpawnFault (no_calls x p)) there);
+      ungranted = λ q ok start. said_grants x (end_holdings p x) (job_of_start (seen x) p) SpawnFault (no_grants x p) ∙ m.ungranted p false input;
     } where
       is_wake : Input → Bool
       is_wake Wake = true
       is_wake i = false
 
-started : (x : Step) (p : ℕ) (ok : Bool) → x.effects.calls ≡ [] → Moment (with_input (Spawned p ok) x)
-started x p ok bare =
+started : (x : Step) (p : ℕ) (ok : Bool) → x.effects.calls ≡ [] → x.effects.grants ≡ [] → Moment (with_input (Spawned p ok) x)
+started x p ok bare none =
     record {
       waking = λ wake. absurd (true_is_false (ap (λ i. is_wake i) (sym wake)));
       starting = λ q b c start there. absurd (contains_none c (subst (λ cs. Contains cs c) bare there));
+      ungranted = λ q b start. none;
     } where
       is_wake : Input → Bool
       is_wake Wake = true
@@ -299,7 +312,7 @@ moments_are_kept =
           of_other (refuse_jobs_of p (leave_holdings p y)) (Exit p)
           (exited (λ z. z.input ≡ Exit p) (input_effects (Exit p)) (leave_holdings p y) p (left (λ z. z.input ≡ Exit p) (input_effects (Exit p)) y p refl)) refl;
       exits_as_none = λ x p wake bare none m. of_other (with_input (Exit p) x) (Exit p) refl refl;
-      starts = λ x p ok wake bare expected m. started x p ok bare;
+      starts = λ x p ok wake bare expected m. started x p ok bare (m.waking wake).1;
       fails_to_start = λ x p input m. failed x p input m;
       signals_instead = λ x p q input stood m. alike x (add_signal q Term x) (again x x (add_signal q Term x) (same x) refl refl refl refl) m;
       says_started = λ x p j input is runs m. alike x (add_reply j (started_reply (seen x) p) x) (again x x (add_reply j (started_reply (seen x) p) x) (same x) refl refl refl refl) m;

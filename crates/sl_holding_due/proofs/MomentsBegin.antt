@@ -28,4 +28,4 @@ unfolding begin_recoveries begin_recovery
 moments_begin st past e follows whole =
     for_each_keeps Moment (present_sessions st (seen (begin_step st past e.reading))) begin_recovery (begin_step st past e.reading)
     (λ s there y h. when_keeps Moment (begins_now (seen y) (recovery_of y.setting (seen y) s)) (signal_and_refuse s None) y (λ begins k. stopped_moment y s None k) h)
-    (record { waking = λ wake. (refl, refl); starting = λ p ok c start there. absurd (contains_none c there) })
+    (record { waking = λ wake. (refl, refl); starting = λ p ok c start there. absurd (contains_none c there); ungranted = λ p ok start. refl })
