@@ -62,12 +62,12 @@ none_yet : (z : Step) → z.effects.ends ≡ [] → EndsSoFar z
 none_yet z none = record { each = λ e there. absurd (contains_none e (subst (λ es. Contains es e) none there)) }
 
 -- The same ends and grants, at the same input.
-record Going (x z : Step) : Type 0 where
-  setting : z.setting ≡ x.setting
-  past : z.past ≡ x.past
-  input : z.input ≡ x.input
-  ends : z.effects.ends ≡ x.effects.ends
-  grants : z.effects.grants ≡ x.effects.grants
+pub record Going (x z : Step) : Type 0 where
+  pub setting : z.setting ≡ x.setting
+  pub past : z.past ≡ x.past
+  pub input : z.input ≡ x.input
+  pub ends : z.effects.ends ≡ x.effects.ends
+  pub grants : z.effects.grants ≡ x.effects.grants
 
 reason_on : (x z : Step) → Going x z → (g : Grant) → EndReason x.setting (entry_of x) g → EndReason z.setting (entry_of z) g
 reason_on x z k g (Exited own is) = Exited own (k.input ∙ is)
@@ -89,10 +89,10 @@ so_far : (x : Step) → Known x → EndsSoFar x
 so_far x k = k.0.orderly.ends.0
 
 -- Where a step stands.
-abbrev StandsAt : Step → Step → Type 0
+abbrev pub StandsAt : Step → Step → Type 0
 StandsAt x z = (z.setting ≡ x.setting) × (z.past ≡ x.past) × (z.input ≡ x.input)
 
-stand_effects : (x : Step) → ByEffects (λ z. StandsAt x z)
+pub stand_effects : (x : Step) → ByEffects (λ z. StandsAt x z)
 stand_effects x =
     record {
       ends = λ z e h. h;
@@ -104,7 +104,7 @@ stand_effects x =
       calls = λ z s path p o op has h. h;
     }
 
-stands : (x z : Step) → StandsAt x z → z.effects.ends ≡ x.effects.ends → z.effects.grants ≡ x.effects.grants → Going x z
+pub stands : (x z : Step) → StandsAt x z → z.effects.ends ≡ x.effects.ends → z.effects.grants ≡ x.effects.grants → Going x z
 stands x z k ends grants = record { setting = k.0; past = k.1; input = k.2; ends = ends; grants = grants }
 
 -- ---- what is ended
@@ -125,7 +125,7 @@ last_or xs a b there = by (Contains-append_cases xs (a ∷ []) b there) where
   by (inl old) = inl old
   by (inr new) = only (contains_cases a [] b new)
 
-last_there : {A : Type 0} (xs : List A) (a : A) → Contains (xs ++ a ∷ []) a
+pub last_there : {A : Type 0} (xs : List A) (a : A) → Contains (xs ++ a ∷ []) a
 last_there xs a = Contains-append_right xs (a ∷ []) a (contains_first a [])
 
 -- One end, where there was none.
@@ -138,10 +138,10 @@ lawful_one w old g none ends held reason = record { each = λ e there. by e (las
 -- ---- the end of a process
 
 -- What ended is as before, or of the process.
-record Ending (x : Step) (p : ℕ) (z : Step) : Type 0 where
-  stand : StandsAt x z
-  grants : (g : Grant) → Contains x.effects.grants g → Contains z.effects.grants g
-  ends : (e : End) → Contains z.effects.ends e → Contains x.effects.ends e ⊎ ((l : Grant) × Contains (holdings (seen x)) l × (l.process ≡ p) × (end_of l ≡ e))
+pub record Ending (x : Step) (p : ℕ) (z : Step) : Type 0 where
+  pub stand : StandsAt x z
+  pub grants : (g : Grant) → Contains x.effects.grants g → Contains z.effects.grants g
+  pub ends : (e : End) → Contains z.effects.ends e → Contains x.effects.ends e ⊎ ((l : Grant) × Contains (holdings (seen x)) l × (l.process ≡ p) × (end_of l ≡ e))
 
 ends_all : (x : Step) (p : ℕ) → Ending x p (end_holdings p x)
 ends_all x p =
@@ -153,25 +153,30 @@ ends_all x p =
       one z g e there k (inl was) = k.ends e was
       one z g e there k (inr is) = (let f = kept_inside (λ (h : Grant). h.process == p) (holdings (seen x)) g there in inr (g, f.0, eqb-true g.process p f.1, is))
 
-more_granted : {A : Type 0} (xs : List A) (a b : A) → Contains xs b → Contains (xs ++ a ∷ []) b
+pub more_granted : {A : Type 0} (xs : List A) (a b : A) → Contains xs b → Contains (xs ++ a ∷ []) b
 more_granted xs a b there = Contains-append_left xs (a ∷ []) b there
 
-exit_ends : (x : Step) (p : ℕ) → (p == no_process) ≡ false → x.input ≡ Exit p → x.effects.ends ≡ [] → x.effects.grants ≡ [] → EndsSoFar (refuse_jobs_of p (leave_holdings p x))
+-- What the exit of a process leaves.
+pub left_ending : (x : Step) (p : ℕ) → Ending x p (refuse_jobs_of p (leave_holdings p x))
 unfolding leave_holdings
-exit_ends x p one input ended ungranted = record { each = λ e there. by e (all.ends e there) } where
-  u : Step
-  u = refuse_jobs_of p (leave_holdings p x)
-
+left_ending x p = refused (leave_holdings p x) left where
   left : Ending x p (leave_holdings p x)
   left =
       for_each_keeps (λ z. Ending x p z) (orphans_left p (holdings (seen x))) add_grant (end_holdings p x)
       (λ g there z k. record { stand = k.stand; grants = λ h inside. more_granted z.effects.grants g h (k.grants h inside); ends = k.ends }) (ends_all x p)
 
-  all : Ending x p u
-  all =
-      let z : Step = leave_holdings p x in
+  refused : (z : Step) → Ending x p z → Ending x p (refuse_jobs_of p z)
+  refused z h =
       for_each_keeps (λ w. Ending x p w) (filter (is_job_of_process (seen z) p) (running_jobs z.setting (seen z))) (λ j. add_reply j.number (NoProcess p)) z
-      (λ j there w k. record { stand = k.stand; grants = k.grants; ends = k.ends }) left
+      (λ j there w k. record { stand = k.stand; grants = k.grants; ends = k.ends }) h
+
+exit_ends : (x : Step) (p : ℕ) → (p == no_process) ≡ false → x.input ≡ Exit p → x.effects.ends ≡ [] → x.effects.grants ≡ [] → EndsSoFar (refuse_jobs_of p (leave_holdings p x))
+exit_ends x p one input ended ungranted = record { each = λ e there. by e (all.ends e there) } where
+  u : Step
+  u = refuse_jobs_of p (leave_holdings p x)
+
+  all : Ending x p u
+  all = left_ending x p
 
   by : (e : End) → Contains x.effects.ends e ⊎ ((l : Grant) × Contains (holdings (seen x)) l × (l.process ≡ p) × (end_of l ≡ e)) → LawfulEnding u.setting u.past (entry_of u) e
   by e (inl was) = absurd (contains_none e (subst (λ es. Contains es e) ended was))

@@ -8,3 +8,5 @@ pub mod WorksByAnswers
 pub mod WorkFactsAreKept
 pub mod WorkFactsBegin
 pub mod EndsAreLawful
+pub mod ExitsAreLawful
+pub mod GrantsStand

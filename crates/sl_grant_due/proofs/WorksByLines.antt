@@ -124,7 +124,7 @@ new_job x jobs m there of =
 -- ---- what was shared before
 
 -- Before anything was ended or granted it is what was held before the step.
-held_before : (x : Step) → x.effects.ends ≡ [] → x.effects.grants ≡ [] → holdings (seen x) ≡ holdings x.past
+pub held_before : (x : Step) → x.effects.ends ≡ [] → x.effects.grants ≡ [] → holdings (seen x) ≡ holdings x.past
 held_before x ends grants =
     ap (λ gs. filter (λ g. not (is_ended_by x.effects.ends g)) (holdings x.past) ++ gs) grants
     ∙ (append-nil (filter (λ g. not (is_ended_by x.effects.ends g)) (holdings x.past)) ∙ (ap (λ es. filter (λ g. not (is_ended_by es g)) (holdings x.past)) ends ∙ none_ended (holdings x.past)))

@@ -1,6 +1,6 @@
-//! What is kept of the work of jobs, and what is lawful of ends.
+//! What is kept of the work of jobs, and what is lawful of ends, exits and grants.
 
-ghost use Rattle.sl_grant_due.specs.GrantPromises.{EndsAreLawful, EndsBegin, WorkFactsAreKept, WorkFactsBegin};
+ghost use Rattle.sl_grant_due.specs.GrantPromises.{EndsAreLawful, EndsBegin, ExitsAreLawful, ExitsBegin, GrantsStand, WorkFactsAreKept, WorkFactsBegin};
 
 /// Each act keeps what is known of a job's work.
 pub fn work_facts_are_kept()
@@ -19,4 +19,18 @@ pub fn ends_are_lawful()
 
 pub fn ends_begin()
     ensures { EndsBegin }
+{}
+
+/// What an exit leaves is lawful at each act.
+pub fn exits_are_lawful()
+    ensures { ExitsAreLawful }
+{}
+
+pub fn exits_begin()
+    ensures { ExitsBegin }
+{}
+
+/// The facts of holdings give of each grant what is lawful of it, but that its session is active.
+pub fn grants_stand()
+    ensures { GrantsStand }
 {}

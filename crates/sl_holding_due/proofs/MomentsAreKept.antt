@@ -84,7 +84,7 @@ input_effects i =
       calls = λ x s path p o op has h. h;
     }
 
-told_acts : (n : ℕ) (w : Answer) → Acts (λ z. z.input ≡ Told n w) (λ z. z.input ≡ Told n w)
+pub told_acts : (n : ℕ) (w : Answer) → Acts (λ z. z.input ≡ Told n w) (λ z. z.input ≡ Told n w)
 told_acts n w =
     plain_acts (λ z. z.input ≡ Told n w) (record {
       effects = input_effects (Told n w);
@@ -92,7 +92,7 @@ told_acts n w =
       begins = λ x text c k a wake bare says is h. absurd (true_is_false (ap (λ i. is_early i) (sym wake ∙ h)));
     })
 
-carried : (x : Step) (text : List ℕ) (j : ℕ) (c : Command) (d : Decision) → Of (Has (with_input (Line text) x)) d → (carry_decision j c d (with_input (Line text) x)).input ≡ Line text
+pub carried : (x : Step) (text : List ℕ) (j : ℕ) (c : Command) (d : Decision) → Of (Has (with_input (Line text) x)) d → (carry_decision j c d (with_input (Line text) x)).input ≡ Line text
 unfolding carry_decision
 carried x text j c d has = decision_kept (λ z. z.input ≡ Line text) (input_effects (Line text)) (with_input (Line text) x) j c d has (λ n a is. refl) refl
 
@@ -270,7 +270,7 @@ said_grants : (x y : Step) (o : Option ℕ) (r : Reply) → y.effects.grants ≡
 said_grants x y None r h = h
 said_grants x y (Some j) r h = when_keeps (λ z. z.effects.grants ≡ x.effects.grants) (is_running (seen y) j) (add_reply j r) y (λ runs k. k) h
 
-said_input : (i : Input) (y : Step) (o : Option ℕ) (r : Reply) → y.input ≡ i → (when_running o r y).input ≡ i
+pub said_input : (i : Input) (y : Step) (o : Option ℕ) (r : Reply) → y.input ≡ i → (when_running o r y).input ≡ i
 said_input i y None r h = h
 said_input i y (Some j) r h = when_keeps (λ z. z.input ≡ i) (is_running (seen y) j) (add_reply j r) y (λ runs k. k) h
 
