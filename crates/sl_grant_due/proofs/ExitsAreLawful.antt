@@ -3,8 +3,7 @@ use Rattle.sl_acts.proofs.EffectsKeep.{delta, lease, removal, signalled, stopped
 use Rattle.sl_acts.proofs.LoopsKeep.{for_each_keeps, when_keeps}
 use Rattle.sl_acts.proofs.PlainActs.{ended, line_has}
 use Rattle.sl_acts.proofs.DecisionsAreTheirs.{Of}
-use Rattle.sl_acts.specs.Acts.{Has, Hears}
-use Rattle.sl_acts.specs.SoFar.{entry_of}
+use Rattle.sl_acts.specs.Acts.{Has}
 use Rattle.sl_due.specs.DueAnswers.{set_reply}
 use Rattle.sl_due.specs.DueCommands.{answer_line}
 use Rattle.sl_due.specs.DueDelta.{carry_delta, see_request}

@@ -1,16 +1,13 @@
 -- What the facts of holdings say of a grant: it is held, for what ends in an entry ends before its grants.
-use Rattle.sl_grant_due.specs.GrantPromises.{GrantsStand, StandsGranted}
-use Rattle.sl_sessions.specs.declared.session.Session.{Session}
-use Rattle.sl_step_facts.specs.HoldingFacts.{HoldingFacts}
-use Rattle.sl_trace.specs.Traces.{Setting, Trace, holdings, is_ended_by, is_shared, same_place}
+use Rattle.sl_grant_due.specs.GrantPromises.{GrantsStand}
+use Rattle.sl_trace.specs.Traces.{holdings, is_ended_by, is_shared, same_place}
 use Rattle.sl_holding_due.proofs.PlainPlaces.{place_turned}
-use Rattle.sl_trace.specs.declared.effects.Entry.{Entry}
 use Rattle.sl_trace.specs.declared.effects.Grant.{Grant}
 use Rattle.sl_trace.specs.declared.effects.Mode.{Mode}
 use Rattle.sl_trace.specs.declared.effects.Mode.TheVariants.{Exclusive}
 use Rattle.std.proofs.Common.{ap, refl, sym, ◌∙◌}
 use Rattle.std.proofs.lemmas.List.Elements.{Contains-append_right}
-use Rattle.std.specs.Prelude.{Bool, Contains, Option, false, filter, not, true, ℕ, ◌&&◌, ◌∷◌, ◌≡◌}
+use Rattle.std.specs.Prelude.{Bool, Contains, false, filter, not, true, ◌&&◌, ◌∷◌, ◌≡◌}
 
 pub grants_stand : GrantsStand
 grants_stand st past e heard g h there =
