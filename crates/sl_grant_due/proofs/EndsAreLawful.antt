@@ -115,7 +115,7 @@ held_past x g none there =
     let left : List Grant = filter (λ h. not (is_ended_by x.effects.ends h)) (holdings x.past) in
     (kept_inside (λ h. not (is_ended_by x.effects.ends h)) (holdings x.past) g (subst (λ gs. Contains gs g) (append-nil left) (subst (λ gs. Contains (left ++ gs) g) none there))).0
 
-last_or : {A : Type 0} (xs : List A) (a b : A) → Contains (xs ++ a ∷ []) b → Contains xs b ⊎ (a ≡ b)
+pub last_or : {A : Type 0} (xs : List A) (a b : A) → Contains (xs ++ a ∷ []) b → Contains xs b ⊎ (a ≡ b)
 last_or xs a b there = by (Contains-append_cases xs (a ∷ []) b there) where
   only : (a ≡ b) ⊎ Contains [] b → Contains xs b ⊎ (a ≡ b)
   only (inl is) = inr is

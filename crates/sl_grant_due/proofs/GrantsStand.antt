@@ -1,13 +1,17 @@
 -- What the facts of holdings say of a grant: it is held, for what ends in an entry ends before its grants.
-use Rattle.sl_grant_due.specs.GrantPromises.{GrantsStand}
+use Rattle.sl_acts.specs.SoFar.{entry_of}
+use Rattle.sl_sessions.specs.Sessions.{session_numbered}
+use Rattle.sl_step_facts.specs.Heard.{heard_by}
+use Rattle.sl_words.proofs.CaseLaws.{one_value}
+use Rattle.sl_grant_due.specs.GrantPromises.{GrantsAreLawful, GrantsStand, StandsGranted}
 use Rattle.sl_trace.specs.Traces.{holdings, is_ended_by, is_shared, same_place}
 use Rattle.sl_holding_due.proofs.PlainPlaces.{place_turned}
 use Rattle.sl_trace.specs.declared.effects.Grant.{Grant}
 use Rattle.sl_trace.specs.declared.effects.Mode.{Mode}
 use Rattle.sl_trace.specs.declared.effects.Mode.TheVariants.{Exclusive}
-use Rattle.std.proofs.Common.{ap, refl, sym, ◌∙◌}
+use Rattle.std.proofs.Common.{ap, refl, subst, sym, ◌∙◌}
 use Rattle.std.proofs.lemmas.List.Elements.{Contains-append_right}
-use Rattle.std.specs.Prelude.{Bool, Contains, false, filter, not, true, ◌&&◌, ◌∷◌, ◌≡◌}
+use Rattle.std.specs.Prelude.{Bool, Contains, IsSome, Some, false, filter, not, true, ◌&&◌, ◌∷◌, ◌≡◌}
 
 pub grants_stand : GrantsStand
 grants_stand st past e heard g h there =
@@ -36,3 +40,22 @@ grants_stand st past e heard g h there =
       both k inside same apart a false is at = absurd (apart (ap (λ (z : Grant). z.process) (h.alone g k held inside same at)))
       both k inside same apart false true is at =
           absurd (apart (ap (λ (z : Grant). z.process) (sym (h.alone k g inside held (place_turned k.path g.path k.offset g.offset same) is))))
+
+pub grants_are_lawful : GrantsAreLawful
+grants_are_lawful x h orphans active =
+    record {
+      owned = λ g there. (let k = grants_stand x.setting x.past (entry_of x) (heard_by x.input) g h there in subst (λ o. IsSome o) (sym k.1) refl);
+      each = λ g s there its.
+          let k = grants_stand x.setting x.past (entry_of x) (heard_by x.input) g h there in
+          let v = subst (λ z. StandsGranted x.setting (entry_of x ∷ x.past) z g) (one_value k.0 s (session_numbered x.setting (entry_of x ∷ x.past) g.session) k.1 its) k.2 in
+          record {
+            active = λ own. active g s there its own;
+            lockspace = v.lockspace;
+            placed = v.placed;
+            alone = v.alone;
+            single = v.single;
+            taken = v.taken;
+            not_freed = v.not_freed;
+          };
+      orphans = orphans;
+    }

@@ -10,3 +10,4 @@ pub mod WorkFactsBegin
 pub mod EndsAreLawful
 pub mod ExitsAreLawful
 pub mod GrantsStand
+pub mod OrphansAreLawful

@@ -7,19 +7,19 @@ use Rattle.sl_holding_due.specs.Moments.{Known}
 use Rattle.sl_holding_due.specs.Promises.{Begins}
 use Rattle.sl_law.specs.LawfulEnd.{LawfulEnd}
 use Rattle.sl_law.specs.LawfulExit.{LawfulExit}
-use Rattle.sl_law.specs.LawfulGrant.{HasTaken}
+use Rattle.sl_law.specs.LawfulGrant.{HasTaken, LawfulGrant, LawfulOrphan}
 use Rattle.sl_law.specs.LawfulModes.{LawfulExclusiveGrant}
 use Rattle.sl_leases.specs.Leases.{freed, lease_calls}
-use Rattle.sl_sessions.specs.Sessions.{session_numbered}
+use Rattle.sl_sessions.specs.Sessions.{is_active, session_numbered}
 use Rattle.sl_sessions.specs.declared.session.Session.{Session}
 use Rattle.sl_step_facts.specs.Heard.{heard_by}
 use Rattle.sl_step_facts.specs.HoldingFacts.{HoldingFacts}
 use Rattle.sl_step_facts.specs.WorkFacts.{WorkFacts}
-use Rattle.sl_trace.specs.Traces.{Setting, Trace, held_by, holdings, is_shared, same_place, spot_of_grant}
+use Rattle.sl_trace.specs.Traces.{Setting, Trace, held_by, holdings, is_orphan, is_shared, same_place, spot_of_grant}
 use Rattle.sl_trace.specs.declared.effects.Entry.{Entry}
 use Rattle.sl_trace.specs.declared.effects.Grant.{Grant}
 use Rattle.sl_trace.specs.declared.effects.Mode.TheVariants.{Exclusive}
-use Rattle.std.specs.Prelude.{Contains, IsTrue, Option, Some, length, ℕ, ◌&&◌, ◌<◌, ◌∷◌, ◌≡◌}
+use Rattle.std.specs.Prelude.{Contains, IsFalse, IsTrue, Option, Some, length, ℕ, ◌&&◌, ◌<◌, ◌∷◌, ◌≡◌}
 
 abbrev pub HasWorkFacts : Step → Type 0
 HasWorkFacts x = WorkFacts x.setting (seen x) (heard_by x.input)
@@ -71,3 +71,22 @@ abbrev pub GrantsStand : Type 0
 GrantsStand =
     (st : Setting) (past : Trace) (e : Entry) (heard : Option ℕ) (g : Grant) → HoldingFacts st (e ∷ past) heard → Contains e.effects.grants g →
     (s : Session) × (session_numbered st (e ∷ past) g.session ≡ Some s) × StandsGranted st (e ∷ past) s g
+
+-- The orphans among them are lawful so far.
+abbrev pub OrphansSoFar : Step → Type 0
+OrphansSoFar x = (g : Grant) → Contains x.effects.grants g → IsTrue (is_orphan g) → LawfulOrphan x.past (entry_of x) g
+
+abbrev pub OrphansAreLawful : Type 0
+OrphansAreLawful = Acts Known OrphansSoFar
+
+abbrev pub OrphansBegin : Type 0
+OrphansBegin = Begins OrphansSoFar
+
+-- The session of each granted process is active.
+abbrev pub ActiveSoFar : Step → Type 0
+ActiveSoFar x =
+    (g : Grant) (s : Session) → Contains x.effects.grants g → session_numbered x.setting (seen x) g.session ≡ Some s → IsFalse (is_orphan g) → IsTrue (is_active x.setting (seen x) s)
+
+-- With that the grants are lawful.
+abbrev pub GrantsAreLawful : Type 0
+GrantsAreLawful = (x : Step) → HoldingFacts x.setting (seen x) (heard_by x.input) → OrphansSoFar x → ActiveSoFar x → LawfulGrant x.setting x.past (entry_of x)

@@ -263,10 +263,10 @@ said_calls : (x y : Step) (o : Option ℕ) (r : Reply) → y.effects.calls ≡ x
 said_calls x y None r h = h
 said_calls x y (Some j) r h = when_keeps (λ z. z.effects.calls ≡ x.effects.calls) (is_running (seen y) j) (add_reply j r) y (λ runs k. k) h
 
-no_grants : (x : Step) (p : ℕ) → (end_holdings p x).effects.grants ≡ x.effects.grants
+pub no_grants : (x : Step) (p : ℕ) → (end_holdings p x).effects.grants ≡ x.effects.grants
 no_grants x p = for_each_keeps (λ z. z.effects.grants ≡ x.effects.grants) (filter (λ g. g.process == p) (holdings (seen x))) (λ g. add_end (end_of g)) x (λ g there y k. k) refl
 
-said_grants : (x y : Step) (o : Option ℕ) (r : Reply) → y.effects.grants ≡ x.effects.grants → (when_running o r y).effects.grants ≡ x.effects.grants
+pub said_grants : (x y : Step) (o : Option ℕ) (r : Reply) → y.effects.grants ≡ x.effects.grants → (when_running o r y).effects.grants ≡ x.effects.grants
 said_grants x y None r h = h
 said_grants x y (Some j) r h = when_keeps (λ z. z.effects.grants ≡ x.effects.grants) (is_running (seen y) j) (add_reply j r) y (λ runs k. k) h
 
