@@ -9,6 +9,7 @@ use Rattle.sl_sector.specs.declared.sector.Block.{Block}
 use Rattle.sl_sessions.specs.Sessions.{generation_of, is_joined, session_numbered, sessions}
 use Rattle.sl_sessions.specs.declared.session.Session.{Session}
 use Rattle.sl_step_facts.specs.Heard.{IsOpen}
+use Rattle.sl_step_facts.specs.WayFacts.{IsAligned}
 use Rattle.sl_trace.specs.Traces.{Setting, Submitted, Trace, held_by, holdings, is_running, is_shared, same_place, spot_of_grant, submitted}
 use Rattle.sl_trace.specs.declared.effects.Grant.{Grant}
 use Rattle.sl_trace.specs.declared.effects.Mode.TheVariants.{Exclusive}
@@ -52,9 +53,9 @@ pub record HoldingFacts (st : Setting) (t : Trace) : Type 0 where
 
 -- Instances of frees and ballots.
 pub record NumberFacts (st : Setting) (t : Trace) : Type 0 where
-  pub frees : (s : Session) (at : Spot) (b : Block) → Contains (sessions st t) s → own_block st.layout s.id (lease_calls st t s at) ≡ Some b →
+  pub frees : (s : Session) (at : Spot) (b : Block) → Contains (sessions st t) s → IsAligned st at → own_block st.layout s.id (lease_calls st t s at) ≡ Some b →
       freed (lease_calls st t s at) ≤ b.lver
-  pub ballot : (s : Session) (at : Spot) (n : ℕ) → Contains (sessions st t) s → open_ballot st.layout (lease_calls st t s at) ≡ Some n →
+  pub ballot : (s : Session) (at : Spot) (n : ℕ) → Contains (sessions st t) s → IsAligned st at → open_ballot st.layout (lease_calls st t s at) ≡ Some n →
       (b : Block) × (block_submitted (lease_calls st t s at) ≡ Some b) × (b.lver ≡ n) × (freed (lease_calls st t s at) < n)
 
 -- While a value is read for a job, the session holds the resource and writes nothing there.

@@ -7,6 +7,7 @@ use Rattle.sl_step_facts.specs.Heard.{heard_by}
 use Rattle.sl_step_facts.specs.JobFacts.{BusyFacts, JobFacts}
 use Rattle.sl_step_facts.specs.LeaseFacts.{HoldingFacts, NumberFacts, TurnFacts, ValueFacts}
 use Rattle.sl_step_facts.specs.SessionFacts.{ConnectionFacts, DeltaFacts, NameFacts, QuietFacts}
+use Rattle.sl_step_facts.specs.WayFacts.{WayFacts}
 use Rattle.sl_trace.specs.Traces.{Setting, Trace}
 use Rattle.std.specs.Prelude.{None, Option, ℕ}
 
@@ -20,6 +21,7 @@ pub record Facts (st : Setting) (t : Trace) (heard : Option ℕ) : Type 0 where
   pub connections : ConnectionFacts st t heard
   pub delta : DeltaFacts st t
   pub turns : TurnFacts st t heard
+  pub ways : WayFacts st t
   pub holdings : HoldingFacts st t
   pub numbers : NumberFacts st t
   pub values : ValueFacts st t heard
