@@ -5,7 +5,7 @@ use Rattle.sl_leases.specs.Ballots.{ballot_blocks, moded_block, phase2_block, st
 use Rattle.sl_leases.specs.Jobs.{aim_of}
 use Rattle.sl_leases.specs.LeaseWork.{looks_for_shared}
 use Rattle.sl_leases.specs.Leases.{block_submitted, blocks_given, ended_ballot, ended_ballots, freed, lease_calls, lver_written, open_ballot}
-use Rattle.sl_leases.specs.declared.lease.Aim.TheVariants.{Acquires, Converts, Releases}
+use Rattle.sl_leases.specs.declared.lease.Aim.TheVariants.{Acquires, Converts, Releases, Settles}
 use Rattle.sl_leases.specs.declared.lease.Aim.{Aim}
 use Rattle.sl_sector.specs.declared.sector.Block.{Block}
 use Rattle.sl_sector.specs.declared.sector.Leader.{Leader}
@@ -23,7 +23,6 @@ use Rattle.sl_trace.specs.declared.effects.Op.TheVariants.{ReadSectors, WriteRec
 use Rattle.sl_trace.specs.declared.effects.Purpose.TheVariants.{Lease}
 use Rattle.sl_trace.specs.declared.effects.Purpose.{Purpose}
 use Rattle.sl_trace.specs.declared.effects.Spot.{Spot}
-use Rattle.sl_trace.specs.declared.effects.Work.TheVariants.{Settling}
 use Rattle.sl_trace.specs.declared.effects.Work.{Work}
 use Rattle.sl_trace.specs.declared.input.Answer.TheVariants.{Written}
 use Rattle.sl_words.specs.Words.{present}
@@ -134,7 +133,7 @@ pub data FreeReason (w : WayContext) (work : Work) (at n : ℕ) (ms : List Submi
   After_mode : (after : Comes work SetMode ms) → w.aims work ≡ Some (Acquires Shared) → IsWrittenBy after.prior at → lver_written after.prior ≡ n
       → FreeReason w work at n ms
   In_release : w.aims work ≡ Some Releases → FreeReason w work at n ms
-  In_settling : work ≡ Settling → FreeReason w work at n ms
+  In_settling : w.aims work ≡ Some Settles → FreeReason w work at n ms
 
 -- The leader of an instance that was won is written as free, while no ballot is open.
 pub record FreeWay (w : WayContext) (work : Work) (at : ℕ) (c : Call) (ms : List Submitted) : Type 0 where
@@ -154,7 +153,7 @@ pub record ClearWay (c : Call) (ms : List Submitted) : Type 0 where
 -- The read of the area before an owed free.
 pub record ReadBeforeWay (w : WayContext) (work : Work) (c : Call) (ms : List Submitted) : Type 0 where
   pub reads : c.op ≡ ReadSectors (w.layout.hosts + 2)
-  pub settles : work ≡ Settling
+  pub settles : w.aims work ≡ Some Settles
   pub concluded : open_ballot w.layout ms ≡ None
 
 -- ---- the calls of a lease

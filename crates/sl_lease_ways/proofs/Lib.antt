@@ -1,0 +1,6 @@
+pub mod NewestCall
+pub mod GreatestFrees
+pub mod InstancesBegin
+pub mod Decoding
+pub mod WayStages
+pub mod WayNumbers
