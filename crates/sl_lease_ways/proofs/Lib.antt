@@ -4,3 +4,5 @@ pub mod InstancesBegin
 pub mod Decoding
 pub mod WayStages
 pub mod WayNumbers
+pub mod Laws
+pub mod NumbersFollow

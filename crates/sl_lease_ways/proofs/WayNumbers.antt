@@ -10,7 +10,7 @@ use Rattle.sl_sector.specs.declared.sector.Block.{Block}
 use Rattle.sl_sector.specs.declared.sector.Leader.{Leader}
 use Rattle.sl_sector.specs.declared.sector.Owner.{Owner}
 use Rattle.sl_sector.specs.declared.sector.Rec.TheVariants.{BlockIs, LeaderIs}
-use Rattle.sl_step_facts.specs.WayFacts.{CallWay, ClearWay, FreeWay, ModeWay, Phase1ReadWay, Phase1Way, Phase2ReadWay, Phase2Way, PurposeWay, ReadBeforeWay, StepWay, TakeWay, WayContext, Ways}
+use Rattle.sl_step_facts.specs.WayFacts.{CallWay, ClearWay, FreeWay, IsVerified, ModeWay, Phase1ReadWay, Phase1Way, Phase2ReadWay, Phase2Way, PurposeWay, ReadBeforeWay, StepWay, TakeWay, WayContext, Ways}
 use Rattle.sl_trace.specs.Traces.{Submitted, is_heeded}
 use Rattle.sl_trace.specs.declared.effects.Call.{Call}
 use Rattle.sl_trace.specs.declared.effects.LeaseStep.TheVariants.{ClearMode, FreeLeader, Phase1Read, Phase1Write, Phase2Read, Phase2Write, ReadArea, ReadBeforeFree, SetMode, TakeLeader}
@@ -19,7 +19,7 @@ use Rattle.sl_trace.specs.declared.effects.Op.TheVariants.{ReadSectors, WriteRec
 use Rattle.sl_trace.specs.declared.effects.Purpose.TheVariants.{Joining, Lease, Leaving, Renewal, RequestRead, RequestWrite, SeeRequest, Survey, ValueRead, ValueWrite}
 use Rattle.sl_trace.specs.declared.effects.Purpose.{Purpose}
 use Rattle.sl_trace.specs.declared.effects.Work.{Work}
-use Rattle.sl_plain.proofs.Lists.{contains_cases, contains_none}
+use Rattle.sl_plain.proofs.Lists.{contains_cases, contains_more, contains_none}
 use Rattle.sl_words.proofs.CaseLaws.{none_some, some_value, true_is_false}
 use Rattle.sl_words.proofs.WordLaws.{choose_some}
 use Rattle.sl_words.specs.Words.{choose}
@@ -39,8 +39,11 @@ lver_of ms b is = ap (λ o. option_map_or (λ (x : Block). x.lver) o 0) is
 pub data Doing (w : WayContext) (m : Submitted) (ms : List Submitted) : Type 0 where
   -- it reads; an open ballot stays open or is concluded
   Reads : (n : ℕ) → m.call.op ≡ ReadSectors n → Doing w m ms
-  -- a block is no fall; one of a ballot is above each free
-  Writes_block : (b : Block) → m.call.op ≡ WriteRecord (BlockIs b) → own_lver ms ≤ b.lver → (freed ms < b.lver) ⊎ (is_at Phase2_write m ≡ false) → Doing w m ms
+  -- a ballot's block is no fall, and above each free; the name was verified, or a block was written before
+  Writes_ballot : (b : Block) → m.call.op ≡ WriteRecord (BlockIs b) → own_lver ms ≤ b.lver → freed ms < b.lver → IsVerified w ms ⊎ ((own : Block) × (block_submitted ms ≡ Some own))
+      → Doing w m ms
+  -- a mode's block is in the own block's instance
+  Writes_mode : (b own : Block) → m.call.op ≡ WriteRecord (BlockIs b) → block_submitted ms ≡ Some own → own.lver ≡ b.lver → is_at Phase2_write m ≡ false → Doing w m ms
   Takes : (l : Leader) → m.call.op ≡ WriteRecord (LeaderIs l) → l.held ≡ true → Doing w m ms
   Frees : (l : Leader) → m.call.op ≡ WriteRecord (LeaderIs l) → l.held ≡ false → Contains (ended_ballots w.layout ms) (l.lver, w.self) → open_ballot w.layout ms ≡ None → Doing w m ms
 
@@ -59,18 +62,18 @@ rises ms n up = by (block_submitted ms) refl where
 step_doing : (w : WayContext) (m : Submitted) (ms : List Submitted) → Ways w ms → (work : Work) (step : LeaseStep) → m.call.purpose ≡ Lease work step → StepWay w work m.at m.call ms step → Doing w m ms
 step_doing w m ms ws work (ReadArea name) is h = Reads (w.layout.hosts + 2) h
 step_doing w m ms ws work ReadBeforeFree is h = Reads (w.layout.hosts + 2) h.reads
-step_doing w m ms ws work Phase1Write is h = Writes_block h.own h.wrote (rises ms h.own.lver h.rises) (inl h.fresh)
+step_doing w m ms ws work Phase1Write is h = Writes_ballot h.own h.wrote (rises ms h.own.lver h.rises) h.fresh (inl h.named)
 step_doing w m ms ws work Phase1Read is h = Reads w.layout.hosts h.reads
 step_doing w m ms ws work Phase2Write is h =
     let under : (proposed w work m.call ms h).lver ≡ h.own.lver = proposed_lver w work m.call ms h in
     let fresh : freed ms < h.own.lver = clear_freed w work m.call ms ws h in
-    Writes_block (proposed w work m.call ms h) h.wrote (same_most (own_lver ms) h.own.lver (proposed w work m.call ms h).lver (lver_of ms h.own (clear_own w work m.call ms ws h)) under)
-    (inl (omega (arith, fresh, under)))
+    Writes_ballot (proposed w work m.call ms h) h.wrote (same_most (own_lver ms) h.own.lver (proposed w work m.call ms h).lver (lver_of ms h.own (clear_own w work m.call ms ws h)) under)
+    (omega (arith, fresh, under)) (inr (h.own, clear_own w work m.call ms ws h))
 step_doing w m ms ws work Phase2Read is h = Reads w.layout.hosts h.reads
 step_doing w m ms ws work TakeLeader is h = Takes h.leader h.wrote h.held
-step_doing w m ms ws work SetMode is h = Writes_block _ h.wrote (same_most (own_lver ms) h.own.lver h.own.lver (lver_of ms h.own h.known) refl) (inr (ap (λ p. is_at_in Phase2_write p) is))
+step_doing w m ms ws work SetMode is h = Writes_mode _ h.own h.wrote h.known refl (ap (λ p. is_at_in Phase2_write p) is)
 step_doing w m ms ws work FreeLeader is h = Frees h.leader h.wrote h.free h.won h.concluded
-step_doing w m ms ws work ClearMode is h = Writes_block _ h.wrote (same_most (own_lver ms) h.own.lver h.own.lver (lver_of ms h.own h.known) refl) (inr (ap (λ p. is_at_in Phase2_write p) is))
+step_doing w m ms ws work ClearMode is h = Writes_mode _ h.own h.wrote h.known refl (ap (λ p. is_at_in Phase2_write p) is)
 
 by_purpose : (w : WayContext) (m : Submitted) (ms : List Submitted) → Ways w ms → (p : Purpose) → m.call.purpose ≡ p → PurposeWay w m.at m.call ms p → Doing w m ms
 by_purpose w m ms ws (Lease work step) is h = step_doing w m ms ws work step is h
@@ -97,13 +100,33 @@ itself a b is = omega (arith, is)
 
 up_by : (w : WayContext) (m : Submitted) (ms : List Submitted) → Doing w m ms → own_lver ms ≤ own_lver (m ∷ ms)
 up_by w m ms (Reads n op) = itself (own_lver ms) (own_lver (m ∷ ms)) (lver_passed m ms (read_writes_no_block m n op))
-up_by w m ms (Writes_block b op up fresh) =
+up_by w m ms (Writes_ballot b op up fresh named) =
     let is : own_lver (m ∷ ms) ≡ b.lver = lver_of (m ∷ ms) b (submitted_here m ms b (block_is m b op)) in omega (arith, is, up)
+up_by w m ms (Writes_mode b own op known same other) =
+    let is : own_lver (m ∷ ms) ≡ b.lver = lver_of (m ∷ ms) b (submitted_here m ms b (block_is m b op)) in
+    let was : own_lver ms ≡ own.lver = lver_of ms own known in omega (arith, is, was, same)
 up_by w m ms (Takes l op held) = itself (own_lver ms) (own_lver (m ∷ ms)) (lver_passed m ms (leader_is_no_block m l op))
 up_by w m ms (Frees l op free won concluded) = itself (own_lver ms) (own_lver (m ∷ ms)) (lver_passed m ms (leader_is_no_block m l op))
 
 pub goes_up : (w : WayContext) (m : Submitted) (ms : List Submitted) → Ways w (m ∷ ms) → own_lver ms ≤ own_lver (m ∷ ms)
 goes_up w m ms h = up_by w m ms (doing w m ms h.1 h.0)
+
+-- ---- names
+
+verified_more : (w : WayContext) (m : Submitted) (ms : List Submitted) → IsVerified w ms → IsVerified w (m ∷ ms)
+verified_more w m ms h = record { read = h.read; name = h.name; of_lease = contains_more m ms h.read h.of_lease; verified = h.verified }
+
+-- Who has written a block has verified the name.
+pub is_verified : (w : WayContext) (ms : List Submitted) → Ways w ms → (b : Block) → block_submitted ms ≡ Some b → IsVerified w ms
+is_verified w [] h b is = absurd (none_some b is)
+is_verified w (m ∷ ms) h b is = verified_more w m ms (by (doing w m ms h.1 h.0) (λ x old. is_verified w ms h.1 x old)) where
+  by : Doing w m ms → ((x : Block) → block_submitted ms ≡ Some x → IsVerified w ms) → IsVerified w ms
+  by (Reads n op) before = before b (sym (submitted_passed m ms (read_writes_no_block m n op)) ∙ is)
+  by (Writes_ballot x op up fresh (inl named)) before = named
+  by (Writes_ballot x op up fresh (inr old)) before = before old.0 old.1
+  by (Writes_mode x own op known same other) before = before own known
+  by (Takes l op held) before = before b (sym (submitted_passed m ms (leader_is_no_block m l op)) ∙ is)
+  by (Frees l op free won concluded) before = before b (sym (submitted_passed m ms (leader_is_no_block m l op)) ∙ is)
 
 -- ---- ballots that ended
 
@@ -191,7 +214,8 @@ freed_below w [] h = omega arith
 freed_below w (m ∷ ms) h = by (doing w m ms h.1 h.0) (goes_up w m ms h) (freed_below w ms h.1) where
   by : Doing w m ms → own_lver ms ≤ own_lver (m ∷ ms) → freed ms ≤ own_lver ms → freed (m ∷ ms) ≤ own_lver (m ∷ ms)
   by (Reads n op) up before = let is : freed (m ∷ ms) ≡ freed ms = freed_passed m ms (read_writes_no_leader m n op) in omega (arith, is, up, before)
-  by (Writes_block b op rise fresh) up before = let is : freed (m ∷ ms) ≡ freed ms = freed_passed m ms (block_is_no_leader m b op) in omega (arith, is, up, before)
+  by (Writes_mode b own op known same other) up before = let is : freed (m ∷ ms) ≡ freed ms = freed_passed m ms (block_is_no_leader m b op) in omega (arith, is, up, before)
+  by (Writes_ballot b op rise fresh named) up before = let is : freed (m ∷ ms) ≡ freed ms = freed_passed m ms (block_is_no_leader m b op) in omega (arith, is, up, before)
   by (Takes l op held) up before = let is : freed (m ∷ ms) ≡ freed ms = freed_held m ms l (leader_is m l op) (held_is_none l held) in omega (arith, is, up, before)
   by (Frees l op free won concluded) up before =
       let is : freed (m ∷ ms) ≡ max l.lver (freed ms) = freed_here m ms l (leader_is m l op) free in
@@ -254,10 +278,10 @@ is_opened w [] h n is = absurd (none_some n is)
 is_opened w (m ∷ ms) h n is = by (doing w m ms h.1 h.0) (is_opened w ms h.1 n) where
   by : Doing w m ms → (open_ballot w.layout ms ≡ Some n → IsOpened ms n) → IsOpened (m ∷ ms) n
   by (Reads k op) before = opened_passed m ms n (read_writes_no_block m k op) (freed_passed m ms (read_writes_no_leader m k op)) (before (open_passed w m ms n (read_writes_no_block m k op) is))
-  by (Writes_block b op rise (inl fresh)) before =
+  by (Writes_ballot b op rise fresh named) before =
       let o : OpenHere w m ms b n = open_here w m ms b n (block_is m b op) is in
       opened_block m ms b n op o.under (subst (λ k. freed ms < k) o.under fresh)
-  by (Writes_block b op rise (inr other)) before =
+  by (Writes_mode b own op known same other) before =
       let o : OpenHere w m ms b n = open_here w m ms b n (block_is m b op) is in
       opened_block m ms b n op o.under (before (o.old other)).fresh
   by (Takes l op held) before =

@@ -4,7 +4,7 @@ use Rattle.sl_area.specs.Layouts.{Layout}
 use Rattle.sl_leases.specs.Ballots.{ballot_blocks, moded_block, phase2_block, stop_of}
 use Rattle.sl_leases.specs.Jobs.{aim_of}
 use Rattle.sl_leases.specs.LeaseWork.{looks_for_shared}
-use Rattle.sl_leases.specs.Leases.{block_submitted, blocks_given, ended_ballot, ended_ballots, freed, lease_calls, lver_written, open_ballot}
+use Rattle.sl_leases.specs.Leases.{block_submitted, blocks_given, ended_ballot, ended_ballots, freed, lease_calls, lver_written, open_ballot, verified_by}
 use Rattle.sl_leases.specs.declared.lease.Aim.TheVariants.{Acquires, Converts, Releases, Settles}
 use Rattle.sl_leases.specs.declared.lease.Aim.{Aim}
 use Rattle.sl_sector.specs.declared.sector.Block.{Block}
@@ -31,13 +31,14 @@ use Rattle.std.specs.Prelude.{Bool, Contains, IsTrue, List, None, Option, Some, 
 -- What ways ask beside calls: the session as ballots name it, to what end works are done, and whom the session has counted as over.
 pub record WayContext : Type 0 where
   pub layout : Layout
+  pub lockspace : List ℕ
   pub self : Owner
   pub aims : Work → Option Aim
   pub over : ℕ → ℕ → Bool
 
 -- Those of a session in a trace.
 abbrev pub way_context : Setting → Trace → Session → WayContext
-way_context st t s = record { layout = st.layout; self = me t s; aims = aim_of st t; over = counted_over st t s }
+way_context st t s = record { layout = st.layout; lockspace = s.lockspace; self = me t s; aims = aim_of st t; over = counted_over st t s }
 
 -- ---- what stands before a call
 
@@ -66,6 +67,13 @@ abbrev pub NoOtherShared : WayContext → List (Option Block) → Type 0
 NoOtherShared w blocks =
     (b : Block) → Contains (present blocks) b → (b.host ≡ w.self.id → ⊥) → b.shared ≡ true → IsTrue (w.over b.host b.mode_gen)
 
+-- One of the calls read the resource's name on the area.
+pub record IsVerified (w : WayContext) (ms : List Submitted) : Type 0 where
+  pub read : Submitted
+  pub name : List ℕ
+  pub of_lease : Contains ms read
+  pub verified : verified_by w.layout w.lockspace read ≡ Some name
+
 -- ---- the ballot
 
 -- Phase 1's write: above each free, in no instance below the own block's.
@@ -76,6 +84,8 @@ pub record Phase1Way (w : WayContext) (c : Call) (ms : List Submitted) : Type 0 
   -- whoever saw a free may have begun the next instance
   pub fresh : freed ms < own.lver
   pub rises : (b : Block) → block_submitted ms ≡ Some b → b.lver ≤ own.lver
+  -- so every later call of the lease knows the resource's name
+  pub named : IsVerified w ms
 
 -- Phase 1's read, made when that write had been answered ok.
 pub record Phase1ReadWay (w : WayContext) (work : Work) (at : ℕ) (c : Call) (ms : List Submitted) : Type 0 where
