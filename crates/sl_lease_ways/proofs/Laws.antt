@@ -1,1 +1,2 @@
 pub mod BallotLaws
+pub mod BallotsBegin

@@ -6,3 +6,4 @@ pub mod WayStages
 pub mod WayNumbers
 pub mod Laws
 pub mod NumbersFollow
+pub mod NextsFit

@@ -1,0 +1,2 @@
+pub mod SettlingsFit
+pub mod AreaReadsFit
