@@ -4,6 +4,6 @@ pub mod InstancesBegin
 pub mod Decoding
 pub mod WayStages
 pub mod WayNumbers
-pub mod Laws
+pub mod Lawful
 pub mod NumbersFollow
 pub mod NextsFit

@@ -1,5 +1,5 @@
 -- The numbers of leases follow from the ways of their calls.
-use Rattle.sl_lease_ways.proofs.Laws.BallotLaws.{own_is}
+use Rattle.sl_lease_ways.proofs.Lawful.BallotLaws.{own_is}
 use Rattle.sl_lease_ways.proofs.WayNumbers.{IsOpened, freed_below, is_opened, lver_of, own_lver}
 use Rattle.sl_leases.specs.Leases.{block_submitted, freed, lease_calls, open_ballot, own_block}
 use Rattle.sl_sector.specs.declared.sector.Block.{Block}

@@ -2,7 +2,7 @@
 use Rattle.sl_area.specs.Places.{area_blocks, leader_of}
 use Rattle.sl_law.specs.LawfulBlock.{AreaRead}
 use Rattle.sl_lease_ways.proofs.Decoding.{leader_read}
-use Rattle.sl_lease_ways.proofs.Laws.BallotsBegin.{MayBegin, begins_after_read, none_torn}
+use Rattle.sl_lease_ways.proofs.Lawful.BallotsBegin.{MayBegin, begins_after_read, none_torn}
 use Rattle.sl_lease_ways.proofs.NextsFit.SettlingsFit.{begin_is}
 use Rattle.sl_lease_ways.proofs.WayStages.{is_at_in}
 use Rattle.sl_lease_ways.specs.Nexts.{IsHeard, Moment, NextIs, calls_at, context_at, known_at, place_at}

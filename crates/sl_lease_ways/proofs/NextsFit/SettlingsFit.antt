@@ -1,5 +1,5 @@
 -- What a settling decides fits: an open ballot is run again, a mode left over is cleared, an owed free is looked for.
-use Rattle.sl_lease_ways.proofs.Laws.BallotsBegin.{MayBegin, begins_again, phase1_is_lawful}
+use Rattle.sl_lease_ways.proofs.Lawful.BallotsBegin.{MayBegin, begins_again, phase1_is_lawful}
 use Rattle.sl_lease_ways.proofs.WayNumbers.{IsOpened, is_opened, is_verified}
 use Rattle.sl_lease_ways.specs.Nexts.{Moment, NextIs, calls_at, context_at, known_at, place_at}
 use Rattle.sl_leases.specs.Ballots.{moded_block, phase1_block}

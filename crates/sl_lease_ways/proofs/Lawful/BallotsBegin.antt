@@ -3,7 +3,7 @@ use Rattle.sl_area.specs.Places.{area_blocks, leader_of}
 use Rattle.sl_law.specs.LawfulBlock.{AreaRead, BeginReason, Block_above, Freed_before, Leader_before, Leader_own, LawfulPhase1, Lost_before, Own_block}
 use Rattle.sl_lease_ways.proofs.GreatestFrees.{freed_among, greatest_among}
 use Rattle.sl_lease_ways.proofs.InstancesBegin.{not_below_own, own_below_top, why_instance}
-use Rattle.sl_lease_ways.proofs.Laws.BallotLaws.{own_is}
+use Rattle.sl_lease_ways.proofs.Lawful.BallotLaws.{own_is}
 use Rattle.sl_lease_ways.proofs.WayNumbers.{IsOpened, freed_below, is_opened, lver_of, own_lver}
 use Rattle.sl_lease_ways.specs.Instances.{Block_leads, One_is_done, Own_goes_on, WhyInstance}
 use Rattle.sl_leases.specs.Ballots.{counted_lver, is_counted_free, owner_of, phase1_block, same_owner, value_of}
