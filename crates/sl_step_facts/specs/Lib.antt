@@ -4,4 +4,8 @@ pub mod JobFacts
 pub mod SessionFacts
 pub mod LeaseFacts
 pub mod WayFacts
+pub mod HoldingFacts
+pub mod WorkFacts
+pub mod GrantGrounds
+pub mod ValueFacts
 pub mod Whole
