@@ -7,3 +7,4 @@ pub mod WayNumbers
 pub mod Lawful
 pub mod NumbersFollow
 pub mod NextsFit
+pub mod Kept

@@ -1,0 +1,3 @@
+pub mod CallsSame
+pub mod WaysGrow
+pub mod EffectsLeave
