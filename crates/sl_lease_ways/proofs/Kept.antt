@@ -1,3 +1,4 @@
 pub mod CallsSame
 pub mod WaysGrow
 pub mod EffectsLeave
+pub mod PlacesStand
