@@ -2,3 +2,4 @@ pub mod CallsSame
 pub mod WaysGrow
 pub mod EffectsLeave
 pub mod PlacesStand
+pub mod AreaCallsLeave

@@ -193,7 +193,7 @@ by_generation at reading c s ms same = by (option_and_then delta_of_record (reco
   by (Some d) is = same d is
 
 -- What a further call of the session leaves of its context.
-further_grows : (x : Step) (s : Session) (path : List ℕ) (p : Purpose) (o : ℕ) (op : Op)
+pub further_grows : (x : Step) (s : Session) (path : List ℕ) (p : Purpose) (o : ℕ) (op : Op)
     → ((d : DeltaRec) → option_and_then delta_of_record (record_of op) ≡ Some d → d.generation ≡ generation_of (seen x) s)
     → Grows (way_context x.setting (seen x) s) (way_context x.setting (seen (add_call_of s.number path p o op x)) s)
 unfolding with_generation
@@ -217,7 +217,7 @@ further_grows x s path p o op same =
     }
 
 -- Nor does it touch another's.
-other_grows : (x : Step) (n : ℕ) (path : List ℕ) (p : Purpose) (o : ℕ) (op : Op) (z : Session) → (n == z.number) ≡ false
+pub other_grows : (x : Step) (n : ℕ) (path : List ℕ) (p : Purpose) (o : ℕ) (op : Op) (z : Session) → (n == z.number) ≡ false
     → Grows (way_context x.setting (seen x) z) (way_context x.setting (seen (add_call_of n path p o op x)) z)
 other_grows x n path p o op z other =
     same_grows x.setting (entry_of x) (with_call (made_call x n path p o op) (entry_of x)) x.past z (others_stay (entry_of x) x.past (made_call x n path p o op) z other) (λ is. is) (λ work aim is. is)
@@ -269,7 +269,7 @@ abbrev is_cons : {A : Type 0} → List A → Bool
 is_cons [] = false
 is_cons (x ∷ xs) = true
 
-not_empty : {A : Type 0} (xs : List A) (y : A) → xs ++ y ∷ [] ≡ [] → ⊥
+pub not_empty : {A : Type 0} (xs : List A) (y : A) → xs ++ y ∷ [] ≡ [] → ⊥
 not_empty [] y is = true_is_false (ap (λ zs. is_cons zs) is)
 not_empty (x ∷ xs) y is = true_is_false (ap (λ zs. is_cons zs) is)
 
