@@ -3,3 +3,5 @@ pub mod WaysGrow
 pub mod EffectsLeave
 pub mod PlacesStand
 pub mod AreaCallsLeave
+pub mod PlainWalks
+pub mod DeltasFit
