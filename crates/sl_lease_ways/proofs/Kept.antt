@@ -5,3 +5,4 @@ pub mod PlacesStand
 pub mod AreaCallsLeave
 pub mod PlainWalks
 pub mod DeltasFit
+pub mod InputsLeave
