@@ -6,3 +6,4 @@ pub mod AreaCallsLeave
 pub mod PlainWalks
 pub mod DeltasFit
 pub mod InputsLeave
+pub mod LeaseNextsLeave

@@ -40,7 +40,7 @@ pub record MayWork (x : Step) (s : Session) (at : Spot) (p : Purpose) (o : ℕ) 
   pub clear : (m : Submitted) → Contains (submitted (seen x)) m → m.answer ≡ None → is_area_work m.call.purpose ≡ true → spot_of_call x.setting.layout m ≡ at → ⊥
   pub below : (m : Submitted) → Contains (submitted (seen x)) m → m.call.number < next_call x.setting (seen x)
   pub no_delta : option_and_then delta_of_record (record_of op) ≡ None
-  pub way : is_some (lease_step p) ≡ true → PurposeWay (way_context x.setting (seen x) s) (length x.past) (made_call x s.number at.path p o op) (lease_calls x.setting (seen x) s at) p
+  pub way : is_some (lease_step p) ≡ true → (c : Call) → c.op ≡ op → PurposeWay (way_context x.setting (seen x) s) (length x.past) c (lease_calls x.setting (seen x) s at) p
 
 pub work_is_no_join : (p : Purpose) → is_area_work p ≡ true → is_join_call FirstRead p ≡ false
 work_is_no_join (Lease work step) is = refl
@@ -89,7 +89,7 @@ call_way : (x : Step) (s : Session) (at : Spot) (p : Purpose) (o : ℕ) (op : Op
     → CallWay (way_context x.setting (seen x) s) (made x s at p o op) (lease_calls x.setting (seen x) s at)
 call_way x s at p o op h lease =
     record {
-      way = h.way lease;
+      way = h.way lease (made_call x s.number at.path p o op) refl;
       answered = λ d there. by d (lease_one x.setting (seen x) s at d there) (true_or_false (is_some d.answer));
       above = λ d there. h.below d (lease_one x.setting (seen x) s at d there).0;
     }

@@ -110,15 +110,17 @@ same_grows st d e past s same joined aims =
       over = λ a b is. counted_more st d e past s a b (counts_more st (d ∷ past) (e ∷ past) s same joined a b) is;
     }
 
-reply_carries : (x : Step) (j : ℕ) (r : Reply) → Leaves x r → Carries x.setting (seen x) (seen (add_reply j r x))
+pub reply_grows : (x : Step) (j : ℕ) (r : Reply) → Leaves x r → (s : Session) → Grows (way_context x.setting (seen x) s) (way_context x.setting (seen (add_reply j r x)) s)
+reply_grows x j r leaves s =
+    same_grows x.setting (entry_of x) (with_reply (record { job = j; reply = r }) (entry_of x)) x.past s (ap (λ ms. filter (is_call_of s) ms) (reply_leaves x j r leaves))
+    (joined_stays (seen x) (seen (add_reply j r x)) (λ job q is. reply_stays (entry_of x) x.past (record { job = j; reply = r }) job q is) s) (λ work aim is. is)
+
+pub reply_carries : (x : Step) (j : ℕ) (r : Reply) → Leaves x r → Carries x.setting (seen x) (seen (add_reply j r x))
 reply_carries x j r leaves =
-    let same : submitted (seen (add_reply j r x)) ≡ submitted (seen x) = reply_leaves x j r leaves in
     record {
       sessions = refl;
-      calls = λ s at. ap (λ ms. filter (λ (m : Submitted). is_lease_call m && is_on x.setting.layout at m.call) (filter (is_call_of s) ms)) same;
-      grows = λ s at there. inl
-          (same_grows x.setting (entry_of x) (with_reply (record { job = j; reply = r }) (entry_of x)) x.past s (ap (λ ms. filter (is_call_of s) ms) same)
-          (joined_stays (seen x) (seen (add_reply j r x)) (λ job q is. reply_stays (entry_of x) x.past (record { job = j; reply = r }) job q is) s) (λ work aim is. is));
+      calls = λ s at. ap (λ ms. filter (λ (m : Submitted). is_lease_call m && is_on x.setting.layout at m.call) (filter (is_call_of s) ms)) (reply_leaves x j r leaves);
+      grows = λ s at there. inl (reply_grows x j r leaves s);
     }
 
 pub replies_leave : (x : Step) (j : ℕ) (r : Reply) → Leaves x r → LeasesStand x → LeasesStand (add_reply j r x)

@@ -118,6 +118,12 @@ ways_grow v w h ms k =
     (subst (λ o. Ways (context_with w.layout w.lockspace o v.aims v.over) ms) h.self
     (subst (λ l. Ways (context_with w.layout l v.self v.aims v.over) ms) h.lockspace (subst (λ g. Ways (context_with g v.lockspace v.self v.aims v.over) ms) h.layout k)))
 
+pub way_grows : (v w : WayContext) → Grows v w → (at : ℕ) (c : Call) (ms : List Submitted) (p : Purpose) → PurposeWay v at c ms p → PurposeWay w at c ms p
+way_grows v w h at c ms p k =
+    purpose_grows w.layout w.lockspace w.self v.aims w.aims v.over w.over (record { aimed = h.aims; counted = h.over }) at c ms p
+    (subst (λ o. PurposeWay (context_with w.layout w.lockspace o v.aims v.over) at c ms p) h.self
+    (subst (λ l. PurposeWay (context_with w.layout l v.self v.aims v.over) at c ms p) h.lockspace (subst (λ g. PurposeWay (context_with g v.lockspace v.self v.aims v.over) at c ms p) h.layout k)))
+
 -- ---- an answer
 
 -- A call that has an answer keeps it.
