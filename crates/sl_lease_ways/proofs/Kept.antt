@@ -7,3 +7,4 @@ pub mod PlainWalks
 pub mod DeltasFit
 pub mod InputsLeave
 pub mod LeaseNextsLeave
+pub mod DecisionsAreClear
