@@ -8,3 +8,4 @@ pub mod DeltasFit
 pub mod InputsLeave
 pub mod LeaseNextsLeave
 pub mod DecisionsAreClear
+pub mod JoinsLeave

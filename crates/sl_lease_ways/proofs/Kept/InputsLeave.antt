@@ -82,7 +82,7 @@ abbrev pub answers : Input → Bool
 answers (Told n a) = true
 answers i = false
 
-quiet_same : (x : Step) (i : Input) → x.input ≡ Wake → answers i ≡ false → submitted (seen (with_input i x)) ≡ submitted (seen x)
+pub quiet_same : (x : Step) (i : Input) → x.input ≡ Wake → answers i ≡ false → submitted (seen (with_input i x)) ≡ submitted (seen x)
 quiet_same x i wake quiet = quiet_by i quiet ∙ sym (ap (λ k. fold made (mark x.past (entry_of x) k (submitted x.past)) x.effects.calls) wake) where
   made : List Submitted → Call → List Submitted
   made = λ ms c. new_call (length x.past) x.reading c ∷ ms

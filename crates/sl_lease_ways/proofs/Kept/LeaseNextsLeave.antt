@@ -202,36 +202,35 @@ block_leaves x s at h work step b n k = area_calls_leave x s at (Lease work step
   by FreeLeader n c op = n.0 c op
   by ClearMode n c op = n.0 c op
 
--- What stands behind an exclusive holding of the session there, as far as a free asks it.
-abbrev pub ExclusiveStands : Step → Session → Spot → Type 0
-ExclusiveStands x s at =
-    (e : ℕ) → option_map (λ g. g.lver) (exclusive_on (seen x) s at) ≡ Some e
-    → Contains (ended_ballots x.setting.layout (lease_calls x.setting (seen x) s at)) (e, me (seen x) s) × (open_ballot x.setting.layout (lease_calls x.setting (seen x) s at) ≡ None)
+-- What stands behind an instance of the session, as far as a free asks it.
+abbrev pub HasEnded : Step → Session → Spot → ℕ → Type 0
+HasEnded x s at n =
+    Contains (ended_ballots x.setting.layout (lease_calls x.setting (seen x) s at)) (n, me (seen x) s) × (open_ballot x.setting.layout (lease_calls x.setting (seen x) s at) ≡ None)
 
-pub next_leaves : (x : Step) (s : Session) (at : Spot) → LeaseReady x s at → ExclusiveStands x s at → (work : Work) (n : LeaseNext) → NextIs (moment_of x s at work) n → LeasesStand x → LeasesStand (carry_lease s at work n x)
+pub next_leaves : (x : Step) (s : Session) (at : Spot) → LeaseReady x s at → (work : Work) (n : LeaseNext) → ((lver : ℕ) (l : Leader) → n ≡ BecomeShared lver l → HasEnded x s at lver) → NextIs (moment_of x s at work) n → LeasesStand x → LeasesStand (carry_lease s at work n x)
 unfolding carry_lease
-next_leaves x s at h e work Nothing n k = k
-next_leaves x s at h e work (ReadFor step) n k = read_leaves x s at h work step n k
-next_leaves x s at h e work (WriteBlock step b) n k = block_leaves x s at h work step b n k
-next_leaves x s at h e work (WriteLeader step l) n k = area_calls_leave x s at (Lease work step) _ _ (lease_works x s at h work step _ _ (leader_inside x s at h) refl n.0) k
-next_leaves x s at h e work (AnswerJob r) n k = with_some_keeps LeasesStand (work_job work) (λ j. add_reply j r) x (λ j is f. replies_leave x j r (inl n) f) k
-next_leaves x s at h e work (GrantJob mode lver) n k = granted IsLate LeasesStand by_late x s work mode lver k
-next_leaves x s at h e work (BecomeShared lver l) n k =
+next_leaves x s at h work Nothing e n k = k
+next_leaves x s at h work (ReadFor step) e n k = read_leaves x s at h work step n k
+next_leaves x s at h work (WriteBlock step b) e n k = block_leaves x s at h work step b n k
+next_leaves x s at h work (WriteLeader step l) e n k = area_calls_leave x s at (Lease work step) _ _ (lease_works x s at h work step _ _ (leader_inside x s at h) refl n.0) k
+next_leaves x s at h work (AnswerJob r) e n k = with_some_keeps LeasesStand (work_job work) (λ j. add_reply j r) x (λ j is f. replies_leave x j r (inl n) f) k
+next_leaves x s at h work (GrantJob mode lver) e n k = granted IsLate LeasesStand by_late x s work mode lver k
+next_leaves x s at h work (BecomeShared lver l) e n k =
     let may : MayWork x s at (Lease Settling FreeLeader) (leader_offset at.base) (WriteRecord (LeaderIs l)) =
     lease_works x s at h Settling FreeLeader (leader_offset at.base) (WriteRecord (LeaderIs l)) (leader_inside x s at h) refl
     (λ c op. record {
       leader = l;
       wrote = op;
       free = n.2;
-      won = subst (λ m. Contains (ended_ballots x.setting.layout (lease_calls x.setting (seen x) s at)) (m, me (seen x) s)) (sym n.3) (e lver n.0).0;
-      concluded = (e lver n.0).1;
+      won = subst (λ m. Contains (ended_ballots x.setting.layout (lease_calls x.setting (seen x) s at)) (m, me (seen x) s)) (sym n.3) (e lver l refl).0;
+      concluded = (e lver l refl).1;
       why = In_settling refl;
     })
     in
     let z = converted IsLate (λ y. LeasesStand y × MayWork y s at (Lease Settling FreeLeader) (leader_offset at.base) (WriteRecord (LeaderIs l)))
         (work_by_late s at (Lease Settling FreeLeader) (leader_offset at.base) (WriteRecord (LeaderIs l))) x s at work Shared lver (k, may) in
     area_calls_leave (for_work work (λ j. with_command j (λ c. convert_for s at j c Shared lver)) x) s at (Lease Settling FreeLeader) (leader_offset at.base) (WriteRecord (LeaderIs l)) z.1 z.0
-next_leaves x s at h e work (BecomeExclusive lver b) n k =
+next_leaves x s at h work (BecomeExclusive lver b) e n k =
     let may : MayWork x s at (Lease Settling ClearMode) (block_offset x.setting.layout at.base s.id) (WriteRecord (BlockIs b)) =
     lease_works x s at h Settling ClearMode (block_offset x.setting.layout at.base s.id) (WriteRecord (BlockIs b)) (own_inside x s at h) refl
     (λ c op. record { own = n.0; known = n.1; wrote = op ∙ ap (λ z. WriteRecord (BlockIs z)) n.2 })

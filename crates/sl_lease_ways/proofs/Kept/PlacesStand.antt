@@ -44,7 +44,7 @@ given_in st n (g ∷ gs) h s there = by (contains_cases (given_session (n, g)) (
   by (inl is) rest = subst (λ (z : Session). IsIn st z.id) is h.0.id
   by (inr there) rest = rest there
 
-either_list : {A : Type 0} (xs ys : List A) (d : A) → Contains (xs ++ ys) d → Contains xs d ⊎ Contains ys d
+pub either_list : {A : Type 0} (xs ys : List A) (d : A) → Contains (xs ++ ys) d → Contains xs d ⊎ Contains ys d
 either_list [] ys d there = inr there
 either_list {A} (x ∷ xs) ys d there = by (contains_cases x (xs ++ ys) d there) (λ rest. either_list xs ys d rest) where
   deeper : Contains xs d ⊎ Contains ys d → Contains (x ∷ xs) d ⊎ Contains ys d
