@@ -9,3 +9,4 @@ pub mod InputsLeave
 pub mod LeaseNextsLeave
 pub mod DecisionsAreClear
 pub mod JoinsLeave
+pub mod HeardStands

@@ -156,7 +156,7 @@ first_inside x s at h =
     let id = id_in_range x.setting h.setting (seen x) s (there_has x.setting (seen x) s.number s h.has) in
     place_is_on x.setting h.setting at.base (block 1) (omega arith, one_host s.id x.setting.layout.hosts id.0 id.1)
 
-abbrev moment_of : Step → Session → Spot → Work → Moment
+abbrev pub moment_of : Step → Session → Spot → Work → Moment
 moment_of x s at work = record { setting = x.setting; trace = seen x; session = s; at = at; work = work; now = length x.past }
 
 read_leaves : (x : Step) (s : Session) (at : Spot) → LeaseReady x s at → (work : Work) (step : LeaseStep) → NextIs (moment_of x s at work) (ReadFor step) → LeasesStand x → LeasesStand (read_for s at work step x)
