@@ -10,3 +10,4 @@ pub mod LeaseNextsLeave
 pub mod DecisionsAreClear
 pub mod JoinsLeave
 pub mod HeardStands
+pub mod LinesReady
