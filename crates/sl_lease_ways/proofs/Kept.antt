@@ -11,3 +11,5 @@ pub mod DecisionsAreClear
 pub mod JoinsLeave
 pub mod HeardStands
 pub mod LinesReady
+pub mod UnjoinedHaveNone
+pub mod LinesKeep
