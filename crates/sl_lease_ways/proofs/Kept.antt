@@ -13,3 +13,4 @@ pub mod HeardStands
 pub mod LinesReady
 pub mod UnjoinedHaveNone
 pub mod LinesKeep
+pub mod ActsKeep

@@ -158,7 +158,7 @@ reads_none step = refl
 
 -- ---- calls that are no lease's
 
-area_works : (y : Step) (s : Session) (at : Spot) → LeaseReady y s at → (p : Purpose) → is_area_work p ≡ true → is_some (lease_step p) ≡ false → (o : ℕ) (op : Op) → in_area y.setting.layout at.base o ≡ true
+pub area_works : (y : Step) (s : Session) (at : Spot) → LeaseReady y s at → (p : Purpose) → is_area_work p ≡ true → is_some (lease_step p) ≡ false → (o : ℕ) (op : Op) → in_area y.setting.layout at.base o ≡ true
     → option_and_then delta_of_record (record_of op) ≡ None → MayWork y s at p o op
 area_works y s at h p works none o op inside plain =
     record {
@@ -213,10 +213,10 @@ release_leaves z s at j g ready aimed ended k [] =
 -- ---- all decisions
 
 -- Before an answer any reply leaves ways and turns.
-abbrev Anything : Reply → Type 0
+abbrev pub Anything : Reply → Type 0
 Anything r = Unit {0}
 
-by_any : ByPlain Anything (λ x. LeasesStand x × HeardNoJob x)
+pub by_any : ByPlain Anything (λ x. LeasesStand x × HeardNoJob x)
 by_any =
     record {
       ends = λ x e h. (ends_leave x e h.0, h.1);
@@ -228,7 +228,7 @@ by_any =
       late = λ r late. tt;
     }
 
-line_none : (x : Step) (text : List ℕ) → HeardNoJob (with_input (Line text) x)
+pub line_none : (x : Step) (text : List ℕ) → HeardNoJob (with_input (Line text) x)
 line_none x text n a m told there number = absurd (true_is_false (sym (ap (λ i. answers i) told)))
 
 carried : (x : Step) (text : List ℕ) (c : Command) (d : Decision) → x.input ≡ Wake → x.effects.calls ≡ [] → x.setting.read text ≡ Ok c → DecidedOn x.setting (seen x) c d → IsDecidedFor x.setting (seen x) c d
