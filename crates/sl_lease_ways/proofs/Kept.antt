@@ -14,3 +14,4 @@ pub mod LinesReady
 pub mod UnjoinedHaveNone
 pub mod LinesKeep
 pub mod ActsKeep
+pub mod StepsBegin

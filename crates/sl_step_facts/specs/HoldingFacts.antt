@@ -8,7 +8,7 @@ use Rattle.sl_sector.specs.declared.sector.Owner.{Owner}
 use Rattle.sl_sessions.specs.Sessions.{is_joined, session_numbered}
 use Rattle.sl_sessions.specs.declared.session.Session.{Session}
 use Rattle.sl_step_facts.specs.Heard.{IsOpen}
-use Rattle.sl_trace.specs.Traces.{Setting, Submitted, Trace, held_by, holdings, is_shared, next_child, same_place, spot_of_grant}
+use Rattle.sl_trace.specs.Traces.{Child, Setting, Submitted, Trace, children, held_by, holdings, is_shared, next_child, same_place, spot_of_grant}
 use Rattle.sl_trace.specs.declared.effects.Grant.{Grant}
 use Rattle.sl_trace.specs.declared.effects.Spot.{Spot}
 use Rattle.std.specs.Prelude.{Bool, Contains, IsTrue, None, Option, Some, false, length, true, ℕ, ◌<◌, ◌||◌, ◌≡◌, ◌≤◌}
@@ -39,7 +39,8 @@ pub record HoldingFacts (st : Setting) (t : Trace) (heard : Option ℕ) : Type 0
       is_shared g.mode ≡ false → h ≡ g
   -- a process has one of a place
   pub single : (g : Grant) → Contains (holdings t) g → length (held_by (holdings t) g.process g.path g.offset) ≡ 1
-  -- so the next child holds nothing
+  -- no process that holds, and no child, has a number that is still to be given
   pub born : (g : Grant) → Contains (holdings t) g → g.process < next_child t
+  pub given : (k : Child) → Contains (children t) k → k.process < next_child t
   pub stands : (g : Grant) (s : Session) → Contains (holdings t) g → session_numbered st t g.session ≡ Some s → is_shared g.mode ≡ false →
       StandsExclusive st t heard s (spot_of_grant g) g.lver

@@ -1,13 +1,13 @@
 -- What may be held on an area while a job works on a lease there. From its line on no other command has come in between, for its call
 -- is open.
 use Rattle.sl_law.specs.LawfulModes.{shared_since}
-use Rattle.sl_leases.specs.Jobs.{aim_of_command, child_of_job, command_numbered, process_named}
+use Rattle.sl_leases.specs.Jobs.{aim_of_command, command_numbered, process_named}
 use Rattle.sl_leases.specs.Leases.{spot_of_call}
 use Rattle.sl_leases.specs.declared.lease.Aim.TheVariants.{Acquires, Converts, Releases, Settles}
 use Rattle.sl_leases.specs.declared.lease.Aim.{Aim}
 use Rattle.sl_sessions.specs.Sessions.{session_numbered}
 use Rattle.sl_sessions.specs.declared.session.Session.{Session}
-use Rattle.sl_step_facts.specs.Heard.{IsOpen}
+use Rattle.sl_step_facts.specs.Heard.{newest_calls}
 use Rattle.sl_trace.specs.Traces.{Setting, Submitted, Trace, holdings, is_running, is_shared, next_child, same_place, submitted}
 use Rattle.sl_trace.specs.declared.command.Command.{Command}
 use Rattle.sl_trace.specs.declared.effects.Grant.{Grant}
@@ -18,15 +18,24 @@ use Rattle.sl_trace.specs.declared.effects.Mode.{Mode}
 use Rattle.sl_trace.specs.declared.effects.Purpose.TheVariants.{Lease}
 use Rattle.sl_trace.specs.declared.effects.Work.TheVariants.{ForJob}
 use Rattle.sl_words.specs.Words.{same_truth}
-use Rattle.std.specs.Prelude.{Contains, IsTrue, None, Option, Some, false, true, ℕ, ◌<◌, ◌≡◌}
+use Rattle.std.specs.Prelude.{Contains, IsTrue, List, None, Option, Some, [], false, true, ℕ, ◌<◌, ◌∷◌, ◌≡◌, ◌⊎◌}
 
--- The call is open, of a job that runs and waits for no child.
+-- The grants of the newest entry.
+abbrev pub newest_grants : Trace → List Grant
+newest_grants [] = []
+newest_grants (e ∷ es) = e.effects.grants
+
+-- A call without an answer; or that whose answer was heard, until a call or a grant is made after it. (What a program's start waits for
+-- is its child.)
+abbrev pub IsWaiting : Trace → Option ℕ → Submitted → Type 0
+IsWaiting t heard m = (m.answer ≡ None) ⊎ ((heard ≡ Some m.call.number) × (newest_calls t ≡ []) × (newest_grants t ≡ []))
+
+-- The call waits, of a job that runs.
 pub record IsAtWork (st : Setting) (t : Trace) (heard : Option ℕ) (m : Submitted) (j : ℕ) (step : LeaseStep) (c : Command) : Type 0 where
   pub there : Contains (submitted t) m
-  pub opens : IsOpen t heard m
+  pub opens : IsWaiting t heard m
   pub purpose : m.call.purpose ≡ Lease (ForJob j) step
   pub runs : is_running t j ≡ true
-  pub childless : child_of_job t j ≡ None
   pub command : command_numbered st t j ≡ Some c
 
 -- What may be held there beside it, by what it aims at: an acquire of either mode stands alone but for shared holdings of other sessions;

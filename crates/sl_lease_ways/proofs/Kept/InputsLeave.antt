@@ -201,7 +201,7 @@ counts_second : (p q : Bool) → q ≡ true → counts_with p q ≡ true
 counts_second true q is = refl
 counts_second false q is = is
 
-counted_then : (st : Setting) (e : Entry) (past : Trace) (s : Session) (a b : ℕ) → counted_over st past s a b ≡ true → counted_over st (e ∷ past) s a b ≡ true
+pub counted_then : (st : Setting) (e : Entry) (past : Trace) (s : Session) (a b : ℕ) → counted_over st past s a b ≡ true → counted_over st (e ∷ past) s a b ≡ true
 counted_then st e past s a b is = counts_second (counts_over st (e ∷ past) s a b) (counted_over st past s a b) is
 
 told_counts : (x : Step) (n : ℕ) (answer : Answer) → x.input ≡ Wake → x.effects.calls ≡ [] → (s : Session) (a b : ℕ)
