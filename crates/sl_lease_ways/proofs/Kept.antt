@@ -15,3 +15,5 @@ pub mod UnjoinedHaveNone
 pub mod LinesKeep
 pub mod ActsKeep
 pub mod StepsBegin
+pub mod LessIsKept
+pub mod FactsAreKept

@@ -1,2 +1,4 @@
 pub mod BallotLaws
 pub mod BallotsBegin
+pub mod ClearReads
+pub mod GrantsFollow

@@ -2,6 +2,7 @@ pub mod NewestCall
 pub mod GreatestFrees
 pub mod InstancesBegin
 pub mod Decoding
+pub mod Places
 pub mod WayStages
 pub mod WayNumbers
 pub mod Lawful

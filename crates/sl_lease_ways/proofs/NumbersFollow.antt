@@ -1,17 +1,17 @@
 -- The numbers of leases follow from the ways of their calls.
 use Rattle.sl_lease_ways.proofs.Lawful.BallotLaws.{own_is}
 use Rattle.sl_lease_ways.proofs.WayNumbers.{IsOpened, freed_below, is_opened, lver_of, own_lver}
-use Rattle.sl_leases.specs.Leases.{block_submitted, freed, lease_calls, open_ballot, own_block}
+use Rattle.sl_lease_ways.specs.Promises.{NumbersFollow}
+use Rattle.sl_leases.specs.Leases.{block_submitted, freed, lease_calls, own_block}
 use Rattle.sl_sector.specs.declared.sector.Block.{Block}
 use Rattle.sl_sessions.specs.declared.session.Session.{Session}
-use Rattle.sl_step_facts.specs.LeaseFacts.{NumberFacts}
-use Rattle.sl_step_facts.specs.WayFacts.{WayContext, WayFacts, Ways, way_context}
+use Rattle.sl_step_facts.specs.WayFacts.{Ways, way_context}
 use Rattle.sl_trace.specs.Traces.{Setting, Submitted, Trace}
 use Rattle.sl_trace.specs.declared.effects.Spot.{Spot}
 use Rattle.sl_words.proofs.CaseLaws.{some_value}
 use Rattle.std.proofs.Common.{ap, arith, refl, sym, ◌∙◌}
 use Rattle.std.specs.Option.{option_map_or}
-use Rattle.std.specs.Prelude.{List, None, Option, Some, ℕ, ◌<◌, ◌≡◌, ◌≤◌}
+use Rattle.std.specs.Prelude.{List, None, Option, Some, ◌≡◌, ◌≤◌}
 
 freed_by_own : (st : Setting) (t : Trace) (s : Session) (at : Spot) → Ways (way_context st t s) (lease_calls st t s at) → (b : Block)
     → own_block st.layout s.id (lease_calls st t s at) ≡ Some b → freed (lease_calls st t s at) ≤ b.lver
@@ -27,7 +27,7 @@ freed_by_own st t s at ws b known = by (block_submitted ms) refl where
       let le : freed ms ≤ own_lver ms = freed_below (way_context st t s) ms ws in
       let same : own_lver ms ≡ b.lver = lver_of ms x is ∙ ap (λ (z : Block). z.lver) (some_value x b (sym (own_is st t s at x is) ∙ known)) in omega (arith, le, same)
 
-pub numbers_follow : (st : Setting) (t : Trace) → WayFacts st t → NumberFacts st t
+pub numbers_follow : NumbersFollow
 numbers_follow st t h =
     record {
       frees = λ s at b there aligned known. freed_by_own st t s at (h.each s at there aligned) b known;

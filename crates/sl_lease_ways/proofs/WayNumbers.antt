@@ -2,17 +2,16 @@
 -- ballot is in its instance, above each free.
 use Rattle.sl_area.specs.Layouts.{Layout}
 use Rattle.sl_lease_ways.proofs.NewestCall.{block_is, block_is_no_leader, freed_held, freed_passed, leader_is, leader_is_no_block, read_writes_no_block, read_writes_no_leader, submitted_here, submitted_passed}
-use Rattle.sl_lease_ways.proofs.WayStages.{begun1, begun1_own, clear_freed, clear_own, is_at_in, prior_at, proposed, proposed_lver, read1, rest1, way_behind, ways_behind}
-use Rattle.sl_leases.specs.Leases.{Phase1_read, Phase2_read, Phase2_write, block_submitted, block_written, blocks_given, concludes, ended_ballot, ended_ballots, freed, freed_by, is_at, is_phase_read, leader_written, open_ballot, stop_in, value_in_end}
+use Rattle.sl_lease_ways.proofs.WayStages.{clear_freed, clear_own, is_at_in, proposed, proposed_lver}
+use Rattle.sl_leases.specs.Leases.{Phase1_read, Phase2_read, Phase2_write, block_submitted, block_written, blocks_given, concludes, ended_ballot, ended_ballots, freed, is_at, is_phase_read, leader_written, open_ballot, stop_in, value_in_end}
 use Rattle.sl_leases.specs.Ballots.{is_ahead, stop_of, value_of}
 use Rattle.sl_leases.specs.declared.lease.Stop.{Stop}
 use Rattle.sl_sector.specs.declared.sector.Block.{Block}
 use Rattle.sl_sector.specs.declared.sector.Leader.{Leader}
 use Rattle.sl_sector.specs.declared.sector.Owner.{Owner}
 use Rattle.sl_sector.specs.declared.sector.Rec.TheVariants.{BlockIs, LeaderIs}
-use Rattle.sl_step_facts.specs.WayFacts.{CallWay, ClearWay, FreeWay, IsVerified, ModeWay, Phase1ReadWay, Phase1Way, Phase2ReadWay, Phase2Way, PurposeWay, ReadBeforeWay, StepWay, TakeWay, WayContext, Ways}
+use Rattle.sl_step_facts.specs.WayFacts.{CallWay, IsVerified, PurposeWay, StepWay, WayContext, Ways}
 use Rattle.sl_trace.specs.Traces.{Submitted, is_heeded}
-use Rattle.sl_trace.specs.declared.effects.Call.{Call}
 use Rattle.sl_trace.specs.declared.effects.LeaseStep.TheVariants.{ClearMode, FreeLeader, Phase1Read, Phase1Write, Phase2Read, Phase2Write, ReadArea, ReadBeforeFree, SetMode, TakeLeader}
 use Rattle.sl_trace.specs.declared.effects.LeaseStep.{LeaseStep}
 use Rattle.sl_trace.specs.declared.effects.Op.TheVariants.{ReadSectors, WriteRecord}
@@ -23,9 +22,9 @@ use Rattle.sl_plain.proofs.Lists.{contains_cases, contains_more, contains_none}
 use Rattle.sl_words.proofs.CaseLaws.{none_some, some_value, true_is_false}
 use Rattle.sl_words.proofs.WordLaws.{choose_some}
 use Rattle.sl_words.specs.Words.{choose}
-use Rattle.std.proofs.Common.{ap, arith, eqb-true, inl, inr, refl, subst, sym, tests, ◌∙◌}
+use Rattle.std.proofs.Common.{ap, arith, eqb-true, inl, inr, refl, subst, sym, ◌∙◌}
 use Rattle.std.specs.Option.{option_map_or}
-use Rattle.std.specs.Prelude.{Bool, Contains, List, None, Option, Some, [], false, if◌then◌else◌, is_some, max, option_and_then, option_map, true, ℕ, ◌&&◌, ◌+◌, ◌<◌, ◌==◌, ◌∷◌, ◌≡◌, ◌≤◌, ◌||◌, ◌⊎◌}
+use Rattle.std.specs.Prelude.{Bool, Contains, List, None, Option, Some, [], false, if◌then◌else◌, max, option_and_then, option_map, true, ℕ, ◌&&◌, ◌+◌, ◌<◌, ◌==◌, ◌∷◌, ◌≡◌, ◌≤◌, ◌||◌, ◌⊎◌}
 
 -- The instance of the own block; 0 where none was submitted.
 abbrev pub own_lver : List Submitted → ℕ
@@ -307,6 +306,6 @@ ended_concludes g m ms n o none heeded ended =
     ap (λ z. elim z as (λ x. Option ℕ) [ Some b ↦ elim (is_at Phase2_write m) as (λ x. Option ℕ) [ true ↦ Some b.lver | false ↦ option_and_then (λ k. choose (b.lver == k) k) (open_ballot g ms) ] | None ↦ elim (concludes g m ms) as (λ x. Option ℕ) [ true ↦ None | false ↦ open_ballot g ms ] ]) none
     ∙ ap (λ b. elim b as (λ x. Option ℕ) [ true ↦ None | false ↦ open_ballot g ms ]) done
   where
-  either : (a b : Bool) → b ≡ true → (a || b) ≡ true
-  either true b is = refl
-  either false b is = is
+    either : (a b : Bool) → b ≡ true → (a || b) ≡ true
+    either true b is = refl
+    either false b is = is

@@ -1,18 +1,14 @@
 -- What stands behind each step of a ballot, by the ways of the calls before it.
-use Rattle.sl_lease_ways.proofs.NewestCall.{block_is, block_is_no_leader, ended_before, ended_here, freed_held, freed_passed, last_here, last_passed, last_write_of, leader_is, leader_is_no_block, lver_is, read_writes_no_block, read_writes_no_leader, submitted_here, submitted_passed}
-use Rattle.sl_leases.specs.Ballots.{ballot_blocks, moded_block, phase2_block, stop_of}
-use Rattle.sl_leases.specs.Leases.{Leader_freed, Leader_taken, Mode_cleared, Mode_set, Phase1_read, Phase1_write, Phase2_read, Phase2_write, block_submitted, block_written, ended_ballot, ended_ballots, freed, is_at, kind_of_step, lease_step, lver_written, same_kind}
+use Rattle.sl_lease_ways.proofs.NewestCall.{block_is, block_is_no_leader, freed_passed, last_here, last_passed, last_write_of, read_writes_no_block, read_writes_no_leader, submitted_here, submitted_passed}
+use Rattle.sl_leases.specs.Ballots.{ballot_blocks, moded_block, phase2_block}
+use Rattle.sl_leases.specs.Leases.{block_submitted, freed, is_at, kind_of_step, lease_step, same_kind}
 use Rattle.sl_leases.specs.Leases.{StepKind}
 use Rattle.sl_sector.specs.declared.sector.Block.{Block}
-use Rattle.sl_sector.specs.declared.sector.Leader.{Leader}
-use Rattle.sl_sector.specs.declared.sector.Owner.{Owner}
-use Rattle.sl_sector.specs.declared.sector.Rec.TheVariants.{BlockIs, LeaderIs}
-use Rattle.sl_step_facts.specs.WayFacts.{CallWay, Comes, Phase1ReadWay, Phase1Way, Phase2ReadWay, Phase2Way, PurposeWay, StepWay, TakeWay, WayContext, Ways}
+use Rattle.sl_step_facts.specs.WayFacts.{CallWay, Comes, Phase1ReadWay, Phase1Way, Phase2ReadWay, Phase2Way, PurposeWay, StepWay, WayContext, Ways}
 use Rattle.sl_trace.specs.Traces.{Submitted}
 use Rattle.sl_trace.specs.declared.effects.Call.{Call}
-use Rattle.sl_trace.specs.declared.effects.LeaseStep.TheVariants.{Phase1Read, Phase1Write, Phase2Read, Phase2Write, TakeLeader}
+use Rattle.sl_trace.specs.declared.effects.LeaseStep.TheVariants.{Phase1Read, Phase1Write, Phase2Write}
 use Rattle.sl_trace.specs.declared.effects.LeaseStep.{LeaseStep}
-use Rattle.sl_trace.specs.declared.effects.Op.TheVariants.{ReadSectors, WriteRecord}
 use Rattle.sl_trace.specs.declared.effects.Purpose.TheVariants.{Lease}
 use Rattle.sl_trace.specs.declared.effects.Purpose.{Purpose}
 use Rattle.sl_trace.specs.declared.effects.Work.{Work}
@@ -20,7 +16,7 @@ use Rattle.sl_plain.proofs.Lists.{contains_first, contains_more}
 use Rattle.sl_words.proofs.CaseLaws.{one_value}
 use Rattle.sl_words.specs.Words.{some_is}
 use Rattle.std.proofs.Common.{ap, arith, refl, subst, sym, ◌∙◌}
-use Rattle.std.specs.Prelude.{Bool, Contains, List, None, Option, Some, find, if◌then◌else◌, is_some, true, ℕ, ◌<◌, ◌∷◌, ◌≡◌}
+use Rattle.std.specs.Prelude.{Bool, Contains, List, Some, true, ℕ, ◌<◌, ◌≡◌}
 
 -- ---- the ways of calls before
 

@@ -15,7 +15,7 @@ use Rattle.sl_sessions.specs.declared.session.Session.{Session}
 use Rattle.sl_step_facts.specs.WayFacts.{IsVerified, StepWay, WayContext, Ways, way_context}
 use Rattle.sl_trace.specs.Traces.{Answered, Setting, Submitted, Trace, is_before_input}
 use Rattle.sl_trace.specs.declared.effects.Call.{Call}
-use Rattle.sl_trace.specs.declared.effects.LeaseStep.TheVariants.{ClearMode, Phase1Write, Phase2Write, ReadArea, ReadBeforeFree, SetMode}
+use Rattle.sl_trace.specs.declared.effects.LeaseStep.TheVariants.{ClearMode, Phase1Write, ReadArea, ReadBeforeFree, SetMode}
 use Rattle.sl_trace.specs.declared.effects.LeaseStep.{LeaseStep}
 use Rattle.sl_trace.specs.declared.effects.Op.TheVariants.{ReadSectors, WriteRecord}
 use Rattle.sl_trace.specs.declared.effects.Op.{Op}

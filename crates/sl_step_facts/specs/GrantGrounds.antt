@@ -1,6 +1,5 @@
 -- What grants ask of a lease's calls: when the answer to the last call of an acquire or a conversion has been heard, and what it makes due
 -- is still to come, this stands behind it.
-use Rattle.sl_law.specs.LawfulGrant.{HasTaken}
 use Rattle.sl_law.specs.LawfulModes.{AllShared, IsDone}
 use Rattle.sl_leases.specs.Jobs.{aim_of_command}
 use Rattle.sl_leases.specs.Leases.{block_written, ended_ballot, is_free_write, lease_calls, lver_written, spot_of_call}
@@ -20,8 +19,7 @@ use Rattle.sl_trace.specs.declared.effects.Mode.{Mode}
 use Rattle.sl_trace.specs.declared.effects.Purpose.TheVariants.{Lease}
 use Rattle.sl_trace.specs.declared.effects.Spot.{Spot}
 use Rattle.sl_trace.specs.declared.effects.Work.TheVariants.{ForJob}
-use Rattle.sl_trace.specs.declared.input.Answer.TheVariants.{Written}
-use Rattle.std.specs.Prelude.{Contains, IsTrue, List, Option, Some, [], true, ℕ, ◌++◌, ◌∷◌, ◌≡◌, ◌≤◌, ◌⊎◌}
+use Rattle.std.specs.Prelude.{Contains, IsTrue, List, Option, Some, [], true, ℕ, ◌++◌, ◌∷◌, ◌≡◌, ◌≤◌}
 
 -- The write of a lease's job whose answer was heard, done; no call was made since.
 pub record IsDoneWork (st : Setting) (t : Trace) (heard : Option ℕ) (s : Session) (m : Submitted) (j : ℕ) (step : LeaseStep) (c : Command) : Type 0 where

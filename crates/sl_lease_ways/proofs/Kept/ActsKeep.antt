@@ -1,5 +1,4 @@
 -- Ways and turns are kept by each act, and stand once a step has begun.
-use Rattle.sl_acts.proofs.LoopsKeep.{for_each_keeps, when_keeps}
 use Rattle.sl_acts.specs.Acts.{Acts, Has, Hears, lone_job}
 use Rattle.sl_acts.specs.SoFar.{entry_of}
 use Rattle.sl_area.specs.Layouts.{Layout, record_in}
@@ -7,31 +6,29 @@ use Rattle.sl_area.specs.Places.{leader_of, read_at}
 use Rattle.sl_request.specs.Requests.{check_request}
 use Rattle.sl_area.specs.Roles.{request}
 use Rattle.sl_due.specs.DueAnswers.{set_reply}
-use Rattle.sl_due.specs.DueDelta.{begins_by_read}
-use Rattle.sl_due.specs.DueFirst.{begin_recoveries, begin_recovery, begins_now}
 use Rattle.sl_due.specs.DueInputs.{end_holdings, leave_holdings, started_reply}
 use Rattle.sl_due.specs.DueLease.{carry_lease, goes_on, next_of_lease}
 use Rattle.sl_due.specs.DueRequests.{after_request_read, after_value_read, owner_read, request_refusal, value_reply, write_request}
-use Rattle.sl_due.specs.Steps.{Step, add_reply, begin_step, seen, with_input}
+use Rattle.sl_due.specs.Steps.{Step, add_reply, seen, with_input}
 use Rattle.sl_law.specs.LawfulArea.{is_area_work}
 use Rattle.sl_leases.specs.Jobs.{aim_of, command_numbered, job_of_start, resource_named}
 use Rattle.sl_leases.specs.LeaseWork.{lease_place, settle_next}
 use Rattle.sl_leases.specs.Leases.{is_leader_of, known, open_on, spot_of, spot_of_call, value_written}
-use Rattle.sl_lease_ways.proofs.Kept.AreaCallsLeave.{MayWork, area_calls_leave}
+use Rattle.sl_lease_ways.proofs.Kept.AreaCallsLeave.{area_calls_leave}
 use Rattle.sl_lease_ways.proofs.Kept.CallsSame.{HeardNoJob}
 use Rattle.sl_lease_ways.proofs.Kept.DeltasFit.{free_fits, freed_fits, joining_fits, renewal_fits, renewed_fits, wake_fits}
-use Rattle.sl_lease_ways.proofs.Kept.EffectsLeave.{has_there, made_call, other_calls_leave, replies_leave, signals_leave, there_has}
-use Rattle.sl_lease_ways.proofs.Kept.HeardStands.{HeardCall, exclusive_stands, heard_call, heard_calls, heard_has, heard_number, lease_heard, lease_ready}
+use Rattle.sl_lease_ways.proofs.Kept.EffectsLeave.{other_calls_leave, replies_leave, signals_leave, there_has}
+use Rattle.sl_lease_ways.proofs.Kept.HeardStands.{HeardCall, exclusive_stands, heard_call, heard_calls, heard_has, lease_heard, lease_ready}
 use Rattle.sl_lease_ways.proofs.Kept.InputsLeave.{answers, answers_leave, quiet_inputs_leave, same_call}
 use Rattle.sl_lease_ways.proofs.Kept.LeaseNextsLeave.{HasEnded, IsLate, LeaseReady, by_late, moment_of, next_leaves}
 use Rattle.sl_lease_ways.proofs.Kept.LinesKeep.{Anything, area_works, by_any, line_none, lines_keep}
-use Rattle.sl_lease_ways.proofs.Kept.LinesReady.{base_aligned, named_base, none_open}
+use Rattle.sl_lease_ways.proofs.Kept.LinesReady.{none_open}
 use Rattle.sl_lease_ways.proofs.Kept.PlacesStand.{place_is_on}
 use Rattle.sl_lease_ways.proofs.Kept.PlainWalks.{ByCalls, delta, ended, exited, left, reads_keep, refusal, removal, removal_of_refused, said, sent, signalled, stopped}
 use Rattle.sl_lease_ways.proofs.Kept.UnjoinedHaveNone.{its_joining, joins_still}
 use Rattle.sl_lease_ways.proofs.NextsFit.AnswersFit.{answers_fit, settlings_fit}
 use Rattle.sl_lease_ways.specs.Kept.{LeasesStand}
-use Rattle.sl_lease_ways.specs.Nexts.{IsHeard, NextIs}
+use Rattle.sl_lease_ways.specs.Nexts.{NextIs}
 use Rattle.sl_leases.specs.declared.lease.Aim.{Aim}
 use Rattle.sl_leases.specs.declared.lease.LeaseNext.TheVariants.{BecomeShared}
 use Rattle.sl_leases.specs.declared.lease.LeaseNext.{LeaseNext}
@@ -39,19 +36,18 @@ use Rattle.sl_sector.specs.Spelling.{request_in, value_in}
 use Rattle.sl_sector.specs.declared.sector.Leader.{Leader}
 use Rattle.sl_sector.specs.declared.sector.Request.{Request as RequestRec}
 use Rattle.sl_sector.specs.declared.sector.ValueRec.{ValueRec}
-use Rattle.sl_sessions.specs.Deltas.{delta_known, delta_of_session}
-use Rattle.sl_sessions.specs.Sessions.{calls_of, generation_of, present_sessions, recovery_of}
+use Rattle.sl_sessions.specs.Deltas.{delta_of_session}
+use Rattle.sl_sessions.specs.Sessions.{calls_of, generation_of, recovery_of}
 use Rattle.sl_sessions.specs.declared.session.Session.{Session}
-use Rattle.sl_step_facts.specs.Heard.{IsOpen, heard_by}
-use Rattle.sl_step_facts.specs.JobFacts.{FitsCommand, IsOfResource}
-use Rattle.sl_step_facts.specs.Whole.{Whole, WholeTrace}
-use Rattle.sl_trace.specs.Traces.{FollowsTrace, Setting, Submitted, Trace, answered_in, call_numbered, is_before_input, job_of, next_job, submitted}
+use Rattle.sl_step_facts.specs.Heard.{heard_by}
+use Rattle.sl_step_facts.specs.JobFacts.{FitsCommand}
+use Rattle.sl_step_facts.specs.Whole.{Whole}
+use Rattle.sl_trace.specs.Traces.{Submitted, answered_in, call_numbered, is_before_input, job_of, next_job, submitted}
 use Rattle.sl_trace.specs.declared.command.Command.TheVariants.{Request}
 use Rattle.sl_trace.specs.declared.command.Command.{Command}
 use Rattle.sl_trace.specs.declared.command.ResourceArg.{ResourceArg}
-use Rattle.sl_trace.specs.declared.effects.Entry.{Entry}
 use Rattle.sl_trace.specs.declared.effects.LeaseStep.{LeaseStep}
-use Rattle.sl_trace.specs.declared.effects.Purpose.TheVariants.{Joining, Lease, Leaving, Renewal, RequestRead, RequestWrite, SeeRequest, Survey, ValueRead, ValueWrite}
+use Rattle.sl_trace.specs.declared.effects.Purpose.TheVariants.{Lease, RequestRead, RequestWrite, SeeRequest, Survey}
 use Rattle.sl_trace.specs.declared.effects.Purpose.{Purpose}
 use Rattle.sl_trace.specs.declared.effects.Signal.TheVariants.{Kill, Term}
 use Rattle.sl_trace.specs.declared.effects.Spot.{Spot}
@@ -59,12 +55,10 @@ use Rattle.sl_trace.specs.declared.effects.Work.TheVariants.{Settling}
 use Rattle.sl_trace.specs.declared.effects.Work.{Work}
 use Rattle.sl_trace.specs.declared.input.Answer.TheVariants.{Read}
 use Rattle.sl_trace.specs.declared.input.Answer.{Answer}
-use Rattle.sl_trace.specs.declared.input.Input.TheVariants.{Answer as Told, Exit, Line, Number, Spawned, Wake}
-use Rattle.sl_trace.specs.declared.input.Input.{Input}
+use Rattle.sl_trace.specs.declared.input.Input.TheVariants.{Exit, Line, Number, Spawned, Wake}
 use Rattle.sl_trace.specs.declared.reply.Reply.TheVariants.{BadCommand as Misread, Done, IoFault, IoTimeout, RequestOld, SpawnFault, TornLeader, Value, ValueSet, ValueTorn, WrongArea}
 use Rattle.sl_trace.specs.declared.reply.Reply.{Reply}
 use Rattle.sl_plain.proofs.Lists.{contains_map}
-use Rattle.sl_plain.proofs.Options.{some_of}
 use Rattle.sl_words.proofs.CaseLaws.{one_value, some_value, true_is_false}
 use Rattle.sl_words.proofs.WordLaws.{choose_some}
 use Rattle.sl_words.specs.Words.{choose}

@@ -5,11 +5,10 @@ use Rattle.sl_due.specs.Steps.{Step, add_call_of, seen}
 use Rattle.sl_law.specs.LawfulArea.{is_area_work}
 use Rattle.sl_lease_ways.proofs.Kept.EffectsLeave.{further_grows, made_call, not_empty, one_session, other_grows, still_open}
 use Rattle.sl_lease_ways.proofs.Kept.PlacesStand.{spot_is}
-use Rattle.sl_lease_ways.proofs.Kept.WaysGrow.{Grows, ways_grow}
-use Rattle.sl_lease_ways.specs.Kept.{HasTurnFacts, HasWayFacts, LeasesStand}
+use Rattle.sl_lease_ways.proofs.Kept.WaysGrow.{ways_grow}
+use Rattle.sl_lease_ways.specs.Kept.{LeasesStand}
 use Rattle.sl_leases.specs.Leases.{is_lease_call, is_on, lease_calls, lease_step, spot_of_call}
 use Rattle.sl_parts_law.proofs.CallsGrow.{mine_more, others_stay, same_sessions}
-use Rattle.sl_sector.specs.declared.sector.DeltaRec.{DeltaRec}
 use Rattle.sl_sessions.specs.Sessions.{calls_of, delta_of_record, is_call_of, is_join_call, session_numbered, sessions}
 use Rattle.sl_sessions.specs.declared.session.Session.{Session}
 use Rattle.sl_step_facts.specs.Heard.{IsOpen, heard_by}
@@ -28,7 +27,7 @@ use Rattle.sl_trace_law.proofs.Leases.SpotLaws.{areas_are_apart}
 use Rattle.sl_words.proofs.CaseLaws.{false_is_true, none_some, one_value, true_is_false, true_or_false}
 use Rattle.sl_words.proofs.WordLaws.{and_true}
 use Rattle.std.proofs.Common.{ap, eqb-true, inl, inr, refl, subst, sym, ◌∙◌}
-use Rattle.std.specs.Prelude.{Bool, Contains, IsTrue, List, None, Option, Some, [], cond, false, filter, is_some, length, option_and_then, slice_get, true, ℕ, ◌&&◌, ◌<◌, ◌==◌, ◌∷◌, ◌≡◌, ◌⊎◌}
+use Rattle.std.specs.Prelude.{Bool, Contains, IsTrue, List, None, Option, Some, cond, false, filter, is_some, length, option_and_then, slice_get, true, ℕ, ◌&&◌, ◌<◌, ◌==◌, ◌∷◌, ◌≡◌, ◌⊎◌}
 
 -- What such a call must have.
 pub record MayWork (x : Step) (s : Session) (at : Spot) (p : Purpose) (o : ℕ) (op : Op) : Type 0 where
@@ -94,13 +93,13 @@ call_way x s at p o op h lease =
       above = λ d there. h.below d (lease_one x.setting (seen x) s at d there).0;
     }
   where
-  none_is : (o : Option Answered) → is_some o ≡ false → o ≡ None
-  none_is None is = refl
-  none_is (Some a) is = absurd (true_is_false is)
+    none_is : (o : Option Answered) → is_some o ≡ false → o ≡ None
+    none_is None is = refl
+    none_is (Some a) is = absurd (true_is_false is)
 
-  by : (d : Submitted) → Contains (submitted (seen x)) d × (is_lease_call d ≡ true) × (is_on x.setting.layout at d.call ≡ true) → (is_some d.answer ≡ true) ⊎ (is_some d.answer ≡ false) → is_some d.answer ≡ true
-  by d its (inl is) = is
-  by d its (inr is) = absurd (h.clear d its.0 (none_is d.answer is) (lease_is_work d.call.purpose its.1) (spot_is x.setting.layout at d h.aligned its.2))
+    by : (d : Submitted) → Contains (submitted (seen x)) d × (is_lease_call d ≡ true) × (is_on x.setting.layout at d.call ≡ true) → (is_some d.answer ≡ true) ⊎ (is_some d.answer ≡ false) → is_some d.answer ≡ true
+    by d its (inl is) = is
+    by d its (inr is) = absurd (h.clear d its.0 (none_is d.answer is) (lease_is_work d.call.purpose its.1) (spot_is x.setting.layout at d h.aligned its.2))
 
 -- Of another lease, or another session's, the calls stay.
 other_lease : (x : Step) (s : Session) (at : Spot) (p : Purpose) (o : ℕ) (op : Op) (z : Session) (a : Spot) → (s.number == z.number) ≡ true → (is_some (lease_step p) && is_on x.setting.layout a (made_call x s.number at.path p o op)) ≡ false
@@ -172,53 +171,55 @@ area_calls_leave x s at p o op h k =
       };
     }
   where
-  same : sessions x.setting (seen (after x s at p o op)) ≡ sessions x.setting (seen x)
-  same = same_sessions x.setting (entry_of x) x.past (made_call x s.number at.path p o op) (work_is_no_join p h.works)
+    same : sessions x.setting (seen (after x s at p o op)) ≡ sessions x.setting (seen x)
+    same = same_sessions x.setting (entry_of x) x.past (made_call x s.number at.path p o op) (work_is_no_join p h.works)
 
-  spot : spot_of_call x.setting.layout (made x s at p o op) ≡ at
-  spot = spot_is x.setting.layout at (made x s at p o op) h.aligned h.on
+    spot : spot_of_call x.setting.layout (made x s at p o op) ≡ at
+    spot = spot_is x.setting.layout at (made x s at p o op) h.aligned h.on
 
-  bars : (m n : Submitted) → made x s at p o op ≡ m → Contains (submitted (seen x)) n → IsOpen (seen (after x s at p o op)) (heard_by x.input) n → IsTrue (is_area_work n.call.purpose)
-      → spot_of_call x.setting.layout m ≡ spot_of_call x.setting.layout n → ⊥
-  bars m n new there opens work spots =
-      h.clear n there (unanswered_is x s at p o op n opens) work (sym spots ∙ (sym (ap (λ (z : Submitted). spot_of_call x.setting.layout z) new) ∙ spot))
+    bars : (m n : Submitted) → made x s at p o op ≡ m → Contains (submitted (seen x)) n → IsOpen (seen (after x s at p o op)) (heard_by x.input) n → IsTrue (is_area_work n.call.purpose)
+        → spot_of_call x.setting.layout m ≡ spot_of_call x.setting.layout n → ⊥
+    bars m n new there opens work spots =
+        h.clear n there (unanswered_is x s at p o op n opens) work (sym spots ∙ (sym (ap (λ (z : Submitted). spot_of_call x.setting.layout z) new) ∙ spot))
 
-  pair : (m n : Submitted) → (made x s at p o op ≡ m) ⊎ Contains (submitted (seen x)) m → (made x s at p o op ≡ n) ⊎ Contains (submitted (seen x)) n
-      → IsOpen (seen (after x s at p o op)) (heard_by x.input) m → IsOpen (seen (after x s at p o op)) (heard_by x.input) n
-      → IsTrue (is_area_work m.call.purpose) → IsTrue (is_area_work n.call.purpose) → spot_of_call x.setting.layout m ≡ spot_of_call x.setting.layout n → m ≡ n
-  pair m n (inl a) (inl b) m_open n_open m_work n_work spots = sym a ∙ b
-  pair m n (inl a) (inr b) m_open n_open m_work n_work spots = absurd (bars m n a b n_open n_work spots)
-  pair m n (inr a) (inl b) m_open n_open m_work n_work spots = absurd (bars n m b a m_open m_work (sym spots))
-  pair m n (inr a) (inr b) m_open n_open m_work n_work spots =
-      k.turns.one m n a b (still_open x s.number at.path p o op (heard_by x.input) m m_open) (still_open x s.number at.path p o op (heard_by x.input) n n_open) m_work n_work spots
+    pair : (m n : Submitted) → (made x s at p o op ≡ m) ⊎ Contains (submitted (seen x)) m → (made x s at p o op ≡ n) ⊎ Contains (submitted (seen x)) n
+        → IsOpen (seen (after x s at p o op)) (heard_by x.input) m → IsOpen (seen (after x s at p o op)) (heard_by x.input) n
+        → IsTrue (is_area_work m.call.purpose) → IsTrue (is_area_work n.call.purpose) → spot_of_call x.setting.layout m ≡ spot_of_call x.setting.layout n → m ≡ n
+    pair m n (inl a) (inl b) m_open n_open m_work n_work spots = sym a ∙ b
+    pair m n (inl a) (inr b) m_open n_open m_work n_work spots = absurd (bars m n a b n_open n_work spots)
+    pair m n (inr a) (inl b) m_open n_open m_work n_work spots = absurd (bars n m b a m_open m_work (sym spots))
+    pair m n (inr a) (inr b) m_open n_open m_work n_work spots =
+        k.turns.one m n a b (still_open x s.number at.path p o op (heard_by x.input) m m_open) (still_open x s.number at.path p o op (heard_by x.input) n n_open) m_work n_work spots
 
-  new_one : (z : Session) → session_numbered x.setting (seen x) s.number ≡ Some z → is_some (lease_step p) ≡ true
-      → (ms : List Submitted) × (lease_calls x.setting (seen (after x s at p o op)) z (spot_of_call x.setting.layout (made x s at p o op)) ≡ made x s at p o op ∷ ms)
-  new_one z its lease =
-      let mine : s ≡ z = one_value s z (session_numbered x.setting (seen x) s.number) h.has its in
-      let number : (s.number == z.number) ≡ true = ap (λ (y : Session). s.number == y.number) (sym mine) ∙ number_itself s.number in
-      let there : (is_some (lease_step p) && is_on x.setting.layout (spot_of_call x.setting.layout (made x s at p o op)) (made_call x s.number at.path p o op)) ≡ true =
-      ap (λ b. b && is_on x.setting.layout (spot_of_call x.setting.layout (made x s at p o op)) (made_call x s.number at.path p o op)) lease
-      ∙ (ap (λ a. is_on x.setting.layout a (made_call x s.number at.path p o op)) spot ∙ h.on)
-      in
-      (lease_calls x.setting (seen x) z (spot_of_call x.setting.layout (made x s at p o op)), own_lease x s at p o op z (spot_of_call x.setting.layout (made x s at p o op)) number there)
+    new_one : (z : Session) → session_numbered x.setting (seen x) s.number ≡ Some z → is_some (lease_step p) ≡ true
+        → (ms : List Submitted) × (lease_calls x.setting (seen (after x s at p o op)) z (spot_of_call x.setting.layout (made x s at p o op)) ≡ made x s at p o op ∷ ms)
+    new_one z its lease =
+        let mine : s ≡ z = one_value s z (session_numbered x.setting (seen x) s.number) h.has its in
+        let number : (s.number == z.number) ≡ true = ap (λ (y : Session). s.number == y.number) (sym mine) ∙ number_itself s.number in
+        let there : (is_some (lease_step p) && is_on x.setting.layout (spot_of_call x.setting.layout (made x s at p o op)) (made_call x s.number at.path p o op)) ≡ true =
+        ap (λ b. b && is_on x.setting.layout (spot_of_call x.setting.layout (made x s at p o op)) (made_call x s.number at.path p o op)) lease
+        ∙ (ap (λ a. is_on x.setting.layout a (made_call x s.number at.path p o op)) spot ∙ h.on)
+        in
+        (lease_calls x.setting (seen x) z (spot_of_call x.setting.layout (made x s at p o op)), own_lease x s at p o op z (spot_of_call x.setting.layout (made x s at p o op)) number there)
 
-  old_list : (z : Session) (m : Submitted) → m.answer ≡ None → Contains (submitted (seen x)) m → IsTrue (is_lease_call m) → (b c : Bool) → (s.number == z.number) ≡ b
-      → (is_some (lease_step p) && is_on x.setting.layout (spot_of_call x.setting.layout m) (made_call x s.number at.path p o op)) ≡ c
-      → lease_calls x.setting (seen (after x s at p o op)) z (spot_of_call x.setting.layout m) ≡ lease_calls x.setting (seen x) z (spot_of_call x.setting.layout m)
-  old_list z m none there lease false c number on = strange_lease x s at p o op z (spot_of_call x.setting.layout m) number
-  old_list z m none there lease true false number on = other_lease x s at p o op z (spot_of_call x.setting.layout m) number on
-  old_list z m none there lease true true number on =
-      let both = and_true (is_some (lease_step p)) (is_on x.setting.layout (spot_of_call x.setting.layout m) (made_call x s.number at.path p o op)) on in
-      absurd (h.clear m there none (lease_is_work m.call.purpose lease) (sym (areas_are_apart x.setting.layout m (made x s at p o op) both.1) ∙ spot))
+    old_list : (z : Session) (m : Submitted) → m.answer ≡ None → Contains (submitted (seen x)) m → IsTrue (is_lease_call m) → (b c : Bool) → (s.number == z.number) ≡ b
+        → (is_some (lease_step p) && is_on x.setting.layout (spot_of_call x.setting.layout m) (made_call x s.number at.path p o op)) ≡ c
+        → lease_calls x.setting (seen (after x s at p o op)) z (spot_of_call x.setting.layout m) ≡ lease_calls x.setting (seen x) z (spot_of_call x.setting.layout m)
+    old_list z m none there lease false c number on = strange_lease x s at p o op z (spot_of_call x.setting.layout m) number
+    old_list z m none there lease true false number on = other_lease x s at p o op z (spot_of_call x.setting.layout m) number on
+    old_list z m none there lease true true number on =
+        let both = and_true (is_some (lease_step p)) (is_on x.setting.layout (spot_of_call x.setting.layout m) (made_call x s.number at.path p o op)) on in
+        absurd (h.clear m there none (lease_is_work m.call.purpose lease) (sym (areas_are_apart x.setting.layout m (made x s at p o op) both.1) ∙ spot))
 
-  newest : (z : Session) (m : Submitted) → session_numbered x.setting (seen x) m.call.session ≡ Some z → (made x s at p o op ≡ m) ⊎ Contains (submitted (seen x)) m
-      → IsOpen (seen (after x s at p o op)) (heard_by x.input) m → IsTrue (is_lease_call m)
-      → (ms : List Submitted) × (lease_calls x.setting (seen (after x s at p o op)) z (spot_of_call x.setting.layout m) ≡ m ∷ ms)
-  newest z m its (inl new) opens lease =
-      subst (λ (y : Submitted). (ms : List Submitted) × (lease_calls x.setting (seen (after x s at p o op)) z (spot_of_call x.setting.layout y) ≡ y ∷ ms)) new
-      (new_one z (ap (λ (y : Submitted). session_numbered x.setting (seen x) y.call.session) new ∙ its) (ap (λ (y : Submitted). is_lease_call y) new ∙ lease))
-  newest z m its (inr old) opens lease =
-      let was = k.turns.newest z m its old (still_open x s.number at.path p o op (heard_by x.input) m opens) lease in
-      (was.0, old_list z m (unanswered_is x s at p o op m opens) old lease (s.number == z.number)
-      (is_some (lease_step p) && is_on x.setting.layout (spot_of_call x.setting.layout m) (made_call x s.number at.path p o op)) refl refl ∙ was.1)
+    newest : (z : Session) (m : Submitted) → session_numbered x.setting (seen x) m.call.session ≡ Some z → (made x s at p o op ≡ m) ⊎ Contains (submitted (seen x)) m
+        → IsOpen (seen (after x s at p o op)) (heard_by x.input) m → IsTrue (is_lease_call m)
+        → (ms : List Submitted) × (lease_calls x.setting (seen (after x s at p o op)) z (spot_of_call x.setting.layout m) ≡ m ∷ ms)
+    newest z m its (inl new) opens lease =
+        subst (λ (y : Submitted). (ms : List Submitted) × (lease_calls x.setting (seen (after x s at p o op)) z (spot_of_call x.setting.layout y) ≡ y ∷ ms)) new
+        (new_one z (ap (λ (y : Submitted). session_numbered x.setting (seen x) y.call.session) new ∙ its) (ap (λ (y : Submitted). is_lease_call y) new ∙ lease))
+    newest z m its (inr old) opens lease =
+        let was = k.turns.newest z m its old (still_open x s.number at.path p o op (heard_by x.input) m opens) lease in (
+          was.0,
+          old_list z m (unanswered_is x s at p o op m opens) old lease (s.number == z.number)
+              (is_some (lease_step p) && is_on x.setting.layout (spot_of_call x.setting.layout m) (made_call x s.number at.path p o op)) refl refl ∙ was.1,
+        )

@@ -1,13 +1,11 @@
 -- What a reply leaves of a trace's calls, and how what ways ask beside calls goes on.
 use Rattle.sl_due.specs.Steps.{Step, add_reply, seen}
-use Rattle.sl_leases.specs.Jobs.{aim_of}
 use Rattle.sl_parts_law.proofs.CallsGrow.{any_more}
 use Rattle.sl_parts_law.specs.Parts.{with_reply}
-use Rattle.sl_sessions.specs.Sessions.{calls_of, generation_in, generation_of, is_join_done, joined_after, last_delta}
+use Rattle.sl_sessions.specs.Sessions.{calls_of, generation_in, generation_of, is_join_done, joined_after}
 use Rattle.sl_sessions.specs.Watching.{counted_over, counts_over, evidence_in}
 use Rattle.sl_sessions.specs.declared.session.Session.{Session}
-use Rattle.sl_trace.specs.Traces.{Answered, Replied, Setting, Submitted, Trace, answer_of, answered_in, is_before_input, is_going_on, is_refused_before_input, is_running, job_of, mark, new_call, reply_in, reply_to, submitted}
-use Rattle.sl_trace.specs.declared.effects.Call.{Call}
+use Rattle.sl_trace.specs.Traces.{Replied, Setting, Submitted, Trace, answer_of, answered_in, is_before_input, is_going_on, is_running, job_of, mark, new_call, reply_in, reply_to, submitted}
 use Rattle.sl_trace.specs.declared.effects.Entry.{Entry}
 use Rattle.sl_trace.specs.declared.effects.JobReply.{JobReply}
 use Rattle.sl_trace.specs.declared.input.Answer.{Answer}
@@ -15,12 +13,9 @@ use Rattle.sl_trace.specs.declared.input.Input.TheVariants.{Answer as Told, Exit
 use Rattle.sl_trace.specs.declared.input.Input.{Input}
 use Rattle.sl_trace.specs.declared.reply.Reply.{Reply}
 use Rattle.sl_plain.proofs.Lists.{contains_first, contains_more}
-use Rattle.sl_plain.proofs.Options.{then_value}
-use Rattle.sl_words.proofs.CaseLaws.{false_is_true, none_some, some_value}
-use Rattle.sl_words.proofs.WordLaws.{and_true}
+use Rattle.sl_words.proofs.CaseLaws.{false_is_true, none_some}
 use Rattle.sl_words.specs.Words.{choose}
 use Rattle.std.proofs.Common.{ap, inl, inr, refl, subst, sym, ◌∙◌}
-use Rattle.std.specs.List.{list_any}
 use Rattle.std.specs.Option.{option_or}
 use Rattle.std.specs.Prelude.{Bool, Contains, List, None, Option, Some, [], cond, false, find, fold, is_some, length, map, nat_lt, not, option_and_then, option_map, true, ℕ, ◌&&◌, ◌++◌, ◌+◌, ◌==◌, ◌∷◌, ◌≡◌, ◌⊎◌}
 

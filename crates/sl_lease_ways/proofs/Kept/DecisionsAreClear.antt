@@ -63,9 +63,9 @@ unless : (Q : Decision → Type 0) → ((r : Reply) → Q (Replies r)) → (rs :
 unless Q q [] d h = h (λ o there. absurd (contains_none o there))
 unless Q q (r ∷ rs) d h =
     by_refusal Q q r (unless_refused rs d) (λ none. unless Q q rs d (λ others. h (λ o there. by none others o (contains_cases r rs o there)))) where
-  by : r ≡ None → ((o : Option Reply) → Contains rs o → o ≡ None) → (o : Option Reply) → (r ≡ o) ⊎ Contains rs o → o ≡ None
-  by none others o (inl is) = sym is ∙ none
-  by none others o (inr inside) = others o inside
+      by : r ≡ None → ((o : Option Reply) → Contains rs o → o ≡ None) → (o : Option Reply) → (r ≡ o) ⊎ Contains rs o → o ≡ None
+      by none others o (inl is) = sym is ∙ none
+      by none others o (inr inside) = others o inside
 
 where_found : (Q : Decision → Type 0) → ((r : Reply) → Q (Replies r)) → (o : Option Session) (rs : Session → List (Option Reply)) (f : Session → Decision)
     → ((s : Session) → o ≡ Some s → ((k : Option Reply) → Contains (rs s) k → k ≡ None) → Q (f s)) → Q (with_session o (λ s. unless_refused (rs s) (f s)))
@@ -151,11 +151,11 @@ gives_orphan st es c r named aim =
     (λ g held. (
       r,
       asked st es c s r named (none (session_refusal st es s) (contains_first (session_refusal st es s) (None ∷ choose (is_none (serving_orphan es s (spot_of r) (λ g. true))) NoOrphan ∷ pending_refusal st es (spot_of r) ∷ [])))
-      (none (pending_refusal st es (spot_of r))
-      (second (session_refusal st es s) (None ∷ choose (is_none (serving_orphan es s (spot_of r) (λ g. true))) NoOrphan ∷ pending_refusal st es (spot_of r) ∷ []) (pending_refusal st es (spot_of r))
-      (second None (choose (is_none (serving_orphan es s (spot_of r) (λ g. true))) NoOrphan ∷ pending_refusal st es (spot_of r) ∷ []) (pending_refusal st es (spot_of r))
-      (second (choose (is_none (serving_orphan es s (spot_of r) (λ g. true))) NoOrphan) (pending_refusal st es (spot_of r) ∷ []) (pending_refusal st es (spot_of r))
-      (contains_first (pending_refusal st es (spot_of r)) []))))),
+          (none (pending_refusal st es (spot_of r))
+          (second (session_refusal st es s) (None ∷ choose (is_none (serving_orphan es s (spot_of r) (λ g. true))) NoOrphan ∷ pending_refusal st es (spot_of r) ∷ []) (pending_refusal st es (spot_of r))
+          (second None (choose (is_none (serving_orphan es s (spot_of r) (λ g. true))) NoOrphan ∷ pending_refusal st es (spot_of r) ∷ []) (pending_refusal st es (spot_of r))
+          (second (choose (is_none (serving_orphan es s (spot_of r) (λ g. true))) NoOrphan) (pending_refusal st es (spot_of r) ∷ []) (pending_refusal st es (spot_of r))
+          (contains_first (pending_refusal st es (spot_of r)) []))))),
       aim,
       serving_inside es s (spot_of r) (λ g. true) g held,
     )))
@@ -175,15 +175,17 @@ converts st es c r p mode named aim =
     ∷ option_and_then (λ q. choose (not (is_shared mode)) (Busy q)) (other_holder es (spot_of r) p) ∷ pending_refusal st es (spot_of r) ∷ [])
     (λ s. option_map_or (converting s r mode) (holding_of es s (spot_of r) p (λ g. true)) (Replies NotHeld))
     (λ s is none. where_held (DecidedOn st es c) (λ w. tt) (holding_of es s (spot_of r) p (λ g. true)) (converting s r mode) NotHeld
-    (λ g held. chosen (DecidedOn st es c) (same_truth (is_shared mode) (is_shared g.mode)) (ConvertsTo s r mode) (Replies (Granted g.lver))
-    (asked st es c s r named
-    (none (session_refusal st es s) (contains_first (session_refusal st es s) (process_refusal es p ∷ choose (is_none (holding_of es s (spot_of r) p (λ g. true))) NotHeld ∷ option_and_then (λ q. choose (not (is_shared mode)) (Busy q)) (other_holder es (spot_of r) p) ∷ pending_refusal st es (spot_of r) ∷ [])))
-    (none (pending_refusal st es (spot_of r))
-    (second (session_refusal st es s) (process_refusal es p ∷ choose (is_none (holding_of es s (spot_of r) p (λ g. true))) NotHeld ∷ option_and_then (λ q. choose (not (is_shared mode)) (Busy q)) (other_holder es (spot_of r) p) ∷ pending_refusal st es (spot_of r) ∷ []) (pending_refusal st es (spot_of r))
-    (second (process_refusal es p) (choose (is_none (holding_of es s (spot_of r) p (λ g. true))) NotHeld ∷ option_and_then (λ q. choose (not (is_shared mode)) (Busy q)) (other_holder es (spot_of r) p) ∷ pending_refusal st es (spot_of r) ∷ []) (pending_refusal st es (spot_of r))
-    (second (choose (is_none (holding_of es s (spot_of r) p (λ g. true))) NotHeld) (option_and_then (λ q. choose (not (is_shared mode)) (Busy q)) (other_holder es (spot_of r) p) ∷ pending_refusal st es (spot_of r) ∷ []) (pending_refusal st es (spot_of r))
-    (second (option_and_then (λ q. choose (not (is_shared mode)) (Busy q)) (other_holder es (spot_of r) p)) (pending_refusal st es (spot_of r) ∷ []) (pending_refusal st es (spot_of r))
-    (contains_first (pending_refusal st es (spot_of r)) [])))))), aim) tt))
+    (λ g held. chosen (DecidedOn st es c) (same_truth (is_shared mode) (is_shared g.mode)) (ConvertsTo s r mode) (Replies (Granted g.lver)) (
+      asked st es c s r named
+          (none (session_refusal st es s) (contains_first (session_refusal st es s) (process_refusal es p ∷ choose (is_none (holding_of es s (spot_of r) p (λ g. true))) NotHeld ∷ option_and_then (λ q. choose (not (is_shared mode)) (Busy q)) (other_holder es (spot_of r) p) ∷ pending_refusal st es (spot_of r) ∷ [])))
+          (none (pending_refusal st es (spot_of r))
+          (second (session_refusal st es s) (process_refusal es p ∷ choose (is_none (holding_of es s (spot_of r) p (λ g. true))) NotHeld ∷ option_and_then (λ q. choose (not (is_shared mode)) (Busy q)) (other_holder es (spot_of r) p) ∷ pending_refusal st es (spot_of r) ∷ []) (pending_refusal st es (spot_of r))
+          (second (process_refusal es p) (choose (is_none (holding_of es s (spot_of r) p (λ g. true))) NotHeld ∷ option_and_then (λ q. choose (not (is_shared mode)) (Busy q)) (other_holder es (spot_of r) p) ∷ pending_refusal st es (spot_of r) ∷ []) (pending_refusal st es (spot_of r))
+          (second (choose (is_none (holding_of es s (spot_of r) p (λ g. true))) NotHeld) (option_and_then (λ q. choose (not (is_shared mode)) (Busy q)) (other_holder es (spot_of r) p) ∷ pending_refusal st es (spot_of r) ∷ []) (pending_refusal st es (spot_of r))
+          (second (option_and_then (λ q. choose (not (is_shared mode)) (Busy q)) (other_holder es (spot_of r) p)) (pending_refusal st es (spot_of r) ∷ []) (pending_refusal st es (spot_of r))
+          (contains_first (pending_refusal st es (spot_of r)) [])))))),
+      aim,
+    ) tt))
 
 requests : (st : Setting) (es : Trace) (c : Command) (r : ResourceArg) → resource_named c ≡ Some r → DecidedOn st es c (decide_request st es r)
 requests st es c r named =

@@ -4,9 +4,9 @@ use Rattle.sl_lease_ways.proofs.Kept.PlainWalks.{DeltaFits}
 use Rattle.sl_due.specs.Steps.{Step, seen}
 use Rattle.sl_sector.specs.declared.sector.DeltaRec.{DeltaRec}
 use Rattle.sl_sector.specs.declared.sector.Rec.TheVariants.{DeltaIs}
-use Rattle.sl_sessions.specs.Deltas.{DeltaLease, claim_of, claim_on, delta_known, delta_of_session, delta_record, id_held, id_lost, is_renewal_due, is_watched_out, join_step_of, next_after_claim, next_after_deciding, next_after_first, next_after_free, next_after_renewal, next_after_verify, next_after_watch, next_by_time, next_free, next_in_joining, next_in_watch, next_on_wake, next_renewal, where_watched, watched}
+use Rattle.sl_sessions.specs.Deltas.{DeltaLease, claim_of, claim_on, delta_known, delta_of_session, delta_record, id_held, id_lost, is_renewal_due, is_watched_out, join_step_of, next_after_deciding, next_after_first, next_after_free, next_after_renewal, next_after_verify, next_after_watch, next_by_time, next_free, next_in_joining, next_on_wake, next_renewal, where_watched, watched}
 use Rattle.sl_sessions.specs.Sessions.{generation_of, last_seq}
-use Rattle.sl_sessions.specs.declared.delta.DeltaNext.TheVariants.{Disconnect, EndLeaving, Join, MoveConnection, Nothing, ReadOwn, RefuseJoin, RegisterAndRead, WriteClaim, WriteFirst, WriteFree, WriteRenewal}
+use Rattle.sl_sessions.specs.declared.delta.DeltaNext.TheVariants.{Nothing, ReadOwn, RefuseJoin, RegisterAndRead, WriteClaim, WriteFirst, WriteFree, WriteRenewal}
 use Rattle.sl_sessions.specs.declared.delta.DeltaNext.{DeltaNext}
 use Rattle.sl_sessions.specs.declared.session.Session.{Session}
 use Rattle.sl_trace.specs.Traces.{Answered, Submitted, is_before_input}
@@ -98,9 +98,9 @@ deciding_fits : (A : Reply → Type 0) (y : Step) (s : Session) → IsJoining A 
 unfolding next_after_deciding
 deciding_fits A y s j l ms now bytes =
     watched_fits A y s j l (watched ms) bytes (elim (delta_in (record_in l.layout bytes)) as (λ z. DeltaNext) [ None ↦ Nothing | Some d ↦ claim_on l now d ]) (by (delta_in (record_in l.layout bytes))) where
-  by : (o : Option DeltaRec) → DeltaFits A y s (elim o as (λ z. DeltaNext) [ None ↦ Nothing | Some d ↦ claim_on l now d ])
-  by None = tt
-  by (Some d) = claim_fits A y s j l now d
+      by : (o : Option DeltaRec) → DeltaFits A y s (elim o as (λ z. DeltaNext) [ None ↦ Nothing | Some d ↦ claim_on l now d ])
+      by None = tt
+      by (Some d) = claim_fits A y s j l now d
 
 verify_fits : (A : Reply → Type 0) (y : Step) (s : Session) → IsJoining A y s → (l : DeltaLease) (ms : List Submitted) (now : ℕ) (bytes : List ℕ) → DeltaFits A y s (next_after_verify l ms now bytes)
 unfolding next_after_verify

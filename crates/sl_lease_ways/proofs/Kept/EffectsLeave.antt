@@ -5,21 +5,20 @@ use Rattle.sl_due.specs.Steps.{Step, add_call_of, add_end, add_grant, add_move, 
 use Rattle.sl_law.specs.LawfulArea.{is_area_work}
 use Rattle.sl_lease_ways.proofs.Kept.CallsSame.{Leaves, counted_more, counts_more, joined_stays, reply_leaves, reply_stays}
 use Rattle.sl_lease_ways.proofs.Kept.WaysGrow.{Grows, ways_grow}
-use Rattle.sl_lease_ways.specs.Kept.{HasTurnFacts, HasWayFacts, LeasesStand}
+use Rattle.sl_lease_ways.specs.Kept.{LeasesStand}
 use Rattle.sl_leases.specs.Jobs.{aim_of}
 use Rattle.sl_leases.specs.Leases.{is_lease_call, is_on, lease_calls, lease_step, spot_of_call}
 use Rattle.sl_leases.specs.declared.lease.Aim.{Aim}
 use Rattle.sl_parts_law.proofs.CallsGrow.{mine_more, others_stay, same_sessions}
 use Rattle.sl_parts_law.specs.Parts.{with_reply}
-use Rattle.sl_sessions.specs.Sessions.{calls_of, delta_of_record, delta_written, generation_in, generation_of, given_number, is_call_of, is_join_call, is_survey_purpose, joined_after, last_delta, session_numbered, sessions}
+use Rattle.sl_sessions.specs.Sessions.{calls_of, delta_of_record, generation_in, generation_of, given_number, is_call_of, is_join_call, is_survey_purpose, joined_after, last_delta, session_numbered, sessions}
 use Rattle.sl_area.specs.Places.{sector_of}
-use Rattle.sl_sessions.specs.Watching.{counted_over, counts_over, evidence, look_of, sightings}
+use Rattle.sl_sessions.specs.Watching.{evidence, look_of, sightings}
 use Rattle.sl_sessions.specs.declared.sighting.Sighting.{Sighting}
 use Rattle.sl_sessions.specs.declared.session.Session.{Session}
 use Rattle.sl_sector.specs.declared.sector.DeltaRec.{DeltaRec}
-use Rattle.sl_step_facts.specs.Heard.{IsOpen, heard_by, newest_calls}
-use Rattle.sl_step_facts.specs.LeaseFacts.{TurnFacts}
-use Rattle.sl_step_facts.specs.WayFacts.{IsAligned, WayFacts, Ways, way_context}
+use Rattle.sl_step_facts.specs.Heard.{IsOpen, heard_by}
+use Rattle.sl_step_facts.specs.WayFacts.{WayFacts, Ways, way_context}
 use Rattle.sl_trace.proofs.TraceFacts.{submitted-push}
 use Rattle.sl_trace.specs.TraceLaws.{with_call}
 use Rattle.sl_trace.specs.Traces.{Answered, bytes_given, Setting, Submitted, Trace, new_call, next_call, record_of, submitted}
@@ -27,7 +26,6 @@ use Rattle.sl_trace.specs.declared.effects.Call.{Call}
 use Rattle.sl_trace.specs.declared.effects.End.{End}
 use Rattle.sl_trace.specs.declared.effects.Entry.{Entry}
 use Rattle.sl_trace.specs.declared.effects.Grant.{Grant}
-use Rattle.sl_trace.specs.declared.effects.JobReply.{JobReply}
 use Rattle.sl_trace.specs.declared.effects.JoinStep.TheVariants.{FirstRead}
 use Rattle.sl_trace.specs.declared.effects.Move.{Move}
 use Rattle.sl_trace.specs.declared.effects.Op.{Op}
@@ -47,7 +45,7 @@ use Rattle.std.specs.List.{cons_option}
 use Rattle.std.specs.Option.{option_map_or}
 use Rattle.sl_trace.specs.declared.effects.Purpose.TheVariants.{Joining, Lease, Leaving, Renewal, RequestRead, RequestWrite, SeeRequest, Survey, ValueRead, ValueWrite}
 use Rattle.std.proofs.Common.{ap, eqb-true, inl, inr, refl, subst, sym, ◌∙◌}
-use Rattle.std.specs.Prelude.{Bool, Contains, IsTrue, List, None, Option, Some, [], cond, false, filter, filter_map, is_some, length, nat_lt, option_and_then, option_map, slice_get, true, ℕ, ◌&&◌, ◌++◌, ◌-◌, ◌==◌, ◌∷◌, ◌≡◌, ◌⊎◌}
+use Rattle.std.specs.Prelude.{Bool, Contains, List, None, Option, Some, [], cond, false, filter, is_some, length, nat_lt, option_and_then, option_map, slice_get, true, ℕ, ◌&&◌, ◌++◌, ◌-◌, ◌==◌, ◌∷◌, ◌≡◌, ◌⊎◌}
 
 -- ---- what is carried from trace to trace
 
@@ -68,10 +66,10 @@ ways_carried st t u c h =
           subst (λ ms. Ways (way_context st u s) ms) (sym (c.calls s at)) (by s at (c.grows s at was) (h.each s at was aligned));
     }
   where
-  by : (s : Session) (at : Spot) → Grows (way_context st t s) (way_context st u s) ⊎ (lease_calls st t s at ≡ []) → Ways (way_context st t s) (lease_calls st t s at)
-      → Ways (way_context st u s) (lease_calls st t s at)
-  by s at (inl grows) k = ways_grow (way_context st t s) (way_context st u s) grows (lease_calls st t s at) k
-  by s at (inr none) k = subst (λ ms. Ways (way_context st u s) ms) (sym none) tt
+    by : (s : Session) (at : Spot) → Grows (way_context st t s) (way_context st u s) ⊎ (lease_calls st t s at ≡ []) → Ways (way_context st t s) (lease_calls st t s at)
+        → Ways (way_context st u s) (lease_calls st t s at)
+    by s at (inl grows) k = ways_grow (way_context st t s) (way_context st u s) grows (lease_calls st t s at) k
+    by s at (inr none) k = subst (λ ms. Ways (way_context st u s) ms) (sym none) tt
 
 -- ---- ends, signals, moves, grants, starts
 
@@ -249,21 +247,21 @@ other_carries x s path p o op has none later same =
       grows = λ z at there. by z at there (s.number == z.number) refl;
     }
   where
-  own : (at : Spot) → (written : Option DeltaRec) → option_and_then delta_of_record (record_of op) ≡ written
-      → Grows (way_context x.setting (seen x) s) (way_context x.setting (seen (add_call_of s.number path p o op x)) s) ⊎ (lease_calls x.setting (seen x) s at ≡ [])
-  own at None is = inl (further_grows x s path p o op (λ d at. absurd (none_some d (sym is ∙ at))))
-  own at (Some d) is = with_record (same d is) where
-    with_record : (d.generation ≡ generation_of (seen x) s) ⊎ ((at : Spot) → lease_calls x.setting (seen x) s at ≡ [])
+    own : (at : Spot) → (written : Option DeltaRec) → option_and_then delta_of_record (record_of op) ≡ written
         → Grows (way_context x.setting (seen x) s) (way_context x.setting (seen (add_call_of s.number path p o op x)) s) ⊎ (lease_calls x.setting (seen x) s at ≡ [])
-    with_record (inl generation) = inl (further_grows x s path p o op (λ k at. ap (λ (z : DeltaRec). z.generation) (some_value k d (sym at ∙ is)) ∙ generation))
-    with_record (inr empty) = inr (empty at)
+    own at None is = inl (further_grows x s path p o op (λ d at. absurd (none_some d (sym is ∙ at))))
+    own at (Some d) is = with_record (same d is) where
+      with_record : (d.generation ≡ generation_of (seen x) s) ⊎ ((at : Spot) → lease_calls x.setting (seen x) s at ≡ [])
+          → Grows (way_context x.setting (seen x) s) (way_context x.setting (seen (add_call_of s.number path p o op x)) s) ⊎ (lease_calls x.setting (seen x) s at ≡ [])
+      with_record (inl generation) = inl (further_grows x s path p o op (λ k at. ap (λ (z : DeltaRec). z.generation) (some_value k d (sym at ∙ is)) ∙ generation))
+      with_record (inr empty) = inr (empty at)
 
-  by : (z : Session) (at : Spot) → Contains (sessions x.setting (seen x)) z → (b : Bool) → (s.number == z.number) ≡ b
-      → Grows (way_context x.setting (seen x) z) (way_context x.setting (seen (add_call_of s.number path p o op x)) z) ⊎ (lease_calls x.setting (seen x) z at ≡ [])
-  by z at there false is = inl (other_grows x s.number path p o op z is)
-  by z at there true is =
-      subst (λ (y : Session). Grows (way_context x.setting (seen x) y) (way_context x.setting (seen (add_call_of s.number path p o op x)) y) ⊎ (lease_calls x.setting (seen x) y at ≡ []))
-      (one_session x.setting (seen x) s z has there (sym (eqb-true s.number z.number is))) (own at (option_and_then delta_of_record (record_of op)) refl)
+    by : (z : Session) (at : Spot) → Contains (sessions x.setting (seen x)) z → (b : Bool) → (s.number == z.number) ≡ b
+        → Grows (way_context x.setting (seen x) z) (way_context x.setting (seen (add_call_of s.number path p o op x)) z) ⊎ (lease_calls x.setting (seen x) z at ≡ [])
+    by z at there false is = inl (other_grows x s.number path p o op z is)
+    by z at there true is =
+        subst (λ (y : Session). Grows (way_context x.setting (seen x) y) (way_context x.setting (seen (add_call_of s.number path p o op x)) y) ⊎ (lease_calls x.setting (seen x) y at ≡ []))
+        (one_session x.setting (seen x) s z has there (sym (eqb-true s.number z.number is))) (own at (option_and_then delta_of_record (record_of op)) refl)
 
 -- ---- turns
 
@@ -285,9 +283,9 @@ pub old_call : (x : Step) (n : ℕ) (path : List ℕ) (p : Purpose) (o : ℕ) (o
     → q m.call.purpose ≡ true → Contains (submitted (seen x)) m
 old_call x n path p o op q none m there is =
     by (contains_cases (new_call (length x.past) x.reading (made_call x n path p o op)) (submitted (seen x)) m (subst (λ ms. Contains ms m) (submitted-push x.past (entry_of x) (made_call x n path p o op)) there)) where
-  by : (new_call (length x.past) x.reading (made_call x n path p o op) ≡ m) ⊎ Contains (submitted (seen x)) m → Contains (submitted (seen x)) m
-  by (inl new) = absurd (true_is_false (sym is ∙ (ap (λ (z : Submitted). q z.call.purpose) (sym new) ∙ none)))
-  by (inr old) = old
+      by : (new_call (length x.past) x.reading (made_call x n path p o op) ≡ m) ⊎ Contains (submitted (seen x)) m → Contains (submitted (seen x)) m
+      by (inl new) = absurd (true_is_false (sym is ∙ (ap (λ (z : Submitted). q z.call.purpose) (sym new) ∙ none)))
+      by (inr old) = old
 
 is_lease_purpose : Purpose → Bool
 is_lease_purpose p = is_some (lease_step p)
@@ -305,8 +303,8 @@ other_calls_leave x s path p o op has none later same h =
             (still_open x s.number path p o op (heard_by x.input) m m_open) (still_open x s.number path p o op (heard_by x.input) n n_open) m_work n_work spots;
         newest = λ z m its there opens lease.
             let was = h.turns.newest z m (sym (ap (λ ss. slice_get ss m.call.session) c.sessions) ∙ its)
-                (old_call x s.number path p o op is_lease_purpose (no_lease (made_call x s.number path p o op) p refl none 0 0) m there lease)
-                (still_open x s.number path p o op (heard_by x.input) m opens) lease in
+            (old_call x s.number path p o op is_lease_purpose (no_lease (made_call x s.number path p o op) p refl none 0 0) m there lease)
+            (still_open x s.number path p o op (heard_by x.input) m opens) lease in
             (was.0, c.calls z (spot_of_call x.setting.layout m) ∙ was.1);
       };
     }

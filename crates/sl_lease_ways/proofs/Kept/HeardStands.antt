@@ -4,45 +4,42 @@ use Rattle.sl_acts.specs.SoFar.{entry_of}
 use Rattle.sl_due.specs.DueLease.{goes_on}
 use Rattle.sl_due.specs.Steps.{Step, seen}
 use Rattle.sl_law.specs.LawfulArea.{is_area_work}
-use Rattle.sl_lease_ways.proofs.Kept.AreaCallsLeave.{lease_is_work}
-use Rattle.sl_lease_ways.proofs.Kept.CallsSame.{HeardNoJob}
-use Rattle.sl_lease_ways.proofs.Kept.EffectsLeave.{has_there, there_has}
+use Rattle.sl_lease_ways.proofs.Places.{spot_aligned}
+use Rattle.sl_lease_ways.proofs.Kept.EffectsLeave.{there_has}
 use Rattle.sl_lease_ways.proofs.Kept.InputsLeave.{same_call}
 use Rattle.sl_lease_ways.proofs.Kept.LeaseNextsLeave.{HasEnded, LeaseReady, moment_of}
-use Rattle.sl_lease_ways.specs.Nexts.{IsHeard, Moment}
-use Rattle.sl_leases.specs.Jobs.{aim_of, command_numbered}
-use Rattle.sl_leases.specs.Leases.{ended_ballots, exclusive_on, holdings_on, is_lease_call, is_on, lease_calls, lease_step, open_ballot, spot_of_call}
+use Rattle.sl_lease_ways.specs.Nexts.{IsHeard}
+use Rattle.sl_leases.specs.Jobs.{aim_of}
+use Rattle.sl_leases.specs.Leases.{exclusive_on, holdings_on, is_lease_call, lease_step, spot_of_call}
 use Rattle.sl_leases.specs.declared.lease.Aim.{Aim}
-use Rattle.sl_sessions.specs.Sessions.{calls_of, holdings_of, is_call_of, is_survey_purpose, joined_after, session_numbered, sessions}
+use Rattle.sl_sessions.specs.Sessions.{holdings_of, session_numbered, sessions}
 use Rattle.sl_sessions.specs.declared.session.Session.{Session}
 use Rattle.sl_step_facts.specs.CallFacts.{CallFacts}
-use Rattle.sl_step_facts.specs.Heard.{IsOpen, heard_by, newest_calls}
+use Rattle.sl_step_facts.specs.Heard.{IsOpen, heard_by}
 use Rattle.sl_step_facts.specs.HoldingFacts.{HoldingFacts, StandsExclusive}
 use Rattle.sl_step_facts.specs.Whole.{Whole}
-use Rattle.sl_trace.specs.Traces.{Answered, Replied, Setting, Submitted, Trace, answer_of, answered_in, call_numbered, holdings, is_answer_for, is_before_input, is_expected, is_going_on, is_refused_before_input, is_running, is_shared, job_of, mark, new_call, next_call, outstanding, reply_in, reply_to, same_place, spot_of_grant, submitted, work_job}
+use Rattle.sl_trace.specs.Traces.{Answered, Replied, Submitted, answer_of, answered_in, call_numbered, holdings, is_answer_for, is_before_input, is_expected, is_going_on, is_refused_before_input, is_shared, job_of, mark, new_call, outstanding, reply_in, reply_to, same_place, spot_of_grant, submitted, work_job}
 use Rattle.sl_trace.specs.declared.effects.Call.{Call}
 use Rattle.sl_trace.specs.declared.effects.Grant.{Grant}
 use Rattle.sl_trace.specs.declared.effects.JobReply.{JobReply}
 use Rattle.sl_trace.specs.declared.effects.LeaseStep.{LeaseStep}
 use Rattle.sl_trace.specs.declared.effects.Purpose.TheVariants.{Lease}
-use Rattle.sl_trace.specs.declared.effects.Purpose.{Purpose}
 use Rattle.sl_trace.specs.declared.effects.Spot.{Spot}
 use Rattle.sl_trace.specs.declared.effects.Work.TheVariants.{ForJob, Settling}
 use Rattle.sl_trace.specs.declared.effects.Work.{Work}
 use Rattle.sl_trace.specs.declared.input.Answer.{Answer}
 use Rattle.sl_trace.specs.declared.input.Input.TheVariants.{Answer as Told}
 use Rattle.sl_trace.specs.declared.input.Input.{Input}
-use Rattle.sl_plain.proofs.Lists.{any_found, any_of, contains_map, find_fails, find_inside, in_map, kept_inside}
+use Rattle.sl_plain.proofs.Lists.{any_found, contains_map, find_fails, find_inside, kept_inside}
 use Rattle.sl_trace_law.proofs.Leases.NumberLaws.{number_is_place}
-use Rattle.std.proofs.Math.Nat.{div-add-mod, mul-mod_right}
 use Rattle.std.proofs.lemmas.Slice.Eq.{bytes_eq-Decides}
 use Rattle.sl_plain.proofs.Options.{none_is, mapped_value}
-use Rattle.sl_words.proofs.CaseLaws.{false_is_true, is_false, none_some, one_value, some_value, true_is_false, true_or_false}
+use Rattle.sl_words.proofs.CaseLaws.{false_is_true, is_false, none_some, one_value, true_is_false}
 use Rattle.sl_words.proofs.WordLaws.{and_true}
-use Rattle.std.proofs.Common.{ap, arith, eqb-true, inl, inr, refl, subst, sym, tests, ◌∙◌}
+use Rattle.std.proofs.Common.{ap, arith, eqb-true, inl, inr, refl, subst, sym, ◌∙◌}
 use Rattle.std.specs.List.{list_any}
 use Rattle.std.specs.Option.{option_or}
-use Rattle.std.specs.Prelude.{Bool, Contains, IsTrue, List, None, Option, Some, [], bytes_eq, cond, false, filter, find, fold, is_none, is_some, length, map, not, option_and_then, option_map, slice_get, true, ℕ, ◌%◌, ◌&&◌, ◌*◌, ◌+◌, ◌-◌, ◌/◌, ◌<◌, ◌==◌, ◌∷◌, ◌≡◌, ◌≤◌, ◌⊎◌}
+use Rattle.std.specs.Prelude.{Bool, Contains, IsTrue, List, None, Option, Some, [], bytes_eq, false, find, fold, is_none, is_some, length, map, not, option_map, true, ℕ, ◌&&◌, ◌+◌, ◌<◌, ◌==◌, ◌∷◌, ◌≡◌, ◌≤◌}
 
 -- ---- the call that was answered
 
@@ -123,13 +120,6 @@ going x s (ForJob j) is =
 
 -- ---- of a lease
 
-base_is : (area o : ℕ) → o - o % area ≡ area * (o / area)
-base_is area o = omega (arith, div-add-mod o area)
-
--- The area of a call begins at a base.
-pub spot_aligned : (area o : ℕ) → (o - o % area) % area ≡ 0
-spot_aligned area o = ap (λ n. n % area) (base_is area o) ∙ mul-mod_right area (o / area)
-
 made_below : (x : Step) (m : Submitted) → m.at < length (seen x) → m.at < length x.past + 1
 made_below x m lt = omega (arith, lt)
 
@@ -144,8 +134,7 @@ lease_heard x s work step m a aim h is on aimed w =
     let c : HeardCall x a m = heard_call x s m a h w in
     let lease : IsTrue (is_lease_call m) = ap (λ p. is_some (lease_step p)) is in
     let first = w.facts.turns.newest s m h.session c.there (heard_open x s m a h) lease in
-    let has : Contains (sessions x.setting (seen x)) s = there_has x.setting (seen x) m.call.session s h.session in
-    (
+    let has : Contains (sessions x.setting (seen x)) s = there_has x.setting (seen x) m.call.session s h.session in (
       record {
         call = m;
         rest = first.0;

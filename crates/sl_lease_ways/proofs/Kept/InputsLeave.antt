@@ -3,11 +3,10 @@ use Rattle.sl_acts.proofs.Additions.{begun_by}
 use Rattle.sl_acts.specs.Acts.{Expects}
 use Rattle.sl_acts.specs.SoFar.{entry_of}
 use Rattle.sl_due.specs.Steps.{Step, seen, with_input}
-use Rattle.sl_lease_ways.proofs.Kept.CallsSame.{counted_more, counts_more}
-use Rattle.sl_lease_ways.proofs.Kept.EffectsLeave.{Carries, same_grows, there_has, ways_carried}
+use Rattle.sl_lease_ways.proofs.Kept.EffectsLeave.{Carries, same_grows, ways_carried}
 use Rattle.sl_lease_ways.proofs.Kept.WaysGrow.{Grows, ways_answered, ways_grow}
 use Rattle.sl_lease_ways.proofs.Lawful.BallotsBegin.{counted_now}
-use Rattle.sl_lease_ways.specs.Kept.{HasTurnFacts, HasWayFacts, LeasesStand}
+use Rattle.sl_lease_ways.specs.Kept.{LeasesStand}
 use Rattle.sl_leases.specs.Jobs.{aim_of, aim_of_command, command_numbered, command_of}
 use Rattle.sl_law.specs.LawfulArea.{is_area_work}
 use Rattle.sl_leases.specs.Leases.{is_lease_call, is_on, lease_calls, lease_step, spot_of_call}
@@ -18,9 +17,8 @@ use Rattle.sl_sessions.specs.Sessions.{calls_of, delta_of_record, delta_written,
 use Rattle.sl_sessions.specs.Watching.{counted_over, counts_over, evidence_in}
 use Rattle.sl_sessions.specs.declared.session.Session.{Session}
 use Rattle.sl_step_facts.specs.CallFacts.{CallFacts}
-use Rattle.sl_step_facts.specs.Heard.{IsOpen, heard_by, newest_calls}
-use Rattle.sl_step_facts.specs.LeaseFacts.{TurnFacts}
-use Rattle.sl_step_facts.specs.WayFacts.{IsAligned, Ways, way_context}
+use Rattle.sl_step_facts.specs.Heard.{IsOpen, heard_by}
+use Rattle.sl_step_facts.specs.WayFacts.{Ways, way_context}
 use Rattle.sl_trace.specs.Traces.{Answered, Job, Setting, Submitted, Trace, answer_of, answered_in, call_numbered, is_answer_for, job_in, job_numbered, jobs, line_in, mark, new_call, next_job, outstanding, record_of, submitted}
 use Rattle.sl_trace.specs.declared.effects.Call.{Call}
 use Rattle.sl_trace.specs.declared.effects.Entry.{Entry}
@@ -33,12 +31,12 @@ use Rattle.sl_trace.specs.declared.input.Input.TheVariants.{Answer as Told, Exit
 use Rattle.sl_trace.specs.declared.input.Input.{Input}
 use Rattle.sl_plain.proofs.Lists.{any_found, in_map, kept_inside}
 use Rattle.sl_plain.proofs.Options.{none_is, then_value}
-use Rattle.sl_words.proofs.CaseLaws.{false_is_true, none_some, one_value, some_value, true_is_false}
+use Rattle.sl_words.proofs.CaseLaws.{none_some, one_value, some_value, true_is_false}
 use Rattle.sl_words.proofs.WordLaws.{and_true}
 use Rattle.std.proofs.Common.{ap, append-nil, eqb-true, inl, inr, refl, subst, sym, ◌∙◌}
 use Rattle.std.specs.List.{list_any}
 use Rattle.std.specs.Option.{option_map_or, option_or}
-use Rattle.std.specs.Prelude.{Bool, Contains, IsTrue, List, None, Option, Some, [], cond, false, filter, find, fold, is_none, is_some, length, map, nat_lt, option_and_then, slice_get, true, ℕ, ◌&&◌, ◌++◌, ◌==◌, ◌∷◌, ◌≡◌, ◌⊎◌}
+use Rattle.std.specs.Prelude.{Bool, Contains, IsTrue, List, None, Option, Some, [], cond, false, filter, find, fold, is_none, is_some, length, map, nat_lt, option_and_then, slice_get, true, ℕ, ◌&&◌, ◌++◌, ◌==◌, ◌∷◌, ◌≡◌}
 
 -- ---- what an input leaves of sessions and aims
 
@@ -138,8 +136,8 @@ told_calls x n a wake bare =
     ∙ ap (λ ms. map (answered_in x.past (entry_of (with_input (Told n a) x)) n a) ms)
     (sym (ap (λ cs. fold made (mark x.past (entry_of x) x.input (submitted x.past)) cs) bare ∙ ap (λ k. mark x.past (entry_of x) k (submitted x.past)) wake))
   where
-  made : List Submitted → Call → List Submitted
-  made = λ ms c. new_call (length x.past) x.reading c ∷ ms
+    made : List Submitted → Call → List Submitted
+    made = λ ms c. new_call (length x.past) x.reading c ∷ ms
 
 -- The answer changes nothing of a call but its answer.
 pub same_call : (es : Trace) (e : Entry) (n : ℕ) (a : Answer) (m : Submitted) → ((answered_in es e n a m).call ≡ m.call) × ((answered_in es e n a m).at ≡ m.at)
@@ -187,8 +185,8 @@ before_entry : (x : Step) → x.input ≡ Wake → x.effects.calls ≡ [] → su
 before_entry x wake bare =
     ap (λ cs. fold made (mark x.past (entry_of x) x.input (submitted x.past)) cs) bare ∙ ap (λ k. mark x.past (entry_of x) k (submitted x.past)) wake
   where
-  made : List Submitted → Call → List Submitted
-  made = λ ms c. new_call (length x.past) x.reading c ∷ ms
+    made : List Submitted → Call → List Submitted
+    made = λ ms c. new_call (length x.past) x.reading c ∷ ms
 
 abbrev counts_with : Bool → Bool → Bool
 counts_with p q = elim p as (λ z. Bool) [ true ↦ true | false ↦ q ]
@@ -210,23 +208,23 @@ told_counts x n answer wake bare s a b is =
     by_evidence (counts_over x.setting (seen x) s a b) (counted_over x.setting x.past s a b) (counted_over x.setting (seen (with_input (Told n answer) x)) s a b ≡ true) is now
     (λ k. counted_then x.setting (entry_of (with_input (Told n answer) x)) x.past s a b k)
   where
-  shown : is_some (evidence_in x.setting (calls_of (seen x) s) a b) ≡ true → counted_over x.setting (seen (with_input (Told n answer) x)) s a b ≡ true
-  shown k =
-      counted_then x.setting (entry_of (with_input (Told n answer) x)) x.past s a b
-      (counted_now x.setting x.past s a b
-      (ap (λ t. counts_with t (a == s.id && nat_lt b (generation_of x.past s) && is_some (joined_after x.past s)))
-      (ap (λ ms. is_some (evidence_in x.setting (filter (is_call_of s) ms) a b)) (sym (before_entry x wake bare)) ∙ k)))
+    shown : is_some (evidence_in x.setting (calls_of (seen x) s) a b) ≡ true → counted_over x.setting (seen (with_input (Told n answer) x)) s a b ≡ true
+    shown k =
+        counted_then x.setting (entry_of (with_input (Told n answer) x)) x.past s a b
+        (counted_now x.setting x.past s a b
+        (ap (λ t. counts_with t (a == s.id && nat_lt b (generation_of x.past s) && is_some (joined_after x.past s)))
+        (ap (λ ms. is_some (evidence_in x.setting (filter (is_call_of s) ms) a b)) (sym (before_entry x wake bare)) ∙ k)))
 
-  older : (a == s.id && nat_lt b (generation_of (seen x) s) && is_some (joined_after (seen x) s)) ≡ true → counted_over x.setting (seen (with_input (Told n answer) x)) s a b ≡ true
-  older k =
-      counted_now x.setting (seen (with_input (Told n answer) x)) s a b
-      (counts_second (is_some (evidence_in x.setting (calls_of (seen (with_input (Told n answer) x)) s) a b)) (a == s.id && nat_lt b (generation_of (seen (with_input (Told n answer) x)) s) && is_some (joined_after (seen x) s))
-      (ap (λ g. a == s.id && nat_lt b g && is_some (joined_after (seen x) s)) (told_generation x n answer wake bare s) ∙ k))
+    older : (a == s.id && nat_lt b (generation_of (seen x) s) && is_some (joined_after (seen x) s)) ≡ true → counted_over x.setting (seen (with_input (Told n answer) x)) s a b ≡ true
+    older k =
+        counted_now x.setting (seen (with_input (Told n answer) x)) s a b
+        (counts_second (is_some (evidence_in x.setting (calls_of (seen (with_input (Told n answer) x)) s) a b)) (a == s.id && nat_lt b (generation_of (seen (with_input (Told n answer) x)) s) && is_some (joined_after (seen x) s))
+        (ap (λ g. a == s.id && nat_lt b g && is_some (joined_after (seen x) s)) (told_generation x n answer wake bare s) ∙ k))
 
-  now : counts_over x.setting (seen x) s a b ≡ true → counted_over x.setting (seen (with_input (Told n answer) x)) s a b ≡ true
-  now k =
-      by_evidence (is_some (evidence_in x.setting (calls_of (seen x) s) a b)) (a == s.id && nat_lt b (generation_of (seen x) s) && is_some (joined_after (seen x) s))
-      (counted_over x.setting (seen (with_input (Told n answer) x)) s a b ≡ true) k shown older
+    now : counts_over x.setting (seen x) s a b ≡ true → counted_over x.setting (seen (with_input (Told n answer) x)) s a b ≡ true
+    now k =
+        by_evidence (is_some (evidence_in x.setting (calls_of (seen x) s) a b)) (a == s.id && nat_lt b (generation_of (seen x) s) && is_some (joined_after (seen x) s))
+        (counted_over x.setting (seen (with_input (Told n answer) x)) s a b ≡ true) k shown older
 
 with_generation : Session → ℕ → Owner
 with_generation s n = record { id = s.id; generation = n }
@@ -281,11 +279,11 @@ was_open x n a wake bare expects calls m there opens =
     let was = in_map (answered_in x.past (entry_of (with_input (Told n a) x)) n a) (submitted (seen x)) m (subst (λ ms. Contains ms m) (told_calls x n a wake bare) there) in
     record { was = was.0; there = was.1; is = was.2; none = by was.0 was.1 was.2 opens }
   where
-  by : (d : Submitted) → Contains (submitted (seen x)) d → answered_in x.past (entry_of (with_input (Told n a) x)) n a d ≡ m → IsOpen (seen (with_input (Told n a) x)) (Some n) m → d.answer ≡ None
-  by d inside is (inl none) = told_none x.past (entry_of (with_input (Told n a) x)) n a d (ap (λ (z : Submitted). z.answer) is ∙ none)
-  by d inside is (inr heard) =
-      awaited x n a wake bare expects calls d inside
-      (ap (λ (c : Call). c.number) (sym (same_call x.past (entry_of (with_input (Told n a) x)) n a d).0) ∙ (ap (λ (z : Submitted). z.call.number) is ∙ sym (some_value n m.call.number heard.0)))
+    by : (d : Submitted) → Contains (submitted (seen x)) d → answered_in x.past (entry_of (with_input (Told n a) x)) n a d ≡ m → IsOpen (seen (with_input (Told n a) x)) (Some n) m → d.answer ≡ None
+    by d inside is (inl none) = told_none x.past (entry_of (with_input (Told n a) x)) n a d (ap (λ (z : Submitted). z.answer) is ∙ none)
+    by d inside is (inr heard) =
+        awaited x n a wake bare expects calls d inside
+        (ap (λ (c : Call). c.number) (sym (same_call x.past (entry_of (with_input (Told n a) x)) n a d).0) ∙ (ap (λ (z : Submitted). z.call.number) is ∙ sym (some_value n m.call.number heard.0)))
 
 called_as : (x : Step) (n : ℕ) (a : Answer) (m : Submitted) → (w : WasOpen x n a m) → w.was.call ≡ m.call
 called_as x n a m w = sym (same_call x.past (entry_of (with_input (Told n a) x)) n a w.was).0 ∙ ap (λ (z : Submitted). z.call) w.is
@@ -310,25 +308,26 @@ answers_leave x n a wake bare expects calls h =
       };
     }
   where
-  same : sessions x.setting (seen (with_input (Told n a) x)) ≡ sessions x.setting (seen x)
-  same = input_sessions x (Told n a) bare
+    same : sessions x.setting (seen (with_input (Told n a) x)) ≡ sessions x.setting (seen x)
+    same = input_sessions x (Told n a) bare
 
-  pair : (m k : Submitted) → WasOpen x n a m → WasOpen x n a k → IsTrue (is_area_work m.call.purpose) → IsTrue (is_area_work k.call.purpose) → spot_of_call x.setting.layout m ≡ spot_of_call x.setting.layout k → m ≡ k
-  pair m k v w m_work k_work spots =
-      let one : v.was ≡ w.was =
-      h.turns.one v.was w.was v.there w.there (inl v.none) (inl w.none) (ap (λ (c : Call). is_area_work c.purpose) (called_as x n a m v) ∙ m_work)
-      (ap (λ (c : Call). is_area_work c.purpose) (called_as x n a k w) ∙ k_work)
-      (spot_by x v.was.call m.call (called_as x n a m v) ∙ (spots ∙ sym (spot_by x w.was.call k.call (called_as x n a k w))))
-      in
-      sym v.is ∙ (ap (λ z. answered_in x.past (entry_of (with_input (Told n a) x)) n a z) one ∙ w.is)
+    pair : (m k : Submitted) → WasOpen x n a m → WasOpen x n a k → IsTrue (is_area_work m.call.purpose) → IsTrue (is_area_work k.call.purpose) → spot_of_call x.setting.layout m ≡ spot_of_call x.setting.layout k → m ≡ k
+    pair m k v w m_work k_work spots =
+        let one : v.was ≡ w.was =
+        h.turns.one v.was w.was v.there w.there (inl v.none) (inl w.none) (ap (λ (c : Call). is_area_work c.purpose) (called_as x n a m v) ∙ m_work)
+        (ap (λ (c : Call). is_area_work c.purpose) (called_as x n a k w) ∙ k_work)
+        (spot_by x v.was.call m.call (called_as x n a m v) ∙ (spots ∙ sym (spot_by x w.was.call k.call (called_as x n a k w))))
+        in
+        sym v.is ∙ (ap (λ z. answered_in x.past (entry_of (with_input (Told n a) x)) n a z) one ∙ w.is)
 
-  first : (s : Session) (m : Submitted) → WasOpen x n a m → session_numbered x.setting (seen x) m.call.session ≡ Some s → IsTrue (is_lease_call m)
-      → (ms : List Submitted) × (lease_calls x.setting (seen (with_input (Told n a) x)) s (spot_of_call x.setting.layout m) ≡ m ∷ ms)
-  first s m w its lease =
-      let f : Submitted → Submitted = answered_in x.past (entry_of (with_input (Told n a) x)) n a in
-      let was = h.turns.newest s w.was (ap (λ (c : Call). session_numbered x.setting (seen x) c.session) (called_as x n a m w) ∙ its) w.there (inl w.none)
-          (ap (λ (c : Call). is_some (lease_step c.purpose)) (called_as x n a m w) ∙ lease) in
-      let spot : spot_of_call x.setting.layout w.was ≡ spot_of_call x.setting.layout m = spot_by x w.was.call m.call (called_as x n a m w) in
-      (map f was.0,
-      told_lease x n a wake bare s (spot_of_call x.setting.layout m)
-      ∙ (ap (λ z. map f (lease_calls x.setting (seen x) s z)) (sym spot) ∙ (ap (λ zs. map f zs) was.1 ∙ ap (λ z. z ∷ map f was.0) w.is)))
+    first : (s : Session) (m : Submitted) → WasOpen x n a m → session_numbered x.setting (seen x) m.call.session ≡ Some s → IsTrue (is_lease_call m)
+        → (ms : List Submitted) × (lease_calls x.setting (seen (with_input (Told n a) x)) s (spot_of_call x.setting.layout m) ≡ m ∷ ms)
+    first s m w its lease =
+        let f : Submitted → Submitted = answered_in x.past (entry_of (with_input (Told n a) x)) n a in
+        let was = h.turns.newest s w.was (ap (λ (c : Call). session_numbered x.setting (seen x) c.session) (called_as x n a m w) ∙ its) w.there (inl w.none)
+        (ap (λ (c : Call). is_some (lease_step c.purpose)) (called_as x n a m w) ∙ lease) in
+        let spot : spot_of_call x.setting.layout w.was ≡ spot_of_call x.setting.layout m = spot_by x w.was.call m.call (called_as x n a m w) in (
+          map f was.0,
+          told_lease x n a wake bare s (spot_of_call x.setting.layout m)
+              ∙ (ap (λ z. map f (lease_calls x.setting (seen x) s z)) (sym spot) ∙ (ap (λ zs. map f zs) was.1 ∙ ap (λ z. z ∷ map f was.0) w.is)),
+        )

@@ -9,12 +9,12 @@ use Rattle.sl_lease_ways.proofs.Kept.PlacesStand.{either_list}
 use Rattle.sl_lease_ways.proofs.Kept.WaysGrow.{ways_grow}
 use Rattle.sl_lease_ways.specs.Kept.{LeasesStand}
 use Rattle.sl_leases.specs.Leases.{is_lease_call, is_on, lease_calls, lease_step, spot_of_call}
-use Rattle.sl_sessions.specs.Sessions.{added_by, begun_in, calls_of, is_call_of, is_join_call, joining_session, session_numbered, sessions}
+use Rattle.sl_sessions.specs.Sessions.{added_by, begun_in, is_call_of, is_join_call, joining_session, session_numbered, sessions}
 use Rattle.sl_sessions.specs.declared.session.Session.{Session}
 use Rattle.sl_step_facts.specs.CallFacts.{CallFacts}
-use Rattle.sl_step_facts.specs.Heard.{IsOpen, heard_by}
+use Rattle.sl_step_facts.specs.Heard.{IsOpen}
 use Rattle.sl_step_facts.specs.WayFacts.{IsAligned, Ways, way_context}
-use Rattle.sl_trace.specs.Traces.{Setting, Submitted, Trace, next_job, submitted}
+use Rattle.sl_trace.specs.Traces.{Submitted, next_job, submitted}
 use Rattle.sl_trace.specs.TraceLaws.{with_call}
 use Rattle.sl_trace.specs.declared.command.LockspaceArg.{LockspaceArg}
 use Rattle.sl_trace.specs.declared.effects.Call.{Call}
@@ -25,12 +25,10 @@ use Rattle.sl_trace.specs.declared.effects.Purpose.TheVariants.{Joining}
 use Rattle.sl_trace.specs.declared.effects.Purpose.{Purpose}
 use Rattle.sl_trace.specs.declared.effects.Spot.{Spot}
 use Rattle.sl_trace.specs.declared.input.Input.TheVariants.{Line, Wake}
-use Rattle.sl_plain.proofs.Lists.{contains_cases, contains_first, contains_more, contains_none, got_before, got_inside}
+use Rattle.sl_plain.proofs.Lists.{contains_cases, contains_first, contains_more, contains_none}
 use Rattle.sl_plain.proofs.Numbers.{less_is_other}
 use Rattle.sl_plain.proofs.Options.{some_of}
-use Rattle.sl_trace_law.proofs.Leases.NumberLaws.{number_is_place}
-use Rattle.sl_acts.proofs.Additions.{contains_at}
-use Rattle.sl_words.proofs.CaseLaws.{none_some, one_value, true_is_false}
+use Rattle.sl_words.proofs.CaseLaws.{none_some, one_value}
 use Rattle.std.proofs.Common.{ap, append-nil, arith, inl, inr, refl, subst, sym, tests, ◌∙◌}
 use Rattle.std.specs.List.{list_any}
 use Rattle.std.specs.Prelude.{Bool, Contains, IsTrue, List, None, Option, Some, [], cond, false, filter, is_some, length, slice_get, suc, true, zero, ℕ, ◌&&◌, ◌++◌, ◌<◌, ◌==◌, ◌∷◌, ◌≡◌, ◌⊎◌}
@@ -92,51 +90,51 @@ joins_leave x text n path j o op wake bare calls next h =
       };
     }
   where
-  y : Step
-  y = with_input (Line text) x
+    y : Step
+    y = with_input (Line text) x
 
-  p : Purpose
-  p = Joining j FirstRead
+    p : Purpose
+    p = Joining j FirstRead
 
-  k : LeasesStand (with_input (Line text) x)
-  k = quiet_inputs_leave x (Line text) wake bare refl h
+    k : LeasesStand (with_input (Line text) x)
+    k = quiet_inputs_leave x (Line text) wake bare refl h
 
-  unowned : (z : Session) → z.number ≡ length (sessions x.setting (seen x)) → (m : Submitted) → Contains (submitted (seen x)) m → (m.call.session == z.number) ≡ false
-  unowned z number m there =
-      let s = some_of (session_numbered x.setting (seen x) m.call.session) (calls.owned m there) in
-      less_is_other m.call.session z.number (lower m.call.session (length (sessions x.setting (seen x))) z.number (below_length (sessions x.setting (seen x)) m.call.session s.0 s.1) number)
+    unowned : (z : Session) → z.number ≡ length (sessions x.setting (seen x)) → (m : Submitted) → Contains (submitted (seen x)) m → (m.call.session == z.number) ≡ false
+    unowned z number m there =
+        let s = some_of (session_numbered x.setting (seen x) m.call.session) (calls.owned m there) in
+        less_is_other m.call.session z.number (lower m.call.session (length (sessions x.setting (seen x))) z.number (below_length (sessions x.setting (seen x)) m.call.session s.0 s.1) number)
 
-  each : (z : Session) (at : Spot) → IsAligned x.setting at → Contains (sessions x.setting x.past) z ⊎ Contains (begun_in x.setting x.past (length (sessions x.setting x.past)) (with_call (made_call (with_input (Line text) x) n path (Joining j FirstRead) o op) (entry_of (with_input (Line text) x)))) z
-      → Ways (way_context x.setting (seen (add_call_of n path (Joining j FirstRead) o op (with_input (Line text) x))) z) (lease_calls x.setting (seen (add_call_of n path (Joining j FirstRead) o op (with_input (Line text) x))) z at)
-  each z at aligned (inl old) =
-      let in_x : Contains (sessions x.setting (seen x)) z = subst (λ ss. Contains ss z) (sym (bare_sessions x bare)) old in
-      let other : (n == z.number) ≡ false = apart z.number n (lower z.number (length (sessions x.setting (seen x))) n (old_number x z in_x) next) in
-      let in_y : Contains (sessions x.setting (seen (with_input (Line text) x))) z = subst (λ ss. Contains ss z) (sym (input_sessions x (Line text) bare)) in_x in
-      subst (λ ms. Ways (way_context x.setting (seen (add_call_of n path (Joining j FirstRead) o op (with_input (Line text) x))) z) ms) (sym (calls_left (with_input (Line text) x) n path (Joining j FirstRead) o op refl z at))
-      (ways_grow (way_context x.setting (seen (with_input (Line text) x)) z) (way_context x.setting (seen (add_call_of n path (Joining j FirstRead) o op (with_input (Line text) x))) z)
-      (other_grows (with_input (Line text) x) n path (Joining j FirstRead) o op z other) (lease_calls x.setting (seen (with_input (Line text) x)) z at) (k.ways.each z at in_y aligned))
-  each z at aligned (inr new) =
-      let number : z.number ≡ length (sessions x.setting (seen x)) =
-      new_number x (length (sessions x.setting x.past)) (with_call (made_call (with_input (Line text) x) n path (Joining j FirstRead) o op) (entry_of (with_input (Line text) x))) z new
-      ∙ sym (ap (λ ss. length ss) (bare_sessions x bare))
-      in
-      let empty : lease_calls x.setting (seen (add_call_of n path (Joining j FirstRead) o op (with_input (Line text) x))) z at ≡ [] =
-      calls_left (with_input (Line text) x) n path (Joining j FirstRead) o op refl z at
-      ∙ ap (λ ms. filter (λ (m : Submitted). is_lease_call m && is_on x.setting.layout at m.call) ms)
-      (filter_none (is_call_of z) (submitted (seen (with_input (Line text) x)))
-      (λ m there. unowned z number m (subst (λ ms. Contains ms m) (quiet_same x (Line text) wake refl) there)))
-      in
-      subst (λ ms. Ways (way_context x.setting (seen (add_call_of n path (Joining j FirstRead) o op (with_input (Line text) x))) z) ms) (sym empty) tt
+    each : (z : Session) (at : Spot) → IsAligned x.setting at → Contains (sessions x.setting x.past) z ⊎ Contains (begun_in x.setting x.past (length (sessions x.setting x.past)) (with_call (made_call (with_input (Line text) x) n path (Joining j FirstRead) o op) (entry_of (with_input (Line text) x)))) z
+        → Ways (way_context x.setting (seen (add_call_of n path (Joining j FirstRead) o op (with_input (Line text) x))) z) (lease_calls x.setting (seen (add_call_of n path (Joining j FirstRead) o op (with_input (Line text) x))) z at)
+    each z at aligned (inl old) =
+        let in_x : Contains (sessions x.setting (seen x)) z = subst (λ ss. Contains ss z) (sym (bare_sessions x bare)) old in
+        let other : (n == z.number) ≡ false = apart z.number n (lower z.number (length (sessions x.setting (seen x))) n (old_number x z in_x) next) in
+        let in_y : Contains (sessions x.setting (seen (with_input (Line text) x))) z = subst (λ ss. Contains ss z) (sym (input_sessions x (Line text) bare)) in_x in
+        subst (λ ms. Ways (way_context x.setting (seen (add_call_of n path (Joining j FirstRead) o op (with_input (Line text) x))) z) ms) (sym (calls_left (with_input (Line text) x) n path (Joining j FirstRead) o op refl z at))
+        (ways_grow (way_context x.setting (seen (with_input (Line text) x)) z) (way_context x.setting (seen (add_call_of n path (Joining j FirstRead) o op (with_input (Line text) x))) z)
+        (other_grows (with_input (Line text) x) n path (Joining j FirstRead) o op z other) (lease_calls x.setting (seen (with_input (Line text) x)) z at) (k.ways.each z at in_y aligned))
+    each z at aligned (inr new) =
+        let number : z.number ≡ length (sessions x.setting (seen x)) =
+        new_number x (length (sessions x.setting x.past)) (with_call (made_call (with_input (Line text) x) n path (Joining j FirstRead) o op) (entry_of (with_input (Line text) x))) z new
+        ∙ sym (ap (λ ss. length ss) (bare_sessions x bare))
+        in
+        let empty : lease_calls x.setting (seen (add_call_of n path (Joining j FirstRead) o op (with_input (Line text) x))) z at ≡ [] =
+        calls_left (with_input (Line text) x) n path (Joining j FirstRead) o op refl z at
+        ∙ ap (λ ms. filter (λ (m : Submitted). is_lease_call m && is_on x.setting.layout at m.call) ms)
+        (filter_none (is_call_of z) (submitted (seen (with_input (Line text) x)))
+        (λ m there. unowned z number m (subst (λ ms. Contains ms m) (quiet_same x (Line text) wake refl) there)))
+        in
+        subst (λ ms. Ways (way_context x.setting (seen (add_call_of n path (Joining j FirstRead) o op (with_input (Line text) x))) z) ms) (sym empty) tt
 
-  newest : (z : Session) (m : Submitted) → session_numbered x.setting (seen (add_call_of n path (Joining j FirstRead) o op (with_input (Line text) x))) m.call.session ≡ Some z → Contains (submitted (seen (with_input (Line text) x))) m
-      → IsOpen (seen (with_input (Line text) x)) None m → IsTrue (is_lease_call m)
-      → (ms : List Submitted) × (lease_calls x.setting (seen (add_call_of n path (Joining j FirstRead) o op (with_input (Line text) x))) z (spot_of_call x.setting.layout m) ≡ m ∷ ms)
-  newest z m its there opens lease =
-      let s = some_of (session_numbered x.setting (seen x) m.call.session) (calls.owned m (subst (λ ms. Contains ms m) (quiet_same x (Line text) wake refl) there)) in
-      let in_y : session_numbered x.setting (seen (with_input (Line text) x)) m.call.session ≡ Some s.0 = ap (λ ss. slice_get ss m.call.session) (input_sessions x (Line text) bare) ∙ s.1 in
-      let same : s.0 ≡ z =
-      one_value s.0 z (session_numbered x.setting (seen (add_call_of n path (Joining j FirstRead) o op (with_input (Line text) x))) m.call.session)
-      (numbered_more x.setting x.past (entry_of (with_input (Line text) x)) (made_call (with_input (Line text) x) n path (Joining j FirstRead) o op) m.call.session s.0 in_y) its
-      in
-      let was = k.turns.newest z m (in_y ∙ ap (λ (w : Session). Some w) same) there opens lease in
-      (was.0, calls_left (with_input (Line text) x) n path (Joining j FirstRead) o op refl z (spot_of_call x.setting.layout m) ∙ was.1)
+    newest : (z : Session) (m : Submitted) → session_numbered x.setting (seen (add_call_of n path (Joining j FirstRead) o op (with_input (Line text) x))) m.call.session ≡ Some z → Contains (submitted (seen (with_input (Line text) x))) m
+        → IsOpen (seen (with_input (Line text) x)) None m → IsTrue (is_lease_call m)
+        → (ms : List Submitted) × (lease_calls x.setting (seen (add_call_of n path (Joining j FirstRead) o op (with_input (Line text) x))) z (spot_of_call x.setting.layout m) ≡ m ∷ ms)
+    newest z m its there opens lease =
+        let s = some_of (session_numbered x.setting (seen x) m.call.session) (calls.owned m (subst (λ ms. Contains ms m) (quiet_same x (Line text) wake refl) there)) in
+        let in_y : session_numbered x.setting (seen (with_input (Line text) x)) m.call.session ≡ Some s.0 = ap (λ ss. slice_get ss m.call.session) (input_sessions x (Line text) bare) ∙ s.1 in
+        let same : s.0 ≡ z =
+        one_value s.0 z (session_numbered x.setting (seen (add_call_of n path (Joining j FirstRead) o op (with_input (Line text) x))) m.call.session)
+        (numbered_more x.setting x.past (entry_of (with_input (Line text) x)) (made_call (with_input (Line text) x) n path (Joining j FirstRead) o op) m.call.session s.0 in_y) its
+        in
+        let was = k.turns.newest z m (in_y ∙ ap (λ (w : Session). Some w) same) there opens lease in
+        (was.0, calls_left (with_input (Line text) x) n path (Joining j FirstRead) o op refl z (spot_of_call x.setting.layout m) ∙ was.1)

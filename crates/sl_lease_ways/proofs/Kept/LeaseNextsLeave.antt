@@ -1,55 +1,48 @@
 -- What a lease decided leaves ways and turns.
 use Rattle.sl_acts.specs.Acts.{Has}
-use Rattle.sl_acts.specs.SoFar.{entry_of}
 use Rattle.sl_area.specs.Places.{block_offset, in_area, leader_offset}
-use Rattle.sl_area.specs.Roles.{IsRole, Role, block, leader}
-use Rattle.sl_due.specs.DueLease.{carry_lease, convert_for, for_work, grant_for, lease_call, read_for, with_command, write_block, write_leader}
-use Rattle.sl_due.specs.Steps.{Step, add_call_of, add_end, add_grant, add_move, add_reply, add_signal, add_start, seen}
+use Rattle.sl_area.specs.Roles.{block, leader}
+use Rattle.sl_due.specs.DueLease.{carry_lease, convert_for, for_work, read_for, with_command, write_block}
+use Rattle.sl_due.specs.Steps.{Step, add_reply, seen}
 use Rattle.sl_law.specs.Lawful.{IsSetting}
 use Rattle.sl_law.specs.LawfulArea.{is_area_work}
 use Rattle.sl_law.specs.LawfulBlock.{LawfulPhase1}
 use Rattle.sl_lease_ways.proofs.Kept.AreaCallsLeave.{MayWork, area_calls_leave}
 use Rattle.sl_lease_ways.proofs.Kept.CallsSame.{reply_leaves}
 use Rattle.sl_lease_ways.proofs.Kept.EffectsLeave.{Carries, ends_leave, grants_leave, made_call, moves_leave, replies_leave, reply_carries, reply_grows, signals_leave, starts_leave, there_has}
-use Rattle.sl_lease_ways.proofs.Kept.PlacesStand.{id_in_range, is_sizes, place_is_on, placed_on}
+use Rattle.sl_lease_ways.proofs.Kept.PlacesStand.{id_in_range, place_is_on, placed_on}
 use Rattle.sl_lease_ways.proofs.Kept.PlainWalks.{ByPlain, converted, granted}
-use Rattle.sl_lease_ways.proofs.Kept.WaysGrow.{Grows, way_grows}
+use Rattle.sl_lease_ways.proofs.Kept.WaysGrow.{way_grows}
 use Rattle.sl_lease_ways.proofs.Lawful.BallotLaws.{own_is}
 use Rattle.sl_lease_ways.specs.Kept.{LeasesStand}
 use Rattle.sl_lease_ways.specs.Nexts.{Moment, NextIs, calls_at, context_at}
-use Rattle.sl_leases.specs.Ballots.{moded_block, phase1_block}
-use Rattle.sl_leases.specs.Leases.{block_submitted, ended_ballots, exclusive_on, last_blocks, lease_calls, lease_step, open_ballot, own_block, spot_of_call}
+use Rattle.sl_leases.specs.Ballots.{phase1_block}
+use Rattle.sl_leases.specs.Leases.{ended_ballots, lease_calls, open_ballot, spot_of_call}
 use Rattle.sl_leases.specs.declared.lease.LeaseNext.TheVariants.{AnswerJob, BecomeExclusive, BecomeShared, GrantJob, Nothing, ReadFor, WriteBlock, WriteLeader}
 use Rattle.sl_leases.specs.declared.lease.LeaseNext.{LeaseNext}
 use Rattle.sl_sector.specs.declared.sector.Block.{Block}
 use Rattle.sl_sector.specs.declared.sector.Leader.{Leader}
 use Rattle.sl_sector.specs.declared.sector.Rec.TheVariants.{BlockIs, LeaderIs}
-use Rattle.sl_sessions.specs.Sessions.{delta_of_record, me, sessions}
+use Rattle.sl_sessions.specs.Sessions.{delta_of_record, me}
 use Rattle.sl_sessions.specs.declared.session.Session.{Session}
 use Rattle.sl_step_facts.specs.WayFacts.{In_settling, IsAligned, IsVerified, Phase1Way, PurposeWay, StepWay, way_context}
-use Rattle.sl_trace.specs.Traces.{Setting, Submitted, Trace, is_before_input, next_call, record_of, submitted, work_job}
+use Rattle.sl_trace.specs.Traces.{Submitted, is_before_input, next_call, record_of, submitted, work_job}
 use Rattle.sl_trace.specs.declared.effects.Call.{Call}
-use Rattle.sl_trace.specs.declared.effects.End.{End}
-use Rattle.sl_trace.specs.declared.effects.Grant.{Grant}
 use Rattle.sl_trace.specs.declared.effects.LeaseStep.TheVariants.{ClearMode, FreeLeader, Phase1Read, Phase1Write, Phase2Read, Phase2Write, ReadArea, ReadBeforeFree, SetMode, TakeLeader}
 use Rattle.sl_trace.specs.declared.effects.LeaseStep.{LeaseStep}
 use Rattle.sl_trace.specs.declared.effects.Mode.TheVariants.{Exclusive, Shared}
-use Rattle.sl_trace.specs.declared.effects.Move.{Move}
-use Rattle.sl_trace.specs.declared.effects.Op.TheVariants.{ReadSectors, WriteRecord}
+use Rattle.sl_trace.specs.declared.effects.Op.TheVariants.{WriteRecord}
 use Rattle.sl_trace.specs.declared.effects.Op.{Op}
 use Rattle.sl_trace.specs.declared.effects.Purpose.TheVariants.{Lease}
 use Rattle.sl_trace.specs.declared.effects.Purpose.{Purpose}
-use Rattle.sl_trace.specs.declared.effects.Signal.{Signal}
 use Rattle.sl_trace.specs.declared.effects.Spot.{Spot}
-use Rattle.sl_trace.specs.declared.effects.Start.{Start}
 use Rattle.sl_trace.specs.declared.effects.Work.TheVariants.{Settling}
 use Rattle.sl_trace.specs.declared.effects.Work.{Work}
 use Rattle.sl_trace.specs.declared.reply.Reply.{Reply}
 use Rattle.sl_acts.proofs.LoopsKeep.{with_some_keeps}
 use Rattle.sl_words.proofs.CaseLaws.{some_value}
-use Rattle.sl_words.specs.Words.{present}
 use Rattle.std.proofs.Common.{ap, arith, inl, refl, subst, sym, ◌∙◌}
-use Rattle.std.specs.Prelude.{Bool, Contains, List, None, Option, Some, false, is_some, length, option_and_then, option_map, true, ℕ, ◌+◌, ◌<◌, ◌≡◌, ◌≤◌}
+use Rattle.std.specs.Prelude.{Contains, None, false, length, option_and_then, true, ℕ, ◌+◌, ◌<◌, ◌≡◌, ◌≤◌}
 
 -- A reply that comes after an input.
 abbrev pub IsLate : Reply → Type 0
@@ -228,7 +221,7 @@ next_leaves x s at h work (BecomeShared lver l) e n k =
     })
     in
     let z = converted IsLate (λ y. LeasesStand y × MayWork y s at (Lease Settling FreeLeader) (leader_offset at.base) (WriteRecord (LeaderIs l)))
-        (work_by_late s at (Lease Settling FreeLeader) (leader_offset at.base) (WriteRecord (LeaderIs l))) x s at work Shared lver (k, may) in
+    (work_by_late s at (Lease Settling FreeLeader) (leader_offset at.base) (WriteRecord (LeaderIs l))) x s at work Shared lver (k, may) in
     area_calls_leave (for_work work (λ j. with_command j (λ c. convert_for s at j c Shared lver)) x) s at (Lease Settling FreeLeader) (leader_offset at.base) (WriteRecord (LeaderIs l)) z.1 z.0
 next_leaves x s at h work (BecomeExclusive lver b) e n k =
     let may : MayWork x s at (Lease Settling ClearMode) (block_offset x.setting.layout at.base s.id) (WriteRecord (BlockIs b)) =
@@ -236,6 +229,6 @@ next_leaves x s at h work (BecomeExclusive lver b) e n k =
     (λ c op. record { own = n.0; known = n.1; wrote = op ∙ ap (λ z. WriteRecord (BlockIs z)) n.2 })
     in
     let z = converted IsLate (λ y. LeasesStand y × MayWork y s at (Lease Settling ClearMode) (block_offset y.setting.layout at.base s.id) (WriteRecord (BlockIs b)))
-        (clear_by_late s at b) x s at work Exclusive lver (k, may) in
+    (clear_by_late s at b) x s at work Exclusive lver (k, may) in
     let w : Step = for_work work (λ j. with_command j (λ c. convert_for s at j c Exclusive lver)) x in
     area_calls_leave w s at (Lease Settling ClearMode) (block_offset w.setting.layout at.base s.id) (WriteRecord (BlockIs b)) z.1 z.0

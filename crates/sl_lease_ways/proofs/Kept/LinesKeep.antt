@@ -3,19 +3,18 @@ use Rattle.sl_acts.proofs.DecisionsAreTheirs.{Of, decisions_are_theirs}
 use Rattle.sl_acts.proofs.PlainActs.{line_has}
 use Rattle.sl_acts.specs.Acts.{Has}
 use Rattle.sl_acts.specs.Promises.{IsDecidedFor}
-use Rattle.sl_acts.specs.SoFar.{entry_of}
 use Rattle.sl_area.specs.Places.{in_area, value_offset}
 use Rattle.sl_area.specs.Roles.{leader, value}
 use Rattle.sl_due.specs.DueCommands.{after_end, carry_decision, decided, reply_at_once}
 use Rattle.sl_due.specs.DueLease.{carry_lease}
-use Rattle.sl_due.specs.Steps.{Step, add_call_of, add_end, add_reply, seen, with_input}
+use Rattle.sl_due.specs.Steps.{Step, add_end, add_reply, seen, with_input}
 use Rattle.sl_due.specs.declared.decision.Decision.TheVariants.{ConvertsTo, GetsValue, GivesUp, Joins, Leaves, ReadsArea, Replies, Requests, SetsValue, Shares, TakesOver}
 use Rattle.sl_due.specs.declared.decision.Decision.{Decision}
 use Rattle.sl_law.specs.LawfulArea.{is_area_work}
 use Rattle.sl_lease_ways.proofs.Kept.AreaCallsLeave.{MayWork, area_calls_leave}
 use Rattle.sl_lease_ways.proofs.Kept.CallsSame.{HeardNoJob}
-use Rattle.sl_lease_ways.proofs.Kept.DecisionsAreClear.{DecidedOn, IsAsked, decisions_are_clear}
-use Rattle.sl_lease_ways.proofs.Kept.EffectsLeave.{ends_leave, grants_leave, made_call, moves_leave, replies_leave, signals_leave, starts_leave, there_has}
+use Rattle.sl_lease_ways.proofs.Kept.DecisionsAreClear.{DecidedOn, decisions_are_clear}
+use Rattle.sl_lease_ways.proofs.Kept.EffectsLeave.{ends_leave, grants_leave, made_call, moves_leave, replies_leave, signals_leave, starts_leave}
 use Rattle.sl_lease_ways.proofs.Kept.HeardStands.{spot_same}
 use Rattle.sl_lease_ways.proofs.Kept.InputsLeave.{answers, input_sessions, quiet_inputs_leave, quiet_same}
 use Rattle.sl_lease_ways.proofs.Kept.JoinsLeave.{joins_leave}
@@ -25,49 +24,43 @@ use Rattle.sl_lease_ways.proofs.Kept.PlacesStand.{either_list, place_is_on, plac
 use Rattle.sl_lease_ways.proofs.Kept.PlainWalks.{ByPlain, granting, stopped}
 use Rattle.sl_lease_ways.proofs.NextsFit.AnswersFit.{conversions_fit, releases_fit}
 use Rattle.sl_lease_ways.specs.Kept.{LeasesStand}
-use Rattle.sl_lease_ways.specs.Nexts.{NextIs}
 use Rattle.sl_leases.specs.Ballots.{moded_block}
 use Rattle.sl_leases.specs.Jobs.{aim_of, aim_of_command, command_numbered, command_of}
 use Rattle.sl_leases.specs.LeaseWork.{LeasePlace, convert_next, lease_place, release_next}
-use Rattle.sl_leases.specs.Leases.{LeaseKnown, ended_ballots, holdings_on, is_lease_call, is_on, known, lease_calls, lease_step, open_ballot, spot_of}
-use Rattle.sl_leases.specs.declared.lease.Aim.TheVariants.{Converts, Releases}
-use Rattle.sl_leases.specs.declared.lease.Aim.{Aim}
+use Rattle.sl_leases.specs.Leases.{LeaseKnown, ended_ballots, holdings_on, is_lease_call, is_on, known, lease_step, open_ballot, spot_of}
+use Rattle.sl_leases.specs.declared.lease.Aim.TheVariants.{Releases}
 use Rattle.sl_leases.specs.declared.lease.LeaseNext.TheVariants.{AnswerJob, BecomeExclusive, BecomeShared, GrantJob, Nothing, ReadFor, WriteBlock, WriteLeader}
 use Rattle.sl_leases.specs.declared.lease.LeaseNext.{LeaseNext}
 use Rattle.sl_sector.specs.declared.sector.Block.{Block}
 use Rattle.sl_sector.specs.declared.sector.Leader.{Leader}
-use Rattle.sl_sessions.specs.Sessions.{delta_of_record, generation_in, holdings_of, is_call_of, me, session_numbered, sessions}
+use Rattle.sl_sessions.specs.Sessions.{delta_of_record, generation_in, holdings_of, is_call_of, session_numbered}
 use Rattle.sl_sessions.specs.declared.session.Session.{Session}
-use Rattle.sl_sector.specs.declared.sector.Owner.{Owner}
 use Rattle.sl_step_facts.specs.HoldingFacts.{HoldingFacts, StandsExclusive}
 use Rattle.sl_step_facts.specs.Heard.{heard_by}
 use Rattle.sl_step_facts.specs.Whole.{Whole}
 use Rattle.sl_trace.specs.Traces.{Job, Setting, Submitted, Trace, end_of, holdings, is_shared, job_in, job_numbered, jobs, line_in, next_job, numbers_taken, record_of, same_place, spot_of_grant, submitted, takes_number}
-use Rattle.sl_trace.specs.declared.command.Command.TheVariants.{AddLockspace}
 use Rattle.sl_trace.specs.declared.command.Command.{Command}
 use Rattle.sl_trace.specs.declared.command.ResourceArg.{ResourceArg}
-use Rattle.sl_trace.specs.declared.effects.Entry.{Entry}
 use Rattle.sl_trace.specs.declared.effects.Grant.{Grant}
-use Rattle.sl_trace.specs.declared.effects.JoinStep.TheVariants.{FirstRead}
 use Rattle.sl_trace.specs.declared.effects.LeaseStep.TheVariants.{ClearMode, ReadArea, SetMode}
 use Rattle.sl_trace.specs.declared.effects.LeaseStep.{LeaseStep}
 use Rattle.sl_trace.specs.declared.effects.Mode.TheVariants.{Exclusive, Shared}
 use Rattle.sl_trace.specs.declared.effects.Mode.{Mode}
 use Rattle.sl_trace.specs.declared.effects.Op.{Op}
-use Rattle.sl_trace.specs.declared.effects.Purpose.TheVariants.{Joining, RequestRead, ValueRead, ValueWrite}
+use Rattle.sl_trace.specs.declared.effects.Purpose.TheVariants.{RequestRead, ValueRead, ValueWrite}
 use Rattle.sl_trace.specs.declared.effects.Purpose.{Purpose}
 use Rattle.sl_trace.specs.declared.effects.Spot.{Spot}
 use Rattle.sl_trace.specs.declared.effects.Work.TheVariants.{ForJob}
 use Rattle.sl_trace.specs.declared.input.Input.TheVariants.{Answer as Told, Exit, Line, Number, Spawned, Wake}
 use Rattle.sl_trace.specs.declared.input.Input.{Input}
-use Rattle.sl_trace.specs.declared.reply.Reply.TheVariants.{Done, Recovering}
+use Rattle.sl_trace.specs.declared.reply.Reply.TheVariants.{Done}
 use Rattle.sl_trace.specs.declared.reply.Reply.{Reply}
 use Rattle.sl_plain.proofs.Lists.{contains_cases, contains_first, contains_more, contains_none, kept_inside}
 use Rattle.sl_plain.proofs.Numbers.{less_is_other, number_itself}
-use Rattle.sl_words.proofs.CaseLaws.{false_is_true, none_some, true_is_false}
+use Rattle.sl_words.proofs.CaseLaws.{true_is_false}
 use Rattle.std.proofs.Common.{ap, arith, eqb-true, inl, inr, refl, subst, sym, ◌∙◌}
 use Rattle.std.specs.Option.{option_map_or}
-use Rattle.std.specs.Prelude.{Bool, Contains, IsTrue, List, None, Ok, Option, Some, [], cond, false, filter, find, is_some, length, option_and_then, slice_get, true, ℕ, ◌&&◌, ◌++◌, ◌+◌, ◌<◌, ◌==◌, ◌∷◌, ◌≡◌, ◌≤◌, ◌⊎◌}
+use Rattle.std.specs.Prelude.{Bool, Contains, List, None, Ok, Option, Some, [], cond, false, filter, find, is_some, length, option_and_then, slice_get, true, ℕ, ◌&&◌, ◌++◌, ◌+◌, ◌<◌, ◌==◌, ◌∷◌, ◌≡◌, ◌≤◌, ◌⊎◌}
 
 -- ---- the line's job
 
@@ -194,10 +187,12 @@ held_ended x s r g has held there =
     let placed = kept_inside (λ (k : Grant). same_place k.path k.offset (spot_of r).path (spot_of r).base) (holdings_of (seen x) s) g there in
     let owned = kept_inside (λ (k : Grant). k.session == s.number) (holdings (seen x)) g placed.0 in
     let its : session_numbered x.setting (seen x) g.session ≡ Some s = ap (λ n. session_numbered x.setting (seen x) n) (eqb-true g.session s.number owned.1) ∙ has in
-    let spot : spot_of_grant g ≡ spot_of r = spot_same g (spot_of r) placed.1 in
-    (spot, λ exclusive.
-    let stands : StandsExclusive x.setting (seen x) (heard_by x.input) s (spot_of_grant g) g.lver = held.stands g s owned.0 its (ap (λ m. is_shared m) exclusive) in
-    subst (λ z. HasEnded x s z g.lver) spot (stands.ballot.won, stands.concluded))
+    let spot : spot_of_grant g ≡ spot_of r = spot_same g (spot_of r) placed.1 in (
+      spot,
+      λ exclusive.
+          let stands : StandsExclusive x.setting (seen x) (heard_by x.input) s (spot_of_grant g) g.lver = held.stands g s owned.0 its (ap (λ m. is_shared m) exclusive) in
+          subst (λ z. HasEnded x s z g.lver) spot (stands.ballot.won, stands.concluded),
+    )
 
 ended_ready : (y : Step) (s : Session) (at : Spot) (g : Grant) → LeaseReady y s at → LeaseReady (add_end (end_of g) y) s at
 ended_ready y s at g h = record { has = h.has; setting = h.setting; aligned = h.aligned; clear = h.clear; below = h.below }

@@ -1,10 +1,9 @@
 -- Where a command's decision is to work on an area, and where a settling begins, the area is free for a call.
 use Rattle.sl_acts.specs.Acts.{Has}
-use Rattle.sl_area.specs.Places.{in_area, is_base}
+use Rattle.sl_area.specs.Places.{is_base}
 use Rattle.sl_area.specs.Roles.{leader}
 use Rattle.sl_due.specs.Steps.{Step, seen, with_input}
 use Rattle.sl_law.specs.Lawful.{IsSetting}
-use Rattle.sl_law.specs.LawfulArea.{is_area_work}
 use Rattle.sl_lease_ways.proofs.Kept.DecisionsAreClear.{IsAsked}
 use Rattle.sl_lease_ways.proofs.Kept.InputsLeave.{quiet_same}
 use Rattle.sl_lease_ways.proofs.Kept.LeaseNextsLeave.{LeaseReady}
@@ -14,10 +13,9 @@ use Rattle.sl_leases.specs.Jobs.{resource_named}
 use Rattle.sl_leases.specs.Leases.{is_on, open_on, spot_of, spot_of_call}
 use Rattle.sl_sessions.specs.declared.session.Session.{Session}
 use Rattle.sl_step_facts.specs.CallFacts.{CallFacts}
-use Rattle.sl_step_facts.specs.WayFacts.{IsAligned}
 use Rattle.sl_area.specs.Layouts.{Layout}
 use Rattle.sl_trace.specs.Commands.{IsCommand, IsResourceArg}
-use Rattle.sl_trace.specs.Traces.{Setting, Submitted, Trace, next_call, outstanding, submitted}
+use Rattle.sl_trace.specs.Traces.{Setting, Submitted, Trace, outstanding, submitted}
 use Rattle.sl_trace.specs.declared.command.Command.TheVariants.{Acquire, AddLockspace, Convert, GetLvb, HostStatus, InqLockspace, Release, ReleaseOrphan, RemLockspace, Request, RunProgram, SetKillpath, SetLvb, Status, TakeOver}
 use Rattle.sl_trace.specs.declared.command.Command.{Command}
 use Rattle.sl_trace.specs.declared.command.ResourceArg.{ResourceArg}
@@ -27,9 +25,9 @@ use Rattle.sl_words.specs.Words.{least}
 use Rattle.sl_plain.proofs.Lists.{contains_none, kept}
 use Rattle.sl_words.proofs.CaseLaws.{none_some, some_value}
 use Rattle.sl_words.proofs.WordLaws.{and_true}
-use Rattle.std.proofs.Common.{ap, arith, eqb-true, refl, subst, sym, tests, ◌∙◌}
+use Rattle.std.proofs.Common.{ap, arith, eqb-true, refl, subst, sym, tests}
 use Rattle.std.proofs.Math.Nat.{div-add-mod, mod-lt}
-use Rattle.std.specs.Prelude.{Bool, Contains, IsTrue, List, None, Ok, Option, Some, [], filter, is_none, length, map, min, nat_le, nat_lt, true, ℕ, ◌%◌, ◌&&◌, ◌*◌, ◌+◌, ◌-◌, ◌/◌, ◌<◌, ◌==◌, ◌∷◌, ◌≡◌, ◌≤◌, ◌^◌}
+use Rattle.std.specs.Prelude.{Contains, IsTrue, List, None, Ok, Option, Some, [], is_none, length, map, min, nat_le, nat_lt, true, ℕ, ◌%◌, ◌&&◌, ◌*◌, ◌+◌, ◌-◌, ◌/◌, ◌<◌, ◌==◌, ◌∷◌, ◌≡◌, ◌≤◌, ◌^◌}
 
 -- ---- a call is on its own area
 

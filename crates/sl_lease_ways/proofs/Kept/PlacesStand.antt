@@ -1,6 +1,6 @@
 -- Where the calls of a lease stand: in its area. A session's id is a host's.
 use Rattle.sl_area.proofs.SizeLaws.{places_lie_in_area}
-use Rattle.sl_area.specs.Layouts.{IsGeometry, Layout, Sizes, layout_with}
+use Rattle.sl_area.specs.Layouts.{Layout, Sizes, layout_with}
 use Rattle.sl_area.specs.Places.{in_area}
 use Rattle.sl_leases.specs.Leases.{is_on, spot_of_call}
 use Rattle.sl_trace_law.proofs.Leases.SpotLaws.{areas_are_apart}
@@ -8,7 +8,6 @@ use Rattle.sl_area.specs.Roles.{IsRole, Role, role_offset}
 use Rattle.sl_law.specs.Lawful.{IsGiven, IsSetting}
 use Rattle.sl_sessions.specs.Sessions.{added, added_by, begun_in, given_session, is_join_call, joining_session, sessions}
 use Rattle.sl_sessions.specs.declared.session.Session.{Session}
-use Rattle.sl_trace.specs.Commands.{IsCommand, IsLockspaceArg}
 use Rattle.sl_trace.specs.Traces.{Setting, Submitted, Trace, line_in, new_call, next_job}
 use Rattle.sl_trace.specs.declared.effects.Call.{Call}
 use Rattle.sl_trace.specs.declared.effects.Spot.{Spot}

@@ -24,7 +24,6 @@ use Rattle.sl_trace.specs.declared.command.Command.{Command}
 use Rattle.sl_trace.specs.declared.effects.End.{End}
 use Rattle.sl_trace.specs.declared.effects.Grant.{Grant}
 use Rattle.sl_trace.specs.declared.effects.JoinStep.TheVariants.{ClaimWrite, FirstRead, FirstRenewal}
-use Rattle.sl_trace.specs.declared.effects.JoinStep.{JoinStep}
 use Rattle.sl_trace.specs.declared.effects.Mode.{Mode}
 use Rattle.sl_trace.specs.declared.effects.Move.TheVariants.{Register, Renew, Unregister}
 use Rattle.sl_trace.specs.declared.effects.Move.{Move}
@@ -43,7 +42,7 @@ use Rattle.sl_sector.specs.declared.sector.Rec.TheVariants.{DeltaIs}
 use Rattle.sl_words.specs.Words.{some_is}
 use Rattle.sl_words.proofs.CaseLaws.{none_some}
 use Rattle.std.proofs.Common.{refl}
-use Rattle.std.specs.Prelude.{Bool, List, None, Option, Some, false, filter, find, is_some, not, true, ℕ, ◌&&◌, ◌+◌, ◌==◌, ◌≡◌}
+use Rattle.std.specs.Prelude.{List, None, Option, Some, false, filter, is_some, not, ℕ, ◌&&◌, ◌+◌, ◌==◌, ◌≡◌}
 
 -- What is kept by each effect but a call; replies as they are allowed.
 pub record ByPlain (A : Reply → Type 0) (K : Step → Type 0) : Type 0 where

@@ -12,7 +12,6 @@ use Rattle.sl_lease_ways.specs.Kept.{LeasesStand}
 use Rattle.sl_leases.specs.Jobs.{aim_of, aim_of_command, command_of}
 use Rattle.sl_leases.specs.declared.lease.Aim.{Aim}
 use Rattle.sl_sessions.specs.Sessions.{present_sessions, recovery_of, sessions}
-use Rattle.sl_sessions.specs.declared.session.Session.{Session}
 use Rattle.sl_step_facts.specs.Heard.{IsOpen}
 use Rattle.sl_step_facts.specs.LeaseFacts.{TurnFacts}
 use Rattle.sl_step_facts.specs.WayFacts.{WayFacts}
@@ -20,8 +19,8 @@ use Rattle.sl_trace.specs.Traces.{Job, Setting, Submitted, Trace, jobs}
 use Rattle.sl_trace.specs.declared.effects.Work.TheVariants.{ForJob, Settling}
 use Rattle.sl_trace.specs.declared.effects.Work.{Work}
 use Rattle.sl_words.proofs.CaseLaws.{none_some, true_is_false}
-use Rattle.std.proofs.Common.{ap, append-nil, inl, inr, refl, subst, sym, ◌∙◌}
-use Rattle.std.specs.Prelude.{Contains, List, None, Option, Some, find, option_and_then, slice_get, ℕ, ◌==◌, ◌≡◌}
+use Rattle.std.proofs.Common.{ap, append-nil, inl, inr, refl, sym, ◌∙◌}
+use Rattle.std.specs.Prelude.{None, Option, Some, find, option_and_then, slice_get, ℕ, ◌==◌, ◌≡◌}
 
 begun_aims : (st : Setting) (past : Trace) (now : ℕ) (work : Work) (aim : Aim) → aim_of st past work ≡ Some aim → aim_of st (seen (begin_step st past now)) work ≡ Some aim
 begun_aims st past now Settling aim is = is
@@ -78,6 +77,6 @@ turns_rest st t heard h =
       newest = λ s m its there opens lease. h.newest s m its there (waits m opens) lease;
     }
   where
-  waits : (m : Submitted) → IsOpen t None m → IsOpen t heard m
-  waits m (inl none) = inl none
-  waits m (inr is) = absurd (none_some m.call.number is.0)
+    waits : (m : Submitted) → IsOpen t None m → IsOpen t heard m
+    waits m (inl none) = inl none
+    waits m (inr is) = absurd (none_some m.call.number is.0)

@@ -6,26 +6,24 @@ use Rattle.sl_lease_ways.proofs.Kept.HeardStands.{HeardCall, heard_call}
 use Rattle.sl_lease_ways.proofs.Kept.LeaseNextsLeave.{IsLate}
 use Rattle.sl_leases.specs.Jobs.{command_numbered}
 use Rattle.sl_leases.specs.Leases.{is_lease_call, is_on, lease_calls, lease_step}
-use Rattle.sl_sector.specs.declared.sector.DeltaRec.{DeltaRec}
 use Rattle.sl_sessions.specs.Sessions.{calls_of, is_join_done, joined_after}
 use Rattle.sl_sessions.specs.declared.session.Session.{Session}
 use Rattle.sl_step_facts.specs.JobFacts.{FitsCommand}
 use Rattle.sl_step_facts.specs.Whole.{Whole}
-use Rattle.sl_trace.specs.Traces.{Replied, Submitted, Trace, is_before_input, is_running, is_write, job_of, reply_to}
+use Rattle.sl_trace.specs.Traces.{Replied, Submitted, is_running, is_write, job_of, reply_to}
 use Rattle.sl_trace.specs.declared.effects.JoinStep.{JoinStep}
 use Rattle.sl_trace.specs.declared.effects.Purpose.TheVariants.{Joining, Lease, Leaving, Renewal, RequestRead, RequestWrite, SeeRequest, Survey, ValueRead, ValueWrite}
 use Rattle.sl_trace.specs.declared.effects.Purpose.{Purpose}
 use Rattle.sl_trace.specs.declared.effects.Spot.{Spot}
 use Rattle.sl_trace.specs.declared.input.Answer.{Answer}
-use Rattle.sl_trace.specs.declared.reply.Reply.{Reply}
 use Rattle.sl_trace_law.proofs.Sessions.Covering.{joinings_are_in_turn}
 use Rattle.sl_trace_law.specs.Sessions.Promises.{all_done, fits, fits_as, has_reply, is_in_turn}
 use Rattle.sl_plain.proofs.Lists.{contains_cases, contains_first, contains_more, contains_none}
 use Rattle.sl_plain.proofs.Options.{none_is, some_of}
-use Rattle.sl_words.proofs.CaseLaws.{false_is_true, none_some}
+use Rattle.sl_words.proofs.CaseLaws.{false_is_true}
 use Rattle.sl_words.proofs.WordLaws.{and_true}
 use Rattle.sl_words.specs.Words.{choose}
-use Rattle.std.proofs.Common.{ap, inl, inr, refl, subst, sym, ◌∙◌}
+use Rattle.std.proofs.Common.{ap, inl, inr, refl, subst, ◌∙◌}
 use Rattle.std.specs.List.{list_all}
 use Rattle.std.specs.Prelude.{Bool, Contains, List, None, Option, Some, [], cond, false, filter, is_some, option_and_then, true, ℕ, ◌&&◌, ◌+◌, ◌∷◌, ◌≡◌, ◌⊎◌}
 
@@ -76,10 +74,10 @@ joins_still x s j w has job runs =
       free = λ d k is. inr (no_leases x s w has (unjoined x s j job runs));
     }
   where
-  unjoined : (x : Step) (s : Session) (j : ℕ) → s.job ≡ Some j → is_running (seen x) j ≡ true → joined_after (seen x) s ≡ None
-  unjoined x s j job runs =
-      ap (λ o. elim o as (λ z. Option ℕ) [ None ↦ Some 0 | Some i ↦ option_and_then (λ (r : Replied). choose (is_join_done r.reply) (r.at + 1)) (reply_to (seen x) i) ]) job
-      ∙ ap (λ o. option_and_then (λ (r : Replied). choose (is_join_done r.reply) (r.at + 1)) o) (none_is (reply_to (seen x) j) runs)
+    unjoined : (x : Step) (s : Session) (j : ℕ) → s.job ≡ Some j → is_running (seen x) j ≡ true → joined_after (seen x) s ≡ None
+    unjoined x s j job runs =
+        ap (λ o. elim o as (λ z. Option ℕ) [ None ↦ Some 0 | Some i ↦ option_and_then (λ (r : Replied). choose (is_join_done r.reply) (r.at + 1)) (reply_to (seen x) i) ]) job
+        ∙ ap (λ o. option_and_then (λ (r : Replied). choose (is_join_done r.reply) (r.at + 1)) o) (none_is (reply_to (seen x) j) runs)
 
 -- The session of a joining's call is that of its job.
 pub its_joining : (x : Step) (s : Session) (j : ℕ) (step : JoinStep) (m : Submitted) (a : Answer) → Whole x → Hears x s m a → m.call.purpose ≡ Joining j step → s.job ≡ Some j

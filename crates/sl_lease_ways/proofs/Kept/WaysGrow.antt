@@ -2,8 +2,8 @@
 use Rattle.sl_area.specs.Layouts.{Layout}
 use Rattle.sl_leases.specs.declared.lease.Aim.{Aim}
 use Rattle.sl_sector.specs.declared.sector.Owner.{Owner}
-use Rattle.sl_step_facts.specs.WayFacts.{After_mode, After_take, CallWay, Comes, FreeReason, FreeWay, In_conversion, In_release, In_settling, IsVerified, ModeReason, ModeWay, Phase1Way, Phase2Way, PurposeWay, StepWay, WayContext, Ways}
-use Rattle.sl_trace.specs.Traces.{Answered, Submitted, Trace, answer_of, answered_in}
+use Rattle.sl_step_facts.specs.WayFacts.{After_mode, After_take, CallWay, FreeReason, In_conversion, In_release, In_settling, ModeReason, PurposeWay, StepWay, WayContext, Ways}
+use Rattle.sl_trace.specs.Traces.{Submitted, Trace, answer_of, answered_in}
 use Rattle.sl_trace.specs.declared.effects.Call.{Call}
 use Rattle.sl_trace.specs.declared.effects.Entry.{Entry}
 use Rattle.sl_trace.specs.declared.effects.LeaseStep.TheVariants.{ClearMode, FreeLeader, Phase1Read, Phase1Write, Phase2Read, Phase2Write, ReadArea, ReadBeforeFree, SetMode, TakeLeader}
@@ -16,7 +16,7 @@ use Rattle.sl_plain.proofs.Lists.{contains_first, contains_more}
 use Rattle.sl_plain.proofs.Options.{some_there}
 use Rattle.std.proofs.Common.{ap, refl, subst, sym, ◌∙◌}
 use Rattle.std.specs.Option.{option_or}
-use Rattle.std.specs.Prelude.{Bool, Contains, List, None, Option, Some, [], false, is_some, map, true, ℕ, ◌==◌, ◌∷◌, ◌≡◌}
+use Rattle.std.specs.Prelude.{Bool, Contains, List, Option, Some, [], false, is_some, map, true, ℕ, ◌==◌, ◌∷◌, ◌≡◌}
 
 -- ---- more is known beside the calls
 

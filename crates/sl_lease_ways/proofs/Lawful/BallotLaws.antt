@@ -1,17 +1,18 @@
 -- What a ballot's steps, modes and leaders ask of the calls before them, they have by their ways.
 use Rattle.sl_law.specs.LawfulBlock.{LawfulModeWrite, LawfulPhase2, LawfulPhase2Read, ReadAfter}
 use Rattle.sl_law.specs.LawfulLeader.{HasWon}
-use Rattle.sl_lease_ways.proofs.NewestCall.{block_is, ended_before, ended_here, freed_passed, leader_is_no_block, read_writes_no_block, read_writes_no_leader, submitted_here, submitted_passed}
-use Rattle.sl_lease_ways.proofs.WayNumbers.{Doing, EndsBy, Frees, Reads, Takes, Writes_ballot, Writes_mode, doing, ended_below, ended_concludes, ends_by, freed_below, own_lver}
-use Rattle.sl_lease_ways.proofs.WayStages.{asked2_freed, asked2_last, asked2_own, begun1, begun1_own, clear_last, prior_at, prior_inside, proposed, proposed2, read1, rest1, rest_behind, way_behind}
+use Rattle.sl_lease_ways.specs.Promises.{WaysAreLawful}
+use Rattle.sl_lease_ways.proofs.NewestCall.{block_is, ended_here, freed_passed, leader_is, leader_is_no_block, read_writes_no_block, read_writes_no_leader, submitted_here, submitted_passed}
+use Rattle.sl_lease_ways.proofs.WayNumbers.{Doing, EndsBy, Frees, Reads, Takes, Writes_ballot, Writes_mode, doing, ended_concludes, ends_by}
+use Rattle.sl_lease_ways.proofs.WayStages.{asked2_freed, asked2_last, asked2_own, begun1, begun1_own, clear_last, prior_at, prior_inside, proposed, proposed2, read1, rest_behind, way_behind}
 use Rattle.sl_leases.specs.Ballots.{ballot_blocks, moded_block, phase2_block}
-use Rattle.sl_leases.specs.Leases.{Phase1_read, Phase1_write, Phase2_read, Phase2_write, block_submitted, block_written, ended_ballots, freed, last_blocks, lease_calls, open_ballot, own_block, own_or_read}
+use Rattle.sl_leases.specs.Leases.{Phase1_read, Phase1_write, Phase2_write, block_submitted, block_written, ended_ballots, freed, last_blocks, leader_written, lease_calls, open_ballot, own_block, own_or_read}
 use Rattle.sl_sector.specs.declared.sector.Block.{Block}
-use Rattle.sl_sector.specs.declared.sector.Owner.{Owner}
+use Rattle.sl_sector.specs.declared.sector.Leader.{Leader}
 use Rattle.sl_sector.specs.declared.sector.Rec.TheVariants.{BlockIs}
 use Rattle.sl_sessions.specs.Sessions.{me}
 use Rattle.sl_sessions.specs.declared.session.Session.{Session}
-use Rattle.sl_step_facts.specs.WayFacts.{ClearWay, FreeWay, IsHeededBy, IsWrittenBy, ModeWay, Phase2ReadWay, Phase2Way, TakeWay, WayContext, Ways, way_context}
+use Rattle.sl_step_facts.specs.WayFacts.{ClearWay, IsWrittenBy, ModeWay, Phase2ReadWay, Phase2Way, TakeWay, WayContext, Ways, way_context}
 use Rattle.sl_words.specs.Words.{some_is}
 use Rattle.sl_trace.specs.Traces.{Answered, Setting, Submitted, Trace}
 use Rattle.sl_trace.specs.declared.effects.Call.{Call}
@@ -20,8 +21,8 @@ use Rattle.sl_trace.specs.declared.effects.Op.TheVariants.{WriteRecord}
 use Rattle.sl_trace.specs.declared.effects.Spot.{Spot}
 use Rattle.sl_trace.specs.declared.effects.Work.{Work}
 use Rattle.sl_words.proofs.CaseLaws.{none_some, one_value, some_value}
-use Rattle.std.proofs.Common.{ap, arith, inl, inr, refl, subst, sym, ◌∙◌}
-use Rattle.std.specs.Prelude.{Bool, Contains, [], false, true, List, None, Option, Some, ℕ, ◌<◌, ◌∷◌, ◌≡◌, ◌≤◌}
+use Rattle.std.proofs.Common.{ap, arith, refl, subst, sym, ◌∙◌}
+use Rattle.std.specs.Prelude.{Bool, Contains, [], false, true, List, None, Some, ℕ, ◌<◌, ◌∷◌, ◌≡◌, ◌≤◌}
 
 -- The calls of the session's lease.
 abbrev pub calls : Setting → Trace → Session → Spot → List Submitted
@@ -148,3 +149,22 @@ take_concludes w work at c ms ws h =
     ap (λ xs. open_ballot w.layout xs) h.after.before
     ∙ ended_concludes w.layout h.after.prior h.after.rest h.leader.lver w.self (read_writes_no_block h.after.prior w.layout.hosts r.reads)
     (ap (λ o. some_is (λ (a : Answered). a.heeded) o) h.heeded.answered.0 ∙ h.heeded.answered.1) h.won
+
+take_stands : (st : Setting) (t : Trace) (s : Session) (at : Spot) → Ways (way_context st t s) (lease_calls st t s at) → (work : Work) (c : Submitted) (l : Leader)
+    → TakeWay (way_context st t s) work c.at c.call (lease_calls st t s at) → leader_written c ≡ Some l → HasWon st t s at l.lver × (freed (lease_calls st t s at) < l.lver)
+take_stands st t s at ws work c l h writes =
+    let lver : h.leader.lver ≡ l.lver = ap (λ (z : Leader). z.lver) (some_value h.leader l (sym (leader_is c h.leader h.wrote) ∙ writes)) in (
+      subst (λ n. Contains (ended_ballots st.layout (lease_calls st t s at)) (n, me t s)) lver (take_won (way_context st t s) work c.at c.call (lease_calls st t s at) h),
+      subst (λ n. freed (lease_calls st t s at) < n) lver (take_freed (way_context st t s) work c.at c.call (lease_calls st t s at) ws h),
+    )
+
+-- Each call is lawful by its way.
+pub ways_are_lawful : WaysAreLawful
+ways_are_lawful =
+    record {
+      phase2 = phase2_is_lawful;
+      phase2_read = phase2_read_is_lawful;
+      mode = set_mode_is_lawful;
+      clear = clear_mode_is_lawful;
+      take = take_stands;
+    }

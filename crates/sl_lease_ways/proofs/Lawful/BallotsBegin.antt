@@ -1,18 +1,17 @@
 -- Why a ballot may begin: after a read of the area, after one that was lost to an owner who is over, or where it is still open.
-use Rattle.sl_area.specs.Places.{area_blocks, leader_of}
+use Rattle.sl_area.specs.Places.{area_blocks}
 use Rattle.sl_law.specs.LawfulBlock.{AreaRead, BeginReason, Block_above, Freed_before, Leader_before, Leader_own, LawfulPhase1, Lost_before, Own_block}
 use Rattle.sl_lease_ways.proofs.GreatestFrees.{freed_among, greatest_among}
 use Rattle.sl_lease_ways.proofs.InstancesBegin.{not_below_own, own_below_top, why_instance}
 use Rattle.sl_lease_ways.proofs.Lawful.BallotLaws.{own_is}
-use Rattle.sl_lease_ways.proofs.WayNumbers.{IsOpened, freed_below, is_opened, lver_of, own_lver}
+use Rattle.sl_lease_ways.proofs.WayNumbers.{IsOpened, freed_below, lver_of, own_lver}
 use Rattle.sl_lease_ways.specs.Instances.{Block_leads, One_is_done, Own_goes_on, WhyInstance}
 use Rattle.sl_leases.specs.Ballots.{counted_lver, is_counted_free, owner_of, phase1_block, same_owner, value_of}
-use Rattle.sl_leases.specs.Leases.{block_submitted, ended_ballots, freed, instance_for, is_over_owner, known, last_blocks, lease_calls, mode_gen_of, own_block, top_lver}
+use Rattle.sl_leases.specs.Leases.{block_submitted, ended_ballots, freed, instance_for, is_over_owner, known, last_blocks, lease_calls, own_block, top_lver}
 use Rattle.sl_leases.specs.declared.lease.Instance.TheVariants.{Begins}
 use Rattle.sl_sector.specs.Records.{IsLeader}
 use Rattle.sl_sector.specs.declared.sector.Block.{Block}
 use Rattle.sl_sector.specs.declared.sector.Leader.{Leader}
-use Rattle.sl_sector.specs.declared.sector.Owner.{Owner}
 use Rattle.sl_sessions.specs.Sessions.{me}
 use Rattle.sl_sessions.specs.Watching.{counted_over, counts_over}
 use Rattle.sl_sessions.specs.declared.session.Session.{Session}
@@ -24,7 +23,7 @@ use Rattle.sl_words.proofs.ListLaws.{greatest-cons}
 use Rattle.sl_words.proofs.OptionLaws.{cond_none}
 use Rattle.sl_words.proofs.WordLaws.{or_true}
 use Rattle.sl_words.specs.Words.{greatest, present}
-use Rattle.std.proofs.Common.{ap, arith, inl, inr, refl, subst, sym, tests, ◌∙◌}
+use Rattle.std.proofs.Common.{ap, arith, inl, inr, refl, sym, tests, ◌∙◌}
 use Rattle.std.proofs.lemmas.Bool.{cases_lt}
 use Rattle.std.specs.List.{list_all, prefix_len}
 use Rattle.std.specs.Prelude.{Bool, Contains, List, None, Option, Some, [], false, filter, if◌then◌else◌, is_none, is_some, length, map, max, nat_le, nat_lt, not, position, suc, true, zero, ℕ, ◌&&◌, ◌+◌, ◌<◌, ◌==◌, ◌||◌, ◌∷◌, ◌≡◌, ◌≤◌, ◌⊎◌}
@@ -147,7 +146,6 @@ all_whole (o ∷ xs) h = whole_at o xs (not (is_none o)) refl h (all_whole xs)
 -- No block is torn.
 pub none_torn : (read : List (Option Block)) → position is_none read ≡ None → list_all is_some read ≡ true
 none_torn read h = all_whole read (cond_none (nat_lt (prefix_len (λ o. not (is_none o)) read) (length read)) (prefix_len (λ o. not (is_none o)) read) h)
-
 
 -- ---- a ballot begins
 

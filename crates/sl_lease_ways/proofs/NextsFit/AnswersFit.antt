@@ -6,9 +6,9 @@ use Rattle.sl_lease_ways.proofs.NextsFit.WritesFit.{before_free_is, clearing_is,
 use Rattle.sl_lease_ways.specs.Nexts.{IsHeard, Moment, NextIs, calls_at, context_at, known_at, place_at}
 use Rattle.sl_lease_ways.specs.Promises.{AnswersFit, ConversionsFit, ReleasesFit, SettlingsFit}
 use Rattle.sl_leases.specs.Ballots.{moded_block}
-use Rattle.sl_leases.specs.LeaseWork.{convert_next, lease_next, release_next}
-use Rattle.sl_leases.specs.Leases.{block_submitted, ended_ballots, known, lver_written, open_ballot}
-use Rattle.sl_leases.specs.declared.lease.Aim.TheVariants.{Converts, Releases}
+use Rattle.sl_leases.specs.LeaseWork.{lease_next}
+use Rattle.sl_leases.specs.Leases.{block_submitted, known, lver_written}
+use Rattle.sl_leases.specs.declared.lease.Aim.TheVariants.{Converts}
 use Rattle.sl_leases.specs.declared.lease.Aim.{Aim}
 use Rattle.sl_leases.specs.declared.lease.LeaseNext.TheVariants.{Nothing, WriteBlock}
 use Rattle.sl_sector.specs.declared.sector.Block.{Block}
@@ -16,9 +16,7 @@ use Rattle.sl_step_facts.specs.WayFacts.{In_conversion, In_release}
 use Rattle.sl_trace.specs.declared.effects.LeaseStep.TheVariants.{ClearMode, FreeLeader, Phase1Read, Phase1Write, Phase2Read, Phase2Write, ReadArea, ReadBeforeFree, SetMode, TakeLeader}
 use Rattle.sl_trace.specs.declared.effects.LeaseStep.{LeaseStep}
 use Rattle.sl_trace.specs.declared.effects.Mode.TheVariants.{Exclusive, Shared}
-use Rattle.sl_trace.specs.declared.effects.Mode.{Mode}
 use Rattle.sl_trace.specs.declared.input.Answer.TheVariants.{Failed, Read, Written}
-use Rattle.sl_trace.specs.declared.input.Answer.{Answer}
 use Rattle.sl_trace.specs.declared.reply.Reply.TheVariants.{IoFault}
 use Rattle.std.proofs.Common.{refl}
 use Rattle.std.specs.Option.{option_map_or}

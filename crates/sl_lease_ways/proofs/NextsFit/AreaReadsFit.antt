@@ -7,7 +7,7 @@ use Rattle.sl_lease_ways.proofs.NextsFit.SettlingsFit.{begin_is}
 use Rattle.sl_lease_ways.proofs.WayStages.{is_at_in}
 use Rattle.sl_lease_ways.specs.Nexts.{IsHeard, Moment, NextIs, calls_at, context_at, known_at, place_at}
 use Rattle.sl_leases.specs.LeaseWork.{area_next, begin_or_refuse, named_area_next, whole_area_next}
-use Rattle.sl_leases.specs.Leases.{Area_read, Read_before_free, instance_for, is_area_read, is_leader_of, known, name_sought, own_block, own_known, verified_by}
+use Rattle.sl_leases.specs.Leases.{Area_read, Read_before_free, instance_for, is_area_read, is_leader_of, known, name_sought, own_block, verified_by}
 use Rattle.sl_leases.specs.declared.lease.Aim.{Aim}
 use Rattle.sl_leases.specs.declared.lease.Instance.TheVariants.{Begins, HeldAlready}
 use Rattle.sl_leases.specs.declared.lease.Instance.{Instance}
@@ -19,7 +19,6 @@ use Rattle.sl_step_facts.specs.WayFacts.{IsVerified}
 use Rattle.sl_trace.specs.Traces.{Answered, Submitted, bytes_given, gave}
 use Rattle.sl_trace.specs.declared.effects.LeaseStep.TheVariants.{ReadArea}
 use Rattle.sl_trace.specs.declared.effects.Purpose.TheVariants.{Lease}
-use Rattle.sl_trace.specs.declared.effects.Purpose.{Purpose}
 use Rattle.sl_trace.specs.declared.effects.Work.{Work}
 use Rattle.sl_trace.specs.declared.input.Answer.TheVariants.{Read}
 use Rattle.sl_trace.specs.declared.input.Answer.{Answer}

@@ -8,9 +8,9 @@ use Rattle.sl_lease_ways.proofs.NextsFit.SettlingsFit.{begin_is, settling_is}
 use Rattle.sl_lease_ways.proofs.WayNumbers.{ended_concludes, is_verified}
 use Rattle.sl_lease_ways.proofs.WayStages.{is_at_in, step_way}
 use Rattle.sl_lease_ways.specs.Nexts.{IsHeard, Moment, NextIs, calls_at, context_at, known_at, place_at}
-use Rattle.sl_leases.specs.Ballots.{ballot_blocks, is_ahead, moded_block, phase2_block, same_owner, stop_of, value_of}
-use Rattle.sl_leases.specs.LeaseWork.{after_phase1, after_phase2, begin_next, ended_next, leader_for, looks_for_shared, lost_next, phase2_next, settle_next, stop_reply, stopped_next, unstopped_next, won_next}
-use Rattle.sl_leases.specs.Leases.{Area_read, LeaseKnown, Phase1_read, Phase2_read, Read_before_free, block_submitted, block_written, blocks_given, ended_ballot, ended_ballots, is_at, is_shared_by_other, known, mode_gen_of, open_ballot, shared_elsewhere, value_in_end}
+use Rattle.sl_leases.specs.Ballots.{is_ahead, phase2_block, same_owner, stop_of, value_of}
+use Rattle.sl_leases.specs.LeaseWork.{after_phase1, after_phase2, begin_next, leader_for, looks_for_shared, lost_next, phase2_next, settle_next, stop_reply, stopped_next, won_next}
+use Rattle.sl_leases.specs.Leases.{Area_read, Phase1_read, Phase2_read, Read_before_free, block_submitted, block_written, blocks_given, ended_ballot, ended_ballots, is_shared_by_other, known, mode_gen_of, open_ballot, shared_elsewhere, value_in_end}
 use Rattle.sl_leases.specs.declared.lease.Aim.TheVariants.{Acquires, Converts, Releases, Settles}
 use Rattle.sl_leases.specs.declared.lease.Aim.{Aim}
 use Rattle.sl_leases.specs.declared.lease.LeaseNext.TheVariants.{AnswerJob, Nothing}
@@ -22,23 +22,21 @@ use Rattle.sl_sector.specs.declared.sector.Owner.{Owner}
 use Rattle.sl_sessions.specs.Sessions.{me}
 use Rattle.sl_sessions.specs.Watching.{counts_over}
 use Rattle.sl_step_facts.specs.WayFacts.{Comes, In_settling, IsHeededBy, IsWrittenBy, NoOtherShared, Phase1ReadWay, Phase2ReadWay, StepWay, Ways}
-use Rattle.sl_trace.specs.Traces.{Answered, Submitted, bytes_given, gave, is_before_input, is_heeded}
+use Rattle.sl_trace.specs.Traces.{Answered, Submitted, gave, is_heeded}
 use Rattle.sl_trace.specs.declared.effects.LeaseStep.TheVariants.{Phase1Read, Phase2Read}
 use Rattle.sl_trace.specs.declared.effects.LeaseStep.{LeaseStep}
-use Rattle.sl_trace.specs.declared.effects.Mode.TheVariants.{Exclusive, Shared}
-use Rattle.sl_trace.specs.declared.effects.Purpose.TheVariants.{Lease}
+use Rattle.sl_trace.specs.declared.effects.Mode.TheVariants.{Exclusive}
 use Rattle.sl_trace.specs.declared.effects.Purpose.{Purpose}
-use Rattle.sl_trace.specs.declared.effects.Work.{Work}
 use Rattle.sl_trace.specs.declared.input.Answer.TheVariants.{Read, Written}
 use Rattle.sl_trace.specs.declared.input.Answer.{Answer}
 use Rattle.sl_trace.specs.declared.reply.Reply.TheVariants.{Held as HeldBy, Shared as SharedBy}
 use Rattle.sl_plain.proofs.Lists.{find_fails}
-use Rattle.sl_words.proofs.CaseLaws.{none_some, some_value, true_is_false}
+use Rattle.sl_words.proofs.CaseLaws.{true_is_false}
 use Rattle.sl_words.proofs.WordLaws.{and_true}
 use Rattle.sl_words.specs.Words.{present, some_is}
 use Rattle.std.proofs.Common.{ap, ap₂, arith, eqb-true, refl, subst, sym, tests, ◌∙◌}
 use Rattle.std.specs.Option.{option_map_or}
-use Rattle.std.specs.Prelude.{Bool, Contains, List, None, Option, Some, false, not, option_and_then, true, ℕ, ◌&&◌, ◌+◌, ◌==◌, ◌∷◌, ◌≡◌, ◌≤◌, ◌||◌}
+use Rattle.std.specs.Prelude.{Bool, Contains, List, None, Option, Some, false, not, option_and_then, true, ℕ, ◌+◌, ◌==◌, ◌≡◌, ◌≤◌, ◌||◌}
 
 -- ---- the call that was heard
 

@@ -1,36 +1,34 @@
 -- What is decided after the writes of a lease, and after the read before a free, fits.
 use Rattle.sl_area.specs.Layouts.{Layout}
-use Rattle.sl_lease_ways.proofs.Lawful.BallotLaws.{before2, read2, take_concludes, take_freed, take_won, won_own}
-use Rattle.sl_lease_ways.proofs.NewestCall.{block_is, block_is_no_leader, ended_before, ended_here, leader_is, leader_is_no_block, lver_is, read_writes_no_block, submitted_here, submitted_passed}
+use Rattle.sl_lease_ways.proofs.Lawful.BallotLaws.{before2, read2, take_concludes, take_won, won_own}
+use Rattle.sl_lease_ways.proofs.NewestCall.{block_is, block_is_no_leader, ended_before, ended_here, leader_is_no_block, lver_is, read_writes_no_block, submitted_passed}
 use Rattle.sl_lease_ways.proofs.NextsFit.PhasesFit.{heard_comes, heard_done, heard_way}
 use Rattle.sl_lease_ways.proofs.NextsFit.SettlingsFit.{settling_is}
 use Rattle.sl_lease_ways.proofs.WayStages.{asked2_own, is_at_in, rest_behind, way_behind}
 use Rattle.sl_lease_ways.specs.Nexts.{IsHeard, Moment, NextIs, calls_at, context_at, known_at, place_at}
 use Rattle.sl_leases.specs.Ballots.{moded_block, same_owner}
 use Rattle.sl_leases.specs.LeaseWork.{after_clearing, after_freeing, after_moding, after_take, leader_for}
-use Rattle.sl_leases.specs.Leases.{Phase1_read, Phase2_read, Phase2_write, block_submitted, block_written, concludes, ended_ballot, ended_ballots, exclusive_on, free_left, is_at, is_phase_read, known, leader_written, lver_written, open_ballot, owed_free, settles_free, stop_in, won_by}
+use Rattle.sl_leases.specs.Leases.{Phase2_write, block_submitted, block_written, concludes, ended_ballot, ended_ballots, exclusive_on, free_left, is_at, known, leader_written, lver_written, open_ballot, owed_free, settles_free, won_by}
 use Rattle.sl_leases.specs.declared.lease.Aim.TheVariants.{Acquires, Converts, Releases, Settles}
 use Rattle.sl_leases.specs.declared.lease.Aim.{Aim}
 use Rattle.sl_leases.specs.declared.lease.LeaseNext.TheVariants.{BecomeExclusive, BecomeShared, Nothing, WriteBlock, WriteLeader}
-use Rattle.sl_leases.specs.declared.lease.LeaseNext.{LeaseNext}
 use Rattle.sl_sector.specs.declared.sector.Block.{Block}
-use Rattle.sl_sector.specs.declared.sector.Leader.{Leader}
 use Rattle.sl_sector.specs.declared.sector.Owner.{Owner}
-use Rattle.sl_step_facts.specs.WayFacts.{After_mode, After_take, FreeReason, In_conversion, In_settling, ModeReason, ModeWay, ReadBeforeWay, StepWay, TakeWay, WayContext, Ways}
+use Rattle.sl_step_facts.specs.WayFacts.{After_mode, After_take, In_conversion, In_settling, ModeReason, ModeWay, ReadBeforeWay, TakeWay, WayContext, Ways}
 use Rattle.sl_trace.specs.Traces.{Submitted, is_heeded}
-use Rattle.sl_trace.specs.declared.effects.LeaseStep.TheVariants.{ClearMode, FreeLeader, Phase2Read, ReadBeforeFree, SetMode, TakeLeader}
+use Rattle.sl_trace.specs.declared.effects.LeaseStep.TheVariants.{ClearMode, FreeLeader, ReadBeforeFree, SetMode, TakeLeader}
 use Rattle.sl_trace.specs.declared.effects.Mode.TheVariants.{Exclusive, Shared}
 use Rattle.sl_trace.specs.declared.effects.Mode.{Mode}
 use Rattle.sl_trace.specs.declared.effects.Purpose.TheVariants.{Lease}
 use Rattle.sl_trace.specs.declared.effects.Purpose.{Purpose}
 use Rattle.sl_trace.specs.declared.effects.Work.{Work}
 use Rattle.sl_trace.specs.declared.input.Answer.TheVariants.{Read, Written}
-use Rattle.sl_words.proofs.CaseLaws.{false_is_true, none_some, one_value, some_value, true_is_false}
+use Rattle.sl_words.proofs.CaseLaws.{none_some, one_value, true_is_false}
 use Rattle.sl_words.proofs.WordLaws.{and_true, choose_some}
 use Rattle.sl_words.specs.Words.{choose, some_is}
 use Rattle.std.proofs.Common.{ap, ap₂, eqb-true, refl, subst, sym, ◌∙◌}
 use Rattle.std.specs.Option.{option_map_or}
-use Rattle.std.specs.Prelude.{Bool, Contains, List, None, Option, Some, [], false, not, option_and_then, option_map, true, ℕ, ◌&&◌, ◌==◌, ◌||◌, ◌∷◌, ◌≡◌}
+use Rattle.std.specs.Prelude.{Bool, Contains, List, None, Option, Some, [], false, not, option_and_then, option_map, true, ℕ, ◌==◌, ◌∷◌, ◌≡◌}
 
 -- ---- a ballot that isn't open stays so
 
