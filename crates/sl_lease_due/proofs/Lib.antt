@@ -1,1 +1,2 @@
 pub mod NamesVerified
+pub mod CallsMade

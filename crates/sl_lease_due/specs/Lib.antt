@@ -1,1 +1,2 @@
 pub mod LeaseLawful
+pub mod Made
