@@ -31,6 +31,8 @@ use Rattle.sl_trace.specs.declared.effects.Purpose.{Purpose}
 use Rattle.sl_trace.specs.declared.effects.Work.{Work}
 use Rattle.sl_plain.proofs.Numbers.{number_itself}
 use Rattle.sl_words.proofs.CaseLaws.{false_is_true, no_value, none_some, one_value, some_value, true_is_false}
+use Rattle.std.proofs.lemmas.Bool.{and_from}
+use Rattle.sl_sector.specs.declared.sector.Owner.{Owner}
 use Rattle.std.proofs.Common.{ap, refl, subst, sym, ◌∙◌}
 use Rattle.std.specs.Prelude.{Bool, Contains, IsFalse, IsTrue, List, MatchBool, None, Option, Some, [], false, is_some, option_and_then, true, ℕ, ◌&&◌, ◌+◌, ◌<◌, ◌==◌, ◌≡◌}
 
@@ -150,6 +152,19 @@ write_step x SetMode c r writes is = ap (λ o. is_write o) writes
 write_step x FreeLeader c r writes is = ap (λ o. is_write o) writes
 write_step x ClearMode c r writes is = ap (λ o. is_write o) writes
 
+-- A write is no read of phase 2.
+no_phase2_read : (x : Moment) (c : Submitted) (step : LeaseStep) → is_write_step step ≡ true → is_at Phase2_read c ≡ true → c.call.purpose ≡ Lease x.work step → ⊥
+no_phase2_read x c Phase2Read writing at is = false_is_true writing
+no_phase2_read x c (ReadArea name) writing at is = false_is_true writing
+no_phase2_read x c ReadBeforeFree writing at is = false_is_true writing
+no_phase2_read x c Phase1Read writing at is = false_is_true writing
+no_phase2_read x c Phase1Write writing at is = other_step c x.work Phase1Write is refl at
+no_phase2_read x c Phase2Write writing at is = other_step c x.work Phase2Write is refl at
+no_phase2_read x c TakeLeader writing at is = other_step c x.work TakeLeader is refl at
+no_phase2_read x c SetMode writing at is = other_step c x.work SetMode is refl at
+no_phase2_read x c FreeLeader writing at is = other_step c x.work FreeLeader is refl at
+no_phase2_read x c ClearMode writing at is = other_step c x.work ClearMode is refl at
+
 -- What a block that is written next is.
 record BlockMade (x : Moment) (step : LeaseStep) (b : Block) (c : Submitted) : Type 0 where
   writing : is_write_step step ≡ true
@@ -202,21 +217,110 @@ blocks_are_lawful x step b c h k next =
       block = λ z is.
           subst (λ (y : Block). LawfulBlockWrite x.setting x.trace x.session c y) (some_value b z (sym (block_is c b k.does) ∙ is))
           (by_step k.for (subst (λ at. LawfulBlockStep x.setting x.trace x.session at c b step) (sym k.spot) m.lawful));
-      phase2 = λ at. absurd (no_phase2_read step m.writing at k.for);
+      phase2 = λ at. absurd (no_phase2_read x c step m.writing at k.for);
       leader = λ l is. absurd (no_value l (leader_written c) is (block_is_no_leader c b k.does));
     }
   where
   by_step : c.call.purpose ≡ Lease x.work step → LawfulBlockStep x.setting x.trace x.session (spot_of_call x.setting.layout c) c b step → LawfulBlockWrite x.setting x.trace x.session c b
   by_step is lawful = subst (λ p. elim (lease_step p) as (λ z. Type 0) [ None ↦ ⊥ | Some q ↦ LawfulBlockStep x.setting x.trace x.session (spot_of_call x.setting.layout c) c b q.1 ]) (sym is) lawful
 
-  no_phase2_read : (step : LeaseStep) → is_write_step step ≡ true → is_at Phase2_read c ≡ true → c.call.purpose ≡ Lease x.work step → ⊥
-  no_phase2_read Phase2Read writing at is = false_is_true writing
-  no_phase2_read (ReadArea name) writing at is = false_is_true writing
-  no_phase2_read ReadBeforeFree writing at is = false_is_true writing
-  no_phase2_read Phase1Read writing at is = false_is_true writing
-  no_phase2_read Phase1Write writing at is = other_step c x.work Phase1Write is refl at
-  no_phase2_read Phase2Write writing at is = other_step c x.work Phase2Write is refl at
-  no_phase2_read TakeLeader writing at is = other_step c x.work TakeLeader is refl at
-  no_phase2_read SetMode writing at is = other_step c x.work SetMode is refl at
-  no_phase2_read FreeLeader writing at is = other_step c x.work FreeLeader is refl at
-  no_phase2_read ClearMode writing at is = other_step c x.work ClearMode is refl at
+
+-- ---- leaders
+
+-- What a leader that is written next is.
+record LeaderMade (x : Moment) (step : LeaseStep) (l : Leader) (c : Submitted) : Type 0 where
+  writing : is_write_step step ≡ true
+  ballot : MatchBool l.held (LawfulTake x.setting x.trace x.session x.at c l) (LawfulFreeLeader x.setting x.trace x.session x.at c l)
+  named : IsVerified (context_at x) (calls_at x)
+
+-- Whose instance was won, the name was verified.
+verified_by_won : (x : Moment) → MayCall x → (n : ℕ) → Contains (ended_ballots x.setting.layout (calls_at x)) (n, me x.trace x.session) → IsVerified (context_at x) (calls_at x)
+verified_by_won x h n won = let b = ended_wrote x.setting.layout (calls_at x) n (me x.trace x.session) won in verified_by_own x h b.0 b.1
+
+same_leader : (c : Submitted) (k l : Leader) → c.call.op ≡ WriteRecord (LeaderIs k) → c.call.op ≡ WriteRecord (LeaderIs l) → k ≡ l
+same_leader c k l one other = some_value k l (sym (leader_is c k one) ∙ leader_is c l other)
+
+leader_made : (x : Moment) (step : LeaseStep) (l : Leader) (c : Submitted) (o : ℕ) → MayCall x → IsCallAt x step o (WriteRecord (LeaderIs l)) c → StepIs x step (WriteRecord (LeaderIs l))
+    → (l.held ≡ false → holds_under x.trace x.session x.at l.lver ≡ false) → LeaderMade x step l c
+leader_made x TakeLeader l c o h k next unheld =
+    let way : TakeWay (context_at x) x.work c.at c.call (calls_at x) = way_of x TakeLeader o (WriteRecord (LeaderIs l)) c k next in
+    let same : way.leader ≡ l = same_leader c way.leader l way.wrote k.does in
+    let held : l.held ≡ true = subst (λ (z : Leader). z.held ≡ true) same way.held in
+    let won : Contains (ended_ballots x.setting.layout (calls_at x)) (l.lver, me x.trace x.session) =
+        subst (λ (z : Leader). Contains (ended_ballots x.setting.layout (calls_at x)) (z.lver, me x.trace x.session)) same (take_won (context_at x) x.work c.at c.call (calls_at x) way)
+    in
+    record {
+      writing = refl;
+      ballot = subst (λ b. MatchBool b (LawfulTake x.setting x.trace x.session x.at c l) (LawfulFreeLeader x.setting x.trace x.session x.at c l)) (sym held)
+          (record {
+            step = ap (λ p. is_at_in Leader_taken p) k.for;
+            won = won;
+            not_freed = subst (λ (z : Leader). freed (calls_at x) < z.lver) same (take_freed (context_at x) x.work c.at c.call (calls_at x) h.ways way);
+          });
+      named = verified_by_won x h l.lver won;
+    }
+leader_made x FreeLeader l c o h k next unheld =
+    let way : FreeWay (context_at x) x.work c.at c.call (calls_at x) = way_of x FreeLeader o (WriteRecord (LeaderIs l)) c k next in
+    let same : way.leader ≡ l = same_leader c way.leader l way.wrote k.does in
+    let free : l.held ≡ false = subst (λ (z : Leader). z.held ≡ false) same way.free in
+    let won : Contains (ended_ballots x.setting.layout (calls_at x)) (l.lver, me x.trace x.session) =
+        subst (λ (z : Leader). Contains (ended_ballots x.setting.layout (calls_at x)) (z.lver, me x.trace x.session)) same way.won
+    in
+    record {
+      writing = refl;
+      ballot = subst (λ b. MatchBool b (LawfulTake x.setting x.trace x.session x.at c l) (LawfulFreeLeader x.setting x.trace x.session x.at c l)) (sym free)
+          (record { step = ap (λ p. is_at_in Leader_freed p) k.for; won = won; not_held = unheld free; alone = h.unwritten });
+      named = verified_by_won x h l.lver won;
+    }
+leader_made x (ReadArea name) l c o h k next unheld = absurd (no_write c.call.op (x.setting.layout.hosts + 2) (LeaderIs l) (way_of x (ReadArea name) o (WriteRecord (LeaderIs l)) c k next) k.does)
+leader_made x ReadBeforeFree l c o h k next unheld = absurd (no_write c.call.op (x.setting.layout.hosts + 2) (LeaderIs l) (way_of x ReadBeforeFree o (WriteRecord (LeaderIs l)) c k next).reads k.does)
+leader_made x Phase1Read l c o h k next unheld = absurd (no_write c.call.op x.setting.layout.hosts (LeaderIs l) (way_of x Phase1Read o (WriteRecord (LeaderIs l)) c k next).reads k.does)
+leader_made x Phase2Read l c o h k next unheld = absurd (no_write c.call.op x.setting.layout.hosts (LeaderIs l) (way_of x Phase2Read o (WriteRecord (LeaderIs l)) c k next).reads k.does)
+leader_made x Phase1Write l c o h k next unheld = absurd (two_records c (way_of x Phase1Write o (WriteRecord (LeaderIs l)) c k next).own l (way_of x Phase1Write o (WriteRecord (LeaderIs l)) c k next).wrote k.does)
+leader_made x Phase2Write l c o h k next unheld = absurd (two_records c _ l (way_of x Phase2Write o (WriteRecord (LeaderIs l)) c k next).wrote k.does)
+leader_made x SetMode l c o h k next unheld = absurd (two_records c _ l (way_of x SetMode o (WriteRecord (LeaderIs l)) c k next).wrote k.does)
+leader_made x ClearMode l c o h k next unheld = absurd (two_records c _ l (way_of x ClearMode o (WriteRecord (LeaderIs l)) c k next).wrote k.does)
+
+-- What a leader is that the lease writes.
+record OwnLeader (x : Moment) (l : Leader) : Type 0 where
+  own : owner_of l ≡ me x.trace x.session
+  lockspace : l.lockspace ≡ x.session.lockspace
+  hosts : l.num_hosts ≡ x.setting.layout.hosts
+  resource : l.resource ≡ verified_name x.setting.layout x.session.lockspace (calls_at x)
+
+own_leader : (x : Moment) (l : Leader) → LeaderIsOwn x l → OwnLeader x l
+unfolding known
+own_leader x l is = record { own = ap (λ (z : Leader). owner_of z) is; lockspace = ap (λ (z : Leader). z.lockspace) is; hosts = ap (λ (z : Leader). z.num_hosts) is; resource = ap (λ (z : Leader). z.resource) is }
+
+itself_same : (a : Owner) → same_owner a a ≡ true
+itself_same a = and_from (a.id == a.id) (a.generation == a.generation) (number_itself a.id) (number_itself a.generation)
+
+pub leaders_are_lawful : (x : Moment) (step : LeaseStep) (l : Leader) (c : Submitted) → MayCall x → IsCallAt x step (leader_offset x.at.base) (WriteRecord (LeaderIs l)) c
+    → NextIs x (WriteLeader step l) → (l.held ≡ false → holds_under x.trace x.session x.at l.lver ≡ false) → LeaseLawful x.setting x.trace x.session c
+leaders_are_lawful x step l c h k next unheld =
+    let m : LeaderMade x step l c = leader_made x step l c (leader_offset x.at.base) h k next.0 unheld in
+    let own : OwnLeader x l = own_leader x l next.1 in
+    let verified : HasVerified x.setting x.trace x.session x.at l.resource =
+        subst (λ n. HasVerified x.setting x.trace x.session x.at n) (sym own.resource) (has_verified x.setting x.trace x.session x.at m.named)
+    in
+    record {
+      active = λ area. h.active;
+      writes = λ r is plain. (
+        ap (λ p. is_area_work p) k.for,
+        subst (λ (z : Rec). LawfulAreaWrite x.setting x.trace x.session c z) (some_value (LeaderIs l) r (sym (ap (λ o. record_of o) k.does) ∙ is))
+        (record {
+          resource = l.resource;
+          verified = subst (λ z. HasVerified x.setting x.trace x.session z l.resource) (sym k.spot) verified;
+          placed = ap (λ z. let o : Option ℕ = Some (leader_offset z.base) in o) k.spot ∙ ap (λ n. Some n) (sym k.place);
+        }),
+      );
+      alone = λ works. alone_there x c h k.spot;
+      reads = subst (λ p. IsRightRead x.setting (spot_of_call x.setting.layout c) c p) (sym k.for) (write_step x step c (LeaderIs l) k.does m.writing);
+      sees = λ is. absurd (lease_sees c x.work step k.for is);
+      block = λ b is. absurd (no_value b (block_written c) is (leader_is_no_block c l k.does));
+      phase2 = λ at. absurd (no_phase2_read x c step m.writing at k.for);
+      leader = λ z is.
+          subst (λ (y : Leader). LawfulLeaderWrite x.setting x.trace x.session (spot_of_call x.setting.layout c) c y) (some_value l z (sym (leader_is c l k.does) ∙ is))
+          (subst (λ at. LawfulLeaderWrite x.setting x.trace x.session at c l) (sym k.spot)
+          (record { own = subst (λ o. same_owner o (me x.trace x.session) ≡ true) (sym own.own) (itself_same (me x.trace x.session)); names = (own.lockspace, own.hosts, verified); ballot = m.ballot }));
+    }
