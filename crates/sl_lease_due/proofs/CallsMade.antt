@@ -1,40 +1,38 @@
 -- Each call that a lease makes keeps the laws of areas, blocks and leaders where it is made.
 use Rattle.sl_area.specs.Places.{block_offset, leader_offset}
-use Rattle.sl_law.specs.LawfulArea.{HasVerified, IsRightRead, LawfulAreaWrite, LawfulLeaseRead, is_area_work, is_block_work, is_delta_record, open_block_work}
+use Rattle.sl_law.specs.LawfulArea.{HasVerified, IsRightRead, LawfulAreaWrite, is_area_work, open_block_work}
 use Rattle.sl_law.specs.LawfulBlock.{LawfulBlockStep, LawfulBlockWrite, LawfulPhase2Read}
 use Rattle.sl_law.specs.LawfulLeader.{LawfulFreeLeader, LawfulLeaderWrite, LawfulTake, holds_under}
 use Rattle.sl_lease_due.proofs.NamesVerified.{ended_wrote, has_verified}
 use Rattle.sl_lease_due.specs.LeaseLawful.{LeaseLawful}
-use Rattle.sl_lease_due.specs.Made.{IsCallAt, MayCall}
+use Rattle.sl_lease_due.specs.Made.{IsCallAt, MayCall, read_place}
 use Rattle.sl_lease_ways.proofs.Lawful.BallotLaws.{clear_mode_is_lawful, phase2_is_lawful, phase2_read_is_lawful, set_mode_is_lawful, take_freed, take_won}
 use Rattle.sl_lease_ways.proofs.NewestCall.{block_is, block_is_no_leader, leader_is, leader_is_no_block, read_writes_no_block, read_writes_no_leader}
 use Rattle.sl_lease_ways.proofs.WayNumbers.{is_verified}
 use Rattle.sl_lease_ways.proofs.WayStages.{clear_own, is_at_in}
-use Rattle.sl_lease_ways.specs.Nexts.{BlockIsNext, LeaderIsOwn, Moment, NextIs, StepIs, calls_at, context_at, known_at, place_at, read_op}
+use Rattle.sl_lease_ways.specs.Nexts.{BlockIsNext, LeaderIsOwn, Moment, NextIs, StepIs, calls_at, context_at, read_op}
 use Rattle.sl_leases.specs.Ballots.{owner_of, same_owner}
-use Rattle.sl_leases.specs.LeaseWork.{leader_for}
-use Rattle.sl_leases.specs.Leases.{Leader_freed, Leader_taken, Phase2_read, block_submitted, block_written, ended_ballots, freed, is_at, known, leader_written, lease_calls, lease_step, spot_of_call, verified_name}
+use Rattle.sl_leases.specs.Leases.{Leader_freed, Leader_taken, Phase2_read, block_submitted, block_written, ended_ballots, freed, is_at, known, leader_written, lease_step, spot_of_call, verified_name}
 use Rattle.sl_leases.specs.declared.lease.LeaseNext.TheVariants.{ReadFor, WriteBlock, WriteLeader}
 use Rattle.sl_sector.specs.declared.sector.Block.{Block}
 use Rattle.sl_sector.specs.declared.sector.Leader.{Leader}
 use Rattle.sl_sector.specs.declared.sector.Rec.TheVariants.{BlockIs, LeaderIs}
 use Rattle.sl_sector.specs.declared.sector.Rec.{Rec}
-use Rattle.sl_sessions.specs.Sessions.{is_active, joined_after, me}
-use Rattle.sl_step_facts.specs.WayFacts.{ClearWay, FreeWay, IsVerified, ModeWay, Phase1Way, Phase2ReadWay, Phase2Way, StepWay, TakeWay, way_context}
-use Rattle.sl_trace.specs.Traces.{Setting, Submitted, Trace, is_write, record_of}
+use Rattle.sl_sessions.specs.Sessions.{me}
+use Rattle.sl_step_facts.specs.WayFacts.{ClearWay, FreeWay, IsVerified, ModeWay, Phase2Way, StepWay, TakeWay}
+use Rattle.sl_trace.specs.Traces.{Setting, Submitted, is_write, record_of}
 use Rattle.sl_trace.specs.declared.effects.LeaseStep.TheVariants.{ClearMode, FreeLeader, Phase1Read, Phase1Write, Phase2Read, Phase2Write, ReadArea, ReadBeforeFree, SetMode, TakeLeader}
 use Rattle.sl_trace.specs.declared.effects.LeaseStep.{LeaseStep}
 use Rattle.sl_trace.specs.declared.effects.Op.TheVariants.{ReadSectors, WriteRecord}
 use Rattle.sl_trace.specs.declared.effects.Op.{Op}
 use Rattle.sl_trace.specs.declared.effects.Purpose.TheVariants.{Lease, SeeRequest}
-use Rattle.sl_trace.specs.declared.effects.Purpose.{Purpose}
 use Rattle.sl_trace.specs.declared.effects.Work.{Work}
 use Rattle.sl_plain.proofs.Numbers.{number_itself}
-use Rattle.sl_words.proofs.CaseLaws.{false_is_true, no_value, none_some, one_value, some_value, true_is_false}
+use Rattle.sl_words.proofs.CaseLaws.{false_is_true, no_value, none_some, some_value, true_is_false}
 use Rattle.std.proofs.lemmas.Bool.{and_from}
 use Rattle.sl_sector.specs.declared.sector.Owner.{Owner}
 use Rattle.std.proofs.Common.{ap, refl, subst, sym, ◌∙◌}
-use Rattle.std.specs.Prelude.{Bool, Contains, IsFalse, IsTrue, List, MatchBool, None, Option, Some, [], false, is_some, option_and_then, true, ℕ, ◌&&◌, ◌+◌, ◌<◌, ◌==◌, ◌≡◌}
+use Rattle.std.specs.Prelude.{Bool, Contains, IsTrue, MatchBool, None, Option, Some, [], false, is_some, true, ℕ, ◌+◌, ◌<◌, ◌==◌, ◌≡◌}
 
 -- ---- what all calls of a lease have
 
@@ -54,12 +52,6 @@ other_step c work step is none at = true_is_false (sym at ∙ (ap (λ p. is_at_i
 
 alone_there : (x : Moment) (c : Submitted) → MayCall x → spot_of_call x.setting.layout c ≡ x.at → open_block_work x.setting x.trace x.session (spot_of_call x.setting.layout c) ≡ []
 alone_there x c h spot = ap (λ at. open_block_work x.setting x.trace x.session at) spot ∙ h.alone
-
--- Where a step reads.
-abbrev pub read_place : Moment → LeaseStep → ℕ
-read_place x (ReadArea name) = x.at.base
-read_place x ReadBeforeFree = x.at.base
-read_place x step = block_offset x.setting.layout x.at.base 1
 
 -- Whether a step writes.
 abbrev is_write_step : LeaseStep → Bool
@@ -205,11 +197,11 @@ blocks_are_lawful x step b c h k next =
       writes = λ r is plain. (
         ap (λ p. is_area_work p) k.for,
         subst (λ (z : Rec). LawfulAreaWrite x.setting x.trace x.session c z) (some_value (BlockIs b) r (sym (ap (λ o. record_of o) k.does) ∙ is))
-        (record {
-          resource = _;
-          verified = subst (λ z. HasVerified x.setting x.trace x.session z (verified_name x.setting.layout x.session.lockspace (calls_at x))) (sym k.spot) (has_verified x.setting x.trace x.session x.at m.named);
-          placed = ap (λ z. let o : Option ℕ = Some (block_offset x.setting.layout z.base x.session.id) in o) k.spot ∙ ap (λ n. Some n) (sym k.place);
-        }),
+            (record {
+              resource = _;
+              verified = subst (λ z. HasVerified x.setting x.trace x.session z (verified_name x.setting.layout x.session.lockspace (calls_at x))) (sym k.spot) (has_verified x.setting x.trace x.session x.at m.named);
+              placed = ap (λ z. let o : Option ℕ = Some (block_offset x.setting.layout z.base x.session.id) in o) k.spot ∙ ap (λ n. Some n) (sym k.place);
+            }),
       );
       alone = λ works. alone_there x c h k.spot;
       reads = subst (λ p. IsRightRead x.setting (spot_of_call x.setting.layout c) c p) (sym k.for) (write_step x step c (BlockIs b) k.does m.writing);
@@ -221,9 +213,8 @@ blocks_are_lawful x step b c h k next =
       leader = λ l is. absurd (no_value l (leader_written c) is (block_is_no_leader c b k.does));
     }
   where
-  by_step : c.call.purpose ≡ Lease x.work step → LawfulBlockStep x.setting x.trace x.session (spot_of_call x.setting.layout c) c b step → LawfulBlockWrite x.setting x.trace x.session c b
-  by_step is lawful = subst (λ p. elim (lease_step p) as (λ z. Type 0) [ None ↦ ⊥ | Some q ↦ LawfulBlockStep x.setting x.trace x.session (spot_of_call x.setting.layout c) c b q.1 ]) (sym is) lawful
-
+    by_step : c.call.purpose ≡ Lease x.work step → LawfulBlockStep x.setting x.trace x.session (spot_of_call x.setting.layout c) c b step → LawfulBlockWrite x.setting x.trace x.session c b
+    by_step is lawful = subst (λ p. elim (lease_step p) as (λ z. Type 0) [ None ↦ ⊥ | Some q ↦ LawfulBlockStep x.setting x.trace x.session (spot_of_call x.setting.layout c) c b q.1 ]) (sym is) lawful
 
 -- ---- leaders
 
@@ -247,7 +238,7 @@ leader_made x TakeLeader l c o h k next unheld =
     let same : way.leader ≡ l = same_leader c way.leader l way.wrote k.does in
     let held : l.held ≡ true = subst (λ (z : Leader). z.held ≡ true) same way.held in
     let won : Contains (ended_ballots x.setting.layout (calls_at x)) (l.lver, me x.trace x.session) =
-        subst (λ (z : Leader). Contains (ended_ballots x.setting.layout (calls_at x)) (z.lver, me x.trace x.session)) same (take_won (context_at x) x.work c.at c.call (calls_at x) way)
+    subst (λ (z : Leader). Contains (ended_ballots x.setting.layout (calls_at x)) (z.lver, me x.trace x.session)) same (take_won (context_at x) x.work c.at c.call (calls_at x) way)
     in
     record {
       writing = refl;
@@ -264,7 +255,7 @@ leader_made x FreeLeader l c o h k next unheld =
     let same : way.leader ≡ l = same_leader c way.leader l way.wrote k.does in
     let free : l.held ≡ false = subst (λ (z : Leader). z.held ≡ false) same way.free in
     let won : Contains (ended_ballots x.setting.layout (calls_at x)) (l.lver, me x.trace x.session) =
-        subst (λ (z : Leader). Contains (ended_ballots x.setting.layout (calls_at x)) (z.lver, me x.trace x.session)) same way.won
+    subst (λ (z : Leader). Contains (ended_ballots x.setting.layout (calls_at x)) (z.lver, me x.trace x.session)) same way.won
     in
     record {
       writing = refl;
@@ -301,18 +292,18 @@ leaders_are_lawful x step l c h k next unheld =
     let m : LeaderMade x step l c = leader_made x step l c (leader_offset x.at.base) h k next.0 unheld in
     let own : OwnLeader x l = own_leader x l next.1 in
     let verified : HasVerified x.setting x.trace x.session x.at l.resource =
-        subst (λ n. HasVerified x.setting x.trace x.session x.at n) (sym own.resource) (has_verified x.setting x.trace x.session x.at m.named)
+    subst (λ n. HasVerified x.setting x.trace x.session x.at n) (sym own.resource) (has_verified x.setting x.trace x.session x.at m.named)
     in
     record {
       active = λ area. h.active;
       writes = λ r is plain. (
         ap (λ p. is_area_work p) k.for,
         subst (λ (z : Rec). LawfulAreaWrite x.setting x.trace x.session c z) (some_value (LeaderIs l) r (sym (ap (λ o. record_of o) k.does) ∙ is))
-        (record {
-          resource = l.resource;
-          verified = subst (λ z. HasVerified x.setting x.trace x.session z l.resource) (sym k.spot) verified;
-          placed = ap (λ z. let o : Option ℕ = Some (leader_offset z.base) in o) k.spot ∙ ap (λ n. Some n) (sym k.place);
-        }),
+            (record {
+              resource = l.resource;
+              verified = subst (λ z. HasVerified x.setting x.trace x.session z l.resource) (sym k.spot) verified;
+              placed = ap (λ z. let o : Option ℕ = Some (leader_offset z.base) in o) k.spot ∙ ap (λ n. Some n) (sym k.place);
+            }),
       );
       alone = λ works. alone_there x c h k.spot;
       reads = subst (λ p. IsRightRead x.setting (spot_of_call x.setting.layout c) c p) (sym k.for) (write_step x step c (LeaderIs l) k.does m.writing);

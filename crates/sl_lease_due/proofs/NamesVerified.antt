@@ -1,7 +1,7 @@
 -- The name that a lease writes is one that the session has read on the area.
 use Rattle.sl_area.specs.Layouts.{Layout}
 use Rattle.sl_area.specs.Places.{leader_of}
-use Rattle.sl_law.specs.LawfulArea.{HasVerified, is_leader_read, leaders_read}
+use Rattle.sl_law.specs.LawfulArea.{HasVerified, is_leader_read}
 use Rattle.sl_lease_ways.proofs.NewestCall.{submitted_here, submitted_passed}
 use Rattle.sl_lease_ways.proofs.WayNumbers.{EndsBy, ends_by}
 use Rattle.sl_leases.specs.Leases.{block_submitted, block_written, ended_ballot, ended_ballots, is_lease_call, is_leader_of, is_on, lease_calls, name_sought, verified_by, verified_name}
@@ -10,10 +10,9 @@ use Rattle.sl_sector.specs.declared.sector.Leader.{Leader}
 use Rattle.sl_sector.specs.declared.sector.Owner.{Owner}
 use Rattle.sl_sessions.specs.Sessions.{calls_of}
 use Rattle.sl_sessions.specs.declared.session.Session.{Session}
-use Rattle.sl_step_facts.specs.WayFacts.{IsVerified, WayContext, way_context}
+use Rattle.sl_step_facts.specs.WayFacts.{IsVerified, way_context}
 use Rattle.sl_trace.specs.Traces.{Setting, Submitted, Trace, gave}
 use Rattle.sl_trace.specs.declared.effects.LeaseStep.TheVariants.{ClearMode, FreeLeader, Phase1Read, Phase1Write, Phase2Read, Phase2Write, ReadArea, ReadBeforeFree, SetMode, TakeLeader}
-use Rattle.sl_trace.specs.declared.effects.LeaseStep.{LeaseStep}
 use Rattle.sl_trace.specs.declared.effects.Purpose.TheVariants.{Joining, Lease, Leaving, Renewal, RequestRead, RequestWrite, SeeRequest, Survey, ValueRead, ValueWrite}
 use Rattle.sl_trace.specs.declared.effects.Purpose.{Purpose}
 use Rattle.sl_trace.specs.declared.effects.Spot.{Spot}
@@ -24,7 +23,7 @@ use Rattle.sl_words.specs.Words.{choose}
 use Rattle.std.proofs.Common.{ap, inl, inr, refl, subst, sym, ◌∙◌}
 use Rattle.std.proofs.lemmas.Bool.{and_from}
 use Rattle.std.specs.List.{cons_option}
-use Rattle.std.specs.Prelude.{Bool, Contains, IsTrue, List, None, Option, Some, [], filter, filter_map, option_and_then, true, ℕ, ◌&&◌, ◌∷◌, ◌≡◌, ◌⊎◌}
+use Rattle.std.specs.Prelude.{Contains, List, None, Option, Some, [], filter, filter_map, option_and_then, true, ℕ, ◌&&◌, ◌∷◌, ◌≡◌, ◌⊎◌}
 
 -- What a read that verifies a name has shown.
 record ShownBy (g : Layout) (lockspace : List ℕ) (m : Submitted) (name : List ℕ) : Type 0 where
@@ -95,11 +94,10 @@ has_verified st t s at h =
     let m = named_by st.layout s.lockspace (lease_calls st t s at) h.read h.name h.of_lease h.verified in
     let shown : ShownBy st.layout s.lockspace m.0 (verified_name st.layout s.lockspace (lease_calls st t s at)) = shown_by st.layout s.lockspace m.0 (verified_name st.layout s.lockspace (lease_calls st t s at)) m.2 in
     let inside = kept_inside (λ (d : Submitted). is_lease_call d && is_on st.layout at d.call) (calls_of t s) m.0 m.1 in
-    let on = and_true (is_lease_call m.0) (is_on st.layout at m.0.call) inside.1 in
-    (
+    let on = and_true (is_lease_call m.0) (is_on st.layout at m.0.call) inside.1 in (
       shown.leader,
       mapped_inside (λ (d : Submitted). option_and_then (leader_of st.layout) (gave d)) (filter (λ (d : Submitted). is_leader_read d.call.purpose && is_on st.layout at d.call) (calls_of t s)) m.0 shown.leader
-      (kept (λ (d : Submitted). is_leader_read d.call.purpose && is_on st.layout at d.call) (calls_of t s) m.0 (and_from (is_leader_read m.0.call.purpose) (is_on st.layout at m.0.call) shown.read on.1) inside.0) shown.gave_it,
+          (kept (λ (d : Submitted). is_leader_read d.call.purpose && is_on st.layout at d.call) (calls_of t s) m.0 (and_from (is_leader_read m.0.call.purpose) (is_on st.layout at m.0.call) shown.read on.1) inside.0) shown.gave_it,
       shown.named,
     )
 

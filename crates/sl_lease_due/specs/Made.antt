@@ -1,4 +1,5 @@
 -- Where a lease makes a call, and what the call is.
+use Rattle.sl_area.specs.Places.{block_offset}
 use Rattle.sl_law.specs.LawfulArea.{open_block_work}
 use Rattle.sl_law.specs.LawfulLeader.{open_writes_on}
 use Rattle.sl_lease_ways.specs.Nexts.{Moment, calls_at, context_at}
@@ -6,6 +7,7 @@ use Rattle.sl_leases.specs.Leases.{spot_of_call}
 use Rattle.sl_sessions.specs.Sessions.{is_active}
 use Rattle.sl_step_facts.specs.WayFacts.{Ways}
 use Rattle.sl_trace.specs.Traces.{Submitted}
+use Rattle.sl_trace.specs.declared.effects.LeaseStep.TheVariants.{ReadArea, ReadBeforeFree}
 use Rattle.sl_trace.specs.declared.effects.LeaseStep.{LeaseStep}
 use Rattle.sl_trace.specs.declared.effects.Op.{Op}
 use Rattle.sl_trace.specs.declared.effects.Purpose.TheVariants.{Lease}
@@ -25,3 +27,9 @@ pub record IsCallAt (x : Moment) (step : LeaseStep) (offset : ℕ) (op : Op) (c 
   pub does : c.call.op ≡ op
   pub spot : spot_of_call x.setting.layout c ≡ x.at
   pub now : c.at ≡ x.now
+
+-- Where a step reads.
+abbrev pub read_place : Moment → LeaseStep → ℕ
+read_place x (ReadArea name) = x.at.base
+read_place x ReadBeforeFree = x.at.base
+read_place x step = block_offset x.setting.layout x.at.base 1
