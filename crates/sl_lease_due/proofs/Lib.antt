@@ -1,2 +1,3 @@
 pub mod NamesVerified
 pub mod CallsMade
+pub mod CallsCarried
