@@ -1,3 +1,4 @@
 pub mod NamesVerified
 pub mod CallsMade
 pub mod CallsCarried
+pub mod OthersKeep
