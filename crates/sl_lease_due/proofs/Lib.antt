@@ -2,3 +2,4 @@ pub mod NamesVerified
 pub mod CallsMade
 pub mod CallsCarried
 pub mod OthersKeep
+pub mod LawsStay
