@@ -3,3 +3,4 @@ pub mod CallsMade
 pub mod CallsCarried
 pub mod OthersKeep
 pub mod LawsStay
+pub mod DeltasStay
