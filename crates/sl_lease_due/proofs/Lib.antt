@@ -4,3 +4,4 @@ pub mod CallsCarried
 pub mod OthersKeep
 pub mod LawsStay
 pub mod DeltasStay
+pub mod LeaseCallsStay
