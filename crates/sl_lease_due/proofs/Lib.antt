@@ -5,3 +5,4 @@ pub mod OthersKeep
 pub mod LawsStay
 pub mod DeltasStay
 pub mod LeaseCallsStay
+pub mod NextsStay

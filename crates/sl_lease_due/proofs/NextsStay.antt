@@ -1,0 +1,260 @@
+-- What a lease decides keeps the laws: where a leader is freed, its session doesn't hold under the instance.
+use Rattle.sl_acts.proofs.LoopsKeep.{with_some_keeps}
+use Rattle.sl_acts.specs.Acts.{Has, Hears}
+use Rattle.sl_area.specs.Places.{area_blocks, blocks_in, leader_of}
+use Rattle.sl_due.specs.DueLease.{carry_lease, goes_on, next_of_lease}
+use Rattle.sl_due.specs.Steps.{Step, add_reply, seen}
+use Rattle.sl_law.specs.LawfulLeader.{holds_under}
+use Rattle.sl_lease_due.proofs.LeaseCallsStay.{LeaseMay, blocks_stay, leaders_stay, reads_stay}
+use Rattle.sl_lease_due.proofs.OthersKeep.{Any, LawfulSoFar, no_others, others_are_lawful}
+use Rattle.sl_lease_ways.proofs.Kept.EffectsLeave.{there_has}
+use Rattle.sl_lease_ways.proofs.Kept.HeardStands.{HeardCall, heard_call, heard_has, heard_number, heard_open, lease_heard, lease_ready, spot_same}
+use Rattle.sl_lease_ways.proofs.Kept.LeaseNextsLeave.{LeaseReady, moment_of}
+use Rattle.sl_lease_ways.proofs.Kept.LinesReady.{none_open}
+use Rattle.sl_lease_ways.proofs.Kept.PlainWalks.{ByPlain, granted}
+use Rattle.sl_lease_ways.proofs.NextsFit.AnswersFit.{answers_fit, settlings_fit}
+use Rattle.sl_lease_ways.specs.Nexts.{NextIs}
+use Rattle.sl_leases.specs.Ballots.{is_ahead, moded_block, phase1_block, same_owner, stop_of, value_of}
+use Rattle.sl_leases.specs.Jobs.{aim_of, aim_of_command, command_numbered}
+use Rattle.sl_leases.specs.LeaseWork.{LeasePlace, begin_or_refuse, leader_for, looks_for_shared, named_area_next, phase1_next, phase2_next, after_phase1, after_phase2, after_read, after_write, area_next, begin_next, lease_next, lease_place, lost_next, refuses, settle_next, settle_owed, stopped_next, whole_area_next}
+use Rattle.sl_leases.specs.Leases.{LeaseKnown, Phase2_read, exclusive_on, holdings_on, instance_for, is_at, is_leader_of, is_lease_call, known, lease_calls, lease_step, lver_written, mode_gen_of, open_on, owed, owed_free, own_known, shared_elsewhere, spot_of_call}
+use Rattle.sl_leases.specs.declared.lease.Aim.TheVariants.{Acquires, Converts, Releases, Settles}
+use Rattle.sl_leases.specs.declared.lease.Aim.{Aim}
+use Rattle.sl_leases.specs.declared.lease.Instance.TheVariants.{Begins, HeldAlready}
+use Rattle.sl_leases.specs.declared.lease.Instance.{Instance}
+use Rattle.sl_leases.specs.declared.lease.LeaseNext.TheVariants.{AnswerJob, BecomeExclusive, BecomeShared, GrantJob, Nothing, ReadFor, WriteBlock, WriteLeader}
+use Rattle.sl_leases.specs.declared.lease.LeaseNext.{LeaseNext}
+use Rattle.sl_leases.specs.declared.lease.Owed.TheVariants.{BallotOwed, FreeOwed, ModeOwed}
+use Rattle.sl_leases.specs.declared.lease.Owed.{Owed}
+use Rattle.sl_leases.specs.declared.lease.Stop.{Stop}
+use Rattle.sl_sector.specs.declared.sector.Block.{Block}
+use Rattle.sl_sector.specs.declared.sector.Leader.{Leader}
+use Rattle.sl_sector.specs.declared.sector.Owner.{Owner}
+use Rattle.sl_sessions.specs.Sessions.{holdings_of, is_active, session_numbered}
+use Rattle.sl_sessions.specs.declared.session.Session.{Session}
+use Rattle.sl_step_facts.specs.Heard.{heard_by}
+use Rattle.sl_step_facts.specs.HoldingFacts.{HoldingFacts, StandsExclusive, is_ballot_call}
+use Rattle.sl_step_facts.specs.Whole.{Whole}
+use Rattle.sl_step_facts.specs.WorkFacts.{IsAtWork}
+use Rattle.sl_trace.specs.Traces.{Setting, Submitted, Trace, holdings, is_shared, same_place, spot_of_grant, work_job}
+use Rattle.sl_trace.specs.declared.command.Command.{Command}
+use Rattle.sl_trace.specs.declared.effects.Grant.{Grant}
+use Rattle.sl_trace.specs.declared.effects.LeaseStep.TheVariants.{ClearMode, FreeLeader, Phase1Read, Phase1Write, Phase2Read, Phase2Write, ReadArea, ReadBeforeFree, SetMode, TakeLeader}
+use Rattle.sl_trace.specs.declared.effects.LeaseStep.{LeaseStep}
+use Rattle.sl_trace.specs.declared.effects.Mode.TheVariants.{Exclusive, Shared}
+use Rattle.sl_trace.specs.declared.effects.Mode.{Mode}
+use Rattle.sl_trace.specs.declared.effects.Purpose.TheVariants.{Lease}
+use Rattle.sl_trace.specs.declared.effects.Spot.{Spot}
+use Rattle.sl_trace.specs.declared.effects.Work.TheVariants.{ForJob, Settling}
+use Rattle.sl_trace.specs.declared.effects.Work.{Work}
+use Rattle.sl_trace.specs.declared.input.Answer.TheVariants.{Failed, Read, Written}
+use Rattle.sl_trace.specs.declared.input.Answer.{Answer}
+use Rattle.sl_trace.specs.declared.input.Input.TheVariants.{Wake}
+use Rattle.sl_trace.specs.declared.reply.Limited.TheVariants.{Lver as LverLimit, Mbal as MbalLimit}
+use Rattle.sl_trace.specs.declared.reply.Reply.TheVariants.{IoFault, Limit as LimitReached, Shared as SharedBy, TornBlock, TornLeader, WrongArea}
+use Rattle.sl_trace.specs.declared.reply.Reply.{Reply}
+use Rattle.sl_plain.proofs.Lists.{any_found, find_fails, find_inside, kept, kept_inside}
+use Rattle.sl_trace_law.proofs.Leases.NumberLaws.{number_is_place}
+use Rattle.sl_words.proofs.CaseLaws.{false_is_true, is_false, none_some, some_value, true_is_false}
+use Rattle.sl_words.proofs.WordLaws.{and_true, choose_some}
+use Rattle.sl_words.specs.Bounds.{is_number}
+use Rattle.sl_words.specs.Words.{choose, present, some_is}
+use Rattle.std.proofs.Common.{ap, eqb-true, inl, inr, refl, subst, sym, ◌∙◌}
+use Rattle.std.specs.List.{list_any}
+use Rattle.std.specs.Option.{option_map_or}
+use Rattle.std.specs.Prelude.{Bool, Contains, IsTrue, List, None, Option, Some, [], false, find, is_none, not, option_and_then, option_map, position, true, ℕ, ◌%◌, ◌&&◌, ◌+◌, ◌==◌, ◌||◌, ◌≡◌, ◌⊎◌}
+
+-- ---- what frees a leader, and what converts
+
+abbrev frees : LeaseNext → Bool
+frees (WriteLeader step l) = not l.held
+frees Nothing = false
+frees (ReadFor step) = false
+frees (WriteBlock step b) = false
+frees (AnswerJob r) = false
+frees (GrantJob mode lver) = false
+frees (BecomeShared lver l) = false
+frees (BecomeExclusive lver b) = false
+
+abbrev pub turns : LeaseNext → Bool
+turns (BecomeShared lver l) = true
+turns (BecomeExclusive lver b) = true
+turns (WriteLeader step l) = false
+turns Nothing = false
+turns (ReadFor step) = false
+turns (WriteBlock step b) = false
+turns (AnswerJob r) = false
+turns (GrantJob mode lver) = false
+
+-- Neither.
+abbrev pub plainly : LeaseNext → Bool
+plainly n = not (frees n || turns n)
+
+refuses_plainly : (aim : Aim) (r : Reply) → plainly (refuses aim r) ≡ true
+refuses_plainly (Acquires mode) r = refl
+refuses_plainly (Converts mode) r = refl
+refuses_plainly Releases r = refl
+refuses_plainly Settles r = refl
+
+begins_plainly : (p : LeasePlace) (k : LeaseKnown) (aim : Aim) (n : ℕ) → plainly (begin_next p k aim n) ≡ true
+unfolding begin_next
+begins_plainly p k aim n = by (own_known k) where
+  numbers : (b : Block) (x y : Bool) (r q : Reply) → plainly (elim x as (λ z. LeaseNext) [ false ↦ refuses aim r | true ↦ elim y as (λ z. LeaseNext) [ false ↦ refuses aim q | true ↦ WriteBlock Phase1Write b ] ]) ≡ true
+  numbers b false y r q = refuses_plainly aim r
+  numbers b true false r q = refuses_plainly aim q
+  numbers b true true r q = refl
+
+  by : (o : Option Block) → plainly (elim o as (λ z. LeaseNext) [ None ↦ Nothing | Some own ↦ phase1_next aim (phase1_block k.self p.layout.hosts n k.shared (mode_gen_of k) own (present k.read)) ]) ≡ true
+  by None = refl
+  by (Some own) = numbers (phase1_block k.self p.layout.hosts n k.shared (mode_gen_of k) own (present k.read)) (is_number (phase1_block k.self p.layout.hosts n k.shared (mode_gen_of k) own (present k.read)).lver)
+      (is_number (phase1_block k.self p.layout.hosts n k.shared (mode_gen_of k) own (present k.read)).mbal) (LimitReached LverLimit) (LimitReached MbalLimit)
+
+owed_plainly : (p : LeasePlace) (k : LeaseKnown) (o : Option Owed) → plainly (settle_owed p k o) ≡ true
+owed_plainly p k None = refl
+owed_plainly p k (Some (BallotOwed n)) = begins_plainly p k Settles n
+owed_plainly p k (Some ModeOwed) = by k.own where
+  by : (o : Option Block) → plainly (option_map_or (λ own. WriteBlock ClearMode (moded_block own false 0)) o Nothing) ≡ true
+  by None = refl
+  by (Some own) = refl
+owed_plainly p k (Some (FreeOwed n)) = refl
+
+pub settles_plainly : (p : LeasePlace) (k : LeaseKnown) → plainly (settle_next p k) ≡ true
+unfolding settle_next
+settles_plainly p k = owed_plainly p k (owed k)
+
+stops_plainly : (p : LeasePlace) (k : LeaseKnown) (aim : Aim) (stop : Stop) → plainly (stopped_next p k aim stop) ≡ true
+stops_plainly p k (Acquires mode) stop = refl
+stops_plainly p k (Converts mode) stop = refl
+stops_plainly p k Releases stop = refl
+stops_plainly p k Settles stop = by (is_ahead stop) where
+  by : (b : Bool) → plainly (elim b as (λ z. LeaseNext) [ true ↦ settle_next p k | false ↦ Nothing ]) ≡ true
+  by true = settles_plainly p k
+  by false = refl
+
+instances_plainly : (p : LeasePlace) (k : LeaseKnown) (aim : Aim) (i : Instance) → plainly (begin_or_refuse p k aim i) ≡ true
+instances_plainly p k aim (Begins n) = begins_plainly p k aim n
+instances_plainly p k aim (HeldAlready lver owner) = refl
+
+whole_plainly : (p : LeasePlace) (k : LeaseKnown) (aim : Aim) (l : Leader) (read : List (Option Block)) → plainly (whole_area_next p k aim l read) ≡ true
+whole_plainly p k aim l read = by (own_known k) where
+  by : (o : Option Block) → plainly (option_map_or (λ own. begin_or_refuse p k aim (instance_for k l own read)) o Nothing) ≡ true
+  by None = refl
+  by (Some own) = instances_plainly p k aim (instance_for k l own read)
+
+areas_plainly : (p : LeasePlace) (k : LeaseKnown) (aim : Aim) (name bytes : List ℕ) → plainly (area_next p k aim name bytes) ≡ true
+unfolding area_next
+areas_plainly p k aim name bytes = by (leader_of p.layout bytes) where
+  torn : (l : Leader) (o : Option ℕ) → plainly (elim o as (λ z. LeaseNext) [ Some i ↦ AnswerJob (TornBlock (i + 1)) | None ↦ whole_area_next p k aim l (area_blocks p.layout bytes) ]) ≡ true
+  torn l (Some i) = refl
+  torn l None = whole_plainly p k aim l (area_blocks p.layout bytes)
+
+  named : (l : Leader) (b : Bool) → plainly (elim b as (λ z. LeaseNext) [ false ↦ AnswerJob (WrongArea l.lockspace l.resource l.num_hosts) | true ↦ named_area_next p k aim l (area_blocks p.layout bytes) ]) ≡ true
+  named l false = refl
+  named l true = torn l (position (λ z. is_none z) (area_blocks p.layout bytes))
+
+  by : (o : Option Leader) → plainly (elim o as (λ z. LeaseNext) [
+    | None ↦ AnswerJob TornLeader
+    | Some l ↦ elim (is_leader_of p.layout p.lockspace name l) as (λ z. LeaseNext) [ false ↦ AnswerJob (WrongArea l.lockspace l.resource l.num_hosts) | true ↦ named_area_next p k aim l (area_blocks p.layout bytes) ]
+  ]) ≡ true
+  by None = refl
+  by (Some l) = named l (is_leader_of p.layout p.lockspace name l)
+
+phase1_plainly : (p : LeasePlace) (k : LeaseKnown) (aim : Aim) (own : Block) (read : List (Option Block)) (o : Option Stop) → plainly (after_phase1 p k aim own read o) ≡ true
+phase1_plainly p k aim own read (Some stop) = stops_plainly p k aim stop
+phase1_plainly p k aim own read None = by (looks_for_shared aim) (shared_elsewhere k read) where
+  by : (b : Bool) (o : Option Block) → plainly (elim b as (λ z. LeaseNext) [
+    | false ↦ phase2_next k own read
+    | true ↦ elim o as (λ z. LeaseNext) [ Some b ↦ AnswerJob (SharedBy (record { id = b.host; generation = b.mode_gen })) | None ↦ phase2_next k own read ]
+  ]) ≡ true
+  by false o = refl
+  by true (Some b) = refl
+  by true None = refl
+
+plain_frees : (n : LeaseNext) → plainly n ≡ true → frees n ≡ false
+plain_frees n is = by (frees n) (turns n) is where
+  by : (a b : Bool) → not (a || b) ≡ true → a ≡ false
+  by false b h = refl
+  by true b h = absurd (false_is_true h)
+
+pub plain_turns : (n : LeaseNext) → plainly n ≡ true → turns n ≡ false
+plain_turns n is = by (frees n) (turns n) is where
+  by : (a b : Bool) → not (a || b) ≡ true → b ≡ false
+  by false false h = refl
+  by false true h = absurd (false_is_true h)
+  by true b h = absurd (false_is_true h)
+
+-- Why a leader may be freed after an answer.
+data FreesBy (k : LeaseKnown) (aim : Aim) (step : LeaseStep) (n : LeaseNext) : Type 0 where
+  No_free : frees n ≡ false → FreesBy k aim step n
+  Of_acquire : (mode : Mode) → aim ≡ Acquires mode → FreesBy k aim step n
+  By_read : step ≡ Phase2Read → FreesBy k aim step n
+  By_owed : ((to : LeaseStep) (l : Leader) → n ≡ WriteLeader to l → owed_free k ≡ Some l.lver) → FreesBy k aim step n
+
+abbrev is_leader_next : LeaseNext → Bool
+is_leader_next (WriteLeader step l) = true
+is_leader_next Nothing = false
+is_leader_next (ReadFor step) = false
+is_leader_next (WriteBlock step b) = false
+is_leader_next (AnswerJob r) = false
+is_leader_next (GrantJob mode lver) = false
+is_leader_next (BecomeShared lver l) = false
+is_leader_next (BecomeExclusive lver b) = false
+
+lver_of_next : LeaseNext → ℕ
+lver_of_next (WriteLeader step l) = l.lver
+lver_of_next n = 0
+
+owed_by : (p : LeasePlace) (k : LeaseKnown) (o : Option ℕ) → owed_free k ≡ o → (to : LeaseStep) (l : Leader) → option_map_or (λ n. WriteLeader FreeLeader (leader_for p k false n)) o Nothing ≡ WriteLeader to l → owed_free k ≡ Some l.lver
+unfolding lver_of_next
+owed_by p k None is to l at = absurd (false_is_true (ap (λ n. is_leader_next n) at))
+owed_by p k (Some n) is to l at = is ∙ ap (λ z. Some z) (ap (λ z. lver_of_next z) at)
+
+read_frees : (p : LeasePlace) (k : LeaseKnown) (aim : Aim) (bytes : List ℕ) (step : LeaseStep) → FreesBy k aim step (after_read p k aim bytes step)
+read_frees p k aim bytes (ReadArea name) = No_free (plain_frees (area_next p k aim name bytes) (areas_plainly p k aim name bytes))
+read_frees p k aim bytes ReadBeforeFree = By_owed (owed_by p k (owed_free k) refl)
+read_frees p k aim bytes Phase1Read = No_free (plain_frees _ (by k.own)) where
+  by : (o : Option Block) → plainly (option_map_or (λ own. after_phase1 p k aim own (blocks_in p.layout bytes) (stop_of own (blocks_in p.layout bytes))) o Nothing) ≡ true
+  by None = refl
+  by (Some own) = phase1_plainly p k aim own (blocks_in p.layout bytes) (stop_of own (blocks_in p.layout bytes))
+read_frees p k aim bytes Phase2Read = By_read refl
+read_frees p k aim bytes Phase1Write = No_free refl
+read_frees p k aim bytes Phase2Write = No_free refl
+read_frees p k aim bytes TakeLeader = No_free refl
+read_frees p k aim bytes SetMode = No_free refl
+read_frees p k aim bytes FreeLeader = No_free refl
+read_frees p k aim bytes ClearMode = No_free refl
+
+mapped_none : (o : Option Block) (f : Block → LeaseNext) → ((b : Block) → frees (f b) ≡ false) → frees (option_map_or f o Nothing) ≡ false
+mapped_none None f h = refl
+mapped_none (Some b) f h = h b
+
+write_frees : (p : LeasePlace) (k : LeaseKnown) (aim : Aim) (n : ℕ) (step : LeaseStep) → FreesBy k aim step (after_write p k aim n step)
+write_frees p k (Acquires mode) n step = Of_acquire mode refl
+write_frees p k aim n Phase1Write = No_free refl
+write_frees p k aim n Phase2Write = No_free refl
+write_frees p k (Converts Exclusive) n TakeLeader = No_free (mapped_none k.own (λ own. BecomeExclusive n (moded_block own false 0)) (λ b. refl))
+write_frees p k (Converts Shared) n TakeLeader = No_free refl
+write_frees p k Releases n TakeLeader = No_free refl
+write_frees p k Settles n TakeLeader = No_free refl
+write_frees p k (Converts mode) n SetMode = No_free (by k.exclusive) where
+  by : (o : Option ℕ) → frees (option_map_or (λ e. BecomeShared e (leader_for p k false e)) o Nothing) ≡ false
+  by None = refl
+  by (Some e) = refl
+write_frees p k Releases n SetMode = No_free refl
+write_frees p k Settles n SetMode = No_free refl
+write_frees p k (Converts mode) n FreeLeader = No_free refl
+write_frees p k Releases n FreeLeader = No_free refl
+write_frees p k Settles n FreeLeader = No_free (plain_frees (settle_next p k) (settles_plainly p k))
+write_frees p k (Converts mode) n ClearMode = No_free refl
+write_frees p k Releases n ClearMode = No_free refl
+write_frees p k Settles n ClearMode = No_free (plain_frees (settle_next p k) (settles_plainly p k))
+write_frees p k aim n (ReadArea name) = No_free refl
+write_frees p k aim n ReadBeforeFree = No_free refl
+write_frees p k aim n Phase1Read = No_free refl
+write_frees p k aim n Phase2Read = No_free refl
+
+frees_by : (p : LeasePlace) (k : LeaseKnown) (aim : Aim) (call m : ℕ) (step : LeaseStep) (answer : Answer) → FreesBy k aim step (lease_next p k aim call m step answer)
+unfolding lease_next
+frees_by p k aim call m step (Read bytes) = read_frees p k aim bytes step
+frees_by p k aim call m step Written = write_frees p k aim m step
+frees_by p k aim call m step Failed = No_free (plain_frees (refuses aim (IoFault call)) (refuses_plainly aim (IoFault call)))
