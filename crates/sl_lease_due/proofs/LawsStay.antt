@@ -53,7 +53,7 @@ use Rattle.std.proofs.Common.{ap, inl, inr, refl, subst, sym, ◌∙◌}
 use Rattle.std.specs.List.{list_any}
 use Rattle.std.specs.Prelude.{Bool, Contains, IsTrue, List, None, Option, Some, [], cond, false, filter, is_none, is_some, length, not, option_and_then, slice_get, take, true, ℕ, ◌&&◌, ◌++◌, ◌+◌, ◌==◌, ◌||◌, ◌∷◌, ◌≡◌, ◌⊎◌}
 
-three : (a b p q r : Bool) → (a ≡ true → b ≡ true) → (a && p && q && r) ≡ true → (b && p && q && r) ≡ true
+pub three : (a b p q r : Bool) → (a ≡ true → b ≡ true) → (a && p && q && r) ≡ true → (b && p && q && r) ≡ true
 three true b p q r grows is = ap (λ z. z && p && q && r) (grows refl) ∙ is
 three false b true q r grows is = absurd (false_is_true is)
 three false b false q r grows is = absurd (false_is_true is)
@@ -131,7 +131,7 @@ pub data IsPlainInput (i : Input) : Type 0 where
 abbrev with_i : Input → Entry → Entry
 with_i i e = record e { input = i }
 
-joined_more : (e : Entry) (past : Trace) (a : JobReply) (s : Session) → is_some (joined_after (e ∷ past) s) ≡ true → is_some (joined_after (with_reply a e ∷ past) s) ≡ true
+pub joined_more : (e : Entry) (past : Trace) (a : JobReply) (s : Session) → is_some (joined_after (e ∷ past) s) ≡ true → is_some (joined_after (with_reply a e ∷ past) s) ≡ true
 joined_more e past a s is = joined_stays (e ∷ past) (with_reply a e ∷ past) (λ job q h. reply_stays e past a job q h) s is
 
 active_more : (a b more : Bool) → (a ≡ true → b ≡ true) → (a && more) ≡ true → (b && more) ≡ true

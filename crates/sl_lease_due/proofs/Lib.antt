@@ -6,3 +6,4 @@ pub mod LawsStay
 pub mod DeltasStay
 pub mod LeaseCallsStay
 pub mod NextsStay
+pub mod TurnsStay
