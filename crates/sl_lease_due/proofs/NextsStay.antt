@@ -443,3 +443,53 @@ led_stays x s work step m a aim h is on aimed active w turned =
   unheld to l next free (Of_acquire mode same) = acquiring mode same l.lver
   unheld to l next free (By_read same) = unheld_read x s m a h work (is ∙ ap (λ z. Lease work z) same) w l.lver
   unheld to l next free (By_owed owes) = unheld_owed x s (spot_of_call x.setting.layout m) l.lver w.facts.holdings (owes to l next)
+
+-- ---- a settling converts nothing
+
+read_settles : (p : LeasePlace) (k : LeaseKnown) (bytes : List ℕ) (step : LeaseStep) → turns (after_read p k Settles bytes step) ≡ false
+read_settles p k bytes (ReadArea name) = plain_turns (area_next p k Settles name bytes) (areas_plainly p k Settles name bytes)
+read_settles p k bytes ReadBeforeFree = by (owed_free k) where
+  by : (o : Option ℕ) → turns (option_map_or (λ n. WriteLeader FreeLeader (leader_for p k false n)) o Nothing) ≡ false
+  by None = refl
+  by (Some n) = refl
+read_settles p k bytes Phase1Read = by k.own where
+  by : (o : Option Block) → turns (option_map_or (λ own. after_phase1 p k Settles own (blocks_in p.layout bytes) (stop_of own (blocks_in p.layout bytes))) o Nothing) ≡ false
+  by None = refl
+  by (Some own) =
+      plain_turns (after_phase1 p k Settles own (blocks_in p.layout bytes) (stop_of own (blocks_in p.layout bytes))) (phase1_plainly p k Settles own (blocks_in p.layout bytes) (stop_of own (blocks_in p.layout bytes)))
+read_settles p k bytes Phase2Read = by k.own where
+  ended : (own : Block) (b : Bool) → turns (elim b as (λ z. LeaseNext) [ true ↦ WriteLeader FreeLeader (leader_for p k false own.lver) | false ↦ settle_next p k ]) ≡ false
+  ended own true = refl
+  ended own false = plain_turns (settle_next p k) (settles_plainly p k)
+
+  stopped : (own : Block) (o : Option Stop) → turns (after_phase2 p k Settles own o) ≡ false
+  stopped own None = ended own (same_owner (value_of own) k.self)
+  stopped own (Some stop) = plain_turns (stopped_next p k Settles stop) (stops_plainly p k Settles stop)
+
+  by : (o : Option Block) → turns (option_map_or (λ own. after_phase2 p k Settles own (stop_of own (blocks_in p.layout bytes))) o Nothing) ≡ false
+  by None = refl
+  by (Some own) = stopped own (stop_of own (blocks_in p.layout bytes))
+read_settles p k bytes Phase1Write = refl
+read_settles p k bytes Phase2Write = refl
+read_settles p k bytes TakeLeader = refl
+read_settles p k bytes SetMode = refl
+read_settles p k bytes FreeLeader = refl
+read_settles p k bytes ClearMode = refl
+
+write_settles : (p : LeasePlace) (k : LeaseKnown) (n : ℕ) (step : LeaseStep) → turns (after_write p k Settles n step) ≡ false
+write_settles p k n Phase1Write = refl
+write_settles p k n Phase2Write = refl
+write_settles p k n TakeLeader = refl
+write_settles p k n SetMode = refl
+write_settles p k n FreeLeader = plain_turns (settle_next p k) (settles_plainly p k)
+write_settles p k n ClearMode = plain_turns (settle_next p k) (settles_plainly p k)
+write_settles p k n (ReadArea name) = refl
+write_settles p k n ReadBeforeFree = refl
+write_settles p k n Phase1Read = refl
+write_settles p k n Phase2Read = refl
+
+pub settles_no_turn : (p : LeasePlace) (k : LeaseKnown) (call m : ℕ) (step : LeaseStep) (answer : Answer) → turns (lease_next p k Settles call m step answer) ≡ false
+unfolding lease_next
+settles_no_turn p k call m step (Read bytes) = read_settles p k bytes step
+settles_no_turn p k call m step Written = write_settles p k m step
+settles_no_turn p k call m step Failed = refl
