@@ -23,8 +23,8 @@ use Rattle.sl_trace.specs.declared.effects.Spot.{Spot}
 use Rattle.sl_trace.specs.declared.reply.Limited.TheVariants.{Killpaths, Lockspaces, Seq as SeqLimit}
 use Rattle.sl_trace.specs.declared.reply.Reply.TheVariants.{Busy, Done, Generation, Granted, Hosts, Limit as LimitReached, NoOrphan, NoSession, NotHeld, Pending, Joining as StillJoining, Recovering}
 use Rattle.sl_trace.specs.declared.reply.Reply.{Reply}
-use Rattle.sl_words.proofs.CaseLaws.{none_some}
-use Rattle.sl_words.proofs.WordLaws.{choose_some}
+use Rattle.sl_words.proofs.CaseLaws.{false_is_true, none_some}
+use Rattle.sl_words.proofs.WordLaws.{and_true, choose_some}
 use Rattle.sl_words.specs.Bounds.{is_number}
 use Rattle.sl_words.specs.Words.{choose, same_truth}
 use Rattle.std.proofs.Common.{inl, inr, refl, subst, sym, ◌∙◌}
@@ -49,7 +49,8 @@ DecidedOn st es c (GivesUp s g) =
 DecidedOn st es c (TakesOver s g) = Unit {0}
 DecidedOn st es c (ConvertsTo s r mode) = IsAsked st es c s r × (aim_of_command c ≡ Some (Converts mode))
 DecidedOn st es c (Requests s r) = IsAsked st es c s r
-DecidedOn st es c (SetsValue s at v) = (r : ResourceArg) × IsAsked st es c s r × (at ≡ spot_of r)
+DecidedOn st es c (SetsValue s at v) =
+    (r : ResourceArg) × IsAsked st es c s r × (at ≡ spot_of r) × (g : Grant) × Contains (holdings_on es s (spot_of r)) g × (is_shared g.mode ≡ false)
 DecidedOn st es c (GetsValue s at) = (r : ResourceArg) × IsAsked st es c s r × (at ≡ spot_of r)
 
 -- ---- what is found on the way
@@ -119,8 +120,12 @@ acquires st es c r asking shared program named =
     (second (busy_refusal es (spot_of r) asking shared) (pending_refusal st es (spot_of r) ∷ limit_refusal st es s (spot_of r) program ∷ []) (pending_refusal st es (spot_of r))
     (contains_first (pending_refusal st es (spot_of r)) (limit_refusal st es s (spot_of r) program ∷ []))))))) (λ lver. tt))
 
+not_shared : (b : Bool) → not b ≡ true → b ≡ false
+not_shared false is = refl
+not_shared true is = absurd (false_is_true is)
+
 holds : (st : Setting) (es : Trace) (c : Command) (r : ResourceArg) (p : ℕ) (serves : Grant → Bool) (f : Session → Grant → Decision) → resource_named c ≡ Some r
-    → ((s : Session) (g : Grant) → IsAsked st es c s r → Contains (holdings_on es s (spot_of r)) g → DecidedOn st es c (f s g)) → DecidedOn st es c (decide_holder st es r p serves f)
+    → ((s : Session) (g : Grant) → IsAsked st es c s r → Contains (holdings_on es s (spot_of r)) g → serves g ≡ true → DecidedOn st es c (f s g)) → DecidedOn st es c (decide_holder st es r p serves f)
 holds st es c r p serves f named h =
     where_found (DecidedOn st es c) (λ w. tt) (session_named st es r.lockspace)
     (λ s. session_refusal st es s ∷ process_refusal es p ∷ choose (is_none (holding_of es s (spot_of r) p serves)) NotHeld ∷ pending_refusal st es (spot_of r) ∷ [])
@@ -133,7 +138,8 @@ holds st es c r p serves f named h =
     (second (process_refusal es p) (choose (is_none (holding_of es s (spot_of r) p serves)) NotHeld ∷ pending_refusal st es (spot_of r) ∷ []) (pending_refusal st es (spot_of r))
     (second (choose (is_none (holding_of es s (spot_of r) p serves)) NotHeld) (pending_refusal st es (spot_of r) ∷ []) (pending_refusal st es (spot_of r))
     (contains_first (pending_refusal st es (spot_of r)) []))))))
-    (find_inside (λ (k : Grant). k.process == p && serves k) (holdings_on es s (spot_of r)) g held).0))
+    (find_inside (λ (k : Grant). k.process == p && serves k) (holdings_on es s (spot_of r)) g held).0
+    (and_true (g.process == p) (serves g) (find_inside (λ (k : Grant). k.process == p && serves k) (holdings_on es s (spot_of r)) g held).1).1))
 
 serving_inside : (es : Trace) (s : Session) (at : Spot) (serves : Grant → Bool) (g : Grant) → serving_orphan es s at serves ≡ Some g → Contains (holdings_on es s at) g
 serving_inside es s at serves g is =
@@ -196,11 +202,12 @@ requests st es c r named =
 reports : (st : Setting) (es : Trace) (c : Command) (a : LockspaceArg) (answer : Session → Reply) → DecidedOn st es c (decide_report st es a answer)
 reports st es c a answer = where_found (DecidedOn st es c) (λ w. tt) (matching_session st es a) (λ s. session_refusal st es s ∷ []) (λ s. Replies (answer s)) (λ s is none. tt)
 
-sets_value : (st : Setting) (es : Trace) (c : Command) (s : Session) (r : ResourceArg) (g : Grant) (seq : ℕ) (bytes : List ℕ) → IsAsked st es c s r → DecidedOn st es c (setting_value s (spot_of r) g seq bytes)
-sets_value st es c s r g seq bytes h = by (is_number seq) where
+sets_value : (st : Setting) (es : Trace) (c : Command) (s : Session) (r : ResourceArg) (g : Grant) (seq : ℕ) (bytes : List ℕ) → IsAsked st es c s r → Contains (holdings_on es s (spot_of r)) g → is_shared g.mode ≡ false
+    → DecidedOn st es c (setting_value s (spot_of r) g seq bytes)
+sets_value st es c s r g seq bytes h there exclusive = by (is_number seq) where
   by : (b : Bool) → DecidedOn st es c (elim b as (λ z. Decision) [ false ↦ Replies (LimitReached SeqLimit) | true ↦ SetsValue s (spot_of r) (record { host = s.id; lver = g.lver; seq = seq; bytes = bytes }) ])
   by false = tt
-  by true = (r, h, refl)
+  by true = (r, h, refl, g, there, exclusive)
 
 -- ---- all commands
 
@@ -216,14 +223,14 @@ decisions_are_clear st es now (HostStatus a) = reports st es (HostStatus a) a (�
 decisions_are_clear st es now (Acquire r shared p persistent) = acquires st es (Acquire r shared p persistent) r (Some p) shared false refl
 decisions_are_clear st es now (TakeOver r shared p persistent) = takes_orphan st es (TakeOver r shared p persistent) r p shared
 decisions_are_clear st es now (RunProgram r shared path) = acquires st es (RunProgram r shared path) r None shared true refl
-decisions_are_clear st es now (Release r p) = holds st es (Release r p) r p (λ g. true) (λ s g. GivesUp s g) refl (λ s g h there. (r, h, refl, there))
+decisions_are_clear st es now (Release r p) = holds st es (Release r p) r p (λ g. true) (λ s g. GivesUp s g) refl (λ s g h there serves. (r, h, refl, there))
 decisions_are_clear st es now (ReleaseOrphan r) = gives_orphan st es (ReleaseOrphan r) r refl refl
 decisions_are_clear st es now (Convert r shared p) = converts st es (Convert r shared p) r p (wanted_mode (Convert r shared p)) refl refl
 decisions_are_clear st es now (Request r lver how) = requests st es (Request r lver how) r refl
-decisions_are_clear st es now (GetLvb r p) = holds st es (GetLvb r p) r p (λ g. true) (λ s g. GetsValue s (spot_of r)) refl (λ s g h there. (r, h, refl))
+decisions_are_clear st es now (GetLvb r p) = holds st es (GetLvb r p) r p (λ g. true) (λ s g. GetsValue s (spot_of r)) refl (λ s g h there serves. (r, h, refl))
 decisions_are_clear st es now (SetLvb r p bytes) =
     holds st es (SetLvb r p bytes) r p (λ g. not (is_shared g.mode)) (λ s g. setting_value s (spot_of r) g (next_value_seq st es s (spot_of r) g.lver) bytes) refl
-    (λ s g h there. sets_value st es (SetLvb r p bytes) s r g (next_value_seq st es s (spot_of r) g.lver) bytes h)
+    (λ s g h there serves. sets_value st es (SetLvb r p bytes) s r g (next_value_seq st es s (spot_of r) g.lver) bytes h there (not_shared (is_shared g.mode) serves))
 decisions_are_clear st es now (SetKillpath p path) =
     unless (DecidedOn st es (SetKillpath p path)) (λ w. tt) (process_refusal es p ∷ choose (is_killpath_limit st es p) (LimitReached Killpaths) ∷ []) (Replies Done) (λ none. tt)
 decisions_are_clear st es now Status = tt

@@ -174,14 +174,14 @@ at_value y s at h = place_is_on y.setting h.setting at.base value tt
 -- ---- a release
 
 -- What stood behind an exclusive holding before its line stands after it.
-ended_still : (x : Step) (text : List ℕ) (s : Session) (at : Spot) (n : ℕ) → x.input ≡ Wake → HasEnded x s at n → HasEnded (with_input (Line text) x) s at n
+pub ended_still : (x : Step) (text : List ℕ) (s : Session) (at : Spot) (n : ℕ) → x.input ≡ Wake → HasEnded x s at n → HasEnded (with_input (Line text) x) s at n
 ended_still x text s at n wake h =
     let same : submitted (seen (with_input (Line text) x)) ≡ submitted (seen x) = quiet_same x (Line text) wake refl in
     subst (λ ms. Contains (ended_ballots x.setting.layout (filter (λ (m : Submitted). is_lease_call m && is_on x.setting.layout at m.call) (filter (is_call_of s) ms)))
     (n, record { id = s.id; generation = generation_in s (filter (is_call_of s) ms) })
     × (open_ballot x.setting.layout (filter (λ (m : Submitted). is_lease_call m && is_on x.setting.layout at m.call) (filter (is_call_of s) ms)) ≡ None)) (sym same) h
 
-held_ended : (x : Step) (s : Session) (r : ResourceArg) (g : Grant) → Has x s → HoldingFacts x.setting (seen x) (heard_by x.input) → Contains (holdings_on (seen x) s (spot_of r)) g
+pub held_ended : (x : Step) (s : Session) (r : ResourceArg) (g : Grant) → Has x s → HoldingFacts x.setting (seen x) (heard_by x.input) → Contains (holdings_on (seen x) s (spot_of r)) g
     → (spot_of_grant g ≡ spot_of r) × (g.mode ≡ Exclusive → HasEnded x s (spot_of r) g.lver)
 held_ended x s r g has held there =
     let placed = kept_inside (λ (k : Grant). same_place k.path k.offset (spot_of r).path (spot_of r).base) (holdings_of (seen x) s) g there in
@@ -194,7 +194,7 @@ held_ended x s r g has held there =
           subst (λ z. HasEnded x s z g.lver) spot (stands.ballot.won, stands.concluded),
     )
 
-ended_ready : (y : Step) (s : Session) (at : Spot) (g : Grant) → LeaseReady y s at → LeaseReady (add_end (end_of g) y) s at
+pub ended_ready : (y : Step) (s : Session) (at : Spot) (g : Grant) → LeaseReady y s at → LeaseReady (add_end (end_of g) y) s at
 ended_ready y s at g h = record { has = h.has; setting = h.setting; aligned = h.aligned; clear = h.clear; below = h.below }
 
 release_leaves : (z : Step) (s : Session) (at : Spot) (j : ℕ) (g : Grant) → LeaseReady z s at → aim_of z.setting (seen z) (ForJob j) ≡ Some Releases → (g.mode ≡ Exclusive → HasEnded z s at g.lver) → LeasesStand z → (hs : List Grant)
