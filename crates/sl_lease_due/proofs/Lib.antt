@@ -7,3 +7,4 @@ pub mod DeltasStay
 pub mod LeaseCallsStay
 pub mod NextsStay
 pub mod TurnsStay
+pub mod LinesStay

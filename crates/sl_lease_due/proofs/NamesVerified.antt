@@ -79,7 +79,7 @@ named_by g lockspace (m ∷ ms) read name there is = by (verified_by g lockspace
   by None found (inl same) rest = absurd (none_some name (sym found ∙ (ap (λ z. verified_by g lockspace z) same ∙ is)))
   by None found (inr inside) rest = let k = rest inside in (k.0, contains_more m ms k.0 k.1, k.2)
 
-mapped_inside : {A B : Type 0} (f : A → Option B) (xs : List A) (x : A) (y : B) → Contains xs x → f x ≡ Some y → Contains (filter_map f xs) y
+pub mapped_inside : {A B : Type 0} (f : A → Option B) (xs : List A) (x : A) (y : B) → Contains xs x → f x ≡ Some y → Contains (filter_map f xs) y
 mapped_inside f [] x y there is = absurd (contains_none x there)
 mapped_inside {A} {B} f (a ∷ xs) x y there is = by (f a) refl (contains_cases a xs x there) (λ rest. mapped_inside f xs x y rest is) where
   by : (o : Option B) → f a ≡ o → (a ≡ x) ⊎ Contains xs x → (Contains xs x → Contains (filter_map f xs) y) → Contains (cons_option o (filter_map f xs)) y

@@ -1,0 +1,164 @@
+-- What a command came to keeps the laws of areas, blocks and leaders; so does the request that is written after its read.
+use Rattle.sl_acts.proofs.DecisionsAreTheirs.{Of, decisions_are_theirs}
+use Rattle.sl_acts.proofs.PlainActs.{line_has}
+use Rattle.sl_acts.specs.Acts.{Has, Hears}
+use Rattle.sl_acts.specs.Promises.{IsDecidedFor}
+use Rattle.sl_acts.specs.SoFar.{entry_of}
+use Rattle.sl_area.specs.Layouts.{Layout}
+use Rattle.sl_area.specs.Places.{in_area, leader_of, request_offset, value_offset}
+use Rattle.sl_area.specs.Roles.{leader, request, value}
+use Rattle.sl_due.specs.DueCommands.{after_end, carry_decision, decided, reply_at_once}
+use Rattle.sl_due.specs.DueLease.{carry_lease}
+use Rattle.sl_due.specs.DueRequests.{after_request_read, owner_read, request_refusal, write_request}
+use Rattle.sl_due.specs.Steps.{Step, add_call_of, add_end, add_reply, seen, with_input}
+use Rattle.sl_due.specs.declared.decision.Decision.TheVariants.{ConvertsTo, GetsValue, GivesUp, Joins, Leaves, ReadsArea, Replies, Requests, SetsValue, Shares, TakesOver}
+use Rattle.sl_due.specs.declared.decision.Decision.{Decision}
+use Rattle.sl_law.specs.LawfulArea.{HasVerified, IsRightRead, LawfulAreaWrite, is_area_work, is_delta_record, is_leader_read, leaders_read, open_block_work}
+use Rattle.sl_law.specs.LawfulLeader.{holds_under}
+use Rattle.sl_lease_due.proofs.DeltasStay.{is_see, read_other}
+use Rattle.sl_lease_due.proofs.LawsStay.{calls_stay}
+use Rattle.sl_lease_due.proofs.LeaseCallsStay.{LeaseMay, reads_stay, works_clear}
+use Rattle.sl_lease_due.proofs.NamesVerified.{has_verified, mapped_inside}
+use Rattle.sl_lease_due.proofs.NextsStay.{bare_lawful, next_stays, turns}
+use Rattle.sl_lease_due.proofs.OthersKeep.{Any, LawfulSoFar, Others, by_others, no_others, other_more, others_are_lawful}
+use Rattle.sl_lease_due.specs.LeaseLawful.{LeaseLawful}
+use Rattle.sl_lease_ways.proofs.Kept.ActsKeep.{stand}
+use Rattle.sl_lease_ways.proofs.Kept.DecisionsAreClear.{DecidedOn, IsAsked, decisions_are_clear}
+use Rattle.sl_lease_ways.proofs.Kept.EffectsLeave.{ends_leave, made_call, there_has}
+use Rattle.sl_lease_ways.proofs.Kept.HeardStands.{HeardCall, heard_call, heard_has, lease_ready}
+use Rattle.sl_lease_ways.proofs.Kept.InputsLeave.{input_sessions, quiet_inputs_leave, quiet_same}
+use Rattle.sl_lease_ways.proofs.Kept.LeaseNextsLeave.{HasEnded, LeaseReady, moment_of}
+use Rattle.sl_lease_ways.proofs.Kept.LinesKeep.{ended_ready, ended_still, held_ended, line_command}
+use Rattle.sl_lease_ways.proofs.Kept.LinesReady.{line_ready, on_own}
+use Rattle.sl_lease_ways.proofs.Kept.PlacesStand.{place_is_on, placed_on, spot_is}
+use Rattle.sl_lease_ways.proofs.Kept.PlainWalks.{granting, stopped}
+use Rattle.sl_lease_ways.proofs.NextsFit.AnswersFit.{conversions_fit, releases_fit}
+use Rattle.sl_lease_ways.proofs.WayNumbers.{is_verified}
+use Rattle.sl_lease_ways.proofs.WayStages.{is_at_in}
+use Rattle.sl_lease_ways.specs.Kept.{LeasesStand}
+use Rattle.sl_leases.specs.Jobs.{aim_of, aim_of_command, command_numbered, resource_named}
+use Rattle.sl_leases.specs.LeaseWork.{convert_next, lease_place, release_next}
+use Rattle.sl_leases.specs.Leases.{Phase2_read, block_of_record, block_submitted, block_written, holdings_on, is_lease_call, is_leader_of, is_on, kind_of_step, same_kind, known, lease_calls, lease_step, leader_of_record, leader_written, spot_of, spot_of_call, verified_name}
+use Rattle.sl_leases.specs.declared.lease.Aim.TheVariants.{Converts, Releases}
+use Rattle.sl_leases.specs.declared.lease.LeaseNext.TheVariants.{ReadFor, WriteBlock, WriteLeader}
+use Rattle.sl_leases.specs.declared.lease.LeaseNext.{LeaseNext}
+use Rattle.sl_sector.specs.declared.sector.Block.{Block}
+use Rattle.sl_sector.specs.declared.sector.Leader.{Leader}
+use Rattle.sl_sector.specs.declared.sector.Rec.TheVariants.{RequestIs, ValueIs}
+use Rattle.sl_sector.specs.declared.sector.Rec.{Rec}
+use Rattle.sl_sessions.specs.Sessions.{calls_of, is_active, is_call_of, is_join_call, is_joined, joined_after, leaves, leaving_in, leaving_job, recovery_of, removed_after, session_numbered}
+use Rattle.sl_sessions.specs.declared.session.Session.{Session}
+use Rattle.sl_step_facts.specs.WayFacts.{way_context}
+use Rattle.sl_step_facts.specs.Whole.{Whole}
+use Rattle.sl_trace.specs.Traces.{Job, Setting, Submitted, Trace, end_of, gave, holdings, is_shared, new_call, next_job, record_of, spot_of_grant, submitted}
+use Rattle.sl_trace.specs.declared.command.Command.TheVariants.{Acquire, AddLockspace, Convert, GetLvb, HostStatus, InqLockspace, Release, ReleaseOrphan, RemLockspace, Request, RunProgram, SetKillpath, SetLvb, Status, TakeOver}
+use Rattle.sl_trace.specs.declared.command.Command.{Command}
+use Rattle.sl_trace.specs.declared.command.ResourceArg.{ResourceArg}
+use Rattle.sl_trace.specs.declared.effects.Entry.{Entry}
+use Rattle.sl_trace.specs.declared.effects.Grant.{Grant}
+use Rattle.sl_trace.specs.declared.effects.JoinStep.TheVariants.{FirstRead}
+use Rattle.sl_trace.specs.declared.effects.LeaseStep.TheVariants.{ReadArea}
+use Rattle.sl_trace.specs.declared.effects.LeaseStep.{LeaseStep}
+use Rattle.sl_trace.specs.declared.effects.Mode.TheVariants.{Exclusive, Shared}
+use Rattle.sl_trace.specs.declared.effects.Mode.{Mode}
+use Rattle.sl_trace.specs.declared.effects.Op.TheVariants.{ReadSectors, WriteRecord}
+use Rattle.sl_trace.specs.declared.effects.Op.{Op}
+use Rattle.sl_trace.specs.declared.effects.Purpose.TheVariants.{Joining, RequestRead, RequestWrite, SeeRequest, ValueRead, ValueWrite}
+use Rattle.sl_trace.specs.declared.effects.Purpose.{Purpose}
+use Rattle.sl_trace.specs.declared.effects.Spot.{Spot}
+use Rattle.sl_trace.specs.declared.effects.JobReply.{JobReply}
+use Rattle.sl_trace.specs.declared.effects.Work.{Work}
+use Rattle.sl_trace.specs.declared.effects.Work.TheVariants.{ForJob}
+use Rattle.sl_trace.specs.declared.input.Answer.TheVariants.{Read}
+use Rattle.sl_trace.specs.declared.input.Input.TheVariants.{Line, Wake}
+use Rattle.sl_trace.specs.declared.input.Input.{Input}
+use Rattle.sl_trace.specs.declared.reply.Reply.TheVariants.{Done}
+use Rattle.sl_trace.specs.declared.reply.Reply.{Reply}
+use Rattle.sl_plain.proofs.Lists.{kept, kept_inside}
+use Rattle.sl_plain.proofs.Numbers.{number_itself}
+use Rattle.sl_trace_law.proofs.Leases.NumberLaws.{number_is_place}
+use Rattle.sl_words.proofs.CaseLaws.{false_is_true, no_value, none_some, some_value, true_is_false}
+use Rattle.sl_words.specs.Words.{choose, some_is}
+use Rattle.std.proofs.Common.{ap, eqb-true, inl, inr, refl, subst, sym, ◌∙◌}
+use Rattle.std.proofs.lemmas.Bool.{and_from}
+use Rattle.std.specs.List.{list_any}
+use Rattle.std.specs.Option.{option_map_or}
+use Rattle.std.specs.Prelude.{Bool, Contains, List, None, Ok, Option, Some, [], false, filter, is_none, is_some, length, not, option_and_then, slice_get, true, ℕ, ◌&&◌, ◌==◌, ◌∷◌, ◌≡◌}
+
+-- ---- a session stays active as a line is seen
+
+unleft : (s : Session) (c : Command) (r : ResourceArg) → resource_named c ≡ Some r → leaves s (Ok c) ≡ false
+unleft s (Acquire a shared p persistent) r is = refl
+unleft s (TakeOver a shared p persistent) r is = refl
+unleft s (Release a p) r is = refl
+unleft s (ReleaseOrphan a) r is = refl
+unleft s (Convert a shared p) r is = refl
+unleft s (RunProgram a shared path) r is = refl
+unleft s (Request a lver force) r is = refl
+unleft s (GetLvb a p) r is = refl
+unleft s (SetLvb a p bytes) r is = refl
+unleft s (RemLockspace a) r is = absurd (none_some r is)
+unleft s (AddLockspace a) r is = absurd (none_some r is)
+unleft s (InqLockspace a) r is = absurd (none_some r is)
+unleft s (HostStatus a) r is = absurd (none_some r is)
+unleft s (SetKillpath p path) r is = absurd (none_some r is)
+unleft s Status r is = absurd (none_some r is)
+
+abbrev with_i : Input → Entry → Entry
+with_i i e = record e { input = i }
+
+line_leaves_none : (st : Setting) (past : Trace) (s : Session) (e : Entry) (text : List ℕ) → leaves s (st.read text) ≡ false → leaving_in st past s (with_i (Line text) e) ≡ None
+line_leaves_none st past s e text none = ap (λ b. elim b as (λ z. Option Job) [
+  | false ↦ None
+  | true ↦ choose (is_joined past s && not (list_any (λ (a : JobReply). a.job == next_job st past) e.effects.replies)) (record { number = next_job st past; at = length past; reading = e.reading; command = st.read text })
+]) none
+
+woken_active : (st : Setting) (past : Trace) (s : Session) (e : Entry) (text : List ℕ) → leaves s (st.read text) ≡ false → is_active st (with_i Wake e ∷ past) s ≡ true → is_active st (with_i (Line text) e ∷ past) s ≡ true
+woken_active st past s e text none is =
+    ap (λ o. is_some (joined_after (with_i Wake e ∷ past) s) && is_none (removed_after (with_i Wake e ∷ past) s) && is_none (recovery_of st (with_i Wake e ∷ past) s)
+    && is_none (elim (leaving_job st past s) as (λ z. Option Job) [ Some j ↦ Some j | None ↦ o ])) (line_leaves_none st past s e text none) ∙ is
+
+line_active : (x : Step) (text : List ℕ) (c : Command) (s : Session) (r : ResourceArg) → x.input ≡ Wake → x.setting.read text ≡ Ok c → IsAsked x.setting (seen x) c s r → is_active x.setting (seen (with_input (Line text) x)) s ≡ true
+line_active x text c s r wake reads on =
+    woken_active x.setting x.past s (entry_of x) text (ap (λ z. leaves s z) reads ∙ unleft s c r on.named)
+    (subst (λ i. is_active x.setting (with_i i (entry_of x) ∷ x.past) s ≡ true) wake on.active)
+
+line_may : (x : Step) (text : List ℕ) (c : Command) (s : Session) (r : ResourceArg) → x.input ≡ Wake → x.effects.calls ≡ [] → x.setting.read text ≡ Ok c → IsAsked x.setting (seen x) c s r → Has (with_input (Line text) x) s → Whole x
+    → LeaseMay (with_input (Line text) x) s (spot_of r)
+line_may x text c s r wake bare reads on has w =
+    let ready : LeaseReady (with_input (Line text) x) s (spot_of r) = line_ready x text c s r w.setting w.facts.calls wake reads on has in
+    record {
+      ready = ready;
+      active = line_active x text c s r wake reads on;
+      ways = (quiet_inputs_leave x (Line text) wake bare refl (stand x w)).ways.each s (spot_of r) (there_has x.setting (seen (with_input (Line text) x)) s.number s has) ready.aligned;
+    }
+
+-- ---- calls on an area that are no lease's
+
+no_step : (p : Purpose) → is_some (lease_step p) ≡ false → is_at_in Phase2_read p ≡ true → ⊥
+no_step p none at = by (lease_step p) none at where
+  by : (o : Option (Work × LeaseStep)) → is_some o ≡ false → some_is (λ q. same_kind (kind_of_step q.1) Phase2_read) o ≡ true → ⊥
+  by None n a = false_is_true a
+  by (Some q) n a = true_is_false n
+
+sees_area : (p : Purpose) → is_area_work p ≡ true → p ≡ SeeRequest → ⊥
+sees_area p area is = true_is_false (sym area ∙ ap (λ q. is_area_work q) is)
+
+area_call : (x : Step) (s : Session) (at : Spot) → LeaseMay x s at → (p : Purpose) (o : ℕ) (op : Op) → is_area_work p ≡ true → is_some (lease_step p) ≡ false → is_join_call FirstRead p ≡ false → in_area x.setting.layout at.base o ≡ true
+    → ((c : Submitted) → c.call.offset ≡ o → c.call.op ≡ op → IsRightRead x.setting at c p)
+    → ((r : Rec) → record_of op ≡ Some r → (c : Submitted) → c.call.offset ≡ o → spot_of_call x.setting.layout c ≡ at → LawfulAreaWrite x.setting (seen x) s c r)
+    → option_and_then block_of_record (record_of op) ≡ None → option_and_then leader_of_record (record_of op) ≡ None → LawfulSoFar x → LawfulSoFar (add_call_of s.number at.path p o op x)
+area_call x s at may p o op area none later inside reads writes no_block no_leader h =
+    let c : Submitted = new_call (length x.past) x.reading (made_call x s.number at.path p o op) in
+    let spot : spot_of_call x.setting.layout c ≡ at = spot_is x.setting.layout at c may.ready.aligned (placed_on x.setting at (made_call x s.number at.path p o op) refl inside) in
+    calls_stay x s at.path p o op may.ready.has later
+    (record {
+      active = λ is. may.active;
+      writes = λ r is plain. (area, writes r is c refl spot);
+      alone = λ works. ap (λ z. open_block_work x.setting (seen x) s z) spot ∙ works_clear x s at may.ready;
+      reads = subst (λ z. IsRightRead x.setting z c p) (sym spot) (reads c refl refl);
+      sees = λ is. absurd (sees_area p area is);
+      block = λ b is. absurd (no_value b (option_and_then block_of_record (record_of op)) is no_block);
+      phase2 = λ reads. absurd (no_step p none reads);
+      leader = λ l is. absurd (no_value l (option_and_then leader_of_record (record_of op)) is no_leader);
+    }) h
