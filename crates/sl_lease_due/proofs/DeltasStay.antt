@@ -55,7 +55,7 @@ use Rattle.std.specs.Prelude.{Bool, Contains, List, None, Option, Some, [], byte
 
 -- ---- such calls
 
-pub is_see : Purpose → Bool
+is_see : Purpose → Bool
 is_see SeeRequest = true
 is_see p = false
 
@@ -63,11 +63,15 @@ unseen_by : (p : Purpose) → is_see p ≡ false → p ≡ SeeRequest → ⊥
 unfolding is_see
 unseen_by p unseen is = true_is_false (sym (ap (λ q. is_see q) is) ∙ unseen)
 
-pub read_other : (p : Purpose) (n : ℕ) → is_area_work p ≡ false → is_see p ≡ false → IsOther p (ReadSectors n)
+read_other : (p : Purpose) (n : ℕ) → is_area_work p ≡ false → is_see p ≡ false → IsOther p (ReadSectors n)
 read_other p n plain unseen = record { plain = plain; unseen = unseen_by p unseen; delta = λ r is. absurd (none_some r is) }
 
 write_other : (p : Purpose) (d : DeltaRec) → is_area_work p ≡ false → is_see p ≡ false → IsOther p (WriteRecord (DeltaIs d))
 write_other p d plain unseen = record { plain = plain; unseen = unseen_by p unseen; delta = λ r is. subst (λ (z : Rec). is_delta_record z ≡ true) (some_value (DeltaIs d) r is) refl }
+
+pub first_other : (j : ℕ) → IsOther (Joining j FirstRead) (ReadSectors 1)
+unfolding is_see
+first_other j = read_other (Joining j FirstRead) 1 refl refl
 
 -- A session whose joining is the same job's.
 abbrev pub SharesJob : Step → Session → Session → Type 0

@@ -194,7 +194,7 @@ data FreesBy (k : LeaseKnown) (aim : Aim) (step : LeaseStep) (n : LeaseNext) : T
   By_read : step ≡ Phase2Read → FreesBy k aim step n
   By_owed : ((to : LeaseStep) (l : Leader) → n ≡ WriteLeader to l → owed_free k ≡ Some l.lver) → FreesBy k aim step n
 
-abbrev is_leader_next : LeaseNext → Bool
+abbrev pub is_leader_next : LeaseNext → Bool
 is_leader_next (WriteLeader step l) = true
 is_leader_next Nothing = false
 is_leader_next (ReadFor step) = false
