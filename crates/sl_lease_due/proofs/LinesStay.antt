@@ -5,7 +5,7 @@ use Rattle.sl_acts.specs.Acts.{Has, Hears}
 use Rattle.sl_acts.specs.Promises.{IsDecidedFor}
 use Rattle.sl_acts.specs.SoFar.{entry_of}
 use Rattle.sl_area.specs.Layouts.{Layout}
-use Rattle.sl_area.specs.Places.{in_area, leader_of, request_offset, value_offset}
+use Rattle.sl_area.specs.Places.{in_area, leader_of, read_at, request_offset, value_offset}
 use Rattle.sl_area.specs.Roles.{leader, request, value}
 use Rattle.sl_due.specs.DueCommands.{after_end, carry_decision, decided, reply_at_once}
 use Rattle.sl_due.specs.DueLease.{carry_lease, read_area}
@@ -22,7 +22,9 @@ use Rattle.sl_lease_due.proofs.NamesVerified.{has_verified, mapped_inside}
 use Rattle.sl_lease_due.proofs.NextsStay.{bare_lawful, held_there, is_leader_next, next_stays, turns}
 use Rattle.sl_lease_due.proofs.OthersKeep.{Any, LawfulSoFar, Others, by_others, no_others, other_more, others_are_lawful}
 use Rattle.sl_lease_due.specs.LeaseLawful.{LeaseLawful}
-use Rattle.sl_lease_ways.proofs.Kept.ActsKeep.{stand}
+use Rattle.sl_lease_ways.proofs.Kept.ActsKeep.{asked_of, stand}
+use Rattle.sl_request.specs.Requests.{check_request}
+use Rattle.sl_sector.specs.Spelling.{request_in}
 use Rattle.sl_lease_ways.proofs.Kept.DecisionsAreClear.{DecidedOn, IsAsked, decisions_are_clear}
 use Rattle.sl_lease_ways.proofs.Kept.EffectsLeave.{ends_leave, made_call, there_has}
 use Rattle.sl_lease_ways.proofs.Kept.HeardStands.{HeardCall, heard_call, heard_has, lease_ready, spot_same}
@@ -53,7 +55,7 @@ use Rattle.sl_step_facts.specs.Heard.{heard_by}
 use Rattle.sl_step_facts.specs.HoldingFacts.{StandsExclusive}
 use Rattle.sl_step_facts.specs.WayFacts.{way_context}
 use Rattle.sl_step_facts.specs.Whole.{Whole}
-use Rattle.sl_trace.specs.Traces.{Job, Setting, Submitted, Trace, end_of, gave, holdings, is_shared, new_call, next_job, record_of, spot_of_grant, submitted}
+use Rattle.sl_trace.specs.Traces.{Answered, Job, Setting, bytes_given, Submitted, Trace, end_of, gave, holdings, is_shared, new_call, next_job, record_of, spot_of_grant, submitted}
 use Rattle.sl_trace.specs.declared.command.Command.TheVariants.{Acquire, AddLockspace, Convert, GetLvb, HostStatus, InqLockspace, Release, ReleaseOrphan, RemLockspace, Request, RunProgram, SetKillpath, SetLvb, Status, TakeOver}
 use Rattle.sl_trace.specs.declared.command.Command.{Command}
 use Rattle.sl_trace.specs.declared.command.ResourceArg.{ResourceArg}
@@ -75,7 +77,7 @@ use Rattle.sl_trace.specs.declared.effects.Work.TheVariants.{ForJob}
 use Rattle.sl_trace.specs.declared.input.Answer.TheVariants.{Read}
 use Rattle.sl_trace.specs.declared.input.Input.TheVariants.{Line, Wake}
 use Rattle.sl_trace.specs.declared.input.Input.{Input}
-use Rattle.sl_trace.specs.declared.reply.Reply.TheVariants.{Done}
+use Rattle.sl_trace.specs.declared.reply.Reply.TheVariants.{Done, RequestOld, TornLeader, WrongArea}
 use Rattle.sl_trace.specs.declared.reply.Reply.{Reply}
 use Rattle.sl_plain.proofs.Lists.{kept, kept_inside}
 use Rattle.sl_plain.proofs.Numbers.{number_itself}
@@ -304,3 +306,75 @@ pub lines_stay : (x : Step) (text : List ℕ) (c : Command) (d : Decision) → x
 lines_stay x text c d wake bare reads is none w =
     carried x text c d wake bare reads (subst (λ z. DecidedOn x.setting (seen x) c z) is (decisions_are_clear x.setting (seen x) x.reading c))
     (subst (λ z. IsDecidedFor x.setting (seen x) c z) is (decisions_are_theirs x.setting (seen x) x.reading c)) (subst (λ z. Of (Has (with_input (Line text) x)) z) is (line_has x text c bare)) none w
+
+-- ---- the request that is written after its read
+
+record Named (x : Step) (s : Session) (r : ResourceArg) (bytes : List ℕ) : Type 0 where
+  leader : Leader
+  spelled : leader_of x.setting.layout bytes ≡ Some leader
+  names : is_leader_of x.setting.layout s.lockspace r.name leader ≡ true
+
+named_by : (x : Step) (s : Session) (r : ResourceArg) (asked force : ℕ) (bytes : List ℕ) → request_refusal x.setting.layout s.lockspace r asked force bytes ≡ None → Named x s r bytes
+unfolding request_refusal
+named_by x s r asked force bytes none = by (leader_of x.setting.layout bytes) refl none where
+  named : (l : Leader) → leader_of x.setting.layout bytes ≡ Some l → (b : Bool) → is_leader_of x.setting.layout s.lockspace r.name l ≡ b → elim b as (λ z. Option Reply) [
+    | false ↦ Some (WrongArea l.lockspace l.resource l.num_hosts)
+    | true ↦ elim (request_in (read_at x.setting.layout bytes 1)) as (λ z. Option Reply) [
+      | None ↦ choose (not (asked == 0)) (RequestOld l.lver None)
+      | Some q ↦ choose (not (check_request l.lver q.lver asked force)) (RequestOld l.lver (Some q.lver))
+    ]
+  ] ≡ None → Named x s r bytes
+  named l spells true is none = record { leader = l; spelled = spells; names = is }
+  named l spells false is none = absurd (none_some _ (sym none))
+
+  by : (o : Option Leader) → leader_of x.setting.layout bytes ≡ o → elim o as (λ z. Option Reply) [
+    | None ↦ Some TornLeader
+    | Some l ↦ elim (is_leader_of x.setting.layout s.lockspace r.name l) as (λ z. Option Reply) [
+      | false ↦ Some (WrongArea l.lockspace l.resource l.num_hosts)
+      | true ↦ elim (request_in (read_at x.setting.layout bytes 1)) as (λ z. Option Reply) [
+        | None ↦ choose (not (asked == 0)) (RequestOld l.lver None)
+        | Some q ↦ choose (not (check_request l.lver q.lver asked force)) (RequestOld l.lver (Some q.lver))
+      ]
+    ]
+  ] ≡ None → Named x s r bytes
+  by None spells none = absurd (none_some TornLeader (sym none))
+  by (Some l) spells none = named l spells (is_leader_of x.setting.layout s.lockspace r.name l) refl none
+
+read_verified : (x : Step) (s : Session) (m : Submitted) (j : ℕ) (bytes : List ℕ) (r : ResourceArg) → Hears x s m (Read bytes) → m.call.purpose ≡ RequestRead j → Whole x → Named x s r bytes
+    → HasVerified x.setting (seen x) s (spot_of_call x.setting.layout m) r.name
+read_verified x s m j bytes r h is w n =
+    let c : HeardCall x (Read bytes) m = heard_call x s m (Read bytes) h w in
+    let its : is_call_of s m ≡ true = ap (λ k. k == s.number) (sym (number_is_place x.setting (seen x) m.call.session s h.session)) ∙ number_itself s.number in
+    let gives : option_and_then (leader_of x.setting.layout) (gave m) ≡ Some n.leader =
+        ap (λ o. option_and_then (leader_of x.setting.layout) (option_and_then (λ (a : Answered). bytes_given a.answer) o)) c.told ∙ n.spelled
+    in (
+      n.leader,
+      mapped_inside (λ (d : Submitted). option_and_then (leader_of x.setting.layout) (gave d)) (filter (λ (d : Submitted). is_leader_read d.call.purpose && is_on x.setting.layout (spot_of_call x.setting.layout m) d.call) (calls_of (seen x) s)) m n.leader
+      (kept (λ (d : Submitted). is_leader_read d.call.purpose && is_on x.setting.layout (spot_of_call x.setting.layout m) d.call) (calls_of (seen x) s) m
+      (and_from (is_leader_read m.call.purpose) (is_on x.setting.layout (spot_of_call x.setting.layout m) m.call) (ap (λ p. is_leader_read p) is) (on_own x.setting w.setting m))
+      (kept (is_call_of s) (submitted (seen x)) m its c.there)) gives,
+      n.names,
+    )
+
+pub requested : (x : Step) (s : Session) (m : Submitted) (j : ℕ) (bytes : List ℕ) (c : Command) → Hears x s m (Read bytes) → m.call.purpose ≡ RequestRead j → command_numbered x.setting (seen x) j ≡ Some c
+    → is_active x.setting (seen x) s ≡ true → Whole x → LawfulSoFar (after_request_read s j bytes c x)
+unfolding after_request_read
+requested x s m j bytes (Request r asked force) h is command active w = by (request_refusal x.setting.layout s.lockspace r asked force bytes) refl where
+  by : (o : Option Reply) → request_refusal x.setting.layout s.lockspace r asked force bytes ≡ o
+      → LawfulSoFar (elim o as (λ z. Step) [ Some why ↦ add_reply j why x | None ↦ write_request s j (owner_read x.setting.layout bytes) r asked force x ])
+  by (Some why) refused = bare_lawful (add_reply j why x) h.bare
+  by None refused =
+      let spot : spot_of_call x.setting.layout m ≡ spot_of r = asked_of x s m j (Read bytes) r asked force h is command w in
+      let ready : LeaseReady x s (spot_of r) = subst (λ at. LeaseReady x s at) spot (lease_ready x s m (Read bytes) h (ap (λ p. is_area_work p) is) w) in
+      let may : LeaseMay x s (spot_of r) = record { ready = ready; active = active; ways = w.facts.ways.each s (spot_of r) (there_has x.setting (seen x) s.number s ready.has) ready.aligned } in
+      let verified : HasVerified x.setting (seen x) s (spot_of r) r.name =
+          subst (λ z. HasVerified x.setting (seen x) s z r.name) spot (read_verified x s m j bytes r h is w (named_by x s r asked force bytes refused))
+      in
+      area_call x s (spot_of r) may (RequestWrite j (owner_read x.setting.layout bytes)) (request_offset x.setting.layout r.offset) _ refl refl refl (request_in_area x s (spot_of r) may) (λ d place does. tt)
+      (λ k has d place at. subst (λ (z : Rec). LawfulAreaWrite x.setting (seen x) s d z) (some_value _ k has)
+      (record {
+        resource = r.name;
+        verified = subst (λ z. HasVerified x.setting (seen x) s z r.name) (sym at) verified;
+        placed = ap (λ z. let o : Option ℕ = Some (request_offset x.setting.layout z.base) in o) at ∙ ap (λ n. Some n) (sym place);
+      })) refl refl (bare_lawful x h.bare)
+requested x s m j bytes c h is command active w = bare_lawful x h.bare

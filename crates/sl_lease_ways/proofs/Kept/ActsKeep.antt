@@ -176,7 +176,7 @@ told_late None = refl
 told_late (Some v) = refl
 
 -- The read of a request was on its command's resource.
-asked_of : (x : Step) (s : Session) (m : Submitted) (j : ℕ) (a : Answer) (r : ResourceArg) (lver force : ℕ) → Hears x s m a → m.call.purpose ≡ RequestRead j → command_numbered x.setting (seen x) j ≡ Some (Request r lver force) → Whole x
+pub asked_of : (x : Step) (s : Session) (m : Submitted) (j : ℕ) (a : Answer) (r : ResourceArg) (lver force : ℕ) → Hears x s m a → m.call.purpose ≡ RequestRead j → command_numbered x.setting (seen x) j ≡ Some (Request r lver force) → Whole x
     → spot_of_call x.setting.layout m ≡ spot_of r
 asked_of x s m j a r lver force h is known w =
     let c : HeardCall x a m = heard_call x s m a h w in
