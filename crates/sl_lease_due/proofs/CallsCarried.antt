@@ -10,7 +10,6 @@ use Rattle.sl_law.specs.LawfulArea.{HasVerified, is_area_work, is_block_work, is
 use Rattle.sl_sector.specs.declared.sector.Block.{Block}
 use Rattle.sl_sector.specs.declared.sector.Leader.{Leader}
 use Rattle.sl_sector.specs.declared.sector.Owner.{Owner}
-use Rattle.sl_sector.specs.declared.sector.Rec.{Rec}
 use Rattle.sl_sessions.specs.Sessions.{calls_of, generation_in, is_active, joined_after, me}
 use Rattle.sl_sessions.specs.Watching.{counted_over}
 use Rattle.sl_sessions.specs.declared.session.Session.{Session}
@@ -20,8 +19,8 @@ use Rattle.sl_trace.specs.declared.effects.LeaseStep.{LeaseStep}
 use Rattle.sl_trace.specs.declared.effects.Spot.{Spot}
 use Rattle.sl_trace.specs.declared.effects.Work.{Work}
 use Rattle.sl_words.specs.Words.{present}
-use Rattle.std.proofs.Common.{ap, inl, inr, refl, subst, sym, ◌∙◌}
-use Rattle.std.specs.Prelude.{Bool, Contains, IsTrue, List, MatchBool, None, Option, Some, false, filter, filter_map, find, is_some, option_and_then, true, [], ℕ, ◌&&◌, ◌<◌, ◌≡◌, ◌≤◌, ◌⊎◌}
+use Rattle.std.proofs.Common.{ap, inl, inr, subst, sym, ◌∙◌}
+use Rattle.std.specs.Prelude.{Bool, Contains, IsTrue, List, MatchBool, None, Option, Some, false, filter, filter_map, find, is_some, option_and_then, true, ℕ, ◌&&◌, ◌<◌, ◌≡◌, ◌⊎◌}
 
 -- What stays of a session from one trace to the next.
 pub record Carried (st : Setting) (t u : Trace) (s : Session) : Type 0 where

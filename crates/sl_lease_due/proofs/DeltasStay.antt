@@ -18,7 +18,7 @@ use Rattle.sl_sector.specs.declared.sector.DeltaRec.{DeltaRec}
 use Rattle.sl_sector.specs.declared.sector.Rec.TheVariants.{DeltaIs}
 use Rattle.sl_sector.specs.declared.sector.Rec.{Rec}
 use Rattle.sl_sessions.specs.Deltas.{DeltaLease, delta_record, is_renewal_due, next_free, next_renewal, own_offset}
-use Rattle.sl_sessions.specs.Sessions.{has_open_write, is_join_call, is_join_done, leaving_job, is_joined, is_present, joined_after, present_sessions, recovery_of, refused_after, removed_after, same_join_step, session_numbered, session_of_job, sessions}
+use Rattle.sl_sessions.specs.Sessions.{has_open_write, is_join_call, is_join_done, leaving_job, is_joined, is_present, joined_after, present_sessions, recovery_of, refused_after, removed_after, session_numbered, session_of_job, sessions}
 use Rattle.sl_sessions.specs.declared.delta.DeltaNext.TheVariants.{Disconnect, EndLeaving, Join, MoveConnection, Nothing, ReadOwn, RefuseJoin, RegisterAndRead, WriteClaim, WriteFirst, WriteFree, WriteRenewal}
 use Rattle.sl_sessions.specs.declared.delta.DeltaNext.{DeltaNext}
 use Rattle.sl_sector.specs.Bitmaps.{no_bits}
@@ -29,10 +29,9 @@ use Rattle.sl_step_facts.specs.SessionFacts.{NameFacts}
 use Rattle.sl_step_facts.specs.Heard.{heard_by}
 use Rattle.sl_time.specs.Times.{fail}
 use Rattle.sl_trace.specs.Connections.{is_registered, unregisters}
-use Rattle.sl_trace.specs.Traces.{Replied, Setting, Submitted, Trace, is_running, record_of, reply_to}
+use Rattle.sl_trace.specs.Traces.{Replied, Setting, Trace, is_running, reply_to}
 use Rattle.sl_trace.specs.declared.effects.Call.{Call}
 use Rattle.sl_trace.specs.declared.effects.JoinStep.TheVariants.{ClaimWrite, FirstRead, FirstRenewal}
-use Rattle.sl_trace.specs.declared.effects.JoinStep.{JoinStep}
 use Rattle.sl_trace.specs.declared.effects.Move.TheVariants.{Register, Renew, Unregister}
 use Rattle.sl_trace.specs.declared.effects.Move.{Move}
 use Rattle.sl_trace.specs.declared.effects.Op.TheVariants.{ReadSectors, WriteRecord}
@@ -100,8 +99,8 @@ unfolding refuse
 refusal_by K s p y j r its h =
     with_some_keeps K (session_of_job y.setting (seen y) j) remove_of_refused (add_reply j r y)
     (λ z is k.
-        let found = find_inside (λ (z : Session). some_is (λ n. n == j) z.job) (sessions y.setting (seen y)) z is in
-        removal_of_refused_by K s p (add_reply j r y) z (of_job z.job j found.1 ∙ sym its, found.0) k) (p.replies y j r h)
+    let found = find_inside (λ (z : Session). some_is (λ n. n == j) z.job) (sessions y.setting (seen y)) z is in
+    removal_of_refused_by K s p (add_reply j r y) z (of_job z.job j found.1 ∙ sym its, found.0) k) (p.replies y j r h)
 
 joining : (K : Step → Type 0) (y : Step) (s : Session) (f : ℕ → Step → Step) → ((j : ℕ) → s.job ≡ Some j → K y → K (f j y)) → K y → K (for_joining s f y)
 joining K y s f keeps h = with_some_keeps K s.job f y (λ j is k. keeps j is k) h
@@ -258,8 +257,8 @@ pub spares_by : (x : Step) (s : Session) → LawfulSoFar x → NameFacts x.setti
 spares_by x s h names inside present other c z there area its = is_false (bytes_eq s.lockspace z.lockspace) (λ is.
     let stands = caller_stands x h c z there area its in
     let same : s ≡ z =
-        names.apart s z (present_inside x.setting (seen x) s inside present)
-        (present_inside x.setting (seen x) z (there_has x.setting (seen x) c.session z its) (joined_present (seen x) z stands.0)) (same_text s.lockspace z.lockspace is)
+    names.apart s z (present_inside x.setting (seen x) s inside present)
+    (present_inside x.setting (seen x) z (there_has x.setting (seen x) c.session z its) (joined_present (seen x) z stands.0)) (same_text s.lockspace z.lockspace is)
     in
     other (subst (λ y. is_joined (seen x) y ≡ true) (sym same) stands.0) (subst (λ y. is_none (recovery_of x.setting (seen x) y) ≡ true) (sym same) stands.1))
 
@@ -268,9 +267,9 @@ running_joins : (t : Trace) (s : Session) (j : ℕ) → s.job ≡ Some j → is_
 running_joins t s j its runs =
     let none : reply_to t j ≡ None = none_is (reply_to t j) runs in (
       ap (λ o. elim o as (λ z. Option ℕ) [ None ↦ Some 0 | Some k ↦ option_and_then (λ (r : Replied). choose (is_join_done r.reply) (r.at + 1)) (reply_to t k) ]) its
-      ∙ ap (λ o. option_and_then (λ (r : Replied). choose (is_join_done r.reply) (r.at + 1)) o) none,
+          ∙ ap (λ o. option_and_then (λ (r : Replied). choose (is_join_done r.reply) (r.at + 1)) o) none,
       ap (λ o. elim o as (λ z. Option ℕ) [ None ↦ None | Some k ↦ option_and_then (λ (r : Replied). choose (not (is_join_done r.reply)) (r.at + 1)) (reply_to t k) ]) its
-      ∙ ap (λ o. option_and_then (λ (r : Replied). choose (not (is_join_done r.reply)) (r.at + 1)) o) none,
+          ∙ ap (λ o. option_and_then (λ (r : Replied). choose (not (is_join_done r.reply)) (r.at + 1)) o) none,
     )
 
 unjoined_present : (t : Trace) (s : Session) → joined_after t s ≡ None → refused_after t s ≡ None → is_present t s ≡ true
@@ -302,6 +301,6 @@ parting_stays x s has joined recovers names h =
     (λ is k. moves_stay x (Unregister s.lockspace)
     (spares_by x s h names (there_has x.setting (seen x) s.number s has) (joined_present (seen x) s joined) (λ j well. some_none (recovery_of x.setting (seen x) s) recovers well)) k) h
   where
-  some_none : (o : Option Begun) → is_some o ≡ true → is_none o ≡ true → ⊥
-  some_none None some none = false_is_true some
-  some_none (Some b) some none = false_is_true none
+    some_none : (o : Option Begun) → is_some o ≡ true → is_none o ≡ true → ⊥
+    some_none None some none = false_is_true some
+    some_none (Some b) some none = false_is_true none

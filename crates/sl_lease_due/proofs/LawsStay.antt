@@ -8,7 +8,7 @@ use Rattle.sl_due.specs.DueInputs.{end_holdings, when_running}
 use Rattle.sl_due.specs.Steps.{Step, add_call_of, add_end, add_move, add_reply, add_signal, seen}
 use Rattle.sl_law.specs.LawfulArea.{is_area_work, is_block_work, is_delta_record}
 use Rattle.sl_law.specs.LawfulLeader.{holds_under}
-use Rattle.sl_law.specs.Saying.{EachCall, cut_at}
+use Rattle.sl_law.specs.Saying.{cut_at}
 use Rattle.sl_lease_due.proofs.CallsCarried.{Carried, lawful_carried}
 use Rattle.sl_lease_due.proofs.OthersKeep.{LawfulSoFar, plain_at}
 use Rattle.sl_lease_due.specs.LeaseLawful.{LeaseLawful}
@@ -17,18 +17,17 @@ use Rattle.sl_lease_ways.proofs.Kept.EffectsLeave.{made_call}
 use Rattle.sl_lease_ways.proofs.Kept.PlacesStand.{either_list}
 use Rattle.sl_sector.specs.declared.sector.Rec.TheVariants.{BlockIs, DeltaIs, LeaderIs, RequestIs, ValueIs}
 use Rattle.sl_sector.specs.declared.sector.Rec.{Rec}
-use Rattle.sl_leases.specs.Leases.{Phase2_read, holdings_on, leader_of_record, lease_step, spot_of_call}
+use Rattle.sl_leases.specs.Leases.{holdings_on, leader_of_record, lease_step, spot_of_call}
 use Rattle.sl_law.specs.LawfulBlock.{LawfulBlockStep}
 use Rattle.sl_parts_law.proofs.CallsGrow.{any_more, each_more}
 use Rattle.sl_parts_law.specs.Parts.{with_end, with_move, with_reply}
 use Rattle.sl_sector.specs.declared.sector.Block.{Block}
 use Rattle.sl_sector.specs.declared.sector.Leader.{Leader}
-use Rattle.sl_sessions.specs.Sessions.{calls_of, holders_of, holdings_of, is_join_call, joined_after, leaving_job, recovery_of, removed_after, session_numbered}
+use Rattle.sl_sessions.specs.Sessions.{holders_of, holdings_of, is_join_call, joined_after, leaving_job, recovery_of, removed_after, session_numbered}
 use Rattle.sl_sessions.specs.declared.session.Session.{Session}
 use Rattle.sl_trace.specs.Connections.{unregisters}
 use Rattle.sl_trace.specs.Traces.{Setting, Submitted, Trace, end_of, holdings, is_ended_by, is_running, is_shared, new_call, record_of, same_place}
 use Rattle.sl_trace.specs.declared.effects.Call.{Call}
-use Rattle.sl_trace.specs.declared.effects.Effects.{Effects}
 use Rattle.sl_trace.specs.declared.effects.End.{End}
 use Rattle.sl_trace.specs.declared.effects.Entry.{Entry}
 use Rattle.sl_trace.specs.declared.effects.Grant.{Grant}
@@ -41,7 +40,6 @@ use Rattle.sl_trace.specs.declared.effects.Purpose.{Purpose}
 use Rattle.sl_trace.specs.declared.effects.Signal.TheVariants.{Kill}
 use Rattle.sl_trace.specs.declared.effects.Signal.{Signal}
 use Rattle.sl_trace.specs.declared.effects.Spot.{Spot}
-use Rattle.sl_trace.specs.declared.effects.Work.{Work}
 use Rattle.sl_trace.specs.declared.input.Input.TheVariants.{Spawned, Wake}
 use Rattle.sl_trace.specs.declared.input.Input.{Input}
 use Rattle.sl_trace.specs.declared.reply.Reply.{Reply}
@@ -50,8 +48,7 @@ use Rattle.sl_words.proofs.CaseLaws.{false_is_true, is_false, none_some, one_val
 use Rattle.sl_words.proofs.WordLaws.{and_true}
 use Rattle.sl_words.specs.Words.{choose}
 use Rattle.std.proofs.Common.{ap, inl, inr, refl, subst, sym, ◌∙◌}
-use Rattle.std.specs.List.{list_any}
-use Rattle.std.specs.Prelude.{Bool, Contains, IsTrue, List, None, Option, Some, [], cond, false, filter, is_none, is_some, length, not, option_and_then, slice_get, take, true, ℕ, ◌&&◌, ◌++◌, ◌+◌, ◌==◌, ◌||◌, ◌∷◌, ◌≡◌, ◌⊎◌}
+use Rattle.std.specs.Prelude.{Bool, Contains, List, None, Option, Some, [], false, filter, is_none, is_some, length, not, option_and_then, true, ℕ, ◌&&◌, ◌++◌, ◌+◌, ◌==◌, ◌∷◌, ◌≡◌, ◌⊎◌}
 
 pub three : (a b p q r : Bool) → (a ≡ true → b ≡ true) → (a && p && q && r) ≡ true → (b && p && q && r) ≡ true
 three true b p q r grows is = ap (λ z. z && p && q && r) (grows refl) ∙ is
@@ -81,8 +78,8 @@ unheld_by t u s at n less none = is_false (holds_under u s at n) (λ is.
     let placed = kept_inside (λ (g : Grant). same_place g.path g.offset at.path at.base) (holdings_of u s) found.0 found.1 in
     let owned = kept_inside (λ (g : Grant). g.session == s.number) (holdings u) found.0 placed.0 in
     let old : Contains (holdings_on t s at) found.0 =
-        kept (λ (g : Grant). same_place g.path g.offset at.path at.base) (holdings_of t s) found.0 placed.1
-        (kept (λ (g : Grant). g.session == s.number) (holdings t) found.0 owned.1 (less found.0 owned.0))
+    kept (λ (g : Grant). same_place g.path g.offset at.path at.base) (holdings_of t s) found.0 placed.1
+    (kept (λ (g : Grant). g.session == s.number) (holdings t) found.0 owned.1 (less found.0 owned.0))
     in
     true_is_false (sym (any_of (is_under n) (holdings_on t s at) found.0 found.2 old) ∙ none))
 
@@ -205,26 +202,26 @@ plain_stays st t u s c none joined h =
       leader = λ l is. absurd (true_is_false (sym (of_leader l (record_of c.call.op) refl is (λ r at plain. (h.writes r at plain).0)) ∙ none));
     }
   where
-  no_block : (b : Block) (p : Purpose) → is_area_work p ≡ false → elim (lease_step p) as (λ z. Type 0) [ None ↦ ⊥ | Some q ↦ LawfulBlockStep st t s (spot_of_call st.layout c) c b q.1 ] → ⊥
-  no_block b (Lease work step) none h = true_is_false none
-  no_block b (RequestRead j) none h = h
-  no_block b (RequestWrite j o) none h = h
-  no_block b (ValueWrite j) none h = h
-  no_block b (ValueRead j) none h = h
-  no_block b (Joining j step) none h = h
-  no_block b Renewal none h = h
-  no_block b Survey none h = h
-  no_block b (Leaving j) none h = h
-  no_block b SeeRequest none h = h
+    no_block : (b : Block) (p : Purpose) → is_area_work p ≡ false → elim (lease_step p) as (λ z. Type 0) [ None ↦ ⊥ | Some q ↦ LawfulBlockStep st t s (spot_of_call st.layout c) c b q.1 ] → ⊥
+    no_block b (Lease work step) none h = true_is_false none
+    no_block b (RequestRead j) none h = h
+    no_block b (RequestWrite j o) none h = h
+    no_block b (ValueWrite j) none h = h
+    no_block b (ValueRead j) none h = h
+    no_block b (Joining j step) none h = h
+    no_block b Renewal none h = h
+    no_block b Survey none h = h
+    no_block b (Leaving j) none h = h
+    no_block b SeeRequest none h = h
 
-  of_leader : (l : Leader) (o : Option Rec) → record_of c.call.op ≡ o → option_and_then leader_of_record o ≡ Some l → ((r : Rec) → record_of c.call.op ≡ Some r → is_delta_record r ≡ false → is_area_work c.call.purpose ≡ true)
-      → is_area_work c.call.purpose ≡ true
-  of_leader l None at is h = absurd (none_some l is)
-  of_leader l (Some (LeaderIs k)) at is h = h (LeaderIs k) at refl
-  of_leader l (Some (BlockIs k)) at is h = absurd (none_some l is)
-  of_leader l (Some (DeltaIs k)) at is h = absurd (none_some l is)
-  of_leader l (Some (RequestIs k)) at is h = absurd (none_some l is)
-  of_leader l (Some (ValueIs k)) at is h = absurd (none_some l is)
+    of_leader : (l : Leader) (o : Option Rec) → record_of c.call.op ≡ o → option_and_then leader_of_record o ≡ Some l → ((r : Rec) → record_of c.call.op ≡ Some r → is_delta_record r ≡ false → is_area_work c.call.purpose ≡ true)
+        → is_area_work c.call.purpose ≡ true
+    of_leader l None at is h = absurd (none_some l is)
+    of_leader l (Some (LeaderIs k)) at is h = h (LeaderIs k) at refl
+    of_leader l (Some (BlockIs k)) at is h = absurd (none_some l is)
+    of_leader l (Some (DeltaIs k)) at is h = absurd (none_some l is)
+    of_leader l (Some (RequestIs k)) at is h = absurd (none_some l is)
+    of_leader l (Some (ValueIs k)) at is h = absurd (none_some l is)
 
 -- No session whose work on an area the entry calls loses its connection by the move.
 abbrev pub Spares : Step → Move → Type 0

@@ -1,47 +1,39 @@
 -- What a lease decides keeps the laws of areas, blocks and leaders, where its session is active and its area clear.
-use Rattle.sl_acts.specs.Acts.{Has}
-use Rattle.sl_acts.specs.SoFar.{entry_of}
 use Rattle.sl_area.specs.Places.{block_offset, in_area, leader_offset}
-use Rattle.sl_due.specs.DueLease.{carry_lease, convert_for, for_work, with_command, read_for, write_block, write_leader}
+use Rattle.sl_due.specs.DueLease.{read_for, write_block, write_leader}
 use Rattle.sl_due.specs.Steps.{Step, add_call_of, seen}
 use Rattle.sl_law.specs.LawfulArea.{is_area_work, is_block_work, open_block_work}
 use Rattle.sl_law.specs.LawfulLeader.{holds_under, open_writes_on}
 use Rattle.sl_lease_due.proofs.CallsMade.{blocks_are_lawful, leaders_are_lawful, reads_are_lawful}
 use Rattle.sl_lease_due.proofs.LawsStay.{calls_stay}
-use Rattle.sl_lease_due.proofs.OthersKeep.{Any, LawfulSoFar, no_others, others_are_lawful}
-use Rattle.sl_lease_due.specs.LeaseLawful.{LeaseLawful}
+use Rattle.sl_lease_due.proofs.OthersKeep.{LawfulSoFar}
 use Rattle.sl_lease_due.specs.Made.{IsCallAt, MayCall, read_place}
 use Rattle.sl_lease_ways.proofs.Kept.EffectsLeave.{made_call, there_has}
 use Rattle.sl_lease_ways.proofs.Kept.LeaseNextsLeave.{LeaseReady, moment_of}
 use Rattle.sl_lease_ways.proofs.Kept.PlacesStand.{id_in_range, place_is_on, placed_on, spot_is}
-use Rattle.sl_lease_ways.proofs.Kept.PlainWalks.{ByPlain, converted, granted}
-use Rattle.sl_lease_ways.specs.Nexts.{Moment, NextIs, calls_at, context_at, read_op}
-use Rattle.sl_leases.specs.Leases.{is_on, lease_calls, spot_of_call}
-use Rattle.sl_leases.specs.declared.lease.LeaseNext.TheVariants.{AnswerJob, BecomeExclusive, BecomeShared, GrantJob, Nothing, ReadFor, WriteBlock, WriteLeader}
-use Rattle.sl_leases.specs.declared.lease.LeaseNext.{LeaseNext}
+use Rattle.sl_lease_ways.specs.Nexts.{NextIs, read_op}
+use Rattle.sl_leases.specs.Leases.{is_on, lease_calls}
+use Rattle.sl_leases.specs.declared.lease.LeaseNext.TheVariants.{ReadFor, WriteBlock, WriteLeader}
 use Rattle.sl_area.specs.Roles.{block, leader}
 use Rattle.sl_sector.specs.declared.sector.Block.{Block}
 use Rattle.sl_sector.specs.declared.sector.Leader.{Leader}
 use Rattle.sl_sector.specs.declared.sector.Rec.TheVariants.{BlockIs, LeaderIs}
 use Rattle.sl_sessions.specs.Sessions.{calls_of, is_active, is_call_of, open_calls_of}
 use Rattle.sl_sessions.specs.declared.session.Session.{Session}
-use Rattle.sl_step_facts.specs.WayFacts.{WayFacts, Ways, way_context}
-use Rattle.sl_trace.specs.Traces.{Setting, Submitted, Trace, is_write, new_call, submitted}
-use Rattle.sl_trace.specs.declared.effects.Call.{Call}
+use Rattle.sl_step_facts.specs.WayFacts.{Ways, way_context}
+use Rattle.sl_trace.specs.Traces.{Submitted, is_write, new_call, submitted}
 use Rattle.sl_trace.specs.declared.effects.LeaseStep.TheVariants.{ClearMode, FreeLeader, Phase1Read, Phase1Write, Phase2Read, Phase2Write, ReadArea, ReadBeforeFree, SetMode, TakeLeader}
 use Rattle.sl_trace.specs.declared.effects.LeaseStep.{LeaseStep}
-use Rattle.sl_trace.specs.declared.effects.Mode.TheVariants.{Exclusive, Shared}
-use Rattle.sl_trace.specs.declared.effects.Op.TheVariants.{ReadSectors, WriteRecord}
+use Rattle.sl_trace.specs.declared.effects.Op.TheVariants.{WriteRecord}
 use Rattle.sl_trace.specs.declared.effects.Op.{Op}
 use Rattle.sl_trace.specs.declared.effects.Purpose.TheVariants.{Lease}
 use Rattle.sl_trace.specs.declared.effects.Spot.{Spot}
-use Rattle.sl_trace.specs.declared.effects.Work.TheVariants.{ForJob, Settling}
 use Rattle.sl_trace.specs.declared.effects.Work.{Work}
 use Rattle.sl_plain.proofs.Lists.{contains_first, contains_more, kept_inside}
 use Rattle.sl_plain.proofs.Options.{none_is}
 use Rattle.sl_words.proofs.WordLaws.{and_true}
-use Rattle.std.proofs.Common.{ap, arith, inl, inr, refl, subst, sym, ◌∙◌}
-use Rattle.std.specs.Prelude.{Bool, Contains, List, None, Option, Some, [], cond, false, filter, is_none, length, true, ℕ, ◌&&◌, ◌∷◌, ◌≡◌, ◌≤◌, ◌⊎◌}
+use Rattle.std.proofs.Common.{arith, refl}
+use Rattle.std.specs.Prelude.{Bool, Contains, List, [], cond, false, filter, is_none, length, true, ℕ, ◌&&◌, ◌∷◌, ◌≡◌, ◌≤◌}
 
 -- What holds nothing that passes.
 none_pass : {A : Type 0} (p : A → Bool) (xs : List A) → ((x : A) → Contains xs x → p x ≡ true → ⊥) → filter p xs ≡ []
@@ -62,15 +54,15 @@ pub works_clear : (x : Step) (s : Session) (at : Spot) → LeaseReady x s at →
 works_clear x s at ready =
     none_pass (λ (c : Submitted). is_area_work c.call.purpose && (is_block_work c && is_on x.setting.layout at c.call)) (open_calls_of (seen x) s)
     (λ c there is.
-        let a = and_true (is_area_work c.call.purpose) (is_block_work c && is_on x.setting.layout at c.call) is in
-        open_there x s at ready c there a.0 (and_true (is_block_work c) (is_on x.setting.layout at c.call) a.1).1)
+    let a = and_true (is_area_work c.call.purpose) (is_block_work c && is_on x.setting.layout at c.call) is in
+    open_there x s at ready c there a.0 (and_true (is_block_work c) (is_on x.setting.layout at c.call) a.1).1)
 
 pub writes_clear : (x : Step) (s : Session) (at : Spot) → LeaseReady x s at → open_writes_on x.setting (seen x) s at ≡ []
 writes_clear x s at ready =
     none_pass (λ (c : Submitted). is_area_work c.call.purpose && (is_write c.call.op && is_on x.setting.layout at c.call)) (open_calls_of (seen x) s)
     (λ c there is.
-        let a = and_true (is_area_work c.call.purpose) (is_write c.call.op && is_on x.setting.layout at c.call) is in
-        open_there x s at ready c there a.0 (and_true (is_write c.call.op) (is_on x.setting.layout at c.call) a.1).1)
+    let a = and_true (is_area_work c.call.purpose) (is_write c.call.op && is_on x.setting.layout at c.call) is in
+    open_there x s at ready c there a.0 (and_true (is_write c.call.op) (is_on x.setting.layout at c.call) a.1).1)
 
 -- What a lease must have to make a lawful call.
 pub record LeaseMay (x : Step) (s : Session) (at : Spot) : Type 0 where

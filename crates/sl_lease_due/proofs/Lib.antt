@@ -8,3 +8,4 @@ pub mod LeaseCallsStay
 pub mod NextsStay
 pub mod TurnsStay
 pub mod LinesStay
+pub mod LawsAreKept

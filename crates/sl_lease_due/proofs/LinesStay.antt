@@ -4,7 +4,6 @@ use Rattle.sl_acts.proofs.PlainActs.{line_has}
 use Rattle.sl_acts.specs.Acts.{Has, Hears}
 use Rattle.sl_acts.specs.Promises.{IsDecidedFor}
 use Rattle.sl_acts.specs.SoFar.{entry_of}
-use Rattle.sl_area.specs.Layouts.{Layout}
 use Rattle.sl_area.specs.Places.{in_area, leader_of, read_at, request_offset, value_offset}
 use Rattle.sl_area.specs.Roles.{leader, request, value}
 use Rattle.sl_due.specs.DueCommands.{after_end, carry_decision, decided, reply_at_once}
@@ -13,21 +12,19 @@ use Rattle.sl_due.specs.DueRequests.{after_request_read, owner_read, request_ref
 use Rattle.sl_due.specs.Steps.{Step, add_call_of, add_end, add_reply, seen, with_input}
 use Rattle.sl_due.specs.declared.decision.Decision.TheVariants.{ConvertsTo, GetsValue, GivesUp, Joins, Leaves, ReadsArea, Replies, Requests, SetsValue, Shares, TakesOver}
 use Rattle.sl_due.specs.declared.decision.Decision.{Decision}
-use Rattle.sl_law.specs.LawfulArea.{HasVerified, IsRightRead, LawfulAreaWrite, is_area_work, is_delta_record, is_leader_read, leaders_read, open_block_work}
-use Rattle.sl_law.specs.LawfulLeader.{holds_under}
+use Rattle.sl_law.specs.LawfulArea.{HasVerified, IsRightRead, LawfulAreaWrite, is_area_work, is_leader_read, open_block_work}
 use Rattle.sl_lease_due.proofs.DeltasStay.{first_other}
 use Rattle.sl_lease_due.proofs.LawsStay.{calls_stay}
 use Rattle.sl_lease_due.proofs.LeaseCallsStay.{LeaseMay, reads_stay, works_clear}
 use Rattle.sl_lease_due.proofs.NamesVerified.{has_verified, mapped_inside}
 use Rattle.sl_lease_due.proofs.NextsStay.{bare_lawful, held_there, is_leader_next, next_stays, turns}
 use Rattle.sl_lease_due.proofs.OthersKeep.{Any, LawfulSoFar, Others, by_others, no_others, other_more, others_are_lawful}
-use Rattle.sl_lease_due.specs.LeaseLawful.{LeaseLawful}
 use Rattle.sl_lease_ways.proofs.Kept.ActsKeep.{asked_of, stand}
 use Rattle.sl_request.specs.Requests.{check_request}
 use Rattle.sl_sector.specs.Spelling.{request_in}
 use Rattle.sl_lease_ways.proofs.Kept.DecisionsAreClear.{DecidedOn, IsAsked, decisions_are_clear}
-use Rattle.sl_lease_ways.proofs.Kept.EffectsLeave.{ends_leave, made_call, there_has}
-use Rattle.sl_lease_ways.proofs.Kept.HeardStands.{HeardCall, heard_call, heard_has, lease_ready, spot_same}
+use Rattle.sl_lease_ways.proofs.Kept.EffectsLeave.{made_call, there_has}
+use Rattle.sl_lease_ways.proofs.Kept.HeardStands.{HeardCall, heard_call, lease_ready, spot_same}
 use Rattle.sl_lease_ways.proofs.Kept.InputsLeave.{input_sessions, quiet_inputs_leave, quiet_same}
 use Rattle.sl_lease_ways.proofs.Kept.LeaseNextsLeave.{HasEnded, LeaseReady, moment_of}
 use Rattle.sl_lease_ways.proofs.Kept.LinesKeep.{ended_ready, ended_still, held_ended, line_command}
@@ -37,17 +34,16 @@ use Rattle.sl_lease_ways.proofs.Kept.PlainWalks.{granting, stopped}
 use Rattle.sl_lease_ways.proofs.NextsFit.AnswersFit.{conversions_fit, releases_fit}
 use Rattle.sl_lease_ways.proofs.WayNumbers.{is_verified}
 use Rattle.sl_lease_ways.proofs.WayStages.{is_at_in}
-use Rattle.sl_lease_ways.specs.Kept.{LeasesStand}
 use Rattle.sl_leases.specs.Ballots.{moded_block}
 use Rattle.sl_leases.specs.Jobs.{aim_of, aim_of_command, command_numbered, resource_named}
 use Rattle.sl_leases.specs.LeaseWork.{convert_next, lease_place, release_next}
-use Rattle.sl_leases.specs.Leases.{Phase2_read, block_of_record, block_submitted, block_written, holdings_on, is_lease_call, is_leader_of, is_on, kind_of_step, same_kind, known, lease_calls, lease_step, leader_of_record, leader_written, spot_of, spot_of_call, verified_name}
+use Rattle.sl_leases.specs.Leases.{Phase2_read, block_of_record, block_submitted, holdings_on, is_lease_call, is_leader_of, is_on, kind_of_step, same_kind, known, lease_calls, lease_step, leader_of_record, spot_of, spot_of_call, verified_name}
 use Rattle.sl_leases.specs.declared.lease.Aim.TheVariants.{Converts, Releases}
-use Rattle.sl_leases.specs.declared.lease.LeaseNext.TheVariants.{Nothing, ReadFor, WriteBlock, WriteLeader}
+use Rattle.sl_leases.specs.declared.lease.LeaseNext.TheVariants.{Nothing, WriteBlock}
 use Rattle.sl_leases.specs.declared.lease.LeaseNext.{LeaseNext}
 use Rattle.sl_sector.specs.declared.sector.Block.{Block}
 use Rattle.sl_sector.specs.declared.sector.Leader.{Leader}
-use Rattle.sl_sector.specs.declared.sector.Rec.TheVariants.{RequestIs, ValueIs}
+use Rattle.sl_sector.specs.declared.sector.Rec.TheVariants.{ValueIs}
 use Rattle.sl_sector.specs.declared.sector.Rec.{Rec}
 use Rattle.sl_sessions.specs.Sessions.{calls_of, is_active, is_call_of, is_join_call, is_joined, joined_after, leaves, leaving_in, leaving_job, recovery_of, removed_after, session_numbered}
 use Rattle.sl_sessions.specs.declared.session.Session.{Session}
@@ -55,7 +51,7 @@ use Rattle.sl_step_facts.specs.Heard.{heard_by}
 use Rattle.sl_step_facts.specs.HoldingFacts.{StandsExclusive}
 use Rattle.sl_step_facts.specs.WayFacts.{way_context}
 use Rattle.sl_step_facts.specs.Whole.{Whole}
-use Rattle.sl_trace.specs.Traces.{Answered, Job, Setting, bytes_given, Submitted, Trace, end_of, gave, holdings, is_shared, new_call, next_job, record_of, spot_of_grant, submitted}
+use Rattle.sl_trace.specs.Traces.{Answered, Job, Setting, bytes_given, Submitted, Trace, end_of, gave, is_shared, new_call, next_job, record_of, spot_of_grant, submitted}
 use Rattle.sl_trace.specs.declared.command.Command.TheVariants.{Acquire, AddLockspace, Convert, GetLvb, HostStatus, InqLockspace, Release, ReleaseOrphan, RemLockspace, Request, RunProgram, SetKillpath, SetLvb, Status, TakeOver}
 use Rattle.sl_trace.specs.declared.command.Command.{Command}
 use Rattle.sl_trace.specs.declared.command.ResourceArg.{ResourceArg}
@@ -79,12 +75,12 @@ use Rattle.sl_trace.specs.declared.input.Input.TheVariants.{Line, Wake}
 use Rattle.sl_trace.specs.declared.input.Input.{Input}
 use Rattle.sl_trace.specs.declared.reply.Reply.TheVariants.{Done, RequestOld, TornLeader, WrongArea}
 use Rattle.sl_trace.specs.declared.reply.Reply.{Reply}
-use Rattle.sl_plain.proofs.Lists.{kept, kept_inside}
+use Rattle.sl_plain.proofs.Lists.{kept}
 use Rattle.sl_plain.proofs.Numbers.{number_itself}
 use Rattle.sl_trace_law.proofs.Leases.NumberLaws.{number_is_place}
 use Rattle.sl_words.proofs.CaseLaws.{false_is_true, no_value, none_some, some_value, true_is_false}
 use Rattle.sl_words.specs.Words.{choose, some_is}
-use Rattle.std.proofs.Common.{ap, eqb-true, inl, inr, refl, subst, sym, ◌∙◌}
+use Rattle.std.proofs.Common.{ap, inl, refl, subst, sym, ◌∙◌}
 use Rattle.std.proofs.lemmas.Bool.{and_from}
 use Rattle.std.specs.List.{list_any}
 use Rattle.std.specs.Option.{option_map_or}
@@ -188,13 +184,13 @@ release_stays z s at j g may aimed ended bare [] is =
     next_stays z s at may (ForJob j) (inl bare) n (releases_fit (moment_of z s at (ForJob j)) g.mode g.lver aimed (λ exclusive. (ended exclusive).0) (λ exclusive. (ended exclusive).1))
     (λ step l next free. ap (λ gs. list_any (λ (k : Grant). not (is_shared k.mode) && k.lver == l.lver) gs) is) (λ is. absurd (true_is_false (sym is ∙ unturned g.mode))) (bare_lawful z bare)
   where
-  by_own : (o : Option Block) → turns (option_map_or (λ own. WriteBlock ClearMode (moded_block own false 0)) o Nothing) ≡ false
-  by_own None = refl
-  by_own (Some own) = refl
+    by_own : (o : Option Block) → turns (option_map_or (λ own. WriteBlock ClearMode (moded_block own false 0)) o Nothing) ≡ false
+    by_own None = refl
+    by_own (Some own) = refl
 
-  unturned : (mode : Mode) → turns (release_next (lease_place z.setting s) (known z.setting (seen z) s at) mode g.lver) ≡ false
-  unturned Exclusive = refl
-  unturned Shared = by_own (known z.setting (seen z) s at).own
+    unturned : (mode : Mode) → turns (release_next (lease_place z.setting s) (known z.setting (seen z) s at) mode g.lver) ≡ false
+    unturned Exclusive = refl
+    unturned Shared = by_own (known z.setting (seen z) s at).own
 
 conversion_stays : (y : Step) (s : Session) (at : Spot) (j : ℕ) (mode : Mode) (name : List ℕ) → LeaseMay y s at → aim_of y.setting (seen y) (ForJob j) ≡ Some (Converts mode) → y.effects.calls ≡ []
     → LawfulSoFar (carry_lease s at (ForJob j) (convert_next (known y.setting (seen y) s at) mode name) y)
@@ -202,21 +198,21 @@ conversion_stays y s at j mode name may aimed bare =
     next_stays y s at may (ForJob j) (inl bare) (convert_next (known y.setting (seen y) s at) mode name) (conversions_fit (moment_of y s at (ForJob j)) mode name aimed)
     (λ step l next free. absurd (true_is_false (sym (ap (λ n. is_leader_next n) next) ∙ unleading mode))) (λ is. absurd (true_is_false (sym is ∙ unturned mode))) (bare_lawful y bare)
   where
-  own_turns : (o : Option Block) (n : ℕ) → turns (option_map_or (λ own. WriteBlock SetMode (moded_block own true n)) o Nothing) ≡ false
-  own_turns None n = refl
-  own_turns (Some own) n = refl
+    own_turns : (o : Option Block) (n : ℕ) → turns (option_map_or (λ own. WriteBlock SetMode (moded_block own true n)) o Nothing) ≡ false
+    own_turns None n = refl
+    own_turns (Some own) n = refl
 
-  own_leads : (o : Option Block) (n : ℕ) → is_leader_next (option_map_or (λ own. WriteBlock SetMode (moded_block own true n)) o Nothing) ≡ false
-  own_leads None n = refl
-  own_leads (Some own) n = refl
+    own_leads : (o : Option Block) (n : ℕ) → is_leader_next (option_map_or (λ own. WriteBlock SetMode (moded_block own true n)) o Nothing) ≡ false
+    own_leads None n = refl
+    own_leads (Some own) n = refl
 
-  unturned : (mode : Mode) → turns (convert_next (known y.setting (seen y) s at) mode name) ≡ false
-  unturned Exclusive = refl
-  unturned Shared = own_turns (known y.setting (seen y) s at).own (known y.setting (seen y) s at).self.generation
+    unturned : (mode : Mode) → turns (convert_next (known y.setting (seen y) s at) mode name) ≡ false
+    unturned Exclusive = refl
+    unturned Shared = own_turns (known y.setting (seen y) s at).own (known y.setting (seen y) s at).self.generation
 
-  unleading : (mode : Mode) → is_leader_next (convert_next (known y.setting (seen y) s at) mode name) ≡ false
-  unleading Exclusive = refl
-  unleading Shared = own_leads (known y.setting (seen y) s at).own (known y.setting (seen y) s at).self.generation
+    unleading : (mode : Mode) → is_leader_next (convert_next (known y.setting (seen y) s at) mode name) ≡ false
+    unleading Exclusive = refl
+    unleading Shared = own_leads (known y.setting (seen y) s at).own (known y.setting (seen y) s at).self.generation
 
 -- ---- a value
 
@@ -229,10 +225,10 @@ holder_verified x text s at g wake bare has may on exclusive w =
     let its : session_numbered x.setting (seen x) g.session ≡ Some s = ap (λ n. session_numbered x.setting (seen x) n) held.its ∙ has in
     let stands : StandsExclusive x.setting (seen x) (heard_by x.input) s (spot_of_grant g) g.lver = w.facts.holdings.stands g s held.there its exclusive in
     let same : lease_calls x.setting (seen y) s at ≡ lease_calls x.setting (seen x) s at =
-        ap (λ ms. filter (λ (m : Submitted). is_lease_call m && is_on x.setting.layout at m.call) (filter (is_call_of s) ms)) (quiet_same x (Line text) wake refl)
+    ap (λ ms. filter (λ (m : Submitted). is_lease_call m && is_on x.setting.layout at m.call) (filter (is_call_of s) ms)) (quiet_same x (Line text) wake refl)
     in
     let knows : block_submitted (lease_calls x.setting (seen y) s at) ≡ Some stands.own =
-        ap (λ ms. block_submitted ms) same ∙ subst (λ z. block_submitted (lease_calls x.setting (seen x) s z) ≡ Some stands.own) (spot_same g at held.place) stands.known
+    ap (λ ms. block_submitted ms) same ∙ subst (λ z. block_submitted (lease_calls x.setting (seen x) s z) ≡ Some stands.own) (spot_same g at held.place) stands.known
     in (
       verified_name x.setting.layout s.lockspace (lease_calls x.setting (seen y) s at),
       has_verified x.setting (seen y) s at (is_verified (way_context x.setting (seen y) s) (lease_calls x.setting (seen y) s at) may.ways stands.own knows),
@@ -346,13 +342,13 @@ read_verified x s m j bytes r h is w n =
     let c : HeardCall x (Read bytes) m = heard_call x s m (Read bytes) h w in
     let its : is_call_of s m ≡ true = ap (λ k. k == s.number) (sym (number_is_place x.setting (seen x) m.call.session s h.session)) ∙ number_itself s.number in
     let gives : option_and_then (leader_of x.setting.layout) (gave m) ≡ Some n.leader =
-        ap (λ o. option_and_then (leader_of x.setting.layout) (option_and_then (λ (a : Answered). bytes_given a.answer) o)) c.told ∙ n.spelled
+    ap (λ o. option_and_then (leader_of x.setting.layout) (option_and_then (λ (a : Answered). bytes_given a.answer) o)) c.told ∙ n.spelled
     in (
       n.leader,
       mapped_inside (λ (d : Submitted). option_and_then (leader_of x.setting.layout) (gave d)) (filter (λ (d : Submitted). is_leader_read d.call.purpose && is_on x.setting.layout (spot_of_call x.setting.layout m) d.call) (calls_of (seen x) s)) m n.leader
-      (kept (λ (d : Submitted). is_leader_read d.call.purpose && is_on x.setting.layout (spot_of_call x.setting.layout m) d.call) (calls_of (seen x) s) m
-      (and_from (is_leader_read m.call.purpose) (is_on x.setting.layout (spot_of_call x.setting.layout m) m.call) (ap (λ p. is_leader_read p) is) (on_own x.setting w.setting m))
-      (kept (is_call_of s) (submitted (seen x)) m its c.there)) gives,
+          (kept (λ (d : Submitted). is_leader_read d.call.purpose && is_on x.setting.layout (spot_of_call x.setting.layout m) d.call) (calls_of (seen x) s) m
+          (and_from (is_leader_read m.call.purpose) (is_on x.setting.layout (spot_of_call x.setting.layout m) m.call) (ap (λ p. is_leader_read p) is) (on_own x.setting w.setting m))
+          (kept (is_call_of s) (submitted (seen x)) m its c.there)) gives,
       n.names,
     )
 
@@ -368,7 +364,7 @@ requested x s m j bytes (Request r asked force) h is command active w = by (requ
       let ready : LeaseReady x s (spot_of r) = subst (λ at. LeaseReady x s at) spot (lease_ready x s m (Read bytes) h (ap (λ p. is_area_work p) is) w) in
       let may : LeaseMay x s (spot_of r) = record { ready = ready; active = active; ways = w.facts.ways.each s (spot_of r) (there_has x.setting (seen x) s.number s ready.has) ready.aligned } in
       let verified : HasVerified x.setting (seen x) s (spot_of r) r.name =
-          subst (λ z. HasVerified x.setting (seen x) s z r.name) spot (read_verified x s m j bytes r h is w (named_by x s r asked force bytes refused))
+      subst (λ z. HasVerified x.setting (seen x) s z r.name) spot (read_verified x s m j bytes r h is w (named_by x s r asked force bytes refused))
       in
       area_call x s (spot_of r) may (RequestWrite j (owner_read x.setting.layout bytes)) (request_offset x.setting.layout r.offset) _ refl refl refl (request_in_area x s (spot_of r) may) (λ d place does. tt)
       (λ k has d place at. subst (λ (z : Rec). LawfulAreaWrite x.setting (seen x) s d z) (some_value _ k has)

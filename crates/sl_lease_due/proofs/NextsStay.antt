@@ -17,8 +17,8 @@ use Rattle.sl_lease_ways.proofs.NextsFit.AnswersFit.{answers_fit, settlings_fit}
 use Rattle.sl_lease_ways.specs.Nexts.{NextIs}
 use Rattle.sl_leases.specs.Ballots.{is_ahead, moded_block, phase1_block, same_owner, stop_of, value_of}
 use Rattle.sl_leases.specs.Jobs.{aim_of, aim_of_command, command_numbered}
-use Rattle.sl_leases.specs.LeaseWork.{LeasePlace, begin_or_refuse, leader_for, looks_for_shared, named_area_next, phase1_next, phase2_next, after_phase1, after_phase2, after_read, after_write, area_next, begin_next, lease_next, lease_place, lost_next, refuses, settle_next, settle_owed, stopped_next, whole_area_next}
-use Rattle.sl_leases.specs.Leases.{LeaseKnown, Phase2_read, exclusive_on, holdings_on, instance_for, Area_read, Phase1_read, Phase1_write, Phase2_write, free_left, is_leader_of, is_lease_call, known, lease_calls, lease_step, lver_written, mode_gen_of, open_on, owed, owed_free, own_known, shared_elsewhere, spot_of_call}
+use Rattle.sl_leases.specs.LeaseWork.{LeasePlace, begin_or_refuse, leader_for, looks_for_shared, named_area_next, phase1_next, phase2_next, after_phase1, after_phase2, after_read, after_write, area_next, begin_next, lease_next, lease_place, refuses, settle_next, settle_owed, stopped_next, whole_area_next}
+use Rattle.sl_leases.specs.Leases.{LeaseKnown, Phase2_read, exclusive_on, holdings_on, instance_for, Area_read, Phase1_read, Phase1_write, Phase2_write, free_left, is_leader_of, known, lease_calls, lease_step, lver_written, mode_gen_of, open_on, owed, owed_free, own_known, shared_elsewhere, spot_of_call}
 use Rattle.sl_leases.specs.declared.lease.Aim.TheVariants.{Acquires, Converts, Releases, Settles}
 use Rattle.sl_leases.specs.declared.lease.Aim.{Aim}
 use Rattle.sl_leases.specs.declared.lease.Instance.TheVariants.{Begins, HeldAlready}
@@ -30,14 +30,13 @@ use Rattle.sl_leases.specs.declared.lease.Owed.{Owed}
 use Rattle.sl_leases.specs.declared.lease.Stop.{Stop}
 use Rattle.sl_sector.specs.declared.sector.Block.{Block}
 use Rattle.sl_sector.specs.declared.sector.Leader.{Leader}
-use Rattle.sl_sector.specs.declared.sector.Owner.{Owner}
 use Rattle.sl_sessions.specs.Sessions.{holdings_of, me, is_active, session_numbered}
 use Rattle.sl_sessions.specs.declared.session.Session.{Session}
 use Rattle.sl_step_facts.specs.Heard.{heard_by}
-use Rattle.sl_step_facts.specs.HoldingFacts.{HoldingFacts, StandsExclusive, is_ballot_call}
+use Rattle.sl_step_facts.specs.HoldingFacts.{HoldingFacts, StandsExclusive}
 use Rattle.sl_step_facts.specs.Whole.{Whole}
 use Rattle.sl_step_facts.specs.WorkFacts.{IsAtWork}
-use Rattle.sl_trace.specs.Traces.{Setting, Submitted, Trace, holdings, is_running, is_shared, same_place, spot_of_grant, work_job}
+use Rattle.sl_trace.specs.Traces.{Submitted, Trace, holdings, is_running, is_shared, same_place, spot_of_grant, work_job}
 use Rattle.sl_trace.specs.declared.command.Command.{Command}
 use Rattle.sl_trace.specs.declared.effects.Grant.{Grant}
 use Rattle.sl_trace.specs.declared.effects.LeaseStep.TheVariants.{ClearMode, FreeLeader, Phase1Read, Phase1Write, Phase2Read, Phase2Write, ReadArea, ReadBeforeFree, SetMode, TakeLeader}
@@ -53,20 +52,18 @@ use Rattle.sl_trace.specs.declared.effects.Work.TheVariants.{ForJob, Settling}
 use Rattle.sl_trace.specs.declared.effects.Work.{Work}
 use Rattle.sl_trace.specs.declared.input.Answer.TheVariants.{Failed, Read, Written}
 use Rattle.sl_trace.specs.declared.input.Answer.{Answer}
-use Rattle.sl_trace.specs.declared.input.Input.TheVariants.{Wake}
 use Rattle.sl_trace.specs.declared.reply.Limited.TheVariants.{Lver as LverLimit, Mbal as MbalLimit}
 use Rattle.sl_trace.specs.declared.reply.Reply.TheVariants.{IoFault, Limit as LimitReached, Shared as SharedBy, TornBlock, TornLeader, WrongArea}
 use Rattle.sl_trace.specs.declared.reply.Reply.{Reply}
-use Rattle.sl_plain.proofs.Lists.{any_found, contains_first, find_fails, find_inside, kept, kept_inside}
+use Rattle.sl_plain.proofs.Lists.{any_found, contains_first, find_fails, find_inside, kept_inside}
 use Rattle.sl_trace_law.proofs.Leases.NumberLaws.{number_is_place}
 use Rattle.sl_words.proofs.CaseLaws.{false_is_true, is_false, none_some, some_value, true_is_false}
 use Rattle.sl_words.proofs.WordLaws.{and_true, choose_some}
 use Rattle.sl_words.specs.Bounds.{is_number}
 use Rattle.sl_words.specs.Words.{choose, present, some_is}
 use Rattle.std.proofs.Common.{ap, eqb-true, inl, inr, refl, subst, sym, ◌∙◌}
-use Rattle.std.specs.List.{list_any}
 use Rattle.std.specs.Option.{option_map_or}
-use Rattle.std.specs.Prelude.{Bool, Contains, IsTrue, List, None, Option, Some, [], false, find, is_none, is_some, not, option_and_then, option_map, position, true, ℕ, ◌%◌, ◌&&◌, ◌+◌, ◌==◌, ◌||◌, ◌≡◌, ◌⊎◌}
+use Rattle.std.specs.Prelude.{Bool, Contains, List, None, Option, Some, [], false, is_none, is_some, not, option_and_then, option_map, position, true, ℕ, ◌%◌, ◌&&◌, ◌+◌, ◌==◌, ◌||◌, ◌≡◌, ◌⊎◌}
 
 -- ---- what frees a leader, and what converts
 
@@ -301,7 +298,7 @@ unheld_owed x s at n held owes = unheld_if (seen x) s at n (λ g h on lver. by g
       let inside = find_inside (λ (k : Grant). not (is_shared k.mode)) (holdings_on (seen x) s at) k found in
       let its : HeldThere (seen x) s at k = held_there (seen x) s at k inside.0 (not_true (is_shared k.mode) inside.1) in
       let place : same_place k.path k.offset g.path g.offset ≡ true =
-          subst (λ z. same_place k.path k.offset z.path z.base ≡ true) (sym (spot_same g at h.place)) its.place
+      subst (λ z. same_place k.path k.offset z.path z.base ≡ true) (sym (spot_same g at h.place)) its.place
       in
       let same : k ≡ g = held.alone g k h.there its.there place h.exclusive in
       let lvers : k.lver ≡ n = ap (λ (z : Grant). z.lver) same ∙ lver in
@@ -334,14 +331,14 @@ unheld_read x s m a h work is w n =
     let at : Spot = spot_of_call x.setting.layout m in
     let c : HeardCall x a m = heard_call x s m a h w in
     unheld_if (seen x) s at n (λ g held on lver.
-        let its : session_numbered x.setting (seen x) g.session ≡ Some s = ap (λ k. session_numbered x.setting (seen x) k) held.its ∙ heard_has x s m a h in
-        let stands : StandsExclusive x.setting (seen x) (heard_by x.input) s (spot_of_grant g) g.lver = w.facts.holdings.stands g s held.there its held.exclusive in
-        let first = w.facts.turns.newest s m h.session c.there (heard_open x s m a h) (ap (λ p. is_some (lease_step p)) is) in
-        let inside : Contains (lease_calls x.setting (seen x) s (spot_of_grant g)) m =
-            subst (λ z. Contains (lease_calls x.setting (seen x) s z) m) (sym (spot_same g at held.place))
-            (subst (λ ms. Contains ms m) (sym first.1) (contains_first m first.0))
-        in
-        true_is_false (sym (ap (λ p. is_ballot_purpose p) is) ∙ stands.idle m inside (heard_open x s m a h)))
+    let its : session_numbered x.setting (seen x) g.session ≡ Some s = ap (λ k. session_numbered x.setting (seen x) k) held.its ∙ heard_has x s m a h in
+    let stands : StandsExclusive x.setting (seen x) (heard_by x.input) s (spot_of_grant g) g.lver = w.facts.holdings.stands g s held.there its held.exclusive in
+    let first = w.facts.turns.newest s m h.session c.there (heard_open x s m a h) (ap (λ p. is_some (lease_step p)) is) in
+    let inside : Contains (lease_calls x.setting (seen x) s (spot_of_grant g)) m =
+    subst (λ z. Contains (lease_calls x.setting (seen x) s z) m) (sym (spot_same g at held.place))
+    (subst (λ ms. Contains ms m) (sym first.1) (contains_first m first.0))
+    in
+    true_is_false (sym (ap (λ p. is_ballot_purpose p) is) ∙ stands.idle m inside (heard_open x s m a h)))
 
 -- Nor in the work of an acquire.
 unheld_acquire : (x : Step) (s : Session) (m : Submitted) (a : Answer) → (h : Hears x s m a) → (j : ℕ) (step : LeaseStep) → m.call.purpose ≡ Lease (ForJob j) step → is_running (seen x) j ≡ true
@@ -349,8 +346,8 @@ unheld_acquire : (x : Step) (s : Session) (m : Submitted) (a : Answer) → (h : 
 unheld_acquire x s m a h j step is runs c command mode aimed w n =
     let at : Spot = spot_of_call x.setting.layout m in
     unheld_if (seen x) s at n (λ g held on lver.
-        let may = w.facts.works.beside m j step c (Acquires mode) g (at_work x s m a h j step is runs c command w) aimed held.there held.place in
-        may.2 (held.its ∙ number_is_place x.setting (seen x) m.call.session s h.session))
+    let may = w.facts.works.beside m j step c (Acquires mode) g (at_work x s m a h j step is runs c command w) aimed held.there held.place in
+    may.2 (held.its ∙ number_is_place x.setting (seen x) m.call.session s h.session))
 
 -- ---- what is carried out
 
@@ -394,55 +391,55 @@ settled_stays x s at has active aligned none w k =
     let plain : plainly n ≡ true = settles_plainly (lease_place x.setting s) (known x.setting (seen x) s at) in
     let ways = w.facts.ways.each s at (there_has x.setting (seen x) s.number s has) aligned in
     let ready : LeaseReady x s at =
-        record {
-          has = has;
-          setting = w.setting;
-          aligned = aligned;
-          clear = λ m there unanswered work spot. none_open x.setting w.setting (seen x) at none m there unanswered spot;
-          below = w.facts.calls.below;
-        }
+    record {
+      has = has;
+      setting = w.setting;
+      aligned = aligned;
+      clear = λ m there unanswered work spot. none_open x.setting w.setting (seen x) at none m there unanswered spot;
+      below = w.facts.calls.below;
+    }
     in
     next_stays x s at (record { ready = ready; active = active; ways = ways }) Settling (inr refl) n (settlings_fit (moment_of x s at Settling) ways refl)
     (λ step l is free. absurd (no_leader n step l is free (plain_frees n plain))) (λ is. absurd (true_is_false (sym is ∙ plain_turns n plain))) k
   where
-  no_leader : (n : LeaseNext) (step : LeaseStep) (l : Leader) → n ≡ WriteLeader step l → l.held ≡ false → frees n ≡ false → ⊥
-  no_leader n step l is free none = true_is_false (sym (ap (λ n. frees n) is ∙ ap (λ b. not b) free) ∙ none)
+    no_leader : (n : LeaseNext) (step : LeaseStep) (l : Leader) → n ≡ WriteLeader step l → l.held ≡ false → frees n ≡ false → ⊥
+    no_leader n step l is free none = true_is_false (sym (ap (λ n. frees n) is ∙ ap (λ b. not b) free) ∙ none)
 
 -- After an answer: what is said of turns is for conversions alone.
 pub led_stays : (x : Step) (s : Session) (work : Work) (step : LeaseStep) (m : Submitted) (a : Answer) (aim : Aim) → (h : Hears x s m a) → m.call.purpose ≡ Lease work step → goes_on x.setting (seen x) s work ≡ true
     → aim_of x.setting (seen x) work ≡ Some aim → is_active x.setting (seen x) s ≡ true → Whole x
     → (turns (next_of_lease x.setting (seen x) s (spot_of_call x.setting.layout m) aim m step a) ≡ true
-      → LawfulSoFar (carry_lease s (spot_of_call x.setting.layout m) work (next_of_lease x.setting (seen x) s (spot_of_call x.setting.layout m) aim m step a) x))
+    → LawfulSoFar (carry_lease s (spot_of_call x.setting.layout m) work (next_of_lease x.setting (seen x) s (spot_of_call x.setting.layout m) aim m step a) x))
     → LawfulSoFar (carry_lease s (spot_of_call x.setting.layout m) work (next_of_lease x.setting (seen x) s (spot_of_call x.setting.layout m) aim m step a) x)
 led_stays x s work step m a aim h is on aimed active w turned =
     let at : Spot = spot_of_call x.setting.layout m in
     let k = lease_heard x s work step m a aim h is on aimed w in
     let n : LeaseNext = next_of_lease x.setting (seen x) s at aim m step a in
     let fits : NextIs (moment_of x s at work) n =
-        subst (λ (z : Submitted). NextIs (moment_of x s at work) (next_of_lease x.setting (seen x) s at aim z step a)) k.1 (answers_fit (moment_of x s at work) step aim a k.0)
+    subst (λ (z : Submitted). NextIs (moment_of x s at work) (next_of_lease x.setting (seen x) s at aim z step a)) k.1 (answers_fit (moment_of x s at work) step aim a k.0)
     in
     next_stays x s at (record { ready = lease_ready x s m a h (ap (λ p. is_area_work p) is) w; active = active; ways = k.0.ways }) work (inl h.bare) n fits
     (λ to l is_leader free. unheld to l is_leader free (frees_by (lease_place x.setting s) (known x.setting (seen x) s at) aim m.call.number (lver_written m) step a)) turned
     (others_are_lawful x (no_others x h.bare))
   where
-  acquiring : (mode : Mode) → aim ≡ Acquires mode → (n : ℕ) → holds_under (seen x) s (spot_of_call x.setting.layout m) n ≡ false
-  acquiring mode same n = by work is on (aimed ∙ ap (λ z. Some z) same) where
-    found : (o : Option Command) → (j : ℕ) → m.call.purpose ≡ Lease (ForJob j) step → is_running (seen x) j ≡ true → command_numbered x.setting (seen x) j ≡ o → option_and_then aim_of_command o ≡ Some (Acquires mode)
-        → holds_under (seen x) s (spot_of_call x.setting.layout m) n ≡ false
-    found None j is runs command aimed = absurd (none_some (Acquires mode) aimed)
-    found (Some c) j is runs command aimed = unheld_acquire x s m a h j step is runs c command mode aimed w n
+    acquiring : (mode : Mode) → aim ≡ Acquires mode → (n : ℕ) → holds_under (seen x) s (spot_of_call x.setting.layout m) n ≡ false
+    acquiring mode same n = by work is on (aimed ∙ ap (λ z. Some z) same) where
+      found : (o : Option Command) → (j : ℕ) → m.call.purpose ≡ Lease (ForJob j) step → is_running (seen x) j ≡ true → command_numbered x.setting (seen x) j ≡ o → option_and_then aim_of_command o ≡ Some (Acquires mode)
+          → holds_under (seen x) s (spot_of_call x.setting.layout m) n ≡ false
+      found None j is runs command aimed = absurd (none_some (Acquires mode) aimed)
+      found (Some c) j is runs command aimed = unheld_acquire x s m a h j step is runs c command mode aimed w n
 
-    by : (work : Work) → m.call.purpose ≡ Lease work step → goes_on x.setting (seen x) s work ≡ true → aim_of x.setting (seen x) work ≡ Some (Acquires mode) → holds_under (seen x) s (spot_of_call x.setting.layout m) n ≡ false
-    by (ForJob j) is runs aimed = found (command_numbered x.setting (seen x) j) j is runs refl aimed
-    by Settling is on aimed = absurd (other_aim mode (some_value Settles (Acquires mode) aimed))
+      by : (work : Work) → m.call.purpose ≡ Lease work step → goes_on x.setting (seen x) s work ≡ true → aim_of x.setting (seen x) work ≡ Some (Acquires mode) → holds_under (seen x) s (spot_of_call x.setting.layout m) n ≡ false
+      by (ForJob j) is runs aimed = found (command_numbered x.setting (seen x) j) j is runs refl aimed
+      by Settling is on aimed = absurd (other_aim mode (some_value Settles (Acquires mode) aimed))
 
-  unheld : (to : LeaseStep) (l : Leader) → next_of_lease x.setting (seen x) s (spot_of_call x.setting.layout m) aim m step a ≡ WriteLeader to l → l.held ≡ false
-      → FreesBy (known x.setting (seen x) s (spot_of_call x.setting.layout m)) aim step (next_of_lease x.setting (seen x) s (spot_of_call x.setting.layout m) aim m step a)
-      → holds_under (seen x) s (spot_of_call x.setting.layout m) l.lver ≡ false
-  unheld to l next free (No_free none) = absurd (true_is_false (sym (ap (λ n. frees n) next ∙ ap (λ b. not b) free) ∙ none))
-  unheld to l next free (Of_acquire mode same) = acquiring mode same l.lver
-  unheld to l next free (By_read same) = unheld_read x s m a h work (is ∙ ap (λ z. Lease work z) same) w l.lver
-  unheld to l next free (By_owed owes) = unheld_owed x s (spot_of_call x.setting.layout m) l.lver w.facts.holdings (owes to l next)
+    unheld : (to : LeaseStep) (l : Leader) → next_of_lease x.setting (seen x) s (spot_of_call x.setting.layout m) aim m step a ≡ WriteLeader to l → l.held ≡ false
+        → FreesBy (known x.setting (seen x) s (spot_of_call x.setting.layout m)) aim step (next_of_lease x.setting (seen x) s (spot_of_call x.setting.layout m) aim m step a)
+        → holds_under (seen x) s (spot_of_call x.setting.layout m) l.lver ≡ false
+    unheld to l next free (No_free none) = absurd (true_is_false (sym (ap (λ n. frees n) next ∙ ap (λ b. not b) free) ∙ none))
+    unheld to l next free (Of_acquire mode same) = acquiring mode same l.lver
+    unheld to l next free (By_read same) = unheld_read x s m a h work (is ∙ ap (λ z. Lease work z) same) w l.lver
+    unheld to l next free (By_owed owes) = unheld_owed x s (spot_of_call x.setting.layout m) l.lver w.facts.holdings (owes to l next)
 
 -- ---- a settling converts nothing
 

@@ -1,8 +1,6 @@
 -- Calls that are no work on an area keep the laws of areas, blocks and leaders wherever they are made; a step that makes no other keeps them.
-use Rattle.sl_acts.proofs.Additions.{begun_by}
-use Rattle.sl_acts.specs.Acts.{Has}
 use Rattle.sl_acts.specs.SoFar.{entry_of}
-use Rattle.sl_due.specs.Steps.{Step, add_call_of, seen}
+use Rattle.sl_due.specs.Steps.{Step, add_call_of}
 use Rattle.sl_law.specs.LawfulArea.{IsRightRead, is_area_work, is_block_work, is_delta_record}
 use Rattle.sl_law.specs.Saying.{EachCall}
 use Rattle.sl_lease_due.specs.LeaseLawful.{LeaseLaws, LeaseLawful}
@@ -10,26 +8,22 @@ use Rattle.sl_lease_ways.proofs.Kept.EffectsLeave.{made_call}
 use Rattle.sl_lease_ways.proofs.Kept.PlacesStand.{either_list}
 use Rattle.sl_lease_ways.proofs.Kept.PlainWalks.{ByPlain}
 use Rattle.sl_lease_ways.proofs.WayStages.{is_at_in}
-use Rattle.sl_leases.specs.Leases.{Phase2_read, block_of_record, block_written, is_at, leader_of_record, leader_written, spot_of_call}
-use Rattle.sl_sector.specs.declared.sector.Block.{Block}
-use Rattle.sl_sector.specs.declared.sector.Leader.{Leader}
+use Rattle.sl_leases.specs.Leases.{Phase2_read, block_of_record, block_written, leader_of_record, leader_written, spot_of_call}
 use Rattle.sl_sector.specs.declared.sector.Rec.TheVariants.{BlockIs, DeltaIs, LeaderIs, RequestIs, ValueIs}
 use Rattle.sl_sector.specs.declared.sector.Rec.{Rec}
 use Rattle.sl_sessions.specs.declared.session.Session.{Session}
 use Rattle.sl_trace.specs.Traces.{Setting, Submitted, Trace, record_of}
 use Rattle.sl_trace.specs.declared.effects.Call.{Call}
-use Rattle.sl_trace.specs.declared.effects.LeaseStep.{LeaseStep}
 use Rattle.sl_trace.specs.declared.effects.Op.{Op}
 use Rattle.sl_trace.specs.declared.effects.Purpose.TheVariants.{Joining, Lease, Leaving, Renewal, RequestRead, RequestWrite, SeeRequest, Survey, ValueRead, ValueWrite}
 use Rattle.sl_trace.specs.declared.effects.Purpose.{Purpose}
 use Rattle.sl_trace.specs.declared.effects.Spot.{Spot}
-use Rattle.sl_trace.specs.declared.effects.Work.{Work}
 use Rattle.sl_trace.specs.declared.reply.Reply.{Reply}
 use Rattle.sl_plain.proofs.Lists.{contains_cases, contains_none, got_inside}
-use Rattle.sl_words.proofs.CaseLaws.{false_is_true, no_value, none_some, some_value, true_is_false}
+use Rattle.sl_words.proofs.CaseLaws.{false_is_true, no_value, true_is_false}
 use Rattle.sl_words.proofs.WordLaws.{and_true}
-use Rattle.std.proofs.Common.{ap, inl, inr, refl, subst, sym, ◌∙◌}
-use Rattle.std.specs.Prelude.{Bool, Contains, IsTrue, List, None, Option, Some, [], false, option_and_then, true, ℕ, ◌∷◌, ◌≡◌, ◌⊎◌}
+use Rattle.std.proofs.Common.{inl, inr, refl, subst, sym, ◌∙◌}
+use Rattle.std.specs.Prelude.{Contains, List, None, Option, Some, [], false, option_and_then, true, ℕ, ◌∷◌, ◌≡◌, ◌⊎◌}
 
 -- A call that is no work on an area, nor a look at a request, and writes no record but a delta record.
 pub record IsOther (p : Purpose) (op : Op) : Type 0 where

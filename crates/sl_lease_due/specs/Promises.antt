@@ -1,13 +1,16 @@
--- What is shown of the calls that leases make: each keeps the laws of areas, blocks and leaders where it is made.
+-- What is shown of the laws of areas, blocks and leaders: each call that a lease makes keeps them, and so does each act.
+use Rattle.sl_acts.specs.Acts.{Acts}
 use Rattle.sl_area.specs.Places.{block_offset, leader_offset}
 use Rattle.sl_law.specs.LawfulLeader.{holds_under}
-use Rattle.sl_lease_due.specs.LeaseLawful.{LeaseLawful}
+use Rattle.sl_lease_due.specs.LeaseLawful.{LeaseLawful, LeaseLaws}
 use Rattle.sl_lease_due.specs.Made.{IsCallAt, MayCall, read_place}
+use Rattle.sl_lease_due.specs.Working.{WorkIsActive}
 use Rattle.sl_lease_ways.specs.Nexts.{Moment, NextIs, read_op}
 use Rattle.sl_leases.specs.declared.lease.LeaseNext.TheVariants.{ReadFor, WriteBlock, WriteLeader}
 use Rattle.sl_sector.specs.declared.sector.Block.{Block}
 use Rattle.sl_sector.specs.declared.sector.Leader.{Leader}
 use Rattle.sl_sector.specs.declared.sector.Rec.TheVariants.{BlockIs, LeaderIs}
+use Rattle.sl_step_facts.specs.Whole.{Whole}
 use Rattle.sl_trace.specs.Traces.{Submitted}
 use Rattle.sl_trace.specs.declared.effects.LeaseStep.{LeaseStep}
 use Rattle.sl_trace.specs.declared.effects.Op.TheVariants.{WriteRecord}
@@ -31,3 +34,7 @@ abbrev pub LeadersAreLawful : Type 0
 LeadersAreLawful =
     (x : Moment) (step : LeaseStep) (l : Leader) (c : Submitted) → MayCall x → IsCallAt x step (leader_offset x.at.base) (WriteRecord (LeaderIs l)) c →
     NextIs x (WriteLeader step l) → (l.held ≡ false → holds_under x.trace x.session x.at l.lver ≡ false) → LeaseLawful x.setting x.trace x.session c
+
+-- Each act keeps the laws, where no job works under a session in recovery or leaving.
+abbrev pub LeaseLawsAreKept : Type 0
+LeaseLawsAreKept = Acts (λ x. Whole x × WorkIsActive x) LeaseLaws

@@ -1,6 +1,6 @@
-//! What is shown of the calls that leases make.
+//! What is shown of the laws of areas, blocks and leaders.
 
-ghost use Rattle.sl_lease_due.specs.Promises.{BlocksAreLawful, LeadersAreLawful, ReadsAreLawful};
+ghost use Rattle.sl_lease_due.specs.Promises.{BlocksAreLawful, LeadersAreLawful, LeaseLawsAreKept, ReadsAreLawful};
 
 /// A read that a lease makes is lawful.
 pub fn reads_are_lawful()
@@ -15,4 +15,9 @@ pub fn blocks_are_lawful()
 /// And a leader.
 pub fn leaders_are_lawful()
     ensures { LeadersAreLawful }
+{}
+
+/// Each act keeps the laws.
+pub fn lease_laws_are_kept()
+    ensures { LeaseLawsAreKept }
 {}
