@@ -3,6 +3,7 @@ pub mod CallFacts
 pub mod JobFacts
 pub mod SessionFacts
 pub mod LeaseFacts
+pub mod WayFacts
 pub mod HoldingFacts
 pub mod WorkFacts
 pub mod GrantGrounds

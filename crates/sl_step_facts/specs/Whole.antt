@@ -9,6 +9,7 @@ use Rattle.sl_step_facts.specs.GrantGrounds.{GrantGrounds}
 use Rattle.sl_step_facts.specs.HoldingFacts.{HoldingFacts}
 use Rattle.sl_step_facts.specs.LeaseFacts.{NumberFacts, TurnFacts}
 use Rattle.sl_step_facts.specs.ValueFacts.{ValueFacts}
+use Rattle.sl_step_facts.specs.WayFacts.{WayFacts}
 use Rattle.sl_step_facts.specs.WorkFacts.{WorkFacts}
 use Rattle.sl_step_facts.specs.SessionFacts.{ConnectionFacts, DeltaFacts, NameFacts, QuietFacts}
 use Rattle.sl_trace.specs.Traces.{Setting, Trace}
@@ -24,6 +25,7 @@ pub record Facts (st : Setting) (t : Trace) (heard : Option ℕ) : Type 0 where
   pub connections : ConnectionFacts st t heard
   pub delta : DeltaFacts st t
   pub turns : TurnFacts st t heard
+  pub ways : WayFacts st t
   pub holdings : HoldingFacts st t heard
   pub works : WorkFacts st t heard
   pub grounds : GrantGrounds st t heard

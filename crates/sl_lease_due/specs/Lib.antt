@@ -1,0 +1,4 @@
+pub mod LeaseLawful
+pub mod Made
+pub mod Working
+pub mod Promises
