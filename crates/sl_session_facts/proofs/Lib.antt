@@ -1,0 +1,2 @@
+pub mod NameEffects
+pub mod NamesGrow
