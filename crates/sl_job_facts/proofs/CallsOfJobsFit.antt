@@ -132,7 +132,7 @@ calls_of_joining x s j m h has its there of =
     adds Survey z m a i of fits = absurd (none_some i of)
     adds SeeRequest z m a i of fits = absurd (none_some i of)
 
-list_all_inside : {A : Type 0} (p : A → Bool) (xs : List A) (d : A) → list_all p xs ≡ true → Contains xs d → p d ≡ true
+pub list_all_inside : {A : Type 0} (p : A → Bool) (xs : List A) (d : A) → list_all p xs ≡ true → Contains xs d → p d ≡ true
 list_all_inside p [] d all there = absurd (contains_none d there)
 list_all_inside p (x ∷ xs) d all there =
     let both = and_true (p x) (list_all p xs) all in

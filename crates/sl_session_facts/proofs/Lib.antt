@@ -1,2 +1,3 @@
 pub mod NameEffects
 pub mod NamesGrow
+pub mod NameFactsAreKept

@@ -27,7 +27,7 @@ use Rattle.std.specs.Prelude.{Bool, List, None, Option, Some, [], false, filter,
 
 -- ---- whether a session is present
 
-abbrev present_by : Option ℕ → Option ℕ → Option ℕ → Bool → Bool
+abbrev pub present_by : Option ℕ → Option ℕ → Option ℕ → Bool → Bool
 present_by joined removed refused writes = is_none (elim joined as (λ z. Option ℕ) [ Some k ↦ removed | None ↦ refused ]) || is_none joined && writes
 
 -- A move makes no session present.
@@ -110,7 +110,7 @@ reply_present y j r s same is = by (joined_after (seen y) s) refl (refused_after
       ∙ (ap (λ b. present_by (joined_after (seen (add_reply j r y)) s) (removed_after (seen y) s) (refused_after (seen (add_reply j r y)) s) b) (sym writes) ∙ is))
 
 -- Nor does a call of another session, or of one that was not refused.
-call_present : (y : Step) (s : Session) (path : List ℕ) (p : Purpose) (o : ℕ) (op : Op) (z : Session) → ((z.number ≡ s.number) → refused_after (seen y) z ≡ None) → is_present (seen (add_call_of s.number path p o op y)) z ≡ true → is_present (seen y) z ≡ true
+pub call_present : (y : Step) (s : Session) (path : List ℕ) (p : Purpose) (o : ℕ) (op : Op) (z : Session) → ((z.number ≡ s.number) → refused_after (seen y) z ≡ None) → is_present (seen (add_call_of s.number path p o op y)) z ≡ true → is_present (seen y) z ≡ true
 call_present y s path p o op z unrefused is = by (s.number == z.number) refl where
   made : Call
   made = record { number = next_call y.setting (seen y); session = s.number; purpose = p; path = path; offset = o; op = op }

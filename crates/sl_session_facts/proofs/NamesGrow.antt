@@ -10,7 +10,7 @@ use Rattle.sl_job_facts.proofs.SessionsStand.{running_before}
 use Rattle.sl_parts_law.proofs.CallsGrow.{mine_more, others_stay, same_sessions}
 use Rattle.sl_plain.proofs.Lists.{any_found, any_of, contains_cases, contains_first, contains_none, head_is, in_map, kept, kept_inside}
 use Rattle.sl_plain.proofs.Options.{none_is}
-use Rattle.sl_session_facts.proofs.NameEffects.{move_present, reply_present}
+use Rattle.sl_session_facts.proofs.NameEffects.{call_present, move_present, present_by, reply_present}
 use Rattle.sl_session_facts.specs.Promises.{HasNameFacts}
 use Rattle.sl_sessions.specs.Sessions.{calls_of, has_open_write, is_call_of, is_join_call, is_present, joined_after, present_sessions, refused_after, removed_after, session_numbered, sessions}
 use Rattle.sl_sessions.specs.declared.session.Session.{Session}
