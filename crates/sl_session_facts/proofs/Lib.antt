@@ -1,3 +1,5 @@
 pub mod NameEffects
 pub mod NamesGrow
+pub mod NamesAreAllowed
+pub mod NameActs
 pub mod NameFactsAreKept

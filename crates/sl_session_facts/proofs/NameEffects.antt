@@ -42,14 +42,14 @@ move_present y m s is = by (joined_after (seen y) s) refl is where
       ap (λ b. b || false) before
 
 -- Nor does a reply.
-joined_of : (t : Trace) (s : Session) (j : ℕ) → s.job ≡ Some j → joined_after t s ≡ option_and_then (λ (r : Replied). choose (is_join_done r.reply) (r.at + 1)) (reply_to t j)
+pub joined_of : (t : Trace) (s : Session) (j : ℕ) → s.job ≡ Some j → joined_after t s ≡ option_and_then (λ (r : Replied). choose (is_join_done r.reply) (r.at + 1)) (reply_to t j)
 joined_of t s j its = ap (λ (o : Option ℕ). elim o as (λ z. Option ℕ) [ None ↦ Some 0 | Some k ↦ option_and_then (λ (r : Replied). choose (is_join_done r.reply) (r.at + 1)) (reply_to t k) ]) its
 
-refused_of : (t : Trace) (s : Session) (j : ℕ) → s.job ≡ Some j → refused_after t s ≡ option_and_then (λ (r : Replied). choose (not (is_join_done r.reply)) (r.at + 1)) (reply_to t j)
+pub refused_of : (t : Trace) (s : Session) (j : ℕ) → s.job ≡ Some j → refused_after t s ≡ option_and_then (λ (r : Replied). choose (not (is_join_done r.reply)) (r.at + 1)) (reply_to t j)
 refused_of t s j its = ap (λ (o : Option ℕ). elim o as (λ z. Option ℕ) [ None ↦ None | Some k ↦ option_and_then (λ (r : Replied). choose (not (is_join_done r.reply)) (r.at + 1)) (reply_to t k) ]) its
 
 -- A reply that was given stays.
-reply_kept_to : (y : Step) (j : ℕ) (r : Reply) (n : ℕ) (a : Replied) → reply_to (seen y) n ≡ Some a → reply_to (seen (add_reply j r y)) n ≡ Some a
+pub reply_kept_to : (y : Step) (j : ℕ) (r : Reply) (n : ℕ) (a : Replied) → reply_to (seen y) n ≡ Some a → reply_to (seen (add_reply j r y)) n ≡ Some a
 reply_kept_to y j r n a is = by (reply_to y.past n) is where
   told : JobReply → Replied
   told b = record { at = length y.past; reply = b.reply }
