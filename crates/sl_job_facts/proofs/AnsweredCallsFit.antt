@@ -189,7 +189,7 @@ leaves_lockspace c = false
 not_leaving : {c d : Command} → leaves_lockspace c ≡ true → leaves_lockspace d ≡ false → c ≡ d → ⊥
 not_leaving yes_one no_other is = true_is_false (sym yes_one ∙ (ap (λ z. leaves_lockspace z) is ∙ no_other))
 
-record_writes : (o : Op) (r : Rec) → record_of o ≡ Some r → is_write o ≡ true
+pub record_writes : (o : Op) (r : Rec) → record_of o ≡ Some r → is_write o ≡ true
 record_writes (ReadSectors n) r is = absurd (none_some r is)
 record_writes (WriteRecord w) r is = refl
 

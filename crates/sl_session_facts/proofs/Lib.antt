@@ -3,3 +3,4 @@ pub mod NamesGrow
 pub mod NamesAreAllowed
 pub mod NameActs
 pub mod NameFactsAreKept
+pub mod JoiningsGoOn
