@@ -1,35 +1,57 @@
 -- A joining that runs goes on: after an answer of it a call is made, or it waits for a wake by the step of its newest call.
+use Rattle.sl_acts.proofs.LoopsKeep.{when_keeps, with_some_keeps}
 use Rattle.sl_acts.specs.Acts.{Has}
-use Rattle.sl_acts.specs.SoFar.{SoFar}
-use Rattle.sl_area.specs.Layouts.{record_in}
-use Rattle.sl_due.specs.Steps.{Step, seen}
+use Rattle.sl_acts.specs.SoFar.{SoFar, entry_of}
+use Rattle.sl_area.specs.Layouts.{record_in, sector_with}
+use Rattle.sl_due.specs.Due.{is_waiting_step}
+use Rattle.sl_due.specs.DueDelta.{carry_delta, for_joining, move_connection, survey, write_own_sector}
+use Rattle.sl_due.specs.DueFirst.{refuse, remove_connection, remove_of_refused}
+use Rattle.sl_due.specs.Steps.{Step, add_call_of, add_move, add_reply, seen, with_some}
 use Rattle.sl_job_facts.proofs.AnsweredCallsFit.{record_writes}
+use Rattle.sl_job_facts.proofs.RepliesComeAfter.{on_bool}
 use Rattle.sl_job_facts.proofs.SessionsHaveJobs.{contains_only}
+use Rattle.sl_job_facts.proofs.SessionsStand.{reply_stops}
 use Rattle.sl_law.specs.LawfulDelta.{LawfulClaim, LawfulDeciding, LawfulDeltaCall, LawfulFirstRenewal, LawfulJoinStep, LawfulVerify}
-use Rattle.sl_plain.proofs.Lists.{contains_cases, contains_none, find_fails, find_inside, kept, kept_inside}
+use Rattle.sl_parts_law.proofs.CallsGrow.{mine_more}
+use Rattle.sl_plain.proofs.Lists.{contains_cases, contains_none, find_fails, find_inside, head_is, kept, kept_inside}
+use Rattle.sl_plain.proofs.Numbers.{number_itself}
 use Rattle.sl_plain.proofs.Options.{then_value}
 use Rattle.sl_sector.specs.Bitmaps.{no_bits}
 use Rattle.sl_sector.specs.Spelling.{delta_in}
 use Rattle.sl_sector.specs.declared.sector.DeltaRec.{DeltaRec}
 use Rattle.sl_sector.specs.declared.sector.DeltaState.TheVariants.{Claimed, Live}
-use Rattle.sl_sessions.specs.Deltas.{claim_of, delta_of_session, delta_record, watched}
-use Rattle.sl_sessions.specs.Sessions.{calls_of, delta_of_record, delta_written, is_call_of, is_join_call, join_call, joined_after, stage_after}
+use Rattle.sl_sector.specs.declared.sector.Rec.TheVariants.{DeltaIs}
+use Rattle.sl_sessions.specs.Deltas.{DeltaLease, claim_of, claim_on, delta_of_session, delta_record, id_held, id_lost, next_after_deciding, next_after_verify, next_in_joining, own_offset, watched}
+use Rattle.sl_sessions.specs.Sessions.{calls_of, delta_of_record, delta_written, has_open_write, is_call_of, is_join_call, join_call, joined_after, refused_after, session_of_job, stage_after}
+use Rattle.sl_sessions.specs.declared.delta.DeltaNext.{DeltaNext}
+use Rattle.sl_sessions.specs.declared.delta.DeltaNext.TheVariants.{Nothing, Join, RefuseJoin, WriteClaim, WriteFirst}
 use Rattle.sl_sessions.specs.declared.session.Session.{Session}
-use Rattle.sl_trace.specs.Traces.{Answered, Submitted, bytes_given, gave, is_write, record_of, submitted}
+use Rattle.sl_trace.specs.Connections.{is_registered}
+use Rattle.sl_trace.specs.Traces.{Answered, Submitted, bytes_given, gave, is_answer_for, is_ok_answer, is_running, is_write, new_call, next_call, record_of, submitted}
+use Rattle.sl_trace.specs.declared.effects.Call.{Call}
 use Rattle.sl_trace.specs.declared.effects.JoinStep.{JoinStep}
 use Rattle.sl_trace.specs.declared.effects.JoinStep.TheVariants.{ClaimWrite, DecidingRead, FirstRead, FirstRenewal, VerifyRead, WatchRead}
-use Rattle.sl_trace.specs.declared.effects.Op.TheVariants.{ReadSectors}
+use Rattle.sl_trace.specs.declared.effects.Move.TheVariants.{Unregister}
+use Rattle.sl_trace.specs.declared.effects.Op.{Op}
+use Rattle.sl_trace.specs.declared.effects.Op.TheVariants.{ReadSectors, WriteRecord}
 use Rattle.sl_trace.specs.declared.effects.Purpose.{Purpose}
 use Rattle.sl_trace.specs.declared.effects.Purpose.TheVariants.{Joining, Lease, Leaving, Renewal, RequestRead, RequestWrite, SeeRequest, Survey, ValueRead, ValueWrite}
+use Rattle.sl_trace.specs.declared.input.Answer.{Answer}
+use Rattle.sl_trace.specs.declared.input.Answer.TheVariants.{Failed, Read, Written}
+use Rattle.sl_trace.specs.declared.reply.Limited.TheVariants.{Gen as GenLimit, Seq as SeqLimit}
+use Rattle.sl_trace.specs.declared.reply.Reply.{Reply}
+use Rattle.sl_trace.specs.declared.reply.Reply.TheVariants.{Generation, IoFault, Limit as LimitReached}
 use Rattle.sl_trace_law.proofs.Sessions.Fronts.{front_answers_stay}
 use Rattle.sl_trace_law.proofs.Sessions.Ordering.{joinings_are_ordered}
 use Rattle.sl_trace_law.proofs.Sessions.Owning.{calls_were_lawful}
 use Rattle.sl_trace_law.specs.Sessions.Promises.{IsMade, WasLawful, front_of, is_ordered, leads_to, made_as, may_come, may_follow}
 use Rattle.sl_words.proofs.CaseLaws.{false_is_true, none_some, not_both}
 use Rattle.sl_words.proofs.WordLaws.{and_true}
-use Rattle.std.proofs.Common.{ap, inl, inr, refl, subst, sym, ◌∙◌}
+use Rattle.sl_words.specs.Bounds.{is_number}
+use Rattle.std.proofs.Common.{ap, arith, inl, inr, refl, subst, sym, ◌∙◌}
 use Rattle.std.proofs.lemmas.Bool.{eqb-true}
-use Rattle.std.specs.Prelude.{Contains, List, None, Option, Some, [], cond, false, option_and_then, true, unwrap_or, ℕ, ◌+◌, ◌-◌, ◌∷◌, ◌≡◌, ◌⊎◌}
+use Rattle.std.proofs.lemmas.Slice.Eq.{bytes_eq-Decides}
+use Rattle.std.specs.Prelude.{Bool, Contains, IsTrue, List, None, Option, Some, [], bytes_eq, cond, false, is_some, length, not, option_and_then, true, unwrap_or, ℕ, ◌&&◌, ◌+◌, ◌-◌, ◌<◌, ◌∷◌, ◌≡◌, ◌⊎◌}
 
 -- ---- what was read and claimed before
 
@@ -94,7 +116,7 @@ pub record AtWork (x : Step) (s : Session) (m : Submitted) (j : ℕ) (step : Joi
   pub is : m.call.purpose ≡ Joining j step
   pub unjoined : joined_after (seen x) s ≡ None
 
-law_of : (x : Step) (s : Session) (m : Submitted) (j : ℕ) (step : JoinStep) → AtWork x s m j step → (w : WasLawful x.setting (seen x) s m) × LawfulJoinStep x.setting (front_of w.made) s (made_as w.made) step
+pub law_of : (x : Step) (s : Session) (m : Submitted) (j : ℕ) (step : JoinStep) → AtWork x s m j step → (w : WasLawful x.setting (seen x) s m) × LawfulJoinStep x.setting (front_of w.made) s (made_as w.made) step
 law_of x s m j step h =
     let w : WasLawful x.setting (seen x) s m = calls_were_lawful x.setting (seen x) s m h.orderly h.has h.there h.its in
     (w, subst (λ (p : Purpose). LawfulDeltaCall x.setting (front_of w.made) s (made_as w.made) p) h.is w.lawful)
@@ -109,7 +131,7 @@ gave_answer : (r : Submitted) (bytes : List ℕ) → gave r ≡ Some bytes → (
 gave_answer r bytes is = let v = then_value (λ (a : Answered). bytes_given a.answer) r.answer bytes is in (v.0, v.1)
 
 -- What a joining that decides had read first spells a record.
-decides_on : (x : Step) (s : Session) (m : Submitted) (j : ℕ) → AtWork x s m j DecidingRead → (found : DeltaRec) × (delta_in (record_in x.setting.layout (watched (calls_of (seen x) s))) ≡ Some found)
+pub decides_on : (x : Step) (s : Session) (m : Submitted) (j : ℕ) → AtWork x s m j DecidingRead → (found : DeltaRec) × (delta_in (record_in x.setting.layout (watched (calls_of (seen x) s))) ≡ Some found)
 decides_on x s m j h =
     let law = law_of x s m j DecidingRead h in
     let l : LawfulDeciding x.setting (front_of law.0.made) s (made_as law.0.made) = law.1 in
@@ -120,7 +142,7 @@ decides_on x s m j h =
     (l.found, ap (λ bytes. delta_in (record_in x.setting.layout bytes)) same ∙ l.spelled.0)
 
 -- A joining that verifies has claimed.
-verifies_claim : (x : Step) (s : Session) (m : Submitted) (j : ℕ) → AtWork x s m j VerifyRead → claim_of (calls_of (seen x) s) ≡ None → ⊥
+pub verifies_claim : (x : Step) (s : Session) (m : Submitted) (j : ℕ) → AtWork x s m j VerifyRead → claim_of (calls_of (seen x) s) ≡ None → ⊥
 verifies_claim x s m j h none = by (join_call (calls_of (seen x) s) ClaimWrite) refl where
   law : (w : WasLawful x.setting (seen x) s m) × LawfulVerify x.setting (front_of w.made) s (made_as w.made)
   law = law_of x s m j VerifyRead h
@@ -159,13 +181,132 @@ verifies_claim x s m j h none = by (join_call (calls_of (seen x) s) ClaimWrite) 
       let d = writes c found.0 c.call.purpose refl found.1 in
       none_some d.0 (sym none ∙ (ap (λ o. option_and_then delta_written o) is ∙ d.1))
 
--- Its reads read and its writes write.
-reads_one : (x : Step) (s : Session) (m : Submitted) (j : ℕ) → (AtWork x s m j DecidingRead → m.call.op ≡ ReadSectors 1) × (AtWork x s m j VerifyRead → m.call.op ≡ ReadSectors 1)
-reads_one x s m j = ((λ h. (law_of x s m j DecidingRead h).1.reads), (λ h. (law_of x s m j VerifyRead h).1.reads))
-
-writes_first : (x : Step) (s : Session) (m : Submitted) (j : ℕ) → AtWork x s m j FirstRenewal → is_write m.call.op ≡ true
+-- A first renewal writes.
+pub writes_first : (x : Step) (s : Session) (m : Submitted) (j : ℕ) → AtWork x s m j FirstRenewal → is_write m.call.op ≡ true
 writes_first x s m j h =
     let law = law_of x s m j FirstRenewal h in
     let l : LawfulFirstRenewal x.setting (front_of law.0.made) s (made_as law.0.made) = law.1 in
     let wrote = then_value delta_of_record (record_of m.call.op) (delta_record (delta_of_session x.setting s) Live l.claim.generation (l.claim.seq + 1) (made_as law.0.made).reading no_bits) l.written in
     record_writes m.call.op wrote.0 wrote.1
+
+-- ---- after its answer
+
+-- Its job goes on, and its newest call is still the one that was answered.
+abbrev Stuck : Step → Session → Submitted → ℕ → DeltaNext → Type 0
+Stuck x s m j n = is_running (seen (carry_delta s n x)) j ≡ true → (ms : List Submitted) → calls_of (seen (carry_delta s n x)) s ≡ m ∷ ms → ⊥
+
+refused_stops : (x : Step) (j : ℕ) (r : Reply) → is_running (seen (refuse j r x)) j ≡ false
+unfolding refuse
+refused_stops x j r =
+    with_some_keeps (λ y. is_running (seen y) j ≡ false) (session_of_job x.setting (seen x) j) remove_of_refused (add_reply j r x)
+    (λ s is k. when_keeps (λ y. is_running (seen y) j ≡ false) (is_some (refused_after (seen (add_reply j r x)) s) && not (has_open_write (seen (add_reply j r x)) s)) (remove_connection s.lockspace) (add_reply j r x)
+    (λ gone g. when_keeps (λ y. is_running (seen y) j ≡ false) (is_registered x.setting (seen (add_reply j r x)) s.lockspace) (add_move (Unregister s.lockspace)) (add_reply j r x) (λ there f. f) g) k)
+    (reply_stops x j r)
+
+-- No call is newer than itself.
+call_is_newer : (y : Step) (s : Session) (path : List ℕ) (p : Purpose) (o : ℕ) (op : Op) (m : Submitted) (ms : List Submitted) → m.call.number < next_call y.setting (seen y) → calls_of (seen (add_call_of s.number path p o op y)) s ≡ m ∷ ms → ⊥
+call_is_newer y s path p o op m ms below are =
+    let made : Call = record { number = next_call y.setting (seen y); session = s.number; purpose = p; path = path; offset = o; op = op } in
+    let new : Submitted = new_call (length y.past) y.reading made in
+    let first : new ≡ m = head_is new m (calls_of (seen y) s) ms (sym (mine_more (entry_of y) y.past made s (number_itself s.number)) ∙ are) in
+    let same : next_call y.setting (seen y) ≡ m.call.number = ap (λ (k : Submitted). k.call.number) first in omega (arith, below, same)
+
+refuse_stuck : (x : Step) (s : Session) (m : Submitted) (j : ℕ) (r : Reply) → s.job ≡ Some j → Stuck x s m j (RefuseJoin r)
+unfolding carry_delta
+refuse_stuck x s m j r its runs ms are = not_both (is_running (seen (for_joining s (λ i. refuse i r) x)) j) runs (ap (λ o. is_running (seen (with_some o (λ i. refuse i r) x)) j) its ∙ refused_stops x j r)
+
+claim_stuck : (x : Step) (s : Session) (m : Submitted) (j : ℕ) (d : DeltaRec) → s.job ≡ Some j → m.call.number < next_call x.setting (seen x) → Stuck x s m j (WriteClaim d)
+unfolding carry_delta
+claim_stuck x s m j d its below runs ms are =
+    call_is_newer x s s.path (Joining j ClaimWrite) (own_offset x.setting s) (WriteRecord (DeltaIs d)) m ms below (sym (ap (λ o. calls_of (seen (with_some o (λ i. write_own_sector s (Joining i ClaimWrite) d) x)) s) its) ∙ are)
+
+first_stuck : (x : Step) (s : Session) (m : Submitted) (j : ℕ) (d : DeltaRec) → s.job ≡ Some j → m.call.number < next_call x.setting (seen x) → Stuck x s m j (WriteFirst d)
+unfolding carry_delta
+first_stuck x s m j d its below runs ms are =
+    call_is_newer x s s.path (Joining j FirstRenewal) (own_offset x.setting s) (WriteRecord (DeltaIs d)) m ms below (sym (ap (λ o. calls_of (seen (with_some o (λ i. write_own_sector s (Joining i FirstRenewal) d) x)) s) its) ∙ are)
+
+join_stuck : (x : Step) (s : Session) (m : Submitted) (j generation renewed : ℕ) → s.job ≡ Some j → Stuck x s m j (Join generation renewed)
+unfolding carry_delta
+join_stuck x s m j generation renewed its runs ms are =
+    not_both (is_running (seen (for_joining s (λ i y. survey s (add_reply i (Generation generation) (move_connection s renewed y))) x)) j) runs
+    (ap (λ o. is_running (seen (with_some o (λ i y. survey s (add_reply i (Generation generation) (move_connection s renewed y))) x)) j) its ∙ reply_stops (move_connection s renewed x) j (Generation generation))
+
+-- What a read that decides or verifies makes due leaves no joining stuck.
+decides_stuck : (x : Step) (s : Session) (m : Submitted) (j : ℕ) (bytes : List ℕ) → AtWork x s m j DecidingRead → s.job ≡ Some j → m.call.number < next_call x.setting (seen x)
+    → Stuck x s m j (next_after_deciding (delta_of_session x.setting s) (calls_of (seen x) s) x.reading bytes)
+unfolding next_after_deciding
+decides_stuck x s m j bytes h its below =
+    by (bytes_eq (watched (calls_of (seen x) s)) bytes) refl where
+  l : DeltaLease
+  l = delta_of_session x.setting s
+
+  claims : (d : DeltaRec) → Stuck x s m j (claim_on (delta_of_session x.setting s) x.reading d)
+  claims d =
+      on_bool (Stuck x s m j) (is_number (d.generation + 1)) (RefuseJoin (LimitReached GenLimit))
+      (elim (is_number (d.seq + 1)) [ false ↦ RefuseJoin (LimitReached SeqLimit) | true ↦ WriteClaim (delta_record (delta_of_session x.setting s) Claimed (d.generation + 1) (d.seq + 1) x.reading no_bits) ]) (refuse_stuck x s m j (LimitReached GenLimit) its)
+      (on_bool (Stuck x s m j) (is_number (d.seq + 1)) (RefuseJoin (LimitReached SeqLimit)) (WriteClaim (delta_record (delta_of_session x.setting s) Claimed (d.generation + 1) (d.seq + 1) x.reading no_bits)) (refuse_stuck x s m j (LimitReached SeqLimit) its)
+      (claim_stuck x s m j (delta_record (delta_of_session x.setting s) Claimed (d.generation + 1) (d.seq + 1) x.reading no_bits) its below))
+
+  spelled : (o : Option DeltaRec) → delta_in (record_in x.setting.layout bytes) ≡ o → (bytes_eq (watched (calls_of (seen x) s)) bytes ≡ true) → Stuck x s m j (elim o as (λ z. DeltaNext) [ None ↦ Nothing | Some d ↦ claim_on (delta_of_session x.setting s) x.reading d ])
+  spelled (Some d) is same = claims d
+  spelled None is same =
+      let found = decides_on x s m j h in
+      let eq : watched (calls_of (seen x) s) ≡ bytes = (bytes_eq-Decides (watched (calls_of (seen x) s)) bytes).0 same in
+      absurd (none_some found.0 (sym is ∙ (ap (λ b. delta_in (record_in x.setting.layout b)) (sym eq) ∙ found.1)))
+
+  by : (b : Bool) → bytes_eq (watched (calls_of (seen x) s)) bytes ≡ b
+      → Stuck x s m j (elim b as (λ z. DeltaNext) [ false ↦ RefuseJoin (id_held x.setting.layout (watched (calls_of (seen x) s)) bytes) | true ↦ elim (delta_in (record_in x.setting.layout bytes)) as (λ z. DeltaNext) [ None ↦ Nothing | Some d ↦ claim_on (delta_of_session x.setting s) x.reading d ] ])
+  by false other = refuse_stuck x s m j (id_held x.setting.layout (watched (calls_of (seen x) s)) bytes) its
+  by true same = spelled (delta_in (record_in x.setting.layout bytes)) refl same
+
+verifies_stuck : (x : Step) (s : Session) (m : Submitted) (j : ℕ) (bytes : List ℕ) → AtWork x s m j VerifyRead → s.job ≡ Some j → m.call.number < next_call x.setting (seen x)
+    → Stuck x s m j (next_after_verify (delta_of_session x.setting s) (calls_of (seen x) s) x.reading bytes)
+unfolding next_after_verify
+verifies_stuck x s m j bytes h its below = by (claim_of (calls_of (seen x) s)) refl where
+  by : (o : Option DeltaRec) → claim_of (calls_of (seen x) s) ≡ o
+      → Stuck x s m j (elim o as (λ z. DeltaNext) [
+        | None ↦ Nothing
+        | Some claim ↦ elim (bytes_eq bytes (sector_with x.setting.layout (DeltaIs claim))) as (λ z. DeltaNext) [
+          | false ↦ RefuseJoin (id_lost (delta_of_session x.setting s) claim bytes)
+          | true ↦ elim (is_number (claim.seq + 1)) as (λ z. DeltaNext) [
+            | false ↦ RefuseJoin (LimitReached SeqLimit)
+            | true ↦ WriteFirst (delta_record (delta_of_session x.setting s) Live claim.generation (claim.seq + 1) x.reading no_bits)
+          ]
+        ]
+      ])
+  by None none = absurd (verifies_claim x s m j h none)
+  by (Some claim) is =
+      on_bool (Stuck x s m j) (bytes_eq bytes (sector_with x.setting.layout (DeltaIs claim))) (RefuseJoin (id_lost (delta_of_session x.setting s) claim bytes))
+      (elim (is_number (claim.seq + 1)) [ false ↦ RefuseJoin (LimitReached SeqLimit) | true ↦ WriteFirst (delta_record (delta_of_session x.setting s) Live claim.generation (claim.seq + 1) x.reading no_bits) ]) (refuse_stuck x s m j (id_lost (delta_of_session x.setting s) claim bytes) its)
+      (on_bool (Stuck x s m j) (is_number (claim.seq + 1)) (RefuseJoin (LimitReached SeqLimit)) (WriteFirst (delta_record (delta_of_session x.setting s) Live claim.generation (claim.seq + 1) x.reading no_bits)) (refuse_stuck x s m j (LimitReached SeqLimit) its)
+      (first_stuck x s m j (delta_record (delta_of_session x.setting s) Live claim.generation (claim.seq + 1) x.reading no_bits) its below))
+
+-- A joining whose newest call was answered and is its newest still waits for a wake.
+pub goes_on_or_waits : (x : Step) (s : Session) (m : Submitted) (j : ℕ) (step : JoinStep) (answer : Answer) (generation : ℕ) → AtWork x s m j step → s.job ≡ Some j → m.call.number < next_call x.setting (seen x)
+    → IsTrue (is_answer_for x.setting answer m.call.op) → is_running (seen (carry_delta s (next_in_joining (delta_of_session x.setting s) generation (calls_of (seen x) s) x.reading m step answer) x)) j ≡ true
+    → (ms : List Submitted) → calls_of (seen (carry_delta s (next_in_joining (delta_of_session x.setting s) generation (calls_of (seen x) s) x.reading m step answer) x)) s ≡ m ∷ ms → IsTrue (is_waiting_step (Joining j step))
+unfolding next_in_joining
+goes_on_or_waits x s m j FirstRead answer generation h its below fits runs ms are = refl
+goes_on_or_waits x s m j WatchRead answer generation h its below fits runs ms are = refl
+goes_on_or_waits x s m j ClaimWrite answer generation h its below fits runs ms are = refl
+goes_on_or_waits x s m j DecidingRead (Read bytes) generation h its below fits runs ms are = absurd (decides_stuck x s m j bytes h its below runs ms are)
+goes_on_or_waits x s m j VerifyRead (Read bytes) generation h its below fits runs ms are = absurd (verifies_stuck x s m j bytes h its below runs ms are)
+goes_on_or_waits x s m j FirstRenewal (Read bytes) generation h its below fits runs ms are = absurd (no_read m.call.op (writes_first x s m j h) fits) where
+  no_read : (o : Op) → is_write o ≡ true → is_answer_for x.setting (Read bytes) o ≡ true → ⊥
+  no_read (ReadSectors n) writes f = false_is_true writes
+  no_read (WriteRecord r) writes f = false_is_true f
+goes_on_or_waits x s m j DecidingRead Written generation h its below fits runs ms are = absurd (false_is_true (sym (ap (λ o. is_answer_for x.setting Written o) (law_of x s m j DecidingRead h).1.reads) ∙ fits))
+goes_on_or_waits x s m j VerifyRead Written generation h its below fits runs ms are = absurd (false_is_true (sym (ap (λ o. is_answer_for x.setting Written o) (law_of x s m j VerifyRead h).1.reads) ∙ fits))
+goes_on_or_waits x s m j FirstRenewal Written generation h its below fits runs ms are = absurd (join_stuck x s m j generation m.reading its runs ms are)
+goes_on_or_waits x s m j DecidingRead Failed generation h its below fits runs ms are = absurd (refuse_stuck x s m j (IoFault m.call.number) its runs ms are)
+goes_on_or_waits x s m j VerifyRead Failed generation h its below fits runs ms are = absurd (refuse_stuck x s m j (IoFault m.call.number) its runs ms are)
+goes_on_or_waits x s m j FirstRenewal Failed generation h its below fits runs ms are = absurd (refuse_stuck x s m j (IoFault m.call.number) its runs ms are)
+
+-- And where its job runs on, the answer was ok.
+pub goes_on_ok : (x : Step) (s : Session) (m : Submitted) (j : ℕ) (step : JoinStep) (answer : Answer) (generation : ℕ) → s.job ≡ Some j
+    → is_running (seen (carry_delta s (next_in_joining (delta_of_session x.setting s) generation (calls_of (seen x) s) x.reading m step answer) x)) j ≡ true → IsTrue (is_ok_answer answer)
+unfolding next_in_joining carry_delta
+goes_on_ok x s m j step (Read bytes) generation its runs = refl
+goes_on_ok x s m j step Written generation its runs = refl
+goes_on_ok x s m j step Failed generation its runs =
+    absurd (not_both (is_running (seen (for_joining s (λ i. refuse i (IoFault m.call.number)) x)) j) runs (ap (λ o. is_running (seen (with_some o (λ i. refuse i (IoFault m.call.number)) x)) j) its ∙ refused_stops x j (IoFault m.call.number)))

@@ -4,3 +4,4 @@ pub mod NamesAreAllowed
 pub mod NameActs
 pub mod NameFactsAreKept
 pub mod JoiningsGoOn
+pub mod NamesAtEnd
