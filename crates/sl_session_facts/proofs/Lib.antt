@@ -5,3 +5,4 @@ pub mod NameActs
 pub mod NameFactsAreKept
 pub mod JoiningsGoOn
 pub mod NamesAtEnd
+pub mod NameFactsConclude

@@ -64,14 +64,14 @@ grows_late x y r h may n a is = by (may n a (sym h.input ∙ is)) where
   by (inl after) = inl after
   by (inr none) = inr (λ m there its. none m (subst (λ es. Contains (submitted es) m) h.before there) its)
 
-grown : (x y : Step) → Growing x y → Grown x y
+pub grown : (x y : Step) → Growing x y → Grown x y
 grown x y h = record { setting = h.setting; input = h.input; sessions = h.sessions; calls = λ m there below. subst (λ ms. Contains ms m) h.calls there; running = h.running }
 
-growing_itself : (x : Step) → Growing x x
+pub growing_itself : (x : Step) → Growing x x
 growing_itself x = record { setting = refl; before = refl; input = refl; sessions = refl; calls = refl; running = λ n is. is }
 
 -- A call has a number that none had.
-call_grown : (x y : Step) (s : Session) (path : List ℕ) (p : Purpose) (o : ℕ) (op : Op) → is_join_call FirstRead p ≡ false → Growing x y → Grown x (add_call_of s.number path p o op y)
+pub call_grown : (x y : Step) (s : Session) (path : List ℕ) (p : Purpose) (o : ℕ) (op : Op) → is_join_call FirstRead p ≡ false → Growing x y → Grown x (add_call_of s.number path p o op y)
 call_grown x y s path p o op no_look h =
     record {
       setting = h.setting;
@@ -92,10 +92,10 @@ call_grown x y s path p o op no_look h =
       let next : next_call y.setting (seen y) ≡ next_call x.setting (seen x) = ap₂ (λ (st : Setting) ms. st.first.call + length ms) h.setting h.calls in
       let same : next_call y.setting (seen y) ≡ m.call.number = ap (λ (k : Submitted). k.call.number) is in absurd (omega (arith, below, next, same))
 
-abbrev AnyCall : Step → Session → List ℕ → Purpose → ℕ → Op → Type 0
+abbrev pub AnyCall : Step → Session → List ℕ → Purpose → ℕ → Op → Type 0
 AnyCall x s path p o op = is_join_call FirstRead p ≡ false
 
-grows : (x : Step) (C : Session → List ℕ → Purpose → ℕ → Op → Type 0) → ((s : Session) (path : List ℕ) (p : Purpose) (o : ℕ) (op : Op) → C s path p o op → is_join_call FirstRead p ≡ false)
+pub grows : (x : Step) (C : Session → List ℕ → Purpose → ℕ → Op → Type 0) → ((s : Session) (path : List ℕ) (p : Purpose) (o : ℕ) (op : Op) → C s path p o op → is_join_call FirstRead p ≡ false)
     → Allows (Growing x) (Grown x) (NameReply x) C AnyStart AnyMove
 grows x C c =
     record {
@@ -116,10 +116,10 @@ grows x C c =
       rest = λ y h. grown x y h;
     }
 
-grows_named : (x : Step) → Allows (Growing x) (Grown x) (NameReply x) (NameCall x) AnyStart AnyMove
+pub grows_named : (x : Step) → Allows (Growing x) (Grown x) (NameReply x) (NameCall x) AnyStart AnyMove
 grows_named x = grows x (NameCall x) (λ s path p o op may. may.2)
 
-grows_joining : (x : Step) (s : Session) (n : DeltaNext) → ((r : Reply) → is_before_input r ≡ false → IsLate x r) → IsLateDelta n → DeltaAllowed (NameReply x) (AnyCall x) AnyMove x s n
+pub grows_joining : (x : Step) (s : Session) (n : DeltaNext) → ((r : Reply) → is_before_input r ≡ false → IsLate x r) → IsLateDelta n → DeltaAllowed (NameReply x) (AnyCall x) AnyMove x s n
 grows_joining x s Nothing after k = tt
 grows_joining x s (RefuseJoin r) after k = λ j its. (after r k, λ z is. tt)
 grows_joining x s (ReadOwn step) after k = λ j its. k
@@ -189,12 +189,12 @@ pub running_unjoined : (t : Trace) (s : Session) (j : ℕ) → s.job ≡ Some j 
 running_unjoined t s j its runs = joined_of t s j its ∙ ap (λ o. option_and_then (λ (r : Replied). choose (is_join_done r.reply) (r.at + 1)) o) (none_is (reply_to t j) runs)
 
 -- The heard call is the one that is found, and its session too.
-heard_is : (x y : Step) (n : ℕ) (s : Session) (i : ℕ) (m k : Submitted) → HasCallFacts x → HeardJoining x y n s i m → call_numbered (seen x) n ≡ Some k → m ≡ k
+pub heard_is : (x y : Step) (n : ℕ) (s : Session) (i : ℕ) (m k : Submitted) → HasCallFacts x → HeardJoining x y n s i m → call_numbered (seen x) n ≡ Some k → m ≡ k
 heard_is x y n s i m k f h found =
     let mine = kept_inside (is_call_of s) (submitted (seen x)) m h.there in
     one_value m k (call_numbered (seen x) n) (subst (λ q. call_numbered (seen x) q ≡ Some m) h.number (f.found m mine.0)) found
 
-below_of : (x : Step) (n : ℕ) (k : Submitted) → HasCallFacts x → call_numbered (seen x) n ≡ Some k → n < next_call x.setting (seen x)
+pub below_of : (x : Step) (n : ℕ) (k : Submitted) → HasCallFacts x → call_numbered (seen x) n ≡ Some k → n < next_call x.setting (seen x)
 below_of x n k f found =
     let its = find_inside (λ (z : Submitted). z.call.number == n) (submitted (seen x)) k found in subst (λ q. q < next_call x.setting (seen x)) (eqb-true k.call.number n its.1) (f.below k its.0)
 
