@@ -86,7 +86,7 @@ reply_refuses_more y j r s k is = by s.job refl where
       refused_of (seen (add_reply j r y)) s i its ∙ (ap (λ o. option_and_then (λ (q : Replied). choose (not (is_join_done q.reply)) (q.at + 1)) o) (reply_kept_to y j r i was.0 was.1) ∙ was.2)
 
 -- A session that is neither joined nor refused is present.
-at_work_present : (joined removed refused : Option ℕ) (writes : Bool) → joined ≡ None → refused ≡ None → present_by joined removed refused writes ≡ true
+pub at_work_present : (joined removed refused : Option ℕ) (writes : Bool) → joined ≡ None → refused ≡ None → present_by joined removed refused writes ≡ true
 at_work_present None removed None writes a b = refl
 at_work_present (Some k) removed refused writes a b = absurd (none_some k (sym a))
 at_work_present None removed (Some k) writes a b = absurd (none_some k (sym b))

@@ -65,7 +65,7 @@ use Rattle.std.proofs.lemmas.Bool.{eqb-true}
 use Rattle.std.specs.Prelude.{Bool, Contains, List, None, Ok, Option, Some, [], false, is_some, length, not, option_and_then, true, ℕ, ◌&&◌, ◌+◌, ◌-◌, ◌==◌, ◌∷◌, ◌≡◌, ◌⊎◌}
 
 -- Who holds is joined.
-holder_joined : (x : Step) (s : Session) (spot : Spot) (g : Grant) → Whole x → Has x s → Contains (holdings_on (seen x) s spot) g → is_some (joined_after (seen x) s) ≡ true
+pub holder_joined : (x : Step) (s : Session) (spot : Spot) (g : Grant) → Whole x → Has x s → Contains (holdings_on (seen x) s spot) g → is_some (joined_after (seen x) s) ≡ true
 holder_joined x s spot g h has there =
     let under = kept_inside (λ (z : Grant). same_place z.path z.offset spot.path spot.base) (holdings_of (seen x) s) g there in
     let held = kept_inside (λ (z : Grant). z.session == s.number) (holdings (seen x)) g under.0 in

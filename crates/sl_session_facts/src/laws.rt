@@ -1,0 +1,18 @@
+//! What is known of the names of sessions and of their joinings holds at each moment of a step.
+
+ghost use Rattle.sl_session_facts.specs.Promises.{NameFactsAreKept, NameFactsBegin, NameFactsConclude};
+
+/// No two sessions that are present have one name, and a joining that runs goes on, after each act.
+pub fn name_facts_are_kept()
+    ensures { NameFactsAreKept }
+{}
+
+/// So it is once a step has begun.
+pub fn name_facts_begin()
+    ensures { NameFactsBegin }
+{}
+
+/// Where all that an answer makes due is done, no joining waits for it.
+pub fn name_facts_conclude()
+    ensures { NameFactsConclude }
+{}
