@@ -51,7 +51,7 @@ use Rattle.sl_words.specs.Bounds.{is_number}
 use Rattle.std.proofs.Common.{ap, arith, inl, inr, refl, subst, sym, ◌∙◌}
 use Rattle.std.proofs.lemmas.Bool.{eqb-true}
 use Rattle.std.proofs.lemmas.Slice.Eq.{bytes_eq-Decides}
-use Rattle.std.specs.Prelude.{Bool, Contains, IsTrue, List, None, Option, Some, [], bytes_eq, cond, false, is_some, length, not, option_and_then, true, unwrap_or, ℕ, ◌&&◌, ◌+◌, ◌-◌, ◌<◌, ◌∷◌, ◌≡◌, ◌⊎◌}
+use Rattle.std.specs.Prelude.{Bool, Contains, IsTrue, List, None, Option, Some, [], bytes_eq, cond, false, is_some, length, not, option_and_then, true, unwrap_or, ℕ, ◌&&◌, ◌+◌, ◌<◌, ◌∷◌, ◌≡◌, ◌⊎◌}
 
 -- ---- what was read and claimed before
 
@@ -237,27 +237,27 @@ decides_stuck : (x : Step) (s : Session) (m : Submitted) (j : ℕ) (bytes : List
 unfolding next_after_deciding
 decides_stuck x s m j bytes h its below =
     by (bytes_eq (watched (calls_of (seen x) s)) bytes) refl where
-  l : DeltaLease
-  l = delta_of_session x.setting s
+      l : DeltaLease
+      l = delta_of_session x.setting s
 
-  claims : (d : DeltaRec) → Stuck x s m j (claim_on (delta_of_session x.setting s) x.reading d)
-  claims d =
-      on_bool (Stuck x s m j) (is_number (d.generation + 1)) (RefuseJoin (LimitReached GenLimit))
-      (elim (is_number (d.seq + 1)) [ false ↦ RefuseJoin (LimitReached SeqLimit) | true ↦ WriteClaim (delta_record (delta_of_session x.setting s) Claimed (d.generation + 1) (d.seq + 1) x.reading no_bits) ]) (refuse_stuck x s m j (LimitReached GenLimit) its)
-      (on_bool (Stuck x s m j) (is_number (d.seq + 1)) (RefuseJoin (LimitReached SeqLimit)) (WriteClaim (delta_record (delta_of_session x.setting s) Claimed (d.generation + 1) (d.seq + 1) x.reading no_bits)) (refuse_stuck x s m j (LimitReached SeqLimit) its)
-      (claim_stuck x s m j (delta_record (delta_of_session x.setting s) Claimed (d.generation + 1) (d.seq + 1) x.reading no_bits) its below))
+      claims : (d : DeltaRec) → Stuck x s m j (claim_on (delta_of_session x.setting s) x.reading d)
+      claims d =
+          on_bool (Stuck x s m j) (is_number (d.generation + 1)) (RefuseJoin (LimitReached GenLimit))
+          (elim (is_number (d.seq + 1)) [ false ↦ RefuseJoin (LimitReached SeqLimit) | true ↦ WriteClaim (delta_record (delta_of_session x.setting s) Claimed (d.generation + 1) (d.seq + 1) x.reading no_bits) ]) (refuse_stuck x s m j (LimitReached GenLimit) its)
+          (on_bool (Stuck x s m j) (is_number (d.seq + 1)) (RefuseJoin (LimitReached SeqLimit)) (WriteClaim (delta_record (delta_of_session x.setting s) Claimed (d.generation + 1) (d.seq + 1) x.reading no_bits)) (refuse_stuck x s m j (LimitReached SeqLimit) its)
+          (claim_stuck x s m j (delta_record (delta_of_session x.setting s) Claimed (d.generation + 1) (d.seq + 1) x.reading no_bits) its below))
 
-  spelled : (o : Option DeltaRec) → delta_in (record_in x.setting.layout bytes) ≡ o → (bytes_eq (watched (calls_of (seen x) s)) bytes ≡ true) → Stuck x s m j (elim o as (λ z. DeltaNext) [ None ↦ Nothing | Some d ↦ claim_on (delta_of_session x.setting s) x.reading d ])
-  spelled (Some d) is same = claims d
-  spelled None is same =
-      let found = decides_on x s m j h in
-      let eq : watched (calls_of (seen x) s) ≡ bytes = (bytes_eq-Decides (watched (calls_of (seen x) s)) bytes).0 same in
-      absurd (none_some found.0 (sym is ∙ (ap (λ b. delta_in (record_in x.setting.layout b)) (sym eq) ∙ found.1)))
+      spelled : (o : Option DeltaRec) → delta_in (record_in x.setting.layout bytes) ≡ o → (bytes_eq (watched (calls_of (seen x) s)) bytes ≡ true) → Stuck x s m j (elim o as (λ z. DeltaNext) [ None ↦ Nothing | Some d ↦ claim_on (delta_of_session x.setting s) x.reading d ])
+      spelled (Some d) is same = claims d
+      spelled None is same =
+          let found = decides_on x s m j h in
+          let eq : watched (calls_of (seen x) s) ≡ bytes = (bytes_eq-Decides (watched (calls_of (seen x) s)) bytes).0 same in
+          absurd (none_some found.0 (sym is ∙ (ap (λ b. delta_in (record_in x.setting.layout b)) (sym eq) ∙ found.1)))
 
-  by : (b : Bool) → bytes_eq (watched (calls_of (seen x) s)) bytes ≡ b
-      → Stuck x s m j (elim b as (λ z. DeltaNext) [ false ↦ RefuseJoin (id_held x.setting.layout (watched (calls_of (seen x) s)) bytes) | true ↦ elim (delta_in (record_in x.setting.layout bytes)) as (λ z. DeltaNext) [ None ↦ Nothing | Some d ↦ claim_on (delta_of_session x.setting s) x.reading d ] ])
-  by false other = refuse_stuck x s m j (id_held x.setting.layout (watched (calls_of (seen x) s)) bytes) its
-  by true same = spelled (delta_in (record_in x.setting.layout bytes)) refl same
+      by : (b : Bool) → bytes_eq (watched (calls_of (seen x) s)) bytes ≡ b
+          → Stuck x s m j (elim b as (λ z. DeltaNext) [ false ↦ RefuseJoin (id_held x.setting.layout (watched (calls_of (seen x) s)) bytes) | true ↦ elim (delta_in (record_in x.setting.layout bytes)) as (λ z. DeltaNext) [ None ↦ Nothing | Some d ↦ claim_on (delta_of_session x.setting s) x.reading d ] ])
+      by false other = refuse_stuck x s m j (id_held x.setting.layout (watched (calls_of (seen x) s)) bytes) its
+      by true same = spelled (delta_in (record_in x.setting.layout bytes)) refl same
 
 verifies_stuck : (x : Step) (s : Session) (m : Submitted) (j : ℕ) (bytes : List ℕ) → AtWork x s m j VerifyRead → s.job ≡ Some j → m.call.number < next_call x.setting (seen x)
     → Stuck x s m j (next_after_verify (delta_of_session x.setting s) (calls_of (seen x) s) x.reading bytes)

@@ -54,7 +54,7 @@ use Rattle.std.proofs.Common.{ap, arith, inl, inr, refl, subst, sym, ◌∙◌}
 use Rattle.std.proofs.lemmas.Bool.{eqb-true}
 use Rattle.std.proofs.lemmas.Option.{slice_get_within}
 use Rattle.std.specs.List.{list_any}
-use Rattle.std.specs.Prelude.{Contains, IsTrue, List, None, Ok, Some, [], false, is_some, length, not, option_and_then, slice_get, true, ℕ, ◌++◌, ◌+◌, ◌-◌, ◌<◌, ◌==◌, ◌∷◌, ◌≡◌, ◌⊎◌}
+use Rattle.std.specs.Prelude.{Contains, IsTrue, List, None, Ok, Some, [], false, is_some, length, not, option_and_then, true, ℕ, ◌++◌, ◌+◌, ◌<◌, ◌==◌, ◌∷◌, ◌≡◌, ◌⊎◌}
 
 -- ---- joinings
 
@@ -117,90 +117,90 @@ begun_named x text c n a wake bare says adds next unnamed f g =
       done = λ s j m b there its runs inside is other. done s j m b its runs inside is other (which s there);
       waits = λ s j m ms there its runs are answered other. waits s j m ms its runs are answered other (which s there);
     } where
-  w : Step
-  w = with_input (Line text) x
+      w : Step
+      w = with_input (Line text) x
 
-  h : HasNameFacts (with_input (Line text) x)
-  h = input_names x (Line text) wake bare g
+      h : HasNameFacts (with_input (Line text) x)
+      h = input_names x (Line text) wake bare g
 
-  new : Session
-  new = joining_session n (next_job x.setting (seen x)) a
+      new : Session
+      new = joining_session n (next_job x.setting (seen x)) a
 
-  made : Call
-  made = record { number = next_call x.setting (seen (with_input (Line text) x)); session = n; purpose = Joining (next_job x.setting (seen x)) FirstRead; path = a.path; offset = delta_offset x.setting.layout a.offset a.id; op = ReadSectors 1 }
+      made : Call
+      made = record { number = next_call x.setting (seen (with_input (Line text) x)); session = n; purpose = Joining (next_job x.setting (seen x)) FirstRead; path = a.path; offset = delta_offset x.setting.layout a.offset a.id; op = ReadSectors 1 }
 
-  call : Submitted
-  call = new_call (length x.past) x.reading made
+      call : Submitted
+      call = new_call (length x.past) x.reading made
 
-  y : Step
-  y = add_call_of n a.path (Joining (next_job x.setting (seen x)) FirstRead) (delta_offset x.setting.layout a.offset a.id) (ReadSectors 1) (with_input (Line text) x)
+      y : Step
+      y = add_call_of n a.path (Joining (next_job x.setting (seen x)) FirstRead) (delta_offset x.setting.layout a.offset a.id) (ReadSectors 1) (with_input (Line text) x)
 
-  grown : sessions x.setting (seen y) ≡ sessions x.setting (seen w) ++ new ∷ []
-  grown = begun_sessions x text n a made wake bare (says ∙ ap (λ z. Ok z) adds) next refl
+      grown : sessions x.setting (seen y) ≡ sessions x.setting (seen w) ++ new ∷ []
+      grown = begun_sessions x text n a made wake bare (says ∙ ap (λ z. Ok z) adds) next refl
 
-  which : (s : Session) → Contains (sessions x.setting (seen y)) s → Contains (sessions x.setting (seen w)) s ⊎ (new ≡ s)
-  which s there = contains_last (sessions x.setting (seen w)) new s (subst (λ ss. Contains ss s) grown there)
+      which : (s : Session) → Contains (sessions x.setting (seen y)) s → Contains (sessions x.setting (seen w)) s ⊎ (new ≡ s)
+      which s there = contains_last (sessions x.setting (seen w)) new s (subst (λ ss. Contains ss s) grown there)
 
-  last : n ≡ length (sessions x.setting (seen w))
-  last = next ∙ ap (λ ss. length ss) (sym (sessions_told x (Line text) bare))
+      last : n ≡ length (sessions x.setting (seen w))
+      last = next ∙ ap (λ ss. length ss) (sym (sessions_told x (Line text) bare))
 
-  -- the numbers of the sessions before are below
-  old_other : (s : Session) → Contains (sessions x.setting (seen w)) s → (n == s.number) ≡ false
-  old_other s there =
-      let at = contains_at (sessions x.setting (seen w)) s there in
-      let place : s.number ≡ at.0 = number_is_place x.setting (seen w) at.0 s at.1 in
-      let low : at.0 < length (sessions x.setting (seen w)) = slice_get_within (sessions x.setting (seen w)) at.0 s at.1 in
-      more_is_other s.number n (subst (λ k. k < n) (sym place) (subst (λ k. at.0 < k) (sym last) low))
+      -- the numbers of the sessions before are below
+      old_other : (s : Session) → Contains (sessions x.setting (seen w)) s → (n == s.number) ≡ false
+      old_other s there =
+          let at = contains_at (sessions x.setting (seen w)) s there in
+          let place : s.number ≡ at.0 = number_is_place x.setting (seen w) at.0 s at.1 in
+          let low : at.0 < length (sessions x.setting (seen w)) = slice_get_within (sessions x.setting (seen w)) at.0 s at.1 in
+          more_is_other s.number n (subst (λ k. k < n) (sym place) (subst (λ k. at.0 < k) (sym last) low))
 
-  calls_old : (s : Session) → Contains (sessions x.setting (seen w)) s → calls_of (seen y) s ≡ calls_of (seen w) s
-  calls_old s there = others_stay (entry_of w) x.past made s (old_other s there)
+      calls_old : (s : Session) → Contains (sessions x.setting (seen w)) s → calls_of (seen y) s ≡ calls_of (seen w) s
+      calls_old s there = others_stay (entry_of w) x.past made s (old_other s there)
 
-  calls_new : calls_of (seen y) new ≡ call ∷ calls_of (seen w) new
-  calls_new = mine_more (entry_of w) x.past made new (number_itself n)
+      calls_new : calls_of (seen y) new ≡ call ∷ calls_of (seen w) new
+      calls_new = mine_more (entry_of w) x.past made new (number_itself n)
 
-  -- no call was made by the new number
-  none_before : (m : Submitted) → Contains (calls_of (seen w) new) m → ⊥
-  none_before m there =
-      let its = kept_inside (is_call_of new) (submitted (seen w)) m there in
-      let owner = some_of (session_numbered x.setting (seen w) m.call.session) ((input_kept x (Line text) wake bare refl f).owned m its.0) in
-      let low : m.call.session < length (sessions x.setting (seen w)) = slice_get_within (sessions x.setting (seen w)) m.call.session owner.0 owner.1 in
-      let is : m.call.session ≡ n = eqb-true m.call.session n its.1 in omega (arith, low, is, last)
+      -- no call was made by the new number
+      none_before : (m : Submitted) → Contains (calls_of (seen w) new) m → ⊥
+      none_before m there =
+          let its = kept_inside (is_call_of new) (submitted (seen w)) m there in
+          let owner = some_of (session_numbered x.setting (seen w) m.call.session) ((input_kept x (Line text) wake bare refl f).owned m its.0) in
+          let low : m.call.session < length (sessions x.setting (seen w)) = slice_get_within (sessions x.setting (seen w)) m.call.session owner.0 owner.1 in
+          let is : m.call.session ≡ n = eqb-true m.call.session n its.1 in omega (arith, low, is, last)
 
-  before : (s : Session) → Contains (present_sessions x.setting (seen y)) s → Contains (present_sessions x.setting (seen w)) s ⊎ (new ≡ s)
-  before s there =
-      let is = present_is x.setting (seen y) s there in by (which s is.0) is.1 where
-    by : Contains (sessions x.setting (seen w)) s ⊎ (new ≡ s) → is_present (seen y) s ≡ true → Contains (present_sessions x.setting (seen w)) s ⊎ (new ≡ s)
-    by (inr one) present = inr one
-    by (inl old) present =
-        inl (present_inside x.setting (seen w) s old (sym (ap (λ ms. present_by (joined_after (seen w) s) (removed_after (seen w) s) (refused_after (seen w) s) (list_any (λ (m : Submitted). is_write m.call.op) (unanswered ms))) (calls_old s old)) ∙ present))
+      before : (s : Session) → Contains (present_sessions x.setting (seen y)) s → Contains (present_sessions x.setting (seen w)) s ⊎ (new ≡ s)
+      before s there =
+          let is = present_is x.setting (seen y) s there in by (which s is.0) is.1 where
+            by : Contains (sessions x.setting (seen w)) s ⊎ (new ≡ s) → is_present (seen y) s ≡ true → Contains (present_sessions x.setting (seen w)) s ⊎ (new ≡ s)
+            by (inr one) present = inr one
+            by (inl old) present =
+                inl (present_inside x.setting (seen w) s old (sym (ap (λ ms. present_by (joined_after (seen w) s) (removed_after (seen w) s) (refused_after (seen w) s) (list_any (λ (m : Submitted). is_write m.call.op) (unanswered ms))) (calls_old s old)) ∙ present))
 
-  -- no session that was present has the name
-  taken : (s : Session) → Contains (present_sessions x.setting (seen w)) s → a.name ≡ s.lockspace → ⊥
-  taken s there same =
-      let is = present_is x.setting (seen w) s there in
-      absent x.setting (seen x) a.name s (subst (λ ss. Contains ss s) (sessions_told x (Line text) bare) is.0) (sym same) unnamed (input_present x (Line text) s wake bare is.1)
+      -- no session that was present has the name
+      taken : (s : Session) → Contains (present_sessions x.setting (seen w)) s → a.name ≡ s.lockspace → ⊥
+      taken s there same =
+          let is = present_is x.setting (seen w) s there in
+          absent x.setting (seen x) a.name s (subst (λ ss. Contains ss s) (sessions_told x (Line text) bare) is.0) (sym same) unnamed (input_present x (Line text) s wake bare is.1)
 
-  apart : (p q : Session) → Contains (present_sessions x.setting (seen w)) p ⊎ (new ≡ p) → Contains (present_sessions x.setting (seen w)) q ⊎ (new ≡ q) → p.lockspace ≡ q.lockspace → p ≡ q
-  apart p q (inl first) (inl second) same = h.apart p q first second same
-  apart p q (inr one) (inr other) same = sym one ∙ other
-  apart p q (inl first) (inr other) same = absurd (taken p first (ap (λ (z : Session). z.lockspace) other ∙ sym same))
-  apart p q (inr one) (inl second) same = absurd (taken q second (ap (λ (z : Session). z.lockspace) one ∙ same))
+      apart : (p q : Session) → Contains (present_sessions x.setting (seen w)) p ⊎ (new ≡ p) → Contains (present_sessions x.setting (seen w)) q ⊎ (new ≡ q) → p.lockspace ≡ q.lockspace → p ≡ q
+      apart p q (inl first) (inl second) same = h.apart p q first second same
+      apart p q (inr one) (inr other) same = sym one ∙ other
+      apart p q (inl first) (inr other) same = absurd (taken p first (ap (λ (z : Session). z.lockspace) other ∙ sym same))
+      apart p q (inr one) (inl second) same = absurd (taken q second (ap (λ (z : Session). z.lockspace) one ∙ same))
 
-  begun : (s : Session) (j : ℕ) → s.job ≡ Some j → Contains (sessions x.setting (seen w)) s ⊎ (new ≡ s) → is_empty (calls_of (seen y) s) ≡ false
-  begun s j its (inl old) = ap (λ ms. is_empty ms) (calls_old s old) ∙ h.begun s j old its
-  begun s j its (inr one) = subst (λ (z : Session). is_empty (calls_of (seen y) z) ≡ false) one (ap (λ ms. is_empty ms) calls_new)
+      begun : (s : Session) (j : ℕ) → s.job ≡ Some j → Contains (sessions x.setting (seen w)) s ⊎ (new ≡ s) → is_empty (calls_of (seen y) s) ≡ false
+      begun s j its (inl old) = ap (λ ms. is_empty ms) (calls_old s old) ∙ h.begun s j old its
+      begun s j its (inr one) = subst (λ (z : Session). is_empty (calls_of (seen y) z) ≡ false) one (ap (λ ms. is_empty ms) calls_new)
 
-  done : (s : Session) (j : ℕ) (m : Submitted) (b : Answered) → s.job ≡ Some j → is_running (seen w) j ≡ true → Contains (calls_of (seen y) s) m → m.answer ≡ Some b → (None ≡ Some m.call.number → ⊥) → Contains (sessions x.setting (seen w)) s ⊎ (new ≡ s)
-      → IsTrue (is_ok_answer b.answer)
-  done s j m b its runs inside is other (inl old) = h.done s j m b old its runs (subst (λ ms. Contains ms m) (calls_old s old) inside) is other
-  done s j m b its runs inside is other (inr one) = by (contains_cases call (calls_of (seen w) new) m (subst (λ ms. Contains ms m) calls_new (subst (λ (z : Session). Contains (calls_of (seen y) z) m) (sym one) inside))) where
-    by : (call ≡ m) ⊎ Contains (calls_of (seen w) new) m → IsTrue (is_ok_answer b.answer)
-    by (inl first) = absurd (none_some b (ap (λ (k : Submitted). k.answer) first ∙ is))
-    by (inr old) = absurd (none_before m old)
+      done : (s : Session) (j : ℕ) (m : Submitted) (b : Answered) → s.job ≡ Some j → is_running (seen w) j ≡ true → Contains (calls_of (seen y) s) m → m.answer ≡ Some b → (None ≡ Some m.call.number → ⊥) → Contains (sessions x.setting (seen w)) s ⊎ (new ≡ s)
+          → IsTrue (is_ok_answer b.answer)
+      done s j m b its runs inside is other (inl old) = h.done s j m b old its runs (subst (λ ms. Contains ms m) (calls_old s old) inside) is other
+      done s j m b its runs inside is other (inr one) = by (contains_cases call (calls_of (seen w) new) m (subst (λ ms. Contains ms m) calls_new (subst (λ (z : Session). Contains (calls_of (seen y) z) m) (sym one) inside))) where
+        by : (call ≡ m) ⊎ Contains (calls_of (seen w) new) m → IsTrue (is_ok_answer b.answer)
+        by (inl first) = absurd (none_some b (ap (λ (k : Submitted). k.answer) first ∙ is))
+        by (inr old) = absurd (none_before m old)
 
-  waits : (s : Session) (j : ℕ) (m : Submitted) (ms : List Submitted) → s.job ≡ Some j → is_running (seen w) j ≡ true → calls_of (seen y) s ≡ m ∷ ms → is_some m.answer ≡ true → (None ≡ Some m.call.number → ⊥) → Contains (sessions x.setting (seen w)) s ⊎ (new ≡ s)
-      → IsTrue (is_waiting_step m.call.purpose)
-  waits s j m ms its runs are answered other (inl old) = h.waits s j m ms old its runs (sym (calls_old s old) ∙ are) answered other
-  waits s j m ms its runs are answered other (inr one) =
-      let first : call ≡ m = head_is call m (calls_of (seen w) new) ms (sym calls_new ∙ (ap (λ (z : Session). calls_of (seen y) z) one ∙ are)) in
-      absurd (false_is_true (ap (λ (k : Submitted). is_some k.answer) first ∙ answered))
+      waits : (s : Session) (j : ℕ) (m : Submitted) (ms : List Submitted) → s.job ≡ Some j → is_running (seen w) j ≡ true → calls_of (seen y) s ≡ m ∷ ms → is_some m.answer ≡ true → (None ≡ Some m.call.number → ⊥) → Contains (sessions x.setting (seen w)) s ⊎ (new ≡ s)
+          → IsTrue (is_waiting_step m.call.purpose)
+      waits s j m ms its runs are answered other (inl old) = h.waits s j m ms old its runs (sym (calls_old s old) ∙ are) answered other
+      waits s j m ms its runs are answered other (inr one) =
+          let first : call ≡ m = head_is call m (calls_of (seen w) new) ms (sym calls_new ∙ (ap (λ (z : Session). calls_of (seen y) z) one ∙ are)) in
+          absurd (false_is_true (ap (λ (k : Submitted). is_some k.answer) first ∙ answered))

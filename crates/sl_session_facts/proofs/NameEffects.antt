@@ -23,7 +23,7 @@ use Rattle.std.proofs.lemmas.Bool.{eqb-true}
 use Rattle.std.proofs.lemmas.List.Folds.{find-append}
 use Rattle.std.specs.List.{list_any}
 use Rattle.std.specs.Option.{option_or}
-use Rattle.std.specs.Prelude.{Bool, List, None, Option, Some, [], false, filter, find, is_none, is_some, length, not, option_and_then, option_map, true, ℕ, ◌&&◌, ◌+◌, ◌-◌, ◌==◌, ◌||◌, ◌∷◌, ◌≡◌}
+use Rattle.std.specs.Prelude.{Bool, List, None, Option, Some, [], false, filter, find, is_none, is_some, length, not, option_and_then, option_map, true, ℕ, ◌&&◌, ◌+◌, ◌==◌, ◌||◌, ◌∷◌, ◌≡◌}
 
 -- ---- whether a session is present
 
@@ -122,8 +122,8 @@ call_present y s path p o op z unrefused is = by (s.number == z.number) refl whe
   by true mine =
       let none : refused_after (seen y) z ≡ None = unrefused (sym (eqb-true s.number z.number mine)) in
       either (joined_after (seen y) z) refl none where
-    either : (q : Option ℕ) → joined_after (seen y) z ≡ q → refused_after (seen y) z ≡ None → is_present (seen y) z ≡ true
-    either None joined none = at_work_present (joined_after (seen y) z) (removed_after (seen y) z) (refused_after (seen y) z) (has_open_write (seen y) z) joined none
-    either (Some k) joined none =
-        ap (λ q. present_by q (removed_after (seen y) z) (refused_after (seen y) z) (has_open_write (seen y) z)) joined
-        ∙ (sym (ap (λ q. present_by q (removed_after (seen y) z) (refused_after (seen y) z) (has_open_write (seen (add_call_of s.number path p o op y)) z)) joined) ∙ is)
+        either : (q : Option ℕ) → joined_after (seen y) z ≡ q → refused_after (seen y) z ≡ None → is_present (seen y) z ≡ true
+        either None joined none = at_work_present (joined_after (seen y) z) (removed_after (seen y) z) (refused_after (seen y) z) (has_open_write (seen y) z) joined none
+        either (Some k) joined none =
+            ap (λ q. present_by q (removed_after (seen y) z) (refused_after (seen y) z) (has_open_write (seen y) z)) joined
+            ∙ (sym (ap (λ q. present_by q (removed_after (seen y) z) (refused_after (seen y) z) (has_open_write (seen (add_call_of s.number path p o op y)) z)) joined) ∙ is)

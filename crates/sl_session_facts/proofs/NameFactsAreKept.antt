@@ -62,7 +62,7 @@ use Rattle.sl_words.proofs.CaseLaws.{one_value}
 use Rattle.sl_words.specs.Words.{choose}
 use Rattle.std.proofs.Common.{ap, inl, inr, refl, subst, sym, ◌∙◌}
 use Rattle.std.proofs.lemmas.Bool.{eqb-true}
-use Rattle.std.specs.Prelude.{Bool, Contains, List, None, Ok, Option, Some, [], false, is_some, length, not, option_and_then, true, ℕ, ◌&&◌, ◌+◌, ◌-◌, ◌==◌, ◌∷◌, ◌≡◌, ◌⊎◌}
+use Rattle.std.specs.Prelude.{Bool, Contains, List, None, Ok, Option, Some, [], false, is_some, length, not, option_and_then, true, ℕ, ◌&&◌, ◌+◌, ◌==◌, ◌∷◌, ◌≡◌, ◌⊎◌}
 
 -- Who holds is joined.
 pub holder_joined : (x : Step) (s : Session) (spot : Spot) (g : Grant) → Whole x → Has x s → Contains (holdings_on (seen x) s spot) g → is_some (joined_after (seen x) s) ≡ true
@@ -240,12 +240,12 @@ names_wake st past now h =
       done = λ s j m a there its runs inside is other. h.done s j m a (old s there) its (sym (running_then past now j) ∙ runs) inside is other;
       waits = λ s j m ms there its runs are answered other. h.waits s j m ms (old s there) its (sym (running_then past now j) ∙ runs) are answered other;
     } where
-  old : (s : Session) → Contains (sessions st (seen (begin_step st past now))) s → Contains (sessions st past) s
-  old s there = subst (λ ss. Contains ss s) (sessions_then st past now) there
+      old : (s : Session) → Contains (sessions st (seen (begin_step st past now))) s → Contains (sessions st past) s
+      old s there = subst (λ ss. Contains ss s) (sessions_then st past now) there
 
-  before : (s : Session) → Contains (present_sessions st (seen (begin_step st past now))) s → Contains (present_sessions st past) s
-  before s there =
-      let is = present_is st (seen (begin_step st past now)) s there in present_inside st past s (old s is.0) (sym (present_on_wake past now s) ∙ is.1)
+      before : (s : Session) → Contains (present_sessions st (seen (begin_step st past now))) s → Contains (present_sessions st past) s
+      before s there =
+          let is = present_is st (seen (begin_step st past now)) s there in present_inside st past s (old s is.0) (sym (present_on_wake past now s) ∙ is.1)
 
 pub name_facts_begin : NameFactsBegin
 unfolding begin_recoveries begin_recovery

@@ -68,7 +68,7 @@ use Rattle.sl_words.proofs.WordLaws.{and_true}
 use Rattle.std.proofs.Common.{ap, refl, subst, sym, ◌∙◌}
 use Rattle.std.proofs.lemmas.Bool.{eqb-true}
 use Rattle.std.specs.Option.{option_or}
-use Rattle.std.specs.Prelude.{Bool, Contains, IsTrue, List, None, Option, Some, false, is_none, is_some, not, true, ℕ, ◌&&◌, ◌+◌, ◌-◌, ◌==◌, ◌∷◌, ◌≡◌}
+use Rattle.std.specs.Prelude.{Bool, Contains, IsTrue, List, None, Option, Some, false, is_none, is_some, not, true, ℕ, ◌&&◌, ◌+◌, ◌==◌, ◌∷◌, ◌≡◌}
 
 -- ---- a joining's answer
 
@@ -88,14 +88,14 @@ heard_answer x s m answer a h hears is =
     let number : k.call.number ≡ n = ap (λ (c : Call). c.number) (same_answered x.past (entry_of x) n answer d).call ∙ eqb-true d.call.number n its.0 in
     let one : k ≡ m = one_value k m (call_numbered (seen x) n) (subst (λ q. call_numbered (seen x) q ≡ Some k) number (h.facts.calls.found k there)) hears.call in
     by d (d.call.number == n) its.0 (none_is d.answer inside.1) (ap (λ (z : Submitted). z.answer) one ∙ is)
-    where
-  made : Submitted → Answered
-  made d = answer_of x.past (entry_of x) answer d.call
+  where
+    made : Submitted → Answered
+    made d = answer_of x.past (entry_of x) answer d.call
 
-  by : (d : Submitted) (t : Bool) → t ≡ true → d.answer ≡ None
-      → (elim t as (λ z. Submitted) [ false ↦ d | true ↦ record d { answer = option_or d.answer (Some (answer_of x.past (entry_of x) answer d.call)) } ]).answer ≡ Some a → a.answer ≡ answer
-  by d false mine none same = absurd (false_is_true mine)
-  by d true mine none same = ap (λ (z : Answered). z.answer) (sym (some_value (made d) a (sym (ap (λ o. option_or o (Some (made d))) none) ∙ same)))
+    by : (d : Submitted) (t : Bool) → t ≡ true → d.answer ≡ None
+        → (elim t as (λ z. Submitted) [ false ↦ d | true ↦ record d { answer = option_or d.answer (Some (answer_of x.past (entry_of x) answer d.call)) } ]).answer ≡ Some a → a.answer ≡ answer
+    by d false mine none same = absurd (false_is_true mine)
+    by d true mine none same = ap (λ (z : Answered). z.answer) (sym (some_value (made d) a (sym (ap (λ o. option_or o (Some (made d))) none) ∙ same)))
 
 -- And fits it.
 fitting : (x : Step) (s : Session) (m : Submitted) (answer : Answer) → Whole x → Hears x s m answer → IsTrue (is_answer_for x.setting answer m.call.op)
@@ -125,60 +125,60 @@ joins_plainly : (x : Step) (s : Session) (j : ℕ) (step : JoinStep) (m : Submit
 joins_plainly x s j step m answer hears is runs h =
     plain_names x y hears.number answer hears.heard (below_of x hears.number m h.facts.calls hears.call) (name_facts_are_kept.joins_on x s j step m answer hears is runs h)
     (grown_joining x s n (joining_late (delta_of_session x.setting s) (generation_of (seen x) s) (calls_of (seen x) s) x.reading m step answer)) well
-    where
-  n : DeltaNext
-  n = next_in_joining (delta_of_session x.setting s) (generation_of (seen x) s) (calls_of (seen x) s) x.reading m step answer
+  where
+    n : DeltaNext
+    n = next_in_joining (delta_of_session x.setting s) (generation_of (seen x) s) (calls_of (seen x) s) x.reading m step answer
 
-  y : Step
-  y = carry_delta s (next_in_joining (delta_of_session x.setting s) (generation_of (seen x) s) (calls_of (seen x) s) x.reading m step answer) x
+    y : Step
+    y = carry_delta s (next_in_joining (delta_of_session x.setting s) (generation_of (seen x) s) (calls_of (seen x) s) x.reading m step answer) x
 
-  there : Contains (submitted (seen x)) m
-  there = (find_inside (λ (z : Submitted). z.call.number == hears.number) (submitted (seen x)) m hears.call).0
+    there : Contains (submitted (seen x)) m
+    there = (find_inside (λ (z : Submitted). z.call.number == hears.number) (submitted (seen x)) m hears.call).0
 
-  its : s.job ≡ Some j
-  its = joining_of x s m j step (both_of x h) there hears.session is
+    its : s.job ≡ Some j
+    its = joining_of x s m j step (both_of x h) there hears.session is
 
-  has : Has x s
-  has = has_heard x s m answer hears
+    has : Has x s
+    has = has_heard x s m answer hears
 
-  work : AtWork x s m j step
-  work = record { orderly = h.orderly; has = has; there = there; its = sym (number_is_place x.setting (seen x) m.call.session s hears.session); is = is; unjoined = running_unjoined (seen x) s j its runs }
+    work : AtWork x s m j step
+    work = record { orderly = h.orderly; has = has; there = there; its = sym (number_is_place x.setting (seen x) m.call.session s hears.session); is = is; unjoined = running_unjoined (seen x) s j its runs }
 
-  -- the session of the heard call
-  one : (z : Session) (i : ℕ) (k : Submitted) → HeardJoining x y hears.number z i k → (k ≡ m) × (z ≡ s) × (i ≡ j)
-  one z i k g =
-      let same : k ≡ m = heard_is x y hears.number z i k m h.facts.calls g hears.call in
-      let mine = kept_inside (is_call_of z) (submitted (seen x)) k g.there in
-      let number : z.number ≡ m.call.session = sym (eqb-true k.call.session z.number mine.1) ∙ ap (λ (q : Submitted). q.call.session) same in
-      let is_s : z ≡ s = one_value z s (session_numbered x.setting (seen x) m.call.session) (subst (λ q. session_numbered x.setting (seen x) q ≡ Some z) number (session_has x.setting (seen x) z g.inside)) hears.session in
-      (same, is_s, some_value i j (sym g.its ∙ (ap (λ (q : Session). q.job) is_s ∙ its)))
+    -- the session of the heard call
+    one : (z : Session) (i : ℕ) (k : Submitted) → HeardJoining x y hears.number z i k → (k ≡ m) × (z ≡ s) × (i ≡ j)
+    one z i k g =
+        let same : k ≡ m = heard_is x y hears.number z i k m h.facts.calls g hears.call in
+        let mine = kept_inside (is_call_of z) (submitted (seen x)) k g.there in
+        let number : z.number ≡ m.call.session = sym (eqb-true k.call.session z.number mine.1) ∙ ap (λ (q : Submitted). q.call.session) same in
+        let is_s : z ≡ s = one_value z s (session_numbered x.setting (seen x) m.call.session) (subst (λ q. session_numbered x.setting (seen x) q ≡ Some z) number (session_has x.setting (seen x) z g.inside)) hears.session in
+        (same, is_s, some_value i j (sym g.its ∙ (ap (λ (q : Session). q.job) is_s ∙ its)))
 
-  well : (z : Session) (i : ℕ) (k : Submitted) → HeardJoining x y hears.number z i k
-      → ((a : Answered) → k.answer ≡ Some a → IsTrue (is_ok_answer a.answer)) × ((ms : List Submitted) → calls_of (seen y) z ≡ k ∷ ms → IsTrue (is_waiting_step k.call.purpose))
-  well z i k g =
-      let same = one z i k g in
-      let runs_on : is_running (seen y) j ≡ true = subst (λ q. is_running (seen y) q ≡ true) same.2 g.runs_on in (
-        λ a answered.
-        subst (λ b. IsTrue (is_ok_answer b)) (sym (heard_answer x s m answer a h hears (ap (λ (q : Submitted). q.answer) (sym same.0) ∙ answered))) (goes_on_ok x s m j step answer (generation_of (seen x) s) its runs_on),
-        λ ms are.
-        let mine : calls_of (seen y) s ≡ m ∷ ms = ap (λ q. calls_of (seen y) q) (sym same.1) ∙ (are ∙ ap (λ q. q ∷ ms) same.0) in
-        subst (λ (p : Purpose). IsTrue (is_waiting_step p)) (sym (ap (λ (q : Submitted). q.call.purpose) same.0 ∙ is))
-        (goes_on_or_waits x s m j step answer (generation_of (seen x) s) work its (h.facts.calls.below m there) (fitting x s m answer h hears) runs_on ms mine),
-      )
+    well : (z : Session) (i : ℕ) (k : Submitted) → HeardJoining x y hears.number z i k
+        → ((a : Answered) → k.answer ≡ Some a → IsTrue (is_ok_answer a.answer)) × ((ms : List Submitted) → calls_of (seen y) z ≡ k ∷ ms → IsTrue (is_waiting_step k.call.purpose))
+    well z i k g =
+        let same = one z i k g in
+        let runs_on : is_running (seen y) j ≡ true = subst (λ q. is_running (seen y) q ≡ true) same.2 g.runs_on in (
+          λ a answered.
+              subst (λ b. IsTrue (is_ok_answer b)) (sym (heard_answer x s m answer a h hears (ap (λ (q : Submitted). q.answer) (sym same.0) ∙ answered))) (goes_on_ok x s m j step answer (generation_of (seen x) s) its runs_on),
+          λ ms are.
+              let mine : calls_of (seen y) s ≡ m ∷ ms = ap (λ q. calls_of (seen y) q) (sym same.1) ∙ (are ∙ ap (λ q. q ∷ ms) same.0) in
+              subst (λ (p : Purpose). IsTrue (is_waiting_step p)) (sym (ap (λ (q : Submitted). q.call.purpose) same.0 ∙ is))
+              (goes_on_or_waits x s m j step answer (generation_of (seen x) s) work its (h.facts.calls.below m there) (fitting x s m answer h hears) runs_on ms mine),
+        )
 
 -- A joining that was refused.
 refused_plainly : (x y : Step) (s : Session) (j : ℕ) (step : JoinStep) (m : Submitted) (answer : Answer) → Hears x s m answer → m.call.purpose ≡ Joining j step → is_running (seen x) j ≡ false → Whole x → HasNameFacts y → Grown x y
     → HasNamesPlainly y
 refused_plainly x y s j step m answer hears is stops h names g =
     plain_names x y hears.number answer hears.heard (below_of x hears.number m h.facts.calls hears.call) names g (λ z i k f. absurd (never z i k f)) where
-  never : (z : Session) (i : ℕ) (k : Submitted) → HeardJoining x y hears.number z i k → ⊥
-  never z i k f =
-      let same : k ≡ m = heard_is x y hears.number z i k m h.facts.calls f hears.call in
-      let mine = kept_inside (is_call_of z) (submitted (seen x)) k f.there in
-      let number : k.call.session ≡ z.number = eqb-true k.call.session z.number mine.1 in
-      let session : session_numbered x.setting (seen x) k.call.session ≡ Some z = subst (λ q. session_numbered x.setting (seen x) q ≡ Some z) (sym number) (session_has x.setting (seen x) z f.inside) in
-      let its : z.job ≡ Some j = joining_of x z k j step (both_of x h) mine.0 session (ap (λ (q : Submitted). q.call.purpose) same ∙ is) in
-      not_both (is_running (seen x) j) (subst (λ q. is_running (seen x) q ≡ true) (some_value i j (sym f.its ∙ its)) f.runs) stops
+      never : (z : Session) (i : ℕ) (k : Submitted) → HeardJoining x y hears.number z i k → ⊥
+      never z i k f =
+          let same : k ≡ m = heard_is x y hears.number z i k m h.facts.calls f hears.call in
+          let mine = kept_inside (is_call_of z) (submitted (seen x)) k f.there in
+          let number : k.call.session ≡ z.number = eqb-true k.call.session z.number mine.1 in
+          let session : session_numbered x.setting (seen x) k.call.session ≡ Some z = subst (λ q. session_numbered x.setting (seen x) q ≡ Some z) (sym number) (session_has x.setting (seen x) z f.inside) in
+          let its : z.job ≡ Some j = joining_of x z k j step (both_of x h) mine.0 session (ap (λ (q : Submitted). q.call.purpose) same ∙ is) in
+          not_both (is_running (seen x) j) (subst (λ q. is_running (seen x) q ≡ true) (some_value i j (sym f.its ∙ its)) f.runs) stops
 
 -- Where nothing is done.
 itself_grown : (x : Step) → Grown x x
@@ -219,16 +219,16 @@ late_plainly : (x : Step) (n : ℕ) (answer : Answer) (m : Submitted) (s : Sessi
     → is_present (seen (with_input Wake x)) s ≡ false → Whole x → HasNamesPlainly x
 late_plainly x n answer m s told found session gone h =
     plain_names x x n answer told (below_of x n m h.facts.calls found) h.facts.names (itself_grown x) (λ z i k f. absurd (never z i k f)) where
-  never : (z : Session) (i : ℕ) (k : Submitted) → HeardJoining x x n z i k → ⊥
-  never z i k f =
-      let same : k ≡ m = heard_is x x n z i k m h.facts.calls f found in
-      let mine = kept_inside (is_call_of z) (submitted (seen x)) k f.there in
-      let number : z.number ≡ m.call.session = sym (eqb-true k.call.session z.number mine.1) ∙ ap (λ (q : Submitted). q.call.session) same in
-      let is_s : z ≡ s = one_value z s (session_numbered x.setting (seen x) m.call.session) (subst (λ q. session_numbered x.setting (seen x) q ≡ Some z) number (session_has x.setting (seen x) z f.inside)) session in
-      let there : is_present (seen (with_input Wake x)) z ≡ true =
-      at_work_present (joined_after (seen x) z) (removed_after (seen x) z) (refused_after (seen x) z) (has_open_write (seen (with_input Wake x)) z) (running_unjoined (seen x) z i f.its f.runs) (running_unrefused (seen x) z i f.its f.runs)
-      in
-      not_both (is_present (seen (with_input Wake x)) z) there (ap (λ q. is_present (seen (with_input Wake x)) q) is_s ∙ gone)
+      never : (z : Session) (i : ℕ) (k : Submitted) → HeardJoining x x n z i k → ⊥
+      never z i k f =
+          let same : k ≡ m = heard_is x x n z i k m h.facts.calls f found in
+          let mine = kept_inside (is_call_of z) (submitted (seen x)) k f.there in
+          let number : z.number ≡ m.call.session = sym (eqb-true k.call.session z.number mine.1) ∙ ap (λ (q : Submitted). q.call.session) same in
+          let is_s : z ≡ s = one_value z s (session_numbered x.setting (seen x) m.call.session) (subst (λ q. session_numbered x.setting (seen x) q ≡ Some z) number (session_has x.setting (seen x) z f.inside)) session in
+          let there : is_present (seen (with_input Wake x)) z ≡ true =
+          at_work_present (joined_after (seen x) z) (removed_after (seen x) z) (refused_after (seen x) z) (has_open_write (seen (with_input Wake x)) z) (running_unjoined (seen x) z i f.its f.runs) (running_unrefused (seen x) z i f.its f.runs)
+          in
+          not_both (is_present (seen (with_input Wake x)) z) there (ap (λ q. is_present (seen (with_input Wake x)) q) is_s ∙ gone)
 
 none_plainly : (x : Step) (n : ℕ) (answer : Answer) → x.input ≡ Told n answer → call_numbered (seen x) n ≡ None → Whole x → HasNamesPlainly x
 none_plainly x n answer told none h =
@@ -238,11 +238,11 @@ none_plainly x n answer told none h =
       done = λ s i m a there its runs inside is other. h.facts.names.done s i m a there its runs inside is (never s m inside);
       waits = λ s i m ms there its runs are answered other. h.facts.names.waits s i m ms there its runs are answered (never s m (subst (λ ks. Contains ks m) (sym are) (contains_first m ms)));
     } where
-  never : (s : Session) (m : Submitted) → Contains (calls_of (seen x) s) m → heard_by x.input ≡ Some m.call.number → ⊥
-  never s m inside is =
-      let mine = kept_inside (is_call_of s) (submitted (seen x)) m inside in
-      let number : n ≡ m.call.number = some_value n m.call.number (sym (ap (λ i. heard_by i) told) ∙ is) in
-      none_some m (sym none ∙ subst (λ q. call_numbered (seen x) q ≡ Some m) (sym number) (h.facts.calls.found m mine.0))
+      never : (s : Session) (m : Submitted) → Contains (calls_of (seen x) s) m → heard_by x.input ≡ Some m.call.number → ⊥
+      never s m inside is =
+          let mine = kept_inside (is_call_of s) (submitted (seen x)) m inside in
+          let number : n ≡ m.call.number = some_value n m.call.number (sym (ap (λ i. heard_by i) told) ∙ is) in
+          none_some m (sym none ∙ subst (λ q. call_numbered (seen x) q ≡ Some m) (sym number) (h.facts.calls.found m mine.0))
 
 frees_plainly : (x : Step) (s : Session) → Has x s → is_joined (seen x) s ≡ true → HasNamesPlainly x → HasNamesPlainly (carry_delta s (next_free (delta_of_session x.setting s) x.reading (delta_known x.setting (seen x) s)) x)
 unfolding carry_delta
@@ -250,12 +250,12 @@ frees_plainly x s has joined h =
     on_option (λ n. HasNamesPlainly (carry_delta s n x)) k.leaving Nothing (λ j. elim k.freed [ true ↦ Nothing | false ↦ WriteFree j d ]) h
     (λ j. on_bool (λ n. HasNamesPlainly (carry_delta s n x)) k.freed (WriteFree j d) Nothing
     (call_names None x s s.path (Leaving j) (own_offset x.setting s) (WriteRecord (DeltaIs d)) has refl (joined_unrefused (seen x) s (joined_then (seen x) s joined)) h) h)
-    where
-  k : DeltaKnown
-  k = delta_known x.setting (seen x) s
+  where
+    k : DeltaKnown
+    k = delta_known x.setting (seen x) s
 
-  d : DeltaRec
-  d = delta_record (delta_of_session x.setting s) Free (delta_known x.setting (seen x) s).generation ((delta_known x.setting (seen x) s).seq + 1) x.reading no_bits
+    d : DeltaRec
+    d = delta_record (delta_of_session x.setting s) Free (delta_known x.setting (seen x) s).generation ((delta_known x.setting (seen x) s).seq + 1) x.reading no_bits
 
 pub name_facts_conclude : NameFactsConclude
 unfolding after_value_read

@@ -253,8 +253,11 @@ decision_named x text c (ReadsArea s r) has f = inr (has, active_joined x.settin
 decision_named x text c (Shares s lver) has f = inr (grant_named (with_input (Line text) x) (next_job x.setting (seen x)) lver c)
 decision_named x text c (GivesUp s g) has f =
     let w : Step = with_input (Line text) x in
-    inr (late_on_line x text Done, lease_named w (add_end (end_of g) w) s (spot_of_grant g) (ForJob (next_job x.setting (seen x)))
-    (release_next (lease_place x.setting s) (known x.setting (seen (add_end (end_of g) w)) s (spot_of_grant g)) g.mode g.lver) has (active_joined x.setting (seen x) s f.0) (λ r is. late_on_line x text r))
+    inr (
+      late_on_line x text Done,
+      lease_named w (add_end (end_of g) w) s (spot_of_grant g) (ForJob (next_job x.setting (seen x)))
+          (release_next (lease_place x.setting s) (known x.setting (seen (add_end (end_of g) w)) s (spot_of_grant g)) g.mode g.lver) has (active_joined x.setting (seen x) s f.0) (λ r is. late_on_line x text r),
+    )
 decision_named x text c (TakesOver s g) has f = inr (grant_named (with_input (Line text) x) (next_job x.setting (seen x)) g.lver c)
 decision_named x text c (ConvertsTo s r mode) has f =
     let w : Step = with_input (Line text) x in

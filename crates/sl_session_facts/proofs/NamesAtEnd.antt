@@ -37,7 +37,7 @@ use Rattle.sl_words.proofs.CaseLaws.{false_is_true, not_both, one_value, some_va
 use Rattle.sl_words.specs.Words.{choose}
 use Rattle.std.proofs.Common.{ap, ap₂, arith, inl, inr, refl, subst, sym, ◌∙◌}
 use Rattle.std.proofs.lemmas.Bool.{eqb-true}
-use Rattle.std.specs.Prelude.{Bool, Contains, IsTrue, List, None, Some, false, is_some, length, option_and_then, true, ℕ, ◌+◌, ◌-◌, ◌<◌, ◌==◌, ◌∷◌, ◌≡◌, ◌⊎◌}
+use Rattle.std.specs.Prelude.{Bool, Contains, IsTrue, List, None, Some, false, is_some, length, option_and_then, true, ℕ, ◌+◌, ◌<◌, ◌==◌, ◌∷◌, ◌≡◌, ◌⊎◌}
 
 -- ---- what an act leaves of calls and jobs
 
@@ -80,17 +80,17 @@ call_grown x y s path p o op no_look h =
       calls = λ m there below. by m below (contains_cases new (submitted (seen y)) m (subst (λ ms. Contains ms m) (submitted-push y.past (entry_of y) made) there));
       running = h.running;
     } where
-  made : Call
-  made = record { number = next_call y.setting (seen y); session = s.number; purpose = p; path = path; offset = o; op = op }
+      made : Call
+      made = record { number = next_call y.setting (seen y); session = s.number; purpose = p; path = path; offset = o; op = op }
 
-  new : Submitted
-  new = new_call (length y.past) y.reading made
+      new : Submitted
+      new = new_call (length y.past) y.reading made
 
-  by : (m : Submitted) → m.call.number < next_call x.setting (seen x) → (new ≡ m) ⊎ Contains (submitted (seen y)) m → Contains (submitted (seen x)) m
-  by m below (inr old) = subst (λ ms. Contains ms m) h.calls old
-  by m below (inl is) =
-      let next : next_call y.setting (seen y) ≡ next_call x.setting (seen x) = ap₂ (λ (st : Setting) ms. st.first.call + length ms) h.setting h.calls in
-      let same : next_call y.setting (seen y) ≡ m.call.number = ap (λ (k : Submitted). k.call.number) is in absurd (omega (arith, below, next, same))
+      by : (m : Submitted) → m.call.number < next_call x.setting (seen x) → (new ≡ m) ⊎ Contains (submitted (seen y)) m → Contains (submitted (seen x)) m
+      by m below (inr old) = subst (λ ms. Contains ms m) h.calls old
+      by m below (inl is) =
+          let next : next_call y.setting (seen y) ≡ next_call x.setting (seen x) = ap₂ (λ (st : Setting) ms. st.first.call + length ms) h.setting h.calls in
+          let same : next_call y.setting (seen y) ≡ m.call.number = ap (λ (k : Submitted). k.call.number) is in absurd (omega (arith, below, next, same))
 
 abbrev pub AnyCall : Step → Session → List ℕ → Purpose → ℕ → Op → Type 0
 AnyCall x s path p o op = is_join_call FirstRead p ≡ false
@@ -154,35 +154,35 @@ plain_names x y n answer told below h g well =
       done = λ s i m a there its runs inside is other. done s i m a there its runs inside is (m.call.number == n) refl;
       waits = λ s i m ms there its runs are answered other. waits s i m ms there its runs are answered (m.call.number == n) refl;
     } where
-  heard : heard_by y.input ≡ Some n
-  heard = ap (λ i. heard_by i) (g.input ∙ told)
+      heard : heard_by y.input ≡ Some n
+      heard = ap (λ i. heard_by i) (g.input ∙ told)
 
-  other_call : (m : Submitted) → (m.call.number == n) ≡ false → heard_by y.input ≡ Some m.call.number → ⊥
-  other_call m other is =
-      let same : n ≡ m.call.number = some_value n m.call.number (sym heard ∙ is) in not_both (m.call.number == n) (ap (λ k. m.call.number == k) same ∙ number_itself m.call.number) other
+      other_call : (m : Submitted) → (m.call.number == n) ≡ false → heard_by y.input ≡ Some m.call.number → ⊥
+      other_call m other is =
+          let same : n ≡ m.call.number = some_value n m.call.number (sym heard ∙ is) in not_both (m.call.number == n) (ap (λ k. m.call.number == k) same ∙ number_itself m.call.number) other
 
-  joining : (s : Session) (i : ℕ) (m : Submitted) → Contains (sessions y.setting (seen y)) s → s.job ≡ Some i → is_running (seen y) i ≡ true → Contains (calls_of (seen y) s) m → (m.call.number == n) ≡ true → HeardJoining x y n s i m
-  joining s i m there its runs inside is =
-      let number : m.call.number ≡ n = eqb-true m.call.number n is in
-      let mine = kept_inside (is_call_of s) (submitted (seen y)) m inside in
-      record {
-        inside = subst (λ ss. Contains ss s) g.sessions there;
-        its = its;
-        runs = g.running i runs;
-        runs_on = runs;
-        there = kept (is_call_of s) (submitted (seen x)) m mine.1 (g.calls m mine.0 (subst (λ k. k < next_call x.setting (seen x)) (sym number) below));
-        number = number;
-      }
+      joining : (s : Session) (i : ℕ) (m : Submitted) → Contains (sessions y.setting (seen y)) s → s.job ≡ Some i → is_running (seen y) i ≡ true → Contains (calls_of (seen y) s) m → (m.call.number == n) ≡ true → HeardJoining x y n s i m
+      joining s i m there its runs inside is =
+          let number : m.call.number ≡ n = eqb-true m.call.number n is in
+          let mine = kept_inside (is_call_of s) (submitted (seen y)) m inside in
+          record {
+            inside = subst (λ ss. Contains ss s) g.sessions there;
+            its = its;
+            runs = g.running i runs;
+            runs_on = runs;
+            there = kept (is_call_of s) (submitted (seen x)) m mine.1 (g.calls m mine.0 (subst (λ k. k < next_call x.setting (seen x)) (sym number) below));
+            number = number;
+          }
 
-  done : (s : Session) (i : ℕ) (m : Submitted) (a : Answered) → Contains (sessions y.setting (seen y)) s → s.job ≡ Some i → is_running (seen y) i ≡ true → Contains (calls_of (seen y) s) m → m.answer ≡ Some a → (b : Bool) → (m.call.number == n) ≡ b → IsTrue (is_ok_answer a.answer)
-  done s i m a there its runs inside is false other = h.done s i m a there its runs inside is (other_call m other)
-  done s i m a there its runs inside is true same = (well s i m (joining s i m there its runs inside same)).0 a is
+      done : (s : Session) (i : ℕ) (m : Submitted) (a : Answered) → Contains (sessions y.setting (seen y)) s → s.job ≡ Some i → is_running (seen y) i ≡ true → Contains (calls_of (seen y) s) m → m.answer ≡ Some a → (b : Bool) → (m.call.number == n) ≡ b → IsTrue (is_ok_answer a.answer)
+      done s i m a there its runs inside is false other = h.done s i m a there its runs inside is (other_call m other)
+      done s i m a there its runs inside is true same = (well s i m (joining s i m there its runs inside same)).0 a is
 
-  waits : (s : Session) (i : ℕ) (m : Submitted) (ms : List Submitted) → Contains (sessions y.setting (seen y)) s → s.job ≡ Some i → is_running (seen y) i ≡ true → calls_of (seen y) s ≡ m ∷ ms → is_some m.answer ≡ true → (b : Bool) → (m.call.number == n) ≡ b
-      → IsTrue (is_waiting_step m.call.purpose)
-  waits s i m ms there its runs are answered false other = h.waits s i m ms there its runs are answered (other_call m other)
-  waits s i m ms there its runs are answered true same =
-      (well s i m (joining s i m there its runs (subst (λ ks. Contains ks m) (sym are) (contains_first m ms)) same)).1 ms are
+      waits : (s : Session) (i : ℕ) (m : Submitted) (ms : List Submitted) → Contains (sessions y.setting (seen y)) s → s.job ≡ Some i → is_running (seen y) i ≡ true → calls_of (seen y) s ≡ m ∷ ms → is_some m.answer ≡ true → (b : Bool) → (m.call.number == n) ≡ b
+          → IsTrue (is_waiting_step m.call.purpose)
+      waits s i m ms there its runs are answered false other = h.waits s i m ms there its runs are answered (other_call m other)
+      waits s i m ms there its runs are answered true same =
+          (well s i m (joining s i m there its runs (subst (λ ks. Contains ks m) (sym are) (contains_first m ms)) same)).1 ms are
 
 -- The session of a joining that runs has not joined.
 pub running_unjoined : (t : Trace) (s : Session) (j : ℕ) → s.job ≡ Some j → is_running t j ≡ true → joined_after t s ≡ None
@@ -202,11 +202,11 @@ below_of x n k f found =
 pub plain_other : (x y : Step) (s0 : Session) (k : Submitted) (answer : Answer) → Whole x → Hears x s0 k answer → is_joining k.call.purpose ≡ false → HasNameFacts y → Grown x y → HasNamesPlainly y
 plain_other x y s0 k answer h hears other names g =
     plain_names x y hears.number answer hears.heard (below_of x hears.number k h.facts.calls hears.call) names g (λ s i m j. absurd (never s i m j)) where
-  never : (s : Session) (i : ℕ) (m : Submitted) → HeardJoining x y hears.number s i m → ⊥
-  never s i m j =
-      let same : m ≡ k = heard_is x y hears.number s i m k h.facts.calls j hears.call in
-      let has : Has x s = session_has x.setting (seen x) s j.inside in
-      let joined : is_some (joined_after (seen x) s) ≡ true =
-      caller_joined x.setting (seen x) s m h.orderly has j.there (λ q step is. true_is_false (ap (λ p. is_joining p) (sym is ∙ ap (λ (z : Submitted). z.call.purpose) same) ∙ other))
-      in
-      false_is_true (sym (ap (λ o. is_some o) (running_unjoined (seen x) s i j.its j.runs)) ∙ joined)
+      never : (s : Session) (i : ℕ) (m : Submitted) → HeardJoining x y hears.number s i m → ⊥
+      never s i m j =
+          let same : m ≡ k = heard_is x y hears.number s i m k h.facts.calls j hears.call in
+          let has : Has x s = session_has x.setting (seen x) s j.inside in
+          let joined : is_some (joined_after (seen x) s) ≡ true =
+          caller_joined x.setting (seen x) s m h.orderly has j.there (λ q step is. true_is_false (ap (λ p. is_joining p) (sym is ∙ ap (λ (z : Submitted). z.call.purpose) same) ∙ other))
+          in
+          false_is_true (sym (ap (λ o. is_some o) (running_unjoined (seen x) s i j.its j.runs)) ∙ joined)

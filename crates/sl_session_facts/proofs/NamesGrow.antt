@@ -34,7 +34,7 @@ use Rattle.std.proofs.Common.{ap, inl, inr, refl, subst, sym, ◌∙◌}
 use Rattle.std.proofs.lemmas.Bool.{eqb-true}
 use Rattle.std.specs.List.{list_any}
 use Rattle.std.specs.Option.{option_or}
-use Rattle.std.specs.Prelude.{Bool, Contains, IsTrue, List, None, Option, Some, [], false, filter, if◌then◌else◌, is_none, is_some, length, map, true, ℕ, ◌&&◌, ◌-◌, ◌==◌, ◌||◌, ◌∷◌, ◌≡◌, ◌⊎◌}
+use Rattle.std.specs.Prelude.{Bool, Contains, IsTrue, List, None, Option, Some, [], false, filter, if◌then◌else◌, is_none, is_some, length, map, true, ℕ, ◌&&◌, ◌==◌, ◌||◌, ◌∷◌, ◌≡◌, ◌⊎◌}
 
 -- ---- effects
 
@@ -46,8 +46,8 @@ move_names heard y m h =
       done = h.done;
       waits = h.waits;
     } where
-  before : (s : Session) → Contains (present_sessions y.setting (seen (add_move m y))) s → Contains (present_sessions y.setting (seen y)) s
-  before s there = let is = present_is y.setting (seen (add_move m y)) s there in present_inside y.setting (seen y) s is.0 (move_present y m s is.1)
+      before : (s : Session) → Contains (present_sessions y.setting (seen (add_move m y))) s → Contains (present_sessions y.setting (seen y)) s
+      before s there = let is = present_is y.setting (seen (add_move m y)) s there in present_inside y.setting (seen y) s is.0 (move_present y m s is.1)
 
 pub reply_names : (heard : Option ℕ) (y : Step) (j : ℕ) (r : Reply) → IsLate y r → NameFacts y.setting (seen y) heard → NameFacts y.setting (seen (add_reply j r y)) heard
 reply_names heard y j r may h =
@@ -57,11 +57,11 @@ reply_names heard y j r may h =
       done = λ s i m a there its runs inside is other. h.done s i m a there its (running_before y j r i runs) (subst (λ ms. Contains (filter (is_call_of s) ms) m) calls inside) is other;
       waits = λ s i m ms there its runs are answered other. h.waits s i m ms there its (running_before y j r i runs) (sym (ap (λ ks. filter (is_call_of s) ks) calls) ∙ are) answered other;
     } where
-  calls : submitted (seen (add_reply j r y)) ≡ submitted (seen y)
-  calls = calls_stay y j r may
+      calls : submitted (seen (add_reply j r y)) ≡ submitted (seen y)
+      calls = calls_stay y j r may
 
-  before : (s : Session) → Contains (present_sessions y.setting (seen (add_reply j r y))) s → Contains (present_sessions y.setting (seen y)) s
-  before s there = let is = present_is y.setting (seen (add_reply j r y)) s there in present_inside y.setting (seen y) s is.0 (reply_present y j r s (calls_stay y j r may) is.1)
+      before : (s : Session) → Contains (present_sessions y.setting (seen (add_reply j r y))) s → Contains (present_sessions y.setting (seen y)) s
+      before s there = let is = present_is y.setting (seen (add_reply j r y)) s there in present_inside y.setting (seen y) s is.0 (reply_present y j r s (calls_stay y j r may) is.1)
 
 -- A call of a session that was not refused.
 pub call_names : (heard : Option ℕ) (y : Step) (s : Session) (path : List ℕ) (p : Purpose) (o : ℕ) (op : Op) → Has y s → is_join_call FirstRead p ≡ false → refused_after (seen y) s ≡ None → NameFacts y.setting (seen y) heard
@@ -73,53 +73,53 @@ call_names heard y s path p o op has no_look unrefused h =
       done = λ z i m a there its runs inside is other. done z i m a (old z there) its runs inside is other;
       waits = λ z i m ms there its runs are answered other. waits z i m ms (old z there) its runs are answered other;
     } where
-  made : Call
-  made = record { number = next_call y.setting (seen y); session = s.number; purpose = p; path = path; offset = o; op = op }
+      made : Call
+      made = record { number = next_call y.setting (seen y); session = s.number; purpose = p; path = path; offset = o; op = op }
 
-  old : (z : Session) → Contains (sessions y.setting (seen (add_call_of s.number path p o op y))) z → Contains (sessions y.setting (seen y)) z
-  old z there = subst (λ ss. Contains ss z) (same_sessions y.setting (entry_of y) y.past made no_look) there
+      old : (z : Session) → Contains (sessions y.setting (seen (add_call_of s.number path p o op y))) z → Contains (sessions y.setting (seen y)) z
+      old z there = subst (λ ss. Contains ss z) (same_sessions y.setting (entry_of y) y.past made no_look) there
 
-  its_own : (z : Session) → Contains (sessions y.setting (seen y)) z → z.number ≡ s.number → refused_after (seen y) z ≡ None
-  its_own z there same =
-      let one : z ≡ s = one_value z s (session_numbered y.setting (seen y) s.number) (subst (λ n. session_numbered y.setting (seen y) n ≡ Some z) same (session_has y.setting (seen y) z there)) has in
-      ap (λ q. refused_after (seen y) q) one ∙ unrefused
+      its_own : (z : Session) → Contains (sessions y.setting (seen y)) z → z.number ≡ s.number → refused_after (seen y) z ≡ None
+      its_own z there same =
+          let one : z ≡ s = one_value z s (session_numbered y.setting (seen y) s.number) (subst (λ n. session_numbered y.setting (seen y) n ≡ Some z) same (session_has y.setting (seen y) z there)) has in
+          ap (λ q. refused_after (seen y) q) one ∙ unrefused
 
-  before : (z : Session) → Contains (present_sessions y.setting (seen (add_call_of s.number path p o op y))) z → Contains (present_sessions y.setting (seen y)) z
-  before z there =
-      let is = present_is y.setting (seen (add_call_of s.number path p o op y)) z there in
-      let was : Contains (sessions y.setting (seen y)) z = old z is.0 in present_inside y.setting (seen y) z was (call_present y s path p o op z (λ same. its_own z was same) is.1)
+      before : (z : Session) → Contains (present_sessions y.setting (seen (add_call_of s.number path p o op y))) z → Contains (present_sessions y.setting (seen y)) z
+      before z there =
+          let is = present_is y.setting (seen (add_call_of s.number path p o op y)) z there in
+          let was : Contains (sessions y.setting (seen y)) z = old z is.0 in present_inside y.setting (seen y) z was (call_present y s path p o op z (λ same. its_own z was same) is.1)
 
-  new : Submitted
-  new = new_call (length y.past) y.reading made
+      new : Submitted
+      new = new_call (length y.past) y.reading made
 
-  calls_by : (z : Session) → (b : Bool) → (s.number == z.number) ≡ b → (calls_of (seen (add_call_of s.number path p o op y)) z ≡ new ∷ calls_of (seen y) z) ⊎ (calls_of (seen (add_call_of s.number path p o op y)) z ≡ calls_of (seen y) z)
-  calls_by z true is = inl (mine_more (entry_of y) y.past made z is)
-  calls_by z false is = inr (others_stay (entry_of y) y.past made z is)
+      calls_by : (z : Session) → (b : Bool) → (s.number == z.number) ≡ b → (calls_of (seen (add_call_of s.number path p o op y)) z ≡ new ∷ calls_of (seen y) z) ⊎ (calls_of (seen (add_call_of s.number path p o op y)) z ≡ calls_of (seen y) z)
+      calls_by z true is = inl (mine_more (entry_of y) y.past made z is)
+      calls_by z false is = inr (others_stay (entry_of y) y.past made z is)
 
-  begun : (z : Session) (i : ℕ) → Contains (sessions y.setting (seen y)) z → z.job ≡ Some i → is_empty (calls_of (seen (add_call_of s.number path p o op y)) z) ≡ false
-  begun z i there its = by (calls_by z (s.number == z.number) refl) where
-    by : (calls_of (seen (add_call_of s.number path p o op y)) z ≡ new ∷ calls_of (seen y) z) ⊎ (calls_of (seen (add_call_of s.number path p o op y)) z ≡ calls_of (seen y) z) → is_empty (calls_of (seen (add_call_of s.number path p o op y)) z) ≡ false
-    by (inl more) = ap (λ ms. is_empty ms) more
-    by (inr same) = ap (λ ms. is_empty ms) same ∙ h.begun z i there its
+      begun : (z : Session) (i : ℕ) → Contains (sessions y.setting (seen y)) z → z.job ≡ Some i → is_empty (calls_of (seen (add_call_of s.number path p o op y)) z) ≡ false
+      begun z i there its = by (calls_by z (s.number == z.number) refl) where
+        by : (calls_of (seen (add_call_of s.number path p o op y)) z ≡ new ∷ calls_of (seen y) z) ⊎ (calls_of (seen (add_call_of s.number path p o op y)) z ≡ calls_of (seen y) z) → is_empty (calls_of (seen (add_call_of s.number path p o op y)) z) ≡ false
+        by (inl more) = ap (λ ms. is_empty ms) more
+        by (inr same) = ap (λ ms. is_empty ms) same ∙ h.begun z i there its
 
-  done : (z : Session) (i : ℕ) (m : Submitted) (a : Answered) → Contains (sessions y.setting (seen y)) z → z.job ≡ Some i → is_running (seen y) i ≡ true → Contains (calls_of (seen (add_call_of s.number path p o op y)) z) m → m.answer ≡ Some a
-      → (heard ≡ Some m.call.number → ⊥) → IsTrue (is_ok_answer a.answer)
-  done z i m a there its runs inside is other = by (calls_by z (s.number == z.number) refl) where
-    was : (new ≡ m) ⊎ Contains (calls_of (seen y) z) m → IsTrue (is_ok_answer a.answer)
-    was (inl new_one) = absurd (none_some a (ap (λ (k : Submitted). k.answer) new_one ∙ is))
-    was (inr there_before) = h.done z i m a there its runs there_before is other
+      done : (z : Session) (i : ℕ) (m : Submitted) (a : Answered) → Contains (sessions y.setting (seen y)) z → z.job ≡ Some i → is_running (seen y) i ≡ true → Contains (calls_of (seen (add_call_of s.number path p o op y)) z) m → m.answer ≡ Some a
+          → (heard ≡ Some m.call.number → ⊥) → IsTrue (is_ok_answer a.answer)
+      done z i m a there its runs inside is other = by (calls_by z (s.number == z.number) refl) where
+        was : (new ≡ m) ⊎ Contains (calls_of (seen y) z) m → IsTrue (is_ok_answer a.answer)
+        was (inl new_one) = absurd (none_some a (ap (λ (k : Submitted). k.answer) new_one ∙ is))
+        was (inr there_before) = h.done z i m a there its runs there_before is other
 
-    by : (calls_of (seen (add_call_of s.number path p o op y)) z ≡ new ∷ calls_of (seen y) z) ⊎ (calls_of (seen (add_call_of s.number path p o op y)) z ≡ calls_of (seen y) z) → IsTrue (is_ok_answer a.answer)
-    by (inl more) = was (contains_cases new (calls_of (seen y) z) m (subst (λ ms. Contains ms m) more inside))
-    by (inr same) = h.done z i m a there its runs (subst (λ ms. Contains ms m) same inside) is other
+        by : (calls_of (seen (add_call_of s.number path p o op y)) z ≡ new ∷ calls_of (seen y) z) ⊎ (calls_of (seen (add_call_of s.number path p o op y)) z ≡ calls_of (seen y) z) → IsTrue (is_ok_answer a.answer)
+        by (inl more) = was (contains_cases new (calls_of (seen y) z) m (subst (λ ms. Contains ms m) more inside))
+        by (inr same) = h.done z i m a there its runs (subst (λ ms. Contains ms m) same inside) is other
 
-  waits : (z : Session) (i : ℕ) (m : Submitted) (ms : List Submitted) → Contains (sessions y.setting (seen y)) z → z.job ≡ Some i → is_running (seen y) i ≡ true → calls_of (seen (add_call_of s.number path p o op y)) z ≡ m ∷ ms
-      → is_some m.answer ≡ true → (heard ≡ Some m.call.number → ⊥) → IsTrue (is_waiting_step m.call.purpose)
-  waits z i m ms there its runs are answered other = by (calls_by z (s.number == z.number) refl) where
-    by : (calls_of (seen (add_call_of s.number path p o op y)) z ≡ new ∷ calls_of (seen y) z) ⊎ (calls_of (seen (add_call_of s.number path p o op y)) z ≡ calls_of (seen y) z) → IsTrue (is_waiting_step m.call.purpose)
-    by (inl more) =
-        let first : new ≡ m = head_is new m (calls_of (seen y) z) ms (sym more ∙ are) in absurd (false_is_true (ap (λ (k : Submitted). is_some k.answer) first ∙ answered))
-    by (inr same) = h.waits z i m ms there its runs (sym same ∙ are) answered other
+      waits : (z : Session) (i : ℕ) (m : Submitted) (ms : List Submitted) → Contains (sessions y.setting (seen y)) z → z.job ≡ Some i → is_running (seen y) i ≡ true → calls_of (seen (add_call_of s.number path p o op y)) z ≡ m ∷ ms
+          → is_some m.answer ≡ true → (heard ≡ Some m.call.number → ⊥) → IsTrue (is_waiting_step m.call.purpose)
+      waits z i m ms there its runs are answered other = by (calls_by z (s.number == z.number) refl) where
+        by : (calls_of (seen (add_call_of s.number path p o op y)) z ≡ new ∷ calls_of (seen y) z) ⊎ (calls_of (seen (add_call_of s.number path p o op y)) z ≡ calls_of (seen y) z) → IsTrue (is_waiting_step m.call.purpose)
+        by (inl more) =
+            let first : new ≡ m = head_is new m (calls_of (seen y) z) ms (sym more ∙ are) in absurd (false_is_true (ap (λ (k : Submitted). is_some k.answer) first ∙ answered))
+        by (inr same) = h.waits z i m ms there its runs (sym same ∙ are) answered other
 
 -- ---- the input
 
@@ -143,11 +143,11 @@ mark_filter es e (Told n a) s (m ∷ ms) = by (is_call_of s m) refl (mark_filter
   by b is rest =
       ap (λ c. if c then answered_in es e n a m ∷ filter (is_call_of s) (map (answered_in es e n a) ms) else filter (is_call_of s) (map (answered_in es e n a) ms)) (same ∙ is)
       ∙ (either b rest ∙ ap (λ c. map (answered_in es e n a) (if c then m ∷ filter (is_call_of s) ms else filter (is_call_of s) ms)) (sym is)) where
-    either : (c : Bool) → filter (is_call_of s) (map (answered_in es e n a) ms) ≡ map (answered_in es e n a) (filter (is_call_of s) ms)
-        → (if c then answered_in es e n a m ∷ filter (is_call_of s) (map (answered_in es e n a) ms) else filter (is_call_of s) (map (answered_in es e n a) ms))
-        ≡ map (answered_in es e n a) (if c then m ∷ filter (is_call_of s) ms else filter (is_call_of s) ms)
-    either true r = ap (λ ks. answered_in es e n a m ∷ ks) r
-    either false r = r
+        either : (c : Bool) → filter (is_call_of s) (map (answered_in es e n a) ms) ≡ map (answered_in es e n a) (filter (is_call_of s) ms)
+            → (if c then answered_in es e n a m ∷ filter (is_call_of s) (map (answered_in es e n a) ms) else filter (is_call_of s) (map (answered_in es e n a) ms))
+            ≡ map (answered_in es e n a) (if c then m ∷ filter (is_call_of s) ms else filter (is_call_of s) ms)
+        either true r = ap (λ ks. answered_in es e n a m ∷ ks) r
+        either false r = r
 mark_filter es e i s ms = refl
 
 -- A session's calls, once the input is seen.
@@ -197,10 +197,10 @@ input_present x i s wake bare is = by (has_open_write (seen (with_input i x)) s)
       ∙ (ap (λ b. present_by (joined_after (seen x) s) (removed_after (seen x) s) (refused_after (seen x) s) b) (sym writes) ∙ is)
   by false none = more (is_none (elim (joined_after (seen x) s) as (λ z. Option ℕ) [ Some k ↦ removed_after (seen x) s | None ↦ refused_after (seen x) s ])) (is_none (joined_after (seen x) s)) (has_open_write (seen x) s)
       (ap (λ b. present_by (joined_after (seen x) s) (removed_after (seen x) s) (refused_after (seen x) s) b) (sym none) ∙ is) where
-    more : (a b c : Bool) → (a || b && false) ≡ true → (a || b && c) ≡ true
-    more true b c h = refl
-    more false true c h = absurd (false_is_true h)
-    more false false c h = absurd (false_is_true h)
+        more : (a b c : Bool) → (a || b && false) ≡ true → (a || b && c) ≡ true
+        more true b c h = refl
+        more false true c h = absurd (false_is_true h)
+        more false false c h = absurd (false_is_true h)
 
 pub input_names : (x : Step) (i : Input) → x.input ≡ Wake → x.effects.calls ≡ [] → HasNameFacts x → HasNameFacts (with_input i x)
 input_names x i wake bare g =
@@ -213,22 +213,22 @@ input_names x i wake bare g =
           let was = unheard_head x.past (entry_of (with_input i x)) i (calls_of (seen x) s) m ms (sym (calls_of_told x i s wake bare) ∙ are) other in
           h.waits s j m was.0 (old s there) its runs was.1 answered (λ none. none_some m.call.number none);
     } where
-  h : NameFacts x.setting (seen x) None
-  h = subst (λ k. NameFacts x.setting (seen x) (heard_by k)) wake g
+      h : NameFacts x.setting (seen x) None
+      h = subst (λ k. NameFacts x.setting (seen x) (heard_by k)) wake g
 
-  old : (s : Session) → Contains (sessions x.setting (seen (with_input i x))) s → Contains (sessions x.setting (seen x)) s
-  old s there = subst (λ ss. Contains ss s) (sessions_told x i bare) there
+      old : (s : Session) → Contains (sessions x.setting (seen (with_input i x))) s → Contains (sessions x.setting (seen x)) s
+      old s there = subst (λ ss. Contains ss s) (sessions_told x i bare) there
 
-  before : (s : Session) → Contains (present_sessions x.setting (seen (with_input i x))) s → Contains (present_sessions x.setting (seen x)) s
-  before s there = let is = present_is x.setting (seen (with_input i x)) s there in present_inside x.setting (seen x) s (old s is.0) (input_present x i s wake bare is.1)
+      before : (s : Session) → Contains (present_sessions x.setting (seen (with_input i x))) s → Contains (present_sessions x.setting (seen x)) s
+      before s there = let is = present_is x.setting (seen (with_input i x)) s there in present_inside x.setting (seen x) s (old s is.0) (input_present x i s wake bare is.1)
 
-  not_empty : (ks ms : List Submitted) → ms ≡ mark x.past (entry_of (with_input i x)) i ks → is_empty ks ≡ false → is_empty ms ≡ false
-  not_empty [] ms are some_one = absurd (true_is_false some_one)
-  not_empty (k ∷ ks) ms are some_one = ap (λ qs. is_empty qs) are ∙ by i where
-    by : (q : Input) → is_empty (mark x.past (entry_of (with_input i x)) q (k ∷ ks)) ≡ false
-    by (Told n a) = refl
-    by (Line text) = refl
-    by (Number text) = refl
-    by Wake = refl
-    by (Exit p) = refl
-    by (Spawned p ok) = refl
+      not_empty : (ks ms : List Submitted) → ms ≡ mark x.past (entry_of (with_input i x)) i ks → is_empty ks ≡ false → is_empty ms ≡ false
+      not_empty [] ms are some_one = absurd (true_is_false some_one)
+      not_empty (k ∷ ks) ms are some_one = ap (λ qs. is_empty qs) are ∙ by i where
+        by : (q : Input) → is_empty (mark x.past (entry_of (with_input i x)) q (k ∷ ks)) ≡ false
+        by (Told n a) = refl
+        by (Line text) = refl
+        by (Number text) = refl
+        by Wake = refl
+        by (Exit p) = refl
+        by (Spawned p ok) = refl
