@@ -1,6 +1,4 @@
 -- What is known of calls is kept by each act: a call's number finds it, its answer is later than it and fits it.
-
--- ---- of any trace: answers come later
 use Rattle.sl_acts.proofs.Additions.{begun_by}
 use Rattle.sl_acts.specs.Acts.{Expects}
 use Rattle.sl_acts.specs.SoFar.{entry_of}
@@ -30,6 +28,8 @@ use Rattle.std.proofs.lemmas.List.{append-nil}
 use Rattle.std.specs.List.{list_any}
 use Rattle.std.specs.Option.{option_or}
 use Rattle.std.specs.Prelude.{Bool, Contains, IsSome, IsTrue, List, None, Option, Some, [], cond, false, find, fold, is_none, length, map, option_map, slice_get, suc, true, ℕ, ◌&&◌, ◌++◌, ◌+◌, ◌<◌, ◌==◌, ◌∷◌, ◌≡◌, ◌⊎◌}
+
+-- ---- of any trace: answers come later
 
 abbrev called : ℕ → ℕ → List Submitted → Call → List Submitted
 called at reading ms c = new_call at reading c ∷ ms

@@ -24,6 +24,7 @@ use Rattle.sl_job_facts.proofs.DecisionsFit.{DecisionFits, decisions_fit}
 use Rattle.sl_job_facts.proofs.EffectsAreAllowed.{Allows, DecisionAllowed, DeltaAllowed, LeaseAllowed, decision, delta, ended, exited, lease, left, refusal, removal, removal_of_refused, requested, said, sent, signalled, stopped}
 use Rattle.sl_job_facts.proofs.JobFactsGrow.{Both, CallFits, call_kept, input_sees, reply_kept}
 use Rattle.sl_job_facts.proofs.JobsAreAllowed.{MayCall, MayMove, MayReply, MayStart, Meanwhile, allows, caller_numbered, late_on_survey, late_on_wake, late_unless_told, numbered_back, runner_numbered, starter_numbered, starts_nothing, stops_allowed}
+use Rattle.sl_job_facts.proofs.JobsAreNumbered.{next_before}
 use Rattle.sl_job_facts.proofs.LeaseCallsFit.{settling_allowed}
 use Rattle.sl_job_facts.proofs.LinesAreAllowed.{IsBegun, decision_allowed, late_on_line, new_command, new_free, new_numbered}
 use Rattle.sl_job_facts.proofs.RepliesComeAfter.{joining_late, lease_late, set_late, value_late, wake_late}
@@ -31,7 +32,6 @@ use Rattle.sl_leases.specs.Jobs.{job_of_start}
 use Rattle.sl_leases.specs.LeaseWork.{lease_place, settle_next}
 use Rattle.sl_leases.specs.Leases.{known, lver_written, spot_of_call}
 use Rattle.sl_leases.specs.declared.lease.LeaseNext.{LeaseNext}
-use Rattle.sl_job_facts.proofs.JobsAreNumbered.{next_before}
 use Rattle.sl_plain.proofs.Lists.{find_inside, got_before, kept_inside}
 use Rattle.sl_plain.proofs.Places.{last_there}
 use Rattle.sl_sessions.specs.Deltas.{delta_known, delta_of_session, join_step_of, next_after_free, next_after_renewal, next_by_time, next_free, next_in_joining, next_on_wake, next_renewal}
