@@ -19,7 +19,7 @@ use Rattle.sl_due.specs.declared.decision.Decision.TheVariants.{ConvertsTo, Gets
 use Rattle.sl_job_facts.proofs.AnsweredCallsFit.{at, both_of, free_allowed, freed_allowed, lease_allowed, leaving_call, renewal_allowed, renewed_allowed, request_allowed}
 use Rattle.sl_job_facts.proofs.CallsHaveFacts.{sessions_bare, sessions_told}
 use Rattle.sl_job_facts.proofs.CallsOfJobsFit.{JoinsOn, joining_allowed, joins_on_wake, joins_when_heard, no_job}
-use Rattle.sl_job_facts.proofs.CallsStay.{IsLate, late}
+use Rattle.sl_job_facts.proofs.CallsStay.{IsLate, is_special, late}
 use Rattle.sl_job_facts.proofs.DecisionsFit.{DecisionFits, decisions_fit}
 use Rattle.sl_job_facts.proofs.EffectsAreAllowed.{Allows, DecisionAllowed, DeltaAllowed, LeaseAllowed, decision, delta, ended, exited, lease, left, refusal, removal, removal_of_refused, requested, said, sent, signalled, stopped}
 use Rattle.sl_job_facts.proofs.JobFactsGrow.{Both, CallFits, call_kept, input_sees, reply_kept}
@@ -65,7 +65,7 @@ use Rattle.sl_words.proofs.CaseLaws.{none_some, some_value}
 use Rattle.sl_words.proofs.WordLaws.{some_is_true}
 use Rattle.std.proofs.Common.{ap, inl, inr, refl, subst, sym, ◌∙◌}
 use Rattle.std.proofs.lemmas.Bool.{eqb-true}
-use Rattle.std.specs.Prelude.{Contains, List, None, Ok, Option, Result, Some, [], false, is_none, is_some, length, slice_get, true, ℕ, ◌++◌, ◌==◌, ◌∷◌, ◌≡◌, ◌⊎◌}
+use Rattle.std.specs.Prelude.{Contains, List, None, Ok, Option, Result, Some, [], false, is_none, is_some, length, slice_get, true, ℕ, ◌++◌, ◌-◌, ◌==◌, ◌∷◌, ◌≡◌, ◌⊎◌}
 
 -- ---- what is allowed at a step keeps both
 
@@ -193,7 +193,7 @@ lone_of p j is = absurd (none_some j is)
 heard_there : (x : Step) (s : Session) (m : Submitted) (answer : Answer) → Hears x s m answer → Contains (submitted (seen x)) m
 heard_there x s m answer hears = (find_inside (λ (z : Submitted). z.call.number == hears.number) (submitted (seen x)) m hears.call).0
 
-answer_kept : (x : Step) (s : Session) (m : Submitted) (answer : Answer) (j : ℕ) (r : Reply) → Both x → Hears x s m answer → job_of m.call.purpose ≡ Some j → is_before_input r ≡ false → Both (add_reply j r x)
+answer_kept : (x : Step) (s : Session) (m : Submitted) (answer : Answer) (j : ℕ) (r : Reply) → Both x → Hears x s m answer → job_of m.call.purpose ≡ Some j → is_special r ≡ false → Both (add_reply j r x)
 answer_kept x s m answer j r b hears of after = kept_reply x j r (caller_numbered x m j b (heard_there x s m answer hears) of, late x r after) b
 
 wakes_joining : (x : Step) (s : Session) (j : ℕ) → Whole x → Has x s → x.input ≡ Wake → s.job ≡ Some j → is_running (seen x) j ≡ true

@@ -69,7 +69,7 @@ joined_by_reply y s j generation its runs =
     effects_are_told.replies (record { job = j; reply = Generation generation }) (entry_of y) y.past runs in
     ap (λ o. is_some o) (joined_of (seen (add_reply j (Generation generation) y)) s j its ∙ ap (λ o. option_and_then (λ (r : Replied). choose (is_join_done r.reply) (r.at + 1)) o) told)
 
-pub joining_named : (x : Step) (s : Session) (j : ℕ) → Has x s → s.job ≡ Some j → is_running (seen x) j ≡ true → ((r : Reply) → is_before_input r ≡ false → IsLate x r) → HasNameFacts x → (n : DeltaNext) → IsLateDelta n → HasNameFacts (carry_delta s n x)
+pub joining_named : (x : Step) (s : Session) (j : ℕ) → Has x s → s.job ≡ Some j → is_running (seen x) j ≡ true → ((r : Reply) → is_special r ≡ false → IsLate x r) → HasNameFacts x → (n : DeltaNext) → IsLateDelta n → HasNameFacts (carry_delta s n x)
 unfolding carry_delta
 joining_named x s j has its runs after h Nothing k = h
 joining_named x s j has its runs after h (RefuseJoin r) k =
@@ -96,7 +96,7 @@ joining_named x s j has its runs after h (Join generation renewed) k =
     let same : j ≡ i = some_value j i (sym its ∙ of) in
     let joined : is_some (joined_after (seen (add_reply i (Generation generation) y)) s) ≡ true = subst (λ n. is_some (joined_after (seen (add_reply n (Generation generation) y)) s) ≡ true) same (joined_by_reply y s j generation its runs) in
     call_names (heard_by x.input) (add_reply i (Generation generation) y) s s.path Survey s.offset (ReadSectors x.setting.layout.hosts) has refl (joined_unrefused (seen (add_reply i (Generation generation) y)) s joined)
-    (reply_names (heard_by x.input) y i (Generation generation) (after (Generation generation) refl) (move_names (heard_by x.input) x (Renew s.lockspace (renewed + fail x.setting.timing)) g))) h
+    (reply_names (heard_by x.input) y i (Generation generation) (late_join y generation) (move_names (heard_by x.input) x (Renew s.lockspace (renewed + fail x.setting.timing)) g))) h
 joining_named x s j has its runs after h (MoveConnection renewed) k =
     call_names (heard_by x.input) (move_connection s renewed x) s s.path Survey s.offset (ReadSectors x.setting.layout.hosts) has refl (running_unrefused (seen x) s j its runs)
     (move_names (heard_by x.input) x (Renew s.lockspace (renewed + fail x.setting.timing)) h)

@@ -79,7 +79,7 @@ delta_names x s n may h = delta (Holds x) HasNameFacts (NameReply x) (NameCall x
 lease_names : (x : Step) (s : Session) (spot : Spot) (work : Work) (n : LeaseNext) → LeaseAllowed (NameReply x) (NameCall x) AnyStart x s spot work n → HasNameFacts x → HasNameFacts (carry_lease s spot work n x)
 lease_names x s spot work n may h = lease (Holds x) HasNameFacts (NameReply x) (NameCall x) AnyStart AnyMove (names_allow x) x s spot work n may (begin_at x h)
 
-answer_names : (x : Step) (j : ℕ) (r : Reply) → is_before_input r ≡ false → HasNameFacts x → HasNameFacts (add_reply j r x)
+answer_names : (x : Step) (j : ℕ) (r : Reply) → is_special r ≡ false → HasNameFacts x → HasNameFacts (add_reply j r x)
 answer_names x j r after h = reply_names (heard_by x.input) x j r (late x r after) h
 
 line_names : (x : Step) (text : List ℕ) (j : ℕ) (r : Reply) → x.input ≡ Wake → x.effects.calls ≡ [] → HasNameFacts x → HasNameFacts (add_reply j r (with_input (Line text) x))

@@ -117,7 +117,7 @@ grown_joining x s n k =
     delta (Growing x) (Grown x) (NameReply x) (λ z path p o op. is_join_call FirstRead p ≡ false) AnyStart AnyMove (grows x (λ z path p o op. is_join_call FirstRead p ≡ false) (λ z path p o op may. may)) x s n
     (grows_joining x s n (λ r after. late x r after) k) (growing_itself x)
 
-grown_reply : (x : Step) (j : ℕ) (r : Reply) → is_before_input r ≡ false → Grown x (add_reply j r x)
+grown_reply : (x : Step) (j : ℕ) (r : Reply) → is_special r ≡ false → Grown x (add_reply j r x)
 grown_reply x j r after = grown x (add_reply j r x) ((grows_named x).replies x j r (late x r after) (growing_itself x))
 
 joins_plainly : (x : Step) (s : Session) (j : ℕ) (step : JoinStep) (m : Submitted) (answer : Answer) → Hears x s m answer → m.call.purpose ≡ Joining j step → is_running (seen x) j ≡ true → Whole x
@@ -211,7 +211,7 @@ lone_other (ValueWrite k) j is = refl
 lone_other (ValueRead k) j is = refl
 
 -- An answer that is only replied to.
-replied_plainly : (x : Step) (s : Session) (m : Submitted) (answer : Answer) (j : ℕ) (r : Reply) → Whole x → Hears x s m answer → is_joining m.call.purpose ≡ false → is_before_input r ≡ false → HasNamesPlainly (add_reply j r x)
+replied_plainly : (x : Step) (s : Session) (m : Submitted) (answer : Answer) (j : ℕ) (r : Reply) → Whole x → Hears x s m answer → is_joining m.call.purpose ≡ false → is_special r ≡ false → HasNamesPlainly (add_reply j r x)
 replied_plainly x s m answer j r h hears other after =
     plain_other x (add_reply j r x) s m answer h hears other (reply_names (heard_by x.input) x j r (late x r after) h.facts.names) (grown_reply x j r after)
 

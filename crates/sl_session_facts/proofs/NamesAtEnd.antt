@@ -119,7 +119,7 @@ grows x C c =
 pub grows_named : (x : Step) → Allows (Growing x) (Grown x) (NameReply x) (NameCall x) AnyStart AnyMove
 grows_named x = grows x (NameCall x) (λ s path p o op may. may.2)
 
-pub grows_joining : (x : Step) (s : Session) (n : DeltaNext) → ((r : Reply) → is_before_input r ≡ false → IsLate x r) → IsLateDelta n → DeltaAllowed (NameReply x) (AnyCall x) AnyMove x s n
+pub grows_joining : (x : Step) (s : Session) (n : DeltaNext) → ((r : Reply) → is_special r ≡ false → IsLate x r) → IsLateDelta n → DeltaAllowed (NameReply x) (AnyCall x) AnyMove x s n
 grows_joining x s Nothing after k = tt
 grows_joining x s (RefuseJoin r) after k = λ j its. (after r k, λ z is. tt)
 grows_joining x s (ReadOwn step) after k = λ j its. k
@@ -127,7 +127,7 @@ grows_joining x s (RegisterAndRead step) after k = λ j its. (tt, k)
 grows_joining x s (WriteClaim d) after k = λ j its. refl
 grows_joining x s Disconnect after k = tt
 grows_joining x s (WriteFirst d) after k = λ j its. refl
-grows_joining x s (Join generation renewed) after k = λ j its. (tt, after (Generation generation) refl, refl)
+grows_joining x s (Join generation renewed) after k = λ j its. (tt, late_join x generation, refl)
 grows_joining x s (MoveConnection renewed) after k = (tt, refl)
 grows_joining x s (WriteRenewal d) after k = refl
 grows_joining x s (WriteFree j d) after k = absurd k
