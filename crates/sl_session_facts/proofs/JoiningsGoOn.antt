@@ -24,7 +24,7 @@ use Rattle.sl_sector.specs.declared.sector.Rec.TheVariants.{DeltaIs}
 use Rattle.sl_sessions.specs.Deltas.{DeltaLease, claim_of, claim_on, delta_of_session, delta_record, id_held, id_lost, next_after_deciding, next_after_verify, next_in_joining, own_offset, watched}
 use Rattle.sl_sessions.specs.Sessions.{calls_of, delta_of_record, delta_written, has_open_write, is_call_of, is_join_call, join_call, joined_after, refused_after, session_of_job, stage_after}
 use Rattle.sl_sessions.specs.declared.delta.DeltaNext.{DeltaNext}
-use Rattle.sl_sessions.specs.declared.delta.DeltaNext.TheVariants.{Nothing, Join, RefuseJoin, WriteClaim, WriteFirst}
+use Rattle.sl_sessions.specs.declared.delta.DeltaNext.TheVariants.{Join, Nothing, RefuseJoin, WriteClaim, WriteFirst}
 use Rattle.sl_sessions.specs.declared.session.Session.{Session}
 use Rattle.sl_trace.specs.Connections.{is_registered}
 use Rattle.sl_trace.specs.Traces.{Answered, Submitted, bytes_given, gave, is_answer_for, is_ok_answer, is_running, is_write, new_call, next_call, record_of, submitted}
@@ -51,7 +51,7 @@ use Rattle.sl_words.specs.Bounds.{is_number}
 use Rattle.std.proofs.Common.{ap, arith, inl, inr, refl, subst, sym, ◌∙◌}
 use Rattle.std.proofs.lemmas.Bool.{eqb-true}
 use Rattle.std.proofs.lemmas.Slice.Eq.{bytes_eq-Decides}
-use Rattle.std.specs.Prelude.{Bool, Contains, IsTrue, List, None, Option, Some, [], bytes_eq, cond, false, is_some, length, not, option_and_then, true, unwrap_or, ℕ, ◌&&◌, ◌+◌, ◌<◌, ◌∷◌, ◌≡◌, ◌⊎◌}
+use Rattle.std.specs.Prelude.{Bool, Contains, IsTrue, List, None, Option, Some, [], bytes_eq, cond, false, is_some, length, not, option_and_then, true, unwrap_or, ℕ, ◌&&◌, ◌+◌, ◌-◌, ◌<◌, ◌∷◌, ◌≡◌, ◌⊎◌}
 
 -- ---- what was read and claimed before
 

@@ -6,3 +6,4 @@ pub mod NameFactsAreKept
 pub mod JoiningsGoOn
 pub mod NamesAtEnd
 pub mod NameFactsConclude
+pub mod DeltaGrow

@@ -10,7 +10,7 @@ use Rattle.sl_due.specs.DueDelta.{carry_delta, move_connection, read_own_sector,
 use Rattle.sl_due.specs.Steps.{Step, add_call_of, add_reply, seen, with_input}
 use Rattle.sl_due.specs.declared.decision.Decision.TheVariants.{Joins}
 use Rattle.sl_job_facts.proofs.CallsHaveFacts.{input_kept, more_is_other, sessions_told}
-use Rattle.sl_job_facts.proofs.CallsStay.{IsLate}
+use Rattle.sl_job_facts.proofs.CallsStay.{IsLate, is_special, late_join}
 use Rattle.sl_job_facts.proofs.EffectsAreAllowed.{delta}
 use Rattle.sl_job_facts.proofs.JobFactsAreKept.{begun_sessions}
 use Rattle.sl_job_facts.proofs.NearlyPlainActs.{AnyMove, AnyStart}
@@ -54,7 +54,7 @@ use Rattle.std.proofs.Common.{ap, arith, inl, inr, refl, subst, sym, ◌∙◌}
 use Rattle.std.proofs.lemmas.Bool.{eqb-true}
 use Rattle.std.proofs.lemmas.Option.{slice_get_within}
 use Rattle.std.specs.List.{list_any}
-use Rattle.std.specs.Prelude.{Contains, IsTrue, List, None, Ok, Some, [], false, is_some, length, not, option_and_then, true, ℕ, ◌++◌, ◌+◌, ◌<◌, ◌==◌, ◌∷◌, ◌≡◌, ◌⊎◌}
+use Rattle.std.specs.Prelude.{Contains, IsTrue, List, None, Ok, Some, [], false, is_some, length, not, option_and_then, true, ℕ, ◌++◌, ◌+◌, ◌-◌, ◌<◌, ◌==◌, ◌∷◌, ◌≡◌, ◌⊎◌}
 
 -- ---- joinings
 

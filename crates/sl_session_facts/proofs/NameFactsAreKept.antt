@@ -17,7 +17,7 @@ use Rattle.sl_due.specs.declared.decision.Decision.{Decision}
 use Rattle.sl_due.specs.declared.decision.Decision.TheVariants.{ConvertsTo, GetsValue, GivesUp, Joins, Leaves, ReadsArea, Replies, Requests, SetsValue, Shares, TakesOver}
 use Rattle.sl_job_facts.proofs.AnsweredCallsFit.{both_of}
 use Rattle.sl_job_facts.proofs.CallsOfJobsFit.{joining_of}
-use Rattle.sl_job_facts.proofs.CallsStay.{late}
+use Rattle.sl_job_facts.proofs.CallsStay.{is_special, late}
 use Rattle.sl_job_facts.proofs.DecisionsFit.{DecisionFits, decisions_fit}
 use Rattle.sl_job_facts.proofs.EffectsAreAllowed.{DecisionAllowed, DeltaAllowed, LeaseAllowed, decision, delta, ended, exited, lease, left, refusal, removal, removal_of_refused, requested, said, sent, signalled, stopped}
 use Rattle.sl_job_facts.proofs.JobFactsBegin.{running_then, sessions_then}
@@ -62,7 +62,7 @@ use Rattle.sl_words.proofs.CaseLaws.{one_value}
 use Rattle.sl_words.specs.Words.{choose}
 use Rattle.std.proofs.Common.{ap, inl, inr, refl, subst, sym, ◌∙◌}
 use Rattle.std.proofs.lemmas.Bool.{eqb-true}
-use Rattle.std.specs.Prelude.{Bool, Contains, List, None, Ok, Option, Some, [], false, is_some, length, not, option_and_then, true, ℕ, ◌&&◌, ◌+◌, ◌==◌, ◌∷◌, ◌≡◌, ◌⊎◌}
+use Rattle.std.specs.Prelude.{Bool, Contains, List, None, Ok, Option, Some, [], false, is_some, length, not, option_and_then, true, ℕ, ◌&&◌, ◌+◌, ◌-◌, ◌==◌, ◌∷◌, ◌≡◌, ◌⊎◌}
 
 -- Who holds is joined.
 pub holder_joined : (x : Step) (s : Session) (spot : Spot) (g : Grant) → Whole x → Has x s → Contains (holdings_on (seen x) s spot) g → is_some (joined_after (seen x) s) ≡ true

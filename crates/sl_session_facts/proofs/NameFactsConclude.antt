@@ -1,5 +1,4 @@
 -- At the end of an answer's entry no joining waits for what the answer makes due.
-use Rattle.sl_job_facts.proofs.EffectsAreAllowed.{DeltaAllowed, delta, lease, removal_of_refused, requested, sent, stopped}
 use Rattle.sl_acts.proofs.InputsKeep.{has_heard}
 use Rattle.sl_acts.proofs.LoopsKeep.{when_keeps}
 use Rattle.sl_acts.specs.Acts.{Has, Hears, IsIdle, lone_job}
@@ -14,7 +13,8 @@ use Rattle.sl_due.specs.DueRequests.{after_request_read, after_value_read, value
 use Rattle.sl_due.specs.Steps.{Step, add_move, add_reply, seen, with_input}
 use Rattle.sl_job_facts.proofs.AnsweredCallsFit.{both_of}
 use Rattle.sl_job_facts.proofs.CallsOfJobsFit.{joining_of}
-use Rattle.sl_job_facts.proofs.CallsStay.{late}
+use Rattle.sl_job_facts.proofs.CallsStay.{is_special, late}
+use Rattle.sl_job_facts.proofs.EffectsAreAllowed.{DeltaAllowed, delta, lease, removal_of_refused, requested, sent, stopped}
 use Rattle.sl_job_facts.proofs.JobsAreAllowed.{calls_heard, heard_answered, late_on_survey}
 use Rattle.sl_job_facts.proofs.NearlyPlainActs.{AnyMove, AnyStart}
 use Rattle.sl_job_facts.proofs.RepliesComeAfter.{IsLateDelta, IsLateLease, joining_late, lease_late, on_bool, on_option, set_late, value_late}
@@ -68,7 +68,7 @@ use Rattle.sl_words.proofs.WordLaws.{and_true}
 use Rattle.std.proofs.Common.{ap, refl, subst, sym, ◌∙◌}
 use Rattle.std.proofs.lemmas.Bool.{eqb-true}
 use Rattle.std.specs.Option.{option_or}
-use Rattle.std.specs.Prelude.{Bool, Contains, IsTrue, List, None, Option, Some, false, is_none, is_some, not, true, ℕ, ◌&&◌, ◌+◌, ◌==◌, ◌∷◌, ◌≡◌}
+use Rattle.std.specs.Prelude.{Bool, Contains, IsTrue, List, None, Option, Some, false, is_none, is_some, not, true, ℕ, ◌&&◌, ◌+◌, ◌-◌, ◌==◌, ◌∷◌, ◌≡◌}
 
 -- ---- a joining's answer
 

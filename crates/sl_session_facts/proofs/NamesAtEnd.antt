@@ -3,7 +3,7 @@ use Rattle.sl_acts.specs.Acts.{Has, Hears}
 use Rattle.sl_acts.specs.SoFar.{entry_of}
 use Rattle.sl_due.specs.Due.{is_waiting_step}
 use Rattle.sl_due.specs.Steps.{Step, add_call_of, seen}
-use Rattle.sl_job_facts.proofs.CallsStay.{IsLate, calls_stay}
+use Rattle.sl_job_facts.proofs.CallsStay.{IsLate, calls_stay, is_special, late_join}
 use Rattle.sl_job_facts.proofs.EffectsAreAllowed.{Allows, DeltaAllowed}
 use Rattle.sl_job_facts.proofs.NearlyPlainActs.{AnyMove, AnyStart}
 use Rattle.sl_job_facts.proofs.RepliesComeAfter.{IsLateDelta}
@@ -17,9 +17,9 @@ use Rattle.sl_plain.proofs.Options.{none_is}
 use Rattle.sl_session_facts.proofs.NameEffects.{joined_of}
 use Rattle.sl_session_facts.proofs.NamesAreAllowed.{NameCall, NameReply, caller_joined, is_joining}
 use Rattle.sl_session_facts.specs.Promises.{HasNameFacts, HasNamesPlainly}
-use Rattle.sl_sessions.specs.Sessions.{sessions, calls_of, is_call_of, is_join_call, is_join_done, joined_after}
+use Rattle.sl_sessions.specs.Sessions.{calls_of, is_call_of, is_join_call, is_join_done, joined_after, sessions}
 use Rattle.sl_sessions.specs.declared.delta.DeltaNext.{DeltaNext}
-use Rattle.sl_sessions.specs.declared.delta.DeltaNext.TheVariants.{Nothing, Disconnect, EndLeaving, Join, MoveConnection, ReadOwn, RefuseJoin, RegisterAndRead, WriteClaim, WriteFirst, WriteFree, WriteRenewal}
+use Rattle.sl_sessions.specs.declared.delta.DeltaNext.TheVariants.{Disconnect, EndLeaving, Join, MoveConnection, Nothing, ReadOwn, RefuseJoin, RegisterAndRead, WriteClaim, WriteFirst, WriteFree, WriteRenewal}
 use Rattle.sl_sessions.specs.declared.session.Session.{Session}
 use Rattle.sl_step_facts.specs.Heard.{heard_by}
 use Rattle.sl_step_facts.specs.Whole.{Whole}
@@ -37,7 +37,7 @@ use Rattle.sl_words.proofs.CaseLaws.{false_is_true, not_both, one_value, some_va
 use Rattle.sl_words.specs.Words.{choose}
 use Rattle.std.proofs.Common.{ap, ap₂, arith, inl, inr, refl, subst, sym, ◌∙◌}
 use Rattle.std.proofs.lemmas.Bool.{eqb-true}
-use Rattle.std.specs.Prelude.{Bool, Contains, IsTrue, List, None, Some, false, is_some, length, option_and_then, true, ℕ, ◌+◌, ◌<◌, ◌==◌, ◌∷◌, ◌≡◌, ◌⊎◌}
+use Rattle.std.specs.Prelude.{Bool, Contains, IsTrue, List, None, Some, false, is_some, length, option_and_then, true, ℕ, ◌+◌, ◌-◌, ◌<◌, ◌==◌, ◌∷◌, ◌≡◌, ◌⊎◌}
 
 -- ---- what an act leaves of calls and jobs
 
