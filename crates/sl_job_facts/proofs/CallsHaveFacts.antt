@@ -147,7 +147,7 @@ mapped_length : {A B : Type 0} (f : A → B) (xs : List A) → length (map f xs)
 mapped_length f [] = refl
 mapped_length f (x ∷ xs) = ap (λ n. suc n) (mapped_length f xs)
 
-find_mapped : {A : Type 0} (p : A → Bool) (f : A → A) (xs : List A) → ((a : A) → p (f a) ≡ p a) → find p (map f xs) ≡ option_map f (find p xs)
+pub find_mapped : {A : Type 0} (p : A → Bool) (f : A → A) (xs : List A) → ((a : A) → p (f a) ≡ p a) → find p (map f xs) ≡ option_map f (find p xs)
 find_mapped p f [] same = refl
 find_mapped {A} p f (x ∷ xs) same = ap₂ (λ b o. cond b (Some (f x)) o) (same x) (find_mapped p f xs same) ∙ turned (p x) where
   turned : (b : Bool) → cond b (Some (f x)) (option_map f (find p xs)) ≡ option_map f (cond b (Some x) (find p xs))

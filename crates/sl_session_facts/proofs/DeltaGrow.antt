@@ -46,7 +46,7 @@ FreedBefore x = (s : Session) (m : Submitted) → Contains (sessions x.setting (
 abbrev pub JoinsNone : Step → ℕ → Reply → Type 0
 JoinsNone x j r = (is_join_done r ≡ false) ⊎ ((s : Session) → Contains (sessions x.setting (seen x)) s → s.job ≡ Some j → ⊥)
 
-reply_joins_none : (y : Step) (j : ℕ) (r : Reply) (s : Session) → ((s.job ≡ Some j → ⊥) ⊎ (is_join_done r ≡ false)) → is_some (joined_after (seen (add_reply j r y)) s) ≡ true → is_some (joined_after (seen y) s) ≡ true
+pub reply_joins_none : (y : Step) (j : ℕ) (r : Reply) (s : Session) → ((s.job ≡ Some j → ⊥) ⊎ (is_join_done r ≡ false)) → is_some (joined_after (seen (add_reply j r y)) s) ≡ true → is_some (joined_after (seen y) s) ≡ true
 reply_joins_none y j r s none is = by s.job refl where
   by_reply : (i : ℕ) → s.job ≡ Some i → (b : Bool) → (j == i) ≡ b → is_some (joined_after (seen y) s) ≡ true
   by_reply i its false other =
@@ -102,7 +102,7 @@ pub record DeltaCall (x : Step) (s : Session) (path : List ℕ) (p : Purpose) (o
   pub no_look : is_join_call FirstRead p ≡ false
   pub no_free : is_free_purpose p ≡ false
   pub unfreed : free_write (calls_of (seen x) s) ≡ None
-  pub delta : (d : DeltaRec) → option_and_then delta_of_record (record_of op) ≡ Some d → is_some (joined_after (seen x) s) ≡ true → GoodDelta x s d
+  pub delta : (d : DeltaRec) → option_and_then delta_of_record (record_of op) ≡ Some d → GoodDelta x s d
 
 -- A call that is no free, by a session that wrote none.
 pub call_delta : (y : Step) (s : Session) (path : List ℕ) (p : Purpose) (o : ℕ) (op : Op) → Has y s → is_join_call FirstRead p ≡ false → is_free_purpose p ≡ false → free_write (calls_of (seen y) s) ≡ None

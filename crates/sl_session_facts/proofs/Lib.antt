@@ -7,3 +7,4 @@ pub mod JoiningsGoOn
 pub mod NamesAtEnd
 pub mod NameFactsConclude
 pub mod DeltaGrow
+pub mod DeltaIsAllowed
