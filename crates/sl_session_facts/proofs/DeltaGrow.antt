@@ -9,9 +9,9 @@ use Rattle.sl_parts_law.proofs.EffectsAreTold.{effects_are_told}
 use Rattle.sl_plain.proofs.Options.{some_of}
 use Rattle.sl_sector.specs.declared.sector.DeltaRec.{DeltaRec}
 use Rattle.sl_session_facts.proofs.NameEffects.{joined_of, reply_kept_to}
-use Rattle.sl_sessions.specs.Sessions.{sessions, calls_of, delta_of_record, free_write, generation_in, generation_of, given_number, is_free_purpose, is_join_call, is_join_done, is_joined, joined_after, last_delta, last_seq, leaving_in, leaving_job, seq_in, session_numbered}
+use Rattle.sl_sessions.specs.Sessions.{calls_of, delta_of_record, free_write, generation_in, generation_of, given_number, is_free_purpose, is_join_call, is_join_done, is_joined, joined_after, last_delta, last_seq, leaving_in, leaving_job, seq_in, session_numbered, sessions}
 use Rattle.sl_sessions.specs.declared.session.Session.{Session}
-use Rattle.sl_trace.specs.Traces.{Job, Replied, Setting, Submitted, Trace, new_call, next_call, record_of, reply_to, submitted, unanswered}
+use Rattle.sl_trace.specs.Traces.{Answered, Job, Replied, Setting, Submitted, Trace, new_call, next_call, record_of, reply_to, submitted, unanswered}
 use Rattle.sl_trace.specs.declared.effects.Call.{Call}
 use Rattle.sl_trace.specs.declared.effects.Entry.{Entry}
 use Rattle.sl_trace.specs.declared.effects.JoinStep.TheVariants.{FirstRead}
@@ -29,6 +29,7 @@ use Rattle.std.specs.Prelude.{Bool, Contains, IsSome, IsTrue, List, None, Option
 -- What is known of delta records, but that a session which wrote its free holds nothing.
 pub record DeltaPart (st : Setting) (t : Trace) : Type 0 where
   pub frees : (s : Session) (m : Submitted) → Contains (sessions st t) s → free_write (calls_of t s) ≡ Some m → IsSome (leaving_job st t s) × ((ms : List Submitted) × (calls_of t s ≡ m ∷ ms) × (unanswered ms ≡ []))
+  pub before : (s : Session) (m n : Submitted) → Contains (sessions st t) s → free_write (calls_of t s) ≡ Some m → Contains (calls_of t s) n → (n ≡ m) ⊎ ((a : Answered) × (n.answer ≡ Some a) × (a.at ≤ m.at))
   pub numbers : (s : Session) → Contains (sessions st t) s → is_joined t s ≡ true → (1 ≤ generation_of t s) × IsTrue (is_number (generation_of t s)) × IsTrue (is_number (last_seq t s))
   pub left : (s : Session) (k : Job) → Contains (sessions st t) s → is_joined t s ≡ true → leaving_job st t s ≡ Some k → free_write (calls_of t s) ≡ None → IsTrue (is_number (last_seq t s + 1))
 
@@ -110,6 +111,7 @@ pub call_delta : (y : Step) (s : Session) (path : List ℕ) (p : Purpose) (o : �
 call_delta y s path p o op has no_look no_free unfreed good h =
     record {
       frees = λ z m there is. frees z m (old z there) is (calls_by z (s.number == z.number) refl);
+      before = λ z m n there is inside. before z m n (old z there) is inside (calls_by z (s.number == z.number) refl);
       numbers = λ z there joined. numbers z (old z there) joined (calls_by z (s.number == z.number) refl);
       left = λ z k there joined leaves_z none. left z k (old z there) joined leaves_z none (calls_by z (s.number == z.number) refl);
     } where
@@ -140,6 +142,14 @@ call_delta y s path p o op has no_look no_free unfreed good h =
       absurd (none_some m (sym (ap (λ ms. free_write ms) mine.1 ∙ (ap (λ (q : Session). free_write (new ∷ calls_of (seen y) q)) same ∙ free_same)) ∙ is))
   frees z m there is (inr other) =
       let was = h.frees z m there (sym (ap (λ ms. free_write ms) other) ∙ is) in (was.0, (was.1.0, other ∙ was.1.1, was.1.2))
+
+  before : (z : Session) (m n : Submitted) → Contains (sessions y.setting (seen y)) z → free_write (calls_of (seen (add_call_of s.number path p o op y)) z) ≡ Some m → Contains (calls_of (seen (add_call_of s.number path p o op y)) z) n
+      → ((z.number ≡ s.number) × (calls_of (seen (add_call_of s.number path p o op y)) z ≡ new ∷ calls_of (seen y) z)) ⊎ (calls_of (seen (add_call_of s.number path p o op y)) z ≡ calls_of (seen y) z)
+      → (n ≡ m) ⊎ ((a : Answered) × (n.answer ≡ Some a) × (a.at ≤ m.at))
+  before z m n there is inside (inl mine) =
+      let same : z ≡ s = one z there mine.0 in
+      absurd (none_some m (sym (ap (λ ms. free_write ms) mine.1 ∙ (ap (λ (q : Session). free_write (new ∷ calls_of (seen y) q)) same ∙ free_same)) ∙ is))
+  before z m n there is inside (inr other) = h.before z m n there (sym (ap (λ ms. free_write ms) other) ∙ is) (subst (λ ms. Contains ms n) other inside)
 
   numbers_by : (z : Session) → z ≡ s → is_joined (seen y) z ≡ true → (1 ≤ generation_of (seen y) z) × IsTrue (is_number (generation_of (seen y) z)) × IsTrue (is_number (last_seq (seen y) z))
       → (o : Option DeltaRec) → option_and_then delta_of_record (record_of op) ≡ o
