@@ -8,3 +8,4 @@ pub mod NamesAtEnd
 pub mod NameFactsConclude
 pub mod DeltaGrow
 pub mod DeltaIsAllowed
+pub mod HoldingsOfSessions
