@@ -9,3 +9,4 @@ pub mod NameFactsConclude
 pub mod DeltaGrow
 pub mod DeltaIsAllowed
 pub mod HoldingsOfSessions
+pub mod DeltaConditions
