@@ -95,7 +95,7 @@ unjoined_unfreed x s orderly has unjoined =
     false_is_true (sym (ap (λ o. is_some o) unjoined) ∙ joined))
 
 -- Its calls but the free were answered before, so none is heard.
-heard_at : (x : Step) (s : Session) (m : Submitted) (answer : Answer) (a : Answered) → Whole x → Hears x s m answer → m.answer ≡ Some a → a.at ≡ length x.past
+pub heard_at : (x : Step) (s : Session) (m : Submitted) (answer : Answer) (a : Answered) → Whole x → Hears x s m answer → m.answer ≡ Some a → a.at ≡ length x.past
 heard_at x s m answer a h hears is =
     let n : ℕ = hears.number in
     let expected : IsTrue (is_expected x.setting x.past (Told n answer)) = subst (λ i. IsTrue (is_expected x.setting x.past i)) hears.heard h.orderly.is_trace.0.expected in
@@ -245,7 +245,7 @@ freed_delta x s j call Written = (tt, plain_reply x j Done refl)
 freed_delta x s j call Failed = (tt, plain_reply x j (IoFault call) refl)
 freed_delta x s j call (Read bytes) = tt
 
-nat_low : (n : ℕ) → n < record_numbers → is_number n ≡ true
+pub nat_low : (n : ℕ) → n < record_numbers → is_number n ≡ true
 nat_low n low = lt-ltb n record_numbers low
 
 -- A renewal: its seq is one more, and in a leaving one is left.

@@ -128,7 +128,7 @@ mark_delta es e (Told n a) (m ∷ ms) =
     ∙ ap (λ (o : Option DeltaRec). elim (delta_written m) as (λ z. Option DeltaRec) [ Some d ↦ Some d | None ↦ o ]) (mark_delta es e (Told n a) ms)
 mark_delta es e i ms = refl
 
-mark_free : (es : Trace) (e : Entry) (i : Input) (ms : List Submitted) → free_write ms ≡ None → free_write (mark es e i ms) ≡ None
+pub mark_free : (es : Trace) (e : Entry) (i : Input) (ms : List Submitted) → free_write ms ≡ None → free_write (mark es e i ms) ≡ None
 mark_free es e (Told n a) ms none = find_mapped (λ (m : Submitted). is_free_purpose m.call.purpose) (answered_in es e n a) ms (λ m. ap (λ (c : Call). is_free_purpose c.purpose) (same_answered es e n a m).call) ∙ ap (λ o. option_map (answered_in es e n a) o) none
 mark_free es e i ms none = none
 
@@ -157,14 +157,14 @@ mark_before es e i ms b m n was is all marked inside =
     let same : b ≡ m = one_value b m (free_write ms) was marked in subst (λ (z : Submitted). (n ≡ z) ⊎ ((a : Answered) × (n.answer ≡ Some a) × (a.at ≤ z.at))) same (all n inside)
 
 -- Where the input makes no session leave.
-pub input_delta : (x : Step) (i : Input) → x.input ≡ Wake → x.effects.calls ≡ [] → ((s : Session) (k : Job) → leaving_job x.setting (seen (with_input i x)) s ≡ Some k → (leaving_job x.setting (seen x) s ≡ Some k) ⊎ (IsTrue (is_number (last_seq (seen x) s + 1))))
+pub input_delta : (x : Step) (i : Input) → x.input ≡ Wake → x.effects.calls ≡ [] → ((s : Session) (k : Job) → Contains (sessions x.setting (seen x)) s → is_joined (seen x) s ≡ true → leaving_job x.setting (seen (with_input i x)) s ≡ Some k → (leaving_job x.setting (seen x) s ≡ Some k) ⊎ (IsTrue (is_number (last_seq (seen x) s + 1))))
     → ((s : Session) (k : Job) → leaving_job x.setting (seen x) s ≡ Some k → IsSome (leaving_job x.setting (seen (with_input i x)) s)) → DeltaPart x.setting (seen x) → DeltaPart x.setting (seen (with_input i x))
 input_delta x i wake bare leaves_so stays h =
     record {
       frees = λ s m there is. frees s m (old s there) is;
       before = λ s m n there is inside. before s m n (old s there) is inside;
       numbers = λ s there joined. subst (λ o. (1 ≤ option_map_or (λ (d : DeltaRec). d.generation) o (given_number s)) × IsTrue (is_number (option_map_or (λ (d : DeltaRec). d.generation) o (given_number s))) × IsTrue (is_number (option_map_or (λ (d : DeltaRec). d.seq) o (given_number s)))) (sym (last s)) (h.numbers s (old s there) joined);
-      left = λ s k there joined leaves_s none. subst (λ o. IsTrue (is_number (option_map_or (λ (d : DeltaRec). d.seq) o (given_number s) + 1))) (sym (last s)) (left s k (old s there) joined none (leaves_so s k leaves_s));
+      left = λ s k there joined leaves_s none. subst (λ o. IsTrue (is_number (option_map_or (λ (d : DeltaRec). d.seq) o (given_number s) + 1))) (sym (last s)) (left s k (old s there) joined none (leaves_so s k (old s there) joined leaves_s));
     } where
   e : Entry
   e = entry_of (with_input i x)

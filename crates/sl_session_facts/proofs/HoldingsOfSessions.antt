@@ -50,7 +50,7 @@ HeldBy x n y = (g : Grant) → Contains (holdings (seen y)) g → ((h : Grant) �
 pub held_itself : (x : Step) (n : ℕ) → HeldBy x n x
 held_itself x n g there = inl (g, there, refl)
 
-end_held : (x : Step) (n : ℕ) (y : Step) (e : End) → HeldBy x n y → HeldBy x n (add_end e y)
+pub end_held : (x : Step) (n : ℕ) (y : Step) (e : End) → HeldBy x n y → HeldBy x n (add_end e y)
 end_held x n y e h g there = by (contains_either (filter (λ (k : Grant). not (is_ended_by (e ∷ []) k)) (filter (λ (k : Grant). not (is_ended_by y.effects.ends k)) (holdings y.past))) y.effects.grants g (subst (λ gs. Contains gs g) (effects_are_told.ends e (entry_of y) y.past) there)) where
   by : Contains (filter (λ (k : Grant). not (is_ended_by (e ∷ []) k)) (filter (λ (k : Grant). not (is_ended_by y.effects.ends k)) (holdings y.past))) g ⊎ Contains y.effects.grants g → ((k : Grant) × Contains (holdings (seen x)) k × (k.session ≡ g.session)) ⊎ (g.session ≡ n)
   by (inl was) =

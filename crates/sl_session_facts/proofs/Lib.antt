@@ -10,3 +10,7 @@ pub mod DeltaGrow
 pub mod DeltaIsAllowed
 pub mod HoldingsOfSessions
 pub mod DeltaConditions
+pub mod JoinedNumbers
+pub mod DeltaActs
+pub mod DeltaFactsAreKept
+pub mod DeltaLines
