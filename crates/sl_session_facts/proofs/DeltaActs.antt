@@ -1,5 +1,4 @@
 -- Acts of joinings, frees and lines keep what is known of delta records.
-use Rattle.sl_session_facts.proofs.HoldingsOfSessions.{HeldBy}
 use Rattle.sl_acts.proofs.Additions.{contains_at}
 use Rattle.sl_acts.proofs.LoopsKeep.{with_some_keeps}
 use Rattle.sl_acts.specs.Acts.{Has}
@@ -20,12 +19,14 @@ use Rattle.sl_sector.specs.declared.sector.Rec.TheVariants.{DeltaIs}
 use Rattle.sl_session_facts.proofs.DeltaConditions.{freed_before, part_of, plain_reply, unjoined_unfreed}
 use Rattle.sl_session_facts.proofs.DeltaGrow.{DeltaCall, DeltaPart, DeltaReply, DeltaSince, FreedBefore, call_delta, leaving_goes_on, reply_joins_none}
 use Rattle.sl_session_facts.proofs.DeltaIsAllowed.{delta_allows, delta_at}
+use Rattle.sl_session_facts.proofs.HoldingsOfSessions.{HeldBy}
 use Rattle.sl_session_facts.proofs.JoinedNumbers.{HasNumbers, JoinsNot}
 use Rattle.sl_session_facts.proofs.NamesAtEnd.{running_unjoined}
+use Rattle.sl_session_facts.specs.Promises.{HasDeltaFacts}
 use Rattle.sl_sessions.specs.Deltas.{own_offset}
-use Rattle.sl_sessions.specs.Sessions.{sessions, calls_of, free_write, generation_in, holdings_of, is_call_of, is_free_purpose, is_join_call, is_join_done, is_joined, joined_after, leaving_job, removed_after, seq_in, session_numbered, sessions}
+use Rattle.sl_sessions.specs.Sessions.{calls_of, free_write, generation_in, holdings_of, is_call_of, is_free_purpose, is_join_call, is_join_done, is_joined, joined_after, leaving_job, removed_after, seq_in, session_numbered, sessions}
 use Rattle.sl_sessions.specs.declared.delta.DeltaNext.{DeltaNext}
-use Rattle.sl_sessions.specs.declared.delta.DeltaNext.TheVariants.{Nothing, Disconnect, EndLeaving, Join, MoveConnection, ReadOwn, RefuseJoin, RegisterAndRead, WriteClaim, WriteFirst, WriteFree, WriteRenewal}
+use Rattle.sl_sessions.specs.declared.delta.DeltaNext.TheVariants.{Disconnect, EndLeaving, Join, MoveConnection, Nothing, ReadOwn, RefuseJoin, RegisterAndRead, WriteClaim, WriteFirst, WriteFree, WriteRenewal}
 use Rattle.sl_sessions.specs.declared.session.Session.{Session}
 use Rattle.sl_step_facts.specs.SessionFacts.{DeltaFacts}
 use Rattle.sl_step_facts.specs.Whole.{Whole}
@@ -105,7 +106,7 @@ allows_done x freed =
 -- ---- holdings
 
 -- What an act leaves, where the session that it grants to has not written its free.
-pub delta_full : (x y : Step) (n : ℕ) → DeltaFacts x.setting (seen x) → DeltaDone x y → HeldBy x n y → ((s : Session) → Contains (sessions x.setting (seen x)) s → s.number ≡ n → free_write (calls_of (seen x) s) ≡ None) → DeltaFacts y.setting (seen y)
+pub delta_full : (x y : Step) (n : ℕ) → DeltaFacts x.setting (seen x) → DeltaDone x y → HeldBy x n y → ((s : Session) → Contains (sessions x.setting (seen x)) s → s.number ≡ n → free_write (calls_of (seen x) s) ≡ None) → HasDeltaFacts y
 delta_full x y n h d owners unfreed =
     record {
       frees = λ s m there is.

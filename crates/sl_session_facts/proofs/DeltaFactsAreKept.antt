@@ -23,6 +23,7 @@ use Rattle.sl_session_facts.proofs.DeltaIsAllowed.{delta_at, input_delta, mark_f
 use Rattle.sl_session_facts.proofs.HoldingsOfSessions.{HeldBy, held_itself}
 use Rattle.sl_session_facts.proofs.JoinedNumbers.{HasNumbers}
 use Rattle.sl_session_facts.proofs.NamesGrow.{calls_of_told}
+use Rattle.sl_session_facts.specs.Promises.{HasDeltaFacts}
 use Rattle.sl_sessions.specs.Deltas.{delta_known, delta_of_session, delta_record, next_free, own_offset}
 use Rattle.sl_sessions.specs.Sessions.{calls_of, free_write, generation_in, generation_of, holdings_of, is_call_of, is_joined, last_seq, leaving_job, open_calls_of, seq_in, session_numbered, sessions}
 use Rattle.sl_sessions.specs.declared.delta.DeltaNext.{DeltaNext}
@@ -56,10 +57,10 @@ pub begin_delta : (x : Step) → Whole x → DeltaSince x x
 begin_delta x h = delta_at x (part x h)
 
 -- Of one that grants nothing, or grants to a session that has not written its free.
-pub grants_none : (x y : Step) → Whole x → DeltaDone x y → HeldBy x (length (sessions x.setting (seen x))) y → DeltaFacts y.setting (seen y)
+pub grants_none : (x y : Step) → Whole x → DeltaDone x y → HeldBy x (length (sessions x.setting (seen x))) y → HasDeltaFacts y
 grants_none x y h d owners = delta_full x y (length (sessions x.setting (seen x))) h.facts.delta d owners (λ s there is. no_number x s there is)
 
-pub grants_to : (x y : Step) (s : Session) → Whole x → Has x s → free_write (calls_of (seen x) s) ≡ None → DeltaDone x y → HeldBy x s.number y → DeltaFacts y.setting (seen y)
+pub grants_to : (x y : Step) (s : Session) → Whole x → Has x s → free_write (calls_of (seen x) s) ≡ None → DeltaDone x y → HeldBy x s.number y → HasDeltaFacts y
 grants_to x y s h has free d owners = delta_full x y s.number h.facts.delta d owners (λ z there is. one_unfreed x s has free z there is)
 
 pub since_done : (x y : Step) → DeltaSince x y → DeltaDone x y
@@ -71,7 +72,7 @@ told_line is = ap (λ i. line_in i) is
 pub woken_line : {i : Input} → i ≡ Wake → line_in i ≡ None
 woken_line is = ap (λ i. line_in i) is
 
-pub replied : (x : Step) (j : ℕ) (r : Reply) → line_in x.input ≡ None → is_special r ≡ false → Whole x → DeltaFacts x.setting (seen (add_reply j r x))
+pub replied : (x : Step) (j : ℕ) (r : Reply) → line_in x.input ≡ None → is_special r ≡ false → Whole x → HasDeltaFacts (add_reply j r x)
 replied x j r none after h =
     grants_none x (add_reply j r x) h (since_done x (add_reply j r x) ((allowed x none h).replies x j r (plain_reply x j r after) (begin_delta x h))) (held_itself x (length (sessions x.setting (seen x))))
 
@@ -195,14 +196,14 @@ written_free x s j d h has joined free quiet leaves_s unfreed gen seq =
   left z k there is leaves_z none (inr other) = subst (λ ms. IsTrue (is_number (seq_in z ms + 1))) (sym other) (f.left z k there is leaves_z (sym (ap (λ ms. free_write ms) other) ∙ none))
 
 pub frees_full : (x : Step) (s : Session) → Whole x → Has x s → is_joined (seen x) s ≡ true → holdings_of (seen x) s ≡ [] → open_calls_of (seen x) s ≡ []
-    → DeltaFacts x.setting (seen (carry_delta s (next_free (delta_of_session x.setting s) x.reading (delta_known x.setting (seen x) s)) x))
+    → HasDeltaFacts (carry_delta s (next_free (delta_of_session x.setting s) x.reading (delta_known x.setting (seen x) s)) x)
 unfolding carry_delta
 frees_full x s h has joined free quiet = by (leaving_job x.setting (seen x) s) refl (free_write (calls_of (seen x) s)) refl where
   d : DeltaRec
   d = delta_record (delta_of_session x.setting s) Free (generation_of (seen x) s) (last_seq (seen x) s + 1) x.reading no_bits
 
   by : (o : Option Job) → leaving_job x.setting (seen x) s ≡ o → (q : Option Submitted) → free_write (calls_of (seen x) s) ≡ q
-      → DeltaFacts x.setting (seen (carry_delta s (elim (option_map (λ (j : Job). j.number) o) as (λ z. DeltaNext) [ None ↦ Nothing | Some j ↦ elim (is_some q) as (λ z. DeltaNext) [ true ↦ Nothing | false ↦ WriteFree j (delta_record (delta_of_session x.setting s) Free (generation_of (seen x) s) (last_seq (seen x) s + 1) x.reading no_bits) ] ]) x))
+      → HasDeltaFacts (carry_delta s (elim (option_map (λ (j : Job). j.number) o) as (λ z. DeltaNext) [ None ↦ Nothing | Some j ↦ elim (is_some q) as (λ z. DeltaNext) [ true ↦ Nothing | false ↦ WriteFree j (delta_record (delta_of_session x.setting s) Free (generation_of (seen x) s) (last_seq (seen x) s + 1) x.reading no_bits) ] ]) x)
   by None is q freed = h.facts.delta
   by (Some k) is (Some m) freed = h.facts.delta
   by (Some k) is None freed = written_free x s k.number d h has joined free quiet (subst (λ o. IsSome o) (sym is) refl) freed refl refl

@@ -1,6 +1,6 @@
 -- What each act allows of delta records.
 use Rattle.sl_acts.specs.SoFar.{entry_of}
-use Rattle.sl_due.specs.Steps.{Step, add_move, add_reply, seen, with_input}
+use Rattle.sl_due.specs.Steps.{Step, add_move, add_reply, add_signal, add_start, seen, with_input}
 use Rattle.sl_job_facts.proofs.CallsHaveFacts.{find_mapped, sessions_told}
 use Rattle.sl_job_facts.proofs.CallsStay.{IsLate, calls_stay}
 use Rattle.sl_job_facts.proofs.EffectsAreAllowed.{Allows}
@@ -18,6 +18,8 @@ use Rattle.sl_trace.specs.Traces.{Answered, Job, Submitted, Trace, answer_of, an
 use Rattle.sl_trace.specs.declared.effects.Call.{Call}
 use Rattle.sl_trace.specs.declared.effects.Entry.{Entry}
 use Rattle.sl_trace.specs.declared.effects.Move.{Move}
+use Rattle.sl_trace.specs.declared.effects.Signal.{Signal}
+use Rattle.sl_trace.specs.declared.effects.Start.{Start}
 use Rattle.sl_trace.specs.declared.input.Input.{Input}
 use Rattle.sl_trace.specs.declared.input.Input.TheVariants.{Answer as Told, Wake}
 use Rattle.sl_trace.specs.declared.reply.Reply.{Reply}
@@ -74,11 +76,17 @@ reply_delta x y j r freed may h =
     by (inl no_join) = inr no_join
     by (inr no_one) = inl (λ its. no_one s (subst (λ ss. Contains ss s) h.sessions there) its)
 
-since_move : (x y : Step) (m : Move) → DeltaSince x y → DeltaSince x (add_move m y)
+pub since_move : (x y : Step) (m : Move) → DeltaSince x y → DeltaSince x (add_move m y)
 since_move x y m h = record { part = move_delta y m h.part; setting = h.setting; before = h.before; input = h.input; sessions = h.sessions; calls = h.calls; joined = h.joined; leaving = h.leaving }
 
 good_since : (x y : Step) (s : Session) (d : DeltaRec) → DeltaSince x y → calls_of (seen y) s ≡ calls_of (seen x) s → GoodDelta x s d → GoodDelta y s d
 good_since x y s d h calls g = record { same = g.same ∙ ap (λ ms. generation_in s ms) (sym calls); seq = g.seq; left = λ k is. g.left k (h.leaving s k is) }
+
+pub since_signal : (x y : Step) (q : ℕ) (signal : Signal) → DeltaSince x y → DeltaSince x (add_signal q signal y)
+since_signal x y q signal h = record { part = record { frees = h.part.frees; before = h.part.before; numbers = h.part.numbers; left = h.part.left }; setting = h.setting; before = h.before; input = h.input; sessions = h.sessions; calls = h.calls; joined = h.joined; leaving = h.leaving }
+
+pub since_start : (x y : Step) (k : Start) → DeltaSince x y → DeltaSince x (add_start k y)
+since_start x y k h = record { part = record { frees = h.part.frees; before = h.part.before; numbers = h.part.numbers; left = h.part.left }; setting = h.setting; before = h.before; input = h.input; sessions = h.sessions; calls = h.calls; joined = h.joined; leaving = h.leaving }
 
 pub delta_allows : (x : Step) → FreedBefore x → Allows (DeltaSince x) (λ y. DeltaPart y.setting (seen y)) (DeltaReply x) (DeltaCall x) AnyStart AnyMove
 delta_allows x freed =

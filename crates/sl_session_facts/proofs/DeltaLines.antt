@@ -1,4 +1,5 @@
 -- Lines keep what is known of delta records.
+use Rattle.sl_job_facts.proofs.JobsAreNumbered.{next_before}
 use Rattle.sl_acts.proofs.DecisionsAreTheirs.{Of}
 use Rattle.sl_acts.specs.Acts.{Has}
 use Rattle.sl_acts.specs.SoFar.{entry_of}
@@ -15,15 +16,16 @@ use Rattle.sl_job_facts.proofs.EffectsAreAllowed.{DecisionAllowed}
 use Rattle.sl_job_facts.proofs.LinesAreAllowed.{IsBegun, late_on_line}
 use Rattle.sl_job_facts.proofs.NearlyPlainActs.{AnyStart}
 use Rattle.sl_job_facts.proofs.QuietEffects.{by_input}
-use Rattle.sl_job_facts.proofs.QuietLines.{new_leaving}
+use Rattle.sl_job_facts.proofs.QuietLines.{answered_leaving, new_leaving}
 use Rattle.sl_job_facts.proofs.RepliesComeAfter.{IsLateLease, release_late}
+use Rattle.sl_job_facts.proofs.SessionsHaveJobs.{number_taken}
 use Rattle.sl_job_facts.proofs.SessionsStand.{joined_then}
 use Rattle.sl_leases.specs.Ballots.{moded_block}
 use Rattle.sl_leases.specs.LeaseWork.{convert_next, lease_place, release_next}
 use Rattle.sl_leases.specs.Leases.{LeaseKnown, holdings_on, known, spot_of}
 use Rattle.sl_leases.specs.declared.lease.LeaseNext.{LeaseNext}
 use Rattle.sl_leases.specs.declared.lease.LeaseNext.TheVariants.{AnswerJob, Nothing as No_lease, WriteBlock}
-use Rattle.sl_plain.proofs.Lists.{got_inside, next_before}
+use Rattle.sl_plain.proofs.Lists.{got_inside}
 use Rattle.sl_sector.specs.declared.sector.Block.{Block}
 use Rattle.sl_sector.specs.declared.sector.Rec.TheVariants.{ValueIs}
 use Rattle.sl_session_facts.proofs.DeltaConditions.{active_unfreed, freed_before, grant_delta, lease_delta, plain_call, plain_reply}
@@ -31,7 +33,7 @@ use Rattle.sl_session_facts.proofs.DeltaFactsAreKept.{part, woken_line}
 use Rattle.sl_session_facts.proofs.DeltaGrow.{DeltaCall, DeltaPart, DeltaReply, DeltaSince, FreedBefore, leaving_goes_on, reply_joins_none}
 use Rattle.sl_session_facts.proofs.DeltaIsAllowed.{input_delta}
 use Rattle.sl_session_facts.proofs.HoldingsOfSessions.{HeldBy, end_held, held_grant, held_itself, held_lease, held_stop}
-use Rattle.sl_sessions.specs.Sessions.{sessions, calls_of, free_write, generation_in, is_active, is_call_of, is_joined, is_session_arg, joined_after, last_renewal, last_seq, leaving_job, removed_after, seq_in, sessions}
+use Rattle.sl_sessions.specs.Sessions.{calls_of, free_write, generation_in, is_active, is_call_of, is_joined, is_session_arg, joined_after, last_renewal, last_seq, leaving_job, removed_after, seq_in, sessions}
 use Rattle.sl_sessions.specs.declared.session.Session.{Session}
 use Rattle.sl_step_facts.specs.SessionFacts.{DeltaFacts}
 use Rattle.sl_step_facts.specs.Whole.{Whole}
@@ -59,7 +61,7 @@ use Rattle.std.specs.Prelude.{Bool, Contains, IsSome, IsTrue, List, None, Ok, Op
 no_such_job : (x : Step) (s : Session) → Contains (sessions x.setting (seen x)) s → s.job ≡ Some (next_job x.setting (seen x)) → ⊥
 no_such_job x s there its = let low : next_job x.setting (seen x) < next_job x.setting (seen x) = number_taken x.setting (seen x) s (next_job x.setting (seen x)) there its in omega (arith, low)
 
-calls_lined : (x : Step) (text : List ℕ) → x.input ≡ Wake → x.effects.calls ≡ [] → submitted (seen (with_input (Line text) x)) ≡ submitted (seen x)
+pub calls_lined : (x : Step) (text : List ℕ) → x.input ≡ Wake → x.effects.calls ≡ [] → submitted (seen (with_input (Line text) x)) ≡ submitted (seen x)
 calls_lined x text wake bare = calls_told x (Line text) bare ∙ sym (calls_before x wake bare)
 
 -- A line that is answered at once.
@@ -102,7 +104,7 @@ answered_full x text r wake bare h =
 -- ---- a line that is carried out
 
 -- With the line seen, where a leaving that it begins has a seq left.
-lined_part : (x : Step) (text : List ℕ) (c : Command) → x.input ≡ Wake → x.effects.calls ≡ [] → x.setting.read text ≡ Ok c → Whole x
+pub lined_part : (x : Step) (text : List ℕ) (c : Command) → x.input ≡ Wake → x.effects.calls ≡ [] → x.setting.read text ≡ Ok c → Whole x
     → ((s : Session) (a : LockspaceArg) → Contains (sessions x.setting (seen x)) s → is_joined (seen x) s ≡ true → c ≡ RemLockspace a → is_session_arg s a ≡ true → IsTrue (is_number (last_seq (seen x) s + 1)))
     → DeltaPart x.setting (seen (with_input (Line text) x))
 lined_part x text c wake bare says h well =
@@ -119,11 +121,11 @@ lined_part x text c wake bare says h well =
     either (Some a) q = refl
     either None q = absurd (none_some k q)
 
-lined_freed : (x : Step) (text : List ℕ) → x.input ≡ Wake → x.effects.calls ≡ [] → Whole x → FreedBefore (with_input (Line text) x)
+pub lined_freed : (x : Step) (text : List ℕ) → x.input ≡ Wake → x.effects.calls ≡ [] → Whole x → FreedBefore (with_input (Line text) x)
 lined_freed x text wake bare h s m there is =
     freed_before x (woken_line wake) (part x h) s m (subst (λ ss. Contains ss s) (sessions_told x (Line text) bare) there) (sym (ap (λ ms. free_write (filter (is_call_of s) ms)) (calls_lined x text wake bare)) ∙ is)
 
-lined_unfreed : (x : Step) (text : List ℕ) (s : Session) → x.input ≡ Wake → x.effects.calls ≡ [] → Whole x → Has (with_input (Line text) x) s → is_active x.setting (seen x) s ≡ true → free_write (calls_of (seen (with_input (Line text) x)) s) ≡ None
+pub lined_unfreed : (x : Step) (text : List ℕ) (s : Session) → x.input ≡ Wake → x.effects.calls ≡ [] → Whole x → Has (with_input (Line text) x) s → is_active x.setting (seen x) s ≡ true → free_write (calls_of (seen (with_input (Line text) x)) s) ≡ None
 lined_unfreed x text s wake bare h has active =
     let there : Contains (sessions x.setting (seen x)) s = subst (λ ss. Contains ss s) (sessions_told x (Line text) bare) (got_inside (sessions x.setting (seen (with_input (Line text) x))) s.number s has) in
     ap (λ ms. free_write (filter (is_call_of s) ms)) (calls_lined x text wake bare) ∙ active_unfreed x.setting (seen x) s (part x h) there active
@@ -139,7 +141,7 @@ convert_silent k Shared name r is = by k.own is where
   by (Some own) same = true_is_false (ap (λ n. reads_more n) same)
   by None same = true_is_false (ap (λ n. reads_more n) same)
 
-decision_delta : (x : Step) (text : List ℕ) (c : Command) (d : Decision) → x.input ≡ Wake → x.effects.calls ≡ [] → Whole x → Of (Has (with_input (Line text) x)) d → DecisionFits x.setting (seen x) c d
+pub decision_delta : (x : Step) (text : List ℕ) (c : Command) (d : Decision) → x.input ≡ Wake → x.effects.calls ≡ [] → Whole x → Of (Has (with_input (Line text) x)) d → DecisionFits x.setting (seen x) c d
     → IsBegun d ⊎ DecisionAllowed (DeltaSince (with_input (Line text) x)) (DeltaReply (with_input (Line text) x)) (DeltaCall (with_input (Line text) x)) AnyStart (with_input (Line text) x) (next_job x.setting (seen x)) c d
 decision_delta x text c (Replies r) wake bare h has f = inr tt
 decision_delta x text c (Joins n a) wake bare h has f = inl tt
@@ -165,7 +167,7 @@ decision_delta x text c (GetsValue s at) wake bare h has f =
     inr (plain_call (with_input (Line text) x) s at.path (ValueRead (next_job x.setting (seen x))) (value_offset x.setting.layout at.base) (ReadSectors 1) has (lined_unfreed x text s wake bare h has f.0) refl refl refl)
 
 -- The number of the decision's session.
-abbrev OwnNumber : ℕ → Decision → Type 0
+abbrev pub OwnNumber : ℕ → Decision → Type 0
 OwnNumber n (Shares s lver) = s.number ≡ n
 OwnNumber n (GivesUp s g) = s.number ≡ n
 OwnNumber n (TakesOver s g) = s.number ≡ n
@@ -173,7 +175,7 @@ OwnNumber n (ConvertsTo s r mode) = s.number ≡ n
 OwnNumber n d = Unit {0}
 
 -- Whose holdings a command leaves: nobody's but its session's.
-decision_held : (x : Step) (j : ℕ) (c : Command) (d : Decision) → (n : ℕ) → OwnNumber n d → HeldBy x n (carry_decision j c d x)
+pub decision_held : (x : Step) (j : ℕ) (c : Command) (d : Decision) → (n : ℕ) → OwnNumber n d → HeldBy x n (carry_decision j c d x)
 unfolding carry_decision after_end
 decision_held x j c (Replies r) n own = held_itself x n
 decision_held x j c (Joins k a) n own = held_itself x n

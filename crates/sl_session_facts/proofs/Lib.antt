@@ -14,3 +14,4 @@ pub mod JoinedNumbers
 pub mod DeltaActs
 pub mod DeltaFactsAreKept
 pub mod DeltaLines
+pub mod DeltaFactsHold
