@@ -61,7 +61,7 @@ use Rattle.sl_words.proofs.CaseLaws.{none_some, one_value, some_value, true_is_f
 use Rattle.sl_words.proofs.WordLaws.{and_true}
 use Rattle.std.proofs.Common.{ap, ap₂, refl, subst, sym, ◌∙◌}
 use Rattle.std.proofs.lemmas.Slice.Eq.{bytes_eq-Decides}
-use Rattle.std.specs.Prelude.{Bool, Contains, List, None, Option, Result, Some, [], bytes_eq, false, is_none, is_some, option_and_then, option_map, true, ℕ, ◌%◌, ◌&&◌, ◌+◌, ◌-◌, ◌==◌, ◌∷◌, ◌≡◌}
+use Rattle.std.specs.Prelude.{Bool, Contains, List, None, Option, Result, Some, [], bytes_eq, false, is_none, is_some, option_and_then, option_map, true, ℕ, ◌%◌, ◌&&◌, ◌+◌, ◌==◌, ◌∷◌, ◌≡◌}
 
 pub both_of : (x : Step) → Whole x → Both x
 both_of x h = (h.facts.calls, h.facts.jobs)

@@ -41,7 +41,7 @@ use Rattle.sl_sessions.specs.declared.delta.DeltaNext.TheVariants.{Nothing}
 use Rattle.sl_sessions.specs.declared.session.Session.{Session}
 use Rattle.sl_step_facts.specs.Whole.{Whole}
 use Rattle.sl_trace.specs.TraceLaws.{with_call}
-use Rattle.sl_trace.specs.Traces.{Answered, Setting, Submitted, is_before_input, is_of_job, is_running, job_of, next_call, next_job, outstanding, submitted, waiting_call}
+use Rattle.sl_trace.specs.Traces.{Answered, Setting, Submitted, is_of_job, is_running, job_of, next_call, next_job, outstanding, submitted, waiting_call}
 use Rattle.sl_trace.specs.declared.command.Command.{Command}
 use Rattle.sl_trace.specs.declared.command.Command.TheVariants.{AddLockspace}
 use Rattle.sl_trace.specs.declared.command.LockspaceArg.{LockspaceArg}
@@ -65,7 +65,7 @@ use Rattle.sl_words.proofs.CaseLaws.{none_some, some_value}
 use Rattle.sl_words.proofs.WordLaws.{some_is_true}
 use Rattle.std.proofs.Common.{ap, inl, inr, refl, subst, sym, ◌∙◌}
 use Rattle.std.proofs.lemmas.Bool.{eqb-true}
-use Rattle.std.specs.Prelude.{Contains, List, None, Ok, Option, Result, Some, [], false, is_none, is_some, length, slice_get, true, ℕ, ◌++◌, ◌-◌, ◌==◌, ◌∷◌, ◌≡◌, ◌⊎◌}
+use Rattle.std.specs.Prelude.{Contains, List, None, Ok, Option, Result, Some, [], false, is_none, is_some, length, slice_get, true, ℕ, ◌++◌, ◌==◌, ◌∷◌, ◌≡◌, ◌⊎◌}
 
 -- ---- what is allowed at a step keeps both
 

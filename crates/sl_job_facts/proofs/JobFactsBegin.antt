@@ -20,7 +20,7 @@ use Rattle.sl_trace.specs.declared.input.Input.TheVariants.{Wake}
 use Rattle.sl_words.proofs.CaseLaws.{none_some}
 use Rattle.std.proofs.Common.{ap, inl, inr, refl, subst, sym, ◌∙◌}
 use Rattle.std.proofs.lemmas.List.{append-nil}
-use Rattle.std.specs.Prelude.{Contains, IsSome, List, None, Option, Some, [], is_none, map, option_and_then, slice_get, ℕ, ◌-◌, ◌∷◌, ◌≡◌}
+use Rattle.std.specs.Prelude.{Contains, IsSome, List, None, Option, Some, [], is_none, map, option_and_then, slice_get, ℕ, ◌∷◌, ◌≡◌}
 
 -- Time has passed, and nothing else.
 abbrev waking : Setting → Trace → ℕ → Step

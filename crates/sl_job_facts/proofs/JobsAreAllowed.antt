@@ -34,7 +34,7 @@ use Rattle.sl_words.specs.Words.{some_is}
 use Rattle.std.proofs.Common.{ap, inl, inr, refl, subst, sym, ◌∙◌}
 use Rattle.std.proofs.lemmas.Bool.{eqb-true}
 use Rattle.std.specs.Option.{option_or}
-use Rattle.std.specs.Prelude.{Bool, Contains, IsSome, List, None, Option, Some, [], bytes_eq, false, find, fold, length, map, option_and_then, slice_get, true, ℕ, ◌-◌, ◌==◌, ◌∷◌, ◌≡◌}
+use Rattle.std.specs.Prelude.{Bool, Contains, IsSome, List, None, Option, Some, [], bytes_eq, false, find, fold, length, map, option_and_then, slice_get, true, ℕ, ◌==◌, ◌∷◌, ◌≡◌}
 
 -- ---- what an act allows, from where it began
 

@@ -44,7 +44,7 @@ use Rattle.std.proofs.Common.{ap, ap₂, arith, inl, inr, refl, subst, sym, ◌�
 use Rattle.std.proofs.lemmas.List.{append-nil}
 use Rattle.std.proofs.lemmas.Slice.Eq.{bytes_eq-Decides}
 use Rattle.std.specs.List.{list_any}
-use Rattle.std.specs.Prelude.{Contains, List, None, Ok, Option, Result, Some, [], bytes_eq, false, is_none, is_some, length, suc, true, ℕ, ◌&&◌, ◌++◌, ◌+◌, ◌-◌, ◌==◌, ◌∷◌, ◌≡◌, ◌⊎◌}
+use Rattle.std.specs.Prelude.{Contains, List, None, Ok, Option, Result, Some, [], bytes_eq, false, is_none, is_some, length, suc, true, ℕ, ◌&&◌, ◌++◌, ◌+◌, ◌==◌, ◌∷◌, ◌≡◌, ◌⊎◌}
 use Rattle.std.specs.Result.{result_ok}
 
 pub quiet_wake : (x : Step) → x.input ≡ Wake → HasQuietFacts x → QuietFacts x.setting (by_input x Wake ∷ x.past) None

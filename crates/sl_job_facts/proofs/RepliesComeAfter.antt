@@ -32,7 +32,7 @@ use Rattle.sl_sessions.specs.Watching.{is_free_state}
 use Rattle.sl_sessions.specs.declared.delta.DeltaNext.{DeltaNext}
 use Rattle.sl_sessions.specs.declared.delta.DeltaNext.TheVariants.{EndLeaving, Nothing, ReadOwn, RefuseJoin, RegisterAndRead, WriteClaim, WriteFirst, WriteFree}
 use Rattle.sl_time.specs.Times.{dead, join_max, renew}
-use Rattle.sl_trace.specs.Traces.{Submitted, is_before_input}
+use Rattle.sl_trace.specs.Traces.{Submitted}
 use Rattle.sl_trace.specs.declared.command.ResourceArg.{ResourceArg}
 use Rattle.sl_trace.specs.declared.effects.JoinStep.{JoinStep}
 use Rattle.sl_trace.specs.declared.effects.JoinStep.TheVariants.{ClaimWrite, DecidingRead, FirstRead, FirstRenewal, VerifyRead, WatchRead}

@@ -50,7 +50,7 @@ use Rattle.sl_words.specs.Words.{choose}
 use Rattle.std.proofs.Common.{ap, ap₂, arith, inl, inr, refl, subst, sym, ◌∙◌}
 use Rattle.std.proofs.lemmas.Bool.{eqb-true}
 use Rattle.std.proofs.lemmas.Option.{slice_get_within}
-use Rattle.std.specs.Prelude.{Bool, Contains, IsSome, IsTrue, List, None, Option, Some, cond, false, filter, is_none, is_some, length, option_and_then, slice_get, true, ℕ, ◌&&◌, ◌+◌, ◌-◌, ◌<◌, ◌==◌, ◌≡◌, ◌≤◌, ◌⊎◌}
+use Rattle.std.specs.Prelude.{Bool, Contains, IsSome, IsTrue, List, None, Option, Some, cond, false, filter, is_none, is_some, length, option_and_then, slice_get, true, ℕ, ◌&&◌, ◌+◌, ◌<◌, ◌==◌, ◌≡◌, ◌≤◌, ◌⊎◌}
 
 -- ---- which sessions had written their free
 
@@ -94,11 +94,11 @@ allows_done x freed =
       starts = k.starts;
       replies = k.replies;
       calls = λ y s path p o op may h. (
-          k.calls y s path p o op may h,
-          λ z m there is.
-          let calls : calls_of (seen y) s ≡ calls_of (seen x) s = ap (λ ms. filter (is_call_of s) ms) h.calls in
-          let was = freed_call y s path p o op (subst (λ ss. slice_get ss s.number ≡ Some s) (sym h.sessions) may.has) may.no_look may.no_free (ap (λ ms. free_write ms) calls ∙ may.unfreed) z m there is in
-          since_freed x y h z m was.0 was.1,
+        k.calls y s path p o op may h,
+        λ z m there is.
+            let calls : calls_of (seen y) s ≡ calls_of (seen x) s = ap (λ ms. filter (is_call_of s) ms) h.calls in
+            let was = freed_call y s path p o op (subst (λ ss. slice_get ss s.number ≡ Some s) (sym h.sessions) may.has) may.no_look may.no_free (ap (λ ms. free_write ms) calls ∙ may.unfreed) z m there is in
+            since_freed x y h z m was.0 was.1,
       );
       rest = λ y h. (h.part, since_freed x y h);
     }
@@ -117,16 +117,16 @@ delta_full x y n h d owners unfreed =
       numbers = d.0.numbers;
       left = d.0.left;
     } where
-  never : (s : Session) (m : Submitted) (g : Grant) → Contains (sessions x.setting (seen x)) s → free_write (calls_of (seen x) s) ≡ Some m → Contains (holdings (seen y)) g × ((g.session == s.number) ≡ true) → ⊥
-  never s m g there is inside = by (owners g inside.0) where
-    its : g.session ≡ s.number
-    its = eqb-true g.session s.number inside.1
+      never : (s : Session) (m : Submitted) (g : Grant) → Contains (sessions x.setting (seen x)) s → free_write (calls_of (seen x) s) ≡ Some m → Contains (holdings (seen y)) g × ((g.session == s.number) ≡ true) → ⊥
+      never s m g there is inside = by (owners g inside.0) where
+        its : g.session ≡ s.number
+        its = eqb-true g.session s.number inside.1
 
-    by : ((k : Grant) × Contains (holdings (seen x)) k × (k.session ≡ g.session)) ⊎ (g.session ≡ n) → ⊥
-    by (inl old) =
-        let mine : Contains (holdings_of (seen x) s) old.0 = kept (λ (z : Grant). z.session == s.number) (holdings (seen x)) old.0 (ap (λ k. k == s.number) (old.2 ∙ its) ∙ number_itself s.number) old.1 in
-        contains_none old.0 (subst (λ gs. Contains gs old.0) (h.frees s m there is).1 mine)
-    by (inr own) = none_some m (sym (unfreed s there (sym its ∙ own)) ∙ is)
+        by : ((k : Grant) × Contains (holdings (seen x)) k × (k.session ≡ g.session)) ⊎ (g.session ≡ n) → ⊥
+        by (inl old) =
+            let mine : Contains (holdings_of (seen x) s) old.0 = kept (λ (z : Grant). z.session == s.number) (holdings (seen x)) old.0 (ap (λ k. k == s.number) (old.2 ∙ its) ∙ number_itself s.number) old.1 in
+            contains_none old.0 (subst (λ gs. Contains gs old.0) (h.frees s m there is).1 mine)
+        by (inr own) = none_some m (sym (unfreed s there (sym its ∙ own)) ∙ is)
 
 -- Of an act that grants nothing.
 pub no_number : (x : Step) (s : Session) → Contains (sessions x.setting (seen x)) s → s.number ≡ length (sessions x.setting (seen x)) → free_write (calls_of (seen x) s) ≡ None
@@ -170,35 +170,35 @@ join_part x y s j generation no_line h k has its numbers =
           subst (λ ms. IsTrue (is_number (seq_in z (filter (is_call_of z) ms) + 1))) (sym same)
           (k.part.left z i there (sym (reply_joined y j (Generation generation) z was) ∙ joined) before (sym (ap (λ ms. free_write (filter (is_call_of z) ms)) same) ∙ none));
     } where
-  freed : FreedBefore x
-  freed = freed_before x no_line (part_of x.setting (seen x) h.facts.delta)
+      freed : FreedBefore x
+      freed = freed_before x no_line (part_of x.setting (seen x) h.facts.delta)
 
-  same : submitted (seen (add_reply j (Generation generation) y)) ≡ submitted (seen y)
-  same = calls_stay y j (Generation generation) (late_join y generation)
+      same : submitted (seen (add_reply j (Generation generation) y)) ≡ submitted (seen y)
+      same = calls_stay y j (Generation generation) (late_join y generation)
 
-  numbers_of : (z : Session) → Contains (sessions y.setting (seen y)) z → is_joined (seen (add_reply j (Generation generation) y)) z ≡ true → (b : Bool) → is_joined (seen y) z ≡ b → HasNumbers (seen y) z
-  numbers_of z there joined true was = k.part.numbers z there was
-  numbers_of z there joined false was = by (is_some (joined_after (seen y) z)) refl where
-    new_one : is_some (joined_after (seen y) z) ≡ false → z.job ≡ Some j
-    new_one unjoined = by_job z.job refl where
-      by_job : (o : Option ℕ) → z.job ≡ o → z.job ≡ Some j
-      by_job None none =
-          absurd (false_is_true (sym unjoined ∙ ap (λ (o : Option ℕ). is_some (elim o as (λ q. Option ℕ) [ None ↦ Some 0 | Some i ↦ option_and_then (λ (r : Replied). choose (is_join_done r.reply) (r.at + 1)) (reply_to (seen y) i) ])) none))
-      by_job (Some i) is = either (j == i) refl where
-        either : (b : Bool) → (j == i) ≡ b → z.job ≡ Some j
-        either true mine = is ∙ ap (λ n. Some n) (sym (eqb-true j i mine))
-        either false other =
-            let still : is_some (joined_after (seen y) z) ≡ true =
-            reply_joins_none y j (Generation generation) z (inl (λ own. not_both (j == i) (ap (λ n. j == n) (some_value i j (sym is ∙ own)) ∙ number_itself j) other)) (joined_then (seen (add_reply j (Generation generation) y)) z joined)
-            in
-            absurd (false_is_true (sym unjoined ∙ still))
+      numbers_of : (z : Session) → Contains (sessions y.setting (seen y)) z → is_joined (seen (add_reply j (Generation generation) y)) z ≡ true → (b : Bool) → is_joined (seen y) z ≡ b → HasNumbers (seen y) z
+      numbers_of z there joined true was = k.part.numbers z there was
+      numbers_of z there joined false was = by (is_some (joined_after (seen y) z)) refl where
+        new_one : is_some (joined_after (seen y) z) ≡ false → z.job ≡ Some j
+        new_one unjoined = by_job z.job refl where
+          by_job : (o : Option ℕ) → z.job ≡ o → z.job ≡ Some j
+          by_job None none =
+              absurd (false_is_true (sym unjoined ∙ ap (λ (o : Option ℕ). is_some (elim o as (λ q. Option ℕ) [ None ↦ Some 0 | Some i ↦ option_and_then (λ (r : Replied). choose (is_join_done r.reply) (r.at + 1)) (reply_to (seen y) i) ])) none))
+          by_job (Some i) is = either (j == i) refl where
+            either : (b : Bool) → (j == i) ≡ b → z.job ≡ Some j
+            either true mine = is ∙ ap (λ n. Some n) (sym (eqb-true j i mine))
+            either false other =
+                let still : is_some (joined_after (seen y) z) ≡ true =
+                reply_joins_none y j (Generation generation) z (inl (λ own. not_both (j == i) (ap (λ n. j == n) (some_value i j (sym is ∙ own)) ∙ number_itself j) other)) (joined_then (seen (add_reply j (Generation generation) y)) z joined)
+                in
+                absurd (false_is_true (sym unjoined ∙ still))
 
-    by : (b : Bool) → is_some (joined_after (seen y) z) ≡ b → HasNumbers (seen y) z
-    by true before = absurd (not_both (is_joined (seen y) z) (ap₂ (λ p q. p && q) before (and_true (is_some (joined_after (seen (add_reply j (Generation generation) y)) z)) (is_none (removed_after (seen y) z)) joined).1) was)
-    by false unjoined =
-        let one : z ≡ s = one_session x.setting (seen x) z s j (subst (λ ss. Contains ss z) k.sessions there) (got_inside (sessions x.setting (seen x)) s.number s has) (new_one unjoined) its in
-        subst (λ (q : Session). HasNumbers (seen y) q) (sym one)
-        (subst (λ ms. (1 ≤ generation_in s (filter (is_call_of s) ms)) × IsTrue (is_number (generation_in s (filter (is_call_of s) ms))) × IsTrue (is_number (seq_in s (filter (is_call_of s) ms)))) (sym k.calls) numbers)
+        by : (b : Bool) → is_some (joined_after (seen y) z) ≡ b → HasNumbers (seen y) z
+        by true before = absurd (not_both (is_joined (seen y) z) (ap₂ (λ p q. p && q) before (and_true (is_some (joined_after (seen (add_reply j (Generation generation) y)) z)) (is_none (removed_after (seen y) z)) joined).1) was)
+        by false unjoined =
+            let one : z ≡ s = one_session x.setting (seen x) z s j (subst (λ ss. Contains ss z) k.sessions there) (got_inside (sessions x.setting (seen x)) s.number s has) (new_one unjoined) its in
+            subst (λ (q : Session). HasNumbers (seen y) q) (sym one)
+            (subst (λ ms. (1 ≤ generation_in s (filter (is_call_of s) ms)) × IsTrue (is_number (generation_in s (filter (is_call_of s) ms))) × IsTrue (is_number (seq_in s (filter (is_call_of s) ms)))) (sym k.calls) numbers)
 
 pub joining_delta : (x : Step) (s : Session) (j : ℕ) → line_in x.input ≡ None → Whole x → Has x s → s.job ≡ Some j → is_running (seen x) j ≡ true → (n : DeltaNext) → IsLateDelta n → JoinsNot n ⊎ HasNumbers (seen x) s → DeltaDone x (carry_delta s n x)
 unfolding carry_delta
@@ -247,12 +247,11 @@ joining_delta x s j no_line h has its runs n k joins = by n k joins where
       let z : Step = add_reply i (Generation generation) y in
       let p : DeltaPart x.setting (seen z) = join_part x y s i generation no_line h (moved m) has of numbers in
       let calls : submitted (seen z) ≡ submitted (seen x) = calls_stay y i (Generation generation) (late_join y generation) in
-      let free : free_write (calls_of (seen z) s) ≡ None = ap (λ ms. free_write (filter (is_call_of s) ms)) calls ∙ unfreed in
-      (
+      let free : free_write (calls_of (seen z) s) ≡ None = ap (λ ms. free_write (filter (is_call_of s) ms)) calls ∙ unfreed in (
         call_delta z s s.path Survey s.offset (ReadSectors x.setting.layout.hosts) has refl refl free (λ d is joined. absurd (none_some d is)) p,
         λ w k there is.
-        let was = freed_call z s s.path Survey s.offset (ReadSectors x.setting.layout.hosts) has refl refl free w k there is in
-        (was.0, sym (ap (λ ms. free_write (filter (is_call_of w) ms)) calls) ∙ was.1),
+            let was = freed_call z s s.path Survey s.offset (ReadSectors x.setting.layout.hosts) has refl refl free w k there is in
+            (was.0, sym (ap (λ ms. free_write (filter (is_call_of w) ms)) calls) ∙ was.1),
       )) itself_done
   by (MoveConnection renewed) q f =
       let m : Move = Renew s.lockspace (renewed + fail x.setting.timing) in

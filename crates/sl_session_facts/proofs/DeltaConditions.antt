@@ -64,7 +64,7 @@ use Rattle.std.proofs.Common.{ap, arith, inl, inr, refl, subst, sym, ◌∙◌}
 use Rattle.std.proofs.lemmas.Bool.{eqb-true, ltb-true}
 use Rattle.std.specs.List.{list_any}
 use Rattle.std.specs.Option.{option_or}
-use Rattle.std.specs.Prelude.{Bool, Contains, IsSome, IsTrue, List, None, Option, Some, false, if◌then◌else◌, is_none, is_some, length, nat_le, not, option_and_then, option_map, true, ℕ, ◌&&◌, ◌+◌, ◌-◌, ◌<◌, ◌==◌, ◌||◌, ◌≡◌, ◌≤◌, ◌⊎◌}
+use Rattle.std.specs.Prelude.{Bool, Contains, IsSome, IsTrue, List, None, Option, Some, false, if◌then◌else◌, is_none, is_some, length, nat_le, not, option_and_then, option_map, true, ℕ, ◌&&◌, ◌+◌, ◌<◌, ◌==◌, ◌||◌, ◌≡◌, ◌≤◌, ◌⊎◌}
 
 -- ---- sessions that have not written their free
 
@@ -110,14 +110,14 @@ heard_at x s m answer a h hears is =
     let number : k.call.number ≡ n = ap (λ (c : Call). c.number) (same_answered x.past (entry_of x) n answer d).call ∙ eqb-true d.call.number n its.0 in
     let one : k ≡ m = one_value k m (call_numbered (seen x) n) (subst (λ q. call_numbered (seen x) q ≡ Some k) number (h.facts.calls.found k there)) hears.call in
     by d (d.call.number == n) its.0 (none_is d.answer inside.1) (ap (λ (z : Submitted). z.answer) one ∙ is)
-    where
-  made : Submitted → Answered
-  made d = answer_of x.past (entry_of x) answer d.call
+  where
+    made : Submitted → Answered
+    made d = answer_of x.past (entry_of x) answer d.call
 
-  by : (d : Submitted) (t : Bool) → t ≡ true → d.answer ≡ None
-      → (elim t as (λ z. Submitted) [ false ↦ d | true ↦ record d { answer = option_or d.answer (Some (answer_of x.past (entry_of x) answer d.call)) } ]).answer ≡ Some a → a.at ≡ length x.past
-  by d false mine none same = absurd (false_is_true mine)
-  by d true mine none same = ap (λ (z : Answered). z.at) (sym (some_value (made d) a (sym (ap (λ o. option_or o (Some (made d))) none) ∙ same)))
+    by : (d : Submitted) (t : Bool) → t ≡ true → d.answer ≡ None
+        → (elim t as (λ z. Submitted) [ false ↦ d | true ↦ record d { answer = option_or d.answer (Some (answer_of x.past (entry_of x) answer d.call)) } ]).answer ≡ Some a → a.at ≡ length x.past
+    by d false mine none same = absurd (false_is_true mine)
+    by d true mine none same = ap (λ (z : Answered). z.at) (sym (some_value (made d) a (sym (ap (λ o. option_or o (Some (made d))) none) ∙ same)))
 
 pub heard_unfreed : (x : Step) (s : Session) (m : Submitted) (answer : Answer) → Whole x → Hears x s m answer → is_free_purpose m.call.purpose ≡ false → free_write (calls_of (seen x) s) ≡ None
 heard_unfreed x s m answer h hears other =
@@ -125,16 +125,16 @@ heard_unfreed x s m answer h hears other =
     let there : Contains (sessions x.setting (seen x)) s = got_inside (sessions x.setting (seen x)) s.number s (has_heard x s m answer hears) in
     let found = find_inside (λ (z : Submitted). is_free_purpose z.call.purpose) (calls_of (seen x) s) f is in
     by f found.0 found.1 (h.facts.delta.before s f m there is (heard_mine x s m answer hears)))
-    where
-  by : (f : Submitted) → Contains (calls_of (seen x) s) f → is_free_purpose f.call.purpose ≡ true → (m ≡ f) ⊎ ((a : Answered) × (m.answer ≡ Some a) × (a.at ≤ f.at)) → ⊥
-  by f inside free_one (inl same) = not_both (is_free_purpose m.call.purpose) (ap (λ (z : Submitted). is_free_purpose z.call.purpose) same ∙ free_one) other
-  by f inside free_one (inr answered) =
-      let now : answered.0.at ≡ length x.past = heard_at x s m answer answered.0 h hears answered.1 in
-      let mine = kept_inside (is_call_of s) (submitted (seen x)) f inside in
-      let was = in_map (answered_in x.past (entry_of x) hears.number answer) (submitted x.past) f (subst (λ ms. Contains ms f) (calls_heard x hears.number answer hears.heard hears.bare) mine.0) in
-      let at : f.at ≡ was.0.at = ap (λ (z : Submitted). z.at) (sym was.2) ∙ (same_answered x.past (entry_of x) hears.number answer was.0).at in
-      let low : was.0.at < length x.past = (timely x.past was.0 was.1).0 in
-      let most : answered.0.at ≤ f.at = answered.2 in omega (arith, now, at, low, most)
+  where
+    by : (f : Submitted) → Contains (calls_of (seen x) s) f → is_free_purpose f.call.purpose ≡ true → (m ≡ f) ⊎ ((a : Answered) × (m.answer ≡ Some a) × (a.at ≤ f.at)) → ⊥
+    by f inside free_one (inl same) = not_both (is_free_purpose m.call.purpose) (ap (λ (z : Submitted). is_free_purpose z.call.purpose) same ∙ free_one) other
+    by f inside free_one (inr answered) =
+        let now : answered.0.at ≡ length x.past = heard_at x s m answer answered.0 h hears answered.1 in
+        let mine = kept_inside (is_call_of s) (submitted (seen x)) f inside in
+        let was = in_map (answered_in x.past (entry_of x) hears.number answer) (submitted x.past) f (subst (λ ms. Contains ms f) (calls_heard x hears.number answer hears.heard hears.bare) mine.0) in
+        let at : f.at ≡ was.0.at = ap (λ (z : Submitted). z.at) (sym was.2) ∙ (same_answered x.past (entry_of x) hears.number answer was.0).at in
+        let low : was.0.at < length x.past = (timely x.past was.0 was.1).0 in
+        let most : answered.0.at ≤ f.at = answered.2 in omega (arith, now, at, low, most)
 
 pub holder_unfreed : (x : Step) (s : Session) (spot : Spot) (g : Grant) → Whole x → Has x s → Contains (holdings_on (seen x) s spot) g → free_write (calls_of (seen x) s) ≡ None
 holder_unfreed x s spot g h has there =

@@ -1,4 +1,4 @@
--- What is known of delta records is kept by each act, and holds once a step has begun.
+-- How an input that is no line changes what is known of delta records, and what the write of a free does.
 use Rattle.sl_acts.specs.Acts.{Has}
 use Rattle.sl_acts.specs.SoFar.{entry_of}
 use Rattle.sl_due.specs.DueDelta.{carry_delta}
@@ -43,7 +43,7 @@ use Rattle.sl_words.proofs.CaseLaws.{none_some, one_value, some_value, true_is_f
 use Rattle.sl_words.specs.Bounds.{is_number}
 use Rattle.std.proofs.Common.{ap, inl, inr, refl, subst, sym, ◌∙◌}
 use Rattle.std.proofs.lemmas.Bool.{eqb-true}
-use Rattle.std.specs.Prelude.{Bool, Contains, IsSome, IsTrue, List, None, Option, Some, [], false, is_none, is_some, length, option_map, true, ℕ, ◌+◌, ◌-◌, ◌==◌, ◌∷◌, ◌≡◌, ◌≤◌, ◌⊎◌}
+use Rattle.std.specs.Prelude.{Bool, Contains, IsSome, IsTrue, List, None, Option, Some, [], false, is_none, is_some, length, option_map, true, ℕ, ◌+◌, ◌==◌, ◌∷◌, ◌≡◌, ◌≤◌, ◌⊎◌}
 
 -- ---- what an act leaves
 
@@ -126,74 +126,73 @@ written_free x s j d h has joined free quiet leaves_s unfreed gen seq =
       numbers = λ z there is. numbers z (old z there) is (calls_by z (s.number == z.number) refl);
       left = λ z k there is leaves_z none. left z k (old z there) is leaves_z none (calls_by z (s.number == z.number) refl);
     } where
-  f : DeltaFacts x.setting (seen x)
-  f = h.facts.delta
+      f : DeltaFacts x.setting (seen x)
+      f = h.facts.delta
 
-  made : Call
-  made = record { number = next_call x.setting (seen x); session = s.number; purpose = Leaving j; path = s.path; offset = own_offset x.setting s; op = WriteRecord (DeltaIs d) }
+      made : Call
+      made = record { number = next_call x.setting (seen x); session = s.number; purpose = Leaving j; path = s.path; offset = own_offset x.setting s; op = WriteRecord (DeltaIs d) }
 
-  new : Submitted
-  new = new_call (length x.past) x.reading made
+      new : Submitted
+      new = new_call (length x.past) x.reading made
 
-  y : Step
-  y = add_call_of s.number s.path (Leaving j) (own_offset x.setting s) (WriteRecord (DeltaIs d)) x
+      y : Step
+      y = add_call_of s.number s.path (Leaving j) (own_offset x.setting s) (WriteRecord (DeltaIs d)) x
 
-  inside_s : Contains (sessions x.setting (seen x)) s
-  inside_s = got_inside (sessions x.setting (seen x)) s.number s has
+      inside_s : Contains (sessions x.setting (seen x)) s
+      inside_s = got_inside (sessions x.setting (seen x)) s.number s has
 
-  old : (z : Session) → Contains (sessions x.setting (seen y)) z → Contains (sessions x.setting (seen x)) z
-  old z there = subst (λ ss. Contains ss z) (same_sessions x.setting (entry_of x) x.past made refl) there
+      old : (z : Session) → Contains (sessions x.setting (seen y)) z → Contains (sessions x.setting (seen x)) z
+      old z there = subst (λ ss. Contains ss z) (same_sessions x.setting (entry_of x) x.past made refl) there
 
-  calls_by : (z : Session) → (b : Bool) → (s.number == z.number) ≡ b → ((z.number ≡ s.number) × (calls_of (seen y) z ≡ new ∷ calls_of (seen x) z)) ⊎ (calls_of (seen y) z ≡ calls_of (seen x) z)
-  calls_by z true is = inl (sym (eqb-true s.number z.number is), mine_more (entry_of x) x.past made z is)
-  calls_by z false is = inr (others_stay (entry_of x) x.past made z is)
+      calls_by : (z : Session) → (b : Bool) → (s.number == z.number) ≡ b → ((z.number ≡ s.number) × (calls_of (seen y) z ≡ new ∷ calls_of (seen x) z)) ⊎ (calls_of (seen y) z ≡ calls_of (seen x) z)
+      calls_by z true is = inl (sym (eqb-true s.number z.number is), mine_more (entry_of x) x.past made z is)
+      calls_by z false is = inr (others_stay (entry_of x) x.past made z is)
 
-  one : (z : Session) → Contains (sessions x.setting (seen x)) z → z.number ≡ s.number → z ≡ s
-  one z there same = one_value z s (session_numbered x.setting (seen x) s.number) (subst (λ n. session_numbered x.setting (seen x) n ≡ Some z) same (session_has x.setting (seen x) z there)) has
+      one : (z : Session) → Contains (sessions x.setting (seen x)) z → z.number ≡ s.number → z ≡ s
+      one z there same = one_value z s (session_numbered x.setting (seen x) s.number) (subst (λ n. session_numbered x.setting (seen x) n ≡ Some z) same (session_has x.setting (seen x) z there)) has
 
-  frees : (z : Session) (m : Submitted) → Contains (sessions x.setting (seen x)) z → free_write (calls_of (seen y) z) ≡ Some m → ((z.number ≡ s.number) × (calls_of (seen y) z ≡ new ∷ calls_of (seen x) z)) ⊎ (calls_of (seen y) z ≡ calls_of (seen x) z)
-      → IsSome (leaving_job x.setting (seen x) z) × (holdings_of (seen x) z ≡ []) × ((ms : List Submitted) × (calls_of (seen y) z ≡ m ∷ ms) × (unanswered ms ≡ []))
-  frees z m there is (inl mine) =
-      let same : z ≡ s = one z there mine.0 in
-      let first : new ≡ m = some_value new m (sym (ap (λ ms. free_write ms) mine.1) ∙ is) in
-      (
-        subst (λ (q : Session). IsSome (leaving_job x.setting (seen x) q)) (sym same) leaves_s,
-        ap (λ (q : Session). holdings_of (seen x) q) same ∙ free,
-        (calls_of (seen x) z, mine.1 ∙ ap (λ q. q ∷ calls_of (seen x) z) first, ap (λ (q : Session). unanswered (calls_of (seen x) q)) same ∙ quiet),
-      )
-  frees z m there is (inr other) = let was = f.frees z m there (sym (ap (λ ms. free_write ms) other) ∙ is) in (was.0, was.1, (was.2.0, other ∙ was.2.1, was.2.2))
+      frees : (z : Session) (m : Submitted) → Contains (sessions x.setting (seen x)) z → free_write (calls_of (seen y) z) ≡ Some m → ((z.number ≡ s.number) × (calls_of (seen y) z ≡ new ∷ calls_of (seen x) z)) ⊎ (calls_of (seen y) z ≡ calls_of (seen x) z)
+          → IsSome (leaving_job x.setting (seen x) z) × (holdings_of (seen x) z ≡ []) × ((ms : List Submitted) × (calls_of (seen y) z ≡ m ∷ ms) × (unanswered ms ≡ []))
+      frees z m there is (inl mine) =
+          let same : z ≡ s = one z there mine.0 in
+          let first : new ≡ m = some_value new m (sym (ap (λ ms. free_write ms) mine.1) ∙ is) in (
+            subst (λ (q : Session). IsSome (leaving_job x.setting (seen x) q)) (sym same) leaves_s,
+            ap (λ (q : Session). holdings_of (seen x) q) same ∙ free,
+            (calls_of (seen x) z, mine.1 ∙ ap (λ q. q ∷ calls_of (seen x) z) first, ap (λ (q : Session). unanswered (calls_of (seen x) q)) same ∙ quiet),
+          )
+      frees z m there is (inr other) = let was = f.frees z m there (sym (ap (λ ms. free_write ms) other) ∙ is) in (was.0, was.1, (was.2.0, other ∙ was.2.1, was.2.2))
 
-  answered : (n : Submitted) → Contains (calls_of (seen x) s) n → (o : Option Answered) → n.answer ≡ o → (a : Answered) × (n.answer ≡ Some a) × (a.at ≤ length x.past)
-  answered n there None none = absurd (contains_none n (subst (λ ms. Contains ms n) quiet (kept (λ (z : Submitted). is_none z.answer) (calls_of (seen x) s) n (ap (λ o. is_none o) none) there)))
-  answered n there (Some a) is =
-      let inside = kept_inside (is_call_of s) (submitted (seen x)) n there in (a, is, below_suc a.at (length x.past) ((timely (seen x) n inside.0).1 a is).1)
+      answered : (n : Submitted) → Contains (calls_of (seen x) s) n → (o : Option Answered) → n.answer ≡ o → (a : Answered) × (n.answer ≡ Some a) × (a.at ≤ length x.past)
+      answered n there None none = absurd (contains_none n (subst (λ ms. Contains ms n) quiet (kept (λ (z : Submitted). is_none z.answer) (calls_of (seen x) s) n (ap (λ o. is_none o) none) there)))
+      answered n there (Some a) is =
+          let inside = kept_inside (is_call_of s) (submitted (seen x)) n there in (a, is, below_suc a.at (length x.past) ((timely (seen x) n inside.0).1 a is).1)
 
-  before : (z : Session) (m n : Submitted) → Contains (sessions x.setting (seen x)) z → free_write (calls_of (seen y) z) ≡ Some m → Contains (calls_of (seen y) z) n
-      → ((z.number ≡ s.number) × (calls_of (seen y) z ≡ new ∷ calls_of (seen x) z)) ⊎ (calls_of (seen y) z ≡ calls_of (seen x) z) → (n ≡ m) ⊎ ((a : Answered) × (n.answer ≡ Some a) × (a.at ≤ m.at))
-  before z m n there is inside (inl mine) =
-      let same : z ≡ s = one z there mine.0 in
-      let first : new ≡ m = some_value new m (sym (ap (λ ms. free_write ms) mine.1) ∙ is) in
-      by first (contains_cases new (calls_of (seen x) z) n (subst (λ ms. Contains ms n) mine.1 inside)) same where
-    by : new ≡ m → (new ≡ n) ⊎ Contains (calls_of (seen x) z) n → z ≡ s → (n ≡ m) ⊎ ((a : Answered) × (n.answer ≡ Some a) × (a.at ≤ m.at))
-    by first (inl itself) same = inl (sym itself ∙ first)
-    by first (inr rest) same =
-        let a = answered n (subst (λ (q : Session). Contains (calls_of (seen x) q) n) same rest) n.answer refl in
-        inr (a.0, a.1, subst (λ k. a.0.at ≤ k) (ap (λ (q : Submitted). q.at) first) a.2)
-  before z m n there is inside (inr other) = f.before z m n there (sym (ap (λ ms. free_write ms) other) ∙ is) (subst (λ ms. Contains ms n) other inside)
+      before : (z : Session) (m n : Submitted) → Contains (sessions x.setting (seen x)) z → free_write (calls_of (seen y) z) ≡ Some m → Contains (calls_of (seen y) z) n
+          → ((z.number ≡ s.number) × (calls_of (seen y) z ≡ new ∷ calls_of (seen x) z)) ⊎ (calls_of (seen y) z ≡ calls_of (seen x) z) → (n ≡ m) ⊎ ((a : Answered) × (n.answer ≡ Some a) × (a.at ≤ m.at))
+      before z m n there is inside (inl mine) =
+          let same : z ≡ s = one z there mine.0 in
+          let first : new ≡ m = some_value new m (sym (ap (λ ms. free_write ms) mine.1) ∙ is) in
+          by first (contains_cases new (calls_of (seen x) z) n (subst (λ ms. Contains ms n) mine.1 inside)) same where
+            by : new ≡ m → (new ≡ n) ⊎ Contains (calls_of (seen x) z) n → z ≡ s → (n ≡ m) ⊎ ((a : Answered) × (n.answer ≡ Some a) × (a.at ≤ m.at))
+            by first (inl itself) same = inl (sym itself ∙ first)
+            by first (inr rest) same =
+                let a = answered n (subst (λ (q : Session). Contains (calls_of (seen x) q) n) same rest) n.answer refl in
+                inr (a.0, a.1, subst (λ k. a.0.at ≤ k) (ap (λ (q : Submitted). q.at) first) a.2)
+      before z m n there is inside (inr other) = f.before z m n there (sym (ap (λ ms. free_write ms) other) ∙ is) (subst (λ ms. Contains ms n) other inside)
 
-  numbers : (z : Session) → Contains (sessions x.setting (seen x)) z → is_joined (seen x) z ≡ true → ((z.number ≡ s.number) × (calls_of (seen y) z ≡ new ∷ calls_of (seen x) z)) ⊎ (calls_of (seen y) z ≡ calls_of (seen x) z) → HasNumbers (seen y) z
-  numbers z there is (inr other) = subst (λ ms. (1 ≤ generation_in z ms) × IsTrue (is_number (generation_in z ms)) × IsTrue (is_number (seq_in z ms))) (sym other) (f.numbers z there is)
-  numbers z there is (inl mine) =
-      let same : z ≡ s = one z there mine.0 in
-      let was = f.numbers s inside_s joined in
-      let k = some_of (leaving_job x.setting (seen x) s) leaves_s in
-      subst (λ ms. (1 ≤ generation_in z ms) × IsTrue (is_number (generation_in z ms)) × IsTrue (is_number (seq_in z ms))) (sym mine.1)
-      (subst (λ n. 1 ≤ n) (sym gen) was.0, subst (λ n. IsTrue (is_number n)) (sym gen) was.1, subst (λ n. IsTrue (is_number n)) (sym seq) (f.left s k.0 inside_s joined k.1 unfreed))
+      numbers : (z : Session) → Contains (sessions x.setting (seen x)) z → is_joined (seen x) z ≡ true → ((z.number ≡ s.number) × (calls_of (seen y) z ≡ new ∷ calls_of (seen x) z)) ⊎ (calls_of (seen y) z ≡ calls_of (seen x) z) → HasNumbers (seen y) z
+      numbers z there is (inr other) = subst (λ ms. (1 ≤ generation_in z ms) × IsTrue (is_number (generation_in z ms)) × IsTrue (is_number (seq_in z ms))) (sym other) (f.numbers z there is)
+      numbers z there is (inl mine) =
+          let same : z ≡ s = one z there mine.0 in
+          let was = f.numbers s inside_s joined in
+          let k = some_of (leaving_job x.setting (seen x) s) leaves_s in
+          subst (λ ms. (1 ≤ generation_in z ms) × IsTrue (is_number (generation_in z ms)) × IsTrue (is_number (seq_in z ms))) (sym mine.1)
+          (subst (λ n. 1 ≤ n) (sym gen) was.0, subst (λ n. IsTrue (is_number n)) (sym gen) was.1, subst (λ n. IsTrue (is_number n)) (sym seq) (f.left s k.0 inside_s joined k.1 unfreed))
 
-  left : (z : Session) (k : Job) → Contains (sessions x.setting (seen x)) z → is_joined (seen x) z ≡ true → leaving_job x.setting (seen x) z ≡ Some k → free_write (calls_of (seen y) z) ≡ None
-      → ((z.number ≡ s.number) × (calls_of (seen y) z ≡ new ∷ calls_of (seen x) z)) ⊎ (calls_of (seen y) z ≡ calls_of (seen x) z) → IsTrue (is_number (last_seq (seen y) z + 1))
-  left z k there is leaves_z none (inl mine) = absurd (none_some new (sym none ∙ ap (λ ms. free_write ms) mine.1))
-  left z k there is leaves_z none (inr other) = subst (λ ms. IsTrue (is_number (seq_in z ms + 1))) (sym other) (f.left z k there is leaves_z (sym (ap (λ ms. free_write ms) other) ∙ none))
+      left : (z : Session) (k : Job) → Contains (sessions x.setting (seen x)) z → is_joined (seen x) z ≡ true → leaving_job x.setting (seen x) z ≡ Some k → free_write (calls_of (seen y) z) ≡ None
+          → ((z.number ≡ s.number) × (calls_of (seen y) z ≡ new ∷ calls_of (seen x) z)) ⊎ (calls_of (seen y) z ≡ calls_of (seen x) z) → IsTrue (is_number (last_seq (seen y) z + 1))
+      left z k there is leaves_z none (inl mine) = absurd (none_some new (sym none ∙ ap (λ ms. free_write ms) mine.1))
+      left z k there is leaves_z none (inr other) = subst (λ ms. IsTrue (is_number (seq_in z ms + 1))) (sym other) (f.left z k there is leaves_z (sym (ap (λ ms. free_write ms) other) ∙ none))
 
 pub frees_full : (x : Step) (s : Session) → Whole x → Has x s → is_joined (seen x) s ≡ true → holdings_of (seen x) s ≡ [] → open_calls_of (seen x) s ≡ []
     → HasDeltaFacts (carry_delta s (next_free (delta_of_session x.setting s) x.reading (delta_known x.setting (seen x) s)) x)

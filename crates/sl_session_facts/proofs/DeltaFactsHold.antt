@@ -1,4 +1,4 @@
--- All acts keep what is known of delta records; and it holds once a step has begun.
+-- All acts keep what is known of delta records.
 use Rattle.sl_job_facts.proofs.EffectsAreAllowed.{Allows, DecisionAllowed, DeltaAllowed, decision, delta, ended, exited, lease, left, refusal, removal_of_refused, requested, said, sent, stopped}
 use Rattle.sl_acts.proofs.Additions.{contains_at, contains_last}
 use Rattle.sl_acts.proofs.DecisionsAreTheirs.{Of}
@@ -85,7 +85,7 @@ use Rattle.std.proofs.Common.{ap, arith, inl, inr, refl, subst, sym, ◌∙◌}
 use Rattle.std.proofs.lemmas.Bool.{eqb-true}
 use Rattle.std.proofs.lemmas.Option.{slice_get_within}
 use Rattle.std.proofs.lemmas.Slice.Eq.{bytes_eq-Decides}
-use Rattle.std.specs.Prelude.{Bool, Contains, IsSome, IsTrue, List, None, Ok, Option, Some, [], bytes_eq, false, filter, is_some, length, not, true, ℕ, ◌++◌, ◌+◌, ◌-◌, ◌<◌, ◌==◌, ◌∷◌, ◌≡◌, ◌≤◌, ◌⊎◌}
+use Rattle.std.specs.Prelude.{Bool, Contains, IsSome, IsTrue, List, None, Ok, Option, Some, [], bytes_eq, false, filter, is_some, length, not, true, ℕ, ◌++◌, ◌+◌, ◌<◌, ◌==◌, ◌∷◌, ◌≡◌, ◌≤◌, ◌⊎◌}
 
 -- ---- a session begins
 
@@ -99,76 +99,76 @@ begun_delta x text c n a h wake bare says adds next f =
       numbers = λ s there joined. numbers s joined (which s there);
       left = λ s k there joined leaves_s none. left s k joined leaves_s none (which s there);
     } where
-  w : Step
-  w = with_input (Line text) x
+      w : Step
+      w = with_input (Line text) x
 
-  new : Session
-  new = joining_session n (next_job x.setting (seen x)) a
+      new : Session
+      new = joining_session n (next_job x.setting (seen x)) a
 
-  made : Call
-  made = record { number = next_call x.setting (seen (with_input (Line text) x)); session = n; purpose = Joining (next_job x.setting (seen x)) FirstRead; path = a.path; offset = delta_offset x.setting.layout a.offset a.id; op = ReadSectors 1 }
+      made : Call
+      made = record { number = next_call x.setting (seen (with_input (Line text) x)); session = n; purpose = Joining (next_job x.setting (seen x)) FirstRead; path = a.path; offset = delta_offset x.setting.layout a.offset a.id; op = ReadSectors 1 }
 
-  call : Submitted
-  call = new_call (length x.past) x.reading made
+      call : Submitted
+      call = new_call (length x.past) x.reading made
 
-  y : Step
-  y = add_call_of n a.path (Joining (next_job x.setting (seen x)) FirstRead) (delta_offset x.setting.layout a.offset a.id) (ReadSectors 1) (with_input (Line text) x)
+      y : Step
+      y = add_call_of n a.path (Joining (next_job x.setting (seen x)) FirstRead) (delta_offset x.setting.layout a.offset a.id) (ReadSectors 1) (with_input (Line text) x)
 
-  grown : sessions x.setting (seen y) ≡ sessions x.setting (seen w) ++ new ∷ []
-  grown = begun_sessions x text n a made wake bare (says ∙ ap (λ z. Ok z) adds) next refl
+      grown : sessions x.setting (seen y) ≡ sessions x.setting (seen w) ++ new ∷ []
+      grown = begun_sessions x text n a made wake bare (says ∙ ap (λ z. Ok z) adds) next refl
 
-  which : (s : Session) → Contains (sessions x.setting (seen y)) s → Contains (sessions x.setting (seen w)) s ⊎ (new ≡ s)
-  which s there = contains_last (sessions x.setting (seen w)) new s (subst (λ ss. Contains ss s) grown there)
+      which : (s : Session) → Contains (sessions x.setting (seen y)) s → Contains (sessions x.setting (seen w)) s ⊎ (new ≡ s)
+      which s there = contains_last (sessions x.setting (seen w)) new s (subst (λ ss. Contains ss s) grown there)
 
-  last : n ≡ length (sessions x.setting (seen w))
-  last = next ∙ ap (λ ss. length ss) (sym (sessions_told x (Line text) bare))
+      last : n ≡ length (sessions x.setting (seen w))
+      last = next ∙ ap (λ ss. length ss) (sym (sessions_told x (Line text) bare))
 
-  calls_old : (s : Session) → Contains (sessions x.setting (seen w)) s → calls_of (seen y) s ≡ calls_of (seen w) s
-  calls_old s there =
-      let at = contains_at (sessions x.setting (seen w)) s there in
-      let place : s.number ≡ at.0 = number_is_place x.setting (seen w) at.0 s at.1 in
-      let low : at.0 < length (sessions x.setting (seen w)) = slice_get_within (sessions x.setting (seen w)) at.0 s at.1 in
-      others_stay (entry_of w) x.past made s (more_is_other s.number n (subst (λ k. k < n) (sym place) (subst (λ k. at.0 < k) (sym last) low)))
+      calls_old : (s : Session) → Contains (sessions x.setting (seen w)) s → calls_of (seen y) s ≡ calls_of (seen w) s
+      calls_old s there =
+          let at = contains_at (sessions x.setting (seen w)) s there in
+          let place : s.number ≡ at.0 = number_is_place x.setting (seen w) at.0 s at.1 in
+          let low : at.0 < length (sessions x.setting (seen w)) = slice_get_within (sessions x.setting (seen w)) at.0 s at.1 in
+          others_stay (entry_of w) x.past made s (more_is_other s.number n (subst (λ k. k < n) (sym place) (subst (λ k. at.0 < k) (sym last) low)))
 
-  none_before : calls_of (seen w) new ≡ []
-  none_before = no_members (calls_of (seen w) new) (λ m there.
-      let its = kept_inside (is_call_of new) (submitted (seen w)) m there in
-      let owner = some_of (session_numbered x.setting (seen w) m.call.session) ((input_kept x (Line text) wake bare refl h.facts.calls).owned m its.0) in
-      let low : m.call.session < length (sessions x.setting (seen w)) = slice_get_within (sessions x.setting (seen w)) m.call.session owner.0 owner.1 in
-      let is : m.call.session ≡ n = eqb-true m.call.session n its.1 in omega (arith, low, is, last))
+      none_before : calls_of (seen w) new ≡ []
+      none_before = no_members (calls_of (seen w) new) (λ m there.
+          let its = kept_inside (is_call_of new) (submitted (seen w)) m there in
+          let owner = some_of (session_numbered x.setting (seen w) m.call.session) ((input_kept x (Line text) wake bare refl h.facts.calls).owned m its.0) in
+          let low : m.call.session < length (sessions x.setting (seen w)) = slice_get_within (sessions x.setting (seen w)) m.call.session owner.0 owner.1 in
+          let is : m.call.session ≡ n = eqb-true m.call.session n its.1 in omega (arith, low, is, last))
 
-  unfreed : (s : Session) → new ≡ s → free_write (calls_of (seen y) s) ≡ None
-  unfreed s same =
-      ap (λ (q : Session). free_write (calls_of (seen y) q)) (sym same) ∙ (ap (λ ms. free_write ms) (mine_more (entry_of w) x.past made new (number_itself n)) ∙ ap (λ ms. free_write (call ∷ ms)) none_before)
+      unfreed : (s : Session) → new ≡ s → free_write (calls_of (seen y) s) ≡ None
+      unfreed s same =
+          ap (λ (q : Session). free_write (calls_of (seen y) q)) (sym same) ∙ (ap (λ ms. free_write ms) (mine_more (entry_of w) x.past made new (number_itself n)) ∙ ap (λ ms. free_write (call ∷ ms)) none_before)
 
-  unjoined : (s : Session) → new ≡ s → is_joined (seen y) s ≡ true → ⊥
-  unjoined s same joined = by (is_running (seen x) j) refl where
-    j : ℕ
-    j = next_job x.setting (seen x)
+      unjoined : (s : Session) → new ≡ s → is_joined (seen y) s ≡ true → ⊥
+      unjoined s same joined = by (is_running (seen x) j) refl where
+        j : ℕ
+        j = next_job x.setting (seen x)
 
-    by : (b : Bool) → is_running (seen x) j ≡ b → ⊥
-    by false stops =
-        let job = some_of (job_numbered x.setting (seen x) j) (h.facts.jobs.replied j stops) in none_some job.0 (sym (next_is_new x.setting (seen x)) ∙ job.1)
-    by true runs =
-        let none : joined_after (seen y) new ≡ None = running_unjoined (seen y) new j refl runs in
-        false_is_true (sym (ap (λ o. is_some o) none) ∙ joined_then (seen y) new (subst (λ (q : Session). is_joined (seen y) q ≡ true) (sym same) joined))
+        by : (b : Bool) → is_running (seen x) j ≡ b → ⊥
+        by false stops =
+            let job = some_of (job_numbered x.setting (seen x) j) (h.facts.jobs.replied j stops) in none_some job.0 (sym (next_is_new x.setting (seen x)) ∙ job.1)
+        by true runs =
+            let none : joined_after (seen y) new ≡ None = running_unjoined (seen y) new j refl runs in
+            false_is_true (sym (ap (λ o. is_some o) none) ∙ joined_then (seen y) new (subst (λ (q : Session). is_joined (seen y) q ≡ true) (sym same) joined))
 
-  frees : (s : Session) (m : Submitted) → free_write (calls_of (seen y) s) ≡ Some m → Contains (sessions x.setting (seen w)) s ⊎ (new ≡ s)
-      → IsSome (leaving_job x.setting (seen w) s) × (holdings_of (seen w) s ≡ []) × ((ms : List Submitted) × (calls_of (seen y) s ≡ m ∷ ms) × (unanswered ms ≡ []))
-  frees s m is (inl there) = let q = f.frees s m there (sym (ap (λ ms. free_write ms) (calls_old s there)) ∙ is) in (q.0, q.1, (q.2.0, calls_old s there ∙ q.2.1, q.2.2))
-  frees s m is (inr same) = absurd (none_some m (sym (unfreed s same) ∙ is))
+      frees : (s : Session) (m : Submitted) → free_write (calls_of (seen y) s) ≡ Some m → Contains (sessions x.setting (seen w)) s ⊎ (new ≡ s)
+          → IsSome (leaving_job x.setting (seen w) s) × (holdings_of (seen w) s ≡ []) × ((ms : List Submitted) × (calls_of (seen y) s ≡ m ∷ ms) × (unanswered ms ≡ []))
+      frees s m is (inl there) = let q = f.frees s m there (sym (ap (λ ms. free_write ms) (calls_old s there)) ∙ is) in (q.0, q.1, (q.2.0, calls_old s there ∙ q.2.1, q.2.2))
+      frees s m is (inr same) = absurd (none_some m (sym (unfreed s same) ∙ is))
 
-  before : (s : Session) (m k : Submitted) → free_write (calls_of (seen y) s) ≡ Some m → Contains (calls_of (seen y) s) k → Contains (sessions x.setting (seen w)) s ⊎ (new ≡ s) → (k ≡ m) ⊎ ((b : Answered) × (k.answer ≡ Some b) × (b.at ≤ m.at))
-  before s m k is inside (inl there) = f.before s m k there (sym (ap (λ ms. free_write ms) (calls_old s there)) ∙ is) (subst (λ ms. Contains ms k) (calls_old s there) inside)
-  before s m k is inside (inr same) = absurd (none_some m (sym (unfreed s same) ∙ is))
+      before : (s : Session) (m k : Submitted) → free_write (calls_of (seen y) s) ≡ Some m → Contains (calls_of (seen y) s) k → Contains (sessions x.setting (seen w)) s ⊎ (new ≡ s) → (k ≡ m) ⊎ ((b : Answered) × (k.answer ≡ Some b) × (b.at ≤ m.at))
+      before s m k is inside (inl there) = f.before s m k there (sym (ap (λ ms. free_write ms) (calls_old s there)) ∙ is) (subst (λ ms. Contains ms k) (calls_old s there) inside)
+      before s m k is inside (inr same) = absurd (none_some m (sym (unfreed s same) ∙ is))
 
-  numbers : (s : Session) → is_joined (seen y) s ≡ true → Contains (sessions x.setting (seen w)) s ⊎ (new ≡ s) → HasNumbers (seen y) s
-  numbers s joined (inl there) = subst (λ ms. (1 ≤ generation_in s ms) × IsTrue (is_number (generation_in s ms)) × IsTrue (is_number (seq_in s ms))) (sym (calls_old s there)) (f.numbers s there joined)
-  numbers s joined (inr same) = absurd (unjoined s same joined)
+      numbers : (s : Session) → is_joined (seen y) s ≡ true → Contains (sessions x.setting (seen w)) s ⊎ (new ≡ s) → HasNumbers (seen y) s
+      numbers s joined (inl there) = subst (λ ms. (1 ≤ generation_in s ms) × IsTrue (is_number (generation_in s ms)) × IsTrue (is_number (seq_in s ms))) (sym (calls_old s there)) (f.numbers s there joined)
+      numbers s joined (inr same) = absurd (unjoined s same joined)
 
-  left : (s : Session) (k : Job) → is_joined (seen y) s ≡ true → leaving_job x.setting (seen w) s ≡ Some k → free_write (calls_of (seen y) s) ≡ None → Contains (sessions x.setting (seen w)) s ⊎ (new ≡ s) → IsTrue (is_number (last_seq (seen y) s + 1))
-  left s k joined leaves_s none (inl there) = subst (λ ms. IsTrue (is_number (seq_in s ms + 1))) (sym (calls_old s there)) (f.left s k there joined leaves_s (sym (ap (λ ms. free_write ms) (calls_old s there)) ∙ none))
-  left s k joined leaves_s none (inr same) = absurd (unjoined s same joined)
+      left : (s : Session) (k : Job) → is_joined (seen y) s ≡ true → leaving_job x.setting (seen w) s ≡ Some k → free_write (calls_of (seen y) s) ≡ None → Contains (sessions x.setting (seen w)) s ⊎ (new ≡ s) → IsTrue (is_number (last_seq (seen y) s + 1))
+      left s k joined leaves_s none (inl there) = subst (λ ms. IsTrue (is_number (seq_in s ms + 1))) (sym (calls_old s there)) (f.left s k there joined leaves_s (sym (ap (λ ms. free_write ms) (calls_old s there)) ∙ none))
+      left s k joined leaves_s none (inr same) = absurd (unjoined s same joined)
 
 -- ---- a line that is carried out
 
@@ -219,10 +219,10 @@ carried_delta x text c d h wake bare says is none = by d fits has none (full d f
   full z f more =
       seen_full x (Line text) wake bare h (lined_part x text c wake bare says h (λ s a there joined removes names.
       either s a there joined removes names (left_or_not x.setting (seen x) c z more f)))
-      where
-    either : (s : Session) (a : LockspaceArg) → Contains (sessions x.setting (seen x)) s → is_joined (seen x) s ≡ true → c ≡ RemLockspace a → is_session_arg s a ≡ true → IsLeft z ⊎ (leaves_lockspace c ≡ false) → IsTrue (is_number (last_seq (seen x) s + 1))
-    either s a there joined removes names (inl k) = leaves_one z k f s a there joined removes names
-    either s a there joined removes names (inr other) = absurd (true_is_false (sym (ap (λ q. leaves_lockspace q) removes) ∙ other))
+    where
+      either : (s : Session) (a : LockspaceArg) → Contains (sessions x.setting (seen x)) s → is_joined (seen x) s ≡ true → c ≡ RemLockspace a → is_session_arg s a ≡ true → IsLeft z ⊎ (leaves_lockspace c ≡ false) → IsTrue (is_number (last_seq (seen x) s + 1))
+      either s a there joined removes names (inl k) = leaves_one z k f s a there joined removes names
+      either s a there joined removes names (inr other) = absurd (true_is_false (sym (ap (λ q. leaves_lockspace q) removes) ∙ other))
 
   walk : (z : Decision) → DeltaFacts x.setting (seen (with_input (Line text) x)) → DecisionAllowed (DeltaSince (with_input (Line text) x)) (DeltaReply (with_input (Line text) x)) (DeltaCall (with_input (Line text) x)) AnyStart (with_input (Line text) x) (next_job x.setting (seen x)) c z
       → ((n : ℕ) (a : LockspaceArg) → z ≡ Joins n a → ⊥) → DeltaDone (with_input (Line text) x) (carry_decision (next_job x.setting (seen x)) c z (with_input (Line text) x))
@@ -296,28 +296,28 @@ joins_delta x s j step m answer hears is runs h =
     (joining_delta x s j (told_line hears.heard) h has its runs n (joining_late (delta_of_session x.setting s) (generation_of (seen x) s) (calls_of (seen x) s) x.reading m step answer)
     (by (joins_or_not (delta_of_session x.setting s) (generation_of (seen x) s) (calls_of (seen x) s) x.reading m step answer)))
     (held_delta x (length (sessions x.setting (seen x))) x s n (at_head x))
-    where
-  there : Contains (submitted (seen x)) m
-  there = (find_inside (λ (z : Submitted). z.call.number == hears.number) (submitted (seen x)) m hears.call).0
+  where
+    there : Contains (submitted (seen x)) m
+    there = (find_inside (λ (z : Submitted). z.call.number == hears.number) (submitted (seen x)) m hears.call).0
 
-  has : Has x s
-  has = has_heard x s m answer hears
+    has : Has x s
+    has = has_heard x s m answer hears
 
-  its : s.job ≡ Some j
-  its = joining_of x s m j step (both_of x h) there hears.session is
+    its : s.job ≡ Some j
+    its = joining_of x s m j step (both_of x h) there hears.session is
 
-  by : JoinsNot (next_in_joining (delta_of_session x.setting s) (generation_of (seen x) s) (calls_of (seen x) s) x.reading m step answer) ⊎ (step ≡ FirstRenewal)
-      → JoinsNot (next_in_joining (delta_of_session x.setting s) (generation_of (seen x) s) (calls_of (seen x) s) x.reading m step answer) ⊎ HasNumbers (seen x) s
-  by (inl never) = inl never
-  by (inr first) =
-      inr (joined_numbers x s m j (record {
-        orderly = h.orderly;
-        has = has;
-        there = there;
-        its = sym (number_is_place x.setting (seen x) m.call.session s hears.session);
-        is = is ∙ ap (λ q. Joining j q) first;
-        unjoined = running_unjoined (seen x) s j its runs;
-      }))
+    by : JoinsNot (next_in_joining (delta_of_session x.setting s) (generation_of (seen x) s) (calls_of (seen x) s) x.reading m step answer) ⊎ (step ≡ FirstRenewal)
+        → JoinsNot (next_in_joining (delta_of_session x.setting s) (generation_of (seen x) s) (calls_of (seen x) s) x.reading m step answer) ⊎ HasNumbers (seen x) s
+    by (inl never) = inl never
+    by (inr first) =
+        inr (joined_numbers x s m j (record {
+          orderly = h.orderly;
+          has = has;
+          there = there;
+          its = sym (number_is_place x.setting (seen x) m.call.session s hears.session);
+          is = is ∙ ap (λ q. Joining j q) first;
+          unjoined = running_unjoined (seen x) s j its runs;
+        }))
 
 exit_delta : (x : Step) (n : ℕ) → x.input ≡ Wake → x.effects.calls ≡ [] → Whole x → HasDeltaFacts (refuse_jobs_of n (leave_holdings n (with_input (Exit n) x)))
 exit_delta x n wake bare h =
@@ -340,9 +340,9 @@ spawn_delta x n input h =
     let k : DeltaSince x y = ended (DeltaSince x) (DeltaDone x) (DeltaReply x) (DeltaCall x) AnyStart AnyMove (allowed x none h) x n (begin_delta x h) in
     let e : DeltaSince x (when_running (job_of_start (seen x) n) SpawnFault y) = said (DeltaSince x) (DeltaDone x) (DeltaReply x) (DeltaCall x) AnyStart AnyMove (allowed x none h) y (job_of_start (seen x) n) SpawnFault (λ j is. plain_reply x j SpawnFault refl) k in
     since_none x (when_running (job_of_start (seen x) n) SpawnFault y) h e (by (job_of_start (seen x) n)) where
-  by : (o : Option ℕ) → HeldBy x (length (sessions x.setting (seen x))) (when_running o SpawnFault (end_holdings n x))
-  by None = held_end x (length (sessions x.setting (seen x))) n x (at_head x)
-  by (Some j) = when_keeps (HeldBy x (length (sessions x.setting (seen x)))) (is_running (seen (end_holdings n x)) j) (add_reply j SpawnFault) (end_holdings n x) (λ runs g. g) (held_end x (length (sessions x.setting (seen x))) n x (at_head x))
+      by : (o : Option ℕ) → HeldBy x (length (sessions x.setting (seen x))) (when_running o SpawnFault (end_holdings n x))
+      by None = held_end x (length (sessions x.setting (seen x))) n x (at_head x)
+      by (Some j) = when_keeps (HeldBy x (length (sessions x.setting (seen x)))) (is_running (seen (end_holdings n x)) j) (add_reply j SpawnFault) (end_holdings n x) (λ runs g. g) (held_end x (length (sessions x.setting (seen x))) n x (at_head x))
 
 requested_held : (x : Step) (s : Session) (j : ℕ) (bytes : List ℕ) (c : Command) (n : ℕ) → HeldBy x n (after_request_read s j bytes c x)
 unfolding after_request_read

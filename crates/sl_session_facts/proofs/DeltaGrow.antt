@@ -24,7 +24,7 @@ use Rattle.sl_words.specs.Words.{choose}
 use Rattle.std.proofs.Common.{ap, inl, inr, refl, subst, sym, ◌∙◌}
 use Rattle.std.proofs.lemmas.Bool.{eqb-true}
 use Rattle.std.specs.Option.{option_map_or}
-use Rattle.std.specs.Prelude.{Bool, Contains, IsSome, IsTrue, List, None, Option, Some, [], cond, false, is_none, is_some, length, option_and_then, true, ℕ, ◌+◌, ◌-◌, ◌==◌, ◌∷◌, ◌≡◌, ◌≤◌, ◌⊎◌}
+use Rattle.std.specs.Prelude.{Bool, Contains, IsSome, IsTrue, List, None, Option, Some, [], cond, false, is_none, is_some, length, option_and_then, true, ℕ, ◌+◌, ◌==◌, ◌∷◌, ◌≡◌, ◌≤◌, ◌⊎◌}
 
 -- What is known of delta records, but that a session which wrote its free holds nothing.
 pub record DeltaPart (st : Setting) (t : Trace) : Type 0 where
@@ -73,6 +73,7 @@ reply_joins_none y j r s none is = by s.job refl where
       never : ((s.job ≡ Some j → ⊥) ⊎ (is_join_done r ≡ false)) → ⊥
       never (inl no_one) = no_one own
       never (inr no_join) = false_is_true (sym (ap (λ b. is_some (choose b (length y.past + 1))) no_join) ∙ after (record { at = length y.past; reply = r }) new)
+
   by : (o : Option ℕ) → s.job ≡ o → is_some (joined_after (seen y) s) ≡ true
   by None its = ap (λ (o : Option ℕ). is_some (elim o as (λ z. Option ℕ) [ None ↦ Some 0 | Some i ↦ option_and_then (λ (q : Replied). choose (is_join_done q.reply) (q.at + 1)) (reply_to (seen y) i) ])) its
   by (Some i) its = by_reply i its (j == i) refl
@@ -115,74 +116,74 @@ call_delta y s path p o op has no_look no_free unfreed good h =
       numbers = λ z there joined. numbers z (old z there) joined (calls_by z (s.number == z.number) refl);
       left = λ z k there joined leaves_z none. left z k (old z there) joined leaves_z none (calls_by z (s.number == z.number) refl);
     } where
-  made : Call
-  made = record { number = next_call y.setting (seen y); session = s.number; purpose = p; path = path; offset = o; op = op }
+      made : Call
+      made = record { number = next_call y.setting (seen y); session = s.number; purpose = p; path = path; offset = o; op = op }
 
-  new : Submitted
-  new = new_call (length y.past) y.reading made
+      new : Submitted
+      new = new_call (length y.past) y.reading made
 
-  old : (z : Session) → Contains (sessions y.setting (seen (add_call_of s.number path p o op y))) z → Contains (sessions y.setting (seen y)) z
-  old z there = subst (λ ss. Contains ss z) (same_sessions y.setting (entry_of y) y.past made no_look) there
+      old : (z : Session) → Contains (sessions y.setting (seen (add_call_of s.number path p o op y))) z → Contains (sessions y.setting (seen y)) z
+      old z there = subst (λ ss. Contains ss z) (same_sessions y.setting (entry_of y) y.past made no_look) there
 
-  one : (z : Session) → Contains (sessions y.setting (seen y)) z → z.number ≡ s.number → z ≡ s
-  one z there same = one_value z s (session_numbered y.setting (seen y) s.number) (subst (λ n. session_numbered y.setting (seen y) n ≡ Some z) same (session_has y.setting (seen y) z there)) has
+      one : (z : Session) → Contains (sessions y.setting (seen y)) z → z.number ≡ s.number → z ≡ s
+      one z there same = one_value z s (session_numbered y.setting (seen y) s.number) (subst (λ n. session_numbered y.setting (seen y) n ≡ Some z) same (session_has y.setting (seen y) z there)) has
 
-  calls_by : (z : Session) → (b : Bool) → (s.number == z.number) ≡ b → ((z.number ≡ s.number) × (calls_of (seen (add_call_of s.number path p o op y)) z ≡ new ∷ calls_of (seen y) z)) ⊎ (calls_of (seen (add_call_of s.number path p o op y)) z ≡ calls_of (seen y) z)
-  calls_by z true is = inl (sym (eqb-true s.number z.number is), mine_more (entry_of y) y.past made z is)
-  calls_by z false is = inr (others_stay (entry_of y) y.past made z is)
+      calls_by : (z : Session) → (b : Bool) → (s.number == z.number) ≡ b → ((z.number ≡ s.number) × (calls_of (seen (add_call_of s.number path p o op y)) z ≡ new ∷ calls_of (seen y) z)) ⊎ (calls_of (seen (add_call_of s.number path p o op y)) z ≡ calls_of (seen y) z)
+      calls_by z true is = inl (sym (eqb-true s.number z.number is), mine_more (entry_of y) y.past made z is)
+      calls_by z false is = inr (others_stay (entry_of y) y.past made z is)
 
-  free_same : free_write (new ∷ calls_of (seen y) s) ≡ None
-  free_same = ap (λ b. cond b (Some new) (free_write (calls_of (seen y) s))) no_free ∙ unfreed
+      free_same : free_write (new ∷ calls_of (seen y) s) ≡ None
+      free_same = ap (λ b. cond b (Some new) (free_write (calls_of (seen y) s))) no_free ∙ unfreed
 
-  frees : (z : Session) (m : Submitted) → Contains (sessions y.setting (seen y)) z → free_write (calls_of (seen (add_call_of s.number path p o op y)) z) ≡ Some m
-      → ((z.number ≡ s.number) × (calls_of (seen (add_call_of s.number path p o op y)) z ≡ new ∷ calls_of (seen y) z)) ⊎ (calls_of (seen (add_call_of s.number path p o op y)) z ≡ calls_of (seen y) z)
-      → IsSome (leaving_job y.setting (seen y) z) × ((ms : List Submitted) × (calls_of (seen (add_call_of s.number path p o op y)) z ≡ m ∷ ms) × (unanswered ms ≡ []))
-  frees z m there is (inl mine) =
-      let same : z ≡ s = one z there mine.0 in
-      absurd (none_some m (sym (ap (λ ms. free_write ms) mine.1 ∙ (ap (λ (q : Session). free_write (new ∷ calls_of (seen y) q)) same ∙ free_same)) ∙ is))
-  frees z m there is (inr other) =
-      let was = h.frees z m there (sym (ap (λ ms. free_write ms) other) ∙ is) in (was.0, (was.1.0, other ∙ was.1.1, was.1.2))
+      frees : (z : Session) (m : Submitted) → Contains (sessions y.setting (seen y)) z → free_write (calls_of (seen (add_call_of s.number path p o op y)) z) ≡ Some m
+          → ((z.number ≡ s.number) × (calls_of (seen (add_call_of s.number path p o op y)) z ≡ new ∷ calls_of (seen y) z)) ⊎ (calls_of (seen (add_call_of s.number path p o op y)) z ≡ calls_of (seen y) z)
+          → IsSome (leaving_job y.setting (seen y) z) × ((ms : List Submitted) × (calls_of (seen (add_call_of s.number path p o op y)) z ≡ m ∷ ms) × (unanswered ms ≡ []))
+      frees z m there is (inl mine) =
+          let same : z ≡ s = one z there mine.0 in
+          absurd (none_some m (sym (ap (λ ms. free_write ms) mine.1 ∙ (ap (λ (q : Session). free_write (new ∷ calls_of (seen y) q)) same ∙ free_same)) ∙ is))
+      frees z m there is (inr other) =
+          let was = h.frees z m there (sym (ap (λ ms. free_write ms) other) ∙ is) in (was.0, (was.1.0, other ∙ was.1.1, was.1.2))
 
-  before : (z : Session) (m n : Submitted) → Contains (sessions y.setting (seen y)) z → free_write (calls_of (seen (add_call_of s.number path p o op y)) z) ≡ Some m → Contains (calls_of (seen (add_call_of s.number path p o op y)) z) n
-      → ((z.number ≡ s.number) × (calls_of (seen (add_call_of s.number path p o op y)) z ≡ new ∷ calls_of (seen y) z)) ⊎ (calls_of (seen (add_call_of s.number path p o op y)) z ≡ calls_of (seen y) z)
-      → (n ≡ m) ⊎ ((a : Answered) × (n.answer ≡ Some a) × (a.at ≤ m.at))
-  before z m n there is inside (inl mine) =
-      let same : z ≡ s = one z there mine.0 in
-      absurd (none_some m (sym (ap (λ ms. free_write ms) mine.1 ∙ (ap (λ (q : Session). free_write (new ∷ calls_of (seen y) q)) same ∙ free_same)) ∙ is))
-  before z m n there is inside (inr other) = h.before z m n there (sym (ap (λ ms. free_write ms) other) ∙ is) (subst (λ ms. Contains ms n) other inside)
+      before : (z : Session) (m n : Submitted) → Contains (sessions y.setting (seen y)) z → free_write (calls_of (seen (add_call_of s.number path p o op y)) z) ≡ Some m → Contains (calls_of (seen (add_call_of s.number path p o op y)) z) n
+          → ((z.number ≡ s.number) × (calls_of (seen (add_call_of s.number path p o op y)) z ≡ new ∷ calls_of (seen y) z)) ⊎ (calls_of (seen (add_call_of s.number path p o op y)) z ≡ calls_of (seen y) z)
+          → (n ≡ m) ⊎ ((a : Answered) × (n.answer ≡ Some a) × (a.at ≤ m.at))
+      before z m n there is inside (inl mine) =
+          let same : z ≡ s = one z there mine.0 in
+          absurd (none_some m (sym (ap (λ ms. free_write ms) mine.1 ∙ (ap (λ (q : Session). free_write (new ∷ calls_of (seen y) q)) same ∙ free_same)) ∙ is))
+      before z m n there is inside (inr other) = h.before z m n there (sym (ap (λ ms. free_write ms) other) ∙ is) (subst (λ ms. Contains ms n) other inside)
 
-  numbers_by : (z : Session) → z ≡ s → is_joined (seen y) z ≡ true → (1 ≤ generation_of (seen y) z) × IsTrue (is_number (generation_of (seen y) z)) × IsTrue (is_number (last_seq (seen y) z))
-      → (o : Option DeltaRec) → option_and_then delta_of_record (record_of op) ≡ o
-      → (1 ≤ option_map_or (λ (d : DeltaRec). d.generation) (elim o as (λ q. Option DeltaRec) [ Some d ↦ Some d | None ↦ last_delta (calls_of (seen y) z) ]) (given_number z))
-      × IsTrue (is_number (option_map_or (λ (d : DeltaRec). d.generation) (elim o as (λ q. Option DeltaRec) [ Some d ↦ Some d | None ↦ last_delta (calls_of (seen y) z) ]) (given_number z)))
-      × IsTrue (is_number (option_map_or (λ (d : DeltaRec). d.seq) (elim o as (λ q. Option DeltaRec) [ Some d ↦ Some d | None ↦ last_delta (calls_of (seen y) z) ]) (given_number z)))
-  numbers_by z same joined was None is = was
-  numbers_by z same joined was (Some d) is =
-      let g : GoodDelta y s d = good d is (subst (λ (q : Session). is_joined (seen y) q ≡ true) same joined) in
-      let gen : generation_of (seen y) z ≡ d.generation = ap (λ q. generation_of (seen y) q) same ∙ sym g.same in
-      (subst (λ n. 1 ≤ n) gen was.0, subst (λ n. IsTrue (is_number n)) gen was.1, g.seq)
+      numbers_by : (z : Session) → z ≡ s → is_joined (seen y) z ≡ true → (1 ≤ generation_of (seen y) z) × IsTrue (is_number (generation_of (seen y) z)) × IsTrue (is_number (last_seq (seen y) z))
+          → (o : Option DeltaRec) → option_and_then delta_of_record (record_of op) ≡ o
+          → (1 ≤ option_map_or (λ (d : DeltaRec). d.generation) (elim o as (λ q. Option DeltaRec) [ Some d ↦ Some d | None ↦ last_delta (calls_of (seen y) z) ]) (given_number z))
+          × IsTrue (is_number (option_map_or (λ (d : DeltaRec). d.generation) (elim o as (λ q. Option DeltaRec) [ Some d ↦ Some d | None ↦ last_delta (calls_of (seen y) z) ]) (given_number z)))
+          × IsTrue (is_number (option_map_or (λ (d : DeltaRec). d.seq) (elim o as (λ q. Option DeltaRec) [ Some d ↦ Some d | None ↦ last_delta (calls_of (seen y) z) ]) (given_number z)))
+      numbers_by z same joined was None is = was
+      numbers_by z same joined was (Some d) is =
+          let g : GoodDelta y s d = good d is (subst (λ (q : Session). is_joined (seen y) q ≡ true) same joined) in
+          let gen : generation_of (seen y) z ≡ d.generation = ap (λ q. generation_of (seen y) q) same ∙ sym g.same in
+          (subst (λ n. 1 ≤ n) gen was.0, subst (λ n. IsTrue (is_number n)) gen was.1, g.seq)
 
-  numbers : (z : Session) → Contains (sessions y.setting (seen y)) z → is_joined (seen y) z ≡ true
-      → ((z.number ≡ s.number) × (calls_of (seen (add_call_of s.number path p o op y)) z ≡ new ∷ calls_of (seen y) z)) ⊎ (calls_of (seen (add_call_of s.number path p o op y)) z ≡ calls_of (seen y) z)
-      → (1 ≤ generation_of (seen (add_call_of s.number path p o op y)) z) × IsTrue (is_number (generation_of (seen (add_call_of s.number path p o op y)) z)) × IsTrue (is_number (last_seq (seen (add_call_of s.number path p o op y)) z))
-  numbers z there joined (inr other) =
-      subst (λ ms. (1 ≤ generation_in z ms) × IsTrue (is_number (generation_in z ms)) × IsTrue (is_number (seq_in z ms))) (sym other) (h.numbers z there joined)
-  numbers z there joined (inl mine) =
-      subst (λ ms. (1 ≤ generation_in z ms) × IsTrue (is_number (generation_in z ms)) × IsTrue (is_number (seq_in z ms))) (sym mine.1)
-      (numbers_by z (one z there mine.0) joined (h.numbers z there joined) (option_and_then delta_of_record (record_of op)) refl)
+      numbers : (z : Session) → Contains (sessions y.setting (seen y)) z → is_joined (seen y) z ≡ true
+          → ((z.number ≡ s.number) × (calls_of (seen (add_call_of s.number path p o op y)) z ≡ new ∷ calls_of (seen y) z)) ⊎ (calls_of (seen (add_call_of s.number path p o op y)) z ≡ calls_of (seen y) z)
+          → (1 ≤ generation_of (seen (add_call_of s.number path p o op y)) z) × IsTrue (is_number (generation_of (seen (add_call_of s.number path p o op y)) z)) × IsTrue (is_number (last_seq (seen (add_call_of s.number path p o op y)) z))
+      numbers z there joined (inr other) =
+          subst (λ ms. (1 ≤ generation_in z ms) × IsTrue (is_number (generation_in z ms)) × IsTrue (is_number (seq_in z ms))) (sym other) (h.numbers z there joined)
+      numbers z there joined (inl mine) =
+          subst (λ ms. (1 ≤ generation_in z ms) × IsTrue (is_number (generation_in z ms)) × IsTrue (is_number (seq_in z ms))) (sym mine.1)
+          (numbers_by z (one z there mine.0) joined (h.numbers z there joined) (option_and_then delta_of_record (record_of op)) refl)
 
-  left_by_delta : (z : Session) (k : Job) → z ≡ s → is_joined (seen y) z ≡ true → leaving_job y.setting (seen y) z ≡ Some k → IsTrue (is_number (last_seq (seen y) z + 1)) → (o : Option DeltaRec) → option_and_then delta_of_record (record_of op) ≡ o
-      → IsTrue (is_number (option_map_or (λ (d : DeltaRec). d.seq) (elim o as (λ q. Option DeltaRec) [ Some d ↦ Some d | None ↦ last_delta (calls_of (seen y) z) ]) (given_number z) + 1))
-  left_by_delta z k same joined leaves_z was None is = was
-  left_by_delta z k same joined leaves_z was (Some d) is =
-      (good d is (subst (λ (q : Session). is_joined (seen y) q ≡ true) same joined)).left k (subst (λ (q : Session). leaving_job y.setting (seen y) q ≡ Some k) same leaves_z)
+      left_by_delta : (z : Session) (k : Job) → z ≡ s → is_joined (seen y) z ≡ true → leaving_job y.setting (seen y) z ≡ Some k → IsTrue (is_number (last_seq (seen y) z + 1)) → (o : Option DeltaRec) → option_and_then delta_of_record (record_of op) ≡ o
+          → IsTrue (is_number (option_map_or (λ (d : DeltaRec). d.seq) (elim o as (λ q. Option DeltaRec) [ Some d ↦ Some d | None ↦ last_delta (calls_of (seen y) z) ]) (given_number z) + 1))
+      left_by_delta z k same joined leaves_z was None is = was
+      left_by_delta z k same joined leaves_z was (Some d) is =
+          (good d is (subst (λ (q : Session). is_joined (seen y) q ≡ true) same joined)).left k (subst (λ (q : Session). leaving_job y.setting (seen y) q ≡ Some k) same leaves_z)
 
-  left : (z : Session) (k : Job) → Contains (sessions y.setting (seen y)) z → is_joined (seen y) z ≡ true → leaving_job y.setting (seen y) z ≡ Some k → free_write (calls_of (seen (add_call_of s.number path p o op y)) z) ≡ None
-      → ((z.number ≡ s.number) × (calls_of (seen (add_call_of s.number path p o op y)) z ≡ new ∷ calls_of (seen y) z)) ⊎ (calls_of (seen (add_call_of s.number path p o op y)) z ≡ calls_of (seen y) z)
-      → IsTrue (is_number (last_seq (seen (add_call_of s.number path p o op y)) z + 1))
-  left z k there joined leaves_z none (inr other) =
-      subst (λ ms. IsTrue (is_number (seq_in z ms + 1))) (sym other) (h.left z k there joined leaves_z (sym (ap (λ ms. free_write ms) other) ∙ none))
-  left z k there joined leaves_z none (inl mine) =
-      let same : z ≡ s = one z there mine.0 in
-      subst (λ ms. IsTrue (is_number (seq_in z ms + 1))) (sym mine.1)
-      (left_by_delta z k same joined leaves_z (h.left z k there joined leaves_z (ap (λ (q : Session). free_write (calls_of (seen y) q)) same ∙ unfreed)) (option_and_then delta_of_record (record_of op)) refl)
+      left : (z : Session) (k : Job) → Contains (sessions y.setting (seen y)) z → is_joined (seen y) z ≡ true → leaving_job y.setting (seen y) z ≡ Some k → free_write (calls_of (seen (add_call_of s.number path p o op y)) z) ≡ None
+          → ((z.number ≡ s.number) × (calls_of (seen (add_call_of s.number path p o op y)) z ≡ new ∷ calls_of (seen y) z)) ⊎ (calls_of (seen (add_call_of s.number path p o op y)) z ≡ calls_of (seen y) z)
+          → IsTrue (is_number (last_seq (seen (add_call_of s.number path p o op y)) z + 1))
+      left z k there joined leaves_z none (inr other) =
+          subst (λ ms. IsTrue (is_number (seq_in z ms + 1))) (sym other) (h.left z k there joined leaves_z (sym (ap (λ ms. free_write ms) other) ∙ none))
+      left z k there joined leaves_z none (inl mine) =
+          let same : z ≡ s = one z there mine.0 in
+          subst (λ ms. IsTrue (is_number (seq_in z ms + 1))) (sym mine.1)
+          (left_by_delta z k same joined leaves_z (h.left z k there joined leaves_z (ap (λ (q : Session). free_write (calls_of (seen y) q)) same ∙ unfreed)) (option_and_then delta_of_record (record_of op)) refl)

@@ -67,14 +67,14 @@ reply_delta x y j r freed may h =
           subst (λ ms. IsTrue (is_number (seq_in s (filter (is_call_of s) ms) + 1))) (sym same)
           (h.part.left s k there (joined_before s there joined) (reply_leaving y j r s k leaves_s) (sym (ap (λ ms. free_write (filter (is_call_of s) ms)) same) ∙ none));
     } where
-  same : submitted (seen (add_reply j r y)) ≡ submitted (seen y)
-  same = calls_stay y j r (late_since_delta x y r h.before h.input may.0)
+      same : submitted (seen (add_reply j r y)) ≡ submitted (seen y)
+      same = calls_stay y j r (late_since_delta x y r h.before h.input may.0)
 
-  joined_before : (s : Session) → Contains (sessions y.setting (seen y)) s → is_joined (seen (add_reply j r y)) s ≡ true → is_joined (seen y) s ≡ true
-  joined_before s there is = reply_is_joined y j r s (reply_joins_none y j r s (by may.1) (joined_then (seen (add_reply j r y)) s is)) is where
-    by : JoinsNone x j r → (s.job ≡ Some j → ⊥) ⊎ (is_join_done r ≡ false)
-    by (inl no_join) = inr no_join
-    by (inr no_one) = inl (λ its. no_one s (subst (λ ss. Contains ss s) h.sessions there) its)
+      joined_before : (s : Session) → Contains (sessions y.setting (seen y)) s → is_joined (seen (add_reply j r y)) s ≡ true → is_joined (seen y) s ≡ true
+      joined_before s there is = reply_is_joined y j r s (reply_joins_none y j r s (by may.1) (joined_then (seen (add_reply j r y)) s is)) is where
+        by : JoinsNone x j r → (s.job ≡ Some j → ⊥) ⊎ (is_join_done r ≡ false)
+        by (inl no_join) = inr no_join
+        by (inr no_one) = inl (λ its. no_one s (subst (λ ss. Contains ss s) h.sessions there) its)
 
 pub since_move : (x y : Step) (m : Move) → DeltaSince x y → DeltaSince x (add_move m y)
 since_move x y m h = record { part = move_delta y m h.part; setting = h.setting; before = h.before; input = h.input; sessions = h.sessions; calls = h.calls; joined = h.joined; leaving = h.leaving }
@@ -155,12 +155,12 @@ mark_before es e (Told n0 ans) ms b m n was is all marked inside =
     in
     let same : answered_in es e n0 ans b ≡ m = one_value (answered_in es e n0 ans b) m (free_write (map (answered_in es e n0 ans) ms)) found marked in
     let k = in_map (answered_in es e n0 ans) ms n inside in by k.0 k.2 same (all k.0 k.1) where
-  by : (k : Submitted) → answered_in es e n0 ans k ≡ n → answered_in es e n0 ans b ≡ m → (k ≡ b) ⊎ ((a : Answered) × (k.answer ≡ Some a) × (a.at ≤ b.at)) → (n ≡ m) ⊎ ((a : Answered) × (n.answer ≡ Some a) × (a.at ≤ m.at))
-  by k of_k of_b (inl same) = inl (sym of_k ∙ (ap (λ z. answered_in es e n0 ans z) same ∙ of_b))
-  by k of_k of_b (inr answered) =
-      let kept_one : answered_in es e n0 ans k ≡ k = kept_by k answered.0 (answer_of es e ans k.call) (k.call.number == n0) answered.1 in
-      let at : m.at ≡ b.at = ap (λ (z : Submitted). z.at) (sym of_b) ∙ (same_answered es e n0 ans b).at in
-      inr (answered.0, ap (λ (z : Submitted). z.answer) (sym of_k ∙ kept_one) ∙ answered.1, subst (λ q. answered.0.at ≤ q) (sym at) answered.2)
+      by : (k : Submitted) → answered_in es e n0 ans k ≡ n → answered_in es e n0 ans b ≡ m → (k ≡ b) ⊎ ((a : Answered) × (k.answer ≡ Some a) × (a.at ≤ b.at)) → (n ≡ m) ⊎ ((a : Answered) × (n.answer ≡ Some a) × (a.at ≤ m.at))
+      by k of_k of_b (inl same) = inl (sym of_k ∙ (ap (λ z. answered_in es e n0 ans z) same ∙ of_b))
+      by k of_k of_b (inr answered) =
+          let kept_one : answered_in es e n0 ans k ≡ k = kept_by k answered.0 (answer_of es e ans k.call) (k.call.number == n0) answered.1 in
+          let at : m.at ≡ b.at = ap (λ (z : Submitted). z.at) (sym of_b) ∙ (same_answered es e n0 ans b).at in
+          inr (answered.0, ap (λ (z : Submitted). z.answer) (sym of_k ∙ kept_one) ∙ answered.1, subst (λ q. answered.0.at ≤ q) (sym at) answered.2)
 mark_before es e i ms b m n was is all marked inside =
     let same : b ≡ m = one_value b m (free_write ms) was marked in subst (λ (z : Submitted). (n ≡ z) ⊎ ((a : Answered) × (n.answer ≡ Some a) × (a.at ≤ z.at))) same (all n inside)
 
@@ -174,51 +174,51 @@ input_delta x i wake bare leaves_so stays h =
       numbers = λ s there joined. subst (λ o. (1 ≤ option_map_or (λ (d : DeltaRec). d.generation) o (given_number s)) × IsTrue (is_number (option_map_or (λ (d : DeltaRec). d.generation) o (given_number s))) × IsTrue (is_number (option_map_or (λ (d : DeltaRec). d.seq) o (given_number s)))) (sym (last s)) (h.numbers s (old s there) joined);
       left = λ s k there joined leaves_s none. subst (λ o. IsTrue (is_number (option_map_or (λ (d : DeltaRec). d.seq) o (given_number s) + 1))) (sym (last s)) (left s k (old s there) joined none (leaves_so s k (old s there) joined leaves_s));
     } where
-  e : Entry
-  e = entry_of (with_input i x)
+      e : Entry
+      e = entry_of (with_input i x)
 
-  old : (s : Session) → Contains (sessions x.setting (seen (with_input i x))) s → Contains (sessions x.setting (seen x)) s
-  old s there = subst (λ ss. Contains ss s) (sessions_told x i bare) there
+      old : (s : Session) → Contains (sessions x.setting (seen (with_input i x))) s → Contains (sessions x.setting (seen x)) s
+      old s there = subst (λ ss. Contains ss s) (sessions_told x i bare) there
 
-  calls : (s : Session) → calls_of (seen (with_input i x)) s ≡ mark x.past (entry_of (with_input i x)) i (calls_of (seen x) s)
-  calls s = calls_of_told x i s wake bare
+      calls : (s : Session) → calls_of (seen (with_input i x)) s ≡ mark x.past (entry_of (with_input i x)) i (calls_of (seen x) s)
+      calls s = calls_of_told x i s wake bare
 
-  last : (s : Session) → last_delta (calls_of (seen (with_input i x)) s) ≡ last_delta (calls_of (seen x) s)
-  last s = ap (λ ms. last_delta ms) (calls s) ∙ mark_delta x.past (entry_of (with_input i x)) i (calls_of (seen x) s)
+      last : (s : Session) → last_delta (calls_of (seen (with_input i x)) s) ≡ last_delta (calls_of (seen x) s)
+      last s = ap (λ ms. last_delta ms) (calls s) ∙ mark_delta x.past (entry_of (with_input i x)) i (calls_of (seen x) s)
 
-  unfreed : (s : Session) → free_write (calls_of (seen (with_input i x)) s) ≡ None → (o : Option Submitted) → free_write (calls_of (seen x) s) ≡ o → free_write (calls_of (seen x) s) ≡ None
-  unfreed s none None is = is
-  unfreed s none (Some m) is =
-      let part = find_inside (λ (z : Submitted). is_free_purpose z.call.purpose) (calls_of (seen x) s) m is in absurd (was_free x.past (entry_of (with_input i x)) i (calls_of (seen x) s) m part.0 part.1 (sym (ap (λ ms. free_write ms) (calls s)) ∙ none))
+      unfreed : (s : Session) → free_write (calls_of (seen (with_input i x)) s) ≡ None → (o : Option Submitted) → free_write (calls_of (seen x) s) ≡ o → free_write (calls_of (seen x) s) ≡ None
+      unfreed s none None is = is
+      unfreed s none (Some m) is =
+          let part = find_inside (λ (z : Submitted). is_free_purpose z.call.purpose) (calls_of (seen x) s) m is in absurd (was_free x.past (entry_of (with_input i x)) i (calls_of (seen x) s) m part.0 part.1 (sym (ap (λ ms. free_write ms) (calls s)) ∙ none))
 
-  left : (s : Session) (k : Job) → Contains (sessions x.setting (seen x)) s → is_joined (seen x) s ≡ true → free_write (calls_of (seen (with_input i x)) s) ≡ None → (leaving_job x.setting (seen x) s ≡ Some k) ⊎ (IsTrue (is_number (last_seq (seen x) s + 1)))
-      → IsTrue (is_number (last_seq (seen x) s + 1))
-  left s k there joined none (inr is) = is
-  left s k there joined none (inl leaves_s) = h.left s k there joined leaves_s (unfreed s none (free_write (calls_of (seen x) s)) refl)
+      left : (s : Session) (k : Job) → Contains (sessions x.setting (seen x)) s → is_joined (seen x) s ≡ true → free_write (calls_of (seen (with_input i x)) s) ≡ None → (leaving_job x.setting (seen x) s ≡ Some k) ⊎ (IsTrue (is_number (last_seq (seen x) s + 1)))
+          → IsTrue (is_number (last_seq (seen x) s + 1))
+      left s k there joined none (inr is) = is
+      left s k there joined none (inl leaves_s) = h.left s k there joined leaves_s (unfreed s none (free_write (calls_of (seen x) s)) refl)
 
-  frees : (s : Session) (m : Submitted) → Contains (sessions x.setting (seen x)) s → free_write (calls_of (seen (with_input i x)) s) ≡ Some m
-      → IsSome (leaving_job x.setting (seen (with_input i x)) s) × ((ms : List Submitted) × (calls_of (seen (with_input i x)) s ≡ m ∷ ms) × (unanswered ms ≡ []))
-  frees s m there is = by (free_write (calls_of (seen x) s)) refl where
-    by : (o : Option Submitted) → free_write (calls_of (seen x) s) ≡ o
-        → IsSome (leaving_job x.setting (seen (with_input i x)) s) × ((ms : List Submitted) × (calls_of (seen (with_input i x)) s ≡ m ∷ ms) × (unanswered ms ≡ []))
-    by None none = absurd (none_some m (sym (ap (λ ms. free_write ms) (calls s) ∙ mark_free x.past (entry_of (with_input i x)) i (calls_of (seen x) s) none) ∙ is))
-    by (Some b) was =
-        let part = h.frees s b there was in
-        let k = some_of (leaving_job x.setting (seen x) s) part.0 in
-        let cons = mark_cons x.past (entry_of (with_input i x)) i b part.1.0 in
-        let grown : calls_of (seen (with_input i x)) s ≡ cons.0 ∷ mark x.past (entry_of (with_input i x)) i part.1.0 = calls s ∙ (ap (λ ms. mark x.past (entry_of (with_input i x)) i ms) part.1.1 ∙ cons.1) in
-        let free_one = find_inside (λ (z : Submitted). is_free_purpose z.call.purpose) (calls_of (seen x) s) b was in
-        let first : free_write (calls_of (seen (with_input i x)) s) ≡ Some cons.0 =
-        ap (λ ms. free_write ms) grown ∙ ap (λ q. cond q (Some cons.0) (free_write (mark x.past (entry_of (with_input i x)) i part.1.0))) (ap (λ (c : Call). is_free_purpose c.purpose) cons.2.call ∙ free_one.1)
-        in
-        let same : cons.0 ≡ m = one_value cons.0 m (free_write (calls_of (seen (with_input i x)) s)) first is in
-        (stays s k.0 k.1, (mark x.past (entry_of (with_input i x)) i part.1.0, grown ∙ ap (λ q. q ∷ mark x.past (entry_of (with_input i x)) i part.1.0) same, mark_empty x.past (entry_of (with_input i x)) i part.1.0 part.1.2))
+      frees : (s : Session) (m : Submitted) → Contains (sessions x.setting (seen x)) s → free_write (calls_of (seen (with_input i x)) s) ≡ Some m
+          → IsSome (leaving_job x.setting (seen (with_input i x)) s) × ((ms : List Submitted) × (calls_of (seen (with_input i x)) s ≡ m ∷ ms) × (unanswered ms ≡ []))
+      frees s m there is = by (free_write (calls_of (seen x) s)) refl where
+        by : (o : Option Submitted) → free_write (calls_of (seen x) s) ≡ o
+            → IsSome (leaving_job x.setting (seen (with_input i x)) s) × ((ms : List Submitted) × (calls_of (seen (with_input i x)) s ≡ m ∷ ms) × (unanswered ms ≡ []))
+        by None none = absurd (none_some m (sym (ap (λ ms. free_write ms) (calls s) ∙ mark_free x.past (entry_of (with_input i x)) i (calls_of (seen x) s) none) ∙ is))
+        by (Some b) was =
+            let part = h.frees s b there was in
+            let k = some_of (leaving_job x.setting (seen x) s) part.0 in
+            let cons = mark_cons x.past (entry_of (with_input i x)) i b part.1.0 in
+            let grown : calls_of (seen (with_input i x)) s ≡ cons.0 ∷ mark x.past (entry_of (with_input i x)) i part.1.0 = calls s ∙ (ap (λ ms. mark x.past (entry_of (with_input i x)) i ms) part.1.1 ∙ cons.1) in
+            let free_one = find_inside (λ (z : Submitted). is_free_purpose z.call.purpose) (calls_of (seen x) s) b was in
+            let first : free_write (calls_of (seen (with_input i x)) s) ≡ Some cons.0 =
+            ap (λ ms. free_write ms) grown ∙ ap (λ q. cond q (Some cons.0) (free_write (mark x.past (entry_of (with_input i x)) i part.1.0))) (ap (λ (c : Call). is_free_purpose c.purpose) cons.2.call ∙ free_one.1)
+            in
+            let same : cons.0 ≡ m = one_value cons.0 m (free_write (calls_of (seen (with_input i x)) s)) first is in
+            (stays s k.0 k.1, (mark x.past (entry_of (with_input i x)) i part.1.0, grown ∙ ap (λ q. q ∷ mark x.past (entry_of (with_input i x)) i part.1.0) same, mark_empty x.past (entry_of (with_input i x)) i part.1.0 part.1.2))
 
-  before : (s : Session) (m n : Submitted) → Contains (sessions x.setting (seen x)) s → free_write (calls_of (seen (with_input i x)) s) ≡ Some m → Contains (calls_of (seen (with_input i x)) s) n → (n ≡ m) ⊎ ((a : Answered) × (n.answer ≡ Some a) × (a.at ≤ m.at))
-  before s m n there is inside = by (free_write (calls_of (seen x) s)) refl where
-    by : (o : Option Submitted) → free_write (calls_of (seen x) s) ≡ o → (n ≡ m) ⊎ ((a : Answered) × (n.answer ≡ Some a) × (a.at ≤ m.at))
-    by None none = absurd (none_some m (sym (ap (λ ms. free_write ms) (calls s) ∙ mark_free x.past (entry_of (with_input i x)) i (calls_of (seen x) s) none) ∙ is))
-    by (Some b) was =
-        let marked : free_write (mark x.past (entry_of (with_input i x)) i (calls_of (seen x) s)) ≡ Some m = sym (ap (λ ms. free_write ms) (calls s)) ∙ is in
-        let free_one = find_inside (λ (z : Submitted). is_free_purpose z.call.purpose) (calls_of (seen x) s) b was in
-        mark_before x.past (entry_of (with_input i x)) i (calls_of (seen x) s) b m n was free_one.1 (λ k there_k. h.before s b k there was there_k) marked (subst (λ ms. Contains ms n) (calls s) inside)
+      before : (s : Session) (m n : Submitted) → Contains (sessions x.setting (seen x)) s → free_write (calls_of (seen (with_input i x)) s) ≡ Some m → Contains (calls_of (seen (with_input i x)) s) n → (n ≡ m) ⊎ ((a : Answered) × (n.answer ≡ Some a) × (a.at ≤ m.at))
+      before s m n there is inside = by (free_write (calls_of (seen x) s)) refl where
+        by : (o : Option Submitted) → free_write (calls_of (seen x) s) ≡ o → (n ≡ m) ⊎ ((a : Answered) × (n.answer ≡ Some a) × (a.at ≤ m.at))
+        by None none = absurd (none_some m (sym (ap (λ ms. free_write ms) (calls s) ∙ mark_free x.past (entry_of (with_input i x)) i (calls_of (seen x) s) none) ∙ is))
+        by (Some b) was =
+            let marked : free_write (mark x.past (entry_of (with_input i x)) i (calls_of (seen x) s)) ≡ Some m = sym (ap (λ ms. free_write ms) (calls s)) ∙ is in
+            let free_one = find_inside (λ (z : Submitted). is_free_purpose z.call.purpose) (calls_of (seen x) s) b was in
+            mark_before x.past (entry_of (with_input i x)) i (calls_of (seen x) s) b m n was free_one.1 (λ k there_k. h.before s b k there was there_k) marked (subst (λ ms. Contains ms n) (calls s) inside)

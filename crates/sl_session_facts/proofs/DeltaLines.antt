@@ -81,25 +81,25 @@ answered_full x text r wake bare h =
           in
           subst (λ ms. IsTrue (is_number (seq_in s (filter (is_call_of s) ms) + 1))) (sym same) (f.left s k (old s there) (joined_before s there joined) was (sym (ap (λ ms. free_write (filter (is_call_of s) ms)) same) ∙ none));
     } where
-  w : Step
-  w = with_input (Line text) x
+      w : Step
+      w = with_input (Line text) x
 
-  y : Step
-  y = add_reply (next_job x.setting (seen x)) r (with_input (Line text) x)
+      y : Step
+      y = add_reply (next_job x.setting (seen x)) r (with_input (Line text) x)
 
-  f : DeltaFacts x.setting (seen x)
-  f = h.facts.delta
+      f : DeltaFacts x.setting (seen x)
+      f = h.facts.delta
 
-  same : submitted (seen y) ≡ submitted (seen x)
-  same = calls_stay w (next_job x.setting (seen x)) r (late_on_line x text r) ∙ calls_lined x text wake bare
+      same : submitted (seen y) ≡ submitted (seen x)
+      same = calls_stay w (next_job x.setting (seen x)) r (late_on_line x text r) ∙ calls_lined x text wake bare
 
-  old : (s : Session) → Contains (sessions x.setting (seen y)) s → Contains (sessions x.setting (seen x)) s
-  old s there = subst (λ ss. Contains ss s) (sessions_told x (Line text) bare) there
+      old : (s : Session) → Contains (sessions x.setting (seen y)) s → Contains (sessions x.setting (seen x)) s
+      old s there = subst (λ ss. Contains ss s) (sessions_told x (Line text) bare) there
 
-  joined_before : (s : Session) → Contains (sessions x.setting (seen y)) s → is_joined (seen y) s ≡ true → is_joined (seen x) s ≡ true
-  joined_before s there is =
-      let joined : is_some (joined_after (seen x) s) ≡ true = reply_joins_none w (next_job x.setting (seen x)) r s (inl (λ its. no_such_job x s (old s there) its)) (joined_then (seen y) s is) in
-      ap₂ (λ a b. a && b) joined (and_true (is_some (joined_after (seen y) s)) (is_none (removed_after (seen x) s)) is).1
+      joined_before : (s : Session) → Contains (sessions x.setting (seen y)) s → is_joined (seen y) s ≡ true → is_joined (seen x) s ≡ true
+      joined_before s there is =
+          let joined : is_some (joined_after (seen x) s) ≡ true = reply_joins_none w (next_job x.setting (seen x)) r s (inl (λ its. no_such_job x s (old s there) its)) (joined_then (seen y) s is) in
+          ap₂ (λ a b. a && b) joined (and_true (is_some (joined_after (seen y) s)) (is_none (removed_after (seen x) s)) is).1
 
 -- ---- a line that is carried out
 
@@ -109,17 +109,17 @@ pub lined_part : (x : Step) (text : List ℕ) (c : Command) → x.input ≡ Wake
     → DeltaPart x.setting (seen (with_input (Line text) x))
 lined_part x text c wake bare says h well =
     input_delta x (Line text) wake bare (λ s k there joined is. by s there joined (new_leaving x text c s k says is)) (λ s k is. leaving_goes_on x.setting (entry_of (with_input (Line text) x)) x.past s (past_of s k is)) (part x h) where
-  by : (s : Session) {k : Job} → Contains (sessions x.setting (seen x)) s → is_joined (seen x) s ≡ true
-      → (leaving_job x.setting (by_input x Wake ∷ x.past) s ≡ Some k) ⊎ ((a : LockspaceArg) × (c ≡ RemLockspace a) × (is_session_arg s a ≡ true) × (k.number ≡ next_job x.setting x.past))
-      → (leaving_job x.setting (seen x) s ≡ Some k) ⊎ (IsTrue (is_number (last_seq (seen x) s + 1)))
-  by s {k} there joined (inl was) = inl (subst (λ i. leaving_job x.setting (by_input x i ∷ x.past) s ≡ Some k) (sym wake) was)
-  by s {k} there joined (inr new) = inr (well s new.0 there joined new.1 new.2)
+      by : (s : Session) {k : Job} → Contains (sessions x.setting (seen x)) s → is_joined (seen x) s ≡ true
+          → (leaving_job x.setting (by_input x Wake ∷ x.past) s ≡ Some k) ⊎ ((a : LockspaceArg) × (c ≡ RemLockspace a) × (is_session_arg s a ≡ true) × (k.number ≡ next_job x.setting x.past))
+          → (leaving_job x.setting (seen x) s ≡ Some k) ⊎ (IsTrue (is_number (last_seq (seen x) s + 1)))
+      by s {k} there joined (inl was) = inl (subst (λ i. leaving_job x.setting (by_input x i ∷ x.past) s ≡ Some k) (sym wake) was)
+      by s {k} there joined (inr new) = inr (well s new.0 there joined new.1 new.2)
 
-  past_of : (s : Session) (k : Job) → leaving_job x.setting (seen x) s ≡ Some k → IsSome (leaving_job x.setting x.past s)
-  past_of s k is = either (leaving_job x.setting x.past s) (subst (λ i. leaving_job x.setting (by_input x i ∷ x.past) s ≡ Some k) wake is) where
-    either : (o : Option Job) → (elim o as (λ z. Option Job) [ Some a ↦ Some a | None ↦ None ]) ≡ Some k → IsSome o
-    either (Some a) q = refl
-    either None q = absurd (none_some k q)
+      past_of : (s : Session) (k : Job) → leaving_job x.setting (seen x) s ≡ Some k → IsSome (leaving_job x.setting x.past s)
+      past_of s k is = either (leaving_job x.setting x.past s) (subst (λ i. leaving_job x.setting (by_input x i ∷ x.past) s ≡ Some k) wake is) where
+        either : (o : Option Job) → (elim o as (λ z. Option Job) [ Some a ↦ Some a | None ↦ None ]) ≡ Some k → IsSome o
+        either (Some a) q = refl
+        either None q = absurd (none_some k q)
 
 pub lined_freed : (x : Step) (text : List ℕ) → x.input ≡ Wake → x.effects.calls ≡ [] → Whole x → FreedBefore (with_input (Line text) x)
 lined_freed x text wake bare h s m there is =
@@ -152,8 +152,11 @@ decision_delta x text c (Shares s lver) wake bare h has f = inr (grant_delta (wi
 decision_delta x text c (GivesUp s g) wake bare h has f =
     let w : Step = with_input (Line text) x in
     let n : LeaseNext = release_next (lease_place x.setting s) (known x.setting (seen (add_end (end_of g) w)) s (spot_of_grant g)) g.mode g.lver in
-    inr ((late_on_line x text Done, inl refl), lease_delta w (add_end (end_of g) w) s (spot_of_grant g) (ForJob (next_job x.setting (seen x))) n has (lined_unfreed x text s wake bare h has f.0)
-    (λ j r is. plain_reply w j r (subst (λ k. IsLateLease k) is (release_late (lease_place x.setting s) (known x.setting (seen (add_end (end_of g) w)) s (spot_of_grant g)) g.mode g.lver))))
+    inr (
+      (late_on_line x text Done, inl refl),
+      lease_delta w (add_end (end_of g) w) s (spot_of_grant g) (ForJob (next_job x.setting (seen x))) n has (lined_unfreed x text s wake bare h has f.0)
+          (λ j r is. plain_reply w j r (subst (λ k. IsLateLease k) is (release_late (lease_place x.setting s) (known x.setting (seen (add_end (end_of g) w)) s (spot_of_grant g)) g.mode g.lver))),
+    )
 decision_delta x text c (TakesOver s g) wake bare h has f = inr (grant_delta (with_input (Line text) x) (next_job x.setting (seen x)) g.lver c)
 decision_delta x text c (ConvertsTo s r mode) wake bare h has f =
     let w : Step = with_input (Line text) x in

@@ -42,7 +42,7 @@ use Rattle.sl_trace.specs.declared.reply.Reply.TheVariants.{Generation, Recoveri
 use Rattle.sl_words.specs.Words.{same_truth, some_is}
 use Rattle.std.proofs.Common.{ap, inl, inr, refl, subst}
 use Rattle.std.proofs.lemmas.Bool.{eqb-true}
-use Rattle.std.specs.Prelude.{Contains, List, None, Option, Some, [], false, filter, is_some, not, ℕ, ◌&&◌, ◌-◌, ◌==◌, ◌∷◌, ◌≡◌, ◌⊎◌}
+use Rattle.std.specs.Prelude.{Contains, List, None, Option, Some, [], false, filter, is_some, not, ℕ, ◌&&◌, ◌==◌, ◌∷◌, ◌≡◌, ◌⊎◌}
 
 abbrev pub HeldBy : Step → ℕ → Step → Type 0
 HeldBy x n y = (g : Grant) → Contains (holdings (seen y)) g → ((h : Grant) × Contains (holdings (seen x)) h × (h.session ≡ g.session)) ⊎ (g.session ≡ n)

@@ -37,13 +37,13 @@ use Rattle.sl_trace.specs.declared.reply.Reply.TheVariants.{IdLate, Limit as Lim
 use Rattle.sl_trace_law.proofs.Sessions.Making.{calls_are_made}
 use Rattle.sl_trace_law.proofs.Sessions.Ordering.{joinings_are_ordered}
 use Rattle.sl_trace_law.specs.Sessions.Promises.{IsMade, front_of, is_ordered, made_as, may_come, may_follow}
-use Rattle.sl_words.proofs.CaseLaws.{false_is_true, none_some, some_value, true_is_false}
+use Rattle.sl_words.proofs.CaseLaws.{false_is_true, none_some, some_value}
 use Rattle.sl_words.proofs.WordLaws.{and_true}
 use Rattle.sl_words.specs.Bounds.{is_number}
 use Rattle.std.proofs.Common.{ap, arith, inl, inr, refl, subst, sym, ◌∙◌}
 use Rattle.std.proofs.lemmas.Bool.{cases_lt}
 use Rattle.std.specs.Option.{option_map_or}
-use Rattle.std.specs.Prelude.{Contains, IsTrue, List, None, Option, Some, [], bytes_eq, false, nat_le, nat_lt, true, ℕ, ◌&&◌, ◌++◌, ◌+◌, ◌-◌, ◌==◌, ◌∷◌, ◌≡◌, ◌≤◌, ◌⊎◌}
+use Rattle.std.specs.Prelude.{Contains, IsTrue, List, None, Option, Some, [], bytes_eq, false, nat_le, nat_lt, true, ℕ, ◌&&◌, ◌++◌, ◌+◌, ◌==◌, ◌∷◌, ◌≡◌, ◌≤◌, ◌⊎◌}
 
 -- ---- records that were written
 

@@ -34,7 +34,7 @@ use Rattle.sl_sessions.specs.declared.delta.DeltaNext.TheVariants.{Disconnect, E
 use Rattle.sl_sessions.specs.declared.session.Session.{Session}
 use Rattle.sl_step_facts.specs.Heard.{heard_by}
 use Rattle.sl_time.specs.Times.{fail}
-use Rattle.sl_trace.specs.Traces.{Answered, Replied, Submitted, Trace, is_before_input, is_ok_answer, is_running, is_write, new_call, next_call, next_job, reply_to, submitted, unanswered}
+use Rattle.sl_trace.specs.Traces.{Answered, Replied, Submitted, Trace, is_ok_answer, is_running, is_write, new_call, next_call, next_job, reply_to, submitted, unanswered}
 use Rattle.sl_trace.specs.declared.command.Command.{Command}
 use Rattle.sl_trace.specs.declared.command.Command.TheVariants.{AddLockspace}
 use Rattle.sl_trace.specs.declared.command.LockspaceArg.{LockspaceArg}
@@ -54,7 +54,7 @@ use Rattle.std.proofs.Common.{ap, arith, inl, inr, refl, subst, sym, ◌∙◌}
 use Rattle.std.proofs.lemmas.Bool.{eqb-true}
 use Rattle.std.proofs.lemmas.Option.{slice_get_within}
 use Rattle.std.specs.List.{list_any}
-use Rattle.std.specs.Prelude.{Contains, IsTrue, List, None, Ok, Some, [], false, is_some, length, not, option_and_then, true, ℕ, ◌++◌, ◌+◌, ◌-◌, ◌<◌, ◌==◌, ◌∷◌, ◌≡◌, ◌⊎◌}
+use Rattle.std.specs.Prelude.{Contains, IsTrue, List, None, Ok, Some, [], false, is_some, length, not, option_and_then, true, ℕ, ◌++◌, ◌+◌, ◌<◌, ◌==◌, ◌∷◌, ◌≡◌, ◌⊎◌}
 
 -- ---- joinings
 

@@ -46,7 +46,7 @@ use Rattle.sl_sessions.specs.declared.session.Session.{Session}
 use Rattle.sl_step_facts.specs.Heard.{heard_by}
 use Rattle.sl_step_facts.specs.Whole.{Whole}
 use Rattle.sl_trace.specs.Connections.{is_registered}
-use Rattle.sl_trace.specs.Traces.{Answered, Submitted, answer_of, answered_in, call_numbered, is_answer_for, is_before_input, is_expected, is_ok_answer, is_running, is_shared, job_of, outstanding, submitted}
+use Rattle.sl_trace.specs.Traces.{Answered, Submitted, answer_of, answered_in, call_numbered, is_answer_for, is_expected, is_ok_answer, is_running, is_shared, job_of, outstanding, submitted}
 use Rattle.sl_trace.specs.declared.effects.Call.{Call}
 use Rattle.sl_trace.specs.declared.effects.Grant.{Grant}
 use Rattle.sl_trace.specs.declared.effects.JoinStep.{JoinStep}
@@ -68,7 +68,7 @@ use Rattle.sl_words.proofs.WordLaws.{and_true}
 use Rattle.std.proofs.Common.{ap, refl, subst, sym, ◌∙◌}
 use Rattle.std.proofs.lemmas.Bool.{eqb-true}
 use Rattle.std.specs.Option.{option_or}
-use Rattle.std.specs.Prelude.{Bool, Contains, IsTrue, List, None, Option, Some, false, is_none, is_some, not, true, ℕ, ◌&&◌, ◌+◌, ◌-◌, ◌==◌, ◌∷◌, ◌≡◌}
+use Rattle.std.specs.Prelude.{Bool, Contains, IsTrue, List, None, Option, Some, false, is_none, is_some, not, true, ℕ, ◌&&◌, ◌+◌, ◌==◌, ◌∷◌, ◌≡◌}
 
 -- ---- a joining's answer
 

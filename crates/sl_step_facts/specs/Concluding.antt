@@ -8,7 +8,7 @@ use Rattle.sl_due.specs.DueLease.{carry_lease, goes_on, next_of_lease}
 use Rattle.sl_due.specs.DueRequests.{after_request_read, after_value_read, signal_of_request}
 use Rattle.sl_due.specs.Steps.{Step, add_reply, seen, with_input}
 use Rattle.sl_leases.specs.Jobs.{aim_of, command_numbered}
-use Rattle.sl_leases.specs.Leases.{exclusive_on, known, spot_of_call}
+use Rattle.sl_leases.specs.Leases.{exclusive_on, spot_of_call}
 use Rattle.sl_leases.specs.declared.lease.Aim.{Aim}
 use Rattle.sl_sessions.specs.Deltas.{delta_known, delta_of_session, next_after_free, next_after_renewal, next_free, next_in_joining}
 use Rattle.sl_sessions.specs.Sessions.{calls_of, generation_of, has_open_write, holdings_of, is_joined, is_present, open_calls_of, recovery_of, session_numbered}
@@ -26,7 +26,7 @@ use Rattle.sl_trace.specs.declared.input.Answer.TheVariants.{Failed, Read, Writt
 use Rattle.sl_trace.specs.declared.input.Answer.{Answer}
 use Rattle.sl_trace.specs.declared.input.Input.TheVariants.{Answer as Told, Wake}
 use Rattle.sl_trace.specs.declared.reply.Reply.TheVariants.{Done, IoFault}
-use Rattle.std.specs.Prelude.{ℕ, List, None, Option, Some, false, is_some, true, [], ◌%◌, ◌==◌, ◌≡◌, ◌⊎◌}
+use Rattle.std.specs.Prelude.{ℕ, List, None, Option, Some, false, is_some, true, [], ◌≡◌}
 
 -- From H, which holds when the answer was heard, to J; where J holds and I is known, what may still come keeps J.
 pub record Concludes (H I J : Step → Type 0) : Type 0 where
