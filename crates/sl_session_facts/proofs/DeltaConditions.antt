@@ -1,6 +1,4 @@
 -- What each act decides is allowed of delta records: a session that wrote its free makes no call.
-use Rattle.sl_words.specs.Bounds.{record_numbers}
-use Rattle.std.proofs.lemmas.Bool.{lt-ltb}
 use Rattle.sl_acts.proofs.Additions.{not_is}
 use Rattle.sl_acts.proofs.InputsKeep.{has_heard}
 use Rattle.sl_acts.specs.Acts.{Has, Hears}
@@ -26,10 +24,10 @@ use Rattle.sl_sector.specs.declared.sector.Rec.TheVariants.{BlockIs, LeaderIs, R
 use Rattle.sl_session_facts.proofs.DeltaGrow.{DeltaCall, DeltaPart, DeltaReply, FreedBefore, GoodDelta}
 use Rattle.sl_session_facts.proofs.NamesAreAllowed.{caller_joined, heard_mine}
 use Rattle.sl_sessions.specs.Deltas.{DeltaLease, delta_known, delta_of_session, delta_record, has_seq_left, is_renewal_due, next_after_free, next_after_renewal, next_renewal}
-use Rattle.sl_sessions.specs.Sessions.{sessions, calls_of, delta_of_record, free_write, generation_of, holdings_of, is_active, is_call_of, is_free_purpose, is_join_call, is_join_done, is_joined, joined_after, last_seq, leaves, leaving_in, leaving_job, sessions}
+use Rattle.sl_sessions.specs.Sessions.{calls_of, delta_of_record, free_write, generation_of, holdings_of, is_active, is_call_of, is_free_purpose, is_join_call, is_join_done, is_joined, joined_after, last_seq, leaves, leaving_in, leaving_job, sessions}
 use Rattle.sl_sessions.specs.declared.delta.DeltaKnown.{DeltaKnown}
 use Rattle.sl_sessions.specs.declared.delta.DeltaNext.{DeltaNext}
-use Rattle.sl_sessions.specs.declared.delta.DeltaNext.TheVariants.{Nothing, MoveConnection, WriteRenewal}
+use Rattle.sl_sessions.specs.declared.delta.DeltaNext.TheVariants.{MoveConnection, Nothing, WriteRenewal}
 use Rattle.sl_sessions.specs.declared.session.Session.{Session}
 use Rattle.sl_step_facts.specs.SessionFacts.{DeltaFacts}
 use Rattle.sl_step_facts.specs.Whole.{Whole}
@@ -58,10 +56,10 @@ use Rattle.sl_trace.specs.declared.reply.Reply.TheVariants.{Done, Granted, IoFau
 use Rattle.sl_trace_law.proofs.Sessions.Making.{same_answered}
 use Rattle.sl_words.proofs.CaseLaws.{false_is_true, none_some, not_both, one_value, some_value, true_is_false}
 use Rattle.sl_words.proofs.WordLaws.{and_true}
-use Rattle.sl_words.specs.Bounds.{is_number}
+use Rattle.sl_words.specs.Bounds.{is_number, record_numbers}
 use Rattle.sl_words.specs.Words.{choose}
 use Rattle.std.proofs.Common.{ap, arith, inl, inr, refl, subst, sym, ◌∙◌}
-use Rattle.std.proofs.lemmas.Bool.{eqb-true, ltb-true}
+use Rattle.std.proofs.lemmas.Bool.{eqb-true, lt-ltb, ltb-true}
 use Rattle.std.specs.List.{list_any}
 use Rattle.std.specs.Option.{option_or}
 use Rattle.std.specs.Prelude.{Bool, Contains, IsSome, IsTrue, List, None, Option, Some, false, if◌then◌else◌, is_none, is_some, length, nat_le, not, option_and_then, option_map, true, ℕ, ◌&&◌, ◌+◌, ◌<◌, ◌==◌, ◌||◌, ◌≡◌, ◌≤◌, ◌⊎◌}

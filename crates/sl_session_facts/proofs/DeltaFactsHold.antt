@@ -1,5 +1,4 @@
 -- All acts keep what is known of delta records.
-use Rattle.sl_job_facts.proofs.EffectsAreAllowed.{Allows, DecisionAllowed, DeltaAllowed, decision, delta, ended, exited, lease, left, refusal, removal_of_refused, requested, said, sent, stopped}
 use Rattle.sl_acts.proofs.Additions.{contains_at, contains_last}
 use Rattle.sl_acts.proofs.DecisionsAreTheirs.{Of}
 use Rattle.sl_acts.proofs.InputsKeep.{has_heard}
@@ -22,6 +21,7 @@ use Rattle.sl_job_facts.proofs.AnsweredCallsFit.{arg_name, both_of, leaves_locks
 use Rattle.sl_job_facts.proofs.CallsHaveFacts.{input_kept, more_is_other, sessions_told}
 use Rattle.sl_job_facts.proofs.CallsOfJobsFit.{joining_of}
 use Rattle.sl_job_facts.proofs.DecisionsFit.{DecisionFits, decisions_fit}
+use Rattle.sl_job_facts.proofs.EffectsAreAllowed.{Allows, DecisionAllowed, DeltaAllowed, decision, delta, ended, exited, lease, left, refusal, removal_of_refused, requested, said, sent, stopped}
 use Rattle.sl_job_facts.proofs.JobFactsAreKept.{begun_sessions}
 use Rattle.sl_job_facts.proofs.JobsAreAllowed.{late_on_survey, late_on_wake, late_unless_told}
 use Rattle.sl_job_facts.proofs.JobsAreNumbered.{next_is_new}

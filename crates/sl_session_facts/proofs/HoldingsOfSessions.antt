@@ -18,7 +18,7 @@ use Rattle.sl_parts_law.proofs.EffectsAreTold.{effects_are_told}
 use Rattle.sl_plain.proofs.Lists.{find_inside, in_map, kept_inside}
 use Rattle.sl_sessions.specs.Sessions.{has_open_write, holders_of, holdings_of, last_renewal, refused_after, session_of_job}
 use Rattle.sl_sessions.specs.declared.delta.DeltaNext.{DeltaNext}
-use Rattle.sl_sessions.specs.declared.delta.DeltaNext.TheVariants.{Nothing, Disconnect, EndLeaving, Join, MoveConnection, ReadOwn, RefuseJoin, RegisterAndRead, WriteClaim, WriteFirst, WriteFree, WriteRenewal}
+use Rattle.sl_sessions.specs.declared.delta.DeltaNext.TheVariants.{Disconnect, EndLeaving, Join, MoveConnection, Nothing, ReadOwn, RefuseJoin, RegisterAndRead, WriteClaim, WriteFirst, WriteFree, WriteRenewal}
 use Rattle.sl_sessions.specs.declared.session.Session.{Session}
 use Rattle.sl_trace.specs.Connections.{is_registered}
 use Rattle.sl_trace.specs.Traces.{Job, end_of, holdings, is_ended_by, is_running, is_shared, leaves_orphan, next_child, orphan_of, orphans_left, same_place, work_job}

@@ -21,7 +21,7 @@ use Rattle.sl_sessions.specs.Deltas.{DeltaLease, claim_of, claim_on, delta_of_se
 use Rattle.sl_sessions.specs.Sessions.{calls_of, delta_of_record, generation_of, given_number, is_call_of, is_join_call, last_delta, last_seq}
 use Rattle.sl_sessions.specs.Watching.{is_free_state}
 use Rattle.sl_sessions.specs.declared.delta.DeltaNext.{DeltaNext}
-use Rattle.sl_sessions.specs.declared.delta.DeltaNext.TheVariants.{Nothing, Join, ReadOwn, RefuseJoin, RegisterAndRead, WriteClaim, WriteFirst}
+use Rattle.sl_sessions.specs.declared.delta.DeltaNext.TheVariants.{Join, Nothing, ReadOwn, RefuseJoin, RegisterAndRead, WriteClaim, WriteFirst}
 use Rattle.sl_sessions.specs.declared.session.Session.{Session}
 use Rattle.sl_time.specs.Times.{dead, join_max, renew}
 use Rattle.sl_trace.proofs.TraceFacts.{each_entry-front}

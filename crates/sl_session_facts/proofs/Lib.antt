@@ -15,3 +15,4 @@ pub mod DeltaActs
 pub mod DeltaFactsAreKept
 pub mod DeltaLines
 pub mod DeltaFactsHold
+pub mod DeltaFactsBegin

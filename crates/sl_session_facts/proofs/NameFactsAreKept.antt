@@ -191,7 +191,7 @@ name_facts_are_kept =
 
 -- ---- once a step has begun
 
-joined_on_wake : (past : Trace) (now : ℕ) (s : Session) → joined_after (record { reading = now; input = Wake; effects = no_effects } ∷ past) s ≡ joined_after past s
+pub joined_on_wake : (past : Trace) (now : ℕ) (s : Session) → joined_after (record { reading = now; input = Wake; effects = no_effects } ∷ past) s ≡ joined_after past s
 joined_on_wake past now s = by s.job where
   same : (j : ℕ) → reply_to (record { reading = now; input = Wake; effects = no_effects } ∷ past) j ≡ reply_to past j
   same j = either (reply_to past j) where
@@ -219,7 +219,7 @@ refused_on_wake past now s = by s.job where
   by None = refl
   by (Some j) = ap (λ o. option_and_then (λ (r : Replied). choose (not (is_join_done r.reply)) (r.at + 1)) o) (same j)
 
-removed_on_wake : (past : Trace) (now : ℕ) (s : Session) → removed_after (record { reading = now; input = Wake; effects = no_effects } ∷ past) s ≡ removed_after past s
+pub removed_on_wake : (past : Trace) (now : ℕ) (s : Session) → removed_after (record { reading = now; input = Wake; effects = no_effects } ∷ past) s ≡ removed_after past s
 removed_on_wake past now s = by (removed_after past s) (is_some (joined_after past s)) where
   by : (o : Option ℕ) (b : Bool) → (elim o as (λ z. Option ℕ) [ Some k ↦ Some k | None ↦ choose (b && false) (length past + 1) ]) ≡ o
   by (Some k) b = refl

@@ -32,3 +32,6 @@ HasDeltaFacts x = DeltaFacts x.setting (seen x)
 
 abbrev pub DeltaFactsAreKept : Type 0
 DeltaFactsAreKept = Acts Whole HasDeltaFacts
+
+abbrev pub DeltaFactsBegin : Type 0
+DeltaFactsBegin = BeginsWith HasDeltaFacts

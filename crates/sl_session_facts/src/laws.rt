@@ -1,6 +1,6 @@
 //! What is known of the names of sessions, of their joinings and of their delta records holds at each moment of a step.
 
-ghost use Rattle.sl_session_facts.specs.Promises.{DeltaFactsAreKept, NameFactsAreKept, NameFactsBegin, NameFactsConclude};
+ghost use Rattle.sl_session_facts.specs.Promises.{DeltaFactsAreKept, DeltaFactsBegin, NameFactsAreKept, NameFactsBegin, NameFactsConclude};
 
 /// No two sessions that are present have one name, and a joining that runs goes on, after each act.
 pub fn name_facts_are_kept()
@@ -21,4 +21,9 @@ pub fn name_facts_conclude()
 /// generation and seq of a joined session are numbers.
 pub fn delta_facts_are_kept()
     ensures { DeltaFactsAreKept }
+{}
+
+/// So it is once a step has begun.
+pub fn delta_facts_begin()
+    ensures { DeltaFactsBegin }
 {}
