@@ -1,6 +1,5 @@
 -- Where an answer or the end of a step makes due what is done for a job, it is allowed.
 use Rattle.sl_acts.proofs.InputsKeep.{has_heard}
-use Rattle.sl_job_facts.proofs.JobFactsGrow.{itself as from_itself}
 use Rattle.sl_acts.specs.Acts.{Has, Hears}
 use Rattle.sl_acts.specs.SoFar.{SoFar}
 use Rattle.sl_area.specs.Places.{request_offset}
@@ -10,7 +9,7 @@ use Rattle.sl_job_facts.proofs.CallsOfJobsFit.{no_job}
 use Rattle.sl_job_facts.proofs.CallsStandInAreas.{Roomy, roomy, spot_whole, stands_in}
 use Rattle.sl_job_facts.proofs.CallsStay.{late}
 use Rattle.sl_job_facts.proofs.EffectsAreAllowed.{DeltaAllowed, LeaseAllowed, RequestAllowed}
-use Rattle.sl_job_facts.proofs.JobFactsGrow.{Both, CallFits, IsFree, IsNumbered}
+use Rattle.sl_job_facts.proofs.JobFactsGrow.{Both, CallFits, IsFree, IsNumbered, itself as from_itself}
 use Rattle.sl_job_facts.proofs.JobsAreAllowed.{MayCall, MayMove, MayReply, MayStart, Meanwhile, caller_numbered, free_when_heard}
 use Rattle.sl_job_facts.proofs.LeaseCallsFit.{Works, asks_late, session_host, settling_allowed, work_allowed}
 use Rattle.sl_job_facts.proofs.RepliesComeAfter.{IsLateLease, on_bool, request_late}
@@ -33,7 +32,7 @@ use Rattle.sl_sessions.specs.Deltas.{DeltaLease, delta_of_session, delta_record,
 use Rattle.sl_sessions.specs.Sessions.{calls_of, delta_of_record, generation_of, has_open_write, is_call_of, is_joined, is_session_arg, joined_after, last_seq, leaving_job, open_calls_of, removed_after, session_numbered, sessions}
 use Rattle.sl_sessions.specs.declared.delta.DeltaKnown.{DeltaKnown}
 use Rattle.sl_sessions.specs.declared.delta.DeltaNext.{DeltaNext}
-use Rattle.sl_sessions.specs.declared.delta.DeltaNext.TheVariants.{Nothing, MoveConnection, WriteFree, WriteRenewal}
+use Rattle.sl_sessions.specs.declared.delta.DeltaNext.TheVariants.{MoveConnection, Nothing, WriteFree, WriteRenewal}
 use Rattle.sl_sessions.specs.declared.session.Session.{Session}
 use Rattle.sl_step_facts.specs.JobFacts.{FitsCommand, IsOfResource}
 use Rattle.sl_step_facts.specs.Whole.{Whole}
@@ -189,7 +188,7 @@ leaves_lockspace c = false
 not_leaving : {c d : Command} → leaves_lockspace c ≡ true → leaves_lockspace d ≡ false → c ≡ d → ⊥
 not_leaving yes_one no_other is = true_is_false (sym yes_one ∙ (ap (λ z. leaves_lockspace z) is ∙ no_other))
 
-record_writes : (o : Op) (r : Rec) → record_of o ≡ Some r → is_write o ≡ true
+pub record_writes : (o : Op) (r : Rec) → record_of o ≡ Some r → is_write o ≡ true
 record_writes (ReadSectors n) r is = absurd (none_some r is)
 record_writes (WriteRecord w) r is = refl
 

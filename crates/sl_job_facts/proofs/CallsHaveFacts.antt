@@ -1,6 +1,4 @@
 -- What is known of calls is kept by each act: a call's number finds it, its answer is later than it and fits it.
-
--- ---- of any trace: answers come later
 use Rattle.sl_acts.proofs.Additions.{begun_by}
 use Rattle.sl_acts.specs.Acts.{Expects}
 use Rattle.sl_acts.specs.SoFar.{entry_of}
@@ -30,6 +28,8 @@ use Rattle.std.proofs.lemmas.List.{append-nil}
 use Rattle.std.specs.List.{list_any}
 use Rattle.std.specs.Option.{option_or}
 use Rattle.std.specs.Prelude.{Bool, Contains, IsSome, IsTrue, List, None, Option, Some, [], cond, false, find, fold, is_none, length, map, option_map, slice_get, suc, true, ℕ, ◌&&◌, ◌++◌, ◌+◌, ◌<◌, ◌==◌, ◌∷◌, ◌≡◌, ◌⊎◌}
+
+-- ---- of any trace: answers come later
 
 abbrev called : ℕ → ℕ → List Submitted → Call → List Submitted
 called at reading ms c = new_call at reading c ∷ ms
@@ -147,7 +147,7 @@ mapped_length : {A B : Type 0} (f : A → B) (xs : List A) → length (map f xs)
 mapped_length f [] = refl
 mapped_length f (x ∷ xs) = ap (λ n. suc n) (mapped_length f xs)
 
-find_mapped : {A : Type 0} (p : A → Bool) (f : A → A) (xs : List A) → ((a : A) → p (f a) ≡ p a) → find p (map f xs) ≡ option_map f (find p xs)
+pub find_mapped : {A : Type 0} (p : A → Bool) (f : A → A) (xs : List A) → ((a : A) → p (f a) ≡ p a) → find p (map f xs) ≡ option_map f (find p xs)
 find_mapped p f [] same = refl
 find_mapped {A} p f (x ∷ xs) same = ap₂ (λ b o. cond b (Some (f x)) o) (same x) (find_mapped p f xs same) ∙ turned (p x) where
   turned : (b : Bool) → cond b (Some (f x)) (option_map f (find p xs)) ≡ option_map f (cond b (Some x) (find p xs))

@@ -3,7 +3,7 @@ use Rattle.sl_acts.proofs.InputsKeep.{has_heard}
 use Rattle.sl_acts.specs.Acts.{Has, Hears}
 use Rattle.sl_acts.specs.SoFar.{SoFar}
 use Rattle.sl_due.specs.Steps.{Step, seen}
-use Rattle.sl_job_facts.proofs.CallsStay.{IsLate}
+use Rattle.sl_job_facts.proofs.CallsStay.{IsLate, is_special, late_join}
 use Rattle.sl_job_facts.proofs.EffectsAreAllowed.{DeltaAllowed}
 use Rattle.sl_job_facts.proofs.JobFactsGrow.{Both, CallFits, IsFree, IsNumbered}
 use Rattle.sl_job_facts.proofs.JobsAreAllowed.{MayCall, MayMove, MayReply, free_when_heard, numbered_of}
@@ -16,10 +16,10 @@ use Rattle.sl_plain.proofs.Options.{none_is, some_of}
 use Rattle.sl_sessions.specs.Deltas.{own_offset}
 use Rattle.sl_sessions.specs.Sessions.{calls_of, is_call_of, is_join_done, joined_after, session_numbered, sessions}
 use Rattle.sl_sessions.specs.declared.delta.DeltaNext.{DeltaNext}
-use Rattle.sl_sessions.specs.declared.delta.DeltaNext.TheVariants.{Nothing, Disconnect, EndLeaving, Join, MoveConnection, ReadOwn, RefuseJoin, RegisterAndRead, WriteClaim, WriteFirst, WriteFree, WriteRenewal}
+use Rattle.sl_sessions.specs.declared.delta.DeltaNext.TheVariants.{Disconnect, EndLeaving, Join, MoveConnection, Nothing, ReadOwn, RefuseJoin, RegisterAndRead, WriteClaim, WriteFirst, WriteFree, WriteRenewal}
 use Rattle.sl_sessions.specs.declared.session.Session.{Session}
 use Rattle.sl_step_facts.specs.JobFacts.{FitsCommand}
-use Rattle.sl_trace.specs.Traces.{Replied, Submitted, is_before_input, is_running, job_of, reply_to, submitted}
+use Rattle.sl_trace.specs.Traces.{Replied, Submitted, is_running, job_of, reply_to, submitted}
 use Rattle.sl_trace.specs.declared.command.Command.{Command}
 use Rattle.sl_trace.specs.declared.command.Command.TheVariants.{AddLockspace, GetLvb, RemLockspace, Request, SetLvb}
 use Rattle.sl_trace.specs.declared.command.LockspaceArg.{LockspaceArg}
@@ -30,10 +30,9 @@ use Rattle.sl_trace.specs.declared.effects.Purpose.{Purpose}
 use Rattle.sl_trace.specs.declared.effects.Purpose.TheVariants.{Joining, Lease, Leaving, Renewal, RequestRead, RequestWrite, SeeRequest, Survey, ValueRead, ValueWrite}
 use Rattle.sl_trace.specs.declared.input.Answer.{Answer}
 use Rattle.sl_trace.specs.declared.reply.Reply.{Reply}
-use Rattle.sl_trace.specs.declared.reply.Reply.TheVariants.{Generation}
 use Rattle.sl_trace_law.proofs.Leases.NumberLaws.{number_is_place}
 use Rattle.sl_trace_law.proofs.Sessions.Covering.{joinings_are_in_turn}
-use Rattle.sl_trace_law.specs.Sessions.Promises.{fits, all_done, has_reply, is_in_turn}
+use Rattle.sl_trace_law.specs.Sessions.Promises.{all_done, fits, has_reply, is_in_turn}
 use Rattle.sl_words.proofs.CaseLaws.{false_is_true, none_some, some_value, true_is_false}
 use Rattle.sl_words.proofs.WordLaws.{and_true}
 use Rattle.sl_words.specs.Words.{choose}
@@ -65,7 +64,7 @@ pub no_job : {x : Step} {s : Session} {path : List ℕ} {p : Purpose} {o : ℕ} 
 no_job none j of = absurd (none_some j (sym none ∙ of))
 
 -- What a joining decides is allowed.
-pub joining_allowed : (x : Step) (s : Session) → Has x s → ((j : ℕ) → s.job ≡ Some j → JoinsOn x s j) → ((r : Reply) → is_before_input r ≡ false → IsLate x r) → (n : DeltaNext) → IsLateDelta n
+pub joining_allowed : (x : Step) (s : Session) → Has x s → ((j : ℕ) → s.job ≡ Some j → JoinsOn x s j) → ((r : Reply) → is_special r ≡ false → IsLate x r) → (n : DeltaNext) → IsLateDelta n
     → DeltaAllowed (MayReply x) (MayCall x) MayMove x s n
 joining_allowed x s has joins after Nothing k = tt
 joining_allowed x s has joins after (RefuseJoin r) k = λ j its. ((join_numbered x s j (joins j its), after r k), λ z is. tt)
@@ -74,7 +73,7 @@ joining_allowed x s has joins after (RegisterAndRead step) k = λ j its. (tt, (h
 joining_allowed x s has joins after (WriteClaim d) k = λ j its. (has, λ i of. join_fits x s j ClaimWrite (own_offset x.setting s) i (joins j its) of)
 joining_allowed x s has joins after Disconnect k = tt
 joining_allowed x s has joins after (WriteFirst d) k = λ j its. (has, λ i of. join_fits x s j FirstRenewal (own_offset x.setting s) i (joins j its) of)
-joining_allowed x s has joins after (Join generation renewed) k = λ j its. (tt, (join_numbered x s j (joins j its), after (Generation generation) refl), (has, λ i of. no_job refl i of))
+joining_allowed x s has joins after (Join generation renewed) k = λ j its. (tt, (join_numbered x s j (joins j its), late_join x generation), (has, λ i of. no_job refl i of))
 joining_allowed x s has joins after (MoveConnection renewed) k = (tt, (has, λ i of. no_job refl i of))
 joining_allowed x s has joins after (WriteRenewal d) k = (has, λ i of. no_job refl i of)
 joining_allowed x s has joins after (WriteFree j d) k = absurd k
@@ -132,7 +131,7 @@ calls_of_joining x s j m h has its there of =
     adds Survey z m a i of fits = absurd (none_some i of)
     adds SeeRequest z m a i of fits = absurd (none_some i of)
 
-list_all_inside : {A : Type 0} (p : A → Bool) (xs : List A) (d : A) → list_all p xs ≡ true → Contains xs d → p d ≡ true
+pub list_all_inside : {A : Type 0} (p : A → Bool) (xs : List A) (d : A) → list_all p xs ≡ true → Contains xs d → p d ≡ true
 list_all_inside p [] d all there = absurd (contains_none d there)
 list_all_inside p (x ∷ xs) d all there =
     let both = and_true (p x) (list_all p xs) all in

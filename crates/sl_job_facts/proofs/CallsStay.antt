@@ -3,23 +3,34 @@ use Rattle.sl_acts.specs.SoFar.{entry_of}
 use Rattle.sl_due.specs.Steps.{Step, add_reply, seen}
 use Rattle.sl_parts_law.proofs.CallsGrow.{any_more}
 use Rattle.sl_plain.proofs.Lists.{contains_first, contains_more}
+use Rattle.sl_plain.proofs.Truth.{left_is_false}
+use Rattle.sl_sessions.specs.Sessions.{is_join_done}
 use Rattle.sl_trace.specs.Traces.{Answered, Submitted, answer_of, answered_in, is_before_input, is_going_on, is_running, job_of, mark, new_call, submitted}
 use Rattle.sl_trace.specs.declared.effects.JobReply.{JobReply}
 use Rattle.sl_trace.specs.declared.input.Answer.{Answer}
 use Rattle.sl_trace.specs.declared.input.Input.{Input}
 use Rattle.sl_trace.specs.declared.input.Input.TheVariants.{Answer as Told}
 use Rattle.sl_trace.specs.declared.reply.Reply.{Reply}
+use Rattle.sl_trace.specs.declared.reply.Reply.TheVariants.{Generation}
 use Rattle.sl_words.proofs.CaseLaws.{none_some}
 use Rattle.std.proofs.Common.{ap, ap₂, inl, inr, refl, sym}
 use Rattle.std.specs.Option.{option_or}
-use Rattle.std.specs.Prelude.{Bool, Contains, List, None, Option, Some, [], false, fold, length, map, not, true, ℕ, ◌&&◌, ◌==◌, ◌∷◌, ◌≡◌, ◌⊎◌}
+use Rattle.std.specs.Prelude.{Bool, Contains, List, None, Option, Some, [], false, fold, length, map, not, true, ℕ, ◌&&◌, ◌==◌, ◌||◌, ◌∷◌, ◌≡◌, ◌⊎◌}
 
 -- The reply comes after the answer of the entry, if it brings one, or the answer is of no job's call.
 abbrev pub IsLate : Step → Reply → Type 0
 IsLate x r = (n : ℕ) (a : Answer) → x.input ≡ Told n a → (is_before_input r ≡ false) ⊎ ((m : Submitted) → Contains (submitted x.past) m → (m.call.number == n) ≡ true → job_of m.call.purpose ≡ None)
 
-pub late : (x : Step) (r : Reply) → is_before_input r ≡ false → IsLate x r
-late x r after n a is = inl after
+-- Whether a reply ends a job before the answer of its entry is heeded, or a joining well.
+abbrev pub is_special : Reply → Bool
+is_special r = is_before_input r || is_join_done r
+
+pub late : (x : Step) (r : Reply) → is_special r ≡ false → IsLate x r
+late x r after n a is = inl (left_is_false (is_before_input r) (is_join_done r) after)
+
+-- That a joining is done comes after the answer that does it.
+pub late_join : (x : Step) (generation : ℕ) → IsLate x (Generation generation)
+late_join x generation n a is = inl refl
 
 never_both : (b c : Bool) → c ≡ false → (b && c) ≡ false
 never_both true c h = h

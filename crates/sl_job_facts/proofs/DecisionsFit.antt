@@ -7,7 +7,7 @@ use Rattle.sl_leases.specs.Jobs.{aim_of_command, resource_named, wanted_mode}
 use Rattle.sl_leases.specs.Leases.{holdings_on, orphan_on, shared_on, spot_of}
 use Rattle.sl_plain.proofs.Lists.{find_inside}
 use Rattle.sl_plain.proofs.Options.{then_value}
-use Rattle.sl_sessions.specs.Sessions.{generation_of, is_active, is_joined, is_session_arg, last_renewal, present_sessions, session_named, sessions}
+use Rattle.sl_sessions.specs.Sessions.{generation_of, is_active, is_joined, is_session_arg, last_renewal, last_seq, present_sessions, session_named, sessions}
 use Rattle.sl_sessions.specs.Watching.{states_seen}
 use Rattle.sl_sessions.specs.declared.session.Session.{Session}
 use Rattle.sl_trace.specs.Limits.{most_lockspaces}
@@ -28,7 +28,7 @@ use Rattle.sl_words.specs.Bounds.{is_number}
 use Rattle.sl_words.specs.Words.{choose, same_truth}
 use Rattle.std.proofs.Common.{ap, refl, subst, sym, ◌∙◌}
 use Rattle.std.specs.Option.{option_map_or, option_or}
-use Rattle.std.specs.Prelude.{Bool, Contains, IsSome, List, None, Option, Some, [], false, if◌then◌else◌, is_none, length, nat_le, not, option_and_then, option_map, true, ℕ, ◌&&◌, ◌++◌, ◌==◌, ◌∷◌, ◌≡◌}
+use Rattle.std.specs.Prelude.{Bool, Contains, IsSome, IsTrue, List, None, Option, Some, [], false, if◌then◌else◌, is_none, length, nat_le, not, option_and_then, option_map, true, ℕ, ◌&&◌, ◌++◌, ◌+◌, ◌==◌, ◌∷◌, ◌≡◌}
 
 abbrev pub IsActive : Setting → Trace → Session → Type 0
 IsActive st es s = is_active st es s ≡ true
@@ -41,7 +41,7 @@ IsOnResource st es s r c = (resource_named c ≡ Some r) × (session_named st es
 abbrev pub DecisionFits : Setting → Trace → Command → Decision → Type 0
 DecisionFits st es c (Replies r) = Unit {0}
 DecisionFits st es c (Joins n a) = (c ≡ AddLockspace a) × (n ≡ length (sessions st es)) × (session_named st es a.name ≡ None)
-DecisionFits st es c (Leaves s) = IsActive st es s × ((a : LockspaceArg) × (c ≡ RemLockspace a) × (session_named st es a.name ≡ Some s) × (is_session_arg s a ≡ true))
+DecisionFits st es c (Leaves s) = IsActive st es s × ((a : LockspaceArg) × (c ≡ RemLockspace a) × (session_named st es a.name ≡ Some s) × (is_session_arg s a ≡ true) × IsTrue (is_number (last_seq es s + 1)))
 DecisionFits st es c (ReadsArea s r) = IsActive st es s × IsOnResource st es s r c × IsSome (aim_of_command c)
 DecisionFits st es c (Shares s lver) = IsActive st es s × ((r : ResourceArg) × IsOnResource st es s r c)
 DecisionFits st es c (GivesUp s g) = IsActive st es s × ((r : ResourceArg) × IsOnResource st es s r c × IsSome (aim_of_command c) × Contains (holdings_on es s (spot_of r)) g)
@@ -145,14 +145,28 @@ decisions_fit st es now (AddLockspace a) =
             never : (o : Option Reply) → option_or o (Some (Joined (generation_of es s))) ≡ None → ⊥
             never None h = none_some (Joined (generation_of es s)) (sym h)
             never (Some w) h = none_some w (sym h)
-decisions_fit st es now (RemLockspace a) =
-    where_active (DecisionFits st es (RemLockspace a)) (λ w. tt) st es (matching_session st es a) (λ s. orphan_refusal es s ∷ leave_refusal es s ∷ []) (λ s. Leaves s)
-    (λ s is active. (active, (a, refl, (matched s is).0, (matched s is).1))) where
-      matched : (s : Session) → matching_session st es a ≡ Some s → (session_named st es a.name ≡ Some s) × (is_session_arg s a ≡ true)
-      matched s is =
-          let v = then_value (λ (x : Session). choose (is_session_arg x a) x) (session_named st es a.name) s is in
-          let both = choose_some (is_session_arg v.0 a) v.0 s v.2 in
-          (v.1 ∙ ap (λ z. Some z) both.1, subst (λ (z : Session). is_session_arg z a ≡ true) both.1 both.0)
+decisions_fit st es now (RemLockspace a) = by (matching_session st es a) refl where
+  left_over : (s : Session) → leave_refusal es s ≡ None → is_number (last_seq es s + 1) ≡ true
+  left_over s none = was (is_number (last_seq es s + 1)) (choose_none (not (is_number (last_seq es s + 1))) (LimitReached SeqLimit) none) where
+    was : (b : Bool) → not b ≡ false → b ≡ true
+    was true n = refl
+    was false n = absurd (true_is_false n)
+
+  matched : (s : Session) → matching_session st es a ≡ Some s → (session_named st es a.name ≡ Some s) × (is_session_arg s a ≡ true)
+  matched s is =
+      let v = then_value (λ (x : Session). choose (is_session_arg x a) x) (session_named st es a.name) s is in
+      let both = choose_some (is_session_arg v.0 a) v.0 s v.2 in
+      (v.1 ∙ ap (λ z. Some z) both.1, subst (λ (z : Session). is_session_arg z a ≡ true) both.1 both.0)
+
+  by : (o : Option Session) → matching_session st es a ≡ o
+      → DecisionFits st es (RemLockspace a) (with_session o (λ s. unless_refused (session_refusal st es s ∷ orphan_refusal es s ∷ leave_refusal es s ∷ []) (Leaves s)))
+  by None is = tt
+  by (Some s) is =
+      let m = matched s is in
+      refused_or (DecisionFits st es (RemLockspace a)) (λ w. tt) (session_refusal st es s) (unless_refused (orphan_refusal es s ∷ leave_refusal es s ∷ []) (Leaves s)) (λ first.
+      refused_or (DecisionFits st es (RemLockspace a)) (λ w. tt) (orphan_refusal es s) (unless_refused (leave_refusal es s ∷ []) (Leaves s)) (λ second.
+      refused_or (DecisionFits st es (RemLockspace a)) (λ w. tt) (leave_refusal es s) (Leaves s) (λ third.
+      (active_if st es s first, (a, refl, m.0, m.1, left_over s third)))))
 decisions_fit st es now (InqLockspace a) = reports st es (InqLockspace a) a (λ s. Generation (generation_of es s))
 decisions_fit st es now (HostStatus a) = reports st es (HostStatus a) a (λ s. Hosts (states_seen st es s now))
 decisions_fit st es now (Acquire r shared p persistent) = acquires st es (Acquire r shared p persistent) r (Some p) shared false refl refl

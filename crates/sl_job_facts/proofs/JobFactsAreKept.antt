@@ -19,11 +19,12 @@ use Rattle.sl_due.specs.declared.decision.Decision.TheVariants.{ConvertsTo, Gets
 use Rattle.sl_job_facts.proofs.AnsweredCallsFit.{at, both_of, free_allowed, freed_allowed, lease_allowed, leaving_call, renewal_allowed, renewed_allowed, request_allowed}
 use Rattle.sl_job_facts.proofs.CallsHaveFacts.{sessions_bare, sessions_told}
 use Rattle.sl_job_facts.proofs.CallsOfJobsFit.{JoinsOn, joining_allowed, joins_on_wake, joins_when_heard, no_job}
-use Rattle.sl_job_facts.proofs.CallsStay.{IsLate, late}
+use Rattle.sl_job_facts.proofs.CallsStay.{IsLate, is_special, late}
 use Rattle.sl_job_facts.proofs.DecisionsFit.{DecisionFits, decisions_fit}
 use Rattle.sl_job_facts.proofs.EffectsAreAllowed.{Allows, DecisionAllowed, DeltaAllowed, LeaseAllowed, decision, delta, ended, exited, lease, left, refusal, removal, removal_of_refused, requested, said, sent, signalled, stopped}
 use Rattle.sl_job_facts.proofs.JobFactsGrow.{Both, CallFits, call_kept, input_sees, reply_kept}
 use Rattle.sl_job_facts.proofs.JobsAreAllowed.{MayCall, MayMove, MayReply, MayStart, Meanwhile, allows, caller_numbered, late_on_survey, late_on_wake, late_unless_told, numbered_back, runner_numbered, starter_numbered, starts_nothing, stops_allowed}
+use Rattle.sl_job_facts.proofs.JobsAreNumbered.{next_before}
 use Rattle.sl_job_facts.proofs.LeaseCallsFit.{settling_allowed}
 use Rattle.sl_job_facts.proofs.LinesAreAllowed.{IsBegun, decision_allowed, late_on_line, new_command, new_free, new_numbered}
 use Rattle.sl_job_facts.proofs.RepliesComeAfter.{joining_late, lease_late, set_late, value_late, wake_late}
@@ -31,7 +32,6 @@ use Rattle.sl_leases.specs.Jobs.{job_of_start}
 use Rattle.sl_leases.specs.LeaseWork.{lease_place, settle_next}
 use Rattle.sl_leases.specs.Leases.{known, lver_written, spot_of_call}
 use Rattle.sl_leases.specs.declared.lease.LeaseNext.{LeaseNext}
-use Rattle.sl_job_facts.proofs.JobsAreNumbered.{next_before}
 use Rattle.sl_plain.proofs.Lists.{find_inside, got_before, kept_inside}
 use Rattle.sl_plain.proofs.Places.{last_there}
 use Rattle.sl_sessions.specs.Deltas.{delta_known, delta_of_session, join_step_of, next_after_free, next_after_renewal, next_by_time, next_free, next_in_joining, next_on_wake, next_renewal}
@@ -41,7 +41,7 @@ use Rattle.sl_sessions.specs.declared.delta.DeltaNext.TheVariants.{Nothing}
 use Rattle.sl_sessions.specs.declared.session.Session.{Session}
 use Rattle.sl_step_facts.specs.Whole.{Whole}
 use Rattle.sl_trace.specs.TraceLaws.{with_call}
-use Rattle.sl_trace.specs.Traces.{Answered, Setting, Submitted, is_before_input, is_of_job, is_running, job_of, next_call, next_job, outstanding, submitted, waiting_call}
+use Rattle.sl_trace.specs.Traces.{Answered, Setting, Submitted, is_of_job, is_running, job_of, next_call, next_job, outstanding, submitted, waiting_call}
 use Rattle.sl_trace.specs.declared.command.Command.{Command}
 use Rattle.sl_trace.specs.declared.command.Command.TheVariants.{AddLockspace}
 use Rattle.sl_trace.specs.declared.command.LockspaceArg.{LockspaceArg}
@@ -193,7 +193,7 @@ lone_of p j is = absurd (none_some j is)
 heard_there : (x : Step) (s : Session) (m : Submitted) (answer : Answer) → Hears x s m answer → Contains (submitted (seen x)) m
 heard_there x s m answer hears = (find_inside (λ (z : Submitted). z.call.number == hears.number) (submitted (seen x)) m hears.call).0
 
-answer_kept : (x : Step) (s : Session) (m : Submitted) (answer : Answer) (j : ℕ) (r : Reply) → Both x → Hears x s m answer → job_of m.call.purpose ≡ Some j → is_before_input r ≡ false → Both (add_reply j r x)
+answer_kept : (x : Step) (s : Session) (m : Submitted) (answer : Answer) (j : ℕ) (r : Reply) → Both x → Hears x s m answer → job_of m.call.purpose ≡ Some j → is_special r ≡ false → Both (add_reply j r x)
 answer_kept x s m answer j r b hears of after = kept_reply x j r (caller_numbered x m j b (heard_there x s m answer hears) of, late x r after) b
 
 wakes_joining : (x : Step) (s : Session) (j : ℕ) → Whole x → Has x s → x.input ≡ Wake → s.job ≡ Some j → is_running (seen x) j ≡ true

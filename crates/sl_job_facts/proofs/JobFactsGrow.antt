@@ -201,14 +201,14 @@ call_kept y s path p o op its stays may h = (
 
 -- ---- the input
 
-contains_left : {A : Type 0} (xs ys : List A) (d : A) → Contains xs d → Contains (xs ++ ys) d
+pub contains_left : {A : Type 0} (xs ys : List A) (d : A) → Contains xs d → Contains (xs ++ ys) d
 contains_left [] ys d there = absurd (contains_none d there)
 contains_left {A} (x ∷ xs) ys d there = by (contains_cases x xs d there) (λ old. contains_left xs ys d old) where
   by : (x ≡ d) ⊎ Contains xs d → (Contains xs d → Contains (xs ++ ys) d) → Contains (x ∷ xs ++ ys) d
   by (inl is) more = subst (λ z. Contains (x ∷ xs ++ ys) z) is (contains_first x (xs ++ ys))
   by (inr old) more = contains_more x (xs ++ ys) d (more old)
 
-contains_right : {A : Type 0} (xs ys : List A) (d : A) → Contains ys d → Contains (xs ++ ys) d
+pub contains_right : {A : Type 0} (xs ys : List A) (d : A) → Contains ys d → Contains (xs ++ ys) d
 contains_right [] ys d there = there
 contains_right (x ∷ xs) ys d there = contains_more x (xs ++ ys) d (contains_right xs ys d there)
 

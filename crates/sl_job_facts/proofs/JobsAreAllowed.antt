@@ -16,7 +16,7 @@ use Rattle.sl_sessions.specs.Sessions.{last_renewal, session_numbered}
 use Rattle.sl_sessions.specs.declared.session.Session.{Session}
 use Rattle.sl_step_facts.specs.Heard.{heard_by}
 use Rattle.sl_step_facts.specs.JobFacts.{FitsCommand}
-use Rattle.sl_trace.specs.Traces.{jobs, Answered, Child, Job, Submitted, answer_of, answered_in, call_numbered, child_numbered, children, is_running, job_numbered, job_of, mark, new_call, next_call, running_jobs, submitted}
+use Rattle.sl_trace.specs.Traces.{Answered, Child, Job, Submitted, answer_of, answered_in, call_numbered, child_numbered, children, is_running, job_numbered, job_of, jobs, mark, new_call, next_call, running_jobs, submitted}
 use Rattle.sl_trace.specs.declared.command.Command.TheVariants.{RunProgram}
 use Rattle.sl_trace.specs.declared.command.ResourceArg.{ResourceArg}
 use Rattle.sl_trace.specs.declared.effects.Call.{Call}

@@ -24,4 +24,5 @@ pub mod JobFactsBegin
 pub mod QuietFactsBegin
 pub mod QuietFactsConclude
 pub mod QuietAtEnd
+pub mod EntriesFollow
 pub mod JobPromises

@@ -209,7 +209,7 @@ quiet_left x text c s a h wake bare says leaves_one found active = quiet_at (sig
 -- ---- a session begins
 
 -- One that a line begins was not joined before.
-new_unjoined : (x : Step) (n : ℕ) (a : LockspaceArg) → Whole x → x.input ≡ Wake → is_some (joined_after x.past (joining_session n (next_job x.setting (seen x)) a)) ≡ true → ⊥
+pub new_unjoined : (x : Step) (n : ℕ) (a : LockspaceArg) → Whole x → x.input ≡ Wake → is_some (joined_after x.past (joining_session n (next_job x.setting (seen x)) a)) ≡ true → ⊥
 new_unjoined x n a h wake is = by (reply_to x.past j) refl is where
   j : ℕ
   j = next_job x.setting (seen x)
@@ -267,7 +267,7 @@ quiet_begun x text c n a h wake bare says adds next q =
 -- ---- all acts
 
 -- Whether a decision leaves.
-abbrev IsLeft : Decision → Type 0
+abbrev pub IsLeft : Decision → Type 0
 IsLeft (Leaves s) = Unit {0}
 IsLeft d = ⊥
 
@@ -288,7 +288,7 @@ no_resource (SetLvb q p bytes) r is = refl
 no_resource (SetKillpath p path) r is = refl
 no_resource Status r is = refl
 
-left_or_not : (st : Setting) (es : Trace) (c : Command) (d : Decision) → reply_at_once d ≡ None → DecisionFits st es c d → IsLeft d ⊎ (leaves_lockspace c ≡ false)
+pub left_or_not : (st : Setting) (es : Trace) (c : Command) (d : Decision) → reply_at_once d ≡ None → DecisionFits st es c d → IsLeft d ⊎ (leaves_lockspace c ≡ false)
 left_or_not st es c (Replies r) none f = absurd (none_some r (sym none))
 left_or_not st es c (Leaves s) none f = inl tt
 left_or_not st es c (Joins n a) none f = inr (ap (λ d. leaves_lockspace d) f.0)

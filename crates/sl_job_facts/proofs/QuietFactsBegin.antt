@@ -76,7 +76,7 @@ job_wake st past now s i there =
     kept (is_command_that (names_it s)) (running_jobs st past) i named.1
     (kept (λ (j : Job). is_running past j.number) (jobs st past) i (sym (running_then past now i.number) ∙ runs.1) (subst (λ js. Contains js i) (append-nil (jobs st past)) runs.0))
 
-leaving_wake : (st : Setting) (past : Trace) (now : ℕ) (s : Session) (k : Job) → leaving_job st (seen (begin_step st past now)) s ≡ Some k → leaving_job st past s ≡ Some k
+pub leaving_wake : (st : Setting) (past : Trace) (now : ℕ) (s : Session) (k : Job) → leaving_job st (seen (begin_step st past now)) s ≡ Some k → leaving_job st past s ≡ Some k
 leaving_wake st past now s k is = by (leaving_job st past s) is where
   by : (o : Option Job) → (elim o as (λ z. Option Job) [ Some a ↦ Some a | None ↦ None ]) ≡ Some k → o ≡ Some k
   by (Some a) h = h

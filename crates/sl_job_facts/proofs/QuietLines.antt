@@ -109,7 +109,7 @@ old_or_line x text s k there = by (contains_last (jobs x.setting x.past) made k 
       inr (record { job = ap (λ (i : Job). i.number) (sym new); command = command.0; reads = reads; names = command.2 })
 
 -- A line that is answered at once leaves no job.
-answered_jobs : (x : Step) (text : List ℕ) (j : ℕ) (r : Reply) (s : Session) (k : Job) → j ≡ next_job x.setting x.past → Contains (jobs_of_session x.setting (seen (add_reply j r (with_input (Line text) x))) s) k
+pub answered_jobs : (x : Step) (text : List ℕ) (j : ℕ) (r : Reply) (s : Session) (k : Job) → j ≡ next_job x.setting x.past → Contains (jobs_of_session x.setting (seen (add_reply j r (with_input (Line text) x))) s) k
     → Contains (jobs_of_session x.setting (by_input x Wake ∷ x.past) s) k
 answered_jobs x text j r s k is there = by (old_or_line x text s k (job_before (with_input (Line text) x) j r s k there)) where
   by : Contains (jobs_of_session x.setting (by_input x Wake ∷ x.past) s) k ⊎ IsNewJob x text s k → Contains (jobs_of_session x.setting (by_input x Wake ∷ x.past) s) k
@@ -120,7 +120,7 @@ answered_jobs x text j r s k is there = by (old_or_line x text s k (job_before (
       absurd (not_both (is_running (seen (add_reply j r w)) k.number) running (subst (λ n. is_running (seen (add_reply j r w)) n ≡ false) (is ∙ sym new.job) (reply_stops w j r)))
 
 -- And begins no leaving.
-answered_leaving : (x : Step) (text : List ℕ) (j : ℕ) (r : Reply) (s : Session) (k : Job) → j ≡ next_job x.setting x.past → leaving_job x.setting (seen (add_reply j r (with_input (Line text) x))) s ≡ Some k
+pub answered_leaving : (x : Step) (text : List ℕ) (j : ℕ) (r : Reply) (s : Session) (k : Job) → j ≡ next_job x.setting x.past → leaving_job x.setting (seen (add_reply j r (with_input (Line text) x))) s ≡ Some k
     → leaving_job x.setting (by_input x Wake ∷ x.past) s ≡ Some k
 answered_leaving x text j r s k is leaves_one = by (leaving_job x.setting x.past s) leaves_one where
   never : leaving_in x.setting x.past s (entry_of (add_reply j r (with_input (Line text) x))) ≡ Some k → ⊥

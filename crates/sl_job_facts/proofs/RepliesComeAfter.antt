@@ -4,6 +4,7 @@ use Rattle.sl_area.specs.Layouts.{Layout, record_in, sector_with}
 use Rattle.sl_area.specs.Places.{area_blocks, blocks_in, leader_of, read_at}
 use Rattle.sl_due.specs.DueAnswers.{set_reply}
 use Rattle.sl_due.specs.DueRequests.{request_refusal, value_reply}
+use Rattle.sl_job_facts.proofs.CallsStay.{is_special}
 use Rattle.sl_leases.specs.Ballots.{is_ahead, moded_block, phase1_block, same_owner, stop_of, value_of}
 use Rattle.sl_leases.specs.LeaseWork.{LeasePlace, after_clearing, after_freeing, after_moding, after_phase1, after_phase2, after_read, after_take, after_write, area_next, begin_next, begin_or_refuse, leader_for, lease_next, looks_for_shared, lost_next, named_area_next, phase1_next, phase2_next, refuses, release_next, settle_next, settle_owed, stop_reply, stopped_next, unstopped_next, whole_area_next, won_next}
 use Rattle.sl_leases.specs.Leases.{LeaseKnown, instance_for, is_leader_of, mode_gen_of, owed, owed_free, own_known, shared_elsewhere, value_written}
@@ -31,7 +32,7 @@ use Rattle.sl_sessions.specs.Watching.{is_free_state}
 use Rattle.sl_sessions.specs.declared.delta.DeltaNext.{DeltaNext}
 use Rattle.sl_sessions.specs.declared.delta.DeltaNext.TheVariants.{EndLeaving, Nothing, ReadOwn, RefuseJoin, RegisterAndRead, WriteClaim, WriteFirst, WriteFree}
 use Rattle.sl_time.specs.Times.{dead, join_max, renew}
-use Rattle.sl_trace.specs.Traces.{Submitted, is_before_input}
+use Rattle.sl_trace.specs.Traces.{Submitted}
 use Rattle.sl_trace.specs.declared.command.ResourceArg.{ResourceArg}
 use Rattle.sl_trace.specs.declared.effects.JoinStep.{JoinStep}
 use Rattle.sl_trace.specs.declared.effects.JoinStep.TheVariants.{ClaimWrite, DecidingRead, FirstRead, FirstRenewal, VerifyRead, WatchRead}
@@ -69,7 +70,7 @@ mapped_or P f (Some a) d h k = h a
 
 -- What a joining decides.
 abbrev pub IsLateDelta : DeltaNext → Type 0
-IsLateDelta (RefuseJoin r) = is_before_input r ≡ false
+IsLateDelta (RefuseJoin r) = is_special r ≡ false
 IsLateDelta (ReadOwn step) = is_join_call FirstRead (Joining 0 step) ≡ false
 IsLateDelta (RegisterAndRead step) = is_join_call FirstRead (Joining 0 step) ≡ false
 IsLateDelta (EndLeaving j r) = ⊥
@@ -146,13 +147,13 @@ IsNoSearch (ReadArea name) = ⊥
 IsNoSearch step = Unit {0}
 
 abbrev pub IsLateLease : LeaseNext → Type 0
-IsLateLease (AnswerJob r) = is_before_input r ≡ false
+IsLateLease (AnswerJob r) = is_special r ≡ false
 IsLateLease (ReadFor step) = IsNoSearch step
 IsLateLease (WriteBlock step b) = IsNoSearch step
 IsLateLease (WriteLeader step l) = IsNoSearch step
 IsLateLease n = Unit {0}
 
-refuses_late : (aim : Aim) (r : Reply) → is_before_input r ≡ false → IsLateLease (refuses aim r)
+refuses_late : (aim : Aim) (r : Reply) → is_special r ≡ false → IsLateLease (refuses aim r)
 refuses_late (Acquires mode) r h = h
 refuses_late (Converts mode) r h = h
 refuses_late Releases r h = h
@@ -179,7 +180,7 @@ pub settle_late : (p : LeasePlace) (k : LeaseKnown) → IsLateLease (settle_next
 unfolding settle_next
 settle_late p k = owed_late p k (owed k)
 
-reply_late : (stop : Stop) → is_before_input (stop_reply stop) ≡ false
+reply_late : (stop : Stop) → is_special (stop_reply stop) ≡ false
 reply_late (BlockTorn host) = refl
 reply_late (BlockAhead host lver) = refl
 reply_late (BlockRival host mbal) = refl
@@ -286,18 +287,18 @@ release_late p k Shared n = mapped_or IsLateLease (λ own. WriteBlock ClearMode 
 
 -- ---- a value
 
-pub value_late : (g : Layout) (bytes : List ℕ) → is_before_input (value_reply g bytes) ≡ false
-value_late g bytes = on_option (λ r. is_before_input r ≡ false) (value_in (record_in g bytes)) ValueTorn (λ v. Value v.lver v.seq v.bytes) refl (λ v. refl)
+pub value_late : (g : Layout) (bytes : List ℕ) → is_special (value_reply g bytes) ≡ false
+value_late g bytes = on_option (λ r. is_special r ≡ false) (value_in (record_in g bytes)) ValueTorn (λ v. Value v.lver v.seq v.bytes) refl (λ v. refl)
 
-pub set_late : (m : Submitted) → is_before_input (set_reply m) ≡ false
-set_late m = mapped_or (λ r. is_before_input r ≡ false) (λ v. ValueSet v.lver v.seq) (value_written m) Done (λ v. refl) refl
+pub set_late : (m : Submitted) → is_special (set_reply m) ≡ false
+set_late m = mapped_or (λ r. is_special r ≡ false) (λ v. ValueSet v.lver v.seq) (value_written m) Done (λ v. refl) refl
 
 -- ---- a request
 
-pub request_late : (g : Layout) (lockspace : List ℕ) (r : ResourceArg) (asked force : ℕ) (bytes : List ℕ) (why : Reply) → request_refusal g lockspace r asked force bytes ≡ Some why → is_before_input why ≡ false
+pub request_late : (g : Layout) (lockspace : List ℕ) (r : ResourceArg) (asked force : ℕ) (bytes : List ℕ) (why : Reply) → request_refusal g lockspace r asked force bytes ≡ Some why → is_special why ≡ false
 unfolding request_refusal
 request_late g lockspace r asked force bytes why is =
-    on_option (λ (o : Option Reply). o ≡ Some why → is_before_input why ≡ false) (leader_of g bytes) (Some TornLeader)
+    on_option (λ (o : Option Reply). o ≡ Some why → is_special why ≡ false) (leader_of g bytes) (Some TornLeader)
     (λ l. elim (is_leader_of g lockspace r.name l) [
       | false ↦ Some (WrongArea l.lockspace l.resource l.num_hosts)
       | true ↦ elim (request_in (read_at g bytes 1)) [
@@ -306,18 +307,18 @@ request_late g lockspace r asked force bytes why is =
       ]
     ])
     (λ h. late TornLeader h refl)
-    (λ l. on_bool (λ (o : Option Reply). o ≡ Some why → is_before_input why ≡ false) (is_leader_of g lockspace r.name l) (Some (WrongArea l.lockspace l.resource l.num_hosts))
+    (λ l. on_bool (λ (o : Option Reply). o ≡ Some why → is_special why ≡ false) (is_leader_of g lockspace r.name l) (Some (WrongArea l.lockspace l.resource l.num_hosts))
     (elim (request_in (read_at g bytes 1)) [
       | None ↦ choose (not (asked == 0)) (RequestOld l.lver None)
       | Some q ↦ choose (not (check_request l.lver q.lver asked force)) (RequestOld l.lver (Some q.lver))
     ])
     (λ h. late (WrongArea l.lockspace l.resource l.num_hosts) h refl)
-    (on_option (λ (o : Option Reply). o ≡ Some why → is_before_input why ≡ false) (request_in (read_at g bytes 1)) (choose (not (asked == 0)) (RequestOld l.lver None))
+    (on_option (λ (o : Option Reply). o ≡ Some why → is_special why ≡ false) (request_in (read_at g bytes 1)) (choose (not (asked == 0)) (RequestOld l.lver None))
     (λ q. choose (not (check_request l.lver q.lver asked force)) (RequestOld l.lver (Some q.lver)))
     (λ h. old (not (asked == 0)) (RequestOld l.lver None) refl h) (λ q h. old (not (check_request l.lver q.lver asked force)) (RequestOld l.lver (Some q.lver)) refl h))) is
   where
-    late : (r : Reply) → Some r ≡ Some why → is_before_input r ≡ false → is_before_input why ≡ false
-    late r h k = subst (λ z. is_before_input z ≡ false) (some_value r why h) k
+    late : (r : Reply) → Some r ≡ Some why → is_special r ≡ false → is_special why ≡ false
+    late r h k = subst (λ z. is_special z ≡ false) (some_value r why h) k
 
-    old : (b : Bool) (r : Reply) → is_before_input r ≡ false → choose b r ≡ Some why → is_before_input why ≡ false
-    old b r k h = subst (λ z. is_before_input z ≡ false) (choose_some b r why h).1 k
+    old : (b : Bool) (r : Reply) → is_special r ≡ false → choose b r ≡ Some why → is_special why ≡ false
+    old b r k h = subst (λ z. is_special z ≡ false) (choose_some b r why h).1 k

@@ -102,7 +102,7 @@ joined_by st (e ∷ es) s j there its = by (contains_either (sessions st es) (be
       }
 
 -- Its number is one that a line has taken.
-number_taken : (st : Setting) (es : Trace) (s : Session) (j : ℕ) → Contains (sessions st es) s → s.job ≡ Some j → j < next_job st es
+pub number_taken : (st : Setting) (es : Trace) (s : Session) (j : ℕ) → Contains (sessions st es) s → s.job ≡ Some j → j < next_job st es
 number_taken st es s j there its =
     let by = joined_by st es s j there its in
     let job = then_value command_of (job_numbered st es j) (AddLockspace by.arg) by.command in number_below st es j job.0 job.1

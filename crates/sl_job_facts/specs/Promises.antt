@@ -1,5 +1,6 @@
 -- What is kept by each act of a step, and true once a step has begun: what is known of calls, of jobs, of sessions in recovery or leaving.
 use Rattle.sl_acts.specs.Acts.{Acts}
+use Rattle.sl_acts.specs.SoFar.{entry_of}
 use Rattle.sl_due.specs.DueFirst.{begin_recoveries}
 use Rattle.sl_due.specs.Steps.{Step, begin_step, seen}
 use Rattle.sl_step_facts.specs.CallFacts.{CallFacts}
@@ -24,6 +25,18 @@ HasJobFacts x = JobFacts x.setting (seen x) (heard_by x.input)
 
 abbrev pub HasQuietFacts : Step → Type 0
 HasQuietFacts x = QuietFacts x.setting (seen x) (heard_by x.input)
+
+-- The entry so far follows the trace before it.
+abbrev pub FollowsSoFar : Step → Type 0
+FollowsSoFar x = FollowsTrace x.setting x.past (entry_of x)
+
+-- ---- entries
+
+abbrev pub EntriesFollow : Type 0
+EntriesFollow = Acts Whole FollowsSoFar
+
+abbrev pub EntriesBegin : Type 0
+EntriesBegin = BeginsWith FollowsSoFar
 
 -- ---- calls
 

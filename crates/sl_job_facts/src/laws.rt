@@ -1,6 +1,16 @@
 //! What is known of calls and of jobs, and of jobs under a session in recovery or leaving, holds at each moment of a step.
 
-ghost use Rattle.sl_job_facts.specs.Promises.{CallFactsAreKept, CallFactsBegin, JobFactsAreKept, JobFactsBegin, QuietFactsAreKept, QuietFactsBegin, QuietFactsConclude};
+ghost use Rattle.sl_job_facts.specs.Promises.{CallFactsAreKept, CallFactsBegin, EntriesBegin, EntriesFollow, JobFactsAreKept, JobFactsBegin, QuietFactsAreKept, QuietFactsBegin, QuietFactsConclude};
+
+/// The entry so far follows the trace before it, after each act.
+pub fn entries_follow()
+    ensures { EntriesFollow }
+{}
+
+/// So it does once a step has begun.
+pub fn entries_begin()
+    ensures { EntriesBegin }
+{}
 
 /// A call's number finds it, and its answer fits it, after each act.
 pub fn call_facts_are_kept()

@@ -11,7 +11,7 @@ use Rattle.sl_trace.specs.Connections.{Connection, connection_named, connections
 use Rattle.sl_trace.specs.Traces.{Answered, Job, Setting, Submitted, Trace, is_ok_answer, is_running, is_write, submitted, unanswered}
 use Rattle.sl_words.specs.Bounds.{is_number}
 use Rattle.sl_words.specs.Words.{is_empty}
-use Rattle.std.specs.Prelude.{Contains, IsSome, IsTrue, List, None, Option, Some, bytes_eq, false, filter, is_some, length, true, [], ℕ, ◌&&◌, ◌+◌, ◌∷◌, ◌≡◌, ◌≤◌}
+use Rattle.std.specs.Prelude.{Contains, IsSome, IsTrue, List, None, Option, Some, bytes_eq, false, filter, is_some, length, true, [], ℕ, ◌&&◌, ◌+◌, ◌∷◌, ◌≡◌, ◌≤◌, ◌⊎◌}
 
 -- No job goes on under a session in recovery or leaving.
 pub record QuietFacts (st : Setting) (t : Trace) (heard : Option ℕ) : Type 0 where
@@ -51,6 +51,9 @@ pub record DeltaFacts (st : Setting) (t : Trace) : Type 0 where
   -- a free is written in a leaving, by a session that holds nothing and has no other call open
   pub frees : (s : Session) (m : Submitted) → Contains (sessions st t) s → free_write (calls_of t s) ≡ Some m →
       IsSome (leaving_job st t s) × (holdings_of t s ≡ []) × ((ms : List Submitted) × (calls_of t s ≡ m ∷ ms) × (unanswered ms ≡ []))
+  -- each of them was answered by then
+  pub before : (s : Session) (m n : Submitted) → Contains (sessions st t) s → free_write (calls_of t s) ≡ Some m → Contains (calls_of t s) n →
+      (n ≡ m) ⊎ ((a : Answered) × (n.answer ≡ Some a) × (a.at ≤ m.at))
   -- what is written next is a record
   pub numbers : (s : Session) → Contains (sessions st t) s → is_joined t s ≡ true →
       (1 ≤ generation_of t s) × IsTrue (is_number (generation_of t s)) × IsTrue (is_number (last_seq t s))
