@@ -209,11 +209,8 @@ nobody_there : (x : Step) (s : Session) (work : Work) (step : LeaseStep) (m : Su
     → spot_of_grant g ≡ spot_at x m → NobodyWorksAt x g
 nobody_there x s work step m answer aim l g at n j b there none purpose same =
     let spot : spot_of_grant g ≡ spot_of_call x.setting.layout n = spot_is g (spot_of_call x.setting.layout n) same in
-    let on_n : is_on x.setting.layout (spot_at x m) n.call ≡ true =
-    subst (λ z. is_on x.setting.layout z n.call ≡ true) (sym spot ∙ at) (on_own_area x.setting n l.whole.0.setting) in
     let one : m ≡ n =
-    l.whole.0.facts.turns.one (spot_at x m) m n (heard_call x s m answer l.hears).0 there (heard_opens x s m answer l.hears) (inl none) (ap (λ p. is_area_work p) l.purpose) (ap (λ p. is_area_work p) purpose)
-    (on_own_area x.setting m l.whole.0.setting) on_n in
+    l.whole.0.facts.turns.one m n (heard_call x s m answer l.hears).0 there (heard_opens x s m answer l.hears) (inl none) (ap (λ p. is_area_work p) l.purpose) (ap (λ p. is_area_work p) purpose) (sym at ∙ spot) in
     let a = heard_answered x s m answer l.whole.0.facts.calls l.whole.0.orderly l.hears in
     no_value a.0 n.answer (ap (λ (d : Submitted). d.answer) (sym one) ∙ a.1) none
 

@@ -9,7 +9,7 @@ use Rattle.sl_plain.proofs.Options.{none_is}
 use Rattle.sl_sessions.specs.Sessions.{ended_after, has_open_write, holdings_of, is_joined, is_present, joined_after, present_sessions, refused_after, removed_after, session_numbered, sessions}
 use Rattle.sl_sessions.specs.declared.session.Session.{Session}
 use Rattle.sl_step_facts.specs.Heard.{IsOpen, heard_by}
-use Rattle.sl_step_facts.specs.SessionFacts.{NameFacts}
+use Rattle.sl_step_facts.specs.SessionFacts.{ConnectionFacts, NameFacts}
 use Rattle.sl_trace.specs.Connections.{is_registered}
 use Rattle.sl_trace.specs.Traces.{Setting, Submitted, Trace, holdings, is_running, is_write, reply_to, submitted}
 use Rattle.sl_trace.specs.declared.effects.Grant.{Grant}
@@ -122,8 +122,8 @@ none_of_empty x s h names there its joined empty g held same =
     (kept (λ (k : Grant). k.session == s.number) (holdings (seen x)) g (subst (λ n. (n == s.number) ≡ true) (sym number) (number_itself s.number)) held))
 
 -- Of one whose joining was refused, or may have been, with a write that is open.
-pub none_of_writer : (x : Step) (s : Session) (m : Submitted) → HoldsAt x → NameFacts x.setting (seen x) (heard_by x.input) → Contains (sessions x.setting (seen x)) s → joined_after (seen x) s ≡ None
+pub none_of_writer : (x : Step) (s : Session) (m : Submitted) → HoldsAt x → ConnectionFacts x.setting (seen x) (heard_by x.input) → Contains (sessions x.setting (seen x)) s → joined_after (seen x) s ≡ None
     → Contains (submitted (seen x)) m → m.call.session ≡ s.number → is_write m.call.op ≡ true → IsOpen (seen x) (heard_by x.input) m → NoneHeldOf x s.lockspace
-none_of_writer x s m h names there unjoined inside its writes opens g held same =
+none_of_writer x s m h connections there unjoined inside its writes opens g held same =
     let o = h.owned g held in
-    names.writers s o.0 m there unjoined inside its writes opens (got_inside (sessions x.setting (seen x)) g.session o.0 o.1) o.2 (sym o.3 ∙ same)
+    connections.writers s o.0 m there unjoined inside its writes opens (got_inside (sessions x.setting (seen x)) g.session o.0 o.1) o.2 (sym o.3 ∙ same)

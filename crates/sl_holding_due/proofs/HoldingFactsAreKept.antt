@@ -143,7 +143,7 @@ ends_joining x s m answer k hears = by (is_some (refused_after (seen x) s)) (has
   removed (Some i) at is =
       let unjoined : joined_after (seen x) s ≡ None = refused_apart (seen x) s i at in
       let w = writer_of x s m answer hears k.0.facts.calls k.0.orderly unjoined is in
-      removal_held x s.lockspace (none_of_writer x s w.0 k.0.facts.holdings k.0.facts.names there unjoined w.1 w.2 w.3 w.4) k.0.facts.holdings
+      removal_held x s.lockspace (none_of_writer x s w.0 k.0.facts.holdings k.0.facts.connections there unjoined w.1 w.2 w.3 w.4) k.0.facts.holdings
 
   by : (a b : Bool) → is_some (refused_after (seen x) s) ≡ a → HoldsAt (when (a && not b) (remove_connection s.lockspace) x)
   by true false is = removed (refused_after (seen x) s) refl is

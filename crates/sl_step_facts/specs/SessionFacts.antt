@@ -24,9 +24,6 @@ pub record QuietFacts (st : Setting) (t : Trace) (heard : Option ℕ) : Type 0 w
 pub record NameFacts (st : Setting) (t : Trace) (heard : Option ℕ) : Type 0 where
   -- a name finds its session
   pub apart : (a b : Session) → Contains (present_sessions st t) a → Contains (present_sessions st t) b → a.lockspace ≡ b.lockspace → a ≡ b
-  -- a refused joining whose last write has been answered is not present any more when its connection is removed
-  pub writers : (s x : Session) (m : Submitted) → Contains (sessions st t) s → joined_after t s ≡ None → Contains (submitted t) m → m.call.session ≡ s.number →
-      is_write m.call.op ≡ true → IsOpen t heard m → Contains (sessions st t) x → is_joined t x ≡ true → x.lockspace ≡ s.lockspace → ⊥
   pub begun : (s : Session) (j : ℕ) → Contains (sessions st t) s → s.job ≡ Some j → is_empty (calls_of t s) ≡ false
   -- a joining that runs has had no call refused, and where its newest call is answered it waits for a wake
   pub done : (s : Session) (j : ℕ) (m : Submitted) (a : Answered) → Contains (sessions st t) s → s.job ≡ Some j → is_running t j ≡ true →
@@ -46,6 +43,9 @@ pub record ConnectionFacts (st : Setting) (t : Trace) (heard : Option ℕ) : Typ
       connection_named (connections st t) s.lockspace ≡ Some c → c.expiry ≡ last_renewal st t s + fail st.timing
   pub joining : (s : Session) (c : Connection) → Contains (present_sessions st t) s → joined_after t s ≡ None →
       connection_named (connections st t) s.lockspace ≡ Some c → c.expiry ≡ last_registering t s.lockspace + fail st.timing
+  -- a refused joining whose last write has been answered is not present any more when its connection is removed
+  pub writers : (s x : Session) (m : Submitted) → Contains (sessions st t) s → joined_after t s ≡ None → Contains (submitted t) m → m.call.session ≡ s.number →
+      is_write m.call.op ≡ true → IsOpen t heard m → Contains (sessions st t) x → is_joined t x ≡ true → x.lockspace ≡ s.lockspace → ⊥
 
 pub record DeltaFacts (st : Setting) (t : Trace) : Type 0 where
   -- a free is written in a leaving, by a session that holds nothing and has no other call open
