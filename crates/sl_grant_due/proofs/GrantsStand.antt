@@ -11,7 +11,7 @@ use Rattle.sl_trace.specs.declared.effects.Mode.{Mode}
 use Rattle.sl_trace.specs.declared.effects.Mode.TheVariants.{Exclusive}
 use Rattle.std.proofs.Common.{ap, refl, subst, sym, ◌∙◌}
 use Rattle.std.proofs.lemmas.List.Elements.{Contains-append_right}
-use Rattle.std.specs.Prelude.{Bool, Contains, IsSome, Some, false, filter, not, true, ◌&&◌, ◌∷◌, ◌≡◌}
+use Rattle.std.specs.Prelude.{Bool, Contains, IsSome, false, filter, not, true, ◌&&◌, ◌∷◌, ◌≡◌}
 
 pub grants_stand : GrantsStand
 grants_stand st past e heard g h there =

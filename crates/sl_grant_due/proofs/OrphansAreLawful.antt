@@ -2,10 +2,9 @@
 -- that is granted a resource is none.
 use Rattle.sl_acts.proofs.EffectsKeep.{delta, removal, signalled}
 use Rattle.sl_acts.proofs.LoopsKeep.{for_each_keeps, when_keeps}
-use Rattle.sl_acts.specs.Acts.{Has, Hears}
 use Rattle.sl_acts.specs.SoFar.{entry_of}
 use Rattle.sl_due.specs.DueAnswers.{set_reply}
-use Rattle.sl_due.specs.DueCommands.{after_end, answer_line, carry_decision, decided}
+use Rattle.sl_due.specs.DueCommands.{after_end, answer_line, carry_decision}
 use Rattle.sl_due.specs.DueDelta.{carry_delta, see_request}
 use Rattle.sl_due.specs.DueFirst.{begin_recoveries, begin_recovery, begins_now, refuse, remove_connection, remove_of_refused, send, signal_and_refuse, signal_holders}
 use Rattle.sl_due.specs.DueInputs.{end_holdings, leave_holdings, refuse_jobs_of, started_reply, when_running}
@@ -23,7 +22,6 @@ use Rattle.sl_holding_due.proofs.MomentsAreKept.{delta_ungranting, no_grants, re
 use Rattle.sl_holding_due.specs.Moments.{Known}
 use Rattle.sl_law.specs.Lawful.{IsSetting}
 use Rattle.sl_law.specs.LawfulGrant.{LawfulOrphan}
-use Rattle.sl_leases.specs.Ballots.{moded_block}
 use Rattle.sl_leases.specs.Jobs.{command_numbered, is_job_of_process, job_of_start, jobs_of_session, process_named}
 use Rattle.sl_leases.specs.LeaseWork.{convert_next, lease_place, release_next, settle_next}
 use Rattle.sl_leases.specs.Leases.{holdings_on, known, spot_of, spot_of_call}
@@ -31,7 +29,6 @@ use Rattle.sl_leases.specs.declared.lease.LeaseNext.TheVariants.{AnswerJob, Beco
 use Rattle.sl_leases.specs.declared.lease.LeaseNext.{LeaseNext}
 use Rattle.sl_plain.proofs.Lists.{contains_none, in_map, kept_inside}
 use Rattle.sl_sector.proofs.RuleLaws.{in_range}
-use Rattle.sl_sector.specs.declared.sector.Block.{Block}
 use Rattle.sl_sessions.specs.Deltas.{delta_known, delta_of_session, next_after_free, next_after_renewal, next_free, next_in_joining, next_on_wake, next_renewal}
 use Rattle.sl_sessions.specs.Sessions.{calls_of, generation_of, has_open_write, last_renewal, present_sessions, recovery_of, refused_after}
 use Rattle.sl_sessions.specs.declared.delta.DeltaNext.{DeltaNext}
@@ -42,7 +39,7 @@ use Rattle.sl_trace.specs.Traces.{Job, children, end_of, first_child, has_orphan
 use Rattle.sl_trace.specs.declared.command.Command.TheVariants.{Acquire, AddLockspace, Convert, GetLvb, HostStatus, InqLockspace, Release, ReleaseOrphan, RemLockspace, Request, RunProgram, SetKillpath, SetLvb, Status, TakeOver}
 use Rattle.sl_trace.specs.declared.command.Command.{Command}
 use Rattle.sl_trace.specs.declared.effects.Grant.{Grant}
-use Rattle.sl_trace.specs.declared.effects.LeaseStep.TheVariants.{ClearMode, ReadArea, ReadBeforeFree}
+use Rattle.sl_trace.specs.declared.effects.LeaseStep.TheVariants.{ReadArea, ReadBeforeFree}
 use Rattle.sl_trace.specs.declared.effects.Mode.TheVariants.{Exclusive, Shared}
 use Rattle.sl_trace.specs.declared.effects.Mode.{Mode}
 use Rattle.sl_trace.specs.declared.effects.Signal.TheVariants.{Kill, Term}
@@ -57,7 +54,6 @@ use Rattle.sl_words.proofs.WordLaws.{and_true}
 use Rattle.sl_words.specs.Words.{some_is}
 use Rattle.std.proofs.Common.{ap, arith, inl, inr, refl, subst, sym, ◌∙◌}
 use Rattle.std.proofs.lemmas.Bool.{eqb-true}
-use Rattle.std.specs.Option.{option_map_or}
 use Rattle.std.specs.Prelude.{Bool, Contains, List, None, Ok, Option, Some, [], false, filter, is_some, length, not, true, ℕ, ◌&&◌, ◌+◌, ◌++◌, ◌==◌, ◌∷◌, ◌≡◌, ◌≤◌, ◌⊎◌}
 
 -- ---- none, as before, or one of a process
@@ -142,7 +138,7 @@ exit_orphans y p input unended ungranted g there orphan = by (all.grants g there
         persistent = b.1;
         becomes = sym f.3;
         first = subst (λ t. has_orphan_of (holdings t) g ≡ false) (sym all.stand.1)
-        (subst (λ hs. has_orphan_of hs g ≡ false) (held_before y unended ungranted) (subst (λ k. has_orphan_of (holdings (seen y)) k ≡ false) f.3 (not_so (has_orphan_of (holdings (seen y)) f.0) a.1)));
+            (subst (λ hs. has_orphan_of hs g ≡ false) (held_before y unended ungranted) (subst (λ k. has_orphan_of (holdings (seen y)) k ≡ false) f.3 (not_so (has_orphan_of (holdings (seen y)) f.0) a.1)));
       }
 
 -- ---- what is granted to a process
