@@ -15,7 +15,7 @@ use Rattle.sl_grant_due.proofs.WorksByExits.{exit_works}
 use Rattle.sl_grant_due.proofs.WorksByInputs.{answer_works, input_works}
 use Rattle.sl_grant_due.proofs.WorksByLines.{lines_work}
 use Rattle.sl_grant_due.specs.GrantPromises.{WorkFactsAreKept}
-use Rattle.sl_holding_due.proofs.HoldingFactsAreKept.{refuses_late, surveys_no_job}
+use Rattle.sl_holding_due.proofs.HoldingFactsAreKept.{plainly_late, refuses_late, surveys_no_job}
 use Rattle.sl_holding_due.proofs.HoldingsByCalls.{call_added}
 use Rattle.sl_holding_due.proofs.HoldingsByEffects.{later_same, unanswered_same, waking_same}
 use Rattle.sl_holding_due.specs.Moments.{Known}
@@ -154,7 +154,7 @@ unfolding after_request_read
 asked x s j bytes (Request r number force) owned h = by (request_refusal x.setting.layout s.lockspace r number force bytes) refl where
   by : (o : Option Reply) → request_refusal x.setting.layout s.lockspace r number force bytes ≡ o
       → WorksAt (elim o as (λ z. Step) [ Some why ↦ add_reply j why x | None ↦ write_request s j (owner_read x.setting.layout bytes) r number force x ])
-  by (Some why) at = reply_works x j why (later_same x.past (entry_of x) (record { job = j; reply = why }) (request_late x.setting.layout s.lockspace r number force bytes why at)) h
+  by (Some why) at = reply_works x j why (later_same x.past (entry_of x) (record { job = j; reply = why }) (plainly_late why (request_late x.setting.layout s.lockspace r number force bytes why at))) h
   by None at =
       other_call_works x s.number r.path (RequestWrite j (owner_read x.setting.layout bytes)) (request_offset x.setting.layout r.offset)
       (WriteRecord (RequestIs (record { force = force; host = (if number == 0 then 0 else s.id); lver = number }))) owned refl h
@@ -211,9 +211,9 @@ work_facts_are_kept =
       leads_on = λ x s work step m answer aim hears is on at k. led_works x s work step m answer aim (record { whole = k; hears = hears; purpose = is; on = on; aimed = at });
       fails = λ x s m j hears lone runs k. told x j (IoFault m.call.number) k refl;
       has_asked = λ x s m j owner hears is runs k. told x j Done k refl;
-      has_set = λ x s m j hears is runs k. told x j (set_reply m) k (set_late m);
+      has_set = λ x s m j hears is runs k. told x j (set_reply m) k (plainly_late (set_reply m) (set_late m));
       asks = λ x s m j bytes c hears is runs at k. asked x s j bytes c (all_owned x k) k.0.facts.works;
-      tells = λ x s m j bytes hears is runs k. told x j (value_reply x.setting.layout bytes) k (value_late x.setting.layout bytes);
+      tells = λ x s m j bytes hears is runs k. told x j (value_reply x.setting.layout bytes) k (plainly_late (value_reply x.setting.layout bytes) (value_late x.setting.layout bytes));
       warns = λ x s m bytes g signal hears is held own says k. sent_works x g.process signal k.0.facts.works;
       joins_in_time = λ x s j has wake is runs k.
           let n : DeltaNext = next_on_wake (delta_of_session x.setting s) x.reading (calls_of (seen x) s) in

@@ -25,6 +25,7 @@ use Rattle.sl_holding_due.proofs.LeaseCallers.{heard_call, in_turn_fits, mine_he
 use Rattle.sl_holding_due.proofs.LeaseNexts.{IsPlainNext, settling_fits}
 use Rattle.sl_holding_due.specs.Moments.{Known}
 use Rattle.sl_holding_due.specs.Promises.{HoldingFactsAreKept}
+use Rattle.sl_job_facts.proofs.CallsStay.{is_special}
 use Rattle.sl_job_facts.proofs.RepliesComeAfter.{IsLateDelta, joining_late, request_late, set_late, value_late, wake_late}
 use Rattle.sl_law.specs.Lawful.{Orderly}
 use Rattle.sl_leases.specs.Jobs.{command_numbered, job_of_start}
@@ -35,10 +36,10 @@ use Rattle.sl_leases.specs.declared.lease.LeaseNext.{LeaseNext}
 use Rattle.sl_plain.proofs.Lists.{any_found, contains_map, contains_none, find_fails, got_inside, kept, kept_inside}
 use Rattle.sl_plain.proofs.Numbers.{number_itself}
 use Rattle.sl_plain.proofs.Options.{none_is, some_of}
-use Rattle.sl_plain.proofs.Truth.{or_false}
+use Rattle.sl_plain.proofs.Truth.{left_is_false, or_false}
 use Rattle.sl_sector.specs.declared.sector.Rec.TheVariants.{RequestIs}
 use Rattle.sl_sessions.specs.Deltas.{delta_of_session, next_after_free, next_in_joining, next_on_wake}
-use Rattle.sl_sessions.specs.Sessions.{calls_of, free_write, generation_of, has_open_write, holdings_of, is_call_of, is_free_purpose, is_joined, joined_after, open_calls_of, recovery_of, refused_after, removed_after, sessions}
+use Rattle.sl_sessions.specs.Sessions.{calls_of, free_write, generation_of, has_open_write, holdings_of, is_call_of, is_free_purpose, is_join_done, is_joined, joined_after, open_calls_of, recovery_of, refused_after, removed_after, sessions}
 use Rattle.sl_sessions.specs.declared.delta.DeltaNext.TheVariants.{RefuseJoin}
 use Rattle.sl_sessions.specs.declared.delta.DeltaNext.{DeltaNext}
 use Rattle.sl_sessions.specs.declared.session.Session.{Session}
@@ -73,8 +74,12 @@ use Rattle.std.specs.Prelude.{Bool, Contains, List, None, Option, Some, [], fals
 
 -- ---- answers
 
+-- Of replies that come after what they answer and begin nothing.
+pub plainly_late : (r : Reply) → is_special r ≡ false → is_before_input r ≡ false
+plainly_late r late = left_is_false (is_before_input r) (is_join_done r) late
+
 pub refuses_late : (n : DeltaNext) (r : Reply) → IsLateDelta n → n ≡ RefuseJoin r → is_before_input r ≡ false
-refuses_late n r late is = subst (λ z. IsLateDelta z) is late
+refuses_late n r late is = plainly_late r (subst (λ z. IsLateDelta z) is late)
 
 -- Who joins on.
 joins_on : (x : Step) (s : Session) (j : ℕ) (step : JoinStep) (m : Submitted) (answer : Answer) → Known x → Hears x s m answer → m.call.purpose ≡ Joining j step → is_running (seen x) j ≡ true
@@ -203,7 +208,7 @@ asked x s j bytes (Request r number force) h = by (request_refusal x.setting.lay
   by : (o : Option Reply) → request_refusal x.setting.layout s.lockspace r number force bytes ≡ o
       → HoldsAt (elim o as (λ z. Step) [ Some why ↦ add_reply j why x | None ↦ write_request s j (owner_read x.setting.layout bytes) r number force x ])
   by (Some why) at =
-      reply_held x j why (later_same x.past (entry_of x) (record { job = j; reply = why }) (request_late x.setting.layout s.lockspace r number force bytes why at)) h
+      reply_held x j why (later_same x.past (entry_of x) (record { job = j; reply = why }) (plainly_late why (request_late x.setting.layout s.lockspace r number force bytes why at))) h
   by None at =
       call_held x s.number r.path (RequestWrite j (owner_read x.setting.layout bytes)) (request_offset x.setting.layout r.offset)
       (WriteRecord (RequestIs (record { force = force; host = (if number == 0 then 0 else s.id); lver = number })))
@@ -287,9 +292,9 @@ holding_facts_are_kept =
       leads_on = λ x s work step m answer aim hears is on at k. led_held x s work step m answer aim (record { whole = k; hears = hears; purpose = is; on = on; aimed = at });
       fails = λ x s m j hears lone runs k. told x j (IoFault m.call.number) k refl;
       has_asked = λ x s m j owner hears is runs k. told x j Done k refl;
-      has_set = λ x s m j hears is runs k. told x j (set_reply m) k (set_late m);
+      has_set = λ x s m j hears is runs k. told x j (set_reply m) k (plainly_late (set_reply m) (set_late m));
       asks = λ x s m j bytes c hears is runs at k. asked x s j bytes c k.0.facts.holdings;
-      tells = λ x s m j bytes hears is runs k. told x j (value_reply x.setting.layout bytes) k (value_late x.setting.layout bytes);
+      tells = λ x s m j bytes hears is runs k. told x j (value_reply x.setting.layout bytes) k (plainly_late (value_reply x.setting.layout bytes) (value_late x.setting.layout bytes));
       warns = λ x s m bytes g signal hears is held own says k. sent_held x g.process signal k.0.facts.holdings;
       joins_in_time = λ x s j has wake is runs k.
           let n : DeltaNext = next_on_wake (delta_of_session x.setting s) x.reading (calls_of (seen x) s) in
