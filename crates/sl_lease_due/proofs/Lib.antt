@@ -9,3 +9,4 @@ pub mod NextsStay
 pub mod TurnsStay
 pub mod LinesStay
 pub mod LawsAreKept
+pub mod WorkIsActive
