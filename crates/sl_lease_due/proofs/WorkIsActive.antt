@@ -1,19 +1,19 @@
--- Where no job runs under a session that is in recovery or leaving, work on an area whose answer is heard is of an active session.
-use Rattle.sl_acts.specs.Acts.{Has, Hears}
-use Rattle.sl_acts.specs.SoFar.{entry_of}
+-- Work of a running job on an area, whose answer is heard, is of an active session.
+use Rattle.sl_acts.specs.Acts.{Hears}
 use Rattle.sl_due.specs.Steps.{Step, seen, with_input}
 use Rattle.sl_law.specs.LawfulArea.{is_area_work}
-use Rattle.sl_lease_due.specs.Working.{WorkIsActive}
+use Rattle.sl_due.specs.DueDelta.{begins_by_read}
+use Rattle.sl_lease_due.proofs.RecoveriesBegin.{not_by_read}
+use Rattle.sl_step_facts.specs.Heard.{heard_by}
 use Rattle.sl_lease_ways.proofs.Kept.EffectsLeave.{there_has}
-use Rattle.sl_lease_ways.proofs.Kept.HeardStands.{HeardCall, heard_call, heard_has}
+use Rattle.sl_lease_ways.proofs.Kept.HeardStands.{heard_call, heard_has}
 use Rattle.sl_lease_ways.proofs.Kept.LinesKeep.{find_last, jobs_below}
 use Rattle.sl_lease_ways.proofs.Kept.UnjoinedHaveNone.{no_area_work}
 use Rattle.sl_leases.specs.Jobs.{command_numbered, command_of, is_command_that, jobs_of_session, lockspace_named, resource_named}
-use Rattle.sl_sessions.specs.Sessions.{calls_of, has_open_write, is_active, is_call_of, is_joined, is_present, is_recovering, joined_after, leaves, leaving_in, leaving_job, recovery_of, refused_after, removed_after, session_numbered, sessions}
+use Rattle.sl_sessions.specs.Sessions.{has_open_write, is_active, is_call_of, is_joined, is_survey_purpose, joined_after, leaves, leaving_in, leaving_job, recovery_of, refused_after, removed_after, sessions}
 use Rattle.sl_sessions.specs.declared.session.Begun.{Begun}
 use Rattle.sl_sessions.specs.declared.session.Session.{Session}
 use Rattle.sl_step_facts.specs.JobFacts.{FitsCommand}
-use Rattle.sl_step_facts.specs.SessionFacts.{QuietFacts}
 use Rattle.sl_step_facts.specs.Whole.{Whole}
 use Rattle.sl_trace.specs.Traces.{Job, Setting, Submitted, Trace, is_running, job_in, job_numbered, job_of, jobs, line_in, next_job, running_jobs, submitted}
 use Rattle.sl_trace.specs.declared.command.Command.TheVariants.{Acquire, AddLockspace, Convert, GetLvb, HostStatus, InqLockspace, Release, ReleaseOrphan, RemLockspace, Request, RunProgram, SetKillpath, SetLvb, Status, TakeOver}
@@ -32,10 +32,15 @@ use Rattle.sl_trace_law.proofs.Leases.NumberLaws.{number_is_place}
 use Rattle.sl_words.proofs.CaseLaws.{false_is_true, none_some, some_value, true_is_false}
 use Rattle.sl_words.proofs.WordLaws.{choose_some}
 use Rattle.sl_words.specs.Words.{choose, some_is}
-use Rattle.std.proofs.Common.{ap, eqb-true, inl, inr, refl, subst, sym, ◌∙◌}
+use Rattle.std.proofs.Common.{ap, eqb-true, refl, subst, sym, ◌∙◌}
 use Rattle.std.proofs.lemmas.Slice.Eq.{bytes_eq-Decides}
 use Rattle.std.specs.List.{list_any}
-use Rattle.std.specs.Prelude.{Bool, Contains, IsSome, Err, List, None, Ok, Option, Result, Some, [], bytes_eq, cond, false, find, is_none, is_some, length, not, option_and_then, true, ℕ, ◌&&◌, ◌++◌, ◌==◌, ◌||◌, ◌∷◌, ◌≡◌}
+use Rattle.std.specs.Prelude.{Bool, Contains, IsSome, Err, List, None, Ok, Option, Result, Some, [], bytes_eq, cond, false, find, is_none, is_some, length, not, true, ℕ, ◌&&◌, ◌++◌, ◌==◌, ◌||◌, ◌∷◌, ◌≡◌}
+
+-- Where an answer to a running job's work on an area is heard, its session is active.
+pub record WorkIsActive (x : Step) : Type 0 where
+  pub each : (s : Session) (m : Submitted) (a : Answer) (j : ℕ) → Hears x s m a → is_area_work m.call.purpose ≡ true → job_of m.call.purpose ≡ Some j →
+      is_running (seen x) j ≡ true → is_active x.setting (seen x) s ≡ true
 
 -- ---- the job of a leaving
 
@@ -156,7 +161,7 @@ its_job x s j c command runs names =
     let number : q.number ≡ j = eqb-true q.number j found.1 in
     let same : bytes_eq names.resource.lockspace s.lockspace ≡ true = (bytes_eq-Decides names.resource.lockspace s.lockspace).1 names.lockspace in
     let passes : is_command_that (λ c. some_is (λ n. bytes_eq n s.lockspace) (lockspace_named c)) q ≡ true =
-        ap (λ o. some_is (λ c. some_is (λ n. bytes_eq n s.lockspace) (lockspace_named c)) o) v.2 ∙ (ap (λ o. some_is (λ n. bytes_eq n s.lockspace) o) (named_so c names.resource names.named) ∙ same)
+    ap (λ o. some_is (λ c. some_is (λ n. bytes_eq n s.lockspace) (lockspace_named c)) o) v.2 ∙ (ap (λ o. some_is (λ n. bytes_eq n s.lockspace) o) (named_so c names.resource names.named) ∙ same)
     in
     record {
       job = q;
@@ -185,8 +190,24 @@ all_true true false r s a b c d = absurd (false_is_true b)
 all_true true true false s a b c d = absurd (false_is_true c)
 all_true true true true false a b c d = absurd (false_is_true d)
 
-pub work_is_active : (x : Step) → Whole x → QuietFacts x.setting (seen x) None → WorkIsActive x
-work_is_active x w quiet = record { each = λ s m a j h area its runs. by_command s m a j h area its runs (command_numbered x.setting (seen x) j) refl (w.facts.jobs.called m j (heard_call x s m a h w).there its) } where
+area_no_survey : (p : Purpose) → is_area_work p ≡ true → is_survey_purpose p ≡ false
+area_no_survey (Lease work step) area = refl
+area_no_survey (RequestRead j) area = refl
+area_no_survey (RequestWrite j o) area = refl
+area_no_survey (ValueRead j) area = refl
+area_no_survey (ValueWrite j) area = refl
+area_no_survey (Joining j step) area = refl
+area_no_survey Renewal area = refl
+area_no_survey Survey area = absurd (false_is_true area)
+area_no_survey (Leaving j) area = refl
+area_no_survey SeeRequest area = refl
+
+and_false : (a b : Bool) → b ≡ false → (a && b) ≡ false
+and_false true b is = is
+and_false false b is = refl
+
+pub work_is_active : (x : Step) → Whole x → WorkIsActive x
+work_is_active x w = record { each = λ s m a j h area its runs. by_command s m a j h area its runs (command_numbered x.setting (seen x) j) refl (w.facts.jobs.called m j (heard_call x s m a h w).there its) } where
   joined : (s : Session) (m : Submitted) (a : Answer) → (h : Hears x s m a) → is_area_work m.call.purpose ≡ true → is_some (joined_after (seen x) s) ≡ true
   joined s m a h area = by (joined_after (seen x) s) refl where
     by : (o : Option ℕ) → joined_after (seen x) s ≡ o → is_some o ≡ true
@@ -207,19 +228,20 @@ work_is_active x w quiet = record { each = λ s m a j h area its runs. by_comman
       all_true (is_some (joined_after (seen x) s)) (is_none (removed_after (seen x) s)) (is_none (recovery_of x.setting (seen x) s)) (is_none (leaving_job x.setting (seen x) s)) some unremoved
       (well job there is_in (recovery_of x.setting (seen x) s) refl) (staying names job there is_in (leaving_job x.setting (seen x) s) refl)
     where
-    well : ItsJob x s j c → Contains (sessions x.setting (seen x)) s → is_joined (seen x) s ≡ true → (o : Option Begun) → recovery_of x.setting (seen x) s ≡ o → is_none o ≡ true
-    well job there is_in None is = refl
-    well job there is_in (Some b) is =
-        absurd (contains_none job.job (subst (λ js. Contains js job.job) (quiet.recovering s there (ap (λ q. q && is_some (recovery_of x.setting (seen x) s)) is_in ∙ ap (λ o. is_some o) is) refl) job.inside))
+      well : ItsJob x s j c → Contains (sessions x.setting (seen x)) s → is_joined (seen x) s ≡ true → (o : Option Begun) → recovery_of x.setting (seen x) s ≡ o → is_none o ≡ true
+      well job there is_in None is = refl
+      well job there is_in (Some b) is =
+          absurd (contains_none job.job (subst (λ js. Contains js job.job) (w.facts.quiet.recovering s there (ap (λ q. q && is_some (recovery_of x.setting (seen x) s)) is_in ∙ ap (λ o. is_some o) is)
+          (and_false (is_some (heard_by x.input)) (begins_by_read (seen x) (recovery_of x.setting (seen x) s)) (not_by_read x s s m a h (area_no_survey m.call.purpose area) w))) job.inside))
 
-    staying : NamesIts s c → ItsJob x s j c → Contains (sessions x.setting (seen x)) s → is_joined (seen x) s ≡ true → (o : Option Job) → leaving_job x.setting (seen x) s ≡ o → is_none o ≡ true
-    staying names job there is_in None is = refl
-    staying names job there is_in (Some k) is =
-        let number : job.job.number ≡ k.number = quiet.leaving s k job.job there is_in is job.inside in
-        let left : LeftSo x.setting (seen x) s k = left_so x.setting (seen x) s k is in
-        let same : job.job ≡ k = some_value job.job k (sym job.numbered ∙ (ap (λ n. job_numbered x.setting (seen x) n) (sym job.number ∙ number) ∙ left.numbered)) in
-        let says : k.command ≡ Ok c = ok_command k.command c (ap (λ (z : Job). command_of z) (sym same) ∙ job.command) in
-        absurd (true_is_false (sym left.leaving ∙ (ap (λ z. leaves s z) says ∙ unleft s c names.resource names.named)))
+      staying : NamesIts s c → ItsJob x s j c → Contains (sessions x.setting (seen x)) s → is_joined (seen x) s ≡ true → (o : Option Job) → leaving_job x.setting (seen x) s ≡ o → is_none o ≡ true
+      staying names job there is_in None is = refl
+      staying names job there is_in (Some k) is =
+          let number : job.job.number ≡ k.number = w.facts.quiet.leaving s k job.job there is_in is job.inside in
+          let left : LeftSo x.setting (seen x) s k = left_so x.setting (seen x) s k is in
+          let same : job.job ≡ k = some_value job.job k (sym job.numbered ∙ (ap (λ n. job_numbered x.setting (seen x) n) (sym job.number ∙ number) ∙ left.numbered)) in
+          let says : k.command ≡ Ok c = ok_command k.command c (ap (λ (z : Job). command_of z) (sym same) ∙ job.command) in
+          absurd (true_is_false (sym left.leaving ∙ (ap (λ z. leaves s z) says ∙ unleft s c names.resource names.named)))
 
   by_command : (s : Session) (m : Submitted) (a : Answer) (j : ℕ) → (h : Hears x s m a) → is_area_work m.call.purpose ≡ true → job_of m.call.purpose ≡ Some j → is_running (seen x) j ≡ true
       → (o : Option Command) → command_numbered x.setting (seen x) j ≡ o → IsSome o → is_active x.setting (seen x) s ≡ true
