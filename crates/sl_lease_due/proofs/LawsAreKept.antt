@@ -16,7 +16,7 @@ use Rattle.sl_lease_due.proofs.NextsStay.{HeldThere, at_work, bare_lawful, led_s
 use Rattle.sl_lease_due.proofs.OthersKeep.{Any, LawfulSoFar, Others, by_others, laws_of, lawful_by, no_others, others_are_lawful}
 use Rattle.sl_lease_due.proofs.TurnsStay.{exclusive_turns, shared_turns}
 use Rattle.sl_lease_due.specs.LeaseLawful.{LeaseLaws}
-use Rattle.sl_lease_due.specs.Working.{WorkIsActive}
+use Rattle.sl_lease_due.proofs.WorkIsActive.{WorkIsActive, work_is_active}
 use Rattle.sl_lease_ways.proofs.Kept.ActsKeep.{stand}
 use Rattle.sl_lease_ways.proofs.Kept.DeltasFit.{freed_fits, joining_fits, renewed_fits, wake_fits}
 use Rattle.sl_lease_ways.proofs.Kept.HeardStands.{heard_has, lease_heard, lease_ready}
@@ -145,11 +145,11 @@ seen_request x s at g has is w =
 ended_input : (x : Step) (p : ℕ) → (end_holdings p x).input ≡ x.input
 ended_input x p = for_each_keeps (λ z. z.input ≡ x.input) (filter (λ (g : Grant). g.process == p) (holdings (seen x))) (λ g. add_end (end_of g)) x (λ g there y k. k) refl
 
-pub laws_are_kept : Acts (λ x. Whole x × WorkIsActive x) LeaseLaws
+pub laws_are_kept : Acts Whole LeaseLaws
 unfolding after_value_read
 laws_are_kept =
     record {
-      kills = λ x s has due w. laws_of _ (kills_stay x s (so_far x w.0));
+      kills = λ x s has due w. laws_of _ (kills_stay x s (so_far x w));
       times_out = λ x j m wake bare runs waits late w. laws_of _ (others_are_lawful _ (refusal Any Others by_others x j (IoTimeout m.call.number m.reading x.reading) tt (no_others x bare)));
       hears = λ x number answer wake bare expected w. laws_of _ (bare_lawful (with_input (Told number answer) x) bare);
       counts = λ x text wake bare w. laws_of _ (bare_lawful (with_input (Number text) x) bare);
@@ -157,15 +157,15 @@ laws_are_kept =
           laws_of _ (others_are_lawful _ (exited Any Others by_others (leave_holdings p (with_input (Exit p) x)) p (left Any Others by_others (with_input (Exit p) x) p (no_others (with_input (Exit p) x) bare))));
       exits_as_none = λ x p wake bare none w. laws_of _ (bare_lawful (with_input (Exit p) x) bare);
       starts = λ x p ok wake bare expected w. laws_of _ (bare_lawful (with_input (Spawned p ok) x) bare);
-      fails_to_start = λ x p input w. laws_of _ (said_stays (end_holdings p x) (job_of_start (seen x) p) SpawnFault (A_start p false (ended_input x p ∙ input)) (all_ends_stay x p (so_far x w.0)));
-      signals_instead = λ x p q input stood w. laws_of _ (signals_stay x q Term (so_far x w.0));
-      says_started = λ x p j input is runs w. laws_of _ (replies_stay x j (started_reply (seen x) p) (A_start p true input) (so_far x w.0));
+      fails_to_start = λ x p input w. laws_of _ (said_stays (end_holdings p x) (job_of_start (seen x) p) SpawnFault (A_start p false (ended_input x p ∙ input)) (all_ends_stay x p (so_far x w)));
+      signals_instead = λ x p q input stood w. laws_of _ (signals_stay x q Term (so_far x w));
+      says_started = λ x p j input is runs w. laws_of _ (replies_stay x j (started_reply (seen x) p) (A_start p true input) (so_far x w));
       misreads = λ x text column wake bare says w. laws_of _ (bare_lawful (add_reply (next_job x.setting (seen x)) (Misread column) (with_input (Line text) x)) bare);
       answers = λ x text c r wake bare says is w. laws_of _ (bare_lawful (add_reply (next_job x.setting (seen x)) r (with_input (Line text) x)) bare);
-      carries = λ x text c d wake bare says is more w. laws_of _ (lines_stay x text c d wake bare says is more w.0);
+      carries = λ x text c d wake bare says is more w. laws_of _ (lines_stay x text c d wake bare says is more w);
       joins_on = λ x s j step m answer hears is runs w. laws_of _ (others_are_lawful _
           (delta_by Others s (others_by_delta s) x (heard_has x s m answer hears) _
-          (joining_fits IsLate x s (joins_still x s j w.0 (heard_has x s m answer hears) (its_joining x s j step m answer w.0 hears is) runs) (delta_of_session x.setting s) (generation_of (seen x) s) (calls_of (seen x) s) x.reading m step answer)
+          (joining_fits IsLate x s (joins_still x s j w (heard_has x s m answer hears) (its_joining x s j step m answer w hears is) runs) (delta_of_session x.setting s) (generation_of (seen x) s) (calls_of (seen x) s) x.reading m step answer)
           (no_others x hears.bare)));
       ends_joining = λ x s j step m answer hears is stops w. laws_of _ (others_are_lawful _ (removal_of_refused Any Others by_others x s (no_others x hears.bare)));
       renewed = λ x s m answer hears is w. laws_of _ (others_are_lawful _
@@ -173,19 +173,19 @@ laws_are_kept =
       freed = λ x s j m answer hears is w. laws_of _ (others_are_lawful _
           (delta_by Others s (others_by_delta s) x (heard_has x s m answer hears) _ (freed_fits IsLate x s (λ r late. late) j m.call.number answer) (no_others x hears.bare)));
       shown = λ x s m bytes hears is joined begins w. laws_of _ (others_are_lawful _ (stopped Any Others by_others (λ t. tt) x s None (no_others x hears.bare)));
-      sees = λ x s number bytes at g has input held w. laws_of _ (seen_request x s at g has held w.0);
-      leads_on = λ x s work step m answer aim hears is on at w. laws_of _ (led x s work step m answer aim hears is on at w.0 w.1);
+      sees = λ x s number bytes at g has input held w. laws_of _ (seen_request x s at g has held w);
+      leads_on = λ x s work step m answer aim hears is on at w. laws_of _ (led x s work step m answer aim hears is on at w (work_is_active x w));
       fails = λ x s m j hears lone runs w. laws_of _ (bare_lawful (add_reply j (IoFault m.call.number) x) hears.bare);
       has_asked = λ x s m j owner hears is runs w. laws_of _ (bare_lawful (add_reply j Done x) hears.bare);
       has_set = λ x s m j hears is runs w. laws_of _ (bare_lawful (add_reply j (set_reply m) x) hears.bare);
-      asks = λ x s m j bytes c hears is runs at w. laws_of _ (requested x s m j bytes c hears is at (w.1.each s m _ j hears (ap (λ p. is_area_work p) is) (ap (λ p. job_of p) is) runs) w.0);
+      asks = λ x s m j bytes c hears is runs at w. laws_of _ (requested x s m j bytes c hears is at ((work_is_active x w).each s m _ j hears (ap (λ p. is_area_work p) is) (ap (λ p. job_of p) is) runs) w);
       tells = λ x s m j bytes hears is runs w. laws_of _ (bare_lawful (add_reply j (value_reply x.setting.layout bytes) x) hears.bare);
       warns = λ x s m bytes g signal hears is held own says w. laws_of _ (others_are_lawful _ (sent Any Others by_others x g.process signal (no_others x hears.bare)));
       joins_in_time = λ x s j has wake is runs w. laws_of _
-          (delta_by (IsSpared s) s (spared_by_delta s) x has _ (wake_fits IsLate x s (joins_still x s j w.0 has is runs) (delta_of_session x.setting s) x.reading (calls_of (seen x) s))
-          (joining_spares x s j (so_far x w.0) w.0.facts.names wake is runs)).lawful;
-      renews = λ x s has wake joined w. laws_of _ (renewals_stay x s has (delta_of_session x.setting s) x.reading (delta_known x.setting (seen x) s) _ (so_far x w.0));
-      settles = λ x s at has wake active aligned none w. laws_of _ (settled_stays x s at has active aligned none w.0 (so_far x w.0));
-      parts = λ x s has joined recovers free quiet w. laws_of _ (parting_stays x s has joined recovers w.0.facts.names (so_far x w.0));
-      frees = λ x s has joined well free quiet w. laws_of _ (frees_stay x s has (delta_of_session x.setting s) x.reading (delta_known x.setting (seen x) s) (so_far x w.0));
+          (delta_by (IsSpared s) s (spared_by_delta s) x has _ (wake_fits IsLate x s (joins_still x s j w has is runs) (delta_of_session x.setting s) x.reading (calls_of (seen x) s))
+          (joining_spares x s j (so_far x w) w.facts.names wake is runs)).lawful;
+      renews = λ x s has wake joined w. laws_of _ (renewals_stay x s has (delta_of_session x.setting s) x.reading (delta_known x.setting (seen x) s) _ (so_far x w));
+      settles = λ x s at has wake active aligned none w. laws_of _ (settled_stays x s at has active aligned none w (so_far x w));
+      parts = λ x s has joined recovers free quiet w. laws_of _ (parting_stays x s has joined recovers w.facts.names (so_far x w));
+      frees = λ x s has joined well free quiet w. laws_of _ (frees_stay x s has (delta_of_session x.setting s) x.reading (delta_known x.setting (seen x) s) (so_far x w));
     }

@@ -9,3 +9,5 @@ pub mod NextsStay
 pub mod TurnsStay
 pub mod LinesStay
 pub mod LawsAreKept
+pub mod RecoveriesBegin
+pub mod WorkIsActive

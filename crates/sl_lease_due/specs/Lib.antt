@@ -1,4 +1,3 @@
 pub mod LeaseLawful
 pub mod Made
-pub mod Working
 pub mod Promises

@@ -4,7 +4,6 @@ use Rattle.sl_area.specs.Places.{block_offset, leader_offset}
 use Rattle.sl_law.specs.LawfulLeader.{holds_under}
 use Rattle.sl_lease_due.specs.LeaseLawful.{LeaseLawful, LeaseLaws}
 use Rattle.sl_lease_due.specs.Made.{IsCallAt, MayCall, read_place}
-use Rattle.sl_lease_due.specs.Working.{WorkIsActive}
 use Rattle.sl_lease_ways.specs.Nexts.{Moment, NextIs, read_op}
 use Rattle.sl_leases.specs.declared.lease.LeaseNext.TheVariants.{ReadFor, WriteBlock, WriteLeader}
 use Rattle.sl_sector.specs.declared.sector.Block.{Block}
@@ -35,6 +34,6 @@ LeadersAreLawful =
     (x : Moment) (step : LeaseStep) (l : Leader) (c : Submitted) → MayCall x → IsCallAt x step (leader_offset x.at.base) (WriteRecord (LeaderIs l)) c →
     NextIs x (WriteLeader step l) → (l.held ≡ false → holds_under x.trace x.session x.at l.lver ≡ false) → LeaseLawful x.setting x.trace x.session c
 
--- Each act keeps the laws, where no job works under a session in recovery or leaving.
+-- Each act keeps the laws.
 abbrev pub LeaseLawsAreKept : Type 0
-LeaseLawsAreKept = Acts (λ x. Whole x × WorkIsActive x) LeaseLaws
+LeaseLawsAreKept = Acts Whole LeaseLaws

@@ -85,14 +85,14 @@ new_job st es at reading (Spawned p ok) q there = absurd (contains_none q there)
 new_job st es at reading Wake q there = absurd (contains_none q there)
 
 -- Each job has a number that was taken.
-jobs_below : (st : Setting) (es : Trace) (q : Job) → Contains (jobs st es) q → q.number < next_job st es
+pub jobs_below : (st : Setting) (es : Trace) (q : Job) → Contains (jobs st es) q → q.number < next_job st es
 jobs_below st [] q there = absurd (contains_none q there)
 jobs_below st (e ∷ es) q there = by (either_list (jobs st es) (job_in st es (next_job st es) e) q there) (λ old. jobs_below st es q old) where
   by : Contains (jobs st es) q ⊎ Contains (job_in st es (next_job st es) e) q → (Contains (jobs st es) q → q.number < next_job st es) → q.number < next_job st (e ∷ es)
   by (inl old) before = let lt : q.number < next_job st es = before old in let more : next_job st es ≤ next_job st (e ∷ es) = taken_more st es e.input in omega (arith, lt, more)
   by (inr new) before = new_job st es (length es) e.reading e.input q new
 
-find_last : (n : ℕ) (js : List Job) (q : Job) → ((k : Job) → Contains js k → (k.number == n) ≡ false) → (q.number == n) ≡ true → find (λ (k : Job). k.number == n) (js ++ q ∷ []) ≡ Some q
+pub find_last : (n : ℕ) (js : List Job) (q : Job) → ((k : Job) → Contains js k → (k.number == n) ≡ false) → (q.number == n) ≡ true → find (λ (k : Job). k.number == n) (js ++ q ∷ []) ≡ Some q
 find_last n [] q none is = ap (λ b. cond b (Some q) None) is
 find_last n (j ∷ js) q none is =
     ap (λ b. cond b (Some j) (find (λ (k : Job). k.number == n) (js ++ q ∷ []))) (none j (contains_first j js)) ∙ find_last n js q (λ k there. none k (contains_more j js k there)) is

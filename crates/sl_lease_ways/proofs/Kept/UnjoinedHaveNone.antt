@@ -5,6 +5,7 @@ use Rattle.sl_lease_ways.proofs.Kept.DeltasFit.{IsJoining}
 use Rattle.sl_lease_ways.proofs.Kept.HeardStands.{HeardCall, heard_call}
 use Rattle.sl_lease_ways.proofs.Kept.LeaseNextsLeave.{IsLate}
 use Rattle.sl_leases.specs.Jobs.{command_numbered}
+use Rattle.sl_law.specs.LawfulArea.{is_area_work}
 use Rattle.sl_leases.specs.Leases.{is_lease_call, is_on, lease_calls, lease_step}
 use Rattle.sl_sessions.specs.Sessions.{calls_of, is_join_done, joined_after}
 use Rattle.sl_sessions.specs.declared.session.Session.{Session}
@@ -56,6 +57,31 @@ in_turn_none (n ∷ ms) h m there = by (and_true (fits n) (all_done ms) h) (cont
   by both (inr inside) =
       let done = and_true (fits m) (has_reply m) (all_of (λ d. fits d && has_reply d) ms m both.1 inside) in
       joins m.call.purpose (is_write m.call.op) done.0
+
+-- Nor any work on an area.
+pub in_turn_area : (ms : List Submitted) → is_in_turn ms ≡ true → (m : Submitted) → Contains ms m → is_area_work m.call.purpose ≡ false
+in_turn_area [] h m there = absurd (contains_none m there)
+in_turn_area (n ∷ ms) h m there = by (and_true (fits n) (all_done ms) h) (contains_cases n ms m there) where
+  joins : (p : Purpose) (w : Bool) → fits_as p w ≡ true → is_area_work p ≡ false
+  joins (Joining j step) w is = refl
+  joins Renewal w is = absurd (false_is_true is)
+  joins Survey w is = absurd (false_is_true is)
+  joins (Leaving j) w is = absurd (false_is_true is)
+  joins (Lease work step) w is = absurd (false_is_true is)
+  joins (RequestRead j) w is = absurd (false_is_true is)
+  joins (RequestWrite j owner) w is = absurd (false_is_true is)
+  joins SeeRequest w is = absurd (false_is_true is)
+  joins (ValueWrite j) w is = absurd (false_is_true is)
+  joins (ValueRead j) w is = absurd (false_is_true is)
+
+  by : (fits n ≡ true) × (all_done ms ≡ true) → (n ≡ m) ⊎ Contains ms m → is_area_work m.call.purpose ≡ false
+  by both (inl is) = subst (λ (z : Submitted). is_area_work z.call.purpose ≡ false) is (joins n.call.purpose (is_write n.call.op) both.0)
+  by both (inr inside) =
+      let done = and_true (fits m) (has_reply m) (all_of (λ d. fits d && has_reply d) ms m both.1 inside) in
+      joins m.call.purpose (is_write m.call.op) done.0
+
+pub no_area_work : (x : Step) (s : Session) → Whole x → Has x s → joined_after (seen x) s ≡ None → (m : Submitted) → Contains (calls_of (seen x) s) m → is_area_work m.call.purpose ≡ false
+no_area_work x s w has none m there = in_turn_area (calls_of (seen x) s) (joinings_are_in_turn x.setting (seen x) s w.orderly has none) m there
 
 filter_none : (p : Submitted → Bool) (ms : List Submitted) → ((m : Submitted) → Contains ms m → p m ≡ false) → filter p ms ≡ []
 filter_none p [] none = refl
