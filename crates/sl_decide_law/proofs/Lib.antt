@@ -1,0 +1,2 @@
+pub mod PlainSums
+pub mod QuestionsByKept
