@@ -1,2 +1,3 @@
 pub mod PlainSums
 pub mod QuestionsByKept
+pub mod CommandsAreDecided

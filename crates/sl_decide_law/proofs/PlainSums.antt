@@ -1,10 +1,10 @@
 -- Plain facts of sums, least numbers and numbers in a row.
 use Rattle.sl_host_plain.proofs.PlainLists.{all_from, kept_if}
-use Rattle.sl_host_plain.proofs.PlainOrders.{AreApart, IsApart}
+use Rattle.sl_host_plain.proofs.PlainOrders.{AreApart}
 use Rattle.sl_plain.proofs.Lists.{contains_cases, contains_first, contains_more, contains_none}
 use Rattle.sl_words.specs.Orders.{in_order, put_in}
 use Rattle.sl_words.specs.Words.{least}
-use Rattle.std.proofs.Common.{ap, arith, inl, inr, refl, subst, suc, sym, zero, ◌∙◌}
+use Rattle.std.proofs.Common.{ap, arith, inl, inr, refl, suc, sym, zero, ◌∙◌}
 use Rattle.std.proofs.Math.Nat.{min_comm}
 use Rattle.std.proofs.lemmas.List.{append-nil, map-append, reverse-append}
 use Rattle.std.proofs.lemmas.List.Elements.{filter-append}
@@ -32,8 +32,8 @@ put_sum f q before x (y ∷ ys) = by (before x y) (put_sum f q before x ys) wher
       let first : sum_by f (filter q (y ∷ put_in before x ys)) ≡ cond (q y) (f y) 0 + sum_by f (filter q (put_in before x ys)) = sum_more f q y (put_in before x ys) in
       let second : sum_by f (filter q (y ∷ ys)) ≡ cond (q y) (f y) 0 + sum_by f (filter q ys) = sum_more f q y ys in
       together (sum_by f (filter q (y ∷ put_in before x ys))) (cond (q y) (f y) 0) (cond (q x) (f x) 0) (sum_by f (filter q (put_in before x ys))) (sum_by f (filter q ys)) (sum_by f (filter q (y ∷ ys))) first rest second where
-    together : (all one other put rest old : ℕ) → all ≡ one + put → put ≡ other + rest → old ≡ one + rest → all ≡ other + old
-    together all one other put rest old a b c = omega (arith, a, b, c)
+        together : (all one other put rest old : ℕ) → all ≡ one + put → put ≡ other + rest → old ≡ one + rest → all ≡ other + old
+        together all one other put rest old a b c = omega (arith, a, b, c)
 
 order_sum_from : {A : Type 0} (f : A → ℕ) (q : A → Bool) (before : A → A → Bool) (xs sorted : List A)
     → sum_by f (filter q (fold (λ ys x. put_in before x ys) sorted xs)) ≡ sum_by f (filter q sorted) + sum_by f (filter q xs)
@@ -41,8 +41,8 @@ order_sum_from f q before [] sorted = let n : ℕ = sum_by f (filter q sorted) i
 order_sum_from f q before (x ∷ xs) sorted =
     together (sum_by f (filter q (fold (λ ys z. put_in before z ys) (put_in before x sorted) xs))) (sum_by f (filter q (put_in before x sorted))) (sum_by f (filter q xs)) (cond (q x) (f x) 0)
     (sum_by f (filter q sorted)) (sum_by f (filter q (x ∷ xs))) (order_sum_from f q before xs (put_in before x sorted)) (put_sum f q before x sorted) (sum_more f q x xs) where
-  together : (all put rest one sorted new : ℕ) → all ≡ put + rest → put ≡ one + sorted → new ≡ one + rest → all ≡ sorted + new
-  together all put rest one sorted new a b c = omega (arith, a, b, c)
+      together : (all put rest one sorted new : ℕ) → all ≡ put + rest → put ≡ one + sorted → new ≡ one + rest → all ≡ sorted + new
+      together all put rest one sorted new a b c = omega (arith, a, b, c)
 
 -- In order they are as many.
 pub order_sum : {A : Type 0} (f : A → ℕ) (q : A → Bool) (before : A → A → Bool) (xs : List A) → sum_by f (filter q (in_order before xs)) ≡ sum_by f (filter q xs)
@@ -66,9 +66,9 @@ list_mapped g f q f' q' [] tests values = refl
 list_mapped g f q f' q' (x ∷ xs) tests values =
     ap (λ b. map f (cond b (g x ∷ filter q (map g xs)) (filter q (map g xs)))) (tests x (contains_first x xs))
     ∙ by (q' x) (list_mapped g f q f' q' xs (λ y there. tests y (contains_more x xs y there)) (λ y there. values y (contains_more x xs y there))) where
-  by : (b : Bool) → map f (filter q (map g xs)) ≡ map f' (filter q' xs) → map f (cond b (g x ∷ filter q (map g xs)) (filter q (map g xs))) ≡ map f' (cond b (x ∷ filter q' xs) (filter q' xs))
-  by true rest = ap (λ c. c ∷ map f (filter q (map g xs))) (values x (contains_first x xs)) ∙ ap (λ cs. f' x ∷ cs) rest
-  by false rest = rest
+      by : (b : Bool) → map f (filter q (map g xs)) ≡ map f' (filter q' xs) → map f (cond b (g x ∷ filter q (map g xs)) (filter q (map g xs))) ≡ map f' (cond b (x ∷ filter q' xs) (filter q' xs))
+      by true rest = ap (λ c. c ∷ map f (filter q (map g xs))) (values x (contains_first x xs)) ∙ ap (λ cs. f' x ∷ cs) rest
+      by false rest = rest
 
 pub map_as : {A B : Type 0} (f g : A → B) (xs : List A) → ((x : A) → f x ≡ g x) → map f xs ≡ map g xs
 map_as f g [] same = refl
@@ -95,10 +95,10 @@ least_reversed {A} f q (x ∷ xs) =
     ap (λ ys. least (map f (filter q ys))) (reverse-append (x ∷ []) xs)
     ∙ ap (λ ys. least (map f ys)) (filter-append q (reverse xs) (x ∷ []))
     ∙ by (q x) (least_reversed f q xs) where
-  by : (b : Bool) → least (map f (filter q (reverse xs))) ≡ least (map f (filter q xs))
-      → least (map f (filter q (reverse xs) ++ cond b (x ∷ []) [])) ≡ least (map f (cond b (x ∷ filter q xs) (filter q xs)))
-  by true rest = ap least (map-append f (filter q (reverse xs)) (x ∷ [])) ∙ (least_push (map f (filter q (reverse xs))) (f x) ∙ ap (less (f x)) rest)
-  by false rest = ap (λ ys. least (map f ys)) (append-nil (filter q (reverse xs))) ∙ rest
+      by : (b : Bool) → least (map f (filter q (reverse xs))) ≡ least (map f (filter q xs))
+          → least (map f (filter q (reverse xs) ++ cond b (x ∷ []) [])) ≡ least (map f (cond b (x ∷ filter q xs) (filter q xs)))
+      by true rest = ap least (map-append f (filter q (reverse xs)) (x ∷ [])) ∙ (least_push (map f (filter q (reverse xs))) (f x) ∙ ap (less (f x)) rest)
+      by false rest = ap (λ ys. least (map f ys)) (append-nil (filter q (reverse xs))) ∙ rest
 
 -- ---- numbers in a row
 

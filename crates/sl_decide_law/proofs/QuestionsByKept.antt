@@ -1,7 +1,6 @@
 -- What a decision asks of the steps has the answer that the kept state gives.
-use Rattle.sl_area.specs.Layouts.{Layout}
 use Rattle.sl_decide_law.proofs.PlainSums.{apart_unmapped, least_reversed, list_mapped, map_as, order_sum, row_apart, sum_mapped}
-use Rattle.sl_decide_law.specs.Deciding.{busy_refused, is_active_member, is_open_on, is_running_child, joined_refused, lease_count, limit_reached, limit_refused, member_named, member_of, member_refusal, open_at, pending_refused, process_refused, sessions_told, states_told, with_member}
+use Rattle.sl_decide_law.specs.Deciding.{busy_refused, is_open_on, joined_refused, lease_count, limit_refused, member_named, member_of, member_refusal, open_at, pending_refused, process_refused, sessions_told, states_told, with_member}
 use Rattle.sl_due.specs.DueCommands.{busy_refusal, joined_refusal, limit_refusal, matching_session, pending_refusal, process_refusal, session_refusal, with_session}
 use Rattle.sl_due.specs.Steps.{Step, seen}
 use Rattle.sl_due.specs.declared.decision.Decision.{Decision}
@@ -13,12 +12,11 @@ use Rattle.sl_host_state.specs.Kept.{Config, HostState, LeaseState, MemberState}
 use Rattle.sl_host_state.specs.Makes.{is_lease_on}
 use Rattle.sl_host_state.specs.Stands.{Keeps, MemberStands, Stands, is_there, kept_call}
 use Rattle.sl_host_state.specs.declared.kept.OpenCall.{OpenCall}
-use Rattle.sl_leases.specs.Counts.{busy_process, child_count, holder_count, limit_met, pending_call, resource_count}
-use Rattle.sl_leases.specs.Jobs.{is_asking_lease, is_program}
-use Rattle.sl_leases.specs.Leases.{is_on, lease_spots}
+use Rattle.sl_leases.specs.Counts.{child_count, holder_count, pending_call, resource_count}
+use Rattle.sl_leases.specs.Jobs.{is_asking_lease}
+use Rattle.sl_leases.specs.Leases.{lease_spots}
 use Rattle.sl_plain.proofs.Lists.{filter_both, find_inside}
 use Rattle.sl_plain.proofs.Options.{then_value}
-use Rattle.sl_sessions.specs.Deltas.{delta_known}
 use Rattle.sl_sessions.specs.Sessions.{calls_of, generation_of, has_open_write, is_joined, is_present, is_session_arg, joined_after, leaving_job, present_sessions, refused_after, removed_after, renewing, session_named, sessions}
 use Rattle.sl_sessions.specs.Watching.{host_state, sessions_seen, sightings, states_seen}
 use Rattle.sl_sessions.specs.declared.delta.DeltaKnown.{DeltaKnown}
@@ -26,27 +24,26 @@ use Rattle.sl_sessions.specs.declared.session.Begun.{Begun}
 use Rattle.sl_sessions.specs.declared.session.Renewing.{Renewing}
 use Rattle.sl_sessions.specs.declared.session.Session.{Session}
 use Rattle.sl_trace.specs.Limits.{most_children, most_holders, most_processes, most_resources}
-use Rattle.sl_trace.specs.Traces.{Child, Job, Setting, Submitted, Trace, children, first_child, is_child, outstanding, same_spot}
+use Rattle.sl_trace.specs.Traces.{Child, Job, Setting, Submitted, Trace, children, first_child, outstanding, same_spot}
 use Rattle.sl_trace.specs.declared.command.LockspaceArg.{LockspaceArg}
 use Rattle.sl_trace.specs.declared.effects.Spot.{Spot}
 use Rattle.sl_trace.specs.declared.input.Input.{Input}
 use Rattle.sl_trace.specs.declared.reply.HostState.{HostState as Looks}
 use Rattle.sl_trace.specs.declared.reply.Limited.TheVariants.{Children, Holders, Resources}
-use Rattle.sl_trace.specs.declared.reply.Limited.{Limited}
 use Rattle.sl_trace.specs.declared.reply.Reply.TheVariants.{Busy, Joined, Joining as StillJoining, Limit as LimitReached, NoProcess, Pending, Recovering}
 use Rattle.sl_trace.specs.declared.reply.Reply.{Reply}
 use Rattle.sl_trace.specs.declared.reply.SessionOf.{SessionOf}
 use Rattle.sl_trace.specs.declared.reply.StateOf.{StateOf}
 use Rattle.sl_words.proofs.CaseLaws.{true_is_false}
 use Rattle.sl_words.proofs.WordLaws.{choose_some}
-use Rattle.sl_words.specs.Orders.{in_order, is_text_before}
+use Rattle.sl_words.specs.Orders.{is_text_before}
 use Rattle.sl_words.specs.Words.{choose, least, some_is}
 use Rattle.std.proofs.Common.{ap, refl, subst, sym, ◌∙◌}
 use Rattle.std.proofs.lemmas.Bool.Decides.{Decides-eqb}
 use Rattle.std.proofs.lemmas.List.{length-map}
 use Rattle.std.specs.List.{AllByRecursion, list_any, range_with_len}
 use Rattle.std.specs.Option.{option_or}
-use Rattle.std.specs.Prelude.{Bool, Contains, List, None, Option, Some, bytes_eq, cond, false, filter, find, if◌then◌else◌, is_none, is_some, length, map, nat_le, not, option_and_then, option_map, reverse, slice_get, sum_by, true, [], ℕ, ◌&&◌, ◌+◌, ◌==◌, ◌||◌, ◌∷◌, ◌≡◌}
+use Rattle.std.specs.Prelude.{Bool, List, None, Option, Some, bytes_eq, cond, false, filter, find, if◌then◌else◌, is_none, is_some, length, map, nat_le, not, option_and_then, option_map, sum_by, true, [], ℕ, ◌&&◌, ◌+◌, ◌==◌, ◌||◌, ◌∷◌, ◌≡◌}
 
 -- ---- members by name
 

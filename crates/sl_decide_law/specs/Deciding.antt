@@ -5,7 +5,7 @@ use Rattle.sl_due.specs.DueCommands.{unless_refused}
 use Rattle.sl_due.specs.declared.decision.Decision.TheVariants.{ConvertsTo, GetsValue, GivesUp, Joins, Leaves, ReadsArea, Replies, Requests, SetsValue, Shares, TakesOver}
 use Rattle.sl_due.specs.declared.decision.Decision.{Decision}
 use Rattle.sl_host_state.specs.Asks.{ungranted_in}
-use Rattle.sl_host_state.specs.Kept.{HostState, LeaseState, MemberState}
+use Rattle.sl_host_state.specs.Kept.{HostState, MemberState}
 use Rattle.sl_host_state.specs.Makes.{is_lease_on}
 use Rattle.sl_host_state.specs.declared.kept.OpenCall.{OpenCall}
 use Rattle.sl_leases.specs.Counts.{busy_among}

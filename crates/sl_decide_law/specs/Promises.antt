@@ -11,7 +11,7 @@ use Rattle.sl_trace.specs.declared.command.Command.{Command}
 use Rattle.sl_trace.specs.declared.effects.Grant.{Grant}
 use Rattle.sl_leases.specs.Leases.{spot_of}
 use Rattle.sl_trace.specs.declared.input.Input.{Input}
-use Rattle.std.specs.Prelude.{Contains, Some, false, ℕ, ◌≡◌}
+use Rattle.std.specs.Prelude.{Contains, Some, false, ◌≡◌}
 
 -- For a value that is set the last one of its area tells the seq: versions of values rise, so an older one is never of the version held.
 -- What else is decided asks nothing like it.
