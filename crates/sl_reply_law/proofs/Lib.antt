@@ -1,0 +1,5 @@
+pub mod PlainFilters
+pub mod AnswerMarksOneCall
+pub mod AnswerFindsItsCall
+pub mod OpenBallotsAreOwn
+pub mod LeaseHearsAnswer
