@@ -11,6 +11,7 @@ use Rattle.sl_leases.specs.Ballots.{is_ahead, same_owner, stop_of, value_of}
 use Rattle.sl_leases.specs.Leases.{Area_read, Phase1_read, Phase2_read, Phase2_write, Read_before_free, StepKind, ballot_after, block_of_record, block_submitted, block_written, blocks_given, concludes, ended_ballot, free_left, is_area_read, is_at, is_free_write, is_leader_of, is_phase_read, kind_of_step, last_blocks, leader_of_record, leader_written, lease_step, may_show_shared, name_sought, open_ballot, same_kind, settles_free, shows_settled, stop_in, value_in_end, verified_by, verified_name, was_settled, won_by}
 use Rattle.sl_leases.specs.declared.lease.Stop.{Stop}
 use Rattle.sl_plain.proofs.Options.{mapped_value}
+use Rattle.sl_reply_law.proofs.PlainNumbers.{same_number}
 use Rattle.sl_reply_law.proofs.OpenBallotsAreOwn.{open_is_own}
 use Rattle.sl_sector.specs.declared.sector.Block.{Block}
 use Rattle.sl_sector.specs.declared.sector.Leader.{Leader}
@@ -28,9 +29,6 @@ use Rattle.sl_words.specs.Words.{choose, some_is}
 use Rattle.std.proofs.Common.{ap, arith, refl, subst, sym, ◌∙◌}
 use Rattle.std.specs.List.{AllByRecursion}
 use Rattle.std.specs.Prelude.{Bool, IsTrue, List, None, Option, Some, cond, false, is_some, not, option_and_then, option_map, true, unwrap_or, ℕ, ◌&&◌, ◌==◌, ◌||◌, ◌∷◌, ◌≡◌}
-
-same_number : (a b : ℕ) → (a == b) ≡ true → a ≡ b
-same_number a b is = grind arith
 
 -- ---- the step of a call
 

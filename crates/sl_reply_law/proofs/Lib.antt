@@ -1,5 +1,9 @@
 pub mod PlainFilters
+pub mod PlainNumbers
 pub mod AnswerMarksOneCall
 pub mod AnswerFindsItsCall
+pub mod OpenCallsAreKept
+pub mod AnswerIsHeeded
+pub mod DeltaCallsHearAnswer
 pub mod OpenBallotsAreOwn
 pub mod LeaseHearsAnswer

@@ -1,11 +1,11 @@
 -- Plain facts of lists that are filtered, mapped and turned round.
-use Rattle.sl_words.proofs.CaseLaws.{true_or_false}
-use Rattle.std.proofs.Common.{ap, inl, inr, refl, sym, ◌∙◌}
+use Rattle.sl_plain.proofs.Lists.{contains_cases, contains_first, contains_more, contains_none}
+use Rattle.std.proofs.Common.{ap, inl, inr, refl, subst, sym, ◌∙◌}
 use Rattle.std.proofs.lemmas.List.Elements.{filter-append}
 use Rattle.std.proofs.lemmas.List.Folds.{list_any-append}
 use Rattle.std.proofs.lemmas.List.{map-append, reverse-append}
 use Rattle.std.specs.List.{AllByRecursion, cons_option, list_any}
-use Rattle.std.specs.Prelude.{Bool, List, Option, None, Some, cond, false, filter, filter_map, find, map, reverse, true, [], ◌&&◌, ◌++◌, ◌∷◌, ◌≡◌, ◌||◌}
+use Rattle.std.specs.Prelude.{Bool, Contains, List, Option, None, Some, cond, false, filter, filter_map, find, is_none, map, option_map, reverse, true, [], ◌&&◌, ◌++◌, ◌∷◌, ◌≡◌, ◌⊎◌, ◌||◌}
 
 -- One more in front, by whether it passes.
 pub kept_by : {A : Type 0} (q : A → Bool) (a : A) (xs : List A) (b : Bool) → q a ≡ b → filter q (a ∷ xs) ≡ cond b (a ∷ filter q xs) (filter q xs)
@@ -95,3 +95,30 @@ found_kept p q (x ∷ xs) only = by (q x) refl (found_kept p q xs only) where
   by : (b : Bool) → q x ≡ b → find p xs ≡ find p (filter q xs) → find p (x ∷ xs) ≡ find p (cond b (x ∷ filter q xs) (filter q xs))
   by true is rest = ap (λ o. cond (p x) (Some x) o) rest
   by false is rest = ap (λ b. cond b (Some x) (find p xs)) (only x is) ∙ rest
+
+pub any_mapped : {A B : Type 0} (p : B → Bool) (f : A → B) (xs : List A) → list_any p (map f xs) ≡ list_any (λ x. p (f x)) xs
+any_mapped p f [] = refl
+any_mapped p f (x ∷ xs) = ap (λ b. p (f x) || b) (any_mapped p f xs)
+
+pub any_alike : {A : Type 0} (p q : A → Bool) (xs : List A) → ((x : A) → p x ≡ q x) → list_any p xs ≡ list_any q xs
+any_alike p q [] same = refl
+any_alike p q (x ∷ xs) same = ap (λ b. b || list_any p xs) (same x) ∙ ap (λ b. q x || b) (any_alike p q xs same)
+
+-- What one of them gives is among what they give.
+pub in_given : {A B : Type 0} (f : A → Option B) (xs : List A) (x : A) (y : B) → Contains xs x → f x ≡ Some y → Contains (filter_map f xs) y
+in_given f [] x y there is = absurd (contains_none x there)
+in_given {A = A} {B = B} f (z ∷ zs) x y there is = by (contains_cases z zs x there) (λ rest. in_given f zs x y rest is) where
+  more : (o : Option B) → Contains (filter_map f zs) y → Contains (cons_option o (filter_map f zs)) y
+  more None rest = rest
+  more (Some b) rest = contains_more b (filter_map f zs) y rest
+  by : (z ≡ x) ⊎ Contains zs x → (Contains zs x → Contains (filter_map f zs) y) → Contains (filter_map f (z ∷ zs)) y
+  by (inl same) deeper = subst (λ o. Contains (cons_option o (filter_map f zs)) y) (sym (ap f same ∙ is)) (contains_first y (filter_map f zs))
+  by (inr rest) deeper = more (f z) (deeper rest)
+
+pub none_mapped : {A B : Type 0} (f : A → B) (o : Option A) → is_none (option_map f o) ≡ is_none o
+none_mapped f None = refl
+none_mapped f (Some a) = refl
+
+pub no_one : {A : Type 0} (p : A → Bool) (xs : List A) → ((x : A) → p x ≡ false) → list_any p xs ≡ false
+no_one p [] none = refl
+no_one p (x ∷ xs) none = ap (λ b. b || list_any p xs) (none x) ∙ no_one p xs none
