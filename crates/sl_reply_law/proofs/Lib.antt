@@ -5,5 +5,6 @@ pub mod AnswerFindsItsCall
 pub mod OpenCallsAreKept
 pub mod AnswerIsHeeded
 pub mod DeltaCallsHearAnswer
+pub mod RenewingHearsAnswer
 pub mod OpenBallotsAreOwn
 pub mod LeaseHearsAnswer
