@@ -1,4 +1,5 @@
 -- The call that an open call of a host stands for: it is one of the trace's, has no answer, and no other call has its number.
+use Rattle.sl_host_plain.proofs.PlainLists.{each_of, range_last}
 use Rattle.sl_host_state.specs.Kept.{HostState}
 use Rattle.sl_host_state.specs.declared.kept.OpenCall.{OpenCall}
 use Rattle.sl_host_state.specs.Stands.{Keeps, kept_call}
@@ -25,18 +26,7 @@ pub record IsTheCall (ms : List Submitted) (c : OpenCall) (m : Submitted) : Type
   pub kept : kept_call m ≡ c
   pub alone : AllByRecursion (IsOr c.number m) ms
 
-pub each_of : {A : Type 0} (P : A → Type 0) (xs : List A) (x : A) → AllByRecursion P xs → Contains xs x → P x
-each_of P xs x all inside = All-contains P xs x (All-from_recursion P xs all) inside
-
 -- ---- numbers in order
-
-range_last : (a n : ℕ) → range_with_len a (suc n) ≡ range_with_len a n ++ (a + n) ∷ []
-range_last a zero = ap (λ k. k ∷ []) (as_it_is a) where
-  as_it_is : (a : ℕ) → a ≡ a + 0
-  as_it_is a = omega arith
-range_last a (suc n) = ap (λ ks. a ∷ ks) (range_last (a + 1) n ∙ ap (λ k. range_with_len (a + 1) n ++ k ∷ []) (one_on a n)) where
-  one_on : (a n : ℕ) → a + 1 + n ≡ a + suc n
-  one_on a n = omega arith
 
 range_turned : (a n : ℕ) → reverse (range_with_len a (suc n)) ≡ (a + n) ∷ reverse (range_with_len a n)
 range_turned a n = ap reverse (range_last a n) ∙ reverse-append (range_with_len a n) ((a + n) ∷ [])

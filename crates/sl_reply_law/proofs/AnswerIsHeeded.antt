@@ -1,4 +1,5 @@
 -- Whether an answer is heeded is told by the jobs that a host keeps, as long as the step's replies are those of before its input.
+use Rattle.sl_host_plain.proofs.PlainLists.{any_mapped, each_of}
 use Rattle.sl_host_state.specs.Hears.{is_heeded_by}
 use Rattle.sl_host_state.specs.Kept.{HostState}
 use Rattle.sl_host_state.specs.Stands.{Keeps, kept_job}
@@ -6,10 +7,10 @@ use Rattle.sl_host_state.specs.declared.kept.JobState.{JobState}
 use Rattle.sl_host_state.specs.declared.kept.OpenCall.{OpenCall}
 use Rattle.sl_plain.proofs.Options.{some_there, then_value}
 use Rattle.sl_plain.proofs.Lists.{any_of, find_inside, in_map, kept_inside, any_found, contains_first, contains_more}
-use Rattle.sl_reply_law.proofs.AnswerFindsItsCall.{IsTheCall, each_of}
+use Rattle.sl_reply_law.proofs.AnswerFindsItsCall.{IsTheCall}
 use Rattle.sl_reply_law.proofs.AnswerMarksOneCall.{told}
 use Rattle.sl_reply_law.proofs.PlainNumbers.{same_number}
-use Rattle.sl_reply_law.proofs.PlainFilters.{any_kept, any_mapped, in_given, no_one, none_mapped}
+use Rattle.sl_reply_law.proofs.PlainFilters.{any_kept, in_given, no_one, none_mapped}
 use Rattle.sl_trace.specs.Traces.{Child, Job, Replied, Setting, Submitted, Trace, children, is_before_input, is_going_on, is_refused_before_input, is_running, job_numbered, job_of, jobs, reply_in, reply_to, running_jobs, submitted}
 use Rattle.sl_trace.specs.declared.effects.Effects.{Effects}
 use Rattle.sl_trace.specs.declared.effects.Entry.{Entry}

@@ -1,8 +1,8 @@
 -- What an answer makes of a list of calls: the call that it answers has it, every other is as it was. What is asked of calls and not of
 -- their answers stays.
+use Rattle.sl_host_plain.proofs.PlainLists.{kept_if}
 use Rattle.sl_leases.specs.Leases.{block_of_record, is_lease_call, is_on, spot_of_call, spots_in, value_written, with_spot}
 use Rattle.sl_area.specs.Layouts.{Layout}
-use Rattle.sl_reply_law.proofs.PlainFilters.{kept_by}
 use Rattle.sl_sector.specs.declared.sector.DeltaRec.{DeltaRec}
 use Rattle.sl_sessions.specs.Sessions.{delta_written, free_write, generation_in, given_number, is_free_purpose, is_renewal, last_delta, renewal_in, seq_in}
 use Rattle.sl_sessions.specs.declared.session.Session.{Session}
@@ -78,8 +78,8 @@ module _ (past : Trace) (now : ℕ) (fx : Effects) (n : ℕ) (a : Answer) where
   picked p (d ∷ ms) = by (p d.call) refl (picked p ms) where
     by : (b : Bool) → p d.call ≡ b → filter (λ d. p d.call) (map hear ms) ≡ map hear (filter (λ d. p d.call) ms)
         → filter (λ d. p d.call) (hear d ∷ map hear ms) ≡ map hear (cond b (d ∷ filter (λ d. p d.call) ms) (filter (λ d. p d.call) ms))
-    by true is rest = kept_by (λ (d : Submitted). p d.call) (hear d) (map hear ms) true (ap p (same_call d) ∙ is) ∙ ap (λ zs. hear d ∷ zs) rest
-    by false is rest = kept_by (λ (d : Submitted). p d.call) (hear d) (map hear ms) false (ap p (same_call d) ∙ is) ∙ rest
+    by true is rest = kept_if (λ (d : Submitted). p d.call) (hear d) (map hear ms) true (ap p (same_call d) ∙ is) ∙ ap (λ zs. hear d ∷ zs) rest
+    by false is rest = kept_if (λ (d : Submitted). p d.call) (hear d) (map hear ms) false (ap p (same_call d) ∙ is) ∙ rest
 
   pub found_heard : (p : Call → Bool) (ms : List Submitted) → find (λ d. p d.call) (map hear ms) ≡ option_map hear (find (λ d. p d.call) ms)
   found_heard p [] = refl
@@ -145,18 +145,18 @@ module _ (past : Trace) (now : ℕ) (fx : Effects) (n : ℕ) (a : Answer) where
     by : (b : Bool) → (d.call.number == n) ≡ b → (o : Bool) → is_none d.answer ≡ o → unanswered (map hear ms) ≡ filter (λ d. not (d.call.number == n)) (unanswered ms)
         → unanswered (map hear (d ∷ ms)) ≡ filter (λ d. not (d.call.number == n)) (unanswered (d ∷ ms))
     by false its true open_yet rest =
-        kept_by (λ (e : Submitted). is_none e.answer) (hear d) (map hear ms) true (ap (λ (e : Submitted). is_none e.answer) (not_its d its) ∙ open_yet)
+        kept_if (λ (e : Submitted). is_none e.answer) (hear d) (map hear ms) true (ap (λ (e : Submitted). is_none e.answer) (not_its d its) ∙ open_yet)
         ∙ ap (λ e. e ∷ unanswered (map hear ms)) (not_its d its) ∙ ap (λ zs. d ∷ zs) rest
-        ∙ sym (ap (filter (λ d. not (d.call.number == n))) (kept_by (λ (e : Submitted). is_none e.answer) d ms true open_yet) ∙ kept_by (λ (d : Submitted). not (d.call.number == n)) d (unanswered ms) true (ap not its))
+        ∙ sym (ap (filter (λ d. not (d.call.number == n))) (kept_if (λ (e : Submitted). is_none e.answer) d ms true open_yet) ∙ kept_if (λ (d : Submitted). not (d.call.number == n)) d (unanswered ms) true (ap not its))
     by true its true open_yet rest =
-        kept_by (λ (e : Submitted). is_none e.answer) (hear d) (map hear ms) false (ap (λ b. is_none (hear_by d b).answer) its ∙ now_answered d.answer open_yet) ∙ rest
-        ∙ sym (ap (filter (λ d. not (d.call.number == n))) (kept_by (λ (e : Submitted). is_none e.answer) d ms true open_yet) ∙ kept_by (λ (d : Submitted). not (d.call.number == n)) d (unanswered ms) false (ap not its)) where
+        kept_if (λ (e : Submitted). is_none e.answer) (hear d) (map hear ms) false (ap (λ b. is_none (hear_by d b).answer) its ∙ now_answered d.answer open_yet) ∙ rest
+        ∙ sym (ap (filter (λ d. not (d.call.number == n))) (kept_if (λ (e : Submitted). is_none e.answer) d ms true open_yet) ∙ kept_if (λ (d : Submitted). not (d.call.number == n)) d (unanswered ms) false (ap not its)) where
       now_answered : (o : Option Answered) → is_none o ≡ true → is_none (option_or o (Some (answer_of past (told now fx n a) a d.call))) ≡ false
       now_answered None h = refl
       now_answered (Some x) h = refl
     by b its false open_yet rest =
-        kept_by (λ (e : Submitted). is_none e.answer) (hear d) (map hear ms) false (ap (λ (e : Submitted). is_none e.answer) (answered_before d (answered_is d.answer open_yet)) ∙ open_yet) ∙ rest
-        ∙ sym (ap (filter (λ d. not (d.call.number == n))) (kept_by (λ (e : Submitted). is_none e.answer) d ms false open_yet)) where
+        kept_if (λ (e : Submitted). is_none e.answer) (hear d) (map hear ms) false (ap (λ (e : Submitted). is_none e.answer) (answered_before d (answered_is d.answer open_yet)) ∙ open_yet) ∙ rest
+        ∙ sym (ap (filter (λ d. not (d.call.number == n))) (kept_if (λ (e : Submitted). is_none e.answer) d ms false open_yet)) where
       answered_is : (o : Option Answered) → is_none o ≡ false → is_some o ≡ true
       answered_is (Some x) h = refl
       answered_is None h = absurd cc

@@ -1,5 +1,6 @@
 -- What a session's calls on delta sectors have with an answer to one of them: it is the newest, for they come one after another. And the
 -- owners asked, with an answered write of a request.
+use Rattle.sl_host_plain.proofs.PlainLists.{each_of, kept_if}
 use Rattle.sl_area.specs.Layouts.{Layout}
 use Rattle.sl_area.specs.Places.{sector_of}
 use Rattle.sl_due.specs.DueRequests.{is_asked, is_fresh, owner_asked}
@@ -10,9 +11,9 @@ use Rattle.sl_host_state.specs.declared.kept.AskedAt.{AskedAt}
 use Rattle.sl_host_state.specs.declared.kept.JoinCall.{JoinCall}
 use Rattle.sl_host_state.specs.declared.kept.OpenCall.{OpenCall}
 use Rattle.sl_plain.proofs.Lists.{any_of, contains_cases, contains_map, contains_none, head_is, kept}
-use Rattle.sl_reply_law.proofs.AnswerFindsItsCall.{IsOr, each_of}
+use Rattle.sl_reply_law.proofs.AnswerFindsItsCall.{IsOr}
 use Rattle.sl_reply_law.proofs.AnswerMarksOneCall.{all_answered, answered_still, found_heard, hear, hear_by, not_its, picked, same_call, told}
-use Rattle.sl_reply_law.proofs.PlainFilters.{all_kept, found_kept, given_kept, kept_by}
+use Rattle.sl_reply_law.proofs.PlainFilters.{all_kept, found_kept, given_kept}
 use Rattle.sl_sector.specs.declared.sector.DeltaRec.{DeltaRec}
 use Rattle.sl_sessions.specs.Deltas.{claim_of, first_answered, first_bytes, join_step_of}
 use Rattle.sl_sessions.specs.Sessions.{delta_written, is_delta_purpose, is_join_call, is_survey_purpose, join_call, same_join_step}
@@ -250,7 +251,7 @@ module _ (past : Trace) (now : ℕ) (fx : Effects) (a : Answer) (m : Submitted) 
     other_is : (step : JoinStep) → join_step_of d.call.purpose ≡ Some step → (d.call.number == m.call.number) ≡ false → is_delta_purpose m.call.purpose ≡ false
     other_is step is other = is_false (is_delta_purpose m.call.purpose) (λ delta.
         let k = newest (d ∷ ms) open_yet inside turn delta in
-        let front : d ∷ deltas ms ≡ m ∷ k.rest = sym (kept_by (λ (d : Submitted). is_delta_purpose d.call.purpose) d ms true (step_is_delta d.call.purpose step is)) ∙ k.first in
+        let front : d ∷ deltas ms ≡ m ∷ k.rest = sym (kept_if (λ (d : Submitted). is_delta_purpose d.call.purpose) d ms true (step_is_delta d.call.purpose step is)) ∙ k.first in
         not_both (m.call.number == m.call.number) its (subst (λ (z : Submitted). (z.call.number == m.call.number) ≡ false) (head_is d m (deltas ms) k.rest front) other))
     by : (o : Option JoinStep) → join_step_of d.call.purpose ≡ o → IsOr m.call.number m d
         → newest_of (map hears (d ∷ ms)) ≡ cond (is_some (join_step_of m.call.purpose)) (option_map (answered_at h.reading) j) j

@@ -1,7 +1,8 @@
 -- What is asked of a session's calls without an answer, where these are kept: any list that they are kept in, the oldest first, answers it.
+use Rattle.sl_host_plain.proofs.PlainLists.{any_as, any_mapped}
 use Rattle.sl_host_state.specs.Stands.{kept_call, sectors_of}
 use Rattle.sl_host_state.specs.declared.kept.OpenCall.{OpenCall}
-use Rattle.sl_reply_law.proofs.PlainFilters.{any_alike, any_kept, any_mapped, any_reversed, filters_turned}
+use Rattle.sl_reply_law.proofs.PlainFilters.{any_kept, any_reversed, filters_turned}
 use Rattle.sl_sessions.specs.Sessions.{has_open_delta, has_open_write, is_call_of, is_delta_purpose}
 use Rattle.sl_sessions.specs.declared.session.Session.{Session}
 use Rattle.sl_trace.specs.Traces.{Submitted, Trace, is_write, outstanding, submitted}
@@ -32,5 +33,5 @@ pub open_write_is : (es : Trace) (s : Session) (cs : List OpenCall) → map kept
     → has_open_write es s ≡ list_any (λ c. c.session == s.number && is_none c.sectors) cs
 open_write_is es s cs kept =
     own_open (λ m. is_write m.call.op) es s
-    ∙ any_alike (λ m. is_call_of s m && is_write m.call.op) (λ m. is_call_of s m && is_none (sectors_of m.call.op)) (outstanding es) (λ m. ap (λ b. is_call_of s m && b) (reads_or_writes m.call.op))
+    ∙ any_as (λ m. is_call_of s m && is_write m.call.op) (λ m. is_call_of s m && is_none (sectors_of m.call.op)) (outstanding es) (λ m. ap (λ b. is_call_of s m && b) (reads_or_writes m.call.op))
     ∙ open_is (λ c. c.session == s.number && is_none c.sectors) es cs kept

@@ -1,4 +1,5 @@
 -- Plain facts of lists that are filtered, mapped and turned round.
+use Rattle.sl_host_plain.proofs.PlainLists.{kept_if}
 use Rattle.sl_plain.proofs.Lists.{contains_cases, contains_first, contains_more, contains_none}
 use Rattle.std.proofs.Common.{ap, inl, inr, refl, subst, sym, ◌∙◌}
 use Rattle.std.proofs.lemmas.List.Elements.{filter-append}
@@ -7,21 +8,17 @@ use Rattle.std.proofs.lemmas.List.{map-append, reverse-append}
 use Rattle.std.specs.List.{AllByRecursion, cons_option, list_any}
 use Rattle.std.specs.Prelude.{Bool, Contains, List, Option, None, Some, cond, false, filter, filter_map, find, is_none, map, option_map, reverse, true, [], ◌&&◌, ◌++◌, ◌∷◌, ◌≡◌, ◌⊎◌, ◌||◌}
 
--- One more in front, by whether it passes.
-pub kept_by : {A : Type 0} (q : A → Bool) (a : A) (xs : List A) (b : Bool) → q a ≡ b → filter q (a ∷ xs) ≡ cond b (a ∷ filter q xs) (filter q xs)
-kept_by q a xs b is = ap (λ c. cond c (a ∷ filter q xs) (filter q xs)) is
-
 -- Two filters, in either order.
 pub filters_turned : {A : Type 0} (p q : A → Bool) (xs : List A) → filter p (filter q xs) ≡ filter q (filter p xs)
 filters_turned p q [] = refl
 filters_turned p q (x ∷ xs) = by (p x) refl (q x) refl (filters_turned p q xs) where
   by : (a : Bool) → p x ≡ a → (b : Bool) → q x ≡ b → filter p (filter q xs) ≡ filter q (filter p xs) → filter p (filter q (x ∷ xs)) ≡ filter q (filter p (x ∷ xs))
   by true hp true hq rest =
-      ap (filter p) (kept_by q x xs true hq) ∙ kept_by p x (filter q xs) true hp ∙ ap (λ zs. x ∷ zs) rest
-      ∙ sym (ap (filter q) (kept_by p x xs true hp) ∙ kept_by q x (filter p xs) true hq)
-  by true hp false hq rest = ap (filter p) (kept_by q x xs false hq) ∙ rest ∙ sym (ap (filter q) (kept_by p x xs true hp) ∙ kept_by q x (filter p xs) false hq)
-  by false hp true hq rest = ap (filter p) (kept_by q x xs true hq) ∙ kept_by p x (filter q xs) false hp ∙ rest ∙ sym (ap (filter q) (kept_by p x xs false hp))
-  by false hp false hq rest = ap (filter p) (kept_by q x xs false hq) ∙ rest ∙ sym (ap (filter q) (kept_by p x xs false hp))
+      ap (filter p) (kept_if q x xs true hq) ∙ kept_if p x (filter q xs) true hp ∙ ap (λ zs. x ∷ zs) rest
+      ∙ sym (ap (filter q) (kept_if p x xs true hp) ∙ kept_if q x (filter p xs) true hq)
+  by true hp false hq rest = ap (filter p) (kept_if q x xs false hq) ∙ rest ∙ sym (ap (filter q) (kept_if p x xs true hp) ∙ kept_if q x (filter p xs) false hq)
+  by false hp true hq rest = ap (filter p) (kept_if q x xs true hq) ∙ kept_if p x (filter q xs) false hp ∙ rest ∙ sym (ap (filter q) (kept_if p x xs false hp))
+  by false hp false hq rest = ap (filter p) (kept_if q x xs false hq) ∙ rest ∙ sym (ap (filter q) (kept_if p x xs false hp))
 
 -- Whether one passes among those that pass another test.
 pub any_kept : {A : Type 0} (p q : A → Bool) (xs : List A) → list_any p (filter q xs) ≡ list_any (λ x. q x && p x) xs
@@ -55,10 +52,10 @@ filter_reversed {A = A} p (x ∷ xs) =
     ∙ by (p x) refl where
   by : (b : Bool) → p x ≡ b → reverse (filter p xs) ++ filter p (x ∷ []) ≡ reverse (filter p (x ∷ xs))
   by true is =
-      ap (λ zs. reverse (filter p xs) ++ zs) (kept_by p x [] true is) ∙ sym (reverse-append (x ∷ []) (filter p xs))
-      ∙ sym (ap reverse (kept_by p x xs true is))
+      ap (λ zs. reverse (filter p xs) ++ zs) (kept_if p x [] true is) ∙ sym (reverse-append (x ∷ []) (filter p xs))
+      ∙ sym (ap reverse (kept_if p x xs true is))
   by false is =
-      ap (λ zs. reverse (filter p xs) ++ zs) (kept_by p x [] false is) ∙ append_none (reverse (filter p xs)) ∙ sym (ap reverse (kept_by p x xs false is)) where
+      ap (λ zs. reverse (filter p xs) ++ zs) (kept_if p x [] false is) ∙ append_none (reverse (filter p xs)) ∙ sym (ap reverse (kept_if p x xs false is)) where
     append_none : (zs : List A) → zs ++ [] ≡ zs
     append_none [] = refl
     append_none (z ∷ zs) = ap (λ ys. z ∷ ys) (append_none zs)
@@ -95,14 +92,6 @@ found_kept p q (x ∷ xs) only = by (q x) refl (found_kept p q xs only) where
   by : (b : Bool) → q x ≡ b → find p xs ≡ find p (filter q xs) → find p (x ∷ xs) ≡ find p (cond b (x ∷ filter q xs) (filter q xs))
   by true is rest = ap (λ o. cond (p x) (Some x) o) rest
   by false is rest = ap (λ b. cond b (Some x) (find p xs)) (only x is) ∙ rest
-
-pub any_mapped : {A B : Type 0} (p : B → Bool) (f : A → B) (xs : List A) → list_any p (map f xs) ≡ list_any (λ x. p (f x)) xs
-any_mapped p f [] = refl
-any_mapped p f (x ∷ xs) = ap (λ b. p (f x) || b) (any_mapped p f xs)
-
-pub any_alike : {A : Type 0} (p q : A → Bool) (xs : List A) → ((x : A) → p x ≡ q x) → list_any p xs ≡ list_any q xs
-any_alike p q [] same = refl
-any_alike p q (x ∷ xs) same = ap (λ b. b || list_any p xs) (same x) ∙ ap (λ b. q x || b) (any_alike p q xs same)
 
 -- What one of them gives is among what they give.
 pub in_given : {A B : Type 0} (f : A → Option B) (xs : List A) (x : A) (y : B) → Contains xs x → f x ≡ Some y → Contains (filter_map f xs) y

@@ -1,0 +1,4 @@
+pub mod PlainLists
+pub mod PlainOrders
+pub mod SessionNumbers
+pub mod MembersAreSessions
