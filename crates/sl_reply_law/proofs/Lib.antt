@@ -8,3 +8,4 @@ pub mod DeltaCallsHearAnswer
 pub mod RenewingHearsAnswer
 pub mod OpenBallotsAreOwn
 pub mod LeaseHearsAnswer
+pub mod MemberHearsAnswer
