@@ -1,5 +1,7 @@
 pub mod PlainFilters
 pub mod PlainNumbers
+pub mod PlainOrderKept
+pub mod PlainTextOrder
 pub mod AnswerMarksOneCall
 pub mod AnswerFindsItsCall
 pub mod OpenCallsAreKept
@@ -9,3 +11,5 @@ pub mod RenewingHearsAnswer
 pub mod OpenBallotsAreOwn
 pub mod LeaseHearsAnswer
 pub mod MemberHearsAnswer
+pub mod JobsHearAnswer
+pub mod PresentAfterAnswer
