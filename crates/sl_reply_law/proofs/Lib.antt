@@ -13,3 +13,4 @@ pub mod LeaseHearsAnswer
 pub mod MemberHearsAnswer
 pub mod JobsHearAnswer
 pub mod PresentAfterAnswer
+pub mod QuietAfterAnswer
