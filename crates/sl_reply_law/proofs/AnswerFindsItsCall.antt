@@ -4,13 +4,13 @@ use Rattle.sl_host_state.specs.Kept.{HostState}
 use Rattle.sl_host_state.specs.declared.kept.OpenCall.{OpenCall}
 use Rattle.sl_host_state.specs.Stands.{Keeps, kept_call}
 use Rattle.sl_plain.proofs.Lists.{contains_cases, contains_none, find_fails, find_inside, in_map, kept_inside}
-use Rattle.sl_plain.proofs.Numbers.{less_is_other, number_itself}
+use Rattle.sl_plain.proofs.Numbers.{number_itself}
 use Rattle.sl_plain.proofs.Options.{none_is}
 use Rattle.sl_plain.proofs.Lists.{head_is, tail_is}
 use Rattle.sl_trace.specs.Traces.{Setting, Submitted, Trace, outstanding, submitted}
 use Rattle.sl_words.proofs.CaseLaws.{not_both, some_value}
-use Rattle.std.proofs.Common.{ap, arith, inl, inr, refl, subst, suc, sym, zero, ◌∙◌}
-use Rattle.std.proofs.lemmas.List.Elements.{All-contains, All-from_recursion, Contains-append_left, Contains-append_right, Contains-push}
+use Rattle.std.proofs.Common.{ap, arith, inl, inr, refl, subst, suc, sym, ◌∙◌}
+use Rattle.std.proofs.lemmas.List.Elements.{Contains-append_left, Contains-push}
 use Rattle.std.proofs.lemmas.List.{reverse-append}
 use Rattle.std.specs.List.{AllByRecursion, range_with_len}
 use Rattle.std.specs.Prelude.{Bool, Contains, List, None, Option, Some, cond, false, find, is_none, length, map, reverse, true, [], ℕ, ◌++◌, ◌+◌, ◌<◌, ◌==◌, ◌∷◌, ◌≡◌, ◌≤◌, ◌⊎◌}
@@ -51,10 +51,13 @@ alone_in a n m [] is found = tt
 alone_in a n m (d ∷ ms) is found = by (d.call.number == n) refl found (λ f. alone_in a n m ms rest f) where
   both : d.call.number ∷ map (λ d. d.call.number) ms ≡ (a + length ms) ∷ reverse (range_with_len a (length ms))
   both = is ∙ range_turned a (length ms)
+
   first : d.call.number ≡ a + length ms
   first = head_is d.call.number (a + length ms) (map (λ d. d.call.number) ms) (reverse (range_with_len a (length ms))) both
+
   rest : map (λ d. d.call.number) ms ≡ reverse (range_with_len a (length ms))
   rest = tail_is d.call.number (a + length ms) (map (λ d. d.call.number) ms) (reverse (range_with_len a (length ms))) both
+
   by : (b : Bool) → (d.call.number == n) ≡ b → cond b (Some d) (find (λ d. d.call.number == n) ms) ≡ Some m
       → (find (λ d. d.call.number == n) ms ≡ Some m → AllByRecursion (IsOr n m) ms) → AllByRecursion (IsOr n m) (d ∷ ms)
   by true its f deeper = (inr (some_value d m f), all_other n d.call.number m ms its (below a d.call.number ms (let e : d.call.number ≡ a + length ms = first in omega (arith, e)) rest))

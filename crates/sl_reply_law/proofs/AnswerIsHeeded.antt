@@ -5,8 +5,8 @@ use Rattle.sl_host_state.specs.Kept.{HostState}
 use Rattle.sl_host_state.specs.Stands.{Keeps, kept_job}
 use Rattle.sl_host_state.specs.declared.kept.JobState.{JobState}
 use Rattle.sl_host_state.specs.declared.kept.OpenCall.{OpenCall}
-use Rattle.sl_plain.proofs.Options.{some_there, then_value}
-use Rattle.sl_plain.proofs.Lists.{any_of, find_inside, in_map, kept_inside, any_found, contains_first, contains_more}
+use Rattle.sl_plain.proofs.Options.{some_there}
+use Rattle.sl_plain.proofs.Lists.{any_of, find_inside}
 use Rattle.sl_reply_law.proofs.AnswerFindsItsCall.{IsTheCall}
 use Rattle.sl_reply_law.proofs.AnswerMarksOneCall.{told}
 use Rattle.sl_reply_law.proofs.PlainNumbers.{same_number}
@@ -15,14 +15,13 @@ use Rattle.sl_trace.specs.Traces.{Child, Job, Replied, Setting, Submitted, Trace
 use Rattle.sl_trace.specs.declared.effects.Effects.{Effects}
 use Rattle.sl_trace.specs.declared.effects.Entry.{Entry}
 use Rattle.sl_trace.specs.declared.effects.JobReply.{JobReply}
-use Rattle.sl_trace.specs.declared.effects.Purpose.{Purpose}
 use Rattle.sl_trace.specs.declared.input.Answer.{Answer}
 use Rattle.sl_trace.specs.declared.input.Input.TheVariants.{Wake}
-use Rattle.std.proofs.Common.{ap, refl, subst, sym, ◌∙◌}
+use Rattle.std.proofs.Common.{ap, refl, sym, ◌∙◌}
 use Rattle.std.proofs.lemmas.List.Elements.{Contains-append_left}
-use Rattle.std.specs.List.{AllByRecursion, cons_option, list_any}
+use Rattle.std.specs.List.{AllByRecursion, list_any}
 use Rattle.std.specs.Option.{option_map_or}
-use Rattle.std.specs.Prelude.{Bool, Contains, IsTrue, List, None, Option, Some, cond, false, filter, filter_map, find, is_none, is_some, length, map, not, option_map, true, [], ℕ, ◌&&◌, ◌++◌, ◌==◌, ◌∷◌, ◌≡◌, ◌||◌}
+use Rattle.std.specs.Prelude.{Bool, Contains, IsTrue, List, None, Option, Some, cond, false, filter_map, find, is_none, is_some, length, not, true, [], ℕ, ◌&&◌, ◌==◌, ◌∷◌, ◌≡◌, ◌||◌}
 
 -- The step before its input, that has made no call.
 abbrev pub waking : ℕ → Effects → Entry
@@ -53,34 +52,37 @@ module _ (past : Trace) (now : ℕ) (fx : Effects) where
       let one = some_there (find (λ (j : Job). j.number == n) js) there in
       let its = find_inside (λ (j : Job). j.number == n) js one.0 one.1 in
       by one.0 its.0 its.1 (r n) refl where
-    and_both : (a b : Bool) → a ≡ true → b ≡ true → (a && b) ≡ true
-    and_both a b p q = ap (λ c. c && b) p ∙ q
-    none : (k n : ℕ) → r n ≡ false → (b : Bool) → (k == n) ≡ b → (r k && b) ≡ false
-    none k n is true same = ap (λ z. r z && true) (same_number k n same) ∙ ap (λ b. b && true) is
-    none k n is false other = and_false (r k) where
-      and_false : (b : Bool) → (b && false) ≡ false
-      and_false true = refl
-      and_false false = refl
-    by : (j : Job) → Contains js j → (j.number == n) ≡ true → (b : Bool) → r n ≡ b → list_any (λ j. r j.number && j.number == n) js ≡ r n
-    by j inside its true is = any_of (λ (j : Job). r j.number && j.number == n) js j (and_both (r j.number) (j.number == n) (ap r (same_number j.number n its) ∙ is) its) inside ∙ sym is
-    by j inside its false is = no_one (λ (j : Job). r j.number && j.number == n) js (λ j. none j.number n is (j.number == n) refl) ∙ sym is
+        and_both : (a b : Bool) → a ≡ true → b ≡ true → (a && b) ≡ true
+        and_both a b p q = ap (λ c. c && b) p ∙ q
+
+        none : (k n : ℕ) → r n ≡ false → (b : Bool) → (k == n) ≡ b → (r k && b) ≡ false
+        none k n is true same = ap (λ z. r z && true) (same_number k n same) ∙ ap (λ b. b && true) is
+        none k n is false other = and_false (r k) where
+          and_false : (b : Bool) → (b && false) ≡ false
+          and_false true = refl
+          and_false false = refl
+
+        by : (j : Job) → Contains js j → (j.number == n) ≡ true → (b : Bool) → r n ≡ b → list_any (λ j. r j.number && j.number == n) js ≡ r n
+        by j inside its true is = any_of (λ (j : Job). r j.number && j.number == n) js j (and_both (r j.number) (j.number == n) (ap r (same_number j.number n its) ∙ is) its) inside ∙ sym is
+        by j inside its false is = no_one (λ (j : Job). r j.number && j.number == n) js (λ j. none j.number n is (j.number == n) refl) ∙ sym is
 
   -- The host tells whether the answer is heeded.
   pub heeded_is : (st : Setting) (h : HostState) (c : OpenCall) (m : Submitted) (a : Answer) → Keeps h st (waking now fx ∷ past) → IsTheCall (submitted past) c m
       → AllByRecursion (λ r. IsTrue (is_before_input r.reply)) fx.replies → is_heeded_by h c ≡ is_going_on past (told now fx c.number a) (job_of m.call.purpose)
   heeded_is st h c m a k the all =
       ap (λ (z : OpenCall). option_map_or (λ n. list_any (λ j. j.number == n) h.jobs) (job_of z.purpose) true) (sym the.kept) ∙ by (job_of m.call.purpose) refl where
-    es : Trace
-    es = waking now fx ∷ past
-    by : (o : Option ℕ) → job_of m.call.purpose ≡ o → option_map_or (λ n. list_any (λ (j : JobState). j.number == n) h.jobs) o true ≡ is_going_on past (told now fx c.number a) o
-    by None is = refl
-    by (Some n) is =
-        let inside = (find_inside (λ (d : Submitted). d.call.number == c.number) (submitted past) m the.found).0 in
-        let owned = each_of (λ j. IsTrue (is_some (job_numbered st (waking now fx ∷ past) j))) _ n k.owned
+        es : Trace
+        es = waking now fx ∷ past
+
+        by : (o : Option ℕ) → job_of m.call.purpose ≡ o → option_map_or (λ n. list_any (λ (j : JobState). j.number == n) h.jobs) o true ≡ is_going_on past (told now fx c.number a) o
+        by None is = refl
+        by (Some n) is =
+            let inside = (find_inside (λ (d : Submitted). d.call.number == c.number) (submitted past) m the.found).0 in
+            let owned = each_of (λ j. IsTrue (is_some (job_numbered st (waking now fx ∷ past) j))) _ n k.owned
             (Contains-append_left (filter_map (λ (m : Submitted). job_of m.call.purpose) (submitted past)) (filter_map (λ (c : Child). c.job) (children (waking now fx ∷ past))) n
             (in_given (λ (m : Submitted). job_of m.call.purpose) (submitted past) m n inside is)) in
-        ap (list_any (λ (j : JobState). j.number == n)) (sym k.jobs)
-        ∙ any_mapped (λ (j : JobState). j.number == n) (kept_job (waking now fx ∷ past)) (running_jobs st (waking now fx ∷ past))
-        ∙ any_kept (λ (j : Job). j.number == n) (λ j. is_running (waking now fx ∷ past) j.number) (jobs st (waking now fx ∷ past))
-        ∙ any_running (jobs st (waking now fx ∷ past)) n owned (is_running (waking now fx ∷ past))
-        ∙ running_is c.number n a all
+            ap (list_any (λ (j : JobState). j.number == n)) (sym k.jobs)
+            ∙ any_mapped (λ (j : JobState). j.number == n) (kept_job (waking now fx ∷ past)) (running_jobs st (waking now fx ∷ past))
+            ∙ any_kept (λ (j : Job). j.number == n) (λ j. is_running (waking now fx ∷ past) j.number) (jobs st (waking now fx ∷ past))
+            ∙ any_running (jobs st (waking now fx ∷ past)) n owned (is_running (waking now fx ∷ past))
+            ∙ running_is c.number n a all

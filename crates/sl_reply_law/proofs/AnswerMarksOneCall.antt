@@ -1,7 +1,7 @@
 -- What an answer makes of a list of calls: the call that it answers has it, every other is as it was. What is asked of calls and not of
 -- their answers stays.
 use Rattle.sl_host_plain.proofs.PlainLists.{kept_if}
-use Rattle.sl_leases.specs.Leases.{block_of_record, is_lease_call, is_on, spot_of_call, spots_in, value_written, with_spot}
+use Rattle.sl_leases.specs.Leases.{is_lease_call, spot_of_call, spots_in, with_spot}
 use Rattle.sl_area.specs.Layouts.{Layout}
 use Rattle.sl_sector.specs.declared.sector.DeltaRec.{DeltaRec}
 use Rattle.sl_sessions.specs.Sessions.{delta_written, free_write, generation_in, given_number, is_free_purpose, is_renewal, last_delta, renewal_in, seq_in}
@@ -16,7 +16,7 @@ use Rattle.sl_trace.specs.declared.input.Input.TheVariants.{Answer as Told}
 use Rattle.std.proofs.Common.{ap, refl, subst, sym, ◌∙◌}
 use Rattle.std.specs.List.{AllByRecursion, cons_option}
 use Rattle.std.specs.Option.{option_map_or, option_or}
-use Rattle.std.specs.Prelude.{Bool, IsTrue, List, None, Option, Some, cond, false, filter, filter_map, find, is_none, is_some, map, not, option_map, true, [], ℕ, ◌&&◌, ◌==◌, ◌∷◌, ◌≡◌}
+use Rattle.std.specs.Prelude.{Bool, IsTrue, List, None, Option, Some, cond, false, filter, filter_map, find, is_none, is_some, map, not, option_map, true, [], ℕ, ◌==◌, ◌∷◌, ◌≡◌}
 
 -- The entry that brings the answer: it has made no call yet.
 abbrev pub told : ℕ → Effects → ℕ → Answer → Entry
@@ -53,6 +53,7 @@ module _ (past : Trace) (now : ℕ) (fx : Effects) (n : ℕ) (a : Answer) where
     kept_answer : (o : Option Answered) → d.answer ≡ o → is_some o ≡ true → option_or d.answer (Some (answer_of past (told now fx n a) a d.call)) ≡ d.answer
     kept_answer (Some x) is h = ap (λ o. option_or o (Some (answer_of past (told now fx n a) a d.call))) is ∙ sym is
     kept_answer None is h = absurd cc
+
     by : (b : Bool) → option_or d.answer (Some (answer_of past (told now fx n a) a d.call)) ≡ d.answer → hear_by d b ≡ d
     by true same = ap (λ o. record d { answer = o }) same
     by false same = refl
@@ -142,6 +143,7 @@ module _ (past : Trace) (now : ℕ) (fx : Effects) (n : ℕ) (a : Answer) where
   open_heard (d ∷ ms) = by (d.call.number == n) refl (is_none d.answer) refl (open_heard ms) where
     goal : Type 0
     goal = unanswered (map hear (d ∷ ms)) ≡ filter (λ d. not (d.call.number == n)) (unanswered (d ∷ ms))
+
     by : (b : Bool) → (d.call.number == n) ≡ b → (o : Bool) → is_none d.answer ≡ o → unanswered (map hear ms) ≡ filter (λ d. not (d.call.number == n)) (unanswered ms)
         → unanswered (map hear (d ∷ ms)) ≡ filter (λ d. not (d.call.number == n)) (unanswered (d ∷ ms))
     by false its true open_yet rest =
@@ -151,12 +153,12 @@ module _ (past : Trace) (now : ℕ) (fx : Effects) (n : ℕ) (a : Answer) where
     by true its true open_yet rest =
         kept_if (λ (e : Submitted). is_none e.answer) (hear d) (map hear ms) false (ap (λ b. is_none (hear_by d b).answer) its ∙ now_answered d.answer open_yet) ∙ rest
         ∙ sym (ap (filter (λ d. not (d.call.number == n))) (kept_if (λ (e : Submitted). is_none e.answer) d ms true open_yet) ∙ kept_if (λ (d : Submitted). not (d.call.number == n)) d (unanswered ms) false (ap not its)) where
-      now_answered : (o : Option Answered) → is_none o ≡ true → is_none (option_or o (Some (answer_of past (told now fx n a) a d.call))) ≡ false
-      now_answered None h = refl
-      now_answered (Some x) h = refl
+          now_answered : (o : Option Answered) → is_none o ≡ true → is_none (option_or o (Some (answer_of past (told now fx n a) a d.call))) ≡ false
+          now_answered None h = refl
+          now_answered (Some x) h = refl
     by b its false open_yet rest =
         kept_if (λ (e : Submitted). is_none e.answer) (hear d) (map hear ms) false (ap (λ (e : Submitted). is_none e.answer) (answered_before d (answered_is d.answer open_yet)) ∙ open_yet) ∙ rest
         ∙ sym (ap (filter (λ d. not (d.call.number == n))) (kept_if (λ (e : Submitted). is_none e.answer) d ms false open_yet)) where
-      answered_is : (o : Option Answered) → is_none o ≡ false → is_some o ≡ true
-      answered_is (Some x) h = refl
-      answered_is None h = absurd cc
+          answered_is : (o : Option Answered) → is_none o ≡ false → is_some o ≡ true
+          answered_is (Some x) h = refl
+          answered_is None h = absurd cc

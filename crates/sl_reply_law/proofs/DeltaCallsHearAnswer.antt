@@ -9,14 +9,12 @@ use Rattle.sl_host_state.specs.Kept.{HostState, JoinState}
 use Rattle.sl_host_state.specs.Stands.{AreInTurn, JoinStands, is_asked_in, kept_call, newest_of}
 use Rattle.sl_host_state.specs.declared.kept.AskedAt.{AskedAt}
 use Rattle.sl_host_state.specs.declared.kept.JoinCall.{JoinCall}
-use Rattle.sl_host_state.specs.declared.kept.OpenCall.{OpenCall}
 use Rattle.sl_plain.proofs.Lists.{any_of, contains_cases, contains_map, contains_none, head_is, kept}
 use Rattle.sl_reply_law.proofs.AnswerFindsItsCall.{IsOr}
 use Rattle.sl_reply_law.proofs.AnswerMarksOneCall.{all_answered, answered_still, found_heard, hear, hear_by, not_its, picked, same_call, told}
-use Rattle.sl_reply_law.proofs.PlainFilters.{all_kept, found_kept, given_kept}
-use Rattle.sl_sector.specs.declared.sector.DeltaRec.{DeltaRec}
-use Rattle.sl_sessions.specs.Deltas.{claim_of, first_answered, first_bytes, join_step_of}
-use Rattle.sl_sessions.specs.Sessions.{delta_written, is_delta_purpose, is_join_call, is_survey_purpose, join_call, same_join_step}
+use Rattle.sl_reply_law.proofs.PlainFilters.{found_kept, given_kept}
+use Rattle.sl_sessions.specs.Deltas.{claim_of, join_step_of}
+use Rattle.sl_sessions.specs.Sessions.{delta_written, is_delta_purpose, is_join_call, is_survey_purpose, join_call}
 use Rattle.sl_sessions.specs.Watching.{look_of, sightings}
 use Rattle.sl_sessions.specs.declared.sighting.Sighting.{Sighting}
 use Rattle.sl_time.specs.Times.{fail}
@@ -28,12 +26,12 @@ use Rattle.sl_trace.specs.declared.effects.JoinStep.{JoinStep}
 use Rattle.sl_trace.specs.declared.effects.Purpose.TheVariants.{Joining, Lease, Leaving, Renewal, RequestRead, RequestWrite, SeeRequest, Survey, ValueRead, ValueWrite}
 use Rattle.sl_trace.specs.declared.effects.Purpose.{Purpose}
 use Rattle.sl_trace.specs.declared.input.Answer.{Answer}
-use Rattle.sl_words.proofs.CaseLaws.{is_false, none_some, not_both, some_value, true_is_false}
+use Rattle.sl_words.proofs.CaseLaws.{is_false, none_some, not_both, true_is_false}
 use Rattle.sl_words.specs.Words.{some_is}
 use Rattle.std.proofs.Common.{ap, inl, inr, refl, subst, sym, ◌∙◌}
 use Rattle.std.specs.List.{AllByRecursion, cons_option, list_any}
 use Rattle.std.specs.Option.{option_or}
-use Rattle.std.specs.Prelude.{Bool, Contains, IsTrue, List, None, Option, Some, cond, false, filter, filter_map, find, is_some, map, nat_lt, option_and_then, option_map, true, [], ℕ, ◌&&◌, ◌+◌, ◌-◌, ◌==◌, ◌∷◌, ◌≡◌, ◌⊎◌, ◌||◌}
+use Rattle.std.specs.Prelude.{Bool, Contains, IsTrue, List, None, Option, Some, cond, false, filter, filter_map, is_some, map, nat_lt, option_and_then, option_map, true, [], ℕ, ◌&&◌, ◌+◌, ◌-◌, ◌==◌, ◌∷◌, ◌≡◌, ◌⊎◌, ◌||◌}
 
 -- The calls on delta sectors.
 abbrev pub deltas : List Submitted → List Submitted
@@ -165,9 +163,9 @@ module _ (past : Trace) (now : ℕ) (fx : Effects) (a : Answer) (m : Submitted) 
         | false ↦ None
         | true ↦ option_and_then (λ (x : Answered). option_map (λ bytes. record { before = m.reading; after = x.reading; bytes = sector_of g bytes (id - 1) }) (bytes_given x.answer)) o
       ]) open_yet ∙ by (is_survey_purpose m.call.purpose) where
-    by : (b : Bool) → elim b as (λ z. Option Sighting) [ false ↦ None | true ↦ None ] ≡ None
-    by true = refl
-    by false = refl
+        by : (b : Bool) → elim b as (λ z. Option Sighting) [ false ↦ None | true ↦ None ] ≡ None
+        by true = refl
+        by false = refl
 
   -- With the bytes of this one in front, if it is one.
   with_look : (f : List ℕ → Sighting) (zs : List Sighting) (survey : Bool) (o : Option (List ℕ))
@@ -188,11 +186,12 @@ module _ (past : Trace) (now : ℕ) (fx : Effects) (a : Answer) (m : Submitted) 
           | false ↦ before id
           | true ↦ elim (bytes_given a) as (λ z. List Sighting) [ None ↦ before id | Some bytes ↦ record { before = m.reading; after = r; bytes = sector_of z bytes (id - 1) } ∷ before id ]
         ]
+
     by : (b : Bool) → is_delta_purpose m.call.purpose ≡ b → sightings g id (map hears ms) ≡ seen_with h (kept_call m) a before id
     by true is =
         let k = newest ms open_yet inside turn is in
         let tail : filter_map (look_of g id) k.rest ≡ before id =
-            sym (ap (λ o. cons_option o (filter_map (look_of g id) k.rest)) (looks_not_yet g id open_yet)) ∙ sym (ap (filter_map (look_of g id)) k.first) ∙ sym (of_deltas g id ms) ∙ seen in
+        sym (ap (λ o. cons_option o (filter_map (look_of g id) k.rest)) (looks_not_yet g id open_yet)) ∙ sym (ap (filter_map (look_of g id)) k.first) ∙ sym (of_deltas g id ms) ∙ seen in
         of_deltas g id (map hears ms) ∙ ap (filter_map (look_of g id)) (newest_heard ms its open_yet k) ∙ ap (cons_option (look_of g id heard)) tail
         ∙ with_look (λ bytes. record { before = m.reading; after = now; bytes = sector_of g bytes (id - 1) }) (before id) (is_survey_purpose m.call.purpose) (bytes_given a)
         ∙ ap (λ r. seen_by g r) (sym reading) ∙ ap (λ z. seen_by z h.reading) (sym layout)
@@ -216,6 +215,7 @@ module _ (past : Trace) (now : ℕ) (fx : Effects) (a : Answer) (m : Submitted) 
     first : (b : Bool) (rest : List Submitted) → option_and_then f (cond b (Some m) (join_call rest step)) ≡ kept_one → option_and_then f (cond b (Some heard) (join_call rest step)) ≡ cond b (f heard) kept_one
     first true rest same = refl
     first false rest same = same
+
     by : (b : Bool) → is_delta_purpose m.call.purpose ≡ b → option_and_then f (join_call (map hears ms) step) ≡ cond (is_join_call step m.call.purpose) (f heard) kept_one
     by true is =
         let k = newest ms open_yet inside turn is in
@@ -239,20 +239,24 @@ module _ (past : Trace) (now : ℕ) (fx : Effects) (a : Answer) (m : Submitted) 
     -- The kept newest call of a call.
     made : Submitted → Option JoinStep → Option JoinCall
     made e o = option_map (λ step. record { step = step; made = e.reading; answered = option_map (λ x. x.reading) e.answer }) o
+
     none_stays : (b : Bool) → None ≡ cond b (option_map (answered_at h.reading) None) None
     none_stays true = refl
     none_stays false = refl
+
     it_is : (step : JoinStep) → join_step_of m.call.purpose ≡ Some step → made m (Some step) ≡ j → made heard (Some step) ≡ cond (is_some (join_step_of m.call.purpose)) (option_map (answered_at h.reading) j) j
     it_is step is same =
         ap (λ r. Some (record { step = step; made = m.reading; answered = Some r })) (sym reading)
         ∙ ap (λ o. option_map (answered_at h.reading) (Some (record { step = step; made = m.reading; answered = option_map (λ (x : Answered). x.reading) o }))) (sym open_yet)
         ∙ ap (option_map (answered_at h.reading)) same
         ∙ sym (ap (λ b. cond b (option_map (answered_at h.reading) j) j) (ap is_some is))
+
     other_is : (step : JoinStep) → join_step_of d.call.purpose ≡ Some step → (d.call.number == m.call.number) ≡ false → is_delta_purpose m.call.purpose ≡ false
     other_is step is other = is_false (is_delta_purpose m.call.purpose) (λ delta.
         let k = newest (d ∷ ms) open_yet inside turn delta in
         let front : d ∷ deltas ms ≡ m ∷ k.rest = sym (kept_if (λ (d : Submitted). is_delta_purpose d.call.purpose) d ms true (step_is_delta d.call.purpose step is)) ∙ k.first in
         not_both (m.call.number == m.call.number) its (subst (λ (z : Submitted). (z.call.number == m.call.number) ≡ false) (head_is d m (deltas ms) k.rest front) other))
+
     by : (o : Option JoinStep) → join_step_of d.call.purpose ≡ o → IsOr m.call.number m d
         → newest_of (map hears (d ∷ ms)) ≡ cond (is_some (join_step_of m.call.purpose)) (option_map (answered_at h.reading) j) j
     by None is either =
@@ -285,9 +289,11 @@ module _ (past : Trace) (now : ℕ) (fx : Effects) (a : Answer) (m : Submitted) 
     one_same : (d : Submitted) → p heard ≡ false → IsOr m.call.number m d → p (hears d) ≡ p d
     one_same d is (inl other) = ap p (not_its past now fx m.call.number a d other)
     one_same d is (inr same) = ap p (ap (hear past now fx m.call.number a) same ∙ heard_is its open_yet) ∙ is ∙ sym before ∙ sym (ap p same)
+
     all_same : (ds : List Submitted) → p heard ≡ false → AllByRecursion (IsOr m.call.number m) ds → list_any p (map hears ds) ≡ list_any p ds
     all_same [] is all = refl
     all_same (d ∷ ds) is all = ap (λ b. b || list_any p (map hears ds)) (one_same d is all.0) ∙ ap (λ b. p d || b) (all_same ds is all.1)
+
     by : (b : Bool) → p heard ≡ b → list_any p (map hears ms) ≡ (b || list_any p ms)
     by true is = any_of p (map hears ms) heard is (subst (Contains (map hears ms)) (heard_is its open_yet) (contains_map hears ms m inside))
     by false is = all_same ms is alone
@@ -306,9 +312,9 @@ module _ (past : Trace) (now : ℕ) (fx : Effects) (a : Answer) (m : Submitted) 
   not_fresh : (st : Setting) (at owner : ℕ) → m.answer ≡ None → (some_is (λ o. o == owner) (owner_asked m.call.purpose) && is_fresh st at m) ≡ false
   not_fresh st at owner open_yet = ap (λ o. some_is (λ z. z == owner) (owner_asked m.call.purpose) && some_is (λ (x : Answered). is_ok_answer x.answer && nat_lt at (x.reading + fail st.timing)) o) open_yet
       ∙ and_false (some_is (λ z. z == owner) (owner_asked m.call.purpose)) where
-    and_false : (b : Bool) → (b && false) ≡ false
-    and_false true = refl
-    and_false false = refl
+        and_false : (b : Bool) → (b && false) ≡ false
+        and_false true = refl
+        and_false false = refl
 
   pub asked_is : (st : Setting) (h : HostState) (asked : List AskedAt) (ms : List Submitted) (at owner : ℕ) → (m.call.number == m.call.number) ≡ true → m.answer ≡ None → Contains ms m
       → AllByRecursion (IsOr m.call.number m) ms → h.reading ≡ now → is_asked st ms at owner ≡ is_asked_in st asked at owner

@@ -3,12 +3,12 @@ use Rattle.sl_area.specs.Layouts.{Layout}
 use Rattle.sl_area.specs.Places.{area_blocks, blocks_in, leader_of}
 use Rattle.sl_host_state.specs.Hears.{blocks_of_step, blocks_shown, concludes_at, is_last_phase, is_phase_step, lease_hearing, settles_at, stop_shown, top_hearing, verified_at, won_at, won_hearing}
 use Rattle.sl_host_state.specs.Kept.{LeaseState}
-use Rattle.sl_host_state.specs.Stands.{IsWaiting, LeaseStands, free_written, top_mbal}
+use Rattle.sl_host_state.specs.Stands.{LeaseStands, free_written, top_mbal}
 use Rattle.sl_host_state.specs.declared.kept.LeaseCall.{LeaseCall}
 use Rattle.sl_host_state.specs.declared.kept.OpenCall.{OpenCall}
 use Rattle.sl_host_state.specs.declared.kept.TopNumber.{TopNumber}
 use Rattle.sl_leases.specs.Ballots.{is_ahead, same_owner, stop_of, value_of}
-use Rattle.sl_leases.specs.Leases.{Area_read, Phase1_read, Phase2_read, Phase2_write, Read_before_free, StepKind, ballot_after, block_of_record, block_submitted, block_written, blocks_given, concludes, ended_ballot, free_left, is_area_read, is_at, is_free_write, is_leader_of, is_phase_read, kind_of_step, last_blocks, leader_of_record, leader_written, lease_step, may_show_shared, name_sought, open_ballot, same_kind, settles_free, shows_settled, stop_in, value_in_end, verified_by, verified_name, was_settled, won_by}
+use Rattle.sl_leases.specs.Leases.{Area_read, Phase1_read, Phase2_read, Phase2_write, Read_before_free, StepKind, block_of_record, block_submitted, block_written, blocks_given, concludes, ended_ballot, free_left, is_area_read, is_at, is_free_write, is_leader_of, is_phase_read, kind_of_step, last_blocks, leader_of_record, leader_written, lease_step, may_show_shared, name_sought, open_ballot, same_kind, settles_free, shows_settled, stop_in, value_in_end, verified_name, won_by}
 use Rattle.sl_leases.specs.declared.lease.Stop.{Stop}
 use Rattle.sl_plain.proofs.Options.{mapped_value}
 use Rattle.sl_reply_law.proofs.PlainNumbers.{same_number}
@@ -17,16 +17,16 @@ use Rattle.sl_sector.specs.declared.sector.Block.{Block}
 use Rattle.sl_sector.specs.declared.sector.Leader.{Leader}
 use Rattle.sl_sector.specs.declared.sector.Owner.{Owner}
 use Rattle.sl_sector.specs.declared.sector.Rec.{Rec}
-use Rattle.sl_trace.specs.Traces.{Answered, Submitted, bytes_given, gave, is_ok_answer, record_of}
-use Rattle.sl_trace.specs.declared.effects.LeaseStep.TheVariants.{ReadBeforeFree, ReadArea, Phase1Read, Phase2Read, Phase1Write}
+use Rattle.sl_trace.specs.Traces.{Submitted, bytes_given, is_ok_answer, record_of}
+use Rattle.sl_trace.specs.declared.effects.LeaseStep.TheVariants.{ReadBeforeFree, ReadArea, Phase1Read, Phase2Read}
 use Rattle.sl_trace.specs.declared.effects.LeaseStep.{LeaseStep}
 use Rattle.sl_trace.specs.declared.effects.Purpose.{Purpose}
 use Rattle.sl_trace.specs.declared.effects.Work.{Work}
 use Rattle.sl_trace.specs.declared.input.Answer.TheVariants.{Failed, Read, Written}
 use Rattle.sl_trace.specs.declared.input.Answer.{Answer}
-use Rattle.sl_words.proofs.CaseLaws.{none_some, some_value, true_is_false}
+use Rattle.sl_words.proofs.CaseLaws.{none_some, true_is_false}
 use Rattle.sl_words.specs.Words.{choose, some_is}
-use Rattle.std.proofs.Common.{ap, arith, refl, subst, sym, ◌∙◌}
+use Rattle.std.proofs.Common.{ap, refl, subst, sym, ◌∙◌}
 use Rattle.std.specs.List.{AllByRecursion}
 use Rattle.std.specs.Prelude.{Bool, IsTrue, List, None, Option, Some, cond, false, is_some, not, option_and_then, option_map, true, unwrap_or, ℕ, ◌&&◌, ◌==◌, ◌||◌, ◌∷◌, ◌≡◌}
 
@@ -77,6 +77,7 @@ given_at g step (Some bytes) = by_step g step bytes
 module _ (g : Layout) (lockspace : List ℕ) (self : Owner) (l : LeaseState) (m : Submitted) (ms : List Submitted) (work : Work) (step : LeaseStep) (at now : ℕ) (a : Answer) (heeded : Bool) where
   abbrev none : Submitted
   none = record m { answer = None }
+
   abbrev heard : Submitted
   heard = record m { answer = Some (record { at = at; reading = now; answer = a; heeded = heeded }) }
 
@@ -96,10 +97,11 @@ module _ (g : Layout) (lockspace : List ℕ) (self : Owner) (l : LeaseState) (m 
       chosen : (t : Bool) → elim (choose t name) as (λ z. List ℕ) [ Some name ↦ name | None ↦ verified_name g lockspace ms ] ≡ unwrap_or (choose t name) l.name
       chosen true = refl
       chosen false = same
+
     by : (o : Option (List ℕ))
         → elim (elim o as (λ z. Option (List ℕ)) [ None ↦ None | Some name ↦ None ]) as (λ z. List ℕ) [ Some name ↦ name | None ↦ verified_name g lockspace ms ] ≡ l.name
         → elim (elim o as (λ z. Option (List ℕ)) [ None ↦ None | Some name ↦ elim (option_and_then (leader_of g) (bytes_given a)) as (λ z. Option (List ℕ)) [ None ↦ None | Some d ↦ choose (is_leader_of g lockspace name d) name ] ])
-          as (λ z. List ℕ) [ Some name ↦ name | None ↦ verified_name g lockspace ms ]
+        as (λ z. List ℕ) [ Some name ↦ name | None ↦ verified_name g lockspace ms ]
         ≡ unwrap_or (option_and_then (λ name. option_and_then (λ d. choose (is_leader_of g lockspace name d) name) (option_and_then (leader_of g) (bytes_given a))) o) l.name
     by None same = same
     by (Some name) same = by_leader name (option_and_then (leader_of g) (bytes_given a)) same
@@ -109,17 +111,21 @@ module _ (g : Layout) (lockspace : List ℕ) (self : Owner) (l : LeaseState) (m 
     both : (b : Bool) → b ≡ (b && true)
     both true = refl
     both false = refl
+
     never : (b : Bool) → false ≡ (b && false)
     never true = refl
     never false = refl
+
     cleared : (ok : Bool) → may_show_shared ms ≡ l.shown → elim ok as (λ z. Bool) [ true ↦ false | false ↦ may_show_shared ms ] ≡ (l.shown && not ok)
     cleared true same = never l.shown
     cleared false same = same ∙ both l.shown
+
     by_mode : (b : Block) (shared : Bool) → not shared ≡ clears
         → elim shared as (λ z. Bool) [ true ↦ true | false ↦ may_show_shared ms ] ≡ l.shown
         → elim shared as (λ z. Bool) [ true ↦ true | false ↦ elim (is_ok_answer a) as (λ z. Bool) [ true ↦ false | false ↦ may_show_shared ms ] ] ≡ (l.shown && not (clears && is_ok_answer a))
     by_mode b true is same = same ∙ both l.shown ∙ ap (λ c. l.shown && not (c && is_ok_answer a)) is
     by_mode b false is same = cleared (is_ok_answer a) same ∙ ap (λ c. l.shown && not (c && is_ok_answer a)) is
+
     by : (o : Option Block) → some_is (λ b. not b.shared) o ≡ clears
         → elim o as (λ z. Bool) [ None ↦ may_show_shared ms | Some b ↦ elim b.shared as (λ z. Bool) [ true ↦ true | false ↦ may_show_shared ms ] ] ≡ l.shown
         → elim o as (λ z. Bool) [ None ↦ may_show_shared ms | Some b ↦ elim b.shared as (λ z. Bool) [ true ↦ true | false ↦ elim (is_ok_answer a) as (λ z. Bool) [ true ↦ false | false ↦ may_show_shared ms ] ] ]
@@ -193,9 +199,11 @@ module _ (g : Layout) (lockspace : List ℕ) (self : Owner) (l : LeaseState) (m 
     stays true true none_is o = absurd (true_is_false none_is)
     stays true false none_is o = refl
     stays false c none_is o = refl
+
     over : (c : Bool) (o p : Option ℕ) → o ≡ p → elim c as (λ z. Option ℕ) [ true ↦ None | false ↦ o ] ≡ cond c None p
     over true o p same = refl
     over false o p same = same
+
     by : (o : Option Block) → block_written m ≡ o → own_by o ≡ l.own → ballot_by o false ≡ l.ballot → ballot_by o (concludes g heard ms) ≡ cond (heeded && concludes_at step (stop_shown l (blocks_shown g step a))) None l.ballot
     by (Some b) writes own same = same ∙ stays heeded (concludes_at step (stop_shown l (blocks_shown g step a))) (ap (concludes_at step) (no_stop (no_bytes fits b writes))) l.ballot
     by None writes own same =
@@ -227,38 +235,43 @@ module _ (g : Layout) (lockspace : List ℕ) (self : Owner) (l : LeaseState) (m 
       → settles_free g self n heard ≡ settles_at g self step frees n a
   settles_is is fits frees writes n =
       ap (λ b. settles_by n (leader_written m) b a) (at_step Read_before_free m work step is) ∙ by a fits (leader_written m) refl where
-    nothing : (b : Bool) → (false || elim b as (λ z. Bool) [ false ↦ false | true ↦ false ]) ≡ false
-    nothing true = refl
-    nothing false = refl
-    no_more : (b c : Bool) → ((b && true) || elim c as (λ z. Bool) [ false ↦ false | true ↦ false ]) ≡ b
-    no_more true c = refl
-    no_more false true = refl
-    no_more false false = refl
-    never : (b c : Bool) → ((b && false) || elim c as (λ z. Bool) [ false ↦ false | true ↦ false ]) ≡ false
-    never true true = refl
-    never true false = refl
-    never false true = refl
-    never false false = refl
-    free_one : (d : Leader) (held : Bool) → (d.lver == n && not held) ≡ some_is (λ f. f == n) (choose (not held) d.lver)
-    free_one d true = and_false (d.lver == n) where
-      and_false : (b : Bool) → (b && false) ≡ false
-      and_false true = refl
-      and_false false = refl
-    free_one d false = and_true (d.lver == n) where
-      and_true : (b : Bool) → (b && true) ≡ b
-      and_true true = refl
-      and_true false = refl
-    free_is : (w : Option Leader) → some_is (λ d. d.lver == n && not d.held) w ≡ some_is (λ f. f == n) (option_and_then (λ d. choose (not d.held) d.lver) w)
-    free_is None = refl
-    free_is (Some d) = free_one d d.held
-    by : (x : Answer) → (is_some (bytes_given x) ≡ true → record_of m.call.op ≡ None) → (w : Option Leader) → leader_written m ≡ w
-        → settles_by n w (same_kind (kind_of_step step) Read_before_free) x ≡ settles_at g self step frees n x
-    by (Read bytes) asked w is_w =
-        ap (λ o. settles_by n o (same_kind (kind_of_step step) Read_before_free) (Read bytes)) (sym is_w ∙ ap (λ (r : Option Rec). option_and_then leader_of_record r) (asked refl)) ∙ settles_read step frees n bytes
-    by Written asked w is_w =
-        no_more (some_is (λ d. d.lver == n && not d.held) w) (same_kind (kind_of_step step) Read_before_free) ∙ free_is w
-        ∙ ap (λ o. some_is (λ f. f == n) (option_and_then (λ d. choose (not d.held) d.lver) o)) (sym is_w) ∙ ap (some_is (λ f. f == n)) writes ∙ settles_written step frees n
-    by Failed asked w is_w = never (some_is (λ d. d.lver == n && not d.held) w) (same_kind (kind_of_step step) Read_before_free) ∙ settles_failed step frees n
+        nothing : (b : Bool) → (false || elim b as (λ z. Bool) [ false ↦ false | true ↦ false ]) ≡ false
+        nothing true = refl
+        nothing false = refl
+
+        no_more : (b c : Bool) → ((b && true) || elim c as (λ z. Bool) [ false ↦ false | true ↦ false ]) ≡ b
+        no_more true c = refl
+        no_more false true = refl
+        no_more false false = refl
+
+        never : (b c : Bool) → ((b && false) || elim c as (λ z. Bool) [ false ↦ false | true ↦ false ]) ≡ false
+        never true true = refl
+        never true false = refl
+        never false true = refl
+        never false false = refl
+
+        free_one : (d : Leader) (held : Bool) → (d.lver == n && not held) ≡ some_is (λ f. f == n) (choose (not held) d.lver)
+        free_one d true = and_false (d.lver == n) where
+          and_false : (b : Bool) → (b && false) ≡ false
+          and_false true = refl
+          and_false false = refl
+        free_one d false = and_true (d.lver == n) where
+          and_true : (b : Bool) → (b && true) ≡ b
+          and_true true = refl
+          and_true false = refl
+
+        free_is : (w : Option Leader) → some_is (λ d. d.lver == n && not d.held) w ≡ some_is (λ f. f == n) (option_and_then (λ d. choose (not d.held) d.lver) w)
+        free_is None = refl
+        free_is (Some d) = free_one d d.held
+
+        by : (x : Answer) → (is_some (bytes_given x) ≡ true → record_of m.call.op ≡ None) → (w : Option Leader) → leader_written m ≡ w
+            → settles_by n w (same_kind (kind_of_step step) Read_before_free) x ≡ settles_at g self step frees n x
+        by (Read bytes) asked w is_w =
+            ap (λ o. settles_by n o (same_kind (kind_of_step step) Read_before_free) (Read bytes)) (sym is_w ∙ ap (λ (r : Option Rec). option_and_then leader_of_record r) (asked refl)) ∙ settles_read step frees n bytes
+        by Written asked w is_w =
+            no_more (some_is (λ d. d.lver == n && not d.held) w) (same_kind (kind_of_step step) Read_before_free) ∙ free_is w
+            ∙ ap (λ o. some_is (λ f. f == n) (option_and_then (λ d. choose (not d.held) d.lver) o)) (sym is_w) ∙ ap (some_is (λ f. f == n)) writes ∙ settles_written step frees n
+        by Failed asked w is_w = never (some_is (λ d. d.lver == n && not d.held) w) (same_kind (kind_of_step step) Read_before_free) ∙ settles_failed step frees n
 
   left_before : free_left g self (none ∷ ms) ≡ l.won → free_left g self ms ≡ l.won
   left_before = by (free_left g self ms) where
@@ -267,6 +280,7 @@ module _ (g : Layout) (lockspace : List ℕ) (self : Owner) (l : LeaseState) (m 
     unsettled n true false = refl
     unsettled n false true = refl
     unsettled n false false = refl
+
     by : (o : Option ℕ) → option_and_then (λ n. choose (not (settles_free g self n none)) n) o ≡ l.won → o ≡ l.won
     by None same = same
     by (Some n) same = unsettled n (is_free_write n none) (is_at Read_before_free none) ∙ same
@@ -274,7 +288,7 @@ module _ (g : Layout) (lockspace : List ℕ) (self : Owner) (l : LeaseState) (m 
   -- The instance that it wins, by the blocks that it shows and the own block.
   ended_by : (last : Bool) (bs : Option (List (Option Block))) (own : Option Block)
       → option_and_then (λ p. choose (same_owner p.1 self) p.0)
-        (elim last as (λ z. Option (ℕ × Owner)) [ false ↦ None | true ↦ option_and_then (λ b. option_and_then (λ blocks. value_in_end b (stop_of b blocks)) bs) own ])
+      (elim last as (λ z. Option (ℕ × Owner)) [ false ↦ None | true ↦ option_and_then (λ b. option_and_then (λ blocks. value_in_end b (stop_of b blocks)) bs) own ])
       ≡ cond (last && some_is (λ s. not (is_some s)) (option_and_then (λ b. option_map (stop_of b) bs) own)) (option_and_then (λ b. choose (same_owner (value_of b) self) b.lver) own) None
   ended_by false bs own = refl
   ended_by true None None = refl
@@ -292,16 +306,19 @@ module _ (g : Layout) (lockspace : List ℕ) (self : Owner) (l : LeaseState) (m 
     ended bs o =
         option_and_then (λ p. choose (same_owner p.1 self) p.0)
         (elim (is_last_phase step) as (λ z. Option (ℕ × Owner)) [ false ↦ None | true ↦ option_and_then (λ b. option_and_then (λ blocks. value_in_end b (stop_of b blocks)) bs) o ])
+
     as_shown : option_and_then (λ p. choose (same_owner p.1 self) p.0) (ended_ballot g heard ms)
         ≡ option_and_then (λ p. choose (same_owner p.1 self) p.0)
-          (elim (is_last_phase step) as (λ z. Option (ℕ × Owner)) [ false ↦ None | true ↦ option_and_then (λ b. option_and_then (λ blocks. value_in_end b (stop_of b blocks)) (blocks_shown g step a)) (block_submitted ms) ])
+        (elim (is_last_phase step) as (λ z. Option (ℕ × Owner)) [ false ↦ None | true ↦ option_and_then (λ b. option_and_then (λ blocks. value_in_end b (stop_of b blocks)) (blocks_shown g step a)) (block_submitted ms) ])
     as_shown =
         ap (λ last. option_and_then (λ p. choose (same_owner p.1 self) p.0)
         (elim last as (λ z. Option (ℕ × Owner)) [ false ↦ None | true ↦ option_and_then (λ b. option_and_then (λ blocks. value_in_end b (stop_of b blocks)) (blocks_given g heard)) (block_submitted ms) ])) (at_step Phase2_read m work step is ∙ last_kind step)
         ∙ ap (λ bs. option_and_then (λ p. choose (same_owner p.1 self) p.0)
-          (elim (is_last_phase step) as (λ z. Option (ℕ × Owner)) [ false ↦ None | true ↦ option_and_then (λ b. option_and_then (λ blocks. value_in_end b (stop_of b blocks)) bs) (block_submitted ms) ])) (blocks_are is)
+        (elim (is_last_phase step) as (λ z. Option (ℕ × Owner)) [ false ↦ None | true ↦ option_and_then (λ b. option_and_then (λ blocks. value_in_end b (stop_of b blocks)) bs) (block_submitted ms) ])) (blocks_are is)
+
     no_blocks : bytes_given a ≡ None → blocks_shown g step a ≡ None
     no_blocks none_given = ap (λ o. option_and_then (blocks_of_step g step) o) none_given
+
     by : (o : Option Block) → block_written m ≡ o → own_by o ≡ l.own
         → option_and_then (λ p. choose (same_owner p.1 self) p.0) (ended_ballot g heard ms) ≡ won_at self step l.own (stop_shown l (blocks_shown g step a))
     by None writes same =
@@ -312,14 +329,16 @@ module _ (g : Layout) (lockspace : List ℕ) (self : Owner) (l : LeaseState) (m 
         ∙ ap (λ bs. cond (is_last_phase step && some_is (λ s. not (is_some s)) (option_and_then (λ b. option_map (stop_of b) bs) (block_submitted ms))) (option_and_then (λ b. choose (same_owner (value_of b) self) b.lver) (block_submitted ms)) None) (no_blocks (no_bytes fits b writes))
         ∙ neither (is_last_phase step) (block_submitted ms)
         ∙ sym (ap (λ s. won_at self step l.own s) (no_stop (no_bytes fits b writes)) ∙ never (is_last_phase step)) where
-      neither : (last : Bool) (o : Option Block)
-          → cond (last && some_is (λ s. not (is_some s)) (option_and_then (λ b. option_map (stop_of b) None) o)) (option_and_then (λ b. choose (same_owner (value_of b) self) b.lver) o) None ≡ None
-      neither true None = refl
-      neither true (Some b) = refl
-      neither false o = refl
-      never : (last : Bool) → cond (last && false) (option_and_then (λ b. choose (same_owner (value_of b) self) b.lver) l.own) None ≡ None
-      never true = refl
-      never false = refl
+          neither : (last : Bool) (o : Option Block)
+              → cond (last && some_is (λ s. not (is_some s)) (option_and_then (λ b. option_map (stop_of b) None) o)) (option_and_then (λ b. choose (same_owner (value_of b) self) b.lver) o) None ≡ None
+          neither true None = refl
+          neither true (Some b) = refl
+          neither false o = refl
+
+          never : (last : Bool) → cond (last && false) (option_and_then (λ b. choose (same_owner (value_of b) self) b.lver) l.own) None ≡ None
+          never true = refl
+          never false = refl
+
     by_heed : (h : Bool) → option_and_then (λ p. choose (same_owner p.1 self) p.0) (ended_ballot g heard ms) ≡ won_at self step l.own (stop_shown l (blocks_shown g step a))
         → elim h as (λ z. Option ℕ) [ false ↦ None | true ↦ option_and_then (λ p. choose (same_owner p.1 self) p.0) (ended_ballot g heard ms) ]
         ≡ cond h (won_at self step l.own (stop_shown l (blocks_shown g step a))) None
@@ -332,13 +351,14 @@ module _ (g : Layout) (lockspace : List ℕ) (self : Owner) (l : LeaseState) (m 
   left_is is fits frees writes own left =
       ap (λ w. elim w as (λ z. Option ℕ) [ Some n ↦ Some n | None ↦ option_and_then (λ n. choose (not (settles_free g self n heard)) n) (free_left g self ms) ]) (won_is is fits own)
       ∙ by (cond heeded (won_at self step l.own (stop_shown l (blocks_shown g step a))) None) where
-    settled : (o : Option ℕ) → option_and_then (λ n. choose (not (settles_free g self n heard)) n) o ≡ option_and_then (λ n. choose (not (settles_at g self step frees n a)) n) o
-    settled None = refl
-    settled (Some n) = ap (λ b. choose (not b) n) (settles_is is fits frees writes n)
-    by : (w : Option ℕ) → elim w as (λ z. Option ℕ) [ Some n ↦ Some n | None ↦ option_and_then (λ n. choose (not (settles_free g self n heard)) n) (free_left g self ms) ]
-        ≡ won_hearing w (λ n. settles_at g self step frees n a) l.won
-    by (Some n) = refl
-    by None = settled (free_left g self ms) ∙ ap (option_and_then (λ n. choose (not (settles_at g self step frees n a)) n)) (left_before left)
+        settled : (o : Option ℕ) → option_and_then (λ n. choose (not (settles_free g self n heard)) n) o ≡ option_and_then (λ n. choose (not (settles_at g self step frees n a)) n) o
+        settled None = refl
+        settled (Some n) = ap (λ b. choose (not b) n) (settles_is is fits frees writes n)
+
+        by : (w : Option ℕ) → elim w as (λ z. Option ℕ) [ Some n ↦ Some n | None ↦ option_and_then (λ n. choose (not (settles_free g self n heard)) n) (free_left g self ms) ]
+            ≡ won_hearing w (λ n. settles_at g self step frees n a) l.won
+        by (Some n) = refl
+        by None = settled (free_left g self ms) ∙ ap (option_and_then (λ n. choose (not (settles_at g self step frees n a)) n)) (left_before left)
 
   -- ---- the greatest number of the own block's instance
 
@@ -362,12 +382,15 @@ module _ (g : Layout) (lockspace : List ℕ) (self : Owner) (l : LeaseState) (m 
     still : (over : Bool) → cond over None l.ballot ≡ Some n → l.ballot ≡ Some n
     still true same = absurd (none_some n same)
     still false same = same
+
     by : (bs : Option (List (Option Block))) → l.ballot ≡ Some n → (t : TopNumber) × (top_hearing l bs ≡ Some t) × (t.instance ≡ n)
     by None is_open = before n is_open
     by (Some blocks) is_open =
-        let its = open_is_own g (none ∷ ms) n (ballot ∙ is_open) in
-        (record { instance = its.block.lver; mbal = top_mbal its.block.lver blocks },
-        ap (option_map (λ (b : Block). record { instance = b.lver; mbal = top_mbal b.lver blocks })) (sym own ∙ its.own_is), (let e : (its.block.lver == n) ≡ true = its.instance in same_number its.block.lver n e))
+        let its = open_is_own g (none ∷ ms) n (ballot ∙ is_open) in (
+          record { instance = its.block.lver; mbal = top_mbal its.block.lver blocks },
+          ap (option_map (λ (b : Block). record { instance = b.lver; mbal = top_mbal b.lver blocks })) (sym own ∙ its.own_is),
+          (let e : (its.block.lver == n) ≡ true = its.instance in same_number its.block.lver n e),
+        )
 
   -- ---- the whole
 

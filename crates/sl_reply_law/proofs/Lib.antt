@@ -14,3 +14,4 @@ pub mod MemberHearsAnswer
 pub mod JobsHearAnswer
 pub mod PresentAfterAnswer
 pub mod QuietAfterAnswer
+pub mod AnswersAreHeard

@@ -1,15 +1,14 @@
 -- A member that hears the answer to a call of its own stands for its session; any other member stands as it is.
 use Rattle.sl_area.specs.Layouts.{Layout}
 use Rattle.sl_due.specs.DueRequests.{is_asked}
-use Rattle.sl_host_plain.proofs.MembersAreSessions.{member_inside}
 use Rattle.sl_host_plain.proofs.PlainLists.{all_as, all_from, any_as, any_mapped, at_mapped, each_of}
-use Rattle.sl_host_state.specs.Hears.{is_heeded_by, lease_hearing, lease_told, member_hearing, others, renewing_hearing, still_busy}
+use Rattle.sl_host_state.specs.Hears.{is_heeded_by, lease_hearing, member_hearing, others, renewing_hearing, still_busy}
 use Rattle.sl_host_state.specs.Kept.{Config, HostState, LeaseState, MemberState}
-use Rattle.sl_host_state.specs.Stands.{AreInTurn, IsWaiting, JoinStands, Keeps, LeaseStands, MemberStands, free_written, is_joining, kept_call, newest_value, sectors_of}
+use Rattle.sl_host_state.specs.Stands.{AreInTurn, IsWaiting, JoinStands, Keeps, LeaseStands, MemberStands, free_written, kept_call, newest_value, sectors_of}
 use Rattle.sl_host_state.specs.declared.kept.LeaseCall.{LeaseCall}
 use Rattle.sl_host_state.specs.declared.kept.OpenCall.{OpenCall}
 use Rattle.sl_leases.specs.Counts.{values_on}
-use Rattle.sl_leases.specs.Leases.{block_written, free_left, is_lease_call, is_on, lease_calls, lease_step, spots_in, value_written}
+use Rattle.sl_leases.specs.Leases.{block_written, is_lease_call, is_on, lease_calls, lease_step, spots_in, value_written}
 use Rattle.sl_plain.proofs.Lists.{find_inside, kept, kept_inside}
 use Rattle.sl_plain.proofs.Numbers.{number_itself}
 use Rattle.sl_reply_law.proofs.AnswerFindsItsCall.{IsOr, IsTheCall}
@@ -19,31 +18,26 @@ use Rattle.sl_reply_law.proofs.DeltaCallsHearAnswer.{asked_is, deltas, heard, he
 use Rattle.sl_reply_law.proofs.LeaseHearsAnswer.{lease_hears}
 use Rattle.sl_reply_law.proofs.OpenCallsAreKept.{open_delta_is}
 use Rattle.sl_reply_law.proofs.PlainFilters.{all_kept}
-use Rattle.sl_reply_law.proofs.PlainNumbers.{same_number}
 use Rattle.sl_reply_law.proofs.RenewingHearsAnswer.{renewing_other, renewing_own}
 use Rattle.sl_reply_law.specs.Answers.{FitsCall}
-use Rattle.sl_sector.specs.declared.sector.Owner.{Owner}
-use Rattle.sl_sector.specs.declared.sector.ValueRec.{ValueRec}
 use Rattle.sl_sessions.specs.Deltas.{delta_known}
-use Rattle.sl_sessions.specs.Sessions.{calls_of, free_write, generation_in, generation_of, has_open_delta, is_call_of, is_delta_purpose, is_joined, is_present, leaving_job, me, recovery_of, renewal_in, renewing, seq_in}
+use Rattle.sl_sessions.specs.Sessions.{calls_of, free_write, generation_in, generation_of, has_open_delta, is_call_of, is_delta_purpose, is_present, leaving_job, me, renewal_in, renewing, seq_in}
 use Rattle.sl_sessions.specs.Watching.{sightings}
 use Rattle.sl_sessions.specs.declared.delta.DeltaKnown.{DeltaKnown}
 use Rattle.sl_sessions.specs.declared.session.Renewing.{Renewing}
 use Rattle.sl_sessions.specs.declared.session.Session.{Session}
 use Rattle.sl_trace.specs.Traces.{Setting, Submitted, Trace, bytes_given, is_before_input, is_going_on, job_of, new_call, outstanding, record_of, submitted, unanswered}
-use Rattle.sl_trace.specs.declared.effects.Call.{Call}
 use Rattle.sl_trace.specs.declared.effects.Effects.{Effects}
-use Rattle.sl_trace.specs.declared.effects.LeaseStep.{LeaseStep}
 use Rattle.sl_trace.specs.declared.effects.Op.TheVariants.{ReadSectors, WriteRecord}
 use Rattle.sl_trace.specs.declared.effects.Op.{Op}
 use Rattle.sl_trace.specs.declared.effects.Spot.{Spot}
 use Rattle.sl_trace.specs.declared.input.Answer.TheVariants.{Failed, Read, Written}
 use Rattle.sl_trace.specs.declared.input.Answer.{Answer}
-use Rattle.sl_words.proofs.CaseLaws.{false_is_true, not_both, none_some, some_value}
+use Rattle.sl_words.proofs.CaseLaws.{false_is_true, not_both}
 use Rattle.sl_words.specs.Words.{some_is}
 use Rattle.std.proofs.Common.{ap, inl, inr, refl, subst, sym, ◌∙◌}
 use Rattle.std.specs.List.{AllByRecursion, list_any}
-use Rattle.std.specs.Prelude.{Bool, Contains, IsTrue, List, None, Option, Some, cond, false, filter, filter_map, is_none, is_some, length, map, not, option_map, reverse, slice_get, true, [], ℕ, ◌&&◌, ◌+◌, ◌==◌, ◌∷◌, ◌≡◌, ◌||◌}
+use Rattle.std.specs.Prelude.{Bool, Contains, IsTrue, List, None, Option, Some, cond, false, filter, filter_map, is_none, is_some, length, map, not, option_map, reverse, true, [], ℕ, ◌&&◌, ◌==◌, ◌∷◌, ◌≡◌, ◌||◌}
 
 -- The host stands for the step before its input; this call of its trace is answered.
 pub record IsAnswered (st : Setting) (past : Trace) (now : ℕ) (fx : Effects) (a : Answer) (h : HostState) (m : Submitted) : Type 0 where
@@ -89,17 +83,18 @@ module _ (st : Setting) (past : Trace) (now : ℕ) (fx : Effects) (a : Answer) (
       → heeded ≡ is_going_on past (told now fx m.call.number a) (job_of m.call.purpose) → (l : LeaseState) (ms : List Submitted) → AllByRecursion (IsOr m.call.number m) ms
       → LeaseStands st.layout s.lockspace (me before s) l ms
       → LeaseStands st.layout s.lockspace (me before s)
-        (elim l.waiting as (λ z. LeaseState) [
-          | None ↦ l
-          | Some w ↦ cond (w.number == m.call.number)
-              (lease_hearing st.layout s.lockspace (record { id = s.id; generation = generation }) heeded (kept_call m) a w.step w.frees w.clears l) l
-        ]) (map hears ms)
+      (elim l.waiting as (λ z. LeaseState) [
+        | None ↦ l
+        | Some w ↦ cond (w.number == m.call.number)
+            (lease_hearing st.layout s.lockspace (record { id = s.id; generation = generation }) heeded (kept_call m) a w.step w.frees w.clears l) l
+      ]) (map hears ms)
   lease_stands k s generation gen heeded heed l ms alone stands = by l.waiting stands.waiting where
     unheard_all : (ds : List Submitted) → map hears ds ≡ ds → LeaseStands st.layout s.lockspace (me before s) l ds → LeaseStands st.layout s.lockspace (me before s) l (map hears ds)
     unheard_all ds same z = subst (LeaseStands st.layout s.lockspace (me before s) l) (sym same) z
+
     its_own : (w : LeaseCall) (ds : List Submitted) → IsWaiting (Some w) ds → AllByRecursion (IsOr m.call.number m) ds → LeaseStands st.layout s.lockspace (me before s) l ds → (b : Bool) → (w.number == m.call.number) ≡ b
         → LeaseStands st.layout s.lockspace (me before s)
-          (cond b (lease_hearing st.layout s.lockspace (record { id = s.id; generation = generation }) heeded (kept_call m) a w.step w.frees w.clears l) l) (map hears ds)
+        (cond b (lease_hearing st.layout s.lockspace (record { id = s.id; generation = generation }) heeded (kept_call m) a w.step w.frees w.clears l) l) (map hears ds)
     its_own w [] waits all z b is = absurd waits
     its_own w (d ∷ ds) waits all z false is =
         unheard_all (d ∷ ds)
@@ -111,22 +106,23 @@ module _ (st : Setting) (past : Trace) (now : ℕ) (fx : Effects) (a : Answer) (
       at_head (inr same) =
           let open_m : m.answer ≡ None = k.its.unanswered in
           let as_heard : map hears (d ∷ ds) ≡ heard past now fx a m ∷ ds =
-              ap (λ e. hears e ∷ map hears ds) same ∙ ap (λ e. e ∷ map hears ds) (heard_is past now fx a m (number_itself m.call.number) open_m) ∙ ap (λ zs. heard past now fx a m ∷ zs) (all_answered past now fx m.call.number a ds waits.1) in
+          ap (λ e. hears e ∷ map hears ds) same ∙ ap (λ e. e ∷ map hears ds) (heard_is past now fx a m (number_itself m.call.number) open_m) ∙ ap (λ zs. heard past now fx a m ∷ zs) (all_answered past now fx m.call.number a ds waits.1) in
           let stood : LeaseStands st.layout s.lockspace (me before s) l (record m { answer = None } ∷ ds) =
-              subst (λ (e : Submitted). LeaseStands st.layout s.lockspace (me before s) l (e ∷ ds)) (same ∙ ap (λ o. record m { answer = o }) open_m) z in
+          subst (λ (e : Submitted). LeaseStands st.layout s.lockspace (me before s) l (e ∷ ds)) (same ∙ ap (λ o. record m { answer = o }) open_m) z in
           subst (LeaseStands st.layout s.lockspace (me before s) (lease_hearing st.layout s.lockspace (record { id = s.id; generation = generation }) heeded (kept_call m) a w.step w.frees w.clears l)) (sym as_heard)
           (subst (λ g. LeaseStands st.layout s.lockspace (me before s) (lease_hearing st.layout s.lockspace (record { id = s.id; generation = g }) heeded (kept_call m) a w.step w.frees w.clears l) (heard past now fx a m ∷ ds)) gen
           (subst (λ b. LeaseStands st.layout s.lockspace (me before s) (lease_hearing st.layout s.lockspace (me before s) b (kept_call m) a w.step w.frees w.clears l) (heard past now fx a m ∷ ds)) (sym heed)
           (lease_hears st.layout s.lockspace (me before s) l m ds w.work w.step (length past) now a (is_going_on past (told now fx m.call.number a) (job_of m.call.purpose)) (kept_call m) w refl
           (only_read a m k.fits) (subst (λ (e : Submitted). lease_step e.call.purpose ≡ Some (w.work, w.step)) same waits.0.2) (subst (λ (e : Submitted). free_written e ≡ w.frees) same waits.0.3)
           (subst (λ (e : Submitted). some_is (λ b. not b.shared) (block_written e) ≡ w.clears) same waits.0.4) waits.1 stood)))
+
     by : (o : Option LeaseCall) → IsWaiting o ms
         → LeaseStands st.layout s.lockspace (me before s)
-          (elim o as (λ z. LeaseState) [
-            | None ↦ l
-            | Some w ↦ cond (w.number == m.call.number)
-                (lease_hearing st.layout s.lockspace (record { id = s.id; generation = generation }) heeded (kept_call m) a w.step w.frees w.clears l) l
-          ]) (map hears ms)
+        (elim o as (λ z. LeaseState) [
+          | None ↦ l
+          | Some w ↦ cond (w.number == m.call.number)
+              (lease_hearing st.layout s.lockspace (record { id = s.id; generation = generation }) heeded (kept_call m) a w.step w.frees w.clears l) l
+        ]) (map hears ms)
     by None waits = unheard_all ms (all_answered past now fx m.call.number a ms waits) stands
     by (Some w) waits = its_own w ms waits alone stands (w.number == m.call.number) refl
 
@@ -163,6 +159,7 @@ module _ (st : Setting) (past : Trace) (now : ℕ) (fx : Effects) (a : Answer) (
     one : (d : Submitted) → is_call_of s d ≡ true → IsOr m.call.number m d → hears d ≡ d
     one d own (inl not_it) = not_its past now fx m.call.number a d not_it
     one d own (inr same) = absurd (not_both (m.call.session == s.number) (subst (λ (e : Submitted). (e.call.session == s.number) ≡ true) same own) other)
+
     each : (d : Submitted) → Contains (calls_of before s) d → hears d ≡ d
     each d there =
         let inside = kept_inside (is_call_of s) (submitted past) d there in
@@ -207,10 +204,11 @@ module _ (st : Setting) (past : Trace) (now : ℕ) (fx : Effects) (a : Answer) (
     by_number : (w : LeaseCall) (b : Bool) → (cond b (lease_hearing g s.lockspace (record { id = s.id; generation = generation }) heeded (kept_call m) a w.step w.frees w.clears l) l).spot ≡ l.spot
     by_number w true = refl
     by_number w false = refl
+
     by : (o : Option LeaseCall) → (elim o as (λ z. LeaseState) [
-        | None ↦ l
-        | Some w ↦ cond (w.number == m.call.number) (lease_hearing g s.lockspace (record { id = s.id; generation = generation }) heeded (kept_call m) a w.step w.frees w.clears l) l
-      ]).spot ≡ l.spot
+      | None ↦ l
+      | Some w ↦ cond (w.number == m.call.number) (lease_hearing g s.lockspace (record { id = s.id; generation = generation }) heeded (kept_call m) a w.step w.frees w.clears l) l
+    ]).spot ≡ l.spot
     by None = refl
     by (Some w) = by_number w (w.number == m.call.number)
 
@@ -219,10 +217,11 @@ module _ (st : Setting) (past : Trace) (now : ℕ) (fx : Effects) (a : Answer) (
     by_number : (w : LeaseCall) (b : Bool) → (cond b (lease_hearing g s.lockspace (record { id = s.id; generation = generation }) heeded (kept_call m) a w.step w.frees w.clears l) l).value ≡ l.value
     by_number w true = refl
     by_number w false = refl
+
     by : (o : Option LeaseCall) → (elim o as (λ z. LeaseState) [
-        | None ↦ l
-        | Some w ↦ cond (w.number == m.call.number) (lease_hearing g s.lockspace (record { id = s.id; generation = generation }) heeded (kept_call m) a w.step w.frees w.clears l) l
-      ]).value ≡ l.value
+      | None ↦ l
+      | Some w ↦ cond (w.number == m.call.number) (lease_hearing g s.lockspace (record { id = s.id; generation = generation }) heeded (kept_call m) a w.step w.frees w.clears l) l
+    ]).value ≡ l.value
     by None = refl
     by (Some w) = by_number w (w.number == m.call.number)
 
@@ -252,7 +251,7 @@ module _ (st : Setting) (past : Trace) (now : ℕ) (fx : Effects) (a : Answer) (
       let layout : st.layout ≡ h.config.layout = ap (λ (z : Config). z.layout) k.keeps.config in
       let heeded = heeded_is past now fx st h c m a k.keeps k.its k.replies in
       let renews : renewing st after who ≡ renewing_hearing h c a member =
-          renewing_own past now fx st h member a m n k.replies there k.its.found own k.keeps.config k.keeps.entries k.reading s.joined generation s.renewing in
+      renewing_own past now fx st h member a m n k.replies there k.its.found own k.keeps.config k.keeps.entries k.reading s.joined generation s.renewing in
       let told_of : LeaseState → LeaseState = told_lease h.config.layout who member.known.generation (is_heeded_by h c) in
       record {
         joined = s.joined;
@@ -271,7 +270,7 @@ module _ (st : Setting) (past : Trace) (now : ℕ) (fx : Effects) (a : Answer) (
             let x : LeaseState = old.0 in
             let spot : x.spot ≡ l.spot = sym (told_spot h.config.layout who member.known.generation (is_heeded_by h c) x) ∙ ap (λ (z : LeaseState). z.spot) old.2 in
             let stands = lease_stands k who member.known.generation generation (is_heeded_by h c) heeded x (lease_calls st before who x.spot)
-                (all_kept (IsOr n m) (λ d. is_lease_call d && is_on st.layout x.spot d.call) ms alone) (s.leases i x old.1) in
+            (all_kept (IsOr n m) (λ d. is_lease_call d && is_on st.layout x.spot d.call) ms alone) (s.leases i x old.1) in
             subst (λ z. LeaseStands st.layout who.lockspace (me after who) l (lease_calls st after who z)) spot
             (subst (λ z. LeaseStands st.layout who.lockspace (me after who) z (lease_calls st after who x.spot)) old.2
             (subst (λ z. LeaseStands st.layout who.lockspace (me after who) (told_lease z who member.known.generation (is_heeded_by h c) x) (lease_calls st after who x.spot)) layout
@@ -288,9 +287,9 @@ module _ (st : Setting) (past : Trace) (now : ℕ) (fx : Effects) (a : Answer) (
             (all_as (λ d. IsTrue (is_none (value_written d) || list_any (λ l. is_on st.layout l.spot d.call) member.leases))
             (λ d. IsTrue (is_none (value_written d) || list_any (λ l. is_on st.layout l.spot d.call) (map told_of member.leases))) ms
             (λ d is.
-              ap (λ b. is_none (value_written d) || b)
-              (any_mapped (λ (l : LeaseState). is_on st.layout l.spot d.call) told_of member.leases
-              ∙ any_as (λ x. is_on st.layout (told_of x).spot d.call) (λ x. is_on st.layout x.spot d.call) member.leases
-                (λ x. ap (λ z. is_on st.layout z d.call) (told_spot h.config.layout who member.known.generation (is_heeded_by h c) x)))
-              ∙ is) s.valued));
+            ap (λ b. is_none (value_written d) || b)
+            (any_mapped (λ (l : LeaseState). is_on st.layout l.spot d.call) told_of member.leases
+            ∙ any_as (λ x. is_on st.layout (told_of x).spot d.call) (λ x. is_on st.layout x.spot d.call) member.leases
+            (λ x. ap (λ z. is_on st.layout z d.call) (told_spot h.config.layout who member.known.generation (is_heeded_by h c) x)))
+            ∙ is) s.valued));
       }

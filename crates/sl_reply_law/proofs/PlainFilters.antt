@@ -4,7 +4,7 @@ use Rattle.sl_plain.proofs.Lists.{contains_cases, contains_first, contains_more,
 use Rattle.std.proofs.Common.{ap, inl, inr, refl, subst, sym, ◌∙◌}
 use Rattle.std.proofs.lemmas.List.Elements.{filter-append}
 use Rattle.std.proofs.lemmas.List.Folds.{list_any-append}
-use Rattle.std.proofs.lemmas.List.{map-append, reverse-append}
+use Rattle.std.proofs.lemmas.List.{reverse-append}
 use Rattle.std.specs.List.{AllByRecursion, cons_option, list_any}
 use Rattle.std.specs.Prelude.{Bool, Contains, List, Option, None, Some, cond, false, filter, filter_map, find, is_none, map, option_map, reverse, true, [], ◌&&◌, ◌++◌, ◌∷◌, ◌≡◌, ◌⊎◌, ◌||◌}
 
@@ -50,15 +50,15 @@ filter_reversed {A = A} p [] = refl
 filter_reversed {A = A} p (x ∷ xs) =
     ap (filter p) (reverse-append (x ∷ []) xs) ∙ filter-append p (reverse xs) (x ∷ []) ∙ ap (λ zs. zs ++ filter p (x ∷ [])) (filter_reversed p xs)
     ∙ by (p x) refl where
-  by : (b : Bool) → p x ≡ b → reverse (filter p xs) ++ filter p (x ∷ []) ≡ reverse (filter p (x ∷ xs))
-  by true is =
-      ap (λ zs. reverse (filter p xs) ++ zs) (kept_if p x [] true is) ∙ sym (reverse-append (x ∷ []) (filter p xs))
-      ∙ sym (ap reverse (kept_if p x xs true is))
-  by false is =
-      ap (λ zs. reverse (filter p xs) ++ zs) (kept_if p x [] false is) ∙ append_none (reverse (filter p xs)) ∙ sym (ap reverse (kept_if p x xs false is)) where
-    append_none : (zs : List A) → zs ++ [] ≡ zs
-    append_none [] = refl
-    append_none (z ∷ zs) = ap (λ ys. z ∷ ys) (append_none zs)
+      by : (b : Bool) → p x ≡ b → reverse (filter p xs) ++ filter p (x ∷ []) ≡ reverse (filter p (x ∷ xs))
+      by true is =
+          ap (λ zs. reverse (filter p xs) ++ zs) (kept_if p x [] true is) ∙ sym (reverse-append (x ∷ []) (filter p xs))
+          ∙ sym (ap reverse (kept_if p x xs true is))
+      by false is =
+          ap (λ zs. reverse (filter p xs) ++ zs) (kept_if p x [] false is) ∙ append_none (reverse (filter p xs)) ∙ sym (ap reverse (kept_if p x xs false is)) where
+            append_none : (zs : List A) → zs ++ [] ≡ zs
+            append_none [] = refl
+            append_none (z ∷ zs) = ap (λ ys. z ∷ ys) (append_none zs)
 
 -- What is mapped passes where its image does.
 pub filter_mapped : {A B : Type 0} (p : B → Bool) (f : A → B) (xs : List A) → filter p (map f xs) ≡ map f (filter (λ x. p (f x)) xs)
@@ -100,6 +100,7 @@ in_given {A = A} {B = B} f (z ∷ zs) x y there is = by (contains_cases z zs x t
   more : (o : Option B) → Contains (filter_map f zs) y → Contains (cons_option o (filter_map f zs)) y
   more None rest = rest
   more (Some b) rest = contains_more b (filter_map f zs) y rest
+
   by : (z ≡ x) ⊎ Contains zs x → (Contains zs x → Contains (filter_map f zs) y) → Contains (filter_map f (z ∷ zs)) y
   by (inl same) deeper = subst (λ o. Contains (cons_option o (filter_map f zs)) y) (sym (ap f same ∙ is)) (contains_first y (filter_map f zs))
   by (inr rest) deeper = more (f z) (deeper rest)

@@ -2,7 +2,7 @@
 use Rattle.sl_host_plain.proofs.PlainLists.{kept_if}
 use Rattle.sl_words.specs.Orders.{in_order, put_in}
 use Rattle.std.proofs.Common.{ap, refl, sym, ◌∙◌}
-use Rattle.std.specs.Prelude.{Bool, List, cond, false, filter, fold, if◌then◌else◌, true, [], ℕ, ◌∷◌, ◌≡◌}
+use Rattle.std.specs.Prelude.{Bool, List, cond, false, filter, fold, if◌then◌else◌, true, [], ◌∷◌, ◌≡◌}
 
 -- A strict order in which ties are alike.
 pub record IsStrict {A : Type 0} (before : A → A → Bool) : Type 0 where
@@ -22,9 +22,6 @@ AllAfter before x (z ∷ zs) = (before x z ≡ true) × AllAfter before x zs
 abbrev pub InOrder : {A : Type 0} → (A → A → Bool) → List A → Type 0
 InOrder before [] = Unit {0}
 InOrder before (y ∷ ys) = NoneBefore before y ys × InOrder before ys
-
-
-
 
 put_if : {A : Type 0} (before : A → A → Bool) (x y : A) (ys : List A) (b : Bool) → before x y ≡ b → put_in before x (y ∷ ys) ≡ (if b then x ∷ y ∷ ys else y ∷ put_in before x ys)
 put_if before x y ys b is = ap (λ c. if c then x ∷ y ∷ ys else y ∷ put_in before x ys) is
@@ -50,14 +47,14 @@ put_kept before q k x [] is h = kept_if q x [] true is
 put_kept {A} before q k x (y ∷ ys) is h = by (put_kept before q k x ys is h.1) (before x y) refl (q y) refl where
   by : filter q (put_in before x ys) ≡ put_in before x (filter q ys) → (b : Bool) → before x y ≡ b → (c : Bool) → q y ≡ c → filter q (put_in before x (y ∷ ys)) ≡ put_in before x (filter q (y ∷ ys))
   by rest true lt c has =
-    ap (filter q) (put_if before x y ys true lt) ∙ kept_if q x (y ∷ ys) true is
-    ∙ sym (first_in before x (filter q (y ∷ ys)) (kept_after before q x (y ∷ ys) (lt, after_all before k x y ys lt h.0)))
+      ap (filter q) (put_if before x y ys true lt) ∙ kept_if q x (y ∷ ys) true is
+      ∙ sym (first_in before x (filter q (y ∷ ys)) (kept_after before q x (y ∷ ys) (lt, after_all before k x y ys lt h.0)))
   by rest false lt true has =
-    ap (filter q) (put_if before x y ys false lt) ∙ kept_if q y (put_in before x ys) true has ∙ ap (λ zs. y ∷ zs) rest
-    ∙ sym (ap (put_in before x) (kept_if q y ys true has) ∙ put_if before x y (filter q ys) false lt)
+      ap (filter q) (put_if before x y ys false lt) ∙ kept_if q y (put_in before x ys) true has ∙ ap (λ zs. y ∷ zs) rest
+      ∙ sym (ap (put_in before x) (kept_if q y ys true has) ∙ put_if before x y (filter q ys) false lt)
   by rest false lt false has =
-    ap (filter q) (put_if before x y ys false lt) ∙ kept_if q y (put_in before x ys) false has ∙ rest
-    ∙ sym (ap (put_in before x) (kept_if q y ys false has))
+      ap (filter q) (put_if before x y ys false lt) ∙ kept_if q y (put_in before x ys) false has ∙ rest
+      ∙ sym (ap (put_in before x) (kept_if q y ys false has))
 
 -- One that is left out changes nothing.
 put_left : {A : Type 0} (before : A → A → Bool) (q : A → Bool) (x : A) (ys : List A) → q x ≡ false → filter q (put_in before x ys) ≡ filter q ys

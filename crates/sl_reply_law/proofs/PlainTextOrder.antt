@@ -1,6 +1,5 @@
 -- Texts are in a strict order.
-use Rattle.sl_reply_law.proofs.PlainOrderKept.{IsStrict}
-use Rattle.sl_words.proofs.CaseLaws.{false_is_true, true_is_false}
+use Rattle.sl_words.proofs.CaseLaws.{true_is_false}
 use Rattle.sl_words.specs.Orders.{is_text_before}
 use Rattle.std.proofs.Common.{arith, refl, sym}
 use Rattle.std.specs.Prelude.{Bool, List, false, nat_lt, true, [], ℕ, ◌&&◌, ◌==◌, ◌∷◌, ◌≡◌, ◌||◌}

@@ -1,6 +1,6 @@
 -- Who is present after an answer: all but a refused joining whose last open write it answers.
 use Rattle.sl_host_plain.proofs.PlainLists.{at_some, filter_as, filter_where}
-use Rattle.sl_host_state.specs.Hears.{is_over_with, members_hearing, others}
+use Rattle.sl_host_state.specs.Hears.{is_over_with, others}
 use Rattle.sl_host_state.specs.Kept.{HostState, MemberState}
 use Rattle.sl_host_state.specs.Stands.{Keeps, kept_call}
 use Rattle.sl_host_state.specs.declared.kept.OpenCall.{OpenCall}
@@ -20,7 +20,7 @@ use Rattle.sl_words.specs.Orders.{in_order, is_text_before}
 use Rattle.sl_words.specs.Words.{choose}
 use Rattle.std.proofs.Common.{ap, refl, sym, ◌∙◌}
 use Rattle.std.specs.List.{list_any}
-use Rattle.std.specs.Prelude.{Bool, List, None, Option, Some, cond, false, filter, is_none, is_some, map, not, option_and_then, reverse, slice_get, true, [], ℕ, ◌&&◌, ◌+◌, ◌==◌, ◌∷◌, ◌≡◌, ◌||◌}
+use Rattle.std.specs.Prelude.{Bool, List, None, Option, Some, false, filter, is_none, is_some, map, not, option_and_then, reverse, slice_get, true, [], ℕ, ◌&&◌, ◌+◌, ◌==◌, ◌∷◌, ◌≡◌, ◌||◌}
 
 -- Texts stand in a strict order, so sessions do by their lockspaces' names.
 pub by_name : IsStrict (λ (a b : Session). is_text_before a.lockspace b.lockspace)
@@ -32,9 +32,11 @@ joined_not_refused es s k = by s.job where
   by_reply : (r : Replied) (done : Bool) → choose done (r.at + 1) ≡ Some k → choose (not done) (r.at + 1) ≡ None
   by_reply r true is = refl
   by_reply r false is = absurd cc
+
   by_job : (o : Option Replied) → option_and_then (λ r. choose (is_join_done r.reply) (r.at + 1)) o ≡ Some k → option_and_then (λ r. choose (not (is_join_done r.reply)) (r.at + 1)) o ≡ None
   by_job None is = refl
   by_job (Some r) is = by_reply r (is_join_done r.reply) is
+
   by : (o : Option ℕ) → elim o as (λ z. Option ℕ) [ None ↦ Some 0 | Some j ↦ option_and_then (λ r. choose (is_join_done r.reply) (r.at + 1)) (reply_to es j) ] ≡ Some k
       → elim o as (λ z. Option ℕ) [ None ↦ None | Some j ↦ option_and_then (λ r. choose (not (is_join_done r.reply)) (r.at + 1)) (reply_to es j) ] ≡ None
   by None is = refl
@@ -46,7 +48,7 @@ pub present_kept : (st : Setting) (before after : Trace) (stays : Session → Bo
 present_kept st before after stays same presence =
     ap (λ ss. in_order (λ (a b : Session). is_text_before a.lockspace b.lockspace) (filter (is_present after) ss)) same
     ∙ ap (in_order (λ (a b : Session). is_text_before a.lockspace b.lockspace))
-      (filter_as (is_present after) (λ s. is_present before s && stays s) (sessions st before) presence ∙ filter_both (is_present before) stays (sessions st before))
+    (filter_as (is_present after) (λ s. is_present before s && stays s) (sessions st before) presence ∙ filter_both (is_present before) stays (sessions st before))
     ∙ sym (order_filtered (λ (a b : Session). is_text_before a.lockspace b.lockspace) stays by_name (filter (is_present before) (sessions st before)))
 
 module _ (past : Trace) (now : ℕ) (fx : Effects) (n : ℕ) (a : Answer) where
@@ -70,9 +72,11 @@ module _ (past : Trace) (now : ℕ) (fx : Effects) (n : ℕ) (a : Answer) where
       and_false : (b : Bool) → (b && false) ≡ false
       and_false true = refl
       and_false false = refl
+
     one : (b : Bool) → b ≡ (b && true)
     one true = refl
     one false = refl
+
     by : (o : Option ℕ) → joined_after before s ≡ o
         → (is_none (elim o as (λ z. Option ℕ) [ Some k ↦ removed_after before s | None ↦ refused_after before s ]) || is_none o && has_open_write after s)
         ≡ ((is_none (elim o as (λ z. Option ℕ) [ Some k ↦ removed_after before s | None ↦ refused_after before s ]) || is_none o && has_open_write before s) && stays s)
@@ -88,6 +92,7 @@ module _ (past : Trace) (now : ℕ) (fx : Effects) (n : ℕ) (a : Answer) where
     step true false rest more h is = h is
     step false true rest more h is = refl
     step false false rest more h is = h is
+
     by : (ds : List OpenCall) → list_any (λ c. q c && p c) ds ≡ true → list_any p ds ≡ true
     by [] h = h
     by (c ∷ ds) h = step (q c) (p c) (list_any (λ c. q c && p c) ds) (list_any p ds) (λ k. by ds k) h
@@ -97,12 +102,12 @@ module _ (past : Trace) (now : ℕ) (fx : Effects) (n : ℕ) (a : Answer) where
       → present_sessions st after ≡ map (λ m. m.who) (filter (λ m. not (is_over_with c.number h m)) h.members)
   present_heard st h c number k still_open =
       present_kept st before after stays refl (λ s. present_as s (λ is.
-        open_write_is before s h.unanswered k.unanswered
-        ∙ any_weaker (λ c. c.session == s.number && is_none c.sectors) (λ c. not (c.number == n)) h.unanswered (sym (open_write_is after s (others n h) still_open) ∙ is)))
+      open_write_is before s h.unanswered k.unanswered
+      ∙ any_weaker (λ c. c.session == s.number && is_none c.sectors) (λ c. not (c.number == n)) h.unanswered (sym (open_write_is after s (others n h) still_open) ∙ is)))
       ∙ ap (filter stays) k.present ∙ filter_mapped stays (λ (m : MemberState). m.who) h.members
       ∙ ap (map (λ (m : MemberState). m.who)) (filter_where (λ m. stays m.who) (λ m. not (is_over_with c.number h m)) h.members (λ m there. kept m (at_some h.members m there))) where
-    kept : (m : MemberState) → (i : ℕ) × (slice_get h.members i ≡ Some m) → stays m.who ≡ not (is_over_with c.number h m)
-    kept m at =
-        ap (λ b. not (b && not (has_open_write after m.who))) (k.members at.0 m at.1).refused
-        ∙ ap (λ b. not (m.refused && not b)) (open_write_is after m.who (others n h) still_open)
-        ∙ ap (λ z. not (is_over_with z h m)) (sym number)
+        kept : (m : MemberState) → (i : ℕ) × (slice_get h.members i ≡ Some m) → stays m.who ≡ not (is_over_with c.number h m)
+        kept m at =
+            ap (λ b. not (b && not (has_open_write after m.who))) (k.members at.0 m at.1).refused
+            ∙ ap (λ b. not (m.refused && not b)) (open_write_is after m.who (others n h) still_open)
+            ∙ ap (λ z. not (is_over_with z h m)) (sym number)

@@ -1,6 +1,6 @@
 -- Nothing that is due by time is due below the moment that a host keeps, after an answer: what begins by it lowers that moment.
 use Rattle.sl_host_plain.proofs.PlainLists.{at_some, flat_has, in_back, in_either, in_flat, in_front}
-use Rattle.sl_host_state.specs.Hears.{beginning, hearing, is_over_with, job_hearing, member_hearing, members_hearing, quiet_hearing, renewed_of, renewing_hearing, shows_other_by}
+use Rattle.sl_host_state.specs.Hears.{beginning, hearing, is_over_with, job_hearing, member_hearing, members_hearing, quiet_hearing, renewed_of, shows_other_by}
 use Rattle.sl_host_state.specs.Kept.{HostState, MemberState}
 use Rattle.sl_host_state.specs.Makes.{lowered}
 use Rattle.sl_host_state.specs.Stands.{IsQuiet, job_moments, kill_moment, member_moments, moments_of, recovery_moment}
@@ -16,9 +16,9 @@ use Rattle.sl_trace.specs.declared.input.Answer.TheVariants.{Failed, Read, Writt
 use Rattle.sl_trace.specs.declared.input.Answer.{Answer}
 use Rattle.sl_words.proofs.CaseLaws.{none_some, some_value}
 use Rattle.sl_words.specs.Words.{choose}
-use Rattle.std.proofs.Common.{ap, arith, inl, inr, refl, subst, sym, ◌∙◌}
+use Rattle.std.proofs.Common.{arith, inl, inr, refl, subst, sym}
 use Rattle.std.specs.List.{list_any}
-use Rattle.std.specs.Prelude.{Bool, Contains, List, None, Option, Some, cond, false, filter, flat_map, is_some, map, min, nat_le, nat_lt, not, true, unwrap_or, [], ℕ, ◌&&◌, ◌++◌, ◌+◌, ◌-◌, ◌==◌, ◌∷◌, ◌≡◌, ◌≤◌, ◌⊎◌}
+use Rattle.std.specs.Prelude.{Bool, Contains, List, None, Option, Some, cond, false, flat_map, map, min, nat_le, nat_lt, not, true, unwrap_or, [], ℕ, ◌&&◌, ◌++◌, ◌+◌, ◌-◌, ◌==◌, ◌∷◌, ◌≡◌, ◌≤◌, ◌⊎◌}
 
 -- Each moment of these is at or above this one.
 abbrev pub AllFrom : ℕ → List ℕ → Type 0
@@ -54,6 +54,7 @@ pub moments_from : (q : ℕ) (h : HostState) → ((m : MemberState) → Contains
 moments_from q h members jobs = from_both q (flat_map (member_moments h) h.members) (flat_map (job_moments h) h.jobs) of_members of_jobs where
   of_members : AllFrom q (flat_map (member_moments h) h.members)
   of_members t there = let at = in_flat (member_moments h) h.members t there in members at.0 at.1 t at.2
+
   of_jobs : AllFrom q (flat_map (job_moments h) h.jobs)
   of_jobs t there = let at = in_flat (job_moments h) h.jobs t there in jobs at.0 at.1 t at.2
 
@@ -110,11 +111,14 @@ member_heard : (c : OpenCall) (a : Answer) (h : HostState) (m : MemberState) →
 member_heard c a h m there was = by m.joined refl was where
   q : ℕ
   q = quiet_hearing c a h
+
   -- Of the parts of a member's.
   front : (xs ys zs : List ℕ) → AllFrom (quiet_hearing c a h) (xs ++ ys ++ zs) → AllFrom (quiet_hearing c a h) xs
   front xs ys zs all t at = all t (in_front (xs ++ ys) zs t (in_front xs ys t at))
+
   back : (xs ys zs : List ℕ) → AllFrom (quiet_hearing c a h) (xs ++ ys ++ zs) → AllFrom (quiet_hearing c a h) zs
   back xs ys zs all t at = all t (in_back (xs ++ ys) zs t at)
+
   renewed : (o : Option ℕ) (last : ℕ) → renewed_of c a ≡ o → quiet_hearing c a h ≤ last + fail h.config.timing → quiet_hearing c a h ≤ unwrap_or o last + fail h.config.timing
   renewed None last is le = le
   renewed (Some t) last is le =
@@ -122,19 +126,21 @@ member_heard c a h m there was = by m.joined refl was where
       let low : quiet_hearing c a h ≤ c.reading + fail h.config.timing = lowers_renewal c a h its.0 in
       let same : c.reading ≡ t = its.1 in
       omega (arith, low, same)
+
   by_shows : (shows : Bool) (last : ℕ) → shows_other_by h c a m ≡ shows → AllFrom (quiet_hearing c a h) (((last + fail h.config.timing) ∷ []) ++ [] ++ kill_moment h m.leaving)
       → AllFrom (quiet_hearing c a h) (joined_moments h m (cond shows (beginning h h.entries (record { last = last; recovery = None })) (record { last = unwrap_or (renewed_of c a) last; recovery = None })))
   by_shows true last shows all =
       from_both (quiet_hearing c a h) (kill_moment h (Some (record { at = h.entries - 1; reading = h.reading; kills_from = h.entries }))) (kill_moment h m.leaving)
       (kills (nat_lt h.entries h.entries && nat_le (h.reading + h.config.grace) h.reading)) (back ((last + fail h.config.timing) ∷ []) [] (kill_moment h m.leaving) all) where
-    kills : (over : Bool) → AllFrom (quiet_hearing c a h) (cond over [] ((h.reading + h.config.grace) ∷ []))
-    kills true t at = absurd (contains_none t at)
-    kills false t at = one_moment (quiet_hearing c a h) (h.reading + h.config.grace) t (lowers_kills c a h (any_of (shows_other_by h c a) h.members m shows there)) at
+        kills : (over : Bool) → AllFrom (quiet_hearing c a h) (cond over [] ((h.reading + h.config.grace) ∷ []))
+        kills true t at = absurd (contains_none t at)
+        kills false t at = one_moment (quiet_hearing c a h) (h.reading + h.config.grace) t (lowers_kills c a h (any_of (shows_other_by h c a) h.members m shows there)) at
   by_shows false last shows all =
       from_both (quiet_hearing c a h) (((unwrap_or (renewed_of c a) last + fail h.config.timing) ∷ []) ++ []) (kill_moment h m.leaving)
       (λ t at. one_moment (quiet_hearing c a h) (unwrap_or (renewed_of c a) last + fail h.config.timing) t
-        (renewed (renewed_of c a) last refl (all (last + fail h.config.timing) (contains_first (last + fail h.config.timing) ([] ++ kill_moment h m.leaving)))) at)
+      (renewed (renewed_of c a) last refl (all (last + fail h.config.timing) (contains_first (last + fail h.config.timing) ([] ++ kill_moment h m.leaving)))) at)
       (back ((last + fail h.config.timing) ∷ []) [] (kill_moment h m.leaving) all)
+
   -- By how recovery began.
   by_recovery : (last : ℕ) (o : Option Begun) → AllFrom (quiet_hearing c a h) (joined_moments h m (record { last = last; recovery = o }))
       → AllFrom (quiet_hearing c a h) (joined_moments h m (elim o as (λ z. Renewing) [
@@ -143,6 +149,7 @@ member_heard c a h m there was = by m.joined refl was where
       ]))
   by_recovery last (Some b) all = all
   by_recovery last None all = by_shows (shows_other_by h c a m) last refl all
+
   by : (joined : Bool) → m.joined ≡ joined → AllFrom (quiet_hearing c a h) (cond joined (joined_moments h m m.renewing) [])
       → AllFrom (quiet_hearing c a h) (cond joined (joined_moments h m (elim m.renewing.recovery as (λ z. Renewing) [
         | Some b ↦ m.renewing
@@ -160,6 +167,7 @@ job_heard q n h j was = by j.waits refl was where
   by_number : (w : WaitingCall) (b : Bool) → AllFrom q (job_moments h j) → AllFrom q (job_moments h (cond b (record j { waits = None }) j))
   by_number w true all = from_none q
   by_number w false all = all
+
   by : (o : Option WaitingCall) → j.waits ≡ o → AllFrom q (job_moments h j) → AllFrom q (job_moments h (elim o as (λ z. JobState) [ None ↦ j | Some w ↦ cond (w.number == n) (record j { waits = None }) j ]))
   by None is all = all
   by (Some w) is all = by_number w (w.number == n) all
@@ -168,14 +176,17 @@ pub quiet_heard : (c : OpenCall) (a : Answer) (h : HostState) → IsQuiet h → 
 quiet_heard c a h quiet = quiet_by (hearing c a h) (moments_from (quiet_hearing c a h) (hearing c a h) of_member of_job) where
   low : AllFrom (quiet_hearing c a h) (moments_of h)
   low = from_lower (quiet_hearing c a h) h.quiet_until (moments_of h) (never_raised c a h) (quiet_from h quiet)
+
   by_session : (x : MemberState) (b : Bool) → Contains h.members x → AllFrom (quiet_hearing c a h) (member_moments h (cond b (member_hearing h c a x) x))
   by_session x true there = member_heard c a h x there (member_from (quiet_hearing c a h) h low x there)
   by_session x false there = member_from (quiet_hearing c a h) h low x there
+
   of_member : (m : MemberState) → Contains (members_hearing c a h) m → AllFrom (quiet_hearing c a h) (member_moments h m)
   of_member m there =
       let mapped = kept_inside (λ m. not (is_over_with c.number h m)) (map (λ m. cond (c.session == m.who.number) (member_hearing h c a m) m) h.members) m there in
       let old = in_map (λ (m : MemberState). cond (c.session == m.who.number) (member_hearing h c a m) m) h.members m mapped.0 in
       subst (λ z. AllFrom (quiet_hearing c a h) (member_moments h z)) old.2 (by_session old.0 (c.session == old.0.who.number) old.1)
+
   of_job : (j : JobState) → Contains (map (job_hearing c.number) h.jobs) j → AllFrom (quiet_hearing c a h) (job_moments h j)
   of_job j there =
       let old = in_map (job_hearing c.number) h.jobs j there in

@@ -1,26 +1,25 @@
 -- How a session stands with its renewals after an answer: by the call that is answered, and only where it is the session's own.
 use Rattle.sl_area.specs.Places.{delta_of}
-use Rattle.sl_host_state.specs.Hears.{beginning, renewed_of, renewing_hearing, setting_of, shows_other_by}
+use Rattle.sl_host_state.specs.Hears.{renewed_of, renewing_hearing, setting_of, shows_other_by}
 use Rattle.sl_host_state.specs.Kept.{Config, HostState, MemberState}
 use Rattle.sl_host_state.specs.Stands.{config_of, kept_call}
 use Rattle.sl_reply_law.proofs.AnswerIsHeeded.{waking}
 use Rattle.sl_reply_law.proofs.AnswerMarksOneCall.{told}
-use Rattle.sl_sessions.specs.Sessions.{ended_after, generation_of, has_open_write, is_call_of, is_join_done, is_joined, is_present, is_renewal, is_survey_purpose, joined_after, recovers, refused_after, removed_after, removed_in, renewed_by, renewing, shows_other, shows_other_in, survey_in}
+use Rattle.sl_sessions.specs.Sessions.{generation_of, has_open_write, is_call_of, is_join_done, is_joined, is_present, is_renewal, is_survey_purpose, joined_after, refused_after, removed_after, removed_in, renewed_by, renewing, shows_other, shows_other_in}
 use Rattle.sl_sessions.specs.declared.session.Begun.{Begun}
 use Rattle.sl_sessions.specs.declared.session.Renewing.{Renewing}
 use Rattle.sl_sessions.specs.declared.session.Session.{Session}
 use Rattle.sl_sector.specs.declared.sector.DeltaRec.{DeltaRec}
 use Rattle.sl_time.specs.Times.{fail}
-use Rattle.sl_trace.specs.Traces.{Replied, Setting, Submitted, Trace, bytes_given, call_numbered, is_before_input, reply_in, reply_to}
+use Rattle.sl_trace.specs.Traces.{Replied, Setting, Submitted, Trace, call_numbered, is_before_input, reply_in, reply_to}
 use Rattle.sl_trace.specs.declared.effects.Effects.{Effects}
-use Rattle.sl_trace.specs.declared.effects.Entry.{Entry}
 use Rattle.sl_trace.specs.declared.effects.JobReply.{JobReply}
 use Rattle.sl_trace.specs.declared.input.Answer.TheVariants.{Failed, Read, Written}
 use Rattle.sl_trace.specs.declared.input.Answer.{Answer}
 use Rattle.sl_trace.specs.declared.input.Input.TheVariants.{Answer as Told}
 use Rattle.sl_trace.specs.declared.reply.Reply.TheVariants.{Generation}
 use Rattle.sl_trace.specs.declared.reply.Reply.{Reply}
-use Rattle.sl_words.proofs.CaseLaws.{false_is_true, true_is_false}
+use Rattle.sl_words.proofs.CaseLaws.{false_is_true}
 use Rattle.sl_words.specs.Words.{choose, some_is}
 use Rattle.std.proofs.Common.{ap, arith, refl, suc, sym, ◌∙◌}
 use Rattle.std.specs.List.{AllByRecursion}
@@ -48,6 +47,7 @@ module _ (past : Trace) (now : ℕ) (fx : Effects) where
         ≡ option_and_then (λ r. choose (is_join_done r.reply) (r.at + 1)) o
     by_reply j (Some r) = refl
     by_reply j None = none_done fx.replies j (length past) all
+
     by : (o : Option ℕ) → elim o as (λ z. Option ℕ) [ None ↦ Some 0 | Some j ↦ option_and_then (λ r. choose (is_join_done r.reply) (r.at + 1)) (reply_to (waking now fx ∷ past) j) ]
         ≡ elim o as (λ z. Option ℕ) [ None ↦ Some 0 | Some j ↦ option_and_then (λ r. choose (is_join_done r.reply) (r.at + 1)) (reply_to past j) ]
     by None = refl
@@ -62,9 +62,9 @@ module _ (past : Trace) (now : ℕ) (fx : Effects) where
     by None same is p removed = ap (λ o. is_some o && is_none (removed_after past s)) (sym same)
     by (Some k) same is None removed =
         ap (λ o. is_some o && is_none (removed_after past s)) (sym same) ∙ ap (λ o. true && is_none o) removed ∙ sym (or_none (is_none (removed_after (waking now fx ∷ past) s)) is) where
-      or_none : (b : Bool) → (b || false) ≡ true → b ≡ true
-      or_none true h = refl
-      or_none false h = absurd (false_is_true h)
+          or_none : (b : Bool) → (b || false) ≡ true → b ≡ true
+          or_none true h = refl
+          or_none false h = absurd (false_is_true h)
     by (Some k) same is (Some i) removed =
         absurd (false_is_true (sym (ap (λ o. is_none (elim o as (λ z. Option ℕ) [ Some k ↦ Some k | None ↦ removed_in past s (waking now fx) ]) || false) removed) ∙ is))
 
@@ -184,15 +184,16 @@ module _ (past : Trace) (now : ℕ) (fx : Effects) where
   renewing_other st s a m n found other =
       ap (λ b. after_by st s a m n (is_joined past s) (nat_le ((renewing st past s).last + fail st.timing) now) b (renewed_by past s (Told n a)) (renewing st past s).last (renewing st past s).recovery) (no_show a)
       ∙ ap (λ o. after_by st s a m n (is_joined past s) (nat_le ((renewing st past s).last + fail st.timing) now) false o (renewing st past s).last (renewing st past s).recovery) (no_renewal a) where
-    no_show : (x : Answer) → shows_other st past s (Told n x) ≡ false
-    no_show (Read bytes) =
-        ap (λ o. elim (choose (some_is (λ (d : Submitted). is_call_of s d && is_survey_purpose d.call.purpose) o) bytes) as (λ z. Bool) [ None ↦ false | Some bytes ↦ shows_other_in st s.id (generation_of past s) bytes ]) found
-        ∙ ap (λ b. elim (choose (b && is_survey_purpose m.call.purpose) bytes) as (λ z. Bool) [ None ↦ false | Some bytes ↦ shows_other_in st s.id (generation_of past s) bytes ]) other
-    no_show Written = refl
-    no_show Failed = refl
-    no_renewal : (x : Answer) → renewed_by past s (Told n x) ≡ None
-    no_renewal (Read bytes) = refl
-    no_renewal Failed = refl
-    no_renewal Written =
-        ap (λ o. option_and_then (λ (d : Submitted). choose (is_call_of s d && is_renewal d.call.purpose) d.reading) o) found
-        ∙ ap (λ b. choose (b && is_renewal m.call.purpose) m.reading) other
+        no_show : (x : Answer) → shows_other st past s (Told n x) ≡ false
+        no_show (Read bytes) =
+            ap (λ o. elim (choose (some_is (λ (d : Submitted). is_call_of s d && is_survey_purpose d.call.purpose) o) bytes) as (λ z. Bool) [ None ↦ false | Some bytes ↦ shows_other_in st s.id (generation_of past s) bytes ]) found
+            ∙ ap (λ b. elim (choose (b && is_survey_purpose m.call.purpose) bytes) as (λ z. Bool) [ None ↦ false | Some bytes ↦ shows_other_in st s.id (generation_of past s) bytes ]) other
+        no_show Written = refl
+        no_show Failed = refl
+
+        no_renewal : (x : Answer) → renewed_by past s (Told n x) ≡ None
+        no_renewal (Read bytes) = refl
+        no_renewal Failed = refl
+        no_renewal Written =
+            ap (λ o. option_and_then (λ (d : Submitted). choose (is_call_of s d && is_renewal d.call.purpose) d.reading) o) found
+            ∙ ap (λ b. choose (b && is_renewal m.call.purpose) m.reading) other
