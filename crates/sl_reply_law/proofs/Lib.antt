@@ -2,6 +2,7 @@ pub mod PlainFilters
 pub mod PlainNumbers
 pub mod PlainOrderKept
 pub mod PlainTextOrder
+pub mod NotJoinedNotBegun
 pub mod AnswerMarksOneCall
 pub mod AnswerFindsItsCall
 pub mod OpenCallsAreKept
