@@ -16,3 +16,5 @@ pub mod JobsHearAnswer
 pub mod PresentAfterAnswer
 pub mod QuietAfterAnswer
 pub mod AnswersAreHeard
+pub mod MembersKeepCalls
+pub mod ReplyEndsJob

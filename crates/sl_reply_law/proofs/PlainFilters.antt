@@ -112,3 +112,8 @@ none_mapped f (Some a) = refl
 pub no_one : {A : Type 0} (p : A → Bool) (xs : List A) → ((x : A) → p x ≡ false) → list_any p xs ≡ false
 no_one p [] none = refl
 no_one p (x ∷ xs) none = ap (λ b. b || list_any p xs) (none x) ∙ no_one p xs none
+
+-- Functions that are one where they are asked map alike.
+pub map_where : {A B : Type 0} (f g : A → B) (xs : List A) → ((x : A) → Contains xs x → f x ≡ g x) → map f xs ≡ map g xs
+map_where f g [] same = refl
+map_where f g (x ∷ xs) same = ap (λ y. y ∷ map f xs) (same x (contains_first x xs)) ∙ ap (λ ys. g x ∷ ys) (map_where f g xs (λ y there. same y (contains_more x xs y there)))
