@@ -5,9 +5,9 @@ use Rattle.sl_plain.proofs.Options.{none_is}
 use Rattle.sl_reply_law.proofs.PlainFilters.{map_where}
 use Rattle.sl_reply_law.proofs.PlainNumbers.{number_apart, same_number}
 use Rattle.sl_reply_law.specs.Replies.{IsOfOther, LeavesHeed, is_plain_line}
-use Rattle.sl_sessions.specs.Sessions.{is_join_done, is_joined, joined_after, leaves, leaving_job, refused_after}
+use Rattle.sl_sessions.specs.Sessions.{is_join_done, is_joined, joined_after, leaves, leaving_in, leaving_job, refused_after}
 use Rattle.sl_sessions.specs.declared.session.Session.{Session}
-use Rattle.sl_trace.specs.Traces.{Answered, Job, KillProgram, Replied, Setting, Submitted, Trace, answered_in, exited_by, is_before_input, is_done, is_going_on, is_of_job, is_running, job_of, kill_program_in, kill_programs, line_in, mark, new_call, next_job, reply_to, submitted, with_program, without_program}
+use Rattle.sl_trace.specs.Traces.{Answered, Job, KillProgram, Replied, Setting, Submitted, Trace, answered_in, exited_by, is_before_input, is_done, is_going_on, is_of_job, is_running, job_of, kill_program_in, kill_programs, line_in, mark, new_call, next_job, program_set_in, reply_to, submitted, with_program, without_program}
 use Rattle.sl_trace.specs.declared.command.Command.TheVariants.{RemLockspace, SetKillpath}
 use Rattle.sl_trace.specs.declared.command.Command.{Command}
 use Rattle.sl_trace.specs.declared.effects.Call.{Call}
@@ -168,3 +168,72 @@ module _ (past : Trace) (now : ℕ) (i : Input) (fx : Effects) (job : ℕ) (r : 
 
   pub calls_stay : LeavesHeed i job r past → submitted (replied ∷ past) ≡ submitted (unsaid ∷ past)
   calls_stay leaves = ap (λ ms. fold (λ (ns : List Submitted) (c : Call). new_call (length past) now c ∷ ns) ms fx.calls) (marks_stay i (submitted past) (heed_of leaves))
+
+  -- ---- leavings and kill programs
+
+  no_leaving : (s : Session) (c : Result Command ℕ) → is_plain_line c ≡ true → leaves s c ≡ false
+  no_leaving s (Ok (RemLockspace a)) plain = absurd (true_is_false (sym plain))
+  no_leaving s (Ok (SetKillpath p path)) plain = absurd (true_is_false (sym plain))
+  no_leaving s c plain = refl
+
+  no_program : (c : Result Command ℕ) → is_plain_line c ≡ true → kill_program_in c ≡ None
+  no_program (Ok (RemLockspace a)) plain = absurd (true_is_false (sym plain))
+  no_program (Ok (SetKillpath p path)) plain = absurd (true_is_false (sym plain))
+  no_program c plain = refl
+
+  -- The reply is not to the job of this line, or the line is plain.
+  abbrev pub LeavesText : Setting → Type 0
+  LeavesText st = (text : List ℕ) → i ≡ Line text → ((job == next_job st past) ≡ false) ⊎ (is_plain_line (st.read text) ≡ true)
+
+  pub leaving_stays : (st : Setting) (s : Session) → LeavesText st → leaving_job st (replied ∷ past) s ≡ leaving_job st (unsaid ∷ past) s
+  leaving_stays st s plain = ap (λ o. elim (leaving_job st past s) as (λ z. Option Job) [ Some j ↦ Some j | None ↦ o ]) (by i plain) where
+    of_line : (text : List ℕ) → ((job == next_job st past) ≡ false) ⊎ (is_plain_line (st.read text) ≡ true)
+        → elim (leaves s (st.read text)) as (λ z. Option Job) [
+          | false ↦ None
+          | true ↦ choose (is_joined past s && not (list_any (λ a. a.job == next_job st past) (fx.replies ++ said job r ∷ []))) (record { number = next_job st past; at = length past; reading = now; command = st.read text })
+        ]
+        ≡ elim (leaves s (st.read text)) as (λ z. Option Job) [
+          | false ↦ None
+          | true ↦ choose (is_joined past s && not (list_any (λ a. a.job == next_job st past) fx.replies)) (record { number = next_job st past; at = length past; reading = now; command = st.read text })
+        ]
+    of_line text (inl other) =
+        ap (λ b. elim (leaves s (st.read text)) as (λ z. Option Job) [
+          | false ↦ None
+          | true ↦ choose (is_joined past s && not b) (record { number = next_job st past; at = length past; reading = now; command = st.read text })
+        ]) (any_more (λ (a : JobReply). a.job == next_job st past) fx.replies (said job r) other)
+    of_line text (inr is) =
+        ap (λ t. elim t as (λ z. Option Job) [
+          | false ↦ None
+          | true ↦ choose (is_joined past s && not (list_any (λ a. a.job == next_job st past) (fx.replies ++ said job r ∷ []))) (record { number = next_job st past; at = length past; reading = now; command = st.read text })
+        ]) (no_leaving s (st.read text) is)
+        ∙ sym (ap (λ t. elim t as (λ z. Option Job) [
+          | false ↦ None
+          | true ↦ choose (is_joined past s && not (list_any (λ a. a.job == next_job st past) fx.replies)) (record { number = next_job st past; at = length past; reading = now; command = st.read text })
+        ]) (no_leaving s (st.read text) is))
+    by : (j : Input) → ((text : List ℕ) → j ≡ Line text → ((job == next_job st past) ≡ false) ⊎ (is_plain_line (st.read text) ≡ true))
+        → leaving_in st past s (record replied { input = j }) ≡ leaving_in st past s (record unsaid { input = j })
+    by (Line text) each = of_line text (each text refl)
+    by (Number text) each = refl
+    by (Told number a) each = refl
+    by (Exit p) each = refl
+    by (Spawned p ok) each = refl
+    by Wake each = refl
+
+  pub programs_stay : (st : Setting) → LeavesText st → kill_programs st (replied ∷ past) ≡ kill_programs st (unsaid ∷ past)
+  programs_stay st plain = ap (λ o. with_program o (without_program (exited_by i) (kill_programs st past))) (by i plain) where
+    of_line : (text : List ℕ) → ((job == next_job st past) ≡ false) ⊎ (is_plain_line (st.read text) ≡ true)
+        → option_and_then (λ k. choose (some_is (λ (q : Replied). is_done q.reply) (option_map (λ a. record { at = length past; reply = a.reply }) (find (λ a. a.job == next_job st past) (fx.replies ++ said job r ∷ [])))) k) (kill_program_in (st.read text))
+        ≡ option_and_then (λ k. choose (some_is (λ (q : Replied). is_done q.reply) (option_map (λ a. record { at = length past; reply = a.reply }) (find (λ a. a.job == next_job st past) fx.replies))) k) (kill_program_in (st.read text))
+    of_line text (inl other) =
+        ap (λ o. option_and_then (λ k. choose (some_is (λ (q : Replied). is_done q.reply) (option_map (λ (a : JobReply). record { at = length past; reply = a.reply }) o)) k) (kill_program_in (st.read text))) (found_more (next_job st past) fx.replies (said job r) other)
+    of_line text (inr is) =
+        ap (option_and_then (λ (k : KillProgram). choose (some_is (λ (q : Replied). is_done q.reply) (option_map (λ (a : JobReply). record { at = length past; reply = a.reply }) (find (λ a. a.job == next_job st past) (fx.replies ++ said job r ∷ [])))) k)) (no_program (st.read text) is)
+        ∙ sym (ap (option_and_then (λ (k : KillProgram). choose (some_is (λ (q : Replied). is_done q.reply) (option_map (λ (a : JobReply). record { at = length past; reply = a.reply }) (find (λ a. a.job == next_job st past) fx.replies))) k)) (no_program (st.read text) is))
+    by : (j : Input) → ((text : List ℕ) → j ≡ Line text → ((job == next_job st past) ≡ false) ⊎ (is_plain_line (st.read text) ≡ true))
+        → program_set_in st past (record replied { input = j }) ≡ program_set_in st past (record unsaid { input = j })
+    by (Line text) each = of_line text (each text refl)
+    by (Number text) each = refl
+    by (Told number a) each = refl
+    by (Exit p) each = refl
+    by (Spawned p ok) each = refl
+    by Wake each = refl
