@@ -18,3 +18,5 @@ pub mod QuietAfterAnswer
 pub mod AnswersAreHeard
 pub mod MembersKeepCalls
 pub mod ReplyEndsJob
+pub mod QuietAfterReply
+pub mod RepliesAreTaken
