@@ -2,7 +2,7 @@
 use Rattle.sl_due.specs.Steps.{Step, add_reply, seen}
 use Rattle.sl_host_plain.proofs.PlainLists.{at_some, each_of, filter_as, in_flat}
 use Rattle.sl_host_plain.proofs.SessionNumbers.{jobs_below}
-use Rattle.sl_host_state.specs.Kept.{HostState, MemberState}
+use Rattle.sl_host_state.specs.Kept.{Config, HostState, MemberState}
 use Rattle.sl_host_state.specs.Makes.{has_write_open, member_answered, member_replying, with_reply}
 use Rattle.sl_host_state.specs.Stands.{Keeps, MemberStands, Stands, is_joining, kept_call, kept_job, kept_waiting}
 use Rattle.sl_host_state.specs.declared.kept.JobState.{JobState}
@@ -18,12 +18,12 @@ use Rattle.sl_reply_law.proofs.PlainNumbers.{number_apart, same_number}
 use Rattle.sl_reply_law.proofs.PresentAfterAnswer.{present_kept}
 use Rattle.sl_reply_law.proofs.QuietAfterReply.{quiet_replied}
 use Rattle.sl_reply_law.proofs.ReplyEndsJob.{IsOwnJoining, LeavesText, calls_stay, is_its, joined_stays, leaving_stays, own_joining, programs_stay, refused_stays, replied, reply_stays, runs_still, unsaid}
-use Rattle.sl_reply_law.specs.Replies.{LeavesLine, MayReply, RepliesAreTaken, is_plain_line}
+use Rattle.sl_reply_law.specs.Replies.{LeavesHeed, LeavesLine, MayReply, RepliesAreTaken, is_plain_line}
 use Rattle.sl_sessions.specs.Sessions.{has_open_write, is_call_of, is_join_done, is_joined, is_present, joined_after, leaving_job, present_sessions, refused_after, removed_after, renewing}
 use Rattle.sl_sessions.specs.declared.session.Begun.{Begun}
 use Rattle.sl_sessions.specs.declared.session.Renewing.{Renewing}
 use Rattle.sl_sessions.specs.declared.session.Session.{Session}
-use Rattle.sl_trace.specs.Traces.{Job, Setting, Submitted, Trace, children, is_of_job, is_running, is_write, job_numbered, job_of, jobs, next_job, outstanding, reply_to, running_jobs, submitted, unanswered}
+use Rattle.sl_trace.specs.Traces.{Job, Setting, Submitted, Trace, children, is_of_job, is_running, is_write, job_numbered, job_of, jobs, next_job, numbers_taken, outstanding, reply_to, running_jobs, submitted, takes_number, unanswered}
 use Rattle.sl_trace.specs.declared.effects.Effects.{Effects}
 use Rattle.sl_trace.specs.declared.input.Input.TheVariants.{Answer as Told, Exit, Line, Number, Spawned, Wake}
 use Rattle.sl_trace.specs.declared.input.Input.{Input}
@@ -238,3 +238,49 @@ module _ (st : Setting) (past : Trace) (now : ℕ) (i : Input) (fx : Effects) (j
       let none = (own m.who k.runs is).not_joined in
       (sym (ap (λ (z : Renewing). z.recovery) s.renewing) ∙ not_recovering st before m.who none,
       sym s.leaving ∙ ap (option_map (λ (j : Job). record { at = j.at; reading = j.reading; kills_from = j.at + 1 })) (not_leaving st before m.who none))
+
+-- ---- of a step
+
+-- The job of a reply is one of the trace's, and runs.
+record IsOfTrace (st : Setting) (es : Trace) (job : ℕ) : Type 0 where
+  runs : is_running es job ≡ true
+  below : job < next_job st es
+
+of_trace : (h : HostState) (st : Setting) (es : Trace) (job : ℕ) → Keeps h st es → list_any (λ j. j.number == job) h.jobs ≡ true → IsOfTrace st es job
+of_trace h st es job k runs =
+    let found = any_found (λ (j : JobState). j.number == job) h.jobs runs in
+    let kept_as = in_map (kept_job es) (running_jobs st es) found.0 (subst (λ js. Contains js found.0) (sym k.jobs) found.1) in
+    let j : Job = kept_as.0 in
+    let same : j.number ≡ job = ap (λ (z : JobState). z.number) kept_as.2 ∙ same_number found.0.number job found.2 in
+    let inside = kept_inside (λ (j : Job). is_running es j.number) (jobs st es) j kept_as.1 in
+    record {
+      runs = ap (is_running es) (sym same) ∙ inside.1;
+      below = subst (λ n. n < next_job st es) same (each_of (λ (j : Job). j.number < next_job st es) (jobs st es) j (jobs_below st es) inside.0);
+    }
+
+-- The line's own number is the last that was taken.
+text_left : (job : ℕ) (r : Reply) (i : Input) (h : HostState) (x : Step) → Stands i h x → LeavesLine i job h → LeavesText x.past x.reading x.input x.effects job r x.setting
+text_left job r i h x s leaves text is = by (subst (λ j. LeavesLine j job h) (sym s.input ∙ is) leaves) where
+  taken : next_job x.setting (seen x) ≡ x.setting.first.job + (numbers_taken x.past + 1)
+  taken = ap (λ j. x.setting.first.job + elim (takes_number j) as (λ z. ℕ) [ true ↦ numbers_taken x.past + 1 | false ↦ numbers_taken x.past ]) is
+  one_less : (a f n m : ℕ) → m ≡ f + (n + 1) → (a + 1 == m) ≡ false → (a == f + n) ≡ false
+  one_less a f n m same other = grind arith
+  by : ((job + 1 == h.next_job) ≡ false) ⊎ (is_plain_line (h.config.read text) ≡ true) → ((job == next_job x.setting x.past) ≡ false) ⊎ (is_plain_line (x.setting.read text) ≡ true)
+  by (inl other) = inl (one_less job x.setting.first.job (numbers_taken x.past) h.next_job (sym s.keeps.lines ∙ taken) other)
+  by (inr plain) = inr (ap (λ (c : Config). is_plain_line (c.read text)) s.keeps.config ∙ plain)
+
+pub replies_are_taken : RepliesAreTaken
+replies_are_taken job r i h x s may =
+    let its = of_trace h x.setting (seen x) job s.keeps may.runs in
+    let heed = subst (λ j. LeavesHeed j job r x.past) (sym s.input) may.heed in
+    let k : IsReplied x.setting x.past x.reading x.input x.effects job r h =
+        record { keeps = s.keeps; runs = its.runs; calls = calls_stay x.past x.reading x.input x.effects job r heed; text = text_left job r i h x s may.line } in
+    record {
+      input = s.input;
+      past = s.past;
+      reading = s.reading;
+      before = s.before;
+      made = ap (λ (fx : Effects). record fx { replies = fx.replies ++ record { job = job; reply = r } ∷ [] }) s.made;
+      keeps = keeps_replied x.setting x.past x.reading x.input x.effects job r h k (subst (λ n. job < n) s.keeps.lines its.below);
+      quiet = quiet_replied h job r s.quiet (not_begun x.setting x.past x.reading x.input x.effects job r h k);
+    }
