@@ -7,13 +7,12 @@ use Rattle.sl_leases.specs.Leases.{is_lease_call, is_on, spots_in, value_written
 use Rattle.sl_sessions.specs.Sessions.{calls_of, free_write, generation_in, is_call_of, is_delta_purpose, is_joined, leaving_job, refused_after, renewal_in, renewing, seq_in}
 use Rattle.sl_sessions.specs.Watching.{sightings}
 use Rattle.sl_sessions.specs.declared.delta.DeltaKnown.{DeltaKnown}
-use Rattle.sl_sessions.specs.declared.session.Begun.{Begun}
 use Rattle.sl_sessions.specs.declared.session.Renewing.{Renewing}
 use Rattle.sl_sessions.specs.declared.session.Session.{Session}
 use Rattle.sl_trace.specs.Traces.{Job, Setting, Submitted, Trace, submitted, unanswered}
 use Rattle.std.proofs.Common.{ap, subst, sym, ◌∙◌}
 use Rattle.std.specs.List.{AllByRecursion, list_any}
-use Rattle.std.specs.Prelude.{Bool, IsTrue, List, Option, filter, is_none, is_some, option_map, true, ℕ, ◌&&◌, ◌+◌, ◌==◌, ◌≡◌, ◌||◌}
+use Rattle.std.specs.Prelude.{Bool, IsTrue, List, Option, filter, is_none, is_some, option_map, true, ◌&&◌, ◌+◌, ◌≡◌, ◌||◌}
 
 -- What is asked of a session's calls, renewals and leaving is the same after these entries as after those.
 pub record AreSame (st : Setting) (before after : Trace) (s : Session) : Type 0 where

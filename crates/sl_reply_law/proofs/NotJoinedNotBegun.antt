@@ -1,18 +1,17 @@
 -- A session that has not joined is not removed, in recovery or leaving: each of these begins of one that was joined before.
-use Rattle.sl_sessions.specs.Sessions.{is_join_done, is_joined, joined_after, leaves, leaving_job, leaving_in, recovers, removed_after, removed_in, renewed_by, renewing, renewing_after, shows_other}
+use Rattle.sl_sessions.specs.Sessions.{is_join_done, is_joined, joined_after, leaves, leaving_job, leaving_in, recovers, removed_after, removed_in, renewed_by, renewing, shows_other}
 use Rattle.sl_sessions.specs.declared.session.Begun.{Begun}
 use Rattle.sl_sessions.specs.declared.session.Renewing.{Renewing}
 use Rattle.sl_sessions.specs.declared.session.Session.{Session}
 use Rattle.sl_time.specs.Times.{fail}
 use Rattle.sl_trace.specs.Connections.{unregisters}
 use Rattle.sl_trace.specs.Traces.{Job, Replied, Setting, Trace, line_in, next_job, reply_in, reply_to}
-use Rattle.sl_trace.specs.declared.command.Command.{Command}
 use Rattle.sl_trace.specs.declared.effects.Entry.{Entry}
 use Rattle.sl_words.proofs.CaseLaws.{false_is_true}
 use Rattle.sl_words.specs.Words.{choose}
 use Rattle.std.proofs.Common.{ap, refl, sym, ◌∙◌}
 use Rattle.std.specs.List.{list_any}
-use Rattle.std.specs.Prelude.{Bool, List, None, Option, Result, Some, false, is_none, is_some, length, nat_le, not, option_and_then, true, unwrap_or, [], ℕ, ◌&&◌, ◌+◌, ◌==◌, ◌∷◌, ◌≡◌, ◌||◌}
+use Rattle.std.specs.Prelude.{Bool, List, None, Option, Some, false, is_none, is_some, length, nat_le, not, option_and_then, true, unwrap_or, [], ℕ, ◌&&◌, ◌+◌, ◌==◌, ◌∷◌, ◌≡◌, ◌||◌}
 
 -- Who has not joined had not before.
 pub not_before : (e : Entry) (es : Trace) (s : Session) → joined_after (e ∷ es) s ≡ None → joined_after es s ≡ None
@@ -21,6 +20,7 @@ not_before e es s = by s.job where
       → option_and_then (λ r. choose (is_join_done r.reply) (r.at + 1)) o ≡ None
   by_reply j None is = refl
   by_reply j (Some r) is = is
+
   by : (o : Option ℕ) → elim o as (λ z. Option ℕ) [ None ↦ Some 0 | Some j ↦ option_and_then (λ r. choose (is_join_done r.reply) (r.at + 1)) (reply_to (e ∷ es) j) ] ≡ None
       → elim o as (λ z. Option ℕ) [ None ↦ Some 0 | Some j ↦ option_and_then (λ r. choose (is_join_done r.reply) (r.at + 1)) (reply_to es j) ] ≡ None
   by None is = is
@@ -64,21 +64,22 @@ not_recovering st (e ∷ es) s is = not_recovering_yet st es s e (not_before e e
 not_leaving_yet : (st : Setting) (es : Trace) (s : Session) (e : Entry) → joined_after es s ≡ None → leaving_job st es s ≡ None → leaving_job st (e ∷ es) s ≡ None
 not_leaving_yet st es s e is none =
     ap (λ o. elim o as (λ z. Option Job) [ Some j ↦ Some j | None ↦ leaving_in st es s e ]) none ∙ by (line_in e.input) (is_joined es s) (not_joined es s is) where
-  chosen : (t joined more : Bool) (j : Job) → joined ≡ false → elim t as (λ z. Option Job) [ false ↦ None | true ↦ choose (joined && more) j ] ≡ None
-  chosen false joined more j not_it = refl
-  chosen true false more j not_it = refl
-  chosen true true more j not_it = absurd (false_is_true (sym not_it))
-  by : (o : Option (List ℕ)) (joined : Bool) → joined ≡ false
-      → elim o as (λ z. Option Job) [
-        | None ↦ None
-        | Some text ↦ elim (leaves s (st.read text)) as (λ z. Option Job) [
-          | false ↦ None
-          | true ↦ choose (joined && not (list_any (λ a. a.job == next_job st es) e.effects.replies)) (record { number = next_job st es; at = length es; reading = e.reading; command = st.read text })
-        ]
-      ] ≡ None
-  by None joined not_it = refl
-  by (Some text) joined not_it =
-      chosen (leaves s (st.read text)) joined (not (list_any (λ a. a.job == next_job st es) e.effects.replies)) (record { number = next_job st es; at = length es; reading = e.reading; command = st.read text }) not_it
+      chosen : (t joined more : Bool) (j : Job) → joined ≡ false → elim t as (λ z. Option Job) [ false ↦ None | true ↦ choose (joined && more) j ] ≡ None
+      chosen false joined more j not_it = refl
+      chosen true false more j not_it = refl
+      chosen true true more j not_it = absurd (false_is_true (sym not_it))
+
+      by : (o : Option (List ℕ)) (joined : Bool) → joined ≡ false
+          → elim o as (λ z. Option Job) [
+            | None ↦ None
+            | Some text ↦ elim (leaves s (st.read text)) as (λ z. Option Job) [
+              | false ↦ None
+              | true ↦ choose (joined && not (list_any (λ a. a.job == next_job st es) e.effects.replies)) (record { number = next_job st es; at = length es; reading = e.reading; command = st.read text })
+            ]
+          ] ≡ None
+      by None joined not_it = refl
+      by (Some text) joined not_it =
+          chosen (leaves s (st.read text)) joined (not (list_any (λ a. a.job == next_job st es) e.effects.replies)) (record { number = next_job st es; at = length es; reading = e.reading; command = st.read text }) not_it
 
 pub not_leaving : (st : Setting) (es : Trace) (s : Session) → joined_after es s ≡ None → leaving_job st es s ≡ None
 not_leaving st [] s is = refl

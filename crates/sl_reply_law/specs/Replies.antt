@@ -4,18 +4,15 @@ use Rattle.sl_due.specs.Steps.{Step, add_reply}
 use Rattle.sl_host_state.specs.Kept.{HostState}
 use Rattle.sl_host_state.specs.Makes.{with_reply}
 use Rattle.sl_host_state.specs.Stands.{Stands}
-use Rattle.sl_trace.specs.Traces.{Submitted, Trace, is_before_input, is_of_job, submitted}
+use Rattle.sl_reply_law.specs.Answers.{IsOfOther}
+use Rattle.sl_trace.specs.Traces.{Trace, is_before_input}
 use Rattle.sl_trace.specs.declared.command.Command.TheVariants.{RemLockspace, SetKillpath}
 use Rattle.sl_trace.specs.declared.command.Command.{Command}
 use Rattle.sl_trace.specs.declared.input.Input.TheVariants.{Answer as Told, Line}
 use Rattle.sl_trace.specs.declared.input.Input.{Input}
 use Rattle.sl_trace.specs.declared.reply.Reply.{Reply}
 use Rattle.std.specs.List.{list_any}
-use Rattle.std.specs.Prelude.{Bool, Contains, IsTrue, Ok, Result, false, true, ℕ, ◌+◌, ◌==◌, ◌≡◌, ◌⊎◌}
-
--- The call that was answered is not the job's.
-abbrev pub IsOfOther : ℕ → ℕ → Trace → Type 0
-IsOfOther number job past = (d : Submitted) → Contains (submitted past) d → (d.call.number == number) ≡ true → is_of_job job d ≡ false
+use Rattle.std.specs.Prelude.{Bool, IsTrue, Ok, Result, false, true, ℕ, ◌+◌, ◌==◌, ◌≡◌, ◌⊎◌}
 
 -- The reply leaves the heed of the answer that the input brings: it is none of those of before an input, or the answer is another's.
 abbrev pub LeavesHeed : Input → ℕ → Reply → Trace → Type 0

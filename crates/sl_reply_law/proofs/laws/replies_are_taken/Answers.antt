@@ -1,4 +1,4 @@
-use Rattle.sl_reply_law.proofs.RepliesAreTaken as its
+use Rattle.sl_reply_law.proofs.Replies.RepliesAreTaken as its
 use Rattle.sl_reply_law.proofs.laws.replies_are_taken.Goals as goal
 
 pub returns : goal.returns

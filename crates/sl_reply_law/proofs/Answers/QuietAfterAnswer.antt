@@ -1,5 +1,5 @@
 -- Nothing that is due by time is due below the moment that a host keeps, after an answer: what begins by it lowers that moment.
-use Rattle.sl_host_plain.proofs.PlainLists.{at_some, flat_has, in_back, in_either, in_flat, in_front}
+use Rattle.sl_host_plain.proofs.PlainLists.{in_back, in_front}
 use Rattle.sl_host_state.specs.Hears.{beginning, hearing, is_over_with, job_hearing, member_hearing, members_hearing, quiet_hearing, renewed_of, shows_other_by}
 use Rattle.sl_host_state.specs.Kept.{HostState, MemberState}
 use Rattle.sl_host_state.specs.Makes.{lowered}
@@ -7,7 +7,8 @@ use Rattle.sl_host_state.specs.Stands.{IsQuiet, job_moments, kill_moment, member
 use Rattle.sl_host_state.specs.declared.kept.JobState.{JobState}
 use Rattle.sl_host_state.specs.declared.kept.OpenCall.{OpenCall}
 use Rattle.sl_host_state.specs.declared.kept.WaitingCall.{WaitingCall}
-use Rattle.sl_plain.proofs.Lists.{any_of, contains_cases, contains_first, contains_none, got_inside, in_map, kept_inside}
+use Rattle.sl_reply_law.proofs.MomentsAreLater.{AllFrom, from_both, from_lower, from_none, job_from, member_from, moments_from, one_moment, quiet_by, quiet_from}
+use Rattle.sl_plain.proofs.Lists.{any_of, contains_first, contains_none, in_map, kept_inside}
 use Rattle.sl_sessions.specs.Sessions.{is_renewal}
 use Rattle.sl_sessions.specs.declared.session.Begun.{Begun}
 use Rattle.sl_sessions.specs.declared.session.Renewing.{Renewing}
@@ -16,53 +17,9 @@ use Rattle.sl_trace.specs.declared.input.Answer.TheVariants.{Failed, Read, Writt
 use Rattle.sl_trace.specs.declared.input.Answer.{Answer}
 use Rattle.sl_words.proofs.CaseLaws.{none_some, some_value}
 use Rattle.sl_words.specs.Words.{choose}
-use Rattle.std.proofs.Common.{arith, inl, inr, refl, subst, sym}
+use Rattle.std.proofs.Common.{arith, refl, subst, sym}
 use Rattle.std.specs.List.{list_any}
-use Rattle.std.specs.Prelude.{Bool, Contains, List, None, Option, Some, cond, false, flat_map, map, min, nat_le, nat_lt, not, true, unwrap_or, [], ℕ, ◌&&◌, ◌++◌, ◌+◌, ◌-◌, ◌==◌, ◌∷◌, ◌≡◌, ◌≤◌, ◌⊎◌}
-
--- Each moment of these is at or above this one.
-abbrev pub AllFrom : ℕ → List ℕ → Type 0
-AllFrom q ts = (t : ℕ) → Contains ts t → q ≤ t
-
-pub quiet_from : (h : HostState) → IsQuiet h → AllFrom h.quiet_until (moments_of h)
-quiet_from h quiet t there = let at = at_some (moments_of h) t there in quiet at.0 t at.1
-
-pub quiet_by : (h : HostState) → AllFrom h.quiet_until (moments_of h) → IsQuiet h
-quiet_by h all k t at = all t (got_inside (moments_of h) k t at)
-
-pub one_moment : (q x t : ℕ) → q ≤ x → Contains (x ∷ []) t → q ≤ t
-one_moment q x t le there = by (contains_cases x [] t there) where
-  by : (x ≡ t) ⊎ Contains [] t → q ≤ t
-  by (inl is) = subst (λ z. q ≤ z) is le
-  by (inr none) = absurd (contains_none t none)
-
-pub from_lower : (p q : ℕ) (ts : List ℕ) → p ≤ q → AllFrom q ts → AllFrom p ts
-from_lower p q ts le all t there = let high : q ≤ t = all t there in omega (arith, le, high)
-
-pub from_both : (q : ℕ) (xs ys : List ℕ) → AllFrom q xs → AllFrom q ys → AllFrom q (xs ++ ys)
-from_both q xs ys first second t there = by (in_either xs ys t there) where
-  by : Contains xs t ⊎ Contains ys t → q ≤ t
-  by (inl at) = first t at
-  by (inr at) = second t at
-
-pub from_none : (q : ℕ) → AllFrom q []
-from_none q t there = absurd (contains_none t there)
-
--- Those of each member and of each job are.
-pub moments_from : (q : ℕ) (h : HostState) → ((m : MemberState) → Contains h.members m → AllFrom q (member_moments h m)) → ((j : JobState) → Contains h.jobs j → AllFrom q (job_moments h j))
-    → AllFrom q (moments_of h)
-moments_from q h members jobs = from_both q (flat_map (member_moments h) h.members) (flat_map (job_moments h) h.jobs) of_members of_jobs where
-  of_members : AllFrom q (flat_map (member_moments h) h.members)
-  of_members t there = let at = in_flat (member_moments h) h.members t there in members at.0 at.1 t at.2
-
-  of_jobs : AllFrom q (flat_map (job_moments h) h.jobs)
-  of_jobs t there = let at = in_flat (job_moments h) h.jobs t there in jobs at.0 at.1 t at.2
-
-pub member_from : (q : ℕ) (h : HostState) → AllFrom q (moments_of h) → (m : MemberState) → Contains h.members m → AllFrom q (member_moments h m)
-member_from q h all m there t at = all t (in_front (flat_map (member_moments h) h.members) (flat_map (job_moments h) h.jobs) t (flat_has (member_moments h) h.members m t there at))
-
-pub job_from : (q : ℕ) (h : HostState) → AllFrom q (moments_of h) → (j : JobState) → Contains h.jobs j → AllFrom q (job_moments h j)
-job_from q h all j there t at = all t (in_back (flat_map (member_moments h) h.members) (flat_map (job_moments h) h.jobs) t (flat_has (job_moments h) h.jobs j t there at))
+use Rattle.std.specs.Prelude.{Bool, Contains, List, None, Option, Some, cond, false, map, min, nat_le, nat_lt, not, true, unwrap_or, [], ℕ, ◌&&◌, ◌++◌, ◌+◌, ◌-◌, ◌==◌, ◌∷◌, ◌≡◌, ◌≤◌}
 
 -- ---- what the answer lowers
 

@@ -1,30 +1,23 @@
 -- Who is present after an answer: all but a refused joining whose last open write it answers.
-use Rattle.sl_host_plain.proofs.PlainLists.{at_some, filter_as, filter_where}
+use Rattle.sl_host_plain.proofs.PlainLists.{at_some, filter_where}
 use Rattle.sl_host_state.specs.Hears.{is_over_with, others}
 use Rattle.sl_host_state.specs.Kept.{HostState, MemberState}
 use Rattle.sl_host_state.specs.Stands.{Keeps, kept_call}
 use Rattle.sl_host_state.specs.declared.kept.OpenCall.{OpenCall}
-use Rattle.sl_plain.proofs.Lists.{filter_both}
-use Rattle.sl_reply_law.proofs.AnswerIsHeeded.{waking}
-use Rattle.sl_reply_law.proofs.AnswerMarksOneCall.{told}
+use Rattle.sl_reply_law.proofs.Answers.AnswerIsHeeded.{waking}
+use Rattle.sl_reply_law.proofs.Answers.AnswerMarksOneCall.{told}
 use Rattle.sl_reply_law.proofs.OpenCallsAreKept.{open_write_is}
 use Rattle.sl_reply_law.proofs.PlainFilters.{any_kept, filter_mapped}
-use Rattle.sl_reply_law.proofs.PlainOrderKept.{IsStrict, order_filtered}
-use Rattle.sl_reply_law.proofs.PlainTextOrder.{text_asym, text_weak}
-use Rattle.sl_sessions.specs.Sessions.{has_open_write, is_join_done, is_present, joined_after, present_sessions, refused_after, removed_after, sessions}
+use Rattle.sl_reply_law.proofs.PresentInOrder.{present_kept}
+use Rattle.sl_sessions.specs.Sessions.{has_open_write, is_join_done, is_present, joined_after, present_sessions, refused_after, removed_after}
 use Rattle.sl_sessions.specs.declared.session.Session.{Session}
 use Rattle.sl_trace.specs.Traces.{Replied, Setting, Trace, outstanding, reply_to}
 use Rattle.sl_trace.specs.declared.effects.Effects.{Effects}
 use Rattle.sl_trace.specs.declared.input.Answer.{Answer}
-use Rattle.sl_words.specs.Orders.{in_order, is_text_before}
 use Rattle.sl_words.specs.Words.{choose}
 use Rattle.std.proofs.Common.{ap, refl, sym, ◌∙◌}
 use Rattle.std.specs.List.{list_any}
 use Rattle.std.specs.Prelude.{Bool, List, None, Option, Some, false, filter, is_none, is_some, map, not, option_and_then, reverse, slice_get, true, [], ℕ, ◌&&◌, ◌+◌, ◌==◌, ◌∷◌, ◌≡◌, ◌||◌}
-
--- Texts stand in a strict order, so sessions do by their lockspaces' names.
-pub by_name : IsStrict (λ (a b : Session). is_text_before a.lockspace b.lockspace)
-by_name = record { weak = λ a b c. text_weak a.lockspace b.lockspace c.lockspace; asym = λ a b. text_asym a.lockspace b.lockspace }
 
 -- Who is joined was not refused.
 pub joined_not_refused : (es : Trace) (s : Session) (k : ℕ) → joined_after es s ≡ Some k → refused_after es s ≡ None
@@ -41,15 +34,6 @@ joined_not_refused es s k = by s.job where
       → elim o as (λ z. Option ℕ) [ None ↦ None | Some j ↦ option_and_then (λ r. choose (not (is_join_done r.reply)) (r.at + 1)) (reply_to es j) ] ≡ None
   by None is = refl
   by (Some j) is = by_job (reply_to es j) is
-
--- The present sessions after some have gone, in the same order.
-pub present_kept : (st : Setting) (before after : Trace) (stays : Session → Bool) → sessions st after ≡ sessions st before → ((s : Session) → is_present after s ≡ (is_present before s && stays s))
-    → present_sessions st after ≡ filter stays (present_sessions st before)
-present_kept st before after stays same presence =
-    ap (λ ss. in_order (λ (a b : Session). is_text_before a.lockspace b.lockspace) (filter (is_present after) ss)) same
-    ∙ ap (in_order (λ (a b : Session). is_text_before a.lockspace b.lockspace))
-    (filter_as (is_present after) (λ s. is_present before s && stays s) (sessions st before) presence ∙ filter_both (is_present before) stays (sessions st before))
-    ∙ sym (order_filtered (λ (a b : Session). is_text_before a.lockspace b.lockspace) stays by_name (filter (is_present before) (sessions st before)))
 
 module _ (past : Trace) (now : ℕ) (fx : Effects) (n : ℕ) (a : Answer) where
   abbrev before : Trace
@@ -101,7 +85,7 @@ module _ (past : Trace) (now : ℕ) (fx : Effects) (n : ℕ) (a : Answer) where
   pub present_heard : (st : Setting) (h : HostState) (c : OpenCall) → c.number ≡ n → Keeps h st before → map kept_call (outstanding after) ≡ reverse (others n h)
       → present_sessions st after ≡ map (λ m. m.who) (filter (λ m. not (is_over_with c.number h m)) h.members)
   present_heard st h c number k still_open =
-      present_kept st before after stays refl (λ s. present_as s (λ is.
+      present_kept st before after stays refl (λ s there. present_as s (λ is.
       open_write_is before s h.unanswered k.unanswered
       ∙ any_weaker (λ c. c.session == s.number && is_none c.sectors) (λ c. not (c.number == n)) h.unanswered (sym (open_write_is after s (others n h) still_open) ∙ is)))
       ∙ ap (filter stays) k.present ∙ filter_mapped stays (λ (m : MemberState). m.who) h.members

@@ -4,10 +4,11 @@ use Rattle.sl_plain.proofs.Numbers.{number_turned}
 use Rattle.sl_plain.proofs.Options.{none_is}
 use Rattle.sl_reply_law.proofs.PlainFilters.{map_where}
 use Rattle.sl_reply_law.proofs.PlainNumbers.{number_apart, same_number}
-use Rattle.sl_reply_law.specs.Replies.{IsOfOther, LeavesHeed, is_plain_line}
+use Rattle.sl_reply_law.specs.Answers.{IsOfOther}
+use Rattle.sl_reply_law.specs.Replies.{LeavesHeed, is_plain_line}
 use Rattle.sl_sessions.specs.Sessions.{is_join_done, is_joined, joined_after, leaves, leaving_in, leaving_job, refused_after}
 use Rattle.sl_sessions.specs.declared.session.Session.{Session}
-use Rattle.sl_trace.specs.Traces.{Answered, Job, KillProgram, Replied, Setting, Submitted, Trace, answered_in, exited_by, is_before_input, is_done, is_going_on, is_of_job, is_running, job_of, kill_program_in, kill_programs, line_in, mark, new_call, next_job, program_set_in, reply_to, submitted, with_program, without_program}
+use Rattle.sl_trace.specs.Traces.{Job, KillProgram, Replied, Setting, Submitted, Trace, answered_in, exited_by, is_before_input, is_done, is_going_on, is_of_job, is_running, job_of, kill_program_in, kill_programs, mark, new_call, next_job, program_set_in, reply_to, submitted, with_program, without_program}
 use Rattle.sl_trace.specs.declared.command.Command.TheVariants.{RemLockspace, SetKillpath}
 use Rattle.sl_trace.specs.declared.command.Command.{Command}
 use Rattle.sl_trace.specs.declared.effects.Call.{Call}
@@ -23,7 +24,7 @@ use Rattle.sl_words.specs.Words.{choose, some_is}
 use Rattle.std.proofs.Common.{ap, inl, inr, refl, subst, sym, ◌∙◌}
 use Rattle.std.specs.List.{list_any}
 use Rattle.std.specs.Option.{option_or}
-use Rattle.std.specs.Prelude.{Bool, Contains, Err, List, None, Ok, Option, Result, Some, cond, false, find, fold, is_none, is_some, length, map, not, option_and_then, option_map, true, [], ℕ, ◌&&◌, ◌++◌, ◌+◌, ◌==◌, ◌∷◌, ◌≡◌, ◌||◌, ◌⊎◌}
+use Rattle.std.specs.Prelude.{Bool, Contains, List, None, Ok, Option, Result, Some, cond, false, find, fold, is_none, length, not, option_and_then, option_map, true, [], ℕ, ◌&&◌, ◌++◌, ◌+◌, ◌==◌, ◌∷◌, ◌≡◌, ◌||◌, ◌⊎◌}
 
 abbrev pub said : ℕ → Reply → JobReply
 said job r = record { job = job; reply = r }
@@ -79,9 +80,11 @@ module _ (past : Trace) (now : ℕ) (i : Input) (fx : Effects) (job : ℕ) (r : 
     and_true : (b : Bool) → b ≡ (b && true)
     and_true true = refl
     and_true false = refl
+
     and_false : (b : Bool) → false ≡ (b && false)
     and_false true = refl
     and_false false = refl
+
     by : (b : Bool) → (job == k) ≡ b → is_running (replied ∷ past) k ≡ (is_running (unsaid ∷ past) k && not b)
     by false other = ap is_none (reply_stays k other) ∙ and_true (is_running (unsaid ∷ past) k)
     by true its = ap is_none (reply_comes k its (none_is (reply_to (unsaid ∷ past) k) (ap (λ n. is_running (unsaid ∷ past) n) (sym (same_number job k its)) ∙ runs))) ∙ and_false (is_running (unsaid ∷ past) k)
@@ -142,6 +145,7 @@ module _ (past : Trace) (now : ℕ) (i : Input) (fx : Effects) (job : ℕ) (r : 
     never : (b : Bool) → (b && false) ≡ false
     never true = refl
     never false = refl
+
     by : (is_before_input r ≡ false) ⊎ ((k == job) ≡ false) → ((job == k) && is_before_input r) ≡ false
     by (inl late) = ap (λ b. (job == k) && b) late ∙ never (job == k)
     by (inr other) = ap (λ b. b && is_before_input r) (number_apart k job other)
@@ -210,6 +214,7 @@ module _ (past : Trace) (now : ℕ) (i : Input) (fx : Effects) (job : ℕ) (r : 
           | false ↦ None
           | true ↦ choose (is_joined past s && not (list_any (λ a. a.job == next_job st past) fx.replies)) (record { number = next_job st past; at = length past; reading = now; command = st.read text })
         ]) (no_leaving s (st.read text) is))
+
     by : (j : Input) → ((text : List ℕ) → j ≡ Line text → ((job == next_job st past) ≡ false) ⊎ (is_plain_line (st.read text) ≡ true))
         → leaving_in st past s (record replied { input = j }) ≡ leaving_in st past s (record unsaid { input = j })
     by (Line text) each = of_line text (each text refl)
@@ -229,6 +234,7 @@ module _ (past : Trace) (now : ℕ) (i : Input) (fx : Effects) (job : ℕ) (r : 
     of_line text (inr is) =
         ap (option_and_then (λ (k : KillProgram). choose (some_is (λ (q : Replied). is_done q.reply) (option_map (λ (a : JobReply). record { at = length past; reply = a.reply }) (find (λ a. a.job == next_job st past) (fx.replies ++ said job r ∷ [])))) k)) (no_program (st.read text) is)
         ∙ sym (ap (option_and_then (λ (k : KillProgram). choose (some_is (λ (q : Replied). is_done q.reply) (option_map (λ (a : JobReply). record { at = length past; reply = a.reply }) (find (λ a. a.job == next_job st past) fx.replies))) k)) (no_program (st.read text) is))
+
     by : (j : Input) → ((text : List ℕ) → j ≡ Line text → ((job == next_job st past) ≡ false) ⊎ (is_plain_line (st.read text) ≡ true))
         → program_set_in st past (record replied { input = j }) ≡ program_set_in st past (record unsaid { input = j })
     by (Line text) each = of_line text (each text refl)

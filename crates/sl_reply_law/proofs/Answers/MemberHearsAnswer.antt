@@ -11,14 +11,14 @@ use Rattle.sl_leases.specs.Counts.{values_on}
 use Rattle.sl_leases.specs.Leases.{block_written, is_lease_call, is_on, lease_calls, lease_step, spots_in, value_written}
 use Rattle.sl_plain.proofs.Lists.{find_inside, kept, kept_inside}
 use Rattle.sl_plain.proofs.Numbers.{number_itself}
-use Rattle.sl_reply_law.proofs.AnswerFindsItsCall.{IsOr, IsTheCall}
-use Rattle.sl_reply_law.proofs.AnswerIsHeeded.{heeded_is, waking}
-use Rattle.sl_reply_law.proofs.AnswerMarksOneCall.{all_answered, all_heard, free_stays, generation_stays, given_heard, hear, not_its, picked, renewal_stays, seq_stays, spots_stay, told, unheard}
-use Rattle.sl_reply_law.proofs.DeltaCallsHearAnswer.{asked_is, deltas, heard, heard_is, joining_is, sightings_are, turn_is}
-use Rattle.sl_reply_law.proofs.LeaseHearsAnswer.{lease_hears}
+use Rattle.sl_reply_law.proofs.Answers.AnswerFindsItsCall.{IsOr, IsTheCall}
+use Rattle.sl_reply_law.proofs.Answers.AnswerIsHeeded.{heeded_is, waking}
+use Rattle.sl_reply_law.proofs.Answers.AnswerMarksOneCall.{all_answered, all_heard, free_stays, generation_stays, given_heard, hear, not_its, picked, renewal_stays, seq_stays, spots_stay, told, unheard}
+use Rattle.sl_reply_law.proofs.Answers.DeltaCallsHearAnswer.{asked_is, deltas, heard, heard_is, joining_is, sightings_are, turn_is}
+use Rattle.sl_reply_law.proofs.Answers.LeaseHearsAnswer.{lease_hears}
 use Rattle.sl_reply_law.proofs.OpenCallsAreKept.{open_delta_is}
 use Rattle.sl_reply_law.proofs.PlainFilters.{all_kept}
-use Rattle.sl_reply_law.proofs.RenewingHearsAnswer.{renewing_other, renewing_own}
+use Rattle.sl_reply_law.proofs.Answers.RenewingHearsAnswer.{renewing_other, renewing_own}
 use Rattle.sl_reply_law.specs.Answers.{FitsCall}
 use Rattle.sl_sessions.specs.Deltas.{delta_known}
 use Rattle.sl_sessions.specs.Sessions.{calls_of, free_write, generation_in, generation_of, has_open_delta, is_call_of, is_delta_purpose, is_present, leaving_job, me, renewal_in, renewing, seq_in}

@@ -12,7 +12,7 @@ use Rattle.sl_leases.specs.Leases.{Area_read, Phase1_read, Phase2_read, Phase2_w
 use Rattle.sl_leases.specs.declared.lease.Stop.{Stop}
 use Rattle.sl_plain.proofs.Options.{mapped_value}
 use Rattle.sl_reply_law.proofs.PlainNumbers.{same_number}
-use Rattle.sl_reply_law.proofs.OpenBallotsAreOwn.{open_is_own}
+use Rattle.sl_reply_law.proofs.Answers.OpenBallotsAreOwn.{open_is_own}
 use Rattle.sl_sector.specs.declared.sector.Block.{Block}
 use Rattle.sl_sector.specs.declared.sector.Leader.{Leader}
 use Rattle.sl_sector.specs.declared.sector.Owner.{Owner}

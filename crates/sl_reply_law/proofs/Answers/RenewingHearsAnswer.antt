@@ -3,8 +3,8 @@ use Rattle.sl_area.specs.Places.{delta_of}
 use Rattle.sl_host_state.specs.Hears.{renewed_of, renewing_hearing, setting_of, shows_other_by}
 use Rattle.sl_host_state.specs.Kept.{Config, HostState, MemberState}
 use Rattle.sl_host_state.specs.Stands.{config_of, kept_call}
-use Rattle.sl_reply_law.proofs.AnswerIsHeeded.{waking}
-use Rattle.sl_reply_law.proofs.AnswerMarksOneCall.{told}
+use Rattle.sl_reply_law.proofs.Answers.AnswerIsHeeded.{waking}
+use Rattle.sl_reply_law.proofs.Answers.AnswerMarksOneCall.{told}
 use Rattle.sl_sessions.specs.Sessions.{generation_of, has_open_write, is_call_of, is_join_done, is_joined, is_present, is_renewal, is_survey_purpose, joined_after, refused_after, removed_after, removed_in, renewed_by, renewing, shows_other, shows_other_in}
 use Rattle.sl_sessions.specs.declared.session.Begun.{Begun}
 use Rattle.sl_sessions.specs.declared.session.Renewing.{Renewing}

@@ -10,8 +10,8 @@ use Rattle.sl_host_state.specs.Stands.{AreInTurn, JoinStands, is_asked_in, kept_
 use Rattle.sl_host_state.specs.declared.kept.AskedAt.{AskedAt}
 use Rattle.sl_host_state.specs.declared.kept.JoinCall.{JoinCall}
 use Rattle.sl_plain.proofs.Lists.{any_of, contains_cases, contains_map, contains_none, head_is, kept}
-use Rattle.sl_reply_law.proofs.AnswerFindsItsCall.{IsOr}
-use Rattle.sl_reply_law.proofs.AnswerMarksOneCall.{all_answered, answered_still, found_heard, hear, hear_by, not_its, picked, same_call, told}
+use Rattle.sl_reply_law.proofs.Answers.AnswerFindsItsCall.{IsOr}
+use Rattle.sl_reply_law.proofs.Answers.AnswerMarksOneCall.{all_answered, answered_still, found_heard, hear, hear_by, not_its, picked, same_call, told}
 use Rattle.sl_reply_law.proofs.PlainFilters.{found_kept, given_kept}
 use Rattle.sl_sessions.specs.Deltas.{claim_of, join_step_of}
 use Rattle.sl_sessions.specs.Sessions.{delta_written, is_delta_purpose, is_join_call, is_survey_purpose, join_call}

@@ -7,8 +7,8 @@ use Rattle.sl_host_state.specs.declared.kept.JobState.{JobState}
 use Rattle.sl_host_state.specs.declared.kept.OpenCall.{OpenCall}
 use Rattle.sl_plain.proofs.Options.{some_there}
 use Rattle.sl_plain.proofs.Lists.{any_of, find_inside}
-use Rattle.sl_reply_law.proofs.AnswerFindsItsCall.{IsTheCall}
-use Rattle.sl_reply_law.proofs.AnswerMarksOneCall.{told}
+use Rattle.sl_reply_law.proofs.Answers.AnswerFindsItsCall.{IsTheCall}
+use Rattle.sl_reply_law.proofs.Answers.AnswerMarksOneCall.{told}
 use Rattle.sl_reply_law.proofs.PlainNumbers.{same_number}
 use Rattle.sl_reply_law.proofs.PlainFilters.{any_kept, in_given, no_one, none_mapped}
 use Rattle.sl_trace.specs.Traces.{Child, Job, Replied, Setting, Submitted, Trace, children, is_before_input, is_going_on, is_refused_before_input, is_running, job_numbered, job_of, jobs, reply_in, reply_to, running_jobs, submitted}

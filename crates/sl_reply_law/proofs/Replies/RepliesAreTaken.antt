@@ -1,31 +1,28 @@
 -- The host after a reply stands for the step with it.
-use Rattle.sl_due.specs.Steps.{Step, add_reply, seen}
+use Rattle.sl_due.specs.Steps.{Step, seen}
 use Rattle.sl_host_plain.proofs.PlainLists.{at_some, each_of, filter_as, in_flat}
 use Rattle.sl_host_plain.proofs.SessionNumbers.{jobs_below}
 use Rattle.sl_host_state.specs.Kept.{Config, HostState, MemberState}
 use Rattle.sl_host_state.specs.Makes.{has_write_open, member_answered, member_replying, with_reply}
 use Rattle.sl_host_state.specs.Stands.{Keeps, MemberStands, Stands, is_joining, kept_call, kept_job, kept_waiting}
 use Rattle.sl_host_state.specs.declared.kept.JobState.{JobState}
-use Rattle.sl_host_state.specs.declared.kept.WaitingCall.{WaitingCall}
 use Rattle.sl_leases.specs.Jobs.{child_of_job, command_of}
 use Rattle.sl_plain.proofs.Lists.{any_found, contains_cases, contains_first, contains_more, contains_none, filter_both, got_inside, in_map, kept_inside}
-use Rattle.sl_reply_law.proofs.JobsHearAnswer.{job_with}
+use Rattle.sl_reply_law.proofs.Answers.JobsHearAnswer.{job_with}
 use Rattle.sl_reply_law.proofs.MembersKeepCalls.{AreSame, member_stays}
 use Rattle.sl_reply_law.proofs.NotJoinedNotBegun.{not_leaving, not_recovering, not_removed}
 use Rattle.sl_reply_law.proofs.OpenCallsAreKept.{open_write_is}
 use Rattle.sl_reply_law.proofs.PlainFilters.{filter_mapped, map_where}
-use Rattle.sl_reply_law.proofs.PlainNumbers.{number_apart, same_number}
-use Rattle.sl_reply_law.proofs.PresentAfterAnswer.{present_kept}
-use Rattle.sl_reply_law.proofs.QuietAfterReply.{quiet_replied}
-use Rattle.sl_reply_law.proofs.ReplyEndsJob.{IsOwnJoining, LeavesText, calls_stay, is_its, joined_stays, leaving_stays, own_joining, programs_stay, refused_stays, replied, reply_stays, runs_still, unsaid}
-use Rattle.sl_reply_law.specs.Replies.{LeavesHeed, LeavesLine, MayReply, RepliesAreTaken, is_plain_line}
-use Rattle.sl_sessions.specs.Sessions.{has_open_write, is_call_of, is_join_done, is_joined, is_present, joined_after, leaving_job, present_sessions, refused_after, removed_after, renewing}
-use Rattle.sl_sessions.specs.declared.session.Begun.{Begun}
+use Rattle.sl_reply_law.proofs.PlainNumbers.{same_number}
+use Rattle.sl_reply_law.proofs.PresentInOrder.{present_kept}
+use Rattle.sl_reply_law.proofs.Replies.QuietAfterReply.{quiet_replied}
+use Rattle.sl_reply_law.proofs.Replies.ReplyEndsJob.{IsOwnJoining, LeavesText, calls_stay, is_its, joined_stays, leaving_stays, own_joining, programs_stay, refused_stays, replied, reply_stays, runs_still, unsaid}
+use Rattle.sl_reply_law.specs.Replies.{LeavesHeed, LeavesLine, RepliesAreTaken, is_plain_line}
+use Rattle.sl_sessions.specs.Sessions.{has_open_write, is_call_of, is_join_done, is_present, joined_after, refused_after, removed_after}
 use Rattle.sl_sessions.specs.declared.session.Renewing.{Renewing}
 use Rattle.sl_sessions.specs.declared.session.Session.{Session}
-use Rattle.sl_trace.specs.Traces.{Job, Setting, Submitted, Trace, children, is_of_job, is_running, is_write, job_numbered, job_of, jobs, next_job, numbers_taken, outstanding, reply_to, running_jobs, submitted, takes_number, unanswered}
+use Rattle.sl_trace.specs.Traces.{Job, Setting, Submitted, Trace, children, is_of_job, is_running, is_write, job_numbered, job_of, jobs, next_job, numbers_taken, running_jobs, submitted, takes_number, unanswered}
 use Rattle.sl_trace.specs.declared.effects.Effects.{Effects}
-use Rattle.sl_trace.specs.declared.input.Input.TheVariants.{Answer as Told, Exit, Line, Number, Spawned, Wake}
 use Rattle.sl_trace.specs.declared.input.Input.{Input}
 use Rattle.sl_trace.specs.declared.reply.Reply.{Reply}
 use Rattle.sl_words.proofs.CaseLaws.{false_is_true, true_is_false}
@@ -33,7 +30,7 @@ use Rattle.sl_words.specs.Words.{choose, some_is}
 use Rattle.std.proofs.Common.{ap, arith, inl, inr, refl, subst, sym, ◌∙◌}
 use Rattle.std.proofs.lemmas.List.{map-append}
 use Rattle.std.specs.List.{AllByRecursion, list_any, range_with_len}
-use Rattle.std.specs.Prelude.{Bool, Contains, IsTrue, List, None, Option, Some, cond, false, filter, filter_map, find, flat_map, is_none, is_some, length, map, not, option_map, reverse, slice_get, true, [], ℕ, ◌&&◌, ◌++◌, ◌+◌, ◌<◌, ◌==◌, ◌∷◌, ◌≡◌, ◌≤◌, ◌||◌, ◌⊎◌}
+use Rattle.std.specs.Prelude.{Bool, Contains, IsTrue, List, None, Option, Some, cond, false, filter, filter_map, find, flat_map, is_none, is_some, length, map, not, option_map, reverse, true, [], ℕ, ◌&&◌, ◌++◌, ◌+◌, ◌<◌, ◌==◌, ◌∷◌, ◌≡◌, ◌≤◌, ◌||◌, ◌⊎◌}
 
 module _ (st : Setting) (past : Trace) (now : ℕ) (i : Input) (fx : Effects) (job : ℕ) (r : Reply) (h : HostState) where
   abbrev before : Trace
@@ -72,10 +69,12 @@ module _ (st : Setting) (past : Trace) (now : ℕ) (i : Input) (fx : Effects) (j
     and_true : (b : Bool) → b ≡ (b && true)
     and_true true = refl
     and_true false = refl
+
     by_done : (done writes : Bool) → present_by (choose done (length past + 1)) None (choose (not done) (length past + 1)) writes ≡ not (not done && not writes)
     by_done true writes = refl
     by_done false true = refl
     by_done false false = refl
+
     by : (b : Bool) → its s ≡ b → is_present after s ≡ (is_present before s && stays s)
     by false other =
         ap (λ o. present_by o (removed_after before s) (refused_after after s) (has_open_write after s)) (joined_stays past now i fx job r s other)
@@ -90,8 +89,8 @@ module _ (st : Setting) (past : Trace) (now : ℕ) (i : Input) (fx : Effects) (j
         ∙ ap (present_by (choose (is_join_done r) (length past + 1)) None (choose (not (is_join_done r)) (length past + 1))) (writes_same same s)
         ∙ by_done (is_join_done r) (has_open_write before s)
         ∙ sym (ap (λ o. present_by o (removed_after before s) (refused_after before s) (has_open_write before s) && stays s) k.not_joined
-          ∙ ap (λ o. present_by None (removed_after before s) o (has_open_write before s) && stays s) k.not_refused
-          ∙ ap (λ b. true && not (b && not (is_join_done r) && not (has_open_write before s))) is)
+        ∙ ap (λ o. present_by None (removed_after before s) o (has_open_write before s) && stays s) k.not_refused
+        ∙ ap (λ b. true && not (b && not (is_join_done r) && not (has_open_write before s))) is)
 
   -- ---- the members
 
@@ -108,9 +107,11 @@ module _ (st : Setting) (past : Trace) (now : ℕ) (i : Input) (fx : Effects) (j
     by_done true writes = refl
     by_done false true = refl
     by_done false false = refl
+
     never : (b : Bool) → (b && false) ≡ false
     never true = refl
     never false = refl
+
     by : (b : Bool) → its m.who ≡ b → map (λ (x : MemberState). x.who) (member_replying h job r m) ≡ cond (stays m.who) (m.who ∷ []) []
     by false other =
         ap (λ b. map (λ (x : MemberState). x.who) (cond b (member_answered h r m) (m ∷ []))) (ap (λ b. is_joining m && b) other ∙ never (is_joining m))
@@ -130,9 +131,9 @@ module _ (st : Setting) (past : Trace) (now : ℕ) (i : Input) (fx : Effects) (j
       map-append (λ (x : MemberState). x.who) (member_replying h job r m) (flat_map (member_replying h job r) ms)
       ∙ ap (λ zs. zs ++ map (λ (x : MemberState). x.who) (flat_map (member_replying h job r) ms)) (who_of k m (all m (contains_first m ms)))
       ∙ ap (λ zs. cond (stays m.who) (m.who ∷ []) [] ++ zs) (whos k ms (λ x there. all x (contains_more m ms x there))) ∙ by (stays m.who) where
-    by : (b : Bool) → cond b (m.who ∷ []) [] ++ filter stays (map (λ (x : MemberState). x.who) ms) ≡ cond b (m.who ∷ filter stays (map (λ x. x.who) ms)) (filter stays (map (λ x. x.who) ms))
-    by true = refl
-    by false = refl
+        by : (b : Bool) → cond b (m.who ∷ []) [] ++ filter stays (map (λ (x : MemberState). x.who) ms) ≡ cond b (m.who ∷ filter stays (map (λ x. x.who) ms)) (filter stays (map (λ x. x.who) ms))
+        by true = refl
+        by false = refl
 
   stands_at : Keeps h st before → (m : MemberState) → Contains h.members m → MemberStands st before m
   stands_at k m there = let at = at_some h.members m there in k.members at.0 m at.1
@@ -144,9 +145,11 @@ module _ (st : Setting) (past : Trace) (now : ℕ) (i : Input) (fx : Effects) (j
   answered_stands k m s is x at = by (is_join_done r) (has_write_open h m.who.number) at (own m.who k.runs is).joins (own m.who k.runs is).refuses where
     k_own : IsOwnJoining past now i fx job r m.who
     k_own = own m.who k.runs is
+
     never : (b : Bool) → (b && false) ≡ true → is_joining m ≡ true
     never true impossible = absurd (false_is_true impossible)
     never false impossible = absurd (false_is_true impossible)
+
     by : (done writes : Bool) → Contains (cond done (record m { joined = true } ∷ []) (cond writes (record m { refused = true } ∷ []) [])) x
         → joined_after after m.who ≡ choose done (length past + 1) → refused_after after m.who ≡ choose (not done) (length past + 1) → MemberStands st after x
     by true writes at joins refuses = one (contains_cases (record m { joined = true }) [] x at) where
@@ -176,6 +179,7 @@ module _ (st : Setting) (past : Trace) (now : ℕ) (i : Input) (fx : Effects) (j
         (member_stays st before after m m.joined m.refused (same_at k m.who)
         (ap (λ o. is_some o && is_none (removed_after before m.who)) (joined_stays past now i fx job r m.who other) ∙ s.joined)
         (ap is_some (refused_stays past now i fx job r m.who other) ∙ s.refused) (λ still. still) s)
+
     by : (joining b : Bool) → is_joining m ≡ joining → its m.who ≡ b → Contains (cond (joining && b) (member_answered h r m) (m ∷ [])) x → MemberStands st after x
     by true true joins is at = answered_stands k m s is x at
     by true false joins is at = unchanged is (contains_cases m [] x at)
@@ -193,12 +197,12 @@ module _ (st : Setting) (past : Trace) (now : ℕ) (i : Input) (fx : Effects) (j
   jobs_replied k =
       ap (map (kept_job after))
       (filter_as (λ j. is_running after j.number) (λ j. is_running before j.number && not (j.number == job)) (jobs st before)
-        (λ j. runs_still past now i fx job r j.number k.runs ∙ ap (λ b. is_running before j.number && not b) (turned job j.number))
+      (λ j. runs_still past now i fx job r j.number k.runs ∙ ap (λ b. is_running before j.number && not b) (turned job j.number))
       ∙ filter_both (λ (j : Job). is_running before j.number) (λ j. not (j.number == job)) (jobs st before))
       ∙ map_where (kept_job after) (kept_job before) (filter (λ j. not (j.number == job)) (running_jobs st before)) (λ j there. job_same k j)
       ∙ sym (filter_mapped (λ (j : JobState). not (j.number == job)) (kept_job before) (running_jobs st before)) ∙ ap (filter (λ (j : JobState). not (j.number == job))) k.keeps.jobs where
-    turned : (a b : ℕ) → (a == b) ≡ (b == a)
-    turned a b = grind arith
+        turned : (a b : ℕ) → (a == b) ≡ (b == a)
+        turned a b = grind arith
 
   keeps_replied : IsReplied → job < h.next_job → Keeps (with_reply job r h) st after
   keeps_replied k below =
@@ -213,7 +217,7 @@ module _ (st : Setting) (past : Trace) (now : ℕ) (i : Input) (fx : Effects) (j
         born = old.born;
         numbered = ap (λ (ms : List Submitted). map (λ m. m.call.number) ms) k.calls ∙ old.numbered ∙ sym (ap (λ ms. reverse (range_with_len st.first.call (length ms))) k.calls);
         counted = old.counted;
-        present = present_kept st before after stays refl (presence k.runs k.calls) ∙ ap (filter stays) old.present ∙ sym (whos k h.members (stands_at old));
+        present = present_kept st before after stays refl (λ s there. presence k.runs k.calls s) ∙ ap (filter stays) old.present ∙ sym (whos k h.members (stands_at old));
         members = λ n x at.
             let inside = in_flat (member_replying h job r) h.members x (got_inside (flat_map (member_replying h job r) h.members) n x at) in
             member_replied k inside.0 (stands_at old inside.0 inside.1) x inside.2;
@@ -228,16 +232,17 @@ module _ (st : Setting) (past : Trace) (now : ℕ) (i : Input) (fx : Effects) (j
         children = old.children;
         programs = programs_stay past now i fx job r st k.text ∙ old.programs;
       } where
-    apart : (a b c : ℕ) → a < c → c ≤ b → (a == b) ≡ false
-    apart a b c lt le = grind arith
+        apart : (a b c : ℕ) → a < c → c ≤ b → (a == b) ≡ false
+        apart a b c lt le = grind arith
 
   -- A joining that the reply ends has begun neither recovery nor leaving.
   not_begun : IsReplied → (m : MemberState) → Contains h.members m → some_is (λ j. j == job) m.who.job ≡ true → (m.renewing.recovery ≡ None) × (m.leaving ≡ None)
   not_begun k m there is =
       let s = stands_at k.keeps m there in
-      let none = (own m.who k.runs is).not_joined in
-      (sym (ap (λ (z : Renewing). z.recovery) s.renewing) ∙ not_recovering st before m.who none,
-      sym s.leaving ∙ ap (option_map (λ (j : Job). record { at = j.at; reading = j.reading; kills_from = j.at + 1 })) (not_leaving st before m.who none))
+      let none = (own m.who k.runs is).not_joined in (
+        sym (ap (λ (z : Renewing). z.recovery) s.renewing) ∙ not_recovering st before m.who none,
+        sym s.leaving ∙ ap (option_map (λ (j : Job). record { at = j.at; reading = j.reading; kills_from = j.at + 1 })) (not_leaving st before m.who none),
+      )
 
 -- ---- of a step
 
@@ -263,8 +268,10 @@ text_left : (job : ℕ) (r : Reply) (i : Input) (h : HostState) (x : Step) → S
 text_left job r i h x s leaves text is = by (subst (λ j. LeavesLine j job h) (sym s.input ∙ is) leaves) where
   taken : next_job x.setting (seen x) ≡ x.setting.first.job + (numbers_taken x.past + 1)
   taken = ap (λ j. x.setting.first.job + elim (takes_number j) as (λ z. ℕ) [ true ↦ numbers_taken x.past + 1 | false ↦ numbers_taken x.past ]) is
+
   one_less : (a f n m : ℕ) → m ≡ f + (n + 1) → (a + 1 == m) ≡ false → (a == f + n) ≡ false
   one_less a f n m same other = grind arith
+
   by : ((job + 1 == h.next_job) ≡ false) ⊎ (is_plain_line (h.config.read text) ≡ true) → ((job == next_job x.setting x.past) ≡ false) ⊎ (is_plain_line (x.setting.read text) ≡ true)
   by (inl other) = inl (one_less job x.setting.first.job (numbers_taken x.past) h.next_job (sym s.keeps.lines ∙ taken) other)
   by (inr plain) = inr (ap (λ (c : Config). is_plain_line (c.read text)) s.keeps.config ∙ plain)
@@ -274,7 +281,7 @@ replies_are_taken job r i h x s may =
     let its = of_trace h x.setting (seen x) job s.keeps may.runs in
     let heed = subst (λ j. LeavesHeed j job r x.past) (sym s.input) may.heed in
     let k : IsReplied x.setting x.past x.reading x.input x.effects job r h =
-        record { keeps = s.keeps; runs = its.runs; calls = calls_stay x.past x.reading x.input x.effects job r heed; text = text_left job r i h x s may.line } in
+    record { keeps = s.keeps; runs = its.runs; calls = calls_stay x.past x.reading x.input x.effects job r heed; text = text_left job r i h x s may.line } in
     record {
       input = s.input;
       past = s.past;

@@ -1,26 +1,26 @@
 -- The host that hears an answer stands for the step with it.
 use Rattle.sl_due.specs.Steps.{Step, seen, with_input}
 use Rattle.sl_host_plain.proofs.MembersAreSessions.{member_inside}
-use Rattle.sl_host_plain.proofs.PlainLists.{at_some, filter_as, none_any}
+use Rattle.sl_host_plain.proofs.PlainLists.{at_some, each_of, filter_as, none_any}
 use Rattle.sl_host_plain.proofs.PlainOrders.{inside_ordered}
 use Rattle.sl_host_plain.proofs.SessionNumbers.{placed_by_number}
 use Rattle.sl_host_state.specs.Hears.{heard_answer, hearing, is_over_with, job_hearing, member_hearing, members_hearing, others}
 use Rattle.sl_host_state.specs.Kept.{HostState, MemberState}
-use Rattle.sl_host_state.specs.Stands.{Keeps, MemberStands, Stands, kept_call, kept_job, kept_waiting}
+use Rattle.sl_host_state.specs.Stands.{Keeps, MemberStands, Stands, is_kept_of, kept_call, kept_job, kept_waiting}
 use Rattle.sl_host_state.specs.declared.kept.OpenCall.{OpenCall}
 use Rattle.sl_leases.specs.Jobs.{child_of_job, command_of}
 use Rattle.sl_plain.proofs.Lists.{find_inside, got_inside, in_map, kept, kept_inside}
 use Rattle.sl_plain.proofs.Numbers.{number_itself}
-use Rattle.sl_reply_law.proofs.AnswerFindsItsCall.{IsTheCall, the_call}
-use Rattle.sl_reply_law.proofs.AnswerIsHeeded.{waking}
-use Rattle.sl_reply_law.proofs.AnswerMarksOneCall.{found_heard, given_heard, hear, numbers_stay, open_heard, same_call, same_reading, told}
-use Rattle.sl_reply_law.proofs.JobsHearAnswer.{job_waits, job_with, single_kept, waits_no_more}
-use Rattle.sl_reply_law.proofs.MemberHearsAnswer.{IsAnswered, member_other, member_own}
+use Rattle.sl_reply_law.proofs.Answers.AnswerFindsItsCall.{IsOr, IsTheCall, the_call}
+use Rattle.sl_reply_law.proofs.Answers.AnswerIsHeeded.{waking}
+use Rattle.sl_reply_law.proofs.Answers.AnswerMarksOneCall.{found_heard, given_heard, hear, numbers_stay, open_heard, same_call, same_reading, told}
+use Rattle.sl_reply_law.proofs.Answers.JobsHearAnswer.{job_waits, job_with, single_kept, waits_no_more}
+use Rattle.sl_reply_law.proofs.Answers.MemberHearsAnswer.{IsAnswered, member_other, member_own}
 use Rattle.sl_reply_law.proofs.PlainFilters.{filter_mapped, filter_reversed}
 use Rattle.sl_reply_law.proofs.PlainNumbers.{same_number}
-use Rattle.sl_reply_law.proofs.PresentAfterAnswer.{present_heard}
-use Rattle.sl_reply_law.proofs.QuietAfterAnswer.{quiet_heard}
-use Rattle.sl_reply_law.specs.Answers.{AnswersAreHeard, FitsCall, IsAtAnswer, IsOpen}
+use Rattle.sl_reply_law.proofs.Answers.PresentAfterAnswer.{present_heard}
+use Rattle.sl_reply_law.proofs.Answers.QuietAfterAnswer.{quiet_heard}
+use Rattle.sl_reply_law.specs.Answers.{AnswersAreHeard, FitsCall, IsAtAnswer, IsOfOther, IsOpen}
 use Rattle.sl_sessions.specs.Sessions.{is_present, session_numbered, sessions}
 use Rattle.sl_sessions.specs.declared.session.Session.{Session}
 use Rattle.sl_trace.specs.Traces.{Child, Job, Setting, Submitted, Trace, call_numbered, children, is_before_input, is_of_job, job_numbered, job_of, outstanding, running_jobs, submitted}
@@ -30,7 +30,7 @@ use Rattle.sl_trace.specs.declared.input.Input.TheVariants.{Answer as Told, Wake
 use Rattle.sl_trace.specs.declared.input.Input.{Input}
 use Rattle.sl_words.proofs.CaseLaws.{is_false, not_both}
 use Rattle.sl_words.specs.Orders.{is_text_before}
-use Rattle.std.proofs.Common.{ap, refl, subst, sym, ◌∙◌}
+use Rattle.std.proofs.Common.{ap, inl, inr, refl, subst, sym, ◌∙◌}
 use Rattle.std.proofs.lemmas.List.{length-map}
 use Rattle.std.specs.List.{AllByRecursion, list_any, range_with_len}
 use Rattle.std.specs.Prelude.{Bool, Contains, IsTrue, List, None, Some, cond, false, filter, filter_map, find, is_some, length, map, not, option_map, reverse, slice_get, true, [], ℕ, ◌++◌, ◌+◌, ◌==◌, ◌∷◌, ◌≡◌}
@@ -193,5 +193,15 @@ session_gone i c h x s stands none at = is_false (is_present (seen x) s) (λ the
     (subst (λ n. (n == of_member.0.who.number) ≡ true) numbered (subst (λ (z : Session). (s.number == z.number) ≡ true) (sym of_member.2) (number_itself s.number)))
     (none_any (λ (m : MemberState). c.session == m.who.number) h.members of_member.0 none of_member.1))
 
+-- No other call has its number, in the steps before either.
+answer_of_other : (number : ℕ) (c : OpenCall) (job : ℕ) (h : HostState) (x : Step) → Stands Wake h x → IsOpen h number c → IsAtAnswer h → is_kept_of job c ≡ false → IsOfOther number job x.past
+answer_of_other number c job h x s is_open at other d there its =
+    let asked = answered_call number c h x s at.calls is_open in
+    let numbered : c.number ≡ number = same_number c.number number (find_inside (λ (d : OpenCall). d.number == number) h.unanswered c is_open).1 in
+    by asked.0 (ap (λ (z : OpenCall). is_kept_of job z) asked.1.kept ∙ other) (each_of (IsOr c.number asked.0) (submitted x.past) d asked.1.alone there) (ap (λ n. d.call.number == n) numbered ∙ its) where
+      by : (m : Submitted) → is_of_job job m ≡ false → IsOr c.number m d → (d.call.number == c.number) ≡ true → is_of_job job d ≡ false
+      by m none (inl apart) same = absurd (not_both (d.call.number == c.number) same apart)
+      by m none (inr is) same = ap (is_of_job job) is ∙ none
+
 pub answers_are_heard : AnswersAreHeard
-answers_are_heard = record { heard = answer_heard; found = answer_found; gone = session_gone }
+answers_are_heard = record { heard = answer_heard; found = answer_found; other = answer_of_other; gone = session_gone }

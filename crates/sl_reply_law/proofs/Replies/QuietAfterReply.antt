@@ -6,17 +6,14 @@ use Rattle.sl_host_state.specs.Stands.{IsQuiet, is_joining, job_moments, kill_mo
 use Rattle.sl_host_state.specs.declared.kept.JobState.{JobState}
 use Rattle.sl_host_plain.proofs.PlainLists.{in_flat}
 use Rattle.sl_plain.proofs.Lists.{contains_cases, contains_map, contains_none, kept, kept_inside}
-use Rattle.sl_reply_law.proofs.QuietAfterAnswer.{AllFrom, from_lower, job_from, member_from, moments_from, one_moment, quiet_by, quiet_from}
+use Rattle.sl_reply_law.proofs.MomentsAreLater.{AllFrom, from_lower, job_from, member_from, moments_from, one_moment, quiet_by, quiet_from}
 use Rattle.sl_sessions.specs.Sessions.{is_join_done}
 use Rattle.sl_sessions.specs.declared.session.Begun.{Begun}
-use Rattle.sl_sessions.specs.declared.session.Renewing.{Renewing}
 use Rattle.sl_time.specs.Times.{fail}
 use Rattle.sl_trace.specs.declared.reply.Reply.{Reply}
-use Rattle.sl_words.proofs.CaseLaws.{true_or_false}
 use Rattle.sl_words.specs.Words.{some_is}
-use Rattle.std.proofs.Common.{ap, arith, inl, inr, refl, subst, sym, ◌∙◌}
-use Rattle.std.specs.List.{list_any}
-use Rattle.std.specs.Prelude.{Bool, Contains, List, None, Option, Some, cond, false, filter, flat_map, fold, map, min, not, true, [], ℕ, ◌&&◌, ◌++◌, ◌+◌, ◌==◌, ◌∷◌, ◌≡◌, ◌≤◌, ◌⊎◌}
+use Rattle.std.proofs.Common.{arith, inl, inr, refl, subst, sym}
+use Rattle.std.specs.Prelude.{Bool, Contains, List, None, Option, cond, false, filter, flat_map, fold, map, min, not, true, [], ℕ, ◌&&◌, ◌++◌, ◌+◌, ◌==◌, ◌∷◌, ◌≡◌, ◌≤◌, ◌⊎◌}
 
 -- The least of a number and of these.
 abbrev lowest : ℕ → List ℕ → ℕ
@@ -77,6 +74,7 @@ module _ (h : HostState) (job : ℕ) (r : Reply) where
     one : (m ≡ x) ⊎ Contains [] x → AllFrom low (member_moments h x)
     one (inl same) = subst (λ (z : MemberState). AllFrom low (member_moments h z)) same old
     one (inr none) = absurd (contains_none x none)
+
     by : (joining its : Bool) → some_is (λ j. j == job) m.who.job ≡ its → Contains (cond (joining && its) (member_answered h r m) (m ∷ [])) x → AllFrom low (member_moments h x)
     by true true is at = answered_from m there is not_begun old x at
     by true false is at = one (contains_cases m [] x at)
@@ -88,5 +86,6 @@ module _ (h : HostState) (job : ℕ) (r : Reply) where
     of_member x at =
         let old = in_flat (member_replying h job r) h.members x at in
         member_quiet old.0 old.1 (not_begun old.0 old.1) (member_from low h (all_low quiet) old.0 old.1) x old.2
+
     of_job : (j : JobState) → Contains (filter (λ j. not (j.number == job)) h.jobs) j → AllFrom low (job_moments h j)
     of_job j at = job_from low h (all_low quiet) j (kept_inside (λ (j : JobState). not (j.number == job)) h.jobs j at).0
