@@ -1,0 +1,3 @@
+pub mod InputHeard
+pub mod ChildrenHear
+pub mod LineBegins
