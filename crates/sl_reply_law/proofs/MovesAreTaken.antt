@@ -7,12 +7,13 @@ use Rattle.sl_host_state.specs.Makes.{is_ended_by_move, names_moved, with_move}
 use Rattle.sl_host_state.specs.Stands.{IsQuiet, Keeps, MemberStands, kept_call, kept_job, kept_waiting}
 use Rattle.sl_leases.specs.Jobs.{child_of_job, command_of}
 use Rattle.sl_plain.proofs.Lists.{got_inside, in_map, kept, kept_inside}
+use Rattle.sl_plain.proofs.Numbers.{refl_le}
 use Rattle.sl_reply_law.proofs.Answers.JobsHearAnswer.{job_with}
 use Rattle.sl_reply_law.proofs.MembersKeepCalls.{member_stays}
 use Rattle.sl_reply_law.proofs.NotJoinedNotBegun.{begun_joined}
 use Rattle.sl_reply_law.proofs.PlainFilters.{filter_mapped, map_where}
 use Rattle.sl_reply_law.proofs.PresentInOrder.{present_kept}
-use Rattle.sl_reply_law.proofs.MomentsAreLater.{job_from, member_from, moments_from, quiet_by, quiet_from}
+use Rattle.sl_reply_law.proofs.MomentsAreLater.{job_from, member_from, quiet_where}
 use Rattle.sl_reply_law.specs.Moves.{EndsBegun, MovesAreTaken}
 use Rattle.sl_sessions.specs.Sessions.{has_open_write, is_call_of, is_joined, is_present, joined_after, leaving_job, refused_after, removed_after, sessions}
 use Rattle.sl_sessions.specs.declared.session.Begun.{Begun}
@@ -235,9 +236,9 @@ module _ (st : Setting) (past : Trace) (now : ℕ) (i : Input) (fx : Effects) (m
 
 quiet_moved : (move : Move) (h : HostState) → IsQuiet h → IsQuiet (with_move move h)
 quiet_moved move h quiet =
-    quiet_by (with_move move h) (moments_from h.quiet_until (with_move move h)
-    (λ m there. member_from h.quiet_until h (quiet_from h quiet) m (kept_inside (λ (m : MemberState). not (is_ended_by_move move m)) h.members m there).0)
-    (λ j there. job_from h.quiet_until h (quiet_from h quiet) j there))
+    quiet_where (with_move move h)
+    (λ m there. member_from h.quiet_until h (refl_le h.quiet_until) quiet m (kept_inside (λ (m : MemberState). not (is_ended_by_move move m)) h.members m there).0)
+    (λ j there. job_from h.quiet_until h (refl_le h.quiet_until) quiet j there)
 
 pub moves_are_taken : MovesAreTaken
 moves_are_taken move i h x s begun =

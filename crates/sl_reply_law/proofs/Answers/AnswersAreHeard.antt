@@ -4,6 +4,7 @@ use Rattle.sl_host_plain.proofs.MembersAreSessions.{member_inside}
 use Rattle.sl_host_plain.proofs.PlainLists.{at_some, each_of, filter_as, none_any}
 use Rattle.sl_host_plain.proofs.PlainOrders.{inside_ordered}
 use Rattle.sl_host_plain.proofs.SessionNumbers.{placed_by_number}
+use Rattle.sl_host_plain.specs.AtInput.{IsAtInput}
 use Rattle.sl_host_state.specs.Hears.{heard_answer, hearing, is_over_with, job_hearing, member_hearing, members_hearing, others}
 use Rattle.sl_host_state.specs.Kept.{HostState, MemberState}
 use Rattle.sl_host_state.specs.Stands.{Keeps, MemberStands, Stands, is_kept_of, kept_call, kept_job, kept_waiting}
@@ -20,7 +21,7 @@ use Rattle.sl_reply_law.proofs.PlainFilters.{filter_mapped, filter_reversed}
 use Rattle.sl_reply_law.proofs.PlainNumbers.{same_number}
 use Rattle.sl_reply_law.proofs.Answers.PresentAfterAnswer.{present_heard}
 use Rattle.sl_reply_law.proofs.Answers.QuietAfterAnswer.{quiet_heard}
-use Rattle.sl_reply_law.specs.Answers.{AnswersAreHeard, FitsCall, IsAtAnswer, IsOfOther, IsOpen}
+use Rattle.sl_reply_law.specs.Answers.{AnswersAreHeard, FitsCall, IsOfOther, IsOpen}
 use Rattle.sl_sessions.specs.Sessions.{is_present, session_numbered, sessions}
 use Rattle.sl_sessions.specs.declared.session.Session.{Session}
 use Rattle.sl_trace.specs.Traces.{Child, Job, Setting, Submitted, Trace, call_numbered, children, is_before_input, is_of_job, job_numbered, job_of, outstanding, running_jobs, submitted}
@@ -134,7 +135,7 @@ answered_call : (number : ℕ) (c : OpenCall) (h : HostState) (x : Step) → Sta
 answered_call number c h x s none is_open =
     the_call h x.setting (waking x.reading x.effects ∷ x.past) number c (subst (λ (z : Step). Stands Wake h z) (is_at_answer h x s none) s).keeps is_open
 
-answer_heard : (number : ℕ) (c : OpenCall) (a : Answer) (h : HostState) (x : Step) → Stands Wake h x → IsOpen h number c → FitsCall a c → IsAtAnswer h
+answer_heard : (number : ℕ) (c : OpenCall) (a : Answer) (h : HostState) (x : Step) → Stands Wake h x → IsOpen h number c → FitsCall a c → IsAtInput h
     → Stands (Told number a) (heard_answer number a h) (with_input (Told number a) x)
 answer_heard number c a h x s is_open fits at =
     let asked = answered_call number c h x s at.calls is_open in
@@ -166,7 +167,7 @@ answer_heard number c a h x s is_open fits at =
     (subst (λ z. Stands (Told number a) z (with_input (Told number a) (at_answer x))) heard_as
     (subst (λ n. Stands (Told n a) (hearing (kept_call m) a h) (with_input (Told n a) (at_answer x))) its_number stood))
 
-answer_found : (number : ℕ) (c : OpenCall) (a : Answer) (h : HostState) (x : Step) → Stands Wake h x → IsOpen h number c → IsAtAnswer h
+answer_found : (number : ℕ) (c : OpenCall) (a : Answer) (h : HostState) (x : Step) → Stands Wake h x → IsOpen h number c → IsAtInput h
     → (m : Submitted) × (call_numbered (seen (with_input (Told number a) x)) number ≡ Some m) × (kept_call m ≡ c)
 answer_found number c a h x s is_open at =
     let asked = answered_call number c h x s at.calls is_open in
@@ -194,7 +195,7 @@ session_gone i c h x s stands none at = is_false (is_present (seen x) s) (λ the
     (none_any (λ (m : MemberState). c.session == m.who.number) h.members of_member.0 none of_member.1))
 
 -- No other call has its number, in the steps before either.
-answer_of_other : (number : ℕ) (c : OpenCall) (job : ℕ) (h : HostState) (x : Step) → Stands Wake h x → IsOpen h number c → IsAtAnswer h → is_kept_of job c ≡ false → IsOfOther number job x.past
+answer_of_other : (number : ℕ) (c : OpenCall) (job : ℕ) (h : HostState) (x : Step) → Stands Wake h x → IsOpen h number c → IsAtInput h → is_kept_of job c ≡ false → IsOfOther number job x.past
 answer_of_other number c job h x s is_open at other d there its =
     let asked = answered_call number c h x s at.calls is_open in
     let numbered : c.number ≡ number = same_number c.number number (find_inside (λ (d : OpenCall). d.number == number) h.unanswered c is_open).1 in

@@ -3,11 +3,11 @@ use Rattle.sl_host_plain.proofs.PlainLists.{in_back, in_front}
 use Rattle.sl_host_state.specs.Hears.{beginning, hearing, is_over_with, job_hearing, member_hearing, members_hearing, quiet_hearing, renewed_of, shows_other_by}
 use Rattle.sl_host_state.specs.Kept.{HostState, MemberState}
 use Rattle.sl_host_state.specs.Makes.{lowered}
-use Rattle.sl_host_state.specs.Stands.{IsQuiet, job_moments, kill_moment, member_moments, moments_of, recovery_moment}
+use Rattle.sl_host_state.specs.Stands.{IsQuiet, job_moments, kill_moment, member_moments, recovery_moment}
 use Rattle.sl_host_state.specs.declared.kept.JobState.{JobState}
 use Rattle.sl_host_state.specs.declared.kept.OpenCall.{OpenCall}
 use Rattle.sl_host_state.specs.declared.kept.WaitingCall.{WaitingCall}
-use Rattle.sl_reply_law.proofs.MomentsAreLater.{AllFrom, from_both, from_lower, from_none, job_from, member_from, moments_from, one_moment, quiet_by, quiet_from}
+use Rattle.sl_reply_law.proofs.MomentsAreLater.{AllFrom, from_both, from_none, job_from, member_from, one_moment, quiet_where}
 use Rattle.sl_plain.proofs.Lists.{any_of, contains_first, contains_none, in_map, kept_inside}
 use Rattle.sl_sessions.specs.Sessions.{is_renewal}
 use Rattle.sl_sessions.specs.declared.session.Begun.{Begun}
@@ -130,13 +130,13 @@ job_heard q n h j was = by j.waits refl was where
   by (Some w) is all = by_number w (w.number == n) all
 
 pub quiet_heard : (c : OpenCall) (a : Answer) (h : HostState) → IsQuiet h → IsQuiet (hearing c a h)
-quiet_heard c a h quiet = quiet_by (hearing c a h) (moments_from (quiet_hearing c a h) (hearing c a h) of_member of_job) where
-  low : AllFrom (quiet_hearing c a h) (moments_of h)
-  low = from_lower (quiet_hearing c a h) h.quiet_until (moments_of h) (never_raised c a h) (quiet_from h quiet)
+quiet_heard c a h quiet = quiet_where (hearing c a h) of_member of_job where
+  old_member : (m : MemberState) → Contains h.members m → AllFrom (quiet_hearing c a h) (member_moments h m)
+  old_member = member_from (quiet_hearing c a h) h (never_raised c a h) quiet
 
   by_session : (x : MemberState) (b : Bool) → Contains h.members x → AllFrom (quiet_hearing c a h) (member_moments h (cond b (member_hearing h c a x) x))
-  by_session x true there = member_heard c a h x there (member_from (quiet_hearing c a h) h low x there)
-  by_session x false there = member_from (quiet_hearing c a h) h low x there
+  by_session x true there = member_heard c a h x there (old_member x there)
+  by_session x false there = old_member x there
 
   of_member : (m : MemberState) → Contains (members_hearing c a h) m → AllFrom (quiet_hearing c a h) (member_moments h m)
   of_member m there =
@@ -147,4 +147,5 @@ quiet_heard c a h quiet = quiet_by (hearing c a h) (moments_from (quiet_hearing 
   of_job : (j : JobState) → Contains (map (job_hearing c.number) h.jobs) j → AllFrom (quiet_hearing c a h) (job_moments h j)
   of_job j there =
       let old = in_map (job_hearing c.number) h.jobs j there in
-      subst (λ z. AllFrom (quiet_hearing c a h) (job_moments h z)) old.2 (job_heard (quiet_hearing c a h) c.number h old.0 (job_from (quiet_hearing c a h) h low old.0 old.1))
+      subst (λ z. AllFrom (quiet_hearing c a h) (job_moments h z)) old.2
+      (job_heard (quiet_hearing c a h) c.number h old.0 (job_from (quiet_hearing c a h) h (never_raised c a h) quiet old.0 old.1))

@@ -2,11 +2,11 @@
 -- recovery, and lowers it to that.
 use Rattle.sl_host_state.specs.Kept.{HostState, MemberState}
 use Rattle.sl_host_state.specs.Makes.{has_write_open, joined_moments, member_answered, member_replying, with_reply}
-use Rattle.sl_host_state.specs.Stands.{IsQuiet, is_joining, job_moments, kill_moment, member_moments, moments_of, recovery_moment}
+use Rattle.sl_host_state.specs.Stands.{IsQuiet, is_joining, job_moments, kill_moment, member_moments, recovery_moment}
 use Rattle.sl_host_state.specs.declared.kept.JobState.{JobState}
 use Rattle.sl_host_plain.proofs.PlainLists.{in_flat}
 use Rattle.sl_plain.proofs.Lists.{contains_cases, contains_map, contains_none, kept, kept_inside}
-use Rattle.sl_reply_law.proofs.MomentsAreLater.{AllFrom, from_lower, job_from, member_from, moments_from, one_moment, quiet_by, quiet_from}
+use Rattle.sl_reply_law.proofs.MomentsAreLater.{AllFrom, job_from, member_from, one_moment, quiet_where}
 use Rattle.sl_sessions.specs.Sessions.{is_join_done}
 use Rattle.sl_sessions.specs.declared.session.Begun.{Begun}
 use Rattle.sl_time.specs.Times.{fail}
@@ -35,8 +35,8 @@ module _ (h : HostState) (job : ℕ) (r : Reply) where
   abbrev low : ℕ
   low = lowest h.quiet_until (joined_moments h job r)
 
-  all_low : IsQuiet h → AllFrom low (moments_of h)
-  all_low quiet = from_lower low h.quiet_until (moments_of h) (lowest_first h.quiet_until (joined_moments h job r)) (quiet_from h quiet)
+  is_lowest : low ≤ h.quiet_until
+  is_lowest = lowest_first h.quiet_until (joined_moments h job r)
 
   joins : (m : MemberState) → Contains h.members m → some_is (λ j. j == job) m.who.job ≡ true → is_join_done r ≡ true → low ≤ m.renewing.last + fail h.config.timing
   joins m there its done =
@@ -69,8 +69,8 @@ module _ (h : HostState) (job : ℕ) (r : Reply) where
       one (inr none) = absurd (contains_none x none)
     by false is false at = absurd (contains_none x at)
 
-  member_quiet : (m : MemberState) → Contains h.members m → NotBegun m → AllFrom low (member_moments h m) → (x : MemberState) → Contains (member_replying h job r m) x → AllFrom low (member_moments h x)
-  member_quiet m there not_begun old x at = by (is_joining m) (some_is (λ j. j == job) m.who.job) refl at where
+  member_replied_quiet : (m : MemberState) → Contains h.members m → NotBegun m → AllFrom low (member_moments h m) → (x : MemberState) → Contains (member_replying h job r m) x → AllFrom low (member_moments h x)
+  member_replied_quiet m there not_begun old x at = by (is_joining m) (some_is (λ j. j == job) m.who.job) refl at where
     one : (m ≡ x) ⊎ Contains [] x → AllFrom low (member_moments h x)
     one (inl same) = subst (λ (z : MemberState). AllFrom low (member_moments h z)) same old
     one (inr none) = absurd (contains_none x none)
@@ -81,11 +81,11 @@ module _ (h : HostState) (job : ℕ) (r : Reply) where
     by false its is at = one (contains_cases m [] x at)
 
   pub quiet_replied : IsQuiet h → ((m : MemberState) → Contains h.members m → NotBegun m) → IsQuiet (with_reply job r h)
-  quiet_replied quiet not_begun = quiet_by (with_reply job r h) (moments_from low (with_reply job r h) of_member of_job) where
+  quiet_replied quiet not_begun = quiet_where (with_reply job r h) of_member of_job where
     of_member : (x : MemberState) → Contains (flat_map (member_replying h job r) h.members) x → AllFrom low (member_moments h x)
     of_member x at =
         let old = in_flat (member_replying h job r) h.members x at in
-        member_quiet old.0 old.1 (not_begun old.0 old.1) (member_from low h (all_low quiet) old.0 old.1) x old.2
+        member_replied_quiet old.0 old.1 (not_begun old.0 old.1) (member_from low h is_lowest quiet old.0 old.1) x old.2
 
     of_job : (j : JobState) → Contains (filter (λ j. not (j.number == job)) h.jobs) j → AllFrom low (job_moments h j)
-    of_job j at = job_from low h (all_low quiet) j (kept_inside (λ (j : JobState). not (j.number == job)) h.jobs j at).0
+    of_job j at = job_from low h is_lowest quiet j (kept_inside (λ (j : JobState). not (j.number == job)) h.jobs j at).0
