@@ -7,13 +7,13 @@ use Rattle.sl_call_law.specs.Calls.{CallFits, CallsAreTaken, fits_job, fits_leas
 use Rattle.sl_due.specs.Steps.{Step, seen}
 use Rattle.sl_host_plain.proofs.KeptJobs.{kept_numbered, leaving_numbered}
 use Rattle.sl_host_plain.proofs.MembersAreSessions.{members_are_sessions, numbers_are_apart}
-use Rattle.sl_host_plain.proofs.PlainLists.{at_mapped, at_some, one_there}
+use Rattle.sl_host_plain.proofs.PlainLists.{at_mapped, one_there}
 use Rattle.sl_host_plain.proofs.Quiet.{job_quiet, lowered_most, lowered_reaches, member_quiet, quiet_by}
 use Rattle.sl_host_state.specs.Kept.{Config, HostState, MemberState}
-use Rattle.sl_host_state.specs.Makes.{calling, job_calling, lowered, member_calling, next_submitted}
+use Rattle.sl_host_state.specs.Makes.{calling, job_calling, member_calling, next_submitted}
 use Rattle.sl_host_state.specs.Stands.{IsQuiet, Keeps, MemberStands, Stands, is_kept_of, job_moments, kept_waiting, member_moments}
 use Rattle.sl_host_state.specs.declared.kept.JobState.{JobState}
-use Rattle.sl_plain.proofs.Lists.{contains_first, contains_none, contains_cases, in_map}
+use Rattle.sl_plain.proofs.Lists.{contains_none, contains_cases, in_map}
 use Rattle.sl_plain.proofs.Numbers.{equal_is_most, trans_le}
 use Rattle.sl_trace.specs.Traces.{Submitted, is_of_job, job_numbered, job_of, new_call, next_call}
 use Rattle.sl_trace.specs.declared.effects.Call.{Call}
@@ -27,7 +27,7 @@ use Rattle.std.proofs.Common.{ap, arith, inl, inr, refl, subst, suc, sym, ◌∙
 use Rattle.std.proofs.lemmas.Bool.Decides.{Decides-eqb}
 use Rattle.std.specs.List.{list_any}
 use Rattle.std.specs.Option.{option_map_or}
-use Rattle.std.specs.Prelude.{Bool, Contains, List, None, Option, Some, cond, false, is_some, length, map, not, slice_get, true, [], ℕ, ◌&&◌, ◌++◌, ◌+◌, ◌-◌, ◌==◌, ◌∷◌, ◌≡◌, ◌≤◌, ◌⊎◌}
+use Rattle.std.specs.Prelude.{Bool, Contains, List, None, Option, Some, cond, false, is_some, length, map, not, slice_get, true, [], ℕ, ◌&&◌, ◌++◌, ◌+◌, ◌-◌, ◌==◌, ◌∷◌, ◌≡◌, ◌≤◌}
 
 -- ---- nothing is due sooner
 
@@ -51,24 +51,24 @@ quiet_more h c quiet =
     quiet_by (calling c h)
     (λ m now there at. of_member (in_map (member_calling h.config.layout c) h.members m there) now at)
     (λ j now there at. of_job (in_map (job_calling c) h.jobs j there) now at) where
-  least : (calling c h).quiet_until ≤ h.quiet_until
-  least = lowered_most (is_some (job_of c.call.purpose)) (c.reading + h.config.timing.io) h
+      least : (calling c h).quiet_until ≤ h.quiet_until
+      least = lowered_most (is_some (job_of c.call.purpose)) (c.reading + h.config.timing.io) h
 
-  of_member : {m : MemberState} → (z : MemberState) × Contains h.members z × (member_calling h.config.layout c z ≡ m) → (now : ℕ) → Contains (member_moments (calling c h) m) now → (calling c h).quiet_until ≤ now
-  of_member z now at =
-      trans_le (calling c h).quiet_until h.quiet_until now least
-      (member_quiet h z.0 now quiet z.1 (subst (λ ns. Contains ns now) (same_moments h c z.0) (subst (λ y. Contains (member_moments (calling c h) y) now) (sym z.2) at)))
+      of_member : {m : MemberState} → (z : MemberState) × Contains h.members z × (member_calling h.config.layout c z ≡ m) → (now : ℕ) → Contains (member_moments (calling c h) m) now → (calling c h).quiet_until ≤ now
+      of_member z now at =
+          trans_le (calling c h).quiet_until h.quiet_until now least
+          (member_quiet h z.0 now quiet z.1 (subst (λ ns. Contains ns now) (same_moments h c z.0) (subst (λ y. Contains (member_moments (calling c h) y) now) (sym z.2) at)))
 
-  within : (z : JobState) → Contains h.jobs z → (now : ℕ) → (b : Bool) → is_of_job z.number c ≡ b
-      → Contains (job_moments h (cond b (record z { waits = Some (kept_waiting c) }) z)) now → (calling c h).quiet_until ≤ now
-  within z in_it now true its at =
-      trans_le (calling c h).quiet_until (c.reading + h.config.timing.io) now
-      (lowered_reaches (is_some (job_of c.call.purpose)) (c.reading + h.config.timing.io) h (job_of_some c z.number its))
-      (equal_is_most (c.reading + h.config.timing.io) now (only_one (c.reading + h.config.timing.io) now at))
-  within z in_it now false its at = trans_le (calling c h).quiet_until h.quiet_until now least (job_quiet h z now quiet in_it at)
+      within : (z : JobState) → Contains h.jobs z → (now : ℕ) → (b : Bool) → is_of_job z.number c ≡ b
+          → Contains (job_moments h (cond b (record z { waits = Some (kept_waiting c) }) z)) now → (calling c h).quiet_until ≤ now
+      within z in_it now true its at =
+          trans_le (calling c h).quiet_until (c.reading + h.config.timing.io) now
+          (lowered_reaches (is_some (job_of c.call.purpose)) (c.reading + h.config.timing.io) h (job_of_some c z.number its))
+          (equal_is_most (c.reading + h.config.timing.io) now (only_one (c.reading + h.config.timing.io) now at))
+      within z in_it now false its at = trans_le (calling c h).quiet_until h.quiet_until now least (job_quiet h z now quiet in_it at)
 
-  of_job : {j : JobState} → (z : JobState) × Contains h.jobs z × (job_calling c z ≡ j) → (now : ℕ) → Contains (job_moments (calling c h) j) now → (calling c h).quiet_until ≤ now
-  of_job z now at = within z.0 z.1 now (is_of_job z.0.number c) refl (subst (λ y. Contains (job_moments h y) now) (sym z.2) at)
+      of_job : {j : JobState} → (z : JobState) × Contains h.jobs z × (job_calling c z ≡ j) → (now : ℕ) → Contains (job_moments (calling c h) j) now → (calling c h).quiet_until ≤ now
+      of_job z now at = within z.0 z.1 now (is_of_job z.0.number c) refl (subst (λ y. Contains (job_moments h y) now) (sym z.2) at)
 
 -- ---- the call itself
 

@@ -34,15 +34,14 @@ use Rattle.sl_trace.specs.declared.effects.JoinStep.TheVariants.{FirstRead}
 use Rattle.sl_trace.specs.declared.effects.Op.TheVariants.{ReadSectors}
 use Rattle.sl_trace.specs.declared.effects.Purpose.TheVariants.{Joining}
 use Rattle.sl_trace.specs.declared.input.Input.TheVariants.{Line}
-use Rattle.sl_trace.specs.declared.input.Input.{Input}
 use Rattle.sl_words.proofs.CaseLaws.{is_false, some_value}
 use Rattle.sl_words.specs.Orders.{in_order, is_text_before, put_in}
-use Rattle.std.proofs.Common.{ap, arith, inl, inr, refl, subst, suc, sym, ◌∙◌}
+use Rattle.std.proofs.Common.{ap, arith, inl, inr, refl, subst, sym, ◌∙◌}
 use Rattle.std.proofs.lemmas.Bool.Decides.{Decides-eqb}
 use Rattle.std.proofs.lemmas.List.{append-nil, length_push}
 use Rattle.std.proofs.lemmas.List.Elements.{filter-append}
 use Rattle.std.specs.List.{list_any}
-use Rattle.std.specs.Prelude.{Bool, Contains, IsTrue, List, None, Ok, Option, Result, Some, cond, false, filter, is_none, is_some, length, map, not, slice_get, true, [], ℕ, ◌&&◌, ◌++◌, ◌+◌, ◌-◌, ◌<◌, ◌==◌, ◌||◌, ◌∷◌, ◌≡◌, ◌≤◌, ◌⊎◌}
+use Rattle.std.specs.Prelude.{Bool, Contains, List, None, Ok, Option, Result, Some, cond, false, filter, is_none, is_some, length, map, not, slice_get, true, [], ℕ, ◌&&◌, ◌++◌, ◌+◌, ◌<◌, ◌==◌, ◌||◌, ◌∷◌, ◌≡◌, ◌≤◌, ◌⊎◌}
 
 -- ---- the session
 
@@ -148,32 +147,32 @@ members_begun : (h : HostState) (x : Step) (job : ℕ) (text : List ℕ) (a : Lo
     → MemberStands x.setting (seen (more (first_read x h job a offset sectors) x)) m
 members_begun h x job text a offset sectors fits s i m at =
     from (at_mapped (member_calling h.config.layout (newest x (first_read x h job a offset sectors))) (with_member (new_member (begun h job a)) h.members) i m at) where
-  new : MemberStands x.setting (seen (more (first_read x h job a offset sectors) x)) (member_calling h.config.layout (newest x (first_read x h job a offset sectors)) (new_member (begun h job a)))
-  new =
-      subst (λ b. MemberStands x.setting (seen (more (first_read x h job a offset sectors) x)) (cond b (called h.config.layout (newest x (first_read x h job a offset sectors)) (new_member (begun h job a))) (new_member (begun h job a))))
-      (sym (number_itself h.born))
-      (subst (λ g. MemberStands x.setting (seen (more (first_read x h job a offset sectors) x)) (called g (newest x (first_read x h job a offset sectors)) (new_member (begun h job a)))) (layout_is h x s.keeps)
-      (own_stands x (first_read x h job a offset sectors) (new_member (begun h job a)) (number_itself h.born) (new_fits x.setting.layout x h job a offset sectors)
-      (new_stands x.setting (seen x) (begun h job a) job (to_come h x job text a fits s))))
+      new : MemberStands x.setting (seen (more (first_read x h job a offset sectors) x)) (member_calling h.config.layout (newest x (first_read x h job a offset sectors)) (new_member (begun h job a)))
+      new =
+          subst (λ b. MemberStands x.setting (seen (more (first_read x h job a offset sectors) x)) (cond b (called h.config.layout (newest x (first_read x h job a offset sectors)) (new_member (begun h job a))) (new_member (begun h job a))))
+          (sym (number_itself h.born))
+          (subst (λ g. MemberStands x.setting (seen (more (first_read x h job a offset sectors) x)) (called g (newest x (first_read x h job a offset sectors)) (new_member (begun h job a)))) (layout_is h x s.keeps)
+          (own_stands x (first_read x h job a offset sectors) (new_member (begun h job a)) (number_itself h.born) (new_fits x.setting.layout x h job a offset sectors)
+          (new_stands x.setting (seen x) (begun h job a) job (to_come h x job text a fits s))))
 
-  old : (z : MemberState) → Contains h.members z → MemberStands x.setting (seen (more (first_read x h job a offset sectors) x)) (member_calling h.config.layout (newest x (first_read x h job a offset sectors)) z)
-  old z there =
-      let k = at_some h.members z there in
-      let other : (h.born == z.who.number) ≡ false = other_number h x z.who s.keeps (member_inside h x.setting (seen x) k.0 z s.keeps k.1).0 in
-      subst (λ b. MemberStands x.setting (seen (more (first_read x h job a offset sectors) x)) (cond b (called h.config.layout (newest x (first_read x h job a offset sectors)) z) z)) (sym other)
-      (stays_by_calls x (first_read x h job a offset sectors) z (others_stay x (first_read x h job a offset sectors) z.who other) (s.keeps.members k.0 z k.1))
+      old : (z : MemberState) → Contains h.members z → MemberStands x.setting (seen (more (first_read x h job a offset sectors) x)) (member_calling h.config.layout (newest x (first_read x h job a offset sectors)) z)
+      old z there =
+          let k = at_some h.members z there in
+          let other : (h.born == z.who.number) ≡ false = other_number h x z.who s.keeps (member_inside h x.setting (seen x) k.0 z s.keeps k.1).0 in
+          subst (λ b. MemberStands x.setting (seen (more (first_read x h job a offset sectors) x)) (cond b (called h.config.layout (newest x (first_read x h job a offset sectors)) z) z)) (sym other)
+          (stays_by_calls x (first_read x h job a offset sectors) z (others_stay x (first_read x h job a offset sectors) z.who other) (s.keeps.members k.0 z k.1))
 
-  one : (z : MemberState) → (new_member (begun h job a) ≡ z) ⊎ Contains h.members z
-      → MemberStands x.setting (seen (more (first_read x h job a offset sectors) x)) (member_calling h.config.layout (newest x (first_read x h job a offset sectors)) z)
-  one z (inl is) = subst (λ y. MemberStands x.setting (seen (more (first_read x h job a offset sectors) x)) (member_calling h.config.layout (newest x (first_read x h job a offset sectors)) y)) is new
-  one z (inr there) = old z there
+      one : (z : MemberState) → (new_member (begun h job a) ≡ z) ⊎ Contains h.members z
+          → MemberStands x.setting (seen (more (first_read x h job a offset sectors) x)) (member_calling h.config.layout (newest x (first_read x h job a offset sectors)) z)
+      one z (inl is) = subst (λ y. MemberStands x.setting (seen (more (first_read x h job a offset sectors) x)) (member_calling h.config.layout (newest x (first_read x h job a offset sectors)) y)) is new
+      one z (inr there) = old z there
 
-  from : (z : MemberState) × (slice_get (with_member (new_member (begun h job a)) h.members) i ≡ Some z) × (member_calling h.config.layout (newest x (first_read x h job a offset sectors)) z ≡ m)
-      → MemberStands x.setting (seen (more (first_read x h job a offset sectors) x)) m
-  from z =
-      subst (λ y. MemberStands x.setting (seen (more (first_read x h job a offset sectors) x)) y) z.2
-      (one z.0 (put_inside (λ (u v : MemberState). is_text_before u.who.lockspace v.who.lockspace) (new_member (begun h job a)) h.members z.0
-      (got_inside (with_member (new_member (begun h job a)) h.members) i z.0 z.1)))
+      from : (z : MemberState) × (slice_get (with_member (new_member (begun h job a)) h.members) i ≡ Some z) × (member_calling h.config.layout (newest x (first_read x h job a offset sectors)) z ≡ m)
+          → MemberStands x.setting (seen (more (first_read x h job a offset sectors) x)) m
+      from z =
+          subst (λ y. MemberStands x.setting (seen (more (first_read x h job a offset sectors) x)) y) z.2
+          (one z.0 (put_inside (λ (u v : MemberState). is_text_before u.who.lockspace v.who.lockspace) (new_member (begun h job a)) h.members z.0
+          (got_inside (with_member (new_member (begun h job a)) h.members) i z.0 z.1)))
 
 -- ---- the whole
 
@@ -186,9 +185,9 @@ quiet_begun h job a quiet =
     quiet_by (with_begun h job a)
     (λ m now there at. by m now (put_inside (λ (u v : MemberState). is_text_before u.who.lockspace v.who.lockspace) (new_member (begun h job a)) h.members m there) at)
     (λ j now there at. job_quiet h j now quiet there at) where
-  by : (m : MemberState) (now : ℕ) → (new_member (begun h job a) ≡ m) ⊎ Contains h.members m → Contains (member_moments h m) now → h.quiet_until ≤ now
-  by m now (inl is) at = absurd (contains_none now (subst (λ y. Contains (member_moments h y) now) (sym is) at))
-  by m now (inr old) at = member_quiet h m now quiet old at
+      by : (m : MemberState) (now : ℕ) → (new_member (begun h job a) ≡ m) ⊎ Contains h.members m → Contains (member_moments h m) now → h.quiet_until ≤ now
+      by m now (inl is) at = absurd (contains_none now (subst (λ y. Contains (member_moments h y) now) (sym is) at))
+      by m now (inr old) at = member_quiet h m now quiet old at
 
 begun_count : (h : HostState) (x : Step) (job : ℕ) (text : List ℕ) (a : LockspaceArg) (offset sectors : ℕ) → JoiningFits h job text a → Stands (Line text) h x
     → length (sessions x.setting (seen (more (first_read x h job a offset sectors) x))) ≡ h.born + 1

@@ -11,16 +11,15 @@ use Rattle.sl_host_plain.proofs.PlainLists.{all_both, range_last}
 use Rattle.sl_host_plain.proofs.Quiet.{job_quiet, member_quiet, quiet_by}
 use Rattle.sl_host_state.specs.Kept.{HostState, MemberState}
 use Rattle.sl_host_state.specs.Makes.{job_starting, with_start}
-use Rattle.sl_host_state.specs.Stands.{AreInTurn, IsQuiet, JoinStands, Keeps, LeaseStands, MemberStands, Stands, is_there, job_moments, kept_call, kept_job, kept_waiting, newest_value}
+use Rattle.sl_host_state.specs.Stands.{AreInTurn, IsQuiet, JoinStands, Keeps, LeaseStands, MemberStands, is_there, job_moments, kept_call, kept_waiting, newest_value}
 use Rattle.sl_host_state.specs.declared.kept.JobState.{JobState}
 use Rattle.sl_leases.specs.Counts.{values_on}
-use Rattle.sl_leases.specs.Jobs.{child_of_job, command_of}
+use Rattle.sl_leases.specs.Jobs.{command_of}
 use Rattle.sl_leases.specs.Leases.{spots_in}
 use Rattle.sl_plain.proofs.Lists.{in_map}
 use Rattle.sl_sessions.specs.Sessions.{calls_of, ended_after, is_call_of, is_delta_purpose, joined_after, leaving_job, recovery_of, sessions}
 use Rattle.sl_sessions.specs.Watching.{sightings}
-use Rattle.sl_sessions.specs.declared.session.Session.{Session}
-use Rattle.sl_trace.specs.Traces.{Child, Job, Submitted, Trace, child_after, children, first_child, is_of_job, is_write, job_numbered, job_of, mark, new_call, new_child, running_jobs, submitted, unanswered}
+use Rattle.sl_trace.specs.Traces.{Child, Job, Submitted, child_after, children, first_child, is_of_job, is_write, job_numbered, job_of, mark, new_call, new_child, running_jobs, submitted, unanswered}
 use Rattle.sl_trace.specs.declared.effects.Call.{Call}
 use Rattle.sl_trace.specs.declared.effects.Effects.{Effects}
 use Rattle.sl_trace.specs.declared.effects.Start.{Start}
@@ -34,7 +33,7 @@ use Rattle.std.proofs.lemmas.List.Elements.{filter-append, filter_map-append}
 use Rattle.std.proofs.lemmas.List.Folds.{find-append}
 use Rattle.std.specs.List.{AllByRecursion, cons_option, list_any, range_with_len}
 use Rattle.std.specs.Option.{option_map_or, option_or}
-use Rattle.std.specs.Prelude.{Bool, Contains, IsTrue, List, None, Option, Some, cond, false, filter, filter_map, find, fold, is_none, is_some, length, map, option_map, reverse, slice_get, true, [], ℕ, ◌&&◌, ◌++◌, ◌+◌, ◌==◌, ◌||◌, ◌∷◌, ◌≡◌, ◌≤◌}
+use Rattle.std.specs.Prelude.{Bool, Contains, IsTrue, List, None, Option, Some, cond, false, filter, filter_map, find, fold, is_none, is_some, length, map, option_map, reverse, true, [], ℕ, ◌&&◌, ◌++◌, ◌+◌, ◌==◌, ◌||◌, ◌∷◌, ◌≡◌, ◌≤◌}
 
 module _ (s : Start) where
   -- ---- calls are the same
@@ -108,29 +107,29 @@ module _ (s : Start) where
   started_of n ks =
       ap (option_map (λ (k : Child). k.process)) (find-append (λ (k : Child). some_is (λ j. j == n) k.job) ks (new_child s ∷ []))
       ∙ by (find (λ (k : Child). some_is (λ j. j == n) k.job) ks) (some_is (λ j. j == n) s.job) where
-    by : (o : Option Child) (b : Bool)
-        → option_map (λ k. k.process) (option_or o (cond b (Some (new_child s)) None))
-        ≡ cond b (option_or (option_map (λ k. k.process) o) (Some s.process)) (option_map (λ k. k.process) o)
-    by None true = refl
-    by None false = refl
-    by (Some k) true = refl
-    by (Some k) false = refl
+        by : (o : Option Child) (b : Bool)
+            → option_map (λ k. k.process) (option_or o (cond b (Some (new_child s)) None))
+            ≡ cond b (option_or (option_map (λ k. k.process) o) (Some s.process)) (option_map (λ k. k.process) o)
+        by None true = refl
+        by None false = refl
+        by (Some k) true = refl
+        by (Some k) false = refl
 
   job_more : (ms : List Submitted) (ks : List Child) (j : Job) → job_by ms (ks ++ new_child s ∷ []) j ≡ job_starting s (job_by ms ks j)
   job_more ms ks j =
       ap (λ (o : Option ℕ). record { number = j.number; command = command_of j; child = o; waits = option_map kept_waiting (find (is_of_job j.number) (unanswered ms)) }) (started_of j.number ks)
       ∙ by (some_is (λ n. n == j.number) s.job) where
-    by : (b : Bool)
-        → record {
-          number = j.number;
-          command = command_of j;
-          child = cond b (option_or (option_map (λ k. k.process) (find (λ k. some_is (λ n. n == j.number) k.job) ks)) (Some s.process))
-              (option_map (λ k. k.process) (find (λ k. some_is (λ n. n == j.number) k.job) ks));
-          waits = option_map kept_waiting (find (is_of_job j.number) (unanswered ms));
-        }
-        ≡ cond b (let k : JobState = job_by ms ks j in record k { child = option_or k.child (Some s.process) }) (job_by ms ks j)
-    by true = refl
-    by false = refl
+        by : (b : Bool)
+            → record {
+              number = j.number;
+              command = command_of j;
+              child = cond b (option_or (option_map (λ k. k.process) (find (λ k. some_is (λ n. n == j.number) k.job) ks)) (Some s.process))
+                  (option_map (λ k. k.process) (find (λ k. some_is (λ n. n == j.number) k.job) ks));
+              waits = option_map kept_waiting (find (is_of_job j.number) (unanswered ms));
+            }
+            ≡ cond b (let k : JobState = job_by ms ks j in record k { child = option_or k.child (Some s.process) }) (job_by ms ks j)
+        by true = refl
+        by false = refl
 
   jobs_more : (ms : List Submitted) (ks : List Child) (js : List Job) → map (job_by ms (ks ++ new_child s ∷ [])) js ≡ map (job_starting s) (map (job_by ms ks) js)
   jobs_more ms ks [] = refl
@@ -147,10 +146,10 @@ module _ (s : Start) where
       (append_assoc (filter_map (λ (m : Submitted). job_of m.call.purpose) (submitted (seen x))) (filter_map (λ (k : Child). k.job) (children (seen x))) (cons_option s.job []))
       (all_both (λ n. IsTrue (is_some (job_numbered x.setting (seen x) n)))
       (filter_map (λ (m : Submitted). job_of m.call.purpose) (submitted (seen x)) ++ filter_map (λ (k : Child). k.job) (children (seen x))) (cons_option s.job []) told (by s.job known))) where
-    by : (o : Option ℕ) → ((n : ℕ) → o ≡ Some n → is_some (job_numbered x.setting (seen x) n) ≡ true)
-        → AllByRecursion (λ n. IsTrue (is_some (job_numbered x.setting (seen x) n))) (cons_option o [])
-    by None known = tt
-    by (Some n) known = (known n refl, tt)
+        by : (o : Option ℕ) → ((n : ℕ) → o ≡ Some n → is_some (job_numbered x.setting (seen x) n) ≡ true)
+            → AllByRecursion (λ n. IsTrue (is_some (job_numbered x.setting (seen x) n))) (cons_option o [])
+        by None known = tt
+        by (Some n) known = (known n refl, tt)
 
   known_by_test : (h : HostState) (x : Step) → Keeps h x.setting (seen x) → option_map_or (λ n. list_any (λ (j : JobState). j.number == n) h.jobs) s.job true ≡ true
       → (n : ℕ) → s.job ≡ Some n → is_some (job_numbered x.setting (seen x) n) ≡ true
@@ -162,14 +161,14 @@ module _ (s : Start) where
   quiet_starting : (h : HostState) → IsQuiet h → IsQuiet (with_start s h)
   quiet_starting h quiet =
       quiet_by (with_start s h) (λ m t there at. member_quiet h m t quiet there at) (λ j t there at. from (in_map (job_starting s) h.jobs j there) t at) where
-    within : (z : JobState) (b : Bool) → job_moments h (cond b (record z { child = option_or z.child (Some s.process) }) z) ≡ job_moments h z
-    within z true = refl
-    within z false = refl
+        within : (z : JobState) (b : Bool) → job_moments h (cond b (record z { child = option_or z.child (Some s.process) }) z) ≡ job_moments h z
+        within z true = refl
+        within z false = refl
 
-    from : {j : JobState} → (z : JobState) × Contains h.jobs z × (job_starting s z ≡ j) → (t : ℕ) → Contains (job_moments (with_start s h) j) t → h.quiet_until ≤ t
-    from z t at =
-        job_quiet h z.0 t quiet z.1
-        (subst (λ ns. Contains ns t) (within z.0 (some_is (λ n. n == z.0.number) s.job)) (subst (λ y. Contains (job_moments h y) t) (sym z.2) at))
+        from : {j : JobState} → (z : JobState) × Contains h.jobs z × (job_starting s z ≡ j) → (t : ℕ) → Contains (job_moments (with_start s h) j) t → h.quiet_until ≤ t
+        from z t at =
+            job_quiet h z.0 t quiet z.1
+            (subst (λ ns. Contains ns t) (within z.0 (some_is (λ n. n == z.0.number) s.job)) (subst (λ y. Contains (job_moments h y) t) (sym z.2) at))
 
   keeps_starting : (h : HostState) (x : Step) → StartFits h s → Keeps h x.setting (seen x) → Keeps (with_start s h) x.setting (seen (add_start s x))
   keeps_starting h x fits k =

@@ -4,7 +4,7 @@ use Rattle.sl_call_law.proofs.Beginnings.MemberBegun.{member_stands}
 use Rattle.sl_call_law.proofs.Beginnings.NothingIsDue.{nothing_is_due}
 use Rattle.sl_call_law.proofs.Beginnings.QuietBegun.{quiet_begun, quietly}
 use Rattle.sl_call_law.specs.Beginnings.{StepsBegin}
-use Rattle.sl_due.specs.Steps.{begin_step, seen}
+use Rattle.sl_due.specs.Steps.{begin_step}
 use Rattle.sl_host_plain.proofs.PlainLists.{at_mapped}
 use Rattle.sl_host_state.specs.Hears.{beginning, begun, counted, is_late, member_begun, quiet_to, with_renewing}
 use Rattle.sl_host_state.specs.Kept.{HostState, MemberState}
@@ -12,8 +12,6 @@ use Rattle.sl_host_state.specs.Stands.{HostStands, IsQuiet, Keeps, MemberStands,
 use Rattle.sl_host_state.specs.declared.kept.JobState.{JobState}
 use Rattle.sl_host_state.specs.declared.kept.Rooms.{Rooms}
 use Rattle.sl_leases.specs.Jobs.{command_of}
-use Rattle.sl_sessions.specs.Sessions.{sessions}
-use Rattle.sl_sessions.specs.declared.session.Session.{Session}
 use Rattle.sl_trace.specs.Traces.{Child, Job, Setting, Trace, children, first_child, job_of, jobs, running_jobs, submitted, waiting_call}
 use Rattle.sl_trace.specs.declared.input.Input.TheVariants.{Wake}
 use Rattle.std.proofs.Common.{ap, arith, refl, subst, suc, sym, ◌∙◌}

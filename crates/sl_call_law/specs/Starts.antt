@@ -7,7 +7,7 @@ use Rattle.sl_trace.specs.Traces.{first_child}
 use Rattle.sl_trace.specs.declared.effects.Start.{Start}
 use Rattle.std.specs.List.{list_any}
 use Rattle.std.specs.Option.{option_map_or}
-use Rattle.std.specs.Prelude.{IsTrue, true, ℕ, ◌+◌, ◌==◌, ◌≡◌}
+use Rattle.std.specs.Prelude.{IsTrue, true, ◌+◌, ◌==◌, ◌≡◌}
 
 -- The child has the next number, and its job, if it has one, runs.
 pub record StartFits (h : HostState) (s : Start) : Type 0 where

@@ -2,6 +2,7 @@
 
 ghost use Rattle.sl_call_law.specs.Beginnings.{StepsBegin};
 ghost use Rattle.sl_call_law.specs.Calls.{CallsAreTaken};
+ghost use Rattle.sl_call_law.specs.Inputs.{InputsAreHeard};
 ghost use Rattle.sl_call_law.specs.Joinings.{JoiningsAreTaken};
 ghost use Rattle.sl_call_law.specs.Starts.{StartsAreTaken};
 
@@ -23,4 +24,9 @@ pub fn steps_begin()
 /// One more start is taken.
 pub fn starts_are_taken()
     ensures { StartsAreTaken }
+{}
+
+/// The inputs that answer no call are heard.
+pub fn inputs_are_heard()
+    ensures { InputsAreHeard }
 {}

@@ -1,10 +1,10 @@
 -- The jobs that a host keeps are jobs of the trace, and run; so is that of a leaving one of the trace's.
-use Rattle.sl_host_plain.proofs.PlainLists.{any_mapped, found_some}
+use Rattle.sl_host_plain.proofs.PlainLists.{any_mapped}
 use Rattle.sl_host_plain.proofs.SessionNumbers.{job_there, leaving_there}
 use Rattle.sl_host_state.specs.Kept.{HostState, MemberState}
 use Rattle.sl_host_state.specs.Stands.{Keeps, MemberStands, kept_job}
 use Rattle.sl_host_state.specs.declared.kept.JobState.{JobState}
-use Rattle.sl_plain.proofs.Lists.{any_found, any_of, kept, kept_inside}
+use Rattle.sl_plain.proofs.Lists.{any_found, kept_inside}
 use Rattle.sl_plain.proofs.Options.{mapped_value}
 use Rattle.sl_sessions.specs.Sessions.{leaving_job}
 use Rattle.sl_sessions.specs.declared.delta.DeltaKnown.{DeltaKnown}
@@ -14,7 +14,7 @@ use Rattle.sl_words.specs.Words.{some_is}
 use Rattle.std.proofs.Common.{ap, subst, sym, ◌∙◌}
 use Rattle.std.proofs.lemmas.Bool.Decides.{Decides-eqb}
 use Rattle.std.specs.List.{list_any}
-use Rattle.std.specs.Prelude.{Bool, Contains, Some, is_some, map, option_map, true, ℕ, ◌==◌, ◌≡◌}
+use Rattle.std.specs.Prelude.{Contains, is_some, true, ℕ, ◌==◌, ◌≡◌}
 
 -- Whether a job of this number runs is whether it is kept.
 pub kept_is_running : (h : HostState) (st : Setting) (es : Trace) (n : ℕ) → Keeps h st es → list_any (λ j. j.number == n) h.jobs ≡ list_any (λ j. j.number == n) (running_jobs st es)

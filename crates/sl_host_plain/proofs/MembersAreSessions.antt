@@ -6,12 +6,12 @@ use Rattle.sl_host_plain.specs.Promises.{MembersAreSessions, NumbersAreApart}
 use Rattle.sl_host_state.specs.Kept.{HostState, MemberState}
 use Rattle.sl_host_state.specs.Stands.{Keeps}
 use Rattle.sl_plain.proofs.Lists.{got_inside, kept_inside}
-use Rattle.sl_sessions.specs.Sessions.{is_present, present_sessions, session_numbered, sessions}
+use Rattle.sl_sessions.specs.Sessions.{is_present, present_sessions, sessions}
 use Rattle.sl_sessions.specs.declared.session.Session.{Session}
 use Rattle.sl_trace.specs.Traces.{Setting, Trace}
 use Rattle.sl_words.specs.Orders.{is_text_before}
-use Rattle.std.proofs.Common.{ap, subst, sym, ◌∙◌}
-use Rattle.std.specs.Prelude.{Bool, Contains, List, Some, filter, map, slice_get, true, ℕ, ◌≡◌}
+use Rattle.std.proofs.Common.{ap, ◌∙◌}
+use Rattle.std.specs.Prelude.{Contains, Some, filter, slice_get, true, ℕ, ◌≡◌}
 
 -- Where a member stands its session stands among those that are present.
 pub member_at : (h : HostState) (st : Setting) (es : Trace) (k : ℕ) (m : MemberState) → Keeps h st es → slice_get h.members k ≡ Some m

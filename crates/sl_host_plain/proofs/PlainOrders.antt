@@ -90,9 +90,9 @@ module _ {A : Type 0} (number : A → ℕ) where
   put_apart_from : (before : A → A → Bool) (z x : A) (ys : List A) → (number z ≡ number x → ⊥) → IsApart z ys → IsApart z (put_in before x ys)
   put_apart_from before z x ys other apart =
       all_from (λ y. number z ≡ number y → ⊥) (put_in before x ys) (λ d there. by d (put_inside before x ys d there)) where
-    by : (d : A) → (x ≡ d) ⊎ Contains ys d → number z ≡ number d → ⊥
-    by d (inl is) = subst (λ (w : A). number z ≡ number w → ⊥) is other
-    by d (inr old) = each_of (λ w. number z ≡ number w → ⊥) ys d apart old
+        by : (d : A) → (x ≡ d) ⊎ Contains ys d → number z ≡ number d → ⊥
+        by d (inl is) = subst (λ (w : A). number z ≡ number w → ⊥) is other
+        by d (inr old) = each_of (λ w. number z ≡ number w → ⊥) ys d apart old
 
   pub put_apart : (before : A → A → Bool) (x : A) (ys : List A) → IsApart x ys → AreApart ys → AreApart (put_in before x ys)
   put_apart before x [] from apart = (tt, tt)

@@ -7,8 +7,8 @@ use Rattle.sl_host_state.specs.declared.kept.JobState.{JobState}
 use Rattle.sl_plain.proofs.Lists.{got_inside}
 use Rattle.sl_plain.proofs.Numbers.{refl_le}
 use Rattle.sl_words.proofs.CaseLaws.{true_is_false}
-use Rattle.std.proofs.Common.{ap, arith, inl, inr, refl, subst, sym, ◌∙◌}
-use Rattle.std.specs.Prelude.{Bool, Contains, List, Some, cond, false, flat_map, min, slice_get, true, ℕ, ◌≡◌, ◌≤◌, ◌⊎◌}
+use Rattle.std.proofs.Common.{arith, inl, inr, sym}
+use Rattle.std.specs.Prelude.{Bool, Contains, cond, false, flat_map, min, true, ℕ, ◌≡◌, ◌≤◌, ◌⊎◌}
 
 pub moment_quiet : (h : HostState) (now : ℕ) → IsQuiet h → Contains (moments_of h) now → h.quiet_until ≤ now
 moment_quiet h now quiet there = let at = at_some (moments_of h) now there in quiet at.0 now at.1

@@ -17,7 +17,7 @@ use Rattle.sl_trace.specs.declared.input.Input.{Input}
 use Rattle.sl_words.proofs.CaseLaws.{none_some, some_value}
 use Rattle.sl_words.proofs.WordLaws.{choose_some}
 use Rattle.sl_words.specs.Words.{choose}
-use Rattle.std.proofs.Common.{ap, arith, inl, inr, refl, subst, suc, sym, zero, ◌∙◌}
+use Rattle.std.proofs.Common.{ap, arith, refl, subst, suc, sym, zero, ◌∙◌}
 use Rattle.std.specs.List.{AllByRecursion, enumerate_from, list_any}
 use Rattle.std.specs.Prelude.{Bool, Contains, List, None, Option, Some, false, is_some, length, map, not, slice_get, true, [], ℕ, ◌&&◌, ◌++◌, ◌+◌, ◌<◌, ◌==◌, ◌∷◌, ◌≡◌, ◌≤◌}
 
@@ -142,7 +142,7 @@ numbered_below st es n is =
 
 -- ---- the jobs of sessions
 
-abbrev HasJobBelow : ℕ → Session → Type 0
+abbrev pub HasJobBelow : ℕ → Session → Type 0
 HasJobBelow n s = (j : ℕ) → s.job ≡ Some j → j < n
 
 given_jobs : (n k : ℕ) (gs : List Given) → AllByRecursion (HasJobBelow n) (map given_session (enumerate_from k gs))

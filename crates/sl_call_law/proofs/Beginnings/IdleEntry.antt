@@ -1,6 +1,6 @@
 -- An entry that is a wake and does nothing: what is asked of a trace has the answer that it had.
 use Rattle.sl_host_plain.proofs.PlainLists.{filter_as, filter_whole}
-use Rattle.sl_sessions.specs.Sessions.{calls_of, ended_after, has_open_write, is_join_done, is_joined, is_present, joined_after, leaving_job, present_sessions, refused_after, removed_after, sessions}
+use Rattle.sl_sessions.specs.Sessions.{has_open_write, is_join_done, is_joined, is_present, joined_after, leaving_job, present_sessions, refused_after, removed_after, sessions}
 use Rattle.sl_sessions.specs.declared.session.Session.{Session}
 use Rattle.sl_trace.specs.Traces.{Child, Job, KillProgram, Replied, Setting, Trace, children, holdings, is_running, jobs, kill_programs, no_effects, reply_to, running_jobs}
 use Rattle.sl_trace.specs.declared.effects.Entry.{Entry}
@@ -8,9 +8,9 @@ use Rattle.sl_trace.specs.declared.effects.Grant.{Grant}
 use Rattle.sl_trace.specs.declared.input.Input.TheVariants.{Wake}
 use Rattle.sl_words.specs.Orders.{in_order, is_text_before}
 use Rattle.sl_words.specs.Words.{choose}
-use Rattle.std.proofs.Common.{ap, refl, sym, ◌∙◌}
+use Rattle.std.proofs.Common.{ap, refl, ◌∙◌}
 use Rattle.std.proofs.lemmas.List.{append-nil, map-id}
-use Rattle.std.specs.Prelude.{Bool, List, None, Option, Some, false, filter, is_none, is_some, length, map, not, option_and_then, true, [], ℕ, ◌&&◌, ◌++◌, ◌+◌, ◌||◌, ◌∷◌, ◌≡◌}
+use Rattle.std.specs.Prelude.{Bool, None, Option, Some, false, filter, is_none, is_some, length, map, not, option_and_then, true, ℕ, ◌&&◌, ◌+◌, ◌||◌, ◌∷◌, ◌≡◌}
 
 -- The entry.
 abbrev pub idle : ℕ → Entry

@@ -7,25 +7,21 @@ use Rattle.sl_due.specs.DueFirst.{begin_recoveries, begin_recovery, begins_now, 
 use Rattle.sl_due.specs.Steps.{Step, begin_step, for_each, seen, when, with_some}
 use Rattle.sl_host_plain.proofs.PlainLists.{at_some}
 use Rattle.sl_host_plain.proofs.Quiet.{job_quiet, member_quiet}
-use Rattle.sl_host_state.specs.Hears.{beginning, counted, member_begun, with_renewing}
+use Rattle.sl_host_state.specs.Hears.{beginning, counted, with_renewing}
 use Rattle.sl_host_state.specs.Kept.{Config, HostState, MemberState}
-use Rattle.sl_host_state.specs.Stands.{HostStands, IsQuiet, Keeps, MemberStands, job_moments, kept_job, kept_waiting, kill_moment, recovery_moment}
-use Rattle.sl_host_state.specs.declared.kept.JobState.{JobState}
-use Rattle.sl_host_state.specs.declared.kept.WaitingCall.{WaitingCall}
+use Rattle.sl_host_state.specs.Stands.{HostStands, MemberStands, job_moments, kept_job, kept_waiting, kill_moment, recovery_moment}
 use Rattle.sl_plain.proofs.Lists.{contains_first, contains_map, contains_more, in_map}
-use Rattle.sl_sessions.specs.Sessions.{is_joined, leaving_of, present_sessions, recovers, recovery_of, renewed_by, renewing, renewing_after, shows_other}
+use Rattle.sl_sessions.specs.Sessions.{is_joined, leaving_of, present_sessions, recovers, recovery_of, renewed_by, renewing, shows_other}
 use Rattle.sl_sessions.specs.declared.session.Begun.{Begun}
 use Rattle.sl_sessions.specs.declared.session.Renewing.{Renewing}
 use Rattle.sl_sessions.specs.declared.session.Session.{Session}
 use Rattle.sl_time.specs.Times.{fail}
 use Rattle.sl_trace.specs.Traces.{Job, Setting, Submitted, Trace, last_reading, running_jobs, waiting_call}
-use Rattle.sl_trace.specs.declared.effects.Entry.{Entry}
 use Rattle.sl_trace.specs.declared.effects.Signal.TheVariants.{Kill}
 use Rattle.sl_trace.specs.declared.reply.Reply.TheVariants.{IoTimeout}
-use Rattle.sl_words.proofs.CaseLaws.{none_some, some_value, true_is_false}
-use Rattle.sl_words.specs.Words.{some_is}
+use Rattle.sl_words.proofs.CaseLaws.{none_some, some_value}
 use Rattle.std.proofs.Common.{ap, arith, inl, inr, refl, subst, suc, sym, ◌∙◌}
-use Rattle.std.specs.Prelude.{Bool, Contains, List, None, Option, Some, cond, false, fold, is_some, length, map, nat_le, nat_lt, not, option_map, slice_get, true, unwrap_or, [], ℕ, ◌&&◌, ◌+◌, ◌-◌, ◌<◌, ◌==◌, ◌||◌, ◌∷◌, ◌≡◌, ◌≤◌}
+use Rattle.std.specs.Prelude.{Bool, Contains, List, None, Option, Some, cond, false, length, nat_le, nat_lt, not, option_map, true, unwrap_or, [], ℕ, ◌&&◌, ◌+◌, ◌-◌, ◌<◌, ◌==◌, ◌||◌, ◌∷◌, ◌≡◌, ◌≤◌}
 
 -- A loop that does nothing at each.
 for_none : {A : Type 0} (xs : List A) (f : A → Step → Step) (x : Step) → ((a : A) → Contains xs a → f a x ≡ x) → for_each xs f x ≡ x
@@ -94,11 +90,11 @@ module _ (h : HostState) (st : Setting) (es : Trace) (now : ℕ) (later : h.read
   old_recovery : (m : MemberState) → Contains h.members m → begins_now (seen x0) (recovery_of st (seen x0) m.who) ≡ false
   old_recovery m there =
       ap (λ (r : Renewing). begins_now (seen x0) r.recovery) ((stays m there).renewing) ∙ by m.renewing.recovery refl where
-    by : (o : Option Begun) → m.renewing.recovery ≡ o → begins_now (seen x0) o ≡ false
-    by None is = refl
-    by (Some b) is =
-        let at = at_some h.members m there in
-        not_now (length es) b.at (began_before st es m.who b (ap (λ (r : Renewing). r.recovery) (stands.keeps.members at.0 m at.1).renewing ∙ is))
+        by : (o : Option Begun) → m.renewing.recovery ≡ o → begins_now (seen x0) o ≡ false
+        by None is = refl
+        by (Some b) is =
+            let at = at_some h.members m there in
+            not_now (length es) b.at (began_before st es m.who b (ap (λ (r : Renewing). r.recovery) (stands.keeps.members at.0 m at.1).renewing ∙ is))
 
   none_begins : begin_recoveries x0 ≡ x0
   unfolding begin_recoveries begin_recovery
@@ -117,19 +113,19 @@ module _ (h : HostState) (st : Setting) (es : Trace) (now : ℕ) (later : h.read
       ∙ ap (λ n. nat_le b.kills_from n && nat_le (b.reading + h.config.grace) now && not (nat_lt b.kills_from n && nat_le (b.reading + h.config.grace) (last_reading st es))) stands.keeps.entries
       ∙ ap (λ n. nat_le b.kills_from h.entries && nat_le (b.reading + h.config.grace) now && not (nat_lt b.kills_from h.entries && nat_le (b.reading + h.config.grace) n)) stands.reading
       ∙ by (nat_lt b.kills_from h.entries && nat_le (b.reading + h.config.grace) h.reading) quiet where
-    never : (p q : Bool) → (p && q && false) ≡ false
-    never true true = refl
-    never true false = refl
-    never false q = refl
+        never : (p q : Bool) → (p && q && false) ≡ false
+        never true true = refl
+        never true false = refl
+        never false q = refl
 
-    sooner : (p : Bool) (t q : ℕ) → now < q → q ≤ t → (p && nat_le t now && true) ≡ false
-    sooner p t q less least = grind (arith, less, least)
+        sooner : (p : Bool) (t q : ℕ) → now < q → q ≤ t → (p && nat_le t now && true) ≡ false
+        sooner p t q less least = grind (arith, less, least)
 
-    by : (p : Bool) → ((t : ℕ) → Contains (cond p [] ((b.reading + h.config.grace) ∷ [])) t → h.quiet_until ≤ t)
-        → (nat_le b.kills_from h.entries && nat_le (b.reading + h.config.grace) now && not p) ≡ false
-    by true at = never (nat_le b.kills_from h.entries) (nat_le (b.reading + h.config.grace) now)
-    by false at =
-        sooner (nat_le b.kills_from h.entries) (b.reading + h.config.grace) h.quiet_until below (at (b.reading + h.config.grace) (contains_first (b.reading + h.config.grace) []))
+        by : (p : Bool) → ((t : ℕ) → Contains (cond p [] ((b.reading + h.config.grace) ∷ [])) t → h.quiet_until ≤ t)
+            → (nat_le b.kills_from h.entries && nat_le (b.reading + h.config.grace) now && not p) ≡ false
+        by true at = never (nat_le b.kills_from h.entries) (nat_le (b.reading + h.config.grace) now)
+        by false at =
+            sooner (nat_le b.kills_from h.entries) (b.reading + h.config.grace) h.quiet_until below (at (b.reading + h.config.grace) (contains_first (b.reading + h.config.grace) []))
 
   no_kill : (m : MemberState) → Contains h.members m → kills_holders st (seen x0) m.who ≡ false
   no_kill m there =
@@ -138,20 +134,20 @@ module _ (h : HostState) (st : Setting) (es : Trace) (now : ℕ) (later : h.read
       ∙ ap (λ (r : Renewing). m.joined && (is_kill_due st (seen x0) r.recovery || is_kill_due st (seen x0) (leaving_of st (seen x0) m.who))) k.renewing
       ∙ ap (λ o. m.joined && (is_kill_due st (seen x0) m.renewing.recovery || is_kill_due st (seen x0) o)) k.leaving
       ∙ by m.joined refl where
-    moment : m.joined ≡ true → (t : ℕ) → Contains (kill_moment h m.renewing.recovery) t → h.quiet_until ≤ t
-    moment is t at =
-        member_quiet h m t stands.quiet there
-        (moments_have m.joined (recovery_moment h m) (kill_moment h m.renewing.recovery) (kill_moment h m.leaving) t is (inr (inl at)))
+        moment : m.joined ≡ true → (t : ℕ) → Contains (kill_moment h m.renewing.recovery) t → h.quiet_until ≤ t
+        moment is t at =
+            member_quiet h m t stands.quiet there
+            (moments_have m.joined (recovery_moment h m) (kill_moment h m.renewing.recovery) (kill_moment h m.leaving) t is (inr (inl at)))
 
-    leaving : m.joined ≡ true → (t : ℕ) → Contains (kill_moment h m.leaving) t → h.quiet_until ≤ t
-    leaving is t at =
-        member_quiet h m t stands.quiet there
-        (moments_have m.joined (recovery_moment h m) (kill_moment h m.renewing.recovery) (kill_moment h m.leaving) t is (inr (inr at)))
+        leaving : m.joined ≡ true → (t : ℕ) → Contains (kill_moment h m.leaving) t → h.quiet_until ≤ t
+        leaving is t at =
+            member_quiet h m t stands.quiet there
+            (moments_have m.joined (recovery_moment h m) (kill_moment h m.renewing.recovery) (kill_moment h m.leaving) t is (inr (inr at)))
 
-    by : (b : Bool) → m.joined ≡ b → (b && (is_kill_due st (seen x0) m.renewing.recovery || is_kill_due st (seen x0) m.leaving)) ≡ false
-    by false is = refl
-    by true is =
-        ap (λ c. c || is_kill_due st (seen x0) m.leaving) (not_due m.renewing.recovery (moment is)) ∙ not_due m.leaving (leaving is)
+        by : (b : Bool) → m.joined ≡ b → (b && (is_kill_due st (seen x0) m.renewing.recovery || is_kill_due st (seen x0) m.leaving)) ≡ false
+        by false is = refl
+        by true is =
+            ap (λ c. c || is_kill_due st (seen x0) m.leaving) (not_due m.renewing.recovery (moment is)) ∙ not_due m.leaving (leaving is)
 
   no_kills : kills x0 ≡ x0
   unfolding kills kill_holders
@@ -166,17 +162,17 @@ module _ (h : HostState) (st : Setting) (es : Trace) (now : ℕ) (later : h.read
   not_overdue j there m waits =
       ap (λ (c : Config). nat_le (m.reading + c.timing.io) now) stands.keeps.config
       ∙ sooner (m.reading + h.config.timing.io) h.quiet_until below (job_quiet h (kept_job es j) (m.reading + h.config.timing.io) stands.quiet kept at) where
-    sooner : (t q : ℕ) → now < q → q ≤ t → nat_le t now ≡ false
-    sooner t q less least = grind (arith, less, least)
+        sooner : (t q : ℕ) → now < q → q ≤ t → nat_le t now ≡ false
+        sooner t q less least = grind (arith, less, least)
 
-    kept : Contains h.jobs (kept_job es j)
-    kept = subst (λ js. Contains js (kept_job es j)) stands.keeps.jobs (contains_map (kept_job es) (running_jobs st es) j there)
+        kept : Contains h.jobs (kept_job es j)
+        kept = subst (λ js. Contains js (kept_job es j)) stands.keeps.jobs (contains_map (kept_job es) (running_jobs st es) j there)
 
-    at : Contains (job_moments h (kept_job es j)) (m.reading + h.config.timing.io)
-    at =
-        subst
-        (λ o. Contains (elim (option_map kept_waiting o) as (λ z. List ℕ) [ None ↦ [] | Some c ↦ (c.reading + h.config.timing.io) ∷ [] ]) (m.reading + h.config.timing.io)) (sym waits)
-        (contains_first (m.reading + h.config.timing.io) [])
+        at : Contains (job_moments h (kept_job es j)) (m.reading + h.config.timing.io)
+        at =
+            subst
+            (λ o. Contains (elim (option_map kept_waiting o) as (λ z. List ℕ) [ None ↦ [] | Some c ↦ (c.reading + h.config.timing.io) ∷ [] ]) (m.reading + h.config.timing.io)) (sym waits)
+            (contains_first (m.reading + h.config.timing.io) [])
 
   in_time : (j : Job) → Contains (running_jobs st es) j → time_out j x0 ≡ x0
   unfolding time_out

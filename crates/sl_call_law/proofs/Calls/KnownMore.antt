@@ -1,6 +1,6 @@
 -- What is asked of a session's calls on its id's sector, and of its requests and looks, after one more call without an answer.
 use Rattle.sl_area.specs.Layouts.{Layout}
-use Rattle.sl_due.specs.DueRequests.{is_asked, is_fresh, owner_asked}
+use Rattle.sl_due.specs.DueRequests.{is_asked, owner_asked}
 use Rattle.sl_host_plain.proofs.PlainLists.{all_from, none_any}
 use Rattle.sl_host_state.specs.Kept.{JoinState}
 use Rattle.sl_host_state.specs.Makes.{joining_calling, known_calling}
@@ -8,7 +8,7 @@ use Rattle.sl_host_state.specs.Stands.{AreInTurn, JoinStands}
 use Rattle.sl_plain.proofs.Lists.{kept, kept_inside}
 use Rattle.sl_sector.specs.declared.sector.DeltaRec.{DeltaRec}
 use Rattle.sl_sessions.specs.Sessions.{delta_written, free_write, generation_in, given_number, is_delta_purpose, is_free_purpose, is_join_call, is_renewal, is_survey_purpose, join_call, last_delta, renewal_in, seq_in}
-use Rattle.sl_sessions.specs.Watching.{look_of, sightings}
+use Rattle.sl_sessions.specs.Watching.{sightings}
 use Rattle.sl_sessions.specs.declared.delta.DeltaKnown.{DeltaKnown}
 use Rattle.sl_sessions.specs.declared.session.Session.{Session}
 use Rattle.sl_sessions.specs.declared.sighting.Sighting.{Sighting}
@@ -20,7 +20,7 @@ use Rattle.sl_words.specs.Words.{some_is}
 use Rattle.std.proofs.Common.{ap, refl, sym, ◌∙◌}
 use Rattle.std.specs.List.{AllByRecursion, cons_option, list_any}
 use Rattle.std.specs.Option.{option_map_or}
-use Rattle.std.specs.Prelude.{Bool, Contains, IsTrue, List, None, Option, Some, cond, false, filter, filter_map, find, is_none, is_some, option_and_then, option_map, true, [], ℕ, ◌&&◌, ◌==◌, ◌||◌, ◌∷◌, ◌≡◌}
+use Rattle.std.specs.Prelude.{Bool, Contains, IsTrue, List, None, Option, Some, cond, false, filter, find, is_none, is_some, option_and_then, option_map, true, ℕ, ◌&&◌, ◌==◌, ◌||◌, ◌∷◌, ◌≡◌}
 
 -- By the session's calls, and by recovery and leaving, which they don't change.
 abbrev pub known_by : Session → Bool → Option ℕ → List Submitted → DeltaKnown
@@ -114,12 +114,12 @@ module _ (at reading : ℕ) (call : Call) where
       → AllByRecursion (λ m. IsTrue (is_some m.answer)) (filter (λ m. is_delta_purpose m.call.purpose) ms)
   answered_all ms none =
       all_from (λ m. IsTrue (is_some m.answer)) (filter (λ m. is_delta_purpose m.call.purpose) ms) (λ d there. by d (kept_inside (λ m. is_delta_purpose m.call.purpose) ms d there)) where
-    by : (d : Submitted) → Contains ms d × (is_delta_purpose d.call.purpose ≡ true) → IsTrue (is_some d.answer)
-    by d in_it = answer d.answer refl where
-      answer : (o : Option Answered) → d.answer ≡ o → is_some o ≡ true
-      answer None is =
-          absurd (false_is_true (sym (none_any (λ m. is_delta_purpose m.call.purpose) (unanswered ms) d none (kept (λ m. is_none m.answer) ms d (ap (λ o. is_none o) is) in_it.0)) ∙ in_it.1))
-      answer (Some a) is = refl
+        by : (d : Submitted) → Contains ms d × (is_delta_purpose d.call.purpose ≡ true) → IsTrue (is_some d.answer)
+        by d in_it = answer d.answer refl where
+          answer : (o : Option Answered) → d.answer ≡ o → is_some o ≡ true
+          answer None is =
+              absurd (false_is_true (sym (none_any (λ m. is_delta_purpose m.call.purpose) (unanswered ms) d none (kept (λ m. is_none m.answer) ms d (ap (λ o. is_none o) is) in_it.0)) ∙ in_it.1))
+          answer (Some a) is = refl
 
   pub turn_more : (ms : List Submitted) → (is_delta_purpose call.purpose && list_any (λ m. is_delta_purpose m.call.purpose) (unanswered ms)) ≡ false
       → AreInTurn (filter (λ m. is_delta_purpose m.call.purpose) ms) → AreInTurn (filter (λ m. is_delta_purpose m.call.purpose) (c ∷ ms))

@@ -4,7 +4,7 @@ use Rattle.sl_host_state.specs.Kept.{LeaseState}
 use Rattle.sl_host_state.specs.declared.kept.TopNumber.{TopNumber}
 use Rattle.sl_host_state.specs.Makes.{ballot_calling, kept_lease_call, lease_calling}
 use Rattle.sl_host_state.specs.Stands.{IsWaiting, LeaseStands, free_written}
-use Rattle.sl_leases.specs.Leases.{Phase2_write, Read_before_free, ballot_after, block_submitted, block_written, concludes, free_left, freed, freed_by, is_at, is_free_write, is_lease_call, lease_step, may_show_shared, name_sought, open_ballot, settles_free, verified_name}
+use Rattle.sl_leases.specs.Leases.{Phase2_write, Read_before_free, ballot_after, block_submitted, block_written, free_left, freed_by, is_at, is_free_write, is_lease_call, lease_step, may_show_shared, name_sought, open_ballot, settles_free, verified_name}
 use Rattle.sl_sector.specs.declared.sector.Block.{Block}
 use Rattle.sl_sector.specs.declared.sector.Owner.{Owner}
 use Rattle.sl_trace.specs.Traces.{Submitted, new_call}
@@ -14,10 +14,10 @@ use Rattle.sl_trace.specs.declared.effects.Work.{Work}
 use Rattle.sl_words.proofs.CaseLaws.{false_is_true, none_some, some_value}
 use Rattle.sl_words.proofs.WordLaws.{choose_some}
 use Rattle.sl_words.specs.Words.{choose, some_is}
-use Rattle.std.proofs.Common.{ap, refl, subst, sym, ◌∙◌}
+use Rattle.std.proofs.Common.{ap, refl, subst, ◌∙◌}
 use Rattle.std.specs.List.{AllByRecursion}
 use Rattle.std.specs.Option.{option_map_or, option_or}
-use Rattle.std.specs.Prelude.{Bool, IsTrue, List, None, Option, Some, false, is_some, max, not, option_and_then, option_map, true, [], ℕ, ◌&&◌, ◌==◌, ◌||◌, ◌∷◌, ◌≡◌}
+use Rattle.std.specs.Prelude.{Bool, IsTrue, List, None, Option, Some, false, is_some, max, not, option_and_then, option_map, true, ℕ, ◌&&◌, ◌==◌, ◌||◌, ◌∷◌, ◌≡◌}
 
 -- A call of phase 2 is in the instance whose greatest number is known.
 abbrev pub FollowsRead : LeaseState → Submitted → Type 0

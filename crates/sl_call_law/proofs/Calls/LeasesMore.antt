@@ -122,9 +122,9 @@ module _ (g : Layout) (lockspace : List ℕ) (self : Owner) (at reading : ℕ) (
   nothing_here : (ms : List Submitted) → list_any (same_spot (spot_of_call g c)) (spots_in g ms) ≡ false → calls_on g (spot_of_call g c) ms ≡ []
   nothing_here ms none =
       filter_none (λ m. is_lease_call m && is_on g (spot_of_call g c) m.call) ms (λ d there. is_false (is_lease_call d && is_on g (spot_of_call g c) d.call) (λ both. clash d there (and_true (is_lease_call d) (is_on g (spot_of_call g c) d.call) both))) where
-    clash : (d : Submitted) → Contains ms d → (is_lease_call d ≡ true) × (is_on g (spot_of_call g c) d.call ≡ true) → ⊥
-    clash d there both =
-        true_is_false (sym (subst (λ s. list_any (same_spot s) (spots_in g ms) ≡ true) (areas_are_apart g c d both.1) (spot_there g ms d there both.0)) ∙ none)
+        clash : (d : Submitted) → Contains ms d → (is_lease_call d ≡ true) × (is_on g (spot_of_call g c) d.call ≡ true) → ⊥
+        clash d there both =
+            true_is_false (sym (subst (λ s. list_any (same_spot s) (spots_in g ms) ≡ true) (areas_are_apart g c d both.1) (spot_there g ms d there both.0)) ∙ none)
 
   taken : (ms : List Submitted) (l : LeaseState) → is_lease_call c ≡ true → 0 < g.area → spot_of_call g c ≡ l.spot → MayTake c l → StandsIn g lockspace self ms l
       → StandsIn g lockspace self (c ∷ ms) (lease_calling c l)

@@ -10,29 +10,28 @@ use Rattle.sl_due.specs.Steps.{Step, seen, with_effects}
 use Rattle.sl_host_plain.proofs.PlainLists.{at_some}
 use Rattle.sl_host_state.specs.Kept.{LeaseState, MemberState}
 use Rattle.sl_host_state.specs.Makes.{joining_calling, known_calling, leases_calling}
-use Rattle.sl_host_state.specs.Stands.{AreInTurn, JoinStands, LeaseStands, MemberStands, is_asked_in, newest_value}
+use Rattle.sl_host_state.specs.Stands.{AreInTurn, JoinStands, LeaseStands, MemberStands, newest_value}
 use Rattle.sl_leases.specs.Counts.{values_on}
 use Rattle.sl_leases.specs.Leases.{spots_in}
 use Rattle.sl_plain.proofs.Lists.{contains_none, got_inside}
 use Rattle.sl_sector.specs.declared.sector.DeltaRec.{DeltaRec}
 use Rattle.sl_sector.specs.declared.sector.Owner.{Owner}
-use Rattle.sl_sessions.specs.Sessions.{calls_of, delta_written, generation_in, given_number, is_call_of, is_delta_purpose, is_joined, last_delta, leaving_job, me, recovery_of}
+use Rattle.sl_sessions.specs.Sessions.{calls_of, delta_written, generation_in, given_number, is_call_of, is_delta_purpose, last_delta, leaving_job, recovery_of}
 use Rattle.sl_sessions.specs.Watching.{sightings}
 use Rattle.sl_sessions.specs.declared.delta.DeltaKnown.{DeltaKnown}
 use Rattle.sl_sessions.specs.declared.session.Session.{Session}
 use Rattle.sl_trace.proofs.TraceFacts.{submitted-push}
-use Rattle.sl_trace.specs.Traces.{Setting, Submitted, new_call, submitted, unanswered}
+use Rattle.sl_trace.specs.Traces.{Submitted, new_call, submitted, unanswered}
 use Rattle.sl_trace.specs.declared.effects.Call.{Call}
 use Rattle.sl_trace.specs.declared.effects.Effects.{Effects}
-use Rattle.sl_trace.specs.declared.effects.Entry.{Entry}
-use Rattle.sl_words.proofs.CaseLaws.{false_is_true, true_is_false}
+use Rattle.sl_words.proofs.CaseLaws.{false_is_true}
 use Rattle.sl_words.proofs.WordLaws.{or_true}
 use Rattle.sl_words.specs.Words.{is_empty}
 use Rattle.std.proofs.Common.{ap, inl, inr, refl, subst, sym, ◌∙◌}
 use Rattle.std.proofs.lemmas.Bool.Decides.{Decides-eqb}
 use Rattle.std.specs.List.{AllByRecursion, list_any}
 use Rattle.std.specs.Option.{option_map_or}
-use Rattle.std.specs.Prelude.{Bool, Contains, IsTrue, List, None, Option, Some, cond, false, filter, is_some, length, not, option_map, slice_get, true, [], ℕ, ◌&&◌, ◌++◌, ◌==◌, ◌||◌, ◌∷◌, ◌≡◌, ◌⊎◌}
+use Rattle.std.specs.Prelude.{Bool, Contains, IsTrue, List, None, Option, Some, cond, false, filter, is_some, length, not, option_map, true, [], ℕ, ◌&&◌, ◌++◌, ◌==◌, ◌||◌, ◌∷◌, ◌≡◌}
 
 -- The step with one more call at its end.
 abbrev pub more : Call → Step → Step

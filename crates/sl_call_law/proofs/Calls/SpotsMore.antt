@@ -7,11 +7,10 @@ use Rattle.sl_host_state.specs.Makes.{is_lease_on, lease_calling, leases_calling
 use Rattle.sl_host_state.specs.Stands.{pair_of}
 use Rattle.sl_leases.specs.Leases.{is_lease_call, is_on, is_spot_before, spot_of_call, spots_in, value_written, with_spot}
 use Rattle.sl_plain.proofs.Lists.{any_found, any_of, contains_cases, contains_first, contains_map, contains_more, contains_none}
-use Rattle.sl_trace.specs.Traces.{Submitted, new_call, same_place, same_spot}
-use Rattle.sl_trace.specs.declared.effects.Call.{Call}
+use Rattle.sl_trace.specs.Traces.{Submitted, same_spot}
 use Rattle.sl_trace.specs.declared.effects.Spot.{Spot}
 use Rattle.sl_trace_law.proofs.Leases.SpotLaws.{areas_are_apart}
-use Rattle.sl_words.proofs.CaseLaws.{false_is_true, is_false, some_value, true_is_false}
+use Rattle.sl_words.proofs.CaseLaws.{false_is_true, is_false, true_is_false}
 use Rattle.sl_words.proofs.WordLaws.{and_true}
 use Rattle.sl_words.specs.Orders.{put_in}
 use Rattle.std.proofs.Common.{ap, arith, inl, inr, refl, subst, sym, ◌∙◌}
@@ -20,7 +19,7 @@ use Rattle.std.proofs.lemmas.Bool.Decides.{Decides-eqb}
 use Rattle.std.proofs.lemmas.Slice.Eq.{bytes_eq-Decides}
 use Rattle.std.specs.List.{AllByRecursion, list_any}
 use Rattle.std.specs.Option.{option_or}
-use Rattle.std.specs.Prelude.{Bool, Contains, List, None, Option, Some, bytes_eq, cond, false, filter, find, if◌then◌else◌, map, nat_le, nat_lt, option_map, true, [], ℕ, ◌%◌, ◌&&◌, ◌+◌, ◌-◌, ◌<◌, ◌==◌, ◌||◌, ◌∷◌, ◌≡◌, ◌≤◌, ◌⊎◌}
+use Rattle.std.specs.Prelude.{Bool, Contains, List, Some, bytes_eq, cond, false, find, if◌then◌else◌, map, nat_le, nat_lt, option_map, true, [], ℕ, ◌%◌, ◌&&◌, ◌+◌, ◌-◌, ◌<◌, ◌==◌, ◌∷◌, ◌≡◌, ◌⊎◌}
 
 -- ---- one area
 
@@ -48,11 +47,11 @@ on_own g m room =
     ((bytes_eq-Decides m.call.path m.call.path).1 refl)
     (both (nat_le (m.call.offset - m.call.offset % g.area) m.call.offset) (nat_lt m.call.offset (m.call.offset - m.call.offset % g.area + g.area)) (below m.call.offset (m.call.offset % g.area))
     (within m.call.offset (m.call.offset % g.area) g.area rest)) where
-  below : (o r : ℕ) → nat_le (o - r) o ≡ true
-  below o r = grind arith
+      below : (o r : ℕ) → nat_le (o - r) o ≡ true
+      below o r = grind arith
 
-  within : (o r a : ℕ) → r < a → nat_lt o (o - r + a) ≡ true
-  within o r a less = grind (arith, less)
+      within : (o r a : ℕ) → r < a → nat_lt o (o - r + a) ≡ true
+      within o r a less = grind (arith, less)
 
 -- ---- where the areas come from
 
@@ -128,9 +127,9 @@ turned a b other = is_false (same_spot b a) (λ same. true_is_false (sym (spot_i
 put_other : (z x : Spot) (ss : List Spot) → same_spot z x ≡ false → AllByRecursion (λ t. same_spot z t ≡ false) ss → AllByRecursion (λ t. same_spot z t ≡ false) (put_in is_spot_before x ss)
 put_other z x ss other all =
     all_from (λ t. same_spot z t ≡ false) (put_in is_spot_before x ss) (λ d there. by d (put_inside is_spot_before x ss d there)) where
-  by : (d : Spot) → (x ≡ d) ⊎ Contains ss d → same_spot z d ≡ false
-  by d (inl is) = ap (same_spot z) (sym is) ∙ other
-  by d (inr old) = each_of (λ t. same_spot z t ≡ false) ss d all old
+      by : (d : Spot) → (x ≡ d) ⊎ Contains ss d → same_spot z d ≡ false
+      by d (inl is) = ap (same_spot z) (sym is) ∙ other
+      by d (inr old) = each_of (λ t. same_spot z t ≡ false) ss d all old
 
 put_once : (x : Spot) (ss : List Spot) → AllByRecursion (λ t. same_spot x t ≡ false) ss → AreOnce ss → AreOnce (put_in is_spot_before x ss)
 put_once x [] other once = (tt, tt)
@@ -192,11 +191,11 @@ worked_spot at c l = by (is_lease_on at l) where
 working_spots : (at : Spot) (c : Submitted) (ls : List LeaseState) → spots_of (leases_working at c ls) ≡ with_spot at (spots_of ls)
 working_spots at c ls =
     by (list_any (is_lease_on at) ls) refl ∙ ap (λ b. if b then spots_of ls else put_in is_spot_before at (spots_of ls)) (sym (any_mapped (same_spot at) (λ (l : LeaseState). l.spot) ls)) where
-  by : (b : Bool) → list_any (is_lease_on at) ls ≡ b
-      → spots_of (cond b (map (λ l. cond (is_lease_on at l) (lease_calling c l) l) ls) (put_in (λ k l. is_spot_before k.spot l.spot) (lease_calling c (new_lease at)) ls))
-      ≡ (if b then spots_of ls else put_in is_spot_before at (spots_of ls))
-  by true is = kept_spots (λ l. cond (is_lease_on at l) (lease_calling c l) l) ls (worked_spot at c)
-  by false is = put_mapped (λ (l : LeaseState). l.spot) is_spot_before (lease_calling c (new_lease at)) ls
+      by : (b : Bool) → list_any (is_lease_on at) ls ≡ b
+          → spots_of (cond b (map (λ l. cond (is_lease_on at l) (lease_calling c l) l) ls) (put_in (λ k l. is_spot_before k.spot l.spot) (lease_calling c (new_lease at)) ls))
+          ≡ (if b then spots_of ls else put_in is_spot_before at (spots_of ls))
+      by true is = kept_spots (λ l. cond (is_lease_on at l) (lease_calling c l) l) ls (worked_spot at c)
+      by false is = put_mapped (λ (l : LeaseState). l.spot) is_spot_before (lease_calling c (new_lease at)) ls
 
 -- The leases' areas are those of the calls.
 pub spots_more : (g : Layout) (c : Submitted) (ms : List Submitted) (ls : List LeaseState) → spots_in g ms ≡ spots_of ls → spots_in g (c ∷ ms) ≡ spots_of (leases_calling g c ls)

@@ -2,12 +2,11 @@
 use Rattle.sl_area.specs.Layouts.{Layout}
 use Rattle.sl_call_law.proofs.Calls.SpotsMore.{any_stays, on_its_area, spot_itself, spots_more, valued_spot}
 use Rattle.sl_call_law.specs.Calls.{fits_value}
-use Rattle.sl_host_plain.proofs.PlainLists.{all_as, any_mapped, each_of, none_any}
+use Rattle.sl_host_plain.proofs.PlainLists.{all_as, any_mapped, each_of}
 use Rattle.sl_host_plain.proofs.PlainOrders.{put_inside}
 use Rattle.sl_host_state.specs.Kept.{LeaseState, MemberState}
 use Rattle.sl_host_state.specs.Makes.{is_lease_on, lease_calling, leases_calling, leases_working, new_lease, value_calling}
 use Rattle.sl_host_state.specs.Stands.{newest_value, pair_of}
-use Rattle.sl_host_state.specs.declared.kept.ValuePair.{ValuePair}
 use Rattle.sl_leases.specs.Counts.{values_on}
 use Rattle.sl_leases.specs.Leases.{is_lease_call, is_on, is_spot_before, spot_of_call, spots_in, value_written}
 use Rattle.sl_plain.proofs.Lists.{any_found, any_of, contains_first, contains_more, in_map, kept_inside}
@@ -22,7 +21,7 @@ use Rattle.sl_words.specs.Orders.{put_in}
 use Rattle.std.proofs.Common.{ap, inl, inr, refl, subst, sym, ◌∙◌}
 use Rattle.std.specs.List.{AllByRecursion, cons_option, list_any}
 use Rattle.std.specs.Option.{option_map_or, option_or}
-use Rattle.std.specs.Prelude.{Bool, Contains, IsTrue, List, None, Option, Some, cond, false, filter, filter_map, is_none, map, not, option_map, slice_get, true, [], ℕ, ◌&&◌, ◌||◌, ◌∷◌, ◌≡◌, ◌⊎◌}
+use Rattle.std.specs.Prelude.{Bool, Contains, IsTrue, List, None, Option, Some, cond, false, filter, filter_map, is_none, map, not, option_map, true, [], ℕ, ◌&&◌, ◌||◌, ◌∷◌, ◌≡◌, ◌⊎◌}
 
 -- The call sets no value, or sets one on the area of a lease.
 abbrev pub on_lease : Layout → List LeaseState → Submitted → Bool
@@ -54,9 +53,10 @@ module _ (g : Layout) (at reading : ℕ) (call : Call) where
 
   pub valued_more : (ms : List Submitted) (s : MemberState) → spots_in g ms ≡ map (λ l. l.spot) s.leases → IsTrue (fits_value g s c)
       → AllByRecursion (λ d. IsTrue (on_lease g s.leases d)) ms → AllByRecursion (λ d. IsTrue (on_lease g (leases_calling g c s.leases) d)) (c ∷ ms)
-  valued_more ms s spots fits all =
-      (still_on ms s.leases c spots (new_on s fits),
-        all_as (λ d. IsTrue (on_lease g s.leases d)) (λ d. IsTrue (on_lease g (leases_calling g c s.leases) d)) ms (λ d on. still_on ms s.leases d spots on) all)
+  valued_more ms s spots fits all = (
+    still_on ms s.leases c spots (new_on s fits),
+    all_as (λ d. IsTrue (on_lease g s.leases d)) (λ d. IsTrue (on_lease g (leases_calling g c s.leases) d)) ms (λ d on. still_on ms s.leases d spots on) all,
+  )
 
   -- ---- the last of each area
 
@@ -88,20 +88,20 @@ module _ (g : Layout) (at reading : ℕ) (call : Call) where
       → values_at (spot_of_call g c) ms ≡ []
   none_set ms ls spots all none =
       nothing_set value_written (filter (λ m. is_on g (spot_of_call g c) m.call) ms) (λ d there. by d (kept_inside (λ m. is_on g (spot_of_call g c) m.call) ms d there)) where
-    clash : (d : Submitted) → is_on g (spot_of_call g c) d.call ≡ true → list_any (λ l. is_on g l.spot d.call) ls ≡ true → ⊥
-    clash d on has =
-        let f = any_found (λ s. is_on g s d.call) (map (λ (l : LeaseState). l.spot) ls) (by_spots g ls d ∙ has) in
-        let here : spot_of_call g d ≡ spot_of_call g c = areas_are_apart g c d on in
-        let there : spot_of_call g d ≡ f.0 = on_its_area g ms d f.0 (subst (λ ss. Contains ss f.0) (sym spots) f.1) f.2 in
-        true_is_false (sym (any_of (same_spot (spot_of_call g c)) (map (λ (l : LeaseState). l.spot) ls) f.0
-        (ap (same_spot (spot_of_call g c)) (sym there ∙ here) ∙ spot_itself (spot_of_call g c)) f.1)
-        ∙ (any_mapped (same_spot (spot_of_call g c)) (λ (l : LeaseState). l.spot) ls ∙ none))
+        clash : (d : Submitted) → is_on g (spot_of_call g c) d.call ≡ true → list_any (λ l. is_on g l.spot d.call) ls ≡ true → ⊥
+        clash d on has =
+            let f = any_found (λ s. is_on g s d.call) (map (λ (l : LeaseState). l.spot) ls) (by_spots g ls d ∙ has) in
+            let here : spot_of_call g d ≡ spot_of_call g c = areas_are_apart g c d on in
+            let there : spot_of_call g d ≡ f.0 = on_its_area g ms d f.0 (subst (λ ss. Contains ss f.0) (sym spots) f.1) f.2 in
+            true_is_false (sym (any_of (same_spot (spot_of_call g c)) (map (λ (l : LeaseState). l.spot) ls) f.0
+            (ap (same_spot (spot_of_call g c)) (sym there ∙ here) ∙ spot_itself (spot_of_call g c)) f.1)
+            ∙ (any_mapped (same_spot (spot_of_call g c)) (λ (l : LeaseState). l.spot) ls ∙ none))
 
-    by : (d : Submitted) → Contains ms d × (is_on g (spot_of_call g c) d.call ≡ true) → value_written d ≡ None
-    by d in_it = sets (value_written d) refl (each_of (λ m. IsTrue (on_lease g ls m)) ms d all in_it.0) where
-      sets : (o : Option ValueRec) → value_written d ≡ o → (is_none o || list_any (λ l. is_on g l.spot d.call) ls) ≡ true → value_written d ≡ None
-      sets None is holds = is
-      sets (Some v) is holds = absurd (clash d in_it.1 holds)
+        by : (d : Submitted) → Contains ms d × (is_on g (spot_of_call g c) d.call ≡ true) → value_written d ≡ None
+        by d in_it = sets (value_written d) refl (each_of (λ m. IsTrue (on_lease g ls m)) ms d all in_it.0) where
+          sets : (o : Option ValueRec) → value_written d ≡ o → (is_none o || list_any (λ l. is_on g l.spot d.call) ls) ≡ true → value_written d ≡ None
+          sets None is holds = is
+          sets (Some v) is holds = absurd (clash d in_it.1 holds)
 
   abbrev EachKept : List Submitted → List LeaseState → Type 0
   EachKept ms ls = (l : LeaseState) → Contains ls l → newest_value (values_at l.spot ms) ≡ l.value

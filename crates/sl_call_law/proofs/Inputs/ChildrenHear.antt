@@ -1,24 +1,16 @@
 -- What an exit or the answer of a start changes of the children: one of its number, whose number and job stay; a child that is not kept
 -- is not kept after it.
-use Rattle.sl_call_law.proofs.Inputs.InputHeard.{entry_with, heard}
-use Rattle.sl_host_plain.proofs.PlainLists.{found_mapped, kept_if}
-use Rattle.sl_host_state.specs.Hears.{children_after}
-use Rattle.sl_host_state.specs.Stands.{is_there, kept_waiting}
-use Rattle.sl_host_state.specs.declared.kept.JobState.{JobState}
-use Rattle.sl_leases.specs.Jobs.{command_of}
+use Rattle.sl_host_plain.proofs.PlainLists.{kept_if}
+use Rattle.sl_host_state.specs.Stands.{is_there}
 use Rattle.sl_plain.proofs.Lists.{any_found, any_of, contains_cases, contains_first, contains_map, contains_more, contains_none, head_is, in_map, tail_is}
-use Rattle.sl_plain.proofs.Numbers.{number_itself}
-use Rattle.sl_trace.specs.Traces.{Child, Job, Submitted, child_after, is_of_job, new_child, unanswered}
+use Rattle.sl_trace.specs.Traces.{Child, child_after, new_child}
 use Rattle.sl_trace.specs.declared.effects.Start.{Start}
 use Rattle.sl_trace.specs.declared.input.Input.TheVariants.{Exit, Spawned}
-use Rattle.sl_trace.specs.declared.input.Input.{Input}
-use Rattle.sl_words.proofs.CaseLaws.{false_is_true, is_false, true_is_false}
+use Rattle.sl_words.proofs.CaseLaws.{is_false, true_is_false}
 use Rattle.sl_words.specs.Words.{some_is}
 use Rattle.std.proofs.Common.{ap, arith, inl, inr, refl, subst, suc, sym, zero, ◌∙◌}
 use Rattle.std.proofs.lemmas.Bool.Decides.{Decides-eqb}
 use Rattle.std.proofs.lemmas.List.{map-append}
-use Rattle.std.proofs.lemmas.List.Elements.{filter_map-append}
-use Rattle.std.proofs.lemmas.List.Folds.{find-append}
 use Rattle.std.specs.List.{cons_option, list_any, range_with_len}
 use Rattle.std.specs.Option.{option_or}
 use Rattle.std.specs.Prelude.{Bool, Contains, List, None, Option, Some, cond, false, filter, filter_map, find, is_none, length, map, not, option_map, true, [], ℕ, ◌&&◌, ◌++◌, ◌+◌, ◌<◌, ◌==◌, ◌||◌, ◌∷◌, ◌≡◌, ◌≤◌, ◌⊎◌}
@@ -38,22 +30,22 @@ exit_acts p =
       other = λ k is. ap (λ b. elim b as (λ z. Child) [ false ↦ k | true ↦ record k { exited = true } ]) is;
       gone = λ k is. left k is (p == k.process);
     } where
-  same_process : (k : Child) (b : Bool) → (elim b as (λ z. Child) [ false ↦ k | true ↦ record k { exited = true } ]).process ≡ k.process
-  same_process k true = refl
-  same_process k false = refl
+      same_process : (k : Child) (b : Bool) → (elim b as (λ z. Child) [ false ↦ k | true ↦ record k { exited = true } ]).process ≡ k.process
+      same_process k true = refl
+      same_process k false = refl
 
-  same_job : (k : Child) (b : Bool) → (elim b as (λ z. Child) [ false ↦ k | true ↦ record k { exited = true } ]).job ≡ k.job
-  same_job k true = refl
-  same_job k false = refl
+      same_job : (k : Child) (b : Bool) → (elim b as (λ z. Child) [ false ↦ k | true ↦ record k { exited = true } ]).job ≡ k.job
+      same_job k true = refl
+      same_job k false = refl
 
-  exited : (n b e : Bool) → (n || b && not e) ≡ false → (n || b && false) ≡ false
-  exited true b e is = is
-  exited false true e is = refl
-  exited false false e is = refl
+      exited : (n b e : Bool) → (n || b && not e) ≡ false → (n || b && false) ≡ false
+      exited true b e is = is
+      exited false true e is = refl
+      exited false false e is = refl
 
-  left : (k : Child) → is_there k ≡ false → (b : Bool) → is_there (elim b as (λ z. Child) [ false ↦ k | true ↦ record k { exited = true } ]) ≡ false
-  left k is true = exited (is_none k.answer) (some_is (λ ok. ok) k.answer) k.exited is
-  left k is false = is
+      left : (k : Child) → is_there k ≡ false → (b : Bool) → is_there (elim b as (λ z. Child) [ false ↦ k | true ↦ record k { exited = true } ]) ≡ false
+      left k is true = exited (is_none k.answer) (some_is (λ ok. ok) k.answer) k.exited is
+      left k is false = is
 
 pub start_acts : (p : ℕ) (ok : Bool) → ActsOn p (child_after (Spawned p ok))
 start_acts p ok =
@@ -63,22 +55,22 @@ start_acts p ok =
       other = λ k is. ap (λ b. elim b as (λ z. Child) [ false ↦ k | true ↦ record k { answer = option_or k.answer (Some ok) } ]) is;
       gone = λ k is. left k is (p == k.process);
     } where
-  same_process : (k : Child) (b : Bool) → (elim b as (λ z. Child) [ false ↦ k | true ↦ record k { answer = option_or k.answer (Some ok) } ]).process ≡ k.process
-  same_process k true = refl
-  same_process k false = refl
+      same_process : (k : Child) (b : Bool) → (elim b as (λ z. Child) [ false ↦ k | true ↦ record k { answer = option_or k.answer (Some ok) } ]).process ≡ k.process
+      same_process k true = refl
+      same_process k false = refl
 
-  same_job : (k : Child) (b : Bool) → (elim b as (λ z. Child) [ false ↦ k | true ↦ record k { answer = option_or k.answer (Some ok) } ]).job ≡ k.job
-  same_job k true = refl
-  same_job k false = refl
+      same_job : (k : Child) (b : Bool) → (elim b as (λ z. Child) [ false ↦ k | true ↦ record k { answer = option_or k.answer (Some ok) } ]).job ≡ k.job
+      same_job k true = refl
+      same_job k false = refl
 
-  answered : (o : Option Bool) (e : Bool) → (is_none o || some_is (λ z. z) o && not e) ≡ false
-      → (is_none (option_or o (Some ok)) || some_is (λ z. z) (option_or o (Some ok)) && not e) ≡ false
-  answered None e is = absurd (true_is_false is)
-  answered (Some z) e is = is
+      answered : (o : Option Bool) (e : Bool) → (is_none o || some_is (λ z. z) o && not e) ≡ false
+          → (is_none (option_or o (Some ok)) || some_is (λ z. z) (option_or o (Some ok)) && not e) ≡ false
+      answered None e is = absurd (true_is_false is)
+      answered (Some z) e is = is
 
-  left : (k : Child) → is_there k ≡ false → (b : Bool) → is_there (elim b as (λ z. Child) [ false ↦ k | true ↦ record k { answer = option_or k.answer (Some ok) } ]) ≡ false
-  left k is true = answered k.answer k.exited is
-  left k is false = is
+      left : (k : Child) → is_there k ≡ false → (b : Bool) → is_there (elim b as (λ z. Child) [ false ↦ k | true ↦ record k { answer = option_or k.answer (Some ok) } ]) ≡ false
+      left k is true = answered k.answer k.exited is
+      left k is false = is
 
 -- ---- numbers in a row, in two parts
 
@@ -95,22 +87,22 @@ apart xs ys a n p row first second =
     let low : p < a + length xs = below xs ys a n p row first in
     let high : a + length xs ≤ p = reached xs ys a n p row second in
     absurd (omega (arith, low, high)) where
-  head_of : (x : ℕ) (zs ws : List ℕ) (n : ℕ) (a : ℕ) → x ∷ zs ≡ range_with_len a n → (m : ℕ) × (x ≡ a) × (zs ≡ range_with_len (a + 1) m)
-  head_of x zs ws zero a row = absurd (true_is_false (sym (ap (λ (ls : List ℕ). elim ls [ [] ↦ true | l ∷ ms ↦ false ]) row)))
-  head_of x zs ws (suc m) a row = (m, head_is x a zs (range_with_len (a + 1) m) row, tail_is x a zs (range_with_len (a + 1) m) row)
+      head_of : (x : ℕ) (zs ws : List ℕ) (n : ℕ) (a : ℕ) → x ∷ zs ≡ range_with_len a n → (m : ℕ) × (x ≡ a) × (zs ≡ range_with_len (a + 1) m)
+      head_of x zs ws zero a row = absurd (true_is_false (sym (ap (λ (ls : List ℕ). elim ls [ [] ↦ true | l ∷ ms ↦ false ]) row)))
+      head_of x zs ws (suc m) a row = (m, head_is x a zs (range_with_len (a + 1) m) row, tail_is x a zs (range_with_len (a + 1) m) row)
 
-  below : (xs ys : List ℕ) (a n p : ℕ) → xs ++ ys ≡ range_with_len a n → Contains xs p → p < a + length xs
-  below [] ys a n p row there = absurd (contains_none p there)
-  below (x ∷ xs) ys a n p row there = by (head_of x (xs ++ ys) ys n a row) (contains_cases x xs p there) (λ m rest in_it. below xs ys (a + 1) m p rest in_it) where
-    by : (m : ℕ) × (x ≡ a) × (xs ++ ys ≡ range_with_len (a + 1) m) → (x ≡ p) ⊎ Contains xs p → ((m : ℕ) → xs ++ ys ≡ range_with_len (a + 1) m → Contains xs p → p < a + 1 + length xs) → p < a + suc (length xs)
-    by h (inl is) deeper = (let e : x ≡ a = h.1 in omega (arith, e, is))
-    by h (inr rest) deeper = (let r = deeper h.0 h.2 rest in omega (arith, r))
+      below : (xs ys : List ℕ) (a n p : ℕ) → xs ++ ys ≡ range_with_len a n → Contains xs p → p < a + length xs
+      below [] ys a n p row there = absurd (contains_none p there)
+      below (x ∷ xs) ys a n p row there = by (head_of x (xs ++ ys) ys n a row) (contains_cases x xs p there) (λ m rest in_it. below xs ys (a + 1) m p rest in_it) where
+        by : (m : ℕ) × (x ≡ a) × (xs ++ ys ≡ range_with_len (a + 1) m) → (x ≡ p) ⊎ Contains xs p → ((m : ℕ) → xs ++ ys ≡ range_with_len (a + 1) m → Contains xs p → p < a + 1 + length xs) → p < a + suc (length xs)
+        by h (inl is) deeper = (let e : x ≡ a = h.1 in omega (arith, e, is))
+        by h (inr rest) deeper = (let r = deeper h.0 h.2 rest in omega (arith, r))
 
-  reached : (xs ys : List ℕ) (a n p : ℕ) → xs ++ ys ≡ range_with_len a n → Contains ys p → a + length xs ≤ p
-  reached [] ys a n p row there = let r = in_range a n p (subst (λ zs. Contains zs p) row there) in omega (arith, r)
-  reached (x ∷ xs) ys a n p row there = by (head_of x (xs ++ ys) ys n a row) (λ m rest. reached xs ys (a + 1) m p rest there) where
-    by : (m : ℕ) × (x ≡ a) × (xs ++ ys ≡ range_with_len (a + 1) m) → ((m : ℕ) → xs ++ ys ≡ range_with_len (a + 1) m → a + 1 + length xs ≤ p) → a + suc (length xs) ≤ p
-    by h deeper = let r = deeper h.0 h.2 in omega (arith, r)
+      reached : (xs ys : List ℕ) (a n p : ℕ) → xs ++ ys ≡ range_with_len a n → Contains ys p → a + length xs ≤ p
+      reached [] ys a n p row there = let r = in_range a n p (subst (λ zs. Contains zs p) row there) in omega (arith, r)
+      reached (x ∷ xs) ys a n p row there = by (head_of x (xs ++ ys) ys n a row) (λ m rest. reached xs ys (a + 1) m p rest there) where
+        by : (m : ℕ) × (x ≡ a) × (xs ++ ys ≡ range_with_len (a + 1) m) → ((m : ℕ) → xs ++ ys ≡ range_with_len (a + 1) m → a + 1 + length xs ≤ p) → a + suc (length xs) ≤ p
+        by h deeper = let r = deeper h.0 h.2 in omega (arith, r)
 
 -- ---- the children
 
@@ -129,12 +121,12 @@ module _ (p : ℕ) (a : Child → Child) (acts : ActsOn p a) where
   child_stays n [] ns = refl
   child_stays n (k ∷ ks) ns = ap (λ o. option_map (λ (z : Child). z.process) (cond (some_is (λ j. j == n) o) (Some (a k)) (find (λ (z : Child). some_is (λ j. j == n) z.job) (map a ks ++ ns)))) (acts.job k)
       ∙ by (some_is (λ j. j == n) k.job) (child_stays n ks ns) where
-    by : (b : Bool)
-        → option_map (λ z. z.process) (find (λ z. some_is (λ j. j == n) z.job) (map a ks ++ ns)) ≡ option_map (λ z. z.process) (find (λ z. some_is (λ j. j == n) z.job) (map (λ z. z) ks ++ ns))
-        → option_map (λ z. z.process) (cond b (Some (a k)) (find (λ z. some_is (λ j. j == n) z.job) (map a ks ++ ns)))
-        ≡ option_map (λ z. z.process) (cond b (Some k) (find (λ z. some_is (λ j. j == n) z.job) (map (λ z. z) ks ++ ns)))
-    by true rest = ap (λ m. Some m) (acts.process k)
-    by false rest = rest
+        by : (b : Bool)
+            → option_map (λ z. z.process) (find (λ z. some_is (λ j. j == n) z.job) (map a ks ++ ns)) ≡ option_map (λ z. z.process) (find (λ z. some_is (λ j. j == n) z.job) (map (λ z. z) ks ++ ns))
+            → option_map (λ z. z.process) (cond b (Some (a k)) (find (λ z. some_is (λ j. j == n) z.job) (map a ks ++ ns)))
+            ≡ option_map (λ z. z.process) (cond b (Some k) (find (λ z. some_is (λ j. j == n) z.job) (map (λ z. z) ks ++ ns)))
+        by true rest = ap (λ m. Some m) (acts.process k)
+        by false rest = rest
 
   -- ---- which are kept
 

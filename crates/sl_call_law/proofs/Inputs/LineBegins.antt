@@ -1,36 +1,28 @@
 -- A line whose command is carried out: its job comes behind all, and where it leaves a session the leaving begins.
 use Rattle.sl_call_law.proofs.Inputs.InputHeard.{entry_with, heard, known_heard, member_heard, member_with}
-use Rattle.sl_due.specs.Steps.{Step, seen}
-use Rattle.sl_host_plain.proofs.NewNumbers.{no_call, no_child, no_reply_any, no_reply_in}
-use Rattle.sl_host_plain.proofs.PlainLists.{at_mapped, each_of}
-use Rattle.sl_host_state.specs.Hears.{leaves_member, member_leaving, new_job}
-use Rattle.sl_host_state.specs.Kept.{Config, HostState, MemberState}
-use Rattle.sl_host_state.specs.Stands.{Keeps, MemberStands, kept_job, kept_waiting}
-use Rattle.sl_host_state.specs.declared.kept.JobState.{JobState}
-use Rattle.sl_leases.specs.Jobs.{child_of_job, command_of}
+use Rattle.sl_host_plain.proofs.PlainLists.{each_of}
+use Rattle.sl_host_state.specs.Hears.{leaves_member, member_leaving}
+use Rattle.sl_host_state.specs.Kept.{HostState, MemberState}
+use Rattle.sl_host_state.specs.Stands.{Keeps, MemberStands}
 use Rattle.sl_plain.proofs.Lists.{find_inside}
-use Rattle.sl_plain.proofs.Numbers.{refl_le}
-use Rattle.sl_plain.proofs.Options.{none_is}
-use Rattle.sl_sessions.specs.Sessions.{ended_after, has_open_write, is_join_done, is_joined, is_present, is_session_arg, joined_after, leaves, leaving_job, leaving_of, refused_after, removed_after}
+use Rattle.sl_sessions.specs.Sessions.{has_open_write, is_join_done, is_joined, is_present, joined_after, leaves, leaving_job, refused_after, removed_after}
 use Rattle.sl_sessions.specs.declared.delta.DeltaKnown.{DeltaKnown}
 use Rattle.sl_sessions.specs.declared.session.Begun.{Begun}
 use Rattle.sl_sessions.specs.declared.session.Session.{Session}
 use Rattle.sl_trace.specs.Connections.{unregisters}
-use Rattle.sl_trace.specs.Traces.{Job, KillProgram, Replied, Setting, Trace, is_before_input, is_done, is_running, jobs, kill_program_in, next_job, reply_in, reply_to, running_jobs, waiting_call}
-use Rattle.sl_trace.specs.declared.command.Command.TheVariants.{Acquire, AddLockspace, Convert, GetLvb, HostStatus, InqLockspace, Release, ReleaseOrphan, RemLockspace, Request, RunProgram, SetKillpath, SetLvb, Status, TakeOver}
+use Rattle.sl_trace.specs.Traces.{Job, Replied, Setting, Trace, is_before_input, next_job, reply_in, reply_to}
+use Rattle.sl_trace.specs.declared.command.Command.TheVariants.{RemLockspace}
 use Rattle.sl_trace.specs.declared.command.Command.{Command}
 use Rattle.sl_trace.specs.declared.effects.Effects.{Effects}
 use Rattle.sl_trace.specs.declared.effects.JobReply.{JobReply}
 use Rattle.sl_trace.specs.declared.input.Input.TheVariants.{Line, Wake}
 use Rattle.sl_trace.specs.declared.reply.Reply.TheVariants.{IoTimeout, Recovering}
 use Rattle.sl_trace.specs.declared.reply.Reply.{Reply}
-use Rattle.sl_words.proofs.CaseLaws.{false_is_true, none_some, some_value, true_is_false}
-use Rattle.sl_words.specs.Words.{choose, some_is}
-use Rattle.std.proofs.Common.{ap, arith, refl, subst, suc, sym, ◌∙◌}
-use Rattle.std.proofs.lemmas.List.{append-nil, map-append}
-use Rattle.std.proofs.lemmas.List.Elements.{filter-append}
+use Rattle.sl_words.proofs.CaseLaws.{false_is_true, none_some}
+use Rattle.sl_words.specs.Words.{choose}
+use Rattle.std.proofs.Common.{ap, arith, refl, suc, sym, ◌∙◌}
 use Rattle.std.specs.List.{AllByRecursion, list_any}
-use Rattle.std.specs.Prelude.{Bool, IsTrue, List, None, Ok, Option, Result, Some, cond, false, filter, find, is_none, is_some, length, map, not, option_and_then, option_map, slice_get, true, [], ℕ, ◌&&◌, ◌++◌, ◌+◌, ◌-◌, ◌==◌, ◌||◌, ◌∷◌, ◌≡◌}
+use Rattle.std.specs.Prelude.{Bool, IsTrue, List, None, Ok, Option, Result, Some, cond, false, find, is_none, is_some, length, not, option_and_then, option_map, true, ℕ, ◌&&◌, ◌+◌, ◌-◌, ◌==◌, ◌||◌, ◌≡◌}
 
 -- ---- a reply of before the input joins nobody
 
@@ -75,21 +67,21 @@ joined_before st past reading fx s early present =
     (sym (ap (λ o. is_none (elim o as (λ z. Option ℕ) [ Some k ↦ removed_after (heard st past reading fx Wake) s | None ↦ refused_after (heard st past reading fx Wake) s ])
     || is_none o && has_open_write (heard st past reading fx Wake) s) (joined_then st past reading fx s early)) ∙ present)
     ∙ sym (ap (λ o. is_some o && is_none (removed_after (heard st past reading fx Wake) s)) (joined_then st past reading fx s early)) where
-  removed : Option ℕ → Option ℕ → Option ℕ
-  removed o r = elim r as (λ z. Option ℕ) [ Some k ↦ Some k | None ↦ choose (is_some o && list_any (unregisters s.lockspace) fx.moves) (length past + 1) ]
+      removed : Option ℕ → Option ℕ → Option ℕ
+      removed o r = elim r as (λ z. Option ℕ) [ Some k ↦ Some k | None ↦ choose (is_some o && list_any (unregisters s.lockspace) fx.moves) (length past + 1) ]
 
-  stays : (k : ℕ) (r : Option ℕ) (b : Bool) → (is_none (removed (Some k) r) || false) ≡ true → is_none r ≡ is_none (removed (Some k) r)
-  stays k None b is = sym (left (is_none (removed (Some k) None)) is) where
-    left : (c : Bool) → (c || false) ≡ true → c ≡ true
-    left true at = refl
-    left false at = at
-  stays k (Some z) b is = absurd (false_is_true is)
+      stays : (k : ℕ) (r : Option ℕ) (b : Bool) → (is_none (removed (Some k) r) || false) ≡ true → is_none r ≡ is_none (removed (Some k) r)
+      stays k None b is = sym (left (is_none (removed (Some k) None)) is) where
+        left : (c : Bool) → (c || false) ≡ true → c ≡ true
+        left true at = refl
+        left false at = at
+      stays k (Some z) b is = absurd (false_is_true is)
 
-  by : (o r : Option ℕ)
-      → (is_none (elim o as (λ z. Option ℕ) [ Some k ↦ removed o r | None ↦ refused_after (heard st past reading fx Wake) s ]) || is_none o && has_open_write (heard st past reading fx Wake) s) ≡ true
-      → (is_some o && is_none r) ≡ (is_some o && is_none (removed o r))
-  by None r is = refl
-  by (Some k) r is = stays k r true is
+      by : (o r : Option ℕ)
+          → (is_none (elim o as (λ z. Option ℕ) [ Some k ↦ removed o r | None ↦ refused_after (heard st past reading fx Wake) s ]) || is_none o && has_open_write (heard st past reading fx Wake) s) ≡ true
+          → (is_some o && is_none r) ≡ (is_some o && is_none (removed o r))
+      by None r is = refl
+      by (Some k) r is = stays k r true is
 
 -- ---- whom a command leaves
 
@@ -135,14 +127,14 @@ leaving_line st past reading fx text c m reads joined free =
     ]) free
     ∙ by (leaving_job st past m.who) (leaves m.who (Ok c)) m.joined
     ∙ ap (λ b. leaving_with (leaving_job st past m.who) b (line_job st past reading text)) (sym (leaves_by c m)) where
-  by : (o : Option Job) (l j : Bool)
-      → elim o as (λ z. Option Job) [ Some k ↦ Some k | None ↦ elim l as (λ z. Option Job) [ false ↦ None | true ↦ choose (j && true) (line_job st past reading text) ] ]
-      ≡ leaving_with o (j && l) (line_job st past reading text)
-  by (Some k) l j = refl
-  by None true true = refl
-  by None true false = refl
-  by None false true = refl
-  by None false false = refl
+      by : (o : Option Job) (l j : Bool)
+          → elim o as (λ z. Option Job) [ Some k ↦ Some k | None ↦ elim l as (λ z. Option Job) [ false ↦ None | true ↦ choose (j && true) (line_job st past reading text) ] ]
+          ≡ leaving_with o (j && l) (line_job st past reading text)
+      by (Some k) l j = refl
+      by None true true = refl
+      by None true false = refl
+      by None false true = refl
+      by None false false = refl
 
 -- How the leaving of a job began.
 abbrev begun_of : Job → Begun
@@ -159,11 +151,11 @@ member_line h st past reading fx text c m k now line s = by (leaving_job st past
   begun_is : (o : Option Job) → leaving_job st past m.who ≡ o → option_map begun_of o ≡ m.leaving
   begun_is o is =
       sym (ap (λ (z : Option Job). option_map begun_of (leaving_with z false (line_job st past reading text))) is ∙ itself o) ∙ s.leaving where
-    itself : (z : Option Job)
-        → option_map begun_of (leaving_with z false (line_job st past reading text))
-        ≡ option_map begun_of z
-    itself None = refl
-    itself (Some j) = refl
+        itself : (z : Option Job)
+            → option_map begun_of (leaving_with z false (line_job st past reading text))
+            ≡ option_map begun_of z
+        itself None = refl
+        itself (Some j) = refl
 
   -- Its leaving had begun, or the line leaves it not.
   stays : leaving_job st (heard st past reading fx (Line text)) m.who ≡ leaving_with (leaving_job st past m.who) false (line_job st past reading text) → MemberStands st (heard st past reading fx (Line text)) m

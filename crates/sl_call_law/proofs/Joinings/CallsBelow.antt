@@ -14,9 +14,9 @@ use Rattle.sl_trace.specs.declared.effects.Entry.{Entry}
 use Rattle.sl_trace_law.proofs.Sessions.Making.{calls_are_made}
 use Rattle.sl_trace_law.proofs.Sessions.Owning.{sessions_stay}
 use Rattle.sl_words.proofs.CaseLaws.{is_false}
-use Rattle.std.proofs.Common.{ap, arith, refl, subst, sym, ◌∙◌}
+use Rattle.std.proofs.Common.{arith, subst, sym}
 use Rattle.std.proofs.lemmas.Bool.Decides.{Decides-eqb}
-use Rattle.std.specs.Prelude.{Contains, IsSome, List, Some, filter, length, true, [], ℕ, ◌<◌, ◌==◌, ◌∷◌, ◌≡◌, ◌≤◌}
+use Rattle.std.specs.Prelude.{Contains, IsSome, Some, length, [], ◌<◌, ◌==◌, ◌∷◌, ◌≡◌, ◌≤◌}
 
 -- The calls of the entry after these are of sessions that are there then.
 abbrev pub IsOwned : Setting → Trace → Entry → Type 0
@@ -39,8 +39,8 @@ call_below st es m owned there =
 pub none_yet : (st : Setting) (es : Trace) (s : Session) → AllOwned st es → length (sessions st es) ≤ s.number → calls_of es s ≡ []
 none_yet st es s owned later =
     filter_none (is_call_of s) (submitted es) (λ m there. is_false (m.call.session == s.number) (λ its. apart m (call_below st es m owned there) ((Decides-eqb m.call.session s.number).0 its))) where
-  apart : (m : Submitted) → m.call.session < length (sessions st es) → m.call.session ≡ s.number → ⊥
-  apart m below its = let e : m.call.session ≡ s.number = its in absurd (omega (arith, below, e, later))
+      apart : (m : Submitted) → m.call.session < length (sessions st es) → m.call.session ≡ s.number → ⊥
+      apart m below its = let e : m.call.session ≡ s.number = its in absurd (omega (arith, below, e, later))
 
 -- A step that has made no call yet is owned as those before it.
 pub owned_so_far : (x : Step) → IsHostTrace x.setting x.past → x.effects.calls ≡ [] → AllOwned x.setting (seen x)
