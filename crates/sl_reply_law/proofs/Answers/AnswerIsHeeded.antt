@@ -1,4 +1,5 @@
 -- Whether an answer is heeded is told by the jobs that a host keeps, as long as the step's replies are those of before its input.
+use Rattle.sl_host_plain.proofs.KeptJobs.{kept_is_running}
 use Rattle.sl_host_plain.proofs.PlainLists.{any_mapped, each_of}
 use Rattle.sl_host_state.specs.Hears.{is_heeded_by}
 use Rattle.sl_host_state.specs.Kept.{HostState}
@@ -81,8 +82,7 @@ module _ (past : Trace) (now : ℕ) (fx : Effects) where
             let owned = each_of (λ j. IsTrue (is_some (job_numbered st (waking now fx ∷ past) j))) _ n k.owned
             (Contains-append_left (filter_map (λ (m : Submitted). job_of m.call.purpose) (submitted past)) (filter_map (λ (c : Child). c.job) (children (waking now fx ∷ past))) n
             (in_given (λ (m : Submitted). job_of m.call.purpose) (submitted past) m n inside is)) in
-            ap (list_any (λ (j : JobState). j.number == n)) (sym k.jobs)
-            ∙ any_mapped (λ (j : JobState). j.number == n) (kept_job (waking now fx ∷ past)) (running_jobs st (waking now fx ∷ past))
-            ∙ any_kept (λ (j : Job). j.number == n) (λ j. is_running (waking now fx ∷ past) j.number) (jobs st (waking now fx ∷ past))
+            kept_is_running h st (waking now fx ∷ past) n k
+        ∙ any_kept (λ (j : Job). j.number == n) (λ j. is_running (waking now fx ∷ past) j.number) (jobs st (waking now fx ∷ past))
             ∙ any_running (jobs st (waking now fx ∷ past)) n owned (is_running (waking now fx ∷ past))
             ∙ running_is c.number n a all

@@ -1,7 +1,8 @@
 -- The host after a reply stands for the step with it.
 use Rattle.sl_due.specs.Steps.{Step, seen}
 use Rattle.sl_host_plain.proofs.PlainLists.{at_some, each_of, filter_as, in_flat}
-use Rattle.sl_host_plain.proofs.SessionNumbers.{jobs_below}
+use Rattle.sl_host_plain.proofs.KeptJobs.{kept_numbered, running_there}
+use Rattle.sl_host_plain.proofs.SessionNumbers.{numbered_below}
 use Rattle.sl_host_state.specs.Kept.{Config, HostState, MemberState}
 use Rattle.sl_host_state.specs.Makes.{has_write_open, member_answered, member_replying, with_reply}
 use Rattle.sl_host_state.specs.Stands.{Keeps, MemberStands, Stands, is_joining, kept_call, kept_job, kept_waiting}
@@ -252,16 +253,7 @@ record IsOfTrace (st : Setting) (es : Trace) (job : ℕ) : Type 0 where
   below : job < next_job st es
 
 of_trace : (h : HostState) (st : Setting) (es : Trace) (job : ℕ) → Keeps h st es → list_any (λ j. j.number == job) h.jobs ≡ true → IsOfTrace st es job
-of_trace h st es job k runs =
-    let found = any_found (λ (j : JobState). j.number == job) h.jobs runs in
-    let kept_as = in_map (kept_job es) (running_jobs st es) found.0 (subst (λ js. Contains js found.0) (sym k.jobs) found.1) in
-    let j : Job = kept_as.0 in
-    let same : j.number ≡ job = ap (λ (z : JobState). z.number) kept_as.2 ∙ same_number found.0.number job found.2 in
-    let inside = kept_inside (λ (j : Job). is_running es j.number) (jobs st es) j kept_as.1 in
-    record {
-      runs = ap (is_running es) (sym same) ∙ inside.1;
-      below = subst (λ n. n < next_job st es) same (each_of (λ (j : Job). j.number < next_job st es) (jobs st es) j (jobs_below st es) inside.0);
-    }
+of_trace h st es job k runs = record { runs = (running_there h st es job k runs).3; below = numbered_below st es job (kept_numbered h st es job k runs) }
 
 -- The line's own number is the last that was taken.
 text_left : (job : ℕ) (r : Reply) (i : Input) (h : HostState) (x : Step) → Stands i h x → LeavesLine i job h → LeavesText x.past x.reading x.input x.effects job r x.setting
