@@ -1,9 +1,9 @@
 -- Whether an answer is heeded is told by the jobs that a host keeps, as long as the step's replies are those of before its input.
 use Rattle.sl_host_plain.proofs.KeptJobs.{kept_is_running}
-use Rattle.sl_host_plain.proofs.PlainLists.{any_mapped, each_of}
+use Rattle.sl_host_plain.proofs.PlainLists.{each_of}
 use Rattle.sl_host_state.specs.Hears.{is_heeded_by}
 use Rattle.sl_host_state.specs.Kept.{HostState}
-use Rattle.sl_host_state.specs.Stands.{Keeps, kept_job}
+use Rattle.sl_host_state.specs.Stands.{Keeps}
 use Rattle.sl_host_state.specs.declared.kept.JobState.{JobState}
 use Rattle.sl_host_state.specs.declared.kept.OpenCall.{OpenCall}
 use Rattle.sl_plain.proofs.Options.{some_there}
@@ -12,7 +12,7 @@ use Rattle.sl_reply_law.proofs.Answers.AnswerFindsItsCall.{IsTheCall}
 use Rattle.sl_reply_law.proofs.Answers.AnswerMarksOneCall.{told}
 use Rattle.sl_reply_law.proofs.PlainNumbers.{same_number}
 use Rattle.sl_reply_law.proofs.PlainFilters.{any_kept, in_given, no_one, none_mapped}
-use Rattle.sl_trace.specs.Traces.{Child, Job, Replied, Setting, Submitted, Trace, children, is_before_input, is_going_on, is_refused_before_input, is_running, job_numbered, job_of, jobs, reply_in, reply_to, running_jobs, submitted}
+use Rattle.sl_trace.specs.Traces.{Child, Job, Replied, Setting, Submitted, Trace, children, is_before_input, is_going_on, is_refused_before_input, is_running, job_numbered, job_of, jobs, reply_in, reply_to, submitted}
 use Rattle.sl_trace.specs.declared.effects.Effects.{Effects}
 use Rattle.sl_trace.specs.declared.effects.Entry.{Entry}
 use Rattle.sl_trace.specs.declared.effects.JobReply.{JobReply}
@@ -83,6 +83,6 @@ module _ (past : Trace) (now : ℕ) (fx : Effects) where
             (Contains-append_left (filter_map (λ (m : Submitted). job_of m.call.purpose) (submitted past)) (filter_map (λ (c : Child). c.job) (children (waking now fx ∷ past))) n
             (in_given (λ (m : Submitted). job_of m.call.purpose) (submitted past) m n inside is)) in
             kept_is_running h st (waking now fx ∷ past) n k
-        ∙ any_kept (λ (j : Job). j.number == n) (λ j. is_running (waking now fx ∷ past) j.number) (jobs st (waking now fx ∷ past))
+            ∙ any_kept (λ (j : Job). j.number == n) (λ j. is_running (waking now fx ∷ past) j.number) (jobs st (waking now fx ∷ past))
             ∙ any_running (jobs st (waking now fx ∷ past)) n owned (is_running (waking now fx ∷ past))
             ∙ running_is c.number n a all

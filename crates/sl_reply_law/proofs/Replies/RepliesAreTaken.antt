@@ -1,6 +1,6 @@
 -- The host after a reply stands for the step with it.
 use Rattle.sl_due.specs.Steps.{Step, seen}
-use Rattle.sl_host_plain.proofs.PlainLists.{at_some, each_of, filter_as, in_flat}
+use Rattle.sl_host_plain.proofs.PlainLists.{at_some, filter_as, in_flat}
 use Rattle.sl_host_plain.proofs.KeptJobs.{kept_numbered, running_there}
 use Rattle.sl_host_plain.proofs.SessionNumbers.{numbered_below}
 use Rattle.sl_host_state.specs.Kept.{Config, HostState, MemberState}
@@ -8,13 +8,12 @@ use Rattle.sl_host_state.specs.Makes.{has_write_open, member_answered, member_re
 use Rattle.sl_host_state.specs.Stands.{Keeps, MemberStands, Stands, is_joining, kept_call, kept_job, kept_waiting}
 use Rattle.sl_host_state.specs.declared.kept.JobState.{JobState}
 use Rattle.sl_leases.specs.Jobs.{child_of_job, command_of}
-use Rattle.sl_plain.proofs.Lists.{any_found, contains_cases, contains_first, contains_more, contains_none, filter_both, got_inside, in_map, kept_inside}
+use Rattle.sl_plain.proofs.Lists.{contains_cases, contains_first, contains_more, contains_none, filter_both, got_inside}
 use Rattle.sl_reply_law.proofs.Answers.JobsHearAnswer.{job_with}
 use Rattle.sl_reply_law.proofs.MembersKeepCalls.{AreSame, member_stays}
 use Rattle.sl_reply_law.proofs.NotJoinedNotBegun.{not_leaving, not_recovering, not_removed}
 use Rattle.sl_reply_law.proofs.OpenCallsAreKept.{open_write_is}
 use Rattle.sl_reply_law.proofs.PlainFilters.{filter_mapped, map_where}
-use Rattle.sl_reply_law.proofs.PlainNumbers.{same_number}
 use Rattle.sl_reply_law.proofs.PresentInOrder.{present_kept}
 use Rattle.sl_reply_law.proofs.Replies.QuietAfterReply.{quiet_replied}
 use Rattle.sl_reply_law.proofs.Replies.ReplyEndsJob.{IsOwnJoining, LeavesText, calls_stay, is_its, joined_stays, leaving_stays, own_joining, programs_stay, refused_stays, replied, reply_stays, runs_still, unsaid}
