@@ -17,7 +17,7 @@ pub open_is : (p : OpenCall → Bool) (es : Trace) (cs : List OpenCall) → map 
 open_is p es cs kept = sym (any_mapped p kept_call (outstanding es)) ∙ ap (list_any p) kept ∙ any_reversed p cs
 
 -- Of a session's.
-own_open : (p : Submitted → Bool) (es : Trace) (s : Session) → list_any p (filter (λ m. is_none m.answer) (filter (is_call_of s) (submitted es))) ≡ list_any (λ m. is_call_of s m && p m) (outstanding es)
+pub own_open : (p : Submitted → Bool) (es : Trace) (s : Session) → list_any p (filter (λ m. is_none m.answer) (filter (is_call_of s) (submitted es))) ≡ list_any (λ m. is_call_of s m && p m) (outstanding es)
 own_open p es s = ap (list_any p) (filters_turned (λ (m : Submitted). is_none m.answer) (is_call_of s) (submitted es)) ∙ any_kept p (is_call_of s) (outstanding es)
 
 pub open_delta_is : (es : Trace) (s : Session) (cs : List OpenCall) → map kept_call (outstanding es) ≡ reverse cs
