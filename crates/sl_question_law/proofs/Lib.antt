@@ -1,1 +1,3 @@
+pub mod OneJoining
 pub mod MembersAnswer
+pub mod JobsAnswer

@@ -1,8 +1,19 @@
 //! Each question of a step has the answer that a host has.
 
+ghost use Rattle.sl_question_law.specs.Jobs.{JobsAnswer, WorkGoesOn};
 ghost use Rattle.sl_question_law.specs.Members.{MembersAnswer};
 
 /// What a step asks of a session is answered by its member.
 pub fn members_answer()
     ensures { MembersAnswer }
+{}
+
+/// What a step asks of jobs is answered by those that are kept.
+pub fn jobs_answer()
+    ensures { JobsAnswer }
+{}
+
+/// Whether the work of a member's call goes on is told by what is kept.
+pub fn work_goes_on()
+    ensures { WorkGoesOn }
 {}

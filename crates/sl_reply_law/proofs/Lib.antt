@@ -4,6 +4,7 @@ pub mod PlainOrderKept
 pub mod PlainTextOrder
 pub mod NotJoinedNotBegun
 pub mod OpenCallsAreKept
+pub mod JobsRun
 pub mod MembersKeepCalls
 pub mod PresentInOrder
 pub mod MomentsAreLater

@@ -1,12 +1,12 @@
 -- Plain facts of lists that are filtered, mapped and turned round.
 use Rattle.sl_host_plain.proofs.PlainLists.{kept_if}
-use Rattle.sl_plain.proofs.Lists.{contains_cases, contains_first, contains_more, contains_none}
-use Rattle.std.proofs.Common.{ap, inl, inr, refl, subst, sym, ◌∙◌}
+use Rattle.sl_plain.proofs.Lists.{contains_first, contains_more}
+use Rattle.std.proofs.Common.{ap, refl, sym, ◌∙◌}
 use Rattle.std.proofs.lemmas.List.Elements.{filter-append}
 use Rattle.std.proofs.lemmas.List.Folds.{list_any-append}
 use Rattle.std.proofs.lemmas.List.{reverse-append}
 use Rattle.std.specs.List.{AllByRecursion, cons_option, list_any}
-use Rattle.std.specs.Prelude.{Bool, Contains, List, Option, None, Some, cond, false, filter, filter_map, find, is_none, map, option_map, reverse, true, [], ◌&&◌, ◌++◌, ◌∷◌, ◌≡◌, ◌⊎◌, ◌||◌}
+use Rattle.std.specs.Prelude.{Bool, Contains, List, Option, None, Some, cond, false, filter, filter_map, find, is_none, map, option_map, reverse, true, [], ◌&&◌, ◌++◌, ◌∷◌, ◌≡◌, ◌||◌}
 
 -- Two filters, in either order.
 pub filters_turned : {A : Type 0} (p q : A → Bool) (xs : List A) → filter p (filter q xs) ≡ filter q (filter p xs)
@@ -92,18 +92,6 @@ found_kept p q (x ∷ xs) only = by (q x) refl (found_kept p q xs only) where
   by : (b : Bool) → q x ≡ b → find p xs ≡ find p (filter q xs) → find p (x ∷ xs) ≡ find p (cond b (x ∷ filter q xs) (filter q xs))
   by true is rest = ap (λ o. cond (p x) (Some x) o) rest
   by false is rest = ap (λ b. cond b (Some x) (find p xs)) (only x is) ∙ rest
-
--- What one of them gives is among what they give.
-pub in_given : {A B : Type 0} (f : A → Option B) (xs : List A) (x : A) (y : B) → Contains xs x → f x ≡ Some y → Contains (filter_map f xs) y
-in_given f [] x y there is = absurd (contains_none x there)
-in_given {A = A} {B = B} f (z ∷ zs) x y there is = by (contains_cases z zs x there) (λ rest. in_given f zs x y rest is) where
-  more : (o : Option B) → Contains (filter_map f zs) y → Contains (cons_option o (filter_map f zs)) y
-  more None rest = rest
-  more (Some b) rest = contains_more b (filter_map f zs) y rest
-
-  by : (z ≡ x) ⊎ Contains zs x → (Contains zs x → Contains (filter_map f zs) y) → Contains (filter_map f (z ∷ zs)) y
-  by (inl same) deeper = subst (λ o. Contains (cons_option o (filter_map f zs)) y) (sym (ap f same ∙ is)) (contains_first y (filter_map f zs))
-  by (inr rest) deeper = more (f z) (deeper rest)
 
 pub none_mapped : {A B : Type 0} (f : A → B) (o : Option A) → is_none (option_map f o) ≡ is_none o
 none_mapped f None = refl

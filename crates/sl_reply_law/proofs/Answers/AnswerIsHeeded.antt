@@ -1,4 +1,5 @@
 -- Whether an answer is heeded is told by the jobs that a host keeps, as long as the step's replies are those of before its input.
+use Rattle.sl_host_plain.proofs.NewNumbers.{mapped_inside}
 use Rattle.sl_host_plain.proofs.KeptJobs.{kept_is_running}
 use Rattle.sl_host_plain.proofs.PlainLists.{each_of}
 use Rattle.sl_host_state.specs.Hears.{is_heeded_by}
@@ -6,13 +7,12 @@ use Rattle.sl_host_state.specs.Kept.{HostState}
 use Rattle.sl_host_state.specs.Stands.{Keeps}
 use Rattle.sl_host_state.specs.declared.kept.JobState.{JobState}
 use Rattle.sl_host_state.specs.declared.kept.OpenCall.{OpenCall}
-use Rattle.sl_plain.proofs.Options.{some_there}
-use Rattle.sl_plain.proofs.Lists.{any_of, find_inside}
+use Rattle.sl_plain.proofs.Lists.{find_inside}
 use Rattle.sl_reply_law.proofs.Answers.AnswerFindsItsCall.{IsTheCall}
 use Rattle.sl_reply_law.proofs.Answers.AnswerMarksOneCall.{told}
-use Rattle.sl_reply_law.proofs.PlainNumbers.{same_number}
-use Rattle.sl_reply_law.proofs.PlainFilters.{any_kept, in_given, no_one, none_mapped}
-use Rattle.sl_trace.specs.Traces.{Child, Job, Replied, Setting, Submitted, Trace, children, is_before_input, is_going_on, is_refused_before_input, is_running, job_numbered, job_of, jobs, reply_in, reply_to, submitted}
+use Rattle.sl_reply_law.proofs.JobsRun.{runs_among}
+use Rattle.sl_reply_law.proofs.PlainFilters.{none_mapped}
+use Rattle.sl_trace.specs.Traces.{Child, Replied, Setting, Submitted, Trace, children, is_before_input, is_going_on, is_refused_before_input, is_running, job_numbered, job_of, reply_in, reply_to, submitted}
 use Rattle.sl_trace.specs.declared.effects.Effects.{Effects}
 use Rattle.sl_trace.specs.declared.effects.Entry.{Entry}
 use Rattle.sl_trace.specs.declared.effects.JobReply.{JobReply}
@@ -22,7 +22,7 @@ use Rattle.std.proofs.Common.{ap, refl, sym, ◌∙◌}
 use Rattle.std.proofs.lemmas.List.Elements.{Contains-append_left}
 use Rattle.std.specs.List.{AllByRecursion, list_any}
 use Rattle.std.specs.Option.{option_map_or}
-use Rattle.std.specs.Prelude.{Bool, Contains, IsTrue, List, None, Option, Some, cond, false, filter_map, find, is_none, is_some, length, not, true, [], ℕ, ◌&&◌, ◌==◌, ◌∷◌, ◌≡◌, ◌||◌}
+use Rattle.std.specs.Prelude.{Bool, IsTrue, List, None, Option, Some, cond, false, filter_map, find, is_none, is_some, length, not, true, [], ℕ, ◌&&◌, ◌==◌, ◌∷◌, ◌≡◌, ◌||◌}
 
 -- The step before its input, that has made no call.
 abbrev pub waking : ℕ → Effects → Entry
@@ -47,26 +47,6 @@ module _ (past : Trace) (now : ℕ) (fx : Effects) where
     by (Some r) = refl
     by None = none_mapped (λ (r : JobReply). record { at = length past; reply = r.reply }) (find (λ a. a.job == n) fx.replies) ∙ refused_is n fx.replies all
 
-  -- Whether one of these jobs has the number and runs, by whether it runs.
-  any_running : (js : List Job) (n : ℕ) → is_some (find (λ j. j.number == n) js) ≡ true → (r : ℕ → Bool) → list_any (λ j. r j.number && j.number == n) js ≡ r n
-  any_running js n there r =
-      let one = some_there (find (λ (j : Job). j.number == n) js) there in
-      let its = find_inside (λ (j : Job). j.number == n) js one.0 one.1 in
-      by one.0 its.0 its.1 (r n) refl where
-        and_both : (a b : Bool) → a ≡ true → b ≡ true → (a && b) ≡ true
-        and_both a b p q = ap (λ c. c && b) p ∙ q
-
-        none : (k n : ℕ) → r n ≡ false → (b : Bool) → (k == n) ≡ b → (r k && b) ≡ false
-        none k n is true same = ap (λ z. r z && true) (same_number k n same) ∙ ap (λ b. b && true) is
-        none k n is false other = and_false (r k) where
-          and_false : (b : Bool) → (b && false) ≡ false
-          and_false true = refl
-          and_false false = refl
-
-        by : (j : Job) → Contains js j → (j.number == n) ≡ true → (b : Bool) → r n ≡ b → list_any (λ j. r j.number && j.number == n) js ≡ r n
-        by j inside its true is = any_of (λ (j : Job). r j.number && j.number == n) js j (and_both (r j.number) (j.number == n) (ap r (same_number j.number n its) ∙ is) its) inside ∙ sym is
-        by j inside its false is = no_one (λ (j : Job). r j.number && j.number == n) js (λ j. none j.number n is (j.number == n) refl) ∙ sym is
-
   -- The host tells whether the answer is heeded.
   pub heeded_is : (st : Setting) (h : HostState) (c : OpenCall) (m : Submitted) (a : Answer) → Keeps h st (waking now fx ∷ past) → IsTheCall (submitted past) c m
       → AllByRecursion (λ r. IsTrue (is_before_input r.reply)) fx.replies → is_heeded_by h c ≡ is_going_on past (told now fx c.number a) (job_of m.call.purpose)
@@ -81,8 +61,7 @@ module _ (past : Trace) (now : ℕ) (fx : Effects) where
             let inside = (find_inside (λ (d : Submitted). d.call.number == c.number) (submitted past) m the.found).0 in
             let owned = each_of (λ j. IsTrue (is_some (job_numbered st (waking now fx ∷ past) j))) _ n k.owned
             (Contains-append_left (filter_map (λ (m : Submitted). job_of m.call.purpose) (submitted past)) (filter_map (λ (c : Child). c.job) (children (waking now fx ∷ past))) n
-            (in_given (λ (m : Submitted). job_of m.call.purpose) (submitted past) m n inside is)) in
+            (mapped_inside (λ (m : Submitted). job_of m.call.purpose) (submitted past) m n inside is)) in
             kept_is_running h st (waking now fx ∷ past) n k
-            ∙ any_kept (λ (j : Job). j.number == n) (λ j. is_running (waking now fx ∷ past) j.number) (jobs st (waking now fx ∷ past))
-            ∙ any_running (jobs st (waking now fx ∷ past)) n owned (is_running (waking now fx ∷ past))
+            ∙ runs_among st (waking now fx ∷ past) n owned
             ∙ running_is c.number n a all
