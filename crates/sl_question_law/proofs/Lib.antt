@@ -1,3 +1,4 @@
 pub mod OneJoining
 pub mod MembersAnswer
 pub mod JobsAnswer
+pub mod AnswersDecide
