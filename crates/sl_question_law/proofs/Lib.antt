@@ -2,3 +2,4 @@ pub mod OneJoining
 pub mod MembersAnswer
 pub mod JobsAnswer
 pub mod AnswersDecide
+pub mod AnswersAreTheirs
