@@ -1,0 +1,3 @@
+pub mod PlainSums
+pub mod QuestionsByKept
+pub mod CommandsAreDecided
