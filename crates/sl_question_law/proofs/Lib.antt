@@ -1,0 +1,5 @@
+pub mod OneJoining
+pub mod MembersAnswer
+pub mod JobsAnswer
+pub mod AnswersDecide
+pub mod AnswersAreTheirs

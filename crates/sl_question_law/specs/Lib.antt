@@ -1,0 +1,3 @@
+pub mod Members
+pub mod Jobs
+pub mod Answers
