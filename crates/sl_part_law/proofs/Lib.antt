@@ -1,0 +1,3 @@
+pub mod SignalsAreTaken
+pub mod RefusalsAreTaken
+pub mod ExitsAreTaken

@@ -1,0 +1,20 @@
+//! Parts of a step are taken.
+
+ghost use Rattle.sl_part_law.specs.Exits.{ExitsAreTaken};
+ghost use Rattle.sl_part_law.specs.Refusals.{RefusalsAreTaken};
+ghost use Rattle.sl_part_law.specs.Signals.{SignalsAreTaken};
+
+/// A process is told to stop, or sent a signal, and so is each holder of a member.
+pub fn signals_are_taken()
+    ensures { SignalsAreTaken }
+{}
+
+/// Jobs are refused one after another.
+pub fn refusals_are_taken()
+    ensures { RefusalsAreTaken }
+{}
+
+/// What a process held ends or is left, and its jobs are refused.
+pub fn exits_are_taken()
+    ensures { ExitsAreTaken }
+{}
