@@ -3,3 +3,4 @@ pub mod MembersAnswer
 pub mod JobsAnswer
 pub mod AnswersDecide
 pub mod AnswersAreTheirs
+pub mod PartsAreTold
