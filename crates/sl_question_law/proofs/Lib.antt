@@ -4,3 +4,4 @@ pub mod JobsAnswer
 pub mod AnswersDecide
 pub mod AnswersAreTheirs
 pub mod PartsAreTold
+pub mod RefusalsAreTold

@@ -1,36 +1,32 @@
 -- Parts of a step that go over holders, holdings and jobs are told by what is kept.
-use Rattle.sl_due.specs.DueFirst.{begin_recovery, begins_now, is_kill_due, is_overdue, kill_holders, refuse, refuse_jobs, remove_connection, send, signal_and_refuse, signal_holders, tell_to_stop, time_out, time_outs}
-use Rattle.sl_due.specs.DueInputs.{end_holdings, leave_holdings, refuse_jobs_of, started_reply}
-use Rattle.sl_due.specs.Steps.{Step, add_end, add_grant, add_move, add_reply, add_signal, add_start, for_each, seen, when, with_some}
+use Rattle.sl_due.specs.DueFirst.{begin_recovery, begins_now, is_kill_due, kill_holders, refuse_jobs, send, signal_and_refuse, signal_holders, tell_to_stop, time_out, time_outs}
+use Rattle.sl_due.specs.DueInputs.{end_holdings, leave_holdings, refuse_jobs_of}
+use Rattle.sl_due.specs.Steps.{Step, add_end, add_grant, add_move, add_reply, add_signal, add_start, for_each, seen, when}
 use Rattle.sl_host_plain.proofs.PlainLists.{at_mapped}
 use Rattle.sl_host_state.proofs.Asking.{questions_are_answered}
 use Rattle.sl_host_state.specs.Asks.{begins_in, is_kill_due_in, stopper_in}
 use Rattle.sl_host_state.specs.Kept.{HostState, MemberState}
 use Rattle.sl_host_state.specs.Stands.{Stands, kept_job}
 use Rattle.sl_host_state.specs.declared.kept.JobState.{JobState}
-use Rattle.sl_leases.specs.Counts.{stopper_of}
 use Rattle.sl_leases.specs.Jobs.{is_job_of_process, jobs_of_session}
 use Rattle.sl_question_law.proofs.JobsAnswer.{jobs_answer}
 use Rattle.sl_question_law.proofs.MembersAnswer.{members_answer}
 use Rattle.sl_question_law.specs.Jobs.{JobAnswers, is_of_process_in, time_out_in}
-use Rattle.sl_question_law.specs.Members.{IsMemberAt, MemberAnswers, holders_in, jobs_in}
+use Rattle.sl_question_law.specs.Members.{IsMemberAt, MemberAnswers, jobs_in}
 use Rattle.sl_question_law.specs.Parts.{HostParts, HostsPart, MemberParts, MembersPart, time_out_of}
 use Rattle.sl_reply_law.proofs.PlainFilters.{filter_mapped}
-use Rattle.sl_sessions.specs.Sessions.{is_joined, last_renewal, leaving_of, recovery_of}
+use Rattle.sl_sessions.specs.Sessions.{leaving_of, recovery_of}
 use Rattle.sl_sessions.specs.declared.session.Begun.{Begun}
-use Rattle.sl_trace.specs.Traces.{Job, Setting, Trace, end_of, first_child, holdings, next_child, orphans_left, running_jobs}
+use Rattle.sl_trace.specs.Traces.{Job, Trace, end_of, first_child, next_child, orphans_left, running_jobs}
 use Rattle.sl_trace.specs.declared.effects.Grant.{Grant}
 use Rattle.sl_trace.specs.declared.effects.Move.TheVariants.{Unregister}
 use Rattle.sl_trace.specs.declared.effects.Signal.TheVariants.{Kill, Term}
-use Rattle.sl_trace.specs.declared.effects.Signal.{Signal}
 use Rattle.sl_trace.specs.declared.input.Input.{Input}
 use Rattle.sl_trace.specs.declared.reply.Reply.TheVariants.{NoProcess, Recovering, Started}
-use Rattle.sl_trace.specs.declared.reply.Reply.{Reply}
 use Rattle.sl_words.specs.Words.{some_is}
-use Rattle.std.proofs.Common.{ap, refl, subst, sym, ◌∙◌}
-use Rattle.std.specs.List.{list_any}
+use Rattle.std.proofs.Common.{ap, refl, sym, ◌∙◌}
 use Rattle.std.specs.Option.{option_map_or}
-use Rattle.std.specs.Prelude.{Bool, List, None, Option, Some, bytes_eq, filter, find, fold, map, not, slice_get, ℕ, ◌&&◌, ◌+◌, ◌==◌, ◌||◌, ◌∷◌, ◌≡◌, []}
+use Rattle.std.specs.Prelude.{List, None, Option, Some, filter, find, map, not, slice_get, ℕ, ◌&&◌, ◌+◌, ◌==◌, ◌||◌, ◌∷◌, ◌≡◌, []}
 
 -- A pass that looks at a job's number alone is one over the numbers.
 by_numbers : (f : ℕ → Step → Step) (es : Trace) (js : List Job) (x : Step) → for_each js (λ j. f j.number) x ≡ for_each (map (λ (s : JobState). s.number) (map (kept_job es) js)) f x
@@ -63,8 +59,8 @@ module _ (i : Input) (h : HostState) (x : Step) (k : ℕ) (m : MemberState) (at 
       ap (λ t. for_each (filter (λ (j : Job). not (some_is (λ k. k == j.number) kept)) (jobs_of_session x.setting (seen x) m.who)) (λ j. add_reply j.number (Recovering t)) x) its.renewal
       ∙ by_numbers (λ n. add_reply n (Recovering m.renewing.last)) (seen x) (filter (λ (j : Job). not (some_is (λ k. k == j.number) kept)) (jobs_of_session x.setting (seen x) m.who)) x
       ∙ ap (λ js. for_each (map (λ (s : JobState). s.number) js) (λ n. add_reply n (Recovering m.renewing.last)) x)
-        (sym (filter_mapped (λ (s : JobState). not (some_is (λ k. k == s.number) kept)) (kept_job (seen x)) (jobs_of_session x.setting (seen x) m.who))
-        ∙ ap (filter (λ (s : JobState). not (some_is (λ k. k == s.number) kept))) its.jobs)
+      (sym (filter_mapped (λ (s : JobState). not (some_is (λ k. k == s.number) kept)) (kept_job (seen x)) (jobs_of_session x.setting (seen x) m.who))
+      ∙ ap (filter (λ (s : JobState). not (some_is (λ k. k == s.number) kept))) its.jobs)
 
   parts : MemberParts h x m
   parts = record { recovery = recovery; kills = kills; signals = λ signal. ap (λ ps. for_each ps (λ p. send p signal) x) its.holders; refusals = refusals }

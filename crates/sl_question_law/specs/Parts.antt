@@ -1,5 +1,4 @@
 -- Parts of a step that go over holders, holdings and jobs, or refuse one: what they are by what is kept.
-use Rattle.sl_decide_law.specs.Deciding.{held_of}
 use Rattle.sl_due.specs.DueFirst.{begin_recovery, is_overdue, kill_holders, refuse, refuse_jobs, remove_connection, remove_of_refused, send, signal_and_refuse, signal_holders, tell_to_stop, time_outs}
 use Rattle.sl_due.specs.DueInputs.{end_holdings, leave_holdings, refuse_jobs_of, started_reply}
 use Rattle.sl_due.specs.Steps.{Step, add_end, add_grant, add_move, add_reply, add_signal, add_start, for_each, seen, when, with_input, with_some}
@@ -10,14 +9,13 @@ use Rattle.sl_host_state.specs.Kept.{HostState, MemberState}
 use Rattle.sl_host_state.specs.Makes.{has_write_open}
 use Rattle.sl_host_state.specs.Stands.{Stands}
 use Rattle.sl_host_state.specs.declared.kept.JobState.{JobState}
-use Rattle.sl_question_law.specs.Jobs.{is_of_process_in, joining_in, running_in, time_out_in}
+use Rattle.sl_question_law.specs.Jobs.{is_of_process_in, joining_in, time_out_in}
 use Rattle.sl_question_law.specs.Members.{IsMemberAt, holders_in, jobs_in}
 use Rattle.sl_reply_law.specs.Answers.{FitsCall, IsOpen}
 use Rattle.sl_reply_law.specs.Replies.{MayReply}
 use Rattle.sl_host_state.specs.declared.kept.OpenCall.{OpenCall}
 use Rattle.sl_sessions.specs.Sessions.{is_join_done}
 use Rattle.sl_trace.specs.Traces.{end_of, first_child, orphans_left, waiting_call}
-use Rattle.sl_trace.specs.declared.effects.Grant.{Grant}
 use Rattle.sl_trace.specs.declared.effects.Move.TheVariants.{Unregister}
 use Rattle.sl_trace.specs.declared.effects.Signal.TheVariants.{Kill, Term}
 use Rattle.sl_trace.specs.declared.effects.Signal.{Signal}
@@ -29,7 +27,7 @@ use Rattle.sl_trace.specs.declared.reply.Reply.{Reply}
 use Rattle.sl_words.specs.Words.{some_is}
 use Rattle.std.specs.List.{list_any}
 use Rattle.std.specs.Option.{option_map_or}
-use Rattle.std.specs.Prelude.{Bool, List, None, Option, Some, bytes_eq, false, filter, find, map, not, slice_get, ℕ, ◌&&◌, ◌+◌, ◌==◌, ◌||◌, ◌≡◌}
+use Rattle.std.specs.Prelude.{List, None, Option, Some, bytes_eq, false, filter, find, map, not, slice_get, ℕ, ◌&&◌, ◌+◌, ◌==◌, ◌||◌, ◌≡◌}
 
 -- ---- of a member
 
