@@ -16,13 +16,12 @@ use Rattle.sl_trace.specs.Traces.{Submitted, call_numbered, next_job, submitted}
 use Rattle.sl_trace.specs.declared.effects.Call.{Call}
 use Rattle.sl_trace.specs.declared.effects.Effects.{Effects}
 use Rattle.sl_trace.specs.declared.effects.JoinStep.TheVariants.{FirstRead}
-use Rattle.sl_trace.specs.declared.effects.Purpose.{Purpose}
 use Rattle.sl_trace.specs.declared.input.Answer.{Answer}
 use Rattle.sl_trace.specs.declared.input.Input.TheVariants.{Answer as Told, Wake}
 use Rattle.sl_trace.specs.declared.input.Input.{Input}
 use Rattle.std.proofs.Common.{ap, refl, sym, ◌∙◌}
 use Rattle.std.specs.List.{list_any}
-use Rattle.std.specs.Prelude.{Bool, Contains, List, None, Option, Some, false, length, slice_get, true, [], ℕ, ◌++◌, ◌==◌, ◌∷◌, ◌≡◌}
+use Rattle.std.specs.Prelude.{Contains, List, None, Option, Some, false, length, slice_get, true, [], ℕ, ◌++◌, ◌==◌, ◌∷◌, ◌≡◌}
 
 -- An input alone begins no session.
 sessions_same : (j : Input) (x : Step) → x.effects.calls ≡ [] → sessions x.setting (seen (with_input j x)) ≡ sessions x.setting (seen x)
@@ -53,14 +52,17 @@ module _ (number : ℕ) (c : OpenCall) (a : Answer) (h : HostState) (x : Step) (
 
   of_member : (k : ℕ) (m : MemberState) → slice_get h.members k ≡ Some m → c.session ≡ m.who.number
       → (d : Submitted) × Contains (submitted (seen (with_input (Told number a) x))) d × (kept_call d ≡ c)
-        × (after_answer (is_present (seen x)) number a (with_input (Told number a) x) ≡ after_answer_of m.who d c.purpose a (with_input (Told number a) x))
+      × (after_answer (is_present (seen x)) number a (with_input (Told number a) x) ≡ after_answer_of m.who d c.purpose a (with_input (Told number a) x))
   of_member k m there its =
-      let who = members_are_sessions h x.setting (seen x) k m s.keeps there in
-      (found.0, (find_inside (λ (d : Submitted). d.call.number == number) (submitted (seen (with_input (Told number a) x))) found.0 found.1).0, found.2,
-      asked
-      ∙ ap (λ n. with_some (session_numbered x.setting (seen x) n) (λ z. when (is_present (seen x) z) (after_answer_of z found.0 c.purpose a)) (with_input (Told number a) x)) its
-      ∙ ap (λ o. with_some o (λ (z : Session). when (is_present (seen x) z) (after_answer_of z found.0 c.purpose a)) (with_input (Told number a) x)) who.0
-      ∙ ap (λ b. when b (after_answer_of m.who found.0 c.purpose a) (with_input (Told number a) x)) who.1)
+      let who = members_are_sessions h x.setting (seen x) k m s.keeps there in (
+        found.0,
+        (find_inside (λ (d : Submitted). d.call.number == number) (submitted (seen (with_input (Told number a) x))) found.0 found.1).0,
+        found.2,
+        asked
+            ∙ ap (λ n. with_some (session_numbered x.setting (seen x) n) (λ z. when (is_present (seen x) z) (after_answer_of z found.0 c.purpose a)) (with_input (Told number a) x)) its
+            ∙ ap (λ o. with_some o (λ (z : Session). when (is_present (seen x) z) (after_answer_of z found.0 c.purpose a)) (with_input (Told number a) x)) who.0
+            ∙ ap (λ b. when b (after_answer_of m.who found.0 c.purpose a) (with_input (Told number a) x)) who.1,
+      )
 
   of_nobody : list_any (λ m. c.session == m.who.number) h.members ≡ false → after_answer (is_present (seen x)) number a (with_input (Told number a) x) ≡ with_input (Told number a) x
   of_nobody none = asked ∙ by (session_numbered x.setting (seen x) c.session) refl where

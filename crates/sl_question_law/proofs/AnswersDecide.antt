@@ -17,28 +17,26 @@ use Rattle.sl_question_law.proofs.JobsAnswer.{jobs_answer, work_goes_on}
 use Rattle.sl_question_law.proofs.MembersAnswer.{members_answer}
 use Rattle.sl_question_law.specs.Answers.{AnswerDecides, AnswersDecide, IsCallOf, for_job_in, joining_in_step, known_in, lease_in_step, place_in, seen_request_in, set_reply_in, spot_in, survey_in_step}
 use Rattle.sl_question_law.specs.Jobs.{JobAnswers, aim_in, command_in, goes_on_in, running_in}
-use Rattle.sl_question_law.specs.Members.{IsMemberAt, MemberAnswers, begins_by_read_in, exclusive_at}
+use Rattle.sl_question_law.specs.Members.{MemberAnswers, begins_by_read_in, exclusive_at}
 use Rattle.sl_sector.specs.declared.sector.ValueRec.{ValueRec}
 use Rattle.sl_sessions.specs.Deltas.{delta_of_session, next_after_free, next_after_renewal, next_in_joining}
-use Rattle.sl_sessions.specs.Sessions.{calls_of, generation_of, is_joined, recovery_of}
+use Rattle.sl_sessions.specs.Sessions.{calls_of, generation_of, recovery_of}
 use Rattle.sl_sector.specs.declared.sector.Owner.{Owner}
 use Rattle.sl_sessions.specs.declared.session.Begun.{Begun}
-use Rattle.sl_trace.specs.Traces.{Submitted, is_orphan, is_running, job_of, submitted}
+use Rattle.sl_trace.specs.Traces.{Submitted, is_orphan, is_running, job_of}
 use Rattle.sl_trace.specs.declared.command.Command.{Command}
 use Rattle.sl_trace.specs.declared.effects.Grant.{Grant}
 use Rattle.sl_trace.specs.declared.effects.JoinStep.{JoinStep}
 use Rattle.sl_trace.specs.declared.effects.LeaseStep.{LeaseStep}
-use Rattle.sl_trace.specs.declared.effects.Purpose.{Purpose}
 use Rattle.sl_trace.specs.declared.effects.Spot.{Spot}
 use Rattle.sl_trace.specs.declared.effects.Work.{Work}
 use Rattle.sl_trace.specs.declared.input.Answer.TheVariants.{Failed, Read, Written}
 use Rattle.sl_trace.specs.declared.input.Answer.{Answer}
 use Rattle.sl_trace.specs.declared.input.Input.{Input}
 use Rattle.sl_trace.specs.declared.reply.Reply.TheVariants.{Done, IoFault, ValueSet}
-use Rattle.sl_trace.specs.declared.reply.Reply.{Reply}
-use Rattle.std.proofs.Common.{ap, refl, subst, sym, ◌∙◌}
+use Rattle.std.proofs.Common.{ap, refl, ◌∙◌}
 use Rattle.std.specs.Option.{option_map_or}
-use Rattle.std.specs.Prelude.{Bool, List, None, Option, Some, false, is_some, not, option_map, true, ℕ, ◌-◌, ◌==◌, ◌%◌, ◌≡◌}
+use Rattle.std.specs.Prelude.{Bool, List, None, Option, Some, false, is_some, not, option_map, true, ℕ, ◌≡◌}
 
 module _ (i : Input) (h : HostState) (x : Step) (k : ℕ) (m : MemberState) (d : Submitted) (c : OpenCall) (a : Answer) (call : IsCallOf i h x k m d c) where
   its : MemberAnswers h x m
@@ -96,15 +94,15 @@ module _ (i : Input) (h : HostState) (x : Step) (k : ℕ) (m : MemberState) (d :
       when (is_session_asked y.setting m.who bytes) (see_requests m.who)
       (when (begins_by_read (seen y) (recovery_of y.setting (seen y) m.who)) (signal_and_refuse m.who None) y)) x) its.joined
       ∙ by m.joined where
-    by : (b : Bool)
-        → when b (λ y.
-          when (is_session_asked y.setting m.who bytes) (see_requests m.who)
-          (when (begins_by_read (seen y) (recovery_of y.setting (seen y) m.who)) (signal_and_refuse m.who None) y)) x
-        ≡ when b (λ y.
-          when (is_session_asked y.setting m.who bytes) (see_requests m.who)
-          (when (begins_by_read_in h m.renewing.recovery) (signal_and_refuse m.who None) y)) x
-    by true = ap (λ b. when (is_session_asked x.setting m.who bytes) (see_requests m.who) (when b (signal_and_refuse m.who None) x)) its.by_read
-    by false = refl
+        by : (b : Bool)
+            → when b (λ y.
+            when (is_session_asked y.setting m.who bytes) (see_requests m.who)
+            (when (begins_by_read (seen y) (recovery_of y.setting (seen y) m.who)) (signal_and_refuse m.who None) y)) x
+            ≡ when b (λ y.
+            when (is_session_asked y.setting m.who bytes) (see_requests m.who)
+            (when (begins_by_read_in h m.renewing.recovery) (signal_and_refuse m.who None) y)) x
+        by true = ap (λ b. when (is_session_asked x.setting m.who bytes) (see_requests m.who) (when b (signal_and_refuse m.who None) x)) its.by_read
+        by false = refl
 
   free : (j : ℕ) → after_free m.who j d a x ≡ carry_delta m.who (next_after_free j c.number a) x
   unfolding after_free
@@ -120,34 +118,37 @@ module _ (i : Input) (h : HostState) (x : Step) (k : ℕ) (m : MemberState) (d :
         | true ↦ with_some (aim_of x.setting (seen x) work) (λ aim y. carry_lease m.who (spot_of_call y.setting.layout d) work (next_of_lease y.setting (seen y) m.who (spot_of_call y.setting.layout d) aim d step a) y) x
       ]) (work_goes_on i h x k m d work step call.at call.inside (ap lease_step purpose ∙ is))
       ∙ by (goes_on_in h m work) refl where
-    -- What the lease decides, by what is known of it.
-    next_by : Spot → LeasePlace → LeaseKnown → ℕ → ℕ → Aim → Step
-    next_by at p known n lver aim = carry_lease m.who at work (lease_next p known aim n lver step a) x
-    of_aim : (aim : Aim) → carry_lease m.who (spot_of_call x.setting.layout d) work (next_of_lease x.setting (seen x) m.who (spot_of_call x.setting.layout d) aim d step a) x
-        ≡ carry_lease m.who (spot_in h.config.layout c) work (lease_next (place_in h m) (known_in h m x (spot_in h.config.layout c)) aim c.number c.lver step a) x
-    of_aim aim =
-        ap (λ at. carry_lease m.who at work (lease_next (lease_place x.setting m.who) (known x.setting (seen x) m.who at) aim d.call.number (lver_written d) step a) x) spot
-        ∙ ap (λ (z : Config). carry_lease m.who (spot_in h.config.layout c) work (lease_next (record { layout = z.layout; lockspace = m.who.lockspace }) (known x.setting (seen x) m.who (spot_in h.config.layout c)) aim d.call.number (lver_written d) step a) x) config
-        ∙ ap (λ (q : LeaseKnown). carry_lease m.who (spot_in h.config.layout c) work (lease_next (place_in h m) q aim d.call.number (lver_written d) step a) x) (its.lease (spot_in h.config.layout c))
-        ∙ ap (λ (z : OpenCall). carry_lease m.who (spot_in h.config.layout c) work (lease_next (place_in h m) (known_in h m x (spot_in h.config.layout c)) aim z.number z.lver step a) x) call.kept
-    of_aims : (o : Option Aim)
-        → with_some o (λ aim y. carry_lease m.who (spot_of_call y.setting.layout d) work (next_of_lease y.setting (seen y) m.who (spot_of_call y.setting.layout d) aim d step a) y) x
-        ≡ with_some o (λ aim. carry_lease m.who (spot_in h.config.layout c) work (lease_next (place_in h m) (known_in h m x (spot_in h.config.layout c)) aim c.number c.lver step a)) x
-    of_aims None = refl
-    of_aims (Some aim) = of_aim aim
-    by : (b : Bool) → goes_on_in h m work ≡ b
-        → elim b as (λ z. Step) [
-          | false ↦ x
-          | true ↦ with_some (aim_of x.setting (seen x) work) (λ aim y. carry_lease m.who (spot_of_call y.setting.layout d) work (next_of_lease y.setting (seen y) m.who (spot_of_call y.setting.layout d) aim d step a) y) x
-        ]
-        ≡ elim b as (λ z. Step) [
-          | false ↦ x
-          | true ↦ with_some (aim_in h work) (λ aim. carry_lease m.who (spot_in h.config.layout c) work (lease_next (place_in h m) (known_in h m x (spot_in h.config.layout c)) aim c.number c.lver step a)) x
-        ]
-    by false goes = refl
-    by true goes =
-        ap (λ o. with_some o (λ (aim : Aim) (y : Step). carry_lease m.who (spot_of_call y.setting.layout d) work (next_of_lease y.setting (seen y) m.who (spot_of_call y.setting.layout d) aim d step a) y) x) (of_jobs.aim m work goes)
-        ∙ of_aims (aim_in h work)
+        -- What the lease decides, by what is known of it.
+        next_by : Spot → LeasePlace → LeaseKnown → ℕ → ℕ → Aim → Step
+        next_by at p known n lver aim = carry_lease m.who at work (lease_next p known aim n lver step a) x
+
+        of_aim : (aim : Aim) → carry_lease m.who (spot_of_call x.setting.layout d) work (next_of_lease x.setting (seen x) m.who (spot_of_call x.setting.layout d) aim d step a) x
+            ≡ carry_lease m.who (spot_in h.config.layout c) work (lease_next (place_in h m) (known_in h m x (spot_in h.config.layout c)) aim c.number c.lver step a) x
+        of_aim aim =
+            ap (λ at. carry_lease m.who at work (lease_next (lease_place x.setting m.who) (known x.setting (seen x) m.who at) aim d.call.number (lver_written d) step a) x) spot
+            ∙ ap (λ (z : Config). carry_lease m.who (spot_in h.config.layout c) work (lease_next (record { layout = z.layout; lockspace = m.who.lockspace }) (known x.setting (seen x) m.who (spot_in h.config.layout c)) aim d.call.number (lver_written d) step a) x) config
+            ∙ ap (λ (q : LeaseKnown). carry_lease m.who (spot_in h.config.layout c) work (lease_next (place_in h m) q aim d.call.number (lver_written d) step a) x) (its.lease (spot_in h.config.layout c))
+            ∙ ap (λ (z : OpenCall). carry_lease m.who (spot_in h.config.layout c) work (lease_next (place_in h m) (known_in h m x (spot_in h.config.layout c)) aim z.number z.lver step a) x) call.kept
+
+        of_aims : (o : Option Aim)
+            → with_some o (λ aim y. carry_lease m.who (spot_of_call y.setting.layout d) work (next_of_lease y.setting (seen y) m.who (spot_of_call y.setting.layout d) aim d step a) y) x
+            ≡ with_some o (λ aim. carry_lease m.who (spot_in h.config.layout c) work (lease_next (place_in h m) (known_in h m x (spot_in h.config.layout c)) aim c.number c.lver step a)) x
+        of_aims None = refl
+        of_aims (Some aim) = of_aim aim
+
+        by : (b : Bool) → goes_on_in h m work ≡ b
+            → elim b as (λ z. Step) [
+              | false ↦ x
+              | true ↦ with_some (aim_of x.setting (seen x) work) (λ aim y. carry_lease m.who (spot_of_call y.setting.layout d) work (next_of_lease y.setting (seen y) m.who (spot_of_call y.setting.layout d) aim d step a) y) x
+            ]
+            ≡ elim b as (λ z. Step) [
+              | false ↦ x
+              | true ↦ with_some (aim_in h work) (λ aim. carry_lease m.who (spot_in h.config.layout c) work (lease_next (place_in h m) (known_in h m x (spot_in h.config.layout c)) aim c.number c.lver step a)) x
+            ]
+        by false goes = refl
+        by true goes =
+            ap (λ o. with_some o (λ (aim : Aim) (y : Step). carry_lease m.who (spot_of_call y.setting.layout d) work (next_of_lease y.setting (seen y) m.who (spot_of_call y.setting.layout d) aim d step a) y) x) (of_jobs.aim m work goes)
+            ∙ of_aims (aim_in h work)
 
   -- ---- requests and values
 
@@ -158,13 +159,13 @@ module _ (i : Input) (h : HostState) (x : Step) (k : ℕ) (m : MemberState) (d :
         | false ↦ x
         | true ↦ elim a as (λ z. Step) [ Read bytes ↦ f bytes x | Written ↦ done_f x | Failed ↦ add_reply j (IoFault d.call.number) x ]
       ]) (runs j is) ∙ by (running_in h j) refl a where
-    by : (b : Bool) → running_in h j ≡ b → (z : Answer)
-        → elim b as (λ z. Step) [ false ↦ x | true ↦ elim z as (λ z. Step) [ Read bytes ↦ f bytes x | Written ↦ done_f x | Failed ↦ add_reply j (IoFault d.call.number) x ] ]
-        ≡ elim b as (λ z. Step) [ false ↦ x | true ↦ elim z as (λ z. Step) [ Read bytes ↦ g bytes x | Written ↦ done_g x | Failed ↦ add_reply j (IoFault c.number) x ] ]
-    by false goes z = refl
-    by true goes (Read bytes) = reads goes bytes
-    by true goes Written = writes
-    by true goes Failed = ap (λ n. add_reply j (IoFault n) x) number
+        by : (b : Bool) → running_in h j ≡ b → (z : Answer)
+            → elim b as (λ z. Step) [ false ↦ x | true ↦ elim z as (λ z. Step) [ Read bytes ↦ f bytes x | Written ↦ done_f x | Failed ↦ add_reply j (IoFault d.call.number) x ] ]
+            ≡ elim b as (λ z. Step) [ false ↦ x | true ↦ elim z as (λ z. Step) [ Read bytes ↦ g bytes x | Written ↦ done_g x | Failed ↦ add_reply j (IoFault c.number) x ] ]
+        by false goes z = refl
+        by true goes (Read bytes) = reads goes bytes
+        by true goes Written = writes
+        by true goes Failed = ap (λ n. add_reply j (IoFault n) x) number
 
   see_request : (bytes : List ℕ) → after_see_request m.who d bytes x ≡ seen_request_in h m c bytes x
   unfolding after_see_request

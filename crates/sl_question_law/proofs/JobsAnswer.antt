@@ -1,6 +1,5 @@
 -- What a step asks of jobs is answered by those that are kept.
 use Rattle.sl_due.specs.DueFirst.{refuse, time_out}
-use Rattle.sl_due.specs.DueLease.{goes_on}
 use Rattle.sl_due.specs.Steps.{Step, seen, when, with_some}
 use Rattle.sl_host_plain.proofs.KeptJobs.{kept_is_running, running_there}
 use Rattle.sl_host_plain.proofs.MembersAreSessions.{member_inside}
@@ -10,21 +9,18 @@ use Rattle.sl_host_plain.proofs.PlainOrders.{inside_ordered}
 use Rattle.sl_host_state.specs.Kept.{Config, HostState, MemberState}
 use Rattle.sl_host_state.specs.Stands.{Keeps, Stands, kept_job, kept_waiting}
 use Rattle.sl_host_state.specs.declared.kept.JobState.{JobState}
-use Rattle.sl_host_state.specs.declared.kept.WaitingCall.{WaitingCall}
-use Rattle.sl_leases.specs.Jobs.{aim_of, aim_of_command, child_of_job, command_numbered, command_of, is_job_of_process}
+use Rattle.sl_leases.specs.Jobs.{aim_of, aim_of_command, child_of_job, command_numbered, command_of}
 use Rattle.sl_leases.specs.Leases.{lease_step}
 use Rattle.sl_plain.proofs.Lists.{find_fails, find_inside, in_map, kept}
 use Rattle.sl_question_law.proofs.MembersAnswer.{members_answer}
 use Rattle.sl_question_law.proofs.OneJoining.{joining_present, one_joining}
 use Rattle.sl_question_law.specs.Jobs.{JobAnswers, JobsAnswer, WorkGoesOn, aim_in, command_in, goes_on_in, is_of_process_in, joining_in, running_in, time_out_in}
-use Rattle.sl_question_law.specs.Members.{IsMemberAt}
 use Rattle.sl_reply_law.proofs.JobsRun.{runs_among}
 use Rattle.sl_reply_law.proofs.PlainFilters.{filter_mapped, found_kept}
 use Rattle.sl_reply_law.proofs.PlainNumbers.{same_number}
-use Rattle.sl_sessions.specs.Sessions.{is_present, present_sessions, session_of_job, sessions}
+use Rattle.sl_sessions.specs.Sessions.{is_present, session_of_job, sessions}
 use Rattle.sl_sessions.specs.declared.session.Session.{Session}
-use Rattle.sl_trace.specs.Traces.{Child, Job, Setting, Submitted, Trace, children, is_running, job_numbered, job_of, jobs, running_jobs, submitted, waiting_call, work_job}
-use Rattle.sl_trace.specs.declared.command.Command.{Command}
+use Rattle.sl_trace.specs.Traces.{Child, Job, Setting, Submitted, children, is_running, job_numbered, job_of, jobs, running_jobs, submitted, waiting_call, work_job}
 use Rattle.sl_trace.specs.declared.effects.LeaseStep.{LeaseStep}
 use Rattle.sl_trace.specs.declared.effects.Purpose.TheVariants.{Joining, Lease, Leaving, Renewal, RequestRead, RequestWrite, SeeRequest, Survey, ValueRead, ValueWrite}
 use Rattle.sl_trace.specs.declared.effects.Purpose.{Purpose}
@@ -37,8 +33,7 @@ use Rattle.sl_words.proofs.WordLaws.{some_is_true}
 use Rattle.sl_words.specs.Orders.{is_text_before}
 use Rattle.sl_words.specs.Words.{some_is}
 use Rattle.std.proofs.Common.{ap, refl, subst, sym, ◌∙◌}
-use Rattle.std.specs.List.{AllByRecursion, list_any}
-use Rattle.std.specs.Prelude.{Bool, Contains, IsTrue, List, None, Option, Some, false, filter, filter_map, find, is_some, map, nat_le, option_and_then, option_map, slice_get, true, ℕ, ◌+◌, ◌==◌, ◌≡◌}
+use Rattle.std.specs.Prelude.{Contains, IsTrue, None, Option, Some, false, filter, filter_map, find, is_some, nat_le, option_and_then, option_map, true, ℕ, ◌+◌, ◌==◌, ◌≡◌}
 
 module _ (h : HostState) (x : Step) (i : Input) (s : Stands i h x) where
   st : Setting
@@ -52,8 +47,8 @@ module _ (h : HostState) (x : Step) (i : Input) (s : Stands i h x) where
   called : (d : Submitted) (n : ℕ) → Contains (submitted (seen x)) d → job_of d.call.purpose ≡ Some n → is_running (seen x) n ≡ running_in h n
   called d n there is =
       let owned = each_of (λ z. IsTrue (is_some (job_numbered x.setting (seen x) z))) (filter_map (λ (m : Submitted). job_of m.call.purpose) (submitted (seen x))) n
-          (all_front (λ z. IsTrue (is_some (job_numbered x.setting (seen x) z))) (filter_map (λ (m : Submitted). job_of m.call.purpose) (submitted (seen x))) (filter_map (λ (c : Child). c.job) (children (seen x))) keeps.owned)
-          (mapped_inside (λ (m : Submitted). job_of m.call.purpose) (submitted (seen x)) d n there is) in
+      (all_front (λ z. IsTrue (is_some (job_numbered x.setting (seen x) z))) (filter_map (λ (m : Submitted). job_of m.call.purpose) (submitted (seen x))) (filter_map (λ (c : Child). c.job) (children (seen x))) keeps.owned)
+      (mapped_inside (λ (m : Submitted). job_of m.call.purpose) (submitted (seen x)) d n there is) in
       sym (kept_is_running h x.setting (seen x) n keeps ∙ runs_among x.setting (seen x) n owned)
 
   command : (n : ℕ) → running_in h n ≡ true → command_numbered x.setting (seen x) n ≡ command_in h n
@@ -62,12 +57,12 @@ module _ (h : HostState) (x : Step) (i : Input) (s : Stands i h x) where
       ap (option_and_then command_of) (found_kept (λ (j : Job). j.number == n) (λ j. is_running (seen x) j.number) (jobs x.setting (seen x)) (only going))
       ∙ same (find (λ (j : Job). j.number == n) (running_jobs x.setting (seen x)))
       ∙ ap (option_and_then (λ (j : JobState). j.command)) (sym (found_mapped (λ (j : JobState). j.number == n) (kept_job (seen x)) (running_jobs x.setting (seen x))) ∙ ap (find (λ (j : JobState). j.number == n)) keeps.jobs) where
-    only : is_running (seen x) n ≡ true → (j : Job) → is_running (seen x) j.number ≡ false → (j.number == n) ≡ false
-    only going j ends = is_false (j.number == n) (λ its. not_both (is_running (seen x) n) going (ap (is_running (seen x)) (sym (same_number j.number n its)) ∙ ends))
+        only : is_running (seen x) n ≡ true → (j : Job) → is_running (seen x) j.number ≡ false → (j.number == n) ≡ false
+        only going j ends = is_false (j.number == n) (λ its. not_both (is_running (seen x) n) going (ap (is_running (seen x)) (sym (same_number j.number n its)) ∙ ends))
 
-    same : (o : Option Job) → option_and_then command_of o ≡ option_and_then (λ (j : JobState). j.command) (option_map (kept_job (seen x)) o)
-    same None = refl
-    same (Some j) = refl
+        same : (o : Option Job) → option_and_then command_of o ≡ option_and_then (λ (j : JobState). j.command) (option_map (kept_job (seen x)) o)
+        same None = refl
+        same (Some j) = refl
 
   aim : (m : MemberState) (work : Work) → goes_on_in h m work ≡ true → aim_of x.setting (seen x) work ≡ aim_in h work
   aim m (ForJob j) goes = ap (option_and_then aim_of_command) (command j goes)

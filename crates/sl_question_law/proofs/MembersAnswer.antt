@@ -1,34 +1,29 @@
 -- What a step asks of a session is answered by its member.
 use Rattle.sl_due.specs.DueDelta.{begins_by_read}
-use Rattle.sl_due.specs.DueLease.{held_otherwise}
 use Rattle.sl_due.specs.DueRequests.{bits_due, is_asked}
 use Rattle.sl_due.specs.Steps.{Step, seen}
 use Rattle.sl_host_plain.proofs.MembersAreSessions.{member_inside}
 use Rattle.sl_host_plain.proofs.PlainLists.{any_as, filter_as}
 use Rattle.sl_host_state.specs.Kept.{Config, HostState, MemberState}
-use Rattle.sl_host_state.specs.Makes.{has_write_open}
-use Rattle.sl_host_state.specs.Stands.{Keeps, MemberStands, Stands, bits_of, config_of, is_asked_in, kept_call, kept_job}
+use Rattle.sl_host_state.specs.Stands.{Keeps, MemberStands, bits_of, config_of, is_asked_in, kept_job}
 use Rattle.sl_host_state.specs.declared.kept.JobState.{JobState}
 use Rattle.sl_leases.specs.Jobs.{jobs_of_session, lockspace_named}
 use Rattle.sl_leases.specs.Leases.{exclusive_on, has_shared_on, holdings_on, known, known_of, lease_calls}
-use Rattle.sl_question_law.specs.Members.{IsMemberAt, MemberAnswers, MembersAnswer, begins_by_read_in, evidence_seen, exclusive_at, has_call_open, holdings_at, holdings_in, is_active_in, is_leaving_in, is_recovering_in, jobs_in, me_in, over_in, shared_at, states_in}
+use Rattle.sl_decide_law.specs.Deciding.{held_on, is_active_member}
+use Rattle.sl_question_law.specs.Members.{IsMemberAt, MemberAnswers, MembersAnswer, begins_by_read_in, evidence_seen, exclusive_at, has_call_open, is_leaving_in, is_recovering_in, jobs_in, me_in, over_in, shared_at}
 use Rattle.sl_reply_law.proofs.OpenCallsAreKept.{open_is, open_write_is, own_open}
-use Rattle.sl_reply_law.proofs.PlainFilters.{filter_mapped, map_where}
+use Rattle.sl_reply_law.proofs.PlainFilters.{filter_mapped}
 use Rattle.sl_sector.specs.Bitmaps.{bitmap_of}
 use Rattle.sl_sector.specs.declared.sector.Owner.{Owner}
-use Rattle.sl_sessions.specs.Sessions.{calls_of, ended_after, generation_of, has_open_write, is_active, is_call_of, is_joined, is_leaving, is_present, is_recovering, joined_after, leaving_job, me, open_calls_of, recovery_of, refused_after, removed_after}
-use Rattle.sl_sessions.specs.Watching.{counts_over, evidence, evidence_in, host_state, sightings, states_seen}
+use Rattle.sl_sessions.specs.Sessions.{calls_of, generation_of, has_open_write, is_active, is_call_of, is_leaving, is_present, is_recovering, joined_after, leaving_job, me, open_calls_of, recovery_of, refused_after, removed_after}
+use Rattle.sl_sessions.specs.Watching.{counts_over, evidence, evidence_in}
 use Rattle.sl_sessions.specs.declared.delta.DeltaKnown.{DeltaKnown}
 use Rattle.sl_sessions.specs.declared.session.Begun.{Begun}
 use Rattle.sl_sessions.specs.declared.session.Renewing.{Renewing}
-use Rattle.sl_sessions.specs.declared.session.Session.{Session}
-use Rattle.sl_sessions.specs.declared.sighting.Sighting.{Sighting}
-use Rattle.sl_trace.specs.Traces.{Job, Setting, Submitted, Trace, holdings, is_orphan, is_shared, outstanding, running_jobs, same_place}
+use Rattle.sl_trace.specs.Traces.{Job, Submitted, is_orphan, is_shared, outstanding, running_jobs, same_place}
 use Rattle.sl_trace.specs.declared.effects.Grant.{Grant}
 use Rattle.sl_trace.specs.declared.effects.Spot.{Spot}
 use Rattle.sl_trace.specs.declared.input.Input.{Input}
-use Rattle.sl_trace.specs.declared.reply.HostState.{HostState as HostLooks}
-use Rattle.sl_trace.specs.declared.reply.StateOf.{StateOf}
 use Rattle.sl_words.proofs.CaseLaws.{false_is_true}
 use Rattle.sl_words.specs.Orders.{rising}
 use Rattle.sl_words.specs.Words.{is_empty, same_truth, some_is}
@@ -47,9 +42,6 @@ none_mapped f (Some a) = refl
 
 abbrev begun_of : Job → Begun
 begun_of j = record { at = j.at; reading = j.reading; kills_from = j.at + 1 }
-
-abbrev state_at : ℕ → HostLooks → StateOf
-state_at id state = record { id = id; state = state }
 
 -- A list is empty where it has no element.
 empty_is : {A : Type 0} (xs : List A) → is_empty xs ≡ not (list_any (λ x. true) xs)
@@ -81,7 +73,7 @@ module _ (i : Input) (h : HostState) (x : Step) (k : ℕ) (m : MemberState) (at_
   stays : is_none (leaving_job x.setting (seen x) m.who) ≡ is_none m.leaving
   stays = sym (none_mapped begun_of (leaving_job x.setting (seen x) m.who)) ∙ ap is_none stands.leaving
 
-  active : is_active x.setting (seen x) m.who ≡ is_active_in m
+  active : is_active x.setting (seen x) m.who ≡ is_active_member m
   active =
       ap (λ b. b && is_none (recovery_of x.setting (seen x) m.who) && is_none (leaving_job x.setting (seen x) m.who)) stands.joined
       ∙ ap (λ (o : Option Begun). m.joined && is_none o && is_none (leaving_job x.setting (seen x) m.who)) recovery ∙ ap (λ b. m.joined && is_none m.renewing.recovery && b) stays
@@ -120,15 +112,8 @@ module _ (i : Input) (h : HostState) (x : Step) (k : ℕ) (m : MemberState) (at_
       ap (λ e. over_by (is_some e) (generation_of (seen x) m.who) (is_some (joined_after (seen x) m.who))) (seen_evidence j g)
       ∙ ap (λ n. over_by (is_some (evidence_seen h m j g)) n (is_some (joined_after (seen x) m.who))) generation
       ∙ ap (over_by (is_some (evidence_seen h m j g)) m.known.generation) has_joined where
-    over_by : Bool → ℕ → Bool → Bool
-    over_by evident n joined = elim evident as (λ z. Bool) [ true ↦ true | false ↦ j == m.who.id && nat_lt g n && joined ]
-
-  states : (now : ℕ) → states_seen x.setting (seen x) m.who now ≡ states_in h m now
-  states now =
-      map_where (λ id. record { id = id; state = host_state x.setting.timing x.setting.layout id (sightings x.setting.layout id (calls_of (seen x) m.who)) now })
-      (λ id. record { id = id; state = host_state x.setting.timing x.setting.layout id (m.seen id) now }) (range_with_len 1 x.setting.layout.hosts)
-      (λ id there. ap (λ (ss : List Sighting). state_at id (host_state x.setting.timing x.setting.layout id ss now)) (stands.seen id))
-      ∙ ap (λ (c : Config). map (λ id. state_at id (host_state c.timing c.layout id (m.seen id) now)) (range_with_len 1 c.layout.hosts)) config
+        over_by : Bool → ℕ → Bool → Bool
+        over_by evident n joined = elim evident as (λ z. Bool) [ true ↦ true | false ↦ j == m.who.id && nat_lt g n && joined ]
 
   -- ---- its calls and holdings
 
@@ -136,12 +121,12 @@ module _ (i : Input) (h : HostState) (x : Step) (k : ℕ) (m : MemberState) (at_
   idle =
       empty_is (open_calls_of (seen x) m.who)
       ∙ ap not (own_open (λ d. true) (seen x) m.who ∙ any_as (λ d. is_call_of m.who d && true) (is_call_of m.who) (outstanding (seen x)) (λ d. and_true (is_call_of m.who d))
-        ∙ open_is (λ c. c.session == m.who.number) (seen x) h.unanswered keeps.unanswered) where
-    and_true : (b : Bool) → (b && true) ≡ b
-    and_true true = refl
-    and_true false = refl
+      ∙ open_is (λ c. c.session == m.who.number) (seen x) h.unanswered keeps.unanswered) where
+        and_true : (b : Bool) → (b && true) ≡ b
+        and_true true = refl
+        and_true false = refl
 
-  held : (at : Spot) → holdings_on (seen x) m.who at ≡ holdings_at h m at
+  held : (at : Spot) → holdings_on (seen x) m.who at ≡ held_on h m at
   held at = ap (λ (gs : List Grant). filter (λ g. same_place g.path g.offset at.path at.base) (filter (λ g. g.session == m.who.number) gs)) keeps.holdings
 
   jobs : map (kept_job (seen x)) (jobs_of_session x.setting (seen x) m.who) ≡ jobs_in h m
@@ -181,7 +166,6 @@ module _ (i : Input) (h : HostState) (x : Step) (k : ℕ) (m : MemberState) (at_
         bits = bits;
         evidence = seen_evidence;
         over = over;
-        states = states;
         idle = idle;
         writes = open_write_is (seen x) m.who h.unanswered keeps.unanswered;
         holdings = ap (filter (λ (g : Grant). g.session == m.who.number)) keeps.holdings;

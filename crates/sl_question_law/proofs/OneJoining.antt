@@ -2,7 +2,7 @@
 use Rattle.sl_host_plain.proofs.PlainLists.{each_of, in_either}
 use Rattle.sl_host_plain.proofs.SessionNumbers.{HasJobBelow, session_jobs_below}
 use Rattle.sl_plain.proofs.Lists.{contains_cases, contains_none}
-use Rattle.sl_sessions.specs.Sessions.{added_by, begun_in, given_session, has_open_write, is_join_call, is_join_done, is_present, joined_after, joining_session, refused_after, removed_after, sessions}
+use Rattle.sl_sessions.specs.Sessions.{added_by, begun_in, given_session, has_open_write, is_join_call, is_join_done, is_present, joining_session, refused_after, removed_after, sessions}
 use Rattle.sl_sessions.specs.declared.session.Session.{Session}
 use Rattle.sl_trace.specs.Traces.{Replied, Setting, Trace, is_running, next_job, reply_to}
 use Rattle.sl_trace.specs.declared.command.LockspaceArg.{LockspaceArg}
@@ -12,7 +12,7 @@ use Rattle.sl_trace.specs.declared.input.Given.{Given}
 use Rattle.sl_plain.proofs.Options.{none_is}
 use Rattle.sl_words.proofs.CaseLaws.{none_some, some_value}
 use Rattle.sl_words.specs.Words.{choose}
-use Rattle.std.proofs.Common.{ap, arith, inl, inr, refl, subst, sym, ◌∙◌}
+use Rattle.std.proofs.Common.{ap, arith, inl, inr, sym, ◌∙◌}
 use Rattle.std.specs.List.{enumerate_from, list_any}
 use Rattle.std.specs.Prelude.{Bool, Contains, List, None, Option, Some, false, is_none, length, map, not, option_and_then, true, [], ℕ, ◌&&◌, ◌+◌, ◌<◌, ◌∷◌, ◌≡◌, ◌||◌, ◌⊎◌}
 
@@ -54,15 +54,15 @@ pub one_joining : (st : Setting) (es : Trace) (s t : Session) (n : ℕ) → Cont
 one_joining st [] s t n at_s at_t is_s is_t = absurd (no_given_job 0 st.given s n at_s is_s)
 one_joining st (e ∷ es) s t n at_s at_t is_s is_t =
     by (λ a b. one_joining st es s t n a b is_s is_t) (in_either (sessions st es) (begun_in st es (length (sessions st es)) e) s at_s) (in_either (sessions st es) (begun_in st es (length (sessions st es)) e) t at_t) where
-  older : (z : Session) → Contains (sessions st es) z → z.job ≡ Some n → n ≡ next_job st es → ⊥
-  older z at is same = let below : n < next_job st es = each_of (HasJobBelow (next_job st es)) (sessions st es) z (session_jobs_below st es) at n is in omega (arith, below, same)
+      older : (z : Session) → Contains (sessions st es) z → z.job ≡ Some n → n ≡ next_job st es → ⊥
+      older z at is same = let below : n < next_job st es = each_of (HasJobBelow (next_job st es)) (sessions st es) z (session_jobs_below st es) at n is in omega (arith, below, same)
 
-  by : (Contains (sessions st es) s → Contains (sessions st es) t → s ≡ t) → Contains (sessions st es) s ⊎ Contains (begun_in st es (length (sessions st es)) e) s
-      → Contains (sessions st es) t ⊎ Contains (begun_in st es (length (sessions st es)) e) t → s ≡ t
-  by old (inl a) (inl b) = old a b
-  by old (inr a) (inr b) = begun_one st es (length (sessions st es)) e s t a b
-  by old (inl a) (inr b) = absurd (older s a is_s (begun_job st es (length (sessions st es)) e t n b is_t))
-  by old (inr a) (inl b) = absurd (older t b is_t (begun_job st es (length (sessions st es)) e s n a is_s))
+      by : (Contains (sessions st es) s → Contains (sessions st es) t → s ≡ t) → Contains (sessions st es) s ⊎ Contains (begun_in st es (length (sessions st es)) e) s
+          → Contains (sessions st es) t ⊎ Contains (begun_in st es (length (sessions st es)) e) t → s ≡ t
+      by old (inl a) (inl b) = old a b
+      by old (inr a) (inr b) = begun_one st es (length (sessions st es)) e s t a b
+      by old (inl a) (inr b) = absurd (older s a is_s (begun_job st es (length (sessions st es)) e t n b is_t))
+      by old (inr a) (inl b) = absurd (older t b is_t (begun_job st es (length (sessions st es)) e s n a is_s))
 
 pub joining_present : (es : Trace) (s : Session) (n : ℕ) → s.job ≡ Some n → is_running es n ≡ true → is_present es s ≡ true
 joining_present es s n is runs =
@@ -70,5 +70,5 @@ joining_present es s n is runs =
     (ap (λ o. elim o as (λ z. Option ℕ) [ None ↦ Some 0 | Some j ↦ option_and_then (λ r. choose (is_join_done r.reply) (r.at + 1)) (reply_to es j) ]) is
     ∙ ap (option_and_then (λ (r : Replied). choose (is_join_done r.reply) (r.at + 1))) (none_is (reply_to es n) runs))
     ∙ ap (λ o. is_none o || has_open_write es s)
-      (ap (λ o. elim o as (λ z. Option ℕ) [ None ↦ None | Some j ↦ option_and_then (λ r. choose (not (is_join_done r.reply)) (r.at + 1)) (reply_to es j) ]) is
-      ∙ ap (option_and_then (λ (r : Replied). choose (not (is_join_done r.reply)) (r.at + 1))) (none_is (reply_to es n) runs))
+    (ap (λ o. elim o as (λ z. Option ℕ) [ None ↦ None | Some j ↦ option_and_then (λ r. choose (not (is_join_done r.reply)) (r.at + 1)) (reply_to es j) ]) is
+    ∙ ap (option_and_then (λ (r : Replied). choose (not (is_join_done r.reply)) (r.at + 1))) (none_is (reply_to es n) runs))

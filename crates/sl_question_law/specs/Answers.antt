@@ -31,7 +31,7 @@ use Rattle.sl_trace.specs.declared.reply.Reply.TheVariants.{Done, IoFault, Value
 use Rattle.sl_trace.specs.declared.reply.Reply.{Reply}
 use Rattle.std.specs.List.{list_any}
 use Rattle.std.specs.Option.{option_map_or}
-use Rattle.std.specs.Prelude.{Contains, List, None, Option, Some, false, is_some, not, option_map, slice_get, true, ℕ, ◌%◌, ◌-◌, ◌==◌, ◌≡◌}
+use Rattle.std.specs.Prelude.{Contains, List, None, Some, false, is_some, not, option_map, slice_get, true, ℕ, ◌%◌, ◌-◌, ◌==◌, ◌≡◌}
 
 -- ---- of whom it is asked
 
@@ -40,7 +40,7 @@ pub record AnswersAreTheirs : Type 0 where
   pub member : (number : ℕ) (c : OpenCall) (a : Answer) (h : HostState) (x : Step) (k : ℕ) (m : MemberState) → Stands Wake h x → IsOpen h number c → IsAtInput h
       → slice_get h.members k ≡ Some m → c.session ≡ m.who.number
       → (d : Submitted) × Contains (submitted (seen (with_input (Told number a) x))) d × (kept_call d ≡ c)
-        × (after_answer (is_present (seen x)) number a (with_input (Told number a) x) ≡ after_answer_of m.who d c.purpose a (with_input (Told number a) x))
+      × (after_answer (is_present (seen x)) number a (with_input (Told number a) x) ≡ after_answer_of m.who d c.purpose a (with_input (Told number a) x))
   -- that of a session which is gone does nothing
   pub nobody : (number : ℕ) (c : OpenCall) (a : Answer) (h : HostState) (x : Step) → Stands Wake h x → IsOpen h number c → IsAtInput h
       → list_any (λ m. c.session == m.who.number) h.members ≡ false → after_answer (is_present (seen x)) number a (with_input (Told number a) x) ≡ with_input (Told number a) x

@@ -10,7 +10,8 @@ use Rattle.sl_leases.specs.Jobs.{aim_of, aim_of_command, child_of_job, command_n
 use Rattle.sl_leases.specs.Leases.{lease_step}
 use Rattle.sl_leases.specs.declared.lease.Aim.TheVariants.{Settles}
 use Rattle.sl_leases.specs.declared.lease.Aim.{Aim}
-use Rattle.sl_question_law.specs.Members.{IsMemberAt, is_active_in}
+use Rattle.sl_decide_law.specs.Deciding.{is_active_member}
+use Rattle.sl_question_law.specs.Members.{IsMemberAt}
 use Rattle.sl_sessions.specs.Sessions.{session_of_job}
 use Rattle.sl_trace.specs.Traces.{Job, Submitted, is_running, job_of, running_jobs, submitted, waiting_call}
 use Rattle.sl_trace.specs.declared.command.Command.{Command}
@@ -21,7 +22,7 @@ use Rattle.sl_trace.specs.declared.input.Input.{Input}
 use Rattle.sl_trace.specs.declared.reply.Reply.TheVariants.{IoTimeout}
 use Rattle.sl_words.specs.Words.{some_is}
 use Rattle.std.specs.List.{list_any}
-use Rattle.std.specs.Prelude.{Bool, Contains, List, None, Option, Some, filter, find, map, nat_le, option_and_then, option_map, slice_get, true, ℕ, ◌+◌, ◌==◌, ◌≡◌, ◌||◌}
+use Rattle.std.specs.Prelude.{Bool, Contains, Option, Some, filter, find, map, nat_le, option_and_then, option_map, true, ℕ, ◌+◌, ◌==◌, ◌≡◌, ◌||◌}
 
 -- Whether a job of this number runs.
 abbrev pub running_in : HostState → ℕ → Bool
@@ -34,7 +35,7 @@ command_in h n = option_and_then (λ j. j.command) (find (λ j. j.number == n) h
 -- Whether work on a lease goes on: its job's while that runs, a settling while the session is active.
 abbrev pub goes_on_in : HostState → MemberState → Work → Bool
 goes_on_in h m (ForJob j) = running_in h j
-goes_on_in h m Settling = is_active_in m
+goes_on_in h m Settling = is_active_member m
 
 -- To what end the work is done.
 abbrev pub aim_in : HostState → Work → Option Aim

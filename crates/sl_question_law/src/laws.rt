@@ -3,6 +3,7 @@
 ghost use Rattle.sl_question_law.specs.Answers.{AnswersAreTheirs, AnswersDecide};
 ghost use Rattle.sl_question_law.specs.Jobs.{JobsAnswer, WorkGoesOn};
 ghost use Rattle.sl_question_law.specs.Members.{MembersAnswer};
+ghost use Rattle.sl_question_law.specs.Parts.{HostsPart, MembersPart, RefusalsAreTold};
 
 /// What a step asks of a session is answered by its member.
 pub fn members_answer()
@@ -27,4 +28,19 @@ pub fn answers_are_theirs()
 /// What an answer makes due is told by what is kept.
 pub fn answers_decide()
     ensures { AnswersDecide }
+{}
+
+/// What a step does to a session before its input is told by its member.
+pub fn members_part()
+    ensures { MembersPart }
+{}
+
+/// Passes over holdings, jobs and connections are told by what is kept.
+pub fn hosts_part()
+    ensures { HostsPart }
+{}
+
+/// Whether the connection of a refused joining goes is told by what is kept.
+pub fn refusals_are_told()
+    ensures { RefusalsAreTold }
 {}
