@@ -1,0 +1,8 @@
+//! The state follows what an answer makes due.
+
+ghost use Rattle.sl_answer_law.specs.Refusing.{RefusalsFollow};
+
+/// A refused joining goes with its connection, and an overdue job is refused.
+pub fn refusals_follow()
+    ensures { RefusalsFollow }
+{}
