@@ -1,1 +1,2 @@
 pub mod RefusalsFollow
+pub mod DecisionsAreCarried

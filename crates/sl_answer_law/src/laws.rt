@@ -1,8 +1,14 @@
 //! The state follows what an answer makes due.
 
+ghost use Rattle.sl_answer_law.specs.Carrying.{DecisionsAreCarried};
 ghost use Rattle.sl_answer_law.specs.Refusing.{RefusalsFollow};
 
 /// A refused joining goes with its connection, and an overdue job is refused.
 pub fn refusals_follow()
     ensures { RefusalsFollow }
+{}
+
+/// What a session's delta lease decided is done.
+pub fn decisions_are_carried()
+    ensures { DecisionsAreCarried }
 {}
