@@ -1,7 +1,7 @@
 -- The state after what a delta lease decided stands for the step with it.
 use Rattle.sl_answer_law.proofs.RefusalsFollow.{refusals_follow}
-use Rattle.sl_answer_law.specs.Carrying.{DecisionsAreCarried, MayCall, MayCarry, MayRead, MaySurvey, MayWrite, carrying, connecting, for_job_of, own_sector, reading_own, registering, surveying, writing_own}
-use Rattle.sl_answer_law.specs.Refusing.{IsAlone, disconnecting, refusing}
+use Rattle.sl_answer_law.specs.Carrying.{DecisionsAreCarried, MayCall, MayRead, MaySurvey, MayWrite, connecting, for_job_of, own_sector, reading_own, registering, surveying, writing_own}
+use Rattle.sl_answer_law.specs.Refusing.{disconnecting, refusing}
 use Rattle.sl_area.specs.Layouts.{Layout}
 use Rattle.sl_area.specs.Places.{delta_offset}
 use Rattle.sl_call_law.proofs.CallsAreTaken.{calls_are_taken}
@@ -9,7 +9,7 @@ use Rattle.sl_call_law.specs.Calls.{CallFits}
 use Rattle.sl_due.specs.DueDelta.{carry_delta, end_leaving, move_connection, read_own_sector, register, survey, write_own_sector}
 use Rattle.sl_due.specs.DueFirst.{refuse, remove_connection}
 use Rattle.sl_due.specs.Steps.{Step, add_call_of, add_move, add_reply, seen, when, with_some}
-use Rattle.sl_host_state.specs.Kept.{Config, HostState, MemberState}
+use Rattle.sl_host_state.specs.Kept.{Config, HostState}
 use Rattle.sl_host_state.specs.Makes.{next_submitted, with_call, with_move, with_reply}
 use Rattle.sl_host_state.specs.Stands.{Stands}
 use Rattle.sl_question_law.specs.Jobs.{running_in}
@@ -19,9 +19,7 @@ use Rattle.sl_reply_law.specs.Moves.{EndsBegun}
 use Rattle.sl_reply_law.specs.Replies.{LeavesHeed, LeavesLine, MayReply}
 use Rattle.sl_sector.specs.declared.sector.DeltaRec.{DeltaRec}
 use Rattle.sl_sector.specs.declared.sector.Rec.TheVariants.{DeltaIs}
-use Rattle.sl_sessions.specs.Sessions.{is_join_done}
 use Rattle.sl_sessions.specs.declared.delta.DeltaNext.TheVariants.{Disconnect, Join, EndLeaving, MoveConnection, ReadOwn, RegisterAndRead, RefuseJoin, Nothing, WriteClaim, WriteFirst, WriteFree, WriteRenewal}
-use Rattle.sl_sessions.specs.declared.delta.DeltaNext.{DeltaNext}
 use Rattle.sl_sessions.specs.declared.session.Session.{Session}
 use Rattle.sl_time.specs.Times.{fail}
 use Rattle.sl_trace.specs.Connections.{is_registered}
@@ -38,9 +36,9 @@ use Rattle.sl_trace.specs.declared.input.Input.{Input}
 use Rattle.sl_trace.specs.declared.reply.Reply.TheVariants.{Generation}
 use Rattle.sl_trace.specs.declared.reply.Reply.{Reply}
 use Rattle.sl_words.proofs.CaseLaws.{false_is_true}
-use Rattle.std.proofs.Common.{ap, refl, subst, sym, ◌∙◌}
+use Rattle.std.proofs.Common.{ap, refl, subst, sym}
 use Rattle.std.specs.List.{list_any}
-use Rattle.std.specs.Prelude.{Bool, List, None, Option, Some, bytes_eq, cond, false, slice_get, true, ℕ, ◌+◌, ◌≡◌}
+use Rattle.std.specs.Prelude.{Bool, List, None, Option, Some, bytes_eq, cond, false, true, ℕ, ◌+◌, ◌≡◌}
 
 -- ---- calls and moves
 
@@ -50,7 +48,7 @@ called i h x s path purpose offset op stands may =
     subst (λ (z : Session). Stands i (with_call z.number path purpose offset op h) (add_call_of z.number path purpose offset op x)) may.its
     (calls_are_taken h may.place may.member path purpose offset op may.there (subst (λ (z : Session). CallFits h may.member (next_submitted h z.number path purpose offset op)) (sym may.its) may.fits) i x stands)
 
-layout_is : (i : Input) (h : HostState) (x : Step) → Stands i h x → h.config.layout ≡ x.setting.layout
+pub layout_is : (i : Input) (h : HostState) (x : Step) → Stands i h x → h.config.layout ≡ x.setting.layout
 layout_is i h x s = sym (ap (λ (c : Config). c.layout) s.keeps.config)
 
 read_own : (i : Input) (h : HostState) (x : Step) (s : Session) (purpose : Purpose) → Stands i h x → MayRead h s purpose → Stands i (reading_own s purpose h) (read_own_sector s purpose x)
@@ -103,22 +101,22 @@ ended : (i : Input) (h : HostState) (x : Step) (s : Session) (j : ℕ) (r : Repl
 ended i h x s j r stands may =
     subst (λ b. Stands i (cond (running_in h j) (with_reply j r (disconnecting s.lockspace h)) (disconnecting s.lockspace h)) (when b (add_reply j r) (remove_connection s.lockspace x))) (sym may.1)
     (by (running_in h j) refl) where
-  gone : Stands i (disconnecting s.lockspace h) (remove_connection s.lockspace x)
-  gone = refusals_follow.disconnected s.lockspace i h x stands may.0
+      gone : Stands i (disconnecting s.lockspace h) (remove_connection s.lockspace x)
+      gone = refusals_follow.disconnected s.lockspace i h x stands may.0
 
-  still_may : MayReply i h x j r → (name : List ℕ) (b : Bool) (y : Step) → y.past ≡ x.past → MayReply i (cond b (with_move (Unregister name) h) h) y j r
-  still_may k name true y same = record { runs = k.runs; heed = subst (λ past. LeavesHeed i j r past) (sym same) k.heed; line = line_moved i (Unregister name) h j k.line }
-  still_may k name false y same = record { runs = k.runs; heed = subst (λ past. LeavesHeed i j r past) (sym same) k.heed; line = k.line }
+      still_may : MayReply i h x j r → (name : List ℕ) (b : Bool) (y : Step) → y.past ≡ x.past → MayReply i (cond b (with_move (Unregister name) h) h) y j r
+      still_may k name true y same = record { runs = k.runs; heed = subst (λ past. LeavesHeed i j r past) (sym same) k.heed; line = line_moved i (Unregister name) h j k.line }
+      still_may k name false y same = record { runs = k.runs; heed = subst (λ past. LeavesHeed i j r past) (sym same) k.heed; line = k.line }
 
-  past_same : (b : Bool) (name : List ℕ) → (when b (add_move (Unregister name)) x).past ≡ x.past
-  past_same true name = refl
-  past_same false name = refl
+      past_same : (b : Bool) (name : List ℕ) → (when b (add_move (Unregister name)) x).past ≡ x.past
+      past_same true name = refl
+      past_same false name = refl
 
-  by : (b : Bool) → running_in h j ≡ b → Stands i (cond b (with_reply j r (disconnecting s.lockspace h)) (disconnecting s.lockspace h)) (when b (add_reply j r) (remove_connection s.lockspace x))
-  by true runs =
-      replies_are_taken j r i (disconnecting s.lockspace h) (remove_connection s.lockspace x) (refusals_follow.disconnected s.lockspace i h x stands may.0)
-      (still_may (may.2 runs) s.lockspace (list_any (λ n. bytes_eq n s.lockspace) h.connected) (remove_connection s.lockspace x) (past_same (is_registered x.setting (seen x) s.lockspace) s.lockspace))
-  by false runs = refusals_follow.disconnected s.lockspace i h x stands may.0
+      by : (b : Bool) → running_in h j ≡ b → Stands i (cond b (with_reply j r (disconnecting s.lockspace h)) (disconnecting s.lockspace h)) (when b (add_reply j r) (remove_connection s.lockspace x))
+      by true runs =
+          replies_are_taken j r i (disconnecting s.lockspace h) (remove_connection s.lockspace x) (refusals_follow.disconnected s.lockspace i h x stands may.0)
+          (still_may (may.2 runs) s.lockspace (list_any (λ n. bytes_eq n s.lockspace) h.connected) (remove_connection s.lockspace x) (past_same (is_registered x.setting (seen x) s.lockspace) s.lockspace))
+      by false runs = refusals_follow.disconnected s.lockspace i h x stands may.0
 
 pub decisions_are_carried : DecisionsAreCarried
 unfolding carry_delta
@@ -138,9 +136,9 @@ decisions_are_carried i h x s (WriteFirst d) stands may =
 decisions_are_carried i h x s (Join generation renewed) stands may =
     for_job i h x s (λ j g. surveying s (with_reply j (Generation generation) (connecting s renewed g))) (λ j y. survey s (add_reply j (Generation generation) (move_connection s renewed y))) stands
     (λ j is. let k = may j is in
-      surveyed i (with_reply j (Generation generation) (connecting s renewed h)) (add_reply j (Generation generation) (move_connection s renewed x)) s
-      (replies_are_taken j (Generation generation) i (connecting s renewed h) (move_connection s renewed x) (connected i h x s renewed stands)
-        (record { runs = k.0.runs; heed = k.0.heed; line = line_moved i (Renew s.lockspace (renewed + fail h.config.timing)) h j k.0.line })) k.1)
+    surveyed i (with_reply j (Generation generation) (connecting s renewed h)) (add_reply j (Generation generation) (move_connection s renewed x)) s
+    (replies_are_taken j (Generation generation) i (connecting s renewed h) (move_connection s renewed x) (connected i h x s renewed stands)
+    (record { runs = k.0.runs; heed = k.0.heed; line = line_moved i (Renew s.lockspace (renewed + fail h.config.timing)) h j k.0.line })) k.1)
 decisions_are_carried i h x s (MoveConnection renewed) stands may = surveyed i (connecting s renewed h) (move_connection s renewed x) s (connected i h x s renewed stands) may
 decisions_are_carried i h x s (WriteRenewal d) stands may = write_own i h x s Renewal d stands may
 decisions_are_carried i h x s (WriteFree j d) stands may = write_own i h x s (Leaving j) d stands may

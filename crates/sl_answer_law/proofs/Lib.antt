@@ -1,2 +1,3 @@
 pub mod RefusalsFollow
 pub mod DecisionsAreCarried
+pub mod LeasesAreCarried

@@ -26,7 +26,7 @@ use Rattle.sl_trace.specs.declared.effects.Purpose.TheVariants.{Joining, Leaving
 use Rattle.sl_trace.specs.declared.effects.Purpose.{Purpose}
 use Rattle.sl_trace.specs.declared.input.Input.{Input}
 use Rattle.sl_trace.specs.declared.reply.Reply.TheVariants.{Generation}
-use Rattle.std.specs.Prelude.{List, None, Option, Some, cond, false, slice_get, true, ℕ, ◌+◌, ◌≡◌}
+use Rattle.std.specs.Prelude.{List, None, Some, cond, false, slice_get, true, ℕ, ◌+◌, ◌≡◌}
 
 -- ---- calls and moves of a session
 

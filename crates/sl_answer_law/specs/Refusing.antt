@@ -16,7 +16,7 @@ use Rattle.sl_trace.specs.declared.input.Input.{Input}
 use Rattle.sl_trace.specs.declared.reply.Reply.TheVariants.{IoTimeout}
 use Rattle.sl_trace.specs.declared.reply.Reply.{Reply}
 use Rattle.std.specs.List.{list_any}
-use Rattle.std.specs.Prelude.{List, None, Option, Some, bytes_eq, cond, false, not, slice_get, ℕ, ◌≡◌}
+use Rattle.std.specs.Prelude.{List, None, Some, bytes_eq, cond, false, not, slice_get, ℕ, ◌≡◌}
 
 -- A connection that stands is removed.
 abbrev pub disconnecting : List ℕ → HostState → HostState
