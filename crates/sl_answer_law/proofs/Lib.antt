@@ -1,3 +1,4 @@
 pub mod RefusalsFollow
 pub mod DecisionsAreCarried
 pub mod LeasesAreCarried
+pub mod AnswersSetFree
