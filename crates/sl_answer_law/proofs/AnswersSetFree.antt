@@ -18,14 +18,12 @@ use Rattle.sl_reply_law.proofs.Answers.AnswerFindsItsCall.{in_reversed}
 use Rattle.sl_reply_law.proofs.Answers.JobsHearAnswer.{IsOneOrNone, one_of_job}
 use Rattle.sl_reply_law.proofs.PlainNumbers.{same_number}
 use Rattle.sl_sessions.specs.Sessions.{calls_of, is_call_of, is_delta_purpose}
-use Rattle.sl_trace.specs.Traces.{Answered, Job, Setting, Submitted, Trace, is_of_job, job_of, outstanding, running_jobs, submitted}
+use Rattle.sl_trace.specs.Traces.{Setting, Submitted, Trace, is_of_job, outstanding, running_jobs, submitted}
 use Rattle.sl_trace.specs.declared.input.Answer.{Answer}
 use Rattle.sl_words.proofs.CaseLaws.{is_false, not_both, true_is_false}
-use Rattle.sl_words.specs.Words.{some_is}
 use Rattle.std.proofs.Common.{ap, inl, inr, refl, subst, sym, ◌∙◌}
 use Rattle.std.proofs.lemmas.List.{reverse-reverse}
-use Rattle.std.specs.List.{AllByRecursion, list_any}
-use Rattle.std.specs.Prelude.{Bool, Contains, IsTrue, List, None, Option, Some, cond, false, filter, find, is_none, is_some, map, not, option_map, reverse, slice_get, true, [], ℕ, ◌&&◌, ◌==◌, ◌∷◌, ◌≡◌, ◌⊎◌}
+use Rattle.std.specs.Prelude.{Bool, Contains, IsTrue, List, None, Option, Some, cond, false, filter, find, is_none, is_some, map, not, reverse, slice_get, true, [], ℕ, ◌&&◌, ◌==◌, ◌∷◌, ◌≡◌, ◌⊎◌}
 
 in_again : {A : Type 0} (xs : List A) (d : A) → Contains (reverse xs) d → Contains xs d
 in_again xs d there = subst (λ ys. Contains ys d) (reverse-reverse xs) (in_reversed (reverse xs) d there)
@@ -72,22 +70,28 @@ module _ (number : ℕ) (c : OpenCall) (a : Answer) (h : HostState) (x : Step) (
       → (d : Submitted) × Contains (filter (λ z. is_delta_purpose z.call.purpose) (calls_of (seen x) m.who)) d × (d.answer ≡ None) × (kept_call d ≡ e)
   delta_of e there own delta =
       let d = of_trace h x.setting (seen x) e keeps there in
-      let inside = kept_inside (λ (z : Submitted). is_none z.answer) (submitted (seen x)) d.0 d.1 in
-      (d.0,
-      kept (λ (z : Submitted). is_delta_purpose z.call.purpose) (calls_of (seen x) m.who) d.0 (ap (λ (z : OpenCall). is_delta_purpose z.purpose) d.2 ∙ delta)
-      (kept (is_call_of m.who) (submitted (seen x)) d.0 (ap (λ (z : OpenCall). z.session == m.who.number) d.2 ∙ own) inside.0), none_is d.0.answer inside.1, d.2)
+      let inside = kept_inside (λ (z : Submitted). is_none z.answer) (submitted (seen x)) d.0 d.1 in (
+        d.0,
+        kept (λ (z : Submitted). is_delta_purpose z.call.purpose) (calls_of (seen x) m.who) d.0 (ap (λ (z : OpenCall). is_delta_purpose z.purpose) d.2 ∙ delta)
+            (kept (is_call_of m.who) (submitted (seen x)) d.0 (ap (λ (z : OpenCall). z.session == m.who.number) d.2 ∙ own) inside.0),
+        none_is d.0.answer inside.1,
+        d.2,
+      )
 
   idle : is_delta_purpose c.purpose ≡ true → still_busy number h m ≡ false
   idle delta = is_false (still_busy number h m) (λ busy. none (any_found (λ (e : OpenCall). e.session == m.who.number && is_delta_purpose e.purpose) (others number h) busy)) where
     left : (p q : Bool) → (p && q) ≡ true → p ≡ true
     left true q is = refl
     left false q is = is
+
     right : (p q : Bool) → (p && q) ≡ true → q ≡ true
     right true q is = is
     right false q is = absurd (true_is_false (sym is))
+
     not_it : (b : Bool) → not b ≡ true → b ≡ false
     not_it false is = refl
     not_it true is = absurd (true_is_false (sym is))
+
     none : (e : OpenCall) × Contains (others number h) e × ((e.session == m.who.number && is_delta_purpose e.purpose) ≡ true) → ⊥
     none e =
         let inside = kept_inside (λ (z : OpenCall). not (z.number == number)) h.unanswered e.0 e.1 in
@@ -133,9 +137,9 @@ module _ (number : ℕ) (c : OpenCall) (a : Answer) (h : HostState) (x : Step) (
       let z = any_found (λ (y : JobState). y.number == j) h.jobs runs in
       subst (λ (g : HostState). is_idle_job g j ≡ true) heard_as
       (any_of (λ (y : JobState). y.number == j && is_none y.waits) (map (job_hearing c.number) h.jobs) (job_hearing c.number z.0)
-        (ap (λ n. n == j && is_none (job_hearing c.number z.0).waits) (number_stays z.0) ∙ ap (λ b. b && is_none (job_hearing c.number z.0).waits) z.2
-        ∙ ap is_none (waits_none j of_c z.0 z.1 z.2))
-        (contains_map (job_hearing c.number) h.jobs z.0 z.1))
+      (ap (λ n. n == j && is_none (job_hearing c.number z.0).waits) (number_stays z.0) ∙ ap (λ b. b && is_none (job_hearing c.number z.0).waits) z.2
+      ∙ ap is_none (waits_none j of_c z.0 z.1 z.2))
+      (contains_map (job_hearing c.number) h.jobs z.0 z.1))
 
   -- ---- its member
 
@@ -143,7 +147,7 @@ module _ (number : ℕ) (c : OpenCall) (a : Answer) (h : HostState) (x : Step) (
   member not_refused =
       let f : MemberState → MemberState = λ z. cond (c.session == z.who.number) (member_hearing h c a z) z in
       let mapped : Contains (map f h.members) (member_hearing h c a m) =
-          subst (Contains (map f h.members)) (ap (λ b. cond b (member_hearing h c a m) m) to.its) (contains_map f h.members m (got_inside h.members k m to.there)) in
+      subst (Contains (map f h.members)) (ap (λ b. cond b (member_hearing h c a m) m) to.its) (contains_map f h.members m (got_inside h.members k m to.there)) in
       let stays : not (is_over_with c.number h (member_hearing h c a m)) ≡ true = ap (λ b. not (b && not (has_write_open (record h { unanswered = others c.number h }) m.who.number))) not_refused in
       let at = at_some (hearing c a h).members (member_hearing h c a m) (kept (λ (z : MemberState). not (is_over_with c.number h z)) (map f h.members) (member_hearing h c a m) stays mapped) in
       (at.0, ap (λ (g : HostState). slice_get g.members at.0) (sym heard_as) ∙ at.1)

@@ -2,3 +2,4 @@ pub mod RefusalsFollow
 pub mod DecisionsAreCarried
 pub mod LeasesAreCarried
 pub mod AnswersSetFree
+pub mod AnswersFollow

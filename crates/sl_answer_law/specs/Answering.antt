@@ -15,7 +15,6 @@ use Rattle.sl_sessions.specs.Deltas.{next_after_free, next_after_renewal}
 use Rattle.sl_sessions.specs.Sessions.{is_delta_purpose, is_present}
 use Rattle.sl_trace.specs.declared.effects.Move.TheVariants.{Unregister}
 use Rattle.sl_trace.specs.declared.effects.Purpose.TheVariants.{Leaving, Renewal}
-use Rattle.sl_trace.specs.declared.effects.Purpose.{Purpose}
 use Rattle.sl_trace.specs.declared.input.Answer.{Answer}
 use Rattle.sl_trace.specs.declared.input.Input.TheVariants.{Answer as Told, Wake}
 use Rattle.std.specs.Prelude.{Some, false, is_some, slice_get, true, ℕ, ◌==◌, ◌≡◌}
@@ -44,7 +43,7 @@ pub record AnswersSetFree : Type 0 where
 pub record AnswersFollow : Type 0 where
   pub renewal : (number : ℕ) (c : OpenCall) (a : Answer) (h : HostState) (x : Step) (k : ℕ) (m : MemberState) → IsAnswerTo number c a h x k m → c.purpose ≡ Renewal → m.refused ≡ false
       → Stands (Told number a) (carrying m.who (next_after_renewal (is_some (renewing_hearing h c a m).recovery) c.reading a) (heard_answer number a h))
-        (after_answer (is_present (seen x)) number a (with_input (Told number a) x))
+      (after_answer (is_present (seen x)) number a (with_input (Told number a) x))
   pub free : (number : ℕ) (c : OpenCall) (a : Answer) (h : HostState) (x : Step) (k : ℕ) (m : MemberState) (j : ℕ) → IsAnswerTo number c a h x k m → c.purpose ≡ Leaving j → m.refused ≡ false
       → EndsBegun (Unregister m.who.lockspace) (heard_answer number a h)
       → Stands (Told number a) (carrying m.who (next_after_free j c.number a) (heard_answer number a h)) (after_answer (is_present (seen x)) number a (with_input (Told number a) x))
