@@ -1,3 +1,4 @@
 pub mod SignalsAreTaken
 pub mod RefusalsAreTaken
 pub mod ExitsAreTaken
+pub mod MembersWake

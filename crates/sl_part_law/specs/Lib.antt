@@ -1,3 +1,4 @@
 pub mod Signals
 pub mod Refusals
 pub mod Exits
+pub mod Wakes

@@ -3,6 +3,7 @@
 ghost use Rattle.sl_part_law.specs.Exits.{ExitsAreTaken};
 ghost use Rattle.sl_part_law.specs.Refusals.{RefusalsAreTaken};
 ghost use Rattle.sl_part_law.specs.Signals.{SignalsAreTaken};
+ghost use Rattle.sl_part_law.specs.Wakes.{MembersWake};
 
 /// A process is told to stop, or sent a signal, and so is each holder of a member.
 pub fn signals_are_taken()
@@ -17,4 +18,9 @@ pub fn refusals_are_taken()
 /// What a process held ends or is left, and its jobs are refused.
 pub fn exits_are_taken()
     ensures { ExitsAreTaken }
+{}
+
+/// What a wake and a step's end make due is told by what is kept of a member.
+pub fn members_wake()
+    ensures { MembersWake }
 {}
