@@ -2,3 +2,4 @@ pub mod SignalsAreTaken
 pub mod RefusalsAreTaken
 pub mod ExitsAreTaken
 pub mod MembersWake
+pub mod EndsAreTaken

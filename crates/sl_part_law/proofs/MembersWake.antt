@@ -1,6 +1,6 @@
 -- Parts of a wake and of a step's end, by what is kept of a member.
 use Rattle.sl_decide_law.specs.Deciding.{held_of, is_active_member, is_open_on}
-use Rattle.sl_due.specs.DueDelta.{carry_delta, for_joining}
+use Rattle.sl_due.specs.DueDelta.{carry_delta}
 use Rattle.sl_due.specs.DueFirst.{remove_connection}
 use Rattle.sl_due.specs.DueLease.{carry_lease, settle}
 use Rattle.sl_due.specs.DueRequests.{bits_due}
@@ -13,12 +13,10 @@ use Rattle.sl_host_plain.proofs.PlainLists.{all_as, all_both, any_mapped, each_o
 use Rattle.sl_host_state.specs.Hears.{setting_of}
 use Rattle.sl_host_state.specs.Kept.{Config, HostState, MemberState}
 use Rattle.sl_host_state.specs.Makes.{has_write_open}
-use Rattle.sl_host_state.specs.Stands.{Keeps, MemberStands, Stands, bits_of, config_of, is_joining, kept_call, newest_of}
-use Rattle.sl_host_state.specs.declared.kept.JoinCall.{JoinCall}
-use Rattle.sl_host_state.specs.declared.kept.OpenCall.{OpenCall}
+use Rattle.sl_host_state.specs.Stands.{Keeps, MemberStands, bits_of, is_joining, kept_call, newest_of}
 use Rattle.sl_leases.specs.LeaseWork.{lease_place, settle_next}
-use Rattle.sl_leases.specs.Leases.{LeaseKnown, is_on, known, lease_spots, open_on}
-use Rattle.sl_part_law.specs.Wakes.{MemberWakes, MembersWake, bits_in, delta_in, is_free_at, next_by_newest}
+use Rattle.sl_leases.specs.Leases.{is_on, known, lease_spots, open_on}
+use Rattle.sl_part_law.specs.Wakes.{MembersWake, bits_in, delta_in, is_free_at, next_by_newest}
 use Rattle.sl_plain.proofs.Lists.{any_found, any_of, contains_first, kept, kept_inside}
 use Rattle.sl_plain.proofs.Options.{none_is}
 use Rattle.sl_question_law.proofs.MembersAnswer.{members_answer}
@@ -26,8 +24,7 @@ use Rattle.sl_question_law.specs.Answers.{known_in, place_in}
 use Rattle.sl_question_law.specs.Jobs.{running_in}
 use Rattle.sl_question_law.specs.Members.{IsMemberAt, MemberAnswers, has_call_open}
 use Rattle.sl_sessions.specs.Deltas.{DeltaLease, delta_known, delta_of_session, join_step_of, next_by_time, next_free, next_on_wake, next_renewal}
-use Rattle.sl_sessions.specs.Sessions.{added, added_by, begun_in, calls_of, given_session, has_open_write, holdings_of, is_active, is_join_call, is_join_done, is_joined, joined_after, joining_session, open_calls_of, recovery_of, refused_after, removed_after, sessions}
-use Rattle.sl_sessions.specs.declared.delta.DeltaKnown.{DeltaKnown}
+use Rattle.sl_sessions.specs.Sessions.{added, begun_in, calls_of, given_session, has_open_write, is_join_call, is_join_done, joining_session, open_calls_of, recovery_of, removed_after, sessions}
 use Rattle.sl_sessions.specs.declared.delta.DeltaNext.TheVariants.{Nothing}
 use Rattle.sl_sessions.specs.declared.delta.DeltaNext.{DeltaNext}
 use Rattle.sl_sessions.specs.declared.session.Begun.{Begun}
@@ -35,19 +32,18 @@ use Rattle.sl_sessions.specs.declared.session.Session.{Session}
 use Rattle.sl_trace.specs.Traces.{Answered, Job, Replied, Setting, Submitted, Trace, is_running, job_in, jobs, line_in, next_job, outstanding, reply_to, running_jobs}
 use Rattle.sl_trace.specs.declared.command.LockspaceArg.{LockspaceArg}
 use Rattle.sl_trace.specs.declared.effects.Entry.{Entry}
-use Rattle.sl_trace.specs.declared.effects.Grant.{Grant}
 use Rattle.sl_trace.specs.declared.effects.JoinStep.TheVariants.{FirstRead}
 use Rattle.sl_trace.specs.declared.effects.JoinStep.{JoinStep}
 use Rattle.sl_trace.specs.declared.effects.Spot.{Spot}
 use Rattle.sl_trace.specs.declared.effects.Work.TheVariants.{Settling}
 use Rattle.sl_trace.specs.declared.input.Given.{Given}
 use Rattle.sl_trace.specs.declared.input.Input.{Input}
-use Rattle.sl_words.proofs.CaseLaws.{false_is_true, is_false, none_some, some_value, true_is_false}
+use Rattle.sl_words.proofs.CaseLaws.{is_false, none_some, some_value, true_is_false}
 use Rattle.sl_words.specs.Words.{choose, is_empty}
 use Rattle.std.proofs.Common.{ap, refl, subst, sym, ◌∙◌}
 use Rattle.std.proofs.lemmas.Bool.Decides.{Decides-eqb}
 use Rattle.std.specs.List.{AllByRecursion, enumerate_from, list_any}
-use Rattle.std.specs.Prelude.{Bool, Contains, List, None, Option, Some, cond, false, filter, is_none, is_some, length, map, not, option_and_then, option_map, slice_get, true, [], ℕ, ◌&&◌, ◌++◌, ◌+◌, ◌==◌, ◌||◌, ◌∷◌, ◌≡◌}
+use Rattle.std.specs.Prelude.{Bool, Contains, List, None, Option, Some, cond, false, filter, is_none, is_some, length, map, not, option_and_then, option_map, slice_get, true, [], ℕ, ◌&&◌, ◌+◌, ◌==◌, ◌||◌, ◌∷◌, ◌≡◌}
 
 -- ---- the job of a session is one of the trace's
 
@@ -110,9 +106,9 @@ still_joining : (st : Setting) (es : Trace) (m : MemberState) (n : ℕ) → Memb
 still_joining st es m n s is runs =
     ap (λ b. not b && not m.refused) (sym s.joined ∙ ap (λ o. is_some o && is_none (removed_after es m.who)) (mark (λ r. choose (is_join_done r.reply) (r.at + 1)) (Some 0) m.who.job is))
     ∙ ap not (sym s.refused ∙ ap (λ o. is_some o) (mark (λ r. choose (not (is_join_done r.reply)) (r.at + 1)) None m.who.job is)) where
-  mark : (f : Replied → Option ℕ) (given : Option ℕ) (o : Option ℕ) → o ≡ Some n → elim o as (λ z. Option ℕ) [ None ↦ given | Some j ↦ option_and_then f (reply_to es j) ] ≡ None
-  mark f given None at = absurd (none_some n at)
-  mark f given (Some j) at = ap (λ z. option_and_then f (reply_to es z)) (some_value j n at) ∙ ap (option_and_then f) (none_is (reply_to es n) runs)
+      mark : (f : Replied → Option ℕ) (given : Option ℕ) (o : Option ℕ) → o ≡ Some n → elim o as (λ z. Option ℕ) [ None ↦ given | Some j ↦ option_and_then f (reply_to es j) ] ≡ None
+      mark f given None at = absurd (none_some n at)
+      mark f given (Some j) at = ap (λ z. option_and_then f (reply_to es z)) (some_value j n at) ∙ ap (option_and_then f) (none_is (reply_to es n) runs)
 
 by_newest : (l : DeltaLease) (now : ℕ) (ms : List Submitted) → next_on_wake l now ms ≡ next_by_newest l now (newest_of ms)
 unfolding next_on_wake
@@ -227,11 +223,11 @@ module _ (i : Input) (h : HostState) (x : Step) (k : ℕ) (m : MemberState) (at 
   finish =
       ap (λ b. when b (λ y. elim (is_some (recovery_of y.setting (seen y) m.who)) as (λ z. Step) [ true ↦ end_if_done m.who y | false ↦ free_if_done m.who y ]) x) says.joined
       ∙ by m.joined where
-    by : (b : Bool)
-        → when b (λ y. elim (is_some (recovery_of y.setting (seen y) m.who)) as (λ z. Step) [ true ↦ end_if_done m.who y | false ↦ free_if_done m.who y ]) x
-        ≡ when b (λ y. elim (is_some m.renewing.recovery) as (λ z. Step) [ true ↦ end_if_done m.who y | false ↦ free_if_done m.who y ]) x
-    by false = refl
-    by true = ap (λ (o : Option Begun). elim (is_some o) as (λ z. Step) [ true ↦ end_if_done m.who x | false ↦ free_if_done m.who x ]) says.recovery
+        by : (b : Bool)
+            → when b (λ y. elim (is_some (recovery_of y.setting (seen y) m.who)) as (λ z. Step) [ true ↦ end_if_done m.who y | false ↦ free_if_done m.who y ]) x
+            ≡ when b (λ y. elim (is_some m.renewing.recovery) as (λ z. Step) [ true ↦ end_if_done m.who y | false ↦ free_if_done m.who y ]) x
+        by false = refl
+        by true = ap (λ (o : Option Begun). elim (is_some o) as (λ z. Step) [ true ↦ end_if_done m.who x | false ↦ free_if_done m.who x ]) says.recovery
 
 pub members_wake : MembersWake
 members_wake i h x k m at =

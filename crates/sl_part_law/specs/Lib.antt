@@ -2,3 +2,4 @@ pub mod Signals
 pub mod Refusals
 pub mod Exits
 pub mod Wakes
+pub mod Ends

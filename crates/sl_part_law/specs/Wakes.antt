@@ -3,12 +3,12 @@ use Rattle.sl_due.specs.DueDelta.{carry_delta}
 use Rattle.sl_due.specs.DueFirst.{remove_connection}
 use Rattle.sl_due.specs.DueLease.{carry_lease}
 use Rattle.sl_due.specs.DueWake.{end_if_done, finish_session, free_if_done, join_on_wake, renew_on_wake, settle_on_wake, settlings}
-use Rattle.sl_due.specs.Steps.{Step, for_each, seen, when, with_some}
+use Rattle.sl_due.specs.Steps.{Step, for_each, when, with_some}
 use Rattle.sl_decide_law.specs.Deciding.{held_of, is_active_member, is_open_on}
 use Rattle.sl_host_state.specs.Hears.{setting_of}
 use Rattle.sl_host_state.specs.Kept.{HostState, MemberState}
 use Rattle.sl_host_state.specs.Makes.{has_write_open}
-use Rattle.sl_host_state.specs.Stands.{Stands, bits_of}
+use Rattle.sl_host_state.specs.Stands.{bits_of}
 use Rattle.sl_host_state.specs.declared.kept.JoinCall.{JoinCall}
 use Rattle.sl_leases.specs.LeaseWork.{settle_next}
 use Rattle.sl_question_law.specs.Answers.{known_in, place_in}
@@ -22,7 +22,7 @@ use Rattle.sl_trace.specs.declared.effects.Work.TheVariants.{Settling}
 use Rattle.sl_trace.specs.declared.input.Input.{Input}
 use Rattle.sl_words.specs.Words.{is_empty}
 use Rattle.std.specs.List.{list_any}
-use Rattle.std.specs.Prelude.{Bool, List, None, Option, Some, false, is_some, map, not, slice_get, true, ℕ, ◌&&◌, ◌≡◌}
+use Rattle.std.specs.Prelude.{Bool, List, None, Option, Some, false, is_some, map, not, true, ℕ, ◌&&◌, ◌≡◌}
 
 -- The delta lease of a member.
 abbrev pub delta_in : HostState → MemberState → DeltaLease

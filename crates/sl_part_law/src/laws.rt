@@ -1,5 +1,6 @@
 //! Parts of a step are taken.
 
+ghost use Rattle.sl_part_law.specs.Ends.{EndsAreTaken};
 ghost use Rattle.sl_part_law.specs.Exits.{ExitsAreTaken};
 ghost use Rattle.sl_part_law.specs.Refusals.{RefusalsAreTaken};
 ghost use Rattle.sl_part_law.specs.Signals.{SignalsAreTaken};
@@ -23,4 +24,9 @@ pub fn exits_are_taken()
 /// What a wake and a step's end make due is told by what is kept of a member.
 pub fn members_wake()
     ensures { MembersWake }
+{}
+
+/// Renewals on a wake, and what comes last of a member, are taken.
+pub fn ends_are_taken()
+    ensures { EndsAreTaken }
 {}
