@@ -3,3 +3,5 @@ pub mod RefusalsAreTaken
 pub mod ExitsAreTaken
 pub mod MembersWake
 pub mod EndsAreTaken
+pub mod RecoveriesAreTaken
+pub mod GoneDoNothing

@@ -3,3 +3,4 @@ pub mod Refusals
 pub mod Exits
 pub mod Wakes
 pub mod Ends
+pub mod Recoveries

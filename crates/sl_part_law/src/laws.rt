@@ -2,6 +2,7 @@
 
 ghost use Rattle.sl_part_law.specs.Ends.{EndsAreTaken};
 ghost use Rattle.sl_part_law.specs.Exits.{ExitsAreTaken};
+ghost use Rattle.sl_part_law.specs.Recoveries.{GoneDoNothing, RecoveriesAreTaken};
 ghost use Rattle.sl_part_law.specs.Refusals.{RefusalsAreTaken};
 ghost use Rattle.sl_part_law.specs.Signals.{SignalsAreTaken};
 ghost use Rattle.sl_part_law.specs.Wakes.{MembersWake};
@@ -29,4 +30,14 @@ pub fn members_wake()
 /// Renewals on a wake, and what comes last of a member, are taken.
 pub fn ends_are_taken()
     ensures { EndsAreTaken }
+{}
+
+/// Recoveries and kills before the input are taken.
+pub fn recoveries_are_taken()
+    ensures { RecoveriesAreTaken }
+{}
+
+/// A session that is gone does nothing in any pass.
+pub fn gone_do_nothing()
+    ensures { GoneDoNothing }
 {}
