@@ -8,14 +8,13 @@ use Rattle.sl_due.specs.DueWake.{end_if_done, finish_session, free_if_done, join
 use Rattle.sl_due.specs.Steps.{Step, for_each, seen, when, with_some}
 use Rattle.sl_host_plain.proofs.PlainOrders.{inside_ordered}
 use Rattle.sl_host_state.specs.Kept.{HostState, MemberState}
-use Rattle.sl_host_state.specs.Stands.{Stands}
 use Rattle.sl_leases.specs.Leases.{lease_spots}
 use Rattle.sl_part_law.specs.Recoveries.{GoneDoNothing, IsGone}
 use Rattle.sl_plain.proofs.Lists.{any_of, got_inside, in_map, kept}
 use Rattle.sl_question_law.proofs.OneJoining.{joining_present}
 use Rattle.sl_reply_law.proofs.NotJoinedNotBegun.{not_before}
 use Rattle.sl_sessions.specs.Deltas.{delta_known, delta_of_session, next_on_wake, next_renewal}
-use Rattle.sl_sessions.specs.Sessions.{calls_of, is_joined, is_present, joined_after, leaving_job, leaving_of, present_sessions, recovers, recovery_of, removed_after, renewed_by, renewing, renewing_after, sessions, shows_other}
+use Rattle.sl_sessions.specs.Sessions.{calls_of, is_joined, is_present, joined_after, leaving_job, leaving_of, present_sessions, recovers, recovery_of, removed_after, renewed_by, renewing, sessions, shows_other}
 use Rattle.sl_sessions.specs.declared.session.Begun.{Begun}
 use Rattle.sl_sessions.specs.declared.session.Renewing.{Renewing}
 use Rattle.sl_sessions.specs.declared.session.Session.{Session}
@@ -26,14 +25,14 @@ use Rattle.sl_trace.specs.declared.effects.Effects.{Effects}
 use Rattle.sl_trace.specs.declared.effects.Entry.{Entry}
 use Rattle.sl_trace.specs.declared.effects.Signal.TheVariants.{Kill}
 use Rattle.sl_trace.specs.declared.input.Input.{Input}
-use Rattle.sl_words.proofs.CaseLaws.{false_is_true, is_false, none_some, true_is_false}
+use Rattle.sl_words.proofs.CaseLaws.{false_is_true, is_false, true_is_false}
 use Rattle.sl_words.proofs.WordLaws.{and_true}
 use Rattle.sl_words.specs.Orders.{is_text_before}
-use Rattle.sl_words.specs.Words.{choose, some_is}
+use Rattle.sl_words.specs.Words.{choose}
 use Rattle.std.proofs.Common.{ap, refl, subst, sym, ◌∙◌}
 use Rattle.std.proofs.lemmas.Bool.Decides.{Decides-eqb}
 use Rattle.std.specs.List.{list_any}
-use Rattle.std.specs.Prelude.{Bool, Contains, List, None, Option, Some, false, filter, is_none, is_some, length, nat_le, true, unwrap_or, [], ℕ, ◌&&◌, ◌+◌, ◌==◌, ◌∷◌, ◌≡◌, ◌||◌}
+use Rattle.std.specs.Prelude.{Bool, Contains, None, Option, Some, false, filter, is_none, is_some, length, nat_le, true, unwrap_or, [], ℕ, ◌&&◌, ◌+◌, ◌==◌, ◌∷◌, ◌≡◌, ◌||◌}
 
 -- ---- not present, not joined
 
@@ -92,18 +91,18 @@ joined_still : (e : Entry) (past : Trace) (s : Session) → e.effects.moves ≡ 
 joined_still e past s none is =
     let both = and_true (is_some (joined_after past s)) (is_none (removed_after past s)) is in
     ap (λ b. b && is_none (removed_after (e ∷ past) s)) (joined (joined_after (e ∷ past) s) refl both.0) ∙ ap (λ o. is_none o) (removed (removed_after past s) both.1) where
-  joined : (o : Option ℕ) → joined_after (e ∷ past) s ≡ o → is_some (joined_after past s) ≡ true → is_some (joined_after (e ∷ past) s) ≡ true
-  joined None at was = absurd (true_is_false (sym was ∙ ap (λ o. is_some o) (not_before e past s at)))
-  joined (Some k) at was = ap (λ o. is_some o) at
+      joined : (o : Option ℕ) → joined_after (e ∷ past) s ≡ o → is_some (joined_after past s) ≡ true → is_some (joined_after (e ∷ past) s) ≡ true
+      joined None at was = absurd (true_is_false (sym was ∙ ap (λ o. is_some o) (not_before e past s at)))
+      joined (Some k) at was = ap (λ o. is_some o) at
 
-  removed : (o : Option ℕ) → is_none o ≡ true
-      → elim o as (λ z. Option ℕ) [ Some k ↦ Some k | None ↦ choose (is_some (joined_after past s) && list_any (unregisters s.lockspace) e.effects.moves) (length past + 1) ] ≡ None
-  removed (Some k) no_it = absurd (false_is_true no_it)
-  removed None no_it =
-      ap (λ ms. choose (is_some (joined_after past s) && list_any (unregisters s.lockspace) ms) (length past + 1)) none ∙ never (is_some (joined_after past s)) where
-    never : (b : Bool) → choose (b && false) (length past + 1) ≡ None
-    never true = refl
-    never false = refl
+      removed : (o : Option ℕ) → is_none o ≡ true
+          → elim o as (λ z. Option ℕ) [ Some k ↦ Some k | None ↦ choose (is_some (joined_after past s) && list_any (unregisters s.lockspace) e.effects.moves) (length past + 1) ] ≡ None
+      removed (Some k) no_it = absurd (false_is_true no_it)
+      removed None no_it =
+          ap (λ ms. choose (is_some (joined_after past s) && list_any (unregisters s.lockspace) ms) (length past + 1)) none ∙ never (is_some (joined_after past s)) where
+            never : (b : Bool) → choose (b && false) (length past + 1) ≡ None
+            never true = refl
+            never false = refl
 
 not_begun : (st : Setting) (e : Entry) (past : Trace) (s : Session) → is_joined past s ≡ false → begins_now (e ∷ past) (recovery_of st (e ∷ past) s) ≡ false
 not_begun st e past s is =
@@ -118,13 +117,13 @@ not_begun st e past s is =
       ]
     ]).recovery) is
     ∙ by (renewing st past s).recovery refl where
-  by : (o : Option Begun) → (renewing st past s).recovery ≡ o
-      → begins_now (e ∷ past) (elim o as (λ z. Renewing) [
-        | Some z ↦ renewing st past s
-        | None ↦ (let r : Renewing = renewing st past s in record r { last = unwrap_or (renewed_by past s e.input) r.last })
-      ]).recovery ≡ false
-  by None was = ap (begins_now (e ∷ past)) was
-  by (Some b) was = ap (begins_now (e ∷ past)) was ∙ not_now (length past) b.at (began_before st past s b was)
+      by : (o : Option Begun) → (renewing st past s).recovery ≡ o
+          → begins_now (e ∷ past) (elim o as (λ z. Renewing) [
+            | Some z ↦ renewing st past s
+            | None ↦ (let r : Renewing = renewing st past s in record r { last = unwrap_or (renewed_by past s e.input) r.last })
+          ]).recovery ≡ false
+      by None was = ap (begins_now (e ∷ past)) was
+      by (Some b) was = ap (begins_now (e ∷ past)) was ∙ not_now (length past) b.at (began_before st past s b was)
 
 begins : (i : Input) (h : HostState) (x : Step) (s : Session) → IsGone i h x s → h.made.moves ≡ [] → begin_recovery s x ≡ x
 unfolding begin_recovery

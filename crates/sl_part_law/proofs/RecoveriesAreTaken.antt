@@ -1,6 +1,6 @@
 -- Recoveries and kills before the input are taken.
 use Rattle.sl_due.specs.DueFirst.{begin_recovery, kill_holders, kills, signal_and_refuse, signal_holders}
-use Rattle.sl_due.specs.Steps.{Step, for_each, seen, when}
+use Rattle.sl_due.specs.Steps.{Step, for_each, when}
 use Rattle.sl_host_plain.proofs.PlainLists.{at_some}
 use Rattle.sl_host_state.specs.Asks.{begins_in, is_kill_due_in}
 use Rattle.sl_host_state.specs.Kept.{HostState, MemberState}
@@ -13,12 +13,11 @@ use Rattle.sl_part_law.specs.Signals.{over, signalling}
 use Rattle.sl_plain.proofs.Lists.{contains_first, contains_more}
 use Rattle.sl_question_law.proofs.PartsAreTold.{members_part}
 use Rattle.sl_question_law.specs.Members.{IsMemberAt}
-use Rattle.sl_sessions.specs.declared.session.Session.{Session}
 use Rattle.sl_trace.specs.declared.effects.Signal.TheVariants.{Kill}
 use Rattle.sl_trace.specs.declared.input.Input.TheVariants.{Wake}
 use Rattle.sl_trace.specs.declared.input.Input.{Input}
-use Rattle.std.proofs.Common.{ap, refl, subst, sym, ◌∙◌}
-use Rattle.std.specs.Prelude.{Bool, Contains, List, None, cond, false, fold, map, true, [], ℕ, ◌&&◌, ◌∷◌, ◌≡◌, ◌||◌}
+use Rattle.std.proofs.Common.{refl, subst, sym}
+use Rattle.std.specs.Prelude.{Bool, Contains, List, None, cond, false, map, true, [], ℕ, ◌&&◌, ◌∷◌, ◌≡◌, ◌||◌}
 
 begins : (h : HostState) (x : Step) (k : ℕ) (m : MemberState) → IsMemberAt Wake h x k m → Stands Wake (recovering_in m h) (begin_recovery m.who x)
 begins h x k m at = subst (λ y. Stands Wake (recovering_in m h) y) (sym (members_part Wake h x k m at).recovery) (by (begins_in h m.renewing.recovery)) where
@@ -29,9 +28,9 @@ begins h x k m at = subst (λ y. Stands Wake (recovering_in m h) y) (sym (member
 killed : (i : Input) (h : HostState) (x : Step) (k : ℕ) (m : MemberState) → IsMemberAt i h x k m → Stands i (killing m h) (kill_holders m.who x)
 killed i h x k m at =
     subst (λ y. Stands i (killing m h) y) (sym (members_part i h x k m at).kills) (by (m.joined && (is_kill_due_in h m.renewing.recovery || is_kill_due_in h m.leaving))) where
-  by : (b : Bool) → Stands i (cond b (signalling Kill m h) h) (when b (signal_holders Kill m.who) x)
-  by true = holders i h x k m Kill at
-  by false = at.stands
+      by : (b : Bool) → Stands i (cond b (signalling Kill m h) h) (when b (signal_holders Kill m.who) x)
+      by true = holders i h x k m Kill at
+      by false = at.stands
 
 -- Kills change no member.
 killing_same : (m : MemberState) (h : HostState) → (killing m h).members ≡ h.members

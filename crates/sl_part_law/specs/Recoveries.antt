@@ -1,10 +1,9 @@
 -- Recoveries and kills before the input as functions of what is kept; and that a session which is gone does nothing in any pass.
 use Rattle.sl_due.specs.DueFirst.{begin_recovery, kill_holders}
 use Rattle.sl_due.specs.DueWake.{finish_session, join_on_wake, renew_on_wake, settlings}
-use Rattle.sl_due.specs.Steps.{Step, for_each, seen}
+use Rattle.sl_due.specs.Steps.{Step, seen}
 use Rattle.sl_host_state.specs.Asks.{begins_in, is_kill_due_in}
 use Rattle.sl_host_state.specs.Kept.{HostState, MemberState}
-use Rattle.sl_host_state.specs.Passes.{whos}
 use Rattle.sl_host_state.specs.Stands.{Stands, Takes}
 use Rattle.sl_part_law.specs.Refusals.{signalling_and_refusing}
 use Rattle.sl_part_law.specs.Signals.{over, signalling}
