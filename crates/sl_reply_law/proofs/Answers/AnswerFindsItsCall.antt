@@ -65,7 +65,7 @@ alone_in a n m (d ∷ ms) is found = by (d.call.number == n) refl found (λ f. a
 
 -- ---- of a host
 
-in_reversed : {A : Type 0} (xs : List A) (d : A) → Contains xs d → Contains (reverse xs) d
+pub in_reversed : {A : Type 0} (xs : List A) (d : A) → Contains xs d → Contains (reverse xs) d
 in_reversed [] d there = absurd (contains_none d there)
 in_reversed (x ∷ xs) d there = subst (λ ys. Contains ys d) (sym (reverse-append (x ∷ []) xs)) (by (contains_cases x xs d there) (λ h. in_reversed xs d h)) where
   by : (x ≡ d) ⊎ Contains xs d → (Contains xs d → Contains (reverse xs) d) → Contains (reverse xs ++ x ∷ []) d

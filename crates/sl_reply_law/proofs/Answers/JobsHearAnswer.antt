@@ -24,10 +24,10 @@ found_first p (x ∷ xs) = by (p x) (found_first p xs) where
   by false rest = rest
 
 -- Of a job there is one call, or none.
-abbrev IsOneOrNone : List OpenCall → Type 0
+abbrev pub IsOneOrNone : List OpenCall → Type 0
 IsOneOrNone cs = (cs ≡ []) ⊎ ((c : OpenCall) × (cs ≡ c ∷ []))
 
-one_of_job : (cs : List OpenCall) (job : ℕ) → AreSingle cs → IsOneOrNone (filter (is_kept_of job) cs)
+pub one_of_job : (cs : List OpenCall) (job : ℕ) → AreSingle cs → IsOneOrNone (filter (is_kept_of job) cs)
 one_of_job [] job single = inl refl
 one_of_job (c ∷ cs) job single = by (is_kept_of job c) refl (one_of_job cs job single.1) where
   none_else : (o : Option ℕ) → some_is (λ j. j == job) o ≡ true → some_is (λ j. list_any (is_kept_of j) cs) o ≡ false → list_any (is_kept_of job) cs ≡ false

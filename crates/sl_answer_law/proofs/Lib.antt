@@ -1,0 +1,5 @@
+pub mod RefusalsFollow
+pub mod DecisionsAreCarried
+pub mod LeasesAreCarried
+pub mod AnswersSetFree
+pub mod AnswersFollow

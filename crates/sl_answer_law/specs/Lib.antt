@@ -1,0 +1,4 @@
+pub mod Refusing
+pub mod Carrying
+pub mod Leasing
+pub mod Answering

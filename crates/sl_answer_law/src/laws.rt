@@ -1,0 +1,31 @@
+//! The state follows what an answer makes due.
+
+ghost use Rattle.sl_answer_law.specs.Answering.{AnswersFollow, AnswersSetFree};
+ghost use Rattle.sl_answer_law.specs.Carrying.{DecisionsAreCarried};
+ghost use Rattle.sl_answer_law.specs.Leasing.{LeasesAreCarried};
+ghost use Rattle.sl_answer_law.specs.Refusing.{RefusalsFollow};
+
+/// A refused joining goes with its connection, and an overdue job is refused.
+pub fn refusals_follow()
+    ensures { RefusalsFollow }
+{}
+
+/// What a session's delta lease decided is done.
+pub fn decisions_are_carried()
+    ensures { DecisionsAreCarried }
+{}
+
+/// What a session's lease decided is done.
+pub fn leases_are_carried()
+    ensures { LeasesAreCarried }
+{}
+
+/// An answer sets free what waited for it.
+pub fn answers_set_free()
+    ensures { AnswersSetFree }
+{}
+
+/// The whole of an answer to a renewal and to a free is followed.
+pub fn answers_follow()
+    ensures { AnswersFollow }
+{}
