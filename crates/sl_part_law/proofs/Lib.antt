@@ -5,4 +5,3 @@ pub mod MembersWake
 pub mod EndsAreTaken
 pub mod RecoveriesAreTaken
 pub mod GoneDoNothing
-pub mod LinesAreTaken

@@ -4,4 +4,3 @@ pub mod Exits
 pub mod Wakes
 pub mod Ends
 pub mod Recoveries
-pub mod Lines
