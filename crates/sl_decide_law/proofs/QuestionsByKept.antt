@@ -179,7 +179,7 @@ pending_is h st es at k = ap (option_map (λ n. Pending n)) (open_is h st es at 
 
 -- ---- limits
 
-joined_present : (es : Trace) (s : Session) → is_joined es s ≡ (is_present es s && is_joined es s)
+pub joined_present : (es : Trace) (s : Session) → is_joined es s ≡ (is_present es s && is_joined es s)
 joined_present es s = by (joined_after es s) (removed_after es s) where
   by : (o r : Option ℕ)
       → (is_some o && is_none r)

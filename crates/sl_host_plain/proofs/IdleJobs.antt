@@ -23,7 +23,7 @@ any_push p (x ∷ xs) y = ap (λ b. p x || b) (any_push p xs y) ∙ turned (p x)
   turned true false c = refl
   turned false b c = refl
 
-any_reversed : {A : Type 0} (p : A → Bool) (xs : List A) → list_any p (reverse xs) ≡ list_any p xs
+pub any_reversed : {A : Type 0} (p : A → Bool) (xs : List A) → list_any p (reverse xs) ≡ list_any p xs
 any_reversed p [] = refl
 any_reversed p (x ∷ xs) = ap (list_any p) (reverse-append (x ∷ []) xs) ∙ (any_push p (reverse xs) x ∙ ap (λ b. p x || b) (any_reversed p xs))
 

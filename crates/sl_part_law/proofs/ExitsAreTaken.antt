@@ -5,22 +5,20 @@ use Rattle.sl_host_state.proofs.Others.{effects_are_taken}
 use Rattle.sl_host_state.specs.Kept.{HostState}
 use Rattle.sl_host_state.specs.Makes.{with_end, with_grant}
 use Rattle.sl_host_state.specs.Stands.{Stands, Takes, kept_job}
-use Rattle.sl_host_state.specs.declared.kept.JobState.{JobState}
 use Rattle.sl_leases.specs.Jobs.{is_job_of_process}
 use Rattle.sl_part_law.proofs.RefusalsAreTaken.{by_number, some_jobs}
 use Rattle.sl_part_law.proofs.SignalsAreTaken.{each_taken}
 use Rattle.sl_part_law.specs.Exits.{ExitsAreTaken, ending, exiting, leaving, refusing_of}
-use Rattle.sl_part_law.specs.Refusals.{numbers_of, replying_to}
+use Rattle.sl_part_law.specs.Refusals.{numbers_of}
 use Rattle.sl_part_law.specs.Signals.{over}
 use Rattle.sl_question_law.proofs.JobsAnswer.{jobs_answer}
 use Rattle.sl_question_law.specs.Jobs.{is_of_process_in}
 use Rattle.sl_trace.specs.Traces.{Job, end_of, no_process, orphans_left, running_jobs}
 use Rattle.sl_trace.specs.declared.effects.Grant.{Grant}
 use Rattle.sl_trace.specs.declared.input.Input.TheVariants.{Exit}
-use Rattle.sl_trace.specs.declared.input.Input.{Input}
 use Rattle.sl_trace.specs.declared.reply.Reply.TheVariants.{NoProcess}
 use Rattle.std.proofs.Common.{ap, refl, subst, sym, ◌∙◌}
-use Rattle.std.specs.Prelude.{Bool, List, cond, false, filter, fold, map, not, true, [], ℕ, ◌==◌, ◌∷◌, ◌≡◌}
+use Rattle.std.specs.Prelude.{Bool, List, cond, false, filter, map, not, true, [], ℕ, ◌==◌, ◌∷◌, ◌≡◌}
 
 -- ---- holdings
 
@@ -49,9 +47,9 @@ jobs p q h x s =
     in
     subst (λ y. Stands (Exit q) (refusing_of p h) y) (sym (by_number js (NoProcess p) x ∙ ap (λ ns. for_each ns (λ n. add_reply n (NoProcess p)) x) numbers))
     (some_jobs (Exit q) h x (filter (is_of_process_in p) h.jobs) (NoProcess p) (is_of_process_in p) s refl (λ n there. (tt, tt))) where
-  through : (ks : List Job) → map (λ (j : Job). j.number) ks ≡ numbers_of (map (kept_job (seen x)) ks)
-  through [] = refl
-  through (k ∷ ks) = ap (λ ns. k.number ∷ ns) (through ks)
+      through : (ks : List Job) → map (λ (j : Job). j.number) ks ≡ numbers_of (map (kept_job (seen x)) ks)
+      through [] = refl
+      through (k ∷ ks) = ap (λ ns. k.number ∷ ns) (through ks)
 
 -- ---- the whole
 

@@ -1,3 +1,7 @@
 pub mod SignalsAreTaken
 pub mod RefusalsAreTaken
 pub mod ExitsAreTaken
+pub mod MembersWake
+pub mod EndsAreTaken
+pub mod RecoveriesAreTaken
+pub mod GoneDoNothing

@@ -2,8 +2,8 @@
 use Rattle.sl_decide_law.proofs.PlainSums.{list_mapped}
 use Rattle.sl_due.specs.DueFirst.{refuse_jobs, signal_and_refuse, signal_holders}
 use Rattle.sl_due.specs.Steps.{Step, add_reply, for_each, seen}
-use Rattle.sl_host_plain.proofs.PlainLists.{all_both, all_from, each_of}
-use Rattle.sl_host_plain.proofs.PlainOrders.{AreApart, IsApart, apart_filtered}
+use Rattle.sl_host_plain.proofs.PlainLists.{all_both, each_of}
+use Rattle.sl_host_plain.proofs.PlainOrders.{AreApart, apart_filtered}
 use Rattle.sl_host_plain.proofs.SessionNumbers.{jobs_below}
 use Rattle.sl_host_state.specs.Kept.{Config, HostState, MemberState}
 use Rattle.sl_host_state.specs.Makes.{with_reply}
@@ -15,12 +15,10 @@ use Rattle.sl_part_law.specs.Refusals.{MayRefuse, RefusalsAreTaken, jobs_but, nu
 use Rattle.sl_part_law.specs.Signals.{signalling}
 use Rattle.sl_plain.proofs.Lists.{any_found, any_of, contains_first, contains_more, filter_both, in_map, kept, kept_inside}
 use Rattle.sl_question_law.proofs.MembersAnswer.{members_answer}
-use Rattle.sl_question_law.specs.Members.{IsMemberAt, jobs_in}
+use Rattle.sl_question_law.specs.Members.{IsMemberAt}
 use Rattle.sl_reply_law.proofs.Replies.RepliesAreTaken.{replies_are_taken}
 use Rattle.sl_reply_law.specs.Replies.{LeavesHeed, LeavesLine, is_plain_line}
-use Rattle.sl_sessions.specs.Sessions.{last_renewal}
-use Rattle.sl_trace.specs.Traces.{Job, Setting, Trace, is_running, job_in, jobs, line_in, next_job, running_jobs}
-use Rattle.sl_trace.specs.declared.effects.Entry.{Entry}
+use Rattle.sl_trace.specs.Traces.{Job, Setting, Trace, is_running, jobs, line_in, next_job, running_jobs}
 use Rattle.sl_trace.specs.declared.effects.Signal.TheVariants.{Term}
 use Rattle.sl_trace.specs.declared.input.Input.TheVariants.{Answer as Told, Exit, Line, Number, Spawned, Wake}
 use Rattle.sl_trace.specs.declared.input.Input.{Input}
@@ -28,11 +26,11 @@ use Rattle.sl_trace.specs.declared.reply.Reply.TheVariants.{Recovering}
 use Rattle.sl_trace.specs.declared.reply.Reply.{Reply}
 use Rattle.sl_words.proofs.CaseLaws.{is_false}
 use Rattle.sl_words.specs.Words.{some_is}
-use Rattle.std.proofs.Common.{ap, arith, inl, inr, refl, subst, sym, ◌∙◌}
+use Rattle.std.proofs.Common.{ap, arith, refl, subst, sym, ◌∙◌}
 use Rattle.std.proofs.lemmas.Bool.Decides.{Decides-eqb}
 use Rattle.std.proofs.lemmas.List.{append-nil}
 use Rattle.std.specs.List.{AllByRecursion, list_any}
-use Rattle.std.specs.Prelude.{Bool, Contains, List, None, Option, Some, bytes_eq, false, filter, fold, length, map, not, slice_get, true, [], ℕ, ◌&&◌, ◌++◌, ◌+◌, ◌<◌, ◌==◌, ◌∷◌, ◌≡◌, ◌⊎◌}
+use Rattle.std.specs.Prelude.{Bool, Contains, List, None, Option, Some, bytes_eq, false, filter, length, map, not, slice_get, true, [], ℕ, ◌&&◌, ◌++◌, ◌+◌, ◌<◌, ◌==◌, ◌∷◌, ◌≡◌, ◌⊎◌}
 
 -- ---- jobs have numbers of their own
 

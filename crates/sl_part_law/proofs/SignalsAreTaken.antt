@@ -5,22 +5,21 @@ use Rattle.sl_due.specs.Steps.{Step, add_signal, add_start, for_each, seen}
 use Rattle.sl_host_state.proofs.Asking.{questions_are_answered}
 use Rattle.sl_host_state.proofs.Others.{effects_are_taken}
 use Rattle.sl_host_state.specs.Asks.{stopper_in}
-use Rattle.sl_host_state.specs.Kept.{Config, HostState, MemberState}
+use Rattle.sl_host_state.specs.Kept.{HostState, MemberState}
 use Rattle.sl_host_state.specs.Makes.{with_signal, with_start}
 use Rattle.sl_host_state.specs.Stands.{Stands, Takes}
-use Rattle.sl_host_state.specs.declared.kept.JobState.{JobState}
 use Rattle.sl_leases.specs.Counts.{stopper_of}
 use Rattle.sl_part_law.specs.Signals.{SignalsAreTaken, over, sending, signalling, telling}
 use Rattle.sl_question_law.proofs.MembersAnswer.{members_answer}
 use Rattle.sl_question_law.specs.Members.{IsMemberAt, holders_in}
-use Rattle.sl_trace.specs.Traces.{Trace, first_child, next_child}
+use Rattle.sl_trace.specs.Traces.{first_child, next_child}
 use Rattle.sl_trace.specs.declared.effects.Signal.TheVariants.{Kill, Term}
 use Rattle.sl_trace.specs.declared.effects.Signal.{Signal}
 use Rattle.sl_trace.specs.declared.effects.Start.{Start}
 use Rattle.sl_trace.specs.declared.input.Input.{Input}
 use Rattle.std.proofs.Common.{ap, refl, subst, sym, ◌∙◌}
 use Rattle.std.proofs.lemmas.List.{map-id}
-use Rattle.std.specs.Prelude.{List, None, Option, Some, fold, map, slice_get, [], ℕ, ◌+◌, ◌∷◌, ◌≡◌}
+use Rattle.std.specs.Prelude.{List, None, Option, Some, [], ℕ, ◌+◌, ◌∷◌, ◌≡◌}
 
 -- ---- one after another
 
@@ -41,11 +40,11 @@ tell p h i x s =
     subst (λ o. Stands i (telling p h) (elim o as (λ z. Step) [ None ↦ add_signal p Term x | Some program ↦ add_start (stopping p program (next_child (seen x))) x ])) (sym (questions_are_answered.stopper i h x p s))
     (subst (λ n. Stands i (telling p h) (elim (stopper_in h p) as (λ z. Step) [ None ↦ add_signal p Term x | Some program ↦ add_start (stopping p program n) x ]))
     (ap (λ n. first_child + n) (sym s.keeps.started)) (by (stopper_in h p))) where
-  by : (o : Option (List ℕ))
-      → Stands i (elim o as (λ z. HostState) [ None ↦ with_signal p Term h | Some program ↦ with_start (stopping p program (first_child + h.started)) h ])
-      (elim o as (λ z. Step) [ None ↦ add_signal p Term x | Some program ↦ add_start (stopping p program (first_child + h.started)) x ])
-  by None = effects_are_taken.signal p Term h i x s
-  by (Some program) = starts_are_taken h (stopping p program (first_child + h.started)) (record { number = refl; job = refl }) i x s
+      by : (o : Option (List ℕ))
+          → Stands i (elim o as (λ z. HostState) [ None ↦ with_signal p Term h | Some program ↦ with_start (stopping p program (first_child + h.started)) h ])
+          (elim o as (λ z. Step) [ None ↦ add_signal p Term x | Some program ↦ add_start (stopping p program (first_child + h.started)) x ])
+      by None = effects_are_taken.signal p Term h i x s
+      by (Some program) = starts_are_taken h (stopping p program (first_child + h.started)) (record { number = refl; job = refl }) i x s
 
 sent : (p : ℕ) (signal : Signal) (h : HostState) → Takes h (sending p signal h) (send p signal)
 sent p Term h i x s = tell p h i x s

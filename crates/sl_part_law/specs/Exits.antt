@@ -4,14 +4,13 @@ use Rattle.sl_due.specs.Steps.{Step}
 use Rattle.sl_host_state.specs.Kept.{HostState}
 use Rattle.sl_host_state.specs.Makes.{with_end, with_grant}
 use Rattle.sl_host_state.specs.Stands.{Stands, Takes}
-use Rattle.sl_part_law.specs.Refusals.{MayRefuse, numbers_of, replying_to}
+use Rattle.sl_part_law.specs.Refusals.{numbers_of, replying_to}
 use Rattle.sl_part_law.specs.Signals.{over}
 use Rattle.sl_question_law.specs.Jobs.{is_of_process_in}
 use Rattle.sl_trace.specs.Traces.{end_of, no_process, orphans_left}
 use Rattle.sl_trace.specs.declared.input.Input.TheVariants.{Exit}
-use Rattle.sl_trace.specs.declared.input.Input.{Input}
 use Rattle.sl_trace.specs.declared.reply.Reply.TheVariants.{NoProcess}
-use Rattle.std.specs.Prelude.{Bool, cond, filter, [], ℕ, ◌==◌, ◌≡◌}
+use Rattle.std.specs.Prelude.{cond, filter, [], ℕ, ◌==◌, ◌≡◌}
 
 -- All holdings of the process end.
 abbrev pub ending : ℕ → HostState → HostState

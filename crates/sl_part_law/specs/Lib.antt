@@ -1,3 +1,6 @@
 pub mod Signals
 pub mod Refusals
 pub mod Exits
+pub mod Wakes
+pub mod Ends
+pub mod Recoveries

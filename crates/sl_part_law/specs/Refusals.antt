@@ -14,7 +14,7 @@ use Rattle.sl_trace.specs.declared.input.Input.{Input}
 use Rattle.sl_trace.specs.declared.reply.Reply.TheVariants.{Recovering}
 use Rattle.sl_trace.specs.declared.reply.Reply.{Reply}
 use Rattle.sl_words.specs.Words.{some_is}
-use Rattle.std.specs.Prelude.{Bool, Contains, List, Option, Some, filter, map, not, slice_get, ℕ, ◌==◌, ◌≡◌}
+use Rattle.std.specs.Prelude.{Bool, Contains, List, Option, filter, map, not, ℕ, ◌==◌, ◌≡◌}
 
 -- Each of these jobs has this reply.
 abbrev pub replying_to : List ℕ → Reply → HostState → HostState

@@ -10,7 +10,7 @@ use Rattle.sl_trace.specs.Traces.{first_child}
 use Rattle.sl_trace.specs.declared.effects.Signal.TheVariants.{Kill, Term}
 use Rattle.sl_trace.specs.declared.effects.Signal.{Signal}
 use Rattle.sl_trace.specs.declared.input.Input.{Input}
-use Rattle.std.specs.Prelude.{List, None, Option, Some, fold, ℕ, ◌+◌, ◌≡◌}
+use Rattle.std.specs.Prelude.{List, None, Some, fold, ℕ, ◌+◌, ◌≡◌}
 
 -- The host after each of a list in turn.
 abbrev pub over : {A : Type 0} → List A → (A → HostState → HostState) → HostState → HostState

@@ -1,8 +1,11 @@
 //! Parts of a step are taken.
 
+ghost use Rattle.sl_part_law.specs.Ends.{EndsAreTaken};
 ghost use Rattle.sl_part_law.specs.Exits.{ExitsAreTaken};
+ghost use Rattle.sl_part_law.specs.Recoveries.{GoneDoNothing, RecoveriesAreTaken};
 ghost use Rattle.sl_part_law.specs.Refusals.{RefusalsAreTaken};
 ghost use Rattle.sl_part_law.specs.Signals.{SignalsAreTaken};
+ghost use Rattle.sl_part_law.specs.Wakes.{MembersWake};
 
 /// A process is told to stop, or sent a signal, and so is each holder of a member.
 pub fn signals_are_taken()
@@ -17,4 +20,24 @@ pub fn refusals_are_taken()
 /// What a process held ends or is left, and its jobs are refused.
 pub fn exits_are_taken()
     ensures { ExitsAreTaken }
+{}
+
+/// What a wake and a step's end make due is told by what is kept of a member.
+pub fn members_wake()
+    ensures { MembersWake }
+{}
+
+/// Renewals on a wake, and what comes last of a member, are taken.
+pub fn ends_are_taken()
+    ensures { EndsAreTaken }
+{}
+
+/// Recoveries and kills before the input are taken.
+pub fn recoveries_are_taken()
+    ensures { RecoveriesAreTaken }
+{}
+
+/// A session that is gone does nothing in any pass.
+pub fn gone_do_nothing()
+    ensures { GoneDoNothing }
 {}
