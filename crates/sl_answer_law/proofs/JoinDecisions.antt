@@ -14,7 +14,6 @@ use Rattle.sl_trace.specs.declared.effects.JoinStep.TheVariants.{ClaimWrite, Dec
 use Rattle.sl_trace.specs.declared.effects.JoinStep.{JoinStep}
 use Rattle.sl_trace.specs.declared.input.Answer.TheVariants.{Failed, Read, Written}
 use Rattle.sl_trace.specs.declared.input.Answer.{Answer}
-use Rattle.sl_trace.specs.declared.reply.Reply.{Reply}
 use Rattle.sl_sector.specs.Bitmaps.{no_bits}
 use Rattle.sl_sector.specs.declared.sector.DeltaState.TheVariants.{Claimed, Live}
 use Rattle.sl_trace.specs.declared.reply.Limited.TheVariants.{Gen as GenLimit, Seq as SeqLimit}
@@ -90,9 +89,9 @@ after_deciding : (l : DeltaLease) (ms : List Submitted) (now : ℕ) (bytes : Lis
 unfolding next_after_deciding
 after_deciding l ms now bytes =
     watched_same l (watched ms) bytes (elim (delta_in (record_in l.layout bytes)) as (λ z. DeltaNext) [ None ↦ Nothing | Some d ↦ claim_on l now d ]) (by (delta_in (record_in l.layout bytes))) where
-  by : (o : Option DeltaRec) → IsJoinDecision (elim o as (λ z. DeltaNext) [ None ↦ Nothing | Some d ↦ claim_on l now d ])
-  by None = tt
-  by (Some d) = claims l now d
+      by : (o : Option DeltaRec) → IsJoinDecision (elim o as (λ z. DeltaNext) [ None ↦ Nothing | Some d ↦ claim_on l now d ])
+      by None = tt
+      by (Some d) = claims l now d
 
 after_verify : (l : DeltaLease) (ms : List Submitted) (now : ℕ) (bytes : List ℕ) → IsJoinDecision (next_after_verify l ms now bytes)
 unfolding next_after_verify

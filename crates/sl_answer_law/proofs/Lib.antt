@@ -5,3 +5,4 @@ pub mod AnswersSetFree
 pub mod AnswersFollow
 pub mod RequestsFollow
 pub mod JoinDecisions
+pub mod JoiningsFollow

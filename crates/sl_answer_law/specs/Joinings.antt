@@ -41,4 +41,4 @@ pub record JoiningsFollow : Type 0 where
   pub refused : (number : ℕ) (c : OpenCall) (a : Answer) (h : HostState) (x : Step) (k : ℕ) (m : MemberState) (j : ℕ) (step : JoinStep) → IsAnswerTo number c a h x k m
       → c.purpose ≡ Joining j step → running_in (heard_answer number a h) j ≡ false → EndsBegun (Unregister m.who.lockspace) (heard_answer number a h)
       → Follows number a h x
-        (cond (m.refused && not (has_write_open (heard_answer number a h) m.who.number)) (removing m.who.lockspace (heard_answer number a h)) (heard_answer number a h))
+      (cond (m.refused && not (has_write_open (heard_answer number a h) m.who.number)) (removing m.who.lockspace (heard_answer number a h)) (heard_answer number a h))
