@@ -6,3 +6,4 @@ pub mod AnswersFollow
 pub mod RequestsFollow
 pub mod JoinDecisions
 pub mod JoiningsFollow
+pub mod LeaseAnswersFollow

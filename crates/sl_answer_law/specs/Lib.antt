@@ -4,3 +4,4 @@ pub mod Leasing
 pub mod Answering
 pub mod Requests
 pub mod Joinings
+pub mod LeaseAnswers

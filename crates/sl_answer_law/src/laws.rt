@@ -3,6 +3,7 @@
 ghost use Rattle.sl_answer_law.specs.Answering.{AnswersFollow, AnswersSetFree};
 ghost use Rattle.sl_answer_law.specs.Carrying.{DecisionsAreCarried};
 ghost use Rattle.sl_answer_law.specs.Joinings.{JoiningsFollow};
+ghost use Rattle.sl_answer_law.specs.LeaseAnswers.{LeaseAnswersFollow};
 ghost use Rattle.sl_answer_law.specs.Leasing.{LeasesAreCarried};
 ghost use Rattle.sl_answer_law.specs.Refusing.{RefusalsFollow};
 ghost use Rattle.sl_answer_law.specs.Requests.{RequestsFollow};
@@ -40,4 +41,9 @@ pub fn requests_follow()
 /// The whole of an answer to a joining's call is followed.
 pub fn joinings_follow()
     ensures { JoiningsFollow }
+{}
+
+/// The whole of an answer to a lease's call is followed.
+pub fn lease_answers_follow()
+    ensures { LeaseAnswersFollow }
 {}
