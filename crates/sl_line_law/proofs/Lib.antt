@@ -1,1 +1,2 @@
 pub mod LinesAreTaken
+pub mod GrantsAreTaken
