@@ -5,12 +5,16 @@ use Rattle.sl_answer_law.specs.Answering.{AnswersFollow, IsAnswerTo}
 use Rattle.sl_answer_law.specs.Carrying.{MayCarry, MaySurvey, carrying, connecting}
 use Rattle.sl_due.specs.DueAnswers.{after_answer, after_answer_of}
 use Rattle.sl_due.specs.Steps.{Step, seen, with_input}
-use Rattle.sl_host_plain.proofs.PlainLists.{at_some}
-use Rattle.sl_host_state.specs.Hears.{heard_answer, member_hearing, renewing_hearing, still_busy}
+use Rattle.sl_host_plain.proofs.PlainLists.{any_as, any_mapped, at_some}
+use Rattle.sl_host_state.specs.Hears.{heard_answer, hearing, job_hearing, member_hearing, renewing_hearing, still_busy}
 use Rattle.sl_host_state.specs.Kept.{HostState, MemberState}
 use Rattle.sl_host_state.specs.Makes.{is_ended_by_move}
-use Rattle.sl_host_state.specs.Stands.{Stands, kept_call}
+use Rattle.sl_host_state.specs.Stands.{Stands, is_kept_of, kept_call}
+use Rattle.sl_call_law.specs.Calls.{is_idle_job}
+use Rattle.sl_host_state.specs.declared.kept.JobState.{JobState}
 use Rattle.sl_host_state.specs.declared.kept.OpenCall.{OpenCall}
+use Rattle.sl_host_state.specs.declared.kept.WaitingCall.{WaitingCall}
+use Rattle.sl_reply_law.specs.Answers.{IsOpen}
 use Rattle.sl_plain.proofs.Lists.{find_inside, got_inside, kept}
 use Rattle.sl_question_law.proofs.AnswersAreTheirs.{answers_are_theirs}
 use Rattle.sl_question_law.proofs.AnswersDecide.{answers_decide}
@@ -34,7 +38,23 @@ use Rattle.sl_trace.specs.declared.input.Input.TheVariants.{Answer as Told}
 use Rattle.sl_trace.specs.declared.reply.Reply.TheVariants.{Done, IoFault}
 use Rattle.sl_trace.specs.declared.reply.Reply.{Reply}
 use Rattle.std.proofs.Common.{ap, inl, refl, subst, sym, ◌∙◌}
-use Rattle.std.specs.Prelude.{Bool, Contains, Some, false, is_some, not, slice_get, true, ℕ, ◌&&◌, ◌+◌, ◌==◌, ◌≡◌}
+use Rattle.std.specs.Prelude.{Bool, Contains, None, Option, Some, cond, false, is_some, not, slice_get, true, ℕ, ◌&&◌, ◌+◌, ◌==◌, ◌≡◌}
+
+-- An answer ends no job.
+heard_jobs : (number : ℕ) (c : OpenCall) (a : Answer) (h : HostState) → IsOpen h number c → (n : ℕ) → running_in (heard_answer number a h) n ≡ running_in h n
+heard_jobs number c a h is_open n =
+    ap (λ o. running_in (elim o as (λ z. HostState) [ None ↦ h | Some d ↦ hearing d a h ]) n) is_open
+    ∙ any_mapped (λ (j : JobState). j.number == n) (job_hearing c.number) h.jobs
+    ∙ any_as (λ (j : JobState). (job_hearing c.number j).number == n) (λ j. j.number == n) h.jobs (λ j. ap (λ z. z == n) (number_stays j)) where
+      number_stays : (z : JobState) → (job_hearing c.number z).number ≡ z.number
+      number_stays z = by z.waits where
+        by_number : (b : Bool) → (cond b (record z { waits = None }) z).number ≡ z.number
+        by_number true = refl
+        by_number false = refl
+
+        by : (o : Option WaitingCall) → (elim o as (λ q. JobState) [ None ↦ z | Some w ↦ cond (w.number == c.number) (record z { waits = None }) z ]).number ≡ z.number
+        by None = refl
+        by (Some w) = by_number (w.number == c.number)
 
 module _ (number : ℕ) (c : OpenCall) (a : Answer) (h : HostState) (x : Step) (k : ℕ) (m : MemberState) (to : IsAnswerTo number c a h x k m) (not_refused : m.refused ≡ false) where
   abbrev after : HostState
@@ -46,24 +66,29 @@ module _ (number : ℕ) (c : OpenCall) (a : Answer) (h : HostState) (x : Step) (
   abbrev hears : MemberState
   hears = member_hearing h c a m
 
-  stands : Stands (Told number a) (heard_answer number a h) (with_input (Told number a) x)
+  pub stands : Stands (Told number a) (heard_answer number a h) (with_input (Told number a) x)
   stands = answers_are_heard.heard number c a h x to.stands to.is_open to.fits to.at
 
-  place : (n : ℕ) × (slice_get (heard_answer number a h).members n ≡ Some (member_hearing h c a m))
+  pub place : (n : ℕ) × (slice_get (heard_answer number a h).members n ≡ Some (member_hearing h c a m))
   place = answers_set_free.member number c a h x k m to not_refused
 
   numbered : c.number ≡ number
   numbered = same_number c.number number (find_inside (λ (d : OpenCall). d.number == number) h.unanswered c to.is_open).1
 
-  theirs : (d : Submitted) × Contains (submitted (seen (with_input (Told number a) x))) d × (kept_call d ≡ c)
+  pub theirs : (d : Submitted) × Contains (submitted (seen (with_input (Told number a) x))) d × (kept_call d ≡ c)
       × (after_answer (is_present (seen x)) number a (with_input (Told number a) x) ≡ after_answer_of m.who d c.purpose a (with_input (Told number a) x))
   theirs = answers_are_theirs.member number c a h x k m to.stands to.is_open to.at to.there (same_number c.session m.who.number to.its)
 
-  call : IsCallOf (Told number a) (heard_answer number a h) (with_input (Told number a) x) place.0 (member_hearing h c a m) theirs.0 c
+  pub call : IsCallOf (Told number a) (heard_answer number a h) (with_input (Told number a) x) place.0 (member_hearing h c a m) theirs.0 c
   call = record { at = record { stands = stands; there = place.1 }; inside = theirs.1; kept = theirs.2 }
 
   idle : is_delta_purpose c.purpose ≡ true → (member_hearing h c a m).known.busy ≡ false
   idle delta = ap (λ n. still_busy n h m) numbered ∙ answers_set_free.idle number c a h x k m to delta
+
+  pub idle_job : (j : ℕ) → is_kept_of j c ≡ true → running_in (heard_answer number a h) j ≡ true → is_idle_job (heard_answer number a h) j ≡ true
+  idle_job j of_c goes = answers_set_free.job number c a h x k m j to of_c (kept_running j goes) where
+    kept_running : (n : ℕ) → running_in (heard_answer number a h) n ≡ true → running_in h n ≡ true
+    kept_running n goes_on = sym (heard_jobs number c a h to.is_open n) ∙ goes_on
 
   -- ---- a renewal
 

@@ -1,7 +1,9 @@
 -- The state after what a delta lease decided stands for the step with it.
 use Rattle.sl_answer_law.proofs.RefusalsFollow.{refusals_follow}
 use Rattle.sl_answer_law.specs.Carrying.{DecisionsAreCarried, MayCall, MayRead, MaySurvey, MayWrite, connecting, for_job_of, own_sector, reading_own, registering, surveying, writing_own}
-use Rattle.sl_answer_law.specs.Refusing.{disconnecting, refusing}
+use Rattle.sl_answer_law.specs.Refusing.{refusing}
+use Rattle.sl_part_law.proofs.EndsAreTaken.{ends_are_taken}
+use Rattle.sl_part_law.specs.Ends.{removing}
 use Rattle.sl_area.specs.Layouts.{Layout}
 use Rattle.sl_area.specs.Places.{delta_offset}
 use Rattle.sl_call_law.proofs.CallsAreTaken.{calls_are_taken}
@@ -97,12 +99,12 @@ for_job i h x s f g stands each = by s.job refl where
 -- A leaving ends: its connection goes, and its job, if it still runs, is answered.
 ended : (i : Input) (h : HostState) (x : Step) (s : Session) (j : ℕ) (r : Reply) → Stands i h x
     → EndsBegun (Unregister s.lockspace) h × (is_running (seen x) j ≡ running_in h j) × (running_in h j ≡ true → MayReply i h x j r)
-    → Stands i (cond (running_in h j) (with_reply j r (disconnecting s.lockspace h)) (disconnecting s.lockspace h)) (end_leaving s j r x)
+    → Stands i (cond (running_in h j) (with_reply j r (removing s.lockspace h)) (removing s.lockspace h)) (end_leaving s j r x)
 ended i h x s j r stands may =
-    subst (λ b. Stands i (cond (running_in h j) (with_reply j r (disconnecting s.lockspace h)) (disconnecting s.lockspace h)) (when b (add_reply j r) (remove_connection s.lockspace x))) (sym may.1)
+    subst (λ b. Stands i (cond (running_in h j) (with_reply j r (removing s.lockspace h)) (removing s.lockspace h)) (when b (add_reply j r) (remove_connection s.lockspace x))) (sym may.1)
     (by (running_in h j) refl) where
-      gone : Stands i (disconnecting s.lockspace h) (remove_connection s.lockspace x)
-      gone = refusals_follow.disconnected s.lockspace i h x stands may.0
+      gone : Stands i (removing s.lockspace h) (remove_connection s.lockspace x)
+      gone = ends_are_taken.connection i h x s.lockspace stands may.0
 
       still_may : MayReply i h x j r → (name : List ℕ) (b : Bool) (y : Step) → y.past ≡ x.past → MayReply i (cond b (with_move (Unregister name) h) h) y j r
       still_may k name true y same = record { runs = k.runs; heed = subst (λ past. LeavesHeed i j r past) (sym same) k.heed; line = line_moved i (Unregister name) h j k.line }
@@ -112,11 +114,11 @@ ended i h x s j r stands may =
       past_same true name = refl
       past_same false name = refl
 
-      by : (b : Bool) → running_in h j ≡ b → Stands i (cond b (with_reply j r (disconnecting s.lockspace h)) (disconnecting s.lockspace h)) (when b (add_reply j r) (remove_connection s.lockspace x))
+      by : (b : Bool) → running_in h j ≡ b → Stands i (cond b (with_reply j r (removing s.lockspace h)) (removing s.lockspace h)) (when b (add_reply j r) (remove_connection s.lockspace x))
       by true runs =
-          replies_are_taken j r i (disconnecting s.lockspace h) (remove_connection s.lockspace x) (refusals_follow.disconnected s.lockspace i h x stands may.0)
+          replies_are_taken j r i (removing s.lockspace h) (remove_connection s.lockspace x) (ends_are_taken.connection i h x s.lockspace stands may.0)
           (still_may (may.2 runs) s.lockspace (list_any (λ n. bytes_eq n s.lockspace) h.connected) (remove_connection s.lockspace x) (past_same (is_registered x.setting (seen x) s.lockspace) s.lockspace))
-      by false runs = refusals_follow.disconnected s.lockspace i h x stands may.0
+      by false runs = ends_are_taken.connection i h x s.lockspace stands may.0
 
 pub decisions_are_carried : DecisionsAreCarried
 unfolding carry_delta
@@ -130,7 +132,7 @@ decisions_are_carried i h x s (RegisterAndRead step) stands may =
     (λ j is. read_own i (registering s h) (register s x) s (Joining j step) (registered i h x s stands) (may j is))
 decisions_are_carried i h x s (WriteClaim d) stands may =
     for_job i h x s (λ j. writing_own s (Joining j ClaimWrite) d) (λ j. write_own_sector s (Joining j ClaimWrite) d) stands (λ j is. write_own i h x s (Joining j ClaimWrite) d stands (may j is))
-decisions_are_carried i h x s Disconnect stands may = refusals_follow.disconnected s.lockspace i h x stands may
+decisions_are_carried i h x s Disconnect stands may = ends_are_taken.connection i h x s.lockspace stands may
 decisions_are_carried i h x s (WriteFirst d) stands may =
     for_job i h x s (λ j. writing_own s (Joining j FirstRenewal) d) (λ j. write_own_sector s (Joining j FirstRenewal) d) stands (λ j is. write_own i h x s (Joining j FirstRenewal) d stands (may j is))
 decisions_are_carried i h x s (Join generation renewed) stands may =

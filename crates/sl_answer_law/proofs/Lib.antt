@@ -3,3 +3,4 @@ pub mod DecisionsAreCarried
 pub mod LeasesAreCarried
 pub mod AnswersSetFree
 pub mod AnswersFollow
+pub mod RequestsFollow

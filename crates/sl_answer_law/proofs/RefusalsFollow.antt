@@ -1,10 +1,12 @@
 -- The state after a refusal stands for the step with it.
-use Rattle.sl_answer_law.specs.Refusing.{IsAlone, RefusalsFollow, disconnecting, refusing, timing_out}
+use Rattle.sl_answer_law.specs.Refusing.{IsAlone, RefusalsFollow, refusing, timing_out}
+use Rattle.sl_part_law.proofs.EndsAreTaken.{ends_are_taken}
+use Rattle.sl_part_law.specs.Ends.{removing}
 use Rattle.sl_due.specs.DueFirst.{refuse, remove_connection}
-use Rattle.sl_due.specs.Steps.{Step, add_move, add_reply, when, with_some}
+use Rattle.sl_due.specs.Steps.{Step, add_reply, when, with_some}
 use Rattle.sl_host_plain.proofs.PlainLists.{at_some, in_flat}
 use Rattle.sl_host_state.specs.Kept.{HostState, MemberState}
-use Rattle.sl_host_state.specs.Makes.{has_write_open, is_ended_by_move, member_answered, member_replying, with_move, with_reply}
+use Rattle.sl_host_state.specs.Makes.{has_write_open, is_ended_by_move, member_answered, member_replying, with_reply}
 use Rattle.sl_host_state.specs.Stands.{Stands, is_joining}
 use Rattle.sl_host_state.specs.declared.kept.JobState.{JobState}
 use Rattle.sl_host_state.specs.declared.kept.WaitingCall.{WaitingCall}
@@ -14,7 +16,6 @@ use Rattle.sl_question_law.proofs.PartsAreTold.{hosts_part}
 use Rattle.sl_question_law.proofs.RefusalsAreTold.{refusals_are_told}
 use Rattle.sl_question_law.specs.Jobs.{is_overdue_in, joining_in}
 use Rattle.sl_question_law.specs.Parts.{time_out_of}
-use Rattle.sl_reply_law.proofs.MovesAreTaken.{moves_are_taken}
 use Rattle.sl_reply_law.proofs.Replies.RepliesAreTaken.{replies_are_taken}
 use Rattle.sl_reply_law.specs.Moves.{EndsBegun}
 use Rattle.sl_reply_law.specs.Replies.{MayReply}
@@ -29,15 +30,7 @@ use Rattle.sl_words.proofs.CaseLaws.{true_is_false}
 use Rattle.sl_words.specs.Words.{some_is}
 use Rattle.std.proofs.Common.{inl, inr, refl, subst, sym, ◌∙◌}
 use Rattle.std.specs.List.{list_any}
-use Rattle.std.specs.Prelude.{Bool, Contains, IsTrue, List, None, Option, Some, bytes_eq, cond, false, flat_map, is_some, not, slice_get, true, [], ℕ, ◌&&◌, ◌==◌, ◌∷◌, ◌≡◌, ◌||◌, ◌⊎◌}
-
--- By whether a connection of this name stands.
-disconnected : (name : List ℕ) (i : Input) (h : HostState) (x : Step) → Stands i h x → EndsBegun (Unregister name) h → Stands i (disconnecting name h) (remove_connection name x)
-disconnected name i h x s begun =
-    subst (λ (y : Step). Stands i (disconnecting name h) y) (sym ((hosts_part i h x s).connection name)) (by (list_any (λ n. bytes_eq n name) h.connected)) where
-      by : (b : Bool) → Stands i (cond b (with_move (Unregister name) h) h) (when b (add_move (Unregister name)) x)
-      by true = moves_are_taken (Unregister name) i h x s begun
-      by false = s
+use Rattle.std.specs.Prelude.{Bool, Contains, IsTrue, None, Option, Some, cond, false, flat_map, is_some, not, slice_get, true, [], ℕ, ◌&&◌, ◌==◌, ◌∷◌, ◌≡◌, ◌||◌, ◌⊎◌}
 
 -- ---- after a reply that joins nobody the same are joined
 
@@ -79,16 +72,16 @@ refused job r i h x s may not_done alone =
       said = replies_are_taken job r i h x s may
 
       one : (m : MemberState) → joining_in h job ≡ Some m → (b : Bool)
-          → Stands i (cond b (disconnecting m.who.lockspace (with_reply job r h)) (with_reply job r h)) (when b (remove_connection m.who.lockspace) (add_reply job r x))
+          → Stands i (cond b (removing m.who.lockspace (with_reply job r h)) (with_reply job r h)) (when b (remove_connection m.who.lockspace) (add_reply job r x))
       one m is true =
-          disconnected m.who.lockspace i (with_reply job r h) (add_reply job r x) (replies_are_taken job r i h x s may) (ends_still (Unregister m.who.lockspace) job r h not_done (alone m is))
+          ends_are_taken.connection i (with_reply job r h) (add_reply job r x) m.who.lockspace (replies_are_taken job r i h x s may) (ends_still (Unregister m.who.lockspace) job r h not_done (alone m is))
       one m is false = replies_are_taken job r i h x s may
 
       by : (o : Option MemberState) → joining_in h job ≡ o
           → Stands i
           (elim o as (λ z. HostState) [
             | None ↦ with_reply job r h
-            | Some m ↦ cond (not (has_write_open h m.who.number)) (disconnecting m.who.lockspace (with_reply job r h)) (with_reply job r h)
+            | Some m ↦ cond (not (has_write_open h m.who.number)) (removing m.who.lockspace (with_reply job r h)) (with_reply job r h)
           ])
           (elim o as (λ z. Step) [
             | None ↦ add_reply job r x
@@ -116,4 +109,4 @@ timed_out k j h x s there alone = subst (λ (y : Step). Stands Wake (timing_out 
   by (Some c) = one c (is_overdue_in h c)
 
 pub refusals_follow : RefusalsFollow
-refusals_follow = record { disconnected = disconnected; refused = refused; timed_out = timed_out }
+refusals_follow = record { refused = refused; timed_out = timed_out }

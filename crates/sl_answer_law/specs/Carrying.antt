@@ -1,5 +1,6 @@
 -- What a session's delta lease decided is done: the state that follows, and what is asked of the calls and replies in it.
-use Rattle.sl_answer_law.specs.Refusing.{IsAlone, disconnecting, refusing}
+use Rattle.sl_answer_law.specs.Refusing.{IsAlone, refusing}
+use Rattle.sl_part_law.specs.Ends.{removing}
 use Rattle.sl_area.specs.Places.{delta_offset}
 use Rattle.sl_call_law.specs.Calls.{CallFits}
 use Rattle.sl_due.specs.DueDelta.{carry_delta}
@@ -63,13 +64,13 @@ carrying s (RefuseJoin r) h = for_job_of s (λ j. refusing j r) h
 carrying s (ReadOwn step) h = for_job_of s (λ j. reading_own s (Joining j step)) h
 carrying s (RegisterAndRead step) h = for_job_of s (λ j g. reading_own s (Joining j step) (registering s g)) h
 carrying s (WriteClaim d) h = for_job_of s (λ j. writing_own s (Joining j ClaimWrite) d) h
-carrying s Disconnect h = disconnecting s.lockspace h
+carrying s Disconnect h = removing s.lockspace h
 carrying s (WriteFirst d) h = for_job_of s (λ j. writing_own s (Joining j FirstRenewal) d) h
 carrying s (Join generation renewed) h = for_job_of s (λ j g. surveying s (with_reply j (Generation generation) (connecting s renewed g))) h
 carrying s (MoveConnection renewed) h = surveying s (connecting s renewed h)
 carrying s (WriteRenewal d) h = writing_own s Renewal d h
 carrying s (WriteFree j d) h = writing_own s (Leaving j) d h
-carrying s (EndLeaving j r) h = cond (running_in h j) (with_reply j r (disconnecting s.lockspace h)) (disconnecting s.lockspace h)
+carrying s (EndLeaving j r) h = cond (running_in h j) (with_reply j r (removing s.lockspace h)) (removing s.lockspace h)
 
 -- ---- what is asked
 

@@ -2,3 +2,4 @@ pub mod Refusing
 pub mod Carrying
 pub mod Leasing
 pub mod Answering
+pub mod Requests

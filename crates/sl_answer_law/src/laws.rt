@@ -4,6 +4,7 @@ ghost use Rattle.sl_answer_law.specs.Answering.{AnswersFollow, AnswersSetFree};
 ghost use Rattle.sl_answer_law.specs.Carrying.{DecisionsAreCarried};
 ghost use Rattle.sl_answer_law.specs.Leasing.{LeasesAreCarried};
 ghost use Rattle.sl_answer_law.specs.Refusing.{RefusalsFollow};
+ghost use Rattle.sl_answer_law.specs.Requests.{RequestsFollow};
 
 /// A refused joining goes with its connection, and an overdue job is refused.
 pub fn refusals_follow()
@@ -28,4 +29,9 @@ pub fn answers_set_free()
 /// The whole of an answer to a renewal and to a free is followed.
 pub fn answers_follow()
     ensures { AnswersFollow }
+{}
+
+/// The whole of an answer to a call on a request or a value is followed.
+pub fn requests_follow()
+    ensures { RequestsFollow }
 {}
