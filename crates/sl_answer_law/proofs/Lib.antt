@@ -4,3 +4,4 @@ pub mod LeasesAreCarried
 pub mod AnswersSetFree
 pub mod AnswersFollow
 pub mod RequestsFollow
+pub mod GrantsAreTaken

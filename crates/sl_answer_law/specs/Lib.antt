@@ -3,3 +3,4 @@ pub mod Carrying
 pub mod Leasing
 pub mod Answering
 pub mod Requests
+pub mod Grants

@@ -2,6 +2,7 @@
 
 ghost use Rattle.sl_answer_law.specs.Answering.{AnswersFollow, AnswersSetFree};
 ghost use Rattle.sl_answer_law.specs.Carrying.{DecisionsAreCarried};
+ghost use Rattle.sl_answer_law.specs.Grants.{GrantsAreTaken};
 ghost use Rattle.sl_answer_law.specs.Leasing.{LeasesAreCarried};
 ghost use Rattle.sl_answer_law.specs.Refusing.{RefusalsFollow};
 ghost use Rattle.sl_answer_law.specs.Requests.{RequestsFollow};
@@ -34,4 +35,9 @@ pub fn answers_follow()
 /// The whole of an answer to a call on a request or a value is followed.
 pub fn requests_follow()
     ensures { RequestsFollow }
+{}
+
+/// Lines that give or take a holding at once are taken.
+pub fn grants_are_taken()
+    ensures { GrantsAreTaken }
 {}

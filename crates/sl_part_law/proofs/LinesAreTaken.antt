@@ -25,7 +25,7 @@ use Rattle.sl_host_state.specs.declared.kept.JobState.{JobState}
 use Rattle.sl_host_state.specs.declared.kept.LeaseCall.{LeaseCall}
 use Rattle.sl_leases.specs.Leases.{is_lease_call, is_on, lease_calls, open_on}
 use Rattle.sl_part_law.proofs.RefusalsAreTaken.{refusals_are_taken}
-use Rattle.sl_line_law.specs.Lines.{HeardBy, LineComes, LinesAreTaken}
+use Rattle.sl_part_law.specs.Lines.{HeardBy, LineComes, LinesAreTaken}
 use Rattle.sl_part_law.specs.Refusals.{jobs_but, numbers_of, signalling_and_refusing}
 use Rattle.sl_plain.proofs.Lists.{contains_first, contains_none, find_inside, in_map, kept, kept_inside}
 use Rattle.sl_question_law.specs.Members.{IsMemberAt, jobs_in}

@@ -19,9 +19,9 @@ use Rattle.sl_leases.specs.LeaseWork.{convert_next, lease_place, release_next}
 use Rattle.sl_leases.specs.Leases.{holdings_on, known, spot_of}
 use Rattle.sl_leases.specs.declared.lease.LeaseNext.TheVariants.{GrantJob}
 use Rattle.sl_leases.specs.declared.lease.LeaseNext.{LeaseNext}
-use Rattle.sl_line_law.proofs.LinesAreTaken.{carried, heard, member_at}
-use Rattle.sl_line_law.specs.Grants.{GrantsAreTaken, after_giving, ended, given_up}
-use Rattle.sl_line_law.specs.Lines.{HeardBy, LineComes}
+use Rattle.sl_part_law.proofs.LinesAreTaken.{carried, heard, member_at}
+use Rattle.sl_answer_law.specs.Grants.{GrantsAreTaken, after_giving, ended, given_up}
+use Rattle.sl_part_law.specs.Lines.{HeardBy, LineComes}
 use Rattle.sl_plain.proofs.Lists.{any_of, find_inside}
 use Rattle.sl_question_law.proofs.JobsAnswer.{jobs_answer}
 use Rattle.sl_question_law.proofs.MembersAnswer.{members_answer}

@@ -12,7 +12,7 @@ use Rattle.sl_host_state.specs.Stands.{Stands}
 use Rattle.sl_leases.specs.LeaseWork.{convert_next, release_next}
 use Rattle.sl_leases.specs.Leases.{spot_of}
 use Rattle.sl_leases.specs.declared.lease.LeaseNext.{LeaseNext}
-use Rattle.sl_line_law.specs.Lines.{HeardBy, LineComes}
+use Rattle.sl_part_law.specs.Lines.{HeardBy, LineComes}
 use Rattle.sl_question_law.specs.Answers.{known_in, place_in}
 use Rattle.sl_reply_law.specs.Replies.{is_plain_line}
 use Rattle.sl_sessions.specs.declared.session.Session.{Session}

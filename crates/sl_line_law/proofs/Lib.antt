@@ -1,2 +1,0 @@
-pub mod LinesAreTaken
-pub mod GrantsAreTaken
