@@ -7,3 +7,4 @@ pub mod RequestsFollow
 pub mod JoinDecisions
 pub mod JoiningsFollow
 pub mod LeaseAnswersFollow
+pub mod GrantsAreTaken

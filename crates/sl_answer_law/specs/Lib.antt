@@ -5,3 +5,4 @@ pub mod Answering
 pub mod Requests
 pub mod Joinings
 pub mod LeaseAnswers
+pub mod Grants

@@ -2,6 +2,7 @@
 
 ghost use Rattle.sl_answer_law.specs.Answering.{AnswersFollow, AnswersSetFree};
 ghost use Rattle.sl_answer_law.specs.Carrying.{DecisionsAreCarried};
+ghost use Rattle.sl_answer_law.specs.Grants.{GrantsAreTaken};
 ghost use Rattle.sl_answer_law.specs.Joinings.{JoiningsFollow};
 ghost use Rattle.sl_answer_law.specs.LeaseAnswers.{LeaseAnswersFollow};
 ghost use Rattle.sl_answer_law.specs.Leasing.{LeasesAreCarried};
@@ -46,4 +47,9 @@ pub fn joinings_follow()
 /// The whole of an answer to a lease's call is followed.
 pub fn lease_answers_follow()
     ensures { LeaseAnswersFollow }
+{}
+
+/// Lines that give or take a holding at once are taken.
+pub fn grants_are_taken()
+    ensures { GrantsAreTaken }
 {}

@@ -5,3 +5,4 @@ pub mod MembersWake
 pub mod EndsAreTaken
 pub mod RecoveriesAreTaken
 pub mod GoneDoNothing
+pub mod LinesAreTaken

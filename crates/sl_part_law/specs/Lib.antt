@@ -4,3 +4,4 @@ pub mod Exits
 pub mod Wakes
 pub mod Ends
 pub mod Recoveries
+pub mod Lines

@@ -2,6 +2,7 @@
 
 ghost use Rattle.sl_part_law.specs.Ends.{EndsAreTaken};
 ghost use Rattle.sl_part_law.specs.Exits.{ExitsAreTaken};
+ghost use Rattle.sl_part_law.specs.Lines.{LinesAreTaken};
 ghost use Rattle.sl_part_law.specs.Recoveries.{GoneDoNothing, RecoveriesAreTaken};
 ghost use Rattle.sl_part_law.specs.Refusals.{RefusalsAreTaken};
 ghost use Rattle.sl_part_law.specs.Signals.{SignalsAreTaken};
@@ -40,4 +41,9 @@ pub fn recoveries_are_taken()
 /// A session that is gone does nothing in any pass.
 pub fn gone_do_nothing()
     ensures { GoneDoNothing }
+{}
+
+/// A command line is taken as a whole.
+pub fn lines_are_taken()
+    ensures { LinesAreTaken }
 {}

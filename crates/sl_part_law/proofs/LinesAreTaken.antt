@@ -25,7 +25,7 @@ use Rattle.sl_host_state.specs.declared.kept.JobState.{JobState}
 use Rattle.sl_host_state.specs.declared.kept.LeaseCall.{LeaseCall}
 use Rattle.sl_leases.specs.Leases.{is_lease_call, is_on, lease_calls, open_on}
 use Rattle.sl_part_law.proofs.RefusalsAreTaken.{refusals_are_taken}
-use Rattle.sl_line_law.specs.Lines.{HeardBy, LineComes, LinesAreTaken}
+use Rattle.sl_part_law.specs.Lines.{HeardBy, LineComes, LinesAreTaken}
 use Rattle.sl_part_law.specs.Refusals.{jobs_but, numbers_of, signalling_and_refusing}
 use Rattle.sl_plain.proofs.Lists.{contains_first, contains_none, find_inside, in_map, kept, kept_inside}
 use Rattle.sl_question_law.specs.Members.{IsMemberAt, jobs_in}
@@ -85,10 +85,10 @@ answered : (h : HostState) (x : Step) (text : List ℕ) (c : Command) (r : Reply
 answered h x text c r l =
     subst (λ y. Stands (Line text) (answered_line (h.config.read text) r h) y) (sym (by_command h x text c (Replies r) l)) (inputs_are_heard.answered h x text r l.at.calls l.stands)
 
-heard : (h : HostState) (x : Step) (text : List ℕ) (c : Command) (d : Decision) → LineComes h x text c d → Stands (Line text) (heard_line c h) (with_input (Line text) x)
+pub heard : (h : HostState) (x : Step) (text : List ℕ) (c : Command) (d : Decision) → LineComes h x text c d → Stands (Line text) (heard_line c h) (with_input (Line text) x)
 heard h x text c d l = inputs_are_heard.line h x text c l.says l.at l.stands
 
-carried : (h : HostState) (x : Step) (text : List ℕ) (c : Command) (d : Decision) → LineComes h x text c d → reply_at_once d ≡ None
+pub carried : (h : HostState) (x : Step) (text : List ℕ) (c : Command) (d : Decision) → LineComes h x text c d → reply_at_once d ≡ None
     → on_line text x ≡ carry_decision h.next_job c d (with_input (Line text) x)
 carried h x text c d l none =
     by_command h x text c d l
@@ -134,7 +134,7 @@ joins h x text c n a l =
     (record { says = l.says ∙ ap (λ e. Ok e) theirs.0; number = refl; runs = own_idle h c; bare = l.at.calls }) (heard h x text c (Joins n a) l))))
 
 -- The member, as the line has been heard.
-member_at : (h : HostState) (x : Step) (text : List ℕ) (c : Command) (d : Decision) (k : ℕ) (m : MemberState) (s : Session) → LineComes h x text c d → HeardBy h c k m s
+pub member_at : (h : HostState) (x : Step) (text : List ℕ) (c : Command) (d : Decision) (k : ℕ) (m : MemberState) (s : Session) → LineComes h x text c d → HeardBy h c k m s
     → IsMemberAt (Line text) (heard_line c h) (with_input (Line text) x) k m
 member_at h x text c d k m s l by = record { stands = heard h x text c d l; there = by.there }
 
