@@ -8,3 +8,4 @@ pub mod JoinDecisions
 pub mod JoiningsFollow
 pub mod LeaseAnswersFollow
 pub mod GrantsAreTaken
+pub mod SurveysFollow

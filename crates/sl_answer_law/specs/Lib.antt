@@ -6,3 +6,4 @@ pub mod Requests
 pub mod Joinings
 pub mod LeaseAnswers
 pub mod Grants
+pub mod Surveys

@@ -8,6 +8,7 @@ ghost use Rattle.sl_answer_law.specs.LeaseAnswers.{LeaseAnswersFollow};
 ghost use Rattle.sl_answer_law.specs.Leasing.{LeasesAreCarried};
 ghost use Rattle.sl_answer_law.specs.Refusing.{RefusalsFollow};
 ghost use Rattle.sl_answer_law.specs.Requests.{RequestsFollow};
+ghost use Rattle.sl_answer_law.specs.Surveys.{SurveysFollow};
 
 /// A refused joining goes with its connection, and an overdue job is refused.
 pub fn refusals_follow()
@@ -52,4 +53,9 @@ pub fn lease_answers_follow()
 /// Lines that give or take a holding at once are taken.
 pub fn grants_are_taken()
     ensures { GrantsAreTaken }
+{}
+
+/// The whole of an answer to a read of all ids is followed.
+pub fn surveys_follow()
+    ensures { SurveysFollow }
 {}
