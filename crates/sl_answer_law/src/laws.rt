@@ -5,6 +5,7 @@ ghost use Rattle.sl_answer_law.specs.Carrying.{DecisionsAreCarried};
 ghost use Rattle.sl_answer_law.specs.Grants.{GrantsAreTaken};
 ghost use Rattle.sl_answer_law.specs.Joinings.{JoiningsFollow};
 ghost use Rattle.sl_answer_law.specs.LeaseAnswers.{LeaseAnswersFollow};
+ghost use Rattle.sl_answer_law.specs.LeasesSetFree.{LeasesSetFree};
 ghost use Rattle.sl_answer_law.specs.Leasing.{LeasesAreCarried};
 ghost use Rattle.sl_answer_law.specs.Refusing.{RefusalsFollow};
 ghost use Rattle.sl_answer_law.specs.Requests.{RequestsFollow};
@@ -58,4 +59,9 @@ pub fn grants_are_taken()
 /// The whole of an answer to a read of all ids is followed.
 pub fn surveys_follow()
     ensures { SurveysFollow }
+{}
+
+/// An answered lease waits for nothing, so its work may go on.
+pub fn leases_set_free()
+    ensures { LeasesSetFree }
 {}
