@@ -10,3 +10,4 @@ pub mod LeaseAnswersFollow
 pub mod GrantsAreTaken
 pub mod SurveysFollow
 pub mod LeasesSetFree
+pub mod PhaseTwoFollows

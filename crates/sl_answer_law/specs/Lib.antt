@@ -8,3 +8,4 @@ pub mod LeaseAnswers
 pub mod Grants
 pub mod Surveys
 pub mod LeasesSetFree
+pub mod PhaseTwo

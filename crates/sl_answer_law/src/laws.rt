@@ -7,6 +7,7 @@ ghost use Rattle.sl_answer_law.specs.Joinings.{JoiningsFollow};
 ghost use Rattle.sl_answer_law.specs.LeaseAnswers.{LeaseAnswersFollow};
 ghost use Rattle.sl_answer_law.specs.LeasesSetFree.{LeasesSetFree};
 ghost use Rattle.sl_answer_law.specs.Leasing.{LeasesAreCarried};
+ghost use Rattle.sl_answer_law.specs.PhaseTwo.{PhaseTwoFollows};
 ghost use Rattle.sl_answer_law.specs.Refusing.{RefusalsFollow};
 ghost use Rattle.sl_answer_law.specs.Requests.{RequestsFollow};
 ghost use Rattle.sl_answer_law.specs.Surveys.{SurveysFollow};
@@ -64,4 +65,9 @@ pub fn surveys_follow()
 /// An answered lease waits for nothing, so its work may go on.
 pub fn leases_set_free()
     ensures { LeasesSetFree }
+{}
+
+/// The second phase of a ballot follows the read of the first.
+pub fn phase_two_follows()
+    ensures { PhaseTwoFollows }
 {}
