@@ -7,39 +7,44 @@ use Rattle.sl_answer_law.specs.LeaseAnswers.{area_of}
 use Rattle.sl_answer_law.specs.Leasing.{MayWork}
 use Rattle.sl_answer_law.specs.LeasesSetFree.{GoesOn, LeasesSetFree, is_lease_op}
 use Rattle.sl_area.specs.Layouts.{Layout}
+use Rattle.sl_area.specs.Places.{blocks_in}
 use Rattle.sl_call_law.proofs.Calls.SpotsMore.{on_own, one_spot, spot_there}
 use Rattle.sl_call_law.specs.Calls.{fits_generation, fits_lease, fits_value, follows_read, is_idle_job, is_leaving_alone}
 use Rattle.sl_due.specs.Steps.{Step, seen, with_input}
 use Rattle.sl_host_plain.proofs.PlainLists.{any_mapped, at_some, each_of, found_some}
-use Rattle.sl_host_state.specs.Hears.{heard_answer, is_heeded_by, lease_hearing, lease_told, member_hearing}
+use Rattle.sl_host_state.specs.Hears.{blocks_shown, heard_answer, is_heeded_by, lease_hearing, lease_told, member_hearing, top_hearing}
 use Rattle.sl_host_state.specs.Kept.{Config, HostState, LeaseState, MemberState}
 use Rattle.sl_host_state.specs.Makes.{is_lease_on, next_submitted}
-use Rattle.sl_host_state.specs.Stands.{IsWaiting, Keeps, LeaseStands, kept_call}
+use Rattle.sl_host_state.specs.Stands.{IsWaiting, Keeps, LeaseStands, kept_call, top_mbal}
 use Rattle.sl_host_state.specs.declared.kept.LeaseCall.{LeaseCall}
 use Rattle.sl_host_state.specs.declared.kept.OpenCall.{OpenCall}
+use Rattle.sl_host_state.specs.declared.kept.TopNumber.{TopNumber}
 use Rattle.sl_leases.specs.Leases.{Phase2_write, is_at, is_lease_call, is_on, lease_calls, lease_step, spot_of_call}
 use Rattle.sl_plain.proofs.Lists.{any_found, contains_cases, contains_map, find_inside, in_map, kept, kept_inside}
 use Rattle.sl_plain.proofs.Numbers.{number_itself}
 use Rattle.sl_plain.proofs.Options.{none_is}
 use Rattle.sl_question_law.specs.Answers.{spot_in}
 use Rattle.sl_question_law.specs.Jobs.{goes_on_in}
+use Rattle.sl_sector.specs.declared.sector.Block.{Block}
 use Rattle.sl_sector.specs.declared.sector.Rec.TheVariants.{BlockIs, DeltaIs, LeaderIs, RequestIs, ValueIs}
 use Rattle.sl_sessions.specs.Sessions.{calls_of, is_call_of, me}
 use Rattle.sl_trace.specs.Traces.{Submitted, job_of, same_spot, submitted}
+use Rattle.sl_trace.specs.declared.effects.LeaseStep.TheVariants.{Phase1Read}
 use Rattle.sl_trace.specs.declared.effects.LeaseStep.{LeaseStep}
 use Rattle.sl_trace.specs.declared.effects.Op.TheVariants.{ReadSectors, WriteRecord}
 use Rattle.sl_trace.specs.declared.effects.Op.{Op}
 use Rattle.sl_trace.specs.declared.effects.Purpose.TheVariants.{Lease}
 use Rattle.sl_trace.specs.declared.effects.Work.TheVariants.{ForJob, Settling}
 use Rattle.sl_trace.specs.declared.effects.Work.{Work}
+use Rattle.sl_trace.specs.declared.input.Answer.TheVariants.{Read}
 use Rattle.sl_trace.specs.declared.input.Answer.{Answer}
 use Rattle.sl_trace.specs.declared.input.Input.TheVariants.{Answer as Told}
-use Rattle.sl_words.proofs.CaseLaws.{false_is_true, true_is_false}
+use Rattle.sl_words.proofs.CaseLaws.{false_is_true, some_value, true_is_false}
 use Rattle.sl_words.specs.Words.{some_is}
 use Rattle.std.proofs.Common.{ap, arith, inl, inr, refl, subst, sym, ◌∙◌}
 use Rattle.std.specs.List.{list_any}
 use Rattle.std.specs.Option.{option_map_or}
-use Rattle.std.specs.Prelude.{Bool, Contains, IsTrue, List, None, Option, Some, cond, false, find, is_none, is_some, nat_lt, not, true, [], ℕ, ◌&&◌, ◌<◌, ◌==◌, ◌||◌, ◌∷◌, ◌≡◌, ◌⊎◌}
+use Rattle.std.specs.Prelude.{Bool, Contains, IsTrue, List, None, Option, Some, cond, false, find, is_none, is_some, nat_lt, not, option_map, true, [], ℕ, ◌&&◌, ◌<◌, ◌==◌, ◌||◌, ◌∷◌, ◌≡◌, ◌⊎◌}
 
 both : (p q : Bool) → p ≡ true → q ≡ true → (p && q) ≡ true
 both true q is also = also
@@ -57,11 +62,18 @@ waits_for w (f ∷ ds) d waits there open_d = by (contains_cases f ds d there) w
   by (inl is) = sym waits.0.1 ∙ ap (λ (z : Submitted). z.call.number) is
   by (inr later) = absurd (true_is_false (sym (each_of (λ (y : Submitted). IsTrue (is_some y.answer)) ds d waits.1 later) ∙ ap is_some open_d))
 
+works_for : (w : LeaseCall) (ds : List Submitted) (d : Submitted) → IsWaiting (Some w) ds → Contains ds d → d.answer ≡ None → lease_step d.call.purpose ≡ Some (w.work, w.step)
+works_for w [] d waits there open_d = absurd waits
+works_for w (f ∷ ds) d waits there open_d = by (contains_cases f ds d there) where
+  by : (f ≡ d) ⊎ Contains ds d → lease_step d.call.purpose ≡ Some (w.work, w.step)
+  by (inl is) = sym (ap (λ (z : Submitted). lease_step z.call.purpose) is) ∙ waits.0.2
+  by (inr later) = absurd (true_is_false (sym (each_of (λ (y : Submitted). IsTrue (is_some y.answer)) ds d waits.1 later) ∙ ap is_some open_d))
+
 module _ (number : ℕ) (c : OpenCall) (a : Answer) (h : HostState) (x : Step) (k : ℕ) (m : MemberState) (to : IsAnswerTo number c a h x k m) where
   abbrev told : LeaseState → LeaseState
   told l = lease_told h m (is_heeded_by h c) c a l
 
-  told_spot : (l : LeaseState) → (lease_told h m (is_heeded_by h c) c a l).spot ≡ l.spot
+  pub told_spot : (l : LeaseState) → (lease_told h m (is_heeded_by h c) c a l).spot ≡ l.spot
   told_spot l = by l.waiting where
     by_number : (w : LeaseCall) (b : Bool)
         → (cond b (lease_hearing h.config.layout m.who.lockspace (record { id = m.who.id; generation = m.known.generation }) (is_heeded_by h c) c a w.step w.frees w.clears l) l).spot ≡ l.spot
@@ -82,7 +94,7 @@ module _ (number : ℕ) (c : OpenCall) (a : Answer) (h : HostState) (x : Step) (
   found : Contains h.unanswered c
   found = (find_inside (λ (d : OpenCall). d.number == number) h.unanswered c to.is_open).0
 
-  call_told : (d : Submitted) × Contains (calls_of (seen x) m.who) d × (d.answer ≡ None) × (kept_call d ≡ c)
+  pub call_told : (d : Submitted) × Contains (calls_of (seen x) m.who) d × (d.answer ≡ None) × (kept_call d ≡ c)
   call_told =
       let d = of_trace h x.setting (seen x) c keeps found in
       let inside = kept_inside (λ (z : Submitted). is_none z.answer) (submitted (seen x)) d.0 d.1 in (
@@ -119,6 +131,63 @@ module _ (number : ℕ) (c : OpenCall) (a : Answer) (h : HostState) (x : Step) (
           let same = waits_for w (lease_calls x.setting (seen x) m.who l.spot) call_told.0 (subst (λ o. IsWaiting o (lease_calls x.setting (seen x) m.who l.spot)) waits stands_l.waiting) in_it call_told.2 in
           ap (λ b. (cond b (lease_hearing h.config.layout m.who.lockspace (record { id = m.who.id; generation = m.known.generation }) (is_heeded_by h c) c a w.step w.frees w.clears l) l).waiting)
           (ap (λ n. n == c.number) (same ∙ ap (λ (z : OpenCall). z.number) call_told.3) ∙ number_itself c.number)
+
+    told_own : (l : LeaseState) → (lease_told h m (is_heeded_by h c) c a l).own ≡ l.own
+    told_own l = by l.waiting where
+      by_number : (w : LeaseCall) (b : Bool)
+          → (cond b (lease_hearing h.config.layout m.who.lockspace (record { id = m.who.id; generation = m.known.generation }) (is_heeded_by h c) c a w.step w.frees w.clears l) l).own ≡ l.own
+      by_number w true = refl
+      by_number w false = refl
+
+      by : (o : Option LeaseCall) → (elim o as (λ z. LeaseState) [
+        | None ↦ l
+        | Some w ↦ cond (w.number == c.number)
+            (lease_hearing h.config.layout m.who.lockspace (record { id = m.who.id; generation = m.known.generation }) (is_heeded_by h c) c a w.step w.frees w.clears l) l
+      ]).own ≡ l.own
+      by None = refl
+      by (Some w) = by_number w (w.number == c.number)
+
+    -- After the read of the first phase the greatest number of the own block's instance is known.
+    pub told_top : (l : LeaseState) → Contains m.leases l → is_lease_on (spot_of_call x.setting.layout call_told.0) l ≡ true → (bytes : List ℕ) → a ≡ Read bytes → step ≡ Phase1Read → (own : Block)
+        → (lease_told h m (is_heeded_by h c) c a l).own ≡ Some own → some_is (λ (t : TopNumber). t.instance == own.lver) (lease_told h m (is_heeded_by h c) c a l).top ≡ true
+    told_top l there on bytes read first own has = by l.waiting refl where
+      stands_l : LeaseStands x.setting.layout m.who.lockspace (me (seen x) m.who) l (lease_calls x.setting (seen x) m.who l.spot)
+      stands_l = (keeps.members k m to.there).leases (at_some m.leases l there).0 l (at_some m.leases l there).1
+
+      in_it : Contains (lease_calls x.setting (seen x) m.who l.spot) call_told.0
+      in_it =
+          kept (λ (z : Submitted). is_lease_call z && is_on x.setting.layout l.spot z.call) (calls_of (seen x) m.who) call_told.0
+          (both (is_lease_call call_told.0) (is_on x.setting.layout l.spot call_told.0.call) works
+          (subst (λ p. is_on x.setting.layout p call_told.0.call ≡ true) (one_spot (spot_of_call x.setting.layout call_told.0) l.spot on) (on_own x.setting.layout call_told.0 room))) call_told.1
+
+      own_is : l.own ≡ Some own
+      own_is = sym (told_own l) ∙ has
+
+      shown : (s : LeaseStep) → s ≡ Phase1Read → some_is (λ (t : TopNumber). t.instance == own.lver) (top_hearing l (blocks_shown h.config.layout s a)) ≡ true
+      shown s at =
+          subst (λ z. some_is (λ (t : TopNumber). t.instance == own.lver) (top_hearing l (blocks_shown h.config.layout z a)) ≡ true) (sym at)
+          (subst (λ z. some_is (λ (t : TopNumber). t.instance == own.lver) (top_hearing l (blocks_shown h.config.layout Phase1Read z)) ≡ true) (sym read)
+          (ap (λ o. some_is (λ (t : TopNumber). t.instance == own.lver) (option_map (λ b. record { instance = b.lver; mbal = top_mbal b.lver (blocks_in h.config.layout bytes) }) o)) own_is ∙ number_itself own.lver))
+
+      by : (o : Option LeaseCall) → l.waiting ≡ o
+          → some_is (λ (t : TopNumber). t.instance == own.lver) (elim o as (λ z. LeaseState) [
+            | None ↦ l
+            | Some w ↦ cond (w.number == c.number)
+                (lease_hearing h.config.layout m.who.lockspace (record { id = m.who.id; generation = m.known.generation }) (is_heeded_by h c) c a w.step w.frees w.clears l) l
+          ]).top ≡ true
+      by None waits =
+          let all = subst (λ o. IsWaiting o (lease_calls x.setting (seen x) m.who l.spot)) waits stands_l.waiting in
+          absurd (true_is_false (sym (each_of (λ (y : Submitted). IsTrue (is_some y.answer)) (lease_calls x.setting (seen x) m.who l.spot) call_told.0 all in_it) ∙ ap is_some call_told.2))
+      by (Some w) waits =
+          let waiting = subst (λ o. IsWaiting o (lease_calls x.setting (seen x) m.who l.spot)) waits stands_l.waiting in
+          let same = waits_for w (lease_calls x.setting (seen x) m.who l.spot) call_told.0 waiting in_it call_told.2 in
+          let steps : w.step ≡ step =
+          sym (ap (λ q. q.1) (some_value (work, step) (w.work, w.step) (sym (ap (λ (z : OpenCall). lease_step z.purpose) call_told.3 ∙ ap lease_step is) ∙ works_for w (lease_calls x.setting (seen x) m.who l.spot) call_told.0 waiting in_it call_told.2)))
+          in
+          subst
+          (λ b. some_is (λ (t : TopNumber). t.instance == own.lver)
+          (cond b (lease_hearing h.config.layout m.who.lockspace (record { id = m.who.id; generation = m.known.generation }) (is_heeded_by h c) c a w.step w.frees w.clears l) l).top ≡ true)
+          (sym (ap (λ n. n == c.number) (same ∙ ap (λ (z : OpenCall). z.number) call_told.3) ∙ number_itself c.number)) (shown w.step (steps ∙ first))
 
     -- There is one.
     some_lease : (l : LeaseState) × Contains m.leases l × (is_lease_on (spot_of_call x.setting.layout call_told.0) l ≡ true)

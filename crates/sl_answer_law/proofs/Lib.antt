@@ -11,3 +11,4 @@ pub mod GrantsAreTaken
 pub mod SurveysFollow
 pub mod LeasesSetFree
 pub mod PhaseTwoFollows
+pub mod LeasesGoOn

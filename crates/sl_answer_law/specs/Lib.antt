@@ -9,3 +9,4 @@ pub mod Grants
 pub mod Surveys
 pub mod LeasesSetFree
 pub mod PhaseTwo
+pub mod LeasesGoOn

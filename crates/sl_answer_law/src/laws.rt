@@ -5,6 +5,7 @@ ghost use Rattle.sl_answer_law.specs.Carrying.{DecisionsAreCarried};
 ghost use Rattle.sl_answer_law.specs.Grants.{GrantsAreTaken};
 ghost use Rattle.sl_answer_law.specs.Joinings.{JoiningsFollow};
 ghost use Rattle.sl_answer_law.specs.LeaseAnswers.{LeaseAnswersFollow};
+ghost use Rattle.sl_answer_law.specs.LeasesGoOn.{LeasesGoOn};
 ghost use Rattle.sl_answer_law.specs.LeasesSetFree.{LeasesSetFree};
 ghost use Rattle.sl_answer_law.specs.Leasing.{LeasesAreCarried};
 ghost use Rattle.sl_answer_law.specs.PhaseTwo.{PhaseTwoFollows};
@@ -70,4 +71,9 @@ pub fn leases_set_free()
 /// The second phase of a ballot follows the read of the first.
 pub fn phase_two_follows()
     ensures { PhaseTwoFollows }
+{}
+
+/// The whole of an answer to a lease's call, by what is kept.
+pub fn leases_go_on()
+    ensures { LeasesGoOn }
 {}
