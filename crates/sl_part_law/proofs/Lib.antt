@@ -6,3 +6,4 @@ pub mod EndsAreTaken
 pub mod RecoveriesAreTaken
 pub mod GoneDoNothing
 pub mod LinesAreTaken
+pub mod SpawnsAreTaken

@@ -5,3 +5,4 @@ pub mod Wakes
 pub mod Ends
 pub mod Recoveries
 pub mod Lines
+pub mod Spawns

@@ -6,6 +6,7 @@ ghost use Rattle.sl_part_law.specs.Lines.{LinesAreTaken};
 ghost use Rattle.sl_part_law.specs.Recoveries.{GoneDoNothing, RecoveriesAreTaken};
 ghost use Rattle.sl_part_law.specs.Refusals.{RefusalsAreTaken};
 ghost use Rattle.sl_part_law.specs.Signals.{SignalsAreTaken};
+ghost use Rattle.sl_part_law.specs.Spawns.{SpawnsAreTaken};
 ghost use Rattle.sl_part_law.specs.Wakes.{MembersWake};
 
 /// A process is told to stop, or sent a signal, and so is each holder of a member.
@@ -46,4 +47,9 @@ pub fn gone_do_nothing()
 /// A command line is taken as a whole.
 pub fn lines_are_taken()
     ensures { LinesAreTaken }
+{}
+
+/// The answer of a child's start is taken as a whole.
+pub fn spawns_are_taken()
+    ensures { SpawnsAreTaken }
 {}
