@@ -7,3 +7,4 @@ pub mod RecoveriesAreTaken
 pub mod GoneDoNothing
 pub mod LinesAreTaken
 pub mod SpawnsAreTaken
+pub mod ExpectedIsOpen

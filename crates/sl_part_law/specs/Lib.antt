@@ -6,3 +6,4 @@ pub mod Ends
 pub mod Recoveries
 pub mod Lines
 pub mod Spawns
+pub mod Expected

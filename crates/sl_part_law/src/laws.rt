@@ -2,6 +2,7 @@
 
 ghost use Rattle.sl_part_law.specs.Ends.{EndsAreTaken};
 ghost use Rattle.sl_part_law.specs.Exits.{ExitsAreTaken};
+ghost use Rattle.sl_part_law.specs.Expected.{ExpectedIsOpen};
 ghost use Rattle.sl_part_law.specs.Lines.{LinesAreTaken};
 ghost use Rattle.sl_part_law.specs.Recoveries.{GoneDoNothing, RecoveriesAreTaken};
 ghost use Rattle.sl_part_law.specs.Refusals.{RefusalsAreTaken};
@@ -52,4 +53,9 @@ pub fn lines_are_taken()
 /// The answer of a child's start is taken as a whole.
 pub fn spawns_are_taken()
     ensures { SpawnsAreTaken }
+{}
+
+/// An answer that may come is one of an open call.
+pub fn expected_is_open()
+    ensures { ExpectedIsOpen }
 {}
